@@ -1,0 +1,164 @@
+-- What the words of each command mean, where it is done.
+use Rattle.std.proofs.Common.{◌≡◌, ◌≢◌, ℕ, ◌^◌, ◌<◌, ◌≤◌, ◌&&◌, not, Bool, true, false, List, [], ◌∷◌, length}
+use Rattle.std.proofs.Common.{refl, sym, ap, ap₂, ◌∙◌, subst, arith}
+use Rattle.std.specs.Prelude.{Ok, Some, None, codes, decimal, is_some, nat_le}
+use Rattle.std.specs.FinMap.{get}
+use Rattle.std.specs.Str.{bytes_eq}
+use Rattle.std.specs.Str.Parse.{AllDigits, digits_value}
+use Rattle.std.proofs.lemmas.Bool.{and_from, cond-true, le-leb, ne_eqb}
+use Rattle.std.proofs.lemmas.Fmt.{digits_value-decimal}
+use Rattle.std.proofs.lemmas.Slice.Eq.{bytes_eq-Decides}
+use Rattle.std.proofs.lemmas.Str.Parse.{IsNumeralModel, numerals_by_value, tells_digits}
+use Rattle.dtx_engine.specs.Recipe.{meaning}
+use Rattle.dtx_forms.specs.Job.{unless_same}
+use Rattle.dtx_forms.specs.PlanFile.{under_plan, under_said}
+use Rattle.dtx_forms.specs.Shapes.{coded_packets, packets, segments, single_bytes}
+use Rattle.dtx_forms.specs.Transmit.{transmit_with}
+use Rattle.dtx_meaning.specs.Meaning.{Meaning}
+use Rattle.dtx_outside.specs.Shelf.{Files}
+use Rattle.dtx_packet_jobs.specs.Adapt.{feeding}
+use Rattle.dtx_packet_jobs.specs.DvbCode.{dvb_coding}
+use Rattle.dtx_packet_jobs.specs.DvbRead.{dvb_reading}
+use Rattle.dtx_packet_jobs.specs.DvbShapes.{blocks, dvb_packets}
+use Rattle.dtx_plan.specs.Plan.{plan_of}
+use Rattle.dtx_plan.specs.declared.plan.Plan.{Plan}
+use Rattle.dtx_jobs.specs.Acquire.{acquire_at, acquiring}
+use Rattle.dtx_jobs.specs.Code.{coding}
+use Rattle.dtx_jobs.specs.Excite.{exciting}
+use Rattle.dtx_jobs.specs.Mend.{mending_symbols}
+use Rattle.dtx_jobs.specs.Receive.{receiving}
+use Rattle.dtx_words.specs.Fitting.{is_name}
+use Rattle.dtx_words.specs.Names.{repeated}
+use Rattle.dtx_words.specs.Number.{at_least, number_in, number_within}
+use Rattle.dtx_words.specs.declared.rows.Command.TheVariants.{Acquire, Adapt, Code, DvbCode, DvbRead, Excite, Mend}
+use Rattle.dtx_words.specs.declared.rows.Command.TheVariants.{Receive}
+use Rattle.dtx_file_laws.proofs.Answered.{IsRead}
+
+-- ---- words without numbers
+
+pub code_read : (words : List (List ℕ)) (input output : List ℕ) (held : Files)
+    → words ≡ codes "code" ∷ input ∷ output ∷ [] → IsRead words (is_name input && (is_name output && true)) Code
+    (bytes_eq input output) coded_packets coding 0 (output ∷ []) input held
+code_read words input output held is =
+    subst (λ (ws : List (List ℕ)). IsRead ws (is_name input && (is_name output && true)) Code
+    (bytes_eq input output) coded_packets coding 0 (output ∷ []) input held) (sym is)
+    (record { fits = refl; reads = refl })
+
+pub receive_read : (words : List (List ℕ)) (input output : List ℕ) (held : Files)
+    → words ≡ codes "receive" ∷ input ∷ output ∷ [] → IsRead words (is_name input && (is_name output && true)) Receive
+    (bytes_eq input output) segments receiving 0 (output ∷ []) input held
+receive_read words input output held is =
+    subst (λ (ws : List (List ℕ)). IsRead ws (is_name input && (is_name output && true)) Receive
+    (bytes_eq input output) segments receiving 0 (output ∷ []) input held) (sym is)
+    (record { fits = refl; reads = refl })
+
+pub mend_read : (words : List (List ℕ)) (input output : List ℕ) (held : Files)
+    → words ≡ codes "mend" ∷ input ∷ output ∷ [] → IsRead words (is_name input && (is_name output && true)) Mend
+    (bytes_eq input output) segments mending_symbols 0 (output ∷ []) input held
+mend_read words input output held is =
+    subst (λ (ws : List (List ℕ)). IsRead ws (is_name input && (is_name output && true)) Mend
+    (bytes_eq input output) segments mending_symbols 0 (output ∷ []) input held) (sym is)
+    (record { fits = refl; reads = refl })
+
+pub dvb_code_read : (words : List (List ℕ)) (input output : List ℕ) (held : Files)
+    → words ≡ codes "dvb" ∷ codes "code" ∷ input ∷ output ∷ []
+    → IsRead words (is_name input && (is_name output && true)) DvbCode
+    (bytes_eq input output) dvb_packets dvb_coding 0 (output ∷ []) input held
+dvb_code_read words input output held is =
+    subst (λ (ws : List (List ℕ)). IsRead ws (is_name input && (is_name output && true)) DvbCode
+    (bytes_eq input output) dvb_packets dvb_coding 0 (output ∷ []) input held) (sym is)
+    (record { fits = refl; reads = refl })
+
+pub dvb_read_read : (words : List (List ℕ)) (input output : List ℕ) (held : Files)
+    → words ≡ codes "dvb" ∷ codes "read" ∷ input ∷ output ∷ []
+    → IsRead words (is_name input && (is_name output && true)) DvbRead
+    (bytes_eq input output) blocks dvb_reading 0 (output ∷ []) input held
+dvb_read_read words input output held is =
+    subst (λ (ws : List (List ℕ)). IsRead ws (is_name input && (is_name output && true)) DvbRead
+    (bytes_eq input output) blocks dvb_reading 0 (output ∷ []) input held) (sym is)
+    (record { fits = refl; reads = refl })
+
+-- where the names are not empty and different, the words fit and no two names are equal
+pub named : (name : List ℕ) → name ≢ [] → is_name name ≡ true
+named [] some = absurd (some refl)
+named (b ∷ name) some = ap not (ne_eqb (length (b ∷ name)) 0 (λ e. omega (arith, e)))
+
+pub both_named : (input output : List ℕ) → input ≢ [] → output ≢ [] → (is_name input && (is_name output && true)) ≡ true
+both_named input output some other = and_from _ _ (named input some) (and_from _ _ (named output other) refl)
+
+pub unlike : (input output : List ℕ) → input ≢ output → bytes_eq input output ≡ false
+unlike input output apart =
+    by_test (bytes_eq input output) (λ e. apart ((bytes_eq-Decides input output).0 e))
+  where
+    by_test : (t : Bool) → (t ≡ true → ⊥) → t ≡ false
+    by_test true unlikely = absurd (unlikely refl)
+    by_test false _ = refl
+
+-- ---- words with numbers
+
+own : IsNumeralModel (AllDigits 10) (digits_value 10)
+own = numerals_by_value (AllDigits 10) tells_digits
+
+-- the decimal spelling of a number is read as that number
+spelled : (most n : ℕ) → most < 2 ^ 64 → n ≤ most → number_in most (decimal n) ≡ Some n
+unfolding number_in
+spelled most n small le =
+    let value : digits_value 10 (decimal n) ≡ n = digits_value-decimal own n (omega (arith, small, le)) in
+    cond-true _ _ _ (and_from _ _
+    ((bytes_eq-Decides (decimal n) (decimal (digits_value 10 (decimal n)))).1 (ap decimal (sym value)))
+    (le-leb (digits_value 10 (decimal n)) most (omega (arith, value, le)))) ∙ ap Some value
+
+spelled_scale : (scale : ℕ) → 0 < scale → scale ≤ 18 → number_within 1 18 (decimal scale) ≡ Some scale
+spelled_scale scale some most =
+    ap (at_least 1) (spelled 18 scale (omega arith) most)
+    ∙ cond-true (nat_le 1 scale) (Some scale) None (le-leb 1 scale some)
+
+pub acquire_read : (words : List (List ℕ)) (scale : ℕ) (input output : List ℕ) (held : Files)
+    → words ≡ codes "acquire" ∷ decimal scale ∷ input ∷ output ∷ [] → 0 < scale → scale ≤ 18
+    → IsRead words (is_some (number_within 1 18 (decimal scale)) && (is_name input && (is_name output && true))) Acquire
+    (bytes_eq input output) single_bytes (acquiring scale) 0 (output ∷ []) input held
+acquire_read words scale input output held is some most =
+    subst (λ (ws : List (List ℕ)). IsRead ws
+    (is_some (number_within 1 18 (decimal scale)) && (is_name input && (is_name output && true))) Acquire
+    (bytes_eq input output) single_bytes (acquiring scale) 0 (output ∷ []) input held) (sym is)
+    (record {
+      fits = refl;
+      reads = ap (λ number. acquire_at number input output held) (spelled_scale scale some most);
+    })
+
+pub excite_read : (words : List (List ℕ)) (address delay : ℕ) (input output log : List ℕ) (held : Files)
+    → words ≡ codes "excite" ∷ input ∷ decimal address ∷ decimal delay ∷ output ∷ log ∷ []
+    → address ≤ 65535 → delay ≤ 4294967295
+    → IsRead words (is_name input && (is_some (number_in 65535 (decimal address))
+    && (is_some (number_in 4294967295 (decimal delay)) && (is_name output && (is_name log && true))))) Excite
+    (is_some (repeated (input ∷ output ∷ log ∷ []))) coded_packets (exciting address delay) 0 (output ∷ log ∷ []) input
+    held
+excite_read words address delay input output log held is small_address small_delay =
+    subst (λ (ws : List (List ℕ)). IsRead ws (is_name input && (is_some (number_in 65535 (decimal address))
+    && (is_some (number_in 4294967295 (decimal delay)) && (is_name output && (is_name log && true))))) Excite
+    (is_some (repeated (input ∷ output ∷ log ∷ []))) coded_packets (exciting address delay) 0 (output ∷ log ∷ []) input
+    held) (sym is)
+    (record {
+      fits = refl;
+      reads = ap₂ (λ a d. transmit_with coded_packets exciting a d input output log held)
+          (spelled 65535 address (omega arith) small_address) (spelled 4294967295 delay (omega arith) small_delay);
+    })
+
+pub acquire_named : (scale : ℕ) (input output : List ℕ) → 0 < scale → scale ≤ 18 → input ≢ [] → output ≢ []
+    → (is_some (number_within 1 18 (decimal scale)) && (is_name input && (is_name output && true))) ≡ true
+acquire_named scale input output some most in_named out_named =
+    and_from _ _ (ap is_some (spelled_scale scale some most)) (both_named input output in_named out_named)
+
+pub adapt_read : (words : List (List ℕ)) (plan input output bytes : List ℕ) (said : Plan) (held : Files)
+    → words ≡ codes "adapt" ∷ plan ∷ input ∷ output ∷ [] → get held plan ≡ Some bytes → plan_of bytes ≡ Ok said
+    → IsRead words (is_name plan && (is_name input && (is_name output && true))) Adapt
+    (is_some (repeated (plan ∷ input ∷ output ∷ []))) packets (feeding said) 1 (output ∷ []) input held
+adapt_read words plan input output bytes said held is there says =
+    let means : Plan → Meaning = λ p. meaning packets (feeding p) 1 (output ∷ []) (get held input) in
+    subst (λ (ws : List (List ℕ)). IsRead ws (is_name plan && (is_name input && (is_name output && true))) Adapt
+    (is_some (repeated (plan ∷ input ∷ output ∷ []))) packets (feeding said) 1 (output ∷ []) input held) (sym is)
+    (record {
+      fits = refl;
+      reads = ap (λ found. unless_same (repeated (plan ∷ input ∷ output ∷ [])) (under_plan 0 found means)) there
+          ∙ ap (λ said. unless_same (repeated (plan ∷ input ∷ output ∷ [])) (under_said means said)) says;
+    })

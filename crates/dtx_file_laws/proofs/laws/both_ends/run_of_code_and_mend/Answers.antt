@@ -1,0 +1,32 @@
+use Rattle.std.proofs.Common.{[], ◌∷◌, subst}
+use Rattle.dtx_jobs.specs.Mend.{with_mendings}
+use Rattle.dtx_jobs.specs.MendLaws.{mendings_given}
+use Rattle.dtx_packets.specs.Packets.{packets_of}
+use Rattle.dtx_words.specs.declared.rows.Command.TheVariants.{Mend}
+use Rattle.dtx_file_laws.specs.Damaged.{IsGap}
+use Rattle.dtx_file_laws.proofs.BothEnds.{are_packets, back_through}
+use Rattle.dtx_file_laws.proofs.Lines.{mended_line}
+use Rattle.dtx_file_laws.proofs.laws.both_ends.run_of_code_and_mend.Goals as goal
+
+pub returns : goal.returns
+returns g c = λ input sent got output stream symbols file from code mend are there coded left gap spares here done.
+    let all = back_through with_mendings mendings_given Mend mended_line (λ _. Unit {0}) input sent got output stream
+    symbols file _ _ (g.S.Shelf.files c.args.sender.now) (g.S.Shelf.files c.run_of_code-sent.new.shelf)
+    (g.R.Shelf.files c.args.receiver.now) (g.R.Shelf.files c.run_of_mend-mended.new.shelf)
+    (g.O.Sink.written c.run_of_code-sent.new.out) (g.O.Sink.written c.run_of_mend-mended.new.out)
+    (record { there = there; done = coded; files = c.run_of_code-sent.ensures.done input sent stream code }) left
+    (record {
+      there = here;
+      done = done;
+      files = c.run_of_mend-mended.ensures.done got output file mend;
+      line = c.run_of_mend-mended.ensures.line got output file mend;
+    })
+    (λ same few.
+    let missing = subst (λ bytes. IsGap 4141 from bytes file) same gap in (
+      missing.as_many,
+      λ some.
+          let back = c.bursts_come_back.ensures.missing (output ∷ []) (packets_of stream) file from
+          (are_packets stream are) some few missing spares in
+          (back.0, tt, back.1),
+    )) in
+    (all.0, all.2)

@@ -1,0 +1,77 @@
+-- What comes back of the symbols of a stream (the profile's own; what is sent is that of ATSC A/53 Part 2). A packet is
+-- its list of 188 bytes.
+use Rattle.std.specs.Prelude.{ℕ, ◌≡◌, ◌+◌, ◌-◌, ◌*◌, ◌/◌, ◌%◌, ◌<◌, ◌==◌, if◌then◌else◌, true, List, [], ◌∷◌, ◌++◌}
+use Rattle.std.specs.Prelude.{Option, codes, decimal, length, take}
+use Rattle.std.specs.List.{flat_map}
+use Rattle.dtx_chain.specs.Undamaged.{as_received}
+use Rattle.dtx_coder.specs.Stream.{a53}
+use Rattle.dtx_engine.specs.Made.{only, outputs_of}
+use Rattle.dtx_meaning.specs.Meaning.{Meaning}
+use Rattle.dtx_meaning.specs.declared.status.Status.TheVariants.{Done}
+use Rattle.dtx_outside.specs.Shelf.{Files}
+use Rattle.dtx_packets.specs.Packets.{packet_at, packets_of, whole_packets}
+use Rattle.dtx_jobs.specs.Code.{may_be_coded}
+use Rattle.dtx_file_laws.specs.Told.{EndsWith, Holds}
+
+-- each whole packet of a stream begins with 0x47, or with the mark 0xB8
+abbrev pub CanBeCoded : List ℕ → Type 0
+CanBeCoded stream = (k : ℕ) → k < whole_packets stream → may_be_coded (packet_at stream k) ≡ true
+
+-- How many packets come back of so many that are sent in whole groups of four: all but the last 52, or all but the last
+-- 51 where 52 divides their number. The bytes of a packet leave the interleaver over 52 packets.
+abbrev pub back_of_sent : ℕ → ℕ
+back_of_sent sent = sent - 52 + (if sent % 52 == 0 then 1 else 0)
+
+-- how many come back of a stream, of which whole groups are sent
+abbrev pub back_of_all : ℕ → ℕ
+back_of_all count = back_of_sent (4 * (count / 4))
+
+-- The packets that come back of a stream: its first ones, so many, one behind another, with 0x47 as their sync bytes.
+abbrev pub packets_back : List (List ℕ) → List ℕ
+packets_back packets = flat_map as_received (take (back_of_all (length packets)) packets)
+
+-- In how many segments so many packets are sent: those of whole groups of four, and a field sync for each 78 groups
+-- that are begun.
+abbrev pub segments_of_all : ℕ → ℕ
+segments_of_all count = 4 * (count / 4) + (count / 4 + 77) / 78
+
+-- the line that `receive` and `mend` print where all comes back of so many packets, with so many bytes put right
+abbrev pub line_back : ℕ → ℕ → List ℕ
+line_back count fixed =
+    codes "segments "
+    ++ (decimal (segments_of_all count)
+    ++ (codes " runs 1 packets "
+    ++ (decimal (back_of_all count) ++ (codes " fixed " ++ (decimal fixed ++ codes " flagged 0 loose 0\n")))))
+
+-- and that `dvb read` prints where all comes back of so many packets: all but the last eleven
+abbrev pub dvb_line_back : ℕ → ℕ → List ℕ
+dvb_line_back count fixed =
+    codes "blocks "
+    ++ (decimal count
+    ++ (codes " packets "
+    ++ (decimal (count - 11) ++ (codes " fixed " ++ (decimal fixed ++ codes " flagged 0 loose 0\n")))))
+
+-- What `receive` and `mend` answer and write where all comes back: the segments, one run, the packets, the bytes put
+-- right, none flagged, and nothing loose.
+abbrev pub all_back : List (List ℕ) → List (List ℕ) → ℕ → Meaning
+all_back names packets fixed = record {
+  outcome = record {
+    status = Done;
+    numbers = length (a53 packets) ∷ 1 ∷ back_of_all (length packets) ∷ fixed ∷ 0 ∷ 0 ∷ 0 ∷ [];
+    shown = 6;
+  };
+  outputs = outputs_of names (only (packets_back packets));
+}
+
+-- All comes back of a stream, with so many bytes put right: the output holds its packets, and the line that is printed
+-- says so, and that none is flagged.
+pub record IsGivenBack (stream : List ℕ) (fixed : ℕ) (output : List ℕ) (files : Option Files)
+    (written : Option (List ℕ)) : Type 0 where
+  pub packets : Holds files output (packets_back (packets_of stream))
+  pub line : EndsWith written (line_back (whole_packets stream) fixed)
+
+-- And of `dvb read`: the output holds all whole packets but the last eleven, as they were.
+pub record IsReadBack (stream : List ℕ) (fixed : ℕ) (output : List ℕ) (files : Option Files)
+    (written : Option (List ℕ)) : Type 0 where
+  pub packets : Holds files output (take (188 * (whole_packets stream - 11)) stream)
+  pub line : EndsWith written (dvb_line_back (whole_packets stream) fixed)

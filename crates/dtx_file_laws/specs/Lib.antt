@@ -1,0 +1,5 @@
+pub mod Back
+pub mod Damaged
+pub mod LogLines
+pub mod Orders
+pub mod Told

@@ -1,0 +1,79 @@
+//! What is received of the symbols that `code` wrote, undamaged and damaged (ATSC A/53 Part 2, and the way back).
+
+ghost use Rattle.std.specs.Prelude.{◌≡◌, ◌<◌, ◌≤◌, ℕ, ℤ, List, length};
+ghost use Rattle.dtx_chain.specs.Damage.{AreReceived, IsSlight, to_sync};
+ghost use Rattle.dtx_chain.specs.Undamaged.{ArePackets};
+ghost use Rattle.dtx_coder.specs.Stream.{a53};
+ghost use Rattle.dtx_engine.specs.Made.{only};
+ghost use Rattle.dtx_engine.specs.Recipe.{meaning_of_file};
+ghost use Rattle.dtx_forms.specs.Shapes as shapes;
+ghost use Rattle.dtx_jobs.specs.Code.{coding};
+ghost use Rattle.dtx_jobs.specs.Mend.{mending_symbols};
+ghost use Rattle.dtx_jobs.specs.MendedBack.{all_back_of};
+ghost use Rattle.dtx_jobs.specs.Receive.{receiving};
+ghost use Rattle.dtx_jobs.specs.SymbolFile.{file_segments, whole_segments};
+ghost use Rattle.dtx_jobs.specs.Symbols.{symbol_bytes};
+ghost use Rattle.dtx_packets.specs.Packets.{packets_of, whole_packets};
+ghost use Rattle.dtx_repeated_feed.specs.DoneWith.{IsDoneWith};
+ghost use Rattle.dtx_file_laws.specs.Back.{CanBeCoded, all_back};
+ghost use Rattle.dtx_file_laws.specs.Damaged.{IsBurst, IsGap, SparesSyncs};
+
+use dtx_bursts::laws::{missing_symbols_in_a_row, syncs_are_found, wrong_symbols_in_a_row};
+use dtx_chain::laws::received_undamaged;
+use dtx_sizes::{GROUP_PACKETS, MOST_PACKETS, MOST_SEGMENTS};
+use dtx_symbol_laws::laws::mending::a_stretch_is_mended;
+
+/// What `code` makes of a stream whose packets begin with 0x47, or with the mark 0xB8, and are no more than may be: it
+/// is done, and OUT is the symbols of them all.
+pub fn a_stream_is_coded()
+    ensures { (names : List (List ℕ)) (stream : List ℕ) → whole_packets stream ≤ MOST_PACKETS → CanBeCoded stream
+        → IsDoneWith names (only (symbol_bytes (packets_of stream)))
+        (meaning_of_file shapes.coded_packets coding names stream) }
+{}
+
+/// What `receive` makes of segments in a row of a stream, received with at most ten wrong bytes a word and with their
+/// field syncs found: where a field sync is among them, all packets from the one behind it on whose bytes are all
+/// there are written, in order, each with 0x47 as its sync byte, and no other. There is one run, and none is flagged.
+pub fn a_stretch_is_received()
+    ensures { (names stream : List (List ℕ)) (first : ℕ) (sent : List (List ℤ)) (file : List ℕ)
+        → whole_segments file ≤ MOST_SEGMENTS → ArePackets stream
+        → AreReceived stream first sent (file_segments file) → to_sync first < length sent
+        → IsSlight stream first sent (file_segments file)
+        → meaning_of_file shapes.segments receiving names file ≡ all_back_of names stream first file }
+{}
+
+/// What `receive` makes of the symbols that `code` wrote of a stream of at least four packets: its packets but the last
+/// 52, or 51, that were sent (`back_of_all`), with 0x47 as their sync bytes. No byte is put right, none is flagged. The
+/// same packets come of any file as long as that, with at most ten wrong bytes a word and with its field syncs found,
+/// and none is flagged; some bytes are put right then.
+pub fn what_was_coded_is_received()
+    ensures undamaged { (names packets : List (List ℕ)) → ArePackets packets → GROUP_PACKETS ≤ length packets
+        → length packets ≤ MOST_PACKETS
+        → meaning_of_file shapes.segments receiving names (symbol_bytes packets) ≡ all_back names packets 0 }
+    ensures near { (names packets : List (List ℕ)) (file : List ℕ) → ArePackets packets
+        → GROUP_PACKETS ≤ length packets → length packets ≤ MOST_PACKETS
+        → length file ≡ length (symbol_bytes packets) → IsSlight packets 0 (a53 packets) (file_segments file)
+        → (fixed : ℕ) × (meaning_of_file shapes.segments receiving names file ≡ all_back names packets fixed) }
+{
+    received_undamaged();
+}
+
+/// Bursts on the air, in the file that `code` wrote of a stream of at least four packets. With at most 2,022 wrong
+/// bytes in a row, whatever they are, `receive` gives back what it gives of the undamaged file, and none is flagged.
+/// With missing ones, 0x80, among 4,141 in a row, `mend` does. Either may stand wherever it spares the field syncs. A
+/// byte is a symbol, and 10.76 of them last a microsecond: 2,022 of them last 187, and 4,141 last 384.
+pub fn bursts_come_back()
+    ensures wrong { (names packets : List (List ℕ)) (file : List ℕ) (from : ℕ) → ArePackets packets
+        → GROUP_PACKETS ≤ length packets → length packets ≤ MOST_PACKETS
+        → IsBurst 2022 from (symbol_bytes packets) file → SparesSyncs 2022 from (length file)
+        → (fixed : ℕ) × (meaning_of_file shapes.segments receiving names file ≡ all_back names packets fixed) }
+    ensures missing { (names packets : List (List ℕ)) (file : List ℕ) (from : ℕ) → ArePackets packets
+        → GROUP_PACKETS ≤ length packets → length packets ≤ MOST_PACKETS
+        → IsGap 4141 from (symbol_bytes packets) file → SparesSyncs 4141 from (length file)
+        → (fixed : ℕ) × (meaning_of_file shapes.segments mending_symbols names file ≡ all_back names packets fixed) }
+{
+    wrong_symbols_in_a_row();
+    missing_symbols_in_a_row();
+    syncs_are_found();
+    a_stretch_is_mended();
+}

@@ -1,0 +1,155 @@
+//! What a receiver's `run` gives back of what a sender's `run` left: statements that name no symbol, no codeword and no
+//! meaning of a command. Between the two the file is carried from one shelf to another, and may be damaged.
+
+ghost use Rattle.std.specs.Prelude.{◌≡◌, ◌≢◌, ◌⊎◌, ◌<◌, ◌≤◌, ◌∷◌, [], ℕ, List, codes, decimal, length};
+ghost use Rattle.dtx_galois.specs.Field.{AreBytes};
+ghost use Rattle.dtx_meaning.specs.Status.{IsFault};
+ghost use Rattle.dtx_packets.specs.Packets.{whole_packets};
+ghost use Rattle.dtx_file_laws.specs.Back.{CanBeCoded, IsGivenBack, IsReadBack};
+ghost use Rattle.dtx_file_laws.specs.Damaged.{IsBurst, IsGap, IsNoisy, SparesSyncs};
+ghost use Rattle.dtx_file_laws.specs.Told.{Holds};
+
+use crate::laws::acquiring::a_noisy_capture_is_acquired;
+use crate::laws::air::{a_stream_is_coded, bursts_come_back, what_was_coded_is_received};
+use crate::laws::calls::{
+    run_of_acquire, run_of_code, run_of_dvb_code, run_of_dvb_read, run_of_mend, run_of_receive,
+};
+use crate::laws::dvb_bytes::a_burst_is_read;
+use dtx_outside::{Shelf, Sink, Word};
+use dtx_packet_jobs::laws::dvb_streams::all_is_sent;
+use dtx_sizes::{GROUP_PACKETS, MOST_PACKETS};
+use dtx_symbol_laws::acquire_laws::{a_stream_is_acquired, all_is_acquired_of_a_file};
+use dtx_top::Status;
+use std::alloc::Global;
+
+/// `code IN SENT`, and then `receive SENT OUT`, over the same files, with both answers `Done`: OUT is the packets of IN
+/// that come back, with 0x47 as their sync bytes, and no other; no byte was put right, and none is flagged. Where IN
+/// has at least four packets and no more than may be, which begin with 0x47 or with the mark 0xB8, and the names are
+/// different and not empty, each answer is `Done`, or a fault or want of memory.
+pub fn run_there_and_back<S: Shelf, O: Sink>(
+    alloc: Global,
+    words: &(&[Word], &[Word]),
+    shelf: &mut S,
+    out: &mut O,
+) -> (Status, Status)
+    ensures back { (input sent output stream : List ℕ) → words.now.0.now ≡ codes "code" ∷ input ∷ sent ∷ []
+        → words.now.1.now ≡ codes "receive" ∷ sent ∷ output ∷ [] → AreBytes stream
+        → Holds (S.files shelf.old) input stream → result.0 ≡ Status.Done → result.1 ≡ Status.Done
+        → IsGivenBack stream 0 output (S.files shelf.new) (O.written out.new) }
+    ensures first { (input sent stream : List ℕ) → words.now.0.now ≡ codes "code" ∷ input ∷ sent ∷ []
+        → input ≢ [] → sent ≢ [] → input ≢ sent → whole_packets stream ≤ MOST_PACKETS → CanBeCoded stream
+        → Holds (S.files shelf.old) input stream → (result.0 ≡ Status.Done) ⊎ IsFault result.0 }
+    ensures second { (input sent output stream : List ℕ) → words.now.0.now ≡ codes "code" ∷ input ∷ sent ∷ []
+        → words.now.1.now ≡ codes "receive" ∷ sent ∷ output ∷ []
+        → sent ≢ [] → output ≢ [] → sent ≢ output → GROUP_PACKETS ≤ whole_packets stream → AreBytes stream
+        → Holds (S.files shelf.old) input stream → result.0 ≡ Status.Done
+        → (result.1 ≡ Status.Done) ⊎ IsFault result.1 }
+{
+    a_stream_is_coded();
+    what_was_coded_is_received();
+    let sent = run_of_code(alloc, words.0, shelf, out);
+    let received = run_of_receive(alloc, words.1, shelf, out);
+    (sent, received)
+}
+
+/// `code IN SENT` over a sender's files, and then `receive GOT OUT` over a receiver's, with both answers `Done`. Where
+/// GOT is SENT, OUT is the packets of IN that come back (`packets_back`). So it is where at most 2,022 bytes of GOT in
+/// a row are wrong, if these spare the field syncs.
+pub fn run_of_code_and_receive<S: Shelf, R: Shelf, O: Sink>(
+    alloc: Global,
+    words: &(&[Word], &[Word]),
+    sender: &mut S,
+    receiver: &mut R,
+    out: &mut O,
+) -> (Status, Status)
+    ensures undamaged { (input sent got output stream symbols : List ℕ)
+        → words.now.0.now ≡ codes "code" ∷ input ∷ sent ∷ [] → words.now.1.now ≡ codes "receive" ∷ got ∷ output ∷ []
+        → AreBytes stream → Holds (S.files sender.old) input stream → result.0 ≡ Status.Done
+        → Holds (S.files sender.new) sent symbols
+        → Holds (R.files receiver.old) got symbols → result.1 ≡ Status.Done
+        → IsGivenBack stream 0 output (R.files receiver.new) (O.written out.new) }
+    ensures burst { (input sent got output stream symbols file : List ℕ) (from : ℕ)
+        → words.now.0.now ≡ codes "code" ∷ input ∷ sent ∷ [] → words.now.1.now ≡ codes "receive" ∷ got ∷ output ∷ []
+        → AreBytes stream → Holds (S.files sender.old) input stream → result.0 ≡ Status.Done
+        → Holds (S.files sender.new) sent symbols
+        → IsBurst 2022 from symbols file → SparesSyncs 2022 from (length file)
+        → Holds (R.files receiver.old) got file → result.1 ≡ Status.Done
+        → (fixed : ℕ) × IsGivenBack stream fixed output (R.files receiver.new) (O.written out.new) }
+{
+    what_was_coded_is_received();
+    bursts_come_back();
+    let sent = run_of_code(alloc, words.0, sender, out);
+    let received = run_of_receive(alloc, words.1, receiver, out);
+    (sent, received)
+}
+
+/// `code IN SENT` over a sender's files, and then `mend GOT OUT` over a receiver's, with both answers `Done`. Where GOT
+/// is SENT, but for missing bytes, 0x80, among 4,141 in a row, and these spare the field syncs, OUT is the packets of
+/// IN that come back.
+pub fn run_of_code_and_mend<S: Shelf, R: Shelf, O: Sink>(
+    alloc: Global,
+    words: &(&[Word], &[Word]),
+    sender: &mut S,
+    receiver: &mut R,
+    out: &mut O,
+) -> (Status, Status)
+    ensures { (input sent got output stream symbols file : List ℕ) (from : ℕ)
+        → words.now.0.now ≡ codes "code" ∷ input ∷ sent ∷ [] → words.now.1.now ≡ codes "mend" ∷ got ∷ output ∷ []
+        → AreBytes stream → Holds (S.files sender.old) input stream → result.0 ≡ Status.Done
+        → Holds (S.files sender.new) sent symbols
+        → IsGap 4141 from symbols file → SparesSyncs 4141 from (length file)
+        → Holds (R.files receiver.old) got file → result.1 ≡ Status.Done
+        → (fixed : ℕ) × IsGivenBack stream fixed output (R.files receiver.new) (O.written out.new) }
+{
+    bursts_come_back();
+    let sent = run_of_code(alloc, words.0, sender, out);
+    let mended = run_of_mend(alloc, words.1, receiver, out);
+    (sent, mended)
+}
+
+/// `code IN SENT` over a sender's files, and then `acquire SCALE GOT OUT` over a receiver's, with both answers `Done`.
+/// Where each sample of GOT differs from SCALE times the symbol of SENT by less than SCALE, OUT is SENT, byte for byte.
+pub fn run_of_code_and_acquire<S: Shelf, R: Shelf, O: Sink>(
+    alloc: Global,
+    words: &(&[Word], &[Word]),
+    sender: &mut S,
+    receiver: &mut R,
+    out: &mut O,
+) -> (Status, Status)
+    ensures { (input sent got output stream symbols file : List ℕ) (scale : ℕ)
+        → words.now.0.now ≡ codes "code" ∷ input ∷ sent ∷ []
+        → words.now.1.now ≡ codes "acquire" ∷ decimal scale ∷ got ∷ output ∷ [] → 0 < scale → scale ≤ 18
+        → Holds (S.files sender.old) input stream → result.0 ≡ Status.Done → Holds (S.files sender.new) sent symbols
+        → IsNoisy scale symbols file → Holds (R.files receiver.old) got file → result.1 ≡ Status.Done
+        → Holds (R.files receiver.new) output symbols }
+{
+    a_noisy_capture_is_acquired();
+    a_stream_is_acquired();
+    all_is_acquired_of_a_file();
+    let sent = run_of_code(alloc, words.0, sender, out);
+    let acquired = run_of_acquire(alloc, words.1, receiver, out);
+    (sent, acquired)
+}
+
+/// `dvb code IN SENT` over a sender's files, and then `dvb read GOT OUT` over a receiver's, with both answers `Done`.
+/// Where GOT is SENT with at most 96 wrong bytes in a row, OUT is IN's whole packets but the last eleven.
+pub fn run_of_dvb_code_and_read<S: Shelf, R: Shelf, O: Sink>(
+    alloc: Global,
+    words: &(&[Word], &[Word]),
+    sender: &mut S,
+    receiver: &mut R,
+    out: &mut O,
+) -> (Status, Status)
+    ensures { (input sent got output stream bytes file : List ℕ) (from : ℕ)
+        → words.now.0.now ≡ codes "dvb" ∷ codes "code" ∷ input ∷ sent ∷ []
+        → words.now.1.now ≡ codes "dvb" ∷ codes "read" ∷ got ∷ output ∷ [] → AreBytes stream
+        → Holds (S.files sender.old) input stream → result.0 ≡ Status.Done → Holds (S.files sender.new) sent bytes
+        → IsBurst 96 from bytes file → Holds (R.files receiver.old) got file → result.1 ≡ Status.Done
+        → (fixed : ℕ) × IsReadBack stream fixed output (R.files receiver.new) (O.written out.new) }
+{
+    all_is_sent();
+    a_burst_is_read();
+    let sent = run_of_dvb_code(alloc, words.0, sender, out);
+    let read = run_of_dvb_read(alloc, words.1, receiver, out);
+    (sent, read)
+}

@@ -1,0 +1,198 @@
+//! What `run` leaves of one command, over files that are told: where it answers `Done`, the meaning of the input's file
+//! is done and its outputs are whole. Where the names are different and not empty, the answer is that of this meaning,
+//! or a fault or want of memory.
+
+ghost use Rattle.std.specs.Prelude.{◌≡◌, ◌≢◌, ◌⊎◌, ◌<◌, ◌≤◌, ◌∷◌, [], ℕ, IfSome, List, Ok, Some, codes, decimal};
+ghost use Rattle.std.specs.FinMap.{get};
+ghost use Rattle.dtx_engine.specs.Recipe.{meaning_of_file};
+ghost use Rattle.dtx_forms.specs.Shapes as shapes;
+ghost use Rattle.dtx_meaning.specs.Meaning.{IsAnswered};
+ghost use Rattle.dtx_meaning.specs.Status.{IsFault};
+ghost use Rattle.dtx_packet_jobs.specs.Adapt.{feeding};
+ghost use Rattle.dtx_packet_jobs.specs.DvbCode.{dvb_coding};
+ghost use Rattle.dtx_packet_jobs.specs.DvbRead.{dvb_reading};
+ghost use Rattle.dtx_packet_jobs.specs.DvbShapes as dvb;
+ghost use Rattle.dtx_plan.specs.Plan.{plan_of};
+ghost use Rattle.dtx_plan.specs.declared.plan.Plan.{Plan};
+ghost use Rattle.dtx_jobs.specs.Acquire.{acquiring};
+ghost use Rattle.dtx_jobs.specs.Code.{coding};
+ghost use Rattle.dtx_jobs.specs.Excite.{exciting};
+ghost use Rattle.dtx_jobs.specs.Mend.{mending_symbols};
+ghost use Rattle.dtx_jobs.specs.Receive.{receiving};
+ghost use Rattle.dtx_words.specs.Line.{done_line};
+ghost use Rattle.dtx_words.specs.Printed.{printed};
+ghost use Rattle.dtx_words.specs.declared.rows.Command.TheVariants as command;
+
+use dtx_outside::{Shelf, Sink, Word};
+use dtx_top::{Status, run};
+use std::alloc::Global;
+
+/// `code IN OUT`: what is made of IN's packets is done, and is what OUT holds.
+pub fn run_of_code<S: Shelf, O: Sink>(
+    alloc: Global,
+    words: &[Word],
+    shelf: &mut S,
+    out: &mut O,
+) -> Status
+    ensures done { (input output file : List ℕ) → words.now ≡ codes "code" ∷ input ∷ output ∷ []
+        → IfSome (S.files shelf.old) (λ held. get held input ≡ Some file → result ≡ Status.Done
+        → IsAnswered (meaning_of_file shapes.coded_packets coding (output ∷ []) file) (Some held) result
+        (S.files shelf.new)) }
+    ensures answer { (input output file : List ℕ) → words.now ≡ codes "code" ∷ input ∷ output ∷ []
+        → input ≢ [] → output ≢ [] → input ≢ output
+        → IfSome (S.files shelf.old) (λ held. get held input ≡ Some file
+        → (result ≡ (meaning_of_file shapes.coded_packets coding (output ∷ []) file).outcome.status)
+        ⊎ IsFault result) }
+{
+    run(alloc, words, shelf, out)
+}
+
+/// `receive IN OUT`: what is made of IN's symbols is done, is what OUT holds, and is what the line says.
+pub fn run_of_receive<S: Shelf, O: Sink>(
+    alloc: Global,
+    words: &[Word],
+    shelf: &mut S,
+    out: &mut O,
+) -> Status
+    ensures done { (input output file : List ℕ) → words.now ≡ codes "receive" ∷ input ∷ output ∷ []
+        → IfSome (S.files shelf.old) (λ held. get held input ≡ Some file → result ≡ Status.Done
+        → IsAnswered (meaning_of_file shapes.segments receiving (output ∷ []) file) (Some held) result
+        (S.files shelf.new)) }
+    ensures answer { (input output file : List ℕ) → words.now ≡ codes "receive" ∷ input ∷ output ∷ []
+        → input ≢ [] → output ≢ [] → input ≢ output
+        → IfSome (S.files shelf.old) (λ held. get held input ≡ Some file
+        → (result ≡ (meaning_of_file shapes.segments receiving (output ∷ []) file).outcome.status)
+        ⊎ IsFault result) }
+    ensures line { (input output file : List ℕ) → words.now ≡ codes "receive" ∷ input ∷ output ∷ []
+        → IfSome (S.files shelf.old) (λ held. get held input ≡ Some file → result ≡ Status.Done
+        → O.written out.new ≡ printed (done_line (Some command.Receive)
+        (meaning_of_file shapes.segments receiving (output ∷ []) file).outcome) (O.written out.old)) }
+{
+    run(alloc, words, shelf, out)
+}
+
+/// `mend IN OUT`: what is made of IN's symbols is done, is what OUT holds, and is what the line says.
+pub fn run_of_mend<S: Shelf, O: Sink>(
+    alloc: Global,
+    words: &[Word],
+    shelf: &mut S,
+    out: &mut O,
+) -> Status
+    ensures done { (input output file : List ℕ) → words.now ≡ codes "mend" ∷ input ∷ output ∷ []
+        → IfSome (S.files shelf.old) (λ held. get held input ≡ Some file → result ≡ Status.Done
+        → IsAnswered (meaning_of_file shapes.segments mending_symbols (output ∷ []) file) (Some held) result
+        (S.files shelf.new)) }
+    ensures answer { (input output file : List ℕ) → words.now ≡ codes "mend" ∷ input ∷ output ∷ []
+        → input ≢ [] → output ≢ [] → input ≢ output
+        → IfSome (S.files shelf.old) (λ held. get held input ≡ Some file
+        → (result ≡ (meaning_of_file shapes.segments mending_symbols (output ∷ []) file).outcome.status)
+        ⊎ IsFault result) }
+    ensures line { (input output file : List ℕ) → words.now ≡ codes "mend" ∷ input ∷ output ∷ []
+        → IfSome (S.files shelf.old) (λ held. get held input ≡ Some file → result ≡ Status.Done
+        → O.written out.new ≡ printed (done_line (Some command.Mend)
+        (meaning_of_file shapes.segments mending_symbols (output ∷ []) file).outcome) (O.written out.old)) }
+{
+    run(alloc, words, shelf, out)
+}
+
+/// `dvb code IN OUT`: what is made of IN's packets is done, and is what OUT holds.
+pub fn run_of_dvb_code<S: Shelf, O: Sink>(
+    alloc: Global,
+    words: &[Word],
+    shelf: &mut S,
+    out: &mut O,
+) -> Status
+    ensures done { (input output file : List ℕ) → words.now ≡ codes "dvb" ∷ codes "code" ∷ input ∷ output ∷ []
+        → IfSome (S.files shelf.old) (λ held. get held input ≡ Some file → result ≡ Status.Done
+        → IsAnswered (meaning_of_file dvb.dvb_packets dvb_coding (output ∷ []) file) (Some held) result
+        (S.files shelf.new)) }
+    ensures answer { (input output file : List ℕ) → words.now ≡ codes "dvb" ∷ codes "code" ∷ input ∷ output ∷ []
+        → input ≢ [] → output ≢ [] → input ≢ output
+        → IfSome (S.files shelf.old) (λ held. get held input ≡ Some file
+        → (result ≡ (meaning_of_file dvb.dvb_packets dvb_coding (output ∷ []) file).outcome.status)
+        ⊎ IsFault result) }
+{
+    run(alloc, words, shelf, out)
+}
+
+/// `dvb read IN OUT`: what is made of IN's blocks is done, is what OUT holds, and is what the line says.
+pub fn run_of_dvb_read<S: Shelf, O: Sink>(
+    alloc: Global,
+    words: &[Word],
+    shelf: &mut S,
+    out: &mut O,
+) -> Status
+    ensures done { (input output file : List ℕ) → words.now ≡ codes "dvb" ∷ codes "read" ∷ input ∷ output ∷ []
+        → IfSome (S.files shelf.old) (λ held. get held input ≡ Some file → result ≡ Status.Done
+        → IsAnswered (meaning_of_file dvb.blocks dvb_reading (output ∷ []) file) (Some held) result
+        (S.files shelf.new)) }
+    ensures answer { (input output file : List ℕ) → words.now ≡ codes "dvb" ∷ codes "read" ∷ input ∷ output ∷ []
+        → input ≢ [] → output ≢ [] → input ≢ output
+        → IfSome (S.files shelf.old) (λ held. get held input ≡ Some file
+        → (result ≡ (meaning_of_file dvb.blocks dvb_reading (output ∷ []) file).outcome.status)
+        ⊎ IsFault result) }
+    ensures line { (input output file : List ℕ) → words.now ≡ codes "dvb" ∷ codes "read" ∷ input ∷ output ∷ []
+        → IfSome (S.files shelf.old) (λ held. get held input ≡ Some file → result ≡ Status.Done
+        → O.written out.new ≡ printed (done_line (Some command.DvbRead)
+        (meaning_of_file dvb.blocks dvb_reading (output ∷ []) file).outcome) (O.written out.old)) }
+{
+    run(alloc, words, shelf, out)
+}
+
+/// `acquire SCALE IN OUT`: what is made of IN's samples is done, and is what OUT holds.
+pub fn run_of_acquire<S: Shelf, O: Sink>(
+    alloc: Global,
+    words: &[Word],
+    shelf: &mut S,
+    out: &mut O,
+) -> Status
+    ensures done { (scale : ℕ) (input output file : List ℕ)
+        → words.now ≡ codes "acquire" ∷ decimal scale ∷ input ∷ output ∷ []
+        → 0 < scale → scale ≤ 18
+        → IfSome (S.files shelf.old) (λ held. get held input ≡ Some file → result ≡ Status.Done
+        → IsAnswered (meaning_of_file shapes.single_bytes (acquiring scale) (output ∷ []) file) (Some held) result
+        (S.files shelf.new)) }
+    ensures answer { (scale : ℕ) (input output file : List ℕ)
+        → words.now ≡ codes "acquire" ∷ decimal scale ∷ input ∷ output ∷ []
+        → 0 < scale → scale ≤ 18
+        → input ≢ [] → output ≢ [] → input ≢ output
+        → IfSome (S.files shelf.old) (λ held. get held input ≡ Some file
+        → (result ≡ (meaning_of_file shapes.single_bytes (acquiring scale) (output ∷ []) file).outcome.status)
+        ⊎ IsFault result) }
+{
+    run(alloc, words, shelf, out)
+}
+
+/// `excite FEED ADDRESS DELAY OUT LOG`: what is made of FEED's packets is done, and is what OUT and LOG hold.
+pub fn run_of_excite<S: Shelf, O: Sink>(
+    alloc: Global,
+    words: &[Word],
+    shelf: &mut S,
+    out: &mut O,
+) -> Status
+    ensures { (address delay : ℕ) (input output log file : List ℕ)
+        → words.now ≡ codes "excite" ∷ input ∷ decimal address ∷ decimal delay ∷ output ∷ log ∷ []
+        → address ≤ 65535 → delay ≤ 4294967295
+        → IfSome (S.files shelf.old) (λ held. get held input ≡ Some file → result ≡ Status.Done
+        → IsAnswered (meaning_of_file shapes.coded_packets (exciting address delay) (output ∷ log ∷ []) file)
+        (Some held) result (S.files shelf.new)) }
+{
+    run(alloc, words, shelf, out)
+}
+
+/// `adapt PLAN IN OUT`, where PLAN is a plan: what is made of IN's packets under it is done, and is what OUT holds.
+pub fn run_of_adapt<S: Shelf, O: Sink>(
+    alloc: Global,
+    words: &[Word],
+    shelf: &mut S,
+    out: &mut O,
+) -> Status
+    ensures { (plan : Plan) (plan_name input output bytes file : List ℕ)
+        → words.now ≡ codes "adapt" ∷ plan_name ∷ input ∷ output ∷ [] → plan_of bytes ≡ Ok plan
+        → IfSome (S.files shelf.old) (λ held. get held plan_name ≡ Some bytes → get held input ≡ Some file
+        → result ≡ Status.Done
+        → IsAnswered (meaning_of_file shapes.packets (feeding plan) (output ∷ []) file) (Some held) result
+        (S.files shelf.new)) }
+{
+    run(alloc, words, shelf, out)
+}
