@@ -18,7 +18,7 @@ fi
 # `dtx_gap_filler`, `dtx_repeated_feed`, `dtx_trial` and `dtx_symbol_laws` have lemmas and laws alone, `dtx_host` promises what
 # the traits ask of files that tell nothing, and that answers are counted, and the crates of tests, whose names end so, have
 # nothing that another crate stands on.
-few_edits=' dtx dtx_bench dtx_host dtx_lists dtx_chain dtx_bursts dtx_network dtx_calm_feed dtx_gap_filler dtx_repeated_feed dtx_symbol_laws dtx_trial '
+few_edits=' dtx dtx_bench dtx_host dtx_lists dtx_chain dtx_bursts dtx_network dtx_calm_feed dtx_gap_filler dtx_repeated_feed dtx_symbol_laws dtx_trial dtx_file_laws '
 
 passed=0
 failed=0

@@ -18,7 +18,7 @@ use Rattle.dtx_meaning.specs.declared.status.Status.TheVariants.{Done, NoSync}
 use Rattle.dtx_outside.proofs.FilesLemmas.{get-insert_other}
 use Rattle.dtx_outside.specs.Shelf.{Files}
 use Rattle.dtx_packets.specs.Packets.{packet_at, packets_of, whole_packets}
-use Rattle.dtx_packet_jobs.proofs.PacketFileLemmas.{length-packets_of}
+use Rattle.dtx_forms.proofs.FilePacketsLemmas.{length-packets_of}
 use Rattle.dtx_jobs.specs.Code.{coding}
 use Rattle.dtx_jobs.proofs.GivenLemmas.{nothing_received}
 use Rattle.dtx_jobs.specs.Giving.{Giving, IsGiving, receiving_by}

@@ -28,7 +28,7 @@ use Rattle.dtx_outside.specs.Shelf.{Files}
 use Rattle.dtx_packets.specs.Packets.{packet_at, packets_of, whole_packets}
 use Rattle.dtx_packet_jobs.specs.Adapt.{feeding}
 use Rattle.dtx_packet_jobs.specs.Feed.{feed_bytes}
-use Rattle.dtx_packet_jobs.proofs.PacketFileLemmas.{length-packets_of, long-packets_of}
+use Rattle.dtx_forms.proofs.FilePacketsLemmas.{length-packets_of, long-packets_of}
 use Rattle.dtx_plan.specs.Plan.{plan_of}
 use Rattle.dtx_plan.specs.Sound.{IsSound, IsTransmitter}
 use Rattle.dtx_plan.specs.declared.plan.Plan.{Plan}
