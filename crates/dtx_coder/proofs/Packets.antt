@@ -61,11 +61,11 @@ packets_coded f first white ps d one two three four w l d1 d2 d3 d4 =
     each : (i : ℕ) (head : List ℕ) → i < 4 → AreData head (f (get_or ps i d)) → AreData head (get_or (map f ps) i [])
     each i head m a = subst (AreData head) (sym (get_or-map f ps i d [] (omega (arith, l, m)))) a
 
--- more packets, in fours: those of group i are written, at a piece of that length, behind the ones before
 pub words_none : (first : ℕ) → [] ≡ coded_from first []
 unfolding coded_from
 words_none first = refl
 
+-- more packets, in fours: those of group i are written, at a piece of that length, behind the ones before
 pub words_on : (first i size : ℕ) (ps : List (List ℕ)) (words group : List ℕ) → 4 * i + 4 ≤ length ps → size ≡ 828
     → length words ≡ 207 * length ps
     → take (828 * i) words ≡ coded_from first (take (4 * i) ps)

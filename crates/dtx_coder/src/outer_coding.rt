@@ -63,7 +63,8 @@ pub(crate) fn code_packets(
         data_of(&packets[2].0),
         data_of(&packets[3].0),
     ];
-    outer.code_four(first, &heads, &mut bytes[..]);
+    outer.encode_four(first, &heads, &mut bytes[..]);
+    outer.interleave(&mut bytes[..]);
 }
 
 /// Sets `bytes` to those that leave the interleaver as the codewords of packets come, the first of them packet `first`

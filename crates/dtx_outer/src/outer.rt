@@ -97,26 +97,9 @@ impl<
         self.spread.pass(out);
     }
 
-    /// The bytes that leave the interleaver as the codewords of four data of `K` bytes come, one behind the other: what
-    /// `code` gives for packets `place` to `place` + 3 of the whitener's period. The words, of `N` bytes each, are made
-    /// where `words` is, whatever stands there before, so none is copied.
-    pub fn code_four(&mut self, place: usize, heads: &[&[u8]; 4], words: &mut [u8])
-        requires long { (p : ℕ) → p < 4 → length (slice_index_or (map (λ head. head.now) heads.now) p []) ≡ K }
-        requires room { length words.old ≡ N * 4 }
-        requires within { K * (place + 4) ≤ W.PERIOD }
-        ensures bytes { words.new ≡ leaving_all B self.old.branches
-            (concat (codewords N K self.old.white place (map (λ head. head.now) heads.now))) }
-        ensures branches { self.new ≡ record self.old {
-          branches = after_all B self.old.branches
-              (concat (codewords N K self.old.white place (map (λ head. head.now) heads.now)));
-        } }
-    {
-        self.encode_four(place, heads, words);
-        self.interleave(words);
-    }
-
     /// The codewords of four data of `K` bytes, one behind the other, whitened as packets `place` to `place` + 3 of the
-    /// whitener's period. The words, of `N` bytes each, are made where `words` is, whatever stands there before.
+    /// whitener's period. The words, of `N` bytes each, are made where `words` is, whatever stands there before, so none
+    /// is copied. `interleave` of all of them gives what `code` gives for one after another.
     pub fn encode_four(&self, place: usize, heads: &[&[u8]; 4], words: &mut [u8])
         requires long { (p : ℕ) → p < 4 → length (slice_index_or (map (λ head. head.now) heads.now) p []) ≡ K }
         requires room { length words.old ≡ N * 4 }

@@ -1,6 +1,6 @@
 -- Lists that are taken in chunks.
-use Rattle.std.proofs.Common.{◌≡◌, ℕ, zero, suc, ◌+◌, ◌*◌, ◌<◌, ◌≤◌, List, [], ◌∷◌, ◌++◌, length, get_or, take}
-use Rattle.std.proofs.Common.{drop, sym, ap, ap₂, ◌∙◌, arith}
+use Rattle.std.proofs.Common.{◌≡◌, ℕ, zero, suc, ◌+◌, ◌-◌, ◌*◌, ◌<◌, ◌≤◌, List, [], ◌∷◌, ◌++◌, length, get_or}
+use Rattle.std.proofs.Common.{take, drop, sym, ap, ap₂, ◌∙◌, arith}
 use Rattle.std.specs.List.{flat_map}
 use Rattle.std.specs.Simd.{first_chunks}
 use Rattle.std.proofs.Math.Seq.{take-add}
@@ -13,6 +13,14 @@ pub one_on : {X : Type 0} (before xs : List X) (i : ℕ) (d : X) → i < length 
     → (before ++ take i xs) ++ get_or xs i d ∷ [] ≡ before ++ take (i + 1) xs
 one_on before xs i d within =
     append_assoc before (take i xs) (get_or xs i d ∷ []) ∙ ap (λ z. before ++ z) (sym (take_more xs i d within))
+
+-- a part more of a list, behind others
+pub part_on : {X : Type 0} (before xs : List X) (i j : ℕ) → i ≤ j
+    → (before ++ take i xs) ++ take (j - i) (drop i xs) ≡ before ++ take j xs
+part_on before xs i j l =
+    append_assoc before (take i xs) (take (j - i) (drop i xs))
+    ∙ ap (λ z. before ++ z) (sym (take-add i (j - i) xs)
+    ∙ ap (λ n. take n xs) (let e : i + (j - i) ≡ j = omega (arith, l) in e))
 
 -- one chunk more of a list of chunks, behind others
 pub chunk_on : {X : Type 0} (before : List X) (chunks : List (List X)) (i : ℕ) (d : List X) → i < length chunks

@@ -1,6 +1,6 @@
 // Coding a stream by the outer coding of DVB, a piece of its packets at a time.
-ghost use Rattle.std.specs.Prelude.{◌≡◌, ◌+◌, ◌*◌, ◌/◌, ◌%◌, ◌≤◌, ◌++◌, ◌∷◌, [], ℕ, List, length};
-ghost use Rattle.std.specs.List.{flat_map};
+ghost use Rattle.std.specs.Prelude.{◌≡◌, ◌==◌, ◌+◌, ◌*◌, ◌/◌, ◌%◌, ◌<◌, ◌≤◌, ◌++◌, ◌∷◌, [], ℕ, List};
+ghost use Rattle.std.specs.Prelude.{if◌then◌else◌, length};
 ghost use Rattle.dtx_packets.specs.Packets.{packets_of};
 ghost use Rattle.dtx_packet_jobs.specs.DvbCoding.{IsSending};
 
@@ -22,12 +22,10 @@ const BATCH_PACKETS: usize = 32;
 /// How many bytes their blocks have.
 const BATCH_BYTES: usize = BLOCK * BATCH_PACKETS;
 
-/// Sends a stream, many packets at once where they stand in whole halves of groups of eight.
+/// Sends a stream, up to 32 packets at once where they stand in whole halves of groups of eight.
 #[derive(Drop)]
 pub(crate) struct DvbCoding {
     coder: Box<DvbOut>,
-    /// The last packets that went through the interleaver at once, as they left.
-    batch: [u8; BATCH_BYTES],
     /// What was sent of the last piece.
     sent: Buffer<SENT_BYTES>,
     /// How many packets were given.
@@ -77,9 +75,10 @@ impl DvbCoding {
         ensures long { length self.new.sent ≡ length self.old.sent + BLOCK * length packets.now }
     {
         let place = (first % PERIOD_PACKETS as u64) as u8;
-        let len = BLOCK * packets.len();
-        self.coder.batch(place, packets, &mut self.batch[..len]);
-        self.sent.push(&self.batch[..len]);
+        let mut room = [0; BATCH_BYTES];
+        let out = &mut room[..BLOCK * packets.len()];
+        self.coder.batch(place, packets, out);
+        self.sent.push(out);
     }
 
     /// Sends packets one by one, the first of which has that number.
@@ -172,7 +171,6 @@ impl Transforming for DvbCoding {
     fn new(alloc: Global) -> Result<DvbCoding, AllocError> {
         Ok(DvbCoding {
             coder: Box::new(alloc, DvbOut::new(alloc)?)?,
-            batch: [0; BATCH_BYTES],
             sent: Buffer::new(alloc)?,
             packets: 0,
         })
@@ -183,7 +181,10 @@ impl Transforming for DvbCoding {
 
 /// How many of so many packets stand in whole halves of groups of eight, where the first one has that number.
 fn in_fours(first: u64, count: usize) -> usize
-    ensures { result ≡ (if first % FOUR == 0 then FOUR * (count / FOUR) else 0) }
+    ensures fours { result ≡ (if first % FOUR == 0 then FOUR * (count / FOUR) else 0) }
+    ensures within { result ≤ count }
+    ensures whole { result % FOUR ≡ 0 }
+    ensures aligned { 0 < result → first % FOUR ≡ 0 }
 {
     if first % FOUR as u64 == 0 {
         return FOUR * (count / FOUR);

@@ -1,4 +1,4 @@
-use Rattle.std.proofs.Common.{List, ℕ, ap, ap₂, ◌∙◌}
+use Rattle.std.proofs.Common.{ap, ap₂, ◌∙◌}
 use Rattle.dtx_laws.specs.Branches.{Branching, leaving_all, after_all}
 use Rattle.dtx_outer.specs.Outer.{Held}
 use Rattle.dtx_outer.proofs.outer.Outer.interleave.Goals as goal

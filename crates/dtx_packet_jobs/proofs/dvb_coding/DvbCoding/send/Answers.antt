@@ -1,29 +1,22 @@
-use Rattle.std.proofs.Common.{◌≡◌, ◌*◌, ◌/◌, ◌++◌, ℕ, List, length, ap, ap₂, ◌∙◌, subst, arith, append_assoc}
-use Rattle.std.specs.List.{flat_map}
-use Rattle.std.proofs.lemmas.List.{length-append}
-use Rattle.dtx_packets.specs.Packets.{packets_of}
+use Rattle.std.proofs.Common.{◌≤◌, ◌++◌, length, take, ap, ◌∙◌, subst, arith}
+use Rattle.std.proofs.lemmas.List.{length-append, length-take-le, take_all}
 use Rattle.dtx_packet_jobs.specs.DvbCoding.{IsSending}
-use Rattle.dtx_packet_jobs.proofs.DvbChunks.{chunks_and_rest, length-chunks_flat}
+use Rattle.dtx_packet_jobs.proofs.DvbChunks.{part_on}
 use Rattle.dtx_forms.proofs.FilePacketsLemmas.{packets_are}
 use Rattle.dtx_packet_jobs.proofs.dvb_coding.DvbCoding.send.Goals as goal
 
 pub returns : goal.returns
 returns c =
     let ps = c.as_chunks.result.0.now in
-    let k : ℕ = length ps / 4 in
-    let front : List (List ℕ) = flat_map (λ four. four) c.as_chunks-2.result.0.now in
-    let rest = c.as_chunks-2.result.1.now in
-    let many : length front ≡ k * 4 =
-    ap (λ fours. length (flat_map (λ four. four) fours)) c.as_chunks-2.ensures.front
-    ∙ length-chunks_flat 4 k ps (omega arith) in
-    let all : front ++ rest ≡ packets_of c.args.bytes.now =
-    ap₂ (λ fours r. flat_map (λ four. four) fours ++ r) c.as_chunks-2.ensures.front c.as_chunks-2.ensures.back
-    ∙ chunks_and_rest 4 k ps ∙ c.as_chunks.ensures.front ∙ packets_are c.args.bytes.now in
+    let k = c.in_fours-fours.result in
+    let within : k ≤ length ps = c.in_fours-fours.ensures.within in
     record {
       sent = λ packets before long is.
           subst (λ qs. IsSending c.send_each.new.self qs before)
-          (append_assoc packets front rest ∙ ap (λ z. packets ++ z) all)
-          (c.send_each.ensures.sent (packets ++ front) before
-          (omega (arith, long, length-append packets front, many, c.as_chunks-2.ensures.front_len))
+          (part_on packets ps k (length ps) within
+          ∙ ap (λ z. packets ++ z)
+          (take_all (length ps) ps (omega arith) ∙ c.as_chunks.ensures.front ∙ packets_are c.args.bytes.now))
+          (c.send_each.ensures.sent (packets ++ take k ps) before
+          (omega (arith, long, length-append packets (take k ps), length-take-le k ps within))
           (c.send_fours.ensures.sent packets before long is));
     }
