@@ -89,12 +89,7 @@ pub(crate) fn interleave_packets(
 }
 
 /// Sets `words` to the codewords of packets, one behind the other, the first of them packet `first` of its field.
-fn encode_packets(
-    outer: &OuterCoding,
-    first: usize,
-    packets: &[[u8; PACKET]],
-    words: &mut [u8],
-)
+fn encode_packets(outer: &OuterCoding, first: usize, packets: &[[u8; PACKET]], words: &mut [u8])
     requires white { outer.now.white ≡ randomizer_bytes }
     requires whole { length packets.now % GROUP_PACKETS ≡ 0 }
     requires in_field { first + length packets.now ≤ FIELD_PACKETS }

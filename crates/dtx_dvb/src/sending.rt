@@ -109,12 +109,7 @@ fn encode_fours(outer: &OuterCoding, place: usize, packets: &[[u8; PACKET]], wor
 
 /// Those of four packets.
 #[inline(always)]
-fn encode_four(
-    outer: &OuterCoding,
-    place: usize,
-    packets: &[[u8; PACKET]; FOUR],
-    words: &mut [u8],
-)
+fn encode_four(outer: &OuterCoding, place: usize, packets: &[[u8; PACKET]; FOUR], words: &mut [u8])
     requires white { outer.now.white ≡ randomizer_bytes }
     requires place { place + FOUR ≤ PERIOD_PACKETS }
     requires room { length words.old ≡ FOUR_BLOCKS }
