@@ -67,8 +67,10 @@ impl Decoder {
         ensures few { length batch.new.packets.items ≤ GROUP_PACKETS }
     {
         self.groups.take(place, segment);
-        let given = self.groups.give(&mut self.inner, batch);
-        self.turn = turn_behind(self.turn, given);
+        if place % 4 == 3 {
+            let given = self.groups.give(&mut self.inner, batch);
+            self.turn = turn_behind(self.turn, given);
+        }
     }
 
     /// The next data segments of the run, as the bytes of their symbols, and the packets that they complete. The first

@@ -59,7 +59,7 @@ pub(crate) fn give(inner: &mut OuterDecoding, block: &[u8; CODEWORD], batch: &mu
 }
 
 /// The next groups of a run's bytes, four blocks each, and the packets that they complete. All go through the gatherer
-/// together. The bytes are used up.
+/// together. The bytes are used up. Much room is made only where it is used: that takes its time.
 pub(crate) fn give_groups(inner: &mut OuterDecoding, bytes: &mut [u8], batch: &mut Batch)
     requires white { inner.old.white ≡ randomizer_bytes }
     requires whole { length bytes.old % GROUP_BYTES ≡ 0 }
@@ -75,6 +75,17 @@ pub(crate) fn give_groups(inner: &mut OuterDecoding, bytes: &mut [u8], batch: &m
     ensures few { CODEWORD * length batch.new.packets.items ≤ length bytes.old }
 {
     let groups = bytes.len() / GROUP_BYTES;
+    if groups <= 1 {
+        let mut heads = [[[0; PACKET_DATA]; 4]; 1];
+        let mut taken = [[Taken::None; 4]; 1];
+        return give_through(
+            inner,
+            bytes,
+            &mut heads[..groups],
+            &mut taken[..groups],
+            batch,
+        );
+    }
     let mut heads = [[[0; PACKET_DATA]; 4]; HELD_GROUPS];
     let mut taken = [[Taken::None; 4]; HELD_GROUPS];
     give_through(
