@@ -1,6 +1,6 @@
 //! From the segments of a run, some of whose symbols are missing, to packets.
 
-ghost use Rattle.std.specs.Prelude.{◌≡◌, ℤ, ◌+◌, ◌*◌, ◌%◌, ◌<◌, ◌++◌, ◌∷◌, [], List, length, map};
+ghost use Rattle.std.specs.Prelude.{◌≡◌, ℤ, ◌+◌, ◌*◌, ◌%◌, ◌<◌, ◌≤◌, ◌++◌, ◌∷◌, [], List, length, map};
 ghost use Rattle.dtx_erase.specs.Mended.{mended_run, mended_run_early};
 ghost use Rattle.dtx_erase.specs.Sides.{Decodes, mended_word, word_of};
 
@@ -66,6 +66,7 @@ impl Decoder {
             → Decodes self.new (run ++ segment.now ∷ []) }
         ensures packets { (run : List (List ℤ)) → Decodes self.old run → length run % 313 ≡ place + 1
             → mended_run_early (run ++ segment.now ∷ []) ≡ mended_run_early run ++ batch.new.packets.items }
+        ensures few { length batch.new.packets.items ≤ 4 }
     {
         self.bytes.take(place, segment);
         self.marks.take(place, segment);
@@ -83,6 +84,7 @@ impl Decoder {
         ensures given { self.old.waits ≡ 0 → (self.new.waits ≡ 0) × (self.new.place ≡ (self.old.place + 4) % 312)
             × (batch.new.packets.items ≡ map (λ p. mended_word (PACKET_DATA * ((self.old.place + p) % 312))
             (word_of self.old.bytes.gathered p) (word_of self.old.marks.gathered p)) (0 ∷ 1 ∷ 2 ∷ 3 ∷ [])) }
+        ensures few { length batch.new.packets.items ≤ 4 }
     {
         if self.waits > 0 {
             self.waits -= 1;
@@ -97,8 +99,9 @@ impl Decoder {
     /// The run has ended: what is left of its packets.
     pub(crate) fn end(&mut self, batch: &mut Batch)
         requires { batch.old.packets.items ≡ [] }
-        ensures { (run : List (List ℤ)) → Decodes self.old run
+        ensures packets { (run : List (List ℤ)) → Decodes self.old run
             → mended_run run ≡ mended_run_early run ++ batch.new.packets.items }
+        ensures few { length batch.new.packets.items ≤ 1 }
     {
         if self.waits == 0 && self.place % BRANCHES as u16 == 0 {
             let word = self.bytes.last_word();

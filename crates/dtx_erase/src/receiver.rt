@@ -1,6 +1,6 @@
 //! Receives one segment after another, some of whose symbols are missing.
 
-ghost use Rattle.std.specs.Prelude.{◌≡◌, ℤ, ◌+◌, ◌%◌, ◌<◌, ◌++◌, ◌∷◌, [], List, IfOk};
+ghost use Rattle.std.specs.Prelude.{◌≡◌, ℤ, ◌+◌, ◌%◌, ◌<◌, ◌≤◌, ◌++◌, ◌∷◌, [], List, IfOk, length};
 ghost use Rattle.dtx_erase.specs.Mended.{all_mended, mended_so_far};
 ghost use Rattle.dtx_erase.specs.Sides.{Mends, IsTaken};
 ghost use Rattle.dtx_receiver.specs.Runs.{tracking};
@@ -8,7 +8,7 @@ ghost use Rattle.dtx_receiver.specs.Runs.{tracking};
 use crate::decoder::Decoder;
 use dtx_frame::looks;
 use dtx_receiver::{Batch, Tracking};
-use dtx_sizes::{FIELD_SEGMENTS, SEGMENT};
+use dtx_sizes::{FIELD_SEGMENTS, GROUP_PACKETS, SEGMENT};
 use std::alloc::{AllocError, Global};
 use std::marker::Model;
 
@@ -55,6 +55,7 @@ impl MendReceiver {
             → Mends self.new (segments ++ segment.now ∷ []) }
         ensures packets { (segments : List (List ℤ)) → Mends self.old segments
             → mended_so_far (segments ++ segment.now ∷ []) ≡ mended_so_far segments ++ batch.new.packets.items }
+        ensures few { length batch.new.packets.items ≤ GROUP_PACKETS }
     {
         batch.packets.clear();
         self.follow(segment, batch)
@@ -63,8 +64,9 @@ impl MendReceiver {
     /// Receives the next segment, where the batch is empty.
     fn follow(&mut self, segment: &[i8; SEGMENT], batch: &mut Batch) -> Tracking
         requires { batch.old.packets.items ≡ [] }
-        ensures { (segments : List (List ℤ)) → Mends self.old segments
+        ensures taken { (segments : List (List ℤ)) → Mends self.old segments
             → IsTaken segments segment.now self.new result batch.new.packets.items }
+        ensures few { length batch.new.packets.items ≤ GROUP_PACKETS }
     {
         match self.place {
             None => {
@@ -98,6 +100,7 @@ impl MendReceiver {
         ensures stands { Mends self.new [] }
         ensures packets { (segments : List (List ℤ)) → Mends self.old segments
             → all_mended segments ≡ mended_so_far segments ++ batch.new.packets.items }
+        ensures few { length batch.new.packets.items ≤ GROUP_PACKETS }
     {
         batch.packets.clear();
         match self.place {

@@ -1,8 +1,13 @@
 -- Lemmas of the segments of a symbol file that is read piece by piece.
-use Rattle.std.proofs.Common.{◌≡◌, ℕ, ◌+◌, ◌-◌, ◌*◌, ◌≤◌, List, [], ◌∷◌, ◌++◌, length, take, drop, sym, ap, ◌∙◌, arith}
+use Rattle.std.proofs.Common.{◌≡◌, ℕ, ◌+◌, ◌-◌, ◌*◌, ◌<◌, ◌≤◌, List, [], ◌∷◌, ◌++◌, length, take, drop, get_or, refl}
+use Rattle.std.proofs.Common.{sym, ap, ◌∙◌, arith}
 use Rattle.std.specs.Prelude.{ℤ}
-use Rattle.std.proofs.lemmas.List.{append_assoc, length-take-le, take_at}
-use Rattle.std.proofs.lemmas.List.FromFn.{length-map-range_with_len, map-range_with_len_more}
+use Rattle.std.specs.Simd.{first_chunks}
+use Rattle.std.proofs.lemmas.List.{append_assoc, ext_get_or, get_or-drop, get_or-map, get_or-take, length-drop, length-map}
+use Rattle.std.proofs.lemmas.List.{length-take-le, take_at}
+use Rattle.std.proofs.lemmas.List.FromFn.{get_or-map-range_with_len, length-map-range_with_len, map-range_with_len_more}
+use Rattle.dtx_packets.proofs.ChunksLemmas.{get_or-first_chunks}
+use Rattle.dtx_receiver.specs.Symbols.{symbols_in}
 use Rattle.dtx_jobs.specs.SymbolFile.{symbols, segment_at, segments_from, file_segments, whole_segments}
 use Rattle.dtx_jobs.specs.SymbolFileLaws.{segments_from-append, segments_from-piece}
 
@@ -39,3 +44,27 @@ segment_on segments bytes i chunk is =
     append_assoc segments (segments_from bytes 0 i) (symbols chunk ∷ [])
     ∙ ap (λ z. segments ++ z) (ap (λ x. segments_from bytes 0 i ++ symbols x ∷ []) is
     ∙ sym (map-range_with_len_more (segment_at bytes) 0 i i (omega arith)))
+
+-- some of a piece's chunks
+pub segments_of_chunks : (bytes : List ℕ) (chunks first n : ℕ) → first + n ≤ chunks
+    → length (first_chunks 832 chunks bytes) ≡ chunks
+    → symbols_in (take n (drop first (first_chunks 832 chunks bytes))) ≡ segments_from bytes first n
+segments_of_chunks bytes chunks first n fits all =
+    ext_get_or [] (symbols_in some) (segments_from bytes first n)
+    (length-map some symbols ∙ long ∙ sym (length-map-range_with_len (segment_at bytes) first n))
+    (λ k l. place k (omega (arith, l, length-map some symbols, long)))
+  where
+    some : List (List ℕ)
+    some = take n (drop first (first_chunks 832 chunks bytes))
+
+    long : length some ≡ n
+    long = length-take-le n (drop first (first_chunks 832 chunks bytes))
+        (omega (arith, fits, all, length-drop first (first_chunks 832 chunks bytes)))
+
+    place : (k : ℕ) → k < n → get_or (symbols_in some) k [] ≡ get_or (segments_from bytes first n) k []
+    place k l =
+        get_or-map symbols some k [] [] (omega (arith, l, long))
+        ∙ ap symbols (get_or-take n (drop first (first_chunks 832 chunks bytes)) k [] l
+        ∙ get_or-drop first (first_chunks 832 chunks bytes) k []
+        ∙ get_or-first_chunks 832 chunks bytes (first + k) (omega (arith, l, fits)))
+        ∙ sym (get_or-map-range_with_len (segment_at bytes) first n k (first + k) [] l refl)

@@ -1,10 +1,10 @@
 -- The numbers of what was received, as segments come.
-use Rattle.std.proofs.Common.{◌≡◌, ℕ, ◌+◌, List, [], ◌∷◌, ◌++◌, length, refl, sym, ap, ◌∙◌}
+use Rattle.std.proofs.Common.{◌≡◌, ℕ, ◌+◌, List, [], ◌++◌, length, refl, sym, ap, ◌∙◌}
 use Rattle.std.specs.Prelude.{ℤ, if◌then◌else◌}
 use Rattle.std.proofs.lemmas.List.{length-append}
 use Rattle.std.proofs.lemmas.List.Sums.{sum_by-append}
-use Rattle.dtx_receiver.proofs.CountingLemmas.{no_segments, runs_more}
-use Rattle.dtx_receiver.specs.Runs.{runs, begun, tracking}
+use Rattle.dtx_receiver.proofs.CountingLemmas.{no_segments}
+use Rattle.dtx_receiver.specs.Runs.{runs}
 use Rattle.dtx_receiver.specs.declared.batch.Received.{Received}
 use Rattle.dtx_jobs.specs.Giving.{Giving, IsGiving}
 use Rattle.dtx_jobs.specs.Tally.{fixed_in, flagged_in, tally_of, tally_with}
@@ -27,17 +27,18 @@ fixed_in-append a b = sum_by-append (λ (p : Received). p.fixed) a b
 flagged_in-append : (a b : List Received) → flagged_in (a ++ b) ≡ flagged_in a + flagged_in b
 flagged_in-append a b = sum_by-append (λ (p : Received). if p.good then 0 else 1) a b
 
--- with one segment more and the packets that it brought
-pub tally_on : (giving : Giving) (segments : List (List ℤ)) (x : List ℤ) (brought : List Received)
-    → giving.so_far (segments ++ x ∷ []) ≡ giving.so_far segments ++ brought
+-- with more segments, the runs that began with them, and the packets that they brought
+pub tally_on : (giving : Giving) (segments more : List (List ℤ)) (count begins : ℕ) (brought : List Received)
+    → length more ≡ count → length (runs (segments ++ more)) ≡ length (runs segments) + begins
+    → giving.so_far (segments ++ more) ≡ giving.so_far segments ++ brought
     → tally_with (record (tally_of segments (giving.so_far segments)) {
-      segments = length segments + 1;
-      runs = length (runs segments) + begun (tracking segments x);
+      segments = length segments + count;
+      runs = length (runs segments) + begins;
     }) brought
-    ≡ tally_of (segments ++ x ∷ []) (giving.so_far (segments ++ x ∷ []))
-tally_on giving segments x brought more = same_tally _ _ _ _ _ _ _ _ _ _
-    (sym (length-append segments (x ∷ [])))
-    (sym (runs_more segments x))
-    (sym (ap length more ∙ length-append (giving.so_far segments) brought))
-    (sym (ap fixed_in more ∙ fixed_in-append (giving.so_far segments) brought))
-    (sym (ap flagged_in more ∙ flagged_in-append (giving.so_far segments) brought))
+    ≡ tally_of (segments ++ more) (giving.so_far (segments ++ more))
+tally_on giving segments more count begins brought long begun given = same_tally _ _ _ _ _ _ _ _ _ _
+    (sym (length-append segments more ∙ ap (λ n. length segments + n) long))
+    (sym begun)
+    (sym (ap length given ∙ length-append (giving.so_far segments) brought))
+    (sym (ap fixed_in given ∙ fixed_in-append (giving.so_far segments) brought))
+    (sym (ap flagged_in given ∙ flagged_in-append (giving.so_far segments) brought))

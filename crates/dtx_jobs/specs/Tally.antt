@@ -39,6 +39,6 @@ numbers_in tally loose =
 -- the numbers are those that so many segments give at most
 pub record IsBounded (tally : Tally) (segments : ℕ) : Type 0 where
   pub runs : tally.runs ≤ segments
-  pub packets : tally.packets ≤ 8 * segments
-  pub fixed : tally.fixed ≤ 2040 * segments
-  pub flagged : tally.flagged ≤ 8 * segments
+  pub packets : tally.packets ≤ 4 * segments
+  pub fixed : tally.fixed ≤ 1020 * segments
+  pub flagged : tally.flagged ≤ 4 * segments

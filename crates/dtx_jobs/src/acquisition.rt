@@ -7,7 +7,7 @@ ghost use Rattle.dtx_jobs.specs.Acquire.{acquired_answer};
 ghost use Rattle.dtx_jobs.specs.Acquisition.{WasAcquired, WereAcquired};
 ghost use Rattle.dtx_jobs.specs.SymbolFile.{symbols};
 
-use crate::reception::to_symbols;
+use crate::signed::to_symbols;
 use crate::symbol_buffer::SymbolBuffer;
 use dtx_acquire::Acquirer;
 use dtx_engine::{Engine, Shape};

@@ -16,6 +16,7 @@ mod repeat_command;
 mod repetition;
 mod segment_receiver;
 mod sending;
+mod signed;
 mod soft_command;
 mod softening;
 mod stream_coder;

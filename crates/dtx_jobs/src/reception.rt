@@ -1,10 +1,9 @@
 // Receiving symbols, a piece of their file at a time.
-ghost use Rattle.std.specs.Prelude.{◌≡◌, ◌+◌, ◌*◌, ◌/◌, ◌<◌, ◌≤◌, ◌++◌, ◌∷◌, [], ℤ, List, IfOk, length};
-ghost use Rattle.dtx_receiver.specs.Runs as runs;
+ghost use Rattle.std.specs.Prelude.{◌≡◌, ◌+◌, ◌*◌, ◌/◌, ◌<◌, ◌≤◌, ◌++◌, [], ℤ, List, IfOk, length, take};
+ghost use Rattle.dtx_receiver.specs.Symbols.{symbols_in};
 ghost use Rattle.dtx_jobs.specs.Giving.{bytes_of};
 ghost use Rattle.dtx_jobs.specs.Reception.{IsReceiving, WasGiven};
-ghost use Rattle.dtx_jobs.specs.Softening.{IsSigned};
-ghost use Rattle.dtx_jobs.specs.SymbolFile.{file_segments, symbols};
+ghost use Rattle.dtx_jobs.specs.SymbolFile.{file_segments};
 ghost use Rattle.dtx_jobs.specs.Tally.{IsBounded, tally_of};
 
 use crate::segment_receiver::{Receiving, SegmentReceiver};
@@ -12,19 +11,18 @@ use crate::tally::Tally;
 use dtx_engine::{Buffer, Engine, Shape};
 use dtx_forms::{PIECE_SEGMENTS, Transforming, segments};
 use dtx_meaning::{Outcome, Status, ended};
-use dtx_receiver::{Batch, MOST_RECEIVED, Received, Tracking};
-use dtx_sizes::{MOST_SEGMENTS, PACKET, SEGMENT};
+use dtx_receiver::{Batch, Received};
+use dtx_sizes::{GROUP_PACKETS, MOST_SEGMENTS, PACKET, SEGMENT};
 use std::alloc::{AllocError, Global};
 
 /// How many bytes the packets have that a piece brings at most.
-const RECEIVED_BYTES: usize = PACKET * MOST_RECEIVED * PIECE_SEGMENTS;
+const RECEIVED_BYTES: usize = PACKET * GROUP_PACKETS * PIECE_SEGMENTS;
 
 /// A receiver with the packets that the last piece brought, and the numbers of all.
 #[derive(Drop)]
 pub struct Reception<R> {
     receiver: Box<R>,
     batch: Batch,
-    segment: [i8; SEGMENT],
     tally: Tally,
     packets: Buffer<RECEIVED_BYTES>,
 }
@@ -37,7 +35,6 @@ impl<R: SegmentReceiver> Reception<R> {
         Ok(Reception {
             receiver: Box::new(alloc, R::new(alloc)?)?,
             batch: Batch::new(),
-            segment: [0; SEGMENT],
             tally: Tally::new(),
             packets: Buffer::new(alloc)?,
         })
@@ -60,35 +57,39 @@ impl<R: SegmentReceiver> Reception<R> {
         ensures bounded { IsBounded self.new.tally self.new.tally.segments }
     {
         let (segments, _) = bytes.as_chunks::<SEGMENT>();
-        for i in 0..segments.len() {
-            self.take(&segments[i]);
+        let mut done = 0;
+        while done < segments.len() {
+            done += self.take_some(&segments[done..]);
         }
     }
 
-    /// Takes the next segment, and gathers the packets that it brings.
-    fn take(&mut self, bytes: &[u8; SEGMENT])
-        requires most { self.old.tally.segments < MOST_SEGMENTS }
+    /// Takes the first of some segments, gathers the packets that they bring, and tells how many it took.
+    fn take_some(&mut self, segments: &[[u8; SEGMENT]]) -> usize
+        requires some { 0 < length segments.now }
+        requires most { self.old.tally.segments + length segments.now ≤ MOST_SEGMENTS }
         requires bounded { IsBounded self.old.tally self.old.tally.segments }
-        requires room { length self.old.packets + PACKET * MOST_RECEIVED ≤ RECEIVED_BYTES }
+        requires room { length self.old.packets + PACKET * GROUP_PACKETS * length segments.now ≤ RECEIVED_BYTES }
+        ensures some { 0 < result }
+        ensures within { result ≤ length segments.now }
         ensures receiving { (before : List (List ℤ))
             → IsReceiving R.giving (R.stands self.old.receiver.value) self.old.tally before
             → IsReceiving R.giving (R.stands self.new.receiver.value) self.new.tally
-            (before ++ symbols bytes.now ∷ []) }
+            (before ++ symbols_in (take result segments.now)) }
         ensures brought { (before : List (List ℤ))
             → IsReceiving R.giving (R.stands self.old.receiver.value) self.old.tally before
-            → R.giving.so_far (before ++ symbols bytes.now ∷ [])
+            → R.giving.so_far (before ++ symbols_in (take result segments.now))
             ≡ R.giving.so_far before ++ self.new.batch.packets.items }
         ensures packets { self.new.packets ≡ self.old.packets ++ bytes_of self.new.batch.packets.items }
-        ensures long { length self.new.packets ≤ length self.old.packets + PACKET * MOST_RECEIVED }
+        ensures long { length self.new.packets ≤ length self.old.packets + PACKET * GROUP_PACKETS * result }
         ensures bounded { IsBounded self.new.tally self.new.tally.segments }
-        ensures count { self.new.tally.segments ≡ self.old.tally.segments + 1 }
+        ensures count { self.new.tally.segments ≡ self.old.tally.segments + result }
     {
-        to_symbols(bytes, &mut self.segment);
-        let tracking = self.receiver.take(&self.segment, &mut self.batch);
-        self.tally.segments += 1;
-        self.tally.runs += begun(tracking);
+        let progress = self.receiver.take_some(segments, &mut self.batch);
+        self.tally.segments += progress.segments as u64;
+        self.tally.runs += progress.runs;
         self.tally.add(self.batch.packets.as_slice());
         gather(self.batch.packets.as_slice(), &mut self.packets);
+        progress.segments
     }
 
     /// Ends, and gathers the packets that the end brings.
@@ -176,28 +177,6 @@ impl<R: Receiving> Transforming for Reception<R> {
     }
 
     ghost knows = { R.knows };
-}
-
-/// How many runs begin with a segment that is told to be this.
-fn begun(tracking: Tracking) -> u64
-    ensures begun { result ≡ runs.begun tracking }
-    ensures one { result ≤ 1 }
-{
-    match tracking {
-        Tracking::Began => 1,
-        _ => 0,
-    }
-}
-
-/// Sets symbols to those of as many bytes.
-pub(crate) fn to_symbols(bytes: &[u8], brought: &mut [i8])
-    requires { length brought.old ≡ length bytes.now }
-    ensures symbols { brought.new ≡ symbols bytes.now }
-    ensures signed { IsSigned brought.new }
-{
-    for i in 0..bytes.len() {
-        brought[i] = bytes[i].cast_signed();
-    }
 }
 
 /// Puts the bytes of packets behind those that are gathered.

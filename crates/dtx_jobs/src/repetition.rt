@@ -11,8 +11,8 @@ ghost use Rattle.dtx_jobs.specs.Repetition.{AreFew, IsRepeating, IsSending, IsSe
 ghost use Rattle.dtx_jobs.specs.Restarts.{restart_at};
 ghost use Rattle.dtx_jobs.specs.SymbolFile.{file_segments, symbols};
 
-use crate::reception::to_symbols;
 use crate::sending::Sending;
+use crate::signed::to_symbols;
 use dtx_coder::AIR_SYMBOLS;
 use dtx_engine::{Engine, Shape};
 use dtx_exciter::laws::groups_are_spaced;
@@ -20,13 +20,16 @@ use dtx_files::LOG_LINE;
 use dtx_forms::{PIECE_SEGMENTS, Transmitting, segments};
 use dtx_meaning::{Outcome, Status, ended};
 use dtx_packets::Packet;
-use dtx_receiver::{Batch, MOST_RECEIVED, Tracking};
+use dtx_receiver::{Batch, Tracking};
 use dtx_repeat::Repeater;
 use dtx_sizes::{GROUP_PACKETS, MOST_SEGMENTS, SEGMENT};
 use std::alloc::{AllocError, Global};
 
+/// How many packets a segment or the end brings at most has room here. Neither brings more than those of a group.
+const MOST_BROUGHT: usize = 2 * GROUP_PACKETS;
+
 /// How many packets the segments of a piece, and the end behind them, bring at most.
-const BROUGHT: usize = MOST_RECEIVED * (PIECE_SEGMENTS + 1);
+const BROUGHT: usize = MOST_BROUGHT * (PIECE_SEGMENTS + 1);
 
 /// How many symbols are sent for them at most. They are those of their whole groups, and of one that began before them.
 /// There is room for one group more.
@@ -82,7 +85,7 @@ impl Repetition {
         requires some { (s : List (List ℤ)) × IsRepeating self.old s }
         requires few { AreFew self.old }
         requires symbols { length self.old.sending.symbols + AIR_SYMBOLS * 4 ≤ SENT_BYTES }
-        requires lines { length self.old.sending.lines + LOG_LINE * (MOST_RECEIVED + 1) ≤ LOGGED_BYTES }
+        requires lines { length self.old.sending.lines + LOG_LINE * (MOST_BROUGHT + 1) ≤ LOGGED_BYTES }
         ensures address { self.new.address ≡ self.old.address }
         ensures delay { self.new.delay ≡ self.old.delay }
         ensures repeating { (s : List (List ℤ)) → IsRepeating self.old s
@@ -94,9 +97,9 @@ impl Repetition {
             → 4 * length self.new.sending.symbols
             + AIR_SYMBOLS * group_part (last_life (lives_so_far (s ++ symbols bytes.now ∷ [])))
             ≤ 4 * length self.old.sending.symbols
-            + AIR_SYMBOLS * (group_part (last_life (lives_so_far s)) + MOST_RECEIVED) }
+            + AIR_SYMBOLS * (group_part (last_life (lives_so_far s)) + MOST_BROUGHT) }
         ensures short { length self.new.sending.lines ≤ length self.old.sending.lines
-            + LOG_LINE * (MOST_RECEIVED + 1) }
+            + LOG_LINE * (MOST_BROUGHT + 1) }
         ensures few { AreFew self.new }
         ensures count { self.new.segments ≡ self.old.segments + 1 }
     {
@@ -143,9 +146,10 @@ impl Repetition {
     fn send_all(&mut self)
         requires some { (s : List (List ℤ)) × (ls : List (List (List ℕ))) × IsSending self.old s ls
             × (ls ≡ [] → self.old.batch.packets.items ≡ []) }
-        requires few { self.old.sending.tally.packets ≤ MOST_RECEIVED * MOST_SEGMENTS }
+        requires brought { length self.old.batch.packets.items ≤ MOST_BROUGHT }
+        requires few { self.old.sending.tally.packets ≤ MOST_BROUGHT * MOST_SEGMENTS }
         requires symbols { length self.old.sending.symbols + AIR_SYMBOLS * 4 ≤ SENT_BYTES }
-        requires lines { length self.old.sending.lines + LOG_LINE * MOST_RECEIVED ≤ LOGGED_BYTES }
+        requires lines { length self.old.sending.lines + LOG_LINE * MOST_BROUGHT ≤ LOGGED_BYTES }
         ensures address { self.new.address ≡ self.old.address }
         ensures delay { self.new.delay ≡ self.old.delay }
         ensures segments { self.new.segments ≡ self.old.segments }
@@ -157,9 +161,9 @@ impl Repetition {
             → (ls ≡ [] → self.old.batch.packets.items ≡ [])
             → 4 * length self.new.sending.symbols
             + AIR_SYMBOLS * group_part (last_life (longer ls (packets_in self.old.batch.packets.items)))
-            ≤ 4 * length self.old.sending.symbols + AIR_SYMBOLS * (group_part (last_life ls) + MOST_RECEIVED) }
-        ensures short { length self.new.sending.lines ≤ length self.old.sending.lines + LOG_LINE * MOST_RECEIVED }
-        ensures count { self.new.sending.tally.packets ≤ self.old.sending.tally.packets + MOST_RECEIVED }
+            ≤ 4 * length self.old.sending.symbols + AIR_SYMBOLS * (group_part (last_life ls) + MOST_BROUGHT) }
+        ensures short { length self.new.sending.lines ≤ length self.old.sending.lines + LOG_LINE * MOST_BROUGHT }
+        ensures count { self.new.sending.tally.packets ≤ self.old.sending.tally.packets + MOST_BROUGHT }
     {
         groups_are_spaced();
         for i in 0..self.batch.packets.len() {
@@ -172,7 +176,7 @@ impl Repetition {
     fn send(&mut self, packet: &Packet)
         requires some { (s : List (List ℤ)) × (ls : List (List (List ℕ))) × IsSending self.old s ls
             × (0 < length ls) }
-        requires few { self.old.sending.tally.packets < MOST_RECEIVED * (MOST_SEGMENTS + 1) }
+        requires few { self.old.sending.tally.packets < MOST_BROUGHT * (MOST_SEGMENTS + 1) }
         requires symbols { length self.old.sending.symbols + AIR_SYMBOLS ≤ SENT_BYTES }
         requires lines { length self.old.sending.lines + LOG_LINE ≤ LOGGED_BYTES }
         ensures address { self.new.address ≡ self.old.address }
@@ -196,7 +200,7 @@ impl Repetition {
     /// Ends, and gathers what the end brings.
     fn end(&mut self)
         requires some { (s : List (List ℤ)) × IsRepeating self.old s }
-        requires few { self.old.sending.tally.packets ≤ MOST_RECEIVED * MOST_SEGMENTS }
+        requires few { self.old.sending.tally.packets ≤ MOST_BROUGHT * MOST_SEGMENTS }
         requires no_symbols { self.old.sending.symbols ≡ [] }
         requires no_lines { self.old.sending.lines ≡ [] }
         ensures address { self.new.address ≡ self.old.address }

@@ -1,11 +1,12 @@
 // What receives segments, one after another.
-ghost use Rattle.std.specs.Prelude.{◌≡◌, ◌++◌, ◌∷◌, [], ℤ, IfOk, List};
-ghost use Rattle.dtx_receiver.specs.Runs.{tracking};
+ghost use Rattle.std.specs.Prelude.{◌≡◌, ◌+◌, ◌*◌, ◌<◌, ◌≤◌, ◌++◌, [], ℤ, IfOk, List, length, take};
+ghost use Rattle.dtx_receiver.specs.Runs.{runs};
+ghost use Rattle.dtx_receiver.specs.Symbols.{symbols_in};
 ghost use Rattle.dtx_jobs.specs.Giving.{Giving, IsGiving};
 
 use dtx_erase::MendReceiver;
-use dtx_receiver::{Batch, Receiver, Tracking};
-use dtx_sizes::SEGMENT;
+use dtx_receiver::{Batch, Progress, Receiver, begun, to_symbols};
+use dtx_sizes::{GROUP_PACKETS, SEGMENT};
 use std::alloc::{AllocError, Global};
 
 /// A receiver of segments, which come one after another. Receivers differ in how a word becomes a packet.
@@ -20,20 +21,28 @@ pub trait SegmentReceiver: Drop {
     fn new(alloc: Global) -> Result<Self, AllocError>
         ensures { IfOk result (λ receiver. stands receiver []) };
 
-    /// Receives the next segment: tells what it is, and gives the packets that become whole with it, in place of what
-    /// the batch held.
-    fn take(&mut self, segment: &[i8; SEGMENT], batch: &mut Batch) -> Tracking
-        ensures answer { (segments : List (List ℤ)) → stands self.old segments
-            → result ≡ tracking segments segment.now }
-        ensures stands { (segments : List (List ℤ)) → stands self.old segments
-            → stands self.new (segments ++ segment.now ∷ []) }
-        ensures packets { (segments : List (List ℤ)) → stands self.old segments
-            → giving.so_far (segments ++ segment.now ∷ []) ≡ giving.so_far segments ++ batch.new.packets.items };
+    /// Receives the first of some segments, which are given as the bytes of their symbols: tells how many it took, and
+    /// how many runs began with them. Gives the packets that become whole with them, in place of what the batch held.
+    fn take_some(&mut self, segments: &[[u8; SEGMENT]], batch: &mut Batch) -> Progress
+        requires { 0 < length segments.now }
+        ensures some { 0 < result.segments }
+        ensures within { result.segments ≤ length segments.now }
+        ensures stands { (before : List (List ℤ)) → stands self.old before
+            → stands self.new (before ++ symbols_in (take result.segments segments.now)) }
+        ensures packets { (before : List (List ℤ)) → stands self.old before
+            → giving.so_far (before ++ symbols_in (take result.segments segments.now))
+            ≡ giving.so_far before ++ batch.new.packets.items }
+        ensures runs { (before : List (List ℤ)) → stands self.old before
+            → length (runs (before ++ symbols_in (take result.segments segments.now)))
+            ≡ length (runs before) + result.runs }
+        ensures few { length batch.new.packets.items ≤ GROUP_PACKETS * result.segments }
+        ensures few_runs { result.runs ≤ result.segments };
 
     /// Ends the run that is on, if one is: gives the packets that are left, in place of what the batch held.
     fn finish(&mut self, batch: &mut Batch)
-        ensures { (segments : List (List ℤ)) → stands self.old segments
-            → giving.all segments ≡ giving.so_far segments ++ batch.new.packets.items };
+        ensures packets { (segments : List (List ℤ)) → stands self.old segments
+            → giving.all segments ≡ giving.so_far segments ++ batch.new.packets.items }
+        ensures few { length batch.new.packets.items ≤ GROUP_PACKETS };
 
     /// What is given so.
     ghost gives: { IsGiving giving };
@@ -67,8 +76,8 @@ impl SegmentReceiver for Receiver {
         Receiver::new(alloc)
     }
 
-    fn take(&mut self, segment: &[i8; SEGMENT], batch: &mut Batch) -> Tracking {
-        Receiver::take(self, segment, batch)
+    fn take_some(&mut self, segments: &[[u8; SEGMENT]], batch: &mut Batch) -> Progress {
+        Receiver::take_some(self, segments, batch)
     }
 
     fn finish(&mut self, batch: &mut Batch) {
@@ -91,8 +100,15 @@ impl SegmentReceiver for MendReceiver {
         MendReceiver::new(alloc)
     }
 
-    fn take(&mut self, segment: &[i8; SEGMENT], batch: &mut Batch) -> Tracking {
-        MendReceiver::take(self, segment, batch)
+    /// Each segment is taken alone.
+    fn take_some(&mut self, segments: &[[u8; SEGMENT]], batch: &mut Batch) -> Progress {
+        let mut segment = [0; SEGMENT];
+        to_symbols(&segments[0], &mut segment);
+        let tracking = MendReceiver::take(self, &segment, batch);
+        Progress {
+            segments: 1,
+            runs: begun(tracking),
+        }
     }
 
     fn finish(&mut self, batch: &mut Batch) {

@@ -11,7 +11,7 @@ ghost use Rattle.dtx_jobs.specs.Soft.{flushed, groups_in, has_group, soft_rest, 
 ghost use Rattle.dtx_jobs.specs.Softening.{IsKept, IsSigned, IsSoftening, kept_rows};
 ghost use Rattle.dtx_jobs.specs.SymbolFile.{file_segments, symbols};
 
-use crate::reception::to_symbols;
+use crate::signed::to_symbols;
 use crate::symbol_buffer::SymbolBuffer;
 use dtx_engine::{Engine, Shape};
 use dtx_forms::{PIECE_SEGMENTS, Transforming, segments};

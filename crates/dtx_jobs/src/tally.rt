@@ -40,9 +40,8 @@ impl Tally {
         requires fixed { self.old.fixed < 2 ^ 60 }
         requires flagged { self.old.flagged < 2 ^ 60 }
         ensures counted { self.new ≡ tally_with self.old packets.now }
-        ensures most_packets { self.new.packets ≤ self.old.packets + MOST_RECEIVED }
-        ensures most_fixed { self.new.fixed ≤ self.old.fixed + 255 * MOST_RECEIVED }
-        ensures most_flagged { self.new.flagged ≤ self.old.flagged + MOST_RECEIVED }
+        ensures most_fixed { self.new.fixed ≤ self.old.fixed + 255 * length packets.now }
+        ensures most_flagged { self.new.flagged ≤ self.old.flagged + length packets.now }
     {
         for i in 0..packets.len() {
             self.packets += 1;

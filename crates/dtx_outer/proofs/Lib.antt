@@ -4,3 +4,4 @@ pub mod MadeLemmas
 pub mod BackLemmas
 pub mod Coding
 pub mod Runs
+pub mod Ahead

@@ -4,7 +4,7 @@ ghost use Rattle.std.specs.Prelude.{◌≡◌, ℕ, ◌+◌, ◌-◌, ◌*◌, �
 ghost use Rattle.std.specs.Prelude.{MatchResult, length, slice_index_or, take, drop};
 ghost use Rattle.std.proofs.Common.{suc};
 ghost use Rattle.dtx_galois.specs.Field.{AreBytes};
-ghost use Rattle.dtx_laws.specs.Branches.{IsInterleaver, HasWidths, gathering, leaving_all, after_all};
+ghost use Rattle.dtx_laws.specs.Branches.{Branching, IsInterleaver, HasWidths, gathering, leaving_all, after_all};
 ghost use Rattle.dtx_laws.specs.Codeword.{IsCode};
 ghost use Rattle.dtx_laws.specs.Correction.{IsCorrected, IsLeft};
 ghost use Rattle.dtx_outer.specs.Outer.{IsPeriod};
@@ -158,9 +158,53 @@ impl<
         ensures bytes { bytes.new ≡ leaving_all B self.old.branches bytes.old }
         ensures white { self.new.white ≡ self.old.white }
     {
+        self.gather.gather(bytes);
+        self.take_gathered(bytes, outs)
+    }
+
+    /// The next blocks of a run, four for each of the outs, each as `take` takes it. All of them go through the gatherer
+    /// at once, and the bytes that leave it replace them.
+    pub fn take_fours(
+        &mut self,
+        bytes: &mut [u8],
+        outs: &mut [[[u8; K]; 4]],
+        taken: &mut [[Taken; 4]],
+    )
+        requires bytes { length bytes.old ≡ N * 4 * length outs.old }
+        requires taken { length taken.old ≡ length outs.old }
+        ensures taken { (y : List ℕ) (q p : ℕ) → StandsFor N K B M self.old y → q < length outs.old → p < 4
+            → IsTaken N K B M self.old.white (y ++ take (N * (4 * q + p)) bytes.old)
+            (take N (drop (N * (4 * q + p)) bytes.old)) (slice_index_or (slice_index_or outs.old q []) p [])
+            (slice_index_or (slice_index_or outs.new q []) p [])
+            (slice_index_or (slice_index_or taken.new q []) p Taken.None) }
+        ensures stands { (y : List ℕ) → StandsFor N K B M self.old y → StandsFor N K B M self.new (y ++ bytes.old) }
+        ensures white { self.new.white ≡ self.old.white }
+    {
+        self.known();
+        self.gather.gather(bytes);
+        for q in 0..outs.len() {
+            let from = N * 4 * q;
+            taken[q] = self.take_gathered(&bytes[from..from + N * 4], &mut outs[q]);
+        }
+    }
+
+    /// Four blocks of a run that have gone through the gatherer already, and more may have. Where its branches were `v`
+    /// before it took the bytes `ys` of these blocks, each gives what `take` would give of it then.
+    fn take_gathered(&mut self, gathered: &[u8], outs: &mut [[u8; K]; 4]) -> [Taken; 4]
+        requires { length gathered.now ≡ N * 4 }
+        ensures taken { (v : Branching) (ys y : List ℕ) (p : ℕ) → gathered.now ≡ leaving_all B v ys
+            → StandsFor N K B M (record self.old { branches = v }) y → p < 4
+            → IsTaken N K B M self.old.white (y ++ take (N * p) ys) (take N (drop (N * p) ys))
+            (slice_index_or outs.old p []) (slice_index_or outs.new p []) (slice_index_or result p Taken.None) }
+        ensures stands { (v : Branching) (ys y : List ℕ) → gathered.now ≡ leaving_all B v ys
+            → StandsFor N K B M (record self.old { branches = v }) y
+            → StandsFor N K B M (record self.new { branches = after_all B v ys }) (y ++ ys) }
+        ensures branches { self.new.branches ≡ self.old.branches }
+        ensures white { self.new.white ≡ self.old.white }
+    {
         self.known();
         let mut words = [[0; N]; 4];
-        self.next_words(bytes, &mut words);
+        self.next_words(gathered, &mut words);
         let corrected = self.code.correct_four(&mut words);
         let mut taken = [Taken::None; 4];
         for p in 0..4 {
@@ -210,24 +254,18 @@ impl<
         self.before = now;
     }
 
-    /// Gathers four blocks, and their words as `next_word` does.
-    fn next_words(&mut self, bytes: &mut [u8], words: &mut [[u8; N]; 4])
+    /// The words of four gathered blocks, each as `next_word` makes it.
+    fn next_words(&mut self, gathered: &[u8], words: &mut [[u8; N]; 4])
         requires code { IsCode N K }
         requires numbers { IsInterleaver B M }
-        requires four { length bytes.old ≡ N * 4 }
-        ensures bytes { bytes.new ≡ leaving_all B self.old.branches bytes.old }
+        requires four { length gathered.now ≡ N * 4 }
         ensures words { (p : ℕ) → p < 4 → slice_index_or words.new p []
-            ≡ drop (completing N B M) (block_behind N self.old.before (leaving_all B self.old.branches bytes.old) p)
-            ++ take (completing N B M)
-            (block_behind N self.old.before (leaving_all B self.old.branches bytes.old) (suc p)) }
-        ensures kept { self.new ≡ record self.old {
-          branches = after_all B self.old.branches bytes.old;
-          before = block_behind N self.old.before (leaving_all B self.old.branches bytes.old) 4;
-        } }
+            ≡ drop (completing N B M) (block_behind N self.old.before gathered.now p)
+            ++ take (completing N B M) (block_behind N self.old.before gathered.now (suc p)) }
+        ensures kept { self.new ≡ record self.old { before = block_behind N self.old.before gathered.now 4 } }
     {
-        self.gather.gather(bytes);
-        windows(&self.before, bytes, completed::<N, B, M>(), words);
-        self.before.copy_from_slice(block::<N>(bytes, 3));
+        windows(&self.before, gathered, completed::<N, B, M>(), words);
+        self.before.copy_from_slice(block::<N>(gathered, 3));
     }
 }
 

@@ -1,16 +1,18 @@
 -- The five answers of what receives segments, whatever decodes a run, each with what is held and given.
-use Rattle.std.proofs.Common.{◌≡◌, ◌≢◌, ℕ, ℤ, ◌+◌, ◌%◌, true, false, Option, Some, None, List, [], ◌∷◌, ◌++◌}
+use Rattle.std.proofs.Common.{◌≡◌, ◌≢◌, ℕ, ℤ, ◌+◌, ◌%◌, ◌<◌, ◌≤◌, true, false, Option, Some, None, List, [], ◌∷◌, ◌++◌}
 use Rattle.std.proofs.Common.{length, refl, sym, ap, ◌∙◌, subst, arith, option_map, IfSome}
 use Rattle.std.specs.Option.{is_some, unwrap_or}
 use Rattle.std.proofs.lemmas.Bool.{true≢false}
-use Rattle.std.proofs.lemmas.List.{length_push}
+use Rattle.std.proofs.lemmas.List.{length-append, length_push}
+use Rattle.std.specs.Prelude.{option_to_list}
 use Rattle.dtx_frame.specs.Detection.{looks_like}
 use Rattle.dtx_receiver.specs.declared.batch.Received.{Received}
 use Rattle.dtx_receiver.specs.declared.tracking.Tracking.TheVariants.{Searching, Began, Sync, Data, Ended}
-use Rattle.dtx_receiver.specs.Runs.{Tracked, tracked}
+use Rattle.dtx_receiver.specs.Runs.{Tracked, tracked, runs}
 use Rattle.dtx_receiver.specs.Receiver.{HasRun, IsFollowed}
-use Rattle.dtx_receiver.proofs.FollowingLemmas.{searching, began, sync_came, ended_there, data_came}
-use Rattle.dtx_receiver.proofs.GivenLemmas.{AreGiven, given_on, given_end, given_none, given_first, all_run, all_none}
+use Rattle.dtx_receiver.proofs.FollowingLemmas.{searching, began, sync_came, ended_there, data_came, data_all}
+use Rattle.dtx_receiver.proofs.GivenLemmas.{AreGiven, given_on, given_end, given_none, given_first, given_further, all_run}
+use Rattle.dtx_receiver.proofs.GivenLemmas.{all_none}
 
 abbrev Packets : Type 0
 Packets = List (List ℤ) → List Received
@@ -181,3 +183,50 @@ pub finish_some : {D : Type 0} {Holds : D → List (List ℤ) → Type 0} {whole
 finish_some {D} {Holds} w s p d place brought h e k =
     let o : On Holds d s place = some_on Holds p d s place h e in
     all_run w.packets s o.run brought o.is (k o.run o.holds)
+
+-- ---- data segments, one behind the other
+
+-- what they leave, and bring
+pub record AreCarried {D : Type 0} (Holds : D → List (List ℤ) → Type 0) (early : List (List ℤ) → List Received)
+    (xs : List (List ℤ)) (new : D) (run : List (List ℤ)) (brought : List Received) : Type 0 where
+  pub holds : Holds new (run ++ xs)
+  pub packets : early (run ++ xs) ≡ early run ++ brought
+
+-- so many runs begin with them: none
+pub record AreFollowed {D : Type 0} (Holds : D → List (List ℤ) → Type 0) (given : List (List ℤ) → List Received)
+    (s xs : List (List ℤ)) (q : Option ℕ) (new : D) (brought : List Received) : Type 0 where
+  pub stands : HasRun Holds q new (s ++ xs)
+  pub packets : given (s ++ xs) ≡ given s ++ brought
+  pub runs : length (runs (s ++ xs)) ≡ length (runs s) + 0
+
+same_runs : (s more run new : List (List ℤ)) → (tracked s).run ≡ Some run
+    → tracked more ≡ record { ended = (tracked s).ended; run = Some new } → length (runs more) ≡ length (runs s) + 0
+unfolding runs
+same_runs s more run new e f =
+    ap (λ (t : Tracked). length (t.ended ++ option_to_list t.run)) f
+    ∙ one_of (tracked s).ended new run
+    ∙ ap (λ (o : Option (List (List ℤ))). length ((tracked s).ended ++ option_to_list o) + 0) (sym e)
+  where
+    one_of : (ended : List (List (List ℤ))) (a b : List (List ℤ)) → length (ended ++ a ∷ []) ≡ length (ended ++ b ∷ []) + 0
+    one_of ended a b = omega (arith, length_push ended a, length_push ended b)
+
+pub step_all : {D : Type 0} {Holds : D → List (List ℤ) → Type 0} {whole early given all : Packets}
+    (w : IsDecoder Holds whole early given all) (s xs : List (List ℤ)) (p q : Option ℕ) (d new : D)
+    (place : ℕ) (brought : List Received) → HasRun Holds p d s → p ≡ Some place → 0 < place
+    → place + length xs ≤ 313 → q ≡ Some ((place + length xs) % 313)
+    → ((run : List (List ℤ)) → Holds d run → length run % 313 ≡ place → AreCarried Holds early xs new run brought)
+    → AreFollowed Holds given s xs q new brought
+step_all {D} {Holds} {whole} {early} w s xs p q d new place brought h e z l f k =
+    let o : On Holds d s place = some_on Holds p d s place h e in
+    let t = data_all xs s o.run o.is (λ _ i. omega (arith, z, o.place_is, i)) (omega (arith, l, o.place_is)) in
+    let c : AreCarried Holds early xs new o.run brought = k o.run o.holds o.place_is in
+    record {
+      stands = stands_some Holds q new (s ++ xs) (o.run ++ xs) (ap (λ (u : Tracked). u.run) t)
+          (f ∙ ap Some (behind (length o.run) (length xs) o.place_is
+          ∙ ap (λ n. n % 313) (sym (length-append o.run xs)))) c.holds;
+      packets = given_further w.packets s (s ++ xs) o.run (o.run ++ xs) brought o.is t c.packets;
+      runs = same_runs s (s ++ xs) o.run (o.run ++ xs) o.is t;
+    }
+  where
+    behind : (n m : ℕ) → n % 313 ≡ place → (place + m) % 313 ≡ (n + m) % 313
+    behind n m i = omega (arith, i)

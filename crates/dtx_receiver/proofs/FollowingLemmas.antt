@@ -1,6 +1,7 @@
 -- Runs with one segment more.
-use Rattle.std.proofs.Common.{◌≡◌, ◌≢◌, ℤ, ◌%◌, Bool, true, false, cond, Option, Some}
-use Rattle.std.proofs.Common.{None, List, [], ◌∷◌, ◌++◌, length, refl, sym, ap, ap₂, ◌∙◌}
+use Rattle.std.proofs.Common.{◌≡◌, ◌≢◌, ℕ, ℤ, ◌+◌, ◌%◌, ◌<◌, ◌≤◌, Bool, true, false, cond, Option, Some}
+use Rattle.std.proofs.Common.{None, List, [], ◌∷◌, ◌++◌, length, refl, sym, ap, ap₂, ◌∙◌, append_assoc, arith}
+use Rattle.std.proofs.lemmas.List.{append-nil, length_push}
 use Rattle.std.proofs.lemmas.Bool.{ne_eqb, eq-eqb}
 use Rattle.std.proofs.lemmas.List.Sums.{fold_push}
 use Rattle.dtx_frame.specs.Detection.{looks_like}
@@ -92,3 +93,20 @@ data_came s x run e n = (by_looks (looks_like x) refl, by_looks_too (looks_like 
 
     by_looks_too : (l : Bool) → looks_like x ≡ l → Data ≡ tracking s x
     by_looks_too l g = sym (answer_by s x run false l e (not_due run n) g)
+
+-- ---- data segments, one behind the other
+
+-- up to the next place where a field sync is due
+pub data_all : (xs s run : List (List ℤ)) → (tracked s).run ≡ Some run → (0 < length xs → length run % 313 ≢ 0)
+    → length run % 313 + length xs ≤ 313
+    → tracked (s ++ xs) ≡ record { ended = (tracked s).ended; run = Some (run ++ xs) }
+data_all [] s run e n l =
+    ap tracked (append-nil s) ∙ ap (λ (o : Option (List (List ℤ))). record { ended = (tracked s).ended; run = o }) e
+    ∙ ap (λ r. record { ended = (tracked s).ended; run = Some r }) (sym (append-nil run))
+data_all (x ∷ xs) s run e n l =
+    let t = (data_came s x run e (n (omega arith))).0 in
+    ap tracked (sym (append_assoc s (x ∷ []) xs))
+    ∙ data_all xs (s ++ x ∷ []) (run ++ x ∷ []) (ap (λ (u : Tracked). u.run) t)
+    (λ some due. omega (arith, some, due, l, length_push run x)) (omega (arith, l, length_push run x, n))
+    ∙ ap (λ (u : Tracked). record { ended = u.ended; run = Some ((run ++ x ∷ []) ++ xs) }) t
+    ∙ ap (λ r. record { ended = (tracked s).ended; run = Some r }) (append_assoc run (x ∷ []) xs)

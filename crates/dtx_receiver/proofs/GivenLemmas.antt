@@ -63,16 +63,23 @@ given_off {whole} {early} g s e =
     given_is g s (tracked s) refl ∙ ap (given_with whole early (tracked s).ended) e
     ∙ none_is whole early (tracked s).ended
 
-pub given_on : {whole early given all : Packets} (g : AreGiven whole early given all) (s : List (List ℤ)) (x : List ℤ)
-    (run new : List (List ℤ)) (brought : List Received) → (tracked s).run ≡ Some run
-    → tracked (s ++ x ∷ []) ≡ record { ended = (tracked s).ended; run = Some new }
-    → early new ≡ early run ++ brought → given (s ++ x ∷ []) ≡ given s ++ brought
-given_on {whole} {early} g s x run new brought e f h =
-    given_is g (s ++ x ∷ []) (record { ended = (tracked s).ended; run = Some new }) f
+-- with more segments of the run that is on
+pub given_further : {whole early given all : Packets} (g : AreGiven whole early given all) (s more run new : List (List ℤ))
+    (brought : List Received) → (tracked s).run ≡ Some run
+    → tracked more ≡ record { ended = (tracked s).ended; run = Some new } → early new ≡ early run ++ brought
+    → given more ≡ given s ++ brought
+given_further {whole} {early} g s more run new brought e f h =
+    given_is g more (record { ended = (tracked s).ended; run = Some new }) f
     ∙ some_is whole early (tracked s).ended new
     ∙ ap (λ xs. flat_map whole (tracked s).ended ++ xs) h
     ∙ sym (append_assoc (flat_map whole (tracked s).ended) (early run) brought)
     ∙ ap (λ xs. xs ++ brought) (sym (given_run g s run e))
+
+pub given_on : {whole early given all : Packets} (g : AreGiven whole early given all) (s : List (List ℤ)) (x : List ℤ)
+    (run new : List (List ℤ)) (brought : List Received) → (tracked s).run ≡ Some run
+    → tracked (s ++ x ∷ []) ≡ record { ended = (tracked s).ended; run = Some new }
+    → early new ≡ early run ++ brought → given (s ++ x ∷ []) ≡ given s ++ brought
+given_on g s x run new brought e f h = given_further g s (s ++ x ∷ []) run new brought e f h
 
 whole_run : {whole early given all : Packets} (g : AreGiven whole early given all) (s : List (List ℤ))
     (run : List (List ℤ)) (brought : List Received) → (tracked s).run ≡ Some run → whole run ≡ early run ++ brought

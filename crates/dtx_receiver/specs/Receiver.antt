@@ -1,13 +1,21 @@
 -- What a receiver keeps, and the segments that it stands for.
-use Rattle.std.specs.Prelude.{ℕ, ℤ, ◌≡◌, ◌*◌, ◌<◌, ◌%◌, Option, option_map, IfSome, EachIndex, List, [], ◌∷◌, ◌++◌}
-use Rattle.std.specs.Prelude.{length, take, slice_index}
+use Rattle.std.specs.Prelude.{ℕ, ℤ, ◌≡◌, ◌+◌, ◌*◌, ◌<◌, ◌%◌, Option, option_map, IfSome, List, [], ◌∷◌, ◌++◌}
+use Rattle.std.specs.Prelude.{length, take}
+use Rattle.std.specs.List.{flat_map}
 use Rattle.dtx_outer.specs.Inner as inner
 use Rattle.dtx_whiten.specs.Randomizer.{randomizer_bytes}
 use Rattle.dtx_receiver.specs.declared.batch.Received.{Received}
 use Rattle.dtx_receiver.specs.declared.tracking.Tracking.{Tracking}
-use Rattle.dtx_receiver.specs.Runs.{tracked, tracking}
+use Rattle.dtx_receiver.specs.Runs.{runs, tracked, tracking}
 use Rattle.dtx_receiver.specs.Packets.{packets_so_far}
 use Rattle.dtx_receiver.specs.Bytes.{data_count, groups_of, levels_from, levels_in, precoder_bits_in, bytes_in}
+
+-- what is kept of a run's groups: the levels of the group that is on, Z2 of the twelve coders before it, and the bytes of
+-- the groups that are whole and weren't given on
+pub record Grouping : Type 0 where
+  pub levels : List ℕ
+  pub precoder_bits : List ℕ
+  pub held : List (List ℕ)
 
 -- what is kept of a run: the levels of the group that is on, Z2 of the twelve coders before it, the outer coding's way
 -- back, and how many data segments are in whole groups, modulo 52
@@ -24,6 +32,12 @@ pub record AreLevels (kept bits : List ℕ) (run : List (List ℤ)) : Type 0 whe
   pub long : length (levels_in run) ≡ 3312 * groups_of run
   pub levels : take (828 * (data_count run % 4)) kept ≡ levels_from run (4 * groups_of run) (data_count run % 4)
   pub precoder_bits : bits ≡ precoder_bits_in run
+
+-- What is kept of groups is that of a run with these segments, of whose bytes these were given on: the others are held.
+pub record AreGrouped (kept : Grouping) (run : List (List ℤ)) (given : List ℕ) : Type 0 where
+  pub levels : AreLevels kept.levels kept.precoder_bits run
+  pub bytes : bytes_in run ≡ given ++ flat_map (λ bytes. bytes) kept.held
+  pub long : length (flat_map (λ bytes. bytes) kept.held) ≡ 828 * length kept.held
 
 -- what is kept is that of a run with these segments
 pub record Decodes (kept : Decoding) (run : List (List ℤ)) : Type 0 where
@@ -47,10 +61,10 @@ pub record HasRun {D : Type 0} (Holds : D → List (List ℤ) → Type 0) (at : 
 abbrev pub StandsFor : Kept → List (List ℤ) → Type 0
 StandsFor receiver segments = HasRun Decodes receiver.place receiver.decoding segments
 
--- Whatever the decoder of runs was given: each level is one of eight, the whitener's bytes are the randomizer's, and
--- the turn is one of 52.
-pub record IsDecoding (levels : List ℕ) (inner : inner.Kept) (turn : ℕ) : Type 0 where
-  pub small : EachIndex levels (λ d. slice_index levels d < 8)
+-- Whatever the decoder of runs was given: no bytes are held, the whitener's bytes are the randomizer's, and the turn is
+-- one of 52.
+pub record IsDecoding (groups : Grouping) (inner : inner.Kept) (turn : ℕ) : Type 0 where
+  pub none : groups.held ≡ []
   pub white : inner.white ≡ randomizer_bytes
   pub in_turn : turn < 52
 
@@ -63,3 +77,10 @@ pub record IsFollowed (Stands : List (List ℤ) → Type 0) (given : List (List 
 
 abbrev pub IsTaken : List (List ℤ) → List ℤ → Kept → Tracking → List Received → Type 0
 IsTaken segments x new answer brought = IsFollowed (StandsFor new) packets_so_far segments x answer brought
+
+-- Behind these segments others are received together: then a receiver stands for the longer list, and brings what is
+-- given more, and so many runs begin.
+pub record AreReceived (segments more : List (List ℤ)) (new : Kept) (begins : ℕ) (brought : List Received) : Type 0 where
+  pub stands : StandsFor new (segments ++ more)
+  pub packets : packets_so_far (segments ++ more) ≡ packets_so_far segments ++ brought
+  pub runs : length (runs (segments ++ more)) ≡ length (runs segments) + begins

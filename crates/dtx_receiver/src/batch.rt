@@ -5,10 +5,14 @@ ghost use Rattle.dtx_packets.specs.Packet.{with_error};
 
 use arrayvec::ArrayVec;
 use dtx_packets::Packet;
-use dtx_sizes::{PACKET, PACKET_DATA};
+use dtx_sizes::{GROUP_PACKETS, PACKET, PACKET_DATA};
 
-/// How many packets a call gives at most has room here. No call gives more than four.
-pub const MOST_RECEIVED: usize = 8;
+/// How many groups of four data segments go through the outer decoding together at most. Their bytes are as many as fill
+/// 52 words.
+pub(crate) const HELD_GROUPS: usize = 13;
+
+/// How many packets a call gives at most: those of so many groups.
+pub const MOST_RECEIVED: usize = GROUP_PACKETS * HELD_GROUPS;
 
 /// A packet that was received.
 #[derive(Clone, Copy, Debug, PartialEq, Eq)]

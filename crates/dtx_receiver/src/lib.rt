@@ -3,11 +3,16 @@
 
 mod batch;
 mod decoder;
+mod groups;
 pub mod laws;
 mod outer_decoding;
+mod progress;
 mod receiver;
+mod symbols;
 mod tracking;
 
 pub use batch::{Batch, MOST_RECEIVED, Received};
+pub use progress::{Progress, begun};
 pub use receiver::Receiver;
+pub use symbols::to_symbols;
 pub use tracking::Tracking;

@@ -1,13 +1,13 @@
 //! The outer coding's way back for the packets of a run.
 
-ghost use Rattle.std.specs.Prelude.{◌≡◌, ℕ, ◌+◌, ◌<◌, ◌≤◌, ◌++◌, [], List, IfOk, length};
+ghost use Rattle.std.specs.Prelude.{◌≡◌, ℕ, ◌+◌, ◌*◌, ◌%◌, ◌<◌, ◌≤◌, ◌++◌, [], List, IfOk, length};
 ghost use Rattle.dtx_outer.specs.Inner.{StandsFor};
 ghost use Rattle.dtx_whiten.specs.Randomizer.{randomizer_bytes};
 ghost use Rattle.dtx_receiver.specs.Handed.{handed};
 ghost use Rattle.dtx_receiver.specs.Packets.{early_of};
 ghost use Rattle.dtx_receiver.specs.declared.batch.Received.{Received};
 
-use crate::batch::{Batch, MOST_RECEIVED, Received};
+use crate::batch::{Batch, HELD_GROUPS, MOST_RECEIVED, Received};
 use dtx_fast::Fast;
 use dtx_outer::{Inner, Taken};
 use dtx_sizes::{BRANCH_STEP, BRANCHES, CODEWORD, GROUP_BYTES, PACKET_DATA};
@@ -51,20 +51,20 @@ pub(crate) fn give(inner: &mut OuterDecoding, block: &[u8; CODEWORD], batch: &mu
         → StandsFor CODEWORD PACKET_DATA BRANCHES BRANCH_STEP inner.old before
         → early_of before ≡ given ++ batch.old.packets.items
         → early_of (before ++ block.now) ≡ given ++ batch.new.packets.items }
+    ensures few { length batch.new.packets.items ≤ length batch.old.packets.items + 1 }
 {
     let mut head = [0; PACKET_DATA];
     let taken = inner.take(block, &mut head);
     hand(taken, &head, batch);
 }
 
-/// The next group of a run's bytes, four blocks, and the packets that they complete. The bytes are used up.
-pub(crate) fn give_group(
-    inner: &mut OuterDecoding,
-    bytes: &mut [u8; GROUP_BYTES],
-    batch: &mut Batch,
-)
+/// The next groups of a run's bytes, four blocks each, and the packets that they complete. All go through the gatherer
+/// together. The bytes are used up.
+pub(crate) fn give_groups(inner: &mut OuterDecoding, bytes: &mut [u8], batch: &mut Batch)
     requires white { inner.old.white ≡ randomizer_bytes }
-    requires room { length batch.old.packets.items ≤ 4 }
+    requires whole { length bytes.old % GROUP_BYTES ≡ 0 }
+    requires most { length bytes.old ≤ GROUP_BYTES * HELD_GROUPS }
+    requires none { batch.old.packets.items ≡ [] }
     ensures white { inner.new.white ≡ randomizer_bytes }
     ensures stands { (before : List ℕ) → StandsFor CODEWORD PACKET_DATA BRANCHES BRANCH_STEP inner.old before
         → StandsFor CODEWORD PACKET_DATA BRANCHES BRANCH_STEP inner.new (before ++ bytes.old) }
@@ -72,11 +72,39 @@ pub(crate) fn give_group(
         → StandsFor CODEWORD PACKET_DATA BRANCHES BRANCH_STEP inner.old before
         → early_of before ≡ given ++ batch.old.packets.items
         → early_of (before ++ bytes.old) ≡ given ++ batch.new.packets.items }
+    ensures few { CODEWORD * length batch.new.packets.items ≤ length bytes.old }
 {
-    let mut heads = [[0; PACKET_DATA]; 4];
-    let taken = inner.take_four(&mut bytes[..], &mut heads);
-    for p in 0..4 {
-        hand(taken[p], &heads[p], batch);
+    let groups = bytes.len() / GROUP_BYTES;
+    let mut heads = [[[0; PACKET_DATA]; 4]; HELD_GROUPS];
+    let mut taken = [[Taken::None; 4]; HELD_GROUPS];
+    give_through(inner, bytes, &mut heads[..groups], &mut taken[..groups], batch);
+}
+
+/// The same, through room for what each block gives.
+fn give_through(
+    inner: &mut OuterDecoding,
+    bytes: &mut [u8],
+    heads: &mut [[[u8; PACKET_DATA]; 4]],
+    taken: &mut [[Taken; 4]],
+    batch: &mut Batch,
+)
+    requires white { inner.old.white ≡ randomizer_bytes }
+    requires heads { length bytes.old ≡ GROUP_BYTES * length heads.old }
+    requires taken { length taken.old ≡ length heads.old }
+    requires most { length heads.old ≤ HELD_GROUPS }
+    requires none { batch.old.packets.items ≡ [] }
+    ensures white { inner.new.white ≡ randomizer_bytes }
+    ensures stands { (before : List ℕ) → StandsFor CODEWORD PACKET_DATA BRANCHES BRANCH_STEP inner.old before
+        → StandsFor CODEWORD PACKET_DATA BRANCHES BRANCH_STEP inner.new (before ++ bytes.old) }
+    ensures packets { (before : List ℕ) (given : List Received)
+        → StandsFor CODEWORD PACKET_DATA BRANCHES BRANCH_STEP inner.old before
+        → early_of before ≡ given ++ batch.old.packets.items
+        → early_of (before ++ bytes.old) ≡ given ++ batch.new.packets.items }
+    ensures few { CODEWORD * length batch.new.packets.items ≤ length bytes.old }
+{
+    inner.take_fours(bytes, heads, taken);
+    for p in 0..4 * heads.len() {
+        hand(taken[p / 4][p % 4], &heads[p / 4][p % 4], batch);
     }
 }
 

@@ -1,6 +1,6 @@
 //! Receives a main transmitter's segments, and sends their packets again.
 
-ghost use Rattle.std.specs.Prelude.{◌≡◌, ℕ, ℤ, ◌++◌, ◌∷◌, [], List, IfOk};
+ghost use Rattle.std.specs.Prelude.{◌≡◌, ℕ, ℤ, ◌≤◌, ◌++◌, ◌∷◌, [], List, IfOk, length};
 ghost use Rattle.dtx_receiver.specs.Runs.{tracking};
 ghost use Rattle.dtx_repeat.specs.Repeater.{StandsFor, IsSent, given_behind};
 ghost use Rattle.dtx_repeat.specs.Restored.{all_restored, restored_so_far};
@@ -10,7 +10,7 @@ use dtx_coder::Air;
 use dtx_exciter::{Exciter, Told};
 use dtx_packets::Packet;
 use dtx_receiver::{Batch, Receiver, Tracking};
-use dtx_sizes::SEGMENT;
+use dtx_sizes::{GROUP_PACKETS, SEGMENT};
 use std::alloc::{AllocError, Global};
 
 /// A repeater (the profile's own, over ATSC A/53 Part 2 and in the manner of ATSC A/110). It receives the packets of a
@@ -51,6 +51,7 @@ impl Repeater {
         ensures packets { (address delay : ℕ) (segments : List (List ℤ)) (given : List (List ℕ))
             → StandsFor address delay self.old segments given
             → restored_so_far (segments ++ segment.now ∷ []) ≡ restored_so_far segments ++ batch.new.packets.items }
+        ensures few { length batch.new.packets.items ≤ GROUP_PACKETS }
     {
         let tracking = self.receiver.take(segment, batch);
         match tracking {
@@ -73,6 +74,7 @@ impl Repeater {
         ensures packets { (address delay : ℕ) (segments : List (List ℤ)) (given : List (List ℕ))
             → StandsFor address delay self.old segments given
             → all_restored segments ≡ restored_so_far segments ++ batch.new.packets.items }
+        ensures few { length batch.new.packets.items ≤ GROUP_PACKETS }
     {
         self.receiver.finish(batch);
         self.place = restore(self.place, batch.packets.as_mut_slice());

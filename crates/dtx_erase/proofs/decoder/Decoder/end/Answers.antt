@@ -1,4 +1,5 @@
-use Rattle.std.proofs.Common.{◌≡◌, ◌*◌, ◌%◌, ◌++◌, List, [], ◌∷◌, ap, sym, subst, ◌∙◌}
+use Rattle.std.proofs.Common.{◌≡◌, ◌*◌, ◌%◌, ◌++◌, List, [], ◌∷◌, ap, sym, subst, ◌∙◌, length, arith}
+use Rattle.std.proofs.lemmas.List.{length_push}
 use Rattle.dtx_receiver.specs.declared.batch.Received.{Received}
 use Rattle.dtx_erase.specs.Marks.{shown_run}
 use Rattle.dtx_erase.specs.Mended.{mended_run_early}
@@ -8,8 +9,8 @@ use Rattle.dtx_erase.proofs.decoder.Decoder.end.Goals as goal
 use Rattle.dtx_erase.proofs.decoder.Decoder.end.Goals.{else-self-eq0-via-then-self-eq0+else-self-eq0-2}
 use Rattle.dtx_erase.proofs.decoder.Decoder.end.Goals.{else-self-eq0-via-else-self-eq0}
 
-pub returns-then-self-eq0-2 : goal.returns-then-self-eq0-2
-returns-then-self-eq0-2 c = λ run d.
+pub returns-then-self-eq0-2-clause-packets : goal.returns-then-self-eq0-2-clause-packets
+returns-then-self-eq0-2-clause-packets c = λ run d.
     let here = subst (λ (k : Decoding). Decodes k run) (sym c.self.view_is) d in
     let packet : Received =
     mended_word (187 * c.self.inside.place) c.last_word-word.result c.last_word-flags.result in
@@ -18,11 +19,15 @@ returns-then-self-eq0-2 c = λ run d.
     ∙ ap (λ xs. mended_run_early run ++ xs)
     (sym (c.give.ensures ∙ ap (λ (xs : List Received). xs ++ packet ∷ []) c.requires))
 
-pub returns-else-self-eq0 : goal.returns-else-self-eq0
-returns-else-self-eq0 c = λ run d.
+pub returns-else-self-eq0-clause-packets : goal.returns-else-self-eq0-clause-packets
+returns-else-self-eq0-clause-packets c = λ run d.
     let here = subst (λ (k : Decoding). Decodes k run) (sym c.self.view_is) d in
     let no : c.self.inside.waits ≡ 0 → c.self.inside.place % 52 ≡ 0 → ⊥ = elim c.else-self-eq0.branch [
       | else-self-eq0-via-then-self-eq0+else-self-eq0-2 w ↦ λ a b. w.if-self-eq0-2.false b
       | else-self-eq0-via-else-self-eq0 w ↦ λ a b. w.if-self-eq0.false a
     ] in
     ends_none _ run here no ∙ ap (λ xs. mended_run_early run ++ xs) (sym c.requires)
+
+pub returns-then-self-eq0-2-clause-few : goal.returns-then-self-eq0-2-clause-few
+returns-then-self-eq0-2-clause-few c =
+    omega (arith, ap length c.give.ensures, length_push c.args.batch.now.packets.items _, ap length c.requires)

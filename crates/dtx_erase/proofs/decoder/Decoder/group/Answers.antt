@@ -1,4 +1,5 @@
-use Rattle.std.proofs.Common.{◌≡◌, ◌+◌, ◌*◌, ◌%◌, [], ◌∷◌, map, refl, subst, ap, ap₂, ◌∙◌, slice_index_or}
+use Rattle.std.proofs.Common.{◌≡◌, ◌+◌, ◌*◌, ◌%◌, [], ◌∷◌, length, map, refl, subst, ap, ap₂, ◌∙◌, slice_index_or}
+use Rattle.std.proofs.Common.{arith}
 use Rattle.dtx_erase.specs.Sides.{Decoding, mended_word, word_of}
 use Rattle.dtx_erase.proofs.Mendings.{map_four}
 use Rattle.dtx_erase.proofs.decoder.Decoder.group.Goals as goal
@@ -20,3 +21,7 @@ returns-else-self-gt0-clause-given c z =
           (λ p l. ap₂ (mended_word (187 * ((c.self.inside.place + p) % 312))) (c.words-words.ensures.words p l)
           (c.words-flags.ensures.words p l)),
     )
+
+pub returns-else-self-gt0-clause-few : goal.returns-else-self-gt0-clause-few
+returns-else-self-gt0-clause-few c =
+    let four : length c.give_four.new.batch.packets.items ≡ 4 = ap length c.give_four.ensures in omega (arith, four)

@@ -21,4 +21,4 @@ pub returns-in-Some-clause-packets : goal.returns-in-Some-clause-packets
 returns-in-Some-clause-packets c = λ s h.
     finish_some mending s c.args.self.now.place c.args.self.now.decoding c.in-Some.field-0
     c.end.new.batch.packets.items h (ap (λ (k : Kept). k.place) (sym c.self.view_is) ∙ c.in-Some.is)
-    (λ run d. c.end.ensures run (subst (λ (k : Kept). Decodes k.decoding run) (sym c.self.view_is) d))
+    (λ run d. c.end.ensures.packets run (subst (λ (k : Kept). Decodes k.decoding run) (sym c.self.view_is) d))

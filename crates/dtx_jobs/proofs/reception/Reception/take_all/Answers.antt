@@ -1,16 +1,17 @@
-use Rattle.std.proofs.Common.{◌≡◌, ◌*◌, ◌/◌, ◌<◌, ◌++◌, [], length, take, drop, get_or, ap, sym, subst, ◌∙◌, arith}
+use Rattle.std.proofs.Common.{◌≡◌, ◌+◌, ◌*◌, ◌/◌, ◌≤◌, ◌++◌, ℕ, ℤ, List, length, take, drop, ap, sym, subst, ◌∙◌, arith}
 use Rattle.std.proofs.Common.{append_assoc}
 use Rattle.std.proofs.lemmas.List.{append-nil}
-use Rattle.dtx_packets.proofs.ChunksLemmas.{get_or-first_chunks}
+use Rattle.dtx_receiver.specs.Symbols.{symbols_in}
 use Rattle.dtx_jobs.specs.Giving.{bytes_of}
 use Rattle.dtx_jobs.specs.GivingLaws.{bytes_of-append}
 use Rattle.dtx_jobs.specs.Reception.{IsReceiving}
 use Rattle.dtx_jobs.specs.SymbolFile.{segments_from}
-use Rattle.dtx_jobs.proofs.SymbolFileLemmas.{segment_on}
+use Rattle.dtx_jobs.specs.SymbolFileLaws.{segments_from-append}
+use Rattle.dtx_jobs.proofs.SymbolFileLemmas.{segments_of_chunks}
 use Rattle.dtx_jobs.proofs.reception.Reception.take_all.Goals as goal
 
-pub loop-i-init : goal.loop-i-init
-loop-i-init g c =
+pub loop-done-init : goal.loop-done-init
+loop-done-init g c =
     let giving = g.R.SegmentReceiver.giving in
     let self = c.args.self.now in
     record {
@@ -21,35 +22,68 @@ loop-i-init g c =
           ap (λ s. bytes_of (giving.so_far s)) (append-nil before)
           ∙ sym (append-nil (bytes_of (giving.so_far before)))
           ∙ ap (λ z. bytes_of (giving.so_far before) ++ z) (sym c.requires.empty);
+      within = omega arith;
       bounded = c.requires.bounded;
       count = omega arith;
       room = omega (arith, ap length c.requires.empty);
     }
 
-pub loop-i-preserved : goal.loop-i-preserved
-loop-i-preserved g c =
+pub loop-done-preserved : goal.loop-done-preserved
+loop-done-preserved g c =
     let giving = g.R.SegmentReceiver.giving in
-    let i = c.loop-i.i in
-    let bytes = c.args.bytes.now in
-    let here : i < length bytes / 832 = omega (arith, c.as_chunks.ensures.front_len, c.loop-i-test.true) in
-    let chunk : get_or c.as_chunks.result.0.now i [] ≡ take 832 (drop (832 * i) bytes) =
-    ap (λ chunks. get_or chunks i []) c.as_chunks.ensures.front
-    ∙ get_or-first_chunks 832 (length bytes / 832) bytes i here in
+    let done : ℕ = c.loop-done.done in
+    let bytes : List ℕ = c.args.bytes.now in
+    let count : ℕ = c.take_some.result in
+    let units : ℕ = length bytes / 832 in
+    let taken = c.take_some.ensures in
+    let fits : done + count ≤ units =
+    omega (arith, taken.within, c.as_chunks.ensures.front_len, c.loop-done-test.true) in
+    let chunks : List (List ℕ) = c.as_chunks.result.0.now in
+    let front = c.as_chunks.ensures.front in
+    let zero : 0 + done ≡ done = omega arith in
+    let on : (before : List (List ℤ)) → (before ++ segments_from bytes 0 done) ++ symbols_in (take count (drop done chunks))
+    ≡ before ++ segments_from bytes 0 (done + count) =
+    λ before.
+    append_assoc before (segments_from bytes 0 done) (symbols_in (take count (drop done chunks)))
+    ∙ ap (λ z. before ++ z)
+    (ap (λ z. segments_from bytes 0 done ++ z) (ap (λ xs. symbols_in (take count (drop done xs))) front
+    ∙ segments_of_chunks bytes units done count fits (sym (ap length front) ∙ c.as_chunks.ensures.front_len))
+    ∙ sym (segments_from-append bytes 0 done count
+    ∙ ap (λ a. segments_from bytes 0 done ++ segments_from bytes a count) zero)) in
     record {
+      within = fits;
       receiving = λ before is.
-          subst (IsReceiving giving (g.R.SegmentReceiver.stands c.take.new.self.receiver.value) c.take.new.self.tally)
-          (segment_on before bytes i _ chunk)
-          (c.take.ensures.receiving (before ++ segments_from bytes 0 i) (c.loop-i.invariant.receiving before is));
+          subst (IsReceiving giving (g.R.SegmentReceiver.stands c.take_some.new.self.receiver.value)
+          c.take_some.new.self.tally) (on before)
+          (taken.receiving (before ++ segments_from bytes 0 done) (c.loop-done.invariant.receiving before is));
       brought = λ before is.
-          let front = before ++ segments_from bytes 0 i in
-          let batch = c.take.new.self.batch.packets.items in
-          ap (λ s. bytes_of (giving.so_far s)) (sym (segment_on before bytes i _ chunk))
-          ∙ ap bytes_of (c.take.ensures.brought front (c.loop-i.invariant.receiving before is))
+          let front = before ++ segments_from bytes 0 done in
+          let batch = c.take_some.new.self.batch.packets.items in
+          ap (λ s. bytes_of (giving.so_far s)) (sym (on before))
+          ∙ ap bytes_of (taken.brought front (c.loop-done.invariant.receiving before is))
           ∙ bytes_of-append (giving.so_far front) batch
-          ∙ ap (λ z. z ++ bytes_of batch) (c.loop-i.invariant.brought before is)
-          ∙ append_assoc (bytes_of (giving.so_far before)) c.loop-i.self.packets (bytes_of batch)
-          ∙ ap (λ z. bytes_of (giving.so_far before) ++ z) (sym c.take.ensures.packets);
-      bounded = c.take.ensures.bounded;
-      count = omega (arith, c.take.ensures.count, c.loop-i.invariant.count);
-      room = omega (arith, c.take.ensures.long, c.loop-i.invariant.room);
+          ∙ ap (λ z. z ++ bytes_of batch) (c.loop-done.invariant.brought before is)
+          ∙ append_assoc (bytes_of (giving.so_far before)) c.loop-done.self.packets (bytes_of batch)
+          ∙ ap (λ z. bytes_of (giving.so_far before) ++ z) (sym taken.packets);
+      bounded = taken.bounded;
+      count = omega (arith, taken.count, c.loop-done.invariant.count);
+      room = omega (arith, taken.long, c.loop-done.invariant.room);
     }
+
+pub returns-clause-receiving : goal.returns-clause-receiving
+returns-clause-receiving g c = λ before is.
+    let bytes : List ℕ = c.args.bytes.now in
+    let end : c.loop-done.done ≡ length bytes / 832 =
+    omega (arith, c.loop-done-test.false, c.as_chunks.ensures.front_len, c.loop-done.invariant.within) in
+    subst (λ n. IsReceiving g.R.SegmentReceiver.giving
+    (g.R.SegmentReceiver.stands c.loop-done.self.receiver.value) c.loop-done.self.tally
+    (before ++ segments_from bytes 0 n)) end (c.loop-done.invariant.receiving before is)
+
+pub returns-clause-brought : goal.returns-clause-brought
+returns-clause-brought g c = λ before is.
+    let giving = g.R.SegmentReceiver.giving in
+    let bytes : List ℕ = c.args.bytes.now in
+    let end : c.loop-done.done ≡ length bytes / 832 =
+    omega (arith, c.loop-done-test.false, c.as_chunks.ensures.front_len, c.loop-done.invariant.within) in
+    subst (λ n. bytes_of (giving.so_far (before ++ segments_from bytes 0 n))
+    ≡ bytes_of (giving.so_far before) ++ c.loop-done.self.packets) end (c.loop-done.invariant.brought before is)

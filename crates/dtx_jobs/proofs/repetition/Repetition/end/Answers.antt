@@ -1,4 +1,4 @@
-use Rattle.std.proofs.Common.{[], sym, subst}
+use Rattle.std.proofs.Common.{[], sym, subst, arith}
 use Rattle.dtx_repeat.specs.GoingOn.{last_life}
 use Rattle.dtx_repeat.specs.Lives.{lives_so_far}
 use Rattle.dtx_repeat.proofs.LivesLemmas.{lives_end}
@@ -22,6 +22,9 @@ send_all-requires-clause-some c =
       },
       (lives_end s c.finish.new.batch.packets.items (c.finish.ensures.packets old.address old.delay s life stands)).1,
     )
+
+pub send_all-requires-clause-brought : goal.send_all-requires-clause-brought
+send_all-requires-clause-brought c = omega (arith, c.finish.ensures.few)
 
 pub returns-clause-sent : goal.returns-clause-sent
 returns-clause-sent c = λ s is.

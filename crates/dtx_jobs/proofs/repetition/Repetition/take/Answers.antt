@@ -35,6 +35,10 @@ send_all-requires-clause-some c =
     let on = received (goal.at.send_all-requires-clause-some c).After-begin s c.requires.some.1 in
     (s ++ x ∷ [], with_begun c.take-tracking.result (lives_so_far s), on.on.sending, on.given.1)
 
+pub send_all-requires-clause-brought : goal.send_all-requires-clause-brought
+send_all-requires-clause-brought c =
+    omega (arith, ap (λ (b : Batch). length b.packets.items) c.begin.ensures.batch, c.take-tracking.ensures.few)
+
 pub returns-clause-sent : goal.returns-clause-sent
 returns-clause-sent c = λ s is.
     let old = c.args.self.now in

@@ -1,8 +1,5 @@
-use Rattle.std.proofs.Common.{None, ◌++◌, refl, sym, subst, ◌∙◌, ap}
-use Rattle.std.proofs.lemmas.List.{append-nil}
+use Rattle.std.proofs.Common.{None, refl, sym, subst, ◌∙◌, ap}
 use Rattle.dtx_receiver.proofs.AnswersLemmas.{finish_none, finish_some, stands_new}
-use Rattle.dtx_receiver.specs.Bytes.{bytes_in}
-use Rattle.dtx_receiver.specs.Packets.{early_of}
 use Rattle.dtx_receiver.specs.Receiver.{Decodes, Kept}
 use Rattle.dtx_receiver.proofs.Stands.{receiving}
 use Rattle.dtx_receiver.proofs.receiver.Receiver.finish.Goals as goal
@@ -24,6 +21,4 @@ pub returns-in-Some-clause-packets : goal.returns-in-Some-clause-packets
 returns-in-Some-clause-packets c = λ s h.
     finish_some receiving s c.args.self.now.place c.args.self.now.decoding c.in-Some.field-0
     c.end.new.batch.packets.items h (ap (λ (k : Kept). k.place) (sym c.self.view_is) ∙ c.in-Some.is)
-    (λ run d. c.end.ensures run (early_of (bytes_in run))
-    (subst (λ (k : Kept). Decodes k.decoding run) (sym c.self.view_is) d)
-    (sym (append-nil (early_of (bytes_in run))) ∙ ap (λ xs. early_of (bytes_in run) ++ xs) (sym c.clear.ensures)))
+    (λ run d. c.end.ensures.packets run (subst (λ (k : Kept). Decodes k.decoding run) (sym c.self.view_is) d))

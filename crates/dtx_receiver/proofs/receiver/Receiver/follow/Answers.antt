@@ -1,26 +1,23 @@
-use Rattle.std.proofs.Common.{◌≡◌, ◌+◌, ◌-◌, ◌%◌, ◌++◌, Some, None, refl, sym, subst, ◌∙◌, ap, arith}
-use Rattle.std.proofs.lemmas.List.{append-nil}
+use Rattle.std.proofs.Common.{◌≡◌, ◌+◌, ◌-◌, ◌%◌, Some, None, refl, sym, subst, ◌∙◌, ap, arith}
 use Rattle.dtx_receiver.proofs.AnswersLemmas.{step_searching, step_began, step_sync, step_ended, step_data}
-use Rattle.dtx_receiver.specs.Bytes.{bytes_in}
-use Rattle.dtx_receiver.specs.Packets.{early_of}
 use Rattle.dtx_receiver.specs.Receiver.{Kept, StandsFor}
 use Rattle.dtx_receiver.proofs.Stands.{receiving}
 use Rattle.dtx_receiver.proofs.receiver.Receiver.follow.Goals as goal
 
-pub returns-then-looks : goal.returns-then-looks
-returns-then-looks c = λ s h.
+pub returns-then-looks-clause-taken : goal.returns-then-looks-clause-taken
+returns-then-looks-clause-taken c = λ s h.
     step_began receiving s c.args.segment.now c.self.inside.place (Some 1) c.self.inside.decoder c.begin.new.self
     c.args.batch.now.packets.items (subst (λ (k : Kept). StandsFor k s) (sym c.self.view_is) h) c.in-None.is
     (sym c.looks.ensures ∙ c.if-looks.true) c.requires refl c.begin.ensures
 
-pub returns-else-looks : goal.returns-else-looks
-returns-else-looks c = λ s h.
+pub returns-else-looks-clause-taken : goal.returns-else-looks-clause-taken
+returns-else-looks-clause-taken c = λ s h.
     step_searching receiving s c.args.segment.now c.args.self.now.place c.args.self.now.decoding
     c.args.batch.now.packets.items h (ap (λ (k : Kept). k.place) (sym c.self.view_is) ∙ c.in-None.is)
     (sym c.looks.ensures ∙ c.if-looks.false) c.requires
 
-pub returns-then-place-gt0 : goal.returns-then-place-gt0
-returns-then-place-gt0 c = λ s h.
+pub returns-then-place-gt0-clause-taken : goal.returns-then-place-gt0-clause-taken
+returns-then-place-gt0-clause-taken c = λ s h.
     let back : c.in-Some.place - 1 + 1 ≡ c.in-Some.place = omega (arith, c.if-place-gt0.true) in
     step_data receiving s c.args.segment.now c.self.inside.place (Some ((c.in-Some.place + 1) % 313))
     c.self.inside.decoder c.take.new.self c.in-Some.place c.take.new.batch.packets.items
@@ -28,23 +25,20 @@ returns-then-place-gt0 c = λ s h.
     (λ z. omega (arith, z, c.if-place-gt0.true)) refl
     (λ run d e. record {
       holds = c.take.ensures.stands run d (e ∙ sym back);
-      packets = c.take.ensures.packets run (early_of (bytes_in run)) d (e
-          ∙ sym back) (sym (append-nil (early_of (bytes_in run)))
-          ∙ ap (λ xs. early_of (bytes_in run) ++ xs) (sym c.requires));
+      packets = c.take.ensures.packets run d (e ∙ sym back);
     })
 
-pub returns-then-looks-2 : goal.returns-then-looks-2
-returns-then-looks-2 c = λ s h.
+pub returns-then-looks-2-clause-taken : goal.returns-then-looks-2-clause-taken
+returns-then-looks-2-clause-taken c = λ s h.
     let none : c.in-Some.place ≡ 0 = omega (arith, c.if-place-gt0.false) in
     step_sync receiving s c.args.segment.now c.self.inside.place (Some 1) c.self.inside.decoder
     c.args.batch.now.packets.items (subst (λ (k : Kept). StandsFor k s) (sym c.self.view_is) h)
     (c.in-Some.is ∙ ap Some none) (sym c.looks-in-Some.ensures ∙ c.if-looks-2.true) c.requires refl
 
-pub returns-else-looks-2 : goal.returns-else-looks-2
-returns-else-looks-2 c = λ s h.
+pub returns-else-looks-2-clause-taken : goal.returns-else-looks-2-clause-taken
+returns-else-looks-2-clause-taken c = λ s h.
     let none : c.in-Some.place ≡ 0 = omega (arith, c.if-place-gt0.false) in
     step_ended receiving s c.args.segment.now c.self.inside.place None c.self.inside.decoder c.end.new.self
     c.end.new.batch.packets.items (subst (λ (k : Kept). StandsFor k s) (sym c.self.view_is) h)
     (c.in-Some.is ∙ ap Some none) (sym c.looks-in-Some.ensures ∙ c.if-looks-2.false) refl
-    (λ run d. c.end.ensures run (early_of (bytes_in run)) d (sym (append-nil (early_of (bytes_in run)))
-    ∙ ap (λ xs. early_of (bytes_in run) ++ xs) (sym c.requires)))
+    c.end.ensures.packets

@@ -1,4 +1,5 @@
 use Rattle.std.proofs.Common.{◌≡◌, ℕ, ℤ, ◌+◌, ◌%◌, List, ◌++◌, ◌∷◌, [], length, IfSome, sym, ap, subst, ◌∙◌}
+use Rattle.std.proofs.Common.{arith}
 use Rattle.dtx_receiver.specs.Runs.{tracked, tracking}
 use Rattle.dtx_receiver.specs.declared.batch.Received.{Received}
 use Rattle.dtx_receiver.specs.declared.tracking.Tracking.TheVariants.{Began}
@@ -8,6 +9,7 @@ use Rattle.dtx_repeat.specs.Repeater.{StandsFor, given_behind, next_place}
 use Rattle.dtx_repeat.specs.Restored.{restored_so_far}
 use Rattle.dtx_repeat.specs.declared.repeater.Repeater.{Repeater}
 use Rattle.dtx_repeat.proofs.Refilled.{refilled}
+use Rattle.dtx_repeat.proofs.RestoredLemmas.{length-restored}
 use Rattle.dtx_repeat.proofs.Stepping.{goes_on, given_stays}
 use Rattle.dtx_repeat.proofs.repeater.Repeater.take.Goals as goal
 
@@ -77,4 +79,5 @@ returns-in-Searching c =
           next;
       packets = λ a d s given h.
           (step a d s given h).behind ∙ ap (λ z. restored_so_far s ++ z) (sym restored_in_place);
+      few = omega (arith, ap length restored_in_place, length-restored p items, c.take-tracking.ensures.few);
     }

@@ -1,0 +1,1 @@
+use Rattle.dtx_receiver.proofs.groups.Groups.give.Goals as goal
