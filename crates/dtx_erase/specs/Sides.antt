@@ -1,6 +1,7 @@
 -- What a mending receiver keeps, and the segments that it stands for.
 use Rattle.std.specs.Prelude.{ℕ, ℤ, ◌≡◌, ◌+◌, ◌-◌, ◌*◌, ◌<◌, ◌%◌, Option, List, [], ◌++◌}
 use Rattle.std.specs.Prelude.{Bool, true, length, take, drop, map, replicate, slice_index, slice_index_or}
+use Rattle.std.specs.List.{range_with_len}
 use Rattle.dtx_laws.specs.Branches.{Branching, HasWidths, gathering, leaving_all, after_all}
 use Rattle.dtx_outer.specs.Inner.{word_at}
 use Rattle.dtx_receiver.specs.declared.batch.Received.{Received}
@@ -49,6 +50,8 @@ AreWords gathered before groups y =
 -- what is kept is that of a longer run, which has so many groups more, and their words are gathered
 pub record IsFurther (new : Side) (groups : ℕ) (run longer : List (List ℤ)) : Type 0 where
   pub holds : Holds new longer
+  pub more : List ℕ
+  pub bytes : bytes_in longer ≡ bytes_in run ++ more
   pub count : groups_of longer ≡ groups_of run + groups
   pub words : AreWords new.gathered (groups_of run) groups (bytes_in longer)
 
@@ -99,6 +102,14 @@ unfoldable pub packet_of : Decoding → ℕ → Received
 packet_of kept p =
     mended_word (187 * ((kept.place + (p - 4 * kept.waits)) % 312)) (word_of kept.bytes.gathered p)
     (word_of kept.marks.gathered p)
+
+-- The packets of so many groups were given, whose words are gathered: all of those behind the groups that give none.
+pub record AreGiven (kept new : Decoding) (groups : ℕ) (given : List Received) : Type 0 where
+  pub bytes : new.bytes ≡ kept.bytes
+  pub marks : new.marks ≡ kept.marks
+  pub waits : new.waits ≡ kept.waits - groups
+  pub place : new.place ≡ (kept.place + 4 * (groups - kept.waits)) % 312
+  pub packets : given ≡ map (packet_of kept) (range_with_len (4 * kept.waits) (4 * (groups - kept.waits)))
 
 -- how many segments the run that is on has, modulo 313, and what is kept of it
 pub record Kept : Type 0 where

@@ -1,10 +1,9 @@
 //! From the segments of a run, some of whose symbols are missing, to packets.
 
-ghost use Rattle.std.specs.Prelude.{◌≡◌, ℤ, ◌+◌, ◌-◌, ◌*◌, ◌%◌, ◌<◌, ◌≤◌, ◌++◌, ◌∷◌, [], List, length, map};
-ghost use Rattle.std.specs.List.{range_with_len};
+ghost use Rattle.std.specs.Prelude.{◌≡◌, ℤ, ◌+◌, ◌*◌, ◌%◌, ◌<◌, ◌≤◌, ◌++◌, ◌∷◌, [], List, length, map};
 ghost use Rattle.dtx_receiver.specs.Symbols.{symbols_in, symbols_of};
 ghost use Rattle.dtx_erase.specs.Mended.{mended_run, mended_run_early};
-ghost use Rattle.dtx_erase.specs.Sides.{Decodes, mended_word, packet_of, word_of};
+ghost use Rattle.dtx_erase.specs.Sides.{AreGiven, Decodes, mended_word, word_of};
 
 use crate::mark_side::MarkSide;
 use crate::side::Side;
@@ -95,11 +94,7 @@ impl Decoder {
     fn give_groups(&mut self, groups: usize, batch: &mut Batch)
         requires most { groups ≤ HELD_GROUPS }
         requires none { batch.old.packets.items ≡ [] }
-        ensures sides { (self.new.bytes ≡ self.old.bytes) × (self.new.marks ≡ self.old.marks) }
-        ensures waits { self.new.waits ≡ self.old.waits - groups }
-        ensures place { self.new.place ≡ (self.old.place + 4 * (groups - self.old.waits)) % 312 }
-        ensures packets { batch.new.packets.items ≡ map (packet_of self.old) (range_with_len (4 * self.old.waits)
-            (4 * (groups - self.old.waits))) }
+        ensures given { AreGiven self.old self.new groups batch.new.packets.items }
         ensures few { length batch.new.packets.items ≤ GROUP_PACKETS * groups }
     {
         for group in 0..groups {

@@ -1,7 +1,9 @@
 //! The side of a run's marks, in which mostly no mark is.
 
 ghost use Rattle.std.specs.Prelude.{◌≡◌, ℕ, ℤ, IsFalse, IsTrue, ◌↔◌, ◌+◌, ◌*◌, ◌/◌, ◌%◌, ◌<◌, ◌≤◌, ◌++◌, ◌∷◌};
-ghost use Rattle.std.specs.Prelude.{true, ◌≢◌, [], List, All, length, map, replicate, slice_index, slice_index_or};
+ghost use Rattle.std.specs.Prelude.{true, ◌≢◌, [], List, length, map, negsuc, replicate, slice_index_or};
+ghost use Rattle.std.specs.Int.{w8, cast_signed};
+ghost use Rattle.std.specs.List.{AllByRecursion};
 ghost use Rattle.dtx_outer.specs.Inner.{word_at};
 ghost use Rattle.dtx_receiver.specs.Bytes.{bytes_in, groups_of};
 ghost use Rattle.dtx_receiver.specs.Receiver.{AreGrouped};
@@ -18,9 +20,6 @@ use std::marker::Model;
 
 /// After how many groups of zeros the de-interleaver holds nothing else.
 const CLEARED: u8 = 13;
-
-/// The byte of a symbol that is missing: -128 in two's complement.
-const MISSING: u8 = 0x80;
 
 /// The side of a run's marks. It is seen as the side alone. Beside it stand how many groups of zeros came last, as far as
 /// they are counted, and whether all that is kept is known to be 0: then segments of which no symbol is missing change
@@ -85,7 +84,7 @@ impl MarkSide {
     /// If it answers true, all that is kept is 0, and so are the levels of the segments' marks.
     fn stays_quiet(&self, segments: &[[u8; SEGMENT]]) -> bool
         ensures quiet { IsTrue result → IsQuiet self.now }
-        ensures none { IsTrue result → All (λ x. sliced_data x ≡ replicate SEGMENT_LEVELS 0)
+        ensures none { IsTrue result → AllByRecursion (λ x. sliced_data x ≡ replicate SEGMENT_LEVELS 0)
             (shown_run (symbols_in segments.now)) }
     {
         self.quiet && !any_missing(segments.as_flattened())
@@ -96,7 +95,7 @@ impl MarkSide {
         requires place { place + count ≤ FIELD_PACKETS }
         requires most { count ≤ GROUP_PACKETS * HELD_GROUPS }
         requires quiet { IsQuiet self.old }
-        ensures { (run xs : List (List ℤ)) → All (λ x. sliced_data x ≡ replicate SEGMENT_LEVELS 0) xs
+        ensures { (run xs : List (List ℤ)) → AllByRecursion (λ x. sliced_data x ≡ replicate SEGMENT_LEVELS 0) xs
             → length xs ≡ count → Holds self.old run → length run % 313 ≡ place + 1
             → IsFurther self.new ((place % 4 + count) / 4) run (run ++ xs) }
     {
@@ -200,11 +199,11 @@ fn counted(before: u8, zeros: bool, groups: usize) -> u8
 
 /// If it answers false, no symbol of these bytes is missing.
 fn any_missing(bytes: &[u8]) -> bool
-    ensures { IsFalse result → (i : ℕ) → i < length bytes.now → slice_index bytes.now i ≢ MISSING }
+    ensures { IsFalse result → (i : ℕ) → i < length bytes.now → cast_signed w8 (slice_index_or bytes.now i 0) ≢ negsuc 127 }
 {
     let mut any = false;
     for i in 0..bytes.len() {
-        any |= bytes[i] == MISSING;
+        any |= bytes[i].cast_signed() == -128;
     }
     any
 }
