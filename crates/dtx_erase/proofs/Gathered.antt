@@ -27,6 +27,33 @@ drop_past [] ls n m e = ap (λ i. drop i ls) (none e)
 drop_past (x ∷ us) ls n zero e = absurd (omega (arith, e))
 drop_past (x ∷ us) ls n (suc m) e = drop_past us ls n m (omega (arith, e))
 
+take_front : (us ls : List ℕ) (n m : ℕ) → m ≡ length us + n → take m (us ++ ls) ≡ us ++ take n ls
+take_front [] ls n m e = ap (λ i. take i ls) (none e)
+  where
+    none : m ≡ 0 + n → m ≡ n
+    none e = omega (arith, e)
+take_front (x ∷ us) ls n zero e = absurd (omega (arith, e))
+take_front (x ∷ us) ls n (suc m) e = ap (λ xs. x ∷ xs) (take_front us ls n m (omega (arith, e)))
+
+take_within : (us ls : List ℕ) (n : ℕ) → n ≤ length us → take n (us ++ ls) ≡ take n us
+take_within us ls zero l = refl
+take_within [] ls (suc n) l = absurd (omega (arith, l))
+take_within (x ∷ us) ls (suc n) l = ap (λ xs. x ∷ xs) (take_within us ls n (omega (arith, l)))
+
+-- what was written behind the first 156
+pub laid_behind : (old ys rest : List ℕ) (r : ℕ) → 156 ≤ length old → r ≤ length ys
+    → take r (drop 156 (take 156 old ++ (ys ++ rest))) ≡ take r ys
+laid_behind old ys rest r l m =
+    ap (take r) (drop_past (take 156 old) (ys ++ rest) 0 156 (omega (arith, length-take-le 156 old l)))
+    ∙ take_within ys rest r m
+
+-- and then other bytes in place of these
+pub passed_through : (begun old ys rest : List ℕ) (n : ℕ) → length begun ≡ 156 → 156 ≤ length old → length ys ≡ n
+    → take (156 + n) (begun ++ drop 156 (take 156 old ++ (ys ++ rest))) ≡ begun ++ ys
+passed_through begun old ys rest n b l m =
+    take_front begun (drop 156 (take 156 old ++ (ys ++ rest))) n (156 + n) (omega (arith, b))
+    ∙ ap (λ zs. begun ++ zs) (laid_behind old ys rest n l (omega (arith, m)) ∙ take_all n ys (omega (arith, m)))
+
 -- ---- a word
 
 leaves : (start : Branching) (z : List ℕ) (k b c : ℕ) → HasWidths 52 (gathering 52 4) start → start.next ≡ 0

@@ -409,7 +409,7 @@ quiet_one x kept run given place q z d e = by_place (cases_eq (place % 4) 3)
 
 quiet_many : (xs : List (List ℤ)) (kept : Side) (run : List (List ℤ)) (given : List ℕ) (place : ℕ) → IsQuiet kept
     → AllByRecursion (λ x. sliced_data x ≡ zeros 828) xs → AreGrouped kept.groups run given
-    → length run % 313 ≡ place + 1 → place + length xs ≤ 312
+    → (0 < length xs → length run % 313 ≡ place + 1) → place + length xs ≤ 312
     → AreGrouped kept.groups (run ++ xs) (given ++ zeros (828 * ((place % 4 + length xs) / 4)))
 quiet_many [] kept run given place q z d e l =
     subst (λ (m : ℕ). AreGrouped kept.groups (run ++ []) (given ++ zeros (828 * m))) (none place)
@@ -430,9 +430,12 @@ quiet_many (x ∷ xs) kept run given place q z d e l =
     (subst (λ (r : List (List ℤ)). AreGrouped kept.groups r ((given ++ zeros (828 * ((place % 4 + 1) / 4)))
     ++ zeros (828 * (((place + 1) % 4 + length xs) / 4)))) (append_assoc run (x ∷ []) xs)
     (quiet_many xs kept (run ++ x ∷ []) (given ++ zeros (828 * ((place % 4 + 1) / 4))) (place + 1) q z.1
-    (quiet_one x kept run given place q z.0 d e)
-    (omega (arith, length_push run x, e, l)) (omega (arith, l))))
+    (quiet_one x kept run given place q z.0 d due)
+    (λ m. omega (arith, length_push run x, due, l, m)) (omega (arith, l))))
   where
+    due : length run % 313 ≡ place + 1
+    due = e (omega arith)
+
     both : (p n : ℕ) → 828 * ((p % 4 + 1) / 4) + 828 * (((p + 1) % 4 + n) / 4) ≡ 828 * ((p % 4 + suc n) / 4)
     both p n = omega arith
 
@@ -468,7 +471,7 @@ quiet_further kept new h place run xs q z d e l m i f =
     few = omega (arith, i, m)
 
     g : AreGrouped kept.groups (run ++ xs) (bytes_in run ++ zeros (828 * ((place % 4 + length xs) / 4)))
-    g = quiet_many xs kept run (bytes_in run) place q z (grouped_none kept.groups run d.levels d.none) e l
+    g = quiet_many xs kept run (bytes_in run) place q z (grouped_none kept.groups run d.levels d.none) (λ _. e) l
 
 pub quiet_still : (kept new : Side) (h : ℕ) → IsQuiet kept → new ≡ moved_on kept h → IsQuiet new
 quiet_still kept new h q f =
@@ -508,7 +511,7 @@ pub known_more : (old new : Side) (quiet blank over : Bool) (before h count : �
     → (over ≡ true → (new.groups.levels ≡ zeros 3312) × (new.groups.precoder_bits ≡ zeros 12) × (count ≡ 13)
     × (new.begun ≡ zeros 156))
     → AreKnown new count over
-known_more old new quiet blank over before h count more k n b zero none some end = record {
+known_more old new quiet blank over before h count more k n b clear none some end = record {
   held = n;
   come = come blank refl;
   none = λ t. let i = end t in record {
@@ -529,7 +532,7 @@ known_more old new quiet blank over before h count more k n b zero none some end
     come false t = subst (λ (m : ℕ). HaveCome m new.branches) (sym (none t)) (none_come new.branches widths)
     come true t =
         fewer_come (before + h) count new.branches (some t)
-        (subst (HaveCome (before + h)) (sym (b ∙ ap (after_all 52 old.branches) (zero t)))
+        (subst (HaveCome (before + h)) (sym (b ∙ ap (after_all 52 old.branches) (clear t)))
         (more_come before h old.branches k.come))
 
 -- ---- segments of which no symbol is missing

@@ -93,6 +93,7 @@ impl Decoder {
     /// Gives the packets of so many groups, whose words are gathered.
     fn give_groups(&mut self, groups: usize, batch: &mut Batch)
         requires most { groups ≤ HELD_GROUPS }
+        requires place { self.old.place < FIELD_PACKETS }
         requires none { batch.old.packets.items ≡ [] }
         ensures given { AreGiven self.old self.new groups batch.new.packets.items }
         ensures few { length batch.new.packets.items ≤ GROUP_PACKETS * groups }
@@ -114,6 +115,7 @@ impl Decoder {
             ++ map (λ p. mended_word (PACKET_DATA * ((self.old.place + p) % 312))
             (word_of self.old.bytes.gathered (4 * group + p)) (word_of self.old.marks.gathered (4 * group + p)))
             (0 ∷ 1 ∷ 2 ∷ 3 ∷ [])) }
+        ensures few { length batch.new.packets.items ≤ length batch.old.packets.items + 4 }
     {
         if self.waits > 0 {
             self.waits -= 1;

@@ -111,6 +111,7 @@ impl Side {
         ensures bytes { take (GROUP_BYTES * result) (drop BEGUN self.new.gathered)
             ≡ flat_map (λ bytes. bytes) self.old.groups.held }
         ensures long { length (flat_map (λ bytes. bytes) self.old.groups.held) ≡ GROUP_BYTES * result }
+        ensures begun { length self.old.begun ≡ BEGUN }
     {
         self.groups.put(&mut self.gathered[BEGUN..])
     }
@@ -127,8 +128,19 @@ impl Side {
     {
         let end = BEGUN + GROUP_BYTES * count;
         self.gather.gather(&mut self.gathered[BEGUN..end]);
-        self.gathered[..BEGUN].copy_from_slice(&self.begun);
-        self.begun.copy_from_slice(&self.gathered[end - BEGUN..end]);
+        let begun = self.begun;
+        self.gathered[..BEGUN].copy_from_slice(&begun);
+        self.begun = self.ends(GROUP_BYTES * count);
+    }
+
+    /// As many gathered bytes as begin a word, from a place on.
+    fn ends(&self, from: usize) -> [u8; BEGUN]
+        requires { from ≤ GROUP_BYTES * HELD_GROUPS }
+        ensures { result ≡ take BEGUN (drop from self.now.gathered) }
+    {
+        let mut ends = [0; BEGUN];
+        ends.copy_from_slice(&self.gathered[from..from + BEGUN]);
+        ends
     }
 
     /// Word `p` of those that were gathered last.
@@ -165,7 +177,7 @@ impl Side {
     pub(crate) fn is_lowest(&self) -> bool
         ensures { IsTrue result ↔ (self.now.groups.levels ≡ replicate GROUP_LEVELS 0) }
     {
-        are_zero(&self.groups.levels()[..])
+        are_lowest(self.groups.levels())
     }
 
     /// Whether the bytes of so many groups, which are laid out, are all 0.
@@ -193,8 +205,9 @@ impl Side {
           gathered = replicate GATHERED 0;
         } }
     {
+        let over = 48 * groups % BRANCHES;
         let mut zeros = [0; BRANCHES];
-        self.gather.gather(&mut zeros[..48 * groups % BRANCHES]);
+        self.gather.gather(&mut zeros[..over]);
         self.gathered = [0; GATHERED];
     }
 
@@ -204,11 +217,30 @@ impl Side {
         ensures word { (run : List (List ℤ)) (k : ℕ) → Holds self.old run → k + 52 ≡ 4 * groups_of run → k % 52 ≡ 0
             → result ≡ word_at 207 52 4 (bytes_in run) k }
     {
+        let mut rest = [0; CODEWORD - BEGUN];
+        self.gather.gather(&mut rest);
         let mut word = [0; CODEWORD];
-        self.gather.gather(&mut word[BEGUN..]);
-        word[..BEGUN].copy_from_slice(&self.begun);
+        join(&self.begun, 0, &rest, &mut word);
         word
     }
+}
+
+/// Writes bytes from a place on, and others behind them.
+fn join(before: &[u8], skip: usize, behind: &[u8], out: &mut [u8])
+    requires skip { skip ≤ length before.now }
+    requires out { length before.now - skip + length behind.now ≡ length out.old }
+    ensures { out.new ≡ drop skip before.now ++ behind.now }
+{
+    let begun = before.len() - skip;
+    out[..begun].copy_from_slice(&before[skip..]);
+    out[begun..].copy_from_slice(behind);
+}
+
+/// Whether all levels of a group are 0.
+fn are_lowest(levels: &[u8; GROUP_LEVELS]) -> bool
+    ensures { IsTrue result ↔ (levels.now ≡ replicate GROUP_LEVELS 0) }
+{
+    are_zero(&levels[..])
 }
 
 /// Whether all bytes are 0.

@@ -5,6 +5,7 @@ use Rattle.dtx_slice.specs.Unrolled.{precoder_bits_after}
 use Rattle.dtx_receiver.specs.Receiver.{AreGrouped}
 use Rattle.dtx_receiver.specs.Symbols.{symbols_in, symbols_of}
 use Rattle.dtx_erase.specs.Marks.{shown, shown_run}
+use Rattle.dtx_erase.specs.Sides.{Side}
 use Rattle.dtx_erase.proofs.Quiet.{bits_zero}
 use Rattle.dtx_erase.proofs.mark_side.take_marks.Goals as goal
 
@@ -42,7 +43,8 @@ loop-i-preserved c =
     let l : i < length segments = c.loop-i-test.true in
     record {
       long = omega (arith, c.to_symbols.auto.symbols, c.loop-i.invariant.long);
-      rest = search;
+      rest = c.take.ensures.rest
+          ∙ ap (λ (s : Side). record s { groups = c.take.new.self.groups }) c.loop-i.invariant.rest;
       grouped = λ run given d e.
           let before = run ++ shown_run (symbols_in (take i segments)) in
           subst (λ s. AreGrouped c.take.new.self.groups s given)

@@ -1,5 +1,6 @@
 use Rattle.std.proofs.Common.{◌≡◌, ◌+◌, ◌*◌, ◌%◌, [], ◌∷◌, ◌++◌, length, map, refl, subst, ap, ap₂, ◌∙◌, slice_index_or}
 use Rattle.std.proofs.Common.{arith}
+use Rattle.std.proofs.lemmas.List.{length-append}
 use Rattle.dtx_erase.specs.Sides.{Decoding, mended_word, word_of}
 use Rattle.dtx_erase.proofs.Mendings.{map_four}
 use Rattle.dtx_erase.proofs.decoder.Decoder.give_group.Goals as goal
@@ -23,3 +24,9 @@ returns-else-self-gt0-clause-given c z =
           (λ p l. ap₂ (mended_word (187 * ((c.self.inside.place + p) % 312))) (c.words-words.ensures.words p l)
           (c.words-flags.ensures.words p l))),
     )
+
+pub returns-else-self-gt0-clause-few : goal.returns-else-self-gt0-clause-few
+returns-else-self-gt0-clause-few c =
+    omega (arith, ap length c.give_four.ensures, length-append c.args.batch.now.packets.items
+    (map (λ p. mended_word (187 * ((c.self.inside.place + p) % 312)) (slice_index_or c.words-words.result p [])
+    (slice_index_or c.words-flags.result p [])) (0 ∷ 1 ∷ 2 ∷ 3 ∷ [])))

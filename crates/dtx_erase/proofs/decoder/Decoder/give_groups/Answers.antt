@@ -4,7 +4,7 @@ use Rattle.dtx_erase.proofs.decoder.Decoder.give_groups.Goals as goal
 
 pub loop-group-init : goal.loop-group-init
 loop-group-init c = record {
-  given = none_given c.args.self.now c.args.batch.now.packets.items c.self.told c.requires.none;
+  given = none_given c.args.self.now c.args.batch.now.packets.items c.requires.place c.requires.none;
   few = omega (arith, ap length c.requires.none);
 }
 

@@ -1,4 +1,4 @@
-use Rattle.std.proofs.Common.{ℤ, List, [], ◌∷◌, subst}
+use Rattle.std.proofs.Common.{ℤ, List, [], ◌∷◌, subst, arith}
 use Rattle.dtx_erase.specs.Sides.{Holds}
 use Rattle.dtx_erase.proofs.Quiet.{known_afresh}
 use Rattle.dtx_erase.proofs.mark_side.MarkSide.begin.Goals as goal

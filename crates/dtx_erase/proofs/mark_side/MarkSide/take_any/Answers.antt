@@ -52,5 +52,5 @@ returns c = λ run d e.
     (subst (λ (k : Side). Passed k.branches c.pass.new.self.branches k.begun c.pass.new.self.gathered
     c.pass.new.self.begun laid.result (flat c.take_marks.new.side.groups.held)) c.take_marks.ensures.rest
     (held_passed c.take_marks.new.side laid.new.self c.pass.new.self laid.result
-    (search) laid.ensures.most laid.ensures.side laid.ensures.bytes laid.ensures.long c.pass.ensures.branches
+    laid.ensures.begun laid.ensures.most laid.ensures.side laid.ensures.bytes laid.ensures.long c.pass.ensures.branches
     c.pass.ensures.gathered c.pass.ensures.begun)))

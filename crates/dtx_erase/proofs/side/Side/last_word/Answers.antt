@@ -11,6 +11,6 @@ returns-clause-word c = λ run k d e z.
     let old = c.self.inside in
     let kept = side old.groups old.gather old.begun old.gathered in
     let here : Holds kept run = subst (λ (k : Side). Holds k run) (sym c.self.view_is) d in
-    gathers_last kept.branches kept.begun (groups_of run) k (bytes_in run) (replicate {A = ℕ} 51 0) _
+    gathers_last kept.branches kept.begun (groups_of run) k (bytes_in run) (replicate {A = ℕ} 51 0) c.join.new.out
     here.gathers c.self.told.0 (length-replicate {A = ℕ} 51 0) e z
-    (search)
+    (c.join.ensures ∙ ap (λ (xs : List ℕ). kept.begun ++ xs) c.gather.ensures.bytes)
