@@ -4,7 +4,6 @@ use Rattle.std.proofs.Common.{List, [], ◌∷◌, ◌++◌, map, length, sym, a
 use Rattle.std.specs.List.{filter, range_with_len}
 use Rattle.std.proofs.lemmas.List.{length-append, map-append}
 use Rattle.dtx_lists.proofs.Range.{range_with_len-parts, map-range_same}
-use Rattle.dtx_lists.proofs.RangeMoved.{map-range_moved}
 use Rattle.dtx_outer.specs.Inner.{word_at, IsComplete}
 use Rattle.dtx_outer.proofs.WordsLemmas.{word_stays}
 use Rattle.dtx_receiver.proofs.CompleteLemmas.{complete_all, complete_parts, complete_last, complete_none}

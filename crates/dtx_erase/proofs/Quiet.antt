@@ -1,12 +1,12 @@
 -- Marks that are all clear: zeros pass the branches, and after 13 groups of them these hold nothing else.
 use Rattle.std.proofs.Common.{◌≡◌, ◌≢◌, ℕ, ℤ, zero, suc, ◌+◌, ◌-◌, ◌*◌, ◌/◌, ◌%◌, ◌<◌, ◌≤◌, ◌⊎◌, ◌==◌, nat_lt, Bool}
-use Rattle.std.proofs.Common.{pos, negsuc, ◌&&◌}
+use Rattle.std.proofs.Common.{pos, negsuc}
 use Rattle.std.proofs.Common.{true, false, not, cond, List, [], ◌∷◌, ◌++◌, map, length, get_or, set, take, drop}
 use Rattle.std.proofs.Common.{replicate}
 use Rattle.std.proofs.Common.{refl, sym, ap, ap₂, ◌∙◌, subst, inl, inr, arith, add-zero, append_assoc}
 use Rattle.std.specs.Int.{w8, cast_signed}
 use Rattle.std.specs.List.{range_with_len, AllByRecursion}
-use Rattle.std.proofs.lemmas.Bool.{and_parts, true≢false, cases_lt, cases_eq, eq-eqb, ne_eqb, lt-ltb, le-ltb}
+use Rattle.std.proofs.lemmas.Bool.{true≢false, cases_lt, cases_eq, eq-eqb, ne_eqb, lt-ltb, le-ltb}
 use Rattle.std.proofs.lemmas.List.{length-replicate, set-get_or, replicate-append-replicate}
 use Rattle.std.proofs.lemmas.List.{take-replicate, drop-replicate, drop-map, get_or-drop, length-drop, append-nil}
 use Rattle.std.proofs.lemmas.List.{length-append, length-map, length_push, get_or-map, get_or_append_left}

@@ -7,7 +7,7 @@ use Rattle.dtx_receiver.specs.Receiver.{AreGrouped, AreLevels, Grouping}
 use Rattle.dtx_receiver.proofs.GroupedLemmas.{flat, groups_grown}
 use Rattle.dtx_receiver.proofs.LevelsLemmas.{levels_sync}
 use Rattle.dtx_receiver.proofs.SegmentsLemmas.{Still, still_sync, first_groups, first_bytes}
-use Rattle.dtx_erase.specs.Sides.{Side, Gathers, Holds, IsFurther}
+use Rattle.dtx_erase.specs.Sides.{Side, Holds, IsFurther}
 use Rattle.dtx_erase.proofs.Gathered.{gathers_first, gathers_stay, gathers_more, words_more, Passed}
 
 -- what is kept of one side, of its parts

@@ -1,4 +1,4 @@
-use Rattle.std.proofs.Common.{◌∙◌, sym, ap, arith, pos}
+use Rattle.std.proofs.Common.{◌∙◌, sym, arith, pos}
 use Rattle.std.proofs.lemmas.List.{ext_get_or, get_or-map, length-map}
 use Rattle.std.specs.Int.{w8, cast_signed}
 use Rattle.dtx_erase.proofs.decoder.as_bytes.Goals as goal

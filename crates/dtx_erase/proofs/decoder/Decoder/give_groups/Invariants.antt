@@ -1,4 +1,4 @@
-use Rattle.std.proofs.Common.{◌≡◌, ◌≤◌, ◌*◌, length}
+use Rattle.std.proofs.Common.{◌≤◌, ◌*◌, length}
 use Rattle.dtx_erase.specs.Sides.{AreGiven}
 use Rattle.dtx_erase.proofs.decoder.Decoder.give_groups.Given as goal
 

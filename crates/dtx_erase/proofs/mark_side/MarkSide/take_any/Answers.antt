@@ -1,4 +1,4 @@
-use Rattle.std.proofs.Common.{◌≡◌, ◌+◌, ◌*◌, ◌%◌, ◌++◌, ◌∙◌, List, ℕ, sym, ap, ap₂, subst, take, drop}
+use Rattle.std.proofs.Common.{◌*◌, ◌++◌, ◌∙◌, sym, ap, subst, take, drop}
 use Rattle.dtx_laws.specs.Branches.{after_all}
 use Rattle.dtx_receiver.specs.Bytes.{bytes_in}
 use Rattle.dtx_receiver.specs.Receiver.{Grouping}

@@ -1,4 +1,4 @@
-use Rattle.std.proofs.Common.{◌≡◌, ◌+◌, ◌/◌, ◌%◌, sym, subst, arith}
+use Rattle.std.proofs.Common.{sym, subst, arith}
 use Rattle.dtx_erase.specs.Sides.{Side, Holds, IsQuiet}
 use Rattle.dtx_erase.proofs.Quiet.{known_quiet, quiet_further, quiet_still}
 use Rattle.dtx_erase.proofs.mark_side.MarkSide.take_quiet.Goals as goal

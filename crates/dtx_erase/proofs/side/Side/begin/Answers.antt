@@ -1,4 +1,4 @@
-use Rattle.std.proofs.Common.{sym, ap, ◌∙◌, subst}
+use Rattle.std.proofs.Common.{sym, ap, subst}
 use Rattle.dtx_laws.specs.Branches.{Branching, HasWidths, gathering}
 use Rattle.dtx_laws.proofs.InterleavingLemmas.{HasWidths-aligned}
 use Rattle.dtx_erase.proofs.Stands.{holds_first, side}

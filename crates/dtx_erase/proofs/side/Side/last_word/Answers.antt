@@ -1,4 +1,4 @@
-use Rattle.std.proofs.Common.{ℕ, ◌++◌, List, ◌∙◌, sym, ap, subst, take, drop, replicate}
+use Rattle.std.proofs.Common.{ℕ, ◌++◌, List, ◌∙◌, sym, ap, subst, replicate}
 use Rattle.std.proofs.lemmas.List.{length-replicate}
 use Rattle.dtx_receiver.specs.Bytes.{groups_of, bytes_in}
 use Rattle.dtx_erase.specs.Sides.{Side, Holds}

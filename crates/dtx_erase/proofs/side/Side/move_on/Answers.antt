@@ -1,4 +1,4 @@
-use Rattle.std.proofs.Common.{◌≡◌, ◌*◌, ◌%◌, ◌≤◌, ◌∙◌, ℕ, ap, arith, replicate}
+use Rattle.std.proofs.Common.{◌*◌, ◌%◌, ◌∙◌, ℕ, ap, arith, replicate}
 use Rattle.std.proofs.lemmas.List.{take-replicate}
 use Rattle.dtx_laws.specs.Branches.{Branching, after_all}
 use Rattle.dtx_erase.specs.Sides.{Side}

@@ -1,5 +1,4 @@
-use Rattle.std.proofs.Common.{◌≡◌, ◌+◌, ◌*◌, ◌%◌, ◌++◌, ◌∙◌, List, ℕ, sym, ap, subst, take, drop}
-use Rattle.dtx_laws.specs.Branches.{after_all, leaving_all}
+use Rattle.std.proofs.Common.{◌++◌, ◌∙◌, sym, ap, subst}
 use Rattle.dtx_receiver.specs.Symbols.{symbols_in}
 use Rattle.dtx_receiver.proofs.GroupedLemmas.{grouped_none}
 use Rattle.dtx_receiver.specs.Bytes.{bytes_in}
