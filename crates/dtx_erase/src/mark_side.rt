@@ -99,7 +99,8 @@ impl MarkSide {
             → length xs ≡ count → Holds self.old run → length run % 313 ≡ place + 1
             → IsFurther self.new ((place % 4 + count) / 4) run (run ++ xs) }
     {
-        self.side.move_on((place as usize % GROUP_PACKETS + count) / GROUP_PACKETS);
+        self.side
+            .move_on((place as usize % GROUP_PACKETS + count) / GROUP_PACKETS);
         self.side.known();
         self.zeros = 0;
     }

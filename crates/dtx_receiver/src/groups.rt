@@ -97,7 +97,13 @@ impl Groups {
         let part = place % GROUP_SEGMENTS;
         put_levels(segment, part as usize, &mut self.levels);
         if part + 1 == GROUP_SEGMENTS {
-            write_group(&mut self.unroll, place - part, &self.levels, &mut self.bytes, self.held);
+            write_group(
+                &mut self.unroll,
+                place - part,
+                &self.levels,
+                &mut self.bytes,
+                self.held,
+            );
             self.held += 1;
         }
     }

@@ -77,7 +77,13 @@ pub(crate) fn give_groups(inner: &mut OuterDecoding, bytes: &mut [u8], batch: &m
     let groups = bytes.len() / GROUP_BYTES;
     let mut heads = [[[0; PACKET_DATA]; 4]; HELD_GROUPS];
     let mut taken = [[Taken::None; 4]; HELD_GROUPS];
-    give_through(inner, bytes, &mut heads[..groups], &mut taken[..groups], batch);
+    give_through(
+        inner,
+        bytes,
+        &mut heads[..groups],
+        &mut taken[..groups],
+        batch,
+    );
 }
 
 /// The same, through room for what each block gives.

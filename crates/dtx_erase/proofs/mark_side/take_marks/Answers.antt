@@ -24,8 +24,12 @@ now : (run : List (List ℤ)) (segments : List (List ℕ)) (i : ℕ) → i ≤ l
     → length (run ++ shown_run (symbols_in (take i segments))) ≡ length run + i
 now run segments i l =
     length-append run (shown_run (symbols_in (take i segments)))
-    ∙ omega (arith, length-map (symbols_in (take i segments)) (map shown), length-map (take i segments) symbols_of,
-    length-take-le i segments l)
+    ∙ omega (
+      arith,
+      length-map (symbols_in (take i segments)) (map shown),
+      length-map (take i segments) symbols_of,
+      length-take-le i segments l,
+    )
 
 pub loop-i-init : goal.loop-i-init
 loop-i-init c = record {

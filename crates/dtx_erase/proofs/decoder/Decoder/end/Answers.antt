@@ -30,5 +30,10 @@ returns-else-self-eq0-clause-packets c = λ run d.
 
 pub returns-then-self-eq0-2-clause-few : goal.returns-then-self-eq0-2-clause-few
 returns-then-self-eq0-2-clause-few c =
-    omega (arith, ap length c.give.ensures, length_push c.args.batch.now.packets.items (mended_word
-    (187 * c.self.inside.place) c.last_word-word.result c.last_word-flags.result), ap length c.requires)
+    omega (
+      arith,
+      ap length c.give.ensures,
+      length_push c.args.batch.now.packets.items (mended_word
+          (187 * c.self.inside.place) c.last_word-word.result c.last_word-flags.result),
+      ap length c.requires,
+    )

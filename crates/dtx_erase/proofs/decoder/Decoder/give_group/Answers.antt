@@ -27,6 +27,10 @@ returns-else-self-gt0-clause-given c z =
 
 pub returns-else-self-gt0-clause-few : goal.returns-else-self-gt0-clause-few
 returns-else-self-gt0-clause-few c =
-    omega (arith, ap length c.give_four.ensures, length-append c.args.batch.now.packets.items
-    (map (λ p. mended_word (187 * ((c.self.inside.place + p) % 312)) (slice_index_or c.words-words.result p [])
-    (slice_index_or c.words-flags.result p [])) (0 ∷ 1 ∷ 2 ∷ 3 ∷ [])))
+    omega (
+      arith,
+      ap length c.give_four.ensures,
+      length-append c.args.batch.now.packets.items
+          (map (λ p. mended_word (187 * ((c.self.inside.place + p) % 312)) (slice_index_or c.words-words.result p [])
+          (slice_index_or c.words-flags.result p [])) (0 ∷ 1 ∷ 2 ∷ 3 ∷ [])),
+    )

@@ -15,8 +15,7 @@ pub invariant_of-self : goal.invariant_of-self
 invariant_of-self c =
     let old = c.self.inside.side in
     let laid = c.lay_out-count in
-    let groups = c.pass.ensures.groups ∙ ap (λ (k : Side). k.groups) laid.ensures.side in
-    (
+    let groups = c.pass.ensures.groups ∙ ap (λ (k : Side). k.groups) laid.ensures.side in (
       known_more old c.pass.new.self c.self.inside.quiet c.is_blank-blank.result c.is_over-self-inside.result
           c.self.inside.zeros laid.result c.counted-zeros.result
           (take (828 * laid.result) (drop 156 laid.new.self.gathered)) c.self.invariant.0
