@@ -162,8 +162,8 @@ impl<
         self.take_gathered(bytes, outs)
     }
 
-    /// The next blocks of a run, four for each of the outs, each as `take` takes it. All of them go through the gatherer
-    /// at once, and the bytes that leave it replace them.
+    /// The next blocks of a run, four for each of the outs, each as `take` takes it. All of them go through the
+    /// gatherer at once, and the bytes that leave it replace them.
     pub fn take_fours(
         &mut self,
         bytes: &mut [u8],

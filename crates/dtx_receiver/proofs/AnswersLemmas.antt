@@ -11,8 +11,8 @@ use Rattle.dtx_receiver.specs.declared.tracking.Tracking.TheVariants.{Searching,
 use Rattle.dtx_receiver.specs.Runs.{Tracked, tracked, runs}
 use Rattle.dtx_receiver.specs.Receiver.{HasRun, IsFollowed}
 use Rattle.dtx_receiver.proofs.FollowingLemmas.{searching, began, sync_came, ended_there, data_came, data_all}
-use Rattle.dtx_receiver.proofs.GivenLemmas.{AreGiven, given_on, given_end, given_none, given_first, given_further, all_run}
-use Rattle.dtx_receiver.proofs.GivenLemmas.{all_none}
+use Rattle.dtx_receiver.proofs.GivenLemmas.{AreGiven, given_on, given_end, given_none, given_first, given_further}
+use Rattle.dtx_receiver.proofs.GivenLemmas.{all_run, all_none}
 
 abbrev Packets : Type 0
 Packets = List (List ℤ) → List Received
@@ -207,7 +207,8 @@ same_runs s more run new e f =
     ∙ one_of (tracked s).ended new run
     ∙ ap (λ (o : Option (List (List ℤ))). length ((tracked s).ended ++ option_to_list o) + 0) (sym e)
   where
-    one_of : (ended : List (List (List ℤ))) (a b : List (List ℤ)) → length (ended ++ a ∷ []) ≡ length (ended ++ b ∷ []) + 0
+    one_of : (ended : List (List (List ℤ))) (a b : List (List ℤ))
+        → length (ended ++ a ∷ []) ≡ length (ended ++ b ∷ []) + 0
     one_of ended a b = omega (arith, length_push ended a, length_push ended b)
 
 pub step_all : {D : Type 0} {Holds : D → List (List ℤ) → Type 0} {whole early given all : Packets}

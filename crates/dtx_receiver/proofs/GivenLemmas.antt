@@ -64,8 +64,8 @@ given_off {whole} {early} g s e =
     ∙ none_is whole early (tracked s).ended
 
 -- with more segments of the run that is on
-pub given_further : {whole early given all : Packets} (g : AreGiven whole early given all) (s more run new : List (List ℤ))
-    (brought : List Received) → (tracked s).run ≡ Some run
+pub given_further : {whole early given all : Packets} (g : AreGiven whole early given all)
+    (s more run new : List (List ℤ)) (brought : List Received) → (tracked s).run ≡ Some run
     → tracked more ≡ record { ended = (tracked s).ended; run = Some new } → early new ≡ early run ++ brought
     → given more ≡ given s ++ brought
 given_further {whole} {early} g s more run new brought e f h =

@@ -81,4 +81,5 @@ ends_turn kept run more d t l = end_turn (bytes_in run) more (4 * groups_of run)
 
 pub ends_else : (kept : Decoding) (run : List (List ℤ)) → Decodes kept run → kept.turn ≢ 0
     → run_packets (bytes_in run) ≡ early_of (bytes_in run)
-ends_else kept run d t = end_none (bytes_in run) (4 * groups_of run) (blocks_long run d.levels) (inr (λ z. t (d.turn ∙ z)))
+ends_else kept run d t =
+    end_none (bytes_in run) (4 * groups_of run) (blocks_long run d.levels) (inr (λ z. t (d.turn ∙ z)))

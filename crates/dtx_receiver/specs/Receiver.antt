@@ -10,8 +10,8 @@ use Rattle.dtx_receiver.specs.Runs.{runs, tracked, tracking}
 use Rattle.dtx_receiver.specs.Packets.{packets_so_far}
 use Rattle.dtx_receiver.specs.Bytes.{data_count, groups_of, levels_from, levels_in, precoder_bits_in, bytes_in}
 
--- what is kept of a run's groups: the levels of the group that is on, Z2 of the twelve coders before it, and the bytes of
--- the groups that are whole and weren't given on
+-- what is kept of a run's groups: the levels of the group that is on, Z2 of the twelve coders before it, and the bytes
+-- of the groups that are whole and weren't given on
 pub record Grouping : Type 0 where
   pub levels : List ℕ
   pub precoder_bits : List ℕ
@@ -80,7 +80,8 @@ IsTaken segments x new answer brought = IsFollowed (StandsFor new) packets_so_fa
 
 -- Behind these segments others are received together: then a receiver stands for the longer list, and brings what is
 -- given more, and so many runs begin.
-pub record AreReceived (segments more : List (List ℤ)) (new : Kept) (begins : ℕ) (brought : List Received) : Type 0 where
+pub record AreReceived (segments more : List (List ℤ)) (new : Kept) (begins : ℕ) (brought : List Received) :
+    Type 0 where
   pub stands : StandsFor new (segments ++ more)
   pub packets : packets_so_far (segments ++ more) ≡ packets_so_far segments ++ brought
   pub runs : length (runs (segments ++ more)) ≡ length (runs segments) + begins

@@ -7,8 +7,7 @@ use arrayvec::ArrayVec;
 use dtx_packets::Packet;
 use dtx_sizes::{GROUP_PACKETS, PACKET, PACKET_DATA};
 
-/// How many groups of four data segments go through the outer decoding together at most. Their bytes are as many as fill
-/// 52 words.
+/// How many groups of four data segments go through the outer decoding together at most. Their bytes fill 52 words.
 pub const HELD_GROUPS: usize = 13;
 
 /// How many packets a call gives at most: those of so many groups.

@@ -125,10 +125,10 @@ impl Groups {
         ensures bytes { take (GROUP_BYTES * result) out.new ≡ flat_map (λ bytes. bytes) self.old.held }
         ensures long { length (flat_map (λ bytes. bytes) self.old.held) ≡ GROUP_BYTES * result }
     {
-        let count = self.held;
+        let groups = self.held;
         self.held = 0;
-        out[..GROUP_BYTES * count].copy_from_slice(self.bytes[..count].as_flattened());
-        count
+        out[..GROUP_BYTES * groups].copy_from_slice(self.bytes[..groups].as_flattened());
+        groups
     }
 
     /// Gives on the bytes of the groups that are held, and tells how many groups these were. None is held then. What

@@ -1,5 +1,5 @@
-use Rattle.std.proofs.Common.{◌≡◌, ℕ, ◌+◌, ◌*◌, ◌/◌, ◌%◌, ◌<◌, ◌++◌, List, [], length, get_or, take, drop, subst, sym, ap, ◌∙◌, append_assoc}
-use Rattle.std.proofs.Common.{arith}
+use Rattle.std.proofs.Common.{◌≡◌, ℕ, ◌+◌, ◌*◌, ◌/◌, ◌%◌, ◌<◌, ◌++◌, List, [], length, get_or, take, drop}
+use Rattle.std.proofs.Common.{subst, sym, ap, ◌∙◌, append_assoc, arith}
 use Rattle.std.proofs.Math.Seq.{take-add}
 use Rattle.std.proofs.lemmas.List.{take_all, length-append, length-drop, length-take-le}
 use Rattle.dtx_outer.specs.Inner.{IsTaken}
@@ -48,7 +48,8 @@ loop-p-preserved c =
 pub returns-clause-packets : goal.returns-clause-packets
 returns-clause-packets c =
     let bytes : List ℕ = c.args.bytes.now in
-    let e : c.loop-p.p ≡ 4 * length c.args.heads.now = omega (arith, c.loop-p-test.false, c.loop-p.auto.p-end, c.take_fours.auto.outs) in
+    let e : c.loop-p.p ≡ 4 * length c.args.heads.now =
+    omega (arith, c.loop-p-test.false, c.loop-p.auto.p-end, c.take_fours.auto.outs) in
     λ before given s f.
     ap (λ xs. early_of (before ++ xs)) (sym (take_all (207 * c.loop-p.p) bytes (omega (arith, e, c.requires.heads))))
     ∙ c.loop-p.invariant.packets before given s f

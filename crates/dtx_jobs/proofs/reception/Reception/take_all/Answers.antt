@@ -1,6 +1,6 @@
-use Rattle.std.proofs.Common.{◌≡◌, ◌+◌, ◌*◌, ◌/◌, ◌≤◌, ◌++◌, ℕ, ℤ, List, length, take, drop, ap, sym, subst, ◌∙◌, arith}
+use Rattle.std.proofs.Common.{◌≡◌, ◌+◌, ◌-◌, ◌*◌, ◌/◌, ◌≤◌, ◌++◌, ℕ, ℤ, List, length, take, drop, ap, sym, subst, ◌∙◌, arith}
 use Rattle.std.proofs.Common.{append_assoc}
-use Rattle.std.proofs.lemmas.List.{append-nil}
+use Rattle.std.proofs.lemmas.List.{append-nil, length-drop, take_all}
 use Rattle.dtx_receiver.specs.Symbols.{symbols_in}
 use Rattle.dtx_jobs.specs.Giving.{bytes_of}
 use Rattle.dtx_jobs.specs.GivingLaws.{bytes_of-append}
@@ -33,18 +33,23 @@ loop-done-preserved g c =
     let giving = g.R.SegmentReceiver.giving in
     let done : ℕ = c.loop-done.done in
     let bytes : List ℕ = c.args.bytes.now in
-    let count : ℕ = c.take_some.result in
+    let count : ℕ = c.take_some-done.result in
     let units : ℕ = length bytes / 832 in
-    let taken = c.take_some.ensures in
+    let taken = c.take_some-done.ensures in
     let fits : done + count ≤ units =
     omega (arith, taken.within, c.as_chunks.ensures.front_len, c.loop-done-test.true) in
     let chunks : List (List ℕ) = c.as_chunks.result.0.now in
     let front = c.as_chunks.ensures.front in
     let zero : 0 + done ≡ done = omega arith in
-    let on : (before : List (List ℤ)) → (before ++ segments_from bytes 0 done) ++ symbols_in (take count (drop done chunks))
+    let rest : List (List ℕ) = take (length chunks - done) (drop done chunks) in
+    let all : rest ≡ drop done chunks =
+    take_all (length chunks - done) (drop done chunks) (omega (arith, length-drop done chunks)) in
+    let on : (before : List (List ℤ))
+    → (before ++ segments_from bytes 0 done) ++ symbols_in (take count rest)
     ≡ before ++ segments_from bytes 0 (done + count) =
     λ before.
-    append_assoc before (segments_from bytes 0 done) (symbols_in (take count (drop done chunks)))
+    ap (λ xs. (before ++ segments_from bytes 0 done) ++ symbols_in (take count xs)) all
+    ∙ append_assoc before (segments_from bytes 0 done) (symbols_in (take count (drop done chunks)))
     ∙ ap (λ z. before ++ z)
     (ap (λ z. segments_from bytes 0 done ++ z) (ap (λ xs. symbols_in (take count (drop done xs))) front
     ∙ segments_of_chunks bytes units done count fits (sym (ap length front) ∙ c.as_chunks.ensures.front_len))
@@ -53,12 +58,12 @@ loop-done-preserved g c =
     record {
       within = fits;
       receiving = λ before is.
-          subst (IsReceiving giving (g.R.SegmentReceiver.stands c.take_some.new.self.receiver.value)
-          c.take_some.new.self.tally) (on before)
+          subst (IsReceiving giving (g.R.SegmentReceiver.stands c.take_some-done.new.self.receiver.value)
+          c.take_some-done.new.self.tally) (on before)
           (taken.receiving (before ++ segments_from bytes 0 done) (c.loop-done.invariant.receiving before is));
       brought = λ before is.
           let front = before ++ segments_from bytes 0 done in
-          let batch = c.take_some.new.self.batch.packets.items in
+          let batch = c.take_some-done.new.self.batch.packets.items in
           ap (λ s. bytes_of (giving.so_far s)) (sym (on before))
           ∙ ap bytes_of (taken.brought front (c.loop-done.invariant.receiving before is))
           ∙ bytes_of-append (giving.so_far front) batch

@@ -1,7 +1,7 @@
-use Rattle.std.proofs.Common.{◌≡◌, ℕ, ◌+◌, ◌-◌, ◌*◌, ◌<◌, ◌≤◌, [], List, ◌++◌, length, slice_index_or, take, drop, ap, ◌∙◌}
-use Rattle.std.proofs.Common.{subst, arith, refl, sym}
+use Rattle.std.proofs.Common.{◌≡◌, ℕ, ◌+◌, ◌-◌, ◌*◌, ◌<◌, ◌≤◌, [], List, ◌++◌, length, slice_index_or, take, drop, ap}
+use Rattle.std.proofs.Common.{◌∙◌, subst, arith, refl, sym}
 use Rattle.std.proofs.lemmas.List.{get_or-set_other, length-set}
-use Rattle.dtx_laws.specs.Branches.{Branching, leaving_all, after_all}
+use Rattle.dtx_laws.specs.Branches.{leaving_all, after_all}
 use Rattle.dtx_outer.specs.Inner.{Kept, IsTaken, StandsFor}
 use Rattle.dtx_outer.specs.declared.inner.Taken.{Taken}
 use Rattle.dtx_outer.specs.declared.inner.Taken.TheVariants.{None}

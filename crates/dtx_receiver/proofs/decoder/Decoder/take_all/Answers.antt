@@ -13,8 +13,8 @@ returns-clause-stands c = λ run d e.
     let old = c.self.inside in
     let kept = decoding old.groups.levels old.groups.precoder_bits old.inner old.turn in
     let here : Decodes kept run = subst (λ (k : Decoding). Decodes k run) (sym c.self.view_is) d in
-    let g = c.take_all.ensures.grouped run (bytes_in run) (grouped_none old.groups run here.levels c.self.invariant.none)
-    e in
+    let g = c.take_all.ensures.grouped run (bytes_in run)
+    (grouped_none old.groups run here.levels c.self.invariant.none) e in
     let same = c.give-given.ensures.groups in
     decodes_given kept
     (decoding c.give-given.new.self.levels c.give-given.new.self.precoder_bits c.give-given.new.inner
@@ -29,8 +29,8 @@ returns-clause-packets c = λ run d e.
     let old = c.self.inside in
     let kept = decoding old.groups.levels old.groups.precoder_bits old.inner old.turn in
     let here : Decodes kept run = subst (λ (k : Decoding). Decodes k run) (sym c.self.view_is) d in
-    let g = c.take_all.ensures.grouped run (bytes_in run) (grouped_none old.groups run here.levels c.self.invariant.none)
-    e in
+    let g = c.take_all.ensures.grouped run (bytes_in run)
+    (grouped_none old.groups run here.levels c.self.invariant.none) e in
     ap early_of g.bytes
     ∙ c.give-given.ensures.packets (bytes_in run) (early_of (bytes_in run)) here.inner
     (sym (append-nil (early_of (bytes_in run))) ∙ ap (λ xs. early_of (bytes_in run) ++ xs) (sym c.requires.none))
