@@ -13,9 +13,9 @@ use Rattle.dtx_receiver.specs.Runs.{runs}
 use Rattle.dtx_erase.specs.Marks.{shown_run, is_set}
 use Rattle.dtx_erase.specs.Mended.{mending, mended_so_far}
 
--- What is kept of one side of a run, of its bytes or of its marks: its groups, the de-interleaver, the last 156 bytes that
--- it gave, which begin a word, and room for what it gives: what it gave last stands there, behind the bytes that began
--- its first word.
+-- What is kept of one side of a run, of its bytes or of its marks. Beside its groups and the de-interleaver these are the
+-- last 156 bytes that it gave, which begin a word. And there is room for what it gives: what it gave last stands there,
+-- behind the bytes that began its first word.
 pub record Side : Type 0 where
   pub groups : Grouping
   pub branches : Branching
@@ -127,7 +127,8 @@ IsTaken segments x new answer brought = IsFollowed (Mends new) mended_so_far seg
 
 -- Behind these segments others are received together: then the receiver stands for the longer list, and brings what is
 -- given more, and so many runs begin.
-pub record AreReceived (segments more : List (List ℤ)) (new : Kept) (begins : ℕ) (brought : List Received) : Type 0 where
+pub record AreReceived (segments more : List (List ℤ)) (new : Kept) (begins : ℕ)
+    (brought : List Received) : Type 0 where
   pub stands : Mends new (segments ++ more)
   pub packets : mended_so_far (segments ++ more) ≡ mended_so_far segments ++ brought
   pub runs : length (runs (segments ++ more)) ≡ length (runs segments) + begins

@@ -21,9 +21,9 @@ use std::marker::Model;
 /// After how many groups of zeros the de-interleaver holds nothing else.
 const CLEARED: u8 = 13;
 
-/// The side of a run's marks. It is seen as the side alone. Beside it stand how many groups of zeros came last, as far as
-/// they are counted, and whether all that is kept is known to be 0: then segments of which no symbol is missing change
-/// nothing but the de-interleaver's turn.
+/// The side of a run's marks. It is seen as the side alone. Beside it stand how many groups of zeros came last, as far
+/// as they are counted, and whether all that is kept is known to be 0. Then segments of which no symbol is missing
+/// change nothing but the de-interleaver's turn.
 #[derive(Drop)]
 pub(crate) struct MarkSide {
     side: Side,
@@ -64,8 +64,8 @@ impl MarkSide {
         self.quiet = false;
     }
 
-    /// The next data segments of the run, as the bytes of their symbols, the first at this place of its field. The words
-    /// of the groups that they make whole are gathered.
+    /// The next data segments of the run, as the bytes of their symbols. The first is at this place of its field. The
+    /// words of the groups that they make whole are gathered.
     pub(crate) fn take_all(&mut self, place: u16, segments: &[[u8; SEGMENT]])
         requires place { place + length segments.now ≤ FIELD_PACKETS }
         requires most { length segments.now ≤ GROUP_PACKETS * HELD_GROUPS }
@@ -200,7 +200,8 @@ fn counted(before: u8, zeros: bool, groups: usize) -> u8
 
 /// If it answers false, no symbol of these bytes is missing.
 fn any_missing(bytes: &[u8]) -> bool
-    ensures { IsFalse result → (i : ℕ) → i < length bytes.now → cast_signed w8 (slice_index_or bytes.now i 0) ≢ negsuc 127 }
+    ensures { IsFalse result → (i : ℕ) → i < length bytes.now
+        → cast_signed w8 (slice_index_or bytes.now i 0) ≢ negsuc 127 }
 {
     let mut any = false;
     for i in 0..bytes.len() {

@@ -82,8 +82,8 @@ impl Side {
         self.groups.take(place, segment);
     }
 
-    /// The next data segments of the run, as the bytes of their symbols, the first at this place of its field: tells how
-    /// many groups they make whole, whose words are gathered.
+    /// The next data segments of the run, as the bytes of their symbols. The first is at this place of its field. It
+    /// tells how many groups they make whole, whose words are gathered.
     pub(crate) fn take_all(&mut self, place: u16, segments: &[[u8; SEGMENT]]) -> usize
         requires place { place + length segments.now ≤ FIELD_PACKETS }
         requires most { length segments.now ≤ GROUP_PACKETS * HELD_GROUPS }

@@ -79,7 +79,8 @@ impl Words {
         requires words { (p : ℕ) → p < 4 → length (slice_index_or words.now p []) ≡ CODEWORD }
         requires flags { (p : ℕ) → p < 4 → length (slice_index_or flags.now p []) ≡ CODEWORD }
         requires room { length batch.old.packets.items + 4 ≤ MOST_RECEIVED }
-        ensures { batch.new.packets.items ≡ batch.old.packets.items ++ map (λ p. mended_word (PACKET_DATA * ((place + p) % 312))
+        ensures { batch.new.packets.items ≡ batch.old.packets.items
+            ++ map (λ p. mended_word (PACKET_DATA * ((place + p) % 312))
             (slice_index_or words.now p []) (slice_index_or flags.now p [])) (0 ∷ 1 ∷ 2 ∷ 3 ∷ []) }
     {
         let mut mended = *words;

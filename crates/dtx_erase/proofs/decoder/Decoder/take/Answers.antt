@@ -10,5 +10,6 @@ returns-clause-stands c = λ run d e.
 
 pub returns-clause-packets : goal.returns-clause-packets
 returns-clause-packets c = λ run d e.
-    subst (λ (x : List ℤ). mended_run_early (run ++ x ∷ []) ≡ mended_run_early run ++ c.take_all.new.batch.packets.items)
+    subst (λ (x : List ℤ). mended_run_early (run ++ x ∷ []) ≡ mended_run_early run
+    ++ c.take_all.new.batch.packets.items)
     c.as_bytes.ensures (c.take_all.ensures.packets run d e)
