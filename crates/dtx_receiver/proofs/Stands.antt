@@ -76,8 +76,8 @@ decodes_given kept new groups run more d g l f t i = record {
 
 pub ends_turn : (kept : Decoding) (run : List (List ℤ)) (more : List ℕ) → Decodes kept run → kept.turn ≡ 0
     → length more ≡ 207 → run_packets (bytes_in run) ≡ early_of (bytes_in run ++ more)
-ends_turn kept run more d t l = end_turn (bytes_in run) more (4 * groups_of run) (blocks_long run d.levels) l (sym d.turn
-    ∙ t)
+ends_turn kept run more d t l =
+    end_turn (bytes_in run) more (4 * groups_of run) (blocks_long run d.levels) l (sym d.turn ∙ t)
 
 pub ends_else : (kept : Decoding) (run : List (List ℤ)) → Decodes kept run → kept.turn ≢ 0
     → run_packets (bytes_in run) ≡ early_of (bytes_in run)
