@@ -1,18 +1,16 @@
 -- What is kept of both sides of a run, with one segment more, and the packets that it gives.
-use Rattle.std.proofs.Common.{◌≡◌, ◌≢◌, ℕ, ℤ, ◌+◌, ◌-◌, ◌*◌, ◌%◌, ◌<◌, ◌≤◌, ◌⊎◌, List, [], ◌∷◌, ◌++◌, length, map}
-use Rattle.std.proofs.Common.{sym, ap, ap₂, ◌∙◌, subst, inl, inr, arith}
-use Rattle.std.proofs.lemmas.Bool.{cases_lt}
+use Rattle.std.proofs.Common.{◌≡◌, ℕ, ℤ, ◌+◌, ◌-◌, ◌*◌, ◌%◌, ◌<◌, List, [], ◌∷◌, ◌++◌, length, map}
+use Rattle.std.proofs.Common.{sym, ap, ap₂, ◌∙◌, subst, arith}
 use Rattle.std.proofs.lemmas.List.{append-nil, length-map}
 use Rattle.dtx_receiver.specs.Bytes.{groups_of, bytes_in}
-use Rattle.dtx_receiver.proofs.SegmentsLemmas.{Still, still_data, still_sync, first_groups}
+use Rattle.dtx_receiver.proofs.SegmentsLemmas.{Still, still_sync, first_groups}
 use Rattle.dtx_erase.proofs.GrowingLemmas.{mended_given}
 use Rattle.dtx_erase.specs.Marks.{shown, shown_run, is_set}
 use Rattle.dtx_receiver.proofs.AnswersLemmas.{IsDecoder}
 use Rattle.dtx_erase.specs.Mended.{mended_early, mended_run, mended_run_early, all_mended, mended_so_far}
-use Rattle.dtx_erase.specs.Sides.{Holds, Decoding, Decodes}
+use Rattle.dtx_erase.specs.Sides.{Holds, Decoding, Decodes, IsFurther}
 use Rattle.dtx_erase.proofs.MarksLemmas.{shown_groups, marks_are, shown_push}
-use Rattle.dtx_receiver.proofs.LevelsLemmas.{part_now, not_due_now}
-use Rattle.dtx_erase.proofs.Stands.{holds_sync, groups_whole}
+use Rattle.dtx_erase.proofs.Stands.{holds_sync}
 
 shown_long : (run : List (List ℤ)) → length (shown_run run) ≡ length run
 shown_long run = length-map run (map shown)
@@ -82,70 +80,33 @@ mending = record {
   sync_given = early_sync;
 }
 
--- ---- data segments
-
--- both sides have taken the segment, at this place of its field
-pub record Both (x : List ℤ) (kept new : Decoding) (run : List (List ℤ)) (place : ℕ) : Type 0 where
-  pub due : length run % 313 ≡ place + 1
-  pub old : Decodes kept run
-  pub bytes : Holds new.bytes (run ++ x ∷ [])
-  pub marks : Holds new.marks (shown_run run ++ map shown x ∷ [])
+-- ---- more segments
 
 pub shown_due : (run : List (List ℤ)) (place : ℕ) → length run % 313 ≡ place + 1
     → length (shown_run run) % 313 ≡ place + 1
 shown_due run place e = ap (λ n. n % 313) (shown_long run) ∙ e
 
-still_one : (x : List ℤ) (run : List (List ℤ)) (place : ℕ) → length run % 313 ≡ place + 1 → place % 4 ≢ 3
-    → Still run (run ++ x ∷ [])
-still_one x run place e n =
-    still_data run x (not_due_now run place e) (λ z. n (sym (part_now run place e) ∙ z))
+-- both sides have come to a longer run, which has h groups more
+pub record Both (kept new : Decoding) (h : ℕ) (run longer : List (List ℤ)) : Type 0 where
+  pub old : Decodes kept run
+  pub bytes : IsFurther new.bytes h run longer
+  pub marks : IsFurther new.marks h (shown_run run) (shown_run longer)
+  pub waits : new.waits ≡ kept.waits - h
+  pub place : new.place ≡ (kept.place + 4 * (h - kept.waits)) % 312
 
-pub decodes_data : (x : List ℤ) (kept new : Decoding) (run : List (List ℤ)) (place : ℕ) → Both x kept new run place
-    → place % 4 ≢ 3 → new.waits ≡ kept.waits → new.place ≡ kept.place → Decodes new (run ++ x ∷ [])
-decodes_data x kept new run place b n w p =
-    let s : Still run (run ++ x ∷ []) = still_one x run place b.due n in
-    record {
-      bytes = b.bytes;
-      marks = both (Holds new.marks) run x b.marks;
-      waits = w ∙ b.old.waits ∙ ap (λ g. 13 - g) (sym s.groups);
-      place = p ∙ b.old.place ∙ ap (λ g. (4 * g - 52) % 312) (sym s.groups);
-    }
-
-pub early_data : (x : List ℤ) (kept new : Decoding) (run : List (List ℤ)) (place : ℕ) → Both x kept new run place
-    → place % 4 ≢ 3 → new.waits ≡ kept.waits → new.place ≡ kept.place
-    → mended_run_early (run ++ x ∷ []) ≡ mended_run_early run ++ []
-early_data x kept new run place b n w p =
-    let s : Still run (run ++ x ∷ []) = still_one x run place b.due n in
-    let t : Still (shown_run run) (shown_run run ++ map shown x ∷ []) =
-    still_one (map shown x) (shown_run run) place (shown_due run place b.due) n in
-    early_still x kept new run b.old (decodes_data x kept new run place b n w p) s.bytes t.bytes
-
--- ---- the segment that makes a group whole
-
-pub decodes_group : (x : List ℤ) (kept new : Decoding) (run : List (List ℤ)) (place : ℕ) → Both x kept new run place
-    → place % 4 ≡ 3 → (0 < kept.waits → (new.waits + 1 ≡ kept.waits) × (new.place ≡ kept.place))
-    → (kept.waits ≡ 0 → (new.waits ≡ 0) × (new.place ≡ (kept.place + 4) % 312))
-    → Decodes new (run ++ x ∷ [])
-decodes_group x kept new run place b n w p =
-    let g : groups_of (run ++ x ∷ []) ≡ groups_of run + 1 = groups_whole run x place b.due n in
-    let h : (new.waits ≡ 13 - (groups_of run + 1)) × (new.place ≡ (4 * (groups_of run + 1) - 52) % 312) =
-    counted (groups_of run) (cases_lt 0 kept.waits) b.old.waits b.old.place in
-    record {
-      bytes = b.bytes;
-      marks = both (Holds new.marks) run x b.marks;
-      waits = h.0 ∙ ap (λ g. 13 - g) (sym g);
-      place = h.1 ∙ ap (λ g. (4 * g - 52) % 312) (sym g);
-    }
+pub decodes_further : (kept new : Decoding) (h : ℕ) (run longer : List (List ℤ)) → Both kept new h run longer
+    → Decodes new longer
+decodes_further kept new h run longer b = record {
+  bytes = b.bytes.holds;
+  marks = b.marks.holds;
+  waits = b.waits ∙ ap (λ n. n - h) b.old.waits ∙ waited (groups_of run)
+      ∙ ap (λ g. 13 - g) (sym b.bytes.count);
+  place = b.place ∙ ap₂ (λ (n w : ℕ). (n + 4 * (h - w)) % 312) b.old.place b.old.waits ∙ placed (groups_of run)
+      ∙ ap (λ g. (4 * g - 52) % 312) (sym b.bytes.count);
+}
   where
-    counted : (g : ℕ) → (0 < kept.waits) ⊎ (kept.waits ≤ 0) → kept.waits ≡ 13 - g → kept.place ≡ (4 * g - 52) % 312
-        → (new.waits ≡ 13 - (g + 1)) × (new.place ≡ (4 * (g + 1) - 52) % 312)
-    counted g (inl l) e f = let a = w l in (omega (arith, a.0, e, l), a.1 ∙ f ∙ ap (λ n. n % 312) (few g e l))
-      where
-        few : (g : ℕ) → kept.waits ≡ 13 - g → 0 < kept.waits → 4 * g - 52 ≡ 4 * (g + 1) - 52
-        few g e l = omega (arith, e, l)
-    counted g (inr l) e f =
-        let a = p (omega (arith, l)) in
-        (omega (arith, a.0, e, l), a.1 ∙ ap (λ n. (n + 4) % 312) f ∙ four g (omega (arith, e, l)))
-      where
-        four : (g : ℕ) → 13 ≤ g → ((4 * g - 52) % 312 + 4) % 312 ≡ (4 * (g + 1) - 52) % 312
-        four g l = omega (arith, l)
+    waited : (g : ℕ) → 13 - g - h ≡ 13 - (g + h)
+    waited g = omega arith
+
+    placed : (g : ℕ) → ((4 * g - 52) % 312 + 4 * (h - (13 - g))) % 312 ≡ (4 * (g + h) - 52) % 312
+    placed g = omega arith

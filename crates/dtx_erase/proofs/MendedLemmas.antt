@@ -4,7 +4,6 @@ use Rattle.std.proofs.Common.{List, [], ◌∷◌, ◌++◌, map, length, sym, a
 use Rattle.std.specs.List.{filter, range_with_len}
 use Rattle.std.proofs.lemmas.List.{length-append, map-append}
 use Rattle.dtx_lists.proofs.Range.{range_with_len-parts, map-range_same}
-use Rattle.dtx_lists.proofs.RangeMoved.{map-range_moved}
 use Rattle.dtx_outer.specs.Inner.{word_at, IsComplete}
 use Rattle.dtx_outer.proofs.WordsLemmas.{word_stays}
 use Rattle.dtx_receiver.proofs.CompleteLemmas.{complete_all, complete_parts, complete_last, complete_none}
@@ -59,24 +58,24 @@ stays bytes more flags fore k g e f c =
     (word_stays 207 52 4 bytes more k (subst (λ (m : ℕ). IsComplete 207 52 4 m k) (n ∙ sym e) c))
     (word_stays 207 52 4 flags fore k (subst (λ (m : ℕ). IsComplete 207 52 4 m k) (n ∙ sym f) c))
 
-early_more : (bytes more flags fore : List ℕ) (g : ℕ) → length bytes ≡ 828 * g → length flags ≡ 828 * g
-    → length more ≡ 828
+-- h groups more
+pub early_more : (bytes more flags fore : List ℕ) (g h : ℕ) → length bytes ≡ 828 * g → length flags ≡ 828 * g
+    → length more ≡ 828 * h
     → mended_early (bytes ++ more) (map is_set (flags ++ fore)) ≡ mended_early bytes (map is_set flags)
-    ++ map (flagged (bytes ++ more) (flags ++ fore)) (range_with_len (4 * g - 52) (4 * g + 4 - 52 - (4 * g - 52)))
-early_more bytes more flags fore g e f l =
-    early_count (bytes ++ more) (flags ++ fore) (g + 1) (length-append bytes more ∙ omega (arith, e, l))
-    ∙ ap (λ i. map now (range_with_len 0 i)) (whole g)
-    ∙ ap (map now) (range_with_len-parts 0 (4 * g - 52) (4 * g + 4 - 52 - (4 * g - 52)))
-    ∙ map-append now (range_with_len 0 (4 * g - 52))
-    (range_with_len (0 + (4 * g - 52)) (4 * g + 4 - 52 - (4 * g - 52)))
-    ∙ ap₂ (λ (xs : List Received) (a : ℕ). xs ++ map now (range_with_len a (4 * g + 4 - 52 - (4 * g - 52))))
+    ++ map (flagged (bytes ++ more) (flags ++ fore)) (range_with_len (4 * g - 52) (4 * (h - (13 - g))))
+early_more bytes more flags fore g h e f l =
+    early_count (bytes ++ more) (flags ++ fore) (g + h) (length-append bytes more ∙ omega (arith, e, l))
+    ∙ ap (λ i. map now (range_with_len 0 i)) (whole g h)
+    ∙ ap (map now) (range_with_len-parts 0 (4 * g - 52) (4 * (h - (13 - g))))
+    ∙ map-append now (range_with_len 0 (4 * g - 52)) (range_with_len (0 + (4 * g - 52)) (4 * (h - (13 - g))))
+    ∙ ap₂ (λ (xs : List Received) (a : ℕ). xs ++ map now (range_with_len a (4 * (h - (13 - g)))))
     (before ∙ sym (early_count bytes flags g e)) (from (4 * g - 52))
   where
     now : ℕ → Received
     now = flagged (bytes ++ more) (flags ++ fore)
 
-    whole : (g : ℕ) → 4 * (g + 1) - 52 ≡ 4 * g - 52 + (4 * g + 4 - 52 - (4 * g - 52))
-    whole g = omega arith
+    whole : (g h : ℕ) → 4 * (g + h) - 52 ≡ 4 * g - 52 + 4 * (h - (13 - g))
+    whole g h = omega arith
 
     from : (n : ℕ) → 0 + n ≡ n
     from n = omega arith
@@ -85,37 +84,6 @@ early_more bytes more flags fore g e f l =
     before =
         map-range_same now (flagged bytes flags) 0 (4 * g - 52)
         (λ k a b. stays bytes more flags fore k g e f (complete_all (4 * g) k (inl (omega (arith, b)))))
-
--- a group more of a run that has fewer than 13, and of one that has more
-pub early_short : (bytes more flags fore : List ℕ) (g : ℕ) → length bytes ≡ 828 * g → length flags ≡ 828 * g
-    → length more ≡ 828 → g < 13
-    → mended_early (bytes ++ more) (map is_set (flags ++ fore)) ≡ mended_early bytes (map is_set flags) ++ []
-early_short bytes more flags fore g e f l h =
-    early_more bytes more flags fore g e f l
-    ∙ ap (λ i. mended_early bytes (map is_set flags) ++ map (flagged (bytes ++ more) (flags ++ fore))
-    (range_with_len (4 * g - 52) i)) (nothing g h)
-  where
-    nothing : (g : ℕ) → g < 13 → 4 * g + 4 - 52 - (4 * g - 52) ≡ 0
-    nothing g h = omega arith
-
-pub early_four : (bytes more flags fore : List ℕ) (g : ℕ) (give : ℕ → Received) → length bytes ≡ 828 * g
-    → length flags ≡ 828 * g → length more ≡ 828 → 13 ≤ g
-    → ((p : ℕ) → p < 4 → flagged (bytes ++ more) (flags ++ fore) (4 * g - 52 + p) ≡ give p)
-    → mended_early (bytes ++ more) (map is_set (flags ++ fore)) ≡ mended_early bytes (map is_set flags)
-    ++ map give (0 ∷ 1 ∷ 2 ∷ 3 ∷ [])
-early_four bytes more flags fore g give e f l h is =
-    early_more bytes more flags fore g e f l
-    ∙ ap (λ i. mended_early bytes (map is_set flags) ++ map (flagged (bytes ++ more) (flags ++ fore))
-    (range_with_len (4 * g - 52) i)) (four g h)
-    ∙ ap (λ xs. mended_early bytes (map is_set flags) ++ xs)
-    (map-range_moved (flagged (bytes ++ more) (flags ++ fore)) give (4 * g - 52) 0 4
-    (λ p m. is p m ∙ ap give (from p)))
-  where
-    four : (g : ℕ) → 13 ≤ g → 4 * g + 4 - 52 - (4 * g - 52) ≡ 4
-    four g h = omega arith
-
-    from : (p : ℕ) → p ≡ 0 + p
-    from p = omega arith
 
 -- ---- the end of a run
 

@@ -1,6 +1,6 @@
 -- The packet of a word, by what mended it.
-use Rattle.std.proofs.Common.{◌≡◌, ℕ, ℤ, pos, negsuc, suc, ◌+◌, ◌<◌, Bool, true, false, cond, List, [], ◌∷◌, length}
-use Rattle.std.proofs.Common.{map, take, get_or, refl, sym, ap, ap₂, ◌∙◌, arith, lit<}
+use Rattle.std.proofs.Common.{◌≡◌, ℕ, ℤ, pos, negsuc, suc, ◌+◌, ◌<◌, Bool, true, false, cond, List, [], ◌∷◌, ◌++◌}
+use Rattle.std.proofs.Common.{length, map, take, get_or, refl, sym, ap, ap₂, ◌∙◌, arith, lit<}
 use Rattle.std.specs.Prelude.{Result, Ok, Err, MatchResult}
 use Rattle.std.proofs.lemmas.Bool.{ne_eqb}
 use Rattle.std.proofs.lemmas.List.{ext_get_or, get_or-map, length-map}
@@ -43,6 +43,12 @@ map_four f g h =
     (ap₂ (λ (r : Received) (rs : List Received). r ∷ rs) (h 1 (lit< tt))
     (ap₂ (λ (r : Received) (rs : List Received). r ∷ rs) (h 2 (lit< tt))
     (ap (λ (r : Received). r ∷ []) (h 3 (lit< tt)))))
+
+-- behind others
+pub push_four : (rs : List Received) (a b c d : Received)
+    → (((rs ++ a ∷ []) ++ b ∷ []) ++ c ∷ []) ++ d ∷ [] ≡ rs ++ a ∷ b ∷ c ∷ d ∷ []
+push_four [] a b c d = refl
+push_four (r ∷ rs) a b c d = ap (λ (xs : List Received). r ∷ xs) (push_four rs a b c d)
 
 -- ---- a symbol as its mark
 

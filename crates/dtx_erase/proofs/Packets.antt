@@ -1,156 +1,176 @@
--- The packets that a group of a run gives, and its end.
+-- The packets that groups of a run give, and its end.
 use Rattle.std.proofs.Common.{◌≡◌, ◌≢◌, ℕ, ℤ, ◌+◌, ◌-◌, ◌*◌, ◌%◌, ◌<◌, ◌≤◌, ◌⊎◌, List, [], ◌∷◌, ◌++◌, length, map}
 use Rattle.std.proofs.Common.{refl, sym, ap, ap₂, ◌∙◌, subst, inl, inr, arith}
+use Rattle.std.specs.List.{range_with_len}
 use Rattle.std.proofs.lemmas.Bool.{cases_lt}
-use Rattle.std.proofs.lemmas.List.{length-append}
-use Rattle.dtx_slice.specs.Slicing.{sliced_data}
+use Rattle.std.proofs.lemmas.List.{length-append, map-append}
+use Rattle.dtx_lists.proofs.Range.{range_with_len-parts}
+use Rattle.dtx_lists.proofs.RangeMoved.{map-range_moved}
 use Rattle.dtx_outer.specs.Inner.{word_at}
 use Rattle.dtx_receiver.specs.declared.batch.Received.{Received}
-use Rattle.dtx_receiver.proofs.AnswersLemmas.{Carries}
-use Rattle.dtx_receiver.specs.Bytes.{groups_of, levels_from, levels_in, bytes_in}
-use Rattle.dtx_receiver.proofs.SegmentsLemmas.{Grown, grown}
+use Rattle.dtx_receiver.specs.Bytes.{groups_of, bytes_in}
+use Rattle.dtx_receiver.proofs.AnswersLemmas.{AreCarried}
 use Rattle.dtx_erase.specs.Marks.{shown, shown_run, is_set}
 use Rattle.dtx_erase.specs.Mended.{mended_early, mended_run_packets, mended_run, mended_run_early}
-use Rattle.dtx_erase.specs.Sides.{Side, Holds, Decoding, Decodes, mended_word, word_of}
-use Rattle.dtx_erase.proofs.MarksLemmas.{marks_are, shown_groups, shown_push}
-use Rattle.dtx_erase.proofs.MendedLemmas.{early_short, early_four, end_none, end_one}
-use Rattle.dtx_receiver.proofs.LevelsLemmas.{part_now, not_due_now}
-use Rattle.dtx_erase.proofs.Stands.{groups_whole}
-use Rattle.dtx_erase.proofs.Decoding.{Both, decodes_data, decodes_group, early_data, early_is, flags_long, shown_due}
+use Rattle.dtx_erase.specs.Sides.{AreGiven, Side, Decoding, Decodes, Holds, IsFurther, mended_word, packet_of, word_of}
+use Rattle.dtx_erase.proofs.MarksLemmas.{marks_are, shown_groups}
+use Rattle.dtx_erase.proofs.MendedLemmas.{flagged, early_more, end_none, end_one}
+use Rattle.dtx_erase.proofs.Decoding.{Both, decodes_further, early_is, flags_long, shown_due}
 
-bytes_more : (x : List ℤ) (run : List (List ℤ)) (place : ℕ) → length run % 313 ≡ place + 1 → place % 4 ≡ 3
-    → length (levels_in run) ≡ 3312 * groups_of run
-    → (more : List ℕ) × (bytes_in (run ++ x ∷ []) ≡ bytes_in run ++ more)
-bytes_more x run place e n l =
-    let g : Grown run (run ++ x ∷ []) (levels_from run (4 * groups_of run) 3 ++ sliced_data x) =
-    grown run x (levels_from run (4 * groups_of run) 3 ++ sliced_data x) (not_due_now run place e)
-    (part_now run place e ∙ n) l refl in
-    (_, g.bytes)
+-- what is kept where the words of more groups are gathered, and their packets aren't given
+abbrev pub behind : Decoding → Side → Side → Decoding
+behind kept bytes marks = record { bytes = bytes; marks = marks; waits = kept.waits; place = kept.place }
 
--- four packets, whatever was kept
-abbrev pub four_of : Decoding → Side → Side → ℕ → Received
-four_of kept bytes marks p =
-    mended_word (187 * ((kept.place + p) % 312)) (word_of bytes.gathered p) (word_of marks.gathered p)
-
-early_group : (x : List ℤ) (kept new : Decoding) (run : List (List ℤ)) (place : ℕ) (brought : List Received)
-    → Both x kept new run place → place % 4 ≡ 3 → Decodes new (run ++ x ∷ []) → (0 < kept.waits → brought ≡ [])
-    → (kept.waits ≡ 0 → brought ≡ map (four_of kept new.bytes new.marks) (0 ∷ 1 ∷ 2 ∷ 3 ∷ []))
-    → mended_run_early (run ++ x ∷ []) ≡ mended_run_early run ++ brought
-early_group x kept new run place brought b n d none some =
-    early_is new (run ++ x ∷ []) d
-    ∙ ap₂ (λ bytes flags. mended_early bytes (map is_set flags)) here.1 (ap bytes_in (shown_push run x) ∙ there.1)
-    ∙ by_cases (cases_lt (groups_of run) 13)
-    ∙ ap (λ bytes. bytes ++ brought) (sym (early_is kept run b.old))
+pub early_further : (kept new : Decoding) (h : ℕ) (run longer : List (List ℤ)) (brought : List Received)
+    → Both kept new h run longer
+    → brought ≡ map (packet_of (behind kept new.bytes new.marks)) (range_with_len (4 * kept.waits)
+    (4 * (h - kept.waits)))
+    → mended_run_early longer ≡ mended_run_early run ++ brought
+unfolding packet_of
+early_further kept new h run longer brought b e =
+    early_is new longer (decodes_further kept new h run longer b)
+    ∙ ap₂ (λ bytes flags. mended_early bytes (map is_set flags)) b.bytes.bytes b.marks.bytes
+    ∙ early_more (bytes_in run) b.bytes.more (bytes_in (shown_run run)) b.marks.more (groups_of run) h
+    b.old.bytes.gathers.given (flags_long kept run b.old) long
+    ∙ ap₂ (λ (xs ys : List Received). xs ++ ys) (sym (early_is kept run b.old))
+    (map-range_moved (flagged (bytes_in run ++ b.bytes.more) (bytes_in (shown_run run) ++ b.marks.more))
+    (packet_of (behind kept new.bytes new.marks)) (4 * groups_of run - 52) (4 * (13 - groups_of run))
+    (4 * (h - (13 - groups_of run))) one
+    ∙ ap (λ w. map (packet_of (behind kept new.bytes new.marks)) (range_with_len (4 * w) (4 * (h - w))))
+    (sym b.old.waits) ∙ sym e)
   where
-    here : (more : List ℕ) × (bytes_in (run ++ x ∷ []) ≡ bytes_in run ++ more)
-    here = bytes_more x run place b.due n b.old.bytes.levels.long
-
-    there : (more : List ℕ) × (bytes_in (shown_run run ++ map shown x ∷ []) ≡ bytes_in (shown_run run) ++ more)
-    there = bytes_more (map shown x) (shown_run run) place (shown_due run place b.due) n b.old.marks.levels.long
-
-    whole : groups_of (run ++ x ∷ []) ≡ groups_of run + 1
-    whole = groups_whole run x place b.due n
-
-    long : length here.0 ≡ 828
+    long : length b.bytes.more ≡ 828 * h
     long = omega (
       arith,
-      length-append (bytes_in run) here.0,
-      ap length here.1,
-      d.bytes.gathers.given,
+      length-append (bytes_in run) b.bytes.more,
+      ap length b.bytes.bytes,
+      b.bytes.holds.gathers.given,
       b.old.bytes.gathers.given,
-      whole,
+      b.bytes.count,
     )
 
-    word : (p : ℕ) → p < 4 → 13 ≤ groups_of run → word_of new.bytes.gathered p
-        ≡ word_at 207 52 4 (bytes_in run ++ here.0) (4 * groups_of run - 52 + p)
-    word p l m =
-        d.bytes.gathers.words (4 * groups_of run - 52 + p) p l (omega (arith, l, m, whole))
-        ∙ ap (λ y. word_at 207 52 4 y (4 * groups_of run - 52 + p)) here.1
-
-    flags : (p : ℕ) → p < 4 → 13 ≤ groups_of run → word_of new.marks.gathered p
-        ≡ word_at 207 52 4 (bytes_in (shown_run run) ++ there.0) (4 * groups_of run - 52 + p)
-    flags p l m =
-        d.marks.gathers.words (4 * groups_of run - 52 + p) p l
-        (omega (arith, l, m, whole, shown_groups (run ++ x ∷ [])))
-        ∙ ap (λ y. word_at 207 52 4 y (4 * groups_of run - 52 + p)) (ap bytes_in (shown_push run x) ∙ there.1)
-
-    from : (p : ℕ) → (4 * groups_of run - 52 + p) % 312 ≡ (kept.place + p) % 312
-    from p = omega (arith, b.old.place)
-
-    by_cases : (groups_of run < 13) ⊎ (13 ≤ groups_of run)
-        → mended_early (bytes_in run ++ here.0) (map is_set (bytes_in (shown_run run) ++ there.0))
-        ≡ mended_early (bytes_in run) (map is_set (bytes_in (shown_run run))) ++ brought
-    by_cases (inl l) =
-        early_short (bytes_in run) here.0 (bytes_in (shown_run run)) there.0 (groups_of run) b.old.bytes.gathers.given
-        (flags_long kept run b.old) long l
-        ∙ ap (λ xs. mended_early (bytes_in run) (map is_set (bytes_in (shown_run run))) ++ xs)
-        (sym (none (omega (arith, b.old.waits, l))))
-    by_cases (inr l) =
-        early_four (bytes_in run) here.0 (bytes_in (shown_run run)) there.0 (groups_of run)
-        (four_of kept new.bytes new.marks) b.old.bytes.gathers.given
-        (flags_long kept run b.old) long l
-        (λ p m. ap (λ i. flagged_from i p) (from p)
-        ∙ ap₂ (mended_word (187 * ((kept.place + p) % 312))) (sym (word p m l)) (sym (flags p m l)))
-        ∙ ap (λ xs. mended_early (bytes_in run) (map is_set (bytes_in (shown_run run))) ++ xs)
-        (sym (some (omega (arith, b.old.waits, l))))
+    one : (i : ℕ) → i < 4 * (h - (13 - groups_of run))
+        → flagged (bytes_in run ++ b.bytes.more) (bytes_in (shown_run run) ++ b.marks.more) (4 * groups_of run - 52 + i)
+        ≡ packet_of (behind kept new.bytes new.marks) (4 * (13 - groups_of run) + i)
+    one i l =
+        ap (λ n. mended_word (187 * n) (word_at 207 52 4 (bytes_in run ++ b.bytes.more) (4 * groups_of run - 52 + i))
+        (word_at 207 52 4 (bytes_in (shown_run run) ++ b.marks.more) (4 * groups_of run - 52 + i)))
+        (place b.old.place b.old.waits)
+        ∙ ap₂ (mended_word (187 * ((kept.place + (4 * (13 - groups_of run) + i - 4 * kept.waits)) % 312)))
+        (ap (λ y. word_at 207 52 4 y (4 * groups_of run - 52 + i)) (sym b.bytes.bytes)
+        ∙ sym (b.bytes.words (4 * groups_of run - 52 + i) (4 * (13 - groups_of run) + i) (omega (arith, l))
+        (omega (arith, l))))
+        (ap (λ y. word_at 207 52 4 y (4 * groups_of run - 52 + i)) (sym b.marks.bytes)
+        ∙ sym (b.marks.words (4 * groups_of run - 52 + i) (4 * (13 - groups_of run) + i) (omega (arith, l))
+        (omega (arith, l, shown_groups run))))
       where
-        flagged_from : ℕ → ℕ → Received
-        flagged_from i p =
-            mended_word (187 * i) (word_at 207 52 4 (bytes_in run ++ here.0) (4 * groups_of run - 52 + p))
-            (word_at 207 52 4 (bytes_in (shown_run run) ++ there.0) (4 * groups_of run - 52 + p))
+        place : kept.place ≡ (4 * groups_of run - 52) % 312 → kept.waits ≡ 13 - groups_of run
+            → (4 * groups_of run - 52 + i) % 312
+            ≡ (kept.place + (4 * (13 - groups_of run) + i - 4 * kept.waits)) % 312
+        place p w = omega (arith, p, w)
 
--- ---- a segment, behind a run of which these segments were kept
+-- ---- the packets of one group more
 
-both_of : (x : List ℤ) (old kept new : Decoding) (place : ℕ) → kept ≡ old
-    → ((r : List (List ℤ)) → Holds kept.bytes r → length r % 313 ≡ place + 1 → Holds new.bytes (r ++ x ∷ []))
-    → ((r : List (List ℤ)) → Holds kept.marks r → length r % 313 ≡ place + 1 → Holds new.marks (r ++ map shown x ∷ []))
-    → (run : List (List ℤ)) → Decodes old run → length run % 313 ≡ place + 1 → Both x kept new run place
-both_of x old kept new place is bytes marks run d e =
-    let here : Decodes kept run = subst (λ (k : Decoding). Decodes k run) (sym is) d in
+pub none_given : (kept : Decoding) (given : List Received) → kept.place < 312 → given ≡ [] → AreGiven kept kept 0 given
+none_given kept given l e = record {
+  bytes = refl;
+  marks = refl;
+  waits = omega arith;
+  place = omega (arith, l);
+  packets = e ∙ ap (λ n. map (packet_of kept) (range_with_len (4 * kept.waits) n)) (nothing kept.waits);
+}
+  where
+    nothing : (w : ℕ) → 0 ≡ 4 * (0 - w)
+    nothing w = omega arith
+
+-- the four packets of a group
+abbrev pub of_group : Decoding → ℕ → ℕ → Received
+of_group now j p =
+    mended_word (187 * ((now.place + p) % 312)) (word_of now.bytes.gathered (4 * j + p))
+    (word_of now.marks.gathered (4 * j + p))
+
+pub next_given : (kept now new : Decoding) (j : ℕ) (before after : List Received) → AreGiven kept now j before
+    → (new.bytes ≡ now.bytes) × (new.marks ≡ now.marks)
+    → (0 < now.waits → (new.waits + 1 ≡ now.waits) × (new.place ≡ now.place) × (after ≡ before))
+    → (now.waits ≡ 0 → (new.waits ≡ 0) × (new.place ≡ (now.place + 4) % 312)
+    × (after ≡ before ++ map (of_group now j) (0 ∷ 1 ∷ 2 ∷ 3 ∷ [])))
+    → AreGiven kept new (j + 1) after
+unfolding packet_of
+next_given kept now new j before after g sides waiting given = by_waits (cases_lt 0 now.waits)
+  where
+    by_waits : (0 < now.waits) ⊎ (now.waits ≤ 0) → AreGiven kept new (j + 1) after
+    by_waits (inl l) = let a = waiting l in record {
+      bytes = sides.0 ∙ g.bytes;
+      marks = sides.1 ∙ g.marks;
+      waits = omega (arith, a.0, g.waits, l);
+      place = a.1 ∙ g.place ∙ ap (λ n. (kept.place + n) % 312) none;
+      packets = a.2 ∙ g.packets ∙ ap (λ n. map (packet_of kept) (range_with_len (4 * kept.waits) n)) none;
+    }
+      where
+        none : 4 * (j - kept.waits) ≡ 4 * (j + 1 - kept.waits)
+        none = omega (arith, g.waits, l)
+    by_waits (inr l) = let a = given (omega (arith, l)) in record {
+      bytes = sides.0 ∙ g.bytes;
+      marks = sides.1 ∙ g.marks;
+      waits = omega (arith, a.0, g.waits, l);
+      place = omega (arith, a.1, g.place, more);
+      packets = a.2
+          ∙ ap₂ (λ (xs ys : List Received). xs ++ ys) g.packets
+          (sym (map-range_moved (packet_of kept) (of_group now j) (4 * kept.waits + 4 * (j - kept.waits)) 0 4 one))
+          ∙ sym (ap (λ n. map (packet_of kept) (range_with_len (4 * kept.waits) n)) more
+          ∙ ap (map (packet_of kept)) (range_with_len-parts (4 * kept.waits) (4 * (j - kept.waits)) 4)
+          ∙ map-append (packet_of kept) (range_with_len (4 * kept.waits) (4 * (j - kept.waits)))
+          (range_with_len (4 * kept.waits + 4 * (j - kept.waits)) 4));
+    }
+      where
+        more : 4 * (j + 1 - kept.waits) ≡ 4 * (j - kept.waits) + 4
+        more = omega (arith, g.waits, l)
+
+        at : (i : ℕ) → 4 * kept.waits + 4 * (j - kept.waits) + i ≡ 4 * j + (0 + i)
+        at i = omega (arith, g.waits, l)
+
+        place : (i : ℕ) → (kept.place + (4 * kept.waits + 4 * (j - kept.waits) + i - 4 * kept.waits)) % 312
+            ≡ (now.place + (0 + i)) % 312
+        place i = omega (arith, g.place)
+
+        one : (i : ℕ) → i < 4 → packet_of kept (4 * kept.waits + 4 * (j - kept.waits) + i) ≡ of_group now j (0 + i)
+        one i m =
+            ap (λ n. mended_word (187 * n) (word_of kept.bytes.gathered (4 * kept.waits + 4 * (j - kept.waits) + i))
+            (word_of kept.marks.gathered (4 * kept.waits + 4 * (j - kept.waits) + i))) (place i)
+            ∙ ap₂ (mended_word (187 * ((now.place + (0 + i)) % 312)))
+            (ap₂ (λ (s : Side) (n : ℕ). word_of s.gathered n) (sym g.bytes) (at i))
+            (ap₂ (λ (s : Side) (n : ℕ). word_of s.gathered n) (sym g.marks) (at i))
+
+-- ---- segments, behind a run of which these segments were kept
+
+pub all_taken : (xs : List (List ℤ)) (old kept new : Decoding) (b m : Side) (place h k : ℕ) (brought : List Received)
+    → kept ≡ old → k ≡ h
+    → ((r : List (List ℤ)) → Holds kept.bytes r → length r % 313 ≡ place + 1 → IsFurther b h r (r ++ xs))
+    → ((r : List (List ℤ)) → Holds kept.marks r → length r % 313 ≡ place + 1 → IsFurther m k r (r ++ shown_run xs))
+    → AreGiven (behind kept b m) new h brought
+    → (run : List (List ℤ)) → Decodes old run → length run % 313 ≡ place + 1
+    → AreCarried Decodes mended_run_early xs new run brought
+all_taken xs old kept new b m place h k brought is same bytes marks g run d e =
     record {
-      due = e;
+      holds = decodes_further kept new h run (run ++ xs) both;
+      packets = early_further kept new h run (run ++ xs) brought both
+          (g.packets ∙ ap₂ (λ (c n : Side). map (packet_of (behind kept c n)) (range_with_len (4 * kept.waits)
+          (4 * (h - kept.waits)))) (sym g.bytes) (sym g.marks));
+    }
+  where
+    here : Decodes kept run
+    here = subst (λ (k : Decoding). Decodes k run) (sym is) d
+
+    both : Both kept new h run (run ++ xs)
+    both = record {
       old = here;
-      bytes = bytes run here.bytes e;
-      marks = marks (shown_run run) here.marks (shown_due run place e);
-    }
-
--- it makes a group whole
-pub group_taken : (x : List ℤ) (old kept new : Decoding) (b m : Side) (place : ℕ) (brought : List Received) → kept ≡ old
-    → ((r : List (List ℤ)) → Holds kept.bytes r → length r % 313 ≡ place + 1 → Holds b (r ++ x ∷ []))
-    → ((r : List (List ℤ)) → Holds kept.marks r → length r % 313 ≡ place + 1 → Holds m (r ++ map shown x ∷ []))
-    → (new.bytes ≡ b) × (new.marks ≡ m) → place % 4 ≡ 3
-    → (0 < kept.waits → (new.waits + 1 ≡ kept.waits) × (new.place ≡ kept.place) × (brought ≡ []))
-    → (kept.waits ≡ 0 → (new.waits ≡ 0) × (new.place ≡ (kept.place + 4) % 312)
-    × (brought ≡ map (four_of kept b m) (0 ∷ 1 ∷ 2 ∷ 3 ∷ [])))
-    → (run : List (List ℤ)) → Decodes old run → length run % 313 ≡ place + 1
-    → Carries Decodes mended_run_early x new run brought
-group_taken x old kept new b m place brought is bytes marks sides last waiting given run d e =
-    let both : Both x kept new run place =
-    both_of x old kept new place is
-    (λ r h l. subst (λ (s : Side). Holds s (r ++ x ∷ [])) (sym sides.0) (bytes r h l))
-    (λ r h l. subst (λ (s : Side). Holds s (r ++ map shown x ∷ [])) (sym sides.1) (marks r h l)) run d e in
-    let there : Decodes new (run ++ x ∷ []) =
-    decodes_group x kept new run place both last (λ l. let a = waiting l in (a.0, a.1))
-    (λ z. let a = given z in (a.0, a.1)) in
-    record {
-      holds = there;
-      packets = early_group x kept new run place brought both last there (λ l. (waiting l).2)
-          (λ z. (given z).2
-          ∙ ap₂ (λ (c n : Side). map (four_of kept c n) (0 ∷ 1 ∷ 2 ∷ 3 ∷ [])) (sym sides.0) (sym sides.1));
-    }
-
--- it doesn't
-pub data_taken : (x : List ℤ) (old kept new : Decoding) (place : ℕ) (brought : List Received) → kept ≡ old
-    → ((r : List (List ℤ)) → Holds kept.bytes r → length r % 313 ≡ place + 1 → Holds new.bytes (r ++ x ∷ []))
-    → ((r : List (List ℤ)) → Holds kept.marks r → length r % 313 ≡ place + 1 → Holds new.marks (r ++ map shown x ∷ []))
-    → place % 4 ≢ 3 → new.waits ≡ kept.waits → new.place ≡ kept.place → brought ≡ []
-    → (run : List (List ℤ)) → Decodes old run → length run % 313 ≡ place + 1
-    → Carries Decodes mended_run_early x new run brought
-data_taken x old kept new place brought is bytes marks more waits next none run d e =
-    let both : Both x kept new run place = both_of x old kept new place is bytes marks run d e in
-    record {
-      holds = decodes_data x kept new run place both more waits next;
-      packets = early_data x kept new run place both more waits next ∙ ap (λ xs. mended_run_early run ++ xs) (sym none);
+      bytes = subst (λ (s : Side). IsFurther s h run (run ++ xs)) (sym g.bytes) (bytes run here.bytes e);
+      marks = subst (λ (s : Side). IsFurther s h (shown_run run) (shown_run (run ++ xs))) (sym g.marks)
+          (subst (IsFurther m h (shown_run run)) (sym (map-append (map shown) run xs))
+          (subst (λ (n : ℕ). IsFurther m n (shown_run run) (shown_run run ++ shown_run xs)) same
+          (marks (shown_run run) here.marks (shown_due run place e))));
+      waits = g.waits;
+      place = g.place;
     }
 
 -- ---- the end of a run

@@ -1,13 +1,16 @@
 -- Marks that are all clear: zeros pass the branches, and after 13 groups of them these hold nothing else.
 use Rattle.std.proofs.Common.{◌≡◌, ◌≢◌, ℕ, ℤ, zero, suc, ◌+◌, ◌-◌, ◌*◌, ◌/◌, ◌%◌, ◌<◌, ◌≤◌, ◌⊎◌, ◌==◌, nat_lt, Bool}
-use Rattle.std.proofs.Common.{pos, negsuc, ◌&&◌}
+use Rattle.std.proofs.Common.{pos, negsuc}
 use Rattle.std.proofs.Common.{true, false, not, cond, List, [], ◌∷◌, ◌++◌, map, length, get_or, set, take, drop}
 use Rattle.std.proofs.Common.{replicate}
-use Rattle.std.proofs.Common.{refl, sym, ap, ap₂, ◌∙◌, subst, inl, inr, arith, add-zero}
-use Rattle.std.specs.List.{range_with_len}
-use Rattle.std.proofs.lemmas.Bool.{and_parts, true≢false, cases_lt, cases_eq, eq-eqb, ne_eqb, lt-ltb, le-ltb}
+use Rattle.std.proofs.Common.{refl, sym, ap, ap₂, ◌∙◌, subst, inl, inr, arith, add-zero, append_assoc}
+use Rattle.std.specs.Int.{w8, cast_signed}
+use Rattle.std.specs.List.{range_with_len, AllByRecursion}
+use Rattle.std.proofs.lemmas.Bool.{true≢false, cases_lt, cases_eq, eq-eqb, ne_eqb, lt-ltb, le-ltb}
 use Rattle.std.proofs.lemmas.List.{length-replicate, set-get_or, replicate-append-replicate}
-use Rattle.std.proofs.lemmas.List.{take-replicate, drop-replicate, drop-map, get_or-drop, length-drop}
+use Rattle.std.proofs.lemmas.List.{take-replicate, drop-replicate, drop-map, get_or-drop, length-drop, append-nil}
+use Rattle.std.proofs.lemmas.List.{length-append, length-map, length_push, get_or-map, get_or_append_left}
+use Rattle.std.proofs.lemmas.List.{get_or-append-add}
 use Rattle.dtx_laws.specs.Branches.{Branching, HasWidths, gathering, leaving_all, after_all, after_byte}
 use Rattle.dtx_laws.proofs.InterleavingLemmas.{HasWidths-all}
 use Rattle.dtx_laws.proofs.PlacesLemmas.{Holds, Holds-step, Holds-turn, after_append}
@@ -15,12 +18,16 @@ use Rattle.dtx_slice.specs.Unrolled.{symbol_place, precoder_bit, pair_from, pair
 use Rattle.dtx_slice.specs.Unrolled.{coder_of, level_groups, precoder_bits_after}
 use Rattle.dtx_slice.specs.Slicing.{sliced, sliced_data}
 use Rattle.dtx_receiver.specs.Bytes.{data_count}
+use Rattle.dtx_receiver.specs.Bytes.{bytes_in}
+use Rattle.dtx_receiver.specs.Receiver.{AreGrouped}
+use Rattle.dtx_receiver.specs.Symbols.{symbols_in, symbols_of}
+use Rattle.dtx_receiver.proofs.GroupedLemmas.{flat, grouping, grouped_data, grouped_group, grouped_none}
 use Rattle.dtx_receiver.proofs.LevelsLemmas.{part_now, not_due_now}
 use Rattle.dtx_erase.specs.Sides as sides
-use Rattle.dtx_erase.specs.Marks.{shown}
-use Rattle.dtx_erase.specs.Sides.{Side, HaveCome, AreClear, IsQuiet, AreKnown}
+use Rattle.dtx_erase.specs.Marks.{shown, shown_run}
+use Rattle.dtx_erase.specs.Sides.{Side, HaveCome, AreClear, IsFurther, IsQuiet, AreKnown}
 use Rattle.dtx_erase.proofs.Mendings.{shown_other}
-use Rattle.dtx_erase.proofs.Stands.{holds_data, holds_group}
+use Rattle.dtx_erase.proofs.Stands.{further}
 
 abbrev zeros : ℕ → List ℕ
 zeros n = replicate {A = ℕ} n 0
@@ -228,15 +235,15 @@ clear_leaves (suc n) v c l =
     (ap (λ (u : Branching). leaving_all 52 u (zeros n)) (byte_clear v c l)
     ∙ clear_leaves n (record { next = next_of v.next; lists = v.lists }) c (omega (arith, next_is v.next l)))
 
--- a group of zeros leaves such branches as its last 48 bytes do
-pub group_of_zeros : (v : Branching) → AreClear v → v.next < 52
-    → after_all 52 v (zeros 828) ≡ after_all 52 v (zeros 48)
-group_of_zeros v c l =
-    clear_stays 828 v c l
+-- groups of zeros leave such branches as those zeros do that are over whole turns
+pub groups_of_zeros : (h : ℕ) (v : Branching) → AreClear v → v.next < 52
+    → after_all 52 v (zeros (48 * h % 52)) ≡ after_all 52 v (zeros (828 * h))
+groups_of_zeros h v c l =
+    clear_stays (48 * h % 52) v c l
     ∙ ap (λ (r : ℕ). record { next = r; lists = v.lists }) (turn v.next)
-    ∙ sym (clear_stays 48 v c l)
+    ∙ sym (clear_stays (828 * h) v c l)
   where
-    turn : (r : ℕ) → (r + 828) % 52 ≡ (r + 48) % 52
+    turn : (r : ℕ) → (r + 48 * h % 52) % 52 ≡ (r + 828 * h) % 52
     turn r = omega arith
 
 -- ---- groups of zeros that have come
@@ -253,24 +260,24 @@ widths_come c v h =
     subst (HasWidths 52 (gathering 52 4)) (sym h.come)
     (HasWidths-all 52 (gathering 52 4) h.before (zeros (828 * c)) h.widths)
 
-pub one_more : (c : ℕ) (v : Branching) → HaveCome c v → HaveCome (c + 1) (after_all 52 v (zeros 828))
-one_more c v h = record {
+-- with n groups more
+pub more_come : (c n : ℕ) (v : Branching) → HaveCome c v → HaveCome (c + n) (after_all 52 v (zeros (828 * n)))
+more_come c n v h = record {
   before = h.before;
   widths = h.widths;
-  come = ap (λ (u : Branching). after_all 52 u (zeros 828)) h.come
-      ∙ sym (after_append 52 h.before (zeros (828 * c)) (zeros 828))
-      ∙ ap (after_all 52 h.before) (more_zeros (828 * c) 828 (828 * (c + 1)) (omega arith));
+  come = ap (λ (u : Branching). after_all 52 u (zeros (828 * n))) h.come
+      ∙ sym (after_append 52 h.before (zeros (828 * c)) (zeros (828 * n)))
+      ∙ ap (after_all 52 h.before) (more_zeros (828 * c) (828 * n) (828 * (c + n)) (omega arith));
 }
 
-pub no_more : (c : ℕ) (v : Branching) → HaveCome c v → HaveCome c (after_all 52 v (zeros 828))
-no_more c v h = record {
-  before = after_all 52 h.before (zeros 828);
-  widths = HasWidths-all 52 (gathering 52 4) h.before (zeros 828) h.widths;
-  come = ap (λ (u : Branching). after_all 52 u (zeros 828)) h.come
-      ∙ sym (after_append 52 h.before (zeros (828 * c)) (zeros 828))
-      ∙ ap (after_all 52 h.before) (more_zeros (828 * c) 828 (828 * c + 828) refl
-      ∙ sym (more_zeros 828 (828 * c) (828 * c + 828) (omega arith)))
-      ∙ after_append 52 h.before (zeros 828) (zeros (828 * c));
+-- fewer may be counted
+pub fewer_come : (c n : ℕ) (v : Branching) → n ≤ c → HaveCome c v → HaveCome n v
+fewer_come c n v l h = record {
+  before = after_all 52 h.before (zeros (828 * (c - n)));
+  widths = HasWidths-all 52 (gathering 52 4) h.before (zeros (828 * (c - n))) h.widths;
+  come = h.come
+      ∙ ap (after_all 52 h.before) (sym (more_zeros (828 * (c - n)) (828 * n) (828 * c) (omega (arith, l))))
+      ∙ after_append 52 h.before (zeros (828 * (c - n))) (zeros (828 * n));
 }
 
 pub clear_come : (v : Branching) → HaveCome 13 v → AreClear v
@@ -334,59 +341,149 @@ zeros_put n l =
     ∙ ap (λ (xs : List ℕ). xs ++ zeros (3312 - (828 * n + 828))) (more_zeros (828 * n) 828 (828 * n + 828) refl)
     ∙ more_zeros (828 * n + 828) (3312 - (828 * n + 828)) 3312 (omega (arith, l))
 
--- a segment without marks, within a group
-pub quiet_data : (x : List ℤ) (kept : Side) (run : List (List ℤ)) (place : ℕ) → IsQuiet kept → sides.Holds kept run
-    → length run % 313 ≡ place + 1 → place % 4 ≢ 3 → sliced_data x ≡ zeros 828 → sides.Holds kept (run ++ x ∷ [])
-quiet_data x kept run place q d e n z =
-    let part : data_count run % 4 ≡ place % 4 = part_now run place e in
-    holds_data x kept kept run d (not_due_now run place e) (λ h. n (sym part ∙ h))
-    (ap length q.levels ∙ length-replicate {A = ℕ} 3312 0) (ap length z ∙ length-replicate {A = ℕ} 828 0)
-    (q.levels
-    ∙ sym (ap₂ (λ (ls more : List ℕ). take (828 * (data_count run % 4)) ls ++ more
-    ++ drop (828 * (data_count run % 4) + 828) ls) q.levels z
-    ∙ zeros_put (data_count run % 4) (omega arith)))
-    refl refl refl
-
--- and the one that makes a group whole
-pub quiet_group : (x : List ℤ) (kept new : Side) (run : List (List ℤ)) (place : ℕ) → IsQuiet kept
-    → sides.Holds kept run → length run % 313 ≡ place + 1 → place % 4 ≡ 3 → sliced_data x ≡ zeros 828
-    → new ≡ record kept { branches = after_all 52 kept.branches (zeros 48) } → sides.Holds new (run ++ x ∷ [])
-quiet_group x kept new run place q d e n z f =
-    subst (λ (k : Side). sides.Holds k (run ++ x ∷ [])) (sym f)
-    (holds_group x kept (record kept { branches = after_all 52 kept.branches (zeros 48) }) run place (zeros 3312)
-    (record {
-      due = e;
-      last = n;
-      long = ap length q.levels ∙ length-replicate {A = ℕ} 3312 0;
-      segment = ap length z ∙ length-replicate {A = ℕ} 828 0;
-      group = length-replicate {A = ℕ} 3312 0;
-      levels = sym (ap₂ (λ (ls more : List ℕ). take (828 * (place % 4)) ls ++ more
-          ++ drop (828 * (place % 4) + 828) ls) q.levels z
-          ∙ zeros_put (place % 4) (omega (arith, n)));
-    })
-    d (ap length q.gathered ∙ length-replicate {A = ℕ} 984 0) q.levels
-    (q.precoder_bits ∙ sym (bits_zero (place - place % 4) kept.precoder_bits))
-    (sym (group_of_zeros kept.branches q.branches q.below) ∙ ap (after_all 52 kept.branches) (sym bytes))
-    (q.gathered
-    ∙ sym (ap₂ (λ (xs ys : List ℕ). drop 828 xs ++ ys) q.gathered (ap (leaving_all 52 kept.branches) bytes
-    ∙ clear_leaves 828 kept.branches q.branches q.below)
-    ∙ ap (λ (xs : List ℕ). xs ++ zeros 828) (drop-replicate 828 984 0) ∙ more_zeros 156 828 984 refl)))
+-- a segment without marks
+quiet_one : (x : List ℤ) (kept : Side) (run : List (List ℤ)) (given : List ℕ) (place : ℕ) → IsQuiet kept
+    → sliced_data x ≡ zeros 828 → AreGrouped kept.groups run given → length run % 313 ≡ place + 1
+    → AreGrouped kept.groups (run ++ x ∷ []) (given ++ zeros (828 * ((place % 4 + 1) / 4)))
+quiet_one x kept run given place q z d e = by_place (cases_eq (place % 4) 3)
   where
-    bytes : bytes_back (place - place % 4) kept.precoder_bits (zeros 3312) ≡ zeros 828
-    bytes = ap (λ (f : List ℕ). bytes_back (place - place % 4) f (zeros 3312)) q.precoder_bits
-        ∙ bytes_zero (place - place % 4)
+    levels_long : length kept.groups.levels ≡ 3312
+    levels_long = ap length q.levels ∙ length-replicate {A = ℕ} 3312 0
 
-pub quiet_still : (kept new : Side) → IsQuiet kept
-    → new ≡ record kept { branches = after_all 52 kept.branches (zeros 48) } → IsQuiet new
-quiet_still kept new q f =
+    segment : length (sliced_data x) ≡ 828
+    segment = ap length z ∙ length-replicate {A = ℕ} 828 0
+
+    put : (n : ℕ) → n < 4 → kept.groups.levels ≡ take (828 * n) kept.groups.levels ++ sliced_data x
+        ++ drop (828 * n + 828) kept.groups.levels
+    put n l =
+        q.levels
+        ∙ sym (ap₂ (λ (ls more : List ℕ). take (828 * n) ls ++ more ++ drop (828 * n + 828) ls) q.levels z
+        ∙ zeros_put n l)
+
+    by_place : (place % 4 ≡ 3) ⊎ (place % 4 ≢ 3)
+        → AreGrouped kept.groups (run ++ x ∷ []) (given ++ zeros (828 * ((place % 4 + 1) / 4)))
+    by_place (inl n) =
+        let bytes : List ℕ = bytes_back (place - place % 4) kept.groups.precoder_bits (zeros 3312) in
+        let whole : bytes_back (place - place % 4) kept.groups.precoder_bits (zeros 3312) ≡ zeros 828 =
+        ap (λ (f : List ℕ). bytes_back (place - place % 4) f (zeros 3312)) q.precoder_bits
+        ∙ bytes_zero (place - place % 4) in
+        let g = grouped_group x kept.groups
+        (grouping kept.groups.levels kept.groups.precoder_bits (kept.groups.held ++ bytes ∷ [])) run given place
+        (zeros 3312)
+        (record {
+          due = e;
+          last = n;
+          long = levels_long;
+          segment = segment;
+          group = length-replicate {A = ℕ} 3312 0;
+          levels = sym q.levels ∙ put (place % 4) (omega (arith, n));
+        })
+        d q.levels (q.precoder_bits ∙ sym (bits_zero (place - place % 4) kept.groups.precoder_bits))
+        (ap length whole ∙ length-replicate {A = ℕ} 828 0) refl in
+        record {
+          levels = g.levels;
+          bytes = g.bytes
+              ∙ ap₂ (λ (held : List (List ℕ)) (more : List ℕ). given ++ flat (held ++ more ∷ [])) q.held whole
+              ∙ ap (λ (more : List ℕ). given ++ more) (append-nil (zeros 828))
+              ∙ ap (λ (m : ℕ). given ++ zeros (828 * m)) (one (place % 4) n)
+              ∙ sym (append-nil (given ++ zeros (828 * ((place % 4 + 1) / 4))))
+              ∙ ap (λ (held : List (List ℕ)). (given ++ zeros (828 * ((place % 4 + 1) / 4))) ++ flat held)
+              (sym q.held);
+          long = d.long;
+        }
+      where
+        one : (p : ℕ) → p ≡ 3 → 1 ≡ (p + 1) / 4
+        one p n = omega (arith, n)
+    by_place (inr n) =
+        let part : data_count run % 4 ≡ place % 4 = part_now run place e in
+        subst (λ (m : ℕ). AreGrouped kept.groups (run ++ x ∷ []) (given ++ zeros (828 * m))) (none (place % 4) n below)
+        (subst (λ (more : List ℕ). AreGrouped kept.groups (run ++ x ∷ []) more) (sym (append-nil given))
+        (grouped_data x kept.groups kept.groups run given d (not_due_now run place e) (λ h. n (sym part ∙ h))
+        levels_long segment (put (data_count run % 4) (omega arith)) refl refl))
+      where
+        below : place % 4 < 4
+        below = omega arith
+
+        none : (p : ℕ) → p ≢ 3 → p < 4 → 0 ≡ (p + 1) / 4
+        none p n l = omega (arith, n, l)
+
+quiet_many : (xs : List (List ℤ)) (kept : Side) (run : List (List ℤ)) (given : List ℕ) (place : ℕ) → IsQuiet kept
+    → AllByRecursion (λ x. sliced_data x ≡ zeros 828) xs → AreGrouped kept.groups run given
+    → (0 < length xs → length run % 313 ≡ place + 1) → place + length xs ≤ 312
+    → AreGrouped kept.groups (run ++ xs) (given ++ zeros (828 * ((place % 4 + length xs) / 4)))
+quiet_many [] kept run given place q z d e l =
+    subst (λ (m : ℕ). AreGrouped kept.groups (run ++ []) (given ++ zeros (828 * m))) (none place)
+    (subst (λ (more : List ℕ). AreGrouped kept.groups (run ++ []) more) (sym (append-nil given))
+    (subst (λ (r : List (List ℤ)). AreGrouped kept.groups r given) (sym (append-nil run)) d))
+  where
+    none : (p : ℕ) → 0 ≡ (p % 4 + 0) / 4
+    none p = omega arith
+quiet_many (x ∷ xs) kept run given place q z d e l =
+    let a : ℕ = (place % 4 + 1) / 4 in
+    let b : ℕ = ((place + 1) % 4 + length xs) / 4 in
+    subst (λ (more : List ℕ). AreGrouped kept.groups (run ++ x ∷ xs) more)
+    (append_assoc given (zeros (828 * ((place % 4 + 1) / 4)))
+    (zeros (828 * (((place + 1) % 4 + length xs) / 4)))
+    ∙ ap (λ (more : List ℕ). given ++ more)
+    (more_zeros (828 * ((place % 4 + 1) / 4)) (828 * (((place + 1) % 4 + length xs) / 4))
+    (828 * ((place % 4 + suc (length xs)) / 4)) (both place (length xs))))
+    (subst (λ (r : List (List ℤ)). AreGrouped kept.groups r ((given ++ zeros (828 * ((place % 4 + 1) / 4)))
+    ++ zeros (828 * (((place + 1) % 4 + length xs) / 4)))) (append_assoc run (x ∷ []) xs)
+    (quiet_many xs kept (run ++ x ∷ []) (given ++ zeros (828 * ((place % 4 + 1) / 4))) (place + 1) q z.1
+    (quiet_one x kept run given place q z.0 d due)
+    (λ m. omega (arith, length_push run x, due, l, m)) (omega (arith, l))))
+  where
+    due : length run % 313 ≡ place + 1
+    due = e (omega arith)
+
+    both : (p n : ℕ) → 828 * ((p % 4 + 1) / 4) + 828 * (((p + 1) % 4 + n) / 4) ≡ 828 * ((p % 4 + suc n) / 4)
+    both p n = omega arith
+
+-- where so many groups of zeros have passed
+abbrev pub moved_on : Side → ℕ → Side
+moved_on kept h =
+    record kept { branches = after_all 52 kept.branches (zeros (48 * h % 52)); gathered = zeros 10920 }
+
+pub quiet_further : (kept new : Side) (h place : ℕ) (run xs : List (List ℤ)) → IsQuiet kept
+    → AllByRecursion (λ x. sliced_data x ≡ zeros 828) xs → sides.Holds kept run
+    → length run % 313 ≡ place + 1 → place + length xs ≤ 312 → length xs ≤ 52 → h ≡ (place % 4 + length xs) / 4
+    → new ≡ moved_on kept h → IsFurther new h run (run ++ xs)
+quiet_further kept new h place run xs q z d e l m i f =
+    subst (λ (k : Side). IsFurther k h run (run ++ xs)) (sym f)
+    (further kept (moved_on kept h) h run (run ++ xs) (zeros (828 * h)) d g.levels q.held
+    (g.bytes ∙ ap (λ (held : List (List ℕ)). (bytes_in run ++ zeros (828 * ((place % 4 + length xs) / 4))) ++ flat held)
+    q.held ∙ append-nil (bytes_in run ++ zeros (828 * ((place % 4 + length xs) / 4)))
+    ∙ ap (λ (n : ℕ). bytes_in run ++ zeros (828 * n)) (sym i))
+    (record {
+      few = few;
+      long = ap length q.begun ∙ length-replicate {A = ℕ} 156 0;
+      bytes = length-replicate {A = ℕ} (828 * h) 0;
+      branches = groups_of_zeros h kept.branches q.branches q.below;
+      gathered = take-replicate (156 + 828 * h) 10920 0 (omega (arith, few))
+          ∙ sym (ap₂ (λ (us ys : List ℕ). us ++ ys) q.begun (clear_leaves (828 * h) kept.branches q.branches q.below)
+          ∙ more_zeros 156 (828 * h) (156 + 828 * h) refl);
+      ends_are = q.begun
+          ∙ sym (ap (take 156) (drop-replicate (828 * h) 10920 0)
+          ∙ take-replicate 156 (10920 - 828 * h) 0 (omega (arith, few)));
+    }))
+  where
+    few : h ≤ 13
+    few = omega (arith, i, m)
+
+    g : AreGrouped kept.groups (run ++ xs) (bytes_in run ++ zeros (828 * ((place % 4 + length xs) / 4)))
+    g = quiet_many xs kept run (bytes_in run) place q z (grouped_none kept.groups run d.levels d.none) (λ _. e) l
+
+pub quiet_still : (kept new : Side) (h : ℕ) → IsQuiet kept → new ≡ moved_on kept h → IsQuiet new
+quiet_still kept new h q f =
     subst IsQuiet (sym f) (record {
       levels = q.levels;
       precoder_bits = q.precoder_bits;
-      below = subst (λ (v : Branching). v.next < 52) (sym (clear_stays 48 kept.branches q.branches q.below))
-          (in_turn (kept.branches.next + 48));
+      held = q.held;
+      below = subst (λ (v : Branching). v.next < 52) (sym (clear_stays (48 * h % 52) kept.branches q.branches q.below))
+          (in_turn (kept.branches.next + 48 * h % 52));
       branches = λ i j l. ap (λ (v : Branching). get_or (get_or v.lists i []) j 0)
-          (clear_stays 48 kept.branches q.branches q.below) ∙ q.branches i j l;
-      gathered = q.gathered;
+          (clear_stays (48 * h % 52) kept.branches q.branches q.below) ∙ q.branches i j l;
+      begun = q.begun;
     })
   where
     in_turn : (n : ℕ) → n % 52 < 52
@@ -394,73 +491,49 @@ quiet_still kept new q f =
 
 -- ---- what is known
 
-pub known_afresh : (side : Side) → HasWidths 52 (gathering 52 4) side.branches → AreKnown side false 0 false
-known_afresh side w = record {
-  bits = λ e. absurd (true≢false (sym e));
+pub known_afresh : (side : Side) → side.groups.held ≡ [] → HasWidths 52 (gathering 52 4) side.branches
+    → AreKnown side 0 false
+known_afresh side n w = record {
+  held = n;
   come = none_come side.branches w;
   none = λ e. absurd (true≢false (sym e));
 }
 
-pub known_quiet : (side : Side) (lowest quiet : Bool) → IsQuiet side → HasWidths 52 (gathering 52 4) side.branches
-    → AreKnown side lowest 0 quiet
-known_quiet side lowest quiet q w = record {
-  bits = λ e. q.precoder_bits;
-  come = none_come side.branches w;
-  none = λ e. q;
-}
+pub known_quiet : (side : Side) (quiet : Bool) → IsQuiet side → HasWidths 52 (gathering 52 4) side.branches
+    → AreKnown side 0 quiet
+known_quiet side quiet q w = record { held = q.held; come = none_come side.branches w; none = λ e. q }
 
--- a group has passed
-pub record Passed (s : ℕ) (old new : Side) : Type 0 where
-  pub branches : new.branches ≡ after_all 52 old.branches (bytes_back s old.precoder_bits new.levels)
-  pub precoder_bits : new.precoder_bits ≡ precoder_bits_after s old.precoder_bits new.levels
-
-zeros_passed : (s : ℕ) (old new : Side) → Passed s old new → old.precoder_bits ≡ zeros 12 → new.levels ≡ zeros 3312
-    → new.branches ≡ after_all 52 old.branches (zeros 828)
-zeros_passed s old new p e f =
-    p.branches ∙ ap (after_all 52 old.branches) (ap₂ (bytes_back s) e f ∙ bytes_zero s)
-
-pub known_group : (s : ℕ) (old new : Side) (lowest now both quiet over : Bool) (groups count : ℕ)
-    → AreKnown old lowest groups quiet → Passed s old new → (now ≡ true → new.levels ≡ zeros 3312)
-    → both ≡ (lowest && now) → (both ≡ false → count ≡ 0) → (both ≡ true → groups < 13 → count ≡ groups + 1)
-    → (both ≡ true → 13 ≤ groups → count ≡ groups)
-    → (over ≡ true → (now ≡ true) × (count ≡ 13) × (new.gathered ≡ zeros 984))
-    → AreKnown new now count over
-known_group s old new lowest now both quiet over groups count k p levels b none more all end = record {
-  bits = λ t. bits t;
-  come = come both refl;
-  none = λ t. let h = end t in record {
-    levels = levels h.0;
-    precoder_bits = bits h.0;
-    below = let w : HasWidths 52 (gathering 52 4) new.branches = widths_come count new.branches (come both refl) in
-        w.next;
-    branches = clear_come new.branches (subst (λ (n : ℕ). HaveCome n new.branches) h.1 (come both refl));
-    gathered = h.2;
+-- groups have passed
+pub known_more : (old new : Side) (quiet blank over : Bool) (before h count : ℕ) (more : List ℕ)
+    → AreKnown old before quiet → new.groups.held ≡ [] → new.branches ≡ after_all 52 old.branches more
+    → (blank ≡ true → more ≡ zeros (828 * h)) → (blank ≡ false → count ≡ 0)
+    → (blank ≡ true → count ≤ before + h)
+    → (over ≡ true → (new.groups.levels ≡ zeros 3312) × (new.groups.precoder_bits ≡ zeros 12) × (count ≡ 13)
+    × (new.begun ≡ zeros 156))
+    → AreKnown new count over
+known_more old new quiet blank over before h count more k n b clear none some end = record {
+  held = n;
+  come = come blank refl;
+  none = λ t. let i = end t in record {
+    levels = i.0;
+    precoder_bits = i.1;
+    held = n;
+    below = widths.next;
+    branches = clear_come new.branches (subst (λ (m : ℕ). HaveCome m new.branches) (i.2) (come blank refl));
+    begun = i.3;
   };
 }
   where
-    bits : now ≡ true → new.precoder_bits ≡ zeros 12
-    bits t = p.precoder_bits ∙ ap (precoder_bits_after s old.precoder_bits) (levels t) ∙ bits_zero s old.precoder_bits
-
     widths : HasWidths 52 (gathering 52 4) new.branches
-    widths = subst (HasWidths 52 (gathering 52 4)) (sym p.branches)
-        (HasWidths-all 52 (gathering 52 4) old.branches (bytes_back s old.precoder_bits new.levels)
-        (widths_come groups old.branches k.come))
+    widths = subst (HasWidths 52 (gathering 52 4)) (sym b)
+        (HasWidths-all 52 (gathering 52 4) old.branches more (widths_come before old.branches k.come))
 
-    by_count : both ≡ true → (groups < 13) ⊎ (13 ≤ groups) → HaveCome count new.branches
-    by_count t (inl l) =
-        let h = and_parts lowest now (sym b ∙ t) in
-        subst (λ (n : ℕ). HaveCome n new.branches) (sym (more t l))
-        (subst (HaveCome (groups + 1)) (sym (zeros_passed s old new p (k.bits h.0) (levels h.1)))
-        (one_more groups old.branches k.come))
-    by_count t (inr l) =
-        let h = and_parts lowest now (sym b ∙ t) in
-        subst (λ (n : ℕ). HaveCome n new.branches) (sym (all t l))
-        (subst (HaveCome groups) (sym (zeros_passed s old new p (k.bits h.0) (levels h.1)))
-        (no_more groups old.branches k.come))
-
-    come : (t : Bool) → both ≡ t → HaveCome count new.branches
-    come false t = subst (λ (n : ℕ). HaveCome n new.branches) (sym (none t)) (none_come new.branches widths)
-    come true t = by_count t (cases_lt groups 13)
+    come : (t : Bool) → blank ≡ t → HaveCome count new.branches
+    come false t = subst (λ (m : ℕ). HaveCome m new.branches) (sym (none t)) (none_come new.branches widths)
+    come true t =
+        fewer_come (before + h) count new.branches (some t)
+        (subst (HaveCome (before + h)) (sym (b ∙ ap (after_all 52 old.branches) (clear t)))
+        (more_come before h old.branches k.come))
 
 -- ---- segments of which no symbol is missing
 
@@ -480,3 +553,18 @@ lowest_data x l h =
     ∙ lowest_all (drop 4 x) (λ j m e. h (4 + j) (omega (arith, m, length-drop 4 x, l))
     (sym (get_or-drop 4 x j (pos 0)) ∙ e))
     ∙ ap zeros (length-drop 4 x ∙ ap (λ (n : ℕ). n - 4) l)
+
+-- segments, by their symbols' bytes
+pub none_missing : (segments : List (List ℕ)) → ((j : ℕ) → j < length segments → length (get_or segments j []) ≡ 832)
+    → ((i : ℕ) → i < length (flat segments) → cast_signed w8 (get_or (flat segments) i 0) ≢ negsuc 127)
+    → AllByRecursion (λ x. sliced_data x ≡ zeros 828) (shown_run (symbols_in segments))
+none_missing [] l h = tt
+none_missing (x ∷ xs) l h = (
+  lowest_data (symbols_of x) (length-map x (λ byte. cast_signed w8 byte) ∙ l 0 (omega arith))
+      (λ j m e. h j (omega (arith, m, l 0 (omega arith), length-append x (flat xs)))
+      (ap (cast_signed w8) (get_or_append_left x (flat xs) 0 j (omega (arith, m, l 0 (omega arith))))
+      ∙ sym (get_or-map (λ byte. cast_signed w8 byte) x j 0 (pos 0) (omega (arith, m, l 0 (omega arith)))) ∙ e)),
+  none_missing xs (λ j m. l (suc j) (omega (arith, m)))
+      (λ i m e. h (length x + i) (omega (arith, m, length-append x (flat xs)))
+      (ap (cast_signed w8) (get_or-append-add x (flat xs) i 0) ∙ e)),
+)

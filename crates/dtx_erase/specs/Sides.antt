@@ -1,43 +1,59 @@
 -- What a mending receiver keeps, and the segments that it stands for.
-use Rattle.std.specs.Prelude.{ℕ, ℤ, ◌≡◌, ◌+◌, ◌-◌, ◌*◌, ◌<◌, ◌%◌, Option, List, []}
+use Rattle.std.specs.Prelude.{ℕ, ℤ, ◌≡◌, ◌+◌, ◌-◌, ◌*◌, ◌<◌, ◌%◌, Option, List, [], ◌++◌}
 use Rattle.std.specs.Prelude.{Bool, true, length, take, drop, map, replicate, slice_index, slice_index_or}
+use Rattle.std.specs.List.{range_with_len}
 use Rattle.dtx_laws.specs.Branches.{Branching, HasWidths, gathering, leaving_all, after_all}
 use Rattle.dtx_outer.specs.Inner.{word_at}
 use Rattle.dtx_receiver.specs.declared.batch.Received.{Received}
 use Rattle.dtx_receiver.specs.declared.tracking.Tracking.{Tracking}
 use Rattle.dtx_receiver.specs.Packets.{received_by}
 use Rattle.dtx_receiver.specs.Bytes.{groups_of, bytes_in}
-use Rattle.dtx_receiver.specs.Receiver.{AreLevels, HasRun, IsFollowed}
+use Rattle.dtx_receiver.specs.Receiver.{AreLevels, Grouping, HasRun, IsFollowed}
+use Rattle.dtx_receiver.specs.Runs.{runs}
 use Rattle.dtx_erase.specs.Marks.{shown_run, is_set}
 use Rattle.dtx_erase.specs.Mended.{mending, mended_so_far}
 
--- What is kept of one side of a run, of its bytes or of its marks: the levels of the group that is on, Z2 of the twelve
--- coders before it, the de-interleaver, and the last 984 bytes that it gave. These are the group's four words, and the
--- begin of the next.
+-- What is kept of one side of a run, of its bytes or of its marks. Beside its groups and the de-interleaver these are the
+-- last 156 bytes that it gave, which begin a word. And there is room for what it gives: what it gave last stands there,
+-- behind the bytes that began its first word.
 pub record Side : Type 0 where
-  pub levels : List ℕ
-  pub precoder_bits : List ℕ
+  pub groups : Grouping
   pub branches : Branching
+  pub begun : List ℕ
   pub gathered : List ℕ
 
--- word p of the four
+-- word p of those that were gathered
 abbrev pub word_of : List ℕ → ℕ → List ℕ
 word_of gathered p = take 207 (drop (207 * p) gathered)
 
--- the de-interleaver holds what a run leaves that has given the bytes y, in so many groups of 828
-pub record Gathers (held : Branching) (gathered : List ℕ) (groups : ℕ) (y : List ℕ) : Type 0 where
+-- the de-interleaver holds what a run leaves that has given the bytes y, in so many groups of 828, and these begin the
+-- next word
+pub record Gathers (held : Branching) (begun : List ℕ) (groups : ℕ) (y : List ℕ) : Type 0 where
   pub start : Branching
   pub widths : HasWidths 52 (gathering 52 4) start
   pub aligned : start.next ≡ 0
   pub given : length y ≡ 828 * groups
   pub branches : held ≡ after_all 52 start y
-  pub rest : 0 < groups → drop 828 gathered ≡ drop (828 * groups - 156) (leaving_all 52 start y)
-  pub words : (k p : ℕ) → p < 4 → k + 56 ≡ 4 * groups + p → word_of gathered p ≡ word_at 207 52 4 y k
+  pub rest : 0 < groups → begun ≡ drop (828 * groups - 156) (leaving_all 52 start y)
 
--- what is kept is that of a run with these segments
+-- what is kept is that of a run with these segments: no bytes of its groups are held
 pub record Holds (kept : Side) (run : List (List ℤ)) : Type 0 where
-  pub levels : AreLevels kept.levels kept.precoder_bits run
-  pub gathers : Gathers kept.branches kept.gathered (groups_of run) (bytes_in run)
+  pub levels : AreLevels kept.groups.levels kept.groups.precoder_bits run
+  pub none : kept.groups.held ≡ []
+  pub gathers : Gathers kept.branches kept.begun (groups_of run) (bytes_in run)
+
+-- The words that the bytes y of a run complete by so many groups, which are behind others.
+abbrev pub AreWords : List ℕ → ℕ → ℕ → List ℕ → Type 0
+AreWords gathered before groups y =
+    (k p : ℕ) → p < 4 * groups → k + 52 ≡ 4 * before + p → word_of gathered p ≡ word_at 207 52 4 y k
+
+-- what is kept is that of a longer run, which has so many groups more, and their words are gathered
+pub record IsFurther (new : Side) (groups : ℕ) (run longer : List (List ℤ)) : Type 0 where
+  pub holds : Holds new longer
+  pub more : List ℕ
+  pub bytes : bytes_in longer ≡ bytes_in run ++ more
+  pub count : groups_of longer ≡ groups_of run + groups
+  pub words : AreWords new.gathered (groups_of run) groups (bytes_in longer)
 
 -- zeros came last to the branches, of so many groups
 pub record HaveCome (groups : ℕ) (branches : Branching) : Type 0 where
@@ -51,16 +67,16 @@ AreClear v = (i j : ℕ) → i < 52 → slice_index (slice_index_or v.lists i []
 
 -- no mark is anywhere in what is kept
 pub record IsQuiet (side : Side) : Type 0 where
-  pub levels : side.levels ≡ replicate 3312 0
-  pub precoder_bits : side.precoder_bits ≡ replicate 12 0
+  pub levels : side.groups.levels ≡ replicate 3312 0
+  pub precoder_bits : side.groups.precoder_bits ≡ replicate 12 0
+  pub held : side.groups.held ≡ []
   pub below : side.branches.next < 52
   pub branches : AreClear side.branches
-  pub gathered : side.gathered ≡ replicate 984 0
+  pub begun : side.begun ≡ replicate 156 0
 
--- what is known of the marks' side: whether each Z2 is 0, how many groups without a mark came last, and whether no mark
--- is in it
-pub record AreKnown (side : Side) (lowest : Bool) (groups : ℕ) (quiet : Bool) : Type 0 where
-  pub bits : lowest ≡ true → side.precoder_bits ≡ replicate 12 0
+-- what is known of the marks' side: how many groups without a mark came last, and whether no mark is in it
+pub record AreKnown (side : Side) (groups : ℕ) (quiet : Bool) : Type 0 where
+  pub held : side.groups.held ≡ []
   pub come : HaveCome groups side.branches
   pub none : quiet ≡ true → IsQuiet side
 
@@ -81,6 +97,20 @@ pub record Decodes (kept : Decoding) (run : List (List ℤ)) : Type 0 where
 abbrev pub mended_word : ℕ → List ℕ → List ℕ → Received
 mended_word from word flags = received_by from word (mending 207 187 (map is_set flags) word)
 
+-- The packet of gathered word p. The words before those of the first group that gives packets give none.
+unfoldable pub packet_of : Decoding → ℕ → Received
+packet_of kept p =
+    mended_word (187 * ((kept.place + (p - 4 * kept.waits)) % 312)) (word_of kept.bytes.gathered p)
+    (word_of kept.marks.gathered p)
+
+-- The packets of so many groups were given, whose words are gathered: all of those behind the groups that give none.
+pub record AreGiven (kept new : Decoding) (groups : ℕ) (given : List Received) : Type 0 where
+  pub bytes : new.bytes ≡ kept.bytes
+  pub marks : new.marks ≡ kept.marks
+  pub waits : new.waits ≡ kept.waits - groups
+  pub place : new.place ≡ (kept.place + 4 * (groups - kept.waits)) % 312
+  pub packets : given ≡ map (packet_of kept) (range_with_len (4 * kept.waits) (4 * (groups - kept.waits)))
+
 -- how many segments the run that is on has, modulo 313, and what is kept of it
 pub record Kept : Type 0 where
   pub place : Option ℕ
@@ -94,3 +124,11 @@ Mends receiver segments = HasRun Decodes receiver.place receiver.decoding segmen
 -- more.
 abbrev pub IsTaken : List (List ℤ) → List ℤ → Kept → Tracking → List Received → Type 0
 IsTaken segments x new answer brought = IsFollowed (Mends new) mended_so_far segments x answer brought
+
+-- Behind these segments others are received together: then the receiver stands for the longer list, and brings what is
+-- given more, and so many runs begin.
+pub record AreReceived (segments more : List (List ℤ)) (new : Kept) (begins : ℕ)
+    (brought : List Received) : Type 0 where
+  pub stands : Mends new (segments ++ more)
+  pub packets : mended_so_far (segments ++ more) ≡ mended_so_far segments ++ brought
+  pub runs : length (runs (segments ++ more)) ≡ length (runs segments) + begins

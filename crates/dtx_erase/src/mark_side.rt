@@ -1,43 +1,45 @@
 //! The side of a run's marks, in which mostly no mark is.
 
-ghost use Rattle.std.specs.Prelude.{◌≡◌, ℕ, ℤ, true, IsFalse, IsTrue, ◌↔◌, ◌&&◌, ◌+◌, ◌*◌, ◌%◌, ◌<◌, ◌≤◌, ◌++◌, ◌∷◌};
-ghost use Rattle.std.specs.Prelude.{[], List, length, map, replicate, slice_index_or};
+ghost use Rattle.std.specs.Prelude.{◌≡◌, ℕ, ℤ, IsFalse, IsTrue, ◌↔◌, ◌+◌, ◌*◌, ◌/◌, ◌%◌, ◌<◌, ◌≤◌, ◌++◌, ◌∷◌};
+ghost use Rattle.std.specs.Prelude.{true, ◌≢◌, [], List, length, map, negsuc, replicate, slice_index_or};
+ghost use Rattle.std.specs.Int.{w8, cast_signed};
+ghost use Rattle.std.specs.List.{AllByRecursion};
 ghost use Rattle.dtx_outer.specs.Inner.{word_at};
 ghost use Rattle.dtx_receiver.specs.Bytes.{bytes_in, groups_of};
+ghost use Rattle.dtx_receiver.specs.Receiver.{AreGrouped};
+ghost use Rattle.dtx_receiver.specs.Symbols.{symbols_in};
 ghost use Rattle.dtx_slice.specs.Slicing.{sliced_data};
-ghost use Rattle.dtx_erase.specs.Marks.{shown};
-ghost use Rattle.dtx_erase.specs.Sides.{Holds, IsQuiet, word_of};
+ghost use Rattle.dtx_erase.specs.Marks.{shown, shown_run};
+ghost use Rattle.dtx_erase.specs.Sides.{Holds, IsFurther, IsQuiet, word_of};
 
 use crate::side::Side;
-use dtx_sizes::{CODEWORD, FIELD_PACKETS, GROUP_PACKETS, SEGMENT, SEGMENT_LEVELS};
+use dtx_receiver::{HELD_GROUPS, to_symbols};
+use dtx_sizes::{CODEWORD, FIELD_PACKETS, GROUP_LEVELS, GROUP_PACKETS, SEGMENT, SEGMENT_LEVELS};
 use std::alloc::{AllocError, Global};
 use std::marker::Model;
-
-/// The last place of a group.
-const LAST: u16 = GROUP_PACKETS as u16 - 1;
 
 /// After how many groups of zeros the de-interleaver holds nothing else.
 const CLEARED: u8 = 13;
 
-/// The side of a run's marks. It is seen as the side alone. Beside it stand whether the twelve coders' Z2 are known to
-/// be 0, how many groups of zeros came last, as far as they are counted, and whether all that is kept is known to be 0:
-/// then a segment of which no symbol is missing changes nothing but the de-interleaver's turn.
+/// The side of a run's marks. It is seen as the side alone. Beside it stand how many groups of zeros came last, as far
+/// as they are counted, and whether all that is kept is known to be 0. Then segments of which no symbol is missing
+/// change nothing but the de-interleaver's turn.
 #[derive(Drop)]
 pub(crate) struct MarkSide {
     side: Side,
-    lowest: bool,
     zeros: u8,
     quiet: bool,
 }
 
 impl Model for MarkSide {
+    ghost use Rattle.std.specs.Prelude.{◌≤◌};
     ghost use Rattle.dtx_erase.specs.Sides.{Side as Kept, AreKnown};
 
     ghost Value = { Kept };
 
     ghost view = { λ m. m.side };
 
-    ghost invariant = { λ m. AreKnown m.side m.lowest m.zeros m.quiet };
+    ghost invariant = { λ m. AreKnown m.side m.zeros m.quiet × (m.zeros ≤ 13) };
 }
 
 impl MarkSide {
@@ -47,7 +49,6 @@ impl MarkSide {
         side.known();
         Ok(MarkSide {
             side,
-            lowest: false,
             zeros: 0,
             quiet: false,
         })
@@ -59,71 +60,79 @@ impl MarkSide {
     {
         self.side.begin(&as_marks(sync));
         self.side.known();
-        self.lowest = false;
         self.zeros = 0;
         self.quiet = false;
     }
 
-    /// The next data segment of the run, at this place of its field.
-    pub(crate) fn take(&mut self, place: u16, segment: &[i8; SEGMENT])
-        requires { place < FIELD_PACKETS }
+    /// The next data segments of the run, as the bytes of their symbols. The first is at this place of its field. The
+    /// words of the groups that they make whole are gathered.
+    pub(crate) fn take_all(&mut self, place: u16, segments: &[[u8; SEGMENT]])
+        requires place { place + length segments.now ≤ FIELD_PACKETS }
+        requires most { length segments.now ≤ GROUP_PACKETS * HELD_GROUPS }
+        requires some { 0 < length segments.now }
         ensures { (run : List (List ℤ)) → Holds self.old run → length run % 313 ≡ place + 1
-            → Holds self.new (run ++ map shown segment.now ∷ []) }
+            → IsFurther self.new ((place % 4 + length segments.now) / 4) run
+            (run ++ shown_run (symbols_in segments.now)) }
     {
-        if self.stays_quiet(segment) {
-            self.take_quiet(place);
+        if self.stays_quiet(segments) {
+            self.take_quiet(place, segments.len());
         } else {
-            self.take_any(place, &as_marks(segment));
+            self.take_any(place, segments);
         }
     }
 
-    /// If it answers true, all that is kept is 0, and so are the levels of the segment's marks.
-    fn stays_quiet(&self, segment: &[i8; SEGMENT]) -> bool
+    /// If it answers true, all that is kept is 0, and so are the levels of the segments' marks.
+    fn stays_quiet(&self, segments: &[[u8; SEGMENT]]) -> bool
         ensures quiet { IsTrue result → IsQuiet self.now }
-        ensures none { IsTrue result → sliced_data (map shown segment.now) ≡ replicate SEGMENT_LEVELS 0 }
+        ensures none { IsTrue result → AllByRecursion (λ x. sliced_data x ≡ replicate SEGMENT_LEVELS 0)
+            (shown_run (symbols_in segments.now)) }
     {
-        self.quiet && !any_missing(segment)
+        self.quiet && !any_missing(segments.as_flattened())
     }
 
-    /// The next data segment, of which no symbol is missing, where all that is kept is 0.
-    fn take_quiet(&mut self, place: u16)
-        requires place { place < FIELD_PACKETS }
+    /// The next data segments, of which no symbol is missing, where all that is kept is 0: so many.
+    fn take_quiet(&mut self, place: u16, count: usize)
+        requires place { place + count ≤ FIELD_PACKETS }
+        requires most { count ≤ GROUP_PACKETS * HELD_GROUPS }
         requires quiet { IsQuiet self.old }
-        ensures { (run : List (List ℤ)) (x : List ℤ) → sliced_data x ≡ replicate SEGMENT_LEVELS 0
-            → Holds self.old run → length run % 313 ≡ place + 1 → Holds self.new (run ++ x ∷ []) }
+        ensures { (run xs : List (List ℤ)) → AllByRecursion (λ x. sliced_data x ≡ replicate SEGMENT_LEVELS 0) xs
+            → length xs ≡ count → Holds self.old run → length run % 313 ≡ place + 1
+            → IsFurther self.new ((place % 4 + count) / 4) run (run ++ xs) }
     {
-        if place % 4 == LAST {
-            self.side.move_on();
-            self.side.known();
-            self.zeros = 0;
-        }
+        self.side
+            .move_on((place as usize % GROUP_PACKETS + count) / GROUP_PACKETS);
+        self.side.known();
+        self.zeros = 0;
     }
 
-    /// The next data segment, whatever its marks.
-    fn take_any(&mut self, place: u16, marks: &[i8; SEGMENT])
-        requires { place < FIELD_PACKETS }
+    /// The next data segments, whatever their marks.
+    fn take_any(&mut self, place: u16, segments: &[[u8; SEGMENT]])
+        requires place { place + length segments.now ≤ FIELD_PACKETS }
+        requires most { length segments.now ≤ GROUP_PACKETS * HELD_GROUPS }
+        requires some { 0 < length segments.now }
         ensures { (run : List (List ℤ)) → Holds self.old run → length run % 313 ≡ place + 1
-            → Holds self.new (run ++ marks.now ∷ []) }
+            → IsFurther self.new ((place % 4 + length segments.now) / 4) run
+            (run ++ shown_run (symbols_in segments.now)) }
     {
-        self.side.take(place, marks);
-        self.quiet = false;
-        if place % 4 == LAST {
-            let now = self.side.is_lowest();
-            let empty = self.side.is_empty();
-            let both = both(self.lowest, now);
-            let zeros = counted(self.zeros, both);
-            self.lowest = now;
-            self.zeros = zeros;
-            self.quiet = is_over(now, zeros, empty);
-        }
+        take_marks(&mut self.side, place, segments);
+        let count = self.side.lay_out();
+        let blank = self.side.is_blank(count);
+        self.side.pass(count);
+        let whole = is_whole(place, segments.len());
+        let lowest = self.side.is_lowest();
+        let empty = self.side.is_empty();
+        let zeros = counted(self.zeros, blank, count);
+        self.zeros = zeros;
+        self.quiet = is_over(whole, lowest, zeros, empty);
     }
 
-    /// The four words of marks that the last group completed.
-    pub(crate) fn words(&self) -> [[u8; CODEWORD]; 4]
-        ensures words { (p : ℕ) → p < 4 → slice_index_or result p [] ≡ word_of self.now.gathered p }
+    /// The four words of marks that one of the groups completed that were gathered last.
+    pub(crate) fn words(&self, group: usize) -> [[u8; CODEWORD]; 4]
+        requires { group < HELD_GROUPS }
+        ensures words { (p : ℕ) → p < 4 → slice_index_or result p [] ≡ word_of self.now.gathered (4 * group + p) }
         ensures long { (p : ℕ) → p < 4 → length (slice_index_or result p []) ≡ CODEWORD }
     {
-        self.side.words()
+        self.side.words(group)
     }
 
     /// The word of marks that is left at the end of a run whose data segments are a multiple of 52.
@@ -133,50 +142,70 @@ impl MarkSide {
     {
         let word = self.side.last_word();
         self.side.known();
-        self.lowest = false;
         self.zeros = 0;
         self.quiet = false;
         word
     }
 }
 
-/// Whether both hold.
-fn both(first: bool, second: bool) -> bool
-    ensures { result ≡ (first && second) }
+/// The side of marks takes the next data segments of a run. The bytes of the groups that they make whole are held.
+fn take_marks(side: &mut Side, place: u16, segments: &[[u8; SEGMENT]])
+    requires place { place + length segments.now ≤ FIELD_PACKETS }
+    requires most { length segments.now ≤ GROUP_PACKETS * HELD_GROUPS }
+    requires none { side.old.groups.held ≡ [] }
+    ensures rest { side.new ≡ record side.old { groups = side.new.groups } }
+    ensures grouped { (run : List (List ℤ)) (given : List ℕ) → AreGrouped side.old.groups run given
+        → length run % 313 ≡ place + 1 → AreGrouped side.new.groups (run ++ shown_run (symbols_in segments.now)) given }
+    ensures held { length side.new.groups.held ≡ (place % 4 + length segments.now) / 4 }
+    ensures lowest { 0 < length segments.now → (place + length segments.now) % 4 ≡ 0
+        → side.new.groups.levels ≡ replicate GROUP_LEVELS 0 → side.new.groups.precoder_bits ≡ replicate 12 0 }
 {
-    first && second
-}
-
-/// Whether it is known that all that is kept is 0: the levels that came last, what so many groups of zeros leave, and
-/// the bytes that were gathered last.
-fn is_over(levels: bool, zeros: u8, gathered: bool) -> bool
-    ensures { IsTrue result ↔ ((levels ≡ true) × (zeros ≡ CLEARED) × (gathered ≡ true)) }
-{
-    levels && zeros == CLEARED && gathered
-}
-
-/// How many groups of zeros came last with one group more, as far as they are counted.
-fn counted(before: u8, zeros: bool) -> u8
-    ensures none { IsFalse zeros → result ≡ 0 }
-    ensures more { IsTrue zeros → before < CLEARED → result ≡ before + 1 }
-    ensures all { IsTrue zeros → CLEARED ≤ before → result ≡ before }
-{
-    if !zeros {
-        0
-    } else if before < CLEARED {
-        before + 1
-    } else {
-        before
+    let mut symbols = [0; SEGMENT];
+    for i in 0..segments.len() {
+        to_symbols(&segments[i], &mut symbols);
+        side.take(place + i as u16, &as_marks(&symbols));
     }
 }
 
-/// If it answers false, no symbol of a segment's data is missing: the levels of its marks are 0.
-fn any_missing(segment: &[i8; SEGMENT]) -> bool
-    ensures { IsFalse result → sliced_data (map shown segment.now) ≡ replicate SEGMENT_LEVELS 0 }
+/// Whether so many segments, from a place on, end with a whole group.
+fn is_whole(place: u16, count: usize) -> bool
+    requires place { place < FIELD_PACKETS }
+    requires count { count ≤ GROUP_PACKETS * HELD_GROUPS }
+    ensures { IsTrue result ↔ ((place + count) % 4 ≡ 0) }
+{
+    (place as usize + count) % GROUP_PACKETS == 0
+}
+
+/// Whether it is known that all that is kept is 0: the levels that came last, of a whole group, what so many groups of
+/// zeros leave, and the bytes that begin a word.
+fn is_over(whole: bool, levels: bool, zeros: u8, begun: bool) -> bool
+    ensures { IsTrue result ↔ ((whole ≡ true) × (levels ≡ true) × (zeros ≡ CLEARED) × (begun ≡ true)) }
+{
+    whole && levels && zeros == CLEARED && begun
+}
+
+/// How many groups of zeros came last with so many groups more, as far as they are counted.
+fn counted(before: u8, zeros: bool, groups: usize) -> u8
+    requires before { before ≤ CLEARED }
+    requires groups { groups ≤ HELD_GROUPS }
+    ensures none { IsFalse zeros → result ≡ 0 }
+    ensures more { IsTrue zeros → result ≤ before + groups }
+    ensures most { result ≤ CLEARED }
+{
+    if !zeros {
+        return 0;
+    }
+    (before as usize + groups).min(CLEARED as usize) as u8
+}
+
+/// If it answers false, no symbol of these bytes is missing.
+fn any_missing(bytes: &[u8]) -> bool
+    ensures { IsFalse result → (i : ℕ) → i < length bytes.now
+        → cast_signed w8 (slice_index_or bytes.now i 0) ≢ negsuc 127 }
 {
     let mut any = false;
-    for i in 0..SEGMENT {
-        any |= segment[i] == -128;
+    for i in 0..bytes.len() {
+        any |= bytes[i].cast_signed() == -128;
     }
     any
 }

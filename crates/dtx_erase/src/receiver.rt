@@ -1,13 +1,14 @@
 //! Receives one segment after another, some of whose symbols are missing.
 
-ghost use Rattle.std.specs.Prelude.{◌≡◌, ℤ, ◌+◌, ◌%◌, ◌<◌, ◌≤◌, ◌++◌, ◌∷◌, [], List, IfOk, length};
+ghost use Rattle.std.specs.Prelude.{◌≡◌, ℤ, ◌+◌, ◌*◌, ◌%◌, ◌<◌, ◌≤◌, ◌++◌, ◌∷◌, [], List, IfOk, Some, length, take};
 ghost use Rattle.dtx_erase.specs.Mended.{all_mended, mended_so_far};
-ghost use Rattle.dtx_erase.specs.Sides.{Mends, IsTaken};
-ghost use Rattle.dtx_receiver.specs.Runs.{tracking};
+ghost use Rattle.dtx_erase.specs.Sides.{Mends, AreReceived, IsTaken};
+ghost use Rattle.dtx_receiver.specs.Runs.{runs, tracking};
+ghost use Rattle.dtx_receiver.specs.Symbols.{symbols_in, symbols_of};
 
 use crate::decoder::Decoder;
 use dtx_frame::looks;
-use dtx_receiver::{Batch, Tracking};
+use dtx_receiver::{Batch, MOST_RECEIVED, Progress, Tracking, begun, to_symbols};
 use dtx_sizes::{FIELD_SEGMENTS, GROUP_PACKETS, SEGMENT};
 use std::alloc::{AllocError, Global};
 use std::marker::Model;
@@ -59,6 +60,76 @@ impl MendReceiver {
     {
         batch.packets.clear();
         self.follow(segment, batch)
+    }
+
+    /// Receives the first of some segments, which are given as the bytes of their symbols, and tells how many it took
+    /// and how many runs began with them. It gives the packets that become whole with them, in place of what the batch
+    /// held, as `take` gives them for one after another. Data segments are taken together: up to the next place where a
+    /// field sync is due, but no more than 52. Any other segment is taken alone. No call takes memory.
+    pub fn take_some(&mut self, segments: &[[u8; SEGMENT]], batch: &mut Batch) -> Progress
+        requires { 0 < length segments.now }
+        ensures some { 0 < result.segments }
+        ensures within { result.segments ≤ length segments.now }
+        ensures stands { (before : List (List ℤ)) → Mends self.old before
+            → Mends self.new (before ++ symbols_in (take result.segments segments.now)) }
+        ensures packets { (before : List (List ℤ)) → Mends self.old before
+            → mended_so_far (before ++ symbols_in (take result.segments segments.now))
+            ≡ mended_so_far before ++ batch.new.packets.items }
+        ensures runs { (before : List (List ℤ)) → Mends self.old before
+            → length (runs (before ++ symbols_in (take result.segments segments.now)))
+            ≡ length (runs before) + result.runs }
+        ensures few { length batch.new.packets.items ≤ GROUP_PACKETS * result.segments }
+        ensures few_runs { result.runs ≤ result.segments }
+    {
+        batch.packets.clear();
+        let place = self.place.unwrap_or(0);
+        if place > 0 {
+            return self.take_data(place, segments, batch);
+        }
+        self.take_one(&segments[0], batch)
+    }
+
+    /// Receives the next data segments, of which at least one is due, where the batch is empty.
+    fn take_data(&mut self, place: u16, segments: &[[u8; SEGMENT]], batch: &mut Batch) -> Progress
+        requires place { self.old.place ≡ Some place }
+        requires due { 0 < place }
+        requires within { place < FIELD_SEGMENTS }
+        requires some { 0 < length segments.now }
+        requires none { batch.old.packets.items ≡ [] }
+        ensures some { 0 < result.segments }
+        ensures within { result.segments ≤ length segments.now }
+        ensures received { (before : List (List ℤ)) → Mends self.old before
+            → AreReceived before (symbols_in (take result.segments segments.now)) self.new result.runs
+            batch.new.packets.items }
+        ensures few { length batch.new.packets.items ≤ GROUP_PACKETS * result.segments }
+        ensures no_run { result.runs ≡ 0 }
+    {
+        let due = (FIELD_SEGMENTS - place) as usize;
+        let count = segments.len().min(due).min(MOST_RECEIVED);
+        self.decoder.take_all(place - 1, &segments[..count], batch);
+        self.place = Some((place + count as u16) % FIELD_SEGMENTS);
+        Progress {
+            segments: count,
+            runs: 0,
+        }
+    }
+
+    /// Receives the next segment, where the batch is empty.
+    fn take_one(&mut self, bytes: &[u8; SEGMENT], batch: &mut Batch) -> Progress
+        requires { batch.old.packets.items ≡ [] }
+        ensures one { result.segments ≡ 1 }
+        ensures received { (before : List (List ℤ)) → Mends self.old before
+            → AreReceived before (symbols_of bytes.now ∷ []) self.new result.runs batch.new.packets.items }
+        ensures few { length batch.new.packets.items ≤ GROUP_PACKETS }
+        ensures few_runs { result.runs ≤ 1 }
+    {
+        let mut segment = [0; SEGMENT];
+        to_symbols(bytes, &mut segment);
+        let tracking = self.follow(&segment, batch);
+        Progress {
+            segments: 1,
+            runs: begun(tracking),
+        }
     }
 
     /// Receives the next segment, where the batch is empty.

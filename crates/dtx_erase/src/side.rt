@@ -1,64 +1,60 @@
 //! One side of a run: its bytes, or its marks, from levels to gathered words.
 
-ghost use Rattle.std.specs.Prelude.{◌≡◌, ◌≢◌, ℕ, ℤ, IsTrue, ◌↔◌, ◌+◌, ◌-◌, ◌*◌, ◌%◌, ◌<◌, ◌≤◌, ◌++◌, ◌∷◌, []};
-ghost use Rattle.std.specs.Prelude.{List, length, drop, replicate, slice_index_or};
+ghost use Rattle.std.specs.Prelude.{◌≡◌, ℤ, IfOk, IsTrue, ◌↔◌, ◌+◌, ◌-◌, ◌*◌, ◌/◌, ◌%◌, ◌<◌, ◌≤◌, ◌++◌, ◌∷◌, []};
+ghost use Rattle.std.specs.Prelude.{ℕ, List, length, drop, replicate, slice_index_or, take};
+ghost use Rattle.std.specs.List.{flat_map};
 ghost use Rattle.dtx_laws.specs.Branches.{HasWidths, gathering, leaving_all, after_all};
 ghost use Rattle.dtx_outer.specs.Inner.{word_at};
-ghost use Rattle.dtx_slice.specs.Unrolled.{bytes_back, precoder_bits_after};
+ghost use Rattle.dtx_slice.specs.Unrolled.{precoder_bits_after};
 ghost use Rattle.dtx_receiver.specs.Bytes.{groups_of, bytes_in};
-ghost use Rattle.dtx_erase.specs.Sides.{Holds, word_of};
+ghost use Rattle.dtx_receiver.specs.Receiver.{AreGrouped};
+ghost use Rattle.dtx_receiver.specs.Symbols.{symbols_in};
+ghost use Rattle.dtx_erase.specs.Sides.{Holds, IsFurther, word_of};
 
 use dtx_laws::Gather;
+use dtx_receiver::{Groups, HELD_GROUPS};
 use dtx_sizes::{
     BRANCH_STEP, BRANCHES, CODEWORD, FIELD_PACKETS, GROUP_BYTES, GROUP_LEVELS, GROUP_PACKETS,
     SEGMENT,
 };
-use dtx_slice::{Unroll, last_levels, put_levels};
 use dtx_spread::Collect;
 use std::alloc::{AllocError, Global};
 use std::marker::Model;
 
-/// How many data segments a group has: one for each packet.
-const GROUP_SEGMENTS: u16 = GROUP_PACKETS as u16;
-
 /// How many bytes of a group begin a word that the next group completes.
 const BEGUN: usize = 156;
 
-/// How many gathered bytes are kept: those that the group before began, and the group's.
-const GATHERED: usize = BEGUN + GROUP_BYTES;
+/// For how many gathered bytes there is room: those that an earlier group began, and those of the groups that are
+/// gathered together.
+const GATHERED: usize = BEGUN + GROUP_BYTES * HELD_GROUPS;
 
-/// One side of a run. `Holds side run` says that it holds what the segments of the run leave.
+/// One side of a run. `Holds side run` says that it holds what the segments of the run leave. The bytes of its groups
+/// are held until they are gathered together.
 #[derive(Drop)]
 pub(crate) struct Side {
-    levels: [u8; GROUP_LEVELS],
-    unroll: Unroll,
+    groups: Groups,
     gather: Collect<BRANCHES, BRANCH_STEP>,
+    begun: [u8; BEGUN],
     gathered: [u8; GATHERED],
 }
 
 impl Model for Side {
-    ghost use Rattle.std.specs.Prelude.{◌<◌, EachIndex, slice_index};
     ghost use Rattle.dtx_erase.specs.Sides.{Side as Kept};
 
     ghost Value = { Kept };
 
-    ghost view = { λ s. record {
-      levels = s.levels;
-      precoder_bits = s.unroll;
-      branches = s.gather;
-      gathered = s.gathered;
-    } };
-
-    ghost invariant = { λ s. EachIndex s.levels (λ d. slice_index s.levels d < 8) };
+    ghost view = { λ s. record { groups = s.groups; branches = s.gather; begun = s.begun; gathered = s.gathered } };
 }
 
 impl Side {
     /// Of no run.
-    pub(crate) fn new(alloc: Global) -> Result<Side, AllocError> {
+    pub(crate) fn new(alloc: Global) -> Result<Side, AllocError>
+        ensures { IfOk result (λ side. side.groups.held ≡ []) }
+    {
         Ok(Side {
-            levels: [0; GROUP_LEVELS],
-            unroll: Unroll::new(),
+            groups: Groups::new(),
             gather: Collect::new(alloc)?,
+            begun: [0; BEGUN],
             gathered: [0; GATHERED],
         })
     }
@@ -67,53 +63,89 @@ impl Side {
     pub(crate) fn begin(&mut self, sync: &[i8; SEGMENT])
         ensures { Holds self.new (sync.now ∷ []) }
     {
-        self.unroll.start(&last_levels(sync));
+        self.groups.begin(sync);
         self.gather.known();
         self.gather.align();
     }
 
-    /// The next data segment of the run, at this place of its field.
+    /// The next data segment of the run, at this place of its field. The bytes of a group that it makes whole are held.
     pub(crate) fn take(&mut self, place: u16, segment: &[i8; SEGMENT])
-        requires { place < FIELD_PACKETS }
-        ensures stands { (run : List (List ℤ)) → Holds self.old run → length run % 313 ≡ place + 1
-            → Holds self.new (run ++ segment.now ∷ []) }
-        ensures within { place % 4 ≢ 3 → (self.new.branches ≡ self.old.branches)
-            × (self.new.precoder_bits ≡ self.old.precoder_bits) }
-        ensures whole { place % 4 ≡ 3 → (self.new.branches ≡ after_all BRANCHES self.old.branches
-            (bytes_back (place - place % 4) self.old.precoder_bits self.new.levels))
-            × (self.new.precoder_bits ≡ precoder_bits_after (place - place % 4) self.old.precoder_bits
-            self.new.levels) }
+        requires place { place < FIELD_PACKETS }
+        requires room { place % 4 ≡ 3 → length self.old.groups.held < HELD_GROUPS }
+        ensures rest { self.new ≡ record self.old { groups = self.new.groups } }
+        ensures grouped { (run : List (List ℤ)) (given : List ℕ) → AreGrouped self.old.groups run given
+            → length run % 313 ≡ place + 1 → AreGrouped self.new.groups (run ++ segment.now ∷ []) given }
+        ensures held { length self.new.groups.held ≡ length self.old.groups.held + (place % 4 + 1) / 4 }
+        ensures bits { place % 4 ≡ 3 → self.new.groups.precoder_bits ≡ precoder_bits_after (place - place % 4)
+            self.old.groups.precoder_bits self.new.groups.levels }
     {
-        let part = place % GROUP_SEGMENTS;
-        put_levels(segment, part as usize, &mut self.levels);
-        if part + 1 == GROUP_SEGMENTS {
-            self.group(place - part);
-        }
+        self.groups.take(place, segment);
     }
 
-    /// The group whose levels are whole, and which begins at this place of its field.
-    fn group(&mut self, first: u16)
-        requires first { first < FIELD_PACKETS }
-        requires whole { first % 4 ≡ 0 }
-        ensures levels { self.new.levels ≡ self.old.levels }
-        ensures precoder_bits { self.new.precoder_bits ≡ precoder_bits_after first self.old.precoder_bits
-            self.old.levels }
+    /// The next data segments of the run, as the bytes of their symbols. The first is at this place of its field. It
+    /// tells how many groups they make whole, whose words are gathered.
+    pub(crate) fn take_all(&mut self, place: u16, segments: &[[u8; SEGMENT]]) -> usize
+        requires place { place + length segments.now ≤ FIELD_PACKETS }
+        requires most { length segments.now ≤ GROUP_PACKETS * HELD_GROUPS }
+        requires none { self.old.groups.held ≡ [] }
+        ensures count { result ≡ (place % 4 + length segments.now) / 4 }
+        ensures none { self.new.groups.held ≡ [] }
+        ensures further { (run : List (List ℤ)) → Holds self.old run → length run % 313 ≡ place + 1
+            → IsFurther self.new result run (run ++ symbols_in segments.now) }
+    {
+        self.groups.take_all(place, segments);
+        let count = self.lay_out();
+        self.pass(count);
+        count
+    }
+
+    /// Lays out the bytes of the groups that are held, behind those that begin a word, and tells how many groups these
+    /// were. None is held then.
+    pub(crate) fn lay_out(&mut self) -> usize
+        ensures count { result ≡ length self.old.groups.held }
+        ensures most { result ≤ HELD_GROUPS }
+        ensures side { self.new ≡ record self.old {
+          groups = record self.old.groups { held = [] };
+          gathered = self.new.gathered;
+        } }
+        ensures bytes { take (GROUP_BYTES * result) (drop BEGUN self.new.gathered)
+            ≡ flat_map (λ bytes. bytes) self.old.groups.held }
+        ensures long { length (flat_map (λ bytes. bytes) self.old.groups.held) ≡ GROUP_BYTES * result }
+        ensures begun { length self.old.begun ≡ BEGUN }
+    {
+        self.groups.put(&mut self.gathered[BEGUN..])
+    }
+
+    /// Lets the bytes of so many groups, which are laid out, through the de-interleaver.
+    pub(crate) fn pass(&mut self, count: usize)
+        requires { count ≤ HELD_GROUPS }
+        ensures groups { self.new.groups ≡ self.old.groups }
         ensures branches { self.new.branches ≡ after_all BRANCHES self.old.branches
-            (bytes_back first self.old.precoder_bits self.old.levels) }
-        ensures gathered { self.new.gathered ≡ drop GROUP_BYTES self.old.gathered
-            ++ leaving_all BRANCHES self.old.branches (bytes_back first self.old.precoder_bits self.old.levels) }
+            (take (GROUP_BYTES * count) (drop BEGUN self.old.gathered)) }
+        ensures gathered { take (BEGUN + GROUP_BYTES * count) self.new.gathered ≡ self.old.begun
+            ++ leaving_all BRANCHES self.old.branches (take (GROUP_BYTES * count) (drop BEGUN self.old.gathered)) }
+        ensures begun { self.new.begun ≡ take BEGUN (drop (GROUP_BYTES * count) self.new.gathered) }
     {
-        let mut bytes = [0; GROUP_BYTES];
-        self.unroll.group(first, &self.levels, &mut bytes);
-        self.gather.gather(&mut bytes);
-        let mut gathered = [0; GATHERED];
-        join(&self.gathered, GROUP_BYTES, &bytes, &mut gathered);
-        self.gathered = gathered;
+        let end = BEGUN + GROUP_BYTES * count;
+        self.gather.gather(&mut self.gathered[BEGUN..end]);
+        let begun = self.begun;
+        self.gathered[..BEGUN].copy_from_slice(&begun);
+        self.begun = self.ends(GROUP_BYTES * count);
     }
 
-    /// Word `p` of the four that the last group completed.
+    /// As many gathered bytes as begin a word, from a place on.
+    fn ends(&self, from: usize) -> [u8; BEGUN]
+        requires { from ≤ GROUP_BYTES * HELD_GROUPS }
+        ensures { result ≡ take BEGUN (drop from self.now.gathered) }
+    {
+        let mut ends = [0; BEGUN];
+        ends.copy_from_slice(&self.gathered[from..from + BEGUN]);
+        ends
+    }
+
+    /// Word `p` of those that were gathered last.
     fn word(&self, p: usize) -> [u8; CODEWORD]
-        requires { p < 4 }
+        requires { p < GROUP_PACKETS * HELD_GROUPS }
         ensures { result ≡ word_of self.now.gathered p }
     {
         let mut word = [0; CODEWORD];
@@ -121,14 +153,15 @@ impl Side {
         word
     }
 
-    /// The four words that the last group completed.
-    pub(crate) fn words(&self) -> [[u8; CODEWORD]; 4]
-        ensures words { (p : ℕ) → p < 4 → slice_index_or result p [] ≡ word_of self.now.gathered p }
+    /// The four words that one of the groups completed that were gathered last.
+    pub(crate) fn words(&self, group: usize) -> [[u8; CODEWORD]; 4]
+        requires { group < HELD_GROUPS }
+        ensures words { (p : ℕ) → p < 4 → slice_index_or result p [] ≡ word_of self.now.gathered (4 * group + p) }
         ensures long { (p : ℕ) → p < 4 → length (slice_index_or result p []) ≡ CODEWORD }
     {
         let mut words = [[0; CODEWORD]; 4];
         for p in 0..4 {
-            words[p] = self.word(p);
+            words[p] = self.word(4 * group + p);
         }
         words
     }
@@ -142,47 +175,54 @@ impl Side {
 
     /// Whether the levels of the group that is on, or that was whole last, are all 0.
     pub(crate) fn is_lowest(&self) -> bool
-        ensures { IsTrue result ↔ (self.now.levels ≡ replicate GROUP_LEVELS 0) }
+        ensures { IsTrue result ↔ (self.now.groups.levels ≡ replicate GROUP_LEVELS 0) }
     {
-        are_zero(&self.levels)
+        are_lowest(self.groups.levels())
     }
 
-    /// Whether all bytes that were gathered last are 0.
+    /// Whether the bytes of so many groups, which are laid out, are all 0.
+    pub(crate) fn is_blank(&self, count: usize) -> bool
+        requires { count ≤ HELD_GROUPS }
+        ensures { IsTrue result ↔ (take (GROUP_BYTES * count) (drop BEGUN self.now.gathered)
+            ≡ replicate (GROUP_BYTES * count) 0) }
+    {
+        are_zero(&self.gathered[BEGUN..BEGUN + GROUP_BYTES * count])
+    }
+
+    /// Whether the bytes that begin a word are all 0.
     pub(crate) fn is_empty(&self) -> bool
-        ensures { IsTrue result ↔ (self.now.gathered ≡ replicate GATHERED 0) }
+        ensures { IsTrue result ↔ (self.now.begun ≡ replicate BEGUN 0) }
     {
-        are_zero(&self.gathered)
+        are_zero(&self.begun[..])
     }
 
-    /// Moves the de-interleaver on by 48 zeros, which are what a group is to it where all that is kept is 0.
-    pub(crate) fn move_on(&mut self)
-        ensures { self.new ≡ record self.old { branches = after_all BRANCHES self.old.branches (replicate 48 0) } }
+    /// Moves the de-interleaver on by as many zeros as so many groups leave over from whole turns, and sets what was
+    /// gathered to zeros. Where all that is kept is 0, this is what groups of zeros are to it.
+    pub(crate) fn move_on(&mut self, groups: usize)
+        requires { groups ≤ HELD_GROUPS }
+        ensures { self.new ≡ record self.old {
+          branches = after_all BRANCHES self.old.branches (replicate (48 * groups % 52) 0);
+          gathered = replicate GATHERED 0;
+        } }
     {
-        self.gather.gather(&mut [0; 48]);
+        let over = 48 * groups % BRANCHES;
+        let mut zeros = [0; BRANCHES];
+        self.gather.gather(&mut zeros[..over]);
+        self.gathered = [0; GATHERED];
     }
 
     /// The word that is left at the end of a run whose data segments are a multiple of 52.
     pub(crate) fn last_word(&mut self) -> [u8; CODEWORD]
-        ensures { (run : List (List ℤ)) (k : ℕ) → Holds self.old run → k + 52 ≡ 4 * groups_of run → k % 52 ≡ 0
+        ensures groups { self.new.groups ≡ self.old.groups }
+        ensures word { (run : List (List ℤ)) (k : ℕ) → Holds self.old run → k + 52 ≡ 4 * groups_of run → k % 52 ≡ 0
             → result ≡ word_at 207 52 4 (bytes_in run) k }
     {
         let mut rest = [0; CODEWORD - BEGUN];
         self.gather.gather(&mut rest);
         let mut word = [0; CODEWORD];
-        join(&self.gathered, GROUP_BYTES, &rest, &mut word);
+        join(&self.begun, 0, &rest, &mut word);
         word
     }
-}
-
-/// Whether all bytes are 0.
-fn are_zero<const N: usize>(bytes: &[u8; N]) -> bool
-    ensures { IsTrue result ↔ (bytes.now ≡ replicate N 0) }
-{
-    let mut any = false;
-    for i in 0..N {
-        any |= bytes[i] != 0;
-    }
-    !any
 }
 
 /// Writes bytes from a place on, and others behind them.
@@ -194,4 +234,22 @@ fn join(before: &[u8], skip: usize, behind: &[u8], out: &mut [u8])
     let begun = before.len() - skip;
     out[..begun].copy_from_slice(&before[skip..]);
     out[begun..].copy_from_slice(behind);
+}
+
+/// Whether all levels of a group are 0.
+fn are_lowest(levels: &[u8; GROUP_LEVELS]) -> bool
+    ensures { IsTrue result ↔ (levels.now ≡ replicate GROUP_LEVELS 0) }
+{
+    are_zero(&levels[..])
+}
+
+/// Whether all bytes are 0.
+fn are_zero(bytes: &[u8]) -> bool
+    ensures { IsTrue result ↔ (bytes.now ≡ replicate (length bytes.now) 0) }
+{
+    let mut any = false;
+    for i in 0..bytes.len() {
+        any |= bytes[i] != 0;
+    }
+    !any
 }

@@ -1,6 +1,6 @@
 //! Gathered words to packets.
 
-ghost use Rattle.std.specs.Prelude.{◌≡◌, ℕ, Bool, List, true, false, ◌+◌, ◌*◌, ◌%◌, ◌<◌, ◌↔◌, ◌++◌, [], ◌∷◌, Ok};
+ghost use Rattle.std.specs.Prelude.{◌≡◌, ℕ, Bool, List, true, false, ◌+◌, ◌*◌, ◌%◌, ◌<◌, ◌≤◌, ◌↔◌, ◌++◌, [], ◌∷◌, Ok};
 ghost use Rattle.std.specs.Prelude.{IsTrue, MatchResult, length, map, slice_index, slice_index_or, take};
 ghost use Rattle.dtx_laws.specs.Whitening.{whitened};
 ghost use Rattle.dtx_packets.specs.Packet.{with_error};
@@ -67,7 +67,7 @@ impl Words {
         self.push(place, answer, &mended, batch);
     }
 
-    /// Gives the packets of four words that follow each other, and of their flags.
+    /// Puts the packets of four words that follow each other, and of their flags, behind the packets of the batch.
     pub(crate) fn give_four(
         &self,
         place: u16,
@@ -78,8 +78,9 @@ impl Words {
         requires within { place < FIELD_PACKETS }
         requires words { (p : ℕ) → p < 4 → length (slice_index_or words.now p []) ≡ CODEWORD }
         requires flags { (p : ℕ) → p < 4 → length (slice_index_or flags.now p []) ≡ CODEWORD }
-        requires none { batch.old.packets.items ≡ [] }
-        ensures { batch.new.packets.items ≡ map (λ p. mended_word (PACKET_DATA * ((place + p) % 312))
+        requires room { length batch.old.packets.items + 4 ≤ MOST_RECEIVED }
+        ensures { batch.new.packets.items ≡ batch.old.packets.items
+            ++ map (λ p. mended_word (PACKET_DATA * ((place + p) % 312))
             (slice_index_or words.now p []) (slice_index_or flags.now p [])) (0 ∷ 1 ∷ 2 ∷ 3 ∷ []) }
     {
         let mut mended = *words;

@@ -5,7 +5,7 @@ ghost use Rattle.dtx_receiver.specs.Symbols.{symbols_in};
 ghost use Rattle.dtx_jobs.specs.Giving.{Giving, IsGiving};
 
 use dtx_erase::MendReceiver;
-use dtx_receiver::{Batch, Progress, Receiver, begun, to_symbols};
+use dtx_receiver::{Batch, Progress, Receiver};
 use dtx_sizes::{GROUP_PACKETS, SEGMENT};
 use std::alloc::{AllocError, Global};
 
@@ -100,15 +100,8 @@ impl SegmentReceiver for MendReceiver {
         MendReceiver::new(alloc)
     }
 
-    /// Each segment is taken alone.
     fn take_some(&mut self, segments: &[[u8; SEGMENT]], batch: &mut Batch) -> Progress {
-        let mut segment = [0; SEGMENT];
-        to_symbols(&segments[0], &mut segment);
-        let tracking = MendReceiver::take(self, &segment, batch);
-        Progress {
-            segments: 1,
-            runs: begun(tracking),
-        }
+        MendReceiver::take_some(self, segments, batch)
     }
 
     fn finish(&mut self, batch: &mut Batch) {

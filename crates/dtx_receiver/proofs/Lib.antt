@@ -8,6 +8,6 @@ pub mod LevelsLemmas
 pub mod IntervalsLemmas
 pub mod CountingLemmas
 pub mod SplicingLemmas
-pub mod Grouped
+pub mod GroupedLemmas
 pub mod Stands
 pub mod Giving

@@ -11,7 +11,7 @@ use Rattle.dtx_receiver.specs.Packets.{run_packets, early_of, all_packets, packe
 use Rattle.dtx_receiver.proofs.AnswersLemmas.{IsDecoder}
 use Rattle.dtx_receiver.proofs.EarlyLemmas.{end_none, end_turn}
 use Rattle.dtx_receiver.proofs.GivenLemmas.{received_given}
-use Rattle.dtx_receiver.proofs.Grouped.{flat}
+use Rattle.dtx_receiver.proofs.GroupedLemmas.{bytes_long, flat, groups_grown}
 use Rattle.dtx_receiver.proofs.LevelsLemmas.{levels_sync}
 use Rattle.dtx_receiver.specs.Receiver.{AreGrouped, AreLevels, Decoding, Decodes, Grouping}
 use Rattle.dtx_receiver.proofs.SegmentsLemmas.{Still, still_sync, first_groups, first_bytes}
@@ -48,16 +48,10 @@ receiving = record {
       ap early_of s.bytes ∙ sym (append-nil (early_of (bytes_in run)));
 }
 
--- how many bytes the whole groups have
-bytes_long : {levels bits : List ℕ} (run : List (List ℤ)) → AreLevels levels bits run
+-- how many bytes the whole groups have, in blocks
+blocks_long : {levels bits : List ℕ} (run : List (List ℤ)) → AreLevels levels bits run
     → length (bytes_in run) ≡ 207 * (4 * groups_of run)
-unfolding bytes_in bytes_back
-bytes_long run a =
-    length-map-range_with_len (byte_back 0 (first_bits run) (levels_in run)) 0 (828 * level_groups (levels_in run))
-    ∙ ap (λ g. 828 * g) (groups_whole (groups_of run) (levels_in run) a.long) ∙ blocks (groups_of run)
-  where
-    blocks : (g : ℕ) → 828 * g ≡ 207 * (4 * g)
-    blocks g = omega arith
+blocks_long run a = omega (arith, bytes_long run a)
 
 -- the groups that are held are given on, with more segments
 pub decodes_given : (kept new : Decoding) (groups : Grouping) (run more : List (List ℤ)) → Decodes kept run
@@ -73,14 +67,7 @@ decodes_given kept new groups run more d g l f t i = record {
 }
   where
     grown : groups_of more ≡ groups_of run + length groups.held
-    grown = omega (
-      arith,
-      bytes_long more g.levels,
-      bytes_long run d.levels,
-      ap length g.bytes,
-      length-append (bytes_in run) (flat groups.held),
-      g.long,
-    )
+    grown = groups_grown run more (flat groups.held) (length groups.held) d.levels g.levels g.bytes g.long
 
     turned : (g h m : ℕ) → m ≡ g + h → (4 * g % 52 + 4 * h) % 52 ≡ 4 * m % 52
     turned g h m e = omega (arith, e)
@@ -89,10 +76,10 @@ decodes_given kept new groups run more d g l f t i = record {
 
 pub ends_turn : (kept : Decoding) (run : List (List ℤ)) (more : List ℕ) → Decodes kept run → kept.turn ≡ 0
     → length more ≡ 207 → run_packets (bytes_in run) ≡ early_of (bytes_in run ++ more)
-ends_turn kept run more d t l = end_turn (bytes_in run) more (4 * groups_of run) (bytes_long run d.levels) l (sym d.turn
-    ∙ t)
+ends_turn kept run more d t l =
+    end_turn (bytes_in run) more (4 * groups_of run) (blocks_long run d.levels) l (sym d.turn ∙ t)
 
 pub ends_else : (kept : Decoding) (run : List (List ℤ)) → Decodes kept run → kept.turn ≢ 0
     → run_packets (bytes_in run) ≡ early_of (bytes_in run)
 ends_else kept run d t =
-    end_none (bytes_in run) (4 * groups_of run) (bytes_long run d.levels) (inr (λ z. t (d.turn ∙ z)))
+    end_none (bytes_in run) (4 * groups_of run) (blocks_long run d.levels) (inr (λ z. t (d.turn ∙ z)))

@@ -8,7 +8,7 @@ use dtx_packets::Packet;
 use dtx_sizes::{GROUP_PACKETS, PACKET, PACKET_DATA};
 
 /// How many groups of four data segments go through the outer decoding together at most. Their bytes fill 52 words.
-pub(crate) const HELD_GROUPS: usize = 13;
+pub const HELD_GROUPS: usize = 13;
 
 /// How many packets a call gives at most: those of so many groups.
 pub const MOST_RECEIVED: usize = GROUP_PACKETS * HELD_GROUPS;

@@ -1,6 +1,6 @@
 //! From the data segments of a run to the bytes of its groups, which are held until they are given on together.
 
-ghost use Rattle.std.specs.Prelude.{◌≡◌, ℕ, ℤ, ◌+◌, ◌*◌, ◌/◌, ◌%◌, ◌<◌, ◌≤◌, ◌++◌, ◌∷◌, [], List, length, take};
+ghost use Rattle.std.specs.Prelude.{◌≡◌, ℕ, ℤ, ◌+◌, ◌-◌, ◌*◌, ◌/◌, ◌%◌, ◌<◌, ◌≤◌, ◌++◌, ◌∷◌, [], List, length, take};
 ghost use Rattle.std.specs.Prelude.{EachIndex, slice_index};
 ghost use Rattle.std.specs.List.{flat_map};
 ghost use Rattle.dtx_outer.specs.Inner.{StandsFor};
@@ -27,7 +27,7 @@ const GROUP_SEGMENTS: u16 = GROUP_PACKETS as u16;
 /// Makes groups of the data segments of a run. `AreGrouped groups run given` says that it holds what the segments of
 /// the run leave, of whose bytes these were given on.
 #[derive(Drop)]
-pub(crate) struct Groups {
+pub struct Groups {
     levels: [u8; GROUP_LEVELS],
     unroll: Unroll,
     /// Room for the bytes of groups. Behind those that are held anything may stand.
@@ -48,7 +48,7 @@ impl Model for Groups {
 
 impl Groups {
     /// Of no run.
-    pub(crate) fn new() -> Groups
+    pub fn new() -> Groups
         ensures { result.held ≡ [] }
     {
         Groups {
@@ -60,7 +60,7 @@ impl Groups {
     }
 
     /// A run begins with this field sync.
-    pub(crate) fn begin(&mut self, sync: &[i8; SEGMENT])
+    pub fn begin(&mut self, sync: &[i8; SEGMENT])
         ensures grouped { AreGrouped self.new (sync.now ∷ []) [] }
         ensures held { self.new.held ≡ [] }
     {
@@ -69,7 +69,7 @@ impl Groups {
     }
 
     /// The next data segments of the run, as the bytes of their symbols. The first is at this place of its field.
-    pub(crate) fn take_all(&mut self, place: u16, segments: &[[u8; SEGMENT]])
+    pub fn take_all(&mut self, place: u16, segments: &[[u8; SEGMENT]])
         requires place { place + length segments.now ≤ FIELD_PACKETS }
         requires most { length segments.now ≤ GROUP_PACKETS * HELD_GROUPS }
         requires none { self.old.held ≡ [] }
@@ -85,12 +85,14 @@ impl Groups {
     }
 
     /// The next data segment of the run, at this place of its field.
-    pub(crate) fn take(&mut self, place: u16, segment: &[i8; SEGMENT])
+    pub fn take(&mut self, place: u16, segment: &[i8; SEGMENT])
         requires place { place < FIELD_PACKETS }
         requires room { place % 4 ≡ 3 → length self.old.held < HELD_GROUPS }
         ensures grouped { (run : List (List ℤ)) (given : List ℕ) → AreGrouped self.old run given
             → length run % 313 ≡ place + 1 → AreGrouped self.new (run ++ segment.now ∷ []) given }
         ensures held { length self.new.held ≡ length self.old.held + (place % 4 + 1) / 4 }
+        ensures bits { place % 4 ≡ 3 → self.new.precoder_bits ≡ precoder_bits_after (place - place % 4)
+            self.old.precoder_bits self.new.levels }
     {
         let part = place % GROUP_SEGMENTS;
         put_levels(segment, part as usize, &mut self.levels);
@@ -104,6 +106,29 @@ impl Groups {
             );
             self.held += 1;
         }
+    }
+
+    /// The levels of the group that is on, or that was whole last.
+    pub fn levels(&self) -> &[u8; GROUP_LEVELS]
+        ensures { result.now ≡ self.now.levels }
+    {
+        &self.levels
+    }
+
+    /// Puts the bytes of the groups that are held in place of the first of others, and tells how many groups these were.
+    /// None is held then.
+    pub fn put(&mut self, out: &mut [u8]) -> usize
+        requires room { length out.old ≡ GROUP_BYTES * HELD_GROUPS }
+        ensures count { result ≡ length self.old.held }
+        ensures most { result ≤ HELD_GROUPS }
+        ensures groups { self.new ≡ record self.old { held = [] } }
+        ensures bytes { take (GROUP_BYTES * result) out.new ≡ flat_map (λ bytes. bytes) self.old.held }
+        ensures long { length (flat_map (λ bytes. bytes) self.old.held) ≡ GROUP_BYTES * result }
+    {
+        let groups = self.held;
+        self.held = 0;
+        out[..GROUP_BYTES * groups].copy_from_slice(self.bytes[..groups].as_flattened());
+        groups
     }
 
     /// Gives on the bytes of the groups that are held, and tells how many groups these were. None is held then. What

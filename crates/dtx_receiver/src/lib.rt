@@ -11,7 +11,8 @@ mod receiver;
 mod symbols;
 mod tracking;
 
-pub use batch::{Batch, MOST_RECEIVED, Received};
+pub use batch::{Batch, HELD_GROUPS, MOST_RECEIVED, Received};
+pub use groups::Groups;
 pub use progress::{Progress, begun};
 pub use receiver::Receiver;
 pub use symbols::to_symbols;

@@ -1,4 +1,4 @@
-use Rattle.dtx_receiver.proofs.Grouped.{group_long}
+use Rattle.dtx_receiver.proofs.GroupedLemmas.{group_long}
 use Rattle.dtx_receiver.proofs.groups.write_group.Goals as goal
 
 pub returns-clause-long : goal.returns-clause-long

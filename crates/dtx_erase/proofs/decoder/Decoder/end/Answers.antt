@@ -15,7 +15,7 @@ returns-then-self-eq0-2-clause-packets c = λ run d.
     let packet : Received =
     mended_word (187 * c.self.inside.place) c.last_word-word.result c.last_word-flags.result in
     ends_one _ run c.last_word-word.result c.last_word-flags.result here c.if-self-eq0.true c.if-self-eq0-2.true
-    (λ k. c.last_word-word.ensures run k here.bytes) (λ k. c.last_word-flags.ensures (shown_run run) k here.marks)
+    (λ k. c.last_word-word.ensures.word run k here.bytes) (λ k. c.last_word-flags.ensures (shown_run run) k here.marks)
     ∙ ap (λ xs. mended_run_early run ++ xs)
     (sym (c.give.ensures ∙ ap (λ (xs : List Received). xs ++ packet ∷ []) c.requires))
 
@@ -30,6 +30,10 @@ returns-else-self-eq0-clause-packets c = λ run d.
 
 pub returns-then-self-eq0-2-clause-few : goal.returns-then-self-eq0-2-clause-few
 returns-then-self-eq0-2-clause-few c =
-    let packet : Received =
-    mended_word (187 * c.self.inside.place) c.last_word-word.result c.last_word-flags.result in
-    omega (arith, ap length c.give.ensures, length_push c.args.batch.now.packets.items packet, ap length c.requires)
+    omega (
+      arith,
+      ap length c.give.ensures,
+      length_push c.args.batch.now.packets.items (mended_word
+          (187 * c.self.inside.place) c.last_word-word.result c.last_word-flags.result),
+      ap length c.requires,
+    )

@@ -1,19 +1,55 @@
-use Rattle.std.proofs.Common.{◌-◌, ◌%◌}
-use Rattle.dtx_erase.proofs.Quiet.{known_group}
+use Rattle.std.proofs.Common.{◌*◌, ◌++◌, ◌∙◌, sym, ap, subst, take, drop}
+use Rattle.dtx_laws.specs.Branches.{after_all}
+use Rattle.dtx_receiver.specs.Bytes.{bytes_in}
+use Rattle.dtx_receiver.specs.Receiver.{Grouping}
+use Rattle.dtx_receiver.specs.Symbols.{symbols_in}
+use Rattle.dtx_receiver.proofs.GroupedLemmas.{flat, grouped_none}
+use Rattle.dtx_erase.specs.Marks.{shown_run}
+use Rattle.dtx_erase.specs.Sides.{Side, Holds, IsFurther}
+use Rattle.dtx_erase.proofs.Gathered.{Passed}
+use Rattle.dtx_erase.proofs.Quiet.{known_more}
+use Rattle.dtx_erase.proofs.Stands.{held_passed, further_held}
 use Rattle.dtx_erase.proofs.mark_side.MarkSide.take_any.Goals as goal
 
 pub invariant_of-self : goal.invariant_of-self
 invariant_of-self c =
-    known_group (c.args.place - c.args.place % 4) c.self.inside.side c.take.new.self c.self.inside.lowest
-    c.is_lowest-now.result c.both-both.result c.self.inside.quiet c.is_over-self-inside.result c.self.inside.zeros
-    c.counted-zeros.result c.self.invariant (record {
-      branches = (c.take.ensures.whole c.if-place-eq-LAST.true).0;
-      precoder_bits = (c.take.ensures.whole c.if-place-eq-LAST.true).1;
-    })
-    c.is_lowest-now.ensures.0 c.both-both.ensures c.counted-zeros.ensures.none c.counted-zeros.ensures.more
-    c.counted-zeros.ensures.all
-    (λ t. (
-      (c.is_over-self-inside.ensures.0 t).0,
-      (c.is_over-self-inside.ensures.0 t).1,
-      c.is_empty-empty.ensures.0 ((c.is_over-self-inside.ensures.0 t).2),
-    ))
+    let old = c.self.inside.side in
+    let laid = c.lay_out-count in
+    let groups = c.pass.ensures.groups ∙ ap (λ (k : Side). k.groups) laid.ensures.side in (
+      known_more old c.pass.new.self c.self.inside.quiet c.is_blank-blank.result c.is_over-self-inside.result
+          c.self.inside.zeros laid.result c.counted-zeros.result
+          (take (828 * laid.result) (drop 156 laid.new.self.gathered)) c.self.invariant.0
+          (ap (λ (g : Grouping). g.held) groups)
+          (c.pass.ensures.branches
+          ∙ ap (λ (k : Side). after_all 52 k.branches (take (828 * laid.result) (drop 156 laid.new.self.gathered)))
+          (laid.ensures.side) ∙ ap (λ (k : Side). after_all 52 k.branches (take (828 * laid.result)
+          (drop 156 laid.new.self.gathered))) c.take_marks.ensures.rest)
+          c.is_blank-blank.ensures.0 c.counted-zeros.ensures.none c.counted-zeros.ensures.more
+          (λ t. let i = c.is_over-self-inside.ensures.0 t in
+          let lowest = c.is_lowest-lowest.ensures.0 i.1 in (
+            lowest,
+            ap (λ (g : Grouping). g.precoder_bits) groups
+                ∙ c.take_marks.ensures.lowest c.requires.some (c.is_whole-whole.ensures.0 i.0)
+                (sym (ap (λ (g : Grouping). g.levels) groups) ∙ lowest),
+            i.2,
+            c.is_empty-empty.ensures.0 i.3,
+          )),
+      c.counted-zeros.ensures.most,
+    )
+
+pub returns : goal.returns
+returns c = λ run d e.
+    let old = c.self.inside.side in
+    let here : Holds old run = subst (λ (k : Side). Holds k run) (sym c.self.view_is) d in
+    let laid = c.lay_out-count in
+    let held = c.take_marks.ensures.grouped run (bytes_in run) (grouped_none old.groups run here.levels here.none) e in
+    subst (λ n. IsFurther c.pass.new.self n run (run ++ shown_run (symbols_in c.args.segments.now)))
+    (laid.ensures.count ∙ c.take_marks.ensures.held)
+    (further_held old c.pass.new.self c.take_marks.new.side.groups laid.result run
+    (run ++ shown_run (symbols_in c.args.segments.now)) here held
+    (c.pass.ensures.groups ∙ ap (λ (k : Side). k.groups) laid.ensures.side)
+    (subst (λ (k : Side). Passed k.branches c.pass.new.self.branches k.begun c.pass.new.self.gathered
+    c.pass.new.self.begun laid.result (flat c.take_marks.new.side.groups.held)) c.take_marks.ensures.rest
+    (held_passed c.take_marks.new.side laid.new.self c.pass.new.self laid.result
+    laid.ensures.begun laid.ensures.most laid.ensures.side laid.ensures.bytes laid.ensures.long c.pass.ensures.branches
+    c.pass.ensures.gathered c.pass.ensures.begun)))

@@ -4,6 +4,7 @@ use Rattle.std.proofs.lemmas.List.{length-map}
 use Rattle.dtx_receiver.specs.declared.batch.Received.{Received}
 use Rattle.dtx_erase.specs.Marks.{is_set}
 use Rattle.dtx_erase.specs.Sides.{mended_word}
+use Rattle.dtx_erase.proofs.Mendings.{push_four}
 use Rattle.dtx_erase.proofs.words.Words.give_four.Goals as goal
 
 pub returns : goal.returns
@@ -27,5 +28,5 @@ returns c =
     ∙ ap (λ (rs : List Received). rs ++ given 1 ∷ [])
     (c.push.ensures.packets (word 0) (map is_set (flags 0)) (c.requires.words 0 (lit< tt)) (marked 0 (lit< tt))
     (c.mend_four-answers.ensures 0 (lit< tt))
-    ∙ ap (λ (rs : List Received). rs ++ mended_word (187 * c.args.place) (word 0) (flags 0) ∷ []) c.requires.none
-    ∙ ap (λ (i : ℕ). mended_word (187 * i) (word 0) (flags 0) ∷ []) first)))
+    ∙ ap (λ (i : ℕ). c.args.batch.now.packets.items ++ mended_word (187 * i) (word 0) (flags 0) ∷ []) first)))
+    ∙ push_four c.args.batch.now.packets.items (given 0) (given 1) (given 2) (given 3)

@@ -4,7 +4,7 @@ use Rattle.dtx_outer.specs.Inner.{StandsFor}
 use Rattle.dtx_receiver.specs.Bytes.{bytes_in}
 use Rattle.dtx_receiver.specs.Packets.{early_of}
 use Rattle.dtx_receiver.specs.Receiver.{AreGrouped, Decoding, Decodes, Grouping}
-use Rattle.dtx_receiver.proofs.Grouped.{flat, grouped_none}
+use Rattle.dtx_receiver.proofs.GroupedLemmas.{flat, grouped_none}
 use Rattle.dtx_receiver.proofs.Stands.{decoding, decodes_given}
 use Rattle.dtx_receiver.proofs.decoder.Decoder.take.Goals as goal
 

@@ -1,6 +1,6 @@
 use Rattle.std.proofs.Common.{ap, ◌∙◌}
 use Rattle.dtx_slice.specs.Unrolled.{precoder_bits_of}
-use Rattle.dtx_receiver.proofs.Grouped.{grouped_first}
+use Rattle.dtx_receiver.proofs.GroupedLemmas.{grouped_first}
 use Rattle.dtx_receiver.proofs.groups.Groups.begin.Goals as goal
 
 pub returns-clause-grouped : goal.returns-clause-grouped

@@ -4,7 +4,7 @@ use Rattle.dtx_receiver.specs.Bytes.{data_count}
 use Rattle.dtx_receiver.specs.Receiver.{AreGrouped, Grouping}
 use Rattle.dtx_receiver.proofs.SegmentsLemmas.{segment_long}
 use Rattle.dtx_receiver.proofs.LevelsLemmas.{whole_now, part_now, not_due_now}
-use Rattle.dtx_receiver.proofs.Grouped.{grouping, grouped_group, grouped_data}
+use Rattle.dtx_receiver.proofs.GroupedLemmas.{grouping, grouped_group, grouped_data}
 use Rattle.dtx_receiver.proofs.groups.Groups.take.Goals as goal
 
 pub returns-then-part-eq-GROUP_SEGMENTS-clause-grouped : goal.returns-then-part-eq-GROUP_SEGMENTS-clause-grouped

@@ -8,7 +8,7 @@ use Rattle.dtx_slice.specs.Slicing.{sliced_data, sliced_last}
 use Rattle.std.proofs.lemmas.List.FromFn.{length-map-range_with_len}
 use Rattle.dtx_slice.specs.Unrolled.{byte_back, bytes_back, level_groups, precoder_bits_after, precoder_bits_of}
 use Rattle.dtx_slice.proofs.JoinsLemmas.{groups_whole}
-use Rattle.dtx_receiver.specs.Bytes.{data_count, groups_of, bytes_in}
+use Rattle.dtx_receiver.specs.Bytes.{data_count, groups_of, first_bits, levels_in, bytes_in}
 use Rattle.dtx_receiver.specs.Receiver.{AreGrouped, AreLevels, Grouping}
 use Rattle.dtx_receiver.proofs.LevelsLemmas.{levels_first, levels_data, levels_group, Added, Whole}
 use Rattle.dtx_receiver.proofs.SegmentsLemmas.{Still, still_data, first_bytes}
@@ -82,3 +82,20 @@ grouped_group x kept new run given place z w d l f long h =
           ∙ length-append (flat kept.held) bytes
           ∙ omega (arith, d.long, long, ap length h, length_push kept.held bytes);
     }
+
+-- ---- how many groups there are
+
+-- how many bytes the whole groups have
+pub bytes_long : {levels bits : List ℕ} (run : List (List ℤ)) → AreLevels levels bits run
+    → length (bytes_in run) ≡ 828 * groups_of run
+unfolding bytes_in bytes_back
+bytes_long run a =
+    length-map-range_with_len (byte_back 0 (first_bits run) (levels_in run)) 0 (828 * level_groups (levels_in run))
+    ∙ ap (λ g. 828 * g) (groups_whole (groups_of run) (levels_in run) a.long)
+
+-- with the bytes of h groups more
+pub groups_grown : {levels bits fore back : List ℕ} (run all : List (List ℤ)) (more : List ℕ) (h : ℕ)
+    → AreLevels levels bits run → AreLevels fore back all → bytes_in all ≡ bytes_in run ++ more
+    → length more ≡ 828 * h → groups_of all ≡ groups_of run + h
+groups_grown run all more h a b e l =
+    omega (arith, bytes_long all b, bytes_long run a, ap length e, length-append (bytes_in run) more, l)
