@@ -1,4 +1,4 @@
--- A coder that runs along with a stream from an anchor: it is aligned there, whatever it was given before, then gets
+-- A coder that runs along with a stream from an anchor. It is aligned there, whatever it was given before. Then it gets
 -- the groups of the packets from there on, and at some of them preset states. Packet 0 is the anchor's, and begins a
 -- first field.
 use Rattle.std.specs.Prelude.{ℕ, ◌≡◌, ◌-◌, ◌*◌, ◌%◌, ◌<◌, ◌≤◌, List, length, drop}

@@ -6,8 +6,8 @@ use Rattle.dtx_coder.specs.Coded.{coded_from}
 use Rattle.dtx_coder.specs.Stream.{segment, last_of, symbols_of}
 use Rattle.dtx_coder.specs.Groups.{Coding, Group, sent_segments}
 
--- A group whose packets have left the interleaver as these bytes: the place of its first packet in a field, whether
--- this is a second field, whether a field sync stands before it, and the states from which it is coded.
+-- A group whose packets have left the interleaver as these bytes. It has the place of its first packet in a field,
+-- whether this is a second field, whether a field sync stands before it, and the states from which it is coded.
 pub record InterleavedGroup : Type 0 where
   pub first : ℕ
   pub second : Bool

@@ -29,8 +29,8 @@ new_coding = record { states = zero_states; last = no_last; branches = zero_bran
 abbrev pub aligned_coding : Coding → Coding
 aligned_coding coder = record coder { branches = aligned coder.branches }
 
--- A group: the place of its first packet in a field, whether this is a second field, whether a field sync stands before
--- it, the states from which it is coded, and its packets.
+-- A group: the place of its first packet in a field, whether this is a second field, and whether a field sync stands
+-- before it. Also the states from which it is coded, and its packets.
 pub record Group : Type 0 where
   pub first : ℕ
   pub second : Bool

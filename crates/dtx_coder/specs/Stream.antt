@@ -40,8 +40,8 @@ no_last = replicate 12 (negsuc 6)
 unfoldable pub last_before : List (List ℕ) → ℕ → List ℤ
 last_before packets u = if u == 0 then no_last else last_of (segment (levels packets) (4 * u - 1))
 
--- the field sync before group u, where the group begins a field: that of a second field where packet 4 * u stands in
--- the second half of its 624 (data field sync)
+-- The field sync before group u, where the group begins a field. It is that of a second field where packet 4 * u stands
+-- in the second half of its 624 (data field sync).
 unfoldable pub sync_before : List (List ℕ) → ℕ → List (List ℤ)
 sync_before packets u =
     if 4 * u % 312 == 0 then field_sync (nat_le 312 (4 * u % 624)) (last_before packets u) ∷ [] else []

@@ -107,9 +107,9 @@ impl Coder {
         self.outer.align();
     }
 
-    /// Codes the four packets at the places `first` to `first` + 3 of a first or a second field: from the states of
-    /// `preset`, or else from those that the last group left. Gives their four data segments, where `sync` is set
-    /// behind a field sync that ends with the last twelve symbols given before.
+    /// Codes the four packets at the places `first` to `first` + 3 of a first or a second field. It codes them from the
+    /// states of `preset`, or else from those that the last group left. Gives their four data segments, where `sync` is
+    /// set behind a field sync that ends with the last twelve symbols given before.
     pub fn group(
         &mut self,
         first: u16,

@@ -47,7 +47,7 @@ pub fn fronts()
         → a53 packets ≡ a53 (take (GROUP_PACKETS * (length packets / GROUP_PACKETS)) packets) }
 {}
 
-/// From group u on the coders go on from the states that the groups before it leave, and so the segments of group u are
+/// From group u on the coders go on from the states that the groups before it leave. So the segments of group u are
 /// those of its own 828 bytes from these states.
 pub fn goes_on()
     ensures levels { (packets : List (List ℕ)) (u : ℕ) → GROUP_PACKETS * u ≤ length packets
@@ -74,7 +74,7 @@ pub fn counts()
 {}
 
 /// Behind an align, whatever the coder held, the bytes that leave the interleaver are those of the groups given since,
-/// each at the place of the map, and where the map's source lies before them a byte that the branches held.
+/// each at the place of the map. Where the map's source lies before these groups, a byte leaves that the branches held.
 pub fn behind_align()
     ensures { (coder : Coding) (groups : List Group) → HasWidths BRANCHES (spreading BRANCH_STEP) coder.branches
         → IsInterleavedBehind BRANCHES BRANCH_STEP coder.branches.lists (coded_groups groups)
@@ -82,8 +82,8 @@ pub fn behind_align()
 {}
 
 /// Behind an align, whatever the coder held, the bytes that leave as packet 52 and each later one come are those of the
-/// packets given since, and no byte from before is among them: so it is of the 828 bytes of each group whose first
-/// packet is packet 52 since or a later one.
+/// packets given since. No byte from before is among them. So it is of the 828 bytes of each group whose first packet
+/// is packet 52 since or a later one.
 pub fn flushed()
     ensures bytes { (coder : Coding) (groups : List Group) (n : ℕ)
         → HasWidths BRANCHES (spreading BRANCH_STEP) coder.branches → CODEWORD * FLUSHING_PACKETS ≤ n

@@ -20,7 +20,7 @@ pub struct Tables {
 }
 
 impl Tables {
-    /// The tables are made here. Only want of memory is refused.
+    /// The tables are made here. The only error is out of memory.
     pub fn new(alloc: Global) -> Result<Tables, AllocError> {
         Ok(Tables {
             whitener: Rc::new(alloc, Atsc::new(alloc)?)?,

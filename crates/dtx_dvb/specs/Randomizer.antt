@@ -26,8 +26,8 @@ randomizer_bit t = slice_index (sequence (suc t)) (15 + t)
 abbrev pub eight_bits : (ℕ → ℕ) → ℕ
 eight_bits o = 128 * o 0 + 64 * o 1 + 32 * o 2 + 16 * o 3 + 8 * o 4 + 4 * o 5 + 2 * o 6 + o 7
 
--- byte t: 255 for the first sync byte of eight packets, 0 for each other one, while the sequence runs on, and else
--- o[8 * (t - 1)] to o[8 * (t - 1) + 7]
+-- Byte t: 255 for the first sync byte of eight packets, and 0 for each other one, while the sequence runs on. Else it
+-- is o[8 * (t - 1)] to o[8 * (t - 1) + 7].
 unfoldable pub randomizer_byte : ℕ → ℕ
 randomizer_byte t =
     if t == 0 then 0xff else (if t % 188 == 0 then 0 else eight_bits (λ i. randomizer_bit (8 * (t - 1) + i)))

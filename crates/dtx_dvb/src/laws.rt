@@ -24,8 +24,8 @@ use dtx_outer::Taken;
 use dtx_sizes::{PACKET, SYNC};
 
 /// What is read of a stream's bytes, where each word that is gathered of them differs from its block in at most eight
-/// places: each packet but the last eleven, in order and as it was sent, and none is flagged. As many bytes are put
-/// right as differ. A packet comes back whatever became of the others.
+/// places. It is each packet but the last eleven, in order and as it was sent, and none is flagged. As many bytes are
+/// put right as differ. A packet comes back whatever became of the others.
 pub fn gives_back()
     ensures read { (packets : List (List ℕ)) (bytes : List ℕ) → ArePackets packets → IsSlight packets bytes
         → read_dvb bytes ≡ map (as_corrected packets bytes) (range_with_len 0 (length packets - WAITING)) }

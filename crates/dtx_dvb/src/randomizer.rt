@@ -43,7 +43,7 @@ impl Whitener for Dvb {
 }
 
 impl Dvb {
-    /// The bytes, from the bits of the sequence. Only want of memory is refused.
+    /// The bytes, from the bits of the sequence. The only error is out of memory.
     pub fn new(alloc: Global) -> Result<Dvb, AllocError>
         ensures { IfOk result (λ dvb. ⟦<Dvb as Whitener>⟧.bytes dvb ≡ randomizer_bytes) }
     {

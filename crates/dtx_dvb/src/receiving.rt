@@ -49,7 +49,7 @@ impl Model for DvbIn {
 }
 
 impl DvbIn {
-    /// At the start of a stream. Only want of memory is refused.
+    /// At the start of a stream. The only error is out of memory.
     pub fn new(alloc: Global) -> Result<DvbIn, AllocError>
         ensures { IfOk result (λ reader. HasRead [] reader) }
     {

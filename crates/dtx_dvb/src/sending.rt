@@ -47,7 +47,7 @@ impl Model for DvbOut {
 }
 
 impl DvbOut {
-    /// At the start of a stream, with zeros in every branch. Only want of memory is refused.
+    /// At the start of a stream, with zeros in every branch. The only error is out of memory.
     pub fn new(alloc: Global) -> Result<DvbOut, AllocError>
         ensures { IfOk result (λ out. HasSent [] out) }
     {

@@ -22,8 +22,8 @@ was_missing run r e =
     then slice_index_or (map is_missing (drop 820 (slice_index_or run 0 []))) ((e + 4) % 12) false
     else slice_index_or (missing_in run) (symbol_place 0 (r - 1) e) false
 
--- Byte j of a run is marked where the symbol of one of its four pairs is missing, or the one of its coder before them:
--- the bit X2 of a pair is decoded from Z2 of two symbols in a row.
+-- Byte j of a run is marked where the symbol of one of its four pairs is missing, or the one of its coder before them.
+-- For the bit X2 of a pair is decoded from Z2 of two symbols in a row.
 unfoldable pub is_marked : List (List ℤ) → ℕ → Bool
 is_marked run j =
     let r : ℕ = 4 * (j / 12) in

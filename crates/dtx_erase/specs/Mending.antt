@@ -17,7 +17,7 @@ unmarked_distance (mark ∷ marks) (x ∷ xs) (y ∷ ys) =
     (if mark || x == y then 0 else 1) + unmarked_distance marks xs ys
 
 -- A codeword that differs from the word in e unmarked places, where f are marked, and 2 * e + f is no more than there
--- are parity bytes: a wrong byte costs two of them, a missing one costs one.
+-- are parity bytes. A wrong byte costs two of them, a missing one costs one.
 pub record IsMending (n k : ℕ) (marks : List Bool) (word code : List ℕ) : Type 0 where
   pub codeword : IsCodeword n k code
   pub near : 2 * unmarked_distance marks word code + lost marks ≤ n - k

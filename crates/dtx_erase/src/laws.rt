@@ -61,7 +61,7 @@ pub fn nothing_missing()
     ensures bytes { (segments : List (List ℤ)) → AllThere segments → mended segments ≡ received segments }
 {}
 
-/// A packet's word that differs from a codeword in e unmarked bytes, where f are marked and `2 * e + f` is at most 20,
+/// Let a packet's word differ from a codeword in e unmarked bytes, where f are marked and `2 * e + f` is at most 20. It
 /// gives the codeword's packet, whatever stands at the marked places.
 pub fn near_packet()
     ensures { (bytes : List ℕ) (marks : List Bool) (k : ℕ) (code : List ℕ) → IsCodeword CODEWORD PACKET_DATA code

@@ -87,7 +87,7 @@ fn cancelled(syndromes: &[u8; ROOM], marks: &[bool], count: usize) -> [u8; ROOM]
 }
 
 /// Marks the places that are marked, and those at which the polynomial with the first `order + 1` coefficients, the
-/// highest first, vanishes: these are `order` at most, and once so many are found no more are looked for.
+/// highest first, vanishes. These are `order` at most, and once so many are found no more are looked for.
 pub fn suspects(marks: &[bool], coefficients: &[u8], order: usize) -> [bool; ROOM]
     requires few { length marks.now ≤ 255 }
     requires room { order < length coefficients.now }

@@ -35,7 +35,7 @@ impl Model for MendReceiver {
 }
 
 impl MendReceiver {
-    /// A receiver to which no segment was given. Only want of memory is refused.
+    /// A receiver to which no segment was given. The only error is out of memory.
     pub fn new(alloc: Global) -> Result<MendReceiver, AllocError>
         ensures { IfOk result (λ receiver. Mends receiver []) }
     {
@@ -47,8 +47,8 @@ impl MendReceiver {
 
     /// Receives the next segment: tells what it is, and gives the packets that become whole with it, in place of what
     /// the batch held. A packet is given with the group of four data segments from which on 53 data segments or more
-    /// stand in whole groups from the packet's own on, or else with the segment that ends the run. No call takes
-    /// memory.
+    /// stand in whole groups from the packet's own on. Else it is given with the segment that ends the run. No call
+    /// takes memory.
     pub fn take(&mut self, segment: &[i8; SEGMENT], batch: &mut Batch) -> Tracking
         ensures answer { (segments : List (List ℤ)) → Mends self.old segments
             → result ≡ tracking segments segment.now }

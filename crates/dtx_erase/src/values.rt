@@ -1,5 +1,5 @@
-//! The values of the errors at the suspect places: what `dtx_laws::correcting::patch` gives, with a number of products
-//! that grows with the square of how many places are suspect, and not with its cube.
+//! The values of the errors at the suspect places. They are what `dtx_laws::correcting::patch` gives, with a number of
+//! products that grows with the square of how many places are suspect, and not with its cube.
 
 ghost use Rattle.std.specs.Prelude.{◌≡◌, ℕ, ◌+◌, ◌<◌, ◌≤◌, [], true, length, slice_index};
 ghost use Rattle.std.specs.Int.RustNames.{bit_xor};

@@ -11,8 +11,8 @@ pub record WasCoded (state : StreamCoder) (bytes : List ℕ) : Type 0 where
   pub coder : StandsFor state.coder.value (take (in_groups (packets_of bytes)) (packets_of bytes))
   pub packets : state.packets ≡ whole_packets bytes
 
--- Of a batch the groups before this one are sent, and the coder stands for the packets up to them but for those of the
--- other groups, which are interleaved behind them: their bytes stand in the batch from this group on.
+-- Of a batch the groups before this one are sent. The coder stands for the packets up to them, but the packets of the
+-- other groups are interleaved behind them. Their bytes stand in the batch from this group on.
 pub record AreInterleaved (state : StreamCoder) (group : ℕ) (before packets : List (List ℕ)) : Type 0 where
   pub ahead : IsAhead (stream_coding before) (length before) packets
       (take (207 * length packets) (drop (828 * group) state.batch)) state.coder.value

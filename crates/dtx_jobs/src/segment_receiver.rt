@@ -17,7 +17,7 @@ pub trait SegmentReceiver: Drop {
     /// These segments were given to the value.
     ghost stands: { Self → List (List ℤ) → Type 0 };
 
-    /// One to which no segment was given. Only want of memory is refused.
+    /// One to which no segment was given. The only error is out of memory.
     fn new(alloc: Global) -> Result<Self, AllocError>
         ensures { IfOk result (λ receiver. stands receiver []) };
 

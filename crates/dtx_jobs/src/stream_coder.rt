@@ -222,8 +222,8 @@ fn batch_packets(first: u64, left: usize) -> usize
     BATCH_PACKETS.min(left).min(field as usize)
 }
 
-/// How many segments a stream of that many packets has: four for each whole group, and a field sync for each field that
-/// is begun by one (ATSC A/53 Part 2).
+/// How many segments a stream of that many packets has (ATSC A/53 Part 2): four for each whole group, and a field sync
+/// for each field that is begun by one.
 fn segments_of(packets: u64) -> u64
     requires { packets ≤ MOST_PACKETS }
     ensures { (stream : List (List ℕ)) → length stream ≡ packets → result ≡ length (a53 stream) }

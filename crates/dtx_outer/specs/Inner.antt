@@ -31,8 +31,8 @@ word_at n b m y k = map (λ p. slice_index y (codeword_byte_place b m p)) (range
 abbrev pub IsComplete : (n b m given k : ℕ) → Type 0
 IsComplete n b m given k = (j : ℕ) → j < n → codeword_byte_place b m (n * k + j) < given
 
--- what is kept between calls: the whitener's bytes and the gatherer's branches, the last block that was gathered, how
--- many blocks more give no packet, and which packet of the whitener's period comes next
+-- What is kept between calls: the whitener's bytes and the gatherer's branches, and the last block that was gathered.
+-- Also how many blocks more give no packet, and which packet of the whitener's period comes next.
 pub record Kept : Type 0 where
   pub white : List ℕ
   pub branches : Branching

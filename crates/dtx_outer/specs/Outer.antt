@@ -5,7 +5,7 @@ use Rattle.dtx_laws.specs.Words.{codeword}
 use Rattle.dtx_laws.specs.Whitening.{whitened}
 
 -- A whitener's period is a whole number of packets of k bytes, and their codewords of n bytes are a whole number of
--- turns over the b branches: so each period begins at branch 0.
+-- turns over the b branches. So each period begins at branch 0.
 pub record IsPeriod (n k b period : ℕ) : Type 0 where
   pub some : 1 ≤ period
   pub packets : period % k ≡ 0

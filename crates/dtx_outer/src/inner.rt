@@ -28,8 +28,8 @@ pub enum Taken {
     Bad,
 }
 
-/// The way back through the outer coding of packets with `K` bytes of data (ATSC A/53 Part 2, data randomizer,
-/// Reed-Solomon encoder and interleaving), run by run: a run's first byte is one that came to branch 0 of the
+/// The way back through the outer coding of packets with `K` bytes of data, run by run (ATSC A/53 Part 2, data
+/// randomizer, Reed-Solomon encoder and interleaving). A run's first byte is one that came to branch 0 of the
 /// interleaver, and the first of a packet whose place in the whitener's period is 0. `StandsFor inner y` says that the
 /// run has given the bytes `y` so far.
 #[derive(Drop)]
@@ -116,8 +116,8 @@ impl<
         self.place = 0;
     }
 
-    /// The numbers are those of a code, of an interleaver and of a whole period, each branch holds as many bytes as it
-    /// delays by, and the whitener has a byte for each place of its period.
+    /// The numbers are those of a code, of an interleaver and of a whole period. Each branch holds as many bytes as it
+    /// delays by. The whitener has a byte for each place of its period.
     pub fn known(&self)
         ensures period { IsPeriod N K B W.PERIOD }
         ensures code { IsCode N K }
@@ -131,8 +131,8 @@ impl<
     }
 
     /// The next block of a run. The first `waiting N B M` blocks of a run give no packet, and `out` stays. The block
-    /// after `k` more gives packet `k` of the run: the first `K` bytes of its word's correction, or of the word as it
-    /// was gathered where it has none, unwhitened as packet `k` of a stream.
+    /// after `k` more gives packet `k` of the run. It is the first `K` bytes of its word's correction, or of the word
+    /// as it was gathered where it has none, unwhitened as packet `k` of a stream.
     ///
     /// No call takes memory, and a run may have any number of blocks.
     pub fn take(&mut self, bytes: &[u8; N], out: &mut [u8; K]) -> Taken
@@ -236,7 +236,7 @@ impl<
         give(corrected, &self.whitener, place, word, out)
     }
 
-    /// Gathers a block. The word is the end of the block before it and the begin of this one, so that its first byte is
+    /// Gathers a block. The word is the end of the block before it and the beginning of this one. So its first byte is
     /// the one that leaves `B * M * (B - 1)` bytes after a block of the run began.
     fn next_word(&mut self, bytes: &[u8; N], word: &mut [u8; N])
         requires code { IsCode N K }

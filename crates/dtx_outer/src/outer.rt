@@ -68,8 +68,8 @@ impl<
         }
     }
 
-    /// The numbers are those of a code, of an interleaver and of a whole period, each branch holds as many bytes as it
-    /// delays by, and the whitener has a byte for each place of its period.
+    /// The numbers are those of a code, of an interleaver and of a whole period. Each branch holds as many bytes as it
+    /// delays by. The whitener has a byte for each place of its period.
     pub fn known(&self)
         ensures period { IsPeriod N K B W.PERIOD }
         ensures code { IsCode N K }

@@ -1,4 +1,4 @@
--- Runs as intervals of a list of segments, each by the place of its first segment and how many it has: what makes one a
+-- Runs as intervals of a list of segments, each by the place of its first segment and how many it has. What makes one a
 -- run, and what makes some all of the runs. No step of the search is in it.
 use Rattle.std.specs.Prelude.{ℕ, ℤ, ◌≡◌, ◌+◌, ◌%◌, ◌<◌, ◌≤◌, ◌⊎◌, Bool, true, false, List, [], ◌∷◌, length}
 use Rattle.std.specs.Prelude.{slice_index_or, slice_range}

@@ -17,8 +17,8 @@ pub record Grouping : Type 0 where
   pub precoder_bits : List ℕ
   pub held : List (List ℕ)
 
--- what is kept of a run: the levels of the group that is on, Z2 of the twelve coders before it, the outer coding's way
--- back, and how many data segments are in whole groups, modulo 52
+-- What is kept of a run: the levels of the group that is on, and Z2 of the twelve coders before it. Also the outer
+-- coding's way back, and how many data segments are in whole groups, modulo 52.
 pub record Decoding : Type 0 where
   pub levels : List ℕ
   pub precoder_bits : List ℕ
@@ -50,7 +50,7 @@ pub record Kept : Type 0 where
   pub place : Option ℕ
   pub decoding : Decoding
 
--- At this place of a run a decoder that holds what a run leaves has what these segments leave: the place is that behind
+-- At this place of a run a decoder that holds what a run leaves has what these segments leave. The place is that behind
 -- the run that is on, and none where none is on.
 pub record HasRun {D : Type 0} (Holds : D → List (List ℤ) → Type 0) (at : Option ℕ) (held : D)
     (segments : List (List ℤ)) : Type 0 where

@@ -1,6 +1,6 @@
 -- Runs of segments (the profile's own). A segment is the list of its 832 symbols. A run begins with a segment that
--- looks like a field sync, and is the list of its segments: each field sync and 312 data segments behind it, whatever
--- these hold.
+-- looks like a field sync, and is the list of its segments. These are each field sync and 312 data segments behind it,
+-- whatever these hold.
 use Rattle.std.specs.Prelude.{ℕ, ℤ, ◌%◌, ◌==◌, Bool, if◌then◌else◌, Option, Some, None, option_to_list, List, []}
 use Rattle.std.specs.Prelude.{◌∷◌, ◌++◌, length, fold}
 use Rattle.dtx_frame.specs.Detection.{looks_like}

@@ -21,9 +21,9 @@ pub fn intervals()
 {}
 
 /// What the segment behind a list is told to be, by the list's runs. Where the last of them reaches the end of the
-/// list, it is on: where a field sync is due behind its n segments, the segment is one or ends the run, by whether it
-/// looks like one, and else it is a data segment. Where none reaches the end, the segment begins a run just where it
-/// looks like a field sync.
+/// list, it is on. Where a field sync is due behind its n segments, the segment is one or ends the run, by whether it
+/// looks like one. Else it is a data segment. Where none reaches the end, the segment begins a run just where it looks
+/// like a field sync.
 pub fn answers()
     ensures on { (segments : List (List ℤ)) (x : List ℤ) (places : List (ℕ × ℕ)) (first n : ℕ)
         → AreRuns segments 0 (places ++ (first, n) ∷ []) → first + n ≡ length segments
@@ -50,8 +50,8 @@ pub fn goes_on()
         × (all_packets segments ≡ packets_so_far segments ++ brought) }
 {}
 
-/// All bytes of packet k are among those of `count` data segments just where 53 of these or more stand from the
-/// packet's own on, or 52 and 52 divides k.
+/// All bytes of packet k are among those of `count` data segments just where enough of these stand from the packet's
+/// own on: 53 or more, or 52 where 52 divides k.
 pub fn complete()
     ensures told { (count k : ℕ) → is_complete count k ≡ true ↔ IsComplete 207 52 4 count k }
     ensures only { (count k : ℕ) → IsComplete 207 52 4 (207 * count) k
@@ -70,8 +70,8 @@ pub fn cut()
 {}
 
 /// Where no run is on at the end of a list, of it and a second one behind it each one's packets are received, one
-/// behind the other. No run is on where the list has none, or where its last run ends before one of its segments,
-/// which is one at which a field sync is due and which doesn't look like one.
+/// behind the other. No run is on where the list has none, or where its last run ends before one of its segments. At
+/// this segment a field sync is due, and it doesn't look like one.
 pub fn splice()
     ensures none { (first second : List (List ℤ)) → NoneLooks first 0 (length first)
         → received (first ++ second) ≡ received second }

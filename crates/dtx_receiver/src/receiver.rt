@@ -37,7 +37,7 @@ impl Model for Receiver {
 }
 
 impl Receiver {
-    /// A receiver to which no segment was given. Only want of memory is refused.
+    /// A receiver to which no segment was given. The only error is out of memory.
     pub fn new(alloc: Global) -> Result<Receiver, AllocError>
         ensures { IfOk result (λ receiver. StandsFor receiver []) }
     {
@@ -49,8 +49,8 @@ impl Receiver {
 
     /// Receives the next segment: tells what it is, and gives the packets that become whole with it, in place of what
     /// the batch held. A packet is given with the group of four data segments from which on 53 data segments or more
-    /// stand in whole groups from the packet's own on, or else with the segment that ends the run. No call takes
-    /// memory.
+    /// stand in whole groups from the packet's own on. Else it is given with the segment that ends the run. No call
+    /// takes memory.
     pub fn take(&mut self, segment: &[i8; SEGMENT], batch: &mut Batch) -> Tracking
         ensures answer { (segments : List (List ℤ)) → StandsFor self.old segments
             → result ≡ tracking segments segment.now }

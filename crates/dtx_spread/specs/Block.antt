@@ -25,8 +25,8 @@ branches_in b lead w place next block = record {
 abbrev pub following : ℕ → ℕ → ℕ
 following b next = if next + 1 == b then 0 else next + 1
 
--- These bytes are those that leave as one byte comes to branch `turn` and to each of the n - 1 behind it: each from the
--- first row whose byte of its branch has not left, or from behind all rows the one that comes.
+-- These bytes are those that leave as one byte comes to branch `turn` and to each of the n - 1 behind it. Each is from
+-- the first row whose byte of its branch has not left, or from behind all rows the one that comes.
 abbrev pub AreOfRow : ℕ → (ℕ → ℕ) → List ℕ → ℕ → ℕ → ℕ → List ℕ → Type 0
 AreOfRow b lead block place turn n bytes =
     (i : ℕ) → i < n → slice_index bytes i ≡ slice_index block (place + i + b * lead (turn + i))

@@ -13,8 +13,8 @@ pub(crate) trait Widths<const B: usize, const M: usize> {
     /// How many bytes fewer than the longest one branch i holds.
     ghost lead: { ℕ → ℕ };
 
-    /// How far behind the place of branch `turn` in its row the byte stands that leaves the branch `i` further on: `i`
-    /// places, and `B` for each byte that its branch holds fewer than the longest one.
+    /// How far behind the place of branch `turn` in its row the byte stands that leaves the branch `i` further on. It
+    /// is `i` places, and `B` for each byte that its branch holds fewer than the longest one.
     fn offset(turn: usize, i: usize) -> usize
         requires numbers { IsInterleaver B M }
         requires below { turn + i < B }

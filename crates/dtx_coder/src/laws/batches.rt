@@ -42,8 +42,8 @@ pub fn all_in_turn()
         → after_all_bytes ahead groups bytes ≡ after_groups held groups }
 {}
 
-/// The next group of a stream, of which packets were interleaved behind those that are sent: the coder then gives what
-/// a coder gives that stands for the packets before, and is as far ahead of the one that stands for one group more.
+/// The next group of a stream, of which packets were interleaved behind those that are sent. The coder then gives what
+/// a coder gives that stands for the packets before. It is as far ahead of the coder that stands for one group more.
 pub fn next_of_stream()
     ensures coded { (packets rest : List (List ℕ)) (ahead new : Coding) (group : Group) (bytes left : List ℕ)
         (count : ℕ) (sent : List ℤ)

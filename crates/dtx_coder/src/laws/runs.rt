@@ -40,8 +40,8 @@ pub fn interleaved_groups()
     ensures packets { (groups : List Group) → AreInTurn 0 groups → coded_groups groups ≡ coded (group_packets groups) }
 {}
 
-/// The segments of a run are those of the levels that its first states and all of its bytes give, and so are the states
-/// and the last twelve symbols behind it.
+/// The segments of a run are those of the levels that its first states and all of its bytes give. So are the states and
+/// the last twelve symbols behind it.
 pub fn runs()
     ensures segments { (coder : Coding) (s : ℕ) (q : List ℕ) (groups : List Group) → IsGroupRun s q coder groups
         → segments_of_groups coder groups ≡ run_segments coder.last
@@ -54,8 +54,8 @@ pub fn runs()
         (length groups) }
 {}
 
-/// A run with preset states behind other groups: of these only what they left in the branches, and the last twelve
-/// symbols, which end a first field sync, come into its segments.
+/// A run with preset states behind other groups. Of these groups only what they left in the branches, and the last
+/// twelve symbols, which end a first field sync, come into its segments.
 pub fn restarts()
     ensures segments { (coder : Coding) (front run : List Group) (r s : ℕ) (q : List ℕ) → AreInTurn r front
         → IsGroupRun s q (after_groups coder front) run
@@ -83,7 +83,7 @@ pub fn along()
 {}
 
 /// Where the last preset states came 52 packets or more behind the align, nothing that the coder was given before the
-/// align is left: the next group's data segments, the states and the last twelve symbols are those of the packets since
+/// align is left. The next group's data segments, the states and the last twelve symbols are those of the packets since
 /// the align, with the coders begun from the preset states at their group.
 pub fn sent_along()
     ensures group { (packets : List (List ℕ)) (g : ℕ) (q : List ℕ) (coder : Coding) (group : Group)

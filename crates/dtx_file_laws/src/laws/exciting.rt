@@ -27,12 +27,12 @@ use dtx_sizes::MOST_PACKETS;
 use dtx_top::Status;
 use std::alloc::Global;
 
-/// Of a file with the packets of a feed from one of its marks on, in front of which packets without a mark may stand,
-/// `excite` writes the feed's own symbols and presets, for each transmitter that the plan lists and each delay that is
-/// in time (`IsFedAnew`). OUT has the feed's segments from the first listing on that begins 52 or more packets behind
-/// the mark, and LOG has one preset line, with the moment at the transmitter's offset, for each group from there on
-/// that holds an operations packet: all of this and nothing else. Where there is no such listing, both are empty.
-/// Either way it is done.
+/// Let a file have the packets of a feed from one of its marks on, in front of which packets without a mark may stand.
+/// Of it `excite` writes the feed's own symbols and presets, for each transmitter that the plan lists and each delay
+/// that is in time (`IsFedAnew`). OUT has the feed's segments from the first listing on that begins 52 or more packets
+/// behind the mark, and nothing else. LOG has one preset line, with the moment at the transmitter's offset, for each
+/// group from there on that holds an operations packet, and nothing else. Where there is no such listing, both are
+/// empty. Either way it is done.
 pub fn a_feed_is_sent()
     ensures listed { (plan : Plan) (stream : List (List ℕ)) (t : Transmitter) (delay : ℕ) (earlier : List (List ℕ))
         (mark n k : ℕ) (names : List (List ℕ)) (file : List ℕ) → whole_packets file ≤ MOST_PACKETS
