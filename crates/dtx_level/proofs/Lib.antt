@@ -1,0 +1,10 @@
+pub mod Shows
+pub mod Least
+pub mod SyncsBehind
+pub mod MeasuresBehind
+pub mod StretchesBehind
+pub mod Tallies
+pub mod Sums
+pub mod Leaving
+pub mod Ending
+pub mod Taking
