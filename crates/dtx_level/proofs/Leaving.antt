@@ -192,6 +192,10 @@ levelled_settled by h more count s some l next =
     ∙ ap (λ (x : By). map (level x) (take count h) ++ levelled_behind x (drop count h ++ more))
     (ap (λ (xs : List ℤ). by_sync xs 0) (split_at count h more) ∙ by_front h more 0 (omega (arith, there)))
 
+measured_at : (v : List ℤ) (p : ℕ) → (measure_at v p).place ≡ p
+unfolding measure_at
+measured_at v p = refl
+
 pub leaves_settled : (old new : Holding) (count : ℕ) (symbols done : List ℤ) (told : List Measure)
     → Leaves old symbols done told → length old.held ≡ 261248 → shows old.held 0 ≡ true → 0 < count
     → count ≤ length old.held → IsNext count old.held → new.held ≡ drop count old.held → new.by ≡ by_sync old.held 0
@@ -233,10 +237,10 @@ leaves_settled old new count symbols done told h full s some l next held by coun
   where
     at_place : places_of told ++ ((old.symbols - length old.held) + (measure_at old.held 0).place) ∷ []
         ≡ places_of told ++ (old.symbols - length old.held) ∷ []
-    unfolding measure_at
     at_place =
-        let e : old.symbols - length old.held + 0 ≡ old.symbols - length old.held = omega arith in
-        ap (λ n. places_of told ++ n ∷ []) e
+        let none : old.symbols - length old.held + 0 ≡ old.symbols - length old.held = omega arith in
+        ap (λ n. places_of told ++ (old.symbols - length old.held + n) ∷ []) (measured_at old.held 0)
+        ∙ ap (λ n. places_of told ++ n ∷ []) none
 
 -- ---- where the next sync is
 

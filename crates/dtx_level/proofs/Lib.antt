@@ -5,6 +5,8 @@ pub mod MeasuresBehind
 pub mod StretchesBehind
 pub mod Tallies
 pub mod Sums
+pub mod Each
+pub mod Bounds
 pub mod Leaving
 pub mod Ending
 pub mod Taking

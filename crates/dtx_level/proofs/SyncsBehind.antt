@@ -40,7 +40,7 @@ unfolding syncs_from
 syncs_behind front v zero o = refl
 syncs_behind front v (suc n) None = refl
 syncs_behind front v (suc n) (Some s) =
-    ap (λ xs. length front + s ∷ xs)
+    ap (λ xs. (length front + s) ∷ xs)
     (ap (syncs_from (front ++ v) n) (behind_behind front v s) ∙ syncs_behind front v n (behind v s))
 
 -- each sync is behind the one before
@@ -128,11 +128,10 @@ all_next front v h some e =
         (enough_first v (length v) (omega arith))))
 
 pub no_syncs : (v : List ℤ) → least_shown v 0 ≡ None → all_syncs v ≡ []
-unfolding all_syncs
+unfolding all_syncs syncs_from
 no_syncs v e = ap (syncs_from v (length v)) e ∙ none (length v)
   where
     none : (n : ℕ) → syncs_from v n None ≡ []
-    unfolding syncs_from
     none zero = refl
     none (suc n) = refl
 
@@ -167,9 +166,9 @@ filtered wanted front v (p ∷ places) =
     (filter (λ p. wanted (is_met v p)) places) (ap wanted (met_behind front v p)) (filtered wanted front v places)
   where
     kept : (b c : Bool) (xs ys : List ℕ) → c ≡ b → xs ≡ map (λ i. length front + i) ys
-        → cond c (length front + p ∷ xs) xs ≡ map (λ i. length front + i) (cond b (p ∷ ys) ys)
-    kept true c xs ys e f = cond-true c (length front + p ∷ xs) xs e ∙ ap (λ zs. length front + p ∷ zs) f
-    kept false c xs ys e f = cond-false c (length front + p ∷ xs) xs e ∙ f
+        → cond c ((length front + p) ∷ xs) xs ≡ map (λ i. length front + i) (cond b (p ∷ ys) ys)
+    kept true c xs ys e f = cond-true c ((length front + p) ∷ xs) xs e ∙ ap (λ zs. (length front + p) ∷ zs) f
+    kept false c xs ys e f = cond-false c ((length front + p) ∷ xs) xs e ∙ f
 
 -- some places, or none
 abbrev pub places_where : Bool → List ℕ → List ℕ

@@ -19,7 +19,7 @@ nearest n g = if int_lt g (pos 0) then next_whole (neg_ℤ n) (neg_ℤ g) else n
 
 -- -127 or 127 where it lies beyond these
 abbrev pub in_bounds : ℤ → ℤ
-in_bounds x = int_max (negsuc 126) (int_min (pos 127) x)
+in_bounds x = int_max (negsuc 126) (int_min x (pos 127))
 
 -- A symbol x at gain g with constant o: the whole number next to 40 * (2 * 258 * 257 * x - o) / g. (Where s stands as
 -- u * s + c, that is 8 * s.)

@@ -3,9 +3,10 @@ use Rattle.std.specs.Prelude.{ℕ, ℤ, pos, ◌≡◌, ◌+◌, ◌-◌, ◌<�
 use Rattle.std.specs.Prelude.{IfSome, option_map, List, [], ◌∷◌, ◌++◌, length, map, take, drop, replicate}
 use Rattle.dtx_level.specs.declared.measure.Measure.{Measure}
 use Rattle.dtx_level.specs.Shown.{least_shown, shows}
-use Rattle.dtx_level.specs.Syncs.{behind, slips}
-use Rattle.dtx_level.specs.Levelled.{By, by_sync, last_of, level, levelled_behind, nothing}
-use Rattle.dtx_level.specs.Measures.{later_by, measure_at, measures_where}
+use Rattle.dtx_level.specs.Syncs.{all_syncs, behind, slips}
+use Rattle.dtx_level.specs.Levelled.{By, by_sync, last_of, level, levelled_behind, levelled_rest}
+use Rattle.dtx_level.specs.Levelled.{nothing}
+use Rattle.dtx_level.specs.Measures.{later_by, measure_at, measures_rest, measures_where}
 
 -- A leveller: the symbols that it holds, whether a sync is known to stand in front of them, by what they are levelled up to
 -- the next sync, how many were let go before the first one, the zeros and the symbols that it gave last and the sync that it
@@ -139,3 +140,10 @@ pub record IsFed (old new : Holding) (more : List ℤ) : Type 0 where
   pub slips_ : new.slips ≡ old.slips
   pub last : new.last ≡ old.last
   pub clear : IsClear new
+
+-- What the end of these symbols brings, and the numbers of all.
+pub record IsEnded (holding : Holding) (symbols : List ℤ) : Type 0 where
+  pub given : all_given holding ≡ levelled_rest symbols
+  pub measured : as_list holding.measured ≡ measures_rest symbols
+  pub syncs_are : holding.syncs ≡ length (all_syncs symbols)
+  pub slips_are : holding.slips ≡ slips (all_syncs symbols)

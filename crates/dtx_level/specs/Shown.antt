@@ -1,6 +1,6 @@
 -- What a place of a capture shows: how its symbols agree with a field sync, and at what gain and with what constant they
 -- stand (the profile's own; ATSC A/53 Part 2, data field sync).
-use Rattle.std.specs.Prelude.{ℕ, ℤ, pos, ◌+◌, ◌-◌, ◌+ℤ◌, ◌-ℤ◌, ◌*ℤ◌, ◌&&◌, ◌||◌, int_lt, nat_le, Bool, true, false}
+use Rattle.std.specs.Prelude.{ℕ, ℤ, pos, nat_abs, ◌≤◌, ◌+◌, ◌-◌, ◌+ℤ◌, ◌-ℤ◌, ◌*ℤ◌, ◌&&◌, ◌||◌, int_lt, nat_le, Bool, true, false}
 use Rattle.std.specs.Prelude.{if◌then◌else◌, Option, List, [], ◌∷◌, length, map, slice_index_or}
 use Rattle.std.specs.List.{find, range_with_len}
 use Rattle.dtx_acquire.specs.Agreement.{are_unlike, sync_sign, unlike}
@@ -12,7 +12,8 @@ total (x ∷ xs) = x +ℤ total xs
 
 -- symbol i behind a place where the sync has that sign there, else 0
 unfoldable pub counted_at : Bool → List ℤ → ℕ → ℕ → ℤ
-counted_at plus symbols place i = if are_unlike (sync_sign i) plus then pos 0 else slice_index_or symbols (place + i) (pos 0)
+counted_at plus symbols place i =
+    if are_unlike (sync_sign i) plus then pos 0 else slice_index_or symbols (place + i) (pos 0)
 
 -- The sum of those of so many symbols behind a place that stand where the sync has that sign.
 unfoldable pub sum_where : Bool → List ℤ → ℕ → ℕ → ℤ
@@ -27,6 +28,10 @@ gain symbols place = pos 257 *ℤ sum_where true symbols place 515 -ℤ pos 258 
 -- And this is 257 * a + 258 * b. (There it is 2 * c * 258 * 257.)
 unfoldable pub constant : List ℤ → ℕ → ℤ
 constant symbols place = pos 257 *ℤ sum_where true symbols place 515 +ℤ pos 258 *ℤ sum_where false symbols place 515
+
+-- what these are at most, whatever stands there
+abbrev pub IsBounded : ℤ → Type 0
+IsBounded x = nat_abs x ≤ 33948800
 
 -- that so many of 515 signs are other ones, at that gain: few where it is above 0, and most where it is below, since the
 -- capture is turned there

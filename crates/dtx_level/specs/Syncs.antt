@@ -28,15 +28,15 @@ all_syncs symbols = syncs_from symbols (length symbols) (least_shown symbols 0)
 unfoldable pub syncs_where : (Bool → Bool) → List ℤ → List ℕ
 syncs_where wanted symbols = filter (λ place. wanted (is_met symbols place)) (all_syncs symbols)
 
--- 1 where a sync doesn't lie a multiple of 313 segments behind the one before
-abbrev pub slip : ℕ → ℕ → ℕ
-slip before place = if (place - before) % 260416 == 0 then 0 else 1
+-- 1 where a sync doesn't lie a multiple of 313 segments behind the one before, if there is one
+abbrev pub slip_behind : Option ℕ → ℕ → ℕ
+slip_behind None place = 0
+slip_behind (Some before) place = if (place - before) % 260416 == 0 then 0 else 1
 
 -- how many of these don't, behind one where there is one
 unfoldable pub slips_behind : Option ℕ → List ℕ → ℕ
 slips_behind before [] = 0
-slips_behind None (place ∷ places) = slips_behind (Some place) places
-slips_behind (Some before) (place ∷ places) = slip before place + slips_behind (Some place) places
+slips_behind before (place ∷ places) = slip_behind before place + slips_behind (Some place) places
 
 -- how many syncs don't lie a multiple of 313 segments behind the one before
 abbrev pub slips : List ℕ → ℕ

@@ -1,6 +1,6 @@
 //! The symbols that are given, levelled.
 
-ghost use Rattle.std.specs.Prelude.{◌≡◌, ◌≤◌, [], IfOk, length, map, take, drop, vec_len};
+ghost use Rattle.std.specs.Prelude.{◌≡◌, ◌≤◌, false, IfOk, length, map, take, drop, vec_len};
 ghost use Rattle.dtx_level.specs.Levelled.{level};
 
 use crate::levels::Levels;
@@ -44,8 +44,7 @@ impl Giver {
         ensures gain { self.new.levels.gain ≡ self.old.levels.gain }
         ensures constant { self.new.levels.constant ≡ self.old.levels.constant }
     {
-        self.levels
-            .level_all(&held.all()[..count], &mut self.given[..count]);
+        level_front(&self.levels, held.all(), count, &mut self.given);
         self.count = count;
         held.leave(count);
     }
@@ -59,4 +58,26 @@ impl Giver {
         segment.copy_from_slice(&self.given[..SEGMENT]);
         segment
     }
+}
+
+/// Writes what the first symbols become, so many.
+fn level_front(levels: &Levels, symbols: &[i8], count: usize, out: &mut Vec<i8>)
+    requires few { count ≤ vec_len out.old }
+    requires room { count ≤ length symbols.now }
+    ensures front { take count out.new.items ≡ map (level (record { begun = levels.now.begun;
+        gain = levels.now.gain; constant = levels.now.constant })) (take count symbols.now) }
+    ensures long { vec_len out.new ≡ vec_len out.old }
+{
+    level_first(levels, symbols, count, &mut out[..])
+}
+
+/// Does so with a list.
+fn level_first(levels: &Levels, symbols: &[i8], count: usize, out: &mut [i8])
+    requires few { count ≤ length out.old }
+    requires room { count ≤ length symbols.now }
+    ensures front { take count out.new ≡ map (level (record { begun = levels.now.begun;
+        gain = levels.now.gain; constant = levels.now.constant })) (take count symbols.now) }
+    ensures long { length out.new ≡ length out.old }
+{
+    levels.level_all(&symbols[..count], &mut out[..count])
 }

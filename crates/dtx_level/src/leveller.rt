@@ -6,7 +6,7 @@ ghost use Rattle.dtx_level.specs.Shown.{shows};
 ghost use Rattle.dtx_level.specs.Syncs.{all_syncs, slips};
 ghost use Rattle.dtx_level.specs.Levelled.{levelled_rest, levelled_so_far};
 ghost use Rattle.dtx_level.specs.Measures.{measures_rest, measures_so_far};
-ghost use Rattle.dtx_level.specs.Leveller.{IsClear, IsCleared, IsFed, IsMoved, IsSought, IsStretch};
+ghost use Rattle.dtx_level.specs.Leveller.{IsClear, IsCleared, IsEnded, IsFed, IsMoved, IsSought, IsStretch};
 ghost use Rattle.dtx_level.specs.Leveller.{Leaves, StandsFor, all_given, as_list};
 ghost use Rattle.dtx_level.specs.declared.measure.Measure.{Measure};
 
@@ -123,13 +123,7 @@ impl Leveller {
         ensures symbols { self.new.symbols ≡ self.old.symbols }
     {
         self.clear();
-        let left = self.held.len();
-        if self.on {
-            self.stretch(left);
-        } else if self.giver.levels.begun {
-            self.giver.give(&mut self.held, left);
-        }
-        self.on = false;
+        self.close();
     }
 
     /// The symbols that the last call has brought, levelled, behind its zeros.
@@ -282,17 +276,19 @@ impl Leveller {
     {
         if self.on && self.held.len() == MOST_HELD {
             let step = step_of(&self.pattern, self.held.all());
-            self.stretch(step.count);
-            self.on = step.on;
+            self.stretch(step.count, step.on);
         }
     }
 
-    /// Measures the sync in front of the symbols that are held, and gives the first of them by it, so many.
-    fn stretch(&mut self, count: usize)
+    /// Measures the sync in front of the symbols that are held, and gives the first of them by it, so many. Whether another
+    /// one is in front of the others is told.
+    fn stretch(&mut self, count: usize, on: bool)
         requires front { shows self.old.held 0 ≡ true }
         requires some { SEGMENT ≤ count }
         requires room { count ≤ length self.old.held }
-        ensures { IsStretch self.old self.new count }
+        requires next { on ≡ true → shows (drop count self.old.held) 0 ≡ true }
+        ensures stretch { IsStretch self.old self.new count }
+        ensures on { self.new.on ≡ on }
     {
         let place = self.symbols - self.held.len() as u64;
         let standing = self.pattern.standing(self.held.all(), 0);
@@ -300,5 +296,21 @@ impl Leveller {
         self.giver.give(&mut self.held, count);
         self.tally.count(place);
         self.measured = Some(measure_of(&self.pattern, place, standing, &self.giver.front()));
+        self.on = on;
+    }
+
+    /// Gives what the end brings.
+    fn close(&mut self)
+        requires clear { IsClear self.old }
+        ensures ended { (symbols : List ℤ) → StandsFor self.old symbols → IsEnded self.new symbols }
+        ensures room { length self.new.given ≤ length self.old.held }
+        ensures symbols { self.new.symbols ≡ self.old.symbols }
+    {
+        let left = self.held.len();
+        if self.on {
+            self.stretch(left, false);
+        } else if self.giver.levels.begun {
+            self.giver.give(&mut self.held, left);
+        }
     }
 }

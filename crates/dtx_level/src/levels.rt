@@ -1,8 +1,9 @@
 //! What each symbol becomes between two syncs.
 
-ghost use Rattle.std.specs.Prelude.{◌≡◌, ℕ, ℤ, pos, negsuc, true, false, ◌-ℤ◌, ◌<◌, ◌≤◌, ◌<ℤ◌, IfOk, length, map};
+ghost use Rattle.std.specs.Prelude.{◌≡◌, ℕ, ℤ, pos, negsuc, true, false, ◌-ℤ◌, ◌*ℤ◌, ◌<◌, ◌≤◌, ◌<ℤ◌, IfOk, length, map};
 ghost use Rattle.std.specs.Prelude.{nat_abs, slice_index_or, vec_len, ◌≢◌};
 ghost use Rattle.dtx_level.specs.Levelled.{By, in_bounds, level, levelled_symbol, next_whole, nearest};
+ghost use Rattle.dtx_level.specs.Shown.{IsBounded};
 
 use std::alloc::{AllocError, Global};
 
@@ -37,8 +38,8 @@ impl Levels {
     /// From now on by a sync of that gain and that constant.
     pub(crate) fn begin(&mut self, gain: i64, constant: i64)
         requires some { gain ≢ pos 0 }
-        requires small_gain { nat_abs gain ≤ 16974336 }
-        requires small_constant { nat_abs constant ≤ 16974336 }
+        requires small_gain { IsBounded gain }
+        requires small_constant { IsBounded constant }
         ensures begun { self.new.begun ≡ true }
         ensures gain { self.new.gain ≡ gain }
         ensures constant { self.new.constant ≡ constant }
@@ -74,8 +75,8 @@ impl Levels {
 fn fill(table: &mut [i8], gain: i64, constant: i64)
     requires long { length table.old ≡ SYMBOLS }
     requires some { gain ≢ pos 0 }
-    requires small_gain { nat_abs gain ≤ 16974336 }
-    requires small_constant { nat_abs constant ≤ 16974336 }
+    requires small_gain { IsBounded gain }
+    requires small_constant { IsBounded constant }
     ensures long { length table.new ≡ SYMBOLS }
     ensures each { (n : ℕ) → n < SYMBOLS
         → slice_index_or table.new n (pos 0) ≡ levelled_symbol gain constant (pos n -ℤ pos 128) }
@@ -88,19 +89,29 @@ fn fill(table: &mut [i8], gain: i64, constant: i64)
 /// What a symbol becomes at a gain with a constant.
 fn levelled(gain: i64, constant: i64, symbol: i64) -> i8
     requires some { gain ≢ pos 0 }
-    requires small_gain { nat_abs gain ≤ 16974336 }
-    requires small_constant { nat_abs constant ≤ 16974336 }
+    requires small_gain { IsBounded gain }
+    requires small_constant { IsBounded constant }
     requires small { nat_abs symbol ≤ 128 }
     ensures { result ≡ levelled_symbol gain constant symbol }
 {
-    nearest(40 * (132_612 * symbol - constant), gain).clamp(-127, 127) as i8
+    nearest(numerator(constant, symbol), gain).clamp(-127, 127) as i8
+}
+
+/// What is divided by the gain: 40 times twice 258 * 257 times the symbol less the constant.
+fn numerator(constant: i64, symbol: i64) -> i64
+    requires small_constant { IsBounded constant }
+    requires small { nat_abs symbol ≤ 128 }
+    ensures value { result ≡ pos 40 *ℤ (pos 132612 *ℤ symbol -ℤ constant) }
+    ensures small { nat_abs result ≤ 2036925440 }
+{
+    40 * (132_612 * symbol - constant)
 }
 
 /// The whole number next to a quotient.
 fn nearest(number: i64, gain: i64) -> i64
     requires some { gain ≢ pos 0 }
-    requires small_gain { nat_abs gain ≤ 16974336 }
-    requires small { nat_abs number ≤ 1357946880 }
+    requires small_gain { IsBounded gain }
+    requires small { nat_abs number ≤ 2036925440 }
     ensures { result ≡ nearest number gain }
 {
     if gain < 0 {
@@ -113,8 +124,8 @@ fn nearest(number: i64, gain: i64) -> i64
 /// The whole number next to a quotient by a number above 0. Ties go up.
 fn next_whole(number: i64, gain: i64) -> i64
     requires some { pos 0 <ℤ gain }
-    requires small_gain { nat_abs gain ≤ 16974336 }
-    requires small { nat_abs number ≤ 1357946880 }
+    requires small_gain { IsBounded gain }
+    requires small { nat_abs number ≤ 2036925440 }
     ensures { result ≡ next_whole number gain }
 {
     (2 * number + gain).div_euclid(2 * gain)

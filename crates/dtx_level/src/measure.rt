@@ -5,6 +5,7 @@ ghost use Rattle.dtx_level.specs.Measures.{constant_in_hundredths, gain_in_hundr
 ghost use Rattle.dtx_level.specs.Measures.{noise};
 ghost use Rattle.dtx_acquire.specs.Agreement.{is_second};
 ghost use Rattle.std.specs.Int.{int_div_euclid};
+ghost use Rattle.dtx_level.specs.Shown.{IsBounded};
 
 use crate::pattern::{Pattern, Standing};
 use dtx_acquire::is_second;
@@ -25,8 +26,8 @@ pub struct Measure {
 
 /// That of the sync at a place, which shows that and was levelled.
 pub(crate) fn measure_of(pattern: &Pattern, place: u64, standing: Standing, levelled: &[i8; SEGMENT]) -> Measure
-    requires small_gain { nat_abs standing.gain ≤ 16974336 }
-    requires small_constant { nat_abs standing.constant ≤ 16974336 }
+    requires small_gain { IsBounded standing.gain }
+    requires small_constant { IsBounded standing.constant }
     ensures place { result.place ≡ place }
     ensures second { result.second ≡ is_second levelled.now }
     ensures gain { result.gain ≡ gain_in_hundredths standing.gain }
@@ -44,7 +45,7 @@ pub(crate) fn measure_of(pattern: &Pattern, place: u64, standing: Standing, leve
 
 /// A number by 2 * 258 * 257, to the next whole one. Ties go up.
 fn hundredths(number: i64) -> i64
-    requires { nat_abs number ≤ 1697433600 }
+    requires { nat_abs number ≤ 3394880000 }
     ensures { result ≡ int_div_euclid (number +ℤ pos 66306) (pos 132612) }
 {
     (number + 66_306).div_euclid(132_612)

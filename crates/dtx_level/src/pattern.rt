@@ -2,9 +2,9 @@
 
 ghost use Rattle.std.specs.Prelude.{◌≡◌, ℕ, pos, ◌+◌, ◌*◌, ◌<◌, ◌≤◌, ◌-ℤ◌, ◌*ℤ◌, true, false};
 ghost use Rattle.std.specs.Prelude.{if◌then◌else◌, length, nat_abs, slice_index_or};
-ghost use Rattle.dtx_acquire.specs.Agreement.{are_unlike, sync_sign};
+ghost use Rattle.dtx_acquire.specs.Agreement.{are_unlike, is_plus};
 ghost use Rattle.dtx_frame.specs.Segments.{sync_symbols};
-ghost use Rattle.dtx_level.specs.Shown.{constant, gain, sum_where};
+ghost use Rattle.dtx_level.specs.Shown.{IsBounded, constant, gain, sum_where};
 ghost use Rattle.dtx_level.specs.Measures.{noise};
 
 use dtx_frame::field_sync;
@@ -44,8 +44,8 @@ impl Pattern {
         requires { place + COMPARED ≤ length symbols.now }
         ensures gain { result.gain ≡ gain symbols.now place }
         ensures constant { result.constant ≡ constant symbols.now place }
-        ensures small_gain { nat_abs result.gain ≤ 16974336 }
-        ensures small_constant { nat_abs result.constant ≤ 16974336 }
+        ensures small_gain { IsBounded result.gain }
+        ensures small_constant { IsBounded result.constant }
     {
         let pluses = MINUSES * self.sum_where(true, symbols, place);
         let minuses = PLUSES * self.sum_where(false, symbols, place);
@@ -63,23 +63,9 @@ impl Pattern {
     {
         let mut sum = 0;
         for i in 0..COMPARED {
-            sum += self.counted(plus, i, symbols[place + i]);
+            sum += counted(is_plus(self.sync[i]), plus, symbols[place + i]);
         }
         sum
-    }
-
-    /// A symbol where the sync has that sign, else 0.
-    #[inline(always)]
-    fn counted(&self, plus: bool, i: usize, symbol: i8) -> i64
-        requires { i < COMPARED }
-        ensures value { result ≡ (if are_unlike (sync_sign i) plus then pos 0 else symbol) }
-        ensures small { nat_abs result ≤ 128 }
-    {
-        if (self.sync[i] > 0) == plus {
-            symbol as i64
-        } else {
-            0
-        }
     }
 
     /// How far a levelled sync is from its symbols at eight steps a unit: the sum of the squares.
@@ -93,6 +79,23 @@ impl Pattern {
         }
         sum
     }
+}
+
+/// Whether a symbol has the sign plus.
+#[inline(always)]
+fn is_plus(symbol: i8) -> bool
+    ensures { result ≡ is_plus symbol }
+{
+    symbol > 0
+}
+
+/// A symbol where two signs are alike, else 0.
+#[inline(always)]
+fn counted(sign: bool, plus: bool, symbol: i8) -> i64
+    ensures value { result ≡ (if are_unlike sign plus then pos 0 else symbol) }
+    ensures small { nat_abs result ≤ 128 }
+{
+    if sign == plus { symbol as i64 } else { 0 }
 }
 
 /// The square of how far a levelled symbol is from one of a sync at eight steps a unit.

@@ -1,6 +1,8 @@
 //! How many syncs there are, and how many of them are slips.
 
 ghost use Rattle.std.specs.Prelude.{◌≡◌, ℕ, ◌+◌, ◌<◌, ◌≤◌, ◌++◌, ◌∷◌, [], List};
+ghost use Rattle.dtx_level.specs.Syncs.{slip_behind};
+ghost use Rattle.dtx_level.specs.Levelled.{last_of};
 ghost use Rattle.dtx_level.specs.Leveller.{IsTally};
 
 use crate::step::DUE;
@@ -38,10 +40,21 @@ impl Tally {
         ensures slips { self.new.slips ≤ self.old.slips + 1 }
         ensures last { self.new.last ≡ place }
     {
-        if self.syncs > 0 && (place - self.last) % DUE as u64 != 0 {
-            self.slips += 1;
-        }
+        self.slips += self.slip(place);
         self.syncs += 1;
         self.last = place;
+    }
+
+    /// 1 where a place doesn't lie so behind the last, if there is one.
+    fn slip(&self, place: u64) -> u64
+        requires { self.now.last ≤ place }
+        ensures slip { (places : List ℕ) → IsTally self.now.syncs self.now.slips self.now.last places
+            → result ≡ slip_behind (last_of places) place }
+        ensures small { result ≤ 1 }
+    {
+        if self.syncs == 0 {
+            return 0;
+        }
+        if (place - self.last) % DUE as u64 == 0 { 0 } else { 1 }
     }
 }
