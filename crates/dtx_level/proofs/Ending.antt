@@ -10,7 +10,7 @@ use Rattle.dtx_level.specs.declared.measure.Measure.{Measure}
 use Rattle.dtx_level.specs.Shown.{shows}
 use Rattle.dtx_level.specs.Syncs.{all_syncs, slips, syncs_where}
 use Rattle.dtx_level.specs.Levelled.{By, by_sync, known, known_behind, last_behind, last_of, level, levelled}
-use Rattle.dtx_level.specs.Levelled.{levelled_behind, levelled_rest, levelled_so_far, nothing, stretches, where_some}
+use Rattle.dtx_level.specs.Levelled.{levelled_behind, levelled_rest, levelled_so_far, levelled_symbol, nothing, stretches, where_some}
 use Rattle.dtx_level.specs.Measures.{later_by, measure_at, measures_where}
 use Rattle.dtx_level.specs.Leveller.{Holding, IsClear, IsCleared, IsEnded, IsStretch, IsTally, Leaves, StandsFor}
 use Rattle.dtx_level.specs.Leveller.{are_some, as_list, places_of, shown, where_wanted}
@@ -301,7 +301,7 @@ stands_cleared old new symbols c h = record {
 -- by nothing all become 0
 same_level : (by : By) (xs : List ℤ) → by.begun ≡ false → map (level nothing) xs ≡ map (level by) xs
 same_level by [] e = refl
-same_level by (x ∷ xs) e = ap₂ ◌∷◌ (sym (ap (λ b. cond b _ (pos 0)) e)) (same_level by xs e)
+same_level by (x ∷ xs) e = ap₂ ◌∷◌ (sym (ap (λ b. cond b (levelled_symbol by.gain by.constant x) (pos 0)) e)) (same_level by xs e)
 
 same_stretches : (v : List ℤ) (places : List ℕ) (by : By) → by.begun ≡ false
     → stretches nothing v 0 places ≡ stretches by v 0 places
@@ -331,7 +331,7 @@ stands_first new held off none silent symbols tally = record {
         ∙ empty (wanted true) (map (later_by 0) (measures_where wanted (new.held ++ more)));
     levelled = λ more. first_by more new.by none ∙ ap (λ (xs : List ℤ). levelled_behind new.by (xs ++ more)) (sym held);
     symbols_are = symbols;
-    long = ap length held;
+    long = omega (arith, ap length held);
     begun_is = none;
     tally = tally;
     silence = λ e f. ap (λ n. replicate n (pos 0)) (sym silent);

@@ -2,7 +2,7 @@
 use Rattle.std.proofs.Common.{◌≡◌, ℕ, ℤ, ◌+◌, ◌<◌, ◌≤◌, Bool, true, false, cond, option_map, List, [], ◌∷◌, ◌++◌, length}
 use Rattle.std.proofs.Common.{map, take, drop, refl, sym, ap, ap₂, ◌∙◌, arith}
 use Rattle.std.proofs.Math.Seq.{drop-append-add}
-use Rattle.std.proofs.lemmas.List.{drop-append-le, length-drop, map-append, take-append-le}
+use Rattle.std.proofs.lemmas.List.{drop-append-le, length-drop, map-append, take-append-le, take-map, take-take}
 use Rattle.dtx_acquire.specs.Agreement.{is_second}
 use Rattle.dtx_acquire.specs.Acquired.{is_met}
 use Rattle.dtx_level.specs.declared.measure.Measure.{Measure}
@@ -40,7 +40,7 @@ sync_front h more t l =
     ∙ take-append-le 832 (drop t h) more (omega (arith, length-drop t h)))
 
 -- how a sync stands by what it is levelled, and so levelled
-abbrev measured : ℕ → By → List ℤ → Measure
+abbrev pub measured : ℕ → By → List ℤ → Measure
 measured place by segment = record {
   place = place;
   second = is_second segment;
@@ -48,6 +48,34 @@ measured place by segment = record {
   constant = constant_in_hundredths by.constant;
   noise = noise segment 515;
 }
+
+-- a measure by its fields
+pub measure_is : (m : Measure) (place : ℕ) (by : By) (segment : List ℤ) → m.place ≡ place
+    → m.second ≡ is_second segment → m.gain ≡ gain_in_hundredths by.gain
+    → m.constant ≡ constant_in_hundredths by.constant → m.noise ≡ noise segment 515 → m ≡ measured place by segment
+measure_is m place by segment p s g o n =
+    ap₂ (λ x y. record { place = x; second = y; gain = m.gain; constant = m.constant; noise = m.noise }) p s
+    ∙ ap₂ (λ x y. record { place = place; second = is_second segment; gain = x; constant = y; noise = m.noise }) g o
+    ∙ ap (λ x. record {
+      place = place;
+      second = is_second segment;
+      gain = gain_in_hundredths by.gain;
+      constant = constant_in_hundredths by.constant;
+      noise = x;
+    }) n
+
+-- the first of some symbols, levelled by a sync in front
+pub front_levelled : (held : List ℤ) (count : ℕ) → 832 ≤ count
+    → take 832 (map (level (by_sync held 0)) (take count held)) ≡ levelled_sync held 0
+unfolding levelled_sync
+front_levelled held count l =
+    take-map (level (by_sync held 0)) 832 (take count held)
+    ∙ ap (map (level (by_sync held 0))) (take-take 832 count held l)
+
+pub later_measured : (held : List ℤ) (k : ℕ)
+    → later_by k (measure_at held 0) ≡ measured (k + 0) (by_sync held 0) (levelled_sync held 0)
+unfolding measure_at
+later_measured held k = refl
 
 pub measure_behind : (front v : List ℤ) (t : ℕ)
     → measure_at (front ++ v) (length front + t) ≡ later_by (length front) (measure_at v t)

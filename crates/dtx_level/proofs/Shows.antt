@@ -1,5 +1,5 @@
 -- What places show of symbols behind others, and in front of others.
-use Rattle.std.proofs.Common.{◌≡◌, ℕ, ℤ, pos, ◌+◌, ◌*ℤ◌, ◌+ℤ◌, ◌-ℤ◌, ◌<◌, ◌≤◌, ◌⊎◌, inl, inr, Bool, true, false, ◌&&◌}
+use Rattle.std.proofs.Common.{◌≡◌, ℕ, ℤ, pos, ◌+◌, ◌*ℤ◌, ◌+ℤ◌, ◌-ℤ◌, ◌<◌, ◌≤◌, ◌⊎◌, inl, inr, Bool, true, false, ◌&&◌, ◌||◌}
 use Rattle.std.proofs.Common.{cond, leb, List, ◌++◌, length, map, sum, take, drop, get_or, refl, sym, ap, ap₂, ◌∙◌, arith}
 use Rattle.std.proofs.Common.{length-append}
 use Rattle.std.proofs.lemmas.Bool.{cases_lt, le-leb, lt-leb, true≢false}
@@ -118,3 +118,21 @@ shows_dropped h k p l =
 -- between the bounds none is shown
 pub between : (n : ℕ) (g : ℤ) → 128 < n → n < 387 → are_shown n g ≡ false
 between n g l m = grind (arith, lt-leb n 128 l, lt-leb 387 n m)
+
+-- where a sync is shown its gain isn't 0
+some_shown : (n : ℕ) (g : ℤ) → are_shown n g ≡ true → g ≡ pos 0 → ⊥
+some_shown n g h e = by_tests (leb n 128) (leb 387 n) (sym (ap (are_shown n) e) ∙ h)
+  where
+    by_tests : (a b : Bool) → (a && false || b && false) ≡ true → ⊥
+    by_tests true true f = true≢false (sym f)
+    by_tests true false f = true≢false (sym f)
+    by_tests false true f = true≢false (sym f)
+    by_tests false false f = true≢false (sym f)
+
+pub gain_some : (symbols : List ℤ) (place : ℕ) → shows symbols place ≡ true → gain symbols place ≡ pos 0 → ⊥
+unfolding shows
+gain_some symbols place h e =
+    let there = whole_there symbols place h in
+    some_shown (unlike symbols place 0 515) (gain symbols place)
+    (sym (ap (λ b. b && are_shown (unlike symbols place 0 515) (gain symbols place))
+    (le-leb (place + 832) (length symbols) there)) ∙ h) e

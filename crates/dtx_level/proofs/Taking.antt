@@ -1,12 +1,12 @@
 -- What a leveller gives of the symbols that it takes.
-use Rattle.std.proofs.Common.{◌≡◌, ℕ, ℤ, pos, ◌+◌, ◌-◌, ◌<◌, ◌≤◌, ◌||◌, Bool, true, false, cond}
+use Rattle.std.proofs.Common.{◌≡◌, ℕ, ℤ, pos, ◌+◌, ◌*◌, ◌-◌, ◌<◌, ◌≤◌, ◌||◌, Bool, true, false, cond}
 use Rattle.std.proofs.Common.{Option, Some, None, List, [], ◌∷◌, ◌++◌, length, map, take, drop, replicate, append_assoc, refl}
 use Rattle.std.proofs.Common.{sym, ap, ap₂, ◌∙◌, subst, arith, length-append}
 use Rattle.std.proofs.lemmas.Bool.{true≢false, false≢true}
-use Rattle.std.proofs.lemmas.List.{append-nil, length-take-le, replicate-append-replicate}
+use Rattle.std.proofs.lemmas.List.{append-nil, length-drop, length-take-le, replicate-append-replicate}
 use Rattle.dtx_level.specs.declared.measure.Measure.{Measure}
 use Rattle.dtx_level.specs.Shown.{shows}
-use Rattle.dtx_level.specs.Levelled.{By, by_sync, level, levelled_so_far}
+use Rattle.dtx_level.specs.Levelled.{By, by_sync, level, levelled_so_far, levelled_symbol}
 use Rattle.dtx_level.specs.Measures.{later_by, measure_at, measures_so_far}
 use Rattle.dtx_level.specs.Leveller.{Holding, IsClear, IsCleared, IsFed, IsMoved, IsNext, IsSought, IsStretch, IsTally}
 use Rattle.dtx_level.specs.Leveller.{Leaves, StandsFor, all_given, as_list, places_of, shown}
@@ -26,6 +26,36 @@ pub record IsKept (old new : Holding) : Type 0 where
   pub slips_ : new.slips ≡ old.slips
   pub last : new.last ≡ old.last
 
+-- of one value those of another that is the same
+pub moves_of : (a b new : Holding) → a ≡ b → Moves a new → Moves b new
+moves_of a b new e m = subst (λ (x : Holding). Moves x new) e m
+
+pub stretch_of : (a b new : Holding) (count : ℕ) → a ≡ b → IsStretch a new count → IsStretch b new count
+stretch_of a b new count e s = subst (λ (x : Holding). IsStretch x new count) e s
+
+pub by_is : (b c : Bool) (g h o p : ℤ) → b ≡ c → g ≡ h → o ≡ p
+    → ◌≡◌ {A = By} (record { begun = b; gain = g; constant = o }) (record { begun = c; gain = h; constant = p })
+by_is b c g h o p e f k =
+    ap₂ (λ x y. record { begun = x; gain = y; constant = o }) e f
+    ∙ ap (λ z. record { begun = c; gain = h; constant = z }) k
+
+-- where as many are held as before, none was given
+pub none_before : (held new given : List ℤ) (count : ℕ) (f : ℤ → ℤ) → new ≡ drop count held
+    → given ≡ map f (take count held) → length held ≤ 261248 → count ≤ length held → length new ≡ 261248 → given ≡ []
+none_before held new given count f e g few l full =
+    let zero : count ≡ 0 = omega (arith, ap length e, length-drop count held, few, l, full) in
+    g ∙ ap (λ n. map f (take n held)) zero
+
+-- what a value keeps of its symbols where some are let go
+pub kept_dropped : (held new : List ℤ) (count syncs slips last silent symbols : ℕ) (on : Bool) → new ≡ drop count held
+    → 832 * syncs + length held ≤ symbols → symbols ≤ 520832000000 → slips ≤ syncs → last + length held ≤ symbols
+    → silent + length held ≤ symbols → (on ≡ true → shows new 0 ≡ true)
+    → (832 * syncs + length new ≤ symbols) × (symbols ≤ 520832000000) × (slips ≤ syncs)
+    × (last + length new ≤ symbols) × (silent + length new ≤ symbols) × (on ≡ true → shows new 0 ≡ true)
+kept_dropped held new count syncs slips last silent symbols on e room most fewer far quiet front =
+    let is : length new ≤ length held = omega (arith, ap length e, length-drop count held) in
+    (omega (arith, is, room), most, fewer, omega (arith, is, far), omega (arith, is, quiet), front)
+
 none_given : (h : Holding) → IsClear h → all_given h ≡ []
 none_given h c = ap₂ (λ n (xs : List ℤ). replicate n (pos 0) ++ xs) c.zeros c.given
 
@@ -37,7 +67,7 @@ told_more new symbols done told e h =
 silent_level : (by : By) (xs : List ℤ) → by.begun ≡ false → map (level by) xs ≡ replicate (length xs) (pos 0)
 silent_level by [] e = refl
 silent_level by (x ∷ xs) e =
-    ap₂ ◌∷◌ (ap (λ b. cond b _ (pos 0)) e) (silent_level by xs e)
+    ap₂ ◌∷◌ (ap (λ b. cond b (levelled_symbol by.gain by.constant x) (pos 0)) e) (silent_level by xs e)
 
 -- ---- a sync is found
 

@@ -1,7 +1,7 @@
 //! Levels a capture as its symbols come.
 
 ghost use Rattle.std.specs.Prelude.{◌≡◌, ℤ, ◌+◌, ◌-◌, ◌*◌, ◌<◌, ◌≤◌, ◌++◌, true, false, None, [], List, IfOk};
-ghost use Rattle.std.specs.Prelude.{length, take, drop};
+ghost use Rattle.std.specs.Prelude.{length, take, drop, if◌then◌else◌};
 ghost use Rattle.dtx_level.specs.Shown.{shows};
 ghost use Rattle.dtx_level.specs.Syncs.{all_syncs, slips};
 ghost use Rattle.dtx_level.specs.Levelled.{levelled_rest, levelled_so_far};
@@ -206,12 +206,10 @@ impl Leveller {
         if self.on {
             return;
         }
+        let left = self.held.len();
         match search(&self.pattern, self.held.all(), 0) {
             Some(place) => self.find(place),
-            None => {
-                let count = self.held.len().saturating_sub(SEGMENT - 1);
-                self.pass(count);
-            }
+            None => self.pass(left.saturating_sub(SEGMENT - 1)),
         }
     }
 
@@ -219,6 +217,7 @@ impl Leveller {
     fn find(&mut self, place: usize)
         requires clear { IsClear self.old }
         requires off { self.old.on ≡ false }
+        requires few { length self.old.held ≤ MOST_HELD }
         requires sought { IsSought self.old.held place }
         requires front { shows self.old.held place ≡ true }
         ensures moved { (symbols done : List ℤ) (told : List Measure) → Leaves self.old symbols done told
@@ -229,9 +228,7 @@ impl Leveller {
         ensures room { length self.new.given + length self.new.held ≤ length self.old.held }
         ensures symbols { self.new.symbols ≡ self.old.symbols }
     {
-        if !self.giver.levels.begun {
-            self.zeros = self.silent;
-        }
+        self.zeros = owed(self.giver.levels.begun, self.silent);
         self.giver.give(&mut self.held, place);
         self.on = true;
     }
@@ -240,6 +237,7 @@ impl Leveller {
     fn pass(&mut self, count: usize)
         requires clear { IsClear self.old }
         requires off { self.old.on ≡ false }
+        requires few { length self.old.held ≤ MOST_HELD }
         requires sought { IsSought self.old.held count }
         ensures moved { (symbols done : List ℤ) (told : List Measure) → Leaves self.old symbols done told
             → IsMoved self.old self.new symbols done told }
@@ -313,4 +311,11 @@ impl Leveller {
             self.giver.give(&mut self.held, left);
         }
     }
+}
+
+/// How many zeros are owed where a sync is found: those of all that were let go before the first.
+fn owed(begun: bool, silent: u64) -> u64
+    ensures { result ≡ (if begun then 0 else silent) }
+{
+    if begun { 0 } else { silent }
 }

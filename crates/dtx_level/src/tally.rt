@@ -19,7 +19,10 @@ pub(crate) struct Tally {
 impl Tally {
     /// None.
     pub(crate) fn new() -> Tally
-        ensures { IsTally result.syncs result.slips result.last [] }
+        ensures tally { IsTally result.syncs result.slips result.last [] }
+        ensures syncs { result.syncs ≡ 0 }
+        ensures slips { result.slips ≡ 0 }
+        ensures last { result.last ≡ 0 }
     {
         Tally {
             syncs: 0,
