@@ -1,15 +1,14 @@
 -- What a leveller holds, step by step.
-use Rattle.std.proofs.Common.{◌≡◌, ℕ, ℤ, pos, suc, ◌+◌, ◌-◌, ◌<◌, ◌≤◌, ◌⊎◌, inl, inr, ◌||◌, Bool, true, false, cond, not}
-use Rattle.std.proofs.Common.{Option, Some, None, option_map, List, [], ◌∷◌, ◌++◌, length, map, take, drop, replicate}
+use Rattle.std.proofs.Common.{◌≡◌, ℕ, ℤ, pos, ◌+◌, ◌-◌, ◌<◌, ◌≤◌, Bool, true, false, cond}
+use Rattle.std.proofs.Common.{Some, None, option_map, List, [], ◌∷◌, ◌++◌, length, map, take, drop, replicate}
 use Rattle.std.proofs.Common.{append_assoc, refl, sym, ap, ap₂, ◌∙◌, subst, arith, length-append}
 use Rattle.std.proofs.lemmas.Bool.{cond-true, cond-false, le-leb, true≢false}
-use Rattle.std.proofs.lemmas.List.{append-nil, length-drop, length-map, length-take-le, map-append, take-append-drop}
-use Rattle.std.proofs.lemmas.List.{length-replicate, replicate-append-replicate, take_all}
+use Rattle.std.proofs.lemmas.List.{length-drop, length-map, length-take-le, map-append, take-append-drop}
 use Rattle.dtx_acquire.specs.Acquired.{is_met}
 use Rattle.dtx_level.specs.declared.measure.Measure.{Measure}
 use Rattle.dtx_level.specs.Shown.{least_shown, shows}
-use Rattle.dtx_level.specs.Syncs.{all_syncs, behind}
-use Rattle.dtx_level.specs.Levelled.{By, by_sync, last_of, level, levelled_behind, nothing}
+use Rattle.dtx_level.specs.Syncs.{behind}
+use Rattle.dtx_level.specs.Levelled.{By, by_sync, level, levelled_behind, nothing}
 use Rattle.dtx_level.specs.Measures.{later_by, measure_at, measures_where}
 use Rattle.dtx_level.specs.Leveller.{Holding, IsNext, IsSought, IsTally, Leaves, are_some, places_of, where_wanted}
 use Rattle.dtx_level.proofs.Shows.{shows_dropped, shows_front, whole_there}

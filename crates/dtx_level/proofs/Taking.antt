@@ -1,14 +1,14 @@
 -- What a leveller gives of the symbols that it takes.
-use Rattle.std.proofs.Common.{◌≡◌, ℕ, ℤ, pos, ◌+◌, ◌*◌, ◌-◌, ◌<◌, ◌≤◌, ◌||◌, Bool, true, false, cond}
-use Rattle.std.proofs.Common.{Option, Some, None, List, [], ◌∷◌, ◌++◌, length, map, take, drop, replicate, append_assoc, refl}
+use Rattle.std.proofs.Common.{◌≡◌, ℕ, ℤ, pos, ◌+◌, ◌*◌, ◌<◌, ◌≤◌, ◌||◌, Bool, true, false, cond}
+use Rattle.std.proofs.Common.{None, List, [], ◌∷◌, ◌++◌, length, map, take, drop, replicate, append_assoc, refl}
 use Rattle.std.proofs.Common.{sym, ap, ap₂, ◌∙◌, subst, arith, length-append}
 use Rattle.std.proofs.lemmas.Bool.{true≢false, false≢true}
 use Rattle.std.proofs.lemmas.List.{append-nil, length-drop, length-take-le, replicate-append-replicate}
 use Rattle.dtx_level.specs.declared.measure.Measure.{Measure}
 use Rattle.dtx_level.specs.Shown.{shows}
 use Rattle.dtx_level.specs.Levelled.{By, by_sync, level, levelled_so_far, levelled_symbol}
-use Rattle.dtx_level.specs.Measures.{later_by, measure_at, measures_so_far}
-use Rattle.dtx_level.specs.Leveller.{Holding, IsClear, IsCleared, IsFed, IsMoved, IsNext, IsSought, IsStretch, IsTally}
+use Rattle.dtx_level.specs.Measures.{measures_so_far}
+use Rattle.dtx_level.specs.Leveller.{Holding, IsClear, IsCleared, IsFed, IsMoved, IsNext, IsSought, IsStretch}
 use Rattle.dtx_level.specs.Leveller.{Leaves, StandsFor, all_given, as_list, places_of, shown}
 use Rattle.dtx_level.proofs.Leaving.{leaves_more, leaves_settled, leaves_sought}
 use Rattle.dtx_level.proofs.Ending.{known_are, measures_known}

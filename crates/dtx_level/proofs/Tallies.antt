@@ -1,5 +1,5 @@
 -- One sync more.
-use Rattle.std.proofs.Common.{◌≡◌, ℕ, suc, ◌+◌, ◌<◌, Bool, true, false, cond, not, Option, Some, None, IfSome, List, [], ◌∷◌}
+use Rattle.std.proofs.Common.{◌≡◌, ℕ, ◌+◌, ◌<◌, Bool, true, false, cond, not, Option, Some, None, IfSome, List, [], ◌∷◌}
 use Rattle.std.proofs.Common.{◌++◌, length, filter, refl, sym, ap, ◌∙◌, subst, arith, length-append}
 
 use Rattle.dtx_level.specs.Syncs.{slip_behind, slips_behind}

@@ -1,7 +1,7 @@
-use Rattle.std.proofs.Common.{◌≡◌, ℕ, ◌+◌, ◌≤◌, sym, ap, ◌∙◌, arith}
+use Rattle.std.proofs.Common.{◌≡◌, ◌+◌, sym, ap, ◌∙◌, arith}
 use Rattle.dtx_level.specs.Shown.{shows}
 use Rattle.dtx_level.proofs.Least.{least_gives}
-use Rattle.dtx_level.proofs.Shows.{shows_dropped, whole_there}
+use Rattle.dtx_level.proofs.Shows.{shows_dropped}
 use Rattle.dtx_level.proofs.Leaving.{next_due, next_found, next_none}
 use Rattle.dtx_level.proofs.step.step_of.Goals as goal
 

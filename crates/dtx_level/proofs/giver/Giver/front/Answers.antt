@@ -1,4 +1,4 @@
-use Rattle.std.proofs.Common.{◌≤◌, length, sym, ap, ◌∙◌, take, arith}
+use Rattle.std.proofs.Common.{sym, ap, ◌∙◌, take, arith}
 use Rattle.std.proofs.lemmas.List.{length-take-le, take-take}
 use Rattle.dtx_level.proofs.giver.Giver.front.Goals as goal
 

@@ -1,6 +1,5 @@
-use Rattle.std.proofs.Common.{◌≡◌, ◌+◌, ◌≤◌, length, drop, take, refl, sym, ap, ◌∙◌, subst, arith}
+use Rattle.std.proofs.Common.{◌≡◌, ◌+◌, ◌≤◌, length, refl, sym, ap, ◌∙◌, subst, arith}
 use Rattle.dtx_level.specs.Shown.{shows}
-use Rattle.dtx_level.specs.Levelled.{level}
 use Rattle.dtx_level.specs.Leveller.{Holding, IsClear, IsSought}
 use Rattle.dtx_level.proofs.Shows.{shows_dropped}
 use Rattle.dtx_level.proofs.Taking.{by_is, find_moves, kept_dropped, moves_of, none_before}

@@ -1,4 +1,4 @@
-use Rattle.std.proofs.Common.{◌≡◌, ◌+◌, ◌<◌, ℕ, pos, get_or, set, length, ap, ◌∙◌, arith, rules, below_more, length-set}
+use Rattle.std.proofs.Common.{◌≡◌, ◌<◌, pos, get_or, set, length, ap, ◌∙◌, arith, rules, below_more, length-set}
 use Rattle.std.proofs.Common.{to_z, of_z, w8}
 use Rattle.std.proofs.lemmas.Int.{to_z-of_z}
 use Rattle.std.proofs.lemmas.List.{get_or-set_other, get_or-set_same}
