@@ -1,5 +1,6 @@
 -- What symbols become is a signed byte.
-use Rattle.std.proofs.Common.{◌≡◌, ◌≤◌, ℤ, pos, negsuc, ◌-ℤ◌, ◌*ℤ◌, nat_abs, Bool, true, false, cond, arith, to_z, of_z, w8}
+use Rattle.std.proofs.Common.{◌≡◌, ◌≤◌, ℤ, pos, negsuc, ◌-ℤ◌, ◌*ℤ◌, nat_abs, Bool, true, false, cond, arith, to_z, of_z}
+use Rattle.std.proofs.Common.{w8}
 use Rattle.std.specs.Int.{int_max, int_min}
 use Rattle.std.proofs.lemmas.Int.{clamps, ints}
 use Rattle.dtx_level.specs.Levelled.{By, level, levelled_symbol, nearest}

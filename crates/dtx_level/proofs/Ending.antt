@@ -10,7 +10,8 @@ use Rattle.dtx_level.specs.declared.measure.Measure.{Measure}
 use Rattle.dtx_level.specs.Shown.{shows}
 use Rattle.dtx_level.specs.Syncs.{all_syncs, slips, syncs_where}
 use Rattle.dtx_level.specs.Levelled.{By, by_sync, known, known_behind, last_behind, last_of, level, levelled}
-use Rattle.dtx_level.specs.Levelled.{levelled_behind, levelled_rest, levelled_so_far, levelled_symbol, nothing, stretches, where_some}
+use Rattle.dtx_level.specs.Levelled.{levelled_behind, levelled_rest, levelled_so_far, levelled_symbol, nothing}
+use Rattle.dtx_level.specs.Levelled.{stretches, where_some}
 use Rattle.dtx_level.specs.Measures.{later_by, measure_at, measures_where}
 use Rattle.dtx_level.specs.Leveller.{Holding, IsClear, IsCleared, IsEnded, IsStretch, IsTally, Leaves, StandsFor}
 use Rattle.dtx_level.specs.Leveller.{are_some, as_list, places_of, shown, where_wanted}
@@ -85,8 +86,7 @@ unfolding levelled_so_far levelled_rest levelled
 known_some symbols done rest e k xs x s =
     let all : where_some (all_syncs symbols) (levelled_behind nothing symbols) ≡ done ++ rest =
     ap (λ ys. where_some ys (levelled_behind nothing symbols)) s ∙ e in
-    let none : length done ≡ length done + 0 = omega arith in
-    (
+    let none : length done ≡ length done + 0 = omega arith in (
       ap₂ take k all ∙ ap (λ n. take n (done ++ rest)) none ∙ take-append-add done rest 0 ∙ append-nil done,
       ap₂ drop k all ∙ ap (λ n. drop n (done ++ rest)) none ∙ drop-append-add done rest 0,
     )
@@ -139,7 +139,8 @@ known_by holding symbols h true begun e f =
     zero_more : (n : ℕ) → n + 0 ≡ n
     zero_more n = omega arith
 
-    by_places : (places : List ℕ) → all_syncs symbols ≡ places ++ (length h.done + 0) ∷ [] → known symbols ≡ length h.done
+    by_places : (places : List ℕ) → all_syncs symbols ≡ places ++ (length h.done + 0) ∷ []
+        → known symbols ≡ length h.done
         → (levelled_so_far symbols ≡ h.done) × (levelled_rest symbols ≡ levelled_behind holding.by holding.held)
     by_places [] s k = known_some symbols h.done (levelled_behind holding.by holding.held)
         (levelled_now holding symbols h.done h.told h.leaves) k [] (length h.done + 0) s
@@ -210,7 +211,8 @@ pub record IsEndedBy (holding : Holding) (symbols : List ℤ) (zeros syncs slips
   pub measured_is : as_list measured ≡ map (later_by (holding.symbols - length holding.held))
       (measures_where not holding.held)
   pub tally : (places : List ℕ) → IsTally holding.syncs holding.slips holding.last places
-      → IsTally syncs slips_ last (places ++ map (λ i. (holding.symbols - length holding.held) + i) (all_syncs holding.held))
+      → IsTally syncs slips_ last
+      (places ++ map (λ i. (holding.symbols - length holding.held) + i) (all_syncs holding.held))
 
 pub ended : (holding new : Holding) (symbols : List ℤ) → StandsFor holding symbols
     → IsEndedBy holding symbols new.zeros new.syncs new.slips new.last new.given new.measured → IsEnded new symbols
@@ -301,7 +303,8 @@ stands_cleared old new symbols c h = record {
 -- by nothing all become 0
 same_level : (by : By) (xs : List ℤ) → by.begun ≡ false → map (level nothing) xs ≡ map (level by) xs
 same_level by [] e = refl
-same_level by (x ∷ xs) e = ap₂ ◌∷◌ (sym (ap (λ b. cond b (levelled_symbol by.gain by.constant x) (pos 0)) e)) (same_level by xs e)
+same_level by (x ∷ xs) e =
+    ap₂ ◌∷◌ (sym (ap (λ b. cond b (levelled_symbol by.gain by.constant x) (pos 0)) e)) (same_level by xs e)
 
 same_stretches : (v : List ℤ) (places : List ℕ) (by : By) → by.begun ≡ false
     → stretches nothing v 0 places ≡ stretches by v 0 places

@@ -1,6 +1,7 @@
 -- The least place that shows a sync, as it is searched, and of symbols behind others.
 use Rattle.std.proofs.Common.{◌≡◌, ℕ, ℤ, zero, suc, ◌+◌, ◌-◌, ◌<◌, ◌≤◌, ◌⊎◌, inl, inr, Bool, true, false}
-use Rattle.std.proofs.Common.{Option, Some, None, option_map, List, ◌++◌, length, refl, sym, ap, ◌∙◌, arith, length-append}
+use Rattle.std.proofs.Common.{Option, Some, None, option_map, List, ◌++◌, length, refl, sym, ap, ◌∙◌, arith}
+use Rattle.std.proofs.Common.{length-append}
 use Rattle.std.specs.List.{find, range_with_len}
 use Rattle.std.proofs.lemmas.Bool.{cond-false, cases_lt}
 use Rattle.dtx_lists.proofs.RangeSearch.{IsFirst, find-range_first, find-range_gives, find-range_misses}
@@ -50,7 +51,8 @@ pub least_gives : (symbols : List ℤ) (from place : ℕ) → least_shown symbol
 unfolding least_shown
 least_gives symbols from place h = find-range_gives (shows symbols) from (length symbols - from) place h
 
-pub least_misses : (symbols : List ℤ) (from i : ℕ) → least_shown symbols from ≡ None → from ≤ i → shows symbols i ≡ false
+pub least_misses : (symbols : List ℤ) (from i : ℕ) → least_shown symbols from ≡ None → from ≤ i
+    → shows symbols i ≡ false
 unfolding least_shown
 least_misses symbols from i h l = by_place (cases_lt i (from + (length symbols - from)))
   where

@@ -10,3 +10,4 @@ pub mod Bounds
 pub mod Leaving
 pub mod Ending
 pub mod Taking
+pub mod Fronts

@@ -118,7 +118,8 @@ all_next front v h some e =
     ∙ all_from (length (front ++ v)) (length-append front v)
   where
     all_from : (n : ℕ) → n ≡ length front + length v
-        → syncs_from (front ++ v) n (Some 0) ≡ 0 ∷ map (λ i. length front + i) (syncs_from v (length v) (least_shown v 0))
+        → syncs_from (front ++ v) n (Some 0)
+        ≡ 0 ∷ map (λ i. length front + i) (syncs_from v (length v) (least_shown v 0))
     all_from zero l = absurd (omega arith)
     all_from (suc n) l =
         ap (λ xs. 0 ∷ xs)

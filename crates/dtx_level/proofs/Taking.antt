@@ -64,7 +64,7 @@ told_more : (new : Holding) (symbols done : List ℤ) (told : List Measure) → 
 told_more new symbols done told e h =
     subst (Leaves new symbols done) (sym (ap (λ o. told ++ as_list o) e ∙ append-nil told)) h
 
-silent_level : (by : By) (xs : List ℤ) → by.begun ≡ false → map (level by) xs ≡ replicate (length xs) (pos 0)
+pub silent_level : (by : By) (xs : List ℤ) → by.begun ≡ false → map (level by) xs ≡ replicate (length xs) (pos 0)
 silent_level by [] e = refl
 silent_level by (x ∷ xs) e =
     ap₂ ◌∷◌ (ap (λ b. cond b (levelled_symbol by.gain by.constant x) (pos 0)) e) (silent_level by xs e)
@@ -133,8 +133,8 @@ settle_moves old new count on none full front some most next stretch symbols don
   more = map (level (by_sync old.held 0)) (take count old.held);
   leaves = subst (λ o. Leaves new symbols (done ++ map (level (by_sync old.held 0)) (take count old.held))
       (told ++ as_list o)) (sym stretch.measured)
-      (leaves_settled old new count symbols done told h full front some most next stretch.held stretch.by stretch.symbols
-      (stretch.tally (places_of told) h.tally));
+      (leaves_settled old new count symbols done told h full front some most next stretch.held stretch.by
+      stretch.symbols (stretch.tally (places_of told) h.tally));
   given = λ before e.
       begun new.on new.by.begun (ap (λ (x : By). x.begun) stretch.by)
       ∙ ap (λ xs. xs ++ map (level (by_sync old.held 0)) (take count old.held))

@@ -1,7 +1,6 @@
 -- One sync more.
 use Rattle.std.proofs.Common.{◌≡◌, ℕ, ◌+◌, ◌<◌, Bool, true, false, cond, not, Option, Some, None, IfSome, List, [], ◌∷◌}
 use Rattle.std.proofs.Common.{◌++◌, length, filter, refl, sym, ap, ◌∙◌, subst, arith, length-append}
-
 use Rattle.dtx_level.specs.Syncs.{slip_behind, slips_behind}
 use Rattle.dtx_level.specs.Levelled.{last_behind, last_of}
 use Rattle.dtx_level.specs.Leveller.{IsTally}

@@ -1,5 +1,5 @@
--- A capture levelled: brought to eight steps a unit by its field syncs (the profile's own; ATSC A/53 Part 2, the levels of
--- 8-VSB and data field sync).
+-- A capture levelled: brought to eight steps a unit by its field syncs (the profile's own; ATSC A/53 Part 2, the levels
+-- of 8-VSB and data field sync).
 use Rattle.std.specs.Prelude.{ℕ, ℤ, pos, negsuc, neg_ℤ, ◌-◌, ◌+ℤ◌, ◌-ℤ◌, ◌*ℤ◌, int_lt, Bool, true, false, if◌then◌else◌}
 use Rattle.std.specs.Prelude.{Option, Some, None, List, [], ◌∷◌, ◌++◌, length, map, take, drop}
 use Rattle.std.specs.Int.{int_div_euclid, int_max, int_min}
@@ -44,8 +44,8 @@ by_sync symbols place = record { begun = true; gain = gain symbols place; consta
 
 -- ---- all symbols
 
--- Those from a place on, where syncs stand at these places: each stretch, up to the next sync or the end, goes by the last
--- sync at its begin or before.
+-- Those from a place on, where syncs stand at these places: each stretch, up to the next sync or the end, goes by the
+-- last sync at its begin or before.
 unfoldable pub stretches : By → List ℤ → ℕ → List ℕ → List ℤ
 stretches by symbols from [] = map (level by) (drop from symbols)
 stretches by symbols from (place ∷ places) =

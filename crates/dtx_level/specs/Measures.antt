@@ -1,14 +1,14 @@
 -- How the field syncs of a capture stand (the profile's own; ATSC A/53 Part 2, data field sync).
 use Rattle.std.specs.Prelude.{ℕ, ℤ, pos, ◌+◌, ◌*◌, ◌+ℤ◌, ◌-ℤ◌, ◌*ℤ◌, nat_abs, Bool, true, false, not, List, map, sum}
-use Rattle.std.specs.Prelude.{take, drop, slice_index_or}
+use Rattle.std.specs.Prelude.{◌≡◌, ◌++◌, length, replicate, take, drop, slice_index_or}
 use Rattle.std.specs.Int.{int_div_euclid}
 use Rattle.std.specs.List.{range_with_len}
 use Rattle.dtx_frame.specs.Segments.{sync_symbols}
 use Rattle.dtx_acquire.specs.Agreement.{is_second}
 use Rattle.dtx_level.specs.declared.measure.Measure.{Measure}
 use Rattle.dtx_level.specs.Shown.{constant, gain}
-use Rattle.dtx_level.specs.Syncs.{syncs_where}
-use Rattle.dtx_level.specs.Levelled.{by_sync, level}
+use Rattle.dtx_level.specs.Syncs.{all_syncs, slips, syncs_where}
+use Rattle.dtx_level.specs.Levelled.{by_sync, level, levelled, where_some}
 
 -- the segment of a sync, levelled by it
 unfoldable pub levelled_sync : List ℤ → ℕ → List ℤ
@@ -67,3 +67,11 @@ later_by count measure = record {
   constant = measure.constant;
   noise = measure.noise;
 }
+
+-- Symbols in front of which no place shows a sync: each becomes 0 where there is one behind, and the syncs stand so
+-- many symbols later.
+pub record IsLater (front symbols : List ℤ) : Type 0 where
+  pub levelled_is : levelled (front ++ symbols)
+      ≡ where_some (all_syncs symbols) (replicate (length front) (pos 0)) ++ levelled symbols
+  pub measures_are : measures (front ++ symbols) ≡ map (later_by (length front)) (measures symbols)
+  pub slips_are : slips (all_syncs (front ++ symbols)) ≡ slips (all_syncs symbols)

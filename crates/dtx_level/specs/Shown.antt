@@ -1,6 +1,7 @@
--- What a place of a capture shows: how its symbols agree with a field sync, and at what gain and with what constant they
--- stand (the profile's own; ATSC A/53 Part 2, data field sync).
-use Rattle.std.specs.Prelude.{ℕ, ℤ, pos, nat_abs, ◌≤◌, ◌+◌, ◌-◌, ◌+ℤ◌, ◌-ℤ◌, ◌*ℤ◌, ◌&&◌, ◌||◌, int_lt, nat_le, Bool, true, false}
+-- What a place of a capture shows: how its symbols agree with a field sync, and at what gain and with what constant
+-- they stand (the profile's own; ATSC A/53 Part 2, data field sync).
+use Rattle.std.specs.Prelude.{ℕ, ℤ, pos, nat_abs, ◌≤◌, ◌+◌, ◌-◌, ◌+ℤ◌, ◌-ℤ◌, ◌*ℤ◌, ◌&&◌, ◌||◌, int_lt, nat_le, Bool}
+use Rattle.std.specs.Prelude.{true, false}
 use Rattle.std.specs.Prelude.{if◌then◌else◌, Option, List, [], ◌∷◌, length, map, slice_index_or}
 use Rattle.std.specs.List.{find, range_with_len}
 use Rattle.dtx_acquire.specs.Agreement.{are_unlike, sync_sign, unlike}
@@ -20,8 +21,8 @@ unfoldable pub sum_where : Bool → List ℤ → ℕ → ℕ → ℤ
 sum_where plus symbols place count = total (map (counted_at plus symbols place) (range_with_len 0 count))
 
 -- Of the first 515 symbols of a field sync 258 are +5 and 257 are -5. Where a is the sum of a capture's symbols at the
--- places of the former, and b of those at the places of the latter, this is 257 * a - 258 * b. (Where each symbol s stands
--- as u * s + c it is 10 * u * 258 * 257.)
+-- places of the former, and b of those at the places of the latter, this is 257 * a - 258 * b. (Where each symbol s
+-- stands as u * s + c it is 10 * u * 258 * 257.)
 unfoldable pub gain : List ℤ → ℕ → ℤ
 gain symbols place = pos 257 *ℤ sum_where true symbols place 515 -ℤ pos 258 *ℤ sum_where false symbols place 515
 
@@ -33,8 +34,8 @@ constant symbols place = pos 257 *ℤ sum_where true symbols place 515 +ℤ pos 
 abbrev pub IsBounded : ℤ → Type 0
 IsBounded x = nat_abs x ≤ 33948800
 
--- that so many of 515 signs are other ones, at that gain: few where it is above 0, and most where it is below, since the
--- capture is turned there
+-- that so many of 515 signs are other ones, at that gain: few where it is above 0, and most where it is below, since
+-- the capture is turned there
 abbrev pub are_shown : ℕ → ℤ → Bool
 are_shown count g = (nat_le count 128 && int_lt (pos 0) g) || (nat_le 387 count && int_lt g (pos 0))
 

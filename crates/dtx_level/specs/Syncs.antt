@@ -1,13 +1,13 @@
--- The field syncs of a capture, and where symbols were lost or doubled between them (the profile's own; ATSC A/53 Part 2,
--- data field sync).
+-- The field syncs of a capture, and where symbols were lost or doubled between them (the profile's own; ATSC A/53 Part
+-- 2, data field sync).
 use Rattle.std.specs.Prelude.{ℕ, ℤ, ◌+◌, ◌-◌, ◌%◌, ◌==◌, Bool, if◌then◌else◌, Option, Some, None, List, [], ◌∷◌}
 use Rattle.std.specs.Prelude.{length, filter}
 use Rattle.std.proofs.Common.{zero, suc}
 use Rattle.dtx_acquire.specs.Acquired.{due, is_met}
 use Rattle.dtx_level.specs.Shown.{least_shown, shows}
 
--- The sync behind the one at a place: the next is due 313 segments behind it, where a whole segment stands there. It is at
--- that place where that shows one, else at the least place behind this sync that does.
+-- The sync behind the one at a place: the next is due 313 segments behind it, where a whole segment stands there. It is
+-- at that place where that shows one, else at the least place behind this sync that does.
 unfoldable pub behind : List ℤ → ℕ → Option ℕ
 behind symbols place =
     if is_met symbols place then

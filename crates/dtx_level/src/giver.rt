@@ -36,8 +36,11 @@ impl Giver {
         requires most { count ≤ MOST_HELD }
         requires room { count ≤ length held.old }
         ensures given { take self.new.count self.new.given.items
-            ≡ map (level (record { begun = self.old.levels.begun; gain = self.old.levels.gain;
-            constant = self.old.levels.constant })) (take count held.old) }
+            ≡ map (level (record {
+              begun = self.old.levels.begun;
+              gain = self.old.levels.gain;
+              constant = self.old.levels.constant;
+            })) (take count held.old) }
         ensures count { self.new.count ≡ count }
         ensures held { held.new ≡ drop count held.old }
         ensures begun { self.new.levels.begun ≡ self.old.levels.begun }
@@ -64,8 +67,11 @@ impl Giver {
 fn level_front(levels: &Levels, symbols: &[i8], count: usize, out: &mut Vec<i8>)
     requires few { count ≤ vec_len out.old }
     requires room { count ≤ length symbols.now }
-    ensures front { take count out.new.items ≡ map (level (record { begun = levels.now.begun;
-        gain = levels.now.gain; constant = levels.now.constant })) (take count symbols.now) }
+    ensures front { take count out.new.items ≡ map (level (record {
+      begun = levels.now.begun;
+      gain = levels.now.gain;
+      constant = levels.now.constant;
+    })) (take count symbols.now) }
     ensures long { vec_len out.new ≡ vec_len out.old }
 {
     level_first(levels, symbols, count, &mut out[..])
@@ -75,8 +81,11 @@ fn level_front(levels: &Levels, symbols: &[i8], count: usize, out: &mut Vec<i8>)
 fn level_first(levels: &Levels, symbols: &[i8], count: usize, out: &mut [i8])
     requires few { count ≤ length out.old }
     requires room { count ≤ length symbols.now }
-    ensures front { take count out.new ≡ map (level (record { begun = levels.now.begun;
-        gain = levels.now.gain; constant = levels.now.constant })) (take count symbols.now) }
+    ensures front { take count out.new ≡ map (level (record {
+      begun = levels.now.begun;
+      gain = levels.now.gain;
+      constant = levels.now.constant;
+    })) (take count symbols.now) }
     ensures long { length out.new ≡ length out.old }
 {
     levels.level_all(&symbols[..count], &mut out[..count])

@@ -21,11 +21,11 @@ use dtx_sizes::{MOST_SYMBOLS, SEGMENT};
 use std::alloc::{AllocError, Global};
 use std::marker::Model;
 
-/// Brings a capture of unknown gain, constant and polarity to eight steps a unit by its field syncs, and tells of each sync how
-/// it stands (the profile's own; ATSC A/53 Part 2, the levels of 8-VSB and data field sync). It is given the symbols in pieces
-/// of any length, and gives as many without taking memory: zeros for those before the first sync, once that is known, and the
-/// others levelled. `StandsFor leveller symbols` says that it holds what these symbols leave, at most those of one field and
-/// one segment.
+/// Brings a capture of unknown gain, constant and polarity to eight steps a unit by its field syncs, and tells of each
+/// sync how it stands (the profile's own; ATSC A/53 Part 2, the levels of 8-VSB and data field sync). It is given the
+/// symbols in pieces of any length, and gives as many without taking memory: zeros for those before the first sync,
+/// once that is known, and the others levelled. `StandsFor leveller symbols` says that it holds what these symbols
+/// leave, at most those of one field and one segment.
 #[derive(Drop)]
 pub struct Leveller {
     pattern: Pattern,
@@ -88,8 +88,9 @@ impl Leveller {
         })
     }
 
-    /// Takes the first of these symbols, behind those that were given before, as many as there is room for until the next field
-    /// is whole, and answers how many. What they bring is `zeros` many zeros and then `given`, and the sync that is `measured`.
+    /// Takes the first of these symbols, behind those that were given before, as many as there is room for until the
+    /// next field is whole, and answers how many. What they bring is `zeros` many zeros and then `given`, and the sync
+    /// that is `measured`.
     pub fn take(&mut self, symbols: &[i8]) -> usize
         requires most { self.old.symbols + length symbols.now ≤ MOST_SYMBOLS }
         ensures within { result ≤ length symbols.now }
@@ -256,8 +257,8 @@ impl Leveller {
         }
     }
 
-    /// Gives what goes by the sync in front of the symbols that are held, where the segment is there at which the next is
-    /// due.
+    /// Gives what goes by the sync in front of the symbols that are held, where the segment is there at which the next
+    /// is due.
     fn settle(&mut self)
         requires whole { length self.old.held ≡ MOST_HELD → self.old.given ≡ [] }
         requires measured { self.old.measured ≡ None }
@@ -278,8 +279,8 @@ impl Leveller {
         }
     }
 
-    /// Measures the sync in front of the symbols that are held, and gives the first of them by it, so many. Whether another
-    /// one is in front of the others is told.
+    /// Measures the sync in front of the symbols that are held, and gives the first of them by it, so many. Whether
+    /// another one is in front of the others is told.
     fn stretch(&mut self, count: usize, on: bool)
         requires front { shows self.old.held 0 ≡ true }
         requires some { SEGMENT ≤ count }

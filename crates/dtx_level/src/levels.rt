@@ -53,8 +53,11 @@ impl Levels {
     /// Writes what symbols become.
     pub(crate) fn level_all(&self, symbols: &[i8], out: &mut [i8])
         requires { length out.old ≡ length symbols.now }
-        ensures { out.new ≡ map (level (record { begun = self.now.begun; gain = self.now.gain;
-            constant = self.now.constant })) symbols.now }
+        ensures { out.new ≡ map (level (record {
+          begun = self.now.begun;
+          gain = self.now.gain;
+          constant = self.now.constant;
+        })) symbols.now }
     {
         for i in 0..symbols.len() {
             out[i] = self.level(symbols[i]);
@@ -64,8 +67,11 @@ impl Levels {
     /// What a symbol becomes.
     #[inline(always)]
     fn level(&self, symbol: i8) -> i8
-        ensures { result ≡ level (record { begun = self.now.begun; gain = self.now.gain;
-            constant = self.now.constant }) symbol }
+        ensures { result ≡ level (record {
+          begun = self.now.begun;
+          gain = self.now.gain;
+          constant = self.now.constant;
+        }) symbol }
     {
         self.table[(symbol as i16 + 128) as usize]
     }

@@ -11,10 +11,10 @@ use crate::pattern::{Pattern, Standing};
 use dtx_acquire::is_second;
 use dtx_sizes::SEGMENT;
 
-/// How a field sync stands: its place, counted in symbols from the capture's first, whether it is of a second field, its gain
-/// in hundredths of a step a unit, which is below 0 where the capture is turned, the constant in hundredths of a step, and its
-/// noise, the sum over its first 515 symbols of the squares of how far each, levelled, is from 40 or -40 (the profile's own;
-/// ATSC A/53 Part 2, data field sync).
+/// How a field sync stands: its place, counted in symbols from the capture's first, whether it is of a second field,
+/// its gain in hundredths of a step a unit, which is below 0 where the capture is turned, the constant in hundredths of
+/// a step, and its noise, the sum over its first 515 symbols of the squares of how far each, levelled, is from 40 or
+/// -40 (the profile's own; ATSC A/53 Part 2, data field sync).
 #[derive(Clone, Copy, Drop)]
 pub struct Measure {
     pub place: u64,
@@ -25,7 +25,12 @@ pub struct Measure {
 }
 
 /// That of the sync at a place, which shows that and was levelled.
-pub(crate) fn measure_of(pattern: &Pattern, place: u64, standing: Standing, levelled: &[i8; SEGMENT]) -> Measure
+pub(crate) fn measure_of(
+    pattern: &Pattern,
+    place: u64,
+    standing: Standing,
+    levelled: &[i8; SEGMENT],
+) -> Measure
     requires small_gain { IsBounded standing.gain }
     requires small_constant { IsBounded standing.constant }
     ensures place { result.place ≡ place }

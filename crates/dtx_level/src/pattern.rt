@@ -15,6 +15,7 @@ pub(crate) const COMPARED: usize = 515;
 
 /// How many of these are +5, and how many are -5.
 const PLUSES: i64 = 258;
+
 const MINUSES: i64 = 257;
 
 /// The sync of a first field.

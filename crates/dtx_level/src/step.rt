@@ -13,8 +13,8 @@ use dtx_sizes::SEGMENT;
 /// How many symbols behind a sync the next one is due.
 pub(crate) const DUE: usize = MOST_HELD - SEGMENT;
 
-/// What comes of a sync behind which the next one is looked for: how many symbols go by it and are let go, and whether a sync
-/// is in front of what is behind them.
+/// What comes of a sync behind which the next one is looked for: how many symbols go by it and are let go, and whether
+/// a sync is in front of what is behind them.
 #[derive(Clone, Copy, Drop)]
 pub(crate) struct Step {
     pub(crate) count: usize,
@@ -33,7 +33,10 @@ pub(crate) fn step_of(pattern: &Pattern, symbols: &[i8]) -> Step
     ensures next { IsNext result.count symbols.now }
 {
     if shows(pattern, symbols, DUE) {
-        return Step { count: DUE, on: true };
+        return Step {
+            count: DUE,
+            on: true,
+        };
     }
     match search(pattern, symbols, SEGMENT) {
         Some(count) => Step { count, on: true },

@@ -58,6 +58,10 @@ impl Tally {
         if self.syncs == 0 {
             return 0;
         }
-        if (place - self.last) % DUE as u64 == 0 { 0 } else { 1 }
+        if (place - self.last) % DUE as u64 == 0 {
+            0
+        } else {
+            1
+        }
     }
 }

@@ -9,7 +9,8 @@ unfolding levelled_symbol
 returns c =
     let next : c.nearest.result ≡ nearest c.numerator.result c.args.gain =
     first_of (search rules, grind (arith, to_z-of_z), grind (arith, ints, to_z-of_z)) in
-    let read : to_z w64 (of_z w64 c.nearest.result) ≡ c.nearest.result = to_z-of_z w64 c.nearest.result (search rules) in
+    let read : to_z w64 (of_z w64 c.nearest.result) ≡ c.nearest.result =
+    to_z-of_z w64 c.nearest.result (search rules) in
     let same : to_z w8 (of_z w8 (to_z w64 (of_z w64 c.clamp.result))) ≡ c.clamp.result =
     omega (arith, ints, clamps, c.clamp.ensures.value) in
     same ∙ c.clamp.ensures.value

@@ -13,8 +13,7 @@ held_more : (held more taken : List ℤ) (syncs slips last silent n symbols all 
     → (832 * syncs + length taken ≤ symbols + n) × (symbols + n ≤ 520832000000) × (slips ≤ syncs)
     × (last + length taken ≤ symbols + n) × (silent + length taken ≤ symbols + n) × (on ≡ true → shows taken 0 ≡ true)
 held_more held more taken syncs slips last silent n symbols all on room fewer far quiet front e long most few =
-    let is : length taken ≡ length held + n = omega (arith, ap length e, length-append held more, long) in
-    (
+    let is : length taken ≡ length held + n = omega (arith, ap length e, length-append held more, long) in (
       omega (arith, is, room),
       omega (arith, most, few),
       fewer,

@@ -8,8 +8,7 @@ first_kept : (held : List ℤ) (syncs slips last : ℕ) → held ≡ [] → sync
     → (832 * syncs + length held ≤ 0) × (0 ≤ 520832000000) × (slips ≤ syncs) × (last + length held ≤ 0)
     × (0 + length held ≤ 0) × (false ≡ true → shows held 0 ≡ true)
 first_kept held syncs slips last e s l k =
-    let none = ap length e in
-    (
+    let none = ap length e in (
       omega (arith, none, s),
       omega arith,
       omega (arith, l),

@@ -34,8 +34,10 @@ returns-clause-stretch c =
       gain = c.begin.new.self.gain;
       constant = c.begin.new.self.constant;
     }) (by_sync held 0) =
-    by_is _ _ _ _ _ _ c.begin.ensures.begun (c.begin.ensures.gain ∙ read_g ∙ g) (c.begin.ensures.constant ∙ read_o ∙ o) in
-    let given : take c.give.new.self.count c.give.new.self.given.items ≡ map (level (by_sync held 0)) (take c.args.count held) =
+    by_is _ _ _ _ _ _ c.begin.ensures.begun (c.begin.ensures.gain ∙ read_g ∙ g)
+    (c.begin.ensures.constant ∙ read_o ∙ o) in
+    let given : take c.give.new.self.count c.give.new.self.given.items
+    ≡ map (level (by_sync held 0)) (take c.args.count held) =
     c.give.ensures.given ∙ ap (λ (x : By). map (level x) (take c.args.count held)) begun in
     let front : c.front.result ≡ levelled_sync held 0 =
     c.front.ensures ∙ ap (take 832) given ∙ front_levelled held c.args.count c.requires.some in

@@ -1,4 +1,5 @@
-use Rattle.std.proofs.Common.{◌≡◌, ◌+◌, ◌+ℤ◌, cond, pos, get_or, refl, sym, ap, ap₂, ◌∙◌, arith, rules, to_z, of_z, w8, w64}
+use Rattle.std.proofs.Common.{◌≡◌, ◌+◌, ◌+ℤ◌, cond, pos, get_or, refl, sym, ap, ap₂, ◌∙◌, arith, rules, to_z, of_z, w8}
+use Rattle.std.proofs.Common.{w64}
 use Rattle.std.proofs.lemmas.Int.{ints, to_z-of_z}
 use Rattle.dtx_acquire.specs.Agreement.{are_unlike, is_plus, sync_sign}
 use Rattle.dtx_level.specs.Shown.{counted_at, sum_where}
@@ -24,7 +25,8 @@ loop-i-preserved c =
     let value : c.counted-sum.result ≡ counted_at c.args.plus c.args.symbols.now c.args.place c.loop-i.i =
     c.counted-sum.ensures.value
     ∙ ap₂ (λ b s. cond (are_unlike b c.args.plus) (pos 0) s)
-    (c.is_plus.ensures ∙ ap is_plus (sync ∙ c.args.self.now.is c.loop-i.i (omega (arith, c.loop-i-test.true)))) symbol in
+    (c.is_plus.ensures
+    ∙ ap is_plus (sync ∙ c.args.self.now.is c.loop-i.i (omega (arith, c.loop-i-test.true)))) symbol in
     record {
       few = omega (arith, c.loop-i-test.true);
       sum = new ∙ ap₂ (λ a b. a +ℤ b) c.loop-i.invariant.sum value
