@@ -11,3 +11,4 @@ pub mod Leaving
 pub mod Ending
 pub mod Taking
 pub mod Fronts
+pub mod Growing

@@ -8,7 +8,7 @@ use Rattle.dtx_acquire.specs.Agreement.{is_second}
 use Rattle.dtx_level.specs.declared.measure.Measure.{Measure}
 use Rattle.dtx_level.specs.Shown.{constant, gain}
 use Rattle.dtx_level.specs.Syncs.{all_syncs, slips, syncs_where}
-use Rattle.dtx_level.specs.Levelled.{by_sync, level, levelled, where_some}
+use Rattle.dtx_level.specs.Levelled.{by_sync, level, levelled, levelled_so_far, where_some}
 
 -- the segment of a sync, levelled by it
 unfoldable pub levelled_sync : List ℤ → ℕ → List ℤ
@@ -75,3 +75,10 @@ pub record IsLater (front symbols : List ℤ) : Type 0 where
       ≡ where_some (all_syncs symbols) (replicate (length front) (pos 0)) ++ levelled symbols
   pub measures_are : measures (front ++ symbols) ≡ map (later_by (length front)) (measures symbols)
   pub slips_are : slips (all_syncs (front ++ symbols)) ≡ slips (all_syncs symbols)
+
+-- What is levelled and measured of first symbols, whatever follows, is a front part of what is of more.
+pub record IsGrown (symbols more : List ℤ) : Type 0 where
+  pub others : List ℤ
+  pub told : List Measure
+  pub levelled_is : levelled_so_far (symbols ++ more) ≡ levelled_so_far symbols ++ others
+  pub measures_are : measures_so_far (symbols ++ more) ≡ measures_so_far symbols ++ told
