@@ -1,7 +1,7 @@
 -- Symbols in front of which no place shows a sync.
 use Rattle.std.proofs.Common.{◌≡◌, ℕ, ℤ, pos, ◌+◌, ◌-◌, ◌%◌, ◌<◌, true, false, cond, eqb, Option, Some, None}
 use Rattle.std.proofs.Common.{option_map, List}
-use Rattle.std.proofs.Common.{[], ◌∷◌, ◌++◌, length, map, replicate, refl, sym, ap, ap₂, ◌∙◌, arith}
+use Rattle.std.proofs.Common.{[], ◌∷◌, ◌++◌, length, map, replicate, refl, ap, ap₂, ◌∙◌, arith}
 use Rattle.dtx_level.specs.Shown.{shows}
 use Rattle.dtx_level.specs.Syncs.{all_syncs, slip_behind, slips_behind}
 use Rattle.dtx_level.specs.Levelled.{levelled, levelled_behind, nothing, where_some}

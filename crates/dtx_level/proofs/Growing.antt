@@ -1,15 +1,15 @@
 -- What is levelled of more symbols: for all that were given there is a value that stands for them, symbol by symbol.
-use Rattle.std.proofs.Common.{◌≡◌, ℕ, ℤ, pos, suc, ◌+◌, ◌-◌, ◌<◌, ◌≤◌, ◌⊎◌, inl, inr, Bool, true, false, cond, eqb}
+use Rattle.std.proofs.Common.{◌≡◌, ℕ, ℤ, ◌+◌, ◌-◌, ◌<◌, ◌≤◌, ◌⊎◌, inl, inr, Bool, true, false, cond, eqb}
 use Rattle.std.proofs.Common.{Option, Some, None, List, [], ◌∷◌, ◌++◌, length, map, take, drop, append_assoc, refl, sym}
 use Rattle.std.proofs.Common.{ap}
-use Rattle.std.proofs.Common.{ap₂, ◌∙◌, subst, arith, length-append}
+use Rattle.std.proofs.Common.{◌∙◌, subst, arith, length-append}
 use Rattle.std.proofs.lemmas.Bool.{cases_lt, cond-true, cond-false, eq-eqb, ne_eqb, true≢false, false≢true}
 use Rattle.std.proofs.lemmas.List.{append-nil, length-drop}
 use Rattle.dtx_level.specs.Shown.{least_shown, shows}
 use Rattle.dtx_level.specs.Syncs.{slip_behind, slips_behind}
 use Rattle.dtx_level.specs.Levelled.{by_sync, level, levelled_so_far, nothing}
 use Rattle.dtx_level.specs.Measures.{IsGrown, later_by, measure_at, measures_so_far}
-use Rattle.dtx_level.specs.Leveller.{Holding, IsClear, IsCleared, IsFed, IsNext, IsTally, StandsFor, all_given, as_list}
+use Rattle.dtx_level.specs.Leveller.{Holding, IsClear, IsNext, IsTally, StandsFor, all_given, as_list}
 use Rattle.dtx_level.proofs.Shows.{shows_dropped, shows_front, whole_there}
 use Rattle.dtx_level.proofs.Least.{least_gives, least_misses}
 use Rattle.dtx_level.proofs.Tallies.{slip_is, tally_more}
@@ -144,14 +144,16 @@ seeks h clear most front = by_on h.on refl
             moves = find_moves h (found h p) p clear e (record {
               within = omega (arith, there);
               none = λ q l. (omega (arith, there, l), is.before q (omega arith) l);
-            }) (record { by = refl; symbols = refl; syncs = refl; slips_ = refl; last = refl }) refl refl refl refl refl;
+            }) (record { by = refl; symbols = refl; syncs = refl; slips_ = refl; last = refl }) refl refl refl refl
+                refl;
             off = λ f. absurd (true≢false f);
             rest = λ f l. absurd (true≢false f);
             kept = λ f. absurd (true≢false f);
             none = refl;
             front = λ f. shows_dropped h.held p 0 (omega (arith, there)) ∙ ap (shows h.held) all ∙ is.passes;
             most = omega (arith, length-drop p h.held, most);
-            whole = λ full. none_before h.held (drop p h.held) _ p (level h.by) refl refl most (omega (arith, there)) full;
+            whole = λ full.
+                none_before h.held (drop p h.held) _ p (level h.by) refl refl most (omega (arith, there)) full;
           },
         )
 
@@ -185,7 +187,8 @@ tally_settled : (h : Holding) (place : ℕ) (places : List ℕ) → IsTally h.sy
     → IsTally (h.syncs + 1) (h.slips + cond (eqb h.syncs 0) 0 (slip_behind (Some h.last) place)) place
     (places ++ place ∷ [])
 tally_settled h place places t =
-    tally_more h.syncs h.slips h.last (h.slips + cond (eqb h.syncs 0) 0 (slip_behind (Some h.last) place)) place places t
+    tally_more h.syncs h.slips h.last (h.slips + cond (eqb h.syncs 0) 0 (slip_behind (Some h.last) place)) place places
+    t
     (ap (λ n. h.slips + n) (slip_is h.syncs h.slips h.last place
     (cond (eqb h.syncs 0) 0 (slip_behind (Some h.last) place)) places t
     (λ s. cond-false (eqb h.syncs 0) 0 (slip_behind (Some h.last) place) (ne_eqb h.syncs 0 (λ z. omega (arith, s, z))))
