@@ -12,3 +12,4 @@ pub mod Ending
 pub mod Taking
 pub mod Fronts
 pub mod Growing
+pub mod Gains
