@@ -51,7 +51,8 @@ undone (pos zero) b s n = absurd (n refl)
 undone (pos (suc a)) b (pos s) n =
     let g = 663060 * suc a in
     let is : number (pos (suc a)) b (pos s) ≡ pos (8 * s * g) = omega (arith, ints) in
-    nearest_above (number (pos (suc a)) b (pos s)) g ∙ ap (λ x. next_whole x (pos g)) is ∙ next_up (8 * s) g (omega arith)
+    nearest_above (number (pos (suc a)) b (pos s)) g ∙ ap (λ x. next_whole x (pos g)) is
+    ∙ next_up (8 * s) g (omega arith)
 undone (pos (suc a)) b (negsuc s) n =
     let g = 663060 * suc a in
     let is : number (pos (suc a)) b (negsuc s) ≡ negsuc (suc (8 * s + 7) * g - 1) = omega (arith, ints) in
