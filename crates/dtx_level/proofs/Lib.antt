@@ -13,3 +13,4 @@ pub mod Taking
 pub mod Fronts
 pub mod Growing
 pub mod Gains
+pub mod Counts

@@ -1,7 +1,9 @@
 //! Laws of what is levelled.
 
 ghost use Rattle.std.specs.Prelude.{◌≡◌, ◌≢◌, ◌<◌, ◌≤◌, ◌++◌, ◌+ℤ◌, ◌*ℤ◌, false, ℕ, ℤ, pos, List};
-ghost use Rattle.std.specs.Prelude.{length, nat_abs};
+ghost use Rattle.std.specs.Prelude.{if◌then◌else◌, length, map, nat_abs, sum};
+ghost use Rattle.std.specs.List.{range_with_len};
+ghost use Rattle.dtx_acquire.specs.Agreement.{sync_sign};
 ghost use Rattle.dtx_level.specs.Shown.{shows};
 ghost use Rattle.dtx_level.specs.Measures.{IsGrown, IsLater, constant_in_hundredths, gain_in_hundredths};
 ghost use Rattle.dtx_level.specs.Levelled.{levelled, levelled_rest, levelled_so_far, levelled_symbol};
@@ -33,4 +35,9 @@ pub fn a_gain_is_undone()
         → levelled_symbol (pos 663060 *ℤ a) (pos 132612 *ℤ b) (a *ℤ s +ℤ b) ≡ pos 8 *ℤ s }
     ensures gain { (a : ℤ) → gain_in_hundredths (pos 663060 *ℤ a) ≡ pos 100 *ℤ a }
     ensures constant { (b : ℤ) → constant_in_hundredths (pos 132612 *ℤ b) ≡ pos 100 *ℤ b }
+{}
+
+/// Of the first 515 symbols of a field sync 258 are +5, so the others, 257, are -5.
+pub fn the_signs_are_counted()
+    ensures { sum (map (λ i. if sync_sign i then 1 else 0) (range_with_len 0 515)) ≡ 258 }
 {}
