@@ -12,7 +12,7 @@ use Rattle.dtx_acquire.proofs.AgreementLemmas.{least_found, least_gives, least_m
 
 -- ---- agreement
 
-symbol_behind : (front v : List ℤ) (p : ℕ) → get_or (front ++ v) (length front + p) (pos 0) ≡ get_or v p (pos 0)
+pub symbol_behind : (front v : List ℤ) (p : ℕ) → get_or (front ++ v) (length front + p) (pos 0) ≡ get_or v p (pos 0)
 symbol_behind front v p =
     get_or-append_right front v (length front) (length front + p) (pos 0) refl (omega arith)
     ∙ ap (λ i. get_or v i (pos 0)) (back (length front) p)
@@ -27,13 +27,13 @@ unlike_at_behind front v p i =
     ap (λ x. cond (are_unlike (is_plus x) (sync_sign i)) 1 0)
     (ap (λ k. get_or (front ++ v) k (pos 0)) there ∙ symbol_behind front v (p + i))
 
-unlike_behind : (front v : List ℤ) (p i n : ℕ) → unlike (front ++ v) (length front + p) i n ≡ unlike v p i n
+pub unlike_behind : (front v : List ℤ) (p i n : ℕ) → unlike (front ++ v) (length front + p) i n ≡ unlike v p i n
 unfolding unlike
 unlike_behind front v p i n =
     ap sum (map-range_same (unlike_at (front ++ v) (length front + p)) (unlike_at v p) i n
     (λ j a b. unlike_at_behind front v p j))
 
-order_behind : (k p x n m : ℕ) → m ≡ k + n → leb (k + p + x) m ≡ leb (p + x) n
+pub order_behind : (k p x n m : ℕ) → m ≡ k + n → leb (k + p + x) m ≡ leb (p + x) n
 order_behind k p x n m e = by_order (cases_lt n (p + x))
   where
     by_order : (n < p + x) ⊎ (p + x ≤ n) → leb (k + p + x) m ≡ leb (p + x) n
@@ -57,7 +57,7 @@ met_behind front v p =
 
 -- ---- the least place
 
-find_behind : (p q : ℕ → Bool) (k a n : ℕ) → ((i : ℕ) → p (k + i) ≡ q i)
+pub find_behind : (p q : ℕ → Bool) (k a n : ℕ) → ((i : ℕ) → p (k + i) ≡ q i)
     → find p (range_with_len (k + a) n) ≡ option_map (λ i. k + i) (find q (range_with_len a n))
 find_behind p q k a zero h = refl
 find_behind p q k a (suc n) h =

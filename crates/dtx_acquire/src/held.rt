@@ -7,11 +7,11 @@ use std::alloc::{AllocError, Global};
 use std::marker::Model;
 
 /// How many symbols are held at most: those of a field, and of the segment behind it.
-pub(crate) const MOST_HELD: usize = SEGMENT * (FIELD_SEGMENTS as usize + 1);
+pub const MOST_HELD: usize = SEGMENT * (FIELD_SEGMENTS as usize + 1);
 
 /// Symbols, in order. It is seen as their list.
 #[derive(Drop)]
-pub(crate) struct Held {
+pub struct Held {
     symbols: Vec<i8>,
     filled: usize,
 }
@@ -29,7 +29,7 @@ impl Model for Held {
 
 impl Held {
     /// None.
-    pub(crate) fn new(alloc: Global) -> Result<Held, AllocError>
+    pub fn new(alloc: Global) -> Result<Held, AllocError>
         ensures { IfOk result (λ held. held ≡ []) }
     {
         Ok(Held {
@@ -39,7 +39,7 @@ impl Held {
     }
 
     /// How many there are.
-    pub(crate) fn len(&self) -> usize
+    pub fn len(&self) -> usize
         ensures long { result ≡ length self.now }
         ensures few { result ≤ MOST_HELD }
     {
@@ -47,14 +47,14 @@ impl Held {
     }
 
     /// All of them.
-    pub(crate) fn all(&self) -> &[i8]
+    pub fn all(&self) -> &[i8]
         ensures { result.now ≡ self.now }
     {
         &self.symbols[..self.filled]
     }
 
     /// Takes the first of these symbols, as many as there is room for, and answers how many.
-    pub(crate) fn take(&mut self, symbols: &[i8]) -> usize
+    pub fn take(&mut self, symbols: &[i8]) -> usize
         ensures within { result ≤ length symbols.now }
         ensures held { self.new ≡ self.old ++ take result symbols.now }
         ensures some { 0 < length symbols.now → length self.old < MOST_HELD → 0 < result }
@@ -65,7 +65,7 @@ impl Held {
     }
 
     /// Lets the first of them go, so many.
-    pub(crate) fn leave(&mut self, count: usize)
+    pub fn leave(&mut self, count: usize)
         requires { count ≤ length self.old }
         ensures { self.new ≡ drop count self.old }
     {

@@ -12,3 +12,5 @@ mod signs;
 mod step;
 
 pub use acquirer::Acquirer;
+pub use held::{Held, MOST_HELD};
+pub use signs::{WINDOW, WORD, WORDS, is_second, unlike_in, window_at};

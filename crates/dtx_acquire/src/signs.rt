@@ -8,13 +8,13 @@ ghost use Rattle.dtx_acquire.specs.Signs.{ArePacked, packed};
 use dtx_sizes::SEGMENT;
 
 /// How many signs a word has.
-pub(crate) const WORD: usize = 64;
+pub const WORD: usize = 64;
 
 /// How many words the signs have at which a field sync is looked for at 64 places: those of 515 symbols from each.
-pub(crate) const WORDS: usize = 10;
+pub const WORDS: usize = 10;
 
 /// How many symbols these are.
-pub(crate) const WINDOW: usize = WORD * WORDS;
+pub const WINDOW: usize = WORD * WORDS;
 
 /// How many words the first 515 symbols of a field sync fill.
 const WHOLE: usize = 8;
@@ -68,7 +68,7 @@ fn plus(symbol: i8) -> u64
 }
 
 /// The signs of the symbols from a place on.
-pub(crate) fn window_at(symbols: &[i8], place: usize) -> [u64; WORDS]
+pub fn window_at(symbols: &[i8], place: usize) -> [u64; WORDS]
     requires { place + WINDOW ≤ length symbols.now }
     ensures { ArePacked result symbols.now place }
 {
@@ -91,7 +91,7 @@ fn shifted(first: u64, second: u64, from: usize) -> u64
 /// How many of the first 515 symbols have another sign than those of a field sync, where that begins so many symbols
 /// behind the place of the words.
 #[inline(always)]
-pub(crate) fn unlike_in(words: &[u64; WORDS], from: usize) -> u32
+pub fn unlike_in(words: &[u64; WORDS], from: usize) -> u32
     requires { from < WORD }
     ensures { (symbols : List ℤ) (place : ℕ) → place + WINDOW ≤ length symbols → ArePacked words.now symbols place
         → result ≡ unlike symbols (place + from) 0 515 }
@@ -105,7 +105,7 @@ pub(crate) fn unlike_in(words: &[u64; WORDS], from: usize) -> u32
 }
 
 /// Whether a sync is of a second field: at least 32 of the 63 symbols of its middle short sequence have another sign.
-pub(crate) fn is_second(segment: &[i8; SEGMENT]) -> bool
+pub fn is_second(segment: &[i8; SEGMENT]) -> bool
     ensures { result ≡ is_second segment.now }
 {
     let word = pack(&segment[..], MIDDLE_PLACE) % MIDDLE_WORDS;

@@ -1,0 +1,16 @@
+pub mod Shows
+pub mod Least
+pub mod SyncsBehind
+pub mod MeasuresBehind
+pub mod StretchesBehind
+pub mod Tallies
+pub mod Sums
+pub mod Each
+pub mod Bounds
+pub mod Leaving
+pub mod Ending
+pub mod Taking
+pub mod Fronts
+pub mod Growing
+pub mod Gains
+pub mod Counts

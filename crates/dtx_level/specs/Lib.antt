@@ -1,0 +1,5 @@
+pub mod Shown
+pub mod Syncs
+pub mod Levelled
+pub mod Measures
+pub mod Leveller

@@ -1,0 +1,84 @@
+-- How the field syncs of a capture stand (the profile's own; ATSC A/53 Part 2, data field sync).
+use Rattle.std.specs.Prelude.{ℕ, ℤ, pos, ◌+◌, ◌*◌, ◌+ℤ◌, ◌-ℤ◌, ◌*ℤ◌, nat_abs, Bool, true, false, not, List, map, sum}
+use Rattle.std.specs.Prelude.{◌≡◌, ◌++◌, length, replicate, take, drop, slice_index_or}
+use Rattle.std.specs.Int.{int_div_euclid}
+use Rattle.std.specs.List.{range_with_len}
+use Rattle.dtx_frame.specs.Segments.{sync_symbols}
+use Rattle.dtx_acquire.specs.Agreement.{is_second}
+use Rattle.dtx_level.specs.declared.measure.Measure.{Measure}
+use Rattle.dtx_level.specs.Shown.{constant, gain}
+use Rattle.dtx_level.specs.Syncs.{all_syncs, slips, syncs_where}
+use Rattle.dtx_level.specs.Levelled.{by_sync, level, levelled, levelled_so_far, where_some}
+
+-- the segment of a sync, levelled by it
+unfoldable pub levelled_sync : List ℤ → ℕ → List ℤ
+levelled_sync symbols place = map (level (by_sync symbols place)) (take 832 (drop place symbols))
+
+-- (20 * g + 258 * 257) div (2 * 258 * 257), rounded down: the gain in hundredths of a step a unit
+unfoldable pub gain_in_hundredths : ℤ → ℤ
+gain_in_hundredths g = int_div_euclid (pos 20 *ℤ g +ℤ pos 66306) (pos 132612)
+
+-- (100 * o + 258 * 257) div (2 * 258 * 257), rounded down: the constant in hundredths of a step
+unfoldable pub constant_in_hundredths : ℤ → ℤ
+constant_in_hundredths o = int_div_euclid (pos 100 *ℤ o +ℤ pos 66306) (pos 132612)
+
+-- the square of how far symbol i of a levelled sync is from 40 or -40, whichever stands there
+unfoldable pub square_at : List ℤ → ℕ → ℕ
+square_at segment i =
+    nat_abs (slice_index_or segment i (pos 0) -ℤ pos 8 *ℤ slice_index_or (sync_symbols false) i (pos 0))
+    * nat_abs (slice_index_or segment i (pos 0) -ℤ pos 8 *ℤ slice_index_or (sync_symbols false) i (pos 0))
+
+-- the sum of these over so many symbols
+unfoldable pub noise : List ℤ → ℕ → ℕ
+noise segment count = sum (map (square_at segment) (range_with_len 0 count))
+
+-- How the sync at a place stands: which field's it is, its gain and its constant in hundredths, and its noise over the
+-- first 515 symbols.
+unfoldable pub measure_at : List ℤ → ℕ → Measure
+measure_at symbols place = record {
+  place = place;
+  second = is_second (levelled_sync symbols place);
+  gain = gain_in_hundredths (gain symbols place);
+  constant = constant_in_hundredths (constant symbols place);
+  noise = noise (levelled_sync symbols place) 515;
+}
+
+unfoldable pub measures_where : (Bool → Bool) → List ℤ → List Measure
+measures_where wanted symbols = map (measure_at symbols) (syncs_where wanted symbols)
+
+-- those of all syncs
+abbrev pub measures : List ℤ → List Measure
+measures symbols = measures_where (λ met. true) symbols
+
+-- those behind which the next sync is looked for, whatever follows
+abbrev pub measures_so_far : List ℤ → List Measure
+measures_so_far symbols = measures_where (λ met. met) symbols
+
+-- and what the end of the symbols adds
+abbrev pub measures_rest : List ℤ → List Measure
+measures_rest symbols = measures_where not symbols
+
+-- the same sync so many symbols later
+abbrev pub later_by : ℕ → Measure → Measure
+later_by count measure = record {
+  place = count + measure.place;
+  second = measure.second;
+  gain = measure.gain;
+  constant = measure.constant;
+  noise = measure.noise;
+}
+
+-- Symbols in front of which no place shows a sync: each becomes 0 where there is one behind, and the syncs stand so
+-- many symbols later.
+pub record IsLater (front symbols : List ℤ) : Type 0 where
+  pub levelled_is : levelled (front ++ symbols)
+      ≡ where_some (all_syncs symbols) (replicate (length front) (pos 0)) ++ levelled symbols
+  pub measures_are : measures (front ++ symbols) ≡ map (later_by (length front)) (measures symbols)
+  pub slips_are : slips (all_syncs (front ++ symbols)) ≡ slips (all_syncs symbols)
+
+-- What is levelled and measured of first symbols, whatever follows, is a front part of what is of more.
+pub record IsGrown (symbols more : List ℤ) : Type 0 where
+  pub others : List ℤ
+  pub told : List Measure
+  pub levelled_is : levelled_so_far (symbols ++ more) ≡ levelled_so_far symbols ++ others
+  pub measures_are : measures_so_far (symbols ++ more) ≡ measures_so_far symbols ++ told

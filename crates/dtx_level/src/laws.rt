@@ -1,0 +1,43 @@
+//! Laws of what is levelled.
+
+ghost use Rattle.std.specs.Prelude.{◌≡◌, ◌≢◌, ◌<◌, ◌≤◌, ◌++◌, ◌+ℤ◌, ◌*ℤ◌, false, ℕ, ℤ, pos, List};
+ghost use Rattle.std.specs.Prelude.{if◌then◌else◌, length, map, nat_abs, sum};
+ghost use Rattle.std.specs.List.{range_with_len};
+ghost use Rattle.dtx_acquire.specs.Agreement.{sync_sign};
+ghost use Rattle.dtx_level.specs.Shown.{shows};
+ghost use Rattle.dtx_level.specs.Measures.{IsGrown, IsLater, constant_in_hundredths, gain_in_hundredths};
+ghost use Rattle.dtx_level.specs.Levelled.{levelled, levelled_rest, levelled_so_far, levelled_symbol};
+
+/// What is levelled of symbols, whatever follows, and what their end adds are all that is levelled of them.
+pub fn all_is_levelled()
+    ensures { (symbols : List ℤ) → levelled_so_far symbols ++ levelled_rest symbols ≡ levelled symbols }
+{}
+
+/// What stands before the first sync changes nothing behind it: where no place of a front shows a sync, each of its
+/// symbols becomes 0, the others become what they do without it, and the syncs differ in their places alone, by its
+/// length. (Where there is no sync behind it nothing is levelled.)
+pub fn a_capture_begins_anywhere()
+    ensures { (front symbols : List ℤ) → ((p : ℕ) → p < length front → shows (front ++ symbols) p ≡ false)
+        → IsLater front symbols }
+{}
+
+/// What is levelled and measured of first symbols, whatever follows, is a front part of what is of more.
+pub fn more_is_levelled_of_more()
+    ensures { (symbols more : List ℤ) → IsGrown symbols more }
+{}
+
+/// A gain and a constant are undone exactly. Where a unit is `a` steps, below 0 in a capture that is turned, and the
+/// constant is `b`, each symbol `s` stands as `a * s + b`, so a sync shows 663060 times `a` and 132612 times `b`, since
+/// of its 515 signs 258 are plus and 257 minus. By such a sync the symbol becomes `8 * s`, and LOG says `100 * a` and
+/// `100 * b`.
+pub fn a_gain_is_undone()
+    ensures symbol { (a b s : ℤ) → a ≢ pos 0 → nat_abs s ≤ 15
+        → levelled_symbol (pos 663060 *ℤ a) (pos 132612 *ℤ b) (a *ℤ s +ℤ b) ≡ pos 8 *ℤ s }
+    ensures gain { (a : ℤ) → gain_in_hundredths (pos 663060 *ℤ a) ≡ pos 100 *ℤ a }
+    ensures constant { (b : ℤ) → constant_in_hundredths (pos 132612 *ℤ b) ≡ pos 100 *ℤ b }
+{}
+
+/// Of the first 515 symbols of a field sync 258 are +5, so the others, 257, are -5.
+pub fn the_signs_are_counted()
+    ensures { sum (map (λ i. if sync_sign i then 1 else 0) (range_with_len 0 515)) ≡ 258 }
+{}

@@ -1,0 +1,322 @@
+//! Levels a capture as its symbols come.
+
+ghost use Rattle.std.specs.Prelude.{◌≡◌, ℤ, ◌+◌, ◌-◌, ◌*◌, ◌<◌, ◌≤◌, ◌++◌, true, false, None, [], List, IfOk};
+ghost use Rattle.std.specs.Prelude.{length, take, drop, if◌then◌else◌};
+ghost use Rattle.dtx_level.specs.Shown.{shows};
+ghost use Rattle.dtx_level.specs.Syncs.{all_syncs, slips};
+ghost use Rattle.dtx_level.specs.Levelled.{levelled_rest, levelled_so_far};
+ghost use Rattle.dtx_level.specs.Measures.{measures_rest, measures_so_far};
+ghost use Rattle.dtx_level.specs.Leveller.{IsClear, IsCleared, IsEnded, IsFed, IsMoved, IsSought, IsStretch};
+ghost use Rattle.dtx_level.specs.Leveller.{Leaves, StandsFor, all_given, as_list};
+ghost use Rattle.dtx_level.specs.declared.measure.Measure.{Measure};
+
+use crate::giver::Giver;
+use crate::measure::{Measure, measure_of};
+use crate::pattern::Pattern;
+use crate::search::search;
+use crate::step::step_of;
+use crate::tally::Tally;
+use dtx_acquire::{Held, MOST_HELD};
+use dtx_sizes::{MOST_SYMBOLS, SEGMENT};
+use std::alloc::{AllocError, Global};
+use std::marker::Model;
+
+/// Brings a capture of unknown gain, constant and polarity to eight steps a unit by its field syncs, and tells of each
+/// sync how it stands (the profile's own; ATSC A/53 Part 2, the levels of 8-VSB and data field sync). It is given the
+/// symbols in pieces of any length, and gives as many without taking memory: zeros for those before the first sync,
+/// once that is known, and the others levelled. `StandsFor leveller symbols` says that it holds what these symbols
+/// leave, at most those of one field and one segment.
+#[derive(Drop)]
+pub struct Leveller {
+    pattern: Pattern,
+    held: Held,
+    on: bool,
+    giver: Giver,
+    silent: u64,
+    zeros: u64,
+    measured: Option<Measure>,
+    symbols: u64,
+    tally: Tally,
+}
+
+impl Model for Leveller {
+    ghost use Rattle.std.specs.Prelude.{◌≡◌, ◌+◌, ◌*◌, ◌≤◌, true, length, take};
+    ghost use Rattle.dtx_level.specs.Shown.{shows};
+    ghost use Rattle.dtx_level.specs.Leveller.{Holding};
+
+    ghost Value = { Holding };
+
+    ghost view = { λ a. record {
+      held = a.held;
+      on = a.on;
+      by = record {
+        begun = a.giver.levels.begun;
+        gain = a.giver.levels.gain;
+        constant = a.giver.levels.constant;
+      };
+      silent = a.silent;
+      zeros = a.zeros;
+      given = take a.giver.count a.giver.given.items;
+      measured = a.measured;
+      symbols = a.symbols;
+      syncs = a.tally.syncs;
+      slips = a.tally.slips;
+      last = a.tally.last;
+    } };
+
+    ghost invariant = { λ a. (832 * a.tally.syncs + length a.held ≤ a.symbols) × (a.symbols ≤ 520832000000)
+        × (a.tally.slips ≤ a.tally.syncs) × (a.tally.last + length a.held ≤ a.symbols)
+        × (a.silent + length a.held ≤ a.symbols) × (a.on ≡ true → shows a.held 0 ≡ true) };
+}
+
+impl Leveller {
+    /// A leveller to which no symbols were given. Only want of memory is refused.
+    pub fn new(alloc: Global) -> Result<Leveller, AllocError>
+        ensures stands { IfOk result (λ leveller. StandsFor leveller []) }
+        ensures symbols { IfOk result (λ leveller. leveller.symbols ≡ 0) }
+    {
+        Ok(Leveller {
+            pattern: Pattern::new(),
+            held: Held::new(alloc)?,
+            on: false,
+            giver: Giver::new(alloc)?,
+            silent: 0,
+            zeros: 0,
+            measured: None,
+            symbols: 0,
+            tally: Tally::new(),
+        })
+    }
+
+    /// Takes the first of these symbols, behind those that were given before, as many as there is room for until the
+    /// next field is whole, and answers how many. What they bring is `zeros` many zeros and then `given`, and the sync
+    /// that is `measured`.
+    pub fn take(&mut self, symbols: &[i8]) -> usize
+        requires most { self.old.symbols + length symbols.now ≤ MOST_SYMBOLS }
+        ensures within { result ≤ length symbols.now }
+        ensures some { (before : List ℤ) → StandsFor self.old before → 0 < length symbols.now → 0 < result }
+        ensures stands { (before : List ℤ) → StandsFor self.old before
+            → StandsFor self.new (before ++ take result symbols.now) }
+        ensures given { (before : List ℤ) → StandsFor self.old before
+            → levelled_so_far (before ++ take result symbols.now) ≡ levelled_so_far before ++ all_given self.new }
+        ensures measured { (before : List ℤ) → StandsFor self.old before
+            → measures_so_far (before ++ take result symbols.now)
+            ≡ measures_so_far before ++ as_list self.new.measured }
+        ensures room { length self.new.given + length self.new.held ≤ length self.old.held + result }
+        ensures symbols { self.new.symbols ≡ self.old.symbols + result }
+    {
+        self.clear();
+        let count = self.hold(symbols);
+        self.seek();
+        self.settle();
+        count
+    }
+
+    /// Ends: what the end brings is `given` and `measured`, and the numbers are those of all symbols.
+    pub fn finish(&mut self)
+        ensures given { (symbols : List ℤ) → StandsFor self.old symbols → all_given self.new ≡ levelled_rest symbols }
+        ensures measured { (symbols : List ℤ) → StandsFor self.old symbols
+            → as_list self.new.measured ≡ measures_rest symbols }
+        ensures syncs { (symbols : List ℤ) → StandsFor self.old symbols
+            → self.new.syncs ≡ length (all_syncs symbols) }
+        ensures slips { (symbols : List ℤ) → StandsFor self.old symbols → self.new.slips ≡ slips (all_syncs symbols) }
+        ensures room { length self.new.given ≤ length self.old.held }
+        ensures symbols { self.new.symbols ≡ self.old.symbols }
+    {
+        self.clear();
+        self.close();
+    }
+
+    /// The symbols that the last call has brought, levelled, behind its zeros.
+    pub fn given(&self) -> &[i8]
+        ensures { result.now ≡ self.now.given }
+    {
+        &self.giver.given[..self.giver.count]
+    }
+
+    /// How many zeros it has brought before them: as many symbols stand before the first sync.
+    pub fn zeros(&self) -> u64
+        ensures { result ≡ self.now.zeros }
+    {
+        self.zeros
+    }
+
+    /// The sync that it has measured, if it has.
+    pub fn measured(&self) -> Option<Measure>
+        ensures { result ≡ self.now.measured }
+    {
+        self.measured
+    }
+
+    /// How many symbols were given to it.
+    pub fn symbols(&self) -> u64
+        ensures { result ≡ self.now.symbols }
+    {
+        self.symbols
+    }
+
+    /// How many syncs it has measured.
+    pub fn syncs(&self) -> u64
+        ensures { result ≡ self.now.syncs }
+    {
+        self.tally.syncs
+    }
+
+    /// How many of them don't lie a multiple of 313 segments behind the one before.
+    pub fn slips(&self) -> u64
+        ensures { result ≡ self.now.slips }
+    {
+        self.tally.slips
+    }
+
+    /// Forgets what was given.
+    fn clear(&mut self)
+        ensures { IsCleared self.old self.new }
+    {
+        self.giver.count = 0;
+        self.zeros = 0;
+        self.measured = None;
+    }
+
+    /// Holds the first of these symbols too, as many as there is room for, and answers how many.
+    fn hold(&mut self, symbols: &[i8]) -> usize
+        requires clear { IsClear self.old }
+        requires most { self.old.symbols + length symbols.now ≤ MOST_SYMBOLS }
+        ensures within { result ≤ length symbols.now }
+        ensures some { 0 < length symbols.now → length self.old.held < MOST_HELD → 0 < result }
+        ensures fed { IsFed self.old self.new (take result symbols.now) }
+    {
+        let count = self.held.take(symbols);
+        self.symbols += count as u64;
+        count
+    }
+
+    /// Looks for a sync where none is in front, and lets the symbols before it go, or all at which none begins.
+    fn seek(&mut self)
+        requires clear { IsClear self.old }
+        ensures moved { (symbols done : List ℤ) (told : List Measure) → Leaves self.old symbols done told
+            → IsMoved self.old self.new symbols done told }
+        ensures off { self.new.on ≡ false → length self.new.held < SEGMENT }
+        ensures rest { self.new.on ≡ false → 831 ≤ length self.old.held → length self.new.held ≡ 831 }
+        ensures kept { self.new.on ≡ false → (self.old.on ≡ false) × (self.new.by.begun ≡ self.old.by.begun) }
+        ensures whole { length self.new.held ≡ MOST_HELD → self.new.given ≡ [] }
+        ensures measured { self.new.measured ≡ None }
+        ensures room { length self.new.given + length self.new.held ≤ length self.old.held }
+        ensures symbols { self.new.symbols ≡ self.old.symbols }
+    {
+        if self.on {
+            return;
+        }
+        let left = self.held.len();
+        match search(&self.pattern, self.held.all(), 0) {
+            Some(place) => self.find(place),
+            None => self.pass(left.saturating_sub(SEGMENT - 1)),
+        }
+    }
+
+    /// Lets the symbols before the sync at a place go, and gives them.
+    fn find(&mut self, place: usize)
+        requires clear { IsClear self.old }
+        requires off { self.old.on ≡ false }
+        requires few { length self.old.held ≤ MOST_HELD }
+        requires sought { IsSought self.old.held place }
+        requires front { shows self.old.held place ≡ true }
+        ensures moved { (symbols done : List ℤ) (told : List Measure) → Leaves self.old symbols done told
+            → IsMoved self.old self.new symbols done told }
+        ensures on { self.new.on ≡ true }
+        ensures whole { length self.new.held ≡ MOST_HELD → self.new.given ≡ [] }
+        ensures measured { self.new.measured ≡ None }
+        ensures room { length self.new.given + length self.new.held ≤ length self.old.held }
+        ensures symbols { self.new.symbols ≡ self.old.symbols }
+    {
+        self.zeros = owed(self.giver.levels.begun, self.silent);
+        self.giver.give(&mut self.held, place);
+        self.on = true;
+    }
+
+    /// Lets so many symbols go at which no sync begins, and gives them where one was before.
+    fn pass(&mut self, count: usize)
+        requires clear { IsClear self.old }
+        requires off { self.old.on ≡ false }
+        requires few { length self.old.held ≤ MOST_HELD }
+        requires sought { IsSought self.old.held count }
+        ensures moved { (symbols done : List ℤ) (told : List Measure) → Leaves self.old symbols done told
+            → IsMoved self.old self.new symbols done told }
+        ensures off { self.new.on ≡ false }
+        ensures held { self.new.held ≡ drop count self.old.held }
+        ensures by { self.new.by ≡ self.old.by }
+        ensures measured { self.new.measured ≡ None }
+        ensures room { length self.new.given + length self.new.held ≤ length self.old.held }
+        ensures symbols { self.new.symbols ≡ self.old.symbols }
+    {
+        if self.giver.levels.begun {
+            self.giver.give(&mut self.held, count);
+        } else {
+            self.silent += count as u64;
+            self.held.leave(count);
+        }
+    }
+
+    /// Gives what goes by the sync in front of the symbols that are held, where the segment is there at which the next
+    /// is due.
+    fn settle(&mut self)
+        requires whole { length self.old.held ≡ MOST_HELD → self.old.given ≡ [] }
+        requires measured { self.old.measured ≡ None }
+        ensures moved { (symbols done : List ℤ) (told : List Measure) → Leaves self.old symbols done told
+            → IsMoved self.old self.new symbols done told }
+        ensures few { (self.old.on ≡ false → length self.old.held < MOST_HELD) → length self.new.held < MOST_HELD }
+        ensures off { (self.old.on ≡ false → length self.old.held < SEGMENT)
+            → self.new.on ≡ false → length self.new.held < SEGMENT }
+        ensures rest { (self.old.on ≡ false → self.old.by.begun ≡ true → length self.old.held ≡ 831)
+            → self.new.on ≡ false → self.new.by.begun ≡ true → length self.new.held ≡ 831 }
+        ensures front { self.new.on ≡ true → shows self.new.held 0 ≡ true }
+        ensures room { length self.new.given + length self.new.held ≤ length self.old.given + length self.old.held }
+        ensures symbols { self.new.symbols ≡ self.old.symbols }
+    {
+        if self.on && self.held.len() == MOST_HELD {
+            let step = step_of(&self.pattern, self.held.all());
+            self.stretch(step.count, step.on);
+        }
+    }
+
+    /// Measures the sync in front of the symbols that are held, and gives the first of them by it, so many. Whether
+    /// another one is in front of the others is told.
+    fn stretch(&mut self, count: usize, on: bool)
+        requires front { shows self.old.held 0 ≡ true }
+        requires some { SEGMENT ≤ count }
+        requires room { count ≤ length self.old.held }
+        requires next { on ≡ true → shows (drop count self.old.held) 0 ≡ true }
+        ensures stretch { IsStretch self.old self.new count }
+        ensures on { self.new.on ≡ on }
+    {
+        let place = self.symbols - self.held.len() as u64;
+        let standing = self.pattern.standing(self.held.all(), 0);
+        self.giver.levels.begin(standing.gain, standing.constant);
+        self.giver.give(&mut self.held, count);
+        self.tally.count(place);
+        self.measured = Some(measure_of(&self.pattern, place, standing, &self.giver.front()));
+        self.on = on;
+    }
+
+    /// Gives what the end brings.
+    fn close(&mut self)
+        requires clear { IsClear self.old }
+        ensures ended { (symbols : List ℤ) → StandsFor self.old symbols → IsEnded self.new symbols }
+        ensures room { length self.new.given ≤ length self.old.held }
+        ensures symbols { self.new.symbols ≡ self.old.symbols }
+    {
+        let left = self.held.len();
+        if self.on {
+            self.stretch(left, false);
+        } else if self.giver.levels.begun {
+            self.giver.give(&mut self.held, left);
+        }
+    }
+}
+
+/// How many zeros are owed where a sync is found: those of all that were let go before the first.
+fn owed(begun: bool, silent: u64) -> u64
+    ensures { result ≡ (if begun then 0 else silent) }
+{
+    if begun { 0 } else { silent }
+}

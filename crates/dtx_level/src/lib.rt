@@ -1,0 +1,15 @@
+//! A capture levelled by its field syncs: of any gain and polarity, and with a constant in it.
+#![tactic(auto)]
+
+mod giver;
+pub mod laws;
+mod leveller;
+mod levels;
+mod measure;
+mod pattern;
+mod search;
+mod step;
+mod tally;
+
+pub use leveller::Leveller;
+pub use measure::Measure;

@@ -1,0 +1,57 @@
+//! How a field sync of a capture stands.
+
+ghost use Rattle.std.specs.Prelude.{◌≡◌, ◌≤◌, ◌+ℤ◌, pos, nat_abs};
+ghost use Rattle.dtx_level.specs.Measures.{constant_in_hundredths, gain_in_hundredths};
+ghost use Rattle.dtx_level.specs.Measures.{noise};
+ghost use Rattle.dtx_acquire.specs.Agreement.{is_second};
+ghost use Rattle.std.specs.Int.{int_div_euclid};
+ghost use Rattle.dtx_level.specs.Shown.{IsBounded};
+
+use crate::pattern::{Pattern, Standing};
+use dtx_acquire::is_second;
+use dtx_sizes::SEGMENT;
+
+/// How a field sync stands: its place, counted in symbols from the capture's first, whether it is of a second field,
+/// its gain in hundredths of a step a unit, which is below 0 where the capture is turned, the constant in hundredths of
+/// a step, and its noise, the sum over its first 515 symbols of the squares of how far each, levelled, is from 40 or
+/// -40 (the profile's own; ATSC A/53 Part 2, data field sync).
+#[derive(Clone, Copy, Drop)]
+pub struct Measure {
+    pub place: u64,
+    pub second: bool,
+    pub gain: i64,
+    pub constant: i64,
+    pub noise: u64,
+}
+
+/// That of the sync at a place, which shows that and was levelled.
+pub(crate) fn measure_of(
+    pattern: &Pattern,
+    place: u64,
+    standing: Standing,
+    levelled: &[i8; SEGMENT],
+) -> Measure
+    requires small_gain { IsBounded standing.gain }
+    requires small_constant { IsBounded standing.constant }
+    ensures place { result.place ≡ place }
+    ensures second { result.second ≡ is_second levelled.now }
+    ensures gain { result.gain ≡ gain_in_hundredths standing.gain }
+    ensures constant { result.constant ≡ constant_in_hundredths standing.constant }
+    ensures noise { result.noise ≡ noise levelled.now 515 }
+{
+    Measure {
+        place,
+        second: is_second(levelled),
+        gain: hundredths(20 * standing.gain),
+        constant: hundredths(100 * standing.constant),
+        noise: pattern.noise(levelled),
+    }
+}
+
+/// A number by 2 * 258 * 257, to the next whole one. Ties go up.
+fn hundredths(number: i64) -> i64
+    requires { nat_abs number ≤ 3394880000 }
+    ensures { result ≡ int_div_euclid (number +ℤ pos 66306) (pos 132612) }
+{
+    (number + 66_306).div_euclid(132_612)
+}

@@ -1,0 +1,67 @@
+//! How many syncs there are, and how many of them are slips.
+
+ghost use Rattle.std.specs.Prelude.{◌≡◌, ℕ, ◌+◌, ◌<◌, ◌≤◌, ◌++◌, ◌∷◌, [], List};
+ghost use Rattle.dtx_level.specs.Syncs.{slip_behind};
+ghost use Rattle.dtx_level.specs.Levelled.{last_of};
+ghost use Rattle.dtx_level.specs.Leveller.{IsTally};
+
+use crate::step::DUE;
+
+/// How many syncs were measured, how many of them don't lie a multiple of 313 segments behind the one before, and the
+/// place of the last.
+#[derive(Clone, Copy, Drop)]
+pub(crate) struct Tally {
+    pub(crate) syncs: u64,
+    pub(crate) slips: u64,
+    pub(crate) last: u64,
+}
+
+impl Tally {
+    /// None.
+    pub(crate) fn new() -> Tally
+        ensures tally { IsTally result.syncs result.slips result.last [] }
+        ensures syncs { result.syncs ≡ 0 }
+        ensures slips { result.slips ≡ 0 }
+        ensures last { result.last ≡ 0 }
+    {
+        Tally {
+            syncs: 0,
+            slips: 0,
+            last: 0,
+        }
+    }
+
+    /// One more, at that place.
+    pub(crate) fn count(&mut self, place: u64)
+        requires behind { self.old.last ≤ place }
+        requires few { self.old.syncs ≤ place }
+        requires fewer { self.old.slips ≤ self.old.syncs }
+        requires most { place ≤ 520832000000 }
+        ensures tally { (places : List ℕ) → IsTally self.old.syncs self.old.slips self.old.last places
+            → IsTally self.new.syncs self.new.slips self.new.last (places ++ place ∷ []) }
+        ensures syncs { self.new.syncs ≡ self.old.syncs + 1 }
+        ensures slips { self.new.slips ≤ self.old.slips + 1 }
+        ensures last { self.new.last ≡ place }
+    {
+        self.slips += self.slip(place);
+        self.syncs += 1;
+        self.last = place;
+    }
+
+    /// 1 where a place doesn't lie so behind the last, if there is one.
+    fn slip(&self, place: u64) -> u64
+        requires { self.now.last ≤ place }
+        ensures slip { (places : List ℕ) → IsTally self.now.syncs self.now.slips self.now.last places
+            → result ≡ slip_behind (last_of places) place }
+        ensures small { result ≤ 1 }
+    {
+        if self.syncs == 0 {
+            return 0;
+        }
+        if (place - self.last) % DUE as u64 == 0 {
+            0
+        } else {
+            1
+        }
+    }
+}
