@@ -1,0 +1,5 @@
+pub mod Turns
+pub mod Column
+pub mod Places
+pub mod Left
+pub mod Lent
