@@ -4,8 +4,10 @@
 mod branches;
 mod collect;
 mod columns;
+mod groups;
 mod lines;
 mod rings;
+mod tiles;
 mod widths;
 
 pub use branches::Branches;

@@ -1,6 +1,6 @@
 //! Branches, each of which is a ring of its own. Both ways share them, over the branches' widths.
 
-ghost use Rattle.std.specs.Prelude.{◌≡◌, ◌*◌, ◌≤◌, length, map, IfOk};
+ghost use Rattle.std.specs.Prelude.{◌≡◌, ◌*◌, ◌<◌, length, map, IfOk};
 ghost use Rattle.std.specs.List.{range_with_len};
 ghost use Rattle.circular_buffer.specs.Buffer.{Buffer, buffer};
 ghost use Rattle.dtx_laws.specs.Branches.{IsInterleaver, HasWidths, zeroed, aligned, leaving_all, after_all};
@@ -66,7 +66,7 @@ impl<W: Widths<B, M>, const B: usize, const M: usize> Lines<W, B, M> {
         self.known();
         let mut done = 0;
         while done < bytes.len() {
-            let count = (bytes.len() - done).min(ROWS * B);
+            let count = (bytes.len() - done).min(ROWS * B - 1);
             self.pass_some(&mut bytes[done..done + count]);
             done += count;
         }
@@ -81,7 +81,7 @@ impl<W: Widths<B, M>, const B: usize, const M: usize> Lines<W, B, M> {
 
     /// Passes no more bytes than there is room for.
     fn pass_some(&mut self, bytes: &mut [u8])
-        requires { length bytes.old ≤ ROWS * B }
+        requires { length bytes.old < ROWS * B }
         ensures bytes { bytes.new ≡ leaving_all B self.old bytes.old }
         ensures branches { self.new ≡ after_all B self.old bytes.old }
     {

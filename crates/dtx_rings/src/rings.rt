@@ -3,11 +3,15 @@
 ghost use Rattle.std.specs.Prelude.{◌≡◌, ◌+◌, ◌*◌, ◌%◌, ◌<◌, ◌≤◌, ◌++◌, length, take, drop, replicate, IfOk, []};
 ghost use Rattle.std.specs.Prelude.{slice_index_or, slice_set};
 ghost use Rattle.circular_buffer.specs.Buffer.{Buffer, buffer};
-ghost use Rattle.dtx_rings.specs.Rings.{lists_of, branch_at, count_at, ArePassed};
+ghost use Rattle.dtx_rings.specs.Rings.{lists_of, branch_at, count_at, in_tiles, ArePassed};
 
-use crate::columns::{gather, scatter, ROWS};
+use crate::columns::ROWS;
+use crate::groups::pass_group;
 use circular_buffer::HeapCircularBuffer;
 use std::alloc::{AllocError, Global};
+
+/// The room of a tile of the most branches.
+const LAST: usize = 16 * 64;
 
 /// A ring of so many zeros, which has room for no more.
 pub(crate) fn zeros(alloc: Global, count: usize) -> Result<HeapCircularBuffer<u8>, AllocError>
@@ -26,46 +30,81 @@ pub(crate) fn through<const B: usize>(
     next: usize,
     bytes: &mut [u8],
 ) -> usize
-    requires few { B ≤ 64 }
-    requires below { next < B }
+    requires numbers { (B ≤ 64) × (next < B) }
     requires rings { length rings.old ≡ B }
-    requires room { length bytes.old ≤ ROWS * B }
+    requires room { length bytes.old < ROWS * B }
     ensures passed { ArePassed B next 0 B (lists_of rings.old) (lists_of rings.new) bytes.old bytes.new }
-    ensures count { length rings.new ≡ B }
+    ensures rings { length rings.new ≡ B }
     ensures turn { result ≡ (next + length bytes.old) % B }
 {
-    for place in 0..B {
-        pass_place::<B>(rings, next, place, bytes);
-    }
+    let mut last = [0u8; LAST];
+    let start = bytes.len() / (16 * B) * 16 * B;
+    let rest = bytes.len() - start;
+    last[..rest].copy_from_slice(&bytes[start..]);
+    pass_places::<B>(rings, next, bytes, &mut last[..16 * B]);
+    bytes[start..].copy_from_slice(&last[..rest]);
     (next + bytes.len()) % B
 }
 
-/// Passes the bytes at a place.
-fn pass_place<const B: usize>(
+/// Passes the bytes of all places, group after group.
+fn pass_places<const B: usize>(
+    rings: &mut [HeapCircularBuffer<u8>],
+    next: usize,
+    bytes: &mut [u8],
+    last: &mut [u8],
+)
+    requires numbers { (B ≤ 64) × (next < B) }
+    requires rings { length rings.old ≡ B }
+    requires room { length bytes.old < ROWS * B }
+    requires last { length last.old ≡ 16 * B }
+    ensures passed { ArePassed B next 0 B (lists_of rings.old) (lists_of rings.new) (in_tiles B bytes.old last.old)
+        (in_tiles B bytes.new last.new) }
+    ensures rings { length rings.new ≡ B }
+{
+    let mut done = 0;
+    while done < B {
+        done += pass_next::<B>(rings, next, done, bytes, last);
+    }
+}
+
+/// Passes the bytes of as many places from `place` on as a group can have, and gives how many.
+fn pass_next<const B: usize>(
     rings: &mut [HeapCircularBuffer<u8>],
     next: usize,
     place: usize,
     bytes: &mut [u8],
-)
-    requires few { B ≤ 64 }
-    requires below { (next < B) × (place < B) }
+    last: &mut [u8],
+) -> usize
+    requires numbers { (B ≤ 64) × (next < B) × (place < B) }
     requires rings { length rings.old ≡ B }
-    requires room { length bytes.old ≤ ROWS * B }
-    ensures passed { ArePassed B next place (place + 1) (lists_of rings.old) (lists_of rings.new) bytes.old bytes.new }
-    ensures count { length rings.new ≡ B }
+    requires room { length bytes.old < ROWS * B }
+    requires last { length last.old ≡ 16 * B }
+    ensures some { (0 < result) × (place + result ≤ B) }
+    ensures passed { ArePassed B next place (place + result) (lists_of rings.old) (lists_of rings.new)
+        (in_tiles B bytes.old last.old) (in_tiles B bytes.new last.new) }
+    ensures rings { length rings.new ≡ B }
 {
-    let mut column = [0u8; ROWS];
-    let mut gone = [0u8; ROWS];
-    let count = count_at::<B>(bytes.len(), place);
-    gather::<B>(bytes, place, &mut column[..count]);
-    exchange_at(rings, branch_at::<B>(next, place), &column[..count], &mut gone[..count]);
-    scatter::<B>(bytes, place, &gone[..count]);
+    let left = B - place;
+    if left >= 16 {
+        pass_group::<B, 16>(rings, next, place, bytes, last);
+        return 16;
+    }
+    if left >= 12 {
+        pass_group::<B, 12>(rings, next, place, bytes, last);
+        return 12;
+    }
+    if left >= 4 {
+        pass_group::<B, 4>(rings, next, place, bytes, last);
+        return 4;
+    }
+    pass_group::<B, 1>(rings, next, place, bytes, last);
+    1
 }
 
 /// How many of so many bytes come to a place.
-fn count_at<const B: usize>(len: usize, place: usize) -> usize
+pub(crate) fn count_at<const B: usize>(len: usize, place: usize) -> usize
     requires some { 0 < B }
-    requires room { len ≤ ROWS * B }
+    requires room { len < ROWS * B }
     ensures is { result ≡ count_at B len place }
     ensures few { result ≤ ROWS }
 {
@@ -73,7 +112,7 @@ fn count_at<const B: usize>(len: usize, place: usize) -> usize
 }
 
 /// The ring to which the byte at a place comes.
-fn branch_at<const B: usize>(next: usize, place: usize) -> usize
+pub(crate) fn branch_at<const B: usize>(next: usize, place: usize) -> usize
     requires few { B ≤ 64 }
     requires below { (next < B) × (place < B) }
     ensures is { result ≡ branch_at B next place }
@@ -83,7 +122,7 @@ fn branch_at<const B: usize>(next: usize, place: usize) -> usize
 }
 
 /// Puts a column behind the items of a ring, and as many bytes from their front into `gone`.
-fn exchange_at(rings: &mut [HeapCircularBuffer<u8>], branch: usize, column: &[u8], gone: &mut [u8])
+pub(crate) fn exchange_at(rings: &mut [HeapCircularBuffer<u8>], branch: usize, column: &[u8], gone: &mut [u8])
     requires below { branch < length rings.old }
     requires room { length gone.old ≡ length column.now }
     ensures gone { gone.new ≡ take (length column.now) (slice_index_or (lists_of rings.old) branch [] ++ column.now) }
