@@ -181,13 +181,17 @@ tile_elsewhere b w p t z i old new s within long ez others o =
         ∙ get_or-drop (t * 16 * b) old (i - t * 16 * b) 0 ∙ ap (λ n. get_or old n 0) e
     by_place (inr h) (inr g) = written_behind (t * 16 * b) z i old new within (long ∙ sym ez) (omega (arith, ez))
 
--- ---- w bytes of a row
+-- ---- a row from a place on
 
-pub row_byte : (b w p n k z : ℕ) (tile : List ℕ) → k < w → z ≡ w
-    → get_or (take z (drop (p + n * b) tile)) k 0 ≡ get_or tile (p + k + n * b) 0
-row_byte b w p n k z tile l e =
-    get_or-take z (drop (p + n * b) tile) k 0 (omega (arith, e)) ∙ get_or-drop (p + n * b) tile k 0
-    ∙ ap (λ x. get_or tile x 0) (swap p (n * b) k)
+pub row_room : (b w p n m : ℕ) → p + w ≤ b → m ≡ 16 * b → n < 16 → p + n * b + w ≤ m
+row_room b w p n m room e l =
+    let g : (n + 1) * b ≤ 16 * b = mul-le-mul_right b (omega arith) in omega (arith, add-mul n 1 b)
+
+pub row_byte : (b w p n k : ℕ) (tile : List ℕ) → k < w → p + n * b + w ≤ length tile
+    → get_or (take (length tile - (p + n * b)) (drop (p + n * b) tile)) k 0 ≡ get_or tile (p + k + n * b) 0
+row_byte b w p n k tile l m =
+    get_or-take (length tile - (p + n * b)) (drop (p + n * b) tile) k 0 (omega arith)
+    ∙ get_or-drop (p + n * b) tile k 0 ∙ ap (λ x. get_or tile x 0) (swap p (n * b) k)
   where
     swap : (a m k : ℕ) → a + m + k ≡ a + k + m
     swap a m k = omega arith

@@ -1,6 +1,6 @@
 //! The columns of sixteen places at a time: tiles of sixteen rows are turned into them, and back.
 
-ghost use Rattle.std.specs.Prelude.{◌≡◌, ℕ, ◌+◌, ◌*◌, ◌/◌, ◌%◌, ◌<◌, ◌≤◌, ◌⊎◌, ◌++◌, length, slice_index};
+ghost use Rattle.std.specs.Prelude.{◌≡◌, ℕ, ◌+◌, ◌*◌, ◌/◌, ◌%◌, ◌<◌, ◌≤◌, ◌⊎◌, length, take, slice_index};
 ghost use Rattle.dtx_rings.specs.Tiles.{IsTile, byte_at};
 
 use crate::tiles::turned;
@@ -48,21 +48,24 @@ fn rows_at<const B: usize, const W: usize>(tile: &[u8], place: usize) -> [u8x16;
 {
     let mut rows = [u8x16::splat(0); 16];
     for r in 0..16 {
-        rows[r] = filled_up::<W>(&tile[place + r * B..place + r * B + W]);
+        rows[r] = front::<W>(&tile[place + r * B..]);
     }
     rows
 }
 
-/// `W` bytes, filled up to sixteen.
+/// Sixteen bytes, of which the first `W` are those of the slice. All are, where it has so many.
 #[inline(always)]
-fn filled_up<const W: usize>(bytes: &[u8]) -> u8x16
+fn front<const W: usize>(bytes: &[u8]) -> u8x16
     requires wide { W ≤ 16 }
-    requires bytes { length bytes.now ≡ W }
+    requires bytes { W ≤ length bytes.now }
     ensures long { length result ≡ 16 }
     ensures front { (c : ℕ) → c < W → slice_index result c ≡ slice_index bytes.now c }
 {
+    if W == 16 || bytes.len() >= 16 {
+        return u8x16::from_slice(bytes);
+    }
     let mut whole = [0u8; 16];
-    whole[..W].copy_from_slice(bytes);
+    whole[..W].copy_from_slice(&bytes[..W]);
     u8x16::from_array(whole)
 }
 
@@ -107,7 +110,21 @@ fn put_rows<const B: usize, const W: usize>(rows: &[u8x16; 16], tile: &mut [u8],
     ensures others { (i : ℕ) → (i % B < place) ⊎ (place + W ≤ i % B) → slice_index tile.new i ≡ slice_index tile.old i }
 {
     for r in 0..16 {
-        let row = rows[r].to_array();
-        tile[place + r * B..place + r * B + W].copy_from_slice(&row[..W]);
+        put_front::<W>(rows[r], &mut tile[place + r * B..place + r * B + W]);
     }
+}
+
+/// Puts the first `W` bytes of a row.
+#[inline(always)]
+fn put_front<const W: usize>(row: u8x16, bytes: &mut [u8])
+    requires wide { W ≤ 16 }
+    requires row { length row ≡ 16 }
+    requires bytes { length bytes.old ≡ W }
+    ensures { bytes.new ≡ take W row }
+{
+    if W == 16 {
+        row.copy_to_slice(bytes);
+        return;
+    }
+    bytes.copy_from_slice(&row.to_array()[..W]);
 }

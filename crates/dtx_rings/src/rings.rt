@@ -9,6 +9,7 @@ use crate::columns::ROWS;
 use crate::groups::pass_group;
 use circular_buffer::HeapCircularBuffer;
 use std::alloc::{AllocError, Global};
+use std::simd::prelude::*;
 
 /// The room of a tile of the most branches.
 const LAST: usize = 16 * 64;
@@ -148,7 +149,9 @@ fn exchange(items: &mut [u8], column: &[u8], gone: &mut [u8])
     ensures items { items.new ≡ drop (length column.now) (items.old ++ column.now) }
 {
     let (len, count) = (items.len(), column.len());
-    if count <= len {
+    if count == 16 && len >= 16 {
+        exchange_sixteen(items, column, gone);
+    } else if count <= len {
         gone.copy_from_slice(&items[..count]);
         items.copy_within(count.., 0);
         items[len - count..].copy_from_slice(column);
@@ -157,4 +160,18 @@ fn exchange(items: &mut [u8], column: &[u8], gone: &mut [u8])
         gone[len..].copy_from_slice(&column[..count - len]);
         items.copy_from_slice(&column[count - len..]);
     }
+}
+
+/// The same of sixteen bytes, which are fewer than the items or as many.
+fn exchange_sixteen(items: &mut [u8], column: &[u8], gone: &mut [u8])
+    requires room { (length gone.old ≡ 16) × (length column.now ≡ 16) }
+    requires items { 16 ≤ length items.old }
+    ensures gone { gone.new ≡ take 16 (items.old ++ column.now) }
+    ensures items { items.new ≡ drop 16 (items.old ++ column.now) }
+{
+    let end = items.len() - 16;
+    let first = u8x16::from_slice(items);
+    items.copy_within(16.., 0);
+    u8x16::from_slice(column).copy_to_slice(&mut items[end..]);
+    first.copy_to_slice(gone);
 }

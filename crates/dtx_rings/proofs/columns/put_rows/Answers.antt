@@ -11,8 +11,8 @@ loop-r-preserved g c =
     let h = c.loop-r.invariant in
     let row = get_or c.args.rows.now n [] in
     let lr : length row ≡ 16 = c.requires.rows.long n c.loop-r-test.true in
-    let part = c.copy_from_slice.new.self in
-    let ep : part ≡ take g.row.W row = c.copy_from_slice.ensures.after in
+    let part = c.put_front.new.bytes in
+    let ep : part ≡ take g.row.W row = c.put_front.ensures in
     let lp : length part ≡ g.row.W = ap length ep
     ∙ length-take-le g.row.W row (omega (arith, lr, c.requires.numbers.1)) in
     let within : a ≤ length c.loop-r.tile =

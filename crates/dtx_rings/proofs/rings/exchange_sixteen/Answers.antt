@@ -1,0 +1,14 @@
+use Rattle.std.proofs.Common.{sym, ◌∙◌, arith}
+use Rattle.std.proofs.lemmas.List.{take-append-le}
+use Rattle.std.proofs.lemmas.Simd.{put_chunk_whole, length-chunk}
+use Rattle.dtx_rings.proofs.rings.exchange_sixteen.Goals as goal
+use lib.Lanes.{chunk}
+
+pub returns-clause-gone : goal.returns-clause-gone
+returns-clause-gone c =
+    put_chunk_whole c.args.gone.now (chunk 0 16 c.args.items.now)
+    (c.requires.room.0 ∙ sym (length-chunk 0 16 c.args.items.now c.requires.items))
+    ∙ sym (take-append-le 16 c.args.items.now c.args.column.now c.requires.items)
+
+pub returns-clause-items : goal.returns-clause-items
+returns-clause-items c = ?
