@@ -1,6 +1,6 @@
 -- What leaves, and what stays in the branches, where the bytes at all places have gone through.
-use Rattle.std.proofs.Common.{◌≡◌, ℕ, zero, suc, ◌+◌, ◌-◌, ◌*◌, ◌/◌, ◌%◌, ◌<◌, ◌≤◌, ◌⊎◌, inl, inr, List, [], ◌∷◌}
-use Rattle.std.proofs.Common.{◌++◌, length, get_or, drop, refl, sym, ap, ap₂, subst, subst₂, ◌∙◌, arith, add-zero}
+use Rattle.std.proofs.Common.{◌≡◌, ℕ, suc, ◌+◌, ◌-◌, ◌*◌, ◌/◌, ◌%◌, ◌<◌, ◌≤◌, ◌⊎◌, inl, inr, List, [], ◌∷◌}
+use Rattle.std.proofs.Common.{◌++◌, length, get_or, drop, sym, ap, ap₂, subst, subst₂, ◌∙◌, arith, add-zero}
 use Rattle.std.proofs.Common.{◌==◌, set, mod-eq_of_lt, div-add-mod', add-mul}
 use Rattle.std.proofs.lemmas.Bool.{cases_lt, cases_eq, cond-true, cond-false, eq-eqb, ne_eqb}
 use Rattle.std.proofs.lemmas.Nat.{mod_below, div-mul-add, mod-mul-add}
@@ -8,7 +8,7 @@ use Rattle.std.proofs.lemmas.List.{ext_get_or, length-append, length-drop, get_o
 use Rattle.std.proofs.lemmas.List.{get_or-append_right}
 use Rattle.dtx_laws.specs.Branches.{Branching, HasWidths, after_byte, leaving_all, after_all}
 use Rattle.dtx_laws.proofs.PlacesLemmas.{Holds, Holds-step, Holds-turn, Stands, leaving_all_is, length_leaving}
-use Rattle.dtx_rings.specs.Rings.{branch_at, count_at, column, joined_at, ArePassed}
+use Rattle.dtx_rings.specs.Rings.{branch_at, count_at, column, ArePassed}
 use Rattle.dtx_rings.proofs.Turns.{place_of, later, later_from, later_before, branch_there, place_less, IsTurn, turns}
 use Rattle.dtx_rings.proofs.Turns.{row_counts, from_row, come_early, come_late}
 use Rattle.dtx_rings.proofs.Column.{length-column, column_at}

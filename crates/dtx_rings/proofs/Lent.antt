@@ -81,4 +81,3 @@ branches_more b done count v now new old cur part l e n p f =
 
     rest : drop done cur ≡ drop done old
     rest = ap (drop done) e ∙ drop_at (leaving_all b v (take done old)) (drop done old) done long
-

@@ -1,11 +1,9 @@
--- Places whose bytes have gone through: none, one, and some behind others.
-use Rattle.std.proofs.Common.{◌≡◌, ◌≢◌, ℕ, ◌+◌, ◌-◌, ◌*◌, ◌/◌, ◌%◌, ◌<◌, ◌≤◌, ◌⊎◌, inl, inr, List, [], ◌++◌, length}
-use Rattle.std.proofs.Common.{get_or, set, take, drop, refl, sym, ap, ap₂, subst, ◌∙◌, arith}
+-- Places whose bytes have gone through: none, and some behind others.
+use Rattle.std.proofs.Common.{◌≡◌, ℕ, ◌/◌, ◌%◌, ◌<◌, ◌≤◌, ◌⊎◌, inl, inr, List, [], ◌++◌, length}
+use Rattle.std.proofs.Common.{get_or, drop, refl, ap, ap₂, ◌∙◌, arith}
 use Rattle.std.proofs.lemmas.Bool.{cases_lt}
-use Rattle.std.proofs.lemmas.List.{length-set, length-append, get_or-set_same, get_or-set_other, get_or-take}
-use Rattle.dtx_rings.specs.Rings.{branch_at, count_at, column, joined_at, ArePassed}
-use Rattle.dtx_rings.proofs.Turns.{branch_less, branch_other, row_counts}
-use Rattle.dtx_rings.proofs.Column.{column_same, length-column}
+use Rattle.dtx_rings.specs.Rings.{branch_at, count_at, joined_at, ArePassed}
+use Rattle.dtx_rings.proofs.Column.{column_same}
 
 pub none_passed : (b next n : ℕ) (lists : List (List ℕ)) (bytes : List ℕ) → ArePassed b next n n lists lists bytes bytes
 none_passed b next n lists bytes = record {
@@ -46,7 +44,8 @@ passed_on b next a m n old mid new bytes some out am mn nb zb f g = record {
         ∙ ap₂ (λ c ys. drop (count_at b c p) ys) f.long
         (joined_same b next a m p old mid bytes some f h (omega arith))
 
-    others : (p : ℕ) → (p < a) ⊎ (n ≤ p) → p < b → get_or new (branch_at b next p) [] ≡ get_or old (branch_at b next p) []
+    others : (p : ℕ) → (p < a) ⊎ (n ≤ p) → p < b
+        → get_or new (branch_at b next p) [] ≡ get_or old (branch_at b next p) []
     others p (inl h) k = g.others p (inl (omega arith)) k ∙ f.others p (inl h) k
     others p (inr h) k = g.others p (inr h) k ∙ f.others p (inr (omega arith)) k
 
@@ -60,70 +59,3 @@ passed_on b next a m n old mid new bytes some out am mn nb zb f g = record {
     rest : (i : ℕ) → (i % b < a) ⊎ (n ≤ i % b) → get_or out i 0 ≡ get_or bytes i 0
     rest i (inl h) = g.rest i (inl (omega arith)) ∙ f.rest i (inl h)
     rest i (inr h) = g.rest i (inr h) ∙ f.rest i (inr (omega arith))
-
--- ---- one place
-
-column_passed : (b next p : ℕ) (old new : List (List ℕ)) (bytes out gone : List ℕ) → next < b → p < b
-    → length old ≡ b → length out ≡ length bytes
-    → new ≡ set old (branch_at b next p) (drop (length (column b bytes p)) (joined_at b next old bytes p))
-    → gone ≡ take (length (column b bytes p)) (joined_at b next old bytes p)
-    → ((i : ℕ) → i < length bytes → i % b ≡ p → get_or out i 0 ≡ get_or gone (i / b) 0)
-    → ((i : ℕ) → i % b ≢ p → get_or out i 0 ≡ get_or bytes i 0)
-    → ArePassed b next p (p + 1) old new bytes out
-column_passed b next p old new bytes out gone l m lb lo en eg there elsewhere = record {
-  count = ap length en ∙ length-set old at kept;
-  long = lo;
-  kept = λ q k n. the_one q (omega arith);
-  others = λ q k n. another q n (apart q k);
-  left = λ i k n q. left i k (omega arith);
-  rest = λ i k. elsewhere i (apart (i % b) k);
-}
-  where
-    at : ℕ
-    at = branch_at b next p
-
-    kept : List ℕ
-    kept = drop (length (column b bytes p)) (joined_at b next old bytes p)
-
-    apart : (q : ℕ) → (q < p) ⊎ (p + 1 ≤ q) → q ≢ p
-    apart q (inl h) = omega arith
-    apart q (inr h) = omega arith
-
-    the_one : (q : ℕ) → p ≡ q
-        → get_or new (branch_at b next q) [] ≡ drop (count_at b (length bytes) q) (joined_at b next old bytes q)
-    the_one q e =
-        subst (λ (x : ℕ). get_or new (branch_at b next x) []
-        ≡ drop (count_at b (length bytes) x) (joined_at b next old bytes x)) e
-        (ap (λ ys. get_or ys at []) en
-        ∙ get_or-set_same old at kept [] (omega (arith, lb, branch_less b next p l m))
-        ∙ ap (λ n. drop n (joined_at b next old bytes p)) (length-column b bytes p))
-
-    another : (q : ℕ) → q < b → q ≢ p → get_or new (branch_at b next q) [] ≡ get_or old (branch_at b next q) []
-    another q n o = ap (λ ys. get_or ys (branch_at b next q) []) en
-        ∙ get_or-set_other old at (branch_at b next q) kept [] (branch_other b next q p l n m o)
-
-    left : (i : ℕ) → i < length bytes → i % b ≡ p
-        → get_or out i 0 ≡ get_or (joined_at b next old bytes (i % b)) (i / b) 0
-    left i k e =
-        there i k e ∙ ap (λ ys. get_or ys (i / b) 0) eg
-        ∙ get_or-take (length (column b bytes p)) (joined_at b next old bytes p) (i / b) 0
-        (omega (
-          arith,
-          length-column b bytes p,
-          row_counts b (length bytes) i (omega arith) k,
-          ap (count_at b (length bytes)) e,
-        ))
-        ∙ ap (λ x. get_or (joined_at b next old bytes x) (i / b) 0) (sym e)
-
--- the same by what code says of it
-pub place_passed : (b next p at : ℕ) (old new : List (List ℕ)) (bytes out come gone : List ℕ) → next < b → p < b
-    → length old ≡ b → length out ≡ length bytes → at ≡ branch_at b next p → come ≡ column b bytes p
-    → new ≡ set old at (drop (length come) (get_or old at [] ++ come))
-    → gone ≡ take (length come) (get_or old at [] ++ come)
-    → ((i : ℕ) → i < length bytes → i % b ≡ p → get_or out i 0 ≡ get_or gone (i / b) 0)
-    → ((i : ℕ) → i % b ≢ p → get_or out i 0 ≡ get_or bytes i 0)
-    → ArePassed b next p (p + 1) old new bytes out
-place_passed b next p at old new bytes out come gone l m lb lo ea ec en eg there elsewhere =
-    column_passed b next p old new bytes out gone l m lb lo
-    (en ∙ ap₂ (λ n ys. set old n (drop (length ys) (get_or old n [] ++ ys))) ea ec)
-    (eg ∙ ap₂ (λ n ys. take (length ys) (get_or old n [] ++ ys)) ea ec) there elsewhere

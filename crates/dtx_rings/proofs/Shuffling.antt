@@ -1,7 +1,8 @@
 -- Tiles whose rows are taken in turn.
-use Rattle.std.proofs.Common.{◌≡◌, ℕ, ◌+◌, ◌-◌, ◌*◌, ◌/◌, ◌%◌, ◌<◌, ◌≤◌, ◌⊎◌, ◌==◌, ◌&&◌, inl, inr, cond, Bool, true, List}
-use Rattle.std.proofs.Common.{[], ◌∷◌, ◌++◌, length, get_or, set, map, refl, sym, ap, ap₂, subst, ◌∙◌, arith}
-use Rattle.std.proofs.lemmas.Bool.{cases_lt, cases_eq, agree_below, agree_below_at, and_parts, eqb-true, cond-true}
+use Rattle.std.proofs.Common.{◌≡◌, ℕ, ◌+◌, ◌*◌, ◌/◌, ◌%◌, ◌<◌, ◌≤◌, ◌⊎◌, ◌==◌, ◌&&◌, inl, inr, cond}
+use Rattle.std.proofs.Common.{Bool, true, List, [], ◌∷◌, ◌++◌, length, get_or, set, map, refl, sym, ap, ap₂, subst}
+use Rattle.std.proofs.Common.{◌∙◌, arith}
+use Rattle.std.proofs.lemmas.Bool.{cases_eq, agree_below, agree_below_at, and_parts, eqb-true, cond-true}
 use Rattle.std.proofs.lemmas.Bool.{cond-false, eq-eqb, ne_eqb}
 use Rattle.std.proofs.lemmas.List.{get_or_append_left, get_or-append_right, get_or-map}
 use Rattle.dtx_rings.proofs.Filled.{AreFilled, filled_more}
@@ -40,7 +41,8 @@ pub low_lanes : agree_below (in_turn 0 (0 ∷ 16 ∷ 1 ∷ 17 ∷ 2 ∷ 18 ∷ 3
 unfolding in_turn
 low_lanes = refl
 
-pub high_lanes : agree_below (in_turn 8 (8 ∷ 24 ∷ 9 ∷ 25 ∷ 10 ∷ 26 ∷ 11 ∷ 27 ∷ 12 ∷ 28 ∷ 13 ∷ 29 ∷ 14 ∷ 30 ∷ 15 ∷ 31 ∷ []))
+pub high_lanes : agree_below
+    (in_turn 8 (8 ∷ 24 ∷ 9 ∷ 25 ∷ 10 ∷ 26 ∷ 11 ∷ 27 ∷ 12 ∷ 28 ∷ 13 ∷ 29 ∷ 14 ∷ 30 ∷ 15 ∷ 31 ∷ []))
     (λ _. true) 16 ≡ true
 unfolding in_turn
 high_lanes = refl
@@ -110,7 +112,8 @@ abbrev pub source : ℕ × ℕ → ℕ × ℕ
 source p = (p.0 / 2 + 8 * (p.1 % 2), 8 * (p.0 % 2) + p.1 / 2)
 
 abbrev four_test : ℕ → ℕ → Bool
-four_test i j = ((source (source (source (source (i, j))))).0 == j) && ((source (source (source (source (i, j))))).1 == i)
+four_test i j = ((source (source (source (source (i, j))))).0 == j)
+    && ((source (source (source (source (i, j))))).1 == i)
 
 abbrev row_test : ℕ → Bool
 row_test i = agree_below (four_test i) (λ _. true) 16

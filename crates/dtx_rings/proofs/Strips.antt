@@ -125,7 +125,8 @@ tile_taken b w p t c k z bytes old new room fits before taken others ez l m = by
         ∙ ap (λ n. get_or bytes (p + c + n * b) 0) e
 
 -- one more tile is put
-pub tile_put : (b w p t c k z : ℕ) (columns old new : List ℕ) → p + w ≤ b → t * 16 * b ≤ length old → length new ≡ 16 * b
+pub tile_put : (b w p t c k z : ℕ) (columns old new : List ℕ) → p + w ≤ b → t * 16 * b ≤ length old
+    → length new ≡ 16 * b
     → ((c k : ℕ) → c < w → k < t * 16 → get_or old (p + c + k * b) 0 ≡ get_or columns (c * 208 + k) 0)
     → ((c r : ℕ) → c < w → r < 16 → get_or new (p + c + r * b) 0 ≡ get_or columns (c * 208 + t * 16 + r) 0)
     → c < w → k < (t + 1) * 16

@@ -4,11 +4,11 @@ use Rattle.std.proofs.Common.{get_or, set, take, drop, refl, sym, ap, ap₂, sub
 use Rattle.std.proofs.Common.{div-add-mod'}
 use Rattle.std.proofs.lemmas.Bool.{cases_lt, cases_eq}
 use Rattle.std.proofs.lemmas.Nat.{mod_below, mod-mul-add, div_below, le-div}
-use Rattle.std.proofs.lemmas.List.{length-set, length-append, length-drop, length-take-le, take-append-drop}
+use Rattle.std.proofs.lemmas.List.{length-set, length-append, length-drop, length-take-le}
 use Rattle.std.proofs.lemmas.List.{get_or-set_same, get_or-set_other}
 use Rattle.std.proofs.lemmas.List.{get_or-take, get_or-drop, get_or_append_left, get_or-append_right, get_or_past}
 use Rattle.std.proofs.lemmas.List.FromFn.{fill_by_all}
-use Rattle.dtx_rings.specs.Rings.{branch_at, count_at, column, joined_at, tiled, in_tiles, ArePassed, AreExchanged}
+use Rattle.dtx_rings.specs.Rings.{branch_at, count_at, column, joined_at, tiled, in_tiles, ArePassed}
 use Rattle.dtx_rings.proofs.Turns.{branch_less, branch_other, row_counts, row_within, from_row, count_early, count_late}
 use Rattle.dtx_rings.proofs.Turns.{early_fit, late_fit}
 use Rattle.dtx_rings.proofs.Column.{length-column}
@@ -163,6 +163,17 @@ taken_column b w p c z n bytes last columns o room fits ll lc w16 whole rest l e
         ∙ ez ∙ e ∙ sym counts
 
 -- ---- one column exchanged behind others
+
+-- Each branch at the places from `from` on and below `to` has had its column, and what left it stands in a column that
+-- has room for 208 bytes.
+pub record AreExchanged (b next from to : ℕ) (old new : List (List ℕ)) (bytes gone : List ℕ) : Type 0 where
+  pub count : length new ≡ length old
+  pub kept : (p : ℕ) → from ≤ p → p < to
+      → get_or new (branch_at b next p) [] ≡ drop (count_at b (length bytes) p) (joined_at b next old bytes p)
+  pub others : (p : ℕ) → (p < from) ⊎ (to ≤ p) → p < b
+      → get_or new (branch_at b next p) [] ≡ get_or old (branch_at b next p) []
+  pub left : (p k : ℕ) → from ≤ p → p < to → k < count_at b (length bytes) p
+      → get_or gone ((p - from) * 208 + k) 0 ≡ get_or (joined_at b next old bytes p) k 0
 
 pub counts_fit : (b len p : ℕ) → 0 < b → len < 208 * b → count_at b len p ≤ 208
 counts_fit b len p o l = by_cases (cases_lt p (len % b))
@@ -358,11 +369,3 @@ put_back b w next p old new bytes last out outs gone o room fits ll lo ls h whol
     rest_is i q (inr l) f =
         get_or_past (in_tiles b out outs) i 0 (omega (arith, l, after, lo))
         ∙ sym (get_or_past (in_tiles b bytes last) i 0 (omega (arith, l, before)))
-
--- ---- the whole call
-
-pub split_call : (b z n : ℕ) (bytes last : List ℕ) → IsTiled b (length bytes) → n ≡ length bytes - tiled b (length bytes) * b
-    → take n last ≡ drop (tiled b (length bytes) * b) bytes → in_tiles b bytes last ≡ bytes
-split_call b z n bytes last t e f =
-    ap (λ ys. take (tiled b (length bytes) * b) bytes ++ ys) (ap (λ k. take k last) (sym e) ∙ f)
-    ∙ take-append-drop (tiled b (length bytes) * b) bytes

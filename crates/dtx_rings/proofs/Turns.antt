@@ -1,6 +1,6 @@
 -- Which byte comes to which branch, and how many come to it.
 use Rattle.std.proofs.Common.{◌≡◌, ◌≢◌, ℕ, ◌+◌, ◌-◌, ◌*◌, ◌/◌, ◌%◌, ◌<◌, ◌≤◌, ◌⊎◌, nat_le, nat_lt, cond, inl, inr}
-use Rattle.std.proofs.Common.{sym, ap, ◌∙◌, arith, add-mul, mul-le-mul_right, mod-eq_of_lt, div-add-mod'}
+use Rattle.std.proofs.Common.{sym, ap, ◌∙◌, arith, add-mul, mul-le-mul_right, div-add-mod'}
 use Rattle.std.proofs.lemmas.Bool.{cases_lt, cond-true, cond-false, le-leb, lt-leb, lt-ltb, le-ltb}
 use Rattle.std.proofs.lemmas.Nat.{div-mul-add, mod-mul-add, mod_below}
 use Rattle.dtx_rings.specs.Rings.{branch_at, count_at}
@@ -176,12 +176,6 @@ its_place b p k l = ap (λ x. x % b) (swap p (k * b)) ∙ mod-mul-add k b p l
     swap : (a c : ℕ) → a + c ≡ c + a
     swap a c = omega arith
 
-pub its_row : (b p k : ℕ) → p < b → (p + k * b) / b ≡ k
-its_row b p k l = ap (λ x. x / b) (swap p (k * b)) ∙ div-mul-add k b p l
-  where
-    swap : (a c : ℕ) → a + c ≡ c + a
-    swap a c = omega arith
-
 pub from_row : (b i : ℕ) → i % b + i / b * b ≡ i
 from_row b i = omega (arith, div-add-mod' i b)
 
@@ -221,7 +215,8 @@ come_early b next len i l h = by_cases (ordered b next i ((next + len) % b) l (o
     t : IsTurn b next len
     t = turns b next len l
 
-    by_cases : ((place_of b next i < place_of b next ((next + len) % b)) × (later next i ≡ later next ((next + len) % b)))
+    by_cases : ((place_of b next i < place_of b next ((next + len) % b))
+        × (later next i ≡ later next ((next + len) % b)))
         ⊎ ((place_of b next ((next + len) % b) ≤ place_of b next i) × (later next i ≡ 1)
         × (later next ((next + len) % b) ≡ 0))
         → count_at b len (place_of b next i) + later next i ≡ (next + len) / b + 1
@@ -264,7 +259,8 @@ come_late b next len i l p h = by_cases (not_before b next i ((next + len) % b) 
     t : IsTurn b next len
     t = turns b next len l
 
-    by_cases : ((place_of b next ((next + len) % b) ≤ place_of b next i) × (later next i ≡ later next ((next + len) % b)))
+    by_cases : ((place_of b next ((next + len) % b) ≤ place_of b next i)
+        × (later next i ≡ later next ((next + len) % b)))
         ⊎ ((place_of b next i < place_of b next ((next + len) % b)) × (later next i ≡ 0)
         × (later next ((next + len) % b) ≡ 1))
         → count_at b len (place_of b next i) + later next i ≡ (next + len) / b

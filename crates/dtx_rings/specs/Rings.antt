@@ -51,14 +51,3 @@ pub record ArePassed (b next from to : ℕ) (old new : List (List ℕ)) (bytes o
   pub left : (i : ℕ) → i < length bytes → from ≤ i % b → i % b < to
       → slice_index out i ≡ slice_index (joined_at b next old bytes (i % b)) (i / b)
   pub rest : (i : ℕ) → (i % b < from) ⊎ (to ≤ i % b) → slice_index out i ≡ slice_index bytes i
-
--- Each branch at the places from `from` on and below `to` has had its column, and what left it stands in a column of its
--- own, of which each has room for 208 bytes.
-pub record AreExchanged (b next from to : ℕ) (old new : List (List ℕ)) (bytes gone : List ℕ) : Type 0 where
-  pub count : length new ≡ length old
-  pub kept : (p : ℕ) → from ≤ p → p < to
-      → slice_index_or new (branch_at b next p) [] ≡ drop (count_at b (length bytes) p) (joined_at b next old bytes p)
-  pub others : (p : ℕ) → (p < from) ⊎ (to ≤ p) → p < b
-      → slice_index_or new (branch_at b next p) [] ≡ slice_index_or old (branch_at b next p) []
-  pub left : (p k : ℕ) → from ≤ p → p < to → k < count_at b (length bytes) p
-      → slice_index gone ((p - from) * 208 + k) ≡ slice_index (joined_at b next old bytes p) k

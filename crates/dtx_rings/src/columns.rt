@@ -11,7 +11,12 @@ pub(crate) const ROWS: usize = 208;
 
 /// Takes the bytes of `W` places of sixteen rows into their columns, from row `at` on.
 #[inline(always)]
-pub(crate) fn take_tile<const B: usize, const W: usize>(tile: &[u8], place: usize, columns: &mut [u8], at: usize)
+pub(crate) fn take_tile<const B: usize, const W: usize>(
+    tile: &[u8],
+    place: usize,
+    columns: &mut [u8],
+    at: usize,
+)
     requires numbers { (B ≤ 64) × (W ≤ 16) × (place + W ≤ B) }
     requires tile { length tile.now ≡ 16 * B }
     requires columns { length columns.old ≡ 16 * ROWS }
@@ -26,7 +31,12 @@ pub(crate) fn take_tile<const B: usize, const W: usize>(tile: &[u8], place: usiz
 
 /// Puts what leaves the columns, from row `at` on, to `W` places of sixteen rows.
 #[inline(always)]
-pub(crate) fn put_tile<const B: usize, const W: usize>(columns: &[u8], at: usize, tile: &mut [u8], place: usize)
+pub(crate) fn put_tile<const B: usize, const W: usize>(
+    columns: &[u8],
+    at: usize,
+    tile: &mut [u8],
+    place: usize,
+)
     requires numbers { (B ≤ 64) × (W ≤ 16) × (place + W ≤ B) }
     requires tile { length tile.old ≡ 16 * B }
     requires columns { length columns.now ≡ 16 * ROWS }

@@ -119,11 +119,20 @@ pub(crate) fn branch_at<const B: usize>(next: usize, place: usize) -> usize
     ensures is { result ≡ branch_at B next place }
     ensures below { result < B }
 {
-    if next + place < B { next + place } else { next + place - B }
+    if next + place < B {
+        next + place
+    } else {
+        next + place - B
+    }
 }
 
 /// Puts a column behind the items of a ring, and as many bytes from their front into `gone`.
-pub(crate) fn exchange_at(rings: &mut [HeapCircularBuffer<u8>], branch: usize, column: &[u8], gone: &mut [u8])
+pub(crate) fn exchange_at(
+    rings: &mut [HeapCircularBuffer<u8>],
+    branch: usize,
+    column: &[u8],
+    gone: &mut [u8],
+)
     requires below { branch < length rings.old }
     requires room { length gone.old ≡ length column.now }
     ensures gone { gone.new ≡ take (length column.now) (slice_index_or (lists_of rings.old) branch [] ++ column.now) }

@@ -49,5 +49,8 @@ fn high(a: u8x16, b: u8x16) -> u8x16
     ensures long { length result ≡ 16 }
     ensures high { (j : ℕ) → j < 16 → slice_index result j ≡ slice_index (if j % 2 == 0 then a else b) (8 + j / 2) }
 {
-    a.shuffle(b, [8, 24, 9, 25, 10, 26, 11, 27, 12, 28, 13, 29, 14, 30, 15, 31])
+    a.shuffle(
+        b,
+        [8, 24, 9, 25, 10, 26, 11, 27, 12, 28, 13, 29, 14, 30, 15, 31],
+    )
 }

@@ -9,7 +9,8 @@ loop-c-preserved g c =
     let tile = c.args.tile.now in
     record {
       put = λ d r l m. column_there n c.args.at d r c.loop-c.columns tile c.requires.room c.requires.tile.long
-          (omega (arith, c.loop-c-test.true, c.requires.wide)) (omega (arith, c.loop-c.auto.columns, c.requires.columns))
+          (omega (arith, c.loop-c-test.true, c.requires.wide))
+          (omega (arith, c.loop-c.auto.columns, c.requires.columns))
           h.put l m;
       others = λ d r l o. column_elsewhere n c.args.at d r c.loop-c.columns (get_or tile n []) c.requires.room
           (c.requires.tile.long n (omega (arith, c.loop-c-test.true, c.requires.wide))) l o

@@ -1,4 +1,4 @@
-use Rattle.std.proofs.Common.{◌+◌, ◌*◌, length, get_or, ◌∙◌, arith}
+use Rattle.std.proofs.Common.{◌+◌, ◌*◌, length, get_or, ◌∙◌}
 use Rattle.dtx_rings.proofs.Filled.{filled_more}
 use Rattle.dtx_rings.proofs.Strips.{row_byte, row_room}
 use Rattle.dtx_rings.proofs.columns.rows_at.Goals as goal

@@ -1,5 +1,4 @@
-use Rattle.std.proofs.Common.{ℕ, ◌<◌, ◌≤◌, ◌*◌, ◌+◌, ◌-◌, ◌/◌, ◌≡◌, inl, length, get_or, ap, ◌∙◌, arith}
-use Rattle.dtx_rings.specs.Rings.{tiled}
+use Rattle.std.proofs.Common.{◌*◌, ◌+◌, ◌-◌, ◌/◌, ◌≡◌, inl, length, ◌∙◌, arith}
 use Rattle.dtx_rings.proofs.Strips.{tile_taken}
 use Rattle.dtx_rings.proofs.Tiling.{tile_fits, is_tiled}
 use Rattle.dtx_rings.proofs.groups.gather.Goals as goal
@@ -16,4 +15,5 @@ pub returns-clause-whole : goal.returns-clause-whole
 returns-clause-whole g c = λ n k l m.
     let e : c.loop-t.t ≡ length c.args.bytes.now / (16 * g.row.B) = omega (arith, c.loop-t.auto.t-end) in
     c.take_tile-2.ensures.others n k
-    (omega (arith, m, (is_tiled g.row.B (length c.args.bytes.now) c.requires.numbers.0 c.requires.room).few)) (inl m) ∙ c.loop-t.invariant n k l (omega (arith, e, m))
+    (omega (arith, m, (is_tiled g.row.B (length c.args.bytes.now) c.requires.numbers.0 c.requires.room).few)) (inl m)
+    ∙ c.loop-t.invariant n k l (omega (arith, e, m))

@@ -1,8 +1,9 @@
 use Rattle.std.proofs.Common.{◌≡◌, ℕ, ◌+◌, ◌-◌, ◌*◌, ◌<◌, ◌≤◌, length, take, drop, subst, ◌∙◌, arith}
 use Rattle.std.proofs.lemmas.List.{length-map, length-replicate, length-take-le, length-drop}
-use Rattle.dtx_rings.specs.Rings.{lists_of, in_tiles, AreExchanged}
+use Rattle.dtx_rings.specs.Rings.{lists_of, in_tiles}
 use Rattle.dtx_rings.proofs.Written.{length_written}
-use Rattle.dtx_rings.proofs.Tiling.{is_tiled, length-in_tiles, taken_column, exchanged_none, exchanged_on, put_back}
+use Rattle.dtx_rings.proofs.Tiling.{AreExchanged, is_tiled, length-in_tiles, taken_column, exchanged_none}
+use Rattle.dtx_rings.proofs.Tiling.{exchanged_on, put_back}
 use Rattle.dtx_rings.proofs.groups.pass_group.Goals as goal
 
 pub loop-c-init : goal.loop-c-init

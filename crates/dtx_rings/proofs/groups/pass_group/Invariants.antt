@@ -1,5 +1,6 @@
 use Rattle.std.proofs.Common.{◌≡◌, ◌+◌, length}
-use Rattle.dtx_rings.specs.Rings.{lists_of, in_tiles, AreExchanged}
+use Rattle.dtx_rings.specs.Rings.{lists_of, in_tiles}
+use Rattle.dtx_rings.proofs.Tiling.{AreExchanged}
 use Rattle.dtx_rings.proofs.groups.pass_group.Given as goal
 
 abbrev pub invariant-loop-c : goal.invariant-loop-c

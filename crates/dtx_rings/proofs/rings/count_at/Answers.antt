@@ -6,11 +6,15 @@ use Rattle.dtx_rings.proofs.rings.count_at.Goals as goal
 
 pub returns-clause-few : goal.returns-clause-few
 returns-clause-few g c = elim c.if-place-len.branch [
-  then-place-len w ↦ omega (
+  | then-place-len w ↦ omega (
     arith,
     w.result-is,
     early_fit g.row.B c.args.len c.args.place ROWS w.if-place-len.true (omega (arith, c.requires.room)),
   )
-  | else-place-len w ↦ omega (arith, w.result-is, late_fit g.row.B c.args.len ROWS c.requires.some
-  (omega (arith, c.requires.room)))
+  | else-place-len w ↦ omega (
+    arith,
+    w.result-is,
+    late_fit g.row.B c.args.len ROWS c.requires.some
+        (omega (arith, c.requires.room)),
+  )
 ]

@@ -1,4 +1,4 @@
-use Rattle.std.proofs.Common.{◌≡◌, ◌-◌, ◌*◌, ◌≤◌, length}
+use Rattle.std.proofs.Common.{◌≡◌, ◌-◌, ◌≤◌, length}
 use Rattle.dtx_rings.specs.Rings.{lists_of, in_tiles, ArePassed}
 use Rattle.dtx_rings.proofs.rings.pass_places.Given as goal
 
