@@ -1,0 +1,10 @@
+pub mod Turns
+pub mod Column
+pub mod Places
+pub mod Left
+pub mod Lent
+pub mod Written
+pub mod Strips
+pub mod Tiling
+pub mod Filled
+pub mod Shuffling

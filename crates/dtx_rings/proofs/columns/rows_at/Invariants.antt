@@ -1,0 +1,6 @@
+use Rattle.std.proofs.Common.{◌+◌, ◌*◌, get_or}
+use Rattle.dtx_rings.proofs.Filled.{AreFilled}
+use Rattle.dtx_rings.proofs.columns.rows_at.Given as goal
+
+abbrev pub invariant-loop-r : goal.invariant-loop-r
+invariant-loop-r g l = AreFilled l.r g.row.W (λ r c. get_or l.tile (l.place + c + r * g.row.B) 0) l.rows

@@ -1,0 +1,53 @@
+-- Branches as lists to which bytes come in rows. A row has one byte for each of the b branches, and the place of a byte
+-- is where it stands in its row.
+use Rattle.std.specs.Prelude.{ℕ, ◌≡◌, ◌+◌, ◌-◌, ◌*◌, ◌/◌, ◌%◌, ◌<◌, ◌≤◌, ◌⊎◌, nat_lt, if◌then◌else◌, List, [], ◌++◌}
+use Rattle.std.specs.Prelude.{length, map, take, drop, slice_index, slice_index_or}
+use Rattle.std.specs.List.{range_with_len}
+use Rattle.circular_buffer.specs.Buffer.{Buffer}
+use Rattle.dtx_laws.specs.Branches.{Branching}
+
+-- what the rings hold, oldest byte first
+abbrev pub lists_of : List (Buffer ℕ) → List (List ℕ)
+lists_of rings = map (λ r. r.items) rings
+
+-- the branches that rings are
+abbrev pub branches_of : ℕ → List (Buffer ℕ) → Branching
+branches_of next rings = record { next = next; lists = lists_of rings }
+
+-- the branch to which the byte at place p comes, where the one at place 0 comes to branch `next`
+abbrev pub branch_at : ℕ → ℕ → ℕ → ℕ
+branch_at b next p = if nat_lt (next + p) b then next + p else next + p - b
+
+-- how many of so many bytes come to place p
+abbrev pub count_at : ℕ → ℕ → ℕ → ℕ
+count_at b len p = len / b + (if nat_lt p (len % b) then 1 else 0)
+
+-- the bytes that come to place p
+abbrev pub column : ℕ → List ℕ → ℕ → List ℕ
+column b bytes p = map (λ k. slice_index bytes (p + k * b)) (range_with_len 0 (count_at b (length bytes) p))
+
+-- what a branch holds, and behind it the bytes that come to it at place p
+abbrev pub joined_at : ℕ → ℕ → List (List ℕ) → List ℕ → ℕ → List ℕ
+joined_at b next lists bytes p = slice_index_or lists (branch_at b next p) [] ++ column b bytes p
+
+-- how many rows of b bytes stand in whole tiles of sixteen rows
+abbrev pub tiled : ℕ → ℕ → ℕ
+tiled b len = len / (16 * b) * 16
+
+-- the bytes of a call, of which those behind whole tiles stand at the front of a last one
+abbrev pub in_tiles : ℕ → List ℕ → List ℕ → List ℕ
+in_tiles b bytes last =
+    take (tiled b (length bytes) * b) bytes ++ take (length bytes - tiled b (length bytes) * b) last
+
+-- The bytes at the places from `from` on and below `to` have gone through: as many leave each branch as have come to
+-- it, and stand where these stood. All other branches and bytes are as before.
+pub record ArePassed (b next from to : ℕ) (old new : List (List ℕ)) (bytes out : List ℕ) : Type 0 where
+  pub count : length new ≡ length old
+  pub long : length out ≡ length bytes
+  pub kept : (p : ℕ) → from ≤ p → p < to
+      → slice_index_or new (branch_at b next p) [] ≡ drop (count_at b (length bytes) p) (joined_at b next old bytes p)
+  pub others : (p : ℕ) → (p < from) ⊎ (to ≤ p) → p < b
+      → slice_index_or new (branch_at b next p) [] ≡ slice_index_or old (branch_at b next p) []
+  pub left : (i : ℕ) → i < length bytes → from ≤ i % b → i % b < to
+      → slice_index out i ≡ slice_index (joined_at b next old bytes (i % b)) (i / b)
+  pub rest : (i : ℕ) → (i % b < from) ⊎ (to ≤ i % b) → slice_index out i ≡ slice_index bytes i

@@ -1,0 +1,14 @@
+//! The interleaver and the de-interleaver.
+#![tactic(auto)]
+
+mod branches;
+mod collect;
+mod columns;
+mod groups;
+mod lines;
+mod rings;
+mod tiles;
+mod widths;
+
+pub use branches::Branches;
+pub use collect::Collect;

@@ -1,0 +1,90 @@
+//! Branches, each of which is a ring of its own. Both ways share them, over the branches' widths.
+
+ghost use Rattle.std.specs.Prelude.{◌≡◌, ◌*◌, ◌<◌, length, map, IfOk};
+ghost use Rattle.std.specs.List.{range_with_len};
+ghost use Rattle.circular_buffer.specs.Buffer.{Buffer, buffer};
+ghost use Rattle.dtx_laws.specs.Branches.{IsInterleaver, HasWidths, zeroed, aligned, leaving_all, after_all};
+
+use crate::columns::ROWS;
+use crate::rings::{through, zeros};
+use crate::widths::Widths;
+use circular_buffer::HeapCircularBuffer;
+use std::alloc::{AllocError, Global};
+use std::marker::{Model, PhantomData};
+
+/// `B` branches, of which each holds as many bytes as `W` says.
+#[derive(Drop)]
+pub(crate) struct Lines<W: Widths<B, M>, const B: usize, const M: usize> {
+    widths: PhantomData<W>,
+    next: usize,
+    rings: Vec<HeapCircularBuffer<u8>>,
+}
+
+impl<W: Widths<B, M>, const B: usize, const M: usize> Model for Lines<W, B, M> {
+    ghost use Rattle.dtx_laws.specs.Branches.{Branching, IsInterleaver, HasWidths};
+    ghost use Rattle.dtx_rings.specs.Rings.{branches_of};
+
+    ghost Value = { Branching };
+
+    ghost view = { λ s. branches_of s.next s.rings.items };
+
+    ghost invariant = { λ s. IsInterleaver B M × HasWidths B W.widths (branches_of s.next s.rings.items) };
+}
+
+impl<W: Widths<B, M>, const B: usize, const M: usize> Lines<W, B, M> {
+    /// Aligned, with zeros in every branch.
+    pub(crate) fn new(alloc: Global) -> Result<Self, AllocError>
+        requires { IsInterleaver B M }
+        ensures { IfOk result (λ lines. lines ≡ zeroed B W.widths) }
+    {
+        let mut rings = Vec::new(alloc);
+        for i in 0..B {
+            rings.push(zeros(alloc, W::width(i))?)?;
+        }
+        Ok(Lines {
+            widths: PhantomData,
+            next: 0,
+            rings,
+        })
+    }
+
+    /// `B` and `M` are the numbers of an interleaver, the next branch is below `B`, and each branch holds as many bytes
+    /// as its width.
+    pub(crate) fn known(&self)
+        ensures numbers { IsInterleaver B M }
+        ensures widths { HasWidths B W.widths self.now }
+    {
+        // A field that is read tells what each value keeps.
+        let _next = &self.next;
+    }
+
+    /// Replaces each byte by the one that leaves as it comes.
+    pub(crate) fn pass(&mut self, bytes: &mut [u8])
+        ensures bytes { bytes.new ≡ leaving_all B self.old bytes.old }
+        ensures branches { self.new ≡ after_all B self.old bytes.old }
+    {
+        self.known();
+        let mut done = 0;
+        while done < bytes.len() {
+            let count = (bytes.len() - done).min(ROWS * B - 1);
+            self.pass_some(&mut bytes[done..done + count]);
+            done += count;
+        }
+    }
+
+    /// The next byte goes to branch 0. The branches keep what they hold.
+    pub(crate) fn align(&mut self)
+        ensures { self.new ≡ aligned self.old }
+    {
+        self.next = 0;
+    }
+
+    /// Passes no more bytes than there is room for.
+    fn pass_some(&mut self, bytes: &mut [u8])
+        requires { length bytes.old < ROWS * B }
+        ensures bytes { bytes.new ≡ leaving_all B self.old bytes.old }
+        ensures branches { self.new ≡ after_all B self.old bytes.old }
+    {
+        self.next = through::<B>(&mut self.rings, self.next, bytes);
+    }
+}
