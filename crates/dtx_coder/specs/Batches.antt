@@ -48,7 +48,8 @@ pub record IsSent (old : Coding) (group : InterleavedGroup) (new : Coding) (coun
 
 -- The coder `ahead` is `held` with these packets interleaved, the first of which stands at this place of its field, and
 -- none of them sent: they left as these bytes.
-pub record IsAhead (held : Coding) (first : ℕ) (packets : List (List ℕ)) (bytes : List ℕ) (ahead : Coding) : Type 0 where
+pub record IsAhead (held : Coding) (first : ℕ) (packets : List (List ℕ)) (bytes : List ℕ) (ahead : Coding)
+    : Type 0 where
   pub left : bytes ≡ leaving_all 52 held.branches (coded_from first packets)
   pub coder : ahead ≡ record held { branches = after_all 52 held.branches (coded_from first packets) }
 

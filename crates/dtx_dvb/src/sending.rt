@@ -71,8 +71,8 @@ impl DvbOut {
         self.outer.code(place as usize, &packet.0, out);
     }
 
-    /// The bytes that leave as packets come that follow each other, in fours, the first of them at this place of a group
-    /// of eight. They go through the interleaver together.
+    /// The bytes that leave as packets come that follow each other, in fours, the first of them at this place of a
+    /// group of eight. They go through the interleaver together.
     pub fn batch(&mut self, place: u8, packets: &[[u8; PACKET]], out: &mut [u8])
         requires place { place < PERIOD_PACKETS }
         requires aligned { place % FOUR ≡ 0 }

@@ -101,7 +101,8 @@ batch_parts : (own rest : List (List ℕ)) (batch : List ℕ) (i : ℕ) → leng
     → take (207 * length (own ++ rest)) (drop (828 * i) batch)
     ≡ take 828 (drop (828 * i) batch) ++ take (207 * length rest) (drop (828 * (i + 1)) batch)
 batch_parts own rest batch i four =
-    ap (λ n. take n (drop (828 * i) batch)) (all (length rest) (length-append own rest ∙ ap (λ n. n + length rest) four))
+    ap (λ n. take n (drop (828 * i) batch))
+    (all (length rest) (length-append own rest ∙ ap (λ n. n + length rest) four))
     ∙ take-add 828 (207 * length rest) (drop (828 * i) batch)
     ∙ ap (λ y. take 828 (drop (828 * i) batch) ++ take (207 * length rest) y) (drop-drop 828 (828 * i) batch
     ∙ ap (λ n. drop n batch) (next i))

@@ -1,8 +1,7 @@
 -- The codewords of the data of packets, as those that make them call them.
 use borrow.Rule.Slice.PartMut.{put_mid}
 use Rattle.std.proofs.Common.{◌≡◌, ℕ, ◌+◌, ◌≤◌, List, [], ◌∷◌, ◌++◌, length, take, drop, get_or, refl, sym, ap, ap₂}
-use Rattle.std.proofs.Common.{◌∙◌}
-use Rattle.std.proofs.Common.{arith}
+use Rattle.std.proofs.Common.{◌∙◌, arith}
 use Rattle.std.proofs.lemmas.List.{append_assoc, length-append, length-take-le, take_at}
 use Rattle.std.specs.List.{concat, enumerate_from, flat_map}
 use Rattle.dtx_outer.specs.Coding.{coded_as, codewords}

@@ -98,8 +98,8 @@ impl<
     }
 
     /// The codewords of four data of `K` bytes, one behind the other, whitened as packets `place` to `place` + 3 of the
-    /// whitener's period. The words, of `N` bytes each, are made where `words` is, whatever stands there before, so none
-    /// is copied. `interleave` of all of them gives what `code` gives for one after another.
+    /// whitener's period. The words, of `N` bytes each, are made where `words` is, whatever stands there before, so
+    /// none is copied. `interleave` of all of them gives what `code` gives for one after another.
     pub fn encode_four(&self, place: usize, heads: &[&[u8]; 4], words: &mut [u8])
         requires long { (p : ℕ) → p < 4 → length (slice_index_or (map (λ head. head.now) heads.now) p []) ≡ K }
         requires room { length words.old ≡ N * 4 }

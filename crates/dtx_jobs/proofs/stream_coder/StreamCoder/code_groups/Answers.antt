@@ -24,7 +24,8 @@ loop-done-preserved c =
     let is : batch ≡ take (end - done) (drop done (packets_of bytes)) =
     ap (λ ps. take (end - done) (drop done ps)) (c.as_chunks.ensures.front ∙ packets_are bytes) in
     let on : (before : List (List ℕ)) → (before ++ packets_from bytes 0 done) ++ batch
-    ≡ before ++ packets_from bytes 0 end = λ before. piece_on before bytes done end batch (omega arith) (omega arith) is in
+    ≡ before ++ packets_from bytes 0 end =
+    λ before. piece_on before bytes done end batch (omega arith) (omega arith) is in
     record {
       coder = λ before long stands.
           subst (StandsFor c.code_batch.new.self.coder.value) (on before)

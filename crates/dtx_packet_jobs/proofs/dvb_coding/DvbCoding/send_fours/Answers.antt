@@ -18,7 +18,8 @@ loop-done-preserved c =
     length-take-le (end - done) (drop done packets) (omega (arith, length-drop done packets, least)) in
     record {
       sent = λ given before long is.
-          subst (λ ps. IsSending c.send_batch.new.self ps before) (part_on given packets done end (omega (arith, least, here)))
+          subst (λ ps. IsSending c.send_batch.new.self ps before)
+          (part_on given packets done end (omega (arith, least, here)))
           (c.send_batch.ensures.sent (given ++ take done packets) before
           (omega (arith, long, length-append given (take done packets), front))
           (c.loop-done.invariant.sent given before long is));
