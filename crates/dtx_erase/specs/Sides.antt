@@ -13,9 +13,9 @@ use Rattle.dtx_receiver.specs.Runs.{runs}
 use Rattle.dtx_erase.specs.Marks.{shown_run, is_set}
 use Rattle.dtx_erase.specs.Mended.{mending, mended_so_far}
 
--- What is kept of one side of a run, of its bytes or of its marks. Beside its groups and the de-interleaver these are the
--- last 156 bytes that it gave, which begin a word. And there is room for what it gives: what it gave last stands there,
--- behind the bytes that began its first word.
+-- What is kept of one side of a run, of its bytes or of its marks. Beside its groups and the de-interleaver these are
+-- the last 156 bytes that it gave, which begin a word. And there is room for what it gives: what it gave last stands
+-- there, behind the bytes that began its first word.
 pub record Side : Type 0 where
   pub groups : Grouping
   pub branches : Branching

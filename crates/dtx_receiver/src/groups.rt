@@ -115,8 +115,8 @@ impl Groups {
         &self.levels
     }
 
-    /// Puts the bytes of the groups that are held in place of the first of others, and tells how many groups these were.
-    /// None is held then.
+    /// Puts the bytes of the groups that are held in place of the first of others, and tells how many groups these
+    /// were. None is held then.
     pub fn put(&mut self, out: &mut [u8]) -> usize
         requires room { length out.old ≡ GROUP_BYTES * HELD_GROUPS }
         ensures count { result ≡ length self.old.held }

@@ -1,5 +1,5 @@
-use Rattle.std.proofs.Common.{◌≡◌, ◌≢◌, ℕ, ◌+◌, ◌*◌, ◌/◌, ◌%◌, ◌++◌, ◌∷◌, [], ℤ, List, length, refl, sym, ap, subst}
-use Rattle.std.proofs.Common.{◌∙◌, arith}
+use Rattle.std.proofs.Common.{◌≡◌, ◌≢◌, ℕ, ◌+◌, ◌*◌, ◌/◌, ◌%◌, ◌++◌, ◌∷◌, [], ℤ, List, length, refl, sym, ap}
+use Rattle.std.proofs.Common.{subst, ◌∙◌, arith}
 use Rattle.std.proofs.lemmas.List.{append-nil, nil_from_length}
 use Rattle.dtx_outer.specs.Inner.{StandsFor}
 use Rattle.dtx_receiver.specs.Bytes.{bytes_in}
@@ -51,8 +51,8 @@ returns-else-place-eq3-clause-stands c = λ run d e.
     let none : c.take.new.self.held ≡ [] =
     nothing c.take.new.self.held old.groups.held c.args.place c.self.invariant.none c.take.ensures.held
     c.if-place-eq3.false in
-    decodes_given kept (decoding c.take.new.self.levels c.take.new.self.precoder_bits old.inner old.turn) c.take.new.self
-    run (run ++ c.args.segment.now ∷ []) here g refl refl
+    decodes_given kept (decoding c.take.new.self.levels c.take.new.self.precoder_bits old.inner old.turn)
+    c.take.new.self run (run ++ c.args.segment.now ∷ []) here g refl refl
     (omega (arith, ap length none, c.self.invariant.in_turn))
     (subst (StandsFor 207 187 52 4 old.inner)
     (sym (ap (λ held. bytes_in run ++ flat held) none ∙ append-nil (bytes_in run))) here.inner)
