@@ -9,19 +9,23 @@ use Rattle.dtx_level.specs.Levelled.{By, by_sync, last_of, level, levelled_behin
 use Rattle.dtx_level.specs.Levelled.{nothing}
 use Rattle.dtx_level.specs.Measures.{later_by, measure_at, measures_rest, measures_where}
 
--- A leveller: the symbols that it holds, whether a sync is known to stand in front of them, by what they are levelled
--- up to the next sync, how many were let go before the first one, the zeros and the symbols that it gave last and the
--- sync that it measured last, how many symbols were given to it, and of the syncs that it measured how many they are,
--- how many of them are slips, and the place of the last.
+-- a leveller
 pub record Holding : Type 0 where
+  -- the symbols that it holds
   pub held : List ℤ
+  -- whether a sync is known to stand in front of them
   pub on : Bool
+  -- by what they are levelled up to the next sync
   pub by : By
+  -- how many symbols were let go before the first sync
   pub silent : ℕ
+  -- the zeros and then the symbols that it gave last, and the sync that it measured last
   pub zeros : ℕ
   pub given : List ℤ
   pub measured : Option Measure
+  -- how many symbols were given to it
   pub symbols : ℕ
+  -- how many syncs it measured, how many of them are slips, and the place of the last
   pub syncs : ℕ
   pub slips : ℕ
   pub last : ℕ
@@ -54,9 +58,9 @@ pub record IsTally (syncs slips_ last : ℕ) (places : List ℕ) : Type 0 where
   pub slips_are : slips_ ≡ slips places
   pub last_is : IfSome (last_of places) (λ place. last ≡ place)
 
--- Where `told` are the syncs that were measured, and `done` is what the symbols became that were let go: whatever
--- follows, all other syncs are those of what is held and follows, so many symbols later, and the other symbols become
--- what these do.
+-- Here `told` are the syncs that were measured, and `done` is what the symbols became that were let go. Whatever
+-- follows, all other syncs are those of what is held and of what follows, so many symbols later. And the other symbols
+-- become what these do.
 pub record Leaves (holding : Holding) (symbols done : List ℤ) (told : List Measure) : Type 0 where
   pub measures : (wanted : Bool → Bool) (more : List ℤ) → measures_where wanted (symbols ++ more)
       ≡ where_wanted (wanted true) told

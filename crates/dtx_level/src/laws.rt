@@ -13,23 +13,23 @@ pub fn all_is_levelled()
     ensures { (symbols : List ℤ) → levelled_so_far symbols ++ levelled_rest symbols ≡ levelled symbols }
 {}
 
-/// What stands before the first sync changes nothing behind it: where no place of a front shows a sync, each of its
-/// symbols becomes 0, the others become what they do without it, and the syncs differ in their places alone, by its
-/// length. (Where there is no sync behind it nothing is levelled.)
+/// What stands before the first sync changes nothing behind it. Where no place of a front shows a sync, each of its
+/// symbols becomes 0, and the others become what they do without it. The syncs differ in their places alone, by the
+/// length of the front. (Where there is no sync behind it nothing is levelled.)
 pub fn a_capture_begins_anywhere()
     ensures { (front symbols : List ℤ) → ((p : ℕ) → p < length front → shows (front ++ symbols) p ≡ false)
         → IsLater front symbols }
 {}
 
-/// What is levelled and measured of first symbols, whatever follows, is a front part of what is of more.
+/// What is levelled and measured of first symbols, whatever follows, is a prefix of what is of more.
 pub fn more_is_levelled_of_more()
     ensures { (symbols more : List ℤ) → IsGrown symbols more }
 {}
 
-/// A gain and a constant are undone exactly. Where a unit is `a` steps, below 0 in a capture that is turned, and the
-/// constant is `b`, each symbol `s` stands as `a * s + b`, so a sync shows 663060 times `a` and 132612 times `b`, since
-/// of its 515 signs 258 are plus and 257 minus. By such a sync the symbol becomes `8 * s`, and LOG says `100 * a` and
-/// `100 * b`.
+/// A gain and a constant are undone exactly. Let a unit be `a` steps, below 0 in a capture that is turned, and the
+/// constant be `b`, so that each symbol `s` stands as `a * s + b`. A sync then shows 663060 times `a` and 132612 times
+/// `b`, since of its 515 signs 258 are plus and 257 minus. By such a sync the symbol becomes `8 * s`. Its gain is told
+/// as `100 * a`, and its constant as `100 * b`.
 pub fn a_gain_is_undone()
     ensures symbol { (a b s : ℤ) → a ≢ pos 0 → nat_abs s ≤ 15
         → levelled_symbol (pos 663060 *ℤ a) (pos 132612 *ℤ b) (a *ℤ s +ℤ b) ≡ pos 8 *ℤ s }

@@ -21,11 +21,11 @@ use dtx_sizes::{MOST_SYMBOLS, SEGMENT};
 use std::alloc::{AllocError, Global};
 use std::marker::Model;
 
-/// Brings a capture of unknown gain, constant and polarity to eight steps a unit by its field syncs, and tells of each
+/// Brings a capture of unknown gain, constant and polarity to eight steps a unit by its field syncs. It tells of each
 /// sync how it stands (the profile's own; ATSC A/53 Part 2, the levels of 8-VSB and data field sync). It is given the
-/// symbols in pieces of any length, and gives as many without taking memory: zeros for those before the first sync,
-/// once that is known, and the others levelled. `StandsFor leveller symbols` says that it holds what these symbols
-/// leave, at most those of one field and one segment.
+/// symbols in pieces of any length, and gives as many without taking memory. Those before the first sync become zeros,
+/// once that sync is known, and the others are levelled. `StandsFor leveller symbols` says that it holds what these
+/// symbols leave, at most those of one field and one segment.
 #[derive(Drop)]
 pub struct Leveller {
     pattern: Pattern,

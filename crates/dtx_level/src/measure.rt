@@ -11,16 +11,18 @@ use crate::pattern::{Pattern, Standing};
 use dtx_acquire::is_second;
 use dtx_sizes::SEGMENT;
 
-/// How a field sync stands: its place, counted in symbols from the capture's first, whether it is of a second field,
-/// its gain in hundredths of a step a unit, which is below 0 where the capture is turned, the constant in hundredths of
-/// a step, and its noise, the sum over its first 515 symbols of the squares of how far each, levelled, is from 40 or
-/// -40 (the profile's own; ATSC A/53 Part 2, data field sync).
+/// How a field sync stands (the profile's own; ATSC A/53 Part 2, data field sync).
 #[derive(Clone, Copy, Drop)]
 pub struct Measure {
+    /// Its place, counted in symbols from the capture's first.
     pub place: u64,
+    /// Whether it is of a second field.
     pub second: bool,
+    /// The gain in hundredths of a step a unit, below 0 where the capture is turned.
     pub gain: i64,
+    /// The constant in hundredths of a step.
     pub constant: i64,
+    /// The sum over its first 515 symbols of the squares of how far each, levelled, is from 40 or -40.
     pub noise: u64,
 }
 
