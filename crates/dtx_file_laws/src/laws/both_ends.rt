@@ -23,9 +23,9 @@ use dtx_top::Status;
 use std::alloc::Global;
 
 /// `code IN SENT`, and then `receive SENT OUT`, over the same files, with both answers `Done`: OUT is the packets of IN
-/// that come back, with 0x47 as their sync bytes, and no other. No byte was put right, and none is flagged. Each answer
-/// is `Done`, an I/O error or out of memory, if IN has at least four packets and no more than may be, which begin with
-/// 0x47 or with the mark 0xB8, and the names are different and not empty.
+/// that come back, with 0x47 as their sync bytes, and no other. No byte was put right, and none is flagged. Let IN have
+/// at least four packets and no more than may be, which begin with 0x47 or with the mark 0xB8. Then each answer is
+/// `Done`, an I/O error or out of memory, if the names are different and not empty.
 pub fn run_there_and_back<S: Shelf, O: Sink>(
     alloc: Global,
     words: &(&[Word], &[Word]),
