@@ -1,5 +1,5 @@
-//! Where a call keeps bytes while they go through. A call writes here what it reads, so what an earlier one left doesn't
-//! matter.
+//! Where a call keeps bytes while they go through. A call writes here what it reads, so what an earlier one left
+//! doesn't matter.
 
 use crate::columns::ROWS;
 
