@@ -6,32 +6,38 @@ ghost use Rattle.dtx_rings.specs.Rings.{lists_of, tiled, in_tiles, ArePassed};
 
 use crate::columns::{ROWS, put_tile, take_tile};
 use crate::rings::{branch_at, count_at, exchange_at};
+use crate::scratch::Columns;
 use circular_buffer::HeapCircularBuffer;
 
-/// The room of sixteen columns.
-const ROOM: usize = 16 * ROWS;
+/// Where a group of places begins: at `place`, where the byte at place 0 comes to ring `next`.
+#[derive(Clone, Copy)]
+pub(crate) struct Group {
+    pub(crate) next: usize,
+    pub(crate) place: usize,
+}
 
 /// Passes the bytes of `W` places.
 #[inline(never)]
 pub(crate) fn pass_group<const B: usize, const W: usize>(
     rings: &mut [HeapCircularBuffer<u8>],
-    next: usize,
-    place: usize,
+    group: Group,
     bytes: &mut [u8],
     last: &mut [u8],
+    columns: &mut Columns,
 )
-    requires numbers { (B ≤ 64) × (next < B) }
-    requires places { (W ≤ 16) × (place + W ≤ B) }
+    requires numbers { (B ≤ 64) × (group.next < B) }
+    requires places { (W ≤ 16) × (group.place + W ≤ B) }
     requires rings { length rings.old ≡ B }
     requires room { length bytes.old < ROWS * B }
     requires last { length last.old ≡ 16 * B }
-    ensures passed { ArePassed B next place (place + W) (lists_of rings.old) (lists_of rings.new)
+    ensures passed { ArePassed B group.next group.place (group.place + W) (lists_of rings.old) (lists_of rings.new)
         (in_tiles B bytes.old last.old) (in_tiles B bytes.new last.new) }
     ensures rings { length rings.new ≡ B }
 {
-    let mut come = [0u8; ROOM];
-    let mut gone = [0u8; ROOM];
-    gather::<B, W>(bytes, last, place, &mut come);
+    let (next, place) = (group.next, group.place);
+    let come = &mut columns.come[..];
+    let gone = &mut columns.gone[..];
+    gather::<B, W>(bytes, last, place, come);
     for c in 0..W {
         let count = count_at::<B>(bytes.len(), place + c);
         let column = c * ROWS..c * ROWS + count;
@@ -43,7 +49,7 @@ pub(crate) fn pass_group<const B: usize, const W: usize>(
             &mut gone[column.start..column.end],
         );
     }
-    scatter::<B, W>(&gone, place, bytes, last);
+    scatter::<B, W>(gone, place, bytes, last);
 }
 
 /// Takes the bytes of `W` places into their columns.

@@ -7,6 +7,7 @@ mod columns;
 mod groups;
 mod lines;
 mod rings;
+mod scratch;
 mod tiles;
 mod widths;
 

@@ -7,6 +7,7 @@ ghost use Rattle.dtx_laws.specs.Branches.{IsInterleaver, HasWidths, zeroed, alig
 
 use crate::columns::ROWS;
 use crate::rings::{through, zeros};
+use crate::scratch::Scratch;
 use crate::widths::Widths;
 use circular_buffer::HeapCircularBuffer;
 use std::alloc::{AllocError, Global};
@@ -18,6 +19,7 @@ pub(crate) struct Lines<W: Widths<B, M>, const B: usize, const M: usize> {
     widths: PhantomData<W>,
     next: usize,
     rings: Vec<HeapCircularBuffer<u8>>,
+    scratch: Scratch,
 }
 
 impl<W: Widths<B, M>, const B: usize, const M: usize> Model for Lines<W, B, M> {
@@ -45,6 +47,7 @@ impl<W: Widths<B, M>, const B: usize, const M: usize> Lines<W, B, M> {
             widths: PhantomData,
             next: 0,
             rings,
+            scratch: Scratch::new(),
         })
     }
 
@@ -85,6 +88,6 @@ impl<W: Widths<B, M>, const B: usize, const M: usize> Lines<W, B, M> {
         ensures bytes { bytes.new ≡ leaving_all B self.old bytes.old }
         ensures branches { self.new ≡ after_all B self.old bytes.old }
     {
-        self.next = through::<B>(&mut self.rings, self.next, bytes);
+        self.next = through::<B>(&mut self.rings, self.next, bytes, &mut self.scratch);
     }
 }

@@ -6,13 +6,11 @@ ghost use Rattle.circular_buffer.specs.Buffer.{Buffer, buffer};
 ghost use Rattle.dtx_rings.specs.Rings.{lists_of, branch_at, count_at, in_tiles, ArePassed};
 
 use crate::columns::ROWS;
-use crate::groups::pass_group;
+use crate::groups::{Group, pass_group};
+use crate::scratch::{Columns, Scratch};
 use circular_buffer::HeapCircularBuffer;
 use std::alloc::{AllocError, Global};
 use std::simd::prelude::*;
-
-/// The room of a tile of the most branches.
-const LAST: usize = 16 * 64;
 
 /// A ring of so many zeros, which has room for no more.
 pub(crate) fn zeros(alloc: Global, count: usize) -> Result<HeapCircularBuffer<u8>, AllocError>
@@ -30,6 +28,7 @@ pub(crate) fn through<const B: usize>(
     rings: &mut [HeapCircularBuffer<u8>],
     next: usize,
     bytes: &mut [u8],
+    scratch: &mut Scratch,
 ) -> usize
     requires numbers { (B ≤ 64) × (next < B) }
     requires rings { length rings.old ≡ B }
@@ -38,11 +37,17 @@ pub(crate) fn through<const B: usize>(
     ensures rings { length rings.new ≡ B }
     ensures turn { result ≡ (next + length bytes.old) % B }
 {
-    let mut last = [0u8; LAST];
+    let last = &mut scratch.last[..];
     let start = bytes.len() / (16 * B) * 16 * B;
     let rest = bytes.len() - start;
     last[..rest].copy_from_slice(&bytes[start..]);
-    pass_places::<B>(rings, next, bytes, &mut last[..16 * B]);
+    pass_places::<B>(
+        rings,
+        next,
+        bytes,
+        &mut last[..16 * B],
+        &mut scratch.columns,
+    );
     bytes[start..].copy_from_slice(&last[..rest]);
     (next + bytes.len()) % B
 }
@@ -53,6 +58,7 @@ fn pass_places<const B: usize>(
     next: usize,
     bytes: &mut [u8],
     last: &mut [u8],
+    columns: &mut Columns,
 )
     requires numbers { (B ≤ 64) × (next < B) }
     requires rings { length rings.old ≡ B }
@@ -64,41 +70,41 @@ fn pass_places<const B: usize>(
 {
     let mut done = 0;
     while done < B {
-        done += pass_next::<B>(rings, next, done, bytes, last);
+        done += pass_next::<B>(rings, Group { next, place: done }, bytes, last, columns);
     }
 }
 
-/// Passes the bytes of as many places from `place` on as a group can have, and gives how many.
+/// Passes the bytes of as many places from a group's on as a group can have, and gives how many.
 fn pass_next<const B: usize>(
     rings: &mut [HeapCircularBuffer<u8>],
-    next: usize,
-    place: usize,
+    group: Group,
     bytes: &mut [u8],
     last: &mut [u8],
+    columns: &mut Columns,
 ) -> usize
-    requires numbers { (B ≤ 64) × (next < B) × (place < B) }
+    requires numbers { (B ≤ 64) × (group.next < B) × (group.place < B) }
     requires rings { length rings.old ≡ B }
     requires room { length bytes.old < ROWS * B }
     requires last { length last.old ≡ 16 * B }
-    ensures some { (0 < result) × (place + result ≤ B) }
-    ensures passed { ArePassed B next place (place + result) (lists_of rings.old) (lists_of rings.new)
+    ensures some { (0 < result) × (group.place + result ≤ B) }
+    ensures passed { ArePassed B group.next group.place (group.place + result) (lists_of rings.old) (lists_of rings.new)
         (in_tiles B bytes.old last.old) (in_tiles B bytes.new last.new) }
     ensures rings { length rings.new ≡ B }
 {
-    let left = B - place;
+    let left = B - group.place;
     if left >= 16 {
-        pass_group::<B, 16>(rings, next, place, bytes, last);
+        pass_group::<B, 16>(rings, group, bytes, last, columns);
         return 16;
     }
     if left >= 12 {
-        pass_group::<B, 12>(rings, next, place, bytes, last);
+        pass_group::<B, 12>(rings, group, bytes, last, columns);
         return 12;
     }
     if left >= 4 {
-        pass_group::<B, 4>(rings, next, place, bytes, last);
+        pass_group::<B, 4>(rings, group, bytes, last, columns);
         return 4;
     }
-    pass_group::<B, 1>(rings, next, place, bytes, last);
+    pass_group::<B, 1>(rings, group, bytes, last, columns);
     1
 }
 

@@ -1,5 +1,5 @@
 use Rattle.std.proofs.Common.{◌≡◌, ℕ, ◌+◌, ◌-◌, ◌*◌, ◌<◌, ◌≤◌, length, take, drop, subst, ◌∙◌, arith}
-use Rattle.std.proofs.lemmas.List.{length-map, length-replicate, length-take-le, length-drop}
+use Rattle.std.proofs.lemmas.List.{length-map, length-take-le, length-drop}
 use Rattle.dtx_rings.specs.Rings.{lists_of, in_tiles}
 use Rattle.dtx_rings.proofs.Written.{length_written}
 use Rattle.dtx_rings.proofs.Tiling.{AreExchanged, is_tiled, length-in_tiles, taken_column, exchanged_none}
@@ -8,10 +8,10 @@ use Rattle.dtx_rings.proofs.groups.pass_group.Goals as goal
 
 pub loop-c-init : goal.loop-c-init
 loop-c-init g c = record {
-  exchanged = exchanged_none g.row.B c.args.next c.args.place (lists_of c.args.rings.now)
+  exchanged = exchanged_none g.row.B c.args.group.next c.args.group.place (lists_of c.args.rings.now)
       (in_tiles g.row.B c.args.bytes.now c.args.last.now) _;
   count = c.requires.rings;
-  room = length-replicate {A = ℕ} 3328 0;
+  room = omega arith;
 }
 
 pub loop-c-preserved : goal.loop-c-preserved
@@ -31,7 +31,7 @@ loop-c-preserved g c =
     c.exchange_at.auto.gone
     ∙ length-take-le z (drop (n * 208) c.loop-c.gone) (omega (arith, room, length-drop (n * 208) c.loop-c.gone)) in
     record {
-      exchanged = exchanged_on g.row.B c.args.next c.args.place n c.branch_at-branch.result z
+      exchanged = exchanged_on g.row.B c.args.group.next c.args.group.place n c.branch_at-branch.result z
           (lists_of c.args.rings.now) (lists_of c.loop-c.rings) (lists_of c.exchange_at.new.rings)
           (in_tiles g.row.B bytes last) (take z (drop (n * 208) c.gather.new.columns)) c.loop-c.gone
           c.exchange_at.new.gone c.requires.numbers.1 (omega (arith, turn, c.requires.places.1))
@@ -42,9 +42,9 @@ loop-c-preserved g c =
             length-in_tiles g.row.B bytes last (is_tiled g.row.B (length bytes) some c.requires.room)
                 c.requires.last,
           )) (omega (arith, room)) c.branch_at-branch.ensures.is
-          (taken_column g.row.B g.row.W c.args.place n z count bytes last c.gather.new.columns some
+          (taken_column g.row.B g.row.W c.args.group.place n z count bytes last c.gather.new.columns some
           c.requires.places.1 c.requires.room c.requires.last
-          (c.gather.auto.columns ∙ length-replicate {A = ℕ} 3328 0) c.requires.places.0 c.gather.ensures.whole
+          (omega (arith, c.gather.auto.columns)) c.requires.places.0 c.gather.ensures.whole
           c.gather.ensures.last turn c.count_at-count.ensures.is few exact) c.exchange_at.ensures.rings
           c.exchange_at.ensures.gone h.exchanged;
       count = c.exchange_at.auto.rings ∙ h.count;
@@ -55,10 +55,10 @@ pub returns-clause-passed : goal.returns-clause-passed
 returns-clause-passed g c =
     let h = c.loop-c.invariant in
     let all : c.loop-c.c ≡ g.row.W = omega (arith, c.loop-c-test.false, c.loop-c.auto.c-end) in
-    put_back g.row.B g.row.W c.args.next c.args.place (lists_of c.args.rings.now) (lists_of c.loop-c.rings)
+    put_back g.row.B g.row.W c.args.group.next c.args.group.place (lists_of c.args.rings.now) (lists_of c.loop-c.rings)
     c.args.bytes.now c.args.last.now c.scatter.new.bytes c.scatter.new.last c.loop-c.gone
     (omega (arith, c.requires.numbers.1)) c.requires.places.1 c.requires.room c.requires.last c.scatter.auto.bytes
     c.scatter.auto.last
-    (subst (λ (x : ℕ). AreExchanged g.row.B c.args.next c.args.place (c.args.place + x) (lists_of c.args.rings.now)
+    (subst (λ (x : ℕ). AreExchanged g.row.B c.args.group.next c.args.group.place (c.args.group.place + x) (lists_of c.args.rings.now)
     (lists_of c.loop-c.rings) (in_tiles g.row.B c.args.bytes.now c.args.last.now) c.loop-c.gone) all h.exchanged)
     c.scatter.ensures.whole c.scatter.ensures.last c.scatter.ensures.others c.scatter.ensures.others_of_last
