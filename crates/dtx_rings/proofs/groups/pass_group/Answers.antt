@@ -59,6 +59,7 @@ returns-clause-passed g c =
     c.args.bytes.now c.args.last.now c.scatter.new.bytes c.scatter.new.last c.loop-c.gone
     (omega (arith, c.requires.numbers.1)) c.requires.places.1 c.requires.room c.requires.last c.scatter.auto.bytes
     c.scatter.auto.last
-    (subst (λ (x : ℕ). AreExchanged g.row.B c.args.group.next c.args.group.place (c.args.group.place + x) (lists_of c.args.rings.now)
-    (lists_of c.loop-c.rings) (in_tiles g.row.B c.args.bytes.now c.args.last.now) c.loop-c.gone) all h.exchanged)
+    (subst (λ (x : ℕ). AreExchanged g.row.B c.args.group.next c.args.group.place (c.args.group.place + x)
+    (lists_of c.args.rings.now) (lists_of c.loop-c.rings) (in_tiles g.row.B c.args.bytes.now c.args.last.now)
+    c.loop-c.gone) all h.exchanged)
     c.scatter.ensures.whole c.scatter.ensures.last c.scatter.ensures.others c.scatter.ensures.others_of_last
