@@ -9,6 +9,7 @@ use std::rt::Clock;
 
 /// The bytes of a group's codewords, and of a batch's.
 const GROUP: usize = 4 * WORD;
+
 const BATCH: usize = 52 * WORD;
 
 /// How many groups, or batches, a round passes.
