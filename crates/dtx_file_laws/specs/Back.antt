@@ -18,7 +18,8 @@ abbrev pub CanBeCoded : List ℕ → Type 0
 CanBeCoded stream = (k : ℕ) → k < whole_packets stream → may_be_coded (packet_at stream k) ≡ true
 
 -- How many packets come back of so many that are sent in whole groups of four: all but the last 52, or all but the last
--- 51 where 52 divides their number. The bytes of a packet leave the interleaver over 52 packets.
+-- 51 where 52 divides their number. The bytes of a packet leave the interleaver over 52 packets. (It is told of one
+-- group or more.)
 abbrev pub back_of_sent : ℕ → ℕ
 back_of_sent sent = sent - 52 + (if sent % 52 == 0 then 1 else 0)
 

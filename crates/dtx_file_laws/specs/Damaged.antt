@@ -16,7 +16,7 @@ pub record IsGap (count from : ℕ) (sent got : List ℕ) : Type 0 where
 
 -- A field has 313 segments of 832 symbols, and begins with its field sync. So many symbols in a row from one on spare
 -- the field syncs of a file of so many bytes: of the first 515 symbols of each, they reach only the first 32 or the
--- last 32.
+-- last 32. (So more than 32 in a row spare the first sync of a file only from symbol 483 of it on.)
 abbrev pub SparesSyncs : ℕ → ℕ → ℕ → Type 0
 SparesSyncs count from bytes =
     (f : ℕ) → 260416 * f < bytes → (from + count ≤ 260416 * f + 32) ⊎ (260416 * f + 483 ≤ from)

@@ -24,7 +24,7 @@ use dtx_sizes::{GROUP_PACKETS, MOST_PACKETS, MOST_SEGMENTS};
 use dtx_symbol_laws::laws::mending::a_stretch_is_mended;
 
 /// What `code` makes of a stream whose packets begin with 0x47, or with the mark 0xB8, and are no more than may be: it
-/// is done, and OUT is the symbols of them all.
+/// is done, and OUT is the symbols of their whole groups.
 pub fn a_stream_is_coded()
     ensures { (names : List (List ℕ)) (stream : List ℕ) → whole_packets stream ≤ MOST_PACKETS → CanBeCoded stream
         → IsDoneWith names (only (symbol_bytes (packets_of stream)))
@@ -32,8 +32,8 @@ pub fn a_stream_is_coded()
 {}
 
 /// What `receive` makes of segments in a row of a stream, received with at most ten wrong bytes a word and with their
-/// field syncs found. Where a field sync is among them, all packets from the one behind it on whose bytes are all there
-/// are written, in order, and no other. Each has 0x47 as its sync byte. There is one run, and none is flagged.
+/// field syncs found. Where a field sync is among them, all packets from the one behind the first on whose bytes are
+/// all there are written, in order, and no other. Each has 0x47 as its sync byte. There is one run, and none is flagged.
 pub fn a_stretch_is_received()
     ensures { (names stream : List (List ℕ)) (first : ℕ) (sent : List (List ℤ)) (file : List ℕ)
         → whole_segments file ≤ MOST_SEGMENTS → ArePackets stream
@@ -45,7 +45,7 @@ pub fn a_stretch_is_received()
 /// What `receive` makes of the symbols that `code` wrote of a stream of at least four packets: its packets but the last
 /// 52, or 51, that were sent (`back_of_all`), with 0x47 as their sync bytes. No byte is put right, none is flagged. The
 /// same packets come of any file as long as that, with at most ten wrong bytes a word and with its field syncs found,
-/// and none is flagged; some bytes are put right then.
+/// and none is flagged; so many bytes are put right then, perhaps none.
 pub fn what_was_coded_is_received()
     ensures undamaged { (names packets : List (List ℕ)) → ArePackets packets → GROUP_PACKETS ≤ length packets
         → length packets ≤ MOST_PACKETS
@@ -61,7 +61,8 @@ pub fn what_was_coded_is_received()
 /// Bursts on the air, in the file that `code` wrote of a stream of at least four packets. With at most 2,022 wrong
 /// bytes in a row, whatever they are, `receive` gives back what it gives of the undamaged file, and none is flagged.
 /// With missing ones, 0x80, among 4,141 in a row, `mend` does. Either may stand wherever it spares the field syncs. A
-/// byte is a symbol, and 10.76 of them last a microsecond: 2,022 of them last 187, and 4,141 last 384.
+/// byte is a symbol, and 10.76 of them last a microsecond: 2,022 last more than 187, and 4,141 more than 384. The
+/// stream has no more packets than may be.
 pub fn bursts_come_back()
     ensures wrong { (names packets : List (List ℕ)) (file : List ℕ) (from : ℕ) → ArePackets packets
         → GROUP_PACKETS ≤ length packets → length packets ≤ MOST_PACKETS

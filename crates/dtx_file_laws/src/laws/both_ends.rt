@@ -24,8 +24,9 @@ use std::alloc::Global;
 
 /// `code IN SENT`, and then `receive SENT OUT`, over the same files, with both answers `Done`: OUT is the packets of IN
 /// that come back, with 0x47 as their sync bytes, and no other. No byte was put right, and none is flagged. Let IN have
-/// at least four packets and no more than may be, which begin with 0x47 or with the mark 0xB8. Then each answer is
-/// `Done`, an I/O error or out of memory, if the names are different and not empty.
+/// at least four packets and no more than may be, which begin with 0x47 or with the mark 0xB8. If the names are
+/// different and not empty, `code` then answers `Done`, an I/O error or out of memory, and so does `receive` behind a
+/// `code` that is done. IN is a list of bytes here and below.
 pub fn run_there_and_back<S: Shelf, O: Sink>(
     alloc: Global,
     words: &(&[Word], &[Word]),

@@ -1,6 +1,6 @@
-//! What `run` leaves of one command, over files that are told: where it answers `Done`, the meaning of the input's file
-//! is done and its outputs are whole. Where the names are different and not empty, the answer is that of this meaning,
-//! or a fault or want of memory.
+//! What `run` leaves of one command, over files that are told. Where it answers `Done`, the meaning of the input's file
+//! is done and its outputs are whole. A clause `answer` says more: where the names are different and not empty, the
+//! answer is that of this meaning, an I/O error or out of memory.
 
 ghost use Rattle.std.specs.Prelude.{◌≡◌, ◌≢◌, ◌⊎◌, ◌<◌, ◌≤◌, ◌∷◌, [], ℕ, IfSome, List, Ok, Some, codes, decimal};
 ghost use Rattle.std.specs.FinMap.{get};

@@ -59,10 +59,10 @@ pub fn log_lines_read_back()
     ensures { (lines : List Line) → words_of_lines (log_text lines) ≡ map line_words lines ++ ([] ∷ []) ∷ [] }
 {}
 
-/// `excite FEED ADDRESS DELAY OUT LOG` over files that are told, where the answer is `Done`: FEED and the transmitter
-/// being as `a_feed_is_sent` asks, and OUT and LOG two files, these hold the feed's own symbols and presets. So of two
-/// transmitters whose first listing is the same, both symbol files are one list of bytes, and their logs differ in the
-/// moments alone.
+/// `excite FEED ADDRESS DELAY OUT LOG` over files that are told, where the answer is `Done`. FEED and the transmitter
+/// are as the clause `listed` of `a_feed_is_sent` asks, and OUT and LOG are two files. These hold the feed's own
+/// symbols and presets. So of two transmitters with one first listing, whose feeds end with one group, both symbol
+/// files are one list of bytes, and their logs differ in the moments alone.
 pub fn run_of_excite_of_a_feed<S: Shelf, O: Sink>(
     alloc: Global,
     words: &[Word],
