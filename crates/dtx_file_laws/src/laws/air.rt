@@ -33,7 +33,8 @@ pub fn a_stream_is_coded()
 
 /// What `receive` makes of segments in a row of a stream, received with at most ten wrong bytes a word and with their
 /// field syncs found. Where a field sync is among them, all packets from the one behind the first on whose bytes are
-/// all there are written, in order, and no other. Each has 0x47 as its sync byte. There is one run, and none is flagged.
+/// all there are written, in order, and no other. Each has 0x47 as its sync byte. There is one run, and none is
+/// flagged.
 pub fn a_stretch_is_received()
     ensures { (names stream : List (List ℕ)) (first : ℕ) (sent : List (List ℤ)) (file : List ℕ)
         → whole_segments file ≤ MOST_SEGMENTS → ArePackets stream
