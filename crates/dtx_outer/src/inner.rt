@@ -178,6 +178,7 @@ impl<
             (slice_index_or (slice_index_or outs.new q []) p [])
             (slice_index_or (slice_index_or taken.new q []) p Taken.None) }
         ensures stands { (y : List ℕ) → StandsFor N K B M self.old y → StandsFor N K B M self.new (y ++ bytes.old) }
+        ensures bytes { bytes.new ≡ leaving_all B self.old.branches bytes.old }
         ensures white { self.new.white ≡ self.old.white }
     {
         self.known();
