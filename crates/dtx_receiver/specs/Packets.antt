@@ -44,7 +44,7 @@ unfoldable pub run_packets : List ℕ → List Received
 run_packets bytes = map (received_at bytes) (filter (is_complete (length bytes)) (range_with_len 0
     (length bytes / 207)))
 
--- those that are given while the run is on: with 53 data segments or more from the packet's own on
+-- the packets that are given while the run is on, for which 53 data segments or more stand from their own on
 unfoldable pub early_of : List ℕ → List Received
 early_of bytes = map (received_at bytes) (range_with_len 0 (length bytes / 207 - 52))
 

@@ -1,6 +1,6 @@
-//! What a segment is told to be.
+//! What the receiver takes a segment for.
 
-/// Where a segment stands.
+/// What a segment is, given the segments before it.
 #[derive(Clone, Copy, Debug, PartialEq, Eq)]
 pub enum Tracking {
     /// No run is on, and the segment doesn't look like a field sync.
