@@ -37,7 +37,7 @@ unfoldable pub GoOn : List ℕ → Coding → List Group → Type 0
 GoOn q coder [] = ⊤
 GoOn q coder (g ∷ gs) = (g.from ≡ q) × GoOn (after_group coder g).states (after_group coder g) gs
 
--- A run: groups in turn, of which only the first one may have preset states.
+-- A run: groups in turn. Only the first one may have preset states.
 pub record IsGroupRun (s : ℕ) (q : List ℕ) (coder : Coding) (groups : List Group) : Type 0 where
   pub in_turn : AreInTurn s groups
   pub go_on : GoOn q coder groups

@@ -113,7 +113,7 @@ abbrev pub meaning_at : Recipe → List (List ℕ) → List ℕ → Ending → M
 meaning_at recipe names given ending =
     record { outcome = answer_at recipe given ending; outputs = outputs_of names (made_at recipe given ending) }
 
--- the meaning over the bytes of an input, of whose units the course takes some
+-- the meaning over the bytes of an input: something is made of the units that its course takes
 abbrev pub meaning_of_file : Shape → Recipe → List (List ℕ) → List ℕ → Meaning
 meaning_of_file shape recipe names file =
     meaning_at recipe names (first_units shape file (course shape recipe file).taken) (course shape recipe file).ending

@@ -1,4 +1,4 @@
--- Which refusals a command knows, which are those that it can answer.
+-- Which answers a command can give (`Knows`): it refuses only what it reads, judges or plays.
 use Rattle.std.specs.Prelude.{Bool, true, false}
 use Rattle.dtx_meaning.specs.declared.status.Status.{Status}
 use Rattle.dtx_meaning.specs.declared.status.Status.TheVariants.{Plan, Packet, TooLong, OutOfFeed, OutOfAir, NoSync}
@@ -34,7 +34,7 @@ plays_events Net = true
 plays_events Trial = true
 plays_events command = false
 
--- the command lays damage over a file, of which an entry may end after the file
+-- the command lays damage over a file, and an entry may end after the end of the file
 abbrev pub lays_damage : Command → Bool
 lays_damage Net = true
 lays_damage Hurt = true

@@ -20,7 +20,7 @@ pub trait Changing: Change + Drop {
     fn new() -> Self
         ensures { Self.tallies result [] };
 
-    /// The command knows each answer that can come.
+    /// Each answer that can come is one that the command may give.
     ghost knows: { (status : Status)
         → IsAnswerOf (each_making Self.shape Self.allowed Self.changed Self.answer) status → Knows command status };
 }

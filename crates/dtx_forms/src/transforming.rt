@@ -27,7 +27,7 @@ pub trait Transforming: Engine + Drop {
         ensures given { IfOk result (λ engine. Self.stands engine []) }
         ensures makes { IfOk result (λ engine. Self.recipe engine ≡ makes) };
 
-    /// The command knows each answer that can come.
+    /// Each answer that can come is one that the command may give.
     ghost knows: { (status : Status) → IsAnswerOf makes status → Knows command status };
 }
 

@@ -29,13 +29,13 @@ pub trait Transmitting: Engine + Drop {
     /// Its recipe for an address and a delay.
     ghost sends: { ℕ → ℕ → Recipe };
 
-    /// The engine of the transmitter with this address, to which the feed takes `delay` ticks of 100 ns. It was given
-    /// nothing. The only error is out of memory.
+    /// The engine of the transmitter with this address. The feed takes `delay` ticks of 100 ns to it. The engine was
+    /// given nothing. The only error is out of memory.
     fn new(alloc: Global, address: u16, delay: u32) -> Result<Self, AllocError>
         ensures given { IfOk result (λ engine. Self.stands engine []) }
         ensures sends { IfOk result (λ engine. Self.recipe engine ≡ sends address delay) };
 
-    /// The command knows each answer that can come.
+    /// Each answer that can come is one that the command may give.
     ghost knows: { (address delay : ℕ) (status : Status) → IsAnswerOf (sends address delay) status
         → Knows command status };
 }

@@ -215,7 +215,7 @@ impl<
         taken
     }
 
-    /// What a gathered word gives, from which the corrector has made `word`.
+    /// What a gathered word gives, once the corrector has made `word` of it.
     fn give_next(
         &mut self,
         corrected: Result<u8, TooMany>,

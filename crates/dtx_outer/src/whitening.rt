@@ -6,8 +6,8 @@ ghost use Rattle.dtx_laws.specs.Whitening.{whitened};
 
 use dtx_laws::Whitener;
 
-/// The data, to which the whitener's bytes from `from` on are added by exclusive or. They are written to a local, and
-/// the loop tests nothing, so that the compiler adds many bytes at once.
+/// Adds the whitener's bytes from `from` on to the data by exclusive or. The sum is written to a local, and the loop
+/// tests nothing, so that the compiler adds many bytes at once.
 pub fn whiten<W: Whitener, const K: usize>(whitener: &W, from: usize, head: &[u8]) -> [u8; K]
     requires long { length head.now ≡ K }
     requires within { from + K ≤ W.PERIOD }

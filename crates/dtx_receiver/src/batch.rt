@@ -65,7 +65,7 @@ impl Received {
     }
 }
 
-/// The packet of these data, behind its sync byte.
+/// The packet of these data: the sync byte, and then the data.
 fn packet_of(head: &[u8; PACKET_DATA]) -> Packet
     ensures { result.0 ≡ 0x47 ∷ head.now }
 {

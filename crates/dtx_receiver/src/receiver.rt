@@ -89,7 +89,7 @@ impl Receiver {
         self.take_one(&segments[0], batch)
     }
 
-    /// Receives the next data segments, of which at least one is due. The batch is empty.
+    /// Receives the next data segments. At least one is due, and the batch is empty.
     fn take_data(&mut self, place: u16, segments: &[[u8; SEGMENT]], batch: &mut Batch) -> Progress
         requires place { self.old.place ≡ Some place }
         requires due { 0 < place }

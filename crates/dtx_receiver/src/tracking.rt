@@ -9,7 +9,7 @@ pub enum Tracking {
     Began,
     /// A field sync was due in a run, and this segment looks like one.
     Sync,
-    /// One of the 312 data segments behind a field sync.
+    /// One of the 312 data segments after a field sync.
     Data,
     /// A field sync was due, and this segment doesn't look like one: the run has ended before it.
     Ended,
