@@ -16,7 +16,7 @@ pub trait Outlet {
     /// Their names, in the order in which they are begun.
     ghost names: { Self → List (List ℕ) };
 
-    /// Since the first of these files (`start`), this was given to be written. In the second of them each output has a
+    /// Relates the value to the files at the start, the bytes given since, and the files now. Each output now has a
     /// prefix of its bytes, and the value holds the rest.
     ghost gathered: { Self → Option Files → Made → Option Files → Type 0 };
 

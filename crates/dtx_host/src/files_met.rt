@@ -36,8 +36,8 @@ impl<F: Write + Drop> Met<F> {
     }
 
     /// Compares the file with what was found under its name, and notes that this was done. It fails where the file was
-    /// not begun, is another one, or hasn't the length of all bytes appended. Then the name was given to another file,
-    /// or another program writes to this one.
+    /// not begun, is another one, or doesn't have the length of all bytes appended. Then the name was given to another
+    /// file, or another program writes to this one.
     pub(crate) fn note_seen(&mut self, found: &Found) -> Result<(), WriteNo> {
         match self.added {
             Some(added) if self.is_as_found(found, added) => {

@@ -24,7 +24,7 @@ pub(crate) struct Pipe<F> {
     kept: Vec<u8>,
     /// Whether the end was met. Nothing is read after that.
     ended: bool,
-    /// Whether a caller wanted to read it a second time.
+    /// Whether a second reading of it was tried.
     again: bool,
 }
 
@@ -139,7 +139,7 @@ impl<F: Read + Drop> Pipes<F> {
         false
     }
 
-    /// Whether a caller wanted to read a pipe a second time.
+    /// Whether a second reading of a pipe was tried.
     pub(crate) fn again(&self) -> bool {
         for pipe in self.held.iter() {
             if pipe.again {

@@ -18,7 +18,7 @@ pub enum PlanRule {
     Unknown,
     /// A key is missing.
     Missing,
-    /// A value hasn't the TOML type that its key needs.
+    /// A value doesn't have the TOML type that its key needs.
     Kind,
     /// A number, a count of entries or a text is out of its range.
     Range,
