@@ -13,7 +13,7 @@ use dtx_outside::{Shelf, fill};
 use dtx_plan::{Damages, Plan, read_changes, read_plan};
 use std::alloc::{AllocError, Global};
 
-/// How many bytes of a plan or a file of changes are read at most. It is one more than such a file may have, which
+/// How many bytes of a plan or a file of changes are kept at most. It is one more than such a file may have, which
 /// shows where a file is too long.
 const SMALL: usize = 16_777_217;
 

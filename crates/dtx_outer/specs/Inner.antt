@@ -10,7 +10,7 @@ use Rattle.dtx_laws.specs.Whitening.{whitened}
 use Rattle.dtx_outer.specs.declared.inner.Taken.{Taken}
 use Rattle.dtx_outer.specs.declared.inner.Taken.TheVariants.{None, Good, Bad}
 
--- how many blocks of a run give no packet: as many blocks of n bytes as cover the delay of b * m * (b - 1) bytes
+-- how many blocks of a run give no packet: the fewest blocks of n bytes that cover the delay of b * m * (b - 1) bytes
 unfoldable pub waiting : ℕ → ℕ → ℕ → ℕ
 waiting n b m = (b * m * (b - 1) + n - 1) / n
 

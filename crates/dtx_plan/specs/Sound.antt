@@ -80,6 +80,6 @@ pub record IsSound (p : Plan) : Type 0 where
   pub max_delay : p.max_delay < 10000000
   pub transmitters : AreTransmitters p.transmitters
 
--- so it is of what is done with its transmitters, where the plan says it
+-- what is done with the plan's transmitters is sound, where the plan says it
 abbrev pub HasSoundNet : Plan → Type 0
 HasSoundNet p = IfSome p.net (IsNet p.transmitters)
