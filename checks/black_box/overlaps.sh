@@ -10,7 +10,7 @@ overlaps() {
     status=$?
     [[ $status == 12 ]] || wrong "$*: status $status, not 12"
     [[ $(cat "$room/said") == 'write fault' ]] || wrong "$*: printed '$(cat -v "$room/said")'"
-    [[ $(cat "$room/complaint") == 'dtx: an output is a file that is read, or another output, under another name' ]] ||
+    [[ $(cat "$room/complaint") == 'dtx: an output is the same file as an input, another output or standard output' ]] ||
         wrong "$*: on standard error '$(cat -v "$room/complaint")'"
     cmp -s "$file" "$room/before" || wrong "$*: $file was changed"
     [[ $(sums) == "$inputs_before" ]] || wrong "$*: an input was changed"
@@ -112,7 +112,7 @@ for word in out.sym ./out.sym /dev/stdout; do
     echo older >out.sym
     "$dtx" code ../inputs/given.ts $word >>out.sym 2>"$room/complaint"
     [[ $? == 12 && $(<out.sym) == $'older\nwrite fault' ]] || wrong "$word: holds $(head -n 2 out.sym)"
-    [[ $(<"$room/complaint") == 'dtx: an output is a file that is read, or another output,'* ]] || wrong "$word: no complaint"
+    [[ $(<"$room/complaint") == 'dtx: an output is the same file as an input,'* ]] || wrong "$word: no complaint"
 done
 
 start 'a device that is read and written is no file that is lost'

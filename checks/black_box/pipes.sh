@@ -1,8 +1,8 @@
 # Inputs that are pipes, and what else is read once: what comes of them is what comes of files.
 
 usual=(timeout 60 "$dtx")
-again='dtx: an input is a pipe that was read before: what it gave can'\''t be read again'
-overlap='dtx: an output is a file that is read, or another output, under another name'
+again='dtx: an input is a pipe that was already read, and a pipe can be read only once'
+overlap='dtx: an output is the same file as an input, another output or standard output'
 
 # as_of_files WORD..: the program, given the words, of which those that begin with @ name inputs, prints and writes the same where these are
 # pipes as where they are files. Its outputs are `out.*`.

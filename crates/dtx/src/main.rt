@@ -1,4 +1,4 @@
-// The program `dtx`: it collects its words, and hands the host's files and standard output to `run`.
+// The program `dtx`: it calls `run` with the words of its command line, the host's files and standard output.
 #![tactic(auto)]
 
 use dtx_host::{HostShelf, HostSink, Progress};
@@ -10,13 +10,13 @@ use std::process::ExitCode;
 use std::rt::{Env, Files};
 use std::{env, io};
 
-/// What standard error says where an output was not begun, so that no input is lost.
+/// The line on standard error where an output was refused, so that no input and no other output is lost.
 const OVERLAP: &str =
-    "dtx: an output is a file that is read, or another output, under another name";
+    "dtx: an output is the same file as an input, another output or standard output";
 
-/// What it says where an input that has no places, as a pipe, was to be read a second time.
+/// The line on standard error where an input that is read once, such as a pipe, was to be read a second time.
 const AGAIN: &str =
-    "dtx: an input is a pipe that was read before: what it gave can't be read again";
+    "dtx: an input is a pipe that was already read, and a pipe can be read only once";
 
 fn main(rt: HostRuntime) -> ExitCode {
     let _standing = stand_in(&rt);
@@ -40,8 +40,8 @@ fn main(rt: HostRuntime) -> ExitCode {
     }
 }
 
-/// Opens what stands in for standard streams that are closed, so that no file of a command takes their places. Printing
-/// to such a one fails, and writes into no file.
+/// Opens /dev/null for standard streams that are closed. Otherwise a file of the command could take the place of one,
+/// and what is printed would go into that file. Printing to such a stream fails.
 fn stand_in<R: Files>(rt: &R) -> [io::Result<R::File>; 3] {
     [
         File::open(rt, "/dev/null"),

@@ -6,8 +6,9 @@ use Rattle.dtx_coder.specs.Coded.{coded_from}
 use Rattle.dtx_coder.specs.Stream.{segment, last_of, symbols_of}
 use Rattle.dtx_coder.specs.Groups.{Coding, Group, sent_segments}
 
--- A group whose packets have left the interleaver as these bytes. It has the place of its first packet in a field,
--- whether this is a second field, whether a field sync stands before it, and the states from which it is coded.
+-- A group whose packets have left the interleaver as these bytes: the place of its first packet in a field, whether
+-- this is a second field, and whether a field sync stands before the group. Also the states from which it is coded, and
+-- the bytes.
 pub record InterleavedGroup : Type 0 where
   pub first : ℕ
   pub second : Bool
@@ -15,7 +16,7 @@ pub record InterleavedGroup : Type 0 where
   pub from : List ℕ
   pub bytes : List ℕ
 
--- a group with the bytes as which it left
+-- the group, whose packets have left the interleaver as these bytes
 abbrev pub interleaved_as : List ℕ → Group → InterleavedGroup
 interleaved_as bytes group = record {
   first = group.first;
@@ -25,29 +26,29 @@ interleaved_as bytes group = record {
   bytes = bytes;
 }
 
--- their levels
+-- its levels
 abbrev pub levels_of_bytes : InterleavedGroup → List ℕ
 levels_of_bytes group = levels_of group.first group.from group.bytes
 
--- their segments, where these were the last twelve symbols given before
+-- its segments, where `last` are the last twelve symbols given before
 unfoldable pub segments_of_bytes : List ℤ → InterleavedGroup → List (List ℤ)
 segments_of_bytes last group = sent_segments last group.sync group.second (levels_of_bytes group)
 
--- the coder behind them: its branches stay
+-- the coder after the group: its branches stay
 unfoldable pub after_bytes : Coding → InterleavedGroup → Coding
 after_bytes coder group = record coder {
   states = states_after group.first group.from group.bytes;
   last = last_of (segment (levels_of_bytes group) 3);
 }
 
--- what a coder gives and holds behind them: so many segments, whose symbols are the first of these
+-- the coder after the group, which was sent as `count` segments: their symbols are the first ones of `sent`
 pub record IsSent (old : Coding) (group : InterleavedGroup) (new : Coding) (count : ℕ) (sent : List ℤ) : Type 0 where
   pub coder : new ≡ after_bytes old group
   pub segments : count ≡ length (segments_of_bytes old.last group)
   pub symbols : take (832 * count) sent ≡ symbols_of (segments_of_bytes old.last group)
 
--- The coder `ahead` is `held` with these packets interleaved, the first of which stands at this place of its field, and
--- none of them sent: they left as these bytes.
+-- The coder `ahead` is `held` after these packets were interleaved, and before any of them is sent. They left the
+-- interleaver as `bytes`. The first one stands at place `first` of its field.
 pub record IsAhead (held : Coding) (first : ℕ) (packets : List (List ℕ)) (bytes : List ℕ) (ahead : Coding)
     : Type 0 where
   pub left : bytes ≡ leaving_all 52 held.branches (coded_from first packets)
@@ -60,7 +61,7 @@ segments_by_bytes coder (g ∷ gs) bytes =
     segments_of_bytes coder.last (interleaved_as (take 828 bytes) g)
     ++ segments_by_bytes (after_bytes coder (interleaved_as (take 828 bytes) g)) gs (drop 828 bytes)
 
--- the coder behind them
+-- the coder after these groups
 unfoldable pub after_all_bytes : Coding → List Group → List ℕ → Coding
 after_all_bytes coder [] bytes = coder
 after_all_bytes coder (g ∷ gs) bytes =

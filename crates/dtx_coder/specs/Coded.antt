@@ -5,8 +5,8 @@ use Rattle.dtx_laws.specs.Words.{codeword}
 use Rattle.dtx_laws.specs.Interleaving.{interleaved}
 use Rattle.dtx_whiten.specs.Randomized.{randomized}
 
--- The codewords, one behind the other, of packets that follow each other in a stream, the first one as its packet k.
--- Each is that of the randomized packet (data randomizer and Reed-Solomon encoder).
+-- The codewords, one after another, of packets that follow each other in a stream, from packet k on. Each is that of
+-- the randomized packet (data randomizer and Reed-Solomon encoder).
 unfoldable pub coded_from : ℕ → List (List ℕ) → List ℕ
 coded_from k packets = flat_map (λ p. codeword 207 187 (randomized p.0 p.1)) (enumerate_from k packets)
 

@@ -1,4 +1,4 @@
--- A group coder as contracts see it: what a group is sent as, and what the coder holds behind it.
+-- A group coder as contracts see it: the segments of a group, and the coder after it.
 use Rattle.std.specs.Prelude.{ℕ, ℤ, ◌≡◌, ◌↔◌, ◌*◌, ◌/◌, ◌%◌, ◌≤◌, Bool, IsTrue, if◌then◌else◌, List, [], ◌∷◌, ◌++◌}
 use Rattle.std.specs.Prelude.{length, take}
 use Rattle.std.specs.List.{flat_map}
@@ -38,16 +38,16 @@ pub record Group : Type 0 where
   pub from : List ℕ
   pub packets : List (List ℕ)
 
--- the bytes that leave the interleaver as the packets' codewords come
+-- the bytes that leave the interleaver while the codewords of the packets enter it
 unfoldable pub bytes_of : Coding → Group → List ℕ
 bytes_of coder group = leaving_all 52 coder.branches (coded_from group.first group.packets)
 
--- their levels
+-- the levels of these bytes
 unfoldable pub group_levels : Coding → Group → List ℕ
 group_levels coder group = levels_of group.first group.from (bytes_of coder group)
 
--- the segments of a group's levels: a field sync, where it stands there, whose end are the last twelve symbols given
--- before; and four data segments
+-- The segments of a group's levels: a field sync, if one stands before the group, and four data segments. The field
+-- sync ends with the last twelve symbols given before.
 abbrev pub sent_segments : List ℤ → (sync second : Bool) → List ℕ → List (List ℤ)
 sent_segments last sync second zs = (if sync then field_sync second last ∷ [] else []) ++ four_segments zs 0
 
@@ -55,7 +55,7 @@ sent_segments last sync second zs = (if sync then field_sync second last ∷ [] 
 unfoldable pub air_segments : Coding → Group → List (List ℤ)
 air_segments coder group = sent_segments coder.last group.sync group.second (group_levels coder group)
 
--- the coder behind the group
+-- the coder after the group
 unfoldable pub after_group : Coding → Group → Coding
 after_group coder group = record {
   states = states_after group.first group.from (bytes_of coder group);
@@ -63,13 +63,13 @@ after_group coder group = record {
   branches = after_all 52 coder.branches (coded_from group.first group.packets);
 }
 
--- what a coder gives and holds behind a group: so many segments, whose symbols are the first of these
+-- the coder after the group, which was sent as `count` segments: their symbols are the first ones of `sent`
 pub record IsCoded (old : Coding) (group : Group) (new : Coding) (count : ℕ) (sent : List ℤ) : Type 0 where
   pub coder : new ≡ after_group old group
   pub segments : count ≡ length (air_segments old group)
   pub symbols : take (832 * count) sent ≡ symbols_of (air_segments old group)
 
--- the codewords of groups, one behind the other
+-- the codewords of groups, one after another
 abbrev pub coded_groups : List Group → List ℕ
 coded_groups groups = flat_map (λ g. coded_from g.first g.packets) groups
 
@@ -86,11 +86,11 @@ stream_coding packets = record {
   branches = after_all 52 zero_branches (coded (take (4 * (length packets / 4)) packets));
 }
 
--- what the coder holds is what the packets of a stream leave
+-- the coder is as the whole groups of these packets leave it
 abbrev pub StandsFor : Coding → List (List ℕ) → Type 0
 StandsFor coder packets = coder ≡ stream_coding packets
 
--- the group behind these packets of a stream, coded from these states
+-- the group after these packets of a stream, coded from these states
 pub record IsNextGroup (packets : List (List ℕ)) (from : List ℕ) (group : Group) : Type 0 where
   pub whole : length packets % 4 ≡ 0
   pub four : length group.packets ≡ 4

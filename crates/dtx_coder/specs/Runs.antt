@@ -13,7 +13,7 @@ pub record AreStates (states : List ℕ) : Type 0 where
   pub twelve : length states ≡ 12
   pub small : EachIndex states (λ e. slice_index states e < 8)
 
--- the coder behind groups that it was given
+-- the coder after these groups
 unfoldable pub after_groups : Coding → List Group → Coding
 after_groups coder [] = coder
 after_groups coder (g ∷ gs) = after_groups (after_group coder g) gs
@@ -27,7 +27,7 @@ segments_of_groups coder (g ∷ gs) = air_segments coder g ++ segments_of_groups
 abbrev pub group_packets : List Group → List (List ℕ)
 group_packets groups = flat_map (λ g. g.packets) groups
 
--- groups of four packets, the first one at place s of its field and each further one four places on
+-- groups of four packets: the first stands at place s of its field, and each next one four places on
 unfoldable pub AreInTurn : ℕ → List Group → Type 0
 AreInTurn s [] = ⊤
 AreInTurn s (g ∷ gs) = (g.first ≡ s) × (length g.packets ≡ 4) × AreInTurn (group_place s 1) gs
@@ -37,18 +37,17 @@ unfoldable pub GoOn : List ℕ → Coding → List Group → Type 0
 GoOn q coder [] = ⊤
 GoOn q coder (g ∷ gs) = (g.from ≡ q) × GoOn (after_group coder g).states (after_group coder g) gs
 
--- A run: groups in turn, of which only the first one may have preset states.
+-- A run: groups in turn. Only the first one may have preset states.
 pub record IsGroupRun (s : ℕ) (q : List ℕ) (coder : Coding) (groups : List Group) : Type 0 where
   pub in_turn : AreInTurn s groups
   pub go_on : GoOn q coder groups
 
--- the last twelve symbols before group i of a run whose levels are zs: those of the data segment before it, and before
--- the run those that were given last
+-- the last twelve symbols before group i of a run with the levels zs: those of the data segment before it, and before
+-- the first group those that the coder gave last
 unfoldable pub last_in : List ℤ → List ℕ → ℕ → List ℤ
 last_in last zs i = if i == 0 then last else last_of (segment zs (4 * i - 1))
 
--- group i of the run: data segments 4 * i to 4 * i + 3 of its levels, behind a field sync where one stands before the
--- group
+-- group i of the run: a field sync, if one stands before it, and data segments 4 * i to 4 * i + 3 of the run's levels
 unfoldable pub run_group : List ℤ → List ℕ → ℕ × Group → List (List ℤ)
 run_group last zs p =
     (if p.1.sync then field_sync p.1.second (last_in last zs p.0) ∷ [] else []) ++ four_segments zs (4 * p.0)

@@ -16,7 +16,7 @@ zero_states = replicate 12 0
 unfoldable pub levels : List (List ℕ) → List ℕ
 levels packets = levels_of 0 zero_states (whole_groups packets)
 
--- the states of the coders behind the whole groups
+-- the states of the coders after the whole groups
 unfoldable pub states : List (List ℕ) → List ℕ
 states packets = states_after 0 zero_states (whole_groups packets)
 
@@ -32,7 +32,7 @@ four_segments zs n = map (segment zs) (range_with_len n 4)
 unfoldable pub last_of : List ℤ → List ℤ
 last_of symbols = drop 820 symbols
 
--- what stands for them before the first segment of all: -7, twelve times (the profile's own)
+-- the last twelve symbols before the first segment of all: -7, twelve times (the profile's own)
 unfoldable pub no_last : List ℤ
 no_last = replicate 12 (negsuc 6)
 
@@ -54,10 +54,10 @@ group_segments packets u = sync_before packets u ++ four_segments (levels packet
 unfoldable pub a53 : List (List ℕ) → List (List ℤ)
 a53 packets = flat_map (group_segments packets) (range_with_len 0 (length packets / 4))
 
--- segments, symbol by symbol
+-- the symbols of segments, one after another
 abbrev pub symbols_of : List (List ℤ) → List ℤ
 symbols_of segments = flat_map (λ s. s) segments
 
--- the symbols of a stream, one behind the other
+-- the symbols of a stream, one after another
 unfoldable pub a53_symbols : List (List ℕ) → List ℤ
 a53_symbols packets = symbols_of (a53 packets)

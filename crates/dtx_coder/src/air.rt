@@ -1,4 +1,4 @@
-//! What a group is sent as.
+//! The segments as which a group is sent.
 
 ghost use Rattle.std.specs.Prelude.{◌≡◌, ◌+◌, ◌-◌, ◌*◌, ◌%◌, ◌<◌, ◌≤◌, [], ◌++◌, if◌then◌else◌, drop, length, take};
 ghost use Rattle.dtx_trellis.specs.Groups.{levels_of, states_after};
@@ -15,7 +15,7 @@ pub const AIR_SEGMENTS: u8 = 5;
 /// How many symbols they have.
 pub const AIR_SYMBOLS: usize = 4160;
 
-/// The segments of a group, of 832 symbols each. What stands behind the last of them isn't specified.
+/// The segments of a group, of 832 symbols each. The symbols after the last segment are unspecified.
 #[derive(Drop)]
 pub struct Air {
     /// How many segments there are.
@@ -35,7 +35,8 @@ impl Air {
         }
     }
 
-    /// No segments, but for a field sync where `sync` is set.
+    /// Empties the value, and adds a field sync if `sync` is set: that of a second field if `second` is set. The field
+    /// sync ends with the symbols `last`.
     pub(crate) fn begin(&mut self, sync: bool, second: bool, last: &[i8; PRECODE])
         ensures segments { self.new.segments ≡ (if sync then 1 else 0) }
         ensures symbols { take (SEGMENT * self.new.segments) self.new.symbols
@@ -48,8 +49,8 @@ impl Air {
         }
     }
 
-    /// Adds the four data segments of a group's interleaved bytes, the first at place `first` of its field. The coders
-    /// begin in the states that they have, and keep those behind the group.
+    /// Adds the four data segments of a group's interleaved bytes. The first one stands at place `first` of its field.
+    /// The trellis coders start in the states that they have, and end in those after the group.
     pub(crate) fn add_group(&mut self, twelve: &mut Twelve, first: u16, bytes: &[u8; GROUP_BYTES])
         requires room { self.old.segments < 2 }
         requires in_field { first < FIELD_PACKETS }

@@ -21,25 +21,25 @@ use std::alloc::{AllocError, Global};
 use std::marker::Model;
 
 /// How many packets are interleaved at once, where speed counts: a sixth of a field. Their codewords are whole turns
-/// over the branches, and long enough that each branch takes its bytes by copies.
+/// over the branches, and long enough that each branch moves its bytes by block copies.
 pub const BATCH_PACKETS: usize = 52;
 
 /// How many bytes their codewords have.
 pub const BATCH_BYTES: usize = CODEWORD * BATCH_PACKETS;
 
-/// Codes the packets of a stream, four at a time, to the symbols of their segments (ATSC A/53 Part 2).
-/// It is seen as the states of its twelve trellis coders, the last twelve symbols that it gave, and the interleaver's
+/// Codes the packets of a stream, four at a time, to the symbols of their segments (ATSC A/53 Part 2). Contracts see
+/// the value as the states of its twelve trellis coders, the last twelve symbols that it gave, and the interleaver's
 /// branches.
 ///
-/// `group` does all at once. Where no group's states depend on what comes behind it, many packets may be interleaved
-/// by one call, and their groups then sent one by one: what comes out is the same (`laws::batches`).
+/// `group` does all for one group. It is faster to interleave many packets by one call of `interleave`, and then to
+/// `send` their groups one by one. The result is the same (`laws::batches`). This needs that no group's states depend
+/// on later packets.
 #[derive(Drop)]
 pub struct Coder {
     outer: OuterCoding,
     sender: Sender,
-    /// What the last group became on its way: its codewords, one behind the other, in whose place the bytes that left
-    /// the interleaver have come. They stand here since each group writes all of them anew, so that none has to clear
-    /// them before.
+    /// The bytes of the last group: its codewords, one after another, which the bytes that left the interleaver then
+    /// replaced. They are kept here so that no call has to clear them first: each group writes all of them.
     bytes: [u8; GROUP_BYTES],
 }
 
@@ -58,14 +58,15 @@ impl Model for Coder {
 }
 
 impl Coder {
-    /// All coders in state 0, zeros in every branch, and -7 as each of the last twelve symbols.
+    /// A new coder: all trellis coders in state 0, zeros in every branch, and -7 as each of the last twelve symbols.
+    /// The only error is out of memory.
     pub fn new(alloc: Global) -> Result<Coder, AllocError>
         ensures { IfOk result (λ coder. coder ≡ new_coding) }
     {
         Coder::sharing(alloc, &Tables::new(alloc)?)
     }
 
-    /// The same, by tables that others may share.
+    /// A new coder, which uses tables that others may share. The only error is out of memory.
     pub fn sharing(alloc: Global, tables: &Tables) -> Result<Coder, AllocError>
         ensures { IfOk result (λ coder. coder ≡ new_coding) }
     {
@@ -79,8 +80,8 @@ impl Coder {
         })
     }
 
-    /// What every coder holds, whatever was done with it: branch i of the interleaver's 52 has 4 * i bytes, there are
-    /// twelve states, each below 8, and twelve last symbols.
+    /// What holds of every coder. Branch i of the interleaver's 52 has 4 * i bytes. There are twelve states, each below
+    /// 8, and twelve last symbols.
     pub fn known(&self)
         ensures branches { HasWidths BRANCHES (spreading BRANCH_STEP) self.now.branches }
         ensures states { AreStates self.now.states }
@@ -100,16 +101,17 @@ impl Coder {
         self.sender.twelve.states()
     }
 
-    /// The next byte goes to branch 0 of the interleaver. All else stays, the branches' bytes too.
+    /// Makes the next byte go to branch 0 of the interleaver. All else stays, the branches' bytes too.
     pub fn align(&mut self)
         ensures { self.new ≡ aligned_coding self.old }
     {
         self.outer.align();
     }
 
-    /// Codes the four packets at the places `first` to `first` + 3 of a first or a second field. It codes them from the
-    /// states of `preset`, or else from those that the last group left. Gives their four data segments, where `sync` is
-    /// set behind a field sync that ends with the last twelve symbols given before.
+    /// Codes the four packets at the places `first` to `first` + 3 of a field, which is a second field if `second` is
+    /// set. The trellis coders start in the states `preset`, or where there are none, in those that the last group
+    /// left. `air` is set to the four data segments. If `sync` is set, a field sync stands before them, which ends with
+    /// the last twelve symbols given before.
     pub fn group(
         &mut self,
         first: u16,
@@ -136,9 +138,9 @@ impl Coder {
             .send(first, second, &self.bytes, preset, sync, air);
     }
 
-    /// Sets `bytes` to those that leave the interleaver as the codewords of whole groups come, 207 for each packet. The
-    /// first packet stands at place `first` of its field, and all stand in this field. The states and the last symbols
-    /// stay: these groups are to be sent, one after another, before more are interleaved.
+    /// Interleaves the codewords of whole groups, and sets `bytes` to what leaves the interleaver meanwhile, 207 bytes
+    /// for each packet. The first packet stands at place `first` of its field, and all stand in this field. The states
+    /// and the last symbols stay. So the caller sends these groups, in order, before it interleaves more.
     pub fn interleave(&mut self, first: u16, packets: &[[u8; PACKET]], bytes: &mut [u8])
         requires whole { length packets.now % GROUP_PACKETS ≡ 0 }
         requires in_field { first + length packets.now ≤ FIELD_PACKETS }
@@ -148,7 +150,7 @@ impl Coder {
         interleave_packets(&mut self.outer, first as usize, packets, bytes);
     }
 
-    /// Sends a group whose packets have left the interleaver as these bytes, as `group` does. The branches stay.
+    /// Sends a group that has left the interleaver as these bytes. It does what `group` does, but the branches stay.
     pub fn send(
         &mut self,
         first: u16,
@@ -174,7 +176,7 @@ impl Coder {
     }
 }
 
-/// An array has its length.
+/// The array has twelve symbols.
 fn twelve_symbols(last: &[i8; PRECODE])
     ensures { length last.now ≡ PRECODE }
 {}

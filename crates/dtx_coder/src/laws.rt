@@ -27,8 +27,8 @@ pub fn nothing_given()
     ensures segments { a53 [] ≡ [] }
 {}
 
-/// A coder that stands for some packets stands, behind their next group, for these packets too, and gives the segments
-/// by which the stream is longer.
+/// A coder that stands for some packets is given their next group. Then it stands for all of these packets, and has
+/// given the segments by which the stream is longer.
 pub fn next_group()
     ensures stands { (coder : Coding) (packets : List (List ℕ)) (group : Group) → StandsFor coder packets
         → IsNextGroup packets coder.states group
@@ -38,7 +38,7 @@ pub fn next_group()
         → a53 (packets ++ group.packets) ≡ a53 packets ++ air_segments coder group }
 {}
 
-/// The segments of a stream begin with those of its first groups, and packets behind the last whole group add none.
+/// The segments of a stream begin with those of its first groups. Packets after the last whole group add none.
 pub fn fronts()
     ensures front { (packets : List (List ℕ)) (u : ℕ) → GROUP_PACKETS * u ≤ length packets
         → a53 packets ≡ a53 (take (GROUP_PACKETS * u) packets)
@@ -47,8 +47,8 @@ pub fn fronts()
         → a53 packets ≡ a53 (take (GROUP_PACKETS * (length packets / GROUP_PACKETS)) packets) }
 {}
 
-/// From group u on the coders go on from the states that the groups before it leave. So the segments of group u are
-/// those of its own 828 bytes from these states.
+/// The coders start group u in the states that the groups before it leave. So the data segments of group u follow from
+/// these states and its own 828 bytes.
 pub fn goes_on()
     ensures levels { (packets : List (List ℕ)) (u : ℕ) → GROUP_PACKETS * u ≤ length packets
         → levels packets ≡ levels (take (GROUP_PACKETS * u) packets)
@@ -73,17 +73,17 @@ pub fn counts()
     ensures symbols { (packets : List (List ℕ)) → length (a53_symbols packets) ≡ SEGMENT * length (a53 packets) }
 {}
 
-/// Behind an align, whatever the coder held, the bytes that leave the interleaver are those of the groups given since,
-/// each at the place of the map. Where the map's source lies before these groups, a byte leaves that the branches held.
+/// After an align, whatever the coder held, the interleaver's map of places says which byte leaves. It is a byte of the
+/// groups given since. Where the map's source lies before these groups, it is a byte that the branches held.
 pub fn behind_align()
     ensures { (coder : Coding) (groups : List Group) → HasWidths BRANCHES (spreading BRANCH_STEP) coder.branches
         → IsInterleavedBehind BRANCHES BRANCH_STEP coder.branches.lists (coded_groups groups)
         (bytes_of_groups (aligned_coding coder) groups) }
 {}
 
-/// Behind an align, whatever the coder held, the bytes that leave as packet 52 and each later one come are those of the
-/// packets given since. No byte from before is among them. So it is of the 828 bytes of each group whose first packet
-/// is packet 52 since or a later one.
+/// After an align, whatever the coder held, the first 52 packets flush out the old bytes. The bytes that leave from
+/// packet 52 on are those of the packets given since. The same holds of each group whose first packet is packet 52
+/// since the align, or a later one.
 pub fn flushed()
     ensures bytes { (coder : Coding) (groups : List Group) (n : ℕ)
         → HasWidths BRANCHES (spreading BRANCH_STEP) coder.branches → CODEWORD * FLUSHING_PACKETS ≤ n
@@ -96,7 +96,8 @@ pub fn flushed()
         (GROUP_BYTES * u + GROUP_BYTES) }
 {}
 
-/// A group of four packets has five segments where a field sync stands before it, else four, of 832 symbols each.
+/// A group of four packets is sent as five segments where a field sync stands before it, and else as four. Each has 832
+/// symbols.
 pub fn group_counts()
     ensures segments { (coder : Coding) (group : Group)
         → length (air_segments coder group) ≡ (if group.sync then AIR_SEGMENTS else GROUP_PACKETS) }
@@ -105,8 +106,8 @@ pub fn group_counts()
         ≡ SEGMENT) }
 {}
 
-/// What stays of a coder's parts with each group of four packets: twelve states, twelve last symbols, branches of their
-/// widths.
+/// The sizes of a coder's parts stay with each group of four packets: twelve states, twelve last symbols, and branches
+/// of their widths.
 pub fn kept()
     ensures states { (coder : Coding) (group : Group) → AreStates (after_group coder group).states }
     ensures last { (coder : Coding) (group : Group) → length group.packets ≡ GROUP_PACKETS

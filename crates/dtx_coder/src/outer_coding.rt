@@ -29,7 +29,7 @@ pub(crate) type OuterCoding = Outer<
     BRANCH_STEP,
 >;
 
-/// By these tables, with zeros in every branch.
+/// The outer coding by these tables, with zeros in every branch. The only error is out of memory.
 pub(crate) fn new_outer_coding(alloc: Global, tables: &Tables) -> Result<OuterCoding, AllocError>
     ensures { IfOk result (λ outer. outer ≡ record { white = randomizer_bytes; branches = zero_branches }) }
 {
@@ -40,8 +40,8 @@ pub(crate) fn new_outer_coding(alloc: Global, tables: &Tables) -> Result<OuterCo
     ))
 }
 
-/// Sets `bytes` to those that leave the interleaver as the codewords of four packets come, the first of them packet
-/// `first` of its field. All is done where the bytes stand.
+/// Codes and interleaves four packets, the first of which is packet `first` of its field. `bytes` is set to what leaves
+/// the interleaver meanwhile. Codewords and interleaved bytes are made in place.
 pub(crate) fn code_packets(
     outer: &mut OuterCoding,
     first: usize,
@@ -67,8 +67,8 @@ pub(crate) fn code_packets(
     outer.interleave(&mut bytes[..]);
 }
 
-/// Sets `bytes` to those that leave the interleaver as the codewords of packets come, the first of them packet `first`
-/// of its field. They go through the interleaver together.
+/// Codes and interleaves packets, the first of which is packet `first` of its field. `bytes` is set to what leaves the
+/// interleaver meanwhile. All codewords go through the interleaver together.
 pub(crate) fn interleave_packets(
     outer: &mut OuterCoding,
     first: usize,
@@ -88,7 +88,7 @@ pub(crate) fn interleave_packets(
     outer.interleave(bytes);
 }
 
-/// Sets `words` to the codewords of packets, one behind the other, the first of them packet `first` of its field.
+/// Sets `words` to the codewords of packets, one after another. The first packet is packet `first` of its field.
 fn encode_packets(outer: &OuterCoding, first: usize, packets: &[[u8; PACKET]], words: &mut [u8])
     requires white { outer.now.white ≡ randomizer_bytes }
     requires whole { length packets.now % GROUP_PACKETS ≡ 0 }
@@ -104,7 +104,7 @@ fn encode_packets(outer: &OuterCoding, first: usize, packets: &[[u8; PACKET]], w
     }
 }
 
-/// Those of four packets.
+/// The same for four packets.
 #[inline(always)]
 fn encode_group(
     outer: &OuterCoding,
@@ -126,7 +126,7 @@ fn encode_group(
     outer.encode_four(first, &heads, words);
 }
 
-/// The data of a packet, which stand behind its sync byte.
+/// The data of a packet: its bytes after the sync byte.
 #[inline(always)]
 fn data_of(packet: &[u8; PACKET]) -> &[u8]
     ensures behind { result.now ≡ drop 1 packet.now }

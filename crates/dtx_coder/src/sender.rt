@@ -1,4 +1,4 @@
-//! What is made of a group's bytes when they have left the interleaver.
+//! From a group's bytes that have left the interleaver to its segments.
 
 ghost use Rattle.std.specs.Prelude.{◌≡◌, ◌%◌, ◌<◌, IsTrue};
 ghost use Rattle.std.specs.Option.{unwrap_or};
@@ -17,8 +17,9 @@ pub(crate) struct Sender {
 }
 
 impl Sender {
-    /// Gives the segments of the bytes of a group at place `first` of a first or a second field, coded from the states
-    /// of `preset`, or else from those that the last group left, as `Coder::group` does.
+    /// Codes the interleaved bytes of a group to its segments, as `Coder::group` does. The group stands at place
+    /// `first` of a field, which is a second field if `second` is set. The coders start in the states `preset`, or
+    /// where there are none, in those that the last group left.
     pub(crate) fn send(
         &mut self,
         first: u16,
@@ -50,7 +51,7 @@ impl Sender {
     }
 }
 
-/// Puts the coders in the preset states, where there are some.
+/// Sets the coders to the preset states, if there are any.
 fn start_from(twelve: &mut Twelve, preset: Option<States>)
     ensures { twelve.new ≡ unwrap_or preset twelve.old }
 {

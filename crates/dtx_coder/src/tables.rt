@@ -1,4 +1,4 @@
-//! The tables of coders.
+//! The tables that coders use.
 
 ghost use Rattle.std.specs.Prelude.{◌≡◌};
 ghost use Rattle.dtx_whiten.specs.Randomizer.{randomizer_bytes};
@@ -20,7 +20,7 @@ pub struct Tables {
 }
 
 impl Tables {
-    /// The tables are made here. The only error is out of memory.
+    /// Makes the tables. The only error is out of memory.
     pub fn new(alloc: Global) -> Result<Tables, AllocError> {
         Ok(Tables {
             whitener: Rc::new(alloc, Atsc::new(alloc)?)?,

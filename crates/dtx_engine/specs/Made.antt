@@ -15,7 +15,7 @@ only bytes = record { first = bytes; second = [] }
 abbrev pub both : List ℕ → List ℕ → Made
 both first second = record { first = first; second = second }
 
--- one behind the other, in each output
+-- for each output, the bytes of a and then those of b
 abbrev pub joined : Made → Made → Made
 joined a b = record { first = a.first ++ b.first; second = a.second ++ b.second }
 
@@ -23,7 +23,7 @@ joined a b = record { first = a.first ++ b.first; second = a.second ++ b.second 
 abbrev pub AreFrontsOf : Made → Made → Type 0
 AreFrontsOf front whole = IsFrontOf front.first whole.first × IsFrontOf front.second whole.second
 
--- the outputs of these names, of which there is one or there are two
+-- the outputs of these names, which are one or two
 abbrev pub outputs_of : List (List ℕ) → Made → Outputs
 outputs_of [] made = []
 outputs_of (first ∷ []) made = (first, made.first) ∷ []

@@ -1,5 +1,5 @@
--- Laws of outputs: what is gathered is written in part. They stand in specs/, since the ghost members of an impl, a
--- trait's laws, can cite lemmas from there only.
+-- Laws of outputs: where bytes are gathered, each file has a prefix. They stand in specs/, since the proofs of a
+-- trait's laws in an impl can cite lemmas from there only.
 use Rattle.std.specs.Prelude.{◌≢◌, ℕ, List, [], ◌∷◌, Option}
 use Rattle.std.proofs.Common.{inr}
 use Rattle.dtx_outside.specs.Shelf.{Files}

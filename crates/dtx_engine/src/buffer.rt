@@ -1,10 +1,10 @@
-// Bytes that an engine has made, and lends.
+// Bytes that an engine has made and lends to its caller.
 ghost use Rattle.std.specs.Prelude.{◌≡◌, ◌≤◌, ◌+◌, ◌++◌, [], length, IfOk};
 
 use std::alloc::{AllocError, Global};
 use std::marker::Model;
 
-/// Bytes, of which there are at most `N`. Its memory is taken once, and left as it comes.
+/// At most `N` bytes. Its memory is allocated once, and not cleared.
 #[derive(Drop)]
 pub struct Buffer<const N: usize> {
     bytes: Vec<u8>,
@@ -37,7 +37,7 @@ impl<const N: usize> Buffer<N> {
         self.bytes.clear();
     }
 
-    /// Puts bytes behind those that it holds.
+    /// Appends bytes.
     pub fn push(&mut self, bytes: &[u8])
         requires { length self.old + length bytes.now ≤ N }
         ensures { self.new ≡ self.old ++ bytes.now }
@@ -45,7 +45,7 @@ impl<const N: usize> Buffer<N> {
         let _ = self.bytes.extend_from_slice(bytes);
     }
 
-    /// What it holds.
+    /// The bytes that it holds.
     pub fn bytes(&self) -> &[u8]
         ensures { result.now ≡ self.now }
     {

@@ -9,17 +9,17 @@ ghost use Rattle.dtx_engine.specs.Recipe.{IsAnswerOf, Recipe};
 use dtx_meaning::{Status, of_read};
 use dtx_outside::Shelf;
 
-/// An input of a command: its name, and its number among the inputs, in the order of the words that name them.
+/// An input of a command: its name, and its number among the command's inputs, in the order of the words.
 #[derive(Clone, Copy)]
 pub struct Input<'a> {
     /// Its name.
     pub name: &'a str,
-    /// Its number, which `Absent` tells.
+    /// Its number, which `Absent` carries.
     pub number: u8,
 }
 
-/// Asks for one byte of the input of that number, before any output is begun. So an input that isn't there or can't be
-/// read is met then: the error is `Absent` with its number, `ReadFault` or `Memory`.
+/// Reads one byte of the input of that number. A command does so before it begins any output. So an absent or
+/// unreadable input leaves all outputs as they were. The error is `Absent` with the number, `ReadFault` or `Memory`.
 #[tactic(auto, using(crate::proofs::AnswersLemmas::read_answers))]
 pub fn ask_for<S: Shelf>(shelf: &mut S, which: u8, input: &str) -> Result<(), Status>
     ensures told { IfSome (S.files shelf.old) (λ held. IsAsked (files.get held input.now) which result) }

@@ -1,4 +1,4 @@
-// Where a command writes: one output, or two side by side.
+// Where a command writes: one output, or two.
 ghost use Rattle.std.specs.Prelude.{◌≡◌, ◌≢◌, ℕ, List, [], ◌∷◌, Option, IfOk};
 ghost use Rattle.dtx_outside.specs.Counts.{HasGone};
 ghost use Rattle.dtx_outside.specs.Shelf.{Files};
@@ -11,18 +11,19 @@ use dtx_meaning::Status;
 use dtx_outside::{Output, PIECE, Shelf};
 use std::alloc::{AllocError, Global};
 
-/// The outputs of a command, which are written side by side.
+/// The outputs of a command: one, or two that are written side by side.
 pub trait Outlet {
     /// Their names, in the order in which they are begun.
     ghost names: { Self → List (List ℕ) };
 
-    /// Since the start this was given to be written: each file has a prefix of its bytes, and the value the rest.
+    /// Relates the value to the files at the start, the bytes given since, and the files now. Each output now has a
+    /// prefix of its bytes, and the value holds the rest.
     ghost gathered: { Self → Option Files → Made → Option Files → Type 0 };
 
     /// Nothing was given, and the names differ.
     ghost fresh: { Self → Type 0 };
 
-    /// Begins them all.
+    /// Begins all outputs.
     fn begin<S: Shelf>(&mut self, shelf: &mut S) -> Result<(), Status>
         requires { fresh self.old }
         ensures begun { (start : Option Files) → S.files shelf.old ≡ start
@@ -31,7 +32,7 @@ pub trait Outlet {
         ensures fault { IsFaultAlone result }
         ensures gone { HasGone (S.counts shelf.old) (S.counts shelf.new) (blame_of_answer result) };
 
-    /// Takes bytes for the first, and for the second where there is one.
+    /// Takes bytes for the first output, and for the second if there is one.
     fn write<S: Shelf>(&mut self, shelf: &mut S, first: &[u8], second: &[u8]) -> Result<(), Status>
         ensures written { (start : Option Files) (given : Made) → gathered self.old start given (S.files shelf.old)
             → IsPut (names self.old) start (joined given (both first.now second.now)) result (gathered self.new)
@@ -40,7 +41,7 @@ pub trait Outlet {
         ensures fault { IsFaultAlone result }
         ensures gone { HasGone (S.counts shelf.old) (S.counts shelf.new) (blame_of_answer result) };
 
-    /// Writes what is gathered.
+    /// Writes all bytes that are gathered to the files.
     fn flush<S: Shelf>(&mut self, shelf: &mut S) -> Result<(), Status>
         ensures flushed { (start : Option Files) (given : Made) → gathered self.old start given (S.files shelf.old)
             → IsAllPut (names self.old) start given result (S.files shelf.new) }
@@ -48,10 +49,10 @@ pub trait Outlet {
         ensures fault { IsFaultAlone result }
         ensures gone { HasGone (S.counts shelf.old) (S.counts shelf.new) (blame_of_answer result) };
 
-    /// There is one at least.
+    /// There is at least one output.
     ghost some: { (w : Self) → names w ≢ [] };
 
-    /// What was given is written in part.
+    /// Each output has a prefix of what was given for it.
     ghost part: { (w : Self) (start : Option Files) (made : Made) (now : Option Files) → gathered w start made now
         → ArePartWritten (outputs_of (names w) made) start now };
 }
@@ -64,8 +65,8 @@ pub struct One<'a> {
 }
 
 impl<'a> One<'a> {
-    /// The output of that name, of which nothing was given. It takes the memory of one piece, and the only error is out
-    /// of memory. (Match its answer: `?` gets no proof here.)
+    /// The output of that name, to which nothing was given. It allocates the memory of one piece. The only error is out
+    /// of memory. (Use `match` on the result: with `?` the proof is not found.)
     pub fn new(alloc: Global, name: &'a str) -> Result<One<'a>, AllocError>
         ensures { IfOk result (λ w. ⟦<One<'a> as Outlet>⟧.fresh w × (⟦<One<'a> as Outlet>⟧.names w ≡ name.now ∷ [])) }
     {
@@ -113,11 +114,11 @@ impl<'a> Outlet for One<'a> {
     ghost part = { λ w start made now is. part_of_one w.name.now start made w.output now is };
 }
 
-/// How many bytes are gathered for each of two outputs. These are few: the whole pages of a large piece go to its file
-/// at once, and only the rest of a page waits.
+/// How many bytes are gathered at most for each of two outputs. Few are enough: the whole pages of a large piece go
+/// straight to the file, and only the rest of a page is gathered.
 const GATHERED: usize = 16_384;
 
-/// Two outputs of two names.
+/// Two outputs, under two names.
 #[derive(Drop)]
 pub struct Two<'a> {
     first: &'a str,
@@ -127,8 +128,8 @@ pub struct Two<'a> {
 }
 
 impl<'a> Two<'a> {
-    /// The outputs of these names, of which nothing was given. Little memory is taken, and the only error is out of
-    /// memory. (Match its answer: `?` gets no proof here.)
+    /// The outputs of these names, to which nothing was given. It allocates little memory. The only error is out of
+    /// memory. (Use `match` on the result: with `?` the proof is not found.)
     pub fn new(alloc: Global, first: &'a str, second: &'a str) -> Result<Two<'a>, AllocError>
         requires { first.now ≢ second.now }
         ensures { IfOk result (λ w. ⟦<Two<'a> as Outlet>⟧.fresh w

@@ -1,4 +1,4 @@
--- What a command is that makes one output of two inputs.
+-- The job of a command that makes one output from two inputs.
 use Rattle.std.specs.Prelude.{ℕ, List, [], ◌∷◌}
 use Rattle.dtx_meaning.specs.Meaning.{Meaning, refused}
 use Rattle.dtx_meaning.specs.declared.status.Status.TheVariants.{Usage}
@@ -8,17 +8,17 @@ use Rattle.dtx_words.specs.declared.rows.Command.{Command}
 use Rattle.dtx_forms.specs.Job.{Job, unless_same}
 use Rattle.dtx_forms.specs.OfWords.{three_same}
 
--- with files of these names: equal ones are refused, and of others it is what is given
+-- the meaning with files of these names: a refusal where two are equal, and else `means`
 abbrev pub combined : (List ℕ → List ℕ → List ℕ → Files → Meaning) → List ℕ → List ℕ → List ℕ → Files → Meaning
 combined means first second output held =
     unless_same (repeated (first ∷ second ∷ output ∷ [])) (means first second output held)
 
--- the words are `.. A B OUT`
+-- the meaning of the words `.. A B OUT`
 abbrev pub combine_meaning : (List ℕ → List ℕ → List ℕ → Files → Meaning) → List (List ℕ) → Files → Meaning
 combine_meaning means (verb ∷ first ∷ second ∷ output ∷ []) held = combined means first second output held
 combine_meaning means words held = refused Usage
 
--- the command of these words
+-- the job of these words
 abbrev pub combine_job : Command → (List ℕ → List ℕ → List ℕ → Files → Meaning) → Job
 combine_job command means =
     record { command = command; means = combine_meaning means; same = three_same; inputs = 2 }

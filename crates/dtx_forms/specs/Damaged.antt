@@ -1,10 +1,10 @@
--- What is made of an input whose bytes have damage laid over them as they are read.
+-- The recipe of an input over whose bytes damage is laid as they are read.
 use Rattle.std.specs.Prelude.{true, List}
 use Rattle.dtx_engine.specs.Recipe.{Recipe}
 use Rattle.dtx_make.specs.Hurt.{hurt}
 use Rattle.dtx_plan.specs.declared.damage.Damage.{Damage}
 
--- what is made of the damaged bytes; the units before they are damaged are all allowed
+-- the recipe over the damaged bytes, which allows each unit as it is before the damage
 abbrev pub damaged_making : List Damage → Recipe → Recipe
 damaged_making damage recipe = record {
   allows = λ _ _. true;

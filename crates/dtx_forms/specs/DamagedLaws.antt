@@ -1,5 +1,5 @@
--- Laws of what is made of damaged bytes. They stand in specs/, since the ghost members of an impl, a trait's laws, can
--- cite lemmas from there only.
+-- Laws of what is made of damaged bytes. They stand in specs/, since the proofs of a trait's laws in an impl can cite
+-- lemmas from there only.
 use Rattle.std.proofs.Common.{◌≡◌, ℕ, ◌%◌, List, [], ◌++◌, length, sym, ap, subst, ◌∙◌}
 use Rattle.dtx_engine.specs.Made.{only, AreFrontsOf}
 use Rattle.dtx_engine.specs.Recipe.{Recipe}
@@ -8,12 +8,12 @@ use Rattle.dtx_make.proofs.LaidLemmas.{hurt-append, hurt_none, length-hurt}
 use Rattle.dtx_plan.specs.declared.damage.Damage.{Damage}
 use Rattle.dtx_forms.specs.Damaged.{damaged_making}
 
--- of no bytes nothing is made
+-- nothing is made of no bytes
 pub hurt_starts : (damage : List Damage) (recipe : Recipe) → recipe.made [] ≡ only []
     → (damaged_making damage recipe).made [] ≡ only []
 hurt_starts damage recipe starts = ap recipe.made (hurt_none damage) ∙ starts
 
--- what is made of first bytes is a prefix of what is made of more
+-- what is made of some bytes is a prefix of what is made when more follow
 pub hurt_grows : (damage : List Damage) (recipe : Recipe) (unit : ℕ)
     → ((a b : List ℕ) → length a % unit ≡ 0 → AreFrontsOf (recipe.made a) (recipe.made (a ++ b)))
     → (a b : List ℕ) → length a % unit ≡ 0

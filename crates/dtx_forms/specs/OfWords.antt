@@ -26,13 +26,13 @@ abbrev pub three_same : List (List ℕ) → Option Bool
 three_same (verb ∷ first ∷ second ∷ output ∷ []) = Some (is_some (repeated (first ∷ second ∷ output ∷ [])))
 three_same words = None
 
--- where two words are numbers in their ranges
+-- nothing, unless both words are numbers in their ranges
 abbrev pub numbers_same : Option ℕ → Option ℕ → Bool → Option Bool
 numbers_same None second same = None
 numbers_same (Some first) None same = None
 numbers_same (Some first) (Some second) same = Some same
 
--- where one is
+-- nothing, unless the word is a number in its range
 abbrev pub number_same : Option ℕ → Bool → Option Bool
 number_same None same = None
 number_same (Some number) same = Some same
@@ -56,8 +56,8 @@ make_same words = None
 
 -- ---- the answer
 
--- Words that don't fit are answered so, and no others. Of words that fit, equal names are refused as such unless memory
--- runs out, and no others are. An input that isn't there is one of those that they name.
+-- Words that don't fit are answered `Usage`, and no others are. Words that fit are answered `Same` exactly where two
+-- names are equal, unless memory runs out. `Absent` has the number of an input that they name.
 abbrev pub IsOfWords : Option Bool → ℕ → Status → Type 0
 IsOfWords None inputs status = status ≡ Usage
 IsOfWords (Some same) inputs status = IsOfInputs same inputs status

@@ -1,4 +1,4 @@
--- In which units the commands read their inputs, but for those of the outer coding of DVB, and how many units an input
+-- The units in which the commands read their inputs, except those of the DVB outer coding, and how many units an input
 -- has at most (the profile's own limits).
 use Rattle.dtx_engine.specs.declared.engine.Shape.{Shape}
 
@@ -10,7 +10,7 @@ packets = record { unit = 188; units = 348; group = 4; limit = 624000000 }
 abbrev pub coded_packets : Shape
 coded_packets = record { unit = 188; units = 208; group = 4; limit = 624000000 }
 
--- packets of 188 bytes, each for itself
+-- packets of 188 bytes, each a group by itself
 abbrev pub single_packets : Shape
 single_packets = record { unit = 188; units = 348; group = 1; limit = 624000000 }
 
@@ -18,6 +18,6 @@ single_packets = record { unit = 188; units = 348; group = 1; limit = 624000000 
 abbrev pub segments : Shape
 segments = record { unit = 832; units = 313; group = 1; limit = 626000000 }
 
--- bytes, each for itself
+-- single bytes, each a group by itself
 abbrev pub single_bytes : Shape
 single_bytes = record { unit = 1; units = 262144; group = 1; limit = 520832000000 }

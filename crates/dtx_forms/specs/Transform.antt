@@ -1,5 +1,5 @@
--- What a command is that makes OUT of IN alone, where the input has units of a shape, and a recipe says what is made of
--- them.
+-- The job of a command that makes OUT from IN alone. The shape says in which units IN is read, and the recipe what is
+-- made of them.
 use Rattle.std.specs.Prelude.{ℕ, List, [], ◌∷◌}
 use Rattle.dtx_engine.specs.Recipe.{Recipe, transformed}
 use Rattle.dtx_engine.specs.declared.engine.Shape.{Shape}
@@ -10,22 +10,22 @@ use Rattle.dtx_words.specs.declared.rows.Command.{Command}
 use Rattle.dtx_forms.specs.Job.{Job}
 use Rattle.dtx_forms.specs.OfWords.{dvb_same, two_same}
 
--- the words are `.. IN OUT`
+-- the meaning of the words `.. IN OUT`
 abbrev pub transform_meaning : Shape → Recipe → List (List ℕ) → Files → Meaning
 transform_meaning shape recipe (verb ∷ input ∷ output ∷ []) held = transformed shape recipe input output held
 transform_meaning shape recipe words held = refused Usage
 
--- the words are `dvb .. IN OUT`
+-- the meaning of the words `dvb .. IN OUT`
 abbrev pub dvb_meaning : Shape → Recipe → List (List ℕ) → Files → Meaning
 dvb_meaning shape recipe (verb ∷ second ∷ input ∷ output ∷ []) held = transformed shape recipe input output held
 dvb_meaning shape recipe words held = refused Usage
 
--- the command of the words `.. IN OUT`
+-- the job of the words `.. IN OUT`
 abbrev pub transform_job : Command → Shape → Recipe → Job
 transform_job command shape recipe =
     record { command = command; means = transform_meaning shape recipe; same = two_same; inputs = 1 }
 
--- and where the command's own word is the second one
+-- the job of the words `dvb .. IN OUT`
 abbrev pub dvb_job : Command → Shape → Recipe → Job
 dvb_job command shape recipe =
     record { command = command; means = dvb_meaning shape recipe; same = dvb_same; inputs = 1 }

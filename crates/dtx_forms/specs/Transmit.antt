@@ -1,5 +1,5 @@
--- What a transmitter makes of its input, the symbols that it sends and its log, where the words are
--- `.. IN ADDRESS DELAY OUT LOG`.
+-- The job of a command of the words `.. IN ADDRESS DELAY OUT LOG`. It makes the symbols that a transmitter sends, and
+-- its log, from its input.
 use Rattle.std.specs.Prelude.{ℕ, List, [], ◌∷◌, Option, Some, None}
 use Rattle.std.specs.FinMap.{get}
 use Rattle.dtx_engine.specs.Recipe.{Recipe, meaning}
@@ -13,14 +13,14 @@ use Rattle.dtx_words.specs.declared.rows.Command.{Command}
 use Rattle.dtx_forms.specs.Job.{Job, unless_same}
 use Rattle.dtx_forms.specs.OfWords.{transmit_same}
 
--- what is meant with these files, where the input has units of this shape, and what is made of them for an address and
--- a delay is a recipe
+-- The meaning with these files. The shape says in which units the input is read, and `sends` gives the recipe for an
+-- address and a delay.
 abbrev pub transmit_at : Shape → (ℕ → ℕ → Recipe) → ℕ → ℕ → List ℕ → List ℕ → List ℕ → Files → Meaning
 transmit_at shape sends address delay input output log held =
     unless_same (repeated (input ∷ output ∷ log ∷ []))
     (meaning shape (sends address delay) 0 (output ∷ log ∷ []) (get held input))
 
--- what is meant where the words of the address and of the delay were read
+-- the meaning once the words of the address and of the delay were read: either may be no number
 abbrev pub transmit_with : Shape → (ℕ → ℕ → Recipe) → Option ℕ → Option ℕ → List ℕ → List ℕ → List ℕ → Files
     → Meaning
 transmit_with shape sends None delay input output log held = refused Usage
@@ -34,7 +34,7 @@ transmit_meaning shape sends (verb ∷ input ∷ address ∷ delay ∷ output �
     transmit_with shape sends (number_in 65535 address) (number_in 4294967295 delay) input output log held
 transmit_meaning shape sends words held = refused Usage
 
--- the command of these words
+-- the job of these words
 abbrev pub transmit_job : Command → Shape → (ℕ → ℕ → Recipe) → Job
 transmit_job command shape sends =
     record { command = command; means = transmit_meaning shape sends; same = transmit_same; inputs = 1 }

@@ -1,4 +1,4 @@
-// `.. IN OUT` where each unit of the input is changed in its place.
+// `.. IN OUT` where each unit of the input is changed in place.
 ghost use Rattle.std.specs.Prelude.{[]};
 ghost use Rattle.dtx_engine.specs.Each.{each_making};
 ghost use Rattle.dtx_engine.specs.Recipe.{IsAnswerOf};
@@ -9,18 +9,18 @@ use crate::transforming::Transforming;
 use dtx_engine::{Change, Each};
 use std::alloc::{AllocError, Global};
 
-/// A change of each unit that a command makes of its one input alone.
+/// What a command of one input does to each unit.
 pub trait Changing: Change + Drop {
     ghost use Rattle.dtx_meaning.specs.declared.status.Status.{Status};
 
     /// The command that it carries out.
     ghost command: { Command };
 
-    /// One that has counted nothing.
+    /// A value that has counted nothing.
     fn new() -> Self
         ensures { Self.tallies result [] };
 
-    /// Its command knows how it may be answered.
+    /// Each answer that can come is one that the command may give.
     ghost knows: { (status : Status)
         → IsAnswerOf (each_making Self.shape Self.allowed Self.changed Self.answer) status → Knows command status };
 }

@@ -14,13 +14,13 @@ use std::alloc::Global;
 
 /// A command that makes one output of two inputs.
 pub trait Combining {
-    /// The command that it is.
+    /// The command.
     ghost command: { Command };
 
-    /// What it means with files of these names, of which the last is neither of the others.
+    /// What the command means with these two inputs and this output. The output's name differs from both inputs'.
     ghost means: { List ℕ → List ℕ → List ℕ → Files → Meaning };
 
-    /// Makes the output of the inputs.
+    /// Makes the output from the inputs. Its name differs from theirs.
     fn combine_apart<S: Shelf>(
         alloc: Global,
         first: &str,
@@ -34,7 +34,7 @@ pub trait Combining {
             (S.files shelf.old) (S.files shelf.new) (S.counts shelf.old) (S.counts shelf.new) };
 }
 
-/// Makes OUT of A and B, where no two of the three names are equal.
+/// Makes OUT from A and B. It refuses equal names.
 pub fn combine<C: Combining, S: Shelf>(alloc: Global, words: &[Word], shelf: &mut S) -> Outcome
     ensures { IsJobPerformed (combine_job C.command C.means) words.now result
         (S.files shelf.old) (S.files shelf.new) (S.counts shelf.old) (S.counts shelf.new) }
@@ -53,7 +53,7 @@ pub fn combine<C: Combining, S: Shelf>(alloc: Global, words: &[Word], shelf: &mu
     }
 }
 
-/// Makes the output of the inputs of these names, where no two of them are equal.
+/// Makes the output from the inputs of these names. It refuses equal names.
 fn combine_files<C: Combining, S: Shelf>(
     alloc: Global,
     first: &str,

@@ -8,7 +8,7 @@ use dtx_make::lay;
 use dtx_meaning::Outcome;
 use dtx_plan::Damages;
 
-/// An engine, and the damage that is laid over the bytes before it takes them.
+/// An engine that is given damaged bytes: the damage is laid over each piece first.
 #[derive(Drop)]
 pub struct Damaged<'a, E> {
     damage: &'a Damages,
@@ -16,7 +16,7 @@ pub struct Damaged<'a, E> {
 }
 
 impl<'a, E: Engine> Damaged<'a, E> {
-    /// The engine, which was given nothing, under this damage.
+    /// Puts an engine that was given nothing under this damage.
     pub fn new(damage: &'a Damages, engine: E) -> Damaged<'a, E>
         requires in_order { AreInOrder damage.now }
         requires fresh { E.stands engine [] }

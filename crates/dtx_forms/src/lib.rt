@@ -1,6 +1,5 @@
-//! What a job is, and the forms that jobs have: one output of one input, what a transmitter sends and logs, and one
-//! output of two inputs. Also the plan and the changes that some of them read, and in which units they read their
-//! inputs.
+//! Jobs and their forms: one output from one input, a transmitter's symbols and log from one input, and one output from
+//! two inputs. Also how a plan or a file of changes is read, and in which units the commands read their inputs.
 #![tactic(auto)]
 
 mod changing;

@@ -1,4 +1,4 @@
-// The plan of a file, and the damage of a file of changes.
+// Reading the file of a plan, and a file of changes.
 ghost use Rattle.std.specs.Prelude.{◌≡◌, ◌<◌, [], length, false, Ok, IfSome, IfOk, IfErr};
 ghost use Rattle.std.specs.FinMap as files;
 ghost use Rattle.dtx_outside.specs.Counts.{HasGone};
@@ -13,15 +13,15 @@ use dtx_outside::{Shelf, fill};
 use dtx_plan::{Damages, Plan, read_changes, read_plan};
 use std::alloc::{AllocError, Global};
 
-/// How many bytes of a plan or a file of changes are read. It is one more than such a file may have, so that a file
-/// that is too long is told from one that isn't.
+/// How many bytes of a plan or a file of changes are kept at most. It is one more than such a file may have, which
+/// shows where a file is too long.
 const SMALL: usize = 16_777_217;
 
 /// How many bytes of it are read at once.
 const PIECE: usize = 65_536;
 
-/// Reads the plan of the input of that number. Its text is that of `dtx_plan::read_plan` (the profile's own). The error
-/// is `Absent` with that number, `Plan` with the rule that is broken, `ReadFault` or `Memory`.
+/// Reads the plan in the input of that number. `dtx_plan::read_plan` says what its text may be (the profile's own). The
+/// error is `Absent` with that number, `Plan` with the rule that is broken, `ReadFault` or `Memory`.
 pub fn plan_in<S: Shelf>(
     alloc: Global,
     shelf: &mut S,
@@ -30,7 +30,7 @@ pub fn plan_in<S: Shelf>(
 ) -> Result<Plan, Status>
     ensures told { IfSome (S.files shelf.old) (λ held. IsPlanRead (files.get held name.now) number result) }
 
-    // Also where the shelf doesn't tell its files.
+    // This holds also where the shelf doesn't tell its files.
     ensures sound { IfOk result IsSound }
     ensures net { IfOk result HasSoundNet }
     ensures refusal { IfErr result (IsPlanRefusal number) }
@@ -46,8 +46,8 @@ pub fn plan_in<S: Shelf>(
     }
 }
 
-/// Reads the damage of the file of changes of that number. Its text is that of `dtx_plan::read_changes` (the profile's
-/// own). It refuses as `plan_in` does.
+/// Reads the damage in the file of changes that is the input of that number. `dtx_plan::read_changes` says what its
+/// text may be (the profile's own). The errors are those of `plan_in`.
 pub fn changes_in<S: Shelf>(
     alloc: Global,
     shelf: &mut S,
@@ -56,7 +56,7 @@ pub fn changes_in<S: Shelf>(
 ) -> Result<Damages, Status>
     ensures told { IfSome (S.files shelf.old) (λ held. IsChangesRead (files.get held name.now) number result) }
 
-    // Also where the shelf doesn't tell its files.
+    // This holds also where the shelf doesn't tell its files.
     ensures sound { IfOk result AreDamages }
     ensures refusal { IfErr result (IsPlanRefusal number) }
     ensures kept { S.files shelf.new ≡ S.files shelf.old }
@@ -71,8 +71,8 @@ pub fn changes_in<S: Shelf>(
     }
 }
 
-/// The bytes of the file of that number, or the first of them where it has more than a plan or a file of changes may
-/// have.
+/// The bytes of the input of that number. Where it has more than a plan or a file of changes may have, only its first
+/// bytes.
 fn small_file<S: Shelf>(
     alloc: Global,
     shelf: &mut S,
@@ -95,8 +95,8 @@ fn small_file<S: Shelf>(
     }
 }
 
-/// Reads the file of that number piece by piece, until it ends or more bytes came than a plan or a file of changes may
-/// have.
+/// Reads the input of that number piece by piece, until it ends or has given more bytes than a plan or a file of
+/// changes may have.
 fn read_all<S: Shelf>(
     shelf: &mut S,
     number: u8,
@@ -124,7 +124,7 @@ fn read_all<S: Shelf>(
     }
 }
 
-/// Reads the next piece of the file of that number behind its first bytes, and answers whether the file ends there.
+/// Appends the next piece of the input of that number to its first bytes. Answers whether the file ends there.
 fn read_on<S: Shelf>(
     shelf: &mut S,
     number: u8,

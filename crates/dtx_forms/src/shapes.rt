@@ -1,4 +1,4 @@
-// In which units the commands read their inputs, but for those of the outer coding of DVB.
+// The units in which the commands read their inputs, except those of the DVB outer coding.
 ghost use Rattle.std.specs.Prelude.{◌≡◌};
 ghost use Rattle.dtx_engine.specs.Recipe.{IsSound};
 ghost use Rattle.dtx_forms.specs.Shapes as shapes;
@@ -12,7 +12,7 @@ use dtx_sizes::{
 /// How many segments are read at once: those of a field.
 pub const PIECE_SEGMENTS: usize = FIELD_SEGMENTS as usize;
 
-/// How many bytes that stand each for itself are read at once.
+/// How many bytes are read at once where a unit is one byte.
 pub const PIECE_BYTES: usize = 262_144;
 
 /// Packets of 188 bytes (ISO/IEC 13818-1, 2.4.3.2), in groups of four.
@@ -28,9 +28,9 @@ pub fn packets() -> Shape
     }
 }
 
-/// How many packets are read at once where symbols are made of them: four batches of 52, which are interleaved each at
-/// once. The 173,056 symbols of their groups are more than a piece of the output, so that they go to its file without
-/// being gathered, but for parts of a page. More packets would save few calls of the system, and hold more memory.
+/// How many packets are read at once to be coded: four batches of 52, each of which is interleaved at once. Their
+/// groups have 173,056 symbols, which is more than a piece of the output. So whole pages of them go straight to the
+/// file, and only parts of a page are gathered. More packets would save few system calls, and take more memory.
 pub const CODED_PACKETS: usize = 208;
 
 /// Packets of 188 bytes that are coded, in groups of four.
@@ -46,7 +46,7 @@ pub fn coded_packets() -> Shape
     }
 }
 
-/// Packets of 188 bytes, each for itself.
+/// Packets of 188 bytes, each a group by itself.
 pub fn single_packets() -> Shape
     ensures same { result ≡ shapes.single_packets }
     ensures sound { IsSound result }
@@ -72,7 +72,7 @@ pub fn segments() -> Shape
     }
 }
 
-/// Bytes, each for itself.
+/// Single bytes, each a group by itself.
 pub fn single_bytes() -> Shape
     ensures same { result ≡ shapes.single_bytes }
     ensures sound { IsSound result }

@@ -12,26 +12,26 @@ use dtx_meaning::{Outcome, Status, ended};
 use dtx_outside::{Shelf, Word};
 use std::alloc::{AllocError, Global};
 
-/// An engine that makes the one output of a command of its one input alone.
+/// An engine that makes a command's one output from its one input.
 pub trait Transforming: Engine + Drop {
     ghost use Rattle.dtx_meaning.specs.declared.status.Status.{Status};
 
     /// The command that it carries out.
     ghost command: { Command };
 
-    /// What it makes.
+    /// Its recipe.
     ghost makes: { Recipe };
 
-    /// One that was given nothing.
+    /// An engine that was given nothing. The only error is out of memory.
     fn new(alloc: Global) -> Result<Self, AllocError>
         ensures given { IfOk result (λ engine. Self.stands engine []) }
         ensures makes { IfOk result (λ engine. Self.recipe engine ≡ makes) };
 
-    /// Its command knows how it may be answered.
+    /// Each answer that can come is one that the command may give.
     ghost knows: { (status : Status) → IsAnswerOf makes status → Knows command status };
 }
 
-/// Gives the units of IN to an engine, which makes OUT of them.
+/// Makes OUT from IN: gives the units of IN to an engine, and writes what it makes.
 pub fn transform<E: Transforming, S: Shelf>(alloc: Global, words: &[Word], shelf: &mut S) -> Outcome
     ensures { IsJobPerformed (transform_job E.command E.shape E.makes) words.now result
         (S.files shelf.old) (S.files shelf.new)
@@ -45,7 +45,7 @@ pub fn transform<E: Transforming, S: Shelf>(alloc: Global, words: &[Word], shelf
     }
 }
 
-/// Gives the units of IN to an engine, which makes OUT of them, where the command's own word is the second one.
+/// Does what `transform` does, for the words `dvb .. IN OUT`: the second one names the command.
 pub fn transform_dvb<E: Transforming, S: Shelf>(
     alloc: Global,
     words: &[Word],
@@ -63,7 +63,7 @@ pub fn transform_dvb<E: Transforming, S: Shelf>(
     }
 }
 
-/// Gives the units of the input of that name to an engine, which makes the output of that name of them.
+/// Makes the output of that name from the input of that name. It refuses equal names.
 #[inline(never)]
 fn transform_files<E: Transforming, S: Shelf>(
     alloc: Global,

@@ -26,15 +26,16 @@ pub trait Transmitting: Engine + Drop {
     /// The command that it carries out.
     ghost command: { Command };
 
-    /// What it makes for an address and a delay.
+    /// Its recipe for an address and a delay.
     ghost sends: { ℕ → ℕ → Recipe };
 
-    /// The transmitter with this address, to which the feed takes `delay` ticks of 100 ns, was given nothing.
+    /// The engine of the transmitter with this address. The feed takes `delay` ticks of 100 ns to it. The engine was
+    /// given nothing. The only error is out of memory.
     fn new(alloc: Global, address: u16, delay: u32) -> Result<Self, AllocError>
         ensures given { IfOk result (λ engine. Self.stands engine []) }
         ensures sends { IfOk result (λ engine. Self.recipe engine ≡ sends address delay) };
 
-    /// Its command knows how it may be answered.
+    /// Each answer that can come is one that the command may give.
     ghost knows: { (address delay : ℕ) (status : Status) → IsAnswerOf (sends address delay) status
         → Knows command status };
 }
@@ -47,9 +48,9 @@ struct TransmitterFiles<'a> {
     log: &'a str,
 }
 
-/// Gives the units of IN to an engine of the transmitter that ADDRESS and DELAY name, whose symbols go to OUT and whose
-/// log goes to LOG. ADDRESS is 0 to 65,535. DELAY is for how many ticks of 100 ns the feed is on its way, 0 to
-/// 4,294,967,295. Both are read in decimal digits without sign and without a leading zero unless it is `0`.
+/// Gives the units of IN to the engine of one transmitter. Its symbols go to OUT, and its log to LOG. ADDRESS is that
+/// of the transmitter, 0 to 65,535. DELAY is how many ticks of 100 ns the feed takes to it, 0 to 4,294,967,295. Both
+/// are decimal digits without sign, and without a leading zero unless the number is `0`.
 pub fn transmit<E: Transmitting, S: Shelf>(alloc: Global, words: &[Word], shelf: &mut S) -> Outcome
     ensures { IsJobPerformed (transmit_job E.command E.shape E.sends) words.now result
         (S.files shelf.old) (S.files shelf.new)
@@ -68,7 +69,7 @@ pub fn transmit<E: Transmitting, S: Shelf>(alloc: Global, words: &[Word], shelf:
     }
 }
 
-/// Reads the address and the delay, and gives the units of these files' input to the engine of that transmitter.
+/// Reads the address and the delay, and gives the units of the input to the engine of that transmitter.
 fn transmit_read<E: Transmitting, S: Shelf>(
     alloc: Global,
     address: &str,
@@ -95,7 +96,7 @@ fn transmit_read<E: Transmitting, S: Shelf>(
     }
 }
 
-/// Gives the units of the input to the engine of that transmitter, where no two of the names are equal.
+/// Gives the units of the input to the engine of that transmitter. It refuses equal names.
 fn transmit_files<E: Transmitting, S: Shelf>(
     alloc: Global,
     address: u16,

@@ -1,5 +1,5 @@
-// Which files of the host were met, under which names: how long those have to be that were begun, and which of them are
-// held open.
+// The host's files that were met, which means that this run has read or begun them, each under its name. For a begun
+// file this also holds the length that it must have, and the open file while that is held.
 use crate::found::{FileId, Found, add};
 use dtx_outside::{ReadNo, WriteNo};
 use std::alloc::{AllocError, Global};
@@ -8,26 +8,26 @@ use std::io::Write;
 /// How many files are held open at a time, but for the pipes.
 const MOST_HELD: usize = 64;
 
-/// A file that is held open is looked at by its name before each piece as long as it has fewer bytes. From then on that
-/// is done once in so many bytes, and where another file was added to meanwhile.
+/// A held file's name is looked up to see that it still stands for this file. Up to this length that is done before
+/// each append. From then on it is done once in so many bytes, and after an append to another file.
 const LOOK_BYTES: u64 = 65_536;
 
-/// A file that was met under a name.
+/// A file that was read or begun under a name.
 #[derive(Drop)]
 pub(crate) struct Met<F> {
     name: String,
     id: FileId,
     is_pipe: bool,
-    /// Of a file that was begun, the bytes that were added to it since.
+    /// How many bytes were appended since the file was begun. `None` for a file that was only read.
     added: Option<u64>,
-    /// How many these were when it was last looked at by its name.
+    /// What `added` was when the file was last looked up by its name.
     seen: u64,
-    /// The open file, where it is held.
+    /// The open file, while it is held.
     file: Option<F>,
 }
 
 impl<F: Write + Drop> Met<F> {
-    /// Whether the file is to be looked at by its name before more is added.
+    /// Whether the name of the file has to be looked up before the next append.
     pub(crate) fn is_due(&self) -> bool {
         match self.added {
             Some(added) => added < LOOK_BYTES || added.saturating_sub(self.seen) >= LOOK_BYTES,
@@ -35,8 +35,9 @@ impl<F: Write + Drop> Met<F> {
         }
     }
 
-    /// Notes what was found where it was looked for. It fails where the file was not begun, or is another one, or not
-    /// as long as what was added to it. Then another file has come under its name, or someone else writes to it.
+    /// Compares the file with what was found under its name, and notes that this was done. It fails where the file was
+    /// not begun, is another one, or doesn't have the length of all bytes appended. Then the name was given to another
+    /// file, or another program writes to this one.
     pub(crate) fn note_seen(&mut self, found: &Found) -> Result<(), WriteNo> {
         match self.added {
             Some(added) if self.is_as_found(found, added) => {
@@ -51,7 +52,7 @@ impl<F: Write + Drop> Met<F> {
         self.id == found.id && (!found.is_file || found.len == len)
     }
 
-    /// Adds bytes to the file, where it was begun and is held open.
+    /// Appends bytes. It fails where the file was not begun, or isn't held open.
     pub(crate) fn append(&mut self, bytes: &[u8]) -> Result<(), WriteNo> {
         match (self.added, &mut self.file) {
             (Some(added), Some(file)) => {
@@ -62,7 +63,8 @@ impl<F: Write + Drop> Met<F> {
         }
     }
 
-    /// Holds an open file in place of what was held, and answers whether one more is held that may be closed.
+    /// Holds this open file in place of the one held before. Answers whether one more file is held that may be closed,
+    /// which a pipe may not.
     fn hold(&mut self, file: F) -> bool {
         let is_more = self.file.is_none() && !self.is_pipe;
         self.file = Some(file);
@@ -78,18 +80,19 @@ impl<F: Write + Drop> Met<F> {
     }
 }
 
-/// All files that were met, in that order, but for devices that were only read. Devices and pipes may be met again,
-/// since beginning one takes nothing away.
+/// All files that were read or begun, in that order, except devices that were only read. A device or a pipe may be
+/// listed more than once, since beginning it loses nothing.
 ///
-/// A pipe that was begun stays open, since who reads it takes each closing for the end, and opening one that nobody
-/// reads any more would wait.
+/// A pipe that was begun stays open, for two reasons. Its reader takes a closing for the end. And opening a pipe that
+/// has no reader any more would wait.
 #[derive(Drop)]
 pub(crate) struct FilesMet<F> {
     alloc: Global,
     met: Vec<Met<F>>,
-    /// The place of the begun file that was looked for last: most often it is looked for again, or one beside it.
+    /// The place in `met` of the begun file that was looked up last. The next lookup is mostly for the same file, or
+    /// for one beside it.
     last: usize,
-    /// How many files are held open, but for the pipes.
+    /// How many files are held open, not counting pipes.
     held: usize,
 }
 
@@ -103,9 +106,9 @@ impl<F: Write + Drop> FilesMet<F> {
         }
     }
 
-    /// Remembers a file that is to be read from offset `place` on. It fails where another file was met under its name,
-    /// where it was not there when earlier bytes were read, or has become shorter. Else what is read would not be of
-    /// one file.
+    /// Remembers a file that is to be read from offset `place` on. It fails where the name stood for another file
+    /// before, where no file was there when earlier bytes were read, and where the file is now shorter than `place`.
+    /// Otherwise the bytes read would not be those of one file.
     pub(crate) fn note_read(
         &mut self,
         name: &str,
@@ -125,13 +128,14 @@ impl<F: Write + Drop> FilesMet<F> {
         self.id_under(name).is_some()
     }
 
-    /// Takes the memory for one file more that is begun, and for its name.
+    /// Allocates the memory that one more begun file takes, and gives its name as a `String`.
     pub(crate) fn make_room(&mut self, name: &str) -> Result<String, AllocError> {
         self.met.reserve(1)?;
         String::from_str(self.alloc, name)
     }
 
-    /// Whether the file would be lost if it were begun: it was read or begun before.
+    /// Whether beginning the file would lose what it holds for this run: it is a regular file that was read or begun
+    /// before.
     pub(crate) fn would_lose(&self, found: &Found) -> bool {
         found.is_file && self.was_met(found.id)
     }
@@ -146,7 +150,7 @@ impl<F: Write + Drop> FilesMet<F> {
         false
     }
 
-    /// Remembers a file that is begun, and empty. A pipe is held open.
+    /// Remembers a file that was begun and is empty. A pipe is held open.
     pub(crate) fn note_begun(
         &mut self,
         name: String,
@@ -173,8 +177,9 @@ impl<F: Write + Drop> FilesMet<F> {
         if met.file.is_some() { Some(met) } else { None }
     }
 
-    /// Holds an open file as the one that was begun under the name, and adds bytes to it. Where too many are held,
-    /// those are closed first: files are mostly added to one after another, so it is this one that is looked for again.
+    /// Holds an open file as the one that was begun under the name, and appends bytes to it. Where as many files are
+    /// held as may be, all of them are closed first. A file mostly gets many appends in a row, so the new one is the
+    /// one to hold.
     pub(crate) fn hold(
         &mut self,
         name: &str,
@@ -191,7 +196,7 @@ impl<F: Write + Drop> FilesMet<F> {
         added
     }
 
-    /// Closes all files that are held open but for the pipes, and answers whether there were any.
+    /// Closes all files that are held open, except pipes. Answers whether there were any.
     pub(crate) fn let_go(&mut self) -> bool {
         let any = self.held > 0;
         for met in self.met.iter_mut() {
@@ -203,7 +208,7 @@ impl<F: Write + Drop> FilesMet<F> {
         any
     }
 
-    /// The file that was begun under that name, as which this one was found, with room to hold it open.
+    /// The file that was begun under that name, where `found` is that file. There is room to hold it open then.
     fn begun_as(&mut self, name: &str, found: &Found) -> Result<&mut Met<F>, WriteNo> {
         if self.held >= MOST_HELD {
             self.let_go();
@@ -217,7 +222,7 @@ impl<F: Write + Drop> FilesMet<F> {
         }
     }
 
-    /// The file that was begun under that name. It is to be looked at where another one was looked for meanwhile.
+    /// The file that was begun under that name. If the last lookup was for another one, its name is due for a check.
     fn begun(&mut self, name: &str) -> Option<&mut Met<F>> {
         let place = self.place_begun(name)?;
         let met = self.met.get_mut(place)?;
@@ -228,7 +233,7 @@ impl<F: Write + Drop> FilesMet<F> {
         Some(met)
     }
 
-    /// It is looked for from one before the last on, and then among all.
+    /// Looks from one place before the last lookup on, then among all.
     fn place_begun(&self, name: &str) -> Option<usize> {
         match self.place_from(self.last.saturating_sub(1), name) {
             Some(place) => Some(place),
@@ -236,7 +241,7 @@ impl<F: Write + Drop> FilesMet<F> {
         }
     }
 
-    /// The first place from there on of a file that was begun under that name.
+    /// The first place, from `first` on, of a file that was begun under that name.
     fn place_from(&self, first: usize, name: &str) -> Option<usize> {
         for place in first..self.met.len() {
             if self.met[place].is_begun(name) {
@@ -266,7 +271,7 @@ impl<F: Write + Drop> FilesMet<F> {
         Ok(())
     }
 
-    /// The file that was met under that name.
+    /// The identity of the first file that was read or begun under that name.
     fn id_under(&self, name: &str) -> Option<FileId> {
         for met in self.met.iter() {
             if met.has_name(name) {

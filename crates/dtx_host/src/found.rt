@@ -1,4 +1,4 @@
-// The calls of the host, whose answers are turned at once into what the shelf needs to know of them.
+// The calls of the host's runtime. Each answer is reduced to what the shelf needs.
 ghost use Rattle.std.specs.Prelude.{◌≤◌, IfOk, length};
 
 use dtx_outside::{ReadNo, WriteNo};
@@ -8,14 +8,15 @@ use std::os::unix::fs::{FileTypeExt, MetadataExt};
 use std::rt::Files;
 use std::{fs, io};
 
-/// A file of the host, by its device and its number there: what two names of one file, and its links, have in common.
+/// The identity of a file of the host: its device and its number there. All names of one file, and links to it, share
+/// it.
 #[derive(Clone, Copy, PartialEq)]
 pub(crate) struct FileId {
     device: u64,
     number: u64,
 }
 
-/// What was found under a name, or is open.
+/// What the host says of a file, found under a name or open.
 #[derive(Clone, Copy)]
 pub(crate) struct Found {
     pub(crate) id: FileId,
@@ -26,7 +27,7 @@ pub(crate) struct Found {
     pub(crate) is_disk: bool,
 }
 
-/// What stands under that name.
+/// What the host says of the file of that name.
 pub(crate) fn found_under<R: Files>(rt: &R, name: &str) -> Result<Found, WriteNo> {
     match fs::metadata(rt, name) {
         Ok(found) => Ok(found_of(&found)),
@@ -34,7 +35,7 @@ pub(crate) fn found_under<R: Files>(rt: &R, name: &str) -> Result<Found, WriteNo
     }
 }
 
-/// What that open file is.
+/// What the host says of that open file.
 pub(crate) fn found_open<F: OpenFile>(file: &F) -> Result<Found, ReadNo> {
     match file.metadata() {
         Ok(found) => Ok(found_of(&found)),
@@ -56,7 +57,7 @@ fn found_of(found: &Metadata) -> Found {
     }
 }
 
-/// Opens a file. One that is not there is absent.
+/// Opens a file. The error is `Absent` where no file has that name.
 pub(crate) fn open<R: Files>(rt: &R, how: &OpenOptions, name: &str) -> Result<R::File, ReadNo> {
     match how.open(rt, name) {
         Ok(file) => Ok(file),
@@ -65,7 +66,7 @@ pub(crate) fn open<R: Files>(rt: &R, how: &OpenOptions, name: &str) -> Result<R:
     }
 }
 
-/// Reads once from a place on.
+/// Reads once, from offset `place` of the file on.
 pub(crate) fn read_at<F: Read + Seek>(
     file: &mut F,
     place: u64,
@@ -79,7 +80,7 @@ pub(crate) fn read_at<F: Read + Seek>(
     read_next(file, into)
 }
 
-/// Reads once, from where the file stands.
+/// Reads once, from the current offset of the file on.
 pub(crate) fn read_next<F: Read>(file: &mut F, into: &mut [u8]) -> Result<usize, ReadNo>
     ensures { IfOk result (λ n. n ≤ length into.new) }
 {
@@ -89,12 +90,12 @@ pub(crate) fn read_next<F: Read>(file: &mut F, into: &mut [u8]) -> Result<usize,
     }
 }
 
-/// Whether the file can be read from a place on. A pipe, a terminal and a socket can't.
+/// Whether the file can be read at an offset. A pipe, a terminal and a socket can't.
 pub(crate) fn has_places<F: Seek>(file: &mut F) -> bool {
     file.seek(SeekFrom::Start(0)).is_ok()
 }
 
-/// Takes away what the open file holds.
+/// Empties the open file.
 pub(crate) fn empty<F: OpenFile>(file: &F) -> Result<(), WriteNo> {
     match file.set_len(0) {
         Ok(()) => Ok(()),
@@ -102,7 +103,8 @@ pub(crate) fn empty<F: OpenFile>(file: &F) -> Result<(), WriteNo> {
     }
 }
 
-/// A part may have been written when this fails. So it never counts as out of memory, which leaves all as it was.
+/// Writes all of the bytes. On failure a prefix of them may have been written. So the error is never `Memory`, after
+/// which all is as before.
 pub(crate) fn add<F: Write>(file: &mut F, bytes: &[u8]) -> Result<(), WriteNo> {
     match file.write_all(bytes) {
         Ok(()) => Ok(()),

@@ -1,4 +1,4 @@
-// The file system, through the runtime that `main` is given: what each call of the shelf does there.
+// What each call of the shelf does in the host's file system, through the runtime that `main` is given.
 ghost use Rattle.std.specs.Prelude.{◌≤◌, IfOk, length};
 
 use crate::files_met::{FilesMet, Met};
@@ -11,7 +11,7 @@ use std::io::{Input, Read, Seek};
 use std::rt::Files;
 use std::time::Clock;
 
-/// The files that the runtime reaches, those of them that were met, and the pipes that are read.
+/// The host's files. The value remembers those that were read or begun, and holds the pipes that are read.
 #[derive(Drop)]
 pub(crate) struct HostFiles<'a, R: Files> {
     rt: &'a R,
@@ -32,17 +32,18 @@ impl<'a, R: Files + AllocGlobal + Clock + Eprint + Input> HostFiles<'a, R> {
         }
     }
 
-    /// Whether a file was not begun because it was read or begun before, under this name or another, or is printed to.
+    /// Whether `begin` has refused a file because this run had read or begun it, under any name, or prints to it.
     pub(crate) fn overlap(&self) -> bool {
         self.overlap
     }
 
-    /// Whether an input that is read once was to be read a second time.
+    /// Whether a pipe was to be read a second time.
     pub(crate) fn again(&self) -> bool {
         self.pipes.again()
     }
 
-    /// Reads once: of a pipe that is held, and else of the file under that name, which is opened.
+    /// Reads once: from the pipe that is held under the name, or else from the file of that name, which is opened for
+    /// it.
     pub(crate) fn read(&mut self, name: &str, place: u64, into: &mut [u8]) -> Result<usize, ReadNo>
         ensures { IfOk result (λ n. n ≤ length into.new) }
     {
@@ -61,9 +62,9 @@ impl<'a, R: Files + AllocGlobal + Clock + Eprint + Input> HostFiles<'a, R> {
         }
     }
 
-    /// Reads the first bytes of a pipe or a socket. Before one is opened, which may wait, it is asked whether it may be
-    /// read. Standard input isn't opened anew: a socket can't be, and a pipe with a name could wait for a writer that
-    /// comes no more.
+    /// Reads the first bytes of a pipe or a socket. It first checks whether the pipe may be read, since opening it may
+    /// wait. Standard input isn't opened again: a socket can't be, and a named pipe could wait for a writer that never
+    /// comes.
     fn read_named_pipe(&mut self, name: &str, id: FileId, into: &mut [u8]) -> Result<usize, ReadNo>
         ensures { IfOk result (λ n. n ≤ length into.new) }
     {
@@ -77,8 +78,8 @@ impl<'a, R: Files + AllocGlobal + Clock + Eprint + Input> HostFiles<'a, R> {
         }
     }
 
-    /// Whether a pipe may not be read: it is read already, since two readers would share its bytes, or written, or
-    /// another file was met under its name.
+    /// Whether a pipe may not be read. There are three cases. This run reads it already, and two readers would share
+    /// its bytes. This run writes it. Or its name stood for another file before.
     fn is_taken(&mut self, name: &str, id: FileId) -> bool {
         self.pipes.meets_again(id) || self.met.was_met(id) || self.met.knows(name)
     }
@@ -89,7 +90,7 @@ impl<'a, R: Files + AllocGlobal + Clock + Eprint + Input> HostFiles<'a, R> {
     {
         match self.open(OpenOptions::new().read(true), name) {
             Ok(file) => self.read_opened(file, name, place, into),
-            // Where a file was met under its name, one that is not there is one that was lost meanwhile.
+            // The name stood for a file before, which is gone now. That is a failure, not an absent input.
             Err(ReadNo::Absent) if self.met.knows(name) => Err(ReadNo::Failed),
             Err(no) => Err(no),
         }
@@ -127,7 +128,7 @@ impl<'a, R: Files + AllocGlobal + Clock + Eprint + Input> HostFiles<'a, R> {
         Ok(n)
     }
 
-    /// Holds a pipe, where it may be read, and reads its first bytes.
+    /// Holds a pipe, if it may be read, and reads its first bytes.
     fn read_pipe(
         &mut self,
         name: &str,
@@ -159,10 +160,10 @@ impl<'a, R: Files + AllocGlobal + Clock + Eprint + Input> HostFiles<'a, R> {
         }
     }
 
-    /// Opens the file, which it makes where it isn't there, and takes away what it holds. It does so only where the
-    /// file is none that was met, nor that of standard output. That is asked of the name, so that such a file isn't
-    /// even opened, and of the open file, since another may have come under the name. From there on every failure is
-    /// one of writing, since the file may have been made.
+    /// Opens the file, creates it where it isn't there, and empties it. It refuses a file that this run has read or
+    /// begun, and that of standard output. It checks the name first, so that such a file isn't even opened. Then it
+    /// checks the open file, since the name may stand for another one by now. Once the file is open, every error is
+    /// `Failed`, since the file may have been created.
     pub(crate) fn begin(&mut self, name: &str) -> Result<(), WriteNo> {
         let kept = self.met.make_room(name)?;
         match self.open_anew(name) {
@@ -188,7 +189,7 @@ impl<'a, R: Files + AllocGlobal + Clock + Eprint + Input> HostFiles<'a, R> {
         }
     }
 
-    /// Whether the file is one that may not be begun, which is remembered.
+    /// Whether the file may not be begun. If so, `overlap` is true from now on.
     fn overlaps(&mut self, found: &Found) -> bool {
         let overlaps = self.met.would_lose(found)
             || self.pipes.has(found.id)
@@ -197,7 +198,7 @@ impl<'a, R: Files + AllocGlobal + Clock + Eprint + Input> HostFiles<'a, R> {
         overlaps
     }
 
-    /// Takes an open file as one that is begun.
+    /// Empties an open file, and remembers it as begun.
     fn take(&mut self, name: String, file: R::File) -> Result<(), WriteNo> {
         match self.emptied(&file) {
             Ok(found) => self.met.note_begun(name, &found, file),
@@ -205,8 +206,7 @@ impl<'a, R: Files + AllocGlobal + Clock + Eprint + Input> HostFiles<'a, R> {
         }
     }
 
-    /// Takes away what the open file holds. A disk may not be begun: what is added would stand over what was added
-    /// before.
+    /// Empties the open file. It refuses a disk, where each append would overwrite the one before.
     fn emptied(&mut self, file: &R::File) -> Result<Found, WriteNo> {
         let Ok(found) = found_open(file) else {
             return Err(WriteNo::Failed);
@@ -220,8 +220,8 @@ impl<'a, R: Files + AllocGlobal + Clock + Eprint + Input> HostFiles<'a, R> {
         Ok(found)
     }
 
-    /// Adds the bytes to a file that was begun, and to no other. It is held open from its first bytes on, and then only
-    /// its name is looked at, where that is due.
+    /// Appends the bytes to a file that was begun, and refuses any other. The file is held open from its first append
+    /// on. A later append only looks up its name, where that is due.
     pub(crate) fn append(&mut self, name: &str, bytes: &[u8]) -> Result<(), WriteNo> {
         if let Some(file) = self.met.held(name) {
             return append_held(self.rt, name, file, bytes);
@@ -240,8 +240,8 @@ impl<'a, R: Files + AllocGlobal + Clock + Eprint + Input> HostFiles<'a, R> {
         }
     }
 
-    /// Opens a file. Where that fails, the host may allow no more open files: then those that are held are closed,
-    /// and it is tried once more.
+    /// Opens a file. A failure may mean that the host allows no more open files. So all files that are held are closed
+    /// then, and it tries once more.
     fn open(&mut self, how: &OpenOptions, name: &str) -> Result<R::File, ReadNo> {
         match open(self.rt, how, name) {
             Err(_) if self.met.let_go() => open(self.rt, how, name),
@@ -277,7 +277,7 @@ fn read_held<R: Clock + Eprint + Input, F: Read>(
     Ok(n)
 }
 
-/// The pipe or socket that stands under the name, of which nothing was read.
+/// The pipe or socket of that name, where nothing of it was read yet (`place` is 0).
 fn named_pipe<R: Files>(rt: &R, name: &str, place: u64) -> Option<FileId> {
     if place > 0 {
         return None;
@@ -295,7 +295,7 @@ fn is_standard_input<R: Files>(rt: &R, id: FileId) -> bool {
     }
 }
 
-/// The pipe that is open, where it is one of which nothing was read.
+/// The open file, where it can't be read at an offset and nothing of it was read yet (`place` is 0).
 fn opened_pipe<F: OpenFile + Seek>(file: &mut F, place: u64) -> Option<FileId> {
     if place > 0 || has_places(file) {
         return None;
@@ -306,8 +306,8 @@ fn opened_pipe<F: OpenFile + Seek>(file: &mut F, place: u64) -> Option<FileId> {
     }
 }
 
-/// Whether standard output goes to that file or pipe: the line of the answer would stand over what is written there, or
-/// behind it.
+/// Whether standard output goes to that file or pipe. Then the line that the program prints would overwrite what is
+/// written there, or follow it.
 fn is_printed_to<R: Files>(rt: &R, found: &Found) -> bool {
     match found_under(rt, "/dev/stdout") {
         Ok(printed) => (found.is_file || found.is_pipe) && printed.id == found.id,
@@ -315,7 +315,7 @@ fn is_printed_to<R: Files>(rt: &R, found: &Found) -> bool {
     }
 }
 
-/// What refuses to open a file that is to be written.
+/// The error of a write whose file could not be opened.
 fn in_writing(no: ReadNo) -> WriteNo {
     match no {
         ReadNo::Memory => WriteNo::Memory,

@@ -1,4 +1,4 @@
-// The host's files as a shelf, which counts what it answers. They tell no content.
+// The host's files as a shelf. It counts its refusals. What the files hold is not told: proofs don't see it.
 ghost use Rattle.std.specs.Prelude.{◌≡◌, ◌<◌, ◌≤◌, ◌+◌, ◌^◌, IfOk, IfSome, IsSomeAnd, length};
 ghost use Rattle.std.specs.FinMap as map;
 ghost use Rattle.dtx_outside.specs.Counts.{HasGone, blame_of_read, blame_of_write};
@@ -13,16 +13,17 @@ use std::marker::Model;
 use std::rt::Files;
 use std::time::Clock;
 
-/// The files of the host. A file that is written stays open once bytes were added to it, until too many are open. Each
-/// other call opens its file and closes it again, so the number of files has no limit of its own.
+/// The files of the host. A file stays open from its first append on, until too many are open. Each other call opens
+/// its file and closes it again. So a run may use any number of files.
 ///
-/// No file is begun that was read or begun before, under whatever name, or that standard output goes to. Then `begin`
-/// fails and touches nothing, so an input is not lost where another path or a link leads to it.
+/// `begin` refuses a file that was read or begun before, under any name, and the file that standard output goes to. It
+/// changes nothing then. So no input is lost where another path or a link leads to it.
 ///
-/// Nothing is added to a file that was not begun under its name, or that isn't as long as what was added. Of a file of
-/// 64 KiB or more the length is asked once in so many bytes, and once another file was added to.
+/// `append` refuses a file that was not begun under its name, or whose length isn't that of all bytes appended. From 64
+/// KiB on the length is checked once in 64 KiB, and after an append to another file.
 ///
-/// Nothing is read where another file has come under a name, or the file was lost or cut to less than what was read.
+/// `read` fails where the name stood for another file before, where the file is gone, and where it is shorter than what
+/// was read of it.
 #[derive(Drop)]
 pub struct HostShelf<'a, R: Files> {
     files: HostFiles<'a, R>,
@@ -38,7 +39,7 @@ impl<'a, R: Files> Model for HostShelf<'a, R> {
 }
 
 impl<'a, R: Files + AllocGlobal + Clock + Eprint + Input> HostShelf<'a, R> {
-    /// The files that the runtime reaches, with nothing counted yet. What is read shows in the progress.
+    /// The host's files, with all counts 0. Each read is shown by `progress`.
     pub fn new(rt: &'a R, progress: &'a Progress) -> HostShelf<'a, R>
         ensures { result ≡ no_counts }
     {
@@ -48,12 +49,12 @@ impl<'a, R: Files + AllocGlobal + Clock + Eprint + Input> HostShelf<'a, R> {
         }
     }
 
-    /// Whether a file was not begun because it was read or begun before, under this name or another, or is printed to.
+    /// Whether `begin` has refused a file because this run had read or begun it, under any name, or prints to it.
     pub fn overlap(&self) -> bool {
         self.files.overlap()
     }
 
-    /// Whether an input that is read once, as a pipe is, was to be read a second time, under this name or another.
+    /// Whether a pipe was to be read a second time, under any name.
     pub fn again(&self) -> bool {
         self.files.again()
     }

@@ -1,4 +1,5 @@
-// The standard output, through the runtime that `main` is given. It tells no content.
+// Standard output as a sink, through the runtime that `main` is given. What it has printed is not told: proofs don't
+// see it.
 ghost use Rattle.std.specs.Prelude.{◌≡◌, ◌<◌, ◌≤◌, None, Ok, IfOk, length};
 ghost use Rattle.dtx_outside.specs.Sink.{faults_printed, IsCounted, IsPrinted};
 
@@ -7,7 +8,7 @@ use dtx_outside::{Sink, SinkNo};
 use std::io::ErrorKind;
 use std::marker::Model;
 
-/// The standard output. What is printed comes behind no line of progress: that is wiped before.
+/// Standard output. It wipes the line of progress before it prints.
 #[derive(Drop)]
 pub struct HostSink<'a, R: Print + Eprint> {
     rt: &'a R,
@@ -24,7 +25,7 @@ impl<'a, R: Print + Eprint> Model for HostSink<'a, R> {
 }
 
 impl<'a, R: Print + Eprint> HostSink<'a, R> {
-    /// The standard output that the runtime reaches, with no I/O error counted yet.
+    /// Standard output, with no I/O error counted yet.
     pub fn new(rt: &'a R, progress: &'a Progress) -> HostSink<'a, R>
         ensures { result ≡ 0 }
     {

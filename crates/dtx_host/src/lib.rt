@@ -1,4 +1,5 @@
-//! The host's files, its standard output and the terminal: the shelf and the sink of the program. They tell no content.
+//! The program's shelf and sink: the host's files and its standard output. Also the line of progress on a terminal.
+//! Proofs don't see what the files and the output hold.
 #![tactic(auto)]
 
 mod files_met;

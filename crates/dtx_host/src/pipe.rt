@@ -1,4 +1,4 @@
-// Inputs that have no places: pipes, terminals and sockets. Each is held open, and read once, in order.
+// Inputs that can't be read at an offset: pipes, terminals and sockets. Each is held open, and read once, in order.
 ghost use Rattle.std.specs.Prelude.{◌≤◌, IfOk, length};
 
 use crate::found::{FileId, read_next};
@@ -6,9 +6,9 @@ use dtx_outside::ReadNo;
 use std::alloc::{AllocError, Global};
 use std::io::{Input, Read};
 
-/// How many bytes are kept, at the end of the piece that was read last. Each command asks for one byte of an input
-/// before it begins its outputs, and reads that byte again with its first piece. So many are more than any asks for,
-/// and cost nothing beside a read.
+/// How many bytes of the last read are kept, from its end. Each command reads one byte of an input before it begins its
+/// outputs, and reads that byte again with its first piece. No command needs more than this, and keeping them costs
+/// little beside a read.
 const KEPT: usize = 256;
 
 /// An input that is read once, in order.
@@ -16,20 +16,21 @@ const KEPT: usize = 256;
 pub(crate) struct Pipe<F> {
     name: String,
     id: FileId,
-    /// The open file. There is none where the pipe is standard input, which is open already.
+    /// The open file. It is `None` for standard input, which is open already.
     file: Option<F>,
-    /// The bytes that were read.
+    /// How many bytes were read.
     reached: u64,
-    /// The last of them: those at the end of the piece that was read last.
+    /// The last bytes of the last read.
     kept: Vec<u8>,
-    /// Whether its end was read, behind which nothing is read any more.
+    /// Whether the end was met. Nothing is read after that.
     ended: bool,
-    /// Whether it was to be read a second time.
+    /// Whether a second reading of it was tried.
     again: bool,
 }
 
 impl<F: Read> Pipe<F> {
-    /// Reads once from a place on: the next bytes at the place that was reached, and before that what is kept.
+    /// Reads once, from offset `place` on. Where `place` is how many bytes were read, it reads the next ones. Where
+    /// `place` is a little less, it gives kept bytes. Any other `place` fails.
     pub(crate) fn read(
         &mut self,
         input: &impl Input,
@@ -72,7 +73,7 @@ impl<F: Read> Pipe<F> {
         }
     }
 
-    /// Keeps the end of the bytes that were read last. Where there are none, the pipe has ended.
+    /// Keeps the last of the bytes that were read. If there are none, the pipe has ended.
     fn keep(&mut self, bytes: &[u8]) -> Result<(), ReadNo> {
         if bytes.is_empty() {
             self.ended = true;
@@ -98,7 +99,7 @@ fn read_standard<I: Input>(input: &I, into: &mut [u8]) -> Result<usize, ReadNo>
     read_next(&mut reader, into)
 }
 
-/// Copies as many of the first bytes as fit, and answers how many.
+/// Copies as many of the first bytes as fit, and answers their number.
 fn copy_front(bytes: &[u8], into: &mut [u8]) -> usize
     ensures { result ≤ length into.new }
 {
@@ -107,7 +108,7 @@ fn copy_front(bytes: &[u8], into: &mut [u8]) -> usize
     count
 }
 
-/// All inputs that are read once.
+/// All pipes, terminals and sockets that are read.
 #[derive(Drop)]
 pub(crate) struct Pipes<F> {
     alloc: Global,
@@ -138,7 +139,7 @@ impl<F: Read + Drop> Pipes<F> {
         false
     }
 
-    /// Whether a pipe was to be read a second time.
+    /// Whether a second reading of a pipe was tried.
     pub(crate) fn again(&self) -> bool {
         for pipe in self.held.iter() {
             if pipe.again {
@@ -148,7 +149,7 @@ impl<F: Read + Drop> Pipes<F> {
         false
     }
 
-    /// Whether that pipe is held, which is remembered as one that was to be read a second time.
+    /// Whether that pipe is held, under any name. If so, `again` is true from now on.
     pub(crate) fn meets_again(&mut self, id: FileId) -> bool {
         for pipe in self.held.iter_mut() {
             if pipe.id == id {
@@ -159,7 +160,8 @@ impl<F: Read + Drop> Pipes<F> {
         false
     }
 
-    /// Holds a pipe of which nothing was read. Without an open file it is standard input.
+    /// Holds a pipe of which nothing was read. Without an open file it is standard input. The only error is out of
+    /// memory.
     pub(crate) fn hold(&mut self, name: &str, id: FileId, file: Option<F>) -> Result<(), ReadNo> {
         match self.add(name, id, file) {
             Ok(()) => Ok(()),

@@ -1,29 +1,29 @@
-// How far long work is: a line on a terminal.
+// A line on a terminal that shows how far long work has come.
 use std::cell::Cell;
 use std::time::{Clock, Instant};
 
-/// The milliseconds before the line comes.
+/// After how many milliseconds the line first appears.
 const PATIENCE: u64 = 1000;
 
-/// The milliseconds before the line is renewed.
+/// How many milliseconds pass at least before the line is updated.
 const RENEWAL: u64 = 250;
 
-/// A line on standard error, where that is a terminal, that says how much of the input at hand was read, and how fast.
-/// It comes once a second has passed, is renewed a few times a second, and is wiped before anything else is printed.
-/// It changes nothing that a contract speaks of.
+/// A line on standard error, where that is a terminal. It shows how much of the current input was read, and how fast.
+/// It appears after a second, is updated a few times a second, and is wiped before anything else is printed. No
+/// contract depends on it.
 #[derive(Drop)]
 pub struct Progress {
-    /// Nothing is shown where there is none.
+    /// When the work began. Nothing is ever shown where this is `None`.
     begun: Option<Instant>,
-    /// The milliseconds since then at which the line is written next.
+    /// How many milliseconds after `begun` the line is written next.
     due: Cell<u64>,
-    /// The bytes read since then.
+    /// How many bytes were read since `begun`.
     read: Cell<u64>,
     shown: Cell<bool>,
 }
 
 impl Progress {
-    /// Begins now. Where no one watches, no line comes.
+    /// Starts the clock. Where `watched` is false, no line is ever shown.
     pub fn new(clock: &impl Clock, watched: bool) -> Progress {
         let begun = if watched {
             Instant::now(clock).ok()
@@ -38,8 +38,8 @@ impl Progress {
         }
     }
 
-    /// Notes that of a file with so many bytes in all those before `place` were read, the last `bytes` just now. Of a
-    /// pipe it isn't known how many there are: 0 stands for that.
+    /// Notes that a read of `bytes` bytes has ended at offset `place` of a file of `whole` bytes. For a pipe, whose
+    /// length isn't known, `whole` is 0.
     pub(crate) fn note(&self, rt: &(impl Clock + Eprint), bytes: u64, place: u64, whole: u64) {
         let Some(begun) = self.begun else {
             return;
@@ -58,7 +58,7 @@ impl Progress {
         show(rt, place, whole, read / passed.max(1));
     }
 
-    /// Wipes the line, where it stands.
+    /// Wipes the line, if one is shown.
     pub fn wipe(&self, rt: &impl Eprint) {
         if self.shown.get() {
             self.shown.set(false);
@@ -67,8 +67,8 @@ impl Progress {
     }
 }
 
-/// Shows how far the input at hand was read, and how fast: `speed` is in kB a second. A file has as many columns as a
-/// pipe.
+/// Writes the line. It shows how far the current input was read, and how fast: `speed` is in kB a second. It is as wide
+/// for a file as for a pipe.
 fn show(rt: &impl Eprint, place: u64, whole: u64, speed: u64) {
     let (millions, tenths) = (speed / 1000, speed % 1000 / 100);
     let _ = if whole == 0 {

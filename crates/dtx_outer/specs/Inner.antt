@@ -1,4 +1,4 @@
--- The way back, block by block of a run.
+-- Decoding the outer coding, block by block of a run.
 use Rattle.std.specs.Prelude.{ℕ, ◌≡◌, ◌+◌, ◌-◌, ◌*◌, ◌/◌, ◌%◌, ◌<◌, ◌==◌, if◌then◌else◌, ◌++◌, List, map, length, take}
 use Rattle.std.specs.Prelude.{drop, slice_index}
 use Rattle.std.proofs.Common.{zero, suc}
@@ -10,12 +10,11 @@ use Rattle.dtx_laws.specs.Whitening.{whitened}
 use Rattle.dtx_outer.specs.declared.inner.Taken.{Taken}
 use Rattle.dtx_outer.specs.declared.inner.Taken.TheVariants.{None, Good, Bad}
 
--- the least number of blocks of n bytes that cover the delay of b * m * (b - 1) bytes: so many blocks of a run give no
--- packet
+-- how many blocks of a run give no packet: the fewest blocks of n bytes that cover the delay of b * m * (b - 1) bytes
 unfoldable pub waiting : ℕ → ℕ → ℕ → ℕ
 waiting n b m = (b * m * (b - 1) + n - 1) / n
 
--- how many bytes of a block complete the word that has begun in the block before it
+-- how many bytes of a block complete the word that began in the block before
 unfoldable pub completing : ℕ → ℕ → ℕ → ℕ
 completing n b m = b * m * (b - 1) - n * (waiting n b m - 1)
 
@@ -40,13 +39,13 @@ pub record Kept : Type 0 where
   pub waits : ℕ
   pub place : ℕ
 
--- block p of n bytes each, where one stands before the first of the bytes
+-- block p of n bytes each: block 0 is `before`, and the next ones are those of `bytes`
 abbrev pub block_behind : ℕ → List ℕ → List ℕ → ℕ → List ℕ
 block_behind n before bytes zero = before
 block_behind n before bytes (suc p) = take n (drop (n * p) bytes)
 
--- What is kept is that of a run that has given the bytes y, in blocks of n. It began at an align, at which the branches
--- held any bytes, and before the first block any block may be kept.
+-- This is kept of a run that has given the bytes y, in blocks of n. The run began at an align, where the branches held
+-- any bytes. Before its first block any block may be kept.
 pub record StandsFor (n k b m : ℕ) (inner : Kept) (y : List ℕ) : Type 0 where
   pub start : Branching
   pub widths : HasWidths b (gathering b m) start
@@ -58,15 +57,15 @@ pub record StandsFor (n k b m : ℕ) (inner : Kept) (y : List ℕ) : Type 0 wher
   pub waits : inner.waits ≡ waiting n b m - blocks
   pub place : inner.place ≡ (blocks - waiting n b m) % (length inner.white / k)
 
--- out are the data of a word that has a correction, which changes this many places: the first k bytes of the
--- correction, unwhitened from a place on
+-- The word has a correction, which differs from it in `fixed` bytes. `out` is the first k bytes of the correction,
+-- unwhitened from place `from` on.
 pub record IsGood (n k : ℕ) (white : List ℕ) (from : ℕ) (word out : List ℕ) (fixed : ℕ) : Type 0 where
   pub code : List ℕ
   pub corrected : IsCorrected n k word code fixed
   pub bytes : out ≡ whitened white from (take k code)
 
--- out are the data of a word that has no correction: the first k bytes of the word as it was gathered, unwhitened from
--- a place on
+-- The word has no correction. `out` is the first k bytes of the word as it was gathered, unwhitened from place `from`
+-- on.
 pub record IsBad (n k : ℕ) (white : List ℕ) (from : ℕ) (word out : List ℕ) : Type 0 where
   pub none : (code : List ℕ) → IsCorrection n k word code → ⊥
   pub bytes : out ≡ whitened white from (take k word)
@@ -77,14 +76,14 @@ Gives n k white from word out None = ⊥
 Gives n k white from word out (Good fixed) = IsGood n k white from word out fixed
 Gives n k white from word out Bad = IsBad n k white from word out
 
--- What the block that comes behind the bytes y of a run gives, and writes over out. Of the first blocks it is nothing,
--- and of the block after j more packet j of the run, unwhitened as packet j of a stream.
+-- What the block gives that follows the bytes y of a run, and what it writes over `old`. The first blocks give nothing.
+-- After these and j more, a block gives packet j of the run, unwhitened as packet j of a stream.
 pub record IsTaken (n k b m : ℕ) (white y block old new : List ℕ) (taken : Taken) : Type 0 where
   pub none : length y < n * waiting n b m → (taken ≡ None) × (new ≡ old)
   pub packet : (j : ℕ) → length y ≡ n * (waiting n b m + j)
       → Gives n k white (k * (j % (length white / k))) (word_at n b m (y ++ block) j) new taken
 
--- what is kept when a gathered block has given what it gives
+-- what is kept after a gathered block has given its packet, or none
 pub record IsNext (k : ℕ) (old new : Kept) : Type 0 where
   pub white : new.white ≡ old.white
   pub branches : new.branches ≡ old.branches

@@ -16,6 +16,6 @@ pub record Held : Type 0 where
   pub white : List ℕ
   pub branches : Branching
 
--- the codeword of the data, which are first whitened by the bytes from a place on: its parity bytes aren't whitened
+-- the codeword of data that are first whitened, by the bytes from place `from` on; its parity bytes aren't whitened
 abbrev pub coded : (n k : ℕ) (white : List ℕ) (from : ℕ) (head : List ℕ) → List ℕ
 coded n k white from head = codeword n k (whitened white from head)

@@ -1,4 +1,4 @@
-//! Gathers, corrects and unwhitens.
+//! Decodes the outer coding: gathers, corrects and unwhitens.
 
 ghost use Rattle.std.specs.Prelude.{◌≡◌, ℕ, ◌+◌, ◌-◌, ◌*◌, ◌/◌, ◌%◌, ◌<◌, ◌≤◌, ◌==◌, if◌then◌else◌, ◌++◌, List, []};
 ghost use Rattle.std.specs.Prelude.{MatchResult, length, slice_index_or, take, drop};
@@ -17,20 +17,20 @@ use std::marker::Model;
 /// What a block of a run gave.
 #[derive(Clone, Copy, Debug, PartialEq, Eq)]
 pub enum Taken {
-    /// No packet: the gatherer has not filled yet.
+    /// No packet: the gatherer isn't full yet.
     None,
-    /// A packet's data, with this many wrong bytes of its word put right.
+    /// A packet's data. Its word had a correction.
     Good {
-        /// How many bytes of the word differed from the codeword.
+        /// How many bytes of the word differ from the correction.
         fixed: u8,
     },
-    /// A packet's data as they were gathered: no codeword is near enough to the word.
+    /// A packet's data as they were gathered. Its word had no correction.
     Bad,
 }
 
-/// The way back through the outer coding of packets with `K` bytes of data, run by run (ATSC A/53 Part 2, data
-/// randomizer, Reed-Solomon encoder and interleaving). A run's first byte is one that came to branch 0 of the
-/// interleaver, and the first of a packet whose place in the whitener's period is 0. `StandsFor inner y` says that the
+/// Decodes the outer coding of packets with `K` bytes of data, run by run (ATSC A/53 Part 2, data randomizer,
+/// Reed-Solomon encoder and interleaving). A run is given in blocks of `N` bytes. Its first byte entered branch 0 of
+/// the interleaver, and begins a packet whose place in the whitener's period is 0. `StandsFor inner y` says that the
 /// run has given the bytes `y` so far.
 #[derive(Drop)]
 pub struct Inner<
@@ -85,8 +85,8 @@ impl<
     const B: usize,
     const M: usize,
 > Inner<W, C, G, N, K, B, M> {
-    /// The way back by these three, at the start of a run. The whitener's period is a whole number of packets, whose
-    /// codewords are a whole number of turns over the branches.
+    /// A decoder with these three parts, at the start of a run. The whitener's period is a whole number of packets.
+    /// Their codewords are a whole number of turns over the branches.
     pub fn new(whitener: W, code: C, gather: G) -> Self
         requires { IsPeriod N K B W.PERIOD }
         ensures white { result.white ≡ W.bytes whitener }
@@ -105,7 +105,7 @@ impl<
         inner
     }
 
-    /// The next bytes are the first of a run.
+    /// Starts a run: its bytes come next.
     pub fn start(&mut self)
         ensures white { self.new.white ≡ self.old.white }
         ensures stands { StandsFor N K B M self.new [] }
@@ -116,8 +116,8 @@ impl<
         self.place = 0;
     }
 
-    /// The numbers are those of a code, of an interleaver and of a whole period. Each branch holds as many bytes as it
-    /// delays by. The whitener has a byte for each place of its period.
+    /// What holds of every decoder. The numbers are those of a code, of an interleaver and of a whole period. Each
+    /// branch holds as many bytes as it delays by. The whitener has a byte for each place of its period.
     pub fn known(&self)
         ensures period { IsPeriod N K B W.PERIOD }
         ensures code { IsCode N K }
@@ -130,9 +130,10 @@ impl<
         self.gather.known();
     }
 
-    /// The next block of a run. The first `waiting N B M` blocks of a run give no packet, and `out` stays. The block
-    /// after `k` more gives packet `k` of the run. It is the first `K` bytes of its word's correction, or of the word
-    /// as it was gathered where it has none, unwhitened as packet `k` of a stream.
+    /// Takes the next block of a run. The first `waiting N B M` blocks give no packet, and `out` stays. Of the later
+    /// blocks, counted from 0, block `k` gives packet `k` of the run. `out` is then the first `K` bytes of the word's
+    /// correction, unwhitened as packet `k` of a stream. Where the word has no correction, they are those of the word
+    /// as it was gathered.
     ///
     /// No call takes memory, and a run may have any number of blocks.
     pub fn take(&mut self, bytes: &[u8; N], out: &mut [u8; K]) -> Taken
@@ -148,7 +149,7 @@ impl<
         self.give_next(corrected, &word, out)
     }
 
-    /// The next four blocks of a run, each as `take` takes it. The bytes that leave the gatherer replace them.
+    /// Takes the next four blocks of a run, each as `take` does. The bytes that leave the gatherer replace the blocks.
     pub fn take_four(&mut self, bytes: &mut [u8], outs: &mut [[u8; K]; 4]) -> [Taken; 4]
         requires { length bytes.old ≡ N * 4 }
         ensures taken { (y : List ℕ) (p : ℕ) → StandsFor N K B M self.old y → p < 4
@@ -162,8 +163,8 @@ impl<
         self.take_gathered(bytes, outs)
     }
 
-    /// The next blocks of a run, four for each of the outs, each as `take` takes it. All of them go through the
-    /// gatherer at once, and the bytes that leave it replace them.
+    /// Takes the next blocks of a run, four for each element of `outs`, each as `take` does. They go through the
+    /// gatherer in one call, and the bytes that leave it replace them.
     pub fn take_fours(
         &mut self,
         bytes: &mut [u8],
@@ -189,8 +190,9 @@ impl<
         }
     }
 
-    /// Four blocks of a run that have gone through the gatherer already, and more may have. Where its branches were `v`
-    /// before it took the bytes `ys` of these blocks, each gives what `take` would give of it then.
+    /// Takes four blocks of a run that have gone through the gatherer already. Later blocks may have, too. Let `v` be
+    /// the gatherer's branches before it was given these blocks, which are the bytes `ys`. Then each block gives what
+    /// `take` would have given for it.
     fn take_gathered(&mut self, gathered: &[u8], outs: &mut [[u8; K]; 4]) -> [Taken; 4]
         requires { length gathered.now ≡ N * 4 }
         ensures taken { (v : Branching) (ys y : List ℕ) (p : ℕ) → gathered.now ≡ leaving_all B v ys
@@ -214,7 +216,7 @@ impl<
         taken
     }
 
-    /// What a word gives that was gathered, and of which the corrector made this one.
+    /// What a gathered word gives, once the corrector has made `word` of it.
     fn give_next(
         &mut self,
         corrected: Result<u8, TooMany>,
@@ -237,8 +239,8 @@ impl<
         give(corrected, &self.whitener, place, word, out)
     }
 
-    /// Gathers a block. The word is the end of the block before it and the beginning of this one. So its first byte is
-    /// the one that leaves `B * M * (B - 1)` bytes after a block of the run began.
+    /// Gathers a block. The word is the end of the gathered block before and the beginning of this one. Its first byte
+    /// leaves the gatherer `B * M * (B - 1)` bytes after a block of the run began.
     fn next_word(&mut self, bytes: &[u8; N], word: &mut [u8; N])
         requires code { IsCode N K }
         requires numbers { IsInterleaver B M }
@@ -255,7 +257,7 @@ impl<
         self.before = now;
     }
 
-    /// The words of four gathered blocks, each as `next_word` makes it.
+    /// The words of four gathered blocks, each made as `next_word` makes it.
     fn next_words(&mut self, gathered: &[u8], words: &mut [[u8; N]; 4])
         requires code { IsCode N K }
         requires numbers { IsInterleaver B M }
@@ -270,7 +272,7 @@ impl<
     }
 }
 
-/// The data of a word, unwhitened as this packet of the whitener's period.
+/// The data of a word, unwhitened as packet `place` of the whitener's period.
 fn give<W: Whitener, const N: usize, const K: usize>(
     corrected: Result<u8, TooMany>,
     whitener: &W,
@@ -301,7 +303,7 @@ fn waited<const N: usize, const B: usize, const M: usize>() -> usize
     (B * M * (B - 1) + N - 1) / N
 }
 
-/// How many bytes of a block complete the word that has begun in the block before it.
+/// How many bytes of a block complete the word that began in the block before.
 fn completed<const N: usize, const B: usize, const M: usize>() -> usize
     requires some { 1 ≤ N }
     requires few { N ≤ 255 }
@@ -312,7 +314,7 @@ fn completed<const N: usize, const B: usize, const M: usize>() -> usize
     B * M * (B - 1) - N * (waited::<N, B, M>() - 1)
 }
 
-/// The end of one block and the begin of the next.
+/// Sets `word` to the end of one block, from byte `skip` on, and the first `skip` bytes of the next.
 fn window(before: &[u8], now: &[u8], skip: usize, word: &mut [u8])
     requires before { length before.now ≡ length word.old }
     requires now { length now.now ≡ length word.old }
@@ -324,7 +326,7 @@ fn window(before: &[u8], now: &[u8], skip: usize, word: &mut [u8])
     word[rest..].copy_from_slice(&now[..skip]);
 }
 
-/// The four windows of a block and the four blocks behind it.
+/// The four windows of a block and the four blocks after it.
 fn windows<const N: usize>(before: &[u8; N], now: &[u8], skip: usize, words: &mut [[u8; N]; 4])
     requires few { N ≤ 255 }
     requires four { length now.now ≡ N * 4 }

@@ -1,5 +1,5 @@
-//! The laws of the outer coding of packets that follow each other, over the definitions. So they hold of calls of
-//! `Outer::code`, each with its packet's place in the whitener's period, whatever does the parts.
+//! Laws of the outer coding of consecutive packets, over the definitions. They hold of successive calls of
+//! `Outer::code`, each with its packet's place in the whitener's period, whichever parts the `Outer` has.
 
 pub mod words;
 
@@ -25,8 +25,8 @@ pub fn each_packet()
         → length (concat (codewords n k white s heads)) ≡ n * length heads }
 {}
 
-/// One packet more: its codeword comes behind the others, and what leaves and what the branches hold are what one call
-/// of `Outer::code` gives after the calls before it.
+/// With one packet more, its codeword follows the others. After the calls of `Outer::code` for the others, one more
+/// call gives the bytes that leave then, and the branches.
 pub fn one_more()
     ensures codeword { (n k : ℕ) (white : List ℕ) (s : ℕ) (heads : List (List ℕ)) (head : List ℕ)
         → codewords n k white s (heads ++ head ∷ []) ≡ codewords n k white s heads
@@ -38,15 +38,15 @@ pub fn one_more()
         → after_calls b v (calls ++ call ∷ []) ≡ after_all b (after_calls b v calls) call }
 {}
 
-/// From aligned branches full of zeros, the packets' codewords leave as the map of places has them.
+/// Through aligned branches full of zeros, the codewords leave as the interleaver's map of places says.
 pub fn from_zeros()
     ensures { (n k b m : ℕ) (white : List ℕ) (s : ℕ) (heads : List (List ℕ)) → 0 < b
         → leaving_calls b (zeroed b (spreading m)) (codewords n k white s heads)
         ≡ interleaved b m (concat (codewords n k white s heads)) }
 {}
 
-/// Behind an align, whatever the branches held, they leave as the map of places has them where the source has come, and
-/// else a byte that the branches held leaves.
+/// After an align, whatever the branches held, the codewords leave as the interleaver's map of places says. Where the
+/// map's source lies before the align, a byte leaves that the branches held.
 pub fn behind_align()
     ensures { (n k b m : ℕ) (white : List ℕ) (s : ℕ) (heads : List (List ℕ)) (v : Branching)
         → HasWidths b (spreading m) v

@@ -1,4 +1,4 @@
-//! Whitens, encodes and interleaves.
+//! The outer coding: whitens, encodes and interleaves.
 
 ghost use Rattle.std.specs.Prelude.{◌≡◌, ℕ, ◌+◌, ◌*◌, ◌<◌, ◌≤◌, [], drop, length, map, slice_index_or, take};
 ghost use Rattle.std.specs.List.{concat};
@@ -14,7 +14,7 @@ use dtx_laws::{Encode, Spread, Whitener};
 use std::marker::Model;
 
 /// The outer coding of packets with `K` bytes of data (ATSC A/53 Part 2, data randomizer, Reed-Solomon encoder and
-/// interleaving). It is seen as the whitener's bytes and the interleaver's branches.
+/// interleaving). Contracts see the value as the whitener's bytes and the interleaver's branches.
 #[derive(Drop)]
 pub struct Outer<
     W: Whitener,
@@ -55,8 +55,8 @@ impl<
     const B: usize,
     const M: usize,
 > Outer<W, C, S, N, K, B, M> {
-    /// The coding by these three. The whitener's period is a whole number of packets, whose codewords are a whole
-    /// number of turns over the branches.
+    /// The outer coding with these three parts. The whitener's period is a whole number of packets. Their codewords are
+    /// a whole number of turns over the branches.
     pub fn new(whitener: W, code: C, spread: S) -> Self
         requires { IsPeriod N K B W.PERIOD }
         ensures { result ≡ record { white = W.bytes whitener; branches = S.seen spread } }
@@ -68,8 +68,8 @@ impl<
         }
     }
 
-    /// The numbers are those of a code, of an interleaver and of a whole period. Each branch holds as many bytes as it
-    /// delays by. The whitener has a byte for each place of its period.
+    /// What holds of every value. The numbers are those of a code, of an interleaver and of a whole period. Each branch
+    /// holds as many bytes as it delays by. The whitener has a byte for each place of its period.
     pub fn known(&self)
         ensures period { IsPeriod N K B W.PERIOD }
         ensures code { IsCode N K }
@@ -82,8 +82,8 @@ impl<
         self.spread.known();
     }
 
-    /// The bytes that leave the interleaver as the codeword of `head` comes, where `head` is first whitened as packet
-    /// `place` of the whitener's period. The parity bytes aren't whitened.
+    /// Codes the data `head` of a packet. It whitens them as packet `place` of the whitener's period, encodes them, and
+    /// sets `out` to the bytes that leave the interleaver as the codeword enters it. The parity bytes aren't whitened.
     pub fn code(&mut self, place: usize, head: &[u8; K], out: &mut [u8; N])
         requires { K * place + K ≤ W.PERIOD }
         ensures bytes { out.new ≡ leaving_all B self.old.branches (coded N K self.old.white (K * place) head.now) }
@@ -97,9 +97,10 @@ impl<
         self.spread.pass(out);
     }
 
-    /// The codewords of four data of `K` bytes, one behind the other, whitened as packets `place` to `place` + 3 of the
-    /// whitener's period. The words, of `N` bytes each, are made where `words` is, whatever stands there before, so
-    /// none is copied. `interleave` of all of them gives what `code` gives for one after another.
+    /// Sets `words` to the codewords of four packets' data, one after another. The data have `K` bytes each, and are
+    /// whitened as packets `place` to `place` + 3 of the whitener's period. The codewords have `N` bytes each. They are
+    /// made in place, whatever `words` holds before, so that none is copied. `interleave` of all four gives what four
+    /// calls of `code` give.
     pub fn encode_four(&self, place: usize, heads: &[&[u8]; 4], words: &mut [u8])
         requires long { (p : ℕ) → p < 4 → length (slice_index_or (map (λ head. head.now) heads.now) p []) ≡ K }
         requires room { length words.old ≡ N * 4 }
@@ -111,8 +112,8 @@ impl<
         self.code.complete_four(words);
     }
 
-    /// Replaces bytes, as many as there are, by those that leave the interleaver as they come. It makes no difference
-    /// in how many calls they come.
+    /// Replaces bytes by those that leave the interleaver as they enter it. There may be any number of bytes. It makes
+    /// no difference how many calls they are given in.
     pub fn interleave(&mut self, bytes: &mut [u8])
         ensures bytes { bytes.new ≡ leaving_all B self.old.branches bytes.old }
         ensures branches { self.new ≡ record self.old { branches = after_all B self.old.branches bytes.old } }
@@ -137,7 +138,7 @@ impl<
         }
     }
 
-    /// The next byte goes to branch 0. The branches keep what they hold.
+    /// Makes the next byte go to branch 0. The branches keep what they hold.
     pub fn align(&mut self)
         ensures { self.new ≡ record self.old { branches = aligned self.old.branches } }
     {

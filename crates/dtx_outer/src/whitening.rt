@@ -1,4 +1,4 @@
-//! Whitening of a packet's data, which is the way back too.
+//! Whitening of a packet's data. To whiten them again gives them back.
 
 ghost use Rattle.std.specs.Prelude.{◌≡◌, ℕ, ◌+◌, ◌<◌, ◌≤◌, length, slice_index};
 ghost use Rattle.std.specs.Int.RustNames.{bit_xor};
@@ -6,8 +6,8 @@ ghost use Rattle.dtx_laws.specs.Whitening.{whitened};
 
 use dtx_laws::Whitener;
 
-/// The data with the whitener's bytes from `from` on added bit by bit. They are written to a local, and no test is in
-/// the loop: so the compiler adds many bytes at once.
+/// Adds the whitener's bytes from `from` on to the data by exclusive or. The sum is written to a local, and the loop
+/// tests nothing, so that the compiler adds many bytes at once.
 pub fn whiten<W: Whitener, const K: usize>(whitener: &W, from: usize, head: &[u8]) -> [u8; K]
     requires long { length head.now ≡ K }
     requires within { from + K ≤ W.PERIOD }
@@ -23,8 +23,8 @@ pub fn whiten<W: Whitener, const K: usize>(whitener: &W, from: usize, head: &[u8
 /// How many bytes are written to a place at once.
 const PIECE: usize = 16;
 
-/// The same, written to `out` in pieces of sixteen bytes, each made in a local first, since the compiler can't tell
-/// that `out` is apart from the data. The last piece ends with the data, so some bytes may be written twice.
+/// The same, written to `out` in pieces of sixteen bytes. Each piece is made in a local first, since the compiler can't
+/// know that `out` doesn't overlap the data. The last piece ends with the data, so some bytes may be written twice.
 pub(crate) fn whiten_to<W: Whitener, const K: usize>(
     whitener: &W,
     from: usize,

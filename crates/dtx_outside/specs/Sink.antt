@@ -19,7 +19,7 @@ HasRisenBy (Ok _) before now = now ≡ before
 HasRisenBy (Err Failed) before now = Rose before now
 HasRisenBy (Err Memory) before now = now ≡ before
 
--- what the count of I/O errors tells of an answer: it never falls, and rises by those that failed alone
+-- the count of I/O errors after an answer: it never falls, and only a failure raises it
 pub record IsCounted {T : Type 0} (before : ℕ) (result : Result T SinkNo) (now : ℕ) : Type 0 where
   pub grown : before ≤ now
   pub risen : HasRisenBy result before now

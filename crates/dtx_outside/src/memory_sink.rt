@@ -1,4 +1,4 @@
-// A sink in memory, which tells all that it has taken.
+// A sink in memory, which tells all bytes that it has taken.
 ghost use Rattle.std.specs.Prelude.{◌≡◌, ◌<◌, ◌≤◌, ◌-◌, ◌^◌, ◌↔◌, [], Some, OnOk, OnErr, IfOk, IsErrOf, length};
 ghost use Rattle.dtx_outside.specs.Calls.{IsUnplanned, IsPlanned, failing};
 ghost use Rattle.dtx_outside.specs.Counts.{last_count};
@@ -56,7 +56,7 @@ impl MemorySink {
         self.writes.fail(nth)
     }
 
-    /// How many writes were made since `new`, the failed ones included. It stays at the greatest `u64`.
+    /// How many writes were made since `new`, failed ones included. The count stays at the greatest `u64`.
     pub fn calls(&self) -> u64
         ensures { result ≡ self.now.writes.made }
     {

@@ -22,7 +22,7 @@ impl From<AllocError> for SinkNo {
     }
 }
 
-/// What takes printed bytes.
+/// Where bytes are printed.
 pub trait Sink {
     /// The bytes written so far, where the sink tells them.
     ghost written: { Self → Option (List ℕ) };
@@ -30,8 +30,8 @@ pub trait Sink {
     /// How often writing has failed. It never falls, and stays at the greatest `u64`.
     ghost faults: { Self → ℕ };
 
-    /// Takes a prefix of the bytes, and answers its length. It takes nothing only where there is nothing. Where it
-    /// `Failed`, a prefix may have been taken. After `Memory` all is as before, the count too.
+    /// Prints a prefix of the bytes, and answers its length, which is 0 only where there are no bytes. After `Failed` a
+    /// prefix may have been printed. After `Memory` all is as before, the count too.
     fn write(&mut self, bytes: &[u8]) -> Result<usize, SinkNo>
         ensures bound { IfOk result (λ n. n ≤ length bytes.now) }
         ensures some { IfOk result (λ n. 0 < length bytes.now → 0 < n) }

@@ -3,7 +3,7 @@ ghost use Rattle.std.specs.Prelude.{◌≡◌, List, ℕ, string_bytes};
 
 use std::marker::Model;
 
-/// A word, seen as its bytes, which are UTF-8.
+/// A word. Contracts see the value as its bytes, which are UTF-8.
 #[derive(Drop)]
 pub struct Word {
     text: String,

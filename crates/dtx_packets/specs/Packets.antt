@@ -14,7 +14,7 @@ packet_at file k = take 188 (drop (188 * k) file)
 abbrev pub whole_packets : List ℕ → ℕ
 whole_packets file = length file / 188
 
--- that many packets of a file, from one on
+-- `count` packets of a file, from packet `first` on
 abbrev pub packets_from : List ℕ → ℕ → ℕ → List (List ℕ)
 packets_from file first count = map (packet_at file) (range_with_len first count)
 

@@ -6,7 +6,7 @@ use Rattle.dtx_outside.specs.declared.shelf.ReadNo.TheVariants as read
 use Rattle.dtx_packets.specs.declared.refusal.NextNo.{NextNo}
 use Rattle.dtx_packets.specs.declared.refusal.NextNo.TheVariants.{Absent, Failed, Memory, TooLong}
 
--- a shelf's refusal, handed on
+-- a shelf's error as one of the packet reader
 abbrev pub next_no_of : ReadNo → NextNo
 next_no_of read.Absent = Absent
 next_no_of read.Failed = Failed

@@ -5,7 +5,7 @@ ghost use Rattle.dtx_packets.specs.Packets.{whole_packets, packets_of};
 use crate::packet::Packet;
 use dtx_sizes::PACKET;
 
-/// Puts the whole packets of the bytes at the front of the places, and leaves the other places.
+/// Copies the whole packets of the bytes to the front of `into`. The rest of `into` stays.
 pub(crate) fn cut(bytes: &[u8], into: &mut [Packet])
     requires { whole_packets bytes.now ≤ length into.old }
     ensures packets { map (λ p. p.0) (take (whole_packets bytes.now) into.new) ≡ packets_of bytes.now }

@@ -13,17 +13,17 @@ use dtx_outside::{Shelf, fill};
 use dtx_sizes::{MOST_PACKETS, PACKET};
 use std::marker::Model;
 
-/// How many packets are read at once at most, as many as 64 KiB hold.
+/// How many packets are read at once at most: as many as fit 64 KiB.
 ///
-/// A read opens and closes the file of a host, which costs as much as coding many packets.
+/// Each read of a host's file opens and closes it, which costs as much as coding many packets.
 pub const PIECE_PACKETS: usize = 348;
 
 // The bytes of as many packets.
 const PIECE: usize = PIECE_PACKETS * PACKET;
 
-/// A reader of the packets of a file, from one packet on, as many as its limit allows.
+/// Reads the packets of a file from packet `first` on, and gives at most `limit` of them.
 ///
-/// The name of the file is given with each call. After a refusal the reader stands where it stood.
+/// The caller names the file in each call. After an error the reader is as before.
 #[derive(Drop)]
 pub struct PacketReader {
     first: u64,
@@ -49,7 +49,7 @@ impl Model for PacketReader {
 impl PacketReader {
     ghost use Rattle.dtx_packets.specs.Reading.{IsNext, AreNext, IsAdvance, IsLeft, IsPlaced, IsStep};
 
-    /// A reader from the first packet on.
+    /// A reader from the first packet on, which gives at most `limit` packets.
     pub fn new(limit: u64) -> PacketReader
         requires { limit ≤ most_packets }
         ensures { result ≡ record { first = 0; limit = limit; given = 0; loose = 0 } }
@@ -57,7 +57,7 @@ impl PacketReader {
         PacketReader::at(0, limit)
     }
 
-    /// A reader from that packet on.
+    /// A reader from packet `first` on, which gives at most `limit` packets.
     pub fn at(first: u64, limit: u64) -> PacketReader
         requires first { first ≤ most_packets }
         requires limit { limit ≤ most_packets }
@@ -71,8 +71,8 @@ impl PacketReader {
         }
     }
 
-    /// How many bytes stood behind the last whole packet, once the end was met. It is 0 before, and again once a
-    /// further packet is given of a file that has grown.
+    /// How many bytes follow the last whole packet. It is 0 until the end of the file was met. It is 0 again when the
+    /// file has grown and a further packet is given.
     pub fn loose(&self) -> u8
         ensures { result ≡ self.now.loose }
     {
@@ -81,12 +81,12 @@ impl PacketReader {
 
     /// The next whole packet, or `None` where fewer than 188 bytes are left.
     ///
-    /// It refuses with `TooLong` where as many packets as the limit were given and another whole one is there.
-    /// Otherwise it refuses as the shelf does.
+    /// The error is `TooLong` where `limit` packets were given and the file has another whole one. The other errors are
+    /// those of the shelf.
     pub fn next<S: Shelf>(&mut self, shelf: &mut S, name: &str) -> Result<Option<Packet>, NextNo>
         ensures told { IfSome (S.files shelf.old) (λ held. IsNext (map.get held name.now) self.old result self.new) }
 
-        // What it leaves, also where the shelf doesn't tell its files.
+        // The reader after the call, also where the shelf doesn't tell its files.
         ensures packet { IfOk result (λ next. IfSome next (λ _.
             (self.old.given < self.old.limit)
             × (self.new ≡ record self.old { given = self.old.given + 1; loose = 0 }))) }
@@ -94,7 +94,7 @@ impl PacketReader {
             × (self.new ≡ record self.old { loose = self.new.loose }) }
         ensures err { OnErr result (self.new ≡ self.old) }
 
-        // The causes.
+        // What an error comes from.
         ensures too_long { IsErrOf result NextNo.TooLong → self.old.given ≡ self.old.limit }
         ensures gone { HasGone (S.counts shelf.old) (S.counts shelf.new) (blame_of_next result) }
         ensures kept { S.files shelf.new ≡ S.files shelf.old }
@@ -107,11 +107,10 @@ impl PacketReader {
         }
     }
 
-    /// Puts the next whole packets at the front of the places, read at once, and answers how many they are. They are as
-    /// many as there are places, as the limit still allows and as are left. It is 0 where fewer than 188 bytes are
-    /// left.
+    /// Reads the next whole packets at once to the front of `into`, and answers their number: as many as fit, as the
+    /// limit still allows and as are left. It is 0 where fewer than 188 bytes are left.
     ///
-    /// It refuses as `next` does. Where it answers 0 or refuses, the places are as they were.
+    /// The errors are those of `next`. After 0 or an error `into` is as before.
     pub fn next_many<S: Shelf>(
         &mut self,
         shelf: &mut S,
@@ -123,7 +122,7 @@ impl PacketReader {
         ensures told { IfSome (S.files shelf.old) (λ held.
             AreNext (map.get held name.now) self.old result into.new self.new) }
 
-        // What it leaves, also where the shelf doesn't tell its files.
+        // The reader and `into` after the call, also where the shelf doesn't tell its files.
         ensures count { IfOk result (λ n. n ≤ length into.new) }
         ensures rest { IfOk result (λ n. drop n into.new ≡ drop n into.old) }
         ensures packets { IfOk result (λ n. 0 < n →
@@ -134,7 +133,7 @@ impl PacketReader {
         ensures err { OnErr result (self.new ≡ self.old) }
         ensures err_rest { OnErr result (into.new ≡ into.old) }
 
-        // The causes.
+        // What an error comes from.
         ensures too_long { IsErrOf result NextNo.TooLong → self.old.given ≡ self.old.limit }
         ensures gone { HasGone (S.counts shelf.old) (S.counts shelf.new) (blame_of_next result) }
         ensures kept { S.files shelf.new ≡ S.files shelf.old }
@@ -144,7 +143,7 @@ impl PacketReader {
         self.next_through(shelf, name, &mut bytes[..room], into)
     }
 
-    /// Does what `next_many` does, through a buffer for as many packets as there are places.
+    /// Does what `next_many` does. The buffer `bytes` has room for as many packets as `into`.
     fn next_through<S: Shelf>(
         &mut self,
         shelf: &mut S,
@@ -186,7 +185,7 @@ impl PacketReader {
         ensures gone { HasGone (S.counts shelf.old) (S.counts shelf.new) (blame_of_next result) }
         ensures kept { S.files shelf.new ≡ S.files shelf.old }
     {
-        // Where the limit is reached, one packet more shows whether the file is longer.
+        // At the limit one more packet is read, which shows whether the file is longer.
         let wanted = (bytes.len() / PACKET).min(self.left().max(1) as usize);
         let place = (self.first + self.given) * PACKET as u64;
         match fill(shelf, name, place, &mut bytes[..wanted * PACKET]) {
@@ -202,7 +201,7 @@ impl PacketReader {
         self.limit - self.given
     }
 
-    /// Steps over the whole packets of so many bytes that were read, and answers how many they are.
+    /// Advances past the whole packets of `filled` bytes, and answers their number. The error is `TooLong`.
     fn step_over(&mut self, filled: usize) -> Result<usize, NextNo>
         requires { filled / PACKET ≤ max 1 (self.old.limit - self.old.given) }
         ensures { IsStep self.old filled result self.new }

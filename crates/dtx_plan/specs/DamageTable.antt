@@ -12,11 +12,11 @@ use Rattle.dtx_plan.specs.Rows.{◌>>=◌, refused, table, known, whole, whole_o
 abbrev pub last_end : List Damage → ℕ
 last_end ds = fold (λ _ d. d.at + d.count) 0 ds
 
--- order: not before the end of the entry before it
+-- order: the entry begins where the entry before it ends, or later
 abbrev pub behind : ℕ → ℕ → ℕ → Result (Unit {0}) PlanNo
 behind at end item = if nat_lt at end then refused key.DamageAt item Order else Ok tt
 
--- one entry, where the entry before it ends at a place
+-- one entry, where the entry before it ends at offset `end`
 unfoldable pub damage_from : ℕ → ℕ → Data → Result Damage PlanNo
 damage_from end item d = do
   entry ← table d key.Damage item
@@ -27,6 +27,6 @@ damage_from end item d = do
   put ← signed (get_member (codes "put") entry) key.DamagePut item (negsuc 127) (pos 127)
   Ok (record { at = at; count = count; put = put })
 
--- one entry behind the earlier ones
+-- the entry that follows the earlier ones
 abbrev pub damage : List Damage → Data → Result Damage PlanNo
 damage earlier d = damage_from (last_end earlier) (length earlier) d

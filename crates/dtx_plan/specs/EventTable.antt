@@ -40,18 +40,18 @@ known_keys Flip entry item =
 known_keys Lie entry item = known (codes "do" ∷ codes "to" ∷ codes "from" ∷ codes "states" ∷ []) entry key.Event item
 known_keys Restart entry item = known (codes "do" ∷ codes "to" ∷ []) entry key.Event item
 
--- stranger: some transmitter has the address
+-- stranger: a transmitter of the plan has the address
 abbrev pub no_stranger : ℕ → List Transmitter → PlanKey → ℕ → Result (Unit {0}) PlanNo
 no_stranger address ts k item = if has_address address ts then Ok tt else refused k item Stranger
 
--- a part of the feed
+-- `send`: packets of the feed
 unfoldable pub send : ℕ → Members → ℕ → Result Event PlanNo
 send to entry item = do
   from ← whole (get_member (codes "from") entry) key.From item 0 623999999
   count ← whole (get_member (codes "count") entry) key.Count item 1 (624000000 - from)
   Ok (event.Send to from count)
 
--- packets that are not of the feed
+-- `foreign`: packets that are not of the feed
 unfoldable pub foreign : ℕ → Members → ℕ → Result Event PlanNo
 foreign to entry item = do
   seed ← whole (get_member (codes "seed") entry) key.Seed item 0 9223372036854775807
@@ -59,7 +59,7 @@ foreign to entry item = do
   count ← whole (get_member (codes "count") entry) key.Count item 1 (624000000 - from)
   Ok (event.Foreign to seed from count)
 
--- a packet with a wrong byte
+-- `flip`: a packet with one wrong byte
 unfoldable pub flip : ℕ → Members → ℕ → Result Event PlanNo
 flip to entry item = do
   from ← whole (get_member (codes "from") entry) key.From item 0 623999999
@@ -81,7 +81,7 @@ states_of digits item =
 abbrev pub states : Members → ℕ → Result (List ℕ) PlanNo
 states entry item = text (get_member (codes "states") entry) key.States item >>= λ digits. states_of digits item
 
--- an operations packet of false states
+-- `lie`: an operations packet with false states
 unfoldable pub lie : ℕ → Members → ℕ → Result Event PlanNo
 lie to entry item = do
   from ← whole (get_member (codes "from") entry) key.From item 0 623999999
@@ -96,7 +96,7 @@ event_of Flip to entry item = flip to entry item
 event_of Lie to entry item = lie to entry item
 event_of Restart to entry item = Ok (event.Restart to)
 
--- one entry of a number
+-- entry number `item`
 unfoldable pub event_at : List Transmitter → ℕ → Data → Result Event PlanNo
 event_at ts item d = do
   entry ← table d key.Event item
@@ -106,6 +106,6 @@ event_at ts item d = do
   _ ← no_stranger to ts key.To item
   event_of does to entry item
 
--- one entry behind the earlier ones
+-- the entry that follows the earlier ones
 abbrev pub event_after : List Transmitter → List Event → Data → Result Event PlanNo
 event_after ts earlier d = event_at ts (length earlier) d

@@ -25,7 +25,7 @@ events_of ts entry = do
   items ← array_or_none (get_member (codes "event") entry) key.Event 0 10000
   entries (event_after ts) [] items
 
--- what is done with the transmitters
+-- the table `net`: what is done with the transmitters
 unfoldable pub net_of : List Transmitter → Data → Result NetPlan PlanNo
 net_of ts d = do
   entry ← table d key.Net 0
@@ -35,6 +35,6 @@ net_of ts d = do
   receiving ← receive ts entry
   Ok (record { stream = name; events = schedule; receive = receiving })
 
--- may be absent
+-- the same, and nothing where the table is absent
 abbrev pub net : List Transmitter → Members → Result (Option NetPlan) PlanNo
 net ts root = optional (net_of ts) (get_member (codes "net") root)

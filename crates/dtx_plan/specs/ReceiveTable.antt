@@ -16,7 +16,7 @@ damage_of entry = do
   items ← array_or_none (get_member (codes "damage") entry) key.Damage 0 100000
   entries damage [] items
 
--- what is received
+-- the table `receive`: what is received
 unfoldable pub receive_of : List Transmitter → Data → Result ReceivePlan PlanNo
 receive_of ts d = do
   entry ← table d key.Receive 0
@@ -26,6 +26,6 @@ receive_of ts d = do
   damages ← damage_of entry
   Ok (record { from = from; damage = damages })
 
--- may be absent
+-- the same, and nothing where the table is absent
 abbrev pub receive : List Transmitter → Members → Result (Option ReceivePlan) PlanNo
 receive ts entry = optional (receive_of ts) (get_member (codes "receive") entry)

@@ -10,7 +10,7 @@ use Rattle.dtx_plan.specs.TransmitterTable.{transmitter}
 use Rattle.dtx_plan.specs.DamageTable.{damage}
 use Rattle.dtx_plan.specs.NetTable.{net}
 
--- a plan
+-- the plan that the root of its file says
 unfoldable pub plan : Members → Result Plan PlanNo
 plan root = do
   _ ← known (codes "start" ∷ codes "max_delay" ∷ codes "transmitter" ∷ codes "net" ∷ []) root key.Whole 0
@@ -21,7 +21,7 @@ plan root = do
   network ← net transmitters root
   Ok (record { start = start; max_delay = max_delay; transmitters = transmitters; net = network })
 
--- changes: the root has the one key `damage`
+-- the damage that the root of a file of changes says: its one key is `damage`
 unfoldable pub changes : Members → Result (List Damage) PlanNo
 changes root = do
   _ ← known (codes "damage" ∷ []) root key.Whole 0

@@ -1,5 +1,5 @@
--- What the rows of a plan share. The walk goes row by row, within a row rule by rule, and ends at the first rule that
--- is broken.
+-- The checks that all tables of a plan share. They are made key by key, and for a key rule by rule. The first rule that
+-- is broken ends them. The comment on a definition names the rules that it checks, in their order.
 use Rattle.std.specs.Prelude.{◌≡◌, ℕ, ◌+◌, ℤ, pos, negsuc, Bool, ◌&&◌, nat_le, int_le, if◌then◌else◌, List, [], ◌∷◌}
 use Rattle.std.specs.Prelude.{◌++◌, Option, Some, None, Result, Ok, Err}
 use Rattle.std.specs.List.{list_any}
@@ -13,23 +13,23 @@ use Rattle.dtx_plan.specs.declared.refusal.PlanNo.{PlanNo}
 use Rattle.dtx_plan.specs.declared.refusal.PlanFault.{PlanFault}
 use Rattle.dtx_plan.specs.declared.refusal.PlanFault.TheVariants.{No, Memory}
 
--- one step of the walk, and then the next, unless the first is a refusal
+-- one check and then the next, unless the first is a refusal
 infixl 10 ◌>>=◌
 abbrev pub ◌>>=◌ : {A B : Type 0} → Result A PlanNo → (A → Result B PlanNo) → Result B PlanNo
 Ok x >>= f = f x
 Err refusal >>= f = Err refusal
 
--- the refusal by one rule of a key's row, at one entry
+-- a key of entry number `item` breaks a rule
 abbrev pub refused : {A : Type 0} → PlanKey → ℕ → PlanRule → Result A PlanNo
 refused key item rule = Err (record { key = key; item = item; rule = rule })
 
--- what the code answers is what the walk gives, unless memory runs out
+-- the code answers what the checks give, unless memory runs out
 abbrev pub IsAnswer : {A : Type 0} → Result A PlanNo → Result A PlanFault → Type 0
 IsAnswer walked (Ok x) = walked ≡ Ok x
 IsAnswer walked (Err (No refusal)) = walked ≡ Err refusal
 IsAnswer walked (Err Memory) = Unit {0}
 
--- an answer, seen through f
+-- an answer, whose value is seen through f
 abbrev pub seen_by : {A B E : Type 0} → (A → B) → Result A E → Result B E
 seen_by f (Ok x) = Ok (f x)
 seen_by f (Err e) = Err e
@@ -39,7 +39,7 @@ abbrev pub present : Option Data → PlanKey → ℕ → Result Data PlanNo
 present None key item = refused key item Missing
 present (Some d) key item = Ok d
 
--- kind: the value is of the kind that is wanted
+-- kind: the value has the type that its key needs
 abbrev pub of_kind : {A : Type 0} → Option A → PlanKey → ℕ → Result A PlanNo
 of_kind None key item = refused key item Kind
 of_kind (Some a) key item = Ok a
@@ -109,7 +109,7 @@ array_or_none (Some d) key item most = array_value d key item 0 most
 abbrev pub table : Data → PlanKey → ℕ → Result Members PlanNo
 table d key item = of_kind (as_table d) key item
 
--- nothing where absent, and else what the value is read as
+-- nothing where the value is absent, and else what `read` makes of it
 abbrev pub optional : {A : Type 0} → (Data → Result A PlanNo) → Option Data → Result (Option A) PlanNo
 optional read None = Ok None
 optional read (Some d) = read d >>= λ a. Ok (Some a)
@@ -124,7 +124,7 @@ known names no_members key item = Ok tt
 known names (member name d ms) key item =
     if is_listed name names then known names ms key item else refused key item Unknown
 
--- the entries of an array, one after another behind the ones that are done: all rows of one before the next
+-- the entries of an array, read in order and appended to those that are done
 abbrev pub entries : {A : Type 0} → (List A → Data → Result A PlanNo) → List A → Items → Result (List A) PlanNo
 entries entry done no_items = Ok done
 entries entry done (item_of d ds) = entry done d >>= λ next. entries entry (done ++ next ∷ []) ds

@@ -23,7 +23,7 @@ pub record IsTransmitter (t : Transmitter) : Type 0 where
   pub offset : FitsSigned w16 t.offset
   pub delay : t.delay < 2 ^ 32
 
--- packets of a feed, at least one, and the last within the longest feed
+-- packets of a feed: at least one, and the last is within the longest feed
 pub record IsPart (from count : ℕ) : Type 0 where
   pub some : 1 ≤ count
   pub most : from + count ≤ 624000000
@@ -36,7 +36,7 @@ to_of (Flip to from at with) = to
 to_of (Lie to from states) = to
 to_of (Restart to) = to
 
--- the numbers of an event are in the ranges that a schedule takes; a plan's text says less of seeds, by its row
+-- the numbers of an event are in the ranges that a schedule takes; a plan's text has a smaller range of seeds
 abbrev pub IsInRange : Event → Type 0
 IsInRange (Send to from count) = IsPart from count
 IsInRange (Foreign to seed from count) = IsPart from count × (seed < 2 ^ 64)
@@ -66,7 +66,7 @@ pub record IsReceived (ts : List Transmitter) (r : ReceivePlan) : Type 0 where
   pub listed : has_address r.from ts ≡ true
   pub damage : AreDamages r.damage
 
--- what is done is done with transmitters of the plan
+-- all that is done is done with transmitters of the plan
 pub record IsNet (ts : List Transmitter) (n : NetPlan) : Type 0 where
   pub some : 1 ≤ length n.stream
   pub name : length n.stream ≤ 255
@@ -80,6 +80,6 @@ pub record IsSound (p : Plan) : Type 0 where
   pub max_delay : p.max_delay < 10000000
   pub transmitters : AreTransmitters p.transmitters
 
--- what is done with its transmitters, where it is said
+-- what is done with the plan's transmitters is sound, where the plan says it
 abbrev pub HasSoundNet : Plan → Type 0
 HasSoundNet p = IfSome p.net (IsNet p.transmitters)

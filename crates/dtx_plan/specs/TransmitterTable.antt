@@ -13,7 +13,7 @@ use Rattle.dtx_plan.specs.Rows.{◌>>=◌, refused, table, known, whole, whole_o
 abbrev pub addresses_of : List Transmitter → List ℕ
 addresses_of ts = map (λ t. t.address) ts
 
--- some transmitter has the address
+-- a transmitter has the address
 abbrev pub has_address : ℕ → List Transmitter → Bool
 has_address address ts = list_any (nat_eq address) (addresses_of ts)
 
@@ -25,7 +25,7 @@ transmitter_place address ts = position (nat_eq address) (addresses_of ts)
 abbrev pub once : ℕ → List Transmitter → ℕ → Result (Unit {0}) PlanNo
 once address earlier item = if has_address address earlier then refused key.Address item Twice else Ok tt
 
--- one entry behind the earlier ones
+-- the entry that follows the earlier ones
 unfoldable pub transmitter : List Transmitter → Data → Result Transmitter PlanNo
 transmitter earlier d = do
   entry ← table d key.Transmitter (length earlier)

@@ -5,7 +5,7 @@ use Rattle.dtx_plan.specs.declared.key.PlanKey.TheVariants as key
 use Rattle.dtx_plan.specs.declared.rule.PlanRule.{PlanRule}
 use Rattle.dtx_plan.specs.declared.rule.PlanRule.TheVariants as rule
 
--- a key's word is its name in the file, and in the tables `receive` and `damage` behind the name of the table
+-- a key's word is its name in the file; in the tables `receive` and `damage` the table's name stands before it
 abbrev pub key_word : PlanKey → List ℕ
 key_word key.Whole = codes "whole"
 key_word key.Start = codes "start"

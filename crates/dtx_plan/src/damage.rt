@@ -4,8 +4,8 @@ ghost use Rattle.std.specs.Prelude.{◌≡◌, ◌<◌, [], length, slice_get, S
 use std::alloc::Global;
 use std::marker::Model;
 
-/// One entry of damage: `put` stands in place of each of the `count` bytes from `at` on, which of a symbol file are
-/// symbols.
+/// One entry of damage: `put` replaces each of the `count` bytes from offset `at` on. In a symbol file a byte is a
+/// symbol.
 #[derive(Clone, Copy)]
 pub struct Damage {
     pub at: u64,
@@ -13,7 +13,7 @@ pub struct Damage {
     pub put: i8,
 }
 
-/// The entries of damage, seen as the list of them.
+/// The entries of damage. Contracts see the value as the list of them.
 #[derive(Drop)]
 pub struct Damages {
     pub(crate) all: Vec<Damage>,
@@ -45,7 +45,7 @@ impl Damages {
         self.all.len()
     }
 
-    /// The entry of that number, from 0.
+    /// The entry of that number, counted from 0.
     pub fn get(&self, i: usize) -> Damage
         requires { i < length self.now }
         ensures { slice_get self.now i ≡ Some result }

@@ -1,4 +1,4 @@
-// The walk over the array `damage`.
+// Reading the array `damage`.
 ghost use Rattle.std.specs.Prelude.{◌≡◌};
 ghost use Rattle.toml.specs.View.{view, table_view};
 ghost use Rattle.dtx_plan.specs.Rows.{IsAnswer};
@@ -18,7 +18,7 @@ use toml::{Table, Value};
 /// The keys of an entry.
 const KEYS: &[&str] = &["at", "count", "put"];
 
-/// The damage that stands in a table, entry by entry, and none where it is absent.
+/// Reads the array `damage` of a table, entry by entry. There are no entries where the key is absent.
 pub(crate) fn damages(alloc: Global, entry: &Table) -> Result<Damages, PlanFault>
     ensures { IsAnswer (damage_of (table_view entry.now)) result }
 {
@@ -39,7 +39,7 @@ pub(crate) fn damages(alloc: Global, entry: &Table) -> Result<Damages, PlanFault
     Ok(Damages { all })
 }
 
-/// One entry, where the entry before it ends at `end`.
+/// Reads entry number `item`. The entry before it ends at offset `end`.
 #[tactic(auto, unfolding(crate::specs::DamageTable::damage_from))]
 fn damage(end: u64, item: u32, value: &Value) -> Result<Damage, PlanNo>
     ensures { result ≡ spec.damage_from end item (view value.now) }

@@ -5,36 +5,36 @@ use dtx_trellis::States;
 use std::alloc::{AllocError, Global};
 use std::marker::Model;
 
-/// One step of the schedule of a network: what the transmitter of the address `to` is given.
+/// One event of a network's schedule: what is done with the transmitter of address `to`.
 #[derive(Clone, Copy, PartialEq, Eq)]
 pub enum Event {
-    /// `count` packets of the feed, from `from` on.
+    /// It is given `count` packets of the feed, from packet `from` on.
     Send {
         to: u16,
         from: u64,
         count: u64,
     },
-    /// `count` made packets of the seed, from `from` on.
+    /// It is given `count` packets made from the seed, from packet `from` on.
     Foreign {
         to: u16,
         seed: u64,
         from: u64,
         count: u64,
     },
-    /// Packet `from` of the feed, its byte `at` flipped with `with`.
+    /// It is given packet `from` of the feed, with `with` added to byte `at` by exclusive or.
     Flip {
         to: u16,
         from: u64,
         at: u8,
         with: u8,
     },
-    /// Packet `from` of the feed with these states, where it reads as an operations packet, and else as it is.
+    /// It is given packet `from` of the feed. If that is an operations packet, these states replace its own.
     Lie {
         to: u16,
         from: u64,
         states: States,
     },
-    /// A new start of its exciter.
+    /// Its exciter is restarted.
     Restart {
         to: u16,
     },
@@ -50,7 +50,7 @@ pub(crate) enum EventKind {
     Restart,
 }
 
-/// The events of a plan, seen as the list of them.
+/// The events of a plan. Contracts see the value as the list of them.
 #[derive(Drop)]
 pub struct Events {
     pub(crate) all: Vec<Event>,
@@ -82,7 +82,7 @@ impl Events {
         self.all.len()
     }
 
-    /// The event of that number, from 0.
+    /// The event of that number, counted from 0.
     pub fn get(&self, i: usize) -> Event
         requires { i < length self.now }
         ensures { slice_get self.now i ≡ Some result }

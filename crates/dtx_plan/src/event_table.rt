@@ -1,4 +1,4 @@
-// The walk over the array `event`.
+// Reading the array `event`.
 ghost use Rattle.std.specs.Prelude.{◌≡◌};
 ghost use Rattle.toml.specs.View.{view, table_view};
 ghost use Rattle.dtx_plan.specs.Rows.{IsAnswer};
@@ -17,7 +17,7 @@ use dtx_trellis::States;
 use std::alloc::Global;
 use toml::{Table, Value};
 
-/// The events that stand in a table, entry by entry, and none where they are absent.
+/// Reads the array `event` of a table, entry by entry. There are no events where the key is absent.
 pub(crate) fn events(
     alloc: Global,
     transmitters: &Transmitters,
@@ -40,7 +40,7 @@ pub(crate) fn events(
     Ok(Events { all })
 }
 
-/// One entry.
+/// Reads entry number `item`.
 #[tactic(auto, unfolding(crate::specs::EventTable::event_at))]
 fn event(transmitters: &Transmitters, item: u32, value: &Value) -> Result<Event, PlanNo>
     ensures { result ≡ spec.event_at transmitters.now item (view value.now) }
@@ -67,7 +67,7 @@ fn event(transmitters: &Transmitters, item: u32, value: &Value) -> Result<Event,
     event_of(kind, to, entry, item)
 }
 
-/// What the event does.
+/// Reads `do`, which says what the event does.
 fn kind(entry: &Table, item: u32) -> Result<EventKind, PlanNo>
     ensures { result ≡ spec.kind (table_view entry.now) item }
 {
@@ -85,7 +85,7 @@ fn kind(entry: &Table, item: u32) -> Result<EventKind, PlanNo>
     }
 }
 
-/// Each key of the entry is `do`, `to` or one of its kind.
+/// Checks that each key of the entry is `do`, `to` or one of its kind.
 fn known_keys(kind: EventKind, entry: &Table, item: u32) -> Result<(), PlanNo>
     ensures { result ≡ spec.known_keys kind (table_view entry.now) item }
 {
@@ -108,7 +108,7 @@ fn known_keys(kind: EventKind, entry: &Table, item: u32) -> Result<(), PlanNo>
     }
 }
 
-/// The rows that depend on the kind.
+/// Reads the keys that depend on the kind.
 #[tactic(auto, unfolding(crate::specs::EventTable::event_of))]
 fn event_of(kind: EventKind, to: u16, entry: &Table, item: u32) -> Result<Event, PlanNo>
     ensures { result ≡ spec.event_of kind to (table_view entry.now) item }
@@ -122,7 +122,7 @@ fn event_of(kind: EventKind, to: u16, entry: &Table, item: u32) -> Result<Event,
     }
 }
 
-/// A part of the feed.
+/// Reads the keys of `send`, which gives packets of the feed.
 #[tactic(auto, unfolding(crate::specs::EventTable::send))]
 fn send(to: u16, entry: &Table, item: u32) -> Result<Event, PlanNo>
     ensures { result ≡ spec.send to (table_view entry.now) item }
@@ -137,7 +137,7 @@ fn send(to: u16, entry: &Table, item: u32) -> Result<Event, PlanNo>
     }
 }
 
-/// Packets that are not of the feed.
+/// Reads the keys of `foreign`, which gives packets that are not of the feed.
 #[tactic(auto, unfolding(crate::specs::EventTable::foreign))]
 fn foreign(to: u16, entry: &Table, item: u32) -> Result<Event, PlanNo>
     ensures { result ≡ spec.foreign to (table_view entry.now) item }
@@ -162,7 +162,7 @@ fn foreign(to: u16, entry: &Table, item: u32) -> Result<Event, PlanNo>
     })
 }
 
-/// A packet with a wrong byte.
+/// Reads the keys of `flip`, which gives a packet with one wrong byte.
 #[tactic(auto, unfolding(crate::specs::EventTable::flip))]
 fn flip(to: u16, entry: &Table, item: u32) -> Result<Event, PlanNo>
     ensures { result ≡ spec.flip to (table_view entry.now) item }
@@ -182,7 +182,7 @@ fn flip(to: u16, entry: &Table, item: u32) -> Result<Event, PlanNo>
     Ok(Event::Flip { to, from, at, with })
 }
 
-/// An operations packet of false states.
+/// Reads the keys of `lie`, which gives an operations packet with false states.
 #[tactic(auto, unfolding(crate::specs::EventTable::lie))]
 fn lie(to: u16, entry: &Table, item: u32) -> Result<Event, PlanNo>
     ensures { result ≡ spec.lie to (table_view entry.now) item }
@@ -197,7 +197,7 @@ fn lie(to: u16, entry: &Table, item: u32) -> Result<Event, PlanNo>
     }
 }
 
-/// The states that a packet lies about.
+/// Reads `states`, which are the false states.
 fn states(entry: &Table, item: u32) -> Result<States, PlanNo>
     ensures { result ≡ spec.states (table_view entry.now) item }
 {
@@ -207,7 +207,7 @@ fn states(entry: &Table, item: u32) -> Result<States, PlanNo>
     }
 }
 
-/// The states that twelve digits from 0 to 7 spell.
+/// The states of the twelve coders, spelled as twelve digits from 0 to 7.
 fn states_of(digits: &[u8], item: u32) -> Result<States, PlanNo>
     ensures { result ≡ spec.states_of digits.now item }
 {

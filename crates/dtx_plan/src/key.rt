@@ -30,7 +30,7 @@ static WORDS: [&str; 24] = [
     "damage.put",
 ];
 
-/// The key of the row whose rule is broken (the profile's own plan file).
+/// The key that a refusal of a plan names. Plan files are the profile's own.
 #[derive(Clone, Copy, PartialEq, Eq)]
 pub enum PlanKey {
     /// The file, or the keys of its root.
@@ -45,7 +45,7 @@ pub enum PlanKey {
     Address,
     /// The offset of a transmitter.
     Offset,
-    /// The delay of the way to a transmitter.
+    /// The delay of the feed on its way to a transmitter.
     Delay,
     /// The table `net`.
     Net,
@@ -84,7 +84,7 @@ pub enum PlanKey {
 }
 
 impl PlanKey {
-    /// The word of the key in the line of a refusal.
+    /// How the line of a refusal names the key.
     pub fn word(&self) -> &'static str
         ensures { result.now ≡ key_word self.now }
     {

@@ -1,4 +1,4 @@
-//! Plans of a network, and files of changes: what their text says, or the first rule that it breaks.
+//! Reads plans of a network, and files of changes: gives what the text says, or the first rule that it breaks.
 #![tactic(auto)]
 
 mod damage;

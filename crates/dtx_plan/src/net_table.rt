@@ -1,4 +1,4 @@
-// The walk over the table `net`.
+// Reading the table `net`.
 ghost use Rattle.toml.specs.View.{table_view};
 ghost use Rattle.dtx_plan.specs.Rows.{IsAnswer};
 ghost use Rattle.dtx_plan.specs.NetTable as spec;
@@ -19,7 +19,7 @@ use toml::Table;
 /// The keys of the table.
 const KEYS: &[&str] = &["stream", "event", "receive"];
 
-/// What is done with the transmitters, where it is said.
+/// Reads the table `net`, which says what is done with the transmitters. Gives `None` where the table is absent.
 #[tactic(auto, unfolding(crate::specs::NetTable::net_of))]
 pub(crate) fn net(
     alloc: Global,
@@ -58,7 +58,7 @@ pub(crate) fn net(
     }))
 }
 
-/// The name of the file of the stream.
+/// Reads `stream`, which names the file of the stream.
 fn stream(alloc: Global, entry: &Table) -> Result<Word, PlanFault>
     ensures { IsAnswer (spec.stream (table_view entry.now)) result }
 {

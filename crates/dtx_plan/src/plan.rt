@@ -5,8 +5,8 @@ use crate::event::Events;
 use crate::transmitters::Transmitters;
 use dtx_outside::Word;
 
-/// A plan of a network: the tick at which its feed starts, its maximum delay in ticks of 100 ns, and its transmitters.
-/// Where it is said, also what is done with them.
+/// A plan of a network: the tick of 100 ns at which its feed starts, its maximum delay in ticks, and its transmitters.
+/// A plan may also say what is done with them.
 #[derive(Drop)]
 pub struct Plan {
     pub start: u32,
@@ -15,8 +15,8 @@ pub struct Plan {
     pub net: Option<NetPlan>,
 }
 
-/// What is done with the transmitters: the name of the file of their stream, the schedule, and what is received, where
-/// it is said.
+/// What is done with the transmitters: the name of the file of their stream, the schedule, and what is received, if
+/// anything is.
 #[derive(Drop)]
 pub struct NetPlan {
     pub stream: Word,

@@ -15,10 +15,12 @@ use crate::rule::PlanRule;
 use std::alloc::Global;
 use toml::Table;
 
-/// The plan that the bytes of a file say, or the first refusal of the walk over it (the profile's own plan file).
+/// Reads a plan from the bytes of its file (the profile's own format). The error is the first rule that the plan
+/// breaks, or out of memory.
 ///
-/// The walk goes from top to bottom, entry by entry, and in each table row by row. First come the keys that the table
-/// may hold (of an event first `do`, which says what these are), then each key's rules. Memory may run out at any step.
+/// The rules are checked from top to bottom, entry by entry, and in each table key by key. Before the values of a table
+/// its keys are checked, each of which has to be known. In an event `do` comes first of all, since it says which keys
+/// the event may have. Memory may run out at any step.
 pub fn read_plan(alloc: Global, bytes: &[u8]) -> Result<Plan, PlanFault>
     ensures walk { IsAnswer (spec.plan_of bytes.now) result }
     ensures sound { IfOk result IsSound }
@@ -30,8 +32,8 @@ pub fn read_plan(alloc: Global, bytes: &[u8]) -> Result<Plan, PlanFault>
     }
 }
 
-/// The damage that the bytes of a file of changes say, or the first refusal of the walk over it. A file of changes is
-/// the profile's own: one array `damage`, with the rows that it has in a plan.
+/// Reads damage from the bytes of a file of changes (the profile's own format). Such a file is one array `damage`, as a
+/// plan has it. The error is the first rule that it breaks, or out of memory.
 pub fn read_changes(alloc: Global, bytes: &[u8]) -> Result<Damages, PlanFault>
     ensures walk { IsAnswer (spec.changes_of bytes.now) result }
     ensures sound { IfOk result AreDamages }
@@ -42,7 +44,7 @@ pub fn read_changes(alloc: Global, bytes: &[u8]) -> Result<Damages, PlanFault>
     }
 }
 
-/// The table that the bytes read as.
+/// Reads the bytes as a TOML table.
 fn root(alloc: Global, bytes: &[u8]) -> Result<Table, PlanFault>
     ensures { IsAnswer (spec.root_of bytes.now) (seen_by table_view result) }
 {

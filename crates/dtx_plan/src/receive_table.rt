@@ -1,4 +1,4 @@
-// The walk over the table `receive`.
+// Reading the table `receive`.
 ghost use Rattle.toml.specs.View.{table_view};
 ghost use Rattle.dtx_plan.specs.Rows.{IsAnswer};
 ghost use Rattle.dtx_plan.specs.ReceiveTable as spec;
@@ -17,7 +17,7 @@ use toml::Table;
 /// The keys of the table.
 const KEYS: &[&str] = &["from", "damage"];
 
-/// What is received, where it is said.
+/// Reads the table `receive`, which says what is received. Gives `None` where the table is absent.
 #[tactic(auto, unfolding(crate::specs::ReceiveTable::receive_of))]
 pub(crate) fn receive(
     alloc: Global,

@@ -6,8 +6,8 @@ use crate::key::PlanKey;
 use crate::rule::PlanRule;
 use std::alloc::{AllocError, AllocFailed};
 
-/// The first refusal of the walk over a plan: the key of its row, the number of the entry, and the rule that is broken.
-/// Entries are counted from 0, and the number is 0 where there is no entry.
+/// The first rule that a plan breaks: the key, the number of the entry, and the rule. Entries are counted from 0. The
+/// number is 0 where the key is in no entry.
 #[derive(Clone, Copy, PartialEq, Eq)]
 pub struct PlanNo {
     pub key: PlanKey,
@@ -16,7 +16,7 @@ pub struct PlanNo {
 }
 
 impl PlanNo {
-    /// The refusal by one rule of a key's row, at one entry.
+    /// A rule that a key of entry number `item` breaks.
     pub(crate) fn new(key: PlanKey, item: u32, rule: PlanRule) -> PlanNo
         ensures { result ≡ record { key = key; item = item; rule = rule } }
     {
@@ -27,7 +27,7 @@ impl PlanNo {
 /// Why no plan was read.
 #[derive(Clone, Copy)]
 pub enum PlanFault {
-    /// A rule of the walk is broken.
+    /// The plan breaks a rule.
     No(PlanNo),
     /// Out of memory.
     Memory,

@@ -1,4 +1,4 @@
-// The walk over the root of a plan, and of a file of changes.
+// Reading the root of a plan, and of a file of changes.
 ghost use Rattle.toml.specs.View.{table_view};
 ghost use Rattle.dtx_plan.specs.Rows.{IsAnswer};
 ghost use Rattle.dtx_plan.specs.RootTable as spec;
@@ -19,7 +19,7 @@ use toml::Table;
 /// The keys of a plan.
 const KEYS: &[&str] = &["start", "max_delay", "transmitter", "net"];
 
-/// The plan that a table says.
+/// Reads the plan from the root table of its file.
 #[tactic(auto, unfolding(crate::specs::RootTable::plan))]
 pub(crate) fn plan(alloc: Global, root: &Table) -> Result<Plan, PlanFault>
     ensures { IsAnswer (spec.plan (table_view root.now)) result }
@@ -57,7 +57,7 @@ pub(crate) fn plan(alloc: Global, root: &Table) -> Result<Plan, PlanFault>
     })
 }
 
-/// The damage that the table of a file of changes says.
+/// Reads the damage from the root table of a file of changes.
 #[tactic(auto, unfolding(crate::specs::RootTable::changes))]
 pub(crate) fn changes(alloc: Global, root: &Table) -> Result<Damages, PlanFault>
     ensures { IsAnswer (spec.changes (table_view root.now)) result }

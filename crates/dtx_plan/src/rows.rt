@@ -1,4 +1,4 @@
-// What the rows of a plan share: missing, kind, range and unknown.
+// The checks that all tables of a plan share: a key is missing, a value has the wrong kind or range, a key is unknown.
 ghost use Rattle.std.specs.Prelude.{◌≡◌, ◌≤◌, ◌≤ℤ◌, IfOk, map, option_map, length};
 ghost use Rattle.toml.specs.View.{view, table_view, items_view};
 ghost use Rattle.toml.specs.Data.{get_member};
@@ -10,7 +10,7 @@ use crate::refusal::PlanNo;
 use crate::rule::PlanRule;
 use toml::{Table, Value};
 
-/// A row of a table: what stands at a key, and how a refusal names it.
+/// A row of a table: the value of a key, if there is one, and how a refusal names the key.
 #[derive(Clone, Copy)]
 pub(crate) struct Row<'a> {
     value: Option<&'a Value>,
@@ -19,7 +19,7 @@ pub(crate) struct Row<'a> {
 }
 
 impl<'a> Row<'a> {
-    /// The row of that name in a table, which a refusal names by `key` and by the number of the entry.
+    /// The row of the key `name` of a table. A refusal names it by `key`, and by the number `item` of the entry.
     pub(crate) fn new(table: &'a Table, name: &str, key: PlanKey, item: u32) -> Row<'a>
         ensures value { option_map (λ v. view v.now) result.value ≡ get_member name.now (table_view table.now) }
         ensures key { result.key ≡ key }
@@ -38,7 +38,7 @@ impl<'a> Row<'a> {
         PlanNo::new(self.key, self.item, rule)
     }
 
-    /// The whole number that stands there, from `least` to `most`.
+    /// The value as a whole number from `least` to `most`.
     pub(crate) fn whole(self, least: u64, most: u64) -> Result<u64, PlanNo>
         ensures row { result
             ≡ spec.whole (option_map (λ v. view v.now) self.entry.value) self.entry.key self.entry.item least most }
@@ -50,7 +50,7 @@ impl<'a> Row<'a> {
         }
     }
 
-    /// The whole number that stands there, from `least` to `most`, and `absent` where nothing stands there.
+    /// The value as a whole number from `least` to `most`, or `absent` where the key is missing.
     pub(crate) fn whole_or(self, absent: u64, least: u64, most: u64) -> Result<u64, PlanNo>
         requires { (least ≤ absent) × (absent ≤ most) }
         ensures row { result
@@ -80,7 +80,7 @@ impl<'a> Row<'a> {
         }
     }
 
-    /// The number of either sign that stands there, from `least` to `most`.
+    /// The value as a number of either sign, from `least` to `most`.
     pub(crate) fn signed(self, least: i64, most: i64) -> Result<i64, PlanNo>
         ensures row { result
             ≡ spec.signed (option_map (λ v. view v.now) self.entry.value) self.entry.key self.entry.item least most }
@@ -96,7 +96,7 @@ impl<'a> Row<'a> {
         }
     }
 
-    /// The text that stands there.
+    /// The value as a text.
     pub(crate) fn text(self) -> Result<&'a str, PlanNo>
         ensures { seen_by (λ s. s.now) result
             ≡ spec.text (option_map (λ v. view v.now) self.entry.value) self.entry.key self.entry.item }
@@ -110,7 +110,7 @@ impl<'a> Row<'a> {
         }
     }
 
-    /// The array that stands there, of `least` to `most` entries.
+    /// The value as an array of `least` to `most` entries.
     pub(crate) fn array(self, least: usize, most: usize) -> Result<&'a [Value], PlanNo>
         ensures row { seen_by (λ v. items_view v.now) result
             ≡ spec.array (option_map (λ v. view v.now) self.entry.value) self.entry.key self.entry.item least most }
@@ -122,7 +122,7 @@ impl<'a> Row<'a> {
         }
     }
 
-    /// The array that stands there, of up to `most` entries, and one of no entries where nothing stands there.
+    /// The value as an array of at most `most` entries, or an empty array where the key is missing.
     pub(crate) fn array_or_none(self, most: usize) -> Result<&'a [Value], PlanNo>
         ensures row { seen_by (λ v. items_view v.now) result
             ≡ spec.array_or_none (option_map (λ v. view v.now) self.entry.value) self.entry.key self.entry.item
@@ -158,7 +158,7 @@ impl<'a> Row<'a> {
     }
 }
 
-/// The table that a value is.
+/// The value as a table.
 pub(crate) fn table(value: &Value, key: PlanKey, item: u32) -> Result<&Table, PlanNo>
     ensures { seen_by (λ t. table_view t.now) result ≡ spec.table (view value.now) key item }
 {
@@ -168,7 +168,7 @@ pub(crate) fn table(value: &Value, key: PlanKey, item: u32) -> Result<&Table, Pl
     }
 }
 
-/// Each key of the table is one of these names.
+/// Checks that each key of the table is one of these names.
 pub(crate) fn known(table: &Table, names: &[&str], key: PlanKey, item: u32) -> Result<(), PlanNo>
     ensures { result ≡ spec.known (map (λ n. n.now) names.now) (table_view table.now) key item }
 {
@@ -186,7 +186,7 @@ fn is_listed(name: &str, names: &[&str]) -> bool
     names.contains(&name)
 }
 
-/// The value at a key.
+/// The value of a key, if the table has it.
 pub(crate) fn member<'a>(table: &'a Table, name: &str) -> Option<&'a Value>
     ensures { option_map (λ v. view v.now) result ≡ get_member name.now (table_view table.now) }
 {

@@ -7,18 +7,18 @@ static WORDS: [&str; 9] = [
     "size", "text", "unknown", "missing", "kind", "range", "twice", "stranger", "order",
 ];
 
-/// The rule that is broken (the profile's own plan file).
+/// A rule that a plan breaks. Plan files are the profile's own.
 #[derive(Clone, Copy, PartialEq, Eq)]
 pub enum PlanRule {
     /// The file has more than 16,777,216 bytes.
     Size,
-    /// The file is no TOML text.
+    /// The file isn't a TOML text.
     Text,
-    /// A table holds a key that is not listed for it.
+    /// A table has a key that is not listed for it.
     Unknown,
     /// A key is missing.
     Missing,
-    /// A value is not of the kind that TOML calls by the row's name.
+    /// A value doesn't have the TOML type that its key needs.
     Kind,
     /// A number, a count of entries or a text is out of its range.
     Range,
@@ -31,7 +31,7 @@ pub enum PlanRule {
 }
 
 impl PlanRule {
-    /// The word of the rule in the line of a refusal.
+    /// How the line of a refusal names the rule.
     pub fn word(&self) -> &'static str
         ensures { result.now ≡ rule_word self.now }
     {

@@ -1,7 +1,8 @@
 // A transmitter of a plan.
 
-/// A transmitter: its address, the offset of its emission from the network's maximum delay, and the delay of the way to
-/// it, in ticks of 100 ns. The offset is that of ATSC A/110, its place in the plan the profile's own.
+/// A transmitter has an address, an offset of its emission from the network's maximum delay, and a delay of the feed on
+/// its way to it. Offset and delay are in ticks of 100 ns. The offset is that of ATSC A/110; how a plan spells it is
+/// the profile's own.
 #[derive(Clone, Copy)]
 pub struct Transmitter {
     pub address: u16,

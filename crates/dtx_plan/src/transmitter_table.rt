@@ -1,4 +1,4 @@
-// The walk over the array `transmitter`.
+// Reading the array `transmitter`.
 ghost use Rattle.std.specs.Prelude.{◌≡◌, ◌^◌, ◌<◌, ◌≤◌, [], length};
 ghost use Rattle.toml.specs.View.{view, items_view};
 ghost use Rattle.dtx_plan.specs.Rows.{IsAnswer, entries};
@@ -17,7 +17,7 @@ use toml::Value;
 /// The keys of an entry.
 const KEYS: &[&str] = &["address", "offset", "delay"];
 
-/// The transmitters, entry by entry.
+/// Reads the transmitters, entry by entry.
 pub(crate) fn transmitters(alloc: Global, values: &[Value]) -> Result<Transmitters, PlanFault>
     requires { length values.now ≤ MOST_TRANSMITTERS }
     ensures { IsAnswer (entries spec.transmitter [] (items_view values.now)) result }
@@ -33,7 +33,7 @@ pub(crate) fn transmitters(alloc: Global, values: &[Value]) -> Result<Transmitte
     Ok(found)
 }
 
-/// One entry behind the earlier ones.
+/// Reads the entry that follows the earlier ones.
 #[tactic(auto, unfolding(crate::specs::TransmitterTable::transmitter))]
 fn transmitter(earlier: &Transmitters, value: &Value) -> Result<Transmitter, PlanNo>
     requires { length earlier.now < 2 ^ 32 }

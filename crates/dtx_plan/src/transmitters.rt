@@ -7,8 +7,8 @@ use std::alloc::{AllocError, Global};
 use std::collections::BTreeMap;
 use std::marker::Model;
 
-/// The transmitters of a plan, seen as the list of them. The place of each is found by its address, without a search
-/// of the list.
+/// The transmitters of a plan. Contracts see the value as the list of them. A lookup by address doesn't search the
+/// list.
 #[derive(Drop)]
 pub struct Transmitters {
     all: Vec<Transmitter>,
@@ -55,7 +55,7 @@ impl Transmitters {
         Ok(all)
     }
 
-    /// One transmitter behind the others. Where memory runs out, the list stays.
+    /// Appends a transmitter. The only error is out of memory, and the list is then as before.
     pub(crate) fn push(&mut self, transmitter: Transmitter) -> Result<(), AllocError>
         ensures ok { OnOk result (self.new ≡ self.old ++ transmitter ∷ []) }
         ensures err { OnErr result (self.new ≡ self.old) }
@@ -88,8 +88,7 @@ impl Transmitters {
         self.all.as_slice()
     }
 
-    /// The place in the list of the transmitter with this address, the first one of several, or `None` exactly where
-    /// there is none.
+    /// The place in the list of the first transmitter with this address, or `None` exactly where there is none.
     pub fn place(&self, address: u16) -> Option<usize>
         ensures place { result ≡ transmitter_place address self.now }
         ensures within { IfSome result (λ place. place < length self.now) }

@@ -24,12 +24,12 @@ levels_from run d n = flat_map (λ i. sliced_data (data_at run i)) (range_with_l
 unfoldable pub levels_in : List (List ℤ) → List ℕ
 levels_in run = levels_from run 0 (4 * groups_of run)
 
--- Z2 of the twelve coders before a run's first data segment: what the run's first field sync repeats. Later ones aren't
--- used.
+-- Z2 of the twelve coders before a run's first data segment, from the symbols that the run's first field sync repeats.
+-- Later field syncs aren't used for it.
 unfoldable pub first_bits : List (List ℤ) → List ℕ
 first_bits run = precoder_bits_of (sliced_last (slice_index_or run 0 []))
 
--- Z2 of the twelve coders behind the whole groups
+-- Z2 of the twelve coders after the whole groups
 unfoldable pub precoder_bits_in : List (List ℤ) → List ℕ
 precoder_bits_in run = precoder_bits_after 0 (first_bits run) (levels_in run)
 

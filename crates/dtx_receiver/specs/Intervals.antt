@@ -1,5 +1,5 @@
--- Runs as intervals of a list of segments, each by the place of its first segment and how many it has. What makes one a
--- run, and what makes some all of the runs. No step of the search is in it.
+-- Runs as intervals of a list of segments: the place of the first segment, and how many there are. The definitions say
+-- which intervals are runs, and which are all of them. They don't follow the steps of the search.
 use Rattle.std.specs.Prelude.{ℕ, ℤ, ◌≡◌, ◌+◌, ◌%◌, ◌<◌, ◌≤◌, ◌⊎◌, Bool, true, false, List, [], ◌∷◌, length}
 use Rattle.std.specs.Prelude.{slice_index_or, slice_range}
 use Rattle.dtx_frame.specs.Detection.{looks_like}
@@ -21,8 +21,8 @@ pub record IsRun (segments : List (List ℤ)) (first n : ℕ) : Type 0 where
   pub ends : (first + n ≡ length segments) ⊎ ((first + n < length segments) × (n % 313 ≡ 0)
       × (looks_at segments (first + n) ≡ false))
 
--- These are the runs from a place on. Each begins with the first segment that looks like a field sync, and behind the
--- segment that ended it the search goes on. That segment isn't searched itself.
+-- These are the runs from a place on. Each run begins with the first segment that looks like a field sync. The search
+-- goes on after the segment that ended the run, so that one isn't searched itself.
 abbrev pub AreRuns : List (List ℤ) → ℕ → List (ℕ × ℕ) → Type 0
 AreRuns segments from [] = NoneLooks segments from (length segments)
 AreRuns segments from (p ∷ ps) = (from ≤ p.0) × NoneLooks segments from p.0 × IsRun segments p.0 p.1

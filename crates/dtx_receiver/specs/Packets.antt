@@ -16,7 +16,7 @@ use Rattle.dtx_receiver.specs.Bytes.{bytes_in}
 unfoldable pub is_complete : ℕ → ℕ → Bool
 is_complete count k = list_all (λ j. nat_lt (codeword_byte_place 52 4 (207 * k + j)) count) (range_with_len 0 207)
 
--- the data of a word as a packet: unwhitened, behind the sync byte 0x47
+-- the data of a word as a packet: the sync byte 0x47, and then the data, unwhitened
 abbrev pub packet_bytes : ℕ → List ℕ → List ℕ
 packet_bytes from word = 0x47 ∷ whitened randomizer_bytes from (take 187 word)
 
@@ -44,7 +44,7 @@ unfoldable pub run_packets : List ℕ → List Received
 run_packets bytes = map (received_at bytes) (filter (is_complete (length bytes)) (range_with_len 0
     (length bytes / 207)))
 
--- those that are given while the run is on: with 53 data segments or more from the packet's own on
+-- the packets that are given while the run is on, for which 53 data segments or more stand from their own on
 unfoldable pub early_of : List ℕ → List Received
 early_of bytes = map (received_at bytes) (range_with_len 0 (length bytes / 207 - 52))
 

@@ -40,7 +40,7 @@ impl Default for Received {
 }
 
 impl Received {
-    /// What is received of a word that became a codeword by so many bytes put right, and has these data.
+    /// The packet of a word whose correction has these data and differs from the word in `fixed` bytes.
     pub fn corrected(head: &[u8; PACKET_DATA], fixed: u8) -> Received
         ensures { result ≡ record { packet = record { 0 = 0x47 ∷ head.now }; fixed = fixed; good = true } }
     {
@@ -51,7 +51,7 @@ impl Received {
         }
     }
 
-    /// What is received of a word that stayed as it was gathered, and has these data.
+    /// The packet of a word that has no correction, from the word's own data.
     pub fn as_gathered(head: &[u8; PACKET_DATA]) -> Received
         ensures { result ≡ record { packet = record { 0 = with_error (0x47 ∷ head.now) }; fixed = 0; good = false } }
     {
@@ -65,7 +65,7 @@ impl Received {
     }
 }
 
-/// The packet of these data, behind its sync byte.
+/// The packet of these data: the sync byte, and then the data.
 fn packet_of(head: &[u8; PACKET_DATA]) -> Packet
     ensures { result.0 ≡ 0x47 ∷ head.now }
 {

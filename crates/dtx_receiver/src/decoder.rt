@@ -13,8 +13,8 @@ use dtx_sizes::{BRANCHES, CODEWORD, FIELD_PACKETS, GROUP_PACKETS, SEGMENT};
 use std::alloc::{AllocError, Global};
 use std::marker::Model;
 
-/// Decodes a run. `Decodes decoder run` says that it holds what the segments of the run leave. No bytes are held from
-/// one call to the next.
+/// Decodes a run. `Decodes decoder run` says that the decoder is as the segments of the run leave it. It holds no bytes
+/// from one call to the next.
 #[derive(Drop)]
 pub(crate) struct Decoder {
     groups: Groups,
@@ -38,7 +38,7 @@ impl Model for Decoder {
 }
 
 impl Decoder {
-    /// Of no run.
+    /// A decoder outside any run. The only error is out of memory.
     pub(crate) fn new(alloc: Global) -> Result<Decoder, AllocError> {
         Ok(Decoder {
             groups: Groups::new(),
@@ -47,7 +47,7 @@ impl Decoder {
         })
     }
 
-    /// A run begins with this field sync.
+    /// Begins a run with this field sync.
     pub(crate) fn begin(&mut self, sync: &[i8; SEGMENT])
         ensures { Decodes self.new (sync.now ∷ []) }
     {
@@ -56,7 +56,8 @@ impl Decoder {
         self.turn = 0;
     }
 
-    /// The next data segment of the run, at this place of its field, and the packets that it completes.
+    /// Takes the next data segment of the run, at place `place` of its field. The empty batch gets the packets that it
+    /// completes.
     pub(crate) fn take(&mut self, place: u16, segment: &[i8; SEGMENT], batch: &mut Batch)
         requires place { place < FIELD_PACKETS }
         requires none { batch.old.packets.items ≡ [] }
@@ -73,8 +74,9 @@ impl Decoder {
         }
     }
 
-    /// The next data segments of the run, as the bytes of their symbols, and the packets that they complete. The first
-    /// is at this place of its field. All their whole groups go through the outer decoding together.
+    /// Takes the next data segments of the run, as the bytes of their symbols. The first stands at place `place` of its
+    /// field. The empty batch gets the packets that they complete. All whole groups go through the outer decoding
+    /// together.
     pub(crate) fn take_all(&mut self, place: u16, segments: &[[u8; SEGMENT]], batch: &mut Batch)
         requires place { place + length segments.now ≤ FIELD_PACKETS }
         requires most { length segments.now ≤ GROUP_PACKETS * HELD_GROUPS }
@@ -91,7 +93,7 @@ impl Decoder {
         self.turn = turn_behind(self.turn, given);
     }
 
-    /// The run has ended: what is left of its packets.
+    /// Ends the run. The empty batch gets the packets that are left, which is at most one.
     pub(crate) fn end(&mut self, batch: &mut Batch)
         requires none { batch.old.packets.items ≡ [] }
         ensures packets { (run : List (List ℤ)) → Decodes self.old run
@@ -104,7 +106,7 @@ impl Decoder {
     }
 }
 
-/// How many data segments are in whole groups, modulo 52, behind so many groups more.
+/// How many data segments are in whole groups, modulo 52, after `groups` groups more.
 fn turn_behind(turn: u8, groups: usize) -> u8
     requires turn { turn < BRANCHES }
     requires groups { groups ≤ HELD_GROUPS }

@@ -1,4 +1,4 @@
-//! From the data segments of a run to the bytes of its groups, which are held until they are given on together.
+//! From a run's data segments to the bytes of its groups. Whole groups are held, and then passed on together.
 
 ghost use Rattle.std.specs.Prelude.{◌≡◌, ℕ, ℤ, ◌+◌, ◌-◌, ◌*◌, ◌/◌, ◌%◌, ◌<◌, ◌≤◌, ◌++◌, ◌∷◌, [], List, length, take};
 ghost use Rattle.std.specs.Prelude.{EachIndex, slice_index};
@@ -24,13 +24,13 @@ use std::marker::Model;
 /// How many data segments a group has: one for each packet.
 const GROUP_SEGMENTS: u16 = GROUP_PACKETS as u16;
 
-/// Makes groups of the data segments of a run. `AreGrouped groups run given` says that it holds what the segments of
-/// the run leave, of whose bytes these were given on.
+/// Makes groups of the data segments of a run. `AreGrouped groups run given` says that the value is as the segments of
+/// the run leave it, where `given` are the bytes that were passed on.
 #[derive(Drop)]
 pub struct Groups {
     levels: [u8; GROUP_LEVELS],
     unroll: Unroll,
-    /// Room for the bytes of groups. Behind those that are held anything may stand.
+    /// The bytes of the groups that are held. The bytes after those are unspecified.
     bytes: [[u8; GROUP_BYTES]; HELD_GROUPS],
     held: usize,
 }
@@ -47,7 +47,7 @@ impl Model for Groups {
 }
 
 impl Groups {
-    /// Of no run.
+    /// A value outside any run.
     pub fn new() -> Groups
         ensures { result.held ≡ [] }
     {
@@ -59,7 +59,7 @@ impl Groups {
         }
     }
 
-    /// A run begins with this field sync.
+    /// Begins a run with this field sync.
     pub fn begin(&mut self, sync: &[i8; SEGMENT])
         ensures grouped { AreGrouped self.new (sync.now ∷ []) [] }
         ensures held { self.new.held ≡ [] }
@@ -68,7 +68,8 @@ impl Groups {
         self.held = 0;
     }
 
-    /// The next data segments of the run, as the bytes of their symbols. The first is at this place of its field.
+    /// Takes the next data segments of the run, as the bytes of their symbols. The first stands at place `place` of its
+    /// field.
     pub fn take_all(&mut self, place: u16, segments: &[[u8; SEGMENT]])
         requires place { place + length segments.now ≤ FIELD_PACKETS }
         requires most { length segments.now ≤ GROUP_PACKETS * HELD_GROUPS }
@@ -84,7 +85,7 @@ impl Groups {
         }
     }
 
-    /// The next data segment of the run, at this place of its field.
+    /// Takes the next data segment of the run, at place `place` of its field.
     pub fn take(&mut self, place: u16, segment: &[i8; SEGMENT])
         requires place { place < FIELD_PACKETS }
         requires room { place % 4 ≡ 3 → length self.old.held < HELD_GROUPS }
@@ -108,15 +109,15 @@ impl Groups {
         }
     }
 
-    /// The levels of the group that is on, or that was whole last.
+    /// The levels of the group that is under way, or of the last whole one.
     pub fn levels(&self) -> &[u8; GROUP_LEVELS]
         ensures { result.now ≡ self.now.levels }
     {
         &self.levels
     }
 
-    /// Puts the bytes of the groups that are held in place of the first of others, and tells how many groups these
-    /// were. None is held then.
+    /// Copies the bytes of the groups that are held to the front of `out`, and answers how many groups these are. Then
+    /// none is held.
     pub fn put(&mut self, out: &mut [u8]) -> usize
         requires room { length out.old ≡ GROUP_BYTES * HELD_GROUPS }
         ensures count { result ≡ length self.old.held }
@@ -131,8 +132,8 @@ impl Groups {
         groups
     }
 
-    /// Gives on the bytes of the groups that are held, and tells how many groups these were. None is held then. What
-    /// they complete comes behind the packets of the batch.
+    /// Gives the bytes of the groups that are held to the outer decoding, and adds the packets that they complete to
+    /// the batch. Answers how many groups these are. Then none is held.
     pub(crate) fn give(&mut self, inner: &mut OuterDecoding, batch: &mut Batch) -> usize
         requires white { inner.old.white ≡ randomizer_bytes }
         requires none { batch.old.packets.items ≡ [] }
@@ -156,7 +157,7 @@ impl Groups {
     }
 }
 
-/// Writes the bytes of the group that begins at place `first` of its field to a place among those of others.
+/// Writes the bytes of a group to `groups`, at index `at`. The group begins at place `first` of its field.
 fn write_group(
     unroll: &mut Unroll,
     first: u16,

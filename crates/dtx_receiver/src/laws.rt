@@ -10,8 +10,8 @@ ghost use Rattle.dtx_receiver.specs.Packets.{all_packets, packets_so_far, is_com
 ghost use Rattle.dtx_receiver.specs.declared.batch.Received.{Received};
 ghost use Rattle.dtx_receiver.specs.Runs.{runs, begun, tracking};
 
-/// The runs of a list are those of its intervals that `AreRuns` names, and there is just one list of such intervals. No
-/// run is there just where no segment looks like a field sync.
+/// The runs of a list of segments are the intervals that `AreRuns` names, which holds of exactly one list of intervals.
+/// There is no run exactly where no segment looks like a field sync.
 pub fn intervals()
     ensures are { (segments : List (List ℤ)) → (places : List (ℕ × ℕ)) × AreRuns segments 0 places
         × (runs segments ≡ map (segments_in segments) places) }
@@ -20,10 +20,9 @@ pub fn intervals()
     ensures none { (segments : List (List ℤ)) → (length (runs segments) ≡ 0) ↔ NoneLooks segments 0 (length segments) }
 {}
 
-/// What the segment behind a list is told to be, by the list's runs. Where the last of them reaches the end of the
-/// list, it is on. Where a field sync is due behind its n segments, the segment is one or ends the run, by whether it
-/// looks like one. Else it is a data segment. Where none reaches the end, the segment begins a run just where it looks
-/// like a field sync.
+/// How the segment after a list is tracked. If the last run of the list reaches its end, the run is on. A field sync is
+/// due where 313 divides its length. Then the segment is `Sync` or `Ended`, by whether it looks like a field sync, and
+/// else `Data`. If no run reaches the end, the segment is `Began` or `Searching`, by whether it looks like one.
 pub fn answers()
     ensures on { (segments : List (List ℤ)) (x : List ℤ) (places : List (ℕ × ℕ)) (first n : ℕ)
         → AreRuns segments 0 (places ++ (first, n) ∷ []) → first + n ≡ length segments
@@ -34,14 +33,15 @@ pub fn answers()
         → tracking segments x ≡ (if looks_like x then Tracking.Began else Tracking.Searching) }
 {}
 
-/// With one segment more there is one run more just where the segment is told to begin one.
+/// One segment more brings one run more exactly where it is tracked as `Began`.
 pub fn one_more()
     ensures none { runs [] ≡ [] }
     ensures count { (segments : List (List ℤ)) (x : List ℤ)
         → length (runs (segments ++ x ∷ [])) ≡ length (runs segments) + begun (tracking segments x) }
 {}
 
-/// What is given with one segment more, and what is left at the end of the list, comes behind what was given before.
+/// The packets that one segment more brings follow those given before. So do those that are left at the end of the
+/// list.
 pub fn goes_on()
     ensures none { packets_so_far [] ≡ [] }
     ensures segment { (segments : List (List ℤ)) (x : List ℤ)
@@ -50,8 +50,8 @@ pub fn goes_on()
         × (all_packets segments ≡ packets_so_far segments ++ brought) }
 {}
 
-/// All bytes of packet k are among those of `count` data segments just where enough of these stand from the packet's
-/// own on: 53 or more, or 52 where 52 divides k.
+/// All bytes of packet k are among those of `count` data segments exactly where enough of these begin at the packet's
+/// own: 53 or more, or 52 where 52 divides k.
 pub fn complete()
     ensures told { (count k : ℕ) → is_complete count k ≡ true ↔ IsComplete 207 52 4 count k }
     ensures only { (count k : ℕ) → IsComplete 207 52 4 (207 * count) k
@@ -60,8 +60,8 @@ pub fn complete()
         → IsComplete 207 52 4 (207 * count) k }
 {}
 
-/// Of the first n segments of a list the first packets of the list are received: a cut brings no packet, and changes
-/// none.
+/// The packets of the first n segments of a list are the first packets of the list. So a cut brings no new packet, and
+/// changes none.
 pub fn cut()
     ensures packets { (segments : List (List ℤ)) (n : ℕ)
         → (rest : List Received) × (all_packets segments ≡ all_packets (take n segments) ++ rest) }
@@ -69,9 +69,9 @@ pub fn cut()
         → (rest : List (List ℕ)) × (received segments ≡ received (take n segments) ++ rest) }
 {}
 
-/// Where no run is on at the end of a list, of it and a second one behind it each one's packets are received, one
-/// behind the other. No run is on where the list has none, or where its last run ends before one of its segments. At
-/// this segment a field sync is due, and it doesn't look like one.
+/// Suppose that no run is on at the end of a first list. Then the packets of this list with a second one after it are
+/// those of the first, followed by those of the second. No run is on where the first list has none, or where its last
+/// run ends before one of its segments. There a field sync is due, and the segment doesn't look like one.
 pub fn splice()
     ensures none { (first second : List (List ℤ)) → NoneLooks first 0 (length first)
         → received (first ++ second) ≡ received second }

@@ -1,4 +1,4 @@
-//! The outer coding's way back for the packets of a run.
+//! The outer decoding of a run's packets.
 
 ghost use Rattle.std.specs.Prelude.{◌≡◌, ℕ, ◌+◌, ◌*◌, ◌%◌, ◌<◌, ◌≤◌, ◌++◌, [], List, IfOk, length};
 ghost use Rattle.dtx_outer.specs.Inner.{StandsFor};
@@ -16,8 +16,8 @@ use dtx_whiten::Atsc;
 use std::alloc::{AllocError, Global};
 use std::rc::Rc;
 
-/// The de-interleaver, the Reed-Solomon corrector and the randomizer of the standard. The corrector, 45 kB,
-/// stands behind an `Rc`, since a value that is made is moved from call to call.
+/// The de-interleaver, the Reed-Solomon corrector and the randomizer of the standard. The corrector has 45 kB. It
+/// stands in an `Rc`, since a new value is moved from call to call.
 pub(crate) type OuterDecoding = Inner<
     Atsc,
     Rc<Fast<CODEWORD, PACKET_DATA>>,
@@ -28,7 +28,7 @@ pub(crate) type OuterDecoding = Inner<
     BRANCH_STEP,
 >;
 
-/// At the start of a run.
+/// The outer decoding at the start of a run. The only error is out of memory.
 pub(crate) fn new_outer_decoding(alloc: Global) -> Result<OuterDecoding, AllocError>
     ensures white { IfOk result (λ inner. inner.white ≡ randomizer_bytes) }
     ensures stands { IfOk result (λ inner. StandsFor CODEWORD PACKET_DATA BRANCHES BRANCH_STEP inner []) }
@@ -40,7 +40,7 @@ pub(crate) fn new_outer_decoding(alloc: Global) -> Result<OuterDecoding, AllocEr
     ))
 }
 
-/// The next block of a run's bytes, and the packet that it completes, if it does.
+/// Takes the next block of a run's bytes. If it completes a packet, the batch gets it.
 pub(crate) fn give(inner: &mut OuterDecoding, block: &[u8; CODEWORD], batch: &mut Batch)
     requires white { inner.old.white ≡ randomizer_bytes }
     requires room { length batch.old.packets.items < MOST_RECEIVED }
@@ -58,8 +58,9 @@ pub(crate) fn give(inner: &mut OuterDecoding, block: &[u8; CODEWORD], batch: &mu
     hand(taken, &head, batch);
 }
 
-/// The next groups of a run's bytes, four blocks each, and the packets that they complete. All go through the gatherer
-/// together. The bytes are used up. Much room is made only where it is used: that takes its time.
+/// Takes the next groups of a run's bytes, four blocks each. The batch gets the packets that they complete. All go
+/// through the gatherer together, which overwrites the bytes. The large arrays are made only for two groups or more,
+/// since making them takes time.
 pub(crate) fn give_groups(inner: &mut OuterDecoding, bytes: &mut [u8], batch: &mut Batch)
     requires white { inner.old.white ≡ randomizer_bytes }
     requires whole { length bytes.old % GROUP_BYTES ≡ 0 }
@@ -97,7 +98,7 @@ pub(crate) fn give_groups(inner: &mut OuterDecoding, bytes: &mut [u8], batch: &m
     );
 }
 
-/// The same, through room for what each block gives.
+/// The same, with room for what each block gives.
 fn give_through(
     inner: &mut OuterDecoding,
     bytes: &mut [u8],
@@ -125,7 +126,7 @@ fn give_through(
     }
 }
 
-/// Puts what a block gave behind the packets of the batch.
+/// Adds what a block gave to the packets of the batch.
 fn hand(taken: Taken, head: &[u8; PACKET_DATA], batch: &mut Batch)
     requires { length batch.old.packets.items < MOST_RECEIVED }
     ensures packets { batch.new.packets.items ≡ batch.old.packets.items ++ handed taken head.now }

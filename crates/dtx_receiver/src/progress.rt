@@ -5,7 +5,7 @@ ghost use Rattle.dtx_receiver.specs.Runs as runs;
 
 use crate::tracking::Tracking;
 
-/// What was done of some segments that were given together.
+/// What a call has done with the segments that it was given.
 #[derive(Clone, Copy, Debug, PartialEq, Eq)]
 pub struct Progress {
     /// How many of them were received: the first ones.
@@ -14,7 +14,7 @@ pub struct Progress {
     pub runs: u64,
 }
 
-/// How many runs begin with a segment that is told to be this.
+/// How many runs begin with a segment that is tracked so: one or none.
 pub fn begun(tracking: Tracking) -> u64
     ensures begun { result ≡ runs.begun tracking }
     ensures one { result ≤ 1 }

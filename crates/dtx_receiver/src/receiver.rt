@@ -16,9 +16,8 @@ use dtx_sizes::{FIELD_SEGMENTS, GROUP_PACKETS, SEGMENT};
 use std::alloc::{AllocError, Global};
 use std::marker::Model;
 
-/// Receives the transport packets of segments, which come one after another. `StandsFor receiver segments` says that
-/// the receiver holds what these segments leave. Segments may hold any signed bytes, and there may be any number of
-/// them.
+/// Receives transport packets from segments, which are given one after another. `StandsFor receiver segments` says that
+/// the receiver is as these segments leave it. Segments may hold any signed bytes, and there may be any number of them.
 #[derive(Drop)]
 pub struct Receiver {
     place: Option<u16>,
@@ -47,10 +46,9 @@ impl Receiver {
         })
     }
 
-    /// Receives the next segment: tells what it is, and gives the packets that become whole with it, in place of what
-    /// the batch held. A packet is given with the group of four data segments from which on 53 data segments or more
-    /// stand in whole groups from the packet's own on. Else it is given with the segment that ends the run. No call
-    /// takes memory.
+    /// Receives the next segment, and answers what it is. The packets that are complete with it replace what the batch
+    /// held. A packet is given once 53 data segments or more, in whole groups of four, stand from the packet's own on.
+    /// The others are given with the segment that ends the run. No call takes memory.
     pub fn take(&mut self, segment: &[i8; SEGMENT], batch: &mut Batch) -> Tracking
         ensures answer { (segments : List (List ℤ)) → StandsFor self.old segments
             → result ≡ tracking segments segment.now }
@@ -64,10 +62,10 @@ impl Receiver {
         self.follow(segment, batch)
     }
 
-    /// Receives the first of some segments, which are given as the bytes of their symbols, and tells how many it took
-    /// and how many runs began with them. It gives the packets that become whole with them, in place of what the batch
-    /// held, as `take` gives them for one after another. Data segments are taken together: up to the next place where a
-    /// field sync is due, but no more than 52. Any other segment is taken alone. No call takes memory.
+    /// Receives the first of these segments, which are given as the bytes of their symbols. Answers how many it took,
+    /// and how many runs began with them. The packets that are complete with them replace what the batch held, as if
+    /// `take` had been called for each. Data segments are taken together: up to the next place where a field sync is
+    /// due, but no more than 52. Any other segment is taken alone. No call takes memory.
     pub fn take_some(&mut self, segments: &[[u8; SEGMENT]], batch: &mut Batch) -> Progress
         requires { 0 < length segments.now }
         ensures some { 0 < result.segments }
@@ -91,7 +89,7 @@ impl Receiver {
         self.take_one(&segments[0], batch)
     }
 
-    /// Receives the next data segments, of which at least one is due, where the batch is empty.
+    /// Receives the next data segments. At least one is due, and the batch is empty.
     fn take_data(&mut self, place: u16, segments: &[[u8; SEGMENT]], batch: &mut Batch) -> Progress
         requires place { self.old.place ≡ Some place }
         requires due { 0 < place }
@@ -116,7 +114,7 @@ impl Receiver {
         }
     }
 
-    /// Receives the next segment, where the batch is empty.
+    /// Receives the next segment, given as the bytes of its symbols. The batch is empty.
     fn take_one(&mut self, bytes: &[u8; SEGMENT], batch: &mut Batch) -> Progress
         requires { batch.old.packets.items ≡ [] }
         ensures one { result.segments ≡ 1 }
@@ -134,7 +132,7 @@ impl Receiver {
         }
     }
 
-    /// Receives the next segment, where the batch is empty.
+    /// Receives the next segment. The batch is empty.
     fn follow(&mut self, segment: &[i8; SEGMENT], batch: &mut Batch) -> Tracking
         requires { batch.old.packets.items ≡ [] }
         ensures taken { (segments : List (List ℤ)) → StandsFor self.old segments
@@ -167,8 +165,8 @@ impl Receiver {
         }
     }
 
-    /// Ends the run that is on, if one is: gives the packets that are left, in place of what the batch held. The next
-    /// segment is received as the first.
+    /// Ends the run that is on, if there is one. The packets that are left replace what the batch held. The next
+    /// segment is received as the first one.
     pub fn finish(&mut self, batch: &mut Batch)
         ensures stands { StandsFor self.new [] }
         ensures packets { (segments : List (List ℤ)) → StandsFor self.old segments

@@ -1,6 +1,6 @@
-//! What a segment is told to be.
+//! What the receiver takes a segment for.
 
-/// Where a segment stands.
+/// What a segment is, given the segments before it.
 #[derive(Clone, Copy, Debug, PartialEq, Eq)]
 pub enum Tracking {
     /// No run is on, and the segment doesn't look like a field sync.
@@ -9,7 +9,7 @@ pub enum Tracking {
     Began,
     /// A field sync was due in a run, and this segment looks like one.
     Sync,
-    /// One of the 312 data segments behind a field sync.
+    /// One of the 312 data segments after a field sync.
     Data,
     /// A field sync was due, and this segment doesn't look like one: the run has ended before it.
     Ended,

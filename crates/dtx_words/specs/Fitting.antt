@@ -12,8 +12,7 @@ use Rattle.dtx_words.specs.Rows.{Row, row_of, commands, second_text}
 abbrev pub is_name : List ℕ → Bool
 is_name word = not (length word == 0)
 
--- a word fits a field: a file name, or a number that is at most that one, or that is within two, or the command's own
--- second word
+-- a word fits a field: a file name, a number up to a bound, a number between two bounds, or the command's second word
 abbrev pub fits_field : Field → List ℕ → Bool
 fits_field Input word = is_name word
 fits_field Output word = is_name word
@@ -21,7 +20,7 @@ fits_field (Number most) word = is_some (number_in most word)
 fits_field (Within least most) word = is_some (number_within least most word)
 fits_field (Second second) word = bytes_eq word (second_text second)
 
--- as many words as fields, each of which fits its field
+-- there are as many words as fields, and each fits its field
 abbrev pub fit_fields : List Field → List (List ℕ) → Bool
 fit_fields [] [] = true
 fit_fields [] (word ∷ words) = false
@@ -37,6 +36,6 @@ fit_row row (verb ∷ words) = bytes_eq verb row.verb && fit_fields row.fields w
 abbrev pub fits : Command → List (List ℕ) → Bool
 fits command words = fit_row (row_of command) words
 
--- the command that the words fit: the first of them, and there is no other
+-- the command that the words fit, which is the only one
 abbrev pub command_of : List (List ℕ) → Option Command
 command_of words = find (λ command. fits command words) commands

@@ -11,18 +11,18 @@ use Rattle.dtx_meaning.specs.declared.status.Status.TheVariants.{Memory}
 use Rattle.dtx_words.specs.Rows.{row_of, first_words}
 use Rattle.dtx_words.specs.declared.rows.Command.{Command}
 
--- each label with its number behind it
+-- each label, followed by its number
 abbrev pub numbered : List (List ℕ) → List ℕ → List ℕ
 numbered [] numbers = []
 numbered (label ∷ labels) [] = []
 numbered (label ∷ labels) (number ∷ numbers) = label ++ (decimal number ++ numbered labels numbers)
 
--- the labels of a line that shows so many numbers, and that shows all that its row always has
+-- the labels of a line that shows `shown` numbers, and no fewer than its row always has
 abbrev pub labels_of : Option Command → ℕ → List (List ℕ)
 labels_of None shown = []
 labels_of (Some command) shown = take (max shown (row_of command).fewest) (row_of command).labels
 
--- the words of some commands, with this before the first, and a bar between them
+-- the first words of some commands, with `before` in front and a bar between them
 abbrev pub verbs_behind : List ℕ → List Command → List ℕ
 verbs_behind before [] = []
 verbs_behind before (command ∷ rest) = before ++ ((row_of command).verb ++ verbs_behind (codes "|") rest)
@@ -57,16 +57,16 @@ refusal_line (OutOfFeed event) name = codes "out of feed " ++ decimal event ++ c
 refusal_line (OutOfAir entry) name = codes "out of air " ++ decimal entry ++ codes "\n"
 refusal_line status name = bare_line status
 
--- the line of a status, with the numbers of that outcome, and that name
+-- the line of a status: `Done` has the numbers of the outcome, and a refusal may have the name
 abbrev pub line_at : Option Command → Status → Outcome → List ℕ → List ℕ
 line_at command Done outcome name = done_line command outcome
 line_at command status outcome name = refusal_line status name
 
--- the line of an outcome, with that name
+-- the line of an outcome
 abbrev pub line_of : Option Command → Outcome → List ℕ → List ℕ
 line_of command outcome name = line_at command outcome.status outcome name
 
--- the status after its line was printed so
+-- the final status, given how printing the line ended
 abbrev pub finished : Status → Result (Unit {0}) SinkNo → Status
 finished status (Ok _) = status
 finished status (Err sink.Memory) = Memory

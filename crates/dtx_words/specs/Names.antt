@@ -1,4 +1,4 @@
--- The file names of a command: which one comes twice, and which one a line names.
+-- The file names of a command: which one is repeated, and which one the printed line has.
 use Rattle.std.specs.Prelude.{ℕ, Bool, true, false, if◌then◌else◌, List, [], ◌∷◌, ◌++◌, Option, Some, None}
 use Rattle.std.specs.Prelude.{slice_index_or, unwrap_or}
 use Rattle.std.specs.List.{list_any}
@@ -10,7 +10,7 @@ use Rattle.dtx_words.specs.declared.rows.Field.{Field}
 use Rattle.dtx_words.specs.declared.rows.Field.TheVariants.{Input, Output, Number, Within, Second}
 use Rattle.dtx_words.specs.Rows.{row_of}
 
--- the field is the name of a file
+-- whether the field is a file name
 abbrev pub is_file : Field → Bool
 is_file Input = true
 is_file Output = true
@@ -18,7 +18,7 @@ is_file (Number most) = false
 is_file (Within least most) = false
 is_file (Second second) = false
 
--- the words at the fields of files, in their order
+-- the words that are file names, in their order
 abbrev pub names_at : List Field → List (List ℕ) → List (List ℕ)
 names_at [] words = []
 names_at (field ∷ fields) [] = []
@@ -30,7 +30,7 @@ abbrev pub names_of : Option Command → List (List ℕ) → List (List ℕ)
 names_of (Some command) (verb ∷ words) = names_at (row_of command).fields words
 names_of _ _ = []
 
--- the first name that equals an earlier one, or one of the names behind it
+-- the first of these names that equals one before it, where the earlier ones are before them all
 abbrev pub repeated_after : List (List ℕ) → List (List ℕ) → Option (List ℕ)
 repeated_after earlier [] = None
 repeated_after earlier (name ∷ names) =
@@ -40,7 +40,7 @@ repeated_after earlier (name ∷ names) =
 abbrev pub repeated : List (List ℕ) → Option (List ℕ)
 repeated names = repeated_after [] names
 
--- the name in the line of a status, from the names of the command, its inputs first
+-- the name that the line of a status has, where these are the command's file names, its inputs first
 abbrev pub line_name : Status → List (List ℕ) → List ℕ
 line_name Same names = unwrap_or (repeated names) []
 line_name (Absent input) names = slice_index_or names input []

@@ -1,4 +1,4 @@
--- The names of the files that a network writes, and of the stream of a trial.
+-- The names of the files that a network writes, and of the file of a trial's stream.
 use Rattle.std.specs.Prelude.{ℕ, List, ◌++◌, codes, decimal}
 
 -- the feed

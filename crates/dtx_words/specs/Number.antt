@@ -5,7 +5,7 @@ use Rattle.std.specs.Int.{IsInRange}
 use Rattle.std.specs.Str.{bytes_eq}
 use Rattle.std.specs.Str.Parse.{digits_value}
 
--- the number of which the word is the decimal spelling, where there is one and it is at most `most`
+-- the number that the word spells in decimal, where it spells one and that is at most `most`
 unfoldable pub number_in : ℕ → List ℕ → Option ℕ
 number_in most word =
     if bytes_eq word (decimal (digits_value 10 word)) && nat_le (digits_value 10 word) most then Some
@@ -16,11 +16,11 @@ abbrev pub at_least : ℕ → Option ℕ → Option ℕ
 at_least least None = None
 at_least least (Some number) = if nat_le least number then Some number else None
 
--- the number of which the word is the decimal spelling, where there is one, from `least` to `most`
+-- the number that the word spells in decimal, where it spells one from `least` to `most`
 abbrev pub number_within : ℕ → ℕ → List ℕ → Option ℕ
 number_within least most word = at_least least (number_in most word)
 
--- a word begins with a digit, and with 0 only where it is nothing else
+-- a word begins with a digit, which is 0 only in the word `0`
 pub record BeginsPlain (word : List ℕ) : Type 0 where
   pub digit : IsInRange 48 57 (slice_index word 0)
   pub alone : slice_index word 0 ≡ 48 → length word ≡ 1

@@ -1,4 +1,4 @@
--- One row a command: its word, its fields, and the labels of its line.
+-- The table of the commands. A row has a command's first word, its fields, and the labels of its line.
 use Rattle.std.specs.Prelude.{ℕ, ◌-◌, ◌^◌, Bool, true, false, not, ◌&&◌, List, [], ◌∷◌, codes, map}
 use Rattle.std.specs.List.{list_any}
 use Rattle.dtx_words.specs.declared.rows.Command.{Command}
@@ -11,25 +11,25 @@ use Rattle.dtx_words.specs.declared.rows.Field.TheVariants.{Input, Output, Numbe
 use Rattle.dtx_words.specs.declared.rows.SecondWord.{SecondWord}
 use Rattle.dtx_words.specs.declared.rows.SecondWord.TheVariants as second
 
--- the field is the name of a file that is read
+-- whether the field is the name of a file that is read
 abbrev pub is_input : Field → Bool
 is_input Input = true
 is_input _ = false
 
--- how the second word of a command is written that has two
+-- the second word of a command that has two
 abbrev pub second_text : SecondWord → List ℕ
 second_text second.Code = codes "code"
 second_text second.Read = codes "read"
 
--- all that is to be said of a command's words and of its line
+-- the row of a command: its words, and its line
 pub record Row : Type 0 where
-  -- its word
+  -- its first word
   pub verb : List ℕ
-  -- what the words behind it are, in their order
+  -- what the words that follow stand for, in their order
   pub fields : List Field
-  -- what stands before each number of its line
+  -- the text before each number of its line
   pub labels : List (List ℕ)
-  -- how many numbers its line has at least: all, but for `net`, whose receiver may not listen
+  -- how many numbers its line has at least: all of them, except for `net`, which may have no receiver
   pub fewest : ℕ
 
 -- `adapt PLAN IN OUT`
@@ -199,7 +199,7 @@ row_of Repeat = repeat_row
 row_of Acquire = acquire_row
 row_of Watch = watch_row
 
--- the row behind the references that the code holds
+-- the row of the definitions that a row of the code is
 abbrev pub row_behind : CommandRow → Row
 row_behind row = record {
   verb = row.verb.now;
@@ -208,7 +208,7 @@ row_behind row = record {
   fewest = row.fewest;
 }
 
--- no file that is read stands behind one that is written
+-- no input stands after an output
 abbrev pub are_inputs_first : List Field → Bool
 are_inputs_first [] = true
 are_inputs_first (Output ∷ fields) = not (list_any is_input fields) && are_inputs_first fields

@@ -17,7 +17,7 @@ pub fn command(words: &[Word]) -> Option<Command>
         .find(|command| fits(*command, words))
 }
 
-/// The words fit the command.
+/// Whether the words fit the command.
 fn fits(command: Command, words: &[Word]) -> bool
     ensures { result ≡ fits command words.now }
 {
@@ -28,7 +28,7 @@ fn fits(command: Command, words: &[Word]) -> bool
     }
 }
 
-/// The words fit the fields.
+/// Whether the words fit the fields.
 fn fit_fields(fields: &[Field], words: &[Word]) -> bool
     ensures { result ≡ fit_fields fields.now words.now }
 {
@@ -41,7 +41,7 @@ fn fit_fields(fields: &[Field], words: &[Word]) -> bool
     }
 }
 
-/// The word fits the field.
+/// Whether the word fits the field.
 fn fits_field(field: Field, word: &str) -> bool
     ensures { result ≡ fits_field field word.now }
 {

@@ -15,9 +15,9 @@ use dtx_outside::{Sink, SinkNo};
 use dtx_plan::PlanNo;
 use itoa::Buffer;
 
-/// Prints the line of an outcome. For `Done` it has the labels of the command's row with their numbers, as many as it
-/// shows. Else it is that of the refusal, where `Same` and `Absent` have that name. After a refusal of the sink a
-/// prefix of the line was printed.
+/// Prints the line of an outcome. For `Done` it has the labels of the command's row, each with its number, as many as
+/// the outcome shows. For any other status it is the line of the refusal, which ends with `name` for `Same` and
+/// `Absent`. After an error a prefix of the line was printed.
 pub fn line<O: Sink>(
     command: Option<Command>,
     outcome: &Outcome,
@@ -68,7 +68,7 @@ fn labels(command: Option<Command>, shown: usize) -> &'static [&'static str]
     }
 }
 
-/// Prints each label, and its number behind it.
+/// Prints each label, followed by its number.
 fn put_numbered<O: Sink>(labels: &[&str], numbers: &[u64], out: &mut O) -> Result<(), SinkNo>
     requires { length labels.now ≤ length numbers.now }
     ensures written { IsPut (numbered (map (λ label. label.now) labels.now) numbers.now) (O.written out.old) result
@@ -81,7 +81,7 @@ fn put_numbered<O: Sink>(labels: &[&str], numbers: &[u64], out: &mut O) -> Resul
     Ok(())
 }
 
-/// Prints a label, and a number behind it.
+/// Prints a label, followed by a number.
 fn put_number<O: Sink>(label: &str, number: u64, out: &mut O) -> Result<(), SinkNo>
     ensures written { IsPut (label.now ++ decimal number) (O.written out.old) result (O.written out.new) }
     ensures gone { IsCounted (O.faults out.old) result (O.faults out.new) }
@@ -90,7 +90,7 @@ fn put_number<O: Sink>(label: &str, number: u64, out: &mut O) -> Result<(), Sink
     put_all(out, &[label, digits.format(number)])
 }
 
-/// Prints the words of all commands.
+/// Prints the usage line: the first words of all commands.
 fn put_usage<O: Sink>(out: &mut O) -> Result<(), SinkNo>
     ensures written { IsPut usage_line (O.written out.old) result (O.written out.new) }
     ensures gone { IsCounted (O.faults out.old) result (O.faults out.new) }
@@ -103,7 +103,7 @@ fn put_usage<O: Sink>(out: &mut O) -> Result<(), SinkNo>
     put_all(out, &["\n"])
 }
 
-/// Prints a text, and the word of a command behind it.
+/// Prints a text, followed by the first word of a command.
 fn put_verb<O: Sink>(before: &'static str, command: Command, out: &mut O) -> Result<(), SinkNo>
     ensures written { IsPut (before.now ++ (row_of command).verb) (O.written out.old) result (O.written out.new) }
     ensures gone { IsCounted (O.faults out.old) result (O.faults out.new) }
@@ -125,7 +125,7 @@ fn bare_line(status: Status) -> &'static str
     }
 }
 
-/// Prints a line of some words.
+/// Prints a line.
 fn put_line<O: Sink>(line: &str, out: &mut O) -> Result<(), SinkNo>
     ensures written { IsPut line.now (O.written out.old) result (O.written out.new) }
     ensures gone { IsCounted (O.faults out.old) result (O.faults out.new) }
@@ -133,7 +133,7 @@ fn put_line<O: Sink>(line: &str, out: &mut O) -> Result<(), SinkNo>
     put_all(out, &[line])
 }
 
-/// Prints a line of some words and a name.
+/// Prints a line: some words and a name.
 fn put_name<O: Sink>(words: &str, name: &str, out: &mut O) -> Result<(), SinkNo>
     ensures written { IsPut (words.now ++ name.now ++ codes "\n") (O.written out.old) result (O.written out.new) }
     ensures gone { IsCounted (O.faults out.old) result (O.faults out.new) }
@@ -141,7 +141,7 @@ fn put_name<O: Sink>(words: &str, name: &str, out: &mut O) -> Result<(), SinkNo>
     put_all(out, &[words, name, "\n"])
 }
 
-/// Prints a line of some words and a number.
+/// Prints a line: some words and a number.
 fn put_count<O: Sink>(words: &str, number: u64, out: &mut O) -> Result<(), SinkNo>
     ensures written { IsPut (words.now ++ decimal number ++ codes "\n") (O.written out.old) result
         (O.written out.new) }
@@ -171,7 +171,8 @@ fn put_plan<O: Sink>(no: PlanNo, out: &mut O) -> Result<(), SinkNo>
     )
 }
 
-/// The status with which a command ends whose line was printed so.
+/// The final status of a command, given how printing its line ended. A `Done` whose line could not be printed becomes
+/// `WriteFault`, and any status becomes `Memory` where memory ran out.
 pub fn finish(status: Status, printed: Result<(), SinkNo>) -> Status
     ensures { result ≡ finished status printed }
 {

@@ -1,4 +1,4 @@
-// The file names of a command: which one comes twice, and which one a line names.
+// The file names of a command: which one is repeated, and which one the printed line has.
 ghost use Rattle.std.specs.Prelude.{◌≡◌, ◌≤◌, length, map};
 ghost use Rattle.std.specs.Option.{option_map};
 ghost use Rattle.dtx_words.specs.Names.{line_name, is_file, names_at, names_of, repeated};
@@ -24,7 +24,7 @@ pub fn repeated_name<'a>(names: &[&'a str]) -> Option<&'a str>
     None
 }
 
-/// The name in the line of a status, among these.
+/// The name that the line of a status has, which is one of these names, or empty.
 pub fn name_among<'a>(status: Status, names: &[&'a str]) -> &'a str
     ensures { result.now ≡ line_name status (map (λ name. name.now) names.now) }
 {
@@ -35,8 +35,8 @@ pub fn name_among<'a>(status: Status, names: &[&'a str]) -> &'a str
     }
 }
 
-/// The name in the line of a status, among the file names of the command: the repeated one, or the input that isn't
-/// there. It is empty where the line has no name.
+/// The file name that the line of a status has. For `Same` that is the repeated one, and for `Absent` the input that
+/// isn't there. It is empty where the line has no name.
 pub fn name_in_line<'a>(command: Option<Command>, words: &'a [Word], status: Status) -> &'a str
     ensures { result.now ≡ line_name status (names_of command words.now) }
 {
@@ -48,7 +48,7 @@ pub fn name_in_line<'a>(command: Option<Command>, words: &'a [Word], status: Sta
     }
 }
 
-/// The words at the fields of files, in their order.
+/// The words that are file names, in their order.
 fn names_at<'a>(fields: &[Field], words: &'a [Word]) -> ArrayVec<&'a str, MOST_FIELDS>
     requires { length fields.now ≤ 5 }
     ensures { map (λ name. name.now) result.items ≡ names_at fields.now words.now }
@@ -62,7 +62,7 @@ fn names_at<'a>(fields: &[Field], words: &'a [Word]) -> ArrayVec<&'a str, MOST_F
     names
 }
 
-/// The field is the name of a file.
+/// Whether the field is a file name.
 fn is_file(field: Field) -> bool
     ensures { result ≡ is_file field }
 {

@@ -1,49 +1,49 @@
-// The names of the files that a network writes, and of the stream of a trial.
+// The names of the files that a network writes, and of the file of a trial's stream.
 ghost use Rattle.std.specs.Prelude.{◌≡◌, ◌≢◌, ◌<◌, ◌≤◌, ◌^◌, ◌++◌, ℕ, length, codes, decimal};
 ghost use Rattle.dtx_words.specs.NetworkNames.{feed_name, log_name, received_name, symbol_name, trial_name};
 
 use arrayvec::ArrayString;
 use itoa::Buffer;
 
-/// The bytes of the longest name with an address in it: `tx-65535.sym`.
+/// How many bytes the longest name with an address has, as `tx-65535.sym`.
 pub const NETWORK_NAME: usize = 12;
 
-/// The name of the feed.
+/// The name of the feed's file.
 pub fn feed_name() -> &'static str
     ensures { result.now ≡ feed_name }
 {
     "net.feed"
 }
 
-/// The name of the stream of a trial.
+/// The name of the file of a trial's stream.
 pub fn trial_name() -> &'static str
     ensures { result.now ≡ trial_name }
 {
     "trial.ts"
 }
 
-/// The name of the packets that are received.
+/// The name of the file of the received packets.
 pub fn received_name() -> &'static str
     ensures { result.now ≡ received_name }
 {
     "net.ts"
 }
 
-/// The name of the symbols of the transmitter at that address.
+/// The name of the symbol file of the transmitter with that address.
 pub fn symbol_name(address: u16) -> ArrayString<NETWORK_NAME>
     ensures { result.bytes ≡ symbol_name address }
 {
     transmitter_name(address, ".sym")
 }
 
-/// The name of the log of the transmitter at that address.
+/// The name of the log file of the transmitter with that address.
 pub fn log_name(address: u16) -> ArrayString<NETWORK_NAME>
     ensures { result.bytes ≡ log_name address }
 {
     transmitter_name(address, ".log")
 }
 
-/// The name of a file of the transmitter at that address.
+/// The name of a file of the transmitter with that address.
 fn transmitter_name(address: u16, ending: &str) -> ArrayString<NETWORK_NAME>
     requires { length ending.now ≤ 4 }
     ensures { result.bytes ≡ codes "tx-" ++ (decimal address ++ ending.now) }

@@ -2,8 +2,8 @@
 ghost use Rattle.std.specs.Prelude.{◌≡◌, ◌≤◌, ◌↔◌, ℕ, Some, IsTrue, decimal};
 ghost use Rattle.dtx_words.specs.Number.{number_in, number_within, BeginsPlain};
 
-/// The number of which the word is the decimal spelling, without sign and without a leading zero unless it is `0`. It
-/// is `None` where the word is that of none up to `most`.
+/// Reads the word as a decimal number, without sign and without a leading zero unless it is `0`. Gives `None` where the
+/// word isn't such a number, or is one above `most`.
 pub fn number_up_to(most: u64, word: &str) -> Option<u64>
     ensures number { result ≡ number_in most word.now }
     ensures spelled { (n : ℕ) → (result ≡ Some n) ↔ ((n ≤ most) × (word.now ≡ decimal n)) }
@@ -17,7 +17,7 @@ pub fn number_up_to(most: u64, word: &str) -> Option<u64>
     }
 }
 
-/// The number of which the word is the decimal spelling, as `number_up_to` reads it, where it is `least` or more.
+/// Reads the word as `number_up_to` does. Gives `None` also where the number is below `least`.
 pub fn number_within(least: u64, most: u64, word: &str) -> Option<u64>
     ensures { result ≡ number_within least most word.now }
 {
@@ -27,7 +27,7 @@ pub fn number_within(least: u64, most: u64, word: &str) -> Option<u64>
     }
 }
 
-/// The word is `0`, or begins with another digit.
+/// Whether the word is `0`, or begins with a digit from 1 to 9.
 fn begins_plain(word: &[u8]) -> bool
     ensures { IsTrue result ↔ BeginsPlain word.now }
 {

@@ -5,7 +5,7 @@ ghost use Rattle.dtx_words.specs.Printed.{IsPut, text_of};
 
 use dtx_outside::{Sink, SinkNo};
 
-/// Prints all of the bytes. After a refusal a prefix of them was printed.
+/// Prints all of the bytes. After an error a prefix of them was printed.
 fn put<O: Sink>(out: &mut O, bytes: &[u8]) -> Result<(), SinkNo>
     ensures written { IsPut bytes.now (O.written out.old) result (O.written out.new) }
     ensures gone { IsCounted (O.faults out.old) result (O.faults out.new) }
@@ -18,7 +18,7 @@ fn put<O: Sink>(out: &mut O, bytes: &[u8]) -> Result<(), SinkNo>
     Ok(())
 }
 
-/// Prints the pieces, one behind another. After a refusal a prefix of the text was printed.
+/// Prints the pieces, one after another. After an error a prefix of the text was printed.
 pub(crate) fn put_all<O: Sink>(out: &mut O, pieces: &[&str]) -> Result<(), SinkNo>
     ensures written { IsPut (text_of pieces.now) (O.written out.old) result (O.written out.new) }
     ensures gone { IsCounted (O.faults out.old) result (O.faults out.new) }

@@ -1,4 +1,4 @@
-// One row a command: its word, its fields, and the labels of its line.
+// The table of the commands. A row has a command's first word, its fields, and the labels of its line.
 ghost use Rattle.std.specs.Prelude.{◌≡◌};
 ghost use Rattle.dtx_words.specs.Rows.{row_behind, row_of, second_text};
 
@@ -10,10 +10,11 @@ pub const FEWEST_TRIAL: u64 = FRAME_PACKETS as u64;
 /// How many packets the stream of a trial has at most (the profile's own limit).
 pub const MOST_TRIAL: u64 = 1_000_000;
 
-/// How many steps of a capture a unit of the standard's levels has at most: 7 * 18 fits a signed byte.
+/// How many steps of a capture one unit of the standard's levels has at most. The highest level is 7 units, and 7 * 18
+/// fits a signed byte.
 pub const MOST_SCALE: u64 = 18;
 
-/// A command, which the first word names, or the first two.
+/// A command. It has one word of its own, or two.
 #[derive(Clone, Copy, PartialEq, Eq)]
 pub enum Command {
     /// `adapt PLAN IN OUT`
@@ -60,7 +61,7 @@ pub enum SecondWord {
 }
 
 impl SecondWord {
-    /// How it is written.
+    /// The word itself.
     pub(crate) fn text(self) -> &'static str
         ensures { result.now ≡ second_text self }
     {
@@ -71,7 +72,7 @@ impl SecondWord {
     }
 }
 
-/// What a word behind the first one is.
+/// What a word that follows the first one stands for.
 #[derive(Clone, Copy)]
 pub enum Field {
     /// The name of a file that is read.
@@ -86,13 +87,13 @@ pub enum Field {
     Second(SecondWord),
 }
 
-/// All that is to be said of a command's words and of its line.
+/// The row of a command: its words, and its line.
 pub(crate) struct CommandRow {
-    /// Its word.
+    /// Its first word.
     pub verb: &'static str,
-    /// What the words behind it are.
+    /// What the words that follow stand for.
     pub fields: &'static [Field],
-    /// What stands before each number of its line.
+    /// The text before each number of its line.
     pub labels: &'static [&'static str],
     /// How many numbers its line has at least.
     pub fewest: usize,
@@ -153,7 +154,7 @@ const CODE: CommandRow = CommandRow {
     fewest: 3,
 };
 
-/// What an exciter is given: what it reads, its address, the ticks to it, its symbols and its log.
+/// The fields of an exciter: its input, its address, the delay to it in ticks of 100 ns, its symbols and its log.
 const EXCITER_FIELDS: &[Field] = &[
     Field::Input,
     Field::Number(u16::MAX as u64),
@@ -170,7 +171,7 @@ const EXCITE: CommandRow = CommandRow {
     fewest: 5,
 };
 
-/// What stands before the numbers of a receiver's line.
+/// The labels of a receiver's line.
 const RECEIVER_LABELS: &[&str] = &[
     "segments ",
     " runs ",
@@ -188,7 +189,7 @@ const RECEIVE: CommandRow = CommandRow {
     fewest: 6,
 };
 
-/// What stands before the numbers of a network's line.
+/// The labels of a network's line.
 const NETWORK_LABELS: &[&str] = &[
     "feed ",
     " filled ",

@@ -1,4 +1,4 @@
-//! Packets that are interleaved at once and sent group by group: that is giving their groups one after another.
+//! Interleaving packets at once and sending them group by group does what giving their groups one after another does.
 
 ghost use Rattle.std.specs.Prelude.{◌≡◌, ℕ, ℤ, ◌+◌, ◌%◌, ◌++◌, [], List, length};
 ghost use Rattle.dtx_coder.specs.Batches.{IsAhead, IsSent, interleaved_as, segments_by_bytes, after_all_bytes};
@@ -7,8 +7,8 @@ ghost use Rattle.dtx_coder.specs.Runs.{AreInTurn, after_groups, segments_of_grou
 
 use dtx_sizes::{FIELD_PACKETS, GROUP_BYTES, GROUP_PACKETS};
 
-/// The first group of those that were interleaved is sent as `Coder::group` sends it, and then the others are the ones
-/// that were interleaved and not sent. When all are sent, the coder is the one that was given them by `Coder::group`.
+/// Of the groups that were interleaved, the first is sent as `Coder::group` sends it, and the others are then ahead as
+/// before. When all are sent, the coder is as if `Coder::group` had been given them.
 pub fn sent_in_turn()
     ensures coded { (held ahead new : Coding) (group : Group) (rest : List (List ℕ)) (bytes left : List ℕ)
         (count : ℕ) (sent : List ℤ) → IsAhead held group.first (group.packets ++ rest) (bytes ++ left) ahead
@@ -24,15 +24,15 @@ pub fn sent_in_turn()
         → ahead ≡ held }
 {}
 
-/// Of a place in a field only what is left of it modulo 312 counts.
+/// Only the remainder modulo 312 of a place in a field counts.
 pub fn places()
     ensures { (held ahead : Coding) (j k : ℕ) (packets : List (List ℕ)) (bytes : List ℕ)
         → j % FIELD_PACKETS ≡ k % FIELD_PACKETS → IsAhead held j packets bytes ahead
         → IsAhead held k packets bytes ahead }
 {}
 
-/// Groups in turn that were interleaved at once and are sent one after another have the segments of groups that are
-/// given one after another, and leave the same coder.
+/// Consecutive groups are interleaved at once and sent one after another. Their segments, and the coder after them, are
+/// those of groups that are given one after another.
 pub fn all_in_turn()
     ensures segments { (held ahead : Coding) (s : ℕ) (groups : List Group) (bytes : List ℕ) → AreInTurn s groups
         → IsAhead held s (group_packets groups) bytes ahead
@@ -42,8 +42,9 @@ pub fn all_in_turn()
         → after_all_bytes ahead groups bytes ≡ after_groups held groups }
 {}
 
-/// The next group of a stream, of which packets were interleaved behind those that are sent. The coder then gives what
-/// a coder gives that stands for the packets before. It is as far ahead of the coder that stands for one group more.
+/// The next group of a stream is sent by a coder that has interleaved packets ahead. Its segments are those that a
+/// coder gives which stands for the packets before. Afterwards the coder is ahead of one that stands for this group
+/// too.
 pub fn next_of_stream()
     ensures coded { (packets rest : List (List ℕ)) (ahead new : Coding) (group : Group) (bytes left : List ℕ)
         (count : ℕ) (sent : List ℤ)

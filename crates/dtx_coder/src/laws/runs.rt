@@ -1,5 +1,5 @@
-//! Groups that a coder is given one after another, whatever it was given before: from preset states on, the levels are
-//! one closed sum over all bytes since.
+//! Groups that a coder is given one after another, whatever it was given before. From preset states on, the levels are
+//! one closed formula over all bytes since.
 
 ghost use Rattle.std.specs.Prelude.{◌≡◌, ℕ, ◌+◌, ◌-◌, ◌*◌, ◌/◌, ◌%◌, ◌<◌, ◌≤◌, if◌then◌else◌, ◌++◌, [], ◌∷◌, List};
 ghost use Rattle.std.specs.Prelude.{length, drop};
@@ -17,7 +17,7 @@ ghost use Rattle.dtx_coder.specs.Along.{IsNext, RunsAlong, levels_since, states_
 
 use dtx_sizes::{BRANCH_STEP, BRANCHES, FLUSHING_PACKETS, GROUP_BYTES, GROUP_PACKETS};
 
-/// Groups may be cut anywhere: those behind the cut go on from what the ones before it leave.
+/// Groups may be cut anywhere: those after the cut go on from the coder that the ones before it leave.
 pub fn one_after_another()
     ensures coder { (coder : Coding) (front rest : List Group)
         → after_groups coder (front ++ rest) ≡ after_groups (after_groups coder front) rest }
@@ -29,7 +29,7 @@ pub fn one_after_another()
         ++ segments_of_groups (after_groups coder front) rest }
 {}
 
-/// What leaves the interleaver while groups are given, and what its branches hold behind them.
+/// The bytes that leave the interleaver while groups are given, and its branches after them.
 pub fn interleaved_groups()
     ensures bytes { (coder : Coding) (groups : List Group)
         → bytes_of_groups coder groups ≡ leaving_all BRANCHES coder.branches (coded_groups groups) }
@@ -40,8 +40,8 @@ pub fn interleaved_groups()
     ensures packets { (groups : List Group) → AreInTurn 0 groups → coded_groups groups ≡ coded (group_packets groups) }
 {}
 
-/// The segments of a run are those of the levels that its first states and all of its bytes give. So are the states and
-/// the last twelve symbols behind it.
+/// The first states of a run and all of its bytes give its levels. The run's segments are those of these levels. So are
+/// the states and the last twelve symbols after it.
 pub fn runs()
     ensures segments { (coder : Coding) (s : ℕ) (q : List ℕ) (groups : List Group) → IsGroupRun s q coder groups
         → segments_of_groups coder groups ≡ run_segments coder.last
@@ -54,8 +54,8 @@ pub fn runs()
         (length groups) }
 {}
 
-/// A run with preset states behind other groups. Of these groups only what they left in the branches, and the last
-/// twelve symbols, which end a first field sync, come into its segments.
+/// A run with preset states follows other groups. Two things of those groups enter its segments: the bytes that they
+/// left in the branches, and their last twelve symbols, which end a first field sync.
 pub fn restarts()
     ensures segments { (coder : Coding) (front run : List Group) (r s : ℕ) (q : List ℕ) → AreInTurn r front
         → IsGroupRun s q (after_groups coder front) run
@@ -68,8 +68,8 @@ pub fn restarts()
         ≡ states_after s q (drop (GROUP_BYTES * length front) (bytes_of_groups coder (front ++ run))) }
 {}
 
-/// A coder that runs along with a stream from an align: it begins so, and goes on so with each next group, with preset
-/// states or without.
+/// A coder follows a stream from an align on (`RunsAlong`). This holds at the align, and goes on to hold with each next
+/// group, whether that has preset states or not.
 pub fn along()
     ensures begins { (coder : Coding) → AreStates coder.states
         → HasWidths BRANCHES (spreading BRANCH_STEP) coder.branches
@@ -82,9 +82,9 @@ pub fn along()
         → RunsAlong (packets ++ group.packets) (length packets / GROUP_PACKETS) p (after_group coder group) }
 {}
 
-/// Where the last preset states came 52 packets or more behind the align, nothing that the coder was given before the
-/// align is left. The next group's data segments, the states and the last twelve symbols are those of the packets since
-/// the align, with the coders begun from the preset states at their group.
+/// Suppose that the last preset states came 52 packets or more after the align. Then nothing is left that the coder was
+/// given before the align. The next group's data segments, the states and the last twelve symbols follow from the
+/// packets since the align alone, where the coders start at the preset states' group.
 pub fn sent_along()
     ensures group { (packets : List (List ℕ)) (g : ℕ) (q : List ℕ) (coder : Coding) (group : Group)
         → RunsAlong packets g q coder → FLUSHING_PACKETS ≤ GROUP_PACKETS * g → IsNext packets coder.states group
