@@ -6,7 +6,7 @@ use Rattle.dtx_receiver.specs.Bytes.{groups_of, bytes_in}
 use Rattle.dtx_receiver.proofs.SegmentsLemmas.{Still, still_sync, first_groups}
 use Rattle.dtx_erase.proofs.GrowingLemmas.{mended_given}
 use Rattle.dtx_erase.specs.Marks.{shown, shown_run, is_set}
-use Rattle.dtx_receiver.proofs.AnswersLemmas.{IsDecoder}
+use Rattle.dtx_receiver.specs.Receiver.{IsDecoder}
 use Rattle.dtx_erase.specs.Mended.{mended_early, mended_run, mended_run_early, all_mended, mended_so_far}
 use Rattle.dtx_erase.specs.Sides.{Holds, Decoding, Decodes, IsFurther}
 use Rattle.dtx_erase.proofs.MarksLemmas.{shown_groups, marks_are, shown_push}

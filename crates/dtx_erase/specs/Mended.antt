@@ -1,14 +1,13 @@
 -- The packets of runs of which some symbols are missing (the profile's own; ATSC A/53 Part 2, Reed-Solomon encoder,
 -- interleaving and data randomizer: the way back).
-use Rattle.std.specs.Prelude.{ℕ, ℤ, ◌+◌, ◌-◌, ◌*◌, ◌/◌, ◌%◌, ◌&&◌, nat_le, Bool, false, Option, List, ◌++◌, length, map}
-use Rattle.std.specs.Prelude.{filter, option_to_list, slice_index_or}
+use Rattle.std.specs.Prelude.{ℕ, ℤ, ◌+◌, ◌-◌, ◌*◌, ◌&&◌, nat_le, Bool, false, Option, List, length, map, slice_index_or}
 use Rattle.std.specs.List.{range_with_len, flat_map, find}
 use Rattle.dtx_laws.specs.Words.{all_words, vanishes}
-use Rattle.dtx_outer.specs.Inner.{codeword_byte_place, word_at}
+use Rattle.dtx_outer.specs.Inner.{codeword_byte_place}
 use Rattle.dtx_receiver.specs.declared.batch.Received.{Received}
-use Rattle.dtx_receiver.specs.Runs.{tracked, runs}
+use Rattle.dtx_receiver.specs.Runs.{runs}
 use Rattle.dtx_receiver.specs.Bytes.{bytes_in}
-use Rattle.dtx_receiver.specs.Packets.{is_complete, received_by}
+use Rattle.dtx_receiver.specs.Packets.{packet_at, packets_by, early_by, so_far_of}
 use Rattle.dtx_erase.specs.Mending.{lost, unmarked_distance}
 use Rattle.dtx_erase.specs.Marks.{marks_in}
 
@@ -23,18 +22,15 @@ marks_at marks k = map (λ p. slice_index_or marks (codeword_byte_place 52 4 p) 
 
 -- packet k of the bytes of a run, by the mending of its word
 unfoldable pub mended_at : List ℕ → List Bool → ℕ → Received
-mended_at bytes marks k =
-    received_by (187 * (k % 312)) (word_at 207 52 4 bytes k) (mending 207 187 (marks_at marks k)
-    (word_at 207 52 4 bytes k))
+mended_at bytes marks k = packet_at (mending 207 187 (marks_at marks k)) bytes k
 
 -- the packets of a run: each whose bytes are all there
 unfoldable pub mended_run_packets : List ℕ → List Bool → List Received
-mended_run_packets bytes marks = map (mended_at bytes marks) (filter (is_complete (length bytes)) (range_with_len 0
-    (length bytes / 207)))
+mended_run_packets bytes marks = packets_by (mended_at bytes marks) (length bytes)
 
 -- those that are given while the run is on
 unfoldable pub mended_early : List ℕ → List Bool → List Received
-mended_early bytes marks = map (mended_at bytes marks) (range_with_len 0 (length bytes / 207 - 52))
+mended_early bytes marks = early_by (mended_at bytes marks) (length bytes)
 
 -- of the segments of a run
 abbrev pub mended_run : List (List ℤ) → List Received
@@ -49,8 +45,7 @@ all_mended segments = flat_map mended_run (runs segments)
 
 -- those that are given before the list ends
 unfoldable pub mended_so_far : List (List ℤ) → List Received
-mended_so_far segments =
-    flat_map mended_run (tracked segments).ended ++ flat_map mended_run_early (option_to_list (tracked segments).run)
+mended_so_far segments = so_far_of mended_run mended_run_early segments
 
 -- the bytes of all packets of a list of segments
 unfoldable pub mended : List (List ℤ) → List (List ℕ)

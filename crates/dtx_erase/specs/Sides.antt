@@ -1,17 +1,15 @@
 -- What a mending receiver keeps, and the segments that it stands for.
-use Rattle.std.specs.Prelude.{ℕ, ℤ, ◌≡◌, ◌+◌, ◌-◌, ◌*◌, ◌<◌, ◌%◌, Option, List, [], ◌++◌}
+use Rattle.std.specs.Prelude.{ℕ, ℤ, ◌≡◌, ◌+◌, ◌-◌, ◌*◌, ◌<◌, ◌%◌, List, [], ◌++◌}
 use Rattle.std.specs.Prelude.{Bool, true, length, take, drop, map, replicate, slice_index, slice_index_or}
 use Rattle.std.specs.List.{range_with_len}
 use Rattle.dtx_laws.specs.Branches.{Branching, HasWidths, gathering, leaving_all, after_all}
 use Rattle.dtx_outer.specs.Inner.{word_at}
 use Rattle.dtx_receiver.specs.declared.batch.Received.{Received}
-use Rattle.dtx_receiver.specs.declared.tracking.Tracking.{Tracking}
 use Rattle.dtx_receiver.specs.Packets.{received_by}
 use Rattle.dtx_receiver.specs.Bytes.{groups_of, bytes_in}
-use Rattle.dtx_receiver.specs.Receiver.{AreLevels, Grouping, HasRun, IsFollowed}
-use Rattle.dtx_receiver.specs.Runs.{runs}
+use Rattle.dtx_receiver.specs.Receiver.{AreLevels, Grouping, Kept, Stands}
 use Rattle.dtx_erase.specs.Marks.{shown_run, is_set}
-use Rattle.dtx_erase.specs.Mended.{mending, mended_so_far}
+use Rattle.dtx_erase.specs.Mended.{mending}
 
 -- What is kept of one side of a run, of its bytes or of its marks. Beside its groups and the de-interleaver these are
 -- the last 156 bytes that it gave, which begin a word. And there is room for what it gives: what it gave last stands
@@ -111,24 +109,6 @@ pub record AreGiven (kept new : Decoding) (groups : ℕ) (given : List Received)
   pub place : new.place ≡ (kept.place + 4 * (groups - kept.waits)) % 312
   pub packets : given ≡ map (packet_of kept) (range_with_len (4 * kept.waits) (4 * (groups - kept.waits)))
 
--- how many segments the run that is on has, modulo 313, and what is kept of it
-pub record Kept : Type 0 where
-  pub place : Option ℕ
-  pub decoding : Decoding
-
 -- what is kept is what these segments leave
-abbrev pub Mends : Kept → List (List ℤ) → Type 0
-Mends receiver segments = HasRun Decodes receiver.place receiver.decoding segments
-
--- A segment behind these is told what it is; then the receiver stands for the longer list, and brings what is given
--- more.
-abbrev pub IsTaken : List (List ℤ) → List ℤ → Kept → Tracking → List Received → Type 0
-IsTaken segments x new answer brought = IsFollowed (Mends new) mended_so_far segments x answer brought
-
--- Behind these segments others are received together: then the receiver stands for the longer list, and brings what is
--- given more, and so many runs begin.
-pub record AreReceived (segments more : List (List ℤ)) (new : Kept) (begins : ℕ)
-    (brought : List Received) : Type 0 where
-  pub stands : Mends new (segments ++ more)
-  pub packets : mended_so_far (segments ++ more) ≡ mended_so_far segments ++ brought
-  pub runs : length (runs (segments ++ more)) ≡ length (runs segments) + begins
+abbrev pub Mends : Kept Decoding → List (List ℤ) → Type 0
+Mends receiver segments = Stands Decodes receiver segments

@@ -1,14 +1,13 @@
 //! From the segments of a run, some of whose symbols are missing, to packets.
 
-ghost use Rattle.std.specs.Prelude.{◌≡◌, ℤ, ◌+◌, ◌*◌, ◌%◌, ◌<◌, ◌≤◌, ◌++◌, ◌∷◌, [], List, length, map};
-ghost use Rattle.dtx_receiver.specs.Symbols.{symbols_in, symbols_of};
-ghost use Rattle.dtx_erase.specs.Mended.{mended_run, mended_run_early};
-ghost use Rattle.dtx_erase.specs.Sides.{AreGiven, Decodes, mended_word, word_of};
+ghost use Rattle.std.specs.Prelude.{◌≡◌, ◌+◌, ◌*◌, ◌%◌, ◌<◌, ◌≤◌, ◌++◌, ◌∷◌, [], length, map};
+ghost use Rattle.dtx_receiver.specs.Symbols.{symbols_of};
+ghost use Rattle.dtx_erase.specs.Sides.{AreGiven, mended_word, word_of};
 
 use crate::mark_side::MarkSide;
 use crate::side::Side;
 use crate::words::Words;
-use dtx_receiver::{Batch, HELD_GROUPS, MOST_RECEIVED};
+use dtx_receiver::{Batch, HELD_GROUPS, MOST_RECEIVED, RunDecoder, RunReceiver};
 use dtx_sizes::{BRANCHES, FIELD_PACKETS, GROUP_PACKETS, PACKET_DATA, SEGMENT};
 use std::alloc::{AllocError, Global};
 use std::marker::Model;
@@ -16,9 +15,14 @@ use std::marker::Model;
 /// How many groups of a run give no packet.
 const WAITING: u8 = 13;
 
-/// Decodes a run. `Decodes decoder run` says that it holds what the segments of the run leave.
+/// Receives the transport packets of segments, some of whose symbols are missing. A symbol of value -128 says that
+/// nothing was received there: a byte that rests on such a symbol costs its word one parity byte, a wrong byte costs
+/// two. `Mends receiver segments` says that the receiver holds what these segments leave.
+pub type MendReceiver = RunReceiver<MendDecoder>;
+
+/// Decodes a run, and mends its words. `Decodes decoder run` says that it holds what the segments of the run leave.
 #[derive(Drop)]
-pub(crate) struct Decoder {
+pub struct MendDecoder {
     bytes: Side,
     marks: MarkSide,
     words: Words,
@@ -26,7 +30,7 @@ pub(crate) struct Decoder {
     place: u16,
 }
 
-impl Model for Decoder {
+impl Model for MendDecoder {
     ghost use Rattle.std.specs.Prelude.{◌<◌, ◌≡◌, []};
     ghost use Rattle.dtx_erase.specs.Sides.{Decoding};
 
@@ -37,10 +41,22 @@ impl Model for Decoder {
     ghost invariant = { λ d. (d.place < 312) × (d.bytes.groups.held ≡ []) };
 }
 
-impl Decoder {
-    /// Of no run.
-    pub(crate) fn new(alloc: Global) -> Result<Decoder, AllocError> {
-        Ok(Decoder {
+impl RunDecoder for MendDecoder {
+    ghost use Rattle.dtx_erase.specs.Mended.{all_mended, mended_run, mended_run_early, mended_so_far};
+    ghost use Rattle.dtx_erase.specs.Sides.{Decodes};
+
+    ghost decodes = { Decodes };
+
+    ghost whole = { mended_run };
+
+    ghost early = { mended_run_early };
+
+    ghost given = { mended_so_far };
+
+    ghost all = { all_mended };
+
+    fn new(alloc: Global) -> Result<MendDecoder, AllocError> {
+        Ok(MendDecoder {
             bytes: Side::new(alloc)?,
             marks: MarkSide::new(alloc)?,
             words: Words::new(alloc)?,
@@ -49,47 +65,35 @@ impl Decoder {
         })
     }
 
-    /// A run begins with this field sync.
-    pub(crate) fn begin(&mut self, sync: &[i8; SEGMENT])
-        ensures { Decodes self.new (sync.now ∷ []) }
-    {
+    fn known(&self) {}
+
+    fn begin(&mut self, sync: &[i8; SEGMENT]) {
         self.bytes.begin(sync);
         self.marks.begin(sync);
         self.waits = WAITING;
         self.place = 0;
     }
 
-    /// The next data segments of the run, as the bytes of their symbols, and the packets that they complete. The first
-    /// is at this place of its field. All their whole groups go through the de-interleavers together.
-    pub(crate) fn take_all(&mut self, place: u16, segments: &[[u8; SEGMENT]], batch: &mut Batch)
-        requires place { place + length segments.now ≤ FIELD_PACKETS }
-        requires most { length segments.now ≤ GROUP_PACKETS * HELD_GROUPS }
-        requires some { 0 < length segments.now }
-        requires none { batch.old.packets.items ≡ [] }
-        ensures stands { (run : List (List ℤ)) → Decodes self.old run → length run % 313 ≡ place + 1
-            → Decodes self.new (run ++ symbols_in segments.now) }
-        ensures packets { (run : List (List ℤ)) → Decodes self.old run → length run % 313 ≡ place + 1
-            → mended_run_early (run ++ symbols_in segments.now) ≡ mended_run_early run ++ batch.new.packets.items }
-        ensures few { length batch.new.packets.items ≤ length segments.now + 3 }
-    {
+    fn take(&mut self, place: u16, segment: &[i8; SEGMENT], batch: &mut Batch) {
+        self.take_all(place, &[as_bytes(segment)], batch);
+    }
+
+    fn take_all(&mut self, place: u16, segments: &[[u8; SEGMENT]], batch: &mut Batch) {
         self.marks.take_all(place, segments);
         let groups = self.bytes.take_all(place, segments);
         self.give_groups(groups, batch);
     }
 
-    /// The next data segment of the run, at this place of its field, and the packets that it completes.
-    pub(crate) fn take(&mut self, place: u16, segment: &[i8; SEGMENT], batch: &mut Batch)
-        requires place { place < FIELD_PACKETS }
-        requires none { batch.old.packets.items ≡ [] }
-        ensures stands { (run : List (List ℤ)) → Decodes self.old run → length run % 313 ≡ place + 1
-            → Decodes self.new (run ++ segment.now ∷ []) }
-        ensures packets { (run : List (List ℤ)) → Decodes self.old run → length run % 313 ≡ place + 1
-            → mended_run_early (run ++ segment.now ∷ []) ≡ mended_run_early run ++ batch.new.packets.items }
-        ensures few { length batch.new.packets.items ≤ GROUP_PACKETS }
-    {
-        self.take_all(place, &[as_bytes(segment)], batch);
+    fn end(&mut self, batch: &mut Batch) {
+        if self.waits == 0 && self.place % BRANCHES as u16 == 0 {
+            let word = self.bytes.last_word();
+            let flags = self.marks.last_word();
+            self.words.give(self.place, &word, &flags, batch);
+        }
     }
+}
 
+impl MendDecoder {
     /// Gives the packets of so many groups, whose words are gathered.
     fn give_groups(&mut self, groups: usize, batch: &mut Batch)
         requires most { groups ≤ HELD_GROUPS }
@@ -124,20 +128,6 @@ impl Decoder {
             let flags = self.marks.words(group);
             self.words.give_four(self.place, &words, &flags, batch);
             self.place = (self.place + 4) % FIELD_PACKETS;
-        }
-    }
-
-    /// The run has ended: what is left of its packets.
-    pub(crate) fn end(&mut self, batch: &mut Batch)
-        requires { batch.old.packets.items ≡ [] }
-        ensures packets { (run : List (List ℤ)) → Decodes self.old run
-            → mended_run run ≡ mended_run_early run ++ batch.new.packets.items }
-        ensures few { length batch.new.packets.items ≤ 1 }
-    {
-        if self.waits == 0 && self.place % BRANCHES as u16 == 0 {
-            let word = self.bytes.last_word();
-            let flags = self.marks.last_word();
-            self.words.give(self.place, &word, &flags, batch);
         }
     }
 }

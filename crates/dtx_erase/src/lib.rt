@@ -8,11 +8,10 @@ pub mod laws;
 mod mark_side;
 mod marks;
 mod mender;
-mod receiver;
 mod side;
 mod values;
 mod words;
 
+pub use decoder::{MendDecoder, MendReceiver};
 pub use erasing::Erase;
 pub use mender::Mend;
-pub use receiver::MendReceiver;

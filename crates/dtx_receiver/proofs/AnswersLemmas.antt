@@ -9,23 +9,19 @@ use Rattle.dtx_frame.specs.Detection.{looks_like}
 use Rattle.dtx_receiver.specs.declared.batch.Received.{Received}
 use Rattle.dtx_receiver.specs.declared.tracking.Tracking.TheVariants.{Searching, Began, Sync, Data, Ended}
 use Rattle.dtx_receiver.specs.Runs.{Tracked, tracked, runs}
-use Rattle.dtx_receiver.specs.Receiver.{HasRun, IsFollowed}
+use Rattle.dtx_receiver.specs.Receiver.{AreReceived, HasRun, IsDecoder, IsFollowed, Kept, Stands}
 use Rattle.dtx_receiver.proofs.FollowingLemmas.{searching, began, sync_came, ended_there, data_came, data_all}
-use Rattle.dtx_receiver.proofs.GivenLemmas.{AreGiven, given_on, given_end, given_none, given_first, given_further}
+use Rattle.dtx_receiver.proofs.GivenLemmas.{Packets, given_on, given_end, given_none, given_first, given_further}
 use Rattle.dtx_receiver.proofs.GivenLemmas.{all_run, all_none}
 
-abbrev Packets : Type 0
-Packets = List (List ℤ) → List Received
+-- ---- what a receiver is seen as
 
--- What decodes runs: what it holds of one is what the run leaves, and what is given are the packets of runs. It may
--- stay as it is with each later field sync of a run, which gives none.
-pub record IsDecoder {D : Type 0} (Holds : D → List (List ℤ) → Type 0)
-    (whole early given all : List (List ℤ) → List Received) : Type 0 where
-  pub packets : AreGiven whole early given all
-  pub sync_held : (x : List ℤ) (d : D) (run : List (List ℤ)) → Holds d run → length run % 313 ≡ 0
-      → Holds d (run ++ x ∷ [])
-  pub sync_given : (x : List ℤ) (d : D) (run : List (List ℤ)) → Holds d run → length run % 313 ≡ 0
-      → early (run ++ x ∷ []) ≡ early run ++ []
+pub seen : {D : Type 0} {Holds : D → List (List ℤ) → Type 0} {k l : Kept D} {s : List (List ℤ)} → k ≡ l
+    → Stands Holds l s → Stands Holds k s
+seen {D} {Holds} {k} {l} {s} e h = subst (λ (r : Kept D). Stands Holds r s) (sym e) h
+
+pub place_seen : {D : Type 0} {k l : Kept D} {p : Option ℕ} → k ≡ l → k.place ≡ p → l.place ≡ p
+place_seen {D} e f = ap (λ (r : Kept D). r.place) (sym e) ∙ f
 
 -- ---- the run that is on
 
@@ -145,22 +141,22 @@ step_ended {D} {Holds} w s x p q d new brought h z l f k =
       packets = given_end w.packets s x o.run brought o.is t.0 (k o.run o.holds);
     }
 
--- a data segment of a run leaves this, and brings these packets
-pub record Carries {D : Type 0} (Holds : D → List (List ℤ) → Type 0) (early : List (List ℤ) → List Received)
-    (x : List ℤ) (new : D) (run : List (List ℤ)) (brought : List Received) : Type 0 where
-  pub holds : Holds new (run ++ x ∷ [])
-  pub packets : early (run ++ x ∷ []) ≡ early run ++ brought
+-- data segments of a run, one behind the other, leave this, and bring these packets
+pub record AreCarried {D : Type 0} (Holds : D → List (List ℤ) → Type 0) (early : List (List ℤ) → List Received)
+    (xs : List (List ℤ)) (new : D) (run : List (List ℤ)) (brought : List Received) : Type 0 where
+  pub holds : Holds new (run ++ xs)
+  pub packets : early (run ++ xs) ≡ early run ++ brought
 
 pub step_data : {D : Type 0} {Holds : D → List (List ℤ) → Type 0} {whole early given all : Packets}
     (w : IsDecoder Holds whole early given all) (s : List (List ℤ)) (x : List ℤ) (p q : Option ℕ) (d new : D)
     (place : ℕ) (brought : List Received) → HasRun Holds p d s → p ≡ Some place → place ≢ 0
     → q ≡ Some ((place + 1) % 313)
-    → ((run : List (List ℤ)) → Holds d run → length run % 313 ≡ place → Carries Holds early x new run brought)
+    → ((run : List (List ℤ)) → Holds d run → length run % 313 ≡ place → AreCarried Holds early (x ∷ []) new run brought)
     → IsFollowed (HasRun Holds q new) given s x Data brought
 step_data {D} {Holds} {whole} {early} w s x p q d new place brought h e z f k =
     let o : On Holds d s place = some_on Holds p d s place h e in
     let t = data_came s x o.run o.is (λ i. z (sym o.place_is ∙ i)) in
-    let c : Carries Holds early x new o.run brought = k o.run o.holds o.place_is in
+    let c : AreCarried Holds early (x ∷ []) new o.run brought = k o.run o.holds o.place_is in
     record {
       told = t.1;
       stands = stands_some Holds q new (s ++ x ∷ []) (o.run ++ x ∷ []) (ap (λ (u : Tracked). u.run) t.0)
@@ -186,19 +182,6 @@ finish_some {D} {Holds} w s p d place brought h e k =
 
 -- ---- data segments, one behind the other
 
--- what they leave, and bring
-pub record AreCarried {D : Type 0} (Holds : D → List (List ℤ) → Type 0) (early : List (List ℤ) → List Received)
-    (xs : List (List ℤ)) (new : D) (run : List (List ℤ)) (brought : List Received) : Type 0 where
-  pub holds : Holds new (run ++ xs)
-  pub packets : early (run ++ xs) ≡ early run ++ brought
-
--- so many runs begin with them: none
-pub record AreFollowed {D : Type 0} (Holds : D → List (List ℤ) → Type 0) (given : List (List ℤ) → List Received)
-    (s xs : List (List ℤ)) (q : Option ℕ) (new : D) (brought : List Received) : Type 0 where
-  pub stands : HasRun Holds q new (s ++ xs)
-  pub packets : given (s ++ xs) ≡ given s ++ brought
-  pub runs : length (runs (s ++ xs)) ≡ length (runs s) + 0
-
 same_runs : (s more run new : List (List ℤ)) → (tracked s).run ≡ Some run
     → tracked more ≡ record { ended = (tracked s).ended; run = Some new } → length (runs more) ≡ length (runs s) + 0
 unfolding runs
@@ -216,7 +199,7 @@ pub step_all : {D : Type 0} {Holds : D → List (List ℤ) → Type 0} {whole ea
     (place : ℕ) (brought : List Received) → HasRun Holds p d s → p ≡ Some place → 0 < place
     → place + length xs ≤ 313 → q ≡ Some ((place + length xs) % 313)
     → ((run : List (List ℤ)) → Holds d run → length run % 313 ≡ place → AreCarried Holds early xs new run brought)
-    → AreFollowed Holds given s xs q new brought
+    → AreReceived (HasRun Holds q new) given s xs 0 brought
 step_all {D} {Holds} {whole} {early} w s xs p q d new place brought h e z l f k =
     let o : On Holds d s place = some_on Holds p d s place h e in
     let t = data_all xs s o.run o.is (λ _ i. omega (arith, z, o.place_is, i)) (omega (arith, l, o.place_is)) in

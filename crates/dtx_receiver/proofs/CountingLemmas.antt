@@ -17,11 +17,12 @@ use Rattle.dtx_receiver.specs.declared.tracking.Tracking.TheVariants.{Searching,
 use Rattle.dtx_receiver.specs.Runs.{Tracked, tracked, runs, tracking, begun}
 use Rattle.dtx_receiver.specs.Bytes.{data_count, first_bits, levels_in, bytes_in}
 use Rattle.dtx_receiver.specs.Packets.{run_packets, early_of, all_packets, packets_so_far}
+use Rattle.dtx_receiver.specs.Receiver.{AreGiven}
 use Rattle.dtx_receiver.proofs.EarlyLemmas.{early_more, end_more, packets_more}
-use Rattle.dtx_receiver.proofs.SegmentsLemmas.{still_data, still_sync, levels_grown, first_stays, some_before}
+use Rattle.dtx_receiver.proofs.SegmentsLemmas.{still_data, still_sync, levels_grown, first_stays}
 use Rattle.dtx_receiver.proofs.FollowingLemmas.{searching, began, sync_came, ended_there, data_came}
-use Rattle.dtx_receiver.proofs.GivenLemmas.{received_given, given_on, given_end, given_none, given_first, all_run}
-use Rattle.dtx_receiver.proofs.GivenLemmas.{all_none}
+use Rattle.dtx_receiver.proofs.GivenLemmas.{Packets, received_given, given_on, given_end, given_none, given_first}
+use Rattle.dtx_receiver.proofs.GivenLemmas.{all_run, all_none}
 use Rattle.dtx_receiver.proofs.IntervalsLemmas.{some_segment}
 
 -- ---- how many runs
@@ -97,11 +98,11 @@ none_back s f levels l = ap (λ g. map (byte_back s f levels) (range_with_len 0 
     none n l = omega arith
 
 -- with levels more there may be bytes more
-pub bytes_front : (f y z : List ℕ) → (more : List ℕ) × (n : ℕ) × (length more ≡ 207 * n)
+bytes_front : (f y z : List ℕ) → (more : List ℕ) × (h : ℕ) × (length more ≡ 207 * (4 * h))
     × (bytes_back 0 f (y ++ z) ≡ bytes_back 0 f y ++ more)
 bytes_front f y z = (
   bytes_back (group_place 0 u) new (rest ++ z),
-  4 * level_groups (rest ++ z),
+  level_groups (rest ++ z),
   long_back (group_place 0 u) new (rest ++ z),
   there,
 )
@@ -143,82 +144,92 @@ pub bytes_count : (run : List (List ℤ)) → length (bytes_in run) ≡ 207 * (4
 unfolding bytes_in
 bytes_count run = long_back 0 (first_bits run) (levels_in run)
 
-abbrev More : List Received → List Received → Type 0
+abbrev pub More : List Received → List Received → Type 0
 More after before = (brought : List Received) × (after ≡ before ++ brought)
 
-early_front : (run new : List (List ℤ)) (z : List ℕ) → first_bits new ≡ first_bits run
-    → levels_in new ≡ levels_in run ++ z → More (early_of (bytes_in new)) (early_of (bytes_in run))
-unfolding bytes_in
-early_front run new z e f =
-    let b = bytes_front (first_bits run) (levels_in run) z in
-    let m = early_more (bytes_in run) b.0 (4 * level_groups (levels_in run)) b.1 (bytes_count run) b.2 in
-    (_, ap early_of (ap₂ (λ g y. bytes_back 0 g y) e f ∙ b.3) ∙ m)
+-- h groups more
+abbrev pub Behind : List ℕ → List ℕ → Type 0
+Behind after before = (more : List ℕ) × (h : ℕ) × (length more ≡ 207 * (4 * h)) × (after ≡ before ++ more)
 
-early_data : (run : List (List ℤ)) (x : List ℤ) → length run % 313 ≢ 0
-    → More (early_of (bytes_in (run ++ x ∷ []))) (early_of (bytes_in run))
-early_data run x n = by_part (cases_eq (data_count run % 4) 3)
+grown : (run new : List (List ℤ)) (z : List ℕ) → first_bits new ≡ first_bits run → levels_in new ≡ levels_in run ++ z
+    → Behind (bytes_in new) (bytes_in run)
+unfolding bytes_in
+grown run new z e f =
+    let b = bytes_front (first_bits run) (levels_in run) z in
+    (b.0, b.1, b.2, ap₂ (λ g y. bytes_back 0 g y) e f ∙ b.3)
+
+-- with a segment more there may be bytes more
+pub bytes_on : (run : List (List ℤ)) (x : List ℤ) → 0 < length run → Behind (bytes_in (run ++ x ∷ [])) (bytes_in run)
+bytes_on run x some = by_place (cases_eq (length run % 313) 0) (cases_eq (data_count run % 4) 3)
   where
-    by_part : (data_count run % 4 ≡ 3) ⊎ (data_count run % 4 ≢ 3)
-        → More (early_of (bytes_in (run ++ x ∷ []))) (early_of (bytes_in run))
-    by_part (inl p) = early_front run (run ++ x ∷ []) _ (first_stays run x (some_before run n)) (levels_grown run x n p)
-    by_part (inr p) = ([], ap early_of (still_data run x n p).bytes ∙ sym (append-nil (early_of (bytes_in run))))
+    same : bytes_in (run ++ x ∷ []) ≡ bytes_in run → Behind (bytes_in (run ++ x ∷ [])) (bytes_in run)
+    same e = ([], 0, refl, e ∙ sym (append-nil (bytes_in run)))
 
-whole_front : (run new : List (List ℤ)) (z : List ℕ) → first_bits new ≡ first_bits run
-    → levels_in new ≡ levels_in run ++ z → More (run_packets (bytes_in new)) (run_packets (bytes_in run))
-unfolding bytes_in
-whole_front run new z e f =
-    let b = bytes_front (first_bits run) (levels_in run) z in
-    let m = packets_more (bytes_in run) b.0 (4 * level_groups (levels_in run)) b.1 (bytes_count run) b.2 in
-    (m.0, ap run_packets (ap₂ (λ g y. bytes_back 0 g y) e f ∙ b.3) ∙ m.1)
+    by_place : (length run % 313 ≡ 0) ⊎ (length run % 313 ≢ 0) → (data_count run % 4 ≡ 3) ⊎ (data_count run % 4 ≢ 3)
+        → Behind (bytes_in (run ++ x ∷ [])) (bytes_in run)
+    by_place (inl d) p = same (still_sync run x some d).bytes
+    by_place (inr n) (inl p) = grown run (run ++ x ∷ []) _ (first_stays run x some) (levels_grown run x n p)
+    by_place (inr n) (inr p) = same (still_data run x n p).bytes
+
+-- ---- whichever packets a run gives
+
+-- what a run gives with one segment more, and with its end, comes behind what it gave before
+pub record Grows (whole early : Packets) : Type 0 where
+  pub on : (run : List (List ℤ)) (x : List ℤ) → 0 < length run → More (early (run ++ x ∷ [])) (early run)
+  pub end : (run : List (List ℤ)) → More (whole run) (early run)
+
+-- and so does what is given of a list
+pub list_grows : {whole early given all : Packets} → AreGiven whole early given all → Grows whole early
+    → (s : List (List ℤ)) (x : List ℤ) → More (given (s ++ x ∷ [])) (given s)
+list_grows {whole} {early} {given} is more s x = by_run (tracked s).run refl (looks_like x) refl
+  where
+    by_run : (o : Option (List (List ℤ))) → (tracked s).run ≡ o → (b : Bool) → looks_like x ≡ b
+        → More (given (s ++ x ∷ [])) (given s)
+    by_run None e false l = ([], given_none is s x e (searching s x e l).0)
+    by_run None e true l = ([], given_first is s x e (began s x e l).0)
+    by_run (Some run) e b l = by_due (cases_eq (length run % 313) 0) b l
+      where
+        m : More (early (run ++ x ∷ [])) (early run)
+        m = more.on run x (some_segment s run e)
+
+        by_due : (length run % 313 ≡ 0) ⊎ (length run % 313 ≢ 0) → (b : Bool) → looks_like x ≡ b
+            → More (given (s ++ x ∷ [])) (given s)
+        by_due (inr d) b l = (m.0, given_on is s x run (run ++ x ∷ []) m.0 e (data_came s x run e d).0 m.1)
+        by_due (inl d) true l = (m.0, given_on is s x run (run ++ x ∷ []) m.0 e (sync_came s x run e d l).0 m.1)
+        by_due (inl d) false l =
+            let r = more.end run in (r.0, given_end is s x run r.0 e (ended_there s x run e d l).0 r.1)
+
+pub list_ends : {whole early given all : Packets} → AreGiven whole early given all → Grows whole early
+    → (s : List (List ℤ)) → More (all s) (given s)
+list_ends {whole} {early} {given} {all} is more s = by_run (tracked s).run refl
+  where
+    by_run : (o : Option (List (List ℤ))) → (tracked s).run ≡ o → More (all s) (given s)
+    by_run None e = ([], all_none is s e)
+    by_run (Some run) e = let r = more.end run in (r.0, all_run is s run r.0 e r.1)
+
+-- ---- where each word is corrected
+
+-- how many data segments stand in whole groups
+abbrev in_groups : List (List ℤ) → ℕ
+in_groups run = 4 * level_groups (levels_in run)
 
 -- the packets of a run with one segment more
 pub whole_more : (run : List (List ℤ)) (x : List ℤ) → 0 < length run
     → More (run_packets (bytes_in (run ++ x ∷ []))) (run_packets (bytes_in run))
-whole_more run x some = by_place (cases_eq (length run % 313) 0) (cases_eq (data_count run % 4) 3)
-  where
-    same : bytes_in (run ++ x ∷ []) ≡ bytes_in run
-        → More (run_packets (bytes_in (run ++ x ∷ []))) (run_packets (bytes_in run))
-    same e = ([], ap run_packets e ∙ sym (append-nil (run_packets (bytes_in run))))
+whole_more run x some =
+    let b = bytes_on run x some in
+    let m = packets_more (bytes_in run) b.0 (in_groups run) (4 * b.1) (bytes_count run) b.2 in
+    (m.0, ap run_packets b.3 ∙ m.1)
 
-    by_place : (length run % 313 ≡ 0) ⊎ (length run % 313 ≢ 0) → (data_count run % 4 ≡ 3) ⊎ (data_count run % 4 ≢ 3)
-        → More (run_packets (bytes_in (run ++ x ∷ []))) (run_packets (bytes_in run))
-    by_place (inl d) p = same (still_sync run x some d).bytes
-    by_place (inr n) (inl p) =
-        whole_front run (run ++ x ∷ []) _ (first_stays run x some) (levels_grown run x n p)
-    by_place (inr n) (inr p) = same (still_data run x n p).bytes
+growing : Grows (λ run. run_packets (bytes_in run)) (λ run. early_of (bytes_in run))
+growing = record {
+  on = λ run x some. let b = bytes_on run x some in
+      (_, ap early_of b.3 ∙ early_more (bytes_in run) b.0 (in_groups run) (4 * b.1) (bytes_count run) b.2);
+  end = λ run. (_, end_more (bytes_in run) (in_groups run) (bytes_count run));
+}
 
 pub given_more : (s : List (List ℤ)) (x : List ℤ) → More (packets_so_far (s ++ x ∷ [])) (packets_so_far s)
-given_more s x = by_run (tracked s).run refl (looks_like x) refl
-  where
-    by_run : (o : Option (List (List ℤ))) → (tracked s).run ≡ o → (b : Bool) → looks_like x ≡ b
-        → More (packets_so_far (s ++ x ∷ [])) (packets_so_far s)
-    by_run None e false l = ([], given_none received_given s x e (searching s x e l).0)
-    by_run None e true l = ([], given_first received_given s x e (began s x e l).0)
-    by_run (Some run) e b l = by_due (cases_eq (length run % 313) 0) b l
-      where
-        by_due : (length run % 313 ≡ 0) ⊎ (length run % 313 ≢ 0) → (b : Bool) → looks_like x ≡ b
-            → More (packets_so_far (s ++ x ∷ [])) (packets_so_far s)
-        by_due (inr d) b l = let m = early_data run x d in
-            (m.0, given_on received_given s x run (run ++ x ∷ []) m.0 e (data_came s x run e d).0 m.1)
-        by_due (inl d) true l = (
-          [],
-          given_on received_given s x run (run ++ x ∷ []) [] e (sync_came s x run e d l).0
-              (ap early_of (still_sync run x (some_segment s run e) d).bytes
-              ∙ sym (append-nil (early_of (bytes_in run)))),
-        )
-        by_due (inl d) false l = (
-          _,
-          given_end received_given s x run _ e (ended_there s x run e d l).0
-              (end_more (bytes_in run) (4 * level_groups (levels_in run)) (bytes_count run)),
-        )
+given_more s x = list_grows received_given growing s x
 
 pub all_more : (s : List (List ℤ)) → More (all_packets s) (packets_so_far s)
-all_more s = by_run (tracked s).run refl
-  where
-    by_run : (o : Option (List (List ℤ))) → (tracked s).run ≡ o → More (all_packets s) (packets_so_far s)
-    by_run None e = ([], all_none received_given s e)
-    by_run (Some run) e = (
-      _,
-      all_run received_given s run _ e
-          (end_more (bytes_in run) (4 * level_groups (levels_in run)) (bytes_count run)),
-    )
+all_more s = list_ends received_given growing s

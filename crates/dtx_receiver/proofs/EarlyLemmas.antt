@@ -2,7 +2,7 @@
 -- one.
 use Rattle.std.proofs.Common.{◌≡◌, ◌≢◌, ℕ, ◌+◌, ◌-◌, ◌*◌, ◌/◌, ◌%◌, ◌<◌, ◌≤◌, ◌⊎◌}
 use Rattle.std.proofs.Common.{List, [], ◌∷◌, ◌++◌, map, length, take, drop}
-use Rattle.std.proofs.Common.{refl, sym, ap, ◌∙◌, subst, inl, inr, arith, lit<}
+use Rattle.std.proofs.Common.{refl, sym, ap, ap₂, ◌∙◌, subst, inl, inr, arith, lit<}
 use Rattle.std.specs.List.{filter, range_with_len}
 use Rattle.std.proofs.lemmas.Bool.{cases_eq, cases_lt}
 use Rattle.std.proofs.lemmas.List.{length-append, append-nil, map-append, append_assoc, length-take-le}
@@ -12,26 +12,61 @@ use Rattle.dtx_outer.specs.Made.{made_in}
 use Rattle.dtx_outer.proofs.MadeLemmas.{next_in, made_more, made_none, made_next}
 use Rattle.dtx_outer.proofs.WordsLemmas.{waiting_air, word_stays}
 use Rattle.dtx_laws.specs.Words.{correction}
-use Rattle.dtx_receiver.specs.Packets.{is_complete, received_by, received_at, run_packets, early_of}
+use Rattle.dtx_lists.proofs.Range.{range_with_len-parts, map-range_same}
+use Rattle.dtx_receiver.specs.Packets.{is_complete, received_by, received_at, run_packets, early_of, packets_by}
+use Rattle.dtx_receiver.specs.Packets.{early_by}
 use Rattle.dtx_receiver.specs.declared.batch.Received.{Received}
 use Rattle.dtx_receiver.proofs.CompleteLemmas.{complete_all, complete_parts, complete_last, complete_none}
 
 numbers : (s : ℕ) → 207 * s / 207 ≡ s
 numbers s = omega arith
 
-by_count : (bytes : List ℕ) (s : ℕ) → length bytes ≡ 207 * s
-    → run_packets bytes ≡ map (received_at bytes) (filter (is_complete (207 * s)) (range_with_len 0 s))
-unfolding run_packets
-by_count bytes s e =
-    ap (λ n. map (received_at bytes) (filter (is_complete n) (range_with_len 0 (n / 207)))) e
-    ∙ ap (λ n. map (received_at bytes) (filter (is_complete (207 * s)) (range_with_len 0 n))) (numbers s)
+-- ---- whatever packet k is
 
-early_count : (bytes : List ℕ) (s : ℕ) → length bytes ≡ 207 * s
-    → early_of bytes ≡ map (received_at bytes) (range_with_len 0 (s - 52))
-unfolding early_of
-early_count bytes s e =
-    ap (λ n. map (received_at bytes) (range_with_len 0 (n / 207 - 52))) e
-    ∙ ap (λ n. map (received_at bytes) (range_with_len 0 (n - 52))) (numbers s)
+early_count : (at : ℕ → Received) (n s : ℕ) → n ≡ 207 * s → early_by at n ≡ map at (range_with_len 0 (s - 52))
+early_count at n s e = ap (λ m. map at (range_with_len 0 (m - 52))) (ap (λ m. m / 207) e ∙ numbers s)
+
+-- with n times 207 bytes more, of a packet that stays where its bytes are all there, those packets that become early
+pub early_grown : (at new : ℕ → Received) (c d s n : ℕ) → c ≡ 207 * s → d ≡ 207 * (s + n)
+    → ((k : ℕ) → IsComplete 207 52 4 (207 * s) k → new k ≡ at k)
+    → early_by new d ≡ early_by at c ++ map new (range_with_len (s - 52) (s + n - 52 - (s - 52)))
+early_grown at new c d s n e f same =
+    early_count new d (s + n) f
+    ∙ ap (λ m. map new (range_with_len 0 m)) (whole s n)
+    ∙ ap (map new) (range_with_len-parts 0 (s - 52) (s + n - 52 - (s - 52)))
+    ∙ map-append new (range_with_len 0 (s - 52)) (range_with_len (0 + (s - 52)) (s + n - 52 - (s - 52)))
+    ∙ ap₂ (λ (xs : List Received) (a : ℕ). xs ++ map new (range_with_len a (s + n - 52 - (s - 52))))
+    (map-range_same new at 0 (s - 52) (λ k a b. same k (complete_all s k (inl (omega (arith, b)))))
+    ∙ sym (early_count at c s e)) (from (s - 52))
+  where
+    whole : (s n : ℕ) → s + n - 52 ≡ s - 52 + (s + n - 52 - (s - 52))
+    whole s n = omega arith
+
+    from : (n : ℕ) → 0 + n ≡ n
+    from n = omega arith
+
+-- at the end, whatever is left comes behind those
+abbrev pub left_by : (ℕ → Received) → ℕ → List Received
+left_by at s = map at (filter (is_complete (207 * s)) (range_with_len (s - 52) (s - (s - 52))))
+
+pub ends_more : (at : ℕ → Received) (n s : ℕ) → n ≡ 207 * s → packets_by at n ≡ early_by at n ++ left_by at s
+ends_more at n s e =
+    ap₂ (λ c m. map at (filter (is_complete c) (range_with_len 0 m))) e (ap (λ m. m / 207) e ∙ numbers s)
+    ∙ ap (map at) (complete_parts s)
+    ∙ map-append at (range_with_len 0 (s - 52)) (filter (is_complete (207 * s)) (range_with_len (s - 52)
+    (s - (s - 52))))
+    ∙ ap (λ xs. xs ++ left_by at s) (sym (early_count at n s e))
+
+-- nothing, or one packet
+pub ends_none : (at : ℕ → Received) (n s : ℕ) → n ≡ 207 * s → (s < 52) ⊎ (s % 52 ≢ 0)
+    → packets_by at n ≡ early_by at n ++ []
+ends_none at n s e c = ends_more at n s e ∙ ap (λ xs. early_by at n ++ map at xs) (complete_none s c)
+
+pub ends_one : (at : ℕ → Received) (n s : ℕ) → n ≡ 207 * s → 52 ≤ s → s % 52 ≡ 0
+    → packets_by at n ≡ early_by at n ++ at (s - 52) ∷ []
+ends_one at n s e l z = ends_more at n s e ∙ ap (λ xs. early_by at n ++ map at xs) (complete_last s l z)
+
+-- ---- where each word is corrected
 
 -- the packet of a word, as packet k
 abbrev pub received_word : ℕ → List ℕ → Received
@@ -79,29 +114,22 @@ early_next bytes more s e f l =
     at : ℕ → Received
     at k = received_word k (word_at 207 52 4 (bytes ++ more) k)
 
--- at the end, whatever is left comes behind those
-abbrev pub left_of : List ℕ → ℕ → List Received
-left_of bytes s = map (received_at bytes) (filter (is_complete (207 * s)) (range_with_len (s - 52) (s - (s - 52))))
-
-pub end_more : (bytes : List ℕ) (s : ℕ) → length bytes ≡ 207 * s → run_packets bytes ≡ early_of bytes ++ left_of bytes s
-end_more bytes s e =
-    by_count bytes s e ∙ ap (map (received_at bytes)) (complete_parts s)
-    ∙ map-append (received_at bytes) (range_with_len 0 (s - 52))
-    (filter (is_complete (207 * s)) (range_with_len (s - 52) (s - (s - 52))))
-    ∙ ap (λ xs. xs ++ left_of bytes s) (sym (early_count bytes s e))
+pub end_more : (bytes : List ℕ) (s : ℕ) → length bytes ≡ 207 * s
+    → run_packets bytes ≡ early_of bytes ++ left_by (received_at bytes) s
+unfolding run_packets early_of
+end_more bytes s e = ends_more (received_at bytes) (length bytes) s e
 
 -- what is left at the end of a run: nothing, or one packet, which any 207 bytes more bring
 pub end_none : (bytes : List ℕ) (s : ℕ) → length bytes ≡ 207 * s → (s < 52) ⊎ (s % 52 ≢ 0)
     → run_packets bytes ≡ early_of bytes
-end_none bytes s e c =
-    end_more bytes s e ∙ ap (λ xs. early_of bytes ++ map (received_at bytes) xs) (complete_none s c)
-    ∙ append-nil (early_of bytes)
+unfolding run_packets early_of
+end_none bytes s e c = ends_none (received_at bytes) (length bytes) s e c ∙ append-nil (early_of bytes)
 
 pub end_one : (bytes more : List ℕ) (s : ℕ) → length bytes ≡ 207 * s → length more ≡ 207 → 52 ≤ s → s % 52 ≡ 0
     → run_packets bytes ≡ early_of (bytes ++ more)
+unfolding run_packets early_of
 end_one bytes more s e f l z =
-    end_more bytes s e
-    ∙ ap (λ xs. early_of bytes ++ map (received_at bytes) xs) (complete_last s l z)
+    ends_one (received_at bytes) (length bytes) s e l z
     ∙ ap (λ (r : Received). early_of bytes ++ r ∷ []) (sym (stays bytes more (s - 52) there))
     ∙ sym (early_next bytes more s e f l)
   where
@@ -131,11 +159,11 @@ packets_stay bytes more s n e f before rest m is long within same =
     let whole : length (bytes ++ more) ≡ 207 * (s + n) = length-append bytes more ∙ omega (arith, e, f) in
     let left : length rest ≡ 207 * (s + n - m) = omega (arith, ap length is, length-append before rest, whole, long) in
     let next : List Received = next_of (before ++ rest) m (s + n - m) in (
-      next ++ left_of (bytes ++ more) (s + n),
+      next ++ left_by (received_at (bytes ++ more)) (s + n),
       end_more (bytes ++ more) (s + n) whole
-          ∙ ap (λ xs. xs ++ left_of (bytes ++ more) (s + n)) (ap early_of (sym is)
+          ∙ ap (λ xs. xs ++ left_by (received_at (bytes ++ more)) (s + n)) (ap early_of (sym is)
           ∙ early_more before rest m (s + n - m) long left ∙ ap (λ xs. xs ++ next) (sym same))
-          ∙ append_assoc (run_packets bytes) next (left_of (bytes ++ more) (s + n)),
+          ∙ append_assoc (run_packets bytes) next (left_by (received_at (bytes ++ more)) (s + n)),
     )
 
 pub packets_more : (bytes more : List ℕ) (s n : ℕ) → length bytes ≡ 207 * s → length more ≡ 207 * n

@@ -8,19 +8,12 @@ use Rattle.dtx_receiver.specs.declared.batch.Received.{Received}
 use Rattle.dtx_receiver.specs.Runs.{Tracked, tracked, runs}
 use Rattle.dtx_receiver.specs.Bytes.{bytes_in}
 use Rattle.dtx_receiver.specs.Packets.{run_packets, early_of, all_packets, packets_so_far}
+use Rattle.dtx_receiver.specs.Receiver.{AreGiven}
 use Rattle.dtx_receiver.proofs.EarlyLemmas.{early_nothing}
 use Rattle.dtx_receiver.proofs.SegmentsLemmas.{first_bytes}
 
-abbrev Packets : Type 0
+abbrev pub Packets : Type 0
 Packets = List (List ℤ) → List Received
-
--- `given` are the packets of a list that are given before it ends, and `all` those of the whole list, where a run gives
--- `early` while it is on, none of them for its first segment, and `whole` with its end.
-pub record AreGiven (whole early given all : List (List ℤ) → List Received) : Type 0 where
-  pub first : (x : List ℤ) → early (x ∷ []) ≡ []
-  pub so_far : (s : List (List ℤ)) → given s ≡ flat_map whole (tracked s).ended
-      ++ flat_map early (option_to_list (tracked s).run)
-  pub ended : (s : List (List ℤ)) → all s ≡ flat_map whole (runs s)
 
 -- a receiver's
 pub received_given : AreGiven (λ run. run_packets (bytes_in run)) (λ run. early_of (bytes_in run)) packets_so_far

@@ -15,14 +15,11 @@ use Rattle.dtx_receiver.specs.Runs.{Tracked, followed, sync_due, tracked, runs}
 use Rattle.dtx_receiver.specs.Bytes.{bytes_in}
 use Rattle.dtx_receiver.specs.Intervals.{NoneLooks, AreRuns}
 use Rattle.dtx_receiver.specs.Packets.{run_packets, all_packets, received}
-use Rattle.dtx_receiver.proofs.CountingLemmas.{whole_more}
+use Rattle.dtx_receiver.proofs.CountingLemmas.{More, whole_more}
 use Rattle.dtx_receiver.proofs.FollowingLemmas.{searching, began, sync_came, ended_there, data_came}
 use Rattle.dtx_receiver.proofs.IntervalsLemmas.{no_runs, none_on, some_segment}
 
 -- ---- cut
-
-abbrev pub More : List Received → List Received → Type 0
-More after before = (rest : List Received) × (after ≡ before ++ rest)
 
 packets_in : List (List (List ℤ)) → List Received
 packets_in rs = flat_map (λ run. run_packets (bytes_in run)) rs

@@ -1,19 +1,15 @@
 -- What a receiver keeps of a run, with more segments.
 use Rattle.std.proofs.Common.{◌≡◌, ◌≢◌, ℕ, ℤ, ◌+◌, ◌*◌, ◌%◌, List, [], ◌∷◌, ◌++◌, length, sym, ap, ◌∙◌, subst, inr}
 use Rattle.std.proofs.Common.{arith}
-use Rattle.std.proofs.lemmas.List.{append-nil, length-append}
-use Rattle.std.proofs.lemmas.List.FromFn.{length-map-range_with_len}
-use Rattle.dtx_slice.specs.Unrolled.{level_groups, byte_back, bytes_back}
-use Rattle.dtx_slice.proofs.JoinsLemmas.{groups_whole}
+use Rattle.std.proofs.lemmas.List.{append-nil}
 use Rattle.dtx_outer.specs.Inner as inner
-use Rattle.dtx_receiver.specs.Bytes.{groups_of, levels_in, first_bits, bytes_in}
+use Rattle.dtx_receiver.specs.Bytes.{groups_of, bytes_in}
 use Rattle.dtx_receiver.specs.Packets.{run_packets, early_of, all_packets, packets_so_far}
-use Rattle.dtx_receiver.proofs.AnswersLemmas.{IsDecoder}
 use Rattle.dtx_receiver.proofs.EarlyLemmas.{end_none, end_turn}
 use Rattle.dtx_receiver.proofs.GivenLemmas.{received_given}
 use Rattle.dtx_receiver.proofs.GroupedLemmas.{bytes_long, flat, groups_grown}
 use Rattle.dtx_receiver.proofs.LevelsLemmas.{levels_sync}
-use Rattle.dtx_receiver.specs.Receiver.{AreGrouped, AreLevels, Decoding, Decodes, Grouping}
+use Rattle.dtx_receiver.specs.Receiver.{AreGrouped, AreLevels, Decoding, Decodes, Grouping, IsDecoder}
 use Rattle.dtx_receiver.proofs.SegmentsLemmas.{Still, still_sync, first_groups, first_bytes}
 
 -- what is kept, of its parts

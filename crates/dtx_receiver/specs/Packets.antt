@@ -16,7 +16,7 @@ use Rattle.dtx_receiver.specs.Bytes.{bytes_in}
 unfoldable pub is_complete : ℕ → ℕ → Bool
 is_complete count k = list_all (λ j. nat_lt (codeword_byte_place 52 4 (207 * k + j)) count) (range_with_len 0 207)
 
--- the data of a word as a packet: the sync byte 0x47, and then the data, unwhitened
+-- the data of a word as a packet: unwhitened, behind the sync byte 0x47
 abbrev pub packet_bytes : ℕ → List ℕ → List ℕ
 packet_bytes from word = 0x47 ∷ whitened randomizer_bytes from (take 187 word)
 
@@ -34,30 +34,45 @@ received_by from word None = record {
   good = false;
 }
 
--- packet k of the bytes of a run, which is whitened as packet k of a stream
+-- packet k of the bytes of a run, which is whitened as packet k of a stream, where this is made of its word
+abbrev pub packet_at : (List ℕ → Option (List ℕ)) → List ℕ → ℕ → Received
+packet_at made bytes k = received_by (187 * (k % 312)) (word_at 207 52 4 bytes k) (made (word_at 207 52 4 bytes k))
+
+-- The packets of so many bytes of a run: each whose bytes are all there. There is at most one for each 207 bytes.
+abbrev pub packets_by : (ℕ → Received) → ℕ → List Received
+packets_by at count = map at (filter (is_complete count) (range_with_len 0 (count / 207)))
+
+-- those that are given while the run is on: with 53 data segments or more from the packet's own on
+abbrev pub early_by : (ℕ → Received) → ℕ → List Received
+early_by at count = map at (range_with_len 0 (count / 207 - 52))
+
+-- The packets of a list of segments that are given before the list ends, where a run has these packets and these early
+-- ones: those of the runs that have ended, and the early ones of the run that is on.
+abbrev pub so_far_of : (whole early : List (List ℤ) → List Received) → List (List ℤ) → List Received
+so_far_of whole early segments =
+    flat_map whole (tracked segments).ended ++ flat_map early (option_to_list (tracked segments).run)
+
+-- ---- where each word is corrected
+
+-- packet k of the bytes of a run, by the correction of its word
 unfoldable pub received_at : List ℕ → ℕ → Received
-received_at bytes k =
-    received_by (187 * (k % 312)) (word_at 207 52 4 bytes k) (correction 207 187 (word_at 207 52 4 bytes k))
+received_at bytes k = packet_at (correction 207 187) bytes k
 
--- The packets of a run: each whose bytes are all there. There is at most one for each 207 bytes.
+-- the packets of a run: each whose bytes are all there
 unfoldable pub run_packets : List ℕ → List Received
-run_packets bytes = map (received_at bytes) (filter (is_complete (length bytes)) (range_with_len 0
-    (length bytes / 207)))
+run_packets bytes = packets_by (received_at bytes) (length bytes)
 
--- the packets that are given while the run is on, for which 53 data segments or more stand from their own on
+-- those that are given while the run is on
 unfoldable pub early_of : List ℕ → List Received
-early_of bytes = map (received_at bytes) (range_with_len 0 (length bytes / 207 - 52))
+early_of bytes = early_by (received_at bytes) (length bytes)
 
 -- the packets of a list of segments, run after run
 unfoldable pub all_packets : List (List ℤ) → List Received
 all_packets segments = flat_map (λ run. run_packets (bytes_in run)) (runs segments)
 
--- those that are given before the list ends: those of the runs that have ended, and the early ones of the run that is
--- on
+-- those that are given before the list ends
 unfoldable pub packets_so_far : List (List ℤ) → List Received
-packets_so_far segments =
-    flat_map (λ run. run_packets (bytes_in run)) (tracked segments).ended
-    ++ flat_map (λ run. early_of (bytes_in run)) (option_to_list (tracked segments).run)
+packets_so_far segments = so_far_of (λ run. run_packets (bytes_in run)) (λ run. early_of (bytes_in run)) segments
 
 -- the bytes of all packets of a list of segments
 unfoldable pub received : List (List ℤ) → List (List ℕ)

@@ -1,22 +1,24 @@
 //! From the segments of a run to packets.
 
-ghost use Rattle.std.specs.Prelude.{◌≡◌, ℤ, ◌+◌, ◌*◌, ◌%◌, ◌≤◌, ◌<◌, ◌++◌, ◌∷◌, [], List, length};
-ghost use Rattle.dtx_receiver.specs.Bytes.{bytes_in};
-ghost use Rattle.dtx_receiver.specs.Packets.{early_of, run_packets};
-ghost use Rattle.dtx_receiver.specs.Receiver.{Decodes};
-ghost use Rattle.dtx_receiver.specs.Symbols.{symbols_in};
+ghost use Rattle.std.specs.Prelude.{◌≡◌, ◌+◌, ◌*◌, ◌%◌, ◌≤◌, ◌<◌};
 
 use crate::batch::{Batch, HELD_GROUPS};
 use crate::groups::Groups;
 use crate::outer_decoding::{OuterDecoding, give, new_outer_decoding};
-use dtx_sizes::{BRANCHES, CODEWORD, FIELD_PACKETS, GROUP_PACKETS, SEGMENT};
+use crate::receiver::RunReceiver;
+use crate::run_decoder::RunDecoder;
+use dtx_sizes::{BRANCHES, CODEWORD, GROUP_PACKETS, SEGMENT};
 use std::alloc::{AllocError, Global};
 use std::marker::Model;
 
-/// Decodes a run. `Decodes decoder run` says that the decoder is as the segments of the run leave it. It holds no bytes
-/// from one call to the next.
+/// Receives the transport packets of segments, whose words are corrected. `StandsFor receiver segments` says that the
+/// receiver holds what these segments leave.
+pub type Receiver = RunReceiver<Decoder>;
+
+/// Decodes a run, and corrects its words. `Decodes decoder run` says that it holds what the segments of the run leave.
+/// No bytes are held from one call to the next.
 #[derive(Drop)]
-pub(crate) struct Decoder {
+pub struct Decoder {
     groups: Groups,
     inner: OuterDecoding,
     turn: u8,
@@ -37,9 +39,22 @@ impl Model for Decoder {
     ghost invariant = { λ d. IsDecoding d.groups d.inner d.turn };
 }
 
-impl Decoder {
-    /// A decoder outside any run. The only error is out of memory.
-    pub(crate) fn new(alloc: Global) -> Result<Decoder, AllocError> {
+impl RunDecoder for Decoder {
+    ghost use Rattle.dtx_receiver.specs.Bytes.{bytes_in};
+    ghost use Rattle.dtx_receiver.specs.Packets.{all_packets, early_of, packets_so_far, run_packets};
+    ghost use Rattle.dtx_receiver.specs.Receiver.{Decodes};
+
+    ghost decodes = { Decodes };
+
+    ghost whole = { λ run. run_packets (bytes_in run) };
+
+    ghost early = { λ run. early_of (bytes_in run) };
+
+    ghost given = { packets_so_far };
+
+    ghost all = { all_packets };
+
+    fn new(alloc: Global) -> Result<Decoder, AllocError> {
         Ok(Decoder {
             groups: Groups::new(),
             inner: new_outer_decoding(alloc)?,
@@ -47,26 +62,15 @@ impl Decoder {
         })
     }
 
-    /// Begins a run with this field sync.
-    pub(crate) fn begin(&mut self, sync: &[i8; SEGMENT])
-        ensures { Decodes self.new (sync.now ∷ []) }
-    {
+    fn known(&self) {}
+
+    fn begin(&mut self, sync: &[i8; SEGMENT]) {
         self.groups.begin(sync);
         self.inner.start();
         self.turn = 0;
     }
 
-    /// Takes the next data segment of the run, at place `place` of its field. The empty batch gets the packets that it
-    /// completes.
-    pub(crate) fn take(&mut self, place: u16, segment: &[i8; SEGMENT], batch: &mut Batch)
-        requires place { place < FIELD_PACKETS }
-        requires none { batch.old.packets.items ≡ [] }
-        ensures stands { (run : List (List ℤ)) → Decodes self.old run → length run % 313 ≡ place + 1
-            → Decodes self.new (run ++ segment.now ∷ []) }
-        ensures packets { (run : List (List ℤ)) → Decodes self.old run → length run % 313 ≡ place + 1
-            → early_of (bytes_in (run ++ segment.now ∷ [])) ≡ early_of (bytes_in run) ++ batch.new.packets.items }
-        ensures few { length batch.new.packets.items ≤ GROUP_PACKETS }
-    {
+    fn take(&mut self, place: u16, segment: &[i8; SEGMENT], batch: &mut Batch) {
         self.groups.take(place, segment);
         if place % 4 == 3 {
             let given = self.groups.give(&mut self.inner, batch);
@@ -74,39 +78,20 @@ impl Decoder {
         }
     }
 
-    /// Takes the next data segments of the run, as the bytes of their symbols. The first stands at place `place` of its
-    /// field. The empty batch gets the packets that they complete. All whole groups go through the outer decoding
-    /// together.
-    pub(crate) fn take_all(&mut self, place: u16, segments: &[[u8; SEGMENT]], batch: &mut Batch)
-        requires place { place + length segments.now ≤ FIELD_PACKETS }
-        requires most { length segments.now ≤ GROUP_PACKETS * HELD_GROUPS }
-        requires none { batch.old.packets.items ≡ [] }
-        ensures stands { (run : List (List ℤ)) → Decodes self.old run → length run % 313 ≡ place + 1
-            → Decodes self.new (run ++ symbols_in segments.now) }
-        ensures packets { (run : List (List ℤ)) → Decodes self.old run → length run % 313 ≡ place + 1
-            → early_of (bytes_in (run ++ symbols_in segments.now))
-            ≡ early_of (bytes_in run) ++ batch.new.packets.items }
-        ensures few { length batch.new.packets.items ≤ length segments.now + 3 }
-    {
+    fn take_all(&mut self, place: u16, segments: &[[u8; SEGMENT]], batch: &mut Batch) {
         self.groups.take_all(place, segments);
         let given = self.groups.give(&mut self.inner, batch);
         self.turn = turn_behind(self.turn, given);
     }
 
-    /// Ends the run. The empty batch gets the packets that are left, which is at most one.
-    pub(crate) fn end(&mut self, batch: &mut Batch)
-        requires none { batch.old.packets.items ≡ [] }
-        ensures packets { (run : List (List ℤ)) → Decodes self.old run
-            → run_packets (bytes_in run) ≡ early_of (bytes_in run) ++ batch.new.packets.items }
-        ensures few { length batch.new.packets.items ≤ 1 }
-    {
+    fn end(&mut self, batch: &mut Batch) {
         if self.turn == 0 {
             give(&mut self.inner, &[0; CODEWORD], batch);
         }
     }
 }
 
-/// How many data segments are in whole groups, modulo 52, after `groups` groups more.
+/// How many data segments are in whole groups, modulo 52, behind so many groups more.
 fn turn_behind(turn: u8, groups: usize) -> u8
     requires turn { turn < BRANCHES }
     requires groups { groups ≤ HELD_GROUPS }

@@ -1,14 +1,13 @@
 //! Receives one segment after another.
 
 ghost use Rattle.std.specs.Prelude.{◌≡◌, ℤ, ◌+◌, ◌*◌, ◌%◌, ◌<◌, ◌≤◌, ◌++◌, ◌∷◌, [], List, IfOk, Some, length, take};
-ghost use Rattle.dtx_receiver.specs.Packets.{all_packets, packets_so_far};
-ghost use Rattle.dtx_receiver.specs.Receiver.{StandsFor, AreReceived, IsTaken};
+ghost use Rattle.dtx_receiver.specs.Receiver.{Stands, AreReceived, IsFollowed};
 ghost use Rattle.dtx_receiver.specs.Runs.{runs, tracking};
 ghost use Rattle.dtx_receiver.specs.Symbols.{symbols_in, symbols_of};
 
 use crate::batch::{Batch, MOST_RECEIVED};
-use crate::decoder::Decoder;
 use crate::progress::{Progress, begun};
+use crate::run_decoder::RunDecoder;
 use crate::symbols::to_symbols;
 use crate::tracking::Tracking;
 use dtx_frame::looks;
@@ -16,66 +15,68 @@ use dtx_sizes::{FIELD_SEGMENTS, GROUP_PACKETS, SEGMENT};
 use std::alloc::{AllocError, Global};
 use std::marker::Model;
 
-/// Receives transport packets from segments, which are given one after another. `StandsFor receiver segments` says that
-/// the receiver is as these segments leave it. Segments may hold any signed bytes, and there may be any number of them.
+/// Receives the transport packets of segments, which come one after another: it finds the runs, which the decoder
+/// decodes. `Stands D.decodes receiver segments` says that the receiver holds what these segments leave. Segments may
+/// hold any signed bytes, and there may be any number of them.
 #[derive(Drop)]
-pub struct Receiver {
+pub struct RunReceiver<D: RunDecoder> {
     place: Option<u16>,
-    decoder: Decoder,
+    decoder: D,
 }
 
-impl Model for Receiver {
+impl<D: RunDecoder> Model for RunReceiver<D> {
     ghost use Rattle.std.specs.Prelude.{◌<◌, IfSome};
     ghost use Rattle.dtx_receiver.specs.Receiver.{Kept};
 
-    ghost Value = { Kept };
+    ghost Value = { Kept D };
 
     ghost view = { λ r. record { place = r.place; decoding = r.decoder } };
 
     ghost invariant = { λ r. IfSome r.place (λ place. place < 313) };
 }
 
-impl Receiver {
+impl<D: RunDecoder> RunReceiver<D> {
     /// A receiver to which no segment was given. The only error is out of memory.
-    pub fn new(alloc: Global) -> Result<Receiver, AllocError>
-        ensures { IfOk result (λ receiver. StandsFor receiver []) }
+    pub fn new(alloc: Global) -> Result<Self, AllocError>
+        ensures { IfOk result (λ receiver. Stands D.decodes receiver []) }
     {
-        Ok(Receiver {
+        Ok(RunReceiver {
             place: None,
-            decoder: Decoder::new(alloc)?,
+            decoder: D::new(alloc)?,
         })
     }
 
-    /// Receives the next segment, and answers what it is. The packets that are complete with it replace what the batch
-    /// held. A packet is given once 53 data segments or more, in whole groups of four, stand from the packet's own on.
-    /// The others are given with the segment that ends the run. No call takes memory.
+    /// Receives the next segment: tells what it is, and gives the packets that become whole with it, in place of what
+    /// the batch held. A packet is given with the group of four data segments from which on 53 data segments or more
+    /// stand in whole groups from the packet's own on. Else it is given with the segment that ends the run. No call
+    /// takes memory.
     pub fn take(&mut self, segment: &[i8; SEGMENT], batch: &mut Batch) -> Tracking
-        ensures answer { (segments : List (List ℤ)) → StandsFor self.old segments
+        ensures answer { (segments : List (List ℤ)) → Stands D.decodes self.old segments
             → result ≡ tracking segments segment.now }
-        ensures stands { (segments : List (List ℤ)) → StandsFor self.old segments
-            → StandsFor self.new (segments ++ segment.now ∷ []) }
-        ensures packets { (segments : List (List ℤ)) → StandsFor self.old segments
-            → packets_so_far (segments ++ segment.now ∷ []) ≡ packets_so_far segments ++ batch.new.packets.items }
+        ensures stands { (segments : List (List ℤ)) → Stands D.decodes self.old segments
+            → Stands D.decodes self.new (segments ++ segment.now ∷ []) }
+        ensures packets { (segments : List (List ℤ)) → Stands D.decodes self.old segments
+            → D.given (segments ++ segment.now ∷ []) ≡ D.given segments ++ batch.new.packets.items }
         ensures few { length batch.new.packets.items ≤ GROUP_PACKETS }
     {
         batch.packets.clear();
         self.follow(segment, batch)
     }
 
-    /// Receives the first of these segments, which are given as the bytes of their symbols. Answers how many it took,
-    /// and how many runs began with them. The packets that are complete with them replace what the batch held, as if
-    /// `take` had been called for each. Data segments are taken together: up to the next place where a field sync is
-    /// due, but no more than 52. Any other segment is taken alone. No call takes memory.
+    /// Receives the first of some segments, which are given as the bytes of their symbols, and tells how many it took
+    /// and how many runs began with them. It gives the packets that become whole with them, in place of what the batch
+    /// held, as `take` gives them for one after another. Data segments are taken together: up to the next place where a
+    /// field sync is due, but no more than 52. Any other segment is taken alone. No call takes memory.
     pub fn take_some(&mut self, segments: &[[u8; SEGMENT]], batch: &mut Batch) -> Progress
         requires { 0 < length segments.now }
         ensures some { 0 < result.segments }
         ensures within { result.segments ≤ length segments.now }
-        ensures stands { (before : List (List ℤ)) → StandsFor self.old before
-            → StandsFor self.new (before ++ symbols_in (take result.segments segments.now)) }
-        ensures packets { (before : List (List ℤ)) → StandsFor self.old before
-            → packets_so_far (before ++ symbols_in (take result.segments segments.now))
-            ≡ packets_so_far before ++ batch.new.packets.items }
-        ensures runs { (before : List (List ℤ)) → StandsFor self.old before
+        ensures stands { (before : List (List ℤ)) → Stands D.decodes self.old before
+            → Stands D.decodes self.new (before ++ symbols_in (take result.segments segments.now)) }
+        ensures packets { (before : List (List ℤ)) → Stands D.decodes self.old before
+            → D.given (before ++ symbols_in (take result.segments segments.now))
+            ≡ D.given before ++ batch.new.packets.items }
+        ensures runs { (before : List (List ℤ)) → Stands D.decodes self.old before
             → length (runs (before ++ symbols_in (take result.segments segments.now)))
             ≡ length (runs before) + result.runs }
         ensures few { length batch.new.packets.items ≤ GROUP_PACKETS * result.segments }
@@ -89,7 +90,7 @@ impl Receiver {
         self.take_one(&segments[0], batch)
     }
 
-    /// Receives the next data segments. At least one is due, and the batch is empty.
+    /// Receives the next data segments, of which at least one is due, where the batch is empty.
     fn take_data(&mut self, place: u16, segments: &[[u8; SEGMENT]], batch: &mut Batch) -> Progress
         requires place { self.old.place ≡ Some place }
         requires due { 0 < place }
@@ -98,14 +99,15 @@ impl Receiver {
         requires none { batch.old.packets.items ≡ [] }
         ensures some { 0 < result.segments }
         ensures within { result.segments ≤ length segments.now }
-        ensures received { (before : List (List ℤ)) → StandsFor self.old before
-            → AreReceived before (symbols_in (take result.segments segments.now)) self.new result.runs
-            batch.new.packets.items }
+        ensures received { (before : List (List ℤ)) → Stands D.decodes self.old before
+            → AreReceived (Stands D.decodes self.new) D.given before
+            (symbols_in (take result.segments segments.now)) result.runs batch.new.packets.items }
         ensures few { length batch.new.packets.items ≤ GROUP_PACKETS * result.segments }
         ensures no_run { result.runs ≡ 0 }
     {
         let due = (FIELD_SEGMENTS - place) as usize;
         let count = segments.len().min(due).min(MOST_RECEIVED);
+        self.decoder.known();
         self.decoder.take_all(place - 1, &segments[..count], batch);
         self.place = Some((place + count as u16) % FIELD_SEGMENTS);
         Progress {
@@ -114,12 +116,13 @@ impl Receiver {
         }
     }
 
-    /// Receives the next segment, given as the bytes of its symbols. The batch is empty.
+    /// Receives the next segment, where the batch is empty.
     fn take_one(&mut self, bytes: &[u8; SEGMENT], batch: &mut Batch) -> Progress
         requires { batch.old.packets.items ≡ [] }
         ensures one { result.segments ≡ 1 }
-        ensures received { (before : List (List ℤ)) → StandsFor self.old before
-            → AreReceived before (symbols_of bytes.now ∷ []) self.new result.runs batch.new.packets.items }
+        ensures received { (before : List (List ℤ)) → Stands D.decodes self.old before
+            → AreReceived (Stands D.decodes self.new) D.given before (symbols_of bytes.now ∷ []) result.runs
+            batch.new.packets.items }
         ensures few { length batch.new.packets.items ≤ GROUP_PACKETS }
         ensures few_runs { result.runs ≤ 1 }
     {
@@ -132,13 +135,14 @@ impl Receiver {
         }
     }
 
-    /// Receives the next segment. The batch is empty.
+    /// Receives the next segment, where the batch is empty.
     fn follow(&mut self, segment: &[i8; SEGMENT], batch: &mut Batch) -> Tracking
         requires { batch.old.packets.items ≡ [] }
-        ensures taken { (segments : List (List ℤ)) → StandsFor self.old segments
-            → IsTaken segments segment.now self.new result batch.new.packets.items }
+        ensures taken { (segments : List (List ℤ)) → Stands D.decodes self.old segments
+            → IsFollowed (Stands D.decodes self.new) D.given segments segment.now result batch.new.packets.items }
         ensures few { length batch.new.packets.items ≤ GROUP_PACKETS }
     {
+        self.decoder.known();
         match self.place {
             None => {
                 if looks(segment) {
@@ -165,15 +169,16 @@ impl Receiver {
         }
     }
 
-    /// Ends the run that is on, if there is one. The packets that are left replace what the batch held. The next
-    /// segment is received as the first one.
+    /// Ends the run that is on, if one is: gives the packets that are left, in place of what the batch held. The next
+    /// segment is received as the first.
     pub fn finish(&mut self, batch: &mut Batch)
-        ensures stands { StandsFor self.new [] }
-        ensures packets { (segments : List (List ℤ)) → StandsFor self.old segments
-            → all_packets segments ≡ packets_so_far segments ++ batch.new.packets.items }
+        ensures stands { Stands D.decodes self.new [] }
+        ensures packets { (segments : List (List ℤ)) → Stands D.decodes self.old segments
+            → D.all segments ≡ D.given segments ++ batch.new.packets.items }
         ensures few { length batch.new.packets.items ≤ GROUP_PACKETS }
     {
         batch.packets.clear();
+        self.decoder.known();
         match self.place {
             None => {}
             Some(_) => {

@@ -1,1 +1,0 @@
-use Rattle.dtx_receiver.proofs.groups.Groups.give.Goals as goal
