@@ -1,7 +1,7 @@
 use Rattle.std.proofs.Common.{◌≡◌, ◌+◌, ◌-◌, ◌<◌, ◌≤◌, ℕ, Bool, false, sym, subst, ◌∙◌, arith, below_more}
 use Rattle.dtx_lists.proofs.RangeSearch.{find-range_first}
 use Rattle.dtx_level.specs.Shown.{shows}
-use Rattle.dtx_level.proofs.Least.{none_found}
+use Rattle.dtx_acquire.proofs.AgreementLemmas.{none_found}
 use Rattle.dtx_level.proofs.search.search_word.Goals as goal
 
 -- from the first on
