@@ -1,6 +1,6 @@
 -- Whether places agree, as it is searched.
 use Rattle.std.proofs.Common.{◌≡◌, ℕ, ℤ, zero, suc, ◌+◌, ◌-◌, ◌<◌, ◌≤◌, ◌⊎◌, inl, inr, Bool, true, false, ◌&&◌, leb}
-use Rattle.std.proofs.Common.{Some, None, List, length, refl, sym, ap, ◌∙◌, arith}
+use Rattle.std.proofs.Common.{Some, None, List, length, refl, sym, ap, ◌∙◌, subst, arith}
 use Rattle.std.specs.List.{find, range_with_len}
 use Rattle.std.proofs.lemmas.Bool.{cond-false, cases_lt, le-leb, lt-leb}
 use Rattle.dtx_lists.proofs.RangeSearch.{IsFirst, find-range_first, find-range_gives, find-range_misses}
@@ -36,6 +36,13 @@ none_found p a zero h = refl
 none_found p a (suc n) h =
     cond-false (p a) (Some a) (find p (range_with_len (a + 1) n)) (h a (omega arith) (omega arith))
     ∙ none_found p (a + 1) n (λ i l m. h i (omega arith) (omega arith))
+
+-- nothing passes of what is counted from a place on
+pub from_first : (p : ℕ → Bool) (first k : ℕ) → ((i : ℕ) → i < k → p (first + i) ≡ false) → (i : ℕ) → first ≤ i
+    → i < first + k → p i ≡ false
+from_first p first k h i l m =
+    let back : first + (i - first) ≡ i = omega arith in
+    subst (λ n. p n ≡ false) back (h (i - first) (omega arith))
 
 -- a place that is found among some is the least from one before on, where none agrees between
 pub least_found : (symbols : List ℤ) (from first count place : ℕ) → from ≤ first

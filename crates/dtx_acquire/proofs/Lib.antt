@@ -1,4 +1,4 @@
-mod AgreementLemmas
+pub mod AgreementLemmas
 pub mod SyncsLemmas
 pub mod FieldsLemmas
 mod StepsLemmas
@@ -9,11 +9,13 @@ pub mod Moved
 pub mod Levels
 pub mod Each
 pub mod Leaving
+pub mod SentLemmas
 pub mod NearLevels
 pub mod NearPaths
 pub mod NearSyncs
 pub mod NearRows
 pub mod NearGroups
 pub mod NearStream
+pub mod Silence
 pub mod GivenSegments
 pub mod GivenFields

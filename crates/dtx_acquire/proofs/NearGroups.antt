@@ -19,8 +19,9 @@ use Rattle.dtx_acquire.specs.Acquired.{behind_groups, in_groups, restored_data, 
 use Rattle.dtx_acquire.specs.Sent.{IsNear}
 use Rattle.dtx_acquire.proofs.NearLevels.{times_symbol}
 use Rattle.dtx_acquire.proofs.NearPaths.{AreNearest, costs_same}
-use Rattle.dtx_acquire.proofs.NearRows.{AreData, AreNearRows, data_drop, data_take, length_data, near_drop, near_take}
+use Rattle.dtx_acquire.proofs.NearRows.{AreData, AreNearRows, data_drop, data_take, near_drop, near_take}
 use Rattle.dtx_acquire.proofs.NearRows.{rows_restored}
+use Rattle.dtx_acquire.proofs.SentLemmas.{length_data}
 
 -- ---- places
 

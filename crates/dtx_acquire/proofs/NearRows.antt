@@ -1,34 +1,19 @@
 -- Segments whose symbols lie near those that were sent: what is restored of each is what was sent.
 use Rattle.std.proofs.Common.{◌≡◌, ℕ, ℤ, pos, ◌+◌, ◌-◌, ◌<◌, ◌≤◌, List, [], ◌++◌, length}
 use Rattle.std.proofs.Common.{map, take, drop, get_or, sym, ap, ap₂, ◌∙◌, subst, arith}
-use Rattle.std.proofs.lemmas.List.{ext_get_or, get_or-append_right, get_or-drop, get_or-map, get_or-take, length-append}
+use Rattle.std.proofs.lemmas.List.{ext_get_or, get_or-drop, get_or-map, get_or-take}
 use Rattle.std.proofs.lemmas.List.{length-drop, length-map, length-take-le}
 use Rattle.dtx_trellis.specs.Trellis.{symbol_of}
 use Rattle.dtx_frame.specs.Segments.{data_segment, field_sync, segment_sync}
-use Rattle.dtx_frame.proofs.SymbolsLemmas as symbols
 use Rattle.dtx_acquire.specs.Acquired.{restored_data, restored_sync}
 use Rattle.dtx_acquire.specs.Scaled.{decided}
 use Rattle.dtx_acquire.specs.Sent.{AreLevels, AreNear, IsData, IsNear, IsSync}
 use Rattle.dtx_acquire.proofs.Each.{each_from}
 use Rattle.dtx_acquire.proofs.NearLevels.{decided_near}
-use Rattle.dtx_acquire.proofs.NearSyncs.{last_at, length_sync, second_near}
+use Rattle.dtx_acquire.proofs.NearSyncs.{second_near}
+use Rattle.dtx_acquire.proofs.SentLemmas.{data_at, last_at, length_data, length_sync}
 
 -- ---- a segment
-
-data_at : (levels : List ℕ) (k : ℕ) → AreLevels 828 levels → k < 828
-    → get_or (data_segment levels) (4 + k) (pos 0) ≡ symbol_of (get_or levels k 0)
-unfolding data_segment
-data_at levels k h l =
-    let back : 4 + k - 4 ≡ k = omega arith in
-    get_or-append_right segment_sync (map symbol_of levels) 4 (4 + k) (pos 0) symbols.length_sync (omega arith)
-    ∙ ap (λ i. get_or (map symbol_of levels) i (pos 0)) back
-    ∙ get_or-map symbol_of levels k 0 (pos 0) (omega (arith, h.long))
-
-pub length_data : (segment : List ℤ) → IsData segment → length segment ≡ 832
-unfolding data_segment
-length_data segment h =
-    ap length h.is ∙ length-append segment_sync (map symbol_of h.levels)
-    ∙ ap₂ (λ a b. a + b) symbols.length_sync (length-map h.levels symbol_of ∙ h.are.long)
 
 -- the symbols of levels, from a place on, by what lies near them
 decided_from : (scale a n : ℕ) (levels : List ℕ) (sent row : List ℤ) → length sent ≡ a + n → AreLevels n levels

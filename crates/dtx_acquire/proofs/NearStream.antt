@@ -1,12 +1,11 @@
 -- Symbols that lie near those of a stream, field by field: what is acquired is what was sent.
-use Rattle.std.proofs.Common.{◌≡◌, ◌≢◌, ℕ, ℤ, pos, zero, suc, ◌+◌, ◌*◌, ◌/◌, ◌%◌, ◌<◌, ◌≤◌, ◌⊎◌, inl, inr, Bool}
-use Rattle.std.proofs.Common.{true, false, min, List, [], ◌∷◌, ◌++◌, length, map, take, drop, get_or, flat_map, refl}
+use Rattle.std.proofs.Common.{◌≡◌, ℕ, ℤ, pos, zero, suc, ◌+◌, ◌*◌, ◌/◌, ◌%◌, ◌<◌, ◌≤◌, ◌⊎◌, inl, inr, Bool}
+use Rattle.std.proofs.Common.{true, false, min, List, [], ◌∷◌, ◌++◌, length, map, take, drop, get_or, refl}
 use Rattle.std.proofs.Common.{sym, ap, ap₂, ◌∙◌, subst, arith}
 use Rattle.std.specs.List.{range_with_len}
-use Rattle.std.proofs.lemmas.Bool.{cases_eq, cases_lt}
-use Rattle.std.proofs.lemmas.List.{append-nil, drop-drop, drop-take, get_or-drop, get_or-take, length-append}
+use Rattle.std.proofs.lemmas.Bool.{cases_lt}
+use Rattle.std.proofs.lemmas.List.{append-nil, drop-drop, drop-take, get_or-drop, get_or-take}
 use Rattle.std.proofs.lemmas.List.{length-drop, length-take-le, take-append-drop, take-take, take_all}
-use Rattle.std.proofs.lemmas.List.Concat.{get_or-flat_map}
 use Rattle.std.proofs.lemmas.List.FromFn.{get_or-map-range_with_len, length-map-range_with_len}
 use Rattle.dtx_soft.specs.Coders.{coder_symbols}
 use Rattle.dtx_soft.specs.Softened.{IsOwn}
@@ -18,8 +17,9 @@ use Rattle.dtx_acquire.proofs.FieldsLemmas.{fields_last, fields_none}
 use Rattle.dtx_acquire.specs.Sent.{AreNear, AreInFields, AreSent, IsData, IsNear, IsSync, groups_behind}
 use Rattle.dtx_acquire.proofs.StepsLemmas.{step_due}
 use Rattle.dtx_acquire.proofs.NearGroups.{field_restored}
-use Rattle.dtx_acquire.proofs.NearRows.{AreNearRows, length_data, near_drop, sync_restored}
-use Rattle.dtx_acquire.proofs.NearSyncs.{agrees_near, length_sync}
+use Rattle.dtx_acquire.proofs.NearRows.{AreNearRows, near_drop, sync_restored}
+use Rattle.dtx_acquire.proofs.NearSyncs.{agrees_near}
+use Rattle.dtx_acquire.proofs.SentLemmas.{all_symbols, length_sent, row_long, symbol_there}
 
 -- ---- segments and symbols
 
@@ -29,39 +29,13 @@ record AreReceived (scale : ℕ) (sent : List (List ℤ)) (symbols : List ℤ) :
   near : (i k : ℕ) → i < length sent → k < 832
       → IsNear scale (get_or (get_or sent i []) k (pos 0)) (get_or symbols (832 * i + k) (pos 0))
 
-pub row_long : (sent : List (List ℤ)) → AreInFields sent → (i : ℕ) → i < length sent → length (get_or sent i []) ≡ 832
-row_long sent h i l = by_place (cases_eq (i % 313) 0)
-  where
-    by_place : (i % 313 ≡ 0) ⊎ (i % 313 ≢ 0) → length (get_or sent i []) ≡ 832
-    by_place (inl e) = (let s = h.syncs i l e in ap length s.is ∙ length_sync s.second s.last s.are)
-    by_place (inr e) = length_data (get_or sent i []) (h.others i l e)
-
-length-flat : (xs : List (List ℤ)) → ((i : ℕ) → i < length xs → length (get_or xs i []) ≡ 832)
-    → length (flat_map (λ (s : List ℤ). s) xs) ≡ 832 * length xs
-length-flat [] h = refl
-length-flat (x ∷ xs) h =
-    length-append x (flat_map (λ (s : List ℤ). s) xs)
-    ∙ ap₂ (λ a b. a + b) (h 0 (omega arith)) (length-flat xs (λ i l. h (suc i) (omega arith)))
-    ∙ omega arith
-
 received_by : (scale : ℕ) (sent : List (List ℤ)) (symbols : List ℤ) → AreInFields sent
-    → AreNear scale (flat_map (λ (s : List ℤ). s) sent) symbols → AreReceived scale sent symbols
+    → AreNear scale (all_symbols sent) symbols → AreReceived scale sent symbols
 received_by scale sent symbols h near = record {
-  long = near.long ∙ length-flat sent (row_long sent h);
+  long = near.long ∙ length_sent sent h;
   near = λ i k l m.
-      let front = length-flat (take i sent) (λ j n. (let o : j < i = omega (
-        arith,
-        n,
-        length-take-le i sent
-            (omega (arith, l)),
-      ) in ap length (get_or-take i sent j [] o) ∙ row_long sent h j (omega arith))) in
-      let place : length (flat_map (λ (s : List ℤ). s) (take i sent)) + k ≡ 832 * i + k = omega
-      (arith, front, length-take-le i sent (omega (arith, l))) in
-      let there : k < length (get_or sent i []) = omega (arith, m, row_long sent h i l) in
-      subst (λ x. IsNear scale x (get_or symbols (832 * i + k) (pos 0)))
-      (ap (λ j. get_or (flat_map (λ (s : List ℤ). s) sent) j (pos 0)) (sym place)
-      ∙ get_or-flat_map (λ (s : List ℤ). s) sent i k [] (pos 0) l there)
-      (near.near (832 * i + k) (omega (arith, l, m, length-flat sent (row_long sent h))));
+      subst (λ x. IsNear scale x (get_or symbols (832 * i + k) (pos 0))) (symbol_there sent h i k l m)
+      (near.near (832 * i + k) (omega (arith, l, m, length_sent sent h)));
 }
 
 -- ---- without the first field
@@ -269,7 +243,7 @@ fields_near (suc fuel) scale begins sent symbols few some l h near =
     by_length (inr m) on = last_near scale begins sent symbols some l m h near
 
 pub sent_acquired : (scale : ℕ) (sent : List (List ℤ)) (symbols : List ℤ) → 0 < scale → AreSent sent
-    → AreNear scale (flat_map (λ (s : List ℤ). s) sent) symbols → acquired scale symbols ≡ sent
+    → AreNear scale (all_symbols sent) symbols → acquired scale symbols ≡ sent
 unfolding acquired restored_of
 sent_acquired scale sent symbols some h near = by_length (cases_lt 0 (length sent))
   where

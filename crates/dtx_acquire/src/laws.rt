@@ -1,6 +1,6 @@
 //! Laws of what is acquired.
 
-ghost use Rattle.std.specs.Prelude.{◌≡◌, ◌<◌, ◌++◌, ◌∷◌, [], ◌⊎◌, ◌↔◌, false, ℕ, ℤ, List, length};
+ghost use Rattle.std.specs.Prelude.{◌≡◌, ◌<◌, ◌++◌, ◌∷◌, [], ◌⊎◌, ◌↔◌, false, ℕ, ℤ, pos, List, length, replicate};
 ghost use Rattle.std.specs.List.{flat_map};
 ghost use Rattle.dtx_acquire.specs.Acquired.{Field, acquired, acquired_rest, acquired_runs, acquired_so_far};
 ghost use Rattle.dtx_acquire.specs.Acquired.{all_fields, IsSame};
@@ -33,6 +33,20 @@ pub fn a_small_error_moves_nothing()
     ensures { (scale : ℕ) (sent : List (List ℤ)) (symbols : List ℤ) → 0 < scale → AreSent sent
         → AreNear scale (flat_map (λ segment. segment) sent) symbols → acquired scale symbols ≡ sent }
 {}
+
+/// Zeros in front of such symbols move nothing either, however many. No place of the zeros agrees with a sync: of 515
+/// symbols from there on, zeros and then a sync's first, more than 128 have another sign than a sync's.
+pub fn silence_moves_nothing()
+    ensures agreement { (scale zeros : ℕ) (sent : List (List ℤ)) (symbols : List ℤ) → AreInFields sent
+        → AreNear scale (flat_map (λ segment. segment) sent) symbols
+        → (p : ℕ) → p < zeros → agrees (replicate zeros (pos 0) ++ symbols) p ≡ false }
+    ensures segments { (scale zeros : ℕ) (sent : List (List ℤ)) (symbols : List ℤ) → 0 < scale → AreSent sent
+        → AreNear scale (flat_map (λ segment. segment) sent) symbols
+        → acquired scale (replicate zeros (pos 0) ++ symbols) ≡ sent }
+{
+    a_capture_begins_anywhere();
+    a_small_error_moves_nothing();
+}
 
 /// What is acquired is whole segments. Those whose number 313 divides are field syncs, and the others data segments, so
 /// that each sync looks like one. Each field but the last gives 313 segments or none, so each run but the last gives a

@@ -33,7 +33,7 @@ places_where : (wanted : Bool → Bool) (v : List ℤ) → places_of (measures_w
 unfolding measures_where
 places_where wanted v = places_measured v (syncs_where wanted v)
 
-all_wanted : (f : ℕ → Bool) (places : List ℕ) → filter (λ p. true) places ≡ places
+pub all_wanted : (f : ℕ → Bool) (places : List ℕ) → filter (λ p. true) places ≡ places
 all_wanted f [] = refl
 all_wanted f (p ∷ places) = ap (λ xs. p ∷ xs) (all_wanted f places)
 

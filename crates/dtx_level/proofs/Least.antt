@@ -1,21 +1,14 @@
 -- The least place that shows a sync, as it is searched, and of symbols behind others.
-use Rattle.std.proofs.Common.{◌≡◌, ℕ, ℤ, zero, suc, ◌+◌, ◌-◌, ◌<◌, ◌≤◌, ◌⊎◌, inl, inr, Bool, true, false}
+use Rattle.std.proofs.Common.{◌≡◌, ℕ, ℤ, ◌+◌, ◌-◌, ◌<◌, ◌≤◌, ◌⊎◌, inl, inr, true, false}
 use Rattle.std.proofs.Common.{Option, Some, None, option_map, List, ◌++◌, length, refl, sym, ap, ◌∙◌, arith}
 use Rattle.std.proofs.Common.{length-append}
 use Rattle.std.specs.List.{find, range_with_len}
-use Rattle.std.proofs.lemmas.Bool.{cond-false, cases_lt}
+use Rattle.std.proofs.lemmas.Bool.{cases_lt}
 use Rattle.dtx_lists.proofs.RangeSearch.{IsFirst, find-range_first, find-range_gives, find-range_misses}
+use Rattle.dtx_acquire.proofs.AgreementLemmas.{none_found}
 use Rattle.dtx_acquire.proofs.SyncsLemmas.{find_behind}
 use Rattle.dtx_level.specs.Shown.{least_shown, shows}
 use Rattle.dtx_level.proofs.Shows.{past_end, shows_behind, whole_there}
-
--- nothing is found where nothing passes
-pub none_found : (p : ℕ → Bool) (a n : ℕ) → ((i : ℕ) → a ≤ i → i < a + n → p i ≡ false)
-    → find p (range_with_len a n) ≡ None
-none_found p a zero h = refl
-none_found p a (suc n) h =
-    cond-false (p a) (Some a) (find p (range_with_len (a + 1) n)) (h a (omega arith) (omega arith))
-    ∙ none_found p (a + 1) n (λ i l m. h i (omega arith) (omega arith))
 
 -- a place that is found among some is the least from one before on, where none between shows a sync
 pub least_found : (symbols : List ℤ) (from first count place : ℕ) → from ≤ first

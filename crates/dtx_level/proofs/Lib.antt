@@ -14,3 +14,5 @@ pub mod Fronts
 pub mod Growing
 pub mod Gains
 pub mod Counts
+pub mod Standing
+pub mod WholeFields

@@ -1,12 +1,14 @@
 //! Laws of what is levelled.
 
-ghost use Rattle.std.specs.Prelude.{◌≡◌, ◌≢◌, ◌<◌, ◌≤◌, ◌++◌, ◌+ℤ◌, ◌*ℤ◌, false, ℕ, ℤ, pos, List};
+ghost use Rattle.std.specs.Prelude.{◌≡◌, ◌≢◌, ◌<◌, ◌≤◌, ◌++◌, ◌*◌, ◌+ℤ◌, ◌*ℤ◌, false, ℕ, ℤ, pos, List};
 ghost use Rattle.std.specs.Prelude.{if◌then◌else◌, length, map, nat_abs, sum};
-ghost use Rattle.std.specs.List.{range_with_len};
+ghost use Rattle.std.specs.List.{flat_map, range_with_len};
 ghost use Rattle.dtx_acquire.specs.Agreement.{sync_sign};
+ghost use Rattle.dtx_acquire.specs.Sent.{AreInFields};
 ghost use Rattle.dtx_level.specs.Shown.{shows};
 ghost use Rattle.dtx_level.specs.Measures.{IsGrown, IsLater, constant_in_hundredths, gain_in_hundredths};
 ghost use Rattle.dtx_level.specs.Levelled.{levelled, levelled_rest, levelled_so_far, levelled_symbol};
+ghost use Rattle.dtx_level.specs.Standing.{AreLevelled, eightfold, standing, standing_measures};
 
 /// What is levelled of symbols, whatever follows, and what their end adds are all that is levelled of them.
 pub fn all_is_levelled()
@@ -40,4 +42,15 @@ pub fn a_gain_is_undone()
 /// Of the first 515 symbols of a field sync 258 are +5, so the others, 257, are -5.
 pub fn the_signs_are_counted()
     ensures { sum (map (λ i. if sync_sign i then 1 else 0) (range_with_len 0 515)) ≡ 258 }
+{}
+
+/// Whole fields are levelled exactly, at any gain. Take segments as they are sent, from a field's first on. Let a unit
+/// be so many steps, below 0 in a capture that is turned, and let the constant be less than five units. So in a sync
+/// each symbol keeps its sign, or each turns it. Then every symbol `s`, which stands as `gain * s + constant`, becomes
+/// `8 * s`. One sync is told for each field that is begun: its place, which field's it is, 100 times the gain and the
+/// constant, and no noise. None is a slip. No symbol has to fit a byte for that.
+pub fn whole_fields_are_levelled()
+    ensures { (gain constant : ℤ) (sent : List (List ℤ)) → nat_abs constant < 5 * nat_abs gain → AreInFields sent
+        → AreLevelled (standing gain constant (flat_map (λ segment. segment) sent))
+        (eightfold (flat_map (λ segment. segment) sent)) (standing_measures gain constant sent) }
 {}

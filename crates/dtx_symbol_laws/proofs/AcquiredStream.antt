@@ -1,7 +1,7 @@
 -- The segments of a stream are acquired of symbols that lie near its own.
 use Rattle.std.proofs.Common.{◌≡◌, ◌≢◌, ℕ, ℤ, zero, suc, ◌+◌, ◌-◌, ◌*◌, ◌/◌, ◌%◌, ◌<◌, ◌==◌, nat_le}
 use Rattle.std.proofs.Common.{nat_lt, true, List, [], ◌++◌, length, map, take, drop, get_or, min, replicate, flat_map}
-use Rattle.std.proofs.Common.{refl, sym, ap, ◌∙◌, subst, arith}
+use Rattle.std.proofs.Common.{pos, refl, sym, ap, ◌∙◌, subst, arith}
 use Rattle.std.proofs.Math.Seq.{drop-append-add}
 use Rattle.std.proofs.lemmas.Bool.{cond-false, ltb-true, ne_eqb}
 use Rattle.std.proofs.lemmas.List.{drop-map, get_or-drop, get_or-take, length-drop, length-take, length-take-le}
@@ -19,7 +19,7 @@ use Rattle.dtx_chain.proofs.PlacesLemmas.{data_at_place, sync_at}
 use Rattle.dtx_soft.specs.Coders.{coder_symbols}
 use Rattle.dtx_soft.specs.Softened.{IsOwn}
 use Rattle.dtx_acquire.specs.Acquired as acquired
-use Rattle.dtx_acquire.specs.Sent.{AreLevels, AreNear, AreSent, IsData, IsSync, groups_behind}
+use Rattle.dtx_acquire.specs.Sent.{AreInFields, AreLevels, AreNear, AreSent, IsData, IsSync, groups_behind}
 use Rattle.dtx_jobs.specs.Soft.{in_groups}
 use Rattle.dtx_symbol_laws.proofs.SoftStream.{TakesPaths, field_own}
 
@@ -143,12 +143,12 @@ groups_same s n =
     ∙ sym (take-take (4 * (length (take 312 (drop (n + 1) s)) / 4)) 312 (drop (n + 1) s)
     (omega (arith, length-take 312 (drop (n + 1) s))))
 
+pub fields_sent : (ps : List (List ℕ)) → AreInFields (a53 ps)
+fields_sent ps = record { syncs = sync_is ps; others = data_is ps }
+
 stream_sent : TakesPaths → (ps : List (List ℕ)) → AreSent (a53 ps)
 stream_sent takes ps = record {
-  segments_are = record {
-    syncs = sync_is ps;
-    others = data_is ps;
-  };
+  segments_are = fields_sent ps;
   paths = λ f e l m.
       subst (λ (s : List (List ℤ)). IsOwn 1 (coder_symbols s e)) (groups_same (a53 ps) (313 * f))
       (field_own takes ps f e (omega arith) m);
@@ -163,3 +163,16 @@ pub stream_acquired : TakesPaths → MovesNothing → (scale : ℕ) (ps : List (
     → AreNear scale (a53_symbols ps) symbols → acquired.acquired scale symbols ≡ a53 ps
 unfolding a53_symbols
 stream_acquired takes moves scale ps symbols l near = moves scale (a53 ps) symbols l (stream_sent takes ps) near
+
+-- and of such symbols behind zeros
+abbrev pub SilenceMovesNothing : Type 0
+SilenceMovesNothing = (scale zeros : ℕ) (sent : List (List ℤ)) (symbols : List ℤ) → 0 < scale → AreSent sent
+    → AreNear scale (flat_map (λ (segment : List ℤ). segment) sent) symbols
+    → acquired.acquired scale (replicate zeros (pos 0) ++ symbols) ≡ sent
+
+pub behind_zeros_acquired : TakesPaths → SilenceMovesNothing → (scale zeros : ℕ) (ps : List (List ℕ)) (symbols : List ℤ)
+    → 0 < scale → AreNear scale (a53_symbols ps) symbols
+    → acquired.acquired scale (replicate zeros (pos 0) ++ symbols) ≡ a53 ps
+unfolding a53_symbols
+behind_zeros_acquired takes moves scale zeros ps symbols l near =
+    moves scale zeros (a53 ps) symbols l (stream_sent takes ps) near

@@ -2,6 +2,7 @@ mod MendedBackLemmas
 pub mod AcquiredFile
 pub mod AcquiredRun
 pub mod AcquiredStream
+pub mod LevelledStream
 pub mod RepeatedFiles
 pub mod SoftBack
 pub mod SoftCoded

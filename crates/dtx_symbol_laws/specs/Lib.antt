@@ -1,3 +1,4 @@
 pub mod AcquiredFile
+pub mod LevelledStream
 pub mod RepeatedFiles
 pub mod SoftFields

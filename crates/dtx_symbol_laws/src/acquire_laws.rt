@@ -1,6 +1,7 @@
 //! Laws of what `acquire` makes.
 
-ghost use Rattle.std.specs.Prelude.{◌≡◌, ◌≢◌, ◌↔◌, ◌%◌, ◌<◌, ◌≤◌, ◌++◌, ℕ, ℤ, true, List, [], ◌∷◌, length, take};
+ghost use Rattle.std.specs.Prelude.{◌≡◌, ◌≢◌, ◌↔◌, ◌%◌, ◌<◌, ◌≤◌, ◌++◌, ℕ, ℤ, pos, true, List, [], ◌∷◌, length, take};
+ghost use Rattle.std.specs.Prelude.{replicate};
 ghost use Rattle.dtx_coder.specs.Stream.{a53, a53_symbols};
 ghost use Rattle.dtx_receiver.specs.Intervals.{looks_at};
 ghost use Rattle.dtx_receiver.specs.Runs.{runs};
@@ -15,7 +16,9 @@ ghost use Rattle.dtx_jobs.specs.Giving.{no_sync_in};
 ghost use Rattle.dtx_jobs.specs.SymbolFile.{file_segments};
 ghost use Rattle.dtx_symbol_laws.specs.AcquiredFile.{acquired_of, acquired_until, file_acquired};
 
-use dtx_acquire::laws::{a_small_error_moves_nothing, whole_fields_are_acquired};
+use dtx_acquire::laws::{
+    a_small_error_moves_nothing, silence_moves_nothing, whole_fields_are_acquired,
+};
 use dtx_sizes::{FIELD_SEGMENTS, MOST_SYMBOLS};
 use dtx_soft::laws::coder_takes_a_path;
 
@@ -48,6 +51,16 @@ pub fn a_stream_is_acquired()
 {
     coder_takes_a_path();
     a_small_error_moves_nothing();
+}
+
+/// So they are of such symbols behind zeros, any number of these.
+pub fn a_stream_is_acquired_behind_zeros()
+    ensures { (scale zeros : ℕ) (packets : List (List ℕ)) (symbols : List ℤ) → 0 < scale
+        → AreNear scale (a53_symbols packets) symbols
+        → acquired scale (replicate zeros (pos 0) ++ symbols) ≡ a53 packets }
+{
+    coder_takes_a_path();
+    silence_moves_nothing();
 }
 
 /// Of what is acquired one run is received, where it isn't empty: each segment that 313 divides looks like a field

@@ -1,17 +1,10 @@
-use Rattle.std.proofs.Common.{◌≡◌, ◌+◌, ◌-◌, ◌<◌, ◌≤◌, ℕ, Bool, false, sym, subst, ◌∙◌, arith}
+use Rattle.std.proofs.Common.{◌≡◌, ◌+◌, false, sym, ◌∙◌, arith}
 use Rattle.std.proofs.lemmas.Bool.{le-leb, lt-leb}
 use Rattle.std.proofs.Common.{below_more}
 use Rattle.dtx_lists.proofs.RangeSearch.{find-range_first}
 use Rattle.dtx_acquire.specs.Agreement.{agrees}
-use Rattle.dtx_acquire.proofs.AgreementLemmas.{agrees_by, none_found}
+use Rattle.dtx_acquire.proofs.AgreementLemmas.{agrees_by, from_first, none_found}
 use Rattle.dtx_acquire.proofs.search.search_word.Goals as goal
-
--- from the first on
-from_first : (p : ℕ → Bool) (first k : ℕ) → ((i : ℕ) → i < k → p (first + i) ≡ false) → (i : ℕ) → first ≤ i
-    → i < first + k → p i ≡ false
-from_first p first k h i l m =
-    let back : first + (i - first) ≡ i = omega arith in
-    subst (λ n. p n ≡ false) back (h (i - first) (omega arith))
 
 pub loop-k-preserved : goal.loop-k-preserved
 loop-k-preserved c =

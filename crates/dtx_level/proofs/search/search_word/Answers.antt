@@ -1,15 +1,8 @@
-use Rattle.std.proofs.Common.{◌≡◌, ◌+◌, ◌-◌, ◌<◌, ◌≤◌, ℕ, Bool, false, sym, subst, ◌∙◌, arith, below_more}
+use Rattle.std.proofs.Common.{◌≡◌, ◌+◌, false, sym, ◌∙◌, arith, below_more}
 use Rattle.dtx_lists.proofs.RangeSearch.{find-range_first}
+use Rattle.dtx_acquire.proofs.AgreementLemmas.{from_first, none_found}
 use Rattle.dtx_level.specs.Shown.{shows}
-use Rattle.dtx_level.proofs.Least.{none_found}
 use Rattle.dtx_level.proofs.search.search_word.Goals as goal
-
--- from the first on
-from_first : (p : ℕ → Bool) (first k : ℕ) → ((i : ℕ) → i < k → p (first + i) ≡ false) → (i : ℕ) → first ≤ i
-    → i < first + k → p i ≡ false
-from_first p first k h i l m =
-    let back : first + (i - first) ≡ i = omega arith in
-    subst (λ n. p n ≡ false) back (h (i - first) (omega arith))
 
 pub is_shown-requires-clause-count : goal.is_shown-requires-clause-count
 is_shown-requires-clause-count c =
