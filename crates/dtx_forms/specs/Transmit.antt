@@ -1,24 +1,21 @@
 -- What a transmitter makes of its input, the symbols that it sends and its log, where the words are
 -- `.. IN ADDRESS DELAY OUT LOG`.
 use Rattle.std.specs.Prelude.{ℕ, List, [], ◌∷◌, Option, Some, None}
-use Rattle.std.specs.FinMap.{get}
-use Rattle.dtx_engine.specs.Recipe.{Recipe, meaning}
+use Rattle.dtx_engine.specs.Recipe.{Recipe}
 use Rattle.dtx_engine.specs.declared.engine.Shape.{Shape}
 use Rattle.dtx_meaning.specs.Meaning.{Meaning, refused}
 use Rattle.dtx_meaning.specs.declared.status.Status.TheVariants.{Usage}
 use Rattle.dtx_outside.specs.Shelf.{Files}
-use Rattle.dtx_words.specs.Names.{repeated}
 use Rattle.dtx_words.specs.Number.{number_in}
 use Rattle.dtx_words.specs.declared.rows.Command.{Command}
-use Rattle.dtx_forms.specs.Job.{Job, unless_same}
+use Rattle.dtx_forms.specs.Job.{Job}
+use Rattle.dtx_forms.specs.Logged.{logged}
 use Rattle.dtx_forms.specs.OfWords.{transmit_same}
 
 -- what is meant with these files, where the input has units of this shape, and what is made of them for an address and
 -- a delay is a recipe
 abbrev pub transmit_at : Shape → (ℕ → ℕ → Recipe) → ℕ → ℕ → List ℕ → List ℕ → List ℕ → Files → Meaning
-transmit_at shape sends address delay input output log held =
-    unless_same (repeated (input ∷ output ∷ log ∷ []))
-    (meaning shape (sends address delay) 0 (output ∷ log ∷ []) (get held input))
+transmit_at shape sends address delay = logged shape (sends address delay)
 
 -- what is meant where the words of the address and of the delay were read
 abbrev pub transmit_with : Shape → (ℕ → ℕ → Recipe) → Option ℕ → Option ℕ → List ℕ → List ℕ → List ℕ → Files
