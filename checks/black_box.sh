@@ -14,7 +14,7 @@ if [[ ${1-} == --released ]]; then
     shift
 fi
 parts=("$@")
-usage='usage: dtx adapt|code|excite|receive|net|make|hurt|place|trial|soft|mend|dvb|repeat|acquire|watch'
+usage='usage: dtx adapt|code|excite|receive|net|make|hurt|place|trial|soft|mend|dvb|repeat|acquire|watch|level'
 
 if [[ $("$dtx" </dev/null) != "$usage" ]]; then
     echo 'FAILED: the program could not be built'

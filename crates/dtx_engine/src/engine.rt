@@ -1,5 +1,5 @@
 // What a command makes of the units of its input.
-ghost use Rattle.std.specs.Prelude.{◌≡◌, ◌++◌, ◌*◌, ◌+◌, ◌%◌, ◌≤◌, ℕ, List, [], length};
+ghost use Rattle.std.specs.Prelude.{◌≡◌, ◌++◌, ◌*◌, ◌+◌, ◌%◌, ◌≤◌, ℕ, List, [], length, replicate};
 ghost use Rattle.dtx_outside.specs.Counts.{Nothing};
 ghost use Rattle.dtx_meaning.specs.Status.{IsOfBytes, blame_of};
 ghost use Rattle.dtx_engine.specs.Made.{AreFrontsOf, Made, only};
@@ -36,6 +36,9 @@ pub trait Engine {
     /// What the last call has made, over the bytes that it was lent.
     ghost gives: { Self → List ℕ → Made };
 
+    /// How many bytes 0 it has made before those that it lends.
+    ghost zeros: { Self → ℕ };
+
     /// In which units it is read.
     fn sizes(&self) -> Shape
         ensures same { result ≡ shape }
@@ -66,9 +69,14 @@ pub trait Engine {
         ensures outcome { (given : List ℕ) → stands self.old given → result ≡ (recipe self.old).answer given loose }
         ensures rest { (given : List ℕ) → stands self.old given → gives self.new [] ≡ (recipe self.old).rest given };
 
-    /// What the last call has made for the first output, where these are the bytes that it was lent.
+    /// How many bytes 0 the last call has made for the first output before those of `made`. There may be more than
+    /// memory holds.
+    fn zeros(&self) -> u64
+        ensures { result ≡ zeros self.now };
+
+    /// What the last call has made for the first output behind them, where these are the bytes that it was lent.
     fn made<'a>(&'a self, bytes: &'a [u8]) -> &'a [u8]
-        ensures { result.now ≡ (gives self.now bytes.now).first };
+        ensures { replicate (zeros self.now) 0 ++ result.now ≡ (gives self.now bytes.now).first };
 
     /// What the last call has made for the second output, where there is one: a log.
     fn log(&self) -> &[u8]

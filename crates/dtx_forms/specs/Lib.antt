@@ -3,6 +3,7 @@ pub mod Combine
 pub mod Damaged
 pub mod DamagedLaws
 pub mod Job
+pub mod Logged
 pub mod OfWords
 pub mod PlanFile
 pub mod Shapes

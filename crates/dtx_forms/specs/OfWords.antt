@@ -21,7 +21,7 @@ abbrev pub dvb_same : List (List ℕ) → Option Bool
 dvb_same (verb ∷ second ∷ input ∷ output ∷ []) = Some (bytes_eq input output)
 dvb_same words = None
 
--- of `.. A B OUT`
+-- of `.. A B OUT` and of `.. IN OUT LOG`
 abbrev pub three_same : List (List ℕ) → Option Bool
 three_same (verb ∷ first ∷ second ∷ output ∷ []) = Some (is_some (repeated (first ∷ second ∷ output ∷ [])))
 three_same words = None

@@ -1,24 +1,21 @@
 -- The job of a command of the words `.. IN ADDRESS DELAY OUT LOG`. It makes the symbols that a transmitter sends, and
 -- its log, from its input.
 use Rattle.std.specs.Prelude.{ℕ, List, [], ◌∷◌, Option, Some, None}
-use Rattle.std.specs.FinMap.{get}
-use Rattle.dtx_engine.specs.Recipe.{Recipe, meaning}
+use Rattle.dtx_engine.specs.Recipe.{Recipe}
 use Rattle.dtx_engine.specs.declared.engine.Shape.{Shape}
 use Rattle.dtx_meaning.specs.Meaning.{Meaning, refused}
 use Rattle.dtx_meaning.specs.declared.status.Status.TheVariants.{Usage}
 use Rattle.dtx_outside.specs.Shelf.{Files}
-use Rattle.dtx_words.specs.Names.{repeated}
 use Rattle.dtx_words.specs.Number.{number_in}
 use Rattle.dtx_words.specs.declared.rows.Command.{Command}
-use Rattle.dtx_forms.specs.Job.{Job, unless_same}
+use Rattle.dtx_forms.specs.Job.{Job}
+use Rattle.dtx_forms.specs.Logged.{logged}
 use Rattle.dtx_forms.specs.OfWords.{transmit_same}
 
 -- The meaning with these files. The shape says in which units the input is read, and `sends` gives the recipe for an
 -- address and a delay.
 abbrev pub transmit_at : Shape → (ℕ → ℕ → Recipe) → ℕ → ℕ → List ℕ → List ℕ → List ℕ → Files → Meaning
-transmit_at shape sends address delay input output log held =
-    unless_same (repeated (input ∷ output ∷ log ∷ []))
-    (meaning shape (sends address delay) 0 (output ∷ log ∷ []) (get held input))
+transmit_at shape sends address delay = logged shape (sends address delay)
 
 -- the meaning once the words of the address and of the delay were read: either may be no number
 abbrev pub transmit_with : Shape → (ℕ → ℕ → Recipe) → Option ℕ → Option ℕ → List ℕ → List ℕ → List ℕ → Files

@@ -40,6 +40,8 @@ impl<E: Engine> Engine for Damaged<'_, E> {
 
     ghost gives = { λ s bytes. E.gives s.engine bytes };
 
+    ghost zeros = { λ s. E.zeros s.engine };
+
     fn sizes(&self) -> Shape {
         self.engine.sizes()
     }
@@ -56,6 +58,10 @@ impl<E: Engine> Engine for Damaged<'_, E> {
 
     fn finish(&mut self, loose: usize) -> Outcome {
         self.engine.finish(loose)
+    }
+
+    fn zeros(&self) -> u64 {
+        self.engine.zeros()
     }
 
     fn made<'a>(&'a self, bytes: &'a [u8]) -> &'a [u8] {

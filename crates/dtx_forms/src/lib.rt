@@ -1,10 +1,12 @@
-//! Jobs and their forms: one output from one input, a transmitter's symbols and log from one input, and one output from
-//! two inputs. Also how a plan or a file of changes is read, and in which units the commands read their inputs.
+//! Jobs and their forms: one output from one input, an output and a log from one input, a transmitter's symbols and log,
+//! and one output from two inputs. Also how a plan or a file of changes is read, and in which units the commands read
+//! their inputs.
 #![tactic(auto)]
 
 mod changing;
 mod combining;
 mod damaged;
+mod logging;
 mod plan_file;
 mod shapes;
 mod transforming;
@@ -13,6 +15,7 @@ mod transmitting;
 pub use changing::Changing;
 pub use combining::{Combining, combine};
 pub use damaged::Damaged;
+pub use logging::transform_logged;
 pub use plan_file::{changes_in, plan_in};
 pub use shapes::{
     CODED_PACKETS, PIECE_BYTES, PIECE_SEGMENTS, coded_packets, packets, segments, single_bytes,

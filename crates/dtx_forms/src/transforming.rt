@@ -12,7 +12,7 @@ use dtx_meaning::{Outcome, Status, ended};
 use dtx_outside::{Shelf, Word};
 use std::alloc::{AllocError, Global};
 
-/// An engine that makes a command's one output from its one input.
+/// An engine that makes what a command writes from its one input: one output, or an output and a log.
 pub trait Transforming: Engine + Drop {
     ghost use Rattle.dtx_meaning.specs.declared.status.Status.{Status};
 

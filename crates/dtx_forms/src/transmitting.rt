@@ -1,10 +1,7 @@
 // `.. IN ADDRESS DELAY OUT LOG`: what a transmitter sends for an input, and its log.
-ghost use Rattle.std.specs.Prelude.{◌≡◌, ◌≢◌, false, is_some, ℕ, [], ◌∷◌, Some, IfOk, IfSome};
+ghost use Rattle.std.specs.Prelude.{◌≡◌, ◌≢◌, false, is_some, ℕ, [], ◌∷◌, Some, IfOk};
 ghost use Rattle.std.specs.FinMap as held_at;
 ghost use Rattle.dtx_engine.specs.Recipe.{IsAnswerOf, Recipe, meaning};
-ghost use Rattle.dtx_meaning.specs.Meaning.{IsCarriedOut};
-ghost use Rattle.dtx_meaning.specs.Status.{IsOfInput, blame_of};
-ghost use Rattle.dtx_outside.specs.Counts.{HasGone};
 ghost use Rattle.dtx_words.specs.Names.{repeated};
 ghost use Rattle.dtx_words.specs.Number.{number_in};
 ghost use Rattle.dtx_words.specs.declared.rows.Command.{Command};
@@ -13,7 +10,8 @@ ghost use Rattle.dtx_forms.specs.Job.{IsPerformed, IsJobPerformed};
 ghost use Rattle.dtx_forms.specs.OfWords.{numbers_same};
 ghost use Rattle.dtx_forms.specs.Transmit.{transmit_at, transmit_job, transmit_with};
 
-use dtx_engine::{Engine, Input, Two, carry_out};
+use crate::logging::{LoggedFiles, make_both};
+use dtx_engine::Engine;
 use dtx_meaning::{Outcome, Status, ended};
 use dtx_outside::{Shelf, Word};
 use dtx_words::{number_up_to, repeated_name};
@@ -40,14 +38,6 @@ pub trait Transmitting: Engine + Drop {
         → Knows command status };
 }
 
-/// The files of a transmitter: its input, the symbols that it sends and its log.
-#[derive(Clone, Copy)]
-struct TransmitterFiles<'a> {
-    input: &'a str,
-    output: &'a str,
-    log: &'a str,
-}
-
 /// Gives the units of IN to the engine of one transmitter. Its symbols go to OUT, and its log to LOG. ADDRESS is that
 /// of the transmitter, 0 to 65,535. DELAY is how many ticks of 100 ns the feed takes to it, 0 to 4,294,967,295. Both
 /// are decimal digits without sign, and without a leading zero unless the number is `0`.
@@ -58,7 +48,7 @@ pub fn transmit<E: Transmitting, S: Shelf>(alloc: Global, words: &[Word], shelf:
 {
     match words {
         [_, input, address, delay, output, log] => {
-            let files = TransmitterFiles {
+            let files = LoggedFiles {
                 input: input.as_str(),
                 output: output.as_str(),
                 log: log.as_str(),
@@ -74,7 +64,7 @@ fn transmit_read<E: Transmitting, S: Shelf>(
     alloc: Global,
     address: &str,
     delay: &str,
-    files: TransmitterFiles<'_>,
+    files: LoggedFiles<'_>,
     shelf: &mut S,
 ) -> Outcome
     ensures { IsPerformed E.command
@@ -101,7 +91,7 @@ fn transmit_files<E: Transmitting, S: Shelf>(
     alloc: Global,
     address: u16,
     delay: u32,
-    files: TransmitterFiles<'_>,
+    files: LoggedFiles<'_>,
     shelf: &mut S,
 ) -> Outcome
     ensures { IsPerformed E.command
@@ -122,7 +112,7 @@ fn transmit_apart<E: Transmitting, S: Shelf>(
     alloc: Global,
     address: u16,
     delay: u32,
-    files: TransmitterFiles<'_>,
+    files: LoggedFiles<'_>,
     shelf: &mut S,
 ) -> Outcome
     requires output { files.input.now ≢ files.output.now }
@@ -135,36 +125,7 @@ fn transmit_apart<E: Transmitting, S: Shelf>(
         (S.counts shelf.old) (S.counts shelf.new) }
 {
     match E::new(alloc, address, delay) {
-        Ok(mut engine) => transmit_both(alloc, &mut engine, files, shelf),
-        Err(cause) => ended(Status::from(cause)),
-    }
-}
-
-/// Gives the input to an engine that was given nothing, and writes both files.
-fn transmit_both<E: Transmitting, S: Shelf>(
-    alloc: Global,
-    engine: &mut E,
-    files: TransmitterFiles<'_>,
-    shelf: &mut S,
-) -> Outcome
-    requires fresh { E.stands engine.old [] }
-    requires output { files.input.now ≢ files.output.now }
-    requires log { files.input.now ≢ files.log.now }
-    requires both { files.output.now ≢ files.log.now }
-    ensures carried { IfSome (S.files shelf.old) (λ held. IsCarriedOut
-        (meaning E.shape (E.recipe engine.old) 0 (files.entry.output.now ∷ files.entry.log.now ∷ [])
-        (held_at.get held files.entry.input.now))
-        (Some held) result (S.files shelf.new)) }
-    ensures input { IsOfInput 0 result.status }
-    ensures answer { IsAnswerOf (E.recipe engine.old) result.status }
-    ensures gone { HasGone (S.counts shelf.old) (S.counts shelf.new) (blame_of result.status) }
-{
-    let input = Input {
-        name: files.input,
-        number: 0,
-    };
-    match Two::new(alloc, files.output, files.log) {
-        Ok(mut outlet) => carry_out(alloc, engine, input, &mut outlet, shelf),
+        Ok(mut engine) => make_both(alloc, &mut engine, files, shelf),
         Err(cause) => ended(Status::from(cause)),
     }
 }

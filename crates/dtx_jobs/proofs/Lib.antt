@@ -4,6 +4,7 @@ mod CodeLemmas
 mod ExciteLemmas
 pub mod GivenLemmas
 pub mod GivingLemmas
+mod LevelLemmas
 mod LivesLemmas
 pub mod MendLemmas
 pub mod ReceiveLemmas
@@ -18,6 +19,7 @@ pub mod SymbolFileLemmas
 pub mod SymbolsBackLemmas
 mod WatchLemmas
 pub mod BytesOf
+pub mod LevelledFiles
 pub mod LifeOn
 pub mod LivesOn
 pub mod StreamSymbols

@@ -12,7 +12,7 @@ use Rattle.dtx_jobs.specs.Soft.{count_from, field_sum, flushed, groups_in, next_
 use Rattle.dtx_jobs.specs.Soft.{soft_at, soft_rest, soft_so_far, soft_symbols}
 use Rattle.dtx_jobs.specs.SoftPlacesLaws.{IsFollowed, before_push, at_push, follows, place_small}
 use Rattle.dtx_jobs.specs.SoftLaws.{part_stays, IsField, groups_are, length-groups, field_soft, followed_field}
-use Rattle.dtx_jobs.specs.SoftLaws.{ahead_copied, ahead_kept, ahead_full, full_field, full_rows, within}
+use Rattle.dtx_jobs.specs.SoftLaws.{ahead_copied, ahead_kept, ahead_full, full_field, full_rows}
 
 -- ---- what stays
 

@@ -9,6 +9,10 @@ pub mod Excite
 pub mod ExciteLaws
 pub mod Giving
 pub mod GivingLaws
+pub mod Level
+pub mod LevelLaws
+pub mod LevelledFile
+pub mod Levelling
 pub mod Life
 pub mod Lives
 pub mod LivesLaws

@@ -1,6 +1,6 @@
 -- Laws of what is made of symbols that are softened: it grows with them. They stand in specs/, since the ghost members
 -- of an impl, a trait's laws, can cite lemmas from there only.
-use Rattle.std.proofs.Common.{◌≡◌, ℕ, ℤ, ◌+◌, ◌-◌, ◌%◌, List, [], ◌++◌, length, refl, sym, ap, ◌∙◌}
+use Rattle.std.proofs.Common.{◌≡◌, ℕ, ℤ, ◌%◌, List, [], ◌++◌, length, refl, sym, ap, ◌∙◌}
 use Rattle.dtx_engine.specs.Made.{AreFrontsOf, only}
 use Rattle.dtx_files.proofs.AppendedLemmas.{segment_bytes-append}
 use Rattle.dtx_files.specs.Symbols.{segment_bytes}

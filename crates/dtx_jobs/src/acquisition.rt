@@ -59,6 +59,8 @@ impl Engine for Acquisition {
 
     ghost gives = { λ s _. only s.symbols };
 
+    ghost zeros = { λ _. 0 };
+
     fn sizes(&self) -> Shape {
         single_bytes()
     }
@@ -82,6 +84,10 @@ impl Engine for Acquisition {
         self.acquirer.finish();
         self.symbols.push_all(self.acquirer.given());
         answer(&self.acquirer)
+    }
+
+    fn zeros(&self) -> u64 {
+        0
     }
 
     fn made<'a>(&'a self, _bytes: &'a [u8]) -> &'a [u8] {

@@ -104,6 +104,8 @@ impl Engine for Excitation {
 
     ghost gives = { λ s _. record { first = s.sending.symbols; second = s.sending.lines } };
 
+    ghost zeros = { λ _. 0 };
+
     fn sizes(&self) -> Shape {
         coded_packets()
     }
@@ -124,6 +126,10 @@ impl Engine for Excitation {
             numbers: self.sending.tally.numbers(loose),
             shown: 5,
         }
+    }
+
+    fn zeros(&self) -> u64 {
+        0
     }
 
     fn made<'a>(&'a self, _bytes: &'a [u8]) -> &'a [u8] {

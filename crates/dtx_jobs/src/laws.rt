@@ -1,2 +1,3 @@
-//! Laws of what `watch` makes of a feed.
+//! Laws of what `level` makes of a capture, and `watch` of a feed.
+pub mod levelling;
 pub mod watching;

@@ -125,6 +125,8 @@ impl<R: SegmentReceiver> Engine for Reception<R> {
 
     ghost gives = { λ s _. only s.packets };
 
+    ghost zeros = { λ _. 0 };
+
     fn sizes(&self) -> Shape {
         segments()
     }
@@ -150,6 +152,10 @@ impl<R: SegmentReceiver> Engine for Reception<R> {
                 shown: 6,
             }
         }
+    }
+
+    fn zeros(&self) -> u64 {
+        0
     }
 
     fn made<'a>(&'a self, _bytes: &'a [u8]) -> &'a [u8] {

@@ -246,6 +246,8 @@ impl Engine for Repetition {
 
     ghost gives = { λ s _. record { first = s.sending.symbols; second = s.sending.lines } };
 
+    ghost zeros = { λ _. 0 };
+
     fn sizes(&self) -> Shape {
         segments()
     }
@@ -271,6 +273,10 @@ impl Engine for Repetition {
                 shown: 7,
             }
         }
+    }
+
+    fn zeros(&self) -> u64 {
+        0
     }
 
     fn made<'a>(&'a self, _bytes: &'a [u8]) -> &'a [u8] {

@@ -174,6 +174,8 @@ impl Engine for Softening {
 
     ghost gives = { λ s _. only s.symbols };
 
+    ghost zeros = { λ _. 0 };
+
     fn sizes(&self) -> Shape {
         segments()
     }
@@ -196,6 +198,10 @@ impl Engine for Softening {
             numbers: [self.segments, self.fields, self.cost, loose as u64, 0, 0, 0],
             shown: 4,
         }
+    }
+
+    fn zeros(&self) -> u64 {
+        0
     }
 
     fn made<'a>(&'a self, _bytes: &'a [u8]) -> &'a [u8] {

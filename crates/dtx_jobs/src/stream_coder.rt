@@ -135,6 +135,8 @@ impl Engine for StreamCoder {
 
     ghost gives = { λ s _. only s.symbols };
 
+    ghost zeros = { λ _. 0 };
+
     fn sizes(&self) -> Shape {
         coded_packets()
     }
@@ -164,6 +166,10 @@ impl Engine for StreamCoder {
             ],
             shown: 3,
         }
+    }
+
+    fn zeros(&self) -> u64 {
+        0
     }
 
     fn made<'a>(&'a self, _bytes: &'a [u8]) -> &'a [u8] {

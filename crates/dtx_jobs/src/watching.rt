@@ -113,6 +113,8 @@ impl Engine for Watching {
 
     ghost gives = { λ s _. only s.lines };
 
+    ghost zeros = { λ _. 0 };
+
     fn sizes(&self) -> Shape {
         single_packets()
     }
@@ -135,6 +137,10 @@ impl Engine for Watching {
             numbers: self.tally.numbers(loose),
             shown: 7,
         }
+    }
+
+    fn zeros(&self) -> u64 {
+        0
     }
 
     fn made<'a>(&'a self, _bytes: &'a [u8]) -> &'a [u8] {

@@ -50,7 +50,7 @@ unfolding syncs_where
 open_none v e = e
 
 -- what the symbols give, with nothing behind them
-measures_now : (holding : Holding) (symbols done : List ℤ) (told : List Measure) → Leaves holding symbols done told
+pub measures_now : (holding : Holding) (symbols done : List ℤ) (told : List Measure) → Leaves holding symbols done told
     → (wanted : Bool → Bool) → measures_where wanted symbols
     ≡ where_wanted (wanted true) told ++ map (later_by (length done)) (measures_where wanted holding.held)
 measures_now holding symbols done told h wanted =
@@ -91,7 +91,8 @@ known_some symbols done rest e k xs x s =
       ap₂ drop k all ∙ ap (λ n. drop n (done ++ rest)) none ∙ drop-append-add done rest 0,
     )
 
-known_none : (symbols : List ℤ) → all_syncs symbols ≡ [] → (levelled_so_far symbols ≡ []) × (levelled_rest symbols ≡ [])
+pub known_none : (symbols : List ℤ) → all_syncs symbols ≡ []
+    → (levelled_so_far symbols ≡ []) × (levelled_rest symbols ≡ [])
 unfolding levelled_so_far levelled_rest levelled known
 known_none symbols e =
     let k : known_behind symbols (last_of (all_syncs symbols)) ≡ 0 =

@@ -1,20 +1,23 @@
 -- What is levelled of more symbols: for all that were given there is a value that stands for them, symbol by symbol.
 use Rattle.std.proofs.Common.{◌≡◌, ℕ, ℤ, ◌+◌, ◌-◌, ◌<◌, ◌≤◌, ◌⊎◌, inl, inr, Bool, true, false, cond, eqb}
 use Rattle.std.proofs.Common.{Option, Some, None, List, [], ◌∷◌, ◌++◌, length, map, take, drop, append_assoc, refl, sym}
-use Rattle.std.proofs.Common.{ap}
+use Rattle.std.proofs.Common.{ap, ap₂, filter, not}
 use Rattle.std.proofs.Common.{◌∙◌, subst, arith, length-append}
 use Rattle.std.proofs.lemmas.Bool.{cases_lt, cond-true, cond-false, eq-eqb, ne_eqb, true≢false, false≢true}
 use Rattle.std.proofs.lemmas.List.{append-nil, length-drop}
 use Rattle.dtx_level.specs.Shown.{least_shown, shows}
-use Rattle.dtx_level.specs.Syncs.{slip_behind, slips_behind}
+use Rattle.dtx_acquire.specs.Acquired.{is_met}
+use Rattle.dtx_level.specs.Syncs.{all_syncs, slip_behind, slips_behind, syncs_where}
 use Rattle.dtx_level.specs.Levelled.{by_sync, level, levelled_so_far, nothing}
-use Rattle.dtx_level.specs.Measures.{IsGrown, later_by, measure_at, measures_so_far}
+use Rattle.dtx_level.specs.Measures.{IsGrown, later_by, measure_at, measures, measures_rest, measures_so_far}
+use Rattle.dtx_level.specs.Measures.{measures_where}
 use Rattle.dtx_level.specs.Leveller.{Holding, IsClear, IsNext, IsTally, StandsFor, all_given, as_list}
 use Rattle.dtx_level.proofs.Shows.{shows_dropped, shows_front, whole_there}
 use Rattle.dtx_level.proofs.Least.{least_gives, least_misses}
 use Rattle.dtx_level.proofs.Tallies.{slip_is, tally_more}
 use Rattle.dtx_level.proofs.Leaving.{next_due, next_found, next_none}
-use Rattle.dtx_level.proofs.Ending.{stands_first}
+use Rattle.dtx_level.proofs.Ending.{measures_known, measures_now, stands_first}
+use Rattle.dtx_level.proofs.SyncsBehind.{unmet}
 use Rattle.dtx_level.proofs.Taking.{IsTaken, Moves, find_moves, none_before, pass_moves, settle_moves, stay_moves}
 use Rattle.dtx_level.proofs.Taking.{taken}
 
@@ -353,3 +356,32 @@ pub grows : (symbols more : List ℤ) → IsGrown symbols more
 grows symbols more =
     let a = reaches first [] symbols first_stands in
     (reaches a.value symbols more a.stands).grown
+
+-- ---- all
+
+-- none of few symbols is one behind which the next is looked for
+unmet_all : (v : List ℤ) (places : List ℕ) → length v < 261248 → filter (λ p. not (is_met v p)) places ≡ places
+unmet_all v [] few = refl
+unmet_all v (p ∷ places) few =
+    cond-true (not (is_met v p)) (p ∷ filter (λ q. not (is_met v q)) places) (filter (λ q. not (is_met v q)) places)
+    (ap not (unmet v p few))
+    ∙ ap (λ xs. p ∷ xs) (unmet_all v places few)
+
+wanted_all : (places : List ℕ) → filter (λ p. true) places ≡ places
+wanted_all [] = refl
+wanted_all (p ∷ places) = ap (λ xs. p ∷ xs) (wanted_all places)
+
+unmet_measured : (v : List ℤ) → length v < 261248 → measures_where not v ≡ measures v
+unfolding measures_where syncs_where
+unmet_measured v few =
+    ap (map (measure_at v)) (unmet_all v (all_syncs v) few ∙ sym (wanted_all (all_syncs v)))
+
+-- the syncs behind which the next is looked for, and the last one behind which it isn't, are all
+pub measured_in_parts : (symbols : List ℤ) → measures_so_far symbols ++ measures_rest symbols ≡ measures symbols
+measured_in_parts symbols =
+    let a = reaches first [] symbols first_stands in
+    let h = a.stands in
+    let later = map (later_by (length h.done)) in
+    ap₂ ◌++◌ (measures_known a.value symbols h)
+    (measures_now a.value symbols h.done h.told h.leaves not ∙ ap later (unmet_measured a.value.held h.few))
+    ∙ sym (measures_now a.value symbols h.done h.told h.leaves (λ met. true))

@@ -12,6 +12,7 @@ pub mod Ending
 pub mod Taking
 pub mod Fronts
 pub mod Growing
+pub mod LevelledLemmas
 pub mod Gains
 pub mod Counts
 pub mod Standing

@@ -1,9 +1,9 @@
 -- What a leveller gives of the symbols that it takes.
 use Rattle.std.proofs.Common.{◌≡◌, ℕ, ℤ, pos, ◌+◌, ◌*◌, ◌<◌, ◌≤◌, ◌||◌, Bool, true, false, cond}
-use Rattle.std.proofs.Common.{None, List, [], ◌∷◌, ◌++◌, length, map, take, drop, replicate, append_assoc, refl}
+use Rattle.std.proofs.Common.{None, Option, List, [], ◌∷◌, ◌++◌, length, map, take, drop, replicate, append_assoc, refl}
 use Rattle.std.proofs.Common.{sym, ap, ap₂, ◌∙◌, subst, arith, length-append}
 use Rattle.std.proofs.lemmas.Bool.{true≢false, false≢true}
-use Rattle.std.proofs.lemmas.List.{append-nil, length-drop, length-take-le, replicate-append-replicate}
+use Rattle.std.proofs.lemmas.List.{append-nil, length-drop, length-map, length-take-le, replicate-append-replicate}
 use Rattle.dtx_level.specs.declared.measure.Measure.{Measure}
 use Rattle.dtx_level.specs.Shown.{shows}
 use Rattle.dtx_level.specs.Levelled.{By, by_sync, level, levelled_so_far, levelled_symbol}
@@ -215,3 +215,37 @@ taken old clear fed sought new symbols more h c f seek off rest kept none settle
         let was = kept e in
         let one = h.rest (sym (f.on ∙ c.on) ∙ was.0) (sym (ap (λ (x : By). x.begun) (f.by ∙ c.by)) ∙ sym was.1 ∙ b) in
         omega (arith, one, ap length f.held, ap length c.held, length-append clear.held more)
+
+-- ---- zeros
+
+-- where they are owed no sync was before
+pub owed_begun : (begun : Bool) (silent owed : ℕ) → owed ≡ cond begun 0 silent → 0 < owed → begun ≡ false
+owed_begun true silent owed e some = absurd (omega (arith, e, some))
+owed_begun false silent owed e some = refl
+
+-- before them nothing was given
+pub none_given_before : (old clear fed : Holding) (symbols more : List ℤ) → StandsFor old symbols → IsCleared old clear
+    → IsFed clear fed more → fed.on ≡ false → fed.by.begun ≡ false → levelled_so_far symbols ≡ []
+none_given_before old clear fed symbols more h c f on begun =
+    (known_are old symbols h).so_far
+    ∙ ap₂ (λ a b. cond (a || b) h.done []) (sym (f.on ∙ c.on) ∙ on)
+    (sym (ap (λ (x : By). x.begun) (f.by ∙ c.by)) ∙ begun)
+
+-- ---- lines
+
+-- of a sync that is measured as many symbols are given as a segment has
+pub segment_given : (old new : Holding) (count : ℕ) → IsStretch old new count → 832 ≤ count → count ≤ length old.held
+    → 832 * length (as_list new.measured) ≤ length new.given
+segment_given old new count s some most =
+    omega (
+      arith,
+      ap (λ o. length (as_list o)) s.measured,
+      ap length s.given,
+      length-map (take count old.held) (level (by_sync old.held 0)),
+      length-take-le count old.held most,
+      some,
+    )
+
+-- of none none are
+pub none_measured : (o : Option Measure) (given : List ℤ) → o ≡ None → 832 * length (as_list o) ≤ length given
+none_measured o given e = omega (arith, ap (λ x. length (as_list x)) e)

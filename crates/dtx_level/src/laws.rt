@@ -7,6 +7,7 @@ ghost use Rattle.dtx_acquire.specs.Agreement.{sync_sign};
 ghost use Rattle.dtx_acquire.specs.Sent.{AreInFields};
 ghost use Rattle.dtx_level.specs.Shown.{shows};
 ghost use Rattle.dtx_level.specs.Measures.{IsGrown, IsLater, constant_in_hundredths, gain_in_hundredths};
+ghost use Rattle.dtx_level.specs.Measures.{measures, measures_rest, measures_so_far};
 ghost use Rattle.dtx_level.specs.Levelled.{levelled, levelled_rest, levelled_so_far, levelled_symbol};
 ghost use Rattle.dtx_level.specs.Standing.{AreLevelled, eightfold, standing, standing_measures};
 
@@ -26,6 +27,11 @@ pub fn a_capture_begins_anywhere()
 /// What is levelled and measured of first symbols, whatever follows, is a prefix of what is of more.
 pub fn more_is_levelled_of_more()
     ensures { (symbols more : List ℤ) → IsGrown symbols more }
+{}
+
+/// The syncs that are measured so far, and the one that the end adds, are all.
+pub fn all_syncs_are_measured()
+    ensures { (symbols : List ℤ) → measures_so_far symbols ++ measures_rest symbols ≡ measures symbols }
 {}
 
 /// A gain and a constant are undone exactly. Let a unit be `a` steps, below 0 in a capture that is turned, and the

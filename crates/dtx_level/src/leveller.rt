@@ -102,6 +102,9 @@ impl Leveller {
         ensures measured { (before : List ℤ) → StandsFor self.old before
             → measures_so_far (before ++ take result symbols.now)
             ≡ measures_so_far before ++ as_list self.new.measured }
+        ensures zeros { (before : List ℤ) → StandsFor self.old before → 0 < self.new.zeros
+            → levelled_so_far before ≡ [] }
+        ensures lines { SEGMENT * length (as_list self.new.measured) ≤ length self.new.given }
         ensures room { length self.new.given + length self.new.held ≤ length self.old.held + result }
         ensures symbols { self.new.symbols ≡ self.old.symbols + result }
     {
@@ -199,6 +202,7 @@ impl Leveller {
         ensures off { self.new.on ≡ false → length self.new.held < SEGMENT }
         ensures rest { self.new.on ≡ false → 831 ≤ length self.old.held → length self.new.held ≡ 831 }
         ensures kept { self.new.on ≡ false → (self.old.on ≡ false) × (self.new.by.begun ≡ self.old.by.begun) }
+        ensures zeros { 0 < self.new.zeros → (self.old.on ≡ false) × (self.old.by.begun ≡ false) }
         ensures whole { length self.new.held ≡ MOST_HELD → self.new.given ≡ [] }
         ensures measured { self.new.measured ≡ None }
         ensures room { length self.new.given + length self.new.held ≤ length self.old.held }
@@ -224,6 +228,7 @@ impl Leveller {
         ensures moved { (symbols done : List ℤ) (told : List Measure) → Leaves self.old symbols done told
             → IsMoved self.old self.new symbols done told }
         ensures on { self.new.on ≡ true }
+        ensures zeros { 0 < self.new.zeros → self.old.by.begun ≡ false }
         ensures whole { length self.new.held ≡ MOST_HELD → self.new.given ≡ [] }
         ensures measured { self.new.measured ≡ None }
         ensures room { length self.new.given + length self.new.held ≤ length self.old.held }
@@ -243,6 +248,7 @@ impl Leveller {
         ensures moved { (symbols done : List ℤ) (told : List Measure) → Leaves self.old symbols done told
             → IsMoved self.old self.new symbols done told }
         ensures off { self.new.on ≡ false }
+        ensures zeros { self.new.zeros ≡ 0 }
         ensures held { self.new.held ≡ drop count self.old.held }
         ensures by { self.new.by ≡ self.old.by }
         ensures measured { self.new.measured ≡ None }
@@ -270,6 +276,8 @@ impl Leveller {
         ensures rest { (self.old.on ≡ false → self.old.by.begun ≡ true → length self.old.held ≡ 831)
             → self.new.on ≡ false → self.new.by.begun ≡ true → length self.new.held ≡ 831 }
         ensures front { self.new.on ≡ true → shows self.new.held 0 ≡ true }
+        ensures zeros { self.new.zeros ≡ self.old.zeros }
+        ensures lines { SEGMENT * length (as_list self.new.measured) ≤ length self.new.given }
         ensures room { length self.new.given + length self.new.held ≤ length self.old.given + length self.old.held }
         ensures symbols { self.new.symbols ≡ self.old.symbols }
     {

@@ -6,6 +6,7 @@ pub mod laws;
 mod leveller;
 mod levels;
 mod measure;
+mod measure_text;
 mod pattern;
 mod search;
 mod step;
@@ -13,3 +14,4 @@ mod tally;
 
 pub use leveller::Leveller;
 pub use measure::Measure;
+pub use measure_text::{MEASURE_LINE, write_measure};

@@ -123,6 +123,8 @@ impl Engine for DvbCoding {
 
     ghost gives = { λ s _. only s.sent };
 
+    ghost zeros = { λ _. 0 };
+
     fn sizes(&self) -> Shape {
         dvb_packets()
     }
@@ -144,6 +146,10 @@ impl Engine for DvbCoding {
             numbers: [self.packets, loose as u64, 0, 0, 0, 0, 0],
             shown: 2,
         }
+    }
+
+    fn zeros(&self) -> u64 {
+        0
     }
 
     fn made<'a>(&'a self, _bytes: &'a [u8]) -> &'a [u8] {

@@ -170,6 +170,8 @@ impl Engine for DvbReading {
 
     ghost gives = { λ s _. only s.packets };
 
+    ghost zeros = { λ _. 0 };
+
     fn sizes(&self) -> Shape {
         blocks()
     }
@@ -199,6 +201,10 @@ impl Engine for DvbReading {
             ],
             shown: 5,
         }
+    }
+
+    fn zeros(&self) -> u64 {
+        0
     }
 
     fn made<'a>(&'a self, _bytes: &'a [u8]) -> &'a [u8] {

@@ -109,6 +109,8 @@ impl Engine for Feeder<'_> {
 
     ghost gives = { λ _ bytes. only bytes };
 
+    ghost zeros = { λ _. 0 };
+
     fn sizes(&self) -> Shape {
         packets()
     }
@@ -132,6 +134,10 @@ impl Engine for Feeder<'_> {
             numbers: [self.count, self.filled, loose as u64, 0, 0, 0, 0],
             shown: 3,
         }
+    }
+
+    fn zeros(&self) -> u64 {
+        0
     }
 
     fn made<'a>(&'a self, bytes: &'a [u8]) -> &'a [u8] {

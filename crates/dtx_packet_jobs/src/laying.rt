@@ -51,6 +51,8 @@ impl Engine for Laying<'_> {
 
     ghost gives = { λ _ bytes. only bytes };
 
+    ghost zeros = { λ _. 0 };
+
     fn sizes(&self) -> Shape {
         single_bytes()
     }
@@ -77,6 +79,10 @@ impl Engine for Laying<'_> {
                 shown: 2,
             },
         }
+    }
+
+    fn zeros(&self) -> u64 {
+        0
     }
 
     fn made<'a>(&'a self, bytes: &'a [u8]) -> &'a [u8] {

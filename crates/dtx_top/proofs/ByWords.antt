@@ -16,11 +16,12 @@ use Rattle.dtx_words.specs.Fitting.{command_of, fit_fields, fits}
 use Rattle.dtx_words.proofs.FittingLemmas.{command_fits}
 use Rattle.dtx_words.specs.Line.{finished}
 use Rattle.dtx_words.specs.Names.{names_at, repeated}
-use Rattle.dtx_words.specs.Rows.{acquire_row, adapt_row, code_row, excite_row, make_row, net_row, trial_row}
+use Rattle.dtx_words.specs.Rows.{acquire_row, adapt_row, code_row, excite_row, level_row, make_row, net_row}
+use Rattle.dtx_words.specs.Rows.{trial_row}
 use Rattle.dtx_words.specs.declared.rows.Command.{Command}
 use Rattle.dtx_words.specs.declared.rows.Command.TheVariants.{Adapt, Code, Excite, Receive, Net, Make, Hurt, Place}
 use Rattle.dtx_words.specs.declared.rows.Command.TheVariants.{Trial, Soft, Mend, DvbCode, DvbRead, Repeat}
-use Rattle.dtx_words.specs.declared.rows.Command.TheVariants.{Acquire, Watch}
+use Rattle.dtx_words.specs.declared.rows.Command.TheVariants.{Acquire, Watch, Level}
 use Rattle.dtx_words.specs.declared.rows.Field.{Field}
 use Rattle.dtx_words.specs.declared.rows.Field.TheVariants.{Second}
 use Rattle.dtx_words.specs.declared.rows.SecondWord.{SecondWord}
@@ -96,6 +97,14 @@ three_told : (verb : List ℕ) (words : List (List ℕ)) (status : Status) → f
 three_told verb words status fit = with_three (λ ws. IsOfWords (three_same (verb ∷ ws)) 2 status
     → IsOfInputs (is_some (repeated (names_at adapt_row.fields ws))) 2 status) words
     (fit_length adapt_row.fields words fit) (λ a b c is. is)
+
+-- `.. IN OUT LOG`
+logged_told : (verb : List ℕ) (words : List (List ℕ)) (status : Status) → fit_fields level_row.fields words ≡ true
+    → IsOfWords (three_same (verb ∷ words)) 1 status
+    → IsOfInputs (is_some (repeated (names_at level_row.fields words))) 1 status
+logged_told verb words status fit = with_three (λ ws. IsOfWords (three_same (verb ∷ ws)) 1 status
+    → IsOfInputs (is_some (repeated (names_at level_row.fields ws))) 1 status) words
+    (fit_length level_row.fields words fit) (λ a b c is. is)
 
 numbers_told : (first second : Option ℕ) (same : Bool) (inputs : ℕ) (status : Status) → is_some first ≡ true
     → is_some second ≡ true → IsOfWords (numbers_same first second same) inputs status
@@ -183,6 +192,7 @@ fitted_told DvbRead (verb ∷ words) status fit is =
 fitted_told Repeat (verb ∷ words) status fit is = (excite_told verb words status (and_parts _ _ fit).1 is.0, is.1)
 fitted_told Acquire (verb ∷ words) status fit is = (acquire_told verb words status (and_parts _ _ fit).1 is.0, is.1)
 fitted_told Watch (verb ∷ words) status fit is = (two_told verb words status (and_parts _ _ fit).1 is.0, is.1)
+fitted_told Level (verb ∷ words) status fit is = (logged_told verb words status (and_parts _ _ fit).1 is.0, is.1)
 
 -- ---- behind the line
 
@@ -258,6 +268,8 @@ by_words_finished Acquire words status line is =
     (inputs_finished _ _ status line is.0, knows_finished Acquire status line is.1)
 by_words_finished Watch words status line is =
     (inputs_finished _ _ status line is.0, knows_finished Watch status line is.1)
+by_words_finished Level words status line is =
+    (inputs_finished _ _ status line is.0, knows_finished Level status line is.1)
 
 -- the command that the words fit, behind its line
 pub words_told : (command : Option Command) (words : List (List ℕ)) (status : Status)

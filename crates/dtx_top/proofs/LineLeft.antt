@@ -20,7 +20,7 @@ use Rattle.dtx_words.specs.Printed.{printed, IsPut}
 use Rattle.dtx_words.specs.declared.rows.Command.{Command}
 use Rattle.dtx_words.specs.declared.rows.Command.TheVariants.{Adapt, Code, Excite, Receive, Net, Make, Hurt, Place}
 use Rattle.dtx_words.specs.declared.rows.Command.TheVariants.{Trial, Soft, Mend, DvbCode, DvbRead, Repeat}
-use Rattle.dtx_words.specs.declared.rows.Command.TheVariants.{Acquire, Watch}
+use Rattle.dtx_words.specs.declared.rows.Command.TheVariants.{Acquire, Watch, Level}
 use Rattle.dtx_top.specs.Lines.{name_kept, names_told, HasLine, HasPartLine, IsSomeCount, IsSomeLine, IsSomeName}
 use Rattle.dtx_top.specs.Lines.{IsToldLine}
 use Rattle.dtx_top.specs.NetAnswers.{ShowsNetwork}
@@ -103,6 +103,7 @@ name_told (Some DvbRead) words held status kept is = refl
 name_told (Some Repeat) words held status kept is = refl
 name_told (Some Acquire) words held status kept is = refl
 name_told (Some Watch) words held status kept is = refl
+name_told (Some Level) words held status kept is = refl
 name_told None words held status kept is = refl
 
 -- the line of an outcome is that of the meaning
@@ -160,6 +161,7 @@ some_name (Some DvbRead) words status kept is = refl
 some_name (Some Repeat) words status kept is = refl
 some_name (Some Acquire) words status kept is = refl
 some_name (Some Watch) words status kept is = refl
+some_name (Some Level) words status kept is = refl
 some_name None words status kept is = refl
 
 -- how many numbers stand in a line, whatever the files are
@@ -181,6 +183,7 @@ some_count (Some DvbRead) outcome none is = tt
 some_count (Some Repeat) outcome none is = tt
 some_count (Some Acquire) outcome none is = tt
 some_count (Some Watch) outcome none is = tt
+some_count (Some Level) outcome none is = tt
 some_count None outcome none is = λ done. let e : Usage ≡ Done = sym (none refl) ∙ done in cc
 
 -- the line that is left, whatever the files are

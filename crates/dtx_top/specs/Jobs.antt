@@ -3,7 +3,7 @@ use Rattle.std.specs.Prelude.{Option, Some, None}
 use Rattle.dtx_words.specs.declared.rows.Command.{Command}
 use Rattle.dtx_words.specs.declared.rows.Command.TheVariants.{Adapt, Code, Excite, Receive, Net, Make, Hurt, Place}
 use Rattle.dtx_words.specs.declared.rows.Command.TheVariants.{Trial, Soft, Mend, DvbCode, DvbRead, Repeat}
-use Rattle.dtx_words.specs.declared.rows.Command.TheVariants.{Acquire, Watch}
+use Rattle.dtx_words.specs.declared.rows.Command.TheVariants.{Acquire, Watch, Level}
 use Rattle.dtx_forms.specs.Job.{Job}
 use Rattle.dtx_packet_jobs.specs.Adapt.{adapt_job}
 use Rattle.dtx_packet_jobs.specs.DvbCode.{dvb_code_job}
@@ -14,6 +14,7 @@ use Rattle.dtx_packet_jobs.specs.Place.{place_job}
 use Rattle.dtx_jobs.specs.Acquire.{acquire_job}
 use Rattle.dtx_jobs.specs.Code.{code_job}
 use Rattle.dtx_jobs.specs.Excite.{excite_job}
+use Rattle.dtx_jobs.specs.Level.{level_job}
 use Rattle.dtx_jobs.specs.Mend.{mend_job}
 use Rattle.dtx_jobs.specs.Receive.{receive_job}
 use Rattle.dtx_jobs.specs.Repeat.{repeat_job}
@@ -39,3 +40,4 @@ job_of DvbRead = Some dvb_read_job
 job_of Repeat = Some repeat_job
 job_of Acquire = Some acquire_job
 job_of Watch = Some watch_job
+job_of Level = Some level_job

@@ -82,6 +82,9 @@ use std::alloc::Global;
 /// and lost. Of each operations packet it tells whether it reads, whether its states are those of the coders, and
 /// whether its clock runs.
 ///
+/// `level IN OUT LOG` brings the capture IN to eight steps a unit by its field syncs, and writes it to OUT, with a line
+/// in LOG for each sync (the profile's own). IN has one signed byte a symbol, of any gain and constant, turned or not.
+///
 /// Words that fit no command end in `Usage`.
 pub fn run<S: Shelf, O: Sink>(alloc: Global, words: &[Word], shelf: &mut S, out: &mut O) -> Status
     // Over files that are told, one of three things holds. The answer is that of the words' meaning and its outputs are

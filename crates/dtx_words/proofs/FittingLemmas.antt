@@ -8,7 +8,7 @@ use Rattle.std.proofs.lemmas.Slice.Eq.{bytes_eq-Decides}
 use Rattle.dtx_words.specs.declared.rows.Command.{Command}
 use Rattle.dtx_words.specs.declared.rows.Command.TheVariants.{Adapt, Code, Excite, Receive, Net, Make, Hurt, Place}
 use Rattle.dtx_words.specs.declared.rows.Command.TheVariants.{Trial, Soft, Mend, DvbCode, DvbRead, Repeat}
-use Rattle.dtx_words.specs.declared.rows.Command.TheVariants.{Acquire, Watch}
+use Rattle.dtx_words.specs.declared.rows.Command.TheVariants.{Acquire, Watch, Level}
 use Rattle.dtx_words.specs.declared.rows.Field.{Field}
 use Rattle.dtx_words.specs.declared.rows.Field.TheVariants.{Input, Output, Number, Within, Second}
 use Rattle.dtx_words.specs.Fitting.{fits, fit_fields, command_of}
@@ -59,6 +59,7 @@ fails_of_all p all DvbRead = all.1.1.1.1.1.1.1.1.1.1.1.1.0
 fails_of_all p all Repeat = all.1.1.1.1.1.1.1.1.1.1.1.1.1.0
 fails_of_all p all Acquire = all.1.1.1.1.1.1.1.1.1.1.1.1.1.1.0
 fails_of_all p all Watch = all.1.1.1.1.1.1.1.1.1.1.1.1.1.1.1.0
+fails_of_all p all Level = all.1.1.1.1.1.1.1.1.1.1.1.1.1.1.1.1.0
 
 -- the second word may be this: it is the command's own one, where it has one
 abbrev opens : List Field → List ℕ → Bool
@@ -109,6 +110,7 @@ named_by_words DvbRead word is =
 named_by_words Repeat word is = refl
 named_by_words Acquire word is = refl
 named_by_words Watch word is = refl
+named_by_words Level word is = refl
 
 -- the first of words that fit a command is its word
 verb_is : (c : Command) (verb : List ℕ) (words : List (List ℕ)) → fits c (verb ∷ words) ≡ true → verb ≡ (row_of c).verb

@@ -4,7 +4,7 @@ use Rattle.std.specs.List.{list_any}
 use Rattle.dtx_words.specs.declared.rows.Command.{Command}
 use Rattle.dtx_words.specs.declared.rows.Command.TheVariants.{Adapt, Code, Excite, Receive, Net, Make, Hurt, Place}
 use Rattle.dtx_words.specs.declared.rows.Command.TheVariants.{Trial, Soft, Mend, DvbCode, DvbRead, Repeat}
-use Rattle.dtx_words.specs.declared.rows.Command.TheVariants.{Acquire, Watch}
+use Rattle.dtx_words.specs.declared.rows.Command.TheVariants.{Acquire, Watch, Level}
 use Rattle.dtx_words.specs.declared.rows.CommandRow.{CommandRow}
 use Rattle.dtx_words.specs.declared.rows.Field.{Field}
 use Rattle.dtx_words.specs.declared.rows.Field.TheVariants.{Input, Output, Number, Within, Second}
@@ -180,6 +180,15 @@ watch_row = record {
   fewest = 7;
 }
 
+-- `level IN OUT LOG`
+abbrev pub level_row : Row
+level_row = record {
+  verb = codes "level";
+  fields = Input ∷ Output ∷ Output ∷ [];
+  labels = codes "symbols " ∷ codes " syncs " ∷ codes " slips " ∷ [];
+  fewest = 3;
+}
+
 -- the row of a command
 abbrev pub row_of : Command → Row
 row_of Adapt = adapt_row
@@ -198,6 +207,7 @@ row_of DvbRead = dvb_read_row
 row_of Repeat = repeat_row
 row_of Acquire = acquire_row
 row_of Watch = watch_row
+row_of Level = level_row
 
 -- the row of the definitions that a row of the code is
 abbrev pub row_behind : CommandRow → Row
@@ -217,9 +227,9 @@ are_inputs_first (field ∷ fields) = are_inputs_first fields
 -- all commands
 abbrev pub commands : List Command
 commands = Adapt ∷ Code ∷ Excite ∷ Receive ∷ Net ∷ Make ∷ Hurt ∷ Place ∷ Trial ∷ Soft ∷ Mend ∷ DvbCode ∷ DvbRead
-    ∷ Repeat ∷ Acquire ∷ Watch ∷ []
+    ∷ Repeat ∷ Acquire ∷ Watch ∷ Level ∷ []
 
 -- one command for each first word, in the order of the usage line
 abbrev pub first_words : List Command
 first_words = Adapt ∷ Code ∷ Excite ∷ Receive ∷ Net ∷ Make ∷ Hurt ∷ Place ∷ Trial ∷ Soft ∷ Mend ∷ DvbCode ∷ Repeat
-    ∷ Acquire ∷ Watch ∷ []
+    ∷ Acquire ∷ Watch ∷ Level ∷ []

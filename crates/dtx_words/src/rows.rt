@@ -49,6 +49,8 @@ pub enum Command {
     Acquire,
     /// `watch FEED OUT`
     Watch,
+    /// `level IN OUT LOG`
+    Level,
 }
 
 /// The second word of a command that has two.
@@ -100,7 +102,7 @@ pub(crate) struct CommandRow {
 }
 
 /// All commands.
-pub(crate) const COMMANDS: [Command; 16] = [
+pub(crate) const COMMANDS: [Command; 17] = [
     Command::Adapt,
     Command::Code,
     Command::Excite,
@@ -117,10 +119,11 @@ pub(crate) const COMMANDS: [Command; 16] = [
     Command::Repeat,
     Command::Acquire,
     Command::Watch,
+    Command::Level,
 ];
 
 /// One command for each first word, in the order of the usage line.
-pub(crate) const FIRST_WORDS: [Command; 15] = [
+pub(crate) const FIRST_WORDS: [Command; 16] = [
     Command::Adapt,
     Command::Code,
     Command::Excite,
@@ -136,6 +139,7 @@ pub(crate) const FIRST_WORDS: [Command; 15] = [
     Command::Repeat,
     Command::Acquire,
     Command::Watch,
+    Command::Level,
 ];
 
 /// `adapt PLAN IN OUT`
@@ -312,6 +316,14 @@ const WATCH: CommandRow = CommandRow {
     fewest: 7,
 };
 
+/// `level IN OUT LOG`
+const LEVEL: CommandRow = CommandRow {
+    verb: "level",
+    fields: &[Field::Input, Field::Output, Field::Output],
+    labels: &["symbols ", " syncs ", " slips "],
+    fewest: 3,
+};
+
 /// The row of a command.
 pub(crate) fn row(command: Command) -> &'static CommandRow
     ensures { row_behind result.now ≡ row_of command }
@@ -333,5 +345,6 @@ pub(crate) fn row(command: Command) -> &'static CommandRow
         Command::Repeat => &REPEAT,
         Command::Acquire => &ACQUIRE,
         Command::Watch => &WATCH,
+        Command::Level => &LEVEL,
     }
 }

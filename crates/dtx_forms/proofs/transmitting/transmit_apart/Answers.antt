@@ -4,9 +4,9 @@ use Rattle.dtx_forms.proofs.transmitting.transmit_apart.Goals as goal
 
 pub returns-in-Ok : goal.returns-in-Ok
 returns-in-Ok g c = record {
-  carried = rw (← c.in-Ok.ensures.sends) c.transmit_both.ensures.carried;
-  words = of_inputs false 0 1 _ refl (omega arith) c.transmit_both.ensures.input;
+  carried = rw (← c.in-Ok.ensures.sends) c.make_both.ensures.carried;
+  words = of_inputs false 0 1 _ refl (omega arith) c.make_both.ensures.input;
   answers = g.met.E.Transmitting.knows c.args.address c.args.delay _
-      (rw (← c.in-Ok.ensures.sends) c.transmit_both.ensures.answer);
-  gone = c.transmit_both.ensures.gone;
+      (rw (← c.in-Ok.ensures.sends) c.make_both.ensures.answer);
+  gone = c.make_both.ensures.gone;
 }

@@ -9,6 +9,7 @@ use Rattle.dtx_packet_jobs.specs.Place.{place_job}
 use Rattle.dtx_jobs.specs.Acquire.{acquire_job}
 use Rattle.dtx_jobs.specs.Code.{code_job}
 use Rattle.dtx_jobs.specs.Excite.{excite_job}
+use Rattle.dtx_jobs.specs.Level.{level_job}
 use Rattle.dtx_jobs.specs.Mend.{mend_job}
 use Rattle.dtx_jobs.specs.Receive.{receive_job}
 use Rattle.dtx_jobs.specs.Repeat.{repeat_job}
@@ -72,3 +73,7 @@ returns-in-Acquire g c = rw (c.in-Acquire.is, c.nameless-in-Acquire.ensures)
 pub returns-in-Watch : goal.returns-in-Watch
 returns-in-Watch g c = rw (c.in-Watch.is, c.nameless-in-Watch.ensures)
     (of_job command.Watch watch_job _ _ _ _ _ _ _ refl (λ same. cc) (λ _. tt) (λ _ _. tt) c.watch.ensures)
+
+pub returns-in-Level : goal.returns-in-Level
+returns-in-Level g c = rw (c.in-Level.is, c.nameless-in-Level.ensures)
+    (of_job command.Level level_job _ _ _ _ _ _ _ refl (λ same. cc) (λ _. tt) (λ _ _. tt) c.level.ensures)

@@ -2,7 +2,7 @@ use Rattle.std.proofs.Common.{◌≡◌, refl, true}
 use Rattle.dtx_words.specs.declared.rows.Command.{Command}
 use Rattle.dtx_words.specs.declared.rows.Command.TheVariants.{Adapt, Code, Excite, Receive, Net, Make, Hurt, Place}
 use Rattle.dtx_words.specs.declared.rows.Command.TheVariants.{Trial, Soft, Mend, DvbCode, DvbRead, Repeat}
-use Rattle.dtx_words.specs.declared.rows.Command.TheVariants.{Acquire, Watch}
+use Rattle.dtx_words.specs.declared.rows.Command.TheVariants.{Acquire, Watch, Level}
 use Rattle.dtx_words.specs.Rows.{are_inputs_first, row_of}
 use Rattle.dtx_words.proofs.laws.inputs_come_first.Goals as goal
 
@@ -23,6 +23,7 @@ of_each Mend = refl
 of_each Repeat = refl
 of_each Acquire = refl
 of_each Watch = refl
+of_each Level = refl
 
 pub returns : goal.returns
 returns c = of_each

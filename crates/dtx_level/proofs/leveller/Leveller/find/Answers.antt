@@ -3,6 +3,7 @@ use Rattle.dtx_level.specs.Shown.{shows}
 use Rattle.dtx_level.specs.Leveller.{Holding, IsClear, IsSought}
 use Rattle.dtx_level.proofs.Shows.{shows_dropped}
 use Rattle.dtx_level.proofs.Taking.{by_is, find_moves, kept_dropped, moves_of, none_before}
+use Rattle.dtx_level.proofs.Taking.{owed_begun}
 use Rattle.dtx_level.proofs.leveller.Leveller.find.Goals as goal
 
 pub give-requires-clause-most : goal.give-requires-clause-most
@@ -44,3 +45,8 @@ returns-clause-whole c = λ full.
     let sought = subst (λ (x : Holding). IsSought x.held c.args.place) (sym c.self.view_is) c.requires.sought in
     none_before c.self.inside.held c.give.new.held _ c.args.place _ c.give.ensures.held c.give.ensures.given few
     sought.within full
+
+pub returns-clause-zeros : goal.returns-clause-zeros
+returns-clause-zeros c = λ some.
+    sym (ap (λ (x : Holding). x.by.begun) c.self.view_is)
+    ∙ owed_begun c.self.inside.giver.levels.begun c.self.inside.silent _ c.owed-self-inside.ensures some

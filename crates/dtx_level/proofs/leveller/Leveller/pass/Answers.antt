@@ -42,3 +42,9 @@ returns-else-self-clause-moved c =
     (ap (λ (x : Holding). x.zeros) c.self.view_is ∙ c.requires.clear.zeros)
     (λ e. refl)
     (ap (λ (x : Holding). x.measured) c.self.view_is ∙ c.requires.clear.measured))
+
+pub returns-then-self-clause-zeros : goal.returns-then-self-clause-zeros
+returns-then-self-clause-zeros c = ap (λ (x : Holding). x.zeros) c.self.view_is ∙ c.requires.clear.zeros
+
+pub returns-else-self-clause-zeros : goal.returns-else-self-clause-zeros
+returns-else-self-clause-zeros c = ap (λ (x : Holding). x.zeros) c.self.view_is ∙ c.requires.clear.zeros

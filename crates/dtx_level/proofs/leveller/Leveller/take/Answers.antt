@@ -1,6 +1,6 @@
-use Rattle.std.proofs.Common.{ℤ, List, take}
+use Rattle.std.proofs.Common.{ℕ, ℤ, ◌<◌, List, take, subst}
 use Rattle.dtx_level.specs.Leveller.{StandsFor}
-use Rattle.dtx_level.proofs.Taking.{IsTaken, taken}
+use Rattle.dtx_level.proofs.Taking.{IsTaken, none_given_before, taken}
 use Rattle.dtx_level.proofs.leveller.Leveller.take.Goals as goal
 
 all : (c : goal.After-settle) (before : List ℤ) → StandsFor c.args.self.now before
@@ -18,3 +18,9 @@ returns-clause-given c = λ before h. (all c before h).given
 
 pub returns-clause-measured : goal.returns-clause-measured
 returns-clause-measured c = λ before h. (all c before h).measured
+
+pub returns-clause-zeros : goal.returns-clause-zeros
+returns-clause-zeros c = λ before h some.
+    let off = c.seek.ensures.zeros (subst (λ (n : ℕ). 0 < n) c.settle.ensures.zeros some) in
+    none_given_before _ _ _ before (take c.hold-count.result c.args.symbols.now) h c.clear.ensures
+    c.hold-count.ensures.fed off.0 off.1

@@ -1,0 +1,33 @@
+use Rattle.std.proofs.Common.{ℕ, List, [], ◌∷◌}
+use Rattle.std.specs.FinMap.{get}
+use Rattle.dtx_engine.specs.Recipe.{meaning}
+use Rattle.dtx_outside.specs.Shelf.{Files}
+use Rattle.dtx_forms.proofs.Apart.{all_differ}
+use Rattle.dtx_forms.proofs.PerformedLemmas.{apart_performed, refused_same}
+use Rattle.dtx_forms.proofs.logging.logged_files.Goals as goal
+
+pub returns-in-Some : goal.returns-in-Some
+returns-in-Some g c =
+    let f = c.args.files in
+    let names : List (List ℕ) = f.input.now ∷ f.output.now ∷ f.log.now ∷ [] in
+    let means = λ (held : Files).
+    meaning g.E.Engine.shape g.E.Transforming.makes 0 (f.output.now ∷ f.log.now ∷ [])
+    (get held f.input.now) in
+    refused_same g.E.Transforming.command names _ means 1 c.ended.result (g.S.Shelf.files c.args.shelf.now)
+    (g.S.Shelf.counts c.args.shelf.now) c.in-Some.ensures c.ended.ensures
+
+pub logged_apart-requires : goal.logged_apart-requires
+logged_apart-requires g c =
+    let f = c.args.files in
+    let apart = all_differ f.input.now f.output.now f.log.now c.in-None.ensures in
+    record { output = apart.0; log = apart.1; both = apart.2 }
+
+pub returns-in-None : goal.returns-in-None
+returns-in-None g c =
+    let f = c.args.files in
+    let names : List (List ℕ) = f.input.now ∷ f.output.now ∷ f.log.now ∷ [] in
+    let means = λ (held : Files).
+    meaning g.E.Engine.shape g.E.Transforming.makes 0 (f.output.now ∷ f.log.now ∷ [])
+    (get held f.input.now) in
+    apart_performed g.E.Transforming.command names means 1 c.logged_apart.result (g.S.Shelf.files c.args.shelf.now) _
+    (g.S.Shelf.counts c.args.shelf.now) _ c.in-None.ensures c.logged_apart.ensures

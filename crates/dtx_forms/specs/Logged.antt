@@ -1,0 +1,28 @@
+-- What a command is that makes OUT and LOG of IN, where the input has units of a shape, and a recipe says what is made
+-- of them.
+use Rattle.std.specs.Prelude.{ℕ, List, [], ◌∷◌}
+use Rattle.std.specs.FinMap.{get}
+use Rattle.dtx_engine.specs.Recipe.{Recipe, meaning}
+use Rattle.dtx_engine.specs.declared.engine.Shape.{Shape}
+use Rattle.dtx_meaning.specs.Meaning.{Meaning, refused}
+use Rattle.dtx_meaning.specs.declared.status.Status.TheVariants.{Usage}
+use Rattle.dtx_outside.specs.Shelf.{Files}
+use Rattle.dtx_words.specs.Names.{repeated}
+use Rattle.dtx_words.specs.declared.rows.Command.{Command}
+use Rattle.dtx_forms.specs.Job.{Job, unless_same}
+use Rattle.dtx_forms.specs.OfWords.{three_same}
+
+-- what is meant with these files
+abbrev pub logged : Shape → Recipe → List ℕ → List ℕ → List ℕ → Files → Meaning
+logged shape recipe input output log held =
+    unless_same (repeated (input ∷ output ∷ log ∷ [])) (meaning shape recipe 0 (output ∷ log ∷ []) (get held input))
+
+-- the words are `.. IN OUT LOG`
+abbrev pub logged_meaning : Shape → Recipe → List (List ℕ) → Files → Meaning
+logged_meaning shape recipe (verb ∷ input ∷ output ∷ log ∷ []) held = logged shape recipe input output log held
+logged_meaning shape recipe words held = refused Usage
+
+-- the command of these words
+abbrev pub logged_job : Command → Shape → Recipe → Job
+logged_job command shape recipe =
+    record { command = command; means = logged_meaning shape recipe; same = three_same; inputs = 1 }

@@ -1,0 +1,25 @@
+//! Laws of captures that are levelled (the profile's own).
+
+ghost use Rattle.std.specs.Prelude.{◌≡◌, ◌<◌, ◌≤◌, ℕ, ℤ, List, [], length};
+ghost use Rattle.dtx_engine.specs.Recipe.{meaning_of_file};
+ghost use Rattle.dtx_forms.specs.Shapes as shapes;
+ghost use Rattle.dtx_level.specs.Levelled.{levelled};
+ghost use Rattle.dtx_level.specs.Measures.{measures};
+ghost use Rattle.dtx_level.specs.Syncs.{all_syncs};
+ghost use Rattle.dtx_jobs.specs.Level.{levelling};
+ghost use Rattle.dtx_jobs.specs.LevelledFile.{levelled_of, levelled_until};
+
+use dtx_sizes::MOST_SYMBOLS;
+
+/// What `level` answers and writes of any file, each byte a symbol. Where it has no more bytes than may be, OUT is all
+/// that is levelled of them, and LOG has a line for each of their syncs. Where it has more, it is too long. OUT and LOG
+/// are then what is known of the first so many, whatever follows. Where there is no sync, nothing is levelled and
+/// nothing is told.
+pub fn all_is_levelled_of_a_file()
+    ensures whole { (names : List (List ℕ)) (file : List ℕ) → length file ≤ MOST_SYMBOLS
+        → meaning_of_file shapes.single_bytes levelling names file ≡ levelled_of names file }
+    ensures too_long { (names : List (List ℕ)) (file : List ℕ) → MOST_SYMBOLS < length file
+        → meaning_of_file shapes.single_bytes levelling names file ≡ levelled_until names file }
+    ensures no_sync { (symbols : List ℤ) → all_syncs symbols ≡ []
+        → (levelled symbols ≡ []) × (measures symbols ≡ []) }
+{}

@@ -1,0 +1,20 @@
+// `level IN OUT LOG`: a capture of unknown gain at eight steps a unit.
+ghost use Rattle.dtx_forms.specs.Job.{IsJobPerformed};
+ghost use Rattle.dtx_jobs.specs.Level.{level_job};
+
+use crate::levelling::Levelling;
+use dtx_forms::transform_logged;
+use dtx_meaning::Outcome;
+use dtx_outside::{Shelf, Word};
+use std::alloc::Global;
+
+/// Brings the capture IN to eight steps a unit by its field syncs, and writes it to OUT (the profile's own; ATSC A/53
+/// Part 2, the levels of 8-VSB and data field sync). LOG gets a line for each sync. IN has one signed byte a symbol, of
+/// any gain and with any constant, turned or not. The numbers are the bytes of IN, the syncs, and those that don't lie
+/// a multiple of 313 segments behind the one before. Of its refusals it knows those that `receive` knows.
+pub fn level<S: Shelf>(alloc: Global, words: &[Word], shelf: &mut S) -> Outcome
+    ensures { IsJobPerformed level_job words.now result (S.files shelf.old) (S.files shelf.new)
+        (S.counts shelf.old) (S.counts shelf.new) }
+{
+    transform_logged::<Levelling, S>(alloc, words, shelf)
+}
