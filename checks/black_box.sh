@@ -138,14 +138,15 @@ equal_names_that_are_missing missing missing 3 same_missing
 end
 }
 
-# refuses_sent_files COMMAND INPUT: what `excite` or `repeat` refuses of its files, and what it leaves where the symbols that it sends for
-# the input fill up their file. The input is that of `$room/from_order.sym`.
-refuses_sent_files() {
-    local command=$1 given=$2 shows input symbols log status line left
+# refuses_symbols_and_log INPUT WHOLE COMMAND WORD..: what the command, given the input and these words, refuses of its files, and what it leaves
+# where the symbols that it writes fill up their file. Those of the input are WHOLE.
+refuses_symbols_and_log() {
+    local given=$1 whole=$2 command=$3 shows input symbols log status line left
+    shift 3
     while read -r shows input symbols log status line left; do
         start "\`$command\` is refused: $shows"
         mkdir folder
-        run "$status" "${line//_/ }" "$command" "$input" 7 1000 "$symbols" "$log"
+        run "$status" "${line//_/ }" "$command" "$input" "$@" "$symbols" "$log"
         leaves folder ${left:+"$left"}
         [[ ! $left || (-f $left && ! -s $left) ]] || wrong "$left is not empty"
     done <<end
@@ -157,10 +158,10 @@ end
     start "\`$command\`: symbols that fill up their output in mid-stream"
     (
         ulimit -f 600
-        "$dtx" "$command" "$given" 7 1000 out.sym out.log >"$room/said" 2>"$room/complaint"
+        "$dtx" "$command" "$given" "$@" out.sym out.log >"$room/said" 2>"$room/complaint"
     )
     ended 12 $?
-    is_begun out.sym "$room/from_order.sym"
+    is_begun out.sym "$whole"
 }
 
 # agrees COMMAND INPUT OUT: what the command prints of the input and writes to OUT is what the program of its name prints and writes that
@@ -187,6 +188,14 @@ leaves() {
 
 leaves_nothing() {
     [[ ! $(find . -mindepth 1) ]] || wrong "left $(find . -mindepth 1 | head -n 1)"
+}
+
+# are_empty FILE..: the files are there and empty.
+are_empty() {
+    local file
+    for file in "$@"; do
+        [[ -f $file && ! -s $file ]] || wrong "$file is not empty"
+    done
 }
 
 # holds FILE PACKETS: the file is the feed of that many packets of the long stream, byte for byte.
@@ -258,6 +267,11 @@ sums() {
     cksum "$inputs"/*
 }
 
+# zeros COUNT: so many bytes of zero.
+zeros() {
+    head -c "$1" /dev/zero
+}
+
 # ---- Plans ----
 
 # The plan of two transmitters of the examples.
@@ -272,7 +286,7 @@ plan_of() {
 
 # ---- The cases, subject by subject ----
 
-((${#parts[@]})) || parts=(launcher adapt plans make code receive excite hurt place net pages small trial soft mend dvb repeat acquire watch
+((${#parts[@]})) || parts=(launcher adapt plans make code receive excite hurt place net pages small trial soft mend dvb repeat acquire level watch
     names overlaps words refused_streams refused_files forbidden_files host_faults pipes each_call progress many)
 for part in "${parts[@]}"; do
     usual=("$dtx")

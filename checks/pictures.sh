@@ -1,7 +1,7 @@
 #!/usr/bin/env bash
 # Draws the pictures of examples/pictures where matplotlib is installed: what a network of thirty-five transmitters left,
-# one of them late, how a noisy capture is received, and figures and taps of a channel. Each transmitter's row and each
-# mute has to be in the drawing.
+# one of them late, how a noisy capture is received, how the syncs of a capture stood, and figures and taps of a channel.
+# Each transmitter's row, each mute and each slip has to be in the drawing.
 # The last line is `pictures: N passed, M failed`.
 
 set -u
@@ -36,6 +36,10 @@ mutes() {
     ((all > 0 && all == $(grep -c 'id="mute-' network.svg)))
 }
 
+slips() {
+    [[ $(cat slipped) =~ slips\ ([0-9]+)$ ]] && ((BASH_REMATCH[1] > 0 && BASH_REMATCH[1] == $(grep -c 'id="slip-' level.svg)))
+}
+
 plan() {
     sed '0,/^delay = 1000$/s//delay = 60000/' "$top/examples/thirty-five.toml"
     printf '[net]\nstream = "stream.ts"\nreceive = { from = 2, damage = [{ at = 500000, count = 3000, put = 7 }] }\n'
@@ -57,6 +61,11 @@ for python in python3 /usr/bin/python3; do
         dtx code stream.ts clean.sym >said && "$python" "$top/examples/capture.py" 1 26 5 clean.sym noisy.sym
         holds 'the picture of a reception' "$python" "$top/examples/pictures/reception.py" noisy.sym reception
         holds 'its size' drawn reception
+        "$python" "$top/examples/capture.py" 5 20 6 clean.sym cut.sym --turned --constant 6 --cut 300000 300300 --cut 900000 900007
+        dtx level cut.sym level.sym level.log >slipped
+        holds 'the picture of a capture' "$python" "$top/examples/pictures/level.py" level.log level
+        holds 'its size' drawn level
+        holds 'each slip' slips
         printf '%s\t%s\t%s\t%s\n' dB one two three 14 0 9 5 15 8 9 9 >figures
         seq 48 -1 -48 | awk '{ print $1, ($1 == 0) - ($1 == 14) / 2 }' >taps
         holds 'the picture of a channel' "$python" "$top/examples/pictures/radio.py" figures taps radio

@@ -1,7 +1,8 @@
 #!/usr/bin/env bash
 # Where GNU Radio is installed, tries examples/radio: a network's symbols go through a channel with an echo and noise,
-# and come back. At least so many packets have to be right, and none wrong without a flag. Exact lines aren't asked for,
-# since the figures hang on GNU Radio. The last line is `radio: N passed, M failed`.
+# and come back, and so do those of one transmitter without an equalizer. At least so many packets have to be right, and
+# none wrong without a flag. Exact lines aren't asked for, since the figures hang on GNU Radio. The last line is
+# `radio: N passed, M failed`.
 
 set -u
 export LC_ALL=C
@@ -23,6 +24,12 @@ comes_back() {
     echo "$2"
     [[ $2 =~ right\ ([0-9]+)\ flagged\ [0-9]+\ wrong\ 0$ ]] && ((BASH_REMATCH[1] >= $1))
 }
+
+# levelled: one transmitter's symbols, which `level` brings to their scale and nothing equalizes.
+levelled() (
+    mkdir alone && cd alone && . "$top/examples/radio/chain.sh" && network 2000 0 '' &&
+        through --send tx-7.sym tx-7.log 0 0 0 --noise 18 && back 0 front.sym
+)
 
 # refused WORD..: the script says in a line what is wrong, and no traceback.
 refused() {
@@ -47,6 +54,8 @@ tells_wrong() {
 
 line=$("$top/examples/radio/try.sh" 2000 kept 2>&1)
 holds 'two transmitters, one with an echo of the other' comes_back 1600 "$line"
+line=$(levelled 2>&1)
+holds 'one transmitter, levelled' comes_back 1600 "$line"
 "$top/dtx" code kept/net.feed feed.sym >said
 holds 'the field syncs' field_sync feed.sym
 holds 'a packet that is wrong' tells_wrong

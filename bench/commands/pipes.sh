@@ -1,9 +1,9 @@
 #!/usr/bin/env bash
 # Measures what an input that is a pipe costs: `dtx code` of a made stream of 200 MB, and `dtx receive` of its symbols, which `cat` writes to
-# the pipe, beside the same over files; what they write is thrown away. Beside them `cat` reads what another `cat` writes to a pipe: no
-# command is faster. All of it in one run, each the best of five, on as many processors as there are. Then 2 GB go through a pipe to `code`.
-# It needs 1.1 GB on the disk of temporary files. The status is 0 where the speed over a pipe is at least 0.8 of that over a file, and `code`
-# holds no more memory for 2 GB than for a thousandth of that, but for 256 kB.
+# the pipe, beside the same over files; what they write is thrown away. Beside them `cat` reads what another `cat` writes to a pipe, which
+# shows what the pipe alone takes. All of it in one run, each the best of five, on as many processors as there are. Then 2 GB go through a
+# pipe to `code`. It needs 1.1 GB on the disk of temporary files. The status is 0 where the speed over a pipe is at least 0.8 of that over a
+# file, and `code` holds no more memory for 2 GB than for a thousandth of that, but for 256 kB.
 
 set -eu
 rounds=5

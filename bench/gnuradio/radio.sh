@@ -49,7 +49,7 @@ theirs_right() {
 cells() {
     printf '%d\t%d\t%d' "$(right front.sym)" "$(right)" "$(theirs_right)"
 }
-ways=('acquire, receive' 'equalize.py, acquire, receive' 'GNU Radio')
+ways=('level, acquire, receive' 'equalize.py, acquire, receive' 'GNU Radio')
 
 noise() {
     local decibels theirs=theirs.ts

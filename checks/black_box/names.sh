@@ -15,6 +15,11 @@ while read -r name; do
     leaves_nothing
     run 4 "absent $name" hurt ../inputs/given.ts "$name" out
     leaves_nothing
+    run 4 "absent $name" level "$name" out.sym out.log
+    leaves_nothing
+    run 10 'no sync' level ../inputs/given.ts out.sym "$name"
+    leaves out.sym "$name"
+    rm -f out.sym "./$name"
     run 0 'packets 0' make 1 0 "$name"
     leaves "$name"
 done <<'end'

@@ -42,14 +42,6 @@ log_is() {
     printf '%s' "${1:+$(printf '%s\n' "$@")}${1:+$'\n'}" | cmp -s - "$file" || wrong "$file is '$(tr '\n' ';' <"$file")'"
 }
 
-# are_empty FILE..: the files are there and empty.
-are_empty() {
-    local file
-    for file in "$@"; do
-        [[ -f $file && ! -s $file ]] || wrong "$file is not empty"
-    done
-}
-
 # older FILE..: puts older files there; keeps_older FILE..: they are there still.
 older() {
     local file

@@ -51,10 +51,14 @@ while read -r name; do
     overlaps in.sym soft in.sym "$name"
     overlaps in.sym mend in.sym "$name"
     overlaps in.sym acquire 1 in.sym "$name"
-    overlaps in.sym repeat in.sym 7 0 "$name" out.log
-    rm -f out.log out.sym
-    overlaps in.sym repeat in.sym 7 0 out.sym "$name"
-    rm -f out.log out.sym
+    for words in 'repeat in.sym 7 0' 'level in.sym'; do
+        # shellcheck disable=SC2086
+        overlaps in.sym $words "$name" out.log
+        rm -f out.log out.sym
+        # shellcheck disable=SC2086
+        overlaps in.sym $words out.sym "$name"
+        rm -f out.log out.sym
+    done
 done < <(named in.sym)
 while read -r name; do
     overlaps changes.toml hurt in.ts changes.toml "$name"
@@ -69,6 +73,7 @@ start 'two outputs that are one file'
 ln -s out other
 overlaps ../inputs/given.ts excite ../inputs/given.ts 7 0 out other
 overlaps ../inputs/given.ts excite ../inputs/given.ts 7 0 out ./out
+overlaps ../inputs/given.ts level ../inputs/given.ts out other
 
 start 'a link to an input in the place of a file that a network writes'
 for name in net.feed tx-7.sym tx-7.log tx-9.sym tx-9.log net.ts; do

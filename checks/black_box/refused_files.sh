@@ -113,7 +113,7 @@ fills_up 300 "$room/made.ts" make 1 31200 out.ts
 start 'an output that fills up in mid-stream'
 fills_up 300 "$room/long.feed" adapt "$plan" ../inputs/long.ts out.ts
 
-refuses_sent_files excite "$room/feed.ts"
+refuses_symbols_and_log "$room/feed.ts" "$room/from_order.sym" excite 7 1000
 
 if [[ -c /dev/full ]]; then
     start 'a full device as the output'

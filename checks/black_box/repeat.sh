@@ -47,4 +47,4 @@ start 'random symbol files, cut, spliced and damaged'
 
 # ---- Refusals ----
 
-refuses_sent_files repeat "$room/feed.sym"
+refuses_symbols_and_log "$room/feed.sym" "$room/from_order.sym" repeat 7 1000

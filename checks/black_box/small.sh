@@ -1,10 +1,5 @@
 # Files of a few packets, symbols or bytes, each with all that is printed and written. What that must be is written here.
 
-# zeros COUNT: so many bytes of zero.
-zeros() {
-    head -c "$1" /dev/zero
-}
-
 # headed LOOSE HEAD..: packets that begin with these bytes, in hexadecimal, and are zeros behind them; and so many zeros behind the last.
 headed() {
     local loose=$1 head
@@ -113,6 +108,40 @@ done <<'end'
 134|8 presets 2 mutes 0|preset 0 0 56 5044065 285;preset 4 0 60 5047157 737
 8|0 presets 0 mutes 2|mute 0 unlisted;mute 0 unlisted
 end
+
+# A field sync begins with 1001 and the 511 bits of PN511 (ATSC A/53 Part 2), which stand here four to a digit, with a bit 0 behind the last.
+pn511=017fcaae66889e1d7d353b3a458f2147cf514c31043f0540cfeea966377b4a4e
+pn511+=717434fb15bcdaed96dc92e397a3584df12bc6508c1efd6ac991dc2d06c0901c
+sync=1001
+for ((index = 0; index < 128; index++)); do
+    digit=$((16#${pn511:index:1}))
+    sync+=$((digit / 8))$((digit / 4 % 2))$((digit / 2 % 2))$((digit % 2))
+done
+
+# signs PLUS MINUS: the 515 symbols with which a field sync begins, a byte for each, in octal digits.
+signs() {
+    printf '%b' "$(sed "s/1/+/g; s/0/-/g; s/+/\\\\0$1/g; s/-/\\\\0$2/g" <<<"${sync:0:515}")"
+}
+
+# Behind them stand 317 zeros, which the rest of the sync would be, and two symbols. At three steps a unit a plus is 15 more than the constant, 4,
+# and a minus as much less; a zero then is -4, and -11 at eight steps, of 10.67. Of the 63 symbols that tell the field 32 are plus ones in a
+# first field.
+while read -r shows plus minus last line zero ends; do
+    start "a field sync of 515 symbols, levelled: ${shows//_/ }"
+    { signs "$plus" "$minus" && zeros 317 && printf '%b' "$last"; } >in
+    run 0 'symbols 834 syncs 1 slips 0' level in out.sym out.log
+    { signs 50 330 && zeros 317 | tr '\0' "$zero" && printf '%b' "$ends"; } | cmp -s - out.sym || wrong "out.sym is $(od -An -tx1 out.sym)"
+    has_log "sync 0 ${line//_/ }"
+    leaves in out.sym out.log
+done <<'end'
+with_a_constant 23 365 \0023\0000 2_300_400_0 \365 \0050\0365
+with_one_below_0 13 355 \0013\0000 1_300_-400_0 \013 \0050\0013
+inverted 365 23 \0365\0000 1_-300_400_0 \013 \0050\0013
+end
+start 'symbols of which no field sync stands whole, levelled'
+{ signs 50 330 && zeros 316; } >in
+run 10 'no sync' level in out.sym out.log
+are_empty out.sym out.log
 
 start 'a transmitter that was given a part of a group is restarted'
 printf '%b[net]\nstream = "s.ts"\n' "$small" >plan.toml

@@ -67,6 +67,12 @@ is_usage '`repeat` with a word too many' repeat ../inputs/given.ts 7 0 out.sym o
 is_usage 'an address of a repeater beyond 16 bits' repeat ../inputs/given.ts 65536 0 out.sym out.log
 is_usage 'a scale below 1' acquire 0 ../inputs/given.ts out.sym
 is_usage 'a scale beyond 18' acquire 19 ../inputs/given.ts out.sym
+is_usage '`level` alone' level
+is_usage '`level` with a word too few' level ../inputs/given.ts out.sym
+is_usage '`level` with a word too many' level ../inputs/given.ts out.sym out.log more
+is_usage '`level` with an empty input' level '' out.sym out.log
+is_usage '`level` with empty symbols' level ../inputs/given.ts '' out.log
+is_usage '`level` with an empty log' level ../inputs/given.ts out.sym ''
 is_usage '`net` alone' net
 is_usage '`net` with a word too many' net plan more
 is_usage '`net` with an empty plan' net ''
@@ -131,6 +137,17 @@ end
 start 'equal names of `repeat`'
 run 3 'same ../inputs/given.ts' repeat ../inputs/given.ts 7 0 out.sym ../inputs/given.ts
 leaves_nothing
+
+while read -r shows input output log named; do
+    start "equal names of \`level\`: $shows"
+    run 3 "same $named" level "$input" "$output" "$log"
+    leaves_nothing
+done <<'end'
+input_and_symbols ../inputs/given.ts ../inputs/given.ts out.log ../inputs/given.ts
+input_and_log ../inputs/given.ts out.sym ../inputs/given.ts ../inputs/given.ts
+symbols_and_log ../inputs/given.ts out.sym out.sym out.sym
+two_that_are_missing missing missing out.log missing
+end
 
 start 'equal names of `receive`'
 run 3 'same ../inputs/given.ts' receive ../inputs/given.ts ../inputs/given.ts

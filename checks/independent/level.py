@@ -6,10 +6,11 @@ level.py level IN OUT LOG  writes the capture IN, levelled, to OUT, and the line
 """
 
 import random
+import statistics
 import sys
 import tempfile
 
-from acquire import SYNC_SIGNS, WINDOW, Signs, noisy
+from acquire import SYNC_SIGNS, WINDOW, Signs
 from network import differences
 from receiver import SEGMENT
 from reference import FIELD, PACKET, kinds_missing, try_each
@@ -100,9 +101,16 @@ def levelled(symbols):
 # ---- Random captures ----
 
 
-def changed(symbols, gain, constant):
-    """Symbols at that gain and with that constant, cut off at what a byte holds."""
-    return bytes(max(-128, min(127, gain * signed(symbol) + constant)) & 255 for symbol in symbols)
+# What noise of deviation 1 is at each of 256 like parts of its distribution.
+NOISE = [statistics.NormalDist().inv_cdf((2 * part + 1) / 512) for part in range(256)]
+
+
+def received(chance, symbols, gain, constant, width):
+    """Symbols at that gain and with that constant and noise of so many steps, cut off at what a byte holds."""
+    made = {
+        byte: bytes(max(-128, min(127, gain * signed(byte) + constant + round(width * part))) & 255 for part in NOISE) for byte in set(symbols)
+    }
+    return bytes(made[byte][part] for byte, part in zip(symbols, chance.randbytes(len(symbols))))
 
 
 def with_losses(chance, symbols):
@@ -131,9 +139,9 @@ def capture(chance, coded):
     cut = chance.choice((len(sent), chance.randrange(len(sent) + 1)))
     parts = []
     for part in (sent[:cut], sent[cut:]):
-        gain = chance.choice((1, 2, 3, 5, 8, 18)) * chance.choice((1, 1, -1))
-        part = noisy(chance, changed(part, gain, 0), 1, abs(gain) * chance.choice((0, 0, 0.3, 0.6, 1.5, 4)))
-        parts.append(changed(part, 1, chance.choice((0, 0, chance.randint(-5 * abs(gain), 5 * abs(gain))))))
+        gain = chance.choice((1, 2, 8, 18, chance.randint(1, 18))) * chance.choice((1, 1, -1))
+        constant = chance.choice((0, 0, chance.randint(-5 * abs(gain), 5 * abs(gain))))
+        parts.append(received(chance, part, gain, constant, abs(gain) * chance.choice((0, 0, 0.3, 0.6, 1.5, 4))))
     front = chance.choice((b"", b"", bytes(100), chance.randbytes(999)))
     return with_losses(chance, front + b"".join(parts))
 

@@ -1,4 +1,4 @@
-"""What both pictures share: the figure and its axes, and how far a symbol file is received."""
+"""What the pictures share: the figure and its axes, and how far a symbol file is received."""
 
 import collections
 import os

@@ -43,10 +43,14 @@ through() {
 }
 
 # back [FROM [SYMBOLS]]: which packets come back, from that one of the feed on, of the symbols behind the front end
-# when they are equalized, or of these as they are.
+# when they are equalized, or of these when they are levelled alone.
 back() {
-    [[ ${2-} ]] || quiet "$gnuradio_python" "$radio/equalize.py" front.sym air.sym taps.txt
-    quiet "$dtx" acquire 8 "${2-air.sym}" found.sym
+    if [[ ${2-} ]]; then
+        quiet "$dtx" level "$2" air.sym air.log
+    else
+        quiet "$gnuradio_python" "$radio/equalize.py" front.sym air.sym taps.txt
+    fi
+    quiet "$dtx" acquire 8 air.sym found.sym
     quiet "$dtx" receive found.sym back.ts
     "$gnuradio_python" "$radio/compare.py" net.feed back.ts "${1-0}"
 }

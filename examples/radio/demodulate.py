@@ -2,8 +2,8 @@
 """Receives 8-VSB by GNU Radio's blocks, up to soft symbols: demodulate.py RATE IN OUT [PACKETS]
 
 IN is complex baseband: complex64, the channel's middle at 0 Hz, RATE samples a second. OUT has the segments behind the
-timing, field syncs too, one signed byte a symbol, eight steps a unit, for equalize.py. PACKETS is what GNU Radio's own
-equalizer and decoder make of the same segments.
+timing, field syncs too, one signed byte a symbol, some eight steps a unit, for equalize.py or `dtx level`, which find
+the gain themselves. PACKETS is what GNU Radio's own equalizer and decoder make of the same segments.
 """
 
 from vsb import CHANNEL, PILOT, SEGMENT, STEPS, SYMBOL_RATE, Wrong, done, numpy, words_of
@@ -47,25 +47,41 @@ def measured(name, rate):
     return pilot * fast, rate * fast
 
 
+MEAN = 8192  # samples behind the receive filter, 0.5 ms
+
+
+def filtered(name, rate, pilot):
+    """The file behind the receive filter, and turned so that the pilot is near 0."""
+    turned = blocks.rotator_cc(-2 * numpy.pi * pilot / SAMPLED)
+    return blocks.file_source(gr.sizeof_gr_complex, name, False), dtv.atsc_rx_filter(rate, OVERSAMPLED), turned
+
+
+def strength(name, rate, pilot):
+    """The pilot's behind the filter, at the file's start."""
+    graph, sink = gr.top_block(), blocks.vector_sink_c()
+    source, *others = filtered(name, rate, pilot)
+    graph.connect(source, blocks.head(gr.sizeof_gr_complex, START), *others, sink)
+    graph.run()
+    samples = numpy.array(sink.data())[MEAN:]
+    return numpy.mean(numpy.abs(samples[: len(samples) // MEAN * MEAN].reshape(-1, MEAN).mean(axis=1)))
+
+
 class Carrier(gr.hier_block2):
-    """Turns the channel so that its pilot is at 0 and real, by the pilot's mean over 0.5 ms, and gives the real part in
-    units of a level."""
+    """Turns the channel so that its pilot is real, by the phase of the pilot's mean, and gives the real part with a gain.
+    The mean's size isn't used: it is off by some percent from one half millisecond to the next."""
 
-    MEAN = 8192
-
-    def __init__(self, pilot):
+    def __init__(self, gain):
         ends = gr.io_signature(1, 1, gr.sizeof_gr_complex), gr.io_signature(1, 1, gr.sizeof_float)
         gr.hier_block2.__init__(self, "carrier", *ends)
-        turned = blocks.rotator_cc(-2 * numpy.pi * pilot / SAMPLED)
-        mean = blocks.moving_average_cc(self.MEAN, 1 / self.MEAN, 2**16)
+        mean = blocks.moving_average_cc(MEAN, 1 / MEAN, 2**16)
         product, quotient = blocks.multiply_conjugate_cc(), blocks.divide_ff()
-        self.connect(self, turned, blocks.delay(gr.sizeof_gr_complex, self.MEAN // 2), (product, 0))
-        self.connect(turned, mean, (product, 1))
+        self.connect(self, blocks.delay(gr.sizeof_gr_complex, MEAN // 2), (product, 0))
+        self.connect(self, mean, (product, 1))
         self.connect(product, blocks.complex_to_real(), (quotient, 0))
-        self.connect(mean, blocks.complex_to_mag_squared(), (quotient, 1))
+        self.connect(mean, blocks.complex_to_mag(), (quotient, 1))
         # The first mean is of nothing, and the gain control would long remember what is divided by it.
-        start = blocks.skiphead(gr.sizeof_float, 2 * self.MEAN)
-        self.connect(quotient, start, blocks.multiply_const_ff(PILOT), self)
+        start = blocks.skiphead(gr.sizeof_float, 2 * MEAN)
+        self.connect(quotient, start, blocks.multiply_const_ff(gain), self)
 
 
 def decoder(graph, timing, name):
@@ -91,9 +107,8 @@ def main():
     pilot, rate = measured(given.source, given.rate)
     graph, timing = gr.top_block(), dtv.atsc_sync(SAMPLED)
     graph.connect(
-        blocks.file_source(gr.sizeof_gr_complex, given.source, False),
-        dtv.atsc_rx_filter(rate, OVERSAMPLED),
-        Carrier(pilot),
+        *filtered(given.source, rate, pilot),
+        Carrier(PILOT / strength(given.source, rate, pilot)),
         filter.dc_blocker_ff(4096),
         analog.agc_ff(1e-5, LEVEL),
         timing,
