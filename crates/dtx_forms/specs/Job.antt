@@ -21,7 +21,7 @@ pub record Job : Type 0 where
 -- What is meant was done. Where the files are told, all of it was done, or there was an I/O error or lack of memory.
 -- Then each of the first of its outputs, none perhaps, holds a prefix. Every other file is as before. Whether the files
 -- are told or not, the answer is one that the words allow and that the command knows, and no count fell. The count that
--- the answer is blamed on rose. Where the answer is blamed on nothing, and isn't out of memory, all counts stand.
+-- the answer is blamed on rose. Where the answer is blamed on nothing, as lack of memory is, all counts stand.
 pub record IsPerformed (command : Command) (means : Files → Meaning) (same : Option Bool) (inputs : ℕ)
     (outcome : Outcome) (told now : Option Files) (before after : Counts) : Type 0 where
   pub carried : IfSome told (λ held. IsCarriedOut (means held) (Some held) outcome now)

@@ -1,9 +1,9 @@
 // The standard output, through the runtime that `main` is given. It tells no content.
 ghost use Rattle.std.specs.Prelude.{◌≡◌, ◌<◌, ◌≤◌, None, Ok, IfOk, length};
-ghost use Rattle.dtx_outside.specs.Sink.{faults_printed, IsCounted, IsPrinted};
+ghost use Rattle.dtx_outside.specs.Sink.{counts_printed, no_sink_counts, IsCounted, IsPrinted};
 
 use crate::progress::Progress;
-use dtx_outside::{Sink, SinkNo};
+use dtx_outside::{Sink, SinkNo, SinkRefusals};
 use std::io::ErrorKind;
 use std::marker::Model;
 
@@ -12,26 +12,26 @@ use std::marker::Model;
 pub struct HostSink<'a, R: Print + Eprint> {
     rt: &'a R,
     progress: &'a Progress,
-    faults: u64,
+    refusals: SinkRefusals,
 }
 
 impl<'a, R: Print + Eprint> Model for HostSink<'a, R> {
-    ghost use Rattle.std.specs.Prelude.{ℕ};
+    ghost use Rattle.dtx_outside.specs.Sink.{SinkCounts};
 
-    ghost Value = { ℕ };
+    ghost Value = { SinkCounts };
 
-    ghost view = { λ s. s.faults };
+    ghost view = { λ s. s.refusals };
 }
 
 impl<'a, R: Print + Eprint> HostSink<'a, R> {
-    /// The standard output that the runtime reaches, with no I/O error counted yet.
+    /// The standard output that the runtime reaches, with nothing counted yet.
     pub fn new(rt: &'a R, progress: &'a Progress) -> HostSink<'a, R>
-        ensures { result ≡ 0 }
+        ensures { result ≡ no_sink_counts }
     {
         HostSink {
             rt,
             progress,
-            faults: 0,
+            refusals: SinkRefusals::new(),
         }
     }
 }
@@ -39,11 +39,11 @@ impl<'a, R: Print + Eprint> HostSink<'a, R> {
 impl<R: Print + Eprint> Sink for HostSink<'_, R> {
     ghost written = { λ _. None };
 
-    ghost faults = { λ s. s };
+    ghost counts = { λ s. s };
 
     fn write(&mut self, bytes: &[u8]) -> Result<usize, SinkNo>
 
-        // The trait's clauses on what was taken, and on the count.
+        // The trait's clauses on what was taken, and on the counts.
         ensures bound { IfOk result (λ n. n ≤ length bytes.now) }
         ensures some { IfOk result (λ n. 0 < length bytes.now → 0 < n) }
         ensures empty { length bytes.now ≡ 0 → result ≡ Ok 0 }
@@ -51,7 +51,7 @@ impl<R: Print + Eprint> Sink for HostSink<'_, R> {
         ensures gone { IsCounted self.old result self.new }
 
         // It counts what it answers, and nothing else.
-        ensures counted { self.new ≡ faults_printed result self.old }
+        ensures counted { self.new ≡ counts_printed result self.old }
     {
         if bytes.is_empty() {
             return Ok(0);
@@ -59,11 +59,8 @@ impl<R: Print + Eprint> Sink for HostSink<'_, R> {
         self.progress.wipe(self.rt);
         match self.rt.write_some(bytes) {
             Ok(n) if n > 0 => Ok(n),
-            Err(e) if e.kind() == ErrorKind::OutOfMemory => Err(SinkNo::Memory),
-            Ok(_) | Err(_) => {
-                self.faults = self.faults.saturating_add(1);
-                Err(SinkNo::Failed)
-            }
+            Err(e) if e.kind() == ErrorKind::OutOfMemory => self.refusals.note(Err(SinkNo::Memory)),
+            Ok(_) | Err(_) => self.refusals.note(Err(SinkNo::Failed)),
         }
     }
 }
