@@ -12,12 +12,7 @@ pub gone_of_read : (number : ℕ) (cause : ReadNo) (before now : Counts)
     → HasGone before now (blame_of (of_read number cause))
 gone_of_read number read.Absent before now gone = gone
 gone_of_read number read.Failed before now gone = gone
-gone_of_read number read.Memory before now gone = record {
-  read_faults = gone.read_faults;
-  write_faults = gone.write_faults;
-  misses = gone.misses;
-  risen = tt;
-}
+gone_of_read number read.Memory before now gone = gone
 
 -- what was done behind it met no refusal
 pub gone_before : (blame : Blame) (before between now : Counts) → HasGone before between blame

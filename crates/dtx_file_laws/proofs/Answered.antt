@@ -16,6 +16,7 @@ use Rattle.dtx_meaning.proofs.MeaningLemmas.{status_of_done}
 use Rattle.dtx_meaning.specs.declared.status.Status.{Status}
 use Rattle.dtx_meaning.specs.declared.status.Status.TheVariants.{Done, Packet, Same, TooLong, Usage, WriteFault}
 use Rattle.dtx_outside.specs.Shelf.{Files}
+use Rattle.dtx_outside.specs.Sink.{SinkCounts}
 use Rattle.dtx_outside.proofs.FilesLemmas.{get-insert_same}
 use Rattle.dtx_words.specs.Fitting.{command_of}
 use Rattle.dtx_words.specs.declared.rows.Command.{Command}
@@ -132,13 +133,13 @@ ended_so words fit c same shape recipe which names input file held now status un
 -- and its line
 pub lined : (words : List (List ℕ)) (fit : Bool) (c : Command) (same : Bool) (shape : Shape) (recipe : Recipe)
     (which : ℕ) (names : List (List ℕ)) (input file : List ℕ) (held : Files) (old new : Option (List ℕ))
-    (status : Status) (unprinted : Type 0) → IsRead words fit c same shape recipe which names input held
+    (status : Status) (first last : SinkCounts) → IsRead words fit c same shape recipe which names input held
     → get held input ≡ Some file
-    → status ≡ Done → HasLine (IsToldLine (command_of words) words held) status unprinted old new
+    → status ≡ Done → HasLine (IsToldLine (command_of words) words held) status first last old new
     → new ≡ printed (done_line (Some c) (meaning_of_file shape recipe names file).outcome) old
-lined words fit c same shape recipe which names input file held old new status unprinted read there done line =
-    let P : Status → Type 0 = λ s. HasLine (IsToldLine (command_of words) words held) s unprinted old new in
-    of_done (subst P done line)
+lined words fit c same shape recipe which names input file held old new status first last read there done line =
+    let P : Status → Type 0 = λ s. HasLine (IsToldLine (command_of words) words held) s first last old new in
+    of_done (subst P done line).1
   where
     of_done : HasWholeLine (IsToldLine (command_of words) words held) Done old new
         → new ≡ printed (done_line (Some c) (meaning_of_file shape recipe names file).outcome) old

@@ -21,7 +21,7 @@ pub record Job : Type 0 where
 -- The command did what it means. Where the files are told, it did all of it, or there was an I/O error or out of
 -- memory. In that case its first outputs, perhaps none, hold prefixes of their bytes. Every other file is as before.
 -- Whether the files are told or not, the words allow the answer, the command knows it, and no count fell. The count
--- that the answer is blamed on rose. Where it is blamed on nothing, and isn't out of memory, all counts are as before.
+-- that the answer is blamed on rose. Where it is blamed on nothing, as out of memory is, all counts are as before.
 pub record IsPerformed (command : Command) (means : Files → Meaning) (same : Option Bool) (inputs : ℕ)
     (outcome : Outcome) (told now : Option Files) (before after : Counts) : Type 0 where
   pub carried : IfSome told (λ held. IsCarriedOut (means held) (Some held) outcome now)

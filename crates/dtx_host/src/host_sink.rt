@@ -1,10 +1,10 @@
 // Standard output as a sink, through the runtime that `main` is given. What it has printed is not told: proofs don't
 // see it.
 ghost use Rattle.std.specs.Prelude.{◌≡◌, ◌<◌, ◌≤◌, None, Ok, IfOk, length};
-ghost use Rattle.dtx_outside.specs.Sink.{faults_printed, IsCounted, IsPrinted};
+ghost use Rattle.dtx_outside.specs.Sink.{counts_printed, no_sink_counts, IsCounted, IsPrinted};
 
 use crate::progress::Progress;
-use dtx_outside::{Sink, SinkNo};
+use dtx_outside::{Sink, SinkNo, SinkRefusals};
 use std::io::ErrorKind;
 use std::marker::Model;
 
@@ -13,26 +13,26 @@ use std::marker::Model;
 pub struct HostSink<'a, R: Print + Eprint> {
     rt: &'a R,
     progress: &'a Progress,
-    faults: u64,
+    refusals: SinkRefusals,
 }
 
 impl<'a, R: Print + Eprint> Model for HostSink<'a, R> {
-    ghost use Rattle.std.specs.Prelude.{ℕ};
+    ghost use Rattle.dtx_outside.specs.Sink.{SinkCounts};
 
-    ghost Value = { ℕ };
+    ghost Value = { SinkCounts };
 
-    ghost view = { λ s. s.faults };
+    ghost view = { λ s. s.refusals };
 }
 
 impl<'a, R: Print + Eprint> HostSink<'a, R> {
-    /// Standard output, with no I/O error counted yet.
+    /// Standard output, with nothing counted yet.
     pub fn new(rt: &'a R, progress: &'a Progress) -> HostSink<'a, R>
-        ensures { result ≡ 0 }
+        ensures { result ≡ no_sink_counts }
     {
         HostSink {
             rt,
             progress,
-            faults: 0,
+            refusals: SinkRefusals::new(),
         }
     }
 }
@@ -40,11 +40,11 @@ impl<'a, R: Print + Eprint> HostSink<'a, R> {
 impl<R: Print + Eprint> Sink for HostSink<'_, R> {
     ghost written = { λ _. None };
 
-    ghost faults = { λ s. s };
+    ghost counts = { λ s. s };
 
     fn write(&mut self, bytes: &[u8]) -> Result<usize, SinkNo>
 
-        // The trait's clauses on what was taken, and on the count.
+        // The trait's clauses on what was taken, and on the counts.
         ensures bound { IfOk result (λ n. n ≤ length bytes.now) }
         ensures some { IfOk result (λ n. 0 < length bytes.now → 0 < n) }
         ensures empty { length bytes.now ≡ 0 → result ≡ Ok 0 }
@@ -52,7 +52,7 @@ impl<R: Print + Eprint> Sink for HostSink<'_, R> {
         ensures gone { IsCounted self.old result self.new }
 
         // It counts what it answers, and nothing else.
-        ensures counted { self.new ≡ faults_printed result self.old }
+        ensures counted { self.new ≡ counts_printed result self.old }
     {
         if bytes.is_empty() {
             return Ok(0);
@@ -60,11 +60,8 @@ impl<R: Print + Eprint> Sink for HostSink<'_, R> {
         self.progress.wipe(self.rt);
         match self.rt.write_some(bytes) {
             Ok(n) if n > 0 => Ok(n),
-            Err(e) if e.kind() == ErrorKind::OutOfMemory => Err(SinkNo::Memory),
-            Ok(_) | Err(_) => {
-                self.faults = self.faults.saturating_add(1);
-                Err(SinkNo::Failed)
-            }
+            Err(e) if e.kind() == ErrorKind::OutOfMemory => self.refusals.note(Err(SinkNo::Memory)),
+            Ok(_) | Err(_) => self.refusals.note(Err(SinkNo::Failed)),
         }
     }
 }

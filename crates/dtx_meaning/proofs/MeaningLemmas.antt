@@ -12,7 +12,8 @@ use Rattle.dtx_outside.specs.declared.shelf.WriteNo.{WriteNo}
 use Rattle.dtx_outside.specs.declared.shelf.WriteNo.TheVariants as write
 use Rattle.dtx_meaning.specs.Meaning.{Outputs, Meaning, refused, and_then, with_outputs, ArePartWritten, IsNoOutput}
 use Rattle.dtx_meaning.specs.Meaning.{IsWhole, IsBroken, IsCarriedOut, IsDone}
-use Rattle.dtx_meaning.specs.Status.{IsFault, IsOfBytes, IsOfInput, IsOfInputs, blame_of, ended, of_write}
+use Rattle.dtx_meaning.specs.Status.{IsFault, IsOfBytes, IsOfInput, IsOfInputs, IsPresent, blame_of, ended, of_write}
+use Rattle.dtx_meaning.specs.Status.{refused_behind}
 use Rattle.dtx_meaning.specs.declared.status.Outcome.{Outcome}
 use Rattle.dtx_meaning.specs.declared.status.Status.{Status}
 use Rattle.dtx_meaning.specs.declared.status.Status.TheVariants.{Done, Usage, Same, Absent, Plan, Packet, TooLong}
@@ -262,28 +263,84 @@ write_is_fault write.Memory = tt
 
 -- ---- counts
 
--- a fault that is met behind another answer is blamed as if it were met first
-pub gone_over : (status : Status) (before between now : Counts) (blame : Blame) → IsFault status
-    → HasGone before between blame → HasGone between now (blame_of status) → HasGone before now (blame_of status)
-gone_over ReadFault before between now blame fault first last = record {
-  read_faults = omega (arith, first.read_faults, last.read_faults);
-  write_faults = omega (arith, first.write_faults, last.write_faults);
-  misses = omega (arith, first.misses, last.misses);
-  risen = λ below. omega (arith, first.read_faults, last.risen below);
-}
-gone_over WriteFault before between now blame fault first last = record {
-  read_faults = omega (arith, first.read_faults, last.read_faults);
-  write_faults = omega (arith, first.write_faults, last.write_faults);
-  misses = omega (arith, first.misses, last.misses);
-  risen = λ below. omega (arith, first.write_faults, last.risen below);
-}
-gone_over Memory before between now blame fault first last = record {
-  read_faults = omega (arith, first.read_faults, last.read_faults);
-  write_faults = omega (arith, first.write_faults, last.write_faults);
-  misses = omega (arith, first.misses, last.misses);
-  risen = tt;
-}
-gone_over _ before between now blame fault first last = absurd fault
+-- lack of memory that is met behind an answer is blamed as that answer is
+blame_behind : (first : Status) → blame_of first ≡ blame_of (refused_behind first Memory)
+blame_behind Done = refl
+blame_behind Usage = refl
+blame_behind Same = refl
+blame_behind (Absent input) = refl
+blame_behind (Plan refusal) = refl
+blame_behind (Packet k) = refl
+blame_behind TooLong = refl
+blame_behind (OutOfFeed event) = refl
+blame_behind (OutOfAir entry) = refl
+blame_behind NoSync = refl
+blame_behind ReadFault = refl
+blame_behind WriteFault = refl
+blame_behind Memory = refl
+
+-- an error of reading or writing that is met behind an answer is answered
+read_behind : (first : Status) → ReadFault ≡ refused_behind first ReadFault
+read_behind (Absent input) = refl
+read_behind ReadFault = refl
+read_behind WriteFault = refl
+read_behind _ = refl
+
+write_behind : (first : Status) → WriteFault ≡ refused_behind first WriteFault
+write_behind (Absent input) = refl
+write_behind ReadFault = refl
+write_behind WriteFault = refl
+write_behind _ = refl
+
+-- the counts of a fault that is met behind another answer, which has its own
+pub gone_over : (first status : Status) (before between now : Counts) → IsFault status
+    → HasGone before between (blame_of first) → HasGone between now (blame_of status)
+    → HasGone before now (blame_of (refused_behind first status))
+gone_over first ReadFault before between now fault was last =
+    let P : Status → Type 0 = λ s. HasGone before now (blame_of s) in
+    subst P (read_behind first) (record {
+      read_faults = omega (arith, was.read_faults, last.read_faults);
+      write_faults = omega (arith, was.write_faults, last.write_faults);
+      misses = omega (arith, was.misses, last.misses);
+      risen = λ below. omega (arith, was.read_faults, last.risen below);
+    })
+gone_over first WriteFault before between now fault was last =
+    let P : Status → Type 0 = λ s. HasGone before now (blame_of s) in
+    subst P (write_behind first) (record {
+      read_faults = omega (arith, was.read_faults, last.read_faults);
+      write_faults = omega (arith, was.write_faults, last.write_faults);
+      misses = omega (arith, was.misses, last.misses);
+      risen = λ below. omega (arith, was.write_faults, last.risen below);
+    })
+gone_over first Memory before between now fault was last =
+    subst (λ (b : Blame). HasGone before now b) (blame_behind first)
+    (subst (λ (k : Counts). HasGone before k (blame_of first)) (sym last.risen) was)
+gone_over first _ before between now fault was last = absurd fault
+
+-- the answer of a call that is refused behind another one is one of the two
+pub one_behind : (P : Status → Type 0) (first refusal : Status) → P first → P refusal
+    → P (refused_behind first refusal)
+one_behind P (Absent input) Memory was is = was
+one_behind P ReadFault Memory was is = was
+one_behind P WriteFault Memory was is = was
+one_behind P first refusal was is = is
+
+-- a fault that is met behind an answer that tells of no absent input is a fault
+pub fault_behind : (first refusal : Status) → IsPresent first → IsFault refusal
+    → IsFault (refused_behind first refusal)
+fault_behind (Absent input) refusal present fault = absurd present
+fault_behind ReadFault Memory present fault = tt
+fault_behind WriteFault Memory present fault = tt
+fault_behind first refusal present fault = fault
+
+-- an answer to the bytes, and a fault, tell of no absent input
+pub bytes_present : (status : Status) → IsOfBytes status → IsPresent status
+bytes_present (Absent input) is = absurd is
+bytes_present _ is = tt
+
+pub fault_present : (status : Status) → IsFault status → IsPresent status
+fault_present (Absent input) is = absurd is
+fault_present _ is = tt
 
 -- ---- answers and words
 

@@ -1,6 +1,6 @@
 -- The codes of the statuses, what each is blamed on, and what a refusal below becomes.
 use Rattle.std.specs.Prelude.{◌≡◌, ℕ, ◌<◌, Bool, true, false, [], ◌∷◌, Result, Ok, Err}
-use Rattle.dtx_outside.specs.Counts.{Blame, Nothing, Wanting, Missing, Reading, Writing}
+use Rattle.dtx_outside.specs.Counts.{Blame, Nothing, Missing, Reading, Writing}
 use Rattle.dtx_outside.specs.declared.shelf.ReadNo.{ReadNo}
 use Rattle.dtx_outside.specs.declared.shelf.ReadNo.TheVariants as read
 use Rattle.dtx_outside.specs.declared.shelf.WriteNo.{WriteNo}
@@ -49,19 +49,30 @@ of_plan plan.Memory = Memory
 
 -- ---- what an answer is blamed on
 
--- Which count a status is blamed on. Where it is blamed on nothing all counts stand. Memory may run out behind another
--- refusal, which has raised its count.
+-- Which count a status is blamed on. Where it is blamed on nothing all counts stand: so also where memory is lacking.
 abbrev pub blame_of : Status → Blame
 blame_of (Absent input) = Missing
 blame_of ReadFault = Reading
 blame_of WriteFault = Writing
-blame_of Memory = Wanting
 blame_of _ = Nothing
 
 -- which count an answer is blamed on
 abbrev pub blame_of_answer : {T : Type 0} → Result T Status → Blame
 blame_of_answer (Ok x) = Nothing
 blame_of_answer (Err status) = blame_of status
+
+-- The answer where a call is refused behind another answer. Lack of memory gives way to what a count tells: an I/O
+-- error or an absent file.
+abbrev pub refused_behind : Status → Status → Status
+refused_behind (Absent input) Memory = Absent input
+refused_behind ReadFault Memory = ReadFault
+refused_behind WriteFault Memory = WriteFault
+refused_behind first refusal = refusal
+
+-- an answer where no input is absent
+abbrev pub IsPresent : Status → Type 0
+IsPresent (Absent input) = ⊥
+IsPresent _ = Unit {0}
 
 -- an I/O error, or out of memory: no meaning gives them
 abbrev pub IsFault : Status → Type 0

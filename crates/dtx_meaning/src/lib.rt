@@ -5,4 +5,4 @@
 pub mod laws;
 mod status;
 
-pub use status::{Outcome, Status, ended, of_plan, of_read};
+pub use status::{Outcome, Status, ended, of_plan, of_read, refused_behind};

@@ -1,6 +1,6 @@
 // How a call of the program ends.
 ghost use Rattle.std.specs.Prelude.{◌≡◌};
-ghost use Rattle.dtx_meaning.specs.Status.{IsOfInput, code_of, ended, of_plan, of_read};
+ghost use Rattle.dtx_meaning.specs.Status.{IsOfInput, code_of, ended, of_plan, of_read, refused_behind};
 
 use dtx_outside::{ReadNo, WriteNo};
 use dtx_plan::{PlanFault, PlanNo};
@@ -79,6 +79,17 @@ pub fn ended(status: Status) -> Outcome
         status,
         numbers: [0; 7],
         shown: 0,
+    }
+}
+
+/// The status where a call is refused behind an answer. Lack of memory gives way to what a count tells: an I/O error or
+/// an absent file.
+pub fn refused_behind(first: Status, refusal: Status) -> Status
+    ensures { result ≡ refused_behind first refusal }
+{
+    match (first, refusal) {
+        (Status::Absent(_) | Status::ReadFault | Status::WriteFault, Status::Memory) => first,
+        _ => refusal,
     }
 }
 

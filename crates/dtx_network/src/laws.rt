@@ -320,8 +320,10 @@ pub fn stretch_is_readable()
 {}
 
 /// A byte of the interleaver is sent in packet 51 behind a mark and comes from before the mark. For each last packet
-/// before the mark there is another one with which byte 50 of that packet 51 is another byte.
-pub fn fewer_packets_are_too_few()
+/// before the mark there is another one with which byte 50 of that packet 51 is another byte. So 51 packets are too few
+/// for the interleaver to hold the feed's bytes alone. (This speaks of the interleaver's bytes, and not of what an
+/// exciter answers then.)
+pub fn packet_51_sends_a_byte_from_before()
     ensures { (front packets : List (List ℕ)) (p : List ℕ) → (length front + 1) % 624 ≡ 0 → length p ≡ 188
         → AreBytes p → 52 ≤ length packets
         → (q : List ℕ) × (length q ≡ 188) × AreBytes q

@@ -21,10 +21,8 @@ Rose before now = now < last_count → before < now
 
 -- what an answer is blamed on
 pub data Blame : Type 0 where
-  -- nothing: no refusal was met
+  -- nothing: no refusal was met, or lack of memory alone, which no count tells
   Nothing : Blame
-  -- out of memory, which no count tells, maybe after a refusal that one tells
-  Wanting : Blame
   -- a file to be read wasn't there
   Missing : Blame
   -- reading failed
@@ -35,7 +33,6 @@ pub data Blame : Type 0 where
 -- the count that is to be blamed has risen; where nothing is to be blamed, all counts stand
 abbrev pub HasRisen : Blame → Counts → Counts → Type 0
 HasRisen Nothing before now = now ≡ before
-HasRisen Wanting before now = Unit {0}
 HasRisen Missing before now = Rose before.misses now.misses
 HasRisen Reading before now = Rose before.read_faults now.read_faults
 HasRisen Writing before now = Rose before.write_faults now.write_faults

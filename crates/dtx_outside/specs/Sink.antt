@@ -1,10 +1,26 @@
--- What a sink's call does to the bytes that it has taken.
-use Rattle.std.specs.Prelude.{◌≡◌, ℕ, ◌≤◌, List, ◌++◌, length, take, Option, Result, Ok, Err}
+-- What a sink's call does to the bytes that it has taken, and to its counts.
+use Rattle.std.specs.Prelude.{◌≡◌, ℕ, ◌≤◌, List, ◌++◌, length, take, Option, Result, Ok, Err, refl}
+use Rattle.std.specs.Coded.{Coded, code_by, coded×, coded_ℕ}
 use Rattle.std.specs.Option.{option_map}
 use Rattle.dtx_outside.specs.Counts.{Rose}
 use Rattle.dtx_outside.specs.Refusals.{raised}
 use Rattle.dtx_outside.specs.declared.sink.SinkNo.{SinkNo}
 use Rattle.dtx_outside.specs.declared.sink.SinkNo.TheVariants.{Failed, Memory}
+
+-- how often printing failed, and how often memory was lacking for it
+pub record SinkCounts : Type 0 where
+  pub faults : ℕ
+  pub shortages : ℕ
+
+-- the counts as a value that a contract sees: a pair of numbers
+abbrev pub sink_counts_code : Coded SinkCounts
+sink_counts_code =
+    code_by (ℕ × ℕ) (coded× coded_ℕ coded_ℕ) (λ c. (c.faults, c.shortages))
+    (λ p. record { faults = p.0; shortages = p.1 }) (λ _. refl)
+
+-- nothing was refused yet
+abbrev pub no_sink_counts : SinkCounts
+no_sink_counts = record { faults = 0; shortages = 0 }
 
 -- what `write` leaves of the bytes written, where they are told
 abbrev pub IsPrinted : List ℕ → Option (List ℕ) → Result ℕ SinkNo → Option (List ℕ) → Type 0
@@ -13,19 +29,20 @@ IsPrinted bytes old (Err Failed) new =
     (n : ℕ) × (n ≤ length bytes) × (new ≡ option_map (λ before. before ++ take n bytes) old)
 IsPrinted bytes old (Err Memory) new = new ≡ old
 
--- the count of I/O errors has risen where printing failed; where it didn't, the count stands
-abbrev pub HasRisenBy : {T : Type 0} → Result T SinkNo → ℕ → ℕ → Type 0
+-- the count of the refusal has risen, and the other one stands; where nothing was refused both stand
+abbrev pub HasRisenBy : {T : Type 0} → Result T SinkNo → SinkCounts → SinkCounts → Type 0
 HasRisenBy (Ok _) before now = now ≡ before
-HasRisenBy (Err Failed) before now = Rose before now
-HasRisenBy (Err Memory) before now = now ≡ before
+HasRisenBy (Err Failed) before now = Rose before.faults now.faults × (now.shortages ≡ before.shortages)
+HasRisenBy (Err Memory) before now = Rose before.shortages now.shortages × (now.faults ≡ before.faults)
 
--- the count of I/O errors after an answer: it never falls, and only a failure raises it
-pub record IsCounted {T : Type 0} (before : ℕ) (result : Result T SinkNo) (now : ℕ) : Type 0 where
-  pub grown : before ≤ now
+-- the counts after an answer: none falls, and only that of the refusal rises
+pub record IsCounted {T : Type 0} (before : SinkCounts) (result : Result T SinkNo) (now : SinkCounts) : Type 0 where
+  pub faults : before.faults ≤ now.faults
+  pub shortages : before.shortages ≤ now.shortages
   pub risen : HasRisenBy result before now
 
--- how often a sink has failed after a write with that answer: out of memory raises no count
-abbrev pub faults_printed : Result ℕ SinkNo → ℕ → ℕ
-faults_printed (Ok _) old = old
-faults_printed (Err Failed) old = raised old
-faults_printed (Err Memory) old = old
+-- the counts after a write with that answer
+abbrev pub counts_printed : Result ℕ SinkNo → SinkCounts → SinkCounts
+counts_printed (Ok _) old = old
+counts_printed (Err Failed) old = record old { faults = raised old.faults }
+counts_printed (Err Memory) old = record old { shortages = raised old.shortages }

@@ -10,6 +10,7 @@ mod output;
 mod refusals;
 mod shelf;
 mod sink;
+mod sink_refusals;
 mod word;
 
 pub use filling::fill;
@@ -19,4 +20,5 @@ pub use output::{FILE_PAGE, Output, PIECE};
 pub use refusals::Refusals;
 pub use shelf::{ReadNo, Shelf, WriteNo};
 pub use sink::{Sink, SinkNo};
+pub use sink_refusals::SinkRefusals;
 pub use word::Word;

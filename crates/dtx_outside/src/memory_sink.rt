@@ -3,10 +3,10 @@ ghost use Rattle.std.specs.Prelude.{◌≡◌, ◌<◌, ◌≤◌, ◌-◌, ◌^
 ghost use Rattle.dtx_outside.specs.Calls.{IsUnplanned, IsPlanned, failing};
 ghost use Rattle.dtx_outside.specs.Counts.{last_count};
 ghost use Rattle.dtx_outside.specs.MemorySink.{after_write};
-ghost use Rattle.dtx_outside.specs.Sink.{IsCounted};
+ghost use Rattle.dtx_outside.specs.Sink.{IsCounted, no_sink_counts};
 
 use crate::calls::Calls;
-use crate::{Sink, SinkNo};
+use crate::{Sink, SinkNo, SinkRefusals};
 use std::alloc::{AllocError, Global};
 use std::marker::Model;
 
@@ -14,7 +14,7 @@ use std::marker::Model;
 #[derive(Drop)]
 pub struct MemorySink {
     text: Vec<u8>,
-    faults: u64,
+    refusals: SinkRefusals,
     writes: Calls,
 }
 
@@ -23,19 +23,19 @@ impl Model for MemorySink {
 
     ghost Value = { Printed };
 
-    ghost view = { λ s. record { text = s.text.items; faults = s.faults; writes = s.writes } };
+    ghost view = { λ s. record { text = s.text.items; counts = s.refusals; writes = s.writes } };
 }
 
 impl MemorySink {
     /// A sink that has taken nothing, with no planned failures.
     pub fn new(alloc: Global) -> MemorySink
         ensures text { result.text ≡ [] }
-        ensures faults { result.faults ≡ 0 }
+        ensures counts { result.counts ≡ no_sink_counts }
         ensures writes { IsUnplanned result.writes }
     {
         MemorySink {
             text: Vec::new(alloc),
-            faults: 0,
+            refusals: SinkRefusals::new(),
             writes: Calls::new(alloc),
         }
     }
@@ -67,10 +67,10 @@ impl MemorySink {
 impl Sink for MemorySink {
     ghost written = { λ s. Some s.text };
 
-    ghost faults = { λ s. s.faults };
+    ghost counts = { λ s. s.counts };
 
     fn write(&mut self, bytes: &[u8]) -> Result<usize, SinkNo>
-        ensures gone { IsCounted self.old.faults result self.new.faults }
+        ensures gone { IsCounted self.old.counts result self.new.counts }
         ensures after { self.new ≡ after_write bytes.now result self.old }
 
         // It takes all of the piece, or nothing: it fails exactly where that is planned and there is something to take.
@@ -83,12 +83,11 @@ impl Sink for MemorySink {
             return Ok(0);
         }
         if fails {
-            self.faults = self.faults.saturating_add(1);
-            return Err(SinkNo::Failed);
+            return self.refusals.note(Err(SinkNo::Failed));
         }
         match self.text.extend_from_slice(bytes) {
             Ok(()) => Ok(bytes.len()),
-            Err(_) => Err(SinkNo::Memory),
+            Err(_) => self.refusals.note(Err(SinkNo::Memory)),
         }
     }
 }

@@ -1,6 +1,6 @@
 // What the program prints to.
 ghost use Rattle.std.specs.Prelude.{◌≡◌, ◌<◌, ◌≤◌, ℕ, List, length, IfOk, Option};
-ghost use Rattle.dtx_outside.specs.Sink.{IsPrinted, IsCounted};
+ghost use Rattle.dtx_outside.specs.Sink.{IsPrinted, IsCounted, SinkCounts};
 ghost use Rattle.dtx_outside.specs.declared.sink.SinkNo.TheVariants.{Memory};
 
 use std::alloc::AllocError;
@@ -27,15 +27,16 @@ pub trait Sink {
     /// The bytes written so far, where the sink tells them.
     ghost written: { Self → Option (List ℕ) };
 
-    /// How often writing has failed. It never falls, and stays at the greatest `u64`.
-    ghost faults: { Self → ℕ };
+    /// How often printing has failed, and how often memory was lacking for it. No count falls, and each stays at the
+    /// greatest `u64`.
+    ghost counts: { Self → SinkCounts };
 
     /// Prints a prefix of the bytes, and answers its length, which is 0 only where there are no bytes. After `Failed` a
-    /// prefix may have been printed. After `Memory` all is as before, the count too.
+    /// prefix may have been printed. After `Memory` nothing was.
     fn write(&mut self, bytes: &[u8]) -> Result<usize, SinkNo>
         ensures bound { IfOk result (λ n. n ≤ length bytes.now) }
         ensures some { IfOk result (λ n. 0 < length bytes.now → 0 < n) }
         ensures empty { length bytes.now ≡ 0 → result ≡ Ok 0 }
         ensures bytes { IsPrinted bytes.now (written self.old) result (written self.new) }
-        ensures gone { IsCounted (faults self.old) result (faults self.new) };
+        ensures gone { IsCounted (counts self.old) result (counts self.new) };
 }

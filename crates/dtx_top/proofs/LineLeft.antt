@@ -1,10 +1,8 @@
 -- The line that a call leaves behind, of how its printing ended.
 use Rattle.std.specs.Prelude.{◌≡◌, ℕ, List, length, Option, Some, None, Result, Ok, Err, IfSome, refl}
-use Rattle.std.proofs.Common.{sym, ap, ◌∙◌, subst, inl, inr, arith}
-use Rattle.std.proofs.Math.Seq.{take-length}
-use Rattle.dtx_outside.specs.Counts.{Rose}
+use Rattle.std.proofs.Common.{sym, ap, ◌∙◌, subst, inl, inr}
 use Rattle.dtx_outside.specs.Shelf.{Files}
-use Rattle.dtx_outside.specs.Sink.{IsCounted}
+use Rattle.dtx_outside.specs.Sink.{IsCounted, HasRisenBy, SinkCounts}
 use Rattle.dtx_outside.specs.declared.sink.SinkNo.{SinkNo}
 use Rattle.dtx_outside.specs.declared.sink.SinkNo.TheVariants as sink
 use Rattle.dtx_meaning.proofs.MeaningLemmas.{whole_of_carried}
@@ -22,27 +20,21 @@ use Rattle.dtx_words.specs.declared.rows.Command.TheVariants.{Adapt, Code, Excit
 use Rattle.dtx_words.specs.declared.rows.Command.TheVariants.{Trial, Soft, Mend, DvbCode, DvbRead, Repeat}
 use Rattle.dtx_words.specs.declared.rows.Command.TheVariants.{Acquire, Watch, Level}
 use Rattle.dtx_top.specs.Lines.{name_kept, names_told, HasLine, HasPartLine, IsSomeCount, IsSomeLine, IsSomeName}
-use Rattle.dtx_top.specs.Lines.{IsToldLine}
+use Rattle.dtx_top.specs.Lines.{IsToldLine, IsUnprintable}
 use Rattle.dtx_top.specs.NetAnswers.{ShowsNetwork}
 use Rattle.dtx_top.specs.Means.{means_of}
 
 -- ---- how much of it
 
-whole_line : (IsLine : Status → List ℕ → Type 0) (status : Status) (text : List ℕ) (unprinted : Type 0)
+whole_line : (IsLine : Status → List ℕ → Type 0) (status : Status) (text : List ℕ) (first last : SinkCounts)
     (old new : Option (List ℕ))
-    → IsLine status text → new ≡ printed text old → HasLine IsLine status unprinted old new
-whole_line IsLine Memory text unprinted old new is e = (
-  Memory,
-  record {
-    text = text;
-    line = is;
-    bytes = length text;
-    within = omega arith;
-    part = e ∙ ap (λ z. printed z old) (sym (take-length text));
-  },
-)
-whole_line IsLine Done text unprinted old new is e = record { text = text; line = is; whole = e }
-whole_line IsLine status text unprinted old new is e = inl (record { text = text; line = is; whole = e })
+    → IsLine status text → last ≡ first → new ≡ printed text old → HasLine IsLine status first last old new
+whole_line IsLine Done text first last old new is same e = (same, record { text = text; line = is; whole = e })
+whole_line IsLine WriteFault text first last old new is same e =
+    inl (inl (same, record { text = text; line = is; whole = e }))
+whole_line IsLine Memory text first last old new is same e =
+    inl (inl (same, record { text = text; line = is; whole = e }))
+whole_line IsLine status text first last old new is same e = inl (same, record { text = text; line = is; whole = e })
 
 part_of_put : (IsLine : Status → List ℕ → Type 0) (status : Status) (text : List ℕ) (cause : SinkNo)
     (old new : Option (List ℕ))
@@ -50,26 +42,34 @@ part_of_put : (IsLine : Status → List ℕ → Type 0) (status : Status) (text 
 part_of_put IsLine status text cause old new is put =
     record { text = text; line = is; bytes = put.0; within = put.1; part = put.2 }
 
-cut_line : (IsLine : Status → List ℕ → Type 0) (status : Status) (unprinted : Type 0) (old new : Option (List ℕ))
-    → HasPartLine IsLine status old new → unprinted
-    → HasLine IsLine (finished status (Err sink.Failed)) unprinted old new
-cut_line IsLine Done unprinted old new part rose = inr (rose, inr part)
-cut_line IsLine WriteFault unprinted old new part rose = inr (rose, inl part)
-cut_line IsLine Memory unprinted old new part rose = (Memory, part)
-cut_line IsLine status unprinted old new part rose = inr (rose, part)
+-- a count of the sink tells that it refused
+unprintable : (cause : SinkNo) (first last : SinkCounts) → HasRisenBy {T = Unit {0}} (Err cause) first last
+    → IsUnprintable first last
+unprintable sink.Failed first last risen = inl risen.0
+unprintable sink.Memory first last risen = inr risen.0
+
+cut_line : (IsLine : Status → List ℕ → Type 0) (status : Status) (cause : SinkNo) (first last : SinkCounts)
+    (old new : Option (List ℕ))
+    → HasPartLine IsLine status old new → HasRisenBy {T = Unit {0}} (Err cause) first last
+    → HasLine IsLine (finished status (Err cause)) first last old new
+cut_line IsLine Done sink.Failed first last old new part risen = inr (risen.0, part)
+cut_line IsLine Done sink.Memory first last old new part risen = inr (risen.0, part)
+cut_line IsLine WriteFault cause first last old new part risen =
+    inl (inr (unprintable cause first last risen, part))
+cut_line IsLine Memory cause first last old new part risen =
+    inl (inr (unprintable cause first last risen, part))
+cut_line IsLine status cause first last old new part risen = inr (unprintable cause first last risen, part)
 
 -- the line of a status, after it was printed so
 pub line_left : (IsLine : Status → List ℕ → Type 0) (status : Status) (text : List ℕ) (line : Result (Unit {0}) SinkNo)
-    (first last : ℕ)
+    (first last : SinkCounts)
     (old new : Option (List ℕ)) → IsLine status text → IsPut text old line new → IsCounted first line last
-    → HasLine IsLine (finished status line) (Rose first last) old new
+    → HasLine IsLine (finished status line) first last old new
 line_left IsLine status text (Ok u) first last old new is put counted =
-    whole_line IsLine status text (Rose first last) old new is put
-line_left IsLine status text (Err sink.Memory) first last old new is put counted =
-    (status, part_of_put IsLine status text sink.Memory old new is put)
-line_left IsLine status text (Err sink.Failed) first last old new is put counted =
-    cut_line IsLine status (Rose first last) old new
-    (part_of_put IsLine status text sink.Failed old new is put) counted.risen
+    whole_line IsLine status text first last old new is counted.risen put
+line_left IsLine status text (Err cause) first last old new is put counted =
+    cut_line IsLine status cause first last old new
+    (part_of_put IsLine status text cause old new is put) counted.risen
 
 -- ---- which line
 
@@ -128,14 +128,13 @@ line_is command words held outcome now kept is named =
 -- the line that is left, over files that are told
 pub line_told : (command : Option Command) (words : List (List ℕ)) (told now : Option Files) (outcome : Outcome)
     (kept : List ℕ)
-    (line : Result (Unit {0}) SinkNo) (first last : ℕ) (old new : Option (List ℕ))
+    (line : Result (Unit {0}) SinkNo) (first last : SinkCounts) (old new : Option (List ℕ))
     → IfSome told (λ held. IsCarriedOut (means_of command words held) (Some held) outcome now)
     → (command ≡ Some Net → IfSome told (λ held. name_kept command words outcome.status kept
     ≡ line_name outcome.status (names_told command words held)))
     → IsPut (line_of command outcome (name_kept command words outcome.status kept)) old line new
     → IsCounted first line last
-    → IfSome told (λ held. HasLine (IsToldLine command words held) (finished outcome.status line)
-    (Rose first last) old new)
+    → IfSome told (λ held. HasLine (IsToldLine command words held) (finished outcome.status line) first last old new)
 line_told command words None now outcome kept line first last old new is named put counted = tt
 line_told command words (Some held) now outcome kept line first last old new is named put counted =
     line_left (IsToldLine command words held) outcome.status _ line first last old new
@@ -188,13 +187,13 @@ some_count None outcome none is = λ done. let e : Usage ≡ Done = sym (none re
 
 -- the line that is left, whatever the files are
 pub line_untold : (command : Option Command) (words : List (List ℕ)) (outcome : Outcome) (kept : List ℕ)
-    (line : Result (Unit {0}) SinkNo) (first last : ℕ) (old new : Option (List ℕ))
+    (line : Result (Unit {0}) SinkNo) (first last : SinkCounts) (old new : Option (List ℕ))
     → (command ≡ Some Net → IsSomeName command words outcome.status (name_kept command words outcome.status kept))
     → (command ≡ None → outcome.status ≡ Usage) → (command ≡ Some Net → ShowsNetwork outcome.status outcome)
     → length outcome.numbers ≡ 7
     → IsPut (line_of command outcome (name_kept command words outcome.status kept)) old line new
     → IsCounted first line last
-    → HasLine (IsSomeLine command words) (finished outcome.status line) (Rose first last) old new
+    → HasLine (IsSomeLine command words) (finished outcome.status line) first last old new
 line_untold command words outcome kept line first last old new named usage shown seven put counted =
     line_left (IsSomeLine command words) outcome.status _ line first last old new (record {
       outcome = outcome;

@@ -3,11 +3,12 @@ use Rattle.std.specs.Prelude.{◌≡◌, ◌⊎◌, ℕ, zero, suc, ◌≤◌, f
 use Rattle.std.specs.Prelude.{IfSome}
 use Rattle.dtx_outside.specs.Counts.{Counts, HasGone, Rose}
 use Rattle.dtx_outside.specs.Shelf.{Files}
+use Rattle.dtx_outside.specs.Sink.{SinkCounts}
 use Rattle.dtx_meaning.specs.Meaning.{IsCarriedOut}
 use Rattle.dtx_meaning.specs.Status.{IsOfInputs, blame_of}
 use Rattle.dtx_meaning.specs.declared.status.Outcome.{Outcome}
 use Rattle.dtx_meaning.specs.declared.status.Status.{Status}
-use Rattle.dtx_meaning.specs.declared.status.Status.TheVariants.{Done, Usage, Absent, ReadFault, WriteFault, Memory}
+use Rattle.dtx_meaning.specs.declared.status.Status.TheVariants.{Done, Usage, Absent, ReadFault, WriteFault}
 use Rattle.dtx_forms.specs.Answers.{Knows}
 use Rattle.dtx_forms.specs.Job.{Job}
 use Rattle.dtx_forms.specs.OfWords.{IsOfWords}
@@ -25,24 +26,24 @@ use Rattle.dtx_top.specs.NetAnswers.{IsOfNetWords, IsOfNetwork, ShowsNetwork}
 use Rattle.dtx_top.specs.NetProgress.{HasProgress}
 use Rattle.dtx_top.specs.Trial.{HasTrialHeadline, HasTrialProgress}
 
--- The cause of an answer, of the counts of the shelf and of that of the sink. On `Done` all stand, so no I/O error was
--- met. `WriteFault` is also answered where the line of `Done` could not be printed. Memory may run out behind an I/O
--- error.
-abbrev pub HasCause : Status → Counts → Counts → ℕ → ℕ → Type 0
+-- The cause of an answer, of the counts of the shelf and of those of the sink. On `Done` all stand, so no I/O error was
+-- met. `WriteFault` is also answered where the line of `Done` could not be printed. Where an I/O error or an absent
+-- file was counted, the answer is never `Memory`.
+abbrev pub HasCause : Status → Counts → Counts → SinkCounts → SinkCounts → Type 0
 HasCause Done before now first last = (now ≡ before) × (last ≡ first)
 HasCause (Absent input) before now first last = Rose before.misses now.misses
 HasCause ReadFault before now first last = Rose before.read_faults now.read_faults
 HasCause WriteFault before now first last =
-    Rose before.write_faults now.write_faults ⊎ ((now ≡ before) × Rose first last)
-HasCause Memory before now first last = Unit {0}
+    Rose before.write_faults now.write_faults ⊎ ((now ≡ before) × Rose first.faults last.faults)
 HasCause status before now first last = now ≡ before
 
 -- no count fell, and the answer has its cause
-pub record HasEnded (before now : Counts) (first last : ℕ) (status : Status) : Type 0 where
+pub record HasEnded (before now : Counts) (first last : SinkCounts) (status : Status) : Type 0 where
   pub read_faults : before.read_faults ≤ now.read_faults
   pub write_faults : before.write_faults ≤ now.write_faults
   pub misses : before.misses ≤ now.misses
-  pub faults : first ≤ last
+  pub faults : first.faults ≤ last.faults
+  pub shortages : first.shortages ≤ last.shortages
   pub cause : HasCause status before now first last
 
 -- All was done, whether or not its line could be printed: where no error of writing is counted, `WriteFault` speaks of
@@ -51,10 +52,10 @@ abbrev pub IsAllDone : Status → Counts → Counts → Type 0
 IsAllDone status before now = (status ≡ Done) ⊎ ((status ≡ WriteFault) × ¬ Rose before.write_faults now.write_faults)
 
 -- no I/O error was counted, of reading, of writing, or of printing
-pub record IsFaultless (before now : Counts) (first last : ℕ) : Type 0 where
+pub record IsFaultless (before now : Counts) (first last : SinkCounts) : Type 0 where
   pub reading : ¬ Rose before.read_faults now.read_faults
   pub writing : ¬ Rose before.write_faults now.write_faults
-  pub printing : ¬ Rose first last
+  pub printing : ¬ Rose first.faults last.faults
 
 -- the headline, where the words are those of a network
 abbrev pub HasHeadlineOf : Option Command → List (List ℕ) → Files → Option Files → Type 0
@@ -76,12 +77,13 @@ inputs_among [] = zero
 inputs_among (Input ∷ fields) = suc (inputs_among fields)
 inputs_among (field ∷ fields) = inputs_among fields
 
--- Words that fit a command are never answered `Usage`. They are answered `Same` only where two of the command's file
--- names are equal, and there always unless memory runs out. An input that isn't there is one that the words name, and
--- each refusal is one that the command knows. Of `net`, whose plan names further files, an input that isn't there is
--- one of the four that it reads. Of `trial`, whose words name no file, it is one of the three that it reads.
+-- Words that fit no command are answered `Usage`, and others never. These are answered `Same` only where two of the
+-- command's file names are equal, and there always unless memory runs out. An input that isn't there is one that the
+-- words name, and each refusal is one that the command knows. Of `net`, whose plan names further files, an input that
+-- isn't there is one of the four that it reads. Of `trial`, whose words name no file, it is one of the three that it
+-- reads.
 abbrev pub IsByWords : Option Command → List (List ℕ) → Status → Type 0
-IsByWords None words status = (status ≡ Usage) ⊎ (status ≡ Memory)
+IsByWords None words status = status ≡ Usage
 IsByWords (Some Net) words status = IsOfNetwork status
 IsByWords (Some Trial) words status = IsOfInputs false 3 status × Knows Trial status
 IsByWords (Some command) words status =

@@ -1,6 +1,8 @@
 -- The line that a call leaves behind: of its answer, its names and its numbers.
 use Rattle.std.specs.Prelude.{◌≡◌, ◌≢◌, ◌⊎◌, ℕ, ◌≤◌, List, length, take, Option, Some, None}
+use Rattle.dtx_outside.specs.Counts.{Rose}
 use Rattle.dtx_outside.specs.Shelf.{Files}
+use Rattle.dtx_outside.specs.Sink.{SinkCounts}
 use Rattle.dtx_meaning.specs.declared.status.Outcome.{Outcome}
 use Rattle.dtx_meaning.specs.declared.status.Status.{Status}
 use Rattle.dtx_meaning.specs.declared.status.Status.TheVariants.{Done, WriteFault, Memory}
@@ -75,14 +77,27 @@ pub record HasPartLine (IsLine : Status → List ℕ → Type 0) (status : Statu
   pub within : bytes ≤ length text
   pub part : new ≡ printed (take bytes text) old
 
--- What a call printed, which ended so: the whole line of its answer, or where the sink failed a prefix of it. For
--- WriteFault this may also be a prefix of the line of Done, and for Done the line is always whole. After Memory it is a
--- prefix of some line.
-abbrev pub HasLine : (Status → List ℕ → Type 0) → Status → Type 0 → Option (List ℕ) → Option (List ℕ) → Type 0
-HasLine IsLine Done unprinted old new = HasWholeLine IsLine Done old new
-HasLine IsLine Memory unprinted old new = (status : Status) × HasPartLine IsLine status old new
-HasLine IsLine WriteFault unprinted old new =
-    HasWholeLine IsLine WriteFault old new
-    ⊎ (unprinted × (HasPartLine IsLine WriteFault old new ⊎ HasPartLine IsLine Done old new))
-HasLine IsLine status unprinted old new =
-    HasWholeLine IsLine status old new ⊎ (unprinted × HasPartLine IsLine status old new)
+-- the sink refused to print, which a count tells
+abbrev pub IsUnprintable : SinkCounts → SinkCounts → Type 0
+IsUnprintable first last = Rose first.faults last.faults ⊎ Rose first.shortages last.shortages
+
+-- such a line was printed whole, and the sink refused nothing; or it refused, and a prefix of the line was printed
+abbrev pub HasPrinted : (Status → List ℕ → Type 0) → Status → SinkCounts → SinkCounts → Option (List ℕ)
+    → Option (List ℕ) → Type 0
+HasPrinted IsLine status first last old new =
+    ((last ≡ first) × HasWholeLine IsLine status old new)
+    ⊎ (IsUnprintable first last × HasPartLine IsLine status old new)
+
+-- What a call printed, which ended so: the whole line of its answer, or where the sink refused a prefix of it. For
+-- `WriteFault`, where printing failed, this may also be a prefix of the line of `Done`. For `Memory` it may be that
+-- where the sink lacked memory. For `Done` the line is always whole.
+abbrev pub HasLine : (Status → List ℕ → Type 0) → Status → SinkCounts → SinkCounts → Option (List ℕ)
+    → Option (List ℕ) → Type 0
+HasLine IsLine Done first last old new = (last ≡ first) × HasWholeLine IsLine Done old new
+HasLine IsLine WriteFault first last old new =
+    HasPrinted IsLine WriteFault first last old new
+    ⊎ (Rose first.faults last.faults × HasPartLine IsLine Done old new)
+HasLine IsLine Memory first last old new =
+    HasPrinted IsLine Memory first last old new
+    ⊎ (Rose first.shortages last.shortages × HasPartLine IsLine Done old new)
+HasLine IsLine status first last old new = HasPrinted IsLine status first last old new

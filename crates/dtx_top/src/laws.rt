@@ -7,6 +7,7 @@ ghost use Rattle.std.specs.FinMap.{get};
 ghost use Rattle.std.specs.List.{list_any};
 ghost use Rattle.dtx_outside.specs.Counts.{Counts, Rose};
 ghost use Rattle.dtx_outside.specs.Shelf.{Files};
+ghost use Rattle.dtx_outside.specs.Sink.{SinkCounts};
 ghost use Rattle.dtx_packets.specs.Packet.{pid_of};
 ghost use Rattle.dtx_packets.specs.Packets.{packets_of};
 ghost use Rattle.dtx_plan.specs.declared.plan.NetPlan.{NetPlan};
@@ -51,8 +52,9 @@ use dtx_packet_jobs::laws::placing::{fields_with_one, groups_begin_late, what_st
 /// Nothing is refused without cause. Where a call has ended so and counted no error of reading, writing or printing,
 /// its answer is that of the meaning, or out of memory.
 pub fn no_answer_is_without_cause()
-    ensures { (meaning : Meaning) (start now : Option Files) (status : Status) (before after : Counts) (first last : ℕ)
-        → IsDone meaning start status (Rose first last) now → HasEnded before after first last status
+    ensures { (meaning : Meaning) (start now : Option Files) (status : Status) (before after : Counts)
+        (first last : SinkCounts) → IsDone meaning start status (Rose first.faults last.faults) now
+        → HasEnded before after first last status
         → IsFaultless before after first last → (status ≡ meaning.outcome.status) ⊎ (status ≡ Memory) }
 {}
 

@@ -91,28 +91,30 @@ pub fn run<S: Shelf, O: Sink>(alloc: Global, words: &[Word], shelf: &mut S, out:
     // whole. Or an I/O error or lack of memory was met, and each of the first outputs, none perhaps, holds a prefix of
     // its bytes. Or all was done, and the line alone could not be printed.
     ensures carried { IfSome (S.files shelf.old) (λ held. IsDone (means words.now held) (Some held) result
-        (Rose (O.faults out.old) (O.faults out.new)) (S.files shelf.new)) }
+        (Rose (O.counts out.old).faults (O.counts out.new).faults) (S.files shelf.new)) }
 
     // Where no error of writing is counted, `WriteFault` says that all was done, and the line alone could not be
     // printed.
     ensures unprinted { IfSome (S.files shelf.old) (λ held. result ≡ Status.WriteFault
         → ¬ Rose (S.counts shelf.old).write_faults (S.counts shelf.new).write_faults
-        → IsUnprinted (means words.now held) (Some held) result (Rose (O.faults out.old) (O.faults out.new))
-        (S.files shelf.new)) }
+        → IsUnprinted (means words.now held) (Some held) result
+        (Rose (O.counts out.old).faults (O.counts out.new).faults) (S.files shelf.new)) }
 
-    // The line is that of the answer, with the numbers of the meaning, and the name that the words or the plan give.
+    // The line is that of the answer, with the numbers of the meaning, and the name that the words or the plan give. It
+    // is whole unless the sink refused. Where `Memory` came of printing the line of `Done`, a prefix of that is left.
     ensures line { IfSome (S.files shelf.old) (λ held. HasLine (IsToldLine (command_of words.now) words.now held) result
-        (Rose (O.faults out.old) (O.faults out.new)) (O.written out.old) (O.written out.new)) }
+        (O.counts out.old) (O.counts out.new) (O.written out.old) (O.written out.new)) }
 
-    // Also where the files are not told: each I/O error has its count, and no count falls.
-    ensures gone { HasEnded (S.counts shelf.old) (S.counts shelf.new) (O.faults out.old) (O.faults out.new) result }
+    // Also where the files are not told: each I/O error has its count, and no count falls. After `Memory` the shelf's
+    // counts stand: an I/O error or an absent file that is counted is what is answered.
+    ensures gone { HasEnded (S.counts shelf.old) (S.counts shelf.new) (O.counts out.old) (O.counts out.new) result }
 
     // Also where the files are not told: the line is that of the answer, with some numbers, and as many as it has.
     ensures untold_line { HasLine (IsSomeLine (command_of words.now) words.now) result
-        (Rose (O.faults out.old) (O.faults out.new)) (O.written out.old) (O.written out.new) }
+        (O.counts out.old) (O.counts out.new) (O.written out.old) (O.written out.new) }
 
-    // Also where the files are not told: what the words alone say of the answer. `Usage` comes only where they fit no
-    // command. `Same` comes only where two names are equal, and there always unless memory runs out. Of `net`, whose
+    // Also where the files are not told: what the words alone say of the answer. `Usage` comes exactly where they fit
+    // no command. `Same` comes only where two names are equal, and there always unless memory runs out. Of `net`, whose
     // plan gives names too, the words don't say so. An input that isn't there is one that they name, or one of the four
     // that `net` reads or the three that `trial` reads. Each refusal is one that the command knows.
     ensures words { IsByWords (command_of words.now) words.now result }

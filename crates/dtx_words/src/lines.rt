@@ -25,7 +25,7 @@ pub fn line<O: Sink>(
     out: &mut O,
 ) -> Result<(), SinkNo>
     ensures written { IsPut (line_of command outcome.now name.now) (O.written out.old) result (O.written out.new) }
-    ensures gone { IsCounted (O.faults out.old) result (O.faults out.new) }
+    ensures gone { IsCounted (O.counts out.old) result (O.counts out.new) }
 {
     let status = outcome.status;
     match status {
@@ -48,7 +48,7 @@ pub fn line<O: Sink>(
 /// Prints the line of a command that is done.
 fn put_done<O: Sink>(command: Option<Command>, outcome: &Outcome, out: &mut O) -> Result<(), SinkNo>
     ensures written { IsPut (done_line command outcome.now) (O.written out.old) result (O.written out.new) }
-    ensures gone { IsCounted (O.faults out.old) result (O.faults out.new) }
+    ensures gone { IsCounted (O.counts out.old) result (O.counts out.new) }
 {
     put_numbered(labels(command, outcome.shown), &outcome.numbers, out)?;
     put_all(out, &["\n"])
@@ -73,7 +73,7 @@ fn put_numbered<O: Sink>(labels: &[&str], numbers: &[u64], out: &mut O) -> Resul
     requires { length labels.now ≤ length numbers.now }
     ensures written { IsPut (numbered (map (λ label. label.now) labels.now) numbers.now) (O.written out.old) result
         (O.written out.new) }
-    ensures gone { IsCounted (O.faults out.old) result (O.faults out.new) }
+    ensures gone { IsCounted (O.counts out.old) result (O.counts out.new) }
 {
     for (i, label) in labels.iter().enumerate() {
         put_number(label, numbers[i], out)?;
@@ -84,7 +84,7 @@ fn put_numbered<O: Sink>(labels: &[&str], numbers: &[u64], out: &mut O) -> Resul
 /// Prints a label, followed by a number.
 fn put_number<O: Sink>(label: &str, number: u64, out: &mut O) -> Result<(), SinkNo>
     ensures written { IsPut (label.now ++ decimal number) (O.written out.old) result (O.written out.new) }
-    ensures gone { IsCounted (O.faults out.old) result (O.faults out.new) }
+    ensures gone { IsCounted (O.counts out.old) result (O.counts out.new) }
 {
     let mut digits = Buffer::new();
     put_all(out, &[label, digits.format(number)])
@@ -93,7 +93,7 @@ fn put_number<O: Sink>(label: &str, number: u64, out: &mut O) -> Result<(), Sink
 /// Prints the usage line: the first words of all commands.
 fn put_usage<O: Sink>(out: &mut O) -> Result<(), SinkNo>
     ensures written { IsPut usage_line (O.written out.old) result (O.written out.new) }
-    ensures gone { IsCounted (O.faults out.old) result (O.faults out.new) }
+    ensures gone { IsCounted (O.counts out.old) result (O.counts out.new) }
 {
     let mut before = "usage: dtx ";
     for command in FIRST_WORDS {
@@ -106,7 +106,7 @@ fn put_usage<O: Sink>(out: &mut O) -> Result<(), SinkNo>
 /// Prints a text, followed by the first word of a command.
 fn put_verb<O: Sink>(before: &'static str, command: Command, out: &mut O) -> Result<(), SinkNo>
     ensures written { IsPut (before.now ++ (row_of command).verb) (O.written out.old) result (O.written out.new) }
-    ensures gone { IsCounted (O.faults out.old) result (O.faults out.new) }
+    ensures gone { IsCounted (O.counts out.old) result (O.counts out.new) }
 {
     put_all(out, &[before, row(command).verb])
 }
@@ -128,7 +128,7 @@ fn bare_line(status: Status) -> &'static str
 /// Prints a line.
 fn put_line<O: Sink>(line: &str, out: &mut O) -> Result<(), SinkNo>
     ensures written { IsPut line.now (O.written out.old) result (O.written out.new) }
-    ensures gone { IsCounted (O.faults out.old) result (O.faults out.new) }
+    ensures gone { IsCounted (O.counts out.old) result (O.counts out.new) }
 {
     put_all(out, &[line])
 }
@@ -136,7 +136,7 @@ fn put_line<O: Sink>(line: &str, out: &mut O) -> Result<(), SinkNo>
 /// Prints a line: some words and a name.
 fn put_name<O: Sink>(words: &str, name: &str, out: &mut O) -> Result<(), SinkNo>
     ensures written { IsPut (words.now ++ name.now ++ codes "\n") (O.written out.old) result (O.written out.new) }
-    ensures gone { IsCounted (O.faults out.old) result (O.faults out.new) }
+    ensures gone { IsCounted (O.counts out.old) result (O.counts out.new) }
 {
     put_all(out, &[words, name, "\n"])
 }
@@ -145,7 +145,7 @@ fn put_name<O: Sink>(words: &str, name: &str, out: &mut O) -> Result<(), SinkNo>
 fn put_count<O: Sink>(words: &str, number: u64, out: &mut O) -> Result<(), SinkNo>
     ensures written { IsPut (words.now ++ decimal number ++ codes "\n") (O.written out.old) result
         (O.written out.new) }
-    ensures gone { IsCounted (O.faults out.old) result (O.faults out.new) }
+    ensures gone { IsCounted (O.counts out.old) result (O.counts out.new) }
 {
     let mut digits = Buffer::new();
     put_all(out, &[words, digits.format(number), "\n"])
@@ -154,7 +154,7 @@ fn put_count<O: Sink>(words: &str, number: u64, out: &mut O) -> Result<(), SinkN
 /// Prints the line of a plan that is refused.
 fn put_plan<O: Sink>(no: PlanNo, out: &mut O) -> Result<(), SinkNo>
     ensures written { IsPut (refusal_line (Plan no) []) (O.written out.old) result (O.written out.new) }
-    ensures gone { IsCounted (O.faults out.old) result (O.faults out.new) }
+    ensures gone { IsCounted (O.counts out.old) result (O.counts out.new) }
 {
     let mut digits = Buffer::new();
     put_all(
@@ -172,14 +172,14 @@ fn put_plan<O: Sink>(no: PlanNo, out: &mut O) -> Result<(), SinkNo>
 }
 
 /// The final status of a command, given how printing its line ended. A `Done` whose line could not be printed becomes
-/// `WriteFault`, and any status becomes `Memory` where memory ran out.
+/// `WriteFault`, or `Memory` where memory ran out. Any other status stays.
 pub fn finish(status: Status, printed: Result<(), SinkNo>) -> Status
     ensures { result ≡ finished status printed }
 {
     match printed {
         Ok(()) => status,
-        Err(SinkNo::Memory) => Status::Memory,
         Err(SinkNo::Failed) if status == Status::Done => Status::WriteFault,
-        Err(SinkNo::Failed) => status,
+        Err(SinkNo::Memory) if status == Status::Done => Status::Memory,
+        Err(_) => status,
     }
 }

@@ -8,7 +8,7 @@ use dtx_outside::{Sink, SinkNo};
 /// Prints all of the bytes. After an error a prefix of them was printed.
 fn put<O: Sink>(out: &mut O, bytes: &[u8]) -> Result<(), SinkNo>
     ensures written { IsPut bytes.now (O.written out.old) result (O.written out.new) }
-    ensures gone { IsCounted (O.faults out.old) result (O.faults out.new) }
+    ensures gone { IsCounted (O.counts out.old) result (O.counts out.new) }
 {
     let mut done = 0;
     while done < bytes.len() {
@@ -21,7 +21,7 @@ fn put<O: Sink>(out: &mut O, bytes: &[u8]) -> Result<(), SinkNo>
 /// Prints the pieces, one after another. After an error a prefix of the text was printed.
 pub(crate) fn put_all<O: Sink>(out: &mut O, pieces: &[&str]) -> Result<(), SinkNo>
     ensures written { IsPut (text_of pieces.now) (O.written out.old) result (O.written out.new) }
-    ensures gone { IsCounted (O.faults out.old) result (O.faults out.new) }
+    ensures gone { IsCounted (O.counts out.old) result (O.counts out.new) }
 {
     for piece in pieces {
         put(out, piece.as_bytes())?;

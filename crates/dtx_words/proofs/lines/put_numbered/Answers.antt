@@ -17,5 +17,5 @@ loop-i-preserved g c = record {
   written = so_far_then _ _ _ _ _ _ _
       (numbered_next c.args.labels.now c.args.numbers.now c.loop-i.i _ (omega arith) (omega arith))
       c.loop-i.invariant.written c.in_ok-put_number.ensures.written;
-  faults = grind (arith, common_steps);
+  counts = grind (arith, common_steps);
 }

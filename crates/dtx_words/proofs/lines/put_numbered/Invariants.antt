@@ -7,5 +7,5 @@ abbrev pub invariant-loop-i : goal.invariant-loop-i
 invariant-loop-i g l = record {
   written : IsSoFar (numbered_from l.labels l.numbers 0) (numbered_from l.labels l.numbers l.i)
       (g.O.Sink.written l.fn.out) (g.O.Sink.written l.out);
-  faults : g.O.Sink.faults l.out ≡ g.O.Sink.faults l.fn.out;
+  counts : g.O.Sink.counts l.out ≡ g.O.Sink.counts l.fn.out;
 }

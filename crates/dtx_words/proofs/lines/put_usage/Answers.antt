@@ -20,7 +20,7 @@ loop-command-preserved g c = record {
       (verbs_next c.loop-command.before.now first_words c.loop-command.command-index _ (omega arith))
       c.loop-command.invariant.written c.in_ok-put_verb.ensures.written;
   text = (124 ∷ [], (refl, refl));
-  faults = grind (arith, common_steps);
+  counts = grind (arith, common_steps);
 }
 
 pub returns-clause-written : goal.returns-clause-written

@@ -12,5 +12,5 @@ invariant-loop-command g l = record {
   written : IsSoFar usage_line (verbs_from l.before l.command-items l.command-index
       ++ codes "\n") (g.O.Sink.written l.fn.out) (g.O.Sink.written l.out);
   text : shadow (Utf8 l.before);
-  faults : g.O.Sink.faults l.out ≡ g.O.Sink.faults l.fn.out;
+  counts : g.O.Sink.counts l.out ≡ g.O.Sink.counts l.fn.out;
 }

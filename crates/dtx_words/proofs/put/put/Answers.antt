@@ -18,5 +18,5 @@ loop-done-preserved g c =
     record {
       in_range = grind (arith, common_steps);
       written = put_more c.args.bytes.now c.loop-done.done c.in_ok-n.n _ _ _ before.written next;
-      faults = grind (arith, common_steps);
+      counts = grind (arith, common_steps);
     }

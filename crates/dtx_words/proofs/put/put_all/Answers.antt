@@ -25,8 +25,8 @@ pub loop-piece-preserved : goal.loop-piece-preserved
 loop-piece-preserved g c = record {
   written = put_all_more c.args.pieces.now c.loop-piece.piece-index _ c.as_bytes.result.now _ _ _ (omega arith)
       c.as_bytes.ensures.value c.loop-piece.invariant.written c.in_ok-put.ensures.written;
-  faults = grind (arith, common_steps);
+  counts = grind (arith, common_steps);
 }
 
 pub loop-piece-init : goal.loop-piece-init
-loop-piece-init g c = record { written = sym (printed-none _); faults = refl }
+loop-piece-init g c = record { written = sym (printed-none _); counts = refl }

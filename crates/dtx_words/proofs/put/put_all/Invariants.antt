@@ -7,5 +7,5 @@ abbrev pub invariant-loop-piece : goal.invariant-loop-piece
 invariant-loop-piece g l = record {
   written : g.O.Sink.written l.out ≡ option_map (λ before. before ++ text_of (take l.piece-index l.pieces))
       (g.O.Sink.written l.fn.out);
-  faults : g.O.Sink.faults l.out ≡ g.O.Sink.faults l.fn.out;
+  counts : g.O.Sink.counts l.out ≡ g.O.Sink.counts l.fn.out;
 }

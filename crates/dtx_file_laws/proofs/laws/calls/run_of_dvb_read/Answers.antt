@@ -22,6 +22,6 @@ pub returns-clause-line : goal.returns-clause-line
 returns-clause-line g c = λ input output file is.
     if_so (g.S.Shelf.files c.args.shelf.now) _ _
     (λ held line there done. lined c.args.words.now _ _ _ _ _ _ (output ∷ []) input file held
-    (g.O.Sink.written c.args.out.now) (g.O.Sink.written c.run.new.out) _ _
+    (g.O.Sink.written c.args.out.now) (g.O.Sink.written c.run.new.out) _ _ _
     (dvb_read_read c.args.words.now input output held is) there done line)
     c.run.ensures.line
