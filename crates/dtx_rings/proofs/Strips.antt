@@ -151,12 +151,11 @@ tile_put b w p t c k z columns old new room within long before put l m = by_case
         ∙ put c (k - t * 16) l (omega arith) ∙ ap (λ n. get_or columns n 0) (omega (arith, e))
 
 -- and leaves the other places as they were
-pub tile_elsewhere : (b w p t z i : ℕ) (old new : List ℕ) → 0 < b → t * 16 * b ≤ length old → length new ≡ 16 * b
-    → z ≡ 16 * b
+pub tile_elsewhere : (b w p t z i : ℕ) (old new : List ℕ) → 0 < b → t * 16 * b ≤ length old → length new ≡ z
     → ((j : ℕ) → (j % b < p) ⊎ (p + w ≤ j % b) → get_or new j 0 ≡ get_or (take z (drop (t * 16 * b) old)) j 0)
     → (i % b < p) ⊎ (p + w ≤ i % b) → get_or (put_mid (t * 16 * b) z old new) i 0 ≡ get_or old i 0
-tile_elsewhere b w p t z i old new s within long ez others o =
-    by_place (cases_lt i (t * 16 * b)) (cases_lt i (t * 16 * b + 16 * b))
+tile_elsewhere b w p t z i old new s within long others o =
+    by_place (cases_lt i (t * 16 * b)) (cases_lt i (t * 16 * b + z))
   where
     same : t * 16 * b ≤ i → (i - t * 16 * b) % b ≡ i % b
     same l = sym (ap (λ x. x % b) back
@@ -170,7 +169,7 @@ tile_elsewhere b w p t z i old new s within long ez others o =
           add-mul (t * 16) ((i - t * 16 * b) / b) b,
         )
 
-    by_place : (i < t * 16 * b) ⊎ (t * 16 * b ≤ i) → (i < t * 16 * b + 16 * b) ⊎ (t * 16 * b + 16 * b ≤ i)
+    by_place : (i < t * 16 * b) ⊎ (t * 16 * b ≤ i) → (i < t * 16 * b + z) ⊎ (t * 16 * b + z ≤ i)
         → get_or (put_mid (t * 16 * b) z old new) i 0 ≡ get_or old i 0
     by_place (inl h) g = written_before (t * 16 * b) z i old new within h
     by_place (inr h) (inl g) =
@@ -178,15 +177,15 @@ tile_elsewhere b w p t z i old new s within long ez others o =
         ap (λ n. get_or (put_mid (t * 16 * b) z old new) n 0) (sym e)
         ∙ written_at (t * 16 * b) z (i - t * 16 * b) old new within (omega arith)
         ∙ others (i - t * 16 * b) (subst (λ (x : ℕ). (x < p) ⊎ (p + w ≤ x)) (sym (same h)) o)
-        ∙ get_or-take z (drop (t * 16 * b) old) (i - t * 16 * b) 0 (omega (arith, ez))
+        ∙ get_or-take z (drop (t * 16 * b) old) (i - t * 16 * b) 0 (omega arith)
         ∙ get_or-drop (t * 16 * b) old (i - t * 16 * b) 0 ∙ ap (λ n. get_or old n 0) e
-    by_place (inr h) (inr g) = written_behind (t * 16 * b) z i old new within (long ∙ sym ez) (omega (arith, ez))
+    by_place (inr h) (inr g) = written_behind (t * 16 * b) z i old new within long g
 
 -- ---- a row from a place on
 
-pub row_room : (b w p n m : ℕ) → p + w ≤ b → m ≡ 16 * b → n < 16 → p + n * b + w ≤ m
-row_room b w p n m room e l =
-    let g : (n + 1) * b ≤ 16 * b = mul-le-mul_right b (omega arith) in omega (arith, add-mul n 1 b)
+pub row_room : (b w p n m k : ℕ) → k * b + p + w ≤ m + b → n < k → p + n * b + w ≤ m
+row_room b w p n m k room l =
+    let g : (n + 1) * b ≤ k * b = mul-le-mul_right b (omega arith) in omega (arith, add-mul n 1 b)
 
 pub row_byte : (b w p n k : ℕ) (tile : List ℕ) → k < w → p + n * b + w ≤ length tile
     → get_or (take (length tile - (p + n * b)) (drop (p + n * b) tile)) k 0 ≡ get_or tile (p + k + n * b) 0

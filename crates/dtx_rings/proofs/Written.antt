@@ -1,10 +1,11 @@
 -- A list of which a part was written: its items before the part, in it and behind it.
-use Rattle.std.proofs.Common.{◌≡◌, ℕ, ◌+◌, ◌-◌, ◌<◌, ◌≤◌, ◌⊎◌, inl, inr, List, ◌++◌, length, get_or, take, drop, refl}
-use Rattle.std.proofs.Common.{sym, ap, ◌∙◌, arith}
+use Rattle.std.proofs.Common.{◌≡◌, ℕ, ◌+◌, ◌-◌, ◌*◌, ◌/◌, ◌<◌, ◌≤◌, ◌⊎◌, inl, inr, List, ◌++◌, length, get_or, take}
+use Rattle.std.proofs.Common.{drop, refl, sym, ap, ◌∙◌, arith, div-add-mod'}
+use Rattle.std.proofs.lemmas.Nat.{mod_below}
 use Rattle.std.proofs.lemmas.Bool.{cases_lt}
 use Rattle.std.proofs.lemmas.List.{ext_get_or}
 use Rattle.std.proofs.lemmas.Simd.{length-chunk, length-put_chunk, get_or-chunk, get_or-put_chunk_below}
-use Rattle.std.proofs.lemmas.Simd.{get_or-put_chunk_at}
+use Rattle.std.proofs.lemmas.Simd.{get_or-put_chunk_at, get_or-put_chunk_above}
 use lib.Lanes.{chunk, put_chunk}
 use Rattle.std.proofs.lemmas.List.{get_or_append_left, get_or-append_right, get_or-take, get_or-drop, length-take-le}
 use Rattle.std.proofs.lemmas.List.{length-append, length-drop}
@@ -47,40 +48,206 @@ length_written a k xs ys l e =
       length-drop a xs,
     )
 
--- items of which the first sixteen have left, and behind which sixteen more stand
-pub sixteen_on : (items column moved : List ℕ) → 16 ≤ length items → length column ≡ 16
-    → length moved ≡ length items → ((k : ℕ) → k < length items - 16 → get_or moved k 0 ≡ get_or items (16 + k) 0)
-    → put_chunk (length items - 16) moved (chunk 0 16 column) ≡ drop 16 (items ++ column)
+-- ---- items and a column behind them
+
+-- of a column behind items as many bytes tell as it has
+pub fewer_behind : (n i : ℕ) (items column : List ℕ) → i < length items + n
+    → get_or (items ++ column) i 0 ≡ get_or (items ++ take n column) i 0
+fewer_behind n i items column l = by_cases (cases_lt i (length items))
+  where
+    by_cases : (i < length items) ⊎ (length items ≤ i)
+        → get_or (items ++ column) i 0 ≡ get_or (items ++ take n column) i 0
+    by_cases (inl h) = get_or_append_left items column 0 i h ∙ sym (get_or_append_left items (take n column) 0 i h)
+    by_cases (inr h) =
+        get_or-append_right items column (length items) i 0 refl h
+        ∙ sym (get_or-append_right items (take n column) (length items) i 0 refl h
+        ∙ get_or-take n column (i - length items) 0 (omega arith))
+
+-- fewer than sixteen items, and a column of sixteen bytes put behind them
+abbrev pub short_put : ℕ → List ℕ → List ℕ → List ℕ → List ℕ
+short_put n room items column =
+    put_mid n (32 - n) (items ++ drop n room) (put_chunk 0 (take (32 - n) (drop n (items ++ drop n room))) column)
+
+abbrev pub short_joined : List ℕ → List ℕ → List ℕ → List ℕ
+short_joined room items column = short_put (length items) room items column
+
+length-room : (room items : List ℕ) → length items < 16 → length room ≡ 32
+    → length (items ++ drop (length items) room) ≡ 32
+length-room room items l e =
+    omega (
+      arith,
+      length-append items (drop (length items) room),
+      length-drop (length items) room,
+    )
+
+pub short_byte : (i : ℕ) (room items column : List ℕ) → length items < 16 → length column ≡ 16 → length room ≡ 32
+    → i < length items + 16 → get_or (short_joined room items column) i 0 ≡ get_or (items ++ column) i 0
+short_byte i room items column l lc lr m = by_cases (cases_lt i (length items))
+  where
+    long : length (take (32 - length items) (drop (length items) (items ++ drop (length items) room)))
+        ≡ 32 - length items
+    long = length-take-le (32 - length items) (drop (length items) (items ++ drop (length items) room))
+        (omega (arith, length-drop (length items) (items ++ drop (length items) room), length-room room items l lr))
+
+    by_cases : (i < length items) ⊎ (length items ≤ i)
+        → get_or (short_joined room items column) i 0 ≡ get_or (items ++ column) i 0
+    by_cases (inl h) =
+        written_before (length items) (32 - length items) i (items ++ drop (length items) room)
+        (put_chunk 0 (take (32 - length items) (drop (length items) (items ++ drop (length items) room))) column)
+        (omega (arith, length-room room items l lr)) h
+        ∙ get_or_append_left items (drop (length items) room) 0 i h ∙ sym (get_or_append_left items column 0 i h)
+    by_cases (inr h) =
+        let e : length items + (i - length items) ≡ i = omega arith in
+        ap (λ x. get_or (short_joined room items column) x 0) (sym e)
+        ∙ written_at (length items) (32 - length items) (i - length items) (items ++ drop (length items) room)
+        (put_chunk 0 (take (32 - length items) (drop (length items) (items ++ drop (length items) room))) column)
+        (omega (arith, length-room room items l lr))
+        (omega (
+          arith,
+          m,
+          long,
+          length-put_chunk 0
+              (take (32 - length items) (drop (length items) (items ++ drop (length items) room))) column,
+        ))
+        ∙ ap (λ x. get_or (put_chunk 0
+        (take (32 - length items) (drop (length items) (items ++ drop (length items) room))) column) x 0)
+        (none (i - length items))
+        ∙ get_or-put_chunk_at 0 (take (32 - length items) (drop (length items) (items ++ drop (length items) room)))
+        column (i - length items) 0 (omega (arith, m, lc)) (omega (arith, long, m))
+        ∙ sym (get_or-append_right items column (length items) i 0 refl h)
+      where
+        none : (x : ℕ) → x ≡ 0 + x
+        none x = omega arith
+
+pub short_on : (n : ℕ) (room items column : List ℕ) → n ≤ 16 → length items < 16 → length column ≡ 16
+    → length room ≡ 32
+    → take (n + length items - n) (drop n (short_joined room items column)) ≡ drop n (items ++ take n column)
+short_on n room items column few l lc lr =
+    ext_get_or 0 (take (n + length items - n) (drop n (short_joined room items column)))
+    (drop n (items ++ take n column))
+    (length-take-le (n + length items - n) (drop n (short_joined room items column))
+    (omega (arith, length-drop n (short_joined room items column), whole))
+    ∙ omega (
+      arith,
+      length-drop n (items ++ take n column),
+      length-append items (take n column),
+      length-take-le n column (omega (arith, lc)),
+    ))
+    (λ j m. byte j (omega (
+      arith,
+      m,
+      length-take-le (n + length items - n) (drop n (short_joined room items column))
+          (omega (arith, length-drop n (short_joined room items column), whole)),
+    )))
+  where
+    whole : length (short_joined room items column) ≡ 32
+    whole =
+        length_written (length items) (32 - length items) (items ++ drop (length items) room)
+        (put_chunk 0 (take (32 - length items) (drop (length items) (items ++ drop (length items) room))) column)
+        (omega (arith, length-room room items l lr))
+        (length-put_chunk 0 (take (32 - length items) (drop (length items) (items ++ drop (length items) room))) column
+        ∙ length-take-le (32 - length items) (drop (length items) (items ++ drop (length items) room))
+        (omega (arith, length-drop (length items) (items ++ drop (length items) room), length-room room items l lr)))
+        ∙ length-room room items l lr
+
+    byte : (j : ℕ) → j < length items
+        → get_or (take (n + length items - n) (drop n (short_joined room items column))) j 0
+        ≡ get_or (drop n (items ++ take n column)) j 0
+    byte j m =
+        get_or-take (n + length items - n) (drop n (short_joined room items column)) j 0 (omega arith)
+        ∙ get_or-drop n (short_joined room items column) j 0
+        ∙ short_byte (n + j) room items column l lc lr (omega arith)
+        ∙ fewer_behind n (n + j) items column (omega arith)
+        ∙ sym (get_or-drop n (items ++ take n column) j 0)
+
+-- items of which sixteen have left, moved sixteen at a time, so far as whole sixteens go
+pub record AreMoved (i : ℕ) (items moved : List ℕ) : Type 0 where
+  pub before : (k : ℕ) → k < 16 * i → get_or moved k 0 ≡ get_or items (16 + k) 0
+  pub behind : (k : ℕ) → 16 * i ≤ k → get_or moved k 0 ≡ get_or items k 0
+
+pub moved_more : (i : ℕ) (items moved : List ℕ) → 16 * i + 32 ≤ length items → length moved ≡ length items
+    → AreMoved i items moved → AreMoved (i + 1) items (put_chunk (16 * i) moved (chunk (16 * i + 16) 16 moved))
+moved_more i items moved room e h = record {
+  before = λ k l. before k l (cases_lt k (16 * i));
+  behind = λ k l.
+      get_or-put_chunk_above (16 * i) moved (chunk (16 * i + 16) 16 moved) k 0 (omega (arith, l, long))
+      ∙ h.behind k (omega arith);
+}
+  where
+    long : length (chunk (16 * i + 16) 16 moved) ≡ 16
+    long = length-chunk (16 * i + 16) 16 moved (omega (arith, e))
+
+    before : (k : ℕ) → k < 16 * (i + 1) → (k < 16 * i) ⊎ (16 * i ≤ k)
+        → get_or (put_chunk (16 * i) moved (chunk (16 * i + 16) 16 moved)) k 0 ≡ get_or items (16 + k) 0
+    before k l (inl m) =
+        get_or-put_chunk_below (16 * i) moved (chunk (16 * i + 16) 16 moved) k 0 m ∙ h.before k m
+    before k l (inr m) =
+        let j : 16 * i + (k - 16 * i) ≡ k = omega arith in
+        ap (λ x. get_or (put_chunk (16 * i) moved (chunk (16 * i + 16) 16 moved)) x 0) (sym j)
+        ∙ get_or-put_chunk_at (16 * i) moved (chunk (16 * i + 16) 16 moved) (k - 16 * i) 0 (omega (arith, long))
+        (omega (arith, e, room, long))
+        ∙ get_or-chunk (16 * i + 16) 16 moved (k - 16 * i) 0 (omega arith)
+        ∙ ap (λ x. get_or moved x 0) (omega (arith, j)) ∙ h.behind (16 + k) (omega arith)
+
+-- the last sixteen moved, and sixteen more put behind them
+pub sixteen_on : (items column moved : List ℕ) → 32 ≤ length items → length column ≡ 16
+    → length moved ≡ length items → AreMoved (length items / 16 - 1) items moved
+    → put_chunk (length items - 16)
+    (put_chunk (length items - 32) moved (chunk (length items - 16) 16 items)) column ≡ drop 16 (items ++ column)
 sixteen_on items column moved l lc lm h =
-    ext_get_or 0 (put_chunk end moved (chunk 0 16 column)) (drop 16 (items ++ column))
-    (length-put_chunk end moved (chunk 0 16 column) ∙ lm ∙ omega (
+    ext_get_or 0 (put_chunk (length items - 16) inner column) (drop 16 (items ++ column))
+    (length-put_chunk (length items - 16) inner column
+    ∙ length-put_chunk (length items - 32) moved (chunk (length items - 16) 16 items) ∙ lm ∙ omega (
       arith,
       l,
       lc,
       length-drop 16 (items ++ column),
       length-append items column,
     ))
-    (λ j m. by_place j (omega (arith, m, lm, length-put_chunk end moved (chunk 0 16 column))) (cases_lt j end)
+    (λ j m. by_place j (omega (arith, m, all)) (cases_lt j (length items - 32)) (cases_lt j (length items - 16))
     ∙ sym (get_or-drop 16 (items ++ column) j 0))
   where
-    end : ℕ
-    end = length items - 16
+    inner : List ℕ
+    inner = put_chunk (length items - 32) moved (chunk (length items - 16) 16 items)
 
-    long : length (chunk 0 16 column) ≡ 16
-    long = length-chunk 0 16 column (omega (arith, lc))
+    long : length (chunk (length items - 16) 16 items) ≡ 16
+    long = length-chunk (length items - 16) 16 items (omega arith)
 
-    by_place : (j : ℕ) → j < length items → (j < length items - 16) ⊎ (length items - 16 ≤ j)
-        → get_or (put_chunk (length items - 16) moved (chunk 0 16 column)) j 0 ≡ get_or (items ++ column) (16 + j) 0
-    by_place j m (inl k) =
-        get_or-put_chunk_below (length items - 16) moved (chunk 0 16 column) j 0 k ∙ h j k
+    inner_long : length (put_chunk (length items - 32) moved (chunk (length items - 16) 16 items)) ≡ length items
+    inner_long = length-put_chunk (length items - 32) moved (chunk (length items - 16) 16 items) ∙ lm
+
+    all : length (put_chunk (length items - 16)
+        (put_chunk (length items - 32) moved (chunk (length items - 16) 16 items)) column) ≡ length items
+    all = length-put_chunk (length items - 16)
+        (put_chunk (length items - 32) moved (chunk (length items - 16) 16 items)) column ∙ inner_long
+
+    by_place : (j : ℕ) → j < length items → (j < length items - 32) ⊎ (length items - 32 ≤ j)
+        → (j < length items - 16) ⊎ (length items - 16 ≤ j)
+        → get_or (put_chunk (length items - 16)
+        (put_chunk (length items - 32) moved (chunk (length items - 16) 16 items)) column) j 0
+        ≡ get_or (items ++ column) (16 + j) 0
+    by_place j m (inl k) q =
+        get_or-put_chunk_below (length items - 16)
+        (put_chunk (length items - 32) moved (chunk (length items - 16) 16 items)) column j 0 (omega arith)
+        ∙ get_or-put_chunk_below (length items - 32) moved (chunk (length items - 16) 16 items) j 0 k
+        ∙ h.before j (omega (arith, k, div-add-mod' (length items) 16, mod_below (length items) 16 (omega arith)))
         ∙ sym (get_or_append_left items column 0 (16 + j) (omega arith))
-    by_place j m (inr k) =
-        ap (λ n. get_or (put_chunk (length items - 16) moved (chunk 0 16 column)) n 0) (back (length items - 16) j k)
-        ∙ get_or-put_chunk_at (length items - 16) moved (chunk 0 16 column) (j - (length items - 16)) 0
-        (omega (arith, long)) (omega (arith, long))
-        ∙ get_or-chunk 0 16 column (j - (length items - 16)) 0 (omega arith)
-        ∙ sym (get_or-append_right items column (length items) (16 + j) 0 refl (omega arith)
-        ∙ ap (λ n. get_or column n 0) (omega arith))
-      where
-        back : (n k : ℕ) → n ≤ k → k ≡ n + (k - n)
-        back n k l = omega arith
+    by_place j m (inr k) (inl q) =
+        let e : length items - 32 + (j - (length items - 32)) ≡ j = omega arith in
+        get_or-put_chunk_below (length items - 16)
+        (put_chunk (length items - 32) moved (chunk (length items - 16) 16 items)) column j 0 q
+        ∙ ap (λ x. get_or (put_chunk (length items - 32) moved (chunk (length items - 16) 16 items)) x 0) (sym e)
+        ∙ get_or-put_chunk_at (length items - 32) moved (chunk (length items - 16) 16 items)
+        (j - (length items - 32)) 0 (omega (arith, long)) (omega (arith, lm, l, long))
+        ∙ get_or-chunk (length items - 16) 16 items (j - (length items - 32)) 0 (omega arith)
+        ∙ ap (λ x. get_or items x 0) (omega (arith, l, k, q))
+        ∙ sym (get_or_append_left items column 0 (16 + j) (omega arith))
+    by_place j m (inr k) (inr q) =
+        let e : length items - 16 + (j - (length items - 16)) ≡ j = omega arith in
+        ap (λ x. get_or (put_chunk (length items - 16)
+        (put_chunk (length items - 32) moved (chunk (length items - 16) 16 items)) column) x 0) (sym e)
+        ∙ get_or-put_chunk_at (length items - 16)
+        (put_chunk (length items - 32) moved (chunk (length items - 16) 16 items)) column (j - (length items - 16)) 0
+        (omega (arith, lc)) (omega (arith, inner_long, m, lc, l))
+        ∙ ap (λ x. get_or column x 0) (omega (arith, l, q))
+        ∙ sym (get_or-append_right items column (length items) (16 + j) 0 refl (omega arith))

@@ -30,14 +30,20 @@ column b bytes p = map (λ k. slice_index bytes (p + k * b)) (range_with_len 0 (
 abbrev pub joined_at : ℕ → ℕ → List (List ℕ) → List ℕ → ℕ → List ℕ
 joined_at b next lists bytes p = slice_index_or lists (branch_at b next p) [] ++ column b bytes p
 
--- how many rows of b bytes stand in whole tiles of sixteen rows
-abbrev pub tiled : ℕ → ℕ → ℕ
-tiled b len = len / (16 * b) * 16
+-- as many of so many bytes come to each of the w places from p on
+abbrev pub IsEven : ℕ → ℕ → ℕ → ℕ → Type 0
+IsEven b p w len = (p + w ≤ len % b) ⊎ (len % b ≤ p)
 
--- the bytes of a call, of which those behind whole tiles stand at the front of a last one
-abbrev pub in_tiles : ℕ → List ℕ → List ℕ → List ℕ
-in_tiles b bytes last =
-    take (tiled b (length bytes) * b) bytes ++ take (length bytes - tiled b (length bytes) * b) last
+-- Columns have room for 208 bytes each. Of those of the places from `from` on and below `to`, n bytes each have come to
+-- their branches, and the n oldest bytes of these have gone. All other branches are as before.
+pub record AreExchanged (b next from to n : ℕ) (old new : List (List ℕ)) (come gone : List ℕ) : Type 0 where
+  pub count : length new ≡ length old
+  pub kept : (p : ℕ) → from ≤ p → p < to → slice_index_or new (branch_at b next p) []
+      ≡ drop n (slice_index_or old (branch_at b next p) [] ++ take n (drop ((p - from) * 208) come))
+  pub others : (p : ℕ) → (p < from) ⊎ (to ≤ p) → p < b
+      → slice_index_or new (branch_at b next p) [] ≡ slice_index_or old (branch_at b next p) []
+  pub left : (p k : ℕ) → from ≤ p → p < to → k < n → slice_index gone ((p - from) * 208 + k)
+      ≡ slice_index (slice_index_or old (branch_at b next p) [] ++ take n (drop ((p - from) * 208) come)) k
 
 -- The bytes at the places from `from` on and below `to` have gone through: as many leave each branch as have come to
 -- it, and stand where these stood. All other branches and bytes are as before.

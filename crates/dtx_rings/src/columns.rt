@@ -1,4 +1,4 @@
-//! The columns of sixteen places at a time: tiles of sixteen rows are turned into them, and back.
+//! The columns of up to sixteen places at a time: tiles of up to sixteen rows are turned into them, and back.
 
 ghost use Rattle.std.specs.Prelude.{◌≡◌, ℕ, ◌+◌, ◌*◌, ◌/◌, ◌%◌, ◌<◌, ◌≤◌, ◌⊎◌, length, take, slice_index};
 ghost use Rattle.dtx_rings.specs.Tiles.{IsTile, byte_at};
@@ -9,56 +9,59 @@ use std::simd::prelude::*;
 /// How many rows a column has room for.
 pub(crate) const ROWS: usize = 208;
 
-/// Takes the bytes of `W` places of sixteen rows into their columns, from row `at` on.
+/// Takes the bytes of `W` places of some rows into their columns, from row `at` on.
 #[inline(always)]
-pub(crate) fn take_tile<const B: usize, const W: usize>(
-    tile: &[u8],
+pub(crate) fn take_rows<const B: usize, const W: usize>(
+    bytes: &[u8],
     place: usize,
+    count: usize,
     columns: &mut [u8],
     at: usize,
 )
     requires numbers { (B ≤ 64) × (W ≤ 16) × (place + W ≤ B) }
-    requires tile { length tile.now ≡ 16 * B }
+    requires rows { (count ≤ 16) × (count * B + place + W ≤ length bytes.now + B) }
     requires columns { length columns.old ≡ 16 * ROWS }
     requires room { at + 16 ≤ ROWS }
-    ensures taken { (c r : ℕ) → c < W → r < 16
-        → slice_index columns.new (c * 208 + at + r) ≡ slice_index tile.now (place + c + r * B) }
+    ensures taken { (c r : ℕ) → c < W → r < count
+        → slice_index columns.new (c * 208 + at + r) ≡ slice_index bytes.now (place + c + r * B) }
     ensures others { (c r : ℕ) → r < 208 → (r < at) ⊎ (at + 16 ≤ r)
         → slice_index columns.new (c * 208 + r) ≡ slice_index columns.old (c * 208 + r) }
 {
-    put_columns::<W>(&turned(&rows_at::<B, W>(tile, place)), columns, at);
+    put_columns::<W>(&turned(&rows_at::<B, W>(bytes, place, count)), columns, at);
 }
 
-/// Puts what leaves the columns, from row `at` on, to `W` places of sixteen rows.
+/// Puts what leaves the columns, from row `at` on, to `W` places of some rows.
 #[inline(always)]
-pub(crate) fn put_tile<const B: usize, const W: usize>(
+pub(crate) fn put_rows<const B: usize, const W: usize>(
     columns: &[u8],
     at: usize,
-    tile: &mut [u8],
+    bytes: &mut [u8],
     place: usize,
+    count: usize,
 )
     requires numbers { (B ≤ 64) × (W ≤ 16) × (place + W ≤ B) }
-    requires tile { length tile.old ≡ 16 * B }
+    requires rows { (count ≤ 16) × (count * B + place + W ≤ length bytes.old + B) }
     requires columns { length columns.now ≡ 16 * ROWS }
     requires room { at + 16 ≤ ROWS }
-    ensures put { (c r : ℕ) → c < W → r < 16
-        → slice_index tile.new (place + c + r * B) ≡ slice_index columns.now (c * 208 + at + r) }
-    ensures others { (i : ℕ) → (i % B < place) ⊎ (place + W ≤ i % B) → slice_index tile.new i ≡ slice_index tile.old i }
+    ensures put { (c r : ℕ) → c < W → r < count
+        → slice_index bytes.new (place + c + r * B) ≡ slice_index columns.now (c * 208 + at + r) }
+    ensures others { (i : ℕ) → (i % B < place) ⊎ (place + W ≤ i % B)
+        → slice_index bytes.new i ≡ slice_index bytes.old i }
 {
-    put_rows::<B, W>(&turned(&columns_at(columns, at)), tile, place);
+    put_tile::<B, W>(&turned(&columns_at(columns, at)), bytes, place, count);
 }
 
-/// The bytes of `W` places of sixteen rows.
+/// The bytes of `W` places of some rows.
 #[inline(always)]
-fn rows_at<const B: usize, const W: usize>(tile: &[u8], place: usize) -> [u8x16; 16]
+fn rows_at<const B: usize, const W: usize>(bytes: &[u8], place: usize, count: usize) -> [u8x16; 16]
     requires numbers { (B ≤ 64) × (W ≤ 16) × (place + W ≤ B) }
-    requires tile { length tile.now ≡ 16 * B }
+    requires rows { (count ≤ 16) × (count * B + place + W ≤ length bytes.now + B) }
     ensures tile { IsTile result }
-    ensures rows { (r c : ℕ) → r < 16 → c < W → byte_at result r c ≡ slice_index tile.now (place + c + r * B) }
+    ensures rows { (r c : ℕ) → r < count → c < W → byte_at result r c ≡ slice_index bytes.now (place + c + r * B) }
 {
     let mut rows = [u8x16::splat(0); 16];
-    for r in 0..16 {
-        rows[r] = front::<W>(&tile[place + r * B..]);
+    for r in 0..count {
+        rows[r] = front::<W>(&bytes[place + r * B..]);
     }
     rows
 }
@@ -110,17 +113,24 @@ fn columns_at(columns: &[u8], at: usize) -> [u8x16; 16]
     tile
 }
 
-/// Puts `W` bytes of each row of a tile to their places.
+/// Puts `W` bytes of some rows of a tile to their places.
 #[inline(always)]
-fn put_rows<const B: usize, const W: usize>(rows: &[u8x16; 16], tile: &mut [u8], place: usize)
+fn put_tile<const B: usize, const W: usize>(
+    tile: &[u8x16; 16],
+    bytes: &mut [u8],
+    place: usize,
+    count: usize,
+)
     requires numbers { (B ≤ 64) × (W ≤ 16) × (place + W ≤ B) }
-    requires rows { IsTile rows.now }
-    requires tile { length tile.old ≡ 16 * B }
-    ensures put { (c r : ℕ) → c < W → r < 16 → slice_index tile.new (place + c + r * B) ≡ byte_at rows.now r c }
-    ensures others { (i : ℕ) → (i % B < place) ⊎ (place + W ≤ i % B) → slice_index tile.new i ≡ slice_index tile.old i }
+    requires tile { IsTile tile.now }
+    requires rows { (count ≤ 16) × (count * B + place + W ≤ length bytes.old + B) }
+    ensures put { (c r : ℕ) → c < W → r < count
+        → slice_index bytes.new (place + c + r * B) ≡ byte_at tile.now r c }
+    ensures others { (i : ℕ) → (i % B < place) ⊎ (place + W ≤ i % B)
+        → slice_index bytes.new i ≡ slice_index bytes.old i }
 {
-    for r in 0..16 {
-        put_front::<W>(rows[r], &mut tile[place + r * B..place + r * B + W]);
+    for r in 0..count {
+        put_front::<W>(tile[r], &mut bytes[place + r * B..place + r * B + W]);
     }
 }
 

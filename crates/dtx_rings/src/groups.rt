@@ -1,115 +1,135 @@
-//! Some places' bytes of a call, by way of columns. A call has whole tiles of sixteen rows, and a last one, whose front
-//! its remaining bytes fill.
+//! Some places' bytes of a call, by way of columns. A call has whole tiles of sixteen rows, and fewer rows behind them.
 
 ghost use Rattle.std.specs.Prelude.{◌≡◌, ℕ, ◌+◌, ◌-◌, ◌*◌, ◌/◌, ◌%◌, ◌<◌, ◌≤◌, ◌⊎◌, length, slice_index};
-ghost use Rattle.dtx_rings.specs.Rings.{lists_of, tiled, in_tiles, ArePassed};
+ghost use Rattle.dtx_rings.specs.Rings.{lists_of, count_at, IsEven, ArePassed};
 
-use crate::columns::{ROWS, put_tile, take_tile};
-use crate::rings::{branch_at, count_at, exchange_at};
+use crate::columns::{ROWS, put_rows, take_rows};
+use crate::rings::{Places, count_at, exchange_columns};
 use crate::scratch::Columns;
 use circular_buffer::HeapCircularBuffer;
 
-/// Where a group of places begins: at `place`, where the byte at place 0 comes to ring `next`.
-#[derive(Clone, Copy)]
-pub(crate) struct Group {
-    pub(crate) next: usize,
-    pub(crate) place: usize,
-}
-
-/// Passes the bytes of `W` places.
+/// Passes the bytes of `W` places from `place` on, to each of which as many bytes come. The byte at place 0 comes to
+/// ring `next`.
 #[inline(never)]
 pub(crate) fn pass_group<const B: usize, const W: usize>(
     rings: &mut [HeapCircularBuffer<u8>],
-    group: Group,
+    next: usize,
+    place: usize,
     bytes: &mut [u8],
-    last: &mut [u8],
     columns: &mut Columns,
 )
-    requires numbers { (B ≤ 64) × (group.next < B) }
-    requires places { (W ≤ 16) × (group.place + W ≤ B) }
+    requires numbers { (B ≤ 64) × (next < B) }
+    requires places { (W ≤ 16) × (place + W ≤ B) }
+    requires even { IsEven B place W (length bytes.old) }
     requires rings { length rings.old ≡ B }
     requires room { length bytes.old < ROWS * B }
-    requires last { length last.old ≡ 16 * B }
-    ensures passed { ArePassed B group.next group.place (group.place + W) (lists_of rings.old) (lists_of rings.new)
-        (in_tiles B bytes.old last.old) (in_tiles B bytes.new last.new) }
+    ensures passed { ArePassed B next place (place + W) (lists_of rings.old) (lists_of rings.new) bytes.old bytes.new }
     ensures rings { length rings.new ≡ B }
 {
-    let (next, place) = (group.next, group.place);
+    let count = count_at::<B>(bytes.len(), place);
+    let places = Places {
+        next,
+        first: place,
+        width: W,
+    };
     let come = &mut columns.come[..];
     let gone = &mut columns.gone[..];
-    gather::<B, W>(bytes, last, place, come);
-    for c in 0..W {
-        let count = count_at::<B>(bytes.len(), place + c);
-        let column = c * ROWS..c * ROWS + count;
-        let branch = branch_at::<B>(next, place + c);
-        exchange_at(
-            rings,
-            branch,
-            &come[column.start..column.end],
-            &mut gone[column.start..column.end],
-        );
-    }
-    scatter::<B, W>(gone, place, bytes, last);
+    gather::<B, W>(bytes, place, come);
+    exchange_columns(rings, places, count, come, gone);
+    scatter::<B, W>(gone, place, bytes);
 }
 
 /// Takes the bytes of `W` places into their columns.
 #[inline(always)]
-fn gather<const B: usize, const W: usize>(
-    bytes: &[u8],
-    last: &[u8],
-    place: usize,
-    columns: &mut [u8],
-)
+fn gather<const B: usize, const W: usize>(bytes: &[u8], place: usize, columns: &mut [u8])
     requires numbers { (0 < B) × (B ≤ 64) × (W ≤ 16) × (place + W ≤ B) }
+    requires even { IsEven B place W (length bytes.now) }
     requires room { length bytes.now < ROWS * B }
-    requires last { length last.now ≡ 16 * B }
     requires columns { length columns.old ≡ 16 * ROWS }
-    ensures whole { (c k : ℕ) → c < W → k < tiled B (length bytes.now)
+    ensures { (c k : ℕ) → c < W → k < count_at B (length bytes.now) place
         → slice_index columns.new (c * 208 + k) ≡ slice_index bytes.now (place + c + k * B) }
-    ensures last { (c k : ℕ) → c < W → k < 16 → slice_index columns.new (c * 208 + (tiled B (length bytes.now) + k))
-        ≡ slice_index last.now (place + c + k * B) }
 {
     let tiles = bytes.len() / (16 * B);
     for t in 0..tiles {
-        take_tile::<B, W>(
-            &bytes[t * 16 * B..t * 16 * B + 16 * B],
-            place,
-            columns,
-            t * 16,
-        );
+        let tile = &bytes[t * 16 * B..t * 16 * B + 16 * B];
+        take_rows::<B, W>(tile, place, 16, columns, t * 16);
     }
-    take_tile::<B, W>(last, place, columns, tiles * 16);
+    take_last::<B, W>(&bytes[tiles * 16 * B..], place, columns, tiles * 16);
+}
+
+/// Takes the bytes behind whole tiles. The counts of a group of four packets have calls of their own, in which they
+/// are known before the program runs.
+#[inline(always)]
+fn take_last<const B: usize, const W: usize>(
+    bytes: &[u8],
+    place: usize,
+    columns: &mut [u8],
+    at: usize,
+)
+    requires numbers { (0 < B) × (B ≤ 64) × (W ≤ 16) × (place + W ≤ B) }
+    requires even { IsEven B place W (length bytes.now) }
+    requires few { length bytes.now < 16 * B }
+    requires columns { length columns.old ≡ 16 * ROWS }
+    requires room { at + 16 ≤ ROWS }
+    ensures taken { (c r : ℕ) → c < W → r < count_at B (length bytes.now) place
+        → slice_index columns.new (c * 208 + at + r) ≡ slice_index bytes.now (place + c + r * B) }
+    ensures others { (c r : ℕ) → r < 208 → (r < at) ⊎ (at + 16 ≤ r)
+        → slice_index columns.new (c * 208 + r) ≡ slice_index columns.old (c * 208 + r) }
+{
+    let count = count_at::<B>(bytes.len(), place);
+    if count == 16 {
+        take_rows::<B, W>(bytes, place, 16, columns, at);
+    } else if count == 15 {
+        take_rows::<B, W>(bytes, place, 15, columns, at);
+    } else {
+        take_rows::<B, W>(bytes, place, count, columns, at);
+    }
 }
 
 /// Puts what leaves the columns of `W` places to these.
 #[inline(always)]
-fn scatter<const B: usize, const W: usize>(
-    columns: &[u8],
-    place: usize,
-    bytes: &mut [u8],
-    last: &mut [u8],
-)
+fn scatter<const B: usize, const W: usize>(columns: &[u8], place: usize, bytes: &mut [u8])
     requires numbers { (0 < B) × (B ≤ 64) × (W ≤ 16) × (place + W ≤ B) }
+    requires even { IsEven B place W (length bytes.old) }
     requires room { length bytes.old < ROWS * B }
-    requires last { length last.old ≡ 16 * B }
     requires columns { length columns.now ≡ 16 * ROWS }
-    ensures whole { (c k : ℕ) → c < W → k < tiled B (length bytes.old)
+    ensures put { (c k : ℕ) → c < W → k < count_at B (length bytes.old) place
         → slice_index bytes.new (place + c + k * B) ≡ slice_index columns.now (c * 208 + k) }
-    ensures last { (c k : ℕ) → c < W → k < 16 → slice_index last.new (place + c + k * B)
-        ≡ slice_index columns.now (c * 208 + (tiled B (length bytes.old) + k)) }
     ensures others { (i : ℕ) → (i % B < place) ⊎ (place + W ≤ i % B)
         → slice_index bytes.new i ≡ slice_index bytes.old i }
-    ensures others_of_last { (i : ℕ) → (i % B < place) ⊎ (place + W ≤ i % B)
-        → slice_index last.new i ≡ slice_index last.old i }
 {
     let tiles = bytes.len() / (16 * B);
     for t in 0..tiles {
-        put_tile::<B, W>(
-            columns,
-            t * 16,
-            &mut bytes[t * 16 * B..t * 16 * B + 16 * B],
-            place,
-        );
+        let tile = &mut bytes[t * 16 * B..t * 16 * B + 16 * B];
+        put_rows::<B, W>(columns, t * 16, tile, place, 16);
     }
-    put_tile::<B, W>(columns, tiles * 16, last, place);
+    put_last::<B, W>(columns, tiles * 16, &mut bytes[tiles * 16 * B..], place);
+}
+
+/// Puts the bytes behind whole tiles.
+#[inline(always)]
+fn put_last<const B: usize, const W: usize>(
+    columns: &[u8],
+    at: usize,
+    bytes: &mut [u8],
+    place: usize,
+)
+    requires numbers { (0 < B) × (B ≤ 64) × (W ≤ 16) × (place + W ≤ B) }
+    requires even { IsEven B place W (length bytes.old) }
+    requires few { length bytes.old < 16 * B }
+    requires columns { length columns.now ≡ 16 * ROWS }
+    requires room { at + 16 ≤ ROWS }
+    ensures put { (c r : ℕ) → c < W → r < count_at B (length bytes.old) place
+        → slice_index bytes.new (place + c + r * B) ≡ slice_index columns.now (c * 208 + at + r) }
+    ensures others { (i : ℕ) → (i % B < place) ⊎ (place + W ≤ i % B)
+        → slice_index bytes.new i ≡ slice_index bytes.old i }
+{
+    let count = count_at::<B>(bytes.len(), place);
+    if count == 16 {
+        put_rows::<B, W>(columns, at, bytes, place, 16);
+    } else if count == 15 {
+        put_rows::<B, W>(columns, at, bytes, place, 15);
+    } else {
+        put_rows::<B, W>(columns, at, bytes, place, count);
+    }
 }

@@ -7,7 +7,7 @@ ghost use Rattle.dtx_laws.specs.Branches.{IsInterleaver, HasWidths, zeroed, alig
 
 use crate::columns::ROWS;
 use crate::rings::{through, zeros};
-use crate::scratch::Scratch;
+use crate::scratch::Columns;
 use crate::widths::Widths;
 use circular_buffer::HeapCircularBuffer;
 use std::alloc::{AllocError, Global};
@@ -19,7 +19,7 @@ pub(crate) struct Lines<W: Widths<B, M>, const B: usize, const M: usize> {
     widths: PhantomData<W>,
     next: usize,
     rings: Vec<HeapCircularBuffer<u8>>,
-    scratch: Scratch,
+    columns: Columns,
 }
 
 impl<W: Widths<B, M>, const B: usize, const M: usize> Model for Lines<W, B, M> {
@@ -47,7 +47,7 @@ impl<W: Widths<B, M>, const B: usize, const M: usize> Lines<W, B, M> {
             widths: PhantomData,
             next: 0,
             rings,
-            scratch: Scratch::new(),
+            columns: Columns::new(),
         })
     }
 
@@ -69,7 +69,7 @@ impl<W: Widths<B, M>, const B: usize, const M: usize> Lines<W, B, M> {
         self.known();
         let mut done = 0;
         while done < bytes.len() {
-            let count = (bytes.len() - done).min(ROWS * B - 1);
+            let count = (bytes.len() - done).min((ROWS - 1) * B);
             self.pass_some(&mut bytes[done..done + count]);
             done += count;
         }
@@ -88,6 +88,7 @@ impl<W: Widths<B, M>, const B: usize, const M: usize> Lines<W, B, M> {
         ensures bytes { bytes.new ≡ leaving_all B self.old bytes.old }
         ensures branches { self.new ≡ after_all B self.old bytes.old }
     {
-        self.next = through::<B>(&mut self.rings, self.next, bytes, &mut self.scratch);
+        through::<B>(&mut self.rings, self.next, bytes, &mut self.columns);
+        self.next = (self.next + bytes.len()) % B;
     }
 }

@@ -1,13 +1,13 @@
 //! Rings to which bytes come in rows.
 
-ghost use Rattle.std.specs.Prelude.{◌≡◌, ◌+◌, ◌*◌, ◌%◌, ◌<◌, ◌≤◌, ◌++◌, length, take, drop, replicate, IfOk, []};
-ghost use Rattle.std.specs.Prelude.{slice_index_or, slice_set};
+ghost use Rattle.std.specs.Prelude.{◌≡◌, ℕ, ◌+◌, ◌*◌, ◌%◌, ◌<◌, ◌≤◌, ◌++◌, length, take, drop, replicate, IfOk};
+ghost use Rattle.std.specs.Prelude.{slice_index};
 ghost use Rattle.circular_buffer.specs.Buffer.{Buffer, buffer};
-ghost use Rattle.dtx_rings.specs.Rings.{lists_of, branch_at, count_at, in_tiles, ArePassed};
+ghost use Rattle.dtx_rings.specs.Rings.{lists_of, branch_at, count_at, IsEven, AreExchanged, ArePassed};
 
 use crate::columns::ROWS;
-use crate::groups::{Group, pass_group};
-use crate::scratch::{Columns, Scratch};
+use crate::groups::pass_group;
+use crate::scratch::Columns;
 use circular_buffer::HeapCircularBuffer;
 use std::alloc::{AllocError, Global};
 use std::simd::prelude::*;
@@ -23,89 +23,79 @@ pub(crate) fn zeros(alloc: Global, count: usize) -> Result<HeapCircularBuffer<u8
     Ok(ring)
 }
 
-/// Replaces the bytes, of which the first comes to ring `next`, by those that leave, and gives the next ring.
+/// Places that follow each other: `width` of them from `first` on, where the byte at place 0 comes to ring `next`.
+#[derive(Clone, Copy)]
+pub(crate) struct Places {
+    pub(crate) next: usize,
+    pub(crate) first: usize,
+    pub(crate) width: usize,
+}
+
+/// Replaces the bytes, of which the first comes to ring `next`, by those that leave.
 pub(crate) fn through<const B: usize>(
     rings: &mut [HeapCircularBuffer<u8>],
     next: usize,
     bytes: &mut [u8],
-    scratch: &mut Scratch,
-) -> usize
-    requires numbers { (B ≤ 64) × (next < B) }
-    requires rings { length rings.old ≡ B }
-    requires room { length bytes.old < ROWS * B }
-    ensures passed { ArePassed B next 0 B (lists_of rings.old) (lists_of rings.new) bytes.old bytes.new }
-    ensures rings { length rings.new ≡ B }
-    ensures turn { result ≡ (next + length bytes.old) % B }
-{
-    let last = &mut scratch.last[..];
-    let start = bytes.len() / (16 * B) * 16 * B;
-    let rest = bytes.len() - start;
-    last[..rest].copy_from_slice(&bytes[start..]);
-    pass_places::<B>(
-        rings,
-        next,
-        bytes,
-        &mut last[..16 * B],
-        &mut scratch.columns,
-    );
-    bytes[start..].copy_from_slice(&last[..rest]);
-    (next + bytes.len()) % B
-}
-
-/// Passes the bytes of all places, group after group.
-fn pass_places<const B: usize>(
-    rings: &mut [HeapCircularBuffer<u8>],
-    next: usize,
-    bytes: &mut [u8],
-    last: &mut [u8],
     columns: &mut Columns,
 )
     requires numbers { (B ≤ 64) × (next < B) }
     requires rings { length rings.old ≡ B }
     requires room { length bytes.old < ROWS * B }
-    requires last { length last.old ≡ 16 * B }
-    ensures passed { ArePassed B next 0 B (lists_of rings.old) (lists_of rings.new) (in_tiles B bytes.old last.old)
-        (in_tiles B bytes.new last.new) }
+    ensures passed { ArePassed B next 0 B (lists_of rings.old) (lists_of rings.new) bytes.old bytes.new }
     ensures rings { length rings.new ≡ B }
 {
     let mut done = 0;
     while done < B {
-        done += pass_next::<B>(rings, Group { next, place: done }, bytes, last, columns);
+        done += pass_next::<B>(rings, next, done, bytes, columns);
     }
 }
 
-/// Passes the bytes of as many places from a group's on as a group can have, and gives how many.
+/// Passes the bytes of as many places from one on as a group can have, and gives how many. As many bytes come to each
+/// of a group's places.
 fn pass_next<const B: usize>(
     rings: &mut [HeapCircularBuffer<u8>],
-    group: Group,
+    next: usize,
+    place: usize,
     bytes: &mut [u8],
-    last: &mut [u8],
     columns: &mut Columns,
 ) -> usize
-    requires numbers { (B ≤ 64) × (group.next < B) × (group.place < B) }
+    requires numbers { (B ≤ 64) × (next < B) × (place < B) }
     requires rings { length rings.old ≡ B }
     requires room { length bytes.old < ROWS * B }
-    requires last { length last.old ≡ 16 * B }
-    ensures some { (0 < result) × (group.place + result ≤ B) }
-    ensures passed { ArePassed B group.next group.place (group.place + result) (lists_of rings.old) (lists_of rings.new)
-        (in_tiles B bytes.old last.old) (in_tiles B bytes.new last.new) }
+    ensures some { (0 < result) × (place + result ≤ B) }
+    ensures passed { ArePassed B next place (place + result) (lists_of rings.old) (lists_of rings.new) bytes.old
+        bytes.new }
     ensures rings { length rings.new ≡ B }
 {
-    let left = B - group.place;
+    let left = even_from::<B>(bytes.len(), place);
     if left >= 16 {
-        pass_group::<B, 16>(rings, group, bytes, last, columns);
+        pass_group::<B, 16>(rings, next, place, bytes, columns);
         return 16;
     }
     if left >= 12 {
-        pass_group::<B, 12>(rings, group, bytes, last, columns);
+        pass_group::<B, 12>(rings, next, place, bytes, columns);
         return 12;
     }
     if left >= 4 {
-        pass_group::<B, 4>(rings, group, bytes, last, columns);
+        pass_group::<B, 4>(rings, next, place, bytes, columns);
         return 4;
     }
-    pass_group::<B, 1>(rings, group, bytes, last, columns);
+    pass_group::<B, 1>(rings, next, place, bytes, columns);
     1
+}
+
+/// To how many places from one on as many of so many bytes come.
+fn even_from<const B: usize>(len: usize, place: usize) -> usize
+    requires below { place < B }
+    ensures some { 0 < result }
+    ensures even { (w : ℕ) → w ≤ result → (place + w ≤ B) × IsEven B place w len }
+{
+    let rest = len % B;
+    if place < rest {
+        rest - place
+    } else {
+        B - place
+    }
 }
 
 /// How many of so many bytes come to a place.
@@ -118,55 +108,87 @@ pub(crate) fn count_at<const B: usize>(len: usize, place: usize) -> usize
     len / B + if place < len % B { 1 } else { 0 }
 }
 
-/// The ring to which the byte at a place comes.
-pub(crate) fn branch_at<const B: usize>(next: usize, place: usize) -> usize
-    requires few { B ≤ 64 }
-    requires below { (next < B) × (place < B) }
-    ensures is { result ≡ branch_at B next place }
-    ensures below { result < B }
+/// Puts columns behind the items of their rings, and as many bytes from their front into `gone`.
+///
+/// No other function lends rings, so the compiler builds the lending into this one.
+#[inline(never)]
+pub(crate) fn exchange_columns(
+    rings: &mut [HeapCircularBuffer<u8>],
+    places: Places,
+    count: usize,
+    come: &[u8],
+    gone: &mut [u8],
+)
+    requires few { length rings.old ≤ 64 }
+    requires places { (places.next < length rings.old) × (places.first + places.width ≤ length rings.old) }
+    requires columns { (places.width ≤ 16) × (length come.now ≡ 16 * ROWS) × (length gone.old ≡ 16 * ROWS) }
+    requires rows { count ≤ ROWS }
+    ensures { AreExchanged (length rings.old) places.next places.first (places.first + places.width) count
+        (lists_of rings.old) (lists_of rings.new) come.now gone.new }
 {
-    if next + place < B {
-        next + place
-    } else {
-        next + place - B
+    let branches = rings.len();
+    for c in 0..places.width {
+        let branch = branch_at(branches, places.next, places.first + c);
+        exchange_at(
+            &mut rings[branch],
+            count,
+            &come[c * ROWS..c * ROWS + ROWS],
+            &mut gone[c * ROWS..c * ROWS + ROWS],
+        );
     }
 }
 
-/// Puts a column behind the items of a ring, and as many bytes from their front into `gone`.
-pub(crate) fn exchange_at(
-    rings: &mut [HeapCircularBuffer<u8>],
-    branch: usize,
-    column: &[u8],
-    gone: &mut [u8],
-)
-    requires below { branch < length rings.old }
-    requires room { length gone.old ≡ length column.now }
-    ensures gone { gone.new ≡ take (length column.now) (slice_index_or (lists_of rings.old) branch [] ++ column.now) }
-    ensures rings { lists_of rings.new ≡ slice_set (lists_of rings.old) branch
-        (drop (length column.now) (slice_index_or (lists_of rings.old) branch [] ++ column.now)) }
+/// The ring, of so many, to which the byte at a place comes.
+fn branch_at(branches: usize, next: usize, place: usize) -> usize
+    requires few { branches ≤ 64 }
+    requires below { (next < branches) × (place < branches) }
+    ensures is { result ≡ branch_at branches next place }
+    ensures below { result < branches }
 {
-    lent(&mut rings[branch], column, gone);
+    if next + place < branches {
+        next + place
+    } else {
+        next + place - branches
+    }
 }
 
-/// Puts a column behind the items of a ring, and as many bytes from their front into `gone`.
-fn lent(ring: &mut HeapCircularBuffer<u8>, column: &[u8], gone: &mut [u8])
-    requires { length gone.old ≡ length column.now }
-    ensures gone { gone.new ≡ take (length column.now) (ring.old.items ++ column.now) }
-    ensures items { ring.new ≡ buffer (drop (length column.now) (ring.old.items ++ column.now)) ring.old.capacity }
+/// Puts so many bytes of a column behind the items of a ring, and as many bytes from their front into `gone`.
+#[inline(always)]
+fn exchange_at(ring: &mut HeapCircularBuffer<u8>, count: usize, column: &[u8], gone: &mut [u8])
+    requires columns { (length column.now ≡ ROWS) × (length gone.old ≡ ROWS) }
+    requires rows { count ≤ ROWS }
+    ensures gone { (k : ℕ) → k < count
+        → slice_index gone.new k ≡ slice_index (ring.old.items ++ take count column.now) k }
+    ensures items { ring.new.items ≡ drop count (ring.old.items ++ take count column.now) }
 {
-    exchange(ring.make_contiguous(), column, gone);
+    lent(ring.make_contiguous(), count, column, gone);
+}
+
+/// The same of the items of a ring.
+#[inline(always)]
+fn lent(items: &mut [u8], count: usize, column: &[u8], gone: &mut [u8])
+    requires columns { (length column.now ≡ ROWS) × (length gone.old ≡ ROWS) }
+    requires rows { count ≤ ROWS }
+    ensures gone { (k : ℕ) → k < count
+        → slice_index gone.new k ≡ slice_index (items.old ++ take count column.now) k }
+    ensures items { items.new ≡ drop count (items.old ++ take count column.now) }
+{
+    if count <= 16 {
+        exchange_few(items, count, u8x16::from_slice(column)).copy_to_slice(gone);
+    } else {
+        exchange_many(items, &column[..count], &mut gone[..count]);
+    }
 }
 
 /// Puts a column behind the items, and as many bytes from their front into `gone`.
-fn exchange(items: &mut [u8], column: &[u8], gone: &mut [u8])
+#[inline(never)]
+fn exchange_many(items: &mut [u8], column: &[u8], gone: &mut [u8])
     requires { length gone.old ≡ length column.now }
     ensures gone { gone.new ≡ take (length column.now) (items.old ++ column.now) }
     ensures items { items.new ≡ drop (length column.now) (items.old ++ column.now) }
 {
     let (len, count) = (items.len(), column.len());
-    if count == 16 && len >= 16 {
-        exchange_sixteen(items, column, gone);
-    } else if count <= len {
+    if count <= len {
         gone.copy_from_slice(&items[..count]);
         items.copy_within(count.., 0);
         items[len - count..].copy_from_slice(column);
@@ -177,16 +199,75 @@ fn exchange(items: &mut [u8], column: &[u8], gone: &mut [u8])
     }
 }
 
-/// The same of sixteen bytes, which are fewer than the items or as many.
-fn exchange_sixteen(items: &mut [u8], column: &[u8], gone: &mut [u8])
-    requires room { (length gone.old ≡ 16) × (length column.now ≡ 16) }
-    requires items { 16 ≤ length items.old }
-    ensures gone { gone.new ≡ take 16 (items.old ++ column.now) }
-    ensures items { items.new ≡ drop 16 (items.old ++ column.now) }
+/// Puts so many bytes of a column behind the items, and gives as many from their front. What most calls do is built
+/// into the loop over the rings, and nothing else.
+#[inline(always)]
+fn exchange_few(items: &mut [u8], count: usize, column: u8x16) -> u8x16
+    requires rows { count ≤ 16 }
+    requires column { length column ≡ 16 }
+    ensures long { length result ≡ 16 }
+    ensures gone { (k : ℕ) → k < count → slice_index result k ≡ slice_index (items.old ++ take count column) k }
+    ensures items { items.new ≡ drop count (items.old ++ take count column) }
 {
-    let end = items.len() - 16;
+    if count == 16 && items.len() >= 32 {
+        exchange_sixteen(items, column)
+    } else {
+        exchange_some(items, count, column)
+    }
+}
+
+/// The same of any count and any items.
+#[inline(never)]
+fn exchange_some(items: &mut [u8], count: usize, column: u8x16) -> u8x16
+    requires rows { count ≤ 16 }
+    requires column { length column ≡ 16 }
+    ensures long { length result ≡ 16 }
+    ensures gone { (k : ℕ) → k < count → slice_index result k ≡ slice_index (items.old ++ take count column) k }
+    ensures items { items.new ≡ drop count (items.old ++ take count column) }
+{
+    let len = items.len();
+    if len < 16 {
+        return exchange_short(items, count, column);
+    }
     let first = u8x16::from_slice(items);
-    items.copy_within(16.., 0);
-    u8x16::from_slice(column).copy_to_slice(&mut items[end..]);
-    first.copy_to_slice(gone);
+    items.copy_within(count.., 0);
+    items[len - count..].copy_from_slice(&column.to_array()[..count]);
+    first
+}
+
+/// The same where the items are fewer than sixteen.
+fn exchange_short(items: &mut [u8], count: usize, column: u8x16) -> u8x16
+    requires rows { count ≤ 16 }
+    requires column { length column ≡ 16 }
+    requires short { length items.old < 16 }
+    ensures long { length result ≡ 16 }
+    ensures gone { (k : ℕ) → k < count → slice_index result k ≡ slice_index (items.old ++ take count column) k }
+    ensures items { items.new ≡ drop count (items.old ++ take count column) }
+{
+    let len = items.len();
+    let mut joined = [0u8; 32];
+    joined[..len].copy_from_slice(items);
+    column.copy_to_slice(&mut joined[len..]);
+    items.copy_from_slice(&joined[count..count + len]);
+    u8x16::from_slice(&joined)
+}
+
+/// The same of sixteen bytes, where the items are at least twice as many.
+#[inline(always)]
+fn exchange_sixteen(items: &mut [u8], column: u8x16) -> u8x16
+    requires column { length column ≡ 16 }
+    requires long { 32 ≤ length items.old }
+    ensures long { length result ≡ 16 }
+    ensures gone { (k : ℕ) → k < 16 → slice_index result k ≡ slice_index items.old k }
+    ensures items { items.new ≡ drop 16 (items.old ++ column) }
+{
+    let len = items.len();
+    let first = u8x16::from_slice(items);
+    let last = u8x16::from_slice(&items[len - 16..]);
+    for i in 0..len / 16 - 1 {
+        u8x16::from_slice(&items[16 * i + 16..]).copy_to_slice(&mut items[16 * i..]);
+    }
+    last.copy_to_slice(&mut items[len - 32..]);
+    column.copy_to_slice(&mut items[len - 16..]);
+    first
 }

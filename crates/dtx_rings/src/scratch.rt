@@ -6,9 +6,6 @@ use crate::columns::ROWS;
 /// The room of sixteen columns.
 const ROOM: usize = 16 * ROWS;
 
-/// The room of a tile of the most branches.
-const LAST: usize = 16 * 64;
-
 /// The columns that come to the rings, and those that leave them.
 #[derive(Drop)]
 pub(crate) struct Columns {
@@ -16,23 +13,12 @@ pub(crate) struct Columns {
     pub(crate) gone: [u8; ROOM],
 }
 
-/// The columns of a group of places, and the last tile of a call.
-#[derive(Drop)]
-pub(crate) struct Scratch {
-    pub(crate) columns: Columns,
-    pub(crate) last: [u8; LAST],
-}
-
-impl Scratch {
+impl Columns {
     /// Of zeros.
-    pub(crate) fn new() -> Scratch {
-        let columns = Columns {
+    pub(crate) fn new() -> Columns {
+        Columns {
             come: [0; ROOM],
             gone: [0; ROOM],
-        };
-        Scratch {
-            columns,
-            last: [0; LAST],
         }
     }
 }

@@ -1,22 +1,23 @@
-use Rattle.std.proofs.Common.{◌≡◌, ℕ, ◌+◌, ◌-◌, get_or, sym, ap, ◌∙◌, arith}
-use Rattle.std.proofs.lemmas.List.{take-append-le}
-use Rattle.std.proofs.lemmas.Simd.{put_chunk_whole, length-chunk}
-use Rattle.dtx_rings.proofs.Written.{sixteen_on}
+use Rattle.std.proofs.Common.{◌≡◌, ℕ, ◌+◌, ◌-◌, ◌/◌, length, get_or, subst, ap, ◌∙◌, arith}
+use Rattle.std.proofs.lemmas.Simd.{get_or-chunk}
+use Rattle.dtx_rings.proofs.Written.{AreMoved, moved_more, sixteen_on}
 use Rattle.dtx_rings.proofs.rings.exchange_sixteen.Goals as goal
-use lib.Lanes.{chunk}
+
+pub loop-i-preserved : goal.loop-i-preserved
+loop-i-preserved c =
+    moved_more c.loop-i.i c.args.items.now c.loop-i.items (omega (arith, c.loop-i-test.true)) c.loop-i.auto.items
+    c.loop-i.invariant
 
 pub returns-clause-gone : goal.returns-clause-gone
-returns-clause-gone c =
-    put_chunk_whole c.args.gone.now (chunk 0 16 c.args.items.now)
-    (c.requires.room.0 ∙ sym (length-chunk 0 16 c.args.items.now c.requires.items))
-    ∙ sym (take-append-le 16 c.args.items.now c.args.column.now c.requires.items)
+returns-clause-gone c = λ k l.
+    get_or-chunk 0 16 c.args.items.now k 0 l ∙ ap (λ n. get_or c.args.items.now n 0) (none k)
+  where
+    none : (n : ℕ) → 0 + n ≡ n
+    none n = omega arith
 
 pub returns-clause-items : goal.returns-clause-items
 returns-clause-items c =
-    sixteen_on c.args.items.now c.args.column.now c.copy_within.new.self c.requires.items c.requires.room.1
-    c.copy_within.ensures.len
-    (λ k l. c.copy_within.ensures.by_index.0 k 0 (omega arith) (omega (arith, l))
-    ∙ ap (λ n. get_or c.args.items.now n 0) (from k))
-  where
-    from : (k : ℕ) → 16 + (k - 0) ≡ 16 + k
-    from k = omega arith
+    let all : c.loop-i.i ≡ length c.args.items.now / 16 - 1 =
+    omega (arith, c.loop-i-test.false, c.loop-i.auto.i-end) in
+    sixteen_on c.args.items.now c.args.column c.loop-i.items c.requires.long c.requires.column c.loop-i.auto.items
+    (subst (λ (i : ℕ). AreMoved i c.args.items.now c.loop-i.items) all c.loop-i.invariant)

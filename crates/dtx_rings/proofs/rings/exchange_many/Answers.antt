@@ -1,6 +1,6 @@
 use Rattle.std.proofs.Common.{rules, arith}
 use Rattle.std.proofs.lemmas.List.{same_lists, places}
-use Rattle.dtx_rings.proofs.rings.exchange.Goals as goal
+use Rattle.dtx_rings.proofs.rings.exchange_many.Goals as goal
 
 pub returns-else-count-len-clause-gone : goal.returns-else-count-len-clause-gone
 returns-else-count-len-clause-gone c = same_lists _ _ (search (rules, places)) (λ k d h. grind (arith, places))

@@ -1,13 +1,12 @@
 use Rattle.std.proofs.Common.{◌+◌, arith}
-use Rattle.dtx_rings.specs.Rings.{lists_of, in_tiles}
+use Rattle.dtx_rings.specs.Rings.{lists_of}
 use Rattle.dtx_rings.proofs.Places.{none_passed, passed_on}
-use Rattle.dtx_rings.proofs.rings.pass_places.Goals as goal
+use Rattle.dtx_rings.proofs.rings.through.Goals as goal
 
 pub loop-done-init : goal.loop-done-init
 loop-done-init g c = record {
   within = omega arith;
-  passed = none_passed g.row.B c.args.next 0 (lists_of c.args.rings.now)
-      (in_tiles g.row.B c.args.bytes.now c.args.last.now);
+  passed = none_passed g.row.B c.args.next 0 (lists_of c.args.rings.now) c.args.bytes.now;
   count = c.requires.rings;
 }
 
@@ -19,10 +18,8 @@ loop-done-preserved g c =
     record {
       within = e.some.1;
       passed = passed_on g.row.B c.args.next 0 done (done + c.pass_next-done.result) (lists_of c.args.rings.now)
-          (lists_of c.loop-done.rings) (lists_of c.pass_next-done.new.rings)
-          (in_tiles g.row.B c.args.bytes.now c.args.last.now)
-          (in_tiles g.row.B c.loop-done.bytes c.loop-done.last)
-          (in_tiles g.row.B c.pass_next-done.new.bytes c.pass_next-done.new.last) (omega arith) (omega arith) e.some.1
+          (lists_of c.loop-done.rings) (lists_of c.pass_next-done.new.rings) c.args.bytes.now c.loop-done.bytes
+          c.pass_next-done.new.bytes (omega arith) (omega arith) e.some.1
           (omega (arith, c.loop-done-test.true)) h.passed e.passed;
       count = e.rings;
     }

@@ -1,12 +1,11 @@
 use Rattle.std.proofs.Common.{◌≡◌, ◌-◌, ◌≤◌, length}
-use Rattle.dtx_rings.specs.Rings.{lists_of, in_tiles, ArePassed}
-use Rattle.dtx_rings.proofs.rings.pass_places.Given as goal
+use Rattle.dtx_rings.specs.Rings.{lists_of, ArePassed}
+use Rattle.dtx_rings.proofs.rings.through.Given as goal
 
 abbrev pub invariant-loop-done : goal.invariant-loop-done
 invariant-loop-done g l = record {
   within : l.done ≤ g.row.B;
-  passed : ArePassed g.row.B l.next 0 l.done (lists_of l.fn.rings) (lists_of l.rings)
-      (in_tiles g.row.B l.fn.bytes l.fn.last) (in_tiles g.row.B l.bytes l.last);
+  passed : ArePassed g.row.B l.next 0 l.done (lists_of l.fn.rings) (lists_of l.rings) l.fn.bytes l.bytes;
   count : length l.rings ≡ g.row.B;
 }
 
