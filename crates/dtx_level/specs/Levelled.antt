@@ -66,8 +66,8 @@ levelled symbols = where_some (all_syncs symbols) (levelled_behind nothing symbo
 
 -- ---- piece by piece
 
--- Of how many symbols it is known what they become, whatever follows: of those before the last sync. Where the next one
--- is looked for it is of all at which none begins, whatever follows.
+-- Of how many symbols it is told what they become, whatever follows: of those before the last sync. Where the next one
+-- is looked for, it is told of all at which none begins, whatever follows.
 abbrev pub known_behind : List ℤ → Option ℕ → ℕ
 known_behind symbols None = 0
 known_behind symbols (Some place) = if is_met symbols place then length symbols - 831 else place

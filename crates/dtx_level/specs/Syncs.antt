@@ -7,7 +7,7 @@ use Rattle.dtx_acquire.specs.Acquired.{due, is_met}
 use Rattle.dtx_level.specs.Shown.{least_shown, shows}
 
 -- The sync behind the one at a place: the next is due 313 segments behind it, where a whole segment stands there. It is
--- at that place where that shows one, else at the least place behind this sync that does.
+-- at that place where that shows one, else at the least place behind this sync's segment that does.
 unfoldable pub behind : List ℤ → ℕ → Option ℕ
 behind symbols place =
     if is_met symbols place then
