@@ -1,15 +1,17 @@
 #!/usr/bin/env bash
 # Measures what is made of the symbols of a feed of 100 MB: `dtx mend` beside `dtx receive`, of symbols of which none is missing; `dtx repeat`
 # beside `receive` and `dtx excite` of what was received; `dtx acquire` beside `dtx soft`, of symbols with noise, and of one that has 10,000,000
-# symbols of noise in front, which are searched. All of it in one run, on one processor where `taskset` is there, each the best of three. It
-# needs 3 GB on the disk of temporary files. The status is 0 where `mend` takes at most 1.25 times as long as `receive`, `repeat` at most 1.1
-# times as long as both others, `acquire` at most 1.2 times as long as `soft`, and the search at most 40 ns a symbol.
+# symbols of noise in front, which are searched; `dtx level` of the same two, beside `acquire`. All of it in one run, on one processor where
+# `taskset` is there, each the best of three. It needs 3 GB on the disk of temporary files. The status is 0 where `mend` takes at most 1.25
+# times as long as `receive`, `repeat` at most 1.1 times as long as both others, `acquire` at most 1.2 times as long as `soft`, `level` at most
+# 1.2 times as long as `acquire`, and a search at most 40 ns a symbol, or 45 ns by `level`.
 
 set -eu
 rounds=3
 packets=531600
 search_symbols=10000000
 search_bar=40
+level_bar=45
 
 . "$(dirname "${BASH_SOURCE[0]}")/timing.sh"
 plan=$top/examples/two-sites.toml
@@ -40,6 +42,12 @@ timed_into() {
     rm -f "$room"/out.*
 }
 
+# searches NAME SEARCH WHOLE BAR: says how long a symbol of the search takes, and whether that is within the bar.
+searches() {
+    awk -v name="$1" -v time=$((best[$2] - best[$3])) -v symbols=$search_symbols -v bar="$4" \
+        'BEGIN { printf "the search of %s takes %.1f ns a symbol (bar: %d)\n", name, time * 1e3 / symbols, bar; exit time * 1e3 > bar * symbols }'
+}
+
 for ((round = 0; round < rounds; round++)); do
     measure receive "$room/out.ts" "$program" receive "$room/feed.sym" "$room/out.ts"
     # What was received has no marks, so an exciter is given as many packets of the feed.
@@ -50,6 +58,8 @@ for ((round = 0; round < rounds; round++)); do
     timed_into soft "$room/out.sym" "$program" soft "$room/noisy.sym" "$room/out.sym"
     timed_into acquire "$room/out.sym" "$program" acquire 1 "$room/noisy.sym" "$room/out.sym"
     timed_into search "$room/out.sym" "$program" acquire 1 "$room/search.sym" "$room/out.sym"
+    timed_into level "$room/out.sym" "$program" level "$room/noisy.sym" "$room/out.sym" "$room/out.log"
+    timed_into levelsearch "$room/out.sym" "$program" level "$room/search.sym" "$room/out.sym" "$room/out.log"
 done
 
 printf 'best of %d%s\n' $rounds "${pinned[*]:+, on one processor}"
@@ -57,6 +67,7 @@ status=0
 within mend 1.25 receive || status=1
 within repeat 1.1 receive excite || status=1
 within acquire 1.2 soft || status=1
-awk -v time=$((best[search] - best[acquire])) -v symbols=$search_symbols -v bar=$search_bar \
-    'BEGIN { printf "the search takes %.1f ns a symbol (bar: %d)\n", time * 1e3 / symbols, bar; exit time * 1e3 > bar * symbols }' || status=1
+within level 1.2 acquire || status=1
+searches acquire search acquire $search_bar || status=1
+searches level levelsearch level $level_bar || status=1
 exit $status
