@@ -30,10 +30,10 @@ pub fn received_undamaged()
         → received (a53 packets) ≡ map (λ k. as_received (slice_index_or packets k [])) (whole_words packets) }
 {}
 
-/// Let a run begin at the field sync before packet f of a stream. Word j of the run's bytes gives packet f + j back if
-/// the word differs from that packet's codeword in at most ten bytes. These are the bytes put right. The packet is
-/// received good and with 0x47 as its sync byte. The run may have any bytes, of any number. If all bytes of word j are
-/// there, its packet is number j of those that the run gives.
+/// Let packet f of a stream begin a field, as the packet after a field sync does. Word j of the bytes of any run gives
+/// packet f + j back if the word differs from that packet's codeword in at most ten bytes. These are the bytes put
+/// right. The packet is received good and with 0x47 as its sync byte. The run may have any bytes, of any number. If all
+/// bytes of word j are there, its packet is number j of those that the run gives.
 pub fn gives_back()
     ensures packet { (packets : List (List ℕ)) (bytes : List ℕ) (f j : ℕ) → ArePackets packets → f % FIELD_PACKETS ≡ 0
         → f + j < length packets → IsNear packets (f + j) (word_at 207 52 4 bytes j)

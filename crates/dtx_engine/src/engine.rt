@@ -30,7 +30,7 @@ pub trait Engine {
     /// What the engine makes of the units, as a definition.
     ghost recipe: { Self → Recipe };
 
-    /// These bytes, and no others, were given to the engine.
+    /// These are the bytes that were given to the engine so far.
     ghost stands: { Self → List ℕ → Type 0 };
 
     /// What the last call has made, where these bytes are now in the buffer that it was lent.
@@ -70,8 +70,8 @@ pub trait Engine {
         ensures outcome { (given : List ℕ) → stands self.old given → result ≡ (recipe self.old).answer given loose }
         ensures rest { (given : List ℕ) → stands self.old given → gives self.new [] ≡ (recipe self.old).rest given };
 
-    /// How many zero bytes the last call has made for the first output, before those of `made`. It can be more than
-    /// memory holds, so that they are counted and not lent.
+    /// How many zero bytes the last call has made for the first output, before those of `made`. There can be more than
+    /// memory holds, so they are only counted.
     fn zeros(&self) -> u64
         ensures { result ≡ zeros self.now };
 

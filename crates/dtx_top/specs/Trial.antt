@@ -48,7 +48,7 @@ trial_network seed count = record {
   receive = Some (record { from = 3; damage = [] });
 }
 
--- the plan of a trial with a stream of that many packets
+-- the plan of a trial whose stream has `count` packets
 abbrev pub trial_plan : ℕ → ℕ → whole.Plan
 trial_plan seed count = record {
   start = 0;

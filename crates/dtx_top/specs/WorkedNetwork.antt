@@ -27,9 +27,9 @@ use Rattle.dtx_plan.specs.declared.transmitter.Transmitter.{Transmitter}
 use Rattle.dtx_top.specs.Networks.{damaged_file}
 
 -- The receiver takes the symbols of the transmitter of this address, with this number of entries of damage laid over
--- them. What it takes is exactly the stretch from packet k to the end of the stream, with slight damage or none. The
--- stretch holds a field sync. The receiver finds one run, from the first field sync on. The run gives its packets whose
--- bytes are all there, in order, with 0x47 as their sync bytes. None is flagged, and there is no other.
+-- them. What it takes is as long as the stretch from packet k to the end of the stream, and is that with slight damage
+-- or none. The stretch holds a field sync. The receiver finds one run, from the first field sync on. The run gives its
+-- packets whose bytes are all there, in order, with 0x47 as their sync bytes. None is flagged, and there is no other.
 pub record IsGivenBack (plan : Plan) (network : NetPlan) (stream : List (List ℕ)) (address k entries : ℕ)
     (receiver : ReceivePlan) : Type 0 where
   pub from : receiver.from ≡ address

@@ -17,7 +17,7 @@ use dtx_words::{Command, command, feed_name, finish, line, name_among, name_in_l
 use std::alloc::Global;
 
 /// Performs the command that the words give, over the files of the shelf, and then prints its line to the sink. The
-/// words are those after the program's name. Gives how the command ended.
+/// words are those after the program's name. Returns how the command ended.
 ///
 /// `adapt PLAN IN OUT` writes the feed of the stream IN under the plan of PLAN to OUT. IN has packets of 188 bytes,
 /// which begin with 0x47. In the feed, byte 0 of packet k is the cadence mark 0xB8 where 624 divides k, and 0x47
@@ -31,7 +31,7 @@ use std::alloc::Global;
 /// `excite FEED ADDRESS DELAY OUT LOG` gives the packets of FEED, which may have any bytes, to one exciter (the
 /// profile's own, over ATSC A/53 Part 2 and in the manner of ATSC A/110). It writes the segments that the exciter sends
 /// to OUT, one signed byte a symbol in two's complement, and its log to LOG. ADDRESS is the transmitter's address, 0 to
-/// 65,535. DELAY is the time that the feed takes to the transmitter, in ticks of 100 ns, 0 to 4,294,967,295. Both are
+/// 65,535. DELAY is how long the feed takes to reach the transmitter, in ticks of 100 ns, 0 to 4,294,967,295. Both are
 /// written as the numbers of `make` are.
 ///
 /// `receive IN OUT` receives the symbols IN, and writes their packets to OUT (ATSC A/53 Part 2, the way back). It
@@ -40,8 +40,8 @@ use std::alloc::Global;
 ///
 /// `net PLAN` plays a network (the profile's own). It adapts the stream that the table `net` of PLAN names to
 /// `net.feed`, and plays the plan's events. What the transmitter of address A sends goes to `tx-A.sym`, and its log to
-/// `tx-A.log`. If the plan asks for a receiver, that takes the symbols of its transmitter, with the plan's damage laid
-/// over them. Their packets go to `net.ts`.
+/// `tx-A.log`. If the plan asks for a receiver, it receives the symbols of its transmitter, with the plan's damage laid
+/// over them. Its packets go to `net.ts`.
 ///
 /// `make SEED COUNT OUT` writes the packets 0 to COUNT - 1 that `dtx_make::packet` gives for SEED to OUT. SEED is 0 to
 /// 2^64 - 1 and COUNT 0 to 624,000,000. Both are decimal digits without a sign, and without a leading zero but in `0`.
@@ -95,8 +95,8 @@ pub fn run<S: Shelf, O: Sink>(alloc: Global, words: &[Word], shelf: &mut S, out:
     ensures carried { IfSome (S.files shelf.old) (λ held. IsDone (means words.now held) (Some held) result
         (Rose (O.counts out.old).faults (O.counts out.new).faults) (S.files shelf.new)) }
 
-    // Let the result be `WriteFault`, while the shelf counted no error of writing. Then the command was done and its
-    // outputs are whole, but its line could not be printed.
+    // Let the files be told. Let the result be `WriteFault`, while the shelf counted no error of writing. Then the
+    // command was done and its outputs are whole, but its line could not be printed.
     ensures unprinted { IfSome (S.files shelf.old) (λ held. result ≡ Status.WriteFault
         → ¬ Rose (S.counts shelf.old).write_faults (S.counts shelf.new).write_faults
         → IsUnprinted (means words.now held) (Some held) result
@@ -114,8 +114,7 @@ pub fn run<S: Shelf, O: Sink>(alloc: Global, words: &[Word], shelf: &mut S, out:
     // counts stand. So lack of memory hides no I/O error and no absent file that was counted.
     ensures gone { HasEnded (S.counts shelf.old) (S.counts shelf.new) (O.counts out.old) (O.counts out.new) result }
 
-    // Told or not: the line is that of the result. It has as many numbers as this line has, but their values are left
-    // open.
+    // Told or not: the line is that of the result. It has the right number of numbers, but their values are left open.
     ensures untold_line { HasLine (IsSomeLine (command_of words.now) words.now) result
         (O.counts out.old) (O.counts out.new) (O.written out.old) (O.written out.new) }
 
