@@ -10,12 +10,12 @@ use Rattle.dtx_acquire.specs.Acquired.{in_groups}
 
 -- ---- symbols
 
--- A symbol differs from the scale times the one that was sent by less than half the distance of two levels, which is
--- the scale.
+-- A symbol differs by less than the scale from the scale times the symbol that was sent. The scale is half the distance
+-- of two levels.
 abbrev pub IsNear : ℕ → ℤ → ℤ → Type 0
 IsNear scale sent symbol = nat_abs (symbol -ℤ (pos scale *ℤ sent)) < scale
 
--- as many symbols as were sent, each near its own
+-- there are as many symbols as were sent, each near the one sent
 pub record AreNear (scale : ℕ) (sent symbols : List ℤ) : Type 0 where
   pub long : length symbols ≡ length sent
   pub near : (i : ℕ) → i < length sent
@@ -23,7 +23,7 @@ pub record AreNear (scale : ℕ) (sent symbols : List ℤ) : Type 0 where
 
 -- ---- segments
 
--- so many levels
+-- these are `count` levels
 pub record AreLevels (count : ℕ) (levels : List ℕ) : Type 0 where
   pub long : length levels ≡ count
   pub small : (d : ℕ) → d < count → slice_index levels d < 8
@@ -41,17 +41,17 @@ pub record IsSync (segment : List ℤ) : Type 0 where
   pub are : AreLevels 12 last
   pub is : segment ≡ field_sync second (map symbol_of last)
 
--- Whole segments, of which those are field syncs that 313 divides, and the others are data segments.
+-- Whole segments. Those whose number is a multiple of 313 are field syncs, and the others are data segments.
 pub record AreInFields (segments : List (List ℤ)) : Type 0 where
   pub syncs : (i : ℕ) → i < length segments → i % 313 ≡ 0 → IsSync (slice_index_or segments i [])
   pub others : (i : ℕ) → i < length segments → i % 313 ≢ 0 → IsData (slice_index_or segments i [])
 
--- of the data segments behind the sync that is segment n those in whole groups
+-- the data segments in whole groups, of those after the field sync that is segment n
 unfoldable pub groups_behind : List (List ℤ) → ℕ → List (List ℤ)
 groups_behind segments n = in_groups (take 312 (drop (n + 1) segments))
 
--- Segments as they are sent, from a field's first on: in the whole groups of each field each coder's symbols are those
--- of a path of the trellis.
+-- Segments as they are sent, from the first of a field on. In the whole groups of each field each coder's symbols are
+-- those of a path of the trellis.
 pub record AreSent (segments : List (List ℤ)) : Type 0 where
   pub segments_are : AreInFields segments
   pub paths : (f e : ℕ) → 313 * f < length segments → e < 12

@@ -1,4 +1,4 @@
-//! Acquires segments from symbols as they come.
+//! An acquirer, which makes segments from symbols as they come.
 
 ghost use Rattle.std.specs.Prelude.{◌≡◌, ℤ, ◌+◌, ◌-◌, ◌*◌, ◌/◌, ◌<◌, ◌≤◌, ◌++◌, true, false, [], List, IfOk};
 ghost use Rattle.std.specs.Prelude.{length, take};
@@ -16,10 +16,10 @@ use std::alloc::{AllocError, Global};
 use std::marker::Model;
 
 /// Finds the fields of a capture that begins anywhere, decides its symbols and restores its syncs (the profile's own;
-/// ATSC A/53 Part 2, data segment sync and data field sync). A symbol that was sent as s lies about `scale * s`. It is
-/// given the symbols in pieces of any length and gives whole segments, a field at a time, without taking memory.
-/// `StandsFor acquirer symbols` says that it holds what these symbols leave, at most those of one field and one
-/// segment.
+/// ATSC A/53 Part 2, data segment sync and data field sync). A symbol that was sent as s is expected near `scale * s`.
+/// The acquirer is given the symbols in pieces of any length, and gives whole segments, a field at a time. It allocates
+/// only in `new`. `StandsFor acquirer symbols` is its invariant: it was given these symbols, and holds less than one
+/// field and one segment of them.
 #[derive(Drop)]
 pub struct Acquirer {
     held: Held,
@@ -53,7 +53,7 @@ impl Model for Acquirer {
 }
 
 impl Acquirer {
-    /// An acquirer to which no symbols were given. The only error is out of memory.
+    /// A new acquirer, for symbols at this scale. The only error is out of memory.
     pub fn new(alloc: Global, scale: u8) -> Result<Acquirer, AllocError>
         requires from { 0 < scale }
         requires to { scale ≤ MAX_SCALE }
@@ -71,8 +71,9 @@ impl Acquirer {
         })
     }
 
-    /// Takes the first of these symbols, behind those that were given before, as many as there is room for until the
-    /// next field is whole, and answers how many. What they bring is `given`.
+    /// Takes symbols that follow those given before, and returns how many it took. It takes no more than it has room
+    /// for until the next field is whole. `given` has the segments that they bring. The caller calls again with the
+    /// rest.
     pub fn take(&mut self, symbols: &[i8]) -> usize
         requires most { self.old.symbols + length symbols.now ≤ MOST_SYMBOLS }
         ensures within { result ≤ length symbols.now }
@@ -95,7 +96,7 @@ impl Acquirer {
         count
     }
 
-    /// Ends: what the end brings is `given`, and the numbers are those of all symbols.
+    /// Ends the symbols. `given` then has the last segments, and the numbers below are those of all symbols.
     pub fn finish(&mut self)
         ensures given { (symbols : List ℤ) → StandsFor self.old symbols
             → self.new.given ≡ acquired_rest self.old.scale symbols }
@@ -117,49 +118,49 @@ impl Acquirer {
         self.on = false;
     }
 
-    /// The segments that the last call has brought.
+    /// The segments that the last call of `take` or `finish` has brought.
     pub fn given(&self) -> &[[i8; SEGMENT]]
         ensures { result.now ≡ self.now.given }
     {
         &self.giver.segments[..self.giver.count]
     }
 
-    /// How many symbols were given to it.
+    /// How many symbols were taken.
     pub fn symbols(&self) -> u64
         ensures { result ≡ self.now.symbols }
     {
         self.symbols
     }
 
-    /// Of how many runs something was given.
+    /// How many runs have given segments.
     pub fn runs(&self) -> u64
         ensures { result ≡ self.now.runs }
     {
         self.giver.runs
     }
 
-    /// How many segments it gave.
+    /// How many segments were given.
     pub fn segments(&self) -> u64
         ensures { result ≡ self.now.segments }
     {
         self.giver.total
     }
 
-    /// What the least paths of all that it gave cost.
+    /// The sum of the costs of the least paths of all that was given.
     pub fn cost(&self) -> u64
         ensures { result ≡ self.now.cost }
     {
         self.giver.cost
     }
 
-    /// How many symbols are in no segment that it gave.
+    /// How many symbols are in no segment that was given.
     pub fn loose(&self) -> u64
         ensures { result ≡ self.now.symbols - SEGMENT * self.now.segments }
     {
         self.symbols - SEGMENT as u64 * self.giver.total
     }
 
-    /// Looks for a sync where none is in front, and gives the field behind it where the next segment is held too.
+    /// Looks for a sync if none stands in front. Gives the field after it if the next segment is held too.
     fn turn(&mut self)
         requires none { self.old.given ≡ [] }
         requires most { length self.old.held ≤ MOST_HELD }
@@ -177,7 +178,7 @@ impl Acquirer {
         }
     }
 
-    /// Gives the field in front of the symbols that are held, where the segment behind it is there.
+    /// Gives the field in front of the symbols that are held, once the segment after it is held too.
     fn settle(&mut self)
         requires full { length self.old.held ≡ MOST_HELD }
         requires none { self.old.given ≡ [] }
@@ -198,7 +199,7 @@ impl Acquirer {
     }
 }
 
-/// How many whole segments stand behind a sync in front of so many symbols, where there is one.
+/// How many whole segments these symbols have from the sync in front of them on, at most a field, or 0 without a sync.
 fn whole_segments(on: bool, symbols: usize) -> usize
     ensures few { result ≤ FIELD }
     ensures room { SEGMENT * result ≤ symbols }

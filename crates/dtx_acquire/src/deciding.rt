@@ -1,4 +1,4 @@
-//! Symbols decided each for itself: the symbol of its level at a scale.
+//! Symbols that are decided one by one: each becomes the symbol of its level at a scale.
 
 ghost use Rattle.std.specs.Prelude.{◌≡◌, ◌<◌, ◌≤◌, ℕ, ℤ, pos, ◌-ℤ◌, EachIndex, IfOk, drop, length, map};
 ghost use Rattle.std.specs.Prelude.{slice_index, vec_len};
@@ -9,7 +9,7 @@ use dtx_sizes::{PRECODE, SEGMENT, SEGMENT_LEVELS, SEGMENT_SYNC};
 use dtx_soft::MAX_SCALE;
 use std::alloc::{AllocError, Global};
 
-/// How many symbols there are, from -128 to 127.
+/// How many values a symbol can have, from -128 to 127.
 const SYMBOLS: usize = 256;
 
 /// The level of each symbol v, as entry v + 128.
@@ -24,7 +24,7 @@ pub(crate) struct Decisions {
 }
 
 impl Decisions {
-    /// Those at a scale.
+    /// The levels at a scale. The only error is out of memory.
     pub(crate) fn new(alloc: Global, scale: u8) -> Result<Decisions, AllocError>
         requires from { 0 < scale }
         requires to { scale ≤ MAX_SCALE }

@@ -1,4 +1,4 @@
-//! The fields that are given, and the numbers of all.
+//! The fields that are given, and the counts of everything given.
 
 ghost use Rattle.std.specs.Prelude.{◌≡◌, ℕ, ℤ, ◌+◌, ◌*◌, ◌<◌, ◌≤◌, Bool, List, [], IfOk};
 ghost use Rattle.std.specs.Prelude.{drop, length, take, vec_len};
@@ -12,8 +12,8 @@ use dtx_sizes::{MOST_SEGMENTS, SEGMENT};
 use dtx_soft::{MAX_SCALE, Soft};
 use std::alloc::{AllocError, Global};
 
-/// What restores fields, the segments of the last field, and of how many runs, how many segments, at what costs of
-/// least paths were given.
+/// What restores fields, with the segments of the last one. It also counts the runs and segments that were given, and
+/// the costs of their least paths.
 #[derive(Drop)]
 pub(crate) struct Giver {
     soft: Soft,
@@ -31,7 +31,7 @@ pub(crate) struct Giver {
 }
 
 impl Giver {
-    /// Nothing was given.
+    /// A new giver, which has given nothing. The only error is out of memory.
     pub(crate) fn new(alloc: Global, scale: u8) -> Result<Giver, AllocError>
         requires from { 0 < scale }
         requires to { scale ≤ MAX_SCALE }
@@ -52,7 +52,8 @@ impl Giver {
         })
     }
 
-    /// Gives the first segments of those that are held, so many: a field, or a prefix of it. Lets so many symbols go.
+    /// Gives the first `count` segments of the symbols that are held: a field, or a prefix of one. Then it drops the
+    /// first `gone` symbols.
     pub(crate) fn give(&mut self, held: &mut Held, count: usize, gone: usize, begins: bool)
         requires few { count ≤ FIELD }
         requires room { SEGMENT * count ≤ length held.old }
@@ -91,7 +92,7 @@ fn empty_field(alloc: Global) -> Result<Vec<[i8; SEGMENT]>, AllocError>
     vec![in alloc; [0i8; SEGMENT]; FIELD]
 }
 
-/// 1 where a run begins with a field of so many segments.
+/// 1 if a run begins with this field of `count` segments and something is given of it, and otherwise 0.
 fn run_of(begins: bool, count: usize) -> u64
     ensures run { (segments : List (List ℤ)) → length segments ≡ count
         → result ≡ begun (record { begins = begins; segments = segments }) }
@@ -100,7 +101,7 @@ fn run_of(begins: bool, count: usize) -> u64
     if begins && count > 0 { 1 } else { 0 }
 }
 
-/// Copies the first symbols to the first segments, so many, and restores these. Answers what their least paths cost.
+/// Copies the first symbols to the first `count` segments, and restores these. Returns the cost of their least paths.
 fn restore_front(
     soft: &mut Soft,
     decisions: &Decisions,
@@ -122,7 +123,7 @@ fn restore_front(
     restore_first(soft, decisions, symbols, count, &mut segments[..])
 }
 
-/// Does so with a list.
+/// Does the same with a slice of segments.
 fn restore_first(
     soft: &mut Soft,
     decisions: &Decisions,
@@ -144,7 +145,7 @@ fn restore_first(
     restore_from(soft, decisions, symbols, &mut segments[..count])
 }
 
-/// Copies the first symbols to segments, and restores these. Answers what their least paths cost.
+/// Copies the first symbols to all these segments, and restores them. Returns the cost of their least paths.
 fn restore_from(
     soft: &mut Soft,
     decisions: &Decisions,

@@ -1,4 +1,4 @@
-//! The symbols of which it is not yet known what they give.
+//! The symbols whose segments are not given yet.
 
 ghost use Rattle.std.specs.Prelude.{◌≡◌, ◌+◌, ◌<◌, ◌≤◌, ◌++◌, [], IfOk, length, take, drop};
 
@@ -6,10 +6,10 @@ use dtx_sizes::{FIELD_SEGMENTS, SEGMENT};
 use std::alloc::{AllocError, Global};
 use std::marker::Model;
 
-/// How many symbols are held at most: those of a field, and of the segment behind it.
+/// How many symbols are held at most: those of a field and of the segment after it.
 pub const MOST_HELD: usize = SEGMENT * (FIELD_SEGMENTS as usize + 1);
 
-/// Symbols, in order. It is seen as their list.
+/// Symbols in order, in a buffer of fixed size. Contracts see the value as their list.
 #[derive(Drop)]
 pub struct Held {
     symbols: Vec<i8>,
@@ -28,7 +28,7 @@ impl Model for Held {
 }
 
 impl Held {
-    /// None.
+    /// An empty buffer. The only error is out of memory.
     pub fn new(alloc: Global) -> Result<Held, AllocError>
         ensures { IfOk result (λ held. held ≡ []) }
     {
@@ -38,7 +38,7 @@ impl Held {
         })
     }
 
-    /// How many there are.
+    /// How many symbols are held.
     pub fn len(&self) -> usize
         ensures long { result ≡ length self.now }
         ensures few { result ≤ MOST_HELD }
@@ -46,14 +46,14 @@ impl Held {
         self.filled
     }
 
-    /// All of them.
+    /// All symbols that are held.
     pub fn all(&self) -> &[i8]
         ensures { result.now ≡ self.now }
     {
         &self.symbols[..self.filled]
     }
 
-    /// Takes the first of these symbols, as many as there is room for, and answers how many.
+    /// Appends the first of these symbols, as many as there is room for, and returns how many.
     pub fn take(&mut self, symbols: &[i8]) -> usize
         ensures within { result ≤ length symbols.now }
         ensures held { self.new ≡ self.old ++ take result symbols.now }
@@ -64,7 +64,7 @@ impl Held {
         count
     }
 
-    /// Lets the first of them go, so many.
+    /// Drops the first `count` symbols.
     pub fn leave(&mut self, count: usize)
         requires { count ≤ length self.old }
         ensures { self.new ≡ drop count self.old }
@@ -74,7 +74,7 @@ impl Held {
     }
 }
 
-/// Copies the first of these symbols behind the filled ones, as many as there is room for, and answers how many.
+/// Copies the first of these symbols after the filled ones, as many as there is room for, and returns how many.
 fn append(held: &mut [i8], filled: usize, symbols: &[i8]) -> usize
     requires { filled ≤ length held.old }
     ensures within { result ≤ length symbols.now }

@@ -1,4 +1,4 @@
-//! Symbols from the air: where fields begin, what was sent, and whole segments of it.
+//! From a capture to whole segments: where fields begin, and which symbols were sent.
 #![tactic(auto)]
 
 mod acquirer;

@@ -1,4 +1,4 @@
-//! What a field gives: its sync restored, and its symbols decided.
+//! Restores a field: its sync, and its symbols, which are decided.
 
 ghost use Rattle.std.specs.Prelude.{◌≡◌, ℕ, ◌+◌, ◌*◌, ◌%◌, ◌<◌, ◌≤◌, [], length, map, nat_abs, pos};
 ghost use Rattle.std.specs.Prelude.{slice_index_or};
@@ -13,10 +13,10 @@ use dtx_frame::{data_segment, field_sync};
 use dtx_sizes::{FIELD_PACKETS, FIELD_SEGMENTS, GROUP_PACKETS, SEGMENT, SEGMENT_LEVELS};
 use dtx_soft::Soft;
 
-/// What the symbols of a data segment cost at most: none is off a level by more than 254, which is 128 and 7 * 18.
+/// The greatest cost of the symbols of a data segment. None is off a level by more than 254, which is 128 + 7 * 18.
 pub(crate) const MOST_COST: u64 = 828 * 64_516;
 
-/// Restores a field, or the first segments of one, and answers what its least paths cost.
+/// Restores a field, or the first segments of one, and returns the cost of its least paths.
 pub(crate) fn restore(soft: &mut Soft, decisions: &Decisions, segments: &mut [[i8; SEGMENT]]) -> u64
     requires scale { soft.old.scale ≡ decisions.now.scale }
     requires few { length segments.old ≤ FIELD_SEGMENTS }
@@ -41,7 +41,7 @@ fn restore_sync(decisions: &Decisions, segment: &mut [i8; SEGMENT])
     field_sync(second, &last, segment);
 }
 
-/// Restores the data segments behind a field sync, and answers what their least paths cost.
+/// Restores the data segments after a field sync, and returns the cost of their least paths.
 fn restore_field(soft: &mut Soft, decisions: &Decisions, segments: &mut [[i8; SEGMENT]]) -> u64
     requires scale { soft.old.scale ≡ decisions.now.scale }
     requires few { length segments.old ≤ FIELD_PACKETS }
@@ -56,7 +56,7 @@ fn restore_field(soft: &mut Soft, decisions: &Decisions, segments: &mut [[i8; SE
     cost
 }
 
-/// Takes whole groups to the symbols of their least paths, and answers what these cost.
+/// Softens whole groups: their symbols become those of their least paths. Returns the cost of these.
 fn soften(soft: &mut Soft, segments: &mut [[i8; SEGMENT]]) -> u64
     requires scale { soft.old.scale ≤ 18 }
     requires whole { length segments.old % GROUP_PACKETS ≡ 0 }
@@ -72,7 +72,7 @@ fn soften(soft: &mut Soft, segments: &mut [[i8; SEGMENT]]) -> u64
     cost
 }
 
-/// Restores data segments whose symbols are at the scale.
+/// Restores data segments whose symbols are at the scale: decides the symbols, and sets the segment syncs.
 fn restore_all_data(decisions: &Decisions, segments: &mut [[i8; SEGMENT]])
     ensures { segments.new ≡ map (restored_data decisions.now.scale) segments.old }
 {
@@ -81,7 +81,7 @@ fn restore_all_data(decisions: &Decisions, segments: &mut [[i8; SEGMENT]])
     }
 }
 
-/// Restores one.
+/// Restores one data segment.
 fn restore_data(decisions: &Decisions, segment: &mut [i8; SEGMENT])
     ensures { segment.new ≡ restored_data decisions.now.scale segment.old }
 {
@@ -90,12 +90,12 @@ fn restore_data(decisions: &Decisions, segment: &mut [i8; SEGMENT])
     data_segment(&levels, segment);
 }
 
-/// Segments have 832 symbols each.
+/// Each segment has 832 symbols.
 fn known(segments: &[[i8; SEGMENT]])
     ensures { (i : ℕ) → i < length segments.now → length (slice_index_or segments.now i []) ≡ SEGMENT }
 {}
 
-/// Their symbols are signed bytes.
+/// The symbols of segments are signed bytes.
 #[inline(always)]
 fn signed(segments: &[[i8; SEGMENT]])
     ensures { AreSigned segments.now }
@@ -105,7 +105,7 @@ fn signed(segments: &[[i8; SEGMENT]])
     }
 }
 
-/// The symbols of a segment are.
+/// The symbols of a segment are signed bytes.
 #[inline(always)]
 fn signed_segment(segment: &[i8; SEGMENT])
     ensures { (k : ℕ) → nat_abs (slice_index_or segment.now k (pos 0)) ≤ 128 }
@@ -115,7 +115,7 @@ fn signed_segment(segment: &[i8; SEGMENT])
     }
 }
 
-/// A symbol is.
+/// A symbol is a signed byte.
 #[inline(always)]
 fn signed_symbol(symbol: i8)
     ensures { nat_abs symbol ≤ 128 }

@@ -1,4 +1,4 @@
-//! The least place that agrees with a field sync.
+//! Finds the least place that agrees with a field sync.
 
 ghost use Rattle.std.specs.Prelude.{◌≡◌, ◌+◌, ◌<◌, ◌≤◌, length};
 ghost use Rattle.std.specs.List.{find, range_with_len};
@@ -7,11 +7,11 @@ ghost use Rattle.dtx_acquire.specs.Agreement.{agrees, least_from};
 use crate::signs::{WORD, unlike_in, window_at};
 use dtx_sizes::SEGMENT;
 
-/// How many of the first 515 symbols of a field sync may have another sign. Of random symbols 257 have, with a
-/// deviation of 11 (the profile's own).
+/// How many of the first 515 symbols of a field sync may have another sign. Of random symbols 257 do on average, with a
+/// standard deviation of 11 (the profile's own).
 const MAY_BE_UNLIKE: u32 = 128;
 
-/// Whether a place agrees.
+/// Whether this place agrees with a field sync.
 pub(crate) fn agrees(symbols: &[i8], place: usize) -> bool
     requires { place + SEGMENT ≤ length symbols.now }
     ensures { result ≡ agrees symbols.now place }
@@ -19,7 +19,7 @@ pub(crate) fn agrees(symbols: &[i8], place: usize) -> bool
     unlike_in(&window_at(symbols, place), 0) <= MAY_BE_UNLIKE
 }
 
-/// The least place from one on that agrees.
+/// The least place from `from` on that agrees.
 pub(crate) fn search(symbols: &[i8], from: usize) -> Option<usize>
     requires { from ≤ length symbols.now }
     ensures { result ≡ least_from symbols.now from }
@@ -38,7 +38,7 @@ pub(crate) fn search(symbols: &[i8], from: usize) -> Option<usize>
     None
 }
 
-/// The least of so many places from one on that agrees.
+/// The least of `count` places from `first` on that agrees.
 fn search_word(symbols: &[i8], first: usize, count: usize) -> Option<usize>
     requires some { 0 < count }
     requires few { count ≤ WORD }

@@ -10,16 +10,17 @@ use dtx_sizes::SEGMENT;
 /// How many signs a word has.
 pub const WORD: usize = 64;
 
-/// How many words the signs have at which a field sync is looked for at 64 places: those of 515 symbols from each.
+/// How many words hold the signs with which 64 places are compared with a field sync: those of 515 symbols from each
+/// place.
 pub const WORDS: usize = 10;
 
-/// How many symbols these are.
+/// How many symbols have their signs in these words.
 pub const WINDOW: usize = WORD * WORDS;
 
-/// How many words the first 515 symbols of a field sync fill.
+/// How many whole words the signs of the first 515 symbols of a field sync fill.
 const WHOLE: usize = 8;
 
-/// The signs of these symbols. The first is bit 0 of the first word, and plus is 1.
+/// The signs of the first symbols of a field sync. The first one is bit 0 of the first word. A bit is 1 for plus.
 static SIGNS: [u64; 9] = [
     0x8791_1667_553f_e809,
     0x284f_1a25_cdca_cbeb,
@@ -35,13 +36,13 @@ static SIGNS: [u64; 9] = [
 /// The signs of the middle one of the three short sequences, of 63 symbols, in a first field.
 const MIDDLE: u64 = 0x0bca_3083_f566_ed27;
 
-/// One more than the greatest word of 63 signs.
+/// 2 to the 63: one more than the greatest number of 63 signs.
 const MIDDLE_WORDS: u64 = 1 << 63;
 
-/// Where it begins.
+/// The place in a field sync at which the middle short sequence begins.
 const MIDDLE_PLACE: usize = 578;
 
-/// How many words there are.
+/// 2 to the 64: one more than the greatest number of 64 signs.
 const TURN: u128 = 1 << 64;
 
 /// The signs of 64 symbols from a place on, the first as bit 0.
@@ -58,7 +59,7 @@ fn pack(symbols: &[i8], place: usize) -> u64
     word
 }
 
-/// 1 for plus.
+/// 1 if the sign is plus, and otherwise 0.
 #[inline(always)]
 fn plus(symbol: i8) -> u64
     ensures plus { result ≡ (if is_plus symbol then 1 else 0) }
@@ -88,8 +89,8 @@ fn shifted(first: u64, second: u64, from: usize) -> u64
     (((second as u128 * TURN + first as u128) >> from) % TURN) as u64
 }
 
-/// How many of the first 515 symbols have another sign than those of a field sync, where that begins so many symbols
-/// behind the place of the words.
+/// How many of 515 symbols have another sign than the first ones of a field sync. The words hold the signs of the
+/// symbols from a place on, and the 515 symbols begin `from` symbols after it.
 #[inline(always)]
 pub fn unlike_in(words: &[u64; WORDS], from: usize) -> u32
     requires { from < WORD }
@@ -104,7 +105,8 @@ pub fn unlike_in(words: &[u64; WORDS], from: usize) -> u32
     count + (last ^ SIGNS[WHOLE]).count_ones()
 }
 
-/// Whether a sync is of a second field: at least 32 of the 63 symbols of its middle short sequence have another sign.
+/// Whether a sync is that of a second field: at least 32 of the 63 symbols of its middle short sequence have another
+/// sign than in a first field.
 pub fn is_second(segment: &[i8; SEGMENT]) -> bool
     ensures { result ≡ is_second segment.now }
 {

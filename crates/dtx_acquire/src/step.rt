@@ -1,4 +1,4 @@
-//! Where the next sync is, among the symbols that are held.
+//! Finds the next sync among the symbols that are held.
 
 ghost use Rattle.std.specs.Prelude.{◌≡◌, ℤ, ◌+◌, ◌*◌, ◌<◌, ◌≤◌, ◌⊎◌, ◌++◌, Bool, true, [], ◌∷◌, List, length, drop};
 ghost use Rattle.dtx_acquire.specs.Acquired.{fields_where};
@@ -12,11 +12,11 @@ use dtx_sizes::{FIELD_SEGMENTS, SEGMENT};
 /// How many segments a field has.
 pub(crate) const FIELD: usize = FIELD_SEGMENTS as usize;
 
-/// How many symbols behind a sync the next one is due.
+/// How many symbols after a sync the next one is due.
 const DUE: usize = SEGMENT * FIELD;
 
-/// Looks for a sync among symbols, where none is in front of them. Lets those before it go, or all but the last ones,
-/// at which a sync may begin. Answers whether one is in front then.
+/// Looks for a sync if none stands in front of the symbols (`on`). Drops the symbols before the sync. If there is none,
+/// it drops all but the last 831, where a sync may begin. Returns whether a sync stands in front now.
 pub(crate) fn seek(on: bool, held: &mut Held) -> bool
     requires { on ≡ true → agrees held.old 0 ≡ true }
     ensures front { result ≡ true → agrees held.new 0 ≡ true }
@@ -39,8 +39,8 @@ pub(crate) fn seek(on: bool, held: &mut Held) -> bool
     }
 }
 
-/// What comes of a field behind which a segment is held: how many symbols are let go with it, and how many of its
-/// segments are given. Also whether a sync is in front of what is behind, and whether a run would begin with that.
+/// What happens to a field once the segment after it is held. `count` symbols are dropped, and `given` segments are
+/// given. `on` says whether a sync stands in front of what is left, and `begins` whether a run would begin with it.
 #[derive(Clone, Copy, Drop)]
 pub(crate) struct Step {
     pub(crate) count: usize,
@@ -49,8 +49,8 @@ pub(crate) struct Step {
     pub(crate) begins: bool,
 }
 
-/// That of a field in front of the symbols. A run goes on where a sync is due and there. Where another one is before
-/// that, symbols were lost, and the field isn't given.
+/// The step of a field in front of the symbols. The run goes on if a sync stands where the next one is due. If one
+/// stands earlier instead, symbols were lost, and the field isn't given.
 pub(crate) fn step_of(symbols: &[i8]) -> Step
     requires full { length symbols.now ≡ MOST_HELD }
     requires front { agrees symbols.now 0 ≡ true }

@@ -1,4 +1,4 @@
-//! Laws of the definitions: how many symbols in a row may be wrong, or missing.
+//! Laws of bursts: how many symbols in a row may be wrong or missing.
 
 ghost use Rattle.std.specs.Prelude.{◌≡◌, ℕ, ℤ, ◌+◌, ◌*◌, ◌<◌, ◌≤◌, true, List, [], length, map, slice_index_or};
 ghost use Rattle.std.specs.List.{list_all};
@@ -14,18 +14,19 @@ ghost use Rattle.dtx_chain.specs.Damage.{packet_behind, to_sync, word_in};
 ghost use Rattle.dtx_chain.specs.Undamaged.{ArePackets, as_received};
 ghost use Rattle.dtx_bursts.specs.Burst.{IsBurst, IsGap, LeavesSyncs};
 
-/// At most 2,022 wrong symbols in a row, whatever they are and wherever they stand, are slight damage where the field
-/// syncs are found. No word has more than ten wrong bytes. So all packets whose bytes are all there come back, and none
-/// is flagged (`gives_all_back` of `dtx_chain`). Two segments are 1,664 symbols.
+/// If the field syncs are found, at most 2,022 wrong symbols in a row are slight damage. They may have any values and
+/// stand anywhere. No word has more than ten wrong bytes. So all packets whose bytes are all there come back, and none
+/// is flagged (`gives_all_back` of `dtx_chain`). For comparison, two segments are 1,664 symbols.
 pub fn wrong_symbols_in_a_row()
     ensures { (packets : List (List ℕ)) (first from : ℕ) (sent got : List (List ℤ))
         → AreReceived packets first sent got → ArePackets packets → AreFound first sent got
         → IsBurst 2022 from sent got → IsSlight packets first sent got }
 {}
 
-/// At most 4,141 missing symbols in a row, wherever they stand, leave each word mendable where the field syncs are
-/// found. No word has more than twenty missing bytes, and none is wrong. Then all packets from the one behind the first
-/// field sync on whose bytes are all there are mended, in order, and none is flagged. Four segments are 3,328 symbols.
+/// If the field syncs are found, at most 4,141 missing symbols in a row leave each word mendable, wherever they stand.
+/// No word has more than twenty missing bytes, and none has a wrong byte. So all packets whose bytes are all there are
+/// mended, from the packet after the first field sync on, in order. None is flagged. For comparison, four segments are
+/// 3,328 symbols.
 pub fn missing_symbols_in_a_row()
     ensures words { (packets : List (List ℕ)) (first from : ℕ) (sent got : List (List ℤ))
         → AreReceived packets first sent got → ArePackets packets → IsGap 4141 from sent got
@@ -44,9 +45,9 @@ pub fn missing_symbols_in_a_row()
         → list_all (λ r. r.good) (all_mended got) ≡ true }
 {}
 
-/// The field syncs are found where a burst stands at or behind the first of them, and reaches of the first 515 symbols
-/// of each only the first 32 or the last 32. It doesn't matter how long it is, and whether its symbols are wrong or
-/// missing.
+/// The field syncs are found if a burst begins at the first field sync or after it, and spares the middle of each. Of
+/// the first 515 symbols of a field sync it reaches only the first 32 or the last 32. The burst may have any length,
+/// and its symbols may be wrong or missing.
 pub fn syncs_are_found()
     ensures wrong { (packets : List (List ℕ)) (first count from : ℕ) (sent got : List (List ℤ))
         → AreReceived packets first sent got → LeavesSyncs first count from (length sent)
@@ -56,9 +57,9 @@ pub fn syncs_are_found()
         → IsGap count from sent got → AreFound first sent got }
 {}
 
-/// One symbol more can be too many. Each stream of 52 packets or more can be received with 2,023 wrong symbols in a row
-/// so that the word of its first packet has eleven wrong bytes or more. It can be received with 4,142 missing ones so
-/// that this word has twenty-one missing bytes or more. The field syncs are found.
+/// One more symbol can be too many, although the field syncs are found. Each stream of 52 packets or more can be
+/// received with 2,023 wrong symbols in a row, so that the word of its first packet has eleven or more wrong bytes. It
+/// can be received with 4,142 missing symbols in a row, so that this word has twenty-one or more missing bytes.
 pub fn one_symbol_more_is_too_many()
     ensures wrong { (packets : List (List ℕ)) → ArePackets packets → 52 ≤ length packets
         → (got : List (List ℤ)) × AreReceived packets 0 (a53 packets) got × AreFound 0 (a53 packets) got

@@ -1,5 +1,5 @@
-//! Laws of the definitions. Undamaged symbols are one run, and its packets are those that were sent. A word with few
-//! wrong bytes gives its packet back.
+//! Laws of the chain from packets to symbols and back. Undamaged symbols are one run, whose packets are those that were
+//! sent. A word with few wrong bytes gives its packet back.
 
 ghost use Rattle.std.specs.Prelude.{◌≡◌, ℕ, ℤ, ◌≢◌, ◌+◌, ◌*◌, ◌/◌, ◌%◌, ◌<◌, ◌≤◌, Bool, true, false, List, [], ◌∷◌};
 ghost use Rattle.std.specs.Prelude.{length};
@@ -20,8 +20,8 @@ ghost use Rattle.dtx_chain.specs.Undamaged.{ArePackets, as_sent, whole_words, as
 
 use dtx_sizes::{FIELD_PACKETS, FIELD_SEGMENTS, GROUP_PACKETS, PACKET};
 
-/// Each packet whose bytes are all there comes back, in order, with 0x47 as its sync byte. None is flagged, and no byte
-/// was put right.
+/// Of undamaged symbols each packet whose bytes are all there comes back, in order, with 0x47 as its sync byte. None is
+/// flagged, and no byte is put right.
 pub fn received_undamaged()
     ensures run { (packets : List (List ℕ)) → GROUP_PACKETS ≤ length packets → runs (a53 packets) ≡ a53 packets ∷ [] }
     ensures good { (packets : List (List ℕ)) → GROUP_PACKETS ≤ length packets → ArePackets packets
@@ -30,11 +30,10 @@ pub fn received_undamaged()
         → received (a53 packets) ≡ map (λ k. as_received (slice_index_or packets k [])) (whole_words packets) }
 {}
 
-/// Word j of the bytes of any run gives packet f + j of a stream back, wherever the word differs from that packet's
-/// codeword in at most ten bytes. These are the bytes put right. The packet is received good and with 0x47 as its sync
-/// byte. Packet f begins a field, as the packet behind a field sync does. The bytes of the run may be any numbers, and
-/// as many or as few as they are. Where all bytes of word j are there, its packet is number j of those that the run
-/// gives.
+/// Let packet f of a stream begin a field, as the packet after a field sync does. Word j of the bytes of any run gives
+/// packet f + j back if the word differs from that packet's codeword in at most ten bytes. These are the bytes put
+/// right. The packet is received good and with 0x47 as its sync byte. The run may have any bytes, of any number. If all
+/// bytes of word j are there, its packet is number j of those that the run gives.
 pub fn gives_back()
     ensures packet { (packets : List (List ℕ)) (bytes : List ℕ) (f j : ℕ) → ArePackets packets → f % FIELD_PACKETS ≡ 0
         → f + j < length packets → IsNear packets (f + j) (word_at 207 52 4 bytes j)
@@ -43,7 +42,7 @@ pub fn gives_back()
         → slice_index_or (run_packets bytes) j other ≡ received_at bytes j }
 {}
 
-/// A packet that comes back good and as it was sent, with 0x47 as its sync byte, had a word that differs from its
+/// If a packet comes back good and as it was sent, with 0x47 as its sync byte, its word differed from the packet's
 /// codeword in at most ten bytes.
 pub fn what_comes_back_was_near()
     ensures { (packets : List (List ℕ)) (bytes : List ℕ) (f j : ℕ) → ArePackets packets → f % FIELD_PACKETS ≡ 0
@@ -52,9 +51,9 @@ pub fn what_comes_back_was_near()
         → IsNear packets (f + j) (word_at 207 52 4 bytes j) }
 {}
 
-/// Let the symbols of segments in a row of a stream be received with slight damage, a field sync among them. Then they
-/// are one run, which begins with their first field sync. Its packets are exactly those of the stream from the one
-/// behind that field sync on whose bytes are all there, in order. Each is good and has 0x47 as its sync byte.
+/// Let segments in a row of a stream be received with slight damage, with a field sync among them. Then they have one
+/// run, which begins with their first field sync. The packets received are exactly those of the stream whose bytes are
+/// all there, from the packet after that field sync on, in order. Each is good and has 0x47 as its sync byte.
 pub fn gives_all_back()
     ensures run { (packets : List (List ℕ)) (first : ℕ) (sent got : List (List ℤ)) → AreReceived packets first sent got
         → to_sync first < length sent → IsSlight packets first sent got
@@ -74,8 +73,8 @@ pub fn gives_all_back()
         → list_all (λ r. r.good) (all_packets got) ≡ true }
 {}
 
-/// Eleven wrong bytes are too many. For each packet of a stream there is a word of 207 bytes that differs from the
-/// packet's codeword in eleven of them. Wherever a run has that word, it gives another packet back.
+/// Eleven wrong bytes are too many. For each packet of a stream some word of 207 bytes differs from the packet's
+/// codeword in eleven bytes, and gives another packet wherever a run has it.
 pub fn eleven_are_too_many()
     ensures { (packets : List (List ℕ)) (f j : ℕ) → ArePackets packets → f % FIELD_PACKETS ≡ 0 → f + j < length packets
         → (word : List ℕ) × (length word ≡ 207) × AreBytes word × (distance word (codeword_at packets (f + j)) ≡ 11)
@@ -83,20 +82,21 @@ pub fn eleven_are_too_many()
         → (received_at bytes j).packet.0 ≢ as_received (slice_index_or packets (f + j) [])) }
 {}
 
-/// A data segment of a stream with at most 31 damaged symbols among its first 515 isn't taken for a field sync. A field
-/// sync may have 32 wrong ones there, and undamaged the segment differs from one in 64 or more of them.
+/// A data segment of a stream isn't taken for a field sync if at most 31 of its first 515 symbols are damaged. The
+/// reason: a segment looks like a field sync if at most 32 of these symbols differ, and an undamaged data segment
+/// differs in 64 or more.
 pub fn a_damaged_data_segment_is_no_sync()
     ensures { (packets : List (List ℕ)) (n : ℕ) (got : List ℤ) → n < length (a53 packets) → n % FIELD_SEGMENTS ≢ 0
         → damaged_symbols (slice_index_or (a53 packets) n []) got ≤ 31 → looks_like got ≡ false }
 {}
 
-/// Each packet that is received has 188 bytes, whatever the segments are.
+/// Each packet received has 188 bytes, whatever the segments are.
 pub fn received_packets_are_whole()
     ensures { (segments : List (List ℤ)) → All (λ packet. length packet ≡ PACKET) (received segments) }
 {}
 
-/// Undamaged symbols are slightly damaged ones, from any segment of a stream on: segments in a row are received as they
-/// were sent, and meet each condition.
+/// Undamaged symbols count as slightly damaged. Take segments in a row of a stream, from any segment on. If they are
+/// received as they were sent, they meet each condition of slight damage.
 pub fn no_damage()
     ensures received { (packets : List (List ℕ)) (first end : ℕ)
         → AreReceived packets first (slice_range (a53 packets) first end) (slice_range (a53 packets) first end) }
@@ -104,7 +104,7 @@ pub fn no_damage()
         → AreReceived packets first sent sent → ArePackets packets → IsSlight packets first sent sent }
 {}
 
-/// Damage before the first field sync alone is slight, where no data segment there has more than 31 damaged symbols
+/// Damage that ends before the first field sync is slight if no data segment there has more than 31 damaged symbols
 /// among its first 515.
 pub fn damage_before_the_first_sync_is_slight()
     ensures { (packets : List (List ℕ)) (first : ℕ) (sent got : List (List ℤ)) → AreReceived packets first sent got
@@ -114,9 +114,9 @@ pub fn damage_before_the_first_sync_is_slight()
         → IsSlight packets first sent got }
 {}
 
-/// Where the segments of a stream stand that these definitions count on. Its field syncs are those at multiples of 313.
-/// Segment k of its packets stands k + k / 312 + 1 places behind its first. So `to_sync` leads to the first field sync
-/// from any segment on. `packet_behind` is the packet whose segment follows it and begins a field.
+/// Where segments stand in a stream. Its field syncs are the segments at multiples of 313. The segment of packet k
+/// stands k + k / 312 + 1 places after the stream's first segment. So `to_sync` gives the distance to the first field
+/// sync from any segment on. `packet_behind` gives the packet whose segment follows that sync and begins a field.
 pub fn places()
     ensures sync { (packets : List (List ℕ)) (n : ℕ) → n < length (a53 packets) → n % FIELD_SEGMENTS ≡ 0
         → (second : Bool) × (last : List ℤ) × (slice_index_or (a53 packets) n [] ≡ field_sync second last) }

@@ -1,4 +1,4 @@
-// Writing what an engine has made: its zeros, and the bytes that it lends.
+// Writes what an engine has made: its zeros, and the bytes that it lends.
 ghost use Rattle.std.specs.Prelude.{◌≡◌, Option, replicate};
 ghost use Rattle.dtx_outside.specs.Counts.{HasGone};
 ghost use Rattle.dtx_outside.specs.Shelf.{Files};
@@ -13,7 +13,7 @@ use dtx_outside::Shelf;
 /// How many zeros are written at once.
 const ZEROS: usize = 4096;
 
-/// Writes what the engine's last call has made, where these are the bytes that it was lent.
+/// Writes what the engine's last call has made. `bytes` is the buffer that the call was lent.
 pub(crate) fn write_made<E: Engine, W: Outlet, S: Shelf>(
     engine: &E,
     bytes: &[u8],
@@ -34,7 +34,7 @@ pub(crate) fn write_made<E: Engine, W: Outlet, S: Shelf>(
     }
 }
 
-/// Writes so many zeros to the first output. Where there are none the outputs are left alone.
+/// Writes `count` zeros to the first output. For none it makes no call of the outputs.
 fn write_zeros<W: Outlet, S: Shelf>(count: u64, outlet: &mut W, shelf: &mut S) -> Result<(), Status>
     ensures written { (start : Option Files) (given : Made) → W.gathered outlet.old start given (S.files shelf.old)
         → IsPut (W.names outlet.old) start (joined given (only (replicate count 0))) result (W.gathered outlet.new)

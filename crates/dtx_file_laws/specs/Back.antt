@@ -1,5 +1,5 @@
 -- What comes back of the symbols of a stream (the profile's own; what is sent is that of ATSC A/53 Part 2). A packet is
--- its list of 188 bytes.
+-- the list of its 188 bytes.
 use Rattle.std.specs.Prelude.{ℕ, ◌≡◌, ◌+◌, ◌-◌, ◌*◌, ◌/◌, ◌%◌, ◌<◌, ◌==◌, if◌then◌else◌, true, List, [], ◌∷◌, ◌++◌}
 use Rattle.std.specs.Prelude.{Option, codes, decimal, length, take}
 use Rattle.std.specs.List.{flat_map}
@@ -17,26 +17,26 @@ use Rattle.dtx_file_laws.specs.Told.{EndsWith, Holds}
 abbrev pub CanBeCoded : List ℕ → Type 0
 CanBeCoded stream = (k : ℕ) → k < whole_packets stream → may_be_coded (packet_at stream k) ≡ true
 
--- How many packets come back of so many that are sent in whole groups of four: all but the last 52, or all but the last
--- 51 where 52 divides their number. The bytes of a packet leave the interleaver over 52 packets. (It is told of one
--- group or more.)
+-- How many packets come back of `sent` packets that are sent in whole groups of four. All but the last 52 do, or all
+-- but the last 51 where 52 divides their number. The bytes of a packet leave the interleaver over 52 packets. (This is
+-- for one group or more.)
 abbrev pub back_of_sent : ℕ → ℕ
 back_of_sent sent = sent - 52 + (if sent % 52 == 0 then 1 else 0)
 
--- how many come back of a stream, of which whole groups are sent
+-- how many come back of a stream of `count` packets, of which only the whole groups are sent
 abbrev pub back_of_all : ℕ → ℕ
 back_of_all count = back_of_sent (4 * (count / 4))
 
--- The packets that come back of a stream: its first ones, so many, one behind another, with 0x47 as their sync bytes.
+-- The packets that come back of a stream: its first ones, one after another, with 0x47 as their sync bytes.
 abbrev pub packets_back : List (List ℕ) → List ℕ
 packets_back packets = flat_map as_received (take (back_of_all (length packets)) packets)
 
--- In how many segments so many packets are sent: those of whole groups of four, and a field sync for each 78 groups
--- that are begun.
+-- How many segments `count` packets are sent as: four for each whole group of four packets, and a field sync for each
+-- 78 groups that are begun.
 abbrev pub segments_of_all : ℕ → ℕ
 segments_of_all count = 4 * (count / 4) + (count / 4 + 77) / 78
 
--- the line that `receive` and `mend` print where all comes back of so many packets, with so many bytes put right
+-- the line that `receive` and `mend` print if all of `count` packets comes back, with `fixed` bytes put right
 abbrev pub line_back : ℕ → ℕ → List ℕ
 line_back count fixed =
     codes "segments "
@@ -44,7 +44,7 @@ line_back count fixed =
     ++ (codes " runs 1 packets "
     ++ (decimal (back_of_all count) ++ (codes " fixed " ++ (decimal fixed ++ codes " flagged 0 loose 0\n")))))
 
--- and that `dvb read` prints where all comes back of so many packets: all but the last eleven
+-- the line that `dvb read` prints if all of `count` packets comes back: all but the last eleven
 abbrev pub dvb_line_back : ℕ → ℕ → List ℕ
 dvb_line_back count fixed =
     codes "blocks "
@@ -52,8 +52,8 @@ dvb_line_back count fixed =
     ++ (codes " packets "
     ++ (decimal (count - 11) ++ (codes " fixed " ++ (decimal fixed ++ codes " flagged 0 loose 0\n")))))
 
--- What `receive` and `mend` answer and write where all comes back: the segments, one run, the packets, the bytes put
--- right, none flagged, and nothing loose.
+-- What `receive` and `mend` answer and write if all comes back. The numbers are the segments, one run, the packets and
+-- the bytes put right. None is flagged, and nothing is loose.
 abbrev pub all_back : List (List ℕ) → List (List ℕ) → ℕ → Meaning
 all_back names packets fixed = record {
   outcome = record {
@@ -64,14 +64,14 @@ all_back names packets fixed = record {
   outputs = outputs_of names (only (packets_back packets));
 }
 
--- All comes back of a stream, with so many bytes put right: the output holds its packets, and the line that is printed
--- says so, and that none is flagged.
+-- All of a stream comes back, with `fixed` bytes put right. The output holds its packets. The line that is printed has
+-- their number and that of these bytes, and none flagged.
 pub record IsGivenBack (stream : List ℕ) (fixed : ℕ) (output : List ℕ) (files : Option Files)
     (written : Option (List ℕ)) : Type 0 where
   pub packets : Holds files output (packets_back (packets_of stream))
   pub line : EndsWith written (line_back (whole_packets stream) fixed)
 
--- And of `dvb read`: the output holds all whole packets but the last eleven, as they were.
+-- All comes back by `dvb read`: the output holds all whole packets but the last eleven, unchanged.
 pub record IsReadBack (stream : List ℕ) (fixed : ℕ) (output : List ℕ) (files : Option Files)
     (written : Option (List ℕ)) : Type 0 where
   pub packets : Holds files output (take (188 * (whole_packets stream - 11)) stream)

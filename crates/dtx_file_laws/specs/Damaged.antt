@@ -2,26 +2,27 @@
 use Rattle.std.specs.Prelude.{ℕ, pos, ◌≡◌, ◌+◌, ◌*◌, ◌<◌, ◌≤◌, ◌⊎◌, ◌-ℤ◌, ◌*ℤ◌, nat_abs, List, length, slice_index}
 use Rattle.std.specs.Int.{w8, cast_signed}
 
--- The bytes are those that were sent, but for at most so many in a row from one on, which may be any numbers.
+-- The bytes are those that were sent, except for `count` in a row from byte `from` on, which may be any numbers.
 pub record IsBurst (count from : ℕ) (sent got : List ℕ) : Type 0 where
   pub as_many : length got ≡ length sent
   pub others : (n : ℕ) → n < length sent → (n < from) ⊎ (from + count ≤ n) → slice_index got n ≡ slice_index sent n
 
--- The bytes are those that were sent, but for some that are 0x80, which says that nothing was received there. Those are
--- among so many in a row from one on.
+-- The bytes are those that were sent, except that some are 0x80, which says that nothing was received there. These are
+-- among `count` bytes in a row from byte `from` on.
 pub record IsGap (count from : ℕ) (sent got : List ℕ) : Type 0 where
   pub as_many : length got ≡ length sent
   pub others : (n : ℕ) → n < length sent → (slice_index got n ≡ slice_index sent n)
       ⊎ ((slice_index got n ≡ 0x80) × (from ≤ n) × (n < from + count))
 
--- A field has 313 segments of 832 symbols, and begins with its field sync. So many symbols in a row from one on spare
--- the field syncs of a file of so many bytes: of the first 515 symbols of each, they reach only the first 32 or the
--- last 32. (So more than 32 in a row spare the first sync of a file only from symbol 483 of it on.)
+-- Damage of `count` symbols in a row from symbol `from` on spares the field syncs of a file of `bytes` bytes. A field
+-- has 313 segments of 832 symbols, and begins with its field sync. Of the first 515 symbols of each field sync the
+-- damage reaches only the first 32 or the last 32. So more than 32 symbols in a row spare the first sync of a file only
+-- from symbol 483 of it on.
 abbrev pub SparesSyncs : ℕ → ℕ → ℕ → Type 0
 SparesSyncs count from bytes =
     (f : ℕ) → 260416 * f < bytes → (from + count ≤ 260416 * f + 32) ⊎ (260416 * f + 483 ≤ from)
 
--- Each byte, as a signed number, differs from so many times the one that was sent by less than that.
+-- Each byte, as a signed number, differs by less than `scale` from `scale` times the byte that was sent.
 pub record IsNoisy (scale : ℕ) (sent got : List ℕ) : Type 0 where
   pub as_many : length got ≡ length sent
   pub near : (n : ℕ) → n < length sent → nat_abs (cast_signed w8 (slice_index got n)

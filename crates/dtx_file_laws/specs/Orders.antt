@@ -1,9 +1,9 @@
--- The first order of a stream that counts for an exciter that is given its feed from the start (the profile's own).
+-- The first order that counts for an exciter that is given the feed of a stream from the start (the profile's own).
 use Rattle.std.specs.Prelude.{ℕ, ◌≡◌, ◌+◌, ◌%◌, ◌<◌, ◌≤◌, true, false, List, length}
 use Rattle.dtx_network.specs.Orders.{has_order}
 
--- Packet k begins the first whole group of four packets, at packet 52 or behind, that holds a placeholder, in whose
--- place an operations packet stands in the feed.
+-- Packet k begins a whole group of four packets, at packet 52 or later, that holds a placeholder. It is the first such
+-- group. In the feed an operations packet stands in place of the placeholder.
 pub record IsFirstOrder (packets : List (List ℕ)) (k : ℕ) : Type 0 where
   pub group : k % 4 ≡ 0
   pub behind : 52 ≤ k

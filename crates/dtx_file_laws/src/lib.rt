@@ -1,5 +1,5 @@
-//! What the commands give back of files: of what they wrote themselves, and of that with damage. There is no engine
-//! here: each law speaks of what the commands mean, or of what `run` leaves.
+//! What the commands give back of files: of files that commands wrote, and of these with damage. This crate has no
+//! engine. Each law is on what the commands mean, or on what `run` leaves.
 #![tactic(auto)]
 
 pub mod laws;

@@ -1,4 +1,4 @@
--- The codes of the statuses, what each is blamed on, and what a refusal below becomes.
+-- The codes of the statuses, which count each is blamed on, and the statuses of errors from other crates.
 use Rattle.std.specs.Prelude.{◌≡◌, ℕ, ◌<◌, Bool, true, false, [], ◌∷◌, Result, Ok, Err}
 use Rattle.dtx_outside.specs.Counts.{Blame, Nothing, Missing, Reading, Writing}
 use Rattle.dtx_outside.specs.declared.shelf.ReadNo.{ReadNo}
@@ -13,7 +13,7 @@ use Rattle.dtx_meaning.specs.declared.status.Status.TheVariants.{Done, Usage, Sa
 use Rattle.dtx_meaning.specs.declared.status.Status.TheVariants.{OutOfFeed, OutOfAir, NoSync, ReadFault, WriteFault}
 use Rattle.dtx_meaning.specs.declared.status.Status.TheVariants.{Memory}
 
--- the number with which the program ends
+-- the exit code of the program
 abbrev pub code_of : Status → ℕ
 code_of Done = 0
 code_of Usage = 2
@@ -29,27 +29,28 @@ code_of ReadFault = 11
 code_of WriteFault = 12
 code_of Memory = 13
 
--- ---- what a refusal below becomes
+-- ---- the statuses of errors from other crates
 
--- a refusal to read the input of that number
+-- the status after a refusal to read the input of this number
 abbrev pub of_read : ℕ → ReadNo → Status
 of_read input read.Absent = Absent input
 of_read input read.Failed = ReadFault
 of_read input read.Memory = Memory
 
--- a refusal to write
+-- the status after a refusal to write
 abbrev pub of_write : WriteNo → Status
 of_write write.Failed = WriteFault
 of_write write.Memory = Memory
 
--- a refusal to give a plan, or a list of changes
+-- the status where no plan, or no list of changes, could be read
 abbrev pub of_plan : PlanFault → Status
 of_plan (plan.No refusal) = Plan refusal
 of_plan plan.Memory = Memory
 
 -- ---- what an answer is blamed on
 
--- Which count a status is blamed on. Where it is blamed on nothing all counts stand: so also where memory is lacking.
+-- Which count a status is blamed on. If it is blamed on nothing, all counts stand, and lack of memory is blamed on
+-- nothing.
 abbrev pub blame_of : Status → Blame
 blame_of (Absent input) = Missing
 blame_of ReadFault = Reading
@@ -61,15 +62,15 @@ abbrev pub blame_of_answer : {T : Type 0} → Result T Status → Blame
 blame_of_answer (Ok x) = Nothing
 blame_of_answer (Err status) = blame_of status
 
--- The answer where a call is refused behind another answer. Lack of memory gives way to what a count tells: an I/O
--- error or an absent file.
+-- The final answer where a call ended as `first`, and a later call was refused. Lack of memory doesn't replace an
+-- answer that a count was raised for: an I/O error or an absent file.
 abbrev pub refused_behind : Status → Status → Status
 refused_behind (Absent input) Memory = Absent input
 refused_behind ReadFault Memory = ReadFault
 refused_behind WriteFault Memory = WriteFault
 refused_behind first refusal = refusal
 
--- an answer where no input is absent
+-- an answer other than an absent input
 abbrev pub IsPresent : Status → Type 0
 IsPresent (Absent input) = ⊥
 IsPresent _ = Unit {0}
@@ -83,8 +84,8 @@ IsFault _ = ⊥
 
 -- ---- what an answer says of the words
 
--- An answer to the bytes of the inputs, which were read: no refusal of the words, no missing input, no I/O error, and
--- not out of memory.
+-- An answer that follows from the bytes of inputs that were read. It refuses no words, misses no input, and is neither
+-- an I/O error nor out of memory.
 abbrev pub IsOfBytes : Status → Type 0
 IsOfBytes Usage = ⊥
 IsOfBytes Same = ⊥
@@ -94,15 +95,15 @@ IsOfBytes WriteFault = ⊥
 IsOfBytes Memory = ⊥
 IsOfBytes _ = Unit {0}
 
--- an answer of the input of that number alone: it is no refusal of the words, and no other input isn't there
+-- an answer of the input of this number alone: it refuses no words, and no other input is absent
 abbrev pub IsOfInput : ℕ → Status → Type 0
 IsOfInput number Usage = ⊥
 IsOfInput number Same = ⊥
 IsOfInput number (Absent input) = input ≡ number
 IsOfInput number _ = Unit {0}
 
--- An answer of so many inputs where the words fit, and whether two names are equal is given. Where they are, it is
--- `Same` or out of memory, and `Same` comes only there. An input that isn't there is one of these inputs.
+-- The answer where the words fit and name `inputs` inputs; `same` says whether two names are equal. If two are, the
+-- answer is `Same` or out of memory. If none are, it isn't `Same`. An absent input is one of these inputs.
 abbrev pub IsOfInputs : Bool → ℕ → Status → Type 0
 IsOfInputs same inputs Usage = ⊥
 IsOfInputs same inputs Same = same ≡ true
@@ -112,11 +113,11 @@ IsOfInputs same inputs _ = same ≡ false
 
 -- ---- outcomes
 
--- an end without numbers
+-- the outcome with this status, with zeros as its numbers
 abbrev pub ended : Status → Outcome
 ended status = record { status = status; numbers = 0 ∷ 0 ∷ 0 ∷ 0 ∷ 0 ∷ 0 ∷ 0 ∷ []; shown = 0 }
 
--- the outcome of what answers one, or a status
+-- the outcome of a result: the one that it has, or one with its status
 abbrev pub outcome_of : Result Outcome Status → Outcome
 outcome_of (Ok outcome) = outcome
 outcome_of (Err status) = ended status

@@ -1,5 +1,5 @@
-//! What a command means: how it answers and what it writes, as a function of the files, and what it is to carry a
-//! meaning out.
+//! What a command means: how it answers and what it writes, as a function of the files. Also when a meaning counts as
+//! carried out.
 #![tactic(auto)]
 
 pub mod laws;

@@ -1,4 +1,4 @@
-// How a call of the program ends.
+// How a call of the program ends, as a status and the numbers of its line.
 ghost use Rattle.std.specs.Prelude.{◌≡◌};
 ghost use Rattle.dtx_meaning.specs.Status.{IsOfInput, code_of, ended, of_plan, of_read, refused_behind};
 
@@ -6,39 +6,40 @@ use dtx_outside::{ReadNo, WriteNo};
 use dtx_plan::{PlanFault, PlanNo};
 use std::alloc::AllocError;
 
-/// How a call ends. Inputs are numbered from 0, in the order of the words that name them.
+/// How a call ends. Inputs are numbered from 0, in the order of the words that name them. Those of `net` are the plan,
+/// the stream, the feed and the symbols that are received. Those of `trial` are the last three of these.
 #[derive(Clone, Copy, PartialEq, Eq)]
 pub enum Status {
     /// The command was done, and its inputs were read to their ends.
     Done,
     /// The words fit no command.
     Usage,
-    /// Two file names of the command are equal.
+    /// Two of the command's file names are equal.
     Same,
-    /// The input of that number isn't there.
+    /// The input of this number isn't there.
     Absent(u8),
-    /// The plan breaks that rule first.
+    /// The plan, or the list of changes, breaks this rule first.
     Plan(PlanNo),
-    /// The packet of that number is the first whose byte 0 isn't allowed.
+    /// The packet of this number is the first whose byte 0 isn't allowed.
     Packet(u64),
     /// An input holds more than the command takes.
     TooLong,
-    /// The event of that number is the first that reads past the feed.
+    /// The event of this number is the first that reads past the end of the feed.
     OutOfFeed(u32),
-    /// The entry of damage of that number is the first that ends behind the file.
+    /// The entry of damage of this number is the first that ends past the end of the file.
     OutOfAir(u32),
-    /// No whole segment that is received looks like a field sync.
+    /// No field sync is found in the symbols.
     NoSync,
     /// Reading failed.
     ReadFault,
-    /// Writing failed, or printing the line of `Done`.
+    /// Writing failed, or printing the line of `Done` failed.
     WriteFault,
     /// Out of memory.
     Memory,
 }
 
 impl Status {
-    /// The number with which the program ends.
+    /// The exit code of the program.
     pub fn code(&self) -> u8
         ensures { result ≡ code_of self.now }
     {
@@ -65,13 +66,13 @@ impl Status {
 pub struct Outcome {
     /// How it ended.
     pub status: Status,
-    /// Where it is done the numbers of its line in their order, and then zeros.
+    /// If it is done, the numbers of its line in their order, and then zeros.
     pub numbers: [u64; 7],
     /// How many of the numbers its line shows.
     pub shown: usize,
 }
 
-/// An end without numbers.
+/// The outcome with this status, with zeros as its numbers.
 pub fn ended(status: Status) -> Outcome
     ensures { result ≡ ended status }
 {
@@ -82,8 +83,8 @@ pub fn ended(status: Status) -> Outcome
     }
 }
 
-/// The status where a call is refused behind an answer. Lack of memory gives way to what a count tells: an I/O error or
-/// an absent file.
+/// The final status where a call ended as `first`, and a later call was refused. Lack of memory doesn't replace an
+/// answer that a count was raised for: an I/O error or an absent file.
 pub fn refused_behind(first: Status, refusal: Status) -> Status
     ensures { result ≡ refused_behind first refusal }
 {
@@ -93,7 +94,7 @@ pub fn refused_behind(first: Status, refusal: Status) -> Status
     }
 }
 
-/// The status after a refusal to read that input.
+/// The status after a refusal to read the input of this number.
 pub fn of_read(input: u8, cause: ReadNo) -> Status
     ensures status { result ≡ of_read input cause }
     ensures input { IsOfInput input result }
@@ -105,7 +106,7 @@ pub fn of_read(input: u8, cause: ReadNo) -> Status
     }
 }
 
-/// The status where no plan was read.
+/// The status where no plan, or no list of changes, could be read.
 pub fn of_plan(fault: PlanFault) -> Status
     ensures { result ≡ of_plan fault }
 {

@@ -5,7 +5,7 @@ ghost use Rattle.dtx_outside.specs.Sink.{IsCounted, counts_printed, no_sink_coun
 use crate::SinkNo;
 use std::marker::Model;
 
-/// How often printing failed, and how often memory was lacking for it. Each count stays at the greatest `u64`.
+/// How often printing failed, and how often it lacked memory. Each count stays at the greatest `u64`.
 #[derive(Drop)]
 pub struct SinkRefusals {
     faults: u64,
@@ -23,7 +23,7 @@ impl Model for SinkRefusals {
 }
 
 impl SinkRefusals {
-    /// Nothing was refused yet.
+    /// Both counts at 0.
     pub fn new() -> SinkRefusals
         ensures { result ≡ no_sink_counts }
     {
@@ -33,7 +33,7 @@ impl SinkRefusals {
         }
     }
 
-    /// Counts what a write answered, and hands it on.
+    /// Counts the refusal in a write's result, if any, and returns the result.
     pub fn note(&mut self, printed: Result<usize, SinkNo>) -> Result<usize, SinkNo>
         ensures counted { self.new ≡ counts_printed printed self.old }
         ensures gone { IsCounted self.old printed self.new }

@@ -1,4 +1,4 @@
--- How a call ends, whose line was printed or not: which counts have risen, and that nothing is refused without cause.
+-- How a call ends, whether or not its line was printed: which counts have risen, and that each refusal has its cause.
 use Rattle.std.specs.Prelude.{◌≡◌, ◌⊎◌, ℕ, zero, suc, ◌≤◌, false, is_some, List, [], ◌∷◌, Option, Some, None}
 use Rattle.std.specs.Prelude.{IfSome}
 use Rattle.dtx_outside.specs.Counts.{Counts, HasGone, Rose}
@@ -26,9 +26,10 @@ use Rattle.dtx_top.specs.NetAnswers.{IsOfNetWords, IsOfNetwork, ShowsNetwork}
 use Rattle.dtx_top.specs.NetProgress.{HasProgress}
 use Rattle.dtx_top.specs.Trial.{HasTrialHeadline, HasTrialProgress}
 
--- The cause of an answer, of the counts of the shelf and of those of the sink. On `Done` all stand, so no I/O error was
--- met. `WriteFault` is also answered where the line of `Done` could not be printed. Where an I/O error or an absent
--- file was counted, the answer is never `Memory`.
+-- The cause of an answer, as the counts of the shelf and of the sink show it. After `Done` all counts stand, so no I/O
+-- error was met. After `Absent` and `ReadFault` their count has risen. After `WriteFault` its count has risen, or only
+-- the sink's count has: then the line of `Done` could not be printed. After any other answer, `Memory` too, the shelf's
+-- counts stand. So where an I/O error or an absent file was counted, the answer is never `Memory`.
 abbrev pub HasCause : Status → Counts → Counts → SinkCounts → SinkCounts → Type 0
 HasCause Done before now first last = (now ≡ before) × (last ≡ first)
 HasCause (Absent input) before now first last = Rose before.misses now.misses
@@ -46,8 +47,8 @@ pub record HasEnded (before now : Counts) (first last : SinkCounts) (status : St
   pub shortages : first.shortages ≤ last.shortages
   pub cause : HasCause status before now first last
 
--- All was done, whether or not its line could be printed: where no error of writing is counted, `WriteFault` speaks of
--- the line alone.
+-- The command was done, whether or not its line could be printed. This includes `WriteFault` where no error of writing
+-- a file was counted: then only the line could not be printed.
 abbrev pub IsAllDone : Status → Counts → Counts → Type 0
 IsAllDone status before now = (status ≡ Done) ⊎ ((status ≡ WriteFault) × ¬ Rose before.write_faults now.write_faults)
 
@@ -57,13 +58,13 @@ pub record IsFaultless (before now : Counts) (first last : SinkCounts) : Type 0 
   pub writing : ¬ Rose before.write_faults now.write_faults
   pub printing : ¬ Rose first.faults last.faults
 
--- the headline, where the words are those of a network
+-- the headline, where the command plays a network: `net` and `trial` do
 abbrev pub HasHeadlineOf : Option Command → List (List ℕ) → Files → Option Files → Type 0
 HasHeadlineOf (Some Net) words held now = HasHeadline words held now
 HasHeadlineOf (Some Trial) words held now = HasTrialHeadline words held now
 HasHeadlineOf command words held now = Unit {0}
 
--- how far a network came, where the words are those of one
+-- how far a network came, where the command plays one
 abbrev pub HasProgressOf : Option Command → List (List ℕ) → Files → Status → Option Files → Type 0
 HasProgressOf (Some Net) words held status now = HasProgress words held status now
 HasProgressOf (Some Trial) words held status now = HasTrialProgress words held status now
@@ -71,17 +72,17 @@ HasProgressOf command words held status now = Unit {0}
 
 -- ---- what the words alone say of the answer
 
--- how many inputs the fields of a command name
+-- how many of these fields are inputs
 abbrev pub inputs_among : List Field → ℕ
 inputs_among [] = zero
 inputs_among (Input ∷ fields) = suc (inputs_among fields)
 inputs_among (field ∷ fields) = inputs_among fields
 
--- Words that fit no command are answered `Usage`, and others never. These are answered `Same` only where two of the
--- command's file names are equal, and there always unless memory runs out. An input that isn't there is one that the
--- words name, and each refusal is one that the command knows. Of `net`, whose plan names further files, an input that
--- isn't there is one of the four that it reads. Of `trial`, whose words name no file, it is one of the three that it
--- reads.
+-- Words that fit no command are answered `Usage`, and no others are. Words that fit are answered `Same` only where two
+-- of the command's file names are equal, and then always, unless memory runs out. An absent input is one that the words
+-- name, and each refusal is one that the command can give (`Knows`). The plan of `net` names further files. So of its
+-- answer only this is said: it isn't `Usage`, and an absent input is one of the four that it reads. The words of
+-- `trial` name no file. It is never answered `Same`, and an absent input is one of the three that it reads.
 abbrev pub IsByWords : Option Command → List (List ℕ) → Status → Type 0
 IsByWords None words status = status ≡ Usage
 IsByWords (Some Net) words status = IsOfNetwork status
@@ -90,7 +91,7 @@ IsByWords (Some command) words status =
     IsOfInputs (is_some (repeated (names_of (Some command) words))) (inputs_among (row_of command).fields) status
     × Knows command status
 
--- what the words alone say of the answer of a job, and of `net`, which is none
+-- what the words alone say of the answer of a job, and of `net`, which has no job
 abbrev pub IsOfJob : Option Job → List (List ℕ) → Status → Type 0
 IsOfJob (Some job) words status = IsOfWords (job.same words) job.inputs status × Knows job.command status
 IsOfJob None words status = IsOfNetWords words status
@@ -102,9 +103,10 @@ IsOfCommand (Some command) words status = IsOfJob (job_of command) words status
 
 -- ---- a command, but for its line
 
--- A command was performed, but for its line, in which this name stands where the words don't say which. Where the files
--- are told, what the words mean was carried out, a network came so far, and the headline holds where it is done.
--- Whether they are told or not, the answer is one that the words allow, and the counts have gone with it.
+-- A command was performed, but for its line. The name `kept` stands in this line where the words don't give the name.
+-- If the files are told, the meaning of the words was carried out, a network came as far as `HasProgressOf` says, and
+-- the headline holds after `Done`. Told or not, the answer is one that the words allow, and the counts are those of the
+-- answer.
 pub record IsCommandPerformed (command : Option Command) (words : List (List ℕ)) (outcome : Outcome) (kept : List ℕ)
     (told now : Option Files) (before after : Counts) : Type 0 where
   pub carried : IfSome told (λ held. IsCarriedOut (means_of command words held) (Some held) outcome now)

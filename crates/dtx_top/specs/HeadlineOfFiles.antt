@@ -1,5 +1,5 @@
--- The headline, said of the files of a network that is done (the profile's own, in the manner of ATSC A/110; the
--- symbols are those of ATSC A/53 Part 2).
+-- The headline, as a statement on the files of a network that is done (the profile's own, in the manner of ATSC A/110;
+-- the symbols are those of ATSC A/53 Part 2).
 use Rattle.std.specs.Prelude.{◌≡◌, ℕ, ◌+◌, Option, Some, IsSomeAnd, List, [], ◌∷◌, length, slice_get}
 use Rattle.std.specs.FinMap.{get}
 use Rattle.dtx_outside.specs.Shelf.{Files}
@@ -20,14 +20,14 @@ use Rattle.dtx_jobs.specs.SymbolFile.{file_segments}
 use Rattle.dtx_schedule.specs.TransmitterFiles.{symbol_file}
 use Rattle.dtx_top.specs.Networks.{damaged_file, AreWholeFiles, OfNetwork}
 
--- the headline of every plan and stream, as the network's law says it
+-- the headline for every plan and stream, in the form of `dtx_network`'s law
 abbrev pub HeadlineLaw : Type 0
 HeadlineLaw = (plan : Plan) (stream : List (List ℕ)) (events : List Event) → IsPlan plan → IsStream stream
     → Headline plan stream events
 
--- For every plan and stream whose network was done, from the files that were held before to those now.
+-- The headline of a network that was done, from the files `held` before the call to the files `now`.
 pub record HeadlineOfFiles (plan : Plan) (network : NetPlan) (stream : List (List ℕ)) (held now : Files) : Type 0 where
-  -- The files are the feed, what each transmitter sends and logs over its lives, and what is received.
+  -- The files are the feed, what each transmitter sends and logs over its lives, and the packets received.
   pub files : AreWholeFiles plan network stream held now
   -- The segments of each symbol file, cut at every 832 bytes, are those that its transmitter sends.
   pub segments : (who : ℕ) (t : Transmitter) → slice_get plan.transmitters who ≡ Some t
@@ -35,27 +35,28 @@ pub record HeadlineOfFiles (plan : Plan) (network : NetPlan) (stream : List (Lis
       ≡ sent.sent_segments t who (steps_under plan stream network.events)
   -- Any transmitter is given, from any earlier state, the feed unchanged through three cadence marks and on. From its
   -- first listing whose group starts 52 or more packets later, it emits exactly the symbols of that feed. It does so at
-  -- moments that differ between transmitters only by the signalled offsets. In whatever is received of them, a run that
-  -- begins at one of their field syncs gives packets back. They are those whose bytes are all among the run's and lie
-  -- in segments of theirs, and whose words have at most ten wrong bytes.
+  -- moments that differ between transmitters only by the signalled offsets. These symbols may be received in any way. A
+  -- run that begins at one of their field syncs then gives packets back. They are those whose bytes are all among the
+  -- run's and lie in segments of theirs, and whose words have at most ten wrong bytes.
   pub headline : Headline plan stream network.events
-  -- Where what is received is such a transmitter's symbol file with the plan's damage, it gives those packets back.
+  -- If the receiver takes the symbol file of one of these transmitters, with the plan's damage, those packets come
+  -- back.
   pub gives_back : (receiver : ReceivePlan) (x : Joined plan stream network.events) → network.receive ≡ Some receiver
       → x.t.address ≡ receiver.from
       → GivesBack (feed plan stream) x.k (x.mark + x.count) (length (headline.follows x).emits.before)
       (file_segments (damaged_file plan network stream receiver))
-  -- And where what is received is the stretch alone, slightly damaged, it gives all of them back from its first field
-  -- on, and no other.
+  -- If what it takes is the stretch alone, slightly damaged, all packets from the stretch's first field on come back,
+  -- and no other.
   pub gives_all_back : (receiver : ReceivePlan) (x : Joined plan stream network.events)
       → network.receive ≡ Some receiver → x.t.address ≡ receiver.from
       → GivesAllBack (feed plan stream) x.k (x.mark + x.count)
       (file_segments (damaged_file plan network stream receiver))
-  -- The packets of the file `net.ts` are those received, one by one: packet n of the file is the n-th of them.
+  -- Packet n of the file `net.ts` is the n-th packet received.
   pub packets : (receiver : ReceivePlan) → network.receive ≡ Some receiver
       → IsSomeAnd (get now received_name)
       (λ file. packets_of file ≡ received (file_segments (damaged_file plan network stream receiver)))
 
--- The headline holds of the network that these words name, from the files that were held before to those now.
+-- The headline holds of the network of these words, from the files `held` before the call to the files `now`.
 abbrev pub HasHeadline : List (List ℕ) → Files → Option Files → Type 0
 HasHeadline (verb ∷ plan ∷ []) held now =
     OfNetwork plan held (λ said network file. IsSomeAnd now (HeadlineOfFiles said network (packets_of file) held))

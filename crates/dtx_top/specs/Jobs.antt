@@ -22,7 +22,7 @@ use Rattle.dtx_jobs.specs.Soft.{soft_job}
 use Rattle.dtx_jobs.specs.Watch.{watch_job}
 use Rattle.dtx_top.specs.Trial.{trial_job}
 
--- `net` has none: which files it reads and writes its plan says, and not its words.
+-- The job of a command. `net` has none, since its plan and not its words says which files it reads and writes.
 abbrev pub job_of : Command → Option Job
 job_of Adapt = Some adapt_job
 job_of Code = Some code_job

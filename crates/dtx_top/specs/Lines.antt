@@ -1,4 +1,4 @@
--- The line that a call leaves behind: of its answer, its names and its numbers.
+-- The line that a call prints at its end: its text, with a name and numbers, and how much of it was printed.
 use Rattle.std.specs.Prelude.{◌≡◌, ◌≢◌, ◌⊎◌, ℕ, ◌≤◌, List, length, take, Option, Some, None}
 use Rattle.dtx_outside.specs.Counts.{Rose}
 use Rattle.dtx_outside.specs.Shelf.{Files}
@@ -18,40 +18,43 @@ use Rattle.dtx_top.specs.Trial.{trial_names}
 
 -- ---- which line
 
--- The file names of a command: those among its words, or those of a trial. Of `net` also those that its plan gives.
+-- The file names of a command: those among its words. Of `trial` they are those of its inputs. Of `net` they are PLAN
+-- and those that the plan gives.
 abbrev pub names_told : Option Command → List (List ℕ) → Files → List (List ℕ)
 names_told (Some Net) words held = net_names words held
 names_told (Some Trial) words held = trial_names
 names_told command words held = names_of command words
 
--- The text is the line of an answer to these words over these files. The line of `Done` comes only where the meaning
--- is done.
+-- The text is the line of this status, for these words over these files, with the numbers of their meaning. The status
+-- is `Done` only where the meaning is done.
 pub record IsToldLine (command : Option Command) (words : List (List ℕ)) (held : Files) (status : Status)
     (text : List ℕ) : Type 0 where
   pub done : status ≡ Done → (means_of command words held).outcome.status ≡ Done
   pub line : text ≡ line_at command status (means_of command words held).outcome
       (line_name status (names_told command words held))
 
--- the name in a line: among the words, or for `net` the one that it keeps, unless PLAN isn't there
+-- The name in a line: one among the words. Of `trial` it is one of its inputs. Of `net` it is the name that it keeps,
+-- or PLAN where that isn't there.
 abbrev pub name_kept : Option Command → List (List ℕ) → Status → List ℕ → List ℕ
 name_kept (Some Net) words status kept = told_name (plan_word words) status kept
 name_kept (Some Trial) words status kept = line_name status trial_names
 name_kept command words status kept = line_name status (names_of command words)
 
--- that name may stand in the line of an answer, whatever the files are
+-- this name may stand in the line of this status, whatever the files are
 abbrev pub IsSomeName : Option Command → List (List ℕ) → Status → List ℕ → Type 0
 IsSomeName (Some Net) words status name = IsUntoldName (plan_word words) status name
 IsSomeName (Some Trial) words status name = name ≡ line_name status trial_names
 IsSomeName command words status name = name ≡ line_name status (names_of command words)
 
--- So many numbers may stand in it: of a network that is done three or six, else as many as its row has labels. Where
--- the words fit no command nothing is done.
+-- How many numbers the line may have: three or six where `net` is done. Of other commands nothing is said here, since
+-- their lines have all labels of their rows. Words that fit no command are never done.
 abbrev pub IsSomeCount : Option Command → Status → Outcome → Type 0
 IsSomeCount None status outcome = status ≢ Done
 IsSomeCount (Some Net) status outcome = ShowsNetwork status outcome
 IsSomeCount (Some command) status outcome = Unit {0}
 
--- the text is a line of an answer to these words, whatever the files are: with some numbers, of which there are seven
+-- The text is a line of this status for these words, whatever the files are. Its numbers are the first ones of seven,
+-- whose values are left open.
 pub record IsSomeLine (command : Option Command) (words : List (List ℕ)) (status : Status)
     (text : List ℕ) : Type 0 where
   pub outcome : Outcome
@@ -63,13 +66,13 @@ pub record IsSomeLine (command : Option Command) (words : List (List ℕ)) (stat
 
 -- ---- how much of it
 
--- the whole of such a line was printed
+-- a line of this status was printed whole
 pub record HasWholeLine (IsLine : Status → List ℕ → Type 0) (status : Status) (old new : Option (List ℕ)) : Type 0 where
   pub text : List ℕ
   pub line : IsLine status text
   pub whole : new ≡ printed text old
 
--- a prefix of such a line was printed
+-- a prefix of a line of this status was printed
 pub record HasPartLine (IsLine : Status → List ℕ → Type 0) (status : Status) (old new : Option (List ℕ)) : Type 0 where
   pub text : List ℕ
   pub line : IsLine status text
@@ -77,20 +80,20 @@ pub record HasPartLine (IsLine : Status → List ℕ → Type 0) (status : Statu
   pub within : bytes ≤ length text
   pub part : new ≡ printed (take bytes text) old
 
--- the sink refused to print, which a count tells
+-- the sink refused to print, and counted that
 abbrev pub IsUnprintable : SinkCounts → SinkCounts → Type 0
 IsUnprintable first last = Rose first.faults last.faults ⊎ Rose first.shortages last.shortages
 
--- such a line was printed whole, and the sink refused nothing; or it refused, and a prefix of the line was printed
+-- a line of this status was printed whole, and the sink refused nothing; or the sink refused, and a prefix was printed
 abbrev pub HasPrinted : (Status → List ℕ → Type 0) → Status → SinkCounts → SinkCounts → Option (List ℕ)
     → Option (List ℕ) → Type 0
 HasPrinted IsLine status first last old new =
     ((last ≡ first) × HasWholeLine IsLine status old new)
     ⊎ (IsUnprintable first last × HasPartLine IsLine status old new)
 
--- What a call printed, which ended so: the whole line of its answer, or where the sink refused a prefix of it. For
--- `WriteFault`, where printing failed, this may also be a prefix of the line of `Done`. For `Memory` it may be that
--- where the sink lacked memory. For `Done` the line is always whole.
+-- What a call with this status printed. It is the whole line of the status, or a prefix of it where the sink refused.
+-- After `Done` the line is always whole. After `WriteFault` it may also be a prefix of the line of `Done`, where
+-- printing that failed. The same holds after `Memory`, where the sink ran out of memory.
 abbrev pub HasLine : (Status → List ℕ → Type 0) → Status → SinkCounts → SinkCounts → Option (List ℕ)
     → Option (List ℕ) → Type 0
 HasLine IsLine Done first last old new = (last ≡ first) × HasWholeLine IsLine Done old new

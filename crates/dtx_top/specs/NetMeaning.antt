@@ -31,20 +31,20 @@ use Rattle.dtx_schedule.specs.TransmitterFiles.{played_outputs}
 use Rattle.dtx_top.specs.Networks.{network_names, sent_file}
 use Rattle.dtx_top.specs.OfBytes.{of_bytes}
 
--- ---- one meaning behind another
+-- ---- one meaning after another
 
 abbrev pub is_done : Status → Bool
 is_done Done = true
 is_done _ = false
 
--- a meaning, and where it is done another
+-- a meaning, and another one after it if it is done
 abbrev pub where_done : Meaning → Meaning → Meaning
 where_done first next = if is_done first.outcome.status then and_then first next else first
 
 -- ---- the symbols are received
 
--- the numbers of the line, once packets were received: those so far, and then the packets, the bytes put right and the
--- packets flagged
+-- The numbers of the line once packets were received. The first three are those of the network without a receiver. Then
+-- come the packets received, the bytes put right and the packets flagged.
 abbrev pub with_received : ℕ → ℕ → ℕ → Outcome → Outcome
 with_received fed filled steps outcome = if is_done outcome.status then record {
   status = Done;
@@ -53,12 +53,12 @@ with_received fed filled steps outcome = if is_done outcome.status then record {
   shown = 6;
 } else outcome
 
--- another answer of a meaning
+-- the meaning with its answer changed by `other`
 abbrev pub answered : (Outcome → Outcome) → Meaning → Meaning
 answered other m = record { outcome = other m.outcome; outputs = m.outputs }
 
--- what is made of a transmitter's symbols with damage laid over them, where the entry of this number is the first that
--- ends behind them
+-- What is received of a transmitter's symbols with damage laid over them. If the damage has an entry that ends past the
+-- symbols, the first such entry is refused.
 abbrev pub received_past : Option ℕ → List Damage → List ℕ → Meaning
 received_past (Some entry) damage symbols = refused (OutOfAir entry)
 received_past None damage symbols = meaning_of_file segments (damaged_making damage receiving)
@@ -75,7 +75,7 @@ played_outcome fed filled steps = record {
   shown = 3;
 }
 
--- what the events write of a stream, and its numbers
+-- what the events write over a stream, and the numbers of the line
 abbrev pub playing : whole.Plan → NetPlan → List (List ℕ) → Meaning
 playing plan network stream = record {
   outcome = played_outcome (length stream) (placeholders stream)
@@ -83,7 +83,7 @@ playing plan network stream = record {
   outputs = played_outputs plan.transmitters (steps_under plan stream network.events);
 }
 
--- and what is received of it, where a receiver is asked for
+-- what is received of a network over a stream by this receiver
 abbrev pub received_of : whole.Plan → NetPlan → List (List ℕ) → ReceivePlan → Meaning
 received_of plan network stream receiver =
     answered (with_received (length stream) (placeholders stream)
@@ -96,22 +96,22 @@ played_and_received plan network stream None = playing plan network stream
 played_and_received plan network stream (Some receiver) =
     and_then (playing plan network stream) (received_of plan network stream receiver)
 
--- where the event of this number is the first that reads past the feed
+-- what the events mean, or a refusal if they read past the feed: `Some` has the number of the first that does
 abbrev pub events_past : Option ℕ → whole.Plan → NetPlan → List (List ℕ) → Meaning
 events_past (Some event) plan network stream = refused (OutOfFeed event)
 events_past None plan network stream = played_and_received plan network stream network.receive
 
--- what follows of the feed of a stream
+-- what a network means once the feed of its stream is written
 abbrev pub fed_meaning : whole.Plan → NetPlan → List (List ℕ) → Meaning
 fed_meaning plan network stream = events_past (first_past_feed network.events (length stream)) plan network stream
 
 -- ---- the stream is adapted
 
--- what is made of a stream: its feed
+-- the recipe that makes the feed of a stream
 abbrev pub adapting : whole.Plan → Recipe
 adapting plan = of_bytes (feeding plan)
 
--- over the file of the stream, which may not be there
+-- what a network means over the file of its stream, which may not be there
 abbrev pub network_meaning : whole.Plan → NetPlan → Option (List ℕ) → Meaning
 network_meaning plan network None = refused (Absent 1)
 network_meaning plan network (Some file) =
@@ -120,16 +120,16 @@ network_meaning plan network (Some file) =
 
 -- ---- in order
 
--- under a plan of this name and what its table `net` says
+-- what a network means under the plan of this file name, and what its table `net` says, if it has one
 abbrev pub planned_meaning : List ℕ → Files → whole.Plan → Option NetPlan → Meaning
 planned_meaning name held plan None = refused (Plan (record { key = key.Net; item = 0; rule = Missing }))
 planned_meaning name held plan (Some network) =
     if is_some (repeated (network_names name plan network)) then refused Same else network_meaning plan network
     (get held network.stream)
 
--- The plan is read first, and its table `net` asked for. Then the names are compared. The stream is asked for and
--- adapted. The events are compared with the feed and played. The damage is compared with the symbols. At the end the
--- symbols are received.
+-- What `net PLAN` means, in this order. The plan is read, and must have a table `net`. The names are compared. The
+-- stream is asked for and adapted. The events are compared with the feed, and played. The damage is compared with the
+-- symbols, and the symbols are received.
 abbrev pub net_meaning : List (List ℕ) → Files → Meaning
 net_meaning (verb ∷ plan ∷ []) held = under_plan 0 (get held plan) (λ said. planned_meaning plan held said said.net)
 net_meaning words held = refused Usage

@@ -1,4 +1,4 @@
--- The names of a network's files, and the one in its line.
+-- The names of a network's files, and the name in its line.
 use Rattle.std.specs.Prelude.{◌≡◌, ℕ, nat_eq, Bool, false, if◌then◌else◌, List, [], ◌∷◌, Option, Some, None, Result}
 use Rattle.std.specs.Prelude.{Ok}
 use Rattle.std.specs.Prelude.{Err, slice_index_or}
@@ -28,8 +28,8 @@ abbrev pub names_of_file : List ℕ → Option (List ℕ) → List (List ℕ)
 names_of_file name None = name ∷ []
 names_of_file name (Some bytes) = names_said name (plan_of bytes)
 
--- PLAN alone where it gives no network. Else PLAN, the stream, the feed, the files of the transmitters, and what is
--- received.
+-- PLAN alone where it gives no network. Otherwise PLAN, the stream, the feed, the files of the transmitters, and the
+-- file of the packets received, if any.
 abbrev pub net_names : List (List ℕ) → Files → List (List ℕ)
 net_names (verb ∷ plan ∷ []) held = names_of_file plan (get held plan)
 net_names words held = []
@@ -45,16 +45,16 @@ abbrev pub misses_plan : Status → Bool
 misses_plan (Absent input) = nat_eq input 0
 misses_plan _ = false
 
--- where the plan isn't there its name, and else the name that is kept beside the answer
+-- the name in the line: that of the plan where it isn't there, and otherwise the name that is kept beside the answer
 abbrev pub told_name : List ℕ → Status → List ℕ → List ℕ
 told_name plan status kept = if misses_plan status then plan else kept
 
--- the address of the transmitter whose symbols are received
+-- the address of the transmitter whose symbols are received, or 0 without a receiver
 abbrev pub receiver_of : Option ReceivePlan → ℕ
 receiver_of None = 0
 receiver_of (Some receiver) = receiver.from
 
--- the name that is kept of an input that isn't there: 1 is the stream, 2 the feed, 3 the symbols that are received
+-- the name of an input that isn't there: 1 is the stream, 2 the feed, 3 the symbols that are received; else no name
 abbrev pub kept_name : NetPlan → Status → List ℕ
 kept_name network (Absent input) =
     if nat_eq input 1 then network.stream
@@ -62,12 +62,12 @@ kept_name network (Absent input) =
     else if nat_eq input 3 then symbol_name (receiver_of network.receive) else []
 kept_name network _ = []
 
--- what the name that is kept says also where files are not told
+-- what is known of the name that is kept, whether or not the files are told
 pub record IsKeptName (status : Status) (kept : List ℕ) : Type 0 where
   pub feed : status ≡ Absent 2 → kept ≡ feed_name
   pub symbols : status ≡ Absent 3 → (address : ℕ) × (kept ≡ symbol_name address)
 
--- and what the name in the line says
+-- what is known of the name in the line, whether or not the files are told
 pub record IsUntoldName (word : List ℕ) (status : Status) (name : List ℕ) : Type 0 where
   pub plan : status ≡ Absent 0 → name ≡ word
   pub feed : status ≡ Absent 2 → name ≡ feed_name

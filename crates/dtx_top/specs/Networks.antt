@@ -19,16 +19,17 @@ use Rattle.dtx_words.specs.NetworkNames.{feed_name, log_name, received_name, sym
 
 -- ---- names
 
--- the name of what is received, where a receiver is asked for
+-- the name of the file of packets received, if the plan asks for a receiver
 abbrev pub received_names : Option ReceivePlan → List (List ℕ)
 received_names None = []
 received_names (Some receiver) = received_name ∷ []
 
--- the files that a network writes: the feed, the two files of each transmitter in the plan's order, what is received
+-- The files that a network writes: the feed, two files for each transmitter in the plan's order, and the packets
+-- received.
 abbrev pub written_names : Plan → NetPlan → List (List ℕ)
 written_names plan network = feed_name ∷ (transmitter_names plan.transmitters ++ received_names network.receive)
 
--- all its files: the plan, the stream, and those
+-- all its files: the plan, the stream, and those that it writes
 abbrev pub network_names : List ℕ → Plan → NetPlan → List (List ℕ)
 network_names name plan network = name ∷ network.stream ∷ written_names plan network
 
@@ -45,7 +46,7 @@ sent_file plan network stream address =
 unfoldable pub damaged_file : Plan → NetPlan → List (List ℕ) → ReceivePlan → List ℕ
 damaged_file plan network stream receiver = hurt receiver.damage (sent_file plan network stream receiver.from)
 
--- no file but these was touched
+-- no file but those of these names was touched
 abbrev pub AreOthersKept : List (List ℕ) → Files → Files → Type 0
 AreOthersKept names held now = (name : List ℕ) → ¬ Contains names name → get now name ≡ get held name
 
@@ -56,8 +57,8 @@ pub record AreSentFiles (plan : Plan) (network : NetPlan) (stream : List (List �
   pub logs : (who : ℕ) (t : _) → slice_get plan.transmitters who ≡ Some t
       → get now (log_name t.address) ≡ Some (log_file t who (steps_under plan stream network.events))
 
--- The feed, the files of the transmitters and these bytes as what is received were written, where a receiver is asked
--- for, and no other file was touched.
+-- The files hold the feed and what the transmitters send and log. If the plan asks for a receiver, the file of the
+-- packets received holds what `made` gives. No other file was touched.
 pub record AreNetworkFiles (plan : Plan) (network : NetPlan) (stream : List (List ℕ)) (made : ReceivePlan
     → List ℕ) (held now : Files) : Type 0 where
   pub feed : get now feed_name ≡ Some (feed_bytes plan stream)
@@ -69,20 +70,20 @@ pub record AreNetworkFiles (plan : Plan) (network : NetPlan) (stream : List (Lis
 abbrev pub packets_received : Plan → NetPlan → List (List ℕ) → ReceivePlan → List ℕ
 packets_received plan network stream receiver = received_bytes (damaged_file plan network stream receiver)
 
--- All files of a network that is done.
+-- All files of a network that is done are there and whole.
 abbrev pub AreWholeFiles : Plan → NetPlan → List (List ℕ) → Files → Files → Type 0
 AreWholeFiles plan network stream held now =
     AreNetworkFiles plan network stream (packets_received plan network stream) held now
 
 -- ---- the network of the files
 
--- P of the plan that is the file of this name, and of its table `net`
+-- P holds of the plan in the file of this name and of its table `net`, which are both there
 abbrev pub OfNetPlan : List ℕ → Files → (Plan → NetPlan → Type 0) → Type 0
 OfNetPlan name held P =
     IsSomeAnd (get held name) (λ bytes. IsOkAnd (plan_of bytes)
     (λ plan. IsSomeAnd plan.net (λ network. P plan network)))
 
--- P of them and of the bytes of the stream
+-- P holds of these and of the bytes of the stream, which is there
 abbrev pub OfNetwork : List ℕ → Files → (Plan → NetPlan → List ℕ → Type 0) → Type 0
 OfNetwork name held P =
     OfNetPlan name held (λ plan network. IsSomeAnd (get held network.stream) (λ file. P plan network file))

@@ -1,4 +1,4 @@
--- An input that is made of bytes, as every input is that a program reads.
+-- An input that consists of bytes, as every input of a program does.
 use Rattle.std.specs.Prelude.{ℕ, ◌&&◌, Bool, nat_lt, List}
 use Rattle.std.specs.List.{list_all}
 use Rattle.dtx_engine.specs.Recipe.{Recipe}
@@ -7,7 +7,7 @@ use Rattle.dtx_engine.specs.Recipe.{Recipe}
 abbrev pub are_bytes : List ℕ → Bool
 are_bytes unit = list_all (λ b. nat_lt b 256) unit
 
--- The making, where a unit is allowed only if it is made of bytes. A program reads nothing else. To a definition an
--- input is a list of numbers: so they are known to be bytes where all units of it were allowed.
+-- The recipe, which allows a unit only if it consists of bytes. A program reads nothing else, but for a definition an
+-- input is a list of numbers. So an input whose units were all allowed is known to consist of bytes.
 abbrev pub of_bytes : Recipe → Recipe
 of_bytes recipe = record recipe { allows = λ k unit. recipe.allows k unit && are_bytes unit }

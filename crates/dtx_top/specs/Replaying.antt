@@ -8,7 +8,7 @@ use Rattle.dtx_outside.specs.Shelf.{Files}
 use Rattle.dtx_plan.specs.declared.plan.Plan.{Plan}
 use Rattle.dtx_words.specs.NetworkNames.{feed_name}
 
--- the first two numbers are those of the stream that was adapted
+-- the first two numbers are those of the stream's feed: its packets, and the placeholders filled
 pub record HasNumbers (stream : List (List ℕ)) (fed : Outcome) : Type 0 where
   pub packets : slice_index fed.numbers 0 ≡ length stream
   pub filled : slice_index fed.numbers 1 ≡ placeholders stream

@@ -27,7 +27,7 @@ use Rattle.dtx_top.specs.NetProgress.{HasNetProgress}
 
 -- ---- the trial plan
 
--- a transmitter to which the feed takes no time
+-- a transmitter that the feed reaches without delay
 abbrev pub near : ℕ → ℤ → Transmitter
 near address offset = record { address = address; offset = offset; delay = 0 }
 
@@ -35,8 +35,8 @@ near address offset = record { address = address; offset = offset; delay = 0 }
 abbrev pub trial_transmitters : List Transmitter
 trial_transmitters = near 1 (pos 0) ∷ near 2 (pos 25) ∷ near 3 (negsuc 9) ∷ []
 
--- Each transmitter is given the whole feed, and the third one the stream's own first 50 packets before it, which have
--- no mark.
+-- Each transmitter is given the whole feed. Before it the third one is given the stream's own first 50 packets, which
+-- have no mark.
 abbrev pub trial_events : ℕ → ℕ → List Event
 trial_events seed count = Send 1 0 count ∷ Send 2 0 count ∷ Foreign 3 seed 0 50 ∷ Send 3 0 count ∷ []
 
@@ -48,7 +48,7 @@ trial_network seed count = record {
   receive = Some (record { from = 3; damage = [] });
 }
 
--- the plan of a trial with a stream of that many packets
+-- the plan of a trial whose stream has `count` packets
 abbrev pub trial_plan : ℕ → ℕ → whole.Plan
 trial_plan seed count = record {
   start = 0;
@@ -57,7 +57,7 @@ trial_plan seed count = record {
   net = Some (trial_network seed count);
 }
 
--- a plan is that of a trial
+-- the plan is that of a trial
 pub record IsTrialPlan (plan : whole.Plan) : Type 0 where
   pub seed : ℕ
   pub count : ℕ
@@ -68,7 +68,7 @@ pub record IsTrialPlan (plan : whole.Plan) : Type 0 where
 
 -- ---- the answer
 
--- The inputs are those of a network but for the plan: 0 is the stream, 1 the feed, 2 the symbols that are received.
+-- The inputs are those of a network without the plan: 0 is the stream, 1 the feed, 2 the symbols that are received.
 abbrev pub of_trial : Status → Status
 of_trial (Absent input) = Absent (input - 1)
 of_trial status = status
@@ -77,13 +77,13 @@ abbrev pub trial_outcome : Outcome → Outcome
 trial_outcome outcome =
     record { status = of_trial outcome.status; numbers = outcome.numbers; shown = outcome.shown }
 
--- their names, in this order
+-- the names of these inputs, in this order
 abbrev pub trial_names : List (List ℕ)
 trial_names = trial_name ∷ feed_name ∷ symbol_name 3 ∷ []
 
 -- ---- what it means
 
--- what the network does over the stream that was made
+-- what the network does over the stream, once that is made
 unfoldable pub trial_played : ℕ → ℕ → Meaning
 trial_played seed count =
     answered trial_outcome
@@ -93,54 +93,55 @@ trial_played seed count =
 abbrev pub trial_made : ℕ → ℕ → Meaning
 trial_made seed count = and_then (made_file seed count trial_name) (trial_played seed count)
 
--- where both are numbers in their ranges
+-- what a trial means if both are numbers in their ranges, and otherwise a refusal
 abbrev pub trial_of : Option ℕ → Option ℕ → Meaning
 trial_of (Some seed) (Some count) = trial_made seed count
 trial_of (Some seed) None = refused Usage
 trial_of None count = refused Usage
 
--- with these words
+-- what these words mean
 abbrev pub trial_meaning : List (List ℕ) → Files → Meaning
 trial_meaning (verb ∷ seed ∷ count ∷ []) held =
     trial_of (number_in (2 ^ 64 - 1) seed) (number_within 624 1000000 count)
 trial_meaning words held = refused Usage
 
--- where the words fit, no two names are equal
+-- whether two names are equal, where the words fit: a trial's never are
 abbrev pub trial_same : List (List ℕ) → Option Bool
 trial_same (verb ∷ seed ∷ count ∷ []) =
     numbers_same (number_in (2 ^ 64 - 1) seed) (number_within 624 1000000 count) false
 trial_same words = None
 
--- the command `trial SEED COUNT`, but for its headline and how far it came
+-- the job of `trial SEED COUNT`; the headline and the progress are no part of it
 abbrev pub trial_job : Job
 trial_job = record { command = Trial; means = trial_meaning; same = trial_same; inputs = 3 }
 
--- ---- how far it came
+-- ---- how far a trial came
 
 -- the files with the whole stream
 abbrev pub with_trial : ℕ → ℕ → Files → Files
 with_trial seed count held = with_file trial_name (made_stream seed count) held
 
--- How far the network came over the stream, from the files with it to those now.
+-- How far the network came over the stream, from the files with the whole stream to the files `now`.
 unfoldable pub HasTrialNet : ℕ → ℕ → Status → Files → Option Files → Type 0
 HasTrialNet seed count status held now =
     HasNetProgress (trial_plan seed count) (trial_network seed count) (made_stream seed count) status
     (with_trial seed count held) now
 
--- Either an I/O error or lack of memory was met while the stream was written: it is there in part, if at all, and no
--- other file was touched. Or it is whole, and the network came so far.
+-- How far a trial came. Either an I/O error or lack of memory was met while the stream was written: then `trial.ts`, if
+-- it was begun, holds a prefix of it, and no other file was touched. Or the stream is whole, and the network came as
+-- far as `HasTrialNet` says.
 abbrev pub HasMadeProgress : ℕ → ℕ → Status → Files → Option Files → Type 0
 HasMadeProgress seed count status held now =
     (IsFault status × ArePartWritten ((trial_name, made_stream seed count) ∷ []) (Some held) now)
     ⊎ HasTrialNet seed count status held now
 
--- where both are numbers in their ranges
+-- how far a trial came, if both are numbers in their ranges
 abbrev pub HasNumbersProgress : Option ℕ → Option ℕ → Status → Files → Option Files → Type 0
 HasNumbersProgress (Some seed) (Some count) status held now = HasMadeProgress seed count status held now
 HasNumbersProgress (Some seed) None status held now = Unit {0}
 HasNumbersProgress None count status held now = Unit {0}
 
--- of these words
+-- how far the trial of these words came
 abbrev pub HasTrialProgress : List (List ℕ) → Files → Status → Option Files → Type 0
 HasTrialProgress (verb ∷ seed ∷ count ∷ []) held status now =
     HasNumbersProgress (number_in (2 ^ 64 - 1) seed) (number_within 624 1000000 count) status held now
@@ -154,7 +155,7 @@ pub record IsTrialDone (seed count : ℕ) (held now : Files) : Type 0 where
   pub network : HeadlineOfFiles (trial_plan seed count) (trial_network seed count)
       (packets_of (made_stream seed count)) (with_trial seed count held) now
 
--- where both are numbers in their ranges
+-- the trial is done, and both are numbers in their ranges
 abbrev pub HasNumbersHeadline : Option ℕ → Option ℕ → Files → Option Files → Type 0
 HasNumbersHeadline (Some seed) (Some count) held now = IsSomeAnd now (IsTrialDone seed count held)
 HasNumbersHeadline (Some seed) None held now = ⊥

@@ -1,4 +1,4 @@
-//! Laws of the definitions: what follows of a call's end, and of a network's files.
+//! Laws of the definitions: what follows from how a call ends, and from a network's files.
 
 ghost use Rattle.std.specs.Prelude.{◌≡◌, ◌≢◌, ◌⊎◌, ◌-◌, ◌*◌, ◌/◌, ◌%◌, ◌^◌, ◌<◌, ◌≤◌, ◌∷◌, [], ℕ, IsSomeAnd, List};
 ghost use Rattle.std.specs.Prelude.{Option, Some};
@@ -49,8 +49,8 @@ use dtx_network::laws::{
 };
 use dtx_packet_jobs::laws::placing::{fields_with_one, groups_begin_late, what_stays};
 
-/// Nothing is refused without cause. Where a call has ended so and counted no error of reading, writing or printing,
-/// its answer is that of the meaning, or out of memory.
+/// Nothing is refused without cause. Let a call end in accordance with `IsDone` and `HasEnded`, and let no error of
+/// reading, writing or printing be counted. Then its answer is that of the meaning, or out of memory.
 pub fn no_answer_is_without_cause()
     ensures { (meaning : Meaning) (start now : Option Files) (status : Status) (before after : Counts)
         (first last : SinkCounts) → IsDone meaning start status (Rose first.faults last.faults) now
@@ -58,7 +58,7 @@ pub fn no_answer_is_without_cause()
         → IsFaultless before after first last → (status ≡ meaning.outcome.status) ⊎ (status ≡ Memory) }
 {}
 
-/// The segments of a transmitter's symbol file are those that it sends: segment n of the file is segment n of them.
+/// Segment n of a transmitter's symbol file is segment n of those that it sends, and both have as many segments.
 pub fn segments_read_back()
     ensures count { (t : Transmitter) (who : ℕ) (steps : List Step)
         → file.whole_segments (symbol_file t who steps) ≡ length (sent.sent_segments t who steps) }
@@ -66,8 +66,8 @@ pub fn segments_read_back()
         → file.file_segments (symbol_file t who steps) ≡ sent.sent_segments t who steps }
 {}
 
-/// What stands in a transmitter's two files is the same in any two schedules in which the same is done with it,
-/// whatever is done with others and when.
+/// A transmitter's two files depend only on the steps of its own. They are the same under any two schedules that do the
+/// same with it, whatever these do with others and when.
 pub fn files_of_interleavings()
     ensures symbols { (t : Transmitter) (who : ℕ) (steps others : List Step)
         → own_steps who steps ≡ own_steps who others → symbol_file t who steps ≡ symbol_file t who others }
@@ -77,9 +77,9 @@ pub fn files_of_interleavings()
     interleavings();
 }
 
-/// The files of the transmitters by their names, wherever a network ends once all of them are begun. With t steps done,
-/// the symbol file of each begins with all that the first t steps give, and is a prefix of what the first t + 1 steps
-/// give. The same holds of its log, with the lines that they give. Where t is all steps, both are whole.
+/// The files of the transmitters by their names, wherever a network ends after all of them are begun. Let t steps be
+/// done. The symbol file of each begins with all that the first t steps give, and is a prefix of what the first t + 1
+/// steps give. The same holds of its log. If t is all steps, both files are whole.
 pub fn files_of_a_network_under_way()
     ensures { (plan : Plan) (network : NetPlan) (file : List ℕ) (status : Status) (held now : Files)
         (progress : HasNetProgress plan network file status held (Some now)) → IsPlan plan
@@ -93,8 +93,8 @@ pub fn files_of_a_network_under_way()
 /// stream. The stream has 372 packets or more, and a placeholder in the group from packet 100 on. Nothing else is done,
 /// and the first of the two is received.
 ///
-/// Take the files of such a network of which the headline holds, as it does where the command `net` is done. There
-/// `net.ts` has exactly the packets of the feed from the stretch's first field sync on whose bytes are all there, in
+/// Let the headline hold of the files of such a network, as it does after the command `net` is done. Then `net.ts` has
+/// exactly the packets of the feed whose bytes are all there, from the stretch's first field sync on. They stand in
 /// order, with 0x47 as their sync bytes.
 pub fn simple_networks_work()
     ensures works { (plan : Plan) (network : NetPlan) (stream : List (List ℕ)) (a b : Transmitter) (entries : ℕ)
@@ -113,10 +113,10 @@ pub fn simple_networks_work()
     headline();
 }
 
-/// Let packet k of a stream, at place 52 of its field or behind, be a placeholder. Its group of four begins 52 packets
-/// or more behind the mark of its frame. In the adapter's feed the group has an order that counts, from the feed's
-/// first packet on and from each mark up to packet k. (In which fields such a packet stands once placeholders were put,
-/// `placed_streams_have_orders` says.)
+/// Let packet k of a stream be a placeholder, at place 52 of its field or later. Its group of four begins 52 packets or
+/// more after the mark of its frame. In the adapter's feed the group has an order that counts, seen from the feed's
+/// first packet on, and from each mark up to packet k. (`placed_streams_have_orders` says in which fields there is a
+/// placeholder of this kind after `place`.)
 pub fn late_placeholders_are_orders()
     ensures late { (k : ℕ) → 52 ≤ k % 312 → 52 ≤ 4 * (k / 4) % 624 }
     ensures order { (plan : Plan) (stream : List (List ℕ)) (k : ℕ) → IsPlan plan → IsStream stream → 52 ≤ k % 312
@@ -130,9 +130,9 @@ pub fn late_placeholders_are_orders()
     orders_of_a_feed();
 }
 
-/// A stream in which placeholders were put is a stream, so that an adapter's feed of it has all that is proved of
-/// feeds. In each field that holds a null packet or a placeholder at place 52 or behind, a placeholder stands there
-/// then. Its group has an order that counts in that feed, from each mark up to it.
+/// A stream in which placeholders were put is a stream. So an adapter's feed of it has all that is proved of feeds.
+/// Take each field that holds a null packet or a placeholder at place 52 or later. Then a placeholder stands at one of
+/// these places. Its group has an order that counts in that feed, seen from each mark up to it.
 pub fn placed_streams_have_orders()
     ensures stream { (stream : List (List ℕ)) → IsStream stream → IsStream (placed stream) }
     ensures orders { (plan : Plan) (stream : List (List ℕ)) (field : ℕ) → IsPlan plan → IsStream stream
@@ -146,17 +146,18 @@ pub fn placed_streams_have_orders()
     late_placeholders_are_orders();
 }
 
-/// Made packets are a stream, and the group from packet 100 on holds a placeholder.
+/// Made packets, at most 624,000,000, are a stream. If there are 104 or more, the group from packet 100 on holds a
+/// placeholder.
 pub fn made_packets_are_a_stream()
     ensures stream { (seed count : ℕ) → count ≤ 624000000 → IsStream (made_packets seed count) }
     ensures count { (seed count : ℕ) → length (made_packets seed count) ≡ count }
     ensures order { (seed count : ℕ) → 104 ≤ count → has_order (made_packets seed count) 100 ≡ true }
 {}
 
-/// The plan of a trial is one that a network takes, and what a trial means is done. So over files that are told its
-/// answer is `Done`, an I/O error or out of memory. It is never `Absent`, `Packet`, `TooLong`, `OutOfFeed` or `NoSync`.
-/// Its stream was made, of packets that begin with 0x47, and has as many as the events give. Among what its third
-/// transmitter sends, which isn't too long, there is a field sync.
+/// A network takes the plan of a trial, and the meaning of a trial is `Done`. So if the files are told, its answer is
+/// `Done`, an I/O error or out of memory. It is never `Absent`, `Packet`, `TooLong`, `OutOfFeed` or `NoSync`. The
+/// reason: its stream was made, of packets that begin with 0x47, and of as many as the events give. What its third
+/// transmitter sends isn't too long, and has a field sync.
 pub fn a_trial_is_done()
     ensures plan { (seed count : ℕ) → IsPlan (trial_plan seed count) }
     ensures done { (seed count : ℕ) → seed ≤ 2 ^ 64 - 1 → 624 ≤ count → count ≤ 1000000
@@ -171,10 +172,10 @@ pub fn a_trial_is_done()
     groups_are_spaced();
 }
 
-/// Every feed with a packet is watched calmly by `watch`, where the output is another file. This holds of the file of
-/// all its packets, and of that of its packets from any of its marks on. What is written is the line `lock 0` and one
-/// line `ops` for each operations packet, in their order, and no other. None of these lines says `slip` or `jump`. The
-/// line that is printed has the numbers of the packets and of the operations packets, and 0 for all else.
+/// If the output is another file, `watch` watches every feed with a packet calmly. This holds of the file of all its
+/// packets, and of the file of its packets from any of its marks on. The output has the line `lock 0` and one line
+/// `ops` for each operations packet, in their order, and no other line. None of these lines has `slip` or `jump`. The
+/// printed line has the number of packets, the number of operations packets, and 0 for all else.
 pub fn feeds_are_watched_calmly()
     ensures whole { (plan : Plan) (stream : List (List ℕ)) (verb input output : List ℕ) (held : Files) → IsPlan plan
         → IsStream stream → 0 < length stream → command_of (verb ∷ input ∷ output ∷ []) ≡ Some command.Watch

@@ -27,7 +27,7 @@ use dtx_plan::{NetPlan, Plan, PlanKey, PlanNo, PlanRule};
 use dtx_words::{feed_name, symbol_name};
 use std::alloc::Global;
 
-/// How many bytes the name of a stream has at most (the profile's own limit).
+/// The greatest length of the name of a stream, in bytes (the profile's own limit).
 pub const STREAM_NAME: usize = 255;
 
 /// How `net` ended, and the name in its line.
@@ -35,8 +35,8 @@ pub const STREAM_NAME: usize = 255;
 pub struct NetOutcome {
     /// How it ended.
     pub outcome: Outcome,
-    /// The name in its line, where it isn't the word PLAN itself. It is one that is repeated, or that of an input but
-    /// the plan, or else nothing.
+    /// The name in its line, unless that is the word PLAN. It is a name that is repeated, or that of an absent input
+    /// other than the plan, or empty.
     pub name: ArrayString<STREAM_NAME>,
 }
 
@@ -45,22 +45,23 @@ pub struct NetOutcome {
 /// address A sends goes to `tx-A.sym`, and its log to `tx-A.log`. Where a receiver is asked for, it receives the
 /// symbols of its transmitter, with the plan's damage laid over them, into `net.ts`.
 ///
-/// The numbers are the packets of the feed, the placeholders filled and the packets given to exciters. Where a receiver
-/// is asked for, the packets that it gives, the bytes put right and the packets flagged follow.
+/// The numbers of the outcome are the packets of the feed, the placeholders filled and the packets given to exciters.
+/// If the plan asks for a receiver, three more follow: the packets received, the bytes put right and the packets
+/// flagged.
 #[inline(never)]
 pub fn net<S: Shelf>(alloc: Global, words: &[Word], shelf: &mut S) -> NetOutcome
     ensures carried { IfSome (S.files shelf.old) (λ held.
         IsCarriedOut (net_meaning words.now held) (Some held) result.outcome (S.files shelf.new)) }
     ensures gone { HasGone (S.counts shelf.old) (S.counts shelf.new) (blame_of result.outcome.status) }
 
-    // The name in its line is that of the word PLAN where the plan isn't there, and else the name that is kept.
+    // The name in its line is the word PLAN where the plan isn't there, and otherwise the name that is kept.
     ensures name { IfSome (S.files shelf.old) (λ held. told_name
         (plan_word words.now) result.outcome.status result.name.bytes
         ≡ line_name result.outcome.status (net_names words.now held)) }
     ensures untold_name { IsUntoldName (plan_word words.now) result.outcome.status
         (told_name (plan_word words.now) result.outcome.status result.name.bytes) }
 
-    // Also where the files are not told: what the words alone say of the answer, and how many numbers it shows.
+    // Told or not: what the words alone say of the answer, and how many numbers it shows.
     ensures words { IsOfNetWords words.now result.outcome.status }
     ensures shown { ShowsNetwork result.outcome.status result.outcome }
 
@@ -68,7 +69,7 @@ pub fn net<S: Shelf>(alloc: Global, words: &[Word], shelf: &mut S) -> NetOutcome
     ensures progress { IfSome (S.files shelf.old) (λ held.
         HasProgress words.now held result.outcome.status (S.files shelf.new)) }
 
-    // Where it is done the headline holds of its files.
+    // If it is done, the headline holds of its files.
     ensures headline { IfSome (S.files shelf.old) (λ held. result.outcome.status ≡ Status.Done
         → HasHeadline words.now held (S.files shelf.new)) }
 {
@@ -100,7 +101,7 @@ fn net_file<S: Shelf>(alloc: Global, name: &str, shelf: &mut S) -> NetOutcome
     }
 }
 
-/// An answer without a name of the plan's.
+/// An outcome with an empty name.
 fn nameless(outcome: Outcome) -> NetOutcome
     ensures outcome { result.outcome ≡ outcome }
     ensures name { result.name.bytes ≡ [] }
@@ -168,7 +169,7 @@ fn net_apart<S: Shelf>(
     }
 }
 
-/// Does what `net` does where no two names are equal.
+/// Does what `net` does once no two names are equal.
 #[tactic(auto, using(crate::proofs::NetAnswers::network_of_replay))]
 fn net_replayed<S: Shelf>(
     alloc: Global,
@@ -196,7 +197,7 @@ fn net_replayed<S: Shelf>(
     }
 }
 
-/// The name of the input that isn't there, where the status says so, or nothing.
+/// The name of the input that isn't there, or an empty name if the status is another one.
 fn missed_name(network: &NetPlan, status: Status) -> ArrayString<STREAM_NAME>
     requires { length network.now.stream ≤ STREAM_NAME }
     ensures { result.bytes ≡ kept_name network.now status }
@@ -211,7 +212,7 @@ fn missed_name(network: &NetPlan, status: Status) -> ArrayString<STREAM_NAME>
     name
 }
 
-/// The address of the transmitter whose symbols are received. Without a receiver no symbols are asked for.
+/// The address of the transmitter whose symbols are received, or 0 without a receiver.
 fn receiver_of(network: &NetPlan) -> u16
     ensures { result ≡ receiver_of network.now.receive }
 {

@@ -1,5 +1,5 @@
-// Which name of a network's files comes twice. The names of the files that it writes differ from each other. So only
-// that of the plan and that of the stream can come again among them, and no list of all names is made.
+// Which name of a network's files comes twice. The names of the files that a network writes differ from each other. So
+// only the names of the plan and of the stream can come again, and no list of all names is needed.
 ghost use Rattle.std.specs.Prelude.{◌≡◌, ◌<◌, ◌≤◌, ◌^◌, ◌∷◌, ◌++◌, All, [], find, length};
 ghost use Rattle.std.specs.Option.{option_map};
 ghost use Rattle.dtx_plan.specs.Sound.{IsNet, IsSound};

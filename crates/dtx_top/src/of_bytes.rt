@@ -1,18 +1,18 @@
-// An engine whose input is known to be made of bytes.
+// An engine whose input is known to consist of bytes.
 ghost use Rattle.std.specs.Prelude.{◌≡◌, []};
 ghost use Rattle.dtx_top.specs.OfBytes.{of_bytes};
 
 use dtx_engine::{Engine, Shape};
 use dtx_meaning::Outcome;
 
-/// The engine, with its units known to be made of bytes.
+/// The engine, with a recipe that allows only units of bytes.
 #[derive(Drop)]
 pub(crate) struct OfBytes<E> {
     engine: E,
 }
 
 impl<E: Engine> OfBytes<E> {
-    /// The engine, which was given nothing.
+    /// Wraps an engine that was given nothing yet.
     pub(crate) fn new(engine: E) -> OfBytes<E>
         requires { E.stands engine [] }
         ensures fresh { ⟦<OfBytes<E> as Engine>⟧.stands result [] }

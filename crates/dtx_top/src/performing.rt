@@ -1,4 +1,4 @@
-// The command that the words fit, but for its line.
+// Performs the command that the words fit, but doesn't print its line.
 ghost use Rattle.std.specs.Prelude.{◌≡◌, Some};
 ghost use Rattle.dtx_top.specs.Ends.{IsCommandPerformed};
 
@@ -12,7 +12,7 @@ use dtx_packet_jobs::{adapt, dvb_code, dvb_read, hurt, make, place};
 use dtx_words::Command;
 use std::alloc::Global;
 
-/// Does the command that the words fit, if any, but for its line.
+/// Performs the command that the words fit, and doesn't print its line. Without a command the status is `Usage`.
 pub(crate) fn perform<S: Shelf>(
     alloc: Global,
     command: Option<Command>,
@@ -28,7 +28,7 @@ pub(crate) fn perform<S: Shelf>(
     }
 }
 
-/// Does that command, whose words these are, but for its line.
+/// Performs this command with these words, and doesn't print its line.
 fn perform_one<S: Shelf>(
     alloc: Global,
     command: Command,
@@ -59,7 +59,7 @@ fn perform_one<S: Shelf>(
     }
 }
 
-/// An outcome whose line has a name among the words, if any.
+/// An outcome without a name of its own: the name in its line, if any, is one among the words.
 fn nameless(outcome: Outcome) -> NetOutcome
     ensures { result.outcome ≡ outcome }
 {

@@ -26,7 +26,8 @@ use dtx_receiver::Receiver;
 use dtx_words::{received_name, symbol_name};
 use std::alloc::Global;
 
-/// Receives the symbols of the receiver's transmitter, which are so many, with its damage laid over them.
+/// Receives the symbols of the receiver's transmitter, with the receiver's damage laid over them. `symbols` is their
+/// number. If an entry of damage ends past them, the status has the first such entry.
 pub(crate) fn receive_sent<S: Shelf>(
     alloc: Global,
     shelf: &mut S,
@@ -49,7 +50,7 @@ pub(crate) fn receive_sent<S: Shelf>(
     }
 }
 
-/// Does so where each entry of damage ends within them.
+/// Receives them where each entry of damage ends within the symbols.
 #[inline(never)]
 fn receive<S: Shelf>(alloc: Global, shelf: &mut S, receiver: &ReceivePlan) -> Outcome
     requires damage { AreDamages receiver.now.damage }

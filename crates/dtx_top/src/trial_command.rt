@@ -25,16 +25,16 @@ use dtx_plan::Plan;
 use dtx_words::{FEWEST_TRIAL, MOST_TRIAL, number_up_to, number_within, trial_name};
 use std::alloc::Global;
 
-/// Writes the packets 0 to COUNT - 1 that `dtx_make::packet` gives for SEED to `trial.ts`, and plays a network over
-/// them (the profile's own). It plays the network of the trial plan as `net` plays one. Three transmitters are given
-/// the feed, the third one behind 50 packets without a mark. The third one is received. SEED is 0 to 2^64 - 1 and COUNT
-/// 624 to 1,000,000, written as the numbers of `make` are. The numbers are those of `net`.
+/// Writes the packets 0 to COUNT - 1 that `dtx_make::packet` gives for SEED to `trial.ts`, and plays the network of the
+/// trial plan over them as `net` plays one (the profile's own). Three transmitters are given the feed. The third one is
+/// first given 50 packets without a mark, and its symbols are received. SEED is 0 to 2^64 - 1 and COUNT 624 to
+/// 1,000,000, written as the numbers of `make` are. The numbers of the outcome are those of `net`.
 pub fn trial<S: Shelf>(alloc: Global, words: &[Word], shelf: &mut S) -> Outcome
     ensures carried { IfSome (S.files shelf.old) (λ held.
         IsCarriedOut (trial_meaning words.now held) (Some held) result (S.files shelf.new)) }
     ensures gone { HasGone (S.counts shelf.old) (S.counts shelf.new) (blame_of result.status) }
 
-    // Also where the files are not told: what the words alone say of the answer.
+    // Told or not: what the words alone say of the answer.
     ensures words { IsOfWords (trial_same words.now) 3 result.status }
     ensures answers { Knows command.Trial result.status }
 
@@ -42,7 +42,7 @@ pub fn trial<S: Shelf>(alloc: Global, words: &[Word], shelf: &mut S) -> Outcome
     ensures progress { IfSome (S.files shelf.old) (λ held.
         HasTrialProgress words.now held result.status (S.files shelf.new)) }
 
-    // Where it is done the headline holds of its files.
+    // If it is done, the headline holds of its files.
     ensures headline { IfSome (S.files shelf.old) (λ held. result.status ≡ Status.Done
         → HasTrialHeadline words.now held (S.files shelf.new)) }
 {
@@ -56,7 +56,7 @@ pub fn trial<S: Shelf>(alloc: Global, words: &[Word], shelf: &mut S) -> Outcome
     }
 }
 
-/// Does so where both are numbers in their ranges.
+/// Performs the trial if both are numbers in their ranges.
 fn trial_ordered<S: Shelf>(
     alloc: Global,
     seed: Option<u64>,
@@ -81,7 +81,7 @@ fn trial_ordered<S: Shelf>(
     }
 }
 
-/// Takes the memory of the plan, makes the stream, and plays the network.
+/// Makes the plan in memory, writes the stream, and plays the network.
 fn trial_made<S: Shelf>(alloc: Global, seed: u64, count: u64, shelf: &mut S) -> Outcome
     requires least { 624 ≤ count }
     requires most { count ≤ 1000000 }
@@ -99,7 +99,7 @@ fn trial_made<S: Shelf>(alloc: Global, seed: u64, count: u64, shelf: &mut S) -> 
     }
 }
 
-/// Makes the stream of that seed with so many packets, and plays the network of its plan.
+/// Makes the stream of this seed with `count` packets, and plays the network of its plan.
 fn trial_under<S: Shelf>(
     alloc: Global,
     plan: &Plan,
@@ -125,7 +125,7 @@ fn trial_under<S: Shelf>(
     }
 }
 
-/// Plays the network of the plan over the stream, which was made.
+/// Plays the network of the plan over the stream, which is made already.
 fn trial_played<S: Shelf>(alloc: Global, plan: &Plan, shelf: &mut S) -> Outcome
     requires { IsTrialPlan plan.now }
     ensures carried { (seed count : ℕ) (held : Files) → plan.now ≡ trials.trial_plan seed count
@@ -145,7 +145,7 @@ fn trial_played<S: Shelf>(alloc: Global, plan: &Plan, shelf: &mut S) -> Outcome
     }
 }
 
-/// The outcome of a network as that of a trial, which has no plan among its inputs.
+/// The outcome of a network as that of a trial. A trial has no plan among its inputs, so their numbers are one less.
 fn trial_outcome(outcome: Outcome) -> Outcome
     ensures { result ≡ trials.trial_outcome outcome }
 {

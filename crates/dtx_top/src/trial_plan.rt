@@ -7,7 +7,8 @@ use dtx_plan::{Damages, Event, Events, NetPlan, Plan, ReceivePlan, Transmitter, 
 use dtx_words::trial_name;
 use std::alloc::{AllocError, Global};
 
-/// The plan of a trial of that seed with a stream of so many packets (the profile's own).
+/// The plan of a trial of this seed with a stream of `count` packets (the profile's own). The only error is out of
+/// memory.
 pub(crate) fn trial_plan(alloc: Global, seed: u64, count: u64) -> Result<Plan, AllocError>
     ensures { IfOk result (λ plan. plan ≡ trial_plan seed count) }
 {
@@ -27,7 +28,7 @@ fn trial_transmitters(alloc: Global) -> Result<Transmitters, AllocError>
     Transmitters::from_slice(alloc, &[near(1, 0), near(2, 25), near(3, -10)])
 }
 
-/// A transmitter to which the feed takes no time.
+/// A transmitter that the feed reaches without delay.
 fn near(address: u16, offset: i16) -> Transmitter
     ensures { result ≡ near address offset }
 {
@@ -38,7 +39,7 @@ fn near(address: u16, offset: i16) -> Transmitter
     }
 }
 
-/// What is done with them.
+/// The table `net` of a trial's plan.
 fn trial_network(alloc: Global, seed: u64, count: u64) -> Result<NetPlan, AllocError>
     ensures { IfOk result (λ network. network ≡ trial_network seed count) }
 {
@@ -53,7 +54,7 @@ fn trial_network(alloc: Global, seed: u64, count: u64) -> Result<NetPlan, AllocE
     })
 }
 
-/// The schedule: each is given the whole feed, the third one behind packets without a mark.
+/// The schedule: each transmitter is given the whole feed, and the third one 50 packets without a mark before it.
 fn trial_events(alloc: Global, seed: u64, count: u64) -> Result<Events, AllocError>
     ensures { IfOk result (λ events. events ≡ trial_events seed count) }
 {

@@ -1,5 +1,6 @@
-//! What the command `trial` leaves in its files: a statement that asks nothing of an input. The symbols are those of
-//! ATSC A/53 Part 2. The feed and the logs are the profile's own, in the manner of ATSC A/110.
+//! What the command `trial` leaves in its files, for every seed and number of packets that it takes. It reads no file
+//! that was there before, so nothing is asked of one. The symbols are those of ATSC A/53 Part 2. The feed and the logs
+//! are the profile's own, in the manner of ATSC A/110.
 
 ghost use Rattle.std.specs.Prelude.{◌≡◌, ◌^◌, ◌<◌, ◌≤◌, ◌∷◌, [], ℕ, IfSome, IsSomeAnd, codes, decimal};
 ghost use Rattle.dtx_outside.specs.Shelf.{Files};
@@ -15,7 +16,7 @@ use dtx_top::laws::{a_trial_is_done, made_packets_are_a_stream};
 use dtx_top::{Status, run};
 use std::alloc::Global;
 
-/// These are the files of each trial of which the headline holds.
+/// Each trial of which the headline holds has left these files.
 pub fn files_of_a_done_trial()
     ensures { (seed count : ℕ) (held now : Files) → 624 ≤ count → count ≤ 1000000 → IsTrialDone seed count held now
         → AreTrialFiles seed count now }
@@ -30,12 +31,13 @@ pub fn files_of_a_done_trial()
     gives_all_back();
 }
 
-/// What `run` leaves of `trial SEED COUNT`, for every SEED below 2^64 and COUNT from 624 to 1,000,000, over files that
-/// are told, where the answer is `Done`. `tx-1.sym`, `tx-2.sym` and `tx-3.sym` are one and the same list of bytes: the
-/// A/53 symbols of the feed of the made stream from its first order's group on. Each log is exactly the presets of the
-/// feed's orders, at moments that differ between the three by their offsets and in nothing else. `net.ts` is exactly
-/// the packets of the feed, from the first field sync of these symbols on, whose bytes are all there, with 0x47 as
-/// their sync bytes. It is no call of the program's own: it follows from the clauses of `run`, which it calls.
+/// What `run` leaves after `trial SEED COUNT`, for every SEED below 2^64 and COUNT from 624 to 1,000,000, if the
+/// shelf's files are told and the answer is `Done`. The files `tx-1.sym`, `tx-2.sym` and `tx-3.sym` hold the same
+/// bytes: the A/53 symbols of the made stream's feed from the group of its first order on. Each log is exactly the
+/// presets of the feed's orders. Their moments differ between the three logs by the offsets and in nothing else.
+/// `net.ts` holds packets of the feed, from the first field sync of these symbols on, with 0x47 as their sync bytes.
+/// They are exactly those whose bytes are all there. The program doesn't call this function. It is a law that follows
+/// from the clauses of `run`, which it calls.
 pub fn run_of_a_trial<S: Shelf, O: Sink>(
     alloc: Global,
     words: &[Word],

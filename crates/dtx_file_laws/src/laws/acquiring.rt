@@ -1,4 +1,4 @@
-//! What `acquire` makes of a capture of the symbols that `code` wrote (ATSC A/53 Part 2; the capture is the profile's
+//! What `acquire` writes for a capture of the symbols that `code` wrote (ATSC A/53 Part 2; the capture is the profile's
 //! own).
 
 ghost use Rattle.std.specs.Prelude.{◌<◌, ◌≤◌, ℕ, List, length};
@@ -13,8 +13,8 @@ ghost use Rattle.dtx_repeated_feed.specs.DoneWith.{IsDoneWith};
 use dtx_sizes::{GROUP_PACKETS, MOST_PACKETS};
 use dtx_symbol_laws::acquire_laws::{a_stream_is_acquired, all_is_acquired_of_a_file};
 
-/// Noise below half the distance of two levels does nothing: of a capture whose samples each differ from SCALE times
-/// the symbol that `code` wrote by less than SCALE, `acquire SCALE` writes the very file that `code` wrote. So
+/// Noise below half the distance of two levels changes nothing. Let each sample of a capture differ by less than SCALE
+/// from SCALE times the symbol that `code` wrote. Then `acquire SCALE` writes exactly the file that `code` wrote. So
 /// `receive` gives of it what `what_was_coded_is_received` says.
 pub fn a_noisy_capture_is_acquired()
     ensures { (names packets : List (List ℕ)) (scale : ℕ) (file : List ℕ) → 0 < scale

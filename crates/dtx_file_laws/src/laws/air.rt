@@ -1,4 +1,4 @@
-//! What is received of the symbols that `code` wrote, undamaged and damaged (ATSC A/53 Part 2, and the way back).
+//! What is received from the symbols that `code` wrote, undamaged and damaged (ATSC A/53 Part 2, and the way back).
 
 ghost use Rattle.std.specs.Prelude.{◌≡◌, ◌<◌, ◌≤◌, ℕ, ℤ, List, length};
 ghost use Rattle.dtx_chain.specs.Damage.{AreReceived, IsSlight, to_sync};
@@ -23,18 +23,18 @@ use dtx_chain::laws::received_undamaged;
 use dtx_sizes::{GROUP_PACKETS, MOST_PACKETS, MOST_SEGMENTS};
 use dtx_symbol_laws::laws::mending::a_stretch_is_mended;
 
-/// What `code` makes of a stream whose packets begin with 0x47, or with the mark 0xB8, and are no more than may be: it
-/// is done, and OUT is the symbols of their whole groups.
+/// What `code` makes of a stream whose packets begin with 0x47 or with the mark 0xB8, and are at most `MOST_PACKETS`.
+/// It is done, and OUT is the symbols of the whole groups.
 pub fn a_stream_is_coded()
     ensures { (names : List (List ℕ)) (stream : List ℕ) → whole_packets stream ≤ MOST_PACKETS → CanBeCoded stream
         → IsDoneWith names (only (symbol_bytes (packets_of stream)))
         (meaning_of_file shapes.coded_packets coding names stream) }
 {}
 
-/// What `receive` makes of segments in a row of a stream, received with at most ten wrong bytes a word and with their
-/// field syncs found. Where a field sync is among them, all packets from the one behind the first on whose bytes are
-/// all there are written, in order, and no other. Each has 0x47 as its sync byte. There is one run, and none is
-/// flagged.
+/// What `receive` makes of segments in a row of a stream, a field sync among them. They are received with at most ten
+/// wrong bytes a word, and their field syncs are found. OUT has all packets whose bytes are all there, from the one
+/// after the first field sync on, in order, and no other. Each has 0x47 as its sync byte. There is one run, and no
+/// packet is flagged.
 pub fn a_stretch_is_received()
     ensures { (names stream : List (List ℕ)) (first : ℕ) (sent : List (List ℤ)) (file : List ℕ)
         → whole_segments file ≤ MOST_SEGMENTS → ArePackets stream
@@ -43,10 +43,10 @@ pub fn a_stretch_is_received()
         → meaning_of_file shapes.segments receiving names file ≡ all_back_of names stream first file }
 {}
 
-/// What `receive` makes of the symbols that `code` wrote of a stream of at least four packets: its packets but the last
-/// 52, or 51, that were sent (`back_of_all`), with 0x47 as their sync bytes. No byte is put right, none is flagged. The
-/// same packets come of any file as long as that, with at most ten wrong bytes a word and with its field syncs found,
-/// and none is flagged; so many bytes are put right then, perhaps none.
+/// What `receive` makes of the symbols that `code` wrote of a stream of at least four packets. OUT has the packets that
+/// were sent but the last 52, or 51 (`back_of_all`), with 0x47 as their sync bytes. No byte is put right, and no packet
+/// is flagged. A file of the same length gives the same packets if it has at most ten wrong bytes a word and its field
+/// syncs are found. No packet is flagged then either, and `fixed` bytes are put right, perhaps none.
 pub fn what_was_coded_is_received()
     ensures undamaged { (names packets : List (List ℕ)) → ArePackets packets → GROUP_PACKETS ≤ length packets
         → length packets ≤ MOST_PACKETS
@@ -59,11 +59,11 @@ pub fn what_was_coded_is_received()
     received_undamaged();
 }
 
-/// Bursts on the air, in the file that `code` wrote of a stream of at least four packets. With at most 2,022 wrong
-/// bytes in a row, whatever they are, `receive` gives back what it gives of the undamaged file, and none is flagged.
-/// With missing ones, 0x80, among 4,141 in a row, `mend` does. Either may stand wherever it spares the field syncs. A
-/// byte is a symbol, and 10.76 of them last a microsecond: 2,022 last more than 187, and 4,141 more than 384. The
-/// stream has no more packets than may be.
+/// Bursts on the air, in the file that `code` wrote of at least four and at most `MOST_PACKETS` packets. If at most
+/// 2,022 bytes in a row are wrong, `receive` gives back what it gives of the undamaged file, and no packet is flagged.
+/// The same holds of `mend` if bytes are missing (0x80), all among 4,141 in a row. The damage may stand wherever it
+/// spares the field syncs. A byte is a symbol, and 10.76 symbols last a microsecond. So 2,022 last more than 187
+/// microseconds, and 4,141 more than 384.
 pub fn bursts_come_back()
     ensures wrong { (names packets : List (List ℕ)) (file : List ℕ) (from : ℕ) → ArePackets packets
         → GROUP_PACKETS ≤ length packets → length packets ≤ MOST_PACKETS

@@ -1,5 +1,5 @@
-//! What a receiver's `run` gives back of what a sender's `run` left: statements that name no symbol, no codeword and no
-//! meaning of a command. Between the two the file is carried from one shelf to another, and may be damaged.
+//! What a receiver's `run` gives back of what a sender's `run` left. These statements need no symbol, no codeword and
+//! no meaning of a command. Between the two runs the file is carried from one shelf to another, and may be damaged.
 
 ghost use Rattle.std.specs.Prelude.{◌≡◌, ◌≢◌, ◌⊎◌, ◌<◌, ◌≤◌, ◌∷◌, [], ℕ, List, codes, decimal, length};
 ghost use Rattle.dtx_galois.specs.Field.{AreBytes};
@@ -22,11 +22,11 @@ use dtx_symbol_laws::acquire_laws::{a_stream_is_acquired, all_is_acquired_of_a_f
 use dtx_top::Status;
 use std::alloc::Global;
 
-/// `code IN SENT`, and then `receive SENT OUT`, over the same files, with both answers `Done`: OUT is the packets of IN
-/// that come back, with 0x47 as their sync bytes, and no other. No byte was put right, and none is flagged. Let IN have
-/// at least four packets and no more than may be, which begin with 0x47 or with the mark 0xB8. If the names are
-/// different and not empty, `code` then answers `Done`, an I/O error or out of memory, and so does `receive` behind a
-/// `code` that is done. IN is a list of bytes here and below.
+/// Runs `code IN SENT` and then `receive SENT OUT` over the same files. If both answer `Done`, OUT is the packets of IN
+/// that come back, with 0x47 as their sync bytes, and no other. No byte is put right, and no packet is flagged. Let IN
+/// have at least four packets and at most `MOST_PACKETS`, which begin with 0x47 or with the mark 0xB8. Let the names be
+/// different and not empty. Then `code` answers `Done`, an I/O error or out of memory. If it is done, the same holds of
+/// `receive`. IN is a list of bytes here and below.
 pub fn run_there_and_back<S: Shelf, O: Sink>(
     alloc: Global,
     words: &(&[Word], &[Word]),
@@ -53,9 +53,9 @@ pub fn run_there_and_back<S: Shelf, O: Sink>(
     (sent, received)
 }
 
-/// `code IN SENT` over a sender's files, and then `receive GOT OUT` over a receiver's, with both answers `Done`. Where
-/// GOT is SENT, OUT is the packets of IN that come back (`packets_back`). So it is where at most 2,022 bytes of GOT in
-/// a row are wrong, if these spare the field syncs.
+/// Runs `code IN SENT` over a sender's files, and then `receive GOT OUT` over a receiver's. Let both answer `Done`. If
+/// GOT is SENT, OUT is the packets of IN that come back (`packets_back`). The same holds if at most 2,022 bytes of GOT
+/// in a row are wrong, and these spare the field syncs.
 pub fn run_of_code_and_receive<S: Shelf, R: Shelf, O: Sink>(
     alloc: Global,
     words: &(&[Word], &[Word]),
@@ -84,9 +84,9 @@ pub fn run_of_code_and_receive<S: Shelf, R: Shelf, O: Sink>(
     (sent, received)
 }
 
-/// `code IN SENT` over a sender's files, and then `mend GOT OUT` over a receiver's, with both answers `Done`. Where GOT
-/// is SENT, but for missing bytes, 0x80, among 4,141 in a row, and these spare the field syncs, OUT is the packets of
-/// IN that come back.
+/// Runs `code IN SENT` over a sender's files, and then `mend GOT OUT` over a receiver's. Let both answer `Done`. Let
+/// GOT be SENT, except for missing bytes (0x80) among 4,141 in a row, and let these spare the field syncs. Then OUT is
+/// the packets of IN that come back.
 pub fn run_of_code_and_mend<S: Shelf, R: Shelf, O: Sink>(
     alloc: Global,
     words: &(&[Word], &[Word]),
@@ -108,8 +108,9 @@ pub fn run_of_code_and_mend<S: Shelf, R: Shelf, O: Sink>(
     (sent, mended)
 }
 
-/// `code IN SENT` over a sender's files, and then `acquire SCALE GOT OUT` over a receiver's, with both answers `Done`.
-/// Where each sample of GOT differs from SCALE times the symbol of SENT by less than SCALE, OUT is SENT, byte for byte.
+/// Runs `code IN SENT` over a sender's files, and then `acquire SCALE GOT OUT` over a receiver's. Let both answer
+/// `Done`. If each sample of GOT differs from SCALE times the symbol of SENT by less than SCALE, OUT is SENT, byte for
+/// byte.
 pub fn run_of_code_and_acquire<S: Shelf, R: Shelf, O: Sink>(
     alloc: Global,
     words: &(&[Word], &[Word]),
@@ -132,8 +133,8 @@ pub fn run_of_code_and_acquire<S: Shelf, R: Shelf, O: Sink>(
     (sent, acquired)
 }
 
-/// `dvb code IN SENT` over a sender's files, and then `dvb read GOT OUT` over a receiver's, with both answers `Done`.
-/// Where GOT is SENT with at most 96 wrong bytes in a row, OUT is IN's whole packets but the last eleven.
+/// Runs `dvb code IN SENT` over a sender's files, and then `dvb read GOT OUT` over a receiver's. Let both answer
+/// `Done`. If GOT is SENT with at most 96 wrong bytes in a row, OUT is IN's whole packets but the last eleven.
 pub fn run_of_dvb_code_and_read<S: Shelf, R: Shelf, O: Sink>(
     alloc: Global,
     words: &(&[Word], &[Word]),

@@ -1,6 +1,6 @@
-//! What `run` leaves of one command, over files that are told. Where it answers `Done`, the meaning of the input's file
-//! is done and its outputs are whole. A clause `answer` says more: where the names are different and not empty, the
-//! answer is that of this meaning, an I/O error or out of memory.
+//! What `run` leaves for one command, if the files are told. After `Done` the meaning of the input's file is done, and
+//! its outputs are whole. A clause `answer` says more: if the names are different and not empty, the answer is that of
+//! this meaning, an I/O error or out of memory.
 
 ghost use Rattle.std.specs.Prelude.{◌≡◌, ◌≢◌, ◌⊎◌, ◌<◌, ◌≤◌, ◌∷◌, [], ℕ, IfSome, List, Ok, Some, codes, decimal};
 ghost use Rattle.std.specs.FinMap.{get};
@@ -27,7 +27,7 @@ use dtx_outside::{Shelf, Sink, Word};
 use dtx_top::{Status, run};
 use std::alloc::Global;
 
-/// `code IN OUT`: what is made of IN's packets is done, and is what OUT holds.
+/// `code IN OUT`: the meaning of IN's packets is done, and OUT holds its output.
 pub fn run_of_code<S: Shelf, O: Sink>(
     alloc: Global,
     words: &[Word],
@@ -47,7 +47,7 @@ pub fn run_of_code<S: Shelf, O: Sink>(
     run(alloc, words, shelf, out)
 }
 
-/// `receive IN OUT`: what is made of IN's symbols is done, is what OUT holds, and is what the line says.
+/// `receive IN OUT`: the meaning of IN's symbols is done, OUT holds its output, and the line has its numbers.
 pub fn run_of_receive<S: Shelf, O: Sink>(
     alloc: Global,
     words: &[Word],
@@ -71,7 +71,7 @@ pub fn run_of_receive<S: Shelf, O: Sink>(
     run(alloc, words, shelf, out)
 }
 
-/// `mend IN OUT`: what is made of IN's symbols is done, is what OUT holds, and is what the line says.
+/// `mend IN OUT`: the meaning of IN's symbols is done, OUT holds its output, and the line has its numbers.
 pub fn run_of_mend<S: Shelf, O: Sink>(
     alloc: Global,
     words: &[Word],
@@ -95,7 +95,7 @@ pub fn run_of_mend<S: Shelf, O: Sink>(
     run(alloc, words, shelf, out)
 }
 
-/// `dvb code IN OUT`: what is made of IN's packets is done, and is what OUT holds.
+/// `dvb code IN OUT`: the meaning of IN's packets is done, and OUT holds its output.
 pub fn run_of_dvb_code<S: Shelf, O: Sink>(
     alloc: Global,
     words: &[Word],
@@ -115,7 +115,7 @@ pub fn run_of_dvb_code<S: Shelf, O: Sink>(
     run(alloc, words, shelf, out)
 }
 
-/// `dvb read IN OUT`: what is made of IN's blocks is done, is what OUT holds, and is what the line says.
+/// `dvb read IN OUT`: the meaning of IN's blocks is done, OUT holds its output, and the line has its numbers.
 pub fn run_of_dvb_read<S: Shelf, O: Sink>(
     alloc: Global,
     words: &[Word],
@@ -139,7 +139,7 @@ pub fn run_of_dvb_read<S: Shelf, O: Sink>(
     run(alloc, words, shelf, out)
 }
 
-/// `acquire SCALE IN OUT`: what is made of IN's samples is done, and is what OUT holds.
+/// `acquire SCALE IN OUT`: the meaning of IN's samples is done, and OUT holds its output.
 pub fn run_of_acquire<S: Shelf, O: Sink>(
     alloc: Global,
     words: &[Word],
@@ -163,7 +163,7 @@ pub fn run_of_acquire<S: Shelf, O: Sink>(
     run(alloc, words, shelf, out)
 }
 
-/// `excite FEED ADDRESS DELAY OUT LOG`: what is made of FEED's packets is done, and is what OUT and LOG hold.
+/// `excite FEED ADDRESS DELAY OUT LOG`: the meaning of FEED's packets is done, and OUT and LOG hold its outputs.
 pub fn run_of_excite<S: Shelf, O: Sink>(
     alloc: Global,
     words: &[Word],
@@ -180,7 +180,7 @@ pub fn run_of_excite<S: Shelf, O: Sink>(
     run(alloc, words, shelf, out)
 }
 
-/// `adapt PLAN IN OUT`, where PLAN is a plan: what is made of IN's packets under it is done, and is what OUT holds.
+/// `adapt PLAN IN OUT`, where PLAN is a plan: the meaning of IN's packets under it is done, and OUT holds its output.
 pub fn run_of_adapt<S: Shelf, O: Sink>(
     alloc: Global,
     words: &[Word],

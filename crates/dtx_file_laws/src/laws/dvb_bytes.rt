@@ -1,4 +1,4 @@
-//! What is read of the bytes that `dvb code` wrote, with damage (EN 300 429).
+//! What is read from the bytes that `dvb code` wrote, with damage (EN 300 429).
 
 ghost use Rattle.std.specs.Prelude.{◌≡◌, ◌≤◌, ℕ, List};
 ghost use Rattle.dtx_dvb.specs.Damage.{ArePackets};
@@ -14,8 +14,8 @@ use dtx_dvb::laws::{burst, sending};
 use dtx_packet_jobs::laws::dvb_streams::streams_come_back;
 use dtx_sizes::MOST_PACKETS;
 
-/// Of the bytes that `dvb code` wrote of a stream, with at most 96 wrong ones in a row, whatever they are and wherever
-/// they stand, `dvb read` writes the stream's packets as they were, but for the last eleven. None is flagged.
+/// Let at most 96 bytes in a row be wrong in what `dvb code` wrote of a stream, with any values and in any place. Then
+/// `dvb read` writes the stream's packets as they were, but for the last eleven. None is flagged.
 pub fn a_burst_is_read()
     ensures { (names : List (List ℕ)) (stream bytes : List ℕ) (from : ℕ) → whole_packets stream ≤ MOST_PACKETS
         → ArePackets (packets_of stream) → IsBurst 96 from (dvb (packets_of stream)) bytes

@@ -1,4 +1,4 @@
-//! What `excite` makes of the file of a feed (the profile's own, over ATSC A/53 Part 2 and in the manner of ATSC
+//! What `excite` makes of a file with a feed (the profile's own, over ATSC A/53 Part 2 and in the manner of ATSC
 //! A/110).
 
 ghost use Rattle.std.specs.Prelude.{◌≡◌, ◌≢◌, ◌+◌, ◌≤◌, ◌∷◌, ◌++◌, [], ℕ, List, codes, decimal, map, slice_range};
@@ -27,12 +27,12 @@ use dtx_sizes::MOST_PACKETS;
 use dtx_top::Status;
 use std::alloc::Global;
 
-/// Let a file have the packets of a feed from one of its marks on, in front of which packets without a mark may stand.
-/// Of it `excite` writes the feed's own symbols and presets, for each transmitter that the plan lists and each delay
-/// that is in time (`IsFedAnew`). OUT has the feed's segments from the first listing on that begins 52 or more packets
-/// behind the mark, and nothing else. LOG has one preset line, with the moment at the transmitter's offset, for each
-/// group from there on that holds an operations packet, and nothing else. Where there is no such listing, both are
-/// empty. Either way it is done.
+/// Let a file have the packets of a feed from one of its marks on. Packets without a mark may stand before them. Let
+/// the plan list the transmitter, and let the delay be in time (`IsFedAnew`). Then `excite` is done, and writes the
+/// feed's own symbols and presets. OUT has the feed's segments from the first listing on that begins 52 or more packets
+/// after the mark, and nothing else. From there on LOG has one preset line for each group that holds an operations
+/// packet, with the moment at the transmitter's offset, and nothing else. If there is no such listing, both files are
+/// empty.
 pub fn a_feed_is_sent()
     ensures listed { (plan : Plan) (stream : List (List ℕ)) (t : Transmitter) (delay : ℕ) (earlier : List (List ℕ))
         (mark n k : ℕ) (names : List (List ℕ)) (file : List ℕ) → whole_packets file ≤ MOST_PACKETS
@@ -53,16 +53,16 @@ pub fn a_feed_is_sent()
     from_a_mark();
 }
 
-/// Each line of a log is read back: cut at each line feed and each space, its text is the words of its lines, in their
-/// order, and one empty word behind the last line feed. The numbers among the words are spelled in decimal digits.
+/// A log reads back. Cut at each line feed and each space, its text gives the words of its lines, in order, and one
+/// empty word after the last line feed. The numbers among the words are spelled in decimal digits.
 pub fn log_lines_read_back()
     ensures { (lines : List Line) → words_of_lines (log_text lines) ≡ map line_words lines ++ ([] ∷ []) ∷ [] }
 {}
 
-/// `excite FEED ADDRESS DELAY OUT LOG` over files that are told, where the answer is `Done`. FEED and the transmitter
-/// are as the clause `listed` of `a_feed_is_sent` asks, and OUT and LOG are two files. These hold the feed's own
-/// symbols and presets. So of two transmitters with one first listing, whose feeds end with one group, both symbol
-/// files are one list of bytes, and their logs differ in the moments alone.
+/// Runs `excite FEED ADDRESS DELAY OUT LOG`, where the files are told and the answer is `Done`. FEED and the
+/// transmitter meet the clause `listed` of `a_feed_is_sent`, and OUT and LOG are two files. These hold the feed's own
+/// symbols and presets. Take two transmitters with the same first listing, whose feeds end with the same group. Their
+/// symbol files hold the same bytes, and their logs differ only in the moments.
 pub fn run_of_excite_of_a_feed<S: Shelf, O: Sink>(
     alloc: Global,
     words: &[Word],

@@ -1,5 +1,5 @@
-//! What transmitters send of one feed, by `run` alone (the profile's own, over ATSC A/53 Part 2 and in the manner of
-//! ATSC A/110).
+//! What transmitters send from one feed, stated for `run` alone (the profile's own, over ATSC A/53 Part 2 and in the
+//! manner of ATSC A/110).
 
 ghost use Rattle.std.specs.Prelude.{◌≡◌, ◌≢◌, ◌+◌, ◌*◌, ◌/◌, ◌≤◌, ◌∷◌, [], ℕ, List, Ok, codes, decimal, drop, length};
 ghost use Rattle.dtx_galois.specs.Field.{AreBytes};
@@ -19,11 +19,12 @@ use dtx_packet_jobs::laws::feed_read_back;
 use dtx_top::Status;
 use std::alloc::Global;
 
-/// `adapt PLAN IN FEED` and `code FEED SYMBOLS` at the studio, and `excite FEED ADDRESS DELAY OUT LOG` at a transmitter
-/// over a copy of that feed, all with the answer `Done`: the transmitter sends just what `code` writes of the feed,
-/// from a segment on to the end. It is the first data segment of the first group of four packets, at packet 52 of the
-/// stream or behind, that holds a placeholder. (A field sync stands before each 312 data segments.) The transmitter is
-/// any one of the plan, which has at most 35, with its own address and delay, and in time.
+/// Runs `adapt PLAN IN FEED` and `code FEED SYMBOLS` at the studio, and `excite FEED ADDRESS DELAY OUT LOG` at a
+/// transmitter over a copy of that feed. Let all answer `Done`. Then the transmitter sends exactly what `code` writes
+/// of the feed, from one segment on to the end. Take the first group of four packets, at packet 52 of the stream or
+/// later, that holds a placeholder: the segment is the first data segment of this group. (A field sync stands before
+/// each 312 data segments.) The transmitter is any one of the plan, which has at most 35, with its own address and
+/// delay, and in time.
 pub fn run_of_a_transmitter<S: Shelf, R: Shelf, O: Sink>(
     alloc: Global,
     words: &(&[Word], &[Word], &[Word]),
@@ -54,11 +55,11 @@ pub fn run_of_a_transmitter<S: Shelf, R: Shelf, O: Sink>(
     (adapted, coded, excited)
 }
 
-/// A single-frequency network of three folders. `adapt PLAN IN FEED` at the studio, and at each of two transmitters
-/// `excite FEED ADDRESS DELAY OUT LOG` over a copy of that feed, all with the answer `Done`: both symbol files are one
-/// and the same list of bytes. The transmitters are any two of the plan, which has at most 35, with their own
-/// addresses and delays, and in time; they may have different offsets. (With more than 35 transmitters two may be
-/// listed on different pages, and one then begins later than the other.)
+/// A single-frequency network of three folders. Runs `adapt PLAN IN FEED` at the studio, and `excite FEED ADDRESS DELAY
+/// OUT LOG` at each of two transmitters over a copy of that feed. Let all answer `Done`. Then both symbol files hold
+/// the same bytes. The transmitters are any two of the plan, which has at most 35, with their own addresses and delays,
+/// and in time. They may have different offsets. (With more than 35 transmitters two may be listed on different pages,
+/// and one then begins later than the other.)
 pub fn run_of_two_transmitters<S: Shelf, R: Shelf, T: Shelf, O: Sink>(
     alloc: Global,
     words: &(&[Word], &[Word], &[Word]),
