@@ -20,8 +20,8 @@ use Rattle.dtx_jobs.specs.declared.watch_tally.WatchTally.{WatchTally}
 
 -- ---- the numbers of the line, by the text
 
--- The numbers of the line, counted from the text of the notes on so many packets. The text's lines are counted that
--- begin with `ops`, `unread` and `stray`, or have `slip` as word 7 or `jump` as word 8.
+-- The numbers of the line, counted from the text of the notes on so many packets. It counts the lines that begin with
+-- `ops`, `unread` and `stray`, and those that have `slip` as word 7 or `jump` as word 8, counted from 0.
 abbrev pub tally_of_text : ℕ → List ℕ → WatchTally
 tally_of_text packets text = record {
   packets = packets;
