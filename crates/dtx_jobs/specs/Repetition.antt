@@ -15,7 +15,7 @@ pub record IsSending (state : Repetition) (segments : List (List ℤ)) (lives : 
   pub tally : state.sending.tally ≡ lives_tally state.address state.delay lives
 
 -- The engine went from `old`, which was sending the lives `before`, to `new`, which sends the lives `after`. It has
--- gathered the symbols and lines that the lives `after` give more.
+-- gathered the symbols and lines by which the lives `after` give more than `before`.
 pub record IsSentOn (old new : Repetition) (segments : List (List ℤ)) (before after : List (List (List ℕ))) :
     Type 0 where
   pub sending : IsSending new segments after

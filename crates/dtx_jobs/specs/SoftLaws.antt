@@ -128,8 +128,8 @@ pending_is s o e = ap (λ (o : Option ℕ). unwrap_or o 0) e
 follows_at : (s : List (List ℤ)) (o : Option ℕ) → next_place s ≡ o → IsFollowed s (unwrap_or o 0)
 follows_at s o e = subst (IsFollowed s) (pending_is s o e) (follows s)
 
--- One segment more finishes `more` segments. n data segments of the current field waited for its end. `more` counts
--- over these n and the new one.
+-- What one segment more finishes: `more` segments, out of the new one and the n data segments that waited for their
+-- field's end.
 pub record IsAhead (s : List (List ℤ)) (x : List ℤ) (n more : ℕ) : Type 0 where
   pub followed : IsFollowed s n
   pub all : ahead (s ++ x ∷ []) ≡ (length s - n) + more

@@ -21,7 +21,7 @@ use std::alloc::{AllocError, Global};
 /// groups, and of one group that began before it. There is room for one group more.
 const SENT_BYTES: usize = AIR_SYMBOLS * (CODED_PACKETS / GROUP_PACKETS + 2);
 
-/// Room for the log's lines for these packets, in bytes: one line for each packet.
+/// Room for the log's lines for these packets, in bytes. A packet brings at most one line.
 const LOGGED_BYTES: usize = LOG_LINE * CODED_PACKETS;
 
 /// An exciter, what the last piece brought, and the numbers of all packets so far.

@@ -45,7 +45,7 @@ pub trait SegmentReceiver: Drop {
             → giving.all segments ≡ giving.so_far segments ++ batch.new.packets.items }
         ensures few { length batch.new.packets.items ≤ GROUP_PACKETS };
 
-    /// The packets given have the properties that every receiver's have.
+    /// The law that `giving` is what a receiver gives (`IsGiving`).
     ghost gives: { IsGiving giving };
 }
 

@@ -15,8 +15,7 @@ use dtx_files::{LOG_LINE, write_line, write_restart};
 use dtx_sizes::SEGMENT;
 use std::alloc::{AllocError, Global};
 
-/// What the last piece brought: at most `S` symbols, and at most `L` bytes of lines. And the numbers of all packets so
-/// far.
+/// What the last piece brought, at most `S` symbols and `L` bytes of lines, and the numbers of all packets so far.
 #[derive(Drop)]
 pub(crate) struct Sending<const S: usize, const L: usize> {
     /// The segments that the exciter sent for the last packet.

@@ -29,7 +29,7 @@ abbrev pub behind : List (List ℕ) → ℕ → List (List ℕ)
 behind packets f = take 260 (drop (312 * f + 52) packets)
 
 -- Whether a packet becomes a placeholder; `before` are the packets before it. It does where it is a null packet at
--- place 52 of its field or behind, and no packet between place 52 and it is a null packet or a placeholder.
+-- place 52 of its field or behind, and no packet before it, from place 52 on, is a null packet or a placeholder.
 unfoldable pub becomes : List (List ℕ) → List ℕ → Bool
 becomes before packet = is_null packet
     && (nat_le 52 (length before % 312) && not (list_any is_open (behind before (length before / 312))))

@@ -11,9 +11,9 @@ use std::alloc::Global;
 
 /// Writes the packets of IN to OUT, with null packets turned into placeholders that an adapter can fill (the profile's
 /// own). In each field of 312 packets the first null packet at place 52 or behind becomes a placeholder, unless a
-/// placeholder stands between place 52 and it. All other packets stay. The numbers are the packets, those that became
-/// placeholders, the fields left without a placeholder at place 52 or behind, and the bytes behind the last whole
-/// packet.
+/// placeholder stands before it at place 52 or behind. All other packets stay. The numbers are the packets, those that
+/// became placeholders, the fields left without a placeholder at place 52 or behind, and the bytes behind the last
+/// whole packet.
 pub fn place<S: Shelf>(alloc: Global, words: &[Word], shelf: &mut S) -> Outcome
     ensures { IsJobPerformed place_job words.now result (S.files shelf.old) (S.files shelf.new)
         (S.counts shelf.old) (S.counts shelf.new) }

@@ -11,9 +11,9 @@ ghost use Rattle.dtx_jobs.specs.LevelledFile.{levelled_of, levelled_until};
 
 use dtx_sizes::MOST_SYMBOLS;
 
-/// What `level` answers and writes for any file. Each byte is a symbol. Where the file has at most as many bytes as an
-/// input may have, OUT is all that is levelled of them, and LOG has a line for each sync. Where it has more, the answer
-/// is `TooLong`. OUT and LOG are then what is known after that many bytes, whatever follows them. Where there is no
+/// What `level` answers and writes for any file. Each byte is a symbol. Where the file has at most MOST_SYMBOLS bytes,
+/// OUT is all that is levelled of them, and LOG has a line for each sync. Where it has more, the answer is `TooLong`.
+/// OUT and LOG are then what is known after the first MOST_SYMBOLS bytes, whatever follows them. Where there is no
 /// sync, OUT and LOG are empty.
 pub fn all_is_levelled_of_a_file()
     ensures whole { (names : List (List ℕ)) (file : List ℕ) → length file ≤ MOST_SYMBOLS

@@ -12,7 +12,7 @@ ghost use Rattle.dtx_jobs.specs.WatchedFeed.{IsWatchedCalmly, tally_of_text, wat
 
 use dtx_sizes::MOST_PACKETS;
 
-/// Let a file have no more packets than a feed may have. Then OUT is the text of all notes on its packets, and the
+/// Let a file have at most MOST_PACKETS whole packets. Then OUT is the text of all notes on its packets, and the
 /// numbers of the command's line are counts over that text. They count its lines that begin with `ops`, with `unread`
 /// and with `stray`, and those that have the word `slip` or `jump` at its place. The same counts hold for the text of
 /// any notes.
