@@ -137,8 +137,8 @@ impl Leveller {
         &self.giver.given[..self.giver.count]
     }
 
-    /// How many zeros the last call brought before `given`: one for each symbol before the first sync, by the call that
-    /// finds that sync.
+    /// How many zeros the last call brought before `given`. The call that finds the first sync brings one for each
+    /// symbol that earlier searches let go. Other calls bring none.
     pub fn zeros(&self) -> u64
         ensures { result ≡ self.now.zeros }
     {
@@ -220,8 +220,8 @@ impl Leveller {
         }
     }
 
-    /// Lets the symbols before the sync at `place` go, and gives them. Before the first sync, they and all earlier ones
-    /// are zeros.
+    /// Lets the symbols before the sync at `place` go, and gives them. Before the first sync they become zeros, and a
+    /// zero is owed for each symbol that was let go earlier.
     fn find(&mut self, place: usize)
         requires clear { IsClear self.old }
         requires off { self.old.on ≡ false }
