@@ -5,7 +5,7 @@ use Rattle.dtx_exciter.specs.Log.{Line}
 use Rattle.dtx_exciter.specs.declared.answers.Why.{Why}
 use Rattle.dtx_exciter.specs.declared.answers.Why.TheVariants.{Cadence, Unlisted, Late}
 
--- the word for why a group isn't sent
+-- the word for the reason why a group isn't sent
 abbrev pub word_of : Why → List ℕ
 word_of Cadence = codes "cadence"
 word_of Unlisted = codes "unlisted"

@@ -1,4 +1,4 @@
-//! A law of the definitions: the text of a log tells its lines.
+//! A law of the definitions: the text of a log determines its lines.
 
 ghost use Rattle.std.specs.Prelude.{◌≡◌, List};
 ghost use Rattle.std.specs.List.{AllByRecursion};
@@ -6,8 +6,8 @@ ghost use Rattle.dtx_exciter.specs.Log.{Line};
 ghost use Rattle.dtx_files.specs.Lines.{HasNumbers};
 ghost use Rattle.dtx_files.specs.LogText.{log_text};
 
-/// Two logs with one text have the same lines, where the numbers of both have 64 bits. So what is said of a log file is
-/// said of its lines.
+/// Two logs with the same text have the same lines, where all numbers of both fit 64 bits. So a claim about a log file
+/// is a claim about its lines.
 pub fn log_text_tells_its_lines()
     ensures { (lines others : List Line) → AllByRecursion HasNumbers lines → AllByRecursion HasNumbers others
         → log_text lines ≡ log_text others → lines ≡ others }

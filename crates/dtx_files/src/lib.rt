@@ -1,4 +1,4 @@
-//! How what a transmitter sends and logs stands in files: symbols as bytes, and the text of a log.
+//! The files of a transmitter: its symbols as bytes, and the text of its log.
 #![tactic(auto)]
 
 pub mod laws;

@@ -7,12 +7,12 @@ use arrayvec::ArrayString;
 use dtx_exciter::{Preset, Told, Why};
 use itoa::Buffer;
 
-/// How many bytes a line has room for. A line of `preset`, numbers of 64, 32, 16, 32 and 16 bits with a space before
-/// each, and a line feed has 62 bytes at most.
+/// Room for a line, in bytes. The longest line has 62: the word `preset`, numbers of 64, 32, 16, 32 and 16 bits with a
+/// space before each, and a line feed.
 pub const LOG_LINE: usize = 64;
 
-/// Sets the text to the line of an exciter's answer, or to nothing where it has none (the profile's own). So many
-/// segments were given before the answer, and so many with it.
+/// Sets the text to the line of an exciter's answer, or to nothing where the answer has no line (the profile's own).
+/// The exciter gave `before` segments before the answer, and `given` with it.
 pub fn write_line(told: Told, before: u64, given: u8, text: &mut ArrayString<LOG_LINE>)
     requires { before + given < 2 ^ 64 }
     ensures { text.new.bytes ≡ log_text (line_of before given told) }
@@ -30,7 +30,7 @@ pub fn write_line(told: Told, before: u64, given: u8, text: &mut ArrayString<LOG
     }
 }
 
-/// Sets the text to the line of a restart, before which there are so many segments (the profile's own).
+/// Sets the text to the line of a restart. `segment` segments were sent before it (the profile's own).
 pub fn write_restart(segment: u64, text: &mut ArrayString<LOG_LINE>)
     ensures { text.new.bytes ≡ log_text (Line.restart segment ∷ []) }
 {
@@ -39,7 +39,8 @@ pub fn write_restart(segment: u64, text: &mut ArrayString<LOG_LINE>)
     push_all(text, &["restart ", number.format(segment), "\n"]);
 }
 
-/// Sets the text to the line of a preset, before whose segment there are so many.
+/// Sets the text to the line of a preset. The first data segment of the preset's group is segment `segment` of the
+/// symbol file.
 fn write_preset(segment: u64, preset: &Preset, text: &mut ArrayString<LOG_LINE>)
     requires { text.old.bytes ≡ [] }
     ensures { text.new.bytes ≡ log_text (Line.preset segment preset.now.frame preset.now.packet preset.now.moment.tick
@@ -65,7 +66,7 @@ fn write_preset(segment: u64, preset: &Preset, text: &mut ArrayString<LOG_LINE>)
     );
 }
 
-/// Sets the text to the line of a mute, before which there are so many segments.
+/// Sets the text to the line of a mute. `segment` segments were sent before it.
 fn write_mute(segment: u64, why: Why, text: &mut ArrayString<LOG_LINE>)
     requires { text.old.bytes ≡ [] }
     ensures { text.new.bytes ≡ log_text (Line.mute segment why ∷ []) }
@@ -77,7 +78,7 @@ fn write_mute(segment: u64, why: Why, text: &mut ArrayString<LOG_LINE>)
     );
 }
 
-/// The word for why a group isn't sent.
+/// The word for the reason why a group isn't sent.
 fn word_of(why: Why) -> &'static str
     ensures word { result.now ≡ word_of why }
     ensures short { length result.now ≤ 8 }
@@ -89,7 +90,7 @@ fn word_of(why: Why) -> &'static str
     }
 }
 
-/// Puts the pieces behind the text.
+/// Appends the pieces to the text.
 fn push_all(text: &mut ArrayString<LOG_LINE>, pieces: &[&str])
     requires { length text.old.bytes + length (joined pieces.now) ≤ LOG_LINE }
     ensures { text.new.bytes ≡ text.old.bytes ++ joined pieces.now }

@@ -5,7 +5,7 @@ ghost use Rattle.dtx_files.specs.Symbols.{byte_of_symbol};
 use dtx_coder::{AIR_SYMBOLS, Air};
 use dtx_sizes::SEGMENT;
 
-/// Sets the front of the bytes to the symbols of the segments that the air holds, and answers how many they are.
+/// Sets the first bytes to the symbols of the segments in `air`, in two's complement. Returns how many bytes they are.
 pub fn bring(air: &Air, bytes: &mut [u8; AIR_SYMBOLS]) -> usize
     requires { air.now.segments ≤ 5 }
     ensures count { result ≡ SEGMENT * air.now.segments }
@@ -19,7 +19,7 @@ pub fn bring(air: &Air, bytes: &mut [u8; AIR_SYMBOLS]) -> usize
     SEGMENT * air.segments as usize
 }
 
-/// Sets the bytes to the symbols, in two's complement.
+/// Sets each byte to the symbol at its place, in two's complement.
 pub fn to_bytes(symbols: &[i8; AIR_SYMBOLS], bytes: &mut [u8; AIR_SYMBOLS])
     ensures { bytes.new ≡ map byte_of_symbol symbols.now }
 {

@@ -1,4 +1,5 @@
--- What `acquire SCALE IN OUT` means: the segments that are acquired of the symbols of a capture (the profile's own).
+-- What `acquire SCALE IN OUT` means: it writes the segments that are acquired of a capture's symbols (the profile's
+-- own).
 use Rattle.std.specs.Prelude.{ℕ, ℤ, ◌-◌, ◌*◌, ◌==◌, true, if◌then◌else◌, Option, Some, None, List, []}
 use Rattle.std.specs.Prelude.{◌∷◌, length}
 use Rattle.std.specs.Str.{bytes_eq}
@@ -19,12 +20,13 @@ use Rattle.dtx_forms.specs.OfWords.{acquire_same, number_same}
 use Rattle.dtx_forms.specs.Shapes as shapes
 use Rattle.dtx_jobs.specs.SymbolFile.{symbols}
 
--- the bytes, the runs of which something is left, the segments, what all least paths cost, the symbols in no segment
+-- the line's numbers: the bytes, the runs of which something is left, the segments, what all least paths cost, and the
+-- bytes in no segment
 abbrev pub acquired_numbers : ℕ → ℕ → ℕ → ℕ → List ℕ
 acquired_numbers symbols runs segments cost =
     symbols ∷ runs ∷ segments ∷ cost ∷ (symbols - 832 * segments) ∷ 0 ∷ 0 ∷ []
 
--- where there is no run there is no sync
+-- the answer: `NoSync` where there is no run
 abbrev pub acquired_answer : ℕ → ℕ → ℕ → ℕ → Outcome
 acquired_answer symbols runs segments cost =
     if runs == 0 then ended NoSync
@@ -43,7 +45,7 @@ acquiring scale = record {
   answer = λ bytes loose. acquire_answer scale (symbols bytes);
 }
 
--- where the scale fits
+-- the meaning at a scale: `None` is a scale that isn't a number in its range
 abbrev pub acquire_at : Option ℕ → List ℕ → List ℕ → Files → Meaning
 acquire_at None input output held = refused Usage
 acquire_at (Some scale) input output held = transformed shapes.single_bytes (acquiring scale) input output held
@@ -57,7 +59,8 @@ acquire_meaning words held = refused Usage
 abbrev pub acquire_job : Job
 acquire_job = record { command = Acquire; means = acquire_meaning; same = acquire_same; inputs = 1 }
 
--- it was done, whatever the first word is, where the scale fits or there is none
+-- The outcome and the files that are left are those of `acquire` at a scale, whatever its first word is. A scale of
+-- `None` isn't a number in its range.
 pub record IsAcquired (scale : Option ℕ) (input output : List ℕ) (outcome : Outcome) (told now : Option Files)
     (before after : Counts) : Type 0 where
   pub performed : IsPerformed Acquire (acquire_at scale input output) (number_same scale (bytes_eq input output)) 1

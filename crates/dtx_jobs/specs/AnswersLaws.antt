@@ -1,4 +1,4 @@
--- Which refusals the commands of symbols and feeds know: of how their making answers. They stand in specs/, since the
+-- Laws: each answer of a command's recipe is one that the command may give (`Knows`). They stand in specs/, since the
 -- ghost members of an impl, a trait's laws, can cite lemmas from there only.
 use Rattle.std.specs.Prelude.{◌==◌, ℕ, Bool, false, true, length, if◌then◌else◌}
 use Rattle.dtx_receiver.specs.Runs.{runs}
@@ -23,23 +23,23 @@ use Rattle.dtx_jobs.specs.Soft.{softening}
 use Rattle.dtx_jobs.specs.SymbolFile.{file_segments}
 use Rattle.dtx_jobs.specs.Watch.{watching}
 
--- a stream that is coded
+-- `code`
 pub code_knows : (status : Status) → IsAnswerOf coding status → Knows Code status
 code_knows = knows_by coding Code tt (λ k unit. tt) (λ given loose. tt)
 
--- a feed that an exciter is given
+-- `excite`
 pub excite_knows : (address delay : ℕ) (status : Status) → IsAnswerOf (exciting address delay) status
     → Knows Excite status
 excite_knows address delay =
     knows_by (exciting address delay) Excite tt (λ k unit. none_refused unit) (λ given loose. tt)
 
--- symbols of which no field sync is found, or something is given
+-- the answer is `NoSync` where `none` is true, and else this outcome
 pub sync_or_not : (command : Command) (none : Bool) (outcome : Outcome) → Knows command NoSync
     → Knows command outcome.status → Knows command (if none then ended NoSync else outcome).status
 sync_or_not command true outcome missing given = missing
 sync_or_not command false outcome missing given = given
 
--- symbols that are received, whichever receiver it is
+-- `receive` and `mend`: any receiver
 pub given_knows : (giving : Giving) (command : Command) → Knows command TooLong → Knows command NoSync
     → (status : Status) → IsAnswerOf (receiving_by giving) status → Knows command status
 given_knows giving command long missing =
@@ -56,7 +56,7 @@ receive_knows = given_knows with_corrections Receive tt tt
 pub mend_knows : (status : Status) → IsAnswerOf mending_symbols status → Knows Mend status
 mend_knows = given_knows with_mendings Mend tt tt
 
--- symbols that are sent again
+-- `repeat`
 pub repeat_knows : (address delay : ℕ) (status : Status) → IsAnswerOf (repeating address delay) status
     → Knows Repeat status
 repeat_knows address delay =
@@ -68,10 +68,10 @@ repeat_knows address delay =
       shown = 7;
     }) tt tt)
 
--- symbols that are softened
+-- `soft`
 pub soft_knows : (status : Status) → IsAnswerOf softening status → Knows Soft status
 soft_knows = knows_by softening Soft tt (λ k unit. none_refused unit) (λ given loose. tt)
 
--- a feed that is watched
+-- `watch`
 pub watch_knows : (status : Status) → IsAnswerOf watching status → Knows Watch status
 watch_knows = knows_by watching Watch tt (λ k unit. none_refused unit) (λ given loose. tt)

@@ -17,7 +17,7 @@ use Rattle.dtx_jobs.specs.Symbols.{symbol_bytes}
 abbrev pub may_be_coded : List ℕ → Bool
 may_be_coded packet = sync_of packet == 0x47 || sync_of packet == 0xB8
 
--- how it ends: the packets, the segments of their whole groups, and the loose bytes
+-- the answer: the number of packets, of the segments of their whole groups, and of loose bytes
 abbrev pub code_answer : List ℕ → ℕ → Outcome
 code_answer bytes loose = record {
   status = Done;
@@ -25,7 +25,7 @@ code_answer bytes loose = record {
   shown = 3;
 }
 
--- what is made of packets
+-- the recipe
 abbrev pub coding : Recipe
 coding = record {
   allows = λ _ packet. may_be_coded packet;

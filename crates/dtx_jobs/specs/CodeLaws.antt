@@ -1,5 +1,5 @@
--- Laws of the symbols of a stream: more packets bring more behind. They stand in specs/, since the ghost members of an
--- impl, a trait's laws, can cite lemmas from there only.
+-- Laws of the symbols of a stream: those of its first packets are a prefix of those of all. They stand in specs/, since
+-- the ghost members of an impl, a trait's laws, can cite lemmas from there only.
 use Rattle.std.proofs.Common.{◌≡◌, ℕ, ℤ, ◌-◌, ◌*◌, ◌/◌, ◌%◌, ◌≤◌, List, [], ◌++◌, length, map, refl, sym, ap, ◌∙◌}
 use Rattle.std.proofs.Common.{arith}
 use Rattle.std.specs.List.{range_with_len, flat_map}
@@ -31,7 +31,7 @@ a53_more ps qs =
           ∙ ap (λ z. z ++ rest) (sym (a53_whole ps)),
     )
 
--- more packets bring more symbols behind
+-- the symbols of `ps` are a prefix of those of `ps ++ qs`
 symbols_more : (ps qs : List (List ℕ)) → (rest : List ℕ) × (symbol_bytes (ps ++ qs) ≡ symbol_bytes ps ++ rest)
 unfolding a53_symbols
 symbols_more ps qs =

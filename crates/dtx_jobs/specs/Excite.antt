@@ -18,12 +18,12 @@ excited address delay packets = record {
   second = logged_bytes address delay packets;
 }
 
--- how it ends: the numbers of its life, and the loose bytes
+-- the answer: the numbers of the exciter's one life, and of the loose bytes
 abbrev pub excite_answer : ℕ → ℕ → List (List ℕ) → ℕ → Outcome
 excite_answer address delay packets loose =
     record { status = Done; numbers = life_numbers (life_tally address delay packets) loose; shown = 5 }
 
--- what is made of the packets of a feed, which are of any bytes
+-- the recipe: packets of any bytes are allowed
 abbrev pub exciting : ℕ → ℕ → Recipe
 exciting address delay = record {
   allows = λ _ _. true;

@@ -1,5 +1,5 @@
--- Laws of what an exciter makes of packets: of more packets it makes more behind. They stand in specs/, since the ghost
--- members of an impl, a trait's laws, can cite lemmas from there only.
+-- Laws of what an exciter makes of packets: what the first packets give is a prefix of what all give. They stand in
+-- specs/, since the ghost members of an impl, a trait's laws, can cite lemmas from there only.
 use Rattle.std.proofs.Common.{◌≡◌, ℕ, ℤ, ◌+◌, ◌%◌, ◌≤◌, List, [], ◌∷◌, ◌++◌, length, map, take, refl, sym, ap, ap₂, ◌∙◌}
 use Rattle.std.proofs.Common.{arith, append_assoc, zero-add}
 use Rattle.std.specs.List.{range_with_len, flat_map}
@@ -24,7 +24,7 @@ use Rattle.dtx_jobs.specs.Life.{sent_bytes, logged_bytes}
 
 -- ---- one packet further
 
--- the line that the last of these packets brings
+-- the line that packet i of a list brings, or none
 abbrev pub line_at : ℕ → ℕ → List (List ℕ) → ℕ → List Line
 line_at a d l i = line_of (0 + length (emission a d (take i l))) (length (last_segments a d (take (i + 1) l)))
     (last_answer a d (take (i + 1) l))

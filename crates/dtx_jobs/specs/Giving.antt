@@ -1,5 +1,5 @@
--- What a receiver gives for segments, whichever receiver it is, and what is made of a symbol file by it (ATSC A/53
--- Part 2, the way back).
+-- What any receiver gives for segments, and what a command makes of a symbol file by it (ATSC A/53 Part 2, the way
+-- back).
 use Rattle.std.specs.Prelude.{◌≡◌, ℕ, ℤ, ◌==◌, true, if◌then◌else◌, List, [], ◌∷◌, ◌++◌, length, map, take, drop}
 use Rattle.std.specs.List.{flat_map}
 use Rattle.dtx_engine.specs.Made.{only, outputs_of}
@@ -14,13 +14,14 @@ use Rattle.dtx_sizes.specs.declared.limits.TheConstants.{MOST_SEGMENTS}
 use Rattle.dtx_jobs.specs.SymbolFile.{file_segments}
 use Rattle.dtx_jobs.specs.Tally.{numbers_in, tally_of}
 
--- the packets that a receiver gives while segments come, all packets of theirs, and the bytes of each of all
+-- What a receiver gives for a list of segments: `so_far` is the packets that it gives while they come. `all` is all
+-- their packets, and `packets` is the bytes of each of them.
 pub record Giving : Type 0 where
   pub so_far : List (List ℤ) → List Received
   pub all : List (List ℤ) → List Received
   pub packets : List (List ℤ) → List (List ℕ)
 
--- What comes with one segment more, or with the end, comes behind what was given before, and without a run there is no
+-- One segment more, or the end, adds packets behind those that were given before. Where there is no run there is no
 -- packet.
 pub record IsGiving (giving : Giving) : Type 0 where
   pub none : giving.so_far [] ≡ []
@@ -39,25 +40,25 @@ bytes_of packets = flat_map (λ p. p.packet.0) packets
 abbrev pub all_bytes : Giving → List ℕ → List ℕ
 all_bytes giving file = flat_map (λ p. p) (giving.packets (file_segments file))
 
--- those that are given while its segments come
+-- the packets that are given while its segments come
 abbrev pub early_bytes : Giving → List ℕ → List ℕ
 early_bytes giving file = bytes_of (giving.so_far (file_segments file))
 
--- and those that its end brings
+-- the packets that its end brings
 abbrev pub end_bytes : Giving → List ℕ → List ℕ
 end_bytes giving file = drop (length (early_bytes giving file)) (all_bytes giving file)
 
--- the numbers of segments, behind which so many bytes are loose
+-- the line's numbers for these segments, with `loose` bytes behind them
 abbrev pub given_numbers : Giving → List (List ℤ) → ℕ → List ℕ
 given_numbers giving list loose = numbers_in (tally_of list (giving.all list)) loose
 
--- how it ends: where no segment looks like a field sync there is no run
+-- the answer: `NoSync` where there is no run, since no segment looks like a field sync
 abbrev pub answer_of : Giving → List (List ℤ) → ℕ → Outcome
 answer_of giving list loose =
     if length (runs list) == 0 then ended NoSync
     else record { status = Done; numbers = given_numbers giving list loose; shown = 6 }
 
--- what is made of symbols
+-- the recipe
 abbrev pub receiving_by : Giving → Recipe
 receiving_by giving = record {
   allows = λ _ _. true;
@@ -66,20 +67,21 @@ receiving_by giving = record {
   answer = λ bytes loose. answer_of giving (file_segments bytes) loose;
 }
 
--- what is answered and written of all segments of some bytes, behind which so many are loose
+-- the answer and the output for all segments of a file, with `loose` bytes behind them
 abbrev pub given_of : Giving → List (List ℕ) → List ℕ → ℕ → Meaning
 given_of giving names file loose = record {
   outcome = answer_of giving (file_segments file) loose;
   outputs = outputs_of names (only (all_bytes giving file));
 }
 
--- and of one that has more segments than may be: what the first ones give while they come, as many as may be
+-- The same for a file of more than MOST_SEGMENTS segments: the answer is `TooLong`. The output is what the first
+-- MOST_SEGMENTS segments give while they come.
 abbrev pub given_until : Giving → List (List ℕ) → List ℕ → Meaning
 given_until giving names file = record {
   outcome = ended TooLong;
   outputs = outputs_of names (only (bytes_of (giving.so_far (take MOST_SEGMENTS (file_segments file)))));
 }
 
--- and where no segment looks like a field sync
+-- the same where no segment looks like a field sync: the output is empty
 abbrev pub no_sync_in : List (List ℕ) → Meaning
 no_sync_in names = record { outcome = ended NoSync; outputs = outputs_of names (only []) }

@@ -1,5 +1,5 @@
--- Laws of what is made of symbols, whichever receiver it is: it grows with them. They stand in specs/, since the ghost
--- members of an impl, a trait's laws, can cite lemmas from there only.
+-- Laws of what any receiver makes of symbols: what the first segments give is a prefix of what more give. They stand in
+-- specs/, since the ghost members of an impl, a trait's laws, can cite lemmas from there only.
 use Rattle.std.proofs.Common.{◌≡◌, ℕ, ◌%◌, List, [], ◌∷◌, ◌++◌, length, refl, sym, ap, ◌∙◌}
 use Rattle.std.specs.Prelude.{ℤ}
 use Rattle.std.proofs.lemmas.Grind.{flat_map-append}
@@ -13,7 +13,7 @@ use Rattle.dtx_jobs.specs.SymbolFileLaws.{file_segments-append}
 pub bytes_of-append : (a b : List Received) → bytes_of (a ++ b) ≡ bytes_of a ++ bytes_of b
 bytes_of-append a b = flat_map-append (λ (p : Received). p.packet.0) a b
 
--- with more segments there are more packets behind
+-- the packets of `segments` are a prefix of those of `segments ++ more`
 pub given_on : (giving : Giving) → IsGiving giving → (segments more : List (List ℤ))
     → (brought : List Received) × (giving.so_far (segments ++ more) ≡ giving.so_far segments ++ brought)
 given_on giving is segments [] =

@@ -1,5 +1,5 @@
--- What `level IN OUT LOG` means: the symbols of a capture at eight steps a unit, and a line for each field sync (the
--- profile's own).
+-- What `level IN OUT LOG` means: it writes the symbols of a capture at eight steps a unit, and a line for each field
+-- sync (the profile's own).
 use Rattle.std.specs.Prelude.{ℕ, ℤ, ◌==◌, true, if◌then◌else◌, List, [], ◌∷◌, length, map}
 use Rattle.dtx_engine.specs.Made.{Made}
 use Rattle.dtx_engine.specs.Recipe.{Recipe}
@@ -23,8 +23,8 @@ abbrev pub levelled_files : List ℤ → List Measure → Made
 levelled_files symbols measures =
     record { first = map byte_of_symbol symbols; second = measures_text measures }
 
--- how it ends: the symbols, the syncs, and those that don't lie a multiple of 313 segments behind the one before; and
--- where there is no sync so
+-- The answer: `NoSync` where there is no sync. Else the numbers are the symbols, the syncs, and the syncs that don't
+-- lie a multiple of 313 segments behind the one before.
 abbrev pub levelled_answer : ℕ → ℕ → ℕ → Outcome
 levelled_answer symbols syncs slips =
     if syncs == 0 then ended NoSync
@@ -33,7 +33,7 @@ levelled_answer symbols syncs slips =
 abbrev pub level_answer : List ℤ → Outcome
 level_answer symbols = levelled_answer (length symbols) (length (all_syncs symbols)) (slips (all_syncs symbols))
 
--- what is made of the symbols of a capture, so far and at the end
+-- the recipe
 abbrev pub levelling : Recipe
 levelling = record {
   allows = λ _ _. true;

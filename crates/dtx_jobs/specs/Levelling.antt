@@ -1,4 +1,4 @@
--- What is kept while a capture is levelled.
+-- What the engine of `level` keeps.
 use Rattle.std.specs.Prelude.{◌≡◌, ◌++◌, ℕ, ℤ, List, [], map, replicate, vec_len}
 use Rattle.dtx_files.specs.Symbols.{byte_of_symbol}
 use Rattle.dtx_forms.specs.declared.shapes.TheConstants.{PIECE_BYTES}
@@ -10,12 +10,12 @@ use Rattle.dtx_level.specs.Leveller.{Holding, StandsFor}
 use Rattle.dtx_level.specs.MeasureText.{measures_text}
 use Rattle.dtx_level.specs.Measures.{measures_so_far}
 
--- these bytes were given, one a symbol
+-- the engine stands for these bytes, one for each symbol: they are all that was given to it
 pub record WasLevelled (kept : Levelling) (bytes : List ℕ) : Type 0 where
   pub room : vec_len kept.piece ≡ PIECE_BYTES
   pub stands : StandsFor kept.leveller (symbols bytes)
 
--- the bytes of the symbols that a piece brought: zeros, and those behind them
+-- the bytes of the symbols that a piece brought: the zeros, and the symbols behind them
 abbrev pub bytes_brought : Brought → List ℕ
 bytes_brought brought = replicate brought.zeros 0 ++ brought.symbols
 
@@ -25,7 +25,7 @@ pub record IsEmpty (brought : Brought) : Type 0 where
   pub symbols_are : brought.symbols ≡ []
   pub lines : brought.lines ≡ []
 
--- a leveller was given these symbols behind any that it was given before, and they brought this
+-- A leveller went from `old` to `new` by these symbols, whatever it was given before, and they brought `brought`.
 pub record WereLevelled (old new : Holding) (given : List ℤ) (brought : Brought) : Type 0 where
   pub stands : (before : List ℤ) → StandsFor old before → StandsFor new (before ++ given)
   pub symbols_are : (before : List ℤ) → StandsFor old before

@@ -1,4 +1,4 @@
--- What is kept while an exciter is given the packets of one life, and what it makes of them.
+-- What an exciter makes of the packets of one life, and the numbers of that life.
 use Rattle.std.specs.Prelude.{ℕ, ◌+◌, ◌^◌, ◌<◌, List, [], ◌∷◌, length}
 use Rattle.std.specs.List.{sum_by}
 use Rattle.dtx_exciter.specs.Emission.{emission}
@@ -7,11 +7,11 @@ use Rattle.dtx_files.specs.LogText.{log_text}
 use Rattle.dtx_files.specs.Symbols.{segment_bytes}
 use Rattle.dtx_jobs.specs.declared.life_tally.LifeTally.{LifeTally}
 
--- the symbol file of one life: one byte for each symbol of the segments that it gives
+-- the symbol file of one life: one byte for each symbol of the segments that are sent in it
 abbrev pub sent_bytes : ℕ → ℕ → List (List ℕ) → List ℕ
 sent_bytes address delay packets = segment_bytes (emission address delay packets)
 
--- the log of one life, before which nothing was given
+-- the log of one life, which is the first: no segment was sent before it
 abbrev pub logged_bytes : ℕ → ℕ → List (List ℕ) → List ℕ
 logged_bytes address delay packets = log_text (life_lines address delay 0 packets)
 
@@ -29,7 +29,7 @@ one_mute (Line.restart segment) = 0
 abbrev pub presets_in : List Line → ℕ
 presets_in lines = sum_by one_preset lines
 
--- how many are mutes
+-- how many lines are mutes
 abbrev pub mutes_in : List Line → ℕ
 mutes_in lines = sum_by one_mute lines
 
@@ -42,7 +42,7 @@ life_tally address delay packets = record {
   mutes = mutes_in (life_lines address delay 0 packets);
 }
 
--- with one packet more, which gives so many segments and these lines
+-- the numbers with one packet more, which brings `segments` segments and these lines
 abbrev pub tally_with : LifeTally → ℕ → List Line → LifeTally
 tally_with tally segments lines = record {
   packets = tally.packets + 1;
@@ -51,11 +51,11 @@ tally_with tally segments lines = record {
   mutes = tally.mutes + mutes_in lines;
 }
 
--- the numbers of a line, and then zeros
+-- the numbers of the command's line, and then zeros
 abbrev pub life_numbers : LifeTally → ℕ → List ℕ
 life_numbers tally loose = tally.packets ∷ tally.segments ∷ tally.presets ∷ tally.mutes ∷ loose ∷ 0 ∷ 0 ∷ []
 
--- so many segments can be counted besides, and one of each other
+-- no number overflows when one packet, `given` segments, one preset and one mute are counted more
 pub record HasRoom (tally : LifeTally) (given : ℕ) : Type 0 where
   pub packets : tally.packets + 1 < 2 ^ 64
   pub segments : tally.segments + given < 2 ^ 64

@@ -1,4 +1,4 @@
--- What an exciter makes of several lives, and its numbers.
+-- What an exciter makes of several lives, and the numbers of them all.
 use Rattle.std.specs.Prelude.{ℕ, List, length}
 use Rattle.std.specs.List.{flat_map}
 use Rattle.dtx_exciter.specs.Log.{log, emission_over}
@@ -14,7 +14,8 @@ sent_over address delay lives = segment_bytes (emission_over address delay lives
 abbrev pub logged_over : ℕ → ℕ → List (List (List ℕ)) → List ℕ
 logged_over address delay lives = log_text (log address delay 0 lives)
 
--- the numbers of lives: their packets, the segments that they give, the lines `preset` and `mute` of their log
+-- the numbers of lives: their packets, the segments that are sent in them, and the lines `preset` and `mute` of their
+-- log
 abbrev pub lives_tally : ℕ → ℕ → List (List (List ℕ)) → LifeTally
 lives_tally address delay lives = record {
   packets = length (flat_map (λ life. life) lives);

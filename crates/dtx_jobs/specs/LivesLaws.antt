@@ -58,11 +58,11 @@ log_last a d xs life =
     lines_in a d 0 xs [] life
     ∙ ap (λ z. restarted_lines a d 0 xs ++ z) (append-nil (life_lines a d (0 + length (emission_over a d xs)) life))
 
--- the segments that a packet gives, behind those of the lives before it
+-- the segments that packet `p` brings when it comes at the end of the last life
 abbrev pub brought_by : ℕ → ℕ → List (List (List ℕ)) → List ℕ → List (List ℤ)
 brought_by a d lives p = last_segments a d (last_life lives ++ p ∷ [])
 
--- its line
+-- the line that it brings, or none
 abbrev pub line_by : ℕ → ℕ → List (List (List ℕ)) → List ℕ → List Line
 line_by a d lives p = line_of (length (emission_over a d lives)) (length (brought_by a d lives p))
     (last_answer a d (last_life lives ++ p ∷ []))
@@ -119,7 +119,7 @@ log_longer a d lives p some =
 
 -- ---- one life more
 
--- a restart stands before each but the first
+-- the restart line that one life more brings: the first life has none
 abbrev pub restart_by : ℕ → ℕ → List (List (List ℕ)) → List Line
 restart_by a d [] = []
 restart_by a d (life ∷ more) = restart (length (emission_over a d (life ∷ more))) ∷ []

@@ -1,5 +1,5 @@
--- What is given back of a stream's symbols of which some are missing and some are damaged (the profile's own; what is
--- sent is that of ATSC A/53 Part 2). A packet is its list of 188 bytes, a segment the list of its 832 symbols.
+-- Which packets of a stream `mend` gives back when some of the stream's symbols are missing or damaged (the profile's
+-- own; ATSC A/53 Part 2 for what is sent). A packet is a list of 188 bytes, a segment a list of 832 symbols.
 use Rattle.std.specs.Prelude.{ℕ, ℤ, ◌≡◌, ◌≢◌, ◌+◌, ◌*◌, ◌%◌, ◌≤◌, Bool, All, Some, List, [], ◌∷◌, length, take}
 use Rattle.std.specs.Prelude.{slice_get, slice_index_or}
 use Rattle.std.specs.List.{flat_map, sum_by}
@@ -20,15 +20,15 @@ use Rattle.dtx_jobs.specs.Giving.{all_bytes, given_of, given_until}
 use Rattle.dtx_jobs.specs.Mend.{with_mendings}
 use Rattle.dtx_jobs.specs.SymbolFile.{file_segments, whole_segments}
 
--- the packets of a symbol file of which some symbols may be missing, one behind the other
+-- the packets that `mend` writes for a symbol file, one behind the other
 abbrev pub mended_bytes : List ℕ → List ℕ
 mended_bytes file = all_bytes with_mendings file
 
--- what `mend` answers and writes of all segments of a symbol file
+-- what `mend` answers and writes for all segments of a symbol file
 abbrev pub mended_of : List (List ℕ) → List ℕ → Meaning
 mended_of names file = given_of with_mendings names file (length file % 832)
 
--- and of one that has more segments than may be: what the first ones give while they come, as many as may be
+-- The same for a file of more than MOST_SEGMENTS segments: what the first MOST_SEGMENTS segments give while they come.
 abbrev pub mended_until : List (List ℕ) → List ℕ → Meaning
 mended_until names file = given_until with_mendings names file
 
@@ -53,25 +53,26 @@ word_of run j = word_at 207 52 4 (bytes_in run) j
 
 -- ---- a run, whatever else is received
 
--- The bytes of word j of a run are all there, and the word is mendable to the codeword of that packet of a stream.
+-- The bytes of word j of a run are all there, and the word is mendable to the codeword of packet k of a stream.
 pub record CanBeMended (stream : List (List ℕ)) (k : ℕ) (run : List (List ℤ)) (j : ℕ) : Type 0 where
   pub given : IsComplete 207 52 4 (length (bytes_in run)) j
   pub near : IsMendable stream k (word_marks run j) (word_of run j)
 
--- how many packets the runs at some places of a list of segments give
+-- how many packets the runs at these places of a list of segments give
 abbrev pub packets_before : List (List ℤ) → List (ℕ × ℕ) → ℕ
 packets_before got places = length (flat_map (λ p. mended_run (segments_in got p)) places)
 
--- Packet k of a stream stands at a place of what is written of a symbol file, with 0x47 as its sync byte. It is good,
--- and the bytes put right are those in which its word differs from its codeword, marked or not.
+-- Packet k of a stream is packet `place` of the packets that `mend` writes for a symbol file, with 0x47 as its sync
+-- byte. It is not flagged. The bytes put right are those in which its word differs from its codeword, marked or not.
 pub record IsMendedBack (stream : List (List ℕ)) (file : List ℕ) (place k : ℕ) (word : List ℕ) : Type 0 where
   pub packet : slice_get (packets_of (mended_bytes file)) place ≡ Some (as_received (slice_index_or stream k []))
   pub good : slice_get (all_mended (file_segments file)) place ≡ Some (as_corrected stream k word)
 
 -- ---- segments in a row of a stream alone
 
--- Segments of a stream, from one on, are received with damage that is mended. Its first field sync and all later ones
--- are found. Each word of the run that begins with it whose bytes are all there is mendable.
+-- Segments of a stream, from segment `first` on, are received with damage that can be mended. Their first field sync
+-- and all later ones are found. The run begins with that first sync. Each of its words whose bytes are all there is
+-- mendable.
 pub record CanAllBeMended (stream : List (List ℕ)) (first : ℕ) (sent got : List (List ℤ)) : Type 0 where
   pub found : AreFound first sent got
   pub words : (j : ℕ) → IsComplete 207 52 4 (828 * groups_of (from_sync first got)) j
@@ -82,9 +83,9 @@ abbrev pub put_right : List (List ℕ) → ℕ → List (List ℤ) → ℕ
 put_right stream first got = sum_by (λ j. distance (word_in first got j) (codeword_at stream (packet_behind first + j)))
     (numbers_in (from_sync first got))
 
--- What `mend` answers and writes where all is given back of the segments of a file. There is one run. Its packets are
--- those of the stream from the one behind the first field sync on whose bytes are all there, in order, with 0x47 as
--- their sync bytes. None is flagged.
+-- What `mend` answers and writes for a file whose packets all come back. There is one run. Its packets are those of the
+-- stream from the one behind the first field sync on, as far as their bytes are all there. They are in order, with 0x47
+-- as their sync bytes. None is flagged.
 abbrev pub all_back_of : List (List ℕ) → List (List ℕ) → ℕ → List ℕ → Meaning
 all_back_of names stream first file = record {
   outcome = record {

@@ -13,19 +13,19 @@ use Rattle.dtx_forms.specs.Job.{Job}
 use Rattle.dtx_forms.specs.Shapes.{segments}
 use Rattle.dtx_forms.specs.Transform.{transform_job}
 
--- what is given where each word is corrected
+-- what a receiver gives that corrects each word
 abbrev pub with_corrections : Giving
 with_corrections = record { so_far = packets_so_far; all = all_packets; packets = received }
 
--- the packets of a symbol file, one behind the other
+-- the packets that `receive` writes for a symbol file, one behind the other
 abbrev pub received_bytes : List ℕ → List ℕ
 received_bytes file = all_bytes with_corrections file
 
--- how it ends
+-- the answer
 abbrev pub receive_answer : List (List ℤ) → ℕ → Outcome
 receive_answer list loose = answer_of with_corrections list loose
 
--- what is made of symbols
+-- the recipe
 abbrev pub receiving : Recipe
 receiving = receiving_by with_corrections
 
@@ -33,12 +33,12 @@ receiving = receiving_by with_corrections
 abbrev pub receive_job : Job
 receive_job = transform_job Receive segments receiving
 
--- `receive` writes these bytes of that symbol file, whatever the names of its files are
+-- `receive` writes these bytes for that symbol file, whatever the two different names of its files are
 abbrev pub IsWritten : List ℕ → List ℕ → Type 0
 IsWritten file bytes = (verb input output : List ℕ) (held : Files) → bytes_eq input output ≡ false
     → get held input ≡ Some file
     → (receive_job.means (verb ∷ input ∷ output ∷ []) held).outputs ≡ (output, bytes) ∷ []
 
--- what `receive` answers and writes of all segments of some bytes, behind which so many are loose
+-- what `receive` answers and writes for all segments of a file, with `loose` bytes behind them
 abbrev pub received_of : List (List ℕ) → List ℕ → ℕ → Meaning
 received_of names file loose = given_of with_corrections names file loose

@@ -1,5 +1,5 @@
--- Laws of what `receive` makes of symbols: what is given where each word is corrected. They stand in specs/, since the
--- ghost members of an impl, a trait's laws, can cite lemmas from there only.
+-- Laws of what a receiver gives that corrects each word. They stand in specs/, since the ghost members of an impl, a
+-- trait's laws, can cite lemmas from there only.
 use Rattle.std.proofs.Common.{◌≡◌, ℤ, List, [], length, map, ap, refl}
 use Rattle.std.specs.List.{flat_map}
 use Rattle.std.proofs.lemmas.List.{nil_from_length}

@@ -15,34 +15,34 @@ use Rattle.dtx_jobs.specs.Lives.{sent_over, logged_over, lives_tally}
 use Rattle.dtx_jobs.specs.SymbolFile.{file_segments}
 use Rattle.dtx_jobs.specs.declared.life_tally.LifeTally.{LifeTally}
 
--- the symbols that the transmitter with this address and delay sends in these lives, and its log
+-- the symbols that the transmitter with this address and delay sends in these lives, and the transmitter's log
 abbrev pub sent_in : ℕ → ℕ → List (List (List ℕ)) → Made
 sent_in address delay lives = record {
   first = sent_over address delay lives;
   second = logged_over address delay lives;
 }
 
--- what it makes of a symbol file, whose runs are its lives
+-- what the transmitter sends and logs for a symbol file: each run is one life
 abbrev pub repeated_files : ℕ → ℕ → List ℕ → Made
 repeated_files address delay file = sent_in address delay (lives (file_segments file))
 
--- what is made while the segments come
+-- what it sends and logs while the segments come
 abbrev pub repeated_so_far : ℕ → ℕ → List ℕ → Made
 repeated_so_far address delay file = sent_in address delay (lives_so_far (file_segments file))
 
--- what stands behind it in each output
+-- for each output, what stands behind a prefix of it
 abbrev pub behind_in : Made → Made → Made
 behind_in front whole = record {
   first = drop (length front.first) whole.first;
   second = drop (length front.second) whole.second;
 }
 
--- the numbers of segments, of runs and of the lives, behind which so many bytes are loose
+-- the line's numbers: of segments, of runs and of the lives, and the loose bytes
 abbrev pub repeated_numbers : ℕ → ℕ → LifeTally → ℕ → List ℕ
 repeated_numbers segments runs tally loose =
     segments ∷ runs ∷ tally.packets ∷ tally.segments ∷ tally.presets ∷ tally.mutes ∷ loose ∷ []
 
--- how it ends: where no segment looks like a field sync there is no run
+-- the answer: `NoSync` where there is no run, since no segment looks like a field sync
 abbrev pub repeat_answer : ℕ → ℕ → List (List ℤ) → ℕ → Outcome
 repeat_answer address delay list loose =
     if length (runs list) == 0 then ended NoSync
@@ -52,7 +52,7 @@ repeat_answer address delay list loose =
       shown = 7;
     }
 
--- what is made of symbols
+-- the recipe
 abbrev pub repeating : ℕ → ℕ → Recipe
 repeating address delay = record {
   allows = λ _ _. true;

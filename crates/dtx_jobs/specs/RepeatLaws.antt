@@ -1,5 +1,5 @@
--- Laws of what is made of symbols that are sent again: it grows with them. They stand in specs/, since the ghost
--- members of an impl, a trait's laws, can cite lemmas from there only.
+-- Laws of what `repeat` makes of symbols: what the first segments give is a prefix of what more give. They stand in
+-- specs/, since the ghost members of an impl, a trait's laws, can cite lemmas from there only.
 use Rattle.std.proofs.Common.{◌≡◌, ℕ, ℤ, ◌%◌, ◌<◌, List, [], ◌∷◌, ◌++◌, length, refl, sym, ap, ◌∙◌, subst, arith}
 use Rattle.std.proofs.Common.{append_assoc}
 use Rattle.std.proofs.lemmas.List.{append-nil}
@@ -20,7 +20,7 @@ use Rattle.dtx_jobs.specs.Repeat.{sent_in, repeating}
 use Rattle.dtx_jobs.specs.SymbolFile.{file_segments}
 use Rattle.dtx_jobs.specs.SymbolFileLaws.{file_segments-append}
 
--- what lives make is a prefix of what longer lives make
+-- what is sent and logged in the lives `before` is a prefix of what is sent and logged in the lives `after`
 abbrev pub Fronts : ℕ → ℕ → List (List (List ℕ)) → List (List (List ℕ)) → Type 0
 Fronts a d before after = AreFrontsOf (sent_in a d before) (sent_in a d after)
 
@@ -43,7 +43,7 @@ fronts_on a d before between after f g = (
   ),
 )
 
--- with one packet more
+-- for one packet more
 fronts_one : (a d : ℕ) (lives : List (List (List ℕ))) (p : List ℕ) → 0 < length lives
     → Fronts a d lives (longer lives (p ∷ []))
 fronts_one a d lives p some = (
@@ -51,7 +51,7 @@ fronts_one a d lives p some = (
   (_, sym (logged_longer a d lives p some)),
 )
 
--- with any packets more
+-- for any packets more
 fronts_all : (a d : ℕ) (lives : List (List (List ℕ))) (packets : List (List ℕ)) → 0 < length lives
     → Fronts a d lives (longer lives packets)
 fronts_all a d lives [] some = fronts_same a d lives (longer lives []) (longer_none lives)
@@ -68,7 +68,7 @@ fronts_given a d [] after packets g =
 fronts_given a d (x ∷ more) after packets g =
     subst (Fronts a d (x ∷ more)) (sym g.0) (fronts_all a d (x ∷ more) (packets_in packets) (omega arith))
 
--- with one life more
+-- for one life more
 fronts_begun : (a d : ℕ) (lives : List (List (List ℕ))) (t : Tracking) → Fronts a d lives (with_begun t lives)
 fronts_begun a d lives Searching = fronts_same a d lives lives refl
 fronts_begun a d lives Sync = fronts_same a d lives lives refl
@@ -79,7 +79,7 @@ fronts_begun a d lives Began = (
   (_, sym (logged_begun a d lives)),
 )
 
--- with one segment more
+-- for one segment more
 fronts_segment : (a d : ℕ) (s : List (List ℤ)) (x : List ℤ)
     → Fronts a d (lives_so_far s) (lives_so_far (s ++ x ∷ []))
 fronts_segment a d s x =
@@ -88,7 +88,7 @@ fronts_segment a d s x =
     fronts_on a d (lives_so_far s) begun (lives_so_far (s ++ x ∷ [])) (fronts_begun a d (lives_so_far s) (tracking s x))
     (fronts_given a d begun (lives_so_far (s ++ x ∷ [])) more.0 (lives_more s x more.0 more.1))
 
--- with any segments more
+-- for any segments more
 pub fronts_segments : (a d : ℕ) (s more : List (List ℤ)) → Fronts a d (lives_so_far s) (lives_so_far (s ++ more))
 fronts_segments a d s [] = fronts_same a d (lives_so_far s) (lives_so_far (s ++ [])) (ap lives_so_far (append-nil s))
 fronts_segments a d s (x ∷ more) =

@@ -1,4 +1,4 @@
--- What is kept while symbols are received and sent again.
+-- What the engine of `repeat` keeps.
 use Rattle.std.specs.Prelude.{◌≡◌, ◌*◌, ◌≤◌, ℕ, ℤ, List, ◌++◌, length}
 use Rattle.dtx_receiver.specs.Runs.{runs}
 use Rattle.dtx_repeat.specs.GoingOn.{last_life}
@@ -14,7 +14,8 @@ pub record IsSending (state : Repetition) (segments : List (List ℤ)) (lives : 
   pub repeater : StandsFor state.address state.delay state.repeater.value segments (last_life lives)
   pub tally : state.sending.tally ≡ lives_tally state.address state.delay lives
 
--- From the lives that one state was sending another state sends these, and has gathered what they give more.
+-- The engine went from `old`, which was sending the lives `before`, to `new`, which sends the lives `after`. It has
+-- gathered the symbols and lines by which the lives `after` give more than `before`.
 pub record IsSentOn (old new : Repetition) (segments : List (List ℤ)) (before after : List (List (List ℕ))) :
     Type 0 where
   pub sending : IsSending new segments after
@@ -23,18 +24,18 @@ pub record IsSentOn (old new : Repetition) (segments : List (List ℤ)) (before 
   pub logged : (bytes : List ℕ) → logged_over old.address old.delay before ≡ bytes ++ old.sending.lines
       → logged_over old.address old.delay after ≡ bytes ++ new.sending.lines
 
--- the numbers are none that so many segments can't give
+-- the numbers are within the bounds for as many segments
 pub record AreFew (state : Repetition) : Type 0 where
   pub runs : state.runs ≤ state.segments
   pub packets : state.sending.tally.packets ≤ 8 * state.segments
 
--- these segments were received, and what they gave was sent again
+-- the state after these segments: they were received, and what they gave was sent again
 pub record IsRepeating (state : Repetition) (received : List (List ℤ)) : Type 0 where
   pub sending : IsSending state received (lives_so_far received)
   pub count : state.segments ≡ length received
   pub begun : state.runs ≡ length (runs received)
 
--- the segments of these bytes were given
+-- the state after the segments of these bytes
 pub record WasRepeated (state : Repetition) (bytes : List ℕ) : Type 0 where
   pub repeating : IsRepeating state (file_segments bytes)
   pub few : AreFew state

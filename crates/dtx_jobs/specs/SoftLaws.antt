@@ -128,7 +128,8 @@ pending_is s o e = ap (λ (o : Option ℕ). unwrap_or o 0) e
 follows_at : (s : List (List ℤ)) (o : Option ℕ) → next_place s ≡ o → IsFollowed s (unwrap_or o 0)
 follows_at s o e = subst (IsFollowed s) (pending_is s o e) (follows s)
 
--- what is ahead with one segment more: all that was, and behind it so many of the n that were not and of that one
+-- What one segment more finishes: `more` segments, out of the new one and the n data segments that waited for their
+-- field's end.
 pub record IsAhead (s : List (List ℤ)) (x : List ℤ) (n more : ℕ) : Type 0 where
   pub followed : IsFollowed s n
   pub all : ahead (s ++ x ∷ []) ≡ (length s - n) + more
@@ -161,7 +162,7 @@ ahead_full s x e =
       own = omega (arith, pending_is s (Some 311) e);
     }
 
--- the field that is full with the segment
+-- The segment is the last of its field's 312, so the field is full.
 pub full_field : (s : List (List ℤ)) (x : List ℤ) → next_place s ≡ Some 311 → IsFollowed s 311
     → IsField (s ++ x ∷ []) (length s - 311) 312
 full_field s x e f = field_of (length (s ++ x ∷ []) - 312) (omega (arith, length_push s x))
@@ -170,7 +171,7 @@ full_field s x e f = field_of (length (s ++ x ∷ []) - 312) (omega (arith, leng
     field_of : (n : ℕ) → n ≡ length s - 311 → IsField (s ++ x ∷ []) n 312 → IsField (s ++ x ∷ []) (length s - 311) 312
     field_of n e h = subst (λ n. IsField (s ++ x ∷ []) n 312) e h
 
--- and its segments
+-- the segments of that field
 pub full_rows : (s : List (List ℤ)) (x : List ℤ) → IsAhead s x 311 312
     → drop (length s - 311) (s ++ x ∷ []) ≡ drop (ahead s) s ++ x ∷ []
 full_rows s x h = drop-append-le (length s - 311) s (x ∷ []) (omega arith) ∙ ap (λ n. drop n s ++ x ∷ []) h.own

@@ -1,5 +1,6 @@
--- Laws of the places of segments: how they go on, and that those of a field follow one another. They stand in specs/,
--- since the ghost members of an impl, a trait's laws, can cite lemmas from there only.
+-- Laws of the places of segments: what the next place is after one segment more, and that the places of a field follow
+-- one another. They stand in specs/, since the ghost members of an impl, a trait's laws, can cite lemmas from there
+-- only.
 use Rattle.std.proofs.Common.{◌≡◌, ◌≢◌, ℕ, ℤ, ◌+◌, ◌-◌, ◌%◌, ◌<◌, ◌≤◌, ◌⊎◌, inl, inr, ◌==◌, Bool, true, false}
 use Rattle.std.proofs.Common.{cond, Option, Some, None, List, [], ◌∷◌, ◌++◌, length, take, unwrap_or, refl, sym, ap}
 use Rattle.std.proofs.Common.{◌∙◌, subst, arith}
@@ -60,7 +61,7 @@ is_data run p h = by_test (length run % 313 == 0) refl h
         let m : length run % 313 - 1 ≡ p = cc in
         (e, omega (arith, n, m))
 
--- the run goes on with a segment, or ends before it
+-- the run goes on with a segment (`with_run`), or ends before it (`without_run`)
 abbrev with_run : List (List (List ℤ)) → List (List ℤ) → List ℤ → Tracked
 with_run ended run x = record { ended = ended; run = Some (run ++ x ∷ []) }
 
@@ -70,7 +71,7 @@ without_run ended run = record { ended = ended ++ run ∷ []; run = None }
 abbrev run_of : Tracked → Option (List (List ℤ))
 run_of t = t.run
 
--- a segment that is no data, and is copied
+-- the place behind a segment that is no data, and is copied
 pub place_copied : (s : List (List ℤ)) (x : List ℤ) → next_place s ≡ None
     → next_place (s ++ x ∷ []) ≡ cond (looks_like x) (Some 0) None
 unfolding next_place
@@ -101,7 +102,7 @@ place_copied s x h = by_run (tracked s).run refl h
         ap (λ (t : Tracked). place_in t.run) (next_is s x (Some run) e ∙ due_run run (sync_due run) d.0)
         ∙ by_looks run (looks_like x) d.1
 
--- a data segment
+-- a data segment: the run goes on with it
 goes_on : (s : List (List ℤ)) (x : List ℤ) (p : ℕ) (o : Option (List (List ℤ))) → (tracked s).run ≡ o
     → place_in o ≡ Some p
     → (run : List (List ℤ)) × (length run % 313 ≡ p + 1)
@@ -136,8 +137,8 @@ place_first = refl
 
 -- ---- the places of all
 
--- The last n segments are the first n of a field, and each one before them that is data stands in a field all of whose
--- 312 are before them.
+-- The last n segments are the first n data segments of a field. Each data segment before them stands in a whole field,
+-- whose 312 data segments are all before them.
 pub record IsFollowed (s : List (List ℤ)) (n : ℕ) : Type 0 where
   pub within : n ≤ length s
   pub places : (j : ℕ) → j < n → next_place (take (length s - n + j) s) ≡ Some j
@@ -271,6 +272,6 @@ follows_none =
       closed = λ i p l e. absurd (omega arith);
     })
 
--- of all segments
+-- for all segments
 pub follows : (s : List (List ℤ)) → IsFollowed s (pending s)
 follows s = push_all Follows follows_push [] s follows_none

@@ -1,4 +1,4 @@
--- What is kept while symbols are softened.
+-- What the engine of `soft` keeps.
 use Rattle.std.specs.Prelude.{◌≡◌, ℕ, ℤ, pos, ◌*◌, ◌<◌, ◌≤◌, nat_abs, IfSome, List, length, take, drop, slice_index_or}
 use Rattle.std.specs.Prelude.{unwrap_or, vec_len}
 use Rattle.dtx_soft.specs.Signed.{AreSigned}
@@ -12,12 +12,12 @@ use Rattle.dtx_jobs.specs.SymbolFile.{file_segments}
 abbrev pub IsSigned : List ℤ → Type 0
 IsSigned segment = (k : ℕ) → nat_abs (slice_index_or segment k (pos 0)) ≤ 128
 
--- how many data segments of the field that is on are kept
+-- how many data segments of the current field are kept
 abbrev pub kept_rows : Softening → ℕ
 kept_rows kept = unwrap_or kept.place 0
 
--- These segments were given. The place of the next one is known, the data segments of the field that is on are kept,
--- and the numbers are those of the fields before it.
+-- The state after these segments. It has the place of the next one, the data segments of the current field, and the
+-- numbers of the fields before it.
 pub record IsSoftening (kept : Softening) (segments : List (List ℤ)) : Type 0 where
   pub place : kept.place ≡ next_place segments
   pub field : take (pending segments) kept.field.items ≡ drop (ahead segments) segments
@@ -26,7 +26,7 @@ pub record IsSoftening (kept : Softening) (segments : List (List ℤ)) : Type 0 
   pub cost : kept.cost ≡ field_sum (softened_cost 1) segments (ahead segments)
 
 -- There is room for a field, and the symbols that are kept are signed bytes. The decoder has the standard's levels. The
--- numbers are none that so many segments can't give.
+-- numbers are within the bounds for as many segments.
 pub record IsKept (kept : Softening) : Type 0 where
   pub room : vec_len kept.field ≡ 312
   pub small : IfSome kept.place (λ place. place < 312)
@@ -35,7 +35,7 @@ pub record IsKept (kept : Softening) : Type 0 where
   pub fields : kept.fields ≤ kept.segments
   pub cost : kept.cost ≤ MOST_COST * kept.segments
 
--- the segments of these bytes were given
+-- the state after the segments of these bytes
 pub record WasSoftened (kept : Softening) (bytes : List ℕ) : Type 0 where
   pub softening : IsSoftening kept (file_segments bytes)
   pub is_kept : IsKept kept

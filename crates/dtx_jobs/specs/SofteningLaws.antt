@@ -1,5 +1,5 @@
--- Laws of what is made of symbols that are softened: it grows with them. They stand in specs/, since the ghost members
--- of an impl, a trait's laws, can cite lemmas from there only.
+-- Laws of what `soft` makes of symbols: what the first segments give is a prefix of what more give. They stand in
+-- specs/, since the ghost members of an impl, a trait's laws, can cite lemmas from there only.
 use Rattle.std.proofs.Common.{◌≡◌, ℕ, ℤ, ◌%◌, List, [], ◌++◌, length, refl, sym, ap, ◌∙◌}
 use Rattle.dtx_engine.specs.Made.{AreFrontsOf, only}
 use Rattle.dtx_files.proofs.AppendedLemmas.{segment_bytes-append}

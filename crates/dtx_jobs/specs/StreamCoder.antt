@@ -1,4 +1,4 @@
--- What is kept while a stream is coded.
+-- What the engine of `code` keeps.
 use Rattle.std.specs.Prelude.{◌≡◌, ℕ, ◌*◌, List, length, take, drop}
 use Rattle.dtx_coder.specs.Groups.{StandsFor, stream_coding}
 use Rattle.dtx_coder.specs.Batches.{IsAhead}
@@ -6,13 +6,14 @@ use Rattle.dtx_packets.specs.Packets.{packets_of, whole_packets}
 use Rattle.dtx_jobs.specs.Symbols.{in_groups}
 use Rattle.dtx_jobs.specs.declared.stream_coder.StreamCoder.{StreamCoder}
 
--- the packets of these bytes were given: the coder stands for their whole groups, and they are counted
+-- the state after the packets of these bytes: the coder stands for their whole groups, and the packets are counted
 pub record WasCoded (state : StreamCoder) (bytes : List ℕ) : Type 0 where
   pub coder : StandsFor state.coder.value (take (in_groups (packets_of bytes)) (packets_of bytes))
   pub packets : state.packets ≡ whole_packets bytes
 
--- Of a batch the groups before this one are sent. The coder stands for the packets up to them, but the packets of the
--- other groups are interleaved behind them. Their bytes stand in the batch from this group on.
+-- The groups of a batch before `group` are sent, and all its groups are interleaved. So the coder stands for the
+-- packets `before`, but its interleaver has taken `packets` too. Their interleaved bytes stand in the batch from this
+-- group on.
 pub record AreInterleaved (state : StreamCoder) (group : ℕ) (before packets : List (List ℕ)) : Type 0 where
   pub ahead : IsAhead (stream_coding before) (length before) packets
       (take (207 * length packets) (drop (828 * group) state.batch)) state.coder.value

@@ -1,4 +1,4 @@
--- The segments of a symbol file: one byte for each symbol, in two's complement, and segments are counted from byte 0
+-- The segments of a symbol file. It has one byte for each symbol, in two's complement. Segments are counted from byte 0
 -- (the profile's own).
 use Rattle.std.specs.Prelude.{ℕ, ℤ, ◌*◌, ◌/◌, List, length, map, take, drop}
 use Rattle.std.specs.Int.{w8, cast_signed}
@@ -20,7 +20,7 @@ segment_at file n = symbols (take 832 (drop (832 * n) file))
 abbrev pub whole_segments : List ℕ → ℕ
 whole_segments file = length file / 832
 
--- that many segments of a file, from one on
+-- `count` segments of a file, from segment `first` on
 abbrev pub segments_from : List ℕ → ℕ → ℕ → List (List ℤ)
 segments_from file first count = map (segment_at file) (range_with_len first count)
 

@@ -9,7 +9,7 @@ use Rattle.dtx_receiver.specs.declared.batch.Received.{Received}
 abbrev pub fixed_in : List Received → ℕ
 fixed_in packets = sum_by (λ p. p.fixed) packets
 
--- how many of them are flagged: their words had no correction
+-- how many packets are flagged: their words had no correction
 abbrev pub flagged_in : List Received → ℕ
 flagged_in packets = sum_by (λ p. if p.good then 0 else 1) packets
 
@@ -23,7 +23,7 @@ tally_of segments packets = record {
   flagged = flagged_in packets;
 }
 
--- with the numbers of these packets besides
+-- the numbers with these packets more
 abbrev pub tally_with : Tally → List Received → Tally
 tally_with tally packets = record tally {
   packets = tally.packets + length packets;
@@ -31,12 +31,12 @@ tally_with tally packets = record tally {
   flagged = tally.flagged + flagged_in packets;
 }
 
--- the numbers of a line, and then a zero
+-- the numbers of the command's line, and then a zero
 abbrev pub numbers_in : Tally → ℕ → List ℕ
 numbers_in tally loose =
     tally.segments ∷ tally.runs ∷ tally.packets ∷ tally.fixed ∷ tally.flagged ∷ loose ∷ 0 ∷ []
 
--- the numbers are those that so many segments give at most
+-- bounds of the numbers: so many segments give no more
 pub record IsBounded (tally : Tally) (segments : ℕ) : Type 0 where
   pub runs : tally.runs ≤ segments
   pub packets : tally.packets ≤ 4 * segments

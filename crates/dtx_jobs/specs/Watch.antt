@@ -23,18 +23,18 @@ use Rattle.dtx_jobs.specs.declared.watch_tally.WatchTally.{WatchTally}
 
 -- ---- the text
 
--- the lines of a feed's packets, but for those of a last part of a group
+-- the lines for a feed's packets, but for the packets of a last group that isn't whole
 unfoldable pub watched_bytes : List (List ℕ) → List ℕ
 watched_bytes packets = watch_text (told packets)
 
--- those of a last part of a group
+-- the lines for the packets of that last group
 unfoldable pub waiting_bytes : List (List ℕ) → List ℕ
 waiting_bytes packets = watch_text (waiting packets)
 
 -- ---- the numbers
 
--- Whether a note is of an operations packet at its place, of states that slip, or of a stamp that jumps. Whether it is
--- of a packet that doesn't read, or of one that isn't at its place.
+-- 1 or 0 for a note. The definitions count operations packets at their places, states that slip, stamps that jump,
+-- operations packets that don't read, and operations packets that aren't at their places.
 abbrev pub one_ops : What → ℕ
 one_ops (Ops o) = 1
 one_ops other = 0
@@ -63,7 +63,7 @@ abbrev pub one_stray : What → ℕ
 one_stray (Stray frame index) = 1
 one_stray other = 0
 
--- how many notes are so
+-- how many notes there are of a kind
 abbrev pub count_of : (What → ℕ) → List Note → ℕ
 count_of one notes = sum_by (λ note. one note.what) notes
 
@@ -85,12 +85,12 @@ watch_numbers tally loose =
 
 -- ---- the meaning
 
--- how it ends: the packets, the lines of each kind that is counted, and the loose bytes
+-- the answer: the packets, the lines of each kind that is counted, and the loose bytes
 abbrev pub watch_answer : List (List ℕ) → ℕ → Outcome
 watch_answer packets loose =
     record { status = Done; numbers = watch_numbers (watch_tally (length packets) (watch packets)) loose; shown = 7 }
 
--- what is made of the packets of a feed, which are of any bytes: a line for each note, in their order
+-- the recipe: packets of any bytes are allowed, and each note gives a line, in their order
 abbrev pub watching : Recipe
 watching = record {
   allows = λ _ _. true;

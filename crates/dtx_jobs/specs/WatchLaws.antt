@@ -1,5 +1,5 @@
--- Laws of what is written of a feed: of more packets more is written behind. They stand in specs/, since the ghost
--- members of an impl, a trait's laws, can cite lemmas from there only.
+-- Laws of what `watch` writes of a feed: what the first packets give is a prefix of what more give. They stand in
+-- specs/, since the ghost members of an impl, a trait's laws, can cite lemmas from there only.
 use Rattle.std.proofs.Common.{◌≡◌, ℕ, ◌%◌, List, [], ◌++◌, length, refl, sym, ap, ◌∙◌}
 use Rattle.dtx_engine.specs.Made.{only, AreFrontsOf}
 use Rattle.dtx_packets.proofs.PacketLemmas.{packets_of-append}

@@ -1,4 +1,4 @@
--- What `watch` answers and writes of whole feeds, and of sound ones (the profile's own).
+-- What `watch` answers and writes for whole feeds, and for sound ones (the profile's own).
 use Rattle.std.specs.Prelude.{◌≡◌, ℕ, ◌%◌, ◌==◌, Ok, List, [], ◌∷◌, ◌++◌, codes, length, slice_index_or}
 use Rattle.std.specs.List.{Contains, filter, flat_map, range_with_len}
 use Rattle.dtx_engine.specs.Made.{only, outputs_of}
@@ -20,8 +20,8 @@ use Rattle.dtx_jobs.specs.declared.watch_tally.WatchTally.{WatchTally}
 
 -- ---- the numbers of the line, by the text
 
--- The tally of the text of what is told of so many packets. It counts the lines that begin with `ops`, `unread` and
--- `stray`. It counts those that have the word `slip` or `jump` at its place.
+-- The numbers of the line, counted from the text of the notes on so many packets. It counts the lines that begin with
+-- `ops`, `unread` and `stray`, and those that have `slip` as word 7 or `jump` as word 8, counted from 0.
 abbrev pub tally_of_text : ℕ → List ℕ → WatchTally
 tally_of_text packets text = record {
   packets = packets;
@@ -32,21 +32,21 @@ tally_of_text packets text = record {
   stray = lines_with 0 (codes "stray") text;
 }
 
--- what is answered and written where the text of all packets is this, and so many bytes are loose
+-- the answer and the output where `text` is that of all notes and `loose` bytes are behind the packets
 abbrev pub told_by : List (List ℕ) → ℕ → ℕ → List ℕ → Meaning
 told_by names packets loose text = record {
   outcome = record { status = Done; numbers = watch_numbers (tally_of_text packets text) loose; shown = 7 };
   outputs = outputs_of names (only text);
 }
 
--- what is answered and written of all packets of a file
+-- the answer and the output for all packets of a file
 abbrev pub watched_of : List (List ℕ) → List ℕ → Meaning
 watched_of names file =
     told_by names (whole_packets file) (length file % 188) (watch_text (watch (packets_of file)))
 
 -- ---- a sound feed
 
--- the numbers of the operations packets, whose packet identifier is 0x1FFA, in their order
+-- which packets are operations packets: the numbers, in order, of those with packet identifier 0x1FFA
 unfoldable pub ops_packets : List (List ℕ) → List ℕ
 ops_packets packets =
     filter (λ k. pid_of (slice_index_or packets k []) == 0x1FFA) (range_with_len 0 (length packets))
@@ -55,15 +55,15 @@ ops_packets packets =
 abbrev pub ops_at : (ℕ → OpsNote) → ℕ → Note
 ops_at said k = record { packet = k; what = OpsAt (said k) }
 
--- each operations packet reads, and what is said of it are its fields, with states that don't slip and a stamp that
--- doesn't jump
+-- Each operations packet reads. Its note has the packet's fields, with states that don't slip and a stamp that doesn't
+-- jump.
 abbrev pub AreCalm : List (List ℕ) → (ℕ → OpsNote) → Type 0
 AreCalm packets said = (k : ℕ) → Contains (ops_packets packets) k
     → (ops : Ops) × (reading (slice_index_or packets k []) ≡ Ok ops) × IsCalmOps ops (said k)
 
 -- The packets are watched calmly. The text is the line `lock 0` and one line `ops` for each operations packet, in their
--- order, and nothing else. None of these says `slip` or `jump`. The numbers are those of the packets and of the
--- operations packets, four times 0, and the loose bytes.
+-- order, and nothing else. None of these lines has the word `slip` or `jump`. The numbers are those of the packets and
+-- of the operations packets, four times 0, and the loose bytes.
 pub record IsWatchedCalmly (names packets : List (List ℕ)) (loose : ℕ) (meaning : Meaning) : Type 0 where
   pub said : ℕ → OpsNote
   pub calm : AreCalm packets said

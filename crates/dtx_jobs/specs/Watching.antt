@@ -1,4 +1,4 @@
--- What is kept while a feed is watched.
+-- What the engine of `watch` keeps.
 use Rattle.std.specs.Prelude.{ℕ, ◌≡◌, ◌+◌, ◌^◌, ◌<◌, List, length}
 use Rattle.dtx_packets.specs.Packets.{packets_of}
 use Rattle.dtx_watch.specs.Kept.{StandsFor}
@@ -9,7 +9,7 @@ use Rattle.dtx_jobs.specs.Watch.{count_of, watch_tally, one_ops, slips_of, jumps
 use Rattle.dtx_jobs.specs.declared.watch_tally.WatchTally.{WatchTally}
 use Rattle.dtx_jobs.specs.declared.watching.Watching.{Watching}
 
--- with one note more, and no packet
+-- the numbers with one note more, and no packet
 abbrev pub tally_of_one : WatchTally → What → WatchTally
 tally_of_one tally what = record {
   packets = tally.packets;
@@ -20,7 +20,7 @@ tally_of_one tally what = record {
   stray = tally.stray + one_stray what;
 }
 
--- with these notes more
+-- the numbers with these notes more
 abbrev pub tally_with : WatchTally → List Note → WatchTally
 tally_with tally notes = record {
   packets = tally.packets;
@@ -31,7 +31,7 @@ tally_with tally notes = record {
   stray = tally.stray + count_of one_stray notes;
 }
 
--- so many packets and notes can be counted besides
+-- no number overflows when one packet and `count` notes of each kind are counted more
 pub record HasRoom (tally : WatchTally) (count : ℕ) : Type 0 where
   pub packets : tally.packets + 1 < 2 ^ 64
   pub ops : tally.ops + count < 2 ^ 64
@@ -40,11 +40,11 @@ pub record HasRoom (tally : WatchTally) (count : ℕ) : Type 0 where
   pub unread : tally.unread + count < 2 ^ 64
   pub stray : tally.stray + count < 2 ^ 64
 
--- these packets were given: the watcher stands for them, and the numbers are those of what is told of them
+-- the state after these packets: the watcher stands for them, and the numbers are those of the notes so far
 pub record IsWatched (state : Watching) (packets : List (List ℕ)) : Type 0 where
   pub watcher : StandsFor state.watcher.value packets
   pub tally : state.tally ≡ watch_tally (length packets) (told packets)
 
--- the packets of these bytes were given
+-- the state after the packets of these bytes
 abbrev pub WasWatched : Watching → List ℕ → Type 0
 WasWatched state bytes = IsWatched state (packets_of bytes)

@@ -12,10 +12,11 @@ use dtx_words::number_within;
 use std::alloc::Global;
 
 /// Finds the fields of the capture IN and writes their segments to OUT (the profile's own; ATSC A/53 Part 2, data
-/// segment sync and data field sync). The symbols are decided and the syncs restored. IN has one signed byte a symbol
-/// and SCALE steps a unit. SCALE is 1 to 18, in decimal digits without sign and without a leading zero. The numbers are
-/// the bytes of IN, the runs of which something is left, the segments, what all least paths cost, and the bytes in no
-/// segment. Of its refusals it knows those that `receive` knows.
+/// segment sync and data field sync). It decides the symbols and restores the syncs. IN has one signed byte for each
+/// symbol, and SCALE steps make a unit. SCALE is 1 to 18, in decimal digits without sign and without a leading zero.
+/// The numbers are the bytes of IN, the runs of which something is left, the segments, what all least paths cost, and
+/// the bytes in no segment. An input that is too long is refused with `TooLong`, as by `receive`. An input of which
+/// nothing is acquired is refused with `NoSync`.
 pub fn acquire<S: Shelf>(alloc: Global, words: &[Word], shelf: &mut S) -> Outcome
     ensures { IsJobPerformed acquire_job words.now result (S.files shelf.old) (S.files shelf.new)
         (S.counts shelf.old) (S.counts shelf.new) }
@@ -31,7 +32,7 @@ pub fn acquire<S: Shelf>(alloc: Global, words: &[Word], shelf: &mut S) -> Outcom
     }
 }
 
-/// Acquires the segments of the input of that name at a scale.
+/// Acquires the segments of the file `input` at the scale, and writes them to `output`.
 #[inline(never)]
 fn acquire_files<S: Shelf>(
     alloc: Global,

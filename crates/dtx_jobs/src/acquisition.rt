@@ -17,10 +17,10 @@ use dtx_sizes::{FIELD_SEGMENTS, MOST_SYMBOLS, SEGMENT};
 use dtx_soft::MAX_SCALE;
 use std::alloc::{AllocError, Global};
 
-/// How many symbols a piece brings at most: its own, and those of the field and the segment that were held before it.
+/// The most symbols that a piece brings: its own, and those of one field and one segment that were held before it.
 const ACQUIRED_BYTES: usize = PIECE_BYTES + SEGMENT * (FIELD_SEGMENTS as usize + 1);
 
-/// An acquirer, the symbols of the last piece, and those that it brought.
+/// An acquirer, the symbols of the last piece, and the symbols that this piece brought.
 #[derive(Drop)]
 pub(crate) struct Acquisition {
     acquirer: Acquirer,
@@ -29,7 +29,7 @@ pub(crate) struct Acquisition {
 }
 
 impl Acquisition {
-    /// Nothing was acquired.
+    /// An engine to which nothing was given. The only error is out of memory.
     pub(crate) fn new(alloc: Global, scale: u8) -> Result<Acquisition, AllocError>
         requires from { 0 < scale }
         requires to { scale ≤ MAX_SCALE }
@@ -103,7 +103,7 @@ impl Engine for Acquisition {
     ghost grows = { λ s a b whole. acquires_more s.acquirer.scale a b };
 }
 
-/// Gives the symbols of bytes to the acquirer, and gathers the segments that they bring.
+/// Gives the symbols of `bytes` to the acquirer, and appends the segments that they bring to `gathered`.
 fn acquire_piece(
     acquirer: &mut Acquirer,
     bytes: &[u8],
@@ -123,7 +123,7 @@ fn acquire_piece(
     acquire_all(acquirer, piece, gathered);
 }
 
-/// Gives symbols to the acquirer, and gathers the segments that they bring.
+/// Gives the symbols of `piece` to the acquirer, and appends the segments that they bring to `gathered`.
 fn acquire_all(acquirer: &mut Acquirer, piece: &[i8], gathered: &mut SymbolBuffer<ACQUIRED_BYTES>)
     requires stands { (before : List ℤ) × StandsFor acquirer.old before }
     requires most { acquirer.old.symbols + length piece.now ≤ MOST_SYMBOLS }
@@ -138,7 +138,7 @@ fn acquire_all(acquirer: &mut Acquirer, piece: &[i8], gathered: &mut SymbolBuffe
     }
 }
 
-/// The answer, with the numbers of all that was acquired.
+/// The answer of `acquire`: `NoSync` where there is no run, else `Done` with five numbers.
 fn answer(acquirer: &Acquirer) -> Outcome
     ensures outcome { result
         ≡ acquired_answer acquirer.now.symbols acquirer.now.runs acquirer.now.segments acquirer.now.cost }

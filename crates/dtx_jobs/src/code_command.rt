@@ -8,10 +8,10 @@ use dtx_meaning::Outcome;
 use dtx_outside::{Shelf, Word};
 use std::alloc::Global;
 
-/// Writes the symbols of the stream or feed IN to OUT, one signed byte each in two's complement. They are those of all
-/// data segments and field syncs that its whole groups of four packets give (ATSC A/53 Part 2). Byte 0 of its packets
-/// is 0x47 or the mark 0xB8, and isn't sent. The numbers are the packets, the segments, and the bytes behind the last
-/// whole packet.
+/// Writes the symbols of the stream or feed IN to OUT, one signed byte each in two's complement. The whole groups of
+/// four packets give data segments and field syncs, and OUT has the symbols of all of them (ATSC A/53 Part 2). Byte 0
+/// of each packet must be 0x47 or the mark 0xB8, and isn't sent. The numbers are the packets, the segments, and the
+/// bytes behind the last whole packet.
 pub fn code<S: Shelf>(alloc: Global, words: &[Word], shelf: &mut S) -> Outcome
     ensures { IsJobPerformed code_job words.now result (S.files shelf.old) (S.files shelf.new)
         (S.counts shelf.old) (S.counts shelf.new) }

@@ -1,4 +1,4 @@
-// An exciter that is given a feed, a piece of its packets at a time.
+// The engine of `excite`: gives a feed to an exciter, one piece of packets at a time.
 ghost use Rattle.std.specs.Prelude.{◌≡◌, ◌+◌, ◌*◌, ◌/◌, ◌<◌, ◌≤◌, ◌++◌, ◌∷◌, [], ℕ, List, length, map, take};
 ghost use Rattle.dtx_exciter.specs.Packets.{group_part};
 ghost use Rattle.dtx_packets.specs.Packets.{packets_of};
@@ -17,14 +17,14 @@ use dtx_packets::Packet;
 use dtx_sizes::{GROUP_PACKETS, MOST_PACKETS, PACKET};
 use std::alloc::{AllocError, Global};
 
-/// How many symbols an exciter sends for the packets of a piece at most. They are those of its whole groups, and of one
-/// that began before it. There is room for one group more.
+/// Room for the symbols that an exciter sends for the packets of a piece. They are the symbols of the piece's whole
+/// groups, and of one group that began before it. There is room for one group more.
 const SENT_BYTES: usize = AIR_SYMBOLS * (CODED_PACKETS / GROUP_PACKETS + 2);
 
-/// How many bytes their lines in the log have at most.
+/// Room for the log's lines for these packets, in bytes. A packet brings at most one line.
 const LOGGED_BYTES: usize = LOG_LINE * CODED_PACKETS;
 
-/// An exciter with what the last piece brought, and the numbers of all.
+/// An exciter, what the last piece brought, and the numbers of all packets so far.
 #[derive(Drop)]
 pub(crate) struct Excitation {
     address: u16,
@@ -34,7 +34,7 @@ pub(crate) struct Excitation {
 }
 
 impl Excitation {
-    /// Takes packets, as the bytes of a file, and gathers what they bring.
+    /// Gives the exciter the packets of a file's bytes, and gathers the symbols and lines that they bring.
     fn take_all(&mut self, bytes: &[u8])
         requires some { (before : List (List ℕ)) × IsLife self.old before }
         requires most { self.old.sending.tally.packets + length bytes.now / PACKET ≤ MOST_PACKETS }
@@ -59,7 +59,7 @@ impl Excitation {
         }
     }
 
-    /// Takes the next packet of the feed, of any bytes, and gathers what it brings.
+    /// Gives the exciter the next packet of the feed, which may have any bytes, and gathers what it brings.
     fn take(&mut self, packet: &Packet)
         requires some { (before : List (List ℕ)) × IsLife self.old before }
         requires most { self.old.sending.tally.packets < MOST_PACKETS }

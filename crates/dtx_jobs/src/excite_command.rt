@@ -10,9 +10,9 @@ use std::alloc::Global;
 
 /// Gives the packets of FEED, which are of any bytes, to one exciter (the profile's own, over ATSC A/53 Part 2 and in
 /// the manner of ATSC A/110). It writes the segments that the exciter sends to OUT, one signed byte a symbol in two's
-/// complement, and its log to LOG. ADDRESS is the transmitter's, 0 to 65,535. DELAY is for how many ticks of 100 ns the
-/// feed is on its way to it, 0 to 4,294,967,295. Both are in decimal digits without sign and without a leading zero
-/// unless it is `0`. The numbers are the packets, the segments, the presets and the mutes of the log, and the bytes
+/// complement, and its log to LOG. ADDRESS is that of the transmitter, 0 to 65,535. DELAY is how many ticks of 100 ns
+/// the feed takes to it, 0 to 4,294,967,295. Both are decimal digits without sign, and without a leading zero unless
+/// the number is `0`. The numbers are the packets, the segments, the presets and the mutes of the log, and the bytes
 /// behind the last whole packet.
 pub fn excite<S: Shelf>(alloc: Global, words: &[Word], shelf: &mut S) -> Outcome
     ensures { IsJobPerformed excite_job words.now result (S.files shelf.old) (S.files shelf.new)

@@ -1,4 +1,4 @@
-// Levelling a capture, a piece of its file at a time.
+// The engine of `level`: levels a capture, one piece of its file at a time.
 ghost use Rattle.std.specs.Prelude.{◌≡◌, ◌++◌, ◌+◌, ◌*◌, ◌<◌, ◌≤◌, ℤ, List, [], IfOk, length, map, vec_len};
 ghost use Rattle.dtx_files.specs.Symbols.{byte_of_symbol};
 ghost use Rattle.dtx_level.specs.Leveller.{StandsFor, all_given, as_list};
@@ -19,11 +19,11 @@ use dtx_meaning::{Outcome, Status, ended};
 use dtx_sizes::{FIELD_SEGMENTS, MOST_SYMBOLS, SEGMENT};
 use std::alloc::{AllocError, Global};
 
-/// How many symbols a piece brings at most behind its zeros: its own, and those of the field and the segment that were
+/// The most symbols that a piece brings behind its zeros: its own, and those of one field and one segment that were
 /// held before it.
 const LEVELLED_BYTES: usize = PIECE_BYTES + SEGMENT * (FIELD_SEGMENTS as usize + 1);
 
-/// How many bytes the lines of its syncs have at most: each sync has a segment of its own.
+/// Room for the lines of a piece's syncs, in bytes. Each sync has a segment of its own.
 const LINES_BYTES: usize = MEASURE_LINE * (LEVELLED_BYTES / SEGMENT + 1);
 
 /// What a piece brought: zeros, the symbols behind them, and the lines of the syncs that were measured.
@@ -36,7 +36,7 @@ pub(crate) struct Brought {
 }
 
 impl Brought {
-    /// Nothing was brought.
+    /// Empty. The only error is out of memory.
     fn new(alloc: Global) -> Result<Brought, AllocError> {
         Ok(Brought {
             zeros: 0,
@@ -55,7 +55,7 @@ impl Brought {
         self.lines.clear();
     }
 
-    /// Takes what the leveller's last call brought too. Its zeros come before all else.
+    /// Appends what the leveller's last call brought. A call may bring zeros only before any symbol of the piece.
     fn add(&mut self, leveller: &Leveller)
         requires first { 0 < leveller.now.zeros → (self.old.zeros ≡ 0) × (self.old.symbols ≡ []) }
         requires symbols { length self.old.symbols + length leveller.now.given ≤ LEVELLED_BYTES }
@@ -162,7 +162,7 @@ impl Transforming for Levelling {
     ghost knows = { level_knows };
 }
 
-/// Gives the symbols of bytes to the leveller, and gathers what they bring.
+/// Gives the symbols of `bytes` to the leveller, and appends what they bring to `brought`.
 fn level_piece(leveller: &mut Leveller, bytes: &[u8], piece: &mut Vec<i8>, brought: &mut Brought)
     requires stands { (before : List ℤ) × StandsFor leveller.old before }
     requires most { leveller.old.symbols + length bytes.now ≤ MOST_SYMBOLS }
@@ -177,7 +177,7 @@ fn level_piece(leveller: &mut Leveller, bytes: &[u8], piece: &mut Vec<i8>, broug
     level_all(leveller, piece, brought);
 }
 
-/// Gives symbols to the leveller, and gathers what they bring.
+/// Gives the symbols of `piece` to the leveller, and appends what they bring to `brought`.
 fn level_all(leveller: &mut Leveller, piece: &[i8], brought: &mut Brought)
     requires stands { (before : List ℤ) × StandsFor leveller.old before }
     requires most { leveller.old.symbols + length piece.now ≤ MOST_SYMBOLS }
@@ -192,7 +192,7 @@ fn level_all(leveller: &mut Leveller, piece: &[i8], brought: &mut Brought)
     }
 }
 
-/// The answer, with the numbers of all that was levelled.
+/// The answer of `level`: `NoSync` where there is no sync, else `Done` with three numbers.
 fn answer(leveller: &Leveller) -> Outcome
     ensures outcome { result ≡ levelled_answer leveller.now.symbols leveller.now.syncs leveller.now.slips }
     ensures verdict { blame_of result.status ≡ Nothing }

@@ -1,5 +1,5 @@
-//! The commands that code a stream, or read a feed or symbols, one call each. Each has a job, whose meaning is a
-//! function of words and files, and an engine that makes what it means.
+//! The commands that code a stream, or that read a feed or symbols. Each command has one function to call, a job and an
+//! engine. The job's meaning is a function of the words and the files. The engine makes the outputs of that meaning.
 #![tactic(auto)]
 
 mod acquire_command;

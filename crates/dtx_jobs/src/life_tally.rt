@@ -15,7 +15,7 @@ pub(crate) struct LifeTally {
 }
 
 impl LifeTally {
-    /// Nothing was given.
+    /// All zeros: no packet was given.
     pub(crate) fn new() -> LifeTally
         ensures { result ≡ record { packets = 0; segments = 0; presets = 0; mutes = 0 } }
     {
@@ -27,7 +27,7 @@ impl LifeTally {
         }
     }
 
-    /// Counts one packet more, which was answered so and gave so many segments.
+    /// Counts one packet more: the exciter answered it with `told` and gave `segments` segments.
     pub(crate) fn add(&mut self, told: Told, segments: u8)
         requires { HasRoom self.old segments }
         ensures { (n m : ℕ) → self.new ≡ tally_with self.old segments (line_of n m told) }
@@ -41,7 +41,7 @@ impl LifeTally {
         }
     }
 
-    /// The numbers of the line, in their order, where so many bytes are loose.
+    /// The numbers of the command's line, in their order. `loose` bytes are behind the last whole packet.
     pub(crate) fn numbers(&self, loose: usize) -> [u64; 7]
         ensures { result ≡ life_numbers self.now loose }
     {

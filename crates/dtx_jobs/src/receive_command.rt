@@ -9,10 +9,10 @@ use dtx_outside::{Shelf, Word};
 use dtx_receiver::Receiver;
 use std::alloc::Global;
 
-/// Writes the packets of the symbols IN to OUT (ATSC A/53 Part 2, the way back). They are those of every run of
-/// segments that begins with one that looks like a field sync. Each has its errors corrected, or is flagged where its
-/// word has no correction. The numbers are the segments read, the runs, the packets written, the bytes put right, the
-/// packets flagged, and the bytes behind the last whole segment.
+/// Writes the packets of the symbols IN to OUT (ATSC A/53 Part 2, the way back). It writes the packets of every run of
+/// segments. A run begins with a segment that looks like a field sync. Each packet's errors are corrected. A packet
+/// whose word has no correction is flagged. The numbers are the segments read, the runs, the packets written, the bytes
+/// put right, the packets flagged, and the bytes behind the last whole segment.
 pub fn receive<S: Shelf>(alloc: Global, words: &[Word], shelf: &mut S) -> Outcome
     ensures { IsJobPerformed receive_job words.now result (S.files shelf.old) (S.files shelf.new)
         (S.counts shelf.old) (S.counts shelf.new) }

@@ -1,4 +1,4 @@
-// Receiving symbols, a piece of their file at a time.
+// The engine of `receive` and `mend`: receives symbols, one piece of their file at a time.
 ghost use Rattle.std.specs.Prelude.{◌≡◌, ◌+◌, ◌*◌, ◌/◌, ◌<◌, ◌≤◌, ◌++◌, [], ℤ, List, IfOk, length, take};
 ghost use Rattle.dtx_receiver.specs.Symbols.{symbols_in};
 ghost use Rattle.dtx_jobs.specs.Giving.{bytes_of};
@@ -15,10 +15,10 @@ use dtx_receiver::{Batch, Received};
 use dtx_sizes::{GROUP_PACKETS, MOST_SEGMENTS, PACKET, SEGMENT};
 use std::alloc::{AllocError, Global};
 
-/// How many bytes the packets have that a piece brings at most.
+/// Room for the packets that a piece brings, in bytes.
 const RECEIVED_BYTES: usize = PACKET * GROUP_PACKETS * PIECE_SEGMENTS;
 
-/// A receiver with the packets that the last piece brought, and the numbers of all.
+/// A receiver, the packets that the last piece brought, and the numbers of all segments so far.
 #[derive(Drop)]
 pub struct Reception<R> {
     receiver: Box<R>,
@@ -28,7 +28,7 @@ pub struct Reception<R> {
 }
 
 impl<R: SegmentReceiver> Reception<R> {
-    /// Nothing was received.
+    /// An engine to which nothing was given. The only error is out of memory.
     pub fn new(alloc: Global) -> Result<Reception<R>, AllocError>
         ensures { IfOk result (λ r. ⟦<Reception<R> as Engine>⟧.stands r []) }
     {
@@ -40,7 +40,7 @@ impl<R: SegmentReceiver> Reception<R> {
         })
     }
 
-    /// Takes segments, as the bytes of a file, and gathers the packets that they bring.
+    /// Gives the receiver the segments of a file's bytes, and gathers the packets that they bring.
     fn take_all(&mut self, bytes: &[u8])
         requires most { self.old.tally.segments + length bytes.now / SEGMENT ≤ MOST_SEGMENTS }
         requires bounded { IsBounded self.old.tally self.old.tally.segments }
@@ -63,7 +63,8 @@ impl<R: SegmentReceiver> Reception<R> {
         }
     }
 
-    /// Takes the first of some segments, gathers the packets that they bring, and tells how many it took.
+    /// Gives the receiver the first of these segments, as many as it takes at once, and gathers the packets that they
+    /// bring. Returns how many segments it took.
     fn take_some(&mut self, segments: &[[u8; SEGMENT]]) -> usize
         requires some { 0 < length segments.now }
         requires most { self.old.tally.segments + length segments.now ≤ MOST_SEGMENTS }
@@ -92,7 +93,7 @@ impl<R: SegmentReceiver> Reception<R> {
         progress.segments
     }
 
-    /// Ends, and gathers the packets that the end brings.
+    /// Ends the receiver's input, and gathers the packets that the end brings.
     fn end(&mut self)
         requires most { self.old.tally.segments ≤ MOST_SEGMENTS }
         requires bounded { IsBounded self.old.tally self.old.tally.segments }
@@ -185,7 +186,7 @@ impl<R: Receiving> Transforming for Reception<R> {
     ghost knows = { R.knows };
 }
 
-/// Puts the bytes of packets behind those that are gathered.
+/// Appends the bytes of the packets in `brought` to `packets`.
 fn gather(brought: &[Received], packets: &mut Buffer<RECEIVED_BYTES>)
     requires { length packets.old + PACKET * length brought.now ≤ RECEIVED_BYTES }
     ensures bytes { packets.new ≡ packets.old ++ bytes_of brought.now }

@@ -1,4 +1,4 @@
-// Receiving symbols and sending their packets again, a piece of the file at a time.
+// The engine of `repeat`: receives symbols and sends their packets again, one piece of the file at a time.
 ghost use Rattle.std.specs.Prelude.{◌≡◌, ◌+◌, ◌*◌, ◌/◌, ◌<◌, ◌≤◌, ◌++◌, ◌∷◌, [], ℕ, ℤ, List, length, map};
 ghost use Rattle.dtx_exciter.specs.Packets.{group_part};
 ghost use Rattle.dtx_files.specs.LogText.{log_text};
@@ -25,20 +25,20 @@ use dtx_repeat::Repeater;
 use dtx_sizes::{GROUP_PACKETS, MOST_SEGMENTS, SEGMENT};
 use std::alloc::{AllocError, Global};
 
-/// How many packets a segment or the end brings at most has room here. Neither brings more than those of a group.
+/// Room for the packets that one segment, or the end, brings. Neither brings more than one group of them.
 const MOST_BROUGHT: usize = 2 * GROUP_PACKETS;
 
-/// How many packets the segments of a piece, and the end behind them, bring at most.
+/// Room for the packets that the segments of a piece, and the end behind them, bring.
 const BROUGHT: usize = MOST_BROUGHT * (PIECE_SEGMENTS + 1);
 
-/// How many symbols are sent for them at most. They are those of their whole groups, and of one that began before them.
-/// There is room for one group more.
+/// Room for the symbols that are sent for these packets. They are the symbols of the packets' whole groups, and of one
+/// group that began before them. There is room for one group more.
 const SENT_BYTES: usize = AIR_SYMBOLS * (BROUGHT / GROUP_PACKETS + 2);
 
-/// How many bytes their lines in the log have at most, with a restart at each segment.
+/// Room for the log's lines for these packets, in bytes, with a restart at each segment.
 const LOGGED_BYTES: usize = LOG_LINE * (BROUGHT + PIECE_SEGMENTS);
 
-/// A repeater with what the last piece brought, and the numbers of all.
+/// A repeater, what the last piece brought, and the numbers of all segments so far.
 #[derive(Drop)]
 pub(crate) struct Repetition {
     address: u16,
@@ -52,7 +52,7 @@ pub(crate) struct Repetition {
 }
 
 impl Repetition {
-    /// Receives the segments of a file's bytes, and gathers what they bring.
+    /// Receives the segments of a file's bytes, and gathers the symbols and lines that they bring.
     fn take_all(&mut self, bytes: &[u8])
         requires most { self.old.segments + length bytes.now / SEGMENT ≤ MOST_SEGMENTS }
         requires some { (s : List (List ℤ)) × IsRepeating self.old s }
@@ -109,8 +109,8 @@ impl Repetition {
         self.send_all();
     }
 
-    /// Counts a segment that was told to be this, and gathers the line of a restart where it begins a run, but the
-    /// first.
+    /// Counts a segment. `tracking` says what the segment is. Where it begins a run other than the first, gathers the
+    /// line of a restart.
     fn begin(&mut self, tracking: Tracking)
         requires most { self.old.segments < MOST_SEGMENTS }
         requires runs { self.old.runs ≤ self.old.segments }
@@ -141,8 +141,8 @@ impl Repetition {
         }
     }
 
-    /// Gives the packets of the batch to the exciter, which belong to the last of some lives, and gathers what they
-    /// bring.
+    /// Gives the packets of the batch to the exciter, and gathers what they bring. They belong to the exciter's last
+    /// life.
     fn send_all(&mut self)
         requires some { (s : List (List ℤ)) × (ls : List (List (List ℕ))) × IsSending self.old s ls
             × (ls ≡ [] → self.old.batch.packets.items ≡ []) }
@@ -197,7 +197,7 @@ impl Repetition {
         self.sending.add(told);
     }
 
-    /// Ends, and gathers what the end brings.
+    /// Ends the repeater's input, and gathers what the end brings.
     fn end(&mut self)
         requires some { (s : List (List ℤ)) × IsRepeating self.old s }
         requires few { self.old.sending.tally.packets ≤ MOST_BROUGHT * MOST_SEGMENTS }
@@ -214,7 +214,7 @@ impl Repetition {
         self.send_all();
     }
 
-    /// The numbers of the line, in their order, where so many bytes are loose.
+    /// The numbers of the command's line, in their order. `loose` bytes are behind the last whole segment.
     fn numbers(&self, loose: usize) -> [u64; 7]
         ensures { result ≡ repeated_numbers self.now.segments self.now.runs self.now.sending.tally loose }
     {

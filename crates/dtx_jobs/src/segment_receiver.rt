@@ -1,4 +1,4 @@
-// What receives segments, one after another.
+// What every receiver of segments does, so that `receive` and `mend` have one engine.
 ghost use Rattle.std.specs.Prelude.{◌≡◌, ◌+◌, ◌*◌, ◌<◌, ◌≤◌, ◌++◌, [], ℤ, IfOk, List, length, take};
 ghost use Rattle.dtx_receiver.specs.Runs.{runs};
 ghost use Rattle.dtx_receiver.specs.Symbols.{symbols_in};
@@ -9,20 +9,21 @@ use dtx_receiver::{Batch, Progress, Receiver};
 use dtx_sizes::{GROUP_PACKETS, SEGMENT};
 use std::alloc::{AllocError, Global};
 
-/// A receiver of segments, which come one after another. Receivers differ in how a word becomes a packet.
+/// A receiver, which is given segments one after another. Receivers differ in how a word becomes a packet.
 pub trait SegmentReceiver: Drop {
-    /// What it gives.
+    /// The packets that it gives for segments.
     ghost giving: { Giving };
 
-    /// These segments were given to the value.
+    /// The value stands for these segments: they are all that was given to it.
     ghost stands: { Self → List (List ℤ) → Type 0 };
 
-    /// One to which no segment was given. The only error is out of memory.
+    /// A receiver to which no segment was given. The only error is out of memory.
     fn new(alloc: Global) -> Result<Self, AllocError>
         ensures { IfOk result (λ receiver. stands receiver []) };
 
-    /// Receives the first of some segments, which are given as the bytes of their symbols: tells how many it took, and
-    /// how many runs began with them. Gives the packets that become whole with them, in place of what the batch held.
+    /// Receives the first of these segments, at least one. Each segment is the bytes of its symbols. Returns how many
+    /// segments it took and how many runs began with them. The batch holds the packets that became whole with them, and
+    /// nothing else.
     fn take_some(&mut self, segments: &[[u8; SEGMENT]], batch: &mut Batch) -> Progress
         requires { 0 < length segments.now }
         ensures some { 0 < result.segments }
@@ -38,17 +39,17 @@ pub trait SegmentReceiver: Drop {
         ensures few { length batch.new.packets.items ≤ GROUP_PACKETS * result.segments }
         ensures few_runs { result.runs ≤ result.segments };
 
-    /// Ends the run that is on, if one is: gives the packets that are left, in place of what the batch held.
+    /// Ends the current run, if there is one. The batch holds the packets that are left, and nothing else.
     fn finish(&mut self, batch: &mut Batch)
         ensures packets { (segments : List (List ℤ)) → stands self.old segments
             → giving.all segments ≡ giving.so_far segments ++ batch.new.packets.items }
         ensures few { length batch.new.packets.items ≤ GROUP_PACKETS };
 
-    /// What is given so.
+    /// The law that `giving` is what a receiver gives (`IsGiving`).
     ghost gives: { IsGiving giving };
 }
 
-/// A receiver whose packets are what a command writes.
+/// A receiver whose packets a command writes.
 pub(crate) trait Receiving: SegmentReceiver {
     ghost use Rattle.dtx_engine.specs.Recipe.{IsAnswerOf};
     ghost use Rattle.dtx_meaning.specs.declared.status.Status.{Status};
@@ -59,7 +60,7 @@ pub(crate) trait Receiving: SegmentReceiver {
     /// The command.
     ghost command: { Command };
 
-    /// The command knows how it may be answered.
+    /// Every answer of the recipe is one that the command may give.
     ghost knows: { (status : Status) → IsAnswerOf (receiving_by Self.giving) status → Knows command status };
 }
 

@@ -15,22 +15,22 @@ use dtx_files::{LOG_LINE, write_line, write_restart};
 use dtx_sizes::SEGMENT;
 use std::alloc::{AllocError, Global};
 
-/// What the last piece brought, and the numbers of all: at most `S` symbols, and lines of at most `L` bytes.
+/// What the last piece brought, at most `S` symbols and `L` bytes of lines, and the numbers of all packets so far.
 #[derive(Drop)]
 pub(crate) struct Sending<const S: usize, const L: usize> {
-    /// The segments of the last answer.
+    /// The segments that the exciter sent for the last packet.
     pub(crate) air: Air,
-    /// Its line, or nothing.
+    /// The line of the last packet, or nothing.
     line: ArrayString<LOG_LINE>,
     pub(crate) tally: LifeTally,
     /// The symbols that the last piece brought.
     pub(crate) symbols: SymbolBuffer<S>,
-    /// The lines of the log that it brought.
+    /// The lines of the log that the last piece brought.
     pub(crate) lines: Buffer<L>,
 }
 
 impl<const S: usize, const L: usize> Sending<S, L> {
-    /// Nothing was sent.
+    /// Empty, with all numbers 0. The only error is out of memory.
     pub(crate) fn new(alloc: Global) -> Result<Sending<S, L>, AllocError>
         ensures tally { IfOk result (λ sending.
             sending.tally ≡ record { packets = 0; segments = 0; presets = 0; mutes = 0 }) }
@@ -46,7 +46,7 @@ impl<const S: usize, const L: usize> Sending<S, L> {
         })
     }
 
-    /// Lets go what the last piece brought.
+    /// Forgets what the last piece brought. The numbers stay.
     pub(crate) fn clear(&mut self)
         ensures tally { self.new.tally ≡ self.old.tally }
         ensures symbols { self.new.symbols ≡ [] }
@@ -56,7 +56,8 @@ impl<const S: usize, const L: usize> Sending<S, L> {
         self.lines.clear();
     }
 
-    /// Counts one packet more, which was answered so, and gathers the segments that the air holds and the line.
+    /// Counts one packet more, which the exciter answered with `told`. Gathers the segments in `air` and the answer's
+    /// line.
     pub(crate) fn add(&mut self, told: Told)
         requires counts { HasRoom self.old.tally self.old.air.segments }
         requires few { self.old.air.segments ≤ AIR_SEGMENTS }
@@ -79,7 +80,7 @@ impl<const S: usize, const L: usize> Sending<S, L> {
         self.lines.push(self.line.as_str().as_bytes());
     }
 
-    /// Gathers the line of a restart.
+    /// Appends the line of a restart to the lines.
     pub(crate) fn restart(&mut self)
         requires lines { length self.old.lines + LOG_LINE ≤ L }
         ensures tally { self.new.tally ≡ self.old.tally }

@@ -8,10 +8,10 @@ use dtx_meaning::Outcome;
 use dtx_outside::{Shelf, Word};
 use std::alloc::Global;
 
-/// Writes the symbols IN to OUT, softened (ATSC A/53 Part 2, trellis coding). In each field of a run those of the data
-/// segments in whole groups of four are replaced by the symbols of their coder's least path. All other segments are
-/// copied, and the bytes behind the last whole segment are left out. The numbers are the segments, the fields with a
-/// whole group, what all least paths cost, and the bytes left out.
+/// Writes the symbols IN to OUT, softened (ATSC A/53 Part 2, trellis coding). In each field of a run, the data segments
+/// in whole groups of four are softened: the symbols of each coder become those of its least path. All other segments
+/// are copied, and the bytes behind the last whole segment are left out. The numbers are the segments, the fields with
+/// a whole group, what all least paths cost, and the bytes left out.
 pub fn soft<S: Shelf>(alloc: Global, words: &[Word], shelf: &mut S) -> Outcome
     ensures { IsJobPerformed soft_job words.now result (S.files shelf.old) (S.files shelf.new)
         (S.counts shelf.old) (S.counts shelf.new) }

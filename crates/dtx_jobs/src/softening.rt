@@ -1,4 +1,4 @@
-// Softening symbols, a piece of their file at a time.
+// The engine of `soft`: softens symbols, one piece of their file at a time.
 ghost use Rattle.std.specs.Prelude.{◌≡◌, ◌+◌, ◌*◌, ◌/◌, ◌<◌, ◌≤◌, ◌++◌, ◌∷◌, [], ℕ, ℤ, List};
 ghost use Rattle.std.specs.Prelude.{Some, None, length, take};
 ghost use Rattle.std.specs.Prelude.{vec_len};
@@ -24,18 +24,19 @@ use std::alloc::{AllocError, Global};
 /// How many data segments a field has.
 const FIELD_ROWS: usize = FIELD_PACKETS as usize;
 
-/// How many symbols a piece brings at most: its own, and those of the field that was on before it.
+/// The most symbols that a piece brings: its own, and those of a field that began before it.
 const SOFT_BYTES: usize = SEGMENT * (PIECE_SEGMENTS + FIELD_ROWS);
 
-/// What the least paths of a field cost at most: no symbol of 258,336 is off its level's by more than 135.
+/// The most that the least paths of a field cost. A field has 258,336 data symbols, and each differs from its level's
+/// symbol by at most 135.
 pub(crate) const MOST_COST: u64 = 258_336 * 18_225;
 
-/// The data segments of the field that is on, the symbols that the last piece brought, and the numbers of all.
+/// The data segments of the current field, the symbols that the last piece brought, and the numbers of all segments.
 #[derive(Drop)]
 pub(crate) struct Softening {
     soft: Soft,
     field: Vec<[i8; SEGMENT]>,
-    /// Which data segment of its field the next segment is, where it is one.
+    /// The place of the next segment in its field, or `None` where the next segment isn't data.
     place: Option<u16>,
     segment: [i8; SEGMENT],
     symbols: SymbolBuffer<SOFT_BYTES>,
@@ -45,7 +46,7 @@ pub(crate) struct Softening {
 }
 
 impl Softening {
-    /// Takes segments, as the bytes of a file, and gathers the symbols that they bring.
+    /// Takes the segments of a file's bytes, and gathers the symbols that they bring.
     fn take_all(&mut self, bytes: &[u8])
         requires most { self.old.segments + length bytes.now / SEGMENT ≤ MOST_SEGMENTS }
         requires is_kept { IsKept self.old }
@@ -86,7 +87,7 @@ impl Softening {
         }
     }
 
-    /// Gathers the segment as it is, where it is no data segment of a run.
+    /// Gathers the segment unchanged, since it is no data segment of a run.
     fn copy(&mut self)
         requires most { self.old.segments < MOST_SEGMENTS }
         requires is_kept { IsKept self.old }
@@ -107,7 +108,7 @@ impl Softening {
         self.place = place_behind(&self.segment);
     }
 
-    /// Keeps the segment, which is data at that place of its field, and ends the field with its last one.
+    /// Keeps the segment, which is the data segment at `place` of its field. The last one of a field ends the field.
     fn keep(&mut self, place: u16)
         requires most { self.old.segments < MOST_SEGMENTS }
         requires is_kept { IsKept self.old }
@@ -134,7 +135,7 @@ impl Softening {
         self.place = None;
     }
 
-    /// Gathers the symbols of the first data segments of a field, so many, with those in whole groups softened.
+    /// Gathers the symbols of the first `count` data segments of the field. Those in whole groups are softened.
     fn flush(&mut self, count: usize)
         requires few { count ≤ FIELD_ROWS }
         requires room { vec_len self.old.field ≡ FIELD_ROWS }
@@ -242,7 +243,7 @@ impl Transforming for Softening {
     ghost knows = { soft_knows };
 }
 
-/// How many data segments of a field are before that place.
+/// The number of the field's data segments before the place: 0 where there is none.
 fn rows_of(place: Option<u16>) -> usize
     requires { IfSome place (λ place. place < FIELD_ROWS) }
     ensures rows { result ≡ unwrap_or place 0 }
@@ -254,8 +255,8 @@ fn rows_of(place: Option<u16>) -> usize
     }
 }
 
-/// Gathers the symbols of a field's first data segments, so many, with those in whole groups softened, and answers what
-/// their least paths cost.
+/// Gathers the symbols of the first `count` data segments of the field. Those in whole groups are softened. Returns
+/// what their least paths cost.
 fn flush_field(
     soft: &mut Soft,
     field: &mut Vec<[i8; SEGMENT]>,
@@ -280,14 +281,15 @@ fn flush_field(
     cost
 }
 
-/// Data follows a segment that looks like a field sync, where none is on or one is due.
+/// The place of the segment behind this one, where no run is on or a sync is due. It is data segment 0 where this
+/// segment looks like a field sync.
 fn place_behind(segment: &[i8; SEGMENT]) -> Option<u16>
     ensures { result ≡ (if looks_like segment.now then Some 0 else None) }
 {
     if looks(segment) { Some(0) } else { None }
 }
 
-/// Softens the first data segments of a field, and answers what their least paths cost.
+/// Softens those of a field's first data segments that stand in whole groups. Returns what their least paths cost.
 fn soften(soft: &mut Soft, rows: &mut [[i8; SEGMENT]]) -> u64
     requires scale { soft.old.scale ≡ 1 }
     requires few { length rows.old ≤ FIELD_PACKETS }
@@ -304,7 +306,7 @@ fn soften(soft: &mut Soft, rows: &mut [[i8; SEGMENT]]) -> u64
     cost
 }
 
-/// Segments have 832 symbols each.
+/// Proves that segments have 832 symbols each.
 fn known(rows: &[[i8; SEGMENT]])
     ensures { (i : ℕ) → i < length rows.now → length (slice_index_or rows.now i []) ≡ SEGMENT }
 {}

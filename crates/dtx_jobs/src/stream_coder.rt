@@ -1,4 +1,4 @@
-// Coding a stream, a piece of its packets at a time.
+// The engine of `code`: codes a stream, one piece of packets at a time.
 ghost use Rattle.std.specs.Prelude.{◌≡◌, ◌+◌, ◌-◌, ◌*◌, ◌/◌, ◌%◌, ◌<◌, ◌≤◌, ◌++◌, [], ℕ, List, length, min, take};
 ghost use Rattle.dtx_coder.specs.Batches.{IsAhead};
 ghost use Rattle.dtx_coder.specs.Groups.{StandsFor};
@@ -18,20 +18,20 @@ use dtx_sizes::{
 };
 use std::alloc::{AllocError, Global};
 
-/// How many groups a field has.
+/// The number of groups in a field.
 const FIELD_GROUPS: u64 = (FIELD_PACKETS as usize / GROUP_PACKETS) as u64;
 
-/// How many groups a batch has at most.
+/// The most groups in a batch.
 const BATCH_GROUPS: usize = BATCH_PACKETS / GROUP_PACKETS;
 
-/// How many bytes the packets of a group have.
+/// The bytes of a group's packets.
 const FOUR_PACKETS: usize = PACKET * GROUP_PACKETS;
 
-/// How many symbols the groups of a piece have at most.
+/// Room for the symbols of a piece's groups.
 const CODED_BYTES: usize = AIR_SYMBOLS * (CODED_PACKETS / GROUP_PACKETS);
 
-/// Codes a stream. Each piece begins with a group, and the packets behind the last whole group of the stream are not
-/// sent. The packets of a piece are interleaved in batches, and their groups then sent one by one.
+/// Codes a stream. Each piece begins with a group. The packets behind the stream's last whole group are not sent. The
+/// packets of a piece are interleaved in batches, and the groups of a batch are then sent one by one.
 #[derive(Drop)]
 pub(crate) struct StreamCoder {
     coder: Box<Coder>,
@@ -40,12 +40,12 @@ pub(crate) struct StreamCoder {
     batch: [u8; BATCH_BYTES],
     /// The symbols that the last piece brought.
     symbols: SymbolBuffer<CODED_BYTES>,
-    /// How many packets were given.
+    /// The number of packets given so far.
     packets: u64,
 }
 
 impl StreamCoder {
-    /// Codes the whole groups of a piece, whose first packet has that number.
+    /// Codes the whole groups of a piece. Its first packet is packet `first` of the stream.
     fn code_groups(&mut self, first: u64, bytes: &[u8])
         requires grouped { first % GROUP_PACKETS ≡ 0 }
         requires room { length bytes.now ≤ PACKET * CODED_PACKETS }
@@ -70,7 +70,7 @@ impl StreamCoder {
         }
     }
 
-    /// Codes whole groups of one field, at most a batch, whose first packet has that number.
+    /// Codes whole groups of one field, at most a batch. Their first packet is packet `first` of the stream.
     fn code_batch(&mut self, first: u64, packets: &[[u8; PACKET]])
         requires grouped { first % GROUP_PACKETS ≡ 0 }
         requires whole { length packets.now % GROUP_PACKETS ≡ 0 }
@@ -95,7 +95,7 @@ impl StreamCoder {
         }
     }
 
-    /// Sends that group of the batch, whose first packet has that number.
+    /// Sends one group of the batch. Its first packet is packet `first` of the stream.
     fn send_group(&mut self, first: u64, group: usize)
         requires grouped { first % GROUP_PACKETS ≡ 0 }
         requires within { group < BATCH_GROUPS }
@@ -207,7 +207,8 @@ impl Transforming for StreamCoder {
     ghost knows = { code_knows };
 }
 
-/// Interleaves packets, the first at that place of its field, and puts the bytes that leave at the front of the batch.
+/// Interleaves packets, the first of which has that place in its field. The bytes that leave the interleaver go to the
+/// front of the batch.
 fn interleave_front(coder: &mut Coder, place: u16, packets: &[[u8; PACKET]], batch: &mut [u8])
     requires whole { length packets.now % GROUP_PACKETS ≡ 0 }
     requires in_field { place + length packets.now ≤ FIELD_PACKETS }
@@ -219,8 +220,8 @@ fn interleave_front(coder: &mut Coder, place: u16, packets: &[[u8; PACKET]], bat
     coder.interleave(place, packets, &mut batch[..len]);
 }
 
-/// How many of these packets are interleaved at once, where the first one has that number: at most a batch, and none of
-/// the next field.
+/// How many of the `left` packets are interleaved at once: at most a batch, and none of the next field. The first one
+/// is packet `first` of the stream.
 fn batch_packets(first: u64, left: usize) -> usize
     ensures { result ≡ min (min BATCH_PACKETS left) (FIELD_PACKETS - first % FIELD_PACKETS) }
 {
@@ -228,8 +229,8 @@ fn batch_packets(first: u64, left: usize) -> usize
     BATCH_PACKETS.min(left).min(field as usize)
 }
 
-/// How many segments a stream of that many packets has (ATSC A/53 Part 2): four for each whole group, and a field sync
-/// for each field that is begun by one.
+/// The number of segments of a stream of that many packets (ATSC A/53 Part 2). Each whole group has four, and each
+/// field that a whole group begins has a field sync.
 fn segments_of(packets: u64) -> u64
     requires { packets ≤ MOST_PACKETS }
     ensures { (stream : List (List ℕ)) → length stream ≡ packets → result ≡ length (a53 stream) }

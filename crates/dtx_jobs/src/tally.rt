@@ -1,4 +1,4 @@
-// What was received, in numbers.
+// The numbers of what was received.
 ghost use Rattle.std.specs.Prelude.{◌≡◌, ◌+◌, ◌*◌, ◌<◌, ◌≤◌, ◌^◌, [], length};
 ghost use Rattle.dtx_jobs.specs.Tally.{numbers_in, tally_with};
 
@@ -20,7 +20,7 @@ pub(crate) struct Tally {
 }
 
 impl Tally {
-    /// Nothing was received.
+    /// All zeros: nothing was received.
     pub(crate) fn new() -> Tally
         ensures { result ≡ record { segments = 0; runs = 0; packets = 0; fixed = 0; flagged = 0 } }
     {
@@ -33,7 +33,7 @@ impl Tally {
         }
     }
 
-    /// Counts packets.
+    /// Counts these packets, the bytes put right in them, and those that are flagged.
     pub(crate) fn add(&mut self, packets: &[Received])
         requires few { length packets.now ≤ MOST_RECEIVED }
         requires packets { self.old.packets < 2 ^ 60 }
@@ -52,7 +52,7 @@ impl Tally {
         }
     }
 
-    /// The numbers of the line, in their order, where so many bytes are loose.
+    /// The numbers of the command's line, in their order. `loose` bytes are behind the last whole segment.
     pub(crate) fn numbers(&self, loose: usize) -> [u64; 7]
         ensures { result ≡ numbers_in self.now loose }
     {

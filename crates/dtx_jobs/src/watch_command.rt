@@ -8,11 +8,12 @@ use dtx_meaning::Outcome;
 use dtx_outside::{Shelf, Word};
 use std::alloc::Global;
 
-/// Watches the feed FEED, whose packets are of any bytes, and writes to OUT a line for each event (the profile's own).
-/// A line tells where an anchor is found or lost. For each operations packet it tells whether it reads and stands at
-/// its place, whether its states are those that the coders have there, and whether the clock runs. The numbers are the
-/// packets, the operations packets at their places, and those of them whose states slip and whose stamps jump. Then
-/// come those that don't read, those that aren't at their places, and the bytes behind the last whole packet.
+/// Watches FEED, whose packets may have any bytes, and writes a line for each note to OUT (the profile's own). There is
+/// a line where an anchor is found or lost. There is a line for each operations packet. It says whether the packet
+/// reads and stands at its place, whether its states are those of the coders there, and whether the clock runs. The
+/// numbers are the packets, the operations packets at their places, and those of them whose states slip and whose
+/// stamps jump. Then come the operations packets that don't read, those that aren't at their places, and the bytes
+/// behind the last whole packet.
 pub fn watch<S: Shelf>(alloc: Global, words: &[Word], shelf: &mut S) -> Outcome
     ensures { IsJobPerformed watch_job words.now result (S.files shelf.old) (S.files shelf.new)
         (S.counts shelf.old) (S.counts shelf.new) }

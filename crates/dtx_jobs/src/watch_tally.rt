@@ -1,13 +1,12 @@
-// The numbers of what is told of a feed.
+// The numbers of the notes on a feed.
 ghost use Rattle.std.specs.Prelude.{◌≡◌, ◌≤◌, []};
 ghost use Rattle.dtx_jobs.specs.Watch.{watch_tally, watch_numbers, one_slip, one_jump};
 ghost use Rattle.dtx_jobs.specs.Watching.{HasRoom, tally_of_one};
 
 use dtx_watch::{ClockNote, Note, StatesNote, What};
 
-/// How many packets were watched, and how many notes there are of each kind. They are of operations packets at their
-/// places, of states that slip, of stamps that jump, of packets that don't read, and of packets that aren't at their
-/// places.
+/// The number of packets watched, and of the notes of each kind: operations packets at their places, states that slip,
+/// stamps that jump, operations packets that don't read, and operations packets that aren't at their places.
 #[derive(Clone, Copy)]
 pub(crate) struct WatchTally {
     pub(crate) packets: u64,
@@ -19,7 +18,7 @@ pub(crate) struct WatchTally {
 }
 
 impl WatchTally {
-    /// Nothing was watched.
+    /// All zeros: nothing was watched.
     pub(crate) fn new() -> WatchTally
         ensures { result ≡ watch_tally 0 [] }
     {
@@ -50,7 +49,7 @@ impl WatchTally {
         }
     }
 
-    /// The numbers of the line, in their order, where so many bytes are loose.
+    /// The numbers of the command's line, in their order. `loose` bytes are behind the last whole packet.
     pub(crate) fn numbers(&self, loose: usize) -> [u64; 7]
         ensures { result ≡ watch_numbers self.now loose }
     {

@@ -1,4 +1,4 @@
-// A feed that is watched, a piece of its packets at a time.
+// The engine of `watch`: watches a feed, one piece of packets at a time.
 ghost use Rattle.std.specs.Prelude.{◌≡◌, ◌+◌, ◌*◌, ◌/◌, ◌<◌, ◌≤◌, ◌++◌, ◌∷◌, [], ℕ, List, length};
 ghost use Rattle.dtx_packets.specs.Packets.{packets_of};
 ghost use Rattle.dtx_watch.specs.WatchText.{note_text, watch_text};
@@ -15,17 +15,17 @@ use dtx_sizes::{MOST_PACKETS, PACKET};
 use dtx_watch::{MOST_NOTES, Note, WATCH_LINE, Watcher, write_note};
 use std::alloc::{AllocError, Global};
 
-/// How many bytes the lines that one packet brings have at most.
+/// Room for the lines that one packet brings, in bytes.
 const LINES_BYTES: usize = WATCH_LINE * MOST_NOTES;
 
-/// How many bytes those of a piece's packets have at most.
+/// Room for the lines that the packets of a piece bring, in bytes.
 const WATCHED_BYTES: usize = LINES_BYTES * PIECE_PACKETS;
 
-/// A watcher with what the last piece brought, and the numbers of all.
+/// A watcher, what the last piece brought, and the numbers of all packets so far.
 #[derive(Drop)]
 pub(crate) struct Watching {
     watcher: Box<Watcher>,
-    /// What the last packet brought.
+    /// The notes that the last packet brought.
     notes: ArrayVec<Note, MOST_NOTES>,
     line: ArrayString<WATCH_LINE>,
     tally: WatchTally,
@@ -34,7 +34,7 @@ pub(crate) struct Watching {
 }
 
 impl Watching {
-    /// Takes packets, as the bytes of a file, and gathers the lines that they bring.
+    /// Watches the packets of a file's bytes, and gathers the lines that they bring.
     fn take_all(&mut self, bytes: &[u8])
         requires some { (before : List (List ℕ)) × IsWatched self.old before
             × (length before + length bytes.now / PACKET ≤ MOST_PACKETS) }
@@ -51,7 +51,7 @@ impl Watching {
         }
     }
 
-    /// Takes the next packet of the feed, of any bytes, and gathers the lines that it brings.
+    /// Watches the next packet of the feed, which may have any bytes, and gathers the lines that it brings.
     fn take(&mut self, packet: &Packet)
         requires some { (before : List (List ℕ)) × IsWatched self.old before × (length before < MOST_PACKETS) }
         requires room { length self.old.lines + LINES_BYTES ≤ WATCHED_BYTES }
@@ -82,7 +82,7 @@ impl Watching {
         }
     }
 
-    /// Puts the line of a note behind the others, and counts it.
+    /// Appends the line of a note to the lines, and counts the note.
     fn put(&mut self, note: &Note)
         requires room { length self.old.lines + WATCH_LINE ≤ WATCHED_BYTES }
         requires tally { HasRoom self.old.tally 1 }

@@ -1,5 +1,5 @@
--- A capture levelled: brought to eight steps a unit by its field syncs (the profile's own; ATSC A/53 Part 2, the levels
--- of 8-VSB and data field sync).
+-- What a capture becomes when its field syncs level it to eight steps a unit (the profile's own; ATSC A/53 Part 2, the
+-- levels of 8-VSB and data field sync).
 use Rattle.std.specs.Prelude.{ℕ, ℤ, pos, negsuc, neg_ℤ, ◌-◌, ◌+ℤ◌, ◌-ℤ◌, ◌*ℤ◌, int_lt, Bool, true, false, if◌then◌else◌}
 use Rattle.std.specs.Prelude.{Option, Some, None, List, [], ◌∷◌, ◌++◌, length, map, take, drop}
 use Rattle.std.specs.Int.{int_div_euclid, int_max, int_min}
@@ -13,11 +13,11 @@ use Rattle.dtx_level.specs.Syncs.{all_syncs}
 unfoldable pub next_whole : ℤ → ℤ → ℤ
 next_whole n g = int_div_euclid (pos 2 *ℤ n +ℤ g) (pos 2 *ℤ g)
 
--- where g is below 0 that of both with the other sign
+-- the whole number next to n / g, for any g but 0; where g is below 0, n and g are both negated
 unfoldable pub nearest : ℤ → ℤ → ℤ
 nearest n g = if int_lt g (pos 0) then next_whole (neg_ℤ n) (neg_ℤ g) else next_whole n g
 
--- -127 or 127 where it lies beyond these
+-- the number, but -127 or 127 where it lies beyond these
 abbrev pub in_bounds : ℤ → ℤ
 in_bounds x = int_max (negsuc 126) (int_min x (pos 127))
 
@@ -26,7 +26,8 @@ in_bounds x = int_max (negsuc 126) (int_min x (pos 127))
 unfoldable pub levelled_symbol : ℤ → ℤ → ℤ → ℤ
 levelled_symbol g o x = in_bounds (nearest (pos 40 *ℤ (pos 132612 *ℤ x -ℤ o)) g)
 
--- by what symbols are levelled: before the first sync each becomes 0
+-- the gain and the constant by which symbols are levelled; before the first sync (`begun` is false) each symbol becomes
+-- 0
 pub record By : Type 0 where
   pub begun : Bool
   pub gain : ℤ
@@ -35,7 +36,7 @@ pub record By : Type 0 where
 abbrev pub level : By → ℤ → ℤ
 level by x = if by.begun then levelled_symbol by.gain by.constant x else pos 0
 
--- by nothing, and by the sync at a place
+-- no sync, and the sync at a place
 abbrev pub nothing : By
 nothing = record { begun = false; gain = pos 0; constant = pos 0 }
 
@@ -44,18 +45,18 @@ by_sync symbols place = record { begun = true; gain = gain symbols place; consta
 
 -- ---- all symbols
 
--- Those from a place on, where syncs stand at these places: each stretch, up to the next sync or the end, goes by the
--- last sync at its begin or before.
+-- The levelled symbols from `from` on, where the next syncs stand at these places. The symbols up to the first of these
+-- syncs, or up to the end, are levelled by `by`. The others are levelled by the last sync at or before them.
 unfoldable pub stretches : By → List ℤ → ℕ → List ℕ → List ℤ
 stretches by symbols from [] = map (level by) (drop from symbols)
 stretches by symbols from (place ∷ places) =
     map (level by) (take (place - from) (drop from symbols)) ++ stretches (by_sync symbols place) symbols place places
 
--- all, where these go before the first sync
+-- all symbols levelled, where those before the first sync are levelled by `by`
 unfoldable pub levelled_behind : By → List ℤ → List ℤ
 levelled_behind by symbols = stretches by symbols 0 (all_syncs symbols)
 
--- nothing where there is no sync
+-- the list, or nothing where there is no sync
 abbrev pub where_some : List ℕ → List ℤ → List ℤ
 where_some [] xs = []
 where_some (place ∷ places) xs = xs
@@ -66,28 +67,29 @@ levelled symbols = where_some (all_syncs symbols) (levelled_behind nothing symbo
 
 -- ---- piece by piece
 
--- Of how many symbols it is told what they become, whatever follows: of those before the last sync. Where the next one
--- is looked for, it is told of all at which none begins, whatever follows.
+-- How many symbols have a known levelled value, whatever follows them. They are those before the last sync, at `place`.
+-- Where the segment is there at which the next sync is due, they are all symbols but the last 831, at which a sync may
+-- begin.
 abbrev pub known_behind : List ℤ → Option ℕ → ℕ
 known_behind symbols None = 0
 known_behind symbols (Some place) = if is_met symbols place then length symbols - 831 else place
 
--- the last of some places, behind one where there is one
+-- the last of these places, or the one before them where there is none
 abbrev pub last_behind : Option ℕ → List ℕ → Option ℕ
 last_behind before [] = before
 last_behind before (place ∷ places) = last_behind (Some place) places
 
--- the last of some places
+-- the last of these places, if there is one
 abbrev pub last_of : List ℕ → Option ℕ
 last_of places = last_behind None places
 
 unfoldable pub known : List ℤ → ℕ
 known symbols = known_behind symbols (last_of (all_syncs symbols))
 
--- what is levelled of these symbols, whatever follows
+-- what is levelled while these symbols come: it holds whatever follows them
 unfoldable pub levelled_so_far : List ℤ → List ℤ
 levelled_so_far symbols = take (known symbols) (levelled symbols)
 
--- and what their end adds
+-- what the end of the symbols adds
 unfoldable pub levelled_rest : List ℤ → List ℤ
 levelled_rest symbols = drop (known symbols) (levelled symbols)

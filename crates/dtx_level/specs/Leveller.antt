@@ -15,9 +15,9 @@ pub record Holding : Type 0 where
   pub held : List ℤ
   -- whether a sync is known to stand in front of them
   pub on : Bool
-  -- by what they are levelled up to the next sync
+  -- the gain and constant by which they are levelled up to the next sync
   pub by : By
-  -- how many symbols were let go before the first sync
+  -- how many symbols were let go where no sync was found yet
   pub silent : ℕ
   -- the zeros and then the symbols that it gave last, and the sync that it measured last
   pub zeros : ℕ
@@ -34,12 +34,12 @@ pub record Holding : Type 0 where
 abbrev pub all_given : Holding → List ℤ
 all_given holding = replicate holding.zeros (pos 0) ++ holding.given
 
--- none or one
+-- the measure as a list of none or one
 abbrev pub as_list : Option Measure → List Measure
 as_list None = []
 as_list (Some measure) = measure ∷ []
 
--- some measures, or none
+-- the measures where they are wanted, else none
 abbrev pub where_wanted : Bool → List Measure → List Measure
 where_wanted wanted told = if wanted then told else []
 
@@ -47,20 +47,21 @@ where_wanted wanted told = if wanted then told else []
 abbrev pub places_of : List Measure → List ℕ
 places_of told = map (λ measure. measure.place) told
 
--- whether there are any
+-- whether there are any measures
 abbrev pub are_some : List Measure → Bool
 are_some [] = false
 are_some (measure ∷ told) = true
 
--- how many places these are, how many of them are slips, and which is the last
+-- the numbers are those of the syncs at these places: how many there are, how many are slips, and the place of the last
 pub record IsTally (syncs slips_ last : ℕ) (places : List ℕ) : Type 0 where
   pub syncs_are : syncs ≡ length places
   pub slips_are : slips_ ≡ slips places
   pub last_is : IfSome (last_of places) (λ place. last ≡ place)
 
--- Here `told` are the syncs that were measured, and `done` is what the symbols became that were let go. Whatever
--- follows, all other syncs are those of what is held and of what follows, so many symbols later. And the other symbols
--- become what these do.
+-- What the leveller has done with `symbols`, and what is left to do. `told` are the syncs that were measured. `done` is
+-- what the symbols became that were let go. Whatever follows, the other syncs are those of the held symbols and of what
+-- follows, later by the number of symbols that were let go. The other symbols become what the held ones and those that
+-- follow become.
 pub record Leaves (holding : Holding) (symbols done : List ℤ) (told : List Measure) : Type 0 where
   pub measures : (wanted : Bool → Bool) (more : List ℤ) → measures_where wanted (symbols ++ more)
       ≡ where_wanted (wanted true) told
@@ -73,12 +74,12 @@ pub record Leaves (holding : Holding) (symbols done : List ℤ) (told : List Mea
   pub tally : IsTally holding.syncs holding.slips holding.last (places_of told)
   pub silence : holding.on ≡ false → holding.by.begun ≡ false → done ≡ replicate holding.silent (pos 0)
 
--- What was given of that: nothing before the first sync is known.
+-- The part of `done` that was given: nothing before the first sync is found.
 abbrev pub shown : Holding → List ℤ → List ℤ
 shown holding done = if holding.on || holding.by.begun then done else []
 
--- The leveller holds what these symbols leave. One field and one segment are not yet held, and a segment isn't where no
--- sync is in front.
+-- These symbols were given to the leveller. It holds less than one field and one segment, and less than one segment
+-- where no sync is in front.
 pub record StandsFor (holding : Holding) (symbols : List ℤ) : Type 0 where
   pub few : length holding.held < 261248
   pub off : holding.on ≡ false → length holding.held < 832
@@ -93,15 +94,15 @@ pub record IsSought (old : List ℤ) (count : ℕ) : Type 0 where
   pub within : count ≤ length old
   pub none : (place : ℕ) → place < count → (place + 832 ≤ length old) × (shows old place ≡ false)
 
--- What a step from one value to another does: more symbols are let go, and none or one sync is measured. What was given
--- before the call that goes on, and by it, grows by what the new value gave more.
+-- What a part of a call does. It lets more symbols go, and measures no sync or one. Let earlier calls (`before`) and
+-- this one have given all that may be given of `done`. Then the same holds afterwards.
 pub record IsMoved (old new : Holding) (symbols done : List ℤ) (told : List Measure) : Type 0 where
   pub more : List ℤ
   pub leaves : Leaves new symbols (done ++ more) (told ++ as_list new.measured)
   pub given : (before : List ℤ) → shown old done ≡ before ++ all_given old
       → shown new (done ++ more) ≡ before ++ all_given new
 
--- Some of the symbols that were held go by the sync in front of them, and are given.
+-- The first `count` held symbols are levelled by the sync in front of them, and given.
 pub record IsStretch (old new : Holding) (count : ℕ) : Type 0 where
   pub held : new.held ≡ drop count old.held
   pub by : new.by ≡ by_sync old.held 0
@@ -112,13 +113,13 @@ pub record IsStretch (old new : Holding) (count : ℕ) : Type 0 where
   pub tally : (places : List ℕ) → IsTally old.syncs old.slips old.last places
       → IsTally new.syncs new.slips new.last (places ++ (old.symbols - length old.held) ∷ [])
 
--- Nothing was given by the call that goes on.
+-- The current call has given nothing yet.
 pub record IsClear (holding : Holding) : Type 0 where
   pub zeros : holding.zeros ≡ 0
   pub given : holding.given ≡ []
   pub measured : holding.measured ≡ None
 
--- What an earlier call has given is forgotten.
+-- What an earlier call gave is forgotten, and all else stays.
 pub record IsCleared (old new : Holding) : Type 0 where
   pub held : new.held ≡ old.held
   pub on : new.on ≡ old.on
@@ -130,12 +131,13 @@ pub record IsCleared (old new : Holding) : Type 0 where
   pub last : new.last ≡ old.last
   pub clear : IsClear new
 
--- The sync behind the one in front is so many symbols behind it, and the least among what is behind them and follows.
+-- The next sync behind the one in front, whatever follows. It is at the least place that shows one once the first
+-- `count` symbols are dropped.
 abbrev pub IsNext : ℕ → List ℤ → Type 0
 IsNext count symbols = (more : List ℤ)
     → behind (symbols ++ more) 0 ≡ option_map (λ i. count + i) (least_shown (drop count symbols ++ more) 0)
 
--- More symbols are held.
+-- The symbols `more` are held too, and all else stays.
 pub record IsFed (old new : Holding) (more : List ℤ) : Type 0 where
   pub held : new.held ≡ old.held ++ more
   pub on : new.on ≡ old.on
@@ -147,7 +149,7 @@ pub record IsFed (old new : Holding) (more : List ℤ) : Type 0 where
   pub last : new.last ≡ old.last
   pub clear : IsClear new
 
--- What the end of these symbols brings, and the numbers of all.
+-- What the end of these symbols brings, and the numbers of all their syncs.
 pub record IsEnded (holding : Holding) (symbols : List ℤ) : Type 0 where
   pub given : all_given holding ≡ levelled_rest symbols
   pub measured : as_list holding.measured ≡ measures_rest symbols

@@ -1,9 +1,9 @@
--- The text of how field syncs stand (the profile's own).
+-- The text of measured field syncs (the profile's own).
 use Rattle.std.specs.Prelude.{ℕ, ◌++◌, Bool, if◌then◌else◌, List, codes, decimal, flat_map}
 use Rattle.std.specs.Fmt.{signed_decimal}
 use Rattle.dtx_level.specs.declared.measure.Measure.{Measure}
 
--- the number of a field
+-- the number of a field in the line
 abbrev pub field_number : Bool → ℕ
 field_number second = if second then 2 else 1
 

@@ -1,4 +1,4 @@
--- How the field syncs of a capture stand (the profile's own; ATSC A/53 Part 2, data field sync).
+-- The measures of the field syncs of a capture (the profile's own; ATSC A/53 Part 2, data field sync).
 use Rattle.std.specs.Prelude.{ℕ, ℤ, pos, ◌+◌, ◌*◌, ◌+ℤ◌, ◌-ℤ◌, ◌*ℤ◌, nat_abs, Bool, true, false, not, List, map, sum}
 use Rattle.std.specs.Prelude.{◌≡◌, ◌++◌, length, replicate, take, drop, slice_index_or}
 use Rattle.std.specs.Int.{int_div_euclid}
@@ -10,7 +10,7 @@ use Rattle.dtx_level.specs.Shown.{constant, gain}
 use Rattle.dtx_level.specs.Syncs.{all_syncs, slips, syncs_where}
 use Rattle.dtx_level.specs.Levelled.{by_sync, level, levelled, levelled_so_far, where_some}
 
--- the segment of a sync, levelled by it
+-- the segment of the sync at a place, levelled by that sync
 unfoldable pub levelled_sync : List ℤ → ℕ → List ℤ
 levelled_sync symbols place = map (level (by_sync symbols place)) (take 832 (drop place symbols))
 
@@ -22,18 +22,18 @@ gain_in_hundredths g = int_div_euclid (pos 20 *ℤ g +ℤ pos 66306) (pos 132612
 unfoldable pub constant_in_hundredths : ℤ → ℤ
 constant_in_hundredths o = int_div_euclid (pos 100 *ℤ o +ℤ pos 66306) (pos 132612)
 
--- the square of how far symbol i of a levelled sync is from 40 or -40, whichever stands there
+-- the square of the difference between symbol i of a levelled sync and 8 times the standard's, which is 40 or -40
 unfoldable pub square_at : List ℤ → ℕ → ℕ
 square_at segment i =
     nat_abs (slice_index_or segment i (pos 0) -ℤ pos 8 *ℤ slice_index_or (sync_symbols false) i (pos 0))
     * nat_abs (slice_index_or segment i (pos 0) -ℤ pos 8 *ℤ slice_index_or (sync_symbols false) i (pos 0))
 
--- the sum of these over so many symbols
+-- the sum of these squares over the first `count` symbols
 unfoldable pub noise : List ℤ → ℕ → ℕ
 noise segment count = sum (map (square_at segment) (range_with_len 0 count))
 
--- How the sync at a place stands: which field's it is, its gain and its constant in hundredths, and its noise over the
--- first 515 symbols.
+-- The measure of the sync at a place: which field's it is, its gain and its constant in hundredths, and its noise over
+-- the first 515 symbols.
 unfoldable pub measure_at : List ℤ → ℕ → Measure
 measure_at symbols place = record {
   place = place;
@@ -46,19 +46,19 @@ measure_at symbols place = record {
 unfoldable pub measures_where : (Bool → Bool) → List ℤ → List Measure
 measures_where wanted symbols = map (measure_at symbols) (syncs_where wanted symbols)
 
--- those of all syncs
+-- the measures of all syncs
 abbrev pub measures : List ℤ → List Measure
 measures symbols = measures_where (λ met. true) symbols
 
--- those behind which the next sync is looked for, whatever follows
+-- the measures of the syncs behind which the next sync can already be looked for, whatever follows
 abbrev pub measures_so_far : List ℤ → List Measure
 measures_so_far symbols = measures_where (λ met. met) symbols
 
--- and what the end of the symbols adds
+-- the measures that the end of the symbols adds
 abbrev pub measures_rest : List ℤ → List Measure
 measures_rest symbols = measures_where not symbols
 
--- the same sync so many symbols later
+-- the measure of the same sync `count` symbols later
 abbrev pub later_by : ℕ → Measure → Measure
 later_by count measure = record {
   place = count + measure.place;
@@ -68,15 +68,16 @@ later_by count measure = record {
   noise = measure.noise;
 }
 
--- Symbols in front of which no place shows a sync: each becomes 0 where there is one behind, and the syncs stand so
--- many symbols later.
+-- What a front changes: each of its symbols becomes 0 where there is a sync behind it, and the syncs are later by its
+-- length. Nothing else changes.
 pub record IsLater (front symbols : List ℤ) : Type 0 where
   pub levelled_is : levelled (front ++ symbols)
       ≡ where_some (all_syncs symbols) (replicate (length front) (pos 0)) ++ levelled symbols
   pub measures_are : measures (front ++ symbols) ≡ map (later_by (length front)) (measures symbols)
   pub slips_are : slips (all_syncs (front ++ symbols)) ≡ slips (all_syncs symbols)
 
--- What is levelled and measured of first symbols, whatever follows, is a front part of what is of more.
+-- What is levelled and measured while `symbols` come is a prefix of what is levelled and measured while `symbols ++
+-- more` come.
 pub record IsGrown (symbols more : List ℤ) : Type 0 where
   pub others : List ℤ
   pub told : List Measure

@@ -11,31 +11,32 @@ abbrev pub total : List ℤ → ℤ
 total [] = pos 0
 total (x ∷ xs) = x +ℤ total xs
 
--- symbol i behind a place where the sync has that sign there, else 0
+-- symbol i behind a place, where symbol i of the sync has this sign, else 0
 unfoldable pub counted_at : Bool → List ℤ → ℕ → ℕ → ℤ
 counted_at plus symbols place i =
     if are_unlike (sync_sign i) plus then pos 0 else slice_index_or symbols (place + i) (pos 0)
 
--- The sum of those of so many symbols behind a place that stand where the sync has that sign.
+-- The sum of those of the first `count` symbols behind a place that stand where the sync has this sign.
 unfoldable pub sum_where : Bool → List ℤ → ℕ → ℕ → ℤ
 sum_where plus symbols place count = total (map (counted_at plus symbols place) (range_with_len 0 count))
 
--- Of the first 515 symbols of a field sync 258 are +5 and 257 are -5. Where a is the sum of a capture's symbols at the
--- places of the former, and b of those at the places of the latter, this is 257 * a - 258 * b. (Where each symbol s
--- stands as u * s + c it is 10 * u * 258 * 257.)
+-- The gain that a place shows. Of the first 515 symbols of a field sync, 258 are +5 and 257 are -5. Let a be the sum of
+-- the capture's symbols where the sync has +5, and b where it has -5. Then the gain is 257 * a - 258 * b. (Where each
+-- symbol s stands as u * s + c, it is 10 * u * 258 * 257.)
 unfoldable pub gain : List ℤ → ℕ → ℤ
 gain symbols place = pos 257 *ℤ sum_where true symbols place 515 -ℤ pos 258 *ℤ sum_where false symbols place 515
 
--- And this is 257 * a + 258 * b. (There it is 2 * c * 258 * 257.)
+-- The constant that a place shows: 257 * a + 258 * b. (Where each symbol s stands as u * s + c, it is 2 * c * 258 *
+-- 257.)
 unfoldable pub constant : List ℤ → ℕ → ℤ
 constant symbols place = pos 257 *ℤ sum_where true symbols place 515 +ℤ pos 258 *ℤ sum_where false symbols place 515
 
--- what these are at most, whatever stands there
+-- bounds of the gain and the constant, whatever signed bytes the symbols are
 abbrev pub IsBounded : ℤ → Type 0
 IsBounded x = nat_abs x ≤ 33948800
 
--- that so many of 515 signs are other ones, at that gain: few where it is above 0, and most where it is below, since
--- the capture is turned there
+-- `count` other signs among 515 show a sync at this gain. They must be few where the gain is above 0, and most where it
+-- is below, since the capture is turned then.
 abbrev pub are_shown : ℕ → ℤ → Bool
 are_shown count g = (nat_le count 128 && int_lt (pos 0) g) || (nat_le 387 count && int_lt g (pos 0))
 

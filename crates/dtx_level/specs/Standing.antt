@@ -7,15 +7,15 @@ use Rattle.dtx_level.specs.Syncs.{all_syncs, slips}
 use Rattle.dtx_level.specs.Levelled.{levelled}
 use Rattle.dtx_level.specs.Measures.{measures}
 
--- Symbols that stand at a gain of so many steps a unit, below 0 where they are turned, and with a constant.
+-- Each symbol s as gain * s + constant. The gain is in steps a unit, and below 0 where the capture is turned.
 unfoldable pub standing : ℤ → ℤ → List ℤ → List ℤ
 standing gain constant symbols = map (λ s. gain *ℤ s +ℤ constant) symbols
 
--- eight times as much
+-- each symbol times eight
 unfoldable pub eightfold : List ℤ → List ℤ
 eightfold symbols = map (λ s. pos 8 *ℤ s) symbols
 
--- how a sync is told that stands so at a place: there is no noise
+-- the measure of a sync at a place of this capture: its noise is 0
 abbrev pub exact_measure : ℤ → ℤ → ℕ → Bool → Measure
 exact_measure gain constant place second = record {
   place = place;
@@ -25,17 +25,17 @@ exact_measure gain constant place second = record {
   noise = 0;
 }
 
--- that of field f, which is segment 313 * f
+-- the measure of the sync of field f, which is segment 313 * f
 unfoldable pub standing_measure : ℤ → ℤ → List (List ℤ) → ℕ → Measure
 standing_measure gain constant segments f =
     exact_measure gain constant (260416 * f) (is_second (slice_index_or segments (313 * f) []))
 
--- those of all fields that are begun
+-- the measures of the syncs of all fields that are begun
 unfoldable pub standing_measures : ℤ → ℤ → List (List ℤ) → List Measure
 standing_measures gain constant segments =
     map (standing_measure gain constant segments) (range_with_len 0 ((length segments + 312) / 313))
 
--- What symbols become, and how each of their syncs is told, where none of these is a slip.
+-- The symbols become `out`, the measures of their syncs are `told`, and no sync is a slip.
 pub record AreLevelled (symbols out : List ℤ) (told : List Measure) : Type 0 where
   pub levelled_is : levelled symbols ≡ out
   pub measures_are : measures symbols ≡ told

@@ -1,4 +1,4 @@
-//! The symbols that are given, levelled.
+//! Levels symbols and gives them out.
 
 ghost use Rattle.std.specs.Prelude.{◌≡◌, ◌≤◌, false, IfOk, length, map, take, drop, vec_len};
 ghost use Rattle.dtx_level.specs.Levelled.{level};
@@ -8,7 +8,7 @@ use dtx_acquire::{Held, MOST_HELD};
 use dtx_sizes::SEGMENT;
 use std::alloc::{AllocError, Global};
 
-/// By what symbols are levelled, and those that were given last.
+/// The levels by which symbols are levelled, and the symbols that were given last.
 #[derive(Drop)]
 pub(crate) struct Giver {
     pub(crate) levels: Levels,
@@ -19,7 +19,7 @@ pub(crate) struct Giver {
 }
 
 impl Giver {
-    /// Nothing was given.
+    /// A giver that has given nothing. The only error is out of memory.
     pub(crate) fn new(alloc: Global) -> Result<Giver, AllocError>
         ensures levels { IfOk result (λ giver. giver.levels.begun ≡ false) }
         ensures count { IfOk result (λ giver. giver.count ≡ 0) }
@@ -31,7 +31,7 @@ impl Giver {
         })
     }
 
-    /// Gives the first of the symbols that are held, so many, and lets them go.
+    /// Gives the first `count` of the held symbols, levelled, and lets them go.
     pub(crate) fn give(&mut self, held: &mut Held, count: usize)
         requires most { count ≤ MOST_HELD }
         requires room { count ≤ length held.old }
@@ -63,7 +63,7 @@ impl Giver {
     }
 }
 
-/// Writes what the first symbols become, so many.
+/// Writes what the first `count` symbols become to the front of `out`.
 fn level_front(levels: &Levels, symbols: &[i8], count: usize, out: &mut Vec<i8>)
     requires few { count ≤ vec_len out.old }
     requires room { count ≤ length symbols.now }
@@ -77,7 +77,7 @@ fn level_front(levels: &Levels, symbols: &[i8], count: usize, out: &mut Vec<i8>)
     level_first(levels, symbols, count, &mut out[..])
 }
 
-/// Does so with a list.
+/// The same for a slice.
 fn level_first(levels: &Levels, symbols: &[i8], count: usize, out: &mut [i8])
     requires few { count ≤ length out.old }
     requires room { count ≤ length symbols.now }

@@ -21,11 +21,11 @@ use dtx_sizes::{MOST_SYMBOLS, SEGMENT};
 use std::alloc::{AllocError, Global};
 use std::marker::Model;
 
-/// Brings a capture of unknown gain, constant and polarity to eight steps a unit by its field syncs. It tells of each
-/// sync how it stands (the profile's own; ATSC A/53 Part 2, the levels of 8-VSB and data field sync). It is given the
-/// symbols in pieces of any length, and gives as many without taking memory. Those before the first sync become zeros,
-/// once that sync is known, and the others are levelled. `StandsFor leveller symbols` says that it holds what these
-/// symbols leave, at most those of one field and one segment.
+/// Brings a capture of unknown gain, constant and polarity to eight steps a unit by its field syncs. It measures each
+/// sync (the profile's own; ATSC A/53 Part 2, the levels of 8-VSB and data field sync). It is given the symbols in
+/// pieces of any length. If it finds a sync, it has given as many symbols at the end as it was given. Only `new` takes
+/// memory. The symbols before the first sync become zeros, and the others are levelled. `StandsFor leveller symbols`
+/// says that these symbols were given to it. It holds at most the symbols of one field and one segment.
 #[derive(Drop)]
 pub struct Leveller {
     pattern: Pattern,
@@ -70,7 +70,7 @@ impl Model for Leveller {
 }
 
 impl Leveller {
-    /// A leveller to which no symbols were given. Only want of memory is refused.
+    /// A leveller to which no symbols were given. The only error is out of memory.
     pub fn new(alloc: Global) -> Result<Leveller, AllocError>
         ensures stands { IfOk result (λ leveller. StandsFor leveller []) }
         ensures symbols { IfOk result (λ leveller. leveller.symbols ≡ 0) }
@@ -88,9 +88,9 @@ impl Leveller {
         })
     }
 
-    /// Takes the first of these symbols, behind those that were given before, as many as there is room for until the
-    /// next field is whole, and answers how many. What they bring is `zeros` many zeros and then `given`, and the sync
-    /// that is `measured`.
+    /// Takes the first of these symbols, as many as there is room for until the next field is whole. Returns how many
+    /// it took. They bring as many zeros as `zeros` says, then the symbols of `given`, and the sync of `measured`, if
+    /// there is one.
     pub fn take(&mut self, symbols: &[i8]) -> usize
         requires most { self.old.symbols + length symbols.now ≤ MOST_SYMBOLS }
         ensures within { result ≤ length symbols.now }
@@ -115,7 +115,7 @@ impl Leveller {
         count
     }
 
-    /// Ends: what the end brings is `given` and `measured`, and the numbers are those of all symbols.
+    /// Ends the capture. The end brings `given` and `measured`. The numbers are then those of all symbols.
     pub fn finish(&mut self)
         ensures given { (symbols : List ℤ) → StandsFor self.old symbols → all_given self.new ≡ levelled_rest symbols }
         ensures measured { (symbols : List ℤ) → StandsFor self.old symbols
@@ -130,49 +130,50 @@ impl Leveller {
         self.close();
     }
 
-    /// The symbols that the last call has brought, levelled, behind its zeros.
+    /// The levelled symbols that the last call brought. They stand behind its zeros.
     pub fn given(&self) -> &[i8]
         ensures { result.now ≡ self.now.given }
     {
         &self.giver.given[..self.giver.count]
     }
 
-    /// How many zeros it has brought before them: as many symbols stand before the first sync.
+    /// How many zeros the last call brought before `given`. The call that finds the first sync brings one for each
+    /// symbol that earlier searches let go. Other calls bring none.
     pub fn zeros(&self) -> u64
         ensures { result ≡ self.now.zeros }
     {
         self.zeros
     }
 
-    /// The sync that it has measured, if it has.
+    /// The sync that the last call measured, if there is one.
     pub fn measured(&self) -> Option<Measure>
         ensures { result ≡ self.now.measured }
     {
         self.measured
     }
 
-    /// How many symbols were given to it.
+    /// How many symbols were given so far.
     pub fn symbols(&self) -> u64
         ensures { result ≡ self.now.symbols }
     {
         self.symbols
     }
 
-    /// How many syncs it has measured.
+    /// How many syncs were measured so far.
     pub fn syncs(&self) -> u64
         ensures { result ≡ self.now.syncs }
     {
         self.tally.syncs
     }
 
-    /// How many of them don't lie a multiple of 313 segments behind the one before.
+    /// How many of these syncs are slips: they don't lie a multiple of 313 segments behind the one before.
     pub fn slips(&self) -> u64
         ensures { result ≡ self.now.slips }
     {
         self.tally.slips
     }
 
-    /// Forgets what was given.
+    /// Forgets what the last call gave.
     fn clear(&mut self)
         ensures { IsCleared self.old self.new }
     {
@@ -181,7 +182,7 @@ impl Leveller {
         self.measured = None;
     }
 
-    /// Holds the first of these symbols too, as many as there is room for, and answers how many.
+    /// Holds the first of these symbols too, as many as there is room for. Returns how many they are.
     fn hold(&mut self, symbols: &[i8]) -> usize
         requires clear { IsClear self.old }
         requires most { self.old.symbols + length symbols.now ≤ MOST_SYMBOLS }
@@ -194,7 +195,8 @@ impl Leveller {
         count
     }
 
-    /// Looks for a sync where none is in front, and lets the symbols before it go, or all at which none begins.
+    /// Looks for a sync, unless one is in front. Lets the symbols before the sync go. Where there is none, lets all
+    /// symbols go at which no sync can begin.
     fn seek(&mut self)
         requires clear { IsClear self.old }
         ensures moved { (symbols done : List ℤ) (told : List Measure) → Leaves self.old symbols done told
@@ -218,7 +220,8 @@ impl Leveller {
         }
     }
 
-    /// Lets the symbols before the sync at a place go, and gives them.
+    /// Lets the symbols before the sync at `place` go, and gives them. Before the first sync they become zeros, and a
+    /// zero is owed for each symbol that was let go earlier.
     fn find(&mut self, place: usize)
         requires clear { IsClear self.old }
         requires off { self.old.on ≡ false }
@@ -239,7 +242,8 @@ impl Leveller {
         self.on = true;
     }
 
-    /// Lets so many symbols go at which no sync begins, and gives them where one was before.
+    /// Lets the first `count` symbols go, at which no sync begins. Gives them if a sync was found before them, else
+    /// counts them.
     fn pass(&mut self, count: usize)
         requires clear { IsClear self.old }
         requires off { self.old.on ≡ false }
@@ -263,8 +267,7 @@ impl Leveller {
         }
     }
 
-    /// Gives what goes by the sync in front of the symbols that are held, where the segment is there at which the next
-    /// is due.
+    /// Gives the symbols that the sync in front levels, once the segment is held at which the next sync is due.
     fn settle(&mut self)
         requires whole { length self.old.held ≡ MOST_HELD → self.old.given ≡ [] }
         requires measured { self.old.measured ≡ None }
@@ -287,8 +290,8 @@ impl Leveller {
         }
     }
 
-    /// Measures the sync in front of the symbols that are held, and gives the first of them by it, so many. Whether
-    /// another one is in front of the others is told.
+    /// Measures the sync in front of the held symbols, and gives the first `count` of them, levelled by it. `on` says
+    /// whether another sync is in front of the others.
     fn stretch(&mut self, count: usize, on: bool)
         requires front { shows self.old.held 0 ≡ true }
         requires some { SEGMENT ≤ count }
@@ -322,7 +325,7 @@ impl Leveller {
     }
 }
 
-/// How many zeros are owed where a sync is found: those of all that were let go before the first.
+/// How many zeros to give where a sync is found. The first sync gives one for each symbol that was let go before it.
 fn owed(begun: bool, silent: u64) -> u64
     ensures { result ≡ (if begun then 0 else silent) }
 {

@@ -7,10 +7,10 @@ ghost use Rattle.dtx_level.specs.Shown.{IsBounded};
 
 use std::alloc::{AllocError, Global};
 
-/// How many symbols there are, from -128 to 127.
+/// The number of symbol values, from -128 to 127.
 const SYMBOLS: usize = 256;
 
-/// By what symbols are levelled, and what each symbol x becomes, as entry x + 128.
+/// The gain and the constant by which symbols are levelled, and a table: entry x + 128 is what symbol x becomes.
 #[derive(Drop)]
 pub(crate) struct Levels {
     pub(crate) begun: bool,
@@ -23,7 +23,7 @@ pub(crate) struct Levels {
 }
 
 impl Levels {
-    /// Each becomes 0.
+    /// Before the first sync: each symbol becomes 0. The only error is out of memory.
     pub(crate) fn new(alloc: Global) -> Result<Levels, AllocError>
         ensures { IfOk result (λ levels. levels.begun ≡ false) }
     {
@@ -35,7 +35,7 @@ impl Levels {
         })
     }
 
-    /// From now on by a sync of that gain and that constant.
+    /// From now on, symbols are levelled by a sync with this gain and constant, in the units of `Standing`.
     pub(crate) fn begin(&mut self, gain: i64, constant: i64)
         requires some { gain ≢ pos 0 }
         requires small_gain { IsBounded gain }
@@ -50,7 +50,7 @@ impl Levels {
         self.constant = constant;
     }
 
-    /// Writes what symbols become.
+    /// Writes to `out` what the symbols become.
     pub(crate) fn level_all(&self, symbols: &[i8], out: &mut [i8])
         requires { length out.old ≡ length symbols.now }
         ensures { out.new ≡ map (level (record {
@@ -77,7 +77,7 @@ impl Levels {
     }
 }
 
-/// Writes what each symbol becomes at a gain with a constant.
+/// Fills the table with what each symbol becomes at this gain and constant.
 fn fill(table: &mut [i8], gain: i64, constant: i64)
     requires long { length table.old ≡ SYMBOLS }
     requires some { gain ≢ pos 0 }
@@ -92,7 +92,7 @@ fn fill(table: &mut [i8], gain: i64, constant: i64)
     }
 }
 
-/// What a symbol becomes at a gain with a constant.
+/// What a symbol becomes at this gain and constant.
 fn levelled(gain: i64, constant: i64, symbol: i64) -> i8
     requires some { gain ≢ pos 0 }
     requires small_gain { IsBounded gain }
@@ -103,7 +103,7 @@ fn levelled(gain: i64, constant: i64, symbol: i64) -> i8
     nearest(numerator(constant, symbol), gain).clamp(-127, 127) as i8
 }
 
-/// What is divided by the gain: 40 times twice 258 * 257 times the symbol less the constant.
+/// The dividend of a symbol, to be divided by the gain: 40 * (2 * 258 * 257 * symbol - constant).
 fn numerator(constant: i64, symbol: i64) -> i64
     requires small_constant { IsBounded constant }
     requires small { nat_abs symbol ≤ 128 }
@@ -113,7 +113,7 @@ fn numerator(constant: i64, symbol: i64) -> i64
     40 * (132_612 * symbol - constant)
 }
 
-/// The whole number next to a quotient.
+/// The whole number next to `number / gain`, for a gain that isn't 0.
 fn nearest(number: i64, gain: i64) -> i64
     requires some { gain ≢ pos 0 }
     requires small_gain { IsBounded gain }
@@ -127,7 +127,7 @@ fn nearest(number: i64, gain: i64) -> i64
     }
 }
 
-/// The whole number next to a quotient by a number above 0. Ties go up.
+/// The whole number next to `number / gain`, for a gain above 0. Ties go up.
 fn next_whole(number: i64, gain: i64) -> i64
     requires some { pos 0 <ℤ gain }
     requires small_gain { IsBounded gain }

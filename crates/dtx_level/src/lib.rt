@@ -1,4 +1,4 @@
-//! A capture levelled by its field syncs: of any gain and polarity, and with a constant in it.
+//! Levels a capture by its field syncs. The capture may have any gain and polarity, and a constant in it.
 #![tactic(auto)]
 
 mod giver;

@@ -1,4 +1,4 @@
-//! How a field sync of a capture stands.
+//! The measure of a field sync in a capture.
 
 ghost use Rattle.std.specs.Prelude.{◌≡◌, ◌≤◌, ◌+ℤ◌, pos, nat_abs};
 ghost use Rattle.dtx_level.specs.Measures.{constant_in_hundredths, gain_in_hundredths};
@@ -11,22 +11,23 @@ use crate::pattern::{Pattern, Standing};
 use dtx_acquire::is_second;
 use dtx_sizes::SEGMENT;
 
-/// How a field sync stands (the profile's own; ATSC A/53 Part 2, data field sync).
+/// What is measured of a field sync (the profile's own; ATSC A/53 Part 2, data field sync).
 #[derive(Clone, Copy, Drop)]
 pub struct Measure {
     /// Its place, counted in symbols from the capture's first.
     pub place: u64,
-    /// Whether it is of a second field.
+    /// Whether it is the sync of a second field.
     pub second: bool,
     /// The gain in hundredths of a step a unit, below 0 where the capture is turned.
     pub gain: i64,
     /// The constant in hundredths of a step.
     pub constant: i64,
-    /// The sum over its first 515 symbols of the squares of how far each, levelled, is from 40 or -40.
+    /// The noise: each of its first 515 symbols, levelled, differs from 40 or -40, and this is the sum of the squares
+    /// of the differences.
     pub noise: u64,
 }
 
-/// That of the sync at a place, which shows that and was levelled.
+/// The measure of the sync at `place`, which shows `standing`. Its segment is `levelled` by it.
 pub(crate) fn measure_of(
     pattern: &Pattern,
     place: u64,
@@ -50,7 +51,7 @@ pub(crate) fn measure_of(
     }
 }
 
-/// A number by 2 * 258 * 257, to the next whole one. Ties go up.
+/// A number divided by 2 * 258 * 257, rounded to the next whole number. Ties go up.
 fn hundredths(number: i64) -> i64
     requires { nat_abs number ≤ 3394880000 }
     ensures { result ≡ int_div_euclid (number +ℤ pos 66306) (pos 132612) }

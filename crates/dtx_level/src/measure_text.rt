@@ -1,4 +1,4 @@
-//! The text of how a field sync stands.
+//! The text of a measured field sync.
 
 ghost use Rattle.std.specs.Prelude.{◌≡◌, ◌+◌, ◌≤◌, ◌++◌, codes, decimal, length};
 ghost use Rattle.std.specs.Fmt.{signed_decimal};
@@ -8,8 +8,7 @@ use crate::Measure;
 use arrayvec::ArrayString;
 use itoa::Buffer;
 
-/// How many bytes a line has room for. A line is `sync`, five numbers of 64 bits with a space before each, and a line
-/// feed.
+/// Room for a line, in bytes. A line is `sync`, five numbers of 64 bits with a space before each, and a line feed.
 pub const MEASURE_LINE: usize = 110;
 
 /// Sets the text to the line of a sync (the profile's own).
@@ -26,7 +25,7 @@ pub fn write_measure(measure: &Measure, text: &mut ArrayString<MEASURE_LINE>)
     text.push_str("\n");
 }
 
-/// Puts a number behind the text, behind a space.
+/// Appends a space and a number to the text.
 fn push_number(number: u64, text: &mut ArrayString<MEASURE_LINE>)
     requires { length text.old.bytes + 21 ≤ MEASURE_LINE }
     ensures text { text.new.bytes ≡ text.old.bytes ++ (codes " " ++ decimal number) }
@@ -37,7 +36,7 @@ fn push_number(number: u64, text: &mut ArrayString<MEASURE_LINE>)
     text.push_str(digits.format(number));
 }
 
-/// Puts a number behind the text, behind a space, and with a minus sign where it is below 0.
+/// Appends a space and a number to the text, with a minus sign where the number is below 0.
 fn push_signed(number: i64, text: &mut ArrayString<MEASURE_LINE>)
     requires { length text.old.bytes + 21 ≤ MEASURE_LINE }
     ensures text { text.new.bytes ≡ text.old.bytes ++ (codes " " ++ signed_decimal number) }
@@ -48,7 +47,7 @@ fn push_signed(number: i64, text: &mut ArrayString<MEASURE_LINE>)
     text.push_str(digits.format(number));
 }
 
-/// The number of a field.
+/// The number of a field in the line.
 fn field_number(second: bool) -> u64
     ensures { result ≡ field_number second }
 {

@@ -1,4 +1,4 @@
-//! The first 515 symbols of a field sync, and what those of a capture show beside them.
+//! The first 515 symbols of a field sync, and what symbols of a capture show when they are compared with them.
 
 ghost use Rattle.std.specs.Prelude.{◌≡◌, ℕ, pos, ◌+◌, ◌*◌, ◌<◌, ◌≤◌, ◌-ℤ◌, ◌*ℤ◌, true, false};
 ghost use Rattle.std.specs.Prelude.{if◌then◌else◌, length, nat_abs, slice_index_or};
@@ -13,7 +13,7 @@ use dtx_sizes::{PRECODE, SEGMENT};
 /// How many symbols of a sync are compared: those of the segment sync and of the long sequence.
 pub(crate) const COMPARED: usize = 515;
 
-/// How many of these are +5, and how many are -5.
+/// How many of these symbols are +5, and how many are -5.
 const PLUSES: i64 = 258;
 
 const MINUSES: i64 = 257;
@@ -25,7 +25,8 @@ pub(crate) struct Pattern {
     ghost is: { (i : ℕ) → i < 820 → slice_index_or sync i (pos 0) ≡ slice_index_or (sync_symbols false) i (pos 0) },
 }
 
-/// The gain and the constant that a place shows, 10 and 2 times 258 * 257 of them a step.
+/// The gain and the constant that a place shows. A gain of one step a unit is 10 * 258 * 257 here, and a constant of
+/// one step is 2 * 258 * 257.
 #[derive(Clone, Copy, Drop)]
 pub(crate) struct Standing {
     pub(crate) gain: i64,
@@ -33,14 +34,14 @@ pub(crate) struct Standing {
 }
 
 impl Pattern {
-    /// That of a field sync.
+    /// The pattern of a first field's sync.
     pub(crate) fn new() -> Pattern {
         let mut sync = [0; SEGMENT];
         field_sync(false, &[0; PRECODE], &mut sync);
         Pattern { sync }
     }
 
-    /// What the symbols behind a place show.
+    /// The gain and the constant that the symbols from a place on show.
     pub(crate) fn standing(&self, symbols: &[i8], place: usize) -> Standing
         requires { place + COMPARED ≤ length symbols.now }
         ensures gain { result.gain ≡ gain symbols.now place }
@@ -56,7 +57,7 @@ impl Pattern {
         }
     }
 
-    /// The sum of the symbols behind a place that stand where the sync has that sign.
+    /// The sum of those of the 515 symbols from a place on that stand where the sync has this sign.
     fn sum_where(&self, plus: bool, symbols: &[i8], place: usize) -> i64
         requires { place + COMPARED ≤ length symbols.now }
         ensures sum { result ≡ sum_where plus symbols.now place COMPARED }
@@ -69,7 +70,8 @@ impl Pattern {
         sum
     }
 
-    /// How far a levelled sync is from its symbols at eight steps a unit: the sum of the squares.
+    /// How far the first 515 symbols of a levelled sync are from the standard's at eight steps a unit: the sum of the
+    /// squares of the differences.
     pub(crate) fn noise(&self, segment: &[i8]) -> u64
         requires { SEGMENT ≤ length segment.now }
         ensures { result ≡ noise segment.now COMPARED }
@@ -90,7 +92,7 @@ fn is_plus(symbol: i8) -> bool
     symbol > 0
 }
 
-/// A symbol where two signs are alike, else 0.
+/// The symbol where the two signs are equal, else 0.
 #[inline(always)]
 fn counted(sign: bool, plus: bool, symbol: i8) -> i64
     ensures value { result ≡ (if are_unlike sign plus then pos 0 else symbol) }
@@ -99,7 +101,7 @@ fn counted(sign: bool, plus: bool, symbol: i8) -> i64
     if sign == plus { symbol as i64 } else { 0 }
 }
 
-/// The square of how far a levelled symbol is from one of a sync at eight steps a unit.
+/// The square of the difference between a levelled symbol and a sync's symbol at eight steps a unit.
 #[inline(always)]
 fn square(levelled: i8, symbol: i8) -> u64
     ensures value { result ≡ nat_abs (levelled -ℤ pos 8 *ℤ symbol) * nat_abs (levelled -ℤ pos 8 *ℤ symbol) }

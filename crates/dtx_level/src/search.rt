@@ -1,4 +1,4 @@
-//! The least place that shows a field sync.
+//! Searches for the least place that shows a field sync.
 
 ghost use Rattle.std.specs.Prelude.{◌≡◌, ◌+◌, ◌<◌, ◌≤◌, length};
 ghost use Rattle.std.specs.List.{find, range_with_len};
@@ -9,11 +9,11 @@ use crate::pattern::Pattern;
 use dtx_acquire::{WORD, unlike_in, window_at};
 use dtx_sizes::SEGMENT;
 
-/// How many of the first 515 symbols of a field sync may have another sign. Of random symbols 257 have, with a
-/// deviation of 11 (the profile's own).
+/// How many of the first 515 symbols of a field sync may have another sign. Of 515 random symbols about 257 have
+/// another sign, with a standard deviation of 11 (the profile's own).
 const MAY_BE_UNLIKE: u32 = 128;
 
-/// How many have it at least where the capture is turned.
+/// How many have another sign at least, where the capture is turned.
 const TURNED: u32 = 387;
 
 /// Whether a place shows a sync.
@@ -25,7 +25,7 @@ pub(crate) fn shows(pattern: &Pattern, symbols: &[i8], place: usize) -> bool
     is_shown(pattern, symbols, place, count)
 }
 
-/// The least place from one on that shows a sync.
+/// The least place at or behind `from` that shows a sync.
 pub(crate) fn search(pattern: &Pattern, symbols: &[i8], from: usize) -> Option<usize>
     requires { from ≤ length symbols.now }
     ensures { result ≡ least_shown symbols.now from }
@@ -44,7 +44,7 @@ pub(crate) fn search(pattern: &Pattern, symbols: &[i8], from: usize) -> Option<u
     None
 }
 
-/// The least of so many places from one on that shows a sync.
+/// The least of the `count` places from `first` on that shows a sync.
 fn search_word(pattern: &Pattern, symbols: &[i8], first: usize, count: usize) -> Option<usize>
     requires some { 0 < count }
     requires few { count ≤ WORD }
@@ -60,7 +60,7 @@ fn search_word(pattern: &Pattern, symbols: &[i8], first: usize, count: usize) ->
     None
 }
 
-/// Whether a place shows a sync at which so many of the first 515 symbols have another sign.
+/// Whether a place shows a sync. `count` of its first 515 symbols have another sign than a sync's.
 #[inline(always)]
 fn is_shown(pattern: &Pattern, symbols: &[i8], place: usize, count: u32) -> bool
     requires room { place + SEGMENT ≤ length symbols.now }
@@ -73,7 +73,8 @@ fn is_shown(pattern: &Pattern, symbols: &[i8], place: usize, count: u32) -> bool
     are_shown(count, pattern.standing(symbols, place).gain)
 }
 
-/// Whether so many of 515 signs are other ones at that gain: few where it is above 0, or most where it is below.
+/// Whether `count` other signs among 515 show a sync at this gain: few where the gain is above 0, or most where it is
+/// below.
 fn are_shown(count: u32, gain: i64) -> bool
     ensures { result ≡ are_shown count gain }
 {

@@ -1,4 +1,4 @@
-//! Where the next sync is, among the symbols that are held.
+//! Where the next sync is among the held symbols.
 
 ghost use Rattle.std.specs.Prelude.{◌≡◌, ◌≤◌, true, false};
 ghost use Rattle.std.specs.Prelude.{length, drop};
@@ -13,16 +13,16 @@ use dtx_sizes::SEGMENT;
 /// How many symbols behind a sync the next one is due.
 pub(crate) const DUE: usize = MOST_HELD - SEGMENT;
 
-/// What comes of a sync behind which the next one is looked for: how many symbols go by it and are let go, and whether
-/// a sync is in front of what is behind them.
+/// The symbols that a sync levels: how many they are, and whether the next sync begins right behind them.
 #[derive(Clone, Copy, Drop)]
 pub(crate) struct Step {
     pub(crate) count: usize,
     pub(crate) on: bool,
 }
 
-/// That of a sync in front of the symbols. The next one is where it is due, else at the least place behind this one's
-/// segment. Where there is none yet all go by this one, but for the last ones, at which a sync may begin.
+/// The step of the sync in front of the symbols. The next sync is where it is due, if one is there. Else it is at the
+/// least place behind this sync's segment. Where no next sync is found, this sync levels all symbols but the last 831,
+/// at which a sync may begin.
 pub(crate) fn step_of(pattern: &Pattern, symbols: &[i8]) -> Step
     requires full { length symbols.now ≡ MOST_HELD }
     requires front { shows symbols.now 0 ≡ true }

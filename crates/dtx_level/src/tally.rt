@@ -1,4 +1,4 @@
-//! How many syncs there are, and how many of them are slips.
+//! Counts syncs, and how many of them are slips.
 
 ghost use Rattle.std.specs.Prelude.{◌≡◌, ℕ, ◌+◌, ◌<◌, ◌≤◌, ◌++◌, ◌∷◌, [], List};
 ghost use Rattle.dtx_level.specs.Syncs.{slip_behind};
@@ -17,7 +17,7 @@ pub(crate) struct Tally {
 }
 
 impl Tally {
-    /// None.
+    /// No sync was measured.
     pub(crate) fn new() -> Tally
         ensures tally { IsTally result.syncs result.slips result.last [] }
         ensures syncs { result.syncs ≡ 0 }
@@ -31,7 +31,7 @@ impl Tally {
         }
     }
 
-    /// One more, at that place.
+    /// Counts one more sync, at this place.
     pub(crate) fn count(&mut self, place: u64)
         requires behind { self.old.last ≤ place }
         requires few { self.old.syncs ≤ place }
@@ -48,7 +48,7 @@ impl Tally {
         self.last = place;
     }
 
-    /// 1 where a place doesn't lie so behind the last, if there is one.
+    /// 1 where a sync at this place is a slip, else 0. The first sync is none.
     fn slip(&self, place: u64) -> u64
         requires { self.now.last ≤ place }
         ensures slip { (places : List ℕ) → IsTally self.now.syncs self.now.slips self.now.last places

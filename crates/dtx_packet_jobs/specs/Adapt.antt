@@ -1,4 +1,4 @@
--- What `adapt PLAN IN OUT` means: the feed of a stream, under a plan (the profile's own).
+-- What `adapt PLAN IN OUT` means: it writes the feed of a stream under a plan (the profile's own).
 use Rattle.std.specs.Prelude.{ℕ, ◌==◌, List, [], ◌∷◌}
 use Rattle.std.specs.FinMap.{get}
 use Rattle.dtx_outside.specs.Shelf.{Files}
@@ -18,7 +18,7 @@ use Rattle.dtx_forms.specs.Shapes.{packets}
 use Rattle.dtx_forms.specs.Combine.{combine_job}
 use Rattle.dtx_packet_jobs.specs.Feed.{feed_bytes}
 
--- the numbers of a stream that was adapted: its packets, the placeholders filled, and the bytes behind the last packet
+-- the answer: the number of packets, of placeholders filled, and of bytes behind the last whole packet
 abbrev pub fed_outcome : List ℕ → ℕ → Outcome
 fed_outcome stream loose = record {
   status = Done;
@@ -26,7 +26,8 @@ fed_outcome stream loose = record {
   shown = 3;
 }
 
--- Packets that begin with the sync byte 0x47 (ISO/IEC 13818-1, 2.4.3.2) are made those of the feed under a plan.
+-- The recipe: packets that begin with the sync byte 0x47 are allowed (ISO/IEC 13818-1, 2.4.3.2), and become those of
+-- the feed.
 abbrev pub feeding : Plan → Recipe
 feeding plan = record {
   allows = λ k packet. sync_of packet == 0x47;
@@ -35,7 +36,7 @@ feeding plan = record {
   answer = fed_outcome;
 }
 
--- with files of these names, of which the last is neither of the others
+-- the meaning for files of these names, where `output` is neither of the others
 abbrev pub adapted : List ℕ → List ℕ → List ℕ → Files → Meaning
 adapted plan input output held =
     under_plan 0 (get held plan) (λ said. meaning packets (feeding said) 1 (output ∷ []) (get held input))

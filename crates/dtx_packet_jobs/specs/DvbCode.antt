@@ -12,7 +12,7 @@ use Rattle.dtx_forms.specs.Transform.{dvb_job}
 use Rattle.dtx_packet_jobs.specs.Place.{has_sync}
 use Rattle.dtx_packet_jobs.specs.DvbShapes.{dvb_packets}
 
--- how it ends: the packets, and the loose bytes
+-- the answer: the number of packets, and of loose bytes
 abbrev pub dvb_code_answer : List ℕ → ℕ → Outcome
 dvb_code_answer bytes loose = record {
   status = Done;
@@ -20,7 +20,7 @@ dvb_code_answer bytes loose = record {
   shown = 2;
 }
 
--- what is made of packets: they are sent as a stream of which each packet begins with 0x47
+-- the recipe: packets that begin with 0x47 are allowed, and are sent as one stream
 abbrev pub dvb_coding : Recipe
 dvb_coding = record {
   allows = has_sync;

@@ -1,5 +1,5 @@
--- Laws of what is sent of a stream: more packets bring more bytes behind. They stand in specs/, since the ghost members
--- of an impl, a trait's laws, can cite lemmas from there only.
+-- Laws of what is sent of a stream: the bytes of its first packets are a prefix of those of all. They stand in specs/,
+-- since the ghost members of an impl, a trait's laws, can cite lemmas from there only.
 use Rattle.std.proofs.Common.{◌≡◌, ℕ, ◌%◌, List, [], ◌∷◌, ◌++◌, length, refl, sym, ap, ◌∙◌, arith}
 use Rattle.dtx_dvb.specs.Stream.{dvb}
 use Rattle.dtx_dvb.proofs.StreamLemmas.{dvb_append, bytes_behind, length-dvb}
@@ -12,7 +12,7 @@ no_bytes : (xs : List ℕ) → length xs ≡ 0 → xs ≡ []
 no_bytes [] e = refl
 no_bytes (x ∷ xs) e = absurd (omega (arith, e))
 
--- of no packets nothing is sent
+-- no packets give no bytes
 pub dvb_none : dvb [] ≡ []
 dvb_none = no_bytes (dvb []) (length-dvb [])
 

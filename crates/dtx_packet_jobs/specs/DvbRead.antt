@@ -1,5 +1,5 @@
--- What `dvb read` makes of the bytes of a stream as they were sent (EN 300 429, the way back). The first of them is the
--- first of a block that begins a group of eight.
+-- What `dvb read` makes of the bytes of a stream as they were sent (EN 300 429, the way back). The first byte begins a
+-- block that begins a group of eight.
 use Rattle.std.specs.Prelude.{ℕ, ◌/◌, true, List, [], ◌∷◌, length, flat_map}
 use Rattle.dtx_dvb.specs.Read.{Read, fixed_in, flagged_in}
 use Rattle.dtx_dvb.specs.Reading.{read_dvb}
@@ -20,8 +20,7 @@ bytes_of_reads reads = flat_map (λ r. r.packet) reads
 abbrev pub whole_blocks : List ℕ → ℕ
 whole_blocks bytes = length bytes / 204
 
--- how it ends: the blocks, the packets, the bytes that were put right, the packets that are flagged, and the loose
--- bytes
+-- the answer: the number of blocks, of packets, of bytes put right, of packets that are flagged, and of loose bytes
 abbrev pub dvb_read_answer : List ℕ → ℕ → Outcome
 dvb_read_answer bytes loose = record {
   status = Done;
@@ -31,7 +30,7 @@ dvb_read_answer bytes loose = record {
   shown = 5;
 }
 
--- what is made of blocks
+-- the recipe
 abbrev pub dvb_reading : Recipe
 dvb_reading = record {
   allows = λ _ _. true;

@@ -1,5 +1,5 @@
--- Laws of what is read back of a stream: more blocks bring more packets behind. They stand in specs/, since the ghost
--- members of an impl, a trait's laws, can cite lemmas from there only.
+-- Laws of what is read back of a stream: the packets of its first blocks are a prefix of those of all. They stand in
+-- specs/, since the ghost members of an impl, a trait's laws, can cite lemmas from there only.
 use Rattle.std.proofs.Common.{◌≡◌, ℕ, ◌/◌, ◌%◌, List, [], ◌∷◌, ◌++◌, length, refl, sym, ap, ◌∙◌, arith}
 use Rattle.std.proofs.lemmas.Grind.{flat_map-append}
 use Rattle.std.proofs.lemmas.List.{length-append}
@@ -16,7 +16,7 @@ no_reads : (reads : List Read) → length reads ≡ 0 → reads ≡ []
 no_reads [] e = refl
 no_reads (r ∷ rs) e = absurd (omega (arith, e))
 
--- of no bytes nothing is read
+-- no bytes give no packets
 pub read_none : read_dvb [] ≡ []
 read_none = no_reads (read_dvb []) (length-read [])
 

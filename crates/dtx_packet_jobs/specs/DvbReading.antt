@@ -1,4 +1,4 @@
--- What is kept while a stream is read back.
+-- What the engine of `dvb read` keeps.
 use Rattle.std.specs.Prelude.{◌≡◌, ◌*◌, ◌≤◌, ℕ, ◌++◌, List}
 use Rattle.dtx_dvb.specs.Read.{Read, fixed_in, flagged_in}
 use Rattle.dtx_dvb.specs.Reading.{read_dvb}
@@ -6,23 +6,24 @@ use Rattle.dtx_outer.specs.Inner.{StandsFor}
 use Rattle.dtx_packet_jobs.specs.DvbRead.{bytes_of_reads, whole_blocks}
 use Rattle.dtx_packet_jobs.specs.declared.dvb_reading.DvbReading.{DvbReading}
 
--- the numbers are those of these packets, and of their bytes all but those before are held
+-- the numbers are those of these packets, and the engine holds their bytes, but for the bytes `before` of earlier
+-- pieces
 pub record HasGathered (state : DvbReading) (reads : List Read) (before : List ℕ) : Type 0 where
   pub fixed : state.fixed ≡ fixed_in reads
   pub flagged : state.flagged ≡ flagged_in reads
   pub bytes : bytes_of_reads reads ≡ before ++ state.packets
 
--- these bytes were given: the reader stands for them, and what is gathered are their packets
+-- the state in a piece, after these bytes: the reader stands for them, and their packets are gathered
 pub record IsReading (state : DvbReading) (bytes before : List ℕ) : Type 0 where
   pub reader : StandsFor 204 188 12 17 state.reader.value bytes
   pub gathered : HasGathered state (read_dvb bytes) before
 
--- the numbers are none that so many blocks can't give
+-- bounds of the numbers: so many blocks give no more
 pub record IsBounded (state : DvbReading) (blocks : ℕ) : Type 0 where
   pub fixed : state.fixed ≤ 255 * blocks
   pub flagged : state.flagged ≤ blocks
 
--- these bytes were given, and their blocks and packets counted
+-- the state after these bytes: the reader stands for them, and their blocks and packets are counted
 pub record WasRead (state : DvbReading) (bytes : List ℕ) : Type 0 where
   pub reader : StandsFor 204 188 12 17 state.reader.value bytes
   pub fixed : state.fixed ≡ fixed_in (read_dvb bytes)

@@ -1,4 +1,4 @@
--- The feed of a stream as the bytes of a file, and what has adapted some of a stream.
+-- The feed of a stream as the bytes of a file, and what the engine of `adapt` keeps.
 use Rattle.std.specs.Prelude.{◌≡◌, ℕ, ◌≤◌, List, flat_map}
 use Rattle.dtx_adapter.specs.Adapting.{StandsFor}
 use Rattle.dtx_adapter.specs.Feed.{feed, placeholders}
@@ -14,13 +14,13 @@ bytes_of_packets packets = flat_map (λ p. p) packets
 abbrev pub feed_bytes : Plan → List (List ℕ) → List ℕ
 feed_bytes plan packets = bytes_of_packets (feed plan packets)
 
--- the packets of these bytes of a stream were adapted under its plan, and counted
+-- the state after the packets of these bytes: they were adapted under the state's plan, and counted
 pub record HasFed (state : Feeder) (given : List ℕ) : Type 0 where
   pub adapter : StandsFor state.plan.now state.adapter (packets_of given)
   pub count : state.count ≡ whole_packets given
   pub filled : state.filled ≡ placeholders (packets_of given)
 
--- the adapter was given as many packets as were counted, and not fewer than placeholders were filled
+-- the adapter was given as many packets as were counted, and at most as many placeholders were filled
 pub record IsCounted (state : Feeder) : Type 0 where
   pub given : state.adapter.given ≡ state.count
   pub filled : state.filled ≤ state.count

@@ -1,5 +1,5 @@
--- Laws of the feed of a stream: it grows with the stream. They stand in specs/, since the ghost members of an impl, a
--- trait's laws, can cite lemmas from there only.
+-- Laws of the feed of a stream: the feed of its first packets is a prefix of the feed of all. They stand in specs/,
+-- since the ghost members of an impl, a trait's laws, can cite lemmas from there only.
 use Rattle.std.proofs.Common.{◌≡◌, ℕ, ◌%◌, List, [], ◌++◌, length, drop, refl, sym, ap, ◌∙◌}
 use Rattle.std.proofs.lemmas.Grind.{flat_map-append}
 use Rattle.dtx_adapter.proofs.FeedsLemmas.{feed_parts}
@@ -16,19 +16,19 @@ pub bytes_of_packets-append : (a b : List (List ℕ))
     → bytes_of_packets (a ++ b) ≡ bytes_of_packets a ++ bytes_of_packets b
 bytes_of_packets-append a b = flat_map-append (λ (p : List ℕ). p) a b
 
--- no packets have no feed
+-- the feed of no packets is empty
 pub feed_bytes_none : (plan : Plan) → feed_bytes plan [] ≡ []
 unfolding feed feed_to
 feed_bytes_none plan = refl
 
--- the feed of more packets
+-- the feed of two parts of a stream, the second behind the first
 pub feed_bytes-parts : (plan : Plan) (stream more : List (List ℕ)) → feed_bytes plan (stream ++ more)
     ≡ feed_bytes plan stream ++ bytes_of_packets (drop (length stream) (feed plan (stream ++ more)))
 feed_bytes-parts plan stream more =
     ap bytes_of_packets (feed_parts plan stream more)
     ∙ bytes_of_packets-append (feed plan stream) (drop (length stream) (feed plan (stream ++ more)))
 
--- of no bytes nothing is made
+-- no bytes give no feed
 pub feeding_starts : (plan : Plan) → (feeding plan).made [] ≡ only []
 feeding_starts plan = ap only (feed_bytes_none plan)
 
@@ -39,7 +39,7 @@ front_feed plan a b whole = (
   sym (feed_bytes-parts plan (packets_of a) (packets_of b)) ∙ ap (feed_bytes plan) (sym (packets_of-append a b whole)),
 )
 
--- more bytes change nothing of what was made before
+-- more bytes add to the feed, and change nothing of what was made before
 pub feeding_grows : (plan : Plan) (a b : List ℕ) → length a % 188 ≡ 0
     → AreFrontsOf ((feeding plan).made a) ((feeding plan).made (a ++ b))
 feeding_grows plan a b whole = (front_feed plan a b whole, ([], refl))

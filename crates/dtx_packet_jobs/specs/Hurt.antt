@@ -1,4 +1,4 @@
--- What `hurt IN CHANGES OUT` means: a file with damage laid over its bytes (the profile's own).
+-- What `hurt IN CHANGES OUT` means: it writes a file with damage laid over its bytes (the profile's own).
 use Rattle.std.specs.Prelude.{◌≡◌, ℕ, true, List, [], ◌∷◌, length, Option, Some, None}
 use Rattle.std.specs.FinMap.{get}
 use Rattle.dtx_outside.specs.Shelf.{Files}
@@ -19,8 +19,8 @@ use Rattle.dtx_forms.specs.Combine.{combine_job}
 use Rattle.dtx_packet_jobs.specs.PastEnd.{first_past}
 use Rattle.dtx_packet_jobs.specs.declared.laying.Laying.{Laying}
 
--- The end of a file of so many bytes: the first entry that ends behind it. Where none does, its bytes, and how many of
--- them some entry covers.
+-- The answer for a file of `bytes` bytes: `OutOfAir` with the first entry that ends past its end. Where no entry does,
+-- the numbers are the bytes, and how many of them some entry covers.
 abbrev pub hurt_end : List Damage → ℕ → Option ℕ → Outcome
 hurt_end damage bytes (Some entry) = ended (OutOfAir entry)
 hurt_end damage bytes None =
@@ -29,7 +29,8 @@ hurt_end damage bytes None =
 abbrev pub hurt_outcome : List Damage → ℕ → Outcome
 hurt_outcome damage bytes = hurt_end damage bytes (first_past damage bytes)
 
--- Each byte that an entry covers becomes that entry's `put`. Where an entry ends behind the file, all of it is written.
+-- The recipe: each byte that an entry covers becomes that entry's `put`. Where an entry ends past the end of the file,
+-- all bytes are written.
 abbrev pub hurting : List Damage → Recipe
 hurting damage = record {
   allows = λ k byte. true;
@@ -38,13 +39,13 @@ hurting damage = record {
   answer = λ file loose. hurt_outcome damage (length file);
 }
 
--- damage, whose entries are in order, was laid over these bytes, and they were counted
+-- the state after these bytes: the damage, whose entries are in order, was laid over them, and they were counted
 pub record HasLaid (state : Laying) (given : List ℕ) : Type 0 where
   pub damages : AreDamages state.damage.now
   pub count : state.count ≡ length given
   pub damaged : state.damaged ≡ damaged_places state.damage.now (length given)
 
--- with files of these names, of which the last is neither of the others
+-- the meaning for files of these names, where `output` is neither of the others
 abbrev pub hurt_file : List ℕ → List ℕ → List ℕ → Files → Meaning
 hurt_file input changes output held =
     under_changes 1 (get held changes) (λ damage.

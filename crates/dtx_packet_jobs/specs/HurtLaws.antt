@@ -1,5 +1,5 @@
--- Laws of damage that is laid piece by piece. They stand in specs/, since the ghost members of an impl, a trait's laws,
--- can cite lemmas from there only.
+-- Laws of damage that is laid over a file piece by piece. They stand in specs/, since the ghost members of an impl, a
+-- trait's laws, can cite lemmas from there only.
 use Rattle.std.proofs.Common.{◌≡◌, ℕ, List, [], ◌++◌, length, refl, sym, ap, ◌∙◌, zero-add}
 use Rattle.dtx_engine.specs.Made.{AreFrontsOf, only}
 use Rattle.dtx_make.proofs.LaidLemmas.{damaged_bytes-append}
@@ -11,18 +11,18 @@ pub hurt_none : (damage : List Damage) → hurt damage [] ≡ []
 unfolding damaged_bytes
 hurt_none damage = refl
 
--- a piece more
+-- damage over a file of two pieces
 pub hurt-append : (damage : List Damage) (first rest : List ℕ)
     → hurt damage (first ++ rest) ≡ hurt damage first ++ damaged_bytes damage (length first) rest
 hurt-append damage first rest =
     damaged_bytes-append damage 0 first rest ∙ ap (λ k. hurt damage first
     ++ damaged_bytes damage k rest) (zero-add (length first))
 
--- of no bytes nothing is made
+-- no bytes give no bytes
 pub hurting_starts : (damage : List Damage) → (hurting damage).made [] ≡ only []
 hurting_starts damage = ap only (hurt_none damage)
 
--- more bytes change nothing of what was made before
+-- more bytes add to the output, and change nothing of what was made before
 pub hurting_grows : (damage : List Damage) (a b : List ℕ)
     → AreFrontsOf ((hurting damage).made a) ((hurting damage).made (a ++ b))
 hurting_grows damage a b = ((damaged_bytes damage (length a) b, sym (hurt-append damage a b)), ([], refl))

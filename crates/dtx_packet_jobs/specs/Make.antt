@@ -1,4 +1,4 @@
--- What `make SEED COUNT OUT` means: a made stream (the profile's own).
+-- What `make SEED COUNT OUT` means: it writes a made stream (the profile's own).
 use Rattle.std.specs.Prelude.{ℕ, ◌-◌, ◌^◌, List, [], ◌∷◌, Option, Some, None}
 use Rattle.dtx_outside.specs.Shelf.{Files}
 use Rattle.dtx_make.specs.Made.{made_stream}
@@ -10,20 +10,20 @@ use Rattle.dtx_words.specs.declared.rows.Command.TheVariants.{Make}
 use Rattle.dtx_forms.specs.Job.{Job}
 use Rattle.dtx_forms.specs.OfWords.{make_same}
 
--- the packets 0 to `count - 1` of a seed, in a file of that name
+-- the packets 0 to `count - 1` of a seed are written to a file of that name
 abbrev pub made_file : ℕ → ℕ → List ℕ → Meaning
 made_file seed count output = record {
   outcome = record { status = Done; numbers = count ∷ 0 ∷ 0 ∷ 0 ∷ 0 ∷ 0 ∷ 0 ∷ []; shown = 1 };
   outputs = (output, made_stream seed count) ∷ [];
 }
 
--- where both are numbers in their ranges
+-- the meaning for a seed and a count: `None` is a word that isn't a number in its range
 abbrev pub made_of : Option ℕ → Option ℕ → List ℕ → Meaning
 made_of (Some seed) (Some count) output = made_file seed count output
 made_of (Some seed) None output = refused Usage
 made_of None count output = refused Usage
 
--- with these words
+-- the meaning of the words: SEED is 0 to 2^64 - 1, and COUNT is 0 to `most_packets`
 abbrev pub make_meaning : List (List ℕ) → Files → Meaning
 make_meaning (verb ∷ seed ∷ count ∷ output ∷ []) held =
     made_of (number_in (2 ^ 64 - 1) seed) (number_in most_packets count) output

@@ -1,5 +1,5 @@
--- What `place IN OUT` makes of a stream that has no placeholders: null packets become placeholders, at most one a field
--- (the profile's own). Packets are counted from 0, and 312 make a field.
+-- What `place IN OUT` makes of a stream: null packets become placeholders, at most one in each field (the profile's
+-- own). Packets are counted from 0, and 312 make a field.
 use Rattle.std.specs.Prelude.{◌≡◌, ◌≢◌, ℕ, ◌+◌, ◌-◌, ◌*◌, ◌/◌, ◌%◌, Bool, ◌==◌, ◌&&◌, ◌||◌, not, nat_le, if◌then◌else◌}
 use Rattle.std.specs.Prelude.{List, [], ◌∷◌, length, map, take, drop, slice_index, slice_index_or, slice_set, count_by}
 use Rattle.std.specs.List.{list_any, range_with_len}
@@ -24,12 +24,12 @@ is_null packet = pid_of packet == 0x1FFF
 unfoldable pub is_open : List ℕ → Bool
 is_open packet = is_null packet || is_placeholder packet
 
--- the packets of field f from its place 52 on, as far as there are any
+-- the packets of field f from its place 52 on, as far as the stream goes
 abbrev pub behind : List (List ℕ) → ℕ → List (List ℕ)
 behind packets f = take 260 (drop (312 * f + 52) packets)
 
--- A packet becomes a placeholder, before which these packets stand. It is a null packet at place 52 of its field or
--- behind, and none from place 52 of its field on up to it is a null packet or a placeholder.
+-- Whether a packet becomes a placeholder; `before` are the packets before it. It does where it is a null packet at
+-- place 52 of its field or behind, and no packet before it, from place 52 on, is a null packet or a placeholder.
 unfoldable pub becomes : List (List ℕ) → List ℕ → Bool
 becomes before packet = is_null packet
     && (nat_le 52 (length before % 312) && not (list_any is_open (behind before (length before / 312))))
@@ -38,25 +38,25 @@ becomes before packet = is_null packet
 unfoldable pub as_placeholder : List ℕ → List ℕ
 as_placeholder packet = slice_set packet 2 (slice_index packet 2 - 5)
 
--- what becomes of a packet, before which these packets stand
+-- what a packet becomes; `before` are the packets before it
 abbrev pub placed_one : List (List ℕ) → List ℕ → List ℕ
 placed_one before packet = if becomes before packet then as_placeholder packet else packet
 
--- what becomes of a stream: packet k of it is this
+-- what a stream becomes, packet by packet
 unfoldable pub placed : List (List ℕ) → List (List ℕ)
 placed packets =
     map (λ k. placed_one (take k packets) (slice_index_or packets k [])) (range_with_len 0 (length packets))
 
 -- ---- the numbers
 
--- which of the packets become placeholders, and how many
+-- which of the packets become placeholders, and how many they are
 abbrev pub becoming : List (List ℕ) → List Bool
 becoming packets = map (λ k. becomes (take k packets) (slice_index_or packets k [])) (range_with_len 0 (length packets))
 
 unfoldable pub placed_count : List (List ℕ) → ℕ
 placed_count packets = count_by (λ changed. changed) (becoming packets)
 
--- how many fields a stream has, of which the last may be a part
+-- how many fields a stream has; the last one may be incomplete
 abbrev pub fields : List (List ℕ) → ℕ
 fields packets = (length packets + 311) / 312
 
@@ -65,7 +65,8 @@ unfoldable pub bare_fields : List (List ℕ) → ℕ
 bare_fields packets =
     count_by (λ rest. not (list_any is_placeholder rest)) (map (behind packets) (range_with_len 0 (fields packets)))
 
--- how it ends: the packets, those that became placeholders, the fields that are left without one, and the loose bytes
+-- the answer: the number of packets, of those that became placeholders, of fields left without a placeholder at place
+-- 52 or behind, and of loose bytes
 abbrev pub place_answer : List (List ℕ) → ℕ → Outcome
 place_answer packets loose = record {
   status = Done;
@@ -79,7 +80,7 @@ place_answer packets loose = record {
 abbrev pub has_sync : ℕ → List ℕ → Bool
 has_sync k packet = sync_of packet == 0x47
 
--- what becomes of a packet, before which these bytes stand
+-- what a packet becomes; `given` are the bytes before it
 abbrev pub placed_behind : List ℕ → List ℕ → List ℕ
 placed_behind given packet = placed_one (packets_of given) packet
 
@@ -95,7 +96,7 @@ place_job = transform_job Place single_packets placing
 
 -- ---- what is counted on the way
 
--- what was counted over these packets
+-- the state after these packets: they were counted
 pub record IsCounted (state : Placing) (packets : List (List ℕ)) : Type 0 where
   pub changed : state.placed ≡ placed_count packets
   pub without : state.bare ≡ bare_fields (placed packets)

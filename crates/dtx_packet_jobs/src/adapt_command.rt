@@ -16,11 +16,11 @@ use dtx_outside::{Shelf, Word};
 use dtx_plan::Plan;
 use std::alloc::Global;
 
-/// Writes the feed of the stream IN under the plan of PLAN to OUT: its packets of 188 bytes, which begin with 0x47.
-/// Byte 0 of packet k becomes the cadence mark 0xB8 where 624 divides k, and stays 0x47 elsewhere. Each placeholder, of
-/// packet identifier 0x1FFA, becomes an operations packet (the profile's own, in the manner of ATSC A/110). This says
-/// from which states and when its group is sent. The numbers are the packets, the placeholders filled, and the bytes
-/// behind the last whole packet.
+/// Writes the feed of the stream IN to OUT, under the plan of PLAN. The packets of IN have 188 bytes each and begin
+/// with 0x47. Byte 0 of packet k becomes the cadence mark 0xB8 where 624 divides k, and stays 0x47 elsewhere. Each
+/// placeholder, of packet identifier 0x1FFA, becomes an operations packet (the profile's own, in the manner of ATSC
+/// A/110). An operations packet says from which states and when its group is sent. The numbers are the packets, the
+/// placeholders filled, and the bytes behind the last whole packet.
 pub fn adapt<S: Shelf>(alloc: Global, words: &[Word], shelf: &mut S) -> Outcome
     ensures { IsJobPerformed adapt_job words.now result (S.files shelf.old) (S.files shelf.new)
         (S.counts shelf.old) (S.counts shelf.new) }
@@ -28,7 +28,7 @@ pub fn adapt<S: Shelf>(alloc: Global, words: &[Word], shelf: &mut S) -> Outcome
     combine::<Adapting, S>(alloc, words, shelf)
 }
 
-/// `adapt` of a plan and a stream.
+/// The command `adapt`, as a command of two inputs: a plan and a stream.
 struct Adapting;
 
 impl Combining for Adapting {
@@ -53,7 +53,7 @@ impl Combining for Adapting {
     }
 }
 
-/// Makes the feed of the stream of that name under a plan.
+/// Makes the feed of the stream `input` under a plan.
 #[inline(never)]
 fn adapt_under<S: Shelf>(
     alloc: Global,

@@ -8,9 +8,9 @@ use dtx_meaning::Outcome;
 use dtx_outside::{Shelf, Word};
 use std::alloc::Global;
 
-/// Writes the stream IN to OUT as the outer coding of DVB sends it (EN 300 429). Each packet gives 204 bytes, by the
-/// randomizer that inverts every eighth sync byte, the Reed-Solomon code and the interleaver. Byte 0 of its packets is
-/// 0x47. The numbers are the packets, and the bytes behind the last whole packet.
+/// Writes the stream IN to OUT as the outer coding of DVB sends it (EN 300 429). Each packet passes the randomizer,
+/// which inverts every eighth sync byte, the Reed-Solomon code and the interleaver, and gives 204 bytes. Byte 0 of each
+/// packet of IN must be 0x47. The numbers are the packets, and the bytes behind the last whole packet.
 pub fn dvb_code<S: Shelf>(alloc: Global, words: &[Word], shelf: &mut S) -> Outcome
     ensures { IsJobPerformed dvb_code_job words.now result (S.files shelf.old) (S.files shelf.new)
         (S.counts shelf.old) (S.counts shelf.new) }

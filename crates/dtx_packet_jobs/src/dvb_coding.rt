@@ -1,4 +1,4 @@
-// Coding a stream by the outer coding of DVB, a piece of its packets at a time.
+// The engine of `dvb code`: sends a stream by the outer coding of DVB, one piece of packets at a time.
 ghost use Rattle.std.specs.Prelude.{◌≡◌, ◌==◌, ◌+◌, ◌*◌, ◌/◌, ◌%◌, ◌<◌, ◌≤◌, ◌++◌, ◌∷◌, [], ℕ, List};
 ghost use Rattle.std.specs.Prelude.{if◌then◌else◌, length};
 ghost use Rattle.dtx_packets.specs.Packets.{packets_of};
@@ -13,27 +13,27 @@ use dtx_packets::Packet;
 use dtx_sizes::{MOST_PACKETS, PACKET, SYNC};
 use std::alloc::{AllocError, Global};
 
-/// How many bytes are sent of a piece at most.
+/// Room for the bytes that are sent for a piece.
 const SENT_BYTES: usize = BLOCK * DVB_PIECE_PACKETS;
 
 /// How many packets go through the interleaver at once.
 const BATCH_PACKETS: usize = 32;
 
-/// How many bytes their blocks have.
+/// The bytes of a batch's blocks.
 const BATCH_BYTES: usize = BLOCK * BATCH_PACKETS;
 
-/// Sends a stream, up to 32 packets at once where they stand in whole halves of groups of eight.
+/// Sends a stream. Packets that stand in whole halves of groups of eight go up to 32 at once, all others one by one.
 #[derive(Drop)]
 pub(crate) struct DvbCoding {
     coder: Box<DvbOut>,
-    /// What was sent of the last piece.
+    /// The bytes that were sent for the last piece.
     sent: Buffer<SENT_BYTES>,
-    /// How many packets were given.
+    /// The number of packets given so far.
     packets: u64,
 }
 
 impl DvbCoding {
-    /// Sends the packets of a piece, the first of which has that number.
+    /// Sends the packets of a piece. The first one is packet `first` of the stream.
     fn send(&mut self, first: u64, bytes: &[u8])
         requires room { length self.old.sent + BLOCK * (length bytes.now / PACKET) ≤ SENT_BYTES }
         requires most { first + length bytes.now / PACKET ≤ MOST_PACKETS }
@@ -46,7 +46,7 @@ impl DvbCoding {
         self.send_each(first + fours as u64, &packets[fours..]);
     }
 
-    /// Sends packets in fours, the first of which has that number.
+    /// Sends whole fours of packets. The first packet is packet `first` of the stream.
     fn send_fours(&mut self, first: u64, packets: &[[u8; PACKET]])
         requires whole { length packets.now % FOUR ≡ 0 }
         requires aligned { 0 < length packets.now → first % FOUR ≡ 0 }
@@ -64,7 +64,7 @@ impl DvbCoding {
         }
     }
 
-    /// Sends packets in fours together, the first of which has that number.
+    /// Sends whole fours of packets together, at most a batch. The first packet is packet `first` of the stream.
     fn send_batch(&mut self, first: u64, packets: &[[u8; PACKET]])
         requires whole { length packets.now % FOUR ≡ 0 }
         requires aligned { first % FOUR ≡ 0 }
@@ -81,7 +81,7 @@ impl DvbCoding {
         self.sent.push(out);
     }
 
-    /// Sends packets one by one, the first of which has that number.
+    /// Sends packets one by one. The first one is packet `first` of the stream.
     fn send_each(&mut self, first: u64, each: &[[u8; PACKET]])
         requires room { length self.old.sent + BLOCK * length each.now ≤ SENT_BYTES }
         requires most { first + length each.now ≤ MOST_PACKETS }
@@ -94,7 +94,7 @@ impl DvbCoding {
         }
     }
 
-    /// Sends the packet of that number.
+    /// Sends packet `number` of the stream.
     fn send_one(&mut self, number: u64, packet: &[u8; PACKET])
         requires room { length self.old.sent + BLOCK ≤ SENT_BYTES }
         ensures sent { (packets : List (List ℕ)) (before : List ℕ) → length packets ≡ number
@@ -185,7 +185,7 @@ impl Transforming for DvbCoding {
     ghost knows = { dvb_code_knows };
 }
 
-/// How many of so many packets stand in whole halves of groups of eight, where the first one has that number.
+/// How many of `count` packets stand in whole halves of groups of eight. The first one is packet `first` of the stream.
 fn in_fours(first: u64, count: usize) -> usize
     ensures fours { result ≡ (if first % FOUR == 0 then FOUR * (count / FOUR) else 0) }
     ensures within { result ≤ count }

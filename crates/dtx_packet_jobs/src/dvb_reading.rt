@@ -1,4 +1,4 @@
-// Reading a stream of the outer coding of DVB back, a piece of its blocks at a time.
+// The engine of `dvb read`: reads back a stream of the outer coding of DVB, one piece of blocks at a time.
 ghost use Rattle.std.specs.Prelude.{◌≡◌, ◌+◌, ◌*◌, ◌/◌, ◌%◌, ◌<◌, ◌≤◌, ◌++◌, ◌∷◌, [], ℕ, List, length};
 ghost use Rattle.std.specs.Prelude.{slice_index_or};
 ghost use Rattle.std.specs.List.{flat_map, range_with_len};
@@ -18,20 +18,20 @@ use dtx_packets::{PIECE_PACKETS, Packet};
 use dtx_sizes::{MOST_PACKETS, PACKET};
 use std::alloc::{AllocError, Global};
 
-/// How many bytes the packets have that a piece brings at most.
+/// Room for the packets that a piece brings, in bytes.
 const READ_BYTES: usize = PACKET * PIECE_PACKETS;
 
-/// Reads a stream back, four blocks at once, and counts.
+/// Reads a stream back, four blocks at once where it can, and counts what comes of them.
 #[derive(Drop)]
 pub(crate) struct DvbReading {
     reader: Box<DvbIn>,
     /// The packets that the last piece brought, one behind another.
     packets: Buffer<READ_BYTES>,
-    /// How many blocks were given.
+    /// The number of blocks given so far.
     blocks: u64,
-    /// How many bytes were put right.
+    /// The number of bytes put right.
     fixed: u64,
-    /// How many packets are flagged.
+    /// The number of packets that are flagged.
     flagged: u64,
 }
 
@@ -117,7 +117,7 @@ impl DvbReading {
         self.gather(taken, &packet.0);
     }
 
-    /// Counts four blocks, and what they give, as `gather` does.
+    /// Counts four blocks and appends what they give, each as `gather` does.
     fn gather_four(&mut self, taken: &[Taken; FOUR], packets: &[[u8; PACKET]; FOUR])
         requires room { length self.old.packets + PACKET * FOUR ≤ READ_BYTES }
         requires most { self.old.blocks + FOUR ≤ MOST_PACKETS }
@@ -136,7 +136,7 @@ impl DvbReading {
         }
     }
 
-    /// Counts a block, and what it gives, whose packet is put behind those that are gathered.
+    /// Counts a block and what it gives. Appends its packet, if it gives one, to the gathered packets.
     fn gather(&mut self, taken: Taken, packet: &[u8; PACKET])
         requires room { length self.old.packets + PACKET ≤ READ_BYTES }
         requires most { self.old.blocks < MOST_PACKETS }
@@ -242,7 +242,7 @@ impl Transforming for DvbReading {
     ghost knows = { dvb_read_knows };
 }
 
-/// How many bytes were put right of a word that was taken so.
+/// How many bytes of the word were put right.
 fn fixed_by(taken: Taken) -> u64
     ensures fixed { result ≡ fixed_of taken }
     ensures few { result ≤ 255 }
@@ -253,7 +253,7 @@ fn fixed_by(taken: Taken) -> u64
     }
 }
 
-/// How many packets are flagged of one that was taken so.
+/// 1 where the packet is flagged, else 0.
 fn flagged_by(taken: Taken) -> u64
     ensures flagged { result ≡ flag_of taken }
     ensures one { result ≤ 1 }
@@ -264,7 +264,7 @@ fn flagged_by(taken: Taken) -> u64
     }
 }
 
-/// The bytes of a packet that was taken so, or none.
+/// The bytes that are written: the packet's, or none where no packet was given.
 fn bytes_given(taken: Taken, packet: &[u8; PACKET]) -> &[u8]
     ensures bytes { result.now ≡ bytes_of_reads (given taken packet.now) }
     ensures few { length result.now ≤ PACKET }

@@ -1,4 +1,4 @@
-// In which units the commands of the outer coding read their inputs.
+// The units in which the commands of the outer coding read their inputs.
 ghost use Rattle.std.specs.Prelude.{◌≡◌};
 ghost use Rattle.dtx_engine.specs.Recipe.{IsSound};
 ghost use Rattle.dtx_packet_jobs.specs.DvbShapes as shapes;
@@ -9,10 +9,10 @@ use dtx_packets::PIECE_PACKETS;
 use dtx_sizes::{MOST_PACKETS, PACKET};
 
 /// How many packets are read at once where they are sent as blocks of 204 bytes. These blocks fill more than a piece of
-/// the output, so that they go to its file without being gathered, but for parts of a page.
+/// the output. So they go straight to the output's file, but for parts of a page, which are gathered first.
 pub const DVB_PIECE_PACKETS: usize = 696;
 
-/// Packets of 188 bytes that are sent as blocks of 204 (EN 300 429), each for itself.
+/// Packets of 188 bytes that are sent as blocks of 204 (EN 300 429). Each packet is a unit of its own.
 pub fn dvb_packets() -> Shape
     ensures same { result ≡ shapes.dvb_packets }
     ensures sound { IsSound result }
@@ -25,7 +25,7 @@ pub fn dvb_packets() -> Shape
     }
 }
 
-/// Blocks of 204 bytes (EN 300 429, 7.2), as many as there may be packets.
+/// Blocks of 204 bytes (EN 300 429, 7.2). An input may have as many blocks as a stream may have packets.
 pub fn blocks() -> Shape
     ensures same { result ≡ shapes.blocks }
     ensures sound { IsSound result }

@@ -1,4 +1,4 @@
-// Adapting a stream a piece at a time.
+// The engine of `adapt`: adapts a stream, one piece at a time.
 ghost use Rattle.std.specs.Prelude.{◌≡◌, ◌+◌, ◌*◌, ◌/◌, ◌%◌, ◌<◌, ◌≤◌, ◌++◌, [], ℕ, List, IfOk, length};
 ghost use Rattle.dtx_adapter.specs.Adapting.{StandsFor};
 ghost use Rattle.dtx_adapter.specs.Feed.{feed, placeholders};
@@ -21,22 +21,22 @@ use dtx_plan::Plan;
 use dtx_sizes::{GROUP_PACKETS, MOST_PACKETS, PACKET, SYNC};
 use std::alloc::{AllocError, Global};
 
-/// How many bytes a group of packets has.
+/// The bytes of a group of packets.
 const GROUP: usize = GROUP_PACKETS * PACKET;
 
-/// Makes the packets of a stream those of its feed under a plan, in their place.
+/// Turns the packets of a stream into those of its feed under a plan, in place.
 #[derive(Drop)]
 pub struct Feeder<'a> {
     plan: &'a Plan,
     adapter: Adapter,
-    /// How many packets were given.
+    /// The number of packets given so far.
     count: u64,
-    /// How many placeholders were filled.
+    /// The number of placeholders filled so far.
     filled: u64,
 }
 
 impl<'a> Feeder<'a> {
-    /// A feeder under a plan, to which nothing was given. The only error is out of memory.
+    /// A feeder for a plan, to which nothing was given. The only error is out of memory.
     pub fn new(alloc: Global, plan: &'a Plan) -> Result<Feeder<'a>, AllocError>
         requires { IsSound plan.now }
         ensures fresh { IfOk result (λ feeder. ⟦<Feeder<'a> as Engine>⟧.stands feeder []) }
@@ -50,7 +50,8 @@ impl<'a> Feeder<'a> {
         })
     }
 
-    /// Makes the packets of the next group, or at the end of the stream fewer, those of the feed.
+    /// Turns the next group of packets into that of the feed, in place. The last group of a stream may have fewer than
+    /// four.
     fn group(&mut self, bytes: &mut [u8])
         requires whole { length bytes.old % PACKET ≡ 0 }
         requires some { 0 < length bytes.old }
@@ -73,7 +74,8 @@ impl<'a> Feeder<'a> {
     }
 }
 
-/// Gives the packets of these bytes to the adapter, and answers how many placeholders it filled.
+/// Gives the packets of `bytes` to the adapter, and writes the feed's packets back. Returns how many placeholders were
+/// filled.
 fn adapt_group(adapter: &mut Adapter, packets: &mut [Packet], bytes: &mut [u8]) -> u8
     requires long { length bytes.old ≡ PACKET * length packets.old }
     requires some { 0 < length packets.old }

@@ -10,8 +10,9 @@ use dtx_outside::{Shelf, Word};
 use std::alloc::Global;
 
 /// Writes the bytes of IN to OUT with the damage of CHANGES laid over them (the profile's own). Each byte that an entry
-/// covers becomes that entry's `put`, in two's complement. Where an entry ends behind the file, OUT is written all the
-/// same. The numbers are the bytes, and those of them that some entry covers.
+/// covers becomes that entry's `put`, in two's complement. Where an entry ends past the end of the file, `hurt` writes
+/// OUT all the same and answers which entry it is. The numbers are the bytes of IN, and how many of them some entry
+/// covers.
 pub fn hurt<S: Shelf>(alloc: Global, words: &[Word], shelf: &mut S) -> Outcome
     ensures { IsJobPerformed hurt_job words.now result (S.files shelf.old) (S.files shelf.new)
         (S.counts shelf.old) (S.counts shelf.new) }
@@ -19,7 +20,7 @@ pub fn hurt<S: Shelf>(alloc: Global, words: &[Word], shelf: &mut S) -> Outcome
     combine::<Hurting, S>(alloc, words, shelf)
 }
 
-/// `hurt` of a file and changes.
+/// The command `hurt`, as a command of two inputs: a file and the changes.
 struct Hurting;
 
 impl Combining for Hurting {

@@ -1,5 +1,5 @@
-//! Laws of what the commands make, and of the files that they read and write. Packets written one behind another are
-//! read back, a feed too. The packets of a file have 188 bytes.
+//! Laws of what the commands make, and of the files that they read and write. Packets that were written one behind
+//! another are read back from their file, and so is a feed. The packets of a file have 188 bytes.
 
 pub mod dvb_streams;
 pub mod placing;
@@ -13,7 +13,7 @@ ghost use Rattle.dtx_packet_jobs.specs.Feed.{bytes_of_packets, feed_bytes};
 
 use dtx_sizes::PACKET;
 
-/// The packets of a file have 188 bytes each, and are as many as it has whole ones.
+/// The packets of a file have 188 bytes each, and there are as many as the file has whole ones.
 pub fn packets_of_files()
     ensures long { (file : List ℕ) → All (λ packet. length packet ≡ PACKET) (packets_of file) }
     ensures count { (file : List ℕ) → length (packets_of file) ≡ whole_packets file }
@@ -27,7 +27,7 @@ pub fn packets_read_back()
         → whole_packets (bytes_of_packets packets) ≡ length packets }
 {}
 
-/// The feed of a stream whose packets have 188 bytes each, under a sound plan, is read back from its file.
+/// Let a stream's packets have 188 bytes each. Its feed under a sound plan is read back from the file of the feed.
 pub fn feed_read_back()
     ensures packets { (plan : Plan) (stream : List (List ℕ)) → IsSound plan
         → All (λ packet. length packet ≡ PACKET) stream

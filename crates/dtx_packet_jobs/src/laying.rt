@@ -1,4 +1,4 @@
-// Laying damage over the bytes of a file a piece at a time.
+// The engine of `hurt`: lays damage over the bytes of a file, one piece at a time.
 ghost use Rattle.std.specs.Prelude.{◌≡◌, []};
 ghost use Rattle.dtx_plan.specs.Sound.{AreDamages};
 ghost use Rattle.dtx_packet_jobs.specs.Hurt.{hurting};
@@ -11,18 +11,18 @@ use dtx_make::{damaged_in, lay};
 use dtx_meaning::{Outcome, Status, ended};
 use dtx_plan::Damages;
 
-/// Lays damage over the bytes of a file, in their place.
+/// Lays damage over the bytes of a file, in place.
 #[derive(Drop)]
 pub struct Laying<'a> {
     damage: &'a Damages,
-    /// How many bytes were given.
+    /// The number of bytes given so far.
     count: u64,
-    /// How many of them some entry covers.
+    /// The number of these bytes that some entry covers.
     damaged: u64,
 }
 
 impl<'a> Laying<'a> {
-    /// One to which nothing was given.
+    /// An engine for this damage, to which nothing was given.
     pub fn new(damage: &'a Damages) -> Laying<'a>
         requires { AreDamages damage.now }
         ensures fresh { ⟦<Laying<'a> as Engine>⟧.stands result [] }

@@ -1,6 +1,7 @@
-//! The commands of packets and of plain bytes: each a job, whose meaning is a function of words and files, an engine
-//! that makes it, and one call. A stream is made, damaged, gets places for operations packets, is adapted, and is sent
-//! and read back by the outer coding of DVB.
+//! The commands of packets and of plain bytes. Each has one function to call, a job and an engine. The job's meaning is
+//! a function of the words and the files. The engine makes the outputs of that meaning. The commands make a stream,
+//! damage a file, turn null packets into placeholders, adapt a stream, and send and read back a stream by the outer
+//! coding of DVB.
 #![tactic(auto)]
 
 mod adapt_command;

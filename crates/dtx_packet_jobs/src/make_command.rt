@@ -19,8 +19,9 @@ use dtx_sizes::MOST_PACKETS;
 use dtx_words::number_up_to;
 use std::alloc::Global;
 
-/// Writes the packets 0 to COUNT - 1 that `dtx_make::packet` gives for SEED to OUT. SEED is 0 to 2^64 - 1 and COUNT 0
-/// to 624,000,000, in decimal digits without sign and without a leading zero unless it is `0`. The number is COUNT.
+/// Writes a made stream to OUT: the packets 0 to COUNT - 1 that `dtx_make::packet` gives for SEED. SEED is 0 to 2^64 -
+/// 1, and COUNT is 0 to 624,000,000. Both are decimal digits without sign, and without a leading zero unless the number
+/// is `0`. The line's number is COUNT.
 pub fn make<S: Shelf>(alloc: Global, words: &[Word], shelf: &mut S) -> Outcome
     ensures { IsJobPerformed make_job words.now result (S.files shelf.old) (S.files shelf.new)
         (S.counts shelf.old) (S.counts shelf.new) }
@@ -35,7 +36,7 @@ pub fn make<S: Shelf>(alloc: Global, words: &[Word], shelf: &mut S) -> Outcome
     }
 }
 
-/// Makes that many packets of that seed, where both are numbers in their ranges.
+/// Makes `count` packets of the seed. `None` is a word that isn't a number in its range, and is refused.
 fn make_ordered<S: Shelf>(
     alloc: Global,
     seed: Option<u64>,
@@ -52,8 +53,8 @@ fn make_ordered<S: Shelf>(
     }
 }
 
-/// Writes that many packets of that seed to the output: those that `make` writes. The number is how many they are. The
-/// memory for them is taken before the file is begun.
+/// Writes `count` packets of the seed to the output: those that `make` writes. The line's number is `count`. All memory
+/// is taken before the file is begun.
 pub fn make_stream<S: Shelf>(
     alloc: Global,
     seed: u64,
@@ -93,7 +94,7 @@ fn make_file<S: Shelf>(
     }
 }
 
-/// Makes the packets in a file that was begun, and answers.
+/// Writes the packets to a file that was begun, and gives the answer.
 #[tactic(auto, using(crate::proofs::AnswersLemmas::write_known, dtx_forms::proofs::OfWordsLemmas::write_of_inputs))]
 fn fill_file<S: Shelf>(
     seed: u64,
@@ -119,7 +120,7 @@ fn fill_file<S: Shelf>(
     }
 }
 
-/// Writes them to a file that was begun.
+/// Writes the packets to a file that was begun.
 fn write_made<S: Shelf>(
     seed: u64,
     count: u64,

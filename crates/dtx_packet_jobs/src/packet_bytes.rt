@@ -6,7 +6,7 @@ ghost use Rattle.dtx_packet_jobs.specs.Feed.{bytes_of_packets};
 use dtx_packets::Packet;
 use dtx_sizes::PACKET;
 
-/// Takes the packets out of their bytes.
+/// Sets `into` to the packets that the bytes hold.
 pub(crate) fn unjoin(bytes: &[u8], into: &mut [Packet])
     requires { length bytes.now ≡ PACKET * length into.old }
     ensures { map (λ p. p.0) into.new ≡ packets_of bytes.now }
@@ -17,7 +17,7 @@ pub(crate) fn unjoin(bytes: &[u8], into: &mut [Packet])
     }
 }
 
-/// Puts packets one behind another.
+/// Writes the packets to `into`, one behind another.
 pub(crate) fn join(packets: &[Packet], into: &mut [u8])
     requires { length into.old ≡ PACKET * length packets.now }
     ensures { into.new ≡ bytes_of_packets (map (λ p. p.0) packets.now) }

@@ -5,7 +5,7 @@ ghost use Rattle.dtx_packet_jobs.specs.PastEnd.{ends_past, first_past};
 
 use dtx_plan::{Damage, Damages};
 
-/// The number of the first entry of damage that ends behind a file of so many bytes.
+/// The number of the first entry of damage that ends past the end of a file of `bytes` bytes.
 pub fn first_past(damage: &Damages, bytes: u64) -> Option<u32>
     requires { AreDamages damage.now }
     ensures { result ≡ first_past damage.now bytes }
@@ -18,7 +18,7 @@ pub fn first_past(damage: &Damages, bytes: u64) -> Option<u32>
     None
 }
 
-/// Whether the entry ends behind a file of so many bytes.
+/// Whether the entry ends past the end of a file of `bytes` bytes.
 fn ends_past(entry: &Damage, bytes: u64) -> bool
     ensures { result ≡ ends_past bytes entry.now }
 {

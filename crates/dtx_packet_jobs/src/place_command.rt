@@ -9,10 +9,11 @@ use dtx_meaning::Outcome;
 use dtx_outside::{Shelf, Word};
 use std::alloc::Global;
 
-/// Writes the packets of IN to OUT, where null packets become placeholders that an adapter can fill (the profile's
-/// own). In each field of 312 packets it is the first null packet from place 52 on, unless a placeholder stands there
-/// before it. All other packets stay. The numbers are the packets, those that became placeholders, the fields that are
-/// left without a placeholder at place 52 or behind, and the loose bytes.
+/// Writes the packets of IN to OUT, with null packets turned into placeholders that an adapter can fill (the profile's
+/// own). In each field of 312 packets the first null packet at place 52 or behind becomes a placeholder, unless a
+/// placeholder stands before it at place 52 or behind. All other packets stay. The numbers are the packets, those that
+/// became placeholders, the fields left without a placeholder at place 52 or behind, and the bytes behind the last
+/// whole packet.
 pub fn place<S: Shelf>(alloc: Global, words: &[Word], shelf: &mut S) -> Outcome
     ensures { IsJobPerformed place_job words.now result (S.files shelf.old) (S.files shelf.new)
         (S.counts shelf.old) (S.counts shelf.new) }

@@ -1,4 +1,4 @@
-// Turning null packets into placeholders, at most one a field.
+// The engine of `place`: turns null packets into placeholders, at most one in each field.
 ghost use Rattle.std.specs.Prelude.{◌≡◌, ◌≢◌, ◌+◌, ◌-◌, ◌<◌, ◌^◌, ◌==◌, ◌&&◌, ◌||◌, not, nat_le};
 ghost use Rattle.std.specs.Prelude.{false, if◌then◌else◌, length};
 ghost use Rattle.dtx_adapter.specs.Feed.{is_placeholder};
@@ -11,23 +11,23 @@ use dtx_forms::{Changing, single_packets};
 use dtx_meaning::{Outcome, Status};
 use dtx_sizes::{FIELD_PACKETS, FLUSHING_PACKETS, NULL_PID, OPERATIONS_PID, SYNC};
 
-/// The first place of a field at which a placeholder is put: so many packets behind its first packet.
+/// The first place of a field at which a placeholder is put, counted in packets from the field's first.
 const FIRST_PLACE: u64 = FLUSHING_PACKETS as u64;
 
-/// Turns null packets into placeholders, and counts.
+/// Turns null packets into placeholders, and counts them.
 #[derive(Clone, Copy)]
 pub(crate) struct Placing {
-    /// How many packets became placeholders.
+    /// The number of packets that became placeholders.
     placed: u64,
-    /// How many of the fields that were begun are left without a placeholder so far.
+    /// The number of fields begun that have no placeholder so far.
     bare: u64,
-    /// The field that was begun last has one.
+    /// Whether the current field has one already.
     found: bool,
 }
 
 impl Placing {
-    /// Takes the packet at that place of a field into account, and answers whether it is the first of its field at
-    /// which a placeholder may stand.
+    /// Counts the packet at this place of its field. Returns whether it is the field's first packet, from place 52 on,
+    /// in whose place a placeholder may stand.
     fn meets(&mut self, place: u64, vacant: bool) -> bool
         requires room { self.old.bare < 2 ^ 64 - 1 }
         requires some { place ≢ 0 → self.old.found ≡ false → 0 < self.old.bare }
@@ -117,7 +117,7 @@ fn is_open(packet: &[u8]) -> bool
     is_null(packet) | (pid(packet) == OPERATIONS_PID)
 }
 
-/// Whether it is a null packet.
+/// Whether the packet is a null packet.
 fn is_null(packet: &[u8]) -> bool
     requires { 2 < length packet.now }
     ensures { result ≡ place.is_null packet.now }

@@ -1,5 +1,5 @@
-//! What the command `repeat` makes of a feed that it hears (the profile's own, over ATSC A/53 Part 2 and in the manner
-//! of ATSC A/110).
+//! A law of what the command `repeat` makes of a feed that it receives (the profile's own, over ATSC A/53 Part 2 and in
+//! the manner of ATSC A/110).
 
 ghost use Rattle.std.specs.Prelude.{◌≡◌, ◌≤◌, ◌∷◌, [], ℕ, ℤ, List, None, Some};
 ghost use Rattle.std.specs.FinMap.{get};
@@ -28,13 +28,13 @@ use dtx_gap_filler::laws::{is_given_the_feed, repeats};
 use dtx_sizes::MOST_SEGMENTS;
 use dtx_symbol_laws::laws::repeating::all_is_repeated;
 
-/// Let the segments of a symbol file be a feed's, heard with slight damage, where the plan lists the transmitter's
-/// address and its delay is in time (`Hears`). Let the file have no more segments than may be. Of it `repeat` writes
-/// the main transmitter's own symbols (ATSC A/53 Part 2) and their presets. OUT has those of the feed from the first
-/// data segment of the first listing on to the last data segment of the last group received whole, and nothing else.
-/// LOG has one preset line, with the moment at the transmitter's offset, for each of these groups that holds an
-/// operations packet, and nothing else. Where the feed has no first listing among what is heard, both are empty. Either
-/// way it is done. What the words of the command mean is this, where no name is repeated and the file is there.
+/// Let a symbol file have at most MOST_SEGMENTS segments. Let them be a feed's segments, received with slight damage,
+/// where the plan lists the transmitter's address and its delay is in time (`Hears`). Then `repeat` writes the main
+/// transmitter's own symbols (ATSC A/53 Part 2) and their presets, and answers `Done`. OUT has the feed's symbols from
+/// the first data segment of the first listing on to the last data segment of the last group received whole, and
+/// nothing else. LOG has one preset line for each of these groups that holds an operations packet, with the moment at
+/// the transmitter's offset, and nothing else. Where the received part of the feed has no first listing, both files are
+/// empty. This is the meaning of the command's words, where no name is repeated and the input exists.
 pub fn a_heard_feed_is_repeated()
     ensures listed { (plan : Plan) (stream : List (List ℕ)) (t : Transmitter) (delay first k : ℕ)
         (sent : List (List ℤ)) (names : List (List ℕ)) (file : List ℕ) → whole_segments file ≤ MOST_SEGMENTS

@@ -1,4 +1,4 @@
-//! What the command `repeat` makes of a feed that it hears.
+//! A law of what the command `repeat` makes of a feed that it receives.
 #![tactic(auto)]
 
 pub mod laws;

@@ -17,18 +17,18 @@ use Rattle.dtx_schedule.specs.declared.playout.Playout.{Playout}
 use Rattle.dtx_schedule.specs.TransmitterFiles.{AreFronts, Contents, files_of, played, played_outputs}
 use Rattle.dtx_schedule.specs.Playout.{IsPlayout}
 
--- so many packets are given to the transmitter at a place, in order
+-- the steps that give these packets to the transmitter at a place, in order
 abbrev pub packet_steps : ℕ → List (List ℕ) → List Step
 packet_steps who packets = map (packet_step who) packets
 
--- these steps were done with the playout, and the files are those of them
+-- these steps were done with the playout, and the files hold what they write
 pub record IsPlayedSoFar (ts : List Transmitter) (steps : List Step) (held : Files) (playout : Playout)
     (now : Option Files) : Type 0 where
   pub playing : IsPlayout ts playout steps
   pub files : now ≡ with_outputs (played_outputs ts steps) (Some held)
 
--- The first of these steps are done, and at most one more is under way. Each file of a transmitter has all that those
--- give, and no more than that one gives too.
+-- The first of these steps are done, and at most one more is under way. Each file of a transmitter has all that the
+-- steps done give, and at most what the next one adds.
 pub record IsUnderWay (ts : List Transmitter) (steps : List Step) (held : Files) (now : Option Files) : Type 0 where
   pub done : List Step
   pub next : List Step
@@ -40,13 +40,13 @@ pub record IsUnderWay (ts : List Transmitter) (steps : List Step) (held : Files)
   pub most : AreFronts ts contents (played (done ++ next))
   pub files : now ≡ with_outputs (files_of contents ts) (Some held)
 
--- What doing leaves that was to bring the steps to these. They are done; or an I/O error or lack of memory was met, and
--- one of them is under way.
+-- What a function leaves that has to do steps up to these. All are done. Or it met an I/O error or lack of memory, and
+-- at most one of them is under way.
 abbrev pub IsDoneOf : List Transmitter → List Step → Files → Result (Unit {0}) Status → Playout → Option Files → Type 0
 IsDoneOf ts steps held (Ok _) playout now = IsPlayedSoFar ts steps held playout now
 IsDoneOf ts steps held (Err status) playout now = IsFault status × IsUnderWay ts steps held now
 
--- what writing what one step brings leaves
+-- what writing leaves that has to bring the files up to these steps; on an error, at most one step is under way
 abbrev pub IsWrittenOf : List Transmitter → List Step → Files → Result (Unit {0}) WriteNo → Option Files → Type 0
 IsWrittenOf ts steps held (Ok _) now = now ≡ with_outputs (played_outputs ts steps) (Some held)
 IsWrittenOf ts steps held (Err _) now = IsUnderWay ts steps held now
@@ -58,8 +58,8 @@ of_next next.Failed = ReadFault
 of_next next.Memory = Memory
 of_next next.TooLong = TooLong
 
--- A refusal while a schedule is played, whatever the files are. The feed, which is input 2, isn't there, is too long or
--- ends too early. Or there was an I/O error or no memory.
+-- The errors of playing a schedule, whatever the files are. The feed, which is input 2, is absent, is too long or ends
+-- too early. Or there was an I/O error or no memory.
 abbrev pub IsOfFeed : Status → Type 0
 IsOfFeed (Absent input) = input ≡ 2
 IsOfFeed TooLong = Unit {0}
@@ -69,25 +69,25 @@ IsOfFeed WriteFault = Unit {0}
 IsOfFeed Memory = Unit {0}
 IsOfFeed _ = ⊥
 
--- what reading one packet of a feed answers that has it
+-- what reading packet `from` of a feed answers, where the feed has it
 abbrev pub IsPacketOf : List ℕ → ℕ → Result packet.Packet Status → Type 0
 IsPacketOf feed from (Ok packet) = packet.0 ≡ packet_at feed from
 IsPacketOf feed from (Err status) = IsFault status
 
--- what reading the packets of a feed that begin with one answers and puts at the front of the places, where it has that
--- one
+-- what reading packets of a feed, from packet `from` on, answers and puts at the front of `into`, where the feed has
+-- that packet
 abbrev pub IsPieceOf : List ℕ → ℕ → Result ℕ Status → List packet.Packet → Type 0
 IsPieceOf feed from (Ok n) into = map (λ p. p.0) (take n into) ≡ packets_from feed from n
 IsPieceOf feed from (Err status) into = IsFault status
 
--- how many packets were read of a part of so many, at the front of the places
+-- n packets of a part of `count` were read into the front of `into`
 pub record IsPieceCount (count : ℕ) (into : List packet.Packet) (n : ℕ) : Type 0 where
   pub some : 0 < n
   pub fits : n ≤ length into
   pub within : n ≤ count
 
--- What giving the first packets of a part leaves, which begins with a packet of the feed. So many more are given. Or an
--- I/O error or lack of memory was met while one of all packets of the part was given.
+-- What giving the first packets of a part leaves; the part is `count` packets of the feed, from packet `from` on. The
+-- first n are given. Or it met an I/O error or lack of memory while it gave one of the part's packets.
 abbrev pub IsGivenOf : List Transmitter → List Step → ℕ → List ℕ → ℕ → ℕ → Files → Result ℕ Status → Playout
     → Option Files → Type 0
 IsGivenOf ts before who feed from count held (Ok n) playout now =

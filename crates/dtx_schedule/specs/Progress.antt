@@ -10,18 +10,19 @@ use Rattle.dtx_schedule.specs.declared.playing.Played.{Played}
 
 -- How far a schedule of these steps came, and what stands in the files of the transmitters.
 pub record Progress (ts : List Transmitter) (steps : List Step) : Type 0 where
-  -- So many files were begun, in one order: the symbol file and then the log of each transmitter, in the plan's order.
+  -- The number of files begun. The order is fixed: the symbol file and then the log of each transmitter, in the plan's
+  -- order.
   pub begun : ℕ
   pub fits : begun ≤ 2 * length ts
-  -- So many steps are done: one number for all transmitters.
+  -- The number of steps done: one number for all transmitters.
   pub done : ℕ
   pub within : done ≤ length steps
-  -- The two files of each transmitter hold this, as far as they were begun. Each begins with all that the steps which
-  -- are done give. It is a prefix of what these and the next step give, or where none is left, of what all steps give.
+  -- What the two files of each transmitter hold, as far as they were begun. Each begins with all that the steps done
+  -- give. It is a prefix of what these and the next step give. Where no step is left, it is what all steps give.
   pub contents : Contents
   pub least : AreFronts ts (played (take done steps)) contents
   pub most : AreFronts ts contents (played (take (done + 1) steps))
-  -- All files were begun; or else no step is done, and those that were begun are empty.
+  -- All files were begun. Or else no step is done, and the files that were begun are empty.
   pub ready : (begun ≡ 2 * length ts) ⊎ ((done ≡ 0) × AreFronts ts contents nothing)
 
 -- the files that were begun, with what they hold
@@ -33,8 +34,8 @@ pub record IsComplete (ts : List Transmitter) (steps : List Step) (progress : Pr
   pub begun : progress.begun ≡ 2 * length ts
   pub done : progress.done ≡ length steps
 
--- How far playing a schedule came, whatever it answers: to its end, or less far. No file but those that were begun was
--- touched.
+-- How far playing a schedule came, whatever it answers. It came to the end, or on an error less far. Only the files
+-- that were begun have changed.
 abbrev pub IsProgressOf : List Transmitter → List Step → Files → Result Played Status → Option Files → Type 0
 IsProgressOf ts steps held (Ok played) now =
     (progress : Progress ts steps) × IsComplete ts steps progress

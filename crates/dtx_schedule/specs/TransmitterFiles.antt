@@ -9,12 +9,12 @@ use Rattle.dtx_words.specs.NetworkNames.{symbol_name, log_name}
 use Rattle.dtx_net.specs.Steps.{Step}
 use Rattle.dtx_net.specs.Sent.{sent_segments, lines_of}
 
--- the symbol file of the transmitter t, which stands at a place of the plan's list, over the steps of all: what it
--- sends
+-- the symbol file of transmitter t at place `who` of the plan's list: what it sends in these steps, which are those of
+-- all transmitters
 unfoldable pub symbol_file : Transmitter → ℕ → List Step → List ℕ
 symbol_file t who steps = segment_bytes (sent_segments t who steps)
 
--- its log
+-- the log of that transmitter
 unfoldable pub log_file : Transmitter → ℕ → List Step → List ℕ
 log_file t who steps = log_text (lines_of t who steps)
 
@@ -24,11 +24,11 @@ transmitter_names ts = flat_map (λ t. symbol_name t.address ∷ log_name t.addr
 
 -- ---- what the two files of each transmitter hold
 
--- what they hold, by the place of the transmitter in the plan's list: its symbols, and its log
+-- the symbols and the log of each transmitter, by its place in the plan's list
 abbrev pub Contents : Type 0
 Contents = ℕ → Transmitter → List ℕ × List ℕ
 
--- these as outputs: the symbol file and then the log of each transmitter, in the plan's order
+-- these contents as outputs: the symbol file and then the log of each transmitter, in the plan's order
 abbrev pub files_of : Contents → List Transmitter → Outputs
 files_of contents [] = []
 files_of contents (t ∷ ts) =
@@ -37,20 +37,20 @@ files_of contents (t ∷ ts) =
       (contents 0 t).1,
     ) ∷ files_of (λ who. contents (suc who)) ts
 
--- each file has a prefix of what it has by another account
+-- each file in `fewer` is a prefix of the same file in `more`
 abbrev pub AreFronts : List Transmitter → Contents → Contents → Type 0
 AreFronts ts fewer more =
     (who : ℕ) (t : Transmitter) → slice_get ts who ≡ Some t
     → IsFrontOf (fewer who t).0 (more who t).0 × IsFrontOf (fewer who t).1 (more who t).1
 
--- nothing
+-- all files are empty
 abbrev pub nothing : Contents
 nothing who t = ([], [])
 
--- what each transmitter sends over the steps of all, and what is logged of it
+-- what each transmitter sends and logs in these steps, which are those of all transmitters
 abbrev pub played : List Step → Contents
 played steps who t = (symbol_file t who steps, log_file t who steps)
 
--- what a schedule of these steps writes
+-- the outputs of a schedule of these steps
 abbrev pub played_outputs : List Transmitter → List Step → Outputs
 played_outputs ts steps = files_of (played steps) ts

@@ -1,4 +1,4 @@
-// The files of the transmitters, begun.
+// Beginning the files of the transmitters.
 ghost use Rattle.std.specs.Prelude.{List};
 ghost use Rattle.dtx_outside.specs.Counts.{HasGone, blame_of_write};
 ghost use Rattle.dtx_plan.specs.declared.transmitter.Transmitter.{Transmitter};

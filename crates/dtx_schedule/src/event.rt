@@ -1,4 +1,4 @@
-// One event of a schedule, done step by step.
+// Playing one event of a schedule, step by step.
 ghost use Rattle.std.specs.Prelude.{◌≡◌, ◌+◌, ◌<◌, ◌≤◌, ◌^◌, ◌++◌, ◌∷◌, [], ℕ, List, Some, false};
 ghost use Rattle.std.specs.Prelude.{IfErr, IfOk, IsOk, length};
 ghost use Rattle.std.specs.FinMap as files;
@@ -24,7 +24,7 @@ use dtx_outside::Shelf;
 use dtx_packets::{PIECE_PACKETS, Packet};
 use dtx_plan::Event;
 
-/// Does the steps of the event of a number, with room for the packets of a piece.
+/// Does the steps of event `number`. `packets` is room for the packets of a piece.
 pub(crate) fn play_event<S: Shelf>(
     shelf: &mut S,
     number: u32,
@@ -46,14 +46,14 @@ pub(crate) fn play_event<S: Shelf>(
     ensures refusal { IfErr result IsOfFeed }
     ensures gone { HasGone (S.counts shelf.old) (S.counts shelf.new) (blame_of_answer result) }
 {
-    // An event's transmitter is one of the plan's, so there is a place.
+    // An event's transmitter is one of the plan's, so it has a place in the plan's list.
     match playout.find(to_of(event)) {
         Some(who) => play_at(shelf, who, number, event, packets, playout),
         None => Ok(()),
     }
 }
 
-/// Does the steps of the event of a number with the transmitter at a place.
+/// Does the steps of event `number` with the transmitter at a place.
 fn play_at<S: Shelf>(
     shelf: &mut S,
     who: usize,
@@ -112,7 +112,7 @@ fn play_at<S: Shelf>(
     }
 }
 
-/// The address of the transmitter with which the event does something.
+/// The address of the event's transmitter.
 fn to_of(event: &Event) -> u16
     ensures { result ≡ to_of event.now }
 {
@@ -125,7 +125,7 @@ fn to_of(event: &Event) -> u16
     }
 }
 
-/// Gives the transmitter at a place the first packet of a part, as the event changes it.
+/// Gives the transmitter at a place the first packet of a part of the feed, as the event changes it.
 fn give_changed<S: Shelf>(
     shelf: &mut S,
     who: usize,
@@ -169,7 +169,7 @@ fn changed_by(event: &Event, packet: &Packet, playout: &Playout) -> Packet
     }
 }
 
-/// Gives the transmitter at a place the packets of a part, read piece by piece.
+/// Gives the transmitter at a place the packets of a part of the feed, read piece by piece.
 fn send<S: Shelf>(
     shelf: &mut S,
     who: usize,
@@ -208,8 +208,8 @@ fn send<S: Shelf>(
     Ok(())
 }
 
-/// Gives the transmitter at a place the first packets of a part, as many as there are places or fewer, and answers how
-/// many they are.
+/// Gives the transmitter at a place the first packets of a part of the feed, at most as many as `packets` has room for.
+/// Returns how many they are.
 fn send_piece<S: Shelf>(
     shelf: &mut S,
     who: usize,

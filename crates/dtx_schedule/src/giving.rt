@@ -1,4 +1,4 @@
-// Packets of one transmitter, given one after another.
+// Giving packets to one transmitter, one after another.
 ghost use Rattle.std.specs.Prelude.{◌≡◌, ◌+◌, ◌≤◌, ◌^◌, ◌++◌, List, IfErr, IsOk, length, map};
 ghost use Rattle.std.specs.List.{range_with_len};
 ghost use Rattle.dtx_outside.specs.Counts.{HasGone};
@@ -17,7 +17,7 @@ use dtx_meaning::Status;
 use dtx_outside::Shelf;
 use dtx_packets::Packet;
 
-/// Packets of a made stream.
+/// A range of packets of a made stream.
 #[derive(Clone, Copy)]
 pub(crate) struct MadePart {
     pub(crate) seed: u64,

@@ -4,7 +4,7 @@ ghost use Rattle.dtx_schedule.specs.Inside.{first_past_feed, reads_past};
 
 use dtx_plan::{Event, Events};
 
-/// The number of the first event that reads a packet which a feed of so many packets doesn't have (the profile's own).
+/// The number of the first event that reads past the end of a feed of `packets` packets (the profile's own).
 pub fn first_past_feed(events: &Events, packets: u64) -> Option<u32>
     requires { length events.now < 2 ^ 32 }
     ensures { result ≡ first_past_feed events.now packets }
@@ -17,7 +17,7 @@ pub fn first_past_feed(events: &Events, packets: u64) -> Option<u32>
     None
 }
 
-/// The event reads a packet that a feed of so many packets doesn't have.
+/// Whether the event reads past the end of a feed of `packets` packets.
 fn reads_past(packets: u64, event: &Event) -> bool
     ensures { result ≡ reads_past packets event.now }
 {

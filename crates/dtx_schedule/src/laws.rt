@@ -1,4 +1,4 @@
-//! Laws of the definitions: what stands in the files of transmitters once a schedule is done.
+//! Laws of the definitions: what the files of the transmitters hold once a schedule is done.
 
 ghost use Rattle.std.specs.Prelude.{◌≡◌, List};
 ghost use Rattle.dtx_net.specs.Steps.{Step};

@@ -1,4 +1,4 @@
-//! The schedule of a network, played step by step into the files of its transmitters.
+//! Plays the schedule of a network, step by step, into the files of its transmitters.
 #![tactic(auto)]
 
 mod beginning;

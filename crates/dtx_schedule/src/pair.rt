@@ -9,7 +9,7 @@ use arrayvec::ArrayString;
 use dtx_outside::{Shelf, WriteNo};
 use dtx_words::{NETWORK_NAME, log_name, symbol_name};
 
-/// The names of the files of a transmitter.
+/// The names of a transmitter's symbol file and log.
 #[derive(Default, Drop)]
 pub(crate) struct FileNames {
     pub(crate) symbols: ArrayString<NETWORK_NAME>,
@@ -26,7 +26,8 @@ pub(crate) fn names_of(address: u16) -> FileNames
     }
 }
 
-/// Adds symbols and then a line to the files of a transmitter, which are there. An empty piece isn't appended.
+/// Appends symbols to a transmitter's symbol file, and then a line to its log. Both files must exist. Nothing is
+/// appended where there are no symbols or no line.
 pub(crate) fn append_both<S: Shelf>(
     shelf: &mut S,
     names: &FileNames,
@@ -42,7 +43,7 @@ pub(crate) fn append_both<S: Shelf>(
     append_some(shelf, names.log.as_str(), line)
 }
 
-/// Adds bytes to a file that is there, unless there are none.
+/// Appends bytes to a file, which must exist. Where there are no bytes, the file isn't touched.
 fn append_some<S: Shelf>(shelf: &mut S, name: &str, bytes: &[u8]) -> Result<(), WriteNo>
     ensures appended { (held : Files) (file : List ℕ) → S.files shelf.old ≡ Some held
         → files.get held name.now ≡ Some file

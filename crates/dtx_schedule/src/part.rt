@@ -1,4 +1,4 @@
-// The packets of the feed that an event reads.
+// Reading the packets of the feed for an event.
 ghost use Rattle.std.specs.Prelude.{◌≡◌, ◌<◌, ◌≤◌, ℕ, List, Some, IfErr, IfOk, IfSome, length};
 ghost use Rattle.std.specs.FinMap as files;
 ghost use Rattle.dtx_outside.specs.Counts.{HasGone};
@@ -13,10 +13,10 @@ use dtx_outside::Shelf;
 use dtx_packets::{NextNo, PIECE_PACKETS, Packet, PacketReader};
 use dtx_words::feed_name;
 
-/// The place of the feed among the inputs of the command.
+/// The number of the feed among the inputs of the command.
 const FEED: u8 = 2;
 
-/// Packets of the feed that the event of a number reads.
+/// A range of packets of the feed, and the number of the event that reads them.
 #[derive(Clone, Copy)]
 pub(crate) struct Part {
     pub event: u32,
@@ -24,7 +24,7 @@ pub(crate) struct Part {
     pub count: u64,
 }
 
-/// Reads packet `from` of the feed, for the event of that number.
+/// Reads packet `from` of the feed, for event `event`.
 pub(crate) fn read_one<S: Shelf>(shelf: &mut S, event: u32, from: u64) -> Result<Packet, Status>
     requires { from < most_packets }
     ensures told { IfSome (S.files shelf.old) (λ held. (feed : List ℕ) → files.get held feed_name ≡ Some feed
@@ -40,7 +40,7 @@ pub(crate) fn read_one<S: Shelf>(shelf: &mut S, event: u32, from: u64) -> Result
     }
 }
 
-/// Reads the first packets of a part, as many as there are places or fewer, to the front of these, and answers how many
+/// Reads the first packets of a part into the front of `into`, at most as many as it has room for. Returns how many
 /// they are.
 pub(crate) fn read_piece<S: Shelf>(
     shelf: &mut S,

@@ -1,4 +1,4 @@
-// A schedule, played step by step.
+// Playing a schedule, step by step.
 ghost use Rattle.std.specs.Prelude.{◌≡◌, ◌≤◌, ℕ, [], List, None, Some, IfErr, length, slice_index};
 ghost use Rattle.std.specs.FinMap as files;
 ghost use Rattle.dtx_outside.specs.Counts.{HasGone};
@@ -27,14 +27,14 @@ use dtx_plan::{Events, Transmitter};
 use dtx_sizes::PACKET;
 use std::alloc::Global;
 
-/// What came of a schedule: its numbers.
+/// A schedule that was played to its end: its numbers.
 #[derive(Drop)]
 pub struct Played {
     playout: Playout,
 }
 
 impl Played {
-    /// How many packets were given: the steps but for the restarts.
+    /// How many packets were given to transmitters: the number of steps that aren't restarts.
     pub fn steps(&self) -> u64
         ensures { (ts : List Transmitter) (steps : List Step) → IsPlayout ts self.now.playout steps
             → result ≡ packets_given steps }
@@ -42,7 +42,7 @@ impl Played {
         self.playout.steps
     }
 
-    /// How many segments the transmitter of that address has sent, where there is one.
+    /// How many segments the transmitter with this address has sent, or 0 where there is no transmitter with it.
     pub fn sent(&self, address: u16) -> u64
         ensures { (ts : List Transmitter) (steps : List Step) → IsPlayout ts self.now.playout steps
             → SentBy address ts steps result }
@@ -64,10 +64,11 @@ fn count_at(counts: &[u64], place: usize) -> u64
     }
 }
 
-/// Plays the events of a plan over the feed, which stands in `net.feed`, into the files `tx-A.sym` and `tx-A.log` of
-/// each transmitter, A being its address (the profile's own). It goes step by step, each with the packet or the restart
-/// that the event gives its transmitter. All memory is taken before a file is begun. The symbols of a step and then its
-/// line are appended before the next step begins.
+/// Plays the events of a plan over the feed, which is read from the file `net.feed` (the profile's own). Each
+/// transmitter has two files, `tx-A.sym` and `tx-A.log`, where A is its address. Each step gives one transmitter a
+/// packet or a restart. The step's symbols and then its line are appended before the next step begins. All memory is
+/// taken before a file is begun. An error is a `Status`: it can be an I/O error, lack of memory, or a feed that is
+/// absent, too long or too short.
 #[inline(never)]
 pub fn play<S: Shelf>(
     alloc: Global,
@@ -102,7 +103,7 @@ pub fn play<S: Shelf>(
     }
 }
 
-/// Plays the events with a playout with which nothing was done, in the memory of one piece, which is taken first.
+/// Plays the events with a playout in which no step was done. First takes memory for the packets of one piece.
 fn play_with<S: Shelf>(
     alloc: Global,
     shelf: &mut S,
@@ -146,7 +147,7 @@ fn run<S: Shelf>(
     play_events(shelf, events, packets, playout)
 }
 
-/// Plays the events into the files of the transmitters, which were begun.
+/// Plays the events into the transmitters' files, which were begun.
 fn play_events<S: Shelf>(
     shelf: &mut S,
     events: &Events,

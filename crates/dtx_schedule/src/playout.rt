@@ -1,4 +1,4 @@
-// All exciters of a network at work, and what is written of them.
+// The exciters of a network, and what they write to files.
 ghost use Rattle.std.specs.Prelude.{◌≡◌, ◌+◌, ◌<◌, ◌≤◌, ◌^◌, ◌++◌, ◌∷◌, [], List, Some, IfErr, IfOk, IfSome, IsOk};
 ghost use Rattle.std.specs.Prelude.{length, replicate, take};
 ghost use Rattle.dtx_outside.specs.Counts.{HasGone, blame_of_write};
@@ -24,25 +24,25 @@ use dtx_packets::Packet;
 use dtx_plan::Transmitter;
 use std::alloc::{AllocError, Global};
 
-/// The exciters of a network, with what the last step brought, and the numbers of all steps.
+/// The exciters of a network, what the last step brought, and the numbers of all steps so far.
 #[derive(Drop)]
 pub(crate) struct Playout {
     pub(crate) net: Net,
     air: Air,
     /// The names of the files of each transmitter, in the plan's order.
     pub(crate) names: Vec<FileNames>,
-    /// The symbols that the last step brought stand at the front of these, one byte each in two's complement.
+    /// The first bytes are the symbols that the last step brought, one byte each in two's complement.
     bytes: [u8; AIR_SYMBOLS],
     /// The line of the log that the last step brought, or nothing.
     line: ArrayString<LOG_LINE>,
     /// How many segments each transmitter has sent, in the plan's order.
     pub(crate) sent: Vec<u64>,
-    /// How many packets were given.
+    /// How many packets were given so far.
     pub(crate) steps: u64,
 }
 
 impl Playout {
-    /// The network of these transmitters, with which nothing was done. All memory is taken here.
+    /// A network of these transmitters, in which no step was done. Takes all memory. The only error is out of memory.
     pub(crate) fn new(alloc: Global, transmitters: &[Transmitter]) -> Result<Playout, AllocError>
         requires { AreTransmitters transmitters.now }
         ensures { IfOk result (λ playout. IsPlayout transmitters.now playout []) }
@@ -67,8 +67,9 @@ impl Playout {
         self.net.find(address)
     }
 
-    /// Gives the transmitter at a place of the list one packet more, of any bytes. Appends to its files what it sends
-    /// for it, and then the line of its log. An empty piece isn't appended.
+    /// Gives the transmitter at a place of the list one packet more, which may have any bytes. Appends the symbols that
+    /// the transmitter sends for it, and then the line of its log. Nothing is appended where there are no symbols or no
+    /// line.
     #[tactic(auto, using(crate::proofs::Refusals::write_of_feed))]
     pub(crate) fn give<S: Shelf>(
         &mut self,
@@ -91,7 +92,7 @@ impl Playout {
         Ok(())
     }
 
-    /// Restarts the transmitter at a place of the list, and appends that to its log.
+    /// Restarts the transmitter at a place of the list, and appends the restart's line to its log.
     #[tactic(auto, using(crate::proofs::Refusals::write_of_feed))]
     pub(crate) fn restart<S: Shelf>(&mut self, shelf: &mut S, who: usize) -> Result<(), Status>
         requires there { HasTransmitter who self.old }
@@ -109,7 +110,8 @@ impl Playout {
         Ok(())
     }
 
-    /// Gives the transmitter at a place of the list one packet more, and answers how many bytes of symbols that brings.
+    /// Gives the transmitter at a place of the list one packet more. Returns how many bytes of symbols the packet
+    /// brings.
     fn take(&mut self, who: usize, packet: &Packet) -> usize
         requires there { HasTransmitter who self.old }
         requires most { self.old.steps < 2 ^ 60 }
@@ -142,7 +144,8 @@ impl Playout {
         write_restart(self.sent[who], &mut self.line);
     }
 
-    /// Appends so many bytes of symbols and the line to the files of the transmitter at a place of the list.
+    /// Appends the first `count` bytes of the symbols, and the line, to the files of the transmitter at a place of the
+    /// list.
     fn write<S: Shelf>(&self, shelf: &mut S, who: usize, count: usize) -> Result<(), WriteNo>
         requires within { who < length self.now.names.items }
         requires bound { count ≤ AIR_SYMBOLS }

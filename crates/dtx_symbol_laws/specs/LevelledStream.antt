@@ -1,10 +1,10 @@
--- How the syncs of a stream are told that stands in a capture at any gain (the profile's own, over ATSC A/53 Part 2).
+-- How the syncs of a stream are measured in a capture of it at any gain (the profile's own, over ATSC A/53 Part 2).
 use Rattle.std.specs.Prelude.{ℕ, ℤ, ◌+◌, ◌*◌, ◌/◌, ◌%◌, ◌==◌, List, length, map}
 use Rattle.std.specs.List.{range_with_len}
 use Rattle.dtx_level.specs.declared.measure.Measure.{Measure}
 use Rattle.dtx_level.specs.Standing.{exact_measure}
 
--- the sync of field f: fields are counted from 0, and each one of an odd number is a second field
+-- the measure of the sync of field f; fields are counted from 0, and those of odd numbers are second fields
 unfoldable pub field_measure : ℤ → ℤ → ℕ → Measure
 field_measure gain constant f = exact_measure gain constant (260416 * f) (f % 2 == 1)
 
@@ -12,6 +12,6 @@ field_measure gain constant f = exact_measure gain constant (260416 * f) (f % 2 
 abbrev pub fields_begun : List (List ℕ) → ℕ
 fields_begun packets = (length packets / 4 + 77) / 78
 
--- those of all of them
+-- the measures of the syncs of all fields
 unfoldable pub stream_measures : ℤ → ℤ → List (List ℕ) → List Measure
 stream_measures gain constant packets = map (field_measure gain constant) (range_with_len 0 (fields_begun packets))

@@ -1,5 +1,5 @@
--- What `repeat` answers and writes of all segments of a symbol file (the profile's own, over ATSC A/53 Part 2 and in
--- the manner of ATSC A/110).
+-- What `repeat` answers and writes for whole symbol files (the profile's own, over ATSC A/53 Part 2 and in the manner
+-- of ATSC A/110).
 use Rattle.std.specs.Prelude.{ℕ, ℤ, ◌%◌, List, length, take}
 use Rattle.dtx_engine.specs.Made.{Made, outputs_of}
 use Rattle.dtx_files.specs.LogText.{log_text}
@@ -14,14 +14,14 @@ use Rattle.dtx_jobs.specs.Lives.{lives_tally}
 use Rattle.dtx_jobs.specs.Repeat.{repeated_numbers, sent_in}
 use Rattle.dtx_jobs.specs.SymbolFile.{file_segments, whole_segments}
 
--- what is written of segments: one byte for each symbol that is sent, and the lines of the log
+-- what is written for segments: one byte for each symbol that is sent, and the lines of the log
 abbrev pub repeated_outputs : ℕ → ℕ → List (List ℤ) → Made
 repeated_outputs address delay list = record {
   first = segment_bytes (repeated address delay list);
   second = log_text (repeated_log address delay list);
 }
 
--- what is answered and written of a file in which a segment looks like a field sync
+-- the answer and the outputs for a file in which a segment looks like a field sync
 abbrev pub repeated_of : ℕ → ℕ → List (List ℕ) → List ℕ → Meaning
 repeated_of address delay names file = record {
   outcome = record {
@@ -33,11 +33,12 @@ repeated_of address delay names file = record {
   outputs = outputs_of names (repeated_outputs address delay (file_segments file));
 }
 
--- what is written of segments while they come
+-- what is written for segments while they come
 abbrev pub outputs_so_far : ℕ → ℕ → List (List ℤ) → Made
 outputs_so_far address delay list = sent_in address delay (lives_so_far list)
 
--- and of a file that has more segments than may be: what the first ones give while they come, as many as may be
+-- The same for a file of more than MOST_SEGMENTS segments: the answer is `TooLong`. The outputs are what the first
+-- MOST_SEGMENTS segments give while they come.
 abbrev pub repeated_until : ℕ → ℕ → List (List ℕ) → List ℕ → Meaning
 repeated_until address delay names file = record {
   outcome = ended TooLong;

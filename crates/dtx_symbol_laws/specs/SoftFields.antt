@@ -17,42 +17,42 @@ use Rattle.dtx_jobs.specs.Symbols.{symbol_bytes}
 
 -- ---- fields
 
--- Which data segment of its field a segment is that stands so many behind its run's last field sync: that one itself,
--- with 0, is none.
+-- The place in its field of a segment that stands this many segments behind its run's last field sync. The sync itself,
+-- at 0, is no data segment.
 abbrev pub place_behind : ℕ → Option ℕ
 place_behind zero = None
 place_behind (suc place) = Some place
 
--- of field f of a run the data segments in whole groups
+-- the data segments in whole groups, of field f of a run
 abbrev pub field_groups : List (List ℤ) → ℕ → List (List ℤ)
 field_groups run f = groups_in (take 312 (drop (313 * f + 1) run))
 
--- of each field of a run that has a data segment
+-- the same for each field of a run that has a data segment
 unfoldable pub fields_in : List (List ℤ) → List (List (List ℤ))
 fields_in run = map (field_groups run) (range_with_len 0 ((length run + 311) / 313))
 
--- and of each run
+-- the same for all runs
 unfoldable pub fields_of : List (List ℤ) → List (List (List ℤ))
 fields_of segments = flat_map fields_in (runs segments)
 
 -- ---- files
 
--- what `soft` answers and writes of all segments of a file
+-- what `soft` answers and writes for all segments of a file
 abbrev pub softened_of : List (List ℕ) → List ℕ → Meaning
 softened_of names file = record {
   outcome = record { status = Done; numbers = soft_numbers (file_segments file) (length file % 832); shown = 4 };
   outputs = outputs_of names (only (segment_bytes (soft_symbols (file_segments file))));
 }
 
--- And of one that has more segments than may be. It is what the first ones give, as many as may be, but for those of
--- the field that is on behind them.
+-- The same for a file of more than MOST_SEGMENTS segments: the answer is `TooLong`. OUT is what the first MOST_SEGMENTS
+-- segments give, but for their last field where it waits for its end.
 abbrev pub softened_until : List (List ℕ) → List ℕ → Meaning
 softened_until names file = record {
   outcome = ended TooLong;
   outputs = outputs_of names (only (segment_bytes (soft_so_far (take MOST_SEGMENTS (file_segments file)))));
 }
 
--- and where its whole segments are copied
+-- the same where the whole segments are copied
 abbrev pub copied_of : List (List ℕ) → List ℕ → Meaning
 copied_of names file = record {
   outcome = record {
@@ -63,8 +63,8 @@ copied_of names file = record {
   outputs = outputs_of names (only (take (832 * whole_segments file) file));
 }
 
--- and of the symbol file of a stream: its own bytes, at cost 0, with a field for each 78 groups of four packets that
--- are begun
+-- The same for the symbol file of a stream: OUT is the file's own bytes, at cost 0. There is a field for each 78 groups
+-- of four packets that are begun.
 abbrev pub kept_of : List (List ℕ) → List ℕ → Meaning
 kept_of names stream = record {
   outcome = record {

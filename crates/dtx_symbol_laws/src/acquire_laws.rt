@@ -1,4 +1,4 @@
-//! Laws of what `acquire` makes.
+//! Laws of what `acquire` answers and writes.
 
 ghost use Rattle.std.specs.Prelude.{◌≡◌, ◌≢◌, ◌↔◌, ◌%◌, ◌<◌, ◌≤◌, ◌++◌, ℕ, ℤ, pos, true, List, [], ◌∷◌, length, take};
 ghost use Rattle.std.specs.Prelude.{replicate};
@@ -22,11 +22,11 @@ use dtx_acquire::laws::{
 use dtx_sizes::{FIELD_SEGMENTS, MOST_SYMBOLS};
 use dtx_soft::laws::coder_takes_a_path;
 
-/// What `acquire` answers and writes of any file, at any scale. Let the file have no more bytes than may be, each byte
-/// a symbol. Where something is acquired of them, the answer is `Done`, and OUT is all that is acquired. The numbers
-/// are the bytes, the runs, the segments, what all least paths cost and the bytes in no segment. Where nothing is
-/// acquired, the answer is `NoSync`, and OUT is there and empty. Where the file has more bytes, it is too long. Then
-/// OUT is what the first bytes give while they come, as many as may be: a prefix of what all give.
+/// What `acquire` answers and writes for any file, at any scale. Each byte is a symbol. Let the file have at most
+/// MOST_SYMBOLS bytes. Where something is acquired of them, the answer is `Done`, and OUT is all that is acquired. The
+/// numbers are the bytes, the runs, the segments, what all least paths cost and the bytes in no segment. Where nothing
+/// is acquired, the answer is `NoSync`, and OUT is there and empty. Where the file has more bytes, the answer is
+/// `TooLong`. OUT is then what the first MOST_SYMBOLS bytes give while they come, a prefix of what all give.
 pub fn all_is_acquired_of_a_file()
     ensures done { (names : List (List ℕ)) (scale : ℕ) (file : List ℕ) → length file ≤ MOST_SYMBOLS
         → file_acquired scale file ≢ []
@@ -42,9 +42,9 @@ pub fn all_is_acquired_of_a_file()
     whole_fields_are_acquired();
 }
 
-/// An error below half the distance of two levels moves nothing, at every scale. Take symbols as many as those of a
-/// stream, each of which differs from the scale times the stream's by less than the scale. The segments of the stream
-/// are acquired of them.
+/// An error below half the distance of two levels changes nothing, at any scale. Take as many symbols as a stream has.
+/// Let each differ from the scale times the stream's symbol by less than the scale. Then what is acquired of them are
+/// the stream's segments.
 pub fn a_stream_is_acquired()
     ensures { (scale : ℕ) (packets : List (List ℕ)) (symbols : List ℤ) → 0 < scale
         → AreNear scale (a53_symbols packets) symbols → acquired scale symbols ≡ a53 packets }
@@ -53,7 +53,7 @@ pub fn a_stream_is_acquired()
     a_small_error_moves_nothing();
 }
 
-/// So they are of such symbols behind zeros, any number of these.
+/// The same holds for these symbols behind any number of zeros.
 pub fn a_stream_is_acquired_behind_zeros()
     ensures { (scale zeros : ℕ) (packets : List (List ℕ)) (symbols : List ℤ) → 0 < scale
         → AreNear scale (a53_symbols packets) symbols
@@ -63,8 +63,8 @@ pub fn a_stream_is_acquired_behind_zeros()
     silence_moves_nothing();
 }
 
-/// Of what is acquired one run is received, where it isn't empty: each segment that 313 divides looks like a field
-/// sync. The segments of the file that is written are those that are acquired.
+/// What is acquired is one run for `receive`, where it isn't empty. Each segment whose number 313 divides looks like a
+/// field sync. The segments of the file that is written are those that are acquired.
 pub fn one_run_is_acquired()
     ensures syncs { (scale : ℕ) (symbols : List ℤ) (i : ℕ) → 0 < scale → i < length (acquired scale symbols)
         → i % FIELD_SEGMENTS ≡ 0 → looks_at (acquired scale symbols) i ≡ true }
@@ -76,7 +76,7 @@ pub fn one_run_is_acquired()
     whole_fields_are_acquired();
 }
 
-/// The answer at the end of a file that isn't too long is that there is no sync exactly where nothing is acquired.
+/// At the end of a file that isn't too long, the answer is `NoSync` exactly where nothing is acquired.
 pub fn no_sync_where_nothing_is_acquired()
     ensures { (scale : ℕ) (symbols : List ℤ)
         → ((acquire_answer scale symbols).status ≡ NoSync) ↔ (acquired scale symbols ≡ []) }

@@ -1,3 +1,3 @@
-//! Laws of what is mended of symbols, and of symbols that are sent again.
+//! Laws of `mend` and of `repeat`.
 pub mod mending;
 pub mod repeating;

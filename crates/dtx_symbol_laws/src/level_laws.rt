@@ -1,4 +1,4 @@
-//! Laws of what `level` makes of the symbols of a stream.
+//! Laws of what `level` makes of a stream's symbols.
 
 ghost use Rattle.std.specs.Prelude.{◌≡◌, ◌↔◌, ◌*◌, ◌+◌, ◌<◌, ◌≤◌, ◌++◌, ℕ, ℤ, pos, nat_abs, false, List, length, map};
 ghost use Rattle.std.specs.Prelude.{replicate};
@@ -13,12 +13,12 @@ ghost use Rattle.dtx_symbol_laws.specs.LevelledStream.{fields_begun, stream_meas
 use crate::acquire_laws::a_stream_is_acquired_behind_zeros;
 use dtx_level::laws::{a_capture_begins_anywhere, whole_fields_are_levelled};
 
-/// A stream is levelled exactly, at any gain. Let a unit be so many steps, below 0 in a capture that is turned, and let
-/// the constant be less than five units. Each symbol `s` of the stream stands as `gain * s + constant`, and becomes
-/// `8 * s`. One sync is told for each field that is begun. It stands 313 segments behind the one before, the first at
-/// place 0, and is a second field's where the field's number is odd. Told are 100 times the gain, 100 times the
-/// constant, and no noise; there is no slip. These places are all multiples of 260,416 below the number of symbols, and
-/// each begins a whole segment.
+/// A stream is levelled exactly, at any gain. Let `gain` steps make a unit, below 0 in a capture that is turned. Let
+/// the constant be less than five units, above or below 0. Let each symbol `s` of the stream stand in the capture as
+/// `gain * s + constant`. Then it becomes `8 * s`. One sync is measured for each field that is begun. The first is at
+/// place 0, and each other one is 313 segments behind the one before. It is a second field's where the field's number
+/// is odd. Its gain and its constant are measured as 100 times theirs, and its noise as 0. There is no slip. The places
+/// are all multiples of 260,416 below the number of symbols, and a whole segment begins at each.
 pub fn a_stream_is_levelled()
     ensures levelled { (gain constant : ℤ) (packets : List (List ℕ)) → nat_abs constant < 5 * nat_abs gain
         → AreLevelled (standing gain constant (a53_symbols packets)) (eightfold (a53_symbols packets))
@@ -31,8 +31,8 @@ pub fn a_stream_is_levelled()
     whole_fields_are_levelled();
 }
 
-/// So is a stream with a whole group of four packets behind a front in which no place shows a sync. Each symbol of the
-/// front becomes 0, and the syncs stand as many symbols later as it has.
+/// The same holds behind a front in which no place shows a sync, where the stream has a whole group of four packets.
+/// Each symbol of the front becomes 0. Each sync is later by the number of symbols of the front.
 pub fn a_stream_behind_a_front_is_levelled()
     ensures { (gain constant : ℤ) (front : List ℤ) (packets : List (List ℕ)) → nat_abs constant < 5 * nat_abs gain
         → 4 ≤ length packets
@@ -45,8 +45,8 @@ pub fn a_stream_behind_a_front_is_levelled()
     a_capture_begins_anywhere();
 }
 
-/// So the segments of a stream are acquired of what is levelled, at eight steps a unit: whatever its gain, and whatever
-/// stands in front of it and shows no sync.
+/// What is levelled of a stream's capture can be acquired at eight steps a unit, and gives the stream's segments. It
+/// does so at any gain, and behind any front that shows no sync.
 pub fn a_levelled_stream_is_acquired()
     ensures stream { (gain constant : ℤ) (packets : List (List ℕ)) → nat_abs constant < 5 * nat_abs gain
         → acquired 8 (levelled (standing gain constant (a53_symbols packets))) ≡ a53 packets }

@@ -1,5 +1,5 @@
-//! Laws of what is made of symbol files: what is received, mended and sent again of them, softened, levelled and
-//! acquired. There is no engine here: each speaks of what the commands mean.
+//! Laws of the commands that read symbol files: `receive`, `mend`, `repeat`, `soft`, `level` and `acquire`. There is no
+//! engine here. Each law is about the meaning of a command.
 #![tactic(auto)]
 
 pub mod acquire_laws;

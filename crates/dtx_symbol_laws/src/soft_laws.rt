@@ -1,4 +1,4 @@
-//! Laws of what `soft` makes.
+//! Laws of what `soft` answers and writes.
 
 ghost use Rattle.std.specs.Prelude.{◌≡◌, ◌+◌, ◌%◌, ◌<◌, ◌≤◌, ◌⊎◌, ◌++◌, ℕ, ℤ, All, None, List, [], length, map};
 ghost use Rattle.std.specs.Prelude.{◌-◌, IfSome, slice_index_or, take};
@@ -21,9 +21,9 @@ ghost use Rattle.dtx_symbol_laws.specs.SoftFields.{softened_of, softened_until};
 use dtx_sizes::{MOST_PACKETS, MOST_SEGMENTS};
 use dtx_soft::laws::{coder_takes_a_path, keeps_own_field};
 
-/// All whole segments of a file are softened, where they are no more than may be. Where there are more, that is the
-/// answer. Then what the first ones give is written, as many as may be, but for the field that is on behind them. It is
-/// a prefix of what all give.
+/// Where a file has at most MOST_SEGMENTS whole segments, all are softened. Where it has more, the answer is `TooLong`.
+/// OUT is then what the first MOST_SEGMENTS segments give, but for their last field where it waits for its end. It is a
+/// prefix of what all give.
 pub fn all_is_softened()
     ensures whole { (names : List (List ℕ)) (file : List ℕ) → whole_segments file ≤ MOST_SEGMENTS
         → meaning_of_file shapes.segments softening names file ≡ softened_of names file }
@@ -33,27 +33,27 @@ pub fn all_is_softened()
         → (rest : List (List ℤ)) × (soft_symbols segments ≡ soft_so_far (take n segments) ++ rest) }
 {}
 
-/// The segments of what is written of a file of bytes are those that are made. So what is said of these, as that their
-/// runs are those of the file, is said of the file that is written.
+/// The segments of the written file are the softened segments. So a law about the softened segments, for example about
+/// their runs, is a law about the written file.
 pub fn written_segments()
     ensures { (file : List ℕ) → All (λ b. b < 256) file
         → file_segments (segment_bytes (soft_symbols (file_segments file))) ≡ soft_symbols (file_segments file) }
 {}
 
-/// Where no segment looks like a field sync, the whole segments of a file of bytes are copied, and there is no field.
+/// Where no segment looks like a field sync, the whole segments of the file are copied, and the number of fields is 0.
 pub fn copied_without_a_sync()
     ensures { (names : List (List ℕ)) (file : List ℕ) → All (λ b. b < 256) file
         → whole_segments file ≤ MOST_SEGMENTS → NoneLooks (file_segments file) 0 (whole_segments file)
         → meaning_of_file shapes.segments softening names file ≡ copied_of names file }
 {}
 
-/// What is made of segments so far, with what their end adds, is all.
+/// What is made while segments come, with what their end adds behind it, is all that is made.
 pub fn all_is_made()
     ensures { (segments : List (List ℤ)) → soft_so_far segments ++ soft_rest segments ≡ soft_symbols segments }
 {}
 
-/// The runs of what is made are those of the segments: as many, and each as long. Each segment of the output is told to
-/// be what it was in the input, so that runs begin, go on and end at the same segments. Their intervals are the same.
+/// Softening keeps the runs. There are as many as before, each as long and at the same place. Each segment of the
+/// output has the role that it has in the input: runs begin, go on and end at the same segments.
 pub fn runs_stay()
     ensures intervals { (segments : List (List ℤ)) (places : List (ℕ × ℕ)) → AreRuns segments 0 places
         → AreRuns (soft_symbols segments) 0 places }
@@ -64,8 +64,8 @@ pub fn runs_stay()
         ≡ tracking (take i segments) (slice_index_or segments i []) }
 {}
 
-/// Of a run's segments those are data that stand 1 to 312 segments behind the run's last field sync, the first at place
-/// 0 of its field. In no run no segment is data.
+/// A segment of a run is data where it stands 1 to 312 segments behind the run's last field sync. The first of them has
+/// place 0 of its field. Outside runs no segment is data.
 pub fn places_of_data()
     ensures runs { (segments : List (List ℤ)) (places : List (ℕ × ℕ)) → AreRuns segments 0 places
         → All (λ p. (j : ℕ) → j < p.1 → place_at segments (p.0 + j) ≡ place_behind (j % 313)) places }
@@ -73,9 +73,9 @@ pub fn places_of_data()
         → i < length segments → All (λ p. (i < p.0) ⊎ (p.0 + p.1 ≤ i)) places → place_at segments i ≡ None }
 {}
 
-/// What is counted of the fields is counted of those of the runs: of each field with a data segment the data segments
-/// in whole groups. In what is made these are softened, and all other segments stay: those that are no data, and data
-/// behind the whole groups of their field.
+/// A count over fields is a sum over the fields of the runs. It counts the data segments in whole groups of each field
+/// that has a data segment. These segments are softened. All other segments stay as they are: those that aren't data,
+/// and data behind the whole groups of their field.
 pub fn fields_are_softened()
     ensures count { (count : List (List ℤ) → ℕ) (segments : List (List ℤ))
         → field_sum count segments (length segments) ≡ sum_by count (fields_of segments) }
@@ -86,16 +86,16 @@ pub fn fields_are_softened()
         → slice_index_or (soft_symbols segments) i [] ≡ slice_index_or segments i [] }
 {}
 
-/// What all least paths of a file cost is how far its symbols are moved: the sum of the squares, over all symbols of
-/// its whole segments.
+/// The cost of all least paths of a file is how far softening moves its symbols: the sum of the squares of the
+/// differences, over all symbols of its whole segments.
 pub fn cost_of_all()
     ensures { (file : List ℕ) → field_sum (softened_cost 1) (file_segments file) (whole_segments file)
         ≡ segments_distance (file_segments file) (soft_symbols (file_segments file)) }
 {}
 
-/// The segments of a stream stay as they are, and all their least paths cost nothing. So the file that `code` writes of
-/// a stream is what `soft` writes of it, at cost 0, with as many segments as `code` says. It has a field for each 78
-/// groups of four packets that are begun, and nothing loose.
+/// The segments of a stream stay as they are, and all their least paths cost nothing. So `soft` leaves the file that
+/// `code` writes for a stream as it is, at cost 0, and counts as many segments as `code` does. It counts a field for
+/// each 78 groups of four packets that are begun, and no loose bytes.
 pub fn a_stream_stays()
     ensures symbols { (packets : List (List ℕ)) → soft_symbols (a53 packets) ≡ a53 packets }
     ensures cost { (packets : List (List ℕ))

@@ -1,6 +1,6 @@
-//! Laws of what is received of a symbol file. It is the packets of all its whole segments, or nothing where none of
-//! them looks like a field sync. Of a file with damage laid over its bytes it is the same of the damaged bytes. Of a
-//! file that is cut, or of two one behind the other, it is what is written of the whole, or of each.
+//! Laws of what `receive` writes for a symbol file. It writes the packets of all whole segments, or nothing where no
+//! segment looks like a field sync. A file with damage laid over its bytes is received as its damaged bytes. Further
+//! laws are about a file that is cut, and about two files one behind the other.
 
 ghost use Rattle.std.specs.Prelude.{◌≡◌, ◌+◌, ◌*◌, ◌<◌, ◌≤◌, ◌%◌, ◌++◌, ℕ, All, List, [], length, take};
 ghost use Rattle.dtx_plan.specs.declared.damage.Damage.{Damage};
@@ -18,7 +18,8 @@ ghost use Rattle.dtx_jobs.specs.SymbolFile.{file_segments, whole_segments};
 use dtx_meaning::Status;
 use dtx_sizes::MOST_SEGMENTS;
 
-/// The segments of a file are those of its parts, where the first has whole segments, and loose bytes stand in none.
+/// The segments of a file are those of its two parts, where the first part has whole segments alone. Loose bytes stand
+/// in no segment.
 pub fn segments_in_pieces()
     ensures pieces { (first rest : List ℕ) → length first % 832 ≡ 0
         → file_segments (first ++ rest) ≡ file_segments first ++ file_segments rest }
@@ -26,9 +27,9 @@ pub fn segments_in_pieces()
     ensures count { (file : List ℕ) → length (file_segments file) ≡ whole_segments file }
 {}
 
-/// Of a file with no more segments than are received all packets are written. So it is of the damaged bytes, where
-/// damage is laid over them. Where a file has more, that is the answer, and what the first ones give while they come is
-/// written, as many as may be.
+/// For a file of at most MOST_SEGMENTS segments, all packets are written. Where damage is laid over the file, they are
+/// the packets of the damaged bytes. Where a file has more segments, the answer is `TooLong`, and OUT is what the first
+/// MOST_SEGMENTS segments give while they come.
 pub fn all_is_received()
     ensures plain { (names : List (List ℕ)) (file : List ℕ) → whole_segments file ≤ MOST_SEGMENTS
         → meaning_of_file shapes.segments receiving names file ≡ received_of names file (length file % 832) }
@@ -40,7 +41,7 @@ pub fn all_is_received()
         → meaning_of_file shapes.segments receiving names file ≡ given_until with_corrections names file }
 {}
 
-/// Where no segment looks like a field sync, that is the answer, and no packet is written.
+/// Where no segment looks like a field sync, the answer is `NoSync`, and no packet is written.
 pub fn nothing_without_a_sync()
     ensures answer { (file : List ℕ) (loose : ℕ) → NoneLooks (file_segments file) 0 (whole_segments file)
         → receive_answer (file_segments file) loose ≡ ended Status.NoSync }
@@ -48,15 +49,15 @@ pub fn nothing_without_a_sync()
         → received_bytes file ≡ [] }
 {}
 
-/// Of the first bytes of a symbol file, wherever it is cut, the first of the bytes are written that are written of the
-/// file.
+/// Wherever a symbol file is cut, what is written for its first bytes is a prefix of what is written for the file.
 pub fn cut_symbols()
     ensures { (file : List ℕ) (n : ℕ) → whole_segments file ≤ MOST_SEGMENTS
         → (first rest : List ℕ) × IsWritten file (first ++ rest) × IsWritten (take n file) first }
 {}
 
-/// Let no run be on at the end of a file of whole segments. Of it and a second one behind it that is written which is
-/// written of each, one behind the other. No run is on where each run of the file ends before one of its segments.
+/// Let a file have whole segments alone, and let each of its runs end before one of its segments, so that no run is on
+/// at its end. Let a second file stand behind it. What is written for both together is what is written for each, one
+/// behind the other.
 pub fn spliced_symbols()
     ensures { (a b : List ℕ) (places : List (ℕ × ℕ)) → whole_segments (a ++ b) ≤ MOST_SEGMENTS
         → length a % 832 ≡ 0 → AreRuns (file_segments a) 0 places → All (λ p. p.0 + p.1 < whole_segments a) places

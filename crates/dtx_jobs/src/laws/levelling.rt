@@ -11,10 +11,10 @@ ghost use Rattle.dtx_jobs.specs.LevelledFile.{levelled_of, levelled_until};
 
 use dtx_sizes::MOST_SYMBOLS;
 
-/// What `level` answers and writes of any file, each byte a symbol. Where it has no more bytes than may be, OUT is all
-/// that is levelled of them, and LOG has a line for each of their syncs. Where it has more, it is too long. OUT and LOG
-/// are then what is known of the first so many, whatever follows. Where there is no sync, nothing is levelled and
-/// nothing is told.
+/// What `level` answers and writes for any file. Each byte is a symbol. Where the file has at most MOST_SYMBOLS bytes,
+/// OUT is all that is levelled of them, and LOG has a line for each sync. Where it has more, the answer is `TooLong`.
+/// OUT and LOG are then what is known after the first MOST_SYMBOLS bytes, whatever follows them. Where there is no
+/// sync, OUT and LOG are empty.
 pub fn all_is_levelled_of_a_file()
     ensures whole { (names : List (List ℕ)) (file : List ℕ) → length file ≤ MOST_SYMBOLS
         → meaning_of_file shapes.single_bytes levelling names file ≡ levelled_of names file }

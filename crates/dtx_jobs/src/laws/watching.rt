@@ -12,9 +12,10 @@ ghost use Rattle.dtx_jobs.specs.WatchedFeed.{IsWatchedCalmly, tally_of_text, wat
 
 use dtx_sizes::MOST_PACKETS;
 
-/// Of a file with no more packets than may be, what is told of all of them is written. The numbers of the line are
-/// those of that text. As many of its lines begin with `ops`, with `unread` and with `stray` as the line says. As many
-/// of them have the word `slip` and the word `jump` at its place. So it is of the text of any notes.
+/// Let a file have at most MOST_PACKETS whole packets. Then OUT is the text of all notes on its packets, and the
+/// numbers of the command's line are counts over that text. They count its lines that begin with `ops`, with `unread`
+/// and with `stray`, and those that have the word `slip` or `jump` at its place. The same counts hold for the text of
+/// any notes.
 pub fn all_is_watched()
     ensures written { (names : List (List ℕ)) (file : List ℕ) → whole_packets file ≤ MOST_PACKETS
         → meaning_of_file shapes.single_packets watching names file ≡ watched_of names file }
@@ -22,9 +23,9 @@ pub fn all_is_watched()
         → watch_tally packets notes ≡ tally_of_text packets (watch_text notes) }
 {}
 
-/// A file whose packets are those of a sound feed from one of its marks on is watched calmly. The text is the line
-/// `lock 0` and one line `ops` for each operations packet, in their order, and nothing else. None of these lines says
-/// `slip` or `jump`. The numbers of the line say the same.
+/// Let the packets of a file be those of a sound feed, from one of its marks on. Then OUT is the line `lock 0` and one
+/// line `ops` for each operations packet, in their order, and nothing else. None of these lines has the word `slip` or
+/// `jump`. The numbers of the command's line agree with that.
 pub fn sound_feeds_are_watched_calmly()
     ensures { (names : List (List ℕ)) (file : List ℕ) (start most mark : ℕ) (feed : List (List ℕ))
         → IsSoundFeed start most feed → mark % 624 ≡ 0 → mark < length feed → packets_of file ≡ drop mark feed

@@ -15,9 +15,10 @@ ghost use Rattle.dtx_packet_jobs.specs.DvbShapes as shapes;
 use dtx_meaning::Status;
 use dtx_sizes::MOST_PACKETS;
 
-/// All whole packets of a stream are sent, where they begin with 0x47 and are no more than may be. Where a packet among
-/// so many doesn't begin so, the first such packet is refused, and those before it are sent. Where all of so many do
-/// and the stream has more, it is too long, and so many are sent.
+/// What `dvb code` sends of a stream. Where all whole packets begin with 0x47 and they are at most MOST_PACKETS, all
+/// are sent. Where one of the first MOST_PACKETS packets begins with another byte, the first such packet is refused,
+/// and those before it are sent. Where the first MOST_PACKETS packets begin with 0x47 and there are more, the answer is
+/// `TooLong`, and the first MOST_PACKETS are sent.
 pub fn all_is_sent()
     ensures whole { (names : List (List ℕ)) (stream : List ℕ) → whole_packets stream ≤ MOST_PACKETS
         → HaveSyncs stream (whole_packets stream)
@@ -31,8 +32,9 @@ pub fn all_is_sent()
         ≡ sent_until names stream MOST_PACKETS Status.TooLong }
 {}
 
-/// All whole blocks are read, where they are no more than may be. Where there are more, that is the answer, and what
-/// the first ones give is written, as many as may be: the first of all packets.
+/// What `dvb read` reads. Where there are at most MOST_PACKETS whole blocks, all are read. Where there are more, the
+/// answer is `TooLong`, and OUT has the packets that the first MOST_PACKETS blocks give. They are the first of all
+/// packets.
 pub fn all_is_read()
     ensures whole { (names : List (List ℕ)) (bytes : List ℕ) → whole_blocks bytes ≤ MOST_PACKETS
         → meaning_of_file shapes.blocks dvb_reading names bytes ≡ read_of names bytes }
@@ -41,8 +43,8 @@ pub fn all_is_read()
 {}
 
 /// Let a stream have packets that begin with 0x47, and let what was sent of it have at most eight wrong bytes in each
-/// word that is gathered. What is read of it are its packets but the last eleven, none of them flagged. So it is of the
-/// bytes as they were sent.
+/// word that is gathered. Then `dvb read` writes the stream's packets but the last eleven, none of them flagged. It
+/// does the same for undamaged bytes.
 pub fn streams_come_back()
     ensures damaged { (names : List (List ℕ)) (stream bytes : List ℕ) → whole_packets stream ≤ MOST_PACKETS
         → ArePackets (packets_of stream) → IsSlight (packets_of stream) bytes

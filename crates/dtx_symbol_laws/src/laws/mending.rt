@@ -1,5 +1,5 @@
-//! Laws of symbol files of which some symbols are missing. A symbol of value -128, whose byte is 0x80, says that
-//! nothing was received there (the profile's own; what is sent is that of ATSC A/53 Part 2).
+//! Laws of `mend`, which reads symbol files with missing symbols. A symbol of value -128, whose byte is 0x80, means
+//! that nothing was received there (the profile's own; ATSC A/53 Part 2 for what is sent).
 
 ghost use Rattle.std.specs.Prelude.{◌≡◌, ◌+◌, ◌%◌, ◌<◌, ◌≤◌, ◌++◌, ◌∷◌, ℕ, ℤ, List, Some, [], length, take};
 ghost use Rattle.std.specs.FinMap as files;
@@ -23,8 +23,8 @@ ghost use Rattle.dtx_jobs.specs.SymbolFile.{file_segments, whole_segments};
 use dtx_meaning::Status;
 use dtx_sizes::{FIELD_PACKETS, MOST_SEGMENTS};
 
-/// Of a file with no more segments than are received all packets are written, one behind another. They are as many as
-/// `receive` writes of the file, whatever is missing.
+/// For a file of at most MOST_SEGMENTS segments, `mend` writes all packets, one behind another. They are as many as
+/// `receive` writes for the file, whatever is missing.
 pub fn all_is_mended()
     ensures written { (names : List (List ℕ)) (file : List ℕ) → whole_segments file ≤ MOST_SEGMENTS
         → meaning_of_file shapes.segments mending_symbols names file ≡ mended_of names file }
@@ -32,10 +32,10 @@ pub fn all_is_mended()
     ensures long { (file : List ℕ) → length (mended_bytes file) ≡ length (received_bytes file) }
 {}
 
-/// The three answers of `mend` that a file's content decides, each with its cause. Where the file has more segments
-/// than are received, it is too long. Then what the first ones give while they come is written, as many as may be. It
-/// is a prefix of what all give, and as many packets as `receive` writes then. Else, where no segment looks like a
-/// field sync, that is the answer, and OUT is empty. Where one does, all is done.
+/// The three answers of `mend` that a file's content decides, each with its cause. Where the file has more than
+/// MOST_SEGMENTS segments, the answer is `TooLong`. OUT is then what the first MOST_SEGMENTS segments give while they
+/// come. It is a prefix of what all give, and as many packets as `receive` writes then. Else, where no segment looks
+/// like a field sync, the answer is `NoSync`, and OUT is empty. Where one does, the answer is `Done`.
 pub fn mending_answers()
     ensures too_long { (names : List (List ℕ)) (file : List ℕ) → MOST_SEGMENTS < whole_segments file
         → meaning_of_file shapes.segments mending_symbols names file ≡ mended_until names file }
@@ -51,10 +51,10 @@ pub fn mending_answers()
         → (meaning_of_file shapes.segments mending_symbols names file).outcome.status ≡ Status.Done }
 {}
 
-/// Packet f + j of a stream is given back in whatever is received, where packet f begins a field. A run gives it whose
-/// word j is all there and differs from the packet's codeword in e unmarked bytes, where m are marked and `2 * e + m`
-/// is at most 20. It stands among the packets that are written, with 0x47 as its sync byte, behind those of the runs
-/// before, as number j of its run's. It isn't flagged.
+/// A packet comes back, whatever else is received, where its word is near its codeword. Let packet f of a stream begin
+/// a field. Let word j of a run be all there. Let it differ from the codeword of packet f + j in e unmarked bytes, with
+/// m bytes marked, and let `2 * e + m` be at most 20. Then the run gives packet f + j as its packet j, behind the
+/// packets of the runs before. It has 0x47 as its sync byte and isn't flagged.
 pub fn a_near_packet_is_mended()
     ensures { (stream : List (List ℕ)) (file : List ℕ) (earlier later : List (ℕ × ℕ)) (run : ℕ × ℕ) (f j : ℕ)
         → ArePackets stream → f % FIELD_PACKETS ≡ 0 → f + j < length stream
@@ -64,9 +64,9 @@ pub fn a_near_packet_is_mended()
         (word_of (segments_in (file_segments file) run) j) }
 {}
 
-/// Let segments in a row of a stream be received with damage that can be mended, a field sync among them. Then all
-/// packets from the one behind that field sync on whose bytes are all there are written, in order, and no other. Each
-/// has 0x47 as its sync byte. There is one run, and none is flagged.
+/// Let a file be segments in a row of a stream, a field sync among them, received with damage that can be mended. Then
+/// `mend` writes the packets from the one behind the first field sync on whose bytes are all there. They are in order,
+/// and there is no other. Each has 0x47 as its sync byte. There is one run, and no packet is flagged.
 pub fn a_stretch_is_mended()
     ensures { (names stream : List (List ℕ)) (first : ℕ) (sent : List (List ℤ)) (file : List ℕ)
         → whole_segments file ≤ MOST_SEGMENTS → ArePackets stream

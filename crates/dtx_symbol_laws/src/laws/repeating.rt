@@ -1,5 +1,5 @@
-//! Laws of symbol files that are sent again by a repeater (the profile's own, over ATSC A/53 Part 2 and in the manner
-//! of ATSC A/110).
+//! Laws of `repeat`, which sends symbol files again (the profile's own, over ATSC A/53 Part 2 and in the manner of ATSC
+//! A/110).
 
 ghost use Rattle.std.specs.Prelude.{◌≡◌, ◌<◌, ◌≤◌, ℕ, ℤ, List, take};
 ghost use Rattle.dtx_receiver.specs.Intervals.{NoneLooks};
@@ -13,12 +13,12 @@ ghost use Rattle.dtx_symbol_laws.specs.RepeatedFiles.{outputs_so_far, repeated_o
 
 use dtx_sizes::MOST_SEGMENTS;
 
-/// What `repeat` answers and writes of any file, for any address and delay. Where the file has no more segments than
-/// may be and one of them looks like a field sync, all is done. OUT has the symbols of the segments that are repeated
-/// of them and LOG the lines of their log, all and no other. The numbers are those of the segments, of their runs and
-/// of the lives of the exciter. Where none looks like a field sync, that is the answer, and both outputs are empty.
-/// Where the file has more segments than may be, it is too long. Then what the first ones give while they come is
-/// written, as many as may be: of each output a prefix of what all give.
+/// What `repeat` answers and writes for any file, at any address and delay. Let the file have at most MOST_SEGMENTS
+/// segments. Where one of them looks like a field sync, the answer is `Done`. OUT then has the symbols of the segments
+/// that are repeated, and LOG the lines of their log, all and no other. The numbers are those of the segments, of their
+/// runs and of the exciter's lives. Where no segment looks like a field sync, the answer is `NoSync`, and both outputs
+/// are empty. Where the file has more segments, the answer is `TooLong`. The outputs are then what the first
+/// MOST_SEGMENTS segments give while they come. Each is a prefix of what all give.
 pub fn all_is_repeated()
     ensures done { (address delay : ℕ) (names : List (List ℕ)) (file : List ℕ) → whole_segments file ≤ MOST_SEGMENTS
         → (NoneLooks (file_segments file) 0 (whole_segments file) → ⊥)
