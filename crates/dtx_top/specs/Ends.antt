@@ -27,14 +27,15 @@ use Rattle.dtx_top.specs.NetProgress.{HasProgress}
 use Rattle.dtx_top.specs.Trial.{HasTrialHeadline, HasTrialProgress}
 
 -- The cause of an answer, of the counts of the shelf and of those of the sink. On `Done` all stand, so no I/O error was
--- met. `WriteFault` is also answered where the line of `Done` could not be printed. Where an I/O error or an absent
--- file was counted, the answer is never `Memory`.
+-- met. `WriteFault` is also answered where the line of `Done` could not be printed. Where the shelf counted an I/O error
+-- or an absent file, `Memory` is answered only where the sink lacked memory for the line.
 abbrev pub HasCause : Status → Counts → Counts → SinkCounts → SinkCounts → Type 0
 HasCause Done before now first last = (now ≡ before) × (last ≡ first)
 HasCause (Absent input) before now first last = Rose before.misses now.misses
 HasCause ReadFault before now first last = Rose before.read_faults now.read_faults
 HasCause WriteFault before now first last =
     Rose before.write_faults now.write_faults ⊎ ((now ≡ before) × Rose first.faults last.faults)
+HasCause Memory before now first last = (now ≡ before) ⊎ Rose first.shortages last.shortages
 HasCause status before now first last = now ≡ before
 
 -- no count fell, and the answer has its cause
@@ -77,13 +78,13 @@ inputs_among [] = zero
 inputs_among (Input ∷ fields) = suc (inputs_among fields)
 inputs_among (field ∷ fields) = inputs_among fields
 
--- Words that fit no command are answered `Usage`, and others never. These are answered `Same` only where two of the
--- command's file names are equal, and there always unless memory runs out. An input that isn't there is one that the
--- words name, and each refusal is one that the command knows. Of `net`, whose plan names further files, an input that
--- isn't there is one of the four that it reads. Of `trial`, whose words name no file, it is one of the three that it
--- reads.
+-- Words that fit no command are answered `Usage`, or `Memory` where the sink lacks memory for the line; others are never
+-- answered `Usage`. Words that fit are answered `Same` only where two of the command's file names are equal, and there
+-- always unless memory runs out. An input that isn't there is one that the words name, and each refusal is one that the
+-- command knows. Of `net`, whose plan names further files, an input that isn't there is one of the four that it reads.
+-- Of `trial`, whose words name no file, it is one of the three that it reads.
 abbrev pub IsByWords : Option Command → List (List ℕ) → Status → Type 0
-IsByWords None words status = status ≡ Usage
+IsByWords None words status = (status ≡ Usage) ⊎ (status ≡ Memory)
 IsByWords (Some Net) words status = IsOfNetwork status
 IsByWords (Some Trial) words status = IsOfInputs false 3 status × Knows Trial status
 IsByWords (Some command) words status =

@@ -77,20 +77,16 @@ pub record HasPartLine (IsLine : Status → List ℕ → Type 0) (status : Statu
   pub within : bytes ≤ length text
   pub part : new ≡ printed (take bytes text) old
 
--- the sink refused to print, which a count tells
-abbrev pub IsUnprintable : SinkCounts → SinkCounts → Type 0
-IsUnprintable first last = Rose first.faults last.faults ⊎ Rose first.shortages last.shortages
-
--- such a line was printed whole, and the sink refused nothing; or it refused, and a prefix of the line was printed
+-- such a line was printed whole, and the sink refused nothing; or the sink failed, and a prefix of the line was printed
 abbrev pub HasPrinted : (Status → List ℕ → Type 0) → Status → SinkCounts → SinkCounts → Option (List ℕ)
     → Option (List ℕ) → Type 0
 HasPrinted IsLine status first last old new =
     ((last ≡ first) × HasWholeLine IsLine status old new)
-    ⊎ (IsUnprintable first last × HasPartLine IsLine status old new)
+    ⊎ (Rose first.faults last.faults × HasPartLine IsLine status old new)
 
--- What a call printed, which ended so: the whole line of its answer, or where the sink refused a prefix of it. For
--- `WriteFault`, where printing failed, this may also be a prefix of the line of `Done`. For `Memory` it may be that
--- where the sink lacked memory. For `Done` the line is always whole.
+-- What a call printed, which ended so: the whole line of its answer, or a prefix of it where the sink failed. For
+-- `WriteFault`, where printing failed, this may also be a prefix of the line of `Done`. For `Memory` it may be a prefix
+-- of any line, where the sink lacked memory for it. For `Done` the line is always whole.
 abbrev pub HasLine : (Status → List ℕ → Type 0) → Status → SinkCounts → SinkCounts → Option (List ℕ)
     → Option (List ℕ) → Type 0
 HasLine IsLine Done first last old new = (last ≡ first) × HasWholeLine IsLine Done old new
@@ -99,5 +95,5 @@ HasLine IsLine WriteFault first last old new =
     ⊎ (Rose first.faults last.faults × HasPartLine IsLine Done old new)
 HasLine IsLine Memory first last old new =
     HasPrinted IsLine Memory first last old new
-    ⊎ (Rose first.shortages last.shortages × HasPartLine IsLine Done old new)
+    ⊎ (Rose first.shortages last.shortages × ((status : Status) × HasPartLine IsLine status old new))
 HasLine IsLine status first last old new = HasPrinted IsLine status first last old new

@@ -101,19 +101,21 @@ pub fn run<S: Shelf, O: Sink>(alloc: Global, words: &[Word], shelf: &mut S, out:
         (Rose (O.counts out.old).faults (O.counts out.new).faults) (S.files shelf.new)) }
 
     // The line is that of the answer, with the numbers of the meaning, and the name that the words or the plan give. It
-    // is whole unless the sink refused. Where `Memory` came of printing the line of `Done`, a prefix of that is left.
+    // is whole unless the sink refused. Where the sink lacked memory for a line, the answer is `Memory`, and a prefix of
+    // that line is left.
     ensures line { IfSome (S.files shelf.old) (λ held. HasLine (IsToldLine (command_of words.now) words.now held) result
         (O.counts out.old) (O.counts out.new) (O.written out.old) (O.written out.new)) }
 
     // Also where the files are not told: each I/O error has its count, and no count falls. After `Memory` the shelf's
-    // counts stand: an I/O error or an absent file that is counted is what is answered.
+    // counts stand, unless the sink lacked memory for the line. So an I/O error or an absent file that the shelf counted
+    // is what is answered.
     ensures gone { HasEnded (S.counts shelf.old) (S.counts shelf.new) (O.counts out.old) (O.counts out.new) result }
 
     // Also where the files are not told: the line is that of the answer, with some numbers, and as many as it has.
     ensures untold_line { HasLine (IsSomeLine (command_of words.now) words.now) result
         (O.counts out.old) (O.counts out.new) (O.written out.old) (O.written out.new) }
 
-    // Also where the files are not told: what the words alone say of the answer. `Usage` comes exactly where they fit
+    // Also where the files are not told: what the words alone say of the answer. `Usage` comes only where they fit
     // no command. `Same` comes only where two names are equal, and there always unless memory runs out. Of `net`, whose
     // plan gives names too, the words don't say so. An input that isn't there is one that they name, or one of the four
     // that `net` reads or the three that `trial` reads. Each refusal is one that the command knows.
