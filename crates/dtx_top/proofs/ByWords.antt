@@ -6,9 +6,9 @@ use Rattle.std.proofs.Common.{sym, ap, subst, inl, inr, arith}
 use Rattle.std.proofs.lemmas.Bool.{and_parts}
 use Rattle.dtx_outside.specs.declared.sink.SinkNo.{SinkNo}
 use Rattle.dtx_outside.specs.declared.sink.SinkNo.TheVariants as sink
-use Rattle.dtx_meaning.specs.Status.{IsFault, IsOfInputs}
+use Rattle.dtx_meaning.specs.Status.{IsOfInputs}
 use Rattle.dtx_meaning.specs.declared.status.Status.{Status}
-use Rattle.dtx_meaning.specs.declared.status.Status.TheVariants.{Done, Usage, ReadFault, WriteFault, Memory}
+use Rattle.dtx_meaning.specs.declared.status.Status.TheVariants.{Usage, Memory}
 use Rattle.dtx_forms.specs.Answers.{Knows}
 use Rattle.dtx_forms.specs.OfWords.{IsOfWords, acquire_same, transmit_same, make_same, number_same, numbers_same}
 use Rattle.dtx_forms.specs.OfWords.{dvb_same, three_same, two_same}
@@ -29,7 +29,7 @@ use Rattle.dtx_words.specs.declared.rows.SecondWord.TheVariants as second
 use Rattle.dtx_top.specs.Ends.{IsByWords, IsOfCommand}
 use Rattle.dtx_top.specs.NetAnswers.{IsOfNetWords, IsOfNetwork}
 use Rattle.dtx_top.specs.Trial.{trial_same}
-use Rattle.dtx_top.proofs.Ending.{done_refused, finished_refused}
+use Rattle.dtx_top.proofs.Ending.{finished_failed}
 
 -- ---- so many words
 
@@ -200,53 +200,40 @@ fitted_told Level (verb ∷ words) status fit is = (logged_told verb words statu
 inputs_finished : (same : Bool) (inputs : ℕ) (status : Status) (line : Result (Unit {0}) SinkNo)
     → IsOfInputs same inputs status → IsOfInputs same inputs (finished status line)
 inputs_finished same inputs status (Ok u) is = is
-inputs_finished same inputs status (Err cause) is = elim (finished_refused status cause) [
-  | inl done ↦ (let P : Status → Type 0 = λ s. IsOfInputs same inputs (finished s (Err cause)) in
+inputs_finished same inputs status (Err sink.Memory) is = tt
+inputs_finished same inputs status (Err sink.Failed) is = elim (finished_failed status) [
+  | inl done ↦ (let P : Status → Type 0 = λ s. IsOfInputs same inputs (finished s (Err sink.Failed)) in
       let Q : Status → Type 0 = λ s. IsOfInputs same inputs s in
-      subst P (sym done) (of_done cause (subst Q done is)))
+      subst P (sym done) (subst Q done is))
   | inr kept ↦ (let P : Status → Type 0 = λ s. IsOfInputs same inputs s in subst P (sym kept) is)
 ]
-  where
-    of_done : (cause : SinkNo) → IsOfInputs same inputs Done → IsOfInputs same inputs (finished Done (Err cause))
-    of_done sink.Failed done = done
-    of_done sink.Memory done = tt
-
--- a fault is an answer of a network
-network_fault : (status : Status) → IsFault status → IsOfNetwork status
-network_fault ReadFault fault = tt
-network_fault WriteFault fault = tt
-network_fault Memory fault = tt
-network_fault status fault = absurd fault
 
 -- the answer of a network, whose line was printed so
 network_finished : (status : Status) (line : Result (Unit {0}) SinkNo) → IsOfNetwork status
     → IsOfNetwork (finished status line)
 network_finished status (Ok u) is = is
-network_finished status (Err cause) is = elim (finished_refused status cause) [
-  | inl done ↦ (let P : Status → Type 0 = λ s. IsOfNetwork (finished s (Err cause)) in
-      subst P (sym done) (network_fault _ (done_refused cause)))
+network_finished status (Err sink.Memory) is = tt
+network_finished status (Err sink.Failed) is = elim (finished_failed status) [
+  | inl done ↦ (let P : Status → Type 0 = λ s. IsOfNetwork (finished s (Err sink.Failed)) in subst P (sym done) tt)
   | inr kept ↦ (let P : Status → Type 0 = λ s. IsOfNetwork s in subst P (sym kept) is)
 ]
 
--- each command knows the faults
-knows_done : (command : Command) (cause : SinkNo) → Knows command (finished Done (Err cause))
-knows_done command sink.Failed = tt
-knows_done command sink.Memory = tt
-
--- each command knows lack of memory, and that its line could not be printed
+-- each command knows want of memory, and that its line could not be printed
 knows_finished : (command : Command) (status : Status) (line : Result (Unit {0}) SinkNo) → Knows command status
     → Knows command (finished status line)
 knows_finished command status (Ok u) is = is
-knows_finished command status (Err cause) is = elim (finished_refused status cause) [
-  | inl done ↦ (let P : Status → Type 0 = λ s. Knows command (finished s (Err cause)) in
-      subst P (sym done) (knows_done command cause))
+knows_finished command status (Err sink.Memory) is = tt
+knows_finished command status (Err sink.Failed) is = elim (finished_failed status) [
+  | inl done ↦ (let P : Status → Type 0 = λ s. Knows command (finished s (Err sink.Failed)) in
+      subst P (sym done) tt)
   | inr kept ↦ (let P : Status → Type 0 = λ s. Knows command s in subst P (sym kept) is)
 ]
 
 usage_finished : (status : Status) (line : Result (Unit {0}) SinkNo) → status ≡ Usage
-    → finished status line ≡ Usage
-usage_finished status (Ok u) is = is
-usage_finished status (Err cause) is = ap (λ s. finished s (Err cause)) is
+    → (finished status line ≡ Usage) ⊎ (finished status line ≡ Memory)
+usage_finished status (Ok u) is = inl is
+usage_finished status (Err sink.Memory) is = inr refl
+usage_finished status (Err sink.Failed) is = inl (ap (λ s. finished s (Err sink.Failed)) is)
 
 by_words_finished : (command : Command) (words : List (List ℕ)) (status : Status) (line : Result (Unit {0}) SinkNo)
     → IsByWords (Some command) words status → IsByWords (Some command) words (finished status line)

@@ -18,27 +18,21 @@ use Rattle.dtx_meaning.specs.declared.status.Status.TheVariants.{Memory}
 use Rattle.dtx_words.specs.Line.{finished}
 use Rattle.dtx_top.specs.Ends.{HasCause, HasEnded, IsAllDone, IsFaultless}
 
--- a status after the sink refused its line, but for `Done`
-pub finished_refused : (status : Status) (cause : SinkNo)
-    → (status ≡ Done) ⊎ (finished status (Err cause) ≡ status)
-finished_refused Done cause = inl refl
-finished_refused Usage cause = inr refl
-finished_refused Same cause = inr refl
-finished_refused (Absent input) cause = inr refl
-finished_refused (Plan refusal) cause = inr refl
-finished_refused (Packet k) cause = inr refl
-finished_refused TooLong cause = inr refl
-finished_refused (OutOfFeed event) cause = inr refl
-finished_refused (OutOfAir entry) cause = inr refl
-finished_refused NoSync cause = inr refl
-finished_refused ReadFault cause = inr refl
-finished_refused WriteFault cause = inr refl
-finished_refused Memory cause = inr refl
-
--- that of `Done` is a fault
-pub done_refused : (cause : SinkNo) → IsFault (finished Done (Err cause))
-done_refused sink.Failed = tt
-done_refused sink.Memory = tt
+-- a status after its line failed, but for `Done`
+pub finished_failed : (status : Status) → (status ≡ Done) ⊎ (finished status (Err sink.Failed) ≡ status)
+finished_failed Done = inl refl
+finished_failed Usage = inr refl
+finished_failed Same = inr refl
+finished_failed (Absent input) = inr refl
+finished_failed (Plan refusal) = inr refl
+finished_failed (Packet k) = inr refl
+finished_failed TooLong = inr refl
+finished_failed (OutOfFeed event) = inr refl
+finished_failed (OutOfAir entry) = inr refl
+finished_failed NoSync = inr refl
+finished_failed ReadFault = inr refl
+finished_failed WriteFault = inr refl
+finished_failed Memory = inr refl
 
 -- ---- what is done
 
@@ -49,18 +43,16 @@ pub done_of : (m : Meaning) (start now : Option Files) (outcome : Outcome) (line
     → IsDone m start (finished outcome.status line) (Rose first.faults last.faults) now
 done_of m start now outcome (Ok u) first last is counted =
     done_printed m start now outcome (Rose first.faults last.faults) is
-done_of m start now outcome (Err cause) first last is counted = elim (finished_refused outcome.status cause) [
+done_of m start now outcome (Err sink.Memory) first last is counted =
+    done_wanting m start now outcome (Rose first.faults last.faults) is
+done_of m start now outcome (Err sink.Failed) first last is counted = elim (finished_failed outcome.status) [
   | inl done ↦ (let P : Status → Type 0 =
-      λ s. IsDone m start (finished s (Err cause)) (Rose first.faults last.faults) now in
-      subst P (sym done) (of_done cause counted.risen done))
+      λ s. IsDone m start (finished s (Err sink.Failed)) (Rose first.faults last.faults) now in
+      subst P (sym done)
+      (done_unprinted m start now outcome (Rose first.faults last.faults) is done counted.risen.0))
   | inr same ↦ (let P : Status → Type 0 = λ s. IsDone m start s (Rose first.faults last.faults) now in
       subst P (sym same) (done_printed m start now outcome (Rose first.faults last.faults) is))
 ]
-  where
-    of_done : (cause : SinkNo) → HasRisenBy {T = Unit {0}} (Err cause) first last → outcome.status ≡ Done
-        → IsDone m start (finished Done (Err cause)) (Rose first.faults last.faults) now
-    of_done sink.Failed risen done = done_unprinted m start now outcome (Rose first.faults last.faults) is done risen.0
-    of_done sink.Memory risen done = done_wanting m start now outcome (Rose first.faults last.faults) is
 
 -- the same over files that are told
 pub done_told : (means : Files → Meaning) (told now : Option Files) (outcome : Outcome)
@@ -84,24 +76,20 @@ unprinted_of : (m : Meaning) (start now : Option Files) (outcome : Outcome) (lin
     → IsUnprinted m start (finished outcome.status line) (Rose first.faults last.faults) now
 unprinted_of m start now outcome (Ok u) before after first last is gone counted fault none =
     absurd (none (let P : Status → Type 0 = λ s. HasGone before after (blame_of s) in subst P fault gone).risen)
-unprinted_of m start now outcome (Err cause) before after first last is gone counted fault none =
-    elim (finished_refused outcome.status cause) [
+unprinted_of m start now outcome (Err sink.Memory) before after first last is gone counted fault none =
+    let e : Memory ≡ WriteFault = fault in cc
+unprinted_of m start now outcome (Err sink.Failed) before after first last is gone counted fault none =
+    elim (finished_failed outcome.status) [
       | inl done ↦ (let whole = whole_of_carried m start now outcome is (λ fault. not_done outcome.status done fault) in
-          let alone = ap (λ s. finished s (Err cause)) (sym done) ∙ fault in
           record {
             answer = fault;
-            cause = failed cause counted.risen alone;
+            cause = counted.risen.0;
             done = sym (ap (λ (o : Outcome). o.status) whole.answer) ∙ done;
             files = whole.files;
           })
       | inr same ↦ absurd (none (let P : Status → Type 0 = λ s. HasGone before after (blame_of s) in
           subst P (sym same ∙ fault) gone).risen)
     ]
-  where
-    failed : (cause : SinkNo) → HasRisenBy {T = Unit {0}} (Err cause) first last
-        → finished Done (Err cause) ≡ WriteFault → Rose first.faults last.faults
-    failed sink.Failed risen alone = risen.0
-    failed sink.Memory risen alone = let e : Memory ≡ WriteFault = alone in absurd (let no : ⊥ = cc in no)
 
 -- the same over files that are told
 pub unprinted_told : (means : Files → Meaning) (told now : Option Files) (outcome : Outcome)
@@ -133,33 +121,33 @@ cause_printed (OutOfAir entry) before now first last gone same = gone.risen
 cause_printed NoSync before now first last gone same = gone.risen
 cause_printed ReadFault before now first last gone same = gone.risen
 cause_printed WriteFault before now first last gone same = inl gone.risen
-cause_printed Memory before now first last gone same = gone.risen
+cause_printed Memory before now first last gone same = inl gone.risen
 
--- the cause of an answer whose line the sink refused
-cause_refused : (status : Status) (cause : SinkNo) (before now : Counts) (first last : SinkCounts)
-    → HasGone before now (blame_of status) → HasRisenBy {T = Unit {0}} (Err cause) first last
-    → HasCause (finished status (Err cause)) before now first last
-cause_refused Done sink.Failed before now first last gone rose = inr (gone.risen, rose.0)
-cause_refused Done sink.Memory before now first last gone rose = gone.risen
-cause_refused Usage cause before now first last gone rose = gone.risen
-cause_refused Same cause before now first last gone rose = gone.risen
-cause_refused (Absent input) cause before now first last gone rose = gone.risen
-cause_refused (Plan refusal) cause before now first last gone rose = gone.risen
-cause_refused (Packet k) cause before now first last gone rose = gone.risen
-cause_refused TooLong cause before now first last gone rose = gone.risen
-cause_refused (OutOfFeed event) cause before now first last gone rose = gone.risen
-cause_refused (OutOfAir entry) cause before now first last gone rose = gone.risen
-cause_refused NoSync cause before now first last gone rose = gone.risen
-cause_refused ReadFault cause before now first last gone rose = gone.risen
-cause_refused WriteFault cause before now first last gone rose = inl gone.risen
-cause_refused Memory cause before now first last gone rose = gone.risen
+-- the cause of an answer whose line failed
+cause_failed : (status : Status) (before now : Counts) (first last : SinkCounts) → HasGone before now (blame_of status)
+    → Rose first.faults last.faults
+    → HasCause (finished status (Err sink.Failed)) before now first last
+cause_failed Done before now first last gone rose = inr (gone.risen, rose)
+cause_failed Usage before now first last gone rose = gone.risen
+cause_failed Same before now first last gone rose = gone.risen
+cause_failed (Absent input) before now first last gone rose = gone.risen
+cause_failed (Plan refusal) before now first last gone rose = gone.risen
+cause_failed (Packet k) before now first last gone rose = gone.risen
+cause_failed TooLong before now first last gone rose = gone.risen
+cause_failed (OutOfFeed event) before now first last gone rose = gone.risen
+cause_failed (OutOfAir entry) before now first last gone rose = gone.risen
+cause_failed NoSync before now first last gone rose = gone.risen
+cause_failed ReadFault before now first last gone rose = gone.risen
+cause_failed WriteFault before now first last gone rose = inl gone.risen
+cause_failed Memory before now first last gone rose = inl gone.risen
 
 cause_of : (status : Status) (line : Result (Unit {0}) SinkNo) (before now : Counts) (first last : SinkCounts)
     → HasGone before now (blame_of status) → HasRisenBy line first last
     → HasCause (finished status line) before now first last
 cause_of status (Ok u) before now first last gone risen = cause_printed status before now first last gone risen
-cause_of status (Err cause) before now first last gone risen =
-    cause_refused status cause before now first last gone risen
+cause_of status (Err sink.Memory) before now first last gone risen = inr risen.0
+cause_of status (Err sink.Failed) before now first last gone risen =
+    cause_failed status before now first last gone risen.0
 
 -- how a call has ended, of how its command did and how its line was printed
 pub ended_of : (status : Status) (line : Result (Unit {0}) SinkNo) (before now : Counts) (first last : SinkCounts)
@@ -201,7 +189,8 @@ complete_of m start now status before after first last is gone none =
 -- a call is done only where its command is
 pub done_before : (status : Status) (line : Result (Unit {0}) SinkNo) → finished status line ≡ Done → status ≡ Done
 done_before status (Ok u) done = done
-done_before status (Err cause) done = elim (finished_refused status cause) [
+done_before status (Err sink.Memory) done = let e : Memory ≡ Done = done in cc
+done_before status (Err sink.Failed) done = elim (finished_failed status) [
   | inl is ↦ is
   | inr same ↦ sym same ∙ done
 ]
@@ -212,7 +201,8 @@ all_done_before : (status : Status) (line : Result (Unit {0}) SinkNo) (before af
 all_done_before status line before after gone (inl done) = done_before status line done
 all_done_before status (Ok u) before after gone (inr h) =
     absurd (h.1 (let P : Status → Type 0 = λ s. HasGone before after (blame_of s) in subst P h.0 gone).risen)
-all_done_before status (Err cause) before after gone (inr h) = elim (finished_refused status cause) [
+all_done_before status (Err sink.Memory) before after gone (inr h) = let e : Memory ≡ WriteFault = h.0 in cc
+all_done_before status (Err sink.Failed) before after gone (inr h) = elim (finished_failed status) [
   | inl is ↦ is
   | inr same ↦ absurd (h.1 (let P : Status → Type 0 = λ s. HasGone before after (blame_of s) in
       subst P (sym same ∙ h.0) gone).risen)

@@ -2,7 +2,8 @@
 use Rattle.std.specs.Prelude.{◌≡◌, ℕ, List, length, Option, Some, None, Result, Ok, Err, IfSome, refl}
 use Rattle.std.proofs.Common.{sym, ap, ◌∙◌, subst, inl, inr}
 use Rattle.dtx_outside.specs.Shelf.{Files}
-use Rattle.dtx_outside.specs.Sink.{IsCounted, HasRisenBy, SinkCounts}
+use Rattle.dtx_outside.specs.Counts.{Rose}
+use Rattle.dtx_outside.specs.Sink.{IsCounted, SinkCounts}
 use Rattle.dtx_outside.specs.declared.sink.SinkNo.{SinkNo}
 use Rattle.dtx_outside.specs.declared.sink.SinkNo.TheVariants as sink
 use Rattle.dtx_meaning.proofs.MeaningLemmas.{whole_of_carried}
@@ -20,7 +21,7 @@ use Rattle.dtx_words.specs.declared.rows.Command.TheVariants.{Adapt, Code, Excit
 use Rattle.dtx_words.specs.declared.rows.Command.TheVariants.{Trial, Soft, Mend, DvbCode, DvbRead, Repeat}
 use Rattle.dtx_words.specs.declared.rows.Command.TheVariants.{Acquire, Watch, Level}
 use Rattle.dtx_top.specs.Lines.{name_kept, names_told, HasLine, HasPartLine, IsSomeCount, IsSomeLine, IsSomeName}
-use Rattle.dtx_top.specs.Lines.{IsToldLine, IsUnprintable}
+use Rattle.dtx_top.specs.Lines.{IsToldLine}
 use Rattle.dtx_top.specs.NetAnswers.{ShowsNetwork}
 use Rattle.dtx_top.specs.Means.{means_of}
 
@@ -42,23 +43,13 @@ part_of_put : (IsLine : Status → List ℕ → Type 0) (status : Status) (text 
 part_of_put IsLine status text cause old new is put =
     record { text = text; line = is; bytes = put.0; within = put.1; part = put.2 }
 
--- a count of the sink tells that it refused
-unprintable : (cause : SinkNo) (first last : SinkCounts) → HasRisenBy {T = Unit {0}} (Err cause) first last
-    → IsUnprintable first last
-unprintable sink.Failed first last risen = inl risen.0
-unprintable sink.Memory first last risen = inr risen.0
-
-cut_line : (IsLine : Status → List ℕ → Type 0) (status : Status) (cause : SinkNo) (first last : SinkCounts)
-    (old new : Option (List ℕ))
-    → HasPartLine IsLine status old new → HasRisenBy {T = Unit {0}} (Err cause) first last
-    → HasLine IsLine (finished status (Err cause)) first last old new
-cut_line IsLine Done sink.Failed first last old new part risen = inr (risen.0, part)
-cut_line IsLine Done sink.Memory first last old new part risen = inr (risen.0, part)
-cut_line IsLine WriteFault cause first last old new part risen =
-    inl (inr (unprintable cause first last risen, part))
-cut_line IsLine Memory cause first last old new part risen =
-    inl (inr (unprintable cause first last risen, part))
-cut_line IsLine status cause first last old new part risen = inr (unprintable cause first last risen, part)
+cut_line : (IsLine : Status → List ℕ → Type 0) (status : Status) (first last : SinkCounts) (old new : Option (List ℕ))
+    → HasPartLine IsLine status old new → Rose first.faults last.faults
+    → HasLine IsLine (finished status (Err sink.Failed)) first last old new
+cut_line IsLine Done first last old new part rose = inr (rose, part)
+cut_line IsLine WriteFault first last old new part rose = inl (inr (rose, part))
+cut_line IsLine Memory first last old new part rose = inl (inr (rose, part))
+cut_line IsLine status first last old new part rose = inr (rose, part)
 
 -- the line of a status, after it was printed so
 pub line_left : (IsLine : Status → List ℕ → Type 0) (status : Status) (text : List ℕ) (line : Result (Unit {0}) SinkNo)
@@ -67,9 +58,11 @@ pub line_left : (IsLine : Status → List ℕ → Type 0) (status : Status) (tex
     → HasLine IsLine (finished status line) first last old new
 line_left IsLine status text (Ok u) first last old new is put counted =
     whole_line IsLine status text first last old new is counted.risen put
-line_left IsLine status text (Err cause) first last old new is put counted =
-    cut_line IsLine status cause first last old new
-    (part_of_put IsLine status text cause old new is put) counted.risen
+line_left IsLine status text (Err sink.Memory) first last old new is put counted =
+    inr (counted.risen.0, (status, part_of_put IsLine status text sink.Memory old new is put))
+line_left IsLine status text (Err sink.Failed) first last old new is put counted =
+    cut_line IsLine status first last old new
+    (part_of_put IsLine status text sink.Failed old new is put) counted.risen.0
 
 -- ---- which line
 

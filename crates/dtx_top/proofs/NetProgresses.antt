@@ -34,7 +34,7 @@ use Rattle.dtx_top.specs.NetProgress.{AreFirstParts, HasFileProgress, HasNetProg
 use Rattle.dtx_top.specs.NetProgress.{HasProgress, HasStreamProgress, NetProgress, feed_outputs, reception_outputs}
 use Rattle.dtx_top.specs.Trial.{HasMadeProgress, HasNumbersProgress, HasTrialNet, HasTrialProgress, trial_events}
 use Rattle.dtx_top.specs.Trial.{trial_network, trial_plan, trial_transmitters, with_trial}
-use Rattle.dtx_top.proofs.Ending.{done_refused, finished_refused}
+use Rattle.dtx_top.proofs.Ending.{finished_failed}
 
 -- ---- parts of outputs
 
@@ -178,9 +178,9 @@ file_untouched name status (Some held) now same = by_file (get held name)
 finished_or_fault : (status : Status) (line : Result (Unit {0}) SinkNo)
     → (finished status line ≡ status) ⊎ IsFault (finished status line)
 finished_or_fault status (Ok u) = inl refl
-finished_or_fault status (Err cause) = elim (finished_refused status cause) [
-  | inl done ↦ inr (let P : Status → Type 0 = λ s. IsFault (finished s (Err cause)) in
-      subst P (sym done) (done_refused cause))
+finished_or_fault status (Err sink.Memory) = inr tt
+finished_or_fault status (Err sink.Failed) = elim (finished_failed status) [
+  | inl done ↦ inr (let P : Status → Type 0 = λ s. IsFault (finished s (Err sink.Failed)) in subst P (sym done) tt)
   | inr same ↦ inl same
 ]
 

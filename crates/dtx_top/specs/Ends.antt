@@ -28,14 +28,16 @@ use Rattle.dtx_top.specs.Trial.{HasTrialHeadline, HasTrialProgress}
 
 -- The cause of an answer, as the counts of the shelf and of the sink show it. After `Done` all counts stand, so no I/O
 -- error was met. After `Absent` and `ReadFault` their count has risen. After `WriteFault` its count has risen, or only
--- the sink's count has: then the line of `Done` could not be printed. After any other answer, `Memory` too, the shelf's
--- counts stand. So where an I/O error or an absent file was counted, the answer is never `Memory`.
+-- the sink's count has: then the line of `Done` could not be printed. After any other answer the shelf's counts stand.
+-- The only exception is `Memory` where the sink lacked memory for the line. So lack of memory hides no I/O error and no
+-- absent file that the shelf counted, unless the sink's own count tells it.
 abbrev pub HasCause : Status → Counts → Counts → SinkCounts → SinkCounts → Type 0
 HasCause Done before now first last = (now ≡ before) × (last ≡ first)
 HasCause (Absent input) before now first last = Rose before.misses now.misses
 HasCause ReadFault before now first last = Rose before.read_faults now.read_faults
 HasCause WriteFault before now first last =
     Rose before.write_faults now.write_faults ⊎ ((now ≡ before) × Rose first.faults last.faults)
+HasCause Memory before now first last = (now ≡ before) ⊎ Rose first.shortages last.shortages
 HasCause status before now first last = now ≡ before
 
 -- no count fell, and the answer has its cause
@@ -78,13 +80,14 @@ inputs_among [] = zero
 inputs_among (Input ∷ fields) = suc (inputs_among fields)
 inputs_among (field ∷ fields) = inputs_among fields
 
--- Words that fit no command are answered `Usage`, and no others are. Words that fit are answered `Same` only where two
--- of the command's file names are equal, and then always, unless memory runs out. An absent input is one that the words
--- name, and each refusal is one that the command can give (`Knows`). The plan of `net` names further files. So of its
--- answer only this is said: it isn't `Usage`, and an absent input is one of the four that it reads. The words of
--- `trial` name no file. It is never answered `Same`, and an absent input is one of the three that it reads.
+-- Words that fit no command are answered `Usage`, or `Memory` where the sink lacks memory for the line. No others are
+-- answered `Usage`. Words that fit are answered `Same` only where two of the command's file names are equal, and then
+-- always, unless memory runs out. An absent input is one that the words name, and each refusal is one that the command
+-- can give (`Knows`). The plan of `net` names further files. So of its answer only this is said: it isn't `Usage`, and
+-- an absent input is one of the four that it reads. The words of `trial` name no file. It is never answered `Same`, and
+-- an absent input is one of the three that it reads.
 abbrev pub IsByWords : Option Command → List (List ℕ) → Status → Type 0
-IsByWords None words status = status ≡ Usage
+IsByWords None words status = (status ≡ Usage) ⊎ (status ≡ Memory)
 IsByWords (Some Net) words status = IsOfNetwork status
 IsByWords (Some Trial) words status = IsOfInputs false 3 status × Knows Trial status
 IsByWords (Some command) words status =

@@ -80,20 +80,16 @@ pub record HasPartLine (IsLine : Status → List ℕ → Type 0) (status : Statu
   pub within : bytes ≤ length text
   pub part : new ≡ printed (take bytes text) old
 
--- the sink refused to print, and counted that
-abbrev pub IsUnprintable : SinkCounts → SinkCounts → Type 0
-IsUnprintable first last = Rose first.faults last.faults ⊎ Rose first.shortages last.shortages
-
--- a line of this status was printed whole, and the sink refused nothing; or the sink refused, and a prefix was printed
+-- a line of this status was printed whole, and the sink refused nothing; or the sink failed, and a prefix was printed
 abbrev pub HasPrinted : (Status → List ℕ → Type 0) → Status → SinkCounts → SinkCounts → Option (List ℕ)
     → Option (List ℕ) → Type 0
 HasPrinted IsLine status first last old new =
     ((last ≡ first) × HasWholeLine IsLine status old new)
-    ⊎ (IsUnprintable first last × HasPartLine IsLine status old new)
+    ⊎ (Rose first.faults last.faults × HasPartLine IsLine status old new)
 
--- What a call with this status printed. It is the whole line of the status, or a prefix of it where the sink refused.
+-- What a call with this status printed. It is the whole line of the status, or a prefix of it where the sink failed.
 -- After `Done` the line is always whole. After `WriteFault` it may also be a prefix of the line of `Done`, where
--- printing that failed. The same holds after `Memory`, where the sink ran out of memory.
+-- printing that failed. After `Memory` it may also be a prefix of any line, where the sink lacked memory for it.
 abbrev pub HasLine : (Status → List ℕ → Type 0) → Status → SinkCounts → SinkCounts → Option (List ℕ)
     → Option (List ℕ) → Type 0
 HasLine IsLine Done first last old new = (last ≡ first) × HasWholeLine IsLine Done old new
@@ -102,5 +98,5 @@ HasLine IsLine WriteFault first last old new =
     ⊎ (Rose first.faults last.faults × HasPartLine IsLine Done old new)
 HasLine IsLine Memory first last old new =
     HasPrinted IsLine Memory first last old new
-    ⊎ (Rose first.shortages last.shortages × HasPartLine IsLine Done old new)
+    ⊎ (Rose first.shortages last.shortages × ((status : Status) × HasPartLine IsLine status old new))
 HasLine IsLine status first last old new = HasPrinted IsLine status first last old new

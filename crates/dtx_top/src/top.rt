@@ -104,24 +104,25 @@ pub fn run<S: Shelf, O: Sink>(alloc: Global, words: &[Word], shelf: &mut S, out:
 
     // If the files are told, the line is that of the result, with the numbers of the meaning, and with the name that
     // the words or the plan give. It is whole unless the sink refused, and else a prefix is printed. Where the sink
-    // refused the line of `Done`, the result is `WriteFault` or `Memory`, and a prefix of the line of `Done` is
-    // printed.
+    // failed at the line of `Done`, the result is `WriteFault`. Where the sink lacked memory for a line, the result is
+    // `Memory`. In both cases a prefix of that line is printed.
     ensures line { IfSome (S.files shelf.old) (λ held. HasLine (IsToldLine (command_of words.now) words.now held) result
         (O.counts out.old) (O.counts out.new) (O.written out.old) (O.written out.new)) }
 
     // Told or not: no count falls. After an I/O error or an absent input its count has risen (`Rose`): that of the
-    // shelf, or that of the sink where the line could not be printed. After any other result, `Memory` too, the shelf's
-    // counts stand. So lack of memory hides no I/O error and no absent file that was counted.
+    // shelf, or that of the sink where the line could not be printed. After any other result the shelf's counts stand,
+    // but for `Memory` where the sink lacked memory for the line.
     ensures gone { HasEnded (S.counts shelf.old) (S.counts shelf.new) (O.counts out.old) (O.counts out.new) result }
 
     // Told or not: the line is that of the result. It has the right number of numbers, but their values are left open.
     ensures untold_line { HasLine (IsSomeLine (command_of words.now) words.now) result
         (O.counts out.old) (O.counts out.new) (O.written out.old) (O.written out.new) }
 
-    // Told or not: what the words alone say of the result. It is `Usage` exactly where they fit no command. It is
-    // `Same` only where two file names are equal, and then always, unless memory runs out. This is not said of `net`,
-    // whose plan gives names too. An absent input is one that the words name, or one of the four that `net` reads or
-    // the three that `trial` reads. Each refusal is one that the command can give (`Knows`).
+    // Told or not: what the words alone say of the result. It is `Usage` only where they fit no command, and there
+    // always unless the sink lacks memory. It is `Same` only where two file names are equal, and then always, unless
+    // memory runs out. This is not said of `net`, whose plan gives names too. An absent input is one that the words
+    // name, or one of the four that `net` reads or the three that `trial` reads. Each refusal is one that the command
+    // can give (`Knows`).
     ensures words { IsByWords (command_of words.now) words.now result }
 
     // How far a network came, whatever the result. One number of steps holds for the files of all transmitters. Each of

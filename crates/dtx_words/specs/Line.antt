@@ -66,9 +66,10 @@ line_at command status outcome name = refusal_line status name
 abbrev pub line_of : Option Command → Outcome → List ℕ → List ℕ
 line_of command outcome name = line_at command outcome.status outcome name
 
--- The final status, given how printing the line ended. Only `Done` becomes another one where the line can't be printed.
+-- The final status, given how printing the line ended. Where the sink lacked memory it is `Memory`. Where it failed,
+-- only `Done` becomes another one.
 abbrev pub finished : Status → Result (Unit {0}) SinkNo → Status
 finished status (Ok _) = status
+finished status (Err sink.Memory) = Memory
 finished Done (Err sink.Failed) = WriteFault
-finished Done (Err sink.Memory) = Memory
-finished status (Err cause) = status
+finished status (Err sink.Failed) = status

@@ -171,15 +171,15 @@ fn put_plan<O: Sink>(no: PlanNo, out: &mut O) -> Result<(), SinkNo>
     )
 }
 
-/// The final status of a command, given how printing its line ended. A `Done` whose line could not be printed becomes
-/// `WriteFault`, or `Memory` where memory ran out. Any other status stays.
+/// The final status of a command, given how printing its line ended. If the sink failed, `Done` becomes `WriteFault`,
+/// and any other status stays. If the sink lacked memory, any status becomes `Memory`.
 pub fn finish(status: Status, printed: Result<(), SinkNo>) -> Status
     ensures { result ≡ finished status printed }
 {
     match printed {
         Ok(()) => status,
         Err(SinkNo::Failed) if status == Status::Done => Status::WriteFault,
-        Err(SinkNo::Memory) if status == Status::Done => Status::Memory,
-        Err(_) => status,
+        Err(SinkNo::Memory) => Status::Memory,
+        Err(SinkNo::Failed) => status,
     }
 }
