@@ -12,7 +12,8 @@ use dtx_sizes::{BRANCHES, FIELD_PACKETS, GROUP_PACKETS, PACKET_DATA, SEGMENT};
 use std::alloc::{AllocError, Global};
 use std::marker::Model;
 
-/// How many groups at the start of a run give no packet. Word k is whole only 52 data segments after it began.
+/// How many groups at the start of a run give no packet. Packet 0 waits for data segment 52, which is in the group
+/// behind these.
 const WAITING: u8 = 13;
 
 /// Receives segments, mends the words of their runs, and gives the transport packets. A symbol of value -128 is

@@ -23,8 +23,8 @@ const BLOCK: usize = 32;
 /// How many rows there are.
 const PLACE_ROWS: usize = HALVES * COEFFICIENTS;
 
-/// The rows of the first block's places. By `steps` the coefficients move on, so that the same rows give the next
-/// block: 11 kB.
+/// The rows of the first block's places, 11 kB. `steps` moves each coefficient on by a block, so that the same rows
+/// give the next block.
 #[derive(Drop)]
 pub struct Places {
     rows: Rows<BLOCK, PLACE_ROWS>,

@@ -31,8 +31,8 @@ fn are_zeros(entry: &[u32; 4]) -> bool
     entry[0] == 0 && entry[1] == 0 && entry[2] == 0 && entry[3] == 0
 }
 
-/// Whether, at every symbol, no entry is more than a step costs: the square of the level, and the entry behind the
-/// step.
+/// Whether, at every symbol, each state's entry is at most what a step from it costs, plus the entry of the state
+/// behind the step.
 fn allow_all_steps(symbols: &[i8], potentials: &[[u32; 4]]) -> bool
     requires { length potentials.now ≡ length symbols.now + 1 }
     ensures { IsTrue result ↔ AllowAllSteps symbols.now potentials.now }
@@ -45,7 +45,7 @@ fn allow_all_steps(symbols: &[i8], potentials: &[[u32; 4]]) -> bool
     true
 }
 
-/// Whether, at one symbol, no entry is more than a step costs.
+/// Whether the same holds at one symbol. `behind` is the entry behind it.
 fn allows_steps(symbol: i8, entry: &[u32; 4], behind: &[u32; 4]) -> bool
     ensures { IsTrue result ↔ AllowsSteps symbol entry.now behind.now }
 {
@@ -60,8 +60,8 @@ fn allows_steps(symbol: i8, entry: &[u32; 4], behind: &[u32; 4]) -> bool
     true
 }
 
-/// Whether the entry of a state is at most what the step by level `z` costs: its square, and the entry of the next
-/// state.
+/// Whether the entry of a state is at most what the step by level `z` costs, plus the entry of the state behind the
+/// step.
 fn allows_step(symbol: i8, z: u8, state: u8, entry: &[u32; 4], behind: &[u32; 4]) -> bool
     requires level { z < LEVELS }
     requires state { state < 4 }
