@@ -93,7 +93,7 @@ pub record Decodes (kept : Decoding) (run : List (List ℤ)) : Type 0 where
   pub waits : kept.waits ≡ 13 - groups_of run
   pub place : kept.place ≡ (4 * groups_of run - 52) % 312
 
--- the packet of a word and its flags, whitened from place `from` of the randomizer's bytes on
+-- the packet of a word and its flags, unwhitened by the randomizer's bytes from place `from` on
 abbrev pub mended_word : ℕ → List ℕ → List ℕ → Received
 mended_word from word flags = received_by from word (mending 207 187 (map is_set flags) word)
 

@@ -1,4 +1,4 @@
-//! Corrects words with one, two or three wrong bytes, without a recurrence.
+//! Words with one, two or three wrong bytes, which are corrected without a recurrence.
 
 ghost use Rattle.std.specs.Prelude.{◌≡◌, ◌≢◌, ◌-◌, ◌<◌, ◌↔◌, IfNone, IfSome, IsFalse, IsTrue, length};
 ghost use Rattle.dtx_galois.specs.Field.{AreBytes};
@@ -10,9 +10,9 @@ use crate::guesses::Guesses;
 use crate::wrong_byte::{WrongByte, one_gives, three_give, two_give};
 use dtx_laws::correcting::ROOM;
 
-/// Corrects a word with `k` bytes of data in which one to three bytes are wrong, and returns how many are. With at
-/// least eight parity bytes nearly all such words are found, and with fewer only some. Where it finds nothing, the word
-/// stays.
+/// Tries to correct a word with `k` bytes of data in which one to three bytes are wrong, and returns how many were.
+/// With at least eight parity bytes nearly all such words are found, and with fewer only some. Where the answer is
+/// `None`, the word stays.
 pub fn mend_few(guesses: &Guesses, word: &mut [u8], syndromes: &[u8; ROOM], k: usize) -> Option<u8>
     requires code { IsCode (length word.old) k }
     requires bytes { AreBytes word.old }
@@ -32,7 +32,7 @@ pub fn mend_few(guesses: &Guesses, word: &mut [u8], syndromes: &[u8; ROOM], k: u
     }
 }
 
-/// Corrects a word with one wrong byte, and returns true. Else the word stays.
+/// Tries to correct a word with one wrong byte. If the answer is true, it did; else the word stays.
 fn mend_one(guesses: &Guesses, word: &mut [u8], syndromes: &[u8; ROOM], k: usize) -> bool
     requires code { IsCode (length word.old) k }
     requires bytes { AreBytes word.old }
@@ -50,7 +50,7 @@ fn mend_one(guesses: &Guesses, word: &mut [u8], syndromes: &[u8; ROOM], k: usize
     }
 }
 
-/// Corrects a word with two wrong bytes, and returns true. Else the word stays.
+/// Tries to correct a word with two wrong bytes. If the answer is true, it did; else the word stays.
 fn mend_two(guesses: &Guesses, word: &mut [u8], syndromes: &[u8; ROOM], k: usize) -> bool
     requires code { IsCode (length word.old) k }
     requires bytes { AreBytes word.old }
@@ -73,7 +73,7 @@ fn mend_two(guesses: &Guesses, word: &mut [u8], syndromes: &[u8; ROOM], k: usize
     false
 }
 
-/// Corrects a word with three wrong bytes, and returns true. Else the word stays.
+/// Tries to correct a word with three wrong bytes. If the answer is true, it did; else the word stays.
 fn mend_three(guesses: &Guesses, word: &mut [u8], syndromes: &[u8; ROOM], k: usize) -> bool
     requires code { IsCode (length word.old) k }
     requires bytes { AreBytes word.old }

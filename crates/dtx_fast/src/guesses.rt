@@ -32,7 +32,7 @@ impl Guesses {
         Guesses { halves, thirds }
     }
 
-    /// The error that gives the first two syndromes, if there is one.
+    /// The error that gives the first two syndromes. Where none gives them, the answer is some other error.
     pub fn one(&self, syndromes: &[u8; ROOM]) -> WrongByte {
         let first = Gf(syndromes[0]).log();
         let second = Gf(syndromes[1]).log();
@@ -95,7 +95,7 @@ impl Guesses {
     }
 }
 
-/// The error of an element that is added, and the power of its place.
+/// The error that adds the element `error` at the place of the power `power`.
 fn wrong_byte(error: Gf, power: Gf) -> WrongByte {
     WrongByte {
         error: error.log(),

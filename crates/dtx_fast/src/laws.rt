@@ -12,7 +12,7 @@ pub fn none_shorter()
         → IsRecurrence (n + 1) k s b → n + 1 ≤ l + k }
 {}
 
-/// Let `l` be at most the order of any recurrence of a word's syndromes. Then `l` is at most the number of wrong
+/// Let `l` be at most the order of each recurrence of a word's syndromes. Then `l` is at most the number of wrong
 /// places.
 pub fn no_longer_than_wrong_places()
     ensures { (n k m l : ℕ) (word code : List ℕ) (s : ℕ → ℕ) → length word ≡ n → IsCorrection n k word code → m ≤ n - k

@@ -62,7 +62,7 @@ pub fn no_zero_divisors()
     ensures { (a b : ℕ) → a < 256 → b < 256 → mul a b ≡ 0 → (a ≡ 0) ⊎ (b ≡ 0) }
 {}
 
-/// The exponents of two powers of an element are added in their product.
+/// The product of two powers of an element is the power by the sum of their exponents.
 pub fn powers()
     ensures { (a i j : ℕ) → pow a (i + j) ≡ mul (pow a i) (pow a j) }
 {}

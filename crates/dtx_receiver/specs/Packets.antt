@@ -34,8 +34,8 @@ received_by from word None = record {
   good = false;
 }
 
--- Packet k of the bytes of a run. `made` gives the correction of a word. The packet is whitened as packet k of a
--- stream.
+-- Packet k of the bytes of a run. `made` gives the correction of a word. The word's data are unwhitened as those of
+-- packet k of a stream.
 abbrev pub packet_at : (List ℕ → Option (List ℕ)) → List ℕ → ℕ → Received
 packet_at made bytes k = received_by (187 * (k % 312)) (word_at 207 52 4 bytes k) (made (word_at 207 52 4 bytes k))
 

@@ -50,8 +50,8 @@ pub(crate) fn through<const B: usize>(
     }
 }
 
-/// Passes the bytes of a group of places from `place` on, and returns the number of these places. As many bytes come to
-/// each of a group's places, and the group is as large as that allows.
+/// Passes the bytes of a group of places from `place` on, and returns how many places these are: 16, 12, 4 or 1. It is
+/// the largest of these numbers for which equally many bytes come to each of the places.
 fn pass_next<const B: usize>(
     rings: &mut [HeapCircularBuffer<u8>],
     next: usize,

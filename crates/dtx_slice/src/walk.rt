@@ -104,8 +104,8 @@ fn four_rounds(before: u8x16, levels: &[u8; GROUP_LEVELS], byte: usize) -> u8x16
     )
 }
 
-/// The same, where neither a segment nor the group ends in the four rounds. The caller gives the levels of the last of
-/// these rounds.
+/// The same, where the four rounds are in one segment and aren't the group's last ones. The caller gives the levels of
+/// the last of the four.
 #[inline(always)]
 fn whole_rounds(before: u8x16, levels: &[u8; GROUP_LEVELS], byte: usize, last: u8x16) -> u8x16
     requires byte { byte < LAST_BYTE }
