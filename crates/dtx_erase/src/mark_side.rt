@@ -18,7 +18,7 @@ use dtx_sizes::{CODEWORD, FIELD_PACKETS, GROUP_LEVELS, GROUP_PACKETS, SEGMENT, S
 use std::alloc::{AllocError, Global};
 use std::marker::Model;
 
-/// After so many groups of zeros the de-interleaver holds zeros alone.
+/// The number of groups of zeros after which the de-interleaver holds zeros alone.
 const CLEARED: u8 = 13;
 
 /// The side of a run's marks; contracts see the side alone. `zeros` counts how many groups of zeros came last, up to

@@ -16,7 +16,7 @@ pub trait Mend<const N: usize, const K: usize> {
 
     /// Sets `word` to its mending, and returns how many bytes that changed, marked or not. `marks` has `true` at the
     /// places where nothing was received, whatever byte stands there. Where there is no mending, the answer is
-    /// `TooMany`, and the word stays. `laws::one_answer` says that there is at most one such answer.
+    /// `TooMany`, and the word stays. By `laws::one_answer` there is at most one answer.
     fn mend(&self, word: &mut [u8; N], marks: &[bool; N]) -> Result<u8, TooMany>
         ensures answer { IsAnswered N K marks.now word.old word.new result }
         ensures long { length word.new ≡ N };

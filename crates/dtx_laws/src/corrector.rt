@@ -15,9 +15,8 @@ pub trait Correct<const N: usize, const K: usize> {
     fn known(&self)
         ensures { IsCode N K };
 
-    /// Sets `word` to the codeword within `(N - K) / 2` places, and returns how many places changed. Where there is no
-    /// such codeword, the answer is `TooMany`, and the word stays. `laws::one_answer` says that there is at most one
-    /// such answer.
+    /// Sets `word` to the codeword within `(N - K) / 2` places, and returns how many places changed. Where there is
+    /// none, the answer is `TooMany`, and the word stays. By `laws::one_answer` there is at most one answer.
     fn correct(&self, word: &mut [u8; N]) -> Result<u8, TooMany>
         ensures answer { MatchResult result (IsCorrected N K word.old word.new) (λ _e. IsLeft N K word.old word.new) }
         ensures long { length word.new ≡ N };

@@ -2,7 +2,7 @@
 ghost use Rattle.std.specs.Prelude.{◌≡◌};
 ghost use Rattle.dtx_sizes.specs.Fields as spec;
 
-/// How many packets make a group. Behind so many, each trellis coder begins a byte again.
+/// How many packets make a group. After a group each trellis coder begins a byte again.
 pub const GROUP_PACKETS: usize = 4;
 
 /// How many packets a field has, which is how many data segments it has.

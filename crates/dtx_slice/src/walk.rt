@@ -19,16 +19,16 @@ const LANES: usize = 16;
 /// and in the next one.
 const FIRST: [u8; LANES] = [0, 0, 64, 64, 160, 160, 224, 224, 0, 0, 0, 0, 0, 0, 0, 0];
 
-/// The same of the second level.
+/// What the second level adds to its byte.
 const SECOND: [u8; LANES] = [0, 0, 16, 16, 40, 40, 56, 56, 0, 0, 0, 0, 0, 0, 0, 0];
 
-/// The same of the third level.
+/// What the third level adds to its byte.
 const THIRD: [u8; LANES] = [0, 0, 4, 4, 10, 10, 14, 14, 0, 0, 0, 0, 0, 0, 0, 0];
 
-/// The same of the fourth level.
+/// What the fourth level adds to its byte.
 const FOURTH: [u8; LANES] = [0, 0, 1, 1, 2, 2, 3, 3, 0, 0, 0, 0, 0, 0, 0, 0];
 
-/// The same of the level before the four.
+/// What the level before the four adds to the byte.
 const BEFORE: [u8; LANES] = [0, 0, 0, 0, 128, 128, 128, 128, 0, 0, 0, 0, 0, 0, 0, 0];
 
 /// The number of each coder's bytes between two on which it works at a segment's end. The first segment has one more in

@@ -15,7 +15,7 @@ pub record IsNearest (scale : ℕ) (symbol : ℤ) (z level square : ℕ) : Type 
       → level ≤ other
 
 -- The tie break of two levels: 1 where the other level comes before this one in order, else 0. It is added to a level's
--- cost, so that the first in order of equally dear levels is taken.
+-- cost, so that the first in order of equally costly levels is taken.
 pub record IsTieBreak (level other tie : ℕ) : Type 0 where
   pub before : other < level → tie ≡ 1
   pub behind : level ≤ other → tie ≡ 0
