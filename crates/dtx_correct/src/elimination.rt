@@ -1,4 +1,4 @@
-//! One step of elimination: one more equation is solved, and one vector at most is given up.
+//! One step of elimination: the kept vectors come to solve one more equation, and at most one of them is given up.
 
 ghost use Rattle.std.specs.Prelude.{◌≡◌, ◌≢◌, ℕ, ◌+◌, ◌<◌, ◌≤◌, [], true, IfNone, IfSome, length, slice_index};
 ghost use Rattle.std.specs.Prelude.{slice_index_or, take};
@@ -11,7 +11,7 @@ use crate::locator::WIDTH;
 use dtx_galois::Gf;
 use dtx_laws::correcting::ROOM;
 
-/// Makes the vectors that are kept solve one more equation, for which one of them at most is given up.
+/// Makes the kept vectors solve one more equation. At most one of them is given up for it.
 pub fn solve_one(
     vectors: &mut [[u8; WIDTH]; WIDTH],
     kept: &mut [bool; WIDTH],
@@ -32,7 +32,7 @@ pub fn solve_one(
     }
 }
 
-/// A kept vector that doesn't solve the equation.
+/// A kept vector that doesn't solve the equation, if there is one.
 fn find_pivot(
     vectors: &[[u8; WIDTH]; WIDTH],
     kept: &[bool; WIDTH],
@@ -55,8 +55,8 @@ fn find_pivot(
     None
 }
 
-/// Adds to each vector the multiple of the pivot's that makes it solve the equation. The power 254 of an element is its
-/// inverse.
+/// Adds to each vector the multiple of the pivot vector that makes it solve the equation. The power 254 of an element
+/// is its inverse.
 fn reduce(
     vectors: &mut [[u8; WIDTH]; WIDTH],
     width: usize,
@@ -80,7 +80,7 @@ fn reduce(
     }
 }
 
-/// Vector k.
+/// A copy of vector `k`.
 fn copied(vectors: &[[u8; WIDTH]; WIDTH], k: usize) -> [u8; WIDTH]
     requires { k < WIDTH }
     ensures { result ≡ slice_index_or vectors.now k [] }
@@ -88,7 +88,7 @@ fn copied(vectors: &[[u8; WIDTH]; WIDTH], k: usize) -> [u8; WIDTH]
     vectors[k]
 }
 
-/// Adds that multiple of the chosen vector to one, within the width.
+/// Adds `chosen` times `factor` to a vector, in the first `width` entries.
 fn add_multiple(vector: &mut [u8; WIDTH], width: usize, chosen: &[u8; WIDTH], factor: Gf)
     requires { width ≤ WIDTH }
     ensures long { length vector.new ≡ WIDTH }
@@ -112,7 +112,7 @@ fn combine(coefficients: &[u8], syndromes: &[u8; ROOM], equation: usize) -> Gf
     sum
 }
 
-/// Adds a multiple of another vector.
+/// Adds `other` times `factor` to a vector.
 fn add_scaled(vector: &mut [u8], other: &[u8], factor: Gf)
     requires { length vector.old ≡ length other.now }
     ensures { vector.new ≡ sums vector.old (scaled factor.0 other.now) }

@@ -9,8 +9,8 @@ use dtx_laws::correcting::{accept, encoded_again, marks_of, patch, syndromes_of}
 use dtx_laws::{Correct, TooMany};
 use dtx_rs::Rs;
 
-/// Corrects words of the code of `N` bytes a word with `K` bytes of data (ATSC A/53 Part 2, Reed-Solomon encoder: the
-/// way back). It holds the code's encoder.
+/// Corrects words of the code with words of `N` bytes and `K` bytes of data (ATSC A/53 Part 2, Reed-Solomon encoder:
+/// the way back). The value holds the code's encoder.
 #[derive(Drop)]
 pub struct Linear<const N: usize, const K: usize> {
     encoder: Rs<N, K>,
@@ -18,7 +18,7 @@ pub struct Linear<const N: usize, const K: usize> {
 }
 
 impl<const N: usize, const K: usize> Linear<N, K> {
-    /// The corrector, with its encoder. It takes no memory.
+    /// A corrector with its encoder. It allocates nothing.
     pub fn new() -> Self
         requires { IsCode N K }
     {
@@ -40,7 +40,8 @@ impl<const N: usize, const K: usize> Correct<N, K> for Linear<N, K> {
     }
 }
 
-/// Makes a word its correction, where it has one, from the codeword that begins with its `k` bytes of data.
+/// Sets a word to its correction. `code` is the codeword that begins with the word's `k` bytes of data. The word's new
+/// bytes are unspecified where it has no correction.
 fn repair(word: &mut [u8], code: &[u8], k: usize)
     requires same { length code.now ≡ length word.old }
     requires code { IsCode (length word.old) k }

@@ -7,11 +7,11 @@ ghost use Rattle.dtx_laws.specs.Locator.{IsLocator, is_marked};
 use crate::elimination::solve_one;
 use dtx_laws::correcting::ROOM;
 
-/// How many coefficients the vectors have room for: more than half as many as a word can have bytes.
+/// The number of coefficients that a vector has room for: more than half as many as a word can have bytes.
 pub const WIDTH: usize = 128;
 
-/// The coefficients of a locator that annuls the first `equations` places. What stands behind the first `equations + 1`
-/// of them doesn't count.
+/// The coefficients of a locator that annuls the first `equations` places. They are the first `equations + 1` entries;
+/// the others are unspecified.
 pub fn find_locator(syndromes: &[u8; ROOM], equations: usize) -> [u8; WIDTH]
     requires { equations < WIDTH }
     ensures long { length (take (equations + 1) result) ≡ equations + 1 }
@@ -26,7 +26,7 @@ pub fn find_locator(syndromes: &[u8; ROOM], equations: usize) -> [u8; WIDTH]
     first_kept(&vectors, &kept, width)
 }
 
-/// The first vector that is kept.
+/// The first kept vector.
 fn first_kept(vectors: &[[u8; WIDTH]; WIDTH], kept: &[bool; WIDTH], width: usize) -> [u8; WIDTH]
     requires few { width ≤ WIDTH }
     requires some { 0 < count (is_marked kept.now) width }

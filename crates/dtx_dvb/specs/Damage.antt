@@ -1,4 +1,4 @@
--- Damage of a stream's bytes, and how much of it is undone (EN 300 429, 7.2: eight bytes of a block).
+-- Damage of a stream's bytes, and how much of it is put right (EN 300 429, 7.2: eight bytes of a block).
 use Rattle.std.specs.Prelude.{ℕ, ◌≡◌, ◌+◌, ◌*◌, ◌<◌, ◌≤◌, ◌⊎◌, List, [], length, slice_index, slice_index_or}
 use Rattle.std.specs.List.{AllByRecursion}
 use Rattle.dtx_galois.specs.Field.{AreBytes}
@@ -8,7 +8,7 @@ use Rattle.dtx_outer.specs.declared.inner.Taken.TheVariants.{Good}
 use Rattle.dtx_dvb.specs.Read.{Read}
 use Rattle.dtx_dvb.specs.Stream.{block_of, dvb}
 
--- each of them has 188 bytes, of which the first is 0x47
+-- each packet has 188 bytes, and its byte 0 is 0x47
 abbrev pub ArePackets : List (List ℕ) → Type 0
 ArePackets packets = AllByRecursion (λ p. (length p ≡ 188) × AreBytes p × (slice_index p 0 ≡ 0x47)) packets
 
@@ -16,23 +16,23 @@ ArePackets packets = AllByRecursion (λ p. (length p ≡ 188) × AreBytes p × (
 unfoldable pub block_in : List (List ℕ) → ℕ → List ℕ
 block_in packets k = block_of k (slice_index_or packets k [])
 
--- in how many places the word that is gathered for packet k differs from the packet's block
+-- in how many places the word gathered for packet k differs from the packet's block
 unfoldable pub wrong_in : List (List ℕ) → List ℕ → ℕ → ℕ
 wrong_in packets bytes k = distance (word_at 204 12 17 bytes k) (block_in packets k)
 
--- The bytes are as many as were sent, and each word that is gathered of them differs from its block in at most eight
+-- There are as many bytes as were sent, and each word gathered from them differs from its block in at most eight
 -- places.
 pub record IsSlight (packets : List (List ℕ)) (bytes : List ℕ) : Type 0 where
   pub as_many : length bytes ≡ 204 * length packets
   pub near : (k : ℕ) → k + 11 < length packets → wrong_in packets bytes k ≤ 8
 
--- The bytes are those that were sent, but for at most 96 in a row from one place on, which may be any numbers.
+-- The bytes are those that were sent, except at most 96 in a row from place `from` on, which may be any numbers.
 pub record IsBurst (packets : List (List ℕ)) (bytes : List ℕ) (from : ℕ) : Type 0 where
   pub as_many : length bytes ≡ 204 * length packets
   pub others : (n : ℕ) → n < length bytes → (n < from) ⊎ (from + 96 ≤ n)
       → slice_index bytes n ≡ slice_index (dvb packets) n
 
--- packet k, read good, where the bytes put right are those in which the word differs from its block
+-- packet k, read `Good`: the bytes put right are those in which the word differs from its block
 unfoldable pub as_corrected : List (List ℕ) → List ℕ → ℕ → Read
 as_corrected packets bytes k = record {
   taken = Good (wrong_in packets bytes k);

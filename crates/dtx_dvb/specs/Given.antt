@@ -1,4 +1,4 @@
--- What a block gives, of what is gathered for it.
+-- What a block gives, from what was gathered for it.
 use Rattle.std.specs.Prelude.{ℕ, List, [], ◌∷◌}
 use Rattle.dtx_outer.specs.declared.inner.Taken.{Taken}
 use Rattle.dtx_outer.specs.declared.inner.Taken.TheVariants.{None, Good, Bad}
@@ -12,7 +12,7 @@ given None packet = []
 given (Good fixed) packet = record { taken = Good fixed; packet = packet } ∷ []
 given Bad packet = record { taken = Bad; packet = packet } ∷ []
 
--- the bytes of a packet that was taken so, with its sync byte
+-- the packet's bytes with its sync byte, and with the error indicator where its word has no correction
 abbrev pub finished : Taken → List ℕ → List ℕ
 finished None bytes = bytes
 finished (Good fixed) bytes = with_sync bytes

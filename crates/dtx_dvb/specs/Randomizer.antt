@@ -9,7 +9,7 @@ use Rattle.std.specs.Int.RustNames.{bit_xor}
 unfoldable pub loaded : List ℕ
 loaded = 0 ∷ 0 ∷ 0 ∷ 0 ∷ 0 ∷ 0 ∷ 0 ∷ 1 ∷ 0 ∷ 1 ∷ 0 ∷ 1 ∷ 0 ∷ 0 ∷ 1 ∷ []
 
--- with one bit more, by the rule o[t] = o[t - 14] + o[t - 15]
+-- a sequence with one bit more, by the rule o[t] = o[t - 14] + o[t - 15]
 abbrev pub with_next : List ℕ → List ℕ
 with_next s = s ++ (bit_xor (slice_index s (length s - 14)) (slice_index s (length s - 15))) ∷ []
 
@@ -18,7 +18,7 @@ unfoldable pub sequence : ℕ → List ℕ
 sequence zero = loaded
 sequence (suc n) = with_next (sequence n)
 
--- o[t]
+-- bit o[t] of the sequence
 unfoldable pub randomizer_bit : ℕ → ℕ
 randomizer_bit t = slice_index (sequence (suc t)) (15 + t)
 

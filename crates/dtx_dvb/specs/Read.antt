@@ -1,4 +1,4 @@
--- A packet as it was read, and what is told of it.
+-- A packet as it was read, and what is counted of it.
 use Rattle.std.specs.Prelude.{ℕ, List}
 use Rattle.std.specs.List.{sum_by}
 use Rattle.dtx_outer.specs.declared.inner.Taken.{Taken}

@@ -1,4 +1,4 @@
--- The packets of the bytes of a stream as they are read (EN 300 429, the way back). The first byte is that of a block
+-- The packets that are read from the bytes of a stream (EN 300 429, the way back). The first byte is that of a block
 -- that begins a group of eight.
 use Rattle.std.specs.Prelude.{ℕ, ◌-◌, ◌*◌, ◌/◌, ◌%◌, Option, Some, None, List, length, map, take, slice_set}
 use Rattle.std.specs.List.{range_with_len}

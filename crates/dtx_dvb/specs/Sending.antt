@@ -8,6 +8,6 @@ use Rattle.dtx_dvb.specs.Stream.{blocks, zero_branches}
 pub record HasSent (packets : List (List ℕ)) (held : Branching) : Type 0 where
   pub branches : held ≡ after_all 12 zero_branches (blocks packets)
 
--- What is kept is that of a stream of which these bytes have come, in whole blocks.
+-- What a reader keeps is what these bytes of a stream leave, which are whole blocks.
 abbrev pub HasRead : List ℕ → Kept → Type 0
 HasRead bytes kept = StandsFor 204 188 12 17 kept bytes

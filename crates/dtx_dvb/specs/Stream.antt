@@ -13,11 +13,11 @@ unfoldable pub randomized : ℕ → List ℕ → List ℕ
 randomized k packet =
     map (λ j. bit_xor (slice_index packet j) (randomizer_byte (188 * (k % 8) + j))) (range_with_len 0 188)
 
--- its block: the codeword of 204 bytes that begins with it (7.2)
+-- the block of packet k: the codeword of 204 bytes that begins with the randomized packet (7.2)
 abbrev pub block_of : ℕ → List ℕ → List ℕ
 block_of k packet = codeword 204 188 (randomized k packet)
 
--- the blocks, one behind the other, of packets that follow each other, the first of them as packet k
+-- the blocks of packets that follow each other, one behind the other; the first is packet k
 unfoldable pub blocks_from : ℕ → List (List ℕ) → List ℕ
 blocks_from k packets = flat_map (λ p. block_of p.0 p.1) (enumerate_from k packets)
 

@@ -1,4 +1,4 @@
-//! The laws of the outer coding, over the definitions: what is read of what was sent.
+//! Laws of the outer coding: what is read from what was sent. They are laws of the definitions.
 
 ghost use Rattle.std.specs.Prelude.{◌≡◌, ◌↔◌, ℕ, ◌+◌, ◌-◌, ◌*◌, ◌/◌, ◌%◌, ◌<◌, ◌≤◌, ◌==◌, if◌then◌else◌, ◌++◌, ◌∷◌};
 ghost use Rattle.std.specs.Prelude.{[]};
@@ -23,9 +23,9 @@ use crate::sizes::{BLOCK, BRANCH_STEP, BRANCHES, PERIOD, PERIOD_PACKETS, WAITING
 use dtx_outer::Taken;
 use dtx_sizes::{PACKET, SYNC};
 
-/// What is read of a stream's bytes, where each word that is gathered of them differs from its block in at most eight
-/// places. It is each packet but the last eleven, in order and as it was sent, and none is flagged. As many bytes are
-/// put right as differ. A packet comes back whatever became of the others.
+/// Let each word that is gathered from a stream's bytes differ from its block in at most eight places. Reading gives
+/// each packet but the last eleven, in order and as it was sent, and flags none. It puts right as many bytes as differ.
+/// A packet comes back whatever became of the others.
 pub fn gives_back()
     ensures read { (packets : List (List ℕ)) (bytes : List ℕ) → ArePackets packets → IsSlight packets bytes
         → read_dvb bytes ≡ map (as_corrected packets bytes) (range_with_len 0 (length packets - WAITING)) }
@@ -40,14 +40,16 @@ pub fn gives_back()
         → wrong_in packets bytes k ≤ 8 → read_at bytes k ≡ as_corrected packets bytes k }
 {}
 
-/// What is read of a stream's bytes as they were sent: no byte is put right. They are slightly damaged ones.
+/// A stream's bytes as they were sent are slightly damaged ones. Reading them gives the packets, and puts no byte
+/// right.
 pub fn undamaged()
     ensures slight { (packets : List (List ℕ)) → IsSlight packets (dvb packets) }
     ensures read { (packets : List (List ℕ)) → ArePackets packets
         → read_dvb (dvb packets) ≡ map as_sent (take (length packets - WAITING) packets) }
 {}
 
-/// A stream's bytes of which at most 96 in a row are wrong, wherever they stand, are slightly damaged ones.
+/// Where at most 96 bytes of a stream in a row are wrong, its bytes are slightly damaged ones, wherever the wrong bytes
+/// stand.
 pub fn burst()
     ensures { (packets : List (List ℕ)) (bytes : List ℕ) (from : ℕ) → IsBurst packets bytes from
         → IsSlight packets bytes }
@@ -73,8 +75,8 @@ pub fn sync_bytes()
         → slice_index (dvb packets) (BLOCK * k) ≡ (if k % PERIOD_PACKETS == 0 then 0xb8 else SYNC) }
 {}
 
-/// What is sent, place by place, and as more packets come: what was sent stays, and the bytes that leave the branches
-/// come behind it.
+/// What is sent, byte by byte. As more packets come, what was sent stays, and the bytes that leave the branches follow
+/// it.
 pub fn sending()
     ensures long { (packets : List (List ℕ)) → length (dvb packets) ≡ BLOCK * length packets }
     ensures at { (packets : List (List ℕ)) (n : ℕ) → n < length (dvb packets)
@@ -90,7 +92,7 @@ pub fn sending()
 {}
 
 /// What is read, as more bytes come. Each block behind the first eleven brings the next packet, which stays, whatever
-/// comes behind it. The packets are those whose words are there, and bytes of no whole block bring none.
+/// comes behind it. A packet is read exactly where all bytes of its word are there. Bytes of no whole block bring none.
 pub fn reading()
     ensures count { (bytes : List ℕ) → length (read_dvb bytes) ≡ length bytes / BLOCK - WAITING }
     ensures at { (bytes : List ℕ) (k : ℕ) (other : Read) → k < length bytes / BLOCK - WAITING
@@ -107,7 +109,7 @@ pub fn reading()
         → read_dvb (bytes ++ loose) ≡ read_dvb bytes }
 {}
 
-/// What is counted of packets that are read in parts, of the packet of a block, and of no packet.
+/// The counts of packets that are read in parts, of the packet of one block, and of no packet.
 pub fn counted()
     ensures fixed_one { (taken : Taken) (packet : List ℕ) → fixed_in (given taken packet) ≡ fixed_of taken }
     ensures flagged_one { (taken : Taken) (packet : List ℕ) → flagged_in (given taken packet) ≡ flag_of taken }
@@ -117,8 +119,8 @@ pub fn counted()
         → flagged_in (before ++ behind) ≡ flagged_in before + flagged_in behind }
 {}
 
-/// The sequence of the randomizer: behind the fifteen bits that it is loaded with, each bit is the sum of those 14 and
-/// 15 places before it.
+/// The sequence of the randomizer. It begins with the fifteen bits that it is loaded with. Each later bit is the sum of
+/// the bits 14 and 15 places before it.
 pub fn the_sequence()
     ensures long { (n : ℕ) → length (sequence n) ≡ 15 + n }
     ensures loaded { (n i : ℕ) → i < 15 → slice_index (sequence n) i ≡ slice_index loaded i }

@@ -10,10 +10,10 @@ use dtx_laws::Whitener;
 use dtx_sizes::PACKET;
 use std::alloc::{AllocError, Global};
 
-/// The bits that the sequence is loaded with, in the order in which they would have left.
+/// The bits that the sequence is loaded with, o[-15] to o[-1].
 const LOADED: [u8; 15] = [0, 0, 0, 0, 0, 0, 0, 1, 0, 1, 0, 1, 0, 0, 1];
 
-/// How many bits leave in a period: none while byte 0 does.
+/// The number of the sequence's bits in a period. Byte 0 takes none of them.
 const PERIOD_BITS: usize = 8 * (PERIOD - 1);
 
 /// The randomizer's bytes for the eight packets of its period, one after another.
@@ -43,7 +43,7 @@ impl Whitener for Dvb {
 }
 
 impl Dvb {
-    /// The bytes, from the bits of the sequence. The only error is out of memory.
+    /// Makes the bytes from the bits of the sequence. The only error is out of memory.
     pub fn new(alloc: Global) -> Result<Dvb, AllocError>
         ensures { IfOk result (λ dvb. ⟦<Dvb as Whitener>⟧.bytes dvb ≡ randomizer_bytes) }
     {
@@ -56,7 +56,7 @@ impl Dvb {
     }
 }
 
-/// The sequence's bits for a period, behind those that it is loaded with.
+/// The sequence's bits for a period, behind the fifteen that it is loaded with. The only error is out of memory.
 fn period_bits(alloc: Global) -> Result<Vec<u8>, AllocError>
     ensures { IfOk result (λ bits. bits.items ≡ sequence PERIOD_BITS) }
 {
@@ -68,7 +68,7 @@ fn period_bits(alloc: Global) -> Result<Vec<u8>, AllocError>
     Ok(bits)
 }
 
-/// Byte `t` of the randomizer: the sequence runs on while a later sync byte leaves as it is.
+/// Byte `t` of the randomizer. At a later sync byte it is 0, and the sequence runs on.
 fn byte_at(t: usize, bits: &[u8]) -> u8
     requires bits { bits.now ≡ sequence PERIOD_BITS }
     requires within { t < PERIOD }
@@ -83,7 +83,7 @@ fn byte_at(t: usize, bits: &[u8]) -> u8
     byte_of(bits, LOADED.len() + 8 * (t - 1))
 }
 
-/// The byte of eight bits, the highest first.
+/// The byte of the eight bits from index `at` on, the highest first.
 fn byte_of(bits: &[u8], at: usize) -> u8
     requires within { at + 8 ≤ length bits.now }
     requires small { EachIndex bits.now (λ i. slice_index bits.now i < 2) }

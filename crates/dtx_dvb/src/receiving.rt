@@ -29,8 +29,8 @@ type OuterDecoding = Inner<
     BRANCH_STEP,
 >;
 
-/// Reads the packets of a stream back (EN 300 429). `HasRead y reader` says that it was given the bytes `y` so far, of
-/// which the first begins the block of a packet at place 0 of a group of eight.
+/// Reads the packets of a stream back from its bytes (EN 300 429). `HasRead y reader` says that the reader was given
+/// the bytes `y` so far. Their first block is that of a packet at place 0 of a group of eight.
 #[derive(Drop)]
 pub struct DvbIn {
     inner: OuterDecoding,
@@ -49,7 +49,7 @@ impl Model for DvbIn {
 }
 
 impl DvbIn {
-    /// At the start of a stream. The only error is out of memory.
+    /// A reader at the start of a stream. The only error is out of memory.
     pub fn new(alloc: Global) -> Result<DvbIn, AllocError>
         ensures { IfOk result (λ reader. HasRead [] reader) }
     {
@@ -58,8 +58,9 @@ impl DvbIn {
         })
     }
 
-    /// The next block, and the packet that it completes: the first eleven blocks complete none, and the packet stays.
-    /// A packet whose word has no correction is `Bad`, and is given as it was gathered, with the error indicator set.
+    /// Takes the next block, and writes the packet that it completes to `packet`. The first eleven blocks complete
+    /// none, and then `packet` stays. Where the packet's word has no correction, the answer is `Bad`. The packet is
+    /// then given as it was gathered, with the error indicator set.
     pub fn block(&mut self, bytes: &[u8; BLOCK], packet: &mut Packet) -> Taken
         ensures none { (y : List ℕ) → HasRead y self.old → length y < BLOCK * WAITING
             → (result ≡ Taken.None) × (packet.new ≡ packet.old) }
@@ -72,8 +73,8 @@ impl DvbIn {
         taken
     }
 
-    /// The next four blocks, and the packets that they complete, each as `block` gives it. Other bytes stand
-    /// in the place of these then.
+    /// Takes the next four blocks, and writes the packets that they complete, each as `block` gives it. Afterwards
+    /// `bytes` holds other bytes.
     pub fn four(
         &mut self,
         bytes: &mut [u8; FOUR_BLOCKS],
@@ -97,7 +98,7 @@ impl DvbIn {
     }
 }
 
-/// Makes the bytes of a packet that was taken so those that are given.
+/// Gives a packet that was taken its sync byte, and its error indicator where the answer is `Bad`.
 fn finish(taken: Taken, packet: &mut [u8; PACKET])
     ensures { packet.new ≡ finished taken packet.old }
 {
@@ -109,7 +110,7 @@ fn finish(taken: Taken, packet: &mut [u8; PACKET])
     packet[0] = SYNC;
 }
 
-/// Sets the error indicator of the packet of these bytes.
+/// Sets the error indicator of a packet, given as its bytes.
 fn flag(bytes: &mut [u8; PACKET])
     ensures { bytes.new ≡ with_error bytes.old }
 {

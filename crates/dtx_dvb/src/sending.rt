@@ -27,7 +27,7 @@ type OuterCoding = Outer<
     BRANCH_STEP,
 >;
 
-/// Codes the packets of a stream (EN 300 429). It is seen as the interleaver's branches. `HasSent packets out` says
+/// Codes the packets of a stream (EN 300 429). Contracts see the interleaver's branches. `HasSent packets out` says
 /// that they hold what these packets leave.
 #[derive(Drop)]
 pub struct DvbOut {
@@ -47,7 +47,7 @@ impl Model for DvbOut {
 }
 
 impl DvbOut {
-    /// At the start of a stream, with zeros in every branch. The only error is out of memory.
+    /// A coder at the start of a stream, with zeros in every branch. The only error is out of memory.
     pub fn new(alloc: Global) -> Result<DvbOut, AllocError>
         ensures { IfOk result (λ out. HasSent [] out) }
     {
@@ -56,8 +56,8 @@ impl DvbOut {
         })
     }
 
-    /// The bytes that leave as the next packet comes, the one at this place of a group of eight: packet k of a stream
-    /// stands at place k mod 8.
+    /// Codes the next packet, and writes the 204 bytes that leave the interleaver. `place` is the packet's place in its
+    /// group of eight: packet k of a stream stands at place k mod 8.
     pub fn packet(&mut self, place: u8, packet: &Packet, out: &mut [u8; BLOCK])
         requires { place < PERIOD_PACKETS }
         ensures bytes { out.new ≡ leaving_all BRANCHES self.old (block_of place packet.now.0) }
@@ -71,8 +71,8 @@ impl DvbOut {
         self.outer.code(place as usize, &packet.0, out);
     }
 
-    /// The bytes that leave as packets come that follow each other, in fours, the first of them at this place of a
-    /// group of eight. They go through the interleaver together.
+    /// Codes packets that follow each other, a multiple of four of them, and writes the bytes that leave. `place` is
+    /// the first one's place in its group of eight, 0 or 4. They go through the interleaver together.
     pub fn batch(&mut self, place: u8, packets: &[[u8; PACKET]], out: &mut [u8])
         requires place { place < PERIOD_PACKETS }
         requires aligned { place % FOUR ≡ 0 }
@@ -90,7 +90,7 @@ impl DvbOut {
     }
 }
 
-/// Sets `words` to the blocks of packets, one behind the other, the first of them at this place of a group of eight.
+/// Sets `words` to the blocks of packets, one behind the other. `place` is the first one's place in its group of eight.
 fn encode_fours(outer: &OuterCoding, place: usize, packets: &[[u8; PACKET]], words: &mut [u8])
     requires white { outer.now.white ≡ randomizer_bytes }
     requires place { place < PERIOD_PACKETS }
@@ -107,7 +107,7 @@ fn encode_fours(outer: &OuterCoding, place: usize, packets: &[[u8; PACKET]], wor
     }
 }
 
-/// Those of four packets.
+/// Sets `words` to the blocks of four packets.
 #[inline(always)]
 fn encode_four(outer: &OuterCoding, place: usize, packets: &[[u8; PACKET]; FOUR], words: &mut [u8])
     requires white { outer.now.white ≡ randomizer_bytes }

@@ -8,7 +8,7 @@ pub const BLOCK: usize = 204;
 /// How many branches the interleaver has (EN 300 429, 7.3).
 pub const BRANCHES: usize = 12;
 
-/// By how many bytes each branch is longer than the one before it.
+/// The number of bytes by which each branch is longer than the one before it.
 pub const BRANCH_STEP: usize = 17;
 
 /// How many packets the randomizer's period has (EN 300 429, 7.1).
@@ -17,11 +17,11 @@ pub const PERIOD_PACKETS: usize = 8;
 /// The randomizer's period, in bytes.
 pub const PERIOD: usize = PACKET * PERIOD_PACKETS;
 
-/// How many blocks of a stream give no packet: the interleaver delays by so many.
+/// The number of blocks by which the interleaver delays. So the first eleven blocks of a stream give no packet.
 pub const WAITING: usize = 11;
 
 /// How many packets are coded together.
 pub const FOUR: usize = 4;
 
-/// Their blocks, in bytes.
+/// The blocks of four packets, in bytes.
 pub const FOUR_BLOCKS: usize = BLOCK * FOUR;

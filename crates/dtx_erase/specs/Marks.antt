@@ -10,12 +10,13 @@ abbrev pub is_missing : ℤ → Bool
 is_missing (pos n) = false
 is_missing (negsuc n) = n == 127
 
--- the same of the data symbols of a run's whole groups, one behind the other
+-- for each data symbol of a run's whole groups, in order, whether nothing was received of it
 unfoldable pub missing_in : List (List ℤ) → List Bool
 missing_in run = flat_map (λ d. map is_missing (drop 4 (data_at run d))) (range_with_len 0 (4 * groups_of run))
 
--- The same of the symbol of coder e before its round r. Before round 0 it is one of the last twelve symbols of the
--- run's first field sync, of which number q is of coder (q + 8) mod 12. Later field syncs count for nothing.
+-- Whether nothing was received of the symbol of coder e before its round r. Before round 0 this is one of the last
+-- twelve symbols of the run's first field sync, where number q is of coder (q + 8) mod 12. Later field syncs count for
+-- nothing.
 unfoldable pub was_missing : List (List ℤ) → ℕ → ℕ → Bool
 was_missing run r e =
     if r == 0
@@ -23,7 +24,7 @@ was_missing run r e =
     else slice_index_or (missing_in run) (symbol_place 0 (r - 1) e) false
 
 -- Byte j of a run is marked where the symbol of one of its four pairs is missing, or the one of its coder before them.
--- For the bit X2 of a pair is decoded from Z2 of two symbols in a row.
+-- The earlier one matters since the bit X2 of a pair is decoded from Z2 of two symbols in a row.
 unfoldable pub is_marked : List (List ℤ) → ℕ → Bool
 is_marked run j =
     let r : ℕ = 4 * (j / 12) in
@@ -35,8 +36,8 @@ is_marked run j =
 unfoldable pub marks_in : List (List ℤ) → List Bool
 marks_in run = map (is_marked run) (range_with_len 0 (length (bytes_in run)))
 
--- A symbol as its mark: 7, of level 7, where it is missing, and else -7, of level 0. So a run of such symbols has the
--- byte 0 just where no byte is marked: the marks go the way of the bytes.
+-- A symbol as its mark: 7, of level 7, where it is missing, else -7, of level 0. A byte of a run of these symbols is 0
+-- exactly where the run's byte isn't marked. So the marks are decoded as bytes are.
 abbrev pub shown : ℤ → ℤ
 shown symbol = if is_missing symbol then pos 7 else negsuc 6
 
@@ -44,11 +45,11 @@ shown symbol = if is_missing symbol then pos 7 else negsuc 6
 abbrev pub shown_run : List (List ℤ) → List (List ℤ)
 shown_run run = map (map shown) run
 
--- whether a byte of such a run marks
+-- whether a byte of a run of marks is a mark
 abbrev pub is_set : ℕ → Bool
 is_set flag = if flag == 0 then false else true
 
--- no symbol of a segment is missing, and none of some segments
+-- no symbol of a segment is missing; `AllThere` says it of each segment of a list
 abbrev pub AreThere : List ℤ → Type 0
 AreThere segment = AllByRecursion (λ symbol. is_missing symbol ≡ false) segment
 

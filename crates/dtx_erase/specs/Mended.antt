@@ -28,11 +28,11 @@ mended_at bytes marks k = packet_at (mending 207 187 (marks_at marks k)) bytes k
 unfoldable pub mended_run_packets : List ℕ → List Bool → List Received
 mended_run_packets bytes marks = packets_by (mended_at bytes marks) (length bytes)
 
--- those that are given while the run is on
+-- the packets of a run that are given while it is on
 unfoldable pub mended_early : List ℕ → List Bool → List Received
 mended_early bytes marks = early_by (mended_at bytes marks) (length bytes)
 
--- of the segments of a run
+-- the packets of a run, from its segments
 abbrev pub mended_run : List (List ℤ) → List Received
 mended_run run = mended_run_packets (bytes_in run) (marks_in run)
 
@@ -43,7 +43,7 @@ mended_run_early run = mended_early (bytes_in run) (marks_in run)
 unfoldable pub all_mended : List (List ℤ) → List Received
 all_mended segments = flat_map mended_run (runs segments)
 
--- those that are given before the list ends
+-- the packets of a list of segments that are given before the list ends
 unfoldable pub mended_so_far : List (List ℤ) → List Received
 mended_so_far segments = so_far_of mended_run mended_run_early segments
 

@@ -11,9 +11,9 @@ use Rattle.dtx_receiver.specs.Receiver.{AreLevels, Grouping, Kept, Stands}
 use Rattle.dtx_erase.specs.Marks.{shown_run, is_set}
 use Rattle.dtx_erase.specs.Mended.{mending}
 
--- What is kept of one side of a run, of its bytes or of its marks. Beside its groups and the de-interleaver these are
--- the last 156 bytes that it gave, which begin a word. And there is room for what it gives: what it gave last stands
--- there, behind the bytes that began its first word.
+-- What is kept of one side of a run: of its bytes, or of its marks. `begun` has the last 156 bytes that the
+-- de-interleaver gave, which begin a word. `gathered` has what it gave last, behind the bytes that began the first
+-- word.
 pub record Side : Type 0 where
   pub groups : Grouping
   pub branches : Branching
@@ -24,8 +24,8 @@ pub record Side : Type 0 where
 abbrev pub word_of : List ℕ → ℕ → List ℕ
 word_of gathered p = take 207 (drop (207 * p) gathered)
 
--- the de-interleaver holds what a run leaves that has given the bytes y, in so many groups of 828, and these begin the
--- next word
+-- The de-interleaver holds what the bytes y of a run leave, which are those of `groups` groups, 828 each. `begun` has
+-- the last 156 bytes that it gave, which begin the next word.
 pub record Gathers (held : Branching) (begun : List ℕ) (groups : ℕ) (y : List ℕ) : Type 0 where
   pub start : Branching
   pub widths : HasWidths 52 (gathering 52 4) start
@@ -34,18 +34,18 @@ pub record Gathers (held : Branching) (begun : List ℕ) (groups : ℕ) (y : Lis
   pub branches : held ≡ after_all 52 start y
   pub rest : 0 < groups → begun ≡ drop (828 * groups - 156) (leaving_all 52 start y)
 
--- what is kept is that of a run with these segments: no bytes of its groups are held
+-- what is kept is what the segments of a run leave, and no bytes of its groups are held
 pub record Holds (kept : Side) (run : List (List ℤ)) : Type 0 where
   pub levels : AreLevels kept.groups.levels kept.groups.precoder_bits run
   pub none : kept.groups.held ≡ []
   pub gathers : Gathers kept.branches kept.begun (groups_of run) (bytes_in run)
 
--- The words that the bytes y of a run complete by so many groups, which are behind others.
+-- The gathered words are those that the bytes y of a run complete by `groups` groups, which are behind `before` others.
 abbrev pub AreWords : List ℕ → ℕ → ℕ → List ℕ → Type 0
 AreWords gathered before groups y =
     (k p : ℕ) → p < 4 * groups → k + 52 ≡ 4 * before + p → word_of gathered p ≡ word_at 207 52 4 y k
 
--- what is kept is that of a longer run, which has so many groups more, and their words are gathered
+-- what is kept is that of a longer run, which has `groups` whole groups more, and the words of these are gathered
 pub record IsFurther (new : Side) (groups : ℕ) (run longer : List (List ℤ)) : Type 0 where
   pub holds : Holds new longer
   pub more : List ℕ
@@ -53,7 +53,7 @@ pub record IsFurther (new : Side) (groups : ℕ) (run longer : List (List ℤ)) 
   pub count : groups_of longer ≡ groups_of run + groups
   pub words : AreWords new.gathered (groups_of run) groups (bytes_in longer)
 
--- zeros came last to the branches, of so many groups
+-- the last `groups` groups of bytes that the branches took were zeros
 pub record HaveCome (groups : ℕ) (branches : Branching) : Type 0 where
   pub before : Branching
   pub widths : HasWidths 52 (gathering 52 4) before
@@ -72,13 +72,15 @@ pub record IsQuiet (side : Side) : Type 0 where
   pub branches : AreClear side.branches
   pub begun : side.begun ≡ replicate 156 0
 
--- what is known of the marks' side: how many groups without a mark came last, and whether no mark is in it
+-- What is known of the marks' side. The last `groups` groups of bytes were zeros. Where `quiet` is true, no mark is in
+-- it.
 pub record AreKnown (side : Side) (groups : ℕ) (quiet : Bool) : Type 0 where
   pub held : side.groups.held ≡ []
   pub come : HaveCome groups side.branches
   pub none : quiet ≡ true → IsQuiet side
 
--- both sides of a run, how many groups more give no packet, and the next packet's place among 312
+-- What a decoder keeps: both sides of a run, how many groups more give no packet, and the next packet's place among the
+-- 312 of a field.
 pub record Decoding : Type 0 where
   pub bytes : Side
   pub marks : Side
@@ -91,17 +93,17 @@ pub record Decodes (kept : Decoding) (run : List (List ℤ)) : Type 0 where
   pub waits : kept.waits ≡ 13 - groups_of run
   pub place : kept.place ≡ (4 * groups_of run - 52) % 312
 
--- the packet of a word and its flags, unwhitened from a place on
+-- the packet of a word and its flags, unwhitened by the randomizer's bytes from place `from` on
 abbrev pub mended_word : ℕ → List ℕ → List ℕ → Received
 mended_word from word flags = received_by from word (mending 207 187 (map is_set flags) word)
 
--- The packet of gathered word p. The words before those of the first group that gives packets give none.
+-- The packet of gathered word p. The first 4 * waits gathered words give none.
 unfoldable pub packet_of : Decoding → ℕ → Received
 packet_of kept p =
     mended_word (187 * ((kept.place + (p - 4 * kept.waits)) % 312)) (word_of kept.bytes.gathered p)
     (word_of kept.marks.gathered p)
 
--- The packets of so many groups were given, whose words are gathered: all of those behind the groups that give none.
+-- The packets of `groups` groups, whose words are gathered, were given. The first `waits` groups give none.
 pub record AreGiven (kept new : Decoding) (groups : ℕ) (given : List Received) : Type 0 where
   pub bytes : new.bytes ≡ kept.bytes
   pub marks : new.marks ≡ kept.marks

@@ -12,15 +12,17 @@ use dtx_sizes::{BRANCHES, FIELD_PACKETS, GROUP_PACKETS, PACKET_DATA, SEGMENT};
 use std::alloc::{AllocError, Global};
 use std::marker::Model;
 
-/// How many groups of a run give no packet.
+/// How many groups at the start of a run give no packet. Packet 0 waits for data segment 52, which is in the group
+/// behind these.
 const WAITING: u8 = 13;
 
-/// Receives the transport packets of segments, some of whose symbols are missing. A symbol of value -128 says that
-/// nothing was received there: a byte that rests on such a symbol costs its word one parity byte, a wrong byte costs
-/// two. `Mends receiver segments` says that the receiver holds what these segments leave.
+/// Receives segments, mends the words of their runs, and gives the transport packets. A symbol of value -128 is
+/// missing: nothing was received there. A byte that rests on a missing symbol costs its word one parity byte, and a
+/// wrong byte costs two. `Mends receiver segments` says that the receiver holds what these segments leave.
 pub type MendReceiver = RunReceiver<MendDecoder>;
 
-/// Decodes a run, and mends its words. `Decodes decoder run` says that it holds what the segments of the run leave.
+/// Decodes the segments of a run to packets, and mends its words. `Decodes decoder run` says that the decoder holds
+/// what the segments of the run leave.
 #[derive(Drop)]
 pub struct MendDecoder {
     bytes: Side,
@@ -94,7 +96,7 @@ impl RunDecoder for MendDecoder {
 }
 
 impl MendDecoder {
-    /// Gives the packets of so many groups, whose words are gathered.
+    /// Adds the packets of the last `groups` groups to the batch. Their words are gathered.
     fn give_groups(&mut self, groups: usize, batch: &mut Batch)
         requires most { groups ≤ HELD_GROUPS }
         requires place { self.old.place < FIELD_PACKETS }
@@ -107,7 +109,7 @@ impl MendDecoder {
         }
     }
 
-    /// Gives the packets of one of the groups whose words are gathered, once enough groups have come before.
+    /// Adds the packets of one of these groups to the batch. The first 13 groups of a run give none.
     fn give_group(&mut self, group: usize, batch: &mut Batch)
         requires group { group < HELD_GROUPS }
         requires room { length batch.old.packets.items + 4 ≤ MOST_RECEIVED }

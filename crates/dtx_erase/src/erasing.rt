@@ -1,4 +1,4 @@
-//! What mends words of a code.
+//! The mender of a code's words.
 
 ghost use Rattle.std.specs.Prelude.{◌≡◌, ◌↔◌, ◌+◌, ◌-◌, ◌*◌, ◌≤◌, ℕ, List, IsTrue, MatchResult, length};
 ghost use Rattle.dtx_galois.specs.Field.{AreBytes};
@@ -14,8 +14,8 @@ use dtx_fast::{Fast, find_recurrence};
 use dtx_laws::correcting::{ROOM, distance, encoded_again};
 use dtx_laws::{Correct, TooMany};
 
-/// Mends words of the code of `N` bytes a word with `K` bytes of data. It holds the code's corrector, 45 kB, so make
-/// one and keep it.
+/// Mends words of the code with words of `N` bytes and `K` bytes of data. The value holds 45 kB of tables, so make one
+/// and keep it.
 #[derive(Drop)]
 pub struct Erase<const N: usize, const K: usize> {
     corrector: Fast<N, K>,
@@ -23,7 +23,7 @@ pub struct Erase<const N: usize, const K: usize> {
 }
 
 impl<const N: usize, const K: usize> Erase<N, K> {
-    /// What mends words, with its tables. It takes no memory.
+    /// A mender with the tables of its code. It allocates nothing.
     pub fn new() -> Self
         requires { IsCode N K }
     {
@@ -32,15 +32,15 @@ impl<const N: usize, const K: usize> Erase<N, K> {
         }
     }
 
-    /// Corrects four words, which is to mend them where no place is marked.
+    /// Corrects four words. Where no place is marked, corrections are mendings.
     pub(crate) fn correct_four(&self, words: &mut [[u8; N]; 4]) -> [Result<u8, TooMany>; 4]
         ensures { AreCorrected N K words.old words.new result }
     {
         self.corrector.correct_four(words)
     }
 
-    /// Mends a word by its correction, where that is the mending. It isn't tried where more bytes are missing than a
-    /// correction changes.
+    /// Replaces a word by its correction, if this is also its mending. Else the word stays, and the answer is
+    /// `TooMany`. Nothing is tried where more bytes are missing than a correction changes.
     fn mend_by_correction(
         &self,
         word: &mut [u8; N],
@@ -58,7 +58,7 @@ impl<const N: usize, const K: usize> Erase<N, K> {
         accept::<N, K>(word, &tried, marks)
     }
 
-    /// Mends a word of which no more places are marked than there are parity bytes.
+    /// Mends a word of which at most `N - K` places are marked.
     fn mend_marked(&self, word: &mut [u8; N], marks: &[bool; N]) -> Result<u8, TooMany>
         requires { lost marks.now ≤ N - K }
         ensures answer { IsAnswered N K marks.now word.old word.new result }
@@ -104,7 +104,8 @@ impl<const N: usize, const K: usize> Mend<N, K> for Erase<N, K> {
     }
 }
 
-/// Takes a codeword in place of the word, where it is the word's mending.
+/// Replaces a word by a codeword, if that is the word's mending, and returns how many bytes changed. Else the word
+/// stays.
 fn accept<const N: usize, const K: usize>(
     word: &mut [u8; N],
     code: &[u8; N],
@@ -125,7 +126,8 @@ fn accept<const N: usize, const K: usize>(
     }
 }
 
-/// Whether a codeword is so near to a word that so many parity bytes are enough.
+/// Whether `room` parity bytes are enough to mend a word to a codeword: two for each unmarked byte in which they
+/// differ, and one for each marked place.
 fn is_near<const N: usize>(word: &[u8; N], code: &[u8; N], marks: &[bool; N], room: usize) -> bool
     requires few { N ≤ 255 }
     requires room { room ≤ N }
@@ -135,7 +137,7 @@ fn is_near<const N: usize>(word: &[u8; N], code: &[u8; N], marks: &[bool; N], ro
     2 * wrong + lost(&marks[..]) <= room
 }
 
-/// Makes a word its mending, where it has one, by its syndromes.
+/// Sets a word to its mending, from its syndromes. The word's new bytes are unspecified where it has no mending.
 fn restore(word: &mut [u8], syndromes: &[u8; ROOM], marks: &[bool], k: usize)
     requires marks { length marks.now ≡ length word.old }
     requires code { IsCode (length word.old) k }

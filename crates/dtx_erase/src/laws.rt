@@ -1,5 +1,5 @@
-//! The laws of mendings, over the definitions and for every `n` and `k`: so they hold of everything that mends. And the
-//! laws of what is received where symbols are missing.
+//! Laws of mendings, for every `n` and `k`. They are laws of the definitions, so they hold of each mender. The last
+//! ones are about the packets of segments with missing symbols.
 
 ghost use Rattle.std.specs.Prelude.{◌≡◌, ℕ, ℤ, Bool, true, List, [], ◌∷◌, ◌++◌, ◌+◌, ◌-◌, ◌*◌, ◌%◌, ◌≤◌, length, map};
 ghost use Rattle.dtx_laws.specs.Codeword.{IsCodeword, IsCorrection, distance};
@@ -19,7 +19,7 @@ pub fn one_mending()
         → IsMending n k marks word a → IsMending n k marks word b → a ≡ b }
 {}
 
-/// There is just one answer to a word and its marks.
+/// A word and its marks have at most one answer.
 pub fn one_answer()
     ensures same { (n k : ℕ) (marks : List Bool) (word a b : List ℕ) (c d : ℕ) → n ≤ 255 → length word ≡ n
         → length marks ≡ n → IsMended n k marks word a c → IsMended n k marks word b d → (a ≡ b) × (c ≡ d) }
@@ -35,15 +35,14 @@ pub fn without_marks()
         → lost marks ≡ 0 → IsCorrection n k word code → IsMending n k marks word code }
 {}
 
-/// A codeword of which no more places are marked than there are parity bytes is its own mending, which changes no
-/// place.
+/// A codeword with at most `n - k` marked places is its own mending, which changes no byte.
 pub fn codeword_mended()
     ensures { (n k : ℕ) (marks : List Bool) (word : List ℕ) → IsCodeword n k word → lost marks ≤ n - k
         → IsMended n k marks word word 0 }
 {}
 
-/// A codeword of which e unmarked bytes became wrong is the mending, whatever stands at the f marked places, where `2 *
-/// e + f` is at most `n - k`.
+/// Let e unmarked bytes of a codeword become wrong, and let f places be marked, where `2 * e + f` is at most `n - k`.
+/// The codeword is the only mending of this word, whatever stands at the marked places.
 pub fn damage_mended()
     ensures only { (n k : ℕ) (marks : List Bool) (code word : List ℕ) → n ≤ 255 → length word ≡ n → length marks ≡ n
         → IsCodeword n k code → 2 * unmarked_distance marks word code + lost marks ≤ n - k
@@ -52,8 +51,7 @@ pub fn damage_mended()
         → 2 * unmarked_distance marks word code + lost marks ≤ n - k → IsMending n k marks word code }
 {}
 
-/// Where no symbol is missing, each packet is as `Receiver` gives it, with how many bytes were put right and whether
-/// its word had a correction.
+/// Where no symbol is missing, the packets are those of `Receiver`, with the same `fixed` and `good`.
 pub fn nothing_missing()
     ensures packets { (segments : List (List ℤ)) → AllThere segments → all_mended segments ≡ all_packets segments }
     ensures so_far { (segments : List (List ℤ)) → AllThere segments
@@ -61,8 +59,8 @@ pub fn nothing_missing()
     ensures bytes { (segments : List (List ℤ)) → AllThere segments → mended segments ≡ received segments }
 {}
 
-/// Let a packet's word differ from a codeword in e unmarked bytes, where f are marked and `2 * e + f` is at most 20. It
-/// gives the codeword's packet, whatever stands at the marked places.
+/// Let a packet's word differ from a codeword in e unmarked bytes, and let f of its bytes be marked, where `2 * e + f`
+/// is at most 20. The word gives the codeword's packet, whatever stands at the marked places.
 pub fn near_packet()
     ensures { (bytes : List ℕ) (marks : List Bool) (k : ℕ) (code : List ℕ) → IsCodeword CODEWORD PACKET_DATA code
         → 2 * unmarked_distance (marks_at marks k) (word_at CODEWORD BRANCHES BRANCH_STEP bytes k) code
@@ -74,14 +72,15 @@ pub fn near_packet()
         } }
 {}
 
-/// As many packets are given as `Receiver` gives, whatever is missing, and as many while the segments come.
+/// Whatever is missing, the number of packets is the one that `Receiver` gives, for the whole list and before its end.
 pub fn as_many()
     ensures all { (segments : List (List ℤ)) → length (all_mended segments) ≡ length (all_packets segments) }
     ensures so_far { (segments : List (List ℤ))
         → length (mended_so_far segments) ≡ length (packets_so_far segments) }
 {}
 
-/// What is given with one segment more, and what is left at the end of the list, comes behind what was given before.
+/// The packets that one segment more brings follow those given before. So do those that are left at the end of the
+/// list.
 pub fn goes_on()
     ensures none { mended_so_far [] ≡ [] }
     ensures segment { (segments : List (List ℤ)) (x : List ℤ)
@@ -90,8 +89,8 @@ pub fn goes_on()
         × (all_mended segments ≡ mended_so_far segments ++ brought) }
 {}
 
-/// The marks of a run are the bytes other than 0 of the run in which each missing symbol is 7 and any other -7. So
-/// whatever is done with bytes does for marks.
+/// Let each missing symbol of a run become 7, and any other one -7. A byte of the run is marked exactly where the byte
+/// of this new run isn't 0. So code that decodes bytes decodes marks too.
 pub fn marks_as_bytes()
     ensures { (run : List (List ℤ)) → marks_in run ≡ map is_set (bytes_in (shown_run run)) }
 {}

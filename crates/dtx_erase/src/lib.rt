@@ -1,5 +1,5 @@
-//! Mends words of which some bytes are missing: a missing byte costs one parity byte, a wrong one costs two. And a
-//! receiver that knows which symbols are missing.
+//! Mends words with missing bytes: a missing byte costs one parity byte, and a wrong byte costs two. `MendReceiver`
+//! receives segments with missing symbols by it.
 #![tactic(auto)]
 
 mod decoder;

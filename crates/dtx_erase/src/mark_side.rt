@@ -1,4 +1,4 @@
-//! The side of a run's marks, in which mostly no mark is.
+//! The side of a run's marks. Most runs have few marks, or none, so groups without a mark take a shorter way.
 
 ghost use Rattle.std.specs.Prelude.{◌≡◌, ℕ, ℤ, IsFalse, IsTrue, ◌↔◌, ◌+◌, ◌*◌, ◌/◌, ◌%◌, ◌<◌, ◌≤◌, ◌++◌, ◌∷◌};
 ghost use Rattle.std.specs.Prelude.{true, ◌≢◌, [], List, length, map, negsuc, replicate, slice_index_or};
@@ -18,12 +18,12 @@ use dtx_sizes::{CODEWORD, FIELD_PACKETS, GROUP_LEVELS, GROUP_PACKETS, SEGMENT, S
 use std::alloc::{AllocError, Global};
 use std::marker::Model;
 
-/// After how many groups of zeros the de-interleaver holds nothing else.
+/// The number of groups of zeros after which the de-interleaver holds zeros alone.
 const CLEARED: u8 = 13;
 
-/// The side of a run's marks. It is seen as the side alone. Beside it stand how many groups of zeros came last, as far
-/// as they are counted, and whether all that is kept is known to be 0. Then segments of which no symbol is missing
-/// change nothing but the de-interleaver's turn.
+/// The side of a run's marks; contracts see the side alone. `zeros` counts how many groups of zeros came last, up to
+/// 13. `quiet` is set only where all that the side keeps is 0. Then segments without a missing symbol change nothing
+/// but the de-interleaver's turn.
 #[derive(Drop)]
 pub(crate) struct MarkSide {
     side: Side,
@@ -43,7 +43,7 @@ impl Model for MarkSide {
 }
 
 impl MarkSide {
-    /// Of no run.
+    /// The side of no run. The only error is out of memory.
     pub(crate) fn new(alloc: Global) -> Result<MarkSide, AllocError> {
         let side = Side::new(alloc)?;
         side.known();
@@ -54,7 +54,7 @@ impl MarkSide {
         })
     }
 
-    /// A run begins with this field sync.
+    /// Begins a run with this field sync.
     pub(crate) fn begin(&mut self, sync: &[i8; SEGMENT])
         ensures { Holds self.new (map shown sync.now ∷ []) }
     {
@@ -64,8 +64,8 @@ impl MarkSide {
         self.quiet = false;
     }
 
-    /// The next data segments of the run, as the bytes of their symbols. The first is at this place of its field. The
-    /// words of the groups that they make whole are gathered.
+    /// Takes the next data segments of the run, given as the bytes of their symbols. `place` is the first one's place
+    /// in its field. The words of the groups that become whole are gathered.
     pub(crate) fn take_all(&mut self, place: u16, segments: &[[u8; SEGMENT]])
         requires place { place + length segments.now ≤ FIELD_PACKETS }
         requires most { length segments.now ≤ GROUP_PACKETS * HELD_GROUPS }
@@ -81,7 +81,8 @@ impl MarkSide {
         }
     }
 
-    /// If it answers true, all that is kept is 0, and so are the levels of the segments' marks.
+    /// Whether a shorter way is allowed. If the answer is true, all that the side keeps is 0, and so are the levels of
+    /// the segments' marks.
     fn stays_quiet(&self, segments: &[[u8; SEGMENT]]) -> bool
         ensures quiet { IsTrue result → IsQuiet self.now }
         ensures none { IsTrue result → AllByRecursion (λ x. sliced_data x ≡ replicate SEGMENT_LEVELS 0)
@@ -90,7 +91,7 @@ impl MarkSide {
         self.quiet && !any_missing(segments.as_flattened())
     }
 
-    /// The next data segments, of which no symbol is missing, where all that is kept is 0: so many.
+    /// Takes the next `count` data segments. No symbol of them is missing, and all that the side keeps is 0.
     fn take_quiet(&mut self, place: u16, count: usize)
         requires place { place + count ≤ FIELD_PACKETS }
         requires most { count ≤ GROUP_PACKETS * HELD_GROUPS }
@@ -105,7 +106,7 @@ impl MarkSide {
         self.zeros = 0;
     }
 
-    /// The next data segments, whatever their marks.
+    /// Takes the next data segments, whatever their marks.
     fn take_any(&mut self, place: u16, segments: &[[u8; SEGMENT]])
         requires place { place + length segments.now ≤ FIELD_PACKETS }
         requires most { length segments.now ≤ GROUP_PACKETS * HELD_GROUPS }
@@ -126,7 +127,8 @@ impl MarkSide {
         self.quiet = is_over(whole, lowest, zeros, empty);
     }
 
-    /// The four words of marks that one of the groups completed that were gathered last.
+    /// The four words of marks that one of the last groups completed. `group` counts the groups that were gathered
+    /// together last.
     pub(crate) fn words(&self, group: usize) -> [[u8; CODEWORD]; 4]
         requires { group < HELD_GROUPS }
         ensures words { (p : ℕ) → p < 4 → slice_index_or result p [] ≡ word_of self.now.gathered (4 * group + p) }
@@ -135,7 +137,7 @@ impl MarkSide {
         self.side.words(group)
     }
 
-    /// The word of marks that is left at the end of a run whose data segments are a multiple of 52.
+    /// The word of marks that is left at the end of a run, where 52 divides the number of data segments.
     pub(crate) fn last_word(&mut self) -> [u8; CODEWORD]
         ensures { (run : List (List ℤ)) (k : ℕ) → Holds self.old run → k + 52 ≡ 4 * groups_of run → k % 52 ≡ 0
             → result ≡ word_at 207 52 4 (bytes_in run) k }
@@ -148,7 +150,7 @@ impl MarkSide {
     }
 }
 
-/// The side of marks takes the next data segments of a run. The bytes of the groups that they make whole are held.
+/// Takes the next data segments of a run, as marks. The side holds the bytes of the groups that become whole.
 fn take_marks(side: &mut Side, place: u16, segments: &[[u8; SEGMENT]])
     requires place { place + length segments.now ≤ FIELD_PACKETS }
     requires most { length segments.now ≤ GROUP_PACKETS * HELD_GROUPS }
@@ -167,7 +169,7 @@ fn take_marks(side: &mut Side, place: u16, segments: &[[u8; SEGMENT]])
     }
 }
 
-/// Whether so many segments, from a place on, end with a whole group.
+/// Whether `count` segments, from place `place` on, end with a whole group.
 fn is_whole(place: u16, count: usize) -> bool
     requires place { place < FIELD_PACKETS }
     requires count { count ≤ GROUP_PACKETS * HELD_GROUPS }
@@ -176,15 +178,16 @@ fn is_whole(place: u16, count: usize) -> bool
     (place as usize + count) % GROUP_PACKETS == 0
 }
 
-/// Whether it is known that all that is kept is 0: the levels that came last, of a whole group, what so many groups of
-/// zeros leave, and the bytes that begin a word.
+/// Whether all that the side keeps is known to be 0. For this the segments end with a whole group, whose levels are 0.
+/// The last 13 groups were zeros, and so are the bytes that begin a word.
 fn is_over(whole: bool, levels: bool, zeros: u8, begun: bool) -> bool
     ensures { IsTrue result ↔ ((whole ≡ true) × (levels ≡ true) × (zeros ≡ CLEARED) × (begun ≡ true)) }
 {
     whole && levels && zeros == CLEARED && begun
 }
 
-/// How many groups of zeros came last with so many groups more, as far as they are counted.
+/// How many groups of zeros came last, up to 13, after `groups` groups more. `zeros` says whether all bytes of these
+/// are 0.
 fn counted(before: u8, zeros: bool, groups: usize) -> u8
     requires before { before ≤ CLEARED }
     requires groups { groups ≤ HELD_GROUPS }
@@ -198,7 +201,7 @@ fn counted(before: u8, zeros: bool, groups: usize) -> u8
     (before as usize + groups).min(CLEARED as usize) as u8
 }
 
-/// If it answers false, no symbol of these bytes is missing.
+/// Whether a symbol may be missing. If the answer is false, no symbol of these bytes is missing.
 fn any_missing(bytes: &[u8]) -> bool
     ensures { IsFalse result → (i : ℕ) → i < length bytes.now
         → cast_signed w8 (slice_index_or bytes.now i 0) ≢ negsuc 127 }
@@ -210,7 +213,7 @@ fn any_missing(bytes: &[u8]) -> bool
     any
 }
 
-/// The symbols of a segment as marks: 7 where one is missing, and else -7.
+/// The symbols of a segment as marks: 7 where one is missing, else -7.
 fn as_marks(segment: &[i8; SEGMENT]) -> [i8; SEGMENT]
     ensures { result ≡ map shown segment.now }
 {
@@ -221,7 +224,7 @@ fn as_marks(segment: &[i8; SEGMENT]) -> [i8; SEGMENT]
     marks
 }
 
-/// A symbol as a mark.
+/// A symbol as a mark: 7 if it is missing, else -7.
 fn as_mark(symbol: i8) -> i8
     ensures { result ≡ shown symbol }
 {

@@ -1,4 +1,4 @@
-//! Marked places: how many there are, how two words differ elsewhere, and what they leave of the syndromes.
+//! Marked places of a word: their number, how two words differ elsewhere, and the syndromes without them.
 
 ghost use Rattle.std.specs.Prelude.{◌≡◌, ℕ, ◌+◌, ◌-◌, ◌<◌, ◌≤◌, ◌==◌, ◌&&◌, ◌||◌, not, if◌then◌else◌};
 ghost use Rattle.std.specs.Prelude.{IsTrue, length, slice_index, take};
@@ -10,7 +10,7 @@ ghost use Rattle.dtx_erase.specs.Mending.{lost, unmarked_distance};
 use dtx_galois::eval;
 use dtx_laws::correcting::{ROOM, cancel, power_at};
 
-/// How many places are marked.
+/// The number of marked places.
 pub fn lost(marks: &[bool]) -> usize
     ensures count { result ≡ lost marks.now }
     ensures few { result ≤ length marks.now }
@@ -24,7 +24,7 @@ pub fn lost(marks: &[bool]) -> usize
     count
 }
 
-/// In how many unmarked places two words of one length differ.
+/// The number of unmarked places in which two words of one length differ.
 pub fn unmarked_distance(marks: &[bool], word: &[u8], other: &[u8]) -> u8
     requires marks { length marks.now ≡ length word.now }
     requires same { length word.now ≡ length other.now }
@@ -48,8 +48,8 @@ fn differ(mark: bool, byte: u8, other: u8) -> bool
     !mark && byte != other
 }
 
-/// The first `wanted` entries of what cancelling the marked places leaves of the first `count` syndromes. Nothing is
-/// done where none are wanted.
+/// Cancels the marked places from the first `count` syndromes. The first `wanted` entries of the result count, and the
+/// others are unspecified. Where `wanted` is 0, nothing is done.
 pub fn first_left(syndromes: &[u8; ROOM], marks: &[bool], count: usize, wanted: usize) -> [u8; ROOM]
     requires few { length marks.now ≤ 255 }
     requires syndromes { count ≤ 255 }
@@ -65,8 +65,8 @@ pub fn first_left(syndromes: &[u8; ROOM], marks: &[bool], count: usize, wanted: 
     cancelled(syndromes, marks, count)
 }
 
-/// Cancels the marked places from the first `count` syndromes of a word: of the rest the last ones, as many as places
-/// are marked, are then of no use.
+/// Cancels the marked places from the first `count` syndromes of a word. Each marked place uses up one syndrome: as
+/// many of the last ones are of no use then.
 fn cancelled(syndromes: &[u8; ROOM], marks: &[bool], count: usize) -> [u8; ROOM]
     requires few { length marks.now ≤ 255 }
     requires syndromes { count ≤ 255 }
@@ -86,8 +86,8 @@ fn cancelled(syndromes: &[u8; ROOM], marks: &[bool], count: usize) -> [u8; ROOM]
     rest
 }
 
-/// Marks the places that are marked, and those at which the polynomial with the first `order + 1` coefficients, the
-/// highest first, vanishes. These are `order` at most, and once so many are found no more are looked for.
+/// The suspect places: those that are marked, and those at which the polynomial vanishes. The polynomial has the first
+/// `order + 1` coefficients, the highest first. It has at most `order` zeros, so the search ends with the last of them.
 pub fn suspects(marks: &[bool], coefficients: &[u8], order: usize) -> [bool; ROOM]
     requires few { length marks.now ≤ 255 }
     requires room { order < length coefficients.now }
@@ -107,7 +107,8 @@ pub fn suspects(marks: &[bool], coefficients: &[u8], order: usize) -> [bool; ROO
     all
 }
 
-/// Whether a polynomial vanishes at a place, where zeros are left to be found.
+/// Whether a polynomial vanishes at a place. `left` is the number of zeros not yet found; where it is 0, the answer is
+/// false.
 fn is_zero(coefficients: &[u8], left: usize, len: usize, place: usize) -> bool
     requires few { len ≤ 255 }
     requires some { place < len }
@@ -116,7 +117,7 @@ fn is_zero(coefficients: &[u8], left: usize, len: usize, place: usize) -> bool
     left != 0 && eval(coefficients, power_at(len, place)).0 == 0
 }
 
-/// How many zeros are left behind a place.
+/// The number of zeros that are left behind a place.
 fn left_after(left: usize, zero: bool) -> usize
     requires { IsTrue zero → 0 < left }
     ensures { result ≡ left - (if zero then 1 else 0) }

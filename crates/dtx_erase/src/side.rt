@@ -21,15 +21,14 @@ use dtx_spread::Collect;
 use std::alloc::{AllocError, Global};
 use std::marker::Model;
 
-/// How many bytes of a group begin a word that the next group completes.
+/// How many of a group's bytes begin a word that the next group completes.
 const BEGUN: usize = 156;
 
-/// For how many gathered bytes there is room: those that an earlier group began, and those of the groups that are
-/// gathered together.
+/// The room for gathered bytes: those that an earlier group began, and those of the groups that are gathered together.
 const GATHERED: usize = BEGUN + GROUP_BYTES * HELD_GROUPS;
 
-/// One side of a run. `Holds side run` says that it holds what the segments of the run leave. The bytes of its groups
-/// are held until they are gathered together.
+/// One side of a run. `Holds side run` says that it holds what the segments of the run leave. The side holds the bytes
+/// of whole groups, so that it can gather those of several groups together.
 #[derive(Drop)]
 pub(crate) struct Side {
     groups: Groups,
@@ -47,7 +46,7 @@ impl Model for Side {
 }
 
 impl Side {
-    /// Of no run.
+    /// The side of no run. The only error is out of memory.
     pub(crate) fn new(alloc: Global) -> Result<Side, AllocError>
         ensures { IfOk result (λ side. side.groups.held ≡ []) }
     {
@@ -59,7 +58,7 @@ impl Side {
         })
     }
 
-    /// A run begins with this field sync.
+    /// Begins a run with this field sync.
     pub(crate) fn begin(&mut self, sync: &[i8; SEGMENT])
         ensures { Holds self.new (sync.now ∷ []) }
     {
@@ -68,7 +67,8 @@ impl Side {
         self.gather.align();
     }
 
-    /// The next data segment of the run, at this place of its field. The bytes of a group that it makes whole are held.
+    /// Takes the next data segment of the run, at place `place` of its field. If a group becomes whole, the side holds
+    /// its bytes.
     pub(crate) fn take(&mut self, place: u16, segment: &[i8; SEGMENT])
         requires place { place < FIELD_PACKETS }
         requires room { place % 4 ≡ 3 → length self.old.groups.held < HELD_GROUPS }
@@ -82,8 +82,8 @@ impl Side {
         self.groups.take(place, segment);
     }
 
-    /// The next data segments of the run, as the bytes of their symbols. The first is at this place of its field. It
-    /// tells how many groups they make whole, whose words are gathered.
+    /// Takes the next data segments of the run, given as the bytes of their symbols. `place` is the first one's place
+    /// in its field. It returns how many groups became whole, whose words are gathered.
     pub(crate) fn take_all(&mut self, place: u16, segments: &[[u8; SEGMENT]]) -> usize
         requires place { place + length segments.now ≤ FIELD_PACKETS }
         requires most { length segments.now ≤ GROUP_PACKETS * HELD_GROUPS }
@@ -99,8 +99,8 @@ impl Side {
         count
     }
 
-    /// Lays out the bytes of the groups that are held, behind those that begin a word, and tells how many groups these
-    /// were. None is held then.
+    /// Copies the bytes of the held groups into `gathered`, behind the 156 bytes that begin a word. It returns the
+    /// number of these groups. Then none is held.
     pub(crate) fn lay_out(&mut self) -> usize
         ensures count { result ≡ length self.old.groups.held }
         ensures most { result ≤ HELD_GROUPS }
@@ -116,7 +116,7 @@ impl Side {
         self.groups.put(&mut self.gathered[BEGUN..])
     }
 
-    /// Lets the bytes of so many groups, which are laid out, through the de-interleaver.
+    /// Passes the bytes of `count` groups, which are laid out, through the de-interleaver.
     pub(crate) fn pass(&mut self, count: usize)
         requires { count ≤ HELD_GROUPS }
         ensures groups { self.new.groups ≡ self.old.groups }
@@ -133,7 +133,7 @@ impl Side {
         self.begun = self.ends(GROUP_BYTES * count);
     }
 
-    /// As many gathered bytes as begin a word, from a place on.
+    /// The 156 gathered bytes from a place on.
     fn ends(&self, from: usize) -> [u8; BEGUN]
         requires { from ≤ GROUP_BYTES * HELD_GROUPS }
         ensures { result ≡ take BEGUN (drop from self.now.gathered) }
@@ -143,7 +143,7 @@ impl Side {
         ends
     }
 
-    /// Word `p` of those that were gathered last.
+    /// Word `p` of the words that were gathered last.
     fn word(&self, p: usize) -> [u8; CODEWORD]
         requires { p < GROUP_PACKETS * HELD_GROUPS }
         ensures { result ≡ word_of self.now.gathered p }
@@ -153,7 +153,8 @@ impl Side {
         word
     }
 
-    /// The four words that one of the groups completed that were gathered last.
+    /// The four words that one of the last groups completed. `group` counts the groups that were gathered together
+    /// last.
     pub(crate) fn words(&self, group: usize) -> [[u8; CODEWORD]; 4]
         requires { group < HELD_GROUPS }
         ensures words { (p : ℕ) → p < 4 → slice_index_or result p [] ≡ word_of self.now.gathered (4 * group + p) }
@@ -166,21 +167,23 @@ impl Side {
         words
     }
 
-    /// Each branch of the de-interleaver holds as many bytes as it delays by.
+    /// Gives proofs a fact, and does nothing when it runs: each branch of the de-interleaver holds as many bytes as it
+    /// delays by.
     pub(crate) fn known(&self)
         ensures { HasWidths BRANCHES (gathering BRANCHES BRANCH_STEP) self.now.branches }
     {
         self.gather.known();
     }
 
-    /// Whether the levels of the group that is on, or that was whole last, are all 0.
+    /// Whether all kept levels are 0: those of the last whole group, with the ones that the group under way has
+    /// overwritten.
     pub(crate) fn is_lowest(&self) -> bool
         ensures { IsTrue result ↔ (self.now.groups.levels ≡ replicate GROUP_LEVELS 0) }
     {
         are_lowest(self.groups.levels())
     }
 
-    /// Whether the bytes of so many groups, which are laid out, are all 0.
+    /// Whether the bytes of `count` groups, which are laid out, are all 0.
     pub(crate) fn is_blank(&self, count: usize) -> bool
         requires { count ≤ HELD_GROUPS }
         ensures { IsTrue result ↔ (take (GROUP_BYTES * count) (drop BEGUN self.now.gathered)
@@ -196,8 +199,8 @@ impl Side {
         are_zero(&self.begun[..])
     }
 
-    /// Moves the de-interleaver on by as many zeros as so many groups leave over from whole turns, and sets what was
-    /// gathered to zeros. Where all that is kept is 0, this is what groups of zeros are to it.
+    /// Stands in for `groups` groups of zeros, where all that is kept is 0. The de-interleaver takes only the zeros
+    /// that these groups have beyond whole turns of 52 bytes. What was gathered becomes zeros.
     pub(crate) fn move_on(&mut self, groups: usize)
         requires { groups ≤ HELD_GROUPS }
         ensures { self.new ≡ record self.old {
@@ -211,7 +214,7 @@ impl Side {
         self.gathered = [0; GATHERED];
     }
 
-    /// The word that is left at the end of a run whose data segments are a multiple of 52.
+    /// The word that is left at the end of a run, where 52 divides the number of data segments.
     pub(crate) fn last_word(&mut self) -> [u8; CODEWORD]
         ensures groups { self.new.groups ≡ self.old.groups }
         ensures word { (run : List (List ℤ)) (k : ℕ) → Holds self.old run → k + 52 ≡ 4 * groups_of run → k % 52 ≡ 0
@@ -225,7 +228,7 @@ impl Side {
     }
 }
 
-/// Writes bytes from a place on, and others behind them.
+/// Writes the bytes of `before` from place `skip` on, and those of `behind` after them.
 fn join(before: &[u8], skip: usize, behind: &[u8], out: &mut [u8])
     requires skip { skip ≤ length before.now }
     requires out { length before.now - skip + length behind.now ≡ length out.old }

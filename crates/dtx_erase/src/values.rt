@@ -1,5 +1,5 @@
-//! The values of the errors at the suspect places. They are what `dtx_laws::correcting::patch` gives, with a number of
-//! products that grows with the square of how many places are suspect, and not with its cube.
+//! The values of the errors at the suspect places. They are those that `dtx_laws::correcting::patch` gives. The number
+//! of products grows with the square of the number of suspect places, and there with its cube.
 
 ghost use Rattle.std.specs.Prelude.{◌≡◌, ℕ, ◌+◌, ◌<◌, ◌≤◌, [], true, length, slice_index};
 ghost use Rattle.std.specs.Int.RustNames.{bit_xor};
@@ -13,7 +13,7 @@ use dtx_fast::error_value;
 use dtx_galois::Gf;
 use dtx_laws::correcting::{ROOM, power_at};
 
-/// Takes the errors away from the suspect places.
+/// Takes the errors at the suspect places away from a word.
 pub fn patch(word: &mut [u8], suspects: &[bool; ROOM], syndromes: &[u8; ROOM])
     requires { length word.old ≤ 255 }
     ensures long { length word.new ≡ length word.old }
@@ -38,7 +38,7 @@ struct Product {
     ghost room: { degree < ROOM },
 }
 
-/// The product over the powers at the suspect places of a word of `len` bytes.
+/// The product of the factors `X - y`, where y is the power at each suspect place of a word of `len` bytes.
 fn product_of(suspects: &[bool; ROOM], len: usize) -> Product
     requires { len ≤ 255 }
     ensures degree { result.degree ≡ length (others len (is_marked suspects.now) len len) }
@@ -69,7 +69,7 @@ fn one() -> [u8; ROOM]
     coefficients
 }
 
-/// Multiplies a polynomial of a degree by `X - y`.
+/// Multiplies a polynomial of degree `degree` by `X - y`, where y is `power`.
 fn multiply(coefficients: &mut [u8; ROOM], degree: usize, power: Gf)
     requires { degree + 1 < ROOM }
     ensures long { length coefficients.new ≡ ROOM }

@@ -40,7 +40,7 @@ impl Model for Words {
 }
 
 impl Words {
-    /// With the code's tables and the randomizer's bytes.
+    /// A value with the code's tables and the randomizer's bytes. The only error is out of memory.
     pub(crate) fn new(alloc: Global) -> Result<Words, AllocError> {
         Ok(Words {
             code: Erase::new(),
@@ -48,8 +48,8 @@ impl Words {
         })
     }
 
-    /// Puts the packet of a word and its flags behind the packets of the batch. Its place is that among the packets of
-    /// a field.
+    /// Adds the packet of a word to the batch. A byte of the word is missing where its flag isn't 0. `place` is the
+    /// packet's place among the 312 of a field.
     pub(crate) fn give(
         &self,
         place: u16,
@@ -67,7 +67,7 @@ impl Words {
         self.push(place, answer, &mended, batch);
     }
 
-    /// Puts the packets of four words that follow each other, and of their flags, behind the packets of the batch.
+    /// Adds the packets of four words that follow each other to the batch. `place` is the place of the first.
     pub(crate) fn give_four(
         &self,
         place: u16,
@@ -91,7 +91,7 @@ impl Words {
         self.push((place + 3) % FIELD_PACKETS, answers[3], &mended[3], batch);
     }
 
-    /// Mends four words: where no byte is marked, they are corrected, all at once.
+    /// Mends four words. Where no byte is marked, they are corrected, all at once.
     fn mend_four(
         &self,
         words: &mut [[u8; CODEWORD]; 4],
@@ -132,7 +132,7 @@ impl Words {
         self.code.mend(word, &marks_of(flags))
     }
 
-    /// Puts the packet of a word behind the packets of the batch, where its mending answered this, and left this word.
+    /// Adds the packet of a word to the batch. `answer` is what its mending returned, and `word` the word that it left.
     fn push(
         &self,
         place: u16,
@@ -202,7 +202,7 @@ fn is_set(flag: u8) -> bool
     flag != 0
 }
 
-/// What is received of a word with these data, by what its mending answered.
+/// What is received of a word. `answer` is what its mending returned, and `head` its data.
 fn received(answer: Result<u8, TooMany>, head: &[u8; PACKET_DATA]) -> Received
     ensures { MatchResult answer
         (λ fixed. result ≡ record { packet = record { 0 = 0x47 ∷ head.now }; fixed = fixed; good = true })

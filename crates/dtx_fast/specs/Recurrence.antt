@@ -1,5 +1,5 @@
--- Recurrences of a sequence, which the method of Berlekamp and Massey finds. Of the coefficients that of the newest
--- term stands first.
+-- Recurrences of a sequence, which the method of Berlekamp and Massey finds. The coefficient of the newest term stands
+-- first.
 use Rattle.std.specs.Prelude.{ℕ, ◌≡◌, ◌-◌, ◌<◌, ◌≤◌, ◌==◌, if◌then◌else◌, List, [], ◌∷◌, slice_index}
 use Rattle.std.proofs.Common.{zero, suc}
 use Rattle.std.specs.Int.RustNames.{bit_xor}
@@ -12,7 +12,7 @@ discrepancy zero c s n = 0
 discrepancy (suc w) c s n = bit_xor (discrepancy w c s n) (mul (c w) (s (n - w)))
 
 -- A recurrence of order l. Each of the terms of s from l to n - 1 follows from the l terms before it, by coefficients
--- of which the first is 1.
+-- whose first one is 1.
 pub record IsRecurrence (n l : ℕ) (s c : ℕ → ℕ) : Type 0 where
   pub newest : c 0 ≡ 1
   pub next : (i : ℕ) → l ≤ i → i < n → discrepancy (suc l) c s i ≡ 0
@@ -49,11 +49,12 @@ walked zero c y = 0
 walked (suc w) c y = bit_xor (walked w c y) (mul (c w) (pow y w))
 
 -- The value of the error at the place of the power x, by a recurrence of order l of the syndromes s. It is a
--- combination of the syndromes by the quotient, over the quotient's value, of which the power 254 is the inverse.
+-- combination of the syndromes by the quotient, divided by the quotient's value at x. The power 254 of an element is
+-- its inverse.
 unfoldable pub error_value : ℕ → (ℕ → ℕ) → (ℕ → ℕ) → ℕ → ℕ
 error_value l c s x = mul (discrepancy l (quotient x c) s (l - 1)) (pow (low_value (turned l (quotient x c)) x) 254)
 
--- the power of α whose product with that at place p of n is 1
+-- the inverse of the power of α at place p of n
 unfoldable pub inverse_at : ℕ → ℕ → ℕ
 inverse_at n p = pow (pow 2 254) (n - 1 - p)
 

@@ -5,8 +5,9 @@ use Rattle.dtx_galois.specs.Field.{mul}
 use Rattle.dtx_fast.specs.Recurrence.{discrepancy, IsLeast}
 use Rattle.dtx_fast.specs.declared.recurrence.TheConstants.{WIDTH}
 
--- After n terms c is a recurrence of order l, and none has a lower order. b was the one before the order grew for the
--- last time. It failed `gap` terms ago, by what `inverse` is the inverse of. Where none has failed, all n terms are 0.
+-- After n terms c is a recurrence of order l, and none has a lower order. b is the recurrence before the order last
+-- grew. It failed `gap` terms ago, and `inverse` is the inverse of the discrepancy there. Where none has failed, all n
+-- terms are 0.
 pub record IsStage (n l gap inverse : ℕ) (s c b : ℕ → ℕ) : Type 0 where
   pub newest : c 0 ≡ 1
   pub behind : (k : ℕ) → l < k → c k ≡ 0

@@ -17,8 +17,8 @@ use dtx_laws::correcting::{ROOM, accept, encoded_again};
 use dtx_laws::{Correct, Encode, PARITY, TooMany};
 use dtx_rs::Rs;
 
-/// Corrects words of the code of `N` bytes a word with `K` bytes of data (ATSC A/53 Part 2, Reed-Solomon encoder: the
-/// way back). It holds the code's encoder and tables, 45 kB in all, so make one and keep it.
+/// Corrects words of the code with words of `N` bytes and `K` bytes of data (ATSC A/53 Part 2, Reed-Solomon encoder:
+/// the way back). The value holds the code's encoder and tables, 45 kB in all, so make one and keep it.
 #[derive(Drop)]
 pub struct Fast<const N: usize, const K: usize> {
     encoder: Rs<N, K>,
@@ -28,7 +28,7 @@ pub struct Fast<const N: usize, const K: usize> {
 }
 
 impl<const N: usize, const K: usize> Fast<N, K> {
-    /// The corrector, whose tables are made here. It takes no memory.
+    /// A corrector with its tables. It allocates nothing.
     pub fn new() -> Self
         requires { IsCode N K }
     {
@@ -39,13 +39,13 @@ impl<const N: usize, const K: usize> Fast<N, K> {
         }
     }
 
-    /// The encoder of the code, by which the corrector encodes again.
+    /// The code's encoder, by which the corrector encodes a word's data again.
     pub fn encoder(&self) -> &Rs<N, K> {
         &self.encoder
     }
 
-    /// As many syndromes of a word as the code has parity bytes, from the codeword that begins with the word's data.
-    /// Behind them any bytes may stand.
+    /// The syndromes of a word, as many as the code has parity bytes. `code` is the codeword that begins with the
+    /// word's data. The result's other bytes are unspecified.
     pub fn syndromes(&self, word: &[u8; N], code: &[u8; N]) -> [u8; ROOM]
         requires codeword { IsCodeword N K code.now }
         requires begins { take K code.now ≡ take K word.now }
@@ -75,7 +75,7 @@ impl<const N: usize, const K: usize> Fast<N, K> {
         answers
     }
 
-    /// Corrects four words, each by itself: of a code with more parity bytes than `Encode::parities` has room for.
+    /// Corrects four words one by one. This is for a code with more parity bytes than `Encode::parities` has room for.
     fn correct_each(&self, words: &mut [[u8; N]; 4]) -> [Result<u8, TooMany>; 4]
         ensures { AreCorrected N K words.old words.new result }
     {
@@ -101,7 +101,7 @@ impl<const N: usize, const K: usize> Fast<N, K> {
         }
     }
 
-    /// Corrects a word that may have other parity bytes than its data.
+    /// Corrects a word whose parity bytes may differ from those of its data.
     fn correct_damaged(&self, parity: &[u8], word: &mut [u8; N]) -> Result<u8, TooMany>
         requires code { IsCodeword N K (take K word.old ++ parity.now) }
         requires long { length parity.now ≡ N - K }
@@ -161,7 +161,7 @@ fn has_parity(word: &[u8], parity: &[u8]) -> bool
     word.ends_with(parity)
 }
 
-/// As many syndromes of a word as it has parity bytes, from those of its `k` bytes of data.
+/// The syndromes of a word, as many as it has parity bytes. `parity` has those of the word's `k` bytes of data.
 fn syndromes(tables: &Tables, word: &[u8], parity: &[u8], k: usize) -> [u8; ROOM]
     requires code { IsCode (length word.now) k }
     requires codeword { IsCodeword (length word.now) k (take k word.now ++ parity.now) }
@@ -172,7 +172,8 @@ fn syndromes(tables: &Tables, word: &[u8], parity: &[u8], k: usize) -> [u8; ROOM
     tables.syndromes(&word[k..], parity)
 }
 
-/// Makes a word of `k` bytes of data its correction, where it has one, from its syndromes.
+/// Sets a word with `k` bytes of data to its correction, from its syndromes. The word's new bytes are unspecified where
+/// it has none.
 fn repair(tables: &Tables, word: &mut [u8], syndromes: &[u8; ROOM], k: usize)
     requires code { IsCode (length word.old) k }
     requires bytes { AreBytes word.old }

@@ -1,4 +1,4 @@
-//! Words with one, two or three wrong bytes, which are put right without a recurrence.
+//! Words with one, two or three wrong bytes, which are corrected without a recurrence.
 
 ghost use Rattle.std.specs.Prelude.{◌≡◌, ◌≢◌, ◌-◌, ◌<◌, ◌↔◌, IfNone, IfSome, IsFalse, IsTrue, length};
 ghost use Rattle.dtx_galois.specs.Field.{AreBytes};
@@ -10,8 +10,9 @@ use crate::guesses::Guesses;
 use crate::wrong_byte::{WrongByte, one_gives, three_give, two_give};
 use dtx_laws::correcting::ROOM;
 
-/// Puts a word with `k` bytes of data right of which one to three bytes are wrong: how many are. Where the code has at
-/// least eight parity bytes nearly all such words are found, where it has fewer only some.
+/// Tries to correct a word with `k` bytes of data in which one to three bytes are wrong, and returns how many were.
+/// With at least eight parity bytes nearly all such words are found, and with fewer only some. Where the answer is
+/// `None`, the word stays.
 pub fn mend_few(guesses: &Guesses, word: &mut [u8], syndromes: &[u8; ROOM], k: usize) -> Option<u8>
     requires code { IsCode (length word.old) k }
     requires bytes { AreBytes word.old }
@@ -31,7 +32,7 @@ pub fn mend_few(guesses: &Guesses, word: &mut [u8], syndromes: &[u8; ROOM], k: u
     }
 }
 
-/// If it answers true, one byte of the word was wrong and is put right; else the word stays.
+/// Tries to correct a word with one wrong byte. If the answer is true, it did; else the word stays.
 fn mend_one(guesses: &Guesses, word: &mut [u8], syndromes: &[u8; ROOM], k: usize) -> bool
     requires code { IsCode (length word.old) k }
     requires bytes { AreBytes word.old }
@@ -49,7 +50,7 @@ fn mend_one(guesses: &Guesses, word: &mut [u8], syndromes: &[u8; ROOM], k: usize
     }
 }
 
-/// If it answers true, two bytes of the word were wrong and are put right; else the word stays.
+/// Tries to correct a word with two wrong bytes. If the answer is true, it did; else the word stays.
 fn mend_two(guesses: &Guesses, word: &mut [u8], syndromes: &[u8; ROOM], k: usize) -> bool
     requires code { IsCode (length word.old) k }
     requires bytes { AreBytes word.old }
@@ -72,7 +73,7 @@ fn mend_two(guesses: &Guesses, word: &mut [u8], syndromes: &[u8; ROOM], k: usize
     false
 }
 
-/// If it answers true, three bytes of the word were wrong and are put right; else the word stays.
+/// Tries to correct a word with three wrong bytes. If the answer is true, it did; else the word stays.
 fn mend_three(guesses: &Guesses, word: &mut [u8], syndromes: &[u8; ROOM], k: usize) -> bool
     requires code { IsCode (length word.old) k }
     requires bytes { AreBytes word.old }
@@ -96,14 +97,14 @@ fn mend_three(guesses: &Guesses, word: &mut [u8], syndromes: &[u8; ROOM], k: usi
     false
 }
 
-/// Whether they are at two places of a word of so many bytes.
+/// Whether the errors are at two different places of a word of `len` bytes.
 fn are_two(first: WrongByte, second: WrongByte, len: usize) -> bool
     ensures { IsTrue result ↔ ((first.place < len) × (second.place < len) × (first.place ≢ second.place)) }
 {
     first.place != second.place && (first.place as usize) < len && (second.place as usize) < len
 }
 
-/// Whether they are at three places of a word of so many bytes.
+/// Whether the errors are at three different places of a word of `len` bytes.
 fn are_three(first: WrongByte, second: WrongByte, third: WrongByte, len: usize) -> bool
     ensures { IsTrue result ↔ ((first.place < len) × (second.place < len) × (third.place < len)
         × (first.place ≢ second.place) × (first.place ≢ third.place) × (second.place ≢ third.place)) }

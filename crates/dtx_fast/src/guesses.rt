@@ -1,5 +1,5 @@
-//! The errors that the first syndromes may come of, where few bytes are wrong. Nothing is claimed of them: all
-//! syndromes test them.
+//! Guesses of the errors, from the first syndromes, where few bytes are wrong. Nothing is proved of a guess: the caller
+//! tests it by all syndromes.
 
 ghost use Rattle.std.specs.Prelude.{◌≡◌, length};
 
@@ -7,12 +7,12 @@ use crate::wrong_byte::WrongByte;
 use dtx_galois::{Gf, ORDER};
 use dtx_laws::correcting::ROOM;
 
-/// The tables by which the errors are found.
+/// The tables by which guesses are made.
 #[derive(Drop)]
 pub struct Guesses {
-    /// At y * y + y one of such y.
+    /// Entry y * y + y is one such y.
     halves: [u8; ORDER + 1],
-    /// At z * z * z + z one of such z.
+    /// Entry z * z * z + z is one such z.
     thirds: [u8; ORDER + 1],
     ghost halves_long: { length halves ≡ 256 },
     ghost thirds_long: { length thirds ≡ 256 },
@@ -32,7 +32,7 @@ impl Guesses {
         Guesses { halves, thirds }
     }
 
-    /// The error that gives the first two syndromes, where one does.
+    /// The error that gives the first two syndromes. Where none gives them, the answer is some other error.
     pub fn one(&self, syndromes: &[u8; ROOM]) -> WrongByte {
         let first = Gf(syndromes[0]).log();
         let second = Gf(syndromes[1]).log();
@@ -42,7 +42,7 @@ impl Guesses {
         }
     }
 
-    /// The two errors that give the first four syndromes, where two do and the fifth follows. The powers of their
+    /// The two errors that give the first four syndromes, if there are two and the fifth fits. The powers of their
     /// places are the zeros of x * x + sum * x + product.
     pub fn two(&self, syndromes: &[u8; ROOM]) -> Option<(WrongByte, WrongByte)> {
         let [a, b, c, d, e, _, _] = first_seven(syndromes);
@@ -60,7 +60,7 @@ impl Guesses {
         Some((wrong_byte(error, first), wrong_byte(a.add(error), second)))
     }
 
-    /// The three errors that give the first six syndromes, where three do and the seventh follows.
+    /// The three errors that give the first six syndromes, if there are three and the seventh fits.
     pub fn three(&self, syndromes: &[u8; ROOM]) -> Option<(WrongByte, WrongByte, WrongByte)> {
         let [a, b, c, d, e, f, g] = first_seven(syndromes);
         let locator = locator_of_three(syndromes);
@@ -78,8 +78,8 @@ impl Guesses {
         ))
     }
 
-    /// The zeros of x * x * x + p * x * x + q * x + r, where there are three. For x = p + scale * z it is a multiple of
-    /// z * z * z + z + rest.
+    /// The zeros of x * x * x + p * x * x + q * x + r, where there are three. With x = p + scale * z the polynomial is
+    /// a multiple of z * z * z + z + rest.
     fn zeros(&self, locator: &[Gf; 3]) -> [Gf; 3] {
         let [p, q, r] = *locator;
         let scale = p.mul(p).add(q).pow(128);
@@ -95,7 +95,7 @@ impl Guesses {
     }
 }
 
-/// An error by the element that is added and the power of its place.
+/// The error that adds the element `error` at the place of the power `power`.
 fn wrong_byte(error: Gf, power: Gf) -> WrongByte {
     WrongByte {
         error: error.log(),
@@ -122,8 +122,9 @@ fn first_seven(syndromes: &[u8; ROOM]) -> [Gf; 7] {
     ]
 }
 
-/// The coefficients below the highest, 1, of the polynomial that vanishes at the powers of three places. They make each
-/// of three syndromes of the three before it, which Cramer's rule solves.
+/// The coefficients, below the highest one, of the polynomial that vanishes at the powers of three places. The highest
+/// one is 1. By these coefficients each of three syndromes follows from the three before it: Cramer's rule solves these
+/// equations.
 fn locator_of_three(syndromes: &[u8; ROOM]) -> [Gf; 3] {
     let [a, b, c, d, e, f, _] = first_seven(syndromes);
     let one = products(c, c, b, d);

@@ -1,4 +1,4 @@
-//! Rows from which a recurrence's values at all places are read, block by block.
+//! Tables that give a recurrence's values at all places of a word, block by block.
 
 ghost use Rattle.std.specs.Prelude.{◌≡◌, ℕ, ◌+◌, ◌*◌, ◌<◌, ◌≤◌, length, slice_index};
 ghost use Rattle.dtx_galois.specs.Field.{mul, pow};
@@ -14,17 +14,17 @@ use dtx_laws::correcting::ROOM;
 /// The greatest order of a recurrence for which there are rows.
 pub const MOST_ORDER: usize = 10;
 
-/// How many coefficients it has.
+/// How many coefficients a recurrence of this order has.
 const COEFFICIENTS: usize = MOST_ORDER + 1;
 
-/// How many places a block has, for which a row is.
+/// How many places a block has. A row has one entry for each of them.
 const BLOCK: usize = 32;
 
 /// How many rows there are.
 const PLACE_ROWS: usize = HALVES * COEFFICIENTS;
 
-/// The rows of the first block's places, and for each coefficient by what it is multiplied so that the same rows are
-/// those of the next block: 11 kB.
+/// The rows of the first block's places, 11 kB. `steps` moves each coefficient on by a block, so that the same rows
+/// give the next block.
 #[derive(Drop)]
 pub struct Places {
     rows: Rows<BLOCK, PLACE_ROWS>,
@@ -61,7 +61,7 @@ impl Places {
         values
     }
 
-    /// Moves the first coefficients on by a block.
+    /// Moves the first `count` coefficients on by a block.
     #[inline(always)]
     fn move_on(&self, coefficients: &mut [u8; WIDTH], count: usize)
         requires { count ≤ COEFFICIENTS }
@@ -87,7 +87,7 @@ fn powers_of(element: Gf) -> [u8; COEFFICIENTS]
     powers
 }
 
-/// Puts a block in its place.
+/// Copies a block's values to index `start` and behind.
 #[inline(always)]
 fn put(values: &mut [u8; ROOM], start: usize, block: &[u8; BLOCK])
     requires { start + BLOCK ≤ ROOM }

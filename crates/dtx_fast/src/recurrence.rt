@@ -14,7 +14,7 @@ use dtx_laws::correcting::ROOM;
 /// How many coefficients a recurrence has room for: more than half as many as a word can have bytes.
 pub const WIDTH: usize = 128;
 
-/// What gives each term of a sequence from the `order` terms before it. Of the coefficients that of the newest term, 1,
+/// What gives each term of a sequence from the `order` terms before it. The coefficient of the newest term, which is 1,
 /// stands first.
 #[derive(Clone, Copy, Drop)]
 pub struct Recurrence {
@@ -39,7 +39,7 @@ impl Recurrence {
     }
 }
 
-/// The coefficients as an array.
+/// The coefficients, copied to an array.
 pub fn copied(coefficients: &[u8]) -> [u8; WIDTH]
     requires { length coefficients.now ≡ WIDTH }
     ensures same { result ≡ coefficients.now }
@@ -50,7 +50,7 @@ pub fn copied(coefficients: &[u8]) -> [u8; WIDTH]
     own
 }
 
-/// The shortest recurrence of the first `count` terms, where its order isn't more than half of them.
+/// The shortest recurrence of the first `count` terms, if its order is at most half of `count`.
 #[inline(never)]
 pub fn find_recurrence(syndromes: &[u8; ROOM], count: usize) -> Option<Recurrence>
     requires { count < ROOM }
@@ -69,8 +69,8 @@ pub fn find_recurrence(syndromes: &[u8; ROOM], count: usize) -> Option<Recurrenc
     Some(Recurrence::new(&stage.coefficients[..], stage.order))
 }
 
-/// A recurrence of the terms so far, and the one before its order grew for the last time. Also how many terms ago that
-/// one failed, and the inverse of what it failed by.
+/// The state of the method: a recurrence of the terms so far, and the one before its order last grew. Also how many
+/// terms ago that one failed, and the inverse of the discrepancy by which it failed.
 #[derive(Drop)]
 struct Stage {
     coefficients: [u8; WIDTH],
@@ -83,7 +83,7 @@ struct Stage {
 }
 
 impl Stage {
-    /// Before the first term.
+    /// The state before the first term.
     fn new() -> Self
         ensures stage { (s : ℕ → ℕ) → IsStage 0 result.order result.gap result.inverse.0 s
             (slice_index result.coefficients) (slice_index result.before) }
@@ -98,7 +98,7 @@ impl Stage {
         }
     }
 
-    /// Takes term `n` in, where an order of at most `most` is enough: whether it is.
+    /// Takes term `n` in, and returns true, if an order of at most `most` is enough.
     fn take(&mut self, syndromes: &[u8; ROOM], n: usize, most: usize) -> bool
         requires known { n + 1 < ROOM }
         requires room { most < WIDTH }
@@ -125,7 +125,7 @@ impl Stage {
         }
     }
 
-    /// What the recurrence lacks of term `n`.
+    /// The discrepancy of the recurrence at term `n`, which is 0 where it gives this term.
     #[inline(always)]
     fn discrepancy(&self, syndromes: &[u8; ROOM], n: usize) -> Gf
         requires known { n < ROOM }
@@ -141,7 +141,7 @@ impl Stage {
         sum
     }
 
-    /// Takes a term in that the recurrence gives.
+    /// Takes in a term that the recurrence gives.
     #[inline(always)]
     fn keep(&mut self)
         requires fits { self.old.gap < ROOM }
@@ -155,7 +155,7 @@ impl Stage {
         self.gap += 1;
     }
 
-    /// Takes a term in, by the same order.
+    /// Takes in a term that the recurrence doesn't give, without a greater order.
     fn mend(&mut self, difference: Gf)
         requires room { self.old.order < WIDTH }
         requires fits { self.old.gap < ROOM }
@@ -177,7 +177,7 @@ impl Stage {
         self.gap += 1;
     }
 
-    /// Takes term `n` in, by a greater order.
+    /// Takes in term `n`, which the recurrence doesn't give, with a greater order.
     fn raise(&mut self, difference: Gf, n: usize)
         requires some { difference.0 ≢ 0 }
         requires known { n < ROOM }
@@ -217,7 +217,7 @@ fn one() -> [u8; WIDTH]
     one
 }
 
-/// Adds so many times other coefficients, moved `gap` places on, to those up to place `last`.
+/// Adds other coefficients, times `factor` and moved `gap` places on, to those up to place `last`.
 #[inline(always)]
 fn add_moved(
     coefficients: &mut [u8; WIDTH],

@@ -27,7 +27,7 @@ pub fn walk(found: &Recurrence, len: usize) -> [u8; ROOM]
     values
 }
 
-/// The sum of each coefficient times a power, from power 0 on.
+/// The value at `at` of the recurrence's polynomial, the first coefficient lowest.
 fn value_at(found: &Recurrence, at: Gf) -> Gf
     ensures { result.0 ≡ walked (found.now.order + 1) (slice_index found.now.coefficients) at.0 }
 {
@@ -40,7 +40,7 @@ fn value_at(found: &Recurrence, at: Gf) -> Gf
     sum
 }
 
-/// Takes the errors away where the walk came to 0.
+/// Takes away the errors at the places where the walk came to 0.
 #[inline(never)]
 pub fn patch(word: &mut [u8], walk: &[u8; ROOM], found: &Recurrence, syndromes: &[u8; ROOM])
     requires few { length word.old ≤ 255 }
@@ -61,7 +61,7 @@ pub fn patch(word: &mut [u8], walk: &[u8; ROOM], found: &Recurrence, syndromes: 
     }
 }
 
-/// The next place of the walk at which it came to 0, from `from` on: `len` where there is none.
+/// The next place, from `from` on, at which the walk came to 0, or `len` where there is none.
 fn next_zero(walk: &[u8; ROOM], from: usize, len: usize) -> usize
     requires few { len ≤ 255 }
     requires within { from ≤ len }
@@ -80,7 +80,7 @@ fn next_zero(walk: &[u8; ROOM], from: usize, len: usize) -> usize
     at
 }
 
-/// If it answers false, the walk came to 0 at no place of a block.
+/// Whether the walk may have come to 0 in a block. If the answer is false, it did at no place of the block.
 #[inline(always)]
 fn has_zero(walk: &[u8; ROOM], start: usize) -> bool
     requires { start + BLOCK ≤ ROOM }
@@ -93,9 +93,9 @@ fn has_zero(walk: &[u8; ROOM], start: usize) -> bool
     any
 }
 
-/// The value of the error at the place of the power `at`, by the polynomial of that order that vanishes at the powers
-/// of all wrong places. The highest coefficient stands first. The value is a combination of the syndromes by the
-/// polynomial's quotient by `X - at`, over the quotient's own value at `at`, of which the power 254 is the inverse.
+/// The value of the error at the place of the power `at`. The polynomial of degree `order`, the highest coefficient
+/// first, vanishes at the powers of all wrong places. The value is a combination of the syndromes by the polynomial's
+/// quotient by `X - at`, divided by the quotient's value at `at`. The power 254 of an element is its inverse.
 #[inline(never)]
 pub fn error_value(coefficients: &[u8], order: usize, syndromes: &[u8; ROOM], at: Gf) -> Gf
     requires coefficients { order < length coefficients.now }

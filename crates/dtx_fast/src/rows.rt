@@ -1,4 +1,4 @@
-//! Tables from which a polynomial's values at the powers of an element are read.
+//! Tables that give a polynomial's values at the powers of an element.
 
 ghost use Rattle.std.specs.Prelude.{◌≡◌, ℕ, ◌+◌, ◌*◌, ◌/◌, ◌%◌, ◌<◌, ◌≤◌, []};
 ghost use Rattle.std.specs.Prelude.{length, slice_index, slice_index_or};
@@ -15,8 +15,8 @@ const HALF: usize = 16;
 /// How many rows there are for a coefficient.
 pub const HALVES: usize = 2 * HALF;
 
-/// For each value of each half of a coefficient what it adds to a polynomial's values at the first `W` powers of
-/// `base`.
+/// A table of `R` rows. For each value of each half of a coefficient it has what this adds to a polynomial's values at
+/// the first `W` powers of `base`.
 #[derive(Drop)]
 pub struct Rows<const W: usize, const R: usize> {
     pub base: Gf,
@@ -59,7 +59,7 @@ impl<const W: usize, const R: usize> Rows<W, R> {
     }
 }
 
-/// Adds two rows.
+/// Adds two rows to the values.
 #[inline(always)]
 fn add_rows<const W: usize>(values: &mut [u8; W], low: &[u8; W], high: &[u8; W])
     ensures long { length values.new ≡ W }
@@ -71,7 +71,7 @@ fn add_rows<const W: usize>(values: &mut [u8; W], low: &[u8; W], high: &[u8; W])
     }
 }
 
-/// Row j: the products of a half's byte with the powers.
+/// Row j: the products of its half's byte with the powers.
 fn nth_row<const W: usize>(base: Gf, j: usize) -> [u8; W]
     requires few { W ≤ 256 }
     requires small { j < 1024 }

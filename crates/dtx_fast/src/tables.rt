@@ -16,11 +16,10 @@ use dtx_galois::ALPHA;
 use dtx_laws::PARITY;
 use dtx_laws::correcting::{ROOM, syndromes_of};
 
-/// How many rows of syndromes there are: for as many parity bytes as `Encode::parities` gives.
+/// The number of rows of syndromes: for as many parity bytes as `Encode::parities` gives.
 const SYNDROME_ROWS: usize = HALVES * PARITY;
 
-/// The rows by which syndromes are made of parity bytes, and those by which a recurrence is walked over all places: 24
-/// kB.
+/// The rows that turn parity bytes into syndromes, and those that walk a recurrence over all places: 24 kB.
 #[derive(Drop)]
 pub struct Tables {
     syndromes: Rows<PARITY, SYNDROME_ROWS>,
@@ -37,7 +36,7 @@ impl Tables {
         }
     }
 
-    /// What `dtx_laws::correcting::syndromes_of` gives.
+    /// The syndromes that `dtx_laws::correcting::syndromes_of` gives, by the table where it has enough rows.
     pub fn syndromes(&self, parity: &[u8], right: &[u8]) -> [u8; ROOM]
         requires same { length parity.now ≡ length right.now }
         requires few { length parity.now ≤ 255 }
@@ -52,7 +51,7 @@ impl Tables {
         }
     }
 
-    /// What `repair::walk` gives.
+    /// The values that `repair::walk` gives, by the table where it has enough rows.
     pub fn walk(&self, found: &Recurrence, len: usize) -> [u8; ROOM]
         requires { len ≤ 255 }
         ensures long { length result ≡ ROOM }
@@ -67,7 +66,7 @@ impl Tables {
     }
 }
 
-/// The sums of the bytes, from the last on.
+/// The sums of the two lists' bytes, from the last byte on.
 fn differences(parity: &[u8], right: &[u8]) -> [u8; PARITY]
     requires same { length parity.now ≡ length right.now }
     requires few { length parity.now ≤ PARITY }
@@ -84,7 +83,7 @@ fn differences(parity: &[u8], right: &[u8]) -> [u8; PARITY]
     differences
 }
 
-/// The syndromes of a row, and then zeros.
+/// The syndromes of a row, with zeros behind them.
 fn widened(row: &[u8; PARITY]) -> [u8; ROOM]
     ensures long { length result ≡ ROOM }
     ensures same { (i : ℕ) → i < PARITY → slice_index result i ≡ slice_index row.now i }

@@ -1,4 +1,4 @@
-//! Errors of words, and whether one, two or three of them give all syndromes.
+//! Errors of a word's bytes, and whether one, two or three of them give all syndromes.
 
 ghost use Rattle.std.specs.Prelude.{◌≡◌, ℕ, ◌+◌, ◌-◌, ◌*◌, ◌<◌, ◌↔◌, IsTrue, length, slice_index, slice_set};
 ghost use Rattle.std.specs.Int.RustNames.{bit_xor};
@@ -7,7 +7,7 @@ ghost use Rattle.dtx_galois.specs.Field.{pow};
 use dtx_galois::ALPHA;
 use dtx_laws::correcting::ROOM;
 
-/// An error by two exponents of α: that of the power that is added to a byte, and that of the power whose coefficient
+/// An error as two exponents of α. Power `error` is what is added to a byte. Power `place` is the one whose coefficient
 /// the byte is.
 #[derive(Clone, Copy, Drop)]
 pub struct WrongByte {

@@ -14,7 +14,7 @@ segment_sync = map bit_symbol (1 ∷ 0 ∷ 0 ∷ 1 ∷ [])
 unfoldable pub data_segment : List ℕ → List ℤ
 data_segment levels = segment_sync ++ map symbol_of levels
 
--- each bit the other one
+-- the bits, each inverted
 abbrev pub inverted : List ℕ → List ℕ
 inverted bits = map (λ b. 1 - b) bits
 
@@ -32,6 +32,6 @@ sync_symbols second =
     segment_sync ++ map bit_symbol (pn511 ++ pn63 ++ (if second then inverted pn63 else pn63) ++ pn63 ++ mode_bits
     ++ reserved_bits)
 
--- a field sync, at whose end the last twelve symbols of the segment before stand again
+-- a field sync, which ends with the last twelve symbols of the segment before
 unfoldable pub field_sync : Bool → List ℤ → List ℤ
 field_sync second last = sync_symbols second ++ last

@@ -3,7 +3,7 @@
 use Rattle.std.specs.Prelude.{ℕ, ◌+◌, ◌-◌, ◌%◌, List, [], ◌∷◌, ◌++◌, length, slice_index}
 use Rattle.std.proofs.Common.{zero, suc}
 
--- a sequence that begins so, with n more bits by the rule on what there is
+-- a sequence that begins with s, and n bits more, each by the rule from those before it
 unfoldable pub extended : (List ℕ → ℕ) → ℕ → List ℕ → List ℕ
 extended rule zero s = s
 extended rule (suc n) s = extended rule n (s ++ (rule s % 2) ∷ [])

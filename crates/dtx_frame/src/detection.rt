@@ -1,4 +1,4 @@
-//! How a field sync is detected, and of which field it is.
+//! Detects a field sync, and the field that it belongs to.
 
 ghost use Rattle.std.specs.Prelude.{◌≡◌, ◌<◌, ◌≤◌};
 ghost use Rattle.dtx_frame.specs.Detection.{differs, differing, looks_like, opposite, opposites, looks_second};
@@ -7,18 +7,18 @@ use crate::tables::FIRST;
 use dtx_sizes::SEGMENT;
 use dtx_slice::level;
 
-/// How many symbols the segment sync and the long sequence have.
+/// The number of symbols that a segment sync and the long sequence have together.
 const KNOWN: usize = 515;
 
-/// How many of them may differ.
+/// The number of these symbols that may differ.
 const MAY_DIFFER: u16 = 32;
 
-/// Where the middle one of the three short sequences begins, and how long it is.
+/// The place at which the middle one of the three short sequences begins, and its length.
 const MIDDLE: usize = 578;
 
 const SHORT: usize = 63;
 
-/// How many of its symbols have the other sign at least in a second field.
+/// The least number of its symbols that have the other sign in a second field.
 const INVERTED: u16 = 32;
 
 /// Whether a segment looks like a field sync: at most 32 of its first 515 symbols, sliced, differ from those of one.
@@ -29,7 +29,7 @@ pub fn looks(segment: &[i8; SEGMENT]) -> bool
     differing(segment) <= MAY_DIFFER
 }
 
-/// How many of the first 515 differ.
+/// The number of the first 515 symbols that differ.
 fn differing(segment: &[i8; SEGMENT]) -> u16
     ensures { result ≡ differing segment.now }
 {
@@ -40,7 +40,7 @@ fn differing(segment: &[i8; SEGMENT]) -> u16
     count
 }
 
-/// 1 where symbol `i` differs.
+/// 1 where symbol `i` differs from that of a field sync, else 0.
 #[inline(always)]
 fn differs(segment: &[i8; SEGMENT], i: usize) -> u16
     requires { i < KNOWN }
@@ -54,16 +54,15 @@ fn differs(segment: &[i8; SEGMENT], i: usize) -> u16
     }
 }
 
-/// Whether a field sync is that of a second field. It is one where at least 32 of the 63 symbols of the middle one of
-/// its three short sequences, sliced, have the other sign than that sequence. Levels 0 to 3 are the negative sign (the
-/// profile's own).
+/// Whether a field sync is that of a second field. It is where at least 32 of the 63 symbols of the middle short
+/// sequence, sliced, have the other sign than this sequence. Levels 0 to 3 are the negative sign (the profile's own).
 pub fn is_second(segment: &[i8; SEGMENT]) -> bool
     ensures { result ≡ looks_second segment.now }
 {
     opposites(segment) >= INVERTED
 }
 
-/// How many of the 63 have the other sign.
+/// The number of the 63 symbols that have the other sign.
 fn opposites(segment: &[i8; SEGMENT]) -> u16
     ensures { result ≡ opposites segment.now }
 {
@@ -74,7 +73,7 @@ fn opposites(segment: &[i8; SEGMENT]) -> u16
     count
 }
 
-/// 1 where symbol `i` of the 63 has the other sign.
+/// 1 where symbol `i` of the 63 has the other sign, else 0.
 #[inline(always)]
 fn opposite(segment: &[i8; SEGMENT], i: usize) -> u16
     requires { i < SHORT }

@@ -1,5 +1,5 @@
-//! Laws of the definitions: what looks like a field sync and what doesn't, the fixed sequences, and slicing undamaged
-//! segments.
+//! Laws of the definitions, on what looks like a field sync and what doesn't, on the fixed sequences, and on slicing
+//! undamaged segments.
 
 ghost use Rattle.std.specs.Prelude.{◌≡◌, ℕ, ℤ, ◌+◌, ◌-◌, ◌*◌, ◌%◌, ◌<◌, ◌≤◌, Bool, true, false, List, [], ◌∷◌};
 ghost use Rattle.std.specs.Prelude.{EachIndex, length, map, take, drop, slice_index, slice_range};
@@ -12,8 +12,8 @@ ghost use Rattle.dtx_frame.specs.Detection.{differing, looks_like, looks_second}
 
 use dtx_sizes::{GROUP_BYTES, PRECODE, SEGMENT_LEVELS};
 
-/// An undamaged data segment, segment n of whole groups from any states, differs from a field sync in at least 64 of
-/// its first 515 symbols. So it doesn't look like one.
+/// An undamaged data segment differs from a field sync in at least 64 of its first 515 symbols. So it doesn't look like
+/// one. It may be any segment n of whole groups, coded from any states.
 pub fn unlike()
     ensures differing { (s u n : ℕ) (states bytes : List ℕ) → length bytes ≡ GROUP_BYTES * u → n < 4 * u
         → 64 ≤ differing (data_segment (slice_range (levels_of s states bytes) (SEGMENT_LEVELS * n)
@@ -30,7 +30,7 @@ pub fn alike()
     ensures second { (second : Bool) (last : List ℤ) → looks_second (field_sync second last) ≡ second }
 {}
 
-/// What was sent comes back by slicing, where nothing was damaged.
+/// Slicing gives back what was sent, where nothing was damaged.
 pub fn undamaged()
     ensures symbol { (z : ℕ) → z < 8 → sliced (symbol_of z) ≡ z }
     ensures data { (levels : List ℕ) → EachIndex levels (λ d. slice_index levels d < 8)

@@ -2,13 +2,13 @@
 
 use dtx_sizes::SEGMENT_SYNC;
 
-/// Those of a segment sync.
+/// The symbols of a segment sync.
 pub(crate) static IN_FRONT: [i8; SEGMENT_SYNC] = [5, -5, -5, 5];
 
-/// How many symbols of a field sync don't come from the segment before.
+/// The number of symbols of a field sync that don't come from the segment before.
 pub(crate) const FRONT: usize = 820;
 
-/// Those of a first field's sync.
+/// The symbols of a first field's sync.
 pub(crate) static FIRST: [i8; FRONT] = [
     5, -5, -5, 5, -5, -5, -5, -5, -5, -5, -5, 5, -5, 5, 5, 5, 5, 5, 5, 5, 5, 5, -5, -5, 5, -5, 5,
     -5, 5, -5, 5, -5, 5, 5, 5, -5, -5, 5, 5, -5, -5, 5, 5, -5, 5, -5, -5, -5, 5, -5, -5, -5, 5, -5,
@@ -43,7 +43,7 @@ pub(crate) static FIRST: [i8; FRONT] = [
     5, -5, 5, -5, 5, -5, 5,
 ];
 
-/// Those of a second field's sync.
+/// The symbols of a second field's sync.
 pub(crate) static SECOND: [i8; FRONT] = [
     5, -5, -5, 5, -5, -5, -5, -5, -5, -5, -5, 5, -5, 5, 5, 5, 5, 5, 5, 5, 5, 5, -5, -5, 5, -5, 5,
     -5, 5, -5, 5, -5, 5, 5, 5, -5, -5, 5, 5, -5, -5, 5, 5, -5, 5, -5, -5, -5, 5, -5, -5, -5, 5, -5,

@@ -1,4 +1,4 @@
--- Polynomials over the two bits: of a number, bit i is the coefficient of X^i. A sum is `bit_xor`.
+-- Polynomials with coefficients 0 and 1, as numbers: bit i of a number is the coefficient of X^i. A sum is `bit_xor`.
 use Rattle.std.specs.Prelude.{ℕ, ◌+◌, ◌*◌, ◌^◌}
 use Rattle.std.proofs.Common.{zero, suc}
 use Rattle.std.specs.Int.{bit_at}

@@ -23,6 +23,6 @@ unfoldable pub value : List ℕ → ℕ → ℕ
 value [] x = 0
 value (c ∷ cs) x = bit_xor (mul c (pow x (length cs))) (value cs x)
 
--- each of them is a byte
+-- each number of a list is a byte
 abbrev pub AreBytes : List ℕ → Type 0
 AreBytes xs = AllByRecursion (λ b. b < 256) xs

@@ -7,11 +7,11 @@ ghost use Rattle.dtx_galois.specs.declared.tables.TheConstants.{ORDER};
 
 use crate::tables::{ORDER, logarithm, power};
 
-/// The polynomial x^8 + x^4 + x^3 + x^2 + 1 over the two bits, modulo which bytes are multiplied (ATSC A/53 Part 2,
-/// Reed-Solomon encoder).
+/// The polynomial x^8 + x^4 + x^3 + x^2 + 1, bit i as the coefficient of x^i. Products of bytes are taken modulo it
+/// (ATSC A/53 Part 2, Reed-Solomon encoder).
 pub const FIELD_POLYNOMIAL: u16 = 0x11D;
 
-/// The element whose powers are all elements but 0.
+/// The element α. Its powers are all elements but 0.
 pub const ALPHA: Gf = Gf(2);
 
 /// An element of the field: a byte.
@@ -19,14 +19,14 @@ pub const ALPHA: Gf = Gf(2);
 pub struct Gf(pub u8);
 
 impl Gf {
-    /// The sum, bit by bit. It is the difference too.
+    /// The sum, which is the exclusive or. It is the difference too.
     pub fn add(self, other: Gf) -> Gf
         ensures { result.0 ≡ bit_xor self.0 other.0 }
     {
         Gf(self.0 ^ other.0)
     }
 
-    /// The product, a remainder modulo the field's polynomial.
+    /// The product: the polynomials' product modulo the field's polynomial.
     pub fn mul(self, other: Gf) -> Gf
         ensures { result.0 ≡ mul self.0 other.0 }
     {
@@ -44,7 +44,7 @@ impl Gf {
         Gf(power(ORDER - logarithm(self.0)))
     }
 
-    /// The exponent, below 255, of the power of α that this element is. It is 0 where this is 0, which is no power.
+    /// The exponent, below 255, of the power of α that this element is. It is 0 for the element 0, which is no power.
     pub fn log(self) -> u8
         ensures small { result < ORDER }
         ensures power { self.0 ≢ 0 → pow 2 result ≡ self.0 }

@@ -1,4 +1,4 @@
-//! The laws of a field, over the definitions, for every number where no bytes are asked for.
+//! The laws of a field. They are laws of the definitions, and hold of all numbers where no bytes are asked for.
 
 ghost use Rattle.std.specs.Prelude.{◌≡◌, ◌≢◌, ◌⊎◌, ℕ, List, ◌+◌, ◌<◌, ◌^◌, length};
 ghost use Rattle.std.specs.Int.RustNames.{bit_xor};
@@ -13,8 +13,8 @@ pub fn polynomial()
     ensures { FIELD_POLYNOMIAL ≡ 2 ^ 8 + 2 ^ 4 + 2 ^ 3 + 2 ^ 2 + 1 }
 {}
 
-/// What long division leaves has a lower degree than the divisor, and differs from what was divided by a multiple of
-/// it.
+/// The remainder of a long division has a lower degree than the divisor. It differs from the dividend by a multiple of
+/// the divisor.
 pub fn division()
     ensures small { (d low n p : ℕ) → low < 2 ^ d → p < 2 ^ (d + n) → remainder d (2 ^ d + low) n p < 2 ^ d }
     ensures multiple { (d g n p : ℕ) → (q : ℕ) × (q < 2 ^ n) × (p ≡ bit_xor (product n q g) (remainder d g n p)) }
@@ -28,13 +28,13 @@ pub fn closed()
     ensures value { (word : List ℕ) (x : ℕ) → value word x < 256 }
 {}
 
-/// The order of terms and of factors is free.
+/// Sums and products don't depend on the order of their terms and factors.
 pub fn commutative()
     ensures sum { (a b : ℕ) → bit_xor a b ≡ bit_xor b a }
     ensures product { (a b : ℕ) → mul a b ≡ mul b a }
 {}
 
-/// The grouping of terms and of factors is free.
+/// Sums and products don't depend on the grouping of their terms and factors.
 pub fn associative()
     ensures sum { (a b c : ℕ) → bit_xor (bit_xor a b) c ≡ bit_xor a (bit_xor b c) }
     ensures product { (a b c : ℕ) → mul (mul a b) c ≡ mul a (mul b c) }
@@ -62,7 +62,7 @@ pub fn no_zero_divisors()
     ensures { (a b : ℕ) → a < 256 → b < 256 → mul a b ≡ 0 → (a ≡ 0) ⊎ (b ≡ 0) }
 {}
 
-/// The product of two powers has the sum of their numbers of factors.
+/// The product of two powers of an element is the power by the sum of their exponents.
 pub fn powers()
     ensures { (a i j : ℕ) → pow a (i + j) ≡ mul (pow a i) (pow a j) }
 {}

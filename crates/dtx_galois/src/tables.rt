@@ -3,10 +3,10 @@
 ghost use Rattle.std.specs.Prelude.{◌≡◌, ◌*◌, ◌<◌};
 ghost use Rattle.dtx_galois.specs.Field.{pow};
 
-/// The order of α: so many different powers it has, which are all elements but 0.
+/// The order of α: the number of its different powers, which are all elements but 0.
 pub const ORDER: usize = 255;
 
-/// The power of α with this exponent, as a sum of two logarithms is.
+/// The power of α with this exponent. A sum of two logarithms may be the exponent.
 pub fn power(exponent: usize) -> u8
     requires { exponent < 2 * ORDER }
     ensures { result ≡ pow 2 exponent }
@@ -28,7 +28,7 @@ pub fn logarithm(element: u8) -> usize
     LOGARITHMS[element as usize] as usize
 }
 
-/// At i power i of α.
+/// Entry i is power i of α.
 static POWERS: [u8; ORDER] = [
     1, 2, 4, 8, 16, 32, 64, 128, 29, 58, 116, 232, 205, 135, 19, 38, 76, 152, 45, 90, 180, 117,
     234, 201, 143, 3, 6, 12, 24, 48, 96, 192, 157, 39, 78, 156, 37, 74, 148, 53, 106, 212, 181,
@@ -45,7 +45,7 @@ static POWERS: [u8; ORDER] = [
     131, 27, 54, 108, 216, 173, 71, 142,
 ];
 
-/// At each element but 0 its logarithm.
+/// The entry of each element but 0 is its logarithm.
 static LOGARITHMS: [u8; ORDER + 1] = [
     0, 0, 1, 25, 2, 50, 26, 198, 3, 223, 51, 238, 27, 104, 199, 75, 4, 100, 224, 14, 52, 141, 239,
     129, 28, 193, 105, 248, 200, 8, 76, 113, 5, 138, 101, 47, 225, 36, 15, 33, 53, 147, 142, 218,

@@ -1,11 +1,10 @@
 -- The branches of an interleaver or a de-interleaver: the next branch, and the bytes that each branch holds. Both
--- directions share these definitions, over the number of branches, b, and the branches' widths: branch i holds w i
--- bytes.
+-- directions share these definitions. In these b is the number of branches, and branch i holds w i bytes.
 use Rattle.std.specs.Prelude.{ℕ, ◌≡◌, ◌+◌, ◌-◌, ◌*◌, ◌<◌, ◌≤◌, ◌==◌, if◌then◌else◌, List, [], ◌∷◌, ◌++◌, length, map}
 use Rattle.std.specs.Prelude.{drop, replicate, slice_index, slice_index_or, slice_set}
 use Rattle.std.specs.List.{range_with_len}
 
--- The numbers of an interleaver: from 2 to 64 branches, each longer by from 1 to 32 bytes than the one before it.
+-- The numbers of an interleaver: 2 to 64 branches, each 1 to 32 bytes longer than the one before it.
 pub record IsInterleaver (b m : ℕ) : Type 0 where
   pub some : 2 ≤ b
   pub few : b ≤ 64
@@ -21,7 +20,7 @@ pub record Branching : Type 0 where
 abbrev pub spreading : ℕ → ℕ → ℕ
 spreading m i = m * i
 
--- and those of a de-interleaver's b branches: each byte waits in both for m * (b - 1) bytes of its branch
+-- The widths of a de-interleaver's b branches. In both together a byte waits for m * (b - 1) bytes of its branch.
 abbrev pub gathering : ℕ → ℕ → ℕ → ℕ
 gathering b m i = m * (b - 1 - i)
 
@@ -31,7 +30,7 @@ pub record HasWidths (b : ℕ) (w : ℕ → ℕ) (v : Branching) : Type 0 where
   pub count : length v.lists ≡ b
   pub long : (i : ℕ) → i < b → length (slice_index_or v.lists i []) ≡ w i
 
--- aligned, with zeros in every branch
+-- branches that are aligned, with zeros in each
 unfoldable pub zeroed : ℕ → (ℕ → ℕ) → Branching
 zeroed b w = record { next = 0; lists = map (λ i. replicate (w i) 0) (range_with_len 0 b) }
 
@@ -43,11 +42,12 @@ aligned v = record { next = 0; lists = v.lists }
 abbrev pub joined : Branching → ℕ → List ℕ
 joined v byte = slice_index_or v.lists v.next [] ++ byte ∷ []
 
--- the first of them leaves
+-- the byte that leaves: the first of these
 abbrev pub leaving : Branching → ℕ → ℕ
 leaving v byte = slice_index (joined v byte) 0
 
--- the branch keeps the others, and the turn goes to the next branch, behind the last one to branch 0
+-- The branches after one byte. The next branch keeps its other bytes, and the turn goes to the branch behind it, or
+-- from the last one to branch 0.
 abbrev pub after_byte : ℕ → Branching → ℕ → Branching
 after_byte b v byte = record {
   next = if v.next + 1 == b then 0 else v.next + 1;

@@ -2,8 +2,8 @@
 use Rattle.std.specs.Prelude.{ℕ, ◌≡◌, ◌+◌, ◌-◌, ◌*◌, ◌%◌, ◌<◌, ◌≤◌, ◌==◌, if◌then◌else◌, List, [], ◌∷◌, length}
 use Rattle.dtx_galois.specs.Field.{pow, value, AreBytes}
 
--- The numbers of a code. It has some bytes of data, and parity bytes, two for each wrong byte that can be put right. It
--- has no more places than the field has elements but 0.
+-- The numbers of a code. It has at least one byte of data, and two parity bytes for each wrong byte that can be put
+-- right. It has at most 255 places, which is the number of field elements other than 0.
 pub record IsCode (n k : ℕ) : Type 0 where
   pub some : 1 ≤ k
   pub longer : k < n

@@ -3,7 +3,7 @@ use Rattle.std.specs.Prelude.{ℕ, ◌≡◌, ◌<◌, List, [], Ok, Result, Mat
 use Rattle.dtx_laws.specs.Codeword.{IsCorrection, distance}
 use Rattle.dtx_laws.specs.declared.corrector.TooMany.{TooMany}
 
--- the word became its correction, by e places changed
+-- the word became its correction, and e of its places changed
 pub record IsCorrected (n k : ℕ) (old new : List ℕ) (e : ℕ) : Type 0 where
   pub correction : IsCorrection n k old new
   pub changed : e ≡ distance old new

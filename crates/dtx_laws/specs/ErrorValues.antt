@@ -21,8 +21,8 @@ unfoldable pub without : List ℕ → (ℕ → ℕ) → ℕ → ℕ
 without [] s i = s i
 without (y ∷ ys) s i = bit_xor (without ys s (suc i)) (mul y (without ys s i))
 
--- The value of the error at place p of n. It is what is left of the syndromes without the other marked places, over the
--- place's weight, of which the power 254 is the inverse.
+-- The value of the error at place p of n. It is what is left of the syndromes without the other marked places, divided
+-- by the place's weight. The power 254 of an element is its inverse.
 unfoldable pub error_at : ℕ → (ℕ → Bool) → (ℕ → ℕ) → ℕ → ℕ
 error_at n mark s p = mul (without (others n mark p n) s 0) (pow (weight (power_at n p) (others n mark p n)) 254)
 

@@ -11,8 +11,8 @@ gathered_at b m y n = if nat_le (b * m * (b - 1 - n % b)) n then slice_index y (
 unfoldable pub gathered : ℕ → ℕ → List ℕ → List ℕ
 gathered b m y = map (gathered_at b m y) (range_with_len 0 (length y))
 
--- Here z is y gathered behind an align at which the branches held these lists. A byte whose source is one of y is the
--- map's, and each other one is a byte that its branch held.
+-- z is y gathered behind an align at which the branches held these lists. A byte of z whose source is in y is that of
+-- the map. Any other one is a byte that its branch held.
 pub record IsGatheredBehind (b m : ℕ) (lists : List (List ℕ)) (y z : List ℕ) : Type 0 where
   pub long : length z ≡ length y
   pub come : (n : ℕ) → n < length y → b * m * (b - 1 - n % b) ≤ n → slice_index z n ≡ slice_index (gathered b m y) n

@@ -9,12 +9,12 @@ abbrev pub interleaved_at : ℕ → ℕ → List ℕ → ℕ → ℕ
 interleaved_at b m x n = if nat_le (b * m * (n % b)) n then slice_index x (n - b * m * (n % b)) else 0
 
 -- The interleaved bytes of x, as many as x has. Each is a byte of x from b * m * (n mod b) places before it, or one of
--- the zeros that the branches held at the beginning.
+-- the zeros that the branches held at first.
 unfoldable pub interleaved : ℕ → ℕ → List ℕ → List ℕ
 interleaved b m x = map (interleaved_at b m x) (range_with_len 0 (length x))
 
--- Here y is x interleaved behind an align at which the branches held these lists. A byte whose source is one of x is
--- the map's, and each other one is a byte that its branch held.
+-- y is x interleaved behind an align at which the branches held these lists. A byte of y whose source is in x is that
+-- of the map. Any other one is a byte that its branch held.
 pub record IsInterleavedBehind (b m : ℕ) (lists : List (List ℕ)) (x y : List ℕ) : Type 0 where
   pub long : length y ≡ length x
   pub come : (n : ℕ) → n < length x → b * m * (n % b) ≤ n → slice_index y n ≡ slice_index (interleaved b m x) n

@@ -16,11 +16,11 @@ all_words (suc n) = flat_map (λ b. map (λ w. b ∷ w) (all_words n)) (range_wi
 unfoldable pub vanishes : ℕ → ℕ → List ℕ → Bool
 vanishes n k word = list_all (λ i. value word (pow 2 i) == 0) (range_with_len 0 (n - k))
 
--- the codeword that begins with the data, which are followed by zeros where none does
+-- the codeword that begins with the data, or the data and zeros where there is none
 unfoldable pub codeword : ℕ → ℕ → List ℕ → List ℕ
 codeword n k head = head ++ unwrap_or (find (λ w. vanishes n k (head ++ w)) (all_words (n - k))) (replicate (n - k) 0)
 
--- the first words of n bytes, so many of them, one behind the other: each is made the codeword of its first k bytes
+-- the first `count` words of n bytes, one behind the other, each made the codeword of its first k bytes
 unfoldable pub completed : (n k count : ℕ) (words : List ℕ) → List ℕ
 completed n k zero words = []
 completed n k (suc count) words = codeword n k (take k words) ++ completed n k count (drop n words)

@@ -1,5 +1,5 @@
-//! Parts of which correctors are made. They are the syndromes of a word, the places at which a locator vanishes, the
-//! values of the errors at marked places, and the test of the word that was tried.
+//! The parts that correctors share: the syndromes of a word, the places at which a locator vanishes, the values of the
+//! errors at marked places, and the test of the word that was tried.
 
 mod outcome;
 mod places;
@@ -11,5 +11,5 @@ pub use places::{marks_of, power_at};
 pub use syndromes::syndromes_of;
 pub use values::{cancel, patch};
 
-/// How many entries a list of places or of syndromes has room for: more than a word has bytes.
+/// The room of a list of places or of syndromes: more entries than a word has bytes.
 pub const ROOM: usize = 256;

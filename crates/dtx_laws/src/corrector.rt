@@ -8,16 +8,15 @@ ghost use Rattle.dtx_laws.specs.Correction.{AreCorrected, IsCorrected, IsLeft};
 #[derive(Clone, Copy, Debug, PartialEq, Eq)]
 pub struct TooMany;
 
-/// Corrects words of `N` bytes, of which `K` are data, where at most `(N - K) / 2` bytes are wrong (ATSC A/53 Part 2,
+/// Corrects words of `N` bytes, `K` of them data, in which at most `(N - K) / 2` bytes are wrong (ATSC A/53 Part 2,
 /// Reed-Solomon encoder: the way back).
 pub trait Correct<const N: usize, const K: usize> {
-    /// `N` and `K` are the numbers of a code, as each value keeps: a generic caller learns it here.
+    /// Gives proofs a fact, and has no effect: `N` and `K` are the numbers of a code. A generic caller needs this.
     fn known(&self)
         ensures { IsCode N K };
 
-    /// Sets `word` to the codeword within `(N - K) / 2` places, and tells how many places that changed. Where there is
-    /// no such codeword, the answer is `TooMany`, and the word stays. `laws::one_answer` says that there is just one
-    /// such answer.
+    /// Sets `word` to the codeword within `(N - K) / 2` places, and returns how many places changed. Where there is
+    /// none, the answer is `TooMany`, and the word stays. By `laws::one_answer` there is at most one answer.
     fn correct(&self, word: &mut [u8; N]) -> Result<u8, TooMany>
         ensures answer { MatchResult result (IsCorrected N K word.old word.new) (λ _e. IsLeft N K word.old word.new) }
         ensures long { length word.new ≡ N };

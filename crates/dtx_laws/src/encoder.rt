@@ -10,7 +10,7 @@ pub const PARITY: usize = 20;
 
 /// Encodes `K` bytes of data as a codeword of `N` bytes (ATSC A/53 Part 2, Reed-Solomon encoder).
 pub trait Encode<const N: usize, const K: usize> {
-    /// `N` and `K` are the numbers of a code, as each value keeps: a generic caller learns it here.
+    /// Gives proofs a fact, and has no effect: `N` and `K` are the numbers of a code. A generic caller needs this.
     fn known(&self)
         ensures { IsCode N K };
 
@@ -20,14 +20,14 @@ pub trait Encode<const N: usize, const K: usize> {
         ensures is { IsCodeword N K word.new }
         ensures long { length word.new ≡ N };
 
-    /// Completes four words at once, which stand one behind the other. What stands behind the data of each becomes its
-    /// parity bytes, so that the word is the codeword of its data.
+    /// Completes four words at once, which stand one behind the other. In each word the parity bytes replace what
+    /// stands behind the data, so that the word is the codeword of its data.
     fn complete_four(&self, words: &mut [u8])
         requires { length words.old ≡ N * 4 }
         ensures { words.new ≡ completed N K 4 words.old };
 
-    /// The parity bytes of four words' data: the first `K` bytes of a word, and then the first `N - K` of its answer,
-    /// are a codeword. What else stands in the word, and behind these in the answer, doesn't matter.
+    /// The parity bytes of four words' data. The first `K` bytes of a word, followed by the first `N - K` of its
+    /// answer, are a codeword. The word's other bytes don't matter, and the answer's other bytes are unspecified.
     fn parities(&self, words: &[[u8; N]; 4]) -> [[u8; PARITY]; 4]
         requires { N - K ≤ PARITY }
         ensures { (p : ℕ) → p < 4 → IsCodeword N K (take K (slice_index_or words.now p [])

@@ -1,4 +1,5 @@
-//! The laws of codewords, over the definitions and for every `n` and `k`: so they hold of every encoder and corrector.
+//! Laws of codewords, for every `n` and `k`. They are laws of the definitions, so they hold of every encoder and
+//! corrector.
 
 pub mod gathering;
 pub mod interleaving;
@@ -13,13 +14,13 @@ mod errors;
 
 pub use errors::{kernel, one_answer};
 
-/// With each `k` bytes of data some codeword begins.
+/// Some codeword begins with any `k` bytes of data.
 pub fn some_codeword()
     ensures { (n k : ℕ) (head : List ℕ) → k < n → length head ≡ k → AreBytes head
         → (word : List ℕ) × IsCodeword n k word × (take k word ≡ head) }
 {}
 
-/// With each data at most one codeword begins.
+/// At most one codeword begins with given data.
 pub fn one_codeword()
     ensures { (n k : ℕ) (a b : List ℕ) → n ≤ 255 → IsCodeword n k a → IsCodeword n k b → take k a ≡ take k b → a ≡ b }
 {}
@@ -34,7 +35,7 @@ pub fn the_codeword()
     ensures long { (n k : ℕ) (head : List ℕ) → length (codeword n k head) ≡ length head + (n - k) }
 {}
 
-/// Two codewords differ in no place or in at least `n - k + 1` places.
+/// Two different codewords differ in at least `n - k + 1` places.
 pub fn apart()
     ensures { (n k : ℕ) (a b : List ℕ) → n ≤ 255 → IsCodeword n k a → IsCodeword n k b
         → (a ≡ b) ⊎ (n - k + 1 ≤ distance a b) }

@@ -1,5 +1,5 @@
-//! What every codec keeps: the traits of encoders, correctors, interleavers, de-interleavers and whiteners, what
-//! correctors share, and the laws of all of them.
+//! The traits of encoders, correctors, interleavers, de-interleavers and whiteners, what correctors share, and the laws
+//! of all of them.
 #![tactic(auto)]
 
 pub mod correcting;

@@ -1,4 +1,4 @@
-//! The traits for what stands behind an `Rc`, so that several owners may share one encoder, corrector or whitener.
+//! The traits for values behind an `Rc`, so that several owners may share one encoder, corrector or whitener.
 
 use crate::corrector::{Correct, TooMany};
 use crate::encoder::{Encode, PARITY};

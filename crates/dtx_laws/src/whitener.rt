@@ -3,8 +3,8 @@
 ghost use Rattle.std.specs.Prelude.{◌≡◌, ℕ, ◌<◌, ◌^◌, List, length, slice_index};
 ghost use Rattle.dtx_galois.specs.Field.{AreBytes};
 
-/// A list of bytes that are added to data bit by bit, so that no pattern of the data shows (ATSC A/53 Part 2, data
-/// randomizer).
+/// A value with a list of bytes that are added to data bit by bit, so that no pattern of the data shows (ATSC A/53 Part
+/// 2, data randomizer).
 pub trait Whitener {
     /// How many bytes there are.
     const PERIOD: usize;
@@ -25,6 +25,6 @@ pub trait Whitener {
     /// Each of them is a byte.
     ghost are_bytes: { (whitener : Self) → AreBytes (bytes whitener) };
 
-    /// The constant is a number of places.
+    /// The constant fits a number of 64 bits.
     ghost fits: { PERIOD < 2 ^ 64 };
 }

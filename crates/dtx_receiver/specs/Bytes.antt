@@ -12,11 +12,11 @@ data_count run = length run - (length run + 312) / 313
 unfoldable pub data_at : List (List ℤ) → ℕ → List ℤ
 data_at run d = slice_index_or run (d + d / 312 + 1) []
 
--- how many whole groups of four data segments it has
+-- how many whole groups of four data segments a run has
 unfoldable pub groups_of : List (List ℤ) → ℕ
 groups_of run = data_count run / 4
 
--- the levels of n data segments, from one on
+-- the levels of n data segments, from number d on
 unfoldable pub levels_from : List (List ℤ) → ℕ → ℕ → List ℕ
 levels_from run d n = flat_map (λ i. sliced_data (data_at run i)) (range_with_len d n)
 
@@ -24,12 +24,12 @@ levels_from run d n = flat_map (λ i. sliced_data (data_at run i)) (range_with_l
 unfoldable pub levels_in : List (List ℤ) → List ℕ
 levels_in run = levels_from run 0 (4 * groups_of run)
 
--- Z2 of the twelve coders before a run's first data segment, from the symbols that the run's first field sync repeats.
--- Later field syncs aren't used for it.
+-- Z2 of the twelve coders before a run's first data segment. It comes from the last twelve symbols of the run's first
+-- field sync, which repeat those of the segment before. Later field syncs aren't used for it.
 unfoldable pub first_bits : List (List ℤ) → List ℕ
 first_bits run = precoder_bits_of (sliced_last (slice_index_or run 0 []))
 
--- Z2 of the twelve coders after the whole groups
+-- Z2 of the twelve coders after the whole groups of a run
 unfoldable pub precoder_bits_in : List (List ℤ) → List ℕ
 precoder_bits_in run = precoder_bits_after 0 (first_bits run) (levels_in run)
 

@@ -21,8 +21,8 @@ pub record IsRun (segments : List (List ℤ)) (first n : ℕ) : Type 0 where
   pub ends : (first + n ≡ length segments) ⊎ ((first + n < length segments) × (n % 313 ≡ 0)
       × (looks_at segments (first + n) ≡ false))
 
--- These are the runs from a place on. Each run begins with the first segment that looks like a field sync. The search
--- goes on after the segment that ended the run, so that one isn't searched itself.
+-- The intervals are the runs from a place on, all of them. Each run begins with the first segment that looks like a
+-- field sync. The search goes on after the segment that ended the run, so that segment begins no run.
 abbrev pub AreRuns : List (List ℤ) → ℕ → List (ℕ × ℕ) → Type 0
 AreRuns segments from [] = NoneLooks segments from (length segments)
 AreRuns segments from (p ∷ ps) = (from ≤ p.0) × NoneLooks segments from p.0 × IsRun segments p.0 p.1

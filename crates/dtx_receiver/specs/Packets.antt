@@ -12,7 +12,7 @@ use Rattle.dtx_receiver.specs.declared.batch.Received.{Received}
 use Rattle.dtx_receiver.specs.Runs.{tracked, runs}
 use Rattle.dtx_receiver.specs.Bytes.{bytes_in}
 
--- whether all 207 bytes of word k are among so many bytes of a run
+-- whether all 207 bytes of word k are among the first `count` bytes of a run
 unfoldable pub is_complete : ℕ → ℕ → Bool
 is_complete count k = list_all (λ j. nat_lt (codeword_byte_place 52 4 (207 * k + j)) count) (range_with_len 0 207)
 
@@ -34,20 +34,22 @@ received_by from word None = record {
   good = false;
 }
 
--- packet k of the bytes of a run, which is whitened as packet k of a stream, where this is made of its word
+-- Packet k of the bytes of a run. `made` gives the correction of a word. The word's data are unwhitened as those of
+-- packet k of a stream.
 abbrev pub packet_at : (List ℕ → Option (List ℕ)) → List ℕ → ℕ → Received
 packet_at made bytes k = received_by (187 * (k % 312)) (word_at 207 52 4 bytes k) (made (word_at 207 52 4 bytes k))
 
--- The packets of so many bytes of a run: each whose bytes are all there. There is at most one for each 207 bytes.
+-- The packets of the first `count` bytes of a run: each whose bytes are all there. `at` gives packet k. There is at
+-- most one for each 207 bytes.
 abbrev pub packets_by : (ℕ → Received) → ℕ → List Received
 packets_by at count = map at (filter (is_complete count) (range_with_len 0 (count / 207)))
 
--- those that are given while the run is on: with 53 data segments or more from the packet's own on
+-- the packets that are given while the run is on: those with 53 data segments or more from the packet's own on
 abbrev pub early_by : (ℕ → Received) → ℕ → List Received
 early_by at count = map at (range_with_len 0 (count / 207 - 52))
 
--- The packets of a list of segments that are given before the list ends, where a run has these packets and these early
--- ones: those of the runs that have ended, and the early ones of the run that is on.
+-- The packets of a list of segments that are given before the list ends. `whole` gives the packets of a run that has
+-- ended, and `early` those of the run that is on.
 abbrev pub so_far_of : (whole early : List (List ℤ) → List Received) → List (List ℤ) → List Received
 so_far_of whole early segments =
     flat_map whole (tracked segments).ended ++ flat_map early (option_to_list (tracked segments).run)
@@ -62,7 +64,7 @@ received_at bytes k = packet_at (correction 207 187) bytes k
 unfoldable pub run_packets : List ℕ → List Received
 run_packets bytes = packets_by (received_at bytes) (length bytes)
 
--- those that are given while the run is on
+-- the packets of a run that are given while it is on
 unfoldable pub early_of : List ℕ → List Received
 early_of bytes = early_by (received_at bytes) (length bytes)
 
@@ -70,7 +72,7 @@ early_of bytes = early_by (received_at bytes) (length bytes)
 unfoldable pub all_packets : List (List ℤ) → List Received
 all_packets segments = flat_map (λ run. run_packets (bytes_in run)) (runs segments)
 
--- those that are given before the list ends
+-- the packets of a list of segments that are given before the list ends
 unfoldable pub packets_so_far : List (List ℤ) → List Received
 packets_so_far segments = so_far_of (λ run. run_packets (bytes_in run)) (λ run. early_of (bytes_in run)) segments
 

@@ -10,57 +10,58 @@ use Rattle.dtx_receiver.specs.Runs.{runs, tracked, tracking}
 use Rattle.dtx_receiver.specs.Packets.{so_far_of}
 use Rattle.dtx_receiver.specs.Bytes.{data_count, groups_of, levels_from, levels_in, precoder_bits_in, bytes_in}
 
--- what is kept of a run's groups: the levels of the group that is on, Z2 of the twelve coders before it, and the bytes
--- of the groups that are whole and weren't given on
+-- What is kept of a run's groups: the levels of the group under way, Z2 of the twelve coders before it, and the bytes
+-- of the whole groups that weren't passed on.
 pub record Grouping : Type 0 where
   pub levels : List ℕ
   pub precoder_bits : List ℕ
   pub held : List (List ℕ)
 
--- What is kept of a run: the levels of the group that is on, and Z2 of the twelve coders before it. Also the outer
--- coding's way back, and how many data segments are in whole groups, modulo 52.
+-- What a decoder keeps of a run: the levels of the group under way, Z2 of the twelve coders before it, what the outer
+-- decoding keeps, and how many data segments are in whole groups, modulo 52.
 pub record Decoding : Type 0 where
   pub levels : List ℕ
   pub precoder_bits : List ℕ
   pub inner : inner.Kept
   pub turn : ℕ
 
--- The levels that are kept begin with those that a run has of the group that is on, and the bits are Z2 of the twelve
--- coders before it.
+-- The kept levels begin with those of the run's group under way. The kept bits are Z2 of the twelve coders before this
+-- group.
 pub record AreLevels (kept bits : List ℕ) (run : List (List ℤ)) : Type 0 where
   pub some : 0 < length run
   pub long : length (levels_in run) ≡ 3312 * groups_of run
   pub levels : take (828 * (data_count run % 4)) kept ≡ levels_from run (4 * groups_of run) (data_count run % 4)
   pub precoder_bits : bits ≡ precoder_bits_in run
 
--- What is kept of groups is that of a run with these segments, of whose bytes these were given on: the others are held.
+-- What is kept of groups is what the segments of the run leave. The bytes `given` were passed on, and the others are
+-- held.
 pub record AreGrouped (kept : Grouping) (run : List (List ℤ)) (given : List ℕ) : Type 0 where
   pub levels : AreLevels kept.levels kept.precoder_bits run
   pub bytes : bytes_in run ≡ given ++ flat_map (λ bytes. bytes) kept.held
   pub long : length (flat_map (λ bytes. bytes) kept.held) ≡ 828 * length kept.held
 
--- what is kept is that of a run with these segments
+-- what a decoder keeps is what the segments of the run leave
 pub record Decodes (kept : Decoding) (run : List (List ℤ)) : Type 0 where
   pub levels : AreLevels kept.levels kept.precoder_bits run
   pub inner : inner.StandsFor 207 187 52 4 kept.inner (bytes_in run)
   pub turn : kept.turn ≡ 4 * groups_of run % 52
 
--- Whatever the decoder of runs was given: no bytes are held, the whitener's bytes are the randomizer's, and the turn is
--- one of 52.
+-- What holds of a decoder, whatever it was given: no bytes of groups are held, the whitener's bytes are the
+-- randomizer's, and the turn is below 52.
 pub record IsDecoding (groups : Grouping) (inner : inner.Kept) (turn : ℕ) : Type 0 where
   pub none : groups.held ≡ []
   pub white : inner.white ≡ randomizer_bytes
   pub in_turn : turn < 52
 
--- ---- whatever decodes runs
+-- ---- for any decoder of runs
 
 -- how many segments the run that is on has, modulo 313, and what a decoder keeps of it
 pub record Kept (D : Type 0) : Type 0 where
   pub place : Option ℕ
   pub decoding : D
 
--- At this place of a run a decoder that holds what a run leaves has what these segments leave. The place is that behind
--- the run that is on, and none where none is on.
+-- A place and a decoder are as these segments leave them. The place is the length of the run that is on, modulo 313, or
+-- `None` where no run is on. The decoder holds what this run leaves.
 pub record HasRun {D : Type 0} (Holds : D → List (List ℤ) → Type 0) (at : Option ℕ) (held : D)
     (segments : List (List ℤ)) : Type 0 where
   pub place : at ≡ option_map (λ run. length run % 313) (tracked segments).run
@@ -70,19 +71,19 @@ pub record HasRun {D : Type 0} (Holds : D → List (List ℤ) → Type 0) (at : 
 abbrev pub Stands : {D : Type 0} → (D → List (List ℤ) → Type 0) → Kept D → List (List ℤ) → Type 0
 Stands Holds receiver segments = HasRun Holds receiver.place receiver.decoding segments
 
--- of the receiver that corrects words
+-- the same of the receiver that corrects words
 abbrev pub StandsFor : Kept Decoding → List (List ℤ) → Type 0
 StandsFor receiver segments = Stands Decodes receiver segments
 
--- `given` are the packets of a list that are given before it ends, and `all` those of the whole list, where a run gives
--- `early` while it is on, none of them for its first segment, and `whole` with its end.
+-- `given` are the packets of a list that are given before it ends, and `all` those of the whole list. A run gives
+-- `early` while it is on, which is nothing for its first segment, and `whole` in all.
 pub record AreGiven (whole early given all : List (List ℤ) → List Received) : Type 0 where
   pub first : (x : List ℤ) → early (x ∷ []) ≡ []
   pub so_far : (s : List (List ℤ)) → given s ≡ so_far_of whole early s
   pub ended : (s : List (List ℤ)) → all s ≡ flat_map whole (runs s)
 
--- What decodes runs: what it holds of one is what the run leaves, and what is given are the packets of runs. It may
--- stay as it is with each later field sync of a run, which gives none.
+-- What holds of a decoder of runs. The packets given are those of runs. At a later field sync of a run the decoder may
+-- stay as it is, since the sync brings no packet.
 pub record IsDecoder {D : Type 0} (Holds : D → List (List ℤ) → Type 0)
     (whole early given all : List (List ℤ) → List Received) : Type 0 where
   pub packets : AreGiven whole early given all
@@ -91,15 +92,16 @@ pub record IsDecoder {D : Type 0} (Holds : D → List (List ℤ) → Type 0)
   pub sync_given : (x : List ℤ) (d : D) (run : List (List ℤ)) → Holds d run → length run % 313 ≡ 0
       → early (run ++ x ∷ []) ≡ early run ++ []
 
--- A segment behind these is told what it is; then a receiver stands for the longer list, and brings what is given more.
+-- A receiver takes the segment x behind these segments. The answer is what x is. The receiver then holds what the
+-- longer list leaves, and the packets that it brought follow those given before.
 pub record IsFollowed (Stands : List (List ℤ) → Type 0) (given : List (List ℤ) → List Received)
     (segments : List (List ℤ)) (x : List ℤ) (answer : Tracking) (brought : List Received) : Type 0 where
   pub told : answer ≡ tracking segments x
   pub stands : Stands (segments ++ x ∷ [])
   pub packets : given (segments ++ x ∷ []) ≡ given segments ++ brought
 
--- Behind these segments others are received together: then a receiver stands for the longer list, and brings what is
--- given more, and so many runs begin.
+-- A receiver takes the segments `more` together, behind these segments. It then holds what the longer list leaves, the
+-- packets that it brought follow those given before, and `begins` runs more have begun.
 pub record AreReceived (Stands : List (List ℤ) → Type 0) (given : List (List ℤ) → List Received)
     (segments more : List (List ℤ)) (begins : ℕ) (brought : List Received) : Type 0 where
   pub stands : Stands (segments ++ more)

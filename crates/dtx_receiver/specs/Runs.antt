@@ -7,7 +7,7 @@ use Rattle.dtx_frame.specs.Detection.{looks_like}
 use Rattle.dtx_receiver.specs.declared.tracking.Tracking.{Tracking}
 use Rattle.dtx_receiver.specs.declared.tracking.Tracking.TheVariants.{Searching, Began, Sync, Data, Ended}
 
--- a field sync is due as the next segment of the run
+-- whether a field sync is due as the next segment of the run
 unfoldable pub sync_due : List (List ℤ) → Bool
 sync_due run = length run % 313 == 0
 
@@ -45,7 +45,7 @@ tracking_of (Some run) looks = if sync_due run then (if looks then Sync else End
 unfoldable pub tracking : List (List ℤ) → List ℤ → Tracking
 tracking segments x = tracking_of (tracked segments).run (looks_like x)
 
--- how many runs begin with a segment that is tracked so
+-- the number of runs that begin with a segment of this kind
 abbrev pub begun : Tracking → ℕ
 begun Began = 1
 begun Searching = 0

@@ -7,10 +7,11 @@ use arrayvec::ArrayVec;
 use dtx_packets::Packet;
 use dtx_sizes::{GROUP_PACKETS, PACKET, PACKET_DATA};
 
-/// How many groups of four data segments go through the outer decoding together at most. Their bytes fill 52 words.
+/// The largest number of groups that pass the outer decoding together. A group is four data segments. 13 groups have
+/// the bytes of 52 words.
 pub const HELD_GROUPS: usize = 13;
 
-/// How many packets a call gives at most: those of so many groups.
+/// The largest number of packets that one call gives: four for each of `HELD_GROUPS` groups.
 pub const MOST_RECEIVED: usize = GROUP_PACKETS * HELD_GROUPS;
 
 /// A packet that was received.
@@ -18,14 +19,15 @@ pub const MOST_RECEIVED: usize = GROUP_PACKETS * HELD_GROUPS;
 pub struct Received {
     /// The packet. Its sync byte is 0x47. Where its word had no correction, its error indicator is set.
     pub packet: Packet,
-    /// How many bytes of its word were wrong and put right, parity bytes included; 0 where it had no correction.
+    /// The number of bytes of its word that were put right, parity bytes included. It is 0 where the word had no
+    /// correction.
     pub fixed: u8,
     /// Whether its word had a correction.
     pub good: bool,
 }
 
 impl Default for Received {
-    /// What stands in a batch's unused places.
+    /// The value that fills the unused places of a batch.
     fn default() -> Received
         ensures packet { result.packet.0 ≡ replicate PACKET 0 }
         ensures fixed { result.fixed ≡ 0 }
@@ -40,7 +42,8 @@ impl Default for Received {
 }
 
 impl Received {
-    /// The packet of a word whose correction has these data and differs from the word in `fixed` bytes.
+    /// The packet of a word that has a correction. `head` holds the packet's bytes behind the sync byte. `fixed` counts
+    /// the bytes in which the word and its correction differ.
     pub fn corrected(head: &[u8; PACKET_DATA], fixed: u8) -> Received
         ensures { result ≡ record { packet = record { 0 = 0x47 ∷ head.now }; fixed = fixed; good = true } }
     {
@@ -51,7 +54,8 @@ impl Received {
         }
     }
 
-    /// The packet of a word that has no correction, from the word's own data.
+    /// The packet of a word that has no correction. `head` holds the word's own data. The packet's error indicator is
+    /// set.
     pub fn as_gathered(head: &[u8; PACKET_DATA]) -> Received
         ensures { result ≡ record { packet = record { 0 = with_error (0x47 ∷ head.now) }; fixed = 0; good = false } }
     {

@@ -11,12 +11,13 @@ use dtx_sizes::{BRANCHES, CODEWORD, GROUP_PACKETS, SEGMENT};
 use std::alloc::{AllocError, Global};
 use std::marker::Model;
 
-/// Receives the transport packets of segments, whose words are corrected. `StandsFor receiver segments` says that the
-/// receiver holds what these segments leave.
+/// Receives segments, corrects the words of their runs, and gives the transport packets. `StandsFor receiver segments`
+/// says that the receiver holds what these segments leave.
 pub type Receiver = RunReceiver<Decoder>;
 
-/// Decodes a run, and corrects its words. `Decodes decoder run` says that it holds what the segments of the run leave.
-/// No bytes are held from one call to the next.
+/// Decodes the segments of a run to packets, and corrects its words. `Decodes decoder run` says that the decoder holds
+/// what the segments of the run leave. Between two calls `groups` holds no bytes of whole groups, since all of these
+/// went to the outer decoding.
 #[derive(Drop)]
 pub struct Decoder {
     groups: Groups,
@@ -91,7 +92,7 @@ impl RunDecoder for Decoder {
     }
 }
 
-/// How many data segments are in whole groups, modulo 52, behind so many groups more.
+/// The number of data segments in whole groups, modulo 52, after `groups` groups more.
 fn turn_behind(turn: u8, groups: usize) -> u8
     requires turn { turn < BRANCHES }
     requires groups { groups ≤ HELD_GROUPS }

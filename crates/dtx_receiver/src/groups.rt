@@ -24,8 +24,9 @@ use std::marker::Model;
 /// How many data segments a group has: one for each packet.
 const GROUP_SEGMENTS: u16 = GROUP_PACKETS as u16;
 
-/// Makes groups of the data segments of a run. `AreGrouped groups run given` says that the value is as the segments of
-/// the run leave it, where `given` are the bytes that were passed on.
+/// Collects the data segments of a run in groups of four, and decodes the levels of each whole group to bytes.
+/// `AreGrouped groups run given` says that the value is as the segments of the run leave it. There `given` are the
+/// bytes that were passed on.
 #[derive(Drop)]
 pub struct Groups {
     levels: [u8; GROUP_LEVELS],
@@ -47,7 +48,7 @@ impl Model for Groups {
 }
 
 impl Groups {
-    /// A value outside any run.
+    /// A value that holds no group. `begin` comes before the first `take`.
     pub fn new() -> Groups
         ensures { result.held ≡ [] }
     {
@@ -109,15 +110,15 @@ impl Groups {
         }
     }
 
-    /// The levels of the group that is under way, or of the last whole one.
+    /// The 3,312 levels of the last whole group. The segments of the group under way have overwritten the first ones.
     pub fn levels(&self) -> &[u8; GROUP_LEVELS]
         ensures { result.now ≡ self.now.levels }
     {
         &self.levels
     }
 
-    /// Copies the bytes of the groups that are held to the front of `out`, and answers how many groups these are. Then
-    /// none is held.
+    /// Copies the bytes of the held groups to the front of `out`, and returns the number of these groups. Then none is
+    /// held.
     pub fn put(&mut self, out: &mut [u8]) -> usize
         requires room { length out.old ≡ GROUP_BYTES * HELD_GROUPS }
         ensures count { result ≡ length self.old.held }
@@ -132,8 +133,8 @@ impl Groups {
         groups
     }
 
-    /// Gives the bytes of the groups that are held to the outer decoding, and adds the packets that they complete to
-    /// the batch. Answers how many groups these are. Then none is held.
+    /// Passes the bytes of the held groups to the outer decoding, and adds the packets that they complete to the batch.
+    /// It returns the number of these groups. Then none is held.
     pub(crate) fn give(&mut self, inner: &mut OuterDecoding, batch: &mut Batch) -> usize
         requires white { inner.old.white ≡ randomizer_bytes }
         requires none { batch.old.packets.items ≡ [] }

@@ -16,8 +16,8 @@ use dtx_whiten::Atsc;
 use std::alloc::{AllocError, Global};
 use std::rc::Rc;
 
-/// The de-interleaver, the Reed-Solomon corrector and the randomizer of the standard. The corrector has 45 kB. It
-/// stands in an `Rc`, since a new value is moved from call to call.
+/// The de-interleaver, the Reed-Solomon corrector and the randomizer of the standard. The corrector's tables take 45
+/// kB. An `Rc` holds the corrector, so that a move of this value doesn't copy the tables.
 pub(crate) type OuterDecoding = Inner<
     Atsc,
     Rc<Fast<CODEWORD, PACKET_DATA>>,
@@ -58,8 +58,8 @@ pub(crate) fn give(inner: &mut OuterDecoding, block: &[u8; CODEWORD], batch: &mu
     hand(taken, &head, batch);
 }
 
-/// Takes the next groups of a run's bytes, four blocks each. The batch gets the packets that they complete. All go
-/// through the gatherer together, which overwrites the bytes. The large arrays are made only for two groups or more,
+/// Takes the next groups of a run's bytes, four blocks each. The batch gets the packets that they complete. All groups
+/// pass the de-interleaver together, which overwrites `bytes`. The large arrays are made only for two groups or more,
 /// since making them takes time.
 pub(crate) fn give_groups(inner: &mut OuterDecoding, bytes: &mut [u8], batch: &mut Batch)
     requires white { inner.old.white ≡ randomizer_bytes }
@@ -98,7 +98,8 @@ pub(crate) fn give_groups(inner: &mut OuterDecoding, bytes: &mut [u8], batch: &m
     );
 }
 
-/// The same, with room for what each block gives.
+/// Does the work of `give_groups`. The caller lends the room for what each block gives: data in `heads`, answers in
+/// `taken`.
 fn give_through(
     inner: &mut OuterDecoding,
     bytes: &mut [u8],

@@ -1,4 +1,4 @@
-//! How far a call of the receiver came.
+//! What a call of the receiver has taken.
 
 ghost use Rattle.std.specs.Prelude.{◌≡◌, ◌≤◌};
 ghost use Rattle.dtx_receiver.specs.Runs as runs;
@@ -8,13 +8,13 @@ use crate::tracking::Tracking;
 /// What a call has done with the segments that it was given.
 #[derive(Clone, Copy, Debug, PartialEq, Eq)]
 pub struct Progress {
-    /// How many of them were received: the first ones.
+    /// The number of segments that were received, from the first one on.
     pub segments: usize,
-    /// How many runs began with these.
+    /// The number of runs that began with them.
     pub runs: u64,
 }
 
-/// How many runs begin with a segment that is tracked so: one or none.
+/// The number of runs that begin with a segment of this kind: 1 for `Began`, else 0.
 pub fn begun(tracking: Tracking) -> u64
     ensures begun { result ≡ runs.begun tracking }
     ensures one { result ≤ 1 }

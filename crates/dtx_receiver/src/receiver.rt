@@ -15,9 +15,9 @@ use dtx_sizes::{FIELD_SEGMENTS, GROUP_PACKETS, SEGMENT};
 use std::alloc::{AllocError, Global};
 use std::marker::Model;
 
-/// Receives the transport packets of segments, which come one after another: it finds the runs, which the decoder
-/// decodes. `Stands D.decodes receiver segments` says that the receiver holds what these segments leave. Segments may
-/// hold any signed bytes, and there may be any number of them.
+/// Receives segments one after another, and gives their transport packets. The receiver finds the runs, and the decoder
+/// decodes them. `Stands D.decodes receiver segments` says that the receiver holds what these segments leave. Segments
+/// may hold any signed bytes, and there may be any number of them.
 #[derive(Drop)]
 pub struct RunReceiver<D: RunDecoder> {
     place: Option<u16>,
@@ -46,9 +46,9 @@ impl<D: RunDecoder> RunReceiver<D> {
         })
     }
 
-    /// Receives the next segment: tells what it is, and gives the packets that become whole with it, in place of what
-    /// the batch held. A packet is given with the group of four data segments from which on 53 data segments or more
-    /// stand in whole groups from the packet's own on. Else it is given with the segment that ends the run. No call
+    /// Receives the next segment, and returns what it is. The packets that become whole with it replace what the batch
+    /// held. A packet comes once 53 data segments or more stand in whole groups of four, counted from the packet's own
+    /// segment. A packet that is whole with fewer comes with the segment that ends the run, or with `finish`. No call
     /// takes memory.
     pub fn take(&mut self, segment: &[i8; SEGMENT], batch: &mut Batch) -> Tracking
         ensures answer { (segments : List (List ℤ)) → Stands D.decodes self.old segments
@@ -63,10 +63,11 @@ impl<D: RunDecoder> RunReceiver<D> {
         self.follow(segment, batch)
     }
 
-    /// Receives the first of some segments, which are given as the bytes of their symbols, and tells how many it took
-    /// and how many runs began with them. It gives the packets that become whole with them, in place of what the batch
-    /// held, as `take` gives them for one after another. Data segments are taken together: up to the next place where a
-    /// field sync is due, but no more than 52. Any other segment is taken alone. No call takes memory.
+    /// Receives one or more of `segments`, from the first on. It returns how many it took, and how many runs began with
+    /// them. Each segment is given as the bytes of its symbols. The packets that become whole replace what the batch
+    /// held. They are those that `take` gives for these segments, one after another. Data segments are taken together,
+    /// up to the next place where a field sync is due, and 52 at most. Any other segment is taken alone. No call takes
+    /// memory.
     pub fn take_some(&mut self, segments: &[[u8; SEGMENT]], batch: &mut Batch) -> Progress
         requires { 0 < length segments.now }
         ensures some { 0 < result.segments }
@@ -90,7 +91,7 @@ impl<D: RunDecoder> RunReceiver<D> {
         self.take_one(&segments[0], batch)
     }
 
-    /// Receives the next data segments, of which at least one is due, where the batch is empty.
+    /// Receives the next data segments, of which at least one is due. The batch is empty before.
     fn take_data(&mut self, place: u16, segments: &[[u8; SEGMENT]], batch: &mut Batch) -> Progress
         requires place { self.old.place ≡ Some place }
         requires due { 0 < place }
@@ -116,7 +117,7 @@ impl<D: RunDecoder> RunReceiver<D> {
         }
     }
 
-    /// Receives the next segment, where the batch is empty.
+    /// Receives the next segment, given as the bytes of its symbols. The batch is empty before.
     fn take_one(&mut self, bytes: &[u8; SEGMENT], batch: &mut Batch) -> Progress
         requires { batch.old.packets.items ≡ [] }
         ensures one { result.segments ≡ 1 }
@@ -135,7 +136,7 @@ impl<D: RunDecoder> RunReceiver<D> {
         }
     }
 
-    /// Receives the next segment, where the batch is empty.
+    /// Receives the next segment, given as its symbols. The batch is empty before.
     fn follow(&mut self, segment: &[i8; SEGMENT], batch: &mut Batch) -> Tracking
         requires { batch.old.packets.items ≡ [] }
         ensures taken { (segments : List (List ℤ)) → Stands D.decodes self.old segments
@@ -169,8 +170,8 @@ impl<D: RunDecoder> RunReceiver<D> {
         }
     }
 
-    /// Ends the run that is on, if one is: gives the packets that are left, in place of what the batch held. The next
-    /// segment is received as the first.
+    /// Ends the run that is on, if there is one. The packets that are left replace what the batch held. The receiver
+    /// then takes the next segment as the first of a list.
     pub fn finish(&mut self, batch: &mut Batch)
         ensures stands { Stands D.decodes self.new [] }
         ensures packets { (segments : List (List ℤ)) → Stands D.decodes self.old segments

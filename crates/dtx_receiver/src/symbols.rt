@@ -3,7 +3,7 @@
 ghost use Rattle.std.specs.Prelude.{◌≡◌, length};
 ghost use Rattle.dtx_receiver.specs.Symbols.{symbols_of};
 
-/// Sets symbols to those of as many bytes, each in two's complement.
+/// Sets each symbol to the byte at its place, read as a signed number in two's complement.
 pub fn to_symbols(bytes: &[u8], symbols: &mut [i8])
     requires { length symbols.old ≡ length bytes.now }
     ensures { symbols.new ≡ symbols_of bytes.now }

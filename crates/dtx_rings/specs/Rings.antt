@@ -1,5 +1,5 @@
--- Branches as lists to which bytes come in rows. A row has one byte for each of the b branches, and the place of a byte
--- is where it stands in its row.
+-- Branches as lists to which bytes come in rows. A row has one byte for each of the b branches. The place of a byte is
+-- its place in its row.
 use Rattle.std.specs.Prelude.{ℕ, ◌≡◌, ◌+◌, ◌-◌, ◌*◌, ◌/◌, ◌%◌, ◌<◌, ◌≤◌, ◌⊎◌, nat_lt, if◌then◌else◌, List, [], ◌++◌}
 use Rattle.std.specs.Prelude.{length, map, take, drop, slice_index, slice_index_or}
 use Rattle.std.specs.List.{range_with_len}
@@ -14,11 +14,11 @@ lists_of rings = map (λ r. r.items) rings
 abbrev pub branches_of : ℕ → List (Buffer ℕ) → Branching
 branches_of next rings = record { next = next; lists = lists_of rings }
 
--- the branch to which the byte at place p comes, where the one at place 0 comes to branch `next`
+-- the branch to which the byte at place p comes, if the byte at place 0 comes to branch `next`
 abbrev pub branch_at : ℕ → ℕ → ℕ → ℕ
 branch_at b next p = if nat_lt (next + p) b then next + p else next + p - b
 
--- how many of so many bytes come to place p
+-- how many of `len` bytes come to place p
 abbrev pub count_at : ℕ → ℕ → ℕ → ℕ
 count_at b len p = len / b + (if nat_lt p (len % b) then 1 else 0)
 
@@ -26,16 +26,16 @@ count_at b len p = len / b + (if nat_lt p (len % b) then 1 else 0)
 abbrev pub column : ℕ → List ℕ → ℕ → List ℕ
 column b bytes p = map (λ k. slice_index bytes (p + k * b)) (range_with_len 0 (count_at b (length bytes) p))
 
--- what a branch holds, and behind it the bytes that come to it at place p
+-- what a branch holds, followed by the bytes that come to it at place p
 abbrev pub joined_at : ℕ → ℕ → List (List ℕ) → List ℕ → ℕ → List ℕ
 joined_at b next lists bytes p = slice_index_or lists (branch_at b next p) [] ++ column b bytes p
 
--- as many of so many bytes come to each of the w places from p on
+-- equally many of `len` bytes come to each of the w places from p on
 abbrev pub IsEven : ℕ → ℕ → ℕ → ℕ → Type 0
 IsEven b p w len = (p + w ≤ len % b) ⊎ (len % b ≤ p)
 
--- Columns have room for 208 bytes each. Of those of the places from `from` on and below `to`, n bytes each have come to
--- their branches, and the n oldest bytes of these have gone. All other branches are as before.
+-- Columns have room for 208 bytes each. The branches of the places from `from` up to `to`, without it, have each taken
+-- n bytes from their columns. Their n oldest bytes have gone. All other branches are as before.
 pub record AreExchanged (b next from to n : ℕ) (old new : List (List ℕ)) (come gone : List ℕ) : Type 0 where
   pub count : length new ≡ length old
   pub kept : (p : ℕ) → from ≤ p → p < to → slice_index_or new (branch_at b next p) []
@@ -45,8 +45,8 @@ pub record AreExchanged (b next from to n : ℕ) (old new : List (List ℕ)) (co
   pub left : (p k : ℕ) → from ≤ p → p < to → k < n → slice_index gone ((p - from) * 208 + k)
       ≡ slice_index (slice_index_or old (branch_at b next p) [] ++ take n (drop ((p - from) * 208) come)) k
 
--- The bytes at the places from `from` on and below `to` have gone through: as many leave each branch as have come to
--- it, and stand where these stood. All other branches and bytes are as before.
+-- The bytes at the places from `from` up to `to`, without it, have gone through. As many leave each branch as have come
+-- to it, and they stand where those stood. All other branches and bytes are as before.
 pub record ArePassed (b next from to : ℕ) (old new : List (List ℕ)) (bytes out : List ℕ) : Type 0 where
   pub count : length new ≡ length old
   pub long : length out ≡ length bytes

@@ -1,4 +1,4 @@
-//! The columns of up to sixteen places at a time: tiles of up to sixteen rows are turned into them, and back.
+//! The columns of up to sixteen places at a time. Tiles of up to sixteen rows are turned into columns, and back.
 
 ghost use Rattle.std.specs.Prelude.{◌≡◌, ℕ, ◌+◌, ◌*◌, ◌/◌, ◌%◌, ◌<◌, ◌≤◌, ◌⊎◌, length, take, slice_index};
 ghost use Rattle.dtx_rings.specs.Tiles.{IsTile, byte_at};
@@ -6,10 +6,10 @@ ghost use Rattle.dtx_rings.specs.Tiles.{IsTile, byte_at};
 use crate::tiles::turned;
 use std::simd::prelude::*;
 
-/// How many rows a column has room for.
+/// The number of rows for which a column has room.
 pub(crate) const ROWS: usize = 208;
 
-/// Takes the bytes of `W` places of some rows into their columns, from row `at` on.
+/// Copies the bytes of `W` places of `count` rows into their columns, from row `at` on.
 #[inline(always)]
 pub(crate) fn take_rows<const B: usize, const W: usize>(
     bytes: &[u8],
@@ -30,7 +30,7 @@ pub(crate) fn take_rows<const B: usize, const W: usize>(
     put_columns::<W>(&turned(&rows_at::<B, W>(bytes, place, count)), columns, at);
 }
 
-/// Puts what leaves the columns, from row `at` on, to `W` places of some rows.
+/// Copies what leaves the columns, from row `at` on, to `W` places of `count` rows.
 #[inline(always)]
 pub(crate) fn put_rows<const B: usize, const W: usize>(
     columns: &[u8],
@@ -51,7 +51,7 @@ pub(crate) fn put_rows<const B: usize, const W: usize>(
     put_tile::<B, W>(&turned(&columns_at(columns, at)), bytes, place, count);
 }
 
-/// The bytes of `W` places of some rows.
+/// The bytes of `W` places of `count` rows.
 #[inline(always)]
 fn rows_at<const B: usize, const W: usize>(bytes: &[u8], place: usize, count: usize) -> [u8x16; 16]
     requires numbers { (B ≤ 64) × (W ≤ 16) × (place + W ≤ B) }
@@ -66,7 +66,7 @@ fn rows_at<const B: usize, const W: usize>(bytes: &[u8], place: usize, count: us
     rows
 }
 
-/// Sixteen bytes, of which the first `W` are those of the slice. All are, where it has so many.
+/// Sixteen bytes, the first `W` of which are those of the slice. If the slice has sixteen bytes, all are.
 #[inline(always)]
 fn front<const W: usize>(bytes: &[u8]) -> u8x16
     requires wide { W ≤ 16 }
@@ -82,7 +82,7 @@ fn front<const W: usize>(bytes: &[u8]) -> u8x16
     u8x16::from_array(whole)
 }
 
-/// Puts the rows of a tile into columns, from row `at` on.
+/// Copies the rows of a tile into columns, from row `at` on.
 #[inline(always)]
 fn put_columns<const W: usize>(tile: &[u8x16; 16], columns: &mut [u8], at: usize)
     requires wide { W ≤ 16 }
@@ -113,7 +113,7 @@ fn columns_at(columns: &[u8], at: usize) -> [u8x16; 16]
     tile
 }
 
-/// Puts `W` bytes of some rows of a tile to their places.
+/// Copies `W` bytes of `count` rows of a tile to their places.
 #[inline(always)]
 fn put_tile<const B: usize, const W: usize>(
     tile: &[u8x16; 16],
@@ -134,7 +134,7 @@ fn put_tile<const B: usize, const W: usize>(
     }
 }
 
-/// Puts the first `W` bytes of a row.
+/// Copies the first `W` bytes of a row.
 #[inline(always)]
 fn put_front<const W: usize>(row: u8x16, bytes: &mut [u8])
     requires wide { W ≤ 16 }

@@ -1,4 +1,5 @@
-//! Some places' bytes of a call, by way of columns. A call has whole tiles of sixteen rows, and fewer rows behind them.
+//! Passes the bytes of some places of a call, by columns. A call has whole tiles of sixteen rows, and fewer rows behind
+//! them.
 
 ghost use Rattle.std.specs.Prelude.{◌≡◌, ℕ, ◌+◌, ◌-◌, ◌*◌, ◌/◌, ◌%◌, ◌<◌, ◌≤◌, ◌⊎◌, length, slice_index};
 ghost use Rattle.dtx_rings.specs.Rings.{lists_of, count_at, IsEven, ArePassed};
@@ -8,8 +9,8 @@ use crate::rings::{Places, count_at, exchange_columns};
 use crate::scratch::Columns;
 use circular_buffer::HeapCircularBuffer;
 
-/// Passes the bytes of `W` places from `place` on, to each of which as many bytes come. The byte at place 0 comes to
-/// ring `next`.
+/// Passes the bytes of `W` places, from `place` on. The same number of bytes comes to each of them. The byte at place 0
+/// comes to ring `next`.
 #[inline(never)]
 pub(crate) fn pass_group<const B: usize, const W: usize>(
     rings: &mut [HeapCircularBuffer<u8>],
@@ -39,7 +40,7 @@ pub(crate) fn pass_group<const B: usize, const W: usize>(
     scatter::<B, W>(gone, place, bytes);
 }
 
-/// Takes the bytes of `W` places into their columns.
+/// Copies the bytes of `W` places into their columns.
 #[inline(always)]
 fn gather<const B: usize, const W: usize>(bytes: &[u8], place: usize, columns: &mut [u8])
     requires numbers { (0 < B) × (B ≤ 64) × (W ≤ 16) × (place + W ≤ B) }
@@ -57,8 +58,8 @@ fn gather<const B: usize, const W: usize>(bytes: &[u8], place: usize, columns: &
     take_last::<B, W>(&bytes[tiles * 16 * B..], place, columns, tiles * 16);
 }
 
-/// Takes the bytes behind whole tiles. The counts of a group of four packets have calls of their own, in which they
-/// are known before the program runs.
+/// Copies the bytes behind whole tiles. The numbers of rows that a group of four packets leaves have calls of their
+/// own, in which the compiler has them as constants.
 #[inline(always)]
 fn take_last<const B: usize, const W: usize>(
     bytes: &[u8],
@@ -86,7 +87,7 @@ fn take_last<const B: usize, const W: usize>(
     }
 }
 
-/// Puts what leaves the columns of `W` places to these.
+/// Copies what leaves the columns of `W` places to these places.
 #[inline(always)]
 fn scatter<const B: usize, const W: usize>(columns: &[u8], place: usize, bytes: &mut [u8])
     requires numbers { (0 < B) × (B ≤ 64) × (W ≤ 16) × (place + W ≤ B) }
@@ -106,7 +107,7 @@ fn scatter<const B: usize, const W: usize>(columns: &[u8], place: usize, bytes: 
     put_last::<B, W>(columns, tiles * 16, &mut bytes[tiles * 16 * B..], place);
 }
 
-/// Puts the bytes behind whole tiles.
+/// Copies what leaves to the bytes behind whole tiles.
 #[inline(always)]
 fn put_last<const B: usize, const W: usize>(
     columns: &[u8],

@@ -1,4 +1,5 @@
-//! Branches, each of which is a ring of its own. Both ways share them, over the branches' widths.
+//! Branches, each of which is a ring of its own. The interleaver and the de-interleaver share them: `W` gives the
+//! branches' widths.
 
 ghost use Rattle.std.specs.Prelude.{◌≡◌, ◌*◌, ◌<◌, length, map, IfOk};
 ghost use Rattle.std.specs.List.{range_with_len};
@@ -13,7 +14,7 @@ use circular_buffer::HeapCircularBuffer;
 use std::alloc::{AllocError, Global};
 use std::marker::{Model, PhantomData};
 
-/// `B` branches, of which each holds as many bytes as `W` says.
+/// `B` branches, each of which holds as many bytes as its width in `W`.
 #[derive(Drop)]
 pub(crate) struct Lines<W: Widths<B, M>, const B: usize, const M: usize> {
     widths: PhantomData<W>,
@@ -34,7 +35,7 @@ impl<W: Widths<B, M>, const B: usize, const M: usize> Model for Lines<W, B, M> {
 }
 
 impl<W: Widths<B, M>, const B: usize, const M: usize> Lines<W, B, M> {
-    /// Aligned, with zeros in every branch.
+    /// Branches that are aligned, with zeros in each. The only error is out of memory.
     pub(crate) fn new(alloc: Global) -> Result<Self, AllocError>
         requires { IsInterleaver B M }
         ensures { IfOk result (λ lines. lines ≡ zeroed B W.widths) }
@@ -51,17 +52,17 @@ impl<W: Widths<B, M>, const B: usize, const M: usize> Lines<W, B, M> {
         })
     }
 
-    /// `B` and `M` are the numbers of an interleaver, the next branch is below `B`, and each branch holds as many bytes
-    /// as its width.
+    /// Gives proofs a fact, and has no effect. `B` and `M` are the numbers of an interleaver, the next branch is below
+    /// `B`, and each branch holds as many bytes as its width.
     pub(crate) fn known(&self)
         ensures numbers { IsInterleaver B M }
         ensures widths { HasWidths B W.widths self.now }
     {
-        // A field that is read tells what each value keeps.
+        // Reading a field gives proofs what each value keeps.
         let _next = &self.next;
     }
 
-    /// Replaces each byte by the one that leaves as it comes.
+    /// Replaces each byte by the one that leaves the next branch.
     pub(crate) fn pass(&mut self, bytes: &mut [u8])
         ensures bytes { bytes.new ≡ leaving_all B self.old bytes.old }
         ensures branches { self.new ≡ after_all B self.old bytes.old }
@@ -75,14 +76,14 @@ impl<W: Widths<B, M>, const B: usize, const M: usize> Lines<W, B, M> {
         }
     }
 
-    /// The next byte goes to branch 0. The branches keep what they hold.
+    /// Makes branch 0 the next one. The branches keep what they hold.
     pub(crate) fn align(&mut self)
         ensures { self.new ≡ aligned self.old }
     {
         self.next = 0;
     }
 
-    /// Passes no more bytes than there is room for.
+    /// Replaces at most as many bytes as there is room for.
     fn pass_some(&mut self, bytes: &mut [u8])
         requires { length bytes.old < ROWS * B }
         ensures bytes { bytes.new ≡ leaving_all B self.old bytes.old }

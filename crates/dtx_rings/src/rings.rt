@@ -12,7 +12,7 @@ use circular_buffer::HeapCircularBuffer;
 use std::alloc::{AllocError, Global};
 use std::simd::prelude::*;
 
-/// A ring of so many zeros, which has room for no more.
+/// A ring of `count` zeros, which has room for no more bytes. The only error is out of memory.
 pub(crate) fn zeros(alloc: Global, count: usize) -> Result<HeapCircularBuffer<u8>, AllocError>
     ensures { IfOk result (λ ring. ring ≡ buffer (replicate count 0) count) }
 {
@@ -23,7 +23,7 @@ pub(crate) fn zeros(alloc: Global, count: usize) -> Result<HeapCircularBuffer<u8
     Ok(ring)
 }
 
-/// Places that follow each other: `width` of them from `first` on, where the byte at place 0 comes to ring `next`.
+/// `width` places that follow each other, from `first` on. The byte at place 0 comes to ring `next`.
 #[derive(Clone, Copy)]
 pub(crate) struct Places {
     pub(crate) next: usize,
@@ -31,7 +31,7 @@ pub(crate) struct Places {
     pub(crate) width: usize,
 }
 
-/// Replaces the bytes, of which the first comes to ring `next`, by those that leave.
+/// Replaces the bytes by those that leave. The first byte comes to ring `next`.
 pub(crate) fn through<const B: usize>(
     rings: &mut [HeapCircularBuffer<u8>],
     next: usize,
@@ -50,8 +50,8 @@ pub(crate) fn through<const B: usize>(
     }
 }
 
-/// Passes the bytes of as many places from one on as a group can have, and gives how many. As many bytes come to each
-/// of a group's places.
+/// Passes the bytes of a group of places from `place` on, and returns how many places these are: 16, 12, 4 or 1. It is
+/// the largest of these numbers for which equally many bytes come to each of the places.
 fn pass_next<const B: usize>(
     rings: &mut [HeapCircularBuffer<u8>],
     next: usize,
@@ -84,7 +84,7 @@ fn pass_next<const B: usize>(
     1
 }
 
-/// To how many places from one on as many of so many bytes come.
+/// The number of places, from `place` on, to which equally many of `len` bytes come.
 fn even_from<const B: usize>(len: usize, place: usize) -> usize
     requires below { place < B }
     ensures some { 0 < result }
@@ -98,7 +98,7 @@ fn even_from<const B: usize>(len: usize, place: usize) -> usize
     }
 }
 
-/// How many of so many bytes come to a place.
+/// The number of `len` bytes that come to a place.
 pub(crate) fn count_at<const B: usize>(len: usize, place: usize) -> usize
     requires some { 0 < B }
     requires room { len < ROWS * B }
@@ -108,7 +108,7 @@ pub(crate) fn count_at<const B: usize>(len: usize, place: usize) -> usize
     len / B + if place < len % B { 1 } else { 0 }
 }
 
-/// Puts columns behind the items of their rings, and as many bytes from their front into `gone`.
+/// Puts columns behind the items of their rings, and takes as many bytes from the items' front into `gone`.
 ///
 /// No other function lends rings, so the compiler builds the lending into this one.
 #[inline(never)]
@@ -138,7 +138,7 @@ pub(crate) fn exchange_columns(
     }
 }
 
-/// The ring, of so many, to which the byte at a place comes.
+/// The ring, one of `branches`, to which the byte at a place comes.
 fn branch_at(branches: usize, next: usize, place: usize) -> usize
     requires few { branches ≤ 64 }
     requires below { (next < branches) × (place < branches) }
@@ -152,7 +152,7 @@ fn branch_at(branches: usize, next: usize, place: usize) -> usize
     }
 }
 
-/// Puts so many bytes of a column behind the items of a ring, and as many bytes from their front into `gone`.
+/// Puts `count` bytes of a column behind the items of a ring, and takes as many from the items' front into `gone`.
 #[inline(always)]
 fn exchange_at(ring: &mut HeapCircularBuffer<u8>, count: usize, column: &[u8], gone: &mut [u8])
     requires columns { (length column.now ≡ ROWS) × (length gone.old ≡ ROWS) }
@@ -164,7 +164,7 @@ fn exchange_at(ring: &mut HeapCircularBuffer<u8>, count: usize, column: &[u8], g
     lent(ring.make_contiguous(), count, column, gone);
 }
 
-/// The same of the items of a ring.
+/// Does the same with the items of a ring.
 #[inline(always)]
 fn lent(items: &mut [u8], count: usize, column: &[u8], gone: &mut [u8])
     requires columns { (length column.now ≡ ROWS) × (length gone.old ≡ ROWS) }
@@ -180,7 +180,7 @@ fn lent(items: &mut [u8], count: usize, column: &[u8], gone: &mut [u8])
     }
 }
 
-/// Puts a column behind the items, and as many bytes from their front into `gone`.
+/// Puts a column behind the items, and takes as many bytes from their front into `gone`.
 #[inline(never)]
 fn exchange_many(items: &mut [u8], column: &[u8], gone: &mut [u8])
     requires { length gone.old ≡ length column.now }
@@ -199,8 +199,8 @@ fn exchange_many(items: &mut [u8], column: &[u8], gone: &mut [u8])
     }
 }
 
-/// Puts so many bytes of a column behind the items, and gives as many from their front. What most calls do is built
-/// into the loop over the rings, and nothing else.
+/// Puts `count` bytes of a column behind the items, and returns as many from their front. Only the case of most calls
+/// is built into the loop over the rings.
 #[inline(always)]
 fn exchange_few(items: &mut [u8], count: usize, column: u8x16) -> u8x16
     requires rows { count ≤ 16 }
@@ -216,7 +216,7 @@ fn exchange_few(items: &mut [u8], count: usize, column: u8x16) -> u8x16
     }
 }
 
-/// The same of any count and any items.
+/// Does the same for any count and any items.
 #[inline(never)]
 fn exchange_some(items: &mut [u8], count: usize, column: u8x16) -> u8x16
     requires rows { count ≤ 16 }
@@ -235,7 +235,7 @@ fn exchange_some(items: &mut [u8], count: usize, column: u8x16) -> u8x16
     first
 }
 
-/// The same where the items are fewer than sixteen.
+/// Does the same where there are fewer than sixteen items.
 fn exchange_short(items: &mut [u8], count: usize, column: u8x16) -> u8x16
     requires rows { count ≤ 16 }
     requires column { length column ≡ 16 }
@@ -252,7 +252,7 @@ fn exchange_short(items: &mut [u8], count: usize, column: u8x16) -> u8x16
     u8x16::from_slice(&joined)
 }
 
-/// The same of sixteen bytes, where the items are at least twice as many.
+/// Does the same for sixteen bytes, where there are at least twice as many items.
 #[inline(always)]
 fn exchange_sixteen(items: &mut [u8], column: u8x16) -> u8x16
     requires column { length column ≡ 16 }

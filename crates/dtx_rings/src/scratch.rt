@@ -1,5 +1,5 @@
-//! Where a call keeps bytes while they go through. A call writes here what it reads, so what an earlier one left
-//! doesn't matter.
+//! The room in which a call keeps bytes while they go through. A call writes here before it reads, so it doesn't matter
+//! what an earlier one left.
 
 use crate::columns::ROWS;
 
@@ -14,7 +14,7 @@ pub(crate) struct Columns {
 }
 
 impl Columns {
-    /// Of zeros.
+    /// Columns of zeros.
     pub(crate) fn new() -> Columns {
         Columns {
             come: [0; ROOM],

@@ -5,7 +5,7 @@ ghost use Rattle.dtx_rings.specs.Tiles.{IsTile, byte_at};
 
 use std::simd::prelude::*;
 
-/// Each row becomes the column of its number.
+/// Turns a tile: each row becomes the column of its number.
 #[inline(always)]
 pub(crate) fn turned(tile: &[u8x16; 16]) -> [u8x16; 16]
     requires { IsTile tile.now }
@@ -15,8 +15,8 @@ pub(crate) fn turned(tile: &[u8x16; 16]) -> [u8x16; 16]
     shuffled(&shuffled(&shuffled(&shuffled(tile))))
 }
 
-/// The rows of each half taken in turn, byte by byte. On the eight bits of a byte's place, the row's before the
-/// column's, this is a turn by one: so four of them exchange row and column.
+/// Takes the rows of the two halves in turn, byte by byte. A byte's place has eight bits, the row's before the
+/// column's, and a shuffle turns them by one. So four shuffles exchange row and column.
 #[inline(always)]
 fn shuffled(tile: &[u8x16; 16]) -> [u8x16; 16]
     requires { IsTile tile.now }
@@ -42,7 +42,7 @@ fn low(a: u8x16, b: u8x16) -> u8x16
     a.shuffle(b, [0, 16, 1, 17, 2, 18, 3, 19, 4, 20, 5, 21, 6, 22, 7, 23])
 }
 
-/// The second halves.
+/// The second halves of two rows, taken in turn.
 #[inline(always)]
 fn high(a: u8x16, b: u8x16) -> u8x16
     requires { length a ≡ 16 }

@@ -1,4 +1,4 @@
-//! How many bytes the branches hold, on each of the two ways.
+//! The numbers of bytes that the branches hold, in each of the two directions.
 
 ghost use Rattle.std.specs.Prelude.{◌≡◌, ℕ, ◌<◌};
 ghost use Rattle.dtx_laws.specs.Branches.{IsInterleaver, spreading, gathering};

@@ -1,4 +1,4 @@
--- Products by which a generator grows.
+-- The products by which a generator grows, one factor at a time.
 use Rattle.std.specs.Prelude.{ℕ, List, [], ◌∷◌}
 use Rattle.std.specs.Int.RustNames.{bit_xor}
 use Rattle.dtx_galois.specs.Field.{mul}

@@ -6,7 +6,7 @@ ghost use Rattle.dtx_rs.specs.Generator.{multiplied};
 
 use dtx_galois::{ALPHA, Gf};
 
-/// The elements of the field, and so the values of a byte. A divisor has fewer coefficients.
+/// The number of field elements, which is the number of values of a byte. A divisor has fewer coefficients.
 pub const ELEMENTS: usize = 256;
 
 /// The coefficients of the generator of degree m below its highest, which is 1, and then zeros.
@@ -23,7 +23,7 @@ pub fn divisor_of(m: usize) -> [u8; ELEMENTS]
     divisor
 }
 
-/// Times x - root, where the highest coefficient, 1, is left out and a 0 stands at the end.
+/// Multiplies a polynomial by x - root. Its highest coefficient, 1, is left out, and a 0 stands at the end.
 fn multiply(divisor: &mut [u8], root: Gf)
     ensures { divisor.new ≡ multiplied root.0 1 divisor.old }
 {

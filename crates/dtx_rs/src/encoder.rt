@@ -17,8 +17,8 @@ use dtx_laws::{Encode, PARITY};
 
 /// The encoder of words of `N` bytes with `K` bytes of data (ATSC A/53 Part 2, Reed-Solomon encoder).
 ///
-/// It holds a table of 20 kB, so make one and keep it. Up to twenty parity bytes are made by the table, four bytes of
-/// data a step, and more than twenty byte by byte.
+/// The value holds a table of 20 kB, so make one and keep it. The table makes up to twenty parity bytes, four bytes of
+/// data a step. More than twenty are made byte by byte.
 #[derive(Drop)]
 pub struct Rs<const N: usize, const K: usize> {
     divisor: [u8; ELEMENTS],
@@ -29,7 +29,7 @@ pub struct Rs<const N: usize, const K: usize> {
 }
 
 impl<const N: usize, const K: usize> Rs<N, K> {
-    /// The encoder, whose table is made here. It takes no memory.
+    /// An encoder with its table. It allocates nothing.
     pub fn new() -> Self
         requires { IsCode N K }
     {
@@ -40,7 +40,7 @@ impl<const N: usize, const K: usize> Rs<N, K> {
         }
     }
 
-    /// The value of a word at the power `i` of α, which is 0 for each `i` where the word is a codeword.
+    /// The value of a word at power `i` of α. In a codeword each of these values is 0.
     pub fn syndrome(&self, word: &[u8; N], i: usize) -> Gf
         requires { i < N - K }
         ensures { result.0 ≡ value word.now (pow 2 i) }
@@ -147,7 +147,7 @@ fn front(divisor: &[u8; ELEMENTS]) -> [u8; WIDTH]
     front
 }
 
-/// Puts as many parity bytes behind the first bytes of a word as there is room for.
+/// Puts parity bytes behind the first `count` bytes of a word, as many as there is room for.
 #[inline(always)]
 fn put_behind(count: usize, parity: &[u8; WIDTH], word: &mut [u8])
     requires room { count ≤ length word.old }
@@ -159,7 +159,7 @@ fn put_behind(count: usize, parity: &[u8; WIDTH], word: &mut [u8])
     rest.copy_from_slice(&parity[..room]);
 }
 
-/// The same with two words, each with parity bytes of its own.
+/// Does the same with two words, each with parity bytes of its own.
 #[inline(always)]
 fn put_behind_two(
     count: usize,
@@ -179,7 +179,7 @@ fn put_behind_two(
     put_behind(count, second, other);
 }
 
-/// The data, and then as many parity bytes as there is room for.
+/// Sets a word to the data, and then as many parity bytes as there is room for.
 fn join(head: &[u8], parity: &[u8; WIDTH], word: &mut [u8])
     requires room { length head.now ≤ length word.old }
     requires few { length word.old ≤ length head.now + WIDTH }

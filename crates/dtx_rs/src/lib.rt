@@ -1,5 +1,5 @@
-//! The Reed-Solomon encoder (ATSC A/53 Part 2, Reed-Solomon encoder): data, and then the parity bytes that make them a
-//! codeword.
+//! The Reed-Solomon encoder (ATSC A/53 Part 2, Reed-Solomon encoder). It puts parity bytes behind data, so that both
+//! together are a codeword.
 #![tactic(auto)]
 
 mod divisor;

@@ -1,4 +1,4 @@
-//! Division byte by byte, for every number of parity bytes.
+//! Division byte by byte, for any number of parity bytes.
 
 ghost use Rattle.std.specs.Prelude.{◌≡◌, ◌+◌, ◌-◌, ◌<◌, ◌≤◌, ◌++◌, length, replicate, take};
 ghost use Rattle.dtx_galois.specs.Field.{AreBytes};
@@ -7,7 +7,7 @@ ghost use Rattle.dtx_laws.specs.Register.{fed, register};
 
 use dtx_galois::Gf;
 
-/// The data, and then the register that was fed with them.
+/// Sets a word to the data, and then the register after all of them.
 pub fn encode_by_register(divisor: &[u8], head: &[u8], word: &mut [u8])
     requires some { 0 < length divisor.now }
     requires long { length word.old ≡ length head.now + length divisor.now }
@@ -19,7 +19,7 @@ pub fn encode_by_register(divisor: &[u8], head: &[u8], word: &mut [u8])
     divide(divisor, head, rest);
 }
 
-/// What stands behind the data of a word becomes the register that was fed with them.
+/// Replaces what stands behind a word's data by the register after all of them.
 pub fn complete_by_register(divisor: &[u8], word: &mut [u8])
     requires some { 0 < length divisor.now }
     requires room { length divisor.now ≤ length word.old }
@@ -33,7 +33,7 @@ pub fn complete_by_register(divisor: &[u8], word: &mut [u8])
     divide(divisor, head, rest);
 }
 
-/// The register of zeros after all the data.
+/// Sets `rest` to the register that began with zeros, after all the data.
 fn divide(divisor: &[u8], head: &[u8], rest: &mut [u8])
     requires some { 0 < length divisor.now }
     requires long { length rest.old ≡ length divisor.now }
@@ -46,7 +46,7 @@ fn divide(divisor: &[u8], head: &[u8], rest: &mut [u8])
     }
 }
 
-/// The register after one more byte.
+/// Moves the register on by one more byte.
 pub fn feed(register: &mut [u8], divisor: &[u8], byte: u8)
     requires same { length register.old ≡ length divisor.now }
     requires some { 0 < length register.old }

@@ -1,4 +1,4 @@
-//! The table by which four bytes of data are divided in one step.
+//! The table by which a step divides four bytes of data at once.
 
 ghost use Rattle.std.specs.Prelude.{◌≡◌, ℕ, ◌+◌, ◌-◌, ◌*◌, ◌/◌, ◌%◌, ◌<◌, ◌≤◌, [], ◌∷◌, ◌++◌, drop, length, map};
 ghost use Rattle.std.specs.Prelude.{replicate, slice_index, slice_index_or, slice_set, take};
@@ -13,15 +13,15 @@ use crate::register::feed;
 use crate::words::{Rest, STEP, Split, WIDTH, WORDS, bytes_of, joined, parted, words_of};
 use std::simd::prelude::*;
 
-/// The rows of one place of a step, one for each byte. Their first words stand apart from those behind, which fill
-/// vectors.
+/// The rows of one place of a step, one for each byte. The first word of a row stands apart, since the other four fill
+/// a vector.
 #[derive(Drop)]
 struct Place {
     firsts: [u32; ELEMENTS],
     rests: [Rest; ELEMENTS],
 }
 
-/// Row f of place k is what the register of zeros holds after the byte f and then k zeros.
+/// Row f of place k is the register that began with zeros, after the byte f and then k zeros.
 #[derive(Drop)]
 pub struct Table {
     pub divisor: [u8; WIDTH],
@@ -37,7 +37,7 @@ pub struct Table {
 }
 
 impl Table {
-    /// The table of a divisor whose highest coefficient, 1, is left out.
+    /// The table of a divisor. Its highest coefficient, 1, is left out.
     pub fn new(divisor: &[u8; WIDTH]) -> Self
         ensures { result.divisor ≡ divisor.now }
     {
@@ -51,7 +51,7 @@ impl Table {
         }
     }
 
-    /// The register of zeros after all the data.
+    /// The register that began with zeros, after all the data.
     pub fn parity(&self, head: &[u8]) -> [u8; WIDTH]
         ensures { result ≡ register self.now.divisor (replicate WIDTH 0) head.now }
     {
@@ -63,8 +63,8 @@ impl Table {
         bytes_of(&joined(state))
     }
 
-    /// The registers of zeros after all the data of each of four heads, by steps in turn, so that none waits for the
-    /// others.
+    /// The registers that began with zeros, after all the data of each of four heads. The steps of the four take turns,
+    /// so that none waits for the others.
     #[inline(always)]
     pub fn parity_of_four(
         &self,
@@ -111,7 +111,7 @@ impl Table {
         self.fed(zeros, &padded(head))
     }
 
-    /// The register of zeros after the data before a place, with the four bytes from that place on.
+    /// The register after the data before place `at`, moved on by the four bytes from there.
     #[inline(always)]
     fn fed_at(&self, state: Split, head: &[u8], at: usize) -> Split
         requires bytes { at + STEP ≤ length head.now }
@@ -171,7 +171,7 @@ impl Place {
         }
     }
 
-    /// This becomes the row of the byte `f`.
+    /// Sets the row of the byte `f`.
     fn set(&mut self, f: usize, row: Split)
         requires { f < ELEMENTS }
         ensures firsts { self.new.firsts ≡ slice_set self.old.firsts f row.first }
@@ -182,7 +182,7 @@ impl Place {
     }
 }
 
-/// The words one place on.
+/// The words of a register, moved on by one word.
 #[inline(always)]
 fn next_words(state: u32x4) -> u32x4
     ensures words { result ≡ drop 1 state ++ 0 ∷ [] }
@@ -191,7 +191,7 @@ fn next_words(state: u32x4) -> u32x4
     state.shuffle(u32x4::splat(0), [1, 2, 3, 4])
 }
 
-/// The bytes before the first whole step, behind as many zeros as make them one.
+/// The bytes before the first whole step, with zeros in front that fill up a step.
 fn padded(head: &[u8]) -> [u8; STEP]
     ensures { result ≡ replicate (STEP - length head.now % STEP) 0 ++ take (length head.now % STEP) head.now }
 {
@@ -201,7 +201,7 @@ fn padded(head: &[u8]) -> [u8; STEP]
     bytes
 }
 
-/// The rows of a step's last place: the register of zeros after each byte.
+/// The rows of a step's last place: the register that began with zeros, after each byte.
 fn last_place(divisor: &[u8; WIDTH]) -> Place
     ensures rows { (f : ℕ) → f < ELEMENTS → word_bytes (slice_index result.firsts f
         ∷ (slice_index_or result.rests f (record { words = [] })).words) ≡ row divisor.now f 0 }
@@ -215,7 +215,7 @@ fn last_place(divisor: &[u8; WIDTH]) -> Place
     place
 }
 
-/// The rows of the place before that of these rows: a zero is fed to each register.
+/// The rows of the place before that of the rows `behind`. Each register takes one zero more.
 fn place_before(divisor: &[u8; WIDTH], behind: &Place) -> Place
     ensures rows { (f : ℕ) → f < ELEMENTS → word_bytes (slice_index result.firsts f
         ∷ (slice_index_or result.rests f (record { words = [] })).words)

@@ -1,4 +1,4 @@
-//! Registers as words of four bytes, the lowest byte of each first, as they stand in the memory of most machines.
+//! Registers as words of four bytes. The lowest byte of a word comes first, as in the memory of most machines.
 
 ghost use Rattle.std.specs.Prelude.{◌≡◌, ◌∷◌, length};
 ghost use Rattle.dtx_rs.specs.declared.words.TheConstants.{REST};
@@ -7,19 +7,19 @@ ghost use Rattle.dtx_rs.specs.Table.{word_bytes};
 use dtx_laws::PARITY;
 use std::simd::prelude::*;
 
-/// The bytes of a word, which are fed in one step.
+/// The number of bytes in a word, which one step takes.
 pub const STEP: usize = 4;
 
-/// The words of a register.
+/// The number of words of a register.
 pub const WORDS: usize = 5;
 
-/// The words of a register behind its first: they fill a vector.
+/// The number of words of a register behind the first: they fill a vector.
 pub const REST: usize = WORDS - 1;
 
-/// The bytes of a register.
+/// The number of bytes of a register.
 pub const WIDTH: usize = PARITY;
 
-/// A register whose first word, which is added to the next bytes, stands apart: the others fill a vector.
+/// A register. Its first word, which is added to the next bytes, stands apart, since the others fill a vector.
 #[derive(Clone, Copy, Drop)]
 pub struct Split {
     /// The first word.
@@ -31,7 +31,7 @@ pub struct Split {
 /// The words of a row of a table behind its first.
 #[derive(Clone, Copy, Drop)]
 pub struct Rest {
-    /// As many as fill a vector.
+    /// The four words, which fill a vector.
     pub words: u32x4,
 }
 
@@ -46,7 +46,7 @@ pub fn bytes_of(words: &[u32; WORDS]) -> [u8; WIDTH]
     bytes
 }
 
-/// The words of a register whose first stands apart.
+/// The words of a register, joined to one array.
 pub fn joined(split: Split) -> [u32; WORDS]
     ensures { result ≡ split.first ∷ split.rest }
 {
@@ -54,7 +54,7 @@ pub fn joined(split: Split) -> [u32; WORDS]
     [split.first, rest[0], rest[1], rest[2], rest[3]]
 }
 
-/// The words of a register, the first apart.
+/// The words of a register, with the first one apart.
 pub fn parted(words: &[u32; WORDS]) -> Split
     ensures words { result.first ∷ result.rest ≡ words.now }
     ensures long { length result.rest ≡ REST }
@@ -65,7 +65,7 @@ pub fn parted(words: &[u32; WORDS]) -> Split
     }
 }
 
-/// The words of these bytes.
+/// The words that have these bytes.
 pub fn words_of(bytes: &[u8; WIDTH]) -> [u32; WORDS]
     ensures { word_bytes result ≡ bytes.now }
 {

@@ -1,5 +1,4 @@
--- Where a packet of a stream stands in its field, the first of which begins a first field (ATSC A/53 Part 2, data
--- field).
+-- The place of a packet of a stream in its field. The first packet begins a first field (ATSC A/53 Part 2, data field).
 use Rattle.std.specs.Prelude.{ℕ, ◌%◌, nat_le}
 use Rattle.dtx_sizes.specs.declared.fields.FieldPlace.{FieldPlace}
 

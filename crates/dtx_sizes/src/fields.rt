@@ -2,25 +2,25 @@
 ghost use Rattle.std.specs.Prelude.{◌≡◌};
 ghost use Rattle.dtx_sizes.specs.Fields as spec;
 
-/// How many packets make a group: as many as it takes until the coders and the bytes meet again.
+/// How many packets make a group. After a group each trellis coder begins a byte again.
 pub const GROUP_PACKETS: usize = 4;
 
-/// How many packets a field has, and so data segments.
+/// How many packets a field has, which is how many data segments it has.
 pub const FIELD_PACKETS: u16 = 312;
 
 /// How many segments a field has: its field sync and its data segments.
 pub const FIELD_SEGMENTS: u16 = 313;
 
-/// How many packets a frame has, which is two fields. From one cadence mark to the next it is as many (the profile's
-/// own).
+/// How many packets a frame has, which is two fields. One cadence mark is as many packets behind the one before (the
+/// profile's own).
 pub const FRAME_PACKETS: u16 = 624;
 
-/// Where a packet of a stream stands, the first of which begins a frame.
+/// The place of a packet in a stream that begins with a frame.
 #[derive(Clone, Copy, Debug, PartialEq, Eq)]
 pub struct FieldPlace {
     /// Its place in its field, below 312.
     pub place: u16,
-    /// Its field is the second one of a frame.
+    /// Whether its field is the second one of a frame.
     pub second: bool,
 }
 

@@ -1,4 +1,4 @@
-//! The numbers, and how they hang together.
+//! The values of the sizes, and the relations between them.
 ghost use Rattle.std.specs.Prelude.{◌≡◌, ◌+◌, ◌*◌};
 
 use crate::codewords::{BRANCH_STEP, BRANCHES, CODEWORD, FLUSHING_PACKETS};

@@ -9,7 +9,7 @@ pub const SEGMENT_SYNC: usize = 4;
 /// How many data symbols a data segment has.
 pub const SEGMENT_LEVELS: usize = 828;
 
-/// How many precode symbols a field sync has: it repeats so many of the last symbols of the segment before it.
+/// How many precode symbols a field sync has. They repeat the last symbols of the segment before it.
 pub const PRECODE: usize = 12;
 
 /// How many trellis coders take turns.

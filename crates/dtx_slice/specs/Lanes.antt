@@ -3,11 +3,11 @@
 use Rattle.std.specs.Prelude.{ℕ, ◌+◌, ◌-◌, ◌*◌, ◌/◌, ◌%◌, List, slice_index}
 use Rattle.dtx_slice.specs.Unrolled.{pair_from}
 
--- where the lane's symbol of round i of the four stands: where a segment has ended among them, four places back
+-- the place of the lane's symbol in round i of the four: if a segment has ended among them, it stands four places back
 unfoldable pub lane_place : ℕ → ℕ → ℕ → ℕ
 lane_place h i p = 12 * (4 * h + i) + (p + 12 - 4 * ((4 * h + i) / 69 - 4 * h / 69)) % 12
 
--- its level
+-- the level of that symbol
 abbrev pub lane_level : List ℕ → ℕ → ℕ → ℕ → ℕ
 lane_level levels h i p = slice_index levels (lane_place h i p)
 

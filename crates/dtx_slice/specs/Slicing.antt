@@ -12,7 +12,7 @@ sliced (negsuc n) = if nat_le n 7 then (7 - n) / 2 else 0
 unfoldable pub sliced_data : List ℤ → List ℕ
 sliced_data segment = map sliced (drop 4 segment)
 
--- the levels of its last twelve symbols
+-- the levels of a segment's last twelve symbols
 unfoldable pub sliced_last : List ℤ → List ℕ
 sliced_last segment = map sliced (drop 820 segment)
 

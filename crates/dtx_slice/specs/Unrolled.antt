@@ -1,12 +1,12 @@
 -- From the levels of whole groups, 3312 each, back to their bytes: the inverse of the twelve trellis coders (ATSC A/53
--- Part 2, trellis coding). The first group is at place s of its field, each further one four places on. Z2 is a level's
--- highest bit and Z1 the one below. A coder's precoder bit is Z2 of its symbol before; that before its first symbol is
--- given, coder e's as number e of a list. Rounds are counted from 0, 276 in a group; in each every coder has one
--- symbol.
+-- Part 2, trellis coding). The first group is at place s of its field, and each further one four places on. Z2 is a
+-- level's highest bit, and Z1 the one below. A coder's precoder bit is Z2 of its symbol before. A list gives the bit
+-- before each coder's first symbol: number e is for coder e. Rounds are counted from 0, 276 in a group. In a round each
+-- coder has one symbol.
 use Rattle.std.specs.Prelude.{ℕ, ◌+◌, ◌-◌, ◌*◌, ◌/◌, ◌%◌, ◌==◌, if◌then◌else◌, List, length, map, slice_index}
 use Rattle.std.specs.List.{range_with_len}
 
--- Where coder e's symbol of round r stands. The coders move on by four from segment to segment, of 69 rounds each.
+-- The place of coder e's symbol of round r. The coders move on by four from segment to segment, of 69 rounds each.
 unfoldable pub symbol_place : ℕ → ℕ → ℕ → ℕ
 symbol_place s r e = 12 * r + (e + 12 - 4 * ((s + r / 69) % 3)) % 12
 
@@ -46,13 +46,13 @@ unfoldable pub bytes_back : ℕ → List ℕ → List ℕ → List ℕ
 bytes_back s precoder_bits levels = map (byte_back s precoder_bits levels) (range_with_len 0
     (828 * level_groups levels))
 
--- the precoder bits of coders 0 to 11 behind all groups
+-- the precoder bits of coders 0 to 11 after all groups
 unfoldable pub precoder_bits_after : ℕ → List ℕ → List ℕ → List ℕ
 precoder_bits_after s precoder_bits levels = map (precoder_bit s precoder_bits levels (276 * level_groups levels))
     (range_with_len 0 12)
 
--- the precoder bits of coders 0 to 11, from the levels of the last twelve symbols of a field sync. These repeat the
--- last symbols of a field, and so number q is of coder (q + 8) mod 12.
+-- The precoder bits of coders 0 to 11, from the levels of the last twelve symbols of a field sync. These repeat the
+-- last symbols of a field. So number q of them is of coder (q + 8) mod 12.
 unfoldable pub precoder_bits_of : List ℕ → List ℕ
 precoder_bits_of last = map (λ e. slice_index last ((e + 4) % 12) / 4) (range_with_len 0 12)
 

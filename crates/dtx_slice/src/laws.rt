@@ -8,7 +8,7 @@ ghost use Rattle.dtx_slice.specs.Unrolled.{bytes_back, precoder_bits_after, prec
 use dtx_sizes::{GROUP_BYTES, GROUP_LEVELS, PRECODE};
 
 /// Let the precoder bits be those of the coders' states. Then the bytes of whole groups come back from the levels that
-/// the coders give. The precoder bits behind them are those of the states that the coders leave.
+/// the coders give. The precoder bits after these groups are those of the states that the coders leave.
 pub fn inverts()
     ensures bytes { (s u : ℕ) (states bytes : List ℕ) → length bytes ≡ GROUP_BYTES * u
         → EachIndex bytes (λ j. slice_index bytes j < 256)
@@ -18,7 +18,7 @@ pub fn inverts()
         ≡ precoder_bits_in (states_after s states bytes) }
 {}
 
-/// Behind `u` whole groups the bytes go on from the precoder bits that these leave.
+/// After `u` whole groups the bytes go on from the precoder bits that these leave.
 pub fn group_after_group()
     ensures bytes { (s u : ℕ) (precoder_bits y z : List ℕ) → length y ≡ GROUP_LEVELS * u
         → bytes_back s precoder_bits (y ++ z) ≡ bytes_back s precoder_bits y

@@ -1,4 +1,4 @@
-//! Slicing: from a symbol, however damaged, to the level that it is nearest to.
+//! Slicing: from a symbol, however damaged, to the nearest level.
 
 ghost use Rattle.std.specs.Prelude.{◌≡◌, ℕ, pos, ◌+◌, ◌*◌, ◌<◌, ◌≤◌, ◌++◌, EachIndex, length, take, drop};
 ghost use Rattle.std.specs.Prelude.{slice_index, slice_index_or};
@@ -10,11 +10,11 @@ use std::simd::prelude::*;
 /// How many lanes a vector has.
 const LANES: usize = 16;
 
-/// How many times three vectors fit into the data symbols of a segment. Twelve symbols are left.
+/// The number of steps of three vectors in the data symbols of a segment. Twelve symbols are left.
 const PARTS: usize = SEGMENT_LEVELS / (3 * LANES);
 
-/// The level, 0 to 7, of a symbol, which may be any signed byte (ATSC A/53 Part 2, the levels of 8-VSB; where the
-/// levels part is the profile's own).
+/// The level, 0 to 7, of a symbol, which may be any signed byte (ATSC A/53 Part 2, the levels of 8-VSB). The limits
+/// between levels are the profile's own.
 pub fn level(symbol: i8) -> u8
     ensures level { result ≡ sliced symbol }
     ensures small { result < 8 }
@@ -31,8 +31,8 @@ pub fn levels(segment: &[i8; SEGMENT], out: &mut [u8; SEGMENT_LEVELS])
     slice_data(segment, out);
 }
 
-/// Writes the levels of the data symbols of segment number `at` of a group to their places among the levels of the
-/// group.
+/// Writes the levels of the data symbols of a segment to their places among the levels of a group. `at` is the
+/// segment's number in the group, 0 to 3.
 pub fn put_levels(segment: &[i8; SEGMENT], at: usize, group: &mut [u8; GROUP_LEVELS])
     requires { at < GROUP_PACKETS }
     ensures levels { group.new ≡ take (SEGMENT_LEVELS * at) group.old ++ sliced_data segment.now
@@ -58,7 +58,7 @@ pub fn last_levels(segment: &[i8; SEGMENT]) -> [u8; PRECODE]
     out
 }
 
-/// Writes the levels of the data symbols of a segment, three vectors in a turn. The last twelve are in the last vector.
+/// Writes the levels of the data symbols of a segment, three vectors a step. The last vector holds the last twelve.
 #[inline(never)]
 fn slice_data(segment: &[i8; SEGMENT], out: &mut [u8])
     requires { length out.old ≡ SEGMENT_LEVELS }

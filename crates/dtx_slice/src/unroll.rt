@@ -7,8 +7,8 @@ use crate::walk::{last_precoder_bits, walk};
 use dtx_sizes::{CODERS, FIELD_PACKETS, GROUP_BYTES, GROUP_LEVELS, GROUP_PACKETS, PRECODE};
 use std::marker::Model;
 
-/// The precoder bits of the twelve trellis coders: of each Z2 of its last symbol, to which its precoder adds the next
-/// X2 (ATSC A/53 Part 2, trellis coding).
+/// The precoder bits of the twelve trellis coders. A coder's bit is Z2 of its last symbol, to which its precoder adds
+/// the next X2 (ATSC A/53 Part 2, trellis coding).
 #[derive(Drop)]
 pub struct Unroll {
     precoder_bits: [u8; CODERS],
@@ -25,7 +25,7 @@ impl Model for Unroll {
 }
 
 impl Unroll {
-    /// Each coder's precoder bit is 0.
+    /// A value in which each coder's precoder bit is 0.
     pub fn new() -> Unroll
         ensures { result ≡ replicate CODERS 0 }
     {
@@ -45,8 +45,8 @@ impl Unroll {
         self.precoder_bits = precoder_bits;
     }
 
-    /// The bytes of the group whose first segment is at place `first` of its field, from its levels. The next group
-    /// goes on from the precoder bits that this one leaves.
+    /// Writes the bytes of a group, from its levels. `first` is the place of the group's first segment in its field.
+    /// The next group goes on from the precoder bits that this one leaves.
     pub fn group(&mut self, first: u16, levels: &[u8; GROUP_LEVELS], bytes: &mut [u8; GROUP_BYTES])
         requires in_field { first < FIELD_PACKETS }
         requires whole { first % GROUP_PACKETS ≡ 0 }

@@ -1,4 +1,4 @@
-//! Walks the levels of a group, with the coders side by side.
+//! Decodes the levels of a group, with the coders side by side.
 
 ghost use Rattle.std.specs.Prelude.{◌≡◌, ℕ, ◌+◌, ◌*◌, ◌/◌, ◌%◌, ◌<◌, ◌≤◌, List, EachIndex, length};
 ghost use Rattle.std.specs.Prelude.{slice_index};
@@ -11,28 +11,28 @@ use dtx_sizes::{
 };
 use std::simd::prelude::*;
 
-/// How many lanes a vector has. In the four rounds of a byte, lane p is of the coder at place p of the first of them;
-/// lanes 12 to 15 are of none.
+/// The number of lanes of a vector. In the four rounds of a byte, lane p is of the coder at place p of the first of
+/// them. Lanes 12 to 15 are unused.
 const LANES: usize = 16;
 
-/// The share of each level in its byte, where it is the first of the byte's four. Z1 is in its own pair, Z2 in that and
-/// in the next one.
+/// What each level adds to its byte where it is the first of the byte's four. Z1 counts in its own pair, and Z2 in that
+/// and in the next one.
 const FIRST: [u8; LANES] = [0, 0, 64, 64, 160, 160, 224, 224, 0, 0, 0, 0, 0, 0, 0, 0];
 
-/// The same of the second level.
+/// What the second level adds to its byte.
 const SECOND: [u8; LANES] = [0, 0, 16, 16, 40, 40, 56, 56, 0, 0, 0, 0, 0, 0, 0, 0];
 
-/// The same of the third level.
+/// What the third level adds to its byte.
 const THIRD: [u8; LANES] = [0, 0, 4, 4, 10, 10, 14, 14, 0, 0, 0, 0, 0, 0, 0, 0];
 
-/// The same of the fourth level.
+/// What the fourth level adds to its byte.
 const FOURTH: [u8; LANES] = [0, 0, 1, 1, 2, 2, 3, 3, 0, 0, 0, 0, 0, 0, 0, 0];
 
-/// The same of the level before the four.
+/// What the level before the four adds to the byte.
 const BEFORE: [u8; LANES] = [0, 0, 0, 0, 128, 128, 128, 128, 0, 0, 0, 0, 0, 0, 0, 0];
 
-/// How many bytes of each coder stand between two on which it works at a segment's end. In the first segment one more
-/// stands in front.
+/// The number of each coder's bytes between two on which it works at a segment's end. The first segment has one more in
+/// front.
 const WHOLE_BYTES: usize = SEGMENT_ROUNDS / 4 - 1;
 
 /// The last byte of a coder.
@@ -41,7 +41,7 @@ const LAST_BYTE: usize = CODER_BYTES - 1;
 /// The last round of a group.
 const LAST_ROUND: usize = ROUNDS - 1;
 
-/// Writes the bytes of a group, from these precoder bits and its levels.
+/// Writes the bytes of a group, from its levels and these precoder bits.
 pub(crate) fn walk(
     precoder_bits: &[u8; CODERS],
     first: usize,
@@ -65,7 +65,7 @@ pub(crate) fn walk(
     }
 }
 
-/// Writes sixteen bytes of each coder, from number `from` on, on each of which it works within a segment.
+/// Writes sixteen bytes of each coder, from number `from` on. A coder works on each of them within one segment.
 #[inline(never)]
 fn walk_whole(levels: &[u8; GROUP_LEVELS], from: usize, bytes: &mut [u8; GROUP_BYTES])
     requires from { 0 < from }
@@ -104,7 +104,8 @@ fn four_rounds(before: u8x16, levels: &[u8; GROUP_LEVELS], byte: usize) -> u8x16
     )
 }
 
-/// The same where no segment ends in the four rounds, nor the group, and the levels of the last round are at hand.
+/// The same, where the four rounds are in one segment and aren't the group's last ones. The caller gives the levels of
+/// the last of the four.
 #[inline(always)]
 fn whole_rounds(before: u8x16, levels: &[u8; GROUP_LEVELS], byte: usize, last: u8x16) -> u8x16
     requires byte { byte < LAST_BYTE }
@@ -144,7 +145,7 @@ fn joined(before: u8x16, first: u8x16, second: u8x16, third: u8x16, fourth: u8x1
     shares(BEFORE, before) ^ high ^ low
 }
 
-/// The share of each lane's level, by a table.
+/// What each lane's level adds to its byte, by a table.
 #[inline(always)]
 fn shares(table: [u8; LANES], levels: u8x16) -> u8x16
     requires { EachIndex levels (λ p. slice_index levels p < 8) }
@@ -222,7 +223,7 @@ fn load_last(levels: &[u8; GROUP_LEVELS]) -> u8x16
     last.swizzle([4, 5, 6, 7, 8, 9, 10, 11, 12, 13, 14, 15, 0, 1, 2, 3])
 }
 
-/// Writes twelve bytes, byte number `byte` of each coder. Those further on may change.
+/// Writes twelve bytes, byte number `byte` of each coder. The bytes behind them may change.
 #[inline(always)]
 fn store(bytes: &mut [u8; GROUP_BYTES], byte: usize, lanes: u8x16)
     requires { byte < CODER_BYTES }

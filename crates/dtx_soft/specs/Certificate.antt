@@ -2,12 +2,12 @@
 use Rattle.std.specs.Prelude.{ℕ, ℤ, pos, ◌≡◌, ◌+◌, ◌/◌, ◌%◌, ◌<◌, ◌≤◌, List, [], length, slice_index, slice_index_or}
 use Rattle.dtx_soft.specs.Paths.{IsPath, cost, next_state, squared, symbol_at}
 
--- no state's entry is above what a step from it costs and the entry of the state that the step leads to
+-- each state's entry is at most what a step from it costs, plus the entry of the state that the step leads to
 abbrev pub AllowsSteps : ℤ → List ℕ → List ℕ → Type 0
 AllowsSteps symbol entry behind = (state z : ℕ) → state < 4 → z < 8 → z % 2 ≡ state / 2
     → slice_index entry state ≤ squared symbol (symbol_at 1 z) + slice_index behind (next_state state z)
 
--- at every symbol
+-- the same at every symbol
 abbrev pub AllowAllSteps : List ℤ → List (List ℕ) → Type 0
 AllowAllSteps symbols potentials = (t : ℕ) → t < length symbols
     → AllowsSteps (slice_index_or symbols t (pos 0)) (slice_index_or potentials t [])
@@ -17,8 +17,9 @@ AllowAllSteps symbols potentials = (t : ℕ) → t < length symbols
 abbrev pub HasLeast : List ℕ → ℕ → Type 0
 HasLeast entry start = (state : ℕ) → state < 4 → slice_index entry start ≤ slice_index entry state
 
--- All that is to be tested. The levels are a path from the start, the last entry is zeros, and no step goes below its
--- entry. The path costs what the first entry has for its start, where no other state has less.
+-- What `proves` tests. The levels are a path from the start, and the last entry is zeros. Each entry is at most what a
+-- step costs, plus the entry behind it. The path costs what the first entry has for its start, and no other state has
+-- less there.
 pub record IsCertificate (symbols : List ℤ) (start : ℕ) (levels : List ℕ) (potentials : List (List ℕ)) : Type 0 where
   pub begins : start < 4
   pub long : length levels ≡ length symbols

@@ -14,7 +14,7 @@ unfoldable pub coder_symbols : List (List ℤ) → ℕ → List ℤ
 coder_symbols segments e =
     map (λ t. data_symbol segments (symbol_place 0 t e)) (range_with_len 0 (69 * length segments))
 
--- symbols that were replaced by those of their least path
+-- the new symbols are those of a least path over the old ones
 pub record AreLeast (scale : ℕ) (old new : List ℤ) : Type 0 where
   pub start : ℕ
   pub levels : List ℕ
@@ -30,7 +30,7 @@ KeepsSyncs old new = (i k : ℕ) → k < 4
 unfoldable pub coders_distance : List (List ℤ) → List (List ℤ) → ℕ → ℕ
 coders_distance old new n = sum (map (λ e. distance (coder_symbols old e) (coder_symbols new e)) (range_with_len 0 n))
 
--- and how far all symbols of segments are, segment by segment
+-- how far all symbols of segments are off the old ones, in the sum of the squares, segment by segment
 unfoldable pub segments_distance : List (List ℤ) → List (List ℤ) → ℕ
 segments_distance old new =
     sum (map (λ i. distance (slice_index_or old i []) (slice_index_or new i [])) (range_with_len 0 (length old)))

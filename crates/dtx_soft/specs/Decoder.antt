@@ -1,4 +1,4 @@
--- What a soft decoder is seen as.
+-- The value by which contracts see a soft decoder.
 use Rattle.std.specs.Prelude.{ℕ, List, []}
 
 -- the scale of its levels, and the potentials of the symbols that it decoded last
@@ -6,6 +6,6 @@ pub record Decoder : Type 0 where
   pub scale : ℕ
   pub potentials : List (List ℕ)
 
--- before any symbols
+-- the value before any symbols
 abbrev pub new_decoder : ℕ → Decoder
 new_decoder scale = record { scale = scale; potentials = [] }

@@ -1,5 +1,5 @@
--- Differences of costs in units, by which the coders are decoded side by side. At one symbol the squares of all levels
--- are alike but for multiples of four times the scale.
+-- Differences of costs, in units, by which the coders are decoded side by side. At one symbol the squares of all levels
+-- differ by multiples of four times the scale.
 use Rattle.std.specs.Prelude.{ℕ, ℤ, pos, ◌≡◌, ◌+◌, ◌*◌, ◌/◌, ◌%◌, ◌^◌, ◌<◌, ◌≤◌, ◌+ℤ◌, ◌≤ℤ◌, max, min, List, []}
 use Rattle.std.specs.Prelude.{◌∷◌, length, map, drop, nat_le, nat_lt, if◌then◌else◌, slice_index, slice_index_or}
 use Rattle.std.specs.Int.{int_min}
@@ -29,7 +29,7 @@ pub record AreGaps (unit : ℕ) (costs : List ℕ) (even odd across : ℤ) : Typ
 abbrev pub HasGaps : ℕ → List ℕ → Gap ℤ → Type 0
 HasGaps scale costs gap = AreGaps (unit scale) costs gap.even gap.odd gap.across
 
--- so small are they always: a walk of two steps leads from each state to each
+-- bounds that the differences always keep, since two steps lead from each state to each state
 pub record IsBounded (gap : Gap ℤ) : Type 0 where
   pub even_from : pos 0 ≤ℤ (gap.even +ℤ pos 2400)
   pub even_to : gap.even ≤ℤ pos 2400
@@ -65,8 +65,8 @@ row_of scale symbol = record {
   filler = 0;
 }
 
--- Of the gaps of a symbol's squares and of the potentials behind it. There is the sum of the even ones, or 0 where it
--- is more, the lesser of the even ones, and the same of the odd ones.
+-- The terms of the gaps of a symbol's squares and those of the potentials behind it. `a` is the sum of the even gaps,
+-- capped at 0, and `b` the lesser of them; `g` and `h` are the same of the odd gaps.
 pub record AreLesser (squares : SquareGaps ℤ) (gap : Gap ℤ) (a b g h : ℤ) : Type 0 where
   pub first : a ≡ int_min (squares.even +ℤ gap.even) (pos 0)
   pub second : b ≡ int_min squares.even gap.even
@@ -78,19 +78,20 @@ abbrev pub IsBefore : ℕ → ℤ → Gap ℤ → Gap ℤ → Type 0
 IsBefore scale symbol old new = (behind before : List ℕ) → HasGaps scale behind old
     → ((s : ℕ) → s < 4 → slice_index before s ≡ cheapest (row_of scale symbol) behind s) → HasGaps scale before new
 
--- bit s of the marks is 1 where of the two pairs of levels that may follow state s the second is to be taken
+-- Bit s of the marks is for state s. It is 1 where the second of the two pairs of levels that may follow the state is
+-- to be taken.
 abbrev pub AreTaken : ℕ → ℤ → Gap ℤ → ℕ → Type 0
 AreTaken scale symbol gap marks = (behind : List ℕ) → HasGaps scale behind gap → (s : ℕ) → s < 4
     → IsTaken (row_of scale symbol) behind s (marks / 2 ^ s % 2)
 
--- both, at a symbol that is a signed byte
+-- `IsBefore` and `AreTaken`, at a symbol that is a signed byte
 pub record IsStep (scale : ℕ) (symbol : ℤ) (old new : Gap ℤ) (marks : ℕ) : Type 0 where
   pub from : pos 0 ≤ℤ (symbol +ℤ pos 128)
   pub to : symbol ≤ℤ pos 127
   pub gaps : IsBefore scale symbol old new
   pub taken : AreTaken scale symbol old marks
 
--- those of one lane, or else others
+-- the gaps of lane n, or `other` where there is no such lane
 abbrev pub gap_or : {A : Type 0} → Gaps A → ℕ → A → Gap A
 gap_or gaps n other = record {
   even = slice_index_or gaps.even n other;
@@ -118,7 +119,8 @@ pub record AreMarks (scale : ℕ) (symbols : List ℤ) (t marks : ℕ) : Type 0 
   pub taken : (s : ℕ) → s < 4
       → IsTaken (row_of scale (slice_index_or symbols t (pos 0))) behind s (marks / 2 ^ s % 2)
 
--- what a walk back to symbol t gives: the gaps there of each lane, whatever their width, and the marks from there on
+-- what a walk back to symbol t gives: the gaps of each lane there, in bytes or in numbers of 16 bits, and the marks
+-- from there on
 pub record AreWalked (scale t : ℕ) (rounds : List (List ℤ)) (gaps : ℕ → Gap ℤ) (marks : List (List ℕ)) : Type 0 where
   pub gaps_are : (n : ℕ) → n < 16 → AreLeastGaps scale (drop t (column rounds n)) (gaps n)
   pub marks_are : (k n : ℕ) → t ≤ k → k < length rounds → n < 16

@@ -45,7 +45,7 @@ abbrev pub HoldPotentials : ℕ → List ℤ → List (List ℕ) → Type 0
 HoldPotentials scale symbols potentials = (t state : ℕ) → t ≤ length symbols → state < 4
     → IsPotential scale (drop t symbols) state (slice_index (slice_index_or potentials t []) state)
 
--- and there is one entry more than there are symbols
+-- the same, with one entry more than there are symbols
 pub record ArePotentials (scale : ℕ) (symbols : List ℤ) (potentials : List (List ℕ)) : Type 0 where
   pub long : length potentials ≡ length symbols + 1
   pub least : HoldPotentials scale symbols potentials

@@ -27,7 +27,7 @@ costs_least scale symbols path =
 unfoldable pub least_path : ℕ → List ℤ → List ℕ
 least_path scale symbols = unwrap_or (find (costs_least scale symbols) (all_paths (length symbols))) []
 
--- its start and its levels
+-- the start and the levels of the least path
 abbrev pub least_start : ℕ → List ℤ → ℕ
 least_start scale symbols = slice_index (least_path scale symbols) 0
 

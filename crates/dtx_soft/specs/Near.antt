@@ -14,7 +14,7 @@ pub record FitBytes (scale : ℕ) (rounds : List (List ℤ)) : Type 0 where
   pub small : scale ≤ 4
   pub near : (t n : ℕ) → t < length rounds → n < 16 → IsNear (slice_index_or (slice_index_or rounds t []) n (pos 0))
 
--- so small are the gaps of squares at symbols near 0 and scales 1 to 4
+-- bounds of the gaps of squares, at symbols near 0 and scales 1 to 4
 pub record AreNear (squares : SquareGaps ℤ) : Type 0 where
   pub even_from : pos 0 ≤ℤ (squares.even +ℤ pos 50)
   pub even_to : squares.even ≤ℤ pos 50
@@ -29,7 +29,7 @@ pub record AreNear (squares : SquareGaps ℤ) : Type 0 where
   pub odd_tied_from : squares.odd ≤ℤ squares.odd_tied
   pub odd_tied_to : squares.odd_tied ≤ℤ (squares.odd +ℤ pos 1)
 
--- and so small those of the potentials
+-- bounds of the gaps of potentials, at the same symbols and scales
 pub record IsTight (gap : Gap ℤ) : Type 0 where
   pub even_from : pos 0 ≤ℤ (gap.even +ℤ pos 76)
   pub even_to : gap.even ≤ℤ pos 76

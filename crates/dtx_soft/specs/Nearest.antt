@@ -4,7 +4,7 @@ use Rattle.std.specs.Prelude.{slice_index_or}
 use Rattle.dtx_soft.specs.Paths.{next_state, squared, symbol_at}
 use Rattle.dtx_soft.specs.declared.nearest.Nearest.{Nearest}
 
--- of two levels z and z + 4, the first one that is nearest to a symbol, and the square of what the symbol is off it
+-- the one of levels z and z + 4 that is nearest to a symbol, z where both are, and the square of the distance
 pub record IsNearest (scale : ℕ) (symbol : ℤ) (z level square : ℕ) : Type 0 where
   pub small : level < 8
   pub bounded : square ≤ 64516
@@ -14,13 +14,13 @@ pub record IsNearest (scale : ℕ) (symbol : ℤ) (z level square : ℕ) : Type 
   pub first : (other : ℕ) → other < 8 → other % 4 ≡ z % 4 → squared symbol (symbol_at scale other) ≡ square
       → level ≤ other
 
--- what is added to what a level costs, so that of equal costs the first level in order is taken: 1 where another level
--- comes before it, and else 0
+-- The tie break of two levels: 1 where the other level comes before this one in order, else 0. It is added to a level's
+-- cost, so that the first in order of equally costly levels is taken.
 pub record IsTieBreak (level other tie : ℕ) : Type 0 where
   pub before : other < level → tie ≡ 1
   pub behind : level ≤ other → tie ≡ 0
 
--- for each of the four pairs, and between those that may follow one state
+-- the same for each of the four pairs of levels, and the tie breaks between the pairs that may follow one state
 pub record AreNearest (scale : ℕ) (symbol : ℤ) (row : Nearest) : Type 0 where
   pub levels : length row.levels ≡ 4
   pub squares : length row.squares ≡ 4
@@ -29,11 +29,11 @@ pub record AreNearest (scale : ℕ) (symbol : ℤ) (row : Nearest) : Type 0 wher
   pub tie_breaks : (z : ℕ) → z < 2
       → IsTieBreak (slice_index row.levels z) (slice_index row.levels (z + 2)) (slice_index row.tie_breaks z)
 
--- what the first of two levels comes to: the square and the potential of the state behind it
+-- what the step by a pair's nearer level costs: its square and the potential of the state behind it
 abbrev pub through : Nearest → List ℕ → ℕ → ℕ → ℕ
 through row behind state z = slice_index row.squares z + slice_index behind (next_state state z)
 
--- the potential of a state: of the two pairs of levels that may follow the one that comes to less
+-- the potential of a state: the lesser cost of the two pairs of levels that may follow it
 abbrev pub cheapest : Nearest → List ℕ → ℕ → ℕ
 cheapest row behind state = min (through row behind state (state / 2)) (through row behind state (state / 2 + 2))
 
@@ -49,7 +49,7 @@ IsTaken row behind state pair =
     ((pair ≡ 0) × ComesFirst row behind state (state / 2) (state / 2 + 2))
     ⊎ ((pair ≡ 1) × ComesFirst row behind state (state / 2 + 2) (state / 2))
 
--- entry n is that of symbol n - 128
+-- entry n is the row of symbol n - 128
 pub record IsTable (scale : ℕ) (rows : List Nearest) : Type 0 where
   pub long : length rows ≡ 256
   pub row : (n : ℕ) (default : Nearest) → n < 256

@@ -11,7 +11,7 @@ use Rattle.dtx_soft.specs.Paths.{IsPath, cost, symbol_at}
 unfoldable pub least_symbols : ℕ → List (List ℤ) → ℕ → List ℤ
 least_symbols scale segments e = map (symbol_at scale) (least_levels scale (coder_symbols segments e))
 
--- what stands for data symbol d, which is one of its coder's and of round d div 12
+-- the symbol in place of data symbol d, which is the one of its coder in round d div 12
 unfoldable pub softened_symbol : ℕ → List (List ℤ) → ℕ → ℤ
 softened_symbol scale segments d = slice_index_or (least_symbols scale segments (coder_at 0 d)) (d / 12) (pos 0)
 
@@ -21,7 +21,7 @@ softened_segment scale segments i =
     map (λ k. if nat_lt k 4 then slice_index_or (slice_index_or segments i []) k (pos 0)
     else softened_symbol scale segments (828 * i + (k - 4))) (range_with_len 0 832)
 
--- all segments
+-- all segments, softened
 unfoldable pub softened : ℕ → List (List ℤ) → List (List ℤ)
 softened scale segments = map (softened_segment scale segments) (range_with_len 0 (length segments))
 

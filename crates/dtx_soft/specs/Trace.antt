@@ -1,4 +1,4 @@
--- The walk on along the least paths.
+-- The walk along the least paths, from the first symbol to the last.
 use Rattle.std.specs.Prelude.{ℕ, ℤ, pos, ◌≡◌, ◌+◌, ◌*◌, ◌/◌, ◌%◌, ◌^◌, ◌<◌, ◌≤◌, ◌+ℤ◌, ◌-ℤ◌, ◌≤ℤ◌, neg_ℤ, ◌==◌, int_lt}
 use Rattle.std.specs.Prelude.{if◌then◌else◌, List, slice_index}
 use Rattle.dtx_soft.specs.declared.gaps.Gap.{Gap}
@@ -7,7 +7,7 @@ use Rattle.dtx_soft.specs.declared.trace.Stands.{Stands}
 use Rattle.dtx_soft.specs.Gaps.{HasGaps}
 use Rattle.dtx_soft.specs.Paths.{squared}
 
--- which pair of levels the marks say for a state
+-- which pair of levels the marks give for a state
 abbrev pub pair_of : ℕ → ℕ → ℕ → ℕ
 pair_of marks q1 q0 = marks / 2 ^ (2 * q1 + q0) % 2
 
@@ -42,7 +42,7 @@ pub record IsNext (scale : ℕ) (symbol : ℤ) (marks : ℕ) (old new : Stand) (
   pub cost : new.cost ≡ old.cost + squared symbol written
   pub small : squared symbol written ≤ 64516
 
--- the same with the cost left as it was
+-- one symbol further, with the cost left as it was
 pub record IsMoved (scale : ℕ) (symbol : ℤ) (marks : ℕ) (old new : Stand) (written : ℤ) : Type 0 where
   pub q1 : new.q1 ≡ (pair_of marks old.q1 old.q0 + old.q0) % 2
   pub q0 : new.q0 ≡ old.q1
@@ -61,7 +61,7 @@ pub record IsStart (gap : Gap ℤ) (stand : Stand) : Type 0 where
   pub first : (scale : ℕ) (costs : List ℕ) → HasGaps scale costs gap → (s : ℕ) → s < 4
       → slice_index costs s ≡ slice_index costs (2 * stand.q1 + stand.q0) → 2 * stand.q1 + stand.q0 ≤ s
 
--- the stand of one lane
+-- the state and the cost so far of one lane's path
 abbrev pub stand_at : Stands → ℕ → Stand
 stand_at stands n = record {
   q1 = slice_index stands.q1 n;

@@ -1,4 +1,4 @@
-//! The proof that a path is a least one: potentials that no step goes below.
+//! Checks that a path is a least one, by potentials.
 
 ghost use Rattle.std.specs.Prelude.{◌≡◌, ◌↔◌, ℕ, ◌+◌, ◌<◌, ◌≤◌, IsTrue, length, slice_index};
 ghost use Rattle.dtx_soft.specs.Paths.{IsPath, cost, next_state, squared, symbol_at};
@@ -7,8 +7,8 @@ ghost use Rattle.dtx_soft.specs.Certificate.{AllowAllSteps, AllowsSteps, HasLeas
 use crate::nearest::{LEVELS, squared_distance};
 use crate::walk::next_state;
 
-/// Whether potentials prove that levels are a least path from a start, at the standard's levels. It takes potentials
-/// from anywhere: if the answer is yes then no path costs less.
+/// Whether potentials prove that levels are a least path from a start, at the standard's levels. The potentials may
+/// come from anywhere: if the answer is true, no path costs less.
 pub fn proves(symbols: &[i8], start: u8, levels: &[u8], potentials: &[[u32; 4]]) -> bool
     ensures { IsTrue result ↔ IsCertificate symbols.now start levels.now potentials.now }
 {
@@ -24,14 +24,15 @@ pub fn proves(symbols: &[i8], start: u8, levels: &[u8], potentials: &[[u32; 4]])
     path_costs(symbols, start, levels, potentials[0][start as usize])
 }
 
-/// Whether all four are zeros.
+/// Whether all four potentials are 0.
 fn are_zeros(entry: &[u32; 4]) -> bool
     ensures { IsTrue result ↔ ((state : ℕ) → state < 4 → slice_index entry.now state ≡ 0) }
 {
     entry[0] == 0 && entry[1] == 0 && entry[2] == 0 && entry[3] == 0
 }
 
-/// Whether at every symbol no step goes below its entry.
+/// Whether, at every symbol, each state's entry is at most what a step from it costs, plus the entry of the state
+/// behind the step.
 fn allow_all_steps(symbols: &[i8], potentials: &[[u32; 4]]) -> bool
     requires { length potentials.now ≡ length symbols.now + 1 }
     ensures { IsTrue result ↔ AllowAllSteps symbols.now potentials.now }
@@ -44,7 +45,7 @@ fn allow_all_steps(symbols: &[i8], potentials: &[[u32; 4]]) -> bool
     true
 }
 
-/// Whether at a symbol no step goes below its entry.
+/// Whether the same holds at one symbol. `behind` is the entry behind it.
 fn allows_steps(symbol: i8, entry: &[u32; 4], behind: &[u32; 4]) -> bool
     ensures { IsTrue result ↔ AllowsSteps symbol entry.now behind.now }
 {
@@ -59,7 +60,8 @@ fn allows_steps(symbol: i8, entry: &[u32; 4], behind: &[u32; 4]) -> bool
     true
 }
 
-/// Whether the step from a state by a level doesn't go below its entry.
+/// Whether the entry of a state is at most what the step by level `z` costs, plus the entry of the state behind the
+/// step.
 fn allows_step(symbol: i8, z: u8, state: u8, entry: &[u32; 4], behind: &[u32; 4]) -> bool
     requires level { z < LEVELS }
     requires state { state < 4 }
@@ -70,7 +72,7 @@ fn allows_step(symbol: i8, z: u8, state: u8, entry: &[u32; 4], behind: &[u32; 4]
     entry[state as usize] as u64 <= costs + behind[next_state(state, z) as usize] as u64
 }
 
-/// Whether no state has less than a start.
+/// Whether no state's entry is less than the one of the start.
 fn has_least(entry: &[u32; 4], start: u8) -> bool
     requires { start < 4 }
     ensures { IsTrue result ↔ HasLeast entry.now start }
@@ -79,7 +81,7 @@ fn has_least(entry: &[u32; 4], start: u8) -> bool
     least <= entry[0] && least <= entry[1] && least <= entry[2] && least <= entry[3]
 }
 
-/// Whether levels are a path from a start and cost so much.
+/// Whether levels are a path from a start that costs `target`.
 fn path_costs(symbols: &[i8], start: u8, levels: &[u8], target: u32) -> bool
     requires start { start < 4 }
     requires long { length levels.now ≡ length symbols.now }

@@ -1,4 +1,4 @@
-//! The symbols of one of the twelve coders, out of the segments of a field.
+//! The symbols of one of the twelve coders, read from the segments of a field.
 
 ghost use Rattle.std.specs.Prelude.{◌≡◌, ℕ, pos, ◌+◌, ◌*◌, ◌%◌, ◌<◌, ◌≤◌, length, slice_index_or};
 ghost use Rattle.dtx_slice.specs.Unrolled.{symbol_place};
@@ -6,7 +6,7 @@ ghost use Rattle.dtx_soft.specs.Coders.{coder_symbols};
 
 use dtx_sizes::{CODERS, SEGMENT, SEGMENT_LEVELS, SEGMENT_ROUNDS, SEGMENT_SYNC};
 
-/// Reads the symbols of a coder.
+/// Reads the symbols of a coder: 69 from each segment.
 pub(crate) fn gather(segments: &[[i8; SEGMENT]], coder: usize, symbols: &mut [i8])
     requires coder { coder < CODERS }
     requires room { length symbols.old ≡ SEGMENT_ROUNDS * length segments.now }
@@ -22,7 +22,7 @@ pub(crate) fn gather(segments: &[[i8; SEGMENT]], coder: usize, symbols: &mut [i8
     }
 }
 
-/// Reads every twelfth symbol of a segment, from place `from` on, to the places of a list from `at` on.
+/// Reads every twelfth symbol of a segment, from place `from` on. They go to `symbols`, from index `at` on.
 #[inline(always)]
 fn gather_segment(segment: &[i8; SEGMENT], from: usize, at: usize, symbols: &mut [i8])
     requires from { from < SEGMENT_SYNC + CODERS }
@@ -37,7 +37,8 @@ fn gather_segment(segment: &[i8; SEGMENT], from: usize, at: usize, symbols: &mut
     }
 }
 
-/// Where the first symbol of a coder stands in segment `i`. The coders move on by four from segment to segment.
+/// The place of a coder's first symbol in segment `i`, behind the segment sync. It changes by four from segment to
+/// segment.
 #[inline(always)]
 fn first_place(i: usize, coder: usize) -> usize
     requires { coder < CODERS }

@@ -16,8 +16,8 @@ use crate::walk::MAX_SYMBOLS;
 use crate::walker::Walker;
 use dtx_sizes::{CODERS, FIELD_PACKETS, SEGMENT, SEGMENT_ROUNDS};
 
-/// Replaces the symbols of each coder by those of its least path, and answers the sum of the costs. `symbols` has room
-/// for those of one coder, `rounds` for those of all, and `marks` for a mark of each.
+/// Replaces the symbols of each coder by those of its least path, and returns the sum of the costs. The caller lends
+/// the room: `symbols` for those of one coder, `rounds` for those of all, and `marks` for a mark of each.
 pub(crate) fn soften(
     walker: &mut Walker,
     symbols: &mut [i8],
@@ -45,7 +45,7 @@ pub(crate) fn soften(
     )
 }
 
-/// Writes the potentials of the last coder's symbols.
+/// Writes the potentials of the last coder's symbols to the walker's table.
 fn hold_last(walker: &mut Walker, symbols: &mut [i8], segments: &[[i8; SEGMENT]])
     requires few { length segments.now ≤ FIELD_PACKETS }
     requires symbols { length symbols.old ≡ SEGMENT_ROUNDS * length segments.now }
@@ -57,7 +57,7 @@ fn hold_last(walker: &mut Walker, symbols: &mut [i8], segments: &[[i8; SEGMENT]]
     walker.hold(symbols);
 }
 
-/// Takes the coders side by side.
+/// Does this for all coders side by side, each in its lane.
 fn soften_rounds(
     scale: u8,
     rounds: &mut [[i8; LANES]],
@@ -78,7 +78,8 @@ fn soften_rounds(
     total(&costs)
 }
 
-/// Writes the marks of all rounds, in bytes where they do, and gives how the potentials differ before the first one.
+/// Writes the marks of all rounds, and returns the gaps of the potentials before the first one. It works in bytes where
+/// these are wide enough, and else in numbers of 16 bits.
 fn walk_back(scale: u8, rounds: &[[i8; LANES]], marks: &mut [[u8; LANES]]) -> Gaps<i16>
     requires scale { scale ≤ MAX_SCALE }
     requires room { length marks.old ≡ length rounds.now }
@@ -92,7 +93,7 @@ fn walk_back(scale: u8, rounds: &[[i8; LANES]], marks: &mut [[u8; LANES]]) -> Ga
     }
 }
 
-/// The sum of what the coders' paths cost.
+/// The sum of the costs of the twelve coders' paths.
 fn total(costs: &[u32; LANES]) -> u64
     ensures { result ≡ sum (map (λ e. slice_index costs.now e) (range_with_len 0 CODERS)) }
 {

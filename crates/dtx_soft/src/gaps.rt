@@ -1,5 +1,5 @@
-//! The walk from the end of the symbols to their beginning, of all lanes side by side. It keeps only how the least
-//! costs of the four states differ.
+//! The walk from the end of the symbols to their beginning, for all lanes side by side. It keeps only the differences
+//! of the four states' least costs.
 
 ghost use Rattle.std.specs.Prelude.{◌≡◌, ◌≢◌, ◌⊎◌, ℕ, ℤ, pos, neg_ℤ, ◌+◌, ◌*◌, ◌<◌};
 ghost use Rattle.std.specs.Prelude.{◌≤◌, ◌≤ℤ◌, ◌<ℤ◌, ◌+ℤ◌, ◌-ℤ◌, length};
@@ -11,11 +11,11 @@ ghost use Rattle.dtx_soft.specs.declared.nearest.TheConstants.{MAX_SCALE};
 
 use crate::nearest::MAX_SCALE;
 
-/// How many symbols stand side by side: one of each coder, and four that aren't used.
+/// The number of lanes: one for each coder, and four that aren't used.
 pub(crate) const LANES: usize = 16;
 
-/// How four costs differ, in units of four times the scale: the first and the third, the second and the fourth, and the
-/// third and the fourth. They are numbers of 16 bits, or bytes where those do.
+/// The differences of four costs, in units of four times the scale: of the first and the third, the second and the
+/// fourth, and the third and the fourth. They are numbers of 16 bits, or bytes where these are wide enough.
 #[derive(Clone, Copy, Drop)]
 pub(crate) struct Gap<T> {
     pub(crate) even: T,
@@ -31,8 +31,8 @@ pub(crate) struct Gaps<T> {
     pub(crate) across: [T; LANES],
 }
 
-/// How the squares of a symbol's four pairs of levels differ, and the first two with 1 more where the second of equal
-/// ones comes first.
+/// The differences of the squares of a symbol's four pairs of levels. The tied ones are those of the first two, with 1
+/// more where the second of equal ones comes first in order.
 #[derive(Drop)]
 pub(crate) struct SquareGaps<T> {
     pub(crate) even: T,
@@ -42,8 +42,8 @@ pub(crate) struct SquareGaps<T> {
     pub(crate) odd_tied: T,
 }
 
-/// Of the gaps of a symbol's squares and of the potentials behind it. There is the sum of the even ones, or 0 where it
-/// is more, the lesser of the even ones, and the same of the odd ones.
+/// Terms of the gaps of a symbol's squares and those of the potentials behind it. A sum is that of both even gaps,
+/// capped at 0, and a minimum is the lesser of them; the same of the odd gaps.
 #[derive(Drop)]
 struct Terms {
     even_sum: i16,
@@ -52,7 +52,7 @@ struct Terms {
     odd_minimum: i16,
 }
 
-/// The scale, and its multiples.
+/// The scale, and multiples of it that each round needs.
 #[derive(Drop)]
 struct Units {
     scale: u8,
@@ -85,7 +85,7 @@ fn units_of(scale: u8) -> Units
     }
 }
 
-/// Writes the marks of all rounds, and gives how the potentials differ before the first one.
+/// Writes the marks of all rounds, and returns the gaps of the potentials before the first one.
 #[inline(never)]
 pub(crate) fn backward(scale: u8, rounds: &[[i8; LANES]], marks: &mut [[u8; LANES]]) -> Gaps<i16>
     requires scale { scale ≤ MAX_SCALE }
@@ -105,7 +105,7 @@ pub(crate) fn backward(scale: u8, rounds: &[[i8; LANES]], marks: &mut [[u8; LANE
     gaps
 }
 
-/// One round more in front. Gives its marks.
+/// Takes one round more in front, and returns its marks.
 #[inline(always)]
 fn step_lanes(units: &Units, symbols: &[i8; LANES], gaps: &mut Gaps<i16>) -> [u8; LANES]
     requires bounded { (n : ℕ) → n < LANES → IsBounded (gap_at gaps.old n) }
@@ -162,7 +162,7 @@ fn gap_before(units: &Units, symbol: i8, squares: &SquareGaps<i16>, gap: Gap<i16
     sums_of(squares, gap, terms)
 }
 
-/// The four terms of which the gaps before a symbol come.
+/// The four terms from which the gaps before a symbol are computed.
 #[inline(always)]
 fn terms_of(squares: &SquareGaps<i16>, gap: Gap<i16>) -> Terms
     requires small { AreSmall squares.now }
@@ -177,7 +177,7 @@ fn terms_of(squares: &SquareGaps<i16>, gap: Gap<i16>) -> Terms
     }
 }
 
-/// The gaps that come of them.
+/// The gaps before a symbol, from these terms.
 #[inline(always)]
 fn sums_of(squares: &SquareGaps<i16>, gap: Gap<i16>, terms: Terms) -> Gap<i16>
     requires small { AreSmall squares.now }
@@ -197,7 +197,7 @@ fn sums_of(squares: &SquareGaps<i16>, gap: Gap<i16>, terms: Terms) -> Gap<i16>
     }
 }
 
-/// The sum of two gaps, or 0 where it is more.
+/// The sum of two gaps, capped at 0.
 #[inline(always)]
 fn capped(square: i16, gap: i16) -> i16
     requires { FitsSigned w16 (square +ℤ gap) }
@@ -214,7 +214,8 @@ fn lesser(square: i16, gap: i16) -> i16
     square.min(gap)
 }
 
-/// For each state which of the two pairs of levels that may follow it is to be taken: bit s is for state s.
+/// The marks of a symbol. Bit s says which of the two pairs of levels that may follow state s is to be taken: 1 for the
+/// second.
 #[inline(always)]
 fn marks_of(units: &Units, symbol: i8, squares: &SquareGaps<i16>, gap: Gap<i16>) -> u8
     requires squares { IsSquares units.now.scale symbol squares.now }
@@ -237,7 +238,7 @@ pub(crate) fn is_above(number: i16, other: i16) -> u8
     (number > other) as u8
 }
 
-/// How the squares of a symbol differ.
+/// The differences of a symbol's squares.
 #[inline(always)]
 fn differ(units: &Units, symbol: i8) -> SquareGaps<i16>
     ensures gaps { IsSquares units.now.scale symbol result }
@@ -264,7 +265,7 @@ fn seen(scale: u8, symbol: i8) -> i16
     if scale == 0 { 0 } else { symbol as i16 }
 }
 
-/// How the squares of levels 0 or 4 and 2 or 6 differ, with 1 more where the second of equal ones comes first.
+/// The difference of the squares of levels 0 or 4 and 2 or 6, with 1 more where the second of equal ones comes first.
 #[inline(always)]
 fn even_gap(units: &Units, symbol: i16, tie: i16) -> i16
     requires symbol_from { pos 0 ≤ℤ (symbol +ℤ pos 128) }
@@ -278,7 +279,7 @@ fn even_gap(units: &Units, symbol: i16, tie: i16) -> i16
     twice - units.two - near
 }
 
-/// How the squares of levels 1 or 5 and 3 or 7 differ, with 1 more as there.
+/// The difference of the squares of levels 1 or 5 and 3 or 7, with 1 more in the same case as in `even_gap`.
 #[inline(always)]
 fn odd_gap(units: &Units, symbol: i16, tie: i16) -> i16
     requires symbol_from { pos 0 ≤ℤ (symbol +ℤ pos 128) }
@@ -292,7 +293,7 @@ fn odd_gap(units: &Units, symbol: i16, tie: i16) -> i16
     twice + units.two - near
 }
 
-/// How the squares of levels 2 or 6 and 3 or 7 differ.
+/// The difference of the squares of levels 2 or 6 and 3 or 7.
 #[inline(always)]
 fn across_gap(units: &Units, symbol: i16, odd: i16) -> i16
     requires symbol_from { pos 0 ≤ℤ (symbol +ℤ pos 128) }

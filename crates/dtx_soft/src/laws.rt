@@ -35,7 +35,7 @@ pub fn keeps_own_symbols()
         × (map (symbol_at scale) others ≡ map (symbol_at scale) levels) }
 {}
 
-/// There is one least path over symbols, the one that the function gives.
+/// There is exactly one least path over symbols, and `least_path` gives it.
 pub fn one_least_path()
     ensures found { (scale : ℕ) (symbols : List ℤ)
         → IsLeast scale symbols (least_start scale symbols) (least_levels scale symbols) }
@@ -43,15 +43,15 @@ pub fn one_least_path()
         → least_path scale symbols ≡ start ∷ levels }
 {}
 
-/// What the function gives of segments is softened, and it is the one such list of segments of 832 symbols each.
+/// What `softened` gives is a softening of the segments. No other list of segments with 832 symbols each is one.
 pub fn one_softening()
     ensures found { (scale : ℕ) (segments : List (List ℤ)) → IsSoftened scale segments (softened scale segments) }
     ensures one { (scale : ℕ) (old new : List (List ℤ)) → IsSoftened scale old new
         → ((i : ℕ) → i < length new → length (slice_index_or new i []) ≡ SEGMENT) → new ≡ softened scale old }
 {}
 
-/// How far the symbols of all twelve coders are moved, in the sum of the squares, is what their least paths cost. In
-/// segments of 832 symbols each that is how far all symbols are moved, segment by segment.
+/// The symbols of the twelve coders move by what their least paths cost, in the sum of the squares. In segments of 832
+/// symbols each, all symbols move by the same, summed segment by segment.
 pub fn cost_of_softening()
     ensures coders { (scale : ℕ) (old new : List (List ℤ)) → IsSoftened scale old new
         → coders_distance old new CODERS ≡ softened_cost scale old }
@@ -61,16 +61,16 @@ pub fn cost_of_softening()
         → coders_distance old new CODERS ≡ segments_distance old new }
 {}
 
-/// What the least paths of a field cost at most, where its symbols are signed bytes. None is off a level by more than
-/// 128 and seven times the scale, and each coder has 69 in a segment.
+/// A bound of what the least paths of a field cost, where its symbols are signed bytes. No symbol is off a level by
+/// more than 128 and seven times the scale, and each coder has 69 symbols in a segment.
 pub fn costs_are_small()
     ensures { (scale : ℕ) (old new : List (List ℤ)) → AreSigned old → IsSoftened scale old new
         → coders_distance old new CODERS
         ≤ CODERS * ((128 + 7 * scale) * (128 + 7 * scale) * (SEGMENT_ROUNDS * length old)) }
 {}
 
-/// Segments of 832 symbols each in which each coder's symbols are those of a path's own levels stay as they are, and
-/// their least paths cost nothing.
+/// Let segments have 832 symbols each, and let each coder's symbols be those of a path's own levels. Softening leaves
+/// the segments as they are, and the least paths cost nothing.
 pub fn keeps_own_field()
     ensures { (scale : ℕ) (segments : List (List ℤ))
         → ((i : ℕ) → i < length segments → length (slice_index_or segments i []) ≡ SEGMENT)
@@ -78,8 +78,8 @@ pub fn keeps_own_field()
         → (softened scale segments ≡ segments) × (softened_cost scale segments ≡ 0) }
 {}
 
-/// The levels of a trellis coder are a path, whatever its precoder adds. `a` has the higher bits of its pairs and `b`
-/// the lower ones.
+/// The levels that a trellis coder gives are a path, whatever its precoder adds. `a` has the higher bits of its pairs,
+/// and `b` the lower ones.
 pub fn coder_takes_a_path()
     ensures { (q : State) (a b : List ℕ) → AreBits q → ((t : ℕ) → t < length a → slice_index b t < 2)
         → IsPath (2 * q.q1 + q.q0) (map (level q a b) (range_with_len 0 (length a))) }

@@ -1,4 +1,5 @@
-//! Soft decoding of the twelve trellis coders: of all paths the one whose levels lie nearest to the symbols.
+//! Soft decoding of the twelve trellis coders. For each coder it finds the path whose levels lie nearest to the
+//! symbols.
 #![tactic(auto)]
 
 mod certificate;

@@ -1,5 +1,5 @@
-//! The walk from the end of the symbols to their beginning in bytes, where all symbols are near 0. Twice as many lanes
-//! are worked on at once as in numbers of 16 bits.
+//! The walk from the end of the symbols to their beginning, in bytes. It is for symbols near 0. It handles twice as
+//! many lanes at once as the walk in numbers of 16 bits.
 
 ghost use Rattle.std.specs.Prelude.{◌≡◌, ◌↔◌, ◌⊎◌, ℕ, ℤ, pos, neg_ℤ, ◌+◌, ◌*◌, ◌<◌};
 ghost use Rattle.std.specs.Prelude.{◌≤◌, ◌≤ℤ◌, ◌<ℤ◌, ◌+ℤ◌, ◌-ℤ◌, length};
@@ -15,11 +15,11 @@ use crate::gaps::{Gap, Gaps, LANES, SquareGaps, lane, put_lane};
 /// The greatest scale at which the walk is in bytes.
 pub(crate) const MAX_NEAR_SCALE: u8 = 4;
 
-/// How far off 0 symbols may be for it.
+/// The greatest absolute value of a symbol near 0. The walk in bytes takes no other symbols.
 const MAX_NEAR: i8 = 28;
 
-/// Of the gaps of a symbol's squares and of the potentials behind it. There is the sum of the even ones, or 0 where it
-/// is more, the lesser of the even ones, and the same of the odd ones.
+/// Terms of the gaps of a symbol's squares and those of the potentials behind it. A sum is that of both even gaps,
+/// capped at 0, and a minimum is the lesser of them; the same of the odd gaps.
 #[derive(Drop)]
 struct NearTerms {
     even_sum: i8,
@@ -28,7 +28,7 @@ struct NearTerms {
     odd_minimum: i8,
 }
 
-/// The scale, and its multiples.
+/// The scale, and multiples of it that each round needs.
 #[derive(Drop)]
 struct NearUnits {
     scale: u8,
@@ -63,7 +63,7 @@ fn units_of(scale: u8) -> NearUnits
     }
 }
 
-/// Whether bytes do: at this scale, with each symbol near 0.
+/// Whether bytes are wide enough: at this scale, and with each symbol near 0.
 pub(crate) fn are_near(scale: u8, rounds: &[[i8; LANES]]) -> bool
     ensures { IsTrue result ↔ FitBytes scale rounds.now }
 {
@@ -87,7 +87,7 @@ fn far_lanes(rounds: &[[i8; LANES]]) -> [u8; LANES]
     far
 }
 
-/// Counts the symbols of one more round that are not.
+/// Adds the symbols of one more round that are not near 0 to the counts.
 #[inline(always)]
 fn add_far(symbols: &[i8; LANES], far: &mut [u8; LANES])
     ensures { (n : ℕ) → n < LANES → (slice_index far.new n ≡ 0)
@@ -98,7 +98,8 @@ fn add_far(symbols: &[i8; LANES], far: &mut [u8; LANES])
     }
 }
 
-/// A count, with one more where a symbol is not near 0, but at most 255: 0 exactly where it was and the symbol is near.
+/// A count, with one more where a symbol is not near 0, but at most 255. It is 0 exactly where it was 0 before and the
+/// symbol is near 0.
 #[inline(always)]
 fn one_more(far: u8, symbol: i8) -> u8
     ensures { (result ≡ 0) ↔ ((far ≡ 0) × IsNear symbol) }
@@ -126,7 +127,7 @@ fn is_far(symbol: i8) -> u8
     (symbol > MAX_NEAR || symbol < -MAX_NEAR) as u8
 }
 
-/// Writes the marks of all rounds, and gives how the potentials differ before the first one.
+/// Writes the marks of all rounds, and returns the gaps of the potentials before the first one.
 #[inline(never)]
 pub(crate) fn backward(scale: u8, rounds: &[[i8; LANES]], marks: &mut [[u8; LANES]]) -> Gaps<i8>
     requires near { FitBytes scale rounds.now }
@@ -172,7 +173,7 @@ fn wide_gap(gap: Gap<i8>) -> Gap<i16>
     }
 }
 
-/// One round more in front. Gives its marks.
+/// Takes one round more in front, and returns its marks.
 #[inline(always)]
 fn step_lanes(units: &NearUnits, symbols: &[i8; LANES], gaps: &mut Gaps<i8>) -> [u8; LANES]
     requires near { (n : ℕ) → n < LANES → IsNear (slice_index_or symbols.now n (pos 0)) }
@@ -205,7 +206,7 @@ fn gap_before(units: &NearUnits, symbol: i8, squares: &SquareGaps<i8>, gap: Gap<
     sums_of(squares, gap, terms)
 }
 
-/// The four terms of which the gaps before a symbol come.
+/// The four terms from which the gaps before a symbol are computed.
 #[inline(always)]
 fn terms_of(squares: &SquareGaps<i8>, gap: Gap<i8>) -> NearTerms
     requires near { AreNear squares.now }
@@ -220,7 +221,7 @@ fn terms_of(squares: &SquareGaps<i8>, gap: Gap<i8>) -> NearTerms
     }
 }
 
-/// The gaps that come of them.
+/// The gaps before a symbol, from these terms.
 #[inline(always)]
 fn sums_of(squares: &SquareGaps<i8>, gap: Gap<i8>, terms: NearTerms) -> Gap<i8>
     requires near { AreNear squares.now }
@@ -240,7 +241,7 @@ fn sums_of(squares: &SquareGaps<i8>, gap: Gap<i8>, terms: NearTerms) -> Gap<i8>
     }
 }
 
-/// The sum of two gaps, or 0 where it is more.
+/// The sum of two gaps, capped at 0.
 #[inline(always)]
 fn capped(square: i8, gap: i8) -> i8
     requires { FitsSigned w8 (square +ℤ gap) }
@@ -257,7 +258,8 @@ fn lesser(square: i8, gap: i8) -> i8
     square.min(gap)
 }
 
-/// For each state which of the two pairs of levels that may follow it is to be taken: bit s is for state s.
+/// The marks of a symbol. Bit s says which of the two pairs of levels that may follow state s is to be taken: 1 for the
+/// second.
 #[inline(always)]
 fn marks_of(units: &NearUnits, symbol: i8, squares: &SquareGaps<i8>, gap: Gap<i8>) -> u8
     requires squares { IsSquares units.now.scale symbol squares.now }
@@ -280,7 +282,7 @@ fn is_above(number: i8, other: i8) -> u8
     (number > other) as u8
 }
 
-/// How the squares of a symbol differ.
+/// The differences of a symbol's squares.
 #[inline(always)]
 fn differ(units: &NearUnits, symbol: i8) -> SquareGaps<i8>
     requires { IsNear symbol }
@@ -297,7 +299,7 @@ fn differ(units: &NearUnits, symbol: i8) -> SquareGaps<i8>
     }
 }
 
-/// How the squares of levels 0 or 4 and 2 or 6 differ, with 1 more where the second of equal ones comes first.
+/// The difference of the squares of levels 0 or 4 and 2 or 6, with 1 more where the second of equal ones comes first.
 #[inline(always)]
 fn even_gap(units: &NearUnits, symbol: i8, tie: i8) -> i8
     requires near { IsNear symbol }
@@ -310,7 +312,7 @@ fn even_gap(units: &NearUnits, symbol: i8, tie: i8) -> i8
     twice - units.two - near
 }
 
-/// How the squares of levels 1 or 5 and 3 or 7 differ, with 1 more as there.
+/// The difference of the squares of levels 1 or 5 and 3 or 7, with 1 more in the same case as in `even_gap`.
 #[inline(always)]
 fn odd_gap(units: &NearUnits, symbol: i8, tie: i8) -> i8
     requires near { IsNear symbol }
@@ -323,7 +325,7 @@ fn odd_gap(units: &NearUnits, symbol: i8, tie: i8) -> i8
     twice + units.two - near
 }
 
-/// How the squares of levels 2 or 6 and 3 or 7 differ.
+/// The difference of the squares of levels 2 or 6 and 3 or 7.
 #[inline(always)]
 fn across_gap(units: &NearUnits, symbol: i8, odd: i8) -> i8
     requires near { IsNear symbol }

@@ -1,4 +1,4 @@
-//! For each symbol and each two levels with one next state, the nearer one.
+//! A table: for each symbol, and for each two levels that lead to the same next state, the nearer of them.
 
 ghost use Rattle.std.specs.Prelude.{◌≡◌, ◌<◌, ◌≤◌, pos, ◌+ℤ◌, ◌≤ℤ◌, length};
 ghost use Rattle.dtx_soft.specs.Paths.{squared, symbol_at};
@@ -10,22 +10,22 @@ pub(crate) const LEVELS: u8 = 8;
 /// The greatest scale. At it the symbols of all levels are signed bytes.
 pub const MAX_SCALE: u8 = 18;
 
-/// The greatest square of what a symbol is off a level, (128 + 7 * 18)^2.
+/// The greatest square of a symbol's distance from a level: (128 + 7 * 18)^2.
 pub(crate) const MAX_SQUARE: u32 = 64_516;
 
-/// Of each two levels z and z + 4, for z below 4, the one nearest to a symbol, and the square of what the symbol is off
-/// it. Where both are as near it is z. For z = 0 and z = 1 a tie break is 1 where the level of z + 2 comes before that
-/// of z, and else 0.
+/// A row of the table. For z below 4 it has the one of levels z and z + 4 that is nearest to the symbol, and the square
+/// of the distance. Of two equally near ones it is z. For z = 0 and z = 1 the tie break is 1 where the level of z + 2
+/// comes before that of z, else 0.
 #[derive(Clone, Copy, Drop)]
 pub(crate) struct Nearest {
     pub(crate) levels: [u8; 4],
     pub(crate) squares: [u32; 4],
     pub(crate) tie_breaks: [u32; 2],
-    /// Fills the row up to 32 bytes, so that it is found by a shift.
+    /// Fills the row up to 32 bytes, so that a shift finds it.
     filler: u32,
 }
 
-/// How many symbols there are, from -128 to 127.
+/// The number of symbols, from -128 to 127.
 pub(crate) const SYMBOLS: usize = 256;
 
 /// A row of zeros.
@@ -36,7 +36,7 @@ pub(crate) const EMPTY: Nearest = Nearest {
     filler: 0,
 };
 
-/// Writes the rows of all symbols; that of symbol v is number v + 128.
+/// Writes the rows of all symbols. The row of symbol v is number v + 128.
 pub(crate) fn fill(rows: &mut [Nearest], scale: u8)
     requires scale { scale ≤ MAX_SCALE }
     requires long { length rows.old ≡ SYMBOLS }
@@ -64,14 +64,14 @@ fn row(scale: u8, symbol: i8) -> Nearest
     }
 }
 
-/// 1 where another level comes before a level in order.
+/// 1 where level `other` comes before `level` in order, else 0.
 fn tie_break(level: u8, other: u8) -> u32
     ensures { IsTieBreak level other result }
 {
     if other < level { 1 } else { 0 }
 }
 
-/// Of z and z + 4 the level that is nearest to a symbol, and the square of what the symbol is off it.
+/// The one of levels z and z + 4 that is nearest to a symbol, and the square of the distance.
 fn nearer(scale: u8, symbol: i8, z: u8) -> (u8, u32)
     requires scale { scale ≤ MAX_SCALE }
     requires pair { z < 4 }
@@ -82,7 +82,7 @@ fn nearer(scale: u8, symbol: i8, z: u8) -> (u8, u32)
     if high < low { (z + 4, high) } else { (z, low) }
 }
 
-/// The square of what a symbol is off level z.
+/// The square of a symbol's distance from level z.
 pub(crate) fn squared_distance(scale: u8, symbol: i8, z: u8) -> u32
     requires scale { scale ≤ MAX_SCALE }
     requires level { z < LEVELS }
@@ -92,7 +92,7 @@ pub(crate) fn squared_distance(scale: u8, symbol: i8, z: u8) -> u32
     square(symbol, symbol_at(scale, z))
 }
 
-/// The square of what a symbol is off another one.
+/// The square of a symbol's distance from another one.
 #[inline(always)]
 pub(crate) fn square(symbol: i8, other: i16) -> u32
     requires from { pos 0 ≤ℤ (other +ℤ pos 126) }

@@ -1,4 +1,4 @@
-//! The symbols of a field's segments round by round, those of the twelve coders side by side.
+//! The symbols of a field's segments, by rounds. In a round the symbols of the twelve coders stand side by side.
 
 ghost use Rattle.std.specs.Prelude.{◌≡◌, ℕ, pos, ◌+◌, ◌-◌, ◌*◌, ◌%◌, ◌<◌, ◌≤◌, [], length, slice_index_or};
 ghost use Rattle.dtx_soft.specs.Coders.{KeepsSyncs, coder_symbols};
@@ -7,7 +7,7 @@ ghost use Rattle.dtx_soft.specs.Gaps.{column};
 use crate::gaps::LANES;
 use dtx_sizes::{CODERS, SEGMENT, SEGMENT_ROUNDS, SEGMENT_SYNC};
 
-/// Reads the rounds of all segments. Lane e is for coder e; those behind the coders are not used.
+/// Reads the rounds of all segments. Lane e is for coder e, and the lanes behind the coders aren't used.
 pub(crate) fn lay_out(segments: &[[i8; SEGMENT]], rounds: &mut [[i8; LANES]])
     requires room { length rounds.old ≡ SEGMENT_ROUNDS * length segments.now }
     ensures { (e : ℕ) → e < CODERS → column rounds.new e ≡ coder_symbols segments.now e }
@@ -17,7 +17,8 @@ pub(crate) fn lay_out(segments: &[[i8; SEGMENT]], rounds: &mut [[i8; LANES]])
     }
 }
 
-/// Reads the rounds of a segment, in which the coders have moved on `turn` times by four, to the places from `at` on.
+/// Reads the rounds of a segment into `rounds`, from index `at` on. In this segment the coders have moved on by four
+/// places `turn` times.
 #[inline(always)]
 fn read_segment(segment: &[i8; SEGMENT], turn: usize, at: usize, rounds: &mut [[i8; LANES]])
     requires turn { turn < 3 }
@@ -32,7 +33,7 @@ fn read_segment(segment: &[i8; SEGMENT], turn: usize, at: usize, rounds: &mut [[
     }
 }
 
-/// Reads a round of a segment, with a loop of its own for each turn.
+/// Reads a round of a segment. Each turn has its own loop, for speed.
 #[inline(always)]
 fn read_turned(segment: &[i8; SEGMENT], r: usize, turn: usize) -> [i8; LANES]
     requires round { r < SEGMENT_ROUNDS }
@@ -73,7 +74,8 @@ pub(crate) fn put_back(rounds: &[[i8; LANES]], segments: &mut [[i8; SEGMENT]])
     }
 }
 
-/// Writes the rounds from place `at` on to a segment in which the coders have moved on `turn` times by four.
+/// Writes the rounds from index `at` on to a segment. In this segment the coders have moved on by four places `turn`
+/// times.
 #[inline(always)]
 fn write_segment(rounds: &[[i8; LANES]], at: usize, turn: usize, segment: &mut [i8; SEGMENT])
     requires turn { turn < 3 }
@@ -89,7 +91,7 @@ fn write_segment(rounds: &[[i8; LANES]], at: usize, turn: usize, segment: &mut [
     }
 }
 
-/// Writes a round of a segment, with a loop of its own for each turn.
+/// Writes a round of a segment. Each turn has its own loop, for speed.
 #[inline(always)]
 fn write_turned(lanes: &[i8; LANES], r: usize, turn: usize, segment: &mut [i8; SEGMENT])
     requires round { r < SEGMENT_ROUNDS }

@@ -15,9 +15,9 @@ use dtx_sizes::{CODERS, FIELD_PACKETS, SEGMENT, SEGMENT_ROUNDS};
 use std::alloc::{AllocError, Global};
 use std::marker::Model;
 
-/// Decodes the symbols of a trellis coder (ATSC A/53 Part 2, trellis coding). Of all paths it finds the one whose
-/// levels lie nearest to them, in the sum of the squares. It is seen as the scale of its levels and the potentials of
-/// the symbols that it decoded last.
+/// Decodes the symbols of a trellis coder (ATSC A/53 Part 2, trellis coding). It finds the path whose levels lie
+/// nearest to the symbols, in the sum of the squares. Contracts see its scale, and the potentials of the symbols that
+/// it decoded last.
 #[derive(Drop)]
 pub struct Soft {
     walker: Walker,
@@ -53,7 +53,7 @@ impl Soft {
         Soft::scaled(alloc, 1)
     }
 
-    /// A decoder of symbols at so many times the standard's levels. The only error is out of memory.
+    /// A decoder of symbols at `scale` times the standard's levels. The only error is out of memory.
     pub fn scaled(alloc: Global, scale: u8) -> Result<Soft, AllocError>
         requires { scale ≤ MAX_SCALE }
         ensures { IfOk result (λ soft. soft ≡ new_decoder scale) }
@@ -67,7 +67,7 @@ impl Soft {
         })
     }
 
-    /// Writes the levels of the least path over a coder's symbols, and answers its cost and start.
+    /// Writes the levels of the least path over a coder's symbols, and returns its cost and start.
     pub fn best(&mut self, symbols: &[i8], levels: &mut [u8]) -> Found
         requires few { length symbols.now ≤ MAX_SYMBOLS }
         requires room { length levels.old ≡ length symbols.now }
@@ -81,16 +81,16 @@ impl Soft {
         self.walker.find(symbols, levels)
     }
 
-    /// One entry more than there were symbols: entry t has for each state the least cost of a path over the symbols
-    /// from t on. Before any symbols it is empty.
+    /// The potentials of the symbols that were decoded last, one entry more than there were symbols. Entry t has, for
+    /// each state, the least cost of a path over the symbols from t on. Before any symbols the list is empty.
     pub fn potentials(&self) -> &[[u32; 4]]
         ensures { result.now ≡ self.now.potentials }
     {
         &self.walker.potentials[..self.entries]
     }
 
-    /// Replaces the symbols of each of the twelve coders by those of their least path, in the first data segments of a
-    /// field. Answers the sum of what the twelve paths cost. Behind it the potentials are those of coder 11's symbols
+    /// Replaces the symbols of each of the twelve coders by those of its least path, in the first data segments of a
+    /// field. It returns the sum of the costs of the twelve paths. The potentials are then those of coder 11's symbols
     /// as they were given.
     pub fn field(&mut self, segments: &mut [[i8; SEGMENT]]) -> u64
         requires whole { length segments.old % 4 ≡ 0 }

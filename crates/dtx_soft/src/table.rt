@@ -1,4 +1,4 @@
-//! The rows of all symbols at one scale.
+//! The table of the rows of all symbols, at one scale.
 
 ghost use Rattle.std.specs.Prelude.{◌≡◌, ◌≤◌, IfOk};
 ghost use Rattle.dtx_soft.specs.Nearest.{AreNearest, IsTable};
@@ -7,7 +7,7 @@ ghost use Rattle.dtx_soft.specs.declared.nearest.TheConstants.{MAX_SCALE};
 use crate::nearest::{EMPTY, MAX_SCALE, Nearest, SYMBOLS, fill};
 use std::alloc::{AllocError, Global};
 
-/// For each symbol the nearer of each two levels with one next state.
+/// The table: for each symbol, the nearer of each two levels that lead to the same next state.
 #[derive(Drop)]
 pub(crate) struct Table {
     pub(crate) scale: u8,
@@ -17,7 +17,7 @@ pub(crate) struct Table {
 }
 
 impl Table {
-    /// The table for levels at a scale.
+    /// The table for levels at a scale. The only error is out of memory.
     pub(crate) fn new(alloc: Global, scale: u8) -> Result<Table, AllocError>
         requires { scale ≤ MAX_SCALE }
         ensures { IfOk result (λ table. table.scale ≡ scale) }

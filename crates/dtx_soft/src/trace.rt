@@ -1,5 +1,5 @@
-//! The walk on from the beginning of the symbols, of all lanes side by side: it follows the marks, and writes the
-//! symbols of the least paths.
+//! The walk from the beginning of the symbols to their end, for all lanes side by side. It follows the marks, and
+//! writes the symbols of the least paths.
 
 ghost use Rattle.std.specs.Prelude.{◌≡◌, ◌≢◌, ℕ, ℤ, pos, ◌+◌, ◌*◌, ◌^◌, ◌<◌, ◌≤◌};
 ghost use Rattle.std.specs.Prelude.{◌+ℤ◌, ◌≤ℤ◌, length, ◌==◌, if◌then◌else◌};
@@ -14,7 +14,7 @@ use crate::gaps::{Gap, Gaps, LANES, is_above, lane};
 use crate::nearest::{MAX_SCALE, square};
 use crate::walk::MAX_SYMBOLS;
 
-/// Where a path stands: its state 2 * q1 + q0, and what it has cost.
+/// A path's state, 2 * q1 + q0, and its cost so far.
 #[derive(Drop)]
 pub(crate) struct Stand {
     pub(crate) q1: u8,
@@ -22,7 +22,7 @@ pub(crate) struct Stand {
     pub(crate) cost: u32,
 }
 
-/// Where the path of each lane stands.
+/// The state and the cost so far of each lane's path.
 #[derive(Drop)]
 pub(crate) struct Stands {
     pub(crate) q1: [u8; LANES],
@@ -30,7 +30,7 @@ pub(crate) struct Stands {
     pub(crate) cost: [u32; LANES],
 }
 
-/// Replaces the symbols of each lane by those of its least path, and gives what the paths cost.
+/// Replaces the symbols of each lane by those of its least path, and returns the costs of the paths.
 pub(crate) fn forward(
     scale: u8,
     marks: &[[u8; LANES]],
@@ -54,7 +54,7 @@ pub(crate) fn forward(
     stands.cost
 }
 
-/// Where the least path of each lane begins.
+/// The state in which the least path of each lane begins.
 fn starts(gaps: &Gaps<i16>) -> Stands
     requires { (n : ℕ) → n < LANES → IsBounded (gap_at gaps.now n) }
     ensures { (n : ℕ) → n < LANES → IsStart (gap_at gaps.now n) (stand_at result n) }
@@ -86,14 +86,14 @@ fn start_of(gap: Gap<i16>) -> Stand
     }
 }
 
-/// The first of two bits, or the second one.
+/// `low` where q1 is 0, else `high`.
 fn chosen(q1: u8, low: u8, high: u8) -> u8
     ensures { result ≡ if q1 == 0 then low else high }
 {
     if q1 == 0 { low } else { high }
 }
 
-/// One round further. Gives the symbols of the least paths.
+/// Takes one round more, and returns the symbols of the least paths.
 #[inline(always)]
 fn trace_lanes(
     scale: u8,
@@ -113,7 +113,7 @@ fn trace_lanes(
     written
 }
 
-/// The same with the costs left as they are: bytes alone, so that all lanes are worked on at once.
+/// Does the same, but leaves the costs as they are. All numbers are bytes, so that all lanes are worked on at once.
 #[inline(always)]
 fn move_lanes(
     scale: u8,
@@ -190,7 +190,7 @@ fn nearer(scale: u8, symbol: i8, q1: u8, pair: u8) -> i8
     }
 }
 
-/// Which pair of levels the marks say for a state.
+/// The pair of levels that the marks give for a state.
 #[inline(always)]
 fn pair(marks: u8, q1: u8, q0: u8) -> u8
     requires q1 { q1 < 2 }
@@ -215,7 +215,7 @@ fn mark_of(q1: u8, q0: u8) -> u8
     }
 }
 
-/// The symbol in the midst of a pair of levels: those above it are nearer to the greater one.
+/// The limit between the two levels of a pair. Symbols above it are nearer to the greater level.
 #[inline(always)]
 fn limit(scale: u8, q1: u8, pair: u8) -> i8
     requires { scale ≤ MAX_SCALE }
@@ -226,7 +226,7 @@ fn limit(scale: u8, q1: u8, pair: u8) -> i8
     low(scale, pair) + shift(scale, q1)
 }
 
-/// That of the pair of two that begins lower.
+/// The limit of a pair where q1 is 0.
 #[inline(always)]
 fn low(scale: u8, pair: u8) -> i8
     requires { scale ≤ MAX_SCALE }
@@ -238,7 +238,7 @@ fn low(scale: u8, pair: u8) -> i8
     if pair == 0 { -3 * scale } else { scale }
 }
 
-/// How much higher the other of the two stands.
+/// How much higher the limit is for this q1 than for 0.
 #[inline(always)]
 fn shift(scale: u8, q1: u8) -> i8
     requires { scale ≤ MAX_SCALE }

@@ -1,5 +1,5 @@
-//! The walk from the end of the symbols to their beginning, which finds the least costs, and the walk on, which finds
-//! the least path (the Viterbi decoder).
+//! The Viterbi decoder. A walk from the end of the symbols to their beginning finds the least costs. A walk back to the
+//! end finds the least path.
 
 ghost use Rattle.std.specs.Prelude.{◌≡◌, ℕ, ◌+◌, ◌-◌, ◌*◌, ◌/◌, ◌%◌, ◌^◌, ◌<◌, ◌≤◌, ◌⊎◌};
 ghost use Rattle.std.specs.Prelude.{EachIndex, [], length, slice_index};
@@ -15,13 +15,13 @@ use std::simd::prelude::*;
 /// A least path's cost and the state that it starts from.
 #[derive(Clone, Copy)]
 pub struct Found {
-    /// The sum of the squares of what each symbol is off its level.
+    /// The sum of the squares of the symbols' distances from their levels.
     pub cost: u32,
-    /// The state, 2 * q1 + q0.
+    /// The first state, 2 * q1 + q0.
     pub start: u8,
 }
 
-/// How many symbols a coder has in the 312 data segments of a field.
+/// The number of symbols that a coder has in the 312 data segments of a field.
 pub const MAX_SYMBOLS: usize = 21_528;
 
 /// Finds the least path over symbols, and writes its levels and the potentials.
@@ -48,7 +48,7 @@ pub(crate) fn find(
     }
 }
 
-/// Writes the least costs of paths from each state over the symbols from each place on.
+/// Writes, for each place and each state, the least cost of a path over the symbols from there on.
 pub(crate) fn fill_potentials(table: &Table, symbols: &[i8], potentials: &mut [[u32; 4]])
     requires few { length symbols.now ≤ MAX_SYMBOLS }
     requires room { length symbols.now < length potentials.old }
@@ -78,7 +78,7 @@ fn before(row: &Nearest, behind: &[u32; 4]) -> [u32; 4]
     low.simd_min(high).to_array()
 }
 
-/// Of four costs the number of the least, the first of several.
+/// The index of the least of four costs, the first of several.
 fn least_of(costs: &[u32; 4]) -> u8
     ensures small { result < 4 }
     ensures least { (s : ℕ) → s < 4 → slice_index costs.now result ≤ slice_index costs.now s }
@@ -93,7 +93,7 @@ fn least_of(costs: &[u32; 4]) -> u8
     least
 }
 
-/// Writes the least path from a state, by the potentials.
+/// Writes the levels of the least path from a state, by the potentials.
 fn follow(table: &Table, symbols: &[i8], start: u8, potentials: &[[u32; 4]], levels: &mut [u8])
     requires start { start < 4 }
     requires few { length symbols.now ≤ MAX_SYMBOLS }
@@ -116,8 +116,8 @@ fn follow(table: &Table, symbols: &[i8], start: u8, potentials: &[[u32; 4]], lev
     }
 }
 
-/// For each state which of the two pairs of levels that may follow it is to be taken. Bits 2, 0, 3 and 1 are for states
-/// 0 to 3, which is the order in which a vector has them.
+/// For each state, which of the two pairs of levels that may follow it is to be taken. Bits 2, 0, 3 and 1 are for
+/// states 0 to 3, in the order of a vector's lanes.
 #[inline(always)]
 fn taken(row: &Nearest, behind: &[u32; 4]) -> u8
     requires squares { (z : ℕ) → z < 4 → slice_index row.now.squares z ≤ MAX_SQUARE }

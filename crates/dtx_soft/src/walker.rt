@@ -10,7 +10,7 @@ use crate::table::Table;
 use crate::walk::{Found, MAX_SYMBOLS, fill_potentials, find};
 use std::alloc::{AllocError, Global};
 
-/// How many entries the table of potentials has, one more than there may be symbols.
+/// The number of entries of the table of potentials: one more than the greatest number of symbols.
 pub(crate) const ENTRIES: usize = MAX_SYMBOLS + 1;
 
 /// The nearer levels of each symbol, and the potentials of the symbols that were decoded last.
@@ -22,7 +22,7 @@ pub(crate) struct Walker {
 }
 
 impl Walker {
-    /// Tables for levels at a scale.
+    /// The tables for levels at a scale. The only error is out of memory.
     pub(crate) fn new(alloc: Global, scale: u8) -> Result<Walker, AllocError>
         requires { scale ≤ MAX_SCALE }
         ensures { IfOk result (λ walker. walker.table.scale ≡ scale) }
@@ -33,7 +33,7 @@ impl Walker {
         })
     }
 
-    /// Finds the least path over symbols, and writes its levels, and the potentials to the front of their table.
+    /// Finds the least path over symbols, and writes its levels. The potentials go to the front of their table.
     pub(crate) fn find(&mut self, symbols: &[i8], levels: &mut [u8]) -> Found
         requires few { length symbols.now ≤ MAX_SYMBOLS }
         requires room { length levels.old ≡ length symbols.now }

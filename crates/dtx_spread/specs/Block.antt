@@ -4,7 +4,7 @@ use Rattle.std.specs.Prelude.{slice_index}
 use Rattle.std.specs.List.{range_with_len}
 use Rattle.dtx_laws.specs.Branches.{Branching, IsInterleaver}
 
--- how many bytes come before the first to branch i, where the next byte comes to branch `next`
+-- The number of bytes that come before the first one to branch i. The next byte comes to branch `next`.
 abbrev pub ahead : ℕ → ℕ → ℕ → ℕ
 ahead b next i = if nat_le next i then i - next else i + b - next
 
@@ -25,22 +25,22 @@ branches_in b lead w place next block = record {
 abbrev pub following : ℕ → ℕ → ℕ
 following b next = if next + 1 == b then 0 else next + 1
 
--- These bytes are those that leave as one byte comes to branch `turn` and to each of the n - 1 behind it. Each is from
--- the first row whose byte of its branch has not left, or from behind all rows the one that comes.
+-- These bytes leave as one byte comes to branch `turn` and one to each of the n - 1 branches behind it. Each is from
+-- the first row whose byte of its branch has not left. If there is no such row, it is the byte that comes.
 abbrev pub AreOfRow : ℕ → (ℕ → ℕ) → List ℕ → ℕ → ℕ → ℕ → List ℕ → Type 0
 AreOfRow b lead block place turn n bytes =
     (i : ℕ) → i < n → slice_index bytes i ≡ slice_index block (place + i + b * lead (turn + i))
 
--- and these the n that leave while n bytes come, of which the first comes to branch `next`
+-- these n bytes leave while n bytes come, the first of them to branch `next`
 abbrev pub AreLeft : ℕ → (ℕ → ℕ) → List ℕ → ℕ → ℕ → ℕ → List ℕ → Type 0
 AreLeft b lead block place next n bytes =
     (i : ℕ) → i < n → slice_index bytes i ≡ slice_index block (place + i + b * lead ((next + i) % b))
 
--- The rows that a branch holds, and those whose byte of it has left, are all rows.
+-- The rows that a branch holds, and the rows whose byte of it has left, are together all rows.
 abbrev pub AreWidths : ℕ → ℕ → (ℕ → ℕ) → (ℕ → ℕ) → Type 0
 AreWidths b m lead w = (i : ℕ) → i < b → lead i + w i ≡ m * (b - 1)
 
--- the block has all the bytes of an interleaver's branches, and this much room besides
+-- the block has all the bytes of an interleaver's branches, and `room` bytes more
 pub record IsBlock (b m room next place : ℕ) (block : List ℕ) : Type 0 where
   pub numbers : IsInterleaver b m
   pub below : next < b

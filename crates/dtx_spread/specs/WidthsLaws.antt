@@ -1,5 +1,5 @@
--- What one way holds of each branch is what the other way lacks of the longest. It stands here since the ghost members
--- of an impl, a trait's laws, cite lemmas of specs/ alone.
+-- The widths of one direction are what the branches of the other lack of the longest one. This stands here, since the
+-- ghost members of an impl, a trait's laws, cite lemmas of specs/ alone.
 use Rattle.std.proofs.Common.{◌≡◌, ℕ, ◌+◌, ◌-◌, ◌*◌, ap, ◌∙◌, arith}
 use Rattle.dtx_laws.specs.Branches.{spreading, gathering}
 use Rattle.dtx_spread.specs.Block.{AreWidths}

@@ -1,4 +1,4 @@
-//! The block that holds the bytes of branches in the order in which they came.
+//! The block that holds the bytes of all branches, in the order in which they came.
 
 ghost use Rattle.std.specs.Prelude.{◌≡◌, ℕ, ◌+◌, ◌-◌, ◌*◌, ◌%◌, ◌<◌, ◌≤◌, length, take, drop, slice_index};
 ghost use Rattle.dtx_laws.specs.Branches.{IsInterleaver};
@@ -6,7 +6,7 @@ ghost use Rattle.dtx_spread.specs.Block.{ahead, AreOfRow, AreLeft};
 
 use crate::widths::Widths;
 
-/// Moves the bytes that are held to the block's front where `len` more have no room. Gives their place.
+/// Moves the held bytes to the block's front where there is no room for `len` more. It returns their place.
 pub(crate) fn make_room(block: &mut [u8], place: usize, held: usize, len: usize) -> usize
     requires within { place + held ≤ length block.old }
     requires room { held + len ≤ length block.old }
@@ -20,7 +20,7 @@ pub(crate) fn make_room(block: &mut [u8], place: usize, held: usize, len: usize)
     0
 }
 
-/// Puts the bytes behind those that are held, replaces them by those that leave, and gives the next branch.
+/// Puts the bytes behind the held ones, replaces them by those that leave, and returns the next branch.
 pub(crate) fn through<W: Widths<B, M>, const B: usize, const M: usize>(
     block: &mut [u8],
     place: usize,
@@ -40,7 +40,7 @@ pub(crate) fn through<W: Widths<B, M>, const B: usize, const M: usize>(
     leave::<W, B, M>(block, place, next, bytes)
 }
 
-/// Replaces the bytes by those that leave, and gives the next branch.
+/// Replaces the bytes by those that leave, and returns the next branch.
 fn leave<W: Widths<B, M>, const B: usize, const M: usize>(
     block: &[u8],
     place: usize,
@@ -63,9 +63,9 @@ fn leave<W: Widths<B, M>, const B: usize, const M: usize>(
     turn
 }
 
-/// Replaces whole rows, or else the bytes up to the last branch, or all where there are fewer. Gives how many it
-/// replaced, and the next branch. Rows have a call of their own, in which their length is known before the program
-/// runs.
+/// Replaces whole rows, if branch 0 is next and there is a whole row. Else it replaces the bytes up to the last branch,
+/// or all if there are fewer. It returns how many it replaced, and the next branch. Rows have a call of their own, in
+/// which the compiler has their length as a constant.
 fn leave_next<W: Widths<B, M>, const B: usize, const M: usize>(
     block: &[u8],
     place: usize,
@@ -90,7 +90,7 @@ fn leave_next<W: Widths<B, M>, const B: usize, const M: usize>(
     (count, if after == B { 0 } else { after })
 }
 
-/// Replaces rows of one byte for each branch, as many as are whole. Gives how many bytes these are.
+/// Replaces whole rows, which have one byte for each branch. It returns how many bytes these are.
 fn leave_rows<W: Widths<B, M>, const B: usize, const M: usize>(
     block: &[u8],
     place: usize,
@@ -131,7 +131,7 @@ fn leave_row<W: Widths<B, M>, const B: usize, const M: usize>(
     leave_part::<W, B, M>(block, place + done, done, &mut row[done..]);
 }
 
-/// The eight bytes that leave from branch `turn` on, made one number, so that they are stored at once.
+/// The eight bytes that leave from branch `turn` on, as one number, so that they are stored at once.
 #[inline(always)]
 fn eight<W: Widths<B, M>, const B: usize, const M: usize>(
     block: &[u8],
@@ -166,7 +166,7 @@ fn leave_part<W: Widths<B, M>, const B: usize, const M: usize>(
     }
 }
 
-/// Turns each `B` bytes that are held so that branch 0 comes first, where branch `next` did.
+/// Turns each row of `B` held bytes so that branch 0 comes first, where branch `next` came first before.
 pub(crate) fn turn_back<const B: usize, const M: usize>(block: &mut [u8], place: usize, next: usize)
     requires numbers { IsInterleaver B M }
     requires below { next < B }

@@ -9,8 +9,7 @@ use dtx_laws::Spread;
 use std::alloc::{AllocError, Global};
 use std::marker::Model;
 
-/// An interleaver of `B` branches, of which branch i delays by `M * i` of its own bytes (ATSC A/53 Part 2,
-/// interleaving).
+/// An interleaver of `B` branches. Branch i delays by `M * i` of its own bytes (ATSC A/53 Part 2, interleaving).
 #[derive(Drop)]
 pub struct Branches<const B: usize, const M: usize> {
     lines: Lines<Spreading, B, M>,
@@ -41,7 +40,7 @@ impl<const B: usize, const M: usize> Spread<B, M> for Branches<B, M> {
 }
 
 impl<const B: usize, const M: usize> Branches<B, M> {
-    /// Aligned, with zeros in every branch.
+    /// An interleaver that is aligned, with zeros in every branch. The only error is out of memory.
     pub fn new(alloc: Global) -> Result<Self, AllocError>
         requires { IsInterleaver B M }
         ensures { IfOk result (λ branches. branches ≡ zeroed B (spreading M)) }

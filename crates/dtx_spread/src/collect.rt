@@ -9,7 +9,7 @@ use dtx_laws::Gather;
 use std::alloc::{AllocError, Global};
 use std::marker::Model;
 
-/// A de-interleaver of `B` branches, of which branch i delays by `M * (B - 1 - i)` of its own bytes (ATSC A/53 Part 2,
+/// A de-interleaver of `B` branches. Branch i delays by `M * (B - 1 - i)` of its own bytes (ATSC A/53 Part 2,
 /// interleaving: the way back).
 #[derive(Drop)]
 pub struct Collect<const B: usize, const M: usize> {
@@ -41,7 +41,7 @@ impl<const B: usize, const M: usize> Gather<B, M> for Collect<B, M> {
 }
 
 impl<const B: usize, const M: usize> Collect<B, M> {
-    /// Aligned, with zeros in every branch.
+    /// A de-interleaver that is aligned, with zeros in every branch. The only error is out of memory.
     pub fn new(alloc: Global) -> Result<Self, AllocError>
         requires { IsInterleaver B M }
         ensures { IfOk result (λ collect. collect ≡ zeroed B (gathering B M)) }

@@ -1,5 +1,5 @@
-//! Branches in one block, which holds their bytes in the order in which they came. Both ways share them, over the
-//! branches' widths.
+//! Branches in one block, which holds their bytes in the order in which they came. The interleaver and the
+//! de-interleaver share them: `W` gives the branches' widths.
 
 ghost use Rattle.std.specs.Prelude.{◌≡◌, ◌≤◌, length, IfOk};
 ghost use Rattle.dtx_laws.specs.Branches.{IsInterleaver, HasWidths, zeroed, aligned, leaving_all, after_all};
@@ -12,10 +12,11 @@ use std::marker::{Model, PhantomData};
 /// How many bytes a block takes before those that it holds move to its front.
 const ROOM: usize = 32_768;
 
-/// `B` branches, of which each holds as many bytes as `W` says.
+/// `B` branches, each of which holds as many bytes as its width in `W`.
 ///
-/// From the place on the block keeps as many rows of `B` bytes as the longest branch holds bytes, and behind them comes
-/// the next byte. What leaves then stands `B` places behind the place for each byte that its branch holds fewer.
+/// From `place` on, the block keeps as many rows of `B` bytes as the longest branch holds bytes. The next byte is put
+/// behind them. The byte that leaves then stands behind `place`, by `B` for each byte that its branch holds fewer than
+/// the longest one.
 #[derive(Drop)]
 pub(crate) struct Lines<W: Widths<B, M>, const B: usize, const M: usize> {
     widths: PhantomData<W>,
@@ -37,7 +38,7 @@ impl<W: Widths<B, M>, const B: usize, const M: usize> Model for Lines<W, B, M> {
 }
 
 impl<W: Widths<B, M>, const B: usize, const M: usize> Lines<W, B, M> {
-    /// Aligned, with zeros in every branch.
+    /// Branches that are aligned, with zeros in each. The only error is out of memory.
     pub(crate) fn new(alloc: Global) -> Result<Self, AllocError>
         requires { IsInterleaver B M }
         ensures { IfOk result (λ lines. lines ≡ zeroed B W.widths) }
@@ -50,17 +51,17 @@ impl<W: Widths<B, M>, const B: usize, const M: usize> Lines<W, B, M> {
         })
     }
 
-    /// `B` and `M` are the numbers of an interleaver, the next branch is below `B`, and each branch holds as many bytes
-    /// as its width.
+    /// Gives proofs a fact, and has no effect. `B` and `M` are the numbers of an interleaver, the next branch is below
+    /// `B`, and each branch holds as many bytes as its width.
     pub(crate) fn known(&self)
         ensures numbers { IsInterleaver B M }
         ensures widths { HasWidths B W.widths self.now }
     {
-        // A field that is read tells what each value keeps.
+        // Reading a field gives proofs what each value keeps.
         let _next = &self.next;
     }
 
-    /// Replaces each byte by the one that leaves as it comes.
+    /// Replaces each byte by the one that leaves the next branch.
     pub(crate) fn pass(&mut self, bytes: &mut [u8])
         ensures bytes { bytes.new ≡ leaving_all B self.old bytes.old }
         ensures branches { self.new ≡ after_all B self.old bytes.old }
@@ -73,7 +74,7 @@ impl<W: Widths<B, M>, const B: usize, const M: usize> Lines<W, B, M> {
         }
     }
 
-    /// The next byte goes to branch 0. The branches keep what they hold.
+    /// Makes branch 0 the next one. The branches keep what they hold.
     pub(crate) fn align(&mut self)
         ensures { self.new ≡ aligned self.old }
     {
@@ -81,7 +82,7 @@ impl<W: Widths<B, M>, const B: usize, const M: usize> Lines<W, B, M> {
         self.next = 0;
     }
 
-    /// Passes no more bytes than the room.
+    /// Replaces at most as many bytes as there is room for.
     fn pass_some(&mut self, bytes: &mut [u8])
         requires { length bytes.old ≤ ROOM }
         ensures bytes { bytes.new ≡ leaving_all B self.old bytes.old }

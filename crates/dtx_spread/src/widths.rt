@@ -1,4 +1,4 @@
-//! How many bytes the branches hold, on each of the two ways.
+//! The numbers of bytes that the branches hold, in each of the two directions.
 
 ghost use Rattle.std.specs.Prelude.{◌≡◌, ℕ, ◌+◌, ◌*◌, ◌<◌};
 ghost use Rattle.dtx_laws.specs.Branches.{IsInterleaver, spreading, gathering};
@@ -13,14 +13,14 @@ pub(crate) trait Widths<const B: usize, const M: usize> {
     /// How many bytes fewer than the longest one branch i holds.
     ghost lead: { ℕ → ℕ };
 
-    /// How far behind the place of branch `turn` in its row the byte stands that leaves the branch `i` further on. It
-    /// is `i` places, and `B` for each byte that its branch holds fewer than the longest one.
+    /// The offset of the byte that leaves the branch `i` further on than branch `turn`, from the place of branch `turn`
+    /// in its row. It is `i` places, and `B` more for each byte that this branch holds fewer than the longest one.
     fn offset(turn: usize, i: usize) -> usize
         requires numbers { IsInterleaver B M }
         requires below { turn + i < B }
         ensures { result ≡ i + B * lead (turn + i) };
 
-    /// The two add up to what the longest branch holds.
+    /// The two numbers add up to what the longest branch holds.
     ghost are: { AreWidths B M lead widths };
 }
 

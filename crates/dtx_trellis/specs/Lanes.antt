@@ -1,5 +1,5 @@
--- Twelve coders side by side: lane p is of the coder at place p of a round, where the segment has moved the coders on
--- by 4 * x. A lane has four bits: what stands behind a pair.
+-- Twelve coders side by side: lane p is of the coder at place p of a round. The segment has moved the coders on by 4 *
+-- x. A lane has four bits, which give its coder after a pair.
 use Rattle.std.specs.Prelude.{ℕ, ℤ, ◌≡◌, ◌<◌, ◌+◌, ◌-◌, ◌*◌, ◌/◌, ◌%◌, ◌==◌, if◌then◌else◌, ltb, List, length}
 use Rattle.std.specs.Prelude.{slice_index}
 use Rattle.dtx_sizes.specs.declared.segments.TheConstants.{CODERS, SEGMENT_ROUNDS}
@@ -25,11 +25,11 @@ pub record AreNibbles (lanes : List ℕ) : Type 0 where
 unfoldable pub lane_behind : State → ℕ → ℕ
 lane_behind q pair = 8 * (pair % 2) + number_of (next_of q (pair / 2) (pair % 2))
 
--- the level that the coder gave for that pair, 4 Z2 + 2 Z1 + Z0: Z2 is the new q2, Z1 is X1, and Z0 is the new q0
+-- the level that a lane after a pair stands for, 4 Z2 + 2 Z1 + Z0: Z2 is the new q2, Z1 is X1, and Z0 is the new q0
 unfoldable pub level_told : ℕ → ℕ
 level_told n = 4 * (n / 4 % 2) + 2 * (n / 8 % 2) + n % 2
 
--- from lane k behind the first and behind the second of two pairs, the bits of n
+-- the lanes after the first and after the second of two pairs, from lane k; the pairs are the bits of n
 unfoldable pub behind_both : ℕ → ℕ → ℕ
 behind_both k n =
     let first : ℕ = lane_behind (state_of k) (n / 4) in
@@ -71,7 +71,7 @@ pub record HoldsPairs (s : ℕ) (bytes : List ℕ) (r x : ℕ) (lanes : List ℕ
 abbrev pub turned_place : ℕ → ℕ
 turned_place p = if ltb p CODERS then (p + 4) % CODERS else p
 
--- the place from which place p has its coder: where round r begins a segment, coders move on by four places
+-- the place from which place p gets its coder: if round r begins a segment, coders move on by four places
 abbrev pub came_from : ℕ → ℕ → ℕ
 came_from r p = if r % SEGMENT_ROUNDS == 0 then turned_place p else p
 

@@ -14,8 +14,8 @@ groups bytes = length bytes / GROUP_BYTES
 unfoldable pub group_place : ℕ → ℕ → ℕ
 group_place s u = (s + 4 * u) % FIELD_PACKETS
 
--- In round r of a group at place s: which of the group's bytes coder e works on. It keeps to a byte for four rounds,
--- and the coders move on by four from segment to segment.
+-- The byte of a group at place s on which coder e works in round r. The coder keeps to a byte for four rounds. The
+-- coders move on by four from segment to segment.
 unfoldable pub byte_place : ℕ → ℕ → ℕ → ℕ
 byte_place s r e = CODERS * (r / 4) + (e + CODERS - 4 * ((s + 4 * (r / 4) / SEGMENT_ROUNDS) % 3)) % CODERS
 

@@ -10,7 +10,7 @@ pub record State : Type 0 where
   pub q1 : ℕ
   pub q0 : ℕ
 
--- each of the three is a bit
+-- each of the three numbers is a bit
 pub record AreBits (q : State) : Type 0 where
   pub q2 : q.q2 < 2
   pub q1 : q.q1 < 2

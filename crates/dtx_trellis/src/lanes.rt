@@ -1,4 +1,4 @@
-//! The twelve coders side by side, each at its place in the round, two pairs at a time.
+//! The twelve coders side by side, each in the lane of its place in the round. They take two pairs at a time.
 
 ghost use Rattle.std.specs.Prelude.{◌≡◌, ◌↔◌, ℕ, ◌*◌, ◌/◌, ◌%◌, ◌<◌, IsTrue, length, slice_index};
 ghost use Rattle.dtx_trellis.specs.Lanes.{AreNibbles, IsMovedOn, behind_both, level_told, turned_place};
@@ -6,25 +6,26 @@ ghost use Rattle.dtx_trellis.specs.Lanes.{AreNibbles, IsMovedOn, behind_both, le
 use dtx_sizes::SEGMENT_ROUNDS;
 use std::simd::prelude::*;
 
-/// How many lanes a vector has. Lane p is of the coder at place p of a round, lanes 12 to 15 are of none. Bit 3 of a
-/// lane is the X1 that its coder took last, and bits 2 to 0 are the number of the coder's state behind it.
+/// The number of lanes of a vector. Lane p is of the coder at place p of a round, and lanes 12 to 15 are unused. Bit 3
+/// of a lane is the X1 that its coder took last, and bits 2 to 0 are the number of the coder's state after it.
 pub(crate) const LANES: usize = 16;
 
-/// What two pairs, the four bits of the index, lead to from state 0. What stands behind the first is in the upper four
-/// bits, and what stands behind the second in the lower ones.
+/// The lanes after two pairs from state 0; the index has the pairs' four bits. The lane after the first pair is in the
+/// upper four bits, and the one after the second in the lower four.
 const BEHIND_PAIRS: [u8; LANES] = [
     0x00, 0x0a, 0x04, 0x0e, 0xa1, 0xab, 0xa5, 0xaf, 0x44, 0x4e, 0x40, 0x4a, 0xe5, 0xef, 0xe1, 0xeb,
 ];
 
-/// What two pairs of zeros lead to from each lane. Since a coder adds, other pairs flip what they flip from state 0.
+/// The lanes after two pairs of zeros, from each lane. A coder is linear, so other pairs flip here the bits that they
+/// flip from state 0.
 const BEHIND_LANES: [u8; LANES] = [
     0x00, 0x21, 0x12, 0x33, 0x44, 0x65, 0x56, 0x77, 0x00, 0x21, 0x12, 0x33, 0x44, 0x65, 0x56, 0x77,
 ];
 
-/// Twice the level that each lane tells.
+/// Twice the level that each lane stands for.
 const DOUBLED: [u8; LANES] = [0, 2, 0, 2, 8, 10, 8, 10, 4, 6, 4, 6, 12, 14, 12, 14];
 
-/// What two pairs, the bits of `pairs`, lead to.
+/// The lanes after two pairs, which are the bits of `pairs`.
 #[inline(always)]
 pub(crate) fn two_pairs(lanes: u8x16, pairs: u8x16) -> u8x16
     requires lanes { AreNibbles lanes }
@@ -36,7 +37,7 @@ pub(crate) fn two_pairs(lanes: u8x16, pairs: u8x16) -> u8x16
     looked_up(BEHIND_PAIRS, pairs) ^ looked_up(BEHIND_LANES, lanes)
 }
 
-/// Twice the levels that the lanes tell.
+/// Twice the levels that the lanes stand for.
 #[inline(always)]
 pub(crate) fn doubled(lanes: u8x16) -> u8x16
     requires { AreNibbles lanes }
@@ -64,8 +65,8 @@ pub(crate) fn lower(v: u8x16) -> u8x16
     v & u8x16::splat(15)
 }
 
-/// The lanes for round `round`, from those of the round before it: where it begins a segment, each place has the coder
-/// of the place four further on. `round` serves the clauses alone.
+/// The lanes for round `round`, from those of the round before it. If the round begins a segment, each place gets the
+/// coder of the place four further on. Only clauses use `round`.
 #[inline(always)]
 pub(crate) fn moved_on(v: u8x16, begins_segment: bool, round: usize) -> u8x16
     requires begins { IsTrue begins_segment ↔ (round % SEGMENT_ROUNDS ≡ 0) }
@@ -83,7 +84,7 @@ fn turned(v: u8x16) -> u8x16
     v.swizzle([4, 5, 6, 7, 8, 9, 10, 11, 0, 1, 2, 3, 12, 13, 14, 15])
 }
 
-/// What stands in the table at the number in each lane.
+/// The table's entry at the number in each lane.
 #[inline(always)]
 fn looked_up(table: [u8; LANES], lanes: u8x16) -> u8x16
     requires { AreNibbles lanes }

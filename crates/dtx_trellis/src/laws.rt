@@ -1,5 +1,5 @@
 //! Laws of the definitions: stepping a state gives the sums, and groups go on from the states that the groups before
-//! them leave. Worked places of the standard's tables.
+//! them leave. Further laws are entries of the standard's tables.
 
 ghost use Rattle.std.specs.Prelude.{◌≡◌, ℕ, ◌+◌, ◌*◌, ◌/◌, ◌%◌, ◌<◌, ◌≤◌, ◌++◌, List, [], ◌∷◌, length, map, replicate};
 ghost use Rattle.std.specs.Prelude.{slice_index};
@@ -10,8 +10,8 @@ ghost use Rattle.dtx_trellis.specs.Groups.{coder_after, level_at, levels_of, sta
 use dtx_sizes::GROUP_BYTES;
 
 /// The first data symbols of segments 0 to 4 of a field (ATSC A/53 Part 2, the table of byte to symbol conversion). The
-/// law says their coders, the bytes of the field on which these work, and which bits of the byte they take. The bits
-/// are 7 and 6, 5 and 4, 3 and 2, 1 and 0, and 7 and 6 again.
+/// law gives their coders, the bytes of the field from which these work, and the bits of the byte that they take. The
+/// bits are 7 and 6, 5 and 4, 3 and 2, 1 and 0, and 7 and 6 again.
 pub fn first_symbols()
     ensures coders { coder_at 0 0 ∷ coder_at 0 828 ∷ coder_at 0 1656 ∷ coder_at 0 2484 ∷ coder_at
         (group_place 0 1) 0 ∷ [] ≡ 0 ∷ 4 ∷ 8 ∷ 0 ∷ 4 ∷ [] }
@@ -29,8 +29,8 @@ pub fn table()
     ensures nexts_with { map (λ n. number_of (next_of (state_of n) 0 1)) (0 ∷ 1 ∷ 2 ∷ 3 ∷ []) ≡ 2 ∷ 0 ∷ 3 ∷ 1 ∷ [] }
 {}
 
-/// Byte 0x40 goes into coder 0 from state 0, with zeros behind it. The law says its first five levels, which are the
-/// symbols -3, -5, -7, -5 and -7, and its state behind the first.
+/// Byte 0x40 goes into coder 0 from state 0, with zeros behind it. The law gives its first five levels, which are the
+/// symbols -3, -5, -7, -5 and -7, and its state after the first.
 pub fn one_byte()
     ensures levels { map (λ r. level_at 0 (replicate 12 0) (0x40 ∷ replicate 827 0) (12 * r)) (0 ∷ 1 ∷ 2 ∷ 3 ∷ 4 ∷ [])
         ≡ 2 ∷ 1 ∷ 0 ∷ 1 ∷ 0 ∷ [] }
@@ -46,7 +46,7 @@ pub fn steps()
         → level q a b t ≡ level_of (state_after q a b t) (slice_index a t) (slice_index b t) }
 {}
 
-/// From the state after some pairs the sums go on.
+/// The sums go on from the state after some pairs.
 pub fn goes_on()
     ensures states { (q : State) (a b c d : List ℕ) (t : ℕ) → AreBits q → length a ≡ length b → t ≤ length c
         → state_after q (a ++ c) (b ++ d) (length a + t) ≡ state_after (state_after q a b (length a)) c d t }
@@ -54,7 +54,7 @@ pub fn goes_on()
         → level q (a ++ c) (b ++ d) (length a + t) ≡ level (state_after q a b (length a)) c d t }
 {}
 
-/// Behind `u` whole groups the coders go on from the states that these leave.
+/// After `u` whole groups the coders go on from the states that these leave.
 pub fn group_after_group()
     ensures higher { (s u e : ℕ) (y z : List ℕ) → length y ≡ GROUP_BYTES * u
         → higher s (y ++ z) e ≡ higher s y e ++ higher (group_place s u) z e }

@@ -3,8 +3,8 @@
 use dtx_sizes::CODERS;
 use std::marker::Model;
 
-/// The number of each coder's state, 4 * q2 + 2 * q1 + q0 and so below 8 (ATSC A/53 Part 2, trellis coding). A value
-/// made from numbers owes that each is below 8.
+/// The number of each coder's state: 4 * q2 + 2 * q1 + q0, which is below 8 (ATSC A/53 Part 2, trellis coding). Code
+/// that makes a value from numbers has to make each of them below 8.
 #[derive(Clone, Copy, Debug, PartialEq, Eq)]
 pub struct States(pub [u8; CODERS]);
 

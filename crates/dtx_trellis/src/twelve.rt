@@ -59,9 +59,9 @@ impl Twelve {
         self.states = given;
     }
 
-    /// Writes the data symbols of the group whose first segment is at place `first` of its field, each at its place
-    /// behind the syncs. What the first four symbols of each segment are, where the syncs stand, isn't specified: they
-    /// may change. The next group goes on from the states that this one leaves.
+    /// Writes the data symbols of a group, each at its place behind the syncs. `first` is the place of the group's
+    /// first segment in its field. The first four symbols of each segment, where the syncs stand, are unspecified. The
+    /// next group goes on from the states that this one leaves.
     pub fn group(
         &mut self,
         first: u16,

@@ -1,4 +1,4 @@
-//! Walks the bytes of a group, with the coders side by side.
+//! Codes the bytes of a group, with the coders side by side.
 
 ghost use Rattle.std.specs.Prelude.{◌≡◌, ◌↔◌, ℕ, ◌+◌, ◌-◌, ◌*◌, ◌/◌, ◌%◌, ◌<◌, ◌≤◌, IsTrue, length, pos, slice_index};
 ghost use Rattle.std.specs.Prelude.{slice_index_or};
@@ -19,11 +19,11 @@ const LAST_BYTE: usize = CODER_BYTES - 1;
 /// The last round of a group.
 const LAST_ROUND: usize = ROUNDS - 1;
 
-/// How many bytes of a coder stand from one in which a segment begins to the next of these. In its last byte, which
-/// stands behind the four stretches, no segment begins.
+/// The number of a coder's bytes from one in which a segment begins to the next one. No segment begins in its last
+/// byte, which stands behind the four stretches.
 const STRETCH: usize = SEGMENT_ROUNDS / 4;
 
-/// Codes a group from these states: writes its symbols, each at its place, and gives the states behind it.
+/// Codes a group from these states. It writes the group's symbols, each at its place, and returns the states after it.
 pub(crate) fn walk(
     from: &[u8; CODERS],
     first: usize,
@@ -44,7 +44,7 @@ pub(crate) fn walk(
     numbers(last, first, from, bytes)
 }
 
-/// The bytes from the one in which segment `segment` begins to the one in which the next begins.
+/// Codes the bytes from the one in which segment `segment` begins to the one in which the next begins.
 #[inline(always)]
 fn stretch(
     start: u8x16,
@@ -66,8 +66,7 @@ fn stretch(
     lanes
 }
 
-/// The four rounds in which each coder works on its byte number `byte`, where they all stand in segment `segment` and
-/// don't begin it.
+/// Codes byte number `byte` of each coder, in four rounds. All four stand in segment `segment` and don't begin it.
 #[inline(always)]
 fn inner_bytes(
     start: u8x16,
@@ -107,7 +106,7 @@ fn inner_bytes(
     )
 }
 
-/// The four rounds in which each coder works on its byte number `byte`, where a segment may begin.
+/// Codes byte number `byte` of each coder, in four rounds. A segment may begin with one of them.
 fn edge_bytes(
     start: u8x16,
     byte: usize,
@@ -149,8 +148,8 @@ fn edge_bytes(
     )
 }
 
-/// Two rounds: writes their symbols, the first from `place` on, and gives the lanes behind them. A segment may begin
-/// between them. `first`, `from`, `bytes` and `round` serve the clauses alone.
+/// Writes the symbols of two rounds, the first from `place` on, and returns the lanes after them. A segment may begin
+/// between the two. Only clauses use `first`, `from`, `bytes` and `round`.
 #[inline(always)]
 fn two_rounds(
     lanes: u8x16,
@@ -181,7 +180,7 @@ fn two_rounds(
     behind
 }
 
-/// Writes the symbols of a round. `first`, `from`, `bytes` and `round` serve the clauses alone.
+/// Writes the symbols of a round. Only clauses use `first`, `from`, `bytes` and `round`.
 #[inline(always)]
 fn emit(
     lanes: u8x16,
@@ -202,8 +201,8 @@ fn emit(
     store(symbols, place, lanes);
 }
 
-/// Where the symbols of the round behind round `round` begin: a sync stands in between where it begins a segment.
-/// `round` serves the clauses alone.
+/// Where the symbols of the round after round `round` begin. If that round begins a segment, a sync stands in between.
+/// Only clauses use `round`.
 #[inline(always)]
 fn next_place(place: usize, begins_segment: bool, round: usize) -> usize
     requires round { round < ROUNDS }
@@ -241,8 +240,7 @@ fn load_last(bytes: &[u8; GROUP_BYTES]) -> u8x16
     last.swizzle([4, 5, 6, 7, 8, 9, 10, 11, 12, 13, 14, 15, 0, 1, 2, 3])
 }
 
-/// Writes twelve symbols from `place` on, each twice the level that its lane tells, less 7. Those behind them may
-/// change.
+/// Writes twelve symbols from `place` on, each twice the level of its lane, less 7. The symbols behind them may change.
 #[inline(always)]
 fn store(symbols: &mut [i8; GROUP_SYMBOLS], place: usize, lanes: u8x16)
     requires place { place + CODERS ≤ GROUP_SYMBOLS }
@@ -290,7 +288,7 @@ fn laid_out(from: &[u8; CODERS], first: usize, bytes: &[u8; GROUP_BYTES]) -> u8x
     u8x16::from_array(lanes)
 }
 
-/// The states' numbers by coder, behind the last round.
+/// The states' numbers by coder, after the last round.
 fn numbers(
     lanes: u8x16,
     first: usize,

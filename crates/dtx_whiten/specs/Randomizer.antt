@@ -8,8 +8,8 @@ use Rattle.dtx_galois.specs.BitPolynomial.{remainder}
 unfoldable pub polynomial : ℕ
 polynomial = 2 ^ 16 + 2 ^ 13 + 2 ^ 12 + 2 ^ 11 + 2 ^ 7 + 2 ^ 6 + 2 ^ 3 + 2 ^ 1 + 2 ^ 0
 
--- The preload, X^15 + X^14 + X^13 + X^12 + X^8 + X^7. Of the register's X1 to X16, which stand for X^0 to X^15, these
--- are set before the first byte of a data field.
+-- The preload, X^15 + X^14 + X^13 + X^12 + X^8 + X^7. The register's X1 to X16 stand for X^0 to X^15. Those in the
+-- preload are set before the first byte of a data field.
 unfoldable pub preload : ℕ
 preload = 2 ^ 15 + 2 ^ 14 + 2 ^ 13 + 2 ^ 12 + 2 ^ 8 + 2 ^ 7
 

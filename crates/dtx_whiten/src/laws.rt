@@ -10,8 +10,8 @@ ghost use Rattle.dtx_whiten.specs.Randomized.{randomized, randomized_stream};
 
 use dtx_sizes::{FIELD_PACKETS, PACKET_DATA};
 
-/// The register's content has a lower degree than the generator polynomial, and differs from X^t times the preload by a
-/// multiple of it.
+/// The register's content after t shifts has a lower degree than the generator polynomial. It differs from X^t times
+/// the preload by a multiple of this polynomial.
 pub fn division()
     ensures small { (t : ℕ) → register t < 2 ^ 16 }
     ensures multiple { (t : ℕ) → (quotient : ℕ) × (quotient < 2 ^ t)

@@ -11,7 +11,7 @@ use dtx_laws::Whitener;
 use dtx_sizes::{FIELD_PACKETS, PACKET_DATA};
 use std::alloc::{AllocError, Global};
 
-/// The randomizer's bytes for the packets of a data field, one after another.
+/// The randomizer's bytes for the packets of a data field, one packet after another.
 #[derive(Drop)]
 pub struct Atsc {
     bytes: Vec<u8>,
@@ -38,7 +38,7 @@ impl Whitener for Atsc {
 }
 
 impl Atsc {
-    /// The bytes, by shifting the register from its preload on. The only error is out of memory.
+    /// Makes the bytes by shifting the register, from its preload on. The only error is out of memory.
     pub fn new(alloc: Global) -> Result<Atsc, AllocError>
         ensures { IfOk result (λ atsc. ⟦<Atsc as Whitener>⟧.bytes atsc ≡ randomizer_bytes) }
     {

@@ -1,4 +1,4 @@
-//! The randomizer's shift register, X1 as bit 0 to X16 as bit 15.
+//! The randomizer's shift register. Bit 0 to bit 15 are X1 to X16.
 
 ghost use Rattle.std.specs.Prelude.{◌≡◌, ◌*◌, ◌<◌, ◌^◌};
 ghost use Rattle.dtx_galois.specs.BitPolynomial.{remainder};

@@ -26,7 +26,7 @@ pub fn encoded_again<E: Encode<N, K>, const N: usize, const K: usize>(
     code
 }
 
-/// Fills the data from the front of a word.
+/// Copies the data from the front of a word.
 fn take_data(word: &[u8], head: &mut [u8])
     requires { length head.old ≤ length word.now }
     ensures bytes { AreBytes word.now }
@@ -35,8 +35,8 @@ fn take_data(word: &[u8], head: &mut [u8])
     head.copy_from_slice(&word[..head.len()]);
 }
 
-/// Takes the tried word in place of the word, where it is the word's correction, and answers how many places that
-/// changes. Else the answer is `TooMany`, and the word stays.
+/// Replaces the word by the tried one, if that is its correction, and returns how many places changed. Else the answer
+/// is `TooMany`, and the word stays.
 pub fn accept<E: Encode<N, K>, const N: usize, const K: usize>(
     encoder: &E,
     word: &mut [u8; N],
@@ -54,7 +54,8 @@ pub fn accept<E: Encode<N, K>, const N: usize, const K: usize>(
     }
 }
 
-/// Takes a codeword in place of the word, where it is the word's correction.
+/// Replaces the word by a codeword, if that is its correction, and returns how many places changed. Else the word
+/// stays.
 fn accept_codeword<const N: usize, const K: usize>(
     word: &mut [u8; N],
     code: &[u8; N],

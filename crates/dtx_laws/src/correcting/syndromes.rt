@@ -8,8 +8,8 @@ ghost use Rattle.dtx_laws.specs.Syndromes.{AreSyndromes};
 use crate::correcting::ROOM;
 use dtx_galois::{ALPHA, Gf};
 
-/// As many syndromes of a word as it has parity bytes, from these and those of its data, `right`. The sums of the two
-/// have the word's syndromes, since those of a codeword are 0.
+/// The syndromes of a word, as many as it has parity bytes. `parity` has the word's own parity bytes, and `right` those
+/// that its data have. The sums of the two have the word's syndromes, since those of a codeword are 0.
 pub fn syndromes_of(parity: &[u8], right: &[u8]) -> [u8; ROOM]
     requires same { length parity.now ≡ length right.now }
     requires few { length parity.now ≤ 255 }

@@ -9,8 +9,8 @@ ghost use Rattle.dtx_laws.specs.Locator.{is_marked};
 use crate::correcting::{ROOM, power_at};
 use dtx_galois::Gf;
 
-/// Takes the errors away from the marked places, where `count` syndromes are known: more than there are other marked
-/// places.
+/// Takes away the errors at the marked places, from the first `count` syndromes. The byte at a place is right where
+/// `count` is more than the number of other marked places.
 pub fn patch(word: &mut [u8], marks: &[bool; ROOM], syndromes: &[u8; ROOM], count: usize)
     requires few { length word.old ≤ 255 }
     requires syndromes { count ≤ 255 }
@@ -62,7 +62,7 @@ fn is_other(marks: &[bool; ROOM], other: usize, place: usize) -> bool
     marks[other] && other != place
 }
 
-/// Cancels a power from the first `count` entries of a sequence, of which the last is then of no use.
+/// Cancels a power from the first `count` entries of a sequence. The last of them is then of no use.
 pub fn cancel(sequence: &mut [u8; ROOM], count: usize, power: Gf)
     requires { count ≤ 255 }
     ensures long { length sequence.new ≡ ROOM }

@@ -7,9 +7,10 @@ ghost use Rattle.dtx_laws.specs.Correction.{IsCorrected, IsLeft};
 ghost use Rattle.dtx_laws.specs.Locator.{Annuls, low_value};
 ghost use Rattle.dtx_laws.specs.Words.{codeword};
 
-/// A locator vanishes wherever a word differs from its correction. `n - k` is `2 * t`, and syndrome `S j` the word's
-/// value at the power `j` of α. Let at most `t + 1` coefficients give `locator[0] * S i + locator[1] * S (i + 1) + .. =
-/// 0` for each `i` below `t`. Then their polynomial, the lowest first, is 0 at the power of α of each such place.
+/// A locator vanishes wherever a word differs from its correction. Let `n - k` be `2 * t`, and let syndrome `S j` be
+/// the word's value at the power `j` of α. Let at most `t + 1` coefficients give
+/// `locator[0] * S i + locator[1] * S (i + 1) + .. = 0` for each `i` below `t`. Then their polynomial, the lowest
+/// first, is 0 at the power of α of each such place.
 pub fn kernel()
     ensures { (n k t : ℕ) (word code locator : List ℕ) → n ≤ 255 → n - k ≡ 2 * t → AreBytes word → length word ≡ n
         → IsCorrection n k word code → AreBytes locator → length locator ≤ t + 1
@@ -17,8 +18,8 @@ pub fn kernel()
         → low_value locator (pow 2 (n - 1 - p)) ≡ 0 }
 {}
 
-/// There is just one answer to a word: two correctors give the same word and number, or both leave the word. A codeword
-/// is corrected to itself, with no place changed. So is each that an encoder made.
+/// A word has at most one answer: two correctors give the same word and number, or both leave the word. A codeword is
+/// corrected to itself, and no place changes. So is each codeword that an encoder made.
 pub fn one_answer()
     ensures same { (n k : ℕ) (word a b : List ℕ) (d e : ℕ) → n ≤ 255 → length word ≡ n → IsCorrected n k word a d
         → IsCorrected n k word b e → (a ≡ b) × (d ≡ e) }

@@ -1,6 +1,6 @@
-//! The laws of de-interleaving, over the definitions, for every number of branches: so they hold of every
-//! implementation of `Gather`, and of each behind every implementation of `Spread`. By `interleaving::any_cut` each
-//! holds for any cut into calls.
+//! Laws of de-interleaving, for every number of branches. They are laws of the definitions, so they hold of every
+//! implementation of `Gather`, behind any implementation of `Spread`. By `interleaving::any_cut` each holds for any cut
+//! into calls.
 
 ghost use Rattle.std.specs.Prelude.{◌≡◌, ℕ, ◌-◌, ◌*◌, ◌<◌, ◌≤◌, ◌++◌, List, length, take, slice_index};
 ghost use Rattle.std.specs.List.{concat};
@@ -8,8 +8,8 @@ ghost use Rattle.dtx_laws.specs.Branches.{Branching, HasWidths, spreading, gathe
 ghost use Rattle.dtx_laws.specs.Branches.{leaving_calls};
 ghost use Rattle.dtx_laws.specs.Gathering.{gathered_at, gathered, IsGatheredBehind};
 
-/// Behind an align of both, whatever their branches held, what was spread and gathered is the input, late by `b * m *
-/// (b - 1)` bytes. From branches full of zeros all bytes before it are zeros.
+/// After an align of both, spreading and gathering give back the input, late by `b * m * (b - 1)` bytes, whatever the
+/// branches held. From branches full of zeros all bytes before it are zeros.
 pub fn back()
     ensures late { (b m : ℕ) (s g : Branching) (x : List ℕ) (n : ℕ) → HasWidths b (spreading m) s
         → HasWidths b (gathering b m) g → n < length x → b * m * (b - 1) ≤ n
@@ -25,14 +25,14 @@ pub fn from_zeros()
         → leaving_calls b (zeroed b (gathering b m)) calls ≡ gathered b m (concat calls) }
 {}
 
-/// Behind an align, whatever the branches held, any calls give the map of places where the source has come, and else a
-/// byte that the branches held.
+/// After an align any calls give the map of places where the source has come, whatever the branches held. Any other
+/// byte is one that the branches held.
 pub fn behind_align()
     ensures { (b m : ℕ) (v : Branching) (calls : List (List ℕ)) → HasWidths b (gathering b m) v
         → IsGatheredBehind b m v.lists (concat calls) (leaving_calls b (aligned v) calls) }
 {}
 
-/// The map of places, place by place.
+/// The bytes of the map of places, one by one.
 pub fn the_map()
     ensures long { (b m : ℕ) (y : List ℕ) → length (gathered b m y) ≡ length y }
     ensures at { (b m : ℕ) (y : List ℕ) (n : ℕ) → n < length y → slice_index (gathered b m y) n ≡ gathered_at b m y n }
