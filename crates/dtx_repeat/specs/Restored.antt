@@ -1,5 +1,5 @@
--- The packets of runs with the cadence marks of a feed (the profile's own). What is sent of a packet (ATSC A/53 Part 2)
--- is all but its sync byte, so a mark isn't received. It is restored from the field syncs: a mark begins a first field.
+-- The packets of runs with the cadence marks of a feed (the profile's own). All of a packet is sent but its sync byte
+-- (ATSC A/53 Part 2), so a mark isn't received. It is restored from the field syncs: a mark begins a first field.
 use Rattle.std.specs.Prelude.{ℕ, ℤ, if◌then◌else◌, List, [], ◌++◌, length, map, option_to_list, slice_index_or}
 use Rattle.std.specs.List.{range_with_len, flat_map, zip}
 use Rattle.dtx_cadence.specs.Mark.{marked}
@@ -22,7 +22,7 @@ restored_one k r = record r { packet = record { 0 = marked k r.packet.0 } }
 unfoldable pub restored : ℕ → List Received → List Received
 restored k packets = map (λ p. restored_one p.0 p.1) (zip (range_with_len k (length packets)) packets)
 
--- the place of a run's first packet, as the run's first field sync tells it; later ones aren't asked
+-- the place of a run's first packet, by the run's first field sync alone
 abbrev pub first_place : List (List ℤ) → ℕ
 first_place run = place_behind (slice_index_or run 0 [])
 
