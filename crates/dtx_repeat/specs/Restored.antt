@@ -30,7 +30,7 @@ first_place run = place_behind (slice_index_or run 0 [])
 unfoldable pub run_restored : List (List ℤ) → List Received
 run_restored run = restored (first_place run) (run_packets (bytes_in run))
 
--- those that are given while the run is on
+-- the packets that are given while the run is on
 unfoldable pub early_restored : List (List ℤ) → List Received
 early_restored run = restored (first_place run) (early_of (bytes_in run))
 
@@ -38,8 +38,8 @@ early_restored run = restored (first_place run) (early_of (bytes_in run))
 unfoldable pub all_restored : List (List ℤ) → List Received
 all_restored segments = flat_map run_restored (runs segments)
 
--- those that are given before the list ends: those of the runs that have ended, and the early ones of the run that is
--- on
+-- the packets that are given before the list ends: those of the runs that have ended, and the early ones of the present
+-- run
 unfoldable pub restored_so_far : List (List ℤ) → List Received
 restored_so_far segments =
     flat_map run_restored (tracked segments).ended ++ flat_map early_restored (option_to_list (tracked segments).run)
