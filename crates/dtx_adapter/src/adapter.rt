@@ -30,7 +30,7 @@ pub struct Adapter {
 }
 
 impl Adapter {
-    /// A new adapter of a plan. The only error is out of memory.
+    /// A new adapter of a sound plan. The only error is out of memory.
     pub fn new(alloc: Global, plan: &Plan) -> Result<Adapter, AllocError>
         requires { IsSound plan.now }
         ensures stands { IfOk result (λ adapter. StandsFor plan.now adapter []) }

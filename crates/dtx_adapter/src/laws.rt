@@ -56,7 +56,7 @@ pub fn operations_packets()
 
 /// Up to 35 transmitters stand on the only page. More transmitters stand on the fewest pages of 34 that hold them, and
 /// an operations packet carries one page. The number of that page is below the number of pages, which is at most 30.
-/// The page has transmitter i exactly where it is page i / 34. The entry of a transmitter of a sound plan is found by
+/// The page lists transmitter i exactly if it is page i / 34. The entry of a transmitter of a sound plan is found by
 /// its address exactly in the packets that carry its page, and there has its own offset.
 pub fn pages()
     ensures one { (plan : Plan) (stream before : List (List ℕ)) (k : ℕ) → length plan.transmitters ≤ MOST_ENTRIES

@@ -47,7 +47,7 @@ impl Model for Anchor {
 }
 
 impl Anchor {
-    /// There is no anchor, and no sync byte was given.
+    /// A new value, without an anchor, which was given no sync byte.
     pub fn new() -> Anchor
         ensures { StandsFor result [] }
     {

@@ -25,8 +25,8 @@ ghost use Rattle.dtx_calm_feed.specs.Said.{AreSaid, Follows, IsLatestOrder, IsSa
 /// states exactly if the packet's group counts and they are those that the twelve coders have before the group. These
 /// coders began with the states of the latest earlier order under this anchor. It says `slip` exactly if the group
 /// counts, there is an earlier order, and the states are others. It says `right` of the clock exactly if two things
-/// hold. The stamp is later than that of the latest operations packet before it by the length of the frames between the
-/// two, rounded down or up once. The maximum delay is the same.
+/// hold. The stamp is later than that of the latest operations packet before it by the length of all frames between the
+/// two, rounded once, down or up. The maximum delay is the same.
 pub fn each_line_is_so()
     ensures { (packets : List (List ℕ)) → AllByRecursion (IsSaid packets) (watch packets) }
 {}
@@ -61,7 +61,7 @@ pub fn locked_at_any_mark()
         → IsLockedTo feed (slice_range feed m n) n }
 {}
 
-/// An exciter is locked to a calm feed, whatever its address and its delay and whatever it was given before. Of each
+/// An exciter is locked to a calm feed, whatever its address and its delay and whatever it was given before. For each
 /// group it gives nothing, or the feed's own segments of the group. The coders of these segments begin with the states
 /// of the feed's first order, and nothing presets them later. So later orders, at which the exciter presets its own
 /// coders, change nothing that it sends.

@@ -11,7 +11,7 @@ use Rattle.dtx_exciter.specs.Order.{Order, orders}
 use Rattle.dtx_exciter.specs.Told.{served, told_at, is_sent}
 use Rattle.dtx_exciter.specs.Packets.{readings, under}
 
--- the four data segments of group u of these packets, where the coders begin with the states q before group g
+-- the four data segments of group u of these packets, if the coders have the states q before group g
 unfoldable pub segments_since : ℕ → List ℕ → List (List ℕ) → ℕ → List (List ℤ)
 segments_since g q packets u = four_segments (levels_since g q packets) (4 * (u - g))
 

@@ -26,8 +26,8 @@ abbrev pub is_served : ℕ → ℕ → List Order → Bool
 is_served address delay [] = false
 is_served address delay (order ∷ older) = is_ok (served address delay (order ∷ older))
 
--- The coder was given these packets: with the states of the order in force from its group on, or without an order with
--- any states from the anchor on.
+-- The coder was given these packets. It had the states of the order in force before that order's group. Without an
+-- order it had any states at the anchor.
 abbrev pub RunsUnder : List (List ℕ) → List Order → Coding → Type 0
 RunsUnder packets [] coder = (q : List ℕ) × RunsAlong packets 0 q coder
 RunsUnder packets (order ∷ older) coder = RunsAlong packets (order.place / 4) order.ops.states coder

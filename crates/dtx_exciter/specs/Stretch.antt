@@ -31,8 +31,8 @@ lines_behind address delay n packets more =
 -- ---- in front of the stretch
 
 -- The field sync in front of the group from packet k on, where the group before it gave these segments. There is none
--- where that group wasn't sent or k begins no field. Else there is one, which ends with the last twelve symbols that
--- were sent.
+-- where that group wasn't sent or k begins no field. Otherwise there is one, which ends with the last twelve symbols
+-- that were sent.
 abbrev pub sync_behind : List (List ℤ) → ℕ → List (List ℤ)
 sync_behind [] k = []
 sync_behind (s ∷ ss) k =

@@ -107,8 +107,8 @@ impl Exciter {
         self.pages = Pages::new(0);
     }
 
-    /// Adds the packet at this place of its frame. The last packet of a group completes it, and the answer is that to
-    /// the group.
+    /// Adds the packet at this place of its frame. The last packet of a group completes the group, and the answer is
+    /// the one to the group.
     fn join(&mut self, place: u16, packet: &Packet, air: &mut Air) -> Told
         requires place { place < 624 }
         requires air { air.old.segments ≡ 0 }

@@ -174,8 +174,9 @@ pub fn same_everywhere()
 // ---- several pages
 
 /// The answer at an order to a transmitter without an entry in force. It is `Muted Unlisted` exactly if all pages were
-/// told. Otherwise it is `Quiet`, and the transmitter waits for its page. All pages were told exactly if each page of
-/// the order in force was told by some order, since when each order has the same number of pages.
+/// told. Otherwise it is `Quiet`, and the transmitter waits for its page. All pages were told exactly if two things
+/// hold of each page of the order in force. Some order told the page, and each order from there on has the same number
+/// of pages.
 pub fn pages()
     ensures answer { (address delay : ℕ) (order : Order) (older : List Order)
         → entry_in_force address (order ∷ older) ≡ None

@@ -14,7 +14,7 @@ pub fn laid_in_pieces()
         → hurt damage (first ++ rest) ≡ hurt damage first ++ damaged_bytes damage (length first) rest }
 {}
 
-/// Damage changes no number of bytes.
+/// Damaged bytes are as many as the bytes before.
 pub fn length_stays()
     ensures { (damage : List Damage) (place : ℕ) (bytes : List ℕ)
         → length (damaged_bytes damage place bytes) ≡ length bytes }

@@ -35,7 +35,7 @@ pub fn packet(seed: u64, index: u64) -> Packet
     }
 }
 
-/// The packet of these two parts.
+/// The packet with this header and this payload.
 fn joined(header: &[u8; HEADER], payload: &[u8; PAYLOAD]) -> Packet
     ensures { result.0 ≡ header.now ++ payload.now }
 {

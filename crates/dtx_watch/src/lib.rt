@@ -1,6 +1,6 @@
-//! A watcher, whose notes show whether a feed is sound, and the text of notes. Notes are on operations packets: which
-//! of them read, whether their states are those that the coders have there, and whether the clock runs. They are on
-//! anchors too.
+//! A watcher, whose notes show whether a feed is sound, and the text of its notes. They are on anchors and on
+//! operations packets: which of these read, whether their states are those that the coders have there, and whether the
+//! clock runs.
 #![tactic(auto)]
 
 pub mod laws;

@@ -14,7 +14,7 @@ pub(crate) struct Stamped {
     pub frame: u32,
 }
 
-/// What the next operations packet is compared with, from the latest one.
+/// The fields of an operations packet with which the next one is compared.
 pub(crate) fn stamp_in(ops: &Ops) -> Stamped
     ensures { result ≡ stamp_in ops.now }
 {

@@ -100,8 +100,7 @@ impl Watcher {
         }
     }
 
-    /// Sets `notes` to the notes on the packets of a group that isn't whole. The caller calls it when no more packets
-    /// come.
+    /// Sets `notes` to the notes on the packets of a group that isn't whole. It is called when no more packets come.
     pub fn finish(&mut self, notes: &mut ArrayVec<Note, MOST_NOTES>)
         requires given { WasGiven self.old }
         ensures { (before : List (List ℕ)) → StandsFor self.old before

@@ -38,7 +38,7 @@ impl Net {
         lied_by(&self.corrector, packet, states)
     }
 
-    /// The place in the list of the transmitter with this address, or `None` exactly where there is none.
+    /// The place in the list of the transmitter with this address, or `None` exactly if there is none.
     pub fn find(&self, address: u16) -> Option<usize>
         ensures within { IfSome result (λ who. who < vec_len self.now.exciters) }
         ensures place { (ts : List Transmitter) (steps : List Step) → StandsFor ts self.now steps
