@@ -39,7 +39,7 @@ mark_from m = 624 * ((m + 623) / 624)
 abbrev pub heard_mark : ℕ → ℕ
 heard_mark first = mark_from (packet_behind first)
 
--- The packet up to which the feed is received whole. The packets from the one behind the first field sync up to this
--- one have all their 207 bytes among those received, and no later packet has.
+-- The packet up to which the feed is received whole. The packets from the one behind the first field sync on, and
+-- before this one, have all their 207 bytes among those received. No later packet has.
 unfoldable pub heard_to : ℕ → List (List ℤ) → ℕ
 heard_to first got = packet_behind first + length (numbers_in (from_sync first got))

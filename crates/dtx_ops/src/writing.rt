@@ -53,7 +53,7 @@ fn payload<E: Encode<184, 164>>(code: &E, ops: &Ops) -> [u8; 184]
     word
 }
 
-/// The data.
+/// Writes the data to `out`, which holds 164 zeros.
 #[tactic(auto, unfolding(crate::specs::Spelling::data_of))]
 fn write_data(ops: &Ops, out: &mut [u8])
     requires stamp { ops.now.stamp < 10000000 }
@@ -102,7 +102,7 @@ fn write_times(ops: &Ops, out: &mut [u8])
     write_place(ops.frame, ops.index, &mut out[6..]);
 }
 
-/// Stamp and maximum delay.
+/// Writes stamp and maximum delay.
 fn write_delays(stamp: u32, max_delay: u32, out: &mut [u8])
     requires stamp { stamp < 10000000 }
     requires max_delay { max_delay < 10000000 }
@@ -113,7 +113,7 @@ fn write_delays(stamp: u32, max_delay: u32, out: &mut [u8])
     BigEndian::write_u24(&mut out[3..], max_delay);
 }
 
-/// Frame and index.
+/// Writes frame and index.
 fn write_place(frame: u32, index: u16, out: &mut [u8])
     requires { 6 ≤ length out.old }
     ensures { out.new ≡ big_bytes 4 frame ++ big_bytes 2 index ++ drop 6 out.old }
@@ -154,7 +154,7 @@ fn write_entries(entries: &[Entry], out: &mut [u8])
     }
 }
 
-/// One entry.
+/// Writes one entry.
 #[tactic(auto, unfolding(crate::specs::Spelling::entry_bytes))]
 fn write_entry(entry: &Entry, out: &mut [u8])
     requires { 4 ≤ length out.old }

@@ -50,7 +50,7 @@ HasRoom w = (packets : List (List ℕ)) × StandsFor w packets × (length packet
 abbrev pub WasGiven : Watcher → Type 0
 WasGiven w = (packets : List (List ℕ)) × StandsFor w packets × (length packets ≤ 624000000)
 
--- The watcher after one more packet behind these, and the notes that the packet gives.
+-- The watcher after these packets and packet p, and the notes that p gives.
 pub record IsTaken (packets : List (List ℕ)) (p : List ℕ) (w : Watcher) (given : List Note) : Type 0 where
   pub notes : told (packets ++ p ∷ []) ≡ told packets ++ given
   pub stands : StandsFor w (packets ++ p ∷ [])
