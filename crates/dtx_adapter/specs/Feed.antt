@@ -28,12 +28,12 @@ placeholders packets = length (filter is_placeholder packets)
 abbrev pub entry_of : Transmitter → Entry
 entry_of t = record { address = t.address; offset = t.offset }
 
--- how many pages so many transmitters take, 34 on each
+-- how many pages `count` transmitters take, 34 on each
 unfoldable pub pages_for : ℕ → ℕ
 pages_for count = (count + 33) / 34
 
--- The page that a group's operations packets carry, behind n other groups that hold some. Up to 35 transmitters stand
--- on the only page, and more of them on pages that take turns.
+-- The page that a group's operations packets carry, if n groups before it hold operations packets. Up to 35
+-- transmitters stand on the only page, and more of them on pages that take turns.
 unfoldable pub paging_of : {X : Type 0} → List X → ℕ → Paging
 paging_of ts n = if nat_le (length ts) 35 then One else Of (n % pages_for (length ts)) (pages_for (length ts))
 
@@ -59,10 +59,10 @@ filled_groups stream u = length (filter (is_filled stream) (range_with_len 0 u))
 abbrev pub paging_at : Plan → List (List ℕ) → ℕ → Paging
 paging_at plan stream u = paging_of plan.transmitters (filled_groups stream u)
 
--- What operations packet k of a stream's feed says, before which these packets of the feed stand. It says the states
--- that the coders have behind all whole groups before its own, the stamp of its frame, and the plan's maximum delay. It
--- says the number of the frame, the packet's place in it, the page of its group, and the plan's transmitters on that
--- page.
+-- The fields of the operations packet that is packet k of a stream's feed, where `before` is the feed's packets before
+-- it. The states are those of the coders after all whole groups before its own. The stamp is that of its frame, and the
+-- maximum delay is the plan's. Then come the number of the frame, the packet's place in it, the page of its group, and
+-- the plan's transmitters on that page.
 unfoldable pub ops_at : Plan → List (List ℕ) → List (List ℕ) → ℕ → Ops
 ops_at plan stream before k = record {
   states = states (take (4 * (k / 4)) before);
@@ -78,13 +78,13 @@ ops_at plan stream before k = record {
 unfoldable pub counter_at : List (List ℕ) → ℕ → ℕ
 counter_at stream k = placeholders (take k stream) % 16
 
--- What a packet of the stream becomes as packet k of the feed. A placeholder becomes an operations packet that says
--- this, with this counter. Every other packet keeps all but byte 0.
+-- What a packet of the stream becomes as packet k of the feed. A placeholder becomes an operations packet with these
+-- fields and this counter. Every other packet keeps all but byte 0.
 unfoldable pub as_feed_packet : Ops → ℕ → ℕ → List ℕ → List ℕ
 as_feed_packet ops counter k packet = if is_placeholder packet then spelling ops counter
     (sync_at k) else marked k packet
 
--- packet k of the feed, before which these packets of it stand
+-- packet k of the feed, where `before` is the feed's packets before it
 unfoldable pub fed_packet : Plan → List (List ℕ) → List (List ℕ) → ℕ → List ℕ
 fed_packet plan stream before k = as_feed_packet (ops_at plan stream before k) (counter_at stream k) k
     (slice_index_or stream k [])

@@ -1,4 +1,4 @@
--- What fills placeholders, as contracts see it.
+-- A filler of placeholders, as contracts see it.
 use Rattle.std.specs.Prelude.{ℕ, ◌≡◌, ◌≢◌, ◌+◌, ◌<◌, ◌/◌, ◌%◌, Bool, false, if◌then◌else◌, List, AllPairs, length, map}
 use Rattle.dtx_clock.specs.Clock.{stamp_of}
 use Rattle.dtx_ops.specs.declared.fields.Entry.{Entry}
@@ -20,7 +20,7 @@ pub record Filling : Type 0 where
   pub counter : ℕ
   pub filled : Bool
 
--- what packet k of the feed says, where it is filled
+-- the fields of packet k of the feed, if it is an operations packet
 unfoldable pub filled_ops : Filling → ℕ → Ops
 filled_ops filling k = record {
   states = filling.states;
@@ -32,13 +32,13 @@ filled_ops filling k = record {
   offsets = record { items = listed filling.entries filling.paging };
 }
 
--- the page behind a page, and behind the last one the first
+-- the next page: the first one follows the last
 abbrev pub next_page : Paging → Paging
 next_page One = One
 next_page (Of page pages) = Of ((page + 1) % pages) pages
 
--- a group begins, before which the coders have these states: where the group before it filled a placeholder, the next
--- page comes
+-- The filler after a group begins, before which the coders have these states. If the group before it filled a
+-- placeholder, this one has the next page.
 unfoldable pub begun : Filling → List ℕ → Filling
 begun filling states = record filling {
   states = states;
@@ -46,8 +46,9 @@ begun filling states = record filling {
   filled = false;
 }
 
--- What is said can be read. Start and maximum delay are below one second of 10,000,000 ticks, and the counter is of
--- four bits. The addresses differ, the page has its place, and its transmitters are at hand.
+-- An operations packet with these fields reads. Start and maximum delay are below one second of 10,000,000 ticks, and
+-- the counter is of four bits. The addresses differ, the page may list this number of transmitters, and `offsets` are
+-- the page's transmitters.
 pub record IsReadable (ticks delay count : ℕ) (transmitters : List Entry) (turn : Paging) (offsets : List Entry)
     : Type 0 where
   pub start : ticks < 10000000
@@ -57,7 +58,7 @@ pub record IsReadable (ticks delay count : ℕ) (transmitters : List Entry) (tur
   pub paged : IsPaged turn (length offsets)
   pub at_hand : offsets ≡ listed transmitters turn
 
--- what fills the placeholders of a plan's feed, was given these packets of the stream, and has group u at hand
+-- the filler of a plan's feed that was given these packets of the stream and has group u at hand
 pub record Fills (plan : Plan) (filling : Filling) (stream : List (List ℕ)) (u : ℕ) : Type 0 where
   pub start : filling.start ≡ plan.start
   pub max_delay : filling.max_delay ≡ plan.max_delay

@@ -2,8 +2,8 @@
 use Rattle.std.specs.Prelude.{ℕ, ◌≡◌, ◌<◌, ◌≤◌, true, List}
 use Rattle.dtx_adapter.specs.Feed.{paging_of, is_listed, is_filled, filled_groups}
 
--- A group from one group on and before another one that holds a placeholder, and whose page has the transmitter of that
--- place in the plan.
+-- A group from group `from` on and before group `to` holds a placeholder, and its page lists the transmitter at `place`
+-- of the plan.
 pub record IsListedIn {X : Type 0} (ts : List X) (stream : List (List ℕ)) (from to place : ℕ) : Type 0 where
   pub group : ℕ
   pub least : from ≤ group

@@ -17,8 +17,8 @@ use dtx_plan::Plan;
 use dtx_sizes::{FieldPlace, GROUP_PACKETS, MOST_PACKETS, field_place};
 use std::alloc::{AllocError, Global};
 
-/// An adapter. It is given the packets of a stream in order, and makes those of its feed of them (the profile's own, in
-/// the manner of ATSC A/110).
+/// An adapter. It turns the packets of a stream, given in order, into those of the feed (the profile's own, in the
+/// manner of ATSC A/110).
 #[derive(Drop)]
 pub struct Adapter {
     filler: Filler,
@@ -30,7 +30,7 @@ pub struct Adapter {
 }
 
 impl Adapter {
-    /// The adapter of a plan. It was given nothing. The only error is out of memory.
+    /// A new adapter of a sound plan. The only error is out of memory.
     pub fn new(alloc: Global, plan: &Plan) -> Result<Adapter, AllocError>
         requires { IsSound plan.now }
         ensures stands { IfOk result (λ adapter. StandsFor plan.now adapter []) }
@@ -47,16 +47,16 @@ impl Adapter {
         })
     }
 
-    /// Whether a further group may be given: no, exactly where a group of fewer than four packets was given.
+    /// Whether a further group may be given: not after a group of fewer than four packets.
     pub fn open(&self) -> bool
         ensures { result ≡ (self.now.given % GROUP_PACKETS == 0) }
     {
         self.given % GROUP_PACKETS as u64 == 0
     }
 
-    /// Turns the next packets of the stream into those of the feed, and answers how many placeholders it filled. They
-    /// are a group of four, or at the end of the stream fewer, and all packets of a stream are at most 624,000,000.
-    /// Takes no memory, and refuses nothing.
+    /// Turns the next packets of the stream into those of the feed, in place, and answers how many placeholders it
+    /// filled. The caller gives a group of four packets, or fewer at the end of the stream, and at most 624,000,000
+    /// packets in all. The call takes no memory and has no errors.
     pub fn group(&mut self, packets: &mut [Packet]) -> u8
         requires some { 0 < length packets.old }
         requires few { length packets.old ≤ GROUP_PACKETS }
@@ -76,7 +76,7 @@ impl Adapter {
         filled
     }
 
-    /// Gives the next packets of the feed to the coder, where they are a whole group.
+    /// Codes the next packets of the feed, if they are a whole group.
     fn code(&mut self, packets: &[Packet])
         requires few { length packets.now ≤ GROUP_PACKETS }
         requires open { self.old.given % GROUP_PACKETS ≡ 0 }
@@ -92,8 +92,8 @@ impl Adapter {
     }
 }
 
-/// Makes the packets of a group of the stream those of the feed, the first of which has that index, and answers how
-/// many placeholders were filled.
+/// Turns the packets of a group of the stream into those of the feed, in place, and answers how many placeholders it
+/// filled. `first` is the index of the group's first packet.
 fn make_group(filler: &mut Filler, first: u64, packets: &mut [Packet]) -> u8
     requires few { length packets.old ≤ GROUP_PACKETS }
     requires most { first + length packets.old ≤ MOST_PACKETS }
@@ -116,7 +116,7 @@ fn make_group(filler: &mut Filler, first: u64, packets: &mut [Packet]) -> u8
     filled
 }
 
-/// Codes the group whose first packet has that index, from the states that the group before it left.
+/// Codes the group whose first packet has the index `first`, from the states after the group before it.
 fn code_group(coder: &mut Coder, first: u64, packets: &[Packet; GROUP_PACKETS], air: &mut Air)
     requires { first % GROUP_PACKETS ≡ 0 }
     ensures { (fed : List (List ℕ)) → length fed ≡ first → groups.StandsFor coder.old fed

@@ -19,24 +19,24 @@ use dtx_trellis::States;
 use std::alloc::{AllocError, Global};
 use std::marker::Model;
 
-/// How many counters there are.
+/// How many values the counter of operations packets has.
 const COUNTERS: u8 = 16;
 
-/// Makes packets of a feed of those of a stream: sets their sync bytes, and fills placeholders (the profile's own, in
-/// the manner of ATSC A/110). It is seen as what the operations packets say, and the counter of the next one.
+/// Turns packets of a stream into those of a feed: sets their sync bytes, and fills placeholders (the profile's own, in
+/// the manner of ATSC A/110). Contracts see it as what the operations packets say, and the counter of the next one.
 #[derive(Drop)]
 pub(crate) struct Filler {
     /// The tick at which the feed starts, below 10,000,000.
     start: u32,
     /// All transmitters of the plan, in their order.
     entries: Vec<Entry>,
-    /// What the operations packets say. The maximum delay stays, the states are set for each group, the page and its
-    /// transmitters where the group before filled a placeholder, all else for each packet.
+    /// What the operations packets say. The maximum delay stays. The states are set for each group. The page and its
+    /// transmitters change after a group that filled a placeholder. All else is set for each packet.
     ops: Ops,
     code: Rs<184, 164>,
     /// How many placeholders were filled, modulo 16.
     counter: u8,
-    /// Whether the group at hand filled one.
+    /// Whether a placeholder of the group at hand was filled.
     filled: bool,
 }
 
@@ -60,7 +60,7 @@ impl Model for Filler {
 }
 
 impl Filler {
-    /// That of a plan. It has filled nothing. The only error is out of memory.
+    /// The filler of a plan, which has filled nothing. The only error is out of memory.
     pub(crate) fn new(alloc: Global, plan: &Plan) -> Result<Filler, AllocError>
         requires { IsSound plan.now }
         ensures fills { IfOk result (λ filler. Fills plan.now filler [] 0) }
@@ -77,8 +77,8 @@ impl Filler {
         })
     }
 
-    /// Begins a group, before which the coders have these states: where the group before it filled a placeholder, the
-    /// next page comes.
+    /// Begins a group, before which the coders have these states. If the group before it filled a placeholder, this one
+    /// has the next page.
     #[tactic(auto, unfolding(crate::specs::Filling::begun))]
     pub(crate) fn begin(&mut self, states: States)
         ensures { self.new ≡ begun self.old states }
@@ -101,7 +101,7 @@ impl Filler {
         }
     }
 
-    /// Makes a packet of the stream the packet of that index of the feed, and answers whether it was a placeholder.
+    /// Turns packet `index` of the stream into that of the feed, and answers whether it was a placeholder.
     #[tactic(auto, unfolding(crate::specs::Feed::is_placeholder, crate::specs::Feed::as_feed_packet))]
     pub(crate) fn make(&mut self, index: u64, packet: &mut Packet) -> bool
         requires { index < MOST_PACKETS }
@@ -122,7 +122,7 @@ impl Filler {
         }
     }
 
-    /// Makes a packet the operations packet of that index of the feed.
+    /// Overwrites a packet with the operations packet that is packet `index` of the feed.
     fn fill(&mut self, index: u64, packet: &mut Packet)
         requires { index < MOST_PACKETS }
         ensures filled { packet.new.0 ≡ spelling (filled_ops self.old index) self.old.counter (sync_at index) }

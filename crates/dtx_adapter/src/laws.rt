@@ -19,7 +19,8 @@ ghost use Rattle.dtx_adapter.specs.Turns.{IsListedIn};
 
 use dtx_sizes::{GROUP_PACKETS, MOST_ENTRIES, MOST_PACKETS, OPERATIONS_PID, PACKET, PAGE_ENTRIES};
 
-/// A feed has the packets of its stream, and those that come later change none before them.
+/// A feed has as many packets as its stream, and later packets change no earlier one. The placeholders of two parts add
+/// up.
 pub fn goes_on()
     ensures long { (plan : Plan) (stream : List (List ℕ)) → length (feed plan stream) ≡ length stream }
     ensures front { (plan : Plan) (stream more : List (List ℕ))
@@ -28,8 +29,8 @@ pub fn goes_on()
         → placeholders (stream ++ more) ≡ placeholders stream + placeholders more }
 {}
 
-/// The feed of a stream's first packets is as many packets of its feed. Packet k of it is made of packet k of the
-/// stream and of those that the feed has before it.
+/// The feed of a stream's first n packets is the first n packets of the stream's feed. Packet k of the feed is made of
+/// the stream's packets up to packet k and of the feed's packets before it.
 pub fn prefix()
     ensures feed { (plan : Plan) (stream : List (List ℕ)) (n : ℕ)
         → feed plan (take n stream) ≡ take n (feed plan stream) }
@@ -37,9 +38,9 @@ pub fn prefix()
         → slice_index_or (feed plan stream) k [] ≡ fed_packet plan stream (take k (feed plan stream)) k }
 {}
 
-/// Each placeholder becomes an operations packet that reads as what is said at its place. Its states are those behind
-/// all whole groups before its own, the operations packets among them filled. No other packet becomes one. The plan is
-/// sound, and its transmitters have the numbers of entries.
+/// Each placeholder becomes an operations packet that reads as the fields of its place, `ops_at`. No other packet
+/// becomes one. Its states are those after all whole groups of the feed before its own. The plan is sound, and each of
+/// its transmitters has the numbers of an entry.
 pub fn operations_packets()
     ensures read { (plan : Plan) (stream : List (List ℕ)) (k : ℕ) → IsSound plan
         → All (λ t. IsEntry (entry_of t)) plan.transmitters → length stream ≤ MOST_PACKETS
@@ -53,10 +54,10 @@ pub fn operations_packets()
         ≡ states (take (GROUP_PACKETS * (k / GROUP_PACKETS)) (feed plan stream)) }
 {}
 
-/// Up to 35 transmitters stand on the only page. More stand on the fewest pages of 34 that hold them, of which an
-/// operations packet carries one. The number of this page is below the number of pages, which is at most 30. The page
-/// has transmitter i exactly where it is page i / 34. The entry of a transmitter of a sound plan is found by its
-/// address exactly in the packets that carry its page, and there has its own offset.
+/// Up to 35 transmitters stand on the only page. More transmitters stand on the fewest pages of 34 that hold them, and
+/// an operations packet carries one page. The number of that page is below the number of pages, which is at most 30.
+/// The page lists transmitter i exactly if it is page i / 34. The entry of a transmitter of a sound plan is found by
+/// its address exactly in the packets that carry its page, and there has its own offset.
 pub fn pages()
     ensures one { (plan : Plan) (stream before : List (List ℕ)) (k : ℕ) → length plan.transmitters ≤ MOST_ENTRIES
         → (ops_at plan stream before k).paging ≡ One }
@@ -77,8 +78,8 @@ pub fn pages()
         ≡ (if is_listed (ops_at plan stream before k).paging i then Some (entry_of t) else None) }
 {}
 
-/// A group counts where it holds a placeholder of the stream, which is where it holds an operations packet of the feed.
-/// Packets that come later change nothing.
+/// `filled_groups` counts the groups of a stream that hold a placeholder. They are the groups of its feed that hold an
+/// operations packet. Later packets change no count.
 pub fn counted()
     ensures next { (stream : List (List ℕ)) (u : ℕ)
         → filled_groups stream (u + 1) ≡ filled_groups stream u + (if is_filled stream u then 1 else 0) }
@@ -90,8 +91,8 @@ pub fn counted()
         → filled_groups (stream ++ more) u ≡ filled_groups stream u }
 {}
 
-/// Pages take turns: among as many groups in a row that hold operations packets as there are pages, one lists the
-/// transmitter.
+/// Pages take turns. Where there are n pages, any n successive groups that hold operations packets include one that
+/// lists the transmitter.
 pub fn in_turn()
     ensures { (plan : Plan) (stream : List (List ℕ)) (from to i : ℕ) → from ≤ to
         → filled_groups stream from + pages_of (paging_of plan.transmitters 0) ≤ filled_groups stream to

@@ -1,5 +1,5 @@
-//! The adapter: from a stream and a plan to the feed, whose operations packets tell exciters when and from which states
-//! to send.
+//! The adapter. It makes the feed of a stream and a plan. The feed's operations packets say when exciters send, and
+//! from which states of their coders.
 #![tactic(auto)]
 
 mod adapter;

@@ -6,7 +6,7 @@ use arrayvec::ArrayVec;
 use dtx_ops::{Entry, Paging};
 use dtx_sizes::{MOST_ENTRIES, MOST_TRANSMITTERS, PAGE_ENTRIES};
 
-/// The page that comes first, where these are all transmitters.
+/// The first page, where `entries` are all transmitters.
 #[tactic(auto, unfolding(crate::specs::Feed::paging_of, crate::specs::Feed::pages_for))]
 pub(crate) fn first_page(entries: &[Entry]) -> Paging
     requires { length entries.now ≤ MOST_TRANSMITTERS }
@@ -22,7 +22,7 @@ pub(crate) fn first_page(entries: &[Entry]) -> Paging
     }
 }
 
-/// The transmitters on a page of all these, which are few enough to be told.
+/// The transmitters on a page, where `entries` are all transmitters. One operations packet has room for them.
 pub(crate) fn entries_on(entries: &[Entry], paging: Paging) -> ArrayVec<Entry, MOST_ENTRIES>
     requires { length (listed entries.now paging) ≤ MOST_ENTRIES }
     ensures { result.items ≡ listed entries.now paging }
@@ -33,7 +33,7 @@ pub(crate) fn entries_on(entries: &[Entry], paging: Paging) -> ArrayVec<Entry, M
     }
 }
 
-/// The transmitters on the page of that number.
+/// The transmitters on page number `page`, where `entries` are all transmitters.
 pub(crate) fn part(entries: &[Entry], page: u8) -> ArrayVec<Entry, MOST_ENTRIES>
     ensures { result.items ≡ slice_range entries.now (PAGE_ENTRIES * page) (PAGE_ENTRIES * page + PAGE_ENTRIES) }
 {
@@ -42,7 +42,7 @@ pub(crate) fn part(entries: &[Entry], page: u8) -> ArrayVec<Entry, MOST_ENTRIES>
     few(&entries[from..to])
 }
 
-/// Few transmitters, kept by value.
+/// A copy of these transmitters, which are at most `MOST_ENTRIES`.
 fn few(entries: &[Entry]) -> ArrayVec<Entry, MOST_ENTRIES>
     requires { length entries.now ≤ MOST_ENTRIES }
     ensures { result.items ≡ entries.now }

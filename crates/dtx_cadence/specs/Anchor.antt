@@ -1,5 +1,5 @@
--- The anchor of the packets that were given, as their sync bytes tell it (the profile's own). A packet is a mark where
--- its sync byte is 0xB8; all other sync bytes are alike.
+-- The anchor of the packets that were given, by their sync bytes (the profile's own). A packet is a mark where its sync
+-- byte is 0xB8; all other sync bytes are alike.
 use Rattle.std.specs.Prelude.{ℕ, ◌≡◌, ◌<◌, ◌-◌, ◌%◌, ◌==◌, ◌&&◌, Bool, not, Option, Some, None, option_map}
 use Rattle.std.specs.Prelude.{if◌then◌else◌, List, [], ◌∷◌, ◌++◌, length, slice_index}
 use Rattle.std.proofs.Common.{zero, suc}
@@ -11,8 +11,8 @@ use Rattle.dtx_cadence.specs.declared.anchor.Seen.TheVariants.{Free, Start, Lost
 abbrev pub has_mark : List ℕ → ℕ → Bool
 has_mark syncs i = slice_index syncs i == 0xB8
 
--- whether packet i takes an anchor at packet j away: a mark is due there, and neither it nor the one that was due
--- before it came
+-- whether packet i ends an anchor at packet j: a mark is due there, and both this mark and the one due before it are
+-- missing
 abbrev pub ends_lock : List ℕ → ℕ → ℕ → Bool
 ends_lock syncs i j = ((i - j) % 624 == 0) && not (has_mark syncs i) && not (has_mark syncs (i - 624))
 
@@ -31,8 +31,7 @@ anchor_to syncs (suc i) = anchor_at syncs i (anchor_to syncs i)
 unfoldable pub anchor : List ℕ → Option ℕ
 anchor syncs = anchor_to syncs (length syncs)
 
--- where one more sync byte is given behind n of them: what the anchor before it and the anchor with it say of its
--- packet
+-- the answer to one more sync byte behind n of them, from the anchor before it and the anchor with it
 abbrev pub seen_by : ℕ → Option ℕ → Option ℕ → Seen
 seen_by n None None = Free
 seen_by n None (Some j) = Start
@@ -54,7 +53,7 @@ lock syncs =
     (λ j. record { place = (length syncs - j) % 624; missed = is_missed syncs (length syncs) j })
     (anchor syncs)
 
--- what an anchor keeps is what these sync bytes leave
+-- the state that is kept is the one behind these sync bytes
 abbrev pub StandsFor : Option Lock → List ℕ → Type 0
 StandsFor kept syncs = kept ≡ lock syncs
 

@@ -1,4 +1,4 @@
-// Where the cadence of the packets that were given is anchored.
+// The anchor of the packets that were given.
 ghost use Rattle.std.specs.Prelude.{◌≡◌, ◌<◌, ℕ, [], ◌∷◌, ◌++◌, List};
 ghost use Rattle.dtx_cadence.specs.Anchor.{StandsFor, IsSeen, seen};
 ghost use Rattle.dtx_cadence.specs.Step.{is_lost, moved_on, kept_after, answer};
@@ -6,7 +6,7 @@ ghost use Rattle.dtx_cadence.specs.Step.{is_lost, moved_on, kept_after, answer};
 use dtx_sizes::{FRAME_PACKETS, MARK};
 use std::marker::Model;
 
-/// What an anchor says of one more packet.
+/// What becomes of the anchor with one more packet, and the place of that packet.
 #[derive(Clone, Copy, PartialEq, Eq)]
 pub enum Seen {
     /// There was no anchor, and there is none.
@@ -15,11 +15,11 @@ pub enum Seen {
     Start,
     /// There was one, and there is none: two marks that were due in a row are missing, the second with this packet.
     Lost,
-    /// The anchor stays, and this packet stands at this place of it, from 0 to 623.
+    /// The anchor stays, and this packet stands at this place behind it, modulo 624.
     At(u16),
 }
 
-/// What an anchor says of the packets to come.
+/// Where the next packet stands under an anchor, and whether the anchor ends with the next missing mark.
 #[derive(Clone, Copy)]
 struct Lock {
     /// The place of the next packet, from 0 to 623; a mark is due at 0.
@@ -28,8 +28,8 @@ struct Lock {
     missed: bool,
 }
 
-/// The anchor of the packets of which it was told (the profile's own). It is a first mark, which stays the anchor until
-/// two marks that are due in a row are missing, whatever marks stand elsewhere.
+/// The anchor of the packets whose sync bytes were given (the profile's own). The anchor is a first mark. It stays
+/// until two marks that are due in a row are missing, whatever marks stand elsewhere.
 #[derive(Drop)]
 pub struct Anchor {
     lock: Option<Lock>,
@@ -47,14 +47,14 @@ impl Model for Anchor {
 }
 
 impl Anchor {
-    /// Told of no packet.
+    /// A new value, without an anchor, which was given no sync byte.
     pub fn new() -> Anchor
         ensures { StandsFor result [] }
     {
         Anchor { lock: None }
     }
 
-    /// Is told the sync byte of the next packet.
+    /// Takes the sync byte of the next packet, and answers what becomes of the anchor.
     pub fn see(&mut self, sync: u8) -> Seen
         ensures place { IsSeen result }
         ensures seen { (syncs : List ℕ) → StandsFor self.old syncs → result ≡ seen syncs sync }
@@ -90,14 +90,14 @@ impl Anchor {
     }
 }
 
-/// Whether a packet takes the anchor away.
+/// Whether a packet ends the anchor.
 fn is_lost(lock: Lock, is_mark: bool) -> bool
     ensures { result ≡ is_lost lock is_mark }
 {
     lock.place == 0 && !is_mark && lock.missed
 }
 
-/// What is kept behind a packet with which the anchor stays.
+/// The state after a packet with which the anchor stays.
 fn moved_on(lock: Lock, is_mark: bool) -> Lock
     requires { lock.place < 624 }
     ensures { result ≡ moved_on lock is_mark }

@@ -6,15 +6,15 @@ ghost use Rattle.dtx_cadence.specs.Anchor.{has_mark, anchor};
 ghost use Rattle.dtx_cadence.specs.Cadence.{IsMarked, AreAlike, AreAlikeWhereDue, HaveSameAnchors, HasMarksRound};
 ghost use Rattle.dtx_cadence.specs.Cadence.{IsInStep, IsAnchored};
 
-/// One missing mark moves nothing: under an anchor, a packet between two marks that came may have any sync byte. Such a
-/// packet is one where a mark is due, 624 behind the one mark and 624 before the other.
+/// One missing mark moves nothing. Under an anchor, a packet may have any sync byte if marks stand 624 packets before
+/// it and 624 behind it. The mark behind it is needed only if the packets go that far.
 pub fn one_missing_mark()
     ensures { (syncs : List ℕ) (i j sync : ℕ) → anchor (take i syncs) ≡ Some j → i < length syncs
         → HasMarksRound syncs i → HaveSameAnchors syncs (slice_set syncs i sync) }
 {}
 
-/// Any number of stray marks move nothing under an anchor: sync bytes that are alike up to the anchor and where marks
-/// are due have one anchor.
+/// Any number of stray marks move nothing under an anchor. Two lists of sync bytes have the same anchors if they have
+/// the same marks up to the anchor and where marks are due.
 pub fn stray_marks()
     ensures { (xs ys : List ℕ) (j : ℕ) → length xs ≡ length ys → anchor xs ≡ Some j → AreAlike xs ys (j + 1)
         → AreAlikeWhereDue xs ys j → HaveSameAnchors xs ys }
@@ -26,8 +26,8 @@ pub fn two_missing_marks()
         → (sync == 0xB8) ≡ false → has_mark syncs (length syncs - 624) ≡ false → anchor (syncs ++ sync ∷ []) ≡ None }
 {}
 
-/// An anchor out of step with a feed is lost before the feed's third mark, whatever came before the first one: there is
-/// none then, or one in step. Where there is none or one in step, one anchor holds from the feed's next mark on.
+/// An anchor out of step with a feed is lost before the feed's third mark, whatever came before the feed. Then there is
+/// no anchor, or one in step. In both cases one anchor holds from the feed's next mark on.
 pub fn from_the_third_mark()
     ensures third { (before feed : List ℕ) → IsMarked feed → 1248 ≤ length feed
         → IsInStep (before ++ take 1248 feed) }

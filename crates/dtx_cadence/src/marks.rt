@@ -5,7 +5,7 @@ ghost use Rattle.dtx_cadence.specs.Mark.{marked};
 use dtx_packets::Packet;
 use dtx_sizes::{FRAME_PACKETS, MARK, PACKET, SYNC};
 
-/// Sets the sync byte of the packet of that index in the feed: a mark at each multiple of 624.
+/// Sets the sync byte of packet `index` of the feed: a mark at each multiple of 624.
 pub fn mark(index: u64, packet: &mut Packet)
     ensures { packet.new.0 ≡ marked index packet.old.0 }
 {

@@ -1,4 +1,4 @@
--- Packets of which a watcher tells nothing wrong (the profile's own).
+-- Packets on which a watcher notes nothing wrong (the profile's own).
 use Rattle.std.specs.Prelude.{◌≡◌, ◌≢◌, ℕ, ◌<◌, ◌≤◌, ⊤, Some, List, codes, length}
 use Rattle.std.specs.List.{AllByRecursion}
 use Rattle.dtx_exciter.specs.Packets.{anchor_of}
@@ -10,7 +10,7 @@ use Rattle.dtx_watch.specs.declared.notes.ClockNote.TheVariants as clock_is
 use Rattle.dtx_watch.specs.Watch.{notes_at}
 use Rattle.dtx_watch.specs.WatchLines.{lines_with}
 
--- what is told of a packet where nothing is wrong: that it is an anchor, or an operations packet at its place whose
+-- what a note may say if nothing is wrong: that the packet is an anchor, or an operations packet at its place whose
 -- states don't slip and whose stamp doesn't jump
 abbrev pub IsCalmWhat : What → Type 0
 IsCalmWhat Lock = ⊤

@@ -19,8 +19,8 @@ own_by packets i (order ∷ next ∷ older) = own_by packets i (next ∷ older)
 unfoldable pub own_data : List (List ℕ) → ℕ → List (List ℤ)
 own_data packets i = own_by packets i (orders (readings packets) i)
 
--- The segments of that group. Where it begins a field and the group before it is sent, the field sync stands before
--- them, which ends with the last twelve symbols of that group.
+-- The segments of that group. If it begins a field and the group before it is sent, a field sync stands before them.
+-- The field sync ends with the last twelve symbols of the group before.
 unfoldable pub own_segments : Bool → List (List ℕ) → ℕ → List (List ℤ)
 own_segments goes_on packets i =
     behind_field_sync i (if goes_on then own_data packets (i - 4) else []) (own_data packets i)
@@ -29,7 +29,7 @@ own_segments goes_on packets i =
 abbrev pub data_of : List (List ℤ) → List (List ℤ)
 data_of segments = drop (length segments - 4) segments
 
--- no group before this one is an order
+-- the order counts, and no group before its own has a counting order
 pub record IsFirstOrder (packets : List (List ℕ)) (order : Order) : Type 0 where
   pub counts : counting_order (readings packets) order.place ≡ Some order.ops
   pub first : (g : ℕ) → g < order.place → counting_order (readings packets) g ≡ None
@@ -40,7 +40,7 @@ pub record IsMarkOf (packets : List (List ℕ)) (m : ℕ) : Type 0 where
   pub is_mark : sync_of (slice_index_or packets m []) ≡ 0xB8
 
 -- An exciter that was given this life is locked to the feed from the place of a mark on, and was given the feed from
--- there up to packet n. Before that either it was locked to nothing, or it was locked to a mark in step with it. In the
+-- there up to packet n. Before that it either had no anchor, or was locked to a mark in step with that place. In the
 -- second case an order of the feed stands 52 or more packets behind that place, and before the last group that it was
 -- given.
 pub record IsLockedTo (feed life : List (List ℕ)) (n : ℕ) : Type 0 where

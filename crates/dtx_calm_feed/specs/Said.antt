@@ -28,7 +28,7 @@ Counts packets i = (52 ≤ i) × (i + 4 ≤ length packets)
 abbrev pub IsLatestOrder : List (List ℕ) → ℕ → Order → Type 0
 IsLatestOrder packets i order = (older : List Order) × (orders (readings packets) (i - 4) ≡ order ∷ older)
 
--- What the word for the states says of an operations packet of the group from i on that tells these. It says whether
+-- What the word for the states says of an operations packet with these states, in the group from i on. It says whether
 -- they are those that the coders have before that group. The coders began with the states of the latest earlier order
 -- before its group.
 abbrev pub AreSaid : List (List ℕ) → ℕ → List ℕ → StatesNote → Type 0
@@ -39,7 +39,7 @@ AreSaid packets i states states_are.Right = Counts packets i × ((order : Order)
 AreSaid packets i states states_are.Slip = Counts packets i × ((order : Order) × IsLatestOrder packets i order
     × (states ≢ states_since (order.place / 4) order.ops.states (take i packets)))
 
--- so many ticks of a second are the length of so many frames by one division, rounded down or up
+-- `ticks` is the length of `frames` frames modulo one second, rounded once to ticks, down or up
 abbrev pub AreFrames : ℕ → ℕ → Type 0
 AreFrames frames ticks = (ticks ≡ frames * 744789760 / 1539 % 10000000)
     ⊎ (ticks ≡ (frames * 744789760 + 1538) / 1539 % 10000000)
@@ -64,8 +64,8 @@ IsClockSaid packets m ops clock_is.Jump =
 
 -- ---- all packets
 
--- Packet k is an operations packet at its place, and this is told of it: its fields, what its states are and what its
--- clock is. A word is told of them exactly where what it says is so.
+-- Packet k is an operations packet at its place, and the note on it has its fields, a word for its states and one for
+-- its clock. A word stands there exactly if what it says is true.
 pub record IsOpsSaid (packets : List (List ℕ)) (k : ℕ) (o : OpsNote) : Type 0 where
   pub anchor : ℕ
   pub anchor_is : anchor_of (take (k + 1) packets) ≡ Some anchor
@@ -81,7 +81,7 @@ pub record IsOpsSaid (packets : List (List ℕ)) (k : ℕ) (o : OpsNote) : Type 
       ↔ AreSaid (drop anchor packets) (4 * ((k - anchor) / 4)) ops.states word
   pub clock : (word : ClockNote) → (o.clock ≡ word) ↔ IsClockSaid (drop anchor packets) (k - anchor) ops word
 
--- what is told of packet k is so
+-- what the note says of packet k is true
 abbrev pub IsWhatSaid : List (List ℕ) → ℕ → What → Type 0
 IsWhatSaid packets k Lock =
     (anchor : ℕ) × (anchor_of (take k packets) ≡ None) × (anchor_of (take (k + 1) packets) ≡ Some anchor)

@@ -1,4 +1,4 @@
-//! Laws of the definitions.
+//! Laws of the definitions: what a watcher's notes and a calm text mean for a feed.
 
 ghost use Rattle.std.specs.Prelude.{◌≡◌, ◌⊎◌, ℕ, ℤ, ◌+ℤ◌, ◌+◌, ◌-◌, ◌/◌, ◌%◌, ◌<◌, ◌≤◌, Bool, Some, List, [], drop};
 ghost use Rattle.std.specs.Prelude.{length, slice_range, take};
@@ -21,26 +21,26 @@ ghost use Rattle.dtx_calm_feed.specs.Moments.{IsBelowTick, air_between};
 ghost use Rattle.dtx_calm_feed.specs.Own.{IsFirstOrder, IsLockedTo, IsMarkOf, data_of, own_data, own_segments};
 ghost use Rattle.dtx_calm_feed.specs.Said.{AreSaid, Follows, IsLatestOrder, IsSaid, latest_before};
 
-/// What is told of any packets is so. A line `ops` stands for an operations packet at its place. It says `right` of the
-/// states exactly where its group counts and they are those that the twelve coders have before its group. These coders
-/// began with the states of the latest earlier order under this anchor. It says `slip` exactly where its group counts,
-/// there is such an order and they are others. It says `right` of the clock exactly where two things hold. The stamp is
-/// later than that of the latest operations packet before it by the length of the frames that the two tell, by one
-/// division, rounded down or up. And the maximum delay is the same.
+/// Each note on any packets is true. A line `ops` is about an operations packet at its place. It says `right` of the
+/// states exactly if the packet's group counts and they are those that the twelve coders have before the group. These
+/// coders began with the states of the latest earlier order under this anchor. It says `slip` exactly if the group
+/// counts, there is an earlier order, and the states are others. It says `right` of the clock exactly if two things
+/// hold. The stamp is later than that of the latest operations packet before it by the length of all frames between the
+/// two, rounded once, down or up. The maximum delay is the same.
 pub fn each_line_is_so()
     ensures { (packets : List (List ℕ)) → AllByRecursion (IsSaid packets) (watch packets) }
 {}
 
 /// Take a coder that was given the groups from the anchor on, whatever it held before the anchor. It was preset with
-/// the states of the latest earlier order before that order's group, and then no more. States that are said to be right
-/// are those that it holds before the group at hand.
+/// the states of the latest earlier order before that order's group, and then no more. If a note says that states are
+/// right, the coder holds them before the group at hand.
 pub fn right_states_are_held()
     ensures { (packets : List (List ℕ)) (i : ℕ) (order : Order) (told : List ℕ) (coder : Coding)
         → AreSaid packets i told states_are.Right → IsLatestOrder packets i order
         → RunsAlong (take i packets) (order.place / 4) order.ops.states coder → coder.states ≡ told }
 {}
 
-/// Where a text is calm, its packets are so from their anchor on, and the packets from there on are a calm feed.
+/// If a text is calm, its packets are calm from their anchor on. The packets from there on are a calm feed.
 pub fn calm_texts()
     ensures from { (packets : List (List ℕ)) (anchor : ℕ) → IsCalmText (watch_text (watch packets))
         → anchor_of packets ≡ Some anchor → IsCalmFrom packets anchor }
@@ -48,7 +48,7 @@ pub fn calm_texts()
         → IsCalmFeed (drop anchor packets) }
 {}
 
-/// A sound feed, from any of its marks on, is a calm one: so what is said of calm feeds holds of it.
+/// A sound feed, from any of its marks on, is a calm feed. So the laws of calm feeds hold of it.
 pub fn sound_feeds_are_calm_feeds()
     ensures { (start most mark : ℕ) (feed : List (List ℕ)) → IsSoundFeed start most feed → mark % 624 ≡ 0
         → mark < length feed → IsCalmFeed (drop mark feed) }
@@ -61,10 +61,10 @@ pub fn locked_at_any_mark()
         → IsLockedTo feed (slice_range feed m n) n }
 {}
 
-/// An exciter is locked to a calm feed, whatever its address and its delay and whatever it was given before. It gives
-/// of each group nothing, or the feed's own segments of the group. Their coders begin with the states of the feed's
-/// first order, and nothing presets them later. So the later orders, at which the exciter does preset its coders,
-/// change nothing of what it sends.
+/// An exciter is locked to a calm feed, whatever its address and its delay and whatever it was given before. For each
+/// group it gives nothing, or the feed's own segments of the group. The coders of these segments begin with the states
+/// of the feed's first order, and nothing presets them later. So later orders, at which the exciter presets its own
+/// coders, change nothing that it sends.
 pub fn each_sends_its_own()
     ensures segments { (address delay : ℕ) (feed life : List (List ℕ)) (n : ℕ) → IsCalmFeed feed
         → IsLockedTo feed life n → (last_segments address delay life ≡ [])
@@ -73,9 +73,9 @@ pub fn each_sends_its_own()
         → first.place ≤ i → own_data feed i ≡ segments_since (first.place / 4) first.ops.states feed (i / 4) }
 {}
 
-/// Two exciters are locked to a calm feed, of any addresses and delays and at any two marks. They give the same
-/// segments of each group of which they give as many. One of them may also give a field sync in front, since it sent
-/// the group before: then the data segments of both are the same.
+/// Two exciters of any addresses and delays are locked to a calm feed, at any two marks. If both give the same number
+/// of segments of a group, they give the same segments. If both give segments of a group, and only one gives a field
+/// sync in front, the data segments are the same. That one sent the group before.
 pub fn all_send_the_same()
     ensures segments { (a b delay_a delay_b : ℕ) (feed life_a life_b : List (List ℕ)) (n : ℕ) → IsCalmFeed feed
         → IsLockedTo feed life_a n → IsLockedTo feed life_b n
@@ -87,9 +87,9 @@ pub fn all_send_the_same()
         → data_of (last_segments a delay_a life_a) ≡ data_of (last_segments b delay_b life_b) }
 {}
 
-/// Let a calm feed be what stands behind some whole frames of a stream, and let its first order tell the states that
-/// the stream's coders have there. Then each order of a whole group tells them. The feed's own data segments are those
-/// of the stream (ATSC A/53 Part 2).
+/// Let a calm feed stand behind some whole frames of a stream, and let its first order have the states that the
+/// stream's coders have there. Then each order of a whole group has the states that the stream's coders have before
+/// that group. The feed's own data segments are those of the stream (ATSC A/53 Part 2).
 pub fn calm_feeds_are_as_coded()
     ensures states { (packets : List (List ℕ)) (m g : ℕ) (first : Order) (ops : Ops) → IsCalmFeed (drop m packets)
         → m % 624 ≡ 0 → IsFirstOrder (drop m packets) first
@@ -104,10 +104,9 @@ pub fn calm_feeds_are_as_coded()
 {}
 
 /// The stamps of a calm feed follow each other. The stamp of an operations packet is later than that of the one before
-/// it by the length of the frames between the two. That length is by one division, rounded down or up. The maximum
-/// delay is the same. The frames are those that the packets tell. So the moments that an exciter makes of the two at
-/// one offset differ by what is on the air between segments of these frames, up to less than a tick and some whole
-/// seconds.
+/// it by the length of the frames between the two. That length is rounded once, down or up. The maximum delay is the
+/// same. The frame numbers are those in the packets. So the moments that an exciter sets for segments of the two frames
+/// at one offset differ by the time on the air between these segments, up to less than a tick and some whole seconds.
 pub fn stamps_and_moments_follow()
     ensures stamps { (feed : List (List ℕ)) (k : ℕ) (before ops : Ops) → IsCalmFeed feed
         → ordered_at (readings feed) k ≡ Some ops → latest_before feed k ≡ Some before → Follows before ops }

@@ -1,4 +1,4 @@
-//! What the calm text of a watcher says of a feed.
+//! What follows for a feed if a watcher's text of it is calm.
 #![tactic(auto)]
 
 pub mod laws;

@@ -11,15 +11,14 @@ use Rattle.dtx_clock.specs.declared.answers.Moment.{Moment}
 abbrev pub stamp_of : ℕ → ℕ → ℕ
 stamp_of start frame = (start * 1539 + frame * 744789760) / 1539 % 10000000
 
--- Whether a clock that runs gets from one stamp to another in so many frames. It does where what lies between the two,
--- modulo one second, is the length of the frames by one division, rounded down or up.
+-- Whether a running clock gets from one stamp to another in `frames` frames. It does if the ticks between the two,
+-- modulo one second, are the length of all frames together, rounded down or up to whole ticks.
 abbrev pub runs : ℕ → ℕ → ℕ → Bool
 runs from to frames =
     ((to + 10000000 - from % 10000000) % 10000000 == frames * 744789760 / 1539 % 10000000)
     || ((to + 10000000 - from % 10000000) % 10000000 == (frames * 744789760 + 1538) / 1539 % 10000000)
 
--- what is left of the sum of maximum delay and offset behind the delay, or late where the delay is greater than that
--- sum
+-- the hold: the sum of maximum delay and offset less the delay, or late if the delay is greater than that sum
 abbrev pub IsHold : ℕ → ℤ → ℕ → Result ℕ Late → Type 0
 IsHold max offset delay (Ok left) = pos left ≡ (pos max +ℤ offset -ℤ pos delay)
 IsHold max offset delay (Err late) = (pos max +ℤ offset) <ℤ pos delay
@@ -29,7 +28,8 @@ IsHold max offset delay (Err late) = (pos max +ℤ offset) <ℤ pos delay
 abbrev pub segment_of : ℕ → ℕ
 segment_of j = if nat_lt j 312 then j + 1 else j + 2
 
--- the grains from the clock's zero to the data segment of packet j: the frame begins at stamp, maximum delay and offset
+-- the grains from the clock's zero to the data segment of packet j: the frame begins at the sum of stamp, maximum delay
+-- and offset
 abbrev pub count_of : ℕ → ℕ → ℤ → ℕ → ℤ
 count_of stamp max offset j = (pos stamp +ℤ pos max +ℤ offset) *ℤ pos 1539 +ℤ pos (segment_of j * 1189760)
 

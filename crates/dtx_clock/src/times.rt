@@ -30,8 +30,8 @@ pub fn stamp(start: u32, frame: u32) -> u32
     (grains / TICK % SECOND_TICKS as u64) as u32
 }
 
-/// Whether a clock that runs gets from the stamp `from` to the stamp `to` in so many frames. It does where what lies
-/// between the two, modulo one second, is the length of the frames by one division, rounded down or up.
+/// Whether a running clock gets from the stamp `from` to the stamp `to` in `frames` frames. It does if the ticks
+/// between the two, modulo one second, are the length of all frames together, rounded down or up to whole ticks.
 pub fn runs(from: u32, to: u32, frames: u32) -> bool
     ensures { result ≡ runs from to frames }
 {
@@ -41,8 +41,8 @@ pub fn runs(from: u32, to: u32, frames: u32) -> bool
     ticks == grains / TICK % second || ticks == (grains + (TICK - 1)) / TICK % second
 }
 
-/// For how many ticks a transmitter of that offset, to which the feed takes `delay` ticks, holds what it sends:
-/// `max + offset - delay`. It is `Late` where the delay is greater than `max + offset`.
+/// For how many ticks a transmitter holds what it sends: `max + offset - delay`. The feed takes `delay` ticks to reach
+/// it. The error is `Late` if the delay is greater than `max + offset`.
 pub fn hold(max: u32, offset: i16, delay: u32) -> Result<u32, Late>
     requires { max < SECOND_TICKS }
     ensures { IsHold max offset delay result }
@@ -51,8 +51,8 @@ pub fn hold(max: u32, offset: i16, delay: u32) -> Result<u32, Late>
     if left < 0 { Err(Late) } else { Ok(left as u32) }
 }
 
-/// The moment at which the data segment of the packet at that place of its frame begins. It is the frame's stamp, the
-/// maximum delay and the offset, and then the segments of the frame before it.
+/// The moment at which the data segment of the packet at place `packet` of its frame begins. It is the sum of the
+/// frame's stamp, the maximum delay, the offset, and the length of the frame's segments before that one.
 pub fn moment(stamp: u32, max: u32, offset: i16, packet: u16) -> Moment
     requires stamp { stamp < SECOND_TICKS }
     requires max { max < SECOND_TICKS }
@@ -77,7 +77,7 @@ fn grains(stamp: u32, max: u32, offset: i16, packet: u16) -> u64
     count(stamp, max, offset, packet).rem_euclid(SECOND) as u64
 }
 
-/// The grains from the clock's zero to a moment. They may be negative, by the offset.
+/// The grains from the clock's zero to a moment. A negative offset can make them negative.
 fn count(stamp: u32, max: u32, offset: i16, packet: u16) -> i64
     requires stamp { stamp < SECOND_TICKS }
     requires max { max < SECOND_TICKS }
@@ -88,7 +88,7 @@ fn count(stamp: u32, max: u32, offset: i16, packet: u16) -> i64
     ticks * TICK as i64 + segment(packet) as i64 * SEGMENT
 }
 
-/// The segments of its frame before the data segment of a packet.
+/// How many segments of its frame stand before the data segment of a packet.
 fn segment(packet: u16) -> u16
     requires { packet < FRAME_PACKETS }
     ensures segment { result ≡ segment_of packet }

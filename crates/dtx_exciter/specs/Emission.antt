@@ -11,32 +11,32 @@ use Rattle.dtx_exciter.specs.Order.{Order, orders}
 use Rattle.dtx_exciter.specs.Told.{served, told_at, is_sent}
 use Rattle.dtx_exciter.specs.Packets.{readings, under}
 
--- the four data segments of group u of these packets, where the coders begin with the states q before group g
+-- the four data segments of group u of these packets, if the coders have the states q before group g
 unfoldable pub segments_since : ℕ → List ℕ → List (List ℕ) → ℕ → List (List ℤ)
 segments_since g q packets u = four_segments (levels_since g q packets) (4 * (u - g))
 
--- The data segments of the group from i on under these orders, where the transmitter is served. The coders begin with
--- the states of the order in force, before its group.
+-- The data segments of the group from packet i on under these orders, or none if the transmitter isn't served. The
+-- coders have the states of the order in force before that order's group.
 abbrev pub sent_by : ℕ → ℕ → List (List ℕ) → ℕ → List Order → List (List ℤ)
 sent_by address delay packets i [] = []
 sent_by address delay packets i (order ∷ older) =
     if is_ok (served address delay (order ∷ older)) then segments_since (order.place / 4) order.ops.states packets
     (i / 4) else []
 
--- those that are sent of the group from i on
+-- the data segments that are sent of the group from packet i on
 unfoldable pub sent_at : ℕ → ℕ → List (List ℕ) → ℕ → List (List ℤ)
 sent_at address delay packets i = sent_by address delay packets i (orders (readings packets) i)
 
--- those of the group before it
+-- the data segments that are sent of the group before it
 abbrev pub sent_before : ℕ → ℕ → List (List ℕ) → ℕ → List (List ℤ)
 sent_before address delay packets i = if nat_le 4 i then sent_at address delay packets (i - 4) else []
 
--- whether the group before that from i on was sent, as its answer tells
+-- whether the group before packet i was sent, by the answer to it
 abbrev pub was_sent : ℕ → ℕ → List (Option Ops) → ℕ → Bool
 was_sent address delay readings i = nat_le 4 i && is_sent (told_at address delay (i - 4) (orders readings (i - 4)))
 
--- A sent group. Where it begins a field and the group before it was sent, a field sync stands before it, which ends
--- with the last twelve symbols that were sent.
+-- The segments of a sent group. If it begins a field and the group before it was sent, a field sync stands before it.
+-- The field sync ends with the last twelve symbols that were sent.
 abbrev pub behind_field_sync : ℕ → List (List ℤ) → List (List ℤ) → List (List ℤ)
 behind_field_sync i before [] = []
 behind_field_sync i [] (s ∷ ss) = s ∷ ss
@@ -61,7 +61,7 @@ unfoldable pub emission : ℕ → ℕ → List (List ℕ) → List (List ℤ)
 emission address delay packets =
     flat_map (λ n. last_segments address delay (take (n + 1) packets)) (range_with_len 0 (length packets))
 
--- so many segments, whose symbols are the first of these
+-- `count` is the number of the segments, and `symbols` begins with their symbols
 pub record Holds (segments : List (List ℤ)) (count : ℕ) (symbols : List ℤ) : Type 0 where
   pub counted : count ≡ length segments
   pub begins : take (832 * count) symbols ≡ symbols_of segments

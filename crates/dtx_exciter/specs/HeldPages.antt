@@ -15,22 +15,23 @@ abbrev pub held_of : ℕ → Order → Option Held
 held_of address order =
     option_map (λ e. record { page = page order; entry = e }) (entry_of address order.ops)
 
--- of orders of one number of pages: which pages they tell, and the entry of the address that is in force
+-- what is kept of orders with one number of pages: which pages they tell, and the address's entry in force
 pub record HoldsCycle (address : ℕ) (cycle : List Order) (p : Pages) : Type 0 where
   pub told : p.told ≡ map (is_told cycle) (range_with_len 0 30)
   pub held : p.held ≡ option_and_then (held_of address) (listing address cycle)
 
--- what stays of it at an order of n pages: nothing, where there were not as many
+-- what stays at an order of n pages: nothing if there was another number of pages before
 abbrev pub begun : ℕ → Pages → Pages
 begun n p = if p.count == n then p else record { count = n; told = replicate 30 false; held = None }
 
--- the entry in force behind an order of page k, by the order's own entry: an older one stays where its page is another
+-- the entry in force after an order of page k, which may have an entry of its own: an older one stays if its page is
+-- another
 abbrev pub held_after : ℕ → Option Entry → Option Held → Option Held
 held_after k (Some e) before = Some (record { page = k; entry = e })
 held_after k None None = None
 held_after k None (Some h) = if k == h.page then None else Some h
 
--- what is kept with one order more
+-- what is kept after one more order
 abbrev pub with_order : ℕ → Ops → Pages → Pages
 with_order address ops p = record {
   count = pages_of ops.paging;
@@ -43,13 +44,13 @@ abbrev pub pages_in : List Order → ℕ
 pages_in [] = 0
 pages_in (order ∷ older) = pages order
 
--- of all orders, the latest first
+-- what is kept of all orders, the latest first
 pub record HoldsPages (address : ℕ) (orders : List Order) (p : Pages) : Type 0 where
   pub count : p.count ≡ pages_in orders
   pub few : pages_in orders ≤ 30
   pub cycle : HoldsCycle address (of_one_cycle orders) p
 
--- what is kept with the order of one group more, if it has one
+-- what is kept after one more group, which may have an order
 abbrev pub HoldsMore : ℕ → Option Ops → Pages → Pages → Type 0
 HoldsMore address own before now =
     (orders : List Order) (i : ℕ) → HoldsPages address orders before

@@ -13,7 +13,7 @@ use Rattle.dtx_exciter.specs.Emission.{Holds, last_segments, given_under}
 use Rattle.dtx_exciter.specs.HeldPages.{HoldsPages}
 use Rattle.dtx_exciter.specs.Step.{bytes_of}
 
--- how many packets whole groups have
+-- how many of the packets stand in whole groups
 abbrev pub whole : List (List ℕ) → ℕ
 whole packets = 4 * (length packets / 4)
 
@@ -26,20 +26,21 @@ abbrev pub is_served : ℕ → ℕ → List Order → Bool
 is_served address delay [] = false
 is_served address delay (order ∷ older) = is_ok (served address delay (order ∷ older))
 
--- the coder was given the groups of these packets since the anchor, from the states of the order in force on
+-- The coder was given these packets. It had the states of the order in force before that order's group. Without an
+-- order it had any states at the anchor.
 abbrev pub RunsUnder : List (List ℕ) → List Order → Coding → Type 0
 RunsUnder packets [] coder = (q : List ℕ) × RunsAlong packets 0 q coder
 RunsUnder packets (order ∷ older) coder = RunsAlong packets (order.place / 4) order.ops.states coder
 
 -- what is kept of the packets from the anchor on
 pub record KeepsUnder (address delay : ℕ) (e : Exciter) (packets : List (List ℕ)) : Type 0 where
-  -- whether they are 52 or more
+  -- whether there are 52 packets or more
   pub flushed : e.flushed ≡ nat_le 52 (length packets)
   -- the packets of the group that isn't whole yet
   pub partial : take (length packets % 4) (bytes_of e.packets) ≡ drop (whole packets) packets
   -- whether the last whole group was sent
   pub sent : e.sent ≡ is_served address delay (last_orders packets)
-  -- what its orders say of the pages
+  -- what the orders up to that group tell of the pages
   pub pages : HoldsPages address (last_orders packets) e.pages
   pub coder : RunsUnder (take (whole packets) packets) (last_orders packets) e.coder
 
@@ -55,7 +56,7 @@ pub record StandsFor (a d : ℕ) (e : Exciter) (packets : List (List ℕ)) : Typ
   pub anchor : cadence.StandsFor e.anchor (syncs packets)
   pub kept : Keeps a d e (under packets)
 
--- What becomes of an exciter, and what it answers and gives, with the last of these packets.
+-- The exciter after the last of these packets, its answer to that packet, and the segments that the packet gives.
 pub record IsTaken (a d : ℕ) (packets : List (List ℕ)) (e : Exciter) (answered : Told) (count : ℕ)
     (symbols : List ℤ) : Type 0 where
   pub answer : answered ≡ last_answer a d packets
@@ -69,7 +70,7 @@ pub record IsJoined (address delay : ℕ) (packets : List (List ℕ)) (e : Excit
   pub air : Holds (given_under address delay (Some packets)) count symbols
   pub keeps : KeepsUnder address delay e packets
 
--- where the packet p stands at this place of its frame
+-- the same of packet p at this place of its frame, whatever packets from the anchor on the exciter was given before
 abbrev pub Joins : ℕ → List ℕ → Exciter → Exciter → Told → ℕ → List ℤ → Type 0
 Joins place p old made answered count symbols =
     (packets : List (List ℕ)) → KeepsUnder old.address old.delay old packets → place ≡ length packets % 624

@@ -7,15 +7,15 @@ use Rattle.dtx_exciter.specs.declared.answers.Told.TheVariants.{Quiet, Sent, Mut
 use Rattle.dtx_exciter.specs.Packets.{last_answer}
 use Rattle.dtx_exciter.specs.Emission.{last_segments, emission}
 
--- A line speaks of a segment by how many there are before it.
+-- A line names a segment by the number of segments before it.
 pub data Line : Type 0 where
   -- the segment, the frame and the packet's place in it, and the moment's tick and grain
   preset : ℕ → ℕ → ℕ → ℕ → ℕ → Line
   mute : ℕ → Why → Line
   restart : ℕ → Line
 
--- the line of an answer, where n segments were given before it and m with it: a preset speaks of the group's first data
--- segment, behind a field sync
+-- The line of an answer, where n segments were given before it and m with it. A preset names the group's first data
+-- segment, which a field sync may precede.
 abbrev pub line_of : ℕ → ℕ → Told → List Line
 line_of n m Quiet = []
 line_of n m (Sent None) = []

@@ -1,4 +1,4 @@
--- Packets of which an exciter makes the same, though their sync bytes differ (the profile's own).
+-- Packets that differ in their sync bytes, and of which an exciter still makes the same (the profile's own).
 use Rattle.std.specs.Prelude.{ℕ, ◌≡◌, List, map, drop}
 use Rattle.dtx_cadence.specs.Cadence.{HaveSameAnchors}
 use Rattle.dtx_exciter.specs.Packets.{syncs}

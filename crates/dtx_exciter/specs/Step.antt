@@ -21,7 +21,7 @@ use Rattle.dtx_exciter.specs.Emission.{Holds}
 abbrev pub bytes_of : List Packet → List (List ℕ)
 bytes_of packets = map (λ p. p.0) packets
 
--- what a group orders that begins at place j of its frame
+-- the order in a group that begins at place j of its frame
 unfoldable pub order_in : ℕ → List (List ℕ) → Option Ops
 order_in j packets =
     either (ordered j (reads (slice_index_or packets 0 [])))
@@ -29,11 +29,11 @@ order_in j packets =
     (either (ordered (j + 2) (reads (slice_index_or packets 2 [])))
     (ordered (j + 3) (reads (slice_index_or packets 3 [])))))
 
--- where it counts
+-- the same, if it counts
 abbrev pub own_order : Bool → ℕ → List (List ℕ) → Option Ops
 own_order flushed j packets = if flushed then order_in j packets else None
 
--- for how long what is sent is held under an order, from what is kept of the pages, or why nothing is sent
+-- the hold in ticks under an order, from what is kept of the pages, or why nothing is sent
 abbrev pub served_by : ℕ → ℕ → Pages → Result ℕ (Option Why)
 served_by delay most pages =
     hold_by delay most (option_map (λ h. h.entry) pages.held) (list_all (λ told. told) (take pages.count pages.told))
@@ -43,8 +43,8 @@ abbrev pub told_own : ℕ → Ops → ℤ → Result ℕ (Option Why) → Told
 told_own j ops offset (Ok hold) = Sent (Some (preset_of ops offset j hold))
 told_own j ops offset (Err why) = told_why why
 
--- the answer at a group, with what is kept of the pages: it is sent under an older order where the group before it was
--- sent
+-- The answer at a group, from what is kept of the pages. A group without an order of its own is sent if the group
+-- before it was sent.
 abbrev pub told_group : ℕ → ℕ → Option Ops → Pages → Bool → Told
 told_group delay j (Some ops) pages sent =
     told_own j ops (offset_of (option_map (λ h. h.entry) pages.held)) (served_by delay ops.max_delay pages)
@@ -60,14 +60,15 @@ group_given j packets own states before sent = record {
   packets = packets;
 }
 
--- the order, and the group as it is given to the coder, of an exciter that holds a whole group, which begins at place j
+-- The group's own order, and the group as it is given to the coder. The exciter holds the whole group, which begins at
+-- place j.
 unfoldable pub own_of : Exciter → ℕ → Option Ops
 own_of e j = own_order e.flushed j (bytes_of e.packets)
 
 unfoldable pub group_of : Exciter → ℕ → Told → Group
 group_of e j answered = group_given j (bytes_of e.packets) (own_of e j) e.coder.states e.sent (is_sent answered)
 
--- what is done with it
+-- the exciter after that group, its answer, and the segments that it gives
 pub record IsSent (j : ℕ) (old made : Exciter) (answered : Told) (count : ℕ) (symbols : List ℤ) : Type 0 where
   pub pages : HoldsMore old.address (own_of old j) old.pages made.pages
   pub answer : answered ≡ told_group old.delay j (own_of old j) made.pages old.sent

@@ -1,4 +1,4 @@
--- What stands in front of a feed's stretch and behind any packets, and the lines of a stretch (the profile's own).
+-- The segments in front of a feed's stretch and behind any packets, and the lines of a stretch (the profile's own).
 use Rattle.std.specs.Prelude.{ℕ, ℤ, pos, ◌≡◌, ◌+◌, ◌-◌, ◌*◌, ◌%◌, ◌==◌, ◌*ℤ◌, ⊤, nat_le, if◌then◌else◌, List, []}
 use Rattle.std.specs.Prelude.{◌∷◌, ◌++◌, length, map, take, slice_index_or, slice_range}
 use Rattle.std.specs.List.{range_with_len, flat_map, filter_map}
@@ -31,16 +31,16 @@ lines_behind address delay n packets more =
 -- ---- in front of the stretch
 
 -- The field sync in front of the group from packet k on, where the group before it gave these segments. There is none
--- where that group wasn't sent or k begins no field. Else there is one, which ends with the last twelve symbols that
--- were sent.
+-- where that group wasn't sent or k begins no field. Otherwise there is one, which ends with the last twelve symbols
+-- that were sent.
 abbrev pub sync_behind : List (List ℤ) → ℕ → List (List ℤ)
 sync_behind [] k = []
 sync_behind (s ∷ ss) k =
     if k % 312 == 0 then field_sync (nat_le 312 (k % 624))
     (last_of (slice_index_or (s ∷ ss) (length ss) [])) ∷ [] else []
 
--- All that is given before the data segment of packet k, where a feed is given from its mark on behind earlier packets.
--- It is what the packets before the last one of its group give, and the field sync in front of the group.
+-- All segments before the data segment of packet k, when a feed is given from its mark on behind earlier packets. They
+-- are those given before the last packet of k's group, and then the field sync in front of that group.
 unfoldable pub before_stretch : ℕ → ℕ → List (List ℕ) → List (List ℕ) → ℕ → ℕ → List (List ℤ)
 before_stretch address delay earlier feed mark k =
     emission address delay (earlier ++ slice_range feed mark (k + 3))
@@ -66,14 +66,15 @@ preset_line offset s k order =
 unfoldable pub stretch_lines : ℤ → ℕ → List (List ℕ) → ℕ → ℕ → List Line
 stretch_lines offset s feed k end = map (preset_line offset s k) (orders_in feed k end)
 
--- Two lines are presets of one packet of one frame, and their moments differ by so many ticks of 1,539 grains and some
+-- Two lines are presets of one packet of one frame, and their moments differ by `ticks` ticks of 1,539 grains and some
 -- whole seconds.
 abbrev pub IsApart : ℤ → Line → Line → Type 0
 IsApart ticks (preset s f p t g) (preset r e q u h) =
     (f ≡ e) × (p ≡ q) × DifferBy (t * 1539 + g) (u * 1539 + h) (ticks *ℤ pos 1539)
 IsApart ticks one other = ⊥
 
--- The lines of two transmitters go together, a pair for each of these orders, and differ by so many ticks.
+-- The lines of two transmitters make a pair for each of these orders, and the lines of each pair differ by `ticks`
+-- ticks.
 abbrev pub AreApart : ℤ → List Order → List Line → List Line → Type 0
 AreApart ticks [] [] [] = ⊤
 AreApart ticks (order ∷ orders) (x ∷ xs) (y ∷ ys) = IsApart ticks x y × AreApart ticks orders xs ys

@@ -1,5 +1,5 @@
--- What an exciter answers to a packet (the profile's own). The packets that it was given are told here by their sync
--- bytes and by the operations fields that they read as.
+-- What an exciter answers to a packet (the profile's own). Its packets stand here as their sync bytes, and as the
+-- operations fields that they read as.
 use Rattle.std.specs.Prelude.{ℕ, ◌-◌, ◌%◌, ◌==◌, Bool, true, false, Option, Some, None, option_map}
 use Rattle.std.specs.Prelude.{if◌then◌else◌, Result, Ok, Err, List, [], ◌∷◌, length, take, drop, ℤ, pos, negsuc}
 use Rattle.std.specs.Prelude.{◌+ℤ◌, ◌-ℤ◌}
@@ -17,19 +17,19 @@ use Rattle.dtx_exciter.specs.Pages.{of_one_cycle, all_pages_told, entry_in_force
 
 -- ---- whether a transmitter is served
 
--- what is left: the transmitter is late where that is negative
+-- the hold, from the ticks that are left: the transmitter is late if they are negative
 abbrev pub left_of : ℤ → Result ℕ (Option Why)
 left_of (pos n) = Ok n
 left_of (negsuc n) = Err (Some Late)
 
--- The maximum delay and the offset of the entry in force less the delay. Where there is no such entry, the transmitter
--- waits for its page, and is unlisted once all pages are told.
+-- The hold: the maximum delay plus the offset of the entry in force, less the delay. Without an entry in force the
+-- transmitter waits for its page, and is unlisted once all pages are told.
 abbrev pub hold_by : ℕ → ℕ → Option Entry → Bool → Result ℕ (Option Why)
 hold_by delay most None told = Err (if told then Some Unlisted else None)
 hold_by delay most (Some e) told = left_of (pos most +ℤ e.offset -ℤ pos delay)
 
--- for how long what is sent is held under these orders, the latest of which is in force, or why nothing is sent, where
--- that is told
+-- The hold in ticks under these orders, the latest of which is in force, or why nothing is sent. `Err None` gives no
+-- reason: there is no order, or the transmitter waits for its page.
 unfoldable pub served : ℕ → ℕ → List Order → Result ℕ (Option Why)
 served address delay [] = Err None
 served address delay (order ∷ older) =
@@ -47,18 +47,18 @@ preset_of ops offset j hold = record {
   hold = hold;
 }
 
--- the answer at an order that doesn't serve
+-- the answer at an order under which nothing is sent
 abbrev pub told_why : Option Why → Told
 told_why None = Quiet
 told_why (Some why) = Muted why
 
--- the answer at the group from i on under an order, which is the group's own where it stands there
+-- The answer at the group from i on, under the order in force. The order is the group's own if its place is i.
 abbrev pub told_by : ℕ → Order → ℤ → Result ℕ (Option Why) → Told
 told_by i order offset (Ok hold) =
     Sent (if order.place == i then Some (preset_of order.ops offset (i % 624) hold) else None)
 told_by i order offset (Err why) = if order.place == i then told_why why else Quiet
 
--- under these orders, the latest of which is in force
+-- the same under these orders, the latest of which is in force
 abbrev pub told_at : ℕ → ℕ → ℕ → List Order → Told
 told_at address delay i [] = Quiet
 told_at address delay i (order ∷ older) =
@@ -66,7 +66,7 @@ told_at address delay i (order ∷ older) =
 
 -- ---- the answer to any packet
 
--- under an anchor: where the packets from it on end with a group
+-- The answer under an anchor, if there is one. It is `Quiet` unless the last packet completes a group.
 abbrev pub told_under : ℕ → ℕ → Option (List (Option Ops)) → Told
 told_under address delay None = Quiet
 told_under address delay (Some said) =

@@ -1,7 +1,7 @@
 // What an exciter answers to a packet.
 use dtx_clock::Moment;
 
-/// Why a group isn't sent, where that is told.
+/// Why nothing is sent, as `Told::Muted` gives it.
 #[derive(Clone, Copy, PartialEq, Eq)]
 pub enum Why {
     /// The anchor is lost: two marks that were due in a row are missing.
@@ -21,7 +21,7 @@ pub struct Preset {
     pub packet: u16,
     /// The moment at which that packet's data segment begins.
     pub moment: Moment,
-    /// For how many ticks of 100 ns what is sent is held.
+    /// For how many ticks of 100 ns the exciter holds what it sends.
     pub hold: u32,
 }
 
@@ -30,7 +30,7 @@ pub struct Preset {
 pub enum Told {
     /// Nothing is sent.
     Quiet,
-    /// A group is sent, whose last packet this is. There is a preset where the group carries the order.
+    /// The packet completes a group, which is sent. There is a preset if the group itself carries an order.
     Sent { preset: Option<Preset> },
     /// Nothing is sent, for this reason.
     Muted(Why),

@@ -20,8 +20,9 @@ use dtx_trellis::States;
 use std::alloc::{AllocError, Global};
 use std::rc::Rc;
 
-/// An exciter (the profile's own, over ATSC A/53 Part 2 and in the manner of ATSC A/110). It is given the packets of a
-/// feed, from any place of it on and whatever else, and sends the segments that its orders tell it to send.
+/// An exciter (the profile's own, over ATSC A/53 Part 2 and in the manner of ATSC A/110). The caller gives it the
+/// packets of a feed, from any place of it on, or any other packets. It gives the segments that are to be sent under
+/// the orders in them.
 #[derive(Drop)]
 pub struct Exciter {
     address: u16,
@@ -36,15 +37,15 @@ pub struct Exciter {
 }
 
 impl Exciter {
-    /// The exciter of the transmitter with this address, to which the feed takes `delay` ticks of 100 ns. It was given
-    /// nothing. The only error is out of memory.
+    /// A new exciter of the transmitter `address`. The feed takes `delay` ticks of 100 ns to reach it. The only error
+    /// is out of memory.
     pub fn new(alloc: Global, address: u16, delay: u32) -> Result<Exciter, AllocError>
         ensures { IfOk result (λ exciter. StandsFor address delay exciter []) }
     {
         Exciter::sharing(alloc, &Tables::new(alloc)?, address, delay)
     }
 
-    /// The same, by tables that others may share. The only error is out of memory.
+    /// The same, with tables that other exciters may share. The only error is out of memory.
     pub fn sharing(
         alloc: Global,
         tables: &Tables,
@@ -66,9 +67,9 @@ impl Exciter {
         })
     }
 
-    /// Is given one more packet, of any bytes. `Sent` is answered to the last packet of a group that is sent. Then the
-    /// air holds its segments: four data segments, and before them a field sync, where the group begins a field and the
-    /// group before it was sent. With any other answer the air holds none.
+    /// Takes one packet, of any bytes. The answer is `Sent` at the last packet of a group that is sent. `air` then
+    /// holds the group's segments: four data segments, and before them a field sync if the group begins a field and the
+    /// group before it was sent. After any other answer `air` holds no segment.
     pub fn take(&mut self, packet: &Packet, air: &mut Air) -> Told
         ensures { (address delay : ℕ) (before : List (List ℕ)) → StandsFor address delay self.old before
             → IsTaken address delay (before ++ packet.now.0 ∷ []) self.new result air.new.segments air.new.symbols }
@@ -85,7 +86,7 @@ impl Exciter {
         }
     }
 
-    /// Makes the exciter one that was given nothing.
+    /// Makes the exciter one that was given no packet. Its address and delay stay.
     pub fn reset(&mut self)
         ensures { (address delay : ℕ) (before : List (List ℕ)) → StandsFor address delay self.old before
             → StandsFor address delay self.new [] }
@@ -93,7 +94,7 @@ impl Exciter {
         self.anchor = Anchor::new();
     }
 
-    /// The packet is the anchor.
+    /// Starts anew with this packet as the anchor.
     fn begin(&mut self, packet: &Packet)
         ensures keeps { KeepsUnder self.old.address self.old.delay self.new (packet.now.0 ∷ []) }
         ensures same { IsSame self.old self.new }
@@ -106,7 +107,8 @@ impl Exciter {
         self.pages = Pages::new(0);
     }
 
-    /// The packet stands at this place of its frame.
+    /// Adds the packet at this place of its frame. The last packet of a group completes the group, and the answer is
+    /// the one to the group.
     fn join(&mut self, place: u16, packet: &Packet, air: &mut Air) -> Told
         requires place { place < 624 }
         requires air { air.old.segments ≡ 0 }
@@ -122,7 +124,8 @@ impl Exciter {
         told
     }
 
-    /// A group is whole, which begins at this place of its frame.
+    /// Answers to the whole group that begins at place `first` of its frame. If the group is sent, `air` holds its
+    /// segments.
     fn send(&mut self, first: u16, air: &mut Air) -> Told
         requires place { first < 624 }
         requires whole { first % 4 ≡ 0 }
@@ -147,7 +150,8 @@ impl Exciter {
         told
     }
 
-    /// The group's own order, where it counts.
+    /// The order in the group's own packets. There is none until 52 packets, counted from the anchor, stand before the
+    /// group.
     fn order(&self, first: u16) -> Option<Ops>
         requires { first < 624 }
         ensures order { result ≡ own_order self.now.flushed first (bytes_of self.now.packets) }
@@ -160,7 +164,7 @@ impl Exciter {
         }
     }
 
-    /// The answer at a group with this order of its own.
+    /// The answer to a group, whose own packets hold this order, if any.
     fn answer(&self, first: u16, order: &Option<Ops>) -> Told
         requires place { first < 624 }
         requires valid { IfSome order.now IsValid }
@@ -188,7 +192,7 @@ fn is_sent(told: Told) -> bool
     }
 }
 
-/// Leaves the air its segments, or none.
+/// Removes the segments of `air` unless the group is sent.
 fn keep_if(sent: bool, air: &mut Air)
     ensures count { air.new.segments ≡ (if sent then air.old.segments else 0) }
     ensures symbols { air.new.symbols ≡ air.old.symbols }
@@ -198,7 +202,8 @@ fn keep_if(sent: bool, air: &mut Air)
     }
 }
 
-/// Whether a field sync stands before the group that begins at this place of its frame.
+/// Whether a field sync stands before the group that begins at place `first` of its frame. `before` says whether the
+/// group before it was sent, and `sent` whether this one is.
 fn begins_with_sync(first: u16, before: bool, sent: bool) -> bool
     ensures { result ≡ (sent && before && (first % 312 == 0)) }
 {

@@ -1,4 +1,4 @@
-//! Laws of the definitions.
+//! Laws of the definitions: what an exciter sends and logs.
 
 ghost use Rattle.std.specs.Prelude.{◌≡◌, ◌↔◌, ℕ, ℤ, ◌+◌, ◌-◌, ◌-ℤ◌, ◌*◌, ◌%◌, ◌<◌, ◌≤◌, ◌==◌, ◌&&◌, true, false};
 ghost use Rattle.std.specs.Prelude.{if◌then◌else◌, Option, Some, None, List, [], ◌∷◌, ◌++◌, length, map, drop};
@@ -20,9 +20,9 @@ ghost use Rattle.dtx_exciter.specs.Stretch.{preset_line, orders_in, stretch_line
 
 // ---- one life
 
-/// From which packet on an exciter is locked to a feed that it is given unchanged from one of its marks on. That is the
-/// mark in a new life, and never later than the third mark, whatever the exciter was given before: a lock out of step
-/// is lost before it. From there on one anchor holds, in step with the feed.
+/// The packet of a feed from which on an exciter is locked to it. The exciter is given the feed unchanged from one of
+/// its marks on. In a new life it is locked from that mark on. Behind any earlier packets it is locked by the third
+/// mark, since a lock out of step is lost before that. From there on one anchor holds, in step with the feed.
 pub fn locked()
     ensures anew { (mark : ℕ) → locked_from [] mark ≡ mark }
     ensures soon { (earlier : List (List ℕ)) (mark : ℕ)
@@ -32,11 +32,11 @@ pub fn locked()
         → HasLock earlier feed mark (locked_from earlier mark) }
 {}
 
-/// An exciter is given a feed unchanged from one of its marks on. Take any order that lists it and whose group begins
-/// 52 or more packets behind the place from which it is locked. From the first data segment of that group on it gives
-/// just the feed's own segments, in a row and with nothing between. They go up to the last group that ends before the
-/// packets that are given then. Before them it gives what it gives before the last packet of that group, and then at
-/// most one field sync, in front of the group.
+/// An exciter is given a feed unchanged from one of its marks on. Take any order that lists the exciter's address and
+/// whose group begins 52 or more packets behind the place from which it is locked. From the first data segment of that
+/// group on it gives just the feed's own segments, in a row and with nothing between. They go up to the last whole
+/// group before packet `end`, and the segments of later packets follow them. In front of them stand the segments given
+/// before the last packet of the first group, and then at most one field sync.
 pub fn lockstep()
     ensures exact { (address delay : ℕ) (offset : ℤ) (feed earlier : List (List ℕ)) (mark end k : ℕ)
         → IsFeed address delay offset feed → IsStretch address feed (locked_from earlier mark) mark end k
@@ -59,9 +59,9 @@ pub fn counts()
     ensures sync { (segments : List (List ℤ)) (k : ℕ) → length (sync_behind segments k) ≤ 1 }
 {}
 
-/// The log beside the stretch. It has the lines of what is given before the last packet of its first group, and then
-/// one line for each order of the stretch and no other. Such a line speaks of the group's first data segment and has
-/// the order's moment there.
+/// The log of the stretch. First come the lines of the packets before the last one of the stretch's first group. Then
+/// comes one line for each order of the stretch, and no other. It names the first data segment of the order's group and
+/// the moment of that segment.
 pub fn lines()
     ensures exact { (address delay n : ℕ) (offset : ℤ) (feed earlier : List (List ℕ)) (mark end k : ℕ)
         → IsFeed address delay offset feed → IsStretch address feed (locked_from earlier mark) mark end k
@@ -76,7 +76,7 @@ pub fn lines()
         ++ lines_behind address delay n (earlier ++ slice_range feed mark end) later) }
 {}
 
-/// The first line of a stretch is that of its first group, and speaks of the stretch's first segment.
+/// The first line of a stretch is that of its first group, and names the stretch's first segment.
 pub fn first_line()
     ensures { (offset : ℤ) (s : ℕ) (feed : List (List ℕ)) (end k : ℕ) (ops : Ops) → k + 4 ≤ end
         → counting_order (readings feed) k ≡ Some ops
@@ -86,8 +86,8 @@ pub fn first_line()
         ∷ map (preset_line offset s k) (orders_in feed (k + 1) end) }
 {}
 
-/// How many segments a packet gives. It gives none where its answer isn't that its group is sent, and else the group's
-/// four. It gives one more where a field begins with the group and the group before it was sent too.
+/// How many segments a packet gives. It gives none unless the answer to it is `Sent`, and otherwise the group's four
+/// data segments. It gives one more if the group begins a field and the group before it was sent too.
 pub fn sent_packets_give()
     ensures none { (address delay : ℕ) (packets : List (List ℕ)) (packet : List ℕ)
         → is_sent (last_answer address delay (packets ++ packet ∷ [])) ≡ false
@@ -99,10 +99,9 @@ pub fn sent_packets_give()
         ≡ (if was_sent address delay (readings l) (length l - 4) && ((length l - 4) % 312 == 0) then 5 else 4)) }
 {}
 
-/// How many segments packets give at most. Let p be the packets behind the last whole group under the anchor: all of
-/// them under it where no group is whole, and 0 where there is no anchor. Then one packet more gives at most five
-/// quarters of p + 1 segments, less five quarters of what stands so behind it. So m packets in a row give at most 5 (p
-/// + m) / 4, and p is at most 3.
+/// How many segments packets give at most. Let p be how many of the packets from the anchor on stand in no whole group.
+/// It is 0 without an anchor, and at most 3. Let q be the same number after one more packet. That packet gives at most
+/// 5 (p + 1 - q) / 4 segments. So m packets in a row give at most 5 (p + m) / 4.
 pub fn groups_are_spaced()
     ensures spaced { (address delay : ℕ) (packets : List (List ℕ)) (packet : List ℕ)
         → 4 * length (last_segments address delay (packets ++ packet ∷ [])) + 5 * group_part (packets ++ packet ∷ [])
@@ -110,15 +109,14 @@ pub fn groups_are_spaced()
     ensures part { (packets : List (List ℕ)) → group_part packets ≤ 3 }
 {}
 
-/// What packets give stands whatever is given then, and the further packets' segments follow it one packet after
-/// another.
+/// Later packets change no segment of earlier ones. Their own segments follow, one packet after another.
 pub fn emission_goes_on()
     ensures { (address delay : ℕ) (packets more : List (List ℕ))
         → emission address delay (packets ++ more) ≡ emission address delay packets
         ++ emission_behind address delay packets more }
 {}
 
-/// The lines of packets stand whatever is given then, and the further packets' lines follow them.
+/// Later packets change no line of earlier ones. Their own lines follow.
 pub fn lines_go_on()
     ensures { (address delay n : ℕ) (packets more : List (List ℕ))
         → life_lines address delay n (packets ++ more) ≡ life_lines address delay n packets
@@ -127,7 +125,7 @@ pub fn lines_go_on()
 
 // ---- sync bytes
 
-/// A sync byte tells an exciter of marks alone. Packets that differ in their sync bytes alone, and have the same anchor
+/// An exciter uses sync bytes for marks alone. Packets that differ in their sync bytes alone, and have the same anchor
 /// behind each packet, have the same answers, segments and lines.
 pub fn sync_bytes_are_not_sent()
     ensures answers { (address delay n : ℕ) (xs ys : List (List ℕ)) → AreSentAlike xs ys → n ≤ length xs
@@ -138,8 +136,8 @@ pub fn sync_bytes_are_not_sent()
         → life_lines address delay n xs ≡ life_lines address delay n ys }
 {}
 
-/// One missing mark changes nothing: under an anchor, the sync byte of a packet may be any, where there are marks 624
-/// packets before it and behind it.
+/// One missing mark changes nothing. Under an anchor, a packet may have any sync byte if marks stand 624 packets before
+/// it and behind it.
 pub fn one_missing_mark()
     ensures { (packets : List (List ℕ)) (packet : List ℕ) (i j : ℕ) → anchor_of (take i packets) ≡ Some j
         → i < length packets → HasMarksRound (syncs packets) i → drop 1 packet ≡ drop 1 (slice_index_or packets i [])
@@ -175,9 +173,10 @@ pub fn same_everywhere()
 
 // ---- several pages
 
-/// A transmitter without an entry in force is told so at an order exactly where all pages were told. Else nothing is
-/// answered there, and it waits for its page. All are told exactly where, for each of the order in force's pages, some
-/// order tells it and each one from there on has this number of pages.
+/// The answer at an order to a transmitter without an entry in force. It is `Muted Unlisted` exactly if all pages were
+/// told. Otherwise it is `Quiet`, and the transmitter waits for its page. All pages were told exactly if two things
+/// hold of each page of the order in force. Some order told the page, and each order from there on has the same number
+/// of pages.
 pub fn pages()
     ensures answer { (address delay : ℕ) (order : Order) (older : List Order)
         → entry_in_force address (order ∷ older) ≡ None
@@ -191,7 +190,7 @@ pub fn pages()
 
 // ---- several lives
 
-/// The segments and the log of several lives, from one of them on. They are those of the lives before it, its own, and
+/// The segments and the log of several lives, split at one of them. They are those of the lives before it, its own, and
 /// those of the lives behind it, with a restart between any two. Each line counts all segments before it, those of
 /// earlier lives too.
 pub fn in_lives()

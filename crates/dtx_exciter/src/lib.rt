@@ -1,4 +1,5 @@
-//! One exciter: from a feed's packets, whatever came before them, to what its transmitter sends.
+//! The exciter of one transmitter. It is given the packets of a feed, behind any others, and gives the segments that
+//! the transmitter sends.
 #![tactic(auto)]
 
 mod answers;

@@ -1,4 +1,4 @@
-// What packets order, and a group of them.
+// The order in a packet, and in a group of packets.
 ghost use Rattle.std.specs.Prelude.{◌≡◌, ◌<◌, ◌==◌, ◌||◌, IfOk, IfSome};
 ghost use Rattle.dtx_ops.specs.Spelling.{IsValid};
 ghost use Rattle.dtx_exciter.specs.Order.{ordered};
@@ -13,8 +13,8 @@ use dtx_sizes::GROUP_PACKETS;
 /// The corrector of operations packets.
 pub type Corrector = Fast<184, 164>;
 
-/// The fields of the first packet of a group that reads and whose index is its place in the frame, where the group's
-/// first one stands at `first`.
+/// The order in the group that begins at place `first` of its frame. It is the fields of the group's first packet that
+/// reads as an operations packet and whose index is its own place in the frame.
 pub(crate) fn order_in(
     corrector: &Corrector,
     first: u16,
@@ -36,7 +36,7 @@ pub(crate) fn order_in(
     }
 }
 
-/// The fields of a packet that reads and whose index is this place.
+/// The fields of a packet, if it reads as an operations packet whose index is `place`.
 #[tactic(auto, unfolding(crate::specs::Packets::reads))]
 fn order_of(corrector: &Corrector, place: u16, packet: &Packet) -> Option<Ops>
     ensures order { result ≡ ordered place (reads packet.now.0) }
@@ -45,8 +45,8 @@ fn order_of(corrector: &Corrector, place: u16, packet: &Packet) -> Option<Ops>
     ordered(place, read(corrector, packet))
 }
 
-/// What a packet at this place of its frame orders, by what it reads as or why it doesn't: its fields, where its index
-/// is its place (the profile's own).
+/// The order in a packet at this place of its frame, from the result of reading it. It is the packet's fields, if it
+/// reads and its index is `place` (the profile's own).
 pub fn ordered(place: u16, reading: Result<Ops, OpsNo>) -> Option<Ops>
     requires { IfOk reading IsValid }
     ensures order { result ≡ ordered place (read_fields reading) }
@@ -58,8 +58,8 @@ pub fn ordered(place: u16, reading: Result<Ops, OpsNo>) -> Option<Ops>
     }
 }
 
-/// Whether 52 or more packets stand under the anchor once the packet at this place of its frame has joined them;
-/// `before` says whether they did without it. Only groups behind them count as orders.
+/// Whether 52 or more packets stand from the anchor on, including the packet at this place of its frame. `before` is
+/// the same without that packet. A group has a counting order only behind 52 packets.
 pub fn is_flushed(before: bool, place: u16) -> bool
     ensures { result ≡ (before || (place == 51)) }
 {

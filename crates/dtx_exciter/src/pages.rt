@@ -1,4 +1,4 @@
-// The pages of a network's transmitters, as far as orders have told them to one transmitter.
+// The pages of a network's transmitters, as far as one exciter has received them in orders.
 ghost use Rattle.std.specs.Prelude.{◌≡◌, false, None, IfSome, option_map, take, replicate};
 ghost use Rattle.std.specs.List.{list_all};
 ghost use Rattle.dtx_ops.specs.Spelling.{IsValid};
@@ -8,14 +8,14 @@ ghost use Rattle.dtx_exciter.specs.HeldPages.{HoldsMore, begun, with_order, held
 use dtx_ops::{Entry, Ops};
 use dtx_sizes::MOST_PAGES;
 
-/// The entry in force, and the page that told it.
+/// The entry in force, and the page that it stands on.
 #[derive(Clone, Copy)]
 pub(crate) struct Held {
     pub page: u8,
     pub entry: Entry,
 }
 
-/// What is kept of the pages since the orders' number of pages is what it is.
+/// What an exciter keeps of the pages that were told since the number of pages last changed.
 #[derive(Clone, Copy)]
 pub(crate) struct Pages {
     /// The number of pages, or 0 where there was no order.
@@ -25,7 +25,7 @@ pub(crate) struct Pages {
 }
 
 impl Pages {
-    /// No page was told of so many.
+    /// No page of `count` was told yet.
     pub(crate) fn new(count: u8) -> Pages
         ensures { result ≡ record { count = count; told = replicate 30 false; held = None } }
     {
@@ -36,7 +36,7 @@ impl Pages {
         }
     }
 
-    /// A group has this order, if any, for the transmitter with this address.
+    /// Adds the order of a group, if it has one, for the transmitter `address`.
     pub(crate) fn see(&mut self, address: u16, order: &Option<Ops>)
         requires { IfSome order.now IsValid }
         ensures { HoldsMore address order.now self.old self.new }
@@ -56,7 +56,7 @@ impl Pages {
         self.held = held_after(page, entry_of(address, ops), self.held);
     }
 
-    /// Where the number of pages is another one than before, none was told.
+    /// Starts over with no page told if the number of pages has changed.
     fn begin(&mut self, count: u8)
         ensures { self.new ≡ begun count self.old }
     {
@@ -88,7 +88,8 @@ impl Pages {
     }
 }
 
-/// What is in force with an order of this page and, for the transmitter, this entry.
+/// The entry in force after an order of page `page`, whose own entry for the transmitter is `entry`. An older entry
+/// stays in force only if its page is another.
 fn held_after(page: u8, entry: Option<Entry>, before: Option<Held>) -> Option<Held>
     ensures { result ≡ held_after page entry before }
 {
@@ -101,7 +102,7 @@ fn held_after(page: u8, entry: Option<Entry>, before: Option<Held>) -> Option<He
     }
 }
 
-/// The entry of an address.
+/// The first entry of an address in the order, if any.
 fn entry_of(address: u16, ops: &Ops) -> Option<Entry>
     ensures { result ≡ entry_of address ops.now }
 {

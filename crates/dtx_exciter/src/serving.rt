@@ -1,4 +1,4 @@
-// Whether a transmitter is served under an order, and what the order sets there.
+// Whether a transmitter is served under an order, and the preset of the order.
 ghost use Rattle.std.specs.Prelude.{◌≡◌, ◌<◌, pos, ◌+ℤ◌, ◌-ℤ◌, option_map};
 ghost use Rattle.dtx_ops.specs.Spelling.{IsValid};
 ghost use Rattle.dtx_exciter.specs.Pages.{offset_of};
@@ -10,8 +10,8 @@ use crate::pages::Pages;
 use dtx_clock::{hold, moment};
 use dtx_ops::{Entry, Ops};
 
-/// For how many ticks what is sent is held under an order of this maximum delay, or why nothing is sent: `Err(None)`
-/// where the transmitter waits for its page.
+/// The hold in ticks of 100 ns under an order of this maximum delay, or why nothing is sent. `Err(None)` means that the
+/// transmitter waits for its page.
 pub(crate) fn served(delay: u32, max_delay: u32, pages: &Pages) -> Result<u32, Option<Why>>
     requires { max_delay < 10000000 }
     ensures { result ≡ served_by delay max_delay pages.now }
@@ -23,7 +23,7 @@ pub(crate) fn served(delay: u32, max_delay: u32, pages: &Pages) -> Result<u32, O
     }
 }
 
-/// What an order sets at a group that begins at this place of its frame.
+/// The preset of an order whose group begins at this place of its frame, with this hold in ticks.
 pub(crate) fn preset_of(ops: &Ops, pages: &Pages, place: u16, hold: u32) -> Preset
     requires valid { IsValid ops.now }
     requires place { place < 624 }
@@ -41,7 +41,7 @@ pub(crate) fn preset_of(ops: &Ops, pages: &Pages, place: u16, hold: u32) -> Pres
     }
 }
 
-/// The answer at an order that doesn't serve.
+/// The answer at an order under which nothing is sent.
 pub(crate) fn told_why(why: Option<Why>) -> Told
     ensures { result ≡ told_why why }
 {

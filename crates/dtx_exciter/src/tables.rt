@@ -3,8 +3,8 @@ use crate::orders::Corrector;
 use std::alloc::{AllocError, Global};
 use std::rc::Rc;
 
-/// The tables that an [`Exciter`](crate::Exciter) needs, which are the same for each: those of its coder and of the
-/// corrector of operations packets, 125 kB. Exciters that are made from one value share them.
+/// The tables that an [`Exciter`](crate::Exciter) needs: those of its coder and of the corrector of operations packets,
+/// 125 kB. They are the same for each exciter. Exciters that are made from one value share them.
 #[derive(Drop)]
 pub struct Tables {
     pub(crate) coding: dtx_coder::Tables,
@@ -12,7 +12,7 @@ pub struct Tables {
 }
 
 impl Tables {
-    /// The tables are made here. The only error is out of memory.
+    /// Computes the tables. The only error is out of memory.
     pub fn new(alloc: Global) -> Result<Tables, AllocError> {
         Ok(Tables {
             coding: dtx_coder::Tables::new(alloc)?,

@@ -14,14 +14,14 @@ use Rattle.dtx_repeat.specs.Marks.{wrong_signs}
 abbrev pub first_sync : ℕ → List (List ℤ) → List ℤ
 first_sync first got = slice_index_or got (to_sync first) []
 
--- A repeater hears a feed: the segments that it receives are `got`, for the segments `sent` of the feed's own symbols,
--- from segment first on, in a row. The plan lists its address, as that of transmitter t, and its delay is in time.
+-- A repeater hears a feed. Successive segments `sent` of the feed's own symbols, from segment `first` on, are received
+-- as the segments `got`. The plan lists its address, as that of transmitter t, and its delay is in time.
 pub record Hears (plan : Plan) (stream : List (List ℕ)) (t : Transmitter) (delay first : ℕ) (sent got : List (List ℤ)) :
     Type 0 where
   pub is_plan : IsPlan plan
   pub is_stream : IsStream stream
   pub listed : IsListed plan t
-  -- The delay, which needn't be that of the plan, is at most the plan's maximum delay and the transmitter's offset.
+  -- The delay, which needn't be that of the plan, is at most the plan's maximum delay plus the transmitter's offset.
   pub in_time : pos delay ≤ℤ (pos plan.max_delay +ℤ t.offset)
   pub received : AreReceived (feed plan stream) first sent got
   -- A field sync is among them, and the damage is slight.
@@ -39,7 +39,7 @@ mark_from m = 624 * ((m + 623) / 624)
 abbrev pub heard_mark : ℕ → ℕ
 heard_mark first = mark_from (packet_behind first)
 
--- The packet up to which the feed is received whole. Behind the first field sync so many packets in a row have all
--- their 207 bytes among those received, and no packet behind them has.
+-- The packet up to which the feed is received whole. The packets from the one behind the first field sync on, and
+-- before this one, have all their 207 bytes among those received. No later packet has.
 unfoldable pub heard_to : ℕ → List (List ℤ) → ℕ
 heard_to first got = packet_behind first + length (numbers_in (from_sync first got))

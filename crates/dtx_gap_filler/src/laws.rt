@@ -1,4 +1,4 @@
-//! Laws of the definitions.
+//! Laws of the definitions: what a repeater sends of a feed that it hears.
 
 ghost use Rattle.std.specs.Prelude.{◌≡◌, ◌⊎◌, ℕ, ℤ, pos, ◌<◌, ◌≤◌, ◌+ℤ◌, ◌≤ℤ◌, List, [], ◌∷◌, length, slice_range};
 ghost use Rattle.dtx_plan.specs.declared.plan.Plan.{Plan};
@@ -15,8 +15,8 @@ ghost use Rattle.dtx_gap_filler.specs.Heard.{Hears, heard_mark, heard_to};
 use dtx_chain::laws::{gives_all_back, no_damage};
 use dtx_network::laws::{from_a_mark, packets_of_a_feed};
 
-/// The packets that a repeater gives its exciter of a feed that it hears are just the feed's, marks and all, in one
-/// life. They are those from the one behind the first field sync on, as far as they are received whole.
+/// A repeater that hears a feed gives its exciter exactly the feed's packets, marks included, in one life. They go from
+/// the packet behind the first field sync on, as far as packets are received whole.
 pub fn is_given_the_feed()
     ensures life { (plan : Plan) (stream : List (List ℕ)) (t : Transmitter) (delay first : ℕ) (sent got : List (List ℤ))
         → Hears plan stream t delay first sent got
@@ -30,12 +30,12 @@ pub fn is_given_the_feed()
 }
 
 /// A repeater that hears a feed, with slight damage, sends exactly the main transmitter's symbols (ATSC A/53 Part 2).
-/// Its first listing is the first group, received whole, one of whose operations packets lists its address and that
-/// begins late enough. Late enough is 52 or more packets behind the first mark at or behind the packet that follows the
-/// first field sync. Its segments are those of the feed from the first data segment of that group on to the last data
-/// segment of the last group received whole, and no other. Its log has one preset line, with the moment at its offset,
-/// for each of these groups that holds an operations packet, and no other line. Where there is no such listing, it
-/// sends no segment and logs no line.
+/// Its first listing is the first group received whole that begins late enough and has an operations packet that lists
+/// its address. Late enough is 52 or more packets behind the first mark at or behind the packet that follows the first
+/// field sync. It sends the feed's segments from the first data segment of that group to the last data segment of the
+/// last group received whole, and no other. Its log has one preset line, with the moment at its offset, for each of
+/// these groups that holds an operations packet, and no other line. If there is no first listing, it sends no segment
+/// and logs no line.
 pub fn repeats()
     ensures segments { (plan : Plan) (stream : List (List ℕ)) (t : Transmitter) (delay first k : ℕ)
         (sent got : List (List ℤ)) → Hears plan stream t delay first sent got
@@ -59,8 +59,8 @@ pub fn repeats()
     from_a_mark();
 }
 
-/// What is asked of the segments is met as they were sent. Take any of the feed's own segments in a row that hold a
-/// field sync, undamaged. A repeater that is in time hears in them the feed of a plan that lists its address.
+/// Segments as they were sent meet `Hears`. Take any successive segments of a feed's own that hold a field sync,
+/// undamaged. A repeater that is in time, and whose address the plan lists, hears the feed in them.
 pub fn heard_as_sent()
     ensures { (plan : Plan) (stream : List (List ℕ)) (t : Transmitter) (delay first end : ℕ) → IsPlan plan
         → IsStream stream → IsListed plan t → pos delay ≤ℤ (pos plan.max_delay +ℤ t.offset)

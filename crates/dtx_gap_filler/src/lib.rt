@@ -1,4 +1,4 @@
-//! A gap filler: what a repeater sends of an adapter's feed that it receives from the air.
+//! A gap filler: a repeater that receives an adapter's feed from the air, and what it sends of it.
 #![tactic(auto)]
 
 pub mod laws;

@@ -18,7 +18,7 @@ covers place entry = nat_le entry.at place && nat_lt place (entry.at + entry.cou
 unfoldable pub entry_at : List Damage → ℕ → Option Damage
 entry_at damage place = find (covers place) damage
 
--- what stands at a place in place of a byte: `put` of the entry that covers it, in two's complement, or else that byte
+-- the byte at a place after the damage: `put` of the entry that covers it, in two's complement, or else the old byte
 abbrev pub byte_at : List Damage → ℕ → ℕ → ℕ
 byte_at damage place byte = option_map_or (λ entry. cast_unsigned w8 entry.put) (entry_at damage place) byte
 
@@ -31,15 +31,15 @@ damaged_bytes damage place bytes = map (λ i. byte_at damage (place + i) (slice_
 abbrev pub hurt : List Damage → List ℕ → List ℕ
 hurt damage file = damaged_bytes damage 0 file
 
--- how many of the `count` places from a place on some entry covers
+-- how many of the `count` places from a place on are covered by an entry
 unfoldable pub damaged_from : List Damage → ℕ → ℕ → ℕ
 damaged_from damage place count = count_by (λ k. is_some (entry_at damage k)) (range_with_len place count)
 
--- how many of the first `count` places of a file some entry covers
+-- how many of the first `count` places of a file are covered by an entry
 abbrev pub damaged_places : List Damage → ℕ → ℕ
 damaged_places damage count = damaged_from damage 0 count
 
--- of the places from `place` on, before `end`, the entry covers those from `from` on, before `to`
+-- the entry covers exactly the places from `from` on and before `to`, of those from `place` on and before `end`
 pub record IsCovered (entry : Damage) (place end from to : ℕ) : Type 0 where
   pub least : place ≤ from
   pub order : from ≤ to
@@ -50,7 +50,7 @@ pub record IsCovered (entry : Damage) (place end from to : ℕ) : Type 0 where
 abbrev pub damage_end : Damage → ℕ
 damage_end entry = entry.at + entry.count
 
--- The entry of that number is the first that ends behind a place. Where none does, the number is how many there are.
+-- Entry `first` is the first that ends behind a place. If none does, `first` is the number of entries.
 pub record IsFirstBehind (damage : List Damage) (place first : ℕ) : Type 0 where
   pub within : first ≤ length damage
   pub before : (k : ℕ) (e : Damage) → k < first → damage_end (slice_index_or damage k e) ≤ place

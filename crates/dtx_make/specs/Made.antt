@@ -3,11 +3,11 @@ use Rattle.std.specs.Prelude.{ℕ, zero, suc, ◌+◌, ◌*◌, ◌/◌, ◌%◌
 use Rattle.std.specs.Prelude.{replicate, flat_map}
 use Rattle.std.specs.List.{range_with_len}
 
--- the number with which a packet begins
+-- the generator's first number for a packet
 abbrev pub first_number : ℕ → ℕ → ℕ
 first_number seed index = ((seed + 1) * 6364136223846793005 + index * 1442695040888963407) % 2 ^ 64
 
--- the number behind another one, of a linear congruential generator modulo 2 ^ 64
+-- the next number of the generator, which is a linear congruential one modulo 2 ^ 64
 abbrev pub next_number : ℕ → ℕ
 next_number number = (number * 6364136223846793005 + 1442695040888963407) % 2 ^ 64
 
@@ -29,6 +29,6 @@ made_packet seed index =
     then (0x47 ∷ 0x1F ∷ 0xFA ∷ 0x10 ∷ []) ++ replicate 184 0
     else (0x47 ∷ 0x00 ∷ 0x31 ∷ (0x10 + index % 16) ∷ []) ++ made_payload seed index
 
--- the stream of that many packets
+-- the stream of `count` packets
 unfoldable pub made_stream : ℕ → ℕ → List ℕ
 made_stream seed count = flat_map (made_packet seed) (range_with_len 0 count)

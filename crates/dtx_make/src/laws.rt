@@ -5,7 +5,7 @@ ghost use Rattle.std.specs.Int.{w8, cast_unsigned};
 ghost use Rattle.dtx_plan.specs.declared.damage.Damage.{Damage};
 ghost use Rattle.dtx_make.specs.Hurt.{AreInOrder, covers, entry_at, damaged_bytes, hurt, damaged_from, damaged_places};
 
-/// Damage that is laid piece by piece, each at its place, is the damage laid over the whole.
+/// Damage laid over each piece of some bytes, at the piece's place, is the damage laid over the whole.
 pub fn laid_in_pieces()
     ensures piece { (damage : List Damage) (place : ℕ) (first rest : List ℕ)
         → damaged_bytes damage place (first ++ rest) ≡ damaged_bytes damage place first
@@ -14,13 +14,13 @@ pub fn laid_in_pieces()
         → hurt damage (first ++ rest) ≡ hurt damage first ++ damaged_bytes damage (length first) rest }
 {}
 
-/// As many bytes stand there as before.
+/// Damaged bytes are as many as the bytes before.
 pub fn length_stays()
     ensures { (damage : List Damage) (place : ℕ) (bytes : List ℕ)
         → length (damaged_bytes damage place bytes) ≡ length bytes }
 {}
 
-/// A byte that an entry covers is that entry's `put`, whichever entry of those in order it is. A byte that none covers
+/// If the entries are in order, a byte that one of them covers becomes that entry's `put`. A byte that none covers
 /// stays.
 pub fn each_byte()
     ensures covered { (damage : List Damage) (place i : ℕ) (bytes : List ℕ) (entry : Damage) → AreInOrder damage

@@ -21,7 +21,7 @@ pub fn lay(damage: &Damages, place: u64, bytes: &mut [u8])
     }
 }
 
-/// How many of the `count` places from `place` of a file on some entry covers.
+/// How many of the `count` places from `place` of a file on are covered by an entry.
 pub fn damaged_in(damage: &Damages, place: u64, count: u64) -> u64
     requires room { place + count < 2 ^ 64 }
     requires in_order { AreInOrder damage.now }
@@ -40,7 +40,8 @@ pub fn damaged_in(damage: &Damages, place: u64, count: u64) -> u64
     damaged
 }
 
-/// The number of the first entry that ends behind a place. The entries before it cover no place from that one on.
+/// The index of the first entry that ends behind a place, or the number of entries if none does. The entries before it
+/// cover no place from that place on.
 fn first_behind(damage: &Damages, place: u64) -> usize
     requires in_order { AreInOrder damage.now }
     ensures { IsFirstBehind damage.now place result }
@@ -58,14 +59,14 @@ fn first_behind(damage: &Damages, place: u64) -> usize
     low
 }
 
-/// Whether all that the entry covers stands before a place.
+/// Whether the entry covers only places before `place`.
 fn ends_by(entry: &Damage, place: u64) -> bool
     ensures { IsTrue result ↔ (damage_end entry.now ≤ place) }
 {
     entry.at <= place && entry.count <= place - entry.at
 }
 
-/// One entry laid over bytes that stand at a place.
+/// Lays one entry over bytes that stand at `place` of a file.
 fn lay_entry(entry: &Damage, place: u64, bytes: &mut [u8])
     requires room { place + length bytes.old < 2 ^ 64 }
     ensures { bytes.new ≡ damaged_bytes (entry.now ∷ []) place bytes.old }
@@ -74,8 +75,8 @@ fn lay_entry(entry: &Damage, place: u64, bytes: &mut [u8])
     bytes[(from - place) as usize..(to - place) as usize].fill(entry.put.cast_unsigned());
 }
 
-/// Of the places from `place` on, before `end`, the entry covers those from the first of these two on, before the
-/// second.
+/// The places from `place` on and before `end` that the entry covers: the first of them, and the first one behind them.
+/// The two are equal if it covers none.
 fn covered(entry: &Damage, place: u64, end: u64) -> (u64, u64)
     requires { place ≤ end }
     ensures { IsCovered entry.now place end result.0 result.1 }

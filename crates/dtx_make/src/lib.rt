@@ -1,4 +1,4 @@
-//! Made streams, workloads that a few numbers tell whole; and damage laid over the bytes of a file.
+//! Made streams, which are workloads given by a seed and a length, and damage laid over the bytes of a file.
 #![tactic(auto)]
 
 pub mod laws;

@@ -14,15 +14,15 @@ const PAYLOAD: usize = PACKET - HEADER;
 /// The place of a field at which a placeholder of an operations packet stands.
 const PLACEHOLDER_PLACE: u64 = 100;
 
-/// The multiplier of the numbers whose highest bytes are a payload, which follow each other modulo 2^64.
+/// The multiplier of a linear congruential generator modulo 2^64. The highest bytes of its numbers are a payload.
 const MULTIPLIER: u64 = 6_364_136_223_846_793_005;
 
-/// What is added to each of them, and for each index to the first.
+/// The generator's increment. A packet's index times the increment is added to the packet's first number.
 const INCREMENT: u64 = 1_442_695_040_888_963_407;
 
-/// Packet `index` of the made stream of that seed. In each field of 312 packets packet 100 is a placeholder, with
-/// nothing but zeros behind its header. The others have payloads that look like noise, and their index modulo 16 as
-/// counter. A made stream is a workload and no legal programme.
+/// Packet `index` of the made stream of a seed. In each field of 312 packets packet 100 is a placeholder, with nothing
+/// but zeros behind its header. The others have payloads that look like noise, and their index modulo 16 as counter. A
+/// made stream is a workload and no legal programme.
 #[tactic(auto, unfolding(crate::specs::Made::made_packet))]
 pub fn packet(seed: u64, index: u64) -> Packet
     ensures { result.0 ≡ made_packet seed index }
@@ -35,7 +35,7 @@ pub fn packet(seed: u64, index: u64) -> Packet
     }
 }
 
-/// The packet of these two parts.
+/// The packet with this header and this payload.
 fn joined(header: &[u8; HEADER], payload: &[u8; PAYLOAD]) -> Packet
     ensures { result.0 ≡ header.now ++ payload.now }
 {
@@ -45,7 +45,7 @@ fn joined(header: &[u8; HEADER], payload: &[u8; PAYLOAD]) -> Packet
     Packet(bytes)
 }
 
-/// The highest bytes of the numbers behind the first one.
+/// The payload of a packet: the highest bytes of the numbers behind its first one.
 fn payload(seed: u64, index: u64) -> [u8; PAYLOAD]
     ensures { result ≡ made_payload seed index }
 {
@@ -58,7 +58,7 @@ fn payload(seed: u64, index: u64) -> [u8; PAYLOAD]
     bytes
 }
 
-/// The number with which a packet begins.
+/// The generator's first number for a packet.
 fn first(seed: u64, index: u64) -> u64
     ensures { result ≡ first_number seed index }
 {
@@ -68,7 +68,7 @@ fn first(seed: u64, index: u64) -> u64
         .wrapping_add(shift)
 }
 
-/// The number behind that one.
+/// The generator's next number.
 fn next(number: u64) -> u64
     ensures { result ≡ next_number number }
 {

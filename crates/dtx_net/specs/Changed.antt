@@ -1,4 +1,4 @@
--- What a plan's events make of a packet (the profile's own).
+-- Packets as a plan's events change them (the profile's own).
 use Rattle.std.specs.Prelude.{ℕ, Result, Ok, Err, List, bit_xor, slice_index, slice_set}
 use Rattle.dtx_packets.specs.Packet.{sync_of, counter_of}
 use Rattle.dtx_ops.specs.declared.fields.Ops.{Ops}
@@ -10,8 +10,8 @@ use Rattle.dtx_ops.specs.Spelling.{spelling}
 abbrev pub flipped_packet : List ℕ → ℕ → ℕ → List ℕ
 flipped_packet packet at with = slice_set packet at (bit_xor (slice_index packet at) with)
 
--- The spelling of what the packet reads as, but for the states, with the packet's byte 0 and counter. A packet that
--- isn't read stays.
+-- An operations packet with these states. Its other fields are those that the packet reads as, and byte 0 and counter
+-- are the packet's own. A packet that doesn't read stays.
 abbrev pub lied_by : List ℕ → List ℕ → Result Ops OpsNo → List ℕ
 lied_by packet states (Ok ops) = spelling (record ops { states = states }) (counter_of packet) (sync_of packet)
 lied_by packet states (Err why) = packet

@@ -3,7 +3,7 @@ use Rattle.std.specs.Prelude.{ℕ, ◌-◌, ◌==◌, Option, Some, None, List, 
 use Rattle.std.specs.Prelude.{slice_index_or}
 use Rattle.dtx_net.specs.Steps.{Step}
 
--- what is done with the transmitter at a place alone: the packets that it is given, and its restarts
+-- the steps of the transmitter at a place alone: the packets that it is given, and its restarts
 abbrev pub own_steps : ℕ → List Step → List (Option (List ℕ))
 own_steps who steps = map (λ step. step.packet) (filter (λ step. step.who == who) steps)
 
@@ -17,11 +17,11 @@ lives_from life (None ∷ steps) = life ∷ lives_from [] steps
 unfoldable pub lives_of : ℕ → List Step → List (List (List ℕ))
 lives_of who steps = lives_from [] (own_steps who steps)
 
--- the one that goes on
+-- the last life, which goes on
 unfoldable pub last_life : ℕ → List Step → List (List ℕ)
 last_life who steps = slice_index_or (lives_of who steps) (length (lives_of who steps) - 1) []
 
--- those before it, each of which ended with a restart
+-- the lives before the last one, each of which ended with a restart
 unfoldable pub ended_lives : ℕ → List Step → List (List (List ℕ))
 ended_lives who steps = take (length (lives_of who steps) - 1) (lives_of who steps)
 

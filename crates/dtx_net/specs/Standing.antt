@@ -18,14 +18,14 @@ pub record StandsFor (ts : List Transmitter) (net : Net) (steps : List Step) : T
       → slice_get net.exciters.items who ≡ Some e
       → exciter.StandsFor t.address t.delay e (last_life who steps)
 
--- that many exciters stand for nothing, as the first of these transmitters
+-- n new exciters, those of the first n transmitters
 pub record AreNew (n : ℕ) (ts : List Transmitter) (exciters : List Exciter) : Type 0 where
   pub long : length exciters ≡ n
   pub each : (who : ℕ) (t : Transmitter) (e : Exciter) → slice_get ts who ≡ Some t → slice_get exciters who ≡ Some e
       → exciter.StandsFor t.address t.delay e []
 
--- What becomes of a network, and what it answers and gives, where the transmitter at a place is given a packet behind
--- these steps.
+-- The network after the transmitter at a place is given a packet behind these steps, its answer, and the segments that
+-- it gives.
 pub record IsGiven (ts : List Transmitter) (steps : List Step) (who : ℕ) (t : Transmitter) (packet : List ℕ) (net : Net)
     (answered : Told) (count : ℕ) (symbols : List ℤ) : Type 0 where
   pub answer : answered ≡ last_answer t.address t.delay (last_life who steps ++ packet ∷ [])

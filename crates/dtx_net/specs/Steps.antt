@@ -9,8 +9,7 @@ unfoldable pub use Rattle.dtx_plan.specs.TransmitterTable.{transmitter_place}
 use Rattle.dtx_plan.specs.Sound.{to_of}
 use Rattle.dtx_net.specs.Changed.{flipped_packet, lied_packet}
 
--- One packet is given to the transmitter at a place of the plan's list, or, where there is none, that transmitter is
--- restarted.
+-- The transmitter at place `who` of the plan's list is given a packet, or restarted if there is no packet.
 pub record Step : Type 0 where
   pub who : ℕ
   pub packet : Option (List ℕ)
@@ -33,7 +32,7 @@ actions_of feed (Flip to from at with) = Some (flipped_packet (feed_packet feed 
 actions_of feed (Lie to from states) = Some (lied_packet (feed_packet feed from) states) ∷ []
 actions_of feed (Restart to) = None ∷ []
 
--- these done with the transmitter at a place, and with none where there is none
+-- the steps that do these with the transmitter at a place, or no step if there is no place
 abbrev pub steps_at : Option ℕ → List (Option (List ℕ)) → List Step
 steps_at None actions = []
 steps_at (Some who) actions = map (λ packet. record { who = who; packet = packet }) actions
@@ -42,6 +41,6 @@ steps_at (Some who) actions = map (λ packet. record { who = who; packet = packe
 unfoldable pub steps_of : List Transmitter → List (List ℕ) → Event → List Step
 steps_of ts feed event = steps_at (transmitter_place (to_of event) ts) (actions_of feed event)
 
--- those of all events, in order
+-- the steps of all events, in order
 unfoldable pub schedule : List Transmitter → List (List ℕ) → List Event → List Step
 schedule ts feed events = flat_map (steps_of ts feed) events

@@ -1,4 +1,4 @@
-// What events of a plan make of a packet.
+// Packets as events of a plan change them.
 ghost use Rattle.std.specs.Prelude.{◌≡◌, ◌<◌};
 ghost use Rattle.dtx_net.specs.Changed.{flipped_packet, lied_packet};
 
@@ -17,7 +17,7 @@ pub fn flipped(packet: &Packet, at: u8, with: u8) -> Packet
     changed
 }
 
-/// The packet with other states, as `Net::lied` says, by these tables of the code.
+/// The packet with other states, as `Net::lied` describes. `corrector` has the tables of the code.
 #[tactic(auto, unfolding(crate::specs::Changed::lied_packet))]
 pub(crate) fn lied_by(corrector: &Corrector, packet: &Packet, states: &States) -> Packet
     ensures { result.0 ≡ lied_packet packet.now.0 states.now }

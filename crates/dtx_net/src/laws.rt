@@ -11,9 +11,9 @@ ghost use Rattle.dtx_net.specs.Steps.{Step, packet_step, restart_step, transmitt
 ghost use Rattle.dtx_net.specs.Lives.{own_steps, joined_steps, lives_of, last_life, ended_lives};
 ghost use Rattle.dtx_net.specs.Sent.{sent_segments, lines_of};
 
-/// What a transmitter sends and what is logged of it are the same in any two schedules that give it the same lives. So
-/// they are in any two in which the same is done with it, whatever is done with others and when. Steps of others,
-/// anywhere among its own, change none of its lives.
+/// A transmitter sends and logs the same in any two schedules that give it the same lives. Two schedules do so if they
+/// have the same steps of that transmitter, whatever is done with others and when. Steps of others, anywhere among its
+/// own, change none of its lives.
 pub fn interleavings()
     ensures segments { (t : Transmitter) (who : ℕ) (steps others : List Step) → lives_of who steps ≡ lives_of who others
         → sent_segments t who steps ≡ sent_segments t who others }
@@ -29,7 +29,7 @@ pub fn interleavings()
         → lives_of who (steps ++ step ∷ []) ≡ lives_of who steps }
 {}
 
-/// A transmitter's lives, with a restart between any two, are all that is done with it, in order.
+/// A transmitter's lives, joined with a restart between any two, are all its steps in order.
 pub fn lives_are_cut()
     ensures { (who : ℕ) (steps : List Step) → joined_steps (lives_of who steps) ≡ own_steps who steps }
 {}
@@ -46,7 +46,8 @@ pub fn one_step_more()
         → lives_of who (steps ++ restart_step who ∷ []) ≡ lives_of who steps ++ [] ∷ [] }
 {}
 
-/// With a packet more a transmitter sends what it gives then, and the line of its answer is logged.
+/// One more packet adds the segments that it gives to what the transmitter sends, and the line of its answer to the
+/// log.
 pub fn one_packet_is_sent()
     ensures segments { (t : Transmitter) (who : ℕ) (steps : List Step) (packet : List ℕ)
         → sent_segments t who (steps ++ packet_step who packet ∷ []) ≡ sent_segments t who steps
@@ -58,7 +59,7 @@ pub fn one_packet_is_sent()
         (last_answer t.address t.delay (last_life who steps ++ packet ∷ [])) }
 {}
 
-/// With a restart nothing is sent, and it is logged with the number of segments so far.
+/// A restart sends nothing. It is logged with the number of segments so far.
 pub fn one_restart_is_logged()
     ensures segments { (t : Transmitter) (who : ℕ) (steps : List Step)
         → sent_segments t who (steps ++ restart_step who ∷ []) ≡ sent_segments t who steps }
@@ -67,7 +68,7 @@ pub fn one_restart_is_logged()
         ++ restart (length (sent_segments t who steps)) ∷ [] }
 {}
 
-/// The place of an address is the one at which it stands, and there is none exactly where no transmitter has it.
+/// The place of an address is the index of the transmitter that has it. There is none exactly if no transmitter has it.
 pub fn places()
     ensures found { (ts : List Transmitter) (address who : ℕ) → transmitter_place address ts ≡ Some who
         → (t : Transmitter) × (slice_get ts who ≡ Some t) × (t.address ≡ address) }

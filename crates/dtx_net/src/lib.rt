@@ -1,4 +1,4 @@
-//! The core of a network: all of its exciters, each given packets and restarted in any order.
+//! The core of a network: all of its exciters. Each is given packets and restarted, in any order.
 #![tactic(auto)]
 
 mod changed;

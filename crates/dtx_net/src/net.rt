@@ -7,13 +7,14 @@ use dtx_exciter::{Corrector, Exciter};
 use dtx_plan::Transmitters;
 use std::rc::Rc;
 
-/// The exciters of a network, each at the place of its transmitter in the plan's list. They are given packets and
-/// restarted one by one, in any order, and none sees what another one is given (the profile's own).
+/// The exciters of a network, each at the place of its transmitter in the plan's list. The caller gives packets to them
+/// and restarts them one by one, in any order. What one exciter is given has no effect on another one (the profile's
+/// own).
 #[derive(Drop)]
 pub struct Net {
     transmitters: Transmitters,
     exciters: Vec<Exciter>,
-    /// That of the exciters, for operations packets that are to lie.
+    /// The corrector of the exciters, with which `lied` reads and writes operations packets.
     corrector: Rc<Corrector>,
     ghost same: { length transmitters ≡ vec_len exciters },
 }

@@ -1,5 +1,6 @@
--- What is given back of a stretch of a feed where its segments are received, damaged or not (the profile's own; what is
--- sent is that of ATSC A/53 Part 2). A packet is its list of 188 bytes, a segment the list of its 832 symbols.
+-- Which packets a receiver gives back of a feed's stretch, from its segments as received, damaged or not (the profile's
+-- own; what is sent is that of ATSC A/53 Part 2). A packet is its list of 188 bytes, a segment the list of its 832
+-- symbols.
 use Rattle.std.specs.Prelude.{ℕ, ℤ, ◌≡◌, ◌+◌, ◌-◌, ◌*◌, ◌/◌, ◌%◌, ◌<◌, ◌≤◌, true, Some, List, [], ◌∷◌, ◌++◌, EachIndex}
 use Rattle.std.specs.Prelude.{length, map, drop, slice_get, slice_index_or}
 use Rattle.std.specs.List.{flat_map, list_all}
@@ -41,8 +42,8 @@ word_of run j = word_at 207 52 4 (bytes_in run) j
 pub record CanBeGivenBack (feed : List (List ℕ)) (end f : ℕ) (run : List (List ℤ)) (j : ℕ) : Type 0 where
   -- It is given for the run: its 207 bytes are all among the run's.
   pub given : IsComplete 207 52 4 (length (bytes_in run)) j
-  -- They all lie in segments of the stretch: 828 bytes make a group, which are four data segments, and the last of them
-  -- is one of the stretch's.
+  -- They all lie in segments of the stretch. 828 bytes make a group of four data segments, and the last of these
+  -- segments is one of the stretch's.
   pub inside : (i : ℕ) → i < 207 → f + 4 * (codeword_byte_place 52 4 (207 * j + i) / 828) + 3 ≤ last_packet end
   -- Its word differs from the codeword of packet f + j of the feed in at most ten bytes.
   pub near : IsNear feed (f + j) (word_of run j)
@@ -57,8 +58,9 @@ pub record IsBack (feed : List (List ℕ)) (got : List (List ℤ)) (place n : �
   pub packet : slice_get (received got) place ≡ Some (as_received (slice_index_or feed n []))
   pub good : slice_get (all_packets got) place ≡ Some (as_corrected feed n word)
 
--- Whatever is received, the stretch from packet k to packet end is at segment s of it. Then a run that begins at a
--- field sync of the stretch gives each of its readable packets back, behind the packets of the runs before it.
+-- The segments `got` are received, with the stretch from packet k to packet end at segment s of them. A run that begins
+-- at a field sync of the stretch gives back each packet that can be given back, behind the packets of the runs before
+-- it.
 abbrev pub GivesBack : List (List ℕ) → ℕ → ℕ → ℕ → List (List ℤ) → Type 0
 GivesBack feed k end s got =
     (f n j : ℕ) (earlier later : List (ℕ × ℕ)) → BeginsField k end f
@@ -69,13 +71,13 @@ GivesBack feed k end s got =
 
 -- ---- the stretch alone
 
--- What is received of the stretch alone: as many segments, and the damage is slight.
+-- The stretch alone is received: as many segments as it has, with slight damage.
 pub record IsReceivedAlone (feed : List (List ℕ)) (k end : ℕ) (got : List (List ℤ)) : Type 0 where
   pub as_many : length got ≡ length (stretch_of feed k end)
   pub long : EachIndex got (λ i. length (slice_index_or got i []) ≡ 832)
   pub slight : IsSlight feed (segment_place k) (stretch_of feed k end) got
 
--- All is given back from packet f on. There is just one run, which begins at the field sync before packet f. What is
+-- All is given back from packet f on. There is exactly one run, which begins at the field sync before packet f. What is
 -- received is exactly the feed's packets from there on, with 0x47 as their sync bytes: one for each number that is
 -- given for the run, in order. None is flagged.
 pub record IsAllBack (feed : List (List ℕ)) (k f : ℕ) (got : List (List ℤ)) : Type 0 where
@@ -84,7 +86,7 @@ pub record IsAllBack (feed : List (List ℕ)) (k f : ℕ) (got : List (List ℤ)
       (numbers_in (drop (to_field k f) got))
   pub good : list_all (λ r. r.good) (all_packets got) ≡ true
 
--- Where the stretch holds a field sync and is received alone with slight damage, all is given back from its first field
+-- If the stretch holds a field sync and is received alone with slight damage, all is given back from its first field
 -- on.
 abbrev pub GivesAllBack : List (List ℕ) → ℕ → ℕ → List (List ℤ) → Type 0
 GivesAllBack feed k end got = BeginsField k end (next_field k) → IsReceivedAlone feed k end got

@@ -1,6 +1,6 @@
--- What an exciter emits that is given a feed unchanged from a mark on. It is locked to the feed from that mark or the
--- third one on, as what it was given before decides. From its first listing on that begins 52 or more packets behind
--- that mark, it emits exactly the feed's own symbols (ATSC A/53 Part 2), at moments of the plan.
+-- What an exciter emits when it is given a feed unchanged from a mark on. It is locked to the feed from that mark or
+-- from the third one on, depending on what it was given before. From its first listing on that begins 52 or more
+-- packets behind that mark, it emits exactly the feed's own symbols (ATSC A/53 Part 2), at moments of the plan.
 use Rattle.std.specs.Prelude.{ℕ, ℤ, ◌≡◌, ◌+◌, ◌-◌, ◌*◌, ◌/◌, ◌%◌, ◌<◌, ◌≤◌, true, false, List, ◌++◌, All, length}
 use Rattle.std.specs.Prelude.{slice_range, pos, ◌+ℤ◌, ◌≤ℤ◌}
 use Rattle.dtx_cadence.specs.Anchor.{has_mark}
@@ -19,7 +19,7 @@ use Rattle.dtx_network.specs.Orders.{has_listing}
 use Rattle.dtx_network.specs.Presets.{presets}
 
 -- A life is given the feed unchanged from a mark on: it holds the n packets of the feed from packet mark on, in a row.
--- Before them it holds whatever it holds, and so behind them.
+-- It may hold any packets before and behind them.
 pub record IsFed (feed life : List (List ℕ)) (mark n : ℕ) : Type 0 where
   pub is_mark : mark % 624 ≡ 0
   pub inside : mark + n ≤ length feed
@@ -47,8 +47,7 @@ abbrev pub HaveNoMark : List (List ℕ) → Type 0
 HaveNoMark packets = (i : ℕ) → i < length packets → has_mark (syncs packets) i ≡ false
 
 -- An exciter is fed anew: it is given packets without a mark, or none, and then the n packets of a plan's feed from
--- packet mark on. It is that of a transmitter of the plan, and its delay, which may be another one than the plan's, is
--- in time.
+-- packet mark on. It is that of a transmitter of the plan. Its delay may differ from the plan's, and is in time.
 pub record IsFedAnew (plan : Plan) (stream : List (List ℕ)) (t : Transmitter) (delay : ℕ) (earlier : List (List ℕ))
     (mark n : ℕ) : Type 0 where
   pub is_plan : IsPlan plan
@@ -68,13 +67,13 @@ last_packet end = 4 * (end / 4) - 1
 unfoldable pub stretch_of : List (List ℕ) → ℕ → ℕ → List (List ℤ)
 stretch_of feed k end = slice_range (a53 feed) (segment_place k) (segment_place (last_packet end) + 1)
 
--- the segment of which a line speaks, by how many there are before it
+-- the segment that a line names, as the number of segments before it
 abbrev pub segment_of : Line → ℕ
 segment_of (preset n frame packet tick grain) = n
 segment_of (mute n why) = n
 segment_of (restart n) = n
 
--- the segment behind those of which it speaks: a preset speaks of its group's four data segments, another line of none
+-- the segment behind those of a line: a preset is about its group's four data segments, and another line about none
 abbrev pub line_end : Line → ℕ
 line_end (preset n frame packet tick grain) = n + 4
 line_end (mute n why) = n
@@ -102,16 +101,16 @@ around lives_before fed lives_behind = record {
 abbrev pub sent_before : Transmitter → Around → ℕ
 sent_before t a = length (emission_over t.address t.delay a.lives_before)
 
--- and how many these and it send, where it is given packets mark to end of the feed
+-- how many segments those lives and this one send, if it is given packets mark to end of the feed
 abbrev pub sent_with : Transmitter → List (List ℕ) → ℕ → ℕ → Around → ℕ
 sent_with t feed mark end a = sent_before t a
     + length (emission t.address t.delay (a.before ++ (slice_range feed mark end ++ a.behind)))
 
--- A transmitter emits exactly, where one of its lives is given packets mark to end of the feed: this is what it means.
--- Its segments hold the stretch, in a row and with nothing between. Its log holds the presets of the stretch's orders,
--- at their moments. What comes before the stretch and behind it is told too, so the stretch is the one that this life
--- sends. Each earlier line speaks of nothing behind the stretch's beginning, and each later one of nothing before its
--- end.
+-- The meaning of "a transmitter emits exactly", when one of its lives is given packets mark to end of the feed. Its
+-- segments hold the stretch, in a row and with nothing between. Its log holds the presets of the stretch's orders, at
+-- their moments. The record also fixes what stands before the stretch and behind it, so the stretch is the one that
+-- this life sends. Each earlier line is about nothing behind the stretch's beginning, and each later one about nothing
+-- before its end.
 pub record Emits (plan : Plan) (t : Transmitter) (feed : List (List ℕ)) (mark k end : ℕ) (a : Around)
     (segments : List (List ℤ)) (lines : List Line) : Type 0 where
   pub before : List (List ℤ)

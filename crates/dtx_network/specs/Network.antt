@@ -1,10 +1,10 @@
 -- The headline of a network, as one definition (the profile's own, in the manner of ATSC A/110; the symbols are those
--- of ATSC A/53 Part 2). It is for every packet stream and schedule. An exciter is given, from any earlier state, the
+-- of ATSC A/53 Part 2). It holds for every packet stream and schedule. An exciter is given, from any earlier state, the
 -- adapter's feed unchanged through three cadence marks and on. From its first listing whose group starts 52 or more
 -- packets later, it emits exactly the symbols of that feed. It does so at moments that differ between transmitters only
 -- by the signalled offsets. Symbols with at most ten wrong bytes per codeword give the feed's packets back. The 52
--- packets count from the first of the three marks where the exciter wasn't locked there or was locked in step with it,
--- else from the third.
+-- packets count from the first of the three marks if the exciter wasn't locked there or was locked in step with it.
+-- Otherwise they count from the third.
 use Rattle.std.specs.Prelude.{ℕ, ℤ, ◌≡◌, ◌≢◌, ◌⊎◌, ◌+◌, ◌-ℤ◌, ◌/◌, ◌%◌, ◌≤◌, Some, List, ◌∷◌, ◌++◌, length, map}
 use Rattle.std.specs.Prelude.{slice_get}
 use Rattle.std.specs.List.{Contains, AllByRecursion}
@@ -36,8 +36,8 @@ AreOfOthers t events = AllByRecursion (λ event. to_of event ≢ t.address) even
 -- A transmitter joins the feed. It stands at a place of the plan's list and is in time. One of its lives in the
 -- schedule, between the lives before it and those behind it, is given `count` packets of the feed from a mark on,
 -- whatever it was given before. Among these packets is its own first listing that counts, in the group from packet k
--- on. It counts behind the packet from which the transmitter is locked to the feed, as what that life was given before
--- decides.
+-- on. A listing counts 52 or more packets behind the packet from which the transmitter is locked to the feed. What that
+-- life was given before decides which packet that is.
 pub record Joined (plan : Plan) (stream : List (List ℕ)) (events : List Event) : Type 0 where
   pub t : Transmitter
   pub who : ℕ
@@ -53,7 +53,7 @@ pub record Joined (plan : Plan) (stream : List (List ℕ)) (events : List Event)
   pub fed : IsFed (feed plan stream) life mark count
   pub listing : IsFirstListing t.address (feed plan stream) (locked_from fed.earlier mark) (mark + count) k
 
--- What a transmitter does that has joined the feed, and what is given back of it.
+-- What a transmitter sends once it has joined the feed, and which packets are given back of that.
 pub record Follows (plan : Plan) (stream : List (List ℕ)) (events : List Event)
     (x : Joined plan stream events) : Type 0 where
   -- Its symbol file holds exactly the feed's own symbols from the first listing's group to the last whole group that it
@@ -73,14 +73,14 @@ pub record Follows (plan : Plan) (stream : List (List ℕ)) (events : List Event
   pub unmuted : (n : ℕ) (why : Why) → Contains (lines_of x.t x.who (steps_under plan stream events)) (mute n why)
       → (n ≤ length emits.before)
       ⊎ (length emits.before + length (stretch_of (feed plan stream) x.k (x.mark + x.count)) ≤ n)
-  -- Whatever is received, with those symbols at that segment of it, a run that begins at one of their field syncs gives
-  -- packets back. It gives each packet back whose 207 bytes are all among the run's and lie in segments of theirs, and
-  -- whose word has at most ten wrong bytes.
+  -- Let any segments be received that hold those symbols at that segment. A run that begins at one of their field syncs
+  -- gives back each packet whose 207 bytes are all among the run's and lie in segments of theirs, and whose word has at
+  -- most ten wrong bytes.
   pub gives_back : (got : List (List ℤ)) → GivesBack (feed plan stream) x.k (x.mark + x.count) (length emits.before) got
   -- Those symbols alone, received with slight damage, give all their packets back and no other.
   pub gives_all_back : (got : List (List ℤ)) → GivesAllBack (feed plan stream) x.k (x.mark + x.count) got
 
--- Two logs hold these lines, which are presets of one packet of one frame, and their moments differ by so many ticks
+-- Two logs hold these lines, which are presets of one packet of one frame, and their moments differ by `ticks` ticks
 -- and some whole seconds.
 pub record AreApart (ticks : ℤ) (log log_other : List Line) (one other : Line) : Type 0 where
   pub logged : Contains log one

@@ -1,5 +1,5 @@
--- What a feed orders, group by group, and whom a group lists (the profile's own, in the manner of ATSC A/110). Packets
--- are counted from 0, and a group is four of them.
+-- The orders of a feed, group by group, and the transmitters that a group lists (the profile's own, in the manner of
+-- ATSC A/110). Packets are counted from 0, and a group is four of them.
 use Rattle.std.specs.Prelude.{ℕ, ◌≡◌, ◌/◌, ◌%◌, ◌==◌, ◌&&◌, nat_le, Bool, false, Option, Some, None, option_map, find}
 use Rattle.std.specs.Prelude.{if◌then◌else◌, List, [], map, take, slice_index_or}
 use Rattle.std.specs.List.{range_with_len, list_any}
@@ -39,22 +39,22 @@ unfoldable pub has_listing : ℕ → List (List ℕ) → ℕ → Bool
 has_listing address packets g =
     list_any (λ k. is_listing address (reads (slice_index_or packets k []))) (range_with_len g 4)
 
--- how many pages a plan's transmitters take, one an order: after so many orders each was listed
+-- how many pages a plan's transmitters take: each order has one page, so this many orders list all transmitters
 abbrev pub pages_in : Plan → ℕ
 pages_in plan = pages_of (paging_of plan.transmitters 0)
 
 -- ---- what a group of a feed orders
 
--- What the group from packet g of a feed on orders: what the group's first operations packet says. This counts 52 or
--- more packets behind the feed's start.
+-- The order in the group from packet g of a feed on: the fields of the group's first operations packet. It counts only
+-- 52 or more packets behind the feed's start.
 unfoldable pub order_of : Plan → List (List ℕ) → ℕ → Option Ops
 order_of plan stream g =
     if nat_le 52 g && (g % 4 == 0) then option_map (λ k. ops_at plan stream (take k (feed plan stream)) k)
     (first_operations stream g) else None
 
--- Fields are what the group from packet g of a feed on orders. They are the states that the feed's coders have before
--- the group, the stamp of its frame, and the plan's maximum delay. They are also its frame, the page whose turn it is,
--- and the plan's transmitters on that page.
+-- These fields are the order in the group from packet g of a feed on. They are the states that the feed's coders have
+-- before the group, the stamp of its frame, and the plan's maximum delay. They are also its frame, the page whose turn
+-- it is, and the plan's transmitters on that page.
 pub record IsOrder (plan : Plan) (stream : List (List ℕ)) (g : ℕ) (ops : Ops) : Type 0 where
   pub states : ops.states ≡ states_of (take g (feed plan stream))
   pub stamp : ops.stamp ≡ stamp_of plan.start (g / 624)

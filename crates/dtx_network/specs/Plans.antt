@@ -21,6 +21,6 @@ pub record IsStream (stream : List (List ℕ)) : Type 0 where
 abbrev pub IsListed : Plan → Transmitter → Type 0
 IsListed plan t = Contains plan.transmitters t
 
--- the transmitter is in time: its delay is at most the plan's maximum delay and its offset
+-- the transmitter is in time: its delay is at most the plan's maximum delay plus its offset
 abbrev pub IsInTime : Plan → Transmitter → Type 0
 IsInTime plan t = pos t.delay ≤ℤ (pos plan.max_delay +ℤ t.offset)

@@ -13,7 +13,7 @@ use Rattle.dtx_network.specs.Orders.{has_order}
 unfoldable pub orders : List (List ℕ) → ℕ → ℕ → List ℕ
 orders feed k end = filter (λ g. (g % 4 == 0) && has_order feed g) (range_with_len k (end - 3 - k))
 
--- the moment of the data segment of packet g at a transmitter with this offset: under the stamp of the packet's frame
+-- the moment of the data segment of packet g at a transmitter with this offset, from the stamp of the packet's frame
 -- and the plan's maximum delay
 abbrev pub moment_at : Plan → ℤ → ℕ → Moment
 moment_at plan offset g = moment_of (stamp_of plan.start (g / 624)) plan.max_delay offset (g % 624)

@@ -1,4 +1,4 @@
-//! Laws of the definitions.
+//! Laws of the definitions, up to the headline of a network.
 
 ghost use Rattle.std.specs.Prelude.{◌≡◌, ◌≢◌, ℕ, ℤ, ◌+◌, ◌-◌, ◌*◌, ◌/◌, ◌%◌, ◌<◌, ◌≤◌, ◌==◌, ◌&&◌, ◌-ℤ◌, true, false};
 ghost use Rattle.std.specs.Prelude.{Some, None, if◌then◌else◌, Ok, List, [], ◌∷◌, ◌++◌, length, map, take, slice_get};
@@ -46,23 +46,23 @@ ghost use Rattle.dtx_network.specs.Headline.{HasNoListing, IsFedAnew, Around, ar
 
 use dtx_exciter::laws::sent_packets_give;
 
-/// Every plan that the walk over a file's bytes gives is one that a network takes.
+/// Every plan that is read from a file's bytes is one that a network takes.
 pub fn plans_that_are_read()
     ensures { (bytes : List ℕ) (plan : Plan) → plan_of bytes ≡ Ok plan → IsPlan plan }
 {}
 
-/// The exciter of each listed transmitter that is in time locks to the feed of the plan. Its marks stand at each 624th
-/// packet. Its orders set the states of its own coders, and all have one number of pages. Orders of one page list the
-/// same transmitters. Each order that lists the transmitter has its offset and serves it.
+/// The exciter of each listed transmitter that is in time locks to the feed of the plan. The feed's marks stand at each
+/// 624th packet. The feed's orders set the states of its own coders, and all have one number of pages. Orders of one
+/// page list the same transmitters. Each order that lists the transmitter has its offset and serves it.
 pub fn feed_locks()
     ensures { (plan : Plan) (stream : List (List ℕ)) (t : Transmitter) → IsPlan plan → IsStream stream → IsListed plan t
         → IsInTime plan t → IsFeed t.address t.delay t.offset (feed plan stream) }
 {}
 
-/// A group of a feed orders something exactly where it begins 52 or more packets behind the feed's start and holds an
-/// operations packet. It holds one exactly where its stream holds a placeholder. It orders what the first of them says.
-/// The order has the entry of a transmitter of the plan, with its own offset, exactly where the transmitter stands on
-/// the group's page.
+/// A group of a feed has a counting order exactly if it begins 52 or more packets behind the feed's start and holds an
+/// operations packet. It holds one exactly if the stream's group holds a placeholder. The order is the fields of the
+/// group's first operations packet. It has the entry of a transmitter of the plan, with the transmitter's own offset,
+/// exactly if the transmitter stands on the group's page.
 pub fn orders_of_a_feed()
     ensures exact { (plan : Plan) (stream : List (List ℕ)) (g : ℕ) → IsPlan plan → IsStream stream
         → counting_order (readings (feed plan stream)) g ≡ order_of plan stream g }
@@ -83,8 +83,9 @@ pub fn orders_of_a_feed()
         ≡ (if is_listed (paging_at plan stream (g / 4)) who then Some (entry_of t) else None) }
 {}
 
-/// A group of a feed lists a transmitter of the plan exactly where it holds an operations packet and its page is the
-/// transmitter's. At most 35 transmitters take one page: then it lists each exactly where it holds one.
+/// A group of a feed lists a transmitter of the plan exactly if it holds an operations packet and its page is the
+/// transmitter's. Up to 35 transmitters take one page. Then a group lists each of them exactly if it holds an
+/// operations packet.
 pub fn listings_of_a_feed()
     ensures exact { (plan : Plan) (stream : List (List ℕ)) (t : Transmitter) (who g : ℕ) → IsPlan plan
         → IsStream stream → slice_get plan.transmitters who ≡ Some t → g % 4 ≡ 0
@@ -117,11 +118,11 @@ pub fn stretch_of_a_feed()
         → stretch_of feed k end ≡ stretch feed k end }
 {}
 
-/// For every stream and all lives of a listed transmitter that is in time. Let one life be given the feed unchanged
-/// from a mark on, whatever it held before and holds behind. Then the transmitter emits exactly the feed's own segments
-/// from its first listing on. That is the first one that begins 52 or more packets behind the mark from which it is
-/// locked to the feed. In front of these segments stands what its earlier lives send and what this one sends before.
-/// Behind them stands what this one sends then and what its later lives send. The same holds of its lines.
+/// This holds for every stream and all lives of a listed transmitter that is in time. Let one life be given the feed
+/// unchanged from a mark on, with any packets before and behind. Then the transmitter emits exactly the feed's own
+/// segments from its first listing on. That is the first one that begins 52 or more packets behind the mark from which
+/// it is locked to the feed. In front of these segments stands what its earlier lives send and what this one sends
+/// before. Behind them stands what this one sends later and what its later lives send. The same holds of its lines.
 pub fn emits()
     ensures { (plan : Plan) (stream : List (List ℕ)) (t : Transmitter) (xs ys : List (List (List ℕ)))
         (life : List (List ℕ)) (mark n k : ℕ)
@@ -183,9 +184,9 @@ pub fn from_a_mark()
         → life_lines t.address delay 0 (earlier ++ slice_range (feed plan stream) mark (mark + n)) ≡ [] }
 {}
 
-/// The first preset of a stretch is that of its first group, and speaks of the stretch's first segment. Each line of
-/// the log that ends behind the stretch's beginning and begins before its end is one of the stretch's presets. So no
-/// mute speaks of anything between its beginning and its end.
+/// The first preset of a stretch is that of its first group, and names the stretch's first segment. Each line of the
+/// log that ends behind the stretch's beginning and begins before its end is one of the stretch's presets. So no mute
+/// is logged between its beginning and its end.
 pub fn lines_of_a_stretch()
     ensures first { (plan : Plan) (offset : ℤ) (s address : ℕ) (feed : List (List ℕ)) (z end k : ℕ)
         → IsFirstListing address feed z end k
@@ -200,7 +201,7 @@ pub fn lines_of_a_stretch()
 {}
 
 /// At any two transmitters the presets of one group are of one packet of one frame, wherever their stretches begin.
-/// Their moments differ by the offsets' difference, in ticks of 1539 grains, and otherwise by whole seconds.
+/// Their moments differ by the offsets' difference, in ticks of 1539 grains, plus some whole seconds.
 pub fn apart()
     ensures { (plan : Plan) (t u : Transmitter) (s r k l g : ℕ)
         → IsApart (t.offset -ℤ u.offset) (preset_at plan t.offset s k g) (preset_at plan u.offset r l g) }
@@ -211,10 +212,10 @@ pub fn packets_of_a_feed()
     ensures { (plan : Plan) (stream : List (List ℕ)) → IsPlan plan → IsStream stream → ArePackets (feed plan stream) }
 {}
 
-/// Whatever segments are received, the stretch of a feed being at segment s of them, a run that begins at a field sync
-/// of the stretch gives packets back. It gives each packet back of which three things hold. Its 207 bytes are all among
-/// the run's, they lie in segments of the stretch, and its word has at most ten wrong bytes. The packet is good, has
-/// 0x47 as its sync byte, and stands behind the packets of the runs before it.
+/// Let any segments be received, with the stretch of a feed at segment s of them. A run that begins at a field sync of
+/// the stretch gives back each packet for which three things hold. Its 207 bytes are all among the run's, they lie in
+/// segments of the stretch, and its word has at most ten wrong bytes. The packet is good, has 0x47 as its sync byte,
+/// and stands behind the packets of the runs before it.
 pub fn gives_back()
     ensures { (feed : List (List ℕ)) (k end s : ℕ) (got : List (List ℤ)) → ArePackets feed → end ≤ length feed
         → GivesBack feed k end s got }
@@ -236,15 +237,16 @@ pub fn headline()
         → Headline plan stream events }
 {}
 
-/// What the headline asks of a transmitter can be met at every mark of the feed that has a listing behind it, whatever
-/// happens before and then. One event, which a plan may hold, gives a listed transmitter in time packets of the feed
-/// from a mark on. With it the transmitter joins the feed there, where a whole group among these packets lists it and
-/// begins late enough. The group has to begin 52 or more packets behind the mark from which the transmitter is locked.
-/// What its life was given before decides which mark that is. Its first listing is that group's or an earlier one's.
+/// A transmitter can meet the headline's conditions at every mark of the feed that has a listing behind it, whatever
+/// happens before and after. One event, which a plan may hold, gives a listed transmitter in time packets of the feed
+/// from a mark on. With this event the transmitter joins the feed there, if a whole group among these packets lists it
+/// and begins late enough. The group has to begin 52 or more packets behind the mark from which the transmitter is
+/// locked. What its life was given before decides which mark that is. Its first listing is that group's or an earlier
+/// one's.
 ///
-/// It is locked from the mark on where it was given nothing before. In any state it is locked from the third mark on at
-/// the latest, which is 1,248 packets later. There is such a group where the stream has placeholders in as many of
-/// these groups as the plan has pages.
+/// It is locked from the mark on if it was given nothing before. In any state it is locked from the third mark on at
+/// the latest, which is 1,248 packets later. A group that lists it and begins late enough exists if the stream has
+/// placeholders in as many late enough groups as the plan has pages.
 pub fn joined_is_met()
     ensures met { (plan : Plan) (stream : List (List ℕ)) (t : Transmitter) (who mark n g : ℕ)
         (before after : List Event)
@@ -299,16 +301,16 @@ pub fn sends_the_stretch_alone()
         ≡ stretch_of (feed plan stream) k n }
 {}
 
-/// What the way back asks of the stretch alone can be met, from every packet on: as it was sent it is received with
-/// slight damage.
+/// The stretch alone, received as it was sent, is received with slight damage. This holds from every packet on. So
+/// `gives_all_back` can be used.
 pub fn stretch_is_slight()
     ensures { (feed : List (List ℕ)) (k end : ℕ) → ArePackets feed
         → IsReceivedAlone feed k end (stretch_of feed k end) }
 {}
 
-/// What the way back asks of a word is met by a symbol file as a transmitter leaves it. Whatever stands before the
-/// stretch as it was sent and behind it, take a run that begins at a field sync of the stretch. In it each packet is
-/// readable whose bytes are all among the run's and lie in segments of the stretch.
+/// A symbol file as a transmitter leaves it meets what `gives_back` asks of a packet. Take the stretch as it was sent,
+/// with any segments before and behind it, and a run that begins at a field sync of the stretch. Each packet of the run
+/// can be given back whose bytes are all among the run's and lie in segments of the stretch.
 pub fn stretch_is_readable()
     ensures { (feed : List (List ℕ)) (k end f n j : ℕ) (before after : List (List ℤ)) → ArePackets feed
         → end ≤ length feed → BeginsField k end f
@@ -319,10 +321,10 @@ pub fn stretch_is_readable()
         (length before + to_field k f, n)) j }
 {}
 
-/// A byte of the interleaver is sent in packet 51 behind a mark and comes from before the mark. For each last packet
-/// before the mark there is another one with which byte 50 of that packet 51 is another byte. So 51 packets are too few
-/// for the interleaver to hold the feed's bytes alone. (This speaks of the interleaver's bytes, and not of what an
-/// exciter answers then.)
+/// A byte of the interleaver is sent in packet 51 behind a mark and comes from before the mark. Whatever the last
+/// packet before the mark is, some other packet in its place changes byte 50 of that packet 51. So 51 packets are too
+/// few for the interleaver to hold the feed's bytes alone. (The law is about the interleaver's bytes, and not about
+/// what an exciter answers then.)
 pub fn packet_51_sends_a_byte_from_before()
     ensures { (front packets : List (List ℕ)) (p : List ℕ) → (length front + 1) % 624 ≡ 0 → length p ≡ 188
         → AreBytes p → 52 ≤ length packets
@@ -331,8 +333,8 @@ pub fn packet_51_sends_a_byte_from_before()
         ≢ slice_index (spread (front ++ p ∷ packets)) (207 * (length front + 52) + 50)) }
 {}
 
-/// A packet with which the anchor is lost is answered by a mute for the cadence's sake, and gives no segment. It is
-/// lost with the second one of two packets in a row at which marks are due and missing.
+/// The answer to a packet with which the anchor is lost is `Muted Cadence`, and the packet gives no segment. The anchor
+/// is lost with the second of two marks that are due in a row and missing.
 pub fn a_lost_anchor_mutes()
     ensures told { (address delay : ℕ) (packets : List (List ℕ)) (packet : List ℕ)
         → was_lost (anchor_of packets) (anchor_of (packets ++ packet ∷ [])) ≡ true
@@ -348,8 +350,8 @@ pub fn a_lost_anchor_mutes()
     sent_packets_give();
 }
 
-/// A lock out of step with a feed is lost before the third mark of it that is given in a row. One of the 1,248 packets
-/// before that mark is answered by a mute for the cadence's sake.
+/// A lock out of step with a feed is lost before the third mark of it that is given in a row. The answer to one of the
+/// 1,248 packets before that mark is `Muted Cadence`.
 pub fn a_lock_out_of_step_is_lost()
     ensures { (address delay : ℕ) (offset : ℤ) (feed earlier : List (List ℕ)) (mark j : ℕ)
         → IsFeed address delay offset feed → mark % 624 ≡ 0 → mark + 1248 ≤ length feed → anchor_of earlier ≡ Some j
@@ -359,8 +361,8 @@ pub fn a_lock_out_of_step_is_lost()
 {}
 
 /// One missing mark changes nothing. An exciter is given a feed from a mark on, but one packet of it has another sync
-/// byte. This packet stands 624 or more packets behind the mark from which the exciter is locked. Then it answers and
-/// sends what it would have, as packets that are sent alike do.
+/// byte. This packet stands 624 or more packets behind the mark from which the exciter is locked. Then the exciter
+/// answers and sends what it would have, since the packets are sent alike.
 pub fn one_mark_may_be_missing()
     ensures { (address delay : ℕ) (offset : ℤ) (feed earlier : List (List ℕ)) (mark n i : ℕ) (packet : List ℕ)
         → IsFeed address delay offset feed → mark % 624 ≡ 0 → mark + n ≤ length feed → i % 624 ≡ 0
@@ -381,10 +383,10 @@ pub fn stray_marks_move_nothing()
         → AreSentAlike (earlier ++ slice_range feed mark (mark + n)) (earlier ++ other) }
 {}
 
-/// The feed of a plan is sound. Each operations packet says its place, the states that the feed's own coders have
-/// before its group, and the stamp and the number of its frame. So, watched from its first packet or from any of its
-/// marks on, it is calm. That packet is an anchor, each operations packet stands at its place, no states slip and no
-/// stamp jumps. Nothing else is told.
+/// The feed of a plan is sound. Each operations packet has its place, the states that the feed's own coders have before
+/// its group, and the stamp and the number of its frame. So, watched from its first packet or from any of its marks on,
+/// it is calm. That packet is an anchor, each operations packet stands at its place, no states slip and no stamp jumps.
+/// There are no other notes.
 pub fn a_feed_is_sound()
     ensures sound { (plan : Plan) (stream : List (List ℕ)) → IsPlan plan → IsStream stream
         → IsSoundFeed plan.start plan.max_delay (feed plan stream) }

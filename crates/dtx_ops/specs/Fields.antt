@@ -9,7 +9,7 @@ use Rattle.dtx_ops.specs.declared.paging.Paging.{Paging}
 use Rattle.dtx_ops.specs.declared.paging.Paging.TheVariants.{One, Of}
 use Rattle.dtx_ops.specs.Paging.{count_place}
 
--- the state of coder e is three bits of a number of forty bits, of which it has bits 39 - 3 e to 37 - 3 e
+-- the twelve states in a number of forty bits: that of coder e is its bits 39 - 3 e to 37 - 3 e
 unfoldable pub states_at : ℕ → List ℕ
 states_at number = map (λ e. number / 2 ^ (37 - 3 * e) % 8) (range_with_len 0 12)
 
@@ -49,7 +49,7 @@ behind_count bytes = drop (count_place (paging_in bytes) + 1) bytes
 unfoldable pub entry_in : List ℕ → Entry
 entry_in bytes = record { address = big_number 2 bytes; offset = cast_signed w16 (big_number 2 (drop 2 bytes)) }
 
--- that many entries, one behind the other
+-- the first `count` entries, one behind the other
 unfoldable pub entries_in : ℕ → List ℕ → List Entry
 entries_in count bytes = map (λ i. entry_in (drop (4 * i) bytes)) (range_with_len 0 count)
 

@@ -32,7 +32,7 @@ abbrev pub most_of : Paging → ℕ
 most_of One = 35
 most_of (Of page pages) = 34
 
--- A page has its place: it is below the number of pages, which is at most 30, and its entries are not too many.
+-- The page is below the number of pages, which is at most 30, and its entries are not too many.
 pub record IsPaged (paging : Paging) (entries : ℕ) : Type 0 where
   pub page : page_of paging < pages_of paging
   pub pages : pages_of paging ≤ 30

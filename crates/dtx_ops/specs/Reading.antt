@@ -21,8 +21,8 @@ data_reading bytes = unless (first (data_rules bytes)) (fields bytes)
 unfoldable pub reading : List ℕ → Result Ops OpsNo
 reading packet = unless (first (rules packet)) (fields (unwrap_or (corrected packet) []))
 
--- A packet reads as fields that are valid, where it is an operations packet and the data of its payload's correction
--- are theirs.
+-- A packet reads as these fields. They are valid, it has the packet identifier of operations packets, and the data of
+-- its payload's correction spell them.
 pub record ReadsAs (packet : List ℕ) (f : Ops) : Type 0 where
   pub valid : IsValid f
   pub pid : pid_of packet ≡ 0x1FFA

@@ -40,8 +40,8 @@ head_rules bytes =
     ∷ (nat_le 624 (index_in bytes), Index)
     ∷ [])
 
--- The rules on the page and the count of entries. There are at most 30 pages. The page is below their number, so that
--- this isn't 0. The entries are not too many. The only page is page 0 of 1.
+-- The rules on the page and the count of entries. There are at most 30 pages. The page is below the number of pages,
+-- which therefore isn't 0. The entries are not too many. The only page is page 0 of 1.
 abbrev pub page_rules : Paging → ℕ → List (Bool × OpsNo)
 page_rules paging count =
     ((nat_lt 30 (pages_of paging) || nat_le (pages_of paging) (page_of paging), Page)

@@ -38,13 +38,13 @@ data_of f =
 unfoldable pub spelling : Ops → ℕ → ℕ → List ℕ
 spelling f counter sync = (sync ∷ 0x1F ∷ 0xFA ∷ (0x10 + counter) ∷ []) ++ codeword 184 164 (data_of f)
 
--- an entry's numbers are of 16 bits, the offset's one with a sign
+-- an entry's numbers have 16 bits, and the offset has a sign
 pub record IsEntry (e : Entry) : Type 0 where
   pub address : e.address < 2 ^ 16
   pub offset : FitsSigned w16 e.offset
 
--- Fields are valid: what their types say, that stamp, maximum delay and index are in range, that the page has its
--- place, and that the addresses differ.
+-- Fields are valid: they have the ranges of their types, and stamp, maximum delay and index are in range. The page and
+-- its number of entries are allowed, and the addresses differ.
 pub record IsValid (f : Ops) : Type 0 where
   pub twelve : length f.states ≡ 12
   pub states : EachIndex f.states (λ e. slice_index f.states e < 8)

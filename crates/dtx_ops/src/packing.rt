@@ -6,7 +6,7 @@ ghost use Rattle.dtx_ops.specs.Spelling.{states_bits};
 
 use dtx_trellis::States;
 
-/// States of three bits, coder 0 highest, and then four 0 bits, as a number of forty bits.
+/// The states as a number of forty bits: three bits each, coder 0 highest, and then four 0 bits.
 #[tactic(auto, unfolding(crate::specs::Spelling::states_bits))]
 pub(crate) fn packed(states: States) -> u64
     ensures value { result ≡ states_bits states }

@@ -10,7 +10,7 @@ pub enum Paging {
     /// The only page, in a packet of kind 1.
     #[default]
     One,
-    /// The page of this number, counted from 0, of so many pages, at most 30, in a packet of kind 2.
+    /// Page number `page`, counted from 0, of `pages` pages, which are at most 30, in a packet of kind 2.
     Of { page: u8, pages: u8 },
 }
 
@@ -45,7 +45,8 @@ impl Paging {
         }
     }
 
-    /// The place of the byte that counts the entries. Behind it there is room for as many as a page has at most.
+    /// The index of the data byte that counts the entries. Behind it there is room for the most entries that a page
+    /// has.
     pub(crate) fn count_place(self) -> usize
         ensures place { result ≡ count_place self }
         ensures room { result + 4 * most_of self ≤ 163 }

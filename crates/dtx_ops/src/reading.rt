@@ -18,8 +18,8 @@ use dtx_laws::Correct;
 use dtx_packets::Packet;
 use dtx_sizes::{MOST_ENTRIES, OPERATIONS_PID};
 
-/// The fields of an operations packet, or else the first of the eleven rules that refuses it. Only the packet
-/// identifier and the payload are looked at, and up to ten bytes of the payload may be wrong.
+/// Reads an operations packet: its fields, or else the first of the eleven rules that refuses it. It reads only the
+/// packet identifier and the payload, and up to ten bytes of the payload may be wrong.
 #[tactic(auto, unfolding(crate::specs::Reading::reading))]
 pub fn read<C: Correct<184, 164>>(code: &C, packet: &Packet) -> Result<Ops, OpsNo>
     ensures reading { result ≡ spec.reading packet.now.0 }
@@ -148,7 +148,7 @@ fn fields_of(bytes: &[u8], paging: Paging, offsets: ArrayVec<Entry, MOST_ENTRIES
     }
 }
 
-/// That many entries.
+/// The first `count` entries.
 #[tactic(auto, unfolding(crate::specs::Fields::entries_in))]
 fn entries(count: usize, bytes: &[u8]) -> ArrayVec<Entry, MOST_ENTRIES>
     requires few { count ≤ 35 }

@@ -1,8 +1,8 @@
 // Why a packet does not read.
 use thiserror::Error;
 
-/// Why a packet isn't read, in the order in which the rules are tried, but for `Page`, which is tried before `Count`.
-/// From `Kind` on they speak of the corrected data.
+/// Why a packet isn't read. The rules are tried in this order, except that `Page` is tried before `Count`. From `Kind`
+/// on they are rules on the corrected data.
 #[derive(Clone, Copy, Debug, PartialEq, Eq, Error)]
 pub enum OpsNo {
     /// The packet identifier isn't 0x1FFA.

@@ -10,7 +10,7 @@ use crate::paging::Paging;
 use crate::refusal::OpsNo;
 use dtx_sizes::{FRAME_PACKETS, MOST_PAGES, SECOND_TICKS};
 
-/// The first rule on the data before the page that holds.
+/// The first rule that holds, of those on the data before the page.
 #[tactic(auto, unfolding(crate::specs::Rules::head_rules, crate::specs::Fields::stamp_in, crate::specs::Fields::max_delay_in, crate::specs::Fields::index_in))]
 pub(crate) fn head_refusal(bytes: &[u8]) -> Option<OpsNo>
     requires { length bytes.now ≡ 164 }
@@ -31,14 +31,14 @@ pub(crate) fn head_refusal(bytes: &[u8]) -> Option<OpsNo>
     }
 }
 
-/// The kind is neither 1 nor 2.
+/// Whether the kind is neither 1 nor 2.
 fn is_unknown(kind: u8) -> bool
     ensures { result ≡ (not (kind == 1) && not (kind == 2)) }
 {
     kind != 1 && kind != 2
 }
 
-/// The first rule on the page and its count of entries that holds.
+/// The first rule that holds, of those on the page and its count of entries.
 pub(crate) fn page_refusal(paging: Paging, count: u8) -> Option<OpsNo>
     ensures first { result ≡ spec.first (spec.page_rules paging count) }
     ensures paged { result ≡ None → IsPaged paging count }
@@ -52,7 +52,7 @@ pub(crate) fn page_refusal(paging: Paging, count: u8) -> Option<OpsNo>
     }
 }
 
-/// The first rule on the entries and the bytes behind them that holds.
+/// The first rule that holds, of those on the entries and the bytes behind them.
 pub(crate) fn rest_refusal(entries: &[Entry], rest: &[u8]) -> Option<OpsNo>
     ensures { result ≡ spec.first (spec.rest_rules entries.now rest.now) }
 {
@@ -65,7 +65,7 @@ pub(crate) fn rest_refusal(entries: &[Entry], rest: &[u8]) -> Option<OpsNo>
     }
 }
 
-/// Two of the entries have one address.
+/// Whether two of the entries have the same address.
 fn has_twice(entries: &[Entry]) -> bool
     ensures { result ≡ spec.has_twice entries.now }
 {
@@ -77,7 +77,7 @@ fn has_twice(entries: &[Entry]) -> bool
     false
 }
 
-/// One of the entries has the address.
+/// Whether one of the entries has the address.
 fn is_among(address: u16, entries: &[Entry]) -> bool
     ensures { result ≡ spec.is_among address entries.now }
 {
@@ -89,7 +89,7 @@ fn is_among(address: u16, entries: &[Entry]) -> bool
     false
 }
 
-/// All of the bytes are 0.
+/// Whether all of the bytes are 0.
 fn is_blank(bytes: &[u8]) -> bool
     ensures { result ≡ list_all (λ byte. byte == 0) bytes.now }
 {

@@ -14,10 +14,10 @@ use byteorder::{BigEndian, ByteOrder};
 use dtx_laws::Encode;
 use dtx_packets::Packet;
 
-/// Makes the packet an operations packet of these fields and that counter. Its byte 0 stays. Stamp and maximum delay
-/// are to be below 10,000,000 ticks, the index below 624 and the counter below 16. The page is to be below the number
-/// of pages, which is at most 30. There are to be at most 35 entries on the only page, or 34 on one of several, and
-/// their addresses are to differ.
+/// Makes the packet an operations packet of these fields and this counter. Its byte 0 stays. The stamp and the maximum
+/// delay have to be below 10,000,000 ticks, the index below 624 and the counter below 16. The page has to be below the
+/// number of pages, which is at most 30. The only page has at most 35 entries, and one of several at most 34. The
+/// addresses of the entries have to differ.
 #[tactic(auto, unfolding(crate::specs::Spelling::spelling))]
 pub fn write<E: Encode<184, 164>>(code: &E, ops: &Ops, counter: u8, packet: &mut Packet)
     requires stamp { ops.now.stamp < 10000000 }
@@ -36,7 +36,7 @@ pub fn write<E: Encode<184, 164>>(code: &E, ops: &Ops, counter: u8, packet: &mut
     packet.0[4..].copy_from_slice(&word);
 }
 
-/// The codeword of the data.
+/// The payload, which is the codeword of the data.
 fn payload<E: Encode<184, 164>>(code: &E, ops: &Ops) -> [u8; 184]
     requires stamp { ops.now.stamp < 10000000 }
     requires max_delay { ops.now.max_delay < 10000000 }
@@ -53,7 +53,7 @@ fn payload<E: Encode<184, 164>>(code: &E, ops: &Ops) -> [u8; 184]
     word
 }
 
-/// The data.
+/// Writes the data to `out`, which holds 164 zeros.
 #[tactic(auto, unfolding(crate::specs::Spelling::data_of))]
 fn write_data(ops: &Ops, out: &mut [u8])
     requires stamp { ops.now.stamp < 10000000 }
@@ -72,7 +72,7 @@ fn write_data(ops: &Ops, out: &mut [u8])
     );
 }
 
-/// The data before the entries.
+/// Writes the data before the entries.
 #[tactic(auto, unfolding(crate::specs::Spelling::head_bytes))]
 fn write_head(ops: &Ops, out: &mut [u8])
     requires stamp { ops.now.stamp < 10000000 }
@@ -89,7 +89,7 @@ fn write_head(ops: &Ops, out: &mut [u8])
     write_count(ops.paging, ops.offsets.len() as u8, &mut out[18..]);
 }
 
-/// Stamp, maximum delay, frame and index.
+/// Writes stamp, maximum delay, frame and index.
 #[tactic(auto, unfolding(crate::specs::Spelling::times_bytes))]
 fn write_times(ops: &Ops, out: &mut [u8])
     requires stamp { ops.now.stamp < 10000000 }
@@ -102,7 +102,7 @@ fn write_times(ops: &Ops, out: &mut [u8])
     write_place(ops.frame, ops.index, &mut out[6..]);
 }
 
-/// Stamp and maximum delay.
+/// Writes stamp and maximum delay.
 fn write_delays(stamp: u32, max_delay: u32, out: &mut [u8])
     requires stamp { stamp < 10000000 }
     requires max_delay { max_delay < 10000000 }
@@ -113,7 +113,7 @@ fn write_delays(stamp: u32, max_delay: u32, out: &mut [u8])
     BigEndian::write_u24(&mut out[3..], max_delay);
 }
 
-/// Frame and index.
+/// Writes frame and index.
 fn write_place(frame: u32, index: u16, out: &mut [u8])
     requires { 6 ≤ length out.old }
     ensures { out.new ≡ big_bytes 4 frame ++ big_bytes 2 index ++ drop 6 out.old }
@@ -122,7 +122,7 @@ fn write_place(frame: u32, index: u16, out: &mut [u8])
     BigEndian::write_u16(&mut out[4..], index);
 }
 
-/// What names the page, and the count of entries.
+/// Writes the page and the number of pages, if there are several, and then the count of entries.
 fn write_count(paging: Paging, count: u8, out: &mut [u8])
     requires { 3 ≤ length out.old }
     ensures { out.new ≡ (paging_bytes paging ++ count ∷ []) ++ drop (length (paging_bytes paging) + 1) out.old }
@@ -133,7 +133,7 @@ fn write_count(paging: Paging, count: u8, out: &mut [u8])
     }
 }
 
-/// A page, the number of pages, and a count of entries.
+/// Writes a page, the number of pages, and a count of entries.
 fn write_paging(page: u8, pages: u8, count: u8, out: &mut [u8])
     requires { 3 ≤ length out.old }
     ensures { out.new ≡ page ∷ pages ∷ count ∷ drop 3 out.old }
@@ -143,7 +143,7 @@ fn write_paging(page: u8, pages: u8, count: u8, out: &mut [u8])
     out[2] = count;
 }
 
-/// The entries, four bytes each.
+/// Writes the entries, four bytes each.
 fn write_entries(entries: &[Entry], out: &mut [u8])
     requires { 4 * length entries.now ≤ length out.old }
     ensures bytes { out.new ≡ flat_map entry_bytes entries.now ++ drop (4 * length entries.now) out.old }
@@ -154,7 +154,7 @@ fn write_entries(entries: &[Entry], out: &mut [u8])
     }
 }
 
-/// One entry.
+/// Writes one entry.
 #[tactic(auto, unfolding(crate::specs::Spelling::entry_bytes))]
 fn write_entry(entry: &Entry, out: &mut [u8])
     requires { 4 ≤ length out.old }

@@ -8,13 +8,13 @@ use Rattle.dtx_repeat.specs.Lives.{lives, lives_so_far, packets_in}
 use Rattle.dtx_repeat.specs.Repeater.{next_place}
 use Rattle.dtx_repeat.specs.Restored.{place_behind, restored, all_restored, restored_so_far}
 
--- the last of some lives; none has no packets
+-- the last of some lives, or no packets if there is no life
 abbrev pub last_life : List (List (List ℕ)) → List (List ℕ)
 last_life [] = []
 last_life (life ∷ []) = life
 last_life (life ∷ (next ∷ more)) = last_life (next ∷ more)
 
--- lives the last of which is given these packets besides
+-- these lives, the last of which is given these packets too
 abbrev pub longer : List (List (List ℕ)) → List (List ℕ) → List (List (List ℕ))
 longer [] packets = []
 longer (life ∷ []) packets = (life ++ packets) ∷ []
@@ -24,19 +24,19 @@ longer (life ∷ (next ∷ more)) packets = life ∷ longer (next ∷ more) pack
 abbrev pub AreGiven : List (List (List ℕ)) → List (List (List ℕ)) → List Received → Type 0
 AreGiven before after packets = (after ≡ longer before (packets_in packets)) × (before ≡ [] → packets ≡ [])
 
--- one life more, of no packets, where a segment is told to begin a run
+-- these lives, and an empty one more if the segment begins a run
 abbrev pub with_begun : Tracking → List (List (List ℕ)) → List (List (List ℕ))
 with_begun Began lives = lives ++ [] ∷ []
 with_begun tracking lives = lives
 
--- With one segment more these packets are restored, from a place in the frame on, and given to the last life.
+-- After one more segment these packets are restored, from a place in the frame on, and given to the last life.
 pub record GoesOn (before next : List (List ℤ)) (from : ℕ) (packets : List Received) : Type 0 where
   pub behind : restored_so_far next ≡ restored_so_far before ++ restored from packets
   pub place : IfSome (tracked next).run (λ run. (from + length packets) % 624 ≡ next_place run)
   pub lives : lives_so_far next ≡ longer (lives_so_far before) (packets_in (restored from packets))
   pub none : lives_so_far before ≡ [] → packets ≡ []
 
--- One segment more begins a run, and brings nothing.
+-- One more segment begins a run, and gives no packets.
 pub record Begins (before next : List (List ℤ)) (x : List ℤ) (packets : List Received) : Type 0 where
   pub nothing : packets ≡ []
   pub behind : restored_so_far next ≡ restored_so_far before ++ []

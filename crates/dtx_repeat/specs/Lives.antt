@@ -1,4 +1,4 @@
--- What a transmitter sends that is fed from the air (the profile's own, over the symbols of ATSC A/53 Part 2). Each run
+-- What a transmitter that is fed from the air sends (the profile's own, over the symbols of ATSC A/53 Part 2). Each run
 -- of the segments that it receives is one life of its exciter.
 use Rattle.std.specs.Prelude.{ℕ, ℤ, List, ◌++◌, map, option_to_list}
 use Rattle.dtx_exciter.specs.Log.{Line, log, emission_over}
@@ -6,7 +6,7 @@ use Rattle.dtx_receiver.specs.Runs.{tracked, runs}
 use Rattle.dtx_receiver.specs.declared.batch.Received.{Received}
 use Rattle.dtx_repeat.specs.Restored.{run_restored, early_restored}
 
--- the bytes of received packets, each packet for itself
+-- the bytes of each of these received packets
 abbrev pub packets_in : List Received → List (List ℕ)
 packets_in received = map (λ r. r.packet.0) received
 
@@ -18,13 +18,13 @@ life_of run = packets_in (run_restored run)
 unfoldable pub lives : List (List ℤ) → List (List (List ℕ))
 lives segments = map life_of (runs segments)
 
--- those before the list ends: the life of the run that is on has the packets that were given so far
+-- the lives before the list ends: that of the present run has the packets that were given so far
 unfoldable pub lives_so_far : List (List ℤ) → List (List (List ℕ))
 lives_so_far segments =
     map life_of (tracked segments).ended ++ map (λ run. packets_in (early_restored run))
     (option_to_list (tracked segments).run)
 
--- the segments that are sent, and the log, where a restart stands at the beginning of each run but the first
+-- the segments that are sent, and the log, in which a restart stands at the beginning of each run but the first
 abbrev pub repeated : ℕ → ℕ → List (List ℤ) → List (List ℤ)
 repeated address delay segments = emission_over address delay (lives segments)
 

@@ -5,7 +5,7 @@ use Rattle.std.specs.Prelude.{slice_index_or}
 use Rattle.dtx_cadence.specs.Mark.{sync_at}
 use Rattle.dtx_frame.specs.Detection.{opposites}
 
--- whether field n of a run is a second one, where its first field is one or not: the fields take turns
+-- whether field n of a run is a second one, given whether its first field is one: the fields alternate
 abbrev pub is_second_field : Bool → ℕ → Bool
 is_second_field first_is n = if n % 2 == 0 then first_is else not first_is
 
@@ -18,7 +18,7 @@ is_mark first_is_second k = (k % 312 == 0) && not (is_second_field first_is_seco
 abbrev pub wrong_signs : Bool → List ℤ → ℕ
 wrong_signs second segment = if second then 63 - opposites segment else opposites segment
 
--- each packet of a list begins with the sync byte of that packet of a feed
+-- each packet k of a list begins with the sync byte of packet k of a feed
 abbrev pub HasSyncs : List (List ℕ) → Type 0
 HasSyncs feed = (k : ℕ) → k < length feed → slice_index_or feed k [] ≡ sync_at k ∷ drop 1 (slice_index_or feed k [])
 

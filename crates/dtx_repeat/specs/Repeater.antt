@@ -18,19 +18,19 @@ abbrev pub next_place : List (List ℤ) → ℕ
 next_place run = (first_place run + length (early_of (bytes_in run))) % 624
 
 -- The repeater received these segments, and its exciter was given these packets since it was new or the last run began.
--- Or it is one that answers as such a repeater does.
+-- Or it is one that answers as that repeater does.
 pub record StandsFor (address delay : ℕ) (repeater : Repeater) (segments : List (List ℤ)) (given : List (List ℕ)) :
     Type 0 where
   pub receiver : receiver.StandsFor repeater.receiver segments
   pub place : IfSome (tracked segments).run (λ run. repeater.place ≡ next_place run)
   pub exciter : exciter.StandsFor address delay repeater.exciter given
 
--- what the exciter was given behind a segment that was told to be this: nothing where a run began
+-- what the exciter was given, after a segment with this answer: nothing if a run began
 abbrev pub given_behind : Tracking → List (List ℕ) → List (List ℕ)
 given_behind Began given = []
 given_behind tracking given = given
 
--- The exciter was given one packet more.
+-- The repeater after its exciter was given the last of these packets, the answer to it, and the segments that it gives.
 pub record IsSent (a d : ℕ) (segments : List (List ℤ)) (packets : List (List ℕ)) (repeater : Repeater)
     (answered : Told) (count : ℕ) (symbols : List ℤ) : Type 0 where
   pub answer : answered ≡ last_answer a d packets

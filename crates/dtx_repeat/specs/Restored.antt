@@ -1,5 +1,5 @@
--- The packets of runs with the cadence marks of a feed (the profile's own). What is sent of a packet (ATSC A/53 Part 2)
--- is all but its sync byte, so a mark isn't received. It is restored from the field syncs: a mark begins a first field.
+-- The packets of runs with the cadence marks of a feed (the profile's own). All of a packet is sent but its sync byte
+-- (ATSC A/53 Part 2), so a mark isn't received. It is restored from the field syncs: a mark begins a first field.
 use Rattle.std.specs.Prelude.{ℕ, ℤ, if◌then◌else◌, List, [], ◌++◌, length, map, option_to_list, slice_index_or}
 use Rattle.std.specs.List.{range_with_len, flat_map, zip}
 use Rattle.dtx_cadence.specs.Mark.{marked}
@@ -22,7 +22,7 @@ restored_one k r = record r { packet = record { 0 = marked k r.packet.0 } }
 unfoldable pub restored : ℕ → List Received → List Received
 restored k packets = map (λ p. restored_one p.0 p.1) (zip (range_with_len k (length packets)) packets)
 
--- the place of a run's first packet, as the run's first field sync tells it; later ones aren't asked
+-- the place of a run's first packet, by the run's first field sync alone
 abbrev pub first_place : List (List ℤ) → ℕ
 first_place run = place_behind (slice_index_or run 0 [])
 
@@ -30,7 +30,7 @@ first_place run = place_behind (slice_index_or run 0 [])
 unfoldable pub run_restored : List (List ℤ) → List Received
 run_restored run = restored (first_place run) (run_packets (bytes_in run))
 
--- those that are given while the run is on
+-- the packets that are given while the run is on
 unfoldable pub early_restored : List (List ℤ) → List Received
 early_restored run = restored (first_place run) (early_of (bytes_in run))
 
@@ -38,8 +38,8 @@ early_restored run = restored (first_place run) (early_of (bytes_in run))
 unfoldable pub all_restored : List (List ℤ) → List Received
 all_restored segments = flat_map run_restored (runs segments)
 
--- those that are given before the list ends: those of the runs that have ended, and the early ones of the run that is
--- on
+-- the packets that are given before the list ends: those of the runs that have ended, and the early ones of the present
+-- run
 unfoldable pub restored_so_far : List (List ℤ) → List Received
 restored_so_far segments =
     flat_map run_restored (tracked segments).ended ++ flat_map early_restored (option_to_list (tracked segments).run)

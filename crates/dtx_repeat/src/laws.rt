@@ -12,22 +12,23 @@ ghost use Rattle.dtx_repeat.specs.Lives.{packets_in, lives, lives_so_far};
 ghost use Rattle.dtx_repeat.specs.Marks.{is_mark, wrong_signs, HasSyncs, without_mark};
 ghost use Rattle.dtx_repeat.specs.Restored.{place_behind, restored, all_restored, restored_so_far};
 
-/// Which packets of a run are marks. Packet k has the sync byte 0xB8 just where it begins a field, 312 dividing k, and
-/// that is a first field, and else 0x47. The run's first field is a second one just where its first field sync looks
-/// like one, and then the fields take turns.
+/// Which packets of a run are marks. Packet k begins a field if 312 divides k. It has the sync byte 0xB8 exactly if it
+/// begins a first field, and otherwise 0x47. The run's first field is a second one exactly if its first field sync
+/// looks like that of a second one. Then the fields alternate.
 pub fn marks()
     ensures { (sync : List ℤ) (k : ℕ)
         → sync_at (place_behind sync + k) ≡ (if is_mark (looks_second sync) k then 0xB8 else 0x47) }
 {}
 
-/// A field sync with at most 31 wrong signs in the middle one of its short sequences is taken for that of its field.
+/// A field sync is taken for that of its own field if at most 31 signs are wrong in the middle one of its short
+/// sequences.
 pub fn few_wrong_signs()
     ensures { (second : Bool) (segment : List ℤ) → wrong_signs second segment ≤ 31 → looks_second segment ≡ second }
 {}
 
-/// Let received packets be those of a feed from packet m on, each without its mark. They are just the feed's packets
-/// once they are restored from a place that is m modulo 624. Each packet of the feed begins with 0xB8 where 624 divides
-/// its number, and else with 0x47.
+/// Take the packets of a feed from packet m on, each received without its mark. Restored from a place that is m modulo
+/// 624, they are the feed's packets again. Each packet of the feed begins with 0xB8 if 624 divides its number, and
+/// otherwise with 0x47.
 pub fn a_feeds_marks_come_back()
     ensures { (feed : List (List ℕ)) (m k : ℕ) (packets : List Received) → HasSyncs feed → k % 624 ≡ m % 624
         → m + length packets ≤ length feed
@@ -35,8 +36,8 @@ pub fn a_feeds_marks_come_back()
         → packets_in (restored k packets) ≡ slice_range feed m (m + length packets) }
 {}
 
-/// Each run is one life. With one segment more, one more life begins where the segment is told to begin a run. What a
-/// repeater gives with it is given to the last life, and so is what the end of the list brings.
+/// Each run is one life. A segment that begins a run begins one more life. The last life is given the packets that the
+/// repeater gives with a segment, and those that it gives at the end of the list.
 pub fn lives_go_on()
     ensures many { (segments : List (List ℤ)) → length (lives segments) ≡ length (runs segments) }
     ensures segment { (segments : List (List ℤ)) (x : List ℤ) (packets : List Received)

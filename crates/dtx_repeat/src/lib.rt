@@ -1,4 +1,4 @@
-//! A repeater: a receiver that feeds an exciter with the packets that it receives, whose cadence marks are restored.
+//! A repeater: a receiver and an exciter. The exciter is given the received packets, with their cadence marks restored.
 #![tactic(auto)]
 
 pub mod laws;

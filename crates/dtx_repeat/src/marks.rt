@@ -15,8 +15,8 @@ pub(crate) fn place_behind(sync: &[i8; SEGMENT]) -> u16
     if is_second(sync) { FIELD_PACKETS } else { 0 }
 }
 
-/// Restores the sync bytes of packets in a row, the first of which stands at that place of its frame. Answers the place
-/// behind the last of them, which is one of 624.
+/// Restores the sync bytes of successive packets, the first of which stands at `place` of its frame. Answers the place
+/// behind the last of them, from 0 to 623.
 pub(crate) fn restore(place: u16, packets: &mut [Received]) -> u16
     ensures packets { packets.new ≡ restored place packets.old }
     ensures place { result ≡ (place + length packets.old) % 624 }

@@ -16,8 +16,8 @@ use std::alloc::{AllocError, Global};
 /// A repeater (the profile's own, over ATSC A/53 Part 2 and in the manner of ATSC A/110). It receives the packets of a
 /// main transmitter's segments, restores the cadence marks that aren't sent, and drives an exciter. Segments and
 /// packets come one after another, and may hold any bytes. `StandsFor address delay repeater segments given` says that
-/// it holds what these segments leave, and that its exciter was given these packets since it was new or since the last
-/// run began.
+/// the repeater received these segments. It also says that its exciter was given these packets since it was new or
+/// since the last run began.
 #[derive(Drop)]
 pub struct Repeater {
     receiver: Receiver,
@@ -26,8 +26,8 @@ pub struct Repeater {
 }
 
 impl Repeater {
-    /// The repeater of the transmitter with this address, to which the feed takes `delay` ticks of 100 ns. It received
-    /// nothing and was given nothing. The only error is out of memory.
+    /// A new repeater of the transmitter `address`. The feed takes `delay` ticks of 100 ns to reach it. The only error
+    /// is out of memory.
     pub fn new(alloc: Global, address: u16, delay: u32) -> Result<Repeater, AllocError>
         ensures { IfOk result (λ repeater. StandsFor address delay repeater [] []) }
     {
@@ -38,10 +38,10 @@ impl Repeater {
         })
     }
 
-    /// Receives the next segment: tells what it is, and gives the packets that become whole with it, in place of what
-    /// the batch held. It gives them as a `Receiver` does, but with 0xB8 as the sync byte of each that begins a first
-    /// field. The first field sync of a run tells whether its first field is a first or a second one, and then the
-    /// fields take turns. Where a run begins, the exciter becomes one that was given nothing. No call takes memory.
+    /// Receives the next segment, and answers what it is. The packets that become whole with it replace those of the
+    /// batch. They are the packets that a `Receiver` gives, but each that begins a first field has the sync byte 0xB8.
+    /// The first field sync of a run shows whether its first field is a first or a second one, and then the fields
+    /// alternate. When a run begins, the exciter is reset. No call takes memory.
     pub fn take(&mut self, segment: &[i8; SEGMENT], batch: &mut Batch) -> Tracking
         ensures answer { (address delay : ℕ) (segments : List (List ℤ)) (given : List (List ℕ))
             → StandsFor address delay self.old segments given → result ≡ tracking segments segment.now }
@@ -66,8 +66,8 @@ impl Repeater {
         tracking
     }
 
-    /// Ends the run that is on, if one is: gives the packets that are left, in place of what the batch held. The next
-    /// segment is received as the first. What the exciter was given stays.
+    /// Ends the present run, if any. The packets that are left replace those of the batch. The next segment is received
+    /// as the first. The exciter stays as it is.
     pub fn finish(&mut self, batch: &mut Batch)
         ensures stands { (address delay : ℕ) (segments : List (List ℤ)) (given : List (List ℕ))
             → StandsFor address delay self.old segments given → StandsFor address delay self.new [] given }
@@ -80,9 +80,9 @@ impl Repeater {
         self.place = restore(self.place, batch.packets.as_mut_slice());
     }
 
-    /// Gives the exciter one more packet, of any bytes, and answers as an `Exciter` does that was given what this one
-    /// was. `Sent` is answered to the last packet of a group that is sent, and then the air holds its segments. With
-    /// any other answer the air holds none.
+    /// Gives the exciter one more packet, of any bytes, and answers as `Exciter::take` does. The answer is `Sent` at
+    /// the last packet of a group that is sent, and `air` then holds the group's segments. After any other answer `air`
+    /// holds no segment.
     pub fn send(&mut self, packet: &Packet, air: &mut Air) -> Told
         ensures { (address delay : ℕ) (segments : List (List ℤ)) (given : List (List ℕ))
             → StandsFor address delay self.old segments given

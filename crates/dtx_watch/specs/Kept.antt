@@ -18,9 +18,9 @@ are_some (order ∷ older) = true
 
 -- what is kept of the packets from the anchor on
 pub record KeepsUnder (w : Watcher) (packets : List (List ℕ)) : Type 0 where
-  -- the place in its frame of the first packet of the group at hand, where one was given
+  -- the place in its frame of the first packet of the group at hand, if that packet was given
   pub first : 0 < length packets % 4 → w.first ≡ whole packets % 624
-  -- whether they are 52 or more
+  -- whether there are 52 packets or more
   pub flushed : w.flushed ≡ nat_le 52 (length packets)
   -- the packets of the group at hand
   pub partial : take (length packets % 4) (bytes_of w.packets) ≡ drop (whole packets) packets
@@ -34,7 +34,7 @@ abbrev pub Keeps : Watcher → Option (List (List ℕ)) → Type 0
 Keeps w None = ⊤
 Keeps w (Some packets) = KeepsUnder w packets
 
--- the watcher that was given these packets, or one that tells what it does
+-- the watcher that was given these packets, or one that gives the same notes
 pub record StandsFor (w : Watcher) (packets : List (List ℕ)) : Type 0 where
   pub count : w.count ≡ length packets
   pub anchor : cadence.StandsFor w.anchor (syncs packets)
@@ -42,15 +42,15 @@ pub record StandsFor (w : Watcher) (packets : List (List ℕ)) : Type 0 where
   pub part : w.part ≡ group_part packets
   pub kept : Keeps w (under packets)
 
--- It was given some packets, fewer than a stream has at most, so that one more can be counted.
+-- The watcher was given fewer packets than a stream has at most, so one more can be counted.
 abbrev pub HasRoom : Watcher → Type 0
 HasRoom w = (packets : List (List ℕ)) × StandsFor w packets × (length packets < 624000000)
 
--- It was given some packets, not more than a stream has at most.
+-- The watcher was given no more packets than a stream has at most.
 abbrev pub WasGiven : Watcher → Type 0
 WasGiven w = (packets : List (List ℕ)) × StandsFor w packets × (length packets ≤ 624000000)
 
--- What becomes of a watcher that was given these packets, and what it tells, with one packet more.
+-- The watcher after these packets and packet p, and the notes that p gives.
 pub record IsTaken (packets : List (List ℕ)) (p : List ℕ) (w : Watcher) (given : List Note) : Type 0 where
   pub notes : told (packets ++ p ∷ []) ≡ told packets ++ given
   pub stands : StandsFor w (packets ++ p ∷ [])
@@ -61,7 +61,7 @@ pub record IsJoined (packets : List (List ℕ)) (k : ℕ) (w : Watcher) (given :
   pub part : w.part ≡ length packets % 4
   pub keeps : KeepsUnder w packets
 
--- where the packet p stands at this place of its frame
+-- the same of packet p at this place of its frame, whatever packets from the anchor on the watcher was given before
 abbrev pub Joins : ℕ → List ℕ → Watcher → Watcher → List Note → Type 0
 Joins place p old made given =
     (packets : List (List ℕ)) → KeepsUnder old packets → place ≡ length packets % 624

@@ -1,4 +1,4 @@
--- What is told of one packet (the profile's own).
+-- The note on one packet (the profile's own).
 use Rattle.std.specs.Prelude.{ℕ, ◌==◌, Option, Some, None, if◌then◌else◌, Result, Ok, Err, List, [], ◌∷◌, length}
 use Rattle.std.specs.Str.{bytes_eq}
 use Rattle.dtx_ops.specs.declared.fields.Ops.{Ops}
@@ -15,7 +15,7 @@ use Rattle.dtx_watch.specs.declared.telling.Expected.{Expected}
 use Rattle.dtx_watch.specs.declared.telling.Expected.TheVariants.{Early, First, These}
 use Rattle.dtx_watch.specs.Clock.{clock_note}
 
--- what the states of an operations packet are, beside those that are expected
+-- the states of an operations packet, compared with those that are expected
 abbrev pub states_note : Expected → Ops → StatesNote
 states_note Early ops = states.Early
 states_note First ops = states.First
@@ -33,20 +33,20 @@ ops_note expected latest ops = record {
   clock = clock_note latest ops;
 }
 
--- of a packet that reads, at this place of its frame, or at none where there is no anchor
+-- what the note says of a packet that reads, at this place of its frame, or at none without an anchor
 abbrev pub read_note : Option ℕ → Expected → Option Stamped → Ops → What
 read_note None expected latest ops = Stray ops.frame ops.index
 read_note (Some place) expected latest ops =
     if ops.index == place then OpsAt (ops_note expected latest ops) else Stray ops.frame ops.index
 
--- of packet k, by what it reads as or why it doesn't: nothing of a packet that isn't an operations packet
+-- the note on packet k, from the result of reading it: there is none on a packet that isn't an operations packet
 abbrev pub packet_note : ℕ → Option ℕ → Expected → Option Stamped → Result Ops OpsNo → Option Note
 packet_note k place expected latest (Ok ops) =
     Some (record { packet = k; what = read_note place expected latest ops })
 packet_note k place expected latest (Err NotOps) = None
 packet_note k place expected latest (Err refusal) = Some (record { packet = k; what = Unread refusal })
 
--- that packet k is an anchor, or takes one away, by the anchors before it and with it
+-- the note that packet k is an anchor or ends one, from the anchors before it and with it
 abbrev pub lock_note : ℕ → Option ℕ → Option ℕ → Option Note
 lock_note k None (Some anchor) = Some (record { packet = k; what = Lock })
 lock_note k (Some anchor) None = Some (record { packet = k; what = Lost })

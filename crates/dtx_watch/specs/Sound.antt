@@ -15,9 +15,9 @@ use Rattle.dtx_watch.specs.declared.notes.StatesNote.TheVariants as states_are
 use Rattle.dtx_watch.specs.declared.notes.ClockNote.TheVariants as clock_is
 use Rattle.dtx_watch.specs.Watch.{notes_at}
 
--- What operations packet k says of a feed whose clock starts at this tick. It says its place, the states that the
--- feed's own coders have before its group, the stamp of its frame, the maximum delay, and the number of the frame, of
--- 32 bits.
+-- The fields of the operations packet that is packet k of a feed, whose clock starts at this tick. They are its place,
+-- the states that the feed's own coders have before its group, the stamp of its frame, the maximum delay, and the
+-- number of the frame, of 32 bits.
 pub record SaysAt (start most : ℕ) (feed : List (List ℕ)) (k : ℕ) (ops : Ops) : Type 0 where
   pub index : ops.index ≡ k % 624
   pub states_are : ops.states ≡ states (take (4 * (k / 4)) feed)
@@ -26,12 +26,12 @@ pub record SaysAt (start most : ℕ) (feed : List (List ℕ)) (k : ℕ) (ops : O
   pub frame : ops.frame ≡ k / 624
   pub few : k / 624 < 2 ^ 32
 
--- a packet is no operations packet, or says that
+-- a packet is no operations packet, or has these fields
 abbrev pub IsSoundAt : ℕ → ℕ → List (List ℕ) → ℕ → Result Ops OpsNo → Type 0
 IsSoundAt start most feed k (Ok ops) = SaysAt start most feed k ops
 IsSoundAt start most feed k (Err refusal) = refusal ≡ NotOps
 
--- a mark stands at each 624th packet and nowhere else, and each operations packet says that
+-- a mark stands at each 624th packet and nowhere else, and each operations packet has these fields
 pub record IsSoundFeed (start most : ℕ) (feed : List (List ℕ)) : Type 0 where
   pub marks : (k : ℕ) → k < length feed → (sync_of (slice_index_or feed k []) == 0xB8) ≡ (k % 624 == 0)
   pub says : (k : ℕ) → k < length feed → IsSoundAt start most feed k (reading (slice_index_or feed k []))
@@ -45,12 +45,12 @@ pub record IsCalmOps (ops : Ops) (o : OpsNote) : Type 0 where
   pub states : o.states ≢ states_are.Slip
   pub clock : o.clock ≢ clock_is.Jump
 
--- what is told of packet k by what it reads as: of an operations packet just that, and of others nothing
+-- the notes on what packet k reads as: on an operations packet just that one, and on another packet none
 abbrev pub IsCalm : ℕ → Result Ops OpsNo → List Note → Type 0
 IsCalm k (Ok ops) notes = (o : OpsNote) × IsCalmOps ops o × (notes ≡ (record { packet = k; what = OpsAt o }) ∷ [])
 IsCalm k (Err refusal) notes = notes ≡ []
 
--- Of the first packet it is told that it is an anchor, and of each packet what is calm, and nothing else.
+-- The notes on packet k are that it is an anchor, if it is the first packet, and then what is calm, and no others.
 abbrev pub IsCalmAt : List (List ℕ) → ℕ → Type 0
 IsCalmAt packets k = (notes : List Note) × IsCalm k (reading (slice_index_or packets k [])) notes
     × (notes_at packets k ≡ (if k == 0 then (record { packet = 0; what = Lock }) ∷ [] else []) ++ notes)

@@ -1,4 +1,4 @@
--- What is told of one group, from what a watcher keeps.
+-- The notes on one group, from what a watcher keeps.
 use Rattle.std.specs.Prelude.{ℕ, ◌≡◌, ◌+◌, ◌-◌, ◌%◌, ◌==◌, nat_le, ◌&&◌, ◌||◌, not, false, Option, Some, None}
 use Rattle.std.specs.Prelude.{option_map, is_some, if◌then◌else◌, List, [], ◌∷◌, ◌++◌, slice_index_or}
 use Rattle.std.specs.List.{range_with_len, flat_map}
@@ -39,7 +39,7 @@ group_at_hand w expected = record {
   packets = bytes_of w.packets;
 }
 
--- what packet m of the group orders
+-- the order in packet m of the group
 abbrev pub order_of : Group → ℕ → Option Ops
 order_of g m = ordered (g.place + m) (reads (slice_index_or g.packets m []))
 
@@ -52,26 +52,26 @@ abbrev pub earliest : {A : Type 0} → (ℕ → Option A) → ℕ → Option A
 earliest f zero = None
 earliest f (suc n) = either (earliest f n) (f n)
 
--- what is told of packet m of the group
+-- the note on packet m of the group
 unfoldable pub note_in : Group → ℕ → Option Note
 note_in g m =
     packet_note (g.number + m) (Some (g.place + m)) g.expected (stamped_in g m)
     (reading (slice_index_or g.packets m []))
 
--- what is told of its first n packets
+-- the notes on its first n packets
 unfoldable pub notes_in : Group → ℕ → List Note
 notes_in g n = flat_map (λ m. one_or_none (note_in g m)) (range_with_len 0 n)
 
--- what the states of the group at hand are compared with, where it is whole
+-- what the states of the group at hand are compared with, if the group is whole
 abbrev pub expected_of : Watcher → Expected
 expected_of w = if not w.flushed then Early else if not w.ordered then First else These w.coder.states
 
--- that its first packet is an anchor, where it is the first under one
+-- the note that its first packet is an anchor, if the group is the first under one
 abbrev pub lock_notes : Watcher → List Note
 lock_notes w =
     if (w.first == 0) && not w.flushed then (record { packet = w.count - w.part; what = Lock }) ∷ [] else []
 
--- the states of the first operations packet at its place of a whole group, where the group counts
+-- the states in the first operations packet at its place of a whole group, if the group counts
 unfoldable pub states_in : Watcher → Option (List ℕ)
 states_in w =
     if w.flushed then option_map (λ o. o.states) (earliest (order_of (group_at_hand w (expected_of w))) 4) else None
@@ -86,7 +86,7 @@ group_of w = record {
   packets = bytes_of w.packets;
 }
 
--- what is done with a whole group
+-- the watcher after a whole group, and the notes that it gives
 pub record IsEnded (old new : Watcher) (given : List Note) : Type 0 where
   pub notes : given ≡ lock_notes old ++ notes_in (group_at_hand old (expected_of old)) 4
   pub made : new ≡ record old {
@@ -96,7 +96,7 @@ pub record IsEnded (old new : Watcher) (given : List Note) : Type 0 where
     air = new.air;
   }
 
--- how many packets were given, and the anchor, stay
+-- the count of packets and the anchor stay
 pub record IsSame (old new : Watcher) : Type 0 where
   pub count : new.count ≡ old.count
   pub anchor : new.anchor ≡ old.anchor

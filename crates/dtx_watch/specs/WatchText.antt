@@ -1,4 +1,4 @@
--- The text of what is told of a feed (the profile's own).
+-- The text of the notes on a feed (the profile's own).
 use Rattle.std.specs.Prelude.{ℕ, List, [], ◌∷◌, ◌++◌, codes, decimal, flat_map}
 use Rattle.dtx_ops.specs.declared.refusal.OpsNo.{OpsNo}
 use Rattle.dtx_ops.specs.declared.refusal.OpsNo.TheVariants.{NotOps, Uncorrectable, Kind, Pad, Stamp, Delay, Index}
@@ -11,7 +11,7 @@ use Rattle.dtx_watch.specs.declared.notes.StatesNote.TheVariants as states
 use Rattle.dtx_watch.specs.declared.notes.ClockNote.{ClockNote}
 use Rattle.dtx_watch.specs.declared.notes.ClockNote.TheVariants as clock
 
--- the number of the rule by which a packet isn't read
+-- the number of the rule that refuses a packet
 abbrev pub rule_number : OpsNo → ℕ
 rule_number NotOps = 1
 rule_number Uncorrectable = 2
@@ -25,14 +25,14 @@ rule_number Twice = 9
 rule_number Fill = 10
 rule_number Page = 11
 
--- the word for what states are
+-- the word for a note on states
 abbrev pub states_word : StatesNote → List ℕ
 states_word states.Early = codes "early"
 states_word states.First = codes "first"
 states_word states.Right = codes "right"
 states_word states.Slip = codes "slip"
 
--- the word for what a stamp is
+-- the word for a note on a stamp
 abbrev pub clock_word : ClockNote → List ℕ
 clock_word clock.First = codes "first"
 clock_word clock.Right = codes "right"
@@ -51,7 +51,7 @@ note_head k (what.Stray frame index) = codes "stray" ++ numbers_text (k ∷ fram
 note_head k (what.Ops o) =
     codes "ops" ++ numbers_text (k ∷ o.frame ∷ o.index ∷ o.stamp ∷ o.max_delay ∷ o.listed ∷ [])
 
--- its words behind them, and a line feed
+-- the words behind a line's numbers, if any, and a line feed
 abbrev pub note_end : What → List ℕ
 note_end (what.Ops o) = codes " " ++ (states_word o.states ++ (codes " " ++ (clock_word o.clock ++ codes "\n")))
 note_end other = codes "\n"

@@ -1,4 +1,4 @@
-//! Laws of what is told of a feed, and of its text.
+//! Laws of the notes on a feed, and of their text.
 
 ghost use Rattle.std.specs.Prelude.{◌≡◌, ℕ, ◌*◌, ◌+◌, ◌-◌, ◌/◌, ◌%◌, ◌<◌, ◌≤◌, ◌++◌, ◌∷◌, [], Some, List, length};
 ghost use Rattle.std.specs.Prelude.{drop, map, take};
@@ -9,8 +9,8 @@ ghost use Rattle.dtx_watch.specs.Watch.{notes_at, told, waiting, watch};
 ghost use Rattle.dtx_watch.specs.WatchLines.{note_words, words_of_lines};
 ghost use Rattle.dtx_watch.specs.WatchText.{watch_text};
 
-/// Of no packets nothing is told. What is told of some packets before their end stays with any more of them, and what
-/// is told of these comes behind it. With what waits for the end of the group at hand, it is all that is told.
+/// Without packets there are no notes. The notes given on some packets stay when more packets come, and further notes
+/// follow them. The notes given so far, and then those that wait for the end of the group at hand, are all notes.
 pub fn told_in_turn()
     ensures nothing { told [] ≡ [] }
     ensures more { (packets others : List (List ℕ)) → (rest : List Note) × (told (packets ++ others)
@@ -18,8 +18,8 @@ pub fn told_in_turn()
     ensures all { (packets : List (List ℕ)) → watch packets ≡ told packets ++ waiting packets }
 {}
 
-/// What is told of a packet stays with any more of them, where none waits for the end of its group. So it is of each
-/// packet before the group at hand, whose own group is whole then.
+/// The notes on each packet before the group at hand stay when more packets come. If there is an anchor at that packet,
+/// the packet's own group is whole.
 pub fn notes_stay()
     ensures whole { (packets : List (List ℕ)) (k anchor : ℕ) → k < length packets - group_part packets
         → anchor_of (take (k + 1) packets) ≡ Some anchor → anchor + 4 * ((k - anchor) / 4) + 4 ≤ length packets }
@@ -27,9 +27,8 @@ pub fn notes_stay()
         → notes_at (packets ++ others) k ≡ notes_at packets k }
 {}
 
-/// A sound feed, watched from any of its marks on, is calm. Of the first packet it is told that it is an anchor, of
-/// each operations packet that it is at its place, and nothing else. It is never told that states slip or a stamp
-/// jumps.
+/// A sound feed, watched from any of its marks on, is calm. The only notes are that the first packet is an anchor, and
+/// that each operations packet is at its place. No note says that states slip or that a stamp jumps.
 pub fn sound_feeds_are_calm()
     ensures { (start most mark k : ℕ) (feed : List (List ℕ)) → IsSoundFeed start most feed → mark % 624 ≡ 0
         → mark < length feed → k < length (drop mark feed) → IsCalmAt (drop mark feed) k }

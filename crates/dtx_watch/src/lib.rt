@@ -1,5 +1,6 @@
-//! Whether a feed is sound, and the text of what is told of it. A feed is judged by its operations packets: which of
-//! them read, whether their states are those that the coders have there, and whether the clock runs.
+//! A watcher, whose notes show whether a feed is sound, and the text of its notes. They are on anchors and on
+//! operations packets: which of these read, whether their states are those that the coders have there, and whether the
+//! clock runs.
 #![tactic(auto)]
 
 pub mod laws;

@@ -1,10 +1,10 @@
-// What is told of the packets of a feed.
+// Notes on the packets of a feed.
 use dtx_ops::OpsNo;
 
-/// How many notes a call gives at most: one of each packet of a group, and that the first of them is an anchor.
+/// How many notes a call gives at most: one on each packet of a group, and one that the first of them is an anchor.
 pub const MOST_NOTES: usize = 5;
 
-/// What the states of an operations packet are, beside those that the coders have before its group.
+/// The states of an operations packet, compared with those that the coders have before its group.
 #[derive(Clone, Copy)]
 pub enum StatesNote {
     /// They don't count: the group begins less than 52 packets behind the anchor, or isn't whole.
@@ -13,18 +13,18 @@ pub enum StatesNote {
     First,
     /// They are those that the coders have, from the states of the latest earlier order on.
     Right,
-    /// They are others.
+    /// They differ from those.
     Slip,
 }
 
-/// What the stamp of an operations packet is, beside that of the latest one before it under this anchor.
+/// The stamp of an operations packet, compared with that of the latest one before it under this anchor.
 #[derive(Clone, Copy)]
 pub enum ClockNote {
     /// It is the first.
     First,
     /// It is later by the length of the frames between the two, and the maximum delay is the same.
     Right,
-    /// It is another, or the maximum delay is.
+    /// It is not, or the maximum delay differs.
     Jump,
 }
 
@@ -47,7 +47,7 @@ pub struct OpsNote {
     pub clock: ClockNote,
 }
 
-/// What is told of a packet.
+/// What a note says of a packet.
 #[derive(Clone, Copy, Default)]
 pub enum What {
     /// It is an anchor, and there was none before it.
@@ -55,7 +55,7 @@ pub enum What {
     Lock,
     /// There was an anchor before it, and there is none with it.
     Lost,
-    /// It is an operations packet by its packet identifier, and doesn't read.
+    /// It has the packet identifier of operations packets, and doesn't read.
     Unread(OpsNo),
     /// It reads, and there is no anchor or its index isn't its place.
     Stray { frame: u32, index: u16 },
@@ -68,6 +68,6 @@ pub enum What {
 pub struct Note {
     /// The number of the packet, from 0.
     pub packet: u64,
-    /// What is told of it.
+    /// What the note says of it.
     pub what: What,
 }

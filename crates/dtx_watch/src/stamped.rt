@@ -14,7 +14,7 @@ pub(crate) struct Stamped {
     pub frame: u32,
 }
 
-/// That of an operations packet.
+/// The fields of an operations packet with which the next one is compared.
 pub(crate) fn stamp_in(ops: &Ops) -> Stamped
     ensures { result ≡ stamp_in ops.now }
 {
@@ -25,7 +25,7 @@ pub(crate) fn stamp_in(ops: &Ops) -> Stamped
     }
 }
 
-/// What the clock of an operations packet is, behind the latest one before it.
+/// Compares the clock of an operations packet with that of the latest one before it, if any.
 pub(crate) fn clock_note(latest: Option<Stamped>, ops: &Ops) -> ClockNote
     ensures { result ≡ clock_note latest ops.now }
 {
@@ -42,7 +42,7 @@ pub(crate) fn clock_note(latest: Option<Stamped>, ops: &Ops) -> ClockNote
     }
 }
 
-/// How many frames lie between two, counted modulo 2^32.
+/// How many frames lie from one frame number to another, modulo 2^32.
 fn frames_between(from: u32, to: u32) -> u32
     ensures { result ≡ frames_between from to }
 {

@@ -1,4 +1,4 @@
-// What is told of one packet.
+// The note on one packet.
 ghost use Rattle.std.specs.Prelude.{◌≡◌, ◌<◌, ◌==◌, ◌&&◌, ◌||◌, ◌++◌, None, IfOk, is_some, length, not, if◌then◌else◌};
 ghost use Rattle.dtx_ops.specs.Spelling.{IsValid};
 ghost use Rattle.dtx_exciter.specs.Order.{either};
@@ -21,8 +21,8 @@ pub(crate) enum Expected {
     These(States),
 }
 
-/// The note on a packet at this place of its frame, or at none where there is no anchor, by what it reads as or why it
-/// doesn't. There is none on a packet that isn't an operations packet.
+/// The note on packet `number`, from the result of reading it. `place` is the packet's place in its frame, or `None`
+/// without an anchor. There is no note on a packet that isn't an operations packet.
 pub(crate) fn packet_note(
     number: u64,
     place: Option<u16>,
@@ -46,7 +46,7 @@ pub(crate) fn packet_note(
     }
 }
 
-/// What is told of a packet that reads.
+/// What the note says of a packet that reads.
 fn read_note(place: Option<u16>, expected: &Expected, latest: Option<Stamped>, ops: &Ops) -> What
     requires { IsValid ops.now }
     ensures { result ≡ read_note place expected.now latest ops.now }
@@ -60,7 +60,7 @@ fn read_note(place: Option<u16>, expected: &Expected, latest: Option<Stamped>, o
     }
 }
 
-/// What is told of a packet that reads and whose index is its place.
+/// What the note says of a packet that reads and whose index is its place.
 fn ops_note(expected: &Expected, latest: Option<Stamped>, ops: &Ops) -> OpsNote
     requires { IsValid ops.now }
     ensures { result ≡ ops_note expected.now latest ops.now }
@@ -92,7 +92,7 @@ fn states_note(expected: &Expected, ops: &Ops) -> StatesNote
     }
 }
 
-/// Puts a note, if there is one, behind the others.
+/// Appends a note, if there is one.
 pub(crate) fn push_some(note: Option<Note>, notes: &mut ArrayVec<Note, MOST_NOTES>)
     requires { length notes.old.items < MOST_NOTES }
     ensures { notes.new.items ≡ notes.old.items ++ one_or_none note }
@@ -119,14 +119,15 @@ pub(crate) fn first_of(earlier: Option<States>, later: Option<States>) -> Option
     }
 }
 
-/// A group's states that count: those of a group that begins 52 or more packets behind the anchor.
+/// The states of a group, if they count. They count if the group begins 52 or more packets behind the anchor.
 pub(crate) fn preset_of(flushed: bool, states: Option<States>) -> Option<States>
     ensures { result ≡ (if flushed then states else None) }
 {
     if flushed { states } else { None }
 }
 
-/// Whether a group under the anchor is an order, with one that orders these states, if any.
+/// Whether a group under the anchor is an order, including one whose counting states, if any, are `states`. `before` is
+/// the same without that group.
 pub(crate) fn is_ordered(before: bool, states: &Option<States>) -> bool
     ensures { result ≡ (before || is_some states.now) }
 {

@@ -1,4 +1,4 @@
-// The text of what is told of a feed.
+// The text of the notes on a feed.
 ghost use Rattle.std.specs.Prelude.{◌≡◌, ◌+◌, ◌*◌, ◌≤◌, ◌++◌, length, codes, decimal};
 ghost use Rattle.dtx_watch.specs.WatchText.{rule_number, states_word, clock_word, numbers_text};
 ghost use Rattle.dtx_watch.specs.WatchText.{note_head, note_end, note_text};
@@ -22,7 +22,7 @@ pub fn write_note(note: &Note, text: &mut ArrayString<WATCH_LINE>)
     push_end(note.what, text);
 }
 
-/// Sets the text to the word and the numbers of what is told of a packet.
+/// Sets the text to the word and the numbers of a note.
 fn write_front(packet: u64, what: What, text: &mut ArrayString<WATCH_LINE>)
     ensures text { text.new.bytes ≡ note_head packet what }
     ensures short { length text.new.bytes ≤ 134 }
@@ -66,7 +66,7 @@ fn write_head(word: &str, numbers: &[u64], text: &mut ArrayString<WATCH_LINE>)
     push_numbers(numbers, text);
 }
 
-/// Puts numbers behind the text, each behind a space.
+/// Appends numbers to the text, each behind a space.
 fn push_numbers(numbers: &[u64], text: &mut ArrayString<WATCH_LINE>)
     requires { length text.old.bytes + 21 * length numbers.now ≤ WATCH_LINE }
     ensures text { text.new.bytes ≡ text.old.bytes ++ numbers_text numbers.now }
@@ -77,7 +77,7 @@ fn push_numbers(numbers: &[u64], text: &mut ArrayString<WATCH_LINE>)
     }
 }
 
-/// Puts a number behind the text, behind a space.
+/// Appends a space and a number to the text.
 fn push_number(number: u64, text: &mut ArrayString<WATCH_LINE>)
     requires { length text.old.bytes + 21 ≤ WATCH_LINE }
     ensures text { text.new.bytes ≡ text.old.bytes ++ (codes " " ++ decimal number) }
@@ -88,7 +88,7 @@ fn push_number(number: u64, text: &mut ArrayString<WATCH_LINE>)
     text.push_str(digits.format(number));
 }
 
-/// Puts the words behind a line's numbers, if it has some, and a line feed behind the text.
+/// Appends the words that follow a line's numbers, if any, and a line feed to the text.
 fn push_end(what: What, text: &mut ArrayString<WATCH_LINE>)
     requires { length text.old.bytes ≤ 134 }
     ensures { text.new.bytes ≡ text.old.bytes ++ note_end what }
@@ -99,7 +99,7 @@ fn push_end(what: What, text: &mut ArrayString<WATCH_LINE>)
     }
 }
 
-/// Puts the words for states and a stamp behind the text, each behind a space, and a line feed.
+/// Appends the words for states and a stamp to the text, each behind a space, and then a line feed.
 fn push_words(states: StatesNote, clock: ClockNote, text: &mut ArrayString<WATCH_LINE>)
     requires { length text.old.bytes ≤ 134 }
     ensures { text.new.bytes ≡ text.old.bytes
@@ -112,7 +112,7 @@ fn push_words(states: StatesNote, clock: ClockNote, text: &mut ArrayString<WATCH
     text.push_str("\n");
 }
 
-/// The word for what states are.
+/// The word for a note on states.
 fn states_word(states: StatesNote) -> &'static str
     ensures word { result.now ≡ states_word states }
     ensures short { length result.now ≤ 5 }
@@ -125,7 +125,7 @@ fn states_word(states: StatesNote) -> &'static str
     }
 }
 
-/// The word for what a stamp is.
+/// The word for a note on a stamp.
 fn clock_word(clock: ClockNote) -> &'static str
     ensures word { result.now ≡ clock_word clock }
     ensures short { length result.now ≤ 5 }
@@ -137,7 +137,7 @@ fn clock_word(clock: ClockNote) -> &'static str
     }
 }
 
-/// The number of the rule by which a packet isn't read.
+/// The number of the rule that refuses a packet.
 fn rule_number(refusal: OpsNo) -> u64
     ensures { result ≡ rule_number refusal }
 {

@@ -31,9 +31,10 @@ use dtx_sizes::{FIELD_PACKETS, GROUP_PACKETS, MOST_PACKETS, PACKET};
 use dtx_trellis::States;
 use std::alloc::{AllocError, Global};
 
-/// Watches a feed of any packets, from any place of it on (the profile's own). Of each operations packet it tells
-/// whether it reads and stands at its place. It tells whether its states are those that the coders have there from the
-/// latest earlier order on, and whether its stamp goes on from that of the one before it.
+/// Watches a feed, from any place of it on, or any other packets (the profile's own). It notes whether each operations
+/// packet reads and stands at its place. It notes whether the packet's states are those that the coders have there from
+/// the latest earlier order on. It notes whether the packet's stamp goes on from that of the operations packet before
+/// it.
 #[derive(Drop)]
 pub struct Watcher {
     corrector: Fast<184, 164>,
@@ -55,7 +56,7 @@ pub struct Watcher {
 }
 
 impl Watcher {
-    /// A watcher that was given nothing. The only error is out of memory.
+    /// A watcher that was given no packet. The only error is out of memory.
     pub fn new(alloc: Global) -> Result<Watcher, AllocError>
         ensures { IfOk result (λ watcher. StandsFor watcher []) }
     {
@@ -74,9 +75,9 @@ impl Watcher {
         })
     }
 
-    /// Is given one more packet, of any bytes. Sets the notes to what is told with it. Under an anchor a group's last
-    /// packet brings what is told of all four, and the others nothing. For what a packet's states are waits for its
-    /// group to be whole. Where there is no anchor each packet brings its own.
+    /// Takes one packet, of any bytes, and sets `notes` to the notes that it gives. Under an anchor a group's last
+    /// packet gives the notes on all four, and the other three give none: a packet's states are judged only once its
+    /// group is whole. Without an anchor each packet gives its own notes.
     pub fn take(&mut self, packet: &Packet, notes: &mut ArrayVec<Note, MOST_NOTES>)
         requires room { HasRoom self.old }
         ensures { (before : List (List ℕ)) → StandsFor self.old before
@@ -99,7 +100,7 @@ impl Watcher {
         }
     }
 
-    /// Sets the notes to what is told of the packets of a group that isn't whole, where no more packets come.
+    /// Sets `notes` to the notes on the packets of a group that isn't whole. It is called when no more packets come.
     pub fn finish(&mut self, notes: &mut ArrayVec<Note, MOST_NOTES>)
         requires given { WasGiven self.old }
         ensures { (before : List (List ℕ)) → StandsFor self.old before
@@ -111,7 +112,7 @@ impl Watcher {
         }
     }
 
-    /// Tells of a packet where there is no anchor.
+    /// Adds the note on a packet without an anchor.
     fn tell_free(&self, number: u64, packet: &Packet, notes: &mut ArrayVec<Note, MOST_NOTES>)
         requires { length notes.old.items < MOST_NOTES }
         ensures { notes.new.items ≡ notes.old.items ++ one_or_none (packet_note number None Early None
@@ -122,7 +123,7 @@ impl Watcher {
         push_some(note, notes);
     }
 
-    /// The packet is the anchor.
+    /// Starts anew with this packet as the anchor.
     fn begin(&mut self, packet: &Packet)
         ensures keeps { KeepsUnder self.new (packet.now.0 ∷ []) }
         ensures part { self.new.part ≡ 1 }
@@ -138,7 +139,7 @@ impl Watcher {
         self.latest = None;
     }
 
-    /// The packet stands at this place of its frame.
+    /// Adds the packet at this place of its frame. The last packet of a group ends the group.
     fn join(&mut self, place: u16, packet: &Packet, notes: &mut ArrayVec<Note, MOST_NOTES>)
         requires place { place < 624 }
         requires notes { notes.old.items ≡ [] }
@@ -158,7 +159,7 @@ impl Watcher {
         self.flushed = is_flushed(self.flushed, place);
     }
 
-    /// The group at hand is whole: it is told of, and coded.
+    /// Ends the whole group at hand: adds the notes on it, and codes it.
     fn end_group(&mut self, notes: &mut ArrayVec<Note, MOST_NOTES>)
         requires place { self.old.first < 624 }
         requires whole { self.old.first % 4 ≡ 0 }
@@ -181,7 +182,7 @@ impl Watcher {
         );
     }
 
-    /// What the states of the group at hand are compared with, where it is whole.
+    /// What the states of the group at hand are compared with, if the group is whole.
     fn expected(&self) -> Expected
         ensures { result ≡ expected_of self.now }
     {
@@ -194,7 +195,7 @@ impl Watcher {
         }
     }
 
-    /// Tells of the packets of the group at hand, and answers the states of the first of them that reads and whose
+    /// Adds the notes on the packets of the group at hand. Answers the states of the first of them that reads and whose
     /// index is its place.
     fn tell_group(
         &mut self,
@@ -223,7 +224,7 @@ impl Watcher {
         order
     }
 
-    /// Tells that the first packet of the group at hand is an anchor, where it is the first under one.
+    /// Adds the note that the first packet of the group at hand is an anchor, if the group is the first under one.
     fn tell_lock(&self, notes: &mut ArrayVec<Note, MOST_NOTES>)
         requires { length notes.old.items < MOST_NOTES }
         ensures { notes.new.items ≡ notes.old.items ++ lock_notes self.now }
@@ -236,7 +237,7 @@ impl Watcher {
         }
     }
 
-    /// Tells of packet `m` of the group at hand, and answers its states where it reads and its index is its place.
+    /// Adds the note on packet `m` of the group at hand. Answers its states if it reads and its index is its place.
     fn tell(
         &mut self,
         m: usize,

@@ -16,8 +16,8 @@ use dtx_trellis::States;
 use std::alloc::{AllocError, Global};
 
 impl Net {
-    /// The network of 1 to 1,020 transmitters whose addresses differ from each other. Nothing was done with it. All
-    /// memory is taken here, and the only error is out of memory.
+    /// A new network of 1 to 1,020 transmitters, whose addresses differ from each other. All memory is taken here, and
+    /// the only error is out of memory.
     pub fn new(alloc: Global, transmitters: &[Transmitter]) -> Result<Net, AllocError>
         requires { AreTransmitters transmitters.now }
         ensures { IfOk result (λ net. StandsFor transmitters.now net []) }
@@ -31,14 +31,14 @@ impl Net {
     }
 
     /// An operations packet of the fields that the packet reads as, but with these states, and with right parity bytes
-    /// (the profile's own). Byte 0 and the counter stay. A packet that isn't read stays as it is.
+    /// (the profile's own). Byte 0 and the counter stay. A packet that doesn't read stays as it is.
     pub fn lied(&self, packet: &Packet, states: &States) -> Packet
         ensures { result.0 ≡ lied_packet packet.now.0 states.now }
     {
         lied_by(&self.corrector, packet, states)
     }
 
-    /// The place in the list of the transmitter with this address, or `None` exactly where there is none.
+    /// The place in the list of the transmitter with this address, or `None` exactly if there is none.
     pub fn find(&self, address: u16) -> Option<usize>
         ensures within { IfSome result (λ who. who < vec_len self.now.exciters) }
         ensures place { (ts : List Transmitter) (steps : List Step) → StandsFor ts self.now steps
@@ -47,9 +47,9 @@ impl Net {
         self.transmitters.place(address)
     }
 
-    /// The transmitter at a place of the list is given one more packet, of any bytes. What is answered, and what the
-    /// air then holds, is what its exciter alone answers and gives to the packets of its last life and this one. All
-    /// others stay.
+    /// Gives one more packet, of any bytes, to the transmitter at place `who` of the list. The answer, and the segments
+    /// that `air` then holds, are those of its exciter alone for the packets of its last life and this one. All others
+    /// stay.
     pub fn step(&mut self, who: usize, packet: &Packet, air: &mut Air) -> Told
         requires { who < vec_len self.old.exciters }
         ensures given { (ts : List Transmitter) (steps : List Step) (t : Transmitter) → StandsFor ts self.old steps
@@ -60,7 +60,7 @@ impl Net {
         self.exciters[who].take(packet, air)
     }
 
-    /// The transmitter at a place of the list begins a new life, in which it was given nothing. All others stay.
+    /// Begins a new life of the transmitter at place `who` of the list, by resetting its exciter. All others stay.
     pub fn restart(&mut self, who: usize)
         requires { who < vec_len self.old.exciters }
         ensures restarts { (ts : List Transmitter) (steps : List Step) → StandsFor ts self.old steps
@@ -71,7 +71,7 @@ impl Net {
     }
 }
 
-/// An exciter for each of the transmitters, all by these tables.
+/// An exciter for each of the transmitters. They share these tables.
 fn exciters_of(
     alloc: Global,
     tables: &Tables,
