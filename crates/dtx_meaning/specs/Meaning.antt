@@ -91,8 +91,8 @@ pub record IsUnprinted (meaning : Meaning) (start : Option Files) (status : Stat
 
 -- How a call ends that carries out a meaning and prints its line. Either the status is the meaning's, with its outputs
 -- whole. Or there was an I/O error or lack of memory, and the outputs hold prefixes. Or all was done and only the line
--- could not be printed. Lack of memory while a line is printed belongs to the second case: the outputs are whole, and
--- whole outputs are prefixes of themselves.
+-- could not be printed. Lack of memory while a line is printed belongs to the second case, which says prefixes and no
+-- more.
 abbrev pub IsDone : Meaning → Option Files → Status → Type 0 → Option Files → Type 0
 IsDone meaning start status unprinted now =
     IsAnswered meaning start status now

@@ -49,8 +49,8 @@ pub record HasEnded (before now : Counts) (first last : SinkCounts) (status : St
   pub shortages : first.shortages ≤ last.shortages
   pub cause : HasCause status before now first last
 
--- The command was done, whether or not its line could be printed. This includes `WriteFault` where no error of writing
--- a file was counted: then only the line could not be printed.
+-- The command was done, and its line was printed, or printing it failed. `WriteFault` says the second where no error of
+-- writing a file was counted.
 abbrev pub IsAllDone : Status → Counts → Counts → Type 0
 IsAllDone status before now = (status ≡ Done) ⊎ ((status ≡ WriteFault) × ¬ Rose before.write_faults now.write_faults)
 

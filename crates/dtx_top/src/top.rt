@@ -135,7 +135,7 @@ pub fn run<S: Shelf, O: Sink>(alloc: Global, words: &[Word], shelf: &mut S, out:
     // feed unchanged through three cadence marks and on. From its first listing whose group starts 52 or more packets
     // later, it emits exactly the A/53 symbols of that feed. It does so at moments that differ between transmitters
     // only by the signalled offsets. Symbols with at most ten wrong bytes per codeword give the feed's packets back.
-    // This holds whenever the command was done, even if its line could not be printed.
+    // This holds whenever the command was done, even if printing its line failed.
     ensures headline { IfSome (S.files shelf.old) (λ held.
         IsAllDone result (S.counts shelf.old) (S.counts shelf.new)
         → HasHeadlineOf (command_of words.now) words.now held (S.files shelf.new)) }
