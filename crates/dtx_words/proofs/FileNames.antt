@@ -2,19 +2,17 @@
 use Rattle.std.proofs.Common.{◌≡◌, ℕ, ◌+◌, ◌≤◌, ◌<◌, true, false, List, [], ◌∷◌, ◌++◌, length, map, drop}
 use Rattle.std.proofs.Common.{get_or}
 use Rattle.std.proofs.Common.{refl, sym, ap, ◌∙◌, arith, add-one, append_assoc}
-use Rattle.std.specs.Prelude.{min}
+use Rattle.std.specs.Prelude.{min, nat_le}
 use Rattle.std.specs.Borrow.{Bor}
 use Rattle.std.proofs.Common.{inl, inr}
-use Rattle.std.proofs.lemmas.Bool.{cases_lt}
+use Rattle.std.proofs.lemmas.Bool.{cases_lt, leb-true}
 use Rattle.std.proofs.Math.Seq.{drop-cons}
 use Rattle.std.proofs.Math.ListN.{drop_of_length-le}
 use Rattle.dtx_words.specs.declared.rows.Command.{Command}
-use Rattle.dtx_words.specs.declared.rows.Command.TheVariants.{Adapt, Code, Excite, Receive, Net, Make, Hurt, Place}
-use Rattle.dtx_words.specs.declared.rows.Command.TheVariants.{Trial, Soft, Mend, DvbCode, DvbRead, Repeat}
-use Rattle.dtx_words.specs.declared.rows.Command.TheVariants.{Acquire, Watch, Level}
 use Rattle.dtx_words.specs.declared.rows.Field.{Field}
 use Rattle.dtx_words.specs.Names.{is_file, names_at}
 use Rattle.dtx_words.specs.Rows.{row_of}
+use Rattle.dtx_words.proofs.FittingLemmas.{of_every}
 
 -- the names at the fields and words from a place on
 abbrev pub names_from : List Field → List (List ℕ) → ℕ → List (List ℕ)
@@ -71,20 +69,5 @@ names_more before name rest further whole is so_far =
 
 -- no command has more fields than five
 pub few_fields : (command : Command) → length (row_of command).fields ≤ 5
-few_fields Adapt = omega arith
-few_fields Code = omega arith
-few_fields Excite = omega arith
-few_fields Receive = omega arith
-few_fields Net = omega arith
-few_fields Make = omega arith
-few_fields Hurt = omega arith
-few_fields Place = omega arith
-few_fields Trial = omega arith
-few_fields Soft = omega arith
-few_fields Mend = omega arith
-few_fields DvbCode = omega arith
-few_fields DvbRead = omega arith
-few_fields Repeat = omega arith
-few_fields Acquire = omega arith
-few_fields Watch = omega arith
-few_fields Level = omega arith
+few_fields command = leb-true (length (row_of command).fields) 5
+    (of_every (λ c. nat_le (length (row_of c).fields) 5) refl command)

@@ -1,5 +1,6 @@
 -- Lemmas of the command that the words fit: it is the one that they fit, and there is no other.
-use Rattle.std.specs.Prelude.{◌≡◌, ℕ, Bool, true, false, ◌&&◌, cond, codes, List, [], ◌∷◌, Option, Some, None, refl}
+use Rattle.std.specs.Prelude.{◌≡◌, ℕ, Bool, true, false, not, ◌&&◌, cond, codes, List, [], ◌∷◌, Option, Some}
+use Rattle.std.specs.Prelude.{None, refl}
 use Rattle.std.specs.List.{find}
 use Rattle.std.specs.Str.{bytes_eq}
 use Rattle.std.proofs.Common.{sym, ap, ◌∙◌, subst}
@@ -60,6 +61,15 @@ fails_of_all p all Repeat = all.1.1.1.1.1.1.1.1.1.1.1.1.1.0
 fails_of_all p all Acquire = all.1.1.1.1.1.1.1.1.1.1.1.1.1.1.0
 fails_of_all p all Watch = all.1.1.1.1.1.1.1.1.1.1.1.1.1.1.1.0
 fails_of_all p all Level = all.1.1.1.1.1.1.1.1.1.1.1.1.1.1.1.1.0
+
+-- a fact of every command, by one test over all of them: none fails it
+pub of_every : (test : Command → Bool) → find (λ c. not (test c)) commands ≡ None → (c : Command) → test c ≡ true
+of_every test none c =
+    passed (test c) (fails_of_all (λ d. not (test d)) (none_passes (λ d. not (test d)) commands none) c)
+  where
+    passed : (b : Bool) → not b ≡ false → b ≡ true
+    passed true e = refl
+    passed false e = let no : true ≡ false = e in cc
 
 -- the second word may be this: it is the command's own one, where it has one
 abbrev opens : List Field → List ℕ → Bool
