@@ -19,9 +19,8 @@ use Rattle.dtx_words.specs.Names.{names_at, repeated}
 use Rattle.dtx_words.specs.Rows.{acquire_row, adapt_row, code_row, excite_row, level_row, make_row, net_row}
 use Rattle.dtx_words.specs.Rows.{trial_row}
 use Rattle.dtx_words.specs.declared.rows.Command.{Command}
-use Rattle.dtx_words.specs.declared.rows.Command.TheVariants.{Adapt, Code, Excite, Receive, Net, Make, Hurt, Place}
-use Rattle.dtx_words.specs.declared.rows.Command.TheVariants.{Trial, Soft, Mend, DvbCode, DvbRead, Repeat}
-use Rattle.dtx_words.specs.declared.rows.Command.TheVariants.{Acquire, Watch, Level}
+use Rattle.dtx_words.specs.declared.rows.Command.TheVariants.{Acquire, Adapt, DvbCode, DvbRead, Excite, Hurt, Level}
+use Rattle.dtx_words.specs.declared.rows.Command.TheVariants.{Make, Net, Repeat, Trial}
 use Rattle.dtx_words.specs.declared.rows.Field.{Field}
 use Rattle.dtx_words.specs.declared.rows.Field.TheVariants.{Second}
 use Rattle.dtx_words.specs.declared.rows.SecondWord.{SecondWord}
@@ -174,25 +173,21 @@ trial_told verb words status fit = with_two (λ ws. fit_fields trial_row.fields 
 fitted_told : (command : Command) (words : List (List ℕ)) (status : Status) → fits command words ≡ true
     → IsOfCommand (Some command) words status → IsByWords (Some command) words status
 fitted_told command [] status fit is = let e : false ≡ true = fit in cc
-fitted_told Adapt (verb ∷ words) status fit is = (three_told verb words status (and_parts _ _ fit).1 is.0, is.1)
-fitted_told Code (verb ∷ words) status fit is = (two_told verb words status (and_parts _ _ fit).1 is.0, is.1)
-fitted_told Excite (verb ∷ words) status fit is = (excite_told verb words status (and_parts _ _ fit).1 is.0, is.1)
-fitted_told Receive (verb ∷ words) status fit is = (two_told verb words status (and_parts _ _ fit).1 is.0, is.1)
 fitted_told Net (verb ∷ words) status fit is = net_told verb words status (and_parts _ _ fit).1 is
-fitted_told Make (verb ∷ words) status fit is = (make_told verb words status (and_parts _ _ fit).1 is.0, is.1)
+fitted_told Adapt (verb ∷ words) status fit is = (three_told verb words status (and_parts _ _ fit).1 is.0, is.1)
 fitted_told Hurt (verb ∷ words) status fit is = (three_told verb words status (and_parts _ _ fit).1 is.0, is.1)
-fitted_told Place (verb ∷ words) status fit is = (two_told verb words status (and_parts _ _ fit).1 is.0, is.1)
+fitted_told Excite (verb ∷ words) status fit is = (excite_told verb words status (and_parts _ _ fit).1 is.0, is.1)
+fitted_told Repeat (verb ∷ words) status fit is = (excite_told verb words status (and_parts _ _ fit).1 is.0, is.1)
+fitted_told Make (verb ∷ words) status fit is = (make_told verb words status (and_parts _ _ fit).1 is.0, is.1)
 fitted_told Trial (verb ∷ words) status fit is = (trial_told verb words status (and_parts _ _ fit).1 is.0, is.1)
-fitted_told Soft (verb ∷ words) status fit is = (two_told verb words status (and_parts _ _ fit).1 is.0, is.1)
-fitted_told Mend (verb ∷ words) status fit is = (two_told verb words status (and_parts _ _ fit).1 is.0, is.1)
 fitted_told DvbCode (verb ∷ words) status fit is =
     (two_behind_told second.Code verb words status (and_parts _ _ fit).1 is.0, is.1)
 fitted_told DvbRead (verb ∷ words) status fit is =
     (two_behind_told second.Read verb words status (and_parts _ _ fit).1 is.0, is.1)
-fitted_told Repeat (verb ∷ words) status fit is = (excite_told verb words status (and_parts _ _ fit).1 is.0, is.1)
 fitted_told Acquire (verb ∷ words) status fit is = (acquire_told verb words status (and_parts _ _ fit).1 is.0, is.1)
-fitted_told Watch (verb ∷ words) status fit is = (two_told verb words status (and_parts _ _ fit).1 is.0, is.1)
 fitted_told Level (verb ∷ words) status fit is = (logged_told verb words status (and_parts _ _ fit).1 is.0, is.1)
+-- the others are `.. IN OUT`
+fitted_told command (verb ∷ words) status fit is = (two_told verb words status (and_parts _ _ fit).1 is.0, is.1)
 
 -- ---- behind the line
 
@@ -238,38 +233,8 @@ usage_finished status (Err sink.Failed) is = inl (ap (λ s. finished s (Err sink
 by_words_finished : (command : Command) (words : List (List ℕ)) (status : Status) (line : Result (Unit {0}) SinkNo)
     → IsByWords (Some command) words status → IsByWords (Some command) words (finished status line)
 by_words_finished Net words status line is = network_finished status line is
-by_words_finished Adapt words status line is =
-    (inputs_finished _ _ status line is.0, knows_finished Adapt status line is.1)
-by_words_finished Code words status line is =
-    (inputs_finished _ _ status line is.0, knows_finished Code status line is.1)
-by_words_finished Excite words status line is =
-    (inputs_finished _ _ status line is.0, knows_finished Excite status line is.1)
-by_words_finished Receive words status line is =
-    (inputs_finished _ _ status line is.0, knows_finished Receive status line is.1)
-by_words_finished Make words status line is =
-    (inputs_finished _ _ status line is.0, knows_finished Make status line is.1)
-by_words_finished Hurt words status line is =
-    (inputs_finished _ _ status line is.0, knows_finished Hurt status line is.1)
-by_words_finished Place words status line is =
-    (inputs_finished _ _ status line is.0, knows_finished Place status line is.1)
-by_words_finished Trial words status line is =
-    (inputs_finished _ _ status line is.0, knows_finished Trial status line is.1)
-by_words_finished Soft words status line is =
-    (inputs_finished _ _ status line is.0, knows_finished Soft status line is.1)
-by_words_finished Mend words status line is =
-    (inputs_finished _ _ status line is.0, knows_finished Mend status line is.1)
-by_words_finished DvbCode words status line is =
-    (inputs_finished _ _ status line is.0, knows_finished DvbCode status line is.1)
-by_words_finished DvbRead words status line is =
-    (inputs_finished _ _ status line is.0, knows_finished DvbRead status line is.1)
-by_words_finished Repeat words status line is =
-    (inputs_finished _ _ status line is.0, knows_finished Repeat status line is.1)
-by_words_finished Acquire words status line is =
-    (inputs_finished _ _ status line is.0, knows_finished Acquire status line is.1)
-by_words_finished Watch words status line is =
-    (inputs_finished _ _ status line is.0, knows_finished Watch status line is.1)
-by_words_finished Level words status line is =
-    (inputs_finished _ _ status line is.0, knows_finished Level status line is.1)
+by_words_finished command words status line is =
+    (inputs_finished _ _ status line is.0, knows_finished command status line is.1)
 
 -- the command that the words fit, behind its line
 pub words_told : (command : Option Command) (words : List (List ℕ)) (status : Status)

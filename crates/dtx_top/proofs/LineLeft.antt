@@ -17,9 +17,7 @@ use Rattle.dtx_words.specs.Line.{finished, line_at, line_of}
 use Rattle.dtx_words.specs.Names.{line_name}
 use Rattle.dtx_words.specs.Printed.{printed, IsPut}
 use Rattle.dtx_words.specs.declared.rows.Command.{Command}
-use Rattle.dtx_words.specs.declared.rows.Command.TheVariants.{Adapt, Code, Excite, Receive, Net, Make, Hurt, Place}
-use Rattle.dtx_words.specs.declared.rows.Command.TheVariants.{Trial, Soft, Mend, DvbCode, DvbRead, Repeat}
-use Rattle.dtx_words.specs.declared.rows.Command.TheVariants.{Acquire, Watch, Level}
+use Rattle.dtx_words.specs.declared.rows.Command.TheVariants.{Net}
 use Rattle.dtx_top.specs.Lines.{name_kept, names_told, HasLine, HasPartLine, IsSomeCount, IsSomeLine, IsSomeName}
 use Rattle.dtx_top.specs.Lines.{IsToldLine}
 use Rattle.dtx_top.specs.NetAnswers.{ShowsNetwork}
@@ -81,22 +79,7 @@ name_told : (command : Option Command) (words : List (List ℕ)) (held : Files) 
     → (command ≡ Some Net → name_kept command words status kept ≡ line_name status (names_told command words held))
     → name_kept command words status kept ≡ line_name status (names_told command words held)
 name_told (Some Net) words held status kept is = is refl
-name_told (Some Adapt) words held status kept is = refl
-name_told (Some Code) words held status kept is = refl
-name_told (Some Excite) words held status kept is = refl
-name_told (Some Receive) words held status kept is = refl
-name_told (Some Make) words held status kept is = refl
-name_told (Some Hurt) words held status kept is = refl
-name_told (Some Place) words held status kept is = refl
-name_told (Some Trial) words held status kept is = refl
-name_told (Some Soft) words held status kept is = refl
-name_told (Some Mend) words held status kept is = refl
-name_told (Some DvbCode) words held status kept is = refl
-name_told (Some DvbRead) words held status kept is = refl
-name_told (Some Repeat) words held status kept is = refl
-name_told (Some Acquire) words held status kept is = refl
-name_told (Some Watch) words held status kept is = refl
-name_told (Some Level) words held status kept is = refl
+name_told (Some command) words held status kept is = refl
 name_told None words held status kept is = refl
 
 -- the line of an outcome is that of the meaning
@@ -138,44 +121,14 @@ some_name : (command : Option Command) (words : List (List ℕ)) (status : Statu
     → (command ≡ Some Net → IsSomeName command words status (name_kept command words status kept))
     → IsSomeName command words status (name_kept command words status kept)
 some_name (Some Net) words status kept is = is refl
-some_name (Some Adapt) words status kept is = refl
-some_name (Some Code) words status kept is = refl
-some_name (Some Excite) words status kept is = refl
-some_name (Some Receive) words status kept is = refl
-some_name (Some Make) words status kept is = refl
-some_name (Some Hurt) words status kept is = refl
-some_name (Some Place) words status kept is = refl
-some_name (Some Trial) words status kept is = refl
-some_name (Some Soft) words status kept is = refl
-some_name (Some Mend) words status kept is = refl
-some_name (Some DvbCode) words status kept is = refl
-some_name (Some DvbRead) words status kept is = refl
-some_name (Some Repeat) words status kept is = refl
-some_name (Some Acquire) words status kept is = refl
-some_name (Some Watch) words status kept is = refl
-some_name (Some Level) words status kept is = refl
+some_name (Some command) words status kept is = refl
 some_name None words status kept is = refl
 
 -- how many numbers stand in a line, whatever the files are
 some_count : (command : Option Command) (outcome : Outcome) → (command ≡ None → outcome.status ≡ Usage)
     → (command ≡ Some Net → ShowsNetwork outcome.status outcome) → IsSomeCount command outcome.status outcome
 some_count (Some Net) outcome none is = is refl
-some_count (Some Adapt) outcome none is = tt
-some_count (Some Code) outcome none is = tt
-some_count (Some Excite) outcome none is = tt
-some_count (Some Receive) outcome none is = tt
-some_count (Some Make) outcome none is = tt
-some_count (Some Hurt) outcome none is = tt
-some_count (Some Place) outcome none is = tt
-some_count (Some Trial) outcome none is = tt
-some_count (Some Soft) outcome none is = tt
-some_count (Some Mend) outcome none is = tt
-some_count (Some DvbCode) outcome none is = tt
-some_count (Some DvbRead) outcome none is = tt
-some_count (Some Repeat) outcome none is = tt
-some_count (Some Acquire) outcome none is = tt
-some_count (Some Watch) outcome none is = tt
-some_count (Some Level) outcome none is = tt
+some_count (Some command) outcome none is = tt
 some_count None outcome none is = λ done. let e : Usage ≡ Done = sym (none refl) ∙ done in cc
 
 -- the line that is left, whatever the files are

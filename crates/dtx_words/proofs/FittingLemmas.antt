@@ -7,9 +7,8 @@ use Rattle.std.proofs.Common.{sym, ap, ◌∙◌, subst}
 use Rattle.std.proofs.lemmas.Bool.{and_parts}
 use Rattle.std.proofs.lemmas.Slice.Eq.{bytes_eq-Decides}
 use Rattle.dtx_words.specs.declared.rows.Command.{Command}
-use Rattle.dtx_words.specs.declared.rows.Command.TheVariants.{Adapt, Code, Excite, Receive, Net, Make, Hurt, Place}
-use Rattle.dtx_words.specs.declared.rows.Command.TheVariants.{Trial, Soft, Mend, DvbCode, DvbRead, Repeat}
-use Rattle.dtx_words.specs.declared.rows.Command.TheVariants.{Acquire, Watch, Level}
+use Rattle.dtx_words.specs.declared.rows.Command.TheVariants.{Adapt}
+use Rattle.dtx_words.specs.declared.rows.Command.TheVariants.{DvbCode, DvbRead}
 use Rattle.dtx_words.specs.declared.rows.Field.{Field}
 use Rattle.dtx_words.specs.declared.rows.Field.TheVariants.{Input, Output, Number, Within, Second}
 use Rattle.dtx_words.specs.Fitting.{fits, fit_fields, command_of}
@@ -42,35 +41,6 @@ none_passes p (first ∷ rest) is = tested (p first) refl (none_passes p rest) i
     tested true passes further is = let e : Some first ≡ None = is in cc
     tested false fails further is = (fails, further is)
 
--- each command is among all
-fails_of_all : (p : Command → Bool) → DoAllFail p commands → (c : Command) → p c ≡ false
-fails_of_all p all Adapt = all.0
-fails_of_all p all Code = all.1.0
-fails_of_all p all Excite = all.1.1.0
-fails_of_all p all Receive = all.1.1.1.0
-fails_of_all p all Net = all.1.1.1.1.0
-fails_of_all p all Make = all.1.1.1.1.1.0
-fails_of_all p all Hurt = all.1.1.1.1.1.1.0
-fails_of_all p all Place = all.1.1.1.1.1.1.1.0
-fails_of_all p all Trial = all.1.1.1.1.1.1.1.1.0
-fails_of_all p all Soft = all.1.1.1.1.1.1.1.1.1.0
-fails_of_all p all Mend = all.1.1.1.1.1.1.1.1.1.1.0
-fails_of_all p all DvbCode = all.1.1.1.1.1.1.1.1.1.1.1.0
-fails_of_all p all DvbRead = all.1.1.1.1.1.1.1.1.1.1.1.1.0
-fails_of_all p all Repeat = all.1.1.1.1.1.1.1.1.1.1.1.1.1.0
-fails_of_all p all Acquire = all.1.1.1.1.1.1.1.1.1.1.1.1.1.1.0
-fails_of_all p all Watch = all.1.1.1.1.1.1.1.1.1.1.1.1.1.1.1.0
-fails_of_all p all Level = all.1.1.1.1.1.1.1.1.1.1.1.1.1.1.1.1.0
-
--- a fact of every command, by one test over all of them: none fails it
-pub of_every : (test : Command → Bool) → find (λ c. not (test c)) commands ≡ None → (c : Command) → test c ≡ true
-of_every test none c =
-    passed (test c) (fails_of_all (λ d. not (test d)) (none_passes (λ d. not (test d)) commands none) c)
-  where
-    passed : (b : Bool) → not b ≡ false → b ≡ true
-    passed true e = refl
-    passed false e = let no : true ≡ false = e in cc
-
 -- the second word may be this: it is the command's own one, where it has one
 abbrev opens : List Field → List ℕ → Bool
 opens [] word = true
@@ -95,32 +65,60 @@ opens_of (Within least most ∷ fields) words fit = refl
 opens_of (Second second ∷ fields) [] fit = let e : false ≡ true = fit in cc
 opens_of (Second second ∷ fields) (word ∷ words) fit = (and_parts _ _ fit).0
 
+-- the command has this first word, and may have this second one
+abbrev is_named : List ℕ → List ℕ → Command → Bool
+is_named verb word c = bytes_eq verb (row_of c).verb && opens (row_of c).fields word
+
 -- the command of a first and a second word
 command_named : List ℕ → List ℕ → Option Command
-command_named verb word = find (λ c. bytes_eq verb (row_of c).verb && opens (row_of c).fields word) commands
+command_named verb word = find (is_named verb word) commands
 
 named_by_words : (c : Command) (word : List ℕ) → opens (row_of c).fields word ≡ true
     → command_named (row_of c).verb word ≡ Some c
 unfolding command_named
-named_by_words Adapt word is = refl
-named_by_words Code word is = refl
-named_by_words Excite word is = refl
-named_by_words Receive word is = refl
-named_by_words Net word is = refl
-named_by_words Make word is = refl
-named_by_words Hurt word is = refl
-named_by_words Place word is = refl
-named_by_words Trial word is = refl
-named_by_words Soft word is = refl
-named_by_words Mend word is = refl
 named_by_words DvbCode word is =
     subst (λ w. command_named (codes "dvb") w ≡ Some DvbCode) (sym ((bytes_eq-Decides word (codes "code")).0 is)) refl
 named_by_words DvbRead word is =
     subst (λ w. command_named (codes "dvb") w ≡ Some DvbRead) (sym ((bytes_eq-Decides word (codes "read")).0 is)) refl
-named_by_words Repeat word is = refl
-named_by_words Acquire word is = refl
-named_by_words Watch word is = refl
-named_by_words Level word is = refl
+named_by_words command word is = refl
+
+-- ---- facts of every command
+
+-- the second word of a command of two words, or no letters
+abbrev own_word : List Field → List ℕ
+own_word (Second second ∷ fields) = second_text second
+own_word fields = []
+
+own_opens : (c : Command) → opens (row_of c).fields (own_word (row_of c).fields) ≡ true
+own_opens Adapt = refl
+own_opens command = refl
+
+-- what is found is one of those that were searched
+found_fails : (p q : Command → Bool) (all : List Command) (c : Command) → DoAllFail p all → find q all ≡ Some c
+    → p c ≡ false
+found_fails p q [] c fails is = let e : None ≡ Some c = is in cc
+found_fails p q (first ∷ rest) c fails is = tested (q first) (found_fails p q rest c fails.1) is
+  where
+    tested : (b : Bool) → (find q rest ≡ Some c → p c ≡ false) → cond b (Some first) (find q rest) ≡ Some c → p c ≡ false
+    tested true further is =
+        let e : Some first ≡ Some c = is in let same : first ≡ c = cc in subst (λ x. p x ≡ false) same fails.0
+    tested false further is = further is
+
+-- each command is among all
+fails_of_all : (p : Command → Bool) → DoAllFail p commands → (c : Command) → p c ≡ false
+unfolding command_named
+fails_of_all p all c =
+    let word = own_word (row_of c).fields in
+    found_fails p (is_named (row_of c).verb word) commands c all (named_by_words c word (own_opens c))
+
+-- a fact of every command, by one test over all of them: none fails it
+pub of_every : (test : Command → Bool) → find (λ c. not (test c)) commands ≡ None → (c : Command) → test c ≡ true
+of_every test none c =
+    passed (test c) (fails_of_all (λ d. not (test d)) (none_passes (λ d. not (test d)) commands none) c)
+  where
+    passed : (b : Bool) → not b ≡ false → b ≡ true
+    passed true e = refl
+    passed false e = let no : true ≡ false = e in cc
 
 -- the first of words that fit a command is its word
 verb_is : (c : Command) (verb : List ℕ) (words : List (List ℕ)) → fits c (verb ∷ words) ≡ true → verb ≡ (row_of c).verb
