@@ -6,7 +6,7 @@ use Rattle.dtx_outside.specs.Counts.{Counts}
 use Rattle.dtx_outside.specs.Shelf.{Files}
 use Rattle.dtx_forms.specs.Job.{Job, IsJobPerformed}
 use Rattle.dtx_words.specs.declared.rows.Command.{Command}
-use Rattle.dtx_words.specs.declared.rows.Command.TheVariants.{Net}
+use Rattle.dtx_words.specs.declared.rows.Command.TheVariants.{Net, Trial}
 use Rattle.dtx_top.specs.Ends.{HasHeadlineOf, HasProgressOf, IsCommandPerformed}
 use Rattle.dtx_top.specs.Jobs.{job_of}
 
@@ -15,8 +15,8 @@ of_all : (P : Files → Type 0) (told : Option Files) → ((held : Files) → P 
 of_all P None is = tt
 of_all P (Some held) is = is held
 
--- a job of a command that is no network
-pub of_job : (command : Command) (job : Job) (words : List (List ℕ)) (outcome : Outcome) (kept : List ℕ)
+-- a job of a command that plays no network
+of_job : (command : Command) (job : Job) (words : List (List ℕ)) (outcome : Outcome) (kept : List ℕ)
     (told now : Option Files) (before after : Counts)
     → job_of command ≡ Some job
     → Some command ≢ Some Net
@@ -34,3 +34,27 @@ of_job command job words outcome kept told now before after is other progress he
   progress = of_all (λ held. HasProgressOf (Some command) words held outcome.status now) told progress;
   headline = of_all (λ held. outcome.status ≡ Done → HasHeadlineOf (Some command) words held now) told headline;
 }
+
+-- the command plays no network
+abbrev IsPlain : Command → Type 0
+IsPlain Net = ⊥
+IsPlain Trial = ⊥
+IsPlain command = Unit {0}
+
+plain_performed : (command : Command) (job : Job) (words : List (List ℕ)) (outcome : Outcome) (kept : List ℕ)
+    (told now : Option Files) (before after : Counts)
+    → IsPlain command → job_of command ≡ Some job → IsJobPerformed job words outcome told now before after
+    → IsCommandPerformed (Some command) words outcome kept told now before after
+plain_performed Net job words outcome kept told now before after plain is done = absurd plain
+plain_performed Trial job words outcome kept told now before after plain is done = absurd plain
+plain_performed command job words outcome kept told now before after plain is done =
+    of_job command job words outcome kept told now before after is (λ same. cc) (λ _. tt) (λ _ _. tt) done
+
+-- the outcome of a job is that of its command
+pub performed : (command plain : Command) (job : Job) (words : List (List ℕ)) (outcome result : Outcome) (kept : List ℕ)
+    (told now : Option Files) (before after : Counts)
+    → command ≡ plain → IsPlain plain → job_of plain ≡ Some job → result ≡ outcome
+    → IsJobPerformed job words outcome told now before after
+    → IsCommandPerformed (Some command) words result kept told now before after
+performed command plain job words outcome result kept told now before after same is_plain is same_outcome done =
+    rw (same, same_outcome) (plain_performed plain job words outcome kept told now before after is_plain is done)

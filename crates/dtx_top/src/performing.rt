@@ -29,6 +29,7 @@ pub(crate) fn perform<S: Shelf>(
 }
 
 /// Performs this command with these words, and doesn't print its line.
+#[tactic(auto, using(crate::proofs::Performed::performed))]
 fn perform_one<S: Shelf>(
     alloc: Global,
     command: Command,
