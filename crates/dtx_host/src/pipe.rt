@@ -7,9 +7,9 @@ use std::alloc::{AllocError, Global};
 use std::io::{Input, Read};
 
 /// How many bytes of the last read are kept, from its end. Each command reads one byte of an input before it begins its
-/// outputs, and reads that byte again with its first piece. No command needs more than this, and keeping them costs
-/// little beside a read.
-const KEPT: usize = 256;
+/// outputs, and reads that byte again with its first piece. And what a piece leaves of a group, at most 831 bytes, is
+/// read again with the next piece. Keeping them costs little beside a read.
+const KEPT: usize = 1024;
 
 /// An input that is read once, in order.
 #[derive(Drop)]

@@ -45,8 +45,8 @@ pub record HasGone (before now : Counts) (blame : Blame) : Type 0 where
   pub risen : HasRisen blame before now
 
 -- what the answer of a read is blamed on: out of memory raises no count
-abbrev pub blame_of_read : Result ℕ ReadNo → Blame
-blame_of_read (Ok n) = Nothing
+abbrev pub blame_of_read : {T : Type 0} → Result T ReadNo → Blame
+blame_of_read (Ok x) = Nothing
 blame_of_read (Err read_no.Absent) = Missing
 blame_of_read (Err read_no.Failed) = Reading
 blame_of_read (Err read_no.Memory) = Nothing
