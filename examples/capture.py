@@ -2,7 +2,7 @@
 """Makes of a symbol file what a receiver might have taken from the air: capture.py SCALE DECIBELS SEED IN OUT [CHANGE]..
 
 A symbol of IN lies at SCALE steps a unit (1 to 18) in OUT, with noise. DECIBELS, with at most two decimals, is how far the data symbols,
-whose mean power is 21, stand above it. A CHANGE is one of these; cuts count the symbols that were put in.
+whose mean power is 21, stand above the noise. A CHANGE is one of these; cuts count the symbols that were put in.
 
   --front N       N symbols of noise alone stand in front
   --insert AT N   N symbols of noise alone stand before symbol AT of IN

@@ -11,9 +11,10 @@ import sys
 import tomllib
 from pathlib import Path
 
-from matplotlib.patches import Patch
-
+# Before matplotlib, since it says what to install where that is missing.
 from drawing import Missing, figure, finish, first_of, packets_in, program, segments_to_packets, times_above
+
+from matplotlib.patches import Patch
 
 FRAME, SEGMENT, STEPS = 624, 832, 60
 GRAINS = 1539
