@@ -99,7 +99,8 @@ found_fails : (p q : Command → Bool) (all : List Command) (c : Command) → Do
 found_fails p q [] c fails is = let e : None ≡ Some c = is in cc
 found_fails p q (first ∷ rest) c fails is = tested (q first) (found_fails p q rest c fails.1) is
   where
-    tested : (b : Bool) → (find q rest ≡ Some c → p c ≡ false) → cond b (Some first) (find q rest) ≡ Some c → p c ≡ false
+    tested : (b : Bool) → (find q rest ≡ Some c → p c ≡ false) → cond b (Some first) (find q rest) ≡ Some c
+        → p c ≡ false
     tested true further is =
         let e : Some first ≡ Some c = is in let same : first ≡ c = cc in subst (λ x. p x ≡ false) same fails.0
     tested false further is = further is
