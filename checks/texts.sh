@@ -175,14 +175,12 @@ missing_files() {
 }
 
 # At most thirty words where someone begins to read, and forty elsewhere: in the other pages, and in comments of code and
-# definitions. Those of six crates, and of five files that others work on, are left out for now.
+# definitions.
 long_sentences() {
-    local left='dtx_(outer|spread|coder|receiver|erase|dvb)/|dtx_packet_jobs/src/dvb_(coding|reading)[.]rt'
-    left+='|dtx_jobs/src/(stream_coder|reception|segment_receiver)[.]rt'
     local others
     mapfile -t others < <(
         files '*.md' | grep -vxE 'README[.]md|docs/guide[.]md'
-        files 'crates/*/src/*.rt' 'crates/*/specs/*.antt' | grep -vE "^crates/($left)"
+        files 'crates/*/src/*.rt' 'crates/*/specs/*.antt'
     )
     checks/sentences.py 30 README.md docs/guide.md
     checks/sentences.py 40 "${others[@]}"

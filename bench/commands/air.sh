@@ -1,10 +1,18 @@
 #!/usr/bin/env bash
-# Measures what is made of the symbols of a feed of 100 MB: `dtx mend` beside `dtx receive`, of symbols of which none is missing; `dtx repeat`
-# beside `receive` and `dtx excite` of what was received; `dtx acquire` beside `dtx soft`, of symbols with noise, and of one that has 10,000,000
-# symbols of noise in front, which are searched; `dtx level` of the same two, beside `acquire`. All of it in one run, on one processor where
-# `taskset` is there, each the best of three. It needs 3 GB on the disk of temporary files. The status is 0 where `mend` takes at most 1.25
-# times as long as `receive`, `repeat` at most 1.1 times as long as both others, `acquire` at most 1.2 times as long as `soft`, `level` at most
-# 1.2 times as long as `acquire`, and a search at most 40 ns a symbol, or 45 ns by `level`.
+# Measures what is made of the symbols of a feed of 100 MB:
+# - `dtx mend` beside `dtx receive`, of symbols of which none is missing
+# - `dtx repeat` beside `receive` and `dtx excite` of what was received
+# - `dtx acquire` beside `dtx soft`, of symbols with noise
+# - `acquire` of a capture that has 10,000,000 symbols of noise in front, which are searched
+# - `dtx level` of these two captures, beside `acquire`
+#
+# All of it is one run, on one processor where `taskset` is there, each the best of three. It needs 3 GB on the disk
+# of temporary files. The status is 0 where these bars hold:
+# - `mend` takes at most 1.25 times as long as `receive`.
+# - `repeat` takes at most 1.1 times as long as both others.
+# - `acquire` takes at most 1.2 times as long as `soft`.
+# - `level` takes at most 1.2 times as long as `acquire`.
+# - A search takes at most 40 ns a symbol, or 45 ns by `level`.
 
 set -eu
 rounds=3

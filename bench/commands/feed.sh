@@ -1,10 +1,16 @@
 #!/usr/bin/env bash
-# Measures `dtx adapt` of a made stream of 200 MB and `dtx excite` of its feed beside `dtx code` of the same packets,
-# whose coder both of them run; `dtx watch` of the feed beside `excite`; and the memory of `adapt` and `excite` at 200
-# MB and at 2 MB. All of it in one run, on one processor where `taskset` is there, each the best of three. It needs
-# 2.5 GB on the disk of temporary files. The status is 0 where `adapt` takes at most 0.75 times as long as `code` of
-# the stream, `excite` at most 1.1 times as long as `code` of the feed, `watch` at most 1.1 times as long as `excite`,
-# and the memory is the same, but for 256 kB by which it differs from run to run.
+# Measures these, in one run:
+# - `dtx adapt` of a made stream of 200 MB and `dtx excite` of its feed, beside `dtx code` of the same packets, whose
+#   coder both of them run
+# - `dtx watch` of the feed beside `excite`
+# - the memory of `adapt` and `excite` at 200 MB and at 2 MB
+#
+# It runs on one processor where `taskset` is there, and takes the best of three. It needs 2.5 GB on the disk of
+# temporary files. The status is 0 where these bars hold:
+# - `adapt` takes at most 0.75 times as long as `code` of the stream.
+# - `excite` takes at most 1.1 times as long as `code` of the feed.
+# - `watch` takes at most 1.1 times as long as `excite`.
+# - The memory is the same, but for 256 kB by which it differs from run to run.
 
 set -eu
 rounds=3

@@ -1,10 +1,15 @@
 #!/usr/bin/env bash
-# Measures how much memory each command holds at most, over a stream of 31,200 packets, and the program where no words are given: each the
-# least of five runs, since where the loader puts the program and its stack changes it by up to 250 kB. It needs 200 MB on the disk of
-# temporary files. The status is 0 where each is at most its bar, which is what the commands held when each had a loop of its own; of `soft`,
-# which holds a field, and of `acquire` 12 MB, of `mend` twice what `receive` may hold, of `repeat` what `receive` and `excite` may hold, of
-# `watch` what `excite` may hold, of the other outer coding what `adapt` and `receive` may hold, and of `net` with 1,020 transmitters over a
-# frame 256 MB, and over a frame with 35 what it may hold with one and 8 MB more.
+# Measures how much memory each command holds at most, over a stream of 31,200 packets, and the program without words.
+# Each figure is the least of five runs: where the loader puts the program and its stack changes it by up to 250 kB.
+# It needs 200 MB on the disk of temporary files. The status is 0 where each command holds at most its bar:
+# - every command that isn't named below: what it held when each command had a loop of its own
+# - `soft`, which holds a field, and `acquire`: 12 MB
+# - `mend`: twice the bar of `receive`
+# - `repeat`: the bars of `receive` and `excite` together
+# - `watch`: the bar of `excite`
+# - the other outer coding: the bars of `adapt` and `receive`
+# - `net` with 1,020 transmitters over a frame: 256 MB
+# - `net` with 35 transmitters over a frame: the bar of `net` with one, and 8 MB more
 
 set -eu
 rounds=5

@@ -1,12 +1,18 @@
 #!/usr/bin/env bash
-# Measures `dtx net` of three transmitters, each of which is given the whole feed of 31,200 packets, beside `dtx adapt` and three times
-# `dtx excite` of the same stream; `net` of 35 transmitters over two frames; `net` of 1,020 transmitters over a frame, beside three that are
-# given as many packets together; the memory of each, and that of one transmitter over the two frames; and `dtx hurt` of 200 MB, with one
-# entry of damage and with 100,000, beside `cat`. All of it in one run, on one processor where `taskset` is there, each the best of three.
-# The stream of the 1,020, and that of the three beside them, has placeholders enough at the beginning of each frame that all thirty pages
-# are told in time for most of it to be sent. It needs 2 GB on the disk of temporary files. The status is 0 where 35 exciters need at most 8
-# MB more memory than one, 1,020 need at most 256 MB, with 1,020 a packet that is given takes at most 1.25 times as long as with three, and
-# `net` of three takes at most 1.2 times as long as the commands beside it, where files stand in memory.
+# Measures these, in one run:
+# - `dtx net` of three transmitters, each of which is given the whole feed of 31,200 packets, beside `dtx adapt` and
+#   three times `dtx excite` of the same stream
+# - `net` of 35 transmitters over two frames
+# - `net` of 1,020 transmitters over a frame, beside three that are given as many packets together
+# - the memory of each, and that of one transmitter over the two frames
+# - `dtx hurt` of 200 MB, with one entry of damage and with 100,000, beside `cat`
+#
+# It runs on one processor where `taskset` is there, and takes the best of three. The stream of the 1,020, and that of
+# the three beside them, has many placeholders at the beginning of each frame. So all thirty pages are told in time
+# for most of it to be sent. It needs 2 GB on the disk of temporary files. The status is 0 where these bars hold:
+# - 35 exciters need at most 8 MB more memory than one, and 1,020 need at most 256 MB.
+# - With 1,020, a packet that is given takes at most 1.25 times as long as with three.
+# - `net` of three takes at most 1.2 times as long as the commands beside it, where files stand in memory.
 
 set -eu
 rounds=3

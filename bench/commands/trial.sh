@@ -1,7 +1,7 @@
 #!/usr/bin/env bash
-# Measures `dtx trial 1 N` for N of 10,000, 312,000 and 1,000,000 packets, on one processor where `taskset` is there, each the best of three:
-# MB of feed a second, how many times as long a packet of the longest takes as one of the shortest, and the memory of both. It needs 4 GB on the
-# disk of temporary files.
+# Measures `dtx trial 1 N` for N of 10,000, 312,000 and 1,000,000 packets, on one processor where `taskset` is there,
+# each the best of three. It prints three figures: MB of feed a second, how many times as long a packet of the longest
+# takes as one of the shortest, and the memory of both. It needs 4 GB on the disk of temporary files.
 
 set -eu
 rounds=3

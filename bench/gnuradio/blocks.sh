@@ -1,7 +1,7 @@
 # shellcheck shell=bash
-# What the measures beside GNU Radio share, to be sourced by them behind timing.sh: the Python that its blocks are installed
-# for, the part of the symbols that it gets, and how the times of both are told. examples/radio and checks/radio.sh source
-# it for the first alone.
+# What the measures beside GNU Radio share. They source it after timing.sh. It finds the Python that GNU Radio's
+# blocks are installed for, cuts the part of the symbols that they get, and prints the times of both. examples/radio
+# and checks/radio.sh source it only to find that Python.
 
 # GNU Radio is slow, so it gets a part of the symbols: so many whole fields.
 few_fields=34

@@ -2,7 +2,7 @@
 """Damages symbols so that each codeword has so many wrong bytes: damage.py IN OUT MEAN.
 
 IN begins with a field sync and has whole fields. Where MEAN is no whole number, each word has the number above or below it, at
-random. A byte is wrong by one of its first three symbols, whose level is eight more or less: so no other byte is (ATSC A/53
+random. A byte is wrong by one of its first three symbols, whose level is eight more or less. So no other byte is (ATSC A/53
 Part 2, convolutional interleaver, and trellis coding with the precoder of each of the twelve coders).
 """
 

@@ -1,8 +1,9 @@
 #!/usr/bin/env bash
-# Measures `dtx receive` on symbols of a made stream in whose words 1.3 bytes, and then ten, are wrong, beside GNU Radio's receive chain on
-# a part of them, where Debian's packages `gnuradio` and `python3-numpy` are installed, and says how many of the packets each gave back.
-# All of it in one run, on one processor where `taskset` is there, `dtx` the best of three and the other once. It needs 500 MB on the disk
-# of temporary files. The status is 0 where `dtx` is at least 40 and 15 times as fast, and where there is no GNU Radio.
+# Measures `dtx receive` on symbols of a made stream in whose words 1.3 bytes, and then ten, are wrong. Beside it
+# stands GNU Radio's receive chain on a part of them, where Debian's packages `gnuradio` and `python3-numpy` are
+# installed. It says how many of the packets each gave back. All of it is one run, on one processor where `taskset` is
+# there, `dtx` the best of three and the other once. It needs 500 MB on the disk of temporary files. The status is 0
+# where `dtx` is at least 40 and 15 times as fast, and where there is no GNU Radio.
 
 set -eu
 rounds=3

@@ -1,8 +1,11 @@
 #!/usr/bin/env bash
-# How many packets of a made stream come back of its symbols with noise, by decibels of the signal over the noise: of a capture at one step a
-# unit by `receive`, and by `soft` and by `acquire` with `receive` behind them; of one at eight steps by `acquire`, and by GNU Radio's receive
-# chain, where Debian's packages `gnuradio` and `python3-numpy` are installed. Prints a table with tabs, which
-# examples/pictures/reception.py draws: decibels.sh [DECIBELS..]. It takes a minute for each line.
+# How many packets of a made stream come back of its symbols with noise, by decibels of the signal over the noise:
+# - of a capture at one step a unit, by `receive`, and by `soft` and by `acquire` with `receive` after them
+# - of a capture at eight steps a unit, by `acquire`
+# - of the same, by GNU Radio's receive chain, where Debian's packages `gnuradio` and `python3-numpy` are installed
+#
+# `decibels.sh [DECIBELS..]` prints a table with tabs, which examples/pictures/reception.py draws. It takes a minute
+# for each line.
 
 set -eu
 stream=1300

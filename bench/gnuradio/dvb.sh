@@ -1,8 +1,9 @@
 #!/usr/bin/env bash
-# Measures `dtx dvb code` on a made stream of 200 MB and `dtx dvb read` on what that writes beside GNU Radio's blocks of DVB-T, whose outer
-# coding is that of EN 300 429, where Debian's package `gnuradio` is installed, and says whether both give the same bytes and packets; the
-# packets also where eight bytes of each word are wrong. All of it in one run, on one processor where `taskset` is there, `dtx` the best of
-# three and the other once. It needs 1 GB on the disk of temporary files. The status is 0 where the two are at least 25 and 20 times as
+# Measures `dtx dvb code` on a made stream of 200 MB, and `dtx dvb read` on what that writes. Beside them stand GNU
+# Radio's blocks of DVB-T, whose outer coding is that of EN 300 429, where Debian's package `gnuradio` is installed.
+# It says whether both give the same bytes and packets. The packets are also compared where eight bytes of each word
+# are wrong. All of it is one run, on one processor where `taskset` is there, `dtx` the best of three and the other
+# once. It needs 1 GB on the disk of temporary files. The status is 0 where the two are at least 25 and 20 times as
 # fast and give the same, and where there is no GNU Radio.
 
 set -eu

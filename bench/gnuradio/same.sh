@@ -1,8 +1,8 @@
 #!/usr/bin/env bash
-# Codes a made stream of 2,000 packets by `dtx code` and by GNU Radio's blocks of the same coding, and says whether their
-# symbols are the same: all data segments, symbol for symbol, and the field syncs but for symbols 709, 711, 713 and 715,
-# which are mode bits that the profile chooses otherwise. The status is 0 where they are, and where there is no GNU Radio
-# (Debian's packages `gnuradio` and `python3-numpy`).
+# Codes a made stream of 2,000 packets by `dtx code` and by GNU Radio's blocks of the same coding (Debian's packages
+# `gnuradio` and `python3-numpy`). It says whether their symbols are the same: all data segments, symbol for symbol,
+# and the field syncs. Symbols 709, 711, 713 and 715 of a field sync are left out, since they are mode bits that the
+# profile chooses otherwise. The status is 0 where the symbols are the same, and where there is no GNU Radio.
 
 set -eu
 packets=2000

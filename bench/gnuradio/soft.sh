@@ -1,9 +1,13 @@
 #!/usr/bin/env bash
-# Measures `dtx soft` on the symbols of a made stream with noise beside GNU Radio's whole receive chain on a part of them, and beside its
-# Viterbi decoder alone on that part's lists of symbols of each trellis coder and field, where Debian's packages `gnuradio` and
-# `python3-numpy` are installed, and says whether the paths of both cost the same. All of it in one run, on one processor where `taskset` is
-# there, `dtx` the best of three and the other once. It needs 500 MB on the disk of temporary files. The status is 0 where `dtx` is at
-# least 20 times as fast as each of them and the costs are the same, and where there is no GNU Radio.
+# Measures `dtx soft` on the symbols of a made stream with noise. Beside it, where Debian's packages `gnuradio` and
+# `python3-numpy` are installed, stand two of GNU Radio, each on a part of the symbols:
+# - its whole receive chain
+# - its Viterbi decoder alone, on that part's lists of symbols of each trellis coder and field
+#
+# It says whether the paths of `dtx` and of the Viterbi decoder cost the same. All of it is one run, on one processor
+# where `taskset` is there, `dtx` the best of three and the other once. It needs 500 MB on the disk of temporary
+# files. The status is 0 where `dtx` is at least 20 times as fast as each of them and the costs are the same, and
+# where there is no GNU Radio.
 
 set -eu
 rounds=3

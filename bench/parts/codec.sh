@@ -1,7 +1,8 @@
 #!/bin/sh
-# Measures whitening, the interleaver, the outer coding, the trellis coders, a whole group and the certificate of a least path beside
-# the same shapes in plain Rust, on one core and in one run, and prints the least time of each and their ratio. The status is 0 where
-# the trellis coders take at most twice as long as the same sixteen lanes in plain Rust.
+# Measures whitening, the interleaver, the outer coding, the trellis coders, a whole group, and the certificate of a
+# least path. Each stands beside the same shape in plain Rust, on one core and in one run. It prints the least time of
+# each and their ratio. The status is 0 where the trellis coders take at most twice as long as the same sixteen lanes
+# in plain Rust.
 # It wants `rustc`, and the kit's `rt` where the program isn't built yet.
 set -eu
 bar=2

@@ -1,8 +1,11 @@
 #!/bin/sh
-# Measures the correctors beside the encoder and beside a corrector in plain Rust by the same method, on one core and in one run,
-# and prints the least times. The status is 0 where an undamaged word takes the linear corrector at most one and a half times as
-# long as to encode it; where the faster one takes at most so much of the plain one's time: 1 with one wrong byte, 0.8 with four,
-# 0.67 with seven, 0.61 with ten; and where it gives a word up no later than it corrects ten.
+# Measures the correctors beside the encoder and beside a corrector in plain Rust by the same method, on one core and
+# in one run, and prints the least times. The status is 0 where these bars hold:
+# - The linear corrector takes at most one and a half times as long for an undamaged word as the encoder takes to make
+#   it.
+# - The faster one takes at most so much of the plain one's time: 1 with one wrong byte, 0.8 with four, 0.67 with
+#   seven, 0.61 with ten.
+# - The faster one gives a word up no later than it corrects ten wrong bytes.
 # It wants `rustc`, and the kit's `rt` where the program isn't built yet.
 set -eu
 

@@ -1,6 +1,6 @@
 #!/usr/bin/env python3
-"""Counts, by the written rules alone, how many symbols in a row may be wrong or missing: for each symbol at which they may begin, within a
-period of the interleaver and the coders, the bytes that hang on them, word by word.
+"""Counts, by the written rules alone, how many symbols in a row may be wrong or missing. For each symbol at which they may begin, within a
+period of the interleaver and the coders, it counts the bytes that hang on them, word by word.
 
 bursts.py    prints the greatest numbers, and ends with the line `bursts: N passed, M failed`
 """

@@ -1,6 +1,6 @@
 #!/usr/bin/env python3
-"""Tries `dtx mend` on random lists of segments in which symbols are missing and others wrong, against the written rules over whole lists: a
-symbol of -128 is missing, the bytes that hang on it are marked, and a word is put right where twice its wrong bytes and its marked ones are
+"""Tries `dtx mend` on random lists of segments in which symbols are missing and others wrong, against the written rules over whole lists. A
+symbol of -128 is missing, and the bytes that hang on it are marked. A word is put right where twice its wrong bytes and its marked ones are
 at most twenty.
 
 mend.py DTX LISTS    names each list that differs, and ends with the line `mend: N passed, M failed`

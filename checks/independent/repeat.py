@@ -1,6 +1,6 @@
 #!/usr/bin/env python3
-"""Tries `dtx repeat` on random symbol files, cut, spliced and damaged, against the written rules over whole lists: each run is received, its
-marks are restored from the turns of first and second fields, and an exciter that was given nothing before is given its packets.
+"""Tries `dtx repeat` on random symbol files, cut, spliced and damaged, against the written rules over whole lists. Each run is received, and
+its marks are restored from the turns of first and second fields. An exciter that was given nothing before is given its packets.
 
 repeat.py DTX LISTS    names each list that differs, and ends with the line `repeat: N passed, M failed`
 """

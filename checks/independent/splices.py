@@ -1,7 +1,7 @@
 #!/usr/bin/env python3
-"""Tries `dtx receive` on random lists of segments, cut and spliced, against the written rules and what follows of them: of a file's first
-bytes the file's first packets are received, and of two files one behind the other, where no run is on at the end of the first, the packets
-of each.
+"""Tries `dtx receive` on random lists of segments, cut and spliced, against the written rules and two things that follow from them. Of a
+file's first bytes the file's first packets are received. Of two files one behind the other the packets of each are received, where no run
+is on at the end of the first.
 
 splices.py DTX LISTS    names each list that differs, and ends with the line `splices: N passed, M failed`
 """

@@ -1,6 +1,6 @@
 #!/usr/bin/env python3
-"""Tries `dtx watch` on random lists of packets, against the written rules over the whole list: what each operations packet of a feed says is
-held against the coders that an exciter would have there, and against the clock of the one before it.
+"""Tries `dtx watch` on random lists of packets, against the written rules over the whole list. What each operations packet of a feed says is
+compared with the coders that an exciter would have there, and with the clock of the one before it.
 
 watch.py DTX LISTS    names each list that differs, and ends with the line `watch: N passed, M failed`
 watch.py watch IN OUT writes the events of the feed IN to OUT, and prints the line of `watch`

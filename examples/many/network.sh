@@ -1,7 +1,8 @@
 #!/usr/bin/env bash
-# network.sh PLAN STREAM ADDRESS:DELAY..: a network whose transmitters are given the whole feed, one exciter each side by
-# side: net.feed, and for each address tx-ADDRESS.sym and tx-ADDRESS.log, in the current folder, as `dtx net` writes them
-# where its events give the whole feed to each of them. DELAY is that of the transmitter in the plan.
+# network.sh PLAN STREAM ADDRESS:DELAY..: a network whose transmitters are given the whole feed, with one exciter for
+# each, side by side. It writes net.feed, and tx-ADDRESS.sym and tx-ADDRESS.log for each address, in the current
+# folder. They are what `dtx net` writes where its events give the whole feed to each transmitter. DELAY is that of
+# the transmitter in the plan.
 
 . "$(dirname "${BASH_SOURCE[0]}")/pieces.sh"
 usage='usage: network.sh PLAN STREAM ADDRESS:DELAY..'

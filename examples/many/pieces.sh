@@ -5,9 +5,9 @@
 # Piece N has its input in-N, and words-N, the words that dtx is given for it; it gives out-N, log-N where the command
 # has a log, its line in line-N, and its status in status-N. `piece.sh N` in that folder runs it, here or elsewhere.
 #
-# The pieces run side by side on the processors of this machine, by xargs; with PARALLEL=1 by GNU parallel, and with
-# SSHLOGIN=.. on the machines that its option --sshlogin takes; with SLURM=1 as an array of jobs over a shared folder.
-# FOLDER=.. names the folder of the pieces, which is else one of temporary files.
+# The pieces run side by side on the processors of this machine, by xargs. With PARALLEL=1 they run by GNU parallel, and
+# with SSHLOGIN=.. on the machines that its option --sshlogin takes. With SLURM=1 they run as an array of jobs over a
+# shared folder. FOLDER=.. names the folder of the pieces, which is else one of temporary files.
 
 set -o pipefail
 export LC_ALL=C

@@ -3,8 +3,8 @@
 # side, each given a piece of the symbols. All field syncs have to stand where the first one says, every 313 segments.
 #
 # A receiver's run begins at a field sync, and a packet is whole 52 data segments behind its own. So each piece begins at a
-# field sync, and has one and 52 data segments more than its fields: of what it gives, the first 312 packets a field are
-# taken, and the next one is the first of the next piece, with which it is compared.
+# field sync, and has a field sync and 52 data segments more than its fields. Of what it gives, the first 312 packets a
+# field are taken. The next one is the first of the next piece, with which it is compared.
 
 . "$(dirname "${BASH_SOURCE[0]}")/pieces.sh"
 if (($# != 3)) || ! [[ $1 =~ ^[1-9][0-9]{0,3}$ ]]; then

@@ -1,10 +1,14 @@
 #!/usr/bin/env python3
 """Draws what `dtx net PLAN` left in this folder: network.py PLAN NAME writes NAME.svg and NAME.png.
 
-A row a transmitter, over the packets of the feed and the time that they take on the air: the plan's events by their numbers, what it was given,
-what it sent, its presets, its mutes with their cause, its restarts, and by how many ticks of 100 ns its moments differ from those of the first
-transmitter that sent. The last row is that of the receiver, where the plan has one: the symbols that were damaged, bytes put right, and packets flagged. For that row
-`dtx` is run, which must be found by the shell or beside the examples.
+Each transmitter has a row, over the packets of the feed and the time that they take on the air. It shows:
+
+  the plan's events, by their numbers, what it was given and what it sent
+  its presets, its mutes with their cause, and its restarts
+  by how many ticks of 100 ns its moments differ from those of the first transmitter that sent
+
+The last row is that of the receiver, where the plan has one: the symbols that were damaged, bytes put right, and packets flagged. For that
+row `dtx` is run, which must be found by the shell or beside the examples.
 """
 
 import sys

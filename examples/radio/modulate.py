@@ -1,10 +1,11 @@
 #!/usr/bin/env python3
 """Sends symbols through a channel: modulate.py [OPTION].. OUT --send SYMBOLS LOG WAY DECIBELS DEGREES [--send ..]..
 
-OUT is complex baseband: complex64, the channel's middle at 0 Hz. There is a --send for each transmitter: its symbol
-file and its log, as `dtx` writes them; by how many symbols its way to the receiver is longer, which may be a part; its
-level; and the phase of its carrier. When it sends is told by its log, whose orders have to be less than a second
-apart. All of them run on one symbol clock, that of the first one; moments of the same orders tell how late another is.
+OUT is complex baseband: complex64, the channel's middle at 0 Hz. There is a --send for each transmitter. SYMBOLS and LOG
+are its symbol file and its log, as `dtx` writes them. WAY is by how many symbols its way to the receiver is longer, which
+may be a part. DECIBELS is its level, and DEGREES the phase of its carrier. When it sends is told by its log, whose orders
+have to be less than a second apart. All of them run on one symbol clock, that of the first one; moments of the same
+orders tell how late another is.
 """
 
 import math

@@ -40,8 +40,9 @@ fn main(rt: HostRuntime) -> ExitCode {
     }
 }
 
-/// Opens /dev/null for standard streams that are closed. Otherwise a file of the command could take the place of one,
-/// and what is printed would go into that file. Printing to such a stream fails.
+/// Opens /dev/null for reading three times. Each open takes the lowest descriptor that is free, so each standard stream
+/// that is closed gets one of them. Otherwise a file of the command could take the place of such a stream, and what is
+/// printed would go into that file. Now printing to it fails.
 fn stand_in<R: Files>(rt: &R) -> [io::Result<R::File>; 3] {
     [
         File::open(rt, "/dev/null"),
@@ -50,7 +51,7 @@ fn stand_in<R: Files>(rt: &R) -> [io::Result<R::File>; 3] {
     ]
 }
 
-/// The words after the program's name.
+/// The words after the program's name. The error is out of memory, or a word that isn't UTF-8.
 fn words(rt: &(impl Env + AllocGlobal)) -> io::Result<Vec<Word>> {
     let mut words = Vec::new(rt.alloc());
     for text in env::args(rt)?.skip(1) {

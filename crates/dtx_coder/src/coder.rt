@@ -140,7 +140,8 @@ impl Coder {
 
     /// Interleaves the codewords of whole groups, and sets `bytes` to what leaves the interleaver meanwhile, 207 bytes
     /// for each packet. The first packet stands at place `first` of its field, and all stand in this field. The states
-    /// and the last symbols stay. So the caller sends these groups, in order, before it interleaves more.
+    /// and the last symbols stay: `send` moves them on. The caller sends these groups, in order, before it interleaves
+    /// more.
     pub fn interleave(&mut self, first: u16, packets: &[[u8; PACKET]], bytes: &mut [u8])
         requires whole { length packets.now % GROUP_PACKETS ≡ 0 }
         requires in_field { first + length packets.now ≤ FIELD_PACKETS }

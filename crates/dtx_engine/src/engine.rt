@@ -33,7 +33,7 @@ pub trait Engine {
     /// These are the bytes that were given to the engine so far.
     ghost stands: { Self → List ℕ → Type 0 };
 
-    /// What the last call has made, where these bytes are now in the buffer that it was lent.
+    /// What the last call has made, given the bytes that are now in the buffer that it was lent.
     ghost gives: { Self → List ℕ → Made };
 
     /// How many zero bytes the last call has made for the first output, before those of `made`.
@@ -49,8 +49,8 @@ pub trait Engine {
         requires { length unit.now ≡ shape.unit }
         ensures { result ≡ (recipe self.now).allows index unit.now };
 
-    /// Takes whole units after whole groups. `first` is the number of the first unit. The engine may change the bytes,
-    /// and make its output in them.
+    /// Takes whole units. The units before them are whole groups. `first` is the number of the first unit. The engine
+    /// may change the bytes, and make its output in them.
     fn feed(&mut self, first: u64, bytes: &mut [u8])
         requires given { AreSomeGiven (shape.unit * first) (stands self.old) }
         requires grouped { first % shape.group ≡ 0 }

@@ -11,7 +11,8 @@ use dtx_meaning::Status;
 use dtx_outside::{Output, PIECE, Shelf};
 use std::alloc::{AllocError, Global};
 
-/// The outputs of a command: one, or two that are written side by side.
+/// The outputs of a command: one, or two that are written side by side. Each call's error is an I/O error or out of
+/// memory.
 pub trait Outlet {
     /// Their names, in the order in which they are begun.
     ghost names: { Self → List (List ℕ) };
@@ -65,8 +66,8 @@ pub struct One<'a> {
 }
 
 impl<'a> One<'a> {
-    /// The output of that name, to which nothing was given. It allocates the memory of one piece. The only error is out
-    /// of memory. (Use `match` on the result: with `?` the proof is not found.)
+    /// The output of that name, to which nothing was given. It allocates `PIECE` bytes. The only error is out of
+    /// memory. (Use `match` on the result: with `?` the proof is not found.)
     pub fn new(alloc: Global, name: &'a str) -> Result<One<'a>, AllocError>
         ensures { IfOk result (λ w. ⟦<One<'a> as Outlet>⟧.fresh w × (⟦<One<'a> as Outlet>⟧.names w ≡ name.now ∷ [])) }
     {
@@ -128,8 +129,8 @@ pub struct Two<'a> {
 }
 
 impl<'a> Two<'a> {
-    /// The outputs of these names, to which nothing was given. It allocates little memory. The only error is out of
-    /// memory. (Use `match` on the result: with `?` the proof is not found.)
+    /// The outputs of these names, to which nothing was given. It allocates 16,384 bytes for each. The only error is
+    /// out of memory. (Use `match` on the result: with `?` the proof is not found.)
     pub fn new(alloc: Global, first: &'a str, second: &'a str) -> Result<Two<'a>, AllocError>
         requires { first.now ≢ second.now }
         ensures { IfOk result (λ w. ⟦<Two<'a> as Outlet>⟧.fresh w

@@ -16,8 +16,12 @@ use std::time::Clock;
 /// The files of the host. A file stays open from its first append on, until too many are open. Each other call opens
 /// its file and closes it again. So a run may use any number of files.
 ///
-/// `begin` refuses a file that was read or begun before, under any name, and the file that standard output goes to. It
-/// changes nothing then. So no input is lost where another path or a link leads to it.
+/// A pipe, a terminal or a socket that is read stays open, and is read once, in order. A pipe that is written stays
+/// open from `begin` on.
+///
+/// `begin` refuses a regular file that was read or begun before, under any name, a pipe that is read, and the file or
+/// pipe that standard output goes to. It changes nothing then. So no input is lost where another path or a link leads
+/// to it. It refuses a disk too.
 ///
 /// `append` refuses a file that was not begun under its name, or whose length isn't that of all bytes appended. From 64
 /// KiB on the length is checked once in 64 KiB, and after an append to another file.

@@ -21,7 +21,7 @@ pub enum Event {
         from: u64,
         count: u64,
     },
-    /// It is given packet `from` of the feed, with `with` added to byte `at` by exclusive or.
+    /// It is given packet `from` of the feed, with `with` (1 to 255) added to byte `at` (0 to 187) by exclusive or.
     Flip {
         to: u16,
         from: u64,

@@ -18,9 +18,10 @@ use toml::Table;
 /// Reads a plan from the bytes of its file (the profile's own format). The error is the first rule that the plan
 /// breaks, or out of memory.
 ///
-/// The rules are checked from top to bottom, entry by entry, and in each table key by key. Before the values of a table
-/// its keys are checked, each of which has to be known. In an event `do` comes first of all, since it says which keys
-/// the event may have. Memory may run out at any step.
+/// The rules are checked in a fixed order, and not in that of the text: `start`, `max_delay`, `transmitter` and `net`,
+/// entry by entry, and in each table key by key. Before the values of a table its keys are checked, each of which has
+/// to be known. In an event `do` comes first of all, since it says which keys the event may have. Memory may run out at
+/// any step.
 pub fn read_plan(alloc: Global, bytes: &[u8]) -> Result<Plan, PlanFault>
     ensures walk { IsAnswer (spec.plan_of bytes.now) result }
     ensures sound { IfOk result IsSound }

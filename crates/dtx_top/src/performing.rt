@@ -60,7 +60,8 @@ fn perform_one<S: Shelf>(
     }
 }
 
-/// An outcome without a name of its own: the name in its line, if any, is one among the words.
+/// An outcome without a name of its own. The name in its line, if any, is one among the words, or that of a file of
+/// `trial`.
 fn nameless(outcome: Outcome) -> NetOutcome
     ensures { result.outcome ≡ outcome }
 {
