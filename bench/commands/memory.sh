@@ -2,9 +2,9 @@
 # Measures how much memory each command holds at most, over a stream of 31,200 packets, and the program where no words are given: each the
 # least of five runs, since where the loader puts the program and its stack changes it by up to 250 kB. It needs 200 MB on the disk of
 # temporary files. The status is 0 where each is at most its bar, which is what the commands held when each had a loop of its own; of `soft`,
-# which holds a field, and of `acquire` 12 MB, of `mend` twice what `receive` may hold, of `repeat` what `receive` and `excite` may hold, of
-# `watch` what `excite` may hold, of the other outer coding what `adapt` and `receive` may hold, and of `net` with 1,020 transmitters over a
-# frame 256 MB, and over a frame with 35 what it may hold with one and 8 MB more.
+# which holds a field, and of `acquire` 12 MB, of `level` 3 MB, of `mend` twice what `receive` may hold, of `repeat` what `receive` and
+# `excite` may hold, of `watch` what `excite` may hold, of the other outer coding what `adapt` and `receive` may hold, and of `net` with 1,020
+# transmitters over a frame 256 MB, and over a frame with 35 what it may hold with one and 8 MB more.
 
 set -eu
 rounds=5
@@ -47,6 +47,7 @@ holds 10324 net net-35.toml
 holds 262144 net net-1020.toml
 holds 12288 soft in.sym out.sym
 holds 12288 acquire 1 in.sym out.sym
+holds 3072 level in.sym out.sym out.log
 holds 4376 mend in.sym out.ts
 holds 4428 repeat in.sym 1 0 out.sym out.log
 holds 2240 watch feed.ts out.txt
