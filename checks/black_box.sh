@@ -11,6 +11,8 @@ top=$(cd "$(dirname "${BASH_SOURCE[0]}")/.." && pwd) || exit 1
 dtx=$top/dtx
 if [[ ${1-} == --released ]]; then
     dtx=$top/release/dtx
+    # The launcher `dtx` ignores this signal for the program.
+    trap '' XFSZ
     shift
 fi
 parts=("$@")

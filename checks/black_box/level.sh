@@ -53,6 +53,8 @@ levels 'at three steps, and with a constant' "$all" "$(syncs 0 5 300 400)" <"$ro
 levels 'inverted' "$all" "$(syncs 0 5 -500 200)" <"$room/level/turned" 9<"$room/level/eight"
 levels 'behind 100 of nothing' 'symbols 1085860 syncs 5 slips 0' "$(syncs 0 5 300 400 100)" \
     < <(zeros 100 && part three 0) 9< <(zeros 100 && part eight 0)
+levels 'behind 600,000 of nothing, more than is read at once' 'symbols 1685760 syncs 5 slips 0' "$(syncs 0 5 300 400 600000)" \
+    < <(zeros 600000 && part three 0) 9< <(zeros 600000 && part eight 0)
 levels 'some are lost' 'symbols 1085460 syncs 5 slips 1' "$(syncs 0 2 300 400)$(syncs 2 5 300 400 -300)" \
     < <(part three 0 300000 && part three 300300) 9< <(part eight 0 300000 && part eight 300300)
 levels 'some came twice' 'symbols 1086060 syncs 5 slips 1' "$(syncs 0 2 300 400)$(syncs 2 5 300 400 300)" \
@@ -75,6 +77,32 @@ levels 'one symbol of a sync is off by ten steps' 'symbols 832 syncs 1 slips 0' 
     < <(part eight 0 11 && printf '\62' && part eight 12 820) 9< <(part eight 0 11 && printf '\62' && part eight 12 820)
 levels 'what is beyond 127 is cut off' 'symbols 834 syncs 1 slips 0' 'sync 0 1 100 0 0;' \
     < <(head -c 832 "$room/feed.sym" && printf '\20\357') 9< <(part eight 0 832 && printf '\177\201')
+
+# OTHERS of the 515 signs of a sync are others, at so many steps a unit, and the rest are right, at so many. At most 128 may be others, and the
+# gain has to be above 0 then. At least 387 may, and it has to be below 0 then.
+while read -r others steps rest line; do
+    start "a capture levelled: $others other signs at $steps steps a unit, the rest at $rest"
+    head -c 832 "$room/feed.sym" | python3 -c 'import sys
+others, steps, rest = map(int, sys.argv[1:])
+sent = [(byte ^ 128) - 128 for byte in sys.stdin.buffer.read()]
+made = [-steps * symbol if place < others else rest * symbol for place, symbol in enumerate(sent)]
+sys.stdout.buffer.write(bytes(symbol & 255 for symbol in made))' "$others" "$steps" "$rest" >in.sym
+    [[ $("$top/checks/independent/level.py" level in.sym wanted.sym wanted.log) == "$line" ]] || wrong 'the independent program says another line'
+    status=0
+    [[ $line != 'no sync' ]] || status=10
+    run "$status" "$line" level in.sym out.sym out.log
+    cmp -s wanted.sym out.sym || wrong 'out.sym has other symbols'
+    cmp -s wanted.log out.log || wrong "out.log is $(<out.log)"
+done <<'end'
+128 1 1 symbols 832 syncs 1 slips 0
+129 1 1 no sync
+386 1 1 no sync
+387 1 1 symbols 832 syncs 1 slips 0
+128 3 1 symbols 832 syncs 1 slips 0
+128 4 1 no sync
+387 1 3 symbols 832 syncs 1 slips 0
+387 1 4 no sync
+end
 
 # From symbol 600,000 on it is inverted, which the fourth sync tells. Up to there the third one counts: of -5 s + 2 that makes 8 (-5 s - 2) / 3,
 # rounded.
@@ -163,6 +191,10 @@ run 0 "$all" level in.sym out.sym out.log
 cmp -s in.sym out.sym || wrong 'out.sym has other symbols'
 has_log 'sync 0 1 799 5 2902' 'sync 260416 2 799 18 2978' 'sync 520832 1 800 -2 2800' 'sync 781248 2 800 -2 2910' \
     'sync 1041664 1 799 -4 2563'
+run 0 'symbols 1085760 runs 1 segments 1305 cost 5835893 loose 0' acquire 8 out.sym found.sym
+cmp -s "$room/feed.sym" found.sym || wrong 'found.sym has other symbols'
+run 0 'segments 1305 runs 1 packets 1249 fixed 0 flagged 0 loose 0' receive found.sym out.ts
+has_digest out.ts c2621661d1fdb70783b472c351877cd188c28b896a075193a0b2c6f8fa310663
 
 start 'random captures that are levelled'
 "$top/checks/independent/level.py" "$dtx" 32 >"$room/said" || wrong "$(grep FAILED "$room/said" | head -n 3)"

@@ -41,7 +41,8 @@ def decibels(sync):
 ROWS = (
     ("decibels of the signal\nover the noise", decibels),
     ("gain, in steps a unit", lambda sync: sync.gain / 100),
-    ("constant, in units", lambda sync: sync.constant / sync.gain),
+    # Of a gain that is less than half a hundredth nothing can be said in units.
+    ("constant, in units", lambda sync: sync.constant / sync.gain if sync.gain else math.nan),
 )
 
 
