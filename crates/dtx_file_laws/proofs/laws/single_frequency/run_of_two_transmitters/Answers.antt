@@ -24,11 +24,13 @@ returns g c = λ plan_name input feed plan_bytes stream fed plan t u feed_1 out_
       apart = apart;
       there = here;
       done = done;
-      files = c.run_of_excite-first.ensures.done t.address t.delay feed_1 out_1 log_1 fed excite of_t.address of_t.delay;
+      files = c.run_of_excite-first.ensures.done t.address t.delay feed_1 out_1 log_1 fed excite of_t.address
+          of_t.delay;
     })
     (record {
       apart = apart_2;
       there = here_2;
       done = done_2;
-      files = c.run_of_excite-second.ensures.done u.address u.delay feed_2 out_2 log_2 fed other of_u.address of_u.delay;
+      files = c.run_of_excite-second.ensures.done u.address u.delay feed_2 out_2 log_2 fed other of_u.address
+          of_u.delay;
     })
