@@ -15,8 +15,8 @@ ghost use Rattle.dtx_chain.specs.Undamaged.{ArePackets, as_received};
 ghost use Rattle.dtx_bursts.specs.Burst.{IsBurst, IsGap, LeavesSyncs};
 
 /// If all field syncs are found, at most 2,022 wrong symbols in a row are slight damage. They may have any values and
-/// begin at any symbol. No word has more than ten wrong bytes. So all packets whose bytes are all there come back, and none
-/// is flagged (`gives_all_back` of `dtx_chain`). For comparison, two segments are 1,664 symbols.
+/// begin at any symbol. No word has more than ten wrong bytes. So all packets whose bytes are all there come back, and
+/// none is flagged (`gives_all_back` of `dtx_chain`). For comparison, two segments are 1,664 symbols.
 pub fn wrong_symbols_in_a_row()
     ensures { (packets : List (List ℕ)) (first count from : ℕ) (sent got : List (List ℤ))
         → AreReceived packets first sent got → ArePackets packets → AreFound first sent got
