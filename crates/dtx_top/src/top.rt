@@ -19,74 +19,8 @@ use std::alloc::Global;
 /// Performs the command that the words give, over the files of the shelf, and then prints its line to the sink. The
 /// words are those after the program's name. Returns how the command ended.
 ///
-/// `adapt PLAN IN OUT` writes the feed of the stream IN under the plan of PLAN to OUT. IN has packets of 188 bytes,
-/// which begin with 0x47. In the feed, byte 0 of packet k is the cadence mark 0xB8 where 624 divides k, and 0x47
-/// elsewhere. Each placeholder, of packet identifier 0x1FFA, becomes an operations packet, which says from which states
-/// and when its group is sent (the profile's own, in the manner of ATSC A/110).
-///
-/// `code IN OUT` writes the symbols of the stream or feed IN to OUT, one signed byte each in two's complement. They are
-/// the symbols of all data segments and field syncs of IN's whole groups of four packets (ATSC A/53 Part 2). Byte 0 of
-/// each packet is 0x47 or the mark 0xB8, and isn't sent.
-///
-/// `excite FEED ADDRESS DELAY OUT LOG` gives the packets of FEED, which may have any bytes, to one exciter (the
-/// profile's own, over ATSC A/53 Part 2 and in the manner of ATSC A/110). It writes the segments that the exciter sends
-/// to OUT, one signed byte a symbol in two's complement, and its log to LOG. ADDRESS is the transmitter's address, 0 to
-/// 65,535. DELAY is how long the feed takes to reach the transmitter, in ticks of 100 ns, 0 to 4,294,967,295. Both are
-/// written as the numbers of `make` are.
-///
-/// `receive IN OUT` receives the symbols IN, and writes their packets to OUT (ATSC A/53 Part 2, the way back). It
-/// receives every run of segments that begins with one that looks like a field sync. In the word of each packet up to
-/// ten wrong bytes are put right. A packet whose word has no correction is flagged.
-///
-/// `net PLAN` plays a network (the profile's own). It adapts the stream that the table `net` of PLAN names to
-/// `net.feed`, and plays the plan's events. What the transmitter of address A sends goes to `tx-A.sym`, and its log to
-/// `tx-A.log`. If the plan asks for a receiver, it receives the symbols of its transmitter, with the plan's damage laid
-/// over them. Its packets go to `net.ts`.
-///
-/// `make SEED COUNT OUT` writes the packets 0 to COUNT - 1 that `dtx_make::packet` gives for SEED to OUT. SEED is 0 to
-/// 2^64 - 1 and COUNT 0 to 624,000,000. Both are decimal digits without a sign, and without a leading zero but in `0`.
-///
-/// `hurt IN CHANGES OUT` writes the bytes of IN to OUT with the damage that CHANGES lists laid over them (the profile's
-/// own). Each byte that an entry covers becomes that entry's `put`, in two's complement. If an entry ends past the end
-/// of IN, OUT is written all the same, and the answer has the number of the first such entry.
-///
-/// `place IN OUT` writes the packets of IN to OUT with placeholders, so that a stream from an encoder can be adapted
-/// (the profile's own). In each field the first null packet from place 52 on becomes a placeholder, unless an earlier
-/// packet from place 52 on is one already.
-///
-/// `trial SEED COUNT` writes the packets 0 to COUNT - 1 that `dtx_make::packet` gives for SEED to `trial.ts`, and plays
-/// a network over them as `net` does (the profile's own). Three transmitters are given the feed. The third one is first
-/// given 50 packets without a mark, and its symbols are received. COUNT is 624 to 1,000,000.
-///
-/// `soft IN OUT` writes the segments of the symbols IN to OUT, softened (ATSC A/53 Part 2, trellis coding). It softens
-/// the whole groups of four segments of each field of a run. Their data symbols become those of the least path of each
-/// trellis coder: the path with the least sum of squared differences. All other segments stay.
-///
-/// `mend IN OUT` writes the packets of the symbols IN to OUT as `receive` does. A symbol of -128 says that nothing was
-/// received there. In each word e wrong bytes and f missing ones are put right where 2e + f is at most 20.
-///
-/// `dvb code IN OUT` writes the packets of IN, which begin with 0x47, to OUT as EN 300 429 sends them: randomized, as
-/// Reed-Solomon codewords of 204 bytes, interleaved. `dvb read IN OUT` reads bytes as `dvb code` writes them, of which
-/// the first begins a group of eight packets. It writes a packet to OUT for each block of 204 bytes after the first
-/// eleven. In the word of each packet up to eight wrong bytes are put right. A packet whose word has no correction is
-/// flagged.
-///
-/// `repeat IN ADDRESS DELAY OUT LOG` receives the symbols IN and restores the cadence marks of their packets from the
-/// field syncs. It gives the packets to an exciter with ADDRESS and DELAY, as `excite` does. Each run is a life of its
-/// own: the exciter is restarted before the next one.
-///
-/// `acquire SCALE IN OUT` finds the fields of the capture IN, and writes their segments to OUT, with the syncs restored
-/// and the symbols decided (the profile's own). IN has one signed byte a symbol and SCALE steps a unit, 1 to 18.
-///
-/// `watch FEED OUT` writes a line to OUT for each event of FEED (the profile's own). An event is an anchor found or
-/// lost, or an operations packet. The line of a packet says whether it reads, whether its states are those of the
-/// coders, and whether its clock runs.
-///
-/// `level IN OUT LOG` brings the capture IN to eight steps a unit by its field syncs, and writes it to OUT. It writes a
-/// line to LOG for each sync (the profile's own). IN has one signed byte a symbol, of any gain and constant, inverted
-/// or not.
-///
-/// Words that fit no command are answered `Usage`.
+/// What each command does stands with its variant of `dtx_words::Command`. Words that fit no command are answered
+/// `Usage`.
 pub fn run<S: Shelf, O: Sink>(alloc: Global, words: &[Word], shelf: &mut S, out: &mut O) -> Status
     // If the files are told, one of three things holds. Either the result is the answer of the words' meaning, and its
     // outputs are whole. Or an I/O error or lack of memory was met, and each of the first outputs, none perhaps, holds
