@@ -9,6 +9,7 @@ pub mod Missing
 pub mod Moved
 pub mod Slight
 pub mod Mended
+pub mod Longer
 pub mod Syncs
 pub mod Replaced
 pub mod Apart

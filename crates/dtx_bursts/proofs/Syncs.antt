@@ -67,9 +67,9 @@ own_symbol second last n l =
     none : (x y : ℕ) → x + 0 ≤ y → y ≡ 0 → x ≡ 0
     none x y l e = omega (arith, l, e)
 
--- where all that differ are among the first 32, or among the last
-abbrev FewDiffer : List ℤ → Type 0
-FewDiffer x = ((n : ℕ) → n < 515 → (n < 32) ⊎ (differs x n ≡ 0)) ⊎ ((n : ℕ) → n < 515 → (483 ≤ n) ⊎ (differs x n ≡ 0))
+-- where all that differ are those from one on, up to another
+abbrev DifferWithin : ℕ → ℕ → List ℤ → Type 0
+DifferWithin a b x = (n : ℕ) → n < 515 → ((a ≤ n) × (n < b)) ⊎ (differs x n ≡ 0)
 
 -- a number that rises with them
 bound : (g f : ℕ → ℕ) (n : ℕ) → ((i : ℕ) → i < n → g i + f i ≤ f (i + 1)) → total g 0 n + f 0 ≤ f n
@@ -77,26 +77,23 @@ bound g f n h =
     let z : 0 + n ≡ n = omega arith in
     subst (λ (m : ℕ). total g 0 n + f 0 ≤ f m) z (total_rises f g 0 n (λ i _ l. h i (omega (arith, l))))
 
-alone : (t : ℕ) → t + 0 ≤ 32 → t ≤ 32
-alone t l = omega (arith, l)
+few : (x : List ℤ) (a b : ℕ) → DifferWithin a b x → min b 515 - a ≤ 32 → total (differs x) 0 515 ≤ 32
+few x a b within least =
+    through (total (differs x) 0 515) (min 0 b - a) (min 515 b - a)
+    (bound (differs x) (λ n. min n b - a) 515 (λ n l. step n (within n l))) (omega (arith, least))
+  where
+    through : (t y z : ℕ) → t + y ≤ z → z ≤ 32 → t ≤ 32
+    through t y z l m = omega (arith, l, m)
 
-few : (x : List ℤ) → FewDiffer x → total (differs x) 0 515 ≤ 32
-few x (inl h) = alone (total (differs x) 0 515) (bound (differs x) (λ n. min n 32) 515 (λ n l. step n (h n l)))
-  where
-    step : (n : ℕ) → (n < 32) ⊎ (differs x n ≡ 0) → differs x n + min n 32 ≤ min (n + 1) 32
-    step n (inl l) = omega (arith, l, differs_bit x n)
-    step n (inr z) = omega (arith, z)
-few x (inr h) = alone (total (differs x) 0 515) (bound (differs x) (λ n. n - 483) 515 (λ n l. step n (h n l)))
-  where
-    step : (n : ℕ) → (483 ≤ n) ⊎ (differs x n ≡ 0) → differs x n + (n - 483) ≤ n + 1 - 483
-    step n (inl l) = omega (arith, l, differs_bit x n)
+    step : (n : ℕ) → ((a ≤ n) × (n < b)) ⊎ (differs x n ≡ 0) → differs x n + (min n b - a) ≤ min (n + 1) b - a
+    step n (inl (l, m)) = omega (arith, l, m, differs_bit x n)
     step n (inr z) = omega (arith, z)
 
-looks : (x : List ℤ) → FewDiffer x → looks_like x ≡ true
+looks : (x : List ℤ) (a b : ℕ) → DifferWithin a b x → min b 515 - a ≤ 32 → looks_like x ≡ true
 unfolding looks_like differing
-looks x h =
+looks x a b within least =
     le-leb (sum (map (differs x) (range_with_len 0 515))) 32
-    (subst (λ (n : ℕ). n ≤ 32) (sym (sum_is (differs x) 0 515)) (few x h))
+    (subst (λ (n : ℕ). n ≤ 32) (sym (sum_is (differs x) 0 515)) (few x a b within least))
 
 -- ---- all of them
 
@@ -104,7 +101,8 @@ pub burst_found : (ps : List (List ℕ)) (first count from : ℕ) (sent got : Li
     → AreReceived ps first sent got → LeavesSyncs first count from (length sent) → IsBurst count from sent got
     → AreFound first sent got
 burst_found ps first count from sent got r leaves burst = record {
-  syncs = λ i l z. looks (get_or got i []) (by_side i l z (leaves.few i l z));
+  syncs = λ i l z. looks (get_or got i []) (from - 832 * i) (from + count - 832 * i) (within i l z)
+      (omega (arith, leaves.few i l z));
   before = λ i l m. omega (
     arith,
     none_damaged (get_or sent i []) (get_or got i [])
@@ -122,15 +120,13 @@ burst_found ps first count from sent got r leaves burst = record {
         ∙ ap (λ (x : List ℤ). sliced (get_or x n (pos 0))) (sent_at ps first sent got r i l ∙ s.2))
         ∙ own_symbol s.0 s.1 n h
 
-    by_side : (i : ℕ) → i < length sent → (first + i) % 313 ≡ 0
-        → (from + count ≤ 832 * i + 32) ⊎ (832 * i + 483 ≤ from) → FewDiffer (get_or got i [])
-    by_side i l z (inl u) = inl (λ n h. at n h (cases_lt n 32))
+    within : (i : ℕ) → i < length sent → (first + i) % 313 ≡ 0
+        → DifferWithin (from - 832 * i) (from + count - 832 * i) (get_or got i [])
+    within i l z n h = by_side (cases_lt (832 * i + n) from) (cases_lt (832 * i + n) (from + count))
       where
-        at : (n : ℕ) → n < 515 → (n < 32) ⊎ (32 ≤ n) → (n < 32) ⊎ (differs (get_or got i []) n ≡ 0)
-        at n h (inl m) = inl m
-        at n h (inr m) = inr (as_sent i n l z h (inr (omega (arith, u, m))))
-    by_side i l z (inr u) = inr (λ n h. at n h (cases_lt n 483))
-      where
-        at : (n : ℕ) → n < 515 → (n < 483) ⊎ (483 ≤ n) → (483 ≤ n) ⊎ (differs (get_or got i []) n ≡ 0)
-        at n h (inl m) = inr (as_sent i n l z h (inl (omega (arith, u, m))))
-        at n h (inr m) = inl m
+        by_side : (832 * i + n < from) ⊎ (from ≤ 832 * i + n)
+            → (832 * i + n < from + count) ⊎ (from + count ≤ 832 * i + n)
+            → ((from - 832 * i ≤ n) × (n < from + count - 832 * i)) ⊎ (differs (get_or got i []) n ≡ 0)
+        by_side (inl a) b = inr (as_sent i n l z h (inl a))
+        by_side (inr a) (inl b) = inl (omega (arith, a), omega (arith, b))
+        by_side (inr a) (inr b) = inr (as_sent i n l z h (inr b))

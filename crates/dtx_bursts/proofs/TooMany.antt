@@ -1,7 +1,7 @@
 -- One symbol more in a row can be too many: a stream's first packet shows it.
 use Rattle.std.proofs.Common.{◌≡◌, ℕ, ℤ, ◌+◌, ◌-◌, ◌*◌, ◌/◌, ◌%◌, ◌<◌, ◌≤◌, ◌==◌, ◌⊎◌, nat_le, nat_lt}
 use Rattle.std.proofs.Common.{◌&&◌, ◌||◌, inl, inr, Bool, true, List, [], ◌∷◌, length, get_or, refl, sym, ap, ap₂, ◌∙◌}
-use Rattle.std.proofs.Common.{subst, arith}
+use Rattle.std.proofs.Common.{subst, arith, max, min}
 use Rattle.std.proofs.lemmas.Bool.{and_parts, cases_lt, cond-false, leb-true, ltb-true, ne_eqb, or_cases}
 use Rattle.dtx_laws.specs.Codeword.{distance}
 use Rattle.dtx_trellis.specs.Trellis.{symbol_of}
@@ -64,9 +64,9 @@ unfolding to_sync
 leaves count from segments a b = record { behind = omega arith; few = λ i l z. by_first i z (cases_lt i 1) }
   where
     by_first : (i : ℕ) → (0 + i) % 313 ≡ 0 → (i < 1) ⊎ (1 ≤ i)
-        → (from + count ≤ 832 * i + 32) ⊎ (832 * i + 483 ≤ from)
-    by_first i z (inl l) = inr (omega (arith, a, l))
-    by_first i z (inr l) = inl (omega (arith, b, l, z))
+        → min (from + count) (832 * i + 515) ≤ max from (832 * i) + 32
+    by_first i z (inl l) = omega (arith, a, l)
+    by_first i z (inr l) = omega (arith, b, l, z)
 
 turned_found : (ps : List (List ℕ)) → AreFound 0 (a53 ps) (turned ps)
 turned_found ps =

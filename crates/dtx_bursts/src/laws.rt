@@ -14,40 +14,39 @@ ghost use Rattle.dtx_chain.specs.Damage.{packet_behind, to_sync, word_in};
 ghost use Rattle.dtx_chain.specs.Undamaged.{ArePackets, as_received};
 ghost use Rattle.dtx_bursts.specs.Burst.{IsBurst, IsGap, LeavesSyncs};
 
-/// If the field syncs are found, at most 2,022 wrong symbols in a row are slight damage. They may have any values and
-/// stand anywhere. No word has more than ten wrong bytes. So all packets whose bytes are all there come back, and none
-/// is flagged (`gives_all_back` of `dtx_chain`). For comparison, two segments are 1,664 symbols.
+/// If all field syncs are found, at most 2,022 wrong symbols in a row are slight damage. They may have any values and
+/// begin at any symbol. No word has more than ten wrong bytes. So all packets whose bytes are all there come back, and
+/// none is flagged (`gives_all_back` of `dtx_chain`). For comparison, two segments are 1,664 symbols.
 pub fn wrong_symbols_in_a_row()
-    ensures { (packets : List (List ℕ)) (first from : ℕ) (sent got : List (List ℤ))
+    ensures { (packets : List (List ℕ)) (first count from : ℕ) (sent got : List (List ℤ))
         → AreReceived packets first sent got → ArePackets packets → AreFound first sent got
-        → IsBurst 2022 from sent got → IsSlight packets first sent got }
+        → count ≤ 2022 → IsBurst count from sent got → IsSlight packets first sent got }
 {}
 
-/// If the field syncs are found, at most 4,141 missing symbols in a row leave each word mendable, wherever they stand.
-/// No word has more than twenty missing bytes, and none has a wrong byte. So all packets whose bytes are all there are
-/// mended, from the packet after the first field sync on, in order. None is flagged. For comparison, four segments are
-/// 3,328 symbols.
+/// Missing symbols, all among at most 4,141 in a row, leave each word mendable, wherever they begin. No word has more
+/// than twenty missing bytes, and none has a wrong byte. So if all field syncs are found, all packets whose bytes are
+/// all there are mended, from the packet after the first field sync on, in order. None is flagged. For comparison, four
+/// segments are 3,328 symbols.
 pub fn missing_symbols_in_a_row()
-    ensures words { (packets : List (List ℕ)) (first from : ℕ) (sent got : List (List ℤ))
-        → AreReceived packets first sent got → ArePackets packets → IsGap 4141 from sent got
+    ensures words { (packets : List (List ℕ)) (first count from : ℕ) (sent got : List (List ℤ))
+        → AreReceived packets first sent got → ArePackets packets → count ≤ 4141 → IsGap count from sent got
         → (j : ℕ) → IsComplete 207 52 4 (828 * groups_of (from_sync first got)) j
         → (unmarked_distance (marks_at (marks_in (from_sync first got)) j)
         (word_at 207 52 4 (bytes_in (from_sync first got)) j) (codeword_at packets (packet_behind first + j)) ≡ 0)
         × (lost (marks_at (marks_in (from_sync first got)) j) ≤ 20) }
-    ensures packets { (packets : List (List ℕ)) (first from : ℕ) (sent got : List (List ℤ))
+    ensures packets { (packets : List (List ℕ)) (first count from : ℕ) (sent got : List (List ℤ))
         → AreReceived packets first sent got → ArePackets packets → to_sync first < length sent
-        → AreFound first sent got → IsGap 4141 from sent got
+        → AreFound first sent got → count ≤ 4141 → IsGap count from sent got
         → mended got ≡ map (λ j. as_received (slice_index_or packets (packet_behind first + j) []))
         (numbers_in (from_sync first got)) }
-    ensures unflagged { (packets : List (List ℕ)) (first from : ℕ) (sent got : List (List ℤ))
+    ensures unflagged { (packets : List (List ℕ)) (first count from : ℕ) (sent got : List (List ℤ))
         → AreReceived packets first sent got → ArePackets packets → to_sync first < length sent
-        → AreFound first sent got → IsGap 4141 from sent got
+        → AreFound first sent got → count ≤ 4141 → IsGap count from sent got
         → list_all (λ r. r.good) (all_mended got) ≡ true }
 {}
 
-/// The field syncs are found if a burst begins at the first field sync or after it, and spares the middle of each. Of
-/// the first 515 symbols of a field sync it reaches only the first 32 or the last 32. The burst may have any length,
-/// and its symbols may be wrong or missing.
+/// All field syncs are found if a burst begins at the first field sync or after it, and reaches at most 32 of the first
+/// 515 symbols of each. The burst may have any length, and its symbols may be wrong or missing.
 pub fn syncs_are_found()
     ensures wrong { (packets : List (List ℕ)) (first count from : ℕ) (sent got : List (List ℤ))
         → AreReceived packets first sent got → LeavesSyncs first count from (length sent)

@@ -1,6 +1,6 @@
 -- A burst, or a gap, of a file's bytes is one of the symbols of its segments.
 use Rattle.std.proofs.Common.{◌≡◌, ℕ, ℤ, pos, ◌+◌, ◌*◌, ◌/◌, ◌%◌, ◌<◌, ◌≤◌, ◌⊎◌, inl, inr, Bool, true, false, List, []}
-use Rattle.std.proofs.Common.{length, take, drop, get_or, refl, sym, ap, ◌∙◌, subst, arith}
+use Rattle.std.proofs.Common.{length, take, drop, get_or, refl, sym, ap, ◌∙◌, subst, arith, min, max}
 use Rattle.std.proofs.lemmas.List.{get_or-drop, get_or-map, get_or-take, length-drop, length-take-le}
 use Rattle.std.proofs.lemmas.List.FromFn.{get_or-map-range_with_len}
 use Rattle.dtx_bursts.specs.Burst as air
@@ -114,10 +114,6 @@ gap_of_symbols count from packets file gap = record {
 
 -- ---- field syncs
 
-either_as : {A B C D : Type 0} → A ⊎ B → (A → C) → (B → D) → C ⊎ D
-either_as (inl a) f g = inl (f a)
-either_as (inr b) f g = inr (g b)
-
 pub syncs_left : (count from : ℕ) (packets : List (List ℕ)) (file : List ℕ)
     → length file ≡ length (symbol_bytes packets) → SparesSyncs count from (length file)
     → LeavesSyncs 0 count from (length (a53 packets))
@@ -127,9 +123,9 @@ syncs_left count from packets file long spares = record {
 }
   where
     few : (i : ℕ) → i < length (a53 packets) → (0 + i) % 313 ≡ 0
-        → (from + count ≤ 832 * i + 32) ⊎ (832 * i + 483 ≤ from)
+        → min (from + count) (832 * i + 515) ≤ max from (832 * i) + 32
     few i l z =
         let f : ℕ = i / 313 in
         let place : 260416 * f ≡ 832 * i = omega (arith, z) in
-        either_as (spares f (omega (arith, place, l, as_many packets file long)))
-        (λ a. omega (arith, a, place)) (λ b. omega (arith, b, place))
+        subst (λ n. min (from + count) (n + 515) ≤ max from n + 32) place
+        (spares f (omega (arith, place, l, as_many packets file long)))

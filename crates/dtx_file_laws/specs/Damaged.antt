@@ -1,5 +1,6 @@
 -- Damage of a file of symbols, or of bytes, as it is received (the profile's own). Its bytes are counted from 0.
-use Rattle.std.specs.Prelude.{ℕ, pos, ◌≡◌, ◌+◌, ◌*◌, ◌<◌, ◌≤◌, ◌⊎◌, ◌-ℤ◌, ◌*ℤ◌, nat_abs, List, length, slice_index}
+use Rattle.std.specs.Prelude.{ℕ, pos, ◌≡◌, ◌+◌, ◌*◌, ◌<◌, ◌≤◌, min, max, ◌⊎◌, ◌-ℤ◌, ◌*ℤ◌, nat_abs, List, length}
+use Rattle.std.specs.Prelude.{slice_index}
 use Rattle.std.specs.Int.{w8, cast_signed}
 
 -- The bytes are those that were sent, except for `count` in a row from byte `from` on, which may be any numbers.
@@ -15,12 +16,12 @@ pub record IsGap (count from : ℕ) (sent got : List ℕ) : Type 0 where
       ⊎ ((slice_index got n ≡ 0x80) × (from ≤ n) × (n < from + count))
 
 -- Damage of `count` symbols in a row from symbol `from` on spares the field syncs of a file of `bytes` bytes. A field
--- has 313 segments of 832 symbols, and begins with its field sync. Of the first 515 symbols of each field sync the
--- damage reaches only the first 32 or the last 32. So more than 32 symbols in a row spare the first sync of a file only
--- from symbol 483 of it on.
+-- has 313 segments of 832 symbols, and begins with its field sync. The damage reaches at most 32 of the first 515
+-- symbols of each field sync. So more than 32 symbols in a row spare the first sync of a file only from symbol 483 of
+-- it on.
 abbrev pub SparesSyncs : ℕ → ℕ → ℕ → Type 0
 SparesSyncs count from bytes =
-    (f : ℕ) → 260416 * f < bytes → (from + count ≤ 260416 * f + 32) ⊎ (260416 * f + 483 ≤ from)
+    (f : ℕ) → 260416 * f < bytes → min (from + count) (260416 * f + 515) ≤ max from (260416 * f) + 32
 
 -- Each byte, as a signed number, differs by less than `scale` from `scale` times the byte that was sent.
 pub record IsNoisy (scale : ℕ) (sent got : List ℕ) : Type 0 where

@@ -61,17 +61,17 @@ pub fn what_was_coded_is_received()
 
 /// Bursts on the air, in the file that `code` wrote of at least four and at most `MOST_PACKETS` packets. If at most
 /// 2,022 bytes in a row are wrong, `receive` gives back what it gives of the undamaged file, and no packet is flagged.
-/// The same holds of `mend` if bytes are missing (0x80), all among 4,141 in a row. The damage may stand wherever it
-/// spares the field syncs. A byte is a symbol, and 10.76 symbols last a microsecond. So 2,022 last more than 187
-/// microseconds, and 4,141 more than 384.
+/// The same holds of `mend` if bytes are missing (0x80), all among at most 4,141 in a row. The damage may begin at any
+/// byte. It has to spare the field syncs: of each it reaches at most 32 of the first 515 symbols. A byte is a symbol,
+/// and 10.76 symbols last a microsecond. So 2,022 last more than 187 microseconds, and 4,141 more than 384.
 pub fn bursts_come_back()
-    ensures wrong { (names packets : List (List ℕ)) (file : List ℕ) (from : ℕ) → ArePackets packets
-        → GROUP_PACKETS ≤ length packets → length packets ≤ MOST_PACKETS
-        → IsBurst 2022 from (symbol_bytes packets) file → SparesSyncs 2022 from (length file)
+    ensures wrong { (names packets : List (List ℕ)) (file : List ℕ) (count from : ℕ) → ArePackets packets
+        → GROUP_PACKETS ≤ length packets → length packets ≤ MOST_PACKETS → count ≤ 2022
+        → IsBurst count from (symbol_bytes packets) file → SparesSyncs count from (length file)
         → (fixed : ℕ) × (meaning_of_file shapes.segments receiving names file ≡ all_back names packets fixed) }
-    ensures missing { (names packets : List (List ℕ)) (file : List ℕ) (from : ℕ) → ArePackets packets
-        → GROUP_PACKETS ≤ length packets → length packets ≤ MOST_PACKETS
-        → IsGap 4141 from (symbol_bytes packets) file → SparesSyncs 4141 from (length file)
+    ensures missing { (names packets : List (List ℕ)) (file : List ℕ) (count from : ℕ) → ArePackets packets
+        → GROUP_PACKETS ≤ length packets → length packets ≤ MOST_PACKETS → count ≤ 4141
+        → IsGap count from (symbol_bytes packets) file → SparesSyncs count from (length file)
         → (fixed : ℕ) × (meaning_of_file shapes.segments mending_symbols names file ≡ all_back names packets fixed) }
 {
     wrong_symbols_in_a_row();

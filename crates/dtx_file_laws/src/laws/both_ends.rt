@@ -55,7 +55,7 @@ pub fn run_there_and_back<S: Shelf, O: Sink>(
 
 /// Runs `code IN SENT` over a sender's files, and then `receive GOT OUT` over a receiver's. Let both answer `Done`. If
 /// GOT is SENT, OUT is the packets of IN that come back (`packets_back`). The same holds if at most 2,022 bytes of GOT
-/// in a row are wrong, and these spare the field syncs.
+/// in a row are wrong, from any byte on, and these spare the field syncs.
 pub fn run_of_code_and_receive<S: Shelf, R: Shelf, O: Sink>(
     alloc: Global,
     words: &(&[Word], &[Word]),
@@ -69,11 +69,11 @@ pub fn run_of_code_and_receive<S: Shelf, R: Shelf, O: Sink>(
         → Holds (S.files sender.new) sent symbols
         → Holds (R.files receiver.old) got symbols → result.1 ≡ Status.Done
         → IsGivenBack stream 0 output (R.files receiver.new) (O.written out.new) }
-    ensures burst { (input sent got output stream symbols file : List ℕ) (from : ℕ)
+    ensures burst { (input sent got output stream symbols file : List ℕ) (count from : ℕ)
         → words.now.0.now ≡ codes "code" ∷ input ∷ sent ∷ [] → words.now.1.now ≡ codes "receive" ∷ got ∷ output ∷ []
         → AreBytes stream → Holds (S.files sender.old) input stream → result.0 ≡ Status.Done
         → Holds (S.files sender.new) sent symbols
-        → IsBurst 2022 from symbols file → SparesSyncs 2022 from (length file)
+        → count ≤ 2022 → IsBurst count from symbols file → SparesSyncs count from (length file)
         → Holds (R.files receiver.old) got file → result.1 ≡ Status.Done
         → (fixed : ℕ) × IsGivenBack stream fixed output (R.files receiver.new) (O.written out.new) }
 {
@@ -85,8 +85,8 @@ pub fn run_of_code_and_receive<S: Shelf, R: Shelf, O: Sink>(
 }
 
 /// Runs `code IN SENT` over a sender's files, and then `mend GOT OUT` over a receiver's. Let both answer `Done`. Let
-/// GOT be SENT, except for missing bytes (0x80) among 4,141 in a row, and let these spare the field syncs. Then OUT is
-/// the packets of IN that come back.
+/// GOT be SENT, except for missing bytes (0x80) among at most 4,141 in a row, from any byte on, and let these spare the
+/// field syncs. Then OUT is the packets of IN that come back.
 pub fn run_of_code_and_mend<S: Shelf, R: Shelf, O: Sink>(
     alloc: Global,
     words: &(&[Word], &[Word]),
@@ -94,11 +94,11 @@ pub fn run_of_code_and_mend<S: Shelf, R: Shelf, O: Sink>(
     receiver: &mut R,
     out: &mut O,
 ) -> (Status, Status)
-    ensures { (input sent got output stream symbols file : List ℕ) (from : ℕ)
+    ensures { (input sent got output stream symbols file : List ℕ) (count from : ℕ)
         → words.now.0.now ≡ codes "code" ∷ input ∷ sent ∷ [] → words.now.1.now ≡ codes "mend" ∷ got ∷ output ∷ []
         → AreBytes stream → Holds (S.files sender.old) input stream → result.0 ≡ Status.Done
         → Holds (S.files sender.new) sent symbols
-        → IsGap 4141 from symbols file → SparesSyncs 4141 from (length file)
+        → count ≤ 4141 → IsGap count from symbols file → SparesSyncs count from (length file)
         → Holds (R.files receiver.old) got file → result.1 ≡ Status.Done
         → (fixed : ℕ) × IsGivenBack stream fixed output (R.files receiver.new) (O.written out.new) }
 {

@@ -9,7 +9,8 @@ use Rattle.dtx_file_laws.proofs.Lines.{mended_line}
 use Rattle.dtx_file_laws.proofs.laws.both_ends.run_of_code_and_mend.Goals as goal
 
 pub returns : goal.returns
-returns g c = λ input sent got output stream symbols file from code mend are there coded left gap spares here done.
+returns g c = λ input sent got output stream symbols file count from code mend are there coded left short gap
+    spares here done.
     let all = back_through with_mendings mendings_given Mend mended_line (λ _. Unit {0}) input sent got output stream
     symbols file _ _ (g.S.Shelf.files c.args.sender.now) (g.S.Shelf.files c.run_of_code-sent.new.shelf)
     (g.R.Shelf.files c.args.receiver.now) (g.R.Shelf.files c.run_of_mend-mended.new.shelf)
@@ -22,11 +23,11 @@ returns g c = λ input sent got output stream symbols file from code mend are th
       line = c.run_of_mend-mended.ensures.line got output file mend;
     })
     (λ same few.
-    let missing = subst (λ bytes. IsGap 4141 from bytes file) same gap in (
+    let missing = subst (λ bytes. IsGap count from bytes file) same gap in (
       missing.as_many,
       λ some.
-          let back = c.bursts_come_back.ensures.missing (output ∷ []) (packets_of stream) file from
-          (are_packets stream are) some few missing spares in
+          let back = c.bursts_come_back.ensures.missing (output ∷ []) (packets_of stream) file count from
+          (are_packets stream are) some few short missing spares in
           (back.0, tt, back.1),
     )) in
     (all.0, all.2)

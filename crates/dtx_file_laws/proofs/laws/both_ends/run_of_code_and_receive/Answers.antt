@@ -38,8 +38,8 @@ returns-clause-undamaged g c = λ input sent got output stream symbols code rece
     (g.O.Sink.written c.run_of_receive-received.new.out)) all.1 all.2
 
 pub returns-clause-burst : goal.returns-clause-burst
-returns-clause-burst g c = λ input sent got output stream symbols file from code receive are there coded left burst
-    spares here done.
+returns-clause-burst g c = λ input sent got output stream symbols file count from code receive are there coded left
+    short burst spares here done.
     let all = back_through with_corrections corrections_given Receive received_line (λ _. Unit {0}) input sent got
     output stream symbols file _ _ (g.S.Shelf.files c.args.sender.now) (g.S.Shelf.files c.run_of_code-sent.new.shelf)
     (g.R.Shelf.files c.args.receiver.now) (g.R.Shelf.files c.run_of_receive-received.new.shelf)
@@ -52,11 +52,11 @@ returns-clause-burst g c = λ input sent got output stream symbols file from cod
       line = c.run_of_receive-received.ensures.line got output file receive;
     })
     (λ same few.
-    let wrong = subst (λ bytes. IsBurst 2022 from bytes file) same burst in (
+    let wrong = subst (λ bytes. IsBurst count from bytes file) same burst in (
       wrong.as_many,
       λ some.
-          let back = c.bursts_come_back.ensures.wrong (output ∷ []) (packets_of stream) file from
-          (are_packets stream are) some few wrong spares in
+          let back = c.bursts_come_back.ensures.wrong (output ∷ []) (packets_of stream) file count from
+          (are_packets stream are) some few short wrong spares in
           (back.0, tt, back.1),
     )) in
     (all.0, all.2)
