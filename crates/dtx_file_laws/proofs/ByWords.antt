@@ -1,6 +1,6 @@
 -- What the words of each command mean, where it is done.
 use Rattle.std.proofs.Common.{◌≡◌, ◌≢◌, ℕ, ◌^◌, ◌<◌, ◌≤◌, ◌&&◌, not, Bool, true, false, List, [], ◌∷◌, length}
-use Rattle.std.proofs.Common.{refl, sym, ap, ap₂, ◌∙◌, subst, arith}
+use Rattle.std.proofs.Common.{cond, refl, sym, ap, ap₂, ◌∙◌, ◌||◌, subst, arith}
 use Rattle.std.specs.Prelude.{Ok, Some, None, codes, decimal, is_some, nat_le}
 use Rattle.std.specs.FinMap.{get}
 use Rattle.std.specs.Str.{bytes_eq}
@@ -86,6 +86,10 @@ named (b ∷ name) some = ap not (ne_eqb (length (b ∷ name)) 0 (λ e. omega (a
 pub both_named : (input output : List ℕ) → input ≢ [] → output ≢ [] → (is_name input && (is_name output && true)) ≡ true
 both_named input output some other = and_from _ _ (named input some) (and_from _ _ (named output other) refl)
 
+pub all_named : (first second third : List ℕ) → first ≢ [] → second ≢ [] → third ≢ []
+    → (is_name first && (is_name second && (is_name third && true))) ≡ true
+all_named first second third a b c = and_from _ _ (named first a) (both_named second third b c)
+
 pub unlike : (input output : List ℕ) → input ≢ output → bytes_eq input output ≡ false
 unlike input output apart =
     by_test (bytes_eq input output) (λ e. apart ((bytes_eq-Decides input output).0 e))
@@ -93,6 +97,15 @@ unlike input output apart =
     by_test : (t : Bool) → (t ≡ true → ⊥) → t ≡ false
     by_test true unlikely = absurd (unlikely refl)
     by_test false _ = refl
+
+-- of three names that are different none is repeated
+pub three_apart : (first second third : List ℕ) → first ≢ second → first ≢ third → second ≢ third
+    → is_some (repeated (first ∷ second ∷ third ∷ [])) ≡ false
+three_apart first second third a b c =
+    let found : Bool → Bool → Bool → Bool =
+    λ x y z. is_some (cond (x || false) (Some second) (cond (y || (z || false)) (Some third) None)) in
+    ap (λ x. found x (bytes_eq first third) (bytes_eq second third)) (unlike first second a)
+    ∙ ap₂ (found false) (unlike first third b) (unlike second third c)
 
 -- ---- words with numbers
 
@@ -143,6 +156,16 @@ excite_read words address delay input output log held is small_address small_del
       reads = ap₂ (λ a d. transmit_with coded_packets exciting a d input output log held)
           (spelled 65535 address (omega arith) small_address) (spelled 4294967295 delay (omega arith) small_delay);
     })
+
+pub excite_named : (address delay : ℕ) (input output log : List ℕ) → address ≤ 65535 → delay ≤ 4294967295
+    → input ≢ [] → output ≢ [] → log ≢ []
+    → (is_name input && (is_some (number_in 65535 (decimal address))
+    && (is_some (number_in 4294967295 (decimal delay)) && (is_name output && (is_name log && true))))) ≡ true
+excite_named address delay input output log small_address small_delay in_named out_named log_named =
+    and_from _ _ (named input in_named)
+    (and_from _ _ (ap is_some (spelled 65535 address (omega arith) small_address))
+    (and_from _ _ (ap is_some (spelled 4294967295 delay (omega arith) small_delay))
+    (both_named output log out_named log_named)))
 
 pub acquire_named : (scale : ℕ) (input output : List ℕ) → 0 < scale → scale ≤ 18 → input ≢ [] → output ≢ []
     → (is_some (number_within 1 18 (decimal scale)) && (is_name input && (is_name output && true))) ≡ true

@@ -170,12 +170,20 @@ pub fn run_of_excite<S: Shelf, O: Sink>(
     shelf: &mut S,
     out: &mut O,
 ) -> Status
-    ensures { (address delay : ℕ) (input output log file : List ℕ)
+    ensures done { (address delay : ℕ) (input output log file : List ℕ)
         → words.now ≡ codes "excite" ∷ input ∷ decimal address ∷ decimal delay ∷ output ∷ log ∷ []
         → address ≤ 65535 → delay ≤ 4294967295
         → IfSome (S.files shelf.old) (λ held. get held input ≡ Some file → result ≡ Status.Done
         → IsAnswered (meaning_of_file shapes.coded_packets (exciting address delay) (output ∷ log ∷ []) file)
         (Some held) result (S.files shelf.new)) }
+    ensures answer { (address delay : ℕ) (input output log file : List ℕ)
+        → words.now ≡ codes "excite" ∷ input ∷ decimal address ∷ decimal delay ∷ output ∷ log ∷ []
+        → address ≤ 65535 → delay ≤ 4294967295
+        → input ≢ [] → output ≢ [] → log ≢ [] → input ≢ output → input ≢ log → output ≢ log
+        → IfSome (S.files shelf.old) (λ held. get held input ≡ Some file
+        → (result ≡ (meaning_of_file shapes.coded_packets (exciting address delay) (output ∷ log ∷ [])
+        file).outcome.status)
+        ⊎ IsFault result) }
 {
     run(alloc, words, shelf, out)
 }
@@ -187,12 +195,19 @@ pub fn run_of_adapt<S: Shelf, O: Sink>(
     shelf: &mut S,
     out: &mut O,
 ) -> Status
-    ensures { (plan : Plan) (plan_name input output bytes file : List ℕ)
+    ensures done { (plan : Plan) (plan_name input output bytes file : List ℕ)
         → words.now ≡ codes "adapt" ∷ plan_name ∷ input ∷ output ∷ [] → plan_of bytes ≡ Ok plan
         → IfSome (S.files shelf.old) (λ held. get held plan_name ≡ Some bytes → get held input ≡ Some file
         → result ≡ Status.Done
         → IsAnswered (meaning_of_file shapes.packets (feeding plan) (output ∷ []) file) (Some held) result
         (S.files shelf.new)) }
+    ensures answer { (plan : Plan) (plan_name input output bytes file : List ℕ)
+        → words.now ≡ codes "adapt" ∷ plan_name ∷ input ∷ output ∷ [] → plan_of bytes ≡ Ok plan
+        → plan_name ≢ [] → input ≢ [] → output ≢ []
+        → plan_name ≢ input → plan_name ≢ output → input ≢ output
+        → IfSome (S.files shelf.old) (λ held. get held plan_name ≡ Some bytes → get held input ≡ Some file
+        → (result ≡ (meaning_of_file shapes.packets (feeding plan) (output ∷ []) file).outcome.status)
+        ⊎ IsFault result) }
 {
     run(alloc, words, shelf, out)
 }

@@ -7,7 +7,7 @@ pub returns : goal.returns
 returns g c = λ plan stream t delay earlier mark n k input output log file is address_small delay_small apart fed holds
     listing there done.
     told_so (g.S.Shelf.files c.args.shelf.now) input file _ _ there
-    (c.run_of_excite.ensures t.address delay input output log file is address_small delay_small)
+    (c.run_of_excite.ensures.done t.address delay input output log file is address_small delay_small)
     (λ held _ found of.
     let answered = of found done in
     two_hold _ output log _ _ held (g.S.Shelf.files c.run_of_excite.new.shelf) _ apart

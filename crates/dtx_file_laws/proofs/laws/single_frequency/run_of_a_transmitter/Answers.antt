@@ -13,7 +13,7 @@ returns g c = λ plan_name input feed sent plan_bytes stream fed symbols plan t 
     let mid = g.S.Shelf.files c.run_of_adapt-adapted.new.shelf in
     let left = g.S.Shelf.files c.run_of_code-coded.new.shelf in
     let feeds = feed_is plan plan_name input feed plan_bytes stream _ _ mid planned there adapted
-    (c.run_of_adapt-adapted.ensures plan plan_name input feed plan_bytes stream adapt says) in
+    (c.run_of_adapt-adapted.ensures.done plan plan_name input feed plan_bytes stream adapt says) in
     let all = studio plan stream feed sent fed symbols _ mid left feeds feed_apart (λ found. record {
       there = found;
       done = coded;
@@ -32,6 +32,6 @@ returns g c = λ plan_name input feed sent plan_bytes stream fed symbols plan t 
       apart = apart;
       there = here;
       done = done;
-      files = c.run_of_excite-excited.ensures t.address t.delay copy output log fed excite numbers.address
+      files = c.run_of_excite-excited.ensures.done t.address t.delay copy output log fed excite numbers.address
           numbers.delay;
     })

@@ -17,18 +17,20 @@ returns g c = λ plan_name input feed plan_bytes stream fed plan t u feed_1 out_
     })
     plan plan_bytes stream fed feed (g.S.Shelf.files c.run_of_adapt-adapted.new.shelf) says few are
     (feed_is plan plan_name input feed plan_bytes stream _ _ _ planned there adapted
-    (c.run_of_adapt-adapted.ensures plan plan_name input feed plan_bytes stream adapt says))
+    (c.run_of_adapt-adapted.ensures.done plan plan_name input feed plan_bytes stream adapt says))
     left t u (record { listed = t_listed; in_time = t_in_time }) (record { listed = u_listed; in_time = u_in_time })
     feed_1 out_1 log_1 feed_2 out_2 log_2 _ _ _ _ _ _
     (record {
       apart = apart;
       there = here;
       done = done;
-      files = c.run_of_excite-first.ensures t.address t.delay feed_1 out_1 log_1 fed excite of_t.address of_t.delay;
+      files = c.run_of_excite-first.ensures.done t.address t.delay feed_1 out_1 log_1 fed excite of_t.address
+          of_t.delay;
     })
     (record {
       apart = apart_2;
       there = here_2;
       done = done_2;
-      files = c.run_of_excite-second.ensures u.address u.delay feed_2 out_2 log_2 fed other of_u.address of_u.delay;
+      files = c.run_of_excite-second.ensures.done u.address u.delay feed_2 out_2 log_2 fed other of_u.address
+          of_u.delay;
     })
