@@ -8,6 +8,7 @@ pub mod LateOrders
 pub mod LineLeft
 pub mod NetAnswers
 pub mod NetFiles
+pub mod NetNames
 pub mod NetProgresses
 pub mod Performed
 pub mod PlacedStream
