@@ -1,5 +1,5 @@
 -- How a call ends, of how its command ended and how its line was printed.
-use Rattle.std.specs.Prelude.{◌≡◌, ◌⊎◌, ℕ, Option, Some, None, Result, Ok, Err, IfSome, refl}
+use Rattle.std.specs.Prelude.{◌≡◌, ◌⊎◌, Option, Some, None, Result, Ok, Err, IfSome, refl}
 use Rattle.std.proofs.Common.{sym, ap, ◌∙◌, subst, inl, inr}
 use Rattle.dtx_outside.specs.Counts.{Counts, Rose, HasGone}
 use Rattle.dtx_outside.specs.Shelf.{Files}

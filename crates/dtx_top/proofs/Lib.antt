@@ -3,6 +3,7 @@ pub mod ByWords
 pub mod Carrying
 pub mod Ending
 pub mod FileNames
+pub mod HeadlineLaw
 pub mod Headlines
 pub mod LateOrders
 pub mod LineLeft
