@@ -1,4 +1,4 @@
-// The first symbols of the standard's sequences, a segment of every level, and syncs with wrong symbols.
+// The standard's sequences in syncs of both fields, a segment of every level, and syncs with wrong symbols.
 
 use crate::expect::expect_none;
 use dtx_frame::{data_segment, field_sync, is_second, looks};
@@ -15,17 +15,26 @@ fn has_bits(symbols: &[i8; SEGMENT], place: usize, bits: &[u8]) -> bool {
     true
 }
 
-/// Bits of the sync of a second field or of a first, and where they stand.
-const BITS: [(bool, usize, &[u8]); 9] = [
+/// The short sequence, all 63 bits of it (ATSC A/53 Part 2, data field sync).
+const SHORT: &[u8] = b"111001001011011101100110101011111100000100001100010100111101000";
+
+/// The same, inverted.
+const INVERTED: &[u8] = b"000110110100100010011001010100000011111011110011101011000010111";
+
+/// Bits of the sync of a second field or of a first, and where they stand. The middle one of three short sequences is
+/// inverted in a second field, and no other.
+const BITS: [(bool, usize, &[u8]); 11] = [
     (false, 0, b"1001000000010111111111001010"),
-    (false, 515, b"1110010010110111"),
-    (false, 578, b"1110010010110111"),
-    (false, 641, b"1110010010110111"),
+    (false, 515, SHORT),
+    (false, 578, SHORT),
+    (false, 641, SHORT),
     (false, 704, b"0000111100001111010110101110010010110111"),
     (false, 791, b"1110010010110111"),
-    (true, 515, b"1110010010110111"),
-    (true, 578, b"0001101101001000"),
-    (true, 641, b"1110010010110111"),
+    (true, 0, b"1001000000010111111111001010"),
+    (true, 515, SHORT),
+    (true, 578, INVERTED),
+    (true, 641, SHORT),
+    (true, 704, b"0000111100001111010110101110010010110111"),
 ];
 
 /// The last symbols of these syncs.

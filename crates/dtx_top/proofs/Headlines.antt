@@ -47,13 +47,14 @@ use Rattle.dtx_jobs.specs.SymbolFile as symbols
 use Rattle.dtx_schedule.specs.Inside.{first_past_feed}
 use Rattle.dtx_schedule.proofs.FilesLemmas.{AreApart, apart_of, files_with, with_outputs-told}
 use Rattle.dtx_schedule.specs.TransmitterFiles.{played_outputs, symbol_file}
-use Rattle.dtx_top.specs.HeadlineOfFiles.{HeadlineLaw, HeadlineOfFiles}
+use Rattle.dtx_top.specs.HeadlineOfFiles.{HeadlineOfFiles}
 use Rattle.dtx_top.specs.NetMeaning.{adapting, events_past, fed_meaning, is_done, network_meaning, planned_meaning}
 use Rattle.dtx_top.specs.NetMeaning.{played_and_received, received_of, received_past, with_received}
 use Rattle.dtx_top.specs.Networks.{OfNetwork, AreWholeFiles, damaged_file, network_names, packets_received}
 use Rattle.dtx_top.specs.Networks.{sent_file}
 use Rattle.dtx_top.proofs.Adapted.{AreAllTaken, all_taken, packets_given_of, taken_means}
 use Rattle.dtx_top.proofs.Carrying.{is_done_is}
+use Rattle.dtx_top.proofs.HeadlineLaw.{HeadlineLaw}
 use Rattle.dtx_top.proofs.NetFiles.{network_files, network_outputs, received_outputs}
 use Rattle.dtx_top.proofs.SegmentsBack.{segments_of_file}
 use Rattle.dtx_top.proofs.SegmentsSent.{length-symbol_file}

@@ -3,11 +3,13 @@ pub mod ByWords
 pub mod Carrying
 pub mod Ending
 pub mod FileNames
+pub mod HeadlineLaw
 pub mod Headlines
 pub mod LateOrders
 pub mod LineLeft
 pub mod NetAnswers
 pub mod NetFiles
+pub mod NetNames
 pub mod NetProgresses
 pub mod Performed
 pub mod PlacedStream

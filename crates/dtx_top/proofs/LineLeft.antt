@@ -76,8 +76,9 @@ no_fault status done fault = let P : Status → Type 0 = λ s. IsFault s in subs
 
 -- the name of a line over files that are told
 name_told : (command : Option Command) (words : List (List ℕ)) (held : Files) (status : Status) (kept : List ℕ)
-    → (command ≡ Some Net → name_kept command words status kept ≡ line_name status (names_told command words held))
-    → name_kept command words status kept ≡ line_name status (names_told command words held)
+    → (command ≡ Some Net
+    → name_kept command words status kept ≡ line_name status (names_told status command words held))
+    → name_kept command words status kept ≡ line_name status (names_told status command words held)
 name_told (Some Net) words held status kept is = is refl
 name_told (Some command) words held status kept is = refl
 name_told None words held status kept is = refl
@@ -87,7 +88,7 @@ line_is : (command : Option Command) (words : List (List ℕ)) (held : Files) (o
     (kept : List ℕ)
     → IsCarriedOut (means_of command words held) (Some held) outcome now
     → (command ≡ Some Net → name_kept command words outcome.status kept
-    ≡ line_name outcome.status (names_told command words held))
+    ≡ line_name outcome.status (names_told outcome.status command words held))
     → IsToldLine command words held outcome.status
     (line_of command outcome (name_kept command words outcome.status kept))
 line_is command words held outcome now kept is named =
@@ -107,7 +108,7 @@ pub line_told : (command : Option Command) (words : List (List ℕ)) (told now :
     (line : Result (Unit {0}) SinkNo) (first last : SinkCounts) (old new : Option (List ℕ))
     → IfSome told (λ held. IsCarriedOut (means_of command words held) (Some held) outcome now)
     → (command ≡ Some Net → IfSome told (λ held. name_kept command words outcome.status kept
-    ≡ line_name outcome.status (names_told command words held)))
+    ≡ line_name outcome.status (names_told outcome.status command words held)))
     → IsPut (line_of command outcome (name_kept command words outcome.status kept)) old line new
     → IsCounted first line last
     → IfSome told (λ held. HasLine (IsToldLine command words held) (finished outcome.status line) first last old new)

@@ -51,11 +51,11 @@ use Rattle.dtx_jobs.specs.Receive.{receive_answer}
 use Rattle.dtx_jobs.proofs.ReceivedLemmas.{all_damaged_received}
 use Rattle.dtx_jobs.specs.SymbolFile.{file_segments, whole_segments}
 use Rattle.dtx_schedule.specs.TransmitterFiles.{symbol_file}
-use Rattle.dtx_top.specs.HeadlineOfFiles.{HeadlineLaw}
 use Rattle.dtx_top.specs.NetMeaning.{received_past}
 use Rattle.dtx_top.specs.Networks.{sent_file}
 use Rattle.dtx_top.specs.Trial.{near, trial_events, trial_network, trial_plan, trial_transmitters}
 use Rattle.dtx_top.specs.WorkedNetwork.{made_packets}
+use Rattle.dtx_top.proofs.HeadlineLaw.{HeadlineLaw}
 use Rattle.dtx_top.proofs.SegmentsBack.{segments_of_file, whole_segments_sent}
 use Rattle.dtx_top.proofs.TrialUnlocked.{events_before, third_unlocked}
 use Rattle.dtx_top.proofs.WorkedNetwork.{ListLaws, Met, MetLaw, lists_each}

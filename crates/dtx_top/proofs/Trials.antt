@@ -33,7 +33,7 @@ use Rattle.dtx_plan.specs.declared.plan.Plan as whole
 use Rattle.dtx_words.specs.NetworkNames.{feed_name, trial_name}
 use Rattle.dtx_words.specs.Number.{number_in, number_within}
 use Rattle.dtx_words.specs.declared.rows.Command.TheVariants.{Make, Trial}
-use Rattle.dtx_top.specs.HeadlineOfFiles.{HeadlineLaw, HeadlineOfFiles}
+use Rattle.dtx_top.specs.HeadlineOfFiles.{HeadlineOfFiles}
 use Rattle.dtx_top.specs.NetAnswers.{IsOfReplay}
 use Rattle.dtx_top.specs.NetMeaning.{answered, network_meaning}
 use Rattle.dtx_top.specs.NetProgress.{HasNetProgress, HasStreamProgress, feed_outputs, reception_outputs}
@@ -42,6 +42,7 @@ use Rattle.dtx_top.specs.Trial.{HasMadeProgress, HasNumbersHeadline, HasTrialNet
 use Rattle.dtx_top.specs.Trial.{of_trial, trial_events, trial_made, trial_network, trial_outcome, trial_plan}
 use Rattle.dtx_top.specs.Trial.{trial_played, trial_transmitters, with_trial}
 use Rattle.dtx_top.proofs.FileNames.{any_of}
+use Rattle.dtx_top.proofs.HeadlineLaw.{HeadlineLaw}
 use Rattle.dtx_top.proofs.Headlines.{stream_done}
 use Rattle.dtx_top.proofs.NetFiles.{letter}
 use Rattle.dtx_top.proofs.NetProgresses.{answered_so}

@@ -38,9 +38,10 @@ use Rattle.dtx_network.specs.Presets.{orders}
 use Rattle.dtx_words.specs.NetworkNames.{received_name}
 use Rattle.dtx_jobs.specs.SymbolFile as file
 use Rattle.dtx_schedule.specs.TransmitterFiles.{symbol_file}
-use Rattle.dtx_top.specs.HeadlineOfFiles.{HeadlineLaw, HeadlineOfFiles}
+use Rattle.dtx_top.specs.HeadlineOfFiles.{HeadlineOfFiles}
 use Rattle.dtx_top.specs.Networks.{damaged_file, sent_file}
 use Rattle.dtx_top.specs.WorkedNetwork.{HasAllBack, IsGivenBack, IsLittle, IsSimple, WorkedNetwork}
+use Rattle.dtx_top.proofs.HeadlineLaw.{HeadlineLaw}
 use Rattle.dtx_top.proofs.SegmentsBack.{segments_of_file}
 use Rattle.dtx_top.proofs.WorkedDamage.{few_slight}
 

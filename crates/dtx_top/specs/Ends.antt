@@ -116,7 +116,7 @@ pub record IsCommandPerformed (command : Option Command) (words : List (List ℕ
   pub gone : HasGone before after (blame_of outcome.status)
   pub answer : IsOfCommand command words outcome.status
   pub name : command ≡ Some Net → IfSome told (λ held. name_kept command words outcome.status kept
-      ≡ line_name outcome.status (names_told command words held))
+      ≡ line_name outcome.status (names_told outcome.status command words held))
   pub untold_name : command ≡ Some Net → IsSomeName command words outcome.status
       (name_kept command words outcome.status kept)
   pub shown : command ≡ Some Net → ShowsNetwork outcome.status outcome

@@ -4,7 +4,6 @@ use Rattle.std.specs.Prelude.{◌≡◌, ℕ, ◌+◌, Option, Some, IsSomeAnd, 
 use Rattle.std.specs.FinMap.{get}
 use Rattle.dtx_outside.specs.Shelf.{Files}
 use Rattle.dtx_packets.specs.Packets.{packets_of}
-use Rattle.dtx_plan.specs.declared.event.Event.{Event}
 use Rattle.dtx_plan.specs.declared.plan.NetPlan.{NetPlan}
 use Rattle.dtx_plan.specs.declared.plan.Plan.{Plan}
 use Rattle.dtx_plan.specs.declared.plan.ReceivePlan.{ReceivePlan}
@@ -14,16 +13,10 @@ use Rattle.dtx_adapter.specs.Feed.{feed}
 use Rattle.dtx_net.specs.Sent as sent
 use Rattle.dtx_network.specs.GivesBack.{GivesBack, GivesAllBack}
 use Rattle.dtx_network.specs.Network.{steps_under, Headline, Joined}
-use Rattle.dtx_network.specs.Plans.{IsPlan, IsStream}
 use Rattle.dtx_words.specs.NetworkNames.{received_name}
 use Rattle.dtx_jobs.specs.SymbolFile.{file_segments}
 use Rattle.dtx_schedule.specs.TransmitterFiles.{symbol_file}
 use Rattle.dtx_top.specs.Networks.{damaged_file, AreWholeFiles, OfNetwork}
-
--- the headline for every plan and stream, in the form of `dtx_network`'s law
-abbrev pub HeadlineLaw : Type 0
-HeadlineLaw = (plan : Plan) (stream : List (List ℕ)) (events : List Event) → IsPlan plan → IsStream stream
-    → Headline plan stream events
 
 -- The headline of a network that was done, from the files `held` before the call to the files `now`.
 pub record HeadlineOfFiles (plan : Plan) (network : NetPlan) (stream : List (List ℕ)) (held now : Files) : Type 0 where

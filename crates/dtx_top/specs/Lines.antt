@@ -18,12 +18,12 @@ use Rattle.dtx_top.specs.Trial.{trial_names}
 
 -- ---- which line
 
--- The file names of a command: those among its words. Of `trial` they are those of its inputs. Of `net` they are PLAN
--- and those that the plan gives.
-abbrev pub names_told : Option Command → List (List ℕ) → Files → List (List ℕ)
-names_told (Some Net) words held = net_names words held
-names_told (Some Trial) words held = trial_names
-names_told command words held = names_of command words
+-- The file names of a command among which the line of a status has one. They are those among its words. Of `trial` they
+-- are those of its inputs. Of `net` they are PLAN and those that the plan gives.
+abbrev pub names_told : Status → Option Command → List (List ℕ) → Files → List (List ℕ)
+names_told status (Some Net) words held = net_names status words held
+names_told status (Some Trial) words held = trial_names
+names_told status command words held = names_of command words
 
 -- The text is the line of this status, for these words over these files, with the numbers of their meaning. The status
 -- is `Done` only where the meaning is done.
@@ -31,7 +31,7 @@ pub record IsToldLine (command : Option Command) (words : List (List ℕ)) (held
     (text : List ℕ) : Type 0 where
   pub done : status ≡ Done → (means_of command words held).outcome.status ≡ Done
   pub line : text ≡ line_at command status (means_of command words held).outcome
-      (line_name status (names_told command words held))
+      (line_name status (names_told status command words held))
 
 -- The name in a line: one among the words. Of `trial` it is one of its inputs. Of `net` it is the name that it keeps,
 -- or PLAN where that isn't there.

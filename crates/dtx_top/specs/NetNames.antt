@@ -4,7 +4,7 @@ use Rattle.std.specs.Prelude.{Ok}
 use Rattle.std.specs.Prelude.{Err, slice_index_or}
 use Rattle.std.specs.FinMap.{get}
 use Rattle.dtx_meaning.specs.declared.status.Status.{Status}
-use Rattle.dtx_meaning.specs.declared.status.Status.TheVariants.{Absent}
+use Rattle.dtx_meaning.specs.declared.status.Status.TheVariants.{Absent, Same}
 use Rattle.dtx_outside.specs.Shelf.{Files}
 use Rattle.dtx_plan.specs.Plan.{plan_of}
 use Rattle.dtx_plan.specs.declared.plan.NetPlan.{NetPlan}
@@ -16,23 +16,39 @@ use Rattle.dtx_top.specs.Networks.{network_names}
 
 -- ---- the names of a network
 
-abbrev pub names_under : List ℕ → whole.Plan → Option NetPlan → List (List ℕ)
-names_under name plan None = name ∷ []
-names_under name plan (Some network) = network_names name plan network
+-- the address of the transmitter whose symbols are received, or 0 without a receiver
+abbrev pub receiver_of : Option ReceivePlan → ℕ
+receiver_of None = 0
+receiver_of (Some receiver) = receiver.from
 
-abbrev pub names_said : List ℕ → Result whole.Plan PlanNo → List (List ℕ)
-names_said name (Err refusal) = name ∷ []
-names_said name (Ok plan) = names_under name plan plan.net
+-- the names of a network's inputs, by their numbers: PLAN, the stream, the feed, the symbols that are received
+abbrev pub network_inputs : List ℕ → NetPlan → List (List ℕ)
+network_inputs name network =
+    name ∷ network.stream ∷ feed_name ∷ symbol_name (receiver_of network.receive) ∷ []
 
-abbrev pub names_of_file : List ℕ → Option (List ℕ) → List (List ℕ)
-names_of_file name None = name ∷ []
-names_of_file name (Some bytes) = names_said name (plan_of bytes)
+-- The names among which the line of a status has one: all names for `Same`, and those of the inputs for any other
+-- status.
+abbrev pub names_for : Status → List ℕ → whole.Plan → NetPlan → List (List ℕ)
+names_for Same name plan network = network_names name plan network
+names_for status name plan network = network_inputs name network
 
--- PLAN alone where it gives no network. Otherwise PLAN, the stream, the feed, the files of the transmitters, and the
--- file of the packets received, if any.
-abbrev pub net_names : List (List ℕ) → Files → List (List ℕ)
-net_names (verb ∷ plan ∷ []) held = names_of_file plan (get held plan)
-net_names words held = []
+abbrev pub names_under : Status → List ℕ → whole.Plan → Option NetPlan → List (List ℕ)
+names_under status name plan None = name ∷ []
+names_under status name plan (Some network) = names_for status name plan network
+
+abbrev pub names_said : Status → List ℕ → Result whole.Plan PlanNo → List (List ℕ)
+names_said status name (Err refusal) = name ∷ []
+names_said status name (Ok plan) = names_under status name plan plan.net
+
+abbrev pub names_of_file : Status → List ℕ → Option (List ℕ) → List (List ℕ)
+names_of_file status name None = name ∷ []
+names_of_file status name (Some bytes) = names_said status name (plan_of bytes)
+
+-- PLAN alone where it gives no network. Otherwise for `Same` PLAN, the stream, the feed, the files of the transmitters,
+-- and the file of the packets received, if any. For any other status the names of the inputs.
+abbrev pub net_names : Status → List (List ℕ) → Files → List (List ℕ)
+net_names status (verb ∷ plan ∷ []) held = names_of_file status plan (get held plan)
+net_names status words held = []
 
 -- ---- the name in the line
 
@@ -48,11 +64,6 @@ misses_plan _ = false
 -- the name in the line: that of the plan where it isn't there, and otherwise the name that is kept beside the answer
 abbrev pub told_name : List ℕ → Status → List ℕ → List ℕ
 told_name plan status kept = if misses_plan status then plan else kept
-
--- the address of the transmitter whose symbols are received, or 0 without a receiver
-abbrev pub receiver_of : Option ReceivePlan → ℕ
-receiver_of None = 0
-receiver_of (Some receiver) = receiver.from
 
 -- the name of an input that isn't there: 1 is the stream, 2 the feed, 3 the symbols that are received; else no name
 abbrev pub kept_name : NetPlan → Status → List ℕ

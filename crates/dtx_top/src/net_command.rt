@@ -11,10 +11,9 @@ ghost use Rattle.dtx_words.specs.NetworkNames.{feed_name};
 ghost use Rattle.dtx_top.specs.HeadlineOfFiles.{HasHeadline};
 ghost use Rattle.dtx_top.specs.NetAnswers.{IsOfNetWords, IsOfNetwork, ShowsNetwork};
 ghost use Rattle.dtx_top.specs.NetMeaning.{net_meaning, network_meaning, planned_meaning};
-ghost use Rattle.dtx_top.specs.NetNames.{IsKeptName, IsUntoldName, kept_name, names_of_file, names_under, net_names};
-ghost use Rattle.dtx_top.specs.NetNames.{plan_word, receiver_of, told_name};
+ghost use Rattle.dtx_top.specs.NetNames.{IsKeptName, IsUntoldName, kept_name, names_for, names_of_file, names_under};
+ghost use Rattle.dtx_top.specs.NetNames.{net_names, plan_word, receiver_of, told_name};
 ghost use Rattle.dtx_top.specs.NetProgress.{HasFileProgress, HasPlanProgress, HasProgress, HasStreamProgress};
-ghost use Rattle.dtx_top.specs.Networks.{network_names};
 
 use crate::network_names::repeated_file;
 use crate::replaying::replay;
@@ -57,7 +56,7 @@ pub fn net<S: Shelf>(alloc: Global, words: &[Word], shelf: &mut S) -> NetOutcome
     // The name in its line is the word PLAN where the plan isn't there, and otherwise the name that is kept.
     ensures name { IfSome (S.files shelf.old) (λ held. told_name
         (plan_word words.now) result.outcome.status result.name.bytes
-        ≡ line_name result.outcome.status (net_names words.now held)) }
+        ≡ line_name result.outcome.status (net_names result.outcome.status words.now held)) }
     ensures untold_name { IsUntoldName (plan_word words.now) result.outcome.status
         (told_name (plan_word words.now) result.outcome.status result.name.bytes) }
 
@@ -90,7 +89,8 @@ fn net_file<S: Shelf>(alloc: Global, name: &str, shelf: &mut S) -> NetOutcome
     ensures progress { IfSome (S.files shelf.old) (λ held. HasFileProgress name.now
         result.outcome.status held (S.files shelf.new)) }
     ensures name { IfSome (S.files shelf.old) (λ held. told_name name.now result.outcome.status result.name.bytes
-        ≡ line_name result.outcome.status (names_of_file name.now (files.get held name.now))) }
+        ≡ line_name result.outcome.status (names_of_file result.outcome.status name.now
+        (files.get held name.now))) }
     ensures kept { IsKeptName result.outcome.status result.name.bytes }
     ensures network { IsOfNetwork result.outcome.status }
     ensures shown { ShowsNetwork result.outcome.status result.outcome }
@@ -123,7 +123,8 @@ fn net_planned<S: Shelf>(alloc: Global, name: &str, plan: &Plan, shelf: &mut S) 
     ensures progress { IfSome (S.files shelf.old) (λ held. HasPlanProgress plan.now plan.now.net
         result.outcome.status held (S.files shelf.new)) }
     ensures name { IfSome (S.files shelf.old) (λ held. told_name name.now result.outcome.status result.name.bytes
-        ≡ line_name result.outcome.status (names_under name.now plan.now plan.now.net)) }
+        ≡ line_name result.outcome.status (names_under result.outcome.status name.now plan.now
+        plan.now.net)) }
     ensures kept { IsKeptName result.outcome.status result.name.bytes }
     ensures network { IsOfNetwork result.outcome.status }
     ensures shown { ShowsNetwork result.outcome.status result.outcome }
@@ -155,7 +156,8 @@ fn net_apart<S: Shelf>(
     ensures progress { IfSome (S.files shelf.old) (λ held. HasStreamProgress plan.now network.now
         result.outcome.status held (S.files shelf.new)) }
     ensures name { IfSome (S.files shelf.old) (λ held. told_name name.now result.outcome.status result.name.bytes
-        ≡ line_name result.outcome.status (network_names name.now plan.now network.now)) }
+        ≡ line_name result.outcome.status (names_for result.outcome.status name.now plan.now
+        network.now)) }
     ensures kept { IsKeptName result.outcome.status result.name.bytes }
     ensures network { IsOfNetwork result.outcome.status }
     ensures shown { ShowsNetwork result.outcome.status result.outcome }

@@ -13,7 +13,7 @@ use Rattle.std.proofs.lemmas.List.{take_more}
 use Rattle.dtx_outside.specs.declared.sink.SinkNo.{SinkNo}
 use Rattle.dtx_outside.specs.declared.sink.SinkNo.TheVariants.{Failed, Memory}
 use Rattle.dtx_outside.specs.Sink.{IsPrinted}
-use Rattle.dtx_words.specs.Printed.{printed, text_of, IsPut, IsSoFar}
+use Rattle.dtx_words.specs.Printed.{printed, text_of, IsPut}
 
 -- one text behind another
 pub printed-printed : (o : Option (List ℕ)) (first second : List ℕ)
@@ -88,6 +88,12 @@ text_of-split pieces i d within =
 pub printed-none : (o : Option (List ℕ)) → printed [] o ≡ o
 printed-none None = refl
 printed-none (Some before) = ap Some (append-nil before)
+
+-- a prefix of the text was printed, and `rest` is left
+pub record IsSoFar (text rest : List ℕ) (old new : Option (List ℕ)) : Type 0 where
+  pub front : List ℕ
+  pub whole : front ++ rest ≡ text
+  pub written : new ≡ printed front old
 
 -- nothing was printed yet
 pub so_far_none : (text : List ℕ) (old : Option (List ℕ)) → IsSoFar text text old old

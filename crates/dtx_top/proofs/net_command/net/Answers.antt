@@ -6,8 +6,9 @@ use Rattle.dtx_meaning.specs.Meaning.{IsCarriedOut}
 use Rattle.dtx_meaning.specs.declared.status.Outcome.{Outcome}
 use Rattle.dtx_meaning.specs.declared.status.Status.TheVariants.{Done}
 use Rattle.dtx_outside.specs.Shelf.{Files}
-use Rattle.dtx_top.specs.HeadlineOfFiles.{HasHeadline, HeadlineLaw}
+use Rattle.dtx_top.specs.HeadlineOfFiles.{HasHeadline}
 use Rattle.dtx_top.specs.NetMeaning.{net_meaning, planned_meaning}
+use Rattle.dtx_top.proofs.HeadlineLaw.{HeadlineLaw}
 use Rattle.dtx_top.proofs.Headlines.{headline_done}
 use Rattle.dtx_top.proofs.net_command.net.Goals as goal
 

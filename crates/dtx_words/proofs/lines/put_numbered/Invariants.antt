@@ -1,6 +1,6 @@
 use Rattle.std.proofs.Common.{◌≡◌}
-use Rattle.dtx_words.specs.Printed.{IsSoFar}
 use Rattle.dtx_words.proofs.LinePieces.{numbered_from}
+use Rattle.dtx_words.proofs.Printed.{IsSoFar}
 use Rattle.dtx_words.proofs.lines.put_numbered.Given as goal
 
 abbrev pub invariant-loop-i : goal.invariant-loop-i

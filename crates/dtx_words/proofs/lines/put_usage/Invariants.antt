@@ -3,8 +3,8 @@ use Rattle.std.specs.Prelude.{codes}
 use denote.Shadow.{shadow}
 use denote.Text.{Utf8}
 use Rattle.dtx_words.specs.Line.{usage_line}
-use Rattle.dtx_words.specs.Printed.{IsSoFar}
 use Rattle.dtx_words.proofs.LinePieces.{verbs_from}
+use Rattle.dtx_words.proofs.Printed.{IsSoFar}
 use Rattle.dtx_words.proofs.lines.put_usage.Given as goal
 
 abbrev pub invariant-loop-command : goal.invariant-loop-command
