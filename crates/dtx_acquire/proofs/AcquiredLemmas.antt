@@ -7,14 +7,15 @@ use Rattle.std.proofs.lemmas.List.{drop-append-le, length-drop, take-append-le}
 use Rattle.std.proofs.lemmas.Grind.{flat_map-append}
 use Rattle.dtx_lists.proofs.Range.{map-range_same}
 use Rattle.dtx_acquire.specs.Agreement.{agrees, least_from}
+use Rattle.dtx_acquire.specs.AgreementLaws.{past_end}
 use Rattle.dtx_acquire.specs.Acquired.{Field, Sync, acquired, acquired_cost, acquired_rest, acquired_runs}
 use Rattle.dtx_acquire.specs.Acquired.{acquired_so_far, all_syncs, begun_at, behind, due, field_at, fields_where}
 use Rattle.dtx_acquire.specs.Acquired.{given_at, is_met, restored, restored_of, runs_of, segments_from, cost_of}
 use Rattle.dtx_acquire.specs.Acquired.{syncs_from, unless_lost, IsSame}
-use Rattle.dtx_acquire.proofs.AgreementLemmas.{least_gives, least_misses, whole_there}
-use Rattle.dtx_acquire.proofs.SyncsLemmas.{IsEnough, later, least_skip, sync_of}
+use Rattle.dtx_acquire.proofs.PlacesLemmas.{least_gives, least_here, least_misses, least_skip, whole_there}
+use Rattle.dtx_acquire.proofs.SyncsLemmas.{IsEnough, later, sync_of}
 use Rattle.dtx_acquire.proofs.FieldsLemmas.{enough_first, fields_of, fields_short, fields_skip, first_of}
-use Rattle.dtx_acquire.proofs.StepsLemmas.{agrees_front, least_here}
+use Rattle.dtx_acquire.proofs.StepsLemmas.{agrees_front}
 
 pub restored_append : (scale : ℕ) (xs ys : List Field)
     → restored_of scale (xs ++ ys) ≡ restored_of scale xs ++ restored_of scale ys
@@ -89,11 +90,11 @@ none_so_far scale = ap (restored_of scale) (fields_short true [] (omega arith))
 
 least_more : (s t : List ℤ) (from r : ℕ) → least_from s from ≡ Some r → least_from (s ++ t) from ≡ Some r
 least_more s t from r e =
-    let is = least_gives s from r e in
-    let there = whole_there s r is.passes in
-    least_skip (s ++ t) from r is.least
+    let is = least_gives agrees s from r e in
+    let there = whole_there agrees past_end s r is.passes in
+    least_skip agrees past_end (s ++ t) from r is.least
     (λ i l m. agrees_front s t i (omega (arith, there, m)) ∙ is.before i l m)
-    ∙ least_here (s ++ t) r (agrees_front s t r there ∙ is.passes)
+    ∙ least_here agrees past_end (s ++ t) r (agrees_front s t r there ∙ is.passes)
 
 met_more : (s t : List ℤ) (p : ℕ) → is_met s p ≡ true → (p + 261248 ≤ length s) × (is_met (s ++ t) p ≡ true)
 unfolding is_met
@@ -153,9 +154,9 @@ field_more s t x e =
             late : (q < due x.place) ⊎ (due x.place ≤ q) → due x.place ≤ q
             late (inr l) = l
             late (inl l) =
-                let is = least_gives (s ++ t) (x.place + 1) q g in
+                let is = least_gives agrees (s ++ t) (x.place + 1) q g in
                 absurd (unlike_tests (sym is.passes ∙ agrees_front s t q (omega arith)
-                ∙ least_misses s (x.place + 1) q f is.least))
+                ∙ least_misses agrees past_end s (x.place + 1) q f is.least))
 
     by_due : (g : Bool) → agrees s (due x.place) ≡ g
         → agrees (s ++ t) (due x.place) ≡ agrees s (due x.place) → x.place + 261248 ≤ length s

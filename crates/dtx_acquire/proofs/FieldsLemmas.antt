@@ -5,13 +5,13 @@ use Rattle.std.proofs.Common.{filter, refl, sym, ap, ap₂, ◌∙◌, arith, le
 use Rattle.std.proofs.Math.Seq.{drop-append-add}
 use Rattle.std.proofs.lemmas.Bool.{cond-true, cond-false, cases_lt, lt-leb, lt-ltb, le-ltb}
 use Rattle.dtx_lists.proofs.Range.{map-range_same}
-use Rattle.dtx_lists.proofs.RangeSearch.{find-range_first}
 use Rattle.dtx_acquire.specs.Agreement.{agrees, least_from}
+use Rattle.dtx_acquire.specs.AgreementLaws.{past_end}
 use Rattle.dtx_acquire.specs.Acquired.{Field, Sync, all_syncs, behind, due, field_at, fields_where, given_at}
 use Rattle.dtx_acquire.specs.Acquired.{is_met, segments_from, syncs_from, unless_lost}
 use Rattle.dtx_acquire.specs.Acquirer.{where_wanted}
-use Rattle.dtx_acquire.proofs.AgreementLemmas.{least_gives, whole_there}
-use Rattle.dtx_acquire.proofs.SyncsLemmas.{IsEnough, agrees_behind, later_by, least_behind, least_skip, met_behind}
+use Rattle.dtx_acquire.proofs.PlacesLemmas.{least_gives, least_here, least_skip, whole_there}
+use Rattle.dtx_acquire.proofs.SyncsLemmas.{IsEnough, agrees_behind, later_by, least_from_behind, met_behind}
 use Rattle.dtx_acquire.proofs.SyncsLemmas.{sync_of, syncs_behind, syncs_enough}
 
 -- ---- a field
@@ -48,7 +48,7 @@ given_behind front v p =
     (met_behind front v p) (ap (agrees (front ++ v)) there ∙ agrees_behind front v (p + 260416))
     ∙ ap₂ (λ l x. cond (is_met v p) (cond (agrees v (due p)) 313 l) (x / 832))
     (ap (λ k. unless_lost (length front + p) (least_from (front ++ v) k)) next
-    ∙ ap (unless_lost (length front + p)) (least_behind front v (p + 1))
+    ∙ ap (unless_lost (length front + p)) (least_from_behind front v (p + 1))
     ∙ lost_behind (length front) p (least_from v (p + 1)))
     left
 
@@ -95,7 +95,7 @@ enough_first begins v n l s e = by_least (least_from v 0) refl e
         → (s.place < length v) × (length v ≤ n + s.place)
     by_least None f e = absurd (none_some e)
     by_least (Some r) f e =
-        let is = least_gives v 0 r f in
+        let is = least_gives agrees v 0 r f in
         let same : r ≡ s.place = ap (λ (t : Sync). t.place) (found e) in
         (omega (arith, is.within), omega arith)
       where
@@ -129,14 +129,8 @@ fields_skip wanted begins front v h =
     least : least_from (front ++ v) 0 ≡ option_map (λ i. length front + i) (least_from v 0)
     least =
         let none : length front ≡ length front + 0 = omega arith in
-        least_skip (front ++ v) 0 (length front) (omega arith) (λ i l m. h i m)
-        ∙ ap (least_from (front ++ v)) none ∙ least_behind front v 0
-
-pub least_front : (v : List ℤ) → agrees v 0 ≡ true → least_from v 0 ≡ Some 0
-unfolding least_from
-least_front v h =
-    let there = whole_there v 0 h in
-    find-range_first (agrees v) 0 (length v - 0) 0 (omega arith) (omega arith) h (λ i l m. absurd (omega arith))
+        least_skip agrees past_end (front ++ v) 0 (length front) (omega arith) (λ i l m. h i m)
+        ∙ ap (least_from (front ++ v)) none ∙ least_from_behind front v 0
 
 wanted_first : (b : Bool) (x : Sync) (xs : List Sync) (v : List ℤ)
     → map (field_at v) (cond b (x ∷ xs) xs) ≡ where_wanted b (field_at v x ∷ []) ++ map (field_at v) xs
@@ -154,7 +148,7 @@ unfolding fields_where all_syncs syncs_from
 fields_next wanted begins next front v h met some e =
     ap (fields_of wanted (front ++ v))
     (ap (λ o. syncs_from (front ++ v) (length (front ++ v)) (option_map (sync_of begins) o))
-    (least_front (front ++ v) h)
+    (least_here agrees past_end (front ++ v) 0 h)
     ∙ all_from (length (front ++ v)) (length-append front v))
     ∙ wanted_first (wanted (is_met (front ++ v) 0)) (sync_of begins 0)
     (filter (λ s. wanted (is_met (front ++ v) s.place))
@@ -209,9 +203,9 @@ pub fields_last : (wanted : Bool → Bool) (begins : Bool) (v : List ℤ) → le
     ≡ where_wanted (wanted false) (record { begins = begins; segments = segments_from v 0 (length v / 832) } ∷ [])
 unfolding fields_where all_syncs syncs_from behind field_at given_at
 fields_last wanted begins v l h =
-    let there = whole_there v 0 h in
+    let there = whole_there agrees past_end v 0 h in
     ap (fields_of wanted v)
-    (ap (λ o. syncs_from v (length v) (option_map (sync_of begins) o)) (least_front v h)
+    (ap (λ o. syncs_from v (length v) (option_map (sync_of begins) o)) (least_here agrees past_end v 0 h)
     ∙ one_from (length v) (omega arith))
     ∙ wanted_first (wanted (is_met v 0)) (sync_of begins 0) [] v
     ∙ last_wanted (wanted (is_met v 0)) (wanted false) (ap wanted (unmet v 0 l))

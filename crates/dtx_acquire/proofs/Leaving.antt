@@ -8,6 +8,7 @@ use Rattle.std.proofs.lemmas.List.FromFn.{length-map-range_with_len}
 use Rattle.std.proofs.lemmas.List.Sums.{sum_by-append, sum_by-cons}
 use Rattle.dtx_soft.specs.Softened.{softened, softened_segment}
 use Rattle.dtx_acquire.specs.Agreement.{agrees}
+use Rattle.dtx_acquire.specs.AgreementLaws.{past_end}
 use Rattle.dtx_acquire.specs.Acquired.{Field, acquired, acquired_cost, acquired_rest, acquired_runs}
 use Rattle.dtx_acquire.specs.Acquired.{acquired_so_far, begun}
 use Rattle.dtx_acquire.specs.Acquired.{all_fields, behind_groups, cost_of, fields_where, in_groups, last_fields}
@@ -15,8 +16,8 @@ use Rattle.dtx_acquire.specs.Acquired.{path_cost}
 use Rattle.dtx_acquire.specs.Acquired.{restored, restored_data, restored_field, restored_of, runs_of, segments_from}
 use Rattle.dtx_acquire.specs.Acquired.{settled_fields}
 use Rattle.dtx_acquire.specs.Acquirer.{Holding, IsSought, Leaves, StandsFor, field_of, where_wanted}
+use Rattle.dtx_acquire.proofs.PlacesLemmas.{least_none}
 use Rattle.dtx_acquire.proofs.AcquiredLemmas.{restored_append}
-use Rattle.dtx_acquire.proofs.AgreementLemmas.{least_none}
 use Rattle.dtx_acquire.proofs.FieldsLemmas.{fields_last, fields_none, fields_short}
 use Rattle.dtx_acquire.proofs.StepsLemmas.{sought_fields}
 
@@ -232,7 +233,9 @@ last_is true begins held count few front short whole none = (
 last_is false begins held count few front short whole none = (
   [],
   record {
-    fields = λ wanted. fields_none wanted begins held (least_none held 0 (λ i l m. absurd (by_short short i m)))
+    fields = λ wanted.
+        fields_none wanted begins held
+        (least_none agrees past_end held 0 (λ i l m. absurd (by_short short i m)))
         ∙ empty (wanted false);
     gives = λ scale. ap (λ n. restored scale (segments_from held 0 n)) (sym (none refl));
     runs = not_begun begins ∙ ap (λ n. begun (field_of n begins held)) (sym (none refl));

@@ -1,3 +1,4 @@
+pub mod PlacesLemmas
 pub mod AgreementLemmas
 pub mod SyncsLemmas
 pub mod FieldsLemmas

@@ -12,7 +12,8 @@ use Rattle.dtx_soft.specs.Softened.{IsOwn}
 use Rattle.dtx_acquire.specs.Acquired.{Field, acquired, fields_where, in_groups, restored, restored_of, segments_from}
 use Rattle.dtx_acquire.specs.Acquirer.{field_of}
 use Rattle.dtx_acquire.specs.Agreement.{agrees}
-use Rattle.dtx_acquire.proofs.AgreementLemmas.{least_none}
+use Rattle.dtx_acquire.specs.AgreementLaws.{past_end}
+use Rattle.dtx_acquire.proofs.PlacesLemmas.{least_none}
 use Rattle.dtx_acquire.proofs.FieldsLemmas.{fields_last, fields_none}
 use Rattle.dtx_acquire.specs.Sent.{AreNear, AreInFields, AreSent, IsData, IsNear, IsSync, groups_behind}
 use Rattle.dtx_acquire.proofs.StepsLemmas.{step_due}
@@ -256,7 +257,7 @@ sent_acquired scale sent symbols some h near = by_length (cases_lt 0 (length sen
       where
         none : (sent : List (List ℤ)) (symbols : List ℤ) → length sent ≡ 0 → length symbols ≡ 0
             → restored_of scale (fields_where (λ met. true) true symbols) ≡ sent
-        none [] [] e f = ap (restored_of scale) (fields_none (λ met. true) true [] (least_none [] 0
+        none [] [] e f = ap (restored_of scale) (fields_none (λ met. true) true [] (least_none agrees past_end [] 0
             (λ i a b. absurd (omega arith))))
         none (s ∷ sent) symbols e f = absurd (omega arith)
         none [] (x ∷ symbols) e f = absurd (omega arith)

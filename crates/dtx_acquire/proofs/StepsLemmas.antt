@@ -6,14 +6,14 @@ use Rattle.std.proofs.lemmas.Bool.{cond-true, cond-false, cases_lt, le-leb, le-l
 use Rattle.std.proofs.lemmas.List.{drop-append-le, get_or_append_left, length-drop, length-take-le, take-append-drop}
 use Rattle.std.proofs.lemmas.List.{take-append-le}
 use Rattle.dtx_lists.proofs.Range.{map-range_same}
-use Rattle.dtx_lists.proofs.RangeSearch.{find-range_first}
 use Rattle.dtx_acquire.specs.Agreement.{agrees, are_unlike, is_plus, least_from, sync_sign, unlike, unlike_at}
+use Rattle.dtx_acquire.specs.AgreementLaws.{past_end}
 use Rattle.dtx_acquire.specs.Acquired.{begun_at, behind, field_at, fields_where, given_at, is_met}
 use Rattle.dtx_acquire.specs.Acquired.{segments_from, unless_lost}
 use Rattle.dtx_acquire.specs.Acquirer.{IsSought, field_of, where_wanted}
-use Rattle.dtx_acquire.proofs.AgreementLemmas.{least_gives, least_misses, whole_there}
-use Rattle.dtx_acquire.proofs.SyncsLemmas.{agrees_behind, begun_later, later_by, least_behind, least_skip, sync_of}
-use Rattle.dtx_acquire.proofs.FieldsLemmas.{fields_next, fields_skip, first_of, least_front}
+use Rattle.dtx_acquire.proofs.PlacesLemmas.{least_gives, least_here, least_misses, least_skip, whole_there}
+use Rattle.dtx_acquire.proofs.SyncsLemmas.{agrees_behind, begun_later, later_by, least_from_behind, sync_of}
+use Rattle.dtx_acquire.proofs.FieldsLemmas.{fields_next, fields_skip, first_of}
 
 -- ---- symbols in front of more
 
@@ -125,7 +125,7 @@ step_due wanted begins h more l a d =
     (behind_met (h ++ more) (met_full h more l)
     ∙ cond-true (agrees (h ++ more) 260416) (Some (sync_of false 260416)) (begun_at (least_from (h ++ more) 1)) there
     ∙ ap (λ o. option_map (later_by 260416) (option_map (sync_of false) o))
-    (sym (least_front (drop 260416 h ++ more) front)))
+    (sym (least_here agrees past_end (drop 260416 h ++ more) 0 front)))
     (given_met (h ++ more) (met_full h more l)
     ∙ cond-true (agrees (h ++ more) 260416) 313 (unless_lost 0 (least_from (h ++ more) 1)) there)
 
@@ -139,10 +139,10 @@ searched h more k l d some most none =
     behind_met (h ++ more) (met_full h more l)
     ∙ cond-false (agrees (h ++ more) 260416) (Some (sync_of false 260416)) (begun_at (least_from (h ++ more) 1))
     (agrees_front h more 260416 (omega (arith, l)) ∙ d)
-    ∙ ap begun_at (least_skip (h ++ more) 1 k some
+    ∙ ap begun_at (least_skip agrees past_end (h ++ more) 1 k some
     (λ i m n. agrees_front h more i (omega (arith, l, n, most)) ∙ none i m n)
     ∙ ap₂ least_from (sym (split_at k h more)) (sym there)
-    ∙ least_behind (take k h) (drop k h ++ more) 0
+    ∙ least_from_behind (take k h) (drop k h ++ more) 0
     ∙ ap (λ n. option_map (λ i. n + i) (least_from (drop k h ++ more) 0)) long)
     ∙ begun_later k (least_from (drop k h ++ more) 0)
 
@@ -150,26 +150,20 @@ not_due : (s : List ℤ) → is_met s 0 ≡ true → agrees s 260416 ≡ false
     → given_at s 0 ≡ unless_lost 0 (least_from s 1)
 not_due s m d = given_met s m ∙ cond-false (agrees s 260416) 313 (unless_lost 0 (least_from s 1)) d
 
-pub least_here : (s : List ℤ) (p : ℕ) → agrees s p ≡ true → least_from s p ≡ Some p
-unfolding least_from
-least_here s p h =
-    let there = whole_there s p h in
-    find-range_first (agrees s) p (length s - p) p (omega arith) (omega arith) h (λ i l m. absurd (omega arith))
-
 -- another one is before: symbols were lost
 pub step_lost : (wanted : Bool → Bool) (begins : Bool) (r : ℕ) (h more : List ℤ) → length h ≡ 261248
     → agrees h 0 ≡ true → agrees h 260416 ≡ false → least_from h 1 ≡ Some r
     → fields_where wanted begins (h ++ more)
     ≡ where_wanted (wanted true) (field_of 0 begins h ∷ []) ++ fields_where wanted true (drop r h ++ more)
 step_lost wanted begins r h more l a d e =
-    let is = least_gives h 1 r e in
-    let there = whole_there h r is.passes in
+    let is = least_gives agrees h 1 r e in
+    let there = whole_there agrees past_end h r is.passes in
     let low : r < 260416 = before r is.passes (omega (arith, there, l)) d in
     let none = λ (i : ℕ) (m : 1 ≤ i) (n : i < r). is.before i m n in
     let least : least_from (h ++ more) 1 ≡ Some r =
-    least_skip (h ++ more) 1 r (omega (arith, is.least))
+    least_skip agrees past_end (h ++ more) 1 r (omega (arith, is.least))
     (λ i m n. agrees_front h more i (omega (arith, l, n, low)) ∙ none i m n)
-    ∙ least_here (h ++ more) r (agrees_front h more r there ∙ is.passes) in
+    ∙ least_here agrees past_end (h ++ more) r (agrees_front h more r there ∙ is.passes) in
     step_is wanted begins true r 0 h more l a (omega (arith, is.least)) (omega (arith, low)) (omega arith)
     (searched h more r l d (omega (arith, is.least)) (omega (arith, low)) none)
     (not_due (h ++ more) (met_full h more l) (agrees_front h more 260416 (omega (arith, l)) ∙ d)
@@ -196,16 +190,16 @@ pub step_kept : (wanted : Bool → Bool) (begins : Bool) (h more : List ℤ) →
     → fields_where wanted begins (h ++ more)
     ≡ where_wanted (wanted true) (field_of 313 begins h ∷ []) ++ fields_where wanted true (drop 260417 h ++ more)
 step_kept wanted begins h more l a d e =
-    let none = λ (i : ℕ) (m : 1 ≤ i) (n : i < 260417). least_misses h 1 i e m in
+    let none = λ (i : ℕ) (m : 1 ≤ i) (n : i < 260417). least_misses agrees past_end h 1 i e m in
     step_is wanted begins true 260417 313 h more l a (omega arith) (omega arith) (omega arith)
     (searched h more 260417 l d (omega arith) (omega arith) none)
     (not_due (h ++ more) (met_full h more l) (agrees_front h more 260416 (omega (arith, l)) ∙ d)
-    ∙ ap (unless_lost 0) (least_skip (h ++ more) 1 260417 (omega arith)
+    ∙ ap (unless_lost 0) (least_skip agrees past_end (h ++ more) 1 260417 (omega arith)
     (λ i m n. agrees_front h more i (omega (arith, l)) ∙ none i m n))
     ∙ kept (least_from (h ++ more) 260417) refl)
   where
     kept : (o : Option ℕ) → least_from (h ++ more) 260417 ≡ o → unless_lost 0 o ≡ 313
     kept None f = refl
     kept (Some r) f =
-        let is = least_gives (h ++ more) 260417 r f in
+        let is = least_gives agrees (h ++ more) 260417 r f in
         cond-false _ 0 313 (le-ltb r 260416 (omega (arith, is.least)))

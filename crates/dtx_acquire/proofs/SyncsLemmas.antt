@@ -2,13 +2,12 @@
 use Rattle.std.proofs.Common.{◌≡◌, ℕ, ℤ, pos, zero, suc, ◌+◌, ◌-◌, ◌<◌, ◌≤◌, ◌⊎◌, inl, inr, Bool, true, false, ◌&&◌}
 use Rattle.std.proofs.Common.{cond, leb, Option, Some, None, option_map, List, ◌∷◌, ◌++◌, length, map, sum}
 use Rattle.std.proofs.Common.{get_or, refl, sym, ap, ap₂, ◌∙◌, arith, length-append}
-use Rattle.std.specs.List.{find, range_with_len}
 use Rattle.std.proofs.lemmas.Bool.{cond-true, cond-false, cases_lt, le-leb, leb-true, lt-leb}
 use Rattle.std.proofs.lemmas.List.{get_or-append_right}
 use Rattle.dtx_lists.proofs.Range.{map-range_same}
 use Rattle.dtx_acquire.specs.Agreement.{agrees, are_unlike, is_plus, least_from, sync_sign, unlike, unlike_at}
 use Rattle.dtx_acquire.specs.Acquired.{Sync, begun_at, behind, due, is_met, syncs_from}
-use Rattle.dtx_acquire.proofs.AgreementLemmas.{least_found, least_gives, least_misses, least_none}
+use Rattle.dtx_acquire.proofs.PlacesLemmas.{least_behind, least_gives}
 
 -- ---- agreement
 
@@ -55,45 +54,9 @@ met_behind front v p =
     ∙ order_behind (length front) p 261248 (length v) (length (front ++ v)) (length-append front v)
     ∙ ap (λ n. leb n (length v)) (sym b)
 
--- ---- the least place
-
-pub find_behind : (p q : ℕ → Bool) (k a n : ℕ) → ((i : ℕ) → p (k + i) ≡ q i)
-    → find p (range_with_len (k + a) n) ≡ option_map (λ i. k + i) (find q (range_with_len a n))
-find_behind p q k a zero h = refl
-find_behind p q k a (suc n) h =
-    joined (q a) (p (k + a)) (find p (range_with_len (k + a + 1) n)) (find q (range_with_len (a + 1) n)) (h a)
-    (ap (λ x. find p (range_with_len x n)) next ∙ find_behind p q k (a + 1) n h)
-  where
-    next : k + a + 1 ≡ k + (a + 1)
-    next = omega arith
-
-    joined : (c b : Bool) (r s : Option ℕ) → b ≡ c → r ≡ option_map (λ i. k + i) s
-        → cond b (Some (k + a)) r ≡ option_map (λ i. k + i) (cond c (Some a) s)
-    joined true b r s e f = cond-true b (Some (k + a)) r e
-    joined false b r s e f = cond-false b (Some (k + a)) r e ∙ f
-
-pub least_behind : (front v : List ℤ) (p : ℕ)
+pub least_from_behind : (front v : List ℤ) (p : ℕ)
     → least_from (front ++ v) (length front + p) ≡ option_map (λ i. length front + i) (least_from v p)
-unfolding least_from
-least_behind front v p =
-    let e : length (front ++ v) - (length front + p) ≡ length v - p = omega (arith, length-append front v) in
-    ap (λ n. find (agrees (front ++ v)) (range_with_len (length front + p) n)) e
-    ∙ find_behind (agrees (front ++ v)) (agrees v) (length front) p (length v - p) (λ i. agrees_behind front v i)
-
--- where none agrees before a place, the search may begin there
-pub least_skip : (symbols : List ℤ) (from k : ℕ) → from ≤ k
-    → ((i : ℕ) → from ≤ i → i < k → agrees symbols i ≡ false) → least_from symbols from ≡ least_from symbols k
-unfolding least_from
-least_skip symbols from k l h = by_found (least_from symbols k) refl
-  where
-    by_found : (o : Option ℕ) → least_from symbols k ≡ o → least_from symbols from ≡ least_from symbols k
-    by_found None e =
-        least_none symbols from (λ i m n. by_place i m (cases_lt i k) e) ∙ sym e
-      where
-        by_place : (i : ℕ) → from ≤ i → (i < k) ⊎ (k ≤ i) → least_from symbols k ≡ None → agrees symbols i ≡ false
-        by_place i m (inl n) e = h i m n
-        by_place i m (inr n) e = least_misses symbols k i e n
-    by_found (Some r) e = least_found symbols from k (length symbols - k) r l h e ∙ sym e
+least_from_behind front v p = least_behind agrees front v p (agrees_behind front v)
 
 -- ---- syncs
 
@@ -120,7 +83,7 @@ behind_behind front v p =
     (least_from (front ++ v) (length front + p + 1)) (met_behind front v p)
     (ap (agrees (front ++ v)) there ∙ agrees_behind front v (p + 260416))
     (ap (λ k. Some (sync_of false k)) there)
-    (ap (least_from (front ++ v)) next ∙ least_behind front v (p + 1))
+    (ap (least_from (front ++ v)) next ∙ least_from_behind front v (p + 1))
   where
     pushed : (m m1 g g1 : Bool) (s s1 : Option Sync) (l l1 : Option ℕ) → m1 ≡ m → g1 ≡ g
         → s1 ≡ option_map (later_by (length front)) s → l1 ≡ option_map (λ i. length front + i) l
@@ -157,7 +120,7 @@ later v p s e = by_tests (is_met v p) (agrees v (due p)) refl refl e
     by_least : (o : Option ℕ) → least_from v (p + 1) ≡ o → begun_at o ≡ Some s → (p < s.place) × (s.place < length v)
     by_least None f e = absurd (none_some e)
     by_least (Some r) f e =
-        let is = least_gives v (p + 1) r f in
+        let is = least_gives agrees v (p + 1) r f in
         let same : r ≡ s.place = ap (λ (t : Sync). t.place) (found e) in
         (omega (arith, is.least), omega (arith, is.within))
       where

@@ -1,9 +1,10 @@
 -- Where a capture agrees with a field sync, by the signs of its symbols (the profile's own; ATSC A/53 Part 2, data
 -- field sync).
-use Rattle.std.specs.Prelude.{ℕ, ℤ, pos, ◌+◌, ◌-◌, ◌&&◌, int_lt, nat_le, Bool, false, not, if◌then◌else◌, Option, List}
+use Rattle.std.specs.Prelude.{ℕ, ℤ, pos, ◌+◌, ◌&&◌, int_lt, nat_le, Bool, false, not, if◌then◌else◌, Option, List}
 use Rattle.std.specs.Prelude.{length, map, sum, slice_index_or}
-use Rattle.std.specs.List.{find, range_with_len}
+use Rattle.std.specs.List.{range_with_len}
 use Rattle.dtx_frame.specs.Segments.{sync_symbols}
+use Rattle.dtx_acquire.specs.Places.{first_place}
 
 -- whether a symbol has the sign plus: whether it is above 0
 abbrev pub is_plus : ℤ → Bool
@@ -32,8 +33,8 @@ unfoldable pub agrees : List ℤ → ℕ → Bool
 agrees symbols place = nat_le (place + 832) (length symbols) && nat_le (unlike symbols place 0 515) 128
 
 -- the least place from this one on that agrees
-unfoldable pub least_from : List ℤ → ℕ → Option ℕ
-least_from symbols place = find (agrees symbols) (range_with_len place (length symbols - place))
+abbrev pub least_from : List ℤ → ℕ → Option ℕ
+least_from symbols place = first_place agrees symbols place
 
 -- A sync is of a second field if at least 32 of the 63 symbols of its middle short sequence have another sign than in a
 -- first field.

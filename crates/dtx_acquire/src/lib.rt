@@ -7,10 +7,12 @@ mod giver;
 mod held;
 pub mod laws;
 mod restoring;
-mod search;
+mod searching;
 mod signs;
 mod step;
+mod upright;
 
 pub use acquirer::Acquirer;
 pub use held::{Held, MOST_HELD};
-pub use signs::{WINDOW, WORD, WORDS, is_second, unlike_in, window_at};
+pub use searching::{MAY_BE_UNLIKE, SyncTest, is_sync_at, search};
+pub use signs::is_second;

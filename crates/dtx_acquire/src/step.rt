@@ -6,7 +6,8 @@ ghost use Rattle.dtx_acquire.specs.Acquirer.{IsSought, field_of, where_wanted};
 ghost use Rattle.dtx_acquire.specs.Agreement.{agrees};
 
 use crate::held::{Held, MOST_HELD};
-use crate::search::{agrees, search};
+use crate::searching::{is_sync_at, search};
+use crate::upright::Upright;
 use dtx_sizes::{FIELD_SEGMENTS, SEGMENT};
 
 /// How many segments a field has.
@@ -26,7 +27,7 @@ pub(crate) fn seek(on: bool, held: &mut Held) -> bool
     if on {
         return true;
     }
-    match search(held.all(), 0) {
+    match search(&Upright, held.all(), 0) {
         Some(place) => {
             held.leave(place);
             true
@@ -64,7 +65,7 @@ pub(crate) fn step_of(symbols: &[i8]) -> Step
     ensures few { result.given ≤ FIELD }
     ensures behind { SEGMENT * result.given ≤ result.count }
 {
-    if agrees(symbols, DUE) {
+    if is_sync_at(&Upright, symbols, DUE) {
         return Step {
             count: DUE,
             given: FIELD,
@@ -72,7 +73,7 @@ pub(crate) fn step_of(symbols: &[i8]) -> Step
             begins: false,
         };
     }
-    match search(symbols, 1) {
+    match search(&Upright, symbols, 1) {
         Some(count) => Step {
             count,
             given: 0,

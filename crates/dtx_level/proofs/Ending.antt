@@ -6,8 +6,10 @@ use Rattle.std.proofs.Math.Seq.{drop-append-add, take-append-add}
 use Rattle.std.proofs.lemmas.Bool.{cond-true, cond-false, lt-leb, false≢true, true≢false}
 use Rattle.std.proofs.lemmas.List.{append-nil, map-append, take_all}
 use Rattle.dtx_acquire.specs.Acquired.{is_met}
+use Rattle.dtx_acquire.proofs.PlacesLemmas.{least_none}
 use Rattle.dtx_level.specs.declared.measure.Measure.{Measure}
 use Rattle.dtx_level.specs.Shown.{shows}
+use Rattle.dtx_level.specs.ShownLaws.{past_end}
 use Rattle.dtx_level.specs.Syncs.{all_syncs, slips, syncs_where}
 use Rattle.dtx_level.specs.Levelled.{By, by_sync, known, known_behind, last_behind, last_of, level, levelled}
 use Rattle.dtx_level.specs.Levelled.{levelled_behind, levelled_rest, levelled_so_far, levelled_symbol, nothing}
@@ -15,7 +17,6 @@ use Rattle.dtx_level.specs.Levelled.{stretches, where_some}
 use Rattle.dtx_level.specs.Measures.{later_by, measure_at, measures_where}
 use Rattle.dtx_level.specs.Leveller.{Holding, IsClear, IsCleared, IsEnded, IsStretch, IsTally, Leaves, StandsFor}
 use Rattle.dtx_level.specs.Leveller.{are_some, as_list, places_of, shown, where_wanted}
-use Rattle.dtx_level.proofs.Least.{least_none}
 use Rattle.dtx_level.proofs.Leaving.{leaves_more}
 use Rattle.dtx_level.proofs.StretchesBehind.{levelled_alone, levelled_last}
 use Rattle.dtx_level.proofs.MeasuresBehind.{measures_last, measures_none}
@@ -74,7 +75,7 @@ syncs_now holding symbols done told h =
     ∙ ap (map (λ i. length done + i)) (places_all holding.held))
 
 pub few_none : (v : List ℤ) → length v < 832 → all_syncs v ≡ []
-few_none v l = no_syncs v (least_none v 0 (λ i m n. absurd (omega arith)))
+few_none v l = no_syncs v (least_none shows past_end v 0 (λ i m n. absurd (omega arith)))
 
 -- ---- what is known
 

@@ -5,15 +5,16 @@ use Rattle.std.proofs.Common.{ap, ap₂, filter, not}
 use Rattle.std.proofs.Common.{◌∙◌, subst, arith, length-append}
 use Rattle.std.proofs.lemmas.Bool.{cases_lt, cond-true, cond-false, eq-eqb, ne_eqb, true≢false, false≢true}
 use Rattle.std.proofs.lemmas.List.{append-nil, length-drop}
+use Rattle.dtx_acquire.proofs.PlacesLemmas.{least_gives, least_misses, whole_there}
 use Rattle.dtx_level.specs.Shown.{least_shown, shows}
+use Rattle.dtx_level.specs.ShownLaws.{past_end}
 use Rattle.dtx_acquire.specs.Acquired.{is_met}
 use Rattle.dtx_level.specs.Syncs.{all_syncs, slip_behind, slips_behind, syncs_where}
 use Rattle.dtx_level.specs.Levelled.{by_sync, level, levelled_so_far, nothing}
 use Rattle.dtx_level.specs.Measures.{IsGrown, later_by, measure_at, measures, measures_rest, measures_so_far}
 use Rattle.dtx_level.specs.Measures.{measures_where}
 use Rattle.dtx_level.specs.Leveller.{Holding, IsClear, IsNext, IsTally, StandsFor, all_given, as_list}
-use Rattle.dtx_level.proofs.Shows.{shows_dropped, shows_front, whole_there}
-use Rattle.dtx_level.proofs.Least.{least_gives, least_misses}
+use Rattle.dtx_level.proofs.Shows.{shows_dropped, shows_front}
 use Rattle.dtx_level.proofs.Tallies.{slip_is, tally_more}
 use Rattle.dtx_level.proofs.Leaving.{next_due, next_found, next_none}
 use Rattle.dtx_level.proofs.Ending.{measures_known, measures_now, stands_first}
@@ -126,7 +127,7 @@ seeks h clear most front = by_on h.on refl
           record {
             moves = pass_moves h (passed h count) count clear e (record {
               within = omega arith;
-              none = λ p l. (omega arith, least_misses h.held 0 p g (omega arith));
+              none = λ p l. (omega arith, least_misses shows past_end h.held 0 p g (omega arith));
             }) (record { by = refl; symbols = refl; syncs = refl; slips_ = refl; last = refl }) refl refl refl refl
                 (λ f. refl) refl;
             off = λ f. short;
@@ -139,8 +140,8 @@ seeks h clear most front = by_on h.on refl
           },
         )
     by_least e (Some p) g =
-        let is = least_gives h.held 0 p g in
-        let there = whole_there h.held p is.passes in
+        let is = least_gives shows h.held 0 p g in
+        let there = whole_there shows past_end h.held p is.passes in
         let all : p + 0 ≡ p = omega arith in (
           found h p,
           record {
@@ -236,7 +237,7 @@ settles h none most whole front = by_on h.on refl (cases_lt (length h.held) 2612
           (λ f. absurd (false≢true f)) (λ f. refl),
     )
     by_least e full d (Some k) g =
-        let is = least_gives h.held 832 k g in
+        let is = least_gives shows h.held 832 k g in
         let all : k + 0 ≡ k = omega arith in (
           settled h k true,
           settled_by h k true e (whole full) full (front e) (next_found h.held k full d g) is.least
@@ -295,7 +296,7 @@ one_more h symbols x st =
     )
   where
     front_more : (more : List ℤ) → h.on ≡ true → shows (h.held ++ more) 0 ≡ true
-    front_more more e = shows_front h.held more 0 (whole_there h.held 0 (st.front e)) ∙ st.front e
+    front_more more e = shows_front h.held more 0 (whole_there shows past_end h.held 0 (st.front e)) ∙ st.front e
 
 -- so many more
 record Reaches (symbols more : List ℤ) : Type 0 where

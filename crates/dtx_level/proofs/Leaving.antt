@@ -5,14 +5,15 @@ use Rattle.std.proofs.Common.{append_assoc, refl, sym, ap, ap₂, ◌∙◌, sub
 use Rattle.std.proofs.lemmas.Bool.{cond-true, cond-false, le-leb, true≢false}
 use Rattle.std.proofs.lemmas.List.{length-drop, length-map, length-take-le, map-append, take-append-drop}
 use Rattle.dtx_acquire.specs.Acquired.{is_met}
+use Rattle.dtx_acquire.proofs.PlacesLemmas.{least_gives, least_here, least_misses, least_skip, whole_there}
 use Rattle.dtx_level.specs.declared.measure.Measure.{Measure}
 use Rattle.dtx_level.specs.Shown.{least_shown, shows}
+use Rattle.dtx_level.specs.ShownLaws.{past_end}
 use Rattle.dtx_level.specs.Syncs.{behind}
 use Rattle.dtx_level.specs.Levelled.{By, by_sync, level, levelled_behind, nothing}
 use Rattle.dtx_level.specs.Measures.{later_by, measure_at, measures_where}
 use Rattle.dtx_level.specs.Leveller.{Holding, IsNext, IsSought, IsTally, Leaves, are_some, places_of, where_wanted}
-use Rattle.dtx_level.proofs.Shows.{shows_dropped, shows_front, whole_there}
-use Rattle.dtx_level.proofs.Least.{least_behind, least_gives, least_here, least_misses, least_skip}
+use Rattle.dtx_level.proofs.Shows.{least_shown_behind, shows_dropped, shows_front}
 use Rattle.dtx_level.proofs.MeasuresBehind.{by_front, measure_front, measures_next, measures_skip}
 use Rattle.dtx_level.proofs.StretchesBehind.{levelled_next, levelled_skip}
 use Rattle.dtx_level.proofs.SyncsBehind.{all_next}
@@ -160,7 +161,7 @@ shows_split : (count : ℕ) (h more : List ℤ) → shows h 0 ≡ true
     → shows (take count h ++ (drop count h ++ more)) 0 ≡ true
 shows_split count h more s =
     ap (λ (xs : List ℤ). shows xs 0) (split_at count h more)
-    ∙ shows_front h more 0 (whole_there h 0 s) ∙ s
+    ∙ shows_front h more 0 (whole_there shows past_end h 0 s) ∙ s
 
 measures_settled : (h more : List ℤ) (count : ℕ) → length h ≡ 261248 → shows h 0 ≡ true → 0 < count
     → count ≤ length h → IsNext count h → (wanted : Bool → Bool)
@@ -175,7 +176,8 @@ measures_settled h more count full s some l next wanted =
     (omega (arith, long)) (next_split count h more l next)
     ∙ ap₂ (λ (x : Measure) n. where_wanted (wanted true) (x ∷ [])
     ++ map (later_by n) (measures_where wanted (drop count h ++ more)))
-    (ap (λ (xs : List ℤ). measure_at xs 0) (split_at count h more) ∙ measure_front h more 0 (whole_there h 0 s)) long
+    (ap (λ (xs : List ℤ). measure_at xs 0) (split_at count h more)
+    ∙ measure_front h more 0 (whole_there shows past_end h 0 s)) long
 
 levelled_settled : (by : By) (h more : List ℤ) (count : ℕ) → shows h 0 ≡ true → 0 < count → count ≤ length h
     → IsNext count h
@@ -183,7 +185,7 @@ levelled_settled : (by : By) (h more : List ℤ) (count : ℕ) → shows h 0 ≡
     ≡ map (level (by_sync h 0)) (take count h) ++ levelled_behind (by_sync h 0) (drop count h ++ more)
 levelled_settled by h more count s some l next =
     let long = length-take-le count h l in
-    let there = whole_there h 0 s in
+    let there = whole_there shows past_end h 0 s in
     ap (levelled_behind by) (sym (split_at count h more))
     ∙ levelled_next by (take count h) (drop count h ++ more)
     (all_next (take count h) (drop count h ++ more) (shows_split count h more s) (omega (arith, long))
@@ -256,7 +258,7 @@ next_due h l d more =
     behind_full h more l
     ∙ cond-true (shows (h ++ more) 260416) (Some 260416) (least_shown (h ++ more) 832)
     (shows_front h more 260416 (omega (arith, l)) ∙ d)
-    ∙ ap (option_map (λ i. 260416 + i)) (sym (least_here (drop 260416 h ++ more) 0
+    ∙ ap (option_map (λ i. 260416 + i)) (sym (least_here shows past_end (drop 260416 h ++ more) 0
     (shows_front (drop 260416 h) more 0 (omega (arith, length-drop 260416 h, l))
     ∙ shows_dropped h 260416 0 (omega (arith, l)) ∙ d)))
 
@@ -269,20 +271,20 @@ searched h k l d some most none more =
     behind_full h more l
     ∙ cond-false (shows (h ++ more) 260416) (Some 260416) (least_shown (h ++ more) 832)
     (shows_front h more 260416 (omega (arith, l)) ∙ d)
-    ∙ least_skip (h ++ more) 832 k some
+    ∙ least_skip shows past_end (h ++ more) 832 k some
     (λ i m n. shows_front h more i (omega (arith, l, n, most)) ∙ none i m n)
     ∙ ap₂ least_shown (sym (split_at k h more)) (sym there)
-    ∙ least_behind (take k h) (drop k h ++ more) 0
+    ∙ least_shown_behind (take k h) (drop k h ++ more) 0
     ∙ ap (λ n. option_map (λ i. n + i) (least_shown (drop k h ++ more) 0)) long
 
 pub next_found : (h : List ℤ) (k : ℕ) → length h ≡ 261248 → shows h 260416 ≡ false → least_shown h 832 ≡ Some k
     → IsNext k h
 next_found h k l d e =
-    let is = least_gives h 832 k e in
-    let there = whole_there h k is.passes in
+    let is = least_gives shows h 832 k e in
+    let there = whole_there shows past_end h k is.passes in
     searched h k l d (omega (arith, is.least)) (omega (arith, there, l)) (λ i m n. is.before i m n)
 
 pub next_none : (h : List ℤ) → length h ≡ 261248 → shows h 260416 ≡ false → least_shown h 832 ≡ None
     → IsNext 260417 h
 next_none h l d e =
-    searched h 260417 l d (omega arith) (omega arith) (λ i m n. least_misses h 832 i e m)
+    searched h 260417 l d (omega arith) (omega arith) (λ i m n. least_misses shows past_end h 832 i e m)

@@ -1,5 +1,4 @@
 pub mod Shows
-pub mod Least
 pub mod SyncsBehind
 pub mod MeasuresBehind
 pub mod StretchesBehind

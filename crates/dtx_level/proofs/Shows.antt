@@ -1,31 +1,18 @@
 -- What places show of symbols behind others, and in front of others.
-use Rattle.std.proofs.Common.{◌≡◌, ℕ, ℤ, pos, ◌+◌, ◌*ℤ◌, ◌+ℤ◌, ◌-ℤ◌, ◌<◌, ◌≤◌, ◌⊎◌, inl, inr, Bool, true, false, ◌&&◌}
-use Rattle.std.proofs.Common.{◌||◌}
+use Rattle.std.proofs.Common.{◌≡◌, ℕ, ℤ, pos, ◌+◌, ◌*ℤ◌, ◌+ℤ◌, ◌-ℤ◌, ◌<◌, ◌≤◌, Bool, true, false, ◌&&◌}
+use Rattle.std.proofs.Common.{◌||◌, option_map}
 use Rattle.std.proofs.Common.{cond, leb, List, ◌++◌, length, sum, take, drop, get_or, sym, ap, ap₂, ◌∙◌, arith}
 use Rattle.std.proofs.Common.{length-append}
-use Rattle.std.proofs.lemmas.Bool.{cases_lt, le-leb, lt-leb, true≢false}
+use Rattle.std.proofs.lemmas.Bool.{le-leb, lt-leb, true≢false}
 use Rattle.std.proofs.lemmas.List.{get_or_append_left, length-take-le, take-append-drop}
 use Rattle.dtx_lists.proofs.Range.{map-range_same}
 use Rattle.dtx_acquire.specs.Agreement.{are_unlike, is_plus, sync_sign, unlike, unlike_at}
+use Rattle.dtx_acquire.proofs.PlacesLemmas.{least_behind, whole_there}
 use Rattle.dtx_acquire.proofs.SyncsLemmas.{order_behind, symbol_behind, unlike_behind}
-use Rattle.dtx_level.specs.Shown.{are_shown, constant, counted_at, gain, shows, sum_where, total}
+use Rattle.dtx_level.specs.Shown.{are_shown, constant, counted_at, gain, least_shown, shows, sum_where, total}
+use Rattle.dtx_level.specs.ShownLaws.{past_end}
 
 -- ---- a place and the segment there
-
-shows_past : (symbols : List ℤ) (place : ℕ) → length symbols < place + 832 → shows symbols place ≡ false
-unfolding shows
-shows_past symbols place l =
-    ap (λ b. b && are_shown (unlike symbols place 0 515) (gain symbols place)) (lt-leb (place + 832) (length symbols) l)
-
-pub past_end : (symbols : List ℤ) (place : ℕ) → length symbols < place + 832 → shows symbols place ≡ false
-past_end symbols place l = shows_past symbols place l
-
-pub whole_there : (symbols : List ℤ) (place : ℕ) → shows symbols place ≡ true → place + 832 ≤ length symbols
-whole_there symbols place h = by_place (cases_lt (length symbols) (place + 832))
-  where
-    by_place : (length symbols < place + 832) ⊎ (place + 832 ≤ length symbols) → place + 832 ≤ length symbols
-    by_place (inl l) = absurd (true≢false (sym h ∙ past_end symbols place l))
-    by_place (inr l) = l
 
 pub shows_by : (symbols : List ℤ) (place n : ℕ) (g : ℤ) → place + 832 ≤ length symbols → n ≡ unlike symbols place 0 515
     → g ≡ gain symbols place → are_shown n g ≡ shows symbols place
@@ -111,6 +98,10 @@ shows_behind front v p =
     ap₂ ◌&&◌ (order_behind (length front) p 832 (length v) (length (front ++ v)) (length-append front v))
     (ap₂ are_shown (unlike_behind front v p 0 515) (gain_behind front v p))
 
+pub least_shown_behind : (front v : List ℤ) (p : ℕ)
+    → least_shown (front ++ v) (length front + p) ≡ option_map (λ i. length front + i) (least_shown v p)
+least_shown_behind front v p = least_behind shows front v p (shows_behind front v)
+
 pub shows_dropped : (h : List ℤ) (k p : ℕ) → k ≤ length h → shows (drop k h) p ≡ shows h (k + p)
 shows_dropped h k p l =
     sym (shows_behind (take k h) (drop k h) p)
@@ -133,7 +124,7 @@ some_shown n g h e = by_tests (leb n 128) (leb 387 n) (sym (ap (are_shown n) e) 
 pub gain_some : (symbols : List ℤ) (place : ℕ) → shows symbols place ≡ true → gain symbols place ≡ pos 0 → ⊥
 unfolding shows
 gain_some symbols place h e =
-    let there = whole_there symbols place h in
+    let there = whole_there shows past_end symbols place h in
     some_shown (unlike symbols place 0 515) (gain symbols place)
     (sym (ap (λ b. b && are_shown (unlike symbols place 0 515) (gain symbols place))
     (le-leb (place + 832) (length symbols) there)) ∙ h) e

@@ -4,11 +4,12 @@ use Rattle.std.proofs.Common.{Option, Some, None, option_map, List, [], ◌∷�
 use Rattle.std.proofs.Common.{ap, ap₂, ◌∙◌, arith, length-append}
 use Rattle.std.proofs.lemmas.Bool.{cond-true, cond-false, lt-leb, leb-true}
 use Rattle.dtx_acquire.specs.Acquired.{due, is_met}
+use Rattle.dtx_acquire.proofs.PlacesLemmas.{least_gives, least_here, least_skip, whole_there}
 use Rattle.dtx_acquire.proofs.SyncsLemmas.{met_behind}
 use Rattle.dtx_level.specs.Shown.{least_shown, shows}
+use Rattle.dtx_level.specs.ShownLaws.{past_end}
 use Rattle.dtx_level.specs.Syncs.{all_syncs, behind, syncs_from, syncs_where}
-use Rattle.dtx_level.proofs.Shows.{shows_behind, whole_there}
-use Rattle.dtx_level.proofs.Least.{least_behind, least_gives, least_here, least_skip}
+use Rattle.dtx_level.proofs.Shows.{least_shown_behind, shows_behind}
 
 -- ---- one behind another
 
@@ -23,7 +24,7 @@ behind_behind front v p =
     (least_shown v (p + 832)) (least_shown (front ++ v) (length front + p + 832)) (met_behind front v p)
     (ap (shows (front ++ v)) there ∙ shows_behind front v (p + 260416))
     (ap (λ k. Some k) there)
-    (ap (least_shown (front ++ v)) next ∙ least_behind front v (p + 832))
+    (ap (least_shown (front ++ v)) next ∙ least_shown_behind front v (p + 832))
   where
     pushed : (m m1 g g1 : Bool) (s s1 : Option ℕ) (l l1 : Option ℕ) → m1 ≡ m → g1 ≡ g
         → s1 ≡ option_map (λ i. length front + i) s → l1 ≡ option_map (λ i. length front + i) l
@@ -61,7 +62,7 @@ later v p s e = by_tests (is_met v p) (shows v (due p)) refl refl e
         let room : p + 260416 + 832 ≤ length v = leb-true (p + 260416 + 832) (length v) e in
         (omega (arith, at), omega (arith, at, room))
     by_tests true false e f h =
-        let is = least_gives v (p + 832) s h in
+        let is = least_gives shows v (p + 832) s h in
         (omega (arith, is.least), omega (arith, is.least, is.within))
     by_tests false g e f h = absurd (none_some h)
 
@@ -85,7 +86,7 @@ syncs_enough v (suc n) (suc m) (Some s) h k =
 
 enough_first : (v : List ℤ) (n : ℕ) → length v ≤ n → IsEnough v n (least_shown v 0)
 enough_first v n l s e =
-    let is = least_gives v 0 s e in
+    let is = least_gives shows v 0 s e in
     (omega (arith, is.within), omega arith)
 
 -- ---- all
@@ -105,8 +106,8 @@ all_skip front v h =
     least : least_shown (front ++ v) 0 ≡ option_map (λ i. length front + i) (least_shown v 0)
     least =
         let none : length front ≡ length front + 0 = omega arith in
-        least_skip (front ++ v) 0 (length front) (omega arith) (λ i l m. h i m)
-        ∙ ap (least_shown (front ++ v)) none ∙ least_behind front v 0
+        least_skip shows past_end (front ++ v) 0 (length front) (omega arith) (λ i l m. h i m)
+        ∙ ap (least_shown (front ++ v)) none ∙ least_shown_behind front v 0
 
 -- where a sync is in front, and the next one is behind a front
 pub all_next : (front v : List ℤ) → shows (front ++ v) 0 ≡ true → 0 < length front
@@ -114,7 +115,7 @@ pub all_next : (front v : List ℤ) → shows (front ++ v) 0 ≡ true → 0 < le
     → all_syncs (front ++ v) ≡ 0 ∷ map (λ i. length front + i) (all_syncs v)
 unfolding all_syncs syncs_from
 all_next front v h some e =
-    ap (syncs_from (front ++ v) (length (front ++ v))) (least_here (front ++ v) 0 h)
+    ap (syncs_from (front ++ v) (length (front ++ v))) (least_here shows past_end (front ++ v) 0 h)
     ∙ all_from (length (front ++ v)) (length-append front v)
   where
     all_from : (n : ℕ) → n ≡ length front + length v
@@ -144,8 +145,8 @@ unmet v p l = lt-leb (p + 260416 + 832) (length v) (omega arith)
 pub all_last : (v : List ℤ) → length v < 261248 → shows v 0 ≡ true → all_syncs v ≡ 0 ∷ []
 unfolding all_syncs syncs_from behind
 all_last v l h =
-    let there = whole_there v 0 h in
-    ap (syncs_from v (length v)) (least_here v 0 h) ∙ one_from (length v) (omega (arith, there))
+    let there = whole_there shows past_end v 0 h in
+    ap (syncs_from v (length v)) (least_here shows past_end v 0 h) ∙ one_from (length v) (omega (arith, there))
   where
     ends : (n : ℕ) (o : Option ℕ) → o ≡ None → syncs_from v n o ≡ []
     ends zero o e = refl

@@ -11,8 +11,10 @@ use Rattle.dtx_acquire.specs.Agreement.{is_second, sync_sign}
 use Rattle.dtx_acquire.specs.Sent.{AreInFields}
 use Rattle.dtx_acquire.proofs.SentLemmas.{all_symbols, front_five, length_sent, row_long, row_small, segment_there}
 use Rattle.dtx_acquire.proofs.SentLemmas.{sent_front, symbol_there, symbols_small}
+use Rattle.dtx_acquire.proofs.PlacesLemmas.{least_here}
 use Rattle.dtx_level.specs.declared.measure.Measure.{Measure}
 use Rattle.dtx_level.specs.Shown.{least_shown, shows}
+use Rattle.dtx_level.specs.ShownLaws.{past_end}
 use Rattle.dtx_level.specs.Syncs.{all_syncs, behind, slips, slips_behind, syncs_from, syncs_where}
 use Rattle.dtx_level.specs.Levelled.{By, by_sync, level, levelled, levelled_behind, nothing, stretches, where_some}
 use Rattle.dtx_level.specs.Measures.{constant_in_hundredths, gain_in_hundredths, levelled_sync, measure_at}
@@ -21,7 +23,6 @@ use Rattle.dtx_level.specs.Standing.{AreLevelled, eightfold, exact_measure, stan
 use Rattle.dtx_level.specs.Standing.{standing_measures}
 use Rattle.dtx_level.proofs.Ending.{all_wanted, few_none}
 use Rattle.dtx_level.proofs.Gains.{constant_undone, gain_undone}
-use Rattle.dtx_level.proofs.Least.{least_here}
 use Rattle.dtx_level.proofs.MeasuresBehind.{measured}
 use Rattle.dtx_level.proofs.Standing.{IsSyncAt, by_at, by_gain, noise_eight, second_eight, shows_at}
 use Rattle.dtx_level.proofs.Standing.{standing_undone}
@@ -81,7 +82,7 @@ unfolding all_syncs
 all_places a b v zero l h = few_none v (omega (arith, h.ends))
 all_places a b v (suc k) l h =
     let first = h.each 0 (omega arith) in
-    ap (syncs_from v (length v)) (least_here v 0 (shows_at a b v 0 l first))
+    ap (syncs_from v (length v)) (least_here shows past_end v 0 (shows_at a b v 0 l first))
     ∙ places_from v (length v) k 0 (omega (arith, (h.each k (omega arith)).room))
     (λ j m n. (let is = h.each j (omega arith) in (is.room, shows_at a b v (field_place j) l is)))
     (omega (arith, h.ends))

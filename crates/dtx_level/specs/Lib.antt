@@ -1,4 +1,5 @@
 pub mod Shown
+pub mod ShownLaws
 pub mod Syncs
 pub mod Levelled
 pub mod Measures

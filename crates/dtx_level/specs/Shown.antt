@@ -1,10 +1,11 @@
 -- What a place of a capture shows: how its symbols agree with a field sync, and at what gain and with what constant
 -- they stand (the profile's own; ATSC A/53 Part 2, data field sync).
-use Rattle.std.specs.Prelude.{ℕ, ℤ, pos, nat_abs, ◌≤◌, ◌+◌, ◌-◌, ◌+ℤ◌, ◌-ℤ◌, ◌*ℤ◌, ◌&&◌, ◌||◌, int_lt, nat_le, Bool}
+use Rattle.std.specs.Prelude.{ℕ, ℤ, pos, nat_abs, ◌≤◌, ◌+◌, ◌+ℤ◌, ◌-ℤ◌, ◌*ℤ◌, ◌&&◌, ◌||◌, int_lt, nat_le, Bool}
 use Rattle.std.specs.Prelude.{true, false}
 use Rattle.std.specs.Prelude.{if◌then◌else◌, Option, List, [], ◌∷◌, length, map, slice_index_or}
-use Rattle.std.specs.List.{find, range_with_len}
+use Rattle.std.specs.List.{range_with_len}
 use Rattle.dtx_acquire.specs.Agreement.{are_unlike, sync_sign, unlike}
+use Rattle.dtx_acquire.specs.Places.{first_place}
 
 -- the sum of numbers
 abbrev pub total : List ℤ → ℤ
@@ -46,5 +47,5 @@ shows symbols place =
     nat_le (place + 832) (length symbols) && are_shown (unlike symbols place 0 515) (gain symbols place)
 
 -- the least place from one on that shows a sync
-unfoldable pub least_shown : List ℤ → ℕ → Option ℕ
-least_shown symbols place = find (shows symbols) (range_with_len place (length symbols - place))
+abbrev pub least_shown : List ℤ → ℕ → Option ℕ
+least_shown symbols place = first_place shows symbols place

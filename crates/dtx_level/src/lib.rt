@@ -8,7 +8,7 @@ mod levels;
 mod measure;
 mod measure_text;
 mod pattern;
-mod search;
+mod shown;
 mod step;
 mod tally;
 

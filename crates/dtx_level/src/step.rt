@@ -6,8 +6,7 @@ ghost use Rattle.dtx_level.specs.Shown.{shows};
 ghost use Rattle.dtx_level.specs.Leveller.{IsNext};
 
 use crate::pattern::Pattern;
-use crate::search::{search, shows};
-use dtx_acquire::MOST_HELD;
+use dtx_acquire::{MOST_HELD, is_sync_at, search};
 use dtx_sizes::SEGMENT;
 
 /// How many symbols behind a sync the next one is due.
@@ -32,7 +31,7 @@ pub(crate) fn step_of(pattern: &Pattern, symbols: &[i8]) -> Step
     ensures off { result.on ≡ false → result.count ≡ 260417 }
     ensures next { IsNext result.count symbols.now }
 {
-    if shows(pattern, symbols, DUE) {
+    if is_sync_at(pattern, symbols, DUE) {
         return Step {
             count: DUE,
             on: true,

@@ -4,7 +4,8 @@ use Rattle.std.proofs.lemmas.List.{append-nil, length-take-le}
 use Rattle.dtx_acquire.specs.Acquired.{acquired_so_far, restored_of, settled_fields}
 use Rattle.dtx_acquire.specs.Acquirer.{Holding, Leaves, StandsFor}
 use Rattle.dtx_acquire.specs.Agreement.{agrees}
-use Rattle.dtx_acquire.proofs.AgreementLemmas.{whole_there}
+use Rattle.dtx_acquire.specs.AgreementLaws.{past_end}
+use Rattle.dtx_acquire.proofs.PlacesLemmas.{whole_there}
 use Rattle.dtx_acquire.proofs.StepsLemmas.{agrees_front}
 use Rattle.dtx_acquire.proofs.Leaving.{leaves_more, so_far_by, stands_by}
 use Rattle.dtx_acquire.proofs.acquirer.Acquirer.take.Goals as goal
@@ -76,7 +77,9 @@ held_more : (held more taken : List ℤ) (total n symbols all : ℕ) (on : Bool)
 held_more held more taken total n symbols all on room front e long most few = (
   omega (arith, ap length e, length-append held more),
   omega arith,
-  λ is. ap (λ (xs : List ℤ). agrees xs 0) e ∙ agrees_front held more 0 (whole_there held 0 (front is)) ∙ front is,
+  λ is.
+      ap (λ (xs : List ℤ). agrees xs 0) e
+      ∙ agrees_front held more 0 (whole_there agrees past_end held 0 (front is)) ∙ front is,
 )
 
 pub invariant_of-self : goal.invariant_of-self

@@ -1,15 +1,18 @@
 use Rattle.std.proofs.Common.{[], length, map, refl, sym, ap, ◌∙◌, subst, arith, cond}
 use Rattle.std.proofs.lemmas.Bool.{cond-true, cond-false}
 use Rattle.std.proofs.lemmas.List.{take_all}
+use Rattle.dtx_acquire.proofs.PlacesLemmas.{whole_there}
 use Rattle.dtx_level.specs.Levelled.{By, level}
 use Rattle.dtx_level.specs.Leveller.{Holding, IsStretch}
-use Rattle.dtx_level.proofs.Shows.{whole_there}
+use Rattle.dtx_level.specs.Shown.{shows}
+use Rattle.dtx_level.specs.ShownLaws.{past_end}
 use Rattle.dtx_level.proofs.Ending.{ended_off, ended_on}
 use Rattle.dtx_level.proofs.leveller.Leveller.close.Goals as goal
 
 pub stretch-requires-clause-some : goal.stretch-requires-clause-some
 stretch-requires-clause-some c =
-    omega (arith, whole_there c.self.inside.held 0 (c.self.invariant.5 c.if-self.true), c.len-left.ensures.long)
+    let there = whole_there shows past_end c.self.inside.held 0 (c.self.invariant.5 c.if-self.true) in
+    omega (arith, there, c.len-left.ensures.long)
 
 pub returns-then-self-clause-ended : goal.returns-then-self-clause-ended
 returns-then-self-clause-ended c = λ symbols h.

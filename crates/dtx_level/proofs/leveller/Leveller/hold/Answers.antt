@@ -1,9 +1,11 @@
 use Rattle.std.proofs.Common.{◌≡◌, ◌+◌, ◌*◌, ◌++◌, ◌≤◌, ℕ, ℤ, Bool, true, List, length, length-append, take, ap, ◌∙◌}
 use Rattle.std.proofs.Common.{arith, sym, subst}
 use Rattle.std.proofs.lemmas.List.{length-take-le}
+use Rattle.dtx_acquire.proofs.PlacesLemmas.{whole_there}
 use Rattle.dtx_level.specs.Shown.{shows}
+use Rattle.dtx_level.specs.ShownLaws.{past_end}
 use Rattle.dtx_level.specs.Leveller.{Holding}
-use Rattle.dtx_level.proofs.Shows.{shows_front, whole_there}
+use Rattle.dtx_level.proofs.Shows.{shows_front}
 use Rattle.dtx_level.proofs.leveller.Leveller.hold.Goals as goal
 
 held_more : (held more taken : List ℤ) (syncs slips last silent n symbols all : ℕ) (on : Bool)
@@ -19,7 +21,9 @@ held_more held more taken syncs slips last silent n symbols all on room fewer fa
       fewer,
       omega (arith, is, far),
       omega (arith, is, quiet),
-      λ t. ap (λ (xs : List ℤ). shows xs 0) e ∙ shows_front held more 0 (whole_there held 0 (front t)) ∙ front t,
+      λ t.
+          ap (λ (xs : List ℤ). shows xs 0) e
+          ∙ shows_front held more 0 (whole_there shows past_end held 0 (front t)) ∙ front t,
     )
 
 pub invariant_of-self : goal.invariant_of-self

@@ -1,41 +1,39 @@
 use Rattle.std.proofs.Common.{◌≡◌, ◌+◌, ◌*◌, ◌<◌, ◌≤◌, ◌⊎◌, inl, inr, ℕ, false, length, sym, ◌∙◌, arith}
 use Rattle.std.proofs.lemmas.Bool.{cases_lt}
 use Rattle.dtx_lists.proofs.RangeSearch.{find-range_misses}
-use Rattle.dtx_level.specs.Shown.{shows}
-use Rattle.dtx_level.proofs.Least.{least_found, least_none}
-use Rattle.dtx_level.proofs.Shows.{past_end}
-use Rattle.dtx_level.proofs.search.search.Goals as goal
+use Rattle.dtx_acquire.proofs.PlacesLemmas.{least_found, least_none}
+use Rattle.dtx_acquire.proofs.searching.search.Goals as goal
 
 pub returns-then-symbols-from-lt-SEGMENT : goal.returns-then-symbols-from-lt-SEGMENT
-returns-then-symbols-from-lt-SEGMENT c =
-    sym (least_none c.args.symbols.now c.args.from
+returns-then-symbols-from-lt-SEGMENT g c =
+    sym (least_none g.T.SyncTest.passes g.met.T.SyncTest.whole c.args.symbols.now c.args.from
     (λ i l m. absurd (omega (arith, c.if-symbols-from-lt-SEGMENT.true, c.requires))))
 
 pub loop-k-preserved : goal.loop-k-preserved
-loop-k-preserved c = λ i l m n. by_place i l m n (cases_lt i (c.args.from + 64 * c.loop-k.k))
+loop-k-preserved g c = λ i l m n. by_place i l m n (cases_lt i (c.args.from + 64 * c.loop-k.k))
   where
     by_place : (i : ℕ) → c.args.from ≤ i → i < c.args.from + 64 * (c.loop-k.k + 1) → i + 831 < length c.args.symbols.now
         → (i < c.args.from + 64 * c.loop-k.k) ⊎ (c.args.from + 64 * c.loop-k.k ≤ i)
-        → shows c.args.symbols.now i ≡ false
+        → g.T.SyncTest.passes c.args.symbols.now i ≡ false
     by_place i l m n (inl k) = c.loop-k.invariant i l k n
     by_place i l m n (inr k) =
-        find-range_misses (shows c.args.symbols.now) (c.args.from + 64 * c.loop-k.k) c.min.result
+        find-range_misses (g.T.SyncTest.passes c.args.symbols.now) (c.args.from + 64 * c.loop-k.k) c.min.result
         (sym c.search_word.ensures ∙ c.in-None.is) i k (omega (arith, c.min.ensures))
 
 pub returns-in-Some : goal.returns-in-Some
-returns-in-Some c =
-    sym (least_found c.args.symbols.now c.args.from (c.args.from + 64 * c.loop-k.k) c.min.result c.in-Some.place
-    (omega arith)
+returns-in-Some g c =
+    sym (least_found g.T.SyncTest.passes g.met.T.SyncTest.whole c.args.symbols.now c.args.from
+    (c.args.from + 64 * c.loop-k.k) c.min.result c.in-Some.place (omega arith)
     (λ i l m. by_end i l m (cases_lt (i + 831) (length c.args.symbols.now)))
     (sym c.search_word.ensures ∙ c.in-Some.is))
   where
     by_end : (i : ℕ) → c.args.from ≤ i → i < c.args.from + 64 * c.loop-k.k
         → (i + 831 < length c.args.symbols.now) ⊎ (length c.args.symbols.now ≤ i + 831)
-        → shows c.args.symbols.now i ≡ false
+        → g.T.SyncTest.passes c.args.symbols.now i ≡ false
     by_end i l m (inl n) = c.loop-k.invariant i l m n
-    by_end i l m (inr n) = past_end c.args.symbols.now i (omega arith)
+    by_end i l m (inr n) = g.met.T.SyncTest.whole c.args.symbols.now i (omega arith)
 
 pub returns : goal.returns
-returns c =
-    sym (least_none c.args.symbols.now c.args.from
+returns g c =
+    sym (least_none g.T.SyncTest.passes g.met.T.SyncTest.whole c.args.symbols.now c.args.from
     (λ i l m. c.loop-k.invariant i l (omega (arith, c.div_ceil-k-end.ensures)) m))

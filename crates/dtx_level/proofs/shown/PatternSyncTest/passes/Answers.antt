@@ -2,7 +2,7 @@ use Rattle.std.proofs.Common.{refl, sym, ap, ◌∙◌, rules, w64}
 use Rattle.std.proofs.lemmas.Int.{to_z-of_z}
 use Rattle.dtx_level.specs.Shown.{are_shown, gain}
 use Rattle.dtx_level.proofs.Shows.{between, shows_by}
-use Rattle.dtx_level.proofs.search.is_shown.Goals as goal
+use Rattle.dtx_level.proofs.shown.PatternSyncTest.passes.Goals as goal
 
 pub returns-then-count-lt-TURNED : goal.returns-then-count-lt-TURNED
 returns-then-count-lt-TURNED c =
