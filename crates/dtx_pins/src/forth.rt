@@ -4,7 +4,7 @@
 ghost use Rattle.std.specs.Prelude.{◌≡◌, ◌≢◌, ℕ, pos, ◌+◌, ◌*◌, ◌/◌, ◌%◌, ◌^◌, ◌<◌, ◌≤◌, length, slice_index};
 ghost use Rattle.std.specs.Prelude.{slice_index_or};
 ghost use Rattle.dtx_soft.specs.Gaps.{column};
-ghost use Rattle.dtx_soft.specs.Paths.{distance};
+ghost use Rattle.dtx_soft.specs.Paths.{distance, symbol_at};
 ghost use Rattle.dtx_pins.specs.Pins.{coder_pins};
 ghost use Rattle.dtx_pins.specs.PinnedField.{AreLeastPinned};
 ghost use Rattle.dtx_pins.specs.Steps.{free_number, number_of};

@@ -1,11 +1,12 @@
 //! Where the least paths begin.
 
-ghost use Rattle.std.specs.Prelude.{◌≡◌, ℕ, ◌-◌, ◌<◌, ◌≤◌, [], slice_index, slice_index_or, nat_lt, if◌then◌else◌};
+ghost use Rattle.std.specs.Prelude.{◌≡◌, ℕ, ◌-◌, ◌<◌, [], slice_index_or, nat_lt, if◌then◌else◌};
 ghost use Rattle.dtx_pins.specs.Pins.{pin_at};
 ghost use Rattle.dtx_pins.specs.Trace.{IsStart, stand_at, x2_of};
 
 use crate::forth::{Stand, Stands, put_stand};
 use dtx_sizes::CODERS;
+use dtx_soft::least_of;
 
 /// The stands from which the least paths of all coders begin.
 pub(crate) fn starts(pins: &[[u8; CODERS]], behind: &[[[u32; 4]; 2]; CODERS]) -> Stands
@@ -56,21 +57,6 @@ fn start_of(x2: u8, behind: &[[u32; 4]; 2]) -> Stand
         q0: (state % 2) as u16,
         cost: 0,
     }
-}
-
-/// The index of the least of four costs, the first of several.
-fn least_of(costs: &[u32; 4]) -> u8
-    ensures small { result < 4 }
-    ensures least { (s : ℕ) → s < 4 → slice_index costs.now result ≤ slice_index costs.now s }
-    ensures first { (s : ℕ) → s < 4 → slice_index costs.now s ≡ slice_index costs.now result → result ≤ s }
-{
-    let mut least: u8 = 0;
-    for s in 1..4 {
-        if costs[s as usize] < costs[least as usize] {
-            least = s;
-        }
-    }
-    least
 }
 
 /// The former Z2 of the lesser cost, `x2` where both are equal.
