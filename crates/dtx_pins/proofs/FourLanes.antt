@@ -1,6 +1,6 @@
 -- Vectors of four numbers: sums, minima and comparisons, lane by lane.
 use Rattle.std.proofs.Common.{◌≡◌, ℕ, ◌+◌, ◌*◌, ◌/◌, ◌%◌, ◌^◌, ◌<◌, ◌≤◌, Bool, true, false, cond, nat_lt, min, List, []}
-use Rattle.std.proofs.Common.{◌∷◌, ◌++◌, length, map, get_or, refl, sym, ap, ap₂, ◌∙◌, subst, w32, arith}
+use Rattle.std.proofs.Common.{◌∷◌, ◌++◌, length, map, get_or, refl, sym, ap, ◌∙◌, subst, w32, arith}
 use Rattle.std.proofs.lemmas.Bool.{ltb-true, ltb-false}
 use Rattle.std.proofs.lemmas.List.{get_or_append_left}
 use Rattle.std.proofs.lemmas.Simd.{bit_mask_l, get_or-sel_l, get_or-zip2, length-sel_l, length-zip2, mask_l-lt, mask_l-mod}
@@ -69,13 +69,13 @@ minimum_lane a b s l m k =
 pub sum_long : (a b : List ℕ) → length a ≡ 4 → length b ≡ 4 → length (zip2 (λ x y. (x + y) % 4294967296) a b) ≡ 4
 sum_long a b l m = length-zip2 (λ x y. (x + y) % 4294967296) a b (l ∙ sym m) ∙ l
 
-pub sum_lane : (a b : List ℕ) (s x y : ℕ) → length a ≡ 4 → length b ≡ 4 → s < 4 → get_or a s 0 ≡ x → get_or b s 0 ≡ y
-    → x ≤ 64516 → y ≤ 1388900448 → get_or (zip2 (λ x y. (x + y) % 4294967296) a b) s 0 ≡ x + y
-sum_lane a b s x y l m k e f small bounded =
-    get_or-zip2 (λ x y. (x + y) % 4294967296) a b s 0 0 0 (omega (arith, l, k)) (omega (arith, m, k))
-    ∙ ap₂ (λ x y. (x + y) % 4294967296) e f ∙ no_wrap
+pub sum_lane : (a b : List ℕ) (s : ℕ) → length a ≡ 4 → length b ≡ 4 → s < 4
+    → get_or a s 0 + get_or b s 0 < 4294967296
+    → get_or (zip2 (λ x y. (x + y) % 4294967296) a b) s 0 ≡ get_or a s 0 + get_or b s 0
+sum_lane a b s l m k fits =
+    get_or-zip2 (λ x y. (x + y) % 4294967296) a b s 0 0 0 (omega (arith, l, k)) (omega (arith, m, k)) ∙ no_wrap
   where
-    no_wrap : (x + y) % 4294967296 ≡ x + y
+    no_wrap : (get_or a s 0 + get_or b s 0) % 4294967296 ≡ get_or a s 0 + get_or b s 0
     no_wrap = omega arith
 
 -- ---- the states that a Z1 leads to
@@ -103,8 +103,3 @@ with_z1 costs l =
     four (λ s. get_or (chosen costs 2 0 3 1) s 0 ≡ get_or costs (next_state s (level_by s 1)) 0)
     (front costs 2 l (omega arith)) (front costs 0 l (omega arith)) (front costs 3 l (omega arith))
     (front costs 1 l (omega arith))
-
--- only Z1 of a level counts
-pub next_by_z1 : (s k : ℕ) → s < 4 → next_state s (level_by s (k % 2)) ≡ next_state s (level_by s k)
-unfolding next_state
-next_by_z1 s k l = ap (λ x. 2 * ((x + s % 2) % 2) + s / 2) (omega arith)

@@ -1,6 +1,5 @@
 -- The first of four numbers at which a function is least, found by three comparisons.
-use Rattle.std.proofs.Common.{◌≡◌, ℕ, ◌+◌, ◌<◌, ◌≤◌, ◌⊎◌, inl, inr, ◌==◌, nat_lt, cond, min, sym, ap, ◌∙◌, subst}
-use Rattle.std.proofs.Common.{arith}
+use Rattle.std.proofs.Common.{◌≡◌, ℕ, ◌+◌, ◌*◌, ◌<◌, ◌≤◌, ◌⊎◌, inl, inr, nat_lt, cond, min, ap, subst, arith}
 use Rattle.std.proofs.lemmas.Bool.{cases_lt, lt-ltb, le-ltb}
 use Rattle.dtx_soft.proofs.WritesLemmas.{four}
 use Rattle.dtx_pins.specs.Steps.{IsFirstLeast}
@@ -16,12 +15,12 @@ says_less a b bit e = by_order (cases_lt a b)
     by_order (inl l) = inl (l, subst (λ t. bit ≡ cond t 1 0) (lt-ltb a b l) e)
     by_order (inr l) = inr (l, subst (λ t. bit ≡ cond t 1 0) (le-ltb a b l) e)
 
-abbrev pub picked : ℕ → ℕ → ℕ → ℕ
-picked x y z = cond (z == 1) (2 + y) x
-
 -- the number, and what the function is there
 abbrev pub IsFound : (ℕ → ℕ) → ℕ → Type 0
 IsFound f k = IsFirstLeast f k × (min (min (f 0) (f 1)) (min (f 2) (f 3)) ≡ f k)
+
+number : (g : ℕ → ℕ) (z a b : ℕ) → z ≡ a → g a ≡ b → 2 * a + b ≡ 2 * z + g z
+number g z a b e f = let h = ap g e in omega (arith, h)
 
 at_zero : (f : ℕ → ℕ) → f 0 ≤ f 1 → min (f 0) (f 1) ≤ min (f 2) (f 3) → IsFound f 0
 at_zero f a b = (
@@ -63,13 +62,9 @@ at_three f a b = (
   omega arith,
 )
 
-pub found_by_bits : (f : ℕ → ℕ) (x y z : ℕ) → SaysLess (f 1) (f 0) x → SaysLess (f 3) (f 2) y
-    → SaysLess (min (f 2) (f 3)) (min (f 0) (f 1)) z → IsFound f (picked x y z)
-found_by_bits f x y z (inl a) q (inr c) =
-    subst (IsFound f) (sym (ap (λ z. picked x y z) c.1 ∙ a.1)) (at_one f a.0 c.0)
-found_by_bits f x y z (inr a) q (inr c) =
-    subst (IsFound f) (sym (ap (λ z. picked x y z) c.1 ∙ a.1)) (at_zero f a.0 c.0)
-found_by_bits f x y z p (inl b) (inl c) =
-    subst (IsFound f) (sym (ap (λ z. picked x y z) c.1 ∙ ap (λ y. 2 + y) b.1)) (at_three f b.0 c.0)
-found_by_bits f x y z p (inr b) (inl c) =
-    subst (IsFound f) (sym (ap (λ z. picked x y z) c.1 ∙ ap (λ y. 2 + y) b.1)) (at_two f b.0 c.0)
+pub found_by_bits : (f g : ℕ → ℕ) (z : ℕ) → SaysLess (f 1) (f 0) (g 0) → SaysLess (f 3) (f 2) (g 1)
+    → SaysLess (min (f 2) (f 3)) (min (f 0) (f 1)) z → IsFound f (2 * z + g z)
+found_by_bits f g z (inl a) q (inr c) = subst (IsFound f) (number g z 0 1 c.1 a.1) (at_one f a.0 c.0)
+found_by_bits f g z (inr a) q (inr c) = subst (IsFound f) (number g z 0 0 c.1 a.1) (at_zero f a.0 c.0)
+found_by_bits f g z p (inl b) (inl c) = subst (IsFound f) (number g z 1 1 c.1 b.1) (at_three f b.0 c.0)
+found_by_bits f g z p (inr b) (inl c) = subst (IsFound f) (number g z 1 0 c.1 b.1) (at_two f b.0 c.0)

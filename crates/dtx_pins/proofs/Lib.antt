@@ -8,3 +8,4 @@ pub mod PinnedTraces
 pub mod FourNumbers
 pub mod FourLanes
 pub mod PinnedSteps
+pub mod Bits

@@ -11,7 +11,7 @@ use Rattle.dtx_pins.specs.LeastPinned.{IsLeastPinned}
 use Rattle.dtx_pins.specs.PinnedField.{AreLeastPinned}
 use Rattle.dtx_pins.specs.Pins.{pin_at}
 use Rattle.dtx_pins.specs.Steps.{level_by, number_of}
-use Rattle.dtx_pins.specs.Trace.{IsNext, IsStart, state_of}
+use Rattle.dtx_pins.specs.Trace.{IsNext, IsStand, IsStart, state_of}
 use Rattle.dtx_pins.specs.Walks.{AreLeastCosts, IsLeastFrom, IsMark}
 use Rattle.dtx_pins.proofs.PinnedPaths.{IsBestLevel, best_level, nothing_least, one_more}
 use Rattle.dtx_pins.proofs.PinnedStarts.{from_start}
@@ -25,7 +25,6 @@ pub record IsUnderWay (scale : ℕ) (pins : List ℕ) (symbols now : List ℤ) (
   pub former_small : stand.former < 2
   pub q1 : stand.q1 < 2
   pub q0 : stand.q0 < 2
-  pub small : stand.cost ≤ 64516 * t
   pub long : length levels ≡ t
   pub goes_on : (rest : List ℕ)
       → IsLeastFrom scale (drop t pins) (drop t symbols) stand.former (state_of stand) rest
@@ -46,7 +45,6 @@ sets_out scale pins symbols costs stand s p = record {
   former_small = s.former;
   q1 = s.q1;
   q0 = s.q0;
-  small = (let e = s.cost in omega arith);
   long = refl;
   goes_on = λ rest h. h;
   written = refl;
@@ -75,7 +73,6 @@ goes_further scale pins symbols now t mark old new written l n m next u = record
   former_small = (let e = next.former in let f = next.number_small in omega arith);
   q1 = (let e = next.q1 in omega arith);
   q0 = (let e = next.q0 in let f = u.q1 in omega arith);
-  small = (let a = u.small in let b = next.cost in let d = next.small in omega arith);
   long = length-append u.levels (level ∷ []) ∙ ap (λ n. n + 1) u.long;
   goes_on = λ rest h. subst (IsLeastFrom scale pins symbols u.former u.start)
       (sym (append_assoc u.levels (level ∷ []) rest)) (u.goes_on (level ∷ rest) (longer rest
@@ -148,6 +145,23 @@ goes_further scale pins symbols now t mark old new written l n m next u = record
 
     front : (t : ℕ) (xs : List ℤ) → length (take t xs) ≡ min t (length xs)
     front t xs = length-take t xs
+
+pub stands_further : (scale : ℕ) (symbol : ℤ) (t mark : ℕ) (old new : Stand) (written : ℤ)
+    → IsNext scale symbol mark old new written → IsStand t old → IsStand (t + 1) new
+stands_further scale symbol t mark old new written next h = record {
+  former = (let e = next.former in let f = next.number_small in omega arith);
+  q1 = (let e = next.q1 in omega arith);
+  q0 = (let e = next.q0 in let f = h.q1 in omega arith);
+  cost = (let a = h.cost in let b = next.cost in let d = next.small in omega arith);
+}
+
+pub stands_within : (t n : ℕ) (stand : Stand) → t ≤ n → IsStand t stand → IsStand n stand
+stands_within t n stand l h = record {
+  former = h.former;
+  q1 = h.q1;
+  q0 = h.q0;
+  cost = (let a = h.cost in omega arith);
+}
 
 pub arrives : (scale : ℕ) (pins : List ℕ) (symbols now : List ℤ) (t : ℕ) (stand : Stand) → t ≡ length symbols
     → length now ≡ length symbols → IsUnderWay scale pins symbols now t stand

@@ -106,7 +106,7 @@ one_walked scale t u pins rounds old new marks entry e l long step h = record {
 -- the first n coders have stepped, and the others have not
 pub record AreStepped (scale : ℕ) (symbols : List ℤ) (pins : List ℕ) (n : ℕ) (old new : List (List (List ℕ)))
     (marks : List ℕ) : Type 0 where
-  pub long : length marks ≡ 12
+  pub long : length marks ≡ 16
   pub room : length new ≡ 12
   pub done : (e : ℕ) → e < n → IsStepAt scale (get_or symbols e (pos 0)) (pin_at pins e) (get_or old e [])
       (get_or new e []) (get_or marks e 0)

@@ -17,7 +17,7 @@ pub(crate) fn pin_field(
     table: &Table,
     pins: &[[u8; CODERS]],
     rounds: &mut [[i8; LANES]],
-    marks: &mut [[u16; CODERS]],
+    marks: &mut [[u16; LANES]],
     segments: &mut [[i8; SEGMENT]],
 ) -> u64
     requires few { length segments.old ≤ FIELD_PACKETS }
@@ -35,7 +35,7 @@ pub(crate) fn pin_field(
 }
 
 /// The sum of the costs of the twelve coders' paths.
-fn total(costs: &[u32; CODERS]) -> u64
+fn total(costs: &[u32; LANES]) -> u64
     ensures { result ≡ sum (map (λ e. slice_index costs.now e) (range_with_len 0 CODERS)) }
 {
     let mut total = 0;

@@ -21,7 +21,7 @@ pub const NO_PIN: u8 = 4;
 pub struct Pinned {
     table: Table,
     rounds: Vec<[i8; LANES]>,
-    marks: Vec<[u16; CODERS]>,
+    marks: Vec<[u16; LANES]>,
 }
 
 impl Model for Pinned {
@@ -45,7 +45,7 @@ impl Pinned {
         Ok(Pinned {
             table: Table::new(alloc, scale)?,
             rounds: vec![in alloc; [0i8; LANES]; MAX_SYMBOLS]?,
-            marks: vec![in alloc; [0u16; CODERS]; MAX_SYMBOLS]?,
+            marks: vec![in alloc; [0u16; LANES]; MAX_SYMBOLS]?,
         })
     }
 

@@ -2,22 +2,23 @@
 
 ghost use Rattle.std.specs.Prelude.{◌≡◌, ℕ, ◌-◌, ◌<◌, [], slice_index_or, nat_lt, if◌then◌else◌};
 ghost use Rattle.dtx_pins.specs.Pins.{pin_at};
-ghost use Rattle.dtx_pins.specs.Trace.{IsStart, stand_at, x2_of};
+ghost use Rattle.dtx_pins.specs.Trace.{IsStand, IsStart, stand_at, x2_of};
 
 use crate::forth::{Stand, Stands, put_stand};
 use dtx_sizes::CODERS;
-use dtx_soft::least_of;
+use dtx_soft::{LANES, least_of};
 
 /// The stands from which the least paths of all coders begin.
 pub(crate) fn starts(pins: &[[u8; CODERS]], behind: &[[[u32; 4]; 2]; CODERS]) -> Stands
-    ensures { (e : ℕ) → e < CODERS → IsStart (pin_at (slice_index_or pins.now 0 []) e)
+    ensures starts { (e : ℕ) → e < CODERS → IsStart (pin_at (slice_index_or pins.now 0 []) e)
         (slice_index_or behind.now e []) (stand_at result e) }
+    ensures stands { (e : ℕ) → e < LANES → IsStand 0 (stand_at result e) }
 {
     let mut stands = Stands {
-        former: [0; CODERS],
-        q1: [0; CODERS],
-        q0: [0; CODERS],
-        cost: [0; CODERS],
+        former: [0; LANES],
+        q1: [0; LANES],
+        q0: [0; LANES],
+        cost: [0; LANES],
     };
     for e in 0..CODERS {
         put_stand(start_of(first_x2(pins, e), &behind[e]), e, &mut stands);

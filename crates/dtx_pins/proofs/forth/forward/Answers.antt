@@ -5,7 +5,8 @@ use Rattle.dtx_soft.proofs.ColumnsLemmas.{length-column, symbol_in_column}
 use Rattle.dtx_soft.proofs.TracesLemmas.{column-set}
 use Rattle.dtx_pins.specs.Pins.{coder_pins}
 use Rattle.dtx_pins.specs.Trace.{IsNext, IsStart, stand_at}
-use Rattle.dtx_pins.proofs.PinnedTraces.{IsUnderWay, arrives, goes_further, sets_out}
+use Rattle.dtx_pins.proofs.PinnedTraces.{IsUnderWay, arrives, goes_further, sets_out, stands_further}
+use Rattle.dtx_pins.proofs.PinnedTraces.{stands_within}
 use Rattle.dtx_pins.proofs.PinnedWalks.{pin_in_column}
 use Rattle.dtx_pins.proofs.forth.forward.Goals as goal
 
@@ -16,22 +17,22 @@ loop-t-init c = record {
   under_way = λ e l. sets_out c.args.scale (coder_pins c.args.pins.now e) (column c.args.rounds.now e)
       (get_or c.args.behind.now e []) (stand_at c.starts-stands.result e)
       (subst (λ pin. IsStart pin (get_or c.args.behind.now e []) (stand_at c.starts-stands.result e))
-      (sym (pin_in_column c.args.pins.now e 0)) (c.starts-stands.ensures e l)) (c.requires.walked.costs_are e l);
+      (sym (pin_in_column c.args.pins.now e 0)) (c.starts-stands.ensures.starts e l)) (c.requires.walked.costs_are e l);
+  stands = c.starts-stands.ensures.stands;
 }
 
 pub trace_all-requires-clause-stands : goal.trace_all-requires-clause-stands
-trace_all-requires-clause-stands c e l = record {
-  former = (c.loop-t.invariant.under_way e l).former_small;
-  q1 = (c.loop-t.invariant.under_way e l).q1;
-  q0 = (c.loop-t.invariant.under_way e l).q0;
-  cost = (let a = (c.loop-t.invariant.under_way e l).small in omega (arith, a));
-}
+trace_all-requires-clause-stands c e l =
+    stands_within c.loop-t.t 21527 (stand_at c.loop-t.stands e) (omega (arith, c.loop-t.invariant.long, c.requires.few))
+    (c.loop-t.invariant.stands e l)
 
 pub loop-t-preserved : goal.loop-t-preserved
 loop-t-preserved c = record {
   long = length-set c.loop-t.rounds c.loop-t.t c.trace_all.result ∙ c.loop-t.invariant.long;
   left = λ k l. get_or-set_other c.loop-t.rounds c.loop-t.t k c.trace_all.result [] (λ e. absurd (omega arith))
       ∙ c.loop-t.invariant.left k (omega arith);
+  stands = λ e l. stands_further c.args.scale _ c.loop-t.t _ (stand_at c.loop-t.stands e)
+      (stand_at c.trace_all.new.stands e) _ (c.trace_all.ensures e l) (c.loop-t.invariant.stands e l);
   under_way = λ e l. subst (λ now. IsUnderWay c.args.scale (coder_pins c.args.pins.now e) (column c.args.rounds.now e) now
       (c.loop-t.t + 1) (stand_at c.trace_all.new.stands e))
       (sym (column-set c.loop-t.rounds e c.loop-t.t c.trace_all.result))
@@ -60,7 +61,7 @@ loop-t-preserved c = record {
     next e l =
         subst (λ v. IsNext c.args.scale v (get_or (get_or c.args.marks.now c.loop-t.t []) e 0)
         (stand_at c.loop-t.stands e) (stand_at c.trace_all.new.stands e) (get_or c.trace_all.result e (pos 0)))
-        (symbol e) (c.trace_all.ensures e l)
+        (symbol e) (c.trace_all.ensures e (omega arith))
 
 pub returns-clause-paths : goal.returns-clause-paths
 returns-clause-paths c e l =
