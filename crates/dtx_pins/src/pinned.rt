@@ -61,12 +61,11 @@ impl Pinned {
         ensures cost { result ≡ coders_distance segments.old segments.new CODERS }
         ensures scale { self.new ≡ self.old }
     {
-        let count = SEGMENT_ROUNDS * segments.len();
         pin_field(
             &self.table,
             pins,
-            &mut self.rounds[..count],
-            &mut self.marks[..count],
+            &mut self.rounds[..],
+            &mut self.marks[..],
             segments,
         )
     }

@@ -4,6 +4,33 @@ use Rattle.dtx_pins.specs.Steps.{IsBest, cost_at, number_of, pen_of, through, wa
 use Rattle.dtx_pins.proofs.PinnedSteps.{AreBits, AreHalves, AreJoined, joined_best, mark_bits, pen_small, way_is}
 use Rattle.dtx_pins.proofs.step.before.Goals as goal
 
+at_most : (pin i x : ℕ) → x ≡ pen_of pin i → x ≤ 1400000000
+at_most pin i x e = let a = pen_small pin i in omega (arith, e, a)
+
+pub half-low-requires-clause-first_pen : goal.half-low-requires-clause-first_pen
+half-low-requires-clause-first_pen c s l = at_most c.args.pin 0 _ (c.pens_of-pens.ensures 0 s (omega arith) l)
+
+pub half-low-requires-clause-second_pen : goal.half-low-requires-clause-second_pen
+half-low-requires-clause-second_pen c s l = at_most c.args.pin 1 _ (c.pens_of-pens.ensures 1 s (omega arith) l)
+
+pub half-high-requires-clause-first_pen : goal.half-high-requires-clause-first_pen
+half-high-requires-clause-first_pen c s l = at_most c.args.pin 0 _ (c.pens_of-pens.ensures 0 s (omega arith) l)
+
+pub half-high-requires-clause-second_pen : goal.half-high-requires-clause-second_pen
+half-high-requires-clause-second_pen c s l = at_most c.args.pin 1 _ (c.pens_of-pens.ensures 1 s (omega arith) l)
+
+pub joined-even-requires-clause-near : goal.joined-even-requires-clause-near
+joined-even-requires-clause-near c s l = at_most c.args.pin 2 _ (c.pens_of-pens.ensures 2 s (omega arith) l)
+
+pub joined-even-requires-clause-far : goal.joined-even-requires-clause-far
+joined-even-requires-clause-far c s l = at_most c.args.pin 3 _ (c.pens_of-pens.ensures 3 s (omega arith) l)
+
+pub joined-odd-requires-clause-near : goal.joined-odd-requires-clause-near
+joined-odd-requires-clause-near c s l = at_most c.args.pin 3 _ (c.pens_of-pens.ensures 3 s (omega arith) l)
+
+pub joined-odd-requires-clause-far : goal.joined-odd-requires-clause-far
+joined-odd-requires-clause-far c s l = at_most c.args.pin 2 _ (c.pens_of-pens.ensures 2 s (omega arith) l)
+
 pub returns : goal.returns
 returns c = record { best = λ p s f m. (both p s f m).0; costs = λ p s f m. (both p s f m).1 }
   where

@@ -5,7 +5,7 @@ use Rattle.dtx_soft.specs.Gaps.{column}
 use Rattle.dtx_soft.specs.Paths.{distance}
 use Rattle.dtx_pins.specs.PinnedField.{AreLeastPinned}
 use Rattle.dtx_pins.specs.Pins.{coder_pins}
-use Rattle.dtx_pins.proofs.field.pin_field.Goals as goal
+use Rattle.dtx_pins.proofs.field.pin_rounds.Goals as goal
 
 pub returns-clause-segments : goal.returns-clause-segments
 returns-clause-segments c = record {
