@@ -19,13 +19,16 @@ use Rattle.dtx_pins.specs.Pins.{coder_pins}
 use Rattle.dtx_pins.proofs.LeastPinnedLemmas.{least_pinned_found, least_pinned_levels_are}
 
 -- the symbols of a least path are those of the function
-pinned_symbols_are : (scale : ℕ) (pins : List (List ℕ)) (old : List (List ℤ)) (e : ℕ) (new : List ℤ) → AreLeastPinned scale (coder_pins pins e) (coder_symbols old e) new
+pinned_symbols_are : (scale : ℕ) (pins : List (List ℕ)) (old : List (List ℤ)) (e : ℕ) (new : List ℤ)
+    → AreLeastPinned scale (coder_pins pins e) (coder_symbols old e) new
     → new ≡ pinned_symbols scale pins old e
 unfolding pinned_symbols
 pinned_symbols_are scale pins old e new h =
-    h.symbols ∙ ap (map (symbol_at scale)) (sym (least_pinned_levels_are scale (coder_pins pins e) (coder_symbols old e) h.start h.levels h.least))
+    h.symbols ∙ ap (map (symbol_at scale)) (sym (least_pinned_levels_are scale (coder_pins pins e)
+    (coder_symbols old e) h.start h.levels h.least))
 
-symbol_is : (scale : ℕ) (pins : List (List ℕ)) (old new : List (List ℤ)) (d : ℕ) → IsPinned scale pins old new → d < 828 * length new
+symbol_is : (scale : ℕ) (pins : List (List ℕ)) (old new : List (List ℤ)) (d : ℕ) → IsPinned scale pins old new
+    → d < 828 * length new
     → data_symbol new d ≡ pinned_symbol scale pins old d
 unfolding pinned_symbol coder_symbols
 symbol_is scale pins old new d h l =
@@ -37,7 +40,8 @@ symbol_is scale pins old new d h l =
     (h.coders (coder_at 0 d) (coder_small d)))
 
 -- the symbols of segment i
-entry_is : (scale : ℕ) (pins : List (List ℕ)) (old new : List (List ℤ)) (i k : ℕ) → IsPinned scale pins old new → i < length new → k < 832
+entry_is : (scale : ℕ) (pins : List (List ℕ)) (old new : List (List ℤ)) (i k : ℕ) → IsPinned scale pins old new
+    → i < length new → k < 832
     → get_or (get_or new i []) k (pos 0)
     ≡ cond (nat_lt k 4) (get_or (get_or old i []) k (pos 0)) (pinned_symbol scale pins old (828 * i + (k - 4)))
 unfolding data_symbol
@@ -77,14 +81,16 @@ pinned_is scale pins old new h rows =
 
 -- ---- what the function gives is decided
 
-length-pinned : (scale : ℕ) (pins : List (List ℕ)) (segments : List (List ℤ)) → length (pinned scale pins segments) ≡ length segments
+length-pinned : (scale : ℕ) (pins : List (List ℕ)) (segments : List (List ℤ)) → length
+    (pinned scale pins segments) ≡ length segments
 unfolding pinned
 length-pinned scale pins segments = length-map-range_with_len (pinned_segment scale pins segments) 0 (length segments)
 
 -- symbol k of segment i
 pinned_at : (scale : ℕ) (pins : List (List ℕ)) (segments : List (List ℤ)) (i k : ℕ) → i < length segments → k < 832
     → get_or (get_or (pinned scale pins segments) i []) k (pos 0)
-    ≡ cond (nat_lt k 4) (get_or (get_or segments i []) k (pos 0)) (pinned_symbol scale pins segments (828 * i + (k - 4)))
+    ≡ cond (nat_lt k 4) (get_or (get_or segments i []) k (pos 0)) (pinned_symbol scale pins segments (828 * i +
+    (k - 4)))
 unfolding pinned pinned_segment
 pinned_at scale pins segments i k l m =
     ap (λ (row : List ℤ). get_or row k (pos 0))
@@ -125,8 +131,10 @@ length-least scale pins segments e =
     length-map (least_pinned_levels scale (coder_pins pins e) (coder_symbols segments e)) (symbol_at scale)
     ∙ (least_pinned_found scale (coder_pins pins e) (coder_symbols segments e)).long ∙ length-coder segments e
 
-pinned_turn : (scale : ℕ) (pins : List (List ℕ)) (segments : List (List ℤ)) (e t : ℕ) → e < 12 → t < 69 * length segments
-    → data_symbol (pinned scale pins segments) (symbol_place 0 t e) ≡ get_or (pinned_symbols scale pins segments e) t (pos 0)
+pinned_turn : (scale : ℕ) (pins : List (List ℕ)) (segments : List (List ℤ)) (e t : ℕ) → e < 12
+    → t < 69 * length segments
+    → data_symbol (pinned scale pins segments) (symbol_place 0 t e) ≡ get_or (pinned_symbols scale pins segments e) t
+    (pos 0)
 unfolding pinned_symbol
 pinned_turn scale pins segments e t l m =
     let round = round_is t e in
@@ -137,12 +145,14 @@ pinned_coder_at : (scale : ℕ) (pins : List (List ℕ)) (segments : List (List 
     → coder_symbols (pinned scale pins segments) e ≡ pinned_symbols scale pins segments e
 unfolding coder_symbols
 pinned_coder_at scale pins segments e l =
-    sym (fill_by_all (λ t. data_symbol (pinned scale pins segments) (symbol_place 0 t e)) (pinned_symbols scale pins segments e)
+    sym (fill_by_all (λ t. data_symbol (pinned scale pins segments) (symbol_place 0 t e))
+    (pinned_symbols scale pins segments e)
     (69 * length (pinned scale pins segments)) (pos 0)
     (length-least scale pins segments e ∙ ap (λ n. 69 * n) (sym (length-pinned scale pins segments)))
     (λ t m. sym (pinned_turn scale pins segments e t l (omega (arith, m, length-pinned scale pins segments)))))
 
-pub pinned_found : (scale : ℕ) (pins : List (List ℕ)) (segments : List (List ℤ)) → IsPinned scale pins segments (pinned scale pins segments)
+pub pinned_found : (scale : ℕ) (pins : List (List ℕ)) (segments : List (List ℤ)) → IsPinned scale pins segments
+    (pinned scale pins segments)
 unfolding pinned_symbols
 pinned_found scale pins segments = record {
   long = length-pinned scale pins segments;
@@ -162,6 +172,7 @@ pub pinned_cost_is : (scale : ℕ) (pins : List (List ℕ)) (old new : List (Lis
     → coders_distance old new 12 ≡ pinned_cost scale pins old
 unfolding coders_distance pinned_cost pinned_coder_cost cost pinned_symbols
 pinned_cost_is scale pins old new h =
-    ap sum (map-range_same (λ e. distance (coder_symbols old e) (coder_symbols new e)) (pinned_coder_cost scale pins old) 0 12
+    ap sum (map-range_same (λ e. distance (coder_symbols old e) (coder_symbols new e))
+    (pinned_coder_cost scale pins old) 0 12
     (λ e a b. ap (distance (coder_symbols old e))
     (pinned_symbols_are scale pins old e (coder_symbols new e) (h.coders e (omega arith)))))

@@ -97,8 +97,11 @@ start_is pin x2 behind costs state stand named l low each least first former q1 
     in_order p s f m e k (inl o) = inl (omega (arith, state_is, o))
     in_order p s f m e k (inr o) =
         let same : s ≡ state = omega (arith, k, o) in
-        inr (omega (arith, state_is, same), named_too (better.first p f
-        (ap (cost_at behind p) (sym same) ∙ e ∙ ap (cost_at behind stand.former) state_is)))
+        inr (
+          omega (arith, state_is, same),
+          named_too (better.first p f
+              (ap (cost_at behind p) (sym same) ∙ e ∙ ap (cost_at behind stand.former) state_is)),
+        )
       where
         named_too : (stand.former ≡ p) ⊎ (stand.former ≡ x2) → (stand.former ≡ p) ⊎ (stand.former ≡ x2_of pin)
         named_too (inl q) = inl q
@@ -162,7 +165,8 @@ from_start scale pins symbols costs stand levels s p h = record {
 }
   where
     value : cost scale symbols levels ≡ cost_at costs stand.former (state_of stand)
-    value = least_is scale pins symbols stand.former (state_of stand) (cost_at costs stand.former (state_of stand)) levels
+    value = least_is scale pins symbols stand.former (state_of stand) (cost_at costs stand.former
+        (state_of stand)) levels
         (p stand.former (state_of stand) s.former (let l = s.q1 in let m = s.q0 in omega arith)) h
 
     with_own : (others : List ℕ) → length others ≡ length symbols → IsPath (state_of stand) others
@@ -177,7 +181,12 @@ from_start scale pins symbols costs stand levels s p h = record {
     by_levels [] others state other a b n q x l d f g = tt
     by_levels (z ∷ levels) [] state other a b n q x l d f g = absurd (omega arith)
     by_levels (z ∷ levels) (y ∷ others) state other a b n q x l d f g =
-        inl (before_other (pin_at pins 0) stand.former other z y q (omega (arith, x, x2_is (pin_at pins 0) q)) l d a.0 b.0
+        inl (before_other (pin_at pins 0) stand.former other z y q (omega (
+          arith,
+          x,
+          x2_is
+              (pin_at pins 0) q,
+        )) l d a.0 b.0
         (f.0 q) (g.0 q))
 
     by_former : (state : ℕ) (others : List ℕ) (other : ℕ) → length others ≡ length symbols → IsPath state others
@@ -206,5 +215,8 @@ from_start scale pins symbols costs stand levels s p h = record {
         → (state_of stand < state) ⊎ ((state_of stand ≡ state) × AreInOrder levels others)
     in_order state others other n path l told e (inl o) = inl o
     in_order state others other n path l told e (inr o) =
-        inr (o.0, by_former state others other n path o.0 l told e o.1 (cases_eq stand.former other)
-        (cases_lt (pin_at pins 0) 4))
+        inr (
+          o.0,
+          by_former state others other n path o.0 l told e o.1 (cases_eq stand.former other)
+              (cases_lt (pin_at pins 0) 4),
+        )

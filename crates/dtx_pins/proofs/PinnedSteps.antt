@@ -1,5 +1,6 @@
 -- One step of the search: the pens, the marks and what they give.
-use Rattle.std.proofs.Common.{◌≡◌, ◌≢◌, ℕ, zero, suc, ◌+◌, ◌*◌, ◌/◌, ◌%◌, ◌^◌, ◌<◌, ◌≤◌, ◌⊎◌, inl, inr, Bool, true, false}
+use Rattle.std.proofs.Common.{◌≡◌, ◌≢◌, ℕ, zero, suc, ◌+◌, ◌*◌, ◌/◌, ◌%◌, ◌^◌, ◌<◌, ◌≤◌, ◌⊎◌, inl, inr, Bool, true}
+use Rattle.std.proofs.Common.{false}
 use Rattle.std.proofs.Common.{nat_eq, nat_le, nat_lt, cond, min, List, [], ◌∷◌, get_or, refl, sym, ap, ap₂, ◌∙◌}
 use Rattle.std.proofs.Common.{subst, arith}
 use Rattle.std.proofs.lemmas.Bool.{cases_eq, cases_lt, cond-true, le-leb}
@@ -25,10 +26,10 @@ pub mark_bits : (x y z w : ℕ) → x < 16 → y < 16 → z < 16 → w < 16 → 
     → AreBits (x + 16 * y + 256 * z + 4096 * w) x y z w s
 mark_bits x y z w l m n o =
     four (AreBits (x + 16 * y + 256 * z + 4096 * w) x y z w)
-    (record { first = omega arith; second = omega arith; third = omega arith; fourth = omega arith; })
-    (record { first = omega arith; second = omega arith; third = omega arith; fourth = omega arith; })
-    (record { first = omega arith; second = omega arith; third = omega arith; fourth = omega arith; })
-    (record { first = omega arith; second = omega arith; third = omega arith; fourth = omega arith; })
+    (record { first = omega arith; second = omega arith; third = omega arith; fourth = omega arith })
+    (record { first = omega arith; second = omega arith; third = omega arith; fourth = omega arith })
+    (record { first = omega arith; second = omega arith; third = omega arith; fourth = omega arith })
+    (record { first = omega arith; second = omega arith; third = omega arith; fourth = omega arith })
 
 -- ---- pens
 
@@ -231,7 +232,8 @@ pen_small pin i = by_test (nat_le 4 pin) (nat_eq (cond (nat_lt i 2) pin (pin / 2
 pub record AreHalves (row old : List (List ℕ)) (pin s low high x y : ℕ) : Type 0 where
   pub low_is : low ≡ min (through row old s 0 + pen_of pin 0) (through row old s 1 + pen_of pin 1)
   pub high_is : high ≡ min (through row old s 2 + pen_of pin 0) (through row old s 3 + pen_of pin 1)
-  pub low_bit : x / 2 ^ s % 2 ≡ cond (nat_lt (through row old s 1 + pen_of pin 1) (through row old s 0 + pen_of pin 0)) 1 0
+  pub low_bit : x / 2 ^ s % 2 ≡ cond (nat_lt (through row old s 1 + pen_of pin 1)
+      (through row old s 0 + pen_of pin 0)) 1 0
   pub high_bit : y / 2 ^ s % 2
       ≡ cond (nat_lt (through row old s 3 + pen_of pin 1) (through row old s 2 + pen_of pin 0)) 1 0
 

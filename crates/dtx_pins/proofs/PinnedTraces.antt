@@ -1,5 +1,6 @@
 -- The walk on, one symbol further.
-use Rattle.std.proofs.Common.{◌≡◌, ℕ, ℤ, pos, ◌+◌, ◌*◌, ◌/◌, ◌%◌, ◌<◌, ◌≤◌, List, [], ◌∷◌, ◌++◌, length, take, drop, min}
+use Rattle.std.proofs.Common.{◌≡◌, ℕ, ℤ, pos, ◌+◌, ◌*◌, ◌/◌, ◌%◌, ◌<◌, ◌≤◌, List, [], ◌∷◌, ◌++◌, length, take, drop}
+use Rattle.std.proofs.Common.{min}
 use Rattle.std.proofs.Common.{append-nil, append_assoc, get_or, map, slice_set, take_all, refl, sym, ap, ap₂, ◌∙◌}
 use Rattle.std.proofs.Common.{subst, arith}
 use Rattle.std.proofs.lemmas.List.{drop_all, drop_more, length-append, length-take, map-append, take_more}
@@ -132,7 +133,8 @@ goes_further scale pins symbols now t mark old new written l n m next u = record
         subst (λ symbols. IsLeastFrom scale (drop t pins) symbols old.former (state_of old)
         (level_by (state_of old) (number_of mark old.former (state_of old)) ∷ rest))
         (sym (drop_more symbols t (pos 0) l))
-        (one_more scale (get_or symbols t (pos 0)) (drop t pins) (drop (t + 1) symbols) m.behind old.former (state_of old)
+        (one_more scale (get_or symbols t (pos 0)) (drop t pins) (drop (t + 1) symbols) m.behind old.former
+        (state_of old)
         (level_by (state_of old) (number_of mark old.former (state_of old))) rest
         (subst (λ pins. AreLeastCosts scale pins (drop (t + 1) symbols) m.behind)
         (sym (pins_behind pins t (t + 1) refl)) m.least) low

@@ -9,7 +9,8 @@ use Rattle.dtx_soft.proofs.WritesLemmas.{by_entry}
 use Rattle.dtx_pins.specs.Pins.{coder_pins, pin_at}
 use Rattle.dtx_pins.specs.Steps.{AreBounded, IsBest, IsRow, IsStepAt, cost_at, level_by, number_of, through}
 use Rattle.dtx_pins.specs.Walks.{AreLeastCosts, AreWalked, IsLeastCost, IsMark}
-use Rattle.dtx_pins.proofs.PinnedPaths.{IsBestLevel, best_level, cost_more, next_small, nothing_cost, onto, onto_through}
+use Rattle.dtx_pins.proofs.PinnedPaths.{IsBestLevel, best_level, cost_more, next_small, nothing_cost, onto}
+use Rattle.dtx_pins.proofs.PinnedPaths.{onto_through}
 
 -- the pins of a coder
 pub pin_in_column : (pins : List (List ℕ)) (e t : ℕ) → pin_at (coder_pins pins e) t ≡ pin_at (get_or pins t []) e
@@ -100,7 +101,8 @@ one_walked scale t u pins rounds old new marks entry e l long step h = record {
     in_column : (n : ℕ) → n < 12 → IsStepAt scale (get_or (column rounds n) t (pos 0)) (pin_at (get_or pins t []) n)
         (get_or old n []) (get_or new n []) (get_or entry n 0)
     in_column n m =
-        subst (λ v. IsStepAt scale v (pin_at (get_or pins t []) n) (get_or old n []) (get_or new n []) (get_or entry n 0))
+        subst (λ v. IsStepAt scale v (pin_at (get_or pins t []) n) (get_or old n []) (get_or new n [])
+        (get_or entry n 0))
         (sym (symbol_in_column rounds n t (omega arith))) (step n m)
 
 -- the first n coders have stepped, and the others have not
@@ -122,7 +124,8 @@ coder_stepped scale symbols pins n old now marks costs mark l step h = record {
   room = length-set now n costs ∙ h.room;
   done = λ e m. by_entry (λ e mark. IsStepAt scale (get_or symbols e (pos 0)) (pin_at pins e) (get_or old e [])
       (get_or (slice_set now n costs) e []) mark) marks n mark (omega (arith, h.long))
-      (by_entry (λ e costs. IsStepAt scale (get_or symbols e (pos 0)) (pin_at pins e) (get_or old e []) costs mark) now n
+      (by_entry (λ e costs. IsStepAt scale (get_or symbols e (pos 0)) (pin_at pins e)
+      (get_or old e []) costs mark) now n
       costs (omega (arith, h.room)) step n [] (λ d. absurd (d refl))) e 0
       (λ d. subst (λ costs. IsStepAt scale (get_or symbols e (pos 0)) (pin_at pins e) (get_or old e []) costs
       (get_or marks e 0)) (sym (get_or-set_other now n e costs [] d)) (h.done e (omega arith)));

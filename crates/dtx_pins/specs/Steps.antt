@@ -1,5 +1,6 @@
 -- One step of the search under pins: what each level comes to, and which one is taken.
-use Rattle.std.specs.Prelude.{ℕ, ℤ, pos, ◌≡◌, ◌+◌, ◌*◌, ◌/◌, ◌%◌, ◌^◌, ◌<◌, ◌≤◌, ◌-ℤ◌, ◌==◌, nat_le, nat_lt, if◌then◌else◌}
+use Rattle.std.specs.Prelude.{ℕ, ℤ, pos, ◌≡◌, ◌+◌, ◌*◌, ◌/◌, ◌%◌, ◌^◌, ◌<◌, ◌≤◌, ◌-ℤ◌, ◌==◌, nat_le, nat_lt}
+use Rattle.std.specs.Prelude.{if◌then◌else◌}
 use Rattle.std.specs.Prelude.{List, [], length, slice_index, slice_index_or}
 use Rattle.dtx_soft.specs.Paths.{next_state, squared, symbol_at}
 
@@ -58,8 +59,8 @@ z1_of mark z2 state = mark / 2 ^ (4 * z2 + state) % 2
 abbrev pub number_of : ℕ → ℕ → ℕ → ℕ
 number_of mark former state = 2 * z2_of mark former state + z1_of mark (z2_of mark former state) state
 
--- What a pin adds to levels that don't give its pair: 1,400,000,000, more than any path costs. Entry 0 is for Z1 = 0 and
--- entry 1 for Z1 = 1. Entry 2 is for levels whose Z2 is the former one, and entry 3 for the others.
+-- What a pin adds to levels that don't give its pair: 1,400,000,000, more than any path costs. Entry 0 is for Z1 = 0
+-- and entry 1 for Z1 = 1. Entry 2 is for levels whose Z2 is the former one, and entry 3 for the others.
 unfoldable pub pen_of : ℕ → ℕ → ℕ
 pen_of pin i =
     if nat_le 4 pin then 0 else (if (if nat_lt i 2 then pin else pin / 2) % 2 == i % 2 then 0 else 1400000000)

@@ -5,7 +5,7 @@ ghost use Rattle.dtx_pins.specs.Pins.{pin_at};
 ghost use Rattle.dtx_pins.specs.Steps.{AreBounded, IsStepAt};
 ghost use Rattle.dtx_pins.specs.Walks.{AreWalked};
 
-use crate::step::{MAX_SQUARE, before};
+use crate::step::{MAX_SQUARE, stepped};
 use crate::table::Table;
 use dtx_sizes::CODERS;
 use dtx_soft::{LANES, MAX_SYMBOLS};
@@ -44,7 +44,7 @@ fn step_all(
 {
     let mut marks = [0; LANES];
     for e in 0..CODERS {
-        marks[e] = before(table.row(symbols[e]), pins[e], &mut behind[e]);
+        marks[e] = stepped(table.row(symbols[e]), pins[e], &mut behind[e]);
     }
     marks
 }

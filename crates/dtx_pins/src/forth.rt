@@ -1,5 +1,5 @@
-//! The walk from the beginning of the symbols to their end, for all coders side by side. It follows the marks, and writes
-//! the symbols of the least paths.
+//! The walk from the beginning of the symbols to their end, for all coders side by side. It follows the marks, and
+//! writes the symbols of the least paths.
 
 ghost use Rattle.std.specs.Prelude.{◌≡◌, ◌≢◌, ℕ, pos, ◌+◌, ◌*◌, ◌/◌, ◌%◌, ◌^◌, ◌<◌, ◌≤◌, length, slice_index};
 ghost use Rattle.std.specs.Prelude.{◌+ℤ◌, ◌≤ℤ◌, slice_index_or};

@@ -11,8 +11,8 @@ ghost use Rattle.dtx_pins.specs.PinnedField.{IsPinned, pinned, pinned_cost};
 
 use dtx_sizes::{CODERS, SEGMENT};
 
-/// There is exactly one least path under pins, and `least_pinned_path` gives it. It agrees with the pins, and no path that
-/// agrees with them costs less.
+/// There is exactly one least path under pins, and `least_pinned_path` gives it. It agrees with the pins, and no path
+/// that agrees with them costs less.
 pub fn one_least_pinned_path()
     ensures found { (scale : ℕ) (pins : List ℕ) (symbols : List ℤ) → IsLeastPinned scale pins symbols
         (least_pinned_start scale pins symbols) (least_pinned_levels scale pins symbols) }

@@ -36,8 +36,8 @@ impl Model for Pinned {
 }
 
 impl Pinned {
-    /// A decoder of symbols at `scale` times the standard's levels, which are 2 * z - 7 for z from 0 to 7. The only error
-    /// is out of memory.
+    /// A decoder of symbols at `scale` times the standard's levels, which are 2 * z - 7 for z from 0 to 7. The only
+    /// error is out of memory.
     pub fn scaled(alloc: Global, scale: u8) -> Result<Pinned, AllocError>
         requires { scale ≤ MAX_SCALE }
         ensures { IfOk result (λ pinned. pinned ≡ scale) }
@@ -52,8 +52,9 @@ impl Pinned {
     /// Replaces the symbols of each of the twelve coders by those of its least path under its pins, in the first data
     /// segments of a field. It returns the sum of the costs of the twelve paths.
     ///
-    /// `pins` has an entry for each step of the coders, 69 for each segment, and in it a pin for each coder. A pin below 4
-    /// is the pair 2 * X2 + X1. From `NO_PIN` on it says nothing. The X2 of the first entry says nothing either.
+    /// `pins` has an entry for each step of the coders, 69 for each segment, and in it a pin for each coder. A pin
+    /// below 4 is the pair 2 * X2 + X1. From `NO_PIN` on it says nothing. The X2 of the first entry says nothing
+    /// either.
     pub fn field(&mut self, pins: &[[u8; CODERS]], segments: &mut [[i8; SEGMENT]]) -> u64
         requires few { length segments.old ≤ FIELD_PACKETS }
         requires pins { length pins.now ≡ SEGMENT_ROUNDS * length segments.old }

@@ -38,8 +38,8 @@ fn first_x2(pins: &[[u8; CODERS]], e: usize) -> u8
     }
 }
 
-/// The state of least cost, the first of several, and the former Z2 with which it comes to that. Of two equal ones it is
-/// `x2`, since the first level then has Z2 = 0.
+/// The state of least cost, the first of several, and the former Z2 with which it comes to that. Of two equal ones it
+/// is `x2`, since the first level then has Z2 = 0.
 fn start_of(x2: u8, behind: &[[u32; 4]; 2]) -> Stand
     requires { x2 < 2 }
     ensures { (pin : ℕ) → x2_of pin ≡ x2 → IsStart pin behind.now result }
@@ -51,7 +51,11 @@ fn start_of(x2: u8, behind: &[[u32; 4]; 2]) -> Stand
         behind[0][3].min(behind[1][3]),
     ];
     let state = least_of(&costs);
-    let former = better(x2, behind[x2 as usize][state as usize], behind[1 - x2 as usize][state as usize]);
+    let former = better(
+        x2,
+        behind[x2 as usize][state as usize],
+        behind[1 - x2 as usize][state as usize],
+    );
     Stand {
         former: former as u16,
         q1: (state / 2) as u16,

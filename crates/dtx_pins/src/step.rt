@@ -17,8 +17,8 @@ pub(crate) const MAX_SQUARE: u32 = 64_516;
 /// What a level that doesn't give the pair costs more: more than any path, and twice that is still a number.
 const PEN: u32 = 1_400_000_000;
 
-/// For each pin, and last for none, what is added where Z1 is 0, where it is 1, and where the sum of Z2 and the former Z2
-/// is 0 or 1. Each number stands there for four states.
+/// For each pin, and last for none, what is added where Z1 is 0, where it is 1, and where the sum of Z2 and the former
+/// Z2 is 0 or 1. Each number stands there for four states.
 static PENS: [[[u32; 4]; 4]; 5] = [
     [[0; 4], [PEN; 4], [0; 4], [PEN; 4]],
     [[PEN; 4], [0; 4], [0; 4], [PEN; 4]],
@@ -27,10 +27,10 @@ static PENS: [[[u32; 4]; 4]; 5] = [
     [[0; 4]; 4],
 ];
 
-/// Turns the least costs behind a symbol into those before it, and returns the mark of the step. Entry p of the costs is
-/// for the former Z2, and has one for each state.
+/// Turns the least costs behind a symbol into those before it, and returns the mark of the step. Entry p of the costs
+/// is for the former Z2, and has one for each state.
 #[inline(always)]
-pub(crate) fn before(row: &[[u32; 4]; 4], pin: u8, behind: &mut [[u32; 4]; 2]) -> u16
+pub(crate) fn stepped(row: &[[u32; 4]; 4], pin: u8, behind: &mut [[u32; 4]; 2]) -> u16
     requires squares { AreSquares row.now }
     requires bounded { AreBounded (MAX_SQUARE * MAX_SYMBOLS) behind.old }
     ensures { IsStep row.now pin behind.old behind.new result }
@@ -78,8 +78,14 @@ fn half(
         then 1 else 0 }
     ensures small { result.1 < 16 }
 {
-    let without = sum(sum(u32x4::from_array(*first), straight(costs)), u32x4::from_array(*first_pen));
-    let with = sum(sum(u32x4::from_array(*second), crossed(costs)), u32x4::from_array(*second_pen));
+    let without = sum(
+        sum(u32x4::from_array(*first), straight(costs)),
+        u32x4::from_array(*first_pen),
+    );
+    let with = sum(
+        sum(u32x4::from_array(*second), crossed(costs)),
+        u32x4::from_array(*second_pen),
+    );
     (least(without, with), less(with, without))
 }
 

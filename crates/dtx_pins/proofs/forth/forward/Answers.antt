@@ -33,7 +33,8 @@ loop-t-preserved c = record {
       ∙ c.loop-t.invariant.left k (omega arith);
   stands = λ e l. stands_further c.args.scale _ c.loop-t.t _ (stand_at c.loop-t.stands e)
       (stand_at c.trace_all.new.stands e) _ (c.trace_all.ensures e l) (c.loop-t.invariant.stands e l);
-  under_way = λ e l. subst (λ now. IsUnderWay c.args.scale (coder_pins c.args.pins.now e) (column c.args.rounds.now e) now
+  under_way = λ e l. subst (λ now. IsUnderWay c.args.scale (coder_pins c.args.pins.now e)
+      (column c.args.rounds.now e) now
       (c.loop-t.t + 1) (stand_at c.trace_all.new.stands e))
       (sym (column-set c.loop-t.rounds e c.loop-t.t c.trace_all.result))
       (goes_further c.args.scale (coder_pins c.args.pins.now e) (column c.args.rounds.now e) (column c.loop-t.rounds e)

@@ -36,7 +36,8 @@ loop-e-preserved c = record {
       former = c.put_state.ensures.former ∙ ap (λ n. n / 2) c.number-number.ensures.number;
       q1 = c.put_state.ensures.q1 ∙ ap (λ n. (n % 2 + c.stand_of-stand.result.q0) % 2) c.number-number.ensures.number;
       q0 = c.put_state.ensures.q0;
-      written_is = same ∙ c.symbol_of.ensures.symbol ∙ ap (λ n. symbol_at c.args.scale (2 * n + c.stand_of-stand.result.q1))
+      written_is = same ∙ c.symbol_of.ensures.symbol ∙ ap (λ n. symbol_at c.args.scale
+          (2 * n + c.stand_of-stand.result.q1))
           c.number-number.ensures.number;
       small = subst (λ n. n < 4) c.number-number.ensures.number c.number-number.ensures.small;
       from = subst (λ v. pos 0 ≤ℤ (v +ℤ pos 126)) (sym same) c.symbol_of.ensures.from;

@@ -6,8 +6,8 @@ use Rattle.dtx_pins.specs.declared.forth.Stand.{Stand}
 use Rattle.dtx_pins.specs.Trace.{IsStand, IsStart, stand_at}
 use Rattle.dtx_pins.proofs.start.starts.Goals as goal
 
-none : (k zero : ℕ) → k < 16 → get_or (replicate 16 zero) k 0 ≡ zero
-none k zero l = get_or-replicate 16 k zero 0 l
+none : (k x : ℕ) → k < 16 → get_or (replicate 16 x) k 0 ≡ x
+none k x l = get_or-replicate 16 k x 0 l
 
 pub loop-e-init : goal.loop-e-init
 loop-e-init c = record {

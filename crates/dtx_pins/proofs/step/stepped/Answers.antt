@@ -2,7 +2,7 @@ use Rattle.std.proofs.Common.{◌≡◌, ℕ, zero, suc, ◌+◌, ◌*◌, ◌<�
 use Rattle.std.proofs.Common.{arith}
 use Rattle.dtx_pins.specs.Steps.{IsBest, cost_at, number_of, pen_of, through, way}
 use Rattle.dtx_pins.proofs.PinnedSteps.{AreBits, AreHalves, AreJoined, joined_best, mark_bits, pen_small, way_is}
-use Rattle.dtx_pins.proofs.step.before.Goals as goal
+use Rattle.dtx_pins.proofs.step.stepped.Goals as goal
 
 at_most : (pin i x : ℕ) → x ≡ pen_of pin i → x ≤ 1400000000
 at_most pin i x e = let a = pen_small pin i in omega (arith, e, a)
@@ -61,11 +61,13 @@ returns c = record { best = λ p s f m. (both p s f m).0; costs = λ p s f m. (b
         own : (z2 z1 : ℕ) → z1 < 2 → way (get_or c.args.row.now (2 * z2 + z1) []) (get_or c.args.behind.now z2 [])
             (get_or c.pens_of-pens.result.now z1 []) s z1
             ≡ through c.args.row.now c.args.behind.now s (2 * z2 + z1) + pen_of c.args.pin z1
-        own z2 z1 l = way_is c.args.row.now c.args.behind.now (get_or c.pens_of-pens.result.now z1 []) c.args.pin s z2 z1 m
+        own z2 z1 l = way_is c.args.row.now c.args.behind.now
+            (get_or c.pens_of-pens.result.now z1 []) c.args.pin s z2 z1 m
             l (pen z1 s (omega arith) m)
 
     both : (p s : ℕ) → p < 2 → s < 4 → IsBest c.args.row.now c.args.pin c.args.behind.now p s (number_of mark p s)
-        × (cost_at (c.joined-even.result.0 ∷ c.joined-odd.result.0 ∷ []) p s ≡ through c.args.row.now c.args.behind.now s (number_of mark p s))
+        × (cost_at (c.joined-even.result.0 ∷ c.joined-odd.result.0 ∷ []) p s ≡ through c.args.row.now
+        c.args.behind.now s (number_of mark p s))
     both zero s f m =
         joined_best c.args.row.now c.args.pin c.args.behind.now 0 s _ _ _ _ _ _ _ c.requires.squares
         c.requires.bounded f m (halves s m)
