@@ -1,10 +1,9 @@
 -- Paths that agree with pins, level by level.
-use Rattle.std.proofs.Common.{◌≡◌, ℕ, zero, suc, ◌+◌, ◌-◌, ◌*◌, ◌/◌, ◌%◌, ◌<◌, ◌≤◌, ◌⊎◌, inl, inr, Bool, true, false}
-use Rattle.std.proofs.Common.{◌&&◌, ◌||◌, nat_eq, nat_le, List, [], ◌∷◌, length, drop, get_or, refl, sym, ap, ◌∙◌}
-use Rattle.std.proofs.Common.{subst, arith}
+use Rattle.std.proofs.Common.{◌≡◌, ℕ, zero, suc, ◌+◌, ◌-◌, ◌/◌, ◌%◌, ◌<◌, ◌≤◌, ◌⊎◌, inl, inr, Bool, true, false}
+use Rattle.std.proofs.Common.{◌||◌, nat_eq, nat_le, List, [], ◌∷◌, length, drop, get_or, refl, sym, ap, ◌∙◌}
+use Rattle.std.proofs.Common.{arith}
 use Rattle.std.proofs.lemmas.Bool.{and_parts, and_from, cases_lt}
 use Rattle.std.proofs.lemmas.Bool.Decides.{nat_tests}
-use Rattle.std.proofs.lemmas.List.{get_or-drop}
 use Rattle.dtx_lists.proofs.Range.{list_all-range_at, list_all-range_from}
 use Rattle.dtx_pins.specs.Pins.{Agrees, AgreesFrom, TellsPair, agrees, pair_of, pin_at, tells_pair, x1_told, x2_told}
 

@@ -1,9 +1,9 @@
 -- What the function of least paths under pins gives, and that there is one such path.
 use Rattle.std.proofs.Common.{◌≡◌, ℕ, zero, suc, ℤ, ◌+◌, ◌*◌, ◌/◌, ◌%◌, ◌<◌, ◌≤◌, ◌⊎◌, inl, inr, nat_le, Bool, true}
-use Rattle.std.proofs.Common.{false, cond, List, [], ◌∷◌, length, drop, unwrap_or, refl, get_or, sym, ap, ◌∙◌, subst}
+use Rattle.std.proofs.Common.{false, cond, List, [], ◌∷◌, length, drop, unwrap_or, refl, get_or, sym, ap, ◌∙◌}
 use Rattle.std.proofs.Common.{arith}
 use Rattle.std.proofs.lemmas.Bool.{le-leb, leb-true, true≢false}
-use Rattle.std.specs.List.{filter, find, list_all, AllByRecursion}
+use Rattle.std.specs.List.{filter, find, AllByRecursion}
 use Rattle.dtx_soft.specs.Paths.{IsPath, cost, next_state}
 use Rattle.dtx_soft.specs.Least.{AreInOrder, IsLeast}
 use Rattle.dtx_soft.specs.LeastPath.{all_paths, least_levels, least_path, least_start}

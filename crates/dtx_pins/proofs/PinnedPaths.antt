@@ -1,9 +1,10 @@
 -- Least paths under pins and their costs, one more symbol in front (Bellman).
-use Rattle.std.proofs.Common.{◌≡◌, ℕ, zero, suc, ℤ, ◌+◌, ◌*◌, ◌/◌, ◌%◌, ◌<◌, ◌≤◌, ◌⊎◌, inl, inr, List, [], ◌∷◌}
-use Rattle.std.proofs.Common.{length, map, drop, get_or, refl, sym, ap, ap₂, ◌∙◌, subst, arith}
+use Rattle.std.proofs.Common.{◌≡◌, ℕ, suc, ℤ, ◌+◌, ◌/◌, ◌%◌, ◌<◌, ◌≤◌, ◌⊎◌, inl, inr, List, [], ◌∷◌}
+use Rattle.std.proofs.Common.{length, map, drop, refl, sym, ap, ap₂, ◌∙◌, subst, arith}
 use Rattle.std.proofs.lemmas.Bool.{cases_lt}
 use Rattle.dtx_soft.specs.Paths.{IsPath, cost, distance, next_state, squared, symbol_at}
 use Rattle.dtx_soft.specs.Least.{AreInOrder}
+use Rattle.dtx_soft.proofs.LeastPathLemmas.{next_small}
 use Rattle.dtx_soft.proofs.MovedLemmas.{distance-cons}
 use Rattle.dtx_pins.specs.Pins.{AgreesFrom, pair_of, pin_at}
 use Rattle.dtx_pins.specs.Steps.{IsBest, IsRow, cost_at, level_by, through, told_number}
@@ -13,10 +14,6 @@ pub cost-cons : (scale : ℕ) (v : ℤ) (symbols : List ℤ) (z : ℕ) (levels :
     → cost scale (v ∷ symbols) (z ∷ levels) ≡ squared v (symbol_at scale z) + cost scale symbols levels
 unfolding cost
 cost-cons scale v symbols z levels = distance-cons v (symbol_at scale z) symbols (map (symbol_at scale) levels)
-
-pub next_small : (state z : ℕ) → state < 4 → next_state state z < 4
-unfolding next_state
-next_small state z l = omega arith
 
 -- what level z comes to
 abbrev pub onto : ℕ → ℤ → List (List ℕ) → ℕ → ℕ → ℕ

@@ -1,13 +1,13 @@
 -- Where a least path under pins begins.
-use Rattle.std.proofs.Common.{◌≡◌, ◌≢◌, ℕ, zero, suc, ℤ, ◌+◌, ◌-◌, ◌*◌, ◌/◌, ◌%◌, ◌<◌, ◌≤◌, ◌⊎◌, inl, inr, nat_lt, cond}
-use Rattle.std.proofs.Common.{min, List, [], ◌∷◌, length, drop, get_or, refl, sym, ap, ◌∙◌, subst, arith}
+use Rattle.std.proofs.Common.{◌≡◌, ◌≢◌, ℕ, zero, suc, ℤ, ◌-◌, ◌/◌, ◌%◌, ◌<◌, ◌≤◌, ◌⊎◌, inl, inr, nat_lt, cond}
+use Rattle.std.proofs.Common.{min, List, [], ◌∷◌, length, get_or, refl, sym, ap, ◌∙◌, subst, arith}
 use Rattle.std.proofs.lemmas.Bool.{cases_eq, cases_lt, cond-false, cond-true, le-ltb, lt-ltb}
 use Rattle.std.proofs.lemmas.Bool.Decides.{nat_tests}
 use Rattle.dtx_soft.specs.Least.{AreInOrder}
 use Rattle.dtx_soft.specs.Paths.{IsPath, cost}
 use Rattle.dtx_pins.specs.declared.forth.Stand.{Stand}
 use Rattle.dtx_pins.specs.LeastPinned.{IsLeastPinned}
-use Rattle.dtx_pins.specs.Pins.{Agrees, AgreesFrom, pair_of, pin_at}
+use Rattle.dtx_pins.specs.Pins.{AgreesFrom, pair_of, pin_at}
 use Rattle.dtx_pins.specs.Steps.{cost_at}
 use Rattle.dtx_pins.specs.Trace.{IsStart, state_of, x2_of}
 use Rattle.dtx_pins.specs.Walks.{AreLeastCosts, IsLeastFrom}

@@ -1,5 +1,5 @@
 -- One step of the search: the pens, the marks and what they give.
-use Rattle.std.proofs.Common.{◌≡◌, ◌≢◌, ℕ, zero, suc, ◌+◌, ◌*◌, ◌/◌, ◌%◌, ◌^◌, ◌<◌, ◌≤◌, ◌⊎◌, inl, inr, Bool, true}
+use Rattle.std.proofs.Common.{◌≡◌, ◌≢◌, ℕ, ◌+◌, ◌*◌, ◌/◌, ◌%◌, ◌^◌, ◌<◌, ◌≤◌, ◌⊎◌, inl, inr, Bool, true}
 use Rattle.std.proofs.Common.{false}
 use Rattle.std.proofs.Common.{nat_eq, nat_le, nat_lt, cond, min, List, [], ◌∷◌, get_or, refl, sym, ap, ap₂, ◌∙◌}
 use Rattle.std.proofs.Common.{subst, arith}
@@ -8,10 +8,10 @@ use Rattle.std.proofs.lemmas.Bool.Decides.{nat_tests}
 use Rattle.dtx_lists.proofs.Below.{at_below, holds_below}
 use Rattle.dtx_soft.specs.Paths.{next_state}
 use Rattle.dtx_soft.proofs.WritesLemmas.{four}
-use Rattle.dtx_pins.specs.Steps.{AreBounded, AreSquares, IsBest, IsFirstLeast, IsStep, cost_at, level_by, number_of}
+use Rattle.dtx_pins.specs.Steps.{AreBounded, AreSquares, IsBest, IsFirstLeast, cost_at, level_by, number_of}
 use Rattle.dtx_pins.specs.Steps.{pen_of, through, told_number, way, z1_of, z2_of}
 use Rattle.dtx_pins.proofs.FourNumbers.{IsFound, SaysLess, found_by_bits, says_less}
-use Rattle.dtx_pins.proofs.PinnedPaths.{next_small}
+use Rattle.dtx_soft.proofs.LeastPathLemmas.{next_small}
 
 -- ---- marks
 

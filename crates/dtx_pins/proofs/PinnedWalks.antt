@@ -7,9 +7,10 @@ use Rattle.dtx_soft.specs.Paths.{next_state}
 use Rattle.dtx_soft.proofs.ColumnsLemmas.{length-column, symbol_in_column}
 use Rattle.dtx_soft.proofs.WritesLemmas.{by_entry}
 use Rattle.dtx_pins.specs.Pins.{coder_pins, pin_at}
-use Rattle.dtx_pins.specs.Steps.{AreBounded, IsBest, IsRow, IsStepAt, cost_at, level_by, number_of, through}
+use Rattle.dtx_pins.specs.Steps.{AreBounded, IsBest, IsStepAt, cost_at, level_by, number_of}
 use Rattle.dtx_pins.specs.Walks.{AreLeastCosts, AreWalked, IsLeastCost, IsMark}
-use Rattle.dtx_pins.proofs.PinnedPaths.{IsBestLevel, best_level, cost_more, next_small, nothing_cost, onto}
+use Rattle.dtx_soft.proofs.LeastPathLemmas.{next_small}
+use Rattle.dtx_pins.proofs.PinnedPaths.{IsBestLevel, best_level, cost_more, nothing_cost, onto}
 use Rattle.dtx_pins.proofs.PinnedPaths.{onto_through}
 
 -- the pins of a coder

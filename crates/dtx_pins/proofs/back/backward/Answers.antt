@@ -1,7 +1,7 @@
-use Rattle.std.proofs.Common.{◌≡◌, ℕ, ◌+◌, ◌-◌, ◌*◌, ◌<◌, ◌≤◌, [], ap, get_or, length, replicate, sym, ◌∙◌, subst}
+use Rattle.std.proofs.Common.{◌≡◌, ℕ, ◌-◌, ◌*◌, ◌<◌, [], ap, get_or, length, replicate, ◌∙◌, subst}
 use Rattle.std.proofs.Common.{arith}
 use Rattle.std.proofs.lemmas.List.{get_or-replicate, length-set}
-use Rattle.dtx_pins.specs.Steps.{AreBounded, cost_at}
+use Rattle.dtx_pins.specs.Steps.{cost_at}
 use Rattle.dtx_pins.specs.Walks.{AreWalked}
 use Rattle.dtx_pins.proofs.PinnedWalks.{bounded_more, none_walked, one_walked}
 use Rattle.dtx_pins.proofs.back.backward.Goals as goal

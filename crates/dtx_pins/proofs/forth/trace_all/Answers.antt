@@ -1,14 +1,14 @@
-use Rattle.std.proofs.Common.{◌≡◌, ◌≢◌, ℕ, ℤ, pos, ◌+◌, ◌*◌, ◌<◌, ◌≤◌, ◌⊎◌, inl, inr, ◌+ℤ◌, ◌≤ℤ◌, List, get_or, length}
-use Rattle.std.proofs.Common.{slice_set, sym, ap, ap₂, ◌∙◌, subst, to_z, of_z, w8, arith, rules}
+use Rattle.std.proofs.Common.{◌≡◌, ◌≢◌, ℕ, ℤ, pos, ◌+◌, ◌<◌, ◌≤◌, ◌⊎◌, inl, inr, ◌+ℤ◌, ◌≤ℤ◌, List, get_or, length}
+use Rattle.std.proofs.Common.{slice_set, sym, ap, ap₂, ◌∙◌, subst, w8, arith, rules}
 use mir.Syntax.{w16}
 use mir.Val.{SFits}
 use Rattle.std.proofs.lemmas.Bool.{cases_eq}
 use Rattle.std.proofs.lemmas.Int.{ints, to_z-of_z}
 use Rattle.std.proofs.lemmas.List.{get_or-set_same, get_or-set_other}
-use Rattle.dtx_soft.specs.Paths.{squared, symbol_at}
+use Rattle.dtx_soft.specs.Paths.{squared}
 use Rattle.dtx_soft.proofs.WrapsLemmas.{read}
 use Rattle.dtx_pins.specs.declared.forth.Stands.{Stands}
-use Rattle.dtx_pins.specs.Trace.{IsMoved, IsNext, stand_at}
+use Rattle.dtx_pins.specs.Trace.{IsNext, stand_at}
 use Rattle.dtx_pins.proofs.forth.trace_all.Goals as goal
 
 wide : (v : ℤ) → SFits w8 v → read w16 (read w8 v) ≡ v

@@ -1,4 +1,3 @@
-use Rattle.std.proofs.Common.{true}
 use Rattle.dtx_pins.proofs.Agreements.{agreement_tested, agreement_told}
 use Rattle.dtx_pins.proofs.laws.agreement.Goals as goal
 

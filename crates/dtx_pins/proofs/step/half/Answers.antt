@@ -1,7 +1,7 @@
 use Rattle.std.proofs.Common.{arith}
 use Rattle.dtx_soft.specs.Paths.{next_state}
 use Rattle.dtx_pins.specs.Steps.{level_by}
-use Rattle.dtx_pins.proofs.PinnedPaths.{next_small}
+use Rattle.dtx_soft.proofs.LeastPathLemmas.{next_small}
 use Rattle.dtx_pins.proofs.step.half.Goals as goal
 
 pub returns-clause-bounded : goal.returns-clause-bounded

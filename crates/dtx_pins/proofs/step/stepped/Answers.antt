@@ -1,7 +1,7 @@
 use Rattle.std.proofs.Common.{◌≡◌, ℕ, zero, suc, ◌+◌, ◌*◌, ◌<◌, ◌≤◌, [], ◌∷◌, cond, get_or, min, nat_lt, ap, ap₂, ◌∙◌}
 use Rattle.std.proofs.Common.{arith}
 use Rattle.dtx_pins.specs.Steps.{IsBest, cost_at, number_of, pen_of, through, way}
-use Rattle.dtx_pins.proofs.PinnedSteps.{AreBits, AreHalves, AreJoined, joined_best, mark_bits, pen_small, way_is}
+use Rattle.dtx_pins.proofs.PinnedSteps.{AreBits, AreHalves, joined_best, mark_bits, pen_small, way_is}
 use Rattle.dtx_pins.proofs.step.stepped.Goals as goal
 
 at_most : (pin i x : ℕ) → x ≡ pen_of pin i → x ≤ 1400000000
