@@ -1,0 +1,13 @@
+//! Least paths of the twelve trellis coders under pins. A pin is a pair that a coder is known to have been given.
+#![tactic(auto)]
+
+mod back;
+mod field;
+mod forth;
+pub mod laws;
+mod pinned;
+mod start;
+mod step;
+mod table;
+
+pub use pinned::{NO_PIN, Pinned};
