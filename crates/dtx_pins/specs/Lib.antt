@@ -1,0 +1,3 @@
+pub mod Pins
+pub mod LeastPinned
+pub mod PinnedField
