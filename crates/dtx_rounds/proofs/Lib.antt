@@ -1,1 +1,9 @@
+pub mod RunLevels
+pub mod StepPlaces
+pub mod KnownLemmas
+pub mod RoundLevels
+pub mod Kept
+pub mod PinnedRows
+pub mod Growing
 pub mod RoundsLemmas
+pub mod RefinedLemmas
