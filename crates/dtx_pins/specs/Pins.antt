@@ -1,7 +1,7 @@
 -- Pins: what is known of a coder's pairs (ATSC A/53 Part 2, trellis coding). A coder has one pin for each step, a
 -- number. Below 4 it is the pair 2 * X2 + X1 that the coder was given there. Any other number says that it isn't known.
-use Rattle.std.specs.Prelude.{ℕ, ◌≡◌, ◌+◌, ◌-◌, ◌/◌, ◌%◌, ◌<◌, ◌&&◌, ◌||◌, nat_eq, nat_le, Bool, List, [], length, map}
-use Rattle.std.specs.Prelude.{slice_index, slice_index_or}
+use Rattle.std.specs.Prelude.{ℕ, ◌≡◌, ◌+◌, ◌-◌, ◌*◌, ◌/◌, ◌%◌, ◌<◌, ◌&&◌, ◌||◌, nat_eq, nat_le, Bool, List, []}
+use Rattle.std.specs.Prelude.{◌∷◌, length, map, drop, slice_index, slice_index_or}
 use Rattle.std.specs.List.{range_with_len, list_all}
 
 -- the pin of step t, or 4, which says nothing
@@ -25,7 +25,20 @@ pub record TellsPair (pair : ℕ) (levels : List ℕ) (t : ℕ) : Type 0 where
 abbrev pub Agrees : List ℕ → List ℕ → Type 0
 Agrees pins levels = (t : ℕ) → t < length levels → pin_at pins t < 4 → TellsPair (pin_at pins t) levels t
 
--- the same as tests
+-- ---- the same, level by level
+
+-- the pair that a level tells behind a former Z2
+abbrev pub pair_of : ℕ → ℕ → ℕ
+pair_of former z = 2 * ((z / 4 + former) % 2) + z / 2 % 2
+
+-- whether levels agree with pins, where the Z2 before the first level is known too
+abbrev pub AgreesFrom : ℕ → List ℕ → List ℕ → Type 0
+AgreesFrom former pins [] = Unit {0}
+AgreesFrom former pins (z ∷ levels) =
+    (pin_at pins 0 < 4 → pair_of former z ≡ pin_at pins 0) × AgreesFrom (z / 4) (drop 1 pins) levels
+
+-- ---- the same as tests
+
 unfoldable pub tells_pair : ℕ → List ℕ → ℕ → Bool
 tells_pair pair levels t = nat_eq (x1_told levels t) (pair % 2) && (nat_eq t 0 || nat_eq (x2_told levels t) (pair / 2))
 

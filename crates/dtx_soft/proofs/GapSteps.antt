@@ -18,7 +18,7 @@ use Rattle.dtx_soft.specs.Paths.{next_state}
 use Rattle.dtx_soft.proofs.Paths.{next_small}
 use Rattle.dtx_soft.proofs.Steps.{bit_taken}
 use Rattle.dtx_soft.proofs.Units.{least_in_units, less_in_units, same_in_units, sum_in_units}
-use Rattle.dtx_soft.proofs.Writes.{four}
+use Rattle.dtx_soft.proofs.WritesLemmas.{four}
 
 -- what a pair of levels comes to, in units
 abbrev pub units_through : List ℕ → List ℕ → ℕ → ℕ → ℕ

@@ -11,7 +11,7 @@ use Rattle.dtx_soft.specs.LeastPath.{all_paths, costs_least, least_path, paths_f
 
 -- ---- elements of a list of lists
 
-abbrev IsIn : List ℕ → List (List ℕ) → Type 0
+abbrev pub IsIn : List ℕ → List (List ℕ) → Type 0
 IsIn x [] = ⊥
 IsIn x (y ∷ ys) = (x ≡ y) ⊎ IsIn x ys
 
@@ -41,7 +41,7 @@ in_flat f x b a (suc n) l m h = by_place (range_cases a b l) (λ p. in_flat f x 
         in_left x (f a) (flat_map f (range_with_len (a + 1) n)) (subst (λ (c : ℕ). IsIn x (f c)) (sym e) h)
     by_place (inr p) behind = in_right x (f a) (flat_map f (range_with_len (a + 1) n)) (behind p)
 
-all_at : (P : List ℕ → Type 0) (xs : List (List ℕ)) (x : List ℕ) → AllByRecursion P xs → IsIn x xs → P x
+pub all_at : (P : List ℕ → Type 0) (xs : List (List ℕ)) (x : List ℕ) → AllByRecursion P xs → IsIn x xs → P x
 all_at P [] x h i = absurd i
 all_at P (y ∷ ys) x h (inl e) = subst (λ z. P z) (sym e) h.0
 all_at P (y ∷ ys) x h (inr i) = all_at P ys x h.1 i
@@ -64,21 +64,21 @@ all_flat P f a (suc n) h =
     (all_flat P f (a + 1) n (λ k l m. h k (omega arith) (omega arith)))
 
 -- what a test says of all, and the other way
-tested_at : (p : List ℕ → Bool) (xs : List (List ℕ)) (x : List ℕ) → list_all p xs ≡ true → IsIn x xs → p x ≡ true
+pub tested_at : (p : List ℕ → Bool) (xs : List (List ℕ)) (x : List ℕ) → list_all p xs ≡ true → IsIn x xs → p x ≡ true
 tested_at p [] x h i = absurd i
 tested_at p (y ∷ ys) x h (inl e) = ap p e ∙ (and_parts (p y) (list_all p ys) h).0
 tested_at p (y ∷ ys) x h (inr i) = tested_at p ys x (and_parts (p y) (list_all p ys) h).1 i
 
-tested_from : (p : List ℕ → Bool) (xs : List (List ℕ)) → AllByRecursion (λ x. p x ≡ true) xs → list_all p xs ≡ true
+pub tested_from : (p : List ℕ → Bool) (xs : List (List ℕ)) → AllByRecursion (λ x. p x ≡ true) xs → list_all p xs ≡ true
 tested_from p [] h = refl
 tested_from p (x ∷ xs) h = and_from (p x) (list_all p xs) h.0 (tested_from p xs h.1)
 
 -- ---- all paths
 
-abbrev IsAPath : ℕ → ℕ → List ℕ → Type 0
+abbrev pub IsAPath : ℕ → ℕ → List ℕ → Type 0
 IsAPath n state levels = (length levels ≡ n) × IsPath state levels
 
-next_small : (state z : ℕ) → state < 4 → next_state state z < 4
+pub next_small : (state z : ℕ) → state < 4 → next_state state z < 4
 unfolding next_state
 next_small state z l = omega arith
 
@@ -108,18 +108,18 @@ paths_have (suc n) state (z ∷ levels) l e (small, begins, path) =
     (paths_have n (next_state state z) levels (next_small state z l) (omega arith) path)))
 
 -- a path behind its start
-abbrev IsStarted : ℕ → List ℕ → Type 0
+abbrev pub IsStarted : ℕ → List ℕ → Type 0
 IsStarted n [] = ⊥
 IsStarted n (state ∷ levels) = (state < 4) × IsAPath n state levels
 
-all_are : (n : ℕ) → AllByRecursion (IsStarted n) (all_paths n)
+pub all_are : (n : ℕ) → AllByRecursion (IsStarted n) (all_paths n)
 unfolding all_paths
 all_are n =
     all_flat (IsStarted n) (λ start. map (λ levels. start ∷ levels) (paths_from n start)) 0 4
     (λ k a b. all_map (IsAPath n k) (IsStarted n) k (paths_from n k) (λ levels h. (omega arith, h))
     (paths_are n k (omega arith)))
 
-all_have : (n start : ℕ) (levels : List ℕ) → start < 4 → length levels ≡ n → IsPath start levels
+pub all_have : (n start : ℕ) (levels : List ℕ) → start < 4 → length levels ≡ n → IsPath start levels
     → IsIn (start ∷ levels) (all_paths n)
 unfolding all_paths
 all_have n start levels l e path =
@@ -128,7 +128,7 @@ all_have n start levels l e path =
 
 -- ---- their order
 
-abbrev AreOrdered : List (List ℕ) → Type 0
+abbrev pub AreOrdered : List (List ℕ) → Type 0
 AreOrdered [] = Unit {0}
 AreOrdered (x ∷ xs) = AllByRecursion (AreInOrder x) xs × AreOrdered xs
 
@@ -167,15 +167,15 @@ paths_ordered (suc n) state =
     ordered_flat (λ k. 2 * k + state / 2) (λ k. paths_from n (next_state state (2 * k + state / 2))) 0 4
     (λ j k l. omega arith) (λ k. paths_ordered n (next_state state (2 * k + state / 2)))
 
-all_ordered : (n : ℕ) → AreOrdered (all_paths n)
+pub all_ordered : (n : ℕ) → AreOrdered (all_paths n)
 unfolding all_paths
 all_ordered n = ordered_flat (λ k. k) (λ k. paths_from n k) 0 4 (λ j k l. l) (λ k. paths_ordered n k)
 
-in_order_self : (xs : List ℕ) → AreInOrder xs xs
+pub in_order_self : (xs : List ℕ) → AreInOrder xs xs
 in_order_self [] = tt
 in_order_self (x ∷ xs) = inr (refl, in_order_self xs)
 
-in_order_both : (xs ys : List ℕ) → AreInOrder xs ys → AreInOrder ys xs → xs ≡ ys
+pub in_order_both : (xs ys : List ℕ) → AreInOrder xs ys → AreInOrder ys xs → xs ≡ ys
 in_order_both [] [] h k = refl
 in_order_both [] (y ∷ ys) h k = absurd k
 in_order_both (x ∷ xs) [] h k = absurd h
@@ -186,12 +186,12 @@ in_order_both (x ∷ xs) (y ∷ ys) (inr l) (inr m) = ap₂ ◌∷◌ l.0 (in_or
 
 -- ---- the first that passes a test
 
-record IsFirst (p : List ℕ → Bool) (xs : List (List ℕ)) (x found : List ℕ) : Type 0 where
-  within : IsIn found xs
-  passes : p found ≡ true
-  before : AreInOrder found x
+pub record IsFirst (p : List ℕ → Bool) (xs : List (List ℕ)) (x found : List ℕ) : Type 0 where
+  pub within : IsIn found xs
+  pub passes : p found ≡ true
+  pub before : AreInOrder found x
 
-first_found : (p : List ℕ → Bool) (xs : List (List ℕ)) (x : List ℕ) → AreOrdered xs → IsIn x xs → p x ≡ true
+pub first_found : (p : List ℕ → Bool) (xs : List (List ℕ)) (x : List ℕ) → AreOrdered xs → IsIn x xs → p x ≡ true
     → IsFirst p xs x (unwrap_or (find p xs) [])
 first_found p [] x h i t = absurd i
 first_found p (y ∷ ys) x h i t = by_test (p y) refl i (λ behind. first_found p ys x h.1 behind t)
@@ -274,10 +274,10 @@ least_levels_are scale symbols start levels h = ap (drop 1) (least_path_is scale
 
 -- ---- there always is one
 
-record HasMinimum (f : List ℕ → ℕ) (xs : List (List ℕ)) : Type 0 where
-  path : List ℕ
-  inside : IsIn path xs
-  below : (other : List ℕ) → IsIn other xs → f path ≤ f other
+pub record HasMinimum (f : List ℕ → ℕ) (xs : List (List ℕ)) : Type 0 where
+  pub path : List ℕ
+  pub inside : IsIn path xs
+  pub below : (other : List ℕ) → IsIn other xs → f path ≤ f other
 
 minimum : (f : List ℕ → ℕ) (x : List ℕ) (xs : List (List ℕ)) → HasMinimum f (x ∷ xs)
 minimum f x [] = record { path = x; inside = inl refl; below = only }
@@ -302,7 +302,7 @@ minimum f x (y ∷ ys) = joined (minimum f y ys)
             above other (inl e) = (let same = ap f e in omega (arith, same, l))
             above other (inr i) = rest.below other i
 
-minimum_in : (f : List ℕ → ℕ) (xs : List (List ℕ)) (x : List ℕ) → IsIn x xs → HasMinimum f xs
+pub minimum_in : (f : List ℕ → ℕ) (xs : List (List ℕ)) (x : List ℕ) → IsIn x xs → HasMinimum f xs
 minimum_in f [] x i = absurd i
 minimum_in f (y ∷ ys) x i = minimum f y ys
 
@@ -313,7 +313,7 @@ some_path (suc n) state l =
     let rest = some_path n (next_state state (state / 2)) (next_small state (state / 2) l) in
     ((state / 2) ∷ rest.0, ap suc rest.1, (omega arith, omega arith, rest.2))
 
-tested_all : (p : List ℕ → Bool) (xs : List (List ℕ)) → ((x : List ℕ) → IsIn x xs → p x ≡ true)
+pub tested_all : (p : List ℕ → Bool) (xs : List (List ℕ)) → ((x : List ℕ) → IsIn x xs → p x ≡ true)
     → list_all p xs ≡ true
 tested_all p [] h = refl
 tested_all p (x ∷ xs) h =

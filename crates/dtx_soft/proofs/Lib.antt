@@ -3,7 +3,7 @@ pub mod SoftenedLemmas
 pub mod CostLemmas
 pub mod SumsLemmas
 pub mod MovedLemmas
-pub mod Writes
+pub mod WritesLemmas
 pub mod Steps
 pub mod Paths
 pub mod Potentials
@@ -25,6 +25,6 @@ pub mod BitGaps
 pub mod WordGaps
 pub mod NearGaps
 pub mod Rows
-pub mod Columns
+pub mod ColumnsLemmas
 pub mod Starts
-pub mod Traces
+pub mod TracesLemmas

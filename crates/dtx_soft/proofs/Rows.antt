@@ -7,7 +7,7 @@ use Rattle.dtx_soft.specs.Gaps.{nearer_level, nearer_square, row_of}
 use Rattle.dtx_soft.specs.Nearest.{AreNearest, IsNearest, IsTieBreak}
 use Rattle.dtx_soft.specs.Paths.{squared, symbol_at}
 use Rattle.dtx_soft.proofs.SquareGaps.{AreTested, are_tested, row_tie}
-use Rattle.dtx_soft.proofs.Writes.{four}
+use Rattle.dtx_soft.proofs.WritesLemmas.{four}
 
 other_is : (y z : ℕ) → y < 8 → z < 4 → y % 4 ≡ z % 4 → (y ≡ z) ⊎ (y ≡ z + 4)
 other_is y z l m e = by_half (cases_lt y 4)

@@ -86,7 +86,7 @@ softened_is scale old new h rows =
 
 -- ---- what the function gives is softened
 
-coder_is : (t e : ℕ) → e < 12 → coder_at 0 (symbol_place 0 t e) ≡ e
+pub coder_is : (t e : ℕ) → e < 12 → coder_at 0 (symbol_place 0 t e) ≡ e
 unfolding symbol_place coder_at
 coder_is t e l = by_turn ((0 + t / 69) % 3) refl (omega arith)
   where
@@ -95,7 +95,7 @@ coder_is t e l = by_turn ((0 + t / 69) % 3) refl (omega arith)
         + 4 * ((0 + (12 * t + (e + 12 - 4 * ((0 + t / 69) % 3)) % 12) / 828) % 3)) % 12 ≡ e
     by_turn x is m = omega (arith, is, m, l)
 
-round_is : (t e : ℕ) → symbol_place 0 t e / 12 ≡ t
+pub round_is : (t e : ℕ) → symbol_place 0 t e / 12 ≡ t
 unfolding symbol_place
 round_is t e = omega arith
 

@@ -11,7 +11,7 @@ use Rattle.dtx_soft.specs.Nearest.{IsTieBreak}
 use Rattle.dtx_soft.specs.Squares.{across_of, even_of, odd_of, seen}
 use Rattle.dtx_soft.proofs.SquareTests.{all_pass, formulas_pass, have_gaps, is_tied}
 use Rattle.dtx_soft.proofs.SquareTests.{level_by, levels_pass, lifted, passes, squares_pass}
-use Rattle.dtx_soft.proofs.Writes.{four}
+use Rattle.dtx_soft.proofs.WritesLemmas.{four}
 
 both : (a b : Bool) → (a && b) ≡ true → (a ≡ true) × (b ≡ true)
 both true true e = (refl, refl)

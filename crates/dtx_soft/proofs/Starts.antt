@@ -14,7 +14,7 @@ use Rattle.dtx_soft.specs.Trace.{IsStart}
 use Rattle.dtx_soft.proofs.GapSteps.{SaysAbove}
 use Rattle.dtx_soft.proofs.Paths.{least_is}
 use Rattle.dtx_soft.proofs.Units.{less_in_units, same_in_units}
-use Rattle.dtx_soft.proofs.Writes.{four}
+use Rattle.dtx_soft.proofs.WritesLemmas.{four}
 
 -- what is asked of four costs in units
 abbrev Comes : ℕ → List ℕ → ℕ → Type 0

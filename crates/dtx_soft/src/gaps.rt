@@ -12,7 +12,7 @@ ghost use Rattle.dtx_soft.specs.declared.nearest.TheConstants.{MAX_SCALE};
 use crate::nearest::MAX_SCALE;
 
 /// The number of lanes: one for each coder, and four that aren't used.
-pub(crate) const LANES: usize = 16;
+pub const LANES: usize = 16;
 
 /// The differences of four costs, in units of four times the scale: of the first and the third, the second and the
 /// fourth, and the third and the fourth. They are numbers of 16 bits, or bytes where these are wide enough.

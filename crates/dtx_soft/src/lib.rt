@@ -17,6 +17,8 @@ mod walk;
 mod walker;
 
 pub use certificate::proves;
-pub use nearest::MAX_SCALE;
+pub use gaps::LANES;
+pub use nearest::{MAX_SCALE, square, squared_distance, symbol_at};
+pub use rounds::{lay_out, put_back};
 pub use soft::Soft;
 pub use walk::{Found, MAX_SYMBOLS};

@@ -83,7 +83,7 @@ fn nearer(scale: u8, symbol: i8, z: u8) -> (u8, u32)
 }
 
 /// The square of a symbol's distance from level z.
-pub(crate) fn squared_distance(scale: u8, symbol: i8, z: u8) -> u32
+pub fn squared_distance(scale: u8, symbol: i8, z: u8) -> u32
     requires scale { scale ≤ MAX_SCALE }
     requires level { z < LEVELS }
     ensures square { result ≡ squared symbol (symbol_at scale z) }
@@ -94,7 +94,7 @@ pub(crate) fn squared_distance(scale: u8, symbol: i8, z: u8) -> u32
 
 /// The square of a symbol's distance from another one.
 #[inline(always)]
-pub(crate) fn square(symbol: i8, other: i16) -> u32
+pub fn square(symbol: i8, other: i16) -> u32
     requires from { pos 0 ≤ℤ (other +ℤ pos 126) }
     requires to { other ≤ℤ pos 126 }
     ensures square { result ≡ squared symbol other }
@@ -106,7 +106,7 @@ pub(crate) fn square(symbol: i8, other: i16) -> u32
 
 /// The symbol of level z, which is 2 * z - 7 at scale 1.
 #[tactic(auto, unfolding(crate::specs::Paths::symbol_at))]
-pub(crate) fn symbol_at(scale: u8, z: u8) -> i16
+pub fn symbol_at(scale: u8, z: u8) -> i16
     requires scale { scale ≤ MAX_SCALE }
     requires level { z < LEVELS }
     ensures symbol { result ≡ symbol_at scale z }

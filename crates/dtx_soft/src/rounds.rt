@@ -8,7 +8,7 @@ use crate::gaps::LANES;
 use dtx_sizes::{CODERS, SEGMENT, SEGMENT_ROUNDS, SEGMENT_SYNC};
 
 /// Reads the rounds of all segments. Lane e is for coder e, and the lanes behind the coders aren't used.
-pub(crate) fn lay_out(segments: &[[i8; SEGMENT]], rounds: &mut [[i8; LANES]])
+pub fn lay_out(segments: &[[i8; SEGMENT]], rounds: &mut [[i8; LANES]])
     requires room { length rounds.old ≡ SEGMENT_ROUNDS * length segments.now }
     ensures { (e : ℕ) → e < CODERS → column rounds.new e ≡ coder_symbols segments.now e }
 {
@@ -64,7 +64,7 @@ fn read_round(segment: &[i8; SEGMENT], r: usize, turn: usize) -> [i8; LANES]
 }
 
 /// Writes the rounds of all segments.
-pub(crate) fn put_back(rounds: &[[i8; LANES]], segments: &mut [[i8; SEGMENT]])
+pub fn put_back(rounds: &[[i8; LANES]], segments: &mut [[i8; SEGMENT]])
     requires room { length rounds.now ≡ SEGMENT_ROUNDS * length segments.old }
     ensures coders { (e : ℕ) → e < CODERS → coder_symbols segments.new e ≡ column rounds.now e }
     ensures syncs { KeepsSyncs segments.old segments.new }

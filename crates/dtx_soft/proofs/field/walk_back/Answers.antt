@@ -1,6 +1,6 @@
 use Rattle.std.proofs.Common.{sym, subst}
 use Rattle.dtx_soft.specs.Gaps.{IsBounded}
-use Rattle.dtx_soft.proofs.Columns.{walked_alike}
+use Rattle.dtx_soft.proofs.ColumnsLemmas.{walked_alike}
 use Rattle.dtx_soft.proofs.NearGaps.{tight_bounded}
 use Rattle.dtx_soft.proofs.field.walk_back.Goals as goal
 

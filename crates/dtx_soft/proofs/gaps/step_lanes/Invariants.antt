@@ -1,5 +1,5 @@
 use Rattle.dtx_soft.specs.Gaps.{IsBounded, gap_at}
-use Rattle.dtx_soft.proofs.Columns.{AreStepped}
+use Rattle.dtx_soft.proofs.ColumnsLemmas.{AreStepped}
 use Rattle.dtx_soft.proofs.gaps.step_lanes.Given as goal
 
 abbrev pub invariant-loop-n : goal.invariant-loop-n

@@ -1,7 +1,7 @@
 use Rattle.std.proofs.Common.{◌≡◌, ◌-◌, pos, ◌∙◌, subst, arith}
 use Rattle.std.proofs.lemmas.List.{get_or-replicate, length-set}
 use Rattle.dtx_soft.specs.Gaps.{AreWalked, gap_at}
-use Rattle.dtx_soft.proofs.Columns.{none_walked, one_walked}
+use Rattle.dtx_soft.proofs.ColumnsLemmas.{none_walked, one_walked}
 use Rattle.dtx_soft.proofs.NearGaps.{nothing_tight}
 use Rattle.dtx_soft.proofs.near.backward.Goals as goal
 

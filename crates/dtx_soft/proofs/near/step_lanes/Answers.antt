@@ -1,7 +1,7 @@
 use Rattle.std.proofs.Common.{pos, get_or, sym, ◌∙◌, subst, arith, rules}
 use Rattle.dtx_soft.specs.Gaps.{gap_at}
 use Rattle.dtx_soft.specs.Near.{IsTight}
-use Rattle.dtx_soft.proofs.Columns.{lane_stepped}
+use Rattle.dtx_soft.proofs.ColumnsLemmas.{lane_stepped}
 use Rattle.dtx_soft.proofs.GapSteps.{one_step}
 use Rattle.dtx_soft.proofs.near.step_lanes.Goals as goal
 

@@ -1,6 +1,6 @@
 use Rattle.dtx_soft.specs.Gaps.{gap_at}
 use Rattle.dtx_soft.specs.Near.{IsTight}
-use Rattle.dtx_soft.proofs.Columns.{AreStepped}
+use Rattle.dtx_soft.proofs.ColumnsLemmas.{AreStepped}
 use Rattle.dtx_soft.proofs.near.step_lanes.Given as goal
 
 abbrev pub invariant-loop-n : goal.invariant-loop-n

@@ -2,7 +2,7 @@ use Rattle.std.proofs.Common.{pos, ◌-ℤ◌, subst, arith, ◌∙◌}
 use Rattle.std.proofs.lemmas.Int.{ints}
 use Rattle.std.proofs.lemmas.List.{length-set}
 use Rattle.dtx_soft.specs.Nearest.{AreNearest}
-use Rattle.dtx_soft.proofs.Writes.{written_below}
+use Rattle.dtx_soft.proofs.WritesLemmas.{written_below}
 use Rattle.dtx_soft.proofs.nearest.fill.Goals as goal
 
 pub loop-n-preserved : goal.loop-n-preserved

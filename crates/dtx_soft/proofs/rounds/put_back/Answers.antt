@@ -5,7 +5,7 @@ use Rattle.std.proofs.lemmas.List.FromFn.{fill_by_all}
 use Rattle.dtx_slice.specs.Unrolled.{symbol_place}
 use Rattle.dtx_soft.specs.Coders.{coder_symbols, data_symbol}
 use Rattle.dtx_soft.specs.Gaps.{column}
-use Rattle.dtx_soft.proofs.Columns.{length-column, symbol_in_column}
+use Rattle.dtx_soft.proofs.ColumnsLemmas.{length-column, symbol_in_column}
 use Rattle.dtx_soft.proofs.Places.{place_round, place_segment, symbol_elsewhere, symbol_in_row, syncs_written}
 use Rattle.dtx_soft.proofs.rounds.put_back.Goals as goal
 

@@ -2,8 +2,8 @@ use Rattle.std.proofs.Common.{◌≡◌, ℕ, ◌+◌, ◌<◌, [], get_or, leng
 use Rattle.std.proofs.lemmas.List.{get_or-set_other, length-set}
 use Rattle.dtx_soft.specs.Gaps.{column}
 use Rattle.dtx_soft.specs.Trace.{IsNext, stand_at}
-use Rattle.dtx_soft.proofs.Columns.{length-column, symbol_in_column}
-use Rattle.dtx_soft.proofs.Traces.{IsUnderWay, arrives, column-set, goes_further, sets_out}
+use Rattle.dtx_soft.proofs.ColumnsLemmas.{length-column, symbol_in_column}
+use Rattle.dtx_soft.proofs.TracesLemmas.{IsUnderWay, arrives, column-set, goes_further, sets_out}
 use Rattle.dtx_soft.proofs.trace.forward.Goals as goal
 
 pub loop-t-init : goal.loop-t-init

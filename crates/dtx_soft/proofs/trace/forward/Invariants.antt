@@ -1,7 +1,7 @@
 use Rattle.std.proofs.Common.{◌≡◌, ℕ, ◌<◌, ◌≤◌, [], get_or, length}
 use Rattle.dtx_soft.specs.Gaps.{column}
 use Rattle.dtx_soft.specs.Trace.{stand_at}
-use Rattle.dtx_soft.proofs.Traces.{IsUnderWay}
+use Rattle.dtx_soft.proofs.TracesLemmas.{IsUnderWay}
 use Rattle.dtx_soft.proofs.trace.forward.Given as goal
 
 abbrev pub invariant-loop-t : goal.invariant-loop-t

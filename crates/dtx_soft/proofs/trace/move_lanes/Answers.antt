@@ -4,7 +4,7 @@ use mir.Val.{SFits}
 use Rattle.std.proofs.lemmas.Int.{to_z-of_z}
 use Rattle.std.proofs.lemmas.List.{length-set}
 use Rattle.dtx_soft.specs.Trace.{IsMoved, nearer_symbol, stand_at}
-use Rattle.dtx_soft.proofs.Writes.{by_entry}
+use Rattle.dtx_soft.proofs.WritesLemmas.{by_entry}
 use Rattle.dtx_soft.proofs.trace.move_lanes.Goals as goal
 
 pub loop-n-preserved : goal.loop-n-preserved

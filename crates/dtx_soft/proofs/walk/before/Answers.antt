@@ -1,6 +1,6 @@
 use Rattle.std.proofs.Common.{lit<, arith, rules}
 use Rattle.dtx_soft.specs.Paths.{next_state}
-use Rattle.dtx_soft.proofs.Writes.{four}
+use Rattle.dtx_soft.proofs.WritesLemmas.{four}
 use Rattle.dtx_soft.proofs.Lanes.{AreSmall, least_lane}
 use Rattle.dtx_soft.proofs.walk.before.Goals as goal
 

@@ -4,7 +4,7 @@ use mir.Val.{SFits}
 use Rattle.std.proofs.lemmas.Int.{to_z-of_z}
 use Rattle.std.proofs.lemmas.List.{get_or-set_same, length-set}
 use Rattle.dtx_soft.specs.Nearest.{AreNearest}
-use Rattle.dtx_soft.proofs.Writes.{four, written_above}
+use Rattle.dtx_soft.proofs.WritesLemmas.{four, written_above}
 use Rattle.dtx_soft.proofs.Paths.{ArePotentialsAt}
 use Rattle.dtx_soft.proofs.Potentials.{cheapest_small, no_potentials, potentials_more}
 use Rattle.dtx_soft.proofs.walk.fill_potentials.Goals as goal

@@ -4,7 +4,7 @@ use mir.Val.{Fits}
 use Rattle.std.proofs.lemmas.Bool.{cases_lt}
 use Rattle.dtx_soft.specs.Paths.{next_state}
 use Rattle.dtx_soft.specs.Nearest.{IsTaken, IsTieBreak}
-use Rattle.dtx_soft.proofs.Writes.{four}
+use Rattle.dtx_soft.proofs.WritesLemmas.{four}
 use Rattle.dtx_soft.proofs.Steps.{bit_taken}
 use Rattle.dtx_soft.proofs.walk.taken.Goals as goal
 

@@ -9,7 +9,7 @@ use Rattle.dtx_soft.specs.Least.{IsPotential}
 use Rattle.dtx_soft.specs.Nearest.{cheapest}
 use Rattle.dtx_soft.proofs.Potentials.{no_potentials, potentials_more}
 use Rattle.dtx_soft.proofs.Rows.{row_is}
-use Rattle.dtx_soft.proofs.Writes.{by_entry, four}
+use Rattle.dtx_soft.proofs.WritesLemmas.{by_entry, four}
 
 pub length-column : (rounds : List (List ℤ)) (n : ℕ) → length (column rounds n) ≡ length rounds
 unfolding column

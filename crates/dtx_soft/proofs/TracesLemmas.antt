@@ -19,7 +19,7 @@ use Rattle.dtx_soft.proofs.NearerSymbols.{nearer_is_symbol}
 use Rattle.dtx_soft.proofs.Starts.{least_from_start}
 use Rattle.dtx_soft.proofs.Steps.{IsFirstLeast, next_pair, next_taken, taken_first_least}
 
-distance-more : (xs ys : List ℤ) (x y : ℤ) → length xs ≡ length ys
+pub distance-more : (xs ys : List ℤ) (x y : ℤ) → length xs ≡ length ys
     → distance (xs ++ (x ∷ [])) (ys ++ (y ∷ [])) ≡ distance xs ys + squared x y
 unfolding distance
 distance-more [] [] x y e = omega (arith, sum_by-cons (λ (pair : ℤ × ℤ). squared pair.0 pair.1) (x, y) [])

@@ -1,0 +1,189 @@
+-- Least paths under pins and their costs, one more symbol in front (Bellman).
+use Rattle.std.proofs.Common.{◌≡◌, ℕ, zero, suc, ℤ, ◌+◌, ◌*◌, ◌/◌, ◌%◌, ◌<◌, ◌≤◌, ◌⊎◌, inl, inr, List, [], ◌∷◌}
+use Rattle.std.proofs.Common.{length, map, drop, get_or, refl, sym, ap, ap₂, ◌∙◌, subst, arith}
+use Rattle.std.proofs.lemmas.Bool.{cases_lt}
+use Rattle.dtx_soft.specs.Paths.{IsPath, cost, distance, next_state, squared, symbol_at}
+use Rattle.dtx_soft.specs.Least.{AreInOrder}
+use Rattle.dtx_soft.proofs.MovedLemmas.{distance-cons}
+use Rattle.dtx_pins.specs.Pins.{AgreesFrom, pair_of, pin_at}
+use Rattle.dtx_pins.specs.Steps.{IsBest, IsRow, cost_at, level_by, through, told_number}
+use Rattle.dtx_pins.specs.Walks.{AreLeastCosts, IsLeastCost, IsLeastFrom}
+
+pub cost-cons : (scale : ℕ) (v : ℤ) (symbols : List ℤ) (z : ℕ) (levels : List ℕ)
+    → cost scale (v ∷ symbols) (z ∷ levels) ≡ squared v (symbol_at scale z) + cost scale symbols levels
+unfolding cost
+cost-cons scale v symbols z levels = distance-cons v (symbol_at scale z) symbols (map (symbol_at scale) levels)
+
+pub next_small : (state z : ℕ) → state < 4 → next_state state z < 4
+unfolding next_state
+next_small state z l = omega arith
+
+-- what level z comes to
+abbrev pub onto : ℕ → ℤ → List (List ℕ) → ℕ → ℕ → ℕ
+onto scale v behind state z = squared v (symbol_at scale z) + cost_at behind (z / 4) (next_state state z)
+
+-- of all levels that may follow a state and tell the pin's pair, the first one that comes to the least
+pub record IsBestLevel (scale pin : ℕ) (v : ℤ) (behind : List (List ℕ)) (former state z : ℕ) : Type 0 where
+  pub small : z < 8
+  pub begins : z % 2 ≡ state / 2
+  pub told : pin < 4 → pair_of former z ≡ pin
+  pub least : (y : ℕ) → y < 8 → y % 2 ≡ state / 2 → (pin < 4 → pair_of former y ≡ pin)
+      → onto scale v behind state z ≤ onto scale v behind state y
+  pub first : (y : ℕ) → y < 8 → y % 2 ≡ state / 2 → (pin < 4 → pair_of former y ≡ pin)
+      → onto scale v behind state y ≡ onto scale v behind state z → z ≤ y
+
+onto_through : (scale : ℕ) (v : ℤ) (row behind : List (List ℕ)) (state k : ℕ) → IsRow scale v row → state < 4 → k < 4
+    → onto scale v behind state (level_by state k) ≡ through row behind state k
+onto_through scale v row behind state k h l m =
+    ap₂ (λ (x y : ℕ). x + cost_at behind y (next_state state (level_by state k))) (sym (h k m state l).0) (omega arith)
+
+pair_number : (pin former state k : ℕ) → pin < 4 → former < 2 → state < 4 → k < 4 → k ≡ told_number pin former
+    → pair_of former (level_by state k) ≡ pin
+pair_number pin former state k a b c d e = omega arith
+
+number_pair : (pin former y : ℕ) → pin < 4 → former < 2 → y < 8 → pair_of former y ≡ pin
+    → y / 2 ≡ told_number pin former
+number_pair pin former y a b c e = omega arith
+
+pub best_level : (scale pin : ℕ) (v : ℤ) (row behind : List (List ℕ)) (former state k : ℕ) → IsRow scale v row
+    → former < 2 → state < 4 → IsBest row pin behind former state k
+    → IsBestLevel scale pin v behind former state (level_by state k)
+best_level scale pin v row behind former state k h f l b = record {
+  small = (let m = b.small in omega arith);
+  begins = omega arith;
+  told = λ p. pair_number pin former state k p f l b.small (b.told p);
+  least = λ y m e t. (let a = b.least (y / 2) (omega arith) (λ p. number_pair pin former y p f m (t p)) in
+      omega (arith, own, other y m e, a));
+  first = λ y m e t same. (let a = b.first (y / 2) (omega arith) (λ p. number_pair pin former y p f m (t p))
+      (omega (arith, own, other y m e, same)) in omega (arith, a, e));
+}
+  where
+    own : onto scale v behind state (level_by state k) ≡ through row behind state k
+    own = onto_through scale v row behind state k h l b.small
+
+    other : (y : ℕ) → y < 8 → y % 2 ≡ state / 2 → onto scale v behind state y ≡ through row behind state (y / 2)
+    other y m e =
+        let level : y ≡ level_by state (y / 2) = omega arith in
+        ap (onto scale v behind state) level ∙ onto_through scale v row behind state (y / 2) h l (omega arith)
+
+-- a path costs no less than its first level comes to
+onto_below : (scale : ℕ) (v : ℤ) (pins : List ℕ) (symbols : List ℤ) (behind : List (List ℕ)) (state z : ℕ)
+    (levels : List ℕ) → AreLeastCosts scale pins symbols behind → state < 4 → z < 8
+    → length levels ≡ length symbols → IsPath (next_state state z) levels → AgreesFrom (z / 4) pins levels
+    → onto scale v behind state z ≤ cost scale (v ∷ symbols) (z ∷ levels)
+onto_below scale v pins symbols behind state z levels p l m n path told =
+    let a = (p (z / 4) (next_state state z) (omega arith) (next_small state z l)).below levels n path told in
+    let e = cost-cons scale v symbols z levels in
+    omega (arith, a, e)
+
+-- and it costs as much where it is a least one from there
+pub least_is : (scale : ℕ) (pins : List ℕ) (symbols : List ℤ) (former state least : ℕ) (levels : List ℕ)
+    → IsLeastCost scale pins symbols former state least → IsLeastFrom scale pins symbols former state levels
+    → cost scale symbols levels ≡ least
+least_is scale pins symbols former state least levels p h =
+    let a = p.below levels h.long h.path h.agrees in
+    let b = h.least p.met.0 p.met.1 p.met.2 p.met.3 in
+    omega (arith, a, b, p.met.4)
+
+pub one_more : (scale : ℕ) (v : ℤ) (pins : List ℕ) (symbols : List ℤ) (behind : List (List ℕ))
+    (former state z : ℕ) (levels : List ℕ) → AreLeastCosts scale (drop 1 pins) symbols behind → state < 4
+    → IsBestLevel scale (pin_at pins 0) v behind former state z
+    → IsLeastFrom scale (drop 1 pins) symbols (z / 4) (next_state state z) levels
+    → IsLeastFrom scale pins (v ∷ symbols) former state (z ∷ levels)
+one_more scale v pins symbols behind former state z levels p l h q = record {
+  long = ap suc q.long;
+  path = (h.small, h.begins, q.path);
+  agrees = (h.told, q.agrees);
+  least = least_of;
+  first = first_of;
+}
+  where
+    value : cost scale (v ∷ symbols) (z ∷ levels) ≡ onto scale v behind state z
+    value = cost-cons scale v symbols z levels ∙ ap (λ x. squared v (symbol_at scale z) + x)
+        (least_is scale (drop 1 pins) symbols (z / 4) (next_state state z) (cost_at behind (z / 4) (next_state state z))
+        levels (p (z / 4) (next_state state z) (let m = h.small in omega arith) (next_small state z l)) q)
+
+    least_of : (others : List ℕ) → length others ≡ suc (length symbols) → IsPath state others
+        → AgreesFrom former pins others → cost scale (v ∷ symbols) (z ∷ levels) ≤ cost scale (v ∷ symbols) others
+    least_of [] e path told = absurd (omega arith)
+    least_of (y ∷ ys) e path told =
+        let a = onto_below scale v (drop 1 pins) symbols behind state y ys p l path.0 (omega arith) path.2 told.1 in
+        let b = h.least y path.0 path.1 told.0 in
+        omega (arith, a, b, value)
+
+    first_of : (others : List ℕ) → length others ≡ suc (length symbols) → IsPath state others
+        → AgreesFrom former pins others → cost scale (v ∷ symbols) others ≡ cost scale (v ∷ symbols) (z ∷ levels)
+        → AreInOrder (z ∷ levels) others
+    first_of [] e path told t = absurd (omega arith)
+    first_of (y ∷ ys) e path told t =
+        let a = onto_below scale v (drop 1 pins) symbols behind state y ys p l path.0 (omega arith) path.2 told.1 in
+        let b = h.least y path.0 path.1 told.0 in
+        let c : onto scale v behind state y ≡ onto scale v behind state z = omega (arith, a, b, value, t) in
+        go y ys (omega arith) path.2 told.1 t (by_order z y (h.first y path.0 path.1 told.0 c) (cases_lt z y))
+      where
+        by_order : (a b : ℕ) → a ≤ b → (a < b) ⊎ (b ≤ a) → (a < b) ⊎ (a ≡ b)
+        by_order a b k (inl m) = inl m
+        by_order a b k (inr m) = inr (omega arith)
+
+        go : (y : ℕ) (ys : List ℕ) → length ys ≡ length symbols → IsPath (next_state state y) ys
+            → AgreesFrom (y / 4) (drop 1 pins) ys
+            → cost scale (v ∷ symbols) (y ∷ ys) ≡ cost scale (v ∷ symbols) (z ∷ levels) → (z < y) ⊎ (z ≡ y)
+            → (z < y) ⊎ ((z ≡ y) × AreInOrder levels ys)
+        go y ys n path told t (inl k) = inl k
+        go y ys n path told t (inr k) = inr (
+          k,
+          q.first ys n (subst (λ x. IsPath (next_state state x) ys) (sym k) path)
+              (subst (λ x. AgreesFrom (x / 4) (drop 1 pins) ys) (sym k) told)
+              (same (subst (λ x. cost scale (v ∷ symbols) (x ∷ ys) ≡ cost scale (v ∷ symbols) (z ∷ levels)) (sym k) t)),
+        )
+          where
+            same : cost scale (v ∷ symbols) (z ∷ ys) ≡ cost scale (v ∷ symbols) (z ∷ levels)
+                → cost scale symbols ys ≡ cost scale symbols levels
+            same t = omega (arith, t, cost-cons scale v symbols z ys, cost-cons scale v symbols z levels)
+
+pub cost_more : (scale : ℕ) (v : ℤ) (pins : List ℕ) (symbols : List ℤ) (behind : List (List ℕ)) (former state z : ℕ)
+    → AreLeastCosts scale (drop 1 pins) symbols behind → state < 4
+    → IsBestLevel scale (pin_at pins 0) v behind former state z
+    → IsLeastCost scale pins (v ∷ symbols) former state (onto scale v behind state z)
+cost_more scale v pins symbols behind former state z p l h = record {
+  below = below_of;
+  met = (
+    z ∷ rest.met.0,
+    ap suc rest.met.1,
+    (h.small, h.begins, rest.met.2),
+    (h.told, rest.met.3),
+    cost-cons scale v symbols z rest.met.0 ∙ ap (λ x. squared v (symbol_at scale z) + x) rest.met.4,
+  );
+}
+  where
+    rest : IsLeastCost scale (drop 1 pins) symbols (z / 4) (next_state state z)
+        (cost_at behind (z / 4) (next_state state z))
+    rest = p (z / 4) (next_state state z) (let m = h.small in omega arith) (next_small state z l)
+
+    below_of : (others : List ℕ) → length others ≡ suc (length symbols) → IsPath state others
+        → AgreesFrom former pins others → onto scale v behind state z ≤ cost scale (v ∷ symbols) others
+    below_of [] e path told = absurd (omega arith)
+    below_of (y ∷ ys) e path told =
+        let a = onto_below scale v (drop 1 pins) symbols behind state y ys p l path.0 (omega arith) path.2 told.1 in
+        let b = h.least y path.0 path.1 told.0 in
+        omega (arith, a, b)
+
+-- no symbols
+pub nothing_costs : (scale : ℕ) (others : List ℕ) → cost scale [] others ≡ 0
+unfolding cost distance
+nothing_costs scale others = refl
+
+pub nothing_least : (scale : ℕ) (pins : List ℕ) (former state : ℕ) → IsLeastFrom scale pins [] former state []
+nothing_least scale pins former state = record {
+  long = refl;
+  path = tt;
+  agrees = tt;
+  least = λ others e path told. omega (arith, nothing_costs scale [], nothing_costs scale others);
+  first = λ others e path told t. tt;
+}
+
+pub nothing_cost : (scale : ℕ) (pins : List ℕ) (former state : ℕ) → IsLeastCost scale pins [] former state 0
+nothing_cost scale pins former state = record {
+  below = λ levels e path told. omega arith;
+  met = ([], refl, tt, tt, nothing_costs scale []);
+}

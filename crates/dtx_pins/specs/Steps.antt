@@ -1,0 +1,80 @@
+-- One step of the search under pins: what each level comes to, and which one is taken.
+use Rattle.std.specs.Prelude.{ℕ, ℤ, pos, ◌≡◌, ◌+◌, ◌*◌, ◌/◌, ◌%◌, ◌^◌, ◌<◌, ◌≤◌, ◌-ℤ◌, ◌==◌, nat_le, if◌then◌else◌}
+use Rattle.std.specs.Prelude.{List, [], length, slice_index, slice_index_or}
+use Rattle.dtx_soft.specs.Paths.{next_state, squared, symbol_at}
+
+-- The least costs of a coder: entry p is for the former Z2 and has one for each state.
+abbrev pub cost_at : List (List ℕ) → ℕ → ℕ → ℕ
+cost_at costs former state = slice_index (slice_index_or costs former []) state
+
+-- the four levels that may follow a state: Z0 is q1
+abbrev pub level_by : ℕ → ℕ → ℕ
+level_by state k = 2 * k + state / 2
+
+-- the squares of a symbol's distances from level number k of each state
+abbrev pub IsEntry : ℕ → ℤ → ℕ → List ℕ → Type 0
+IsEntry scale symbol k entry = (s : ℕ) → s < 4
+    → (slice_index entry s ≡ squared symbol (symbol_at scale (level_by s k))) × (slice_index entry s ≤ 64516)
+
+-- the same for each of the four numbers
+abbrev pub IsRow : ℕ → ℤ → List (List ℕ) → Type 0
+IsRow scale symbol row = (k : ℕ) → k < 4 → IsEntry scale symbol k (slice_index_or row k [])
+
+-- entry n is the row of symbol n - 128
+pub record IsTable (scale : ℕ) (rows : List (List (List ℕ))) : Type 0 where
+  pub long : length rows ≡ 256
+  pub row : (n : ℕ) (default : List (List ℕ)) → n < 256
+      → IsRow scale (pos n -ℤ pos 128) (slice_index_or rows n default)
+
+-- no square is greater than the greatest: (128 + 7 * 18)^2
+abbrev pub AreSquares : List (List ℕ) → Type 0
+AreSquares row = (k s : ℕ) → k < 4 → s < 4 → slice_index (slice_index_or row k []) s ≤ 64516
+
+-- a bound of costs
+abbrev pub AreBounded : ℕ → List (List ℕ) → Type 0
+AreBounded bound costs = (p s : ℕ) → p < 2 → s < 4 → cost_at costs p s ≤ bound
+
+-- what level number k comes to from a state: its square and the least cost behind it
+abbrev pub through : List (List ℕ) → List (List ℕ) → ℕ → ℕ → ℕ
+through row behind state k =
+    slice_index (slice_index_or row k []) state + cost_at behind (k / 2) (next_state state (level_by state k))
+
+-- the number of the level that gives a pair: Z2 is the sum of X2 and the former Z2, and Z1 is X1
+abbrev pub told_number : ℕ → ℕ → ℕ
+told_number pin former = (pin + 2 * former) % 4
+
+-- The number that a mark gives. One from 4096 on stands for a pin. In another one bit 8 + s is Z2 of state s, and bit s
+-- or bit 4 + s is Z1 of it, where Z2 is 0 or 1.
+abbrev pub free_number : ℕ → ℕ → ℕ
+free_number mark state =
+    if mark / 256 / 2 ^ state % 2 == 1 then 2 + mark / 16 / 2 ^ state % 2 else mark / 2 ^ state % 2
+
+abbrev pub number_of : ℕ → ℕ → ℕ → ℕ
+number_of mark former state =
+    if nat_le 4096 mark then told_number (mark % 4) former else free_number mark state
+
+-- the first of four numbers at which a function is least
+pub record IsFirstLeast (f : ℕ → ℕ) (k : ℕ) : Type 0 where
+  pub small : k < 4
+  pub least : (j : ℕ) → j < 4 → f k ≤ f j
+  pub first : (j : ℕ) → j < 4 → f j ≡ f k → k ≤ j
+
+-- of the levels that may follow a state and give the pin's pair, the first that comes to the least
+pub record IsBest (row : List (List ℕ)) (pin : ℕ) (behind : List (List ℕ)) (former state k : ℕ) : Type 0 where
+  pub small : k < 4
+  pub told : pin < 4 → k ≡ told_number pin former
+  pub least : (j : ℕ) → j < 4 → (pin < 4 → j ≡ told_number pin former)
+      → through row behind state k ≤ through row behind state j
+  pub first : (j : ℕ) → j < 4 → (pin < 4 → j ≡ told_number pin former)
+      → through row behind state j ≡ through row behind state k → k ≤ j
+
+-- one symbol further to the front: the mark gives the best level of each state, and the costs are what it comes to
+pub record IsStep (row : List (List ℕ)) (pin : ℕ) (old new : List (List ℕ)) (mark : ℕ) : Type 0 where
+  pub best : (p s : ℕ) → p < 2 → s < 4 → IsBest row pin old p s (number_of mark p s)
+  pub costs : (p s : ℕ) → p < 2 → s < 4 → cost_at new p s ≡ through row old s (number_of mark p s)
+
+-- the step at a symbol
+pub record IsStepAt (scale : ℕ) (symbol : ℤ) (pin : ℕ) (old new : List (List ℕ)) (mark : ℕ) : Type 0 where
+  pub row : List (List ℕ)
+  pub right : IsRow scale symbol row
+  pub step : IsStep row pin old new mark

@@ -1,0 +1,45 @@
+-- What the walk back keeps: the least costs of paths that agree with pins, and the marks.
+use Rattle.std.specs.Prelude.{ℕ, ℤ, pos, ◌≡◌, ◌+◌, ◌<◌, ◌≤◌, List, [], length, drop, slice_index, slice_index_or}
+use Rattle.dtx_soft.specs.Gaps.{column}
+use Rattle.dtx_soft.specs.Least.{AreInOrder}
+use Rattle.dtx_soft.specs.Paths.{IsPath, cost}
+use Rattle.dtx_pins.specs.Pins.{AgreesFrom, coder_pins, pin_at}
+use Rattle.dtx_pins.specs.Steps.{IsBest, IsRow, cost_at, number_of}
+
+-- the least cost of a path that agrees, from a former Z2 and a state: no such path costs less, and one costs as much
+pub record IsLeastCost (scale : ℕ) (pins : List ℕ) (symbols : List ℤ) (former state least : ℕ) : Type 0 where
+  pub below : (levels : List ℕ) → length levels ≡ length symbols → IsPath state levels → AgreesFrom former pins levels
+      → least ≤ cost scale symbols levels
+  pub met : (levels : List ℕ) × (length levels ≡ length symbols) × IsPath state levels × AgreesFrom former pins levels
+      × (cost scale symbols levels ≡ least)
+
+-- the same from each
+abbrev pub AreLeastCosts : ℕ → List ℕ → List ℤ → List (List ℕ) → Type 0
+AreLeastCosts scale pins symbols costs =
+    (p s : ℕ) → p < 2 → s < 4 → IsLeastCost scale pins symbols p s (cost_at costs p s)
+
+-- the least path that agrees, from a former Z2 and a state; of several, the first in order
+pub record IsLeastFrom (scale : ℕ) (pins : List ℕ) (symbols : List ℤ) (former state : ℕ) (levels : List ℕ) : Type 0 where
+  pub long : length levels ≡ length symbols
+  pub path : IsPath state levels
+  pub agrees : AgreesFrom former pins levels
+  pub least : (others : List ℕ) → length others ≡ length symbols → IsPath state others → AgreesFrom former pins others
+      → cost scale symbols levels ≤ cost scale symbols others
+  pub first : (others : List ℕ) → length others ≡ length symbols → IsPath state others → AgreesFrom former pins others
+      → cost scale symbols others ≡ cost scale symbols levels → AreInOrder levels others
+
+-- the mark of step t
+pub record IsMark (scale : ℕ) (pins : List ℕ) (symbols : List ℤ) (t mark : ℕ) : Type 0 where
+  pub behind : List (List ℕ)
+  pub row : List (List ℕ)
+  pub least : AreLeastCosts scale (drop (t + 1) pins) (drop (t + 1) symbols) behind
+  pub right : IsRow scale (slice_index_or symbols t (pos 0)) row
+  pub best : (p s : ℕ) → p < 2 → s < 4 → IsBest row (pin_at pins t) behind p s (number_of mark p s)
+
+-- what a walk back to step t gives: the least costs of each coder there, and the marks from there on
+pub record AreWalked (scale t : ℕ) (pins : List (List ℕ)) (rounds : List (List ℤ)) (costs : List (List (List ℕ)))
+    (marks : List (List ℕ)) : Type 0 where
+  pub costs_are : (e : ℕ) → e < 12
+      → AreLeastCosts scale (drop t (coder_pins pins e)) (drop t (column rounds e)) (slice_index_or costs e [])
+  pub marks_are : (k e : ℕ) → t ≤ k → k < length rounds → e < 12
+      → IsMark scale (coder_pins pins e) (column rounds e) k (slice_index (slice_index_or marks k []) e)

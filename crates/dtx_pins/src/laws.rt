@@ -1,0 +1,36 @@
+//! Laws of the definitions: the one least path under pins, and what pins change.
+
+ghost use Rattle.std.specs.Prelude.{◌≡◌, ◌↔◌, ℕ, ℤ, ◌<◌, ◌≤◌, IsTrue, List, ◌∷◌, length};
+ghost use Rattle.dtx_soft.specs.LeastPath.{least_path};
+ghost use Rattle.dtx_soft.specs.Paths.{cost};
+ghost use Rattle.dtx_pins.specs.Pins.{Agrees, agrees, pin_at};
+ghost use Rattle.dtx_pins.specs.LeastPinned.{IsLeastPinned, least_pinned_levels, least_pinned_path};
+ghost use Rattle.dtx_pins.specs.LeastPinned.{least_pinned_start};
+
+/// There is exactly one least path under pins, and `least_pinned_path` gives it. It agrees with the pins, and no path that
+/// agrees with them costs less.
+pub fn one_least_pinned_path()
+    ensures found { (scale : ℕ) (pins : List ℕ) (symbols : List ℤ) → IsLeastPinned scale pins symbols
+        (least_pinned_start scale pins symbols) (least_pinned_levels scale pins symbols) }
+    ensures one { (scale : ℕ) (pins : List ℕ) (symbols : List ℤ) (start : ℕ) (levels : List ℕ)
+        → IsLeastPinned scale pins symbols start levels → least_pinned_path scale pins symbols ≡ start ∷ levels }
+{}
+
+/// Without pins it is the least path.
+pub fn without_pins()
+    ensures { (scale : ℕ) (pins : List ℕ) (symbols : List ℤ) → ((t : ℕ) → t < length symbols → 4 ≤ pin_at pins t)
+        → least_pinned_path scale pins symbols ≡ least_path scale symbols }
+{}
+
+/// Let each path that agrees with some pins agree with others too. The least path under the first costs no less.
+pub fn more_pins_cost_more()
+    ensures { (scale : ℕ) (more pins : List ℕ) (symbols : List ℤ)
+        → ((levels : List ℕ) → length levels ≡ length symbols → Agrees more levels → Agrees pins levels)
+        → cost scale symbols (least_pinned_levels scale pins symbols)
+        ≤ cost scale symbols (least_pinned_levels scale more symbols) }
+{}
+
+/// The test of agreement says whether levels tell the pair of each pin.
+pub fn agreement()
+    ensures { (pins levels : List ℕ) → IsTrue (agrees pins levels) ↔ Agrees pins levels }
+{}
