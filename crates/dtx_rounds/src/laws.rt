@@ -1,8 +1,15 @@
 //! Laws of rounds.
 
-ghost use Rattle.std.specs.Prelude.{◌≡◌, ◌+◌, ℕ, ℤ, List};
+ghost use Rattle.std.specs.Prelude.{◌≡◌, ◌+◌, ◌<◌, ◌≤◌, ℕ, ℤ, Some, List, [], length, slice_index_or};
+ghost use Rattle.dtx_receiver.specs.Bytes.{bytes_in};
+ghost use Rattle.dtx_soft.specs.Softened.{least_cost};
+ghost use Rattle.dtx_rounds.specs.Known.{known_bytes, known_word};
 ghost use Rattle.dtx_rounds.specs.Pins.{byte_at_step};
-ghost use Rattle.dtx_rounds.specs.Rounds.{refined, rounded, rounds_of};
+ghost use Rattle.dtx_rounds.specs.Rounds.{coder_cost, groups_in, heard_of, refined, rounded, rounds_of};
+
+use dtx_acquire::laws::whole_fields_are_acquired;
+use dtx_sizes::{CODERS, SEGMENT};
+use dtx_soft::MAX_SCALE;
 
 /// The bytes whose pairs are sent in the first data symbols of the first five segments of a field.
 pub fn first_bytes()
@@ -13,6 +20,19 @@ pub fn first_bytes()
     ensures segment_4 { byte_at_step 4 276 ≡ 828 }
 {}
 
+/// Each word that is known of some segments is known of those after a round, with the same correction. So each word
+/// that is known after some rounds over a capture is known after all further ones.
+pub fn what_is_known_stays()
+    ensures round { (scale k : ℕ) (heard given : List (List ℤ)) (code : List ℕ) → 0 < scale → scale ≤ MAX_SCALE
+        → ((i : ℕ) → i < length given → length (slice_index_or given i []) ≡ SEGMENT) → length heard ≡ length given
+        → known_word (bytes_in given) k ≡ Some code → known_word (bytes_in (rounded scale heard given)) k ≡ Some code }
+    ensures capture { (scale r n k : ℕ) (symbols : List ℤ) (code : List ℕ) → 0 < scale → scale ≤ MAX_SCALE
+        → known_word (bytes_in (refined scale symbols r)) k ≡ Some code
+        → known_word (bytes_in (refined scale symbols (r + n))) k ≡ Some code }
+{
+    whole_fields_are_acquired();
+}
+
 /// Where a round gives what it was given, all further ones do.
 pub fn a_round_that_moves_nothing_is_the_last()
     ensures rounds { (scale n : ℕ) (heard given : List (List ℤ)) → rounded scale heard given ≡ given
@@ -20,3 +40,15 @@ pub fn a_round_that_moves_nothing_is_the_last()
     ensures capture { (scale r n : ℕ) (symbols : List ℤ) → refined scale symbols (r + 1) ≡ refined scale symbols r
         → refined scale symbols (r + n) ≡ refined scale symbols r }
 {}
+
+/// The least path of a coder in a field costs no less in a round than in the one before, and in the first round no less
+/// than without pins.
+pub fn costs_rise()
+    ensures first { (scale f e : ℕ) (symbols : List ℤ) → least_cost scale (groups_in (heard_of symbols) f) e
+        ≤ coder_cost scale (heard_of symbols) (known_bytes (bytes_in (refined scale symbols 0))) f e }
+    ensures next { (scale r f e : ℕ) (symbols : List ℤ) → 0 < scale → scale ≤ MAX_SCALE → e < CODERS
+        → coder_cost scale (heard_of symbols) (known_bytes (bytes_in (refined scale symbols r))) f e
+        ≤ coder_cost scale (heard_of symbols) (known_bytes (bytes_in (refined scale symbols (r + 1)))) f e }
+{
+    whole_fields_are_acquired();
+}
