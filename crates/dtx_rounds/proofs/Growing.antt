@@ -23,7 +23,7 @@ use Rattle.dtx_rounds.proofs.Kept.{field_pin}
 abbrev pub Stays : List ℕ → List ℕ → Type 0
 Stays old new = (k : ℕ) (code : List ℕ) → known_word old k ≡ Some code → known_word new k ≡ Some code
 
-none_some : {A : Type 0} (x : A) → ◌≡◌ {A = Option A} None (Some x) → ⊥
+pub none_some : {A : Type 0} (x : A) → ◌≡◌ {A = Option A} None (Some x) → ⊥
 none_some x e = cc
 
 code_byte_stays : (old new : List ℕ) (p b : ℕ) → Stays old new → known_code_byte old p ≡ Some b
@@ -47,7 +47,7 @@ byte_stays old new n b stays e = by_test (nat_le (208 * (n % 52)) n) e
     by_test true f = code_byte_stays old new (n - 208 * (n % 52)) b stays f
     by_test false f = absurd (none_some b f)
 
-length-known : (bytes : List ℕ) → length (known_bytes bytes) ≡ length bytes
+pub length-known : (bytes : List ℕ) → length (known_bytes bytes) ≡ length bytes
 unfolding known_bytes
 length-known bytes = length-map-range_with_len (known_byte bytes) 0 (length bytes)
 

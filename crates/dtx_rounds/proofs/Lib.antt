@@ -7,3 +7,6 @@ pub mod PinnedRows
 pub mod Growing
 pub mod RoundsLemmas
 pub mod RefinedLemmas
+pub mod FieldRows
+pub mod OwnRounds
+pub mod StillLemmas

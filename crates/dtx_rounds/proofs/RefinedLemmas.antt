@@ -59,7 +59,7 @@ costs_rise scale f e heard given some most long same l =
 
 -- ---- the segments of a capture
 
-length-field : (scale : ℕ) (segments : List (List ℤ)) → length (restored_field scale segments) ≡ length segments
+pub length-field : (scale : ℕ) (segments : List (List ℤ)) → length (restored_field scale segments) ≡ length segments
 unfolding restored_field in_groups behind_groups
 length-field scale segments =
     let n : ℕ = 4 * (length segments / 4) in
@@ -71,7 +71,7 @@ length-field scale segments =
     (length-drop n segments)
     ∙ omega arith
 
-length-restored : (scale : ℕ) (segments : List (List ℤ)) → length (restored scale segments) ≡ length segments
+pub length-restored : (scale : ℕ) (segments : List (List ℤ)) → length (restored scale segments) ≡ length segments
 length-restored scale [] = refl
 length-restored scale (sync ∷ segments) = ap suc (length-field scale segments)
 
@@ -84,7 +84,7 @@ length-given scale (x ∷ xs) =
     ∙ ap₂ (λ (a b : ℕ). a + b) (sym (length-restored scale x.segments)) (length-given scale xs)
     ∙ sym (length-append (restored scale x.segments) (restored_of scale xs))
 
-length-heard : (scale : ℕ) (symbols : List ℤ) → length (heard_of symbols) ≡ length (acquired scale symbols)
+pub length-heard : (scale : ℕ) (symbols : List ℤ) → length (heard_of symbols) ≡ length (acquired scale symbols)
 unfolding heard_of acquired
 length-heard scale symbols = length-given scale (all_fields symbols)
 

@@ -134,7 +134,7 @@ symbol_after scale heard given known d k long same l m =
 
 -- ---- levels
 
-path_small : (levels : List ℕ) (state t : ℕ) → IsPath state levels → t < length levels → get_or levels t 0 < 8
+pub path_small : (levels : List ℕ) (state t : ℕ) → IsPath state levels → t < length levels → get_or levels t 0 < 8
 path_small [] state t h l = absurd (omega arith)
 path_small (z ∷ levels) state zero h l = h.0
 path_small (z ∷ levels) state (suc t) h l = path_small levels (next_state state z) t h.2 (omega arith)
@@ -177,7 +177,7 @@ abbrev pub levels_of : (scale : ℕ) (heard : List (List ℤ)) (known : List (Op
     → (f e : ℕ) → e < 12 → List ℕ
 levels_of scale heard known paths f e l = ((paths f).coders e l).levels
 
-step_there : (t n : ℕ) → t / 69 % 312 < n → t % 21528 < 69 * n
+pub step_there : (t n : ℕ) → t / 69 % 312 < n → t % 21528 < 69 * n
 step_there t n l = omega arith
 
 symbol_there : (paths : List (List ℤ)) (i k t e : ℕ) → i ≡ t / 69 → k ≡ symbol_place 0 t e % 828
@@ -189,7 +189,24 @@ symbol_there paths i k t e a b =
     let row : symbol_place 0 t e / 828 ≡ i = omega (arith, whole, inside, a) in
     ap₂ (λ (x y : ℕ). get_or (get_or paths x []) (4 + y) (pos 0)) (sym row) b
 
--- the level of coder e at step t of the run
+-- the level of coder e at step t of a run whose symbols are decided by paths
+pub level_by : (scale : ℕ) (run paths : List (List ℤ)) (own : List ℕ) (t e : ℕ) → 0 < scale → scale < 19 → AreLong run
+    → t < 276 * groups_of run
+    → get_or (data_at run (t / 69)) (4 + symbol_place 0 t e % 828) (pos 0)
+    ≡ decided scale (get_or (get_or paths (t / 69 % 312) []) (4 + symbol_place 0 t e % 828) (pos 0))
+    → data_symbol paths (symbol_place 0 (t % 21528) e) ≡ symbol_at scale (get_or own (t % 21528) 0)
+    → get_or own (t % 21528) 0 < 8
+    → get_or (levels_in run) (symbol_place 0 t e) 0 ≡ get_or own (t % 21528) 0
+level_by scale run paths own t e some most long m decision path small =
+    ap (λ x. get_or (levels_in run) x 0) (place_segment t e)
+    ∙ level_in run (t / 69) (symbol_place 0 t e % 828) long (omega arith) (place_in t e)
+    ∙ ap sliced (decision
+    ∙ ap (decided scale) (symbol_there paths (t / 69 % 312) (symbol_place 0 t e % 828) (t % 21528) e
+    (segment_in_field t) (place_in_field t e)
+    ∙ path))
+    ∙ level_back scale (get_or own (t % 21528) 0) some most small
+
+-- the same after a round
 pub level_after : (scale : ℕ) (heard given : List (List ℤ)) (known : List (Option ℕ))
     (paths : HasPaths scale heard known) (t e : ℕ) (l : e < 12) → 0 < scale → scale < 19 → AreLong given
     → AreLong (after scale heard known given) → length heard ≡ length given → t < 276 * groups_of given
@@ -197,31 +214,25 @@ pub level_after : (scale : ℕ) (heard given : List (List ℤ)) (known : List (O
     ≡ get_or (levels_of scale heard known paths (t / 21528) e l) (t % 21528) 0
 level_after scale heard given known paths t e l some most long new same m =
     let row : t / 69 < 4 * groups_of given = omega arith in
-    let is = paths (t / 21528) in
-    let one = is.coders e l in
+    let one = (paths (t / 21528)).coders e l in
     let room : t / 69 % 312 < length (groups_in heard (t / 69 / 312)) =
     omega (arith, place_in_groups given (t / 69) row, same_groups heard given (t / 69 / 312) same) in
     let step : t % 21528 < 69 * length (groups_in heard (t / 21528)) =
     step_there t (length (groups_in heard (t / 21528)))
     (subst (λ f. t / 69 % 312 < length (groups_in heard f)) (field_of_segment t) room) in
-    let small : get_or one.levels (t % 21528) 0 < 8 =
-    path_small one.levels one.start (t % 21528) one.least.path
-    (omega (arith, step, one.least.long, length-coder (groups_in heard (t / 21528)) e)) in
-    ap (λ x. get_or (levels_in (after scale heard known given)) x 0) (place_segment t e)
-    ∙ level_in (after scale heard known given) (t / 69) (symbol_place 0 t e % 828) new
-    (omega (arith, row, groups_after scale heard given known)) (place_in t e)
-    ∙ ap sliced (symbol_after scale heard given known (t / 69) (symbol_place 0 t e % 828) long same row (place_in t e)
+    level_by scale (after scale heard known given) (paths_in scale heard known (t / 21528)) one.levels t e some most new
+    (omega (arith, m, groups_after scale heard given known))
+    (symbol_after scale heard given known (t / 69) (symbol_place 0 t e % 828) long same row (place_in t e)
     ∙ ap (λ f. decided scale (get_or (get_or (paths_in scale heard known f) (t / 69 % 312) [])
-    (4 + symbol_place 0 t e % 828) (pos 0))) (field_of_segment t)
-    ∙ ap (decided scale) (symbol_there (paths_in scale heard known (t / 21528)) (t / 69 % 312)
-    (symbol_place 0 t e % 828) (t % 21528) e (segment_in_field t) (place_in_field t e)
-    ∙ path_symbol scale (pins_in heard known (t / 21528)) (groups_in heard (t / 21528))
-    (paths_in scale heard known (t / 21528)) e (t % 21528) l is step))
-    ∙ level_back scale (get_or one.levels (t % 21528) 0) some most small
+    (4 + symbol_place 0 t e % 828) (pos 0))) (field_of_segment t))
+    (path_symbol scale (pins_in heard known (t / 21528)) (groups_in heard (t / 21528))
+    (paths_in scale heard known (t / 21528)) e (t % 21528) l (paths (t / 21528)) step)
+    (path_small one.levels one.start (t % 21528) one.least.path
+    (omega (arith, step, one.least.long, length-coder (groups_in heard (t / 21528)) e)))
 
 -- ---- rows of 832 symbols
 
-in_whole_room : (given : List (List ℤ)) (i : ℕ) → in_whole_group given i ≡ true
+pub in_whole_room : (given : List (List ℤ)) (i : ℕ) → in_whole_group given i ≡ true
     → i % 313 - 1 < length (groups_in given (i / 313))
 unfolding in_whole_group
 in_whole_room given i e =
@@ -256,3 +267,9 @@ after_long scale heard given known long same i l =
         ∙ ap₂ (λ (a b : ℕ). a + b) front (length-map (drop 4 row) (decided scale) ∙ length-drop 4 row
         ∙ ap (λ n. n - 4) full)
     by_test there (inr e) = ap length (cond-false (in_whole_group given i) _ (get_or given i []) e) ∙ long i there
+
+pub in_whole_some : (given : List (List ℤ)) (i : ℕ) → in_whole_group given i ≡ true → 0 < i % 313
+unfolding in_whole_group
+in_whole_some given i e =
+    ltb-true 0 (i % 313)
+    (and_parts (nat_lt 0 (i % 313)) (nat_le (i % 313) (length (groups_in given (i / 313)))) e).0

@@ -67,3 +67,19 @@ later_step k j i a b c =
 
     by_place : (m n : ℕ) → n ≡ m + 52 * 4 * (m % 52) → 12 ≤ n % 64584 → 0 < (4 * (n / 12) + i) % 21528
     by_place m n e l = omega arith
+
+-- the step of a coder's byte, back from the byte
+pub byte_coder : (t e : ℕ) → e < 12 → coder_of 0 (byte_at_step e t) ≡ e
+unfolding byte_at_step byte_place group_place coder_of
+byte_coder t e l =
+    by_turn ((0 + 4 * (t / 276)) % 312) (t / 276) (t % 276 / 4)
+    (((0 + 4 * (t / 276)) % 312 + 4 * (t % 276 / 4) / 69) % 3) refl (omega arith) refl (omega arith)
+  where
+    by_turn : (s u h x : ℕ) → (0 + 4 * u) % 312 ≡ s → h < 69 → (s + 4 * h / 69) % 3 ≡ x → x < 3
+        → ((828 * u + (12 * h + (e + 12 - 4 * ((s + 4 * h / 69) % 3)) % 12)) % 12
+        + 4 * ((0 + 4 * ((828 * u + (12 * h + (e + 12 - 4 * ((s + 4 * h / 69) % 3)) % 12)) / 12) / 69) % 3)) % 12 ≡ e
+    by_turn s u h x a b c m = omega (arith, a, b, c, m, l)
+
+pub byte_step : (t e : ℕ) → 4 * (byte_at_step e t / 12) + t % 4 ≡ t
+unfolding byte_at_step byte_place group_place
+byte_step t e = omega arith

@@ -1,14 +1,18 @@
 //! Laws of rounds.
 
-ghost use Rattle.std.specs.Prelude.{◌≡◌, ◌+◌, ◌<◌, ◌≤◌, ℕ, ℤ, Some, List, [], length, slice_index_or};
+ghost use Rattle.std.specs.Prelude.{◌≡◌, ◌+◌, ◌<◌, ◌≤◌, ℕ, ℤ, true, Some, None, List, [], length, slice_index_or};
+ghost use Rattle.dtx_laws.specs.Codeword.{IsCodeword};
+ghost use Rattle.dtx_outer.specs.Inner.{word_at};
 ghost use Rattle.dtx_receiver.specs.Bytes.{bytes_in};
+ghost use Rattle.dtx_receiver.specs.Packets.{is_complete};
 ghost use Rattle.dtx_soft.specs.Softened.{least_cost};
+ghost use Rattle.dtx_acquire.specs.Acquired.{acquired};
 ghost use Rattle.dtx_rounds.specs.Known.{known_bytes, known_word};
 ghost use Rattle.dtx_rounds.specs.Pins.{byte_at_step};
 ghost use Rattle.dtx_rounds.specs.Rounds.{coder_cost, groups_in, heard_of, refined, rounded, rounds_of};
 
 use dtx_acquire::laws::whole_fields_are_acquired;
-use dtx_sizes::{CODERS, SEGMENT};
+use dtx_sizes::{CODERS, CODEWORD, PACKET_DATA, SEGMENT};
 use dtx_soft::MAX_SCALE;
 
 /// The bytes whose pairs are sent in the first data symbols of the first five segments of a field.
@@ -29,6 +33,24 @@ pub fn what_is_known_stays()
     ensures capture { (scale r n k : ℕ) (symbols : List ℤ) (code : List ℕ) → 0 < scale → scale ≤ MAX_SCALE
         → known_word (bytes_in (refined scale symbols r)) k ≡ Some code
         → known_word (bytes_in (refined scale symbols (r + n))) k ≡ Some code }
+{
+    whole_fields_are_acquired();
+}
+
+/// Where no byte of a word is put right that is known of the acquired segments, rounds leave these as they are. So do
+/// they where all words whose bytes are there are codewords, as those of a stream are, and where no word is known.
+pub fn rounds_move_what_is_put_right()
+    ensures own { (scale r : ℕ) (symbols : List ℤ) → 0 < scale → scale ≤ MAX_SCALE
+        → ((k : ℕ) (code : List ℕ) → known_word (bytes_in (acquired scale symbols)) k ≡ Some code
+        → code ≡ word_at 207 52 4 (bytes_in (acquired scale symbols)) k)
+        → refined scale symbols r ≡ acquired scale symbols }
+    ensures codewords { (scale r : ℕ) (symbols : List ℤ) → 0 < scale → scale ≤ MAX_SCALE
+        → ((k : ℕ) → is_complete (length (bytes_in (acquired scale symbols))) k ≡ true
+        → IsCodeword CODEWORD PACKET_DATA (word_at 207 52 4 (bytes_in (acquired scale symbols)) k))
+        → refined scale symbols r ≡ acquired scale symbols }
+    ensures none { (scale r : ℕ) (symbols : List ℤ) → 0 < scale → scale ≤ MAX_SCALE
+        → ((k : ℕ) → known_word (bytes_in (acquired scale symbols)) k ≡ None)
+        → refined scale symbols r ≡ acquired scale symbols }
 {
     whole_fields_are_acquired();
 }
