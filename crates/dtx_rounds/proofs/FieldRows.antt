@@ -1,10 +1,10 @@
 -- The data segments of each field of a capture: those that are acquired, by those that were received.
-use Rattle.std.proofs.Common.{◌≡◌, ℕ, ℤ, zero, suc, ◌+◌, ◌-◌, ◌*◌, ◌/◌, ◌<◌, ◌≤◌, ◌⊎◌, inl, inr, min, List, [], ◌∷◌}
-use Rattle.std.proofs.Common.{◌++◌, length, map, take, drop, refl, sym, ap, ap₂, ◌∙◌, subst, arith}
+use Rattle.std.proofs.Common.{◌≡◌, ℕ, ℤ, zero, suc, ◌+◌, ◌-◌, ◌*◌, ◌/◌, ◌≤◌, ◌⊎◌, inl, inr, min, List, [], ◌∷◌, ◌++◌}
+use Rattle.std.proofs.Common.{length, map, take, drop, refl, sym, ap, ap₂, ◌∙◌, subst, arith}
 use Rattle.std.specs.List.{flat_map}
 use Rattle.std.proofs.Math.Seq.{drop-append-add}
-use Rattle.std.proofs.lemmas.List.{append-nil, length-append, length-drop, length-map, length-take-le}
-use Rattle.std.proofs.lemmas.List.{map-append, take_all, take_at}
+use Rattle.std.proofs.lemmas.List.{append-nil, length-append, length-drop, length-map, length-take-le, map-append}
+use Rattle.std.proofs.lemmas.List.{take_all, take_at}
 use Rattle.dtx_soft.specs.Softened.{softened}
 use Rattle.dtx_soft.proofs.SoftenedLemmas.{softened_found}
 use Rattle.dtx_acquire.specs.Acquired.{Field, acquired, all_fields, behind_groups, in_groups, restored, restored_data}
@@ -183,8 +183,13 @@ groups_of_fields scale f (x ∷ xs) h = by_segments x.segments refl (λ g. group
             let none : length made ≡ 0 = ap (λ ys. length (flat_map (λ field. restored scale field.segments) ys)) l.1 in
             let none_heard : length (Heard xs) ≡ 0 = ap (λ ys. length (Heard ys)) l.1 in
             past scale (suc f) (restored scale (sync ∷ rows) ++ made) ((sync ∷ rows) ++ Heard xs)
-            (omega (arith, length-append (restored scale (sync ∷ rows)) made, none, l.0,
-            length-restored scale (sync ∷ rows)))
+            (omega (
+              arith,
+              length-append (restored scale (sync ∷ rows)) made,
+              none,
+              l.0,
+              length-restored scale (sync ∷ rows),
+            ))
             (omega (arith, length-append (sync ∷ rows) (Heard xs), none_heard, l.0))
 
 pub acquired_groups : (scale f : ℕ) (symbols : List ℤ) → AreFields (all_fields symbols)

@@ -1,13 +1,11 @@
 -- What is known stays known in the next round: its bytes are pinned, but for the first X2 of a coder in a field, which
 -- is a bit of byte 0 of a word.
-use Rattle.std.proofs.Common.{◌≡◌, ℕ, ℤ, zero, suc, ◌+◌, ◌-◌, ◌*◌, ◌/◌, ◌%◌, ◌^◌, ◌<◌, ◌≤◌, ◌==◌, Bool, true, false}
-use Rattle.std.proofs.Common.{cond, Option, Some, None}
-use Rattle.std.proofs.Common.{option_map, unwrap_or, List, [], ◌∷◌, length, map, get_or, refl, sym, ap, ap₂, ◌∙◌}
-use Rattle.std.proofs.Common.{subst, arith}
+use Rattle.std.proofs.Common.{◌≡◌, ℕ, ℤ, suc, ◌+◌, ◌-◌, ◌*◌, ◌/◌, ◌%◌, ◌^◌, ◌<◌, ◌≤◌, ◌==◌, Bool, true, false, cond}
+use Rattle.std.proofs.Common.{Option, Some, None, option_map, unwrap_or, List, [], ◌∷◌, length, map, get_or, sym, ap}
+use Rattle.std.proofs.Common.{ap₂, ◌∙◌, subst, arith}
 use Rattle.std.specs.List.{range_with_len}
 use Rattle.std.proofs.lemmas.List.{ext_get_or, get_or-map}
 use Rattle.std.proofs.lemmas.List.FromFn.{get_or-map-range_with_len, length-map-range_with_len}
-use Rattle.dtx_galois.specs.Field.{AreBytes}
 use Rattle.dtx_laws.specs.Codeword.{IsCorrection, distance}
 use Rattle.dtx_laws.proofs.ChoiceLemmas.{correction_only}
 use Rattle.dtx_laws.proofs.PartsLemmas.{byte_at}
@@ -21,7 +19,7 @@ use Rattle.dtx_slice.proofs.PlacesLemmas.{precoder_bit_next}
 use Rattle.dtx_soft.proofs.SoftenedLemmas.{length-coder}
 use Rattle.dtx_receiver.specs.Bytes.{bytes_in, first_bits, groups_of, levels_in}
 use Rattle.dtx_receiver.specs.Packets.{is_complete}
-use Rattle.dtx_pins.specs.Pins.{Agrees, TellsPair, coder_pins, pin_at, x1_told, x2_told}
+use Rattle.dtx_pins.specs.Pins.{TellsPair, coder_pins, pin_at, x1_told, x2_told}
 use Rattle.dtx_rounds.specs.Known.{known_bytes, known_word}
 use Rattle.dtx_rounds.specs.Pins.{field_pins, known_pin}
 use Rattle.dtx_rounds.specs.Rounds.{groups_in, pins_in}
@@ -29,7 +27,7 @@ use Rattle.dtx_rounds.proofs.KnownLemmas.{IsKnown, known_at, known_correction, k
 use Rattle.dtx_rounds.proofs.RoundLevels.{HasPaths, after, after_long, groups_after, level_after, levels_of}
 use Rattle.dtx_rounds.proofs.RoundLevels.{place_in_groups, same_groups}
 use Rattle.dtx_rounds.proofs.RunLevels.{AreLong, byte_in, length-bytes}
-use Rattle.dtx_rounds.proofs.StepPlaces.{field_of_segment, later_step, segment_in_field, step_byte, step_pair}
+use Rattle.dtx_rounds.proofs.StepPlaces.{field_of_segment, later_step, step_byte, step_pair}
 
 -- ---- pins
 
@@ -153,8 +151,8 @@ unfolding byte_back
 byte_kept scale heard given known paths bits n b is l some e small =
     ap₂ (λ (x y : ℕ). x + y)
     (ap₂ (λ (x y : ℕ). x + y)
-    (ap₂ (λ (x y : ℕ). 64 * x + 16 * y) (ap (λ t. pair_back 0 bits levels t (coder_of 0 n)) first ∙ pair 0 (omega arith))
-    (pair 1 (omega arith)))
+    (ap₂ (λ (x y : ℕ). 64 * x + 16 * y)
+    (ap (λ t. pair_back 0 bits levels t (coder_of 0 n)) first ∙ pair 0 (omega arith)) (pair 1 (omega arith)))
     (ap (λ x. 4 * x) (pair 2 (omega arith))))
     (pair 3 (omega arith))
     ∙ pairs_join b small
@@ -170,8 +168,8 @@ byte_kept scale heard given known paths bits n b is l some e small =
 
     pair : (i : ℕ) → i < 4 → pair_back 0 bits levels (4 * (n / 12) + i) (coder_of 0 n) ≡ part b i
     pair i m =
-        pair_told scale heard given known paths bits (4 * (n / 12) + i) (coder_of 0 n) (part b i) (coder_of_small 0 n) is
-        (step_within n i (groups_of given) m l) (later_in_field n i m some) (pin_is known n i b m e) (part_small i)
+        pair_told scale heard given known paths bits (4 * (n / 12) + i) (coder_of 0 n) (part b i)
+        (coder_of_small 0 n) is (step_within n i (groups_of given) m l) (later_in_field n i m some) (pin_is known n i b m e) (part_small i)
 
 -- ---- words
 

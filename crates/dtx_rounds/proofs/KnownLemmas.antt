@@ -1,13 +1,12 @@
 -- Which words and bytes of a run are known.
 use Rattle.std.proofs.Common.{◌≡◌, ℕ, ◌+◌, ◌-◌, ◌*◌, ◌/◌, ◌%◌, ◌<◌, ◌≤◌, nat_le, Bool, true, false, cond, Option}
-use Rattle.std.proofs.Common.{Some, None}
-use Rattle.std.proofs.Common.{option_map, List, length, get_or, refl, sym, ap, ap₂, ◌∙◌, subst, arith}
+use Rattle.std.proofs.Common.{Some, None, option_map, List, length, get_or, refl, ap, ap₂, ◌∙◌, arith}
 use Rattle.std.proofs.lemmas.Bool.{cond-true, le-leb}
 use Rattle.std.proofs.lemmas.List.FromFn.{get_or-map-range_with_len}
 use Rattle.dtx_laws.specs.Codeword.{IsCorrection}
 use Rattle.dtx_laws.specs.Words.{correction}
 use Rattle.dtx_laws.proofs.ChoiceLemmas.{correction_is}
-use Rattle.dtx_outer.specs.Inner.{IsComplete, codeword_byte_place, word_at}
+use Rattle.dtx_outer.specs.Inner.{codeword_byte_place, word_at}
 use Rattle.dtx_receiver.specs.Packets.{is_complete}
 use Rattle.dtx_receiver.proofs.CompleteLemmas.{complete_told}
 use Rattle.dtx_rounds.specs.Known.{known_byte, known_bytes, known_code_byte, known_word}

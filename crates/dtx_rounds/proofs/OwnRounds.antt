@@ -1,11 +1,10 @@
 -- Where no byte of a known word is put right, the pins are pairs of the paths themselves. So these stay the least ones.
-use Rattle.std.proofs.Common.{◌≡◌, ℕ, ℤ, pos, zero, suc, ◌+◌, ◌-◌, ◌*◌, ◌/◌, ◌%◌, ◌^◌, ◌<◌, ◌≤◌, ◌⊎◌, inl, inr, min}
-use Rattle.std.proofs.Common.{nat_le, nat_lt, Bool, true, false, cond, Option, Some, None, option_map, unwrap_or, List, []}
-use Rattle.std.proofs.Common.{◌∷◌, ◌++◌, length, map, take, drop, get_or, refl, sym, ap, ap₂, ◌∙◌, subst, arith}
-use Rattle.std.specs.List.{range_with_len}
+use Rattle.std.proofs.Common.{◌≡◌, ℕ, ℤ, pos, zero, suc, ◌+◌, ◌-◌, ◌*◌, ◌/◌, ◌%◌, ◌<◌, ◌≤◌, ◌⊎◌, inl, inr, min}
+use Rattle.std.proofs.Common.{nat_le, nat_lt, Bool, true, false, cond, Option, Some, None, option_map, unwrap_or}
+use Rattle.std.proofs.Common.{List, [], ◌++◌, length, map, take, drop, get_or, refl, sym, ap, ap₂, ◌∙◌, subst, arith}
 use Rattle.std.proofs.lemmas.Bool.{cases_Bool, cases_lt, cond-false, cond-true, leb-true}
-use Rattle.std.proofs.lemmas.List.{get_or-append_right, get_or-drop, get_or-map, get_or-take, get_or_past, length-drop}
-use Rattle.std.proofs.lemmas.List.{length-map, length-take, take_at}
+use Rattle.std.proofs.lemmas.List.{get_or-append_right, get_or-drop, get_or-map, get_or-take, get_or_past}
+use Rattle.std.proofs.lemmas.List.{length-drop, length-take, take_at}
 use Rattle.std.proofs.lemmas.List.FromFn.{fill_by_all, get_or-map-range_with_len, length-map-range_with_len}
 use Rattle.dtx_lists.proofs.Range.{map-range_same}
 use Rattle.dtx_outer.specs.Inner.{word_at}
@@ -25,8 +24,8 @@ use Rattle.dtx_receiver.specs.Bytes.{bytes_in, data_at, data_count, first_bits, 
 use Rattle.dtx_acquire.specs.Acquired.{in_groups, restored_data}
 use Rattle.dtx_acquire.specs.Scaled.{decided}
 use Rattle.dtx_acquire.specs.Sent.{groups_behind}
-use Rattle.dtx_pins.specs.LeastPinned.{IsLeastPinned, least_pinned_levels}
-use Rattle.dtx_pins.specs.Pins.{Agrees, TellsPair, coder_pins, pin_at, x1_told, x2_told}
+use Rattle.dtx_pins.specs.LeastPinned.{least_pinned_levels}
+use Rattle.dtx_pins.specs.Pins.{Agrees, coder_pins, pin_at, x1_told, x2_told}
 use Rattle.dtx_pins.specs.PinnedField.{pinned, pinned_segment, pinned_symbol, pinned_symbols}
 use Rattle.dtx_pins.proofs.LeastPinnedLemmas.{least_pinned_is}
 use Rattle.dtx_rounds.specs.Known.{known_byte, known_bytes, known_code_byte, known_word}
@@ -34,8 +33,8 @@ use Rattle.dtx_rounds.specs.Pins.{byte_at_step, known_pin}
 use Rattle.dtx_rounds.specs.Rounds.{groups_in, in_whole_group, paths_in, pins_in, round_segment, rounded}
 use Rattle.dtx_rounds.proofs.Growing.{length-known, none_some}
 use Rattle.dtx_rounds.proofs.Kept.{field_pin, part}
-use Rattle.dtx_rounds.proofs.RoundLevels.{in_whole_room, in_whole_some, length-groups, level_by, path_small, place_in_groups}
-use Rattle.dtx_rounds.proofs.RoundLevels.{same_groups, step_there}
+use Rattle.dtx_rounds.proofs.RoundLevels.{in_whole_room, in_whole_some, length-groups, level_by, path_small}
+use Rattle.dtx_rounds.proofs.RoundLevels.{place_in_groups, same_groups, step_there}
 use Rattle.dtx_rounds.proofs.RunLevels.{AreLong, byte_in, length-bytes}
 use Rattle.dtx_rounds.proofs.StepPlaces.{byte_coder, byte_step, field_of_segment, place_in}
 
@@ -185,7 +184,8 @@ byte_part bits levels n i l = by_part i l
     r : ℕ
     r = 4 * (n / 12)
 
-    by_part : (i : ℕ) → i < 4 → part (64 * pair r + 16 * pair (r + 1) + 4 * pair (r + 2) + pair (r + 3)) i ≡ pair (r + i)
+    by_part : (i : ℕ) → i < 4
+        → part (64 * pair r + 16 * pair (r + 1) + 4 * pair (r + 2) + pair (r + 3)) i ≡ pair (r + i)
     by_part zero m =
         let same : r ≡ r + 0 = omega arith in
         first (pair r) (pair (r + 1)) (pair (r + 2)) (pair (r + 3)) (small r) (small (r + 1)) (small (r + 2))
@@ -283,7 +283,8 @@ has_byte bytes e t l = by_entry (get_or (known_bytes bytes) n None) refl (cases_
       pair = ap (λ o. unwrap_or (option_map (λ byte. pair_in byte (t % 276)) o) 4) h;
     }
     by_entry (Some b) h (inr place) m =
-        absurd (none_some b (sym (get_or_past (known_bytes bytes) n None (omega (arith, place, length-known bytes))) ∙ h))
+        absurd (none_some b
+        (sym (get_or_past (known_bytes bytes) n None (omega (arith, place, length-known bytes))) ∙ h))
 
 -- ---- the paths stay the least ones
 
@@ -300,7 +301,8 @@ own_agrees scale heard given f e l is own t m p = record {
   x2 = λ some. (let first = before some in omega (arith, pair_is, now, first));
 }
   where
-    found : IsLeast scale (coder_symbols (groups_in heard f) e) (least_start scale (coder_symbols (groups_in heard f) e))
+    found : IsLeast scale (coder_symbols (groups_in heard f) e)
+        (least_start scale (coder_symbols (groups_in heard f) e))
         (least_levels scale (coder_symbols (groups_in heard f) e))
     found = least_path_found scale (coder_symbols (groups_in heard f) e)
 
@@ -375,19 +377,22 @@ own_least scale heard given f e l is own =
       first = λ state others a b c d. found.first state others a b c;
     }))
   where
-    found : IsLeast scale (coder_symbols (groups_in heard f) e) (least_start scale (coder_symbols (groups_in heard f) e))
+    found : IsLeast scale (coder_symbols (groups_in heard f) e)
+        (least_start scale (coder_symbols (groups_in heard f) e))
         (least_levels scale (coder_symbols (groups_in heard f) e))
     found = least_path_found scale (coder_symbols (groups_in heard f) e)
 
 own_paths : (scale : ℕ) (heard given : List (List ℤ)) (f : ℕ) → AreDecided scale heard given
     → NoneIsPutRight (bytes_in given)
     → paths_in scale heard (known_bytes (bytes_in given)) f ≡ softened scale (groups_in heard f)
-unfolding paths_in pinned pinned_segment pinned_symbol pinned_symbols softened softened_segment softened_symbol least_symbols
+unfolding paths_in pinned pinned_segment pinned_symbol pinned_symbols softened softened_segment softened_symbol
+    least_symbols
 own_paths scale heard given f is own =
     map-range_same (pinned_segment scale pins rows) (softened_segment scale rows) 0 (length rows)
     (λ i a b. map-range_same (λ k. cond (nat_lt k 4) (get_or (get_or rows i []) k (pos 0))
     (pinned_symbol scale pins rows (828 * i + (k - 4))))
-    (λ k. cond (nat_lt k 4) (get_or (get_or rows i []) k (pos 0)) (softened_symbol scale rows (828 * i + (k - 4)))) 0 832
+    (λ k. cond (nat_lt k 4) (get_or (get_or rows i []) k (pos 0))
+    (softened_symbol scale rows (828 * i + (k - 4)))) 0 832
     (λ k c d. ap (cond (nat_lt k 4) (get_or (get_or rows i []) k (pos 0))) (symbol (828 * i + (k - 4)))))
   where
     rows : List (List ℤ)

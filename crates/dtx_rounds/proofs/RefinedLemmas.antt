@@ -1,10 +1,10 @@
 -- Rounds over a capture: their segments are whole, what is known stays known, and costs rise.
-use Rattle.std.proofs.Common.{◌≡◌, ℕ, ℤ, zero, suc, ◌+◌, ◌-◌, ◌*◌, ◌/◌, ◌<◌, ◌≤◌, Some, List, [], ◌∷◌, ◌++◌, length, map}
+use Rattle.std.proofs.Common.{◌≡◌, ℕ, ℤ, zero, suc, ◌+◌, ◌-◌, ◌*◌, ◌/◌, ◌<◌, ◌≤◌, Some, List, [], ◌∷◌, ◌++◌, length}
 use Rattle.std.proofs.Common.{take, drop, refl, sym, ap, ap₂, ◌∙◌, subst, arith}
 use Rattle.std.specs.List.{flat_map}
 use Rattle.std.proofs.lemmas.List.{length-append, length-drop, length-map, length-take-le}
 use Rattle.dtx_receiver.specs.Bytes.{bytes_in, groups_of}
-use Rattle.dtx_soft.specs.Softened.{least_cost, softened}
+use Rattle.dtx_soft.specs.Softened.{softened}
 use Rattle.dtx_soft.proofs.SoftenedLemmas.{softened_found}
 use Rattle.dtx_acquire.specs.Acquired.{Field, acquired, all_fields, behind_groups, in_groups, restored, restored_data}
 use Rattle.dtx_acquire.specs.Acquired.{restored_field, restored_of}
@@ -12,10 +12,10 @@ use Rattle.dtx_acquire.specs.Sent.{AreInFields}
 use Rattle.dtx_acquire.proofs.SentLemmas.{row_long}
 use Rattle.dtx_rounds.specs.Known.{known_bytes, known_word}
 use Rattle.dtx_rounds.specs.Rounds.{coder_cost, groups_in, heard_of, paths_in, pins_in, refined, rounded, rounds_of}
-use Rattle.dtx_rounds.proofs.Growing.{Stays, known_costs_more, more_known_costs_more}
+use Rattle.dtx_rounds.proofs.Growing.{more_known_costs_more}
 use Rattle.dtx_rounds.proofs.Kept.{word_kept}
 use Rattle.dtx_rounds.proofs.PinnedRows.{pinned_found}
-use Rattle.dtx_rounds.proofs.RoundLevels.{HasPaths, after, after_long, groups_after, length-after}
+use Rattle.dtx_rounds.proofs.RoundLevels.{HasPaths, after_long, groups_after, length-after}
 use Rattle.dtx_rounds.proofs.RoundsLemmas.{refined_next}
 use Rattle.dtx_rounds.proofs.RunLevels.{AreLong, length-bytes}
 

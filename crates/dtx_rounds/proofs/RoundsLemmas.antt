@@ -1,5 +1,5 @@
 -- Rounds one behind the other.
-use Rattle.std.proofs.Common.{◌≡◌, ℕ, zero, suc, ℤ, ◌+◌, List, refl, sym, ap, ◌∙◌, arith, subst}
+use Rattle.std.proofs.Common.{◌≡◌, ℕ, zero, suc, ℤ, ◌+◌, List, refl, sym, ap, ◌∙◌, arith}
 use Rattle.dtx_acquire.specs.Acquired.{acquired}
 use Rattle.dtx_rounds.specs.Rounds.{heard_of, refined, rounded, rounds_of}
 

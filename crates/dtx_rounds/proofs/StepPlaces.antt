@@ -1,5 +1,5 @@
 -- Where a coder's symbols and bytes stand in a run, step by step. A field has 312 data segments, so 21528 steps.
-use Rattle.std.proofs.Common.{◌≡◌, ℕ, ◌+◌, ◌-◌, ◌*◌, ◌/◌, ◌%◌, ◌<◌, ◌≤◌, ◌≢◌, refl, sym, ap, ◌∙◌, arith}
+use Rattle.std.proofs.Common.{◌≡◌, ℕ, ◌+◌, ◌-◌, ◌*◌, ◌/◌, ◌%◌, ◌<◌, ◌≤◌, refl, arith}
 use Rattle.dtx_slice.specs.Unrolled.{coder_of, symbol_place}
 use Rattle.dtx_trellis.specs.Pairs.{byte_place, group_place}
 use Rattle.dtx_rounds.specs.Pins.{byte_at_step}

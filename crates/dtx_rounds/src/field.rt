@@ -1,5 +1,7 @@
 //! A field of a capture on its way through the rounds.
 
+ghost use Rattle.std.specs.Prelude.{◌≡◌, ◌+◌, ◌*◌, ◌/◌, ◌<◌, ◌≤◌, length, vec_len};
+
 use dtx_sizes::{CODEWORD, FIELD_PACKETS, FIELD_SEGMENTS, GROUP_PACKETS, SEGMENT};
 use std::alloc::{AllocError, Global};
 
@@ -30,6 +32,10 @@ pub struct Field {
     pub(crate) knows_more: bool,
     /// In how many symbols the last round's segments differ from those of the round before.
     pub(crate) moved: u64,
+    ghost few: { count ≤ 313 },
+    ghost heard_long: { vec_len heard ≡ 313 },
+    ghost decided_long: { vec_len decided ≡ 313 },
+    ghost known_long: { vec_len known ≡ 64584 },
 }
 
 impl Field {
@@ -49,7 +55,10 @@ impl Field {
 
     /// Sets the segments: `heard` has the symbols as they were received, `decided` those that were decided, by paths
     /// that cost so much. Nothing is known.
-    pub fn set(&mut self, heard: &[[i8; SEGMENT]], decided: &[[i8; SEGMENT]], cost: u64) {
+    pub fn set(&mut self, heard: &[[i8; SEGMENT]], decided: &[[i8; SEGMENT]], cost: u64)
+        requires few { length heard.now ≤ SEGMENTS }
+        requires same { length decided.now ≡ length heard.now }
+    {
         self.clear();
         self.count = heard.len();
         self.heard[..heard.len()].copy_from_slice(heard);
@@ -75,12 +84,18 @@ impl Field {
     }
 
     /// How many data segments are in whole groups.
-    pub(crate) fn in_groups(&self) -> usize {
+    pub(crate) fn in_groups(&self) -> usize
+        ensures few { result ≤ WORDS }
+        ensures whole { result ≡ 4 * (result / 4) }
+        ensures room { 0 < self.now.count → result < self.now.count }
+    {
         self.count.saturating_sub(1) / GROUP_PACKETS * GROUP_PACKETS
     }
 
     /// How many of the words that begin in this field are known.
-    pub(crate) fn known_words(&self) -> u64 {
+    pub(crate) fn known_words(&self) -> u64
+        ensures { result ≤ WORDS }
+    {
         let mut count = 0;
         for k in 0..WORDS {
             if self.words[k] {

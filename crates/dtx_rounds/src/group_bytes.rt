@@ -1,5 +1,7 @@
 //! The bytes of a field's decided segments.
 
+ghost use Rattle.std.specs.Prelude.{◌≡◌, ◌<◌, EachIndex, IfOk, length, slice_index, vec_len};
+
 use crate::field::{Field, WORDS};
 use dtx_sizes::{GROUP_BYTES, GROUP_LEVELS, GROUP_PACKETS, SEGMENT};
 use dtx_slice::{Unroll, last_levels, put_levels};
@@ -13,6 +15,7 @@ pub(crate) const GROUPS: usize = WORDS / GROUP_PACKETS;
 pub(crate) struct GroupBytes {
     unroll: Unroll,
     levels: [u8; GROUP_LEVELS],
+    ghost small: { EachIndex levels (λ d. slice_index levels d < 8) },
 }
 
 impl GroupBytes {
@@ -29,10 +32,16 @@ impl GroupBytes {
     }
 
     /// Writes the bytes of the groups of the run's next field.
-    pub(crate) fn write(&mut self, field: &Field, bytes: &mut [[u8; GROUP_BYTES]]) {
+    pub(crate) fn write(&mut self, field: &Field, bytes: &mut [[u8; GROUP_BYTES]])
+        requires { length bytes.old ≡ GROUPS }
+    {
         for g in 0..field.in_groups() / GROUP_PACKETS {
             for i in 0..GROUP_PACKETS {
-                put_levels(&field.decided[1 + GROUP_PACKETS * g + i], i, &mut self.levels);
+                put_levels(
+                    &field.decided[1 + GROUP_PACKETS * g + i],
+                    i,
+                    &mut self.levels,
+                );
             }
             self.unroll
                 .group((GROUP_PACKETS * g) as u16, &self.levels, &mut bytes[g]);
@@ -41,6 +50,8 @@ impl GroupBytes {
 }
 
 /// Room for the bytes of a field. The only error is out of memory.
-pub(crate) fn empty_bytes(alloc: Global) -> Result<Vec<[u8; GROUP_BYTES]>, AllocError> {
+pub(crate) fn empty_bytes(alloc: Global) -> Result<Vec<[u8; GROUP_BYTES]>, AllocError>
+    ensures { IfOk result (λ bytes. vec_len bytes ≡ GROUPS) }
+{
     vec![in alloc; [0u8; GROUP_BYTES]; GROUPS]
 }

@@ -6,6 +6,7 @@ mod group_bytes;
 pub mod laws;
 mod means;
 mod pinning;
+mod pins;
 mod round;
 mod rounds;
 mod words;

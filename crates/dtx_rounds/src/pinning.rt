@@ -2,8 +2,8 @@
 
 use crate::field::Field;
 use crate::means::Means;
-use dtx_pins::NO_PIN;
-use dtx_sizes::{CODER_BYTES, CODERS, GROUP_BYTES, GROUP_PACKETS, ROUNDS, SEGMENT, SEGMENT_ROUNDS, SEGMENT_SYNC};
+use crate::pins::put_pins;
+use dtx_sizes::{GROUP_PACKETS, SEGMENT, SEGMENT_ROUNDS, SEGMENT_SYNC};
 
 /// Decides the symbols of a field anew, where more is known of it than before.
 pub(crate) fn decide(means: &mut Means, field: &mut Field) {
@@ -21,33 +21,6 @@ pub(crate) fn decide(means: &mut Means, field: &mut Field) {
     );
     for i in 0..count {
         field.moved += move_symbols(means.scale, &means.segments[i], &mut field.decided[1 + i]);
-    }
-}
-
-/// Writes the pins of a field's groups.
-fn put_pins(known: &[Option<u8>], groups: usize, pins: &mut [[u8; CODERS]]) {
-    for g in 0..groups {
-        for h in 0..CODER_BYTES {
-            put_row(
-                &known[GROUP_BYTES * g + CODERS * h..GROUP_BYTES * g + CODERS * h + CODERS],
-                4 * ((GROUP_PACKETS * g + 4 * h / SEGMENT_ROUNDS) % 3),
-                &mut pins[ROUNDS * g + 4 * h..ROUNDS * g + 4 * h + 4],
-            );
-        }
-    }
-}
-
-/// Writes the pins of twelve bytes, of which the first is that of coder `turn`.
-fn put_row(known: &[Option<u8>], turn: usize, pins: &mut [[u8; CODERS]]) {
-    for p in 0..CODERS {
-        let e = (p + turn) % CODERS;
-        let row = match known[p] {
-            None => [NO_PIN; 4],
-            Some(byte) => [byte / 64, byte / 16 % 4, byte / 4 % 4, byte % 4],
-        };
-        for i in 0..4 {
-            pins[i][e] = row[i];
-        }
     }
 }
 

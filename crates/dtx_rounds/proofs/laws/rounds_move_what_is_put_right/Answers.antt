@@ -1,4 +1,4 @@
-use Rattle.std.proofs.Common.{◌≡◌, ℕ, ℤ, Option, Some, None, List, arith, sym, ◌∙◌}
+use Rattle.std.proofs.Common.{arith, sym, ◌∙◌}
 use Rattle.dtx_receiver.specs.Bytes.{bytes_in}
 use Rattle.dtx_acquire.specs.Acquired.{acquired, all_fields}
 use Rattle.dtx_rounds.proofs.FieldRows.{are_fields}
