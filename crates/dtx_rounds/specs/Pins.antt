@@ -7,11 +7,13 @@ use Rattle.dtx_trellis.specs.Pairs.{byte_place, group_place, pair_in}
 unfoldable pub byte_at_step : ℕ → ℕ → ℕ
 byte_at_step e t = 828 * (t / 276) + byte_place (group_place 0 (t / 276)) (t % 276) e
 
--- The pin of coder e at step t of a run: the pair of the known byte there. Where none is known it is 4, which says
--- nothing.
+-- the pin of a byte's pair in round r of a group; where the byte isn't known it is 4, which says nothing
+abbrev pub pin_of : Option ℕ → ℕ → ℕ
+pin_of byte r = unwrap_or (option_map (λ byte. pair_in byte r) byte) 4
+
+-- the pin of coder e at step t of a run: that of the known byte there
 unfoldable pub known_pin : List (Option ℕ) → ℕ → ℕ → ℕ
-known_pin known e t =
-    unwrap_or (option_map (λ byte. pair_in byte (t % 276)) (slice_index_or known (byte_at_step e t) None)) 4
+known_pin known e t = pin_of (slice_index_or known (byte_at_step e t) None) (t % 276)
 
 -- The pins of the first n steps of field f of a run, an entry for each step and in it a pin for each coder. A whole
 -- field has 21528 steps.

@@ -60,9 +60,9 @@ impl Field {
         requires same { length decided.now ≡ length heard.now }
     {
         self.clear();
+        copy(heard, &mut self.heard[..]);
+        copy(decided, &mut self.decided[..]);
         self.count = heard.len();
-        self.heard[..heard.len()].copy_from_slice(heard);
-        self.decided[..heard.len()].copy_from_slice(decided);
         self.cost = cost;
     }
 
@@ -104,4 +104,12 @@ impl Field {
         }
         count
     }
+}
+
+/// Copies segments to the front of others.
+fn copy(from: &[[i8; SEGMENT]], to: &mut [[i8; SEGMENT]])
+    requires { length from.now ≤ length to.old }
+    ensures { length to.new ≡ length to.old }
+{
+    to[..from.len()].copy_from_slice(from);
 }

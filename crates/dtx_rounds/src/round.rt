@@ -1,11 +1,12 @@
 //! One round, which is a field behind the one before it.
 
 use crate::field::Field;
-use crate::group_bytes::{GroupBytes, empty_bytes};
+use crate::group_bytes::{empty_bytes, write_bytes};
 use crate::means::Means;
 use crate::pinning::decide;
 use crate::words::find_words;
 use dtx_sizes::GROUP_BYTES;
+use dtx_slice::{Unroll, last_levels};
 use std::alloc::{AllocError, Global};
 
 /// A round over the fields of a run. It holds one field, since words that begin in a field end in the next one.
@@ -18,7 +19,7 @@ pub(crate) struct Round {
     bytes: Vec<[u8; GROUP_BYTES]>,
     /// Room for those of the next field.
     behind: Vec<[u8; GROUP_BYTES]>,
-    group_bytes: GroupBytes,
+    unroll: Unroll,
 }
 
 impl Round {
@@ -29,7 +30,7 @@ impl Round {
             held: Field::new(alloc)?,
             bytes: empty_bytes(alloc)?,
             behind: empty_bytes(alloc)?,
-            group_bytes: GroupBytes::new(),
+            unroll: Unroll::new(),
         })
     }
 
@@ -38,9 +39,9 @@ impl Round {
     pub(crate) fn take(&mut self, means: &mut Means, field: &mut Field) -> bool {
         let had = self.on;
         if !had {
-            self.group_bytes.begin(&field.decided[0]);
+            self.unroll.start(&last_levels(&field.decided[0]));
         }
-        self.group_bytes.write(field, &mut self.behind[..]);
+        write_bytes(&mut self.unroll, field, &mut self.behind[..]);
         if had {
             self.turn(means, field);
         }

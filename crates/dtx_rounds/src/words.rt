@@ -1,6 +1,6 @@
 //! The words that begin in a field: those that are put right are known from then on.
 
-ghost use Rattle.std.specs.Prelude.{◌≡◌, ◌≢◌, ℕ, ◌+◌, ◌*◌, ◌<◌, ◌++◌, ◌↔◌, IsTrue, Some, None};
+ghost use Rattle.std.specs.Prelude.{◌≡◌, ◌≢◌, ℕ, ◌+◌, ◌*◌, ◌<◌, ◌≤◌, ◌++◌, ◌↔◌, IsTrue, Some, None};
 ghost use Rattle.std.specs.Prelude.{length, slice_index, slice_index_or, slice_set};
 ghost use Rattle.dtx_outer.specs.Inner.{IsComplete, codeword_byte_place, word_at};
 
@@ -20,32 +20,51 @@ pub(crate) fn find_words(
     behind: &[u8],
     field: &mut Field,
     next: &mut Field,
-) {
+)
+    requires bytes { length bytes.now ≡ BYTES }
+    requires behind { length behind.now ≡ BYTES }
+{
     let segments = field.in_groups() + next.in_groups();
     for k in 0..WORDS {
-        if !field.words[k] && is_whole(k, segments) {
-            find_word(corrector, bytes, behind, k, field, next);
+        if !field.words[k] {
+            find_word(corrector, bytes, behind, segments, k, field, next);
         }
     }
 }
 
-/// Puts word k right, if it has a correction, and lays its bytes back to their places.
+/// Puts word k right, if its bytes are among those of so many data segments and it has a correction. Lays the bytes of
+/// the correction back to their places.
 fn find_word(
     corrector: &Corrector,
     bytes: &[u8],
     behind: &[u8],
+    segments: usize,
     k: usize,
     field: &mut Field,
     next: &mut Field,
-) {
-    let mut word = gathered(bytes, behind, k);
-    if corrector.correct(&mut word).is_ok() {
-        lay(&word, k, &mut field.known[..], &mut next.known[..]);
-        field.words[k] = true;
-        field.knows_more = true;
-        if !is_whole(k, WORDS) {
-            next.knows_more = true;
+)
+    requires bytes { length bytes.now ≡ BYTES }
+    requires behind { length behind.now ≡ BYTES }
+    requires most { segments ≤ 2 * WORDS }
+    requires word { k < WORDS }
+{
+    if is_whole(k, segments) {
+        let mut word = gathered(bytes, behind, k);
+        if corrector.correct(&mut word).is_ok() {
+            lay_back(&word, k, field, next);
         }
+    }
+}
+
+/// Lays the bytes of word k back to their places in its field and the next one. The word is known from then on.
+fn lay_back(word: &[u8; CODEWORD], k: usize, field: &mut Field, next: &mut Field)
+    requires { k < WORDS }
+{
+    lay(word, k, &mut field.known[..], &mut next.known[..]);
+    field.words[k] = true;
+    field.knows_more = true;
+    if !is_whole(k, WORDS) {
+        next.knows_more = true;
     }
 }
 
