@@ -169,7 +169,8 @@ byte_kept scale heard given known paths bits n b is l some e small =
     pair : (i : ℕ) → i < 4 → pair_back 0 bits levels (4 * (n / 12) + i) (coder_of 0 n) ≡ part b i
     pair i m =
         pair_told scale heard given known paths bits (4 * (n / 12) + i) (coder_of 0 n) (part b i)
-        (coder_of_small 0 n) is (step_within n i (groups_of given) m l) (later_in_field n i m some) (pin_is known n i b m e) (part_small i)
+        (coder_of_small 0 n) is (step_within n i (groups_of given) m l) (later_in_field n i m some)
+        (pin_is known n i b m e) (part_small i)
 
 -- ---- words
 

@@ -33,7 +33,12 @@ pub(crate) fn write_bytes(unroll: &mut Unroll, field: &Field, bytes: &mut [[u8; 
 }
 
 /// Writes the bytes of a group of four segments, of which the first stands at place `first` of its field.
-fn write_group(unroll: &mut Unroll, first: u16, segments: &[[i8; SEGMENT]], bytes: &mut [u8; GROUP_BYTES])
+fn write_group(
+    unroll: &mut Unroll,
+    first: u16,
+    segments: &[[i8; SEGMENT]],
+    bytes: &mut [u8; GROUP_BYTES],
+)
     requires in_field { first < WORDS }
     requires whole { first % GROUP_PACKETS ≡ 0 }
     requires four { length segments.now ≡ GROUP_PACKETS }

@@ -1,10 +1,13 @@
 //! What all rounds share.
 
+ghost use Rattle.std.specs.Prelude.{◌≡◌, ◌<◌, ◌≤◌, vec_len};
+
 use crate::field::WORDS;
 use crate::words::Corrector;
 use dtx_fast::Fast;
 use dtx_pins::{NO_PIN, Pinned};
 use dtx_sizes::{CODERS, SEGMENT, SEGMENT_ROUNDS};
+use dtx_soft::MAX_SCALE;
 use std::alloc::{AllocError, Global};
 use std::rc::Rc;
 
@@ -16,11 +19,19 @@ pub(crate) struct Means {
     pub(crate) decoder: Pinned,
     pub(crate) pins: Vec<[u8; CODERS]>,
     pub(crate) segments: Vec<[i8; SEGMENT]>,
+    ghost some: { 0 < scale },
+    ghost most: { scale ≤ 18 },
+    ghost decoder_scale: { decoder ≡ scale },
+    ghost pins_long: { vec_len pins ≡ 21528 },
+    ghost segments_long: { vec_len segments ≡ 312 },
 }
 
 impl Means {
     /// The means of rounds at this scale. The only error is out of memory.
-    pub(crate) fn new(alloc: Global, scale: u8) -> Result<Means, AllocError> {
+    pub(crate) fn new(alloc: Global, scale: u8) -> Result<Means, AllocError>
+        requires some { 0 < scale }
+        requires most { scale ≤ MAX_SCALE }
+    {
         Ok(Means {
             scale,
             corrector: Rc::new(alloc, Fast::new())?,

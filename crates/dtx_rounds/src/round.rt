@@ -1,5 +1,7 @@
 //! One round, which is a field behind the one before it.
 
+ghost use Rattle.std.specs.Prelude.{◌≡◌, vec_len};
+
 use crate::field::Field;
 use crate::group_bytes::{empty_bytes, write_bytes};
 use crate::means::Means;
@@ -20,6 +22,8 @@ pub(crate) struct Round {
     /// Room for those of the next field.
     behind: Vec<[u8; GROUP_BYTES]>,
     unroll: Unroll,
+    ghost bytes_long: { vec_len bytes ≡ 78 },
+    ghost behind_long: { vec_len behind ≡ 78 },
 }
 
 impl Round {

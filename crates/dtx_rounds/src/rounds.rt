@@ -1,8 +1,11 @@
 //! Rounds, one behind the other.
 
+ghost use Rattle.std.specs.Prelude.{◌<◌, ◌≤◌};
+
 use crate::field::Field;
 use crate::means::Means;
 use crate::round::Round;
+use dtx_soft::MAX_SCALE;
 use std::alloc::{AllocError, Global};
 
 /// Rounds over the fields of a capture, each a field behind the one before it.
@@ -17,7 +20,10 @@ pub struct Rounds {
 
 impl Rounds {
     /// So many rounds, at this scale. The only error is out of memory.
-    pub fn new(alloc: Global, scale: u8, count: usize) -> Result<Rounds, AllocError> {
+    pub fn new(alloc: Global, scale: u8, count: usize) -> Result<Rounds, AllocError>
+        requires some { 0 < scale }
+        requires most { scale ≤ MAX_SCALE }
+    {
         let mut rounds = Vec::new(alloc);
         for _ in 0..count {
             rounds.push(Round::new(alloc)?)?;

@@ -1,4 +1,4 @@
-use Rattle.std.proofs.Common.{◌≡◌, ℕ, ◌+◌, ◌*◌, ◌<◌, [], get_or, length}
+use Rattle.std.proofs.Common.{◌≡◌, ℕ, ◌*◌, ◌<◌, [], get_or, length}
 use Rattle.dtx_rounds.specs.Pins.{known_pin}
 use Rattle.dtx_rounds.proofs.pins.put_pins.Given as goal
 

@@ -1,6 +1,5 @@
-use Rattle.std.proofs.Common.{◌≡◌, ℕ, ◌+◌, ◌*◌, ◌%◌, ◌<◌, ◌≤◌, ◌⊎◌, inl, inr, ◌==◌, ◌↔◌, IsTrue, true, arith}
+use Rattle.std.proofs.Common.{◌≡◌, ◌+◌, ◌%◌, ◌≤◌, ◌⊎◌, inl, inr, ◌==◌, true, arith}
 use Rattle.std.proofs.lemmas.Bool.{eqb-true, eq-eqb}
-use Rattle.dtx_outer.specs.Inner.{IsComplete}
 use Rattle.dtx_receiver.proofs.CompleteLemmas.{complete_all, complete_only}
 use Rattle.dtx_rounds.proofs.words.is_whole.Goals as goal
 

@@ -1,4 +1,4 @@
-use Rattle.std.proofs.Common.{◌≡◌, ◌+◌, ◌<◌, ◌++◌, Some, sym, arith}
+use Rattle.std.proofs.Common.{Some, sym, arith}
 use Rattle.std.proofs.lemmas.List.{set-append_left, set-append_right}
 use Rattle.dtx_rounds.proofs.words.know.Goals as goal
 

@@ -1,5 +1,5 @@
-use Rattle.std.proofs.Common.{◌≡◌, ◌≢◌, ℕ, ◌+◌, ◌*◌, ◌%◌, ◌<◌, ◌++◌, Option, Some, None, List, length, get_or, set}
-use Rattle.std.proofs.Common.{get_or-set_other, get_or-set_same, arith, below_more, ap, ap₂, sym, ◌∙◌}
+use Rattle.std.proofs.Common.{◌≡◌, ℕ, ◌+◌, ◌*◌, ◌%◌, ◌<◌, ◌++◌, Option, Some, None, List, get_or, set}
+use Rattle.std.proofs.Common.{get_or-set_other, get_or-set_same, arith, below_more, ap, ◌∙◌}
 use Rattle.std.proofs.lemmas.List.{length-append}
 use Rattle.dtx_outer.specs.Inner.{codeword_byte_place}
 use Rattle.dtx_rounds.proofs.words.lay.Goals as goal

@@ -1,4 +1,4 @@
-use Rattle.std.proofs.Common.{◌≡◌, ◌≢◌, ℕ, ◌+◌, ◌*◌, ◌<◌, ◌++◌, Some, None, get_or, length}
+use Rattle.std.proofs.Common.{◌≡◌, ◌≢◌, ℕ, ◌+◌, ◌*◌, ◌<◌, ◌++◌, Some, None, get_or}
 use Rattle.dtx_outer.specs.Inner.{codeword_byte_place}
 use Rattle.dtx_rounds.proofs.words.lay.Given as goal
 
