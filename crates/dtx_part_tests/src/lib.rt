@@ -27,6 +27,8 @@ mod ops;
 #[cfg(test)]
 mod packet;
 #[cfg(test)]
+mod pinned_paths;
+#[cfg(test)]
 mod polynomial;
 #[cfg(test)]
 mod refusals;

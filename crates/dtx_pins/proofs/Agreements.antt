@@ -1,6 +1,7 @@
 -- Paths that agree with pins, level by level.
 use Rattle.std.proofs.Common.{◌≡◌, ℕ, zero, suc, ◌+◌, ◌-◌, ◌*◌, ◌/◌, ◌%◌, ◌<◌, ◌≤◌, ◌⊎◌, inl, inr, Bool, true, false}
-use Rattle.std.proofs.Common.{◌&&◌, ◌||◌, nat_eq, nat_le, List, [], ◌∷◌, length, drop, get_or, refl, sym, ap, ◌∙◌, subst, arith}
+use Rattle.std.proofs.Common.{◌&&◌, ◌||◌, nat_eq, nat_le, List, [], ◌∷◌, length, drop, get_or, refl, sym, ap, ◌∙◌}
+use Rattle.std.proofs.Common.{subst, arith}
 use Rattle.std.proofs.lemmas.Bool.{and_parts, and_from, cases_lt}
 use Rattle.std.proofs.lemmas.Bool.Decides.{nat_tests}
 use Rattle.std.proofs.lemmas.List.{get_or-drop}
@@ -49,7 +50,11 @@ level_before levels t = ap (λ k. get_or levels k 0) (omega arith)
 -- with any former Z2 the levels agree with the pins, since of step 0 X2 isn't told
 pub agrees_all : (former : ℕ) (pins levels : List ℕ) → AgreesFrom former pins levels → Agrees pins levels
 unfolding x1_told x2_told
-agrees_all former pins levels h t l p = record { x1 = x1; x2 = λ some. x2 t (agrees_at former pins levels h t l p) some }
+agrees_all former pins levels h t l p = record {
+  x1 = x1;
+  x2 = λ some. x2 t
+      (agrees_at former pins levels h t l p) some;
+}
   where
     x1 : get_or levels t 0 / 2 % 2 ≡ pin_at pins t % 2
     x1 = (let e = agrees_at former pins levels h t l p in omega (arith, e))

@@ -240,7 +240,8 @@ least_pinned_found scale pins symbols =
 -- ---- more and fewer pins
 
 -- without pins it is the least path
-pub without_pins_is : (scale : ℕ) (pins : List ℕ) (symbols : List ℤ) → ((t : ℕ) → t < length symbols → 4 ≤ pin_at pins t)
+pub without_pins_is : (scale : ℕ) (pins : List ℕ) (symbols : List ℤ) → ((t : ℕ) → t < length symbols
+    → 4 ≤ pin_at pins t)
     → least_pinned_path scale pins symbols ≡ least_path scale symbols
 without_pins_is scale pins symbols none =
     least_pinned_is scale pins symbols (least_start scale symbols) (least_levels scale symbols) pinned_too

@@ -1,3 +1,11 @@
 pub mod Agreements
 pub mod LeastPinnedLemmas
+pub mod PinnedFieldLemmas
 pub mod PinnedPaths
+pub mod PinnedWalks
+pub mod PinnedStarts
+pub mod PinnedTraces
+pub mod FourNumbers
+pub mod FourLanes
+pub mod PinnedSteps
+pub mod Bits

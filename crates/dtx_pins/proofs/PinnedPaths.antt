@@ -32,7 +32,8 @@ pub record IsBestLevel (scale pin : ℕ) (v : ℤ) (behind : List (List ℕ)) (f
   pub first : (y : ℕ) → y < 8 → y % 2 ≡ state / 2 → (pin < 4 → pair_of former y ≡ pin)
       → onto scale v behind state y ≡ onto scale v behind state z → z ≤ y
 
-onto_through : (scale : ℕ) (v : ℤ) (row behind : List (List ℕ)) (state k : ℕ) → IsRow scale v row → state < 4 → k < 4
+pub onto_through : (scale : ℕ) (v : ℤ) (row behind : List (List ℕ)) (state k : ℕ) → IsRow scale v row → state < 4
+    → k < 4
     → onto scale v behind state (level_by state k) ≡ through row behind state k
 onto_through scale v row behind state k h l m =
     ap₂ (λ (x y : ℕ). x + cost_at behind y (next_state state (level_by state k))) (sym (h k m state l).0) (omega arith)

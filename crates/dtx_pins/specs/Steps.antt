@@ -1,5 +1,6 @@
 -- One step of the search under pins: what each level comes to, and which one is taken.
-use Rattle.std.specs.Prelude.{ℕ, ℤ, pos, ◌≡◌, ◌+◌, ◌*◌, ◌/◌, ◌%◌, ◌^◌, ◌<◌, ◌≤◌, ◌-ℤ◌, ◌==◌, nat_le, if◌then◌else◌}
+use Rattle.std.specs.Prelude.{ℕ, ℤ, pos, ◌≡◌, ◌+◌, ◌*◌, ◌/◌, ◌%◌, ◌^◌, ◌<◌, ◌≤◌, ◌-ℤ◌, ◌==◌, nat_le, nat_lt}
+use Rattle.std.specs.Prelude.{if◌then◌else◌}
 use Rattle.std.specs.Prelude.{List, [], length, slice_index, slice_index_or}
 use Rattle.dtx_soft.specs.Paths.{next_state, squared, symbol_at}
 
@@ -30,6 +31,10 @@ pub record IsTable (scale : ℕ) (rows : List (List (List ℕ))) : Type 0 where
 abbrev pub AreSquares : List (List ℕ) → Type 0
 AreSquares row = (k s : ℕ) → k < 4 → s < 4 → slice_index (slice_index_or row k []) s ≤ 64516
 
+-- a bound of four numbers
+abbrev pub AreAtMost : ℕ → List ℕ → Type 0
+AreAtMost bound xs = (s : ℕ) → s < 4 → slice_index xs s ≤ bound
+
 -- a bound of costs
 abbrev pub AreBounded : ℕ → List (List ℕ) → Type 0
 AreBounded bound costs = (p s : ℕ) → p < 2 → s < 4 → cost_at costs p s ≤ bound
@@ -43,15 +48,27 @@ through row behind state k =
 abbrev pub told_number : ℕ → ℕ → ℕ
 told_number pin former = (pin + 2 * former) % 4
 
--- The number that a mark gives. One from 4096 on stands for a pin. In another one bit 8 + s is Z2 of state s, and bit s
--- or bit 4 + s is Z1 of it, where Z2 is 0 or 1.
-abbrev pub free_number : ℕ → ℕ → ℕ
-free_number mark state =
-    if mark / 256 / 2 ^ state % 2 == 1 then 2 + mark / 16 / 2 ^ state % 2 else mark / 2 ^ state % 2
+-- The number that a mark gives for a former Z2 and a state. Bit 8 + s of the mark is Z2 of state s where the former Z2
+-- is 0, and bit 12 + s where it is 1. Bit s is Z1 where Z2 is 0, and bit 4 + s where it is 1.
+abbrev pub z2_of : ℕ → ℕ → ℕ → ℕ
+z2_of mark former state = mark / 2 ^ (8 + 4 * former + state) % 2
+
+abbrev pub z1_of : ℕ → ℕ → ℕ → ℕ
+z1_of mark z2 state = mark / 2 ^ (4 * z2 + state) % 2
 
 abbrev pub number_of : ℕ → ℕ → ℕ → ℕ
-number_of mark former state =
-    if nat_le 4096 mark then told_number (mark % 4) former else free_number mark state
+number_of mark former state = 2 * z2_of mark former state + z1_of mark (z2_of mark former state) state
+
+-- What a pin adds to levels that don't give its pair: 1,400,000,000, more than any path costs. Entry 0 is for Z1 = 0
+-- and entry 1 for Z1 = 1. Entry 2 is for levels whose Z2 is the former one, and entry 3 for the others.
+unfoldable pub pen_of : ℕ → ℕ → ℕ
+pen_of pin i =
+    if nat_le 4 pin then 0 else (if (if nat_lt i 2 then pin else pin / 2) % 2 == i % 2 then 0 else 1400000000)
+
+-- what a level comes to with the pen of its Z1, from its squares and the costs of its Z2
+abbrev pub way : List ℕ → List ℕ → List ℕ → ℕ → ℕ → ℕ
+way squares costs pen s z1 =
+    slice_index squares s + slice_index costs (next_state s (level_by s z1)) + slice_index pen s
 
 -- the first of four numbers at which a function is least
 pub record IsFirstLeast (f : ℕ → ℕ) (k : ℕ) : Type 0 where

@@ -1,5 +1,6 @@
 -- The walk along the least paths under pins, from the first symbol to the last.
-use Rattle.std.specs.Prelude.{ℕ, ℤ, ◌≡◌, ◌+◌, ◌*◌, ◌/◌, ◌%◌, ◌<◌, ◌≤◌, ◌⊎◌, ◌==◌, if◌then◌else◌, List, slice_index}
+use Rattle.std.specs.Prelude.{ℕ, ℤ, pos, ◌+ℤ◌, ◌≤ℤ◌, ◌≡◌, ◌+◌, ◌*◌, ◌/◌, ◌%◌, ◌<◌, ◌≤◌, ◌⊎◌, ◌==◌, if◌then◌else◌, List}
+use Rattle.std.specs.Prelude.{slice_index}
 use Rattle.dtx_soft.specs.Paths.{squared, symbol_at}
 use Rattle.dtx_pins.specs.Steps.{cost_at, number_of}
 use Rattle.dtx_pins.specs.declared.forth.Stand.{Stand}
@@ -8,11 +9,12 @@ use Rattle.dtx_pins.specs.declared.forth.Stands.{Stands}
 abbrev pub state_of : Stand → ℕ
 state_of stand = 2 * stand.q1 + stand.q0
 
-pub record IsStand (stand : Stand) : Type 0 where
+-- how far a path can have come at step t
+pub record IsStand (t : ℕ) (stand : Stand) : Type 0 where
   pub former : stand.former < 2
   pub q1 : stand.q1 < 2
   pub q0 : stand.q0 < 2
-  pub cost : stand.cost ≤ 64516 * 21527
+  pub cost : stand.cost ≤ 64516 * t
 
 -- X2 of a pin, or 0 where it says nothing
 abbrev pub x2_of : ℕ → ℕ
@@ -36,6 +38,8 @@ pub record IsMoved (scale mark : ℕ) (old new : Stand) (written : ℤ) : Type 0
   pub q0 : new.q0 ≡ old.q1
   pub written_is : written ≡ symbol_at scale (2 * number_of mark old.former (state_of old) + old.q1)
   pub small : number_of mark old.former (state_of old) < 4
+  pub from : pos 0 ≤ℤ (written +ℤ pos 126)
+  pub to : written ≤ℤ pos 126
   pub cost : new.cost ≡ old.cost
 
 -- the same, with the square of how far the symbol is off added to the cost

@@ -19,7 +19,8 @@ AreLeastCosts scale pins symbols costs =
     (p s : ℕ) → p < 2 → s < 4 → IsLeastCost scale pins symbols p s (cost_at costs p s)
 
 -- the least path that agrees, from a former Z2 and a state; of several, the first in order
-pub record IsLeastFrom (scale : ℕ) (pins : List ℕ) (symbols : List ℤ) (former state : ℕ) (levels : List ℕ) : Type 0 where
+pub record IsLeastFrom (scale : ℕ) (pins : List ℕ) (symbols : List ℤ) (former state : ℕ)
+    (levels : List ℕ) : Type 0 where
   pub long : length levels ≡ length symbols
   pub path : IsPath state levels
   pub agrees : AgreesFrom former pins levels

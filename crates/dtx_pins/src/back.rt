@@ -5,7 +5,7 @@ ghost use Rattle.dtx_pins.specs.Pins.{pin_at};
 ghost use Rattle.dtx_pins.specs.Steps.{AreBounded, IsStepAt};
 ghost use Rattle.dtx_pins.specs.Walks.{AreWalked};
 
-use crate::step::{MAX_SQUARE, before};
+use crate::step::{MAX_SQUARE, stepped};
 use crate::table::Table;
 use dtx_sizes::CODERS;
 use dtx_soft::{LANES, MAX_SYMBOLS};
@@ -16,7 +16,7 @@ pub(crate) fn backward(
     table: &Table,
     pins: &[[u8; CODERS]],
     rounds: &[[i8; LANES]],
-    marks: &mut [[u16; CODERS]],
+    marks: &mut [[u16; LANES]],
 ) -> [[[u32; 4]; 2]; CODERS]
     requires few { length rounds.now ≤ MAX_SYMBOLS }
     requires pins { length pins.now ≡ length rounds.now }
@@ -37,14 +37,14 @@ fn step_all(
     pins: &[u8; CODERS],
     symbols: &[i8; LANES],
     behind: &mut [[[u32; 4]; 2]; CODERS],
-) -> [u16; CODERS]
+) -> [u16; LANES]
     requires { (e : ℕ) → e < CODERS → AreBounded (MAX_SQUARE * MAX_SYMBOLS) (slice_index_or behind.old e []) }
     ensures { (e : ℕ) → e < CODERS → IsStepAt table.now.scale (slice_index_or symbols.now e (pos 0))
         (pin_at pins.now e) (slice_index_or behind.old e []) (slice_index_or behind.new e []) (slice_index result e) }
 {
-    let mut marks = [0; CODERS];
+    let mut marks = [0; LANES];
     for e in 0..CODERS {
-        marks[e] = before(table.row(symbols[e]), pins[e], &mut behind[e]);
+        marks[e] = stepped(table.row(symbols[e]), pins[e], &mut behind[e]);
     }
     marks
 }

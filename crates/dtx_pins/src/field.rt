@@ -9,7 +9,7 @@ use crate::back::backward;
 use crate::forth::forward;
 use crate::table::Table;
 use dtx_sizes::{CODERS, FIELD_PACKETS, SEGMENT, SEGMENT_ROUNDS};
-use dtx_soft::{LANES, lay_out, put_back};
+use dtx_soft::{LANES, MAX_SYMBOLS, lay_out, put_back};
 
 /// Replaces the symbols of each coder by those of its least path under its pins, and returns the sum of the costs. The
 /// caller lends the room: `rounds` for the symbols of all coders, and `marks` for a mark of each.
@@ -17,7 +17,32 @@ pub(crate) fn pin_field(
     table: &Table,
     pins: &[[u8; CODERS]],
     rounds: &mut [[i8; LANES]],
-    marks: &mut [[u16; CODERS]],
+    marks: &mut [[u16; LANES]],
+    segments: &mut [[i8; SEGMENT]],
+) -> u64
+    requires few { length segments.old ≤ FIELD_PACKETS }
+    requires pins { length pins.now ≡ SEGMENT_ROUNDS * length segments.old }
+    requires rounds { length rounds.old ≡ MAX_SYMBOLS }
+    requires marks { length marks.old ≡ MAX_SYMBOLS }
+    ensures segments { IsPinned table.now.scale pins.now segments.old segments.new }
+    ensures cost { result ≡ coders_distance segments.old segments.new CODERS }
+{
+    let count = SEGMENT_ROUNDS * segments.len();
+    pin_rounds(
+        table,
+        pins,
+        &mut rounds[..count],
+        &mut marks[..count],
+        segments,
+    )
+}
+
+/// Does the same with just the room that is needed.
+fn pin_rounds(
+    table: &Table,
+    pins: &[[u8; CODERS]],
+    rounds: &mut [[i8; LANES]],
+    marks: &mut [[u16; LANES]],
     segments: &mut [[i8; SEGMENT]],
 ) -> u64
     requires few { length segments.old ≤ FIELD_PACKETS }
@@ -35,7 +60,7 @@ pub(crate) fn pin_field(
 }
 
 /// The sum of the costs of the twelve coders' paths.
-fn total(costs: &[u32; CODERS]) -> u64
+fn total(costs: &[u32; LANES]) -> u64
     ensures { result ≡ sum (map (λ e. slice_index costs.now e) (range_with_len 0 CODERS)) }
 {
     let mut total = 0;

@@ -1,18 +1,17 @@
-//! The walk from the beginning of the symbols to their end, for all coders side by side. It follows the marks, and writes
-//! the symbols of the least paths.
+//! The walk from the beginning of the symbols to their end, for all coders side by side. It follows the marks, and
+//! writes the symbols of the least paths.
 
 ghost use Rattle.std.specs.Prelude.{◌≡◌, ◌≢◌, ℕ, pos, ◌+◌, ◌*◌, ◌/◌, ◌%◌, ◌^◌, ◌<◌, ◌≤◌, length, slice_index};
-ghost use Rattle.std.specs.Prelude.{slice_index_or};
+ghost use Rattle.std.specs.Prelude.{◌+ℤ◌, ◌≤ℤ◌, slice_index_or};
 ghost use Rattle.dtx_soft.specs.Gaps.{column};
-ghost use Rattle.dtx_soft.specs.Paths.{distance};
+ghost use Rattle.dtx_soft.specs.Paths.{distance, symbol_at};
 ghost use Rattle.dtx_pins.specs.Pins.{coder_pins};
 ghost use Rattle.dtx_pins.specs.PinnedField.{AreLeastPinned};
-ghost use Rattle.dtx_pins.specs.Steps.{free_number, number_of};
+ghost use Rattle.dtx_pins.specs.Steps.{number_of};
 ghost use Rattle.dtx_pins.specs.Trace.{IsMoved, IsNext, IsStand, stand_at};
 ghost use Rattle.dtx_pins.specs.Walks.{AreWalked};
 
 use crate::start::starts;
-use crate::step::TOLD;
 use dtx_sizes::CODERS;
 use dtx_soft::{LANES, MAX_SCALE, MAX_SYMBOLS, square, symbol_at};
 
@@ -25,13 +24,13 @@ pub(crate) struct Stand {
     pub(crate) cost: u32,
 }
 
-/// Where the path of each coder stands.
+/// Where the path of each coder stands. The lanes behind the coders aren't used.
 #[derive(Drop)]
 pub(crate) struct Stands {
-    pub(crate) former: [u16; CODERS],
-    pub(crate) q1: [u16; CODERS],
-    pub(crate) q0: [u16; CODERS],
-    pub(crate) cost: [u32; CODERS],
+    pub(crate) former: [u16; LANES],
+    pub(crate) q1: [u16; LANES],
+    pub(crate) q0: [u16; LANES],
+    pub(crate) cost: [u32; LANES],
 }
 
 /// Replaces the symbols of each coder by those of its least path, and returns the costs of the paths. `behind` has the
@@ -39,10 +38,10 @@ pub(crate) struct Stands {
 pub(crate) fn forward(
     scale: u8,
     pins: &[[u8; CODERS]],
-    marks: &[[u16; CODERS]],
+    marks: &[[u16; LANES]],
     behind: &[[[u32; 4]; 2]; CODERS],
     rounds: &mut [[i8; LANES]],
-) -> [u32; CODERS]
+) -> [u32; LANES]
     requires scale { scale ≤ MAX_SCALE }
     requires few { length rounds.old ≤ MAX_SYMBOLS }
     requires pins { length pins.now ≡ length rounds.old }
@@ -66,16 +65,16 @@ pub(crate) fn forward(
 fn trace_all(
     scale: u8,
     symbols: &[i8; LANES],
-    marks: &[u16; CODERS],
+    marks: &[u16; LANES],
     stands: &mut Stands,
 ) -> [i8; LANES]
     requires scale { scale ≤ MAX_SCALE }
-    requires stands { (e : ℕ) → e < CODERS → IsStand (stand_at stands.old e) }
-    ensures { (e : ℕ) → e < CODERS → IsNext scale (slice_index_or symbols.now e (pos 0)) (slice_index marks.now e)
+    requires stands { (e : ℕ) → e < LANES → IsStand 21527 (stand_at stands.old e) }
+    ensures { (e : ℕ) → e < LANES → IsNext scale (slice_index_or symbols.now e (pos 0)) (slice_index marks.now e)
         (stand_at stands.old e) (stand_at stands.new e) (slice_index_or result e (pos 0)) }
 {
     let written = move_all(scale, marks, stands);
-    for e in 0..CODERS {
+    for e in 0..LANES {
         stands.cost[e] = stands.cost[e] + square(symbols[e], written[e] as i16);
     }
     written
@@ -83,14 +82,14 @@ fn trace_all(
 
 /// Does the same, but leaves the costs as they are.
 #[inline(always)]
-fn move_all(scale: u8, marks: &[u16; CODERS], stands: &mut Stands) -> [i8; LANES]
+fn move_all(scale: u8, marks: &[u16; LANES], stands: &mut Stands) -> [i8; LANES]
     requires scale { scale ≤ MAX_SCALE }
-    requires stands { (e : ℕ) → e < CODERS → IsStand (stand_at stands.old e) }
-    ensures { (e : ℕ) → e < CODERS → IsMoved scale (slice_index marks.now e) (stand_at stands.old e)
+    requires stands { (e : ℕ) → e < LANES → IsStand 21527 (stand_at stands.old e) }
+    ensures { (e : ℕ) → e < LANES → IsMoved scale (slice_index marks.now e) (stand_at stands.old e)
         (stand_at stands.new e) (slice_index_or result e (pos 0)) }
 {
     let mut written = [0; LANES];
-    for e in 0..CODERS {
+    for e in 0..LANES {
         let stand = stand_of(stands, e);
         let number = number(marks[e], stand.former, stand.q1, stand.q0);
         written[e] = symbol_of(scale, number, stand.q1);
@@ -102,7 +101,7 @@ fn move_all(scale: u8, marks: &[u16; CODERS], stands: &mut Stands) -> [i8; LANES
 /// The stand of a coder.
 #[inline(always)]
 fn stand_of(stands: &Stands, e: usize) -> Stand
-    requires { e < CODERS }
+    requires { e < LANES }
     ensures { result ≡ stand_at stands.now e }
 {
     Stand {
@@ -115,7 +114,7 @@ fn stand_of(stands: &Stands, e: usize) -> Stand
 
 /// Writes the stand of a coder.
 pub(crate) fn put_stand(stand: Stand, e: usize, stands: &mut Stands)
-    requires { e < CODERS }
+    requires { e < LANES }
     ensures written { stand_at stands.new e ≡ stand }
     ensures others { (k : ℕ) → k ≢ e → stand_at stands.new k ≡ stand_at stands.old k }
 {
@@ -128,7 +127,7 @@ pub(crate) fn put_stand(stand: Stand, e: usize, stands: &mut Stands)
 /// Writes the former Z2 and the state of a coder.
 #[inline(always)]
 fn put_state(former: u16, q1: u16, q0: u16, e: usize, stands: &mut Stands)
-    requires { e < CODERS }
+    requires { e < LANES }
     ensures former { (stand_at stands.new e).former ≡ former }
     ensures q1 { (stand_at stands.new e).q1 ≡ q1 }
     ensures q0 { (stand_at stands.new e).q0 ≡ q0 }
@@ -149,40 +148,44 @@ fn number(mark: u16, former: u16, q1: u16, q0: u16) -> u16
     ensures number { result ≡ number_of mark former (2 * q1 + q0) }
     ensures small { result < 4 }
 {
-    if mark >= TOLD {
-        (mark % 4 + 2 * former) % 4
-    } else {
-        free(mark, q1, q0)
-    }
+    let bit = bit_of(q1, q0);
+    let high = moved_up(256 * bit, former);
+    let z2 = is_set(mark, high);
+    let low = moved_up(bit, z2);
+    2 * z2 + is_set(mark, low)
 }
 
-/// The same where no pair is known.
+/// 1 where a mark has this bit, else 0.
 #[inline(always)]
-fn free(mark: u16, q1: u16, q0: u16) -> u16
-    requires q1 { q1 < 2 }
-    requires q0 { q0 < 2 }
-    ensures number { result ≡ free_number mark (2 * q1 + q0) }
-    ensures small { result < 4 }
+fn is_set(mark: u16, bit: u16) -> u16
+    ensures set { (n : ℕ) → bit ≡ 2 ^ n → result ≡ mark / 2 ^ n % 2 }
+    ensures small { result < 2 }
 {
-    if bit_of(mark / 256, q1, q0) == 1 {
-        2 + bit_of(mark / 16, q1, q0)
-    } else {
-        bit_of(mark, q1, q0)
-    }
+    (mark & bit != 0) as u16
+}
+
+/// The bit, or the one four places up.
+#[inline(always)]
+fn moved_up(bit: u16, up: u16) -> u16
+    requires small { bit ≤ 2048 }
+    requires up { up < 2 }
+    ensures { (n : ℕ) → bit ≡ 2 ^ n → result ≡ 2 ^ (4 * up + n) }
+{
+    if up == 0 { bit } else { 16 * bit }
 }
 
 /// The bit of a state.
 #[inline(always)]
-fn bit_of(mark: u16, q1: u16, q0: u16) -> u16
+fn bit_of(q1: u16, q0: u16) -> u16
     requires q1 { q1 < 2 }
     requires q0 { q0 < 2 }
-    ensures bit { result ≡ mark / 2 ^ (2 * q1 + q0) % 2 }
-    ensures small { result < 2 }
+    ensures bit { result ≡ 2 ^ (2 * q1 + q0) }
+    ensures small { result ≤ 8 }
 {
     if q1 == 0 {
-        if q0 == 0 { mark % 2 } else { mark / 2 % 2 }
+        if q0 == 0 { 1 } else { 2 }
     } else {
-        if q0 == 0 { mark / 4 % 2 } else { mark / 8 % 2 }
+        if q0 == 0 { 4 } else { 8 }
     }
 }
 
@@ -192,7 +195,9 @@ fn symbol_of(scale: u8, number: u16, q1: u16) -> i8
     requires scale { scale ≤ MAX_SCALE }
     requires number { number < 4 }
     requires q1 { q1 < 2 }
-    ensures { result ≡ symbol_at scale (2 * number + q1) }
+    ensures symbol { result ≡ symbol_at scale (2 * number + q1) }
+    ensures from { pos 0 ≤ℤ (result +ℤ pos 126) }
+    ensures to { result ≤ℤ pos 126 }
 {
     symbol_at(scale, (2 * number + q1) as u8) as i8
 }

@@ -1,14 +1,18 @@
 //! Laws of the definitions: the one least path under pins, and what pins change.
 
-ghost use Rattle.std.specs.Prelude.{◌≡◌, ◌↔◌, ℕ, ℤ, ◌<◌, ◌≤◌, IsTrue, List, ◌∷◌, length};
+ghost use Rattle.std.specs.Prelude.{◌≡◌, ◌↔◌, ℕ, ℤ, ◌<◌, ◌≤◌, IsTrue, List, [], ◌∷◌, length, slice_index_or};
+ghost use Rattle.dtx_soft.specs.Coders.{coders_distance};
 ghost use Rattle.dtx_soft.specs.LeastPath.{least_path};
 ghost use Rattle.dtx_soft.specs.Paths.{cost};
 ghost use Rattle.dtx_pins.specs.Pins.{Agrees, agrees, pin_at};
 ghost use Rattle.dtx_pins.specs.LeastPinned.{IsLeastPinned, least_pinned_levels, least_pinned_path};
 ghost use Rattle.dtx_pins.specs.LeastPinned.{least_pinned_start};
+ghost use Rattle.dtx_pins.specs.PinnedField.{IsPinned, pinned, pinned_cost};
 
-/// There is exactly one least path under pins, and `least_pinned_path` gives it. It agrees with the pins, and no path that
-/// agrees with them costs less.
+use dtx_sizes::{CODERS, SEGMENT};
+
+/// There is exactly one least path under pins, and `least_pinned_path` gives it. It agrees with the pins, and no path
+/// that agrees with them costs less.
 pub fn one_least_pinned_path()
     ensures found { (scale : ℕ) (pins : List ℕ) (symbols : List ℤ) → IsLeastPinned scale pins symbols
         (least_pinned_start scale pins symbols) (least_pinned_levels scale pins symbols) }
@@ -33,4 +37,18 @@ pub fn more_pins_cost_more()
 /// The test of agreement says whether levels tell the pair of each pin.
 pub fn agreement()
     ensures { (pins levels : List ℕ) → IsTrue (agrees pins levels) ↔ Agrees pins levels }
+{}
+
+/// What `pinned` gives are segments decided under pins. No other list of segments with 832 symbols each is so decided.
+pub fn one_pinning()
+    ensures found { (scale : ℕ) (pins : List (List ℕ)) (segments : List (List ℤ))
+        → IsPinned scale pins segments (pinned scale pins segments) }
+    ensures one { (scale : ℕ) (pins : List (List ℕ)) (old new : List (List ℤ)) → IsPinned scale pins old new
+        → ((i : ℕ) → i < length new → length (slice_index_or new i []) ≡ SEGMENT) → new ≡ pinned scale pins old }
+{}
+
+/// The symbols of the twelve coders move by what their least paths under pins cost, in the sum of the squares.
+pub fn cost_of_pinning()
+    ensures { (scale : ℕ) (pins : List (List ℕ)) (old new : List (List ℤ)) → IsPinned scale pins old new
+        → coders_distance old new CODERS ≡ pinned_cost scale pins old }
 {}

@@ -21,7 +21,7 @@ pub const NO_PIN: u8 = 4;
 pub struct Pinned {
     table: Table,
     rounds: Vec<[i8; LANES]>,
-    marks: Vec<[u16; CODERS]>,
+    marks: Vec<[u16; LANES]>,
 }
 
 impl Model for Pinned {
@@ -36,8 +36,8 @@ impl Model for Pinned {
 }
 
 impl Pinned {
-    /// A decoder of symbols at `scale` times the standard's levels, which are 2 * z - 7 for z from 0 to 7. The only error
-    /// is out of memory.
+    /// A decoder of symbols at `scale` times the standard's levels, which are 2 * z - 7 for z from 0 to 7. The only
+    /// error is out of memory.
     pub fn scaled(alloc: Global, scale: u8) -> Result<Pinned, AllocError>
         requires { scale ≤ MAX_SCALE }
         ensures { IfOk result (λ pinned. pinned ≡ scale) }
@@ -45,15 +45,16 @@ impl Pinned {
         Ok(Pinned {
             table: Table::new(alloc, scale)?,
             rounds: vec![in alloc; [0i8; LANES]; MAX_SYMBOLS]?,
-            marks: vec![in alloc; [0u16; CODERS]; MAX_SYMBOLS]?,
+            marks: vec![in alloc; [0u16; LANES]; MAX_SYMBOLS]?,
         })
     }
 
     /// Replaces the symbols of each of the twelve coders by those of its least path under its pins, in the first data
     /// segments of a field. It returns the sum of the costs of the twelve paths.
     ///
-    /// `pins` has an entry for each step of the coders, 69 for each segment, and in it a pin for each coder. A pin below 4
-    /// is the pair 2 * X2 + X1. From `NO_PIN` on it says nothing. The X2 of the first entry says nothing either.
+    /// `pins` has an entry for each step of the coders, 69 for each segment, and in it a pin for each coder. A pin
+    /// below 4 is the pair 2 * X2 + X1. From `NO_PIN` on it says nothing. The X2 of the first entry says nothing
+    /// either.
     pub fn field(&mut self, pins: &[[u8; CODERS]], segments: &mut [[i8; SEGMENT]]) -> u64
         requires few { length segments.old ≤ FIELD_PACKETS }
         requires pins { length pins.now ≡ SEGMENT_ROUNDS * length segments.old }
@@ -61,12 +62,11 @@ impl Pinned {
         ensures cost { result ≡ coders_distance segments.old segments.new CODERS }
         ensures scale { self.new ≡ self.old }
     {
-        let count = SEGMENT_ROUNDS * segments.len();
         pin_field(
             &self.table,
             pins,
-            &mut self.rounds[..count],
-            &mut self.marks[..count],
+            &mut self.rounds[..],
+            &mut self.marks[..],
             segments,
         )
     }

@@ -1,22 +1,24 @@
 //! Where the least paths begin.
 
-ghost use Rattle.std.specs.Prelude.{◌≡◌, ℕ, ◌-◌, ◌<◌, ◌≤◌, [], slice_index, slice_index_or, nat_lt, if◌then◌else◌};
+ghost use Rattle.std.specs.Prelude.{◌≡◌, ℕ, ◌-◌, ◌<◌, [], slice_index_or, nat_lt, if◌then◌else◌};
 ghost use Rattle.dtx_pins.specs.Pins.{pin_at};
-ghost use Rattle.dtx_pins.specs.Trace.{IsStart, stand_at, x2_of};
+ghost use Rattle.dtx_pins.specs.Trace.{IsStand, IsStart, stand_at, x2_of};
 
 use crate::forth::{Stand, Stands, put_stand};
 use dtx_sizes::CODERS;
+use dtx_soft::{LANES, least_of};
 
 /// The stands from which the least paths of all coders begin.
 pub(crate) fn starts(pins: &[[u8; CODERS]], behind: &[[[u32; 4]; 2]; CODERS]) -> Stands
-    ensures { (e : ℕ) → e < CODERS → IsStart (pin_at (slice_index_or pins.now 0 []) e)
+    ensures starts { (e : ℕ) → e < CODERS → IsStart (pin_at (slice_index_or pins.now 0 []) e)
         (slice_index_or behind.now e []) (stand_at result e) }
+    ensures stands { (e : ℕ) → e < LANES → IsStand 0 (stand_at result e) }
 {
     let mut stands = Stands {
-        former: [0; CODERS],
-        q1: [0; CODERS],
-        q0: [0; CODERS],
-        cost: [0; CODERS],
+        former: [0; LANES],
+        q1: [0; LANES],
+        q0: [0; LANES],
+        cost: [0; LANES],
     };
     for e in 0..CODERS {
         put_stand(start_of(first_x2(pins, e), &behind[e]), e, &mut stands);
@@ -36,8 +38,8 @@ fn first_x2(pins: &[[u8; CODERS]], e: usize) -> u8
     }
 }
 
-/// The state of least cost, the first of several, and the former Z2 with which it comes to that. Of two equal ones it is
-/// `x2`, since the first level then has Z2 = 0.
+/// The state of least cost, the first of several, and the former Z2 with which it comes to that. Of two equal ones it
+/// is `x2`, since the first level then has Z2 = 0.
 fn start_of(x2: u8, behind: &[[u32; 4]; 2]) -> Stand
     requires { x2 < 2 }
     ensures { (pin : ℕ) → x2_of pin ≡ x2 → IsStart pin behind.now result }
@@ -49,28 +51,17 @@ fn start_of(x2: u8, behind: &[[u32; 4]; 2]) -> Stand
         behind[0][3].min(behind[1][3]),
     ];
     let state = least_of(&costs);
-    let former = better(x2, behind[x2 as usize][state as usize], behind[1 - x2 as usize][state as usize]);
+    let former = better(
+        x2,
+        behind[x2 as usize][state as usize],
+        behind[1 - x2 as usize][state as usize],
+    );
     Stand {
         former: former as u16,
         q1: (state / 2) as u16,
         q0: (state % 2) as u16,
         cost: 0,
     }
-}
-
-/// The index of the least of four costs, the first of several.
-fn least_of(costs: &[u32; 4]) -> u8
-    ensures small { result < 4 }
-    ensures least { (s : ℕ) → s < 4 → slice_index costs.now result ≤ slice_index costs.now s }
-    ensures first { (s : ℕ) → s < 4 → slice_index costs.now s ≡ slice_index costs.now result → result ≤ s }
-{
-    let mut least: u8 = 0;
-    for s in 1..4 {
-        if costs[s as usize] < costs[least as usize] {
-            least = s;
-        }
-    }
-    least
 }
 
 /// The former Z2 of the lesser cost, `x2` where both are equal.

@@ -6,7 +6,7 @@ use Rattle.std.proofs.lemmas.Int.{ints, clamps, to_z-of_z}
 use Rattle.dtx_soft.specs.declared.gaps.SquareGaps.{SquareGaps}
 use Rattle.dtx_soft.specs.Squares.{IsSquares, across_of, even_of, odd_of, seen, within}
 use Rattle.dtx_soft.proofs.GapSteps.{SaysAbove, above_alike}
-use Rattle.dtx_soft.proofs.Wraps.{Holds, difference_fits, difference_read, read, sum_fits, sum_read}
+use Rattle.dtx_soft.proofs.WrapsLemmas.{Holds, difference_fits, difference_read, read, sum_fits, sum_read}
 
 -- a number that is at most n off 0
 pub record IsWithin (n : ℕ) (z : ℤ) : Type 0 where

@@ -19,7 +19,7 @@ pub mod SquareTests
 pub mod SquareGaps
 pub mod NearerSymbols
 pub mod GapSteps
-pub mod Wraps
+pub mod WrapsLemmas
 pub mod SmallSquares
 pub mod BitGaps
 pub mod WordGaps

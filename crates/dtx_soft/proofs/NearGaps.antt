@@ -11,7 +11,7 @@ use Rattle.dtx_soft.specs.Gaps.{AreLesser, IsBounded}
 use Rattle.dtx_soft.proofs.BitGaps.{AreFormulas, AreSized, AreSumsRead, across_in_bits, even_in_bits, four_read}
 use Rattle.dtx_soft.proofs.BitGaps.{odd_in_bits, sums_in_bits, twice_read}
 use Rattle.dtx_soft.proofs.GapSteps.{AreSums}
-use Rattle.dtx_soft.proofs.Wraps.{bytes_hold, read}
+use Rattle.dtx_soft.proofs.WrapsLemmas.{bytes_hold, read}
 use Rattle.dtx_soft.specs.Near.{AreNear, IsNear, IsTight}
 use Rattle.dtx_soft.specs.Squares.{AreSmall, across_of, even_of, odd_of, seen, within}
 

@@ -4,7 +4,7 @@ use mir.Syntax.{w16}
 use mir.Val.{SFits}
 use Rattle.std.proofs.lemmas.Int.{ints, to_z-of_z}
 use Rattle.std.proofs.Math.Nat.{mul-le-mul_left}
-use Rattle.dtx_soft.proofs.Wraps.{difference_read, read}
+use Rattle.dtx_soft.proofs.WrapsLemmas.{difference_read, read}
 
 -- a difference of a byte and a small number, as it is read
 pub off_is : (n : ℕ) (v u : ℤ) → n ≡ nat_abs (read w16 (read w16 (read w8 v) -ℤ read w16 u)) → SFits w8 v

@@ -10,7 +10,7 @@ use Rattle.dtx_soft.specs.Gaps.{AreLesser, IsBounded}
 use Rattle.dtx_soft.specs.Squares.{AreSmall, across_of, even_of, odd_of, within}
 use Rattle.dtx_soft.proofs.BitGaps.{AreFormulas, AreSized, AreSumsRead, AreWithin, IsWithin, across_in_bits}
 use Rattle.dtx_soft.proofs.BitGaps.{even_in_bits, four_read, odd_in_bits, sums_in_bits, twice_read, within_lies}
-use Rattle.dtx_soft.proofs.Wraps.{read}
+use Rattle.dtx_soft.proofs.WrapsLemmas.{read}
 
 -- what tells which pair of levels is to be taken
 pub tied_sums_fit : (squares : SquareGaps ℤ) (gap : Gap ℤ) → AreSmall squares → IsBounded gap

@@ -21,4 +21,4 @@ pub use gaps::LANES;
 pub use nearest::{MAX_SCALE, square, squared_distance, symbol_at};
 pub use rounds::{lay_out, put_back};
 pub use soft::Soft;
-pub use walk::{Found, MAX_SYMBOLS};
+pub use walk::{Found, MAX_SYMBOLS, least_of};

@@ -79,7 +79,7 @@ fn before(row: &Nearest, behind: &[u32; 4]) -> [u32; 4]
 }
 
 /// The index of the least of four costs, the first of several.
-fn least_of(costs: &[u32; 4]) -> u8
+pub fn least_of(costs: &[u32; 4]) -> u8
     ensures small { result < 4 }
     ensures least { (s : ℕ) → s < 4 → slice_index costs.now result ≤ slice_index costs.now s }
     ensures first { (s : ℕ) → s < 4 → slice_index costs.now s ≡ slice_index costs.now result → result ≤ s }

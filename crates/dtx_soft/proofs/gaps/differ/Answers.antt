@@ -5,7 +5,7 @@ use Rattle.dtx_soft.specs.declared.gaps.SquareGaps.{SquareGaps}
 use Rattle.dtx_soft.specs.Squares.{across_of, even_of, odd_of, seen}
 use Rattle.dtx_soft.proofs.BitGaps.{AreFormulas, seen_squares}
 use Rattle.dtx_soft.proofs.WordGaps.{small_squares}
-use Rattle.dtx_soft.proofs.Wraps.{read, returned}
+use Rattle.dtx_soft.proofs.WrapsLemmas.{read, returned}
 use Rattle.dtx_soft.proofs.gaps.differ.Goals as goal
 
 pub across_gap-requires-clause-odd : goal.across_gap-requires-clause-odd

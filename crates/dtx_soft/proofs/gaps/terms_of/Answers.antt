@@ -3,7 +3,7 @@ use mir.Syntax.{w16}
 use Rattle.std.specs.Int.{int_min}
 use Rattle.dtx_soft.proofs.BitGaps.{sum_of_read_fits}
 use Rattle.dtx_soft.proofs.WordGaps.{capped_sums_fit}
-use Rattle.dtx_soft.proofs.Wraps.{returned}
+use Rattle.dtx_soft.proofs.WrapsLemmas.{returned}
 use Rattle.dtx_soft.proofs.gaps.terms_of.Goals as goal
 
 pub capped-requires : goal.capped-requires

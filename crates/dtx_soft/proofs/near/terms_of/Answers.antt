@@ -2,7 +2,7 @@ use Rattle.std.proofs.Common.{pos, ◌+ℤ◌, w8, rules}
 use Rattle.std.specs.Int.{int_min}
 use Rattle.dtx_soft.proofs.BitGaps.{sum_of_read_fits}
 use Rattle.dtx_soft.proofs.NearGaps.{capped_sums_fit}
-use Rattle.dtx_soft.proofs.Wraps.{returned}
+use Rattle.dtx_soft.proofs.WrapsLemmas.{returned}
 use Rattle.dtx_soft.proofs.near.terms_of.Goals as goal
 
 pub capped-requires : goal.capped-requires

@@ -5,7 +5,7 @@ use Rattle.std.specs.Prelude.{int_lt}
 use mir.Val.{SFits}
 use Rattle.std.proofs.lemmas.Int.{ints, to_z-of_z}
 use Rattle.dtx_soft.specs.Trace.{limit_of, nearer_symbol}
-use Rattle.dtx_soft.proofs.Wraps.{difference_read, read}
+use Rattle.dtx_soft.proofs.WrapsLemmas.{difference_read, read}
 use Rattle.dtx_soft.proofs.trace.nearer.Goals as goal
 
 limit_fits : (limit : ℤ) (scale : ℕ) → scale ≤ 18 → pos 0 ≤ℤ (limit +ℤ pos (3 * scale)) → limit ≤ℤ pos (3 * scale)

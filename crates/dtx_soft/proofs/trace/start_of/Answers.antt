@@ -5,7 +5,7 @@ use Rattle.std.specs.Int.{int_min}
 use Rattle.std.proofs.lemmas.Int.{ints, to_z-of_z}
 use Rattle.dtx_soft.proofs.BitGaps.{above_read, above_sum}
 use Rattle.dtx_soft.proofs.Starts.{start_is}
-use Rattle.dtx_soft.proofs.Wraps.{read, sum_read, unwrapped}
+use Rattle.dtx_soft.proofs.WrapsLemmas.{read, sum_read, unwrapped}
 use Rattle.dtx_soft.proofs.trace.start_of.Goals as goal
 
 pub returns : goal.returns

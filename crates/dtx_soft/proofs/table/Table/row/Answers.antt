@@ -5,7 +5,7 @@ use mir.Val.{SFits}
 use Rattle.std.proofs.lemmas.Int.{ints, to_z-of_z}
 use Rattle.dtx_soft.specs.declared.nearest.Nearest.{Nearest}
 use Rattle.dtx_soft.specs.Nearest.{AreNearest, IsTable}
-use Rattle.dtx_soft.proofs.Wraps.{read, sum_read}
+use Rattle.dtx_soft.proofs.WrapsLemmas.{read, sum_read}
 use Rattle.dtx_soft.proofs.table.Table.row.Goals as goal
 
 place_is : (v : ℤ) → SFits w8 v → nat_abs (read w16 (read w16 (read w8 v) +ℤ pos 128)) ≡ nat_abs (v +ℤ pos 128)
