@@ -4,7 +4,6 @@ pub mod KnownLemmas
 pub mod RoundLevels
 pub mod PinRows
 pub mod Kept
-pub mod PinnedRows
 pub mod Growing
 pub mod RoundsLemmas
 pub mod RefinedLemmas

@@ -10,11 +10,11 @@ use Rattle.dtx_acquire.specs.Acquired.{Field, acquired, all_fields, behind_group
 use Rattle.dtx_acquire.specs.Acquired.{restored_field, restored_of}
 use Rattle.dtx_acquire.specs.Sent.{AreInFields}
 use Rattle.dtx_acquire.proofs.SentLemmas.{row_long}
+use Rattle.dtx_pins.proofs.PinnedFieldLemmas.{pinned_found}
 use Rattle.dtx_rounds.specs.Known.{known_bytes, known_word}
 use Rattle.dtx_rounds.specs.Rounds.{coder_cost, groups_in, heard_of, paths_in, pins_in, refined, rounded, rounds_of}
 use Rattle.dtx_rounds.proofs.Growing.{more_known_costs_more}
 use Rattle.dtx_rounds.proofs.Kept.{word_kept}
-use Rattle.dtx_rounds.proofs.PinnedRows.{pinned_found}
 use Rattle.dtx_rounds.proofs.RoundLevels.{HasPaths, after_long, groups_after, length-after}
 use Rattle.dtx_rounds.proofs.RoundsLemmas.{refined_next}
 use Rattle.dtx_rounds.proofs.RunLevels.{AreLong, length-bytes}
