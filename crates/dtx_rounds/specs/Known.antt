@@ -1,5 +1,5 @@
--- What is known of a run: the words that have a correction, and the bytes of these corrections at their places among
--- the bytes of the run (ATSC A/53 Part 2, Reed-Solomon encoder and interleaving).
+-- What is known of a run (ATSC A/53 Part 2, Reed-Solomon encoder and interleaving). It is the words that have a
+-- correction, and the bytes of these corrections at their places among the bytes of the run.
 use Rattle.std.specs.Prelude.{ℕ, ◌-◌, ◌*◌, ◌/◌, ◌%◌, nat_le, if◌then◌else◌, Option, None}
 use Rattle.std.specs.Prelude.{is_some, option_map, List, length, map, filter, slice_index}
 use Rattle.std.specs.List.{range_with_len}
