@@ -37,8 +37,8 @@ def behind(state, level):
 # ---- All paths ----
 
 
-def cost_of(symbols, path):
-    return sum(square(symbol, level) for symbol, level in zip(symbols, path))
+def cost_of(symbols, path, scale=1):
+    return sum(square(symbol, level, scale) for symbol, level in zip(symbols, path))
 
 
 def is_path(state, levels):
@@ -50,12 +50,12 @@ def is_path(state, levels):
     return True
 
 
-def least_of_all(symbols):
-    """The cost, the start and the levels of the least path: of all lists of levels, those that are a path from a start. Of several
-    paths of one cost it is the one with the smallest start, and then the first in order of levels."""
-    lists = itertools.product(range(8), repeat=len(symbols))
+def least_of_all(symbols, scale=1, is_asked=lambda levels: True):
+    """The cost, the start and the levels of the least path: of all lists of levels, those that are asked for and are a path from a start. Of
+    several paths of one cost it is the one with the smallest start, and then the first in order of levels."""
+    lists = filter(is_asked, itertools.product(range(8), repeat=len(symbols)))
     paths = ((start, levels) for levels in lists for start in STATES if is_path(start, levels))
-    return min((cost_of(symbols, levels), start, levels) for start, levels in paths)
+    return min((cost_of(symbols, levels, scale), start, levels) for start, levels in paths)
 
 
 # ---- The table ----

@@ -166,6 +166,37 @@ pub field_gives : (symbols : List ℤ) (front : List Field) (field next : Field)
 field_gives symbols front field next back e =
     field_before 1 (all_fields symbols) front field next back (all_given 1 symbols (omega arith)) e
 
+-- ---- no field has more segments than a sync and 312 data segments
+
+abbrev AreShort : List Field → Type 0
+AreShort [] = Unit {0}
+AreShort (x ∷ xs) = (length x.segments ≤ 313) × AreShort xs
+
+short_from : (v : List ℤ) (n : ℕ) (o : Option Sync) → ((s : Sync) → o ≡ Some s → s.place ≤ length v)
+    → AreShort (fields_of (λ met. true) v (syncs_from v n o))
+unfolding syncs_from
+short_from v zero o h = tt
+short_from v (suc n) None h = tt
+short_from v (suc n) (Some s) h = (
+  (let room = given_room v s.place (h s refl) in omega (arith, room.1, length-at v s)),
+  short_from v n (behind v s.place) (λ t e. (let w = later v s.place t e in omega (arith, w.1))),
+)
+
+all_short : (v : List ℤ) → AreShort (all_fields v)
+unfolding fields_where all_syncs
+all_short v =
+    short_from v (length v) (first_of true v)
+    (λ s e. (let w = enough_first true v (length v) (omega arith) s e in omega (arith, w.0)))
+
+short_at : (fields front : List Field) (x : Field) (back : List Field) → AreShort fields
+    → fields ≡ front ++ x ∷ back → length x.segments ≤ 313
+short_at fields [] x back h e = (subst AreShort e h).0
+short_at fields (z ∷ front) x back h e = short_at (front ++ x ∷ back) front x back (subst AreShort e h).1 refl
+
+pub field_short : (symbols : List ℤ) (front : List Field) (field : Field) (back : List Field)
+    → all_fields symbols ≡ front ++ field ∷ back → length field.segments ≤ 313
+field_short symbols front field back e = short_at (all_fields symbols) front field back (all_short symbols) e
+
 -- ---- no run
 
 abbrev GiveNone : List Field → Type 0

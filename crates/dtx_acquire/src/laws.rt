@@ -1,6 +1,6 @@
 //! Laws of the segments that are acquired.
 
-ghost use Rattle.std.specs.Prelude.{◌≡◌, ◌<◌, ◌++◌, ◌∷◌, [], ◌⊎◌, ◌↔◌, false, ℕ, ℤ, pos, List, length, replicate};
+ghost use Rattle.std.specs.Prelude.{◌≡◌, ◌<◌, ◌≤◌, ◌++◌, ◌∷◌, [], ◌⊎◌, ◌↔◌, false, ℕ, ℤ, pos, List, length, replicate};
 ghost use Rattle.std.specs.List.{flat_map};
 ghost use Rattle.dtx_acquire.specs.Acquired.{Field, acquired, acquired_rest, acquired_runs, acquired_so_far};
 ghost use Rattle.dtx_acquire.specs.Acquired.{all_fields, IsSame};
@@ -50,10 +50,12 @@ pub fn silence_moves_nothing()
 }
 
 /// What is acquired is whole segments. Those whose number is a multiple of 313 are field syncs, so that they look like
-/// one. The others are data segments. Each field but the last gives 313 segments or none, so each run but the last
-/// gives a multiple of 313. There is no segment exactly if there is no run.
+/// one. The others are data segments. No field gives more than 313 segments. Each but the last gives 313 or none, so
+/// each run but the last gives a multiple of 313. There is no segment exactly if there is no run.
 pub fn whole_fields_are_acquired()
     ensures segments { (scale : ℕ) (symbols : List ℤ) → 0 < scale → AreInFields (acquired scale symbols) }
+    ensures most { (symbols : List ℤ) (front : List Field) (field : Field) (back : List Field)
+        → all_fields symbols ≡ front ++ field ∷ back → length field.segments ≤ 313 }
     ensures fields { (symbols : List ℤ) (front : List Field) (field next : Field) (back : List Field)
         → all_fields symbols ≡ front ++ field ∷ next ∷ back
         → (length field.segments ≡ 313) ⊎ (length field.segments ≡ 0) }

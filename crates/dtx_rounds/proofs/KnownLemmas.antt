@@ -1,0 +1,83 @@
+-- Which words and bytes of a run are known.
+use Rattle.std.proofs.Common.{◌≡◌, ℕ, ◌+◌, ◌-◌, ◌*◌, ◌/◌, ◌%◌, ◌<◌, ◌≤◌, nat_le, Bool, true, false, cond, Option}
+use Rattle.std.proofs.Common.{Some, None, option_map, List, length, get_or, refl, ap, ap₂, ◌∙◌, arith}
+use Rattle.std.proofs.lemmas.Bool.{cond-true, le-leb}
+use Rattle.std.proofs.lemmas.List.FromFn.{get_or-map-range_with_len}
+use Rattle.dtx_laws.specs.Codeword.{IsCorrection}
+use Rattle.dtx_laws.specs.Words.{correction}
+use Rattle.dtx_laws.proofs.ChoiceLemmas.{correction_is}
+use Rattle.dtx_outer.specs.Inner.{codeword_byte_place, word_at}
+use Rattle.dtx_receiver.specs.Packets.{is_complete}
+use Rattle.dtx_receiver.proofs.CompleteLemmas.{complete_told}
+use Rattle.dtx_rounds.specs.Known.{known_byte, known_bytes, known_code_byte, known_word}
+
+-- what is known of a word
+pub record IsKnown (bytes : List ℕ) (k : ℕ) (code : List ℕ) : Type 0 where
+  pub complete : is_complete (length bytes) k ≡ true
+  pub corrected : correction 207 187 (word_at 207 52 4 bytes k) ≡ Some code
+
+pub known_parts : (bytes : List ℕ) (k : ℕ) (code : List ℕ) → known_word bytes k ≡ Some code → IsKnown bytes k code
+unfolding known_word
+known_parts bytes k code e = by_test (is_complete (length bytes) k) refl e
+  where
+    none_some : ◌≡◌ {A = Option (List ℕ)} None (Some code) → ⊥
+    none_some e = cc
+
+    by_test : (b : Bool) → is_complete (length bytes) k ≡ b
+        → cond b (correction 207 187 (word_at 207 52 4 bytes k)) None ≡ Some code → IsKnown bytes k code
+    by_test true c h = record { complete = c; corrected = h }
+    by_test false c h = absurd (none_some h)
+
+pub known_from : (bytes : List ℕ) (k : ℕ) (code : List ℕ) → IsKnown bytes k code → known_word bytes k ≡ Some code
+unfolding known_word
+known_from bytes k code h =
+    cond-true (is_complete (length bytes) k) (correction 207 187 (word_at 207 52 4 bytes k)) None h.complete
+    ∙ h.corrected
+
+pub known_correction : (bytes : List ℕ) (k : ℕ) (code : List ℕ) → IsKnown bytes k code
+    → IsCorrection 207 187 (word_at 207 52 4 bytes k) code
+known_correction bytes k code h = correction_is 207 187 (word_at 207 52 4 bytes k) code h.corrected
+
+-- all bytes of a known word are there
+pub known_place : (bytes : List ℕ) (k j : ℕ) (code : List ℕ) → IsKnown bytes k code → j < 207
+    → codeword_byte_place 52 4 (207 * k + j) < length bytes
+known_place bytes k j code h l = (complete_told (length bytes) k).0 h.complete j l
+
+-- ---- bytes
+
+-- the byte of the words that stands at a place
+abbrev pub source : ℕ → ℕ
+source n = n - 208 * (n % 52)
+
+byte_source : (n p : ℕ) → n ≡ p + 52 * 4 * (p % 52) → (208 * (n % 52) ≤ n) × (n - 208 * (n % 52) ≡ p)
+byte_source n p e = (omega arith, omega arith)
+
+-- a byte is known where its word is
+pub known_byte_is : (bytes : List ℕ) (n p : ℕ) → n ≡ codeword_byte_place 52 4 p
+    → known_byte bytes n ≡ known_code_byte bytes p
+unfolding known_byte
+known_byte_is bytes n p e =
+    let there = byte_source n p e in
+    cond-true (nat_le (208 * (n % 52)) n) (known_code_byte bytes (n - 208 * (n % 52))) None
+    (le-leb (208 * (n % 52)) n there.0)
+    ∙ ap (known_code_byte bytes) there.1
+
+pub known_code_is : (bytes : List ℕ) (k j : ℕ) (code : List ℕ) → known_word bytes k ≡ Some code → j < 207
+    → known_code_byte bytes (207 * k + j) ≡ Some (get_or code j 0)
+unfolding known_code_byte
+known_code_is bytes k j code h l =
+    let at : (207 * k + j) % 207 ≡ j = omega arith in
+    let word : (207 * k + j) / 207 ≡ k = omega arith in
+    ap₂ (λ (i w : ℕ). option_map (λ (code : List ℕ). get_or code i 0) (known_word bytes w)) at word
+    ∙ ap (option_map (λ (code : List ℕ). get_or code j 0)) h
+
+-- byte j of a known word is known at its place
+pub known_at : (bytes : List ℕ) (k j : ℕ) (code : List ℕ) → known_word bytes k ≡ Some code → j < 207
+    → get_or (known_bytes bytes) (codeword_byte_place 52 4 (207 * k + j)) None ≡ Some (get_or code j 0)
+unfolding known_bytes
+known_at bytes k j code h l =
+    get_or-map-range_with_len (known_byte bytes) 0 (length bytes) (codeword_byte_place 52 4 (207 * k + j))
+    (codeword_byte_place 52 4 (207 * k + j)) None (known_place bytes k j code (known_parts bytes k code h) l)
+    (omega arith)
+    ∙ known_byte_is bytes (codeword_byte_place 52 4 (207 * k + j)) (207 * k + j) refl
+    ∙ known_code_is bytes k j code h l

@@ -1,0 +1,11 @@
+pub mod RunLevels
+pub mod StepPlaces
+pub mod KnownLemmas
+pub mod RoundLevels
+pub mod Kept
+pub mod Growing
+pub mod RoundsLemmas
+pub mod RefinedLemmas
+pub mod FieldRows
+pub mod OwnRounds
+pub mod StillLemmas

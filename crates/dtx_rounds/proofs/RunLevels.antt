@@ -1,0 +1,101 @@
+-- The levels and the bytes of a run of segments of 832 symbols, one by one.
+use Rattle.std.proofs.Common.{◌≡◌, ℕ, ℤ, pos, zero, suc, ◌+◌, ◌-◌, ◌*◌, ◌/◌, ◌<◌, ◌≤◌, List, [], length, drop, get_or}
+use Rattle.std.proofs.Common.{refl, ap, ap₂, ◌∙◌, arith}
+use Rattle.std.specs.List.{range_with_len, flat_map}
+use Rattle.std.proofs.lemmas.List.{get_or-append_right, get_or-drop, get_or-map, get_or_append_left, length-append}
+use Rattle.std.proofs.lemmas.List.{length-drop}
+use Rattle.std.proofs.lemmas.List.FromFn.{get_or-map-range_with_len, length-map-range_with_len}
+use Rattle.dtx_slice.specs.Slicing.{sliced, sliced_data}
+use Rattle.dtx_slice.specs.Unrolled.{byte_back, bytes_back, level_groups}
+use Rattle.dtx_receiver.specs.Bytes.{bytes_in, data_at, data_count, first_bits, groups_of, levels_from, levels_in}
+use Rattle.dtx_receiver.proofs.SegmentsLemmas.{segment_long}
+
+-- segments of 832 symbols
+abbrev pub AreLong : List (List ℤ) → Type 0
+AreLong segments = (i : ℕ) → i < length segments → length (get_or segments i []) ≡ 832
+
+-- ---- rows of 828 numbers
+
+same_place : (a b k : ℕ) (f : ℕ → List ℕ) (x : ℕ) → a ≡ b → x ≡ k → get_or (f a) x 0 ≡ get_or (f b) k 0
+same_place a b k f x e h = ap₂ (λ i j. get_or (f i) j 0) e h
+
+row_at : (f : ℕ → List ℕ) (a n i k : ℕ) → ((j : ℕ) → a ≤ j → j < a + n → length (f j) ≡ 828) → i < n → k < 828
+    → get_or (flat_map f (range_with_len a n)) (828 * i + k) 0 ≡ get_or (f (a + i)) k 0
+row_at f a zero i k h l m = absurd (omega arith)
+row_at f a (suc n) zero k h l m =
+    let first : length (f a) ≡ 828 = h a (omega arith) (omega arith) in
+    get_or_append_left (f a) (flat_map f (range_with_len (a + 1) n)) 0 (828 * 0 + k) (omega (arith, first, m))
+    ∙ same_place a (a + 0) k f (828 * 0 + k) (omega arith) (omega arith)
+row_at f a (suc n) (suc i) k h l m =
+    let first : length (f a) ≡ 828 = h a (omega arith) (omega arith) in
+    let there : 828 * suc i + k - 828 ≡ 828 * i + k = omega arith in
+    let same : a + 1 + i ≡ a + suc i = omega arith in
+    get_or-append_right (f a) (flat_map f (range_with_len (a + 1) n)) 828 (828 * suc i + k) 0 first (omega arith)
+    ∙ ap (λ x. get_or (flat_map f (range_with_len (a + 1) n)) x 0) there
+    ∙ row_at f (a + 1) n i k (λ j b c. h j (omega arith) (omega arith)) (omega arith) m
+    ∙ ap (λ x. get_or (f x) k 0) same
+
+rows_long : (f : ℕ → List ℕ) (a n : ℕ) → ((j : ℕ) → a ≤ j → j < a + n → length (f j) ≡ 828)
+    → length (flat_map f (range_with_len a n)) ≡ 828 * n
+rows_long f a zero h = refl
+rows_long f a (suc n) h =
+    let first : length (f a) ≡ 828 = h a (omega arith) (omega arith) in
+    let rest = rows_long f (a + 1) n (λ j b c. h j (omega arith) (omega arith)) in
+    let both = length-append (f a) (flat_map f (range_with_len (a + 1) n)) in
+    omega (arith, first, rest, both)
+
+-- ---- levels
+
+index_there : (l d : ℕ) → d < 4 * ((l - (l + 312) / 313) / 4) → d + d / 312 + 1 < l
+index_there l d h = omega arith
+
+-- a data segment in a whole group
+pub data_there : (run : List (List ℤ)) (d : ℕ) → d < 4 * groups_of run → d + d / 312 + 1 < length run
+unfolding groups_of data_count
+data_there run d l = index_there (length run) d l
+
+pub data_long : (run : List (List ℤ)) (d : ℕ) → AreLong run → d < 4 * groups_of run → length (data_at run d) ≡ 832
+unfolding data_at
+data_long run d h l = h (d + d / 312 + 1) (data_there run d l)
+
+rows_are : (run : List (List ℤ)) → AreLong run → (j : ℕ) → 0 ≤ j → j < 0 + 4 * groups_of run
+    → length (sliced_data (data_at run j)) ≡ 828
+rows_are run h j a l = segment_long (data_at run j) (data_long run j h (omega arith))
+
+-- the level of data symbol k of data segment d
+pub level_in : (run : List (List ℤ)) (d k : ℕ) → AreLong run → d < 4 * groups_of run → k < 828
+    → get_or (levels_in run) (828 * d + k) 0 ≡ sliced (get_or (data_at run d) (4 + k) (pos 0))
+unfolding levels_in levels_from sliced_data
+level_in run d k h l m =
+    let none : 0 + d ≡ d = omega arith in
+    let rest : k < length (drop 4 (data_at run d)) =
+    omega (arith, m, length-drop 4 (data_at run d), data_long run d h l) in
+    row_at (λ i. sliced_data (data_at run i)) 0 (4 * groups_of run) d k (rows_are run h) l m
+    ∙ ap (λ i. get_or (sliced_data (data_at run i)) k 0) none
+    ∙ get_or-map sliced (drop 4 (data_at run d)) k (pos 0) 0 rest
+    ∙ ap sliced (get_or-drop 4 (data_at run d) k (pos 0))
+
+pub length-levels : (run : List (List ℤ)) → AreLong run → length (levels_in run) ≡ 3312 * groups_of run
+unfolding levels_in levels_from
+length-levels run h =
+    (let long = rows_long (λ i. sliced_data (data_at run i)) 0 (4 * groups_of run) (rows_are run h) in
+    omega (arith, long))
+
+-- ---- bytes
+
+pub level_groups_are : (run : List (List ℤ)) → AreLong run → level_groups (levels_in run) ≡ groups_of run
+unfolding level_groups
+level_groups_are run h = (let long = length-levels run h in omega (arith, long))
+
+pub length-bytes : (run : List (List ℤ)) → AreLong run → length (bytes_in run) ≡ 828 * groups_of run
+unfolding bytes_in bytes_back
+length-bytes run h =
+    length-map-range_with_len (byte_back 0 (first_bits run) (levels_in run)) 0 (828 * level_groups (levels_in run))
+    ∙ ap (λ g. 828 * g) (level_groups_are run h)
+
+pub byte_in : (run : List (List ℤ)) (n : ℕ) → AreLong run → n < 828 * groups_of run
+    → get_or (bytes_in run) n 0 ≡ byte_back 0 (first_bits run) (levels_in run) n
+unfolding bytes_in bytes_back
+byte_in run n h l =
+    get_or-map-range_with_len (byte_back 0 (first_bits run) (levels_in run)) 0 (828 * level_groups (levels_in run)) n n
+    0 (omega (arith, l, level_groups_are run h)) (omega arith)

@@ -1,0 +1,17 @@
+use Rattle.std.proofs.Common.{arith}
+use Rattle.dtx_receiver.specs.Bytes.{bytes_in}
+use Rattle.dtx_rounds.specs.Known.{known_bytes}
+use Rattle.dtx_rounds.specs.Rounds.{heard_of, refined}
+use Rattle.dtx_rounds.proofs.Growing.{known_costs_more}
+use Rattle.dtx_rounds.proofs.RefinedLemmas.{costs_next}
+use Rattle.dtx_rounds.proofs.laws.costs_rise.Goals as goal
+
+pub returns-clause-first : goal.returns-clause-first
+returns-clause-first c =
+    λ scale f e symbols.
+    known_costs_more scale (heard_of symbols) (known_bytes (bytes_in (refined scale symbols 0))) f e
+
+pub returns-clause-next : goal.returns-clause-next
+returns-clause-next c =
+    λ scale r f e symbols some most. costs_next scale r f e symbols
+    (c.whole_fields_are_acquired.ensures.segments scale symbols some) some (omega (arith, most))

@@ -1,0 +1,76 @@
+//! Laws of rounds.
+
+ghost use Rattle.std.specs.Prelude.{◌≡◌, ◌+◌, ◌<◌, ◌≤◌, ℕ, ℤ, true, Some, None, List, [], length, slice_index_or};
+ghost use Rattle.dtx_laws.specs.Codeword.{IsCodeword};
+ghost use Rattle.dtx_outer.specs.Inner.{word_at};
+ghost use Rattle.dtx_receiver.specs.Bytes.{bytes_in};
+ghost use Rattle.dtx_receiver.specs.Packets.{is_complete};
+ghost use Rattle.dtx_soft.specs.Softened.{least_cost};
+ghost use Rattle.dtx_acquire.specs.Acquired.{acquired};
+ghost use Rattle.dtx_rounds.specs.Known.{known_bytes, known_word};
+ghost use Rattle.dtx_rounds.specs.Pins.{byte_at_step};
+ghost use Rattle.dtx_rounds.specs.Rounds.{coder_cost, groups_in, heard_of, refined, rounded, rounds_of};
+
+use dtx_acquire::laws::whole_fields_are_acquired;
+use dtx_sizes::{CODERS, CODEWORD, PACKET_DATA, SEGMENT};
+use dtx_soft::MAX_SCALE;
+
+/// The bytes whose pairs are sent in the first data symbols of the first five segments of a field.
+pub fn first_bytes()
+    ensures segment_0 { byte_at_step 0 0 ≡ 0 }
+    ensures segment_1 { byte_at_step 4 69 ≡ 208 }
+    ensures segment_2 { byte_at_step 8 138 ≡ 412 }
+    ensures segment_3 { byte_at_step 0 207 ≡ 616 }
+    ensures segment_4 { byte_at_step 4 276 ≡ 828 }
+{}
+
+/// Each word that is known of some segments is known of those after a round, with the same correction. So each word
+/// that is known after some rounds over a capture is known after all further ones.
+pub fn what_is_known_stays()
+    ensures round { (scale k : ℕ) (heard given : List (List ℤ)) (code : List ℕ) → 0 < scale → scale ≤ MAX_SCALE
+        → ((i : ℕ) → i < length given → length (slice_index_or given i []) ≡ SEGMENT) → length heard ≡ length given
+        → known_word (bytes_in given) k ≡ Some code → known_word (bytes_in (rounded scale heard given)) k ≡ Some code }
+    ensures capture { (scale r n k : ℕ) (symbols : List ℤ) (code : List ℕ) → 0 < scale → scale ≤ MAX_SCALE
+        → known_word (bytes_in (refined scale symbols r)) k ≡ Some code
+        → known_word (bytes_in (refined scale symbols (r + n))) k ≡ Some code }
+{
+    whole_fields_are_acquired();
+}
+
+/// Where no byte of a word is put right that is known of the acquired segments, rounds leave these as they are. So do
+/// they where all words whose bytes are there are codewords, as those of a stream are, and where no word is known.
+pub fn rounds_move_what_is_put_right()
+    ensures own { (scale r : ℕ) (symbols : List ℤ) → 0 < scale → scale ≤ MAX_SCALE
+        → ((k : ℕ) (code : List ℕ) → known_word (bytes_in (acquired scale symbols)) k ≡ Some code
+        → code ≡ word_at 207 52 4 (bytes_in (acquired scale symbols)) k)
+        → refined scale symbols r ≡ acquired scale symbols }
+    ensures codewords { (scale r : ℕ) (symbols : List ℤ) → 0 < scale → scale ≤ MAX_SCALE
+        → ((k : ℕ) → is_complete (length (bytes_in (acquired scale symbols))) k ≡ true
+        → IsCodeword CODEWORD PACKET_DATA (word_at 207 52 4 (bytes_in (acquired scale symbols)) k))
+        → refined scale symbols r ≡ acquired scale symbols }
+    ensures none { (scale r : ℕ) (symbols : List ℤ) → 0 < scale → scale ≤ MAX_SCALE
+        → ((k : ℕ) → known_word (bytes_in (acquired scale symbols)) k ≡ None)
+        → refined scale symbols r ≡ acquired scale symbols }
+{
+    whole_fields_are_acquired();
+}
+
+/// Where a round gives what it was given, all further ones do.
+pub fn a_round_that_moves_nothing_is_the_last()
+    ensures rounds { (scale n : ℕ) (heard given : List (List ℤ)) → rounded scale heard given ≡ given
+        → rounds_of scale heard given n ≡ given }
+    ensures capture { (scale r n : ℕ) (symbols : List ℤ) → refined scale symbols (r + 1) ≡ refined scale symbols r
+        → refined scale symbols (r + n) ≡ refined scale symbols r }
+{}
+
+/// The least path of a coder in a field costs no less in a round than in the one before, and in the first round no less
+/// than without pins.
+pub fn costs_rise()
+    ensures first { (scale f e : ℕ) (symbols : List ℤ) → least_cost scale (groups_in (heard_of symbols) f) e
+        ≤ coder_cost scale (heard_of symbols) (known_bytes (bytes_in (refined scale symbols 0))) f e }
+    ensures next { (scale r f e : ℕ) (symbols : List ℤ) → 0 < scale → scale ≤ MAX_SCALE → e < CODERS
+        → coder_cost scale (heard_of symbols) (known_bytes (bytes_in (refined scale symbols r))) f e
+        ≤ coder_cost scale (heard_of symbols) (known_bytes (bytes_in (refined scale symbols (r + 1)))) f e }
+{
+    whole_fields_are_acquired();
+}
