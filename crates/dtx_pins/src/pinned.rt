@@ -16,7 +16,8 @@ pub const NO_PIN: u8 = 4;
 
 /// Decodes the symbols of the trellis coders under pins (ATSC A/53 Part 2, trellis coding). A pin tells the pair that a
 /// coder was given at one of its steps. Of all paths that agree with the pins it finds the one whose levels lie nearest
-/// to the symbols, in the sum of the squares. Contracts see its scale.
+/// to the symbols, in the sum of the squares. Of several it is the one with the smallest start, and then the first in
+/// order of level numbers. Contracts see its scale.
 #[derive(Drop)]
 pub struct Pinned {
     table: Table,
@@ -50,7 +51,8 @@ impl Pinned {
     }
 
     /// Replaces the symbols of each of the twelve coders by those of its least path under its pins, in the first data
-    /// segments of a field. It returns the sum of the costs of the twelve paths.
+    /// segments of a field. The symbols that it writes are at its scale. It returns the sum of the costs of the twelve
+    /// paths.
     ///
     /// `pins` has an entry for each step of the coders, 69 for each segment, and in it a pin for each coder. A pin
     /// below 4 is the pair 2 * X2 + X1. From `NO_PIN` on it says nothing. The X2 of the first entry says nothing

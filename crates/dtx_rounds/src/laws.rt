@@ -15,7 +15,8 @@ use dtx_acquire::laws::whole_fields_are_acquired;
 use dtx_sizes::{CODERS, CODEWORD, PACKET_DATA, SEGMENT};
 use dtx_soft::MAX_SCALE;
 
-/// The bytes whose pairs are sent in the first data symbols of the first five segments of a field.
+/// At the first step of each of the first five segments of a field: the place of the byte whose pair a coder takes. The
+/// coders are 0, 4, 8, 0 and 4.
 pub fn first_bytes()
     ensures segment_0 { byte_at_step 0 0 ≡ 0 }
     ensures segment_1 { byte_at_step 4 69 ≡ 208 }
@@ -37,9 +38,9 @@ pub fn what_is_known_stays()
     whole_fields_are_acquired();
 }
 
-/// Where no byte of a word is put right that is known of the acquired segments, rounds leave these as they are. So do
-/// they where all words whose bytes are there are codewords, as those of a stream are, and where no word is known.
-pub fn rounds_move_what_is_put_right()
+/// If no byte of a known word of the acquired segments is put right, rounds leave these segments as they are. They do so
+/// if all words whose bytes are there are codewords, as those of a stream are, and if no word is known.
+pub fn nothing_moves_where_no_byte_is_put_right()
     ensures own { (scale r : ℕ) (symbols : List ℤ) → 0 < scale → scale ≤ MAX_SCALE
         → ((k : ℕ) (code : List ℕ) → known_word (bytes_in (acquired scale symbols)) k ≡ Some code
         → code ≡ word_at 207 52 4 (bytes_in (acquired scale symbols)) k)

@@ -4,7 +4,7 @@ use Rattle.dtx_acquire.specs.Acquired.{acquired, all_fields}
 use Rattle.dtx_rounds.proofs.FieldRows.{are_fields}
 use Rattle.dtx_rounds.proofs.Growing.{none_some}
 use Rattle.dtx_rounds.proofs.StillLemmas.{own_code, still}
-use Rattle.dtx_rounds.proofs.laws.rounds_move_what_is_put_right.Goals as goal
+use Rattle.dtx_rounds.proofs.laws.nothing_moves_where_no_byte_is_put_right.Goals as goal
 
 pub returns-clause-own : goal.returns-clause-own
 returns-clause-own c =
