@@ -38,8 +38,8 @@ pub fn what_is_known_stays()
     whole_fields_are_acquired();
 }
 
-/// If no byte of a known word of the acquired segments is put right, rounds leave these segments as they are. They do so
-/// if all words whose bytes are there are codewords, as those of a stream are, and if no word is known.
+/// If no byte of a known word of the acquired segments is put right, rounds leave these segments as they are. They do
+/// so if all words whose bytes are there are codewords, as those of a stream are, and if no word is known.
 pub fn nothing_moves_where_no_byte_is_put_right()
     ensures own { (scale r : ℕ) (symbols : List ℤ) → 0 < scale → scale ≤ MAX_SCALE
         → ((k : ℕ) (code : List ℕ) → known_word (bytes_in (acquired scale symbols)) k ≡ Some code
