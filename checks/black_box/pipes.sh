@@ -161,14 +161,14 @@ cmp -s wanted.ts out.ts || wrong 'out.ts has other packets'
 # ---- Writers that are slow, end early, or never come ----
 
 start 'what `code` makes of the first 160 packets comes before there are more'
-comes_after $((160 * 188)) 122880 "$room/long.sym" ../inputs/long.ts code in out.sym
+comes_after $((160 * 188)) 4096 "$room/long.sym" ../inputs/long.ts code in out.sym
 
 start 'what `adapt` makes of the first 700 packets comes before there are more'
-comes_after $((700 * 188)) 122880 "$room/long.feed" ../inputs/long.ts adapt "$plan" in out.ts
+comes_after $((700 * 188)) 4096 "$room/long.feed" ../inputs/long.ts adapt "$plan" in out.ts
 
 start 'what `receive` makes of the first 755 segments comes before there are more'
 "$dtx" receive "$room/long.sym" "$room/long.back" >"$room/said"
-comes_after $((755 * 832)) 122880 "$room/long.back" "$room/long.sym" receive in out.ts
+comes_after $((755 * 832)) 4096 "$room/long.back" "$room/long.sym" receive in out.ts
 
 start 'a writer of small pieces'
 for size in 7 189; do
