@@ -2,6 +2,7 @@
 ghost use Rattle.std.specs.Prelude.{◌≡◌, ◌<◌, ◌≤◌, ◌+◌, ◌^◌, IfOk, IfSome, IsSomeAnd, length};
 ghost use Rattle.std.specs.FinMap as map;
 ghost use Rattle.dtx_outside.specs.Counts.{HasGone, blame_of_read, blame_of_write};
+ghost use Rattle.dtx_outside.specs.Foreseen.{nothing_foreseen};
 ghost use Rattle.dtx_outside.specs.Refusals.{no_counts, counts_read, counts_written};
 ghost use Rattle.dtx_outside.specs.Shelf.{untold, Gives, IsBegun, IsAppended};
 
@@ -68,6 +69,8 @@ impl<R: Files + AllocGlobal + Clock + Eprint + Input> Shelf for HostShelf<'_, R>
     ghost files = { λ _. untold };
 
     ghost counts = { λ s. s };
+
+    ghost foreseen = { nothing_foreseen };
 
     fn read(&mut self, name: &str, place: u64, into: &mut [u8]) -> Result<usize, ReadNo>
         requires wanted { 0 < length into.old }
