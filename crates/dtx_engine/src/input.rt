@@ -5,6 +5,7 @@ ghost use Rattle.dtx_outside.specs.Counts.{HasGone};
 ghost use Rattle.dtx_meaning.specs.Status.{IsOfInput, blame_of_answer};
 ghost use Rattle.dtx_engine.specs.Course.{IsAsked};
 ghost use Rattle.dtx_engine.specs.Recipe.{IsAnswerOf, Recipe};
+ghost use Rattle.dtx_engine.specs.Stages.{IsForeseenAsk};
 
 use dtx_meaning::{Status, of_read};
 use dtx_outside::Shelf;
@@ -27,6 +28,7 @@ pub fn ask_for<S: Shelf>(shelf: &mut S, which: u8, input: &str) -> Result<(), St
     ensures answer { (recipe : Recipe) → IfErr result (IsAnswerOf recipe) }
     ensures kept { S.files shelf.new ≡ S.files shelf.old }
     ensures gone { HasGone (S.counts shelf.old) (S.counts shelf.new) (blame_of_answer result) }
+    ensures foreseen { IsForeseenAsk (S.foreseen.readable input.now) result }
 {
     let mut first = [0u8; 1];
     match shelf.read(input, 0, &mut first) {

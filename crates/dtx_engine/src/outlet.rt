@@ -1,9 +1,10 @@
 // Where a command writes: one output, or two.
-ghost use Rattle.std.specs.Prelude.{◌≡◌, ◌≢◌, ℕ, List, [], ◌∷◌, Option, IfOk};
+ghost use Rattle.std.specs.Prelude.{◌≡◌, ◌≢◌, ℕ, List, [], ◌∷◌, Option, IfOk, IfErr, IsOk, true};
 ghost use Rattle.dtx_outside.specs.Counts.{HasGone};
 ghost use Rattle.dtx_outside.specs.Shelf.{Files};
 ghost use Rattle.dtx_meaning.specs.Meaning.{ArePartWritten};
 ghost use Rattle.dtx_meaning.specs.Status.{blame_of_answer};
+ghost use Rattle.dtx_meaning.specs.declared.status.Status.TheVariants.{ReadFault};
 ghost use Rattle.dtx_engine.specs.Made.{Made, both, joined, only, outputs_of};
 ghost use Rattle.dtx_engine.specs.Outlet.{IsAllPut, IsFaultAlone, IsPut};
 
@@ -31,7 +32,8 @@ pub trait Outlet {
             → IsPut (names self.old) start (only []) result (gathered self.new) (S.files shelf.new) }
         ensures kept { names self.new ≡ names self.old }
         ensures fault { IsFaultAlone result }
-        ensures gone { HasGone (S.counts shelf.old) (S.counts shelf.new) (blame_of_answer result) };
+        ensures gone { HasGone (S.counts shelf.old) (S.counts shelf.new) (blame_of_answer result) }
+        ensures begins { IfErr result (λ status. status ≢ ReadFault) };
 
     /// Takes bytes for the first output, and for the second if there is one.
     fn write<S: Shelf>(&mut self, shelf: &mut S, first: &[u8], second: &[u8]) -> Result<(), Status>
@@ -40,7 +42,8 @@ pub trait Outlet {
             (S.files shelf.new) }
         ensures kept { names self.new ≡ names self.old }
         ensures fault { IsFaultAlone result }
-        ensures gone { HasGone (S.counts shelf.old) (S.counts shelf.new) (blame_of_answer result) };
+        ensures gone { HasGone (S.counts shelf.old) (S.counts shelf.new) (blame_of_answer result) }
+        ensures sure { S.foreseen.appends ≡ true → IsOk result };
 
     /// Writes all bytes that are gathered to the files.
     fn flush<S: Shelf>(&mut self, shelf: &mut S) -> Result<(), Status>
@@ -48,7 +51,8 @@ pub trait Outlet {
             → IsAllPut (names self.old) start given result (S.files shelf.new) }
         ensures kept { names self.new ≡ names self.old }
         ensures fault { IsFaultAlone result }
-        ensures gone { HasGone (S.counts shelf.old) (S.counts shelf.new) (blame_of_answer result) };
+        ensures gone { HasGone (S.counts shelf.old) (S.counts shelf.new) (blame_of_answer result) }
+        ensures sure { S.foreseen.appends ≡ true → IsOk result };
 
     /// There is at least one output.
     ghost some: { (w : Self) → names w ≢ [] };

@@ -1,5 +1,5 @@
 // Writes what an engine has made: its zeros, and the bytes that it lends.
-ghost use Rattle.std.specs.Prelude.{◌≡◌, Option, replicate};
+ghost use Rattle.std.specs.Prelude.{◌≡◌, Option, IsOk, replicate, true};
 ghost use Rattle.dtx_outside.specs.Counts.{HasGone};
 ghost use Rattle.dtx_outside.specs.Shelf.{Files};
 ghost use Rattle.dtx_meaning.specs.Status.{blame_of_answer};
@@ -26,6 +26,7 @@ pub(crate) fn write_made<E: Engine, W: Outlet, S: Shelf>(
     ensures kept { W.names outlet.new ≡ W.names outlet.old }
     ensures fault { IsFaultAlone result }
     ensures gone { HasGone (S.counts shelf.old) (S.counts shelf.new) (blame_of_answer result) }
+    ensures sure { S.foreseen.appends ≡ true → IsOk result }
 {
     let made = engine.made(bytes);
     match write_zeros(engine.zeros(), outlet, shelf) {
@@ -42,6 +43,7 @@ fn write_zeros<W: Outlet, S: Shelf>(count: u64, outlet: &mut W, shelf: &mut S) -
     ensures kept { W.names outlet.new ≡ W.names outlet.old }
     ensures fault { IsFaultAlone result }
     ensures gone { HasGone (S.counts shelf.old) (S.counts shelf.new) (blame_of_answer result) }
+    ensures sure { S.foreseen.appends ≡ true → IsOk result }
 {
     let zeros = [0; ZEROS];
     let mut left = count;

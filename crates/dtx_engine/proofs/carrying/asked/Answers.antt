@@ -1,5 +1,7 @@
+use Rattle.std.proofs.Common.{◌∙◌}
 use Rattle.dtx_meaning.specs.Status.{blame_of, outcome_of}
 use Rattle.dtx_engine.proofs.Gone.{gone_behind}
+use Rattle.dtx_engine.proofs.Stages.{asked_stages, unasked_stages}
 use Rattle.dtx_engine.proofs.carrying.asked.Goals as goal
 
 pub returns-in-Err-clause-answer : goal.returns-in-Err-clause-answer
@@ -22,3 +24,18 @@ returns-in-Ok-clause-answer g c = c.begun.ensures.answer
 
 pub returns-in-Err-clause-input : goal.returns-in-Err-clause-input
 returns-in-Err-clause-input g c = c.in-Err.ensures.input
+
+pub returns-in-Ok-clause-stages : goal.returns-in-Ok-clause-stages
+returns-in-Ok-clause-stages g c = λ apart held told.
+    let place = c.args.place in
+    asked_stages g.S.Shelf.foreseen place.shape (g.E.Engine.recipe c.args.engine.now) place.input.name.now
+    (g.W.Outlet.names c.args.outlet.now) held (outcome_of c.begun.result).status (g.S.Shelf.files c.begun.new.shelf) _
+    c.in-Ok.ensures.foreseen
+    (λ file there. c.begun.ensures.stages apart held file (c.in-Ok.ensures.kept ∙ told) there)
+
+pub returns-in-Err-clause-stages : goal.returns-in-Err-clause-stages
+returns-in-Err-clause-stages g c = λ apart held told.
+    let place = c.args.place in
+    unasked_stages g.S.Shelf.foreseen place.shape (g.E.Engine.recipe c.args.engine.now) place.input.name.now
+    (g.W.Outlet.names c.args.outlet.now) held c.in-Err.status (g.S.Shelf.files c.ask_for.new.shelf)
+    c.in-Err.ensures.foreseen (c.in-Err.ensures.kept ∙ told)

@@ -8,6 +8,7 @@ use Rattle.dtx_engine.specs.Recipe.{meaning_of_file}
 use Rattle.dtx_engine.proofs.Gone.{gone_behind}
 use Rattle.std.specs.Prelude.{Err, Some, refl}
 use Rattle.dtx_meaning.specs.Status.{outcome_of}
+use Rattle.dtx_engine.specs.Stages.{IsStopOf}
 use Rattle.dtx_engine.proofs.Turns.{unbegun}
 use Rattle.dtx_engine.proofs.carrying.begun.Goals as goal
 
@@ -22,6 +23,7 @@ returns-in-Err g c = record {
   input = fault_of_input c.args.place.input.number c.in-Err.status c.in-Err.ensures.fault;
   answer = fault_answers (g.E.Engine.recipe c.args.engine.now) c.in-Err.status c.in-Err.ensures.fault;
   gone = c.in-Err.ensures.gone;
+  stages = λ apart held file told there n readable sure fault. absurd (c.in-Err.ensures.begins fault);
 }
 
 pub returns-in-Ok : goal.returns-in-Ok
@@ -39,4 +41,13 @@ returns-in-Ok g c = record {
   gone = gone_behind (blame_of c.carry.result.status) (g.S.Shelf.counts c.args.shelf.now)
       (g.S.Shelf.counts c.begin.new.shelf) (g.S.Shelf.counts c.carry.new.shelf) c.in-Ok.ensures.gone
       c.carry.ensures.gone;
+  stages = λ apart held file told there.
+      let place = c.args.place in
+      let input = place.input.name.now in
+      let recipe = g.E.Engine.recipe c.args.engine.now in
+      let now = g.S.Shelf.files c.carry.new.shelf in
+      let here = subst (λ (n : List (List ℕ)). IsNoneOf input n) (sym c.begin.ensures.kept) apart in
+      subst (λ (n : List (List ℕ)). IsStopOf g.S.Shelf.foreseen place.shape recipe input n held file
+      c.carry.result.status now) c.begin.ensures.kept
+      (c.carry.ensures.stages here held file (c.in-Ok.ensures.begun (Some held) told) there);
 }

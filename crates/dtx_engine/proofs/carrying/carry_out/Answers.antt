@@ -1,3 +1,5 @@
+use Rattle.dtx_engine.proofs.Stages.{where_told}
+use Rattle.dtx_engine.specs.Stages.{AreStages}
 use Rattle.dtx_engine.proofs.carrying.carry_out.Goals as goal
 
 pub returns-in-Ok : goal.returns-in-Ok
@@ -6,6 +8,11 @@ returns-in-Ok g c = record {
   input = c.in-Ok.ensures.input;
   answer = c.in-Ok.ensures.answer;
   gone = c.in-Ok.ensures.gone;
+  stages = λ apart. where_told (g.S.Shelf.files c.args.shelf.now)
+      (λ held. AreStages g.S.Shelf.foreseen g.E.Engine.shape (g.E.Engine.recipe c.args.engine.now)
+      c.args.input.name.now (g.W.Outlet.names c.args.outlet.now) held c.in-Ok.outcome.status
+      (g.S.Shelf.files c.with_room.new.shelf))
+      (c.in-Ok.ensures.stages apart);
 }
 
 pub returns-in-Err : goal.returns-in-Err
@@ -14,4 +21,9 @@ returns-in-Err g c = record {
   input = rw c.ended.ensures c.in-Err.ensures.input;
   answer = rw c.ended.ensures c.in-Err.ensures.answer;
   gone = rw c.ended.ensures c.in-Err.ensures.gone;
+  stages = λ apart. where_told (g.S.Shelf.files c.args.shelf.now)
+      (λ held. AreStages g.S.Shelf.foreseen g.E.Engine.shape (g.E.Engine.recipe c.args.engine.now)
+      c.args.input.name.now (g.W.Outlet.names c.args.outlet.now) held c.ended.result.status
+      (g.S.Shelf.files c.with_room.new.shelf))
+      (λ held told. rw c.ended.ensures (c.in-Err.ensures.stages apart held told));
 }

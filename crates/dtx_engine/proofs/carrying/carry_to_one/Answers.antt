@@ -1,3 +1,11 @@
+use Rattle.std.proofs.Common.{List, ℕ, [], ◌∷◌, ap, subst, ◌∙◌}
+use Rattle.std.specs.Prelude.{IfSome}
+use Rattle.dtx_meaning.specs.Status.{ended}
+use Rattle.dtx_meaning.specs.declared.status.Status.{Status}
+use Rattle.dtx_meaning.specs.declared.status.Status.TheVariants.{Memory}
+use Rattle.dtx_engine.specs.Made.{IsNoneOf}
+use Rattle.dtx_engine.specs.Stages.{AreStages}
+use Rattle.dtx_engine.proofs.Stages.{ended_not_read, kept_stages, where_told}
 use Rattle.dtx_engine.proofs.carrying.carry_to_one.Goals as goal
 
 pub returns-in-Ok-clause-input : goal.returns-in-Ok-clause-input
@@ -14,3 +22,22 @@ carry_out-requires-clause-fresh g c = c.requires.fresh
 
 pub carry_out-requires-clause-outlet : goal.carry_out-requires-clause-outlet
 carry_out-requires-clause-outlet g c = c.in-Ok.ensures.0
+
+pub returns-in-Ok-clause-stages : goal.returns-in-Ok-clause-stages
+returns-in-Ok-clause-stages g c =
+    let input = c.args.input.name.now in
+    subst (λ (n : List (List ℕ)). IsNoneOf input n → IfSome (g.S.Shelf.files c.args.shelf.now) (λ held.
+    AreStages g.S.Shelf.foreseen g.E.Engine.shape (g.E.Engine.recipe c.args.engine.now) input n held
+    c.carry_out.result.status (g.S.Shelf.files c.carry_out.new.shelf))) c.in-Ok.ensures.1 c.carry_out.ensures.stages
+    (c.requires.differ, tt)
+
+pub returns-in-Err-clause-stages : goal.returns-in-Err-clause-stages
+returns-in-Err-clause-stages g c =
+    let told = g.S.Shelf.files c.args.shelf.now in
+    let recipe = g.E.Engine.recipe c.args.engine.now in
+    let input = c.args.input.name.now in
+    let names = c.args.output.now ∷ [] in
+    where_told told
+    (λ held. AreStages g.S.Shelf.foreseen g.E.Engine.shape recipe input names held c.ended.result.status told)
+    (λ held same. kept_stages g.S.Shelf.foreseen g.E.Engine.shape recipe input names held c.ended.result.status told
+    (ended_not_read c.ended.result Memory (c.ended.ensures ∙ ap (λ (s : Status). ended s) c.from.ensures) (λ e. cc)) same)

@@ -6,6 +6,7 @@ returns g c = record {
   input = c.asked.ensures.input;
   answer = c.asked.ensures.answer;
   gone = c.asked.ensures.gone;
+  stages = rw c.sizes-shape.ensures.same at c.asked.ensures.stages;
 }
 
 pub asked-requires-clause-fresh : goal.asked-requires-clause-fresh
