@@ -1,5 +1,6 @@
 -- Lemmas of the stages of a command: what is asked, what isn't read, and what is written by then.
-use Rattle.std.proofs.Common.{◌≡◌, ◌≢◌, Bool, true, false, ℕ, ◌+◌, ◌*◌, ◌<◌, List, [], ◌++◌, length, take, refl, sym, ap, subst, ◌∙◌, arith}
+use Rattle.std.proofs.Common.{◌≡◌, ◌≢◌, Bool, true, false, ℕ, ◌+◌, ◌*◌, ◌<◌, List, ◌++◌, length, take}
+use Rattle.std.proofs.Common.{refl, sym, ap, subst, ◌∙◌, arith}
 use Rattle.std.specs.Prelude.{Option, Some, None, Result, Ok, Err, IfErr, IfSome}
 use Rattle.std.specs.FinMap.{get}
 use Rattle.std.proofs.lemmas.List.{append-nil}
@@ -77,7 +78,8 @@ pub unread_stage : (readable : Option ℕ) (number place wanted behind : ℕ) (c
     → status ≡ of_read number cause → place + wanted ≡ behind → IsForeseenFill readable place wanted (Err cause)
     → IsUnread readable behind (record { units = 0; bytes = 0; ended = Some (Refused status) })
 unread_stage readable number place wanted behind cause status is all fill = λ ended.
-    (refl, unread_behind readable number place wanted behind cause all fill (sym is ∙ same_status status ReadFault ended))
+    let fault = sym is ∙ same_status status ReadFault ended in
+    (refl, unread_behind readable number place wanted behind cause all fill fault)
 
 -- ---- writing
 
@@ -105,7 +107,7 @@ turn_stopped shape recipe names held file count bytes taken n now none room behi
   shape.unit * count,
   omega (arith, behind, room),
   written ∙ ap (λ (b : List ℕ). with_outputs (outputs_of names (recipe.made b)) (Some held))
-  (ap (λ (t : ℕ). first_units shape file count ++ take t bytes) none ∙ append-nil (first_units shape file count)),
+      (ap (λ (t : ℕ). first_units shape file count ++ take t bytes) none ∙ append-nil (first_units shape file count)),
 )
 
 -- ---- the stages

@@ -1,6 +1,6 @@
 -- In which order a command asks for its input, begins its outputs, and writes what it makes.
 -- It is said by what the outputs hold where a read fails.
-use Rattle.std.specs.Prelude.{◌≡◌, ℕ, ◌+◌, ◌*◌, ◌<◌, Bool, true, List, take, Option, Some, None, Result, Ok, Err}
+use Rattle.std.specs.Prelude.{◌≡◌, ℕ, ◌+◌, ◌*◌, ◌<◌, true, List, take, Option, Some, None, Result, Ok, Err}
 use Rattle.std.specs.FinMap.{get}
 use Rattle.dtx_outside.specs.Foreseen.{Foreseen}
 use Rattle.dtx_outside.specs.Shelf.{Files}
@@ -12,7 +12,6 @@ use Rattle.dtx_engine.specs.Recipe.{Recipe}
 use Rattle.dtx_engine.specs.declared.carrying.Turn.{Turn}
 use Rattle.dtx_engine.specs.declared.carrying.Turn.TheVariants.{On, Ended}
 use Rattle.dtx_engine.specs.declared.engine.Shape.{Shape}
-use Rattle.dtx_engine.specs.declared.piece.Ending.{Ending}
 use Rattle.dtx_engine.specs.declared.piece.Ending.TheVariants.{Refused}
 use Rattle.dtx_engine.specs.declared.piece.Piece.{Piece}
 

@@ -6,7 +6,7 @@ use Rattle.dtx_outside.specs.declared.shelf.ReadNo.TheVariants.{Absent, Failed, 
 
 -- What is certain of the calls of a kind of shelf before any is made. It may be nothing.
 pub record Foreseen : Type 0 where
-  -- how many bytes at the front of the file of that name can be read, where it is certain that no byte behind them can
+  -- how many bytes at the front of the file of that name can be read while no byte behind them can, where it is certain
   pub readable : List ℕ → Option ℕ
   -- whether no append is refused
   pub appends : Bool
@@ -15,8 +15,8 @@ pub record Foreseen : Type 0 where
 abbrev pub nothing_foreseen : Foreseen
 nothing_foreseen = record { readable = λ name. None; appends = false }
 
--- What a read of `wanted` bytes from offset `place` on can answer, where the readable bytes are foreseen. It gives bytes
--- among the readable ones. Or reading fails, if one of the wanted bytes isn't readable.
+-- What a read of `wanted` bytes from offset `place` on can answer, where the readable bytes are foreseen. It gives
+-- bytes among the readable ones. Or reading fails, if one of the wanted bytes isn't readable.
 abbrev pub IsForeseenRead : Option ℕ → ℕ → ℕ → Result ℕ ReadNo → Type 0
 IsForeseenRead None place wanted result = Unit {0}
 IsForeseenRead (Some n) place wanted (Ok count) = (place < n) × (place + count ≤ n)

@@ -40,4 +40,5 @@ returns-in-Err-clause-stages g c =
     where_told told
     (λ held. AreStages g.S.Shelf.foreseen g.E.Engine.shape recipe input names held c.ended.result.status told)
     (λ held same. kept_stages g.S.Shelf.foreseen g.E.Engine.shape recipe input names held c.ended.result.status told
-    (ended_not_read c.ended.result Memory (c.ended.ensures ∙ ap (λ (s : Status). ended s) c.from.ensures) (λ e. cc)) same)
+    (ended_not_read c.ended.result Memory (c.ended.ensures ∙ ap (λ (s : Status). ended s) c.from.ensures) (λ e. cc))
+    same)
