@@ -34,16 +34,16 @@ joined_at b next lists bytes p = slice_index_or lists (branch_at b next p) [] ++
 abbrev pub IsEven : ℕ → ℕ → ℕ → ℕ → Type 0
 IsEven b p w len = (p + w ≤ len % b) ⊎ (len % b ≤ p)
 
--- Columns have room for 208 bytes each. The branches of the places from `from` up to `to`, without it, have each taken
+-- Columns have room for 560 bytes each. The branches of the places from `from` up to `to`, without it, have each taken
 -- n bytes from their columns. Their n oldest bytes have gone. All other branches are as before.
 pub record AreExchanged (b next from to n : ℕ) (old new : List (List ℕ)) (come gone : List ℕ) : Type 0 where
   pub count : length new ≡ length old
   pub kept : (p : ℕ) → from ≤ p → p < to → slice_index_or new (branch_at b next p) []
-      ≡ drop n (slice_index_or old (branch_at b next p) [] ++ take n (drop ((p - from) * 208) come))
+      ≡ drop n (slice_index_or old (branch_at b next p) [] ++ take n (drop ((p - from) * 560) come))
   pub others : (p : ℕ) → (p < from) ⊎ (to ≤ p) → p < b
       → slice_index_or new (branch_at b next p) [] ≡ slice_index_or old (branch_at b next p) []
-  pub left : (p k : ℕ) → from ≤ p → p < to → k < n → slice_index gone ((p - from) * 208 + k)
-      ≡ slice_index (slice_index_or old (branch_at b next p) [] ++ take n (drop ((p - from) * 208) come)) k
+  pub left : (p k : ℕ) → from ≤ p → p < to → k < n → slice_index gone ((p - from) * 560 + k)
+      ≡ slice_index (slice_index_or old (branch_at b next p) [] ++ take n (drop ((p - from) * 560) come)) k
 
 -- The bytes at the places from `from` up to `to`, without it, have gone through. As many leave each branch as have come
 -- to it, and they stand where those stood. All other branches and bytes are as before.

@@ -13,14 +13,14 @@ loop-c-preserved c =
     let rings = c.loop-c.rings in
     let at = c.branch_at-branch.result in
     let e = c.exchange_at in
-    let z = n * 208 + 208 - n * 208 in
-    let part = take z (drop (n * 208) c.args.come.now) in
-    let exact : z ≡ 208 = omega arith in
-    let room : n * 208 + z ≤ length c.loop-c.gone =
+    let z = n * 560 + 560 - n * 560 in
+    let part = take z (drop (n * 560) c.args.come.now) in
+    let exact : z ≡ 560 = omega arith in
+    let room : n * 560 + z ≤ length c.loop-c.gone =
     omega (arith, h.room, c.requires.columns.0, c.loop-c-test.true) in
     let went : length e.new.gone ≡ z =
     e.auto.gone
-    ∙ length-take-le z (drop (n * 208) c.loop-c.gone) (omega (arith, room, length-drop (n * 208) c.loop-c.gone)) in
+    ∙ length-take-le z (drop (n * 560) c.loop-c.gone) (omega (arith, room, length-drop (n * 560) c.loop-c.gone)) in
     let item : (get_or rings at c.index-rings-branch.result).items ≡ get_or (lists_of rings) at [] =
     sym (get_or-map (λ r. r.items) rings at c.index-rings-branch.result []
     (omega (arith, c.branch_at-branch.ensures.below, h.count))) in
@@ -35,5 +35,5 @@ loop-c-preserved c =
           ∙ ap (λ xs. drop c.args.count (xs ++ take c.args.count part)) item))
           (λ k l. e.ensures.gone k l ∙ ap (λ xs. get_or (xs ++ take c.args.count part) k 0) item) h.exchanged;
       count = length-set rings at e.new.ring ∙ h.count;
-      room = length_written (n * 208) z c.loop-c.gone e.new.gone room went ∙ h.room;
+      room = length_written (n * 560) z c.loop-c.gone e.new.gone room went ∙ h.room;
     }

@@ -7,5 +7,5 @@ invariant-loop-c l = record {
   exchanged : AreExchanged (length l.fn.rings) l.places.next l.places.first (l.places.first + l.c) l.count
       (lists_of l.fn.rings) (lists_of l.rings) l.come l.gone;
   count : length l.rings ≡ length l.fn.rings;
-  room : length l.gone ≡ 3328;
+  room : length l.gone ≡ 8960;
 }
