@@ -53,8 +53,8 @@ pub(crate) fn put_rows<const B: usize, const W: usize>(
 
 /// The bytes of `W` places of `count` rows.
 #[inline(always)]
-fn rows_at<const B: usize, const W: usize>(bytes: &[u8], place: usize, count: usize) -> [u8x16; 16]
-    requires numbers { (B ≤ 64) × (W ≤ 16) × (place + W ≤ B) }
+pub(crate) fn rows_at<const B: usize, const W: usize>(bytes: &[u8], place: usize, count: usize) -> [u8x16; 16]
+    requires numbers { (B ≤ 64) × (W ≤ 16) }
     requires rows { (count ≤ 16) × (count * B + place + W ≤ length bytes.now + B) }
     ensures tile { IsTile result }
     ensures rows { (r c : ℕ) → r < count → c < W → byte_at result r c ≡ slice_index bytes.now (place + c + r * B) }

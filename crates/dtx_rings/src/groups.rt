@@ -5,7 +5,7 @@ ghost use Rattle.std.specs.Prelude.{◌≡◌, ℕ, ◌+◌, ◌-◌, ◌*◌, �
 ghost use Rattle.dtx_rings.specs.Rings.{lists_of, count_at, IsEven, ArePassed};
 
 use crate::columns::{ROWS, put_rows, take_rows};
-use crate::rings::{Places, count_at, exchange_columns};
+use crate::rings::{Places, Rows, count_at, exchange_columns};
 use crate::scratch::Columns;
 use circular_buffer::HeapCircularBuffer;
 
@@ -27,16 +27,20 @@ pub(crate) fn pass_group<const B: usize, const W: usize>(
     ensures passed { ArePassed B next place (place + W) (lists_of rings.old) (lists_of rings.new) bytes.old bytes.new }
     ensures rings { length rings.new ≡ B }
 {
-    let count = count_at::<B>(bytes.len(), place);
     let places = Places {
         next,
         first: place,
         width: W,
     };
+    let rows = Rows {
+        whole: bytes.len() / B,
+        rest: bytes.len() % B,
+        stride: ROWS,
+    };
     let come = &mut columns.come[..];
     let gone = &mut columns.gone[..];
     gather::<B, W>(bytes, place, come);
-    exchange_columns(rings, places, count, come, gone);
+    exchange_columns(rings, places, rows, come, gone);
     scatter::<B, W>(gone, place, bytes);
 }
 
