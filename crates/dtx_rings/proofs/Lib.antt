@@ -6,5 +6,6 @@ pub mod Lent
 pub mod Written
 pub mod Strips
 pub mod Tiling
+pub mod ShortCalls
 pub mod Filled
 pub mod Shuffling

@@ -1,4 +1,4 @@
--- Columns of 208 bytes, written and read sixteen bytes at a time, and rows of b bytes, of which w are written.
+-- Columns of 560 bytes, written and read sixteen bytes at a time, and rows of b bytes, of which w are written.
 use Rattle.std.proofs.Common.{◌≡◌, ℕ, ◌+◌, ◌-◌, ◌*◌, ◌%◌, ◌<◌, ◌≤◌, ◌⊎◌, inl, inr, List, [], length, get_or, take, drop}
 use Rattle.std.proofs.Common.{◌/◌, sym, ap, subst, ◌∙◌, arith, add-mul, mul-le-mul_right, div-add-mod'}
 use Rattle.std.proofs.lemmas.Bool.{cases_lt, cases_eq}
@@ -11,38 +11,38 @@ use lib.Lanes.{put_chunk}
 
 -- ---- columns
 
-pub column_there : (n at d r : ℕ) (columns : List ℕ) (tile : List (List ℕ)) → at + 16 ≤ 208
-    → ((i : ℕ) → i < 16 → length (get_or tile i []) ≡ 16) → n < 16 → length columns ≡ 3328
-    → ((d r : ℕ) → d < n → r < 16 → get_or columns (d * 208 + at + r) 0 ≡ get_or (get_or tile d []) r 0)
+pub column_there : (n at d r : ℕ) (columns : List ℕ) (tile : List (List ℕ)) → at + 16 ≤ 560
+    → ((i : ℕ) → i < 16 → length (get_or tile i []) ≡ 16) → n < 16 → length columns ≡ 8960
+    → ((d r : ℕ) → d < n → r < 16 → get_or columns (d * 560 + at + r) 0 ≡ get_or (get_or tile d []) r 0)
     → d < n + 1 → r < 16
-    → get_or (put_chunk (n * 208 + at) columns (get_or tile n [])) (d * 208 + at + r) 0 ≡ get_or (get_or tile d []) r 0
+    → get_or (put_chunk (n * 560 + at) columns (get_or tile n [])) (d * 560 + at + r) 0 ≡ get_or (get_or tile d []) r 0
 column_there n at d r columns tile room long ln lc before l m = by_cases (cases_eq d n)
   where
     row : length (get_or tile n []) ≡ 16
     row = long n ln
 
     by_cases : (d ≡ n) ⊎ (d ≡ n → ⊥)
-        → get_or (put_chunk (n * 208 + at) columns (get_or tile n [])) (d * 208 + at + r) 0
+        → get_or (put_chunk (n * 560 + at) columns (get_or tile n [])) (d * 560 + at + r) 0
         ≡ get_or (get_or tile d []) r 0
     by_cases (inl e) =
-        ap (λ x. get_or (put_chunk (n * 208 + at) columns (get_or tile n [])) (x * 208 + at + r) 0) e
-        ∙ get_or-put_chunk_at (n * 208 + at) columns (get_or tile n []) r 0 (omega arith) (omega arith)
+        ap (λ x. get_or (put_chunk (n * 560 + at) columns (get_or tile n [])) (x * 560 + at + r) 0) e
+        ∙ get_or-put_chunk_at (n * 560 + at) columns (get_or tile n []) r 0 (omega arith) (omega arith)
         ∙ ap (λ x. get_or (get_or tile x []) r 0) (sym e)
     by_cases (inr o) =
-        get_or-put_chunk_below (n * 208 + at) columns (get_or tile n []) (d * 208 + at + r) 0 (omega arith)
+        get_or-put_chunk_below (n * 560 + at) columns (get_or tile n []) (d * 560 + at + r) 0 (omega arith)
         ∙ before d r (omega arith) m
 
-pub column_elsewhere : (n at d r : ℕ) (columns row : List ℕ) → at + 16 ≤ 208 → length row ≡ 16
-    → r < 208 → (r < at) ⊎ (at + 16 ≤ r)
-    → get_or (put_chunk (n * 208 + at) columns row) (d * 208 + r) 0 ≡ get_or columns (d * 208 + r) 0
-column_elsewhere n at d r columns row room long l o = by_place (cases_lt (d * 208 + r) (n * 208 + at))
+pub column_elsewhere : (n at d r : ℕ) (columns row : List ℕ) → at + 16 ≤ 560 → length row ≡ 16
+    → r < 560 → (r < at) ⊎ (at + 16 ≤ r)
+    → get_or (put_chunk (n * 560 + at) columns row) (d * 560 + r) 0 ≡ get_or columns (d * 560 + r) 0
+column_elsewhere n at d r columns row room long l o = by_place (cases_lt (d * 560 + r) (n * 560 + at))
   where
-    by_place : (d * 208 + r < n * 208 + at) ⊎ (n * 208 + at ≤ d * 208 + r)
-        → get_or (put_chunk (n * 208 + at) columns row) (d * 208 + r) 0 ≡ get_or columns (d * 208 + r) 0
-    by_place (inl h) = get_or-put_chunk_below (n * 208 + at) columns row (d * 208 + r) 0 h
-    by_place (inr h) = get_or-put_chunk_above (n * 208 + at) columns row (d * 208 + r) 0 (past o)
+    by_place : (d * 560 + r < n * 560 + at) ⊎ (n * 560 + at ≤ d * 560 + r)
+        → get_or (put_chunk (n * 560 + at) columns row) (d * 560 + r) 0 ≡ get_or columns (d * 560 + r) 0
+    by_place (inl h) = get_or-put_chunk_below (n * 560 + at) columns row (d * 560 + r) 0 h
+    by_place (inr h) = get_or-put_chunk_above (n * 560 + at) columns row (d * 560 + r) 0 (past o)
       where
-        past : (r < at) ⊎ (at + 16 ≤ r) → n * 208 + at + length row ≤ d * 208 + r
+        past : (r < at) ⊎ (at + 16 ≤ r) → n * 560 + at + length row ≤ d * 560 + r
         past (inl k) = omega arith
         past (inr k) = omega arith
 
@@ -105,16 +105,16 @@ tile_byte b t q r bytes l m =
     within = let g : (r + 1) * b ≤ 16 * b = mul-le-mul_right b (omega arith) in omega (arith, add-mul r 1 b)
 
 -- one more tile is taken
-pub tile_taken : (b w p t c k z : ℕ) (bytes old new : List ℕ) → p + w ≤ b → t * 16 + 16 ≤ 208
-    → ((c k : ℕ) → c < w → k < t * 16 → get_or old (c * 208 + k) 0 ≡ get_or bytes (p + c + k * b) 0)
+pub tile_taken : (b w p t c k z : ℕ) (bytes old new : List ℕ) → p + w ≤ b → t * 16 + 16 ≤ 560
+    → ((c k : ℕ) → c < w → k < t * 16 → get_or old (c * 560 + k) 0 ≡ get_or bytes (p + c + k * b) 0)
     → ((c r : ℕ) → c < w → r < 16
-    → get_or new (c * 208 + t * 16 + r) 0 ≡ get_or (take z (drop (t * 16 * b) bytes)) (p + c + r * b) 0)
-    → ((c r : ℕ) → r < 208 → (r < t * 16) ⊎ (t * 16 + 16 ≤ r) → get_or new (c * 208 + r) 0 ≡ get_or old (c * 208 + r) 0)
+    → get_or new (c * 560 + t * 16 + r) 0 ≡ get_or (take z (drop (t * 16 * b) bytes)) (p + c + r * b) 0)
+    → ((c r : ℕ) → r < 560 → (r < t * 16) ⊎ (t * 16 + 16 ≤ r) → get_or new (c * 560 + r) 0 ≡ get_or old (c * 560 + r) 0)
     → z ≡ 16 * b → c < w → k < (t + 1) * 16
-    → get_or new (c * 208 + k) 0 ≡ get_or bytes (p + c + k * b) 0
+    → get_or new (c * 560 + k) 0 ≡ get_or bytes (p + c + k * b) 0
 tile_taken b w p t c k z bytes old new room fits before taken others ez l m = by_cases (cases_lt k (t * 16))
   where
-    by_cases : (k < t * 16) ⊎ (t * 16 ≤ k) → get_or new (c * 208 + k) 0 ≡ get_or bytes (p + c + k * b) 0
+    by_cases : (k < t * 16) ⊎ (t * 16 ≤ k) → get_or new (c * 560 + k) 0 ≡ get_or bytes (p + c + k * b) 0
     by_cases (inl h) = others c k (omega arith) (inl h) ∙ before c k l h
     by_cases (inr h) =
         let e : t * 16 + (k - t * 16) ≡ k = omega arith in
@@ -127,17 +127,17 @@ tile_taken b w p t c k z bytes old new room fits before taken others ez l m = by
 -- one more tile is put
 pub tile_put : (b w p t c k z : ℕ) (columns old new : List ℕ) → p + w ≤ b → t * 16 * b ≤ length old
     → length new ≡ 16 * b
-    → ((c k : ℕ) → c < w → k < t * 16 → get_or old (p + c + k * b) 0 ≡ get_or columns (c * 208 + k) 0)
-    → ((c r : ℕ) → c < w → r < 16 → get_or new (p + c + r * b) 0 ≡ get_or columns (c * 208 + t * 16 + r) 0)
+    → ((c k : ℕ) → c < w → k < t * 16 → get_or old (p + c + k * b) 0 ≡ get_or columns (c * 560 + k) 0)
+    → ((c r : ℕ) → c < w → r < 16 → get_or new (p + c + r * b) 0 ≡ get_or columns (c * 560 + t * 16 + r) 0)
     → c < w → k < (t + 1) * 16
-    → get_or (put_mid (t * 16 * b) z old new) (p + c + k * b) 0 ≡ get_or columns (c * 208 + k) 0
+    → get_or (put_mid (t * 16 * b) z old new) (p + c + k * b) 0 ≡ get_or columns (c * 560 + k) 0
 tile_put b w p t c k z columns old new room within long before put l m = by_cases (cases_lt k (t * 16))
   where
     small : (r : ℕ) → r < 16 → p + c + r * b < 16 * b
     small r h = let g : (r + 1) * b ≤ 16 * b = mul-le-mul_right b (omega arith) in omega (arith, add-mul r 1 b)
 
     by_cases : (k < t * 16) ⊎ (t * 16 ≤ k)
-        → get_or (put_mid (t * 16 * b) z old new) (p + c + k * b) 0 ≡ get_or columns (c * 208 + k) 0
+        → get_or (put_mid (t * 16 * b) z old new) (p + c + k * b) 0 ≡ get_or columns (c * 560 + k) 0
     by_cases (inl h) =
         let g : (k + 1) * b ≤ t * 16 * b = mul-le-mul_right b (omega arith) in
         written_before (t * 16 * b) z (p + c + k * b) old new within (omega (arith, add-mul k 1 b))

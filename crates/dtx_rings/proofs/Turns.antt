@@ -3,7 +3,7 @@ use Rattle.std.proofs.Common.{◌≡◌, ◌≢◌, ℕ, ◌+◌, ◌-◌, ◌*�
 use Rattle.std.proofs.Common.{sym, ap, ◌∙◌, arith, add-mul, mul-le-mul_right, div-add-mod'}
 use Rattle.std.proofs.lemmas.Bool.{cases_lt, cond-true, cond-false, le-leb, lt-leb, lt-ltb, le-ltb}
 use Rattle.std.proofs.lemmas.Nat.{div-mul-add, mod-mul-add, mod_below}
-use Rattle.dtx_rings.specs.Rings.{branch_at, count_at}
+use Rattle.dtx_rings.specs.Rings.{branch_at, count_of, count_at}
 
 -- the place of branch i
 pub place_of : ℕ → ℕ → ℕ → ℕ
@@ -113,6 +113,17 @@ count_early b len p l = ap (λ n. len / b + n) (cond-true (nat_lt p (len % b)) 1
 pub count_late : (b len p : ℕ) → len % b ≤ p → count_at b len p ≡ len / b
 count_late b len p l = ap (λ n. len / b + n) (cond-false (nat_lt p (len % b)) 1 0 (le-ltb p (len % b) l))
     ∙ omega arith
+
+pub count_few : (q r p : ℕ) → count_of q r p ≤ q + 1
+count_few q r p = by_cases (cases_lt p r)
+  where
+    by_cases : (p < r) ⊎ (r ≤ p) → count_of q r p ≤ q + 1
+    by_cases (inl h) =
+        let e : count_of q r p ≡ q + 1 = ap (λ n. q + n) (cond-true (nat_lt p r) 1 0 (lt-ltb p r h)) in
+        omega (arith, e)
+    by_cases (inr h) =
+        let e : count_of q r p ≡ q + 0 = ap (λ n. q + n) (cond-false (nat_lt p r) 1 0 (le-ltb p r h)) in
+        omega (arith, e)
 
 -- a row of one byte more has it at the places before its end
 fewer : (b q r n s : ℕ) → q * b + r < n * b + s → s ≤ b → q ≤ n

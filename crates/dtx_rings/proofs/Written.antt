@@ -1,11 +1,10 @@
 -- A list of which a part was written: its items before the part, in it and behind it.
-use Rattle.std.proofs.Common.{◌≡◌, ℕ, ◌+◌, ◌-◌, ◌*◌, ◌/◌, ◌<◌, ◌≤◌, ◌⊎◌, inl, inr, List, ◌++◌, length, get_or, take}
-use Rattle.std.proofs.Common.{drop, refl, sym, ap, ◌∙◌, arith, div-add-mod'}
-use Rattle.std.proofs.lemmas.Nat.{mod_below}
+use Rattle.std.proofs.Common.{◌≡◌, ℕ, ◌+◌, ◌-◌, ◌<◌, ◌≤◌, ◌⊎◌, inl, inr, List, ◌++◌, length, get_or, take}
+use Rattle.std.proofs.Common.{drop, refl, sym, ap, ◌∙◌, arith}
 use Rattle.std.proofs.lemmas.Bool.{cases_lt}
 use Rattle.std.proofs.lemmas.List.{ext_get_or}
 use Rattle.std.proofs.lemmas.Simd.{length-chunk, length-put_chunk, get_or-chunk, get_or-put_chunk_below}
-use Rattle.std.proofs.lemmas.Simd.{get_or-put_chunk_at, get_or-put_chunk_above}
+use Rattle.std.proofs.lemmas.Simd.{get_or-put_chunk_at}
 use lib.Lanes.{chunk, put_chunk}
 use Rattle.std.proofs.lemmas.List.{get_or_append_left, get_or-append_right, get_or-take, get_or-drop, length-take-le}
 use Rattle.std.proofs.lemmas.List.{length-append, length-drop}
@@ -160,94 +159,107 @@ short_on n room items column few l lc lr =
         ∙ fewer_behind n (n + j) items column (omega arith)
         ∙ sym (get_or-drop n (items ++ take n column) j 0)
 
--- items of which sixteen have left, moved sixteen at a time, so far as whole sixteens go
-pub record AreMoved (i : ℕ) (items moved : List ℕ) : Type 0 where
-  pub before : (k : ℕ) → k < 16 * i → get_or moved k 0 ≡ get_or items (16 + k) 0
-  pub behind : (k : ℕ) → 16 * i ≤ k → get_or moved k 0 ≡ get_or items k 0
+-- ---- at least sixteen items, and up to sixteen bytes put behind them
 
-pub moved_more : (i : ℕ) (items moved : List ℕ) → 16 * i + 32 ≤ length items → length moved ≡ length items
-    → AreMoved i items moved → AreMoved (i + 1) items (put_chunk (16 * i) moved (chunk (16 * i + 16) 16 moved))
-moved_more i items moved room e h = record {
-  before = λ k l. before k l (cases_lt k (16 * i));
-  behind = λ k l.
-      get_or-put_chunk_above (16 * i) moved (chunk (16 * i + 16) 16 moved) k 0 (omega (arith, l, long))
-      ∙ h.behind k (omega arith);
-}
+-- the last sixteen bytes of two vectors
+pub last_two : (n k : ℕ) (room first second : List ℕ) → length room ≡ 32 → length first ≡ 16 → length second ≡ 16
+    → n ≤ 16 → k < 16
+    → get_or (chunk 0 16 (take (32 - n) (drop n (put_mid 16 16 (put_chunk 0 room first)
+    (put_chunk 0 (take 16 (drop 16 (put_chunk 0 room first))) second))))) k 0 ≡ get_or (first ++ second) (n + k) 0
+last_two n k room first second lr lf ls few l =
+    get_or-chunk 0 16 (take (32 - n) (drop n both)) k 0 l
+    ∙ get_or-take (32 - n) (drop n both) (0 + k) 0 (omega arith)
+    ∙ get_or-drop n both (0 + k) 0 ∙ by_place (n + (0 + k)) (omega arith) (cases_lt (n + (0 + k)) 16)
+    ∙ ap (λ x. get_or (first ++ second) x 0) (omega arith)
   where
-    long : length (chunk (16 * i + 16) 16 moved) ≡ 16
-    long = length-chunk (16 * i + 16) 16 moved (omega (arith, e))
+    front : List ℕ
+    front = put_chunk 0 room first
 
-    before : (k : ℕ) → k < 16 * (i + 1) → (k < 16 * i) ⊎ (16 * i ≤ k)
-        → get_or (put_chunk (16 * i) moved (chunk (16 * i + 16) 16 moved)) k 0 ≡ get_or items (16 + k) 0
-    before k l (inl m) =
-        get_or-put_chunk_below (16 * i) moved (chunk (16 * i + 16) 16 moved) k 0 m ∙ h.before k m
-    before k l (inr m) =
-        let j : 16 * i + (k - 16 * i) ≡ k = omega arith in
-        ap (λ x. get_or (put_chunk (16 * i) moved (chunk (16 * i + 16) 16 moved)) x 0) (sym j)
-        ∙ get_or-put_chunk_at (16 * i) moved (chunk (16 * i + 16) 16 moved) (k - 16 * i) 0 (omega (arith, long))
-        (omega (arith, e, room, long))
-        ∙ get_or-chunk (16 * i + 16) 16 moved (k - 16 * i) 0 (omega arith)
-        ∙ ap (λ x. get_or moved x 0) (omega (arith, j)) ∙ h.behind (16 + k) (omega arith)
+    rest : List ℕ
+    rest = put_chunk 0 (take 16 (drop 16 (put_chunk 0 room first))) second
 
--- the last sixteen moved, and sixteen more put behind them
-pub sixteen_on : (items column moved : List ℕ) → 32 ≤ length items → length column ≡ 16
-    → length moved ≡ length items → AreMoved (length items / 16 - 1) items moved
-    → put_chunk (length items - 16)
-    (put_chunk (length items - 32) moved (chunk (length items - 16) 16 items)) column ≡ drop 16 (items ++ column)
-sixteen_on items column moved l lc lm h =
-    ext_get_or 0 (put_chunk (length items - 16) inner column) (drop 16 (items ++ column))
-    (length-put_chunk (length items - 16) inner column
-    ∙ length-put_chunk (length items - 32) moved (chunk (length items - 16) 16 items) ∙ lm ∙ omega (
+    both : List ℕ
+    both = put_mid 16 16 (put_chunk 0 room first)
+        (put_chunk 0 (take 16 (drop 16 (put_chunk 0 room first))) second)
+
+    whole : length (put_chunk 0 room first) ≡ 32
+    whole = length-put_chunk 0 room first ∙ lr
+
+    behind : length (take 16 (drop 16 (put_chunk 0 room first))) ≡ 16
+    behind = length-take-le 16 (drop 16 (put_chunk 0 room first))
+        (omega (arith, length-drop 16 (put_chunk 0 room first), whole))
+
+    none : (x : ℕ) → x ≡ 0 + x
+    none x = omega arith
+
+    by_place : (i : ℕ) → i < 32 → (i < 16) ⊎ (16 ≤ i) → get_or both i 0 ≡ get_or (first ++ second) i 0
+    by_place i m (inl h) =
+        written_before 16 16 i front rest (omega (arith, whole)) h
+        ∙ ap (λ x. get_or front x 0) (none i) ∙ get_or-put_chunk_at 0 room first i 0 (omega (arith, lf)) (omega (arith, lf, lr))
+        ∙ sym (get_or_append_left first second 0 i (omega (arith, lf)))
+    by_place i m (inr h) =
+        let e : 16 + (i - 16) ≡ i = omega arith in
+        ap (λ x. get_or both x 0) (sym e)
+        ∙ written_at 16 16 (i - 16) front rest (omega (arith, whole))
+        (omega (
+          arith,
+          m,
+          h,
+          behind,
+          length-put_chunk 0 (take 16 (drop 16 (put_chunk 0 room first))) second,
+        ))
+        ∙ ap (λ x. get_or rest x 0) (none (i - 16))
+        ∙ get_or-put_chunk_at 0 (take 16 (drop 16 (put_chunk 0 room first))) second (i - 16) 0
+        (omega (arith, m, h, ls)) (omega (arith, behind, ls))
+        ∙ sym (get_or-append_right first second 16 i 0 lf h)
+
+pub long_on : (n : ℕ) (items column moved last : List ℕ) → n ≤ 16 → 16 ≤ length items → length column ≡ 16
+    → length moved ≡ length items → length last ≡ 16
+    → ((k d : ℕ) → 0 ≤ k → k < 0 + (length items - n) → get_or moved k d ≡ get_or items (n + (k - 0)) d)
+    → ((k : ℕ) → k < 16
+    → get_or last k 0 ≡ get_or (chunk (length items - 16) 16 items ++ column) (n + k) 0)
+    → put_chunk (length items - 16) moved last ≡ drop n (items ++ take n column)
+long_on n items column moved last few l lc lm ll shift end =
+    ext_get_or 0 (put_chunk (length items - 16) moved last) (drop n (items ++ take n column))
+    (length-put_chunk (length items - 16) moved last ∙ lm ∙ omega (
       arith,
-      l,
-      lc,
-      length-drop 16 (items ++ column),
-      length-append items column,
+      length-drop n (items ++ take n column),
+      length-append items (take n column),
+      length-take-le n column (omega (arith, lc)),
     ))
-    (λ j m. by_place j (omega (arith, m, all)) (cases_lt j (length items - 32)) (cases_lt j (length items - 16))
-    ∙ sym (get_or-drop 16 (items ++ column) j 0))
+    (λ j m. by_place j (omega (arith, m, lm, length-put_chunk (length items - 16) moved last))
+    (cases_lt j (length items - 16))
+    ∙ fewer_behind n (n + j) items column
+    (omega (arith, m, lm, length-put_chunk (length items - 16) moved last))
+    ∙ sym (get_or-drop n (items ++ take n column) j 0))
   where
-    inner : List ℕ
-    inner = put_chunk (length items - 32) moved (chunk (length items - 16) 16 items)
-
     long : length (chunk (length items - 16) 16 items) ≡ 16
     long = length-chunk (length items - 16) 16 items (omega arith)
 
-    inner_long : length (put_chunk (length items - 32) moved (chunk (length items - 16) 16 items)) ≡ length items
-    inner_long = length-put_chunk (length items - 32) moved (chunk (length items - 16) 16 items) ∙ lm
+    at_end : (i : ℕ) → i < 32 → (i < 16) ⊎ (16 ≤ i)
+        → get_or (chunk (length items - 16) 16 items ++ column) i 0
+        ≡ get_or (items ++ column) (length items - 16 + i) 0
+    at_end i m (inl h) =
+        get_or_append_left (chunk (length items - 16) 16 items) column 0 i (omega (arith, long))
+        ∙ get_or-chunk (length items - 16) 16 items i 0 h
+        ∙ sym (get_or_append_left items column 0 (length items - 16 + i) (omega arith))
+    at_end i m (inr h) =
+        get_or-append_right (chunk (length items - 16) 16 items) column 16 i 0 long h
+        ∙ ap (λ x. get_or column x 0) (omega arith)
+        ∙ sym (get_or-append_right items column (length items) (length items - 16 + i) 0 refl (omega arith))
 
-    all : length (put_chunk (length items - 16)
-        (put_chunk (length items - 32) moved (chunk (length items - 16) 16 items)) column) ≡ length items
-    all = length-put_chunk (length items - 16)
-        (put_chunk (length items - 32) moved (chunk (length items - 16) 16 items)) column ∙ inner_long
-
-    by_place : (j : ℕ) → j < length items → (j < length items - 32) ⊎ (length items - 32 ≤ j)
-        → (j < length items - 16) ⊎ (length items - 16 ≤ j)
-        → get_or (put_chunk (length items - 16)
-        (put_chunk (length items - 32) moved (chunk (length items - 16) 16 items)) column) j 0
-        ≡ get_or (items ++ column) (16 + j) 0
-    by_place j m (inl k) q =
-        get_or-put_chunk_below (length items - 16)
-        (put_chunk (length items - 32) moved (chunk (length items - 16) 16 items)) column j 0 (omega arith)
-        ∙ get_or-put_chunk_below (length items - 32) moved (chunk (length items - 16) 16 items) j 0 k
-        ∙ h.before j (omega (arith, k, div-add-mod' (length items) 16, mod_below (length items) 16 (omega arith)))
-        ∙ sym (get_or_append_left items column 0 (16 + j) (omega arith))
-    by_place j m (inr k) (inl q) =
-        let e : length items - 32 + (j - (length items - 32)) ≡ j = omega arith in
-        get_or-put_chunk_below (length items - 16)
-        (put_chunk (length items - 32) moved (chunk (length items - 16) 16 items)) column j 0 q
-        ∙ ap (λ x. get_or (put_chunk (length items - 32) moved (chunk (length items - 16) 16 items)) x 0) (sym e)
-        ∙ get_or-put_chunk_at (length items - 32) moved (chunk (length items - 16) 16 items)
-        (j - (length items - 32)) 0 (omega (arith, long)) (omega (arith, lm, l, long))
-        ∙ get_or-chunk (length items - 16) 16 items (j - (length items - 32)) 0 (omega arith)
-        ∙ ap (λ x. get_or items x 0) (omega (arith, l, k, q))
-        ∙ sym (get_or_append_left items column 0 (16 + j) (omega arith))
-    by_place j m (inr k) (inr q) =
+    by_place : (j : ℕ) → j < length items → (j < length items - 16) ⊎ (length items - 16 ≤ j)
+        → get_or (put_chunk (length items - 16) moved last) j 0 ≡ get_or (items ++ column) (n + j) 0
+    by_place j m (inl h) =
+        get_or-put_chunk_below (length items - 16) moved last j 0 h
+        ∙ shift j 0 (omega arith) (omega arith) ∙ ap (λ x. get_or items x 0) (omega arith)
+        ∙ sym (get_or_append_left items column 0 (n + j) (omega arith))
+    by_place j m (inr h) =
         let e : length items - 16 + (j - (length items - 16)) ≡ j = omega arith in
-        ap (λ x. get_or (put_chunk (length items - 16)
-        (put_chunk (length items - 32) moved (chunk (length items - 16) 16 items)) column) x 0) (sym e)
-        ∙ get_or-put_chunk_at (length items - 16)
-        (put_chunk (length items - 32) moved (chunk (length items - 16) 16 items)) column (j - (length items - 16)) 0
-        (omega (arith, lc)) (omega (arith, inner_long, m, lc, l))
-        ∙ ap (λ x. get_or column x 0) (omega (arith, l, q))
-        ∙ sym (get_or-append_right items column (length items) (16 + j) 0 refl (omega arith))
+        ap (λ x. get_or (put_chunk (length items - 16) moved last) x 0) (sym e)
+        ∙ get_or-put_chunk_at (length items - 16) moved last (j - (length items - 16)) 0
+        (omega (arith, m, ll)) (omega (arith, l, lm, ll))
+        ∙ end (j - (length items - 16)) (omega (arith, m, h))
+        ∙ at_end (n + (j - (length items - 16))) (omega (arith, m, h, few))
+        (cases_lt (n + (j - (length items - 16))) 16)
+        ∙ ap (λ x. get_or (items ++ column) x 0) (omega (arith, e))

@@ -18,9 +18,13 @@ branches_of next rings = record { next = next; lists = lists_of rings }
 abbrev pub branch_at : ℕ → ℕ → ℕ → ℕ
 branch_at b next p = if nat_lt (next + p) b then next + p else next + p - b
 
+-- how many bytes come to place p, if one of each of `whole` rows does, and one more to each of the first `rest` places
+abbrev pub count_of : ℕ → ℕ → ℕ → ℕ
+count_of whole rest p = whole + (if nat_lt p rest then 1 else 0)
+
 -- how many of `len` bytes come to place p
 abbrev pub count_at : ℕ → ℕ → ℕ → ℕ
-count_at b len p = len / b + (if nat_lt p (len % b) then 1 else 0)
+count_at b len p = count_of (len / b) (len % b) p
 
 -- the bytes that come to place p
 abbrev pub column : ℕ → List ℕ → ℕ → List ℕ
@@ -34,16 +38,19 @@ joined_at b next lists bytes p = slice_index_or lists (branch_at b next p) [] ++
 abbrev pub IsEven : ℕ → ℕ → ℕ → ℕ → Type 0
 IsEven b p w len = (p + w ≤ len % b) ⊎ (len % b ≤ p)
 
--- Columns have room for 208 bytes each. The branches of the places from `from` up to `to`, without it, have each taken
--- n bytes from their columns. Their n oldest bytes have gone. All other branches are as before.
-pub record AreExchanged (b next from to n : ℕ) (old new : List (List ℕ)) (come gone : List ℕ) : Type 0 where
+-- Columns stand s bytes apart. The branches of the places from `from` up to `to`, without it, have each taken as many
+-- bytes from their columns as come to the place. As many of their oldest bytes have gone. All other branches are as
+-- before.
+pub record AreExchanged (b next from to s whole rest : ℕ) (old new : List (List ℕ)) (come gone : List ℕ) : Type 0 where
   pub count : length new ≡ length old
   pub kept : (p : ℕ) → from ≤ p → p < to → slice_index_or new (branch_at b next p) []
-      ≡ drop n (slice_index_or old (branch_at b next p) [] ++ take n (drop ((p - from) * 208) come))
+      ≡ drop (count_of whole rest p) (slice_index_or old (branch_at b next p) []
+      ++ take (count_of whole rest p) (drop ((p - from) * s) come))
   pub others : (p : ℕ) → (p < from) ⊎ (to ≤ p) → p < b
       → slice_index_or new (branch_at b next p) [] ≡ slice_index_or old (branch_at b next p) []
-  pub left : (p k : ℕ) → from ≤ p → p < to → k < n → slice_index gone ((p - from) * 208 + k)
-      ≡ slice_index (slice_index_or old (branch_at b next p) [] ++ take n (drop ((p - from) * 208) come)) k
+  pub left : (p k : ℕ) → from ≤ p → p < to → k < count_of whole rest p → slice_index gone ((p - from) * s + k)
+      ≡ slice_index (slice_index_or old (branch_at b next p) []
+      ++ take (count_of whole rest p) (drop ((p - from) * s) come)) k
 
 -- The bytes at the places from `from` up to `to`, without it, have gone through. As many leave each branch as have come
 -- to it, and they stand where those stood. All other branches and bytes are as before.

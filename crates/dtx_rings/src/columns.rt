@@ -7,7 +7,7 @@ use crate::tiles::turned;
 use std::simd::prelude::*;
 
 /// The number of rows for which a column has room.
-pub(crate) const ROWS: usize = 208;
+pub(crate) const ROWS: usize = 560;
 
 /// Copies the bytes of `W` places of `count` rows into their columns, from row `at` on.
 #[inline(always)]
@@ -23,9 +23,9 @@ pub(crate) fn take_rows<const B: usize, const W: usize>(
     requires columns { length columns.old ≡ 16 * ROWS }
     requires room { at + 16 ≤ ROWS }
     ensures taken { (c r : ℕ) → c < W → r < count
-        → slice_index columns.new (c * 208 + at + r) ≡ slice_index bytes.now (place + c + r * B) }
-    ensures others { (c r : ℕ) → r < 208 → (r < at) ⊎ (at + 16 ≤ r)
-        → slice_index columns.new (c * 208 + r) ≡ slice_index columns.old (c * 208 + r) }
+        → slice_index columns.new (c * 560 + at + r) ≡ slice_index bytes.now (place + c + r * B) }
+    ensures others { (c r : ℕ) → r < 560 → (r < at) ⊎ (at + 16 ≤ r)
+        → slice_index columns.new (c * 560 + r) ≡ slice_index columns.old (c * 560 + r) }
 {
     put_columns::<W>(&turned(&rows_at::<B, W>(bytes, place, count)), columns, at);
 }
@@ -44,7 +44,7 @@ pub(crate) fn put_rows<const B: usize, const W: usize>(
     requires columns { length columns.now ≡ 16 * ROWS }
     requires room { at + 16 ≤ ROWS }
     ensures put { (c r : ℕ) → c < W → r < count
-        → slice_index bytes.new (place + c + r * B) ≡ slice_index columns.now (c * 208 + at + r) }
+        → slice_index bytes.new (place + c + r * B) ≡ slice_index columns.now (c * 560 + at + r) }
     ensures others { (i : ℕ) → (i % B < place) ⊎ (place + W ≤ i % B)
         → slice_index bytes.new i ≡ slice_index bytes.old i }
 {
@@ -53,8 +53,8 @@ pub(crate) fn put_rows<const B: usize, const W: usize>(
 
 /// The bytes of `W` places of `count` rows.
 #[inline(always)]
-fn rows_at<const B: usize, const W: usize>(bytes: &[u8], place: usize, count: usize) -> [u8x16; 16]
-    requires numbers { (B ≤ 64) × (W ≤ 16) × (place + W ≤ B) }
+pub(crate) fn rows_at<const B: usize, const W: usize>(bytes: &[u8], place: usize, count: usize) -> [u8x16; 16]
+    requires numbers { (B ≤ 64) × (W ≤ 16) }
     requires rows { (count ≤ 16) × (count * B + place + W ≤ length bytes.now + B) }
     ensures tile { IsTile result }
     ensures rows { (r c : ℕ) → r < count → c < W → byte_at result r c ≡ slice_index bytes.now (place + c + r * B) }
@@ -89,9 +89,9 @@ fn put_columns<const W: usize>(tile: &[u8x16; 16], columns: &mut [u8], at: usize
     requires tile { IsTile tile.now }
     requires columns { length columns.old ≡ 16 * ROWS }
     requires room { at + 16 ≤ ROWS }
-    ensures put { (c r : ℕ) → c < W → r < 16 → slice_index columns.new (c * 208 + at + r) ≡ byte_at tile.now c r }
-    ensures others { (c r : ℕ) → r < 208 → (r < at) ⊎ (at + 16 ≤ r)
-        → slice_index columns.new (c * 208 + r) ≡ slice_index columns.old (c * 208 + r) }
+    ensures put { (c r : ℕ) → c < W → r < 16 → slice_index columns.new (c * 560 + at + r) ≡ byte_at tile.now c r }
+    ensures others { (c r : ℕ) → r < 560 → (r < at) ⊎ (at + 16 ≤ r)
+        → slice_index columns.new (c * 560 + r) ≡ slice_index columns.old (c * 560 + r) }
 {
     for c in 0..W {
         tile[c].copy_to_slice(&mut columns[c * ROWS + at..]);
@@ -104,7 +104,7 @@ fn columns_at(columns: &[u8], at: usize) -> [u8x16; 16]
     requires columns { length columns.now ≡ 16 * ROWS }
     requires room { at + 16 ≤ ROWS }
     ensures tile { IsTile result }
-    ensures columns { (c r : ℕ) → c < 16 → r < 16 → byte_at result c r ≡ slice_index columns.now (c * 208 + at + r) }
+    ensures columns { (c r : ℕ) → c < 16 → r < 16 → byte_at result c r ≡ slice_index columns.now (c * 560 + at + r) }
 {
     let mut tile = [u8x16::splat(0); 16];
     for c in 0..16 {

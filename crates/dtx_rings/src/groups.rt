@@ -5,7 +5,7 @@ ghost use Rattle.std.specs.Prelude.{◌≡◌, ℕ, ◌+◌, ◌-◌, ◌*◌, �
 ghost use Rattle.dtx_rings.specs.Rings.{lists_of, count_at, IsEven, ArePassed};
 
 use crate::columns::{ROWS, put_rows, take_rows};
-use crate::rings::{Places, count_at, exchange_columns};
+use crate::rings::{Places, Rows, count_at, exchange_columns};
 use crate::scratch::Columns;
 use circular_buffer::HeapCircularBuffer;
 
@@ -27,16 +27,20 @@ pub(crate) fn pass_group<const B: usize, const W: usize>(
     ensures passed { ArePassed B next place (place + W) (lists_of rings.old) (lists_of rings.new) bytes.old bytes.new }
     ensures rings { length rings.new ≡ B }
 {
-    let count = count_at::<B>(bytes.len(), place);
     let places = Places {
         next,
         first: place,
         width: W,
     };
+    let rows = Rows {
+        whole: bytes.len() / B,
+        rest: bytes.len() % B,
+        stride: ROWS,
+    };
     let come = &mut columns.come[..];
     let gone = &mut columns.gone[..];
     gather::<B, W>(bytes, place, come);
-    exchange_columns(rings, places, count, come, gone);
+    exchange_columns(rings, places, rows, come, gone);
     scatter::<B, W>(gone, place, bytes);
 }
 
@@ -48,7 +52,7 @@ fn gather<const B: usize, const W: usize>(bytes: &[u8], place: usize, columns: &
     requires room { length bytes.now < ROWS * B }
     requires columns { length columns.old ≡ 16 * ROWS }
     ensures { (c k : ℕ) → c < W → k < count_at B (length bytes.now) place
-        → slice_index columns.new (c * 208 + k) ≡ slice_index bytes.now (place + c + k * B) }
+        → slice_index columns.new (c * 560 + k) ≡ slice_index bytes.now (place + c + k * B) }
 {
     let tiles = bytes.len() / (16 * B);
     for t in 0..tiles {
@@ -73,9 +77,9 @@ fn take_last<const B: usize, const W: usize>(
     requires columns { length columns.old ≡ 16 * ROWS }
     requires room { at + 16 ≤ ROWS }
     ensures taken { (c r : ℕ) → c < W → r < count_at B (length bytes.now) place
-        → slice_index columns.new (c * 208 + at + r) ≡ slice_index bytes.now (place + c + r * B) }
-    ensures others { (c r : ℕ) → r < 208 → (r < at) ⊎ (at + 16 ≤ r)
-        → slice_index columns.new (c * 208 + r) ≡ slice_index columns.old (c * 208 + r) }
+        → slice_index columns.new (c * 560 + at + r) ≡ slice_index bytes.now (place + c + r * B) }
+    ensures others { (c r : ℕ) → r < 560 → (r < at) ⊎ (at + 16 ≤ r)
+        → slice_index columns.new (c * 560 + r) ≡ slice_index columns.old (c * 560 + r) }
 {
     let count = count_at::<B>(bytes.len(), place);
     if count == 16 {
@@ -95,7 +99,7 @@ fn scatter<const B: usize, const W: usize>(columns: &[u8], place: usize, bytes: 
     requires room { length bytes.old < ROWS * B }
     requires columns { length columns.now ≡ 16 * ROWS }
     ensures put { (c k : ℕ) → c < W → k < count_at B (length bytes.old) place
-        → slice_index bytes.new (place + c + k * B) ≡ slice_index columns.now (c * 208 + k) }
+        → slice_index bytes.new (place + c + k * B) ≡ slice_index columns.now (c * 560 + k) }
     ensures others { (i : ℕ) → (i % B < place) ⊎ (place + W ≤ i % B)
         → slice_index bytes.new i ≡ slice_index bytes.old i }
 {
@@ -121,7 +125,7 @@ fn put_last<const B: usize, const W: usize>(
     requires columns { length columns.now ≡ 16 * ROWS }
     requires room { at + 16 ≤ ROWS }
     ensures put { (c r : ℕ) → c < W → r < count_at B (length bytes.old) place
-        → slice_index bytes.new (place + c + r * B) ≡ slice_index columns.now (c * 208 + at + r) }
+        → slice_index bytes.new (place + c + r * B) ≡ slice_index columns.now (c * 560 + at + r) }
     ensures others { (i : ℕ) → (i % B < place) ⊎ (place + W ≤ i % B)
         → slice_index bytes.new i ≡ slice_index bytes.old i }
 {

@@ -4,6 +4,7 @@
 mod branches;
 mod collect;
 mod columns;
+mod few;
 mod groups;
 mod lines;
 mod rings;

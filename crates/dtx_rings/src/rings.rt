@@ -3,9 +3,10 @@
 ghost use Rattle.std.specs.Prelude.{◌≡◌, ℕ, ◌+◌, ◌*◌, ◌%◌, ◌<◌, ◌≤◌, ◌++◌, length, take, drop, replicate, IfOk};
 ghost use Rattle.std.specs.Prelude.{slice_index};
 ghost use Rattle.circular_buffer.specs.Buffer.{Buffer, buffer};
-ghost use Rattle.dtx_rings.specs.Rings.{lists_of, branch_at, count_at, IsEven, AreExchanged, ArePassed};
+ghost use Rattle.dtx_rings.specs.Rings.{lists_of, branch_at, count_of, count_at, IsEven, AreExchanged, ArePassed};
 
 use crate::columns::ROWS;
+use crate::few::pass_few;
 use crate::groups::pass_group;
 use crate::scratch::Columns;
 use circular_buffer::HeapCircularBuffer;
@@ -31,8 +32,38 @@ pub(crate) struct Places {
     pub(crate) width: usize,
 }
 
-/// Replaces the bytes by those that leave. The first byte comes to ring `next`.
+/// How many bytes come to each place: `whole`, and one more to each of the first `rest` places. Their columns stand
+/// `stride` bytes apart.
+#[derive(Clone, Copy)]
+pub(crate) struct Rows {
+    pub(crate) whole: usize,
+    pub(crate) rest: usize,
+    pub(crate) stride: usize,
+}
+
+/// Replaces the bytes by those that leave. The first byte comes to ring `next`. Fewer than sixteen rows have a way of
+/// their own.
 pub(crate) fn through<const B: usize>(
+    rings: &mut [HeapCircularBuffer<u8>],
+    next: usize,
+    bytes: &mut [u8],
+    columns: &mut Columns,
+)
+    requires numbers { (B ≤ 64) × (next < B) }
+    requires rings { length rings.old ≡ B }
+    requires room { length bytes.old < ROWS * B }
+    ensures passed { ArePassed B next 0 B (lists_of rings.old) (lists_of rings.new) bytes.old bytes.new }
+    ensures rings { length rings.new ≡ B }
+{
+    if bytes.len() < 16 * B {
+        pass_few::<B>(rings, next, bytes, columns);
+    } else {
+        pass_many::<B>(rings, next, bytes, columns);
+    }
+}
+
+/// Replaces the bytes by those that leave, for a group of places at a time.
+fn pass_many<const B: usize>(
     rings: &mut [HeapCircularBuffer<u8>],
     next: usize,
     bytes: &mut [u8],
@@ -115,27 +146,51 @@ pub(crate) fn count_at<const B: usize>(len: usize, place: usize) -> usize
 pub(crate) fn exchange_columns(
     rings: &mut [HeapCircularBuffer<u8>],
     places: Places,
-    count: usize,
+    rows: Rows,
     come: &[u8],
     gone: &mut [u8],
 )
     requires few { length rings.old ≤ 64 }
     requires places { (places.next < length rings.old) × (places.first + places.width ≤ length rings.old) }
-    requires columns { (places.width ≤ 16) × (length come.now ≡ 16 * ROWS) × (length gone.old ≡ 16 * ROWS) }
-    requires rows { count ≤ ROWS }
-    ensures { AreExchanged (length rings.old) places.next places.first (places.first + places.width) count
-        (lists_of rings.old) (lists_of rings.new) come.now gone.new }
+    requires rows { (16 ≤ rows.stride) × (rows.whole < rows.stride) }
+    requires come { places.width * rows.stride ≤ length come.now }
+    requires gone { places.width * rows.stride ≤ length gone.old }
+    ensures { AreExchanged (length rings.old) places.next places.first (places.first + places.width) rows.stride
+        rows.whole rows.rest (lists_of rings.old) (lists_of rings.new) come.now gone.new }
 {
     let branches = rings.len();
     for c in 0..places.width {
-        let branch = branch_at(branches, places.next, places.first + c);
+        let place = places.first + c;
+        let branch = branch_at(branches, places.next, place);
+        let at = column_start(c, places.width, rows.stride, come.len());
         exchange_at(
             &mut rings[branch],
-            count,
-            &come[c * ROWS..c * ROWS + ROWS],
-            &mut gone[c * ROWS..c * ROWS + ROWS],
+            count_of(rows, place),
+            &come[at..at + rows.stride],
+            &mut gone[at..at + rows.stride],
         );
     }
+}
+
+/// Where column `c` of `width` starts.
+#[inline(always)]
+fn column_start(c: usize, width: usize, stride: usize, room: usize) -> usize
+    requires below { c < width }
+    requires room { width * stride ≤ room }
+    ensures is { result ≡ c * stride }
+    ensures within { result + stride ≤ width * stride }
+{
+    c * stride
+}
+
+/// How many bytes come to a place.
+#[inline(always)]
+fn count_of(rows: Rows, place: usize) -> usize
+    requires { rows.whole < rows.stride }
+    ensures is { result ≡ count_of rows.whole rows.rest place }
+    ensures few { result ≤ rows.stride }
+{
+    rows.whole + if place < rows.rest { 1 } else { 0 }
 }
 
 /// The ring, one of `branches`, to which the byte at a place comes.
@@ -155,8 +210,8 @@ fn branch_at(branches: usize, next: usize, place: usize) -> usize
 /// Puts `count` bytes of a column behind the items of a ring, and takes as many from the items' front into `gone`.
 #[inline(always)]
 fn exchange_at(ring: &mut HeapCircularBuffer<u8>, count: usize, column: &[u8], gone: &mut [u8])
-    requires columns { (length column.now ≡ ROWS) × (length gone.old ≡ ROWS) }
-    requires rows { count ≤ ROWS }
+    requires columns { (16 ≤ length column.now) × (length gone.old ≡ length column.now) }
+    requires rows { count ≤ length column.now }
     ensures gone { (k : ℕ) → k < count
         → slice_index gone.new k ≡ slice_index (ring.old.items ++ take count column.now) k }
     ensures items { ring.new.items ≡ drop count (ring.old.items ++ take count column.now) }
@@ -167,8 +222,8 @@ fn exchange_at(ring: &mut HeapCircularBuffer<u8>, count: usize, column: &[u8], g
 /// Does the same with the items of a ring.
 #[inline(always)]
 fn lent(items: &mut [u8], count: usize, column: &[u8], gone: &mut [u8])
-    requires columns { (length column.now ≡ ROWS) × (length gone.old ≡ ROWS) }
-    requires rows { count ≤ ROWS }
+    requires columns { (16 ≤ length column.now) × (length gone.old ≡ length column.now) }
+    requires rows { count ≤ length column.now }
     ensures gone { (k : ℕ) → k < count
         → slice_index gone.new k ≡ slice_index (items.old ++ take count column.now) k }
     ensures items { items.new ≡ drop count (items.old ++ take count column.now) }
@@ -199,8 +254,8 @@ fn exchange_many(items: &mut [u8], column: &[u8], gone: &mut [u8])
     }
 }
 
-/// Puts `count` bytes of a column behind the items, and returns as many from their front. Only the case of most calls
-/// is built into the loop over the rings.
+/// Puts `count` bytes of a column behind the items, and returns as many from their front. Only the case of most rings
+/// is built into the loop over them.
 #[inline(always)]
 fn exchange_few(items: &mut [u8], count: usize, column: u8x16) -> u8x16
     requires rows { count ≤ 16 }
@@ -209,34 +264,74 @@ fn exchange_few(items: &mut [u8], count: usize, column: u8x16) -> u8x16
     ensures gone { (k : ℕ) → k < count → slice_index result k ≡ slice_index (items.old ++ take count column) k }
     ensures items { items.new ≡ drop count (items.old ++ take count column) }
 {
-    if count == 16 && items.len() >= 32 {
-        exchange_sixteen(items, column)
+    if items.len() >= 16 {
+        exchange_long(items, count, column)
     } else {
-        exchange_some(items, count, column)
+        exchange_short(items, count, column)
     }
 }
 
-/// Does the same for any count and any items.
-#[inline(never)]
-fn exchange_some(items: &mut [u8], count: usize, column: u8x16) -> u8x16
+/// Does the same where there are at least sixteen items.
+#[inline(always)]
+fn exchange_long(items: &mut [u8], count: usize, column: u8x16) -> u8x16
     requires rows { count ≤ 16 }
     requires column { length column ≡ 16 }
+    requires long { 16 ≤ length items.old }
+    ensures long { length result ≡ 16 }
+    ensures gone { (k : ℕ) → k < count → slice_index result k ≡ slice_index items.old k }
+    ensures items { items.new ≡ drop count (items.old ++ take count column) }
+{
+    let len = items.len();
+    let first = u8x16::from_slice(items);
+    let last = last_of(u8x16::from_slice(&items[len - 16..]), count, column);
+    items.copy_within(count.., 0);
+    last.copy_to_slice(&mut items[len - 16..]);
+    first
+}
+
+/// The last sixteen bytes of two vectors, of the second of which `count` count.
+#[inline(always)]
+fn last_of(first: u8x16, count: usize, second: u8x16) -> u8x16
+    requires rows { count ≤ 16 }
+    requires vectors { (length first ≡ 16) × (length second ≡ 16) }
+    ensures long { length result ≡ 16 }
+    ensures last { (k : ℕ) → k < 16 → slice_index result k ≡ slice_index (first ++ second) (count + k) }
+{
+    if count == 16 {
+        return second;
+    }
+    let mut both = [0u8; 32];
+    first.copy_to_slice(&mut both);
+    second.copy_to_slice(&mut both[16..]);
+    u8x16::from_slice(&both[count..])
+}
+
+/// Does the same where there are fewer than sixteen items. Branches of a multiple of four bytes have calls of their
+/// own, in which the compiler has their lengths as constants.
+#[inline(never)]
+fn exchange_short(items: &mut [u8], count: usize, column: u8x16) -> u8x16
+    requires rows { count ≤ 16 }
+    requires column { length column ≡ 16 }
+    requires short { length items.old < 16 }
     ensures long { length result ≡ 16 }
     ensures gone { (k : ℕ) → k < count → slice_index result k ≡ slice_index (items.old ++ take count column) k }
     ensures items { items.new ≡ drop count (items.old ++ take count column) }
 {
-    let len = items.len();
-    if len < 16 {
-        return exchange_short(items, count, column);
+    if items.len() == 4 {
+        return exchange_joined(&mut items[..4], count, column);
     }
-    let first = u8x16::from_slice(items);
-    items.copy_within(count.., 0);
-    items[len - count..].copy_from_slice(&column.to_array()[..count]);
-    first
+    if items.len() == 8 {
+        return exchange_joined(&mut items[..8], count, column);
+    }
+    if items.len() == 12 {
+        return exchange_joined(&mut items[..12], count, column);
+    }
+    exchange_joined(items, count, column)
 }
 
-/// Does the same where there are fewer than sixteen items.
-fn exchange_short(items: &mut [u8], count: usize, column: u8x16) -> u8x16
+/// Does the same by a copy of the items with the column behind them.
+#[inline(always)]
+fn exchange_joined(items: &mut [u8], count: usize, column: u8x16) -> u8x16
     requires rows { count ≤ 16 }
     requires column { length column ≡ 16 }
     requires short { length items.old < 16 }
@@ -250,24 +345,4 @@ fn exchange_short(items: &mut [u8], count: usize, column: u8x16) -> u8x16
     column.copy_to_slice(&mut joined[len..]);
     items.copy_from_slice(&joined[count..count + len]);
     u8x16::from_slice(&joined)
-}
-
-/// Does the same for sixteen bytes, where there are at least twice as many items.
-#[inline(always)]
-fn exchange_sixteen(items: &mut [u8], column: u8x16) -> u8x16
-    requires column { length column ≡ 16 }
-    requires long { 32 ≤ length items.old }
-    ensures long { length result ≡ 16 }
-    ensures gone { (k : ℕ) → k < 16 → slice_index result k ≡ slice_index items.old k }
-    ensures items { items.new ≡ drop 16 (items.old ++ column) }
-{
-    let len = items.len();
-    let first = u8x16::from_slice(items);
-    let last = u8x16::from_slice(&items[len - 16..]);
-    for i in 0..len / 16 - 1 {
-        u8x16::from_slice(&items[16 * i + 16..]).copy_to_slice(&mut items[16 * i..]);
-    }
-    last.copy_to_slice(&mut items[len - 32..]);
-    column.copy_to_slice(&mut items[len - 16..]);
-    first
 }

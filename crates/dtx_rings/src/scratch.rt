@@ -6,11 +6,15 @@ use crate::columns::ROWS;
 /// The room of sixteen columns.
 const ROOM: usize = 16 * ROWS;
 
-/// The columns that come to the rings, and those that leave them.
+/// The room of sixteen rows, or of the columns of as many places as there can be, sixteen bytes apart.
+const FEW: usize = 1024;
+
+/// The columns that come to the rings, those that leave them, and the rows of a short call.
 #[derive(Drop)]
 pub(crate) struct Columns {
     pub(crate) come: [u8; ROOM],
     pub(crate) gone: [u8; ROOM],
+    pub(crate) rows: [u8; FEW],
 }
 
 impl Columns {
@@ -19,6 +23,7 @@ impl Columns {
         Columns {
             come: [0; ROOM],
             gone: [0; ROOM],
+            rows: [0; FEW],
         }
     }
 }

@@ -6,8 +6,8 @@ use lib.Lanes.{chunk}
 
 pub loop-c-preserved : goal.loop-c-preserved
 loop-c-preserved c =
-    filled_more c.loop-c.c 16 (λ n r. get_or c.args.columns.now (n * 208 + c.args.at + r) 0) c.loop-c.tile
-    (chunk (c.loop-c.c * 208 + c.args.at) 16 c.args.columns.now) c.loop-c-test.true c.loop-c.invariant
-    (length-chunk (c.loop-c.c * 208 + c.args.at) 16 c.args.columns.now
+    filled_more c.loop-c.c 16 (λ n r. get_or c.args.columns.now (n * 560 + c.args.at + r) 0) c.loop-c.tile
+    (chunk (c.loop-c.c * 560 + c.args.at) 16 c.args.columns.now) c.loop-c-test.true c.loop-c.invariant
+    (length-chunk (c.loop-c.c * 560 + c.args.at) 16 c.args.columns.now
     (omega (arith, c.requires.columns, c.requires.room, c.loop-c-test.true)))
-    (λ r l. get_or-chunk (c.loop-c.c * 208 + c.args.at) 16 c.args.columns.now r 0 l)
+    (λ r l. get_or-chunk (c.loop-c.c * 560 + c.args.at) 16 c.args.columns.now r 0 l)

@@ -1,7 +1,7 @@
 use Rattle.std.proofs.Common.{◌≡◌, ℕ, ◌+◌, ◌-◌, List, length, get_or, take, drop, replicate, refl, ap, ◌∙◌, arith}
 use Rattle.std.proofs.lemmas.Simd.{get_or-chunk}
 use Rattle.dtx_rings.proofs.Written.{short_put, short_byte, short_on, fewer_behind}
-use Rattle.dtx_rings.proofs.rings.exchange_short.Goals as goal
+use Rattle.dtx_rings.proofs.rings.exchange_joined.Goals as goal
 use lib.Lanes.{chunk}
 
 pub returns-clause-gone : goal.returns-clause-gone

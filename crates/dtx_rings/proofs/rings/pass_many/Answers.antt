@@ -1,7 +1,7 @@
 use Rattle.std.proofs.Common.{◌+◌, arith}
 use Rattle.dtx_rings.specs.Rings.{lists_of}
 use Rattle.dtx_rings.proofs.Places.{none_passed, passed_on}
-use Rattle.dtx_rings.proofs.rings.through.Goals as goal
+use Rattle.dtx_rings.proofs.rings.pass_many.Goals as goal
 
 pub loop-done-init : goal.loop-done-init
 loop-done-init g c = record {

@@ -1,6 +1,6 @@
 use Rattle.std.proofs.Common.{◌≡◌, ◌-◌, ◌≤◌, length}
 use Rattle.dtx_rings.specs.Rings.{lists_of, ArePassed}
-use Rattle.dtx_rings.proofs.rings.through.Given as goal
+use Rattle.dtx_rings.proofs.rings.pass_many.Given as goal
 
 abbrev pub invariant-loop-done : goal.invariant-loop-done
 invariant-loop-done g l = record {
