@@ -104,11 +104,8 @@ pub fed_on : (plan : Plan) (stream front part all xs ys : List (List ℕ)) → (
 fed_on plan stream front part all xs ys whole first second =
     let before : List (List ℕ) = stream ++ front in
     ap₂ ◌++◌ first second
-    ∙ sym (drop-append-le (length stream) (feed plan before) (drop (length before) (feed plan (before ++ part))) (omega (
-      arith,
-      length-feed plan before,
-      length-append stream front,
-    )))
+    ∙ sym (drop-append-le (length stream) (feed plan before) (drop (length before) (feed plan (before ++ part)))
+    (omega (arith, length-feed plan before, length-append stream front)))
     ∙ ap (drop (length stream)) (sym (feed_parts plan before part) ∙ ap (feed plan) whole)
 
 -- and its placeholders

@@ -103,13 +103,10 @@ impl Adapter {
             → StandsFor plan self.new (stream ++ packets.old) }
         ensures given { self.new.given ≡ self.old.given + length packets.old }
     {
-        let filled = make_run(
-            &mut self.filler,
-            self.coder.states(),
-            self.given,
-            packets,
-        );
-        self.code(&packets[..packets.len() - packets.len() % GROUP_PACKETS]);
+        let told = self.coder.states();
+        let filled = make_run(&mut self.filler, told, self.given, packets);
+        let grouped = packets.len() - packets.len() % GROUP_PACKETS;
+        self.code(&packets[..grouped]);
         self.given += packets.len() as u64;
         filled
     }

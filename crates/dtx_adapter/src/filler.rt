@@ -14,7 +14,9 @@ use dtx_ops::{Entry, Ops, Paging, write};
 use dtx_packets::Packet;
 use dtx_plan::{Plan, Transmitter};
 use dtx_rs::Rs;
-use dtx_sizes::{FRAME_PACKETS, MOST_PACKETS, MOST_TRANSMITTERS, OPERATIONS_PID, PACKET};
+use dtx_sizes::{
+    FRAME_PACKETS, MARK, MOST_PACKETS, MOST_TRANSMITTERS, OPERATIONS_PID, PACKET, SYNC,
+};
 use dtx_trellis::States;
 use std::alloc::{AllocError, Global};
 use std::marker::Model;
@@ -114,13 +116,13 @@ impl Filler {
         } }
     {
         let fills = is_placeholder(bytes);
-        let mut packet = Packet(*bytes);
         if fills {
+            let mut packet = Packet(*bytes);
             self.fill(index, &mut packet);
+            *bytes = packet.0;
         } else {
-            mark(index, &mut packet);
+            bytes[0] = sync(index);
         }
-        *bytes = packet.0;
         fills
     }
 
@@ -150,6 +152,17 @@ pub(crate) fn is_placeholder(bytes: &[u8; PACKET]) -> bool
     ensures { result ≡ spec.is_placeholder bytes.now }
 {
     Packet(*bytes).pid() == OPERATIONS_PID
+}
+
+/// The sync byte of packet `index` of the feed, which `mark` sets.
+fn sync(index: u64) -> u8
+    ensures { result ≡ sync_at index }
+{
+    if index % FRAME_PACKETS as u64 == 0 {
+        MARK
+    } else {
+        SYNC
+    }
 }
 
 /// What the operations packets say at first: the maximum delay, the first page, and its transmitters.

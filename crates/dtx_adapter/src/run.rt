@@ -21,7 +21,9 @@ pub(crate) fn run_packets(first: u64, packets: &[[u8; PACKET]]) -> usize
     ensures in_batch { first % BATCH_PACKETS + result ≤ BATCH_PACKETS }
     ensures later { placeholders (drop GROUP_PACKETS (take result packets.now)) ≡ 0 }
 {
-    let most = packets.len().min(BATCH_PACKETS - (first % BATCH_PACKETS as u64) as usize);
+    let most = packets
+        .len()
+        .min(BATCH_PACKETS - (first % BATCH_PACKETS as u64) as usize);
     for i in GROUP_PACKETS..most {
         if is_placeholder(&packets[i]) {
             return i - i % GROUP_PACKETS;
@@ -32,7 +34,12 @@ pub(crate) fn run_packets(first: u64, packets: &[[u8; PACKET]]) -> usize
 
 /// Turns the packets of a run of the stream into those of the feed, in place, and answers how many placeholders it
 /// filled. Before the run the coders have the states `told`. `first` is the index of its first packet.
-pub(crate) fn make_run(filler: &mut Filler, told: States, first: u64, packets: &mut [[u8; PACKET]]) -> u64
+pub(crate) fn make_run(
+    filler: &mut Filler,
+    told: States,
+    first: u64,
+    packets: &mut [[u8; PACKET]],
+) -> u64
     requires most { first + length packets.old ≤ MOST_PACKETS }
     requires later { placeholders (drop GROUP_PACKETS packets.old) ≡ 0 }
     ensures fed { (plan : Plan) (stream : List (List ℕ)) → Fills plan filler.old stream ((length stream - 1) / 4)

@@ -20,7 +20,8 @@ use borrow.Rule.Slice.PartMut.{put_mid}
 -- ---- counts
 
 pub few_of : (file : List ℕ) → placeholders (packets_of file) ≤ whole_packets file
-few_of file = subst (λ n. placeholders (packets_of file) ≤ n) (length-packets_of file) (placeholders-few (packets_of file))
+few_of file =
+    subst (λ n. placeholders (packets_of file) ≤ n) (length-packets_of file) (placeholders-few (packets_of file))
 
 pub counted_of : (state : Feeder) (given : List ℕ) → HasFed state given → IsCounted state
 counted_of state given is = record {

@@ -27,6 +27,8 @@ const PART_PACKETS: usize = FIELD_PACKETS as usize / 6;
 pub struct Feeder<'a> {
     plan: &'a Plan,
     adapter: Adapter,
+    /// The packets of the last part.
+    packets: [[u8; PACKET]; PART_PACKETS],
     /// The number of packets given so far.
     count: u64,
     /// The number of placeholders filled so far.
@@ -43,13 +45,14 @@ impl<'a> Feeder<'a> {
         Ok(Feeder {
             plan,
             adapter: Adapter::new(alloc, plan)?,
+            packets: [[0; PACKET]; PART_PACKETS],
             count: 0,
             filled: 0,
         })
     }
 
-    /// Turns the next packets into those of the feed, in place: at most a sixth of a field, and whole groups of four, but for the
-    /// end of a stream.
+    /// Turns the next packets into those of the feed, in place: at most a sixth of a field. They are whole groups of
+    /// four, but for the end of a stream.
     fn part(&mut self, bytes: &mut [u8])
         requires whole { length bytes.old % PACKET ≡ 0 }
         requires few { length bytes.old ≤ PACKET * PART_PACKETS }
@@ -64,27 +67,28 @@ impl<'a> Feeder<'a> {
     {
         goes_on();
         let count = bytes.len() / PACKET;
-        let mut packets = [[0; PACKET]; PART_PACKETS];
-        let filled = adapt_part(&mut self.adapter, &mut packets[..count], bytes);
+        let filled = adapt_part(&mut self.adapter, &mut self.packets[..], bytes);
         self.count += count as u64;
         self.filled += filled;
     }
 }
 
 /// Gives the packets of `bytes` to the adapter, and writes the feed's packets back. Returns how many placeholders were
-/// filled.
-fn adapt_part(adapter: &mut Adapter, packets: &mut [[u8; PACKET]], bytes: &mut [u8]) -> u64
-    requires long { length bytes.old ≡ PACKET * length packets.old }
+/// filled. Meanwhile the packets stand at the front of `room`.
+fn adapt_part(adapter: &mut Adapter, room: &mut [[u8; PACKET]], bytes: &mut [u8]) -> u64
+    requires whole { length bytes.old % PACKET ≡ 0 }
+    requires room { whole_packets bytes.old ≤ length room.old }
     requires open { adapter.old.given % GROUP_PACKETS ≡ 0 }
-    requires most { adapter.old.given + length packets.old ≤ MOST_PACKETS }
+    requires most { adapter.old.given + whole_packets bytes.old ≤ MOST_PACKETS }
     ensures fed { (plan : Plan) (stream : List (List ℕ)) → StandsFor plan adapter.old stream
         → feed_bytes plan (stream ++ packets_of bytes.old) ≡ feed_bytes plan stream ++ bytes.new }
     ensures stands { (plan : Plan) (stream : List (List ℕ)) → StandsFor plan adapter.old stream
         → StandsFor plan adapter.new (stream ++ packets_of bytes.old) }
     ensures filled { result ≡ placeholders (packets_of bytes.old) }
-    ensures given { adapter.new.given ≡ adapter.old.given + length packets.old }
+    ensures given { adapter.new.given ≡ adapter.old.given + whole_packets bytes.old }
 {
     let (given, _) = bytes.as_chunks::<PACKET>();
+    let packets = &mut room[..given.len()];
     packets.copy_from_slice(given);
     let filled = adapter.groups(packets);
     bytes.copy_from_slice(packets.as_flattened());

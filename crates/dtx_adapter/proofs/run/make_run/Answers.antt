@@ -1,5 +1,5 @@
-use Rattle.std.proofs.Common.{◌≡◌, ◌⊎◌, ℕ, ◌+◌, ◌-◌, ◌/◌, ◌%◌, ◌≤◌, ◌++◌, List, length, take, drop, refl, ap, sym, subst}
-use Rattle.std.proofs.Common.{◌∙◌, arith}
+use Rattle.std.proofs.Common.{◌≡◌, ◌⊎◌, ℕ, ◌+◌, ◌-◌, ◌/◌, ◌%◌, ◌≤◌, ◌++◌, List, length, take, drop, refl, ap, sym}
+use Rattle.std.proofs.Common.{subst, ◌∙◌, arith}
 use Rattle.dtx_coder.specs.Stream.{states}
 use Rattle.std.proofs.lemmas.List.{length-append, length-take-le, length-drop, append-nil}
 use Rattle.std.proofs.lemmas.Slice.{take-put_mid, drop-put_mid}

@@ -2,7 +2,7 @@ use Rattle.std.proofs.Common.{◌≡◌, ◌+◌, ◌++◌, length, drop, ap, sy
 use Rattle.dtx_adapter.specs.Adapting.{StandsFor}
 use Rattle.dtx_adapter.specs.Feed.{feed, placeholders}
 use Rattle.dtx_packets.specs.Packets.{packets_of}
-use Rattle.dtx_forms.proofs.FilePacketsLemmas.{packets_are}
+use Rattle.dtx_forms.proofs.FilePacketsLemmas.{packets_are, length-packets_of}
 use Rattle.dtx_packet_jobs.specs.Feed.{bytes_of_packets, feed_bytes}
 use Rattle.dtx_packet_jobs.specs.FeedLaws.{feed_bytes-parts}
 use Rattle.dtx_packet_jobs.proofs.feeder.adapt_part.Goals as goal
@@ -24,5 +24,6 @@ returns c =
           subst (λ more. StandsFor plan c.groups-filled.new.self (stream ++ more)) given
           (c.groups-filled.ensures.stands plan stream stands);
       filled = c.groups-filled.ensures.filled ∙ ap placeholders given;
-      given = c.groups-filled.ensures.given ∙ ap (λ n. c.args.adapter.now.given + n) c.copy_from_slice.ensures.len;
+      given = c.groups-filled.ensures.given
+          ∙ ap (λ n. c.args.adapter.now.given + n) (ap length given ∙ length-packets_of bytes);
     }

@@ -1,7 +1,7 @@
 use Rattle.std.proofs.Common.{◌≡◌, ◌≤◌, ◌%◌, ℕ, ◌+◌, ◌*◌, ◌++◌, [], List, length, take, drop, ap}
 use Rattle.std.proofs.Common.{refl, sym, ◌∙◌, arith, subst}
-use Rattle.std.proofs.lemmas.List.{length-append, length-drop, length-take-le, drop_all, take_all, append-nil, drop-drop}
-use Rattle.std.proofs.lemmas.List.{take-append-drop}
+use Rattle.std.proofs.lemmas.List.{length-append, length-drop, length-take-le, drop_all, take_all, append-nil}
+use Rattle.std.proofs.lemmas.List.{take-append-drop, drop-drop}
 use Rattle.dtx_coder.proofs.BatchesLemmas.{ahead_all, ahead_place}
 use Rattle.dtx_coder.specs.Batches.{IsAhead}
 use Rattle.dtx_coder.specs.Groups.{Coding, stream_coding}

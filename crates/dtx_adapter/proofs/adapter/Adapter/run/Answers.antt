@@ -40,7 +40,7 @@ groups_of plan stream longer made whole long all =
 pub returns-clause-fed : goal.returns-clause-fed
 returns-clause-fed c = λ plan stream stands.
     c.make_run-filled.ensures.fed plan stream stands.fills (sym stands.given) c.requires.open
-    (c.states.ensures.states
+    (c.states-told.ensures.states
     ∙ held c.args.self.now.coder (feed plan stream)
     (given_whole plan c.args.self.now stream stands c.requires.open))
 
@@ -53,7 +53,7 @@ returns-clause-stands c = λ plan stream stands.
     let at = stands.given in
     let whole = given_whole plan c.args.self.now stream stands complete in
     let fed : made ≡ drop (length stream) (feed plan longer) =
-    c.make_run-filled.ensures.fed plan stream stands.fills (sym at) complete (c.states.ensures.states
+    c.make_run-filled.ensures.fed plan stream stands.fills (sym at) complete (c.states-told.ensures.states
     ∙ held c.args.self.now.coder (feed plan stream) whole) in
     let all : feed plan stream ++ made ≡ feed plan longer =
     ap (λ back. feed plan stream ++ back) fed ∙ sym (feed_parts plan stream old) in

@@ -1,4 +1,4 @@
-use Rattle.std.proofs.Common.{◌%◌, ◌≡◌, ◌/◌, ◌+◌, length, refl, arith}
+use Rattle.std.proofs.Common.{◌%◌, ◌≡◌, length, refl, arith}
 use Rattle.std.proofs.lemmas.Grind.{common_steps}
 use Rattle.dtx_packets.specs.Packets.{packets_of}
 use Rattle.dtx_packet_jobs.proofs.Feeding.{few_of, packets_fed}
@@ -28,13 +28,7 @@ returns-clause-fed c = λ given long is.
     let filled = c.adapt_part-filled.result in
     let adapter = c.adapt_part-filled.new.adapter in
     let whole : length given % 188 ≡ 0 = omega (arith, long) in
-    packets_fed old
-    (record {
-      plan = old.plan;
-      adapter = adapter;
-      count = old.count + length bytes / 188;
-      filled = old.filled + filled;
-    })
+    packets_fed old _
     given bytes c.adapt_part-filled.new.bytes filled whole refl refl refl c.adapt_part-filled.ensures.filled
     (c.adapt_part-filled.ensures.stands old.plan.now (packets_of given) is.adapter)
     (c.adapt_part-filled.ensures.fed old.plan.now (packets_of given) is.adapter) is
