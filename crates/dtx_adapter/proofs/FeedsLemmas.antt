@@ -1,12 +1,13 @@
 -- The feed of a stream: its length, its parts, and its next packet.
 use Rattle.std.proofs.Common.{◌≡◌, ◌⊎◌, inl, inr, ℕ, zero, suc, ◌+◌, ◌/◌, ◌%◌, ◌<◌, ◌≤◌, Bool, true, false, cond}
-use Rattle.std.proofs.Common.{List, [], ◌∷◌, ◌++◌, length, take, drop, get_or, refl, sym, ap, ap₂, ◌∙◌, arith}
+use Rattle.std.proofs.Common.{List, [], ◌∷◌, ◌++◌, length, take, drop, get_or, refl, sym, ap, ap₂, subst, ◌∙◌, arith}
 use Rattle.std.specs.List.{filter}
 use Rattle.std.proofs.Math.Seq.{get_or-append_seam, take-append_seam}
 use Rattle.std.proofs.lemmas.Bool.{cases_lt}
 use Rattle.std.proofs.lemmas.List.{length-append, take-append-le, take-append-drop, take_all, get_or-take}
 use Rattle.std.proofs.lemmas.List.{get_or_append_left, length-take-le}
 use Rattle.std.proofs.lemmas.List.Elements.{filter-append}
+use Rattle.std.proofs.lemmas.List.Sums.{length-filter, count_by-le-length}
 use Rattle.dtx_plan.specs.declared.plan.Plan.{Plan}
 use Rattle.dtx_adapter.specs.Feed.{is_placeholder, placeholders, ops_at, counter_at, as_feed_packet, fed_packet}
 use Rattle.dtx_adapter.specs.Feed.{filled_groups, feed_to, feed}
@@ -26,6 +27,12 @@ one_kept false p = refl
 pub placeholders-one : (p : List ℕ) → placeholders (p ∷ []) ≡ cond (is_placeholder p) 1 0
 unfolding placeholders
 placeholders-one p = one_kept (is_placeholder p) p
+
+-- at most all are placeholders
+pub placeholders-few : (ps : List (List ℕ)) → placeholders ps ≤ length ps
+unfolding placeholders
+placeholders-few ps =
+    subst (λ n. n ≤ length ps) (sym (length-filter is_placeholder ps)) (count_by-le-length is_placeholder ps)
 
 -- ---- the first packets of a feed
 

@@ -4,5 +4,6 @@ pub mod PagesLemmas
 mod PacketPagesLemmas
 pub mod TurnsLemmas
 mod MakingLemmas
+mod Runs
 pub mod ReadingsLemmas
 pub mod Coding

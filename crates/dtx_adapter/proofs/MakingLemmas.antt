@@ -1,17 +1,19 @@
 -- The packets of a group, made one after another.
-use Rattle.std.proofs.Common.{◌≡◌, ◌≢◌, ℕ, suc, get_or, set, drop-cons, ◌+◌, ◌-◌, ◌*◌, ◌/◌, ◌%◌, ◌<◌, ◌≤◌, Bool}
-use Rattle.std.proofs.Common.{true, false, ◌||◌, cond, List, [], ◌∷◌, ◌++◌, length, take, drop, map, refl, sym, ap, ap₂}
-use Rattle.std.proofs.Common.{subst, ◌∙◌, arith, append_assoc, nat_eq, AllPairs}
+use Rattle.std.proofs.Common.{◌≡◌, ◌≢◌, ◌⊎◌, inl, inr, ℕ, suc, get_or, drop-cons, ◌+◌, ◌-◌, ◌*◌, ◌/◌, ◌%◌, ◌<◌, ◌≤◌}
+use Rattle.std.proofs.Common.{Bool, true, false, ◌||◌, cond, List, [], ◌∷◌, ◌++◌, length, take, drop, map, refl, sym}
+use Rattle.std.proofs.Common.{ap, ap₂, subst, ◌∙◌, arith, append_assoc, nat_eq, AllPairs}
 use Rattle.std.specs.List.{IsDistinct}
 use Rattle.std.proofs.lemmas.Bool.Decides.{Decides-eqb}
-use Rattle.std.proofs.Math.Seq.{take-suc}
-use Rattle.std.proofs.lemmas.List.{length-append, append-nil, drop_all, drop-append-le, map-append, take_more_set}
+use Rattle.std.proofs.lemmas.Bool.{cond-false}
+use Rattle.std.proofs.lemmas.List.{length-append, append-nil, drop_all, drop-append-le}
 use Rattle.std.proofs.lemmas.Simd.{map-map}
 use Rattle.std.proofs.lemmas.Map.Made.{AllPairs-from_IsDistinct}
+use Rattle.dtx_cadence.specs.Mark.{sync_at, marked}
+use Rattle.dtx_ops.specs.Spelling.{spelling}
 use Rattle.dtx_ops.specs.declared.fields.Entry.{Entry}
+use Rattle.dtx_ops.specs.declared.fields.Ops.{Ops}
 use Rattle.dtx_ops.specs.declared.paging.Paging.{Paging}
 use Rattle.dtx_coder.specs.Stream.{states}
-use Rattle.dtx_packets.specs.declared.packet.Packet as packet
 use Rattle.dtx_plan.specs.declared.plan.Plan.{Plan}
 use Rattle.dtx_plan.specs.declared.transmitter.Transmitter.{Transmitter}
 use Rattle.dtx_plan.specs.TransmitterTable.{addresses_of}
@@ -82,28 +84,39 @@ group_states plan stream given k whole few at =
     let same : 4 * (k / 4) ≡ length stream = omega (arith, whole, few, at) in
     ap (λ n. take n (feed plan (stream ++ given))) same ∙ feed_front plan stream given
 
+-- what a packet becomes: the fields count only where it is a placeholder
+same_made : (said ops : Ops) (counter other k n : ℕ) (p : List ℕ)
+    → (is_placeholder p ≡ false) ⊎ (said ≡ ops) → counter ≡ other → k ≡ n
+    → as_feed_packet said counter k p ≡ as_feed_packet ops other n p
+unfolding as_feed_packet
+same_made said ops counter other k n p (inl not) e at =
+    cond-false (is_placeholder p) (spelling said counter (sync_at k)) (marked k p) not
+    ∙ ap (λ j. marked j p) at
+    ∙ sym (cond-false (is_placeholder p) (spelling ops other (sync_at n)) (marked n p) not)
+same_made said ops counter other k n p (inr same) e at = cc
+
 -- one packet more of a group
 pub made_next : (plan : Plan) (filling : Filling) (stream given xs : List (List ℕ)) (p : List ℕ) (k : ℕ)
     → Fills plan filling (stream ++ given) (k / 4)
     → length stream % 4 ≡ 0 → length given < 4 → k ≡ length stream + length given
-    → filling.states ≡ states (feed plan stream)
+    → (is_placeholder p ≡ false) ⊎ (filling.states ≡ states (feed plan stream))
     → xs ≡ drop (length stream) (feed plan (stream ++ given))
     → xs ++ as_feed_packet (filled_ops filling k) filling.counter k p ∷ []
     ≡ drop (length stream) (feed plan (stream ++ (given ++ p ∷ [])))
 made_next plan filling stream given xs p k fills whole few at told e =
     let before : List (List ℕ) = stream ++ given in
     let long : k ≡ length before = omega (arith, at, length-append stream given) in
-    let says : filled_ops filling k ≡ ops_at plan before (feed plan before) (length before) =
-    said_is plan filling before (feed plan before) k fills (told
-    ∙ ap states (sym (group_states plan stream given k whole few at)))
-    ∙ ap (ops_at plan before (feed plan before)) long in
-    let next : List ℕ =
-    as_feed_packet (ops_at plan before (feed plan before) (length before)) (placeholders before % 16)
-    (length before) p in
+    let ops : Ops = ops_at plan before (feed plan before) (length before) in
+    let next : List ℕ = as_feed_packet ops (placeholders before % 16) (length before) p in
+    let says : (is_placeholder p ≡ false) ⊎ (filled_ops filling k ≡ ops) = elim told [
+      | inl not ↦ inl not
+      | inr known ↦ inr (said_is plan filling before (feed plan before) k fills (known
+          ∙ ap states (sym (group_states plan stream given k whole few at)))
+          ∙ ap (ops_at plan before (feed plan before)) long)
+    ] in
     let here : as_feed_packet (filled_ops filling k) filling.counter k p ≡ next =
-    ap (λ ops. as_feed_packet ops filling.counter k p) says
-    ∙ ap₂ (λ counter n. as_feed_packet (ops_at plan before (feed plan before)
-    (length before)) counter n p) fills.counter long in
+    same_made (filled_ops filling k) ops filling.counter (placeholders before % 16) k (length before) p says
+    fills.counter long in
     ap₂ (λ front q. front ++ q ∷ []) e here
     ∙ sym (drop-append-le (length stream) (feed plan before) (next ∷ []) (omega (
       arith,
@@ -129,12 +142,8 @@ made_none plan stream =
 
 -- ---- the packets that a group has
 
--- packets as their bytes
-abbrev pub raw : List packet.Packet → List (List ℕ)
-raw packets = map (λ p. p.0) packets
-
 -- the next packet is still as it was given
-pub still_given : (old now : List packet.Packet) (i : ℕ) (d : packet.Packet) → i < length old → length now ≡ length old
+pub still_given : (old now : List (List ℕ)) (i : ℕ) (d : List ℕ) → i < length old → length now ≡ length old
     → drop i now ≡ drop i old
     → (get_or now i d ≡ get_or old i d) × (drop (suc i) now ≡ drop (suc i) old)
 still_given old now i d here long rest =
@@ -142,18 +151,6 @@ still_given old now i d here long rest =
     let b = drop-cons old i d here in
     let whole : get_or now i d ∷ drop (suc i) now ≡ get_or old i d ∷ drop (suc i) old = sym a ∙ rest ∙ b in
     (cc, cc)
-
-pub given_next : (old : List packet.Packet) (i : ℕ) (d : packet.Packet) → i < length old
-    → raw (take (i + 1) old) ≡ raw (take i old) ++ (get_or old i d).0 ∷ []
-given_next old i d here =
-    let one : i + 1 ≡ suc i = omega arith in
-    ap (λ n. raw (take n old)) one ∙ ap raw (take-suc old i d here)
-    ∙ map-append (λ (p : packet.Packet). p.0) (take i old) (get_or old i d ∷ [])
-
-pub made_more : (now : List packet.Packet) (i : ℕ) (q : packet.Packet) → i < length now
-    → raw (take (i + 1) (set now i q)) ≡ raw (take i now) ++ q.0 ∷ []
-made_more now i q here = ap raw (take_more_set now i q here)
-    ∙ map-append (λ (p : packet.Packet). p.0) (take i now) (q ∷ [])
 
 -- ---- a group begins
 

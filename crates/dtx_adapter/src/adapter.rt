@@ -1,29 +1,39 @@
 // An adapter.
 ghost use Rattle.std.specs.Prelude.{◌≡◌, ◌==◌, ◌<◌, ◌≤◌, ◌+◌, ◌*◌, ◌/◌, ◌%◌, ◌++◌, [], ℕ, List, All, IfOk, OnOk};
-ghost use Rattle.std.specs.Prelude.{length, map, take, drop};
+ghost use Rattle.std.specs.Prelude.{length, take, drop};
+ghost use Rattle.dtx_coder.specs.Batches.{IsAhead};
 ghost use Rattle.dtx_coder.specs.Groups as groups;
-ghost use Rattle.dtx_coder.specs.Stream.{states};
 ghost use Rattle.dtx_ops.specs.Spelling.{IsEntry};
 ghost use Rattle.dtx_plan.specs.Sound.{IsSound};
 ghost use Rattle.dtx_plan.specs.declared.plan.Plan.{Plan};
-ghost use Rattle.dtx_adapter.specs.Adapting.{StandsFor};
+ghost use Rattle.dtx_adapter.specs.Adapting.{StandsFor, AreInterleaved};
 ghost use Rattle.dtx_adapter.specs.Feed.{entry_of, feed, placeholders};
-ghost use Rattle.dtx_adapter.specs.Filling.{Fills};
 
 use crate::filler::Filler;
-use dtx_coder::{Air, Coder};
-use dtx_packets::Packet;
+use crate::run::{make_run, run_packets};
+use dtx_coder::{Air, BATCH_BYTES, BATCH_PACKETS, Coder};
 use dtx_plan::Plan;
-use dtx_sizes::{FieldPlace, GROUP_PACKETS, MOST_PACKETS, field_place};
+use dtx_sizes::{
+    CODEWORD, FIELD_PACKETS, FieldPlace, GROUP_BYTES, GROUP_PACKETS, MOST_PACKETS, PACKET,
+    field_place,
+};
 use std::alloc::{AllocError, Global};
+
+/// The most groups in a run.
+const BATCH_GROUPS: usize = BATCH_PACKETS / GROUP_PACKETS;
 
 /// An adapter. It turns the packets of a stream, given in order, into those of the feed (the profile's own, in the
 /// manner of ATSC A/110).
+///
+/// The feed is made run by run. Only the first group of a run may hold placeholders, since their packets say the states
+/// before the group. The groups of a run are interleaved at once.
 #[derive(Drop)]
 pub struct Adapter {
     filler: Filler,
-    /// The coder is given the feed, so that its states are known before each group.
+    /// The coder is given the feed, so that its states are known before each run.
     coder: Coder,
+    /// The groups of the last run as they left the interleaver, 828 bytes for each.
+    batch: [u8; BATCH_BYTES],
     air: Air,
     /// How many packets were given.
     given: u64,
@@ -42,12 +52,13 @@ impl Adapter {
         Ok(Adapter {
             filler: Filler::new(alloc, plan)?,
             coder: Coder::new(alloc)?,
+            batch: [0; BATCH_BYTES],
             air: Air::new(),
             given: 0,
         })
     }
 
-    /// Whether a further group may be given: not after a group of fewer than four packets.
+    /// Whether further packets may be given: not after a group of fewer than four packets.
     pub fn open(&self) -> bool
         ensures { result ≡ (self.now.given % GROUP_PACKETS == 0) }
     {
@@ -55,73 +66,96 @@ impl Adapter {
     }
 
     /// Turns the next packets of the stream into those of the feed, in place, and answers how many placeholders it
-    /// filled. The caller gives a group of four packets, or fewer at the end of the stream, and at most 624,000,000
+    /// filled. The caller gives whole groups of four packets, but for the end of the stream, and at most 624,000,000
     /// packets in all. The call takes no memory and has no errors.
-    pub fn group(&mut self, packets: &mut [Packet]) -> u8
-        requires some { 0 < length packets.old }
-        requires few { length packets.old ≤ GROUP_PACKETS }
+    pub fn groups(&mut self, packets: &mut [[u8; PACKET]]) -> u64
         requires open { self.old.given % GROUP_PACKETS ≡ 0 }
         requires most { self.old.given + length packets.old ≤ MOST_PACKETS }
         ensures fed { (plan : Plan) (stream : List (List ℕ)) → StandsFor plan self.old stream
-            → map (λ p. p.0) packets.new ≡ drop (length stream) (feed plan (stream ++ map (λ p. p.0) packets.old)) }
-        ensures filled { result ≡ placeholders (map (λ p. p.0) packets.old) }
+            → packets.new ≡ drop (length stream) (feed plan (stream ++ packets.old)) }
+        ensures filled { result ≡ placeholders packets.old }
         ensures stands { (plan : Plan) (stream : List (List ℕ)) → StandsFor plan self.old stream
-            → StandsFor plan self.new (stream ++ map (λ p. p.0) packets.old) }
+            → StandsFor plan self.new (stream ++ packets.old) }
         ensures given { self.new.given ≡ self.old.given + length packets.old }
     {
-        self.filler.begin(self.coder.states());
-        let filled = make_group(&mut self.filler, self.given, packets);
-        self.code(packets);
+        let mut filled = 0;
+        let mut done = 0;
+        while done < packets.len() {
+            let end = done + run_packets(self.given, &packets[done..]);
+            filled += self.run(&mut packets[done..end]);
+            done = end;
+        }
+        filled
+    }
+
+    /// Turns the packets of the next run into those of the feed, in place, and answers how many placeholders it filled.
+    /// They stand in one sixth of a field, and behind the first group there is no placeholder.
+    fn run(&mut self, packets: &mut [[u8; PACKET]]) -> u64
+        requires some { 0 < length packets.old }
+        requires open { self.old.given % GROUP_PACKETS ≡ 0 }
+        requires in_batch { self.old.given % BATCH_PACKETS + length packets.old ≤ BATCH_PACKETS }
+        requires most { self.old.given + length packets.old ≤ MOST_PACKETS }
+        requires later { placeholders (drop GROUP_PACKETS packets.old) ≡ 0 }
+        ensures fed { (plan : Plan) (stream : List (List ℕ)) → StandsFor plan self.old stream
+            → packets.new ≡ drop (length stream) (feed plan (stream ++ packets.old)) }
+        ensures filled { result ≡ placeholders packets.old }
+        ensures stands { (plan : Plan) (stream : List (List ℕ)) → StandsFor plan self.old stream
+            → StandsFor plan self.new (stream ++ packets.old) }
+        ensures given { self.new.given ≡ self.old.given + length packets.old }
+    {
+        let told = self.coder.states();
+        let filled = make_run(&mut self.filler, told, self.given, packets);
+        let grouped = packets.len() - packets.len() % GROUP_PACKETS;
+        self.code(&packets[..grouped]);
         self.given += packets.len() as u64;
         filled
     }
 
-    /// Codes the next packets of the feed, if they are a whole group.
-    fn code(&mut self, packets: &[Packet])
-        requires few { length packets.now ≤ GROUP_PACKETS }
+    /// Codes the next groups of the feed. They stand in one sixth of a field.
+    fn code(&mut self, packets: &[[u8; PACKET]])
         requires open { self.old.given % GROUP_PACKETS ≡ 0 }
+        requires whole { length packets.now % GROUP_PACKETS ≡ 0 }
+        requires in_batch { self.old.given % BATCH_PACKETS + length packets.now ≤ BATCH_PACKETS }
+        requires most { self.old.given + length packets.now ≤ MOST_PACKETS }
         ensures coder { (fed : List (List ℕ)) → length fed ≡ self.old.given → groups.StandsFor self.old.coder fed
-            → groups.StandsFor self.new.coder (take
-            (GROUP_PACKETS * ((length fed + length packets.now) / GROUP_PACKETS)) (fed ++ map (λ p. p.0) packets.now)) }
+            → groups.StandsFor self.new.coder (fed ++ packets.now) }
         ensures filler { self.new.filler ≡ self.old.filler }
         ensures given { self.new.given ≡ self.old.given }
     {
-        if let Some(group) = packets.first_chunk::<GROUP_PACKETS>() {
-            code_group(&mut self.coder, self.given, group, &mut self.air);
+        let place = field_place(self.given).place;
+        interleave_front(&mut self.coder, place, packets, &mut self.batch[..]);
+        for i in 0..packets.len() / GROUP_PACKETS {
+            self.send_group(self.given + (GROUP_PACKETS * i) as u64, i);
         }
+    }
+
+    /// Sends one group of the batch: only the states behind it matter. Its first packet is packet `first` of the feed.
+    fn send_group(&mut self, first: u64, group: usize)
+        requires grouped { first % GROUP_PACKETS ≡ 0 }
+        requires within { group < BATCH_GROUPS }
+        ensures sent { (before own rest : List (List ℕ)) → length before ≡ first → length own ≡ GROUP_PACKETS
+            → AreInterleaved self.old group before (own ++ rest)
+            → AreInterleaved self.new (group + 1) (before ++ own) rest }
+        ensures filler { self.new.filler ≡ self.old.filler }
+        ensures given { self.new.given ≡ self.old.given }
+    {
+        let FieldPlace { place, second } = field_place(first);
+        let sync = place == 0;
+        let (groups, _) = self.batch.as_chunks::<GROUP_BYTES>();
+        self.coder
+            .send(place, second, &groups[group], None, sync, &mut self.air);
     }
 }
 
-/// Turns the packets of a group of the stream into those of the feed, in place, and answers how many placeholders it
-/// filled. `first` is the index of the group's first packet.
-fn make_group(filler: &mut Filler, first: u64, packets: &mut [Packet]) -> u8
-    requires few { length packets.old ≤ GROUP_PACKETS }
-    requires most { first + length packets.old ≤ MOST_PACKETS }
-    ensures fed { (plan : Plan) (stream : List (List ℕ)) → Fills plan filler.old stream (first / GROUP_PACKETS)
-        → length stream ≡ first → first % GROUP_PACKETS ≡ 0
-        → filler.old.states ≡ states (feed plan stream)
-        → map (λ p. p.0) packets.new ≡ drop (length stream) (feed plan (stream ++ map (λ p. p.0) packets.old)) }
-    ensures fills { (plan : Plan) (stream : List (List ℕ)) → Fills plan filler.old stream (first / GROUP_PACKETS)
-        → length stream ≡ first → first % GROUP_PACKETS ≡ 0
-        → Fills plan filler.new (stream ++ map (λ p. p.0) packets.old) (first / GROUP_PACKETS) }
-    ensures filled { result ≡ placeholders (map (λ p. p.0) packets.old) }
-    ensures long { length packets.new ≡ length packets.old }
+/// Interleaves packets, the first of which has that place in its field. The bytes that leave the interleaver go to the
+/// front of the batch.
+fn interleave_front(coder: &mut Coder, place: u16, packets: &[[u8; PACKET]], batch: &mut [u8])
+    requires whole { length packets.now % GROUP_PACKETS ≡ 0 }
+    requires in_field { place + length packets.now ≤ FIELD_PACKETS }
+    requires room { CODEWORD * length packets.now ≤ length batch.old }
+    ensures ahead { IsAhead coder.old place packets.now (take (CODEWORD * length packets.now) batch.new) coder.new }
+    ensures long { length batch.new ≡ length batch.old }
 {
-    let mut filled = 0;
-    for i in 0..packets.len() {
-        if filler.make(first + i as u64, &mut packets[i]) {
-            filled += 1;
-        }
-    }
-    filled
-}
-
-/// Codes the group whose first packet has the index `first`, from the states after the group before it.
-fn code_group(coder: &mut Coder, first: u64, packets: &[Packet; GROUP_PACKETS], air: &mut Air)
-    requires { first % GROUP_PACKETS ≡ 0 }
-    ensures { (fed : List (List ℕ)) → length fed ≡ first → groups.StandsFor coder.old fed
-        → groups.StandsFor coder.new (fed ++ map (λ p. p.0) packets.now) }
-{
-    let FieldPlace { place, second } = field_place(first);
-    coder.group(place, second, packets, None, place == 0, air);
+    let len = CODEWORD * packets.len();
+    coder.interleave(place, packets, &mut batch[..len]);
 }

@@ -4,7 +4,7 @@ ghost use Rattle.dtx_cadence.specs.Mark.{sync_at};
 ghost use Rattle.dtx_ops.specs.Spelling.{spelling, IsEntry};
 ghost use Rattle.dtx_plan.specs.Sound.{IsSound};
 ghost use Rattle.dtx_adapter.specs.Feed as spec;
-ghost use Rattle.dtx_adapter.specs.Feed.{is_placeholder, as_feed_packet};
+ghost use Rattle.dtx_adapter.specs.Feed.{as_feed_packet};
 ghost use Rattle.dtx_adapter.specs.Filling.{Fills, filled_ops, next_page, begun};
 
 use crate::page::{entries_on, first_page, part};
@@ -14,7 +14,9 @@ use dtx_ops::{Entry, Ops, Paging, write};
 use dtx_packets::Packet;
 use dtx_plan::{Plan, Transmitter};
 use dtx_rs::Rs;
-use dtx_sizes::{FRAME_PACKETS, MOST_PACKETS, MOST_TRANSMITTERS, OPERATIONS_PID};
+use dtx_sizes::{
+    FRAME_PACKETS, MARK, MOST_PACKETS, MOST_TRANSMITTERS, OPERATIONS_PID, PACKET, SYNC,
+};
 use dtx_trellis::States;
 use std::alloc::{AllocError, Global};
 use std::marker::Model;
@@ -102,24 +104,26 @@ impl Filler {
     }
 
     /// Turns packet `index` of the stream into that of the feed, and answers whether it was a placeholder.
-    #[tactic(auto, unfolding(crate::specs::Feed::is_placeholder, crate::specs::Feed::as_feed_packet))]
-    pub(crate) fn make(&mut self, index: u64, packet: &mut Packet) -> bool
+    #[tactic(auto, unfolding(crate::specs::Feed::as_feed_packet))]
+    pub(crate) fn make(&mut self, index: u64, bytes: &mut [u8; PACKET]) -> bool
         requires { index < MOST_PACKETS }
-        ensures made { packet.new.0 ≡ as_feed_packet (filled_ops self.old index) self.old.counter index packet.old.0 }
-        ensures placeholder { result ≡ is_placeholder packet.old.0 }
+        ensures made { bytes.new ≡ as_feed_packet (filled_ops self.old index) self.old.counter index bytes.old }
+        ensures placeholder { result ≡ spec.is_placeholder bytes.old }
         ensures counted { self.new ≡ record self.old {
-          counter = if is_placeholder packet.old.0 then
+          counter = if spec.is_placeholder bytes.old then
               (self.old.counter + 1) % COUNTERS else self.old.counter;
-          filled = if is_placeholder packet.old.0 then true else self.old.filled;
+          filled = if spec.is_placeholder bytes.old then true else self.old.filled;
         } }
     {
-        if packet.pid() == OPERATIONS_PID {
-            self.fill(index, packet);
-            true
+        let fills = is_placeholder(bytes);
+        if fills {
+            let mut packet = Packet(*bytes);
+            self.fill(index, &mut packet);
+            *bytes = packet.0;
         } else {
-            mark(index, packet);
-            false
+            bytes[0] = sync(index);
         }
+        fills
     }
 
     /// Overwrites a packet with the operations packet that is packet `index` of the feed.
@@ -139,6 +143,25 @@ impl Filler {
         mark(index, packet);
         self.counter = (self.counter + 1) % COUNTERS;
         self.filled = true;
+    }
+}
+
+/// Whether a packet of the stream is a placeholder.
+#[tactic(auto, unfolding(crate::specs::Feed::is_placeholder))]
+pub(crate) fn is_placeholder(bytes: &[u8; PACKET]) -> bool
+    ensures { result ≡ spec.is_placeholder bytes.now }
+{
+    Packet(*bytes).pid() == OPERATIONS_PID
+}
+
+/// The sync byte of packet `index` of the feed, which `mark` sets.
+fn sync(index: u64) -> u8
+    ensures { result ≡ sync_at index }
+{
+    if index % FRAME_PACKETS as u64 == 0 {
+        MARK
+    } else {
+        SYNC
     }
 }
 

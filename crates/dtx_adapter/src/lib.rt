@@ -6,5 +6,6 @@ mod adapter;
 mod filler;
 pub mod laws;
 mod page;
+mod run;
 
 pub use adapter::Adapter;

@@ -1,12 +1,12 @@
 -- A feeder that is given a group more.
 use Rattle.std.proofs.Common.{◌≡◌, ℕ, ◌+◌, ◌%◌, ◌≤◌, List, [], ◌++◌, length, take, drop, refl, sym, ap, ap₂}
 use Rattle.std.proofs.Common.{subst, ◌∙◌, arith}
-use Rattle.std.proofs.lemmas.List.{append_assoc, append-nil}
-use Rattle.std.proofs.lemmas.List.Sums.{length-filter, count_by-le-length}
+use Rattle.std.proofs.lemmas.List.{append_assoc, append-nil, drop-drop}
+use Rattle.std.proofs.lemmas.Slice.{take-put_mid, drop-put_mid}
 use Rattle.std.proofs.Math.Seq.{take-add}
-use Rattle.dtx_adapter.proofs.FeedsLemmas.{placeholders-append}
+use Rattle.dtx_adapter.proofs.FeedsLemmas.{placeholders-append, placeholders-few}
 use Rattle.dtx_adapter.specs.Adapting.{StandsFor}
-use Rattle.dtx_adapter.specs.Feed.{is_placeholder, placeholders}
+use Rattle.dtx_adapter.specs.Feed.{placeholders}
 use Rattle.dtx_engine.specs.Made.{Made, joined, only}
 use Rattle.dtx_engine.specs.Recipe.{Recipe, IsFed}
 use Rattle.dtx_packets.proofs.PacketLemmas.{packets_of-append, whole_packets-append}
@@ -15,20 +15,13 @@ use Rattle.dtx_packet_jobs.specs.Adapt.{feeding}
 use Rattle.dtx_packet_jobs.specs.Feed.{feed_bytes, HasFed, IsCounted}
 use Rattle.dtx_forms.proofs.FilePacketsLemmas.{length-packets_of}
 use Rattle.dtx_packet_jobs.specs.declared.feeder.Feeder.{Feeder}
-use Rattle.dtx_packet_jobs.proofs.PacketBytes.{front_put}
 use borrow.Rule.Slice.PartMut.{put_mid}
 
 -- ---- counts
 
--- some of the packets are placeholders
-few_filled : (packets : List (List ℕ)) → placeholders packets ≤ length packets
-unfolding placeholders
-few_filled packets =
-    subst (λ n. n ≤ length packets) (sym (length-filter is_placeholder packets))
-    (count_by-le-length is_placeholder packets)
-
 pub few_of : (file : List ℕ) → placeholders (packets_of file) ≤ whole_packets file
-few_of file = subst (λ n. placeholders (packets_of file) ≤ n) (length-packets_of file) (few_filled (packets_of file))
+few_of file =
+    subst (λ n. placeholders (packets_of file) ≤ n) (length-packets_of file) (placeholders-few (packets_of file))
 
 pub counted_of : (state : Feeder) (given : List ℕ) → HasFed state given → IsCounted state
 counted_of state given is = record {
@@ -62,15 +55,15 @@ fed_none m given s is = record {
       (sym (append-nil (m.made given).second));
 }
 
--- a group of packets
-pub group_fed : (old new : Feeder) (given bytes made : List ℕ) (filled : ℕ) → length given % 188 ≡ 0
+-- a part of the packets
+pub packets_fed : (old new : Feeder) (given bytes made : List ℕ) (filled : ℕ) → length given % 188 ≡ 0
     → new.plan ≡ old.plan → new.count ≡ old.count + whole_packets bytes → new.filled ≡ old.filled + filled
     → filled ≡ placeholders (packets_of bytes)
     → StandsFor old.plan.now new.adapter (packets_of given ++ packets_of bytes)
     → feed_bytes old.plan.now (packets_of given ++ packets_of bytes)
     ≡ feed_bytes old.plan.now (packets_of given) ++ made
     → HasFed old given → IsFed (feeding old.plan.now) given bytes (HasFed new) (only made)
-group_fed old new given bytes made filled whole plan count sum few stands fed is =
+packets_fed old new given bytes made filled whole plan count sum few stands fed is =
     let both : packets_of (given ++ bytes) ≡ packets_of given ++ packets_of bytes =
     packets_of-append given bytes whole in
     record {
@@ -89,6 +82,13 @@ pub none_filled : 0 ≡ placeholders []
 unfolding placeholders
 none_filled = refl
 
+-- what is not fed yet behind a part
+pub rest_fed : (done n : ℕ) (old cur new : List ℕ) → done ≤ length cur → length new ≡ n
+    → drop done cur ≡ drop done old → drop (done + n) (put_mid done n cur new) ≡ drop (done + n) old
+rest_fed done n old cur new within long rest =
+    drop-put_mid done n cur new (done + n) (omega arith) within long
+    ∙ sym (drop-drop n done cur) ∙ ap (drop n) rest ∙ drop-drop n done old
+
 -- a part behind those that were fed
 pub part_fed : (m : Recipe) (given old cur new : List ℕ) (done n : ℕ) (s t : List ℕ → Type 0) → done ≤ length cur
     → length new ≡ n → drop done cur ≡ drop done old → IsFed m given (take done old) s (only (take done cur))
@@ -99,5 +99,5 @@ part_fed m given old cur new done n s t within long rest first second =
     ap (λ z. take done old ++ take n z) rest ∙ sym (take-add done n old) in
     subst (λ b. IsFed m given b t (only (take (done + n) (put_mid done n cur new)))) whole
     (subst (λ y. IsFed m given (take done old ++ take n (drop done cur)) t (only y))
-    (sym (front_put done n cur new within long))
+    (sym (take-put_mid done n cur new (done + n) (omega (arith, long)) within))
     (fed_on m given (take done old) (take n (drop done cur)) s t (take done cur) new first second))

@@ -5,7 +5,6 @@ pub mod DvbBack
 pub mod DvbChunks
 pub mod DvbReads
 pub mod Feeding
-pub mod PacketBytes
 pub mod PlacedBytes
 pub mod PlacedCounts
 pub mod PlacedPackets

@@ -1,5 +1,5 @@
 // The engine of `adapt`: adapts a stream, one piece at a time.
-ghost use Rattle.std.specs.Prelude.{◌≡◌, ◌+◌, ◌*◌, ◌/◌, ◌%◌, ◌<◌, ◌≤◌, ◌++◌, [], ℕ, List, IfOk, length};
+ghost use Rattle.std.specs.Prelude.{◌≡◌, ◌+◌, ◌-◌, ◌*◌, ◌/◌, ◌%◌, ◌<◌, ◌≤◌, ◌++◌, [], ℕ, List, IfOk, length};
 ghost use Rattle.dtx_adapter.specs.Adapting.{StandsFor};
 ghost use Rattle.dtx_adapter.specs.Feed.{feed, placeholders};
 ghost use Rattle.dtx_engine.specs.Made.{only};
@@ -10,25 +10,25 @@ ghost use Rattle.dtx_plan.specs.declared.plan.Plan.{Plan};
 ghost use Rattle.dtx_packet_jobs.specs.Adapt.{feeding};
 ghost use Rattle.dtx_packet_jobs.specs.Feed.{feed_bytes, HasFed, IsCounted};
 
-use crate::packet_bytes::{join, unjoin};
 use dtx_adapter::Adapter;
 use dtx_adapter::laws::goes_on;
 use dtx_engine::{Engine, Shape};
 use dtx_forms::packets;
 use dtx_meaning::{Outcome, Status};
-use dtx_packets::Packet;
 use dtx_plan::Plan;
-use dtx_sizes::{GROUP_PACKETS, MOST_PACKETS, PACKET, SYNC};
+use dtx_sizes::{FIELD_PACKETS, GROUP_PACKETS, MOST_PACKETS, PACKET, SYNC};
 use std::alloc::{AllocError, Global};
 
-/// The bytes of a group of packets.
-const GROUP: usize = GROUP_PACKETS * PACKET;
+/// How many packets the adapter is given at once: a sixth of a field, since it codes as many at once.
+const PART_PACKETS: usize = FIELD_PACKETS as usize / 6;
 
 /// Turns the packets of a stream into those of its feed under a plan, in place.
 #[derive(Drop)]
 pub struct Feeder<'a> {
     plan: &'a Plan,
     adapter: Adapter,
+    /// The packets of the last part.
+    packets: [[u8; PACKET]; PART_PACKETS],
     /// The number of packets given so far.
     count: u64,
     /// The number of placeholders filled so far.
@@ -45,17 +45,17 @@ impl<'a> Feeder<'a> {
         Ok(Feeder {
             plan,
             adapter: Adapter::new(alloc, plan)?,
+            packets: [[0; PACKET]; PART_PACKETS],
             count: 0,
             filled: 0,
         })
     }
 
-    /// Turns the next group of packets into that of the feed, in place. The last group of a stream may have fewer than
-    /// four.
-    fn group(&mut self, bytes: &mut [u8])
+    /// Turns the next packets into those of the feed, in place: at most a sixth of a field. They are whole groups of
+    /// four, but for the end of a stream.
+    fn part(&mut self, bytes: &mut [u8])
         requires whole { length bytes.old % PACKET ≡ 0 }
-        requires some { 0 < length bytes.old }
-        requires few { length bytes.old ≤ GROUP }
+        requires few { length bytes.old ≤ PACKET * PART_PACKETS }
         requires counted { IsCounted self.old }
         requires open { self.old.count % GROUP_PACKETS ≡ 0 }
         requires most { self.old.count + whole_packets bytes.old ≤ MOST_PACKETS }
@@ -67,32 +67,31 @@ impl<'a> Feeder<'a> {
     {
         goes_on();
         let count = bytes.len() / PACKET;
-        let mut packets = [Packet([0; PACKET]); GROUP_PACKETS];
-        let filled = adapt_group(&mut self.adapter, &mut packets[..count], bytes);
+        let filled = adapt_part(&mut self.adapter, &mut self.packets[..], bytes);
         self.count += count as u64;
-        self.filled += filled as u64;
+        self.filled += filled;
     }
 }
 
 /// Gives the packets of `bytes` to the adapter, and writes the feed's packets back. Returns how many placeholders were
-/// filled.
-fn adapt_group(adapter: &mut Adapter, packets: &mut [Packet], bytes: &mut [u8]) -> u8
-    requires long { length bytes.old ≡ PACKET * length packets.old }
-    requires some { 0 < length packets.old }
-    requires few { length packets.old ≤ GROUP_PACKETS }
+/// filled. Meanwhile the packets stand at the front of `room`.
+fn adapt_part(adapter: &mut Adapter, room: &mut [[u8; PACKET]], bytes: &mut [u8]) -> u64
+    requires whole { length bytes.old % PACKET ≡ 0 }
+    requires room { whole_packets bytes.old ≤ length room.old }
     requires open { adapter.old.given % GROUP_PACKETS ≡ 0 }
-    requires most { adapter.old.given + length packets.old ≤ MOST_PACKETS }
+    requires most { adapter.old.given + whole_packets bytes.old ≤ MOST_PACKETS }
     ensures fed { (plan : Plan) (stream : List (List ℕ)) → StandsFor plan adapter.old stream
         → feed_bytes plan (stream ++ packets_of bytes.old) ≡ feed_bytes plan stream ++ bytes.new }
     ensures stands { (plan : Plan) (stream : List (List ℕ)) → StandsFor plan adapter.old stream
         → StandsFor plan adapter.new (stream ++ packets_of bytes.old) }
     ensures filled { result ≡ placeholders (packets_of bytes.old) }
-    ensures given { adapter.new.given ≡ adapter.old.given + length packets.old }
+    ensures given { adapter.new.given ≡ adapter.old.given + whole_packets bytes.old }
 {
-    goes_on();
-    unjoin(bytes, packets);
-    let filled = adapter.group(packets);
-    join(packets, bytes);
+    let (given, _) = bytes.as_chunks::<PACKET>();
+    let packets = &mut room[..given.len()];
+    packets.copy_from_slice(given);
+    let filled = adapter.groups(packets);
+    bytes.copy_from_slice(packets.as_flattened());
     filled
 }
 
@@ -124,8 +123,8 @@ impl Engine for Feeder<'_> {
     fn feed(&mut self, _first: u64, bytes: &mut [u8]) {
         let mut done = 0;
         while done < bytes.len() {
-            let end = (done + GROUP).min(bytes.len());
-            self.group(&mut bytes[done..end]);
+            let end = (done + PACKET * part_left(self.count)).min(bytes.len());
+            self.part(&mut bytes[done..end]);
             done = end;
         }
     }
@@ -153,4 +152,11 @@ impl Engine for Feeder<'_> {
     ghost starts = { λ s. feeding_starts s.plan.now };
 
     ghost grows = { λ s a b whole. feeding_grows s.plan.now a b whole };
+}
+
+/// How many packets of a sixth of a field are left, from packet `first` of the stream on.
+fn part_left(first: u64) -> usize
+    ensures { result ≡ PART_PACKETS - first % PART_PACKETS }
+{
+    PART_PACKETS - (first % PART_PACKETS as u64) as usize
 }

@@ -15,7 +15,6 @@ mod hurt_command;
 pub mod laws;
 mod laying;
 mod make_command;
-mod packet_bytes;
 mod past_end;
 mod place_command;
 mod placing;

@@ -5,8 +5,7 @@ use Rattle.dtx_engine.specs.Made.{only}
 use Rattle.dtx_engine.specs.Recipe.{IsFed}
 use Rattle.dtx_packet_jobs.specs.Adapt.{feeding}
 use Rattle.dtx_packet_jobs.specs.Feed.{HasFed}
-use Rattle.dtx_packet_jobs.proofs.Feeding.{counted_of, fed_none, part_fed}
-use Rattle.dtx_packet_jobs.proofs.PacketBytes.{rest_put}
+use Rattle.dtx_packet_jobs.proofs.Feeding.{counted_of, fed_none, rest_fed, part_fed}
 use Rattle.dtx_packet_jobs.proofs.feeder.FeederEngine.feed.Goals as goal
 use borrow.Rule.Slice.PartMut.{put_mid}
 
@@ -33,12 +32,12 @@ loop-done-preserved c =
     let n = end - done in
     let old = c.args.bytes.now in
     let cur = c.loop-done.bytes in
-    let new = c.group.new.bytes in
+    let new = c.part.new.bytes in
     let state = c.loop-done.self in
-    let sum : done + n ≡ end = omega (arith, c.min-end.ensures, c.loop-done-test.true) in
+    let sum : done + n ≡ end = omega (arith, c.min-end.ensures, c.part_left.ensures, c.loop-done-test.true) in
     let part : length (take n (drop done cur)) ≡ n =
     length-take-le n (drop done cur) (omega (arith, c.min-end.ensures, length-drop done cur)) in
-    let long : length new ≡ n = c.group.auto.bytes ∙ part in
+    let long : length new ≡ n = c.part.auto.bytes ∙ part in
     let within : done ≤ length cur = omega (arith, c.loop-done-test.true) in
     record {
       within = omega (arith, c.min-end.ensures, c.loop-done.auto.bytes);
@@ -48,15 +47,16 @@ loop-done-preserved c =
         more,
         c.min-end.ensures,
         c.loop-done.auto.bytes,
-        c.group.ensures.count,
+        c.part.ensures.count,
+        c.part_left.ensures,
         part,
         h.groups (omega (arith, c.loop-done-test.true, c.loop-done.auto.bytes)),
       );
-      counted = c.group.ensures.counted;
-      count = omega (arith, c.group.ensures.count, part, h.count, h.whole, sum);
-      plan = c.group.ensures.plan ∙ h.plan;
+      counted = c.part.ensures.counted;
+      count = omega (arith, c.part.ensures.count, part, h.count, h.whole, sum);
+      plan = c.part.ensures.plan ∙ h.plan;
       rest = subst (λ k. drop k (put_mid done n cur new) ≡ drop k old) sum
-          (rest_put done n old cur new within long h.rest);
+          (rest_fed done n old cur new within long h.rest);
       fed = λ given size is.
           let before : length (given ++ take done old) ≡ 188 * state.count =
           omega (
@@ -67,12 +67,12 @@ loop-done-preserved c =
             h.count,
             h.whole,
           ) in
-          subst (λ k. IsFed (feeding c.args.self.now.plan.now) given (take k old) (HasFed c.group.new.self)
+          subst (λ k. IsFed (feeding c.args.self.now.plan.now) given (take k old) (HasFed c.part.new.self)
           (only (take k (put_mid done n cur new)))) sum
-          (part_fed (feeding c.args.self.now.plan.now) given old cur new done n (HasFed state) (HasFed c.group.new.self)
+          (part_fed (feeding c.args.self.now.plan.now) given old cur new done n (HasFed state) (HasFed c.part.new.self)
           within long h.rest (h.fed given size is)
           (λ stands. subst (λ p. IsFed (feeding p.now) (given ++ take done old) (take n (drop done cur))
-          (HasFed c.group.new.self) (only new)) h.plan (c.group.ensures.fed (given ++ take done old) before stands)));
+          (HasFed c.part.new.self) (only new)) h.plan (c.part.ensures.fed (given ++ take done old) before stands)));
     }
 
 pub returns-clause-kept : goal.returns-clause-kept
