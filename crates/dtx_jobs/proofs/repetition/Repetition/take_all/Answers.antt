@@ -38,12 +38,12 @@ loop-done-init c =
       count = omega arith;
     }
 
-pub take_some-requires-clause-some : goal.take_some-requires-clause-some
-take_some-requires-clause-some c =
+pub take_some-done-requires-clause-some : goal.take_some-done-requires-clause-some
+take_some-done-requires-clause-some c =
     (_, c.loop-done.invariant.repeating c.requires.some.0 c.requires.some.1)
 
-pub take_some-requires-clause-few : goal.take_some-requires-clause-few
-take_some-requires-clause-few c = c.loop-done.invariant.few
+pub take_some-done-requires-clause-few : goal.take_some-done-requires-clause-few
+take_some-done-requires-clause-few c = c.loop-done.invariant.few
 
 pub loop-done-preserved : goal.loop-done-preserved
 loop-done-preserved c =
