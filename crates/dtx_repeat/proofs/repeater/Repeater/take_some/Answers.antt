@@ -1,8 +1,8 @@
 use Rattle.std.proofs.Common.{◌≡◌, ℕ, ℤ, ◌+◌, ◌%◌, List, [], ◌++◌, length, take, IfSome, sym, ap, subst, ◌∙◌, arith}
-use Rattle.dtx_receiver.specs.Runs.{runs, tracked}
-use Rattle.dtx_receiver.specs.Symbols.{symbols_in, symbols_of}
+use Rattle.dtx_receiver.specs.Runs.{tracked}
+use Rattle.dtx_receiver.specs.Symbols.{symbols_in}
 use Rattle.dtx_receiver.specs.declared.batch.Received.{Received}
-use Rattle.dtx_repeat.specs.GoingOn.{GoesOn, Begins}
+use Rattle.dtx_repeat.specs.GoingOn.{GoesOn}
 use Rattle.dtx_repeat.specs.Repeater.{StandsFor, given_with, next_place}
 use Rattle.dtx_repeat.specs.Restored.{restored_so_far}
 use Rattle.dtx_repeat.specs.declared.repeater.Repeater.{Repeater}
