@@ -143,8 +143,8 @@ impl Repetition {
     }
 
     /// Gives the packets of the batch to the exciter, and gathers what they bring. They belong to the exciter's last
-    /// life. The room for symbols is counted in packets, each a fourth of a group. It is that for three packets of a group
-    /// that began before them, for all of them but the last, and for the group that the last one may bring.
+    /// life. The room for symbols is counted in packets, each a fourth of a group. It is that for three packets of a
+    /// group that began before them, for all of them but the last, and for the group that the last one may bring.
     fn send_all(&mut self)
         requires some { (s : List (List ℤ)) × (ls : List (List (List ℕ))) × IsSending self.old s ls
             × (ls ≡ [] → self.old.batch.packets.items ≡ []) }

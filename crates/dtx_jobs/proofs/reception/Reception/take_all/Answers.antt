@@ -43,7 +43,8 @@ loop-done-preserved g c =
     let on : (before : List (List ℤ))
     → (before ++ segments_from bytes 0 done) ++ symbols_in (take count rest)
     ≡ before ++ segments_from bytes 0 (done + count) =
-    λ before. segments_on before bytes units done count chunks c.as_chunks.ensures.front c.as_chunks.ensures.front_len fits in
+    λ before.
+    segments_on before bytes units done count chunks c.as_chunks.ensures.front c.as_chunks.ensures.front_len fits in
     record {
       within = fits;
       receiving = λ before is.
