@@ -1,12 +1,11 @@
 use Rattle.std.proofs.Common.{◌≡◌, ◌+◌, ◌-◌, ◌/◌, ◌≤◌, ◌++◌, ℕ, ℤ, List, length, take, drop, ap, sym, subst, ◌∙◌}
 use Rattle.std.proofs.Common.{append_assoc, arith}
-use Rattle.std.proofs.lemmas.List.{append-nil, length-drop, take_all}
+use Rattle.std.proofs.lemmas.List.{append-nil}
 use Rattle.dtx_receiver.specs.Symbols.{symbols_in}
 use Rattle.dtx_jobs.specs.Giving.{bytes_of}
 use Rattle.dtx_jobs.specs.GivingLaws.{bytes_of-append}
 use Rattle.dtx_jobs.specs.Reception.{IsReceiving}
 use Rattle.dtx_jobs.specs.SymbolFile.{segments_from}
-use Rattle.dtx_jobs.specs.SymbolFileLaws.{segments_from-append}
 use Rattle.dtx_jobs.proofs.SymbolFileLemmas.{segments_on}
 use Rattle.dtx_jobs.proofs.reception.Reception.take_all.Goals as goal
 
