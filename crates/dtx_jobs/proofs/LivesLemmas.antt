@@ -1,5 +1,5 @@
 -- What an exciter makes of lives, with one packet more and with one life more.
-use Rattle.std.proofs.Common.{◌≡◌, ℕ, ◌+◌, ◌<◌, List, [], ◌∷◌, ◌++◌, length, refl, sym, ap, ◌∙◌, arith}
+use Rattle.std.proofs.Common.{◌≡◌, ℕ, ◌+◌, ◌<◌, ◌≤◌, List, [], ◌∷◌, ◌++◌, length, refl, sym, ap, ◌∙◌, arith}
 use Rattle.std.specs.Prelude.{nat_lt}
 use Rattle.std.specs.List.{flat_map}
 use Rattle.std.proofs.lemmas.Bool.{cond-true, cond-false, lt-ltb, le-ltb}
@@ -8,13 +8,12 @@ use Rattle.std.proofs.lemmas.List.{append-nil, length-append, length_push}
 use Rattle.std.proofs.lemmas.List.Sums.{sum_by-append}
 use Rattle.dtx_exciter.specs.Log.{Line, restart, log, emission_over}
 use Rattle.dtx_files.specs.LogText.{log_text}
-use Rattle.dtx_receiver.specs.declared.tracking.Tracking.{Tracking}
-use Rattle.dtx_receiver.specs.declared.tracking.Tracking.TheVariants.{Searching, Began, Sync, Data, Ended}
-use Rattle.dtx_repeat.specs.GoingOn.{last_life, longer, with_begun}
+use Rattle.dtx_repeat.specs.GoingOn.{last_life, longer, with_runs}
 use Rattle.dtx_repeat.proofs.GoingOnLemmas.{longer_last}
+use Rattle.dtx_repeat.proofs.SeveralLemmas.{one_or_none}
 use Rattle.dtx_jobs.specs.Life.{one_preset, one_mute, presets_in, mutes_in, tally_with}
 use Rattle.dtx_jobs.specs.Lives.{sent_over, logged_over, lives_tally}
-use Rattle.dtx_jobs.specs.Restarts.{restart_at}
+use Rattle.dtx_jobs.specs.Restarts.{restart_with}
 use Rattle.dtx_jobs.specs.declared.life_tally.LifeTally.{LifeTally}
 use Rattle.dtx_jobs.specs.LivesLaws.{lives_but_last, parts, brought_by, line_by, emission_longer, log_longer}
 use Rattle.dtx_jobs.specs.LivesLaws.{restart_by, emission_begun, log_begun, sent_begun, logged_begun}
@@ -87,37 +86,30 @@ tally_begun a d lives =
       no_mutes a d lives,
     )))
 
--- ---- where a segment is told to begin a run
+-- ---- where some segments begin one run, or none
 
-pub sent_with : (a d : ℕ) (t : Tracking) (lives : List (List (List ℕ)))
-    → sent_over a d (with_begun t lives) ≡ sent_over a d lives
-sent_with a d Searching lives = refl
-sent_with a d Sync lives = refl
-sent_with a d Data lives = refl
-sent_with a d Ended lives = refl
-sent_with a d Began lives = sent_begun a d lives
+pub sent_with : (a d begins : ℕ) (lives : List (List (List ℕ))) → begins ≤ 1
+    → sent_over a d (with_runs begins lives) ≡ sent_over a d lives
+sent_with a d begins lives most =
+    one_or_none (λ n. sent_over a d (with_runs n lives) ≡ sent_over a d lives) begins most refl (sent_begun a d lives)
 
 restart_is : (a d runs n : ℕ) (lives : List (List (List ℕ))) → runs ≡ length lives
-    → n ≡ length (emission_over a d lives) → restart_by a d lives ≡ restart_at Began runs n
+    → n ≡ length (emission_over a d lives) → restart_by a d lives ≡ restart_with 1 runs n
 restart_is a d runs n [] e f = sym (cond-false (nat_lt 0 runs) (restart n ∷ []) [] (le-ltb 0 runs (omega (arith, e))))
 restart_is a d runs n (x ∷ more) e f =
     ap (λ m. restart m ∷ []) (sym f)
     ∙ sym (cond-true (nat_lt 0 runs) (restart n ∷ []) [] (lt-ltb 0 runs (omega (arith, e))))
 
-pub logged_with : (a d : ℕ) (t : Tracking) (runs n : ℕ) (lives : List (List (List ℕ))) → runs ≡ length lives
+pub logged_with : (a d begins runs n : ℕ) (lives : List (List (List ℕ))) → begins ≤ 1 → runs ≡ length lives
     → n ≡ length (emission_over a d lives)
-    → logged_over a d (with_begun t lives) ≡ logged_over a d lives ++ log_text (restart_at t runs n)
-logged_with a d Searching runs n lives e f = sym (append-nil (logged_over a d lives))
-logged_with a d Sync runs n lives e f = sym (append-nil (logged_over a d lives))
-logged_with a d Data runs n lives e f = sym (append-nil (logged_over a d lives))
-logged_with a d Ended runs n lives e f = sym (append-nil (logged_over a d lives))
-logged_with a d Began runs n lives e f =
-    logged_begun a d lives ∙ ap (λ l. logged_over a d lives ++ log_text l) (restart_is a d runs n lives e f)
+    → logged_over a d (with_runs begins lives) ≡ logged_over a d lives ++ log_text (restart_with begins runs n)
+logged_with a d begins runs n lives most e f =
+    one_or_none (λ k. logged_over a d (with_runs k lives) ≡ logged_over a d lives ++ log_text (restart_with k runs n))
+    begins most (sym (append-nil (logged_over a d lives)))
+    (logged_begun a d lives ∙ ap (λ l. logged_over a d lives ++ log_text l) (restart_is a d runs n lives e f))
 
-pub tally_with_begun : (a d : ℕ) (t : Tracking) (lives : List (List (List ℕ)))
-    → lives_tally a d lives ≡ lives_tally a d (with_begun t lives)
-tally_with_begun a d Searching lives = refl
-tally_with_begun a d Sync lives = refl
-tally_with_begun a d Data lives = refl
-tally_with_begun a d Ended lives = refl
-tally_with_begun a d Began lives = tally_begun a d lives
+pub tally_with_begun : (a d begins : ℕ) (lives : List (List (List ℕ))) → begins ≤ 1
+    → lives_tally a d lives ≡ lives_tally a d (with_runs begins lives)
+tally_with_begun a d begins lives most =
+    one_or_none (λ n. lives_tally a d lives ≡ lives_tally a d (with_runs n lives)) begins most refl
+    (tally_begun a d lives)

@@ -6,19 +6,18 @@ use Rattle.std.specs.List.{flat_map}
 use Rattle.std.proofs.lemmas.List.{length-append, take_more}
 use Rattle.std.proofs.lemmas.List.Sums.{sum_by-append}
 use Rattle.dtx_cadence.specs.Anchor.{anchor, anchor_to}
-use Rattle.dtx_receiver.specs.Runs.{tracking}
+use Rattle.dtx_receiver.specs.Runs.{runs}
 use Rattle.dtx_receiver.specs.declared.batch.Received.{Received}
-use Rattle.dtx_receiver.specs.declared.tracking.Tracking.{Tracking}
-use Rattle.dtx_receiver.specs.declared.tracking.Tracking.TheVariants.{Searching, Began, Sync, Data, Ended}
 use Rattle.dtx_exciter.specs.Emission.{emission}
 use Rattle.dtx_exciter.specs.Log.{Line, restart, life_lines, log, emission_over}
 use Rattle.dtx_exciter.specs.Packets.{last_answer, group_part, under, anchor_of, syncs}
-use Rattle.dtx_repeat.specs.GoingOn.{last_life, with_begun}
+use Rattle.dtx_repeat.specs.GoingOn.{last_life, with_runs}
 use Rattle.dtx_repeat.proofs.GoingOnLemmas.{last_begun}
 use Rattle.dtx_repeat.specs.Lives.{packets_in, lives_so_far}
 use Rattle.dtx_repeat.specs.GoingOn.{AreGiven}
-use Rattle.dtx_repeat.proofs.LivesLemmas.{lives_more, as_many_so_far}
-use Rattle.dtx_repeat.specs.Repeater.{StandsFor, given_behind}
+use Rattle.dtx_repeat.proofs.LivesLemmas.{as_many_so_far}
+use Rattle.dtx_repeat.proofs.SeveralLemmas.{lives_several, one_or_none}
+use Rattle.dtx_repeat.specs.Repeater.{StandsFor, given_with}
 use Rattle.dtx_repeat.specs.Restored.{restored_so_far}
 use Rattle.dtx_repeat.specs.declared.repeater.Repeater.{Repeater}
 use Rattle.dtx_repeat.proofs.RestoredLemmas.{packets_in-append}
@@ -29,7 +28,7 @@ use Rattle.dtx_jobs.specs.Lives.{sent_over, logged_over, lives_tally}
 use Rattle.dtx_jobs.specs.LivesLaws.{brought_by}
 use Rattle.dtx_jobs.proofs.LivesLemmas.{sent_with, logged_with, tally_with_begun}
 use Rattle.dtx_jobs.specs.Repetition.{IsRepeating, IsSentOn}
-use Rattle.dtx_jobs.specs.Restarts.{restart_at}
+use Rattle.dtx_jobs.specs.Restarts.{restart_with}
 use Rattle.dtx_jobs.specs.declared.life_tally.LifeTally.{LifeTally}
 use Rattle.dtx_jobs.specs.declared.repetition.Repetition.{Repetition}
 use Rattle.dtx_jobs.specs.declared.repetition.TheConstants.{SENT_BYTES, LOGGED_BYTES}
@@ -78,7 +77,7 @@ log_few a d n (life ∷ (next ∷ more)) =
 
 -- so there is room for what the next packet brings
 pub lives_room : (a d : ℕ) (lives : List (List (List ℕ))) (p : List ℕ) (tally : LifeTally)
-    → tally ≡ lives_tally a d lives → tally.packets < 8 * 626000001 → HasRoom tally (length (brought_by a d lives p))
+    → tally ≡ lives_tally a d lives → tally.packets < 4 * 626000001 → HasRoom tally (length (brought_by a d lives p))
 lives_room a d lives p tally is most =
     let packets = ap (λ (t : LifeTally). t.packets) is in
     let segments = ap (λ (t : LifeTally). t.segments) is in
@@ -125,49 +124,46 @@ pub packet_more : (packets : List Received) (i : ℕ) (d : Received) → i < len
 packet_more packets i d inside =
     sym (ap packets_in (take_more packets i d inside) ∙ packets_in-append (take i packets) (get_or packets i d ∷ []))
 
--- ---- one segment more, before its packets are sent
+-- ---- some segments more, before their packets are sent
 
-last_with : (t : Tracking) (lives : List (List (List ℕ)))
-    → given_behind t (last_life lives) ≡ last_life (with_begun t lives)
-last_with Searching lives = refl
-last_with Sync lives = refl
-last_with Data lives = refl
-last_with Ended lives = refl
-last_with Began lives = sym (last_begun lives)
+last_with : (begins : ℕ) (lives : List (List (List ℕ))) → begins ≤ 1
+    → given_with begins (last_life lives) ≡ last_life (with_runs begins lives)
+last_with begins lives most =
+    one_or_none (λ n. given_with n (last_life lives) ≡ last_life (with_runs n lives)) begins most refl
+    (sym (last_begun lives))
 
 no_part : group_part [] ≡ 0
 unfolding group_part under anchor_of syncs anchor anchor_to
 no_part = refl
 
-pub part_with : (t : Tracking) (lives : List (List (List ℕ)))
-    → group_part (last_life (with_begun t lives)) ≤ group_part (last_life lives)
-part_with Searching lives = omega arith
-part_with Sync lives = omega arith
-part_with Data lives = omega arith
-part_with Ended lives = omega arith
-part_with Began lives = omega (arith, ap group_part (last_begun lives), no_part)
+pub part_with : (begins : ℕ) (lives : List (List (List ℕ))) → begins ≤ 1
+    → group_part (last_life (with_runs begins lives)) ≤ group_part (last_life lives)
+part_with begins lives most =
+    one_or_none (λ n. group_part (last_life (with_runs n lives)) ≤ group_part (last_life lives)) begins most
+    (omega arith) (omega (arith, ap group_part (last_begun lives), no_part))
 
--- what the segment leaves
-pub record IsReceivedOn (old mid : Repetition) (s : List (List ℤ)) (x : List ℤ) (t : Tracking) : Type 0 where
-  pub on : IsSentOn old mid (s ++ x ∷ []) (lives_so_far s) (with_begun t (lives_so_far s))
-  pub given : AreGiven (with_begun t (lives_so_far s)) (lives_so_far (s ++ x ∷ [])) mid.batch.packets.items
+-- what the segments leave, with which so many runs begin
+pub record IsReceivedOn (old mid : Repetition) (s more : List (List ℤ)) (begins : ℕ) : Type 0 where
+  pub on : IsSentOn old mid (s ++ more) (lives_so_far s) (with_runs begins (lives_so_far s))
+  pub given : AreGiven (with_runs begins (lives_so_far s)) (lives_so_far (s ++ more)) mid.batch.packets.items
 
-pub received_on : (old mid : Repetition) (repeater : Repeater) (s : List (List ℤ)) (x : List ℤ) (t : Tracking)
-    (items : List Received) → IsRepeating old s → t ≡ tracking s x
-    → StandsFor old.address old.delay repeater (s ++ x ∷ []) (given_behind t (last_life (lives_so_far s)))
-    → restored_so_far (s ++ x ∷ []) ≡ restored_so_far s ++ items
+pub received_on : (old mid : Repetition) (repeater : Repeater) (s more : List (List ℤ)) (begins : ℕ)
+    (items : List Received) → IsRepeating old s → begins ≤ 1 → (0 < begins → length more ≡ 1)
+    → StandsFor old.address old.delay repeater (s ++ more) (given_with begins (last_life (lives_so_far s)))
+    → restored_so_far (s ++ more) ≡ restored_so_far s ++ items
+    → length (runs (s ++ more)) ≡ length (runs s) + begins
     → mid.address ≡ old.address → mid.delay ≡ old.delay → mid.repeater.value ≡ repeater
     → mid.batch.packets.items ≡ items → mid.sending.tally ≡ old.sending.tally
     → mid.sending.symbols ≡ old.sending.symbols
-    → mid.sending.lines ≡ old.sending.lines ++ log_text (restart_at t old.runs old.sending.tally.segments)
-    → IsReceivedOn old mid s x t
-received_on old mid repeater s x t items is told stands brought ea ed er ei et es el =
+    → mid.sending.lines ≡ old.sending.lines ++ log_text (restart_with begins old.runs old.sending.tally.segments)
+    → IsReceivedOn old mid s more begins
+received_on old mid repeater s more begins items is most alone stands brought grown ea ed er ei et es el =
     let a : ℕ = old.address in
     let d : ℕ = old.delay in
     let ls : List (List (List ℕ)) = lives_so_far s in
-    let begun : List (List (List ℕ)) = with_begun t ls in
-    let all : List (List ℤ) = s ++ x ∷ [] in
-    let runs : old.runs ≡ length ls = is.begun ∙ sym (as_many_so_far s) in
+    let begun : List (List (List ℕ)) = with_runs begins ls in
+    let all : List (List ℤ) = s ++ more in
+    let many : old.runs ≡ length ls = is.begun ∙ sym (as_many_so_far s) in
     let count = ap (λ (k : LifeTally). k.segments) is.sending.tally in
     record {
       on = record {
@@ -176,18 +172,19 @@ received_on old mid repeater s x t items is told stands brought ea ed er ei et e
               subst (λ n. StandsFor n mid.delay mid.repeater.value all (last_life begun)) (sym ea)
               (subst (λ n. StandsFor a n mid.repeater.value all (last_life begun)) (sym ed)
               (subst (λ r. StandsFor a d r all (last_life begun)) (sym er)
-              (subst (StandsFor a d repeater all) (last_with t ls) stands)));
-          tally = et ∙ is.sending.tally ∙ tally_with_begun a d t ls
+              (subst (StandsFor a d repeater all) (last_with begins ls most) stands)));
+          tally = et ∙ is.sending.tally ∙ tally_with_begun a d begins ls most
               ∙ sym (ap₂ (λ a d. lives_tally a d begun) ea ed);
         };
-        sent = λ bytes e. sent_with a d t ls ∙ e ∙ ap (λ z. bytes ++ z) (sym es);
+        sent = λ bytes e. sent_with a d begins ls most ∙ e ∙ ap (λ z. bytes ++ z) (sym es);
         logged = λ bytes e.
-            let line : List ℕ = log_text (restart_at t old.runs old.sending.tally.segments) in
-            logged_with a d t old.runs old.sending.tally.segments ls runs count ∙ ap (λ z. z ++ line) e
+            let line : List ℕ = log_text (restart_with begins old.runs old.sending.tally.segments) in
+            logged_with a d begins old.runs old.sending.tally.segments ls most many count
+            ∙ ap (λ z. z ++ line) e
             ∙ append_assoc bytes old.sending.lines line ∙ ap (λ z. bytes ++ z) (sym el);
       };
       given = subst (AreGiven begun (lives_so_far all)) (sym ei)
-          (subst (λ u. AreGiven (with_begun u ls) (lives_so_far all) items) (sym told) (lives_more s x items brought));
+          (lives_several s more items begins most alone grown brought);
     }
 
 -- of no lives

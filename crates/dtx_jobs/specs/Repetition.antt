@@ -27,7 +27,7 @@ pub record IsSentOn (old new : Repetition) (segments : List (List ℤ)) (before 
 -- the numbers are within the bounds for as many segments
 pub record AreFew (state : Repetition) : Type 0 where
   pub runs : state.runs ≤ state.segments
-  pub packets : state.sending.tally.packets ≤ 8 * state.segments
+  pub packets : state.sending.tally.packets ≤ 4 * state.segments
 
 -- the state after these segments: they were received, and what they gave was sent again
 pub record IsRepeating (state : Repetition) (received : List (List ℤ)) : Type 0 where

@@ -1,18 +1,17 @@
 // The engine of `repeat`: receives symbols and sends their packets again, one piece of the file at a time.
-ghost use Rattle.std.specs.Prelude.{◌≡◌, ◌+◌, ◌*◌, ◌/◌, ◌<◌, ◌≤◌, ◌++◌, ◌∷◌, [], ℕ, ℤ, List, length, map};
+ghost use Rattle.std.specs.Prelude.{◌≡◌, ◌+◌, ◌*◌, ◌/◌, ◌<◌, ◌≤◌, ◌++◌, ◌∷◌, [], ℕ, ℤ, List, length, map, take};
 ghost use Rattle.dtx_exciter.specs.Packets.{group_part};
 ghost use Rattle.dtx_files.specs.LogText.{log_text};
-ghost use Rattle.dtx_receiver.specs.Runs as runs;
+ghost use Rattle.dtx_receiver.specs.Symbols.{symbols_in};
 ghost use Rattle.dtx_repeat.specs.GoingOn.{last_life, longer};
 ghost use Rattle.dtx_repeat.specs.Lives.{lives, lives_so_far, packets_in};
 ghost use Rattle.dtx_jobs.specs.Lives.{lives_tally, logged_over, sent_over};
 ghost use Rattle.dtx_jobs.specs.Repeat.{repeated_numbers};
 ghost use Rattle.dtx_jobs.specs.Repetition.{AreFew, IsRepeating, IsSending, IsSentOn};
-ghost use Rattle.dtx_jobs.specs.Restarts.{restart_at};
-ghost use Rattle.dtx_jobs.specs.SymbolFile.{file_segments, symbols};
+ghost use Rattle.dtx_jobs.specs.Restarts.{restart_with};
+ghost use Rattle.dtx_jobs.specs.SymbolFile.{file_segments};
 
 use crate::sending::Sending;
-use crate::signed::to_symbols;
 use dtx_coder::AIR_SYMBOLS;
 use dtx_engine::{Engine, Shape};
 use dtx_exciter::laws::groups_are_spaced;
@@ -20,16 +19,14 @@ use dtx_files::LOG_LINE;
 use dtx_forms::{PIECE_SEGMENTS, Transmitting, segments};
 use dtx_meaning::{Outcome, Status, ended};
 use dtx_packets::Packet;
-use dtx_receiver::{Batch, Tracking};
+use dtx_receiver::{Batch, Progress};
 use dtx_repeat::Repeater;
 use dtx_sizes::{GROUP_PACKETS, MOST_SEGMENTS, SEGMENT};
 use std::alloc::{AllocError, Global};
 
-/// Room for the packets that one segment, or the end, brings. Neither brings more than one group of them.
-const MOST_BROUGHT: usize = 2 * GROUP_PACKETS;
-
-/// Room for the packets that the segments of a piece, and the end behind them, bring.
-const BROUGHT: usize = MOST_BROUGHT * (PIECE_SEGMENTS + 1);
+/// Room for the packets that the segments of a piece, and the end behind them, bring. Each segment, and the end, brings
+/// no more than one group of them.
+const BROUGHT: usize = GROUP_PACKETS * (PIECE_SEGMENTS + 1);
 
 /// Room for the symbols that are sent for these packets. They are the symbols of the packets' whole groups, and of one
 /// group that began before them. There is room for one group more.
@@ -38,6 +35,9 @@ const SENT_BYTES: usize = AIR_SYMBOLS * (BROUGHT / GROUP_PACKETS + 2);
 /// Room for the log's lines for these packets, in bytes, with a restart at each segment.
 const LOGGED_BYTES: usize = LOG_LINE * (BROUGHT + PIECE_SEGMENTS);
 
+/// The largest number of packets that all segments, and the end behind them, bring.
+const MOST_BROUGHT: u64 = GROUP_PACKETS as u64 * (MOST_SEGMENTS + 1);
+
 /// A repeater, what the last piece brought, and the numbers of all segments so far.
 #[derive(Drop)]
 pub(crate) struct Repetition {
@@ -45,7 +45,6 @@ pub(crate) struct Repetition {
     delay: u32,
     repeater: Box<Repeater>,
     batch: Batch,
-    segment: [i8; SEGMENT],
     segments: u64,
     runs: u64,
     sending: Sending<SENT_BYTES, LOGGED_BYTES>,
@@ -74,82 +73,86 @@ impl Repetition {
     {
         groups_are_spaced();
         let (segments, _) = bytes.as_chunks::<SEGMENT>();
-        for i in 0..segments.len() {
-            self.take(&segments[i]);
+        let mut done = 0;
+        while done < segments.len() {
+            done += self.take_some(&segments[done..]);
         }
     }
 
-    /// Receives the next segment, and gathers what it brings.
-    fn take(&mut self, bytes: &[u8; SEGMENT])
-        requires most { self.old.segments < MOST_SEGMENTS }
+    /// Receives the first of these segments, as many as the repeater takes at once, and gathers what they bring.
+    /// Returns how many segments it took.
+    fn take_some(&mut self, segments: &[[u8; SEGMENT]]) -> usize
+        requires some_segments { 0 < length segments.now }
+        requires most { self.old.segments + length segments.now ≤ MOST_SEGMENTS }
         requires some { (s : List (List ℤ)) × IsRepeating self.old s }
         requires few { AreFew self.old }
-        requires symbols { length self.old.sending.symbols + AIR_SYMBOLS * 4 ≤ SENT_BYTES }
-        requires lines { length self.old.sending.lines + LOG_LINE * (MOST_BROUGHT + 1) ≤ LOGGED_BYTES }
+        requires symbols { length self.old.sending.symbols + AIR_SYMBOLS * (length segments.now + 2) ≤ SENT_BYTES }
+        requires lines { length self.old.sending.lines
+            + LOG_LINE * ((GROUP_PACKETS + 1) * length segments.now) ≤ LOGGED_BYTES }
+        ensures some { 0 < result }
+        ensures within { result ≤ length segments.now }
         ensures address { self.new.address ≡ self.old.address }
         ensures delay { self.new.delay ≡ self.old.delay }
         ensures repeating { (s : List (List ℤ)) → IsRepeating self.old s
-            → IsRepeating self.new (s ++ symbols bytes.now ∷ []) }
+            → IsRepeating self.new (s ++ symbols_in (take result segments.now)) }
         ensures sent { (s : List (List ℤ)) → IsRepeating self.old s
-            → IsSentOn self.old self.new (s ++ symbols bytes.now ∷ []) (lives_so_far s)
-            (lives_so_far (s ++ symbols bytes.now ∷ [])) }
+            → IsSentOn self.old self.new (s ++ symbols_in (take result segments.now)) (lives_so_far s)
+            (lives_so_far (s ++ symbols_in (take result segments.now))) }
         ensures spaced { (s : List (List ℤ)) → IsRepeating self.old s
             → 4 * length self.new.sending.symbols
-            + AIR_SYMBOLS * group_part (last_life (lives_so_far (s ++ symbols bytes.now ∷ [])))
+            + AIR_SYMBOLS * group_part (last_life (lives_so_far (s ++ symbols_in (take result segments.now))))
             ≤ 4 * length self.old.sending.symbols
-            + AIR_SYMBOLS * (group_part (last_life (lives_so_far s)) + MOST_BROUGHT) }
+            + AIR_SYMBOLS * (group_part (last_life (lives_so_far s)) + GROUP_PACKETS * result) }
         ensures short { length self.new.sending.lines ≤ length self.old.sending.lines
-            + LOG_LINE * (MOST_BROUGHT + 1) }
+            + LOG_LINE * ((GROUP_PACKETS + 1) * result) }
         ensures few { AreFew self.new }
-        ensures count { self.new.segments ≡ self.old.segments + 1 }
+        ensures count { self.new.segments ≡ self.old.segments + result }
     {
-        to_symbols(bytes, &mut self.segment);
-        let tracking = self.repeater.take(&self.segment, &mut self.batch);
-        self.begin(tracking);
+        let progress = self.repeater.take_some(segments, &mut self.batch);
+        self.count(progress);
         self.send_all();
+        progress.segments
     }
 
-    /// Counts a segment. `tracking` says what the segment is. Where it begins a run other than the first, gathers the
-    /// line of a restart.
-    fn begin(&mut self, tracking: Tracking)
-        requires most { self.old.segments < MOST_SEGMENTS }
+    /// Counts what the repeater took. Where a run other than the first began with it, gathers the line of a restart.
+    fn count(&mut self, progress: Progress)
+        requires most { self.old.segments + progress.segments ≤ MOST_SEGMENTS }
         requires runs { self.old.runs ≤ self.old.segments }
+        requires few_runs { progress.runs ≤ 1 }
+        requires some { 0 < progress.segments }
         requires lines { length self.old.sending.lines + LOG_LINE ≤ LOGGED_BYTES }
         ensures address { self.new.address ≡ self.old.address }
         ensures delay { self.new.delay ≡ self.old.delay }
         ensures repeater { self.new.repeater ≡ self.old.repeater }
         ensures batch { self.new.batch ≡ self.old.batch }
-        ensures segments { self.new.segments ≡ self.old.segments + 1 }
-        ensures runs { self.new.runs ≡ self.old.runs + runs.begun tracking }
+        ensures segments { self.new.segments ≡ self.old.segments + progress.segments }
+        ensures runs { self.new.runs ≡ self.old.runs + progress.runs }
         ensures few { self.new.runs ≤ self.new.segments }
         ensures tally { self.new.sending.tally ≡ self.old.sending.tally }
         ensures symbols { self.new.sending.symbols ≡ self.old.sending.symbols }
         ensures lines { self.new.sending.lines ≡ self.old.sending.lines
-            ++ log_text (restart_at tracking self.old.runs self.old.sending.tally.segments) }
+            ++ log_text (restart_with progress.runs self.old.runs self.old.sending.tally.segments) }
         ensures short { length self.new.sending.lines ≤ length self.old.sending.lines + LOG_LINE }
     {
-        self.segments += 1;
-        match tracking {
-            Tracking::Began => {
-                let again = self.runs > 0;
-                if again {
-                    self.sending.restart();
-                }
-                self.runs += 1;
-            }
-            Tracking::Searching | Tracking::Sync | Tracking::Data | Tracking::Ended => {}
+        let again = progress.runs > 0 && self.runs > 0;
+        if again {
+            self.sending.restart();
         }
+        self.segments += progress.segments as u64;
+        self.runs += progress.runs;
     }
 
     /// Gives the packets of the batch to the exciter, and gathers what they bring. They belong to the exciter's last
-    /// life.
+    /// life. The room for symbols is counted in packets, each a fourth of a group. It is that for three packets of a
+    /// group that began before them, for all of them but the last, and for the group that the last one may bring.
     fn send_all(&mut self)
         requires some { (s : List (List ℤ)) × (ls : List (List (List ℕ))) × IsSending self.old s ls
             × (ls ≡ [] → self.old.batch.packets.items ≡ []) }
-        requires brought { length self.old.batch.packets.items ≤ MOST_BROUGHT }
-        requires few { self.old.sending.tally.packets ≤ MOST_BROUGHT * MOST_SEGMENTS }
-        requires symbols { length self.old.sending.symbols + AIR_SYMBOLS * 4 ≤ SENT_BYTES }
-        requires lines { length self.old.sending.lines + LOG_LINE * MOST_BROUGHT ≤ LOGGED_BYTES }
+        requires few { self.old.sending.tally.packets + length self.old.batch.packets.items ≤ MOST_BROUGHT }
+        requires symbols { 4 * length self.old.sending.symbols
+            + AIR_SYMBOLS * (length self.old.batch.packets.items + 6) ≤ 4 * SENT_BYTES }
+        requires lines { length self.old.sending.lines + LOG_LINE * length self.old.batch.packets.items
+            ≤ LOGGED_BYTES }
         ensures address { self.new.address ≡ self.old.address }
         ensures delay { self.new.delay ≡ self.old.delay }
         ensures segments { self.new.segments ≡ self.old.segments }
@@ -161,9 +164,12 @@ impl Repetition {
             → (ls ≡ [] → self.old.batch.packets.items ≡ [])
             → 4 * length self.new.sending.symbols
             + AIR_SYMBOLS * group_part (last_life (longer ls (packets_in self.old.batch.packets.items)))
-            ≤ 4 * length self.old.sending.symbols + AIR_SYMBOLS * (group_part (last_life ls) + MOST_BROUGHT) }
-        ensures short { length self.new.sending.lines ≤ length self.old.sending.lines + LOG_LINE * MOST_BROUGHT }
-        ensures count { self.new.sending.tally.packets ≤ self.old.sending.tally.packets + MOST_BROUGHT }
+            ≤ 4 * length self.old.sending.symbols
+            + AIR_SYMBOLS * (group_part (last_life ls) + length self.old.batch.packets.items) }
+        ensures short { length self.new.sending.lines ≤ length self.old.sending.lines
+            + LOG_LINE * length self.old.batch.packets.items }
+        ensures count { self.new.sending.tally.packets ≡ self.old.sending.tally.packets
+            + length self.old.batch.packets.items }
     {
         groups_are_spaced();
         for i in 0..self.batch.packets.len() {
@@ -176,7 +182,7 @@ impl Repetition {
     fn send(&mut self, packet: &Packet)
         requires some { (s : List (List ℤ)) × (ls : List (List (List ℕ))) × IsSending self.old s ls
             × (0 < length ls) }
-        requires few { self.old.sending.tally.packets < MOST_BROUGHT * (MOST_SEGMENTS + 1) }
+        requires few { self.old.sending.tally.packets < MOST_BROUGHT }
         requires symbols { length self.old.sending.symbols + AIR_SYMBOLS ≤ SENT_BYTES }
         requires lines { length self.old.sending.lines + LOG_LINE ≤ LOGGED_BYTES }
         ensures address { self.new.address ≡ self.old.address }
@@ -200,7 +206,7 @@ impl Repetition {
     /// Ends the repeater's input, and gathers what the end brings.
     fn end(&mut self)
         requires some { (s : List (List ℤ)) × IsRepeating self.old s }
-        requires few { self.old.sending.tally.packets ≤ MOST_BROUGHT * MOST_SEGMENTS }
+        requires few { self.old.sending.tally.packets ≤ GROUP_PACKETS * MOST_SEGMENTS }
         requires no_symbols { self.old.sending.symbols ≡ [] }
         requires no_lines { self.old.sending.lines ≡ [] }
         ensures address { self.new.address ≡ self.old.address }
@@ -307,7 +313,6 @@ impl Transmitting for Repetition {
             delay,
             repeater: Box::new(alloc, Repeater::new(alloc, address, delay)?)?,
             batch: Batch::new(),
-            segment: [0; SEGMENT],
             segments: 0,
             runs: 0,
             sending: Sending::new(alloc)?,

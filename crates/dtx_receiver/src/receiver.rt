@@ -66,8 +66,8 @@ impl<D: RunDecoder> RunReceiver<D> {
     /// Receives one or more of `segments`, from the first on. It returns how many it took, and how many runs began with
     /// them. Each segment is given as the bytes of its symbols. The packets that become whole replace what the batch
     /// held. They are those that `take` gives for these segments, one after another. Data segments are taken together,
-    /// up to the next place where a field sync is due, and 52 at most. Any other segment is taken alone. No call takes
-    /// memory.
+    /// up to the next place where a field sync is due, and 52 at most. Any other segment is taken alone, one that
+    /// begins a run among them. No call takes memory.
     pub fn take_some(&mut self, segments: &[[u8; SEGMENT]], batch: &mut Batch) -> Progress
         requires { 0 < length segments.now }
         ensures some { 0 < result.segments }
@@ -82,6 +82,7 @@ impl<D: RunDecoder> RunReceiver<D> {
             ≡ length (runs before) + result.runs }
         ensures few { length batch.new.packets.items ≤ GROUP_PACKETS * result.segments }
         ensures few_runs { result.runs ≤ result.segments }
+        ensures alone { 0 < result.runs → result.segments ≡ 1 }
     {
         batch.packets.clear();
         let place = self.place.unwrap_or(0);

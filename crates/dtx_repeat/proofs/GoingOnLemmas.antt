@@ -117,7 +117,7 @@ cancelled ended early brought whole before e f =
     append_cancel_left (whole_in ended) whole (early ++ brought)
     (f ∙ ap (λ z. z ++ brought) e ∙ append_assoc (whole_in ended) early brought)
 
-nothing_more : (before brought : List Received) → before ≡ before ++ brought → brought ≡ []
+pub nothing_more : (before brought : List Received) → before ≡ before ++ brought → brought ≡ []
 nothing_more before brought e = sym (append_cancel_left before [] brought (append-nil before ∙ e))
 
 ended_more : (ended : List (List (List ℤ))) (run : List (List ℤ))

@@ -4,3 +4,4 @@ pub mod LivesLemmas
 pub mod MarksLemmas
 pub mod Refilled
 pub mod Stepping
+pub mod SeveralLemmas

@@ -15,13 +15,24 @@ use Rattle.dtx_repeat.specs.Repeater.{next_place}
 use Rattle.dtx_repeat.specs.Restored.{restored, all_restored, restored_so_far, early_restored}
 use Rattle.dtx_repeat.proofs.RestoredLemmas.{restored_none}
 
-abbrev place_by : Option (List (List ℤ)) → ℕ
+abbrev pub place_by : Option (List (List ℤ)) → ℕ
 place_by None = 0
 place_by (Some run) = next_place run
 
-at_place : (o : Option (List (List ℤ))) → IfSome o (λ run. place_by o ≡ next_place run)
+pub at_place : (o : Option (List (List ℤ))) → IfSome o (λ run. place_by o ≡ next_place run)
 at_place None = tt
 at_place (Some run) = refl
+
+-- with segments more, none of which begins a life
+pub given_on : (s next : List (List ℤ)) (p : ℕ) (brought packets : List Received) → GoesOn s next p brought
+    → restored_so_far next ≡ restored_so_far s ++ packets
+    → AreGiven (lives_so_far s) (lives_so_far next) packets
+given_on s next p brought packets g is =
+    let e : packets ≡ restored p brought =
+    append_cancel_left (restored_so_far s) packets (restored p brought) (sym is ∙ g.behind) in (
+      g.lives ∙ ap (λ z. longer (lives_so_far s) (packets_in z)) (sym e),
+      λ none. e ∙ ap (restored p) (g.none none) ∙ restored_none p,
+    )
 
 -- with one segment more, which may begin a life
 given_by : (s : List (List ℤ)) (x : List ℤ) (p : ℕ) (packets brought : List Received) (t : Tracking)
@@ -29,15 +40,8 @@ given_by : (s : List (List ℤ)) (x : List ℤ) (p : ℕ) (packets brought : Lis
     → AreGiven (with_begun t (lives_so_far s)) (lives_so_far (s ++ x ∷ [])) packets
 given_by s x p packets brought t steps is = by_told t steps
   where
-    same : (others : List Received) → restored_so_far (s ++ x ∷ []) ≡ restored_so_far s ++ others → packets ≡ others
-    same others e = append_cancel_left (restored_so_far s) packets others (sym is ∙ e)
-
     on : GoesOn s (s ++ x ∷ []) p brought → AreGiven (lives_so_far s) (lives_so_far (s ++ x ∷ [])) packets
-    on g =
-        let e : packets ≡ restored p brought = same (restored p brought) g.behind in (
-          g.lives ∙ ap (λ z. longer (lives_so_far s) (packets_in z)) (sym e),
-          λ none. e ∙ ap (restored p) (g.none none) ∙ restored_none p,
-        )
+    on g = given_on s (s ++ x ∷ []) p brought packets g is
 
     by_told : (t : Tracking) → Steps s x p brought t
         → AreGiven (with_begun t (lives_so_far s)) (lives_so_far (s ++ x ∷ [])) packets
@@ -46,7 +50,8 @@ given_by s x p packets brought t steps is = by_told t steps
     by_told Data g = on g
     by_told Ended g = on g
     by_told Began g =
-        let e : packets ≡ [] = same [] g.behind in (
+        let e : packets ≡ [] =
+        append_cancel_left (restored_so_far s) packets [] (sym is ∙ g.behind) in (
           g.lives ∙ sym (longer_none (lives_so_far s ++ [] ∷ []))
               ∙ ap (λ z. longer (lives_so_far s ++ [] ∷ []) (packets_in z)) (sym e),
           λ _. e,

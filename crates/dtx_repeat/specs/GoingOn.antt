@@ -1,5 +1,5 @@
--- How the lives of an exciter that is fed by a receiver go on with one segment more.
-use Rattle.std.specs.Prelude.{ℕ, ℤ, ◌≡◌, ◌+◌, ◌%◌, IfSome, List, [], ◌∷◌, ◌++◌, length}
+-- How the lives of an exciter that is fed by a receiver go on with more segments.
+use Rattle.std.specs.Prelude.{ℕ, ℤ, ◌≡◌, ◌+◌, ◌%◌, ◌==◌, if◌then◌else◌, IfSome, List, [], ◌∷◌, ◌++◌, length}
 use Rattle.dtx_receiver.specs.Runs.{tracked}
 use Rattle.dtx_receiver.specs.declared.batch.Received.{Received}
 use Rattle.dtx_receiver.specs.declared.tracking.Tracking.{Tracking}
@@ -29,7 +29,11 @@ abbrev pub with_begun : Tracking → List (List (List ℕ)) → List (List (List
 with_begun Began lives = lives ++ [] ∷ []
 with_begun tracking lives = lives
 
--- After one more segment these packets are restored, from a place in the frame on, and given to the last life.
+-- these lives, and an empty one more if runs began, so many of them
+abbrev pub with_runs : ℕ → List (List (List ℕ)) → List (List (List ℕ))
+with_runs begins lives = if begins == 0 then lives else lives ++ [] ∷ []
+
+-- After more segments these packets are restored, from a place in the frame on, and given to the last life.
 pub record GoesOn (before next : List (List ℤ)) (from : ℕ) (packets : List Received) : Type 0 where
   pub behind : restored_so_far next ≡ restored_so_far before ++ restored from packets
   pub place : IfSome (tracked next).run (λ run. (from + length packets) % 624 ≡ next_place run)

@@ -1,5 +1,5 @@
 -- What a repeater keeps, and the segments and packets that it stands for.
-use Rattle.std.specs.Prelude.{ℕ, ℤ, ◌≡◌, ◌+◌, ◌%◌, IfSome, List, [], length}
+use Rattle.std.specs.Prelude.{ℕ, ℤ, ◌≡◌, ◌+◌, ◌%◌, ◌==◌, if◌then◌else◌, IfSome, List, [], length}
 use Rattle.dtx_exciter.specs.Emission.{Holds, last_segments}
 use Rattle.dtx_exciter.specs.Kept as exciter
 use Rattle.dtx_exciter.specs.Packets.{last_answer}
@@ -29,6 +29,10 @@ pub record StandsFor (address delay : ℕ) (repeater : Repeater) (segments : Lis
 abbrev pub given_behind : Tracking → List (List ℕ) → List (List ℕ)
 given_behind Began given = []
 given_behind tracking given = given
+
+-- the same after some segments with which so many runs began: nothing if one did
+abbrev pub given_with : ℕ → List (List ℕ) → List (List ℕ)
+given_with begins given = if begins == 0 then given else []
 
 -- The repeater after its exciter was given the last of these packets, the answer to it, and the segments that it gives.
 pub record IsSent (a d : ℕ) (segments : List (List ℤ)) (packets : List (List ℕ)) (repeater : Repeater)

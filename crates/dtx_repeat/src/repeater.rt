@@ -1,15 +1,16 @@
 //! Receives a main transmitter's segments, and sends their packets again.
 
-ghost use Rattle.std.specs.Prelude.{◌≡◌, ℕ, ℤ, ◌≤◌, ◌++◌, ◌∷◌, [], List, IfOk, length};
-ghost use Rattle.dtx_receiver.specs.Runs.{tracking};
-ghost use Rattle.dtx_repeat.specs.Repeater.{StandsFor, IsSent, given_behind};
+ghost use Rattle.std.specs.Prelude.{◌≡◌, ℕ, ℤ, ◌+◌, ◌*◌, ◌<◌, ◌≤◌, ◌++◌, ◌∷◌, [], List, IfOk, length, take};
+ghost use Rattle.dtx_receiver.specs.Runs.{runs, tracking};
+ghost use Rattle.dtx_receiver.specs.Symbols.{symbols_in};
+ghost use Rattle.dtx_repeat.specs.Repeater.{StandsFor, IsSent, given_behind, given_with};
 ghost use Rattle.dtx_repeat.specs.Restored.{all_restored, restored_so_far};
 
-use crate::marks::{place_behind, restore};
+use crate::marks::{place_behind, place_behind_bytes, restore};
 use dtx_coder::Air;
 use dtx_exciter::{Exciter, Told};
 use dtx_packets::Packet;
-use dtx_receiver::{Batch, Receiver, Tracking};
+use dtx_receiver::{Batch, Progress, Receiver, Tracking};
 use dtx_sizes::{GROUP_PACKETS, SEGMENT};
 use std::alloc::{AllocError, Global};
 
@@ -64,6 +65,41 @@ impl Repeater {
             }
         }
         tracking
+    }
+
+    /// Receives one or more of `segments`, from the first on. It returns how many it took, and how many runs began with
+    /// them. Each segment is given as the bytes of its symbols. Data segments are taken together, up to the next place
+    /// where a field sync is due, and 52 at most. Any other segment is taken alone, one that begins a run among them.
+    /// The packets that become whole replace those of the batch. They, and what is kept, are as `take` gives them for
+    /// these segments, one after another. No call takes memory.
+    pub fn take_some(&mut self, segments: &[[u8; SEGMENT]], batch: &mut Batch) -> Progress
+        requires { 0 < length segments.now }
+        ensures some { 0 < result.segments }
+        ensures within { result.segments ≤ length segments.now }
+        ensures alone { 0 < result.runs → result.segments ≡ 1 }
+        ensures few_runs { result.runs ≤ 1 }
+        ensures stands { (address delay : ℕ) (before : List (List ℤ)) (given : List (List ℕ))
+            → StandsFor address delay self.old before given
+            → StandsFor address delay self.new (before ++ symbols_in (take result.segments segments.now))
+            (given_with result.runs given) }
+        ensures packets { (address delay : ℕ) (before : List (List ℤ)) (given : List (List ℕ))
+            → StandsFor address delay self.old before given
+            → restored_so_far (before ++ symbols_in (take result.segments segments.now))
+            ≡ restored_so_far before ++ batch.new.packets.items }
+        ensures runs { (address delay : ℕ) (before : List (List ℤ)) (given : List (List ℕ))
+            → StandsFor address delay self.old before given
+            → length (runs (before ++ symbols_in (take result.segments segments.now)))
+            ≡ length (runs before) + result.runs }
+        ensures few { length batch.new.packets.items ≤ GROUP_PACKETS * result.segments }
+    {
+        let progress = self.receiver.take_some(segments, batch);
+        if progress.runs > 0 {
+            self.exciter.reset();
+            self.place = place_behind_bytes(&segments[0]);
+        } else {
+            self.place = restore(self.place, batch.packets.as_mut_slice());
+        }
+        progress
     }
 
     /// Ends the present run, if any. The packets that are left replace those of the batch. The next segment is received

@@ -1,13 +1,12 @@
 use Rattle.std.proofs.Common.{◌≡◌, ◌+◌, ◌-◌, ◌/◌, ◌≤◌, ◌++◌, ℕ, ℤ, List, length, take, drop, ap, sym, subst, ◌∙◌}
 use Rattle.std.proofs.Common.{append_assoc, arith}
-use Rattle.std.proofs.lemmas.List.{append-nil, length-drop, take_all}
+use Rattle.std.proofs.lemmas.List.{append-nil}
 use Rattle.dtx_receiver.specs.Symbols.{symbols_in}
 use Rattle.dtx_jobs.specs.Giving.{bytes_of}
 use Rattle.dtx_jobs.specs.GivingLaws.{bytes_of-append}
 use Rattle.dtx_jobs.specs.Reception.{IsReceiving}
 use Rattle.dtx_jobs.specs.SymbolFile.{segments_from}
-use Rattle.dtx_jobs.specs.SymbolFileLaws.{segments_from-append}
-use Rattle.dtx_jobs.proofs.SymbolFileLemmas.{segments_of_chunks}
+use Rattle.dtx_jobs.proofs.SymbolFileLemmas.{segments_on}
 use Rattle.dtx_jobs.proofs.reception.Reception.take_all.Goals as goal
 
 pub loop-done-init : goal.loop-done-init
@@ -39,22 +38,12 @@ loop-done-preserved g c =
     let fits : done + count ≤ units =
     omega (arith, taken.within, c.as_chunks.ensures.front_len, c.loop-done-test.true) in
     let chunks : List (List ℕ) = c.as_chunks.result.0.now in
-    let front = c.as_chunks.ensures.front in
-    let zero : 0 + done ≡ done = omega arith in
     let rest : List (List ℕ) = take (length chunks - done) (drop done chunks) in
-    let all : rest ≡ drop done chunks =
-    take_all (length chunks - done) (drop done chunks) (omega (arith, length-drop done chunks)) in
     let on : (before : List (List ℤ))
     → (before ++ segments_from bytes 0 done) ++ symbols_in (take count rest)
     ≡ before ++ segments_from bytes 0 (done + count) =
     λ before.
-    ap (λ xs. (before ++ segments_from bytes 0 done) ++ symbols_in (take count xs)) all
-    ∙ append_assoc before (segments_from bytes 0 done) (symbols_in (take count (drop done chunks)))
-    ∙ ap (λ z. before ++ z)
-    (ap (λ z. segments_from bytes 0 done ++ z) (ap (λ xs. symbols_in (take count (drop done xs))) front
-    ∙ segments_of_chunks bytes units done count fits (sym (ap length front) ∙ c.as_chunks.ensures.front_len))
-    ∙ sym (segments_from-append bytes 0 done count
-    ∙ ap (λ a. segments_from bytes 0 done ++ segments_from bytes a count) zero)) in
+    segments_on before bytes units done count chunks c.as_chunks.ensures.front c.as_chunks.ensures.front_len fits in
     record {
       within = fits;
       receiving = λ before is.

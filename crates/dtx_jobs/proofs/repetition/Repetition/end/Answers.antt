@@ -1,4 +1,4 @@
-use Rattle.std.proofs.Common.{[], sym, subst, arith}
+use Rattle.std.proofs.Common.{[], length, ap, sym, subst, arith}
 use Rattle.dtx_repeat.specs.GoingOn.{last_life}
 use Rattle.dtx_repeat.specs.Lives.{lives_so_far}
 use Rattle.dtx_repeat.proofs.LivesLemmas.{lives_end}
@@ -23,8 +23,14 @@ send_all-requires-clause-some c =
       (lives_end s c.finish.new.batch.packets.items (c.finish.ensures.packets old.address old.delay s life stands)).1,
     )
 
-pub send_all-requires-clause-brought : goal.send_all-requires-clause-brought
-send_all-requires-clause-brought c = omega (arith, c.finish.ensures.few)
+pub send_all-requires-clause-few : goal.send_all-requires-clause-few
+send_all-requires-clause-few c = omega (arith, c.finish.ensures.few, c.requires.few)
+
+pub send_all-requires-clause-symbols : goal.send_all-requires-clause-symbols
+send_all-requires-clause-symbols c = omega (arith, c.finish.ensures.few, ap length c.requires.no_symbols)
+
+pub send_all-requires-clause-lines : goal.send_all-requires-clause-lines
+send_all-requires-clause-lines c = omega (arith, c.finish.ensures.few, ap length c.requires.no_lines)
 
 pub returns-clause-sent : goal.returns-clause-sent
 returns-clause-sent c = λ s is.

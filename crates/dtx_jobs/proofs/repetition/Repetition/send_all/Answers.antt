@@ -57,7 +57,6 @@ send-requires-clause-symbols c =
       c.requires.symbols,
       c.groups_are_spaced.ensures.part (last_life some.1),
       c.loop-i-test.true,
-      c.requires.brought,
       c.len-i-end.ensures.value,
     )
 
@@ -133,6 +132,5 @@ returns-clause-spaced c = λ s ls stands nothing.
       c.loop-i.invariant.spaced s ls stands nothing,
       ap (λ xs. group_part (last_life (longer ls (packets_in xs)))) all,
       c.loop-i.auto.i-end,
-      c.requires.brought,
       c.len-i-end.ensures.value,
     )
