@@ -16,7 +16,7 @@ use std::alloc::{AllocError, Global};
 /// Room for the bytes that are sent for a piece.
 const SENT_BYTES: usize = BLOCK * DVB_PIECE_PACKETS;
 
-/// Sends a stream. Packets that stand in whole halves of groups of eight go up to a batch at once, all others one by one.
+/// Sends a stream. Packets that stand in whole halves of groups of eight go in batches, all others one by one.
 #[derive(Drop)]
 pub(crate) struct DvbCoding {
     coder: Box<DvbOut>,

@@ -30,7 +30,7 @@ type PacketRoom = [[[u8; PACKET]; FOUR]; BATCH_FOURS];
 /// The answers of a batch's blocks, in fours.
 type AnswerRoom = [[Taken; FOUR]; BATCH_FOURS];
 
-/// Reads a stream back, in batches of whole fours of blocks, and the last few one by one. Counts what comes of them.
+/// Reads a stream back. The blocks of a piece go in batches of whole fours, and its last few one by one.
 #[derive(Drop)]
 pub(crate) struct DvbReading {
     reader: Box<DvbIn>,

@@ -12,9 +12,9 @@ use dtx_sizes::{MOST_PACKETS, PACKET};
 /// the output. So they go straight to the output's file, but for parts of a page, which are gathered first.
 pub const DVB_PIECE_PACKETS: usize = 696;
 
-/// How many packets or blocks go through the interleaver in one call, both ways: a multiple of four. A call costs
-/// something for each of the twelve branches, however few bytes it has. With 13,056 bytes that is little. More bytes
-/// would no longer stand in the processor's first cache beside the packets and what the branches hold.
+/// How many packets, or blocks, go through the interleaver in one call, both ways: a multiple of four. A call costs
+/// something for each branch, however few bytes come, and with 13,056 bytes that is little. A batch's blocks and
+/// packets are 25 kB, which still fit a processor's first cache.
 pub const BATCH_PACKETS: usize = 64;
 
 /// The blocks of a batch, in bytes.
