@@ -7,4 +7,4 @@ pub mod CountsLemmas
 mod BurstLemmas
 pub mod Blocks
 pub mod Giving
-pub mod Four
+pub mod Batch

@@ -1,5 +1,6 @@
 -- What a block gives, from what was gathered for it.
-use Rattle.std.specs.Prelude.{ℕ, List, [], ◌∷◌}
+use Rattle.std.specs.Prelude.{ℕ, ◌*◌, ◌/◌, ◌%◌, List, [], ◌∷◌, length, slice_index_or}
+use Rattle.std.specs.List.{range_with_len, flat_map}
 use Rattle.dtx_outer.specs.declared.inner.Taken.{Taken}
 use Rattle.dtx_outer.specs.declared.inner.Taken.TheVariants.{None, Good, Bad}
 use Rattle.dtx_packets.specs.Packet.{with_error}
@@ -17,3 +18,13 @@ abbrev pub finished : Taken → List ℕ → List ℕ
 finished None bytes = bytes
 finished (Good fixed) bytes = with_sync bytes
 finished Bad bytes = with_sync (with_error bytes)
+
+-- what block p of a batch gave, whose packets and answers come in fours
+abbrev pub given_in : List (List Taken) → List (List (List ℕ)) → ℕ → List Read
+given_in taken packets p =
+    given (slice_index_or (slice_index_or taken (p / 4) []) (p % 4) None)
+    (slice_index_or (slice_index_or packets (p / 4) []) (p % 4) [])
+
+-- what the blocks of a batch gave, one after another
+unfoldable pub all_given : List (List Taken) → List (List (List ℕ)) → List Read
+all_given taken packets = flat_map (given_in taken packets) (range_with_len 0 (4 * length packets))

@@ -1,12 +1,11 @@
 //! From the bytes that were sent to packets.
 
 ghost use Rattle.std.specs.Prelude.{◌≡◌, ℕ, ◌+◌, ◌*◌, ◌<◌, ◌++◌, [], List, IfOk, length, slice_index_or};
-ghost use Rattle.std.specs.List.{range_with_len, flat_map};
 ghost use Rattle.dtx_packets.specs.Packet.{with_error};
 ghost use Rattle.dtx_dvb.specs.Randomizer.{randomizer_bytes};
 ghost use Rattle.dtx_dvb.specs.Reading.{read_dvb};
 ghost use Rattle.dtx_dvb.specs.Sending.{HasRead};
-ghost use Rattle.dtx_dvb.specs.Given.{given, finished};
+ghost use Rattle.dtx_dvb.specs.Given.{all_given, finished, given};
 
 use crate::randomizer::Dvb;
 use crate::sizes::{BLOCK, BRANCH_STEP, BRANCHES, FOUR, FOUR_BLOCKS, WAITING};
@@ -73,28 +72,41 @@ impl DvbIn {
         taken
     }
 
-    /// Takes the next four blocks, and writes the packets that they complete, each as `block` gives it. Afterwards
-    /// `bytes` holds other bytes.
-    pub fn four(
+    /// Takes blocks that follow each other, four for each element of `packets`. Writes the packets that they complete,
+    /// and to `taken` the answers, each as `block` gives it. They go through the de-interleaver together, which
+    /// overwrites `bytes`.
+    pub fn batch(
         &mut self,
-        bytes: &mut [u8; FOUR_BLOCKS],
-        packets: &mut [[u8; PACKET]; FOUR],
-    ) -> [Taken; FOUR]
-        ensures none { (y : List ℕ) (p : ℕ) → HasRead y self.old → p < FOUR
-            → length y + BLOCK * p < BLOCK * WAITING
-            → (slice_index_or result p Taken.None ≡ Taken.None)
-            × (slice_index_or packets.new p [] ≡ slice_index_or packets.old p []) }
+        bytes: &mut [u8],
+        packets: &mut [[[u8; PACKET]; FOUR]],
+        taken: &mut [[Taken; FOUR]],
+    )
+        requires whole { length bytes.old ≡ FOUR_BLOCKS * length packets.old }
+        requires taken { length taken.old ≡ length packets.old }
+        ensures none { (y : List ℕ) (q p : ℕ) → HasRead y self.old → q < length packets.old → p < FOUR
+            → length y + BLOCK * (FOUR * q + p) < BLOCK * WAITING
+            → (slice_index_or (slice_index_or taken.new q []) p Taken.None ≡ Taken.None)
+            × (slice_index_or (slice_index_or packets.new q []) p []
+            ≡ slice_index_or (slice_index_or packets.old q []) p []) }
         ensures packets { (y : List ℕ) → HasRead y self.old
-            → read_dvb (y ++ bytes.old) ≡ read_dvb y
-            ++ flat_map (λ p. given (slice_index_or result p Taken.None) (slice_index_or packets.new p []))
-            (range_with_len 0 FOUR) }
+            → read_dvb (y ++ bytes.old) ≡ read_dvb y ++ all_given taken.new packets.new }
         ensures stands { (y : List ℕ) → HasRead y self.old → HasRead (y ++ bytes.old) self.new }
     {
-        let taken = self.inner.take_four(&mut bytes[..], packets);
-        for p in 0..FOUR {
-            finish(taken[p], &mut packets[p]);
+        self.inner.take_fours(bytes, packets, taken);
+        for q in 0..packets.len() {
+            finish_four(&taken[q], &mut packets[q]);
         }
-        taken
+    }
+}
+
+/// Gives four packets what `finish` gives each.
+#[inline(always)]
+fn finish_four(taken: &[Taken; FOUR], packets: &mut [[u8; PACKET]; FOUR])
+    ensures each { (p : ℕ) → p < FOUR → slice_index_or packets.new p []
+        ≡ finished (slice_index_or taken.now p Taken.None) (slice_index_or packets.old p []) }
+{
+    for p in 0..FOUR {
+        finish(taken[p], &mut packets[p]);
     }
 }
 

@@ -1,12 +1,11 @@
 -- Lists that are taken in chunks.
 use Rattle.std.proofs.Common.{◌≡◌, ℕ, zero, suc, ◌+◌, ◌-◌, ◌*◌, ◌<◌, ◌≤◌, List, [], ◌∷◌, ◌++◌, length, get_or}
-use Rattle.std.proofs.Common.{take, drop, sym, ap, ap₂, ◌∙◌, arith}
+use Rattle.std.proofs.Common.{take, drop, sym, ap, ◌∙◌, arith}
 use Rattle.std.specs.List.{flat_map}
 use Rattle.std.specs.Simd.{first_chunks}
 use Rattle.std.proofs.Math.Seq.{take-add}
 use Rattle.std.proofs.lemmas.Grind.{flat_map-append}
-use Rattle.std.proofs.lemmas.List.{append_assoc, append-nil, length-append, length-take-le, take_more}
-use Rattle.std.proofs.lemmas.List.{take-append-drop}
+use Rattle.std.proofs.lemmas.List.{append_assoc, append-nil, take_more}
 
 -- one element more of a list, behind others
 pub one_on : {X : Type 0} (before xs : List X) (i : ℕ) (d : X) → i < length xs
@@ -39,26 +38,3 @@ chunks_flat n zero xs = let none : 0 ≡ 0 * n = omega arith in ap (λ m. take m
 chunks_flat n (suc k) xs =
     let more : n + k * n ≡ suc k * n = omega arith in
     ap (λ z. take n xs ++ z) (chunks_flat n k (drop n xs)) ∙ sym (take-add n (k * n) xs) ∙ ap (λ m. take m xs) more
-
--- they and what is left are the list
-pub chunks_and_rest : {X : Type 0} (n k : ℕ) (xs : List X)
-    → flat_map (λ c. c) (first_chunks n k xs) ++ drop (k * n) xs ≡ xs
-chunks_and_rest n k xs = ap (λ z. z ++ drop (k * n) xs) (chunks_flat n k xs) ∙ take-append-drop (k * n) xs
-
--- how long they are
-pub length-chunks_flat : {X : Type 0} (n k : ℕ) (xs : List X) → k * n ≤ length xs
-    → length (flat_map (λ c. c) (first_chunks n k xs)) ≡ k * n
-length-chunks_flat n k xs within = ap length (chunks_flat n k xs) ∙ length-take-le (k * n) xs within
-
--- how long the first of chunks of one length are
-pub length-first : {X : Type 0} (n : ℕ) (chunks : List (List X)) (k : ℕ)
-    → ((i : ℕ) → i < length chunks → length (get_or chunks i []) ≡ n) → k ≤ length chunks
-    → length (flat_map (λ c. c) (take k chunks)) ≡ n * k
-length-first n chunks zero each within = let none : 0 ≡ n * 0 = omega arith in none
-length-first n [] (suc k) each within = absurd (omega (arith, within))
-length-first n (c ∷ cs) (suc k) each within =
-    let next : n + n * k ≡ n * suc k = omega arith in
-    length-append c (flat_map (λ c. c) (take k cs))
-    ∙ ap₂ (λ (a b : ℕ). a + b) (each 0 (omega arith))
-    (length-first n cs k (λ i l. each (suc i) (omega (arith, l))) (omega (arith, within)))
-    ∙ next

@@ -1,19 +1,19 @@
 -- What a block gives, counted and put behind what was given before.
-use Rattle.std.proofs.Common.{◌≡◌, ℕ, ◌+◌, ◌<◌, ◌++◌, List, [], ◌∷◌, length, get_or, refl}
+use Rattle.std.proofs.Common.{◌≡◌, ℕ, ◌+◌, ◌/◌, ◌%◌, ◌<◌, ◌++◌, List, [], ◌∷◌, length, get_or, refl}
 use Rattle.std.proofs.Common.{sym, ap, ap₂, ◌∙◌, arith, append_assoc}
 use Rattle.std.specs.List.{flat_map, range_with_len}
 use Rattle.std.proofs.lemmas.Grind.{flat_map-append}
 use Rattle.std.proofs.lemmas.List.{append-nil, get_or_default}
 use Rattle.dtx_lists.proofs.Range.{range_with_len-parts}
 use Rattle.dtx_dvb.proofs.CountsLemmas.{fixed-append, flagged-append}
-use Rattle.dtx_dvb.specs.Given.{given}
+use Rattle.dtx_dvb.specs.Given.{given, given_in}
 use Rattle.dtx_dvb.specs.Read.{Read, fixed_in, fixed_of, flag_of, flagged_in}
 use Rattle.dtx_outer.specs.declared.inner.Taken.{Taken}
 use Rattle.dtx_outer.specs.declared.inner.Taken.TheVariants.{None, Good, Bad}
 use Rattle.dtx_packet_jobs.specs.DvbRead.{bytes_of_reads}
 use Rattle.dtx_packet_jobs.specs.DvbReadLaws.{bytes_of_reads-append}
 use Rattle.dtx_packet_jobs.specs.DvbReading.{HasGathered}
-use Rattle.dtx_packet_jobs.specs.declared.dvb_reading.DvbReading.{DvbReading}
+use Rattle.dtx_packet_jobs.specs.declared.dvb_reading.Gathered.{Gathered}
 
 fixed_given : (taken : Taken) (packet : List ℕ) → fixed_in (given taken packet) ≡ fixed_of taken
 unfolding fixed_in
@@ -28,7 +28,7 @@ flagged_given (Good fixed) packet = refl
 flagged_given Bad packet = refl
 
 -- what a block gives, put behind what is gathered
-pub gathered_on : (old new : DvbReading) (taken : Taken) (packet : List ℕ) (reads : List Read) (before : List ℕ)
+pub gathered_on : (old new : Gathered) (taken : Taken) (packet : List ℕ) (reads : List Read) (before : List ℕ)
     → HasGathered old reads before → new.fixed ≡ old.fixed + fixed_of taken → new.flagged ≡ old.flagged + flag_of taken
     → new.packets ≡ old.packets ++ bytes_of_reads (given taken packet)
     → HasGathered new (reads ++ given taken packet) before
@@ -43,19 +43,27 @@ gathered_on old new taken packet reads before was fixed flagged packets = record
       ∙ ap (λ z. before ++ z) (sym packets);
 }
 
--- what one block more of some gives, behind what was given before
-pub given_on : (taken : List Taken) (packets : List (List ℕ)) (p : ℕ) (t : Taken) (packet : List ℕ) (reads : List Read)
-    → p < length taken → p < length packets
-    → (reads ++ flat_map (λ i. given (get_or taken i None) (get_or packets i [])) (range_with_len 0 p))
-    ++ given (get_or taken p t) (get_or packets p packet)
-    ≡ reads ++ flat_map (λ i. given (get_or taken i None) (get_or packets i [])) (range_with_len 0 (p + 1))
-given_on taken packets p t packet reads few less =
-    let gives : ℕ → List Read = λ i. given (get_or taken i None) (get_or packets i []) in
+-- what one block more of a batch gives, behind what was given before
+pub given_on : (taken : List (List Taken)) (packets : List (List (List ℕ))) (p : ℕ) (four : List Taken) (t : Taken)
+    (heads : List (List ℕ)) (packet : List ℕ) (reads : List Read) → p / 4 < length taken → p / 4 < length packets
+    → p % 4 < length (get_or taken (p / 4) []) → p % 4 < length (get_or packets (p / 4) [])
+    → (reads ++ flat_map (given_in taken packets) (range_with_len 0 p))
+    ++ given (get_or (get_or taken (p / 4) four) (p % 4) t) (get_or (get_or packets (p / 4) heads) (p % 4) packet)
+    ≡ reads ++ flat_map (given_in taken packets) (range_with_len 0 (p + 1))
+given_on taken packets p four t heads packet reads few less one same =
+    let q : ℕ = p / 4 in
+    let gives : ℕ → List Read = given_in taken packets in
     let here : 0 + p ≡ p = omega arith in
-    append_assoc reads (flat_map gives (range_with_len 0 p)) (given (get_or taken p t) (get_or packets p packet))
+    let answer : get_or (get_or taken q four) (p % 4) t ≡ get_or (get_or taken q []) (p % 4) None =
+    ap (λ ts. get_or ts (p % 4) t) (get_or_default taken q four [] few)
+    ∙ get_or_default (get_or taken q []) (p % 4) t None one in
+    let bytes : get_or (get_or packets q heads) (p % 4) packet ≡ get_or (get_or packets q []) (p % 4) [] =
+    ap (λ ps. get_or ps (p % 4) packet) (get_or_default packets q heads [] less)
+    ∙ get_or_default (get_or packets q []) (p % 4) packet [] same in
+    append_assoc reads (flat_map gives (range_with_len 0 p))
+    (given (get_or (get_or taken q four) (p % 4) t) (get_or (get_or packets q heads) (p % 4) packet))
     ∙ ap (λ z. reads ++ z) (
     ap (λ z. flat_map gives (range_with_len 0 p) ++ z) (
-    ap₂ given (get_or_default taken p t None few) (get_or_default packets p packet [] less)
-    ∙ sym (append-nil (gives p)) ∙ ap (λ i. flat_map gives (i ∷ [])) (sym here))
+    ap₂ given answer bytes ∙ sym (append-nil (gives p)) ∙ ap (λ i. flat_map gives (i ∷ [])) (sym here))
     ∙ sym (ap (flat_map gives) (range_with_len-parts 0 p 1)
     ∙ flat_map-append gives (range_with_len 0 p) (range_with_len (0 + p) 1)))

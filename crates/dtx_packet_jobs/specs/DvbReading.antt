@@ -5,28 +5,28 @@ use Rattle.dtx_dvb.specs.Reading.{read_dvb}
 use Rattle.dtx_outer.specs.Inner.{StandsFor}
 use Rattle.dtx_packet_jobs.specs.DvbRead.{bytes_of_reads, whole_blocks}
 use Rattle.dtx_packet_jobs.specs.declared.dvb_reading.DvbReading.{DvbReading}
+use Rattle.dtx_packet_jobs.specs.declared.dvb_reading.Gathered.{Gathered}
 
--- the numbers are those of these packets, and the engine holds their bytes, but for the bytes `before` of earlier
--- pieces
-pub record HasGathered (state : DvbReading) (reads : List Read) (before : List ℕ) : Type 0 where
-  pub fixed : state.fixed ≡ fixed_in reads
-  pub flagged : state.flagged ≡ flagged_in reads
-  pub bytes : bytes_of_reads reads ≡ before ++ state.packets
+-- the numbers are those of these packets, and their bytes are held, but for the bytes `before` of earlier pieces
+pub record HasGathered (gathered : Gathered) (reads : List Read) (before : List ℕ) : Type 0 where
+  pub fixed : gathered.fixed ≡ fixed_in reads
+  pub flagged : gathered.flagged ≡ flagged_in reads
+  pub bytes : bytes_of_reads reads ≡ before ++ gathered.packets
 
 -- the state in a piece, after these bytes: the reader stands for them, and their packets are gathered
 pub record IsReading (state : DvbReading) (bytes before : List ℕ) : Type 0 where
   pub reader : StandsFor 204 188 12 17 state.reader.value bytes
-  pub gathered : HasGathered state (read_dvb bytes) before
+  pub gathered : HasGathered state.gathered (read_dvb bytes) before
 
 -- bounds of the numbers: so many blocks give no more
-pub record IsBounded (state : DvbReading) (blocks : ℕ) : Type 0 where
-  pub fixed : state.fixed ≤ 255 * blocks
-  pub flagged : state.flagged ≤ blocks
+pub record IsBounded (gathered : Gathered) : Type 0 where
+  pub fixed : gathered.fixed ≤ 255 * gathered.blocks
+  pub flagged : gathered.flagged ≤ gathered.blocks
 
 -- the state after these bytes: the reader stands for them, and their blocks and packets are counted
 pub record WasRead (state : DvbReading) (bytes : List ℕ) : Type 0 where
   pub reader : StandsFor 204 188 12 17 state.reader.value bytes
-  pub fixed : state.fixed ≡ fixed_in (read_dvb bytes)
-  pub flagged : state.flagged ≡ flagged_in (read_dvb bytes)
-  pub blocks : state.blocks ≡ whole_blocks bytes
-  pub bounded : IsBounded state state.blocks
+  pub fixed : state.gathered.fixed ≡ fixed_in (read_dvb bytes)
+  pub flagged : state.gathered.flagged ≡ flagged_in (read_dvb bytes)
+  pub blocks : state.gathered.blocks ≡ whole_blocks bytes
+  pub bounded : IsBounded state.gathered

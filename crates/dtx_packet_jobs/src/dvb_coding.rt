@@ -4,7 +4,7 @@ ghost use Rattle.std.specs.Prelude.{if◌then◌else◌, length};
 ghost use Rattle.dtx_packets.specs.Packets.{packets_of};
 ghost use Rattle.dtx_packet_jobs.specs.DvbCoding.{IsSending};
 
-use crate::dvb_shapes::{DVB_PIECE_PACKETS, dvb_packets};
+use crate::dvb_shapes::{BATCH_BYTES, BATCH_PACKETS, DVB_PIECE_PACKETS, dvb_packets};
 use dtx_dvb::{BLOCK, DvbOut, FOUR, PERIOD_PACKETS};
 use dtx_engine::{Buffer, Engine, Shape};
 use dtx_forms::Transforming;
@@ -16,13 +16,7 @@ use std::alloc::{AllocError, Global};
 /// Room for the bytes that are sent for a piece.
 const SENT_BYTES: usize = BLOCK * DVB_PIECE_PACKETS;
 
-/// How many packets go through the interleaver at once.
-const BATCH_PACKETS: usize = 32;
-
-/// The bytes of a batch's blocks.
-const BATCH_BYTES: usize = BLOCK * BATCH_PACKETS;
-
-/// Sends a stream. Packets that stand in whole halves of groups of eight go up to 32 at once, all others one by one.
+/// Sends a stream. Packets that stand in whole halves of groups of eight go in batches, all others one by one.
 #[derive(Drop)]
 pub(crate) struct DvbCoding {
     coder: Box<DvbOut>,

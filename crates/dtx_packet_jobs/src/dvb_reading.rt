@@ -1,14 +1,14 @@
 // The engine of `dvb read`: reads back a stream of the outer coding of DVB, one piece of blocks at a time.
 ghost use Rattle.std.specs.Prelude.{◌≡◌, ◌+◌, ◌*◌, ◌/◌, ◌%◌, ◌<◌, ◌≤◌, ◌++◌, ◌∷◌, [], ℕ, List, length};
-ghost use Rattle.std.specs.Prelude.{slice_index_or};
-ghost use Rattle.std.specs.List.{flat_map, range_with_len};
-ghost use Rattle.dtx_dvb.specs.Given.{given};
+ghost use Rattle.std.specs.List.{flat_map};
+ghost use Rattle.dtx_dvb.specs.Given.{all_given, given};
 ghost use Rattle.dtx_dvb.specs.Read.{Read, fixed_of, flag_of};
 ghost use Rattle.dtx_dvb.specs.Reading.{read_dvb};
+ghost use Rattle.dtx_dvb.specs.Sending.{HasRead};
 ghost use Rattle.dtx_packet_jobs.specs.DvbRead.{bytes_of_reads};
 ghost use Rattle.dtx_packet_jobs.specs.DvbReading.{IsBounded, HasGathered, IsReading};
 
-use crate::dvb_shapes::blocks;
+use crate::dvb_shapes::{BATCH_BYTES, BATCH_PACKETS, blocks};
 use dtx_dvb::{BLOCK, DvbIn, FOUR, FOUR_BLOCKS, WAITING};
 use dtx_engine::{Buffer, Engine, Shape};
 use dtx_forms::Transforming;
@@ -21,10 +21,27 @@ use std::alloc::{AllocError, Global};
 /// Room for the packets that a piece brings, in bytes.
 const READ_BYTES: usize = PACKET * PIECE_PACKETS;
 
-/// Reads a stream back, four blocks at once where it can, and counts what comes of them.
+/// How many fours of blocks a batch has.
+const BATCH_FOURS: usize = BATCH_PACKETS / FOUR;
+
+/// The packets of a batch, in fours.
+type PacketRoom = [[[u8; PACKET]; FOUR]; BATCH_FOURS];
+
+/// The answers of a batch's blocks, in fours.
+type AnswerRoom = [[Taken; FOUR]; BATCH_FOURS];
+
+/// Reads a stream back. The blocks of a piece go in batches of whole fours, and its last few one by one.
 #[derive(Drop)]
 pub(crate) struct DvbReading {
     reader: Box<DvbIn>,
+    packets: Box<PacketRoom>,
+    taken: Box<AnswerRoom>,
+    gathered: Gathered,
+}
+
+/// What came of the blocks that were read.
+#[derive(Drop)]
+struct Gathered {
     /// The packets that the last piece brought, one behind another.
     packets: Buffer<READ_BYTES>,
     /// The number of blocks given so far.
@@ -36,65 +53,76 @@ pub(crate) struct DvbReading {
 }
 
 impl DvbReading {
-    /// Reads the blocks of a piece.
-    fn read(&mut self, bytes: &[u8])
-        requires whole { length bytes.now % BLOCK ≡ 0 }
-        requires room { length self.old.packets + PACKET * (length bytes.now / BLOCK) ≤ READ_BYTES }
-        requires most { self.old.blocks + length bytes.now / BLOCK ≤ MOST_PACKETS }
-        requires bounded { IsBounded self.old self.old.blocks }
+    /// Reads the blocks of a piece. Afterwards `bytes` holds other bytes.
+    fn read(&mut self, bytes: &mut [u8])
+        requires whole { length bytes.old % BLOCK ≡ 0 }
+        requires room { length self.old.gathered.packets + PACKET * (length bytes.old / BLOCK) ≤ READ_BYTES }
+        requires most { self.old.gathered.blocks + length bytes.old / BLOCK ≤ MOST_PACKETS }
+        requires bounded { IsBounded self.old.gathered }
         ensures read { (given before : List ℕ) → IsReading self.old given before
-            → IsReading self.new (given ++ bytes.now) before }
-        ensures blocks { self.new.blocks ≡ self.old.blocks + length bytes.now / BLOCK }
-        ensures bounded { IsBounded self.new self.new.blocks }
+            → IsReading self.new (given ++ bytes.old) before }
+        ensures blocks { self.new.gathered.blocks ≡ self.old.gathered.blocks + length bytes.old / BLOCK }
+        ensures bounded { IsBounded self.new.gathered }
     {
-        let (fours, rest) = bytes.as_chunks::<FOUR_BLOCKS>();
+        let (fours, rest) = bytes.split_at_mut(FOUR_BLOCKS * (bytes.len() / FOUR_BLOCKS));
         self.read_fours(fours);
         let (each, _) = rest.as_chunks::<BLOCK>();
         self.read_each(each);
     }
 
-    /// Reads blocks in fours.
-    fn read_fours(&mut self, fours: &[[u8; FOUR_BLOCKS]])
-        requires room { length self.old.packets + PACKET * (FOUR * length fours.now) ≤ READ_BYTES }
-        requires most { self.old.blocks + FOUR * length fours.now ≤ MOST_PACKETS }
-        requires bounded { IsBounded self.old self.old.blocks }
+    /// Reads whole fours of blocks, a batch at a time. Afterwards `bytes` holds other bytes.
+    fn read_fours(&mut self, bytes: &mut [u8])
+        requires whole { length bytes.old % FOUR_BLOCKS ≡ 0 }
+        requires room { length self.old.gathered.packets + PACKET * (length bytes.old / BLOCK) ≤ READ_BYTES }
+        requires most { self.old.gathered.blocks + length bytes.old / BLOCK ≤ MOST_PACKETS }
+        requires bounded { IsBounded self.old.gathered }
         ensures read { (given before : List ℕ) → IsReading self.old given before
-            → IsReading self.new (given ++ flat_map (λ four. four) fours.now) before }
-        ensures blocks { self.new.blocks ≡ self.old.blocks + FOUR * length fours.now }
-        ensures bounded { IsBounded self.new self.new.blocks }
-        ensures long { length self.new.packets ≤ length self.old.packets + PACKET * (FOUR * length fours.now) }
+            → IsReading self.new (given ++ bytes.old) before }
+        ensures blocks { self.new.gathered.blocks ≡ self.old.gathered.blocks + length bytes.old / BLOCK }
+        ensures bounded { IsBounded self.new.gathered }
+        ensures long { length self.new.gathered.packets
+            ≤ length self.old.gathered.packets + PACKET * (length bytes.old / BLOCK) }
     {
-        for i in 0..fours.len() {
-            self.read_four(&fours[i]);
+        let mut done = 0;
+        while done < bytes.len() {
+            let end = (done + BATCH_BYTES).min(bytes.len());
+            self.read_batch(&mut bytes[done..end]);
+            done = end;
         }
     }
 
-    /// Reads four blocks together.
-    fn read_four(&mut self, four: &[u8; FOUR_BLOCKS])
-        requires room { length self.old.packets + PACKET * FOUR ≤ READ_BYTES }
-        requires most { self.old.blocks + FOUR ≤ MOST_PACKETS }
-        requires bounded { IsBounded self.old self.old.blocks }
+    /// Reads whole fours of blocks together, at most a batch. Afterwards `bytes` holds other bytes.
+    fn read_batch(&mut self, bytes: &mut [u8])
+        requires whole { length bytes.old % FOUR_BLOCKS ≡ 0 }
+        requires few { length bytes.old ≤ BATCH_BYTES }
+        requires room { length self.old.gathered.packets + PACKET * (length bytes.old / BLOCK) ≤ READ_BYTES }
+        requires most { self.old.gathered.blocks + length bytes.old / BLOCK ≤ MOST_PACKETS }
+        requires bounded { IsBounded self.old.gathered }
         ensures read { (given before : List ℕ) → IsReading self.old given before
-            → IsReading self.new (given ++ four.now) before }
-        ensures blocks { self.new.blocks ≡ self.old.blocks + FOUR }
-        ensures bounded { IsBounded self.new self.new.blocks }
-        ensures long { length self.new.packets ≤ length self.old.packets + PACKET * FOUR }
+            → IsReading self.new (given ++ bytes.old) before }
+        ensures blocks { self.new.gathered.blocks ≡ self.old.gathered.blocks + length bytes.old / BLOCK }
+        ensures bounded { IsBounded self.new.gathered }
+        ensures long { length self.new.gathered.packets
+            ≤ length self.old.gathered.packets + PACKET * (length bytes.old / BLOCK) }
     {
-        let mut bytes = *four;
-        let mut packets = [[0; PACKET]; FOUR];
-        let taken = self.reader.four(&mut bytes, &mut packets);
-        self.gather_four(&taken, &packets);
+        read_through(
+            &mut self.reader,
+            bytes,
+            &mut self.packets,
+            &mut self.taken,
+            &mut self.gathered,
+        );
     }
 
     /// Reads blocks one by one.
     fn read_each(&mut self, each: &[[u8; BLOCK]])
-        requires room { length self.old.packets + PACKET * length each.now ≤ READ_BYTES }
-        requires most { self.old.blocks + length each.now ≤ MOST_PACKETS }
-        requires bounded { IsBounded self.old self.old.blocks }
+        requires room { length self.old.gathered.packets + PACKET * length each.now ≤ READ_BYTES }
+        requires most { self.old.gathered.blocks + length each.now ≤ MOST_PACKETS }
+        requires bounded { IsBounded self.old.gathered }
         ensures read { (given before : List ℕ) → IsReading self.old given before
             → IsReading self.new (given ++ flat_map (λ block. block) each.now) before }
-        ensures blocks { self.new.blocks ≡ self.old.blocks + length each.now }
-        ensures bounded { IsBounded self.new self.new.blocks }
+        ensures blocks { self.new.gathered.blocks ≡ self.old.gathered.blocks + length each.now }
+        ensures bounded { IsBounded self.new.gathered }
     {
         for i in 0..each.len() {
             self.read_one(&each[i]);
@@ -103,36 +131,37 @@ impl DvbReading {
 
     /// Reads one block.
     fn read_one(&mut self, block: &[u8; BLOCK])
-        requires room { length self.old.packets + PACKET ≤ READ_BYTES }
-        requires most { self.old.blocks < MOST_PACKETS }
-        requires bounded { IsBounded self.old self.old.blocks }
+        requires room { length self.old.gathered.packets + PACKET ≤ READ_BYTES }
+        requires most { self.old.gathered.blocks < MOST_PACKETS }
+        requires bounded { IsBounded self.old.gathered }
         ensures read { (given before : List ℕ) → IsReading self.old given before
             → IsReading self.new (given ++ block.now) before }
-        ensures blocks { self.new.blocks ≡ self.old.blocks + 1 }
-        ensures bounded { IsBounded self.new self.new.blocks }
-        ensures long { length self.new.packets ≤ length self.old.packets + PACKET }
+        ensures blocks { self.new.gathered.blocks ≡ self.old.gathered.blocks + 1 }
+        ensures bounded { IsBounded self.new.gathered }
+        ensures long { length self.new.gathered.packets ≤ length self.old.gathered.packets + PACKET }
     {
         let mut packet = Packet([0; PACKET]);
         let taken = self.reader.block(block, &mut packet);
-        self.gather(taken, &packet.0);
+        self.gathered.gather(taken, &packet.0);
     }
+}
 
-    /// Counts four blocks and appends what they give, each as `gather` does.
-    fn gather_four(&mut self, taken: &[Taken; FOUR], packets: &[[u8; PACKET]; FOUR])
-        requires room { length self.old.packets + PACKET * FOUR ≤ READ_BYTES }
-        requires most { self.old.blocks + FOUR ≤ MOST_PACKETS }
-        requires bounded { IsBounded self.old self.old.blocks }
+impl Gathered {
+    /// Counts the blocks of a batch and appends what they give, each as `gather` does.
+    fn gather_batch(&mut self, taken: &[[Taken; FOUR]], packets: &[[[u8; PACKET]; FOUR]])
+        requires same { length taken.now ≡ length packets.now }
+        requires room { length self.old.packets + PACKET * (FOUR * length packets.now) ≤ READ_BYTES }
+        requires most { self.old.blocks + FOUR * length packets.now ≤ MOST_PACKETS }
+        requires bounded { IsBounded self.old }
         ensures gathered { (reads : List Read) (before : List ℕ) → HasGathered self.old reads before
-            → HasGathered self.new (reads
-            ++ flat_map (λ p. given (slice_index_or taken.now p Taken.None) (slice_index_or packets.now p []))
-            (range_with_len 0 FOUR)) before }
-        ensures reader { self.new.reader ≡ self.old.reader }
-        ensures blocks { self.new.blocks ≡ self.old.blocks + FOUR }
-        ensures bounded { IsBounded self.new self.new.blocks }
-        ensures long { length self.new.packets ≤ length self.old.packets + PACKET * FOUR }
+            → HasGathered self.new (reads ++ all_given taken.now packets.now) before }
+        ensures blocks { self.new.blocks ≡ self.old.blocks + FOUR * length packets.now }
+        ensures bounded { IsBounded self.new }
+        ensures long { length self.new.packets
+            ≤ length self.old.packets + PACKET * (FOUR * length packets.now) }
     {
-        for p in 0..FOUR {
-            self.gather(taken[p], &packets[p]);
+        for p in 0..FOUR * packets.len() {
+            self.gather(taken[p / FOUR][p % FOUR], &packets[p / FOUR][p % FOUR]);
         }
     }
 
@@ -140,12 +169,11 @@ impl DvbReading {
     fn gather(&mut self, taken: Taken, packet: &[u8; PACKET])
         requires room { length self.old.packets + PACKET ≤ READ_BYTES }
         requires most { self.old.blocks < MOST_PACKETS }
-        requires bounded { IsBounded self.old self.old.blocks }
+        requires bounded { IsBounded self.old }
         ensures gathered { (reads : List Read) (before : List ℕ) → HasGathered self.old reads before
             → HasGathered self.new (reads ++ given taken packet.now) before }
-        ensures reader { self.new.reader ≡ self.old.reader }
         ensures blocks { self.new.blocks ≡ self.old.blocks + 1 }
-        ensures bounded { IsBounded self.new self.new.blocks }
+        ensures bounded { IsBounded self.new }
         ensures long { length self.new.packets ≤ length self.old.packets + PACKET }
     {
         self.blocks += 1;
@@ -168,7 +196,7 @@ impl Engine for DvbReading {
 
     ghost stands = { WasRead };
 
-    ghost gives = { λ s _. only s.packets };
+    ghost gives = { λ s _. only s.gathered.packets };
 
     ghost zeros = { λ _. 0 };
 
@@ -181,20 +209,20 @@ impl Engine for DvbReading {
     }
 
     fn feed(&mut self, _first: u64, bytes: &mut [u8]) {
-        self.packets.clear();
+        self.gathered.packets.clear();
         self.read(bytes);
     }
 
     fn finish(&mut self, loose: usize) -> Outcome {
-        self.packets.clear();
-        let packets = self.blocks.saturating_sub(WAITING as u64);
+        self.gathered.packets.clear();
+        let packets = self.gathered.blocks.saturating_sub(WAITING as u64);
         Outcome {
             status: Status::Done,
             numbers: [
-                self.blocks,
+                self.gathered.blocks,
                 packets,
-                self.fixed,
-                self.flagged,
+                self.gathered.fixed,
+                self.gathered.flagged,
                 loose as u64,
                 0,
                 0,
@@ -208,7 +236,7 @@ impl Engine for DvbReading {
     }
 
     fn made<'a>(&'a self, _bytes: &'a [u8]) -> &'a [u8] {
-        self.packets.bytes()
+        self.gathered.packets.bytes()
     }
 
     fn log(&self) -> &[u8] {
@@ -232,14 +260,47 @@ impl Transforming for DvbReading {
     fn new(alloc: Global) -> Result<DvbReading, AllocError> {
         Ok(DvbReading {
             reader: Box::new(alloc, DvbIn::new(alloc)?)?,
-            packets: Buffer::new(alloc)?,
-            blocks: 0,
-            fixed: 0,
-            flagged: 0,
+            packets: Box::new(alloc, [[[0; PACKET]; FOUR]; BATCH_FOURS])?,
+            taken: Box::new(alloc, [[Taken::None; FOUR]; BATCH_FOURS])?,
+            gathered: Gathered {
+                packets: Buffer::new(alloc)?,
+                blocks: 0,
+                fixed: 0,
+                flagged: 0,
+            },
         })
     }
 
     ghost knows = { dvb_read_knows };
+}
+
+/// Does the work of `read_batch`. The caller lends the room for what the blocks give.
+fn read_through(
+    reader: &mut DvbIn,
+    bytes: &mut [u8],
+    packets: &mut PacketRoom,
+    taken: &mut AnswerRoom,
+    gathered: &mut Gathered,
+)
+    requires whole { length bytes.old % FOUR_BLOCKS ≡ 0 }
+    requires few { length bytes.old ≤ BATCH_BYTES }
+    requires room { length gathered.old.packets + PACKET * (length bytes.old / BLOCK) ≤ READ_BYTES }
+    requires most { gathered.old.blocks + length bytes.old / BLOCK ≤ MOST_PACKETS }
+    requires bounded { IsBounded gathered.old }
+    ensures stands { (given : List ℕ) → HasRead given reader.old → HasRead (given ++ bytes.old) reader.new }
+    ensures gathered { (given before : List ℕ) → HasRead given reader.old
+        → HasGathered gathered.old (read_dvb given) before
+        → HasGathered gathered.new (read_dvb (given ++ bytes.old)) before }
+    ensures blocks { gathered.new.blocks ≡ gathered.old.blocks + length bytes.old / BLOCK }
+    ensures bounded { IsBounded gathered.new }
+    ensures long { length gathered.new.packets
+        ≤ length gathered.old.packets + PACKET * (length bytes.old / BLOCK) }
+{
+    let fours = bytes.len() / FOUR_BLOCKS;
+    let packets = &mut packets[..fours];
+    let taken = &mut taken[..fours];
+    reader.batch(bytes, packets, taken);
+    gathered.gather_batch(taken, packets);
 }
 
 /// How many bytes of the word were put right.

@@ -12,6 +12,14 @@ use dtx_sizes::{MOST_PACKETS, PACKET};
 /// the output. So they go straight to the output's file, but for parts of a page, which are gathered first.
 pub const DVB_PIECE_PACKETS: usize = 696;
 
+/// How many packets, or blocks, go through the interleaver in one call, both ways: a multiple of four. A call costs
+/// something for each branch, however few bytes come, and with 13,056 bytes that is little. A batch's blocks and
+/// packets are 25 kB, which still fit a processor's first cache.
+pub const BATCH_PACKETS: usize = 64;
+
+/// The blocks of a batch, in bytes.
+pub const BATCH_BYTES: usize = BLOCK * BATCH_PACKETS;
+
 /// Packets of 188 bytes that are sent as blocks of 204 (EN 300 429). Each packet is a unit of its own.
 pub fn dvb_packets() -> Shape
     ensures same { result ≡ shapes.dvb_packets }

@@ -7,7 +7,7 @@ abbrev pub invariant-loop-i : goal.invariant-loop-i
 invariant-loop-i l = record {
   read : (given before : List ℕ) → IsReading l.fn.self given before
       → IsReading l.self (given ++ flat_map (λ block. block) (take l.i l.each)) before;
-  blocks : l.self.blocks ≡ l.fn.self.blocks + l.i;
-  bounded : IsBounded l.self l.self.blocks;
-  long : length l.self.packets ≤ length l.fn.self.packets + 188 * l.i;
+  blocks : l.self.gathered.blocks ≡ l.fn.self.gathered.blocks + l.i;
+  bounded : IsBounded l.self.gathered;
+  long : length l.self.gathered.packets ≤ length l.fn.self.gathered.packets + 188 * l.i;
 }

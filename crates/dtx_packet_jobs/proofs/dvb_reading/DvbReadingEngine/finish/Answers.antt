@@ -20,5 +20,5 @@ returns-clause-outcome c = λ given stand.
     let state = c.args.self.now in
     let packets : c.saturating_sub-packets.result ≡ length (read_dvb given) =
     omega (arith, c.saturating_sub-packets.ensures, stand.blocks, length-read given) in
-    ap₂ (λ (b p : ℕ). done b p state.fixed state.flagged c.args.loose) stand.blocks packets
+    ap₂ (λ (b p : ℕ). done b p state.gathered.fixed state.gathered.flagged c.args.loose) stand.blocks packets
     ∙ ap₂ (λ (f g : ℕ). done (whole_blocks given) (length (read_dvb given)) f g c.args.loose) stand.fixed stand.flagged

@@ -1,6 +1,6 @@
 use Rattle.dtx_packet_jobs.proofs.DvbReads.{gathered_on}
 use Rattle.std.proofs.Common.{ap, ◌++◌, ◌∙◌, ◌+◌, ℕ}
-use Rattle.dtx_packet_jobs.proofs.dvb_reading.DvbReading.gather.Goals as goal
+use Rattle.dtx_packet_jobs.proofs.dvb_reading.Gathered.gather.Goals as goal
 
 pub returns-clause-gathered : goal.returns-clause-gathered
 returns-clause-gathered c = λ reads before was.
