@@ -8,7 +8,6 @@ mod correcting;
 mod encoding;
 mod groups;
 mod mending;
-mod ringing;
 mod sending;
 mod spreading;
 mod times;
@@ -21,7 +20,6 @@ use correcting::print_correct_times;
 use encoding::{print_check, print_encode_times};
 use groups::print_trellis_times;
 use mending::print_mend_times;
-use ringing::print_ring_times;
 use sending::print_group_times;
 use spreading::print_spread_times;
 use std::alloc::Global;
@@ -42,14 +40,13 @@ fn print_times(rt: &(impl Clock + Print), alloc: Global, word: &str) -> io::Resu
         "correct" => print_correct_times(rt),
         "whiten" => print_whiten_times(rt, alloc),
         "spread" => print_spread_times(rt, alloc),
-        "rings" => print_ring_times(rt, alloc),
         "outer" => print_outer_times(rt, alloc),
         "trellis" => print_trellis_times(rt),
         "group" => print_group_times(rt, alloc),
         "proves" => print_proves_times(rt, alloc),
         "mend" => print_mend_times(rt),
         _ => rt.println(
-            "usage: dtx_bench [encode|correct|whiten|spread|rings|outer|trellis|group|proves|mend]",
+            "usage: dtx_bench [encode|correct|whiten|spread|outer|trellis|group|proves|mend]",
         ),
     }
 }

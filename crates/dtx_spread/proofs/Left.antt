@@ -1,115 +1,208 @@
--- What leaves, and what stays in the branches, while any bytes come.
-use Rattle.std.proofs.Common.{◌≡◌, ℕ, zero, suc, ◌+◌, ◌-◌, ◌*◌, ◌%◌, ◌<◌, ◌⊎◌, inl, inr, List, [], ◌∷◌, length}
-use Rattle.std.proofs.Common.{get_or, take, drop, sym, ap, ap₂, ◌∙◌, arith}
-use Rattle.std.proofs.Common.{add-zero}
-use Rattle.std.proofs.lemmas.Bool.{cases_eq}
-use Rattle.std.proofs.lemmas.List.{get_or-drop, get_or-take, ext_get_or}
-use Rattle.std.proofs.Math.Nat.{add-mod_left, mod-add-mod, mod-eq_of_lt}
-use Rattle.dtx_laws.specs.Branches.{leaving_all, after_all}
-use Rattle.dtx_laws.proofs.PlacesLemmas.{length_leaving}
-use Rattle.dtx_spread.specs.Block.{branches_in, following, AreLeft, AreWidths}
-use Rattle.dtx_spread.proofs.Ahead.{following_end, following_on, following_less}
-use Rattle.dtx_spread.proofs.InBlock.{leaves, branches_byte, branches_moved}
+-- What leaves, and what stays in the branches, where the bytes at all places have gone through.
+use Rattle.std.proofs.Common.{◌≡◌, ℕ, suc, ◌+◌, ◌-◌, ◌*◌, ◌/◌, ◌%◌, ◌<◌, ◌≤◌, ◌⊎◌, inl, inr, List, [], ◌∷◌}
+use Rattle.std.proofs.Common.{◌++◌, length, get_or, drop, sym, ap, ap₂, subst, subst₂, ◌∙◌, arith, add-zero}
+use Rattle.std.proofs.Common.{◌==◌, set, mod-eq_of_lt, div-add-mod', add-mul}
+use Rattle.std.proofs.lemmas.Bool.{cases_lt, cases_eq, cond-true, cond-false, eq-eqb, ne_eqb}
+use Rattle.std.proofs.lemmas.Nat.{mod_below, div-mul-add, mod-mul-add}
+use Rattle.std.proofs.lemmas.List.{ext_get_or, length-append, length-drop, get_or-drop, get_or_append_left}
+use Rattle.std.proofs.lemmas.List.{get_or-append_right}
+use Rattle.dtx_laws.specs.Branches.{Branching, HasWidths, after_byte, leaving_all, after_all}
+use Rattle.dtx_laws.proofs.PlacesLemmas.{Holds, Holds-step, Holds-turn, Stands, leaving_all_is, length_leaving}
+use Rattle.dtx_spread.specs.Rings.{branch_at, count_at, column, ArePassed}
+use Rattle.dtx_spread.proofs.Turns.{place_of, later, later_from, later_before, branch_there, place_less, IsTurn, turns}
+use Rattle.dtx_spread.proofs.Turns.{row_counts, from_row, come_early, come_late}
+use Rattle.dtx_spread.proofs.Column.{length-column, column_at}
 
--- the branch of a byte further on
-pub turn_further : (b next n k : ℕ) → (next + (n + k)) % b ≡ ((next + n) % b + k) % b
-turn_further b next n k = ap (λ x. x % b) (parts next n k) ∙ sym (mod-add-mod (next + n) b k)
-  where
-    parts : (a n k : ℕ) → a + (n + k) ≡ a + n + k
-    parts a n k = omega arith
+-- all that stands in branch i while the bytes come, by turns
+ever : ℕ → Branching → List ℕ → ℕ → ℕ → ℕ
+ever b v xs i t = get_or (get_or v.lists i [] ++ column b xs (place_of b v.next i)) (t - later v.next i) 0
 
--- the branch of a byte is counted from the one behind this as well
-turn_next : (b next k : ℕ) → next < b → (following b next + k) % b ≡ (next + suc k) % b
-turn_next b next k l = by_cases (cases_eq (next + 1) b)
+begin : (b : ℕ) (w : ℕ → ℕ) (v : Branching) (xs : List ℕ) → HasWidths b w v
+    → Holds b w (ever b v xs) 0 v.next v.lists
+unfolding ever
+begin b w v xs h = record {
+  count = h.count;
+  long = h.long;
+  early = λ i j l k. sym (in_list i (0 + 1 + j - later v.next i) (omega arith)
+      (omega (arith, h.long i (omega (arith, h.next)), later_before v.next i l))
+      ∙ ap (λ n. get_or (get_or v.lists i []) n 0) (omega (arith, later_before v.next i l)));
+  late = λ i j l m k. sym (in_list i (0 + j - later v.next i) m (omega (arith, h.long i m))
+      ∙ ap (λ n. get_or (get_or v.lists i []) n 0) (omega (arith, later_from v.next i l)));
+}
   where
-    by_cases : (next + 1 ≡ b) ⊎ (next + 1 ≡ b → ⊥) → (following b next + k) % b ≡ (next + suc k) % b
-    by_cases (inl e) = ap (λ x. (x + k) % b) (following_end b next e) ∙ ap (λ x. x % b) (none k)
-        ∙ sym (add-mod_left b k) ∙ ap (λ x. x % b) (omega (arith, e))
+    in_list : (i n : ℕ) → i < b → n < length (get_or v.lists i [])
+        → get_or (get_or v.lists i [] ++ column b xs (place_of b v.next i)) n 0 ≡ get_or (get_or v.lists i []) n 0
+    in_list i n m l = get_or_append_left (get_or v.lists i []) (column b xs (place_of b v.next i)) 0 n l
+
+-- ones that are below b have no turn behind them
+no_turn : (b n : ℕ) → n < b → 0 ≡ n / b
+no_turn b n l = sym (ap (λ x. x / b) (none b n) ∙ div-mul-add 0 b n l)
+  where
+    none : (b n : ℕ) → n ≡ 0 * b + n
+    none b n = omega arith
+
+stands : (b : ℕ) (w : ℕ → ℕ) (v : Branching) (xs : List ℕ) → HasWidths b w v → Stands b w (ever b v xs) v.next v
+stands b w v xs h = (
+  sym (mod-eq_of_lt h.next),
+  subst₂ (λ (q r : ℕ). Holds b w (ever b v xs) q r v.lists) (no_turn b v.next h.next) (sym (mod-eq_of_lt h.next))
+      (begin b w v xs h),
+)
+
+comes : (b : ℕ) (w : ℕ → ℕ) (v : Branching) (xs : List ℕ) → HasWidths b w v → (k : ℕ) → k < length xs
+    → get_or xs k 0 ≡ ever b v xs ((v.next + k) % b) ((v.next + k) / b + w ((v.next + k) % b))
+unfolding ever
+comes b w v xs h k l =
+    let i : ℕ = (v.next + k) % b in
+    let o : 0 < b = omega (arith, h.next) in
+    let t : IsTurn b v.next k = turns b v.next k h.next in
+    let m : length (get_or v.lists ((v.next + k) % b) []) ≡ w ((v.next + k) % b) =
+    h.long ((v.next + k) % b) (mod_below (v.next + k) b o) in
+    let e : (v.next + k) / b + w ((v.next + k) % b) - later v.next ((v.next + k) % b)
+    ≡ w ((v.next + k) % b) + k / b = omega (arith, t.turn) in
+    sym (ap₂ (λ p n. get_or (get_or v.lists ((v.next + k) % b) [] ++ column b xs p) n 0) t.place e
+    ∙ get_or-append_right (get_or v.lists ((v.next + k) % b) []) (column b xs (k % b)) (w ((v.next + k) % b))
+    (w ((v.next + k) % b) + k / b) 0 m (omega arith)
+    ∙ ap (λ n. get_or (column b xs (k % b)) n 0) (back (w ((v.next + k) % b)) (k / b))
+    ∙ column_at b xs (k % b) (k / b) (row_counts b (length xs) k o l)
+    ∙ ap (λ n. get_or xs n 0) (from_row b k))
+  where
+    back : (a c : ℕ) → a + c - a ≡ c
+    back a c = omega arith
+
+-- one byte further
+one_more : (b : ℕ) (w : ℕ → ℕ) (e : ℕ → ℕ → ℕ) (n : ℕ) (v : Branching) (byte : ℕ) → 0 < b → Stands b w e n v
+    → byte ≡ e (n % b) (n / b + w (n % b)) → Stands b w e (n + 1) (after_byte b v byte)
+one_more b w e n v byte p s c = by_cases (cases_eq (n % b + 1) b)
+  where
+    l : n % b < b
+    l = mod_below n b p
+
+    lists : List (List ℕ)
+    lists = set v.lists v.next (drop 1 (get_or v.lists v.next [] ++ byte ∷ []))
+
+    stepped : Holds b w e (n / b) (n % b + 1) lists
+    stepped =
+        subst (λ (x : ℕ). Holds b w e (n / b) (n % b + 1) (set v.lists x (drop 1 (get_or v.lists x [] ++ byte ∷ []))))
+        (sym s.0)
+        (subst (λ (x : ℕ). Holds b w e (n / b) x
+        (set v.lists (n % b) (drop 1 (get_or v.lists (n % b) [] ++ byte ∷ [])))) (suc_is (n % b))
+        (Holds-step b w e (n / b) (n % b) v.lists byte s.1 l c))
       where
-        none : (k : ℕ) → 0 + k ≡ k
-        none k = omega arith
-    by_cases (inr n) = ap (λ x. (x + k) % b) (following_on b next n) ∙ ap (λ x. x % b) (further next k)
-      where
-        further : (a k : ℕ) → a + 1 + k ≡ a + suc k
-        further a k = omega arith
+        suc_is : (r : ℕ) → suc r ≡ r + 1
+        suc_is r = omega arith
 
--- these bytes stand in the block from here on
-abbrev pub StandFrom : List ℕ → List ℕ → ℕ → Type 0
-StandFrom block bytes end = (k : ℕ) → k < length bytes → get_or bytes k 0 ≡ get_or block (end + k) 0
-
-stand_on : (block bytes : List ℕ) (x place held : ℕ) → StandFrom block (x ∷ bytes) (place + held)
-    → StandFrom block bytes (place + 1 + held)
-stand_on block bytes x place held h = λ k l. h (suc k) (omega (arith, l)) ∙ ap (λ n. get_or block n 0) (on place held k)
-  where
-    on : (a c k : ℕ) → a + c + suc k ≡ a + 1 + c + k
-    on a c k = omega arith
+    by_cases : (n % b + 1 ≡ b) ⊎ (n % b + 1 ≡ b → ⊥) → Stands b w e (n + 1) (after_byte b v byte)
+    by_cases (inl f) =
+        let h : n + 1 ≡ (n / b + 1) * b + 0 = omega (arith, div-add-mod' n b, add-mul (n / b) 1 b) in
+        let d : (n + 1) / b ≡ n / b + 1 = ap (λ x. x / b) h ∙ div-mul-add (n / b + 1) b 0 p in
+        let m : (n + 1) % b ≡ 0 = ap (λ x. x % b) h ∙ mod-mul-add (n / b + 1) b 0 p in (
+          cond-true (v.next + 1 == b) 0 (v.next + 1) (eq-eqb (v.next + 1) b (omega (arith, s.0, f))) ∙ sym m,
+          subst₂ (λ (q r : ℕ). Holds b w e q r lists) (sym d) (sym m)
+              (Holds-turn b w e (n / b) lists (subst (λ (k : ℕ). Holds b w e (n / b) k lists) f stepped)),
+        )
+    by_cases (inr f) =
+        let h : n + 1 ≡ n / b * b + (n % b + 1) = omega (arith, div-add-mod' n b) in
+        let k : n % b + 1 < b = omega arith in
+        let d : (n + 1) / b ≡ n / b = ap (λ x. x / b) h ∙ div-mul-add (n / b) b (n % b + 1) k in
+        let m : (n + 1) % b ≡ n % b + 1 = ap (λ x. x % b) h ∙ mod-mul-add (n / b) b (n % b + 1) k in (
+          cond-false (v.next + 1 == b) 0 (v.next + 1) (ne_eqb (v.next + 1) b (λ g. f (omega (arith, s.0, g))))
+              ∙ ap (λ x. x + 1) s.0 ∙ sym m,
+          subst₂ (λ (q r : ℕ). Holds b w e q r lists) (sym d) (sym m) stepped,
+        )
 
 -- the branches after any bytes
-pub branches_all : (b m : ℕ) (lead w : ℕ → ℕ) (place next : ℕ) (xs block : List ℕ) → AreWidths b m lead w → next < b
-    → StandFrom block xs (place + b * m * (b - 1))
-    → branches_in b lead w (place + length xs) ((next + length xs) % b) block
-    ≡ after_all b (branches_in b lead w place next block) xs
+stands_all : (b : ℕ) (w : ℕ → ℕ) (e : ℕ → ℕ → ℕ) (n : ℕ) (v : Branching) (xs : List ℕ) → 0 < b → Stands b w e n v
+    → ((k : ℕ) → k < length xs → get_or xs k 0 ≡ e ((n + k) % b) ((n + k) / b + w ((n + k) % b)))
+    → Stands b w e (n + length xs) (after_all b v xs)
 unfolding after_all
-branches_all b m lead w place next [] block a p h =
-    ap₂ (λ n k. branches_in b lead w n k block) (add-zero place) (ap (λ n. n % b) (add-zero next) ∙ mod-eq_of_lt p)
-branches_all b m lead w place next (x ∷ xs) block a p h =
-    ap₂ (λ n k. branches_in b lead w n k block) (further place (length xs)) (sym (turn_next b next (length xs) p))
-    ∙ branches_all b m lead w (place + 1) (following b next) xs block a (following_less b next p)
-    (stand_on block xs x place (b * m * (b - 1)) h)
-    ∙ ap (λ v. after_all b v xs) (branches_byte b m lead w place next block x a p
-    (h 0 (omega arith) ∙ ap (λ n. get_or block n 0) (add-zero (place + b * m * (b - 1)))))
+stands_all b w e n v [] p s c = subst (λ (k : ℕ). Stands b w e k v) (sym (add-zero n)) s
+stands_all b w e n v (x ∷ xs) p s c =
+    let a : x ≡ e (n % b) (n / b + w (n % b)) = c 0 (omega arith)
+    ∙ ap (λ i. e (i % b) (i / b + w (i % b))) (add-zero n) in
+    subst (λ (k : ℕ). Stands b w e k (after_all b (after_byte b v x) xs)) (sym (further n (length xs)))
+    (stands_all b w e (n + 1) (after_byte b v x) xs p (one_more b w e n v x p s a)
+    (λ j m. c (suc j) (omega arith) ∙ ap (λ i. e (i % b) (i / b + w (i % b))) (further n j)))
   where
-    further : (a n : ℕ) → a + suc n ≡ a + 1 + n
-    further a n = omega arith
+    further : (n j : ℕ) → n + suc j ≡ n + 1 + j
+    further n j = omega arith
 
--- and what left
-pub leaves_at : (b m : ℕ) (lead w : ℕ → ℕ) (place next : ℕ) (xs block : List ℕ) (i : ℕ) → AreWidths b m lead w
-    → next < b → StandFrom block xs (place + b * m * (b - 1)) → i < length xs
-    → get_or (leaving_all b (branches_in b lead w place next block) xs) i 0
-    ≡ get_or block (place + i + b * lead ((next + i) % b)) 0
-unfolding leaving_all
-leaves_at b m lead w place next [] block i a p h l = absurd (omega (arith, l))
-leaves_at b m lead w place next (x ∷ xs) block zero a p h l =
-    sym (leaves b m lead w place next block x a p
-    (h 0 (omega arith) ∙ ap (λ n. get_or block n 0) (add-zero (place + b * m * (b - 1)))))
-    ∙ ap₂ (λ n k. get_or block (n + b * lead k) 0) (sym (add-zero place))
-    (sym (ap (λ n. n % b) (add-zero next) ∙ mod-eq_of_lt p))
-leaves_at b m lead w place next (x ∷ xs) block (suc i) a p h l =
-    ap (λ v. get_or (leaving_all b v xs) i 0) (sym (branches_byte b m lead w place next block x a p
-    (h 0 (omega arith) ∙ ap (λ n. get_or block n 0) (add-zero (place + b * m * (b - 1))))))
-    ∙ leaves_at b m lead w (place + 1) (following b next) xs block i a (following_less b next p)
-    (stand_on block xs x place (b * m * (b - 1)) h) (omega (arith, l))
-    ∙ ap₂ (λ n k. get_or block (n + b * lead k) 0) (further place i) (turn_next b next i p)
+-- ---- the two clauses of a pass
+
+pub passed_bytes : (b : ℕ) (w : ℕ → ℕ) (v : Branching) (new : List (List ℕ)) (bytes out : List ℕ) → HasWidths b w v
+    → ArePassed b v.next 0 b v.lists new bytes out → out ≡ leaving_all b v bytes
+unfolding ever
+passed_bytes b w v new bytes out h a =
+    ext_get_or 0 out (leaving_all b v bytes) (a.long ∙ sym (length_leaving b v bytes))
+    (λ k l. let n : k < length bytes = omega (arith, a.long) in
+    let t : IsTurn b v.next k = turns b v.next k h.next in
+    let e : (v.next + k) / b - later v.next ((v.next + k) % b) ≡ k / b = omega (arith, t.turn) in
+    a.left k n (omega arith) (mod_below k b o)
+    ∙ ap (λ i. get_or (get_or v.lists i [] ++ column b bytes (k % b)) (k / b) 0) t.branch
+    ∙ sym (leaving_all_is b w (ever b v bytes) v.next v bytes o (stands b w v bytes h) (comes b w v bytes h) k n
+    ∙ ap₂ (λ p i. get_or (get_or v.lists ((v.next + k) % b) [] ++ column b bytes p) i 0) t.place e))
   where
-    further : (a n : ℕ) → a + 1 + n ≡ a + suc n
-    further a n = omega arith
+    o : 0 < b
+    o = omega (arith, h.next)
 
--- ---- a pass: the bytes that are held have moved to `at`, and those that come stand behind them
+pub passed_branches : (b : ℕ) (w : ℕ → ℕ) (v : Branching) (new : List (List ℕ)) (bytes out : List ℕ) → HasWidths b w v
+    → ArePassed b v.next 0 b v.lists new bytes out
+    → record { next = (v.next + length bytes) % b; lists = new } ≡ after_all b v bytes
+unfolding ever
+passed_branches b w v new bytes out h a =
+    ap₂ view_of (sym s.0)
+    (ext_get_or [] new (after_all b v bytes).lists (a.count ∙ h.count ∙ sym s.1.count)
+    (λ i l. list i (omega (arith, a.count, h.count))))
+  where
+    view_of : ℕ → List (List ℕ) → Branching
+    view_of n ls = record { next = n; lists = ls }
 
-stand_from : (end : ℕ) (bytes block : List ℕ) → take (length bytes) (drop end block) ≡ bytes → StandFrom block bytes end
-stand_from end bytes block e =
-    λ k l. ap (λ ys. get_or ys k 0) (sym e) ∙ get_or-take (length bytes) (drop end block) k 0 l
-    ∙ get_or-drop end block k 0
+    o : 0 < b
+    o = omega (arith, h.next)
 
-pub pass_branches : (b m : ℕ) (lead w : ℕ → ℕ) (place next at turn : ℕ) (bytes block new : List ℕ)
-    → AreWidths b m lead w → next < b
-    → take (b * m * (b - 1)) (drop at new) ≡ take (b * m * (b - 1)) (drop place block)
-    → take (length bytes) (drop (at + b * m * (b - 1)) new) ≡ bytes → turn ≡ (next + length bytes) % b
-    → branches_in b lead w (at + length bytes) turn new ≡ after_all b (branches_in b lead w place next block) bytes
-pass_branches b m lead w place next at turn bytes block new a p e h t =
-    ap (λ n. branches_in b lead w (at + length bytes) n new) t
-    ∙ branches_all b m lead w at next bytes new a p (stand_from (at + b * m * (b - 1)) bytes new h)
-    ∙ ap (λ v. after_all b v bytes) (branches_moved b m lead w place next at block new a p e)
+    s : Stands b w (ever b v bytes) (v.next + length bytes) (after_all b v bytes)
+    s = stands_all b w (ever b v bytes) v.next v bytes o (stands b w v bytes h) (comes b w v bytes h)
 
-pub pass_bytes : (b m : ℕ) (lead w : ℕ → ℕ) (place next at : ℕ) (bytes block new out : List ℕ)
-    → AreWidths b m lead w → next < b
-    → take (b * m * (b - 1)) (drop at new) ≡ take (b * m * (b - 1)) (drop place block)
-    → take (length bytes) (drop (at + b * m * (b - 1)) new) ≡ bytes → length out ≡ length bytes
-    → AreLeft b lead new at next (length bytes) out → out ≡ leaving_all b (branches_in b lead w place next block) bytes
-pass_bytes b m lead w place next at bytes block new out a p e h n f =
-    ext_get_or 0 out (leaving_all b (branches_in b lead w at next new) bytes)
-    (n ∙ sym (length_leaving b (branches_in b lead w at next new) bytes))
-    (λ i l. let k : i < length bytes = omega (arith, l, n) in
-    f i k ∙ sym (leaves_at b m lead w at next bytes new i a p
-    (stand_from (at + b * m * (b - 1)) bytes new h) k))
-    ∙ ap (λ v. leaving_all b v bytes) (branches_moved b m lead w place next at block new a p e)
+    all : ℕ → List ℕ
+    all i = get_or v.lists i [] ++ column b bytes (place_of b v.next i)
+
+    kept : (i : ℕ) → i < b → get_or new i [] ≡ drop (count_at b (length bytes) (place_of b v.next i)) (all i)
+    kept i l =
+        let e : branch_at b v.next (place_of b v.next i) ≡ i = branch_there b v.next i h.next l in
+        ap (λ k. get_or new k []) (sym e)
+        ∙ a.kept (place_of b v.next i) (omega arith) (place_less b v.next i h.next l)
+        ∙ ap (λ k. drop (count_at b (length bytes) (place_of b v.next i))
+        (get_or v.lists k [] ++ column b bytes (place_of b v.next i))) e
+
+    long : (i : ℕ) → i < b → length (get_or new i []) ≡ w i
+    long i l = ap length (kept i l)
+        ∙ length-drop (count_at b (length bytes) (place_of b v.next i)) (all i)
+        ∙ omega (
+          arith,
+          length-append (get_or v.lists i []) (column b bytes (place_of b v.next i)),
+          length-column b bytes (place_of b v.next i),
+          h.long i l,
+        )
+
+    byte : (i j : ℕ) → i < b → j < w i
+        → get_or (get_or new i []) j 0 ≡ get_or (all i) (count_at b (length bytes) (place_of b v.next i) + j) 0
+    byte i j l m = ap (λ ys. get_or ys j 0) (kept i l)
+        ∙ get_or-drop (count_at b (length bytes) (place_of b v.next i)) (all i) j 0
+
+    by_turn : (i j : ℕ) → i < b → j < w i
+        → (i < (v.next + length bytes) % b) ⊎ ((v.next + length bytes) % b ≤ i)
+        → get_or (get_or new i []) j 0 ≡ get_or (get_or (after_all b v bytes).lists i []) j 0
+    by_turn i j l m (inl k) =
+        byte i j l m
+        ∙ ap (λ n. get_or (all i) n 0)
+        (omega (arith, come_early b v.next (length bytes) i h.next k))
+        ∙ sym (s.1.early i j k m)
+    by_turn i j l m (inr k) =
+        byte i j l m
+        ∙ ap (λ n. get_or (all i) n 0)
+        (omega (arith, come_late b v.next (length bytes) i h.next l k))
+        ∙ sym (s.1.late i j k l m)
+
+    list : (i : ℕ) → i < b → get_or new i [] ≡ get_or (after_all b v bytes).lists i []
+    list i l =
+        ext_get_or 0 (get_or new i []) (get_or (after_all b v bytes).lists i []) (long i l ∙ sym (s.1.long i l))
+        (λ j m. by_turn i j l (omega (arith, long i l)) (cases_lt i ((v.next + length bytes) % b)))

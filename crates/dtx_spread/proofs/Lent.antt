@@ -1,14 +1,47 @@
--- What a vector holds after its slice was lent whole, and what a part of a slice was replaced by.
-use Rattle.std.proofs.Common.{◌≡◌, ℕ, ◌+◌, ◌≤◌, List, ◌++◌, length, take, drop, sym, ap, ap₂, ◌∙◌, arith}
+-- What a vector holds after its slice was lent whole, and a pass that goes on behind another.
+use Rattle.std.proofs.Common.{◌≡◌, ℕ, ◌+◌, ◌%◌, ◌≤◌, List, ◌++◌, length, take, drop, map, replicate, sym, ap, ap₂}
+use Rattle.std.proofs.Common.{subst, ◌∙◌, arith}
+use Rattle.std.specs.List.{range_with_len}
 use Rattle.std.proofs.lemmas.List.{take_at, drop_at, drop-drop, length-take-le, append_assoc}
 use Rattle.std.proofs.Math.Seq.{take-add}
-use Rattle.dtx_laws.specs.Branches.{Branching, leaving_all, after_all}
+use Rattle.circular_buffer.specs.Buffer.{Buffer}
+use Rattle.dtx_laws.specs.Branches.{Branching, HasWidths, zeroed, leaving_all, after_all}
 use Rattle.dtx_laws.proofs.PlacesLemmas.{leaving_append, after_append, length_leaving}
+use Rattle.dtx_spread.specs.Rings.{lists_of, branches_of, ArePassed}
+use Rattle.dtx_spread.proofs.Left.{passed_bytes, passed_branches}
 use borrow.Rule.Slice.PartMut.{put_mid}
 
-pub lent_whole : (n : ℕ) (xs new : List ℕ) → n ≡ length xs → length new ≡ length xs
+lent_whole : {A : Type 0} (n : ℕ) (xs new : List A) → n ≡ length xs → length new ≡ length xs
     → take n (new ++ drop (length new) xs) ≡ new
 lent_whole n xs new e f = take_at new (drop (length new) xs) n (f ∙ sym e)
+
+-- rings of zeros
+pub zeroed_rings : (b n : ℕ) (w : ℕ → ℕ) (rings : List (Buffer ℕ)) → n ≡ b
+    → lists_of rings ≡ map (λ i. replicate (w i) 0) (range_with_len 0 n) → branches_of 0 rings ≡ zeroed b w
+unfolding zeroed
+zeroed_rings b n w rings e h =
+    ap (view_of 0) (h ∙ ap (λ k. map (λ i. replicate (w i) 0) (range_with_len 0 k)) e)
+  where
+    view_of : ℕ → List (List ℕ) → Branching
+    view_of k ls = record { next = k; lists = ls }
+
+-- the branches after a pass, and what left
+pub branches_after : (b : ℕ) (w : ℕ → ℕ) (next turn n : ℕ) (rings lent new : List (Buffer ℕ)) (bytes out : List ℕ)
+    → HasWidths b w (branches_of next rings) → lent ≡ rings → n ≡ length rings → length new ≡ length lent
+    → ArePassed b next 0 b (lists_of lent) (lists_of new) bytes out → turn ≡ (next + length bytes) % b
+    → branches_of turn (take n (new ++ drop (length new) rings)) ≡ after_all b (branches_of next rings) bytes
+branches_after b w next turn n rings lent new bytes out h e k l a t =
+    ap₂ branches_of t (lent_whole n rings new k (l ∙ ap length e))
+    ∙ passed_branches b w (branches_of next rings) (lists_of new) bytes out h
+    (subst (λ rs. ArePassed b next 0 b (lists_of rs) (lists_of new) bytes out) e a)
+
+pub bytes_after : (b : ℕ) (w : ℕ → ℕ) (next : ℕ) (rings lent new : List (Buffer ℕ)) (bytes out : List ℕ)
+    → HasWidths b w (branches_of next rings) → lent ≡ rings
+    → ArePassed b next 0 b (lists_of lent) (lists_of new) bytes out
+    → out ≡ leaving_all b (branches_of next rings) bytes
+bytes_after b w next rings lent new bytes out h e a =
+    passed_bytes b w (branches_of next rings) (lists_of new) bytes out h
+    (subst (λ rs. ArePassed b next 0 b (lists_of rs) (lists_of new) bytes out) e a)
 
 -- the bytes from place `done` on, replaced by those that leave
 pub passed_more : (b done count : ℕ) (v now : Branching) (old cur part new : List ℕ) → done + count ≤ length old
@@ -48,18 +81,3 @@ branches_more b done count v now new old cur part l e n p f =
 
     rest : drop done cur ≡ drop done old
     rest = ap (drop done) e ∙ drop_at (leaving_all b v (take done old)) (drop done old) done long
-
--- a vector's slice lent whole, twice
-pub lent_twice : (n : ℕ) (items first a second d : List ℕ) → n ≡ length items → first ≡ items → length a ≡ length first
-    → second ≡ take n (a ++ drop (length a) items) → length d ≡ length second
-    → (second ≡ a) × (take n (d ++ drop (length d) (take n (a ++ drop (length a) items))) ≡ d)
-    × (length d ≡ length items)
-lent_twice n items first a second d e f g h k =
-    let la : length a ≡ length items = g ∙ ap length f in
-    let w : take n (a ++ drop (length a) items) ≡ a = lent_whole n items a e la in
-    let ld : length d ≡ length a = k ∙ ap length (h ∙ w) in (
-      h ∙ w,
-      lent_whole n (take n (a ++ drop (length a) items)) d (e ∙ sym la ∙ sym (ap length w)) (ld
-          ∙ sym (ap length w)),
-      ld ∙ la,
-    )

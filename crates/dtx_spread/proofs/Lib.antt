@@ -1,5 +1,11 @@
-pub mod Ahead
-pub mod InBlock
+pub mod Turns
+pub mod Column
+pub mod Places
 pub mod Left
-pub mod Rows
 pub mod Lent
+pub mod Written
+pub mod Strips
+pub mod Tiling
+pub mod ShortCalls
+pub mod Filled
+pub mod Shuffling

@@ -1,2 +1,2 @@
-pub mod Block
-pub mod WidthsLaws
+pub mod Rings
+pub mod Tiles

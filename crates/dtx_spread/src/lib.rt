@@ -1,10 +1,15 @@
 //! The interleaver and the de-interleaver.
 #![tactic(auto)]
 
-mod block;
 mod branches;
 mod collect;
+mod columns;
+mod few;
+mod groups;
 mod lines;
+mod rings;
+mod scratch;
+mod tiles;
 mod widths;
 
 pub use branches::Branches;

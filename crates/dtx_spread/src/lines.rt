@@ -1,40 +1,37 @@
-//! Branches in one block, which holds their bytes in the order in which they came. The interleaver and the
-//! de-interleaver share them: `W` gives the branches' widths.
+//! Branches, each of which is a ring of its own. The interleaver and the de-interleaver share them: `W` gives the
+//! branches' widths.
 
-ghost use Rattle.std.specs.Prelude.{◌≡◌, ◌≤◌, length, IfOk};
+ghost use Rattle.std.specs.Prelude.{◌≡◌, ◌*◌, ◌<◌, length, map, IfOk};
+ghost use Rattle.std.specs.List.{range_with_len};
+ghost use Rattle.circular_buffer.specs.Buffer.{Buffer, buffer};
 ghost use Rattle.dtx_laws.specs.Branches.{IsInterleaver, HasWidths, zeroed, aligned, leaving_all, after_all};
 
-use crate::block::{make_room, through, turn_back};
+use crate::columns::ROWS;
+use crate::rings::{through, zeros};
+use crate::scratch::Columns;
 use crate::widths::Widths;
+use circular_buffer::HeapCircularBuffer;
 use std::alloc::{AllocError, Global};
 use std::marker::{Model, PhantomData};
 
-/// How many bytes a block takes before those that it holds move to its front.
-const ROOM: usize = 32_768;
-
 /// `B` branches, each of which holds as many bytes as its width in `W`.
-///
-/// From `place` on, the block keeps as many rows of `B` bytes as the longest branch holds bytes. The next byte is put
-/// behind them. The byte that leaves then stands behind `place`, by `B` for each byte that its branch holds fewer than
-/// the longest one.
 #[derive(Drop)]
 pub(crate) struct Lines<W: Widths<B, M>, const B: usize, const M: usize> {
     widths: PhantomData<W>,
     next: usize,
-    place: usize,
-    block: Vec<u8>,
+    rings: Vec<HeapCircularBuffer<u8>>,
+    columns: Columns,
 }
 
 impl<W: Widths<B, M>, const B: usize, const M: usize> Model for Lines<W, B, M> {
-    ghost use Rattle.dtx_laws.specs.Branches.{Branching};
-    ghost use Rattle.dtx_spread.specs.Block.{branches_in, IsBlock};
-    ghost use Rattle.dtx_spread.specs.declared.lines.TheConstants.{ROOM};
+    ghost use Rattle.dtx_laws.specs.Branches.{Branching, IsInterleaver, HasWidths};
+    ghost use Rattle.dtx_spread.specs.Rings.{branches_of};
 
     ghost Value = { Branching };
 
-    ghost view = { λ s. branches_in B W.lead W.widths s.place s.next s.block.items };
+    ghost view = { λ s. branches_of s.next s.rings.items };
 
-    ghost invariant = { λ s. IsBlock B M ROOM s.next s.place s.block.items };
+    ghost invariant = { λ s. IsInterleaver B M × HasWidths B W.widths (branches_of s.next s.rings.items) };
 }
 
 impl<W: Widths<B, M>, const B: usize, const M: usize> Lines<W, B, M> {
@@ -43,11 +40,15 @@ impl<W: Widths<B, M>, const B: usize, const M: usize> Lines<W, B, M> {
         requires { IsInterleaver B M }
         ensures { IfOk result (λ lines. lines ≡ zeroed B W.widths) }
     {
+        let mut rings = Vec::new(alloc);
+        for i in 0..B {
+            rings.push(zeros(alloc, W::width(i))?)?;
+        }
         Ok(Lines {
             widths: PhantomData,
             next: 0,
-            place: 0,
-            block: vec![in alloc; 0u8; B * M * (B - 1) + ROOM]?,
+            rings,
+            columns: Columns::new(),
         })
     }
 
@@ -66,9 +67,10 @@ impl<W: Widths<B, M>, const B: usize, const M: usize> Lines<W, B, M> {
         ensures bytes { bytes.new ≡ leaving_all B self.old bytes.old }
         ensures branches { self.new ≡ after_all B self.old bytes.old }
     {
+        self.known();
         let mut done = 0;
         while done < bytes.len() {
-            let count = (bytes.len() - done).min(ROOM);
+            let count = (bytes.len() - done).min((ROWS - 1) * B);
             self.pass_some(&mut bytes[done..done + count]);
             done += count;
         }
@@ -78,18 +80,16 @@ impl<W: Widths<B, M>, const B: usize, const M: usize> Lines<W, B, M> {
     pub(crate) fn align(&mut self)
         ensures { self.new ≡ aligned self.old }
     {
-        turn_back::<B, M>(&mut self.block, self.place, self.next);
         self.next = 0;
     }
 
     /// Replaces at most as many bytes as there is room for.
     fn pass_some(&mut self, bytes: &mut [u8])
-        requires { length bytes.old ≤ ROOM }
+        requires { length bytes.old < ROWS * B }
         ensures bytes { bytes.new ≡ leaving_all B self.old bytes.old }
         ensures branches { self.new ≡ after_all B self.old bytes.old }
     {
-        self.place = make_room(&mut self.block, self.place, B * M * (B - 1), bytes.len());
-        self.next = through::<W, B, M>(&mut self.block, self.place, self.next, bytes);
-        self.place += bytes.len();
+        through::<B>(&mut self.rings, self.next, bytes, &mut self.columns);
+        self.next = (self.next + bytes.len()) % B;
     }
 }

@@ -1,0 +1,10 @@
+use Rattle.std.proofs.Common.{◌≡◌, ℕ, ◌+◌, ◌*◌, ◌%◌, ◌<◌, ◌≤◌, ◌⊎◌, get_or}
+use Rattle.dtx_spread.proofs.groups.scatter.Given as goal
+
+abbrev pub invariant-loop-t : goal.invariant-loop-t
+invariant-loop-t g l = record {
+  put : (c k : ℕ) → c < g.row.W → k < l.t * 16
+      → get_or l.bytes (l.place + c + k * g.row.B) 0 ≡ get_or l.columns (c * 560 + k) 0;
+  others : (i : ℕ) → (i % g.row.B < l.place) ⊎ (l.place + g.row.W ≤ i % g.row.B)
+      → get_or l.bytes i 0 ≡ get_or l.fn.bytes i 0;
+}
