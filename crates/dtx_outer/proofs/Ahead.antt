@@ -10,7 +10,7 @@ use Rattle.dtx_outer.specs.declared.inner.Taken.{Taken}
 use Rattle.dtx_outer.proofs.Runs.{take_leaving, drop_leaving}
 
 -- the gatherer is no further than the words
-pub caught_up : (n k b m : ℕ) (e : Kept) (v : Branching) (y : List ℕ) → e.branches ≡ v
+caught_up : (n k b m : ℕ) (e : Kept) (v : Branching) (y : List ℕ) → e.branches ≡ v
     → StandsFor n k b m (record e { branches = v }) y → StandsFor n k b m e y
 caught_up n k b m e v y eb s = record {
   start = s.start;

@@ -149,20 +149,6 @@ impl<
         self.give_next(corrected, &word, out)
     }
 
-    /// Takes the next four blocks of a run, each as `take` does. The bytes that leave the gatherer replace the blocks.
-    pub fn take_four(&mut self, bytes: &mut [u8], outs: &mut [[u8; K]; 4]) -> [Taken; 4]
-        requires { length bytes.old ≡ N * 4 }
-        ensures taken { (y : List ℕ) (p : ℕ) → StandsFor N K B M self.old y → p < 4
-            → IsTaken N K B M self.old.white (y ++ take (N * p) bytes.old) (take N (drop (N * p) bytes.old))
-            (slice_index_or outs.old p []) (slice_index_or outs.new p []) (slice_index_or result p Taken.None) }
-        ensures stands { (y : List ℕ) → StandsFor N K B M self.old y → StandsFor N K B M self.new (y ++ bytes.old) }
-        ensures bytes { bytes.new ≡ leaving_all B self.old.branches bytes.old }
-        ensures white { self.new.white ≡ self.old.white }
-    {
-        self.gather.gather(bytes);
-        self.take_gathered(bytes, outs)
-    }
-
     /// Takes the next blocks of a run, four for each element of `outs`, each as `take` does. They go through the
     /// gatherer in one call, and the bytes that leave it replace them.
     pub fn take_fours(
