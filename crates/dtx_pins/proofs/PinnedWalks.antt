@@ -125,12 +125,12 @@ sums_more scale t u pin pins symbols old new mark small from to e l same h below
 pub one_walked : (scale t u : ℕ) (pins : List (List ℕ)) (rounds : List (List ℤ)) (old new : ℕ → List (List ℕ))
     (marks : List (List ℕ)) (entry : List ℕ) → scale ≤ 18 → u ≡ t + 1 → u ≤ length rounds
     → length marks ≡ length rounds
-    → ((e : ℕ) → (pos 0 ≤ℤ (get_or (get_or rounds t []) e (pos 0) +ℤ pos 128))
-    × (get_or (get_or rounds t []) e (pos 0) ≤ℤ pos 127))
+    → ((e : ℕ) → e < 12 → pos 0 ≤ℤ (get_or (get_or rounds t []) e (pos 0) +ℤ pos 128))
+    → ((e : ℕ) → e < 12 → get_or (get_or rounds t []) e (pos 0) ≤ℤ pos 127)
     → ((e : ℕ) → e < 12 → IsStep (weight scale (get_or (get_or rounds t []) e (pos 0)))
     (pin_at (get_or pins t []) e) (old e) (new e) (get_or entry e 0))
     → AreWalked scale u pins rounds old marks → AreWalked scale t pins rounds new (slice_set marks t entry)
-one_walked scale t u pins rounds old new marks entry small e l long fits step h = record {
+one_walked scale t u pins rounds old new marks entry small e l long from to step h = record {
   sums_are = λ n m. (more n m).sums_are;
   marks_are = λ k n m o p. by_entry (λ k entry. IsMark scale (coder_pins pins n) (column rounds n) k (get_or entry n 0))
       marks t entry (omega arith) (more n p).mark_is k [] (λ d. h.marks_are k n (omega arith) o p);
@@ -142,8 +142,8 @@ one_walked scale t u pins rounds old new marks entry small e l long fits step h 
     more : (n : ℕ) → n < 12 → AreMore scale t u (coder_pins pins n) (column rounds n) (new n) (get_or entry n 0)
     more n m =
         sums_more scale t u (pin_at (get_or pins t []) n) (coder_pins pins n) (column rounds n) (old n) (new n)
-        (get_or entry n 0) small (subst (λ v. pos 0 ≤ℤ (v +ℤ pos 128)) (sym (symbol n)) (fits n).0)
-        (subst (λ v. v ≤ℤ pos 127) (sym (symbol n)) (fits n).1) e (omega (arith, length-column rounds n))
+        (get_or entry n 0) small (subst (λ v. pos 0 ≤ℤ (v +ℤ pos 128)) (sym (symbol n)) (from n m))
+        (subst (λ v. v ≤ℤ pos 127) (sym (symbol n)) (to n m)) e (omega (arith, length-column rounds n))
         (pin_in_column pins n t)
         (subst (λ v. IsStep (weight scale v) (pin_at (get_or pins t []) n) (old n) (new n) (get_or entry n 0))
         (sym (symbol n)) (step n m)) (h.sums_are n m)
@@ -158,6 +158,10 @@ coders_alike scale t pins rounds sums others marks same h = record {
   marks_are = h.marks_are;
 }
 
+-- a symbol is a signed byte
+abbrev pub IsByte : ℤ → Type 0
+IsByte symbol = (pos 0 ≤ℤ (symbol +ℤ pos 128)) × (symbol ≤ℤ pos 127)
+
 -- the first n coders have stepped, and the others have not
 pub record AreStepped (scale : ℕ) (symbols : List ℤ) (pins : List ℕ) (n : ℕ) (old new : ℕ → List (List ℕ))
     (marks : List ℕ) : Type 0 where
@@ -165,6 +169,7 @@ pub record AreStepped (scale : ℕ) (symbols : List ℤ) (pins : List ℕ) (n : 
   pub done : (e : ℕ) → e < n → IsStep (weight scale (get_or symbols e (pos 0))) (pin_at pins e) (old e) (new e)
       (get_or marks e 0)
   pub multiples : (e : ℕ) → e < n → AreMultiples (new e)
+  pub bytes : (e : ℕ) → e < n → IsByte (get_or symbols e (pos 0))
   pub left : (e : ℕ) → n ≤ e → new e ≡ old e
 
 -- a step, where its sums are written elsewhere
@@ -183,18 +188,23 @@ multiples_written new put e h p s f m = ap (λ n. n % 4) (e p s f m) ∙ h p s f
 pub coder_stepped : (scale : ℕ) (symbols : List ℤ) (pins : List ℕ) (n : ℕ) (old now put : ℕ → List (List ℕ))
     (marks : List ℕ) (mark : ℕ) → n < 12
     → IsStep (weight scale (get_or symbols n (pos 0))) (pin_at pins n) (old n) (put n) mark → AreMultiples (put n)
-    → ((k : ℕ) → k ≢ n → put k ≡ now k) → AreStepped scale symbols pins n old now marks
+    → IsByte (get_or symbols n (pos 0)) → ((k : ℕ) → k ≢ n → put k ≡ now k) → AreStepped scale symbols pins n old now marks
     → AreStepped scale symbols pins (n + 1) old put (slice_set marks n mark)
-coder_stepped scale symbols pins n old now put marks mark l step multiples others h = record {
+coder_stepped scale symbols pins n old now put marks mark l step multiples byte others h = record {
   long = length-set marks n mark ∙ h.long;
   done = λ e m. by_entry (λ e mark. IsStep (weight scale (get_or symbols e (pos 0))) (pin_at pins e) (old e) (put e)
       mark) marks n mark (omega (arith, h.long)) step e 0
       (λ d. subst (λ new. IsStep (weight scale (get_or symbols e (pos 0))) (pin_at pins e) (old e) new
       (get_or marks e 0)) (sym (others e d)) (h.done e (omega arith)));
   multiples = λ e m. by_place e (cases_eq e n) m;
+  bytes = λ e m. byte_by_place e (cases_eq e n) m;
   left = λ e m. others e (λ d. absurd (omega arith)) ∙ h.left e (omega arith);
 }
   where
     by_place : (e : ℕ) → (e ≡ n) ⊎ (e ≢ n) → e < n + 1 → AreMultiples (put e)
     by_place e (inl d) m = subst (λ e. AreMultiples (put e)) (sym d) multiples
     by_place e (inr d) m = subst AreMultiples (sym (others e d)) (h.multiples e (omega arith))
+
+    byte_by_place : (e : ℕ) → (e ≡ n) ⊎ (e ≢ n) → e < n + 1 → IsByte (get_or symbols e (pos 0))
+    byte_by_place e (inl d) m = subst (λ e. IsByte (get_or symbols e (pos 0))) (sym d) byte
+    byte_by_place e (inr d) m = h.bytes e (omega arith)

@@ -1,6 +1,7 @@
 //! The walk from the end of the symbols to their beginning, for all coders side by side.
 
 ghost use Rattle.std.specs.Prelude.{◌≡◌, ℕ, pos, ◌*◌, ◌<◌, ◌≤◌, [], length, slice_index, slice_index_or};
+ghost use Rattle.std.specs.Prelude.{◌≤ℤ◌, ◌+ℤ◌};
 ghost use Rattle.dtx_pins.specs.Lanes.{sums_of};
 ghost use Rattle.dtx_pins.specs.Pins.{pin_at};
 ghost use Rattle.dtx_pins.specs.Steps.{AreBounded, IsStep};
@@ -46,6 +47,8 @@ fn step_all(
     ensures step { (e : ℕ) → e < CODERS → IsStep (weight weights.now.scale (slice_index_or symbols.now e (pos 0)))
         (pin_at pins.now e) (sums_of sums.old e) (sums_of sums.new e) (slice_index result e) }
     ensures multiples { (e : ℕ) → e < CODERS → AreMultiples (sums_of sums.new e) }
+    ensures from { (e : ℕ) → e < CODERS → pos 0 ≤ℤ (slice_index_or symbols.now e (pos 0) +ℤ pos 128) }
+    ensures to { (e : ℕ) → e < CODERS → slice_index_or symbols.now e (pos 0) ≤ℤ pos 127 }
 {
     let mut marks = [0; LANES];
     for e in 0..CODERS {

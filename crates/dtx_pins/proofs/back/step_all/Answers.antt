@@ -1,6 +1,6 @@
 use Rattle.std.proofs.Common.{◌≡◌, ℕ, ℤ, pos, ◌<◌, get_or, length, ◌∙◌, subst, w8, to_z, of_z, arith, rules}
 use mir.Val.{SFits}
-use Rattle.std.proofs.lemmas.Int.{to_z-of_z}
+use Rattle.std.proofs.lemmas.Int.{ints, to_z-of_z}
 use Rattle.std.proofs.lemmas.List.{get_or_default}
 use Rattle.dtx_pins.specs.Lanes.{sums_of}
 use Rattle.dtx_pins.specs.Pins.{pin_at}
@@ -17,7 +17,7 @@ loop-e-preserved c =
     (pin_at c.args.pins.now c.loop-e.e) (sums_of c.args.sums.now c.loop-e.e) c.stepped.new.behind
     (sums_of c.put_sums.new.sums c.loop-e.e) c.stepped.result c.put_sums.ensures.written step)
     (multiples_written c.stepped.new.behind (sums_of c.put_sums.new.sums c.loop-e.e) c.put_sums.ensures.written
-    c.stepped.ensures.multiples) c.put_sums.ensures.others c.loop-e.invariant
+    c.stepped.ensures.multiples) (omega (arith, ints, fits), omega (arith, ints, fits)) c.put_sums.ensures.others c.loop-e.invariant
   where
     symbol : ℤ
     symbol = get_or c.args.symbols.now c.loop-e.e (pos 0)
@@ -43,3 +43,9 @@ loop-e-preserved c =
         (subst (λ old. IsStep (weight c.args.weights.now.scale (to_z w8 (of_z w8 (get_or c.args.symbols.now c.loop-e.e
         (pos 0))))) (get_or c.args.pins.now c.loop-e.e 0) old c.stepped.new.behind c.stepped.result)
         (c.coder_sums-coder.ensures ∙ c.loop-e.invariant.left c.loop-e.e (omega arith)) c.stepped.ensures.step))
+
+pub returns-clause-from : goal.returns-clause-from
+returns-clause-from c e l = (c.loop-e.invariant.bytes e (omega arith)).0
+
+pub returns-clause-to : goal.returns-clause-to
+returns-clause-to c e l = (c.loop-e.invariant.bytes e (omega arith)).1
