@@ -1,6 +1,6 @@
 -- Least paths under pins and their costs, one more symbol in front (Bellman).
 use Rattle.std.proofs.Common.{◌≡◌, ℕ, suc, ℤ, ◌+◌, ◌/◌, ◌%◌, ◌<◌, ◌≤◌, ◌⊎◌, inl, inr, List, [], ◌∷◌}
-use Rattle.std.proofs.Common.{length, map, drop, refl, sym, ap, ap₂, ◌∙◌, subst, arith}
+use Rattle.std.proofs.Common.{length, map, drop, refl, sym, ap, ◌∙◌, subst, arith}
 use Rattle.std.proofs.lemmas.Bool.{cases_lt}
 use Rattle.dtx_soft.specs.Paths.{IsPath, cost, distance, next_state, squared, symbol_at}
 use Rattle.dtx_soft.specs.Least.{AreInOrder}

@@ -1,7 +1,7 @@
 -- One step of the search: the pens, and what the least of four sums tells.
 use Rattle.std.proofs.Common.{◌≡◌, ◌≢◌, ℕ, ℤ, ◌+◌, ◌-◌, ◌*◌, ◌/◌, ◌%◌, ◌^◌, ◌<◌, ◌≤◌, ◌⊎◌, inl, inr, Bool, true, zero, suc}
 use Rattle.std.proofs.Common.{false}
-use Rattle.std.proofs.Common.{nat_eq, nat_le, nat_lt, cond, min, List, [], ◌∷◌, get_or, refl, sym, ap, ap₂, ◌∙◌}
+use Rattle.std.proofs.Common.{nat_eq, nat_le, nat_lt, cond, min, List, [], get_or, refl, sym, ap, ap₂, ◌∙◌}
 use Rattle.std.proofs.Common.{subst, arith}
 use Rattle.std.proofs.lemmas.Bool.{cases_eq, cases_lt, cond-true, le-leb}
 use Rattle.std.proofs.lemmas.Bool.Decides.{nat_tests}
@@ -315,6 +315,7 @@ pub step_is : (scale : ℕ) (symbol : ℤ) (pin : ℕ) (old : List (List ℕ)) (
     → new ≡ sum - sum % 4
     → IsBest (weight scale symbol) pin old p s number × (new ≡ through (weight scale symbol) old s number)
 step_is scale symbol pin old p s low high sum number new small own bounded behind f l first second e n k =
-    let h = joined_best scale symbol pin old p s low high sum small own bounded behind f l first second e in
-    (subst (IsBest (weight scale symbol) pin old p s) (sym n) h.0,
-    k ∙ h.1 ∙ ap (through (weight scale symbol) old s) (sym n))
+    let h = joined_best scale symbol pin old p s low high sum small own bounded behind f l first second e in (
+      subst (IsBest (weight scale symbol) pin old p s) (sym n) h.0,
+      k ∙ h.1 ∙ ap (through (weight scale symbol) old s) (sym n),
+    )

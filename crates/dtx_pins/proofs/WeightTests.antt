@@ -1,12 +1,11 @@
 -- Weights, tested at each scale, symbol and level.
 use Rattle.std.proofs.Common.{◌≡◌, ℕ, ℤ, pos, ◌+◌, ◌*◌, ◌/◌, ◌%◌, ◌<◌, ◌≤◌, ◌+ℤ◌, ◌-ℤ◌, ◌≤ℤ◌, nat_abs, Bool, true, false}
-use Rattle.std.proofs.Common.{◌&&◌, nat_eq, nat_le, refl, sym, subst, arith}
+use Rattle.std.proofs.Common.{◌&&◌, nat_eq, nat_le, refl, subst, arith}
 use Rattle.std.proofs.lemmas.Int.{ints}
 use Rattle.std.proofs.lemmas.Bool.Decides.{nat_tests, Decides-eqb}
 use Rattle.dtx_lists.proofs.Below.{at_below, holds_below}
 use Rattle.dtx_soft.specs.Gaps.{unit}
 use Rattle.dtx_soft.specs.Paths.{squared, symbol_at}
-use Rattle.dtx_soft.specs.Squares.{seen}
 use Rattle.dtx_pins.specs.Steps.{square_of}
 use Rattle.dtx_pins.specs.Weights.{depth, ground, weight}
 

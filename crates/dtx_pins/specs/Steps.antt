@@ -1,7 +1,7 @@
 -- One step of the search under pins: what each level comes to, and which one is taken.
-use Rattle.std.specs.Prelude.{ℕ, ℤ, pos, ◌≡◌, ◌+◌, ◌*◌, ◌/◌, ◌%◌, ◌^◌, ◌<◌, ◌≤◌, ◌-ℤ◌, ◌==◌, nat_le, nat_lt}
+use Rattle.std.specs.Prelude.{ℕ, ℤ, ◌≡◌, ◌+◌, ◌*◌, ◌/◌, ◌%◌, ◌^◌, ◌<◌, ◌≤◌, ◌==◌, nat_le, nat_lt}
 use Rattle.std.specs.Prelude.{if◌then◌else◌}
-use Rattle.std.specs.Prelude.{List, [], length, slice_index, slice_index_or}
+use Rattle.std.specs.Prelude.{List, [], slice_index, slice_index_or}
 use Rattle.dtx_soft.specs.Paths.{next_state, squared, symbol_at}
 
 -- The least costs of a coder: entry p is for the former Z2 and has one for each state.

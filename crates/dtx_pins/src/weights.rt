@@ -79,7 +79,11 @@ fn depth(scale: u8, symbol: i8) -> u32
     ensures depth { result ≡ depth scale symbol }
     ensures small { result ≤ 255 }
 {
-    if scale == 0 { 127 } else { (127 - symbol as i16) as u32 }
+    if scale == 0 {
+        127
+    } else {
+        (127 - symbol as i16) as u32
+    }
 }
 
 /// What the first four levels come to with their pens, if each weighs so much more than the one before it.

@@ -1,7 +1,5 @@
-use Rattle.std.proofs.Common.{◌≡◌, ℕ, ℤ, pos, ◌+◌, ◌-◌, ◌*◌, ◌%◌, ◌<◌, ◌+ℤ◌, ◌≤ℤ◌, [], ap, get_or, length, sym, ◌∙◌, subst, w8}
-use Rattle.std.proofs.Common.{arith, rules}
-use mir.Val.{SFits}
-use Rattle.std.proofs.lemmas.Int.{ints}
+use Rattle.std.proofs.Common.{◌≡◌, ◌-◌, ◌*◌, ◌%◌, [], ap, get_or, length, ◌∙◌, subst}
+use Rattle.std.proofs.Common.{arith}
 use Rattle.std.proofs.lemmas.List.{length-set}
 use Rattle.dtx_pins.specs.Lanes.{sums_of}
 use Rattle.dtx_pins.specs.Walks.{AreWalked}

@@ -1,4 +1,4 @@
-use Rattle.std.proofs.Common.{◌≡◌, ℕ, ℤ, pos, ◌<◌, get_or, length, ◌∙◌, subst, w8, to_z, of_z, arith, rules}
+use Rattle.std.proofs.Common.{◌≡◌, ℤ, pos, ◌<◌, get_or, length, ◌∙◌, subst, w8, to_z, of_z, arith, rules}
 use mir.Val.{SFits}
 use Rattle.std.proofs.lemmas.Int.{ints, to_z-of_z}
 use Rattle.std.proofs.lemmas.List.{get_or_default}
