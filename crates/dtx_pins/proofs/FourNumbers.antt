@@ -1,26 +1,12 @@
--- The first of four numbers at which a function is least, found by three comparisons.
-use Rattle.std.proofs.Common.{◌≡◌, ℕ, ◌+◌, ◌*◌, ◌<◌, ◌≤◌, ◌⊎◌, inl, inr, nat_lt, cond, min, ap, subst, arith}
-use Rattle.std.proofs.lemmas.Bool.{cases_lt, lt-ltb, le-ltb}
+-- The first of four numbers at which a function is least, told by the least of four sums.
+use Rattle.std.proofs.Common.{◌≡◌, ℕ, ◌+◌, ◌-◌, ◌%◌, ◌<◌, ◌≤◌, ◌⊎◌, inl, inr, min, ap, ◌∙◌, subst, arith}
+use Rattle.std.proofs.lemmas.Bool.{cases_lt}
 use Rattle.dtx_soft.proofs.WritesLemmas.{four}
 use Rattle.dtx_pins.specs.Steps.{IsFirstLeast}
-
--- a bit that says whether a number is less than another one
-abbrev pub SaysLess : ℕ → ℕ → ℕ → Type 0
-SaysLess a b bit = ((a < b) × (bit ≡ 1)) ⊎ ((b ≤ a) × (bit ≡ 0))
-
-pub says_less : (a b bit : ℕ) → bit ≡ cond (nat_lt a b) 1 0 → SaysLess a b bit
-says_less a b bit e = by_order (cases_lt a b)
-  where
-    by_order : (a < b) ⊎ (b ≤ a) → SaysLess a b bit
-    by_order (inl l) = inl (l, subst (λ t. bit ≡ cond t 1 0) (lt-ltb a b l) e)
-    by_order (inr l) = inr (l, subst (λ t. bit ≡ cond t 1 0) (le-ltb a b l) e)
 
 -- the number, and what the function is there
 abbrev pub IsFound : (ℕ → ℕ) → ℕ → Type 0
 IsFound f k = IsFirstLeast f k × (min (min (f 0) (f 1)) (min (f 2) (f 3)) ≡ f k)
-
-number : (g : ℕ → ℕ) (z a b : ℕ) → z ≡ a → g a ≡ b → 2 * a + b ≡ 2 * z + g z
-number g z a b e f = let h = ap g e in omega (arith, h)
 
 at_zero : (f : ℕ → ℕ) → f 0 ≤ f 1 → min (f 0) (f 1) ≤ min (f 2) (f 3) → IsFound f 0
 at_zero f a b = (
@@ -62,9 +48,39 @@ at_three f a b = (
   omega arith,
 )
 
-pub found_by_bits : (f g : ℕ → ℕ) (z : ℕ) → SaysLess (f 1) (f 0) (g 0) → SaysLess (f 3) (f 2) (g 1)
-    → SaysLess (min (f 2) (f 3)) (min (f 0) (f 1)) z → IsFound f (2 * z + g z)
-found_by_bits f g z (inl a) q (inr c) = subst (IsFound f) (number g z 0 1 c.1 a.1) (at_one f a.0 c.0)
-found_by_bits f g z (inr a) q (inr c) = subst (IsFound f) (number g z 0 0 c.1 a.1) (at_zero f a.0 c.0)
-found_by_bits f g z p (inl b) (inl c) = subst (IsFound f) (number g z 1 1 c.1 b.1) (at_three f b.0 c.0)
-found_by_bits f g z p (inr b) (inl c) = subst (IsFound f) (number g z 1 0 c.1 b.1) (at_two f b.0 c.0)
+-- a multiple of four with a number below four added tells both
+told_at : (f : ℕ → ℕ) (t k : ℕ) → k < 4 → f k % 4 ≡ 0 → t ≡ f k + k → IsFound f k
+    → IsFirstLeast f (t % 4) × (t - t % 4 ≡ f (t % 4))
+told_at f t k l m e h =
+    let number : k ≡ t % 4 = omega (arith, l, m, e) in
+    (subst (IsFirstLeast f) number h.0, omega (arith, m, e, number) ∙ ap f number)
+
+-- so the least of four such sums does, and of equal ones it tells the first
+pub told_by_least : (f : ℕ → ℕ) (t : ℕ) → ((j : ℕ) → j < 4 → f j % 4 ≡ 0)
+    → t ≡ min (min (f 0) (f 1 + 1)) (min (f 2 + 2) (f 3 + 3)) → IsFirstLeast f (t % 4) × (t - t % 4 ≡ f (t % 4))
+told_by_least f t m e = by_order (cases_lt (f 1) (f 0)) (cases_lt (f 3) (f 2))
+    (cases_lt (min (f 2) (f 3)) (min (f 0) (f 1)))
+  where
+    zeroth : f 0 % 4 ≡ 0
+    zeroth = m 0 (omega arith)
+
+    first : f 1 % 4 ≡ 0
+    first = m 1 (omega arith)
+
+    second : f 2 % 4 ≡ 0
+    second = m 2 (omega arith)
+
+    third : f 3 % 4 ≡ 0
+    third = m 3 (omega arith)
+
+    by_order : (f 1 < f 0) ⊎ (f 0 ≤ f 1) → (f 3 < f 2) ⊎ (f 2 ≤ f 3)
+        → (min (f 2) (f 3) < min (f 0) (f 1)) ⊎ (min (f 0) (f 1) ≤ min (f 2) (f 3))
+        → IsFirstLeast f (t % 4) × (t - t % 4 ≡ f (t % 4))
+    by_order (inr a) q (inr c) =
+        told_at f t 0 (omega arith) zeroth (omega (arith, e, a, c)) (at_zero f a c)
+    by_order (inl a) q (inr c) =
+        told_at f t 1 (omega arith) first (omega (arith, e, a, c, zeroth, first)) (at_one f a c)
+    by_order p (inr b) (inl c) =
+        told_at f t 2 (omega arith) second (omega (arith, e, b, c, zeroth, first, second)) (at_two f b c)
+    by_order p (inl b) (inl c) =
+        told_at f t 3 (omega arith) third (omega (arith, e, b, c, zeroth, first, second, third)) (at_three f b c)

@@ -6,6 +6,7 @@ pub mod PinnedWalks
 pub mod PinnedStarts
 pub mod PinnedTraces
 pub mod FourNumbers
-pub mod FourLanes
+pub mod WeightTests
+pub mod SymbolDepths
+pub mod PinnedUnits
 pub mod PinnedSteps
-pub mod Bits

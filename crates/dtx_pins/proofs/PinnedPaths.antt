@@ -1,13 +1,13 @@
 -- Least paths under pins and their costs, one more symbol in front (Bellman).
 use Rattle.std.proofs.Common.{◌≡◌, ℕ, suc, ℤ, ◌+◌, ◌/◌, ◌%◌, ◌<◌, ◌≤◌, ◌⊎◌, inl, inr, List, [], ◌∷◌}
-use Rattle.std.proofs.Common.{length, map, drop, refl, sym, ap, ap₂, ◌∙◌, subst, arith}
+use Rattle.std.proofs.Common.{length, map, drop, refl, sym, ap, ◌∙◌, subst, arith}
 use Rattle.std.proofs.lemmas.Bool.{cases_lt}
 use Rattle.dtx_soft.specs.Paths.{IsPath, cost, distance, next_state, squared, symbol_at}
 use Rattle.dtx_soft.specs.Least.{AreInOrder}
 use Rattle.dtx_soft.proofs.LeastPathLemmas.{next_small}
 use Rattle.dtx_soft.proofs.MovedLemmas.{distance-cons}
 use Rattle.dtx_pins.specs.Pins.{AgreesFrom, pair_of, pin_at}
-use Rattle.dtx_pins.specs.Steps.{IsBest, IsRow, cost_at, level_by, through, told_number}
+use Rattle.dtx_pins.specs.Steps.{IsBest, cost_at, level_by, square_of, through, told_number}
 use Rattle.dtx_pins.specs.Walks.{AreLeastCosts, IsLeastCost, IsLeastFrom}
 
 pub cost-cons : (scale : ℕ) (v : ℤ) (symbols : List ℤ) (z : ℕ) (levels : List ℕ)
@@ -29,11 +29,11 @@ pub record IsBestLevel (scale pin : ℕ) (v : ℤ) (behind : List (List ℕ)) (f
   pub first : (y : ℕ) → y < 8 → y % 2 ≡ state / 2 → (pin < 4 → pair_of former y ≡ pin)
       → onto scale v behind state y ≡ onto scale v behind state z → z ≤ y
 
-pub onto_through : (scale : ℕ) (v : ℤ) (row behind : List (List ℕ)) (state k : ℕ) → IsRow scale v row → state < 4
-    → k < 4
-    → onto scale v behind state (level_by state k) ≡ through row behind state k
-onto_through scale v row behind state k h l m =
-    ap₂ (λ (x y : ℕ). x + cost_at behind y (next_state state (level_by state k))) (sym (h k m state l).0) (omega arith)
+pub onto_through : (scale : ℕ) (v : ℤ) (behind : List (List ℕ)) (state k : ℕ) → state < 4 → k < 4
+    → onto scale v behind state (level_by state k) ≡ through (square_of scale v) behind state k
+onto_through scale v behind state k l m =
+    ap (λ (y : ℕ). squared v (symbol_at scale (level_by state k)) + cost_at behind y (next_state state
+    (level_by state k))) (omega arith)
 
 pair_number : (pin former state k : ℕ) → pin < 4 → former < 2 → state < 4 → k < 4 → k ≡ told_number pin former
     → pair_of former (level_by state k) ≡ pin
@@ -43,10 +43,10 @@ number_pair : (pin former y : ℕ) → pin < 4 → former < 2 → y < 8 → pair
     → y / 2 ≡ told_number pin former
 number_pair pin former y a b c e = omega arith
 
-pub best_level : (scale pin : ℕ) (v : ℤ) (row behind : List (List ℕ)) (former state k : ℕ) → IsRow scale v row
-    → former < 2 → state < 4 → IsBest row pin behind former state k
+pub best_level : (scale pin : ℕ) (v : ℤ) (behind : List (List ℕ)) (former state k : ℕ) → former < 2 → state < 4
+    → IsBest (square_of scale v) pin behind former state k
     → IsBestLevel scale pin v behind former state (level_by state k)
-best_level scale pin v row behind former state k h f l b = record {
+best_level scale pin v behind former state k f l b = record {
   small = (let m = b.small in omega arith);
   begins = omega arith;
   told = λ p. pair_number pin former state k p f l b.small (b.told p);
@@ -56,13 +56,14 @@ best_level scale pin v row behind former state k h f l b = record {
       (omega (arith, own, other y m e, same)) in omega (arith, a, e));
 }
   where
-    own : onto scale v behind state (level_by state k) ≡ through row behind state k
-    own = onto_through scale v row behind state k h l b.small
+    own : onto scale v behind state (level_by state k) ≡ through (square_of scale v) behind state k
+    own = onto_through scale v behind state k l b.small
 
-    other : (y : ℕ) → y < 8 → y % 2 ≡ state / 2 → onto scale v behind state y ≡ through row behind state (y / 2)
+    other : (y : ℕ) → y < 8 → y % 2 ≡ state / 2
+        → onto scale v behind state y ≡ through (square_of scale v) behind state (y / 2)
     other y m e =
         let level : y ≡ level_by state (y / 2) = omega arith in
-        ap (onto scale v behind state) level ∙ onto_through scale v row behind state (y / 2) h l (omega arith)
+        ap (onto scale v behind state) level ∙ onto_through scale v behind state (y / 2) l (omega arith)
 
 -- a path costs no less than its first level comes to
 onto_below : (scale : ℕ) (v : ℤ) (pins : List ℕ) (symbols : List ℤ) (behind : List (List ℕ)) (state z : ℕ)

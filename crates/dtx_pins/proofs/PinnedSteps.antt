@@ -1,35 +1,18 @@
--- One step of the search: the pens, the marks and what they give.
-use Rattle.std.proofs.Common.{◌≡◌, ◌≢◌, ℕ, ◌+◌, ◌*◌, ◌/◌, ◌%◌, ◌^◌, ◌<◌, ◌≤◌, ◌⊎◌, inl, inr, Bool, true}
+-- One step of the search: the pens, and what the least of four sums tells.
+use Rattle.std.proofs.Common.{◌≡◌, ◌≢◌, ℕ, ℤ, ◌+◌, ◌-◌, ◌*◌, ◌/◌, ◌%◌, ◌^◌, ◌<◌, ◌≤◌, ◌⊎◌, inl, inr, Bool, true, zero, suc}
 use Rattle.std.proofs.Common.{false}
-use Rattle.std.proofs.Common.{nat_eq, nat_le, nat_lt, cond, min, List, [], ◌∷◌, get_or, refl, sym, ap, ap₂, ◌∙◌}
+use Rattle.std.proofs.Common.{nat_eq, nat_le, nat_lt, cond, min, List, [], get_or, refl, sym, ap, ap₂, ◌∙◌}
 use Rattle.std.proofs.Common.{subst, arith}
 use Rattle.std.proofs.lemmas.Bool.{cases_eq, cases_lt, cond-true, le-leb}
 use Rattle.std.proofs.lemmas.Bool.Decides.{nat_tests}
 use Rattle.dtx_lists.proofs.Below.{at_below, holds_below}
 use Rattle.dtx_soft.specs.Paths.{next_state}
-use Rattle.dtx_soft.proofs.WritesLemmas.{four}
-use Rattle.dtx_pins.specs.Steps.{AreBounded, AreSquares, IsBest, IsFirstLeast, cost_at, level_by, number_of}
-use Rattle.dtx_pins.specs.Steps.{pen_of, through, told_number, way, z1_of, z2_of}
-use Rattle.dtx_pins.proofs.FourNumbers.{IsFound, SaysLess, found_by_bits, says_less}
 use Rattle.dtx_soft.proofs.LeastPathLemmas.{next_small}
-
--- ---- marks
-
--- the bits of a mark
-pub record AreBits (mark x y z w s : ℕ) : Type 0 where
-  pub first : z1_of mark 0 s ≡ x / 2 ^ s % 2
-  pub second : z1_of mark 1 s ≡ y / 2 ^ s % 2
-  pub third : z2_of mark 0 s ≡ z / 2 ^ s % 2
-  pub fourth : z2_of mark 1 s ≡ w / 2 ^ s % 2
-
-pub mark_bits : (x y z w : ℕ) → x < 16 → y < 16 → z < 16 → w < 16 → (s : ℕ) → s < 4
-    → AreBits (x + 16 * y + 256 * z + 4096 * w) x y z w s
-mark_bits x y z w l m n o =
-    four (AreBits (x + 16 * y + 256 * z + 4096 * w) x y z w)
-    (record { first = omega arith; second = omega arith; third = omega arith; fourth = omega arith })
-    (record { first = omega arith; second = omega arith; third = omega arith; fourth = omega arith })
-    (record { first = omega arith; second = omega arith; third = omega arith; fourth = omega arith })
-    (record { first = omega arith; second = omega arith; third = omega arith; fourth = omega arith })
+use Rattle.dtx_soft.proofs.WritesLemmas.{four}
+use Rattle.dtx_pins.specs.Steps.{AreAtMost, AreBounded, IsBest, IsFirstLeast, cost_at, level_by, number_of}
+use Rattle.dtx_pins.specs.Steps.{pen_of, through, told_number}
+use Rattle.dtx_pins.specs.Weights.{AreMultiples, fare, weight}
+use Rattle.dtx_pins.proofs.FourNumbers.{told_by_least}
 
 -- ---- pens
 
@@ -96,80 +79,73 @@ pen_none : (pin i : ℕ) → 4 ≤ pin → pen_of pin i ≡ 0
 unfolding pen_of
 pen_none pin i l = cond-true (nat_le 4 pin) 0 _ (le-leb 4 pin l)
 
--- the table of the pens
-abbrev pub none : List ℕ
-none = 0 ∷ 0 ∷ 0 ∷ 0 ∷ []
-
-abbrev pub full : List ℕ
-full = 1400000000 ∷ 1400000000 ∷ 1400000000 ∷ 1400000000 ∷ []
-
-abbrev pub table : List (List (List ℕ))
-table = (none ∷ full ∷ none ∷ full ∷ []) ∷ (full ∷ none ∷ none ∷ full ∷ []) ∷ (none ∷ full ∷ full ∷ none ∷ [])
-    ∷ (full ∷ none ∷ full ∷ none ∷ []) ∷ (none ∷ none ∷ none ∷ none ∷ []) ∷ []
-
-unfoldable is_tabled : ℕ → Bool
-is_tabled n = nat_eq (get_or (get_or (get_or table (n / 16) []) (n / 4 % 4) []) (n % 4) 0) (pen_of (n / 16) (n / 4 % 4))
-
-all_tabled : holds_below is_tabled 80 ≡ true
-unfolding is_tabled pen_of
-all_tabled = refl
-
-tabled : (n i s : ℕ) → n < 5 → i < 4 → s < 4 → get_or (get_or (get_or table n []) i []) s 0 ≡ pen_of n i
-unfolding is_tabled
-tabled n i s l m o =
-    at ((16 * n + 4 * i + s) / 16) ((16 * n + 4 * i + s) / 4 % 4) ((16 * n + 4 * i + s) % 4) (omega arith) (omega arith)
-    (omega arith) (at_below is_tabled 80 (16 * n + 4 * i + s) all_tabled (omega arith))
+pub pen_small : (pin i : ℕ) → pen_of pin i ≤ 1400000000
+unfolding pen_of
+pen_small pin i = by_test (nat_le 4 pin) (nat_eq (cond (nat_lt i 2) pin (pin / 2) % 2) (i % 2))
   where
-    at : (a b c : ℕ) → a ≡ n → b ≡ i → c ≡ s
-        → nat_eq (get_or (get_or (get_or table a []) b []) c 0) (pen_of a b) ≡ true
-        → get_or (get_or (get_or table n []) i []) s 0 ≡ pen_of n i
-    at a b c e f g t =
-        subst (λ a. get_or (get_or (get_or table a []) i []) s 0 ≡ pen_of a i) e
-        (subst (λ b. get_or (get_or (get_or table a []) b []) s 0 ≡ pen_of a b) f
-        (subst (λ c. get_or (get_or (get_or table a []) b []) c 0 ≡ pen_of a b) g (same _ _ t)))
-      where
-        same : (x y : ℕ) → nat_eq x y ≡ true → x ≡ y
-        same x y t = grind (arith, nat_tests)
+    by_test : (t u : Bool) → cond t 0 (cond u 0 1400000000) ≤ 1400000000
+    by_test true u = omega arith
+    by_test false true = omega arith
+    by_test false false = omega arith
 
-pub pens_are : (pin n i s : ℕ) → n ≡ min pin 4 → i < 4 → s < 4
-    → get_or (get_or (get_or table n []) i []) s 0 ≡ pen_of pin i
-pens_are pin n i s e l m = by_pin (cases_lt pin 4)
+pub pen_multiple : (pin i : ℕ) → pen_of pin i % 4 ≡ 0
+unfolding pen_of
+pen_multiple pin i = by_test (nat_le 4 pin) (nat_eq (cond (nat_lt i 2) pin (pin / 2) % 2) (i % 2))
   where
-    by_pin : (pin < 4) ⊎ (4 ≤ pin) → get_or (get_or (get_or table n []) i []) s 0 ≡ pen_of pin i
-    by_pin (inl q) =
-        let own : n ≡ pin = omega (arith, e, q) in
-        tabled n i s (omega (arith, own, q)) l m ∙ ap (λ n. pen_of n i) own
-    by_pin (inr q) =
-        let last : n ≡ 4 = omega (arith, e, q) in
-        tabled n i s (omega (arith, last)) l m ∙ ap (λ n. pen_of n i) last ∙ pen_none 4 i (omega arith)
-        ∙ sym (pen_none pin i q)
+    by_test : (t u : Bool) → cond t 0 (cond u 0 1400000000) % 4 ≡ 0
+    by_test true u = refl
+    by_test false true = refl
+    by_test false false = refl
+
+-- the pens of Z1 and of Z2, where a bit of a pin is given
+pens_by : (t : Bool) (bit all pen : ℕ) → bit < 2 → all ≡ cond t 0 1400000000 → pen ≡ cond (nat_eq bit 0) 0 all
+    → (pen ≡ cond t 0 (cond (nat_eq bit 0) 0 1400000000)) × (all - pen ≡ cond t 0 (cond (nat_eq bit 1) 0 1400000000))
+pens_by true zero all pen l e f = (omega (arith, e, f), omega (arith, e, f))
+pens_by true (suc zero) all pen l e f = (omega (arith, e, f), omega (arith, e, f))
+pens_by false zero all pen l e f = (omega (arith, e, f), omega (arith, e, f))
+pens_by false (suc zero) all pen l e f = (omega (arith, e, f), omega (arith, e, f))
+pens_by t (suc (suc bit)) all pen l e f = absurd (omega arith)
+
+pub first_pens : (pin all pen : ℕ) → all ≡ cond (nat_le 4 pin) 0 1400000000 → pen ≡ cond (nat_eq (pin % 2) 0) 0 all
+    → (pen ≡ pen_of pin 0) × (all - pen ≡ pen_of pin 1)
+unfolding pen_of
+first_pens pin all pen e f = pens_by (nat_le 4 pin) (pin % 2) all pen (omega arith) e f
+
+pub second_pens : (pin all pen : ℕ) → all ≡ cond (nat_le 4 pin) 0 1400000000
+    → pen ≡ cond (nat_eq (pin / 2 % 2) 0) 0 all → (pen ≡ pen_of pin 2) × (all - pen ≡ pen_of pin 3)
+unfolding pen_of
+second_pens pin all pen e f = pens_by (nat_le 4 pin) (pin / 2 % 2) all pen (omega arith) e f
 
 -- ---- one step
 
--- what level number j comes to with its pens
-abbrev pub penned : List (List ℕ) → List (List ℕ) → ℕ → ℕ → ℕ → ℕ → ℕ
-penned row old pin p s j = through row old s j + pen_sum pin p j
+-- no level weighs more than the greatest weight
+abbrev pub AreSmall : (ℕ → ℕ) → Type 0
+AreSmall level_cost = (z : ℕ) → z < 8 → level_cost z ≤ 7168
 
-through_small : (row old : List (List ℕ)) (s j : ℕ) → AreSquares row → AreBounded 1388900448 old → s < 4 → j < 4
-    → through row old s j < 1400000000
-through_small row old s j squares bounded l m =
-    let a = squares j s m l in
+-- what level number j comes to with its pens
+abbrev pub penned : (ℕ → ℕ) → List (List ℕ) → ℕ → ℕ → ℕ → ℕ → ℕ
+penned level_cost old pin p s j = through level_cost old s j + pen_sum pin p j
+
+through_small : (level_cost : ℕ → ℕ) (old : List (List ℕ)) (s j : ℕ) → AreSmall level_cost → AreBounded 154312704 old
+    → s < 4 → j < 4 → through level_cost old s j < 1400000000
+through_small level_cost old s j small bounded l m =
+    let a = small (level_by s j) (omega arith) in
     let b = bounded (j / 2) (next_state s (level_by s j)) (omega arith) (next_small s (level_by s j) l) in
     omega (arith, a, b)
 
 -- the first least with pens is the best level, and it has none
-pub best_is : (row : List (List ℕ)) (pin : ℕ) (old : List (List ℕ)) (p s k : ℕ) → AreSquares row
-    → AreBounded 1388900448 old → p < 2 → s < 4 → IsFirstLeast (penned row old pin p s) k
-    → IsBest row pin old p s k × (penned row old pin p s k ≡ through row old s k)
-best_is row pin old p s k squares bounded f l h = by_pin (cases_lt pin 4)
+best_is : (level_cost : ℕ → ℕ) (pin : ℕ) (old : List (List ℕ)) (p s k : ℕ) → AreSmall level_cost
+    → AreBounded 154312704 old → p < 2 → s < 4 → IsFirstLeast (penned level_cost old pin p s) k
+    → IsBest level_cost pin old p s k × (penned level_cost old pin p s k ≡ through level_cost old s k)
+best_is level_cost pin old p s k small bounded f l h = by_pin (cases_lt pin 4)
   where
-    by_pin : (pin < 4) ⊎ (4 ≤ pin) → IsBest row pin old p s k × (penned row old pin p s k ≡ through row old s k)
+    by_pin : (pin < 4) ⊎ (4 ≤ pin) → IsBest level_cost pin old p s k × (penned level_cost old pin p s k ≡ through level_cost old s k)
     by_pin (inl q) =
         let e = own (cases_eq k (told_number pin p)) in (
           record {
             small = h.small;
             told = λ q. e;
-            least = λ j m t. (let g = ap (through row old s) (t q) in let i = ap (through row old s) e in
+            least = λ j m t. (let g = ap (through level_cost old s) (t q) in let i = ap (through level_cost old s) e in
                 omega (arith, g, i));
             first = λ j m t same. (let g = t q in omega (arith, g, e));
           },
@@ -182,7 +158,7 @@ best_is row pin old p s k squares bounded f l h = by_pin (cases_lt pin 4)
             let a = h.least (told_number pin p) (omega arith) in
             let b = pen_told pin p q f in
             let c = pen_other pin p k q f h.small d in
-            let g = through_small row old s (told_number pin p) squares bounded l (omega arith) in
+            let g = through_small level_cost old s (told_number pin p) small bounded l (omega arith) in
             absurd (omega (arith, a, b, c, g))
     by_pin (inr q) = (
       record {
@@ -198,7 +174,7 @@ best_is row pin old p s k squares bounded f l h = by_pin (cases_lt pin 4)
         nothing j =
             let a = pen_none pin (j % 2) q in let b = pen_none pin (2 + (j / 2 + p) % 2) q in omega (arith, a, b)
 
--- what a half comes to is what a level comes to, with the pen of its Z1
+-- the state behind a level depends on its Z1 alone
 next_alike : (s j k : ℕ) → s < 4 → j % 2 ≡ k % 2 → next_state s (level_by s j) ≡ next_state s (level_by s k)
 unfolding next_state
 next_alike s j k l e = ap (λ x. 2 * ((x + s % 2) % 2) + s / 2) same
@@ -206,75 +182,140 @@ next_alike s j k l e = ap (λ x. 2 * ((x + s % 2) % 2) + s / 2) same
     same : level_by s j / 2 % 2 ≡ level_by s k / 2 % 2
     same = omega (arith, e, l)
 
-pub way_is : (row old : List (List ℕ)) (pen : List ℕ) (pin s z2 z1 : ℕ) → s < 4 → z1 < 2
-    → get_or pen s 0 ≡ pen_of pin z1
-    → way (get_or row (2 * z2 + z1) []) (get_or old z2 []) pen s z1 ≡ through row old s (2 * z2 + z1) + pen_of pin z1
-way_is row old pen pin s z2 z1 l m e =
-    ap₂ (λ (costs pen : ℕ). get_or (get_or row (2 * z2 + z1) []) s 0 + costs + pen)
-    (ap₂ (λ (half next : ℕ). cost_at old half next) half (next_alike s z1 (2 * z2 + z1) l rest)) e
+-- ---- the sums of a step
+
+-- the fare of the level with number 2 * z2 + z1 that may follow a state
+fare_is : (scale : ℕ) (symbol : ℤ) (first second z2 z1 s : ℕ) → z2 < 2 → z1 < 2 → s < 4
+    → fare scale symbol first second (4 * z2 + (2 * z1 + s / 2))
+    ≡ weight scale symbol (level_by s (2 * z2 + z1)) + (2 * z2 + z1) + cond (nat_eq z1 0) first second
+fare_is scale symbol first second z2 z1 s f g l =
+    ap (fare scale symbol first second) level
+    ∙ ap₂ (λ n m. weight scale symbol (level_by s (2 * z2 + z1)) + n + cond (nat_eq m 0) first second) number bit
+  where
+    level : 4 * z2 + (2 * z1 + s / 2) ≡ level_by s (2 * z2 + z1)
+    level = omega arith
+
+    number : level_by s (2 * z2 + z1) / 2 ≡ 2 * z2 + z1
+    number = omega (arith, l)
+
+    bit : level_by s (2 * z2 + z1) / 2 % 2 ≡ z1
+    bit = omega (arith, l, g)
+
+-- what a level comes to with its number and the pen of its Z1
+way_is : (scale : ℕ) (symbol : ℤ) (old : List (List ℕ)) (first second z2 z1 s other : ℕ) → z2 < 2 → z1 < 2 → s < 4
+    → other ≡ fare scale symbol first second (4 * z2 + (2 * z1 + s / 2))
+    → get_or (get_or old z2 []) (next_state s (level_by s z1)) 0 + other
+    ≡ through (weight scale symbol) old s (2 * z2 + z1) + (2 * z2 + z1) + cond (nat_eq z1 0) first second
+way_is scale symbol old first second z2 z1 s other f g l e = omega (arith, behind, own)
   where
     half : z2 ≡ (2 * z2 + z1) / 2
-    half = omega (arith, m)
+    half = omega (arith, g)
 
     rest : z1 % 2 ≡ (2 * z2 + z1) % 2
-    rest = omega (arith, m)
+    rest = omega (arith, g)
 
-pub pen_small : (pin i : ℕ) → pen_of pin i ≤ 1400000000
-unfolding pen_of
-pen_small pin i = by_test (nat_le 4 pin) (nat_eq (cond (nat_lt i 2) pin (pin / 2) % 2) (i % 2))
+    behind : get_or (get_or old z2 []) (next_state s (level_by s z1)) 0
+        ≡ cost_at old ((2 * z2 + z1) / 2) (next_state s (level_by s (2 * z2 + z1)))
+    behind = ap₂ (cost_at old) half (next_alike s z1 (2 * z2 + z1) l rest)
+
+    own : other ≡ weight scale symbol (level_by s (2 * z2 + z1)) + (2 * z2 + z1) + cond (nat_eq z1 0) first second
+    own = e ∙ fare_is scale symbol first second z2 z1 s f g l
+
+-- what is told of the half of a step with one Z2, at one state
+abbrev pub IsHalf : ℕ → ℤ → List (List ℕ) → ℕ → ℕ → ℕ → ℕ → Type 0
+IsHalf scale symbol old pin s z2 sum =
+    sum ≡ min (through (weight scale symbol) old s (2 * z2) + 2 * z2 + pen_of pin 0)
+    (through (weight scale symbol) old s (2 * z2 + 1) + (2 * z2 + 1) + pen_of pin 1)
+
+pub half_is : (scale : ℕ) (symbol : ℤ) (old : List (List ℕ)) (pin first second z2 s sum : ℕ) (fares : List ℕ) → z2 < 2
+    → s < 4 → first ≡ pen_of pin 0 → second ≡ pen_of pin 1
+    → ((i : ℕ) → i < 4 → get_or fares i 0 ≡ fare scale symbol first second (4 * z2 + i))
+    → sum ≡ min (get_or (get_or old z2 []) (next_state s (level_by s 0)) 0 + get_or fares (s / 2) 0)
+    (get_or (get_or old z2 []) (next_state s (level_by s 1)) 0 + get_or fares (2 + s / 2) 0)
+    → IsHalf scale symbol old pin s z2 sum
+half_is scale symbol old pin first second z2 s sum fares f l a b each e = omega (arith, e, with_none, with_one, a, b)
   where
-    by_test : (t u : Bool) → cond t 0 (cond u 0 1400000000) ≤ 1400000000
-    by_test true u = omega arith
-    by_test false true = omega arith
-    by_test false false = omega arith
+    with_none : get_or (get_or old z2 []) (next_state s (level_by s 0)) 0 + get_or fares (s / 2) 0
+        ≡ through (weight scale symbol) old s (2 * z2) + 2 * z2 + first
+    with_none =
+        way_is scale symbol old first second z2 0 s (get_or fares (s / 2) 0) f (omega arith) l
+        (each (s / 2) (omega arith) ∙ ap (fare scale symbol first second) (omega arith))
+        ∙ ap (λ k. through (weight scale symbol) old s k + k + first) (omega arith)
 
--- what is told of the two halves of a step, Z2 = 0 and Z2 = 1, at one state
-pub record AreHalves (row old : List (List ℕ)) (pin s low high x y : ℕ) : Type 0 where
-  pub low_is : low ≡ min (through row old s 0 + pen_of pin 0) (through row old s 1 + pen_of pin 1)
-  pub high_is : high ≡ min (through row old s 2 + pen_of pin 0) (through row old s 3 + pen_of pin 1)
-  pub low_bit : x / 2 ^ s % 2 ≡ cond (nat_lt (through row old s 1 + pen_of pin 1)
-      (through row old s 0 + pen_of pin 0)) 1 0
-  pub high_bit : y / 2 ^ s % 2
-      ≡ cond (nat_lt (through row old s 3 + pen_of pin 1) (through row old s 2 + pen_of pin 0)) 1 0
+    with_one : get_or (get_or old z2 []) (next_state s (level_by s 1)) 0 + get_or fares (2 + s / 2) 0
+        ≡ through (weight scale symbol) old s (2 * z2 + 1) + (2 * z2 + 1) + second
+    with_one = way_is scale symbol old first second z2 1 s (get_or fares (2 + s / 2) 0) f (omega arith) l
+        (each (2 + s / 2) (omega arith))
 
--- and of how they are joined behind a former Z2
-pub record AreJoined (pin p s low high new z : ℕ) : Type 0 where
-  pub new_is : new ≡ min (low + pen_of pin (2 + p)) (high + pen_of pin (2 + (1 + p) % 2))
-  pub bit : z / 2 ^ s % 2 ≡ cond (nat_lt (high + pen_of pin (2 + (1 + p) % 2)) (low + pen_of pin (2 + p))) 1 0
+-- the sums of a step are multiples of four but for the number
+pub penned_multiple : (level_cost : ℕ → ℕ) (old : List (List ℕ)) (pin p s j : ℕ)
+    → ((z : ℕ) → z < 8 → level_cost z % 4 ≡ 0) → AreMultiples old → s < 4 → j < 4
+    → penned level_cost old pin p s j % 4 ≡ 0
+penned_multiple level_cost old pin p s j own behind l m =
+    let a = own (level_by s j) (omega arith) in
+    let b = behind (j / 2) (next_state s (level_by s j)) (omega arith) (next_small s (level_by s j) l) in
+    let d = pen_multiple pin (j % 2) in
+    let e = pen_multiple pin (2 + (j / 2 + p) % 2) in
+    omega (arith, a, b, d, e)
 
-pub joined_best : (row : List (List ℕ)) (pin : ℕ) (old : List (List ℕ)) (p s low high x y z new mark : ℕ)
-    → AreSquares row → AreBounded 1388900448 old → p < 2 → s < 4 → AreHalves row old pin s low high x y
-    → AreJoined pin p s low high new z → z1_of mark 0 s ≡ x / 2 ^ s % 2 → z1_of mark 1 s ≡ y / 2 ^ s % 2
-    → z2_of mark p s ≡ z / 2 ^ s % 2
-    → IsBest row pin old p s (number_of mark p s) × (new ≡ through row old s (number_of mark p s))
-joined_best row pin old p s low high x y z new mark squares bounded f l h j a b c =
-    (best.0, j.new_is ∙ both ∙ found.1 ∙ best.1)
+-- bounds of fares and of the sums of a half
+pub fare_small : (scale : ℕ) (symbol : ℤ) (first second z : ℕ) → AreSmall (weight scale symbol) → first ≤ 1400000000
+    → second ≤ 1400000000 → z < 8 → fare scale symbol first second z ≤ 1400007171
+fare_small scale symbol first second z small l m o =
+    let a = small z o in let b = chosen (nat_eq (z / 2 % 2) 0) in omega (arith, a, b)
+  where
+    chosen : (t : Bool) → cond t first second ≤ 1400000000
+    chosen true = l
+    chosen false = m
+
+pub half_small : (sums fares : List ℕ) (s x : ℕ) → s < 4 → AreAtMost 154312704 sums → AreAtMost 1400007171 fares
+    → x ≡ min (get_or sums (next_state s (level_by s 0)) 0 + get_or fares (s / 2) 0)
+    (get_or sums (next_state s (level_by s 1)) 0 + get_or fares (2 + s / 2) 0) → x ≤ 2000000000
+half_small sums fares s x l few small e =
+    let a = few (next_state s (level_by s 0)) (next_small s (level_by s 0) l) in
+    let b = small (s / 2) (omega arith) in
+    omega (arith, a, b, e)
+
+-- the numbers that a mark gives
+pub mark_is : (x y : ℕ) → x < 256 → y < 256 → (s : ℕ) → s < 4
+    → (number_of (x + 256 * y) 0 s ≡ x / 2 ^ (2 * s) % 4) × (number_of (x + 256 * y) 1 s ≡ y / 2 ^ (2 * s) % 4)
+mark_is x y l m =
+    four (λ s. (number_of (x + 256 * y) 0 s ≡ x / 2 ^ (2 * s) % 4) × (number_of (x + 256 * y) 1 s ≡ y / 2 ^ (2 * s)
+    % 4)) (omega (arith, l, m), omega (arith, l, m)) (omega (arith, l, m), omega (arith, l, m))
+    (omega (arith, l, m), omega (arith, l, m)) (omega (arith, l, m), omega (arith, l, m))
+
+-- the least of the sums tells the best level and what it comes to
+joined_best : (scale : ℕ) (symbol : ℤ) (pin : ℕ) (old : List (List ℕ)) (p s low high sum : ℕ)
+    → AreSmall (weight scale symbol) → ((z : ℕ) → z < 8 → weight scale symbol z % 4 ≡ 0) → AreBounded 154312704 old
+    → AreMultiples old → p < 2 → s < 4 → IsHalf scale symbol old pin s 0 low → IsHalf scale symbol old pin s 1 high
+    → sum ≡ min (low + pen_of pin (2 + p)) (high + pen_of pin (2 + (1 + p) % 2))
+    → IsBest (weight scale symbol) pin old p s (sum % 4)
+    × (sum - sum % 4 ≡ through (weight scale symbol) old s (sum % 4))
+joined_best scale symbol pin old p s low high sum small own bounded behind f l first second e =
+    (best.0, told.1 ∙ best.1)
   where
     near : pen_of pin (2 + (0 + p) % 2) ≡ pen_of pin (2 + p)
     near = ap (λ n. pen_of pin (2 + n)) (omega arith)
 
-    found : IsFound (penned row old pin p s) (number_of mark p s)
-    found =
-        found_by_bits (penned row old pin p s) (λ z2. z1_of mark z2 s) (z2_of mark p s)
-        (raised _ _ _ (pen_of pin 1) (pen_of pin 0) (pen_of pin (2 + (0 + p) % 2)) (says_less _ _ _ (a ∙ h.low_bit)))
-        (raised _ _ _ (pen_of pin 1) (pen_of pin 0) (pen_of pin (2 + (1 + p) % 2)) (says_less _ _ _ (b ∙ h.high_bit)))
-        (of_both (says_less _ _ _ (c ∙ j.bit)))
-      where
-        raised : (m n bit d g e : ℕ) → SaysLess (m + d) (n + g) bit → SaysLess (m + (d + e)) (n + (g + e)) bit
-        raised m n bit d g e (inl t) = inl (omega (arith, t.0), t.1)
-        raised m n bit d g e (inr t) = inr (omega (arith, t.0), t.1)
+    told : IsFirstLeast (penned (weight scale symbol) old pin p s) (sum % 4)
+        × (sum - sum % 4 ≡ penned (weight scale symbol) old pin p s (sum % 4))
+    told = told_by_least (penned (weight scale symbol) old pin p s) sum
+        (λ j m. penned_multiple (weight scale symbol) old pin p s j own behind l m)
+        (omega (arith, near, first, second, e))
 
-        of_both : SaysLess (high + pen_of pin (2 + (1 + p) % 2)) (low + pen_of pin (2 + p)) (z2_of mark p s)
-            → SaysLess (min (penned row old pin p s 2) (penned row old pin p s 3))
-            (min (penned row old pin p s 0) (penned row old pin p s 1)) (z2_of mark p s)
-        of_both (inl t) = inl (omega (arith, t.0, near, h.low_is, h.high_is), t.1)
-        of_both (inr t) = inr (omega (arith, t.0, near, h.low_is, h.high_is), t.1)
+    best : IsBest (weight scale symbol) pin old p s (sum % 4)
+        × (penned (weight scale symbol) old pin p s (sum % 4) ≡ through (weight scale symbol) old s (sum % 4))
+    best = best_is (weight scale symbol) pin old p s (sum % 4) small bounded f l told.0
 
-    both : min (low + pen_of pin (2 + p)) (high + pen_of pin (2 + (1 + p) % 2))
-        ≡ min (min (penned row old pin p s 0) (penned row old pin p s 1))
-        (min (penned row old pin p s 2) (penned row old pin p s 3))
-    both = omega (arith, near, h.low_is, h.high_is)
-
-    best : IsBest row pin old p s (number_of mark p s)
-        × (penned row old pin p s (number_of mark p s) ≡ through row old s (number_of mark p s))
-    best = best_is row pin old p s (number_of mark p s) squares bounded f l found.0
+-- the same, where a mark tells the number, and a sum is what is left
+pub step_is : (scale : ℕ) (symbol : ℤ) (pin : ℕ) (old : List (List ℕ)) (p s low high sum number new : ℕ)
+    → AreSmall (weight scale symbol) → ((z : ℕ) → z < 8 → weight scale symbol z % 4 ≡ 0) → AreBounded 154312704 old
+    → AreMultiples old → p < 2 → s < 4 → IsHalf scale symbol old pin s 0 low → IsHalf scale symbol old pin s 1 high
+    → sum ≡ min (low + pen_of pin (2 + p)) (high + pen_of pin (2 + (1 + p) % 2)) → number ≡ sum % 4
+    → new ≡ sum - sum % 4
+    → IsBest (weight scale symbol) pin old p s number × (new ≡ through (weight scale symbol) old s number)
+step_is scale symbol pin old p s low high sum number new small own bounded behind f l first second e n k =
+    let h = joined_best scale symbol pin old p s low high sum small own bounded behind f l first second e in (
+      subst (IsBest (weight scale symbol) pin old p s) (sym n) h.0,
+      k ∙ h.1 ∙ ap (through (weight scale symbol) old s) (sym n),
+    )

@@ -13,9 +13,10 @@ use Rattle.dtx_pins.specs.PinnedField.{AreLeastPinned}
 use Rattle.dtx_pins.specs.Pins.{pin_at}
 use Rattle.dtx_pins.specs.Steps.{level_by, number_of}
 use Rattle.dtx_pins.specs.Trace.{IsNext, IsStand, IsStart, state_of}
-use Rattle.dtx_pins.specs.Walks.{AreLeastCosts, IsLeastFrom, IsMark}
+use Rattle.dtx_pins.specs.Walks.{AreLeastCosts, AreLeastSums, IsLeastFrom, IsMark}
 use Rattle.dtx_pins.proofs.PinnedPaths.{IsBestLevel, best_level, nothing_least, one_more}
 use Rattle.dtx_pins.proofs.PinnedStarts.{from_start}
+use Rattle.dtx_pins.proofs.PinnedUnits.{start_units}
 use Rattle.dtx_pins.proofs.PinnedWalks.{pin_here, pins_behind}
 
 -- what is written so far goes on with any least path from where it stands
@@ -35,11 +36,11 @@ pub record IsUnderWay (scale : ℕ) (pins : List ℕ) (symbols now : List ℤ) (
   pub whole : (levels : List ℕ) → IsLeastFrom scale pins symbols former start levels
       → IsLeastPinned scale pins symbols start levels
 
-pub sets_out : (scale : ℕ) (pins : List ℕ) (symbols : List ℤ) (costs : List (List ℕ)) (stand : Stand)
-    → IsStart (pin_at pins 0) costs stand → AreLeastCosts scale pins symbols costs
+pub sets_out : (scale : ℕ) (pins : List ℕ) (symbols : List ℤ) (sums : List (List ℕ)) (stand : Stand)
+    → IsStart (pin_at pins 0) sums stand → AreLeastSums scale pins symbols sums
     → IsUnderWay scale pins symbols symbols 0 stand
 unfolding distance
-sets_out scale pins symbols costs stand s p = record {
+sets_out scale pins symbols sums stand s p = record {
   former = stand.former;
   start = state_of stand;
   levels = [];
@@ -50,7 +51,8 @@ sets_out scale pins symbols costs stand s p = record {
   goes_on = λ rest h. h;
   written = refl;
   cost = s.cost;
-  whole = λ levels h. from_start scale pins symbols costs stand levels s p h;
+  whole = λ levels h. from_start scale pins symbols p.costs stand levels
+      (start_units scale (pin_at pins 0) p.costs sums stand p.units s) p.least h;
 }
 
 -- the state behind a level
@@ -119,8 +121,8 @@ goes_further scale pins symbols now t mark old new written l n m next u = record
     best : IsBestLevel scale (pin_at pins t) (get_or symbols t (pos 0)) m.behind old.former (state_of old)
         (level_by (state_of old) (number_of mark old.former (state_of old)))
     best =
-        best_level scale (pin_at pins t) (get_or symbols t (pos 0)) m.row m.behind old.former (state_of old)
-        (number_of mark old.former (state_of old)) m.right u.former_small low
+        best_level scale (pin_at pins t) (get_or symbols t (pos 0)) m.behind old.former (state_of old)
+        (number_of mark old.former (state_of old)) u.former_small low
         (m.best old.former (state_of old) u.former_small low)
 
     longer : (rest : List ℕ)

@@ -1,10 +1,11 @@
 -- What the walk back keeps: the least costs of paths that agree with pins, and the marks.
 use Rattle.std.specs.Prelude.{ℕ, ℤ, pos, ◌≡◌, ◌+◌, ◌<◌, ◌≤◌, List, [], length, drop, slice_index, slice_index_or}
-use Rattle.dtx_soft.specs.Gaps.{column}
 use Rattle.dtx_soft.specs.Least.{AreInOrder}
 use Rattle.dtx_soft.specs.Paths.{IsPath, cost}
 use Rattle.dtx_pins.specs.Pins.{AgreesFrom, coder_pins, pin_at}
-use Rattle.dtx_pins.specs.Steps.{IsBest, IsRow, cost_at, number_of}
+use Rattle.dtx_soft.specs.Gaps.{column, unit}
+use Rattle.dtx_pins.specs.Steps.{IsBest, cost_at, number_of, square_of}
+use Rattle.dtx_pins.specs.Weights.{AreUnits}
 
 -- the least cost of a path that agrees, from a former Z2 and a state: no such path costs less, and one costs as much
 pub record IsLeastCost (scale : ℕ) (pins : List ℕ) (symbols : List ℤ) (former state least : ℕ) : Type 0 where
@@ -29,18 +30,24 @@ pub record IsLeastFrom (scale : ℕ) (pins : List ℕ) (symbols : List ℤ) (for
   pub first : (others : List ℕ) → length others ≡ length symbols → IsPath state others → AgreesFrom former pins others
       → cost scale symbols others ≡ cost scale symbols levels → AreInOrder levels others
 
+-- sums of weights that stand for the least costs
+pub record AreLeastSums (scale : ℕ) (pins : List ℕ) (symbols : List ℤ) (sums : List (List ℕ)) : Type 0 where
+  pub costs : List (List ℕ)
+  pub least : AreLeastCosts scale pins symbols costs
+  pub units : AreUnits (unit scale) costs sums
+
 -- the mark of step t
 pub record IsMark (scale : ℕ) (pins : List ℕ) (symbols : List ℤ) (t mark : ℕ) : Type 0 where
   pub behind : List (List ℕ)
-  pub row : List (List ℕ)
   pub least : AreLeastCosts scale (drop (t + 1) pins) (drop (t + 1) symbols) behind
-  pub right : IsRow scale (slice_index_or symbols t (pos 0)) row
-  pub best : (p s : ℕ) → p < 2 → s < 4 → IsBest row (pin_at pins t) behind p s (number_of mark p s)
+  pub best : (p s : ℕ) → p < 2 → s < 4
+      → IsBest (square_of scale (slice_index_or symbols t (pos 0))) (pin_at pins t) behind p s (number_of mark p s)
 
--- what a walk back to step t gives: the least costs of each coder there, and the marks from there on
-pub record AreWalked (scale t : ℕ) (pins : List (List ℕ)) (rounds : List (List ℤ)) (costs : List (List (List ℕ)))
+-- what a walk back to step t gives: sums of weights that stand for the least costs of each coder there, and the marks
+-- from there on
+pub record AreWalked (scale t : ℕ) (pins : List (List ℕ)) (rounds : List (List ℤ)) (sums : ℕ → List (List ℕ))
     (marks : List (List ℕ)) : Type 0 where
-  pub costs_are : (e : ℕ) → e < 12
-      → AreLeastCosts scale (drop t (coder_pins pins e)) (drop t (column rounds e)) (slice_index_or costs e [])
+  pub sums_are : (e : ℕ) → e < 12
+      → AreLeastSums scale (drop t (coder_pins pins e)) (drop t (column rounds e)) (sums e)
   pub marks_are : (k e : ℕ) → t ≤ k → k < length rounds → e < 12
       → IsMark scale (coder_pins pins e) (column rounds e) k (slice_index (slice_index_or marks k []) e)

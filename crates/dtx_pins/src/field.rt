@@ -7,14 +7,14 @@ ghost use Rattle.dtx_pins.specs.PinnedField.{IsPinned};
 
 use crate::back::backward;
 use crate::forth::forward;
-use crate::table::Table;
+use crate::weights::Weights;
 use dtx_sizes::{CODERS, FIELD_PACKETS, SEGMENT, SEGMENT_ROUNDS};
 use dtx_soft::{LANES, MAX_SYMBOLS, lay_out, put_back};
 
 /// Replaces the symbols of each coder by those of its least path under its pins, and returns the sum of the costs. The
 /// caller lends the room: `rounds` for the symbols of all coders, and `marks` for a mark of each.
 pub(crate) fn pin_field(
-    table: &Table,
+    weights: &Weights,
     pins: &[[u8; CODERS]],
     rounds: &mut [[i8; LANES]],
     marks: &mut [[u16; LANES]],
@@ -24,12 +24,12 @@ pub(crate) fn pin_field(
     requires pins { length pins.now ≡ SEGMENT_ROUNDS * length segments.old }
     requires rounds { length rounds.old ≡ MAX_SYMBOLS }
     requires marks { length marks.old ≡ MAX_SYMBOLS }
-    ensures segments { IsPinned table.now.scale pins.now segments.old segments.new }
+    ensures segments { IsPinned weights.now.scale pins.now segments.old segments.new }
     ensures cost { result ≡ coders_distance segments.old segments.new CODERS }
 {
     let count = SEGMENT_ROUNDS * segments.len();
     pin_rounds(
-        table,
+        weights,
         pins,
         &mut rounds[..count],
         &mut marks[..count],
@@ -39,7 +39,7 @@ pub(crate) fn pin_field(
 
 /// Does the same with just the room that is needed.
 fn pin_rounds(
-    table: &Table,
+    weights: &Weights,
     pins: &[[u8; CODERS]],
     rounds: &mut [[i8; LANES]],
     marks: &mut [[u16; LANES]],
@@ -49,12 +49,12 @@ fn pin_rounds(
     requires pins { length pins.now ≡ SEGMENT_ROUNDS * length segments.old }
     requires rounds { length rounds.old ≡ SEGMENT_ROUNDS * length segments.old }
     requires marks { length marks.old ≡ SEGMENT_ROUNDS * length segments.old }
-    ensures segments { IsPinned table.now.scale pins.now segments.old segments.new }
+    ensures segments { IsPinned weights.now.scale pins.now segments.old segments.new }
     ensures cost { result ≡ coders_distance segments.old segments.new CODERS }
 {
     lay_out(segments, rounds);
-    let behind = backward(table, pins, rounds, marks);
-    let costs = forward(table.scale, pins, marks, &behind, rounds);
+    let behind = backward(weights, pins, rounds, marks);
+    let costs = forward(weights.scale, pins, marks, &behind, rounds);
     put_back(rounds, segments);
     total(&costs)
 }

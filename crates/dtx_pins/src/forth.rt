@@ -1,8 +1,8 @@
 //! The walk from the beginning of the symbols to their end, for all coders side by side. It follows the marks, and
 //! writes the symbols of the least paths.
 
-ghost use Rattle.std.specs.Prelude.{◌≡◌, ◌≢◌, ℕ, pos, ◌+◌, ◌*◌, ◌/◌, ◌%◌, ◌^◌, ◌<◌, ◌≤◌, length, slice_index};
-ghost use Rattle.std.specs.Prelude.{◌+ℤ◌, ◌≤ℤ◌, slice_index_or};
+ghost use Rattle.std.specs.Prelude.{◌≡◌, ◌≢◌, ℕ, pos, ◌+◌, ◌*◌, ◌/◌, ◌%◌, ◌<◌, ◌≤◌, length, slice_index};
+ghost use Rattle.std.specs.Prelude.{◌+ℤ◌, ◌≤ℤ◌, [], slice_index_or};
 ghost use Rattle.dtx_soft.specs.Gaps.{column};
 ghost use Rattle.dtx_soft.specs.Paths.{distance, symbol_at};
 ghost use Rattle.dtx_pins.specs.Pins.{coder_pins};
@@ -33,8 +33,8 @@ pub(crate) struct Stands {
     pub(crate) cost: [u32; LANES],
 }
 
-/// Replaces the symbols of each coder by those of its least path, and returns the costs of the paths. `behind` has the
-/// least costs before the first symbol.
+/// Replaces the symbols of each coder by those of its least path, and returns the costs of the paths. `behind` has sums
+/// of weights that stand for the least costs before the first symbol.
 pub(crate) fn forward(
     scale: u8,
     pins: &[[u8; CODERS]],
@@ -46,7 +46,7 @@ pub(crate) fn forward(
     requires few { length rounds.old ≤ MAX_SYMBOLS }
     requires pins { length pins.now ≡ length rounds.old }
     requires room { length marks.now ≡ length rounds.old }
-    requires walked { AreWalked scale 0 pins.now rounds.old behind.now marks.now }
+    requires walked { AreWalked scale 0 pins.now rounds.old (λ e. slice_index_or behind.now e []) marks.now }
     ensures paths { (e : ℕ) → e < CODERS
         → AreLeastPinned scale (coder_pins pins.now e) (column rounds.old e) (column rounds.new e) }
     ensures costs { (e : ℕ) → e < CODERS
@@ -148,45 +148,10 @@ fn number(mark: u16, former: u16, q1: u16, q0: u16) -> u16
     ensures number { result ≡ number_of mark former (2 * q1 + q0) }
     ensures small { result < 4 }
 {
-    let bit = bit_of(q1, q0);
-    let high = moved_up(256 * bit, former);
-    let z2 = is_set(mark, high);
-    let low = moved_up(bit, z2);
-    2 * z2 + is_set(mark, low)
-}
-
-/// 1 where a mark has this bit, else 0.
-#[inline(always)]
-fn is_set(mark: u16, bit: u16) -> u16
-    ensures set { (n : ℕ) → bit ≡ 2 ^ n → result ≡ mark / 2 ^ n % 2 }
-    ensures small { result < 2 }
-{
-    (mark & bit != 0) as u16
-}
-
-/// The bit, or the one four places up.
-#[inline(always)]
-fn moved_up(bit: u16, up: u16) -> u16
-    requires small { bit ≤ 2048 }
-    requires up { up < 2 }
-    ensures { (n : ℕ) → bit ≡ 2 ^ n → result ≡ 2 ^ (4 * up + n) }
-{
-    if up == 0 { bit } else { 16 * bit }
-}
-
-/// The bit of a state.
-#[inline(always)]
-fn bit_of(q1: u16, q0: u16) -> u16
-    requires q1 { q1 < 2 }
-    requires q0 { q0 < 2 }
-    ensures bit { result ≡ 2 ^ (2 * q1 + q0) }
-    ensures small { result ≤ 8 }
-{
-    if q1 == 0 {
-        if q0 == 0 { 1 } else { 2 }
-    } else {
-        if q0 == 0 { 4 } else { 8 }
-    }
+    let eight = if former == 0 { mark } else { mark / 256 };
+    let four = if q1 == 0 { eight } else { eight / 16 };
+    let two = if q0 == 0 { four } else { four / 4 };
+    two % 4
 }
 
 /// The symbol of level 2 * number + q1.

@@ -4,10 +4,11 @@
 mod back;
 mod field;
 mod forth;
+mod lanes;
 pub mod laws;
 mod pinned;
 mod start;
 mod step;
-mod table;
+mod weights;
 
 pub use pinned::{NO_PIN, Pinned};

@@ -5,7 +5,7 @@ ghost use Rattle.dtx_soft.specs.Coders.{coders_distance};
 ghost use Rattle.dtx_pins.specs.PinnedField.{IsPinned};
 
 use crate::field::pin_field;
-use crate::table::Table;
+use crate::weights::Weights;
 use dtx_sizes::{CODERS, FIELD_PACKETS, SEGMENT, SEGMENT_ROUNDS};
 use dtx_soft::{LANES, MAX_SCALE, MAX_SYMBOLS};
 use std::alloc::{AllocError, Global};
@@ -20,7 +20,7 @@ pub const NO_PIN: u8 = 4;
 /// order of level numbers. Contracts see its scale.
 #[derive(Drop)]
 pub struct Pinned {
-    table: Table,
+    weights: Weights,
     rounds: Vec<[i8; LANES]>,
     marks: Vec<[u16; LANES]>,
 }
@@ -31,7 +31,7 @@ impl Model for Pinned {
 
     ghost Value = { ℕ };
 
-    ghost view = { λ p. p.table.scale };
+    ghost view = { λ p. p.weights.scale };
 
     ghost invariant = { λ p. (vec_len p.rounds ≡ MAX_SYMBOLS) × (vec_len p.marks ≡ MAX_SYMBOLS) };
 }
@@ -44,7 +44,7 @@ impl Pinned {
         ensures { IfOk result (λ pinned. pinned ≡ scale) }
     {
         Ok(Pinned {
-            table: Table::new(alloc, scale)?,
+            weights: Weights::new(scale),
             rounds: vec![in alloc; [0i8; LANES]; MAX_SYMBOLS]?,
             marks: vec![in alloc; [0u16; LANES]; MAX_SYMBOLS]?,
         })
@@ -65,7 +65,7 @@ impl Pinned {
         ensures scale { self.new ≡ self.old }
     {
         pin_field(
-            &self.table,
+            &self.weights,
             pins,
             &mut self.rounds[..],
             &mut self.marks[..],

@@ -1,164 +1,152 @@
-//! One symbol further to the front: the least costs of one coder from each state, and the levels that come to them. No
+//! One symbol further to the front: the least sums of one coder from each state, and the levels that come to them. No
 //! branch depends on a pin, since one that does is seldom foretold: levels that don't give the pair cost more than any
 //! path.
+//!
+//! All sums are multiples of four, and each level has its number added, which is below four. So the least of four sums
+//! tells its level, and of equal ones the first is the least.
 
-ghost use Rattle.std.specs.Prelude.{◌≡◌, ℕ, ◌+◌, ◌*◌, ◌/◌, ◌%◌, ◌^◌, ◌<◌, ◌≤◌, [], length, min, nat_lt, if◌then◌else◌};
-ghost use Rattle.std.specs.Prelude.{slice_index, slice_index_or};
+ghost use Rattle.std.specs.Prelude.{◌≡◌, ℕ, ◌+◌, ◌-◌, ◌*◌, ◌/◌, ◌%◌, ◌^◌, ◌<◌, ◌≤◌, min};
+ghost use Rattle.std.specs.Prelude.{slice_index, nat_le, ◌==◌, if◌then◌else◌};
 ghost use Rattle.dtx_soft.specs.Paths.{next_state};
-ghost use Rattle.dtx_pins.specs.Steps.{AreAtMost, AreBounded, AreSquares, IsStep, level_by, pen_of, way};
+ghost use Rattle.dtx_pins.specs.Steps.{AreAtMost, AreBounded, IsStep, level_by, pen_of};
+ghost use Rattle.dtx_pins.specs.Weights.{AreMultiples, weight};
 
 use crate::pinned::NO_PIN;
+use crate::weights::{PEN, Weights};
 use dtx_soft::MAX_SYMBOLS;
-use std::simd::prelude::*;
 
-/// The greatest square of a symbol's distance from a level: (128 + 7 * 18)^2.
-pub(crate) const MAX_SQUARE: u32 = 64_516;
+/// The greatest weight.
+pub(crate) const MAX_WEIGHT: u32 = 7_168;
 
-/// What a level that doesn't give the pair costs more: more than any path, and twice that is still a number.
-const PEN: u32 = 1_400_000_000;
+/// What a pin adds to levels: where Z1 is 0, where it is 1, where Z2 is the former one, and where it is the other.
+#[derive(Drop)]
+struct Pens {
+    first: u32,
+    second: u32,
+    near: u32,
+    far: u32,
+}
 
-/// For each pin, and last for none, what is added where Z1 is 0, where it is 1, and where the sum of Z2 and the former
-/// Z2 is 0 or 1. Each number stands there for four states.
-static PENS: [[[u32; 4]; 4]; 5] = [
-    [[0; 4], [PEN; 4], [0; 4], [PEN; 4]],
-    [[PEN; 4], [0; 4], [0; 4], [PEN; 4]],
-    [[0; 4], [PEN; 4], [PEN; 4], [0; 4]],
-    [[PEN; 4], [0; 4], [PEN; 4], [0; 4]],
-    [[0; 4]; 4],
-];
-
-/// Turns the least costs behind a symbol into those before it, and returns the mark of the step. Entry p of the costs
-/// is for the former Z2, and has one for each state.
+/// Turns the least sums behind a symbol into those before it, and returns the mark of the step. Entry p of the sums is
+/// for the former Z2, and has one for each state.
 #[inline(always)]
-pub(crate) fn stepped(row: &[[u32; 4]; 4], pin: u8, behind: &mut [[u32; 4]; 2]) -> u16
-    requires squares { AreSquares row.now }
-    requires bounded { AreBounded (MAX_SQUARE * MAX_SYMBOLS) behind.old }
-    ensures { IsStep row.now pin behind.old behind.new result }
+pub(crate) fn stepped(weights: &Weights, symbol: i8, pin: u8, behind: &mut [[u32; 4]; 2]) -> u16
+    requires bounded { AreBounded (MAX_WEIGHT * MAX_SYMBOLS) behind.old }
+    requires multiples { AreMultiples behind.old }
+    ensures step { IsStep (weight weights.now.scale symbol) pin behind.old behind.new result }
+    ensures multiples { AreMultiples behind.new }
 {
     let pens = pens_of(pin);
-    let low = half(&row[0], &row[1], &behind[0], &pens[0], &pens[1]);
-    let high = half(&row[2], &row[3], &behind[1], &pens[0], &pens[1]);
-    let even = joined(low.0, high.0, &pens[2], &pens[3]);
-    let odd = joined(low.0, high.0, &pens[3], &pens[2]);
-    let with_none = even.0;
-    let with_one = odd.0;
-    *behind = [with_none, with_one];
-    low.1 + 16 * high.1 + 256 * even.1 + 4096 * odd.1
+    let fares = weights.fares(symbol, pens.first, pens.second);
+    let low = half(&behind[0], &fares.0);
+    let high = half(&behind[1], &fares.1);
+    let with_none = joined(&low, &high, pens.near, pens.far);
+    let with_one = joined(&low, &high, pens.far, pens.near);
+    *behind = [cleared(&with_none), cleared(&with_one)];
+    numbers(&with_none) + 256 * numbers(&with_one)
 }
 
 /// The pens of a pin.
 #[inline(always)]
-fn pens_of(pin: u8) -> &'static [[u32; 4]; 4]
-    ensures { (i s : ℕ) → i < 4 → s < 4 → slice_index (slice_index_or result.now i []) s ≡ pen_of pin i }
+fn pens_of(pin: u8) -> Pens
+    ensures first { result.first ≡ pen_of pin 0 }
+    ensures second { result.second ≡ pen_of pin 1 }
+    ensures near { result.near ≡ pen_of pin 2 }
+    ensures far { result.far ≡ pen_of pin 3 }
 {
-    &PENS[pin.min(NO_PIN) as usize]
+    let all = pen_of_all(pin);
+    let first = pen_by(pin % 2, all);
+    let near = pen_by(pin / 2 % 2, all);
+    Pens {
+        first,
+        second: all - first,
+        near,
+        far: all - near,
+    }
 }
 
-/// What the levels of one Z2 come to from each state: the lesser of Z1 = 0 and Z1 = 1, each with its pen, and a bit for
-/// each state that is 1 where the second is less.
+/// The pen of a pin that tells a pair, or none.
 #[inline(always)]
-fn half(
-    first: &[u32; 4],
-    second: &[u32; 4],
-    costs: &[u32; 4],
-    first_pen: &[u32; 4],
-    second_pen: &[u32; 4],
-) -> (u32x4, u16)
-    requires first { AreAtMost MAX_SQUARE first.now }
-    requires second { AreAtMost MAX_SQUARE second.now }
-    requires costs { AreAtMost (MAX_SQUARE * MAX_SYMBOLS) costs.now }
-    requires first_pen { AreAtMost PEN first_pen.now }
-    requires second_pen { AreAtMost PEN second_pen.now }
-    ensures long { length result.0 ≡ 4 }
-    ensures least { (s : ℕ) → s < 4 → slice_index result.0 s
-        ≡ min (way first.now costs.now first_pen.now s 0) (way second.now costs.now second_pen.now s 1) }
-    ensures bounded { AreAtMost (2 * PEN) result.0 }
-    ensures bits { (s : ℕ) → s < 4 → result.1 / 2 ^ s % 2
-        ≡ if nat_lt (way second.now costs.now second_pen.now s 1) (way first.now costs.now first_pen.now s 0)
-        then 1 else 0 }
-    ensures small { result.1 < 16 }
+fn pen_of_all(pin: u8) -> u32
+    ensures { result ≡ if nat_le 4 pin then 0 else PEN }
 {
-    let without = sum(
-        sum(u32x4::from_array(*first), straight(costs)),
-        u32x4::from_array(*first_pen),
-    );
-    let with = sum(
-        sum(u32x4::from_array(*second), crossed(costs)),
-        u32x4::from_array(*second_pen),
-    );
-    (least(without, with), less(with, without))
+    if NO_PIN <= pin { 0 } else { PEN }
 }
 
-/// The lesser of both Z2 with their pens, and a bit for each state that is 1 where Z2 = 1 is less.
+/// The pen of the levels with 0 where the pin has this bit.
 #[inline(always)]
-fn joined(low: u32x4, high: u32x4, near: &[u32; 4], far: &[u32; 4]) -> ([u32; 4], u16)
-    requires low_long { length low ≡ 4 }
-    requires high_long { length high ≡ 4 }
-    requires low_bounded { AreAtMost (2 * PEN) low }
-    requires high_bounded { AreAtMost (2 * PEN) high }
-    requires near { AreAtMost PEN near.now }
-    requires far { AreAtMost PEN far.now }
-    ensures least { (s : ℕ) → s < 4 → slice_index result.0 s
-        ≡ min (slice_index low s + slice_index near.now s) (slice_index high s + slice_index far.now s) }
-    ensures bits { (s : ℕ) → s < 4 → result.1 / 2 ^ s % 2
-        ≡ if nat_lt (slice_index high s + slice_index far.now s) (slice_index low s + slice_index near.now s)
-        then 1 else 0 }
-    ensures small { result.1 < 16 }
+fn pen_by(bit: u8, all: u32) -> u32
+    ensures pen { result ≡ if bit == 0 then 0 else all }
+    ensures small { result ≤ all }
 {
-    let without = sum(low, u32x4::from_array(*near));
-    let with = sum(high, u32x4::from_array(*far));
-    (least(without, with).to_array(), less(with, without))
+    if bit == 0 { 0 } else { all }
 }
 
-/// The costs of the states that Z1 = 0 leads to.
+/// What the levels of one Z2 come to from each state: the lesser of Z1 = 0 and Z1 = 1.
 #[inline(always)]
-fn straight(costs: &[u32; 4]) -> u32x4
-    ensures long { length result ≡ 4 }
-    ensures lanes { (s : ℕ) → s < 4 → slice_index result s ≡ slice_index costs.now (next_state s (level_by s 0)) }
+fn half(sums: &[u32; 4], fares: &[u32; 4]) -> [u32; 4]
+    requires sums { AreAtMost (MAX_WEIGHT * MAX_SYMBOLS) sums.now }
+    requires fares { AreAtMost (2 * PEN) fares.now }
+    ensures { (s : ℕ) → s < 4 → slice_index result s
+        ≡ min (slice_index sums.now (next_state s (level_by s 0)) + slice_index fares.now (s / 2))
+        (slice_index sums.now (next_state s (level_by s 1)) + slice_index fares.now (2 + s / 2)) }
 {
-    u32x4::from_array(*costs).swizzle([0, 2, 1, 3])
+    [
+        lesser(sums[0], fares[0], sums[2], fares[2]),
+        lesser(sums[2], fares[0], sums[0], fares[2]),
+        lesser(sums[1], fares[1], sums[3], fares[3]),
+        lesser(sums[3], fares[1], sums[1], fares[3]),
+    ]
 }
 
-/// The costs of the states that Z1 = 1 leads to.
+/// The lesser of both Z2 with their pens, from each state.
 #[inline(always)]
-fn crossed(costs: &[u32; 4]) -> u32x4
-    ensures long { length result ≡ 4 }
-    ensures lanes { (s : ℕ) → s < 4 → slice_index result s ≡ slice_index costs.now (next_state s (level_by s 1)) }
+fn joined(low: &[u32; 4], high: &[u32; 4], near: u32, far: u32) -> [u32; 4]
+    requires low { AreAtMost 2_000_000_000 low.now }
+    requires high { AreAtMost 2_000_000_000 high.now }
+    requires near { near ≤ PEN }
+    requires far { far ≤ PEN }
+    ensures { (s : ℕ) → s < 4
+        → slice_index result s ≡ min (slice_index low.now s + near) (slice_index high.now s + far) }
 {
-    u32x4::from_array(*costs).swizzle([2, 0, 3, 1])
+    [
+        lesser(low[0], near, high[0], far),
+        lesser(low[1], near, high[1], far),
+        lesser(low[2], near, high[2], far),
+        lesser(low[3], near, high[3], far),
+    ]
 }
 
-/// The sum of two numbers in each lane.
+/// The lesser of two sums.
 #[inline(always)]
-fn sum(a: u32x4, b: u32x4) -> u32x4
-    requires first { length a ≡ 4 }
-    requires second { length b ≡ 4 }
-    requires fits { (s : ℕ) → s < 4 → slice_index a s + slice_index b s < 2 ^ 32 }
-    ensures long { length result ≡ 4 }
-    ensures lanes { (s : ℕ) → s < 4 → slice_index result s ≡ slice_index a s + slice_index b s }
+fn lesser(sum: u32, more: u32, other: u32, other_more: u32) -> u32
+    requires first { sum + more < 2 ^ 32 }
+    requires second { other + other_more < 2 ^ 32 }
+    ensures { result ≡ min (sum + more) (other + other_more) }
 {
-    a + b
+    (sum + more).min(other + other_more)
 }
 
-/// The lesser of two numbers in each lane.
+/// The numbers of the levels that four sums tell, two bits for each.
 #[inline(always)]
-fn least(a: u32x4, b: u32x4) -> u32x4
-    requires first { length a ≡ 4 }
-    requires second { length b ≡ 4 }
-    ensures long { length result ≡ 4 }
-    ensures lanes { (s : ℕ) → s < 4 → slice_index result s ≡ min (slice_index a s) (slice_index b s) }
+fn numbers(sums: &[u32; 4]) -> u16
+    ensures numbers { (s : ℕ) → s < 4 → result / 2 ^ (2 * s) % 4 ≡ slice_index sums.now s % 4 }
+    ensures small { result < 256 }
 {
-    a.simd_min(b)
+    let low = sums[0] % 4 + 4 * (sums[1] % 4);
+    let high = sums[2] % 4 + 4 * (sums[3] % 4);
+    (low + 16 * high) as u16
 }
 
-/// Bit s is 1 where lane s of the first is less than that of the second.
+/// Four sums without the numbers of their levels.
 #[inline(always)]
-fn less(a: u32x4, b: u32x4) -> u16
-    requires first { length a ≡ 4 }
-    requires second { length b ≡ 4 }
-    ensures bits { (s : ℕ) → s < 4
-        → result / 2 ^ s % 2 ≡ if nat_lt (slice_index a s) (slice_index b s) then 1 else 0 }
-    ensures small { result < 16 }
+fn cleared(sums: &[u32; 4]) -> [u32; 4]
+    ensures { (s : ℕ) → s < 4 → slice_index result s ≡ slice_index sums.now s - slice_index sums.now s % 4 }
 {
-    a.simd_lt(b).to_bitmask() as u16
+    [
+        sums[0] - sums[0] % 4,
+        sums[1] - sums[1] % 4,
+        sums[2] - sums[2] % 4,
+        sums[3] - sums[3] % 4,
+    ]
 }

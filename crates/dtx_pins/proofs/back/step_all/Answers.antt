@@ -1,24 +1,23 @@
-use Rattle.std.proofs.Common.{◌≡◌, ℤ, pos, ◌<◌, [], get_or, length, sym, subst, w8, arith, rules}
+use Rattle.std.proofs.Common.{◌≡◌, ℤ, pos, ◌<◌, get_or, length, ◌∙◌, subst, w8, to_z, of_z, arith, rules}
 use mir.Val.{SFits}
-use Rattle.std.proofs.lemmas.Int.{to_z-of_z}
+use Rattle.std.proofs.lemmas.Int.{ints, to_z-of_z}
 use Rattle.std.proofs.lemmas.List.{get_or_default}
+use Rattle.dtx_pins.specs.Lanes.{sums_of}
 use Rattle.dtx_pins.specs.Pins.{pin_at}
-use Rattle.dtx_pins.specs.Steps.{AreBounded, IsRow, IsStep, IsStepAt}
-use Rattle.dtx_pins.proofs.PinnedWalks.{coder_stepped}
+use Rattle.dtx_pins.specs.Steps.{IsStep}
+use Rattle.dtx_pins.specs.Weights.{weight}
+use Rattle.dtx_pins.proofs.PinnedWalks.{coder_stepped, multiples_written, step_written}
 use Rattle.dtx_pins.proofs.back.step_all.Goals as goal
-
-pub stepped-requires-clause-squares : goal.stepped-requires-clause-squares
-stepped-requires-clause-squares c k s l m = (c.row.ensures k l s m).1
-
-pub stepped-requires-clause-bounded : goal.stepped-requires-clause-bounded
-stepped-requires-clause-bounded c =
-    subst (AreBounded 1388900448) (sym (c.loop-e.invariant.left c.loop-e.e (omega arith)))
-    (c.requires c.loop-e.e (omega arith))
 
 pub loop-e-preserved : goal.loop-e-preserved
 loop-e-preserved c =
-    coder_stepped c.args.table.now.scale c.args.symbols.now c.args.pins.now c.loop-e.e c.args.behind.now c.loop-e.behind
-    c.loop-e.marks c.stepped.new.behind c.stepped.result (omega arith) step c.loop-e.invariant
+    coder_stepped c.args.weights.now.scale c.args.symbols.now c.args.pins.now c.loop-e.e (sums_of c.args.sums.now)
+    (sums_of c.loop-e.sums) (sums_of c.put_sums.new.sums) c.loop-e.marks c.stepped.result (omega arith)
+    (step_written (weight c.args.weights.now.scale (get_or c.args.symbols.now c.loop-e.e (pos 0)))
+    (pin_at c.args.pins.now c.loop-e.e) (sums_of c.args.sums.now c.loop-e.e) c.stepped.new.behind
+    (sums_of c.put_sums.new.sums c.loop-e.e) c.stepped.result c.put_sums.ensures.written step)
+    (multiples_written c.stepped.new.behind (sums_of c.put_sums.new.sums c.loop-e.e) c.put_sums.ensures.written
+    c.stepped.ensures.multiples) (omega (arith, ints, fits), omega (arith, ints, fits)) c.put_sums.ensures.others c.loop-e.invariant
   where
     symbol : ℤ
     symbol = get_or c.args.symbols.now c.loop-e.e (pos 0)
@@ -32,14 +31,21 @@ loop-e-preserved c =
     within : c.loop-e.e < length c.args.pins.now
     within = omega (arith, long)
 
-    step : IsStepAt c.args.table.now.scale (get_or c.args.symbols.now c.loop-e.e (pos 0))
-        (pin_at c.args.pins.now c.loop-e.e) (get_or c.args.behind.now c.loop-e.e []) c.stepped.new.behind
+    step : IsStep (weight c.args.weights.now.scale (get_or c.args.symbols.now c.loop-e.e (pos 0)))
+        (pin_at c.args.pins.now c.loop-e.e) (sums_of c.args.sums.now c.loop-e.e) c.stepped.new.behind
         c.stepped.result
-    step = record {
-      row = c.row.result.now;
-      right = subst (λ v. IsRow c.args.table.now.scale v c.row.result.now) (to_z-of_z w8 symbol fits) c.row.ensures;
-      step = subst (λ old. IsStep c.row.result.now (pin_at c.args.pins.now c.loop-e.e) old c.stepped.new.behind
-          c.stepped.result) (c.loop-e.invariant.left c.loop-e.e (omega arith))
-          (subst (λ pin. IsStep c.row.result.now pin (get_or c.loop-e.behind c.loop-e.e []) c.stepped.new.behind
-          c.stepped.result) (get_or_default c.args.pins.now c.loop-e.e 0 4 within) c.stepped.ensures);
-    }
+    step =
+        subst (λ v. IsStep (weight c.args.weights.now.scale v) (pin_at c.args.pins.now c.loop-e.e)
+        (sums_of c.args.sums.now c.loop-e.e) c.stepped.new.behind c.stepped.result) (to_z-of_z w8 symbol fits)
+        (subst (λ pin. IsStep (weight c.args.weights.now.scale (to_z w8 (of_z w8 (get_or c.args.symbols.now c.loop-e.e
+        (pos 0))))) pin (sums_of c.args.sums.now c.loop-e.e) c.stepped.new.behind c.stepped.result)
+        (get_or_default c.args.pins.now c.loop-e.e 0 4 within)
+        (subst (λ old. IsStep (weight c.args.weights.now.scale (to_z w8 (of_z w8 (get_or c.args.symbols.now c.loop-e.e
+        (pos 0))))) (get_or c.args.pins.now c.loop-e.e 0) old c.stepped.new.behind c.stepped.result)
+        (c.coder_sums-coder.ensures ∙ c.loop-e.invariant.left c.loop-e.e (omega arith)) c.stepped.ensures.step))
+
+pub returns-clause-from : goal.returns-clause-from
+returns-clause-from c e l = (c.loop-e.invariant.bytes e (omega arith)).0
+
+pub returns-clause-to : goal.returns-clause-to
+returns-clause-to c e l = (c.loop-e.invariant.bytes e (omega arith)).1

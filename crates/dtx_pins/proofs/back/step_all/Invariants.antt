@@ -1,5 +1,6 @@
+use Rattle.dtx_pins.specs.Lanes.{sums_of}
 use Rattle.dtx_pins.proofs.PinnedWalks.{AreStepped}
 use Rattle.dtx_pins.proofs.back.step_all.Given as goal
 
 abbrev pub invariant-loop-e : goal.invariant-loop-e
-invariant-loop-e l = AreStepped l.table.scale l.symbols l.pins l.e l.fn.behind l.behind l.marks
+invariant-loop-e l = AreStepped l.weights.scale l.symbols l.pins l.e (sums_of l.fn.sums) (sums_of l.sums) l.marks

@@ -11,9 +11,9 @@ pub returns-clause-segments : goal.returns-clause-segments
 returns-clause-segments c = record {
   long = search rules;
   syncs = c.put_back.ensures.syncs;
-  coders = λ e l. subst (λ old. AreLeastPinned c.args.table.now.scale (coder_pins c.args.pins.now e) old
+  coders = λ e l. subst (λ old. AreLeastPinned c.args.weights.now.scale (coder_pins c.args.pins.now e) old
       (coder_symbols c.put_back.new.segments e)) (c.lay_out.ensures e l)
-      (subst (AreLeastPinned c.args.table.now.scale (coder_pins c.args.pins.now e) (column c.lay_out.new.rounds e))
+      (subst (AreLeastPinned c.args.weights.now.scale (coder_pins c.args.pins.now e) (column c.lay_out.new.rounds e))
       (sym (c.put_back.ensures.coders e l)) (c.forward-costs.ensures.paths e l));
 }
 

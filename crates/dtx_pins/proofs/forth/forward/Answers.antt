@@ -17,7 +17,7 @@ loop-t-init c = record {
   under_way = λ e l. sets_out c.args.scale (coder_pins c.args.pins.now e) (column c.args.rounds.now e)
       (get_or c.args.behind.now e []) (stand_at c.starts-stands.result e)
       (subst (λ pin. IsStart pin (get_or c.args.behind.now e []) (stand_at c.starts-stands.result e))
-      (sym (pin_in_column c.args.pins.now e 0)) (c.starts-stands.ensures.starts e l)) (c.requires.walked.costs_are e l);
+      (sym (pin_in_column c.args.pins.now e 0)) (c.starts-stands.ensures.starts e l)) (c.requires.walked.sums_are e l);
   stands = c.starts-stands.ensures.stands;
 }
 

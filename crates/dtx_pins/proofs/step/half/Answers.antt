@@ -1,16 +1,13 @@
-use Rattle.std.proofs.Common.{arith}
+use Rattle.std.proofs.Common.{◌≡◌, ◌+◌, ◌/◌, min, [], ◌∷◌, get_or}
 use Rattle.dtx_soft.specs.Paths.{next_state}
+use Rattle.dtx_soft.proofs.WritesLemmas.{four}
 use Rattle.dtx_pins.specs.Steps.{level_by}
-use Rattle.dtx_soft.proofs.LeastPathLemmas.{next_small}
 use Rattle.dtx_pins.proofs.step.half.Goals as goal
 
-pub returns-clause-bounded : goal.returns-clause-bounded
-returns-clause-bounded c s l =
-    let a = c.least.ensures.lanes s l in
-    let b = c.sum-without.ensures.lanes s l in
-    let d = c.sum.ensures.lanes s l in
-    let e = c.straight.ensures.lanes s l in
-    let f = c.requires.first s l in
-    let g = c.requires.costs (next_state s (level_by s 0)) (next_small s (level_by s 0) l) in
-    let h = c.requires.first_pen s l in
-    omega (arith, a, b, d, e, f, g, h)
+pub returns : goal.returns
+unfolding next_state
+returns c =
+    four (λ s. get_or (c.lesser.result ∷ c.lesser-2.result ∷ c.lesser-3.result ∷ c.lesser-4.result ∷ []) s 0
+    ≡ min (get_or c.args.sums.now (next_state s (level_by s 0)) 0 + get_or c.args.fares.now (s / 2) 0)
+    (get_or c.args.sums.now (next_state s (level_by s 1)) 0 + get_or c.args.fares.now (2 + s / 2) 0))
+    c.lesser.ensures c.lesser-2.ensures c.lesser-3.ensures c.lesser-4.ensures

@@ -1,0 +1,132 @@
+-- Sums of weights stand for costs, one step further and at the start.
+use Rattle.std.proofs.Common.{◌≡◌, ℕ, zero, suc, ℤ, pos, ◌+◌, ◌*◌, ◌/◌, ◌<◌, ◌≤◌, ◌⊎◌, inl, inr, ◌+ℤ◌, ◌≤ℤ◌}
+use Rattle.std.proofs.Common.{List, [], ◌∷◌, refl, sym, subst, arith}
+use Rattle.std.proofs.lemmas.Bool.{cases_lt}
+use Rattle.std.proofs.Math.Nat.{mul-add, mul-le-mul_left}
+use Rattle.dtx_soft.specs.Gaps.{unit}
+use Rattle.dtx_soft.specs.Paths.{next_state}
+use Rattle.dtx_soft.proofs.LeastPathLemmas.{next_small}
+use Rattle.dtx_soft.proofs.WritesLemmas.{four}
+use Rattle.dtx_pins.specs.declared.forth.Stand.{Stand}
+use Rattle.dtx_pins.specs.Steps.{IsBest, IsStep, IsStepAt, cost_at, level_by, number_of, square_of, through}
+use Rattle.dtx_pins.specs.Trace.{IsStart, state_of}
+use Rattle.dtx_pins.specs.Weights.{AreUnits, weight}
+use Rattle.dtx_pins.proofs.WeightTests.{IsWeighed, is_weighed}
+
+-- ---- orders
+
+unit_some : (scale : ℕ) → 0 < unit scale
+unit_some scale = omega arith
+
+-- a number that stands for another one
+abbrev Stands : ℕ → ℕ → ℕ → ℕ → ℕ → Type 0
+Stands k lift base x a = 4 * x + k * lift ≡ base + k * a
+
+keeps_most : (k lift base x y a b : ℕ) → Stands k lift base x a → Stands k lift base y b → a ≤ b → x ≤ y
+keeps_most k lift base x y a b e f l = let g : k * a ≤ k * b = mul-le-mul_left k l in omega (arith, e, f, g)
+
+keeps_same : (k lift base x y a b : ℕ) → 0 < k → Stands k lift base x a → Stands k lift base y b → x ≡ y → a ≡ b
+keeps_same k lift base x y a b s e f h = by_order (cases_lt a b) (cases_lt b a)
+  where
+    never : (c d : ℕ) → c < d → k * c ≡ k * d → ⊥
+    never c d l t =
+        let g : k * (c + 1) ≤ k * d = mul-le-mul_left k (omega arith) in omega (arith, g, s, t, mul-add k c 1)
+
+    alike : k * a ≡ k * b
+    alike = omega (arith, e, f, h)
+
+    by_order : (a < b) ⊎ (b ≤ a) → (b < a) ⊎ (a ≤ b) → a ≡ b
+    by_order (inl l) m = absurd (never a b l alike)
+    by_order (inr l) (inl m) = absurd (never b a m (sym alike))
+    by_order (inr l) (inr m) = omega arith
+
+-- ---- one step
+
+through_units : (scale : ℕ) (symbol : ℤ) (costs sums : List (List ℕ)) (u : AreUnits (unit scale) costs sums)
+    → ((z : ℕ) → z < 8 → IsWeighed scale symbol z) → (s k : ℕ) → s < 4 → k < 4
+    → Stands (unit scale) (3584 + u.lift) (4 * square_of scale symbol 0 + u.base)
+    (through (square_of scale symbol) costs s k) (through (weight scale symbol) sums s k)
+through_units scale symbol costs sums u w s k l m =
+    let own = (w (level_by s k) (omega arith)).units in
+    let behind = u.each (k / 2) (next_state s (level_by s k)) (omega arith) (next_small s (level_by s k) l) in
+    sum (unit scale) 3584 u.lift (4 * square_of scale symbol 0) u.base _ _ _ _ own behind
+  where
+    sum : (k l j b a m p n q : ℕ) → 4 * m + k * l ≡ b + k * n → 4 * p + k * j ≡ a + k * q
+        → 4 * (m + p) + k * (l + j) ≡ b + a + k * (n + q)
+    sum k l j b a m p n q e f = omega (arith, mul-add k l j, mul-add k n q, e, f)
+
+best_units : (scale : ℕ) (symbol : ℤ) (pin : ℕ) (costs sums : List (List ℕ)) → AreUnits (unit scale) costs sums
+    → ((z : ℕ) → z < 8 → IsWeighed scale symbol z) → (p s k : ℕ) → s < 4
+    → IsBest (weight scale symbol) pin sums p s k → IsBest (square_of scale symbol) pin costs p s k
+best_units scale symbol pin costs sums u w p s k l b = record {
+  small = b.small;
+  told = b.told;
+  least = λ j m t. keeps_most (unit scale) (3584 + u.lift) (4 * square_of scale symbol 0 + u.base) _ _ _ _
+      (stands k b.small) (stands j m) (b.least j m t);
+  first = λ j m t e. b.first j m t (keeps_same (unit scale) (3584 + u.lift)
+      (4 * square_of scale symbol 0 + u.base) _ _ _ _ (unit_some scale) (stands j m) (stands k b.small) e);
+}
+  where
+    stands : (k : ℕ) → k < 4 → Stands (unit scale) (3584 + u.lift) (4 * square_of scale symbol 0 + u.base)
+        (through (square_of scale symbol) costs s k) (through (weight scale symbol) sums s k)
+    stands k m = through_units scale symbol costs sums u w s k l m
+
+-- eight numbers as the costs from each former Z2 and state
+listed : (ℕ → ℕ → ℕ) → List (List ℕ)
+listed f = (f 0 0 ∷ f 0 1 ∷ f 0 2 ∷ f 0 3 ∷ []) ∷ (f 1 0 ∷ f 1 1 ∷ f 1 2 ∷ f 1 3 ∷ []) ∷ []
+
+listed_at : (f : ℕ → ℕ → ℕ) (p s : ℕ) → p < 2 → s < 4 → cost_at (listed f) p s ≡ f p s
+unfolding listed
+listed_at f zero s l m = four (λ s. cost_at (listed f) 0 s ≡ f 0 s) refl refl refl refl s m
+listed_at f (suc zero) s l m = four (λ s. cost_at (listed f) 1 s ≡ f 1 s) refl refl refl refl s m
+listed_at f (suc (suc p)) s l m = absurd (omega arith)
+
+-- what a step over weights is over squares
+pub record AreStepUnits (scale : ℕ) (symbol : ℤ) (pin : ℕ) (costs new : List (List ℕ)) (mark : ℕ) : Type 0 where
+  pub after : List (List ℕ)
+  pub step : IsStepAt scale symbol pin costs after mark
+  pub units : AreUnits (unit scale) after new
+
+pub step_units : (scale : ℕ) (symbol : ℤ) (pin : ℕ) (costs old new : List (List ℕ)) (mark : ℕ) → scale ≤ 18
+    → pos 0 ≤ℤ (symbol +ℤ pos 128) → symbol ≤ℤ pos 127 → AreUnits (unit scale) costs old
+    → IsStep (weight scale symbol) pin old new mark → AreStepUnits scale symbol pin costs new mark
+step_units scale symbol pin costs old new mark l from to u h = record {
+  after = listed after;
+  step = record {
+    best = λ p s f m. best_units scale symbol pin costs old u weighed p s (number_of mark p s) m (h.best p s f m);
+    costs = λ p s f m. listed_at after p s f m;
+  };
+  units = record {
+    base = 4 * square_of scale symbol 0 + u.base;
+    lift = 3584 + u.lift;
+    each = λ p s f m. subst (λ x. Stands (unit scale) (3584 + u.lift) (4 * square_of scale symbol 0 + u.base) x
+        (cost_at new p s)) (sym (listed_at after p s f m))
+        (subst (Stands (unit scale) (3584 + u.lift) (4 * square_of scale symbol 0 + u.base) (after p s))
+        (sym (h.costs p s f m))
+        (through_units scale symbol costs old u weighed s (number_of mark p s) m (h.best p s f m).small));
+  };
+}
+  where
+    after : ℕ → ℕ → ℕ
+    after p s = through (square_of scale symbol) costs s (number_of mark p s)
+
+    weighed : (z : ℕ) → z < 8 → IsWeighed scale symbol z
+    weighed z m = is_weighed scale symbol z l from to m
+
+-- ---- the start
+
+pub start_units : (scale pin : ℕ) (costs sums : List (List ℕ)) (stand : Stand) → AreUnits (unit scale) costs sums
+    → IsStart pin sums stand → IsStart pin costs stand
+start_units scale pin costs sums stand u h = record {
+  former = h.former;
+  q1 = h.q1;
+  q0 = h.q0;
+  cost = h.cost;
+  least = λ p s f m. keeps_most (unit scale) u.lift u.base _ _ _ _ own (u.each p s f m) (h.least p s f m);
+  first = λ p s f m e. h.first p s f m
+      (keeps_same (unit scale) u.lift u.base _ _ _ _ (unit_some scale) (u.each p s f m) own e);
+}
+  where
+    own : Stands (unit scale) u.lift u.base (cost_at costs stand.former (state_of stand))
+        (cost_at sums stand.former (state_of stand))
+    own = u.each stand.former (state_of stand) h.former (let a = h.q1 in let b = h.q0 in omega arith)
