@@ -53,7 +53,11 @@ pub(crate) fn put_rows<const B: usize, const W: usize>(
 
 /// The bytes of `W` places of `count` rows.
 #[inline(always)]
-pub(crate) fn rows_at<const B: usize, const W: usize>(bytes: &[u8], place: usize, count: usize) -> [u8x16; 16]
+pub(crate) fn rows_at<const B: usize, const W: usize>(
+    bytes: &[u8],
+    place: usize,
+    count: usize,
+) -> [u8x16; 16]
     requires numbers { (B ≤ 64) × (W ≤ 16) }
     requires rows { (count ≤ 16) × (count * B + place + W ≤ length bytes.now + B) }
     ensures tile { IsTile result }
