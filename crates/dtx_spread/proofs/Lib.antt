@@ -7,5 +7,6 @@ pub mod Written
 pub mod Strips
 pub mod Tiling
 pub mod ShortCalls
+pub mod Moves
 pub mod Filled
 pub mod Shuffling

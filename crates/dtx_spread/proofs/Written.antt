@@ -62,16 +62,16 @@ fewer_behind n i items column l = by_cases (cases_lt i (length items))
         ∙ sym (get_or-append_right items (take n column) (length items) i 0 refl h
         ∙ get_or-take n column (i - length items) 0 (omega arith))
 
--- fewer than sixteen items, and a column of sixteen bytes put behind them
+-- fewer than 32 items, and a column of sixteen bytes put behind them
 abbrev pub short_put : ℕ → List ℕ → List ℕ → List ℕ → List ℕ
 short_put n room items column =
-    put_mid n (32 - n) (items ++ drop n room) (put_chunk 0 (take (32 - n) (drop n (items ++ drop n room))) column)
+    put_mid n (48 - n) (items ++ drop n room) (put_chunk 0 (take (48 - n) (drop n (items ++ drop n room))) column)
 
 abbrev pub short_joined : List ℕ → List ℕ → List ℕ → List ℕ
 short_joined room items column = short_put (length items) room items column
 
-length-room : (room items : List ℕ) → length items < 16 → length room ≡ 32
-    → length (items ++ drop (length items) room) ≡ 32
+length-room : (room items : List ℕ) → length items < 32 → length room ≡ 48
+    → length (items ++ drop (length items) room) ≡ 48
 length-room room items l e =
     omega (
       arith,
@@ -79,47 +79,47 @@ length-room room items l e =
       length-drop (length items) room,
     )
 
-pub short_byte : (i : ℕ) (room items column : List ℕ) → length items < 16 → length column ≡ 16 → length room ≡ 32
+pub short_byte : (i : ℕ) (room items column : List ℕ) → length items < 32 → length column ≡ 16 → length room ≡ 48
     → i < length items + 16 → get_or (short_joined room items column) i 0 ≡ get_or (items ++ column) i 0
 short_byte i room items column l lc lr m = by_cases (cases_lt i (length items))
   where
-    long : length (take (32 - length items) (drop (length items) (items ++ drop (length items) room)))
-        ≡ 32 - length items
-    long = length-take-le (32 - length items) (drop (length items) (items ++ drop (length items) room))
+    long : length (take (48 - length items) (drop (length items) (items ++ drop (length items) room)))
+        ≡ 48 - length items
+    long = length-take-le (48 - length items) (drop (length items) (items ++ drop (length items) room))
         (omega (arith, length-drop (length items) (items ++ drop (length items) room), length-room room items l lr))
 
     by_cases : (i < length items) ⊎ (length items ≤ i)
         → get_or (short_joined room items column) i 0 ≡ get_or (items ++ column) i 0
     by_cases (inl h) =
-        written_before (length items) (32 - length items) i (items ++ drop (length items) room)
-        (put_chunk 0 (take (32 - length items) (drop (length items) (items ++ drop (length items) room))) column)
+        written_before (length items) (48 - length items) i (items ++ drop (length items) room)
+        (put_chunk 0 (take (48 - length items) (drop (length items) (items ++ drop (length items) room))) column)
         (omega (arith, length-room room items l lr)) h
         ∙ get_or_append_left items (drop (length items) room) 0 i h ∙ sym (get_or_append_left items column 0 i h)
     by_cases (inr h) =
         let e : length items + (i - length items) ≡ i = omega arith in
         ap (λ x. get_or (short_joined room items column) x 0) (sym e)
-        ∙ written_at (length items) (32 - length items) (i - length items) (items ++ drop (length items) room)
-        (put_chunk 0 (take (32 - length items) (drop (length items) (items ++ drop (length items) room))) column)
+        ∙ written_at (length items) (48 - length items) (i - length items) (items ++ drop (length items) room)
+        (put_chunk 0 (take (48 - length items) (drop (length items) (items ++ drop (length items) room))) column)
         (omega (arith, length-room room items l lr))
         (omega (
           arith,
           m,
           long,
           length-put_chunk 0
-              (take (32 - length items) (drop (length items) (items ++ drop (length items) room))) column,
+              (take (48 - length items) (drop (length items) (items ++ drop (length items) room))) column,
         ))
         ∙ ap (λ x. get_or (put_chunk 0
-        (take (32 - length items) (drop (length items) (items ++ drop (length items) room))) column) x 0)
+        (take (48 - length items) (drop (length items) (items ++ drop (length items) room))) column) x 0)
         (none (i - length items))
-        ∙ get_or-put_chunk_at 0 (take (32 - length items) (drop (length items) (items ++ drop (length items) room)))
+        ∙ get_or-put_chunk_at 0 (take (48 - length items) (drop (length items) (items ++ drop (length items) room)))
         column (i - length items) 0 (omega (arith, m, lc)) (omega (arith, long, m))
         ∙ sym (get_or-append_right items column (length items) i 0 refl h)
       where
         none : (x : ℕ) → x ≡ 0 + x
         none x = omega arith
 
-pub short_on : (n : ℕ) (room items column : List ℕ) → n ≤ 16 → length items < 16 → length column ≡ 16
-    → length room ≡ 32
+pub short_on : (n : ℕ) (room items column : List ℕ) → n ≤ 16 → length items < 32 → length column ≡ 16
+    → length room ≡ 48
     → take (n + length items - n) (drop n (short_joined room items column)) ≡ drop n (items ++ take n column)
 short_on n room items column few l lc lr =
     ext_get_or 0 (take (n + length items - n) (drop n (short_joined room items column)))
@@ -139,13 +139,13 @@ short_on n room items column few l lc lr =
           (omega (arith, length-drop n (short_joined room items column), whole)),
     )))
   where
-    whole : length (short_joined room items column) ≡ 32
+    whole : length (short_joined room items column) ≡ 48
     whole =
-        length_written (length items) (32 - length items) (items ++ drop (length items) room)
-        (put_chunk 0 (take (32 - length items) (drop (length items) (items ++ drop (length items) room))) column)
+        length_written (length items) (48 - length items) (items ++ drop (length items) room)
+        (put_chunk 0 (take (48 - length items) (drop (length items) (items ++ drop (length items) room))) column)
         (omega (arith, length-room room items l lr))
-        (length-put_chunk 0 (take (32 - length items) (drop (length items) (items ++ drop (length items) room))) column
-        ∙ length-take-le (32 - length items) (drop (length items) (items ++ drop (length items) room))
+        (length-put_chunk 0 (take (48 - length items) (drop (length items) (items ++ drop (length items) room))) column
+        ∙ length-take-le (48 - length items) (drop (length items) (items ++ drop (length items) room))
         (omega (arith, length-drop (length items) (items ++ drop (length items) room), length-room room items l lr)))
         ∙ length-room room items l lr
 
@@ -215,7 +215,7 @@ last_two n k room first second lr lf ls few l =
 
 pub long_on : (n : ℕ) (items column moved last : List ℕ) → n ≤ 16 → 16 ≤ length items → length column ≡ 16
     → length moved ≡ length items → length last ≡ 16
-    → ((k d : ℕ) → 0 ≤ k → k < 0 + (length items - n) → get_or moved k d ≡ get_or items (n + (k - 0)) d)
+    → ((k : ℕ) → k + n < length items → get_or moved k 0 ≡ get_or items (n + k) 0)
     → ((k : ℕ) → k < 16
     → get_or last k 0 ≡ get_or (chunk (length items - 16) 16 items ++ column) (n + k) 0)
     → put_chunk (length items - 16) moved last ≡ drop n (items ++ take n column)
@@ -252,7 +252,7 @@ long_on n items column moved last few l lc lm ll shift end =
         → get_or (put_chunk (length items - 16) moved last) j 0 ≡ get_or (items ++ column) (n + j) 0
     by_place j m (inl h) =
         get_or-put_chunk_below (length items - 16) moved last j 0 h
-        ∙ shift j 0 (omega arith) (omega arith) ∙ ap (λ x. get_or items x 0) (omega arith)
+        ∙ shift j (omega arith)
         ∙ sym (get_or_append_left items column 0 (n + j) (omega arith))
     by_place j m (inr h) =
         let e : length items - 16 + (j - (length items - 16)) ≡ j = omega arith in

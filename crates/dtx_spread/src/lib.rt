@@ -7,6 +7,7 @@ mod columns;
 mod few;
 mod groups;
 mod lines;
+mod moving;
 mod rings;
 mod scratch;
 mod tiles;

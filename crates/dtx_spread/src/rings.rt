@@ -8,6 +8,7 @@ ghost use Rattle.dtx_spread.specs.Rings.{lists_of, branch_at, count_of, count_at
 use crate::columns::ROWS;
 use crate::few::pass_few;
 use crate::groups::pass_group;
+use crate::moving::move_up;
 use crate::scratch::Columns;
 use circular_buffer::HeapCircularBuffer;
 use std::alloc::{AllocError, Global};
@@ -264,19 +265,19 @@ fn exchange_few(items: &mut [u8], count: usize, column: u8x16) -> u8x16
     ensures gone { (k : ℕ) → k < count → slice_index result k ≡ slice_index (items.old ++ take count column) k }
     ensures items { items.new ≡ drop count (items.old ++ take count column) }
 {
-    if items.len() >= 16 {
+    if items.len() >= 32 {
         exchange_long(items, count, column)
     } else {
         exchange_short(items, count, column)
     }
 }
 
-/// Does the same where there are at least sixteen items.
+/// Does the same where there are at least 32 items.
 #[inline(always)]
 fn exchange_long(items: &mut [u8], count: usize, column: u8x16) -> u8x16
     requires rows { count ≤ 16 }
     requires column { length column ≡ 16 }
-    requires long { 16 ≤ length items.old }
+    requires long { 32 ≤ length items.old }
     ensures long { length result ≡ 16 }
     ensures gone { (k : ℕ) → k < count → slice_index result k ≡ slice_index items.old k }
     ensures items { items.new ≡ drop count (items.old ++ take count column) }
@@ -284,7 +285,7 @@ fn exchange_long(items: &mut [u8], count: usize, column: u8x16) -> u8x16
     let len = items.len();
     let first = u8x16::from_slice(items);
     let last = last_of(u8x16::from_slice(&items[len - 16..]), count, column);
-    items.copy_within(count.., 0);
+    move_up(items, count);
     last.copy_to_slice(&mut items[len - 16..]);
     first
 }
@@ -306,27 +307,66 @@ fn last_of(first: u8x16, count: usize, second: u8x16) -> u8x16
     u8x16::from_slice(&both[count..])
 }
 
-/// Does the same where there are fewer than sixteen items. Branches of a multiple of four bytes have calls of their
-/// own, in which the compiler has their lengths as constants.
+/// Does the same where there are fewer than 32 items. Branches of a multiple of four bytes have calls of their own, in
+/// which the compiler has their lengths as constants.
 #[inline(never)]
 fn exchange_short(items: &mut [u8], count: usize, column: u8x16) -> u8x16
     requires rows { count ≤ 16 }
     requires column { length column ≡ 16 }
-    requires short { length items.old < 16 }
+    requires short { length items.old < 32 }
     ensures long { length result ≡ 16 }
     ensures gone { (k : ℕ) → k < count → slice_index result k ≡ slice_index (items.old ++ take count column) k }
     ensures items { items.new ≡ drop count (items.old ++ take count column) }
 {
     if items.len() == 4 {
-        return exchange_joined(&mut items[..4], count, column);
+        return exchange_known::<4>(items, count, column);
     }
     if items.len() == 8 {
-        return exchange_joined(&mut items[..8], count, column);
+        return exchange_known::<8>(items, count, column);
     }
     if items.len() == 12 {
-        return exchange_joined(&mut items[..12], count, column);
+        return exchange_known::<12>(items, count, column);
+    }
+    exchange_middle(items, count, column)
+}
+
+/// Does the same, for most of those that have at least sixteen items.
+#[inline(always)]
+fn exchange_middle(items: &mut [u8], count: usize, column: u8x16) -> u8x16
+    requires rows { count ≤ 16 }
+    requires column { length column ≡ 16 }
+    requires short { length items.old < 32 }
+    ensures long { length result ≡ 16 }
+    ensures gone { (k : ℕ) → k < count → slice_index result k ≡ slice_index (items.old ++ take count column) k }
+    ensures items { items.new ≡ drop count (items.old ++ take count column) }
+{
+    if items.len() == 16 {
+        return exchange_known::<16>(items, count, column);
+    }
+    if items.len() == 20 {
+        return exchange_known::<20>(items, count, column);
+    }
+    if items.len() == 24 {
+        return exchange_known::<24>(items, count, column);
+    }
+    if items.len() == 28 {
+        return exchange_known::<28>(items, count, column);
     }
     exchange_joined(items, count, column)
+}
+
+/// Does the same where there are `L` items.
+#[inline(always)]
+fn exchange_known<const L: usize>(items: &mut [u8], count: usize, column: u8x16) -> u8x16
+    requires rows { count ≤ 16 }
+    requires column { length column ≡ 16 }
+    requires known { length items.old ≡ L }
+    requires short { length items.old < 32 }
+    ensures long { length result ≡ 16 }
+    ensures gone { (k : ℕ) → k < count → slice_index result k ≡ slice_index (items.old ++ take count column) k }
+    ensures items { items.new ≡ drop count (items.old ++ take count column) }
+{
+    exchange_joined(&mut items[..L], count, column)
 }
 
 /// Does the same by a copy of the items with the column behind them.
@@ -334,13 +374,13 @@ fn exchange_short(items: &mut [u8], count: usize, column: u8x16) -> u8x16
 fn exchange_joined(items: &mut [u8], count: usize, column: u8x16) -> u8x16
     requires rows { count ≤ 16 }
     requires column { length column ≡ 16 }
-    requires short { length items.old < 16 }
+    requires short { length items.old < 32 }
     ensures long { length result ≡ 16 }
     ensures gone { (k : ℕ) → k < count → slice_index result k ≡ slice_index (items.old ++ take count column) k }
     ensures items { items.new ≡ drop count (items.old ++ take count column) }
 {
     let len = items.len();
-    let mut joined = [0u8; 32];
+    let mut joined = [0u8; 48];
     joined[..len].copy_from_slice(items);
     column.copy_to_slice(&mut joined[len..]);
     items.copy_from_slice(&joined[count..count + len]);

@@ -15,7 +15,7 @@ returns-clause-gone c = λ k l.
     ∙ fewer_behind c.args.count k items c.args.column (omega (arith, l))
   where
     room : List ℕ
-    room = replicate 32 0
+    room = replicate 48 0
 
     joined : List ℕ → List ℕ
     joined ys = short_put (length c.args.items.now) room ys c.args.column
@@ -28,6 +28,6 @@ returns-clause-items c =
     let items = c.args.items.now in
     let n = c.args.count in
     c.copy_from_slice-2.ensures.after
-    ∙ ap (λ ys. take (n + length items - n) (drop n (short_put (length items) (replicate 32 0) ys c.args.column)))
+    ∙ ap (λ ys. take (n + length items - n) (drop n (short_put (length items) (replicate 48 0) ys c.args.column)))
     c.copy_from_slice.ensures.after
-    ∙ short_on n (replicate 32 0) items c.args.column c.requires.rows c.requires.short c.requires.column refl
+    ∙ short_on n (replicate 48 0) items c.args.column c.requires.rows c.requires.short c.requires.column refl

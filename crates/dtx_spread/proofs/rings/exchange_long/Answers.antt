@@ -13,6 +13,6 @@ returns-clause-gone c = λ k l.
 
 pub returns-clause-items : goal.returns-clause-items
 returns-clause-items c =
-    long_on c.args.count c.args.items.now c.args.column c.copy_within.new.self c.last_of-last.result c.requires.rows
-    c.requires.long c.requires.column c.copy_within.ensures.len c.last_of-last.ensures.long
-    c.copy_within.ensures.by_index.0 c.last_of-last.ensures.last
+    long_on c.args.count c.args.items.now c.args.column c.move_up.new.items c.last_of-last.result c.requires.rows
+    (omega (arith, c.requires.long)) c.requires.column c.move_up.auto.items c.last_of-last.ensures.long
+    c.move_up.ensures c.last_of-last.ensures.last
