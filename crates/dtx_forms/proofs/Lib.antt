@@ -6,6 +6,7 @@ pub mod NumbersLemmas
 pub mod OfWordsLemmas
 pub mod PerformedLemmas
 mod PlanFileLemmas
+pub mod StagesLemmas
 pub mod WordsLemmas
 pub mod Apart
 pub mod SmallFile

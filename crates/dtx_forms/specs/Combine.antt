@@ -1,5 +1,5 @@
 -- The job of a command that makes one output from two inputs.
-use Rattle.std.specs.Prelude.{ℕ, List, [], ◌∷◌}
+use Rattle.std.specs.Prelude.{ℕ, List, [], ◌∷◌, Option, Some, None}
 use Rattle.dtx_meaning.specs.Meaning.{Meaning, refused}
 use Rattle.dtx_meaning.specs.declared.status.Status.TheVariants.{Usage}
 use Rattle.dtx_outside.specs.Shelf.{Files}
@@ -7,6 +7,7 @@ use Rattle.dtx_words.specs.Names.{repeated}
 use Rattle.dtx_words.specs.declared.rows.Command.{Command}
 use Rattle.dtx_forms.specs.Job.{Job, unless_same}
 use Rattle.dtx_forms.specs.OfWords.{three_same}
+use Rattle.dtx_forms.specs.Stages.{Stages}
 
 -- the meaning with files of these names: a refusal where two are equal, and else `means`
 abbrev pub combined : (List ℕ → List ℕ → List ℕ → Files → Meaning) → List ℕ → List ℕ → List ℕ → Files → Meaning
@@ -18,7 +19,18 @@ abbrev pub combine_meaning : (List ℕ → List ℕ → List ℕ → Files → M
 combine_meaning means (verb ∷ first ∷ second ∷ output ∷ []) held = combined means first second output held
 combine_meaning means words held = refused Usage
 
+-- the stages of these words
+abbrev pub combine_stages : (List ℕ → List ℕ → List ℕ → Stages) → List (List ℕ) → Option Stages
+combine_stages stages (verb ∷ first ∷ second ∷ output ∷ []) = Some (stages first second output)
+combine_stages stages words = None
+
 -- the job of these words
-abbrev pub combine_job : Command → (List ℕ → List ℕ → List ℕ → Files → Meaning) → Job
-combine_job command means =
-    record { command = command; means = combine_meaning means; same = three_same; inputs = 2 }
+abbrev pub combine_job : Command → (List ℕ → List ℕ → List ℕ → Files → Meaning) → (List ℕ → List ℕ → List ℕ → Stages)
+    → Job
+combine_job command means stages = record {
+  command = command;
+  means = combine_meaning means;
+  same = three_same;
+  inputs = 2;
+  stages = combine_stages stages;
+}

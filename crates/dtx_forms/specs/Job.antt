@@ -9,14 +9,16 @@ use Rattle.dtx_outside.specs.Shelf.{Files}
 use Rattle.dtx_words.specs.declared.rows.Command.{Command}
 use Rattle.dtx_forms.specs.Answers.{Knows}
 use Rattle.dtx_forms.specs.OfWords.{IsOfWords}
+use Rattle.dtx_forms.specs.Stages.{Stages}
 
 -- Which command it is, what it means with some words, and how many inputs it has. Also whether two of its file names
--- are equal, which is nothing where the words don't fit.
+-- are equal, and in which stages it reads and writes. Both are nothing where the words don't fit.
 pub record Job : Type 0 where
   pub command : Command
   pub means : List (List ℕ) → Files → Meaning
   pub same : List (List ℕ) → Option Bool
   pub inputs : ℕ
+  pub stages : List (List ℕ) → Option Stages
 
 -- The command did what it means. Where the files are told, it did all of it, or there was an I/O error or out of
 -- memory. In that case its first outputs, perhaps none, hold prefixes of their bytes. Every other file is as before.

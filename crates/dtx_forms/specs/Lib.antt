@@ -7,5 +7,6 @@ pub mod Logged
 pub mod OfWords
 pub mod PlanFile
 pub mod Shapes
+pub mod Stages
 pub mod Transform
 pub mod Transmit

@@ -1,6 +1,6 @@
 -- What a command is that makes OUT and LOG of IN, where the input has units of a shape, and a recipe says what is made
 -- of them.
-use Rattle.std.specs.Prelude.{ℕ, List, [], ◌∷◌}
+use Rattle.std.specs.Prelude.{ℕ, List, [], ◌∷◌, Option, Some, None}
 use Rattle.std.specs.FinMap.{get}
 use Rattle.dtx_engine.specs.Recipe.{Recipe, meaning}
 use Rattle.dtx_engine.specs.declared.engine.Shape.{Shape}
@@ -11,6 +11,7 @@ use Rattle.dtx_words.specs.Names.{repeated}
 use Rattle.dtx_words.specs.declared.rows.Command.{Command}
 use Rattle.dtx_forms.specs.Job.{Job, unless_same}
 use Rattle.dtx_forms.specs.OfWords.{three_same}
+use Rattle.dtx_forms.specs.Stages.{Stages, stages_of}
 
 -- what is meant with these files
 abbrev pub logged : Shape → Recipe → List ℕ → List ℕ → List ℕ → Files → Meaning
@@ -22,7 +23,17 @@ abbrev pub logged_meaning : Shape → Recipe → List (List ℕ) → Files → M
 logged_meaning shape recipe (verb ∷ input ∷ output ∷ log ∷ []) held = logged shape recipe input output log held
 logged_meaning shape recipe words held = refused Usage
 
+-- their stages
+abbrev pub logged_stages : Shape → Recipe → List (List ℕ) → Option Stages
+logged_stages shape recipe (verb ∷ input ∷ output ∷ log ∷ []) = Some (stages_of shape recipe input (output ∷ log ∷ []))
+logged_stages shape recipe words = None
+
 -- the command of these words
 abbrev pub logged_job : Command → Shape → Recipe → Job
-logged_job command shape recipe =
-    record { command = command; means = logged_meaning shape recipe; same = three_same; inputs = 1 }
+logged_job command shape recipe = record {
+  command = command;
+  means = logged_meaning shape recipe;
+  same = three_same;
+  inputs = 1;
+  stages = logged_stages shape recipe;
+}

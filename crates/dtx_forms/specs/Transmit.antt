@@ -11,6 +11,7 @@ use Rattle.dtx_words.specs.declared.rows.Command.{Command}
 use Rattle.dtx_forms.specs.Job.{Job}
 use Rattle.dtx_forms.specs.Logged.{logged}
 use Rattle.dtx_forms.specs.OfWords.{transmit_same}
+use Rattle.dtx_forms.specs.Stages.{Stages, stages_of}
 
 -- The meaning with these files. The shape says in which units the input is read, and `sends` gives the recipe for an
 -- address and a delay.
@@ -31,7 +32,26 @@ transmit_meaning shape sends (verb ∷ input ∷ address ∷ delay ∷ output �
     transmit_with shape sends (number_in 65535 address) (number_in 4294967295 delay) input output log held
 transmit_meaning shape sends words held = refused Usage
 
+-- the stages once the words of the address and of the delay were read
+abbrev pub transmit_stages_with : Shape → (ℕ → ℕ → Recipe) → Option ℕ → Option ℕ → List ℕ → List ℕ → List ℕ
+    → Option Stages
+transmit_stages_with shape sends None delay input output log = None
+transmit_stages_with shape sends (Some address) None input output log = None
+transmit_stages_with shape sends (Some address) (Some delay) input output log =
+    Some (stages_of shape (sends address delay) input (output ∷ log ∷ []))
+
+-- the stages of these words
+abbrev pub transmit_stages : Shape → (ℕ → ℕ → Recipe) → List (List ℕ) → Option Stages
+transmit_stages shape sends (verb ∷ input ∷ address ∷ delay ∷ output ∷ log ∷ []) =
+    transmit_stages_with shape sends (number_in 65535 address) (number_in 4294967295 delay) input output log
+transmit_stages shape sends words = None
+
 -- the job of these words
 abbrev pub transmit_job : Command → Shape → (ℕ → ℕ → Recipe) → Job
-transmit_job command shape sends =
-    record { command = command; means = transmit_meaning shape sends; same = transmit_same; inputs = 1 }
+transmit_job command shape sends = record {
+  command = command;
+  means = transmit_meaning shape sends;
+  same = transmit_same;
+  inputs = 1;
+  stages = transmit_stages shape sends;
+}

@@ -5,7 +5,8 @@ ghost use Rattle.dtx_outside.specs.Shelf.{Files};
 ghost use Rattle.dtx_words.specs.Names.{repeated};
 ghost use Rattle.dtx_words.specs.declared.rows.Command.{Command};
 ghost use Rattle.dtx_forms.specs.Job.{IsPerformed, IsJobPerformed};
-ghost use Rattle.dtx_forms.specs.Combine.{combine_job, combined};
+ghost use Rattle.dtx_forms.specs.Combine.{combine_job, combine_stages, combined};
+ghost use Rattle.dtx_forms.specs.Stages.{IsStaged, Stages};
 
 use dtx_meaning::{Outcome, Status, ended};
 use dtx_outside::{Shelf, Word};
@@ -20,6 +21,9 @@ pub trait Combining {
     /// What the command means with these two inputs and this output. The output's name differs from both inputs'.
     ghost means: { List ℕ → List ℕ → List ℕ → Files → Meaning };
 
+    /// In which stages it reads these two inputs, and writes this output.
+    ghost stages: { List ℕ → List ℕ → List ℕ → Stages };
+
     /// Makes the output from the inputs. Its name differs from theirs.
     fn combine_apart<S: Shelf>(
         alloc: Global,
@@ -30,13 +34,18 @@ pub trait Combining {
     ) -> Outcome
         requires first { first.now ≢ output.now }
         requires second { second.now ≢ output.now }
-        ensures { IsPerformed command (means first.now second.now output.now) (Some false) 2 result
+        ensures performed { IsPerformed command (means first.now second.now output.now) (Some false) 2 result
+            (S.files shelf.old) (S.files shelf.new) (S.counts shelf.old) (S.counts shelf.new) }
+        ensures stages { IsStaged S.foreseen (Some (stages first.now second.now output.now)) result.status
             (S.files shelf.old) (S.files shelf.new) (S.counts shelf.old) (S.counts shelf.new) };
 }
 
 /// Makes OUT from A and B. It refuses equal names.
+#[tactic(auto, using(crate::proofs::StagesLemmas::ended_staged))]
 pub fn combine<C: Combining, S: Shelf>(alloc: Global, words: &[Word], shelf: &mut S) -> Outcome
-    ensures { IsJobPerformed (combine_job C.command C.means) words.now result
+    ensures performed { IsJobPerformed (combine_job C.command C.means C.stages) words.now result
+        (S.files shelf.old) (S.files shelf.new) (S.counts shelf.old) (S.counts shelf.new) }
+    ensures stages { IsStaged S.foreseen (combine_stages C.stages words.now) result.status
         (S.files shelf.old) (S.files shelf.new) (S.counts shelf.old) (S.counts shelf.new) }
 {
     match words {
@@ -54,6 +63,7 @@ pub fn combine<C: Combining, S: Shelf>(alloc: Global, words: &[Word], shelf: &mu
 }
 
 /// Makes the output from the inputs of these names. It refuses equal names.
+#[tactic(auto, using(crate::proofs::StagesLemmas::ended_staged))]
 fn combine_files<C: Combining, S: Shelf>(
     alloc: Global,
     first: &str,
@@ -61,8 +71,10 @@ fn combine_files<C: Combining, S: Shelf>(
     output: &str,
     shelf: &mut S,
 ) -> Outcome
-    ensures { IsPerformed C.command (combined C.means first.now second.now output.now)
+    ensures performed { IsPerformed C.command (combined C.means first.now second.now output.now)
         (Some (is_some (repeated (first.now ∷ second.now ∷ output.now ∷ [])))) 2 result
+        (S.files shelf.old) (S.files shelf.new) (S.counts shelf.old) (S.counts shelf.new) }
+    ensures stages { IsStaged S.foreseen (Some (C.stages first.now second.now output.now)) result.status
         (S.files shelf.old) (S.files shelf.new) (S.counts shelf.old) (S.counts shelf.new) }
 {
     match repeated_name(&[first, second, output]) {

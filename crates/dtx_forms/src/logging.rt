@@ -7,7 +7,8 @@ ghost use Rattle.dtx_meaning.specs.Status.{IsOfInput, blame_of};
 ghost use Rattle.dtx_outside.specs.Counts.{HasGone};
 ghost use Rattle.dtx_words.specs.Names.{repeated};
 ghost use Rattle.dtx_forms.specs.Job.{IsPerformed, IsJobPerformed};
-ghost use Rattle.dtx_forms.specs.Logged.{logged, logged_job};
+ghost use Rattle.dtx_forms.specs.Logged.{logged, logged_job, logged_stages};
+ghost use Rattle.dtx_forms.specs.Stages.{IsStaged, stages_of};
 
 use crate::Transforming;
 use dtx_engine::{Engine, Input, Two, carry_out};
@@ -25,14 +26,17 @@ pub(crate) struct LoggedFiles<'a> {
 }
 
 /// Gives the units of IN to an engine, which makes OUT and LOG of them.
+#[tactic(auto, using(crate::proofs::StagesLemmas::ended_staged))]
 pub fn transform_logged<E: Transforming, S: Shelf>(
     alloc: Global,
     words: &[Word],
     shelf: &mut S,
 ) -> Outcome
-    ensures { IsJobPerformed (logged_job E.command E.shape E.makes) words.now result
+    ensures performed { IsJobPerformed (logged_job E.command E.shape E.makes) words.now result
         (S.files shelf.old) (S.files shelf.new)
         (S.counts shelf.old) (S.counts shelf.new) }
+    ensures stages { IsStaged S.foreseen (logged_stages E.shape E.makes words.now) result.status
+        (S.files shelf.old) (S.files shelf.new) (S.counts shelf.old) (S.counts shelf.new) }
 {
     match words {
         [_, input, output, log] => {
@@ -48,16 +52,20 @@ pub fn transform_logged<E: Transforming, S: Shelf>(
 }
 
 /// Gives the units of the input to the engine, where no two of the names are equal.
+#[tactic(auto, using(crate::proofs::StagesLemmas::ended_staged))]
 fn logged_files<E: Transforming, S: Shelf>(
     alloc: Global,
     files: LoggedFiles<'_>,
     shelf: &mut S,
 ) -> Outcome
-    ensures { IsPerformed E.command
+    ensures performed { IsPerformed E.command
         (logged E.shape E.makes files.entry.input.now files.entry.output.now files.entry.log.now)
         (Some (is_some (repeated (files.entry.input.now ∷ files.entry.output.now ∷ files.entry.log.now ∷ []))))
         1 result (S.files shelf.old) (S.files shelf.new)
         (S.counts shelf.old) (S.counts shelf.new) }
+    ensures stages { IsStaged S.foreseen
+        (Some (stages_of E.shape E.makes files.entry.input.now (files.entry.output.now ∷ files.entry.log.now ∷ [])))
+        result.status (S.files shelf.old) (S.files shelf.new) (S.counts shelf.old) (S.counts shelf.new) }
 {
     match repeated_name(&[files.input, files.output, files.log]) {
         Some(_) => ended(Status::Same),
@@ -67,6 +75,7 @@ fn logged_files<E: Transforming, S: Shelf>(
 
 /// Gives the units of the input to the engine, where the names differ.
 #[inline(never)]
+#[tactic(auto, using(crate::proofs::StagesLemmas::ended_staged))]
 fn logged_apart<E: Transforming, S: Shelf>(
     alloc: Global,
     files: LoggedFiles<'_>,
@@ -75,11 +84,14 @@ fn logged_apart<E: Transforming, S: Shelf>(
     requires output { files.input.now ≢ files.output.now }
     requires log { files.input.now ≢ files.log.now }
     requires both { files.output.now ≢ files.log.now }
-    ensures { IsPerformed E.command
+    ensures performed { IsPerformed E.command
         (λ held. meaning E.shape E.makes 0 (files.entry.output.now ∷ files.entry.log.now ∷ [])
         (held_at.get held files.entry.input.now))
         (Some false) 1 result (S.files shelf.old) (S.files shelf.new)
         (S.counts shelf.old) (S.counts shelf.new) }
+    ensures stages { IsStaged S.foreseen
+        (Some (stages_of E.shape E.makes files.entry.input.now (files.entry.output.now ∷ files.entry.log.now ∷ [])))
+        result.status (S.files shelf.old) (S.files shelf.new) (S.counts shelf.old) (S.counts shelf.new) }
 {
     match E::new(alloc) {
         Ok(mut engine) => make_both(alloc, &mut engine, files, shelf),
@@ -88,6 +100,7 @@ fn logged_apart<E: Transforming, S: Shelf>(
 }
 
 /// Gives the input to an engine that was given nothing, and writes both files.
+#[tactic(auto, using(crate::proofs::StagesLemmas::ended_staged))]
 pub(crate) fn make_both<E: Engine, S: Shelf>(
     alloc: Global,
     engine: &mut E,
@@ -105,6 +118,10 @@ pub(crate) fn make_both<E: Engine, S: Shelf>(
     ensures input { IsOfInput 0 result.status }
     ensures answer { IsAnswerOf (E.recipe engine.old) result.status }
     ensures gone { HasGone (S.counts shelf.old) (S.counts shelf.new) (blame_of result.status) }
+    ensures stages { IsStaged S.foreseen
+        (Some (stages_of E.shape (E.recipe engine.old) files.entry.input.now
+        (files.entry.output.now ∷ files.entry.log.now ∷ [])))
+        result.status (S.files shelf.old) (S.files shelf.new) (S.counts shelf.old) (S.counts shelf.new) }
 {
     let input = Input {
         name: files.input,

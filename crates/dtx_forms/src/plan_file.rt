@@ -7,6 +7,7 @@ ghost use Rattle.dtx_plan.specs.Sound.{IsSound, HasSoundNet, AreDamages};
 ghost use Rattle.dtx_forms.specs.PlanFile.{IsChangesRead, IsPlanRead, IsPlanRefusal, IsReadAll, IsReadOn};
 ghost use Rattle.dtx_forms.specs.PlanFile.{IsReadRefusal};
 ghost use Rattle.dtx_forms.specs.PlanFile.{IsSmallFile};
+ghost use Rattle.dtx_forms.specs.Stages.{IsForeseenWhole};
 
 use dtx_meaning::{Status, of_plan, of_read};
 use dtx_outside::{Shelf, fill};
@@ -36,6 +37,7 @@ pub fn plan_in<S: Shelf>(
     ensures refusal { IfErr result (IsPlanRefusal number) }
     ensures kept { S.files shelf.new ≡ S.files shelf.old }
     ensures gone { HasGone (S.counts shelf.old) (S.counts shelf.new) (blame_of_answer result) }
+    ensures foreseen { IsForeseenWhole (S.foreseen.readable name.now) result }
 {
     match small_file(alloc, shelf, number, name) {
         Ok(bytes) => match read_plan(alloc, &bytes) {
@@ -61,6 +63,7 @@ pub fn changes_in<S: Shelf>(
     ensures refusal { IfErr result (IsPlanRefusal number) }
     ensures kept { S.files shelf.new ≡ S.files shelf.old }
     ensures gone { HasGone (S.counts shelf.old) (S.counts shelf.new) (blame_of_answer result) }
+    ensures foreseen { IsForeseenWhole (S.foreseen.readable name.now) result }
 {
     match small_file(alloc, shelf, number, name) {
         Ok(bytes) => match read_changes(alloc, &bytes) {
@@ -83,6 +86,7 @@ fn small_file<S: Shelf>(
     ensures refusal { IfErr result (IsReadRefusal number) }
     ensures kept { S.files shelf.new ≡ S.files shelf.old }
     ensures gone { HasGone (S.counts shelf.old) (S.counts shelf.new) (blame_of_answer result) }
+    ensures foreseen { IsForeseenWhole (S.foreseen.readable name.now) result }
 {
     let mut piece = zeroed(alloc, PIECE)?;
     let mut bytes = Vec::new(alloc);
@@ -111,6 +115,7 @@ fn read_all<S: Shelf>(
     ensures refusal { IfErr result (IsReadRefusal number) }
     ensures kept { S.files shelf.new ≡ S.files shelf.old }
     ensures gone { HasGone (S.counts shelf.old) (S.counts shelf.new) (blame_of_answer result) }
+    ensures foreseen { IsForeseenWhole (S.foreseen.readable name.now) result }
 {
     loop {
         match read_on(shelf, number, name, piece, bytes) {
@@ -140,6 +145,7 @@ fn read_on<S: Shelf>(
     ensures refusal { IfErr result (IsReadRefusal number) }
     ensures kept { S.files shelf.new ≡ S.files shelf.old }
     ensures gone { HasGone (S.counts shelf.old) (S.counts shelf.new) (blame_of_answer result) }
+    ensures foreseen { IsForeseenWhole (S.foreseen.readable name.now) result }
 {
     match fill(shelf, name, bytes.len() as u64, piece) {
         Ok(count) => match bytes.extend_from_slice(&piece[..count]) {

@@ -1,11 +1,12 @@
 // `.. IN OUT` and `dvb .. IN OUT`: what an engine makes of an input alone.
-ghost use Rattle.std.specs.Prelude.{◌≡◌, [], Some, IfOk};
+ghost use Rattle.std.specs.Prelude.{◌≡◌, [], ◌∷◌, Some, IfOk};
 ghost use Rattle.std.specs.Str.{bytes_eq};
 ghost use Rattle.dtx_engine.specs.Recipe.{IsAnswerOf, Recipe, transformed};
 ghost use Rattle.dtx_words.specs.declared.rows.Command.{Command};
 ghost use Rattle.dtx_forms.specs.Answers.{Knows};
 ghost use Rattle.dtx_forms.specs.Job.{IsPerformed, IsJobPerformed};
-ghost use Rattle.dtx_forms.specs.Transform.{dvb_job, transform_job};
+ghost use Rattle.dtx_forms.specs.Stages.{IsStaged, stages_of};
+ghost use Rattle.dtx_forms.specs.Transform.{dvb_job, dvb_stages, transform_job, transform_stages};
 
 use dtx_engine::Engine;
 use dtx_meaning::{Outcome, Status, ended};
@@ -32,10 +33,13 @@ pub trait Transforming: Engine + Drop {
 }
 
 /// Makes OUT from IN: gives the units of IN to an engine, and writes what it makes.
+#[tactic(auto, using(crate::proofs::StagesLemmas::ended_staged))]
 pub fn transform<E: Transforming, S: Shelf>(alloc: Global, words: &[Word], shelf: &mut S) -> Outcome
-    ensures { IsJobPerformed (transform_job E.command E.shape E.makes) words.now result
+    ensures performed { IsJobPerformed (transform_job E.command E.shape E.makes) words.now result
         (S.files shelf.old) (S.files shelf.new)
         (S.counts shelf.old) (S.counts shelf.new) }
+    ensures stages { IsStaged S.foreseen (transform_stages E.shape E.makes words.now) result.status
+        (S.files shelf.old) (S.files shelf.new) (S.counts shelf.old) (S.counts shelf.new) }
 {
     match words {
         [_, input, output] => {
@@ -46,14 +50,17 @@ pub fn transform<E: Transforming, S: Shelf>(alloc: Global, words: &[Word], shelf
 }
 
 /// Does what `transform` does, for the words `dvb .. IN OUT`: the second one names the command.
+#[tactic(auto, using(crate::proofs::StagesLemmas::ended_staged))]
 pub fn transform_dvb<E: Transforming, S: Shelf>(
     alloc: Global,
     words: &[Word],
     shelf: &mut S,
 ) -> Outcome
-    ensures { IsJobPerformed (dvb_job E.command E.shape E.makes) words.now result
+    ensures performed { IsJobPerformed (dvb_job E.command E.shape E.makes) words.now result
         (S.files shelf.old) (S.files shelf.new)
         (S.counts shelf.old) (S.counts shelf.new) }
+    ensures stages { IsStaged S.foreseen (dvb_stages E.shape E.makes words.now) result.status
+        (S.files shelf.old) (S.files shelf.new) (S.counts shelf.old) (S.counts shelf.new) }
 {
     match words {
         [_, _, input, output] => {
@@ -65,15 +72,18 @@ pub fn transform_dvb<E: Transforming, S: Shelf>(
 
 /// Makes the output of that name from the input of that name. It refuses equal names.
 #[inline(never)]
+#[tactic(auto, using(crate::proofs::StagesLemmas::ended_staged))]
 fn transform_files<E: Transforming, S: Shelf>(
     alloc: Global,
     input: &str,
     output: &str,
     shelf: &mut S,
 ) -> Outcome
-    ensures { IsPerformed E.command (transformed E.shape E.makes input.now output.now)
+    ensures performed { IsPerformed E.command (transformed E.shape E.makes input.now output.now)
         (Some (bytes_eq input.now output.now)) 1 result (S.files shelf.old) (S.files shelf.new)
         (S.counts shelf.old) (S.counts shelf.new) }
+    ensures stages { IsStaged S.foreseen (Some (stages_of E.shape E.makes input.now (output.now ∷ []))) result.status
+        (S.files shelf.old) (S.files shelf.new) (S.counts shelf.old) (S.counts shelf.new) }
 {
     match E::new(alloc) {
         Ok(mut engine) => dtx_engine::transform(alloc, &mut engine, input, output, shelf),

@@ -8,7 +8,9 @@ ghost use Rattle.dtx_words.specs.declared.rows.Command.{Command};
 ghost use Rattle.dtx_forms.specs.Answers.{Knows};
 ghost use Rattle.dtx_forms.specs.Job.{IsPerformed, IsJobPerformed};
 ghost use Rattle.dtx_forms.specs.OfWords.{numbers_same};
-ghost use Rattle.dtx_forms.specs.Transmit.{transmit_at, transmit_job, transmit_with};
+ghost use Rattle.dtx_forms.specs.Stages.{IsStaged, stages_of};
+ghost use Rattle.dtx_forms.specs.Transmit.{transmit_at, transmit_job, transmit_stages, transmit_stages_with};
+ghost use Rattle.dtx_forms.specs.Transmit.{transmit_with};
 
 use crate::logging::{LoggedFiles, make_both};
 use dtx_engine::Engine;
@@ -41,10 +43,13 @@ pub trait Transmitting: Engine + Drop {
 /// Gives the units of IN to the engine of one transmitter. Its symbols go to OUT, and its log to LOG. ADDRESS is that
 /// of the transmitter, 0 to 65,535. DELAY is how many ticks of 100 ns the feed takes to it, 0 to 4,294,967,295. Both
 /// are decimal digits without sign, and without a leading zero unless the number is `0`.
+#[tactic(auto, using(crate::proofs::StagesLemmas::ended_staged))]
 pub fn transmit<E: Transmitting, S: Shelf>(alloc: Global, words: &[Word], shelf: &mut S) -> Outcome
-    ensures { IsJobPerformed (transmit_job E.command E.shape E.sends) words.now result
+    ensures performed { IsJobPerformed (transmit_job E.command E.shape E.sends) words.now result
         (S.files shelf.old) (S.files shelf.new)
         (S.counts shelf.old) (S.counts shelf.new) }
+    ensures stages { IsStaged S.foreseen (transmit_stages E.shape E.sends words.now) result.status
+        (S.files shelf.old) (S.files shelf.new) (S.counts shelf.old) (S.counts shelf.new) }
 {
     match words {
         [_, input, address, delay, output, log] => {
@@ -60,6 +65,7 @@ pub fn transmit<E: Transmitting, S: Shelf>(alloc: Global, words: &[Word], shelf:
 }
 
 /// Reads the address and the delay, and gives the units of the input to the engine of that transmitter.
+#[tactic(auto, using(crate::proofs::StagesLemmas::ended_staged))]
 fn transmit_read<E: Transmitting, S: Shelf>(
     alloc: Global,
     address: &str,
@@ -67,13 +73,17 @@ fn transmit_read<E: Transmitting, S: Shelf>(
     files: LoggedFiles<'_>,
     shelf: &mut S,
 ) -> Outcome
-    ensures { IsPerformed E.command
+    ensures performed { IsPerformed E.command
         (transmit_with E.shape E.sends (number_in 65535 address.now) (number_in 4294967295 delay.now)
         files.entry.input.now files.entry.output.now files.entry.log.now)
         (numbers_same (number_in 65535 address.now) (number_in 4294967295 delay.now)
         (is_some (repeated (files.entry.input.now ∷ files.entry.output.now ∷ files.entry.log.now ∷ []))))
         1 result (S.files shelf.old) (S.files shelf.new)
         (S.counts shelf.old) (S.counts shelf.new) }
+    ensures stages { IsStaged S.foreseen
+        (transmit_stages_with E.shape E.sends (number_in 65535 address.now) (number_in 4294967295 delay.now)
+        files.entry.input.now files.entry.output.now files.entry.log.now)
+        result.status (S.files shelf.old) (S.files shelf.new) (S.counts shelf.old) (S.counts shelf.new) }
 {
     match number_up_to(u16::MAX as u64, address) {
         Some(address) => match number_up_to(u32::MAX as u64, delay) {
@@ -87,6 +97,7 @@ fn transmit_read<E: Transmitting, S: Shelf>(
 }
 
 /// Gives the units of the input to the engine of that transmitter. It refuses equal names.
+#[tactic(auto, using(crate::proofs::StagesLemmas::ended_staged))]
 fn transmit_files<E: Transmitting, S: Shelf>(
     alloc: Global,
     address: u16,
@@ -94,11 +105,15 @@ fn transmit_files<E: Transmitting, S: Shelf>(
     files: LoggedFiles<'_>,
     shelf: &mut S,
 ) -> Outcome
-    ensures { IsPerformed E.command
+    ensures performed { IsPerformed E.command
         (transmit_at E.shape E.sends address delay files.entry.input.now files.entry.output.now files.entry.log.now)
         (Some (is_some (repeated (files.entry.input.now ∷ files.entry.output.now ∷ files.entry.log.now ∷ []))))
         1 result (S.files shelf.old) (S.files shelf.new)
         (S.counts shelf.old) (S.counts shelf.new) }
+    ensures stages { IsStaged S.foreseen
+        (transmit_stages_with E.shape E.sends (Some address) (Some delay) files.entry.input.now files.entry.output.now
+        files.entry.log.now)
+        result.status (S.files shelf.old) (S.files shelf.new) (S.counts shelf.old) (S.counts shelf.new) }
 {
     match repeated_name(&[files.input, files.output, files.log]) {
         Some(_) => ended(Status::Same),
@@ -108,6 +123,7 @@ fn transmit_files<E: Transmitting, S: Shelf>(
 
 /// Gives the units of the input to the engine of that transmitter, where the names differ.
 #[inline(never)]
+#[tactic(auto, using(crate::proofs::StagesLemmas::ended_staged))]
 fn transmit_apart<E: Transmitting, S: Shelf>(
     alloc: Global,
     address: u16,
@@ -118,11 +134,15 @@ fn transmit_apart<E: Transmitting, S: Shelf>(
     requires output { files.input.now ≢ files.output.now }
     requires log { files.input.now ≢ files.log.now }
     requires both { files.output.now ≢ files.log.now }
-    ensures { IsPerformed E.command
+    ensures performed { IsPerformed E.command
         (λ held. meaning E.shape (E.sends address delay) 0 (files.entry.output.now ∷ files.entry.log.now ∷ [])
         (held_at.get held files.entry.input.now))
         (Some false) 1 result (S.files shelf.old) (S.files shelf.new)
         (S.counts shelf.old) (S.counts shelf.new) }
+    ensures stages { IsStaged S.foreseen
+        (Some (stages_of E.shape (E.sends address delay) files.entry.input.now
+        (files.entry.output.now ∷ files.entry.log.now ∷ [])))
+        result.status (S.files shelf.old) (S.files shelf.new) (S.counts shelf.old) (S.counts shelf.new) }
 {
     match E::new(alloc, address, delay) {
         Ok(mut engine) => make_both(alloc, &mut engine, files, shelf),

@@ -6,8 +6,8 @@ use Rattle.dtx_forms.proofs.Apart.{all_differ}
 use Rattle.dtx_forms.proofs.PerformedLemmas.{apart_performed, refused_same}
 use Rattle.dtx_forms.proofs.logging.logged_files.Goals as goal
 
-pub returns-in-Some : goal.returns-in-Some
-returns-in-Some g c =
+pub returns-in-Some-clause-performed : goal.returns-in-Some-clause-performed
+returns-in-Some-clause-performed g c =
     let f = c.args.files in
     let names : List (List ℕ) = f.input.now ∷ f.output.now ∷ f.log.now ∷ [] in
     let means = λ (held : Files).
@@ -22,12 +22,13 @@ logged_apart-requires g c =
     let apart = all_differ f.input.now f.output.now f.log.now c.in-None.ensures in
     record { output = apart.0; log = apart.1; both = apart.2 }
 
-pub returns-in-None : goal.returns-in-None
-returns-in-None g c =
+pub returns-in-None-clause-performed : goal.returns-in-None-clause-performed
+returns-in-None-clause-performed g c =
     let f = c.args.files in
     let names : List (List ℕ) = f.input.now ∷ f.output.now ∷ f.log.now ∷ [] in
     let means = λ (held : Files).
     meaning g.E.Engine.shape g.E.Transforming.makes 0 (f.output.now ∷ f.log.now ∷ [])
     (get held f.input.now) in
     apart_performed g.E.Transforming.command names means 1 c.logged_apart.result (g.S.Shelf.files c.args.shelf.now) _
-    (g.S.Shelf.counts c.args.shelf.now) _ c.in-None.ensures c.logged_apart.ensures
+    (g.S.Shelf.counts c.args.shelf.now) _ c.in-None.ensures
+    c.logged_apart.ensures.performed
