@@ -42,13 +42,13 @@ one_of_two a b x (suc k, within, is) = inr (only_one b x (k, omega (arith, withi
 -- the stages of the loop are those of a job that reads its input alone
 pub loop_staged : (foreseen : Foreseen) (shape : Shape) (recipe : Recipe) (input : List ℕ) (outputs : List (List ℕ))
     (status : Status) (told now : Option Files) (before after : Counts)
-    → IfSome told (λ held. AreStages foreseen shape recipe input outputs held status now)
+    → IfSome told (λ held. AreStages foreseen shape recipe input outputs held before after status now)
     → IsStaged foreseen (Some (stages_of shape recipe input outputs)) status told now before after
 loop_staged foreseen shape recipe input outputs status None now before after is = tt
 loop_staged foreseen shape recipe input outputs status (Some held) now before after is = record {
   untouched = λ name one none.
       is.untouched (subst (λ (n : List ℕ). foreseen.readable n ≡ Some 0) (only_one input name one) none);
-  stopped = λ n file some opened there writable fault. is.stopped n file some opened.input writable there fault;
+  stopped = λ n file some opened there writable fault. is.stopped n file some opened.input there writable fault;
 }
 
 -- ---- no file was touched

@@ -4,7 +4,7 @@ use Rattle.std.specs.Prelude.{min}
 use Rattle.std.proofs.lemmas.List.{length-drop, length-take-le, take_all}
 use Rattle.dtx_packet_jobs.specs.DvbReading.{IsReading}
 use Rattle.dtx_packet_jobs.proofs.DvbChunks.{part_on}
-use Rattle.dtx_packet_jobs.proofs.PacketBytes.{rest_put}
+use Rattle.dtx_packet_jobs.proofs.Feeding.{rest_fed}
 use Rattle.dtx_packet_jobs.proofs.dvb_reading.DvbReading.read_fours.Goals as goal
 use borrow.Rule.Slice.PartMut.{put_mid}
 
@@ -29,7 +29,7 @@ loop-done-preserved c =
       within = omega (arith, least, c.loop-done.auto.bytes);
       whole = omega (arith, least, h.whole, whole, c.loop-done.auto.bytes);
       rest = subst (λ k. drop k (put_mid done n cur new) ≡ drop k old) sum
-          (rest_put done n old cur new within long h.rest);
+          (rest_fed done n old cur new within long h.rest);
       read = λ given before is.
           subst (λ bytes. IsReading c.read_batch.new.self bytes before)
           (ap (λ bytes. (given ++ take done old) ++ take n bytes) h.rest ∙ part_on given old done end more)
