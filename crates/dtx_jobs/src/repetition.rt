@@ -1,5 +1,5 @@
 // The engine of `repeat`: receives symbols and sends their packets again, one piece of the file at a time.
-ghost use Rattle.std.specs.Prelude.{◌≡◌, ◌+◌, ◌*◌, ◌/◌, ◌<◌, ◌≤◌, ◌++◌, ◌∷◌, [], ℕ, ℤ, List, length, map, take};
+ghost use Rattle.std.specs.Prelude.{◌≡◌, ◌+◌, ◌*◌, ◌/◌, ◌<◌, ◌≤◌, ◌++◌, ◌∷◌, [], ℕ, ℤ, List, length, take};
 ghost use Rattle.dtx_exciter.specs.Packets.{group_part};
 ghost use Rattle.dtx_files.specs.LogText.{log_text};
 ghost use Rattle.dtx_receiver.specs.Symbols.{symbols_in};
