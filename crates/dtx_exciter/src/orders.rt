@@ -8,7 +8,7 @@ ghost use Rattle.dtx_exciter.specs.Step.{bytes_of, order_in};
 use dtx_fast::Fast;
 use dtx_ops::{Ops, OpsNo, read};
 use dtx_packets::Packet;
-use dtx_sizes::GROUP_PACKETS;
+use dtx_sizes::{GROUP_PACKETS, OPERATIONS_PID};
 
 /// The corrector of operations packets.
 pub type Corrector = Fast<184, 164>;
@@ -36,12 +36,16 @@ pub(crate) fn order_in(
     }
 }
 
-/// The fields of a packet, if it reads as an operations packet whose index is `place`.
+/// The fields of a packet, if it reads as an operations packet whose index is `place`. Most packets have another packet
+/// identifier. It is looked at here too, since a refusal of `read` is as large as the fields, and costs two copies.
 #[tactic(auto, unfolding(crate::specs::Packets::reads))]
 fn order_of(corrector: &Corrector, place: u16, packet: &Packet) -> Option<Ops>
     ensures order { result ≡ ordered place (reads packet.now.0) }
     ensures valid { IfSome result IsValid }
 {
+    if packet.pid() != OPERATIONS_PID {
+        return None;
+    }
     ordered(place, read(corrector, packet))
 }
 
