@@ -239,7 +239,8 @@ pub exchanged_on : (b next from c s q r at n start y z : ℕ) (old cur new : Lis
     → ((k : ℕ) → k < n → get_or went k 0 ≡ get_or (get_or cur at [] ++ take n part) k 0)
     → AreExchanged b next from (from + c) s q r old cur come gone
     → AreExchanged b next from (from + (c + 1)) s q r old new come (put_mid start z gone went)
-exchanged_on b next from c s q r at n start y z old cur new come part gone went l m lc es room en few ey lw ea ep ec ew h =
+exchanged_on b next from c s q r at n start y z old cur new come part gone went l m lc es room en few ey lw ea ep ec ew
+    h =
     record {
       count = ap length ec ∙ length-set cur at (drop n (get_or cur at [] ++ take n part)) ∙ h.count;
       kept = λ p k o. kept p k o (cases_eq p (from + c));
@@ -276,7 +277,8 @@ exchanged_on b next from c s q r at n start y z old cur new come part gone went 
     joined_there : (p : ℕ) → p ≡ from + c → get_or cur at [] ++ take n part
         ≡ get_or old (branch_at b next p) [] ++ take (count_of q r p) (drop ((p - from) * s) come)
     joined_there p e = joined
-        ∙ ap₂ (λ x d. get_or old (branch_at b next x) [] ++ take (count_of q r x) (drop (d * s) come)) (sym e) (minus p e)
+        ∙ ap₂ (λ x d. get_or old (branch_at b next x) [] ++ take (count_of q r x) (drop (d * s) come)) (sym e)
+        (minus p e)
 
     kept : (p : ℕ) → from ≤ p → p < from + (c + 1) → (p ≡ from + c) ⊎ (p ≡ from + c → ⊥)
         → get_or new (branch_at b next p) []

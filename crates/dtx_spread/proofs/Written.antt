@@ -195,7 +195,8 @@ last_two n k room first second lr lf ls few l =
     by_place : (i : ℕ) → i < 32 → (i < 16) ⊎ (16 ≤ i) → get_or both i 0 ≡ get_or (first ++ second) i 0
     by_place i m (inl h) =
         written_before 16 16 i front rest (omega (arith, whole)) h
-        ∙ ap (λ x. get_or front x 0) (none i) ∙ get_or-put_chunk_at 0 room first i 0 (omega (arith, lf)) (omega (arith, lf, lr))
+        ∙ ap (λ x. get_or front x 0) (none i)
+        ∙ get_or-put_chunk_at 0 room first i 0 (omega (arith, lf)) (omega (arith, lf, lr))
         ∙ sym (get_or_append_left first second 0 i (omega (arith, lf)))
     by_place i m (inr h) =
         let e : 16 + (i - 16) ≡ i = omega arith in

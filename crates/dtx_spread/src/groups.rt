@@ -27,35 +27,6 @@ pub(crate) fn pass_group<const B: usize, const W: usize>(
     ensures passed { ArePassed B next place (place + W) (lists_of rings.old) (lists_of rings.new) bytes.old bytes.new }
     ensures rings { length rings.new ≡ B }
 {
-    pass_places::<B, W>(rings, next, plain_place::<B, W>(place), bytes, columns);
-}
-
-/// The place that it is given. If a group has all places, this is place 0, which the compiler then has as a constant.
-#[inline(always)]
-fn plain_place<const B: usize, const W: usize>(place: usize) -> usize
-    requires { place + W ≤ B }
-    ensures { result ≡ place }
-{
-    if W == B { 0 } else { place }
-}
-
-/// Passes the bytes of `W` places, as `pass_group` does.
-#[inline(always)]
-fn pass_places<const B: usize, const W: usize>(
-    rings: &mut [HeapCircularBuffer<u8>],
-    next: usize,
-    place: usize,
-    bytes: &mut [u8],
-    columns: &mut Columns,
-)
-    requires numbers { (B ≤ 64) × (next < B) }
-    requires places { (W ≤ 16) × (place + W ≤ B) }
-    requires even { IsEven B place W (length bytes.old) }
-    requires rings { length rings.old ≡ B }
-    requires room { length bytes.old < ROWS * B }
-    ensures passed { ArePassed B next place (place + W) (lists_of rings.old) (lists_of rings.new) bytes.old bytes.new }
-    ensures rings { length rings.new ≡ B }
-{
     let places = Places {
         next,
         first: place,

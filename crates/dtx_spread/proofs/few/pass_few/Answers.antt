@@ -9,7 +9,8 @@ returns-clause-passed g c =
     let len = length c.args.bytes.now in
     let room = drop len c.args.columns.now.rows in
     few_passed g.row.B c.args.next (lists_of c.args.rings.now) (lists_of e.new.rings) c.args.bytes.now
-    c.args.columns.now.rows (c.copy_from_slice.new.self ++ room) c.put_places.new.rows c.take_places.new.columns e.new.gone
+    c.args.columns.now.rows (c.copy_from_slice.new.self ++ room) c.put_places.new.rows c.take_places.new.columns
+    e.new.gone
     c.copy_from_slice-2.new.self (omega (arith, c.requires.numbers.1)) c.requires.numbers.0 c.requires.few
     (ap (λ ys. ys ++ room) c.copy_from_slice.ensures.after) (omega (arith, c.take_places.auto.columns))
     c.take_places.ensures

@@ -1,4 +1,4 @@
-use Rattle.std.proofs.Common.{◌≡◌, [], ◌+◌, ◌*◌, ◌≤◌, length, get_or, ◌∙◌, arith, mul-le-mul_right}
+use Rattle.std.proofs.Common.{◌≡◌, [], ◌*◌, ◌≤◌, length, get_or, ◌∙◌, arith, mul-le-mul_right}
 use Rattle.dtx_spread.proofs.ShortCalls.{over_there, over_elsewhere}
 use Rattle.dtx_spread.proofs.few.put_over.Goals as goal
 

@@ -1,4 +1,4 @@
-use Rattle.std.proofs.Common.{◌≡◌, ◌+◌, ◌-◌, ◌*◌, ◌/◌, ◌∙◌, arith}
+use Rattle.std.proofs.Common.{◌+◌, ◌-◌, ◌*◌, ◌/◌, ◌∙◌, arith}
 use Rattle.dtx_spread.proofs.ShortCalls.{places_put, part_byte}
 use Rattle.dtx_spread.proofs.few.put_places.Goals as goal
 
