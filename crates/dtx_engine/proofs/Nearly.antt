@@ -10,7 +10,7 @@ use Rattle.dtx_outside.specs.declared.shelf.WriteNo.{WriteNo}
 use Rattle.dtx_outside.specs.declared.shelf.WriteNo.TheVariants.{Failed, Memory}
 use Rattle.dtx_engine.specs.Made.{Made, outputs_of}
 use Rattle.dtx_engine.specs.Outlet.{AreBothGathered}
-use Rattle.dtx_engine.specs.Stages.{AreNearlyWritten}
+use Rattle.dtx_engine.specs.Stages.{AreNearlyWritten, most_gathered}
 
 -- where no write error was counted, it was memory that ran out
 pub short_alone : (before after : Counts) (cause : WriteNo)
@@ -23,33 +23,34 @@ short_alone before after Memory gone calm = refl
 
 pub nearly_one : (name : List ℕ) (start : Option Files) (made : Made) (rest : List ℕ) (now : Option Files)
     → IsGathered start name made.first rest now → length rest ≤ 131072
-    → AreNearlyWritten (outputs_of (name ∷ []) made) start now
+    → AreNearlyWritten (most_gathered (name ∷ [])) (outputs_of (name ∷ []) made) start now
 nearly_one name start made rest now is few = (is.front, rest, is.whole, few, is.file)
 
 pub whole_one : (name : List ℕ) (start : Option Files) (made : Made) (now : Option Files)
-    → IsWritten start name made.first now → AreNearlyWritten (outputs_of (name ∷ []) made) start now
+    → IsWritten start name made.first now
+    → AreNearlyWritten (most_gathered (name ∷ [])) (outputs_of (name ∷ []) made) start now
 whole_one name start made now is = (made.first, [], append-nil made.first, omega arith, is)
 
 -- ---- two outputs
 
 -- nothing of either was flushed
 pub nearly_both : (one other : List ℕ) (start : Option Files) (made : Made) (r s : List ℕ) (now : Option Files)
-    → AreBothGathered one other start made r s now → length r ≤ 131072 → length s ≤ 131072
-    → AreNearlyWritten (outputs_of (one ∷ other ∷ []) made) start now
+    → AreBothGathered one other start made r s now → length r ≤ 16384 → length s ≤ 16384
+    → AreNearlyWritten (most_gathered (one ∷ other ∷ [])) (outputs_of (one ∷ other ∷ []) made) start now
 nearly_both one other start made r s now is few less =
     (is.one_front, r, is.first, few, (is.other_front, s, is.second, less, is.files))
 
 -- the first was flushed
 pub nearly_second : (one other : List ℕ) (start : Option Files) (made : Made) (s : List ℕ) (now : Option Files)
-    → IsGathered (option_map (with_file one made.first) start) other made.second s now → length s ≤ 131072
-    → AreNearlyWritten (outputs_of (one ∷ other ∷ []) made) start now
+    → IsGathered (option_map (with_file one made.first) start) other made.second s now → length s ≤ 16384
+    → AreNearlyWritten (most_gathered (one ∷ other ∷ [])) (outputs_of (one ∷ other ∷ []) made) start now
 nearly_second one other start made s now is less =
     (made.first, [], append-nil made.first, omega arith, (is.front, s, is.whole, less, is.file))
 
 -- both were
 pub whole_both : (one other : List ℕ) (start : Option Files) (made : Made) (now : Option Files)
     → now ≡ option_map (with_file other made.second) (option_map (with_file one made.first) start)
-    → AreNearlyWritten (outputs_of (one ∷ other ∷ []) made) start now
+    → AreNearlyWritten (most_gathered (one ∷ other ∷ [])) (outputs_of (one ∷ other ∷ []) made) start now
 whole_both one other start made now is = (
   made.first,
   [],

@@ -20,6 +20,7 @@ use Rattle.dtx_engine.specs.Course.{blame_of_ending, blame_of_piece, status_behi
 use Rattle.dtx_engine.specs.Made.{Made, joined, outputs_of}
 use Rattle.dtx_engine.specs.Recipe.{Recipe, first_units}
 use Rattle.dtx_engine.specs.Stages.{AreNearlyWritten, AreStages, IsForeseenAsk, IsStopOf, IsStopped, IsUnread}
+use Rattle.dtx_engine.specs.Stages.{most_gathered}
 use Rattle.dtx_engine.specs.declared.engine.Shape.{Shape}
 use Rattle.dtx_engine.specs.declared.piece.Ending.{Ending}
 use Rattle.dtx_engine.specs.declared.piece.Ending.TheVariants.{Refused, Whole}
@@ -120,13 +121,13 @@ ending_behind None refusal other is = absurd (other is)
 pub turn_stopped : (shape : Shape) (recipe : Recipe) (names : List (List ℕ)) (held : Files) (file : List ℕ)
     (count : ℕ) (bytes : List ℕ) (taken n : ℕ) (now : Option Files) → taken ≡ 0
     → length bytes ≡ shape.unit * shape.units → n < shape.unit * count + length bytes
-    → AreNearlyWritten (outputs_of names (recipe.made (first_units shape file count ++ take taken bytes))) (Some held)
-    now
+    → AreNearlyWritten (most_gathered names)
+    (outputs_of names (recipe.made (first_units shape file count ++ take taken bytes))) (Some held) now
     → IsStopped names recipe.made file (shape.unit * shape.units) n (Some held) now
 turn_stopped shape recipe names held file count bytes taken n now none room behind written = (
   shape.unit * count,
   omega (arith, behind, room),
-  subst (λ (b : List ℕ). AreNearlyWritten (outputs_of names (recipe.made b)) (Some held) now)
+  subst (λ (b : List ℕ). AreNearlyWritten (most_gathered names) (outputs_of names (recipe.made b)) (Some held) now)
       (ap (λ (t : ℕ). first_units shape file count ++ take t bytes) none ∙ append-nil (first_units shape file count))
       written,
 )

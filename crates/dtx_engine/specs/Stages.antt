@@ -18,20 +18,26 @@ use Rattle.dtx_engine.specs.declared.engine.Shape.{Shape}
 use Rattle.dtx_engine.specs.declared.piece.Ending.TheVariants.{Refused}
 use Rattle.dtx_engine.specs.declared.piece.Piece.{Piece}
 
--- All outputs were begun, in their order. Each holds its bytes, but for at most 131,072 at its end. No other file was
+-- how many bytes are gathered of each output at most: of an only one, and of each of two
+abbrev pub most_gathered : List (List ℕ) → ℕ
+most_gathered (only ∷ []) = 131072
+most_gathered names = 16384
+
+-- All outputs were begun, in their order. Each holds its bytes, but for at most `most` at its end. No other file was
 -- touched.
-abbrev pub AreNearlyWritten : Outputs → Option Files → Option Files → Type 0
-AreNearlyWritten [] start now = now ≡ start
-AreNearlyWritten (o ∷ rest) start now =
-    (front : List ℕ) × (behind : List ℕ) × (front ++ behind ≡ o.1) × (length behind ≤ 131072)
-    × AreNearlyWritten rest (option_map (with_file o.0 front) start) now
+abbrev pub AreNearlyWritten : ℕ → Outputs → Option Files → Option Files → Type 0
+AreNearlyWritten most [] start now = now ≡ start
+AreNearlyWritten most (o ∷ rest) start now =
+    (front : List ℕ) × (behind : List ℕ) × (front ++ behind ≡ o.1) × (length behind ≤ most)
+    × AreNearlyWritten most rest (option_map (with_file o.0 front) start) now
 
 -- Where reading failed, and the input has n readable bytes: the outputs hold what is made of the input's first k bytes.
--- These are all readable bytes but for less than a piece. `names` are the outputs' names, `made` is what is made of
--- bytes, `file` is the input, and `piece` is the length of a piece.
+-- These are all readable bytes but for less than a piece. Of each output the last bytes may still be gathered. `names`
+-- are the outputs' names, `made` is what is made of bytes, `file` is the input, and `piece` is the length of a piece.
 abbrev pub IsStopped : List (List ℕ) → (List ℕ → Made) → List ℕ → ℕ → ℕ → Option Files → Option Files → Type 0
 IsStopped names made file piece n start now =
-    (k : ℕ) × (n < k + piece) × AreNearlyWritten (outputs_of names (made (take k file))) start now
+    (k : ℕ) × (n < k + piece)
+    × AreNearlyWritten (most_gathered names) (outputs_of names (made (take k file))) start now
 
 -- The stages of a command over one input that is read in pieces. `input` is the input's name, and `names` are those of
 -- the outputs. The files were `held`, and are `now`. The counts were `before`, and are `after`.
@@ -62,7 +68,7 @@ IsUnread readable behind piece = piece.ended ≡ Some (Refused ReadFault)
 abbrev pub AreAllNearly : List (List ℕ) → (Option Files → Made → Option Files → Type 0) → Option Files → Option Files
     → Type 0
 AreAllNearly names gathered before now = (start : Option Files) (made : Made) → gathered start made before
-    → AreNearlyWritten (outputs_of names made) start now
+    → AreNearlyWritten (most_gathered names) (outputs_of names made) start now
 
 -- what the outputs hold where reading this file failed
 abbrev pub IsStopOf : Foreseen → Shape → Recipe → List ℕ → List (List ℕ) → Files → List ℕ → Counts → Counts → Status
