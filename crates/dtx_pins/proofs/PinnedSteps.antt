@@ -1,5 +1,6 @@
 -- One step of the search: the pens, and what the least of four sums tells.
-use Rattle.std.proofs.Common.{◌≡◌, ◌≢◌, ℕ, ℤ, ◌+◌, ◌-◌, ◌*◌, ◌/◌, ◌%◌, ◌^◌, ◌<◌, ◌≤◌, ◌⊎◌, inl, inr, Bool, true, zero, suc}
+use Rattle.std.proofs.Common.{◌≡◌, ◌≢◌, ℕ, ℤ, ◌+◌, ◌-◌, ◌*◌, ◌/◌, ◌%◌, ◌^◌, ◌<◌, ◌≤◌, ◌⊎◌, inl, inr, Bool, true}
+use Rattle.std.proofs.Common.{zero, suc}
 use Rattle.std.proofs.Common.{false}
 use Rattle.std.proofs.Common.{nat_eq, nat_le, nat_lt, cond, min, List, [], get_or, refl, sym, ap, ap₂, ◌∙◌}
 use Rattle.std.proofs.Common.{subst, arith}
@@ -139,7 +140,8 @@ best_is : (level_cost : ℕ → ℕ) (pin : ℕ) (old : List (List ℕ)) (p s k 
     → IsBest level_cost pin old p s k × (penned level_cost old pin p s k ≡ through level_cost old s k)
 best_is level_cost pin old p s k small bounded f l h = by_pin (cases_lt pin 4)
   where
-    by_pin : (pin < 4) ⊎ (4 ≤ pin) → IsBest level_cost pin old p s k × (penned level_cost old pin p s k ≡ through level_cost old s k)
+    by_pin : (pin < 4) ⊎ (4 ≤ pin)
+        → IsBest level_cost pin old p s k × (penned level_cost old pin p s k ≡ through level_cost old s k)
     by_pin (inl q) =
         let e = own (cases_eq k (told_number pin p)) in (
           record {

@@ -86,8 +86,9 @@ none_walked scale pins rounds sums marks zeros = record {
     costs = sums e;
     least = λ p s f m. subst (λ symbols. IsLeastCost scale (drop (length rounds) (coder_pins pins e)) symbols p s
         (cost_at (sums e) p s)) (sym (drop_all (length rounds) (column rounds e)
-        (omega (arith, length-column rounds e)))) (subst (IsLeastCost scale (drop (length rounds) (coder_pins pins e)) []
-        p s) (sym (zeros e p s l f m)) (nothing_cost scale (drop (length rounds) (coder_pins pins e)) p s));
+        (omega (arith, length-column rounds e))))
+        (subst (IsLeastCost scale (drop (length rounds) (coder_pins pins e)) [] p s) (sym (zeros e p s l f m))
+        (nothing_cost scale (drop (length rounds) (coder_pins pins e)) p s));
     units = record {
       base = 0;
       lift = 0;
@@ -188,7 +189,8 @@ multiples_written new put e h p s f m = ap (λ n. n % 4) (e p s f m) ∙ h p s f
 pub coder_stepped : (scale : ℕ) (symbols : List ℤ) (pins : List ℕ) (n : ℕ) (old now put : ℕ → List (List ℕ))
     (marks : List ℕ) (mark : ℕ) → n < 12
     → IsStep (weight scale (get_or symbols n (pos 0))) (pin_at pins n) (old n) (put n) mark → AreMultiples (put n)
-    → IsByte (get_or symbols n (pos 0)) → ((k : ℕ) → k ≢ n → put k ≡ now k) → AreStepped scale symbols pins n old now marks
+    → IsByte (get_or symbols n (pos 0)) → ((k : ℕ) → k ≢ n → put k ≡ now k)
+    → AreStepped scale symbols pins n old now marks
     → AreStepped scale symbols pins (n + 1) old put (slice_set marks n mark)
 coder_stepped scale symbols pins n old now put marks mark l step multiples byte others h = record {
   long = length-set marks n mark ∙ h.long;

@@ -24,8 +24,8 @@ AreAtMost bound xs = (s : ℕ) → s < 4 → slice_index xs s ≤ bound
 abbrev pub AreBounded : ℕ → List (List ℕ) → Type 0
 AreBounded bound costs = (p s : ℕ) → p < 2 → s < 4 → cost_at costs p s ≤ bound
 
--- What level number k comes to from a state: what it costs itself, and the least cost behind it. Levels cost the squares
--- of distances, or their weights.
+-- What level number k comes to from a state: what it costs itself, and the least cost behind it. A level costs the
+-- square of the distance from it, or its weight.
 abbrev pub through : (ℕ → ℕ) → List (List ℕ) → ℕ → ℕ → ℕ
 through level_cost behind state k =
     level_cost (level_by state k) + cost_at behind (k / 2) (next_state state (level_by state k))

@@ -1,5 +1,5 @@
--- Weights of levels: what the squares of a symbol's distances from them come to, four times and in units. They differ as
--- the squares do, and each is at most 7168. So the least of sums is found with small numbers.
+-- Weights of levels. They differ as four times the squares of a symbol's distances from the levels do, in units. Each
+-- is at most 7168, and a multiple of four.
 use Rattle.std.specs.Prelude.{ℕ, ℤ, pos, ◌≡◌, ◌+◌, ◌-◌, ◌*◌, ◌/◌, ◌%◌, ◌<◌, ◌==◌, ◌-ℤ◌, nat_abs, if◌then◌else◌, List}
 use Rattle.dtx_soft.specs.Squares.{seen}
 use Rattle.dtx_pins.specs.Steps.{cost_at}

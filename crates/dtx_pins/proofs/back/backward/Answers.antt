@@ -20,14 +20,14 @@ loop-t-preserved c = record {
   room = length-set c.loop-t.marks (c.loop-t.t - 1) c.step_all.result ∙ c.loop-t.invariant.room;
   bounded = λ e l p s f m. (let a = bounded_more c.args.weights.now.scale _ _
       (7168 * (length c.args.rounds.now - c.loop-t.t)) (sums_of c.loop-t.sums e)
-      (sums_of c.step_all.new.sums e) _ c.args.weights.now.small (c.step_all.ensures.from e l) (c.step_all.ensures.to e l)
-      (c.step_all.ensures.step e l) (c.loop-t.invariant.bounded e l) p s f m in omega (arith, a));
+      (sums_of c.step_all.new.sums e) _ c.args.weights.now.small (c.step_all.ensures.from e l)
+      (c.step_all.ensures.to e l) (c.step_all.ensures.step e l) (c.loop-t.invariant.bounded e l) p s f m in
+      omega (arith, a));
   multiples = c.step_all.ensures.multiples;
   walked = one_walked c.args.weights.now.scale (c.loop-t.t - 1) c.loop-t.t c.args.pins.now c.args.rounds.now
       (sums_of c.loop-t.sums) (sums_of c.step_all.new.sums) c.loop-t.marks c.step_all.result
-      c.args.weights.now.small (omega arith) (omega arith) c.loop-t.invariant.room c.step_all.ensures.from c.step_all.ensures.to
-      c.step_all.ensures.step
-      c.loop-t.invariant.walked;
+      c.args.weights.now.small (omega arith) (omega arith) c.loop-t.invariant.room c.step_all.ensures.from
+      c.step_all.ensures.to c.step_all.ensures.step c.loop-t.invariant.walked;
 }
 
 pub returns : goal.returns

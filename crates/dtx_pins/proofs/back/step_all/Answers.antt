@@ -17,7 +17,8 @@ loop-e-preserved c =
     (pin_at c.args.pins.now c.loop-e.e) (sums_of c.args.sums.now c.loop-e.e) c.stepped.new.behind
     (sums_of c.put_sums.new.sums c.loop-e.e) c.stepped.result c.put_sums.ensures.written step)
     (multiples_written c.stepped.new.behind (sums_of c.put_sums.new.sums c.loop-e.e) c.put_sums.ensures.written
-    c.stepped.ensures.multiples) (omega (arith, ints, fits), omega (arith, ints, fits)) c.put_sums.ensures.others c.loop-e.invariant
+    c.stepped.ensures.multiples) (omega (arith, ints, fits), omega (arith, ints, fits)) c.put_sums.ensures.others
+    c.loop-e.invariant
   where
     symbol : ℤ
     symbol = get_or c.args.symbols.now c.loop-e.e (pos 0)

@@ -39,7 +39,8 @@ pub half-low-requires-clause-fares : goal.half-low-requires-clause-fares
 half-low-requires-clause-fares c s l =
     let a = fare_at_most c.args.weights.now.scale c.args.symbol c.pens_of-pens.result.first
     c.pens_of-pens.result.second c.fares-fares.result.0 c.args.pin 0 c.args.weights.now.small c.ranges.symbol
-    c.pens_of-pens.ensures.first c.pens_of-pens.ensures.second (omega arith) (from_zero _ _ c.fares-fares.ensures.low) s l in
+    c.pens_of-pens.ensures.first c.pens_of-pens.ensures.second (omega arith)
+    (from_zero _ _ c.fares-fares.ensures.low) s l in
     omega (arith, a)
 
 pub half-high-requires-clause-fares : goal.half-high-requires-clause-fares
