@@ -8,7 +8,8 @@ use Rattle.std.proofs.lemmas.List.{length-set, length-drop, length-take-le, take
 use Rattle.std.proofs.lemmas.List.{get_or-set_same, get_or-set_other, get_or-take, get_or-drop}
 use Rattle.std.proofs.lemmas.List.FromFn.{fill_by_all}
 use Rattle.dtx_spread.specs.Rings.{branch_at, count_of, count_at, column, joined_at, IsEven, AreExchanged, ArePassed}
-use Rattle.dtx_spread.proofs.Turns.{branch_less, branch_other, row_counts, row_within, from_row, count_early, count_late}
+use Rattle.dtx_spread.proofs.Turns.{branch_less, branch_other, row_counts, row_within, from_row}
+use Rattle.dtx_spread.proofs.Turns.{count_early, count_late}
 use Rattle.dtx_spread.proofs.Turns.{early_fit, late_fit, count_few}
 use Rattle.dtx_spread.proofs.Written.{written_before, written_at}
 use borrow.Rule.Slice.PartMut.{put_mid}
