@@ -80,12 +80,12 @@ inputs_among [] = zero
 inputs_among (Input ∷ fields) = suc (inputs_among fields)
 inputs_among (field ∷ fields) = inputs_among fields
 
--- Words that fit no command are answered `Usage`, or `Memory` where the sink lacks memory for the line. No others are
--- answered `Usage`. Words that fit are answered `Same` only where two of the command's file names are equal, and then
--- always, unless memory runs out. An absent input is one that the words name, and each refusal is one that the command
--- can give (`Knows`). The plan of `net` names further files. So of its answer only this is said: it isn't `Usage`, and
--- an absent input is one of the four that it reads. The words of `trial` name no file. It is never answered `Same`, and
--- an absent input is one of the three that it reads.
+-- Words that fit no command are answered `Usage`, or `Memory` where memory runs out. No others are answered `Usage`.
+-- Words that fit are answered `Same` only where two of the command's file names are equal, and then always, unless
+-- memory runs out. An absent input is one that the words name, and each refusal is one that the command can give
+-- (`Knows`). The plan of `net` names further files. So of its answer only this is said: it isn't `Usage`, and an absent
+-- input is one of the four that it reads. The words of `trial` name no file. It is never answered `Same`, and an absent
+-- input is one of the three that it reads.
 abbrev pub IsByWords : Option Command → List (List ℕ) → Status → Type 0
 IsByWords None words status = (status ≡ Usage) ⊎ (status ≡ Memory)
 IsByWords (Some Net) words status = IsOfNetwork status

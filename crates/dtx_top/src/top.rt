@@ -54,8 +54,8 @@ pub fn run<S: Shelf, O: Sink>(alloc: Global, words: &[Word], shelf: &mut S, out:
         (O.counts out.old) (O.counts out.new) (O.written out.old) (O.written out.new) }
 
     // Told or not: what the words alone say of the result. It is `Usage` only where they fit no command, and there
-    // always unless the sink lacks memory. It is `Same` only where two file names are equal, and then always, unless
-    // memory runs out. This is not said of `net`, whose plan gives names too. An absent input is one that the words
+    // always, unless memory runs out. It is `Same` only where two file names are equal, and then always, unless memory
+    // runs out. This is not said of `net`, whose plan gives names too. An absent input is one that the words
     // name, or one of the four that `net` reads or the three that `trial` reads. Each refusal is one that the command
     // can give (`Knows`).
     ensures words { IsByWords (command_of words.now) words.now result }
