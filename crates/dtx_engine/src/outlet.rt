@@ -1,12 +1,13 @@
 // Where a command writes: one output, or two.
-ghost use Rattle.std.specs.Prelude.{◌≡◌, ◌≢◌, ℕ, List, [], ◌∷◌, Option, IfOk, IfErr, IsOk, true};
-ghost use Rattle.dtx_outside.specs.Counts.{HasGone};
+ghost use Rattle.std.specs.Prelude.{◌≡◌, ◌≢◌, ℕ, List, [], ◌∷◌, Option, IfOk, IfErr, IsOk};
+ghost use Rattle.dtx_outside.specs.Counts.{HasGone, Rose};
 ghost use Rattle.dtx_outside.specs.Shelf.{Files};
 ghost use Rattle.dtx_meaning.specs.Meaning.{ArePartWritten};
 ghost use Rattle.dtx_meaning.specs.Status.{blame_of_answer};
 ghost use Rattle.dtx_meaning.specs.declared.status.Status.TheVariants.{ReadFault};
 ghost use Rattle.dtx_engine.specs.Made.{Made, both, joined, only, outputs_of};
 ghost use Rattle.dtx_engine.specs.Outlet.{IsAllPut, IsFaultAlone, IsPut};
+ghost use Rattle.dtx_engine.specs.Stages.{AreAllNearly};
 
 use dtx_meaning::Status;
 use dtx_outside::{Output, PIECE, Shelf};
@@ -33,7 +34,7 @@ pub trait Outlet {
         ensures kept { names self.new ≡ names self.old }
         ensures fault { IsFaultAlone result }
         ensures gone { HasGone (S.counts shelf.old) (S.counts shelf.new) (blame_of_answer result) }
-        ensures begins { IfErr result (λ status. status ≢ ReadFault) };
+        ensures writes { IfErr result (λ status. status ≢ ReadFault) };
 
     /// Takes bytes for the first output, and for the second if there is one.
     fn write<S: Shelf>(&mut self, shelf: &mut S, first: &[u8], second: &[u8]) -> Result<(), Status>
@@ -43,7 +44,8 @@ pub trait Outlet {
         ensures kept { names self.new ≡ names self.old }
         ensures fault { IsFaultAlone result }
         ensures gone { HasGone (S.counts shelf.old) (S.counts shelf.new) (blame_of_answer result) }
-        ensures sure { S.foreseen.appends ≡ true → IsOk result };
+        ensures nothing { first.now ≡ [] → second.now ≡ [] → IsOk result }
+        ensures writes { IfErr result (λ status. status ≢ ReadFault) };
 
     /// Writes all bytes that are gathered to the files.
     fn flush<S: Shelf>(&mut self, shelf: &mut S) -> Result<(), Status>
@@ -52,7 +54,9 @@ pub trait Outlet {
         ensures kept { names self.new ≡ names self.old }
         ensures fault { IsFaultAlone result }
         ensures gone { HasGone (S.counts shelf.old) (S.counts shelf.new) (blame_of_answer result) }
-        ensures sure { S.foreseen.appends ≡ true → IsOk result };
+        ensures writes { IfErr result (λ status. status ≢ ReadFault) }
+        ensures nearly { ¬ Rose (S.counts shelf.old).write_faults (S.counts shelf.new).write_faults
+            → AreAllNearly (names self.old) (gathered self.old) (S.files shelf.old) (S.files shelf.new) };
 
     /// There is at least one output.
     ghost some: { (w : Self) → names w ≢ [] };
@@ -110,6 +114,7 @@ impl<'a> Outlet for One<'a> {
     }
 
     fn flush<S: Shelf>(&mut self, shelf: &mut S) -> Result<(), Status> {
+        self.output.known();
         self.output.flush(shelf, self.name)?;
         Ok(())
     }
@@ -180,6 +185,8 @@ impl<'a> Outlet for Two<'a> {
     }
 
     fn flush<S: Shelf>(&mut self, shelf: &mut S) -> Result<(), Status> {
+        self.first_output.known();
+        self.second_output.known();
         self.first_output.flush(shelf, self.first)?;
         self.second_output.flush(shelf, self.second)?;
         Ok(())

@@ -1,8 +1,9 @@
 // Writes what an engine has made: its zeros, and the bytes that it lends.
-ghost use Rattle.std.specs.Prelude.{◌≡◌, Option, IsOk, replicate, true};
+ghost use Rattle.std.specs.Prelude.{◌≡◌, ◌≢◌, [], Option, IfErr, IsOk, replicate};
 ghost use Rattle.dtx_outside.specs.Counts.{HasGone};
 ghost use Rattle.dtx_outside.specs.Shelf.{Files};
 ghost use Rattle.dtx_meaning.specs.Status.{blame_of_answer};
+ghost use Rattle.dtx_meaning.specs.declared.status.Status.TheVariants.{ReadFault};
 ghost use Rattle.dtx_engine.specs.Made.{Made, joined, only};
 ghost use Rattle.dtx_engine.specs.Outlet.{IsFaultAlone, IsPut};
 
@@ -26,7 +27,9 @@ pub(crate) fn write_made<E: Engine, W: Outlet, S: Shelf>(
     ensures kept { W.names outlet.new ≡ W.names outlet.old }
     ensures fault { IsFaultAlone result }
     ensures gone { HasGone (S.counts shelf.old) (S.counts shelf.new) (blame_of_answer result) }
-    ensures sure { S.foreseen.appends ≡ true → IsOk result }
+    ensures nothing { (E.gives engine.now bytes.now).first ≡ [] → (E.gives engine.now bytes.now).second ≡ []
+        → IsOk result }
+    ensures writes { IfErr result (λ status. status ≢ ReadFault) }
 {
     let made = engine.made(bytes);
     match write_zeros(engine.zeros(), outlet, shelf) {
@@ -43,7 +46,8 @@ fn write_zeros<W: Outlet, S: Shelf>(count: u64, outlet: &mut W, shelf: &mut S) -
     ensures kept { W.names outlet.new ≡ W.names outlet.old }
     ensures fault { IsFaultAlone result }
     ensures gone { HasGone (S.counts shelf.old) (S.counts shelf.new) (blame_of_answer result) }
-    ensures sure { S.foreseen.appends ≡ true → IsOk result }
+    ensures nothing { count ≡ 0 → IsOk result }
+    ensures writes { IfErr result (λ status. status ≢ ReadFault) }
 {
     let zeros = [0; ZEROS];
     let mut left = count;

@@ -1,5 +1,5 @@
 // The host's files as a shelf. It counts its refusals. What the files hold is not told: proofs don't see it.
-ghost use Rattle.std.specs.Prelude.{◌≡◌, ◌<◌, ◌≤◌, ◌+◌, ◌^◌, IfOk, IfSome, IsOk, IsSomeAnd, length, true};
+ghost use Rattle.std.specs.Prelude.{◌≡◌, ◌<◌, ◌≤◌, ◌+◌, ◌^◌, IfOk, IfSome, IsSomeAnd, length};
 ghost use Rattle.std.specs.FinMap as map;
 ghost use Rattle.dtx_outside.specs.Counts.{HasGone, blame_of_read, blame_of_write};
 ghost use Rattle.dtx_outside.specs.Foreseen.{nothing_foreseen};
@@ -104,10 +104,9 @@ impl<R: Files + AllocGlobal + Clock + Eprint + Input> Shelf for HostShelf<'_, R>
 
     fn append(&mut self, name: &str, bytes: &[u8]) -> Result<(), WriteNo>
 
-        // The trait's clauses on the files, on the counts, and on what is foreseen.
+        // The trait's clauses on the files, and on the counts.
         ensures files { IsAppended name.now bytes.now untold result untold }
         ensures gone { HasGone self.old self.new (blame_of_write result) }
-        ensures foreseen { nothing_foreseen.appends ≡ true → IsOk result }
 
         // It counts what it answers, and nothing else.
         ensures counted { self.new ≡ counts_written result self.old }

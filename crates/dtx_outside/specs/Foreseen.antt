@@ -1,5 +1,5 @@
 -- What is certain of a kind of shelf before any call, and what a read can answer then.
-use Rattle.std.specs.Prelude.{ℕ, ◌+◌, ◌<◌, ◌≤◌, Bool, false, List, Option, Some, None, Result, Ok, Err}
+use Rattle.std.specs.Prelude.{ℕ, ◌+◌, ◌<◌, ◌≤◌, List, Option, Some, None, Result, Ok, Err}
 use Rattle.dtx_outside.specs.declared.filling.Filled.{Filled}
 use Rattle.dtx_outside.specs.declared.shelf.ReadNo.{ReadNo}
 use Rattle.dtx_outside.specs.declared.shelf.ReadNo.TheVariants.{Absent, Failed, Memory}
@@ -8,12 +8,10 @@ use Rattle.dtx_outside.specs.declared.shelf.ReadNo.TheVariants.{Absent, Failed, 
 pub record Foreseen : Type 0 where
   -- how many bytes at the front of the file of that name can be read while no byte behind them can, where it is certain
   pub readable : List ℕ → Option ℕ
-  -- whether no append is refused
-  pub appends : Bool
 
 -- nothing is foreseen
 abbrev pub nothing_foreseen : Foreseen
-nothing_foreseen = record { readable = λ name. None; appends = false }
+nothing_foreseen = record { readable = λ name. None }
 
 -- What a read of `wanted` bytes from offset `place` on can answer, where the readable bytes are foreseen. It gives
 -- bytes among the readable ones. Or reading fails, if one of the wanted bytes isn't readable.

@@ -1,7 +1,7 @@
 use Rattle.std.proofs.Common.{◌∙◌}
 use Rattle.dtx_meaning.specs.Status.{blame_of, outcome_of}
 use Rattle.dtx_engine.proofs.Gone.{gone_behind}
-use Rattle.dtx_engine.proofs.Stages.{asked_stages, unasked_stages}
+use Rattle.dtx_engine.proofs.StagesLemmas.{asked_stages, stop_before, unasked_stages}
 use Rattle.dtx_engine.proofs.carrying.asked.Goals as goal
 
 pub returns-in-Err-clause-answer : goal.returns-in-Err-clause-answer
@@ -29,13 +29,18 @@ pub returns-in-Ok-clause-stages : goal.returns-in-Ok-clause-stages
 returns-in-Ok-clause-stages g c = λ apart held told.
     let place = c.args.place in
     asked_stages g.S.Shelf.foreseen place.shape (g.E.Engine.recipe c.args.engine.now) place.input.name.now
-    (g.W.Outlet.names c.args.outlet.now) held (outcome_of c.begun.result).status (g.S.Shelf.files c.begun.new.shelf) _
-    c.in-Ok.ensures.foreseen
-    (λ file there. c.begun.ensures.stages apart held file (c.in-Ok.ensures.kept ∙ told) there)
+    (g.W.Outlet.names c.args.outlet.now) held (g.S.Shelf.counts c.args.shelf.now) (g.S.Shelf.counts c.begun.new.shelf)
+    (outcome_of c.begun.result).status (g.S.Shelf.files c.begun.new.shelf) _ c.in-Ok.ensures.foreseen
+    (λ file there. stop_before g.S.Shelf.foreseen place.shape (g.E.Engine.recipe c.args.engine.now) place.input.name.now
+    (g.W.Outlet.names c.args.outlet.now) held file (g.S.Shelf.counts c.args.shelf.now)
+    (g.S.Shelf.counts c.ask_for.new.shelf) (g.S.Shelf.counts c.begun.new.shelf) (outcome_of c.begun.result).status
+    (g.S.Shelf.files c.begun.new.shelf) c.in-Ok.ensures.gone.write_faults
+    (c.begun.ensures.stages apart held file (c.in-Ok.ensures.kept ∙ told) there))
 
 pub returns-in-Err-clause-stages : goal.returns-in-Err-clause-stages
 returns-in-Err-clause-stages g c = λ apart held told.
     let place = c.args.place in
     unasked_stages g.S.Shelf.foreseen place.shape (g.E.Engine.recipe c.args.engine.now) place.input.name.now
-    (g.W.Outlet.names c.args.outlet.now) held c.in-Err.status (g.S.Shelf.files c.ask_for.new.shelf)
+    (g.W.Outlet.names c.args.outlet.now) held (g.S.Shelf.counts c.args.shelf.now) (g.S.Shelf.counts c.ask_for.new.shelf)
+    c.in-Err.status (g.S.Shelf.files c.ask_for.new.shelf)
     c.in-Err.ensures.foreseen (c.in-Err.ensures.kept ∙ told)

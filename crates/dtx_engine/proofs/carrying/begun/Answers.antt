@@ -9,6 +9,7 @@ use Rattle.dtx_engine.proofs.Gone.{gone_behind}
 use Rattle.std.specs.Prelude.{Err, Some, refl}
 use Rattle.dtx_meaning.specs.Status.{outcome_of}
 use Rattle.dtx_engine.specs.Stages.{IsStopOf}
+use Rattle.dtx_engine.proofs.StagesLemmas.{stop_before}
 use Rattle.dtx_engine.proofs.Turns.{unbegun}
 use Rattle.dtx_engine.proofs.carrying.begun.Goals as goal
 
@@ -23,7 +24,7 @@ returns-in-Err g c = record {
   input = fault_of_input c.args.place.input.number c.in-Err.status c.in-Err.ensures.fault;
   answer = fault_answers (g.E.Engine.recipe c.args.engine.now) c.in-Err.status c.in-Err.ensures.fault;
   gone = c.in-Err.ensures.gone;
-  stages = λ apart held file told there n readable sure fault. absurd (c.in-Err.ensures.begins fault);
+  stages = λ apart held file told there n readable calm fault. absurd (c.in-Err.ensures.writes fault);
 }
 
 pub returns-in-Ok : goal.returns-in-Ok
@@ -47,7 +48,13 @@ returns-in-Ok g c = record {
       let recipe = g.E.Engine.recipe c.args.engine.now in
       let now = g.S.Shelf.files c.carry.new.shelf in
       let here = subst (λ (n : List (List ℕ)). IsNoneOf input n) (sym c.begin.ensures.kept) apart in
-      subst (λ (n : List (List ℕ)). IsStopOf g.S.Shelf.foreseen place.shape recipe input n held file
+      let before = g.S.Shelf.counts c.args.shelf.now in
+      let between = g.S.Shelf.counts c.begin.new.shelf in
+      let after = g.S.Shelf.counts c.carry.new.shelf in
+      let foreseen = g.S.Shelf.foreseen in
+      stop_before foreseen place.shape recipe input (g.W.Outlet.names c.args.outlet.now) held file before between after
+      c.carry.result.status now c.in-Ok.ensures.gone.write_faults
+      (subst (λ (n : List (List ℕ)). IsStopOf foreseen place.shape recipe input n held file between after
       c.carry.result.status now) c.begin.ensures.kept
-      (c.carry.ensures.stages here held file (c.in-Ok.ensures.begun (Some held) told) there);
+      (c.carry.ensures.stages here held file (c.in-Ok.ensures.begun (Some held) told) there));
 }

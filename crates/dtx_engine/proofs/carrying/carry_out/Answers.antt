@@ -1,4 +1,4 @@
-use Rattle.dtx_engine.proofs.Stages.{where_told}
+use Rattle.dtx_engine.proofs.StagesLemmas.{where_told}
 use Rattle.dtx_engine.specs.Stages.{AreStages}
 use Rattle.dtx_engine.proofs.carrying.carry_out.Goals as goal
 
@@ -10,7 +10,8 @@ returns-in-Ok g c = record {
   gone = c.in-Ok.ensures.gone;
   stages = λ apart. where_told (g.S.Shelf.files c.args.shelf.now)
       (λ held. AreStages g.S.Shelf.foreseen g.E.Engine.shape (g.E.Engine.recipe c.args.engine.now)
-      c.args.input.name.now (g.W.Outlet.names c.args.outlet.now) held c.in-Ok.outcome.status
+      c.args.input.name.now (g.W.Outlet.names c.args.outlet.now) held
+      (g.S.Shelf.counts c.args.shelf.now) (g.S.Shelf.counts c.with_room.new.shelf) c.in-Ok.outcome.status
       (g.S.Shelf.files c.with_room.new.shelf))
       (c.in-Ok.ensures.stages apart);
 }
@@ -23,7 +24,8 @@ returns-in-Err g c = record {
   gone = rw c.ended.ensures c.in-Err.ensures.gone;
   stages = λ apart. where_told (g.S.Shelf.files c.args.shelf.now)
       (λ held. AreStages g.S.Shelf.foreseen g.E.Engine.shape (g.E.Engine.recipe c.args.engine.now)
-      c.args.input.name.now (g.W.Outlet.names c.args.outlet.now) held c.ended.result.status
+      c.args.input.name.now (g.W.Outlet.names c.args.outlet.now) held
+      (g.S.Shelf.counts c.args.shelf.now) (g.S.Shelf.counts c.with_room.new.shelf) c.ended.result.status
       (g.S.Shelf.files c.with_room.new.shelf))
       (λ held told. rw c.ended.ensures (c.in-Err.ensures.stages apart held told));
 }

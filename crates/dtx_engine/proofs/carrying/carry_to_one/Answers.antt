@@ -5,7 +5,7 @@ use Rattle.dtx_meaning.specs.declared.status.Status.{Status}
 use Rattle.dtx_meaning.specs.declared.status.Status.TheVariants.{Memory}
 use Rattle.dtx_engine.specs.Made.{IsNoneOf}
 use Rattle.dtx_engine.specs.Stages.{AreStages}
-use Rattle.dtx_engine.proofs.Stages.{ended_not_read, kept_stages, where_told}
+use Rattle.dtx_engine.proofs.StagesLemmas.{ended_not_read, kept_stages, where_told}
 use Rattle.dtx_engine.proofs.carrying.carry_to_one.Goals as goal
 
 pub returns-in-Ok-clause-input : goal.returns-in-Ok-clause-input
@@ -28,7 +28,7 @@ returns-in-Ok-clause-stages g c =
     let input = c.args.input.name.now in
     subst (λ (n : List (List ℕ)). IsNoneOf input n → IfSome (g.S.Shelf.files c.args.shelf.now) (λ held.
     AreStages g.S.Shelf.foreseen g.E.Engine.shape (g.E.Engine.recipe c.args.engine.now) input n held
-    c.carry_out.result.status (g.S.Shelf.files c.carry_out.new.shelf))) c.in-Ok.ensures.1 c.carry_out.ensures.stages
+    (g.S.Shelf.counts c.args.shelf.now) (g.S.Shelf.counts c.carry_out.new.shelf) c.carry_out.result.status (g.S.Shelf.files c.carry_out.new.shelf))) c.in-Ok.ensures.1 c.carry_out.ensures.stages
     (c.requires.differ, tt)
 
 pub returns-in-Err-clause-stages : goal.returns-in-Err-clause-stages
@@ -37,8 +37,10 @@ returns-in-Err-clause-stages g c =
     let recipe = g.E.Engine.recipe c.args.engine.now in
     let input = c.args.input.name.now in
     let names = c.args.output.now ∷ [] in
+    let counts = g.S.Shelf.counts c.args.shelf.now in
     where_told told
-    (λ held. AreStages g.S.Shelf.foreseen g.E.Engine.shape recipe input names held c.ended.result.status told)
-    (λ held same. kept_stages g.S.Shelf.foreseen g.E.Engine.shape recipe input names held c.ended.result.status told
+    (λ held. AreStages g.S.Shelf.foreseen g.E.Engine.shape recipe input names held counts counts c.ended.result.status told)
+    (λ held same. kept_stages g.S.Shelf.foreseen g.E.Engine.shape recipe input names held counts counts
+    c.ended.result.status told
     (ended_not_read c.ended.result Memory (c.ended.ensures ∙ ap (λ (s : Status). ended s) c.from.ensures) (λ e. cc))
     same)

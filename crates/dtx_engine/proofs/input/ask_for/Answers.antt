@@ -6,7 +6,7 @@ use Rattle.dtx_meaning.specs.Status.{blame_of}
 use Rattle.dtx_engine.specs.Course.{IsAsked}
 use Rattle.dtx_engine.proofs.Gone.{gone_of_read}
 use Rattle.dtx_engine.proofs.Reading.{asked_refused}
-use Rattle.dtx_engine.proofs.Stages.{asked_read, asked_unread}
+use Rattle.dtx_engine.proofs.StagesLemmas.{asked_read, asked_unread}
 use Rattle.dtx_engine.specs.Stages.{IsForeseenAsk}
 use Rattle.dtx_engine.proofs.input.ask_for.Goals as goal
 

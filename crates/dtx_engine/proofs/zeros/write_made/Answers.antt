@@ -1,6 +1,7 @@
 use Rattle.std.proofs.Common.{ℕ, ◌++◌, replicate, ap, ◌∙◌}
 use Rattle.dtx_engine.specs.Made.{joined, only}
 use Rattle.dtx_engine.proofs.ZeroBytes.{put_behind, zeros_of_made}
+use Rattle.dtx_engine.proofs.StagesLemmas.{not_refused, nothing_behind}
 use Rattle.dtx_engine.proofs.zeros.write_made.Goals as goal
 
 pub returns-in-Ok-clause-written : goal.returns-in-Ok-clause-written
@@ -23,3 +24,19 @@ returns-in-Err-clause-written g c = λ start given gathered.
           (g.S.Shelf.files c.write_zeros.new.shelf)
           (ap (λ (n : ℕ). replicate n 0 ++ made) c.zeros.ensures ∙ c.made-made.ensures) put.1,
     )
+
+pub returns-in-Ok-clause-nothing : goal.returns-in-Ok-clause-nothing
+returns-in-Ok-clause-nothing g c = λ none no_log.
+    let made = c.made-made.result.now in
+    let gives = g.E.Engine.gives c.args.engine.now c.args.bytes.now in
+    let nothing = nothing_behind c.zeros.result made gives.first
+    (ap (λ (n : ℕ). replicate n 0 ++ made) c.zeros.ensures ∙ c.made-made.ensures) none in
+    c.write.ensures.nothing nothing.1 (c.log.ensures c.args.bytes.now ∙ no_log)
+
+pub returns-in-Err-clause-nothing : goal.returns-in-Err-clause-nothing
+returns-in-Err-clause-nothing g c = λ none no_log.
+    let made = c.made-made.result.now in
+    let gives = g.E.Engine.gives c.args.engine.now c.args.bytes.now in
+    let nothing = nothing_behind c.zeros.result made gives.first
+    (ap (λ (n : ℕ). replicate n 0 ++ made) c.zeros.ensures ∙ c.made-made.ensures) none in
+    absurd (not_refused (c.in-Err.ensures.nothing nothing.0))

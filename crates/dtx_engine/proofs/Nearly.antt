@@ -1,0 +1,59 @@
+-- Outputs that hold nearly all that was given for them.
+use Rattle.std.proofs.Common.{◌≡◌, ℕ, ◌≤◌, List, [], ◌∷◌, length, refl, arith}
+use Rattle.std.specs.Prelude.{Option, Err, IsErrOf}
+use Rattle.std.specs.Option.{option_map}
+use Rattle.std.proofs.lemmas.List.{append-nil}
+use Rattle.dtx_outside.specs.Counts.{Counts, HasGone, Rose, blame_of_write}
+use Rattle.dtx_outside.specs.Shelf.{Files, with_file}
+use Rattle.dtx_outside.specs.Written.{IsGathered, IsWritten}
+use Rattle.dtx_outside.specs.declared.shelf.WriteNo.{WriteNo}
+use Rattle.dtx_outside.specs.declared.shelf.WriteNo.TheVariants.{Failed, Memory}
+use Rattle.dtx_engine.specs.Made.{Made, outputs_of}
+use Rattle.dtx_engine.specs.Outlet.{AreBothGathered}
+use Rattle.dtx_engine.specs.Stages.{AreNearlyWritten}
+
+-- where no write error was counted, it was memory that ran out
+pub short_alone : (before after : Counts) (cause : WriteNo)
+    → HasGone before after (blame_of_write (Err cause))
+    → ¬ Rose before.write_faults after.write_faults → IsErrOf {T = Unit {0}} (Err cause) Memory
+short_alone before after Failed gone calm = absurd (calm gone.risen)
+short_alone before after Memory gone calm = refl
+
+-- ---- one output
+
+pub nearly_one : (name : List ℕ) (start : Option Files) (made : Made) (rest : List ℕ) (now : Option Files)
+    → IsGathered start name made.first rest now → length rest ≤ 131072
+    → AreNearlyWritten (outputs_of (name ∷ []) made) start now
+nearly_one name start made rest now is few = (is.front, rest, is.whole, few, is.file)
+
+pub whole_one : (name : List ℕ) (start : Option Files) (made : Made) (now : Option Files)
+    → IsWritten start name made.first now → AreNearlyWritten (outputs_of (name ∷ []) made) start now
+whole_one name start made now is = (made.first, [], append-nil made.first, omega arith, is)
+
+-- ---- two outputs
+
+-- nothing of either was flushed
+pub nearly_both : (one other : List ℕ) (start : Option Files) (made : Made) (r s : List ℕ) (now : Option Files)
+    → AreBothGathered one other start made r s now → length r ≤ 131072 → length s ≤ 131072
+    → AreNearlyWritten (outputs_of (one ∷ other ∷ []) made) start now
+nearly_both one other start made r s now is few less =
+    (is.one_front, r, is.first, few, (is.other_front, s, is.second, less, is.files))
+
+-- the first was flushed
+pub nearly_second : (one other : List ℕ) (start : Option Files) (made : Made) (s : List ℕ) (now : Option Files)
+    → IsGathered (option_map (with_file one made.first) start) other made.second s now → length s ≤ 131072
+    → AreNearlyWritten (outputs_of (one ∷ other ∷ []) made) start now
+nearly_second one other start made s now is less =
+    (made.first, [], append-nil made.first, omega arith, (is.front, s, is.whole, less, is.file))
+
+-- both were
+pub whole_both : (one other : List ℕ) (start : Option Files) (made : Made) (now : Option Files)
+    → now ≡ option_map (with_file other made.second) (option_map (with_file one made.first) start)
+    → AreNearlyWritten (outputs_of (one ∷ other ∷ []) made) start now
+whole_both one other start made now is = (
+  made.first,
+  [],
+  append-nil made.first,
+  omega arith,
+  (made.second, [], append-nil made.second, omega arith, is),
+)

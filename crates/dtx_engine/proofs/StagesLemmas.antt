@@ -1,0 +1,223 @@
+-- Lemmas of the stages of a command: what is asked, what isn't read, and what is written by then.
+use Rattle.std.proofs.Common.{◌≡◌, ◌≢◌, Bool, true, false, ℕ, zero, suc, ◌+◌, ◌*◌, ◌<◌, ◌≤◌, List, [], ◌∷◌, ◌++◌}
+use Rattle.std.proofs.Common.{length, take, drop, replicate}
+use Rattle.std.proofs.Common.{refl, sym, ap, subst, ◌∙◌, arith}
+use Rattle.std.specs.Prelude.{Option, Some, None, Result, Ok, Err, IfErr, IfSome}
+use Rattle.std.specs.FinMap.{get}
+use Rattle.std.proofs.lemmas.List.{append-nil}
+use Rattle.dtx_outside.specs.Counts.{Blame, Counts, Nothing, Reading, Rose}
+use Rattle.dtx_outside.specs.Foreseen.{Foreseen, IsForeseenFill, IsForeseenRead}
+use Rattle.dtx_outside.specs.Shelf.{Files}
+use Rattle.dtx_outside.specs.declared.shelf.ReadNo.{ReadNo}
+use Rattle.dtx_outside.specs.declared.shelf.ReadNo.TheVariants as read
+use Rattle.dtx_outside.specs.declared.shelf.WriteNo.{WriteNo}
+use Rattle.dtx_outside.specs.declared.shelf.WriteNo.TheVariants as write
+use Rattle.dtx_meaning.specs.Status.{blame_of, ended, of_read, of_write, refused_behind}
+use Rattle.dtx_meaning.specs.declared.status.Outcome.{Outcome}
+use Rattle.dtx_meaning.specs.declared.status.Status.{Status}
+use Rattle.dtx_meaning.specs.declared.status.Status.TheVariants.{Absent, ReadFault, WriteFault, Memory}
+use Rattle.dtx_engine.specs.Course.{blame_of_ending, blame_of_piece, status_behind}
+use Rattle.dtx_engine.specs.Made.{Made, joined, outputs_of}
+use Rattle.dtx_engine.specs.Recipe.{Recipe, first_units}
+use Rattle.dtx_engine.specs.Stages.{AreNearlyWritten, AreStages, IsForeseenAsk, IsStopOf, IsStopped, IsUnread}
+use Rattle.dtx_engine.specs.declared.engine.Shape.{Shape}
+use Rattle.dtx_engine.specs.declared.piece.Ending.{Ending}
+use Rattle.dtx_engine.specs.declared.piece.Ending.TheVariants.{Refused, Whole}
+use Rattle.dtx_engine.specs.declared.piece.Piece.{Piece}
+
+-- ---- asking
+
+pub asked_read : (readable : Option ℕ) (wanted count : ℕ) (done : Unit {0})
+    → IsForeseenRead readable 0 wanted (Ok count) → IsForeseenAsk readable (Ok done)
+asked_read None wanted count done is = tt
+asked_read (Some n) wanted count done is = is.0
+
+pub asked_unread : (readable : Option ℕ) (which : ℕ) (cause : ReadNo) → IsForeseenRead readable 0 1 (Err cause)
+    → IsForeseenAsk readable (Err (of_read which cause))
+asked_unread None which cause is = tt
+asked_unread (Some n) which read.Absent is = tt
+asked_unread (Some n) which read.Failed is = omega (arith, is)
+asked_unread (Some n) which read.Memory is = tt
+
+-- ---- reading a piece
+
+not_nothing : ◌≡◌ {A = Blame} Reading Nothing → ⊥
+not_nothing e = cc
+
+-- an answer that is blamed on nothing is no read error
+pub other_than_read : (status : Status) → blame_of status ≡ Nothing → status ≢ ReadFault
+other_than_read status none =
+    λ is. not_nothing (sym (ap (λ (s : Status). blame_of s) is) ∙ none)
+
+-- nor is the end of a piece that is blamed on nothing
+pub judged_read : (readable : Option ℕ) (behind : ℕ) (piece : Piece) → blame_of_piece piece ≡ Nothing
+    → IsUnread readable behind piece
+judged_read readable behind piece none =
+    λ is. absurd (not_nothing (sym (ap (λ (e : Option Ending). blame_of_ending e) is) ∙ none))
+
+same_count : (m n : ℕ) → ◌≡◌ {A = Option ℕ} (Some m) (Some n) → m ≡ n
+same_count m n e = cc
+
+unread_behind : (readable : Option ℕ) (number place wanted behind : ℕ) (cause : ReadNo) → place + wanted ≡ behind
+    → IsForeseenFill readable place wanted (Err cause) → of_read number cause ≡ ReadFault
+    → (n : ℕ) → readable ≡ Some n → n < behind
+unread_behind None number place wanted behind cause all fill is n e = absurd (none_some n e)
+  where
+    none_some : (n : ℕ) → ◌≡◌ {A = Option ℕ} None (Some n) → ⊥
+    none_some n e = cc
+unread_behind (Some m) number place wanted behind read.Absent all fill is n e = absurd cc
+unread_behind (Some m) number place wanted behind read.Failed all fill is n e =
+    omega (arith, fill, all, same_count m n e)
+unread_behind (Some m) number place wanted behind read.Memory all fill is n e = absurd cc
+
+same_status : (a b : Status) → ◌≡◌ {A = Option Ending} (Some (Refused a)) (Some (Refused b)) → a ≡ b
+same_status a b e = cc
+
+-- a piece that couldn't be read
+pub unread_stage : (readable : Option ℕ) (number place wanted behind : ℕ) (cause : ReadNo) (status : Status)
+    → status ≡ of_read number cause → place + wanted ≡ behind → IsForeseenFill readable place wanted (Err cause)
+    → IsUnread readable behind (record { units = 0; bytes = 0; ended = Some (Refused status) })
+unread_stage readable number place wanted behind cause status is all fill = λ ended.
+    let fault = sym is ∙ same_status status ReadFault ended in
+    (refl, unread_behind readable number place wanted behind cause all fill fault)
+
+-- ---- writing
+
+-- a count that hasn't risen since an earlier moment hasn't since a later one
+pub calm_behind : (a b c : ℕ) → a ≤ b → ¬ Rose a c → ¬ Rose b c
+calm_behind a b c first calm rose = calm (λ more. omega (arith, first, rose more))
+
+-- a call that is refused isn't done
+pub not_refused : ◌≡◌ {A = Bool} false true → ⊥
+not_refused e = cc
+
+-- the error of a call that writes is no read error
+pub no_read : (cause : WriteNo) → of_write cause ≢ ReadFault
+no_read write.Failed = λ e. cc
+no_read write.Memory = λ e. cc
+
+pub writes_no_read : (cause : WriteNo) (result : Result (Unit {0}) Status) → result ≡ Err (of_write cause)
+    → IfErr result (λ status. status ≢ ReadFault)
+writes_no_read cause result is =
+    subst (λ (r : Result (Unit {0}) Status). IfErr r (λ status. status ≢ ReadFault)) (sym is) (no_read cause)
+
+-- a read error behind which writing was refused was met before
+pub read_behind : (first refusal : Status) → refusal ≢ ReadFault → refused_behind first refusal ≡ ReadFault
+    → first ≡ ReadFault
+read_behind ReadFault refusal other is = refl
+read_behind (Absent input) Memory other is = absurd cc
+read_behind WriteFault Memory other is = absurd cc
+read_behind first refusal other is = absurd (other is)
+
+pub ending_behind : (last : Option Ending) (refusal : Status) → refusal ≢ ReadFault
+    → status_behind last refusal ≡ ReadFault → last ≡ Some (Refused ReadFault)
+ending_behind (Some (Refused first)) refusal other is =
+    ap (λ (s : Status). Some (Refused s)) (read_behind first refusal other is)
+ending_behind (Some (Whole loose)) refusal other is = absurd (other is)
+ending_behind None refusal other is = absurd (other is)
+
+-- a turn at which reading failed: what was given before is nearly written
+pub turn_stopped : (shape : Shape) (recipe : Recipe) (names : List (List ℕ)) (held : Files) (file : List ℕ)
+    (count : ℕ) (bytes : List ℕ) (taken n : ℕ) (now : Option Files) → taken ≡ 0
+    → length bytes ≡ shape.unit * shape.units → n < shape.unit * count + length bytes
+    → AreNearlyWritten (outputs_of names (recipe.made (first_units shape file count ++ take taken bytes))) (Some held)
+    now
+    → IsStopped names recipe.made file (shape.unit * shape.units) n (Some held) now
+turn_stopped shape recipe names held file count bytes taken n now none room behind written = (
+  shape.unit * count,
+  omega (arith, behind, room),
+  subst (λ (b : List ℕ). AreNearlyWritten (outputs_of names (recipe.made b)) (Some held) now)
+      (ap (λ (t : ℕ). first_units shape file count ++ take t bytes) none ∙ append-nil (first_units shape file count))
+      written,
+)
+
+-- the same, counted from an earlier moment
+pub stop_before : (foreseen : Foreseen) (shape : Shape) (recipe : Recipe) (input : List ℕ) (names : List (List ℕ))
+    (held : Files) (file : List ℕ) (before between after : Counts) (status : Status) (now : Option Files)
+    → before.write_faults ≤ between.write_faults
+    → IsStopOf foreseen shape recipe input names held file between after status now
+    → IsStopOf foreseen shape recipe input names held file before after status now
+stop_before foreseen shape recipe input names held file before between after status now first stop =
+    λ n readable calm fault. stop n readable
+    (calm_behind before.write_faults between.write_faults after.write_faults first calm) fault
+
+-- what an engine makes of nothing is nothing
+pub nothing_made : (made gives : Made) → made ≡ joined made gives → (gives.first ≡ []) × (gives.second ≡ [])
+nothing_made made gives is = (
+  append-cancel-nil made.first gives.first (ap (λ (m : Made). m.first) is),
+  append-cancel-nil made.second gives.second (ap (λ (m : Made). m.second) is),
+)
+  where
+    append-cancel-nil : (xs ys : List ℕ) → xs ≡ xs ++ ys → ys ≡ []
+    append-cancel-nil [] ys e = sym e
+    append-cancel-nil (x ∷ xs) ys e = append-cancel-nil xs ys (ap (drop 1) e)
+
+-- no zeros and no bytes behind them
+pub nothing_behind : (zeros : ℕ) (bytes made : List ℕ) → replicate zeros 0 ++ bytes ≡ made → made ≡ []
+    → (zeros ≡ 0) × (bytes ≡ [])
+nothing_behind zero bytes made is none = (refl, is ∙ none)
+nothing_behind (suc zeros) bytes made is none = absurd (some (is ∙ none))
+  where
+    some : 0 ∷ (replicate zeros 0 ++ bytes) ≡ [] → ⊥
+    some e = cc
+
+-- ---- the stages
+
+-- the input was asked for
+pub asked_stages : (foreseen : Foreseen) (shape : Shape) (recipe : Recipe) (input : List ℕ) (names : List (List ℕ))
+    (held : Files) (before after : Counts) (status : Status) (now : Option Files) (done : Unit {0})
+    → IsForeseenAsk (foreseen.readable input) (Ok done)
+    → ((file : List ℕ) → get held input ≡ Some file
+    → IsStopOf foreseen shape recipe input names held file before after status now)
+    → AreStages foreseen shape recipe input names held before after status now
+asked_stages foreseen shape recipe input names held before after status now done ask stop = record {
+  untouched = λ none.
+      let asked : 0 < 0 = subst (λ (o : Option ℕ). IsForeseenAsk o (Ok done)) none ask in
+      absurd (omega (arith, asked));
+  stopped = λ n file some readable there calm fault. stop file there n readable calm fault;
+}
+
+-- asking for the input was refused
+pub unasked_stages : (foreseen : Foreseen) (shape : Shape) (recipe : Recipe) (input : List ℕ) (names : List (List ℕ))
+    (held : Files) (before after : Counts) (status : Status) (now : Option Files)
+    → IsForeseenAsk (foreseen.readable input) (Err status) → now ≡ Some held
+    → AreStages foreseen shape recipe input names held before after status now
+unasked_stages foreseen shape recipe input names held before after status now ask same = record {
+  untouched = λ none. same;
+  stopped = λ n file some readable there calm fault.
+      let at = subst (λ (o : Option ℕ). IsForeseenAsk o (Err status)) readable ask in
+      let least : n ≡ 0 = subst (λ (s : Status). IsForeseenAsk (Some n) (Err s)) fault at in
+      absurd (omega (arith, some, least));
+}
+
+-- no file was touched, and the answer is no read error
+pub kept_stages : (foreseen : Foreseen) (shape : Shape) (recipe : Recipe) (input : List ℕ) (names : List (List ℕ))
+    (held : Files) (before after : Counts) (status : Status) (now : Option Files) → status ≢ ReadFault
+    → now ≡ Some held → AreStages foreseen shape recipe input names held before after status now
+kept_stages foreseen shape recipe input names held before after status now other same = record {
+  untouched = λ none. same;
+  stopped = λ n file some readable there calm fault. absurd (other fault);
+}
+
+-- an outcome with that status
+pub ended_not_read : (outcome : Outcome) (status : Status) → outcome ≡ ended status → status ≢ ReadFault
+    → outcome.status ≢ ReadFault
+ended_not_read outcome status is other = λ e. other (sym (ap (λ (o : Outcome). o.status) is) ∙ e)
+
+-- a fact of the files, where they are told
+pub where_told : (told : Option Files) (P : Files → Type 0) → ((held : Files) → told ≡ Some held → P held)
+    → IfSome told (λ held. P held)
+where_told None P is = tt
+where_told (Some held) P is = is held refl
+
+-- the stages, counted from an earlier moment
+pub stages_before : (foreseen : Foreseen) (shape : Shape) (recipe : Recipe) (input : List ℕ) (names : List (List ℕ))
+    (held : Files) (before between after : Counts) (status : Status) (now : Option Files)
+    → before.write_faults ≤ between.write_faults
+    → AreStages foreseen shape recipe input names held between after status now
+    → AreStages foreseen shape recipe input names held before after status now
+stages_before foreseen shape recipe input names held before between after status now first stages = record {
+  untouched = stages.untouched;
+  stopped = λ n file some readable there calm fault. stages.stopped n file some readable there
+      (calm_behind before.write_faults between.write_faults after.write_faults first calm) fault;
+}
