@@ -42,13 +42,13 @@ one_of_two a b x (suc k, within, is) = inr (only_one b x (k, omega (arith, withi
 -- the stages of the loop are those of a job that reads its input alone
 pub loop_staged : (foreseen : Foreseen) (shape : Shape) (recipe : Recipe) (input : List ℕ) (outputs : List (List ℕ))
     (status : Status) (told now : Option Files) (before after : Counts)
-    → IfSome told (λ held. AreStages foreseen shape recipe input outputs held status now)
+    → IfSome told (λ held. AreStages foreseen shape recipe input outputs held before after status now)
     → IsStaged foreseen (Some (stages_of shape recipe input outputs)) status told now before after
 loop_staged foreseen shape recipe input outputs status None now before after is = tt
 loop_staged foreseen shape recipe input outputs status (Some held) now before after is = record {
   untouched = λ name one none.
       is.untouched (subst (λ (n : List ℕ). foreseen.readable n ≡ Some 0) (only_one input name one) none);
-  stopped = λ n file some opened there writable fault. is.stopped n file some opened.input writable there fault;
+  stopped = λ n file some opened there calm fault. is.stopped n file some opened.input there calm fault;
 }
 
 -- ---- no file was touched
@@ -60,7 +60,7 @@ kept_staged foreseen None status told now before after other same = tt
 kept_staged foreseen (Some stages) status None now before after other same = tt
 kept_staged foreseen (Some stages) status (Some held) now before after other same = record {
   untouched = λ name one none. same;
-  stopped = λ n file some opened there writable fault. absurd (other fault);
+  stopped = λ n file some opened there calm fault. absurd (other fault);
 }
 
 -- an answer other than a read error
@@ -134,10 +134,10 @@ read_staged foreseen said number name x shape recipe input outputs status (Some 
         | inl is_input ↦ here.untouched one (0, omega arith, sym is_input) none
         | inr is_first ↦ absurd (some (subst (λ (n : List ℕ). foreseen.readable n ≡ Some 0) is_first none))
       ];
-      stopped = λ n file least opened there writable fault.
+      stopped = λ n file least opened there calm fault.
           said_made said number (get held name) x recipe
           (λ made. IsStopped outputs made file (shape.unit * shape.units) n (Some held) now) read
-          (here.stopped n file least (record { input = opened.input; before = none_among }) there writable fault);
+          (here.stopped n file least (record { input = opened.input; before = none_among }) there calm fault);
     }
   where
     none_among : (one : List ℕ) → Contains [] one → foreseen.readable one ≡ Some (2 ^ 64)
@@ -153,7 +153,7 @@ unread_staged foreseen said name cause shape recipe input outputs outcome None n
 unread_staged foreseen said name cause shape recipe input outputs outcome (Some held) now before after same whole is =
     record {
       untouched = λ one among none. same;
-      stopped = λ n file some opened there writable fault.
+      stopped = λ n file some opened there calm fault.
           absurd (whole (opened.before name (0, omega arith, refl))
           (sym (ap (λ (o : Outcome). o.status) is) ∙ fault));
     }

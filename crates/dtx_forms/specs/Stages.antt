@@ -1,10 +1,10 @@
 -- In which stages a job reads its inputs and writes its outputs. It is said by what the files hold where an input is
 -- foreseen not to be readable to its end.
-use Rattle.std.specs.Prelude.{◌≡◌, ◌≢◌, ℕ, ◌*◌, ◌^◌, ◌<◌, true, List, [], ◌∷◌, Option, Some, None, Result, Ok, Err}
+use Rattle.std.specs.Prelude.{◌≡◌, ◌≢◌, ℕ, ◌*◌, ◌^◌, ◌<◌, List, [], ◌∷◌, Option, Some, None, Result, Ok, Err}
 use Rattle.std.specs.Prelude.{IfSome}
 use Rattle.std.specs.FinMap.{get}
 use Rattle.std.specs.List.{Contains}
-use Rattle.dtx_outside.specs.Counts.{Counts}
+use Rattle.dtx_outside.specs.Counts.{Counts, Rose}
 use Rattle.dtx_outside.specs.Foreseen.{Foreseen}
 use Rattle.dtx_outside.specs.Shelf.{Files}
 use Rattle.dtx_meaning.specs.declared.status.Status.{Status}
@@ -32,20 +32,16 @@ pub record IsOpenUntil (foreseen : Foreseen) (stages : Stages) (n : ℕ) : Type 
   pub input : foreseen.readable stages.input ≡ Some n
   pub before : (name : List ℕ) → Contains stages.before name → foreseen.readable name ≡ Some (2 ^ 64)
 
--- nothing but reading failed, as the counts before and after show it
-abbrev pub IsWritable : Foreseen → Counts → Counts → Type 0
-IsWritable foreseen before after = foreseen.appends ≡ true
-
 -- what a job with these stages leaves of the files, which were `held` and are `now`
 pub record HasStages (foreseen : Foreseen) (stages : Stages) (held : Files) (status : Status) (now : Option Files)
     (before after : Counts) : Type 0 where
   -- Each input is read before an output is begun: where no byte of one can be read, each file is as before.
   pub untouched : (name : List ℕ) → Contains (stages.input ∷ stages.before) name → foreseen.readable name ≡ Some 0
       → now ≡ Some held
-  -- Outputs are written on the way. Where reading failed behind the first n bytes, they hold what is made of all of
-  -- these but for less than a piece.
+  -- Outputs are written on the way. Where reading failed behind the first n bytes, and no write error was counted, they
+  -- nearly hold what is made of all of these but for less than a piece (`IsStopped`).
   pub stopped : (n : ℕ) (file : List ℕ) → 0 < n → IsOpenUntil foreseen stages n → get held stages.input ≡ Some file
-      → IsWritable foreseen before after → status ≡ ReadFault
+      → ¬ Rose before.write_faults after.write_faults → status ≡ ReadFault
       → IsStopped stages.outputs (stages.made held) file stages.piece n (Some held) now
 
 -- The same where the words fit and name an input (`Some`), and the files are told. Of others nothing is said.

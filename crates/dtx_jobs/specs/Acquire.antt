@@ -18,6 +18,7 @@ use Rattle.dtx_words.specs.declared.rows.Command.TheVariants.{Acquire}
 use Rattle.dtx_forms.specs.Job.{IsPerformed, Job}
 use Rattle.dtx_forms.specs.OfWords.{acquire_same, number_same}
 use Rattle.dtx_forms.specs.Shapes as shapes
+use Rattle.dtx_forms.specs.Stages.{Stages, stages_of}
 use Rattle.dtx_jobs.specs.SymbolFile.{symbols}
 
 -- the line's numbers: the bytes, the runs of which something is left, the segments, what all least paths cost, and the
@@ -55,9 +56,26 @@ abbrev pub acquire_meaning : List (List ℕ) → Files → Meaning
 acquire_meaning (verb ∷ scale ∷ input ∷ output ∷ []) held = acquire_at (number_within 1 18 scale) input output held
 acquire_meaning words held = refused Usage
 
+-- the stages at a scale
+abbrev pub acquire_stages_at : Option ℕ → List ℕ → List ℕ → Option Stages
+acquire_stages_at None input output = None
+acquire_stages_at (Some scale) input output =
+    Some (stages_of shapes.single_bytes (acquiring scale) input (output ∷ []))
+
+-- the stages of the words
+abbrev pub acquire_stages : List (List ℕ) → Option Stages
+acquire_stages (verb ∷ scale ∷ input ∷ output ∷ []) = acquire_stages_at (number_within 1 18 scale) input output
+acquire_stages words = None
+
 -- the command `acquire SCALE IN OUT`
 abbrev pub acquire_job : Job
-acquire_job = record { command = Acquire; means = acquire_meaning; same = acquire_same; inputs = 1 }
+acquire_job = record {
+  command = Acquire;
+  means = acquire_meaning;
+  same = acquire_same;
+  inputs = 1;
+  stages = acquire_stages;
+}
 
 -- The outcome and the files that are left are those of `acquire` at a scale, whatever its first word is. A scale of
 -- `None` isn't a number in its range.

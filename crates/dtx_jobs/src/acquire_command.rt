@@ -1,7 +1,8 @@
 // `acquire SCALE IN OUT`: the segments of a capture of symbols that begins anywhere.
 ghost use Rattle.std.specs.Prelude.{◌<◌, ◌≤◌, Some};
 ghost use Rattle.dtx_forms.specs.Job.{IsJobPerformed};
-ghost use Rattle.dtx_jobs.specs.Acquire.{IsAcquired, acquire_job};
+ghost use Rattle.dtx_forms.specs.Stages.{IsStaged};
+ghost use Rattle.dtx_jobs.specs.Acquire.{IsAcquired, acquire_job, acquire_stages_at};
 
 use crate::acquisition::Acquisition;
 use dtx_engine::transform;
@@ -17,8 +18,11 @@ use std::alloc::Global;
 /// The numbers are the bytes of IN, the runs of which something is left, the segments, what all least paths cost, and
 /// the bytes in no segment. An input that is too long is refused with `TooLong`, as by `receive`. An input of which
 /// nothing is acquired is refused with `NoSync`.
+#[tactic(auto, using(dtx_forms::proofs::StagesLemmas::ended_staged))]
 pub fn acquire<S: Shelf>(alloc: Global, words: &[Word], shelf: &mut S) -> Outcome
-    ensures { IsJobPerformed acquire_job words.now result (S.files shelf.old) (S.files shelf.new)
+    ensures performed { IsJobPerformed acquire_job words.now result (S.files shelf.old) (S.files shelf.new)
+        (S.counts shelf.old) (S.counts shelf.new) }
+    ensures stages { IsStaged S.foreseen (acquire_job.stages words.now) result.status (S.files shelf.old) (S.files shelf.new)
         (S.counts shelf.old) (S.counts shelf.new) }
 {
     match words {
@@ -34,6 +38,7 @@ pub fn acquire<S: Shelf>(alloc: Global, words: &[Word], shelf: &mut S) -> Outcom
 
 /// Acquires the segments of the file `input` at the scale, and writes them to `output`.
 #[inline(never)]
+#[tactic(auto, using(dtx_forms::proofs::StagesLemmas::ended_staged))]
 fn acquire_files<S: Shelf>(
     alloc: Global,
     scale: u8,
@@ -43,8 +48,10 @@ fn acquire_files<S: Shelf>(
 ) -> Outcome
     requires from { 0 < scale }
     requires to { scale ≤ MAX_SCALE }
-    ensures { IsAcquired (Some scale) input.now output.now result (S.files shelf.old) (S.files shelf.new)
+    ensures acquired { IsAcquired (Some scale) input.now output.now result (S.files shelf.old) (S.files shelf.new)
         (S.counts shelf.old) (S.counts shelf.new) }
+    ensures stages { IsStaged S.foreseen (acquire_stages_at (Some scale) input.now output.now) result.status
+        (S.files shelf.old) (S.files shelf.new) (S.counts shelf.old) (S.counts shelf.new) }
 {
     match Acquisition::new(alloc, scale) {
         Ok(mut acquisition) => transform(alloc, &mut acquisition, input, output, shelf),

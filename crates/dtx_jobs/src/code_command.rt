@@ -1,5 +1,6 @@
 // `code IN OUT`: the symbols of a stream.
 ghost use Rattle.dtx_forms.specs.Job.{IsJobPerformed};
+ghost use Rattle.dtx_forms.specs.Stages.{IsStaged};
 ghost use Rattle.dtx_jobs.specs.Code.{code_job};
 
 use crate::stream_coder::StreamCoder;
@@ -13,7 +14,9 @@ use std::alloc::Global;
 /// of each packet must be 0x47 or the mark 0xB8, and isn't sent. The numbers are the packets, the segments, and the
 /// bytes behind the last whole packet.
 pub fn code<S: Shelf>(alloc: Global, words: &[Word], shelf: &mut S) -> Outcome
-    ensures { IsJobPerformed code_job words.now result (S.files shelf.old) (S.files shelf.new)
+    ensures performed { IsJobPerformed code_job words.now result (S.files shelf.old) (S.files shelf.new)
+        (S.counts shelf.old) (S.counts shelf.new) }
+    ensures stages { IsStaged S.foreseen (code_job.stages words.now) result.status (S.files shelf.old) (S.files shelf.new)
         (S.counts shelf.old) (S.counts shelf.new) }
 {
     transform::<StreamCoder, S>(alloc, words, shelf)

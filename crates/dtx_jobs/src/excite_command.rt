@@ -1,5 +1,6 @@
 // `excite FEED ADDRESS DELAY OUT LOG`: what an exciter sends for a feed, and its log.
 ghost use Rattle.dtx_forms.specs.Job.{IsJobPerformed};
+ghost use Rattle.dtx_forms.specs.Stages.{IsStaged};
 ghost use Rattle.dtx_jobs.specs.Excite.{excite_job};
 
 use crate::excitation::Excitation;
@@ -15,7 +16,9 @@ use std::alloc::Global;
 /// the number is `0`. The numbers are the packets, the segments, the presets and the mutes of the log, and the bytes
 /// behind the last whole packet.
 pub fn excite<S: Shelf>(alloc: Global, words: &[Word], shelf: &mut S) -> Outcome
-    ensures { IsJobPerformed excite_job words.now result (S.files shelf.old) (S.files shelf.new)
+    ensures performed { IsJobPerformed excite_job words.now result (S.files shelf.old) (S.files shelf.new)
+        (S.counts shelf.old) (S.counts shelf.new) }
+    ensures stages { IsStaged S.foreseen (excite_job.stages words.now) result.status (S.files shelf.old) (S.files shelf.new)
         (S.counts shelf.old) (S.counts shelf.new) }
 {
     transmit::<Excitation, S>(alloc, words, shelf)

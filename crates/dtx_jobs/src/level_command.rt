@@ -1,5 +1,6 @@
 // `level IN OUT LOG`: a capture of unknown gain at eight steps a unit.
 ghost use Rattle.dtx_forms.specs.Job.{IsJobPerformed};
+ghost use Rattle.dtx_forms.specs.Stages.{IsStaged};
 ghost use Rattle.dtx_jobs.specs.Level.{level_job};
 
 use crate::levelling::Levelling;
@@ -14,7 +15,9 @@ use std::alloc::Global;
 /// the syncs that don't lie a multiple of 313 segments behind the one before. Like `receive`, it refuses an input that
 /// is too long (`TooLong`) or has no sync (`NoSync`).
 pub fn level<S: Shelf>(alloc: Global, words: &[Word], shelf: &mut S) -> Outcome
-    ensures { IsJobPerformed level_job words.now result (S.files shelf.old) (S.files shelf.new)
+    ensures performed { IsJobPerformed level_job words.now result (S.files shelf.old) (S.files shelf.new)
+        (S.counts shelf.old) (S.counts shelf.new) }
+    ensures stages { IsStaged S.foreseen (level_job.stages words.now) result.status (S.files shelf.old) (S.files shelf.new)
         (S.counts shelf.old) (S.counts shelf.new) }
 {
     transform_logged::<Levelling, S>(alloc, words, shelf)

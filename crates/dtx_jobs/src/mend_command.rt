@@ -1,5 +1,6 @@
 // `mend IN OUT`: the packets of a symbol file of which some symbols are missing.
 ghost use Rattle.dtx_forms.specs.Job.{IsJobPerformed};
+ghost use Rattle.dtx_forms.specs.Stages.{IsStaged};
 ghost use Rattle.dtx_jobs.specs.Mend.{mend_job};
 
 use crate::reception::Reception;
@@ -15,7 +16,9 @@ use std::alloc::Global;
 /// flagged. The numbers are the segments read, the runs, the packets written, the bytes put right (missing ones too),
 /// the packets flagged, and the bytes behind the last whole segment. It has the refusals of `receive`.
 pub fn mend<S: Shelf>(alloc: Global, words: &[Word], shelf: &mut S) -> Outcome
-    ensures { IsJobPerformed mend_job words.now result (S.files shelf.old) (S.files shelf.new)
+    ensures performed { IsJobPerformed mend_job words.now result (S.files shelf.old) (S.files shelf.new)
+        (S.counts shelf.old) (S.counts shelf.new) }
+    ensures stages { IsStaged S.foreseen (mend_job.stages words.now) result.status (S.files shelf.old) (S.files shelf.new)
         (S.counts shelf.old) (S.counts shelf.new) }
 {
     transform::<Reception<MendReceiver>, S>(alloc, words, shelf)

@@ -1,5 +1,6 @@
 // `receive IN OUT`: the packets of a symbol file.
 ghost use Rattle.dtx_forms.specs.Job.{IsJobPerformed};
+ghost use Rattle.dtx_forms.specs.Stages.{IsStaged};
 ghost use Rattle.dtx_jobs.specs.Receive.{receive_job};
 
 use crate::reception::Reception;
@@ -14,7 +15,9 @@ use std::alloc::Global;
 /// whose word has no correction is flagged. The numbers are the segments read, the runs, the packets written, the bytes
 /// put right, the packets flagged, and the bytes behind the last whole segment.
 pub fn receive<S: Shelf>(alloc: Global, words: &[Word], shelf: &mut S) -> Outcome
-    ensures { IsJobPerformed receive_job words.now result (S.files shelf.old) (S.files shelf.new)
+    ensures performed { IsJobPerformed receive_job words.now result (S.files shelf.old) (S.files shelf.new)
+        (S.counts shelf.old) (S.counts shelf.new) }
+    ensures stages { IsStaged S.foreseen (receive_job.stages words.now) result.status (S.files shelf.old) (S.files shelf.new)
         (S.counts shelf.old) (S.counts shelf.new) }
 {
     transform::<Reception<Receiver>, S>(alloc, words, shelf)

@@ -1,5 +1,6 @@
 // `repeat IN ADDRESS DELAY OUT LOG`: what a transmitter that is fed from the air sends again, and its log.
 ghost use Rattle.dtx_forms.specs.Job.{IsJobPerformed};
+ghost use Rattle.dtx_forms.specs.Stages.{IsStaged};
 ghost use Rattle.dtx_jobs.specs.Repeat.{repeat_job};
 
 use crate::repetition::Repetition;
@@ -17,7 +18,9 @@ use std::alloc::Global;
 /// the runs, the packets received, the segments written, the presets and the mutes of the log, and the bytes behind the
 /// last whole segment.
 pub fn repeat<S: Shelf>(alloc: Global, words: &[Word], shelf: &mut S) -> Outcome
-    ensures { IsJobPerformed repeat_job words.now result (S.files shelf.old) (S.files shelf.new)
+    ensures performed { IsJobPerformed repeat_job words.now result (S.files shelf.old) (S.files shelf.new)
+        (S.counts shelf.old) (S.counts shelf.new) }
+    ensures stages { IsStaged S.foreseen (repeat_job.stages words.now) result.status (S.files shelf.old) (S.files shelf.new)
         (S.counts shelf.old) (S.counts shelf.new) }
 {
     transmit::<Repetition, S>(alloc, words, shelf)

@@ -1,5 +1,6 @@
 // `soft IN OUT`: symbols with each coder's replaced by those of its least path.
 ghost use Rattle.dtx_forms.specs.Job.{IsJobPerformed};
+ghost use Rattle.dtx_forms.specs.Stages.{IsStaged};
 ghost use Rattle.dtx_jobs.specs.Soft.{soft_job};
 
 use crate::softening::Softening;
@@ -13,7 +14,9 @@ use std::alloc::Global;
 /// are copied, and the bytes behind the last whole segment are left out. The numbers are the segments, the fields with
 /// a whole group, what all least paths cost, and the bytes left out.
 pub fn soft<S: Shelf>(alloc: Global, words: &[Word], shelf: &mut S) -> Outcome
-    ensures { IsJobPerformed soft_job words.now result (S.files shelf.old) (S.files shelf.new)
+    ensures performed { IsJobPerformed soft_job words.now result (S.files shelf.old) (S.files shelf.new)
+        (S.counts shelf.old) (S.counts shelf.new) }
+    ensures stages { IsStaged S.foreseen (soft_job.stages words.now) result.status (S.files shelf.old) (S.files shelf.new)
         (S.counts shelf.old) (S.counts shelf.new) }
 {
     transform::<Softening, S>(alloc, words, shelf)

@@ -1,5 +1,6 @@
 // `watch FEED OUT`: whether a feed is sound.
 ghost use Rattle.dtx_forms.specs.Job.{IsJobPerformed};
+ghost use Rattle.dtx_forms.specs.Stages.{IsStaged};
 ghost use Rattle.dtx_jobs.specs.Watch.{watch_job};
 
 use crate::watching::Watching;
@@ -15,7 +16,9 @@ use std::alloc::Global;
 /// stamps jump. Then come the operations packets that don't read, those that aren't at their places, and the bytes
 /// behind the last whole packet.
 pub fn watch<S: Shelf>(alloc: Global, words: &[Word], shelf: &mut S) -> Outcome
-    ensures { IsJobPerformed watch_job words.now result (S.files shelf.old) (S.files shelf.new)
+    ensures performed { IsJobPerformed watch_job words.now result (S.files shelf.old) (S.files shelf.new)
+        (S.counts shelf.old) (S.counts shelf.new) }
+    ensures stages { IsStaged S.foreseen (watch_job.stages words.now) result.status (S.files shelf.old) (S.files shelf.new)
         (S.counts shelf.old) (S.counts shelf.new) }
 {
     transform::<Watching, S>(alloc, words, shelf)

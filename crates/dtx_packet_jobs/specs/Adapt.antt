@@ -4,6 +4,7 @@ use Rattle.std.specs.FinMap.{get}
 use Rattle.dtx_outside.specs.Shelf.{Files}
 use Rattle.dtx_packets.specs.Packet.{sync_of}
 use Rattle.dtx_packets.specs.Packets.{packets_of, whole_packets}
+use Rattle.dtx_plan.specs.Plan.{plan_of}
 use Rattle.dtx_plan.specs.declared.plan.Plan.{Plan}
 use Rattle.dtx_adapter.specs.Feed.{placeholders}
 use Rattle.dtx_meaning.specs.Meaning.{Meaning}
@@ -15,6 +16,7 @@ use Rattle.dtx_words.specs.declared.rows.Command.TheVariants.{Adapt}
 use Rattle.dtx_forms.specs.PlanFile.{under_plan}
 use Rattle.dtx_forms.specs.Job.{Job}
 use Rattle.dtx_forms.specs.Shapes.{packets}
+use Rattle.dtx_forms.specs.Stages.{Stages, stages_under}
 use Rattle.dtx_forms.specs.Combine.{combine_job}
 use Rattle.dtx_packet_jobs.specs.Feed.{feed_bytes}
 
@@ -41,6 +43,10 @@ abbrev pub adapted : List ℕ → List ℕ → List ℕ → Files → Meaning
 adapted plan input output held =
     under_plan 0 (get held plan) (λ said. meaning packets (feeding said) 1 (output ∷ []) (get held input))
 
+-- the stages: the plan is read before OUT is begun
+abbrev pub adapt_stages : List ℕ → List ℕ → List ℕ → Stages
+adapt_stages plan input output = stages_under plan_of plan packets feeding input (output ∷ [])
+
 -- the command `adapt PLAN IN OUT`
 abbrev pub adapt_job : Job
-adapt_job = combine_job Adapt adapted
+adapt_job = combine_job Adapt adapted adapt_stages

@@ -2,6 +2,7 @@
 use Rattle.std.specs.Prelude.{◌≡◌, ℕ, true, List, [], ◌∷◌, length, Option, Some, None}
 use Rattle.std.specs.FinMap.{get}
 use Rattle.dtx_outside.specs.Shelf.{Files}
+use Rattle.dtx_plan.specs.Plan.{changes_of}
 use Rattle.dtx_plan.specs.Sound.{AreDamages}
 use Rattle.dtx_plan.specs.declared.damage.Damage.{Damage}
 use Rattle.dtx_make.specs.Hurt.{hurt, damaged_places}
@@ -15,6 +16,7 @@ use Rattle.dtx_words.specs.declared.rows.Command.TheVariants.{Hurt}
 use Rattle.dtx_forms.specs.PlanFile.{under_changes}
 use Rattle.dtx_forms.specs.Job.{Job}
 use Rattle.dtx_forms.specs.Shapes.{single_bytes}
+use Rattle.dtx_forms.specs.Stages.{Stages, stages_under}
 use Rattle.dtx_forms.specs.Combine.{combine_job}
 use Rattle.dtx_packet_jobs.specs.PastEnd.{first_past}
 use Rattle.dtx_packet_jobs.specs.declared.laying.Laying.{Laying}
@@ -51,6 +53,10 @@ hurt_file input changes output held =
     under_changes 1 (get held changes) (λ damage.
     meaning single_bytes (hurting damage) 0 (output ∷ []) (get held input))
 
+-- the stages: the changes are read before OUT is begun
+abbrev pub hurt_stages : List ℕ → List ℕ → List ℕ → Stages
+hurt_stages input changes output = stages_under changes_of changes single_bytes hurting input (output ∷ [])
+
 -- the command `hurt IN CHANGES OUT`
 abbrev pub hurt_job : Job
-hurt_job = combine_job Hurt hurt_file
+hurt_job = combine_job Hurt hurt_file hurt_stages

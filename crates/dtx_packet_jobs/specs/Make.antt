@@ -31,4 +31,5 @@ make_meaning words held = refused Usage
 
 -- the command `make SEED COUNT OUT`
 abbrev pub make_job : Job
-make_job = record { command = Make; means = make_meaning; same = make_same; inputs = 0 }
+make_job =
+    record { command = Make; means = make_meaning; same = make_same; inputs = 0; stages = λ words. None }

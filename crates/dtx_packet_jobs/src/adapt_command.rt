@@ -5,6 +5,7 @@ ghost use Rattle.dtx_engine.specs.Recipe.{meaning};
 ghost use Rattle.dtx_plan.specs.Sound.{IsSound};
 ghost use Rattle.dtx_words.specs.declared.rows.Command.TheVariants as command;
 ghost use Rattle.dtx_packet_jobs.specs.Adapt.{adapt_job, feeding};
+ghost use Rattle.dtx_forms.specs.Stages.{IsStaged, stages_of};
 ghost use Rattle.dtx_forms.specs.Job.{IsPerformed, IsJobPerformed};
 ghost use Rattle.dtx_forms.specs.Shapes as shapes;
 
@@ -22,7 +23,9 @@ use std::alloc::Global;
 /// A/110). An operations packet says from which states and when its group is sent. The numbers are the packets, the
 /// placeholders filled, and the bytes behind the last whole packet.
 pub fn adapt<S: Shelf>(alloc: Global, words: &[Word], shelf: &mut S) -> Outcome
-    ensures { IsJobPerformed adapt_job words.now result (S.files shelf.old) (S.files shelf.new)
+    ensures performed { IsJobPerformed adapt_job words.now result (S.files shelf.old) (S.files shelf.new)
+        (S.counts shelf.old) (S.counts shelf.new) }
+    ensures stages { IsStaged S.foreseen (adapt_job.stages words.now) result.status (S.files shelf.old) (S.files shelf.new)
         (S.counts shelf.old) (S.counts shelf.new) }
 {
     combine::<Adapting, S>(alloc, words, shelf)
@@ -33,11 +36,13 @@ struct Adapting;
 
 impl Combining for Adapting {
     ghost use Rattle.dtx_words.specs.declared.rows.Command.TheVariants as command;
-    ghost use Rattle.dtx_packet_jobs.specs.Adapt.{adapted};
+    ghost use Rattle.dtx_packet_jobs.specs.Adapt.{adapt_stages, adapted};
 
     ghost command = { command.Adapt };
 
     ghost means = { adapted };
+
+    ghost stages = { adapt_stages };
 
     fn combine_apart<S: Shelf>(
         alloc: Global,
@@ -64,10 +69,13 @@ fn adapt_under<S: Shelf>(
 ) -> Outcome
     requires sound { IsSound plan.now }
     requires differ { input.now ≢ output.now }
-    ensures { IsPerformed command.Adapt
+    ensures performed { IsPerformed command.Adapt
         (λ held. meaning shapes.packets (feeding plan.now) 1 (output.now ∷ []) (files.get held input.now))
         (Some false) 2 result (S.files shelf.old) (S.files shelf.new)
         (S.counts shelf.old) (S.counts shelf.new) }
+    ensures stages { IsStaged S.foreseen
+        (Some (stages_of shapes.packets (feeding plan.now) input.now (output.now ∷ [])))
+        result.status (S.files shelf.old) (S.files shelf.new) (S.counts shelf.old) (S.counts shelf.new) }
 {
     let stream = Input {
         name: input,

@@ -1,4 +1,5 @@
 // `dvb code IN OUT`: a stream by the outer coding of DVB.
+ghost use Rattle.dtx_forms.specs.Stages.{IsStaged};
 ghost use Rattle.dtx_forms.specs.Job.{IsJobPerformed};
 ghost use Rattle.dtx_packet_jobs.specs.DvbCode.{dvb_code_job};
 
@@ -12,7 +13,9 @@ use std::alloc::Global;
 /// which inverts every eighth sync byte, the Reed-Solomon code and the interleaver, and gives 204 bytes. Byte 0 of each
 /// packet of IN must be 0x47. The numbers are the packets, and the bytes behind the last whole packet.
 pub fn dvb_code<S: Shelf>(alloc: Global, words: &[Word], shelf: &mut S) -> Outcome
-    ensures { IsJobPerformed dvb_code_job words.now result (S.files shelf.old) (S.files shelf.new)
+    ensures performed { IsJobPerformed dvb_code_job words.now result (S.files shelf.old) (S.files shelf.new)
+        (S.counts shelf.old) (S.counts shelf.new) }
+    ensures stages { IsStaged S.foreseen (dvb_code_job.stages words.now) result.status (S.files shelf.old) (S.files shelf.new)
         (S.counts shelf.old) (S.counts shelf.new) }
 {
     transform_dvb::<DvbCoding, S>(alloc, words, shelf)

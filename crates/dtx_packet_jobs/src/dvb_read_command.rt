@@ -1,4 +1,5 @@
 // `dvb read IN OUT`: the packets of a stream that was sent by the outer coding of DVB.
+ghost use Rattle.dtx_forms.specs.Stages.{IsStaged};
 ghost use Rattle.dtx_forms.specs.Job.{IsJobPerformed};
 ghost use Rattle.dtx_packet_jobs.specs.DvbRead.{dvb_read_job};
 
@@ -14,7 +15,9 @@ use std::alloc::Global;
 /// as it was received, with the error indicator set. The numbers are the blocks, the packets, the bytes put right, the
 /// packets flagged, and the bytes behind the last whole block.
 pub fn dvb_read<S: Shelf>(alloc: Global, words: &[Word], shelf: &mut S) -> Outcome
-    ensures { IsJobPerformed dvb_read_job words.now result (S.files shelf.old) (S.files shelf.new)
+    ensures performed { IsJobPerformed dvb_read_job words.now result (S.files shelf.old) (S.files shelf.new)
+        (S.counts shelf.old) (S.counts shelf.new) }
+    ensures stages { IsStaged S.foreseen (dvb_read_job.stages words.now) result.status (S.files shelf.old) (S.files shelf.new)
         (S.counts shelf.old) (S.counts shelf.new) }
 {
     transform_dvb::<DvbReading, S>(alloc, words, shelf)

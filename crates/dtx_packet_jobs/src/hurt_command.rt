@@ -1,5 +1,6 @@
 // `hurt IN CHANGES OUT`: a file with damage laid over its bytes.
 ghost use Rattle.dtx_packet_jobs.specs.Hurt.{hurt_job};
+ghost use Rattle.dtx_forms.specs.Stages.{IsStaged};
 ghost use Rattle.dtx_forms.specs.Job.{IsJobPerformed};
 
 use crate::laying::Laying;
@@ -14,7 +15,9 @@ use std::alloc::Global;
 /// OUT all the same and answers which entry it is. The numbers are the bytes of IN, and how many of them some entry
 /// covers.
 pub fn hurt<S: Shelf>(alloc: Global, words: &[Word], shelf: &mut S) -> Outcome
-    ensures { IsJobPerformed hurt_job words.now result (S.files shelf.old) (S.files shelf.new)
+    ensures performed { IsJobPerformed hurt_job words.now result (S.files shelf.old) (S.files shelf.new)
+        (S.counts shelf.old) (S.counts shelf.new) }
+    ensures stages { IsStaged S.foreseen (hurt_job.stages words.now) result.status (S.files shelf.old) (S.files shelf.new)
         (S.counts shelf.old) (S.counts shelf.new) }
 {
     combine::<Hurting, S>(alloc, words, shelf)
@@ -25,11 +28,13 @@ struct Hurting;
 
 impl Combining for Hurting {
     ghost use Rattle.dtx_words.specs.declared.rows.Command.TheVariants as command;
-    ghost use Rattle.dtx_packet_jobs.specs.Hurt.{hurt_file};
+    ghost use Rattle.dtx_packet_jobs.specs.Hurt.{hurt_file, hurt_stages};
 
     ghost command = { command.Hurt };
 
     ghost means = { hurt_file };
+
+    ghost stages = { hurt_stages };
 
     fn combine_apart<S: Shelf>(
         alloc: Global,

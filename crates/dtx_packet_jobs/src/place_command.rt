@@ -1,4 +1,5 @@
 // `place IN OUT`: a stream with placeholders in the place of null packets.
+ghost use Rattle.dtx_forms.specs.Stages.{IsStaged};
 ghost use Rattle.dtx_forms.specs.Job.{IsJobPerformed};
 ghost use Rattle.dtx_packet_jobs.specs.Place.{place_job};
 
@@ -15,7 +16,9 @@ use std::alloc::Global;
 /// became placeholders, the fields left without a placeholder at place 52 or behind, and the bytes behind the last
 /// whole packet.
 pub fn place<S: Shelf>(alloc: Global, words: &[Word], shelf: &mut S) -> Outcome
-    ensures { IsJobPerformed place_job words.now result (S.files shelf.old) (S.files shelf.new)
+    ensures performed { IsJobPerformed place_job words.now result (S.files shelf.old) (S.files shelf.new)
+        (S.counts shelf.old) (S.counts shelf.new) }
+    ensures stages { IsStaged S.foreseen (place_job.stages words.now) result.status (S.files shelf.old) (S.files shelf.new)
         (S.counts shelf.old) (S.counts shelf.new) }
 {
     transform::<Each<Placing>, S>(alloc, words, shelf)

@@ -16,6 +16,7 @@ pub mod PlacedStream
 pub mod Played
 pub mod SegmentsBack
 pub mod SegmentsSent
+pub mod Stages
 pub mod Streams
 pub mod SymbolsBack
 pub mod SymbolsSent

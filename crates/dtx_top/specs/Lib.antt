@@ -11,5 +11,6 @@ pub mod NetProgress
 pub mod Networks
 pub mod OfBytes
 pub mod Replaying
+pub mod Stages
 pub mod Trial
 pub mod WorkedNetwork

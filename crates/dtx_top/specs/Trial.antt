@@ -113,7 +113,8 @@ trial_same words = None
 
 -- the job of `trial SEED COUNT`; the headline and the progress are no part of it
 abbrev pub trial_job : Job
-trial_job = record { command = Trial; means = trial_meaning; same = trial_same; inputs = 3 }
+trial_job =
+    record { command = Trial; means = trial_meaning; same = trial_same; inputs = 3; stages = λ words. None }
 
 -- ---- how far a trial came
 

@@ -64,6 +64,9 @@ pub fn net<S: Shelf>(alloc: Global, words: &[Word], shelf: &mut S) -> NetOutcome
     ensures words { IsOfNetWords words.now result.outcome.status }
     ensures shown { ShowsNetwork result.outcome.status result.outcome }
 
+    // The plan is read before an output is begun: where no byte of it can be read, each file is as before.
+    ensures stages { S.foreseen.readable (plan_word words.now) ≡ Some 0 → S.files shelf.new ≡ S.files shelf.old }
+
     // How far it came, whatever it answers: one number of steps for the files of all transmitters.
     ensures progress { IfSome (S.files shelf.old) (λ held.
         HasProgress words.now held result.outcome.status (S.files shelf.new)) }
@@ -94,6 +97,7 @@ fn net_file<S: Shelf>(alloc: Global, name: &str, shelf: &mut S) -> NetOutcome
     ensures kept { IsKeptName result.outcome.status result.name.bytes }
     ensures network { IsOfNetwork result.outcome.status }
     ensures shown { ShowsNetwork result.outcome.status result.outcome }
+    ensures stages { S.foreseen.readable name.now ≡ Some 0 → S.files shelf.new ≡ S.files shelf.old }
 {
     match plan_in(alloc, shelf, 0, name) {
         Ok(plan) => net_planned(alloc, name, &plan, shelf),

@@ -1,6 +1,7 @@
 // Performs the command that the words fit, but doesn't print its line.
 ghost use Rattle.std.specs.Prelude.{◌≡◌, Some};
 ghost use Rattle.dtx_top.specs.Ends.{IsCommandPerformed};
+ghost use Rattle.dtx_top.specs.Stages.{HasStagesOf};
 
 use crate::net_command::{NetOutcome, net};
 use crate::trial_command::trial;
@@ -19,7 +20,9 @@ pub(crate) fn perform<S: Shelf>(
     words: &[Word],
     shelf: &mut S,
 ) -> NetOutcome
-    ensures { IsCommandPerformed command words.now result.outcome result.name.bytes (S.files shelf.old)
+    ensures performed { IsCommandPerformed command words.now result.outcome result.name.bytes (S.files shelf.old)
+        (S.files shelf.new) (S.counts shelf.old) (S.counts shelf.new) }
+    ensures stages { HasStagesOf S.foreseen command words.now result.outcome.status (S.files shelf.old)
         (S.files shelf.new) (S.counts shelf.old) (S.counts shelf.new) }
 {
     match command {
@@ -36,7 +39,9 @@ fn perform_one<S: Shelf>(
     words: &[Word],
     shelf: &mut S,
 ) -> NetOutcome
-    ensures { IsCommandPerformed (Some command) words.now result.outcome result.name.bytes (S.files shelf.old)
+    ensures performed { IsCommandPerformed (Some command) words.now result.outcome result.name.bytes
+        (S.files shelf.old) (S.files shelf.new) (S.counts shelf.old) (S.counts shelf.new) }
+    ensures stages { HasStagesOf S.foreseen (Some command) words.now result.outcome.status (S.files shelf.old)
         (S.files shelf.new) (S.counts shelf.old) (S.counts shelf.new) }
 {
     match command {

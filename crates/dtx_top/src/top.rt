@@ -7,6 +7,7 @@ ghost use Rattle.dtx_words.specs.Names.{line_name};
 ghost use Rattle.dtx_top.specs.Ends.{HasEnded, HasHeadlineOf, HasProgressOf, IsAllDone, IsByWords};
 ghost use Rattle.dtx_top.specs.Lines.{name_kept, HasLine, IsSomeLine, IsToldLine};
 ghost use Rattle.dtx_top.specs.Means.{means};
+ghost use Rattle.dtx_top.specs.Stages.{HasStagesOf};
 ghost use Rattle.dtx_top.specs.Trial.{trial_names};
 
 use crate::net_command::NetOutcome;
@@ -58,6 +59,15 @@ pub fn run<S: Shelf, O: Sink>(alloc: Global, words: &[Word], shelf: &mut S, out:
     // name, or one of the four that `net` reads or the three that `trial` reads. Each refusal is one that the command
     // can give (`Knows`).
     ensures words { IsByWords (command_of words.now) words.now result }
+
+    // In which stages a job works. Let the files be told, and let it be foreseen, for each shelf of this kind, how many
+    // bytes of an input can be read. If none can be, each file is as before. So no output is begun before each input
+    // was read or asked for. If reading fails behind the first n bytes, and no write error was counted, each output
+    // holds what is made of these n bytes, but for less than a piece, and but for at most 131,072 bytes at its end. So
+    // no output is held back until the input ends, and none is emptied again. Of `net` only this is said: if no byte of
+    // its plan can be read, each file is as before.
+    ensures stages { HasStagesOf S.foreseen (command_of words.now) words.now result (S.files shelf.old)
+        (S.files shelf.new) (S.counts shelf.old) (S.counts shelf.new) }
 
     // How far a network came, whatever the result. One number of steps holds for the files of all transmitters. Each of
     // them that was begun holds what these steps give, and a prefix of what the next step adds. They are begun only
