@@ -18,8 +18,8 @@ use std::alloc::Global;
 pub fn mend<S: Shelf>(alloc: Global, words: &[Word], shelf: &mut S) -> Outcome
     ensures performed { IsJobPerformed mend_job words.now result (S.files shelf.old) (S.files shelf.new)
         (S.counts shelf.old) (S.counts shelf.new) }
-    ensures stages { IsStaged S.foreseen (mend_job.stages words.now) result.status (S.files shelf.old) (S.files shelf.new)
-        (S.counts shelf.old) (S.counts shelf.new) }
+    ensures stages { IsStaged S.foreseen (mend_job.stages words.now) result.status
+        (S.files shelf.old) (S.files shelf.new) (S.counts shelf.old) (S.counts shelf.new) }
 {
     transform::<Reception<MendReceiver>, S>(alloc, words, shelf)
 }

@@ -17,8 +17,8 @@ use std::alloc::Global;
 pub fn receive<S: Shelf>(alloc: Global, words: &[Word], shelf: &mut S) -> Outcome
     ensures performed { IsJobPerformed receive_job words.now result (S.files shelf.old) (S.files shelf.new)
         (S.counts shelf.old) (S.counts shelf.new) }
-    ensures stages { IsStaged S.foreseen (receive_job.stages words.now) result.status (S.files shelf.old) (S.files shelf.new)
-        (S.counts shelf.old) (S.counts shelf.new) }
+    ensures stages { IsStaged S.foreseen (receive_job.stages words.now) result.status
+        (S.files shelf.old) (S.files shelf.new) (S.counts shelf.old) (S.counts shelf.new) }
 {
     transform::<Reception<Receiver>, S>(alloc, words, shelf)
 }

@@ -18,8 +18,8 @@ use std::alloc::Global;
 pub fn watch<S: Shelf>(alloc: Global, words: &[Word], shelf: &mut S) -> Outcome
     ensures performed { IsJobPerformed watch_job words.now result (S.files shelf.old) (S.files shelf.new)
         (S.counts shelf.old) (S.counts shelf.new) }
-    ensures stages { IsStaged S.foreseen (watch_job.stages words.now) result.status (S.files shelf.old) (S.files shelf.new)
-        (S.counts shelf.old) (S.counts shelf.new) }
+    ensures stages { IsStaged S.foreseen (watch_job.stages words.now) result.status
+        (S.files shelf.old) (S.files shelf.new) (S.counts shelf.old) (S.counts shelf.new) }
 {
     transform::<Watching, S>(alloc, words, shelf)
 }

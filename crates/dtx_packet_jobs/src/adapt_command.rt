@@ -25,8 +25,8 @@ use std::alloc::Global;
 pub fn adapt<S: Shelf>(alloc: Global, words: &[Word], shelf: &mut S) -> Outcome
     ensures performed { IsJobPerformed adapt_job words.now result (S.files shelf.old) (S.files shelf.new)
         (S.counts shelf.old) (S.counts shelf.new) }
-    ensures stages { IsStaged S.foreseen (adapt_job.stages words.now) result.status (S.files shelf.old) (S.files shelf.new)
-        (S.counts shelf.old) (S.counts shelf.new) }
+    ensures stages { IsStaged S.foreseen (adapt_job.stages words.now) result.status
+        (S.files shelf.old) (S.files shelf.new) (S.counts shelf.old) (S.counts shelf.new) }
 {
     combine::<Adapting, S>(alloc, words, shelf)
 }

@@ -15,8 +15,8 @@ use std::alloc::Global;
 pub fn dvb_code<S: Shelf>(alloc: Global, words: &[Word], shelf: &mut S) -> Outcome
     ensures performed { IsJobPerformed dvb_code_job words.now result (S.files shelf.old) (S.files shelf.new)
         (S.counts shelf.old) (S.counts shelf.new) }
-    ensures stages { IsStaged S.foreseen (dvb_code_job.stages words.now) result.status (S.files shelf.old) (S.files shelf.new)
-        (S.counts shelf.old) (S.counts shelf.new) }
+    ensures stages { IsStaged S.foreseen (dvb_code_job.stages words.now) result.status
+        (S.files shelf.old) (S.files shelf.new) (S.counts shelf.old) (S.counts shelf.new) }
 {
     transform_dvb::<DvbCoding, S>(alloc, words, shelf)
 }

@@ -28,7 +28,8 @@ returns-in-Ok-clause-stages g c =
     let input = c.args.input.name.now in
     subst (λ (n : List (List ℕ)). IsNoneOf input n → IfSome (g.S.Shelf.files c.args.shelf.now) (λ held.
     AreStages g.S.Shelf.foreseen g.E.Engine.shape (g.E.Engine.recipe c.args.engine.now) input n held
-    (g.S.Shelf.counts c.args.shelf.now) (g.S.Shelf.counts c.carry_out.new.shelf) c.carry_out.result.status (g.S.Shelf.files c.carry_out.new.shelf))) c.in-Ok.ensures.1 c.carry_out.ensures.stages
+    (g.S.Shelf.counts c.args.shelf.now) (g.S.Shelf.counts c.carry_out.new.shelf) c.carry_out.result.status
+    (g.S.Shelf.files c.carry_out.new.shelf))) c.in-Ok.ensures.1 c.carry_out.ensures.stages
     (c.requires.differ, tt)
 
 pub returns-in-Err-clause-stages : goal.returns-in-Err-clause-stages
@@ -39,7 +40,8 @@ returns-in-Err-clause-stages g c =
     let names = c.args.output.now ∷ [] in
     let counts = g.S.Shelf.counts c.args.shelf.now in
     where_told told
-    (λ held. AreStages g.S.Shelf.foreseen g.E.Engine.shape recipe input names held counts counts c.ended.result.status told)
+    (λ held. AreStages g.S.Shelf.foreseen g.E.Engine.shape recipe input names held counts counts
+    c.ended.result.status told)
     (λ held same. kept_stages g.S.Shelf.foreseen g.E.Engine.shape recipe input names held counts counts
     c.ended.result.status told
     (ended_not_read c.ended.result Memory (c.ended.ensures ∙ ap (λ (s : Status). ended s) c.from.ensures) (λ e. cc))

@@ -12,7 +12,8 @@ returns-in-len3-clause-performed g c =
     (g.S.Shelf.files c.args.shelf.now) (g.S.Shelf.files c.transform_files.new.shelf)
     (g.S.Shelf.counts c.args.shelf.now) (g.S.Shelf.counts c.transform_files.new.shelf))
     c.args.words.now _ _ c.as_str.result.now c.as_str-in-len3.result.now c.in-len3.len_at_least c.in-len3.len_below
-    (c.as_str.ensures ∙ c.input-item.is) (c.as_str-in-len3.ensures ∙ c.output-item.is) c.transform_files.ensures.performed
+    (c.as_str.ensures ∙ c.input-item.is) (c.as_str-in-len3.ensures ∙ c.output-item.is)
+    c.transform_files.ensures.performed
 
 pub returns-in-len3-clause-stages : goal.returns-in-len3-clause-stages
 returns-in-len3-clause-stages g c =
