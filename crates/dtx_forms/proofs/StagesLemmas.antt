@@ -22,8 +22,7 @@ use Rattle.dtx_engine.specs.Recipe.{Recipe}
 use Rattle.dtx_engine.specs.Stages.{AreStages, IsStopped}
 use Rattle.dtx_engine.specs.declared.engine.Shape.{Shape}
 use Rattle.dtx_forms.specs.PlanFile.{IsReadAs}
-use Rattle.dtx_forms.specs.Stages.{HasStages, IsStaged, Stages, made_said, made_under, stages_of}
-use Rattle.dtx_forms.specs.Stages.{stages_under}
+use Rattle.dtx_forms.specs.Stages.{HasStages, IsStaged, Stages, made_said, made_under, stages_of, stages_under}
 
 -- ---- the names
 
