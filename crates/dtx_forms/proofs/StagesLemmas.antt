@@ -22,8 +22,7 @@ use Rattle.dtx_engine.specs.Recipe.{Recipe}
 use Rattle.dtx_engine.specs.Stages.{AreStages, IsStopped}
 use Rattle.dtx_engine.specs.declared.engine.Shape.{Shape}
 use Rattle.dtx_forms.specs.PlanFile.{IsReadAs}
-use Rattle.dtx_forms.specs.Stages.{HasStages, IsForeseenWhole, IsStaged, Stages, made_said, made_under, stages_of}
-use Rattle.dtx_forms.specs.Stages.{stages_under}
+use Rattle.dtx_forms.specs.Stages.{HasStages, IsStaged, Stages, made_said, made_under, stages_of, stages_under}
 
 -- ---- the names
 
@@ -48,7 +47,7 @@ loop_staged foreseen shape recipe input outputs status None now before after is 
 loop_staged foreseen shape recipe input outputs status (Some held) now before after is = record {
   untouched = λ name one none.
       is.untouched (subst (λ (n : List ℕ). foreseen.readable n ≡ Some 0) (only_one input name one) none);
-  stopped = λ n file some opened there writable fault. is.stopped n file some opened.input there writable fault;
+  stopped = λ n file some opened there calm fault. is.stopped n file some opened.input there calm fault;
 }
 
 -- ---- no file was touched
@@ -60,7 +59,7 @@ kept_staged foreseen None status told now before after other same = tt
 kept_staged foreseen (Some stages) status None now before after other same = tt
 kept_staged foreseen (Some stages) status (Some held) now before after other same = record {
   untouched = λ name one none. same;
-  stopped = λ n file some opened there writable fault. absurd (other fault);
+  stopped = λ n file some opened there calm fault. absurd (other fault);
 }
 
 -- an answer other than a read error
@@ -134,10 +133,10 @@ read_staged foreseen said number name x shape recipe input outputs status (Some 
         | inl is_input ↦ here.untouched one (0, omega arith, sym is_input) none
         | inr is_first ↦ absurd (some (subst (λ (n : List ℕ). foreseen.readable n ≡ Some 0) is_first none))
       ];
-      stopped = λ n file least opened there writable fault.
+      stopped = λ n file least opened there calm fault.
           said_made said number (get held name) x recipe
           (λ made. IsStopped outputs made file (shape.unit * shape.units) n (Some held) now) read
-          (here.stopped n file least (record { input = opened.input; before = none_among }) there writable fault);
+          (here.stopped n file least (record { input = opened.input; before = none_among }) there calm fault);
     }
   where
     none_among : (one : List ℕ) → Contains [] one → foreseen.readable one ≡ Some (2 ^ 64)
@@ -153,7 +152,7 @@ unread_staged foreseen said name cause shape recipe input outputs outcome None n
 unread_staged foreseen said name cause shape recipe input outputs outcome (Some held) now before after same whole is =
     record {
       untouched = λ one among none. same;
-      stopped = λ n file some opened there writable fault.
+      stopped = λ n file some opened there calm fault.
           absurd (whole (opened.before name (0, omega arith, refl))
           (sym (ap (λ (o : Outcome). o.status) is) ∙ fault));
     }

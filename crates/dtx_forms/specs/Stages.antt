@@ -39,7 +39,7 @@ pub record HasStages (foreseen : Foreseen) (stages : Stages) (held : Files) (sta
   pub untouched : (name : List ℕ) → Contains (stages.input ∷ stages.before) name → foreseen.readable name ≡ Some 0
       → now ≡ Some held
   -- Outputs are written on the way. Where reading failed behind the first n bytes, and no write error was counted, they
-  -- hold what is made of all of these but for less than a piece.
+  -- nearly hold what is made of all of these but for less than a piece (`IsStopped`).
   pub stopped : (n : ℕ) (file : List ℕ) → 0 < n → IsOpenUntil foreseen stages n → get held stages.input ≡ Some file
       → ¬ Rose before.write_faults after.write_faults → status ≡ ReadFault
       → IsStopped stages.outputs (stages.made held) file stages.piece n (Some held) now

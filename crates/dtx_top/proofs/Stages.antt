@@ -1,6 +1,6 @@
 -- The stages of a command: from those of its job, and behind its line.
 use Rattle.std.proofs.Common.{◌≡◌, ℕ, List, sym, ap, ◌∙◌, inl, inr}
-use Rattle.std.specs.Prelude.{Option, Some, None, Result, Ok, Err, IfSome}
+use Rattle.std.specs.Prelude.{Option, Some, None, Result, Ok, Err}
 use Rattle.dtx_outside.specs.Counts.{Counts}
 use Rattle.dtx_outside.specs.Foreseen.{Foreseen}
 use Rattle.dtx_outside.specs.Shelf.{Files}

@@ -17,11 +17,12 @@ returns-in-Ok-clause-stages g c =
     let input = f.input.now in
     let recipe = g.E.Engine.recipe c.args.engine.now in
     let status = c.carry_out.result.status in
+    let before = g.S.Shelf.counts c.args.shelf.now in
+    let after = g.S.Shelf.counts c.carry_out.new.shelf in
     loop_staged g.S.Shelf.foreseen g.E.Engine.shape recipe input (f.output.now ∷ f.log.now ∷ []) status told now
-    (g.S.Shelf.counts c.args.shelf.now) (g.S.Shelf.counts c.carry_out.new.shelf)
+    before after
     (subst (λ (n : List (List ℕ)). IsNoneOf input n → IfSome told (λ held.
-    AreStages g.S.Shelf.foreseen g.E.Engine.shape recipe input n held (g.S.Shelf.counts c.args.shelf.now)
-    (g.S.Shelf.counts c.carry_out.new.shelf) status now))
+    AreStages g.S.Shelf.foreseen g.E.Engine.shape recipe input n held before after status now))
     c.in-Ok.ensures.1 c.carry_out.ensures.stages (c.requires.output, (c.requires.log, tt)))
 
 pub returns-in-Err-clause-stages : goal.returns-in-Err-clause-stages
