@@ -20,7 +20,8 @@ pub(crate) struct Lines<W: Widths<B, M>, const B: usize, const M: usize> {
     widths: PhantomData<W>,
     next: usize,
     rings: Vec<HeapCircularBuffer<u8>>,
-    columns: Columns,
+    /// In a block of its own, since values of this type are moved while they are made.
+    columns: Box<Columns>,
 }
 
 impl<W: Widths<B, M>, const B: usize, const M: usize> Model for Lines<W, B, M> {
@@ -40,6 +41,7 @@ impl<W: Widths<B, M>, const B: usize, const M: usize> Lines<W, B, M> {
         requires { IsInterleaver B M }
         ensures { IfOk result (λ lines. lines ≡ zeroed B W.widths) }
     {
+        let columns = Box::new(alloc, Columns::new())?;
         let mut rings = Vec::new(alloc);
         for i in 0..B {
             rings.push(zeros(alloc, W::width(i))?)?;
@@ -48,7 +50,7 @@ impl<W: Widths<B, M>, const B: usize, const M: usize> Lines<W, B, M> {
             widths: PhantomData,
             next: 0,
             rings,
-            columns: Columns::new(),
+            columns,
         })
     }
 
@@ -89,7 +91,7 @@ impl<W: Widths<B, M>, const B: usize, const M: usize> Lines<W, B, M> {
         ensures bytes { bytes.new ≡ leaving_all B self.old bytes.old }
         ensures branches { self.new ≡ after_all B self.old bytes.old }
     {
-        through::<B>(&mut self.rings, self.next, bytes, &mut self.columns);
+        through::<B>(&mut self.rings, self.next, bytes, &mut *self.columns);
         self.next = (self.next + bytes.len()) % B;
     }
 }
