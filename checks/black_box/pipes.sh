@@ -170,6 +170,13 @@ start 'what `receive` makes of the first 755 segments comes before there are mor
 "$dtx" receive "$room/long.sym" "$room/long.back" >"$room/said"
 comes_after $((755 * 832)) 4096 "$room/long.back" "$room/long.sym" receive in out.ts
 
+# However the pipe cuts the input, all but 131,072 bytes of what is made has come.
+start 'what `code` makes of the first 208 packets comes but for 131,072 bytes'
+comes_after $((208 * 188)) 41984 "$room/long.sym" ../inputs/long.ts code in out.sym
+
+start 'what `adapt` makes of the first 1,044 packets comes but for 131,072 bytes'
+comes_after $((1044 * 188)) 65200 "$room/long.feed" ../inputs/long.ts adapt "$plan" in out.ts
+
 start 'a writer of small pieces'
 for size in 7 189; do
     head -c $((size * 500)) ../inputs/given.ts >in.ts
