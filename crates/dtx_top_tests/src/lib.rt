@@ -3,6 +3,8 @@
 #![tactic(auto)]
 
 #[cfg(test)]
+mod halting_shelf;
+#[cfg(test)]
 mod host_shelf;
 #[cfg(test)]
 mod host_sink;
