@@ -13,6 +13,8 @@ mod lines;
 #[cfg(test)]
 mod output;
 #[cfg(test)]
+mod stages;
+#[cfg(test)]
 mod two_shelves;
 #[cfg(test)]
 mod worked_network;
