@@ -3,6 +3,8 @@
 #![tactic(auto)]
 
 #[cfg(test)]
+mod halting_shelf;
+#[cfg(test)]
 mod host_shelf;
 #[cfg(test)]
 mod host_sink;
@@ -10,6 +12,8 @@ mod host_sink;
 mod lines;
 #[cfg(test)]
 mod output;
+#[cfg(test)]
+mod stages;
 #[cfg(test)]
 mod two_shelves;
 #[cfg(test)]

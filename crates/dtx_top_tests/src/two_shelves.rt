@@ -108,7 +108,12 @@ fn are_alike(rt: &HostRuntime, memory: &MemoryShelf, names: &str) -> bool {
 }
 
 /// The answer to the words over a shelf, and its line in the sink.
-fn answer<S: Shelf>(alloc: Global, text: &str, shelf: &mut S, out: &mut MemorySink) -> Status {
+pub(crate) fn answer<S: Shelf>(
+    alloc: Global,
+    text: &str,
+    shelf: &mut S,
+    out: &mut MemorySink,
+) -> Status {
     match words_of(alloc, text) {
         Ok(words) => run(alloc, &words, shelf, out),
         Err(AllocError) => Status::Memory,
