@@ -1,5 +1,6 @@
-//! Tests of what stands outermost: the host's files, when gathered bytes go to theirs, and a network that meets what
-//! the headline asks. They stand apart, so that no crate is proved once more with its tests.
+//! Tests of what stands outermost: the host's files, when gathered bytes go to theirs, what is written where a read
+//! error is foreseen, and a network that meets what the headline asks. They stand apart, so that no crate is proved
+//! once more with its tests.
 #![tactic(auto)]
 
 #[cfg(test)]
