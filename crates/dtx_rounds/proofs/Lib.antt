@@ -2,6 +2,7 @@ pub mod RunLevels
 pub mod StepPlaces
 pub mod KnownLemmas
 pub mod RoundLevels
+pub mod PinRows
 pub mod Kept
 pub mod Growing
 pub mod RoundsLemmas
