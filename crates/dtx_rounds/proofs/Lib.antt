@@ -1,6 +1,7 @@
 pub mod RunLevels
 pub mod StepPlaces
 pub mod KnownLemmas
+pub mod FoundWords
 pub mod RoundLevels
 pub mod PinRows
 pub mod Kept

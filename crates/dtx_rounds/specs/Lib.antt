@@ -1,3 +1,4 @@
 pub mod Known
+pub mod Found
 pub mod Pins
 pub mod Rounds

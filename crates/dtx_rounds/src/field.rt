@@ -1,6 +1,6 @@
 //! A field of a capture on its way through the rounds.
 
-ghost use Rattle.std.specs.Prelude.{◌≡◌, ◌+◌, ◌*◌, ◌/◌, ◌<◌, ◌≤◌, length, vec_len};
+ghost use Rattle.std.specs.Prelude.{◌≡◌, ◌+◌, ◌-◌, ◌*◌, ◌/◌, ◌<◌, ◌≤◌, length, vec_len};
 
 use dtx_sizes::{CODEWORD, FIELD_PACKETS, FIELD_SEGMENTS, GROUP_PACKETS, SEGMENT};
 use std::alloc::{AllocError, Global};
@@ -88,6 +88,7 @@ impl Field {
         ensures few { result ≤ WORDS }
         ensures whole { result ≡ 4 * (result / 4) }
         ensures room { 0 < self.now.count → result < self.now.count }
+        ensures groups { result ≡ 4 * ((self.now.count - 1) / 4) }
     {
         self.count.saturating_sub(1) / GROUP_PACKETS * GROUP_PACKETS
     }

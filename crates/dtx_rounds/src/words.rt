@@ -1,8 +1,11 @@
 //! The words that begin in a field: those that are put right are known from then on.
 
 ghost use Rattle.std.specs.Prelude.{◌≡◌, ◌≢◌, ℕ, ◌+◌, ◌*◌, ◌<◌, ◌≤◌, ◌++◌, ◌↔◌, IsTrue, Some, None};
-ghost use Rattle.std.specs.Prelude.{length, slice_index, slice_index_or, slice_set};
+ghost use Rattle.std.specs.Prelude.{length, slice_index, slice_index_or, slice_set, take};
+ghost use Rattle.dtx_laws.specs.Words.{correction};
 ghost use Rattle.dtx_outer.specs.Inner.{IsComplete, codeword_byte_place, word_at};
+ghost use Rattle.dtx_rounds.specs.Found.{AreFound, bytes_there, new_code, only_code};
+ghost use Rattle.dtx_rounds.specs.Known.{known_word};
 
 use crate::field::{BYTES, Field, WORDS};
 use dtx_fast::Fast;
@@ -23,6 +26,8 @@ pub(crate) fn find_words(
 )
     requires bytes { length bytes.now ≡ BYTES }
     requires behind { length behind.now ≡ BYTES }
+    ensures { AreFound (new_code (bytes_there field.old next.old bytes.now behind.now) field.old.words)
+        field.old next.old field.new next.new }
 {
     let segments = field.in_groups() + next.in_groups();
     for k in 0..WORDS {
@@ -47,18 +52,50 @@ fn find_word(
     requires behind { length behind.now ≡ BYTES }
     requires most { segments ≤ 2 * WORDS }
     requires word { k < WORDS }
+    ensures { AreFound (only_code k (known_word (take (CODEWORD * segments) (bytes.now ++ behind.now)) k))
+        field.old next.old field.new next.new }
+{
+    if let Some(code) = code_of(corrector, bytes, behind, segments, k) {
+        lay_back(&code, k, field, next);
+    }
+}
+
+/// The correction of word k, if its bytes are among those of so many data segments and it has one.
+fn code_of(
+    corrector: &Corrector,
+    bytes: &[u8],
+    behind: &[u8],
+    segments: usize,
+    k: usize,
+) -> Option<[u8; CODEWORD]>
+    requires bytes { length bytes.now ≡ BYTES }
+    requires behind { length behind.now ≡ BYTES }
+    requires most { segments ≤ 2 * WORDS }
+    requires word { k < WORDS }
+    ensures { result ≡ known_word (take (CODEWORD * segments) (bytes.now ++ behind.now)) k }
 {
     if is_whole(k, segments) {
-        let mut word = gathered(bytes, behind, k);
-        if corrector.correct(&mut word).is_ok() {
-            lay_back(&word, k, field, next);
-        }
+        corrected(corrector, &gathered(bytes, behind, k))
+    } else {
+        None
+    }
+}
+
+/// The correction of a word, if it has one.
+fn corrected(corrector: &Corrector, word: &[u8; CODEWORD]) -> Option<[u8; CODEWORD]>
+    ensures { result ≡ correction CODEWORD PACKET_DATA word.now }
+{
+    let mut code = *word;
+    match corrector.correct(&mut code) {
+        Ok(_) => Some(code),
+        Err(_) => None,
     }
 }
 
 /// Lays the bytes of word k back to their places in its field and the next one. The word is known from then on.
 fn lay_back(word: &[u8; CODEWORD], k: usize, field: &mut Field, next: &mut Field)
     requires { k < WORDS }
+    ensures { AreFound (only_code k (Some word.now)) field.old next.old field.new next.new }
 {
     lay(word, k, &mut field.known[..], &mut next.known[..]);
     field.words[k] = true;
