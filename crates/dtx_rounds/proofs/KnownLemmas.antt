@@ -1,6 +1,6 @@
 -- Which words and bytes of a run are known.
-use Rattle.std.proofs.Common.{◌≡◌, ℕ, ◌+◌, ◌-◌, ◌*◌, ◌/◌, ◌%◌, ◌<◌, ◌≤◌, nat_le, Bool, true, false, cond, Option}
-use Rattle.std.proofs.Common.{Some, None, option_map, List, length, get_or, take, refl, ap, ap₂, ◌∙◌, arith}
+use Rattle.std.proofs.Common.{◌≡◌, ℕ, ◌+◌, ◌-◌, ◌*◌, ◌/◌, ◌%◌, ◌<◌, ◌≤◌, ◌↔◌, nat_le, Bool, true, false, cond, Option}
+use Rattle.std.proofs.Common.{Some, None, option_map, List, length, get_or, take, refl, sym, ap, ap₂, ◌∙◌, arith}
 use Rattle.std.proofs.lemmas.Bool.{cond-false, cond-true, false_from_ne_true, le-leb}
 use Rattle.std.proofs.lemmas.List.{get_or-take, length-take-le}
 use Rattle.std.proofs.lemmas.List.FromFn.{get_or-map-range_with_len}
@@ -68,6 +68,16 @@ known_absent bytes n k l none =
 pub known_place : (bytes : List ℕ) (k j : ℕ) (code : List ℕ) → IsKnown bytes k code → j < 207
     → codeword_byte_place 52 4 (207 * k + j) < length bytes
 known_place bytes k j code h l = (complete_told (length bytes) k).0 h.complete j l
+
+-- a test that tells which words are complete
+pub complete_by : (b : Bool) (n k : ℕ) → ((b ≡ true) ↔ IsComplete 207 52 4 n k) → b ≡ is_complete n k
+complete_by b n k h =
+    same b (is_complete n k) (λ t. (complete_told n k).1 (h.0 t)) (λ t. h.1 ((complete_told n k).0 t))
+  where
+    same : (x y : Bool) → (x ≡ true → y ≡ true) → (y ≡ true → x ≡ true) → x ≡ y
+    same true y there back = sym (there refl)
+    same false true there back = back refl
+    same false false there back = refl
 
 -- ---- bytes
 

@@ -2,6 +2,7 @@ pub mod RunLevels
 pub mod StepPlaces
 pub mod KnownLemmas
 pub mod FoundWords
+pub mod LaidWords
 pub mod RoundLevels
 pub mod PinRows
 pub mod Kept

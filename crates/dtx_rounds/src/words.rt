@@ -100,9 +100,7 @@ fn lay_back(word: &[u8; CODEWORD], k: usize, field: &mut Field, next: &mut Field
     lay(word, k, &mut field.known[..], &mut next.known[..]);
     field.words[k] = true;
     field.knows_more = true;
-    if !is_whole(k, WORDS) {
-        next.knows_more = true;
-    }
+    next.knows_more |= !is_whole(k, WORDS);
 }
 
 /// Whether all bytes of word k are among those of so many data segments.
