@@ -6,7 +6,7 @@ use Rattle.std.proofs.Common.{arith}
 use Rattle.std.specs.List.{list_any, range_with_len}
 use Rattle.std.proofs.lemmas.Bool.{cases_eq, cases_lt, cond-true, cond-false, eq-eqb, eqb-true, le-leb, leb-true}
 use Rattle.std.proofs.lemmas.Bool.{false_from_ne_true, true≢false}
-use Rattle.std.proofs.lemmas.List.{get_or_append_left, get_or-append_right, get_or-take, get_or_past, length-append}
+use Rattle.std.proofs.lemmas.List.{get_or_append_left, get_or-append_right, get_or-take, get_or_default, get_or_past}
 use Rattle.std.proofs.lemmas.List.{length-take-le, take_at}
 use Rattle.std.specs.Vec.{with_items}
 use Rattle.std.specs.Prelude.{Vec, vec_len}
@@ -16,7 +16,8 @@ use Rattle.dtx_rounds.specs.Found.{AreFound, IsKept, bytes_with, code_byte, has_
 use Rattle.dtx_rounds.specs.Found.{only_code, or_else, words_with}
 use Rattle.dtx_rounds.specs.Known.{known_word}
 use Rattle.dtx_rounds.specs.declared.field.Field.{Field}
-use Rattle.dtx_rounds.proofs.FoundWords.{any_at, any_none, bytes_from, or_false, words_from}
+use Rattle.dtx_rounds.proofs.FoundWords.{any_at, any_none, bytes_from, found_same, found_twice, or_false}
+use Rattle.dtx_rounds.proofs.FoundWords.{word_with, words_from}
 use Rattle.dtx_rounds.proofs.KnownLemmas.{byte_source}
 
 -- ---- one word alone
@@ -280,3 +281,27 @@ sought_same bytes words k l known i = by_place (cases_eq i k)
     by_place (inl e) =
         ap (new_code bytes (take k words)) e ∙ here ∙ ap (new_code bytes (take (k + 1) words)) (sym e)
     by_place (inr ne) = other_word bytes words k i l ne
+
+-- a word is known where it was before, as long as it wasn't sought
+own_word : (bytes : List ℕ) (k : ℕ) (a b p q : Field) → k < length a.words
+    → AreFound (new_code bytes (take k a.words)) a b p q → get_or a.words k true ≡ get_or p.words k false
+own_word bytes k a b p q l h =
+    get_or_default a.words k true false l ∙ or_false (get_or a.words k false)
+    ∙ ap (λ o. get_or a.words k false || is_some o) (sym (sought_past bytes a.words k k (omega (arith, l)) (omega arith)))
+    ∙ sym (word_with (new_code bytes (take k a.words)) a.words k l)
+    ∙ ap (λ (ws : List Bool). get_or ws k false) (sym h.words)
+
+pub found_next : (bytes : List ℕ) (k : ℕ) (a b p q x y : Field) → k < length a.words
+    → AreFound (new_code bytes (take k a.words)) a b p q → get_or p.words k false ≡ false
+    → AreFound (only_code k (known_word bytes k)) p q x y → AreFound (new_code bytes (take (k + 1) a.words)) a b x y
+found_next bytes k a b p q x y l h unknown one =
+    found_twice (new_code bytes (take k a.words)) (only_code k (known_word bytes k))
+    (new_code bytes (take (k + 1) a.words)) a b p q x y h one
+    (sought_more bytes a.words k l (own_word bytes k a b p q l h ∙ unknown))
+
+pub found_passed : (bytes : List ℕ) (k : ℕ) (a b p q : Field) → k < length a.words
+    → AreFound (new_code bytes (take k a.words)) a b p q → get_or p.words k false ≡ true
+    → AreFound (new_code bytes (take (k + 1) a.words)) a b p q
+found_passed bytes k a b p q l h known =
+    found_same (new_code bytes (take k a.words)) (new_code bytes (take (k + 1) a.words)) a b p q h
+    (sought_same bytes a.words k l (own_word bytes k a b p q l h ∙ known))

@@ -1,5 +1,5 @@
-use Rattle.std.proofs.Common.{◌≡◌, ℕ, ◌+◌, ◌*◌, ◌<◌, ◌≢◌, ◌++◌, Option, Some, None, List, get_or, length, refl}
-use Rattle.std.proofs.Common.{not, true, false, ◌||◌, Bool, sym, ap, ap₂, ◌∙◌, arith}
+use Rattle.std.proofs.Common.{◌≡◌, ℕ, ◌+◌, ◌*◌, ◌++◌, Option, None, List, get_or, refl}
+use Rattle.std.proofs.Common.{not, ◌||◌, ap, ap₂, ◌∙◌, arith}
 use Rattle.std.specs.Vec.{with_items}
 use Rattle.dtx_outer.specs.Inner.{codeword_byte_place}
 use Rattle.dtx_rounds.proofs.KnownLemmas.{complete_by}
