@@ -1,5 +1,6 @@
 pub mod RunLevels
 pub mod StepPlaces
+pub mod GroupBytes
 pub mod KnownLemmas
 pub mod FoundWords
 pub mod LaidWords

@@ -1,9 +1,13 @@
 //! The bytes of a field's decided segments.
 
-ghost use Rattle.std.specs.Prelude.{◌≡◌, ◌%◌, ◌<◌, EachIndex, IfOk, length, slice_index, vec_len};
+ghost use Rattle.std.specs.Prelude.{◌≡◌, ◌*◌, ◌%◌, ◌<◌, EachIndex, IfOk, length, slice_index, take, vec_len};
+ghost use Rattle.std.specs.List.{flat_map};
+ghost use Rattle.dtx_slice.specs.Slicing.{sliced_data};
+ghost use Rattle.dtx_slice.specs.Unrolled.{bytes_back, precoder_bits_after};
+ghost use Rattle.dtx_rounds.specs.Found.{field_levels, whole_segments};
 
 use crate::field::{Field, WORDS};
-use dtx_sizes::{GROUP_BYTES, GROUP_LEVELS, GROUP_PACKETS, SEGMENT};
+use dtx_sizes::{CODERS, GROUP_BYTES, GROUP_LEVELS, GROUP_PACKETS, SEGMENT};
 use dtx_slice::{Unroll, put_levels};
 use std::alloc::{AllocError, Global};
 
@@ -19,7 +23,12 @@ pub(crate) fn empty_bytes(alloc: Global) -> Result<Vec<[u8; GROUP_BYTES]>, Alloc
 
 /// Writes the bytes of the groups of a run's next field.
 pub(crate) fn write_bytes(unroll: &mut Unroll, field: &Field, bytes: &mut [[u8; GROUP_BYTES]])
-    requires { length bytes.old ≡ GROUPS }
+    requires groups { length bytes.old ≡ GROUPS }
+    requires coders { length unroll.old ≡ CODERS }
+    ensures bytes { take (207 * whole_segments field.now.count) (flat_map (λ group. group) bytes.new)
+        ≡ bytes_back 0 unroll.old (field_levels field.now) }
+    ensures precoder_bits { unroll.new ≡ precoder_bits_after 0 unroll.old (field_levels field.now) }
+    ensures coders { length unroll.new ≡ CODERS }
 {
     for g in 0..field.in_groups() / GROUP_PACKETS {
         let first = GROUP_PACKETS * g;
@@ -42,6 +51,10 @@ fn write_group(
     requires in_field { first < WORDS }
     requires whole { first % GROUP_PACKETS ≡ 0 }
     requires four { length segments.now ≡ GROUP_PACKETS }
+    ensures bytes { bytes.new ≡ bytes_back first unroll.old (flat_map sliced_data segments.now) }
+    ensures precoder_bits { unroll.new ≡ precoder_bits_after first unroll.old (flat_map sliced_data segments.now) }
+    ensures coders { length unroll.new ≡ CODERS }
+    ensures levels { length (flat_map sliced_data segments.now) ≡ GROUP_LEVELS }
 {
     let mut levels = [0; GROUP_LEVELS];
     for i in 0..GROUP_PACKETS {
