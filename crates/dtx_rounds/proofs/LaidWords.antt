@@ -41,7 +41,7 @@ only_none k code e i = by_place (cases_eq i k)
 -- ---- its bytes
 
 -- what lies at a place where a byte of the word was laid
-at_place : (k n : ℕ) → 208 * (n % 52) ≤ n → (n - 208 * (n % 52)) / 207 ≡ k
+pub at_place : (k n : ℕ) → 208 * (n % 52) ≤ n → (n - 208 * (n % 52)) / 207 ≡ k
     → n ≡ codeword_byte_place 52 4 (207 * k + (n - 208 * (n % 52)) % 207)
 at_place k n l e = by_source (n - 208 * (n % 52)) refl (omega arith)
   where

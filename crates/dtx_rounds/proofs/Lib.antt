@@ -6,6 +6,8 @@ pub mod FoundWords
 pub mod LaidWords
 pub mod RoundLevels
 pub mod PinRows
+pub mod FieldRounds
+pub mod KnownPlaces
 pub mod Kept
 pub mod Growing
 pub mod RoundsLemmas

@@ -2,3 +2,5 @@ pub mod Known
 pub mod Found
 pub mod Pins
 pub mod Rounds
+pub mod Fields
+pub mod FieldRound

@@ -1,16 +1,20 @@
 //! Laws of rounds.
 
-ghost use Rattle.std.specs.Prelude.{◌≡◌, ◌+◌, ◌<◌, ◌≤◌, ℕ, ℤ, true, Some, None, List, [], length, slice_index_or};
+ghost use Rattle.std.specs.Prelude.{◌≡◌, ◌+◌, ◌*◌, ◌<◌, ◌≤◌, ℕ, ℤ, true, Option, Some, None};
+ghost use Rattle.std.specs.Prelude.{List, [], length, slice_index_or};
 ghost use Rattle.dtx_laws.specs.Codeword.{IsCodeword};
 ghost use Rattle.dtx_outer.specs.Inner.{word_at};
 ghost use Rattle.dtx_receiver.specs.Bytes.{bytes_in};
 ghost use Rattle.dtx_receiver.specs.Packets.{is_complete};
 ghost use Rattle.dtx_soft.specs.Softened.{least_cost};
 ghost use Rattle.dtx_acquire.specs.Acquired.{acquired};
-ghost use Rattle.dtx_rounds.specs.Known.{known_bytes, known_word};
+ghost use Rattle.dtx_rounds.specs.FieldRound.{field_rounded};
+ghost use Rattle.dtx_rounds.specs.Fields.{rows_of};
+ghost use Rattle.dtx_rounds.specs.Known.{known_byte, known_bytes, known_word};
 ghost use Rattle.dtx_rounds.specs.Pins.{byte_at_step};
 ghost use Rattle.dtx_rounds.specs.Rounds.{coder_cost, groups_in, heard_of, refined, rounded, rounds_of};
 
+use crate::field::BYTES;
 use dtx_acquire::laws::whole_fields_are_acquired;
 use dtx_sizes::{CODERS, CODEWORD, PACKET_DATA, SEGMENT};
 use dtx_soft::MAX_SCALE;
@@ -55,6 +59,15 @@ pub fn nothing_moves_where_no_byte_is_put_right()
 {
     whole_fields_are_acquired();
 }
+
+/// A round goes field by field: the segments of a field after it are those of a round over the field alone, under what
+/// is known there.
+pub fn a_round_goes_field_by_field()
+    ensures segments { (scale f : ℕ) (heard given : List (List ℤ)) (known : List (Option ℕ))
+        → ((n : ℕ) → n < BYTES → slice_index_or known n None ≡ known_byte (bytes_in given) (BYTES * f + n))
+        → rows_of (rounded scale heard given) f
+        ≡ field_rounded scale (rows_of heard f) known (rows_of given f) }
+{}
 
 /// Where a round gives what it was given, all further ones do.
 pub fn a_round_that_moves_nothing_is_the_last()
