@@ -34,7 +34,7 @@ levels_put n old new more before l small m e f =
 -- ---- groups
 
 -- how many bytes groups have
-length_back : (s g : ℕ) (bits levels : List ℕ) → length levels ≡ 3312 * g
+pub length_back : (s g : ℕ) (bits levels : List ℕ) → length levels ≡ 3312 * g
     → length (bytes_back s bits levels) ≡ 828 * g
 unfolding bytes_back
 length_back s g bits levels e =

@@ -7,6 +7,8 @@ pub mod LaidWords
 pub mod RoundLevels
 pub mod PinRows
 pub mod FieldRounds
+pub mod FieldWords
+pub mod FieldBytes
 pub mod KnownPlaces
 pub mod Kept
 pub mod Growing
