@@ -16,18 +16,18 @@ or_assoc : {A : Type 0} (x y z : Option A) → or_else x (or_else y z) ≡ or_el
 or_assoc None y z = refl
 or_assoc (Some a) y z = refl
 
-map_or : {A B : Type 0} (f : A → B) (x y : Option A)
+pub map_or : {A B : Type 0} (f : A → B) (x y : Option A)
     → or_else (option_map f x) (option_map f y) ≡ option_map f (or_else x y)
 map_or f None y = refl
 map_or f (Some a) y = refl
 
-some_or : {A : Type 0} (x y : Option A) → (is_some y || is_some x) ≡ is_some (or_else x y)
+pub some_or : {A : Type 0} (x y : Option A) → (is_some y || is_some x) ≡ is_some (or_else x y)
 some_or None None = refl
 some_or None (Some b) = refl
 some_or (Some a) None = refl
 some_or (Some a) (Some b) = refl
 
-or_assoc_bool : (x y z : Bool) → (x || (y || z)) ≡ ((x || y) || z)
+pub or_assoc_bool : (x y z : Bool) → (x || (y || z)) ≡ ((x || y) || z)
 or_assoc_bool true y z = refl
 or_assoc_bool false y z = refl
 

@@ -7,6 +7,7 @@ pub mod LaidWords
 pub mod RoundLevels
 pub mod PinRows
 pub mod FieldRounds
+pub mod RunWords
 pub mod FieldWords
 pub mod FieldBytes
 pub mod KnownPlaces

@@ -4,3 +4,5 @@ pub mod Pins
 pub mod Rounds
 pub mod Fields
 pub mod FieldRound
+pub mod Decided
+pub mod RunField

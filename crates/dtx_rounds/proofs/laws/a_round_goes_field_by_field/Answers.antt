@@ -4,6 +4,7 @@ use Rattle.dtx_rounds.specs.FieldRound.{field_rounded}
 use Rattle.dtx_rounds.specs.Known.{known_bytes}
 use Rattle.dtx_rounds.specs.Rounds.{rounded}
 use Rattle.dtx_rounds.proofs.FieldRounds.{round_in_field}
+use Rattle.dtx_rounds.proofs.RunWords.{known_byte_same}
 use Rattle.dtx_rounds.proofs.FieldWords.{known_in_field}
 use Rattle.dtx_rounds.proofs.FieldBytes.{bytes_in_field}
 use Rattle.dtx_rounds.proofs.KnownPlaces.{known_entry}
