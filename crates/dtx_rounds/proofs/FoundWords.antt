@@ -3,7 +3,7 @@ use Rattle.std.proofs.Common.{◌≡◌, ℕ, zero, suc, ◌+◌, ◌-◌, ◌*�
 use Rattle.std.proofs.Common.{◌&&◌, ◌||◌, not, nat_le, Bool, true, false, cond, Option, Some, None, is_some, option_map}
 use Rattle.std.proofs.Common.{List, length, get_or, refl, sym, ap, ap₂, ◌∙◌, arith}
 use Rattle.std.specs.List.{list_any, range_with_len}
-use Rattle.std.proofs.lemmas.Bool.{cases_lt}
+use Rattle.std.proofs.lemmas.Bool.{cases_lt, false_from_ne_true, true≢false}
 use Rattle.std.proofs.lemmas.List.FromFn.{fill_by_all, get_or-map-range_with_len, length-map-range_with_len}
 use Rattle.dtx_receiver.specs.Packets.{is_complete}
 use Rattle.dtx_rounds.specs.Found.{AreFound, IsKept, bytes_with, code_byte, has_code, has_code_behind, or_else}
@@ -58,6 +58,10 @@ any_at f a (suc n) k l m t =
     by_place (inr h) next =
         or_here (f a) (list_any f (range_with_len (a + 1) n)) (let same : a ≡ k = omega arith in ap f same ∙ t)
 
+pub any_each : (f : ℕ → Bool) (a n k : ℕ) → list_any f (range_with_len a n) ≡ false → a ≤ k → k < a + n → f k ≡ false
+any_each f a n k e l m =
+    false_from_ne_true (f k) (λ t. true≢false (sym (any_at f a n k l m t) ∙ e))
+
 any_or : (f g h : ℕ → Bool) (a n : ℕ) → ((i : ℕ) → a ≤ i → i < a + n → f i ≡ (g i || h i))
     → list_any f (range_with_len a n) ≡ (list_any g (range_with_len a n) || list_any h (range_with_len a n))
 any_or f g h a zero e = refl
@@ -95,7 +99,7 @@ unfolding bytes_with
 bytes_from codes first known new e h =
     fill_by_all (λ i. or_else (code_byte codes (first + i)) (get_or known i None)) new (length known) None e h
 
-code_byte_none : (codes : ℕ → Option (List ℕ)) (n : ℕ) → ((k : ℕ) → codes k ≡ None) → code_byte codes n ≡ None
+pub code_byte_none : (codes : ℕ → Option (List ℕ)) (n : ℕ) → ((k : ℕ) → codes k ≡ None) → code_byte codes n ≡ None
 unfolding code_byte
 code_byte_none codes n none = by_test (nat_le (208 * (n % 52)) n)
   where

@@ -166,6 +166,10 @@ behind_one k n word l = by_test (is_complete (207 * 312) k) refl
     by_test false t =
         any_at passes 0 n k (omega arith) (omega arith) (ap₂ (λ o b. is_some o && not b) (only_same k (Some word)) t)
 
+-- how many bytes of a field are known or not
+pub known_items : (field : Field) → length field.known.items ≡ 64584
+known_items field = (let long : field.known.len ≡ 64584 = field.known_long in sym field.known.ok.0 ∙ long)
+
 -- the items of a vector that were all written
 pub items_written : {A Z : Type 0} (v : Vec A Z) (items : List A) → length items ≡ vec_len v
     → (with_items v items).items ≡ items
@@ -184,12 +188,12 @@ pub found_one : (k : ℕ) (word : List ℕ) (field next new new_next : Field) �
     → IsKept next new_next → AreFound (only_code k (Some word)) field next new new_next
 found_one k word field next new new_next l long laid others words more rest next_words next_more next_rest = record {
   known = laid_front k word field.known.items next.known.items new.known.items new_next.known.items
-      (old new ∙ sym (old field)) entry;
+      (known_items new ∙ sym (known_items field)) entry;
   words = words ∙ word_set k word field.words (omega (arith, l, long));
   more = more ∙ sym (ap (λ b. field.knows_more || b) (has_one k 312 word l) ∙ or_true field.knows_more);
   rest = rest;
   next_known = laid_behind k 64584 word field.known.items next.known.items new.known.items new_next.known.items
-      (old field) (old new) (old new_next ∙ sym (old next)) entry;
+      (known_items field) (known_items new) (known_items new_next ∙ sym (known_items next)) entry;
   next_words = next_words;
   next_more = next_more ∙ ap (λ b. next.knows_more || b) (sym (behind_one k 312 word l));
   next_rest = next_rest;
@@ -200,9 +204,6 @@ found_one k word field next new new_next l long laid others words more rest next
     entry n =
         laid_entry k word (field.known.items ++ next.known.items) (new.known.items ++ new_next.known.items) n laid
         (others n)
-
-    old : (f : Field) → length f.known.items ≡ 64584
-    old f = (let long : f.known.len ≡ 64584 = f.known_long in sym f.known.ok.0 ∙ long)
 
     or_true : (x : Bool) → (x || true) ≡ true
     or_true true = refl

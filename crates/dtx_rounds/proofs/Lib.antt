@@ -8,6 +8,8 @@ pub mod RoundLevels
 pub mod PinRows
 pub mod FieldRounds
 pub mod RunWords
+pub mod FoundFields
+pub mod TurnedFields
 pub mod FieldWords
 pub mod FieldBytes
 pub mod KnownPlaces

@@ -12,18 +12,18 @@ use Rattle.dtx_rounds.proofs.Growing.{Stays}
 
 -- ---- corrections up to a word
 
-upto_now : (before now : List ℕ) (m k : ℕ) → k < m → codes_upto before now m k ≡ known_word now k
+pub upto_now : (before now : List ℕ) (m k : ℕ) → k < m → codes_upto before now m k ≡ known_word now k
 unfolding codes_upto
 upto_now before now m k l = cond-true (nat_lt k m) (known_word now k) (known_word before k) (lt-ltb k m l)
 
-upto_before : (before now : List ℕ) (m k : ℕ) → m ≤ k → codes_upto before now m k ≡ known_word before k
+pub upto_before : (before now : List ℕ) (m k : ℕ) → m ≤ k → codes_upto before now m k ≡ known_word before k
 unfolding codes_upto
 upto_before before now m k l = cond-false (nat_lt k m) (known_word now k) (known_word before k) (le-ltb k m l)
 
 -- ---- the byte at a place
 
 -- by the word that has it
-code_byte_at : (codes : ℕ → Option (List ℕ)) (n : ℕ) → 208 * (n % 52) ≤ n
+pub code_byte_at : (codes : ℕ → Option (List ℕ)) (n : ℕ) → 208 * (n % 52) ≤ n
     → code_byte codes n
     ≡ option_map (λ (code : List ℕ). get_or code ((n - 208 * (n % 52)) % 207) 0) (codes ((n - 208 * (n % 52)) / 207))
 unfolding code_byte
@@ -31,7 +31,7 @@ code_byte_at codes n l =
     cond-true (nat_le (208 * (n % 52)) n) (option_map (λ (code : List ℕ). get_or code ((n - 208 * (n % 52)) % 207) 0)
     (codes ((n - 208 * (n % 52)) / 207))) None (le-leb (208 * (n % 52)) n l)
 
-code_byte_past : (codes : ℕ → Option (List ℕ)) (n : ℕ) → n < 208 * (n % 52) → code_byte codes n ≡ None
+pub code_byte_past : (codes : ℕ → Option (List ℕ)) (n : ℕ) → n < 208 * (n % 52) → code_byte codes n ≡ None
 unfolding code_byte
 code_byte_past codes n l =
     cond-false (nat_le (208 * (n % 52)) n) (option_map (λ (code : List ℕ). get_or code ((n - 208 * (n % 52)) % 207) 0)

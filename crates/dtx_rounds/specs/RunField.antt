@@ -1,6 +1,7 @@
 -- A field of a run on its way through a round.
 use Rattle.std.specs.Prelude.{ℕ, ℤ, ◌≡◌, ◌+◌, ◌*◌, ◌<◌, nat_lt, false, if◌then◌else◌, Option, None, is_some, List}
-use Rattle.std.specs.Prelude.{length, slice_index_or}
+use Rattle.std.specs.Prelude.{length, map, slice_index_or}
+use Rattle.std.specs.List.{range_with_len}
 use Rattle.dtx_rounds.specs.Decided.{decided_rows, heard_rows}
 use Rattle.dtx_rounds.specs.FieldRound.{field_cost, field_rounded}
 use Rattle.dtx_rounds.specs.Fields.{rows_of}
@@ -26,5 +27,5 @@ pub record IsInRun (scale : ℕ) (heard given : List (List ℤ)) (codes : ℕ �
   pub heard_are : heard_rows field ≡ rows_of heard f
   pub decided : decided_rows field ≡ rows_of given f
   pub known : (n : ℕ) → n < 64584 → slice_index_or field.known.items n None ≡ code_byte codes (64584 * f + n)
-  pub words : (k : ℕ) → k < 312 → slice_index_or field.words k false ≡ is_some (codes (312 * f + k))
+  pub words : field.words ≡ map (λ k. is_some (codes (312 * f + k))) (range_with_len 0 312)
   pub settled : IsSettled scale field
