@@ -20,3 +20,5 @@ pub mod RefinedLemmas
 pub mod FieldRows
 pub mod OwnRounds
 pub mod StillLemmas
+pub mod RangeSteps
+pub mod MovedRows

@@ -12,7 +12,7 @@ use Rattle.dtx_rounds.specs.declared.field.Field.{Field}
 
 -- how many data segments a field with so many segments has in whole groups: its first segment is its sync
 abbrev pub whole_segments : ℕ → ℕ
-whole_segments count = 4 * ((count - 1) / 4)
+whole_segments count = (count - 1) / 4 * 4
 
 -- the levels of these segments, as they are decided
 unfoldable pub field_levels : Field → List ℕ

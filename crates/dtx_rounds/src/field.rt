@@ -1,6 +1,7 @@
 //! A field of a capture on its way through the rounds.
 
-ghost use Rattle.std.specs.Prelude.{◌≡◌, ◌+◌, ◌-◌, ◌*◌, ◌/◌, ◌<◌, ◌≤◌, length, vec_len};
+ghost use Rattle.std.specs.Prelude.{◌≡◌, ◌+◌, ◌-◌, ◌*◌, ◌/◌, ◌<◌, ◌≤◌, ◌++◌, IfOk, false, drop, length, take, vec_len};
+ghost use Rattle.dtx_rounds.specs.FieldRound.{KnowsNothing, words_known};
 
 use dtx_sizes::{CODEWORD, FIELD_PACKETS, FIELD_SEGMENTS, GROUP_PACKETS, SEGMENT};
 use std::alloc::{AllocError, Global};
@@ -40,8 +41,13 @@ pub struct Field {
 
 impl Field {
     /// A field without segments. The only error is out of memory.
-    pub fn new(alloc: Global) -> Result<Field, AllocError> {
-        Ok(Field {
+    pub fn new(alloc: Global) -> Result<Field, AllocError>
+        ensures count { IfOk result (λ field. field.count ≡ 0) }
+        ensures cost { IfOk result (λ field. field.cost ≡ 0) }
+        ensures nothing { IfOk result (λ field. KnowsNothing field.known.items field.words field.knows_more
+            field.moved) }
+    {
+        let mut field = Field {
             count: 0,
             heard: vec![in alloc; [0i8; SEGMENT]; SEGMENTS]?,
             decided: vec![in alloc; [0i8; SEGMENT]; SEGMENTS]?,
@@ -50,7 +56,9 @@ impl Field {
             words: [false; WORDS],
             knows_more: false,
             moved: 0,
-        })
+        };
+        field.clear();
+        Ok(field)
     }
 
     /// Sets the segments: `heard` has the symbols as they were received, `decided` those that were decided, by paths
@@ -58,6 +66,11 @@ impl Field {
     pub fn set(&mut self, heard: &[[i8; SEGMENT]], decided: &[[i8; SEGMENT]], cost: u64)
         requires few { length heard.now ≤ SEGMENTS }
         requires same { length decided.now ≡ length heard.now }
+        ensures heard { take self.new.count self.new.heard.items ≡ heard.now }
+        ensures decided { take self.new.count self.new.decided.items ≡ decided.now }
+        ensures count { self.new.count ≡ length heard.now }
+        ensures cost { self.new.cost ≡ cost }
+        ensures nothing { KnowsNothing self.new.known.items self.new.words self.new.knows_more self.new.moved }
     {
         self.clear();
         copy(heard, &mut self.heard[..]);
@@ -67,7 +80,11 @@ impl Field {
     }
 
     /// Makes it a field without segments, of which nothing is known.
-    pub(crate) fn clear(&mut self) {
+    pub(crate) fn clear(&mut self)
+        ensures count { self.new.count ≡ 0 }
+        ensures cost { self.new.cost ≡ 0 }
+        ensures nothing { KnowsNothing self.new.known.items self.new.words self.new.knows_more self.new.moved }
+    {
         self.count = 0;
         self.cost = 0;
         self.words = [false; WORDS];
@@ -79,23 +96,26 @@ impl Field {
     }
 
     /// The decided segments.
-    pub fn decided(&self) -> &[[i8; SEGMENT]] {
+    pub fn decided(&self) -> &[[i8; SEGMENT]]
+        ensures { result.now ≡ take self.now.count self.now.decided.items }
+    {
         &self.decided[..self.count]
     }
 
     /// How many data segments are in whole groups.
     pub(crate) fn in_groups(&self) -> usize
+        ensures is { result ≡ (self.now.count - 1) / 4 * 4 }
         ensures few { result ≤ WORDS }
         ensures whole { result ≡ 4 * (result / 4) }
         ensures room { 0 < self.now.count → result < self.now.count }
-        ensures groups { result ≡ 4 * ((self.now.count - 1) / 4) }
     {
         self.count.saturating_sub(1) / GROUP_PACKETS * GROUP_PACKETS
     }
 
     /// How many of the words that begin in this field are known.
     pub(crate) fn known_words(&self) -> u64
-        ensures { result ≤ WORDS }
+        ensures known { result ≡ words_known self.now.words }
+        ensures few { result ≤ WORDS }
     {
         let mut count = 0;
         for k in 0..WORDS {
@@ -110,7 +130,8 @@ impl Field {
 /// Copies segments to the front of others.
 fn copy(from: &[[i8; SEGMENT]], to: &mut [[i8; SEGMENT]])
     requires { length from.now ≤ length to.old }
-    ensures { length to.new ≡ length to.old }
+    ensures copied { to.new ≡ from.now ++ drop (length from.now) to.old }
+    ensures long { length to.new ≡ length to.old }
 {
     to[..from.len()].copy_from_slice(from);
 }

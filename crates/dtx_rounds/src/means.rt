@@ -1,6 +1,6 @@
 //! What all rounds share.
 
-ghost use Rattle.std.specs.Prelude.{◌≡◌, ◌<◌, ◌≤◌, vec_len};
+ghost use Rattle.std.specs.Prelude.{◌≡◌, ◌<◌, ◌≤◌, IfOk, vec_len};
 
 use crate::field::WORDS;
 use crate::words::Corrector;
@@ -31,6 +31,7 @@ impl Means {
     pub(crate) fn new(alloc: Global, scale: u8) -> Result<Means, AllocError>
         requires some { 0 < scale }
         requires most { scale ≤ MAX_SCALE }
+        ensures scale { IfOk result (λ means. means.scale ≡ scale) }
     {
         Ok(Means {
             scale,

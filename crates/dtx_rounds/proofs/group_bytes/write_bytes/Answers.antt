@@ -32,8 +32,8 @@ loop-g-preserved c =
         ∙ ap (drop (1 + 4 * g)) (sym c.deref.ensures.value))
 
 -- the loop ends with the last whole group
-all : (count result g : ℕ) → result ≡ 4 * ((count - 1) / 4) → result / 4 ≤ g → g ≤ result / 4
-    → 4 * ((count - 1) / 4) ≡ 4 * g
+all : (count result g : ℕ) → result ≡ (count - 1) / 4 * 4 → result / 4 ≤ g → g ≤ result / 4
+    → (count - 1) / 4 * 4 ≡ 4 * g
 all count result g e past most = omega (arith, e, past, most)
 
 pub returns-clause-bytes : goal.returns-clause-bytes
@@ -41,7 +41,7 @@ unfolding field_levels
 returns-clause-bytes c =
     written_all (drop 1 c.args.field.now.decided.items) c.args.unroll.now c.loop-g.g
     (whole_segments c.args.field.now.count) c.loop-g.unroll c.loop-g.bytes c.loop-g.invariant
-    (all c.args.field.now.count c.in_groups-g-end.result c.loop-g.g c.in_groups-g-end.ensures.groups
+    (all c.args.field.now.count c.in_groups-g-end.result c.loop-g.g c.in_groups-g-end.ensures.is
     c.loop-g-test.false c.loop-g.auto.g-end)
 
 pub returns-clause-precoder_bits : goal.returns-clause-precoder_bits
@@ -50,5 +50,5 @@ returns-clause-precoder_bits c =
     c.loop-g.invariant.precoder_bits
     ∙ ap (λ n. precoder_bits_after 0 c.args.unroll.now
     (flat_map sliced_data (take n (drop 1 c.args.field.now.decided.items))))
-    (sym (all c.args.field.now.count c.in_groups-g-end.result c.loop-g.g c.in_groups-g-end.ensures.groups
+    (sym (all c.args.field.now.count c.in_groups-g-end.result c.loop-g.g c.in_groups-g-end.ensures.is
     c.loop-g-test.false c.loop-g.auto.g-end))

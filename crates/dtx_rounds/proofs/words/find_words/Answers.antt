@@ -38,8 +38,8 @@ loop-k-preserved c =
 
     same : take (207 * (c.in_groups.result + c.in_groups-2.result)) (c.args.bytes.now ++ c.args.behind.now) ≡ there
     same =
-        ap₂ (λ m n. take (207 * (m + n)) (c.args.bytes.now ++ c.args.behind.now)) c.in_groups.ensures.groups
-        c.in_groups-2.ensures.groups
+        ap₂ (λ m n. take (207 * (m + n)) (c.args.bytes.now ++ c.args.behind.now)) c.in_groups.ensures.is
+        c.in_groups-2.ensures.is
 
     moved : (x y : Field) → c.if-not-field-k.field ≡ x → c.if-not-field-k.next ≡ y
         → AreFound (new_code there (take (k + 1) c.args.field.now.words)) c.args.field.now c.args.next.now x y
