@@ -2,6 +2,7 @@
 use Rattle.std.proofs.Common.{◌≡◌, ℕ, ℤ, zero, suc, ◌+◌, ◌-◌, ◌*◌, ◌/◌, ◌%◌, ◌<◌, ◌≤◌, min, nat_le, nat_lt, ◌&&◌, cond}
 use Rattle.std.proofs.Common.{Option, None, List, [], ◌∷◌, ◌++◌, length, map, take, drop, get_or, refl, sym, ap, ap₂}
 use Rattle.std.proofs.Common.{◌∙◌, arith}
+use Rattle.std.specs.Prelude.{sum}
 use Rattle.std.specs.List.{range_with_len}
 use Rattle.std.proofs.lemmas.List.{drop-drop, ext_get_or, get_or-drop, get_or-take, length-drop, length-take, take-take}
 use Rattle.std.proofs.lemmas.List.FromFn.{get_or-map-range_with_len}
@@ -10,10 +11,11 @@ use Rattle.dtx_trellis.specs.Pairs.{byte_place, group_place}
 use Rattle.dtx_acquire.specs.Acquired.{in_groups}
 use Rattle.dtx_acquire.specs.Scaled.{decided}
 use Rattle.dtx_acquire.specs.Sent.{groups_behind}
-use Rattle.dtx_pins.specs.PinnedField.{pinned}
+use Rattle.dtx_pins.specs.PinnedField.{pinned, pinned_coder_cost}
+use Rattle.dtx_rounds.specs.FieldRound.{field_cost}
 use Rattle.dtx_rounds.specs.Fields.{rows_of}
 use Rattle.dtx_rounds.specs.Pins.{byte_at_step, field_pins, known_pin, pin_of}
-use Rattle.dtx_rounds.specs.Rounds.{groups_in, in_whole_group, paths_in, pins_in, round_segment}
+use Rattle.dtx_rounds.specs.Rounds.{coder_cost, groups_in, in_whole_group, paths_in, pins_in, round_segment}
 use Rattle.dtx_rounds.proofs.RoundLevels.{after, length-after, length-groups}
 
 -- ---- the segments of a field
@@ -28,7 +30,7 @@ pub row_is : (segments : List (List ℤ)) (f i : ℕ) → i < 313
 row_is segments f i l =
     get_or-take 313 (drop (313 * f) segments) i [] l ∙ get_or-drop (313 * f) segments i []
 
-drop_one : (n : ℕ) (xs : List (List ℤ)) → drop 1 (take (suc n) xs) ≡ take n (drop 1 xs)
+pub drop_one : (n : ℕ) (xs : List (List ℤ)) → drop 1 (take (suc n) xs) ≡ take n (drop 1 xs)
 drop_one zero [] = refl
 drop_one (suc n) [] = refl
 drop_one n (x ∷ xs) = refl
@@ -160,3 +162,22 @@ round_in_field scale heard given known all f same =
         ∙ sym (get_or-map-range_with_len (round_segment scale (rows_of heard f) known (rows_of given f)) 0
         (length (rows_of given f)) i i [] within (omega arith)
         ∙ segment_in_field scale heard given known all f i small same)
+
+-- ---- costs
+
+cost_of_coder : (scale : ℕ) (heard : List (List ℤ)) (known all : List (Option ℕ)) (f e : ℕ)
+    → ((n : ℕ) → n < 64584 → get_or known n None ≡ get_or all (64584 * f + n) None)
+    → coder_cost scale (rows_of heard f) known 0 e ≡ coder_cost scale heard all f e
+unfolding coder_cost
+cost_of_coder scale heard known all f e same =
+    ap (λ rows. pinned_coder_cost scale (field_pins known 0 (69 * length rows)) rows e) (groups_rows heard f)
+    ∙ ap (λ pins. pinned_coder_cost scale pins (groups_in heard f) e)
+    (pins_in_field known all f (69 * length (groups_in heard f)) (groups_few heard f) same)
+
+pub cost_in_field : (scale : ℕ) (heard : List (List ℤ)) (known all : List (Option ℕ)) (f : ℕ)
+    → ((n : ℕ) → n < 64584 → get_or known n None ≡ get_or all (64584 * f + n) None)
+    → field_cost scale (rows_of heard f) known ≡ sum (map (coder_cost scale heard all f) (range_with_len 0 12))
+unfolding field_cost
+cost_in_field scale heard known all f same =
+    ap sum (map-range_same (coder_cost scale (rows_of heard f) known 0) (coder_cost scale heard all f) 0 12
+    (λ e a b. cost_of_coder scale heard known all f e same))

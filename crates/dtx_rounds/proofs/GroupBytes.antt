@@ -59,16 +59,21 @@ pub record AreWritten (rows : List (List ℤ)) (from : List ℕ) (g : ℕ) (bits
       ≡ bytes_back 0 from (flat_map sliced_data (take (4 * g) rows))
   pub precoder_bits : bits ≡ precoder_bits_after 0 from (flat_map sliced_data (take (4 * g) rows))
 
+-- no group leaves the precoder bits
+pub bits_none : (from : List ℕ) → length from ≡ 12 → from ≡ precoder_bits_after 0 from []
+unfolding level_groups precoder_bits_after
+bits_none from coders =
+    fill_by_all (precoder_bit 0 from [] 0) from 12 0 coders (λ e l. sym (precoder_bit_zero 0 e from []))
+
 pub written_none : (rows : List (List ℤ)) (from : List ℕ) (groups : List (List ℕ)) → length groups ≡ 78
     → length from ≡ 12 → AreWritten rows from 0 from groups
-unfolding bytes_back level_groups precoder_bits_after
+unfolding bytes_back level_groups
 written_none rows from groups room coders = record {
   room = room;
   coders = coders;
   long = refl;
   bytes = refl;
-  precoder_bits = fill_by_all (precoder_bit 0 from [] 0) from 12 0 coders
-      (λ e l. sym (precoder_bit_zero 0 e from []));
+  precoder_bits = bits_none from coders;
 }
 
 in_field : (g : ℕ) → g < 78 → group_place 0 g ≡ 4 * g

@@ -170,6 +170,9 @@ behind_one k n word l = by_test (is_complete (207 * 312) k) refl
 pub known_items : (field : Field) → length field.known.items ≡ 64584
 known_items field = (let long : field.known.len ≡ 64584 = field.known_long in sym field.known.ok.0 ∙ long)
 
+pub decided_items : (field : Field) → length field.decided.items ≡ 313
+decided_items field = (let long : field.decided.len ≡ 313 = field.decided_long in sym field.decided.ok.0 ∙ long)
+
 -- the items of a vector that were all written
 pub items_written : {A Z : Type 0} (v : Vec A Z) (items : List A) → length items ≡ vec_len v
     → (with_items v items).items ≡ items

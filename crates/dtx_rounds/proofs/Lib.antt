@@ -10,6 +10,8 @@ pub mod FieldRounds
 pub mod RunWords
 pub mod FoundFields
 pub mod TurnedFields
+pub mod HeldFields
+pub mod HeldRounds
 pub mod FieldWords
 pub mod FieldBytes
 pub mod KnownPlaces
