@@ -47,16 +47,40 @@ fn find_paths(means: &mut Means, known: &[Option<u8>], heard: &[[i8; SEGMENT]]) 
         ≡ pinned_cost means.old.scale (field_pins known.now 0 (SEGMENT_ROUNDS * length heard.now)) heard.now }
     ensures scale { means.new.scale ≡ means.old.scale }
 {
-    pin_rows(
+    pin_first(
         &mut means.decoder,
         known,
         heard,
         &mut means.pins[..],
-        &mut means.segments[..heard.len()],
+        &mut means.segments[..],
     )
 }
 
-/// The same with the room for pins and for just these segments.
+/// The same with the room for the pins and the segments of a whole field.
+fn pin_first(
+    decoder: &mut Pinned,
+    known: &[Option<u8>],
+    heard: &[[i8; SEGMENT]],
+    pins: &mut [[u8; CODERS]],
+    paths: &mut [[i8; SEGMENT]],
+) -> u64
+    requires known { length known.now ≡ BYTES }
+    requires few { length heard.now ≤ WORDS }
+    requires whole { length heard.now ≡ GROUP_PACKETS * (length heard.now / GROUP_PACKETS) }
+    requires pins { length pins.old ≡ SEGMENT_ROUNDS * WORDS }
+    requires paths { length paths.old ≡ WORDS }
+    ensures paths { take (length heard.now) paths.new
+        ≡ pinned decoder.old (field_pins known.now 0 (SEGMENT_ROUNDS * length heard.now)) heard.now }
+    ensures cost { result
+        ≡ pinned_cost decoder.old (field_pins known.now 0 (SEGMENT_ROUNDS * length heard.now)) heard.now }
+    ensures scale { decoder.new ≡ decoder.old }
+    ensures pins { length pins.new ≡ length pins.old }
+    ensures long { length paths.new ≡ length paths.old }
+{
+    pin_rows(decoder, known, heard, pins, &mut paths[..heard.len()])
+}
+
+/// The same with the room for just these segments.
 fn pin_rows(
     decoder: &mut Pinned,
     known: &[Option<u8>],
@@ -69,8 +93,10 @@ fn pin_rows(
     requires whole { length heard.now ≡ GROUP_PACKETS * (length heard.now / GROUP_PACKETS) }
     requires pins { length pins.old ≡ SEGMENT_ROUNDS * WORDS }
     requires paths { length paths.old ≡ length heard.now }
-    ensures paths { paths.new ≡ pinned decoder.old (field_pins known.now 0 (SEGMENT_ROUNDS * length heard.now)) heard.now }
-    ensures cost { result ≡ pinned_cost decoder.old (field_pins known.now 0 (SEGMENT_ROUNDS * length heard.now)) heard.now }
+    ensures paths { paths.new
+        ≡ pinned decoder.old (field_pins known.now 0 (SEGMENT_ROUNDS * length heard.now)) heard.now }
+    ensures cost { result
+        ≡ pinned_cost decoder.old (field_pins known.now 0 (SEGMENT_ROUNDS * length heard.now)) heard.now }
     ensures scale { decoder.new ≡ decoder.old }
     ensures pins { length pins.new ≡ length pins.old }
     ensures long { length paths.new ≡ length paths.old }
