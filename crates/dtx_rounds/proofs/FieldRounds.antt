@@ -157,8 +157,8 @@ round_in_field scale heard given known all f same =
         let room : 313 * f + i < length given = omega (arith, l, long, length-rows given f) in
         let within : i < length (rows_of given f) = omega (arith, l, long) in
         row_is (after scale heard all given) f i small
-        ∙ get_or-map-range_with_len (round_segment scale heard all given) 0 (length given) (313 * f + i) (313 * f + i) []
-        room (omega arith)
+        ∙ get_or-map-range_with_len (round_segment scale heard all given) 0 (length given) (313 * f + i) (313 * f + i)
+        [] room (omega arith)
         ∙ sym (get_or-map-range_with_len (round_segment scale (rows_of heard f) known (rows_of given f)) 0
         (length (rows_of given f)) i i [] within (omega arith)
         ∙ segment_in_field scale heard given known all f i small same)

@@ -78,7 +78,8 @@ known_in_field bytes f s m k long there l = by_test (is_complete (207 * s) (312 
         ∙ sym (known_there (drop (64584 * f) bytes) (207 * m) k most
         (complete_in_field f s m k there l ((complete_told (207 * s) (312 * f + k)).0 t)))
     by_test false t =
-        cond-false (is_complete (length bytes) (312 * f + k)) (correction 207 187 (word_at 207 52 4 bytes (312 * f + k)))
-        None (ap (λ n. is_complete n (312 * f + k)) long ∙ t)
+        cond-false (is_complete (length bytes) (312 * f + k))
+        (correction 207 187 (word_at 207 52 4 bytes (312 * f + k))) None
+        (ap (λ n. is_complete n (312 * f + k)) long ∙ t)
         ∙ sym (known_absent (drop (64584 * f) bytes) (207 * m) k most
         (λ c. true≢false (sym ((complete_told (207 * s) (312 * f + k)).1 (complete_in_run f s m k there l c)) ∙ t)))

@@ -1,6 +1,8 @@
 -- A field of a run and the one behind it, once the words are sought that begin in the first.
-use Rattle.std.proofs.Common.{◌≡◌, ℕ, ℤ, ◌+◌, ◌-◌, ◌*◌, ◌/◌, ◌%◌, ◌<◌, ◌≤◌, ◌⊎◌, inl, inr, ◌||◌, ◌&&◌, not, nat_le, Bool}
-use Rattle.std.proofs.Common.{true, false, cond, Option, Some, None, is_some, option_map, List, length, map, get_or, take}
+use Rattle.std.proofs.Common.{◌≡◌, ℕ, ℤ, ◌+◌, ◌-◌, ◌*◌, ◌/◌, ◌%◌, ◌<◌, ◌≤◌, ◌⊎◌, inl, inr, ◌||◌, ◌&&◌, not, nat_le}
+use Rattle.std.proofs.Common.{Bool}
+use Rattle.std.proofs.Common.{true, false, cond, Option, Some, None, is_some, option_map, List, length, map, get_or}
+use Rattle.std.proofs.Common.{take}
 use Rattle.std.proofs.Common.{refl, sym, ap, ap₂, ◌∙◌, arith}
 use Rattle.std.specs.List.{list_any, range_with_len}
 use Rattle.std.proofs.lemmas.Bool.{cases_lt, or_parts, true≢false}
@@ -10,14 +12,17 @@ use Rattle.dtx_receiver.specs.Packets.{is_complete}
 use Rattle.dtx_receiver.proofs.CompleteLemmas.{complete_told}
 use Rattle.dtx_rounds.specs.Decided.{decided_rows, heard_rows}
 use Rattle.dtx_rounds.specs.FieldRound.{field_rounded, field_cost}
-use Rattle.dtx_rounds.specs.Found.{AreFound, IsKept, bytes_with, code_byte, has_code, has_code_behind, new_code, or_else}
+use Rattle.dtx_rounds.specs.Found.{AreFound, IsKept, bytes_with, code_byte, has_code, has_code_behind, new_code}
+use Rattle.dtx_rounds.specs.Found.{or_else}
 use Rattle.dtx_rounds.specs.Found.{words_with}
 use Rattle.dtx_rounds.specs.Known.{known_word}
 use Rattle.dtx_rounds.specs.RunField.{IsInRun, IsSettled, codes_upto}
 use Rattle.dtx_rounds.specs.declared.field.Field.{Field}
-use Rattle.dtx_rounds.proofs.FoundWords.{any_each, byte_with, bytes_from, code_byte_none, length-words, some_or, word_with}
+use Rattle.dtx_rounds.proofs.FoundWords.{any_each, byte_with, bytes_from, code_byte_none, length-words, some_or}
+use Rattle.dtx_rounds.proofs.FoundWords.{word_with}
 use Rattle.dtx_rounds.proofs.LaidWords.{at_place, known_items}
-use Rattle.dtx_rounds.proofs.RunWords.{AreSought, byte_ahead, byte_step, none_behind, sought_word, upto_before, upto_now}
+use Rattle.dtx_rounds.proofs.RunWords.{AreSought, byte_ahead, byte_step, none_behind, sought_word, upto_before}
+use Rattle.dtx_rounds.proofs.RunWords.{upto_now}
 use Rattle.dtx_rounds.proofs.RunWords.{code_byte_at, code_byte_past}
 
 -- ---- where nothing is found
@@ -68,10 +73,14 @@ none_ends_behind there words long e n = by_valid (cases_lt (64584 + n) (208 * ((
         → option_map (λ (code : List ℕ). get_or code (p % 207) 0) o ≡ None
     by_word valid None h place = refl
     by_word valid (Some code) h (inl l) =
-        absurd (omega (arith, (complete_told (207 * 312) (p / 207)).0
-        (ends (codes (p / 207)) (is_complete (207 * 312) (p / 207)) (ap is_some h)
-        (any_each (λ k. is_some (codes k) && not (is_complete (207 * 312) k)) 0 312 (p / 207) e (omega arith)
-        (omega (arith, l)))) (p % 207) (omega arith), at_place (p / 207) (64584 + n) valid refl))
+        absurd (omega (
+          arith,
+          (complete_told (207 * 312) (p / 207)).0
+              (ends (codes (p / 207)) (is_complete (207 * 312) (p / 207)) (ap is_some h)
+              (any_each (λ k. is_some (codes k) && not (is_complete (207 * 312) k)) 0 312 (p / 207) e (omega arith)
+              (omega (arith, l)))) (p % 207) (omega arith),
+          at_place (p / 207) (64584 + n) valid refl,
+        ))
     by_word valid (Some code) h (inr l) =
         absurd (none_some code (sym (none_behind there words (p / 207) (omega (arith, l, long))) ∙ h))
 
@@ -138,9 +147,11 @@ found_field scale f heard given before now there a b p q h s r = record {
 
     still : p.knows_more ≡ false → (a.knows_more ≡ false) × (p.known.items ≡ a.known.items)
     still e =
-        let parts = or_parts a.knows_more (has_code (new_code there a.words) 312) (sym r.more ∙ e) in
-        (parts.0, r.known ∙ bytes_stay (new_code there a.words) 0 a.known.items
-        (λ n. code_byte_none (new_code there a.words) (0 + n) (none_found there a.words s.long parts.1)))
+        let parts = or_parts a.knows_more (has_code (new_code there a.words) 312) (sym r.more ∙ e) in (
+          parts.0,
+          r.known ∙ bytes_stay (new_code there a.words) 0 a.known.items
+              (λ n. code_byte_none (new_code there a.words) (0 + n) (none_found there a.words s.long parts.1)),
+        )
 
 pub found_behind : (scale f : ℕ) (heard given : List (List ℤ)) (before now there : List ℕ) (a b p q : Field)
     → IsInRun scale heard given (known_word before) (f + 1) b
@@ -172,6 +183,8 @@ found_behind scale f heard given before now there a b p q h s r = record {
 
     still : q.knows_more ≡ false → (b.knows_more ≡ false) × (q.known.items ≡ b.known.items)
     still e =
-        let parts = or_parts b.knows_more (has_code_behind (new_code there a.words) 312) (sym r.next_more ∙ e) in
-        (parts.0, r.next_known ∙ bytes_stay (new_code there a.words) 64584 b.known.items
-        (none_ends_behind there a.words s.long parts.1))
+        let parts = or_parts b.knows_more (has_code_behind (new_code there a.words) 312) (sym r.next_more ∙ e) in (
+          parts.0,
+          r.next_known ∙ bytes_stay (new_code there a.words) 64584 b.known.items
+              (none_ends_behind there a.words s.long parts.1),
+        )

@@ -108,8 +108,8 @@ code_byte_none codes n none = by_test (nat_le (208 * (n % 52)) n)
     by_code o e = ap (option_map (λ (code : List ℕ). get_or code ((n - 208 * (n % 52)) % 207) 0)) e
 
     by_test : (b : Bool) → cond b
-        (option_map (λ (code : List ℕ). get_or code ((n - 208 * (n % 52)) % 207) 0) (codes ((n - 208 * (n % 52)) / 207)))
-        None ≡ None
+        (option_map (λ (code : List ℕ). get_or code ((n - 208 * (n % 52)) % 207) 0)
+        (codes ((n - 208 * (n % 52)) / 207))) None ≡ None
     by_test true = by_code (codes ((n - 208 * (n % 52)) / 207)) (none ((n - 208 * (n % 52)) / 207))
     by_test false = refl
 

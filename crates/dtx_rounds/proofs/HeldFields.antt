@@ -1,5 +1,6 @@
 -- A round over a run holds one field, until the next one comes or the run ends.
-use Rattle.std.proofs.Common.{◌≡◌, ℕ, ℤ, zero, suc, ◌+◌, ◌-◌, ◌*◌, ◌/◌, ◌%◌, ◌<◌, ◌≤◌, ◌⊎◌, inl, inr, min, Bool, false, Option, None}
+use Rattle.std.proofs.Common.{◌≡◌, ℕ, ℤ, zero, suc, ◌+◌, ◌-◌, ◌*◌, ◌/◌, ◌%◌, ◌<◌, ◌≤◌, ◌⊎◌, inl, inr, min, Bool}
+use Rattle.std.proofs.Common.{false, Option, None}
 use Rattle.std.proofs.Common.{is_some, List, [], ◌++◌, length, map, get_or, take, drop, refl, sym, ap, ap₂, ◌∙◌, subst}
 use Rattle.std.proofs.Common.{arith}
 use Rattle.std.specs.List.{flat_map, range_with_len}
@@ -116,8 +117,11 @@ levels_are given f field count rows =
     sym (ap (flat_map sliced_data) (front_rows (whole_segments field.count) field.count field.decided.items
     (whole_few field.count)))
     ∙ ap₂ (λ n (xs : List (List ℤ)). flat_map sliced_data (take (whole_segments n) (drop 1 xs))) count rows
-    ∙ sym (levels_rows given f (whole_in given f) (omega (arith, whole_few (length (rows_of given f)),
-    length-drop 1 (rows_of given f))))
+    ∙ sym (levels_rows given f (whole_in given f) (omega (
+      arith,
+      whole_few (length (rows_of given f)),
+      length-drop 1 (rows_of given f),
+    )))
 
 room_in_run : (n f : ℕ) → 313 * f < n
     → 312 * f + (min 313 (n - 313 * f) - 1) / 4 * 4 ≤ 4 * ((n - (n + 312) / 313) / 4)
@@ -129,9 +133,9 @@ room given f l =
     subst (λ c. 312 * f + whole_segments c ≤ 4 * ((length given - (length given + 312) / 313) / 4))
     (sym (length-rows given f)) (room_in_run (length given) f l)
 
-pub written_bytes : (given : List (List ℤ)) (f : ℕ) (field : Field) (bits : List ℕ) (groups : List (List ℕ)) → AreLong given
-    → 313 * f < length given → field.count ≡ length (rows_of given f) → decided_rows field ≡ rows_of given f
-    → bits ≡ bits_before given (312 * f)
+pub written_bytes : (given : List (List ℤ)) (f : ℕ) (field : Field) (bits : List ℕ) (groups : List (List ℕ))
+    → AreLong given → 313 * f < length given → field.count ≡ length (rows_of given f)
+    → decided_rows field ≡ rows_of given f → bits ≡ bits_before given (312 * f)
     → take (207 * whole_segments field.count) (flat_map (λ group. group) groups)
     ≡ bytes_back 0 bits (field_levels field)
     → take (207 * whole_in given f) (flat_map (λ group. group) groups)

@@ -1,5 +1,6 @@
 -- A round over the fields of a run: it begins with the first, goes from each to the next one, and ends with the last.
-use Rattle.std.proofs.Common.{◌≡◌, ℕ, ℤ, ◌+◌, ◌-◌, ◌*◌, ◌/◌, ◌%◌, ◌<◌, ◌≤◌, min, Bool, Option, None, is_some, List, [], ◌++◌}
+use Rattle.std.proofs.Common.{◌≡◌, ℕ, ℤ, ◌+◌, ◌-◌, ◌*◌, ◌/◌, ◌%◌, ◌<◌, ◌≤◌, min, Bool, Option, None, is_some, List}
+use Rattle.std.proofs.Common.{[], ◌++◌}
 use Rattle.std.proofs.Common.{length, map, get_or, take, drop, refl, sym, ap, ap₂, ◌∙◌, subst, arith}
 use Rattle.std.specs.List.{flat_map, range_with_len}
 use Rattle.std.proofs.lemmas.List.{drop-drop, drop_at, get_or-take, length-append, length-take-le, take-append-le}
@@ -113,14 +114,14 @@ pub held_next : (scale f : ℕ) (heard given : List (List ℤ)) (before : List �
 unfolding bytes_there groups_of data_count
 held_next scale f heard given before held field new new_next groups behind bits new_bits long stays more h k full
     written after t = (
-  rounded_from scale f heard given before own other held field new new_next long h.held sought t,
-  record {
-    held = found_behind scale f heard given before (bytes_in given) (bytes_there held field own other) held field
-        t.between new_next k sought t.words;
-    bytes = next;
-    bits_are = written_bits given (f + 1) field bits new_bits long more k.count k.decided here after;
-  },
-)
+      rounded_from scale f heard given before own other held field new new_next long h.held sought t,
+      record {
+        held = found_behind scale f heard given before (bytes_in given) (bytes_there held field own other) held field
+            t.between new_next k sought t.words;
+        bytes = next;
+        bits_are = written_bits given (f + 1) field bits new_bits long more k.count k.decided here after;
+      },
+    )
   where
     own : List ℕ
     own = flat_map (λ group. group) groups

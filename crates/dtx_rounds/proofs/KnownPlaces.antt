@@ -22,8 +22,13 @@ known_past bytes n l = by_test (nat_le (208 * (n % 52)) n) refl
         → option_map (λ (code : List ℕ). get_or code (p % 207) 0) o ≡ None
     by_word None e m = refl
     by_word (Some code) e m =
-        absurd (omega (arith, l, known_place bytes (p / 207) (p % 207) code (known_parts bytes (p / 207) code e)
-        (omega arith), at_place (p / 207) n m refl))
+        absurd (omega (
+          arith,
+          l,
+          known_place bytes (p / 207) (p % 207) code (known_parts bytes (p / 207) code e)
+              (omega arith),
+          at_place (p / 207) n m refl,
+        ))
 
     by_test : (b : Bool) → nat_le (208 * (n % 52)) n ≡ b
         → cond b (option_map (λ (code : List ℕ). get_or code (p % 207) 0) (known_word bytes (p / 207))) None ≡ None

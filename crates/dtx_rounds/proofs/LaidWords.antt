@@ -1,7 +1,9 @@
 -- One word of a field, laid back to its places, and the words of a field that are sought one behind the other.
 use Rattle.std.proofs.Common.{◌≡◌, ◌≢◌, ℕ, ◌+◌, ◌-◌, ◌*◌, ◌/◌, ◌%◌, ◌<◌, ◌≤◌, ◌⊎◌, inl, inr, ◌==◌, ◌++◌, ◌||◌, ◌&&◌}
-use Rattle.std.proofs.Common.{not, nat_le, Bool, true, false, cond, Option, Some, None, is_some, option_map, List, length}
-use Rattle.std.proofs.Common.{get_or, set, take, drop, get_or-set_other, get_or-set_same, length-set, refl, sym, ap, ap₂, ◌∙◌}
+use Rattle.std.proofs.Common.{not, nat_le, Bool, true, false, cond, Option, Some, None, is_some, option_map, List}
+use Rattle.std.proofs.Common.{length}
+use Rattle.std.proofs.Common.{get_or, set, take, drop, get_or-set_other, get_or-set_same, length-set, refl, sym, ap}
+use Rattle.std.proofs.Common.{ap₂, ◌∙◌}
 use Rattle.std.proofs.Common.{arith}
 use Rattle.std.specs.List.{list_any, range_with_len}
 use Rattle.std.proofs.lemmas.Bool.{cases_eq, cases_lt, cond-true, cond-false, eq-eqb, eqb-true, le-leb, leb-true}
@@ -181,7 +183,8 @@ items_written v items e = take_at items (drop (length items) v.items) v.len e
 -- The fields after one word was laid back. `entry` says so place by place.
 pub found_one : (k : ℕ) (word : List ℕ) (field next new new_next : Field) → k < 312
     → length field.words ≡ 312
-    → ((j : ℕ) → j < 207 → get_or (new.known.items ++ new_next.known.items) (codeword_byte_place 52 4 (207 * k + j)) None
+    → ((j : ℕ) → j < 207
+    → get_or (new.known.items ++ new_next.known.items) (codeword_byte_place 52 4 (207 * k + j)) None
     ≡ Some (get_or word j 0))
     → ((n : ℕ) → ((j : ℕ) → j < 207 → n ≢ codeword_byte_place 52 4 (207 * k + j))
     → get_or (new.known.items ++ new_next.known.items) n None
@@ -291,7 +294,8 @@ own_word : (bytes : List ℕ) (k : ℕ) (a b p q : Field) → k < length a.words
     → AreFound (new_code bytes (take k a.words)) a b p q → get_or a.words k true ≡ get_or p.words k false
 own_word bytes k a b p q l h =
     get_or_default a.words k true false l ∙ or_false (get_or a.words k false)
-    ∙ ap (λ o. get_or a.words k false || is_some o) (sym (sought_past bytes a.words k k (omega (arith, l)) (omega arith)))
+    ∙ ap (λ o. get_or a.words k false || is_some o)
+    (sym (sought_past bytes a.words k k (omega (arith, l)) (omega arith)))
     ∙ sym (word_with (new_code bytes (take k a.words)) a.words k l)
     ∙ ap (λ (ws : List Bool). get_or ws k false) (sym h.words)
 

@@ -26,7 +26,8 @@ bytes_there field next bytes behind =
 
 -- ---- corrections
 
--- The correction of word k of these bytes, where the word isn't known yet. Behind the words of the field none is sought.
+-- The correction of word k of these bytes, where the word isn't known yet. Behind the words of the field none is
+-- sought.
 unfoldable pub new_code : List ℕ → List Bool → ℕ → Option (List ℕ)
 new_code bytes words k = if slice_index_or words k true then None else known_word bytes k
 

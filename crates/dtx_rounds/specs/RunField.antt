@@ -16,8 +16,8 @@ use Rattle.dtx_rounds.specs.declared.field.Field.{Field}
 abbrev pub StayKnown : (before now : List ℕ) → Type 0
 StayKnown before now = (k : ℕ) (code : List ℕ) → known_word before k ≡ Some code → known_word now k ≡ Some code
 
--- The corrections of a run's words. Those of the first m words are sought among the bytes `now`, and those of the others
--- among the bytes `before`, which the run had before the last round.
+-- The corrections of a run's words. Those of the first m words are sought among the bytes `now`, and those of the
+-- others among the bytes `before`, which the run had before the last round.
 unfoldable pub codes_upto : (before now : List ℕ) → ℕ → ℕ → Option (List ℕ)
 codes_upto before now m k = if nat_lt k m then known_word now k else known_word before k
 

@@ -12,8 +12,13 @@ returns-then-is_whole c =
     (c.is_whole.ensures.0 c.if-is_whole.true))
   where
     room : 207 * c.args.segments ≤ length (c.args.bytes.now ++ c.args.behind.now)
-    room = omega (arith, c.requires.bytes, c.requires.behind, c.requires.most,
-        length-append c.args.bytes.now c.args.behind.now)
+    room = omega (
+      arith,
+      c.requires.bytes,
+      c.requires.behind,
+      c.requires.most,
+      length-append c.args.bytes.now c.args.behind.now,
+    )
 
 pub returns-else-is_whole : goal.returns-else-is_whole
 returns-else-is_whole c =
@@ -21,5 +26,10 @@ returns-else-is_whole c =
     (λ h. true≢false (sym (c.is_whole.ensures.1 h) ∙ c.if-is_whole.false)))
   where
     room : 207 * c.args.segments ≤ length (c.args.bytes.now ++ c.args.behind.now)
-    room = omega (arith, c.requires.bytes, c.requires.behind, c.requires.most,
-        length-append c.args.bytes.now c.args.behind.now)
+    room = omega (
+      arith,
+      c.requires.bytes,
+      c.requires.behind,
+      c.requires.most,
+      length-append c.args.bytes.now c.args.behind.now,
+    )

@@ -14,10 +14,10 @@ further p k n m b e f g =
 pub loop-k-preserved : goal.loop-k-preserved
 loop-k-preserved c = record {
   known = elim c.if-self-k.branch [
-    then-self-k w ↦ further _ c.loop-k.k c.loop-k.count _ true c.loop-k.invariant.known w.if-self-k.true w.count-is
+    | then-self-k w ↦ further _ c.loop-k.k c.loop-k.count _ true c.loop-k.invariant.known w.if-self-k.true w.count-is
     | else-self-k w ↦
-      further _ c.loop-k.k c.loop-k.count _ false c.loop-k.invariant.known w.if-self-k.false
-      (w.count-is ∙ omega arith)
+        further _ c.loop-k.k c.loop-k.count _ false c.loop-k.invariant.known w.if-self-k.false
+        (w.count-is ∙ omega arith)
   ];
   few = elim c.if-self-k.branch [ then-self-k w ↦ omega arith | else-self-k w ↦ omega arith ];
 }
