@@ -24,3 +24,4 @@ pub mod OwnRounds
 pub mod StillLemmas
 pub mod RangeSteps
 pub mod MovedRows
+pub mod RowsRounded

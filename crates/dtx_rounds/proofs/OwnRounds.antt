@@ -56,7 +56,7 @@ row_place : (d : ℕ) → 313 * (d / 312) + 1 + d % 312 ≡ d + d / 312 + 1
 row_place d = omega arith
 
 -- a row of a field's groups
-group_row : (segments : List (List ℤ)) (f i : ℕ) → i < length (groups_in segments f)
+pub group_row : (segments : List (List ℤ)) (f i : ℕ) → i < length (groups_in segments f)
     → get_or (groups_in segments f) i [] ≡ get_or segments (313 * f + 1 + i) []
 unfolding groups_behind in_groups
 group_row segments f i l =

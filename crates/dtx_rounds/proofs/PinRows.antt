@@ -10,13 +10,13 @@ use Rattle.dtx_rounds.specs.Pins.{byte_at_step, field_pins, known_pin, pin_of}
 
 -- ---- a list of which a part was written
 
-pub mid_before : (a k i : ℕ) (xs ys : List (List ℕ)) → i < a → a ≤ length xs
+pub mid_before : {X : Type 0} (a k i : ℕ) (xs ys : List (List X)) → i < a → a ≤ length xs
     → get_or (put_mid a k xs ys) i [] ≡ get_or xs i []
 mid_before a k i xs ys l m =
     get_or_append_left (take a xs) (ys ++ post_of a k xs) [] i (omega (arith, l, length-take-le a xs m))
     ∙ get_or-take a xs i [] l
 
-pub mid_at : (a k i : ℕ) (xs ys : List (List ℕ)) → i < length ys → a ≤ length xs
+pub mid_at : {X : Type 0} (a k i : ℕ) (xs ys : List (List X)) → i < length ys → a ≤ length xs
     → get_or (put_mid a k xs ys) (a + i) [] ≡ get_or ys i []
 mid_at a k i xs ys l m =
     let back : a + i - a ≡ i = omega arith in
