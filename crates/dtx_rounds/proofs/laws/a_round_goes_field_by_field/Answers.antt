@@ -4,11 +4,6 @@ use Rattle.dtx_rounds.specs.FieldRound.{field_rounded}
 use Rattle.dtx_rounds.specs.Known.{known_bytes}
 use Rattle.dtx_rounds.specs.Rounds.{rounded}
 use Rattle.dtx_rounds.proofs.FieldRounds.{round_in_field}
-use Rattle.dtx_rounds.proofs.RunWords.{known_byte_same}
-use Rattle.dtx_rounds.proofs.FoundFields.{found_field}
-use Rattle.dtx_rounds.proofs.TurnedFields.{turned_field}
-use Rattle.dtx_rounds.proofs.FieldWords.{known_in_field}
-use Rattle.dtx_rounds.proofs.FieldBytes.{bytes_in_field}
 use Rattle.dtx_rounds.proofs.KnownPlaces.{known_entry}
 use Rattle.dtx_rounds.proofs.laws.a_round_goes_field_by_field.Goals as goal
 

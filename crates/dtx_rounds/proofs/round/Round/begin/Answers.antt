@@ -1,4 +1,4 @@
-use Rattle.std.proofs.Common.{◌≡◌, ◌∙◌, ℕ, ◌*◌, List, [], get_or, length, take, sym, ap, ap₂, subst, arith}
+use Rattle.std.proofs.Common.{◌≡◌, ◌∙◌, ℕ, ◌*◌, List, [], length, take, sym, ap, subst, arith}
 use Rattle.std.specs.List.{flat_map}
 use Rattle.std.specs.Vec.{with_items}
 use Rattle.dtx_slice.specs.Slicing.{sliced_last}
