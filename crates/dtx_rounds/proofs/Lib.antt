@@ -19,6 +19,7 @@ pub mod Kept
 pub mod Growing
 pub mod RoundsLemmas
 pub mod RefinedLemmas
+pub mod PassedRounds
 pub mod FieldRows
 pub mod OwnRounds
 pub mod StillLemmas

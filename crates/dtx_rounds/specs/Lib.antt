@@ -6,3 +6,4 @@ pub mod Fields
 pub mod FieldRound
 pub mod Decided
 pub mod RunField
+pub mod RunRounds

@@ -1,6 +1,11 @@
 //! Rounds, one behind the other.
 
-ghost use Rattle.std.specs.Prelude.{◌<◌, ◌≤◌};
+ghost use Rattle.std.specs.Prelude.{◌≡◌, ◌-◌, ◌*◌, ◌<◌, ◌≤◌, ℕ, ℤ, false, List, length};
+ghost use Rattle.dtx_receiver.specs.Bytes.{bytes_in};
+ghost use Rattle.dtx_rounds.specs.Known.{known_word};
+ghost use Rattle.dtx_rounds.specs.Rounds.{rounded};
+ghost use Rattle.dtx_rounds.specs.RunField.{IsInRun};
+ghost use Rattle.dtx_rounds.specs.RunRounds.{AreAt, IsAt, IsEnded, IsEndedFirst, IsPassed, IsRun, given_by};
 
 use crate::field::Field;
 use crate::means::Means;
@@ -40,31 +45,28 @@ impl Rounds {
     /// Takes the next field of a capture. Where a field has had all rounds, it is given in its place, and the answer is
     /// true.
     pub fn take(&mut self, field: &mut Field) -> bool {
-        self.pass(0, field)
+        let given = pass(&mut self.means, &mut self.rounds[..], field);
+        if given {
+            self.count(field);
+        }
+        given
     }
 
     /// Ends the fields: gives the next of those that are held, and the answer is false where there is none. The caller
     /// calls until then.
     pub fn finish(&mut self, field: &mut Field) -> bool {
-        for i in 0..self.rounds.len() {
-            if self.rounds[i].finish(&mut self.means, field) && self.pass(i + 1, field) {
-                return true;
-            }
+        let given = end(&mut self.means, &mut self.rounds[..], field);
+        if given {
+            self.count(field);
         }
-        false
+        given
     }
 
-    /// Passes a field through the rounds from number `from` on.
-    fn pass(&mut self, from: usize, field: &mut Field) -> bool {
-        for i in from..self.rounds.len() {
-            if !self.rounds[i].take(&mut self.means, field) {
-                return false;
-            }
-        }
+    /// Counts a field that had all rounds.
+    fn count(&mut self, field: &Field) {
         self.cost += field.cost;
         self.known += field.known_words();
         self.moved += field.moved;
-        true
     }
 
     /// The sum of the costs of the least paths of the fields that were given.
@@ -80,5 +82,65 @@ impl Rounds {
     /// In how many symbols the last round's segments differ from those it was given.
     pub fn moved(&self) -> u64 {
         self.moved
+    }
+}
+
+/// Passes a field through rounds. Where one of them holds none yet, that one keeps it, and the answer is false.
+fn pass(means: &mut Means, rounds: &mut [Round], field: &mut Field) -> bool
+    ensures scale { means.new.scale ≡ means.old.scale }
+    ensures passed { (heard given : List (List ℤ)) (before : List ℕ) (t : ℕ) → IsRun heard given before
+        → 313 * t < length given → AreAt means.old.scale heard given before t rounds.old
+        → IsInRun means.old.scale heard given (known_word before) t field.old
+        → IsPassed means.old.scale heard given before t rounds.old rounds.new result field.new }
+{
+    match rounds.split_first_mut() {
+        None => true,
+        Some((round, rest)) => {
+            if round.take(means, field) {
+                pass(means, rest, field)
+            } else {
+                false
+            }
+        }
+    }
+}
+
+/// Gives the next field of those that rounds hold, once no more comes to the first of them. The answer is false where
+/// none is held.
+fn end(means: &mut Means, rounds: &mut [Round], field: &mut Field) -> bool
+    ensures scale { means.new.scale ≡ means.old.scale }
+    ensures ended { (heard given : List (List ℤ)) (before : List ℕ) (t : ℕ) → IsRun heard given before
+        → length given ≤ 313 * t → 313 * (t - 1) < length given
+        → AreAt means.old.scale heard given before t rounds.old
+        → IsEnded means.old.scale heard given before t rounds.old rounds.new result field.new }
+{
+    match rounds.split_first_mut() {
+        None => false,
+        Some((round, rest)) => {
+            if end_first(means, round, rest, field) {
+                true
+            } else {
+                end(means, rest, field)
+            }
+        }
+    }
+}
+
+/// Ends the first of some rounds, and passes the field that it gives through the others.
+fn end_first(means: &mut Means, round: &mut Round, rest: &mut [Round], field: &mut Field) -> bool
+    ensures scale { means.new.scale ≡ means.old.scale }
+    ensures off { round.new.on ≡ false }
+    ensures ended { (heard given : List (List ℤ)) (before : List ℕ) (t : ℕ) → IsRun heard given before
+        → length given ≤ 313 * t → 313 * (t - 1) < length given
+        → IsAt means.old.scale heard given before t round.old
+        → AreAt means.old.scale heard (rounded means.old.scale heard given) (bytes_in given) (given_by round.old t)
+        rest.old
+        → IsEndedFirst means.old.scale heard (rounded means.old.scale heard given) (bytes_in given) t
+        (given_by round.old t) rest.old rest.new result field.new }
+{
+    if round.finish(means, field) {
+        pass(means, rest, field)
+    } else {
+        false
     }
 }
