@@ -13,3 +13,4 @@ pub mod StillLemmas
 pub mod RangeSteps
 pub mod MovedRows
 pub mod RowsRounded
+pub mod FieldRounds
