@@ -1,13 +1,15 @@
 -- A round over a field alone is what the round over the run makes of that field. A field of which no byte more is known
 -- stays.
-use Rattle.std.proofs.Common.{◌≡◌, ℕ, ℤ, ◌+◌, ◌-◌, ◌*◌, ◌/◌, ◌%◌, ◌<◌, ◌≤◌, ◌⊎◌, inl, inr, min, nat_le, nat_lt, Bool, true}
+use Rattle.std.proofs.Common.{◌≡◌, ℕ, ℤ, zero, suc, ◌+◌, ◌-◌, ◌*◌, ◌/◌, ◌%◌, ◌<◌, ◌≤◌, ◌⊎◌, inl, inr, min, nat_le, nat_lt, Bool, true}
 use Rattle.std.proofs.Common.{false, cond, ◌&&◌, Option, None, List, [], ◌++◌, length, map, take, drop, get_or, sum}
 use Rattle.std.proofs.Common.{refl, sym, ap, ap₂, ◌∙◌, subst, arith}
 use Rattle.std.specs.List.{range_with_len}
-use Rattle.std.proofs.lemmas.Bool.{cases_Bool, cond-false, cond-true}
+use Rattle.std.proofs.lemmas.Bool.{cases_lt}
 use Rattle.std.proofs.lemmas.List.{get_or-drop, get_or-take, length-drop, length-take, length-take-le, take_at}
 use Rattle.std.proofs.lemmas.List.FromFn.{get_or-map-range_with_len, length-map-range_with_len}
 use Rattle.dtx_lists.proofs.Range.{map-range_same}
+use Rattle.dtx_lists.proofs.RangeMoved.{map-range_moved}
+use Rattle.dtx_lists.proofs.RangeSums.{over, over_parts}
 use Rattle.dtx_trellis.specs.Pairs.{byte_place, group_place}
 use Rattle.dtx_receiver.specs.Bytes.{bytes_in}
 use Rattle.dtx_acquire.specs.Scaled.{decided}
@@ -16,9 +18,10 @@ use Rattle.dtx_rounds.specs.FieldRound.{field_cost, field_rounded, rows_moved}
 use Rattle.dtx_rounds.specs.Known.{known_bytes}
 use Rattle.dtx_rounds.specs.Pins.{byte_at_step, field_pins, known_pin, pin_of}
 use Rattle.dtx_rounds.specs.Rounds.{coder_cost, groups_in, in_whole_group, moved_in, paths_in, pins_in, round_segment}
-use Rattle.dtx_rounds.specs.Rounds.{rounded}
+use Rattle.dtx_rounds.specs.Rounds.{fields_in, rounded}
 use Rattle.dtx_rounds.proofs.OwnRounds.{group_row}
 use Rattle.dtx_rounds.proofs.RoundLevels.{after, length-after, length-groups, same_groups}
+use Rattle.dtx_rounds.proofs.RangeSteps.{sum_next}
 use Rattle.dtx_rounds.proofs.RowsRounded.{same_items}
 use Rattle.dtx_rounds.proofs.RunLevels.{AreLong}
 
@@ -32,11 +35,11 @@ rows_of segments f = take 313 (drop (313 * f) segments)
 abbrev pub KnowSame : List (Option ℕ) → ℕ → List (Option ℕ) → ℕ → Type 0
 KnowSame known f other g = (n : ℕ) → n < 64584 → get_or known (64584 * f + n) None ≡ get_or other (64584 * g + n) None
 
-length-rows : (segments : List (List ℤ)) (f : ℕ) → length (rows_of segments f) ≡ min 313 (length segments - 313 * f)
+pub length-rows : (segments : List (List ℤ)) (f : ℕ) → length (rows_of segments f) ≡ min 313 (length segments - 313 * f)
 length-rows segments f =
     length-take 313 (drop (313 * f) segments) ∙ ap (min 313) (length-drop (313 * f) segments)
 
-row_of : (segments : List (List ℤ)) (f i : ℕ) → i < 313
+pub row_of : (segments : List (List ℤ)) (f i : ℕ) → i < 313
     → get_or (rows_of segments f) i [] ≡ get_or segments (313 * f + i) []
 row_of segments f i l = get_or-take 313 (drop (313 * f) segments) i [] l ∙ get_or-drop (313 * f) segments i []
 
@@ -65,7 +68,7 @@ groups_of_rows segments f =
 -- ---- pins
 
 -- the place of a coder's byte, from the field's first on
-byte_in_field : (e f t : ℕ) → t < 21528 → byte_at_step e (21528 * f + t) ≡ 64584 * f + byte_at_step e t
+pub byte_in_field : (e f t : ℕ) → t < 21528 → byte_at_step e (21528 * f + t) ≡ 64584 * f + byte_at_step e t
 unfolding byte_at_step byte_place group_place
 byte_in_field e f t l =
     by_group (t / 276) (omega arith) (omega arith) (omega arith)
@@ -90,7 +93,7 @@ byte_in_field e f t l =
         whole : (f u x : ℕ) → 828 * (78 * f + u) + x ≡ 64584 * f + (828 * u + x)
         whole f u x = omega arith
 
-byte_within : (e t : ℕ) → e < 12 → t < 21528 → byte_at_step e t < 64584
+pub byte_within : (e t : ℕ) → e < 12 → t < 21528 → byte_at_step e t < 64584
 unfolding byte_at_step byte_place group_place
 byte_within e t l m = omega arith
 
@@ -165,7 +168,7 @@ field_segment scale heard given known part f i same l =
     (ap (λ j. get_or (rows_of given f) j []) (sym first) ∙ row_of given f i l)
     ∙ sym (cell_is scale heard given known f i l)
 
-row_after : (scale : ℕ) (heard given : List (List ℤ)) (known : List (Option ℕ)) (f i : ℕ)
+pub row_after : (scale : ℕ) (heard given : List (List ℤ)) (known : List (Option ℕ)) (f i : ℕ)
     → i < length (rows_of given f)
     → get_or (rows_of (after scale heard known given) f) i [] ≡ round_segment scale heard known given (313 * f + i)
 row_after scale heard given known f i l =
@@ -219,6 +222,54 @@ field_moves given new f =
     (λ i. moved_in (get_or given (313 * f + i) []) (get_or new (313 * f + i) [])) 0 (length (rows_of given f))
     (λ i a l. ap₂ moved_in (row_of given f i (omega (arith, l, length-rows given f)))
     (row_of new f i (omega (arith, l, length-rows given f)))))
+
+-- the numbers below n and below the whole, field by field
+sum_of_fields : (h : ℕ → ℕ) (whole n : ℕ)
+    → sum (map (λ f. over h (313 * f) (min 313 (whole - 313 * f))) (range_with_len 0 n)) ≡ over h 0 (min (313 * n) whole)
+sum_of_fields h whole zero = (let none : 0 ≡ min (313 * 0) whole = omega arith in ap (over h 0) none)
+sum_of_fields h whole (suc n) =
+    let next : suc n ≡ n + 1 = omega arith in
+    ap (λ m. sum (map (λ f. over h (313 * f) (min 313 (whole - 313 * f))) (range_with_len 0 m))) next
+    ∙ sum_next (λ f. over h (313 * f) (min 313 (whole - 313 * f))) n
+    ∙ ap (λ x. x + over h (313 * n) (min 313 (whole - 313 * n))) (sum_of_fields h whole n)
+    ∙ by_room (cases_lt whole (313 * n))
+  where
+    by_room : (whole < 313 * n) ⊎ (313 * n ≤ whole)
+        → over h 0 (min (313 * n) whole) + over h (313 * n) (min 313 (whole - 313 * n))
+        ≡ over h 0 (min (313 * suc n) whole)
+    by_room (inl past) =
+        let none : min 313 (whole - 313 * n) ≡ 0 = omega arith in
+        let same : min (313 * n) whole + 0 ≡ min (313 * suc n) whole = omega arith in
+        ap (λ m. over h 0 (min (313 * n) whole) + over h (313 * n) m) none
+        ∙ sym (over_parts h 0 (min (313 * n) whole) 0)
+        ∙ ap (over h 0) same
+    by_room (inr more) =
+        let all : min (313 * n) whole ≡ 313 * n = omega arith in
+        let start : 313 * n ≡ 0 + 313 * n = omega arith in
+        let both : 313 * n + min 313 (whole - 313 * n) ≡ min (313 * suc n) whole = omega arith in
+        ap₂ (λ m a. over h 0 m + over h a (min 313 (whole - 313 * n))) all start
+        ∙ sym (over_parts h 0 (313 * n) (min 313 (whole - 313 * n)))
+        ∙ ap (over h 0) both
+
+-- what moves in all fields is what moves in all segments
+pub moves_of_fields : (given new : List (List ℤ))
+    → sum (map (λ f. rows_moved (rows_of given f) (rows_of new f)) (range_with_len 0 (fields_in given)))
+    ≡ sum (map (λ i. moved_in (get_or given i []) (get_or new i [])) (range_with_len 0 (length given)))
+moves_of_fields given new =
+    ap sum (map-range_same (λ f. rows_moved (rows_of given f) (rows_of new f))
+    (λ f. over h (313 * f) (min 313 (length given - 313 * f))) 0 (fields_in given)
+    (λ f a l. field_moves given new f
+    ∙ ap (λ n. sum (map (λ i. h (313 * f + i)) (range_with_len 0 n))) (length-rows given f)
+    ∙ ap sum (map-range_moved (λ i. h (313 * f + i)) h 0 (313 * f) (min 313 (length given - 313 * f))
+    (λ i m. (let place : 313 * f + (0 + i) ≡ 313 * f + i = omega arith in ap h place)))))
+    ∙ sum_of_fields h (length given) (fields_in given)
+    ∙ (let all : min (313 * fields_in given) (length given) ≡ length given = every (length given) in ap (over h 0) all)
+  where
+    h : ℕ → ℕ
+    h i = moved_in (get_or given i []) (get_or new i [])
+
+    every : (l : ℕ) → min (313 * ((l + 312) / 313)) l ≡ l
+    every l = omega arith
 
 -- ---- a field of which no byte more is known
 

@@ -14,3 +14,4 @@ pub mod RangeSteps
 pub mod MovedRows
 pub mod RowsRounded
 pub mod FieldRounds
+pub mod UnknownFields
