@@ -12,7 +12,7 @@ use Rattle.dtx_slice.proofs.JoinsLemmas.{bytes_append, precoder_bits_append}
 use Rattle.dtx_receiver.specs.Bytes.{bytes_in, data_at, data_count, first_bits, groups_of, levels_from, levels_in}
 use Rattle.dtx_receiver.proofs.SegmentsLemmas.{levels_parts}
 use Rattle.dtx_rounds.specs.Fields.{rows_of}
-use Rattle.dtx_rounds.proofs.FieldRounds.{length-rows, row_is}
+use Rattle.dtx_rounds.proofs.FieldRounds.{length-rows, row_of}
 use Rattle.dtx_rounds.proofs.GroupBytes.{flat_more, length_back}
 use Rattle.dtx_rounds.proofs.RunLevels.{AreLong, length-from}
 
@@ -24,7 +24,7 @@ unfolding data_at
 data_in_field run f i l =
     let there : 312 * f + i + (312 * f + i) / 312 + 1 ≡ 313 * f + (1 + i) = omega arith in
     ap (λ n. get_or run n []) there
-    ∙ sym (get_or-drop 1 (rows_of run f) i [] ∙ row_is run f (1 + i) (omega arith))
+    ∙ sym (get_or-drop 1 (rows_of run f) i [] ∙ row_of run f (1 + i) (omega arith))
 
 pub levels_rows : (run : List (List ℤ)) (f n : ℕ) → n ≤ length (drop 1 (rows_of run f))
     → levels_from run (312 * f) n ≡ flat_map sliced_data (take n (drop 1 (rows_of run f)))

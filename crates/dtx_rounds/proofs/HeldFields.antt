@@ -21,10 +21,11 @@ use Rattle.dtx_rounds.specs.Rounds.{coder_cost, rounded}
 use Rattle.dtx_rounds.specs.RunField.{Holds, IsInRun, IsRounded, IsTurned, StayKnown, bits_before, codes_upto, whole_in}
 use Rattle.dtx_rounds.specs.declared.field.Field.{Field}
 use Rattle.dtx_rounds.proofs.FieldBytes.{bits_next, bytes_in_field, levels_rows}
-use Rattle.dtx_rounds.proofs.FieldRounds.{cost_in_field, drop_one, length-rows}
+use Rattle.dtx_rounds.proofs.FieldRounds.{length-rows}
 use Rattle.dtx_rounds.proofs.FieldWords.{AreThere, known_in_field}
 use Rattle.dtx_rounds.proofs.FoundFields.{found_field}
 use Rattle.dtx_rounds.proofs.KnownPlaces.{known_entry}
+use Rattle.dtx_rounds.proofs.RunFields.{cost_in_field, drop_one}
 use Rattle.dtx_rounds.proofs.RunLevels.{AreLong, length-bytes}
 use Rattle.dtx_rounds.proofs.RunWords.{AreSought, byte_settled, upto_before}
 use Rattle.dtx_rounds.proofs.TurnedFields.{cost_all, turned_field}

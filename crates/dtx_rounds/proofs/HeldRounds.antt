@@ -17,7 +17,7 @@ use Rattle.dtx_rounds.specs.Found.{bytes_there, field_levels, new_code, whole_se
 use Rattle.dtx_rounds.specs.Known.{known_word}
 use Rattle.dtx_rounds.specs.RunField.{Holds, IsInRun, IsRounded, IsTurned, StayKnown, bits_before, codes_upto, whole_in}
 use Rattle.dtx_rounds.specs.declared.field.Field.{Field}
-use Rattle.dtx_rounds.proofs.FieldRounds.{length-rows, row_is}
+use Rattle.dtx_rounds.proofs.FieldRounds.{length-rows, row_of}
 use Rattle.dtx_rounds.proofs.FieldWords.{AreThere}
 use Rattle.dtx_rounds.proofs.FoundFields.{found_behind}
 use Rattle.dtx_rounds.proofs.GroupBytes.{bits_none}
@@ -55,7 +55,7 @@ sync_is : (given : List (List ℤ)) (field : Field) → 0 < length given → fie
     → decided_rows field ≡ rows_of given 0 → get_or field.decided.items 0 [] ≡ get_or given 0 []
 sync_is given field some count rows =
     sym (get_or-take field.count field.decided.items 0 [] (omega (arith, count, length-rows given 0, some)))
-    ∙ ap (λ (xs : List (List ℤ)). get_or xs 0 []) rows ∙ row_is given 0 0 (omega arith)
+    ∙ ap (λ (xs : List (List ℤ)). get_or xs 0 []) rows ∙ row_of given 0 0 (omega arith)
 
 pub held_first : (scale : ℕ) (heard given : List (List ℤ)) (before : List ℕ) (field : Field) (bits new : List ℕ)
     (groups : List (List ℕ)) → AreLong given → 0 < length given

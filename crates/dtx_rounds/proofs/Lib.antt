@@ -6,7 +6,7 @@ pub mod FoundWords
 pub mod LaidWords
 pub mod RoundLevels
 pub mod PinRows
-pub mod FieldRounds
+pub mod RunFields
 pub mod RunWords
 pub mod FoundFields
 pub mod TurnedFields
@@ -26,3 +26,5 @@ pub mod StillLemmas
 pub mod RangeSteps
 pub mod MovedRows
 pub mod RowsRounded
+pub mod FieldRounds
+pub mod UnknownFields

@@ -1,6 +1,6 @@
 -- Segments whose symbols are set to those of paths, one behind the other.
 use Rattle.std.proofs.Common.{◌≡◌, ℕ, ℤ, pos, zero, suc, ◌+◌, ◌-◌, ◌*◌, ◌/◌, ◌%◌, ◌<◌, ◌≤◌, ◌⊎◌, inl, inr, Bool, true}
-use Rattle.std.proofs.Common.{false, cond, List, [], ◌++◌, length, map, take, drop, get_or, set, sum, int_div, refl, sym, ap}
+use Rattle.std.proofs.Common.{cond, List, [], length, map, take, drop, get_or, set, sum, int_div, refl, sym, ap}
 use Rattle.std.proofs.Common.{◌∙◌, ap₂, arith}
 use Rattle.std.specs.Ordering.{int_eq}
 use Rattle.std.specs.List.{range_with_len}

@@ -1,6 +1,6 @@
 -- What is decided of a field's segments in whole groups is a round over the field.
-use Rattle.std.proofs.Common.{◌≡◌, ℕ, ℤ, pos, zero, suc, ◌+◌, ◌-◌, ◌*◌, ◌/◌, ◌%◌, ◌<◌, ◌≤◌, ◌⊎◌, inl, inr, min}
-use Rattle.std.proofs.Common.{nat_le, nat_lt, Bool, true, false, cond, Option, List, [], ◌++◌, length, map, take, drop}
+use Rattle.std.proofs.Common.{◌≡◌, ℕ, ℤ, pos, zero, suc, ◌+◌, ◌-◌, ◌*◌, ◌/◌, ◌%◌, ◌<◌, ◌≤◌, ◌⊎◌, inl, inr}
+use Rattle.std.proofs.Common.{nat_le, nat_lt, true, false, cond, Option, List, [], ◌++◌, length, map, take, drop}
 use Rattle.std.proofs.Common.{get_or, sum, refl, sym, ap, ap₂, ◌∙◌, subst, arith}
 use Rattle.std.specs.List.{range_with_len}
 use Rattle.std.specs.Ordering.{int_eq}
@@ -13,15 +13,13 @@ use Rattle.dtx_lists.proofs.RangeMoved.{map-range_moved}
 use Rattle.dtx_lists.proofs.RangeSums.{over, over_parts}
 use Rattle.dtx_lists.proofs.Written.{length-put_mid}
 use Rattle.dtx_trellis.specs.Pairs.{coder_at}
-use Rattle.dtx_slice.specs.Unrolled.{symbol_place}
 use Rattle.dtx_soft.specs.Coders.{data_symbol}
 use Rattle.dtx_soft.proofs.SoftenedLemmas.{coder_small, length-coder, own_place}
-use Rattle.dtx_acquire.specs.Scaled.{decided}
 use Rattle.dtx_pins.specs.PinnedField.{pinned, pinned_coder_cost, pinned_cost}
 use Rattle.dtx_pins.proofs.PinnedFieldLemmas.{pinned_found}
 use Rattle.dtx_rounds.specs.FieldRound.{IsOnLevels, field_cost, field_rounded, on_path, on_paths, rows_moved}
 use Rattle.dtx_rounds.specs.Pins.{field_pins}
-use Rattle.dtx_rounds.specs.Rounds.{coder_cost, groups_in, in_whole_group, moved_in, paths_in, pins_in, round_segment}
+use Rattle.dtx_rounds.specs.Rounds.{coder_cost, groups_in, in_whole_group, moved_in, paths_in, round_segment}
 use Rattle.dtx_rounds.proofs.MovedRows.{eq_same, length-on_paths, on_paths_at, sum_none}
 use Rattle.dtx_rounds.proofs.OwnRounds.{group_row}
 use Rattle.dtx_rounds.proofs.PinRows.{mid_at, mid_before}
@@ -182,6 +180,7 @@ round_stays scale n c i heard given known few own e l out =
 -- what was made of a field's segments is a round over the first n, at this cost and with so many symbols moved
 pub record IsRounded (scale n : ℕ) (heard given : List (List ℤ)) (known : List (Option ℕ)) (made : List (List ℤ))
     (cost moved : ℕ) : Type 0 where
+  pub long : length made ≡ 313
   pub rows : take n made ≡ field_rounded scale (take n heard) known (take n given)
   pub cost_is : cost ≡ field_cost scale (take n heard) known
   pub moved_is : moved ≡ rows_moved (take n given) (take n made)
@@ -239,6 +238,7 @@ pub rounded_field : (scale n c : ℕ) (heard given new : List (List ℤ)) (known
     → IsRounded scale n heard given known (put_mid 1 c given new) cost moved
 unfolding field_cost field_rounded rows_moved coder_cost pinned_cost on_paths
 rounded_field scale n c heard given new known cost moved few heard_long given_long e cost_is new_is moved_is = record {
+  long = long;
   rows = fill_by_all (round_segment scale (take n heard) known (take n given)) (take n made) (length (take n given)) []
       (length-take-le n made (omega (arith, long)) ∙ sym (length-take-le n given (omega (arith, given_long))))
       (λ i l. row i (omega (arith, l, length-take-le n given (omega (arith, given_long)))));

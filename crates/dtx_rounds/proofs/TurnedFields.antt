@@ -16,9 +16,10 @@ use Rattle.dtx_rounds.specs.Known.{known_byte, known_bytes, known_word}
 use Rattle.dtx_rounds.specs.Rounds.{groups_in, in_whole_group, paths_in, round_segment}
 use Rattle.dtx_rounds.specs.RunField.{IsInRun, IsSettled, codes_upto}
 use Rattle.dtx_rounds.specs.declared.field.Field.{Field}
-use Rattle.dtx_rounds.proofs.FieldRounds.{length-rows, round_in_field, row_is}
+use Rattle.dtx_rounds.proofs.FieldRounds.{length-rows, row_of}
 use Rattle.dtx_rounds.proofs.KnownPlaces.{known_entry}
 use Rattle.dtx_rounds.proofs.RoundLevels.{after, length-after, same_groups}
+use Rattle.dtx_rounds.proofs.RunFields.{round_in_field}
 use Rattle.dtx_rounds.proofs.RunLevels.{AreLong}
 use Rattle.dtx_rounds.proofs.RunWords.{byte_settled, known_byte_same, upto_now}
 
@@ -65,7 +66,7 @@ after_twice scale heard given known long =
 rows_long : (given : List (List ℤ)) (f : ℕ) → AreLong given → AreLong (rows_of given f)
 rows_long given f long i l =
     let many = length-rows given f in
-    ap length (row_is given f i (omega (arith, l, many))) ∙ long (313 * f + i) (omega (arith, l, many))
+    ap length (row_of given f i (omega (arith, l, many))) ∙ long (313 * f + i) (omega (arith, l, many))
 
 -- ---- the decided field
 

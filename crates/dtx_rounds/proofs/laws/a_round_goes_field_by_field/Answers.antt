@@ -3,7 +3,7 @@ use Rattle.dtx_receiver.specs.Bytes.{bytes_in}
 use Rattle.dtx_rounds.specs.FieldRound.{field_rounded}
 use Rattle.dtx_rounds.specs.Known.{known_bytes}
 use Rattle.dtx_rounds.specs.Rounds.{rounded}
-use Rattle.dtx_rounds.proofs.FieldRounds.{round_in_field}
+use Rattle.dtx_rounds.proofs.RunFields.{round_in_field}
 use Rattle.dtx_rounds.proofs.KnownPlaces.{known_entry}
 use Rattle.dtx_rounds.proofs.laws.a_round_goes_field_by_field.Goals as goal
 

@@ -1,7 +1,7 @@
-use Rattle.std.proofs.Common.{◌≡◌, ℕ, ℤ, ◌+◌, ◌-◌, ◌*◌, ◌/◌, ◌<◌, ◌≤◌, true, cond, List, length, take, drop, refl, sym, ap, ap₂, ◌∙◌}
-use Rattle.std.proofs.Common.{subst, arith}
+use Rattle.std.proofs.Common.{◌≡◌, ℕ, ℤ, ◌+◌, ◌-◌, ◌*◌, List, ◌++◌, length, take, drop, refl, sym, ap, ap₂, ◌∙◌}
+use Rattle.std.proofs.Common.{arith}
 use Rattle.std.proofs.lemmas.Bool.{cond-false, cond-true}
-use Rattle.std.proofs.lemmas.List.{length-drop, length-take-le}
+use Rattle.std.proofs.lemmas.List.{take_at}
 use borrow.Rule.Slice.PartMut.{put_mid}
 use Rattle.dtx_rounds.specs.FieldRound.{field_cost, field_rounded, on_paths, rows_moved}
 use Rattle.dtx_rounds.specs.Pins.{field_pins}
@@ -24,7 +24,8 @@ move_all-field-requires-clause-levels c =
 
 pub returns-then-field-clause-decided : goal.returns-then-field-clause-decided
 returns-then-field-clause-decided c = record {
-  decided = is.rows
+  decided = ap (take n) back
+      ∙ is.rows
       ∙ ap₂ (λ received known. field_rounded c.args.means.now.scale (take n received) known
       (take n c.deref_mut.result.now)) c.deref-then-field.ensures.value c.deref.ensures.value
       ∙ ap (λ given. field_rounded c.args.means.now.scale (take n c.args.field.now.heard.items)
@@ -35,7 +36,7 @@ returns-then-field-clause-decided c = record {
       c.deref.ensures.value
       ∙ sym (cond-true c.args.field.now.knows_more _ c.args.field.now.cost c.if-field.true);
   moved = is.moved_is
-      ∙ ap (λ given. rows_moved (take n given) (take n made)) c.deref_mut.ensures.value;
+      ∙ ap₂ (λ given new. rows_moved (take n given) (take n new)) c.deref_mut.ensures.value (sym back);
   count = refl;
   heard = refl;
   known = refl;
@@ -72,6 +73,11 @@ returns-then-field-clause-decided c = record {
         c.deref-then-field-2.result.now (λ m. field_pins c.deref.result.now 0 (69 * m)) c.in_groups-count.ensures.few
         heard_long c.deref-then-field-2.ensures.value c.find_paths-field.ensures.paths))
         c.move_all-field.ensures.moved
+
+    back : take c.args.field.now.decided.len (made ++ drop (length made) c.args.field.now.decided.items) ≡ made
+    back =
+        take_at made (drop (length made) c.args.field.now.decided.items) c.args.field.now.decided.len
+        (is.long ∙ sym c.args.field.now.decided_long)
 
 pub returns-else-field-clause-decided : goal.returns-else-field-clause-decided
 returns-else-field-clause-decided c = record {
