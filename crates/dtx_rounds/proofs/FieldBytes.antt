@@ -1,15 +1,14 @@
 -- The bytes of a field of a run, from the levels of its segments and the precoder bits before them.
-use Rattle.std.proofs.Common.{◌≡◌, ℕ, ℤ, zero, suc, ◌+◌, ◌-◌, ◌*◌, ◌/◌, ◌%◌, ◌<◌, ◌≤◌, List, [], ◌++◌, length, take}
+use Rattle.std.proofs.Common.{◌≡◌, ℕ, ℤ, zero, suc, ◌+◌, ◌-◌, ◌*◌, ◌/◌, ◌<◌, ◌≤◌, List, [], ◌++◌, length, take}
 use Rattle.std.proofs.Common.{drop}
 use Rattle.std.proofs.Common.{get_or, refl, sym, ap, ap₂, ◌∙◌, arith}
-use Rattle.std.specs.List.{flat_map, range_with_len}
-use Rattle.std.proofs.lemmas.List.{append-nil, drop_at, get_or-drop, length-append, length-drop, take_at}
-use Rattle.std.proofs.lemmas.List.FromFn.{length-map-range_with_len}
+use Rattle.std.specs.List.{flat_map}
+use Rattle.std.proofs.lemmas.List.{append-nil, drop_at, get_or-drop, length-drop, take_at}
 use Rattle.dtx_trellis.specs.Pairs.{group_place}
 use Rattle.dtx_slice.specs.Slicing.{sliced_data}
 use Rattle.dtx_slice.specs.Unrolled.{bytes_back, precoder_bits_after}
 use Rattle.dtx_slice.proofs.JoinsLemmas.{bytes_append, precoder_bits_append}
-use Rattle.dtx_receiver.specs.Bytes.{bytes_in, data_at, data_count, first_bits, groups_of, levels_from, levels_in}
+use Rattle.dtx_receiver.specs.Bytes.{bytes_in, data_at, first_bits, groups_of, levels_from, levels_in}
 use Rattle.dtx_receiver.proofs.SegmentsLemmas.{levels_parts}
 use Rattle.dtx_rounds.specs.Fields.{rows_of}
 use Rattle.dtx_rounds.proofs.FieldRounds.{length-rows, row_of}

@@ -1,12 +1,11 @@
 -- A field of a run and the one behind it, once the words are sought that begin in the first.
-use Rattle.std.proofs.Common.{◌≡◌, ℕ, ℤ, ◌+◌, ◌-◌, ◌*◌, ◌/◌, ◌%◌, ◌<◌, ◌≤◌, ◌⊎◌, inl, inr, ◌||◌, ◌&&◌, not, nat_le}
+use Rattle.std.proofs.Common.{◌≡◌, ℕ, ℤ, ◌+◌, ◌-◌, ◌*◌, ◌/◌, ◌%◌, ◌<◌, ◌≤◌, ◌⊎◌, inl, inr, ◌||◌, ◌&&◌, not}
 use Rattle.std.proofs.Common.{Bool}
-use Rattle.std.proofs.Common.{true, false, cond, Option, Some, None, is_some, option_map, List, length, map, get_or}
+use Rattle.std.proofs.Common.{true, false, Option, Some, None, is_some, option_map, List, length, get_or}
 use Rattle.std.proofs.Common.{take}
 use Rattle.std.proofs.Common.{refl, sym, ap, ap₂, ◌∙◌, arith}
-use Rattle.std.specs.List.{list_any, range_with_len}
 use Rattle.std.proofs.lemmas.Bool.{cases_lt, or_parts, true≢false}
-use Rattle.std.proofs.lemmas.List.FromFn.{fill_by_all, get_or-map-range_with_len, length-map-range_with_len}
+use Rattle.std.proofs.lemmas.List.FromFn.{fill_by_all}
 use Rattle.dtx_lists.proofs.Range.{map-range_same}
 use Rattle.dtx_receiver.specs.Packets.{is_complete}
 use Rattle.dtx_receiver.proofs.CompleteLemmas.{complete_told}
@@ -14,7 +13,6 @@ use Rattle.dtx_rounds.specs.Decided.{decided_rows, heard_rows}
 use Rattle.dtx_rounds.specs.FieldRound.{field_rounded, field_cost}
 use Rattle.dtx_rounds.specs.Found.{AreFound, IsKept, bytes_with, code_byte, has_code, has_code_behind, new_code}
 use Rattle.dtx_rounds.specs.Found.{or_else}
-use Rattle.dtx_rounds.specs.Found.{words_with}
 use Rattle.dtx_rounds.specs.Known.{known_word}
 use Rattle.dtx_rounds.specs.RunField.{IsInRun, IsSettled, codes_upto}
 use Rattle.dtx_rounds.specs.declared.field.Field.{Field}

@@ -1,24 +1,23 @@
 -- A round over a run holds one field, until the next one comes or the run ends.
-use Rattle.std.proofs.Common.{◌≡◌, ℕ, ℤ, zero, suc, ◌+◌, ◌-◌, ◌*◌, ◌/◌, ◌%◌, ◌<◌, ◌≤◌, ◌⊎◌, inl, inr, min, Bool}
-use Rattle.std.proofs.Common.{false, Option, None}
-use Rattle.std.proofs.Common.{is_some, List, [], ◌++◌, length, map, get_or, take, drop, refl, sym, ap, ap₂, ◌∙◌, subst}
+use Rattle.std.proofs.Common.{◌≡◌, ℕ, ℤ, zero, suc, ◌+◌, ◌-◌, ◌*◌, ◌/◌, ◌<◌, ◌≤◌, ◌⊎◌, inl, inr, min, Bool}
+use Rattle.std.proofs.Common.{false}
+use Rattle.std.proofs.Common.{is_some, List, length, get_or, take, drop, sym, ap, ap₂, ◌∙◌, subst}
 use Rattle.std.proofs.Common.{arith}
-use Rattle.std.specs.List.{flat_map, range_with_len}
+use Rattle.std.specs.List.{flat_map}
 use Rattle.std.proofs.lemmas.Bool.{cases_lt}
-use Rattle.std.proofs.lemmas.List.{drop-drop, drop_at, length-append, length-drop, take-append-le}
-use Rattle.std.proofs.lemmas.List.{take-take, take_at}
+use Rattle.std.proofs.lemmas.List.{length-drop}
+use Rattle.std.proofs.lemmas.List.{take-take}
 use Rattle.std.proofs.lemmas.List.FromFn.{get_or-map-range_with_len, length-map-range_with_len}
-use Rattle.std.proofs.Math.Seq.{take-add}
 use Rattle.dtx_slice.specs.Slicing.{sliced_data}
 use Rattle.dtx_slice.specs.Unrolled.{bytes_back, precoder_bits_after}
 use Rattle.dtx_receiver.specs.Bytes.{bytes_in, data_count, groups_of, levels_from}
-use Rattle.dtx_rounds.specs.Decided.{IsDecided, decided_rows, heard_rows}
+use Rattle.dtx_rounds.specs.Decided.{decided_rows}
 use Rattle.dtx_rounds.specs.FieldRound.{field_cost, rows_moved}
 use Rattle.dtx_rounds.specs.Fields.{rows_of}
-use Rattle.dtx_rounds.specs.Found.{bytes_there, field_levels, new_code, whole_segments}
-use Rattle.dtx_rounds.specs.Known.{known_byte, known_bytes, known_word}
-use Rattle.dtx_rounds.specs.Rounds.{coder_cost, rounded}
-use Rattle.dtx_rounds.specs.RunField.{Holds, IsInRun, IsRounded, IsTurned, StayKnown, bits_before, codes_upto, whole_in}
+use Rattle.dtx_rounds.specs.Found.{bytes_there, field_levels, whole_segments}
+use Rattle.dtx_rounds.specs.Known.{known_bytes, known_word}
+use Rattle.dtx_rounds.specs.Rounds.{rounded}
+use Rattle.dtx_rounds.specs.RunField.{IsInRun, IsRounded, IsTurned, StayKnown, bits_before, codes_upto, whole_in}
 use Rattle.dtx_rounds.specs.declared.field.Field.{Field}
 use Rattle.dtx_rounds.proofs.FieldBytes.{bits_next, bytes_in_field, levels_rows}
 use Rattle.dtx_rounds.proofs.FieldRounds.{length-rows}

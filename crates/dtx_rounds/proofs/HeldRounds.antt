@@ -1,9 +1,9 @@
 -- A round over the fields of a run: it begins with the first, goes from each to the next one, and ends with the last.
-use Rattle.std.proofs.Common.{◌≡◌, ℕ, ℤ, ◌+◌, ◌-◌, ◌*◌, ◌/◌, ◌%◌, ◌<◌, ◌≤◌, min, Bool, Option, None, is_some, List}
+use Rattle.std.proofs.Common.{◌≡◌, ℕ, ℤ, ◌+◌, ◌-◌, ◌*◌, ◌/◌, ◌%◌, ◌<◌, ◌≤◌, min, Option, is_some, List}
 use Rattle.std.proofs.Common.{[], ◌++◌}
-use Rattle.std.proofs.Common.{length, map, get_or, take, drop, refl, sym, ap, ap₂, ◌∙◌, subst, arith}
-use Rattle.std.specs.List.{flat_map, range_with_len}
-use Rattle.std.proofs.lemmas.List.{drop-drop, drop_at, get_or-take, length-append, length-take-le, take-append-le}
+use Rattle.std.proofs.Common.{length, get_or, take, drop, refl, sym, ap, ap₂, ◌∙◌, subst, arith}
+use Rattle.std.specs.List.{flat_map}
+use Rattle.std.proofs.lemmas.List.{drop-drop, drop_at, get_or-take, take-append-le}
 use Rattle.std.proofs.lemmas.List.{take_all, take_at}
 use Rattle.std.proofs.lemmas.List.FromFn.{length-map-range_with_len}
 use Rattle.std.proofs.Math.Seq.{take-add}
@@ -13,7 +13,7 @@ use Rattle.dtx_slice.specs.Unrolled.{bytes_back, precoder_bits_after, precoder_b
 use Rattle.dtx_receiver.specs.Bytes.{bytes_in, data_count, first_bits, groups_of, levels_from}
 use Rattle.dtx_rounds.specs.Decided.{decided_rows}
 use Rattle.dtx_rounds.specs.Fields.{rows_of}
-use Rattle.dtx_rounds.specs.Found.{bytes_there, field_levels, new_code, whole_segments}
+use Rattle.dtx_rounds.specs.Found.{bytes_there, field_levels, whole_segments}
 use Rattle.dtx_rounds.specs.Known.{known_word}
 use Rattle.dtx_rounds.specs.RunField.{Holds, IsInRun, IsRounded, IsTurned, StayKnown, bits_before, codes_upto, whole_in}
 use Rattle.dtx_rounds.specs.declared.field.Field.{Field}

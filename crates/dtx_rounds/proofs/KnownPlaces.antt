@@ -1,10 +1,9 @@
 -- What is known at a place of a run, by the words of the fields around it.
-use Rattle.std.proofs.Common.{◌≡◌, ℕ, ◌+◌, ◌-◌, ◌*◌, ◌/◌, ◌%◌, ◌<◌, ◌≤◌, ◌⊎◌, inl, inr, nat_le, Bool, true, false, cond}
-use Rattle.std.proofs.Common.{Option, Some, None, option_map, List, length, get_or, refl, sym, ap, subst, ◌∙◌, arith}
+use Rattle.std.proofs.Common.{◌≡◌, ℕ, ◌-◌, ◌*◌, ◌/◌, ◌%◌, ◌<◌, ◌≤◌, ◌⊎◌, inl, inr, nat_le, Bool, true, false, cond}
+use Rattle.std.proofs.Common.{Option, Some, None, option_map, List, length, get_or, refl, sym, ◌∙◌, arith}
 use Rattle.std.proofs.lemmas.Bool.{cases_lt, leb-true}
 use Rattle.std.proofs.lemmas.List.{get_or_past}
 use Rattle.std.proofs.lemmas.List.FromFn.{get_or-map-range_with_len}
-use Rattle.dtx_outer.specs.Inner.{codeword_byte_place}
 use Rattle.dtx_rounds.specs.Known.{known_byte, known_bytes, known_code_byte, known_word}
 use Rattle.dtx_rounds.proofs.Growing.{length-known}
 use Rattle.dtx_rounds.proofs.KnownLemmas.{known_parts, known_place}

@@ -1,12 +1,11 @@
 -- A field passes through rounds, one behind the other.
-use Rattle.std.proofs.Common.{◌≡◌, ℕ, ℤ, zero, suc, ◌+◌, ◌-◌, ◌*◌, ◌<◌, ◌≤◌, ◌⊎◌, inl, inr, Bool, true, false, cond}
-use Rattle.std.proofs.Common.{List, [], ◌∷◌, length, refl, sym, ap, ap₂, ◌∙◌, subst, arith}
+use Rattle.std.proofs.Common.{◌≡◌, ℕ, ℤ, zero, suc, ◌+◌, ◌-◌, ◌*◌, ◌<◌, ◌≤◌, inr, Bool, true, false, cond}
+use Rattle.std.proofs.Common.{List, [], ◌∷◌, length, refl, sym, ap, ◌∙◌, subst, arith}
 use Rattle.std.proofs.lemmas.Bool.{cond-false, cond-true, true≢false}
 use Rattle.dtx_receiver.specs.Bytes.{bytes_in}
-use Rattle.dtx_rounds.specs.Fields.{AreSegments}
 use Rattle.dtx_rounds.specs.Known.{known_bytes, known_word}
 use Rattle.dtx_rounds.specs.Rounds.{rounded, rounds_of}
-use Rattle.dtx_rounds.specs.RunField.{Holds, IsInRun, IsRounded, StayKnown}
+use Rattle.dtx_rounds.specs.RunField.{Holds, IsInRun}
 use Rattle.dtx_rounds.specs.RunRounds.{AreAt, IsAt, IsEnded, IsEndedFirst, IsGiven, IsPassed, IsRun}
 use Rattle.dtx_rounds.specs.RunRounds.{bytes_before, given_by}
 use Rattle.dtx_rounds.specs.RunRounds.{given_count}

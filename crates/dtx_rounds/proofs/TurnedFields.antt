@@ -1,5 +1,5 @@
 -- A field of a run that had its round.
-use Rattle.std.proofs.Common.{◌≡◌, ℕ, ℤ, ◌+◌, ◌-◌, ◌*◌, ◌/◌, ◌%◌, ◌<◌, ◌≤◌, ◌&&◌, nat_le, nat_lt, Bool, true, false}
+use Rattle.std.proofs.Common.{◌≡◌, ℕ, ℤ, ◌+◌, ◌-◌, ◌*◌, ◌/◌, ◌%◌, ◌<◌, ◌&&◌, nat_le, nat_lt, Bool, true, false}
 use Rattle.std.proofs.Common.{cond}
 use Rattle.std.proofs.Common.{Option, None, is_some, List, [], ◌++◌, length, map, get_or, take, drop, refl, sym, ap}
 use Rattle.std.proofs.Common.{ap₂}
@@ -13,7 +13,7 @@ use Rattle.dtx_rounds.specs.Decided.{IsDecided, decided_rows, heard_rows}
 use Rattle.dtx_rounds.specs.FieldRound.{field_cost, field_rounded}
 use Rattle.dtx_rounds.specs.Fields.{rows_of}
 use Rattle.dtx_rounds.specs.Known.{known_byte, known_bytes, known_word}
-use Rattle.dtx_rounds.specs.Rounds.{groups_in, in_whole_group, paths_in, round_segment}
+use Rattle.dtx_rounds.specs.Rounds.{in_whole_group, paths_in, round_segment}
 use Rattle.dtx_rounds.specs.RunField.{IsInRun, IsSettled, codes_upto}
 use Rattle.dtx_rounds.specs.declared.field.Field.{Field}
 use Rattle.dtx_rounds.proofs.FieldRounds.{length-rows, row_of}

@@ -3,7 +3,7 @@ use Rattle.std.proofs.Common.{◌∙◌, arith}
 use Rattle.dtx_receiver.specs.Bytes.{bytes_in}
 use Rattle.dtx_rounds.specs.Known.{known_word}
 use Rattle.dtx_rounds.specs.Rounds.{rounded}
-use Rattle.dtx_rounds.specs.RunField.{Holds, IsInRun}
+use Rattle.dtx_rounds.specs.RunField.{IsInRun}
 use Rattle.dtx_rounds.specs.RunRounds.{AreAt, IsPassed, IsRun}
 use Rattle.dtx_rounds.proofs.PassedRounds.{given_on, next_run, passed_all, passed_off, passed_on}
 use Rattle.dtx_rounds.proofs.RefinedLemmas.{length-rounded}

@@ -1,4 +1,4 @@
-use Rattle.std.proofs.Common.{◌≡◌, ◌∙◌, ℕ, ◌+◌, ◌*◌, List, length, take, sym, ap, ap₂, subst, arith}
+use Rattle.std.proofs.Common.{◌≡◌, ◌∙◌, ℕ, ◌+◌, ◌*◌, List, length, take, sym, ap, subst, arith}
 use Rattle.std.specs.List.{flat_map}
 use Rattle.dtx_slice.specs.Unrolled.{bytes_back}
 use Rattle.dtx_rounds.specs.Found.{field_levels, whole_segments}
