@@ -72,7 +72,10 @@ pub passed_on : (scale : ℕ) (heard given : List (List ℤ)) (before : List ℕ
 passed_on scale heard given before t round new rest after answer field on some new_on held p = record {
   at = (
     record {
-      on = λ _. (omega arith, subst (λ n. Holds scale heard given before n new.held new.bytes.items new.unroll) same held);
+      on = λ _. (
+        omega arith,
+        subst (λ n. Holds scale heard given before n new.held new.bytes.items new.unroll) same held,
+      );
       off = λ e. absurd (true≢false (sym new_on ∙ e));
     },
     subst (λ n. AreAt scale heard (rounded scale heard given) (bytes_in given) n after) (sym now) p.at,
@@ -99,7 +102,10 @@ pub passed_off : (scale : ℕ) (heard given : List (List ℤ)) (before : List �
 passed_off scale heard given before t round new rest field off none new_on held h = record {
   at = (
     record {
-      on = λ _. (omega arith, subst (λ n. Holds scale heard given before n new.held new.bytes.items new.unroll) first held);
+      on = λ _. (
+        omega arith,
+        subst (λ n. Holds scale heard given before n new.held new.bytes.items new.unroll) first held,
+      );
       off = λ e. absurd (true≢false (sym new_on ∙ e));
     },
     subst (λ n. AreAt scale heard (rounded scale heard given) (bytes_in given) n rest) same h,
@@ -162,7 +168,8 @@ pub ended_given : (scale : ℕ) (heard given : List (List ℤ)) (before : List �
 ended_given scale heard given before t round new rest after field off l p = record {
   at = (
     past_end scale heard given before t new off l,
-    subst (λ n. AreAt scale heard (rounded scale heard given) (bytes_in given) n after) (sym (given_off new t off)) p.at,
+    subst (λ n. AreAt scale heard (rounded scale heard given) (bytes_in given) n after)
+        (sym (given_off new t off)) p.at,
   );
   count = ap (λ n. given_count n after) (given_off new t off) ∙ p.count;
   given_is = λ e. given_next scale (length rest) (given_count (given_by round t) rest) heard given before field
@@ -173,13 +180,15 @@ ended_given scale heard given before t round new rest after field off l p = reco
 -- none came, so the next one is ended
 pub ended_next : (scale : ℕ) (heard given : List (List ℤ)) (before : List ℕ) (t : ℕ) (round new : Round)
     (rest between after : List Round) (answer : Bool) (first field : Field) → new.on ≡ false → length given ≤ 313 * t
-    → IsEndedFirst scale heard (rounded scale heard given) (bytes_in given) t (given_by round t) rest between false first
+    → IsEndedFirst scale heard (rounded scale heard given) (bytes_in given) t (given_by round t) rest between false
+    first
     → IsEnded scale heard (rounded scale heard given) (bytes_in given) t between after answer field
     → IsEnded scale heard given before t (round ∷ rest) (new ∷ after) answer field
 ended_next scale heard given before t round new rest between after answer first field off l p q = record {
   at = (
     past_end scale heard given before t new off l,
-    subst (λ n. AreAt scale heard (rounded scale heard given) (bytes_in given) n after) (sym (given_off new t off)) q.at,
+    subst (λ n. AreAt scale heard (rounded scale heard given) (bytes_in given) n after)
+        (sym (given_off new t off)) q.at,
   );
   count = ap (λ n. given_count n after) (given_off new t off) ∙ q.count ∙ ap (λ n. n + cond answer 1 0) same;
   given_is = λ e. given_next scale (length rest) (given_count (given_by round t) rest) heard given before field

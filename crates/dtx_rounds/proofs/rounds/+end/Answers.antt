@@ -16,8 +16,8 @@ returns-then-end_first-clause-ended m c = λ heard given before t run last some 
     let p = c.end_first.ensures.ended heard given before t run last some parts.0 parts.1 in
     subst (λ rounds. IsEnded c.args.means.now.scale heard given before t rounds (c.end_first.new.round ∷
     c.end_first.new.rest) true c.end_first.new.field) (sym split)
-    (ended_given c.args.means.now.scale heard given before t c.in-Some.round.now c.end_first.new.round c.in-Some.rest.now
-    c.end_first.new.rest c.end_first.new.field c.end_first.ensures.off last
+    (ended_given c.args.means.now.scale heard given before t c.in-Some.round.now c.end_first.new.round
+    c.in-Some.rest.now c.end_first.new.rest c.end_first.new.field c.end_first.ensures.off last
     (subst (λ b. IsEndedFirst c.args.means.now.scale heard (rounded c.args.means.now.scale heard given) (bytes_in given)
     t (given_by c.in-Some.round.now t) c.in-Some.rest.now c.end_first.new.rest b c.end_first.new.field)
     c.if-end_first.true p))
