@@ -20,6 +20,8 @@ pub mod Growing
 pub mod RoundsLemmas
 pub mod RefinedLemmas
 pub mod PassedRounds
+pub mod BegunFields
+pub mod MadeLemmas
 pub mod FieldRows
 pub mod OwnRounds
 pub mod StillLemmas

@@ -7,3 +7,4 @@ pub mod FieldRound
 pub mod Decided
 pub mod RunField
 pub mod RunRounds
+pub mod MadeRounds

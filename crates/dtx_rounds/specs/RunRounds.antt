@@ -31,6 +31,11 @@ given_by round t = if round.on then t - 1 else t
 
 -- ---- all of them
 
+-- Each holds none.
+abbrev pub AreOff : List Round → Type 0
+AreOff [] = ⊤
+AreOff (round ∷ rounds) = (round.on ≡ false) × AreOff rounds
+
 -- The first round took t fields.
 abbrev pub AreAt : ℕ → List (List ℤ) → List (List ℤ) → List ℕ → ℕ → List Round → Type 0
 AreAt scale heard given before t [] = ⊤

@@ -6,15 +6,18 @@ ghost use Rattle.dtx_laws.specs.Codeword.{IsCodeword};
 ghost use Rattle.dtx_outer.specs.Inner.{word_at};
 ghost use Rattle.dtx_receiver.specs.Bytes.{bytes_in};
 ghost use Rattle.dtx_receiver.specs.Packets.{is_complete};
-ghost use Rattle.dtx_soft.specs.Softened.{least_cost};
+ghost use Rattle.dtx_soft.specs.Softened.{least_cost, softened_cost};
 ghost use Rattle.dtx_acquire.specs.Acquired.{acquired};
-ghost use Rattle.dtx_rounds.specs.FieldRound.{field_rounded};
-ghost use Rattle.dtx_rounds.specs.Fields.{rows_of};
+ghost use Rattle.dtx_rounds.specs.Decided.{decided_rows, heard_rows};
+ghost use Rattle.dtx_rounds.specs.FieldRound.{KnowsNothing, field_rounded};
+ghost use Rattle.dtx_rounds.specs.Fields.{AreSegments, rows_of};
 ghost use Rattle.dtx_rounds.specs.Known.{known_byte, known_bytes, known_word};
 ghost use Rattle.dtx_rounds.specs.Pins.{byte_at_step};
 ghost use Rattle.dtx_rounds.specs.Rounds.{coder_cost, groups_in, heard_of, refined, rounded, rounds_of};
+ghost use Rattle.dtx_rounds.specs.RunField.{IsInRun};
+ghost use Rattle.dtx_rounds.specs.declared.field.Field.{Field};
 
-use crate::field::BYTES;
+use crate::field::{BYTES, WORDS};
 use dtx_acquire::laws::whole_fields_are_acquired;
 use dtx_sizes::{CODERS, CODEWORD, PACKET_DATA, SEGMENT};
 use dtx_soft::MAX_SCALE;
@@ -68,6 +71,22 @@ pub fn a_round_goes_field_by_field()
         → rows_of (rounded scale heard given) f
         ≡ field_rounded scale (rows_of heard f) known (rows_of given f) }
 {}
+
+/// A capture before its first round: its segments are a run for rounds. A field of it that was just set, at the cost of
+/// the paths by which it was acquired, is in this run.
+pub fn a_capture_begins_as_it_was_acquired()
+    ensures long { (scale : ℕ) (symbols : List ℤ) → 0 < scale → scale ≤ MAX_SCALE
+        → AreSegments (acquired scale symbols) }
+    ensures same { (scale : ℕ) (symbols : List ℤ) → length (heard_of symbols) ≡ length (acquired scale symbols) }
+    ensures field { (scale f : ℕ) (symbols : List ℤ) (field : Field) → 0 < scale → scale ≤ MAX_SCALE
+        → length field.words ≡ WORDS → field.count ≡ length (rows_of (acquired scale symbols) f)
+        → heard_rows field ≡ rows_of (heard_of symbols) f → decided_rows field ≡ rows_of (acquired scale symbols) f
+        → field.cost ≡ softened_cost scale (groups_in (heard_of symbols) f)
+        → KnowsNothing field.known.items field.words field.knows_more field.moved
+        → IsInRun scale (heard_of symbols) (acquired scale symbols) (known_word []) f field }
+{
+    whole_fields_are_acquired();
+}
 
 /// Where a round gives what it was given, all further ones do.
 pub fn a_round_that_moves_nothing_is_the_last()

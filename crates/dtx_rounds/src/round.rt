@@ -1,6 +1,6 @@
 //! One round, which is a field behind the one before it.
 
-ghost use Rattle.std.specs.Prelude.{◌≡◌, ◌+◌, ◌*◌, ◌<◌, ◌≤◌, ℕ, ℤ, true, false, List, length, vec_len};
+ghost use Rattle.std.specs.Prelude.{◌≡◌, ◌+◌, ◌*◌, ◌<◌, ◌≤◌, ℕ, ℤ, IfOk, true, false, List, length, vec_len};
 ghost use Rattle.dtx_receiver.specs.Bytes.{bytes_in};
 ghost use Rattle.dtx_rounds.specs.Fields.{AreSegments};
 ghost use Rattle.dtx_rounds.specs.Known.{known_word};
@@ -33,7 +33,9 @@ pub(crate) struct Round {
 
 impl Round {
     /// A round that holds no field. The only error is out of memory.
-    pub(crate) fn new(alloc: Global) -> Result<Round, AllocError> {
+    pub(crate) fn new(alloc: Global) -> Result<Round, AllocError>
+        ensures off { IfOk result (λ round. round.on ≡ false) }
+    {
         Ok(Round {
             on: false,
             held: Field::new(alloc)?,

@@ -1,11 +1,13 @@
 //! Rounds, one behind the other.
 
-ghost use Rattle.std.specs.Prelude.{◌≡◌, ◌-◌, ◌*◌, ◌<◌, ◌≤◌, ℕ, ℤ, false, List, length};
+ghost use Rattle.std.specs.Prelude.{◌≡◌, ◌*◌, ◌<◌, ◌≤◌, ℕ, ℤ, IfOk, false, List, [], length};
 ghost use Rattle.dtx_receiver.specs.Bytes.{bytes_in};
+ghost use Rattle.dtx_rounds.specs.Fields.{AreSegments};
 ghost use Rattle.dtx_rounds.specs.Known.{known_word};
-ghost use Rattle.dtx_rounds.specs.Rounds.{rounded};
+ghost use Rattle.dtx_rounds.specs.MadeRounds.{AreFinished, AreMade, AreTaken};
+ghost use Rattle.dtx_rounds.specs.Rounds.{fields_in, rounded};
 ghost use Rattle.dtx_rounds.specs.RunField.{IsInRun};
-ghost use Rattle.dtx_rounds.specs.RunRounds.{AreAt, IsAt, IsEnded, IsEndedFirst, IsPassed, IsRun, given_by};
+ghost use Rattle.dtx_rounds.specs.RunRounds.{AreAt, AreOff, IsAt, IsEnded, IsEndedFirst, IsPassed, IsRun, given_by};
 
 use crate::field::Field;
 use crate::means::Means;
@@ -18,9 +20,6 @@ use std::alloc::{AllocError, Global};
 pub struct Rounds {
     means: Means,
     rounds: Vec<Round>,
-    cost: u64,
-    known: u64,
-    moved: u64,
 }
 
 impl Rounds {
@@ -28,61 +27,47 @@ impl Rounds {
     pub fn new(alloc: Global, scale: u8, count: usize) -> Result<Rounds, AllocError>
         requires some { 0 < scale }
         requires most { scale ≤ MAX_SCALE }
+        ensures begun { IfOk result (λ rounds. (heard given : List (List ℤ))
+            → AreMade scale heard given count 0 0 rounds) }
     {
-        let mut rounds = Vec::new(alloc);
-        for _ in 0..count {
-            rounds.push(Round::new(alloc)?)?;
-        }
         Ok(Rounds {
             means: Means::new(alloc, scale)?,
-            rounds,
-            cost: 0,
-            known: 0,
-            moved: 0,
+            rounds: empty_rounds(alloc, count)?,
         })
     }
 
     /// Takes the next field of a capture. Where a field has had all rounds, it is given in its place, and the answer is
     /// true.
-    pub fn take(&mut self, field: &mut Field) -> bool {
-        let given = pass(&mut self.means, &mut self.rounds[..], field);
-        if given {
-            self.count(field);
-        }
-        given
+    pub fn take(&mut self, field: &mut Field) -> bool
+        ensures taken { (scale count t f : ℕ) (heard given : List (List ℤ)) → AreSegments given
+            → length heard ≡ length given → 313 * t < length given → AreMade scale heard given count t f self.old
+            → IsInRun scale heard given (known_word []) t field.old
+            → AreTaken scale heard given count t f result self.new field.new }
+    {
+        pass(&mut self.means, &mut self.rounds[..], field)
     }
 
     /// Ends the fields: gives the next of those that are held, and the answer is false where there is none. The caller
     /// calls until then.
-    pub fn finish(&mut self, field: &mut Field) -> bool {
-        let given = end(&mut self.means, &mut self.rounds[..], field);
-        if given {
-            self.count(field);
-        }
-        given
+    pub fn finish(&mut self, field: &mut Field) -> bool
+        ensures finished { (scale count t f : ℕ) (heard given : List (List ℤ)) → AreSegments given
+            → length heard ≡ length given → t ≡ fields_in given → AreMade scale heard given count t f self.old
+            → AreFinished scale heard given count t f result self.new field.new }
+    {
+        end(&mut self.means, &mut self.rounds[..], field)
     }
+}
 
-    /// Counts a field that had all rounds.
-    fn count(&mut self, field: &Field) {
-        self.cost += field.cost;
-        self.known += field.known_words();
-        self.moved += field.moved;
+/// So many rounds that hold no field. The only error is out of memory.
+fn empty_rounds(alloc: Global, count: usize) -> Result<Vec<Round>, AllocError>
+    ensures off { IfOk result (λ rounds. AreOff rounds.items) }
+    ensures long { IfOk result (λ rounds. length rounds.items ≡ count) }
+{
+    let mut rounds = Vec::new(alloc);
+    while rounds.len() < count {
+        rounds.push(Round::new(alloc)?)?;
     }
-
-    /// The sum of the costs of the least paths of the fields that were given.
-    pub fn cost(&self) -> u64 {
-        self.cost
-    }
-
-    /// How many words were known to the last round.
-    pub fn known(&self) -> u64 {
-        self.known
-    }
-
-    /// In how many symbols the last round's segments differ from those it was given.
-    pub fn moved(&self) -> u64 {
-        self.moved
-    }
+    Ok(rounds)
 }
 
 /// Passes a field through rounds. Where one of them holds none yet, that one keeps it, and the answer is false.
@@ -110,7 +95,7 @@ fn pass(means: &mut Means, rounds: &mut [Round], field: &mut Field) -> bool
 fn end(means: &mut Means, rounds: &mut [Round], field: &mut Field) -> bool
     ensures scale { means.new.scale ≡ means.old.scale }
     ensures ended { (heard given : List (List ℤ)) (before : List ℕ) (t : ℕ) → IsRun heard given before
-        → length given ≤ 313 * t → 313 * (t - 1) < length given
+        → t ≡ fields_in given
         → AreAt means.old.scale heard given before t rounds.old
         → IsEnded means.old.scale heard given before t rounds.old rounds.new result field.new }
 {
@@ -131,7 +116,7 @@ fn end_first(means: &mut Means, round: &mut Round, rest: &mut [Round], field: &m
     ensures scale { means.new.scale ≡ means.old.scale }
     ensures off { round.new.on ≡ false }
     ensures ended { (heard given : List (List ℤ)) (before : List ℕ) (t : ℕ) → IsRun heard given before
-        → length given ≤ 313 * t → 313 * (t - 1) < length given
+        → t ≡ fields_in given
         → IsAt means.old.scale heard given before t round.old
         → AreAt means.old.scale heard (rounded means.old.scale heard given) (bytes_in given) (given_by round.old t)
         rest.old

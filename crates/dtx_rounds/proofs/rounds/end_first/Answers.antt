@@ -9,14 +9,14 @@ use Rattle.dtx_rounds.proofs.RefinedLemmas.{length-rounded}
 use Rattle.dtx_rounds.proofs.rounds.end_first.Goals as goal
 
 pub returns-then-finish-clause-ended : goal.returns-then-finish-clause-ended
-returns-then-finish-clause-ended c = λ heard given before t run last some is at.
+returns-then-finish-clause-ended c = λ heard given before t run all is at.
     let held = is.on on in
     let back : t - 1 + 1 ≡ t = omega (arith, held.0) in
-    let turned = (c.finish.ensures.last on heard given before (t - 1) run.long run.stays some
-    (omega (arith, last, held.0)) held.1).turned in
+    let turned = (c.finish.ensures.last on heard given before (t - 1) run.long run.stays
+    (omega (arith, all, held.0)) (omega (arith, all, held.0)) held.1).turned in
     let long = length-rounded scale heard given in
     let p = rest heard (rounded scale heard given) (bytes_in given) (t - 1)
-    (next_run scale heard given before first (omega (arith, most)) run) (omega (arith, some, long))
+    (next_run scale heard given before first (omega (arith, most)) run) (omega (arith, all, held.0, long))
     (subst (λ n. AreAt scale heard (rounded scale heard given) (bytes_in given) n c.args.rest.now)
     (given_on c.args.round.now t on) at) turned in
     subst (λ n. IsEndedFirst scale heard (rounded scale heard given) (bytes_in given) t n c.args.rest.now
@@ -48,7 +48,7 @@ returns-then-finish-clause-ended c = λ heard given before t run last some is at
         c.finish.ensures.scale c.pass.ensures.passed
 
 pub returns-else-finish-clause-ended : goal.returns-else-finish-clause-ended
-returns-else-finish-clause-ended c = λ heard given before t run last some is at.
+returns-else-finish-clause-ended c = λ heard given before t run all is at.
     first_off c.args.means.now.scale heard (rounded c.args.means.now.scale heard given) (bytes_in given) t
     (given_by c.args.round.now t) c.args.rest.now c.finish.new.field
     (given_off c.args.round.now t (sym c.finish.ensures.had ∙ c.if-finish.false)) at
