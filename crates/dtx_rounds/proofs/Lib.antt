@@ -22,6 +22,7 @@ pub mod RefinedLemmas
 pub mod PassedRounds
 pub mod BegunFields
 pub mod MadeLemmas
+pub mod RoundNumbers
 pub mod FieldRows
 pub mod OwnRounds
 pub mod StillLemmas

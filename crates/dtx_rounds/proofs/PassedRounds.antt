@@ -5,9 +5,8 @@ use Rattle.std.proofs.lemmas.Bool.{cond-false, cond-true, true≢false}
 use Rattle.dtx_receiver.specs.Bytes.{bytes_in}
 use Rattle.dtx_rounds.specs.Known.{known_bytes, known_word}
 use Rattle.dtx_rounds.specs.Rounds.{rounded, rounds_of}
-use Rattle.dtx_rounds.specs.RunField.{Holds, IsInRun}
-use Rattle.dtx_rounds.specs.RunRounds.{AreAt, IsAt, IsEnded, IsEndedFirst, IsGiven, IsPassed, IsRun}
-use Rattle.dtx_rounds.specs.RunRounds.{bytes_before, given_by}
+use Rattle.dtx_rounds.specs.RunField.{Holds, IsInRun, IsRounded}
+use Rattle.dtx_rounds.specs.RunRounds.{AreAt, IsAt, IsEnded, IsEndedFirst, IsGiven, IsPassed, IsRun, given_by}
 use Rattle.dtx_rounds.specs.RunRounds.{given_count}
 use Rattle.dtx_rounds.specs.declared.field.Field.{Field}
 use Rattle.dtx_rounds.specs.declared.round.Round.{Round}
@@ -33,22 +32,22 @@ rounds_next scale n heard given =
     let next : 1 + n ≡ suc n = omega arith in
     sym (rounds_more scale 1 n heard given) ∙ ap (rounds_of scale heard given) next
 
-bytes_next : (scale n : ℕ) (heard given : List (List ℤ)) (before : List ℕ)
-    → bytes_before scale heard (rounded scale heard given) (bytes_in given) n
-    ≡ bytes_before scale heard given before (suc n)
-unfolding bytes_before rounds_of
-bytes_next scale zero heard given before = refl
-bytes_next scale (suc n) heard given before = ap bytes_in (rounds_next scale n heard given)
+-- Where no round stands behind the first, the field that it gave is passed on as it is.
+pub first_given : (scale t : ℕ) (heard given : List (List ℤ)) (rest : List Round) (taken field : Field)
+    → (length rest ≡ 0 → field ≡ taken) → IsRounded scale heard given t taken → length rest ≡ 0
+    → IsRounded scale heard given (given_count t rest) field
+first_given scale t heard given [] taken field same h e =
+    subst (IsRounded scale heard given t) (sym (same refl)) h
+first_given scale t heard given (round ∷ rest) taken field same h e = absurd (omega (arith, e))
 
-given_next : (scale n f : ℕ) (heard given : List (List ℤ)) (before : List ℕ) (field : Field)
-    → IsGiven scale heard (rounded scale heard given) (bytes_in given) n f field
-    → IsGiven scale heard given before (suc n) f field
-given_next scale n f heard given before field h =
-    subst (λ bytes. IsInRun scale heard (rounds_of scale heard given (suc n)) (known_word bytes) f field)
-    (bytes_next scale n heard given before)
-    (subst (λ run. IsInRun scale heard run
-    (known_word (bytes_before scale heard (rounded scale heard given) (bytes_in given) n)) f field)
-    (rounds_next scale n heard given) h)
+given_next : (scale f : ℕ) (heard given : List (List ℤ)) (before : List ℕ) (rest : List Round) (field : Field)
+    → (length rest ≡ 0 → IsRounded scale heard given f field)
+    → IsGiven scale heard (rounded scale heard given) (bytes_in given) (length rest) f field
+    → IsGiven scale heard given before (suc (length rest)) f field
+unfolding rounds_of
+given_next scale f heard given before [] field first h = first refl
+given_next scale f heard given before (round ∷ rest) field first h =
+    subst (λ run. IsRounded scale heard run f field) (rounds_next scale (length rest) heard given) h
 
 -- ---- one round more
 
@@ -60,16 +59,16 @@ given_off round t e = cond-false round.on (t - 1) t e
 
 pub passed_none : (scale : ℕ) (heard given : List (List ℤ)) (before : List ℕ) (t : ℕ) (field : Field)
     → IsInRun scale heard given (known_word before) t field → IsPassed scale heard given before t [] [] true field
-unfolding rounds_of bytes_before
 passed_none scale heard given before t field h = record { at = tt; count = refl; given_is = λ _. h }
 
 -- a round that holds a field gives it
 pub passed_on : (scale : ℕ) (heard given : List (List ℤ)) (before : List ℕ) (t : ℕ) (round new : Round)
-    (rest after : List Round) (answer : Bool) (field : Field) → round.on ≡ true → 0 < t → new.on ≡ true
+    (rest after : List Round) (answer : Bool) (taken field : Field) → round.on ≡ true → 0 < t → new.on ≡ true
     → Holds scale heard given before (t - 1 + 1) new.held new.bytes.items new.unroll
+    → (length rest ≡ 0 → field ≡ taken) → IsRounded scale heard given (t - 1) taken
     → IsPassed scale heard (rounded scale heard given) (bytes_in given) (t - 1) rest after answer field
     → IsPassed scale heard given before t (round ∷ rest) (new ∷ after) answer field
-passed_on scale heard given before t round new rest after answer field on some new_on held p = record {
+passed_on scale heard given before t round new rest after answer taken field on some new_on held same_field r p = record {
   at = (
     record {
       on = λ _. (
@@ -84,7 +83,8 @@ passed_on scale heard given before t round new rest after answer field on some n
       ∙ ap (λ n. given_count n rest + cond answer 1 0) (sym (given_on round t on));
   given_is = λ e. subst (λ f. IsGiven scale heard given before (suc (length rest)) f field)
       (ap (λ n. given_count n rest) (sym (given_on round t on)))
-      (given_next scale (length rest) (given_count (t - 1) rest) heard given before field (p.given_is e));
+      (given_next scale (given_count (t - 1) rest) heard given before rest field
+      (first_given scale (t - 1) heard given rest taken field same_field r) (p.given_is e));
 }
   where
     same : t - 1 + 1 ≡ t + 1 - 1
@@ -163,17 +163,19 @@ past_end scale heard given before t new off l = record {
 -- a field came out of the rounds behind the first
 pub ended_given : (scale : ℕ) (heard given : List (List ℤ)) (before : List ℕ) (t : ℕ) (round new : Round)
     (rest after : List Round) (field : Field) → new.on ≡ false → length given ≤ 313 * t
+    → (length rest ≡ 0 → IsRounded scale heard given (given_count (given_by round t) rest) field)
     → IsEndedFirst scale heard (rounded scale heard given) (bytes_in given) t (given_by round t) rest after true field
     → IsEnded scale heard given before t (round ∷ rest) (new ∷ after) true field
-ended_given scale heard given before t round new rest after field off l p = record {
+ended_given scale heard given before t round new rest after field off l first p = record {
   at = (
     past_end scale heard given before t new off l,
     subst (λ n. AreAt scale heard (rounded scale heard given) (bytes_in given) n after)
         (sym (given_off new t off)) p.at,
   );
   count = ap (λ n. given_count n after) (given_off new t off) ∙ p.count;
-  given_is = λ e. given_next scale (length rest) (given_count (given_by round t) rest) heard given before field
+  given_is = λ e. given_next scale (given_count (given_by round t) rest) heard given before rest field first
       (p.given_is e);
+  some = λ e. omega arith;
   all = λ e. absurd (true≢false e);
 }
 
@@ -191,11 +193,13 @@ ended_next scale heard given before t round new rest between after answer first 
         (sym (given_off new t off)) q.at,
   );
   count = ap (λ n. given_count n after) (given_off new t off) ∙ q.count ∙ ap (λ n. n + cond answer 1 0) same;
-  given_is = λ e. given_next scale (length rest) (given_count (given_by round t) rest) heard given before field
+  given_is = λ e. given_next scale (given_count (given_by round t) rest) heard given before rest field
+      (λ none. absurd (omega (arith, none, p.long, q.some e)))
       (subst (λ n. IsGiven scale heard (rounded scale heard given) (bytes_in given) n
       (given_count (given_by round t) rest) field) p.long
       (subst (λ n. IsGiven scale heard (rounded scale heard given) (bytes_in given) (length between) n field) same
       (q.given_is e)));
+  some = λ e. omega arith;
   all = λ e. ap (λ n. given_count n after) (given_off new t off) ∙ q.all e;
 }
   where
@@ -210,6 +214,7 @@ ended_none scale heard given before t [] field e = record {
   at = tt;
   count = (let same : t ≡ t + 0 = omega arith in same);
   given_is = λ e. absurd (true≢false (sym e));
+  some = λ e. absurd (true≢false (sym e));
   all = λ e. refl;
 }
 ended_none scale heard given before t (round ∷ rounds) field e = absurd (omega arith)

@@ -7,7 +7,7 @@ use Rattle.dtx_receiver.specs.Bytes.{bytes_in}
 use Rattle.dtx_rounds.specs.Fields.{AreSegments}
 use Rattle.dtx_rounds.specs.Known.{known_word}
 use Rattle.dtx_rounds.specs.Rounds.{rounded, rounds_of}
-use Rattle.dtx_rounds.specs.RunField.{Holds, IsInRun, StayKnown}
+use Rattle.dtx_rounds.specs.RunField.{Holds, IsInRun, IsRounded, StayKnown}
 use Rattle.dtx_rounds.specs.declared.field.Field.{Field}
 use Rattle.dtx_rounds.specs.declared.round.Round.{Round}
 
@@ -48,16 +48,10 @@ abbrev pub given_count : ℕ → List Round → ℕ
 given_count t [] = t
 given_count t (round ∷ rounds) = given_count (given_by round t) rounds
 
--- the bytes of the run before the last of so many rounds
-unfoldable pub bytes_before : ℕ → List (List ℤ) → List (List ℤ) → List ℕ → ℕ → List ℕ
-bytes_before scale heard given before zero = before
-bytes_before scale heard given before (suc r) = bytes_in (rounds_of scale heard given r)
-
--- It is field f of the run after so many rounds.
+-- It is field f of the run after so many rounds, with what the last of them cost and how many symbols it moved.
 abbrev pub IsGiven : ℕ → List (List ℤ) → List (List ℤ) → List ℕ → ℕ → ℕ → Field → Type 0
-IsGiven scale heard given before rounds f field =
-    IsInRun scale heard (rounds_of scale heard given rounds)
-    (known_word (bytes_before scale heard given before rounds)) f field
+IsGiven scale heard given before zero f field = IsInRun scale heard given (known_word before) f field
+IsGiven scale heard given before (suc r) f field = IsRounded scale heard (rounds_of scale heard given r) f field
 
 -- One field more came to the rounds, and where the answer is true a field had all of them.
 pub record IsPassed (scale : ℕ) (heard given : List (List ℤ)) (before : List ℕ) (t : ℕ) (old new : List Round)
@@ -72,6 +66,7 @@ pub record IsEnded (scale : ℕ) (heard given : List (List ℤ)) (before : List 
   pub at : AreAt scale heard given before t new
   pub count : given_count t new ≡ given_count t old + (if answer then 1 else 0)
   pub given_is : answer ≡ true → IsGiven scale heard given before (length old) (given_count t old) field
+  pub some : answer ≡ true → 0 < length old
   pub all : answer ≡ false → given_count t new ≡ t
 
 -- The same of the rounds behind one that was ended. Before, n fields had come to them, and now t.

@@ -1,7 +1,8 @@
 //! Laws of rounds.
 
 ghost use Rattle.std.specs.Prelude.{◌≡◌, ◌+◌, ◌*◌, ◌<◌, ◌≤◌, ℕ, ℤ, true, Option, Some, None};
-ghost use Rattle.std.specs.Prelude.{List, [], length, slice_index_or};
+ghost use Rattle.std.specs.Prelude.{List, [], length, map, slice_index_or, sum};
+ghost use Rattle.std.specs.List.{range_with_len};
 ghost use Rattle.dtx_laws.specs.Codeword.{IsCodeword};
 ghost use Rattle.dtx_outer.specs.Inner.{word_at};
 ghost use Rattle.dtx_receiver.specs.Bytes.{bytes_in};
@@ -9,12 +10,13 @@ ghost use Rattle.dtx_receiver.specs.Packets.{is_complete};
 ghost use Rattle.dtx_soft.specs.Softened.{least_cost, softened_cost};
 ghost use Rattle.dtx_acquire.specs.Acquired.{acquired};
 ghost use Rattle.dtx_rounds.specs.Decided.{decided_rows, heard_rows};
-ghost use Rattle.dtx_rounds.specs.FieldRound.{KnowsNothing, field_rounded};
+ghost use Rattle.dtx_rounds.specs.FieldRound.{KnowsNothing, field_rounded, words_known};
 ghost use Rattle.dtx_rounds.specs.Fields.{AreSegments, rows_of};
-ghost use Rattle.dtx_rounds.specs.Known.{known_byte, known_bytes, known_word};
+ghost use Rattle.dtx_rounds.specs.Known.{known_byte, known_bytes, known_count, known_word};
 ghost use Rattle.dtx_rounds.specs.Pins.{byte_at_step};
-ghost use Rattle.dtx_rounds.specs.Rounds.{coder_cost, groups_in, heard_of, refined, rounded, rounds_of};
-ghost use Rattle.dtx_rounds.specs.RunField.{IsInRun};
+ghost use Rattle.dtx_rounds.specs.Rounds.{coder_cost, groups_in, fields_in, heard_of, refined, rounded, rounds_of};
+ghost use Rattle.dtx_rounds.specs.Rounds.{round_cost, round_moved};
+ghost use Rattle.dtx_rounds.specs.RunField.{IsInRun, IsRounded};
 ghost use Rattle.dtx_rounds.specs.declared.field.Field.{Field};
 
 use crate::field::{BYTES, WORDS};
@@ -87,6 +89,21 @@ pub fn a_capture_begins_as_it_was_acquired()
 {
     whole_fields_are_acquired();
 }
+
+/// The numbers of a round are the sums of those of its fields: what their paths cost, in how many symbols they moved and
+/// how many of their words are known.
+pub fn the_numbers_of_a_round_are_those_of_its_fields()
+    ensures cost { (scale : ℕ) (heard given : List (List ℤ)) (field : ℕ → Field)
+        → ((f : ℕ) → f < fields_in given → IsRounded scale heard given f (field f))
+        → sum (map (λ f. (field f).cost) (range_with_len 0 (fields_in given))) ≡ round_cost scale heard given }
+    ensures moved { (scale : ℕ) (heard given : List (List ℤ)) (field : ℕ → Field)
+        → ((f : ℕ) → f < fields_in given → IsRounded scale heard given f (field f))
+        → sum (map (λ f. (field f).moved) (range_with_len 0 (fields_in given))) ≡ round_moved scale heard given }
+    ensures known { (scale : ℕ) (heard given : List (List ℤ)) (field : ℕ → Field) → AreSegments given
+        → ((f : ℕ) → f < fields_in given → IsRounded scale heard given f (field f))
+        → sum (map (λ f. words_known (field f).words) (range_with_len 0 (fields_in given)))
+        ≡ known_count (bytes_in given) }
+{}
 
 /// Where a round gives what it was given, all further ones do.
 pub fn a_round_that_moves_nothing_is_the_last()

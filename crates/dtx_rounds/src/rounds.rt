@@ -1,13 +1,14 @@
 //! Rounds, one behind the other.
 
-ghost use Rattle.std.specs.Prelude.{◌≡◌, ◌*◌, ◌<◌, ◌≤◌, ℕ, ℤ, IfOk, false, List, [], length};
+ghost use Rattle.std.specs.Prelude.{◌≡◌, ◌*◌, ◌<◌, ◌≤◌, ℕ, ℤ, IfOk, true, false, List, [], length};
 ghost use Rattle.dtx_receiver.specs.Bytes.{bytes_in};
 ghost use Rattle.dtx_rounds.specs.Fields.{AreSegments};
 ghost use Rattle.dtx_rounds.specs.Known.{known_word};
 ghost use Rattle.dtx_rounds.specs.MadeRounds.{AreFinished, AreMade, AreTaken};
 ghost use Rattle.dtx_rounds.specs.Rounds.{fields_in, rounded};
-ghost use Rattle.dtx_rounds.specs.RunField.{IsInRun};
+ghost use Rattle.dtx_rounds.specs.RunField.{IsInRun, IsRounded};
 ghost use Rattle.dtx_rounds.specs.RunRounds.{AreAt, AreOff, IsAt, IsEnded, IsEndedFirst, IsPassed, IsRun, given_by};
+ghost use Rattle.dtx_rounds.specs.RunRounds.{given_count};
 
 use crate::field::Field;
 use crate::means::Means;
@@ -77,6 +78,7 @@ fn pass(means: &mut Means, rounds: &mut [Round], field: &mut Field) -> bool
         → 313 * t < length given → AreAt means.old.scale heard given before t rounds.old
         → IsInRun means.old.scale heard given (known_word before) t field.old
         → IsPassed means.old.scale heard given before t rounds.old rounds.new result field.new }
+    ensures still { length rounds.old ≡ 0 → field.new ≡ field.old }
 {
     match rounds.split_first_mut() {
         None => true,
@@ -122,6 +124,10 @@ fn end_first(means: &mut Means, round: &mut Round, rest: &mut [Round], field: &m
         rest.old
         → IsEndedFirst means.old.scale heard (rounded means.old.scale heard given) (bytes_in given) t
         (given_by round.old t) rest.old rest.new result field.new }
+    ensures last { (heard given : List (List ℤ)) (before : List ℕ) (t : ℕ) → IsRun heard given before
+        → t ≡ fields_in given → IsAt means.old.scale heard given before t round.old → result ≡ true
+        → length rest.old ≡ 0
+        → IsRounded means.old.scale heard given (given_count (given_by round.old t) rest.old) field.new }
 {
     if round.finish(means, field) {
         pass(means, rest, field)

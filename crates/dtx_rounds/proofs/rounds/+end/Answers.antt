@@ -22,6 +22,7 @@ returns-then-end_first-clause-ended m c = λ heard given before t run all at.
     c.end_first.new.rest) true c.end_first.new.field) (sym split)
     (ended_given c.args.means.now.scale heard given before t c.in-Some.round.now c.end_first.new.round
     c.in-Some.rest.now c.end_first.new.rest c.end_first.new.field c.end_first.ensures.off (within t given all)
+    (c.end_first.ensures.last heard given before t run all parts.0 c.if-end_first.true)
     (subst (λ b. IsEndedFirst c.args.means.now.scale heard (rounded c.args.means.now.scale heard given) (bytes_in given)
     t (given_by c.in-Some.round.now t) c.in-Some.rest.now c.end_first.new.rest b c.end_first.new.field)
     c.if-end_first.true p))

@@ -1,5 +1,5 @@
 use Rattle.std.proofs.Common.{◌≡◌, ℕ, ℤ, ◌+◌, ◌-◌, ◌*◌, ◌<◌, ◌≤◌, ◌⊎◌, inl, inr, true, false, List, ◌∷◌, length, sym}
-use Rattle.std.proofs.Common.{subst}
+use Rattle.std.proofs.Common.{ap, subst}
 use Rattle.std.proofs.Common.{◌∙◌, arith}
 use Rattle.dtx_receiver.specs.Bytes.{bytes_in}
 use Rattle.dtx_rounds.specs.Known.{known_word}
@@ -30,7 +30,7 @@ returns-then-take-clause-passed m c = λ heard given before t run more at h.
     subst (λ rounds. IsPassed scale heard given before t rounds (c.take.new.self ∷ c.pass.new.rounds) c.pass.result
     c.pass.new.field) (sym split)
     (passed_on scale heard given before t c.in-Some.round.now c.take.new.self c.in-Some.rest.now c.pass.new.rounds
-    c.pass.result c.pass.new.field on held.0 c.take.ensures.on both.1 p)
+    c.pass.result c.take.new.field c.pass.new.field on held.0 c.take.ensures.on both.1 c.pass.ensures.still both.0 p)
   where
     scale : ℕ
     scale = c.args.means.now.scale
@@ -82,3 +82,9 @@ returns-else-take-clause-passed m c = λ heard given before t run more at h.
         → (t ≡ 0) ⊎ (length given ≤ 313 * t) → t ≡ 0
     first heard given t more (inl e) = e
     first heard given t more (inr l) = absurd (omega (arith, more, l))
+
+pub returns-then-take-clause-still : goal.returns-then-take-clause-still
+returns-then-take-clause-still m c = λ e. absurd (omega (arith, ap length c.in-Some.ensures.cases.0, e))
+
+pub returns-else-take-clause-still : goal.returns-else-take-clause-still
+returns-else-take-clause-still m c = λ e. absurd (omega (arith, ap length c.in-Some.ensures.cases.0, e))

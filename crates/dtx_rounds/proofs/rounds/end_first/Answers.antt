@@ -1,10 +1,11 @@
 use Rattle.std.proofs.Common.{◌≡◌, ℕ, ℤ, ◌+◌, ◌-◌, ◌*◌, ◌<◌, ◌≤◌, true, List, length, sym, subst, ◌∙◌, arith}
+use Rattle.std.proofs.lemmas.Bool.{true≢false}
 use Rattle.dtx_receiver.specs.Bytes.{bytes_in}
 use Rattle.dtx_rounds.specs.Known.{known_word}
 use Rattle.dtx_rounds.specs.Rounds.{rounded}
-use Rattle.dtx_rounds.specs.RunField.{IsInRun}
-use Rattle.dtx_rounds.specs.RunRounds.{AreAt, IsEndedFirst, IsPassed, IsRun, given_by}
-use Rattle.dtx_rounds.proofs.PassedRounds.{first_off, first_on, given_off, given_on, next_run}
+use Rattle.dtx_rounds.specs.RunField.{IsInRun, IsRounded}
+use Rattle.dtx_rounds.specs.RunRounds.{AreAt, IsEndedFirst, IsPassed, IsRun, given_by, given_count}
+use Rattle.dtx_rounds.proofs.PassedRounds.{first_given, first_off, first_on, given_off, given_on, next_run}
 use Rattle.dtx_rounds.proofs.RefinedLemmas.{length-rounded}
 use Rattle.dtx_rounds.proofs.rounds.end_first.Goals as goal
 
@@ -52,3 +53,17 @@ returns-else-finish-clause-ended c = λ heard given before t run all is at.
     first_off c.args.means.now.scale heard (rounded c.args.means.now.scale heard given) (bytes_in given) t
     (given_by c.args.round.now t) c.args.rest.now c.finish.new.field
     (given_off c.args.round.now t (sym c.finish.ensures.had ∙ c.if-finish.false)) at
+
+pub returns-then-finish-clause-last : goal.returns-then-finish-clause-last
+returns-then-finish-clause-last c = λ heard given before t run all is true none.
+    let on = sym c.finish.ensures.had ∙ c.if-finish.true in
+    let held = is.on on in
+    let turned = c.finish.ensures.last on heard given before (t - 1) run.long run.stays
+    (omega (arith, all, held.0)) (omega (arith, all, held.0)) held.1 in
+    subst (λ n. IsRounded c.args.means.now.scale heard given (given_count n c.args.rest.now) c.pass.new.field)
+    (sym (given_on c.args.round.now t on))
+    (first_given c.args.means.now.scale (t - 1) heard given c.args.rest.now c.finish.new.field c.pass.new.field
+    c.pass.ensures.still turned none)
+
+pub returns-else-finish-clause-last : goal.returns-else-finish-clause-last
+returns-else-finish-clause-last c = λ heard given before t run all is wrong none. absurd (true≢false (sym wrong))
