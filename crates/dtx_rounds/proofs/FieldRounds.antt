@@ -2,11 +2,11 @@
 -- stays.
 use Rattle.std.proofs.Common.{◌≡◌, ℕ, ℤ, zero, suc, ◌+◌, ◌-◌, ◌*◌, ◌/◌, ◌%◌, ◌<◌, ◌≤◌, ◌⊎◌, inl, inr, min, nat_le, nat_lt, Bool, true}
 use Rattle.std.proofs.Common.{false, cond, ◌&&◌, Option, None, List, [], ◌++◌, length, map, take, drop, get_or, sum}
-use Rattle.std.proofs.Common.{refl, sym, ap, ap₂, ◌∙◌, subst, arith}
+use Rattle.std.proofs.Common.{refl, sym, ap, ap₂, ◌∙◌, arith}
 use Rattle.std.specs.List.{range_with_len}
 use Rattle.std.proofs.lemmas.Bool.{cases_lt}
 use Rattle.std.proofs.lemmas.List.{get_or-drop, get_or-take, length-drop, length-take, length-take-le, take_at}
-use Rattle.std.proofs.lemmas.List.FromFn.{get_or-map-range_with_len, length-map-range_with_len}
+use Rattle.std.proofs.lemmas.List.FromFn.{get_or-map-range_with_len}
 use Rattle.dtx_lists.proofs.Range.{map-range_same}
 use Rattle.dtx_lists.proofs.RangeMoved.{map-range_moved}
 use Rattle.dtx_lists.proofs.RangeSums.{over, over_parts}
@@ -17,7 +17,7 @@ use Rattle.dtx_pins.specs.PinnedField.{pinned, pinned_coder_cost}
 use Rattle.dtx_rounds.specs.FieldRound.{field_cost, field_rounded, rows_moved}
 use Rattle.dtx_rounds.specs.Known.{known_bytes}
 use Rattle.dtx_rounds.specs.Pins.{byte_at_step, field_pins, known_pin, pin_of}
-use Rattle.dtx_rounds.specs.Rounds.{coder_cost, groups_in, in_whole_group, moved_in, paths_in, pins_in, round_segment}
+use Rattle.dtx_rounds.specs.Rounds.{coder_cost, groups_in, in_whole_group, moved_in, paths_in, round_segment}
 use Rattle.dtx_rounds.specs.Rounds.{fields_in, rounded}
 use Rattle.dtx_rounds.proofs.OwnRounds.{group_row}
 use Rattle.dtx_rounds.proofs.RoundLevels.{after, length-after, length-groups, same_groups}

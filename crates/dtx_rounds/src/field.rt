@@ -112,8 +112,22 @@ impl Field {
         self.count.saturating_sub(1) / GROUP_PACKETS * GROUP_PACKETS
     }
 
+    /// What the least paths cost by which the segments were decided.
+    pub fn cost(&self) -> u64
+        ensures { result ≡ self.now.cost }
+    {
+        self.cost
+    }
+
+    /// In how many symbols the last round's segments differ from those of the round before.
+    pub fn moved(&self) -> u64
+        ensures { result ≡ self.now.moved }
+    {
+        self.moved
+    }
+
     /// How many of the words that begin in this field are known.
-    pub(crate) fn known_words(&self) -> u64
+    pub fn known_words(&self) -> u64
         ensures known { result ≡ words_known self.now.words }
         ensures few { result ≤ WORDS }
     {

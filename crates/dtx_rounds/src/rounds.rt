@@ -16,7 +16,8 @@ use crate::round::Round;
 use dtx_soft::MAX_SCALE;
 use std::alloc::{AllocError, Global};
 
-/// Rounds over the fields of a capture, each a field behind the one before it.
+/// Rounds over the fields of a capture, each a field behind the one before it. `AreMade scale heard given count t f
+/// rounds` says that so many rounds took the first `t` fields of a run, and that `f` of these have had all rounds.
 #[derive(Drop)]
 pub struct Rounds {
     means: Means,
@@ -37,8 +38,8 @@ impl Rounds {
         })
     }
 
-    /// Takes the next field of a capture. Where a field has had all rounds, it is given in its place, and the answer is
-    /// true.
+    /// Takes the next field of a capture, of which nothing is known. Where a field has had all rounds, it is given in its
+    /// place, and the answer is true. The fields are given in order.
     pub fn take(&mut self, field: &mut Field) -> bool
         ensures taken { (scale count t f : ℕ) (heard given : List (List ℤ)) → AreSegments given
             → length heard ≡ length given → 313 * t < length given → AreMade scale heard given count t f self.old

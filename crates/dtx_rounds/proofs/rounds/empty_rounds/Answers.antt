@@ -1,4 +1,4 @@
-use Rattle.std.proofs.Common.{length, ap, ◌∙◌, sym, subst, arith}
+use Rattle.std.proofs.Common.{sym, subst, arith}
 use Rattle.dtx_rounds.specs.RunRounds.{AreOff}
 use Rattle.dtx_rounds.proofs.MadeLemmas.{off_more}
 use Rattle.dtx_rounds.proofs.rounds.empty_rounds.Goals as goal
