@@ -1,8 +1,8 @@
 -- A round over a field alone is what the round over the run makes of that field. A field of which no byte more is known
 -- stays.
-use Rattle.std.proofs.Common.{◌≡◌, ℕ, ℤ, zero, suc, ◌+◌, ◌-◌, ◌*◌, ◌/◌, ◌%◌, ◌<◌, ◌≤◌, ◌⊎◌, inl, inr, min, nat_le, nat_lt, Bool, true}
-use Rattle.std.proofs.Common.{false, cond, ◌&&◌, Option, None, List, [], ◌++◌, length, map, take, drop, get_or, sum}
-use Rattle.std.proofs.Common.{refl, sym, ap, ap₂, ◌∙◌, arith}
+use Rattle.std.proofs.Common.{◌≡◌, ℕ, ℤ, zero, suc, ◌+◌, ◌-◌, ◌*◌, ◌/◌, ◌%◌, ◌<◌, ◌≤◌, ◌⊎◌, inl, inr, min, nat_le}
+use Rattle.std.proofs.Common.{nat_lt, Bool, true, false, cond, ◌&&◌, Option, None, List, [], ◌++◌, length, map, take}
+use Rattle.std.proofs.Common.{drop, get_or, sum, refl, sym, ap, ap₂, ◌∙◌, arith}
 use Rattle.std.specs.List.{range_with_len}
 use Rattle.std.proofs.lemmas.Bool.{cases_lt}
 use Rattle.std.proofs.lemmas.List.{get_or-drop, get_or-take, length-drop, length-take, length-take-le, take_at}
@@ -151,7 +151,8 @@ unfolding round_segment in_whole_group
 cell_is scale heard given known f i l =
     let place : (313 * f + i) % 313 ≡ i = omega arith in
     let field : (313 * f + i) / 313 ≡ f = omega arith in
-    ap₂ (λ j g. cell scale j (groups_in given g) (paths_in scale heard known g) (get_or given (313 * f + i) [])) place field
+    ap₂ (λ j g. cell scale j (groups_in given g) (paths_in scale heard known g) (get_or given (313 * f + i) []))
+    place field
 
 -- segment i of a field after a round over the field alone
 pub field_segment : (scale : ℕ) (heard given : List (List ℤ)) (known part : List (Option ℕ)) (f i : ℕ)
@@ -225,7 +226,8 @@ field_moves given new f =
 
 -- the numbers below n and below the whole, field by field
 sum_of_fields : (h : ℕ → ℕ) (whole n : ℕ)
-    → sum (map (λ f. over h (313 * f) (min 313 (whole - 313 * f))) (range_with_len 0 n)) ≡ over h 0 (min (313 * n) whole)
+    → sum (map (λ f. over h (313 * f) (min 313 (whole - 313 * f))) (range_with_len 0 n))
+    ≡ over h 0 (min (313 * n) whole)
 sum_of_fields h whole zero = (let none : 0 ≡ min (313 * 0) whole = omega arith in ap (over h 0) none)
 sum_of_fields h whole (suc n) =
     let next : suc n ≡ n + 1 = omega arith in

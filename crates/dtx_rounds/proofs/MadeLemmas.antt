@@ -15,7 +15,8 @@ use Rattle.dtx_rounds.proofs.PassedRounds.{given_off}
 
 -- ---- the beginning
 
-pub off_more : (rounds : List Round) (round : Round) → AreOff rounds → round.on ≡ false → AreOff (rounds ++ (round ∷ []))
+pub off_more : (rounds : List Round) (round : Round) → AreOff rounds → round.on ≡ false
+    → AreOff (rounds ++ (round ∷ []))
 off_more [] round h e = (e, tt)
 off_more (first ∷ rounds) round h e = (h.0, off_more rounds round h.1 e)
 

@@ -34,7 +34,8 @@ pub quotient_is : (scale z : ℕ) (symbol : ℤ) → 0 < scale → scale < 19 �
 quotient_is scale z symbol some most small e =
     let first : (8 * (scale - 1) + z) / 8 + 1 ≡ scale = omega arith in
     let second : (8 * (scale - 1) + z) % 8 ≡ z = omega arith in
-    let there = (Decides-int_eq _ _).0 (at_below is_quotient 144 (8 * (scale - 1) + z) all_are_quotients (omega arith)) in
+    let there = (Decides-int_eq _ _).0
+    (at_below is_quotient 144 (8 * (scale - 1) + z) all_are_quotients (omega arith)) in
     ap (λ s. int_div s (pos scale)) e
     ∙ ap₂ (λ (c y : ℕ). int_div (symbol_at c y) (pos c)) (sym first) (sym second)
     ∙ there

@@ -68,7 +68,7 @@ pub passed_on : (scale : ℕ) (heard given : List (List ℤ)) (before : List ℕ
     → (length rest ≡ 0 → field ≡ taken) → IsRounded scale heard given (t - 1) taken
     → IsPassed scale heard (rounded scale heard given) (bytes_in given) (t - 1) rest after answer field
     → IsPassed scale heard given before t (round ∷ rest) (new ∷ after) answer field
-passed_on scale heard given before t round new rest after answer taken field on some new_on held same_field r p = record {
+passed_on scale heard given before t round new rest after answer taken field on some new_on held stays r p = record {
   at = (
     record {
       on = λ _. (
@@ -84,7 +84,7 @@ passed_on scale heard given before t round new rest after answer taken field on 
   given_is = λ e. subst (λ f. IsGiven scale heard given before (suc (length rest)) f field)
       (ap (λ n. given_count n rest) (sym (given_on round t on)))
       (given_next scale (given_count (t - 1) rest) heard given before rest field
-      (first_given scale (t - 1) heard given rest taken field same_field r) (p.given_is e));
+      (first_given scale (t - 1) heard given rest taken field stays r) (p.given_is e));
 }
   where
     same : t - 1 + 1 ≡ t + 1 - 1

@@ -50,13 +50,12 @@ pub on_levels : (scale : ℕ) (pins : List (List ℕ)) (rows : List (List ℤ)) 
     → IsOnLevels scale (get_or (pinned scale pins rows) i [])
 unfolding data_symbol
 on_levels scale pins rows i l k m n =
-    let one = (pinned_found scale pins rows).coders e (coder_small d) in
-    (
+    let one = (pinned_found scale pins rows).coders e (coder_small d) in (
       get_or one.levels (d / 12) 0,
       path_small one.levels one.start (d / 12) one.least.path (omega (arith, few, one.least.long, length-coder rows e)),
       sym (ap₂ (λ (x y : ℕ). get_or (get_or paths x []) y (pos 0)) row column)
-      ∙ ap (data_symbol paths) (sym (own_place d))
-      ∙ path_symbol scale pins rows paths e (d / 12) (coder_small d) (pinned_found scale pins rows) few,
+          ∙ ap (data_symbol paths) (sym (own_place d))
+          ∙ path_symbol scale pins rows paths e (d / 12) (coder_small d) (pinned_found scale pins rows) few,
     )
   where
     d : ℕ
@@ -94,7 +93,8 @@ pub left_on_levels : (scale now c : ℕ) (pins : List (List ℕ)) (rows lent : L
 left_on_levels scale now c pins rows lent same e i l =
     let long : length (take c lent) ≡ length rows = ap length e ∙ (pinned_found scale pins rows).long in
     subst (λ s. IsOnLevels s (get_or (take c lent) i [])) (sym same)
-    (subst (λ paths. IsOnLevels scale (get_or paths i [])) (sym e) (on_levels scale pins rows i (omega (arith, long, l))))
+    (subst (λ paths. IsOnLevels scale (get_or paths i [])) (sym e)
+    (on_levels scale pins rows i (omega (arith, long, l))))
 
 -- ---- the groups of a field
 
@@ -308,7 +308,8 @@ rounded_field scale n c heard given new known cost moved few heard_long given_lo
             ∙ ap (on_path scale (get_or paths (i - 1) []))
             (sym (given_at (i - 1) there) ∙ get_or-take n given (1 + (i - 1)) [] (omega arith)
             ∙ ap (λ j. get_or given j []) (sym next))
-            ∙ sym (round_is scale n c i heard given known few (omega (arith, heard_long)) (omega (arith, given_long)) e l
+            ∙ sym (round_is scale n c i heard given known few (omega (arith, heard_long))
+            (omega (arith, given_long)) e l
             some within)
           where
             paths : List (List ℤ)

@@ -1,6 +1,6 @@
 -- A field of which no byte is known keeps the segments that were acquired, and their cost.
-use Rattle.std.proofs.Common.{◌≡◌, ℕ, ℤ, ◌+◌, ◌-◌, ◌*◌, ◌/◌, ◌%◌, ◌<◌, ◌≤◌, min, Option, None, List, [], length, map, drop}
-use Rattle.std.proofs.Common.{get_or, sum, refl, sym, ap, ◌∙◌, subst, arith}
+use Rattle.std.proofs.Common.{◌≡◌, ℕ, ℤ, ◌+◌, ◌-◌, ◌*◌, ◌/◌, ◌%◌, ◌<◌, ◌≤◌, min, Option, None, List, [], length, map}
+use Rattle.std.proofs.Common.{drop, get_or, sum, refl, sym, ap, ◌∙◌, subst, arith}
 use Rattle.std.specs.List.{range_with_len}
 use Rattle.dtx_lists.proofs.Range.{map-range_same}
 use Rattle.dtx_soft.specs.Coders.{coder_symbols}

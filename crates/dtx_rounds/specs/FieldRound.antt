@@ -1,5 +1,5 @@
--- A round over a single field (the profile's own; ATSC A/53 Part 2, trellis coding). The field is a run of its own, of at
--- most 313 segments, and what is known of it is given.
+-- A round over a single field (the profile's own; ATSC A/53 Part 2, trellis coding). The field is a run of its own, of
+-- at most 313 segments, and what is known of it is given.
 use Rattle.std.specs.Prelude.{ℕ, ℤ, pos, ◌≡◌, ◌<◌, ◌≤◌, Bool, true, false, Option, None, List, [], ◌++◌}
 use Rattle.std.specs.Prelude.{length, map, take, drop, filter, slice_index_or, sum}
 use Rattle.std.specs.List.{range_with_len}

@@ -90,8 +90,8 @@ pub fn a_capture_begins_as_it_was_acquired()
     whole_fields_are_acquired();
 }
 
-/// The numbers of a round are the sums of those of its fields: what their paths cost, in how many symbols they moved and
-/// how many of their words are known.
+/// The numbers of a round are the sums of those of its fields: what their paths cost, in how many symbols they moved,
+/// and how many of their words are known.
 pub fn the_numbers_of_a_round_are_those_of_its_fields()
     ensures cost { (scale : ℕ) (heard given : List (List ℤ)) (field : ℕ → Field)
         → ((f : ℕ) → f < fields_in given → IsRounded scale heard given f (field f))

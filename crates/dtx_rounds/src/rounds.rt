@@ -38,8 +38,8 @@ impl Rounds {
         })
     }
 
-    /// Takes the next field of a capture, of which nothing is known. Where a field has had all rounds, it is given in its
-    /// place, and the answer is true. The fields are given in order.
+    /// Takes the next field of a capture, of which nothing is known. Where a field has had all rounds, it is given in
+    /// its place, and the answer is true. The fields are given in order.
     pub fn take(&mut self, field: &mut Field) -> bool
         ensures taken { (scale count t f : ℕ) (heard given : List (List ℤ)) → AreSegments given
             → length heard ≡ length given → 313 * t < length given → AreMade scale heard given count t f self.old

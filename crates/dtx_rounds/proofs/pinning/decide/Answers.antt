@@ -32,7 +32,8 @@ returns-then-field-clause-decided c = record {
       c.args.field.now.known.items (take n given)) c.deref_mut.ensures.value
       ∙ sym (cond-true c.args.field.now.knows_more _ (take n c.args.field.now.decided.items) c.if-field.true);
   cost = is.cost_is
-      ∙ ap₂ (λ received known. field_cost c.args.means.now.scale (take n received) known) c.deref-then-field.ensures.value
+      ∙ ap₂ (λ received known. field_cost c.args.means.now.scale (take n received) known)
+      c.deref-then-field.ensures.value
       c.deref.ensures.value
       ∙ sym (cond-true c.args.field.now.knows_more _ c.args.field.now.cost c.if-field.true);
   moved = is.moved_is

@@ -10,7 +10,8 @@ use Rattle.dtx_rounds.proofs.pinning.move_all.Goals as goal
 pub loop-i-preserved : goal.loop-i-preserved
 loop-i-preserved c = record {
   written = written_set [] i (on_paths c.args.scale c.args.paths.now c.args.segments.now) c.args.segments.now
-      c.loop-i.segments c.move_symbols-moved.new.segment c.loop-i.invariant.written (omega (arith, c.loop-i.invariant.long))
+      c.loop-i.segments c.move_symbols-moved.new.segment c.loop-i.invariant.written
+      (omega (arith, c.loop-i.invariant.long))
       row;
   moved = moved_next _ i c.loop-i.moved c.move_symbols-moved.result c.loop-i.invariant.moved
       (c.move_symbols-moved.ensures.moved
