@@ -21,6 +21,7 @@ pub mod RoundsLemmas
 pub mod RefinedLemmas
 pub mod PassedRounds
 pub mod BegunFields
+pub mod GivenLemmas
 pub mod MadeLemmas
 pub mod RoundNumbers
 pub mod FieldRows

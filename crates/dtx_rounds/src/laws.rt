@@ -17,6 +17,7 @@ ghost use Rattle.dtx_rounds.specs.Pins.{byte_at_step};
 ghost use Rattle.dtx_rounds.specs.Rounds.{coder_cost, groups_in, fields_in, heard_of, refined, rounded, rounds_of};
 ghost use Rattle.dtx_rounds.specs.Rounds.{round_cost, round_moved};
 ghost use Rattle.dtx_rounds.specs.RunField.{IsInRun, IsRounded};
+ghost use Rattle.dtx_rounds.specs.RunRounds.{IsGiven};
 ghost use Rattle.dtx_rounds.specs.declared.field.Field.{Field};
 
 use crate::field::{BYTES, WORDS};
@@ -89,6 +90,17 @@ pub fn a_capture_begins_as_it_was_acquired()
 {
     whole_fields_are_acquired();
 }
+
+/// What rounds give of a capture is the refined one: field f has the segments after so many rounds over it, and what the
+/// last of these rounds cost, knew and moved.
+pub fn what_rounds_give_is_refined()
+    ensures segments { (scale count f : ℕ) (symbols : List ℤ) (field : Field)
+        → IsGiven scale (heard_of symbols) (acquired scale symbols) [] count f field
+        → decided_rows field ≡ rows_of (refined scale symbols count) f }
+    ensures last { (scale r f : ℕ) (symbols : List ℤ) (field : Field)
+        → IsGiven scale (heard_of symbols) (acquired scale symbols) [] (r + 1) f field
+        → IsRounded scale (heard_of symbols) (refined scale symbols r) f field }
+{}
 
 /// The numbers of a round are the sums of those of its fields: what their paths cost, in how many symbols they moved,
 /// and how many of their words are known.
