@@ -91,8 +91,8 @@ pub fn a_capture_begins_as_it_was_acquired()
     whole_fields_are_acquired();
 }
 
-/// What rounds give of a capture is the refined one: field f has the segments after so many rounds over it, and what the
-/// last of these rounds cost, knew and moved.
+/// What rounds give of a capture is the refined one: field f has the segments after so many rounds over it, and what
+/// the last of these rounds cost, knew and moved.
 pub fn what_rounds_give_is_refined()
     ensures segments { (scale count f : ℕ) (symbols : List ℤ) (field : Field)
         → IsGiven scale (heard_of symbols) (acquired scale symbols) [] count f field
