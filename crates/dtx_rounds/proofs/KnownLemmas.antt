@@ -1,12 +1,14 @@
 -- Which words and bytes of a run are known.
-use Rattle.std.proofs.Common.{◌≡◌, ℕ, ◌+◌, ◌-◌, ◌*◌, ◌/◌, ◌%◌, ◌<◌, ◌≤◌, nat_le, Bool, true, false, cond, Option}
-use Rattle.std.proofs.Common.{Some, None, option_map, List, length, get_or, refl, ap, ap₂, ◌∙◌, arith}
-use Rattle.std.proofs.lemmas.Bool.{cond-true, le-leb}
+use Rattle.std.proofs.Common.{◌≡◌, ℕ, ◌+◌, ◌-◌, ◌*◌, ◌/◌, ◌%◌, ◌<◌, ◌≤◌, ◌↔◌, nat_le, Bool, true, false, cond, Option}
+use Rattle.std.proofs.Common.{Some, None, option_map, List, length, get_or, take, refl, sym, ap, ap₂, ◌∙◌, arith}
+use Rattle.std.proofs.lemmas.Bool.{cond-false, cond-true, false_from_ne_true, le-leb}
+use Rattle.std.proofs.lemmas.List.{get_or-take, length-take-le}
 use Rattle.std.proofs.lemmas.List.FromFn.{get_or-map-range_with_len}
 use Rattle.dtx_laws.specs.Codeword.{IsCorrection}
 use Rattle.dtx_laws.specs.Words.{correction}
 use Rattle.dtx_laws.proofs.ChoiceLemmas.{correction_is}
-use Rattle.dtx_outer.specs.Inner.{codeword_byte_place, word_at}
+use Rattle.dtx_outer.specs.Inner.{IsComplete, codeword_byte_place, word_at}
+use Rattle.dtx_outer.proofs.WordsLemmas.{get_or-word, length-word, word_by}
 use Rattle.dtx_receiver.specs.Packets.{is_complete}
 use Rattle.dtx_receiver.proofs.CompleteLemmas.{complete_told}
 use Rattle.dtx_rounds.specs.Known.{known_byte, known_bytes, known_code_byte, known_word}
@@ -38,10 +40,44 @@ pub known_correction : (bytes : List ℕ) (k : ℕ) (code : List ℕ) → IsKnow
     → IsCorrection 207 187 (word_at 207 52 4 bytes k) code
 known_correction bytes k code h = correction_is 207 187 (word_at 207 52 4 bytes k) code h.corrected
 
+-- of the first n bytes
+pub known_there : (bytes : List ℕ) (n k : ℕ) → n ≤ length bytes → IsComplete 207 52 4 n k
+    → known_word (take n bytes) k ≡ correction 207 187 (word_at 207 52 4 bytes k)
+unfolding known_word
+known_there bytes n k l c =
+    cond-true (is_complete (length (take n bytes)) k) (correction 207 187 (word_at 207 52 4 (take n bytes) k)) None
+    (ap (λ m. is_complete m k) (length-take-le n bytes l) ∙ (complete_told n k).1 c)
+    ∙ ap (correction 207 187) (word_by 207 52 4 bytes k (word_at 207 52 4 (take n bytes) k)
+    (length-word 207 52 4 (take n bytes) k) same)
+  where
+    same : (j : ℕ) → j < 207 → get_or (word_at 207 52 4 (take n bytes) k) j 0
+        ≡ get_or bytes (codeword_byte_place 52 4 (207 * k + j)) 0
+    same j m =
+        get_or-word 207 52 4 (take n bytes) k j m
+        ∙ get_or-take n bytes (codeword_byte_place 52 4 (207 * k + j)) 0 (c j m)
+
+pub known_absent : (bytes : List ℕ) (n k : ℕ) → n ≤ length bytes → (IsComplete 207 52 4 n k → ⊥)
+    → known_word (take n bytes) k ≡ None
+unfolding known_word
+known_absent bytes n k l none =
+    cond-false (is_complete (length (take n bytes)) k) (correction 207 187 (word_at 207 52 4 (take n bytes) k)) None
+    (ap (λ m. is_complete m k) (length-take-le n bytes l)
+    ∙ false_from_ne_true (is_complete n k) (λ t. none ((complete_told n k).0 t)))
+
 -- all bytes of a known word are there
 pub known_place : (bytes : List ℕ) (k j : ℕ) (code : List ℕ) → IsKnown bytes k code → j < 207
     → codeword_byte_place 52 4 (207 * k + j) < length bytes
 known_place bytes k j code h l = (complete_told (length bytes) k).0 h.complete j l
+
+-- a test that tells which words are complete
+pub complete_by : (b : Bool) (n k : ℕ) → ((b ≡ true) ↔ IsComplete 207 52 4 n k) → b ≡ is_complete n k
+complete_by b n k h =
+    same b (is_complete n k) (λ t. (complete_told n k).1 (h.0 t)) (λ t. h.1 ((complete_told n k).0 t))
+  where
+    same : (x y : Bool) → (x ≡ true → y ≡ true) → (y ≡ true → x ≡ true) → x ≡ y
+    same true y there back = sym (there refl)
+    same false true there back = back refl
+    same false false there back = refl
 
 -- ---- bytes
 
@@ -49,7 +85,7 @@ known_place bytes k j code h l = (complete_told (length bytes) k).0 h.complete j
 abbrev pub source : ℕ → ℕ
 source n = n - 208 * (n % 52)
 
-byte_source : (n p : ℕ) → n ≡ p + 52 * 4 * (p % 52) → (208 * (n % 52) ≤ n) × (n - 208 * (n % 52) ≡ p)
+pub byte_source : (n p : ℕ) → n ≡ p + 52 * 4 * (p % 52) → (208 * (n % 52) ≤ n) × (n - 208 * (n % 52) ≡ p)
 byte_source n p e = (omega arith, omega arith)
 
 -- a byte is known where its word is

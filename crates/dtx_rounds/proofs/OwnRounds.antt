@@ -56,7 +56,7 @@ row_place : (d : ℕ) → 313 * (d / 312) + 1 + d % 312 ≡ d + d / 312 + 1
 row_place d = omega arith
 
 -- a row of a field's groups
-group_row : (segments : List (List ℤ)) (f i : ℕ) → i < length (groups_in segments f)
+pub group_row : (segments : List (List ℤ)) (f i : ℕ) → i < length (groups_in segments f)
     → get_or (groups_in segments f) i [] ≡ get_or segments (313 * f + 1 + i) []
 unfolding groups_behind in_groups
 group_row segments f i l =
@@ -382,12 +382,13 @@ own_least scale heard given f e l is own =
         (least_levels scale (coder_symbols (groups_in heard f) e))
     found = least_path_found scale (coder_symbols (groups_in heard f) e)
 
-own_paths : (scale : ℕ) (heard given : List (List ℤ)) (f : ℕ) → AreDecided scale heard given
-    → NoneIsPutRight (bytes_in given)
-    → paths_in scale heard (known_bytes (bytes_in given)) f ≡ softened scale (groups_in heard f)
-unfolding paths_in pinned pinned_segment pinned_symbol pinned_symbols softened softened_segment softened_symbol
-    least_symbols
-own_paths scale heard given f is own =
+-- where the least path of each coder under its pins is its least path
+pub as_softened : (scale : ℕ) (pins : List (List ℕ)) (rows : List (List ℤ))
+    → ((e : ℕ) → e < 12 → least_pinned_levels scale (coder_pins pins e) (coder_symbols rows e)
+    ≡ least_levels scale (coder_symbols rows e))
+    → pinned scale pins rows ≡ softened scale rows
+unfolding pinned pinned_segment pinned_symbol pinned_symbols softened softened_segment softened_symbol least_symbols
+as_softened scale pins rows same =
     map-range_same (pinned_segment scale pins rows) (softened_segment scale rows) 0 (length rows)
     (λ i a b. map-range_same (λ k. cond (nat_lt k 4) (get_or (get_or rows i []) k (pos 0))
     (pinned_symbol scale pins rows (828 * i + (k - 4))))
@@ -395,27 +396,31 @@ own_paths scale heard given f is own =
     (softened_symbol scale rows (828 * i + (k - 4)))) 0 832
     (λ k c d. ap (cond (nat_lt k 4) (get_or (get_or rows i []) k (pos 0))) (symbol (828 * i + (k - 4)))))
   where
-    rows : List (List ℤ)
-    rows = groups_in heard f
-
-    pins : List (List ℕ)
-    pins = pins_in heard (known_bytes (bytes_in given)) f
-
     symbol : (d : ℕ) → pinned_symbol scale pins rows d ≡ softened_symbol scale rows d
     symbol d =
         ap (λ (levels : List ℕ). get_or (map (symbol_at scale) levels) (d / 12) (pos 0))
-        (own_least scale heard given f (coder_at 0 d) (coder_small d) is own)
+        (same (coder_at 0 d) (coder_small d))
+
+own_paths : (scale : ℕ) (heard given : List (List ℤ)) (f : ℕ) → AreDecided scale heard given
+    → NoneIsPutRight (bytes_in given)
+    → paths_in scale heard (known_bytes (bytes_in given)) f ≡ softened scale (groups_in heard f)
+unfolding paths_in
+own_paths scale heard given f is own =
+    as_softened scale (pins_in heard (known_bytes (bytes_in given)) f) (groups_in heard f)
+    (λ e l. own_least scale heard given f e l is own)
 
 -- ---- the round
 
 whole_place : (i : ℕ) → 0 < i % 313 → 313 * (i / 313) + 1 + (i % 313 - 1) ≡ i
 whole_place i l = omega arith
 
-own_segment : (scale : ℕ) (heard given : List (List ℤ)) (i : ℕ) → AreDecided scale heard given
-    → NoneIsPutRight (bytes_in given)
-    → round_segment scale heard (known_bytes (bytes_in given)) given i ≡ get_or given i []
+-- a segment that was decided by the paths of the round
+pub decided_segment : (scale : ℕ) (heard given : List (List ℤ)) (known : List (Option ℕ)) (i : ℕ)
+    → AreDecided scale heard given
+    → paths_in scale heard known (i / 313) ≡ softened scale (groups_in heard (i / 313))
+    → round_segment scale heard known given i ≡ get_or given i []
 unfolding round_segment restored_data in_whole_group
-own_segment scale heard given i is own = by_test (cases_Bool (in_whole_group given i))
+decided_segment scale heard given known i is paths = by_test (cases_Bool (in_whole_group given i))
   where
     f : ℕ
     f = i / 313
@@ -436,17 +441,23 @@ own_segment scale heard given i is own = by_test (cases_Bool (in_whole_group giv
     by_test : (in_whole_group given i ≡ true) ⊎ (in_whole_group given i ≡ false)
         → cond (in_whole_group given i)
         (take 4 (get_or given i []) ++ map (decided scale)
-        (drop 4 (get_or (paths_in scale heard (known_bytes (bytes_in given)) f) (i % 313 - 1) [])))
+        (drop 4 (get_or (paths_in scale heard known f) (i % 313 - 1) [])))
         (get_or given i [])
         ≡ get_or given i []
     by_test (inl e) =
         cond-true (in_whole_group given i) _ (get_or given i []) e
         ∙ ap₂ (λ (xs : List ℤ) (rows : List (List ℤ)). take 4 xs ++ map (decided scale)
-        (drop 4 (get_or rows (i % 313 - 1) []))) (row_is e) (own_paths scale heard given f is own)
+        (drop 4 (get_or rows (i % 313 - 1) []))) (row_is e) paths
         ∙ ap (λ (xs : List ℤ). xs ++ map (decided scale) (drop 4 path))
         (take_at segment_sync (map (decided scale) (drop 4 path)) 4 sync_long)
         ∙ sym (row_is e)
     by_test (inr e) = cond-false (in_whole_group given i) _ (get_or given i []) e
+
+own_segment : (scale : ℕ) (heard given : List (List ℤ)) (i : ℕ) → AreDecided scale heard given
+    → NoneIsPutRight (bytes_in given)
+    → round_segment scale heard (known_bytes (bytes_in given)) given i ≡ get_or given i []
+own_segment scale heard given i is own =
+    decided_segment scale heard given (known_bytes (bytes_in given)) i is (own_paths scale heard given (i / 313) is own)
 
 -- where nothing is put right, nothing moves
 pub own_round : (scale : ℕ) (heard given : List (List ℤ)) → AreDecided scale heard given

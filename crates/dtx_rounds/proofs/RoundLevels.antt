@@ -154,7 +154,7 @@ level_back scale z some most small =
     ∙ eqb-true _ _ (at_below comes_back 144 (8 * (scale - 1) + z) all_come_back (omega arith)) ∙ second
 
 -- the symbol of a coder's path
-path_symbol : (scale : ℕ) (pins : List (List ℕ)) (rows paths : List (List ℤ)) (e t : ℕ) (l : e < 12)
+pub path_symbol : (scale : ℕ) (pins : List (List ℕ)) (rows paths : List (List ℤ)) (e t : ℕ) (l : e < 12)
     (is : IsPinned scale pins rows paths) → t < 69 * length rows
     → data_symbol paths (symbol_place 0 t e) ≡ symbol_at scale (get_or (is.coders e l).levels t 0)
 unfolding coder_symbols

@@ -75,6 +75,13 @@ level_in run d k h l m =
     ∙ get_or-map sliced (drop 4 (data_at run d)) k (pos 0) 0 rest
     ∙ ap sliced (get_or-drop 4 (data_at run d) k (pos 0))
 
+pub length-from : (run : List (List ℤ)) (a n : ℕ) → AreLong run → a + n ≤ 4 * groups_of run
+    → length (levels_from run a n) ≡ 828 * n
+unfolding levels_from
+length-from run a n h l =
+    rows_long (λ i. sliced_data (data_at run i)) a n
+    (λ j b c. segment_long (data_at run j) (data_long run j h (omega (arith, c, l))))
+
 pub length-levels : (run : List (List ℤ)) → AreLong run → length (levels_in run) ≡ 3312 * groups_of run
 unfolding levels_in levels_from
 length-levels run h =

@@ -27,7 +27,7 @@ own_code bytes k code words e =
     (length-word 207 52 4 bytes k) (known_correction bytes k code known)
     (own_correction 207 187 (word_at 207 52 4 bytes k) (words known.complete))
 
-are_decided : (scale : ℕ) (symbols : List ℤ) → AreInFields (acquired scale symbols) → AreFields (all_fields symbols)
+pub are_decided : (scale : ℕ) (symbols : List ℤ) → AreInFields (acquired scale symbols) → AreFields (all_fields symbols)
     → 0 < scale → scale < 19 → AreDecided scale (heard_of symbols) (acquired scale symbols)
 are_decided scale symbols segments fields some most = record {
   some = some;

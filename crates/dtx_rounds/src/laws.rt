@@ -1,16 +1,26 @@
 //! Laws of rounds.
 
-ghost use Rattle.std.specs.Prelude.{◌≡◌, ◌+◌, ◌<◌, ◌≤◌, ℕ, ℤ, true, Some, None, List, [], length, slice_index_or};
+ghost use Rattle.std.specs.Prelude.{◌≡◌, ◌+◌, ◌*◌, ◌<◌, ◌≤◌, ℕ, ℤ, true, Option, Some, None};
+ghost use Rattle.std.specs.Prelude.{List, [], length, map, slice_index_or, sum};
+ghost use Rattle.std.specs.List.{range_with_len};
 ghost use Rattle.dtx_laws.specs.Codeword.{IsCodeword};
 ghost use Rattle.dtx_outer.specs.Inner.{word_at};
 ghost use Rattle.dtx_receiver.specs.Bytes.{bytes_in};
 ghost use Rattle.dtx_receiver.specs.Packets.{is_complete};
-ghost use Rattle.dtx_soft.specs.Softened.{least_cost};
+ghost use Rattle.dtx_soft.specs.Softened.{least_cost, softened_cost};
 ghost use Rattle.dtx_acquire.specs.Acquired.{acquired};
-ghost use Rattle.dtx_rounds.specs.Known.{known_bytes, known_word};
+ghost use Rattle.dtx_rounds.specs.Decided.{decided_rows, heard_rows};
+ghost use Rattle.dtx_rounds.specs.FieldRound.{KnowsNothing, field_rounded, words_known};
+ghost use Rattle.dtx_rounds.specs.Fields.{AreSegments, rows_of};
+ghost use Rattle.dtx_rounds.specs.Known.{known_byte, known_bytes, known_count, known_word};
 ghost use Rattle.dtx_rounds.specs.Pins.{byte_at_step};
-ghost use Rattle.dtx_rounds.specs.Rounds.{coder_cost, groups_in, heard_of, refined, rounded, rounds_of};
+ghost use Rattle.dtx_rounds.specs.Rounds.{coder_cost, groups_in, fields_in, heard_of, refined, rounded, rounds_of};
+ghost use Rattle.dtx_rounds.specs.Rounds.{round_cost, round_moved};
+ghost use Rattle.dtx_rounds.specs.RunField.{IsInRun, IsRounded};
+ghost use Rattle.dtx_rounds.specs.RunRounds.{IsGiven};
+ghost use Rattle.dtx_rounds.specs.declared.field.Field.{Field};
 
+use crate::field::{BYTES, WORDS};
 use dtx_acquire::laws::whole_fields_are_acquired;
 use dtx_sizes::{CODERS, CODEWORD, PACKET_DATA, SEGMENT};
 use dtx_soft::MAX_SCALE;
@@ -55,6 +65,57 @@ pub fn nothing_moves_where_no_byte_is_put_right()
 {
     whole_fields_are_acquired();
 }
+
+/// A round goes field by field: the segments of a field after it are those of a round over the field alone, under what
+/// is known there.
+pub fn a_round_goes_field_by_field()
+    ensures segments { (scale f : ℕ) (heard given : List (List ℤ)) (known : List (Option ℕ))
+        → ((n : ℕ) → n < BYTES → slice_index_or known n None ≡ known_byte (bytes_in given) (BYTES * f + n))
+        → rows_of (rounded scale heard given) f
+        ≡ field_rounded scale (rows_of heard f) known (rows_of given f) }
+{}
+
+/// A capture before its first round: its segments are a run for rounds. A field of it that was just set, at the cost of
+/// the paths by which it was acquired, is in this run.
+pub fn a_capture_begins_as_it_was_acquired()
+    ensures long { (scale : ℕ) (symbols : List ℤ) → 0 < scale → scale ≤ MAX_SCALE
+        → AreSegments (acquired scale symbols) }
+    ensures same { (scale : ℕ) (symbols : List ℤ) → length (heard_of symbols) ≡ length (acquired scale symbols) }
+    ensures field { (scale f : ℕ) (symbols : List ℤ) (field : Field) → 0 < scale → scale ≤ MAX_SCALE
+        → length field.words ≡ WORDS → field.count ≡ length (rows_of (acquired scale symbols) f)
+        → heard_rows field ≡ rows_of (heard_of symbols) f → decided_rows field ≡ rows_of (acquired scale symbols) f
+        → field.cost ≡ softened_cost scale (groups_in (heard_of symbols) f)
+        → KnowsNothing field.known.items field.words field.knows_more field.moved
+        → IsInRun scale (heard_of symbols) (acquired scale symbols) (known_word []) f field }
+{
+    whole_fields_are_acquired();
+}
+
+/// What rounds give of a capture is the refined one: field f has the segments after so many rounds over it, and what
+/// the last of these rounds cost, knew and moved.
+pub fn what_rounds_give_is_refined()
+    ensures segments { (scale count f : ℕ) (symbols : List ℤ) (field : Field)
+        → IsGiven scale (heard_of symbols) (acquired scale symbols) [] count f field
+        → decided_rows field ≡ rows_of (refined scale symbols count) f }
+    ensures last { (scale r f : ℕ) (symbols : List ℤ) (field : Field)
+        → IsGiven scale (heard_of symbols) (acquired scale symbols) [] (r + 1) f field
+        → IsRounded scale (heard_of symbols) (refined scale symbols r) f field }
+{}
+
+/// The numbers of a round are the sums of those of its fields: what their paths cost, in how many symbols they moved,
+/// and how many of their words are known.
+pub fn the_numbers_of_a_round_are_those_of_its_fields()
+    ensures cost { (scale : ℕ) (heard given : List (List ℤ)) (field : ℕ → Field)
+        → ((f : ℕ) → f < fields_in given → IsRounded scale heard given f (field f))
+        → sum (map (λ f. (field f).cost) (range_with_len 0 (fields_in given))) ≡ round_cost scale heard given }
+    ensures moved { (scale : ℕ) (heard given : List (List ℤ)) (field : ℕ → Field)
+        → ((f : ℕ) → f < fields_in given → IsRounded scale heard given f (field f))
+        → sum (map (λ f. (field f).moved) (range_with_len 0 (fields_in given))) ≡ round_moved scale heard given }
+    ensures known { (scale : ℕ) (heard given : List (List ℤ)) (field : ℕ → Field) → AreSegments given
+        → ((f : ℕ) → f < fields_in given → IsRounded scale heard given f (field f))
+        → sum (map (λ f. words_known (field f).words) (range_with_len 0 (fields_in given)))
+        ≡ known_count (bytes_in given) }
+{}
 
 /// Where a round gives what it was given, all further ones do.
 pub fn a_round_that_moves_nothing_is_the_last()

@@ -1,0 +1,104 @@
+-- The bytes of a field of a run, from the levels of its segments and the precoder bits before them.
+use Rattle.std.proofs.Common.{◌≡◌, ℕ, ℤ, zero, suc, ◌+◌, ◌-◌, ◌*◌, ◌/◌, ◌<◌, ◌≤◌, List, [], ◌++◌, length, take}
+use Rattle.std.proofs.Common.{drop}
+use Rattle.std.proofs.Common.{get_or, refl, sym, ap, ap₂, ◌∙◌, arith}
+use Rattle.std.specs.List.{flat_map}
+use Rattle.std.proofs.lemmas.List.{append-nil, drop_at, get_or-drop, length-drop, take_at}
+use Rattle.dtx_trellis.specs.Pairs.{group_place}
+use Rattle.dtx_slice.specs.Slicing.{sliced_data}
+use Rattle.dtx_slice.specs.Unrolled.{bytes_back, precoder_bits_after}
+use Rattle.dtx_slice.proofs.JoinsLemmas.{bytes_append, precoder_bits_append}
+use Rattle.dtx_receiver.specs.Bytes.{bytes_in, data_at, first_bits, groups_of, levels_from, levels_in}
+use Rattle.dtx_receiver.proofs.SegmentsLemmas.{levels_parts}
+use Rattle.dtx_rounds.specs.Fields.{rows_of}
+use Rattle.dtx_rounds.proofs.FieldRounds.{length-rows, row_of}
+use Rattle.dtx_rounds.proofs.GroupBytes.{flat_more, length_back}
+use Rattle.dtx_rounds.proofs.RunLevels.{AreLong, length-from}
+
+-- ---- levels
+
+data_in_field : (run : List (List ℤ)) (f i : ℕ) → i < 312
+    → data_at run (312 * f + i) ≡ get_or (drop 1 (rows_of run f)) i []
+unfolding data_at
+data_in_field run f i l =
+    let there : 312 * f + i + (312 * f + i) / 312 + 1 ≡ 313 * f + (1 + i) = omega arith in
+    ap (λ n. get_or run n []) there
+    ∙ sym (get_or-drop 1 (rows_of run f) i [] ∙ row_of run f (1 + i) (omega arith))
+
+pub levels_rows : (run : List (List ℤ)) (f n : ℕ) → n ≤ length (drop 1 (rows_of run f))
+    → levels_from run (312 * f) n ≡ flat_map sliced_data (take n (drop 1 (rows_of run f)))
+unfolding levels_from
+levels_rows run f zero l = refl
+levels_rows run f (suc n) l =
+    let more : suc n ≡ n + 1 = omega arith in
+    let small : n < 312 = omega (arith, l, length-drop 1 (rows_of run f), length-rows run f) in
+    ap (levels_from run (312 * f)) more ∙ levels_parts run (312 * f) n 1
+    ∙ ap₂ (λ (xs ys : List ℕ). xs ++ ys) (levels_rows run f n (omega arith))
+    (append-nil (sliced_data (data_at run (312 * f + n))) ∙ ap sliced_data (data_in_field run f n small))
+    ∙ sym (ap (λ m. flat_map sliced_data (take m (drop 1 (rows_of run f)))) more
+    ∙ flat_more sliced_data (drop 1 (rows_of run f)) n (omega arith))
+
+-- ---- bytes
+
+-- the precoder bits before field f
+abbrev pub field_bits : List (List ℤ) → ℕ → List ℕ
+field_bits run f = precoder_bits_after 0 (first_bits run) (levels_from run 0 (312 * f))
+
+field_place : (f : ℕ) → group_place 0 (78 * f) ≡ 0
+unfolding group_place
+field_place f = omega arith
+
+before_long : (run : List (List ℤ)) (f : ℕ) → AreLong run → 312 * f ≤ 4 * groups_of run
+    → length (levels_from run 0 (312 * f)) ≡ 3312 * (78 * f)
+before_long run f h l = length-from run 0 (312 * f) h (omega (arith, l)) ∙ omega arith
+
+pub bits_next : (run : List (List ℤ)) (f n : ℕ) → AreLong run → 312 * f ≤ 4 * groups_of run
+    → precoder_bits_after 0 (first_bits run) (levels_from run 0 (312 * f + n))
+    ≡ precoder_bits_after 0 (field_bits run f) (levels_from run (312 * f) n)
+bits_next run f n h l =
+    ap (precoder_bits_after 0 (first_bits run)) (levels_parts run 0 (312 * f) n)
+    ∙ precoder_bits_append 0 (78 * f) (first_bits run) (levels_from run 0 (312 * f)) (levels_from run (0 + 312 * f) n)
+    (before_long run f h l)
+    ∙ ap₂ (λ s a. precoder_bits_after s (field_bits run f) (levels_from run a n)) (field_place f) (omega arith)
+
+-- all levels from a field on
+levels_split : (run : List (List ℤ)) (a b c : ℕ) → a + (b + c) ≡ 4 * groups_of run
+    → levels_in run ≡ levels_from run 0 a ++ (levels_from run a b ++ levels_from run (a + b) c)
+unfolding levels_in
+levels_split run a b c e =
+    let none : 0 + a ≡ a = omega arith in
+    ap (levels_from run 0) (sym e) ∙ levels_parts run 0 a (b + c)
+    ∙ ap (λ n. levels_from run 0 a ++ levels_from run n (b + c)) none
+    ∙ ap (λ ys. levels_from run 0 a ++ ys) (levels_parts run a b c)
+
+pub bytes_in_field : (run : List (List ℤ)) (f g : ℕ) → AreLong run → 312 * f + 4 * g ≤ 4 * groups_of run
+    → take (828 * g) (drop (64584 * f) (bytes_in run))
+    ≡ bytes_back 0 (field_bits run f) (levels_from run (312 * f) (4 * g))
+unfolding bytes_in
+bytes_in_field run f g h l =
+    ap (λ ys. take (828 * g) (drop (64584 * f) (bytes_back 0 (first_bits run) ys))) (levels_split run (312 * f) (4 * g)
+    rest (omega (arith, l)))
+    ∙ ap (λ ys. take (828 * g) (drop (64584 * f) ys))
+    (bytes_append 0 (78 * f) (first_bits run) before (own ++ behind) (before_long run f h (omega (arith, l))))
+    ∙ ap (take (828 * g)) (drop_at (bytes_back 0 (first_bits run) before)
+    (bytes_back (group_place 0 (78 * f)) (field_bits run f) (own ++ behind)) (64584 * f)
+    (length_back 0 (78 * f) (first_bits run) before (before_long run f h (omega (arith, l))) ∙ omega arith))
+    ∙ ap (λ s. take (828 * g) (bytes_back s (field_bits run f) (own ++ behind))) (field_place f)
+    ∙ ap (take (828 * g)) (bytes_append 0 g (field_bits run f) own behind own_long)
+    ∙ take_at (bytes_back 0 (field_bits run f) own) (bytes_back (group_place 0 g)
+    (precoder_bits_after 0 (field_bits run f) own) behind) (828 * g) (length_back 0 g (field_bits run f) own own_long)
+  where
+    rest : ℕ
+    rest = 4 * groups_of run - (312 * f + 4 * g)
+
+    before : List ℕ
+    before = levels_from run 0 (312 * f)
+
+    own : List ℕ
+    own = levels_from run (312 * f) (4 * g)
+
+    behind : List ℕ
+    behind = levels_from run (312 * f + 4 * g) rest
+
+    own_long : length own ≡ 3312 * g
+    own_long = length-from run (312 * f) (4 * g) h l ∙ omega arith

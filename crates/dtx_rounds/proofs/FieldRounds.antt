@@ -1,0 +1,343 @@
+-- A round over a field alone is what the round over the run makes of that field. A field of which no byte more is known
+-- stays.
+use Rattle.std.proofs.Common.{◌≡◌, ℕ, ℤ, zero, suc, ◌+◌, ◌-◌, ◌*◌, ◌/◌, ◌%◌, ◌<◌, ◌≤◌, ◌⊎◌, inl, inr, min, nat_le}
+use Rattle.std.proofs.Common.{nat_lt, Bool, true, false, cond, ◌&&◌, Option, None, List, [], ◌++◌, length, map, take}
+use Rattle.std.proofs.Common.{drop, get_or, sum, refl, sym, ap, ap₂, ◌∙◌, arith}
+use Rattle.std.specs.List.{range_with_len}
+use Rattle.std.proofs.lemmas.Bool.{cases_lt}
+use Rattle.std.proofs.lemmas.List.{get_or-drop, get_or-take, length-drop, length-take, length-take-le, take_at}
+use Rattle.std.proofs.lemmas.List.FromFn.{get_or-map-range_with_len}
+use Rattle.dtx_lists.proofs.Range.{map-range_same}
+use Rattle.dtx_lists.proofs.RangeMoved.{map-range_moved}
+use Rattle.dtx_lists.proofs.RangeSums.{over, over_parts}
+use Rattle.dtx_trellis.specs.Pairs.{byte_place, group_place}
+use Rattle.dtx_receiver.specs.Bytes.{bytes_in}
+use Rattle.dtx_acquire.specs.Scaled.{decided}
+use Rattle.dtx_pins.specs.PinnedField.{pinned, pinned_coder_cost}
+use Rattle.dtx_rounds.specs.FieldRound.{field_cost, field_rounded, rows_moved}
+use Rattle.dtx_rounds.specs.Known.{known_bytes}
+use Rattle.dtx_rounds.specs.Pins.{byte_at_step, field_pins, known_pin, pin_of}
+use Rattle.dtx_rounds.specs.Rounds.{coder_cost, groups_in, in_whole_group, moved_in, paths_in, round_segment}
+use Rattle.dtx_rounds.specs.Rounds.{fields_in, rounded}
+use Rattle.dtx_rounds.proofs.OwnRounds.{group_row}
+use Rattle.dtx_rounds.proofs.RoundLevels.{after, length-after, length-groups, same_groups}
+use Rattle.dtx_rounds.proofs.RangeSteps.{sum_next}
+use Rattle.dtx_rounds.proofs.RowsRounded.{same_items}
+use Rattle.dtx_rounds.proofs.RunLevels.{AreLong}
+
+-- ---- a field of a run
+
+-- the segments of field f
+abbrev pub rows_of : List (List ℤ) → ℕ → List (List ℤ)
+rows_of segments f = take 313 (drop (313 * f) segments)
+
+-- Of the bytes of field f the same is known, where field g stands in the other list.
+abbrev pub KnowSame : List (Option ℕ) → ℕ → List (Option ℕ) → ℕ → Type 0
+KnowSame known f other g = (n : ℕ) → n < 64584 → get_or known (64584 * f + n) None ≡ get_or other (64584 * g + n) None
+
+pub length-rows : (segments : List (List ℤ)) (f : ℕ) → length (rows_of segments f) ≡ min 313 (length segments - 313 * f)
+length-rows segments f =
+    length-take 313 (drop (313 * f) segments) ∙ ap (min 313) (length-drop (313 * f) segments)
+
+pub row_of : (segments : List (List ℤ)) (f i : ℕ) → i < 313
+    → get_or (rows_of segments f) i [] ≡ get_or segments (313 * f + i) []
+row_of segments f i l = get_or-take 313 (drop (313 * f) segments) i [] l ∙ get_or-drop (313 * f) segments i []
+
+-- its data segments in whole groups
+groups_of_rows : (segments : List (List ℤ)) (f : ℕ) → groups_in (rows_of segments f) 0 ≡ groups_in segments f
+groups_of_rows segments f =
+    same_items [] (length (groups_in segments f)) (groups_in (rows_of segments f) 0) (groups_in segments f) long refl
+    (λ i l. group_row (rows_of segments f) 0 i (omega (arith, l, long))
+    ∙ row_of segments f (313 * 0 + 1 + i) (omega (arith, l, length-groups segments f))
+    ∙ (let there : 313 * f + (313 * 0 + 1 + i) ≡ 313 * f + 1 + i = omega arith in ap (λ j. get_or segments j []) there)
+    ∙ sym (group_row segments f i l))
+  where
+    by_count : (l f : ℕ) → 4 * (min 312 (min 313 (l - 313 * f) - (313 * 0 + 1)) / 4)
+        ≡ 4 * (min 312 (l - (313 * f + 1)) / 4)
+    by_count l f = (let count : min 312 (min 313 (l - 313 * f) - (313 * 0 + 1)) ≡ min 312 (l - (313 * f + 1)) =
+        omega arith in
+        ap (λ n. 4 * (n / 4)) count)
+
+    long : length (groups_in (rows_of segments f) 0) ≡ length (groups_in segments f)
+    long =
+        length-groups (rows_of segments f) 0
+        ∙ ap (λ n. 4 * (min 312 (n - (313 * 0 + 1)) / 4)) (length-rows segments f)
+        ∙ by_count (length segments) f
+        ∙ sym (length-groups segments f)
+
+-- ---- pins
+
+-- the place of a coder's byte, from the field's first on
+pub byte_in_field : (e f t : ℕ) → t < 21528 → byte_at_step e (21528 * f + t) ≡ 64584 * f + byte_at_step e t
+unfolding byte_at_step byte_place group_place
+byte_in_field e f t l =
+    by_group (t / 276) (omega arith) (omega arith) (omega arith)
+  where
+    by_group : (u : ℕ) → t / 276 ≡ u → (21528 * f + t) / 276 ≡ 78 * f + u → (21528 * f + t) % 276 ≡ t % 276
+        → 828 * ((21528 * f + t) / 276)
+        + (12 * ((21528 * f + t) % 276 / 4)
+        + (e + 12 - 4 * (((0 + 4 * ((21528 * f + t) / 276)) % 312 + 4 * ((21528 * f + t) % 276 / 4) / 69) % 3)) % 12)
+        ≡ 64584 * f
+        + (828 * (t / 276)
+        + (12 * (t % 276 / 4) + (e + 12 - 4 * (((0 + 4 * (t / 276)) % 312 + 4 * (t % 276 / 4) / 69) % 3)) % 12))
+    by_group u a b c =
+        ap₂ (λ v w. 828 * v + (12 * (w / 4) + (e + 12 - 4 * (((0 + 4 * v) % 312 + 4 * (w / 4) / 69) % 3)) % 12)) b c
+        ∙ (let turn : (0 + 4 * (78 * f + u)) % 312 ≡ (0 + 4 * u) % 312 = omega arith in
+        ap (λ s. 828 * (78 * f + u)
+        + (12 * (t % 276 / 4) + (e + 12 - 4 * ((s + 4 * (t % 276 / 4) / 69) % 3)) % 12)) turn)
+        ∙ whole f u (12 * (t % 276 / 4) + (e + 12 - 4 * (((0 + 4 * u) % 312 + 4 * (t % 276 / 4) / 69) % 3)) % 12)
+        ∙ ap (λ v. 64584 * f
+        + (828 * v + (12 * (t % 276 / 4) + (e + 12 - 4 * (((0 + 4 * v) % 312 + 4 * (t % 276 / 4) / 69) % 3)) % 12)))
+        (sym a)
+      where
+        whole : (f u x : ℕ) → 828 * (78 * f + u) + x ≡ 64584 * f + (828 * u + x)
+        whole f u x = omega arith
+
+pub byte_within : (e t : ℕ) → e < 12 → t < 21528 → byte_at_step e t < 64584
+unfolding byte_at_step byte_place group_place
+byte_within e t l m = omega arith
+
+-- where the same is known of a field, its pins are the same
+same_pins : (known other : List (Option ℕ)) (f g n : ℕ) → KnowSame known f other g → n ≤ 21528
+    → field_pins known f n ≡ field_pins other g n
+unfolding field_pins known_pin
+same_pins known other f g n same few =
+    map-range_same (λ t. map (λ e. known_pin known e (21528 * f + t)) (range_with_len 0 12))
+    (λ t. map (λ e. known_pin other e (21528 * g + t)) (range_with_len 0 12)) 0 n
+    (λ t a l. map-range_same (λ e. known_pin known e (21528 * f + t)) (λ e. known_pin other e (21528 * g + t)) 0 12
+    (λ e b m. pin t e (omega arith) (omega arith)))
+  where
+    pin : (t e : ℕ) → t < 21528 → e < 12
+        → pin_of (get_or known (byte_at_step e (21528 * f + t)) None) ((21528 * f + t) % 276)
+        ≡ pin_of (get_or other (byte_at_step e (21528 * g + t)) None) ((21528 * g + t) % 276)
+    pin t e l m =
+        let round : (21528 * f + t) % 276 ≡ (21528 * g + t) % 276 = omega arith in
+        ap₂ pin_of (ap (λ n. get_or known n None) (byte_in_field e f t l)
+        ∙ same (byte_at_step e t) (byte_within e t m l)
+        ∙ ap (λ n. get_or other n None) (sym (byte_in_field e g t l))) round
+
+steps_few : (heard : List (List ℤ)) (f : ℕ) → 69 * length (groups_in heard f) ≤ 21528
+steps_few heard f = omega (arith, length-groups heard f)
+
+-- ---- paths
+
+same_paths : (scale : ℕ) (heard : List (List ℤ)) (known other : List (Option ℕ)) (f : ℕ) → KnowSame known f other f
+    → paths_in scale heard known f ≡ paths_in scale heard other f
+unfolding paths_in
+same_paths scale heard known other f same =
+    ap (λ pins. pinned scale pins (groups_in heard f))
+    (same_pins known other f f (69 * length (groups_in heard f)) same (steps_few heard f))
+
+paths_of_rows : (scale : ℕ) (heard : List (List ℤ)) (known part : List (Option ℕ)) (f : ℕ) → KnowSame part 0 known f
+    → paths_in scale (rows_of heard f) part 0 ≡ paths_in scale heard known f
+unfolding paths_in
+paths_of_rows scale heard known part f same =
+    ap (λ groups. pinned scale (field_pins part 0 (69 * length groups)) groups) (groups_of_rows heard f)
+    ∙ ap (λ pins. pinned scale pins (groups_in heard f))
+    (same_pins part known 0 f (69 * length (groups_in heard f)) same (steps_few heard f))
+
+-- ---- segments
+
+-- a segment by its place in its field, the field's groups and their paths
+abbrev cell : ℕ → ℕ → List (List ℤ) → List (List ℤ) → List ℤ → List ℤ
+cell scale j groups paths segment =
+    cond (nat_lt 0 j && nat_le j (length groups))
+    (take 4 segment ++ map (decided scale) (drop 4 (get_or paths (j - 1) []))) segment
+
+cell_is : (scale : ℕ) (heard given : List (List ℤ)) (known : List (Option ℕ)) (f i : ℕ) → i < 313
+    → round_segment scale heard known given (313 * f + i)
+    ≡ cell scale i (groups_in given f) (paths_in scale heard known f) (get_or given (313 * f + i) [])
+unfolding round_segment in_whole_group
+cell_is scale heard given known f i l =
+    let place : (313 * f + i) % 313 ≡ i = omega arith in
+    let field : (313 * f + i) / 313 ≡ f = omega arith in
+    ap₂ (λ j g. cell scale j (groups_in given g) (paths_in scale heard known g) (get_or given (313 * f + i) []))
+    place field
+
+-- segment i of a field after a round over the field alone
+pub field_segment : (scale : ℕ) (heard given : List (List ℤ)) (known part : List (Option ℕ)) (f i : ℕ)
+    → KnowSame part 0 known f → i < 313
+    → round_segment scale (rows_of heard f) part (rows_of given f) i
+    ≡ round_segment scale heard known given (313 * f + i)
+field_segment scale heard given known part f i same l =
+    let first : i ≡ 313 * 0 + i = omega arith in
+    ap (round_segment scale (rows_of heard f) part (rows_of given f)) first
+    ∙ cell_is scale (rows_of heard f) (rows_of given f) part 0 i l
+    ∙ ap₂ (λ groups paths. cell scale i groups paths (get_or (rows_of given f) (313 * 0 + i) []))
+    (groups_of_rows given f) (paths_of_rows scale heard known part f same)
+    ∙ ap (cell scale i (groups_in given f) (paths_in scale heard known f))
+    (ap (λ j. get_or (rows_of given f) j []) (sym first) ∙ row_of given f i l)
+    ∙ sym (cell_is scale heard given known f i l)
+
+pub row_after : (scale : ℕ) (heard given : List (List ℤ)) (known : List (Option ℕ)) (f i : ℕ)
+    → i < length (rows_of given f)
+    → get_or (rows_of (after scale heard known given) f) i [] ≡ round_segment scale heard known given (313 * f + i)
+row_after scale heard given known f i l =
+    row_of (after scale heard known given) f i (omega (arith, l, length-rows given f))
+    ∙ get_or-map-range_with_len (round_segment scale heard known given) 0 (length given) (313 * f + i) (313 * f + i) []
+    (omega (arith, l, length-rows given f)) (omega arith)
+
+-- the field's segments
+pub field_after : (scale : ℕ) (heard given : List (List ℤ)) (known part : List (Option ℕ)) (f : ℕ)
+    → KnowSame part 0 known f
+    → field_rounded scale (rows_of heard f) part (rows_of given f) ≡ rows_of (after scale heard known given) f
+unfolding field_rounded
+field_after scale heard given known part f same =
+    same_items [] (length (rows_of given f)) (after scale (rows_of heard f) part (rows_of given f))
+    (rows_of (after scale heard known given) f)
+    (length-after scale (rows_of heard f) (rows_of given f) part)
+    (length-rows (after scale heard known given) f
+    ∙ ap (λ n. min 313 (n - 313 * f)) (length-after scale heard given known) ∙ sym (length-rows given f))
+    (λ i l. get_or-map-range_with_len (round_segment scale (rows_of heard f) part (rows_of given f)) 0
+    (length (rows_of given f)) i i [] l (omega arith)
+    ∙ field_segment scale heard given known part f i same (omega (arith, l, length-rows given f))
+    ∙ sym (row_after scale heard given known f i l))
+
+pub field_of_rounded : (scale : ℕ) (heard given : List (List ℤ)) (part : List (Option ℕ)) (f : ℕ)
+    → KnowSame part 0 (known_bytes (bytes_in given)) f
+    → field_rounded scale (rows_of heard f) part (rows_of given f) ≡ rows_of (rounded scale heard given) f
+unfolding rounded
+field_of_rounded scale heard given part f same =
+    field_after scale heard given (known_bytes (bytes_in given)) part f same
+
+-- ---- cost and what moves
+
+-- the field's cost is that of its coders in the run
+pub field_costs : (scale : ℕ) (heard : List (List ℤ)) (known part : List (Option ℕ)) (f : ℕ) → KnowSame part 0 known f
+    → field_cost scale (rows_of heard f) part ≡ sum (map (coder_cost scale heard known f) (range_with_len 0 12))
+unfolding field_cost coder_cost
+field_costs scale heard known part f same =
+    ap (λ groups. sum (map (pinned_coder_cost scale (field_pins part 0 (69 * length groups)) groups)
+    (range_with_len 0 12))) (groups_of_rows heard f)
+    ∙ ap (λ pins. sum (map (pinned_coder_cost scale pins (groups_in heard f)) (range_with_len 0 12)))
+    (same_pins part known 0 f (69 * length (groups_in heard f)) same (steps_few heard f))
+
+-- what moves in the field is what moves in its segments of the run
+pub field_moves : (given new : List (List ℤ)) (f : ℕ)
+    → rows_moved (rows_of given f) (rows_of new f)
+    ≡ sum (map (λ i. moved_in (get_or given (313 * f + i) []) (get_or new (313 * f + i) []))
+    (range_with_len 0 (length (rows_of given f))))
+unfolding rows_moved
+field_moves given new f =
+    ap sum (map-range_same (λ i. moved_in (get_or (rows_of given f) i []) (get_or (rows_of new f) i []))
+    (λ i. moved_in (get_or given (313 * f + i) []) (get_or new (313 * f + i) [])) 0 (length (rows_of given f))
+    (λ i a l. ap₂ moved_in (row_of given f i (omega (arith, l, length-rows given f)))
+    (row_of new f i (omega (arith, l, length-rows given f)))))
+
+-- the numbers below n and below the whole, field by field
+sum_of_fields : (h : ℕ → ℕ) (whole n : ℕ)
+    → sum (map (λ f. over h (313 * f) (min 313 (whole - 313 * f))) (range_with_len 0 n))
+    ≡ over h 0 (min (313 * n) whole)
+sum_of_fields h whole zero = (let none : 0 ≡ min (313 * 0) whole = omega arith in ap (over h 0) none)
+sum_of_fields h whole (suc n) =
+    let next : suc n ≡ n + 1 = omega arith in
+    ap (λ m. sum (map (λ f. over h (313 * f) (min 313 (whole - 313 * f))) (range_with_len 0 m))) next
+    ∙ sum_next (λ f. over h (313 * f) (min 313 (whole - 313 * f))) n
+    ∙ ap (λ x. x + over h (313 * n) (min 313 (whole - 313 * n))) (sum_of_fields h whole n)
+    ∙ by_room (cases_lt whole (313 * n))
+  where
+    by_room : (whole < 313 * n) ⊎ (313 * n ≤ whole)
+        → over h 0 (min (313 * n) whole) + over h (313 * n) (min 313 (whole - 313 * n))
+        ≡ over h 0 (min (313 * suc n) whole)
+    by_room (inl past) =
+        let none : min 313 (whole - 313 * n) ≡ 0 = omega arith in
+        let same : min (313 * n) whole + 0 ≡ min (313 * suc n) whole = omega arith in
+        ap (λ m. over h 0 (min (313 * n) whole) + over h (313 * n) m) none
+        ∙ sym (over_parts h 0 (min (313 * n) whole) 0)
+        ∙ ap (over h 0) same
+    by_room (inr more) =
+        let all : min (313 * n) whole ≡ 313 * n = omega arith in
+        let start : 313 * n ≡ 0 + 313 * n = omega arith in
+        let both : 313 * n + min 313 (whole - 313 * n) ≡ min (313 * suc n) whole = omega arith in
+        ap₂ (λ m a. over h 0 m + over h a (min 313 (whole - 313 * n))) all start
+        ∙ sym (over_parts h 0 (313 * n) (min 313 (whole - 313 * n)))
+        ∙ ap (over h 0) both
+
+-- what moves in all fields is what moves in all segments
+pub moves_of_fields : (given new : List (List ℤ))
+    → sum (map (λ f. rows_moved (rows_of given f) (rows_of new f)) (range_with_len 0 (fields_in given)))
+    ≡ sum (map (λ i. moved_in (get_or given i []) (get_or new i [])) (range_with_len 0 (length given)))
+moves_of_fields given new =
+    ap sum (map-range_same (λ f. rows_moved (rows_of given f) (rows_of new f))
+    (λ f. over h (313 * f) (min 313 (length given - 313 * f))) 0 (fields_in given)
+    (λ f a l. field_moves given new f
+    ∙ ap (λ n. sum (map (λ i. h (313 * f + i)) (range_with_len 0 n))) (length-rows given f)
+    ∙ ap sum (map-range_moved (λ i. h (313 * f + i)) h 0 (313 * f) (min 313 (length given - 313 * f))
+    (λ i m. (let place : 313 * f + (0 + i) ≡ 313 * f + i = omega arith in ap h place)))))
+    ∙ sum_of_fields h (length given) (fields_in given)
+    ∙ (let all : min (313 * fields_in given) (length given) ≡ length given = every (length given) in ap (over h 0) all)
+  where
+    h : ℕ → ℕ
+    h i = moved_in (get_or given i []) (get_or new i [])
+
+    every : (l : ℕ) → min (313 * ((l + 312) / 313)) l ≡ l
+    every l = omega arith
+
+-- ---- a field of which no byte more is known
+
+-- a segment that came from the same paths
+again : (scale j : ℕ) (groups old : List (List ℤ)) (paths : List (List ℤ)) (segment : List ℤ)
+    → length groups ≡ length old → length segment ≡ 832
+    → cell scale j groups paths (cell scale j old paths segment) ≡ cell scale j old paths segment
+again scale j groups old paths segment same long =
+    ap (λ n. cond (nat_lt 0 j && nat_le j n) (take 4 (cell scale j old paths segment) ++ path)
+    (cell scale j old paths segment)) same
+    ∙ by_test (nat_lt 0 j && nat_le j (length old))
+  where
+    path : List ℤ
+    path = map (decided scale) (drop 4 (get_or paths (j - 1) []))
+
+    by_test : (b : Bool)
+        → cond b (take 4 (cond b (take 4 segment ++ path) segment) ++ path) (cond b (take 4 segment ++ path) segment)
+        ≡ cond b (take 4 segment ++ path) segment
+    by_test true =
+        ap (λ xs. xs ++ path) (take_at (take 4 segment) path 4 (length-take-le 4 segment (omega (arith, long))))
+    by_test false = refl
+
+-- Let the given segments come from a round by which the same was known of field f. Then a round leaves its segments.
+pub field_stays : (scale : ℕ) (heard old : List (List ℤ)) (known before : List (Option ℕ)) (f : ℕ) → AreLong old
+    → KnowSame known f before f
+    → rows_of (after scale heard known (after scale heard before old)) f ≡ rows_of (after scale heard before old) f
+field_stays scale heard old known before f long same =
+    same_items [] (length (rows_of given f)) (rows_of (after scale heard known given) f) (rows_of given f)
+    (length-rows (after scale heard known given) f
+    ∙ ap (λ n. min 313 (n - 313 * f)) (length-after scale heard given known) ∙ sym (length-rows given f))
+    refl (λ i l. row_after scale heard given known f i l ∙ stays i l ∙ sym (row_of given f i (few i l)))
+  where
+    given : List (List ℤ)
+    given = after scale heard before old
+
+    few : (i : ℕ) → i < length (rows_of given f) → i < 313
+    few i l = omega (arith, l, length-rows given f)
+
+    there : (i : ℕ) → i < length (rows_of given f) → 313 * f + i < length old
+    there i l = omega (arith, l, length-rows given f, length-after scale heard old before)
+
+    was : (i : ℕ) → i < length (rows_of given f)
+        → get_or given (313 * f + i) []
+        ≡ cell scale i (groups_in old f) (paths_in scale heard before f) (get_or old (313 * f + i) [])
+    was i l =
+        get_or-map-range_with_len (round_segment scale heard before old) 0 (length old) (313 * f + i) (313 * f + i) []
+        (there i l) (omega arith)
+        ∙ cell_is scale heard old before f i (few i l)
+
+    stays : (i : ℕ) → i < length (rows_of given f)
+        → round_segment scale heard known given (313 * f + i) ≡ get_or given (313 * f + i) []
+    stays i l =
+        cell_is scale heard given known f i (few i l)
+        ∙ ap₂ (λ paths segment. cell scale i (groups_in given f) paths segment)
+        (same_paths scale heard known before f same) (was i l)
+        ∙ again scale i (groups_in given f) (groups_in old f) (paths_in scale heard before f)
+        (get_or old (313 * f + i) []) (same_groups given old f (length-after scale heard old before))
+        (long (313 * f + i) (there i l))
+        ∙ sym (was i l)
+
+-- nor does its cost change
+pub cost_stays : (scale : ℕ) (heard : List (List ℤ)) (known before : List (Option ℕ)) (f : ℕ)
+    → KnowSame known f before f
+    → sum (map (coder_cost scale heard known f) (range_with_len 0 12))
+    ≡ sum (map (coder_cost scale heard before f) (range_with_len 0 12))
+unfolding coder_cost
+cost_stays scale heard known before f same =
+    ap (λ pins. sum (map (pinned_coder_cost scale pins (groups_in heard f)) (range_with_len 0 12)))
+    (same_pins known before f f (69 * length (groups_in heard f)) same (steps_few heard f))

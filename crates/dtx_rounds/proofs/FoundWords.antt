@@ -1,0 +1,284 @@
+-- Fields, with what is known by corrections.
+use Rattle.std.proofs.Common.{◌≡◌, ℕ, zero, suc, ◌+◌, ◌-◌, ◌*◌, ◌/◌, ◌%◌, ◌<◌, ◌≤◌, ◌⊎◌, inl, inr}
+use Rattle.std.proofs.Common.{◌&&◌, ◌||◌, not, nat_le, Bool, true, false, cond, Option, Some, None, is_some, option_map}
+use Rattle.std.proofs.Common.{List, length, get_or, refl, sym, ap, ap₂, ◌∙◌, arith}
+use Rattle.std.specs.List.{list_any, range_with_len}
+use Rattle.std.proofs.lemmas.Bool.{cases_lt, false_from_ne_true, true≢false}
+use Rattle.std.proofs.lemmas.List.FromFn.{fill_by_all, get_or-map-range_with_len, length-map-range_with_len}
+use Rattle.dtx_receiver.specs.Packets.{is_complete}
+use Rattle.dtx_rounds.specs.Found.{AreFound, IsKept, bytes_with, code_byte, has_code, has_code_behind, or_else}
+use Rattle.dtx_rounds.specs.Found.{words_with}
+use Rattle.dtx_rounds.specs.declared.field.Field.{Field}
+
+-- ---- options
+
+or_assoc : {A : Type 0} (x y z : Option A) → or_else x (or_else y z) ≡ or_else (or_else x y) z
+or_assoc None y z = refl
+or_assoc (Some a) y z = refl
+
+pub map_or : {A B : Type 0} (f : A → B) (x y : Option A)
+    → or_else (option_map f x) (option_map f y) ≡ option_map f (or_else x y)
+map_or f None y = refl
+map_or f (Some a) y = refl
+
+pub some_or : {A : Type 0} (x y : Option A) → (is_some y || is_some x) ≡ is_some (or_else x y)
+some_or None None = refl
+some_or None (Some b) = refl
+some_or (Some a) None = refl
+some_or (Some a) (Some b) = refl
+
+pub or_assoc_bool : (x y z : Bool) → (x || (y || z)) ≡ ((x || y) || z)
+or_assoc_bool true y z = refl
+or_assoc_bool false y z = refl
+
+-- ---- some number of a range passes
+
+pub any_none : (f : ℕ → Bool) (a n : ℕ) → ((i : ℕ) → a ≤ i → i < a + n → f i ≡ false)
+    → list_any f (range_with_len a n) ≡ false
+any_none f a zero h = refl
+any_none f a (suc n) h =
+    ap₂ (λ x y. x || y) (h a (omega arith) (omega arith))
+    (any_none f (a + 1) n (λ i l m. h i (omega arith) (omega arith)))
+
+or_here : (x y : Bool) → x ≡ true → (x || y) ≡ true
+or_here x y e = ap (λ b. b || y) e
+
+or_behind : (x y : Bool) → y ≡ true → (x || y) ≡ true
+or_behind true y e = refl
+or_behind false y e = e
+
+pub any_at : (f : ℕ → Bool) (a n k : ℕ) → a ≤ k → k < a + n → f k ≡ true → list_any f (range_with_len a n) ≡ true
+any_at f a zero k l m t = absurd (omega arith)
+any_at f a (suc n) k l m t =
+    by_place (cases_lt a k) (λ h. any_at f (a + 1) n k (omega arith) (omega arith) t)
+  where
+    by_place : (a < k) ⊎ (k ≤ a) → (a < k → list_any f (range_with_len (a + 1) n) ≡ true)
+        → list_any f (range_with_len a (suc n)) ≡ true
+    by_place (inl h) next = or_behind (f a) (list_any f (range_with_len (a + 1) n)) (next h)
+    by_place (inr h) next =
+        or_here (f a) (list_any f (range_with_len (a + 1) n)) (let same : a ≡ k = omega arith in ap f same ∙ t)
+
+pub any_each : (f : ℕ → Bool) (a n k : ℕ) → list_any f (range_with_len a n) ≡ false → a ≤ k → k < a + n → f k ≡ false
+any_each f a n k e l m =
+    false_from_ne_true (f k) (λ t. true≢false (sym (any_at f a n k l m t) ∙ e))
+
+any_or : (f g h : ℕ → Bool) (a n : ℕ) → ((i : ℕ) → a ≤ i → i < a + n → f i ≡ (g i || h i))
+    → list_any f (range_with_len a n) ≡ (list_any g (range_with_len a n) || list_any h (range_with_len a n))
+any_or f g h a zero e = refl
+any_or f g h a (suc n) e =
+    ap₂ (λ x y. x || y) (e a (omega arith) (omega arith))
+    (any_or f g h (a + 1) n (λ i l m. e i (omega arith) (omega arith)))
+    ∙ swapped (g a) (h a) (list_any g (range_with_len (a + 1) n)) (list_any h (range_with_len (a + 1) n))
+  where
+    swapped : (x y z w : Bool) → ((x || y) || (z || w)) ≡ ((x || z) || (y || w))
+    swapped true y z w = refl
+    swapped false true true w = refl
+    swapped false true false w = refl
+    swapped false false z w = refl
+
+-- ---- bytes
+
+pub length-bytes : (codes : ℕ → Option (List ℕ)) (first : ℕ) (known : List (Option ℕ))
+    → length (bytes_with codes first known) ≡ length known
+unfolding bytes_with
+length-bytes codes first known =
+    length-map-range_with_len (λ i. or_else (code_byte codes (first + i)) (get_or known i None)) 0 (length known)
+
+pub byte_with : (codes : ℕ → Option (List ℕ)) (first : ℕ) (known : List (Option ℕ)) (i : ℕ) → i < length known
+    → get_or (bytes_with codes first known) i None ≡ or_else (code_byte codes (first + i)) (get_or known i None)
+unfolding bytes_with
+byte_with codes first known i l =
+    get_or-map-range_with_len (λ i. or_else (code_byte codes (first + i)) (get_or known i None)) 0 (length known) i i
+    None l (omega arith)
+
+pub bytes_from : (codes : ℕ → Option (List ℕ)) (first : ℕ) (known new : List (Option ℕ)) → length new ≡ length known
+    → ((i : ℕ) → i < length known
+    → get_or new i None ≡ or_else (code_byte codes (first + i)) (get_or known i None))
+    → new ≡ bytes_with codes first known
+unfolding bytes_with
+bytes_from codes first known new e h =
+    fill_by_all (λ i. or_else (code_byte codes (first + i)) (get_or known i None)) new (length known) None e h
+
+pub code_byte_none : (codes : ℕ → Option (List ℕ)) (n : ℕ) → ((k : ℕ) → codes k ≡ None) → code_byte codes n ≡ None
+unfolding code_byte
+code_byte_none codes n none = by_test (nat_le (208 * (n % 52)) n)
+  where
+    by_code : (o : Option (List ℕ)) → o ≡ None
+        → option_map (λ (code : List ℕ). get_or code ((n - 208 * (n % 52)) % 207) 0) o ≡ None
+    by_code o e = ap (option_map (λ (code : List ℕ). get_or code ((n - 208 * (n % 52)) % 207) 0)) e
+
+    by_test : (b : Bool) → cond b
+        (option_map (λ (code : List ℕ). get_or code ((n - 208 * (n % 52)) % 207) 0)
+        (codes ((n - 208 * (n % 52)) / 207))) None ≡ None
+    by_test true = by_code (codes ((n - 208 * (n % 52)) / 207)) (none ((n - 208 * (n % 52)) / 207))
+    by_test false = refl
+
+-- the second corrections come behind the first ones
+abbrev Agree : (first second both : ℕ → Option (List ℕ)) → Type 0
+Agree first second both = (k : ℕ) → or_else (second k) (first k) ≡ both k
+
+code_byte_or : (first second both : ℕ → Option (List ℕ)) (n : ℕ) → Agree first second both
+    → or_else (code_byte second n) (code_byte first n) ≡ code_byte both n
+unfolding code_byte
+code_byte_or first second both n agree = by_test (nat_le (208 * (n % 52)) n)
+  where
+    word : ℕ
+    word = (n - 208 * (n % 52)) / 207
+
+    part : List ℕ → ℕ
+    part code = get_or code ((n - 208 * (n % 52)) % 207) 0
+
+    by_test : (b : Bool)
+        → or_else (cond b (option_map part (second word)) None) (cond b (option_map part (first word)) None)
+        ≡ cond b (option_map part (both word)) None
+    by_test true = map_or part (second word) (first word) ∙ ap (option_map part) (agree word)
+    by_test false = refl
+
+bytes_or : (first second both : ℕ → Option (List ℕ)) (at : ℕ) (known : List (Option ℕ)) → Agree first second both
+    → bytes_with second at (bytes_with first at known) ≡ bytes_with both at known
+bytes_or first second both at known agree =
+    bytes_from both at known (bytes_with second at (bytes_with first at known))
+    (length-bytes second at (bytes_with first at known) ∙ length-bytes first at known) entry
+  where
+    entry : (i : ℕ) → i < length known → get_or (bytes_with second at (bytes_with first at known)) i None
+        ≡ or_else (code_byte both (at + i)) (get_or known i None)
+    entry i l =
+        byte_with second at (bytes_with first at known) i (omega (arith, l, length-bytes first at known))
+        ∙ ap (or_else (code_byte second (at + i))) (byte_with first at known i l)
+        ∙ or_assoc (code_byte second (at + i)) (code_byte first (at + i)) (get_or known i None)
+        ∙ ap (λ o. or_else o (get_or known i None)) (code_byte_or first second both (at + i) agree)
+
+bytes_none : (codes : ℕ → Option (List ℕ)) (at : ℕ) (known : List (Option ℕ)) → ((k : ℕ) → codes k ≡ None)
+    → known ≡ bytes_with codes at known
+bytes_none codes at known none =
+    bytes_from codes at known known refl
+    (λ i l. sym (ap (λ o. or_else o (get_or known i None)) (code_byte_none codes (at + i) none)))
+
+-- ---- words
+
+pub word_with : (codes : ℕ → Option (List ℕ)) (words : List Bool) (k : ℕ) → k < length words
+    → get_or (words_with codes words) k false ≡ (get_or words k false || is_some (codes k))
+unfolding words_with
+word_with codes words k l =
+    get_or-map-range_with_len (λ k. get_or words k false || is_some (codes k)) 0 (length words) k k false l
+    (omega arith)
+
+pub length-words : (codes : ℕ → Option (List ℕ)) (words : List Bool) → length (words_with codes words) ≡ length words
+unfolding words_with
+length-words codes words =
+    length-map-range_with_len (λ k. get_or words k false || is_some (codes k)) 0 (length words)
+
+pub words_from : (codes : ℕ → Option (List ℕ)) (words new : List Bool) → length new ≡ length words
+    → ((k : ℕ) → k < length words → get_or new k false ≡ (get_or words k false || is_some (codes k)))
+    → new ≡ words_with codes words
+unfolding words_with
+words_from codes words new e h =
+    fill_by_all (λ k. get_or words k false || is_some (codes k)) new (length words) false e h
+
+words_or : (first second both : ℕ → Option (List ℕ)) (words : List Bool) → Agree first second both
+    → words_with second (words_with first words) ≡ words_with both words
+words_or first second both words agree =
+    words_from both words (words_with second (words_with first words))
+    (length-words second (words_with first words) ∙ length-words first words) entry
+  where
+    entry : (k : ℕ) → k < length words → get_or (words_with second (words_with first words)) k false
+        ≡ (get_or words k false || is_some (both k))
+    entry k l =
+        word_with second (words_with first words) k (omega (arith, l, length-words first words))
+        ∙ ap (λ x. x || is_some (second k)) (word_with first words k l)
+        ∙ sym (or_assoc_bool (get_or words k false) (is_some (first k)) (is_some (second k)))
+        ∙ ap (λ x. get_or words k false || x) (some_or (second k) (first k) ∙ ap is_some (agree k))
+
+pub or_false : (x : Bool) → x ≡ (x || false)
+or_false true = refl
+or_false false = refl
+
+words_none : (codes : ℕ → Option (List ℕ)) (words : List Bool) → ((k : ℕ) → codes k ≡ None)
+    → words ≡ words_with codes words
+words_none codes words none =
+    words_from codes words words refl
+    (λ k l. or_false (get_or words k false) ∙ ap (λ o. get_or words k false || is_some o) (sym (none k)))
+
+-- ---- whether there is a correction
+
+has_or : (first second both : ℕ → Option (List ℕ)) (n : ℕ) → Agree first second both
+    → has_code both n ≡ (has_code first n || has_code second n)
+unfolding has_code
+has_or first second both n agree =
+    any_or (λ k. is_some (both k)) (λ k. is_some (first k)) (λ k. is_some (second k)) 0 n
+    (λ k l m. sym (some_or (second k) (first k) ∙ ap is_some (agree k)))
+
+and_or : (x y z : Bool) → ((x || y) && z) ≡ ((x && z) || (y && z))
+and_or true y true = refl
+and_or true true false = refl
+and_or true false false = refl
+and_or false y z = refl
+
+behind_or : (first second both : ℕ → Option (List ℕ)) (n : ℕ) → Agree first second both
+    → has_code_behind both n ≡ (has_code_behind first n || has_code_behind second n)
+unfolding has_code_behind
+behind_or first second both n agree =
+    any_or (λ k. is_some (both k) && not (is_complete (207 * 312) k))
+    (λ k. is_some (first k) && not (is_complete (207 * 312) k))
+    (λ k. is_some (second k) && not (is_complete (207 * 312) k)) 0 n
+    (λ k l m. ap (λ x. x && not (is_complete (207 * 312) k)) (sym (some_or (second k) (first k) ∙ ap is_some (agree k)))
+    ∙ and_or (is_some (first k)) (is_some (second k)) (not (is_complete (207 * 312) k)))
+
+has_none : (codes : ℕ → Option (List ℕ)) (n : ℕ) → ((k : ℕ) → codes k ≡ None) → has_code codes n ≡ false
+unfolding has_code
+has_none codes n none = any_none (λ k. is_some (codes k)) 0 n (λ k l m. ap is_some (none k))
+
+behind_none : (codes : ℕ → Option (List ℕ)) (n : ℕ) → ((k : ℕ) → codes k ≡ None) → has_code_behind codes n ≡ false
+unfolding has_code_behind
+behind_none codes n none =
+    any_none (λ k. is_some (codes k) && not (is_complete (207 * 312) k)) 0 n
+    (λ k l m. ap (λ o. is_some o && not (is_complete (207 * 312) k)) (none k))
+
+-- ---- fields
+
+pub found_none : (codes : ℕ → Option (List ℕ)) (field next : Field) → ((k : ℕ) → codes k ≡ None)
+    → AreFound codes field next field next
+found_none codes field next none = record {
+  known = bytes_none codes 0 field.known.items none;
+  words = words_none codes field.words none;
+  more = or_false field.knows_more ∙ ap (λ x. field.knows_more || x) (sym (has_none codes 312 none));
+  rest = record { count = refl; heard = refl; decided = refl; cost = refl; moved = refl };
+  next_known = bytes_none codes 64584 next.known.items none;
+  next_words = refl;
+  next_more = or_false next.knows_more ∙ ap (λ x. next.knows_more || x) (sym (behind_none codes 312 none));
+  next_rest = record { count = refl; heard = refl; decided = refl; cost = refl; moved = refl };
+}
+
+kept_twice : (a b c : Field) → IsKept a b → IsKept b c → IsKept a c
+kept_twice a b c h k = record {
+  count = k.count ∙ h.count;
+  heard = k.heard ∙ h.heard;
+  decided = k.decided ∙ h.decided;
+  cost = k.cost ∙ h.cost;
+  moved = k.moved ∙ h.moved;
+}
+
+-- one after the other
+pub found_twice : (first second both : ℕ → Option (List ℕ)) (a b p q x y : Field) → AreFound first a b p q
+    → AreFound second p q x y → ((k : ℕ) → or_else (second k) (first k) ≡ both k) → AreFound both a b x y
+found_twice first second both a b p q x y h k agree = record {
+  known = k.known ∙ ap (bytes_with second 0) h.known ∙ bytes_or first second both 0 a.known.items agree;
+  words = k.words ∙ ap (words_with second) h.words ∙ words_or first second both a.words agree;
+  more = k.more ∙ ap (λ x. x || has_code second 312) h.more
+      ∙ sym (or_assoc_bool a.knows_more (has_code first 312) (has_code second 312))
+      ∙ ap (λ x. a.knows_more || x) (sym (has_or first second both 312 agree));
+  rest = kept_twice a p x h.rest k.rest;
+  next_known = k.next_known ∙ ap (bytes_with second 64584) h.next_known
+      ∙ bytes_or first second both 64584 b.known.items agree;
+  next_words = k.next_words ∙ h.next_words;
+  next_more = k.next_more ∙ ap (λ x. x || has_code_behind second 312) h.next_more
+      ∙ sym (or_assoc_bool b.knows_more (has_code_behind first 312) (has_code_behind second 312))
+      ∙ ap (λ x. b.knows_more || x) (sym (behind_or first second both 312 agree));
+  next_rest = kept_twice b q y h.next_rest k.next_rest;
+}
+
+-- other corrections that are the same
+pub found_same : (codes same : ℕ → Option (List ℕ)) (a b x y : Field) → AreFound codes a b x y
+    → ((k : ℕ) → codes k ≡ same k) → AreFound same a b x y
+found_same codes same a b x y h e =
+    found_twice codes (λ _. None) same a b x y x y h (found_none (λ _. None) x y (λ _. refl)) e

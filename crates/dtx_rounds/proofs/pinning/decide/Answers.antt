@@ -1,0 +1,93 @@
+use Rattle.std.proofs.Common.{◌≡◌, ℕ, ℤ, ◌+◌, ◌-◌, ◌*◌, List, ◌++◌, length, take, drop, refl, sym, ap, ap₂, ◌∙◌}
+use Rattle.std.proofs.Common.{arith}
+use Rattle.std.proofs.lemmas.Bool.{cond-false, cond-true}
+use Rattle.std.proofs.lemmas.List.{take_at}
+use borrow.Rule.Slice.PartMut.{put_mid}
+use Rattle.dtx_rounds.specs.FieldRound.{field_cost, field_rounded, on_paths, rows_moved}
+use Rattle.dtx_rounds.specs.Pins.{field_pins}
+use Rattle.dtx_rounds.proofs.RowsRounded.{IsRounded, left_on_levels, paths_left, rounded_field, still_rows}
+use Rattle.dtx_rounds.proofs.pinning.decide.Goals as goal
+
+pub move_all-field-requires-clause-levels : goal.move_all-field-requires-clause-levels
+move_all-field-requires-clause-levels c =
+    left_on_levels c.args.means.now.scale c.find_paths-field.new.means.scale c.in_groups-count.result
+    (field_pins c.deref.result.now 0 (69 * length heard)) heard c.deref-then-field-2.result.now
+    c.find_paths-field.ensures.scale
+    (paths_left c.args.means.now.scale c.in_groups-count.result c.deref-then-field.result.now
+    c.find_paths-field.new.means.segments.items c.deref-then-field-2.result.now
+    (λ n. field_pins c.deref.result.now 0 (69 * n)) c.in_groups-count.ensures.few
+    (c.deref-then-field.ensures.len ∙ c.args.field.now.heard_long) c.deref-then-field-2.ensures.value
+    c.find_paths-field.ensures.paths)
+  where
+    heard : List (List ℤ)
+    heard = take (c.in_groups-count.result + 1 - 1) (drop 1 c.deref-then-field.result.now)
+
+pub returns-then-field-clause-decided : goal.returns-then-field-clause-decided
+returns-then-field-clause-decided c = record {
+  decided = ap (take n) back
+      ∙ is.rows
+      ∙ ap₂ (λ received known. field_rounded c.args.means.now.scale (take n received) known
+      (take n c.deref_mut.result.now)) c.deref-then-field.ensures.value c.deref.ensures.value
+      ∙ ap (λ given. field_rounded c.args.means.now.scale (take n c.args.field.now.heard.items)
+      c.args.field.now.known.items (take n given)) c.deref_mut.ensures.value
+      ∙ sym (cond-true c.args.field.now.knows_more _ (take n c.args.field.now.decided.items) c.if-field.true);
+  cost = is.cost_is
+      ∙ ap₂ (λ received known. field_cost c.args.means.now.scale (take n received) known)
+      c.deref-then-field.ensures.value
+      c.deref.ensures.value
+      ∙ sym (cond-true c.args.field.now.knows_more _ c.args.field.now.cost c.if-field.true);
+  moved = is.moved_is
+      ∙ ap₂ (λ given new. rows_moved (take n given) (take n new)) c.deref_mut.ensures.value (sym back);
+  count = refl;
+  heard = refl;
+  known = refl;
+  words = refl;
+  knows_more = refl;
+}
+  where
+    n : ℕ
+    n = c.args.field.now.count
+
+    heard : List (List ℤ)
+    heard = c.deref-then-field.result.now
+
+    heard_long : length heard ≡ 313
+    heard_long = c.deref-then-field.ensures.len ∙ c.args.field.now.heard_long
+
+    made : List (List ℤ)
+    made = put_mid 1 (c.in_groups-count.result + 1 - 1) c.deref_mut.result.now c.move_all-field.new.segments
+
+    rows : List (List ℤ)
+    rows = take (c.in_groups-count.result + 1 - 1) (drop 1 heard)
+
+    is : IsRounded c.args.means.now.scale n heard c.deref_mut.result.now c.deref.result.now made
+        c.find_paths-field.result c.move_all-field.result
+    is =
+        rounded_field c.args.means.now.scale n (c.in_groups-count.result + 1 - 1) heard c.deref_mut.result.now
+        c.move_all-field.new.segments c.deref.result.now c.find_paths-field.result c.move_all-field.result
+        c.args.field.now.few heard_long (c.deref_mut.ensures.len ∙ c.args.field.now.decided_long)
+        (omega (arith, c.in_groups-count.ensures.is)) c.find_paths-field.ensures.cost
+        (c.move_all-field.ensures.segments
+        ∙ ap₂ (λ s paths. on_paths s paths (take (c.in_groups-count.result + 1 - 1) (drop 1 c.deref_mut.result.now)))
+        c.find_paths-field.ensures.scale
+        (paths_left c.args.means.now.scale c.in_groups-count.result heard c.find_paths-field.new.means.segments.items
+        c.deref-then-field-2.result.now (λ m. field_pins c.deref.result.now 0 (69 * m)) c.in_groups-count.ensures.few
+        heard_long c.deref-then-field-2.ensures.value c.find_paths-field.ensures.paths))
+        c.move_all-field.ensures.moved
+
+    back : take c.args.field.now.decided.len (made ++ drop (length made) c.args.field.now.decided.items) ≡ made
+    back =
+        take_at made (drop (length made) c.args.field.now.decided.items) c.args.field.now.decided.len
+        (is.long ∙ sym c.args.field.now.decided_long)
+
+pub returns-else-field-clause-decided : goal.returns-else-field-clause-decided
+returns-else-field-clause-decided c = record {
+  decided = sym (cond-false c.args.field.now.knows_more _ _ c.if-field.false);
+  cost = sym (cond-false c.args.field.now.knows_more _ c.args.field.now.cost c.if-field.false);
+  moved = sym (still_rows (take c.args.field.now.count c.args.field.now.decided.items));
+  count = refl;
+  heard = refl;
+  known = refl;
+  words = refl;
+  knows_more = c.if-field.false;
+}

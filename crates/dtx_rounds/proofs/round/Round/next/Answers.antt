@@ -1,0 +1,58 @@
+use Rattle.std.proofs.Common.{◌≡◌, ◌∙◌, ℕ, ◌+◌, ◌*◌, List, length, take, sym, ap, subst, arith}
+use Rattle.std.specs.List.{flat_map}
+use Rattle.dtx_slice.specs.Unrolled.{bytes_back}
+use Rattle.dtx_rounds.specs.Found.{field_levels, whole_segments}
+use Rattle.dtx_rounds.specs.RunField.{Holds, IsRounded, IsTurned}
+use Rattle.dtx_rounds.proofs.HeldRounds.{held_next}
+use Rattle.dtx_rounds.proofs.LaidWords.{items_written}
+use Rattle.dtx_rounds.proofs.round.Round.next.Goals as goal
+
+pub returns-clause-rounded : goal.returns-clause-rounded
+returns-clause-rounded c = λ heard given before f long stays more h k.
+    let both = held_next c.args.means.now.scale f heard given before c.args.self.now.held c.args.field.now
+    c.turn.new.held c.turn.new.next c.args.self.now.bytes.items c.swap-2.new.x.items c.args.self.now.unroll
+    c.write_bytes.new.unroll long stays more h k full written c.write_bytes.ensures.precoder_bits turned in (
+      subst (λ field. IsRounded c.args.means.now.scale heard given f field) (sym c.swap.ensures.y_after) both.0,
+      subst (λ field. Holds c.args.means.now.scale heard given before (f + 1) field c.swap-2.new.x.items
+          c.write_bytes.new.unroll) (sym c.swap.ensures.x_after) both.1,
+    )
+  where
+    flat : List (List ℕ) → List ℕ
+    flat groups = flat_map (λ group. group) groups
+
+    own : c.as_flattened.result.now ≡ flat c.args.self.now.bytes.items
+    own = c.as_flattened.ensures.value ∙ ap flat c.deref.ensures.value
+
+    full : length (flat c.args.self.now.bytes.items) ≡ 64584
+    full =
+        ap length (sym own) ∙ c.as_flattened.ensures.len
+        ∙ (let groups : c.args.self.now.bytes.len ≡ 78 = c.args.self.now.bytes_long in
+        omega (arith, c.deref.ensures.len, groups))
+
+    given_bytes : length c.write_bytes.new.bytes ≡ c.args.self.now.behind.len
+    given_bytes = omega (arith, c.write_bytes.auto.bytes, c.deref_mut.ensures.len)
+
+    kept : c.swap-2.new.x.items ≡ c.write_bytes.new.bytes
+    kept =
+        ap (λ v. v.items) c.swap-2.ensures.x_after
+        ∙ items_written c.args.self.now.behind c.write_bytes.new.bytes given_bytes
+
+    other : c.as_flattened-2.result.now ≡ flat c.swap-2.new.x.items
+    other =
+        c.as_flattened-2.ensures.value
+        ∙ ap flat (c.deref-2.ensures.value
+        ∙ items_written c.args.self.now.behind c.write_bytes.new.bytes given_bytes ∙ sym kept)
+
+    written : take (207 * whole_segments c.args.field.now.count) (flat c.swap-2.new.x.items)
+        ≡ bytes_back 0 c.args.self.now.unroll (field_levels c.args.field.now)
+    written =
+        ap (λ groups. take (207 * whole_segments c.args.field.now.count) (flat groups)) kept
+        ∙ c.write_bytes.ensures.bytes
+
+    turned : IsTurned c.args.means.now.scale (flat c.args.self.now.bytes.items) (flat c.swap-2.new.x.items)
+        c.args.self.now.held c.args.field.now c.turn.new.held c.turn.new.next
+    turned =
+        subst (λ bytes. IsTurned c.args.means.now.scale (flat c.args.self.now.bytes.items) bytes c.args.self.now.held
+        c.args.field.now c.turn.new.held c.turn.new.next) other
+        (subst (λ bytes. IsTurned c.args.means.now.scale bytes c.as_flattened-2.result.now c.args.self.now.held
+        c.args.field.now c.turn.new.held c.turn.new.next) own c.turn.ensures.turned)

@@ -1,0 +1,90 @@
+use Rattle.std.proofs.Common.{◌≡◌, ℕ, ℤ, ◌+◌, ◌-◌, ◌*◌, ◌<◌, ◌≤◌, ◌⊎◌, inl, inr, true, false, List, ◌∷◌, length, sym}
+use Rattle.std.proofs.Common.{ap, subst}
+use Rattle.std.proofs.Common.{◌∙◌, arith}
+use Rattle.dtx_receiver.specs.Bytes.{bytes_in}
+use Rattle.dtx_rounds.specs.Known.{known_word}
+use Rattle.dtx_rounds.specs.Rounds.{rounded}
+use Rattle.dtx_rounds.specs.RunField.{IsInRun}
+use Rattle.dtx_rounds.specs.RunRounds.{AreAt, IsPassed, IsRun}
+use Rattle.dtx_rounds.proofs.PassedRounds.{given_on, next_run, passed_all, passed_off, passed_on}
+use Rattle.dtx_rounds.proofs.RefinedLemmas.{length-rounded}
+use Rattle.dtx_rounds.proofs.rounds.+pass.Goals as goal
+
+pub returns-in-None-clause-passed : goal.returns-in-None-clause-passed
+returns-in-None-clause-passed m c = λ heard given before t run more at h.
+    passed_all c.args.means.now.scale heard given before t c.args.rounds.now c.args.field.now c.in-None.ensures.cases h
+
+pub returns-then-take-clause-passed : goal.returns-then-take-clause-passed
+returns-then-take-clause-passed m c = λ heard given before t run more at h.
+    let parts = subst (λ rounds. AreAt scale heard given before t rounds) split at in
+    let held = parts.0.on on in
+    let back : t - 1 + 1 ≡ t = omega (arith, held.0) in
+    let both = c.take.ensures.next on heard given before (t - 1) run.long run.stays (omega (arith, more, held.0)) held.1
+    (subst (λ n. IsInRun scale heard given (known_word before) n c.args.field.now) (sym back) h) in
+    let room : 313 * (t - 1) < length (rounded scale heard given) =
+    omega (arith, more, length-rounded scale heard given) in
+    let p = rest heard (rounded scale heard given) (bytes_in given) (t - 1)
+    (next_run scale heard given before some (omega (arith, most)) run) room
+    (subst (λ n. AreAt scale heard (rounded scale heard given) (bytes_in given) n c.in-Some.rest.now)
+    (given_on c.in-Some.round.now t on) parts.1) both.0.turned in
+    subst (λ rounds. IsPassed scale heard given before t rounds (c.take.new.self ∷ c.pass.new.rounds) c.pass.result
+    c.pass.new.field) (sym split)
+    (passed_on scale heard given before t c.in-Some.round.now c.take.new.self c.in-Some.rest.now c.pass.new.rounds
+    c.pass.result c.take.new.field c.pass.new.field on held.0 c.take.ensures.on both.1 c.pass.ensures.still both.0 p)
+  where
+    scale : ℕ
+    scale = c.args.means.now.scale
+
+    some : 0 < scale
+    some = c.args.means.now.some
+
+    most : scale ≤ 18
+    most = c.args.means.now.most
+
+    on : c.in-Some.round.now.on ≡ true
+    on = sym c.take.ensures.had ∙ c.if-take.true
+
+    split : c.args.rounds.now ≡ c.in-Some.round.now ∷ c.in-Some.rest.now
+    split = c.in-Some.ensures.cases.0
+
+    rest : (heard given : List (List ℤ)) (before : List ℕ) (t : ℕ) → IsRun heard given before
+        → 313 * t < length given → AreAt scale heard given before t c.in-Some.rest.now
+        → IsInRun scale heard given (known_word before) t c.take.new.field
+        → IsPassed scale heard given before t c.in-Some.rest.now c.pass.new.rounds c.pass.result c.pass.new.field
+    rest =
+        subst (λ s. (heard given : List (List ℤ)) (before : List ℕ) (t : ℕ) → IsRun heard given before
+        → 313 * t < length given → AreAt s heard given before t c.in-Some.rest.now
+        → IsInRun s heard given (known_word before) t c.take.new.field
+        → IsPassed s heard given before t c.in-Some.rest.now c.pass.new.rounds c.pass.result c.pass.new.field)
+        c.take.ensures.scale c.pass.ensures.passed
+
+pub returns-else-take-clause-passed : goal.returns-else-take-clause-passed
+returns-else-take-clause-passed m c = λ heard given before t run more at h.
+    let parts = subst (λ rounds. AreAt scale heard given before t rounds) split at in
+    let none = first heard given t more (parts.0.off off) in
+    subst (λ rounds. IsPassed scale heard given before t rounds (c.take.new.self ∷ c.in-Some.rest.now) false
+    c.take.new.field) (sym split)
+    (passed_off scale heard given before t c.in-Some.round.now c.take.new.self c.in-Some.rest.now c.take.new.field off
+    none c.take.ensures.on
+    (c.take.ensures.first off scale heard given before run.long (omega (arith, more))
+    (subst (λ n. IsInRun scale heard given (known_word before) n c.args.field.now) none h)) parts.1)
+  where
+    scale : ℕ
+    scale = c.args.means.now.scale
+
+    off : c.in-Some.round.now.on ≡ false
+    off = sym c.take.ensures.had ∙ c.if-take.false
+
+    split : c.args.rounds.now ≡ c.in-Some.round.now ∷ c.in-Some.rest.now
+    split = c.in-Some.ensures.cases.0
+
+    first : (heard given : List (List ℤ)) (t : ℕ) → 313 * t < length given
+        → (t ≡ 0) ⊎ (length given ≤ 313 * t) → t ≡ 0
+    first heard given t more (inl e) = e
+    first heard given t more (inr l) = absurd (omega (arith, more, l))
+
+pub returns-then-take-clause-still : goal.returns-then-take-clause-still
+returns-then-take-clause-still m c = λ e. absurd (omega (arith, ap length c.in-Some.ensures.cases.0, e))
+
+pub returns-else-take-clause-still : goal.returns-else-take-clause-still
+returns-else-take-clause-still m c = λ e. absurd (omega (arith, ap length c.in-Some.ensures.cases.0, e))

@@ -1,0 +1,74 @@
+-- A field of a run on its way through a round.
+use Rattle.std.specs.Prelude.{ℕ, ℤ, ◌≡◌, ◌+◌, ◌*◌, ◌<◌, nat_lt, false, if◌then◌else◌, Option, Some, None, is_some, List}
+use Rattle.std.specs.Prelude.{drop, length, map, slice_index_or, sum, take}
+use Rattle.std.specs.List.{flat_map, range_with_len}
+use Rattle.dtx_slice.specs.Unrolled.{precoder_bits_after}
+use Rattle.dtx_receiver.specs.Bytes.{bytes_in, first_bits, levels_from}
+use Rattle.dtx_rounds.specs.Decided.{IsDecided, decided_rows, heard_rows}
+use Rattle.dtx_rounds.specs.FieldRound.{field_cost, field_rounded, rows_moved}
+use Rattle.dtx_rounds.specs.Fields.{rows_of}
+use Rattle.dtx_rounds.specs.Found.{AreFound, bytes_there, code_byte, new_code, whole_segments}
+use Rattle.dtx_rounds.specs.Known.{known_bytes, known_word}
+use Rattle.dtx_rounds.specs.Rounds.{coder_cost, rounded}
+use Rattle.dtx_rounds.specs.declared.field.Field.{Field}
+
+-- each word that is known of some bytes is known of others, with the same correction
+abbrev pub StayKnown : (before now : List ℕ) → Type 0
+StayKnown before now = (k : ℕ) (code : List ℕ) → known_word before k ≡ Some code → known_word now k ≡ Some code
+
+-- The corrections of a run's words. Those of the first m words are sought among the bytes `now`, and those of the
+-- others among the bytes `before`, which the run had before the last round.
+unfoldable pub codes_upto : (before now : List ℕ) → ℕ → ℕ → Option (List ℕ)
+codes_upto before now m k = if nat_lt k m then known_word now k else known_word before k
+
+-- ---- a field in a run
+
+-- Where no byte more is known than those by which a field was decided, a round leaves its segments.
+pub record IsSettled (scale : ℕ) (field : Field) : Type 0 where
+  pub segments : field.knows_more ≡ false
+      → field_rounded scale (heard_rows field) field.known.items (decided_rows field) ≡ decided_rows field
+  pub cost : field.knows_more ≡ false → field.cost ≡ field_cost scale (heard_rows field) field.known.items
+
+-- It is field f of a run, whose segments are `given`, and `heard` as they were received. These corrections are known.
+pub record IsInRun (scale : ℕ) (heard given : List (List ℤ)) (codes : ℕ → Option (List ℕ)) (f : ℕ) (field : Field)
+    : Type 0 where
+  pub count : field.count ≡ length (rows_of given f)
+  pub heard_are : heard_rows field ≡ rows_of heard f
+  pub decided : decided_rows field ≡ rows_of given f
+  pub known : (n : ℕ) → n < 64584 → slice_index_or field.known.items n None ≡ code_byte codes (64584 * f + n)
+  pub words : field.words ≡ map (λ k. is_some (codes (312 * f + k))) (range_with_len 0 312)
+  pub settled : IsSettled scale field
+
+-- ---- a field that is held
+
+-- how many data segments of field f are in whole groups
+abbrev pub whole_in : List (List ℤ) → ℕ → ℕ
+whole_in given f = whole_segments (length (rows_of given f))
+
+-- the precoder bits of the coders before data segment d of a run
+abbrev pub bits_before : List (List ℤ) → ℕ → List ℕ
+bits_before given d = precoder_bits_after 0 (first_bits given) (levels_from given 0 d)
+
+-- A round holds field f of a run, with the bytes of its groups, and the precoder bits behind them. The words of the
+-- fields before it were sought. `before` are the bytes that the run had before the last round.
+pub record Holds (scale : ℕ) (heard given : List (List ℤ)) (before : List ℕ) (f : ℕ) (field : Field)
+    (groups : List (List ℕ)) (bits : List ℕ) : Type 0 where
+  pub held : IsInRun scale heard given (codes_upto before (bytes_in given) (312 * f)) f field
+  pub bytes : take (207 * whole_in given f) (flat_map (λ group. group) groups)
+      ≡ take (207 * whole_in given f) (drop (64584 * f) (bytes_in given))
+  pub bits_are : bits ≡ bits_before given (312 * f + whole_in given f)
+
+-- ---- its round
+
+-- Words of the held field were sought, among its bytes and those of the next field, and then its symbols were decided.
+pub record IsTurned (scale : ℕ) (bytes behind : List ℕ) (held next new new_next : Field) : Type 0 where
+  pub between : Field
+  pub words : AreFound (new_code (bytes_there held next bytes behind) held.words) held next between new_next
+  pub decided : IsDecided scale between new
+
+-- It is field f of the run after a round, and what its paths cost and how many symbols moved.
+pub record IsRounded (scale : ℕ) (heard given : List (List ℤ)) (f : ℕ) (field : Field) : Type 0 where
+  pub turned : IsInRun scale heard (rounded scale heard given) (known_word (bytes_in given)) f field
+  pub done : field.knows_more ≡ false
+  pub cost : field.cost ≡ sum (map (coder_cost scale heard (known_bytes (bytes_in given)) f) (range_with_len 0 12))
+  pub moved : field.moved ≡ rows_moved (rows_of given f) (rows_of (rounded scale heard given) f)

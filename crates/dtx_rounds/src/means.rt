@@ -1,0 +1,44 @@
+//! What all rounds share.
+
+ghost use Rattle.std.specs.Prelude.{◌≡◌, ◌<◌, ◌≤◌, IfOk, vec_len};
+
+use crate::field::WORDS;
+use crate::words::Corrector;
+use dtx_fast::Fast;
+use dtx_pins::{NO_PIN, Pinned};
+use dtx_sizes::{CODERS, SEGMENT, SEGMENT_ROUNDS};
+use dtx_soft::MAX_SCALE;
+use std::alloc::{AllocError, Global};
+use std::rc::Rc;
+
+/// The corrector and the decoder that rounds use in turn, and the room for the pins and the segments of a field.
+#[derive(Drop)]
+pub(crate) struct Means {
+    pub(crate) scale: u8,
+    pub(crate) corrector: Rc<Corrector>,
+    pub(crate) decoder: Pinned,
+    pub(crate) pins: Vec<[u8; CODERS]>,
+    pub(crate) segments: Vec<[i8; SEGMENT]>,
+    ghost some: { 0 < scale },
+    ghost most: { scale ≤ 18 },
+    ghost decoder_scale: { decoder ≡ scale },
+    ghost pins_long: { vec_len pins ≡ 21528 },
+    ghost segments_long: { vec_len segments ≡ 312 },
+}
+
+impl Means {
+    /// The means of rounds at this scale. The only error is out of memory.
+    pub(crate) fn new(alloc: Global, scale: u8) -> Result<Means, AllocError>
+        requires some { 0 < scale }
+        requires most { scale ≤ MAX_SCALE }
+        ensures scale { IfOk result (λ means. means.scale ≡ scale) }
+    {
+        Ok(Means {
+            scale,
+            corrector: Rc::new(alloc, Fast::new())?,
+            decoder: Pinned::scaled(alloc, scale)?,
+            pins: vec![in alloc; [NO_PIN; CODERS]; SEGMENT_ROUNDS * WORDS]?,
+            segments: vec![in alloc; [0i8; SEGMENT]; WORDS]?,
+        })
+    }
+}

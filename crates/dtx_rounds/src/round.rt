@@ -1,0 +1,158 @@
+//! One round, which is a field behind the one before it.
+
+ghost use Rattle.std.specs.Prelude.{◌≡◌, ◌+◌, ◌*◌, ◌<◌, ◌≤◌, ℕ, ℤ, IfOk, true, false, List, length, vec_len};
+ghost use Rattle.dtx_receiver.specs.Bytes.{bytes_in};
+ghost use Rattle.dtx_rounds.specs.Fields.{AreSegments};
+ghost use Rattle.dtx_rounds.specs.Known.{known_word};
+ghost use Rattle.dtx_rounds.specs.RunField.{Holds, IsInRun, IsRounded, IsTurned, StayKnown};
+
+use crate::field::{BYTES, Field};
+use crate::group_bytes::{empty_bytes, write_bytes};
+use crate::means::Means;
+use crate::pinning::decide;
+use crate::words::find_words;
+use dtx_sizes::GROUP_BYTES;
+use dtx_slice::{Unroll, last_levels};
+use std::alloc::{AllocError, Global};
+
+/// A round over the fields of a run. It holds one field, since words that begin in a field end in the next one.
+#[derive(Drop)]
+pub(crate) struct Round {
+    /// Whether a field is held.
+    on: bool,
+    held: Field,
+    /// The bytes of the held field's segments, as they were before this round.
+    bytes: Vec<[u8; GROUP_BYTES]>,
+    /// Room for those of the next field.
+    behind: Vec<[u8; GROUP_BYTES]>,
+    unroll: Unroll,
+    ghost bytes_long: { vec_len bytes ≡ 78 },
+    ghost behind_long: { vec_len behind ≡ 78 },
+    ghost coders: { length unroll ≡ 12 },
+}
+
+impl Round {
+    /// A round that holds no field. The only error is out of memory.
+    pub(crate) fn new(alloc: Global) -> Result<Round, AllocError>
+        ensures off { IfOk result (λ round. round.on ≡ false) }
+    {
+        Ok(Round {
+            on: false,
+            held: Field::new(alloc)?,
+            bytes: empty_bytes(alloc)?,
+            behind: empty_bytes(alloc)?,
+            unroll: Unroll::new(),
+        })
+    }
+
+    /// Takes the next field. Where one is held, that one has its round: it is given in place of the next one, and the
+    /// answer is true.
+    pub(crate) fn take(&mut self, means: &mut Means, field: &mut Field) -> bool
+        ensures had { result ≡ self.old.on }
+        ensures on { self.new.on ≡ true }
+        ensures scale { means.new.scale ≡ means.old.scale }
+        ensures first { self.old.on ≡ false → (scale : ℕ) (heard given : List (List ℤ)) (before : List ℕ)
+            → AreSegments given → 0 < length given → IsInRun scale heard given (known_word before) 0 field.old
+            → Holds scale heard given before 0 self.new.held self.new.bytes.items self.new.unroll }
+        ensures next { self.old.on ≡ true → (heard given : List (List ℤ)) (before : List ℕ) (f : ℕ)
+            → AreSegments given → StayKnown before (bytes_in given) → 313 * (f + 1) < length given
+            → Holds means.old.scale heard given before f self.old.held self.old.bytes.items self.old.unroll
+            → IsInRun means.old.scale heard given (known_word before) (f + 1) field.old
+            → IsRounded means.old.scale heard given f field.new
+            × Holds means.old.scale heard given before (f + 1) self.new.held self.new.bytes.items self.new.unroll }
+    {
+        if self.on {
+            self.next(means, field);
+            true
+        } else {
+            self.begin(field);
+            false
+        }
+    }
+
+    /// Takes the first field.
+    fn begin(&mut self, field: &mut Field)
+        ensures on { self.new.on ≡ true }
+        ensures holds { (scale : ℕ) (heard given : List (List ℤ)) (before : List ℕ) → AreSegments given
+            → 0 < length given → IsInRun scale heard given (known_word before) 0 field.old
+            → Holds scale heard given before 0 self.new.held self.new.bytes.items self.new.unroll }
+    {
+        self.unroll.start(&last_levels(&field.decided[0]));
+        write_bytes(&mut self.unroll, field, &mut self.bytes[..]);
+        self.on = true;
+        std::mem::swap(&mut self.held, field);
+    }
+
+    /// Takes the next field, and gives the held one in its place.
+    fn next(&mut self, means: &mut Means, field: &mut Field)
+        ensures on { self.new.on ≡ self.old.on }
+        ensures scale { means.new.scale ≡ means.old.scale }
+        ensures rounded { (heard given : List (List ℤ)) (before : List ℕ) (f : ℕ) → AreSegments given
+            → StayKnown before (bytes_in given) → 313 * (f + 1) < length given
+            → Holds means.old.scale heard given before f self.old.held self.old.bytes.items self.old.unroll
+            → IsInRun means.old.scale heard given (known_word before) (f + 1) field.old
+            → IsRounded means.old.scale heard given f field.new
+            × Holds means.old.scale heard given before (f + 1) self.new.held self.new.bytes.items self.new.unroll }
+    {
+        write_bytes(&mut self.unroll, field, &mut self.behind[..]);
+        turn(
+            means,
+            self.bytes.as_flattened(),
+            self.behind.as_flattened(),
+            &mut self.held,
+            field,
+        );
+        std::mem::swap(&mut self.held, field);
+        std::mem::swap(&mut self.bytes, &mut self.behind);
+    }
+
+    /// Ends the fields: the one that is held has its round. The answer is false where none is held.
+    pub(crate) fn finish(&mut self, means: &mut Means, field: &mut Field) -> bool
+        ensures had { result ≡ self.old.on }
+        ensures on { self.new.on ≡ false }
+        ensures scale { means.new.scale ≡ means.old.scale }
+        ensures last { self.old.on ≡ true → (heard given : List (List ℤ)) (before : List ℕ) (f : ℕ)
+            → AreSegments given → StayKnown before (bytes_in given) → 313 * f < length given
+            → length given ≤ 313 * (f + 1)
+            → Holds means.old.scale heard given before f self.old.held self.old.bytes.items self.old.unroll
+            → IsRounded means.old.scale heard given f field.new }
+    {
+        let had = self.on;
+        if had {
+            self.end(means, field);
+        }
+        had
+    }
+
+    /// Gives the held field, behind which there is none.
+    fn end(&mut self, means: &mut Means, field: &mut Field)
+        ensures on { self.new.on ≡ false }
+        ensures scale { means.new.scale ≡ means.old.scale }
+        ensures rounded { (heard given : List (List ℤ)) (before : List ℕ) (f : ℕ) → AreSegments given
+            → StayKnown before (bytes_in given) → 313 * f < length given → length given ≤ 313 * (f + 1)
+            → Holds means.old.scale heard given before f self.old.held self.old.bytes.items self.old.unroll
+            → IsRounded means.old.scale heard given f field.new }
+    {
+        field.clear();
+        turn(
+            means,
+            self.bytes.as_flattened(),
+            self.behind.as_flattened(),
+            &mut self.held,
+            field,
+        );
+        self.on = false;
+        std::mem::swap(&mut self.held, field);
+    }
+}
+
+/// The round of a held field, before the next one. Their bytes are as they were before it.
+fn turn(means: &mut Means, bytes: &[u8], behind: &[u8], held: &mut Field, next: &mut Field)
+    requires bytes { length bytes.now ≡ BYTES }
+    requires behind { length behind.now ≡ BYTES }
+    ensures turned { IsTurned means.old.scale bytes.now behind.now held.old next.old held.new next.new }
+    ensures scale { means.new.scale ≡ means.old.scale }
+{
+    find_words(&means.corrector, bytes, behind, held, next);
+    decide(means, held);
+}
