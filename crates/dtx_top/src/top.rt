@@ -60,12 +60,12 @@ pub fn run<S: Shelf, O: Sink>(alloc: Global, words: &[Word], shelf: &mut S, out:
     // can give (`Knows`).
     ensures words { IsByWords (command_of words.now) words.now result }
 
-    // In which stages a command works whose words name an input. Let the files be told, and let it be foreseen, for each
-    // shelf of this kind, how many bytes of an input can be read. If none can be, each file is as before. Let the other
-    // file of `adapt` and `hurt` be readable whole. If reading fails behind the first n bytes of the input, and no write
-    // error was counted, each output holds what is made of these n bytes, but for less than a piece, and but for at
-    // most 131,072 bytes at its end. Of `net` only this is said: if no byte of its plan can be read, each file is as
-    // before.
+    // In which stages a command works whose words name an input. Let the files be told, and let it be foreseen, for
+    // each shelf of this kind, how many bytes of an input can be read. If none can be, each file is as before. Let the
+    // other file of `adapt` and `hurt` be readable whole. Let reading fail behind the first n bytes of the input, and
+    // let no write error be counted. Then each output holds what is made of these n bytes, but for less than a piece.
+    // At most 131,072 bytes at its end may be missing. Of `net` only this is said: if no byte of its plan can be read,
+    // each file is as before.
     ensures stages { HasStagesOf S.foreseen (command_of words.now) words.now result (S.files shelf.old)
         (S.files shelf.new) (S.counts shelf.old) (S.counts shelf.new) }
 
