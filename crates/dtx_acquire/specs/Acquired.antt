@@ -129,6 +129,10 @@ begun field = if field.begins && nat_lt 0 (length field.segments) then 1 else 0
 
 -- ---- what all fields give
 
+-- the segments of fields, as they were received
+abbrev pub heard_in : List Field → List (List ℤ)
+heard_in fields = flat_map (λ field. field.segments) fields
+
 unfoldable pub restored_of : ℕ → List Field → List (List ℤ)
 restored_of scale fields = flat_map (λ field. restored scale field.segments) fields
 
@@ -159,12 +163,18 @@ settled_fields symbols = fields_where (λ met. met) true symbols
 unfoldable pub acquired_so_far : ℕ → List ℤ → List (List ℤ)
 acquired_so_far scale symbols = restored_of scale (settled_fields symbols)
 
+unfoldable pub heard_so_far : List ℤ → List (List ℤ)
+heard_so_far symbols = heard_in (settled_fields symbols)
+
 -- the fields that the symbols' end adds
 abbrev pub last_fields : List ℤ → List Field
 last_fields symbols = fields_where not true symbols
 
 unfoldable pub acquired_rest : ℕ → List ℤ → List (List ℤ)
 acquired_rest scale symbols = restored_of scale (last_fields symbols)
+
+unfoldable pub heard_rest : List ℤ → List (List ℤ)
+heard_rest symbols = heard_in (last_fields symbols)
 
 -- The same segments are acquired of both lists of symbols, from as many runs, at the same cost.
 pub record IsSame (scale : ℕ) (s t : List ℤ) : Type 0 where

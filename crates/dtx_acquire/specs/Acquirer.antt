@@ -5,13 +5,15 @@ use Rattle.dtx_acquire.specs.Acquired.{Field, cost_of, fields_where, restored_of
 use Rattle.dtx_acquire.specs.Acquired.{settled_fields}
 
 -- An acquirer: its scale, and the symbols that it holds. `on` says whether a sync stands in front of them, and `begins`
--- whether a run would begin with it. `given` is what it gave last, and the counts are those of everything given.
+-- whether a run would begin with it. `given` is what it gave last, `heard` the same segments as they were received, and
+-- the counts are those of everything given.
 pub record Holding : Type 0 where
   pub scale : ℕ
   pub held : List ℤ
   pub on : Bool
   pub begins : Bool
   pub given : List (List ℤ)
+  pub heard : List (List ℤ)
   pub symbols : ℕ
   pub runs : ℕ
   pub segments : ℕ

@@ -1,16 +1,18 @@
 //! An acquirer, which makes segments from symbols as they come.
 
 ghost use Rattle.std.specs.Prelude.{◌≡◌, ℤ, ◌+◌, ◌-◌, ◌*◌, ◌/◌, ◌<◌, ◌≤◌, ◌++◌, true, false, [], List, IfOk};
-ghost use Rattle.std.specs.Prelude.{length, take};
+ghost use Rattle.std.specs.Prelude.{◌⊎◌, length, take};
 ghost use Rattle.dtx_acquire.specs.Acquired.{Field, acquired, acquired_cost, acquired_rest, acquired_runs};
-ghost use Rattle.dtx_acquire.specs.Acquired.{acquired_so_far, restored_of};
+ghost use Rattle.dtx_acquire.specs.Acquired.{acquired_so_far, heard_in, heard_rest, heard_so_far, path_cost};
+ghost use Rattle.dtx_acquire.specs.Acquired.{restored_of};
 ghost use Rattle.dtx_acquire.specs.Acquirer.{Leaves, StandsFor};
 ghost use Rattle.dtx_acquire.specs.Agreement.{agrees};
 
 use crate::giver::Giver;
 use crate::held::{Held, MOST_HELD};
+use crate::restoring::MOST_COST;
 use crate::step::{FIELD, seek, step_of};
-use dtx_sizes::{MOST_SYMBOLS, SEGMENT};
+use dtx_sizes::{FIELD_SEGMENTS, MOST_SYMBOLS, SEGMENT};
 use dtx_soft::MAX_SCALE;
 use std::alloc::{AllocError, Global};
 use std::marker::Model;
@@ -23,6 +25,9 @@ use std::marker::Model;
 #[derive(Drop)]
 pub struct Acquirer {
     held: Held,
+    /// How many symbols in front of `held` are dropped before others are taken. Those of the last field that was given
+    /// are among them.
+    gone: usize,
     on: bool,
     begins: bool,
     giver: Giver,
@@ -30,7 +35,8 @@ pub struct Acquirer {
 }
 
 impl Model for Acquirer {
-    ghost use Rattle.std.specs.Prelude.{◌≡◌, ◌+◌, ◌*◌, ◌≤◌, true, length, take};
+    ghost use Rattle.std.specs.Prelude.{◌≡◌, ◌+◌, ◌*◌, ◌≤◌, true, drop, length, take};
+    ghost use Rattle.dtx_acquire.specs.Acquired.{path_cost, segments_from};
     ghost use Rattle.dtx_acquire.specs.Acquirer.{Holding};
     ghost use Rattle.dtx_acquire.specs.Agreement.{agrees};
 
@@ -38,18 +44,21 @@ impl Model for Acquirer {
 
     ghost view = { λ a. record {
       scale = a.giver.decisions.scale;
-      held = a.held;
+      held = drop a.gone a.held;
       on = a.on;
       begins = a.begins;
       given = take a.giver.count a.giver.segments.items;
+      heard = segments_from a.held 0 a.giver.count;
       symbols = a.symbols;
       runs = a.giver.runs;
       segments = a.giver.total;
       cost = a.giver.cost;
     } };
 
-    ghost invariant = { λ a. (832 * a.giver.total + length a.held ≤ a.symbols) × (a.symbols ≤ 520832000000)
-        × (a.on ≡ true → agrees a.held 0 ≡ true) };
+    ghost invariant = { λ a. (832 * a.giver.total + length (drop a.gone a.held) ≤ a.symbols)
+        × (a.symbols ≤ 520832000000) × (a.on ≡ true → agrees (drop a.gone a.held) 0 ≡ true)
+        × (a.gone ≤ length a.held) × (832 * a.giver.count ≤ length a.held)
+        × (a.giver.field_cost ≡ path_cost a.giver.decisions.scale (segments_from a.held 0 a.giver.count)) };
 }
 
 impl Acquirer {
@@ -64,6 +73,7 @@ impl Acquirer {
     {
         Ok(Acquirer {
             held: Held::new(alloc)?,
+            gone: 0,
             on: false,
             begins: true,
             giver: Giver::new(alloc, scale)?,
@@ -83,11 +93,16 @@ impl Acquirer {
         ensures given { (before : List ℤ) → StandsFor self.old before
             → acquired_so_far self.old.scale (before ++ take result symbols.now)
             ≡ acquired_so_far self.old.scale before ++ self.new.given }
+        ensures heard { (before : List ℤ) → StandsFor self.old before
+            → heard_so_far (before ++ take result symbols.now) ≡ heard_so_far before ++ self.new.heard }
+        ensures whole { (self.new.given ≡ []) ⊎ (length self.new.given ≡ FIELD_SEGMENTS) }
+        ensures same { length self.new.heard ≡ length self.new.given }
+        ensures total { self.new.segments ≡ self.old.segments + length self.new.given }
         ensures room { SEGMENT * length self.new.given + length self.new.held ≤ length self.old.held + result }
         ensures scale { self.new.scale ≡ self.old.scale }
         ensures symbols { self.new.symbols ≡ self.old.symbols + result }
     {
-        self.giver.count = 0;
+        self.forget();
         let count = self.held.take(symbols);
         self.symbols += count as u64;
         if self.held.len() == MOST_HELD {
@@ -105,17 +120,34 @@ impl Acquirer {
             → self.new.segments ≡ length (acquired self.old.scale symbols) }
         ensures cost { (symbols : List ℤ) → StandsFor self.old symbols
             → self.new.cost ≡ acquired_cost self.old.scale symbols }
+        ensures heard { (symbols : List ℤ) → StandsFor self.old symbols → self.new.heard ≡ heard_rest symbols }
+        ensures few { length self.new.given ≤ FIELD_SEGMENTS }
+        ensures same { length self.new.heard ≡ length self.new.given }
+        ensures total { self.new.segments ≡ self.old.segments + length self.new.given }
         ensures room { SEGMENT * length self.new.given ≤ length self.old.held }
         ensures held { self.new.held ≡ [] }
         ensures scale { self.new.scale ≡ self.old.scale }
         ensures symbols { self.new.symbols ≡ self.old.symbols }
     {
-        self.giver.count = 0;
+        self.forget();
         let on = seek(self.on, &mut self.held);
         let left = self.held.len();
         let count = whole_segments(on, left);
-        self.giver.give(&mut self.held, count, left, self.begins);
+        self.giver.give(self.held.all(), count, self.begins);
+        self.gone = left;
         self.on = false;
+    }
+
+    /// Drops what was given last.
+    fn forget(&mut self)
+        ensures gone { self.new.held ≡ self.old.held }
+    {
+        self.giver.count = 0;
+        self.giver.field_cost = 0;
+        if self.gone > 0 {
+            self.held.leave(self.gone);
+            self.gone = 0;
+        }
     }
 
     /// The segments that the last call of `take` or `finish` has brought.
@@ -123,6 +155,22 @@ impl Acquirer {
         ensures { result.now ≡ self.now.given }
     {
         &self.giver.segments[..self.giver.count]
+    }
+
+    /// The same segments as they were received.
+    pub fn heard(&self) -> &[[i8; SEGMENT]]
+        ensures { result.now ≡ self.now.heard }
+    {
+        let (segments, _) = self.held.all().as_chunks::<SEGMENT>();
+        &segments[..self.giver.count]
+    }
+
+    /// What the least paths of these segments cost.
+    pub fn field_cost(&self) -> u64
+        ensures cost { result ≡ path_cost self.now.scale self.now.heard }
+        ensures most { result ≤ MOST_COST * length self.now.heard }
+    {
+        self.giver.field_cost
     }
 
     /// How many symbols were taken.
@@ -192,8 +240,8 @@ impl Acquirer {
         ensures symbols { self.new.symbols ≡ self.old.symbols }
     {
         let step = step_of(self.held.all());
-        self.giver
-            .give(&mut self.held, step.given, step.count, self.begins);
+        self.giver.give(self.held.all(), step.given, self.begins);
+        self.gone = step.count;
         self.on = step.on;
         self.begins = step.begins;
     }

@@ -5,7 +5,6 @@ ghost use Rattle.std.specs.Prelude.{drop, length, take, vec_len};
 ghost use Rattle.dtx_acquire.specs.Acquired.{begun, path_cost, restored, segments_from};
 
 use crate::deciding::Decisions;
-use crate::held::Held;
 use crate::restoring::restore;
 use crate::step::FIELD;
 use dtx_sizes::{MOST_SEGMENTS, SEGMENT};
@@ -23,11 +22,14 @@ pub(crate) struct Giver {
     pub(crate) runs: u64,
     pub(crate) total: u64,
     pub(crate) cost: u64,
+    /// What the least paths of the segments cost that were given last.
+    pub(crate) field_cost: u64,
     ghost scale: { soft.scale ≡ decisions.scale },
     ghost long: { vec_len segments ≡ 313 },
     ghost few: { count ≤ 313 },
     ghost runs_small: { runs ≤ total },
     ghost cost_small: { cost ≤ 53419248 * total },
+    ghost field_cost_small: { field_cost ≤ 53419248 * count },
 }
 
 impl Giver {
@@ -40,6 +42,7 @@ impl Giver {
         ensures runs { IfOk result (λ giver. giver.runs ≡ 0) }
         ensures total { IfOk result (λ giver. giver.total ≡ 0) }
         ensures cost { IfOk result (λ giver. giver.cost ≡ 0) }
+        ensures field_cost { IfOk result (λ giver. giver.field_cost ≡ 0) }
     {
         Ok(Giver {
             segments: empty_field(alloc)?,
@@ -49,31 +52,31 @@ impl Giver {
             runs: 0,
             total: 0,
             cost: 0,
+            field_cost: 0,
         })
     }
 
-    /// Gives the first `count` segments of the symbols that are held: a field, or a prefix of one. Then it drops the
-    /// first `gone` symbols.
-    pub(crate) fn give(&mut self, held: &mut Held, count: usize, gone: usize, begins: bool)
+    /// Gives the first `count` segments of the symbols that are held: a field, or a prefix of one.
+    pub(crate) fn give(&mut self, held: &[i8], count: usize, begins: bool)
         requires few { count ≤ FIELD }
-        requires room { SEGMENT * count ≤ length held.old }
-        requires gone { gone ≤ length held.old }
+        requires room { SEGMENT * count ≤ length held.now }
         requires most { self.old.total ≤ MOST_SEGMENTS }
         ensures given { take self.new.count self.new.segments.items
-            ≡ restored self.old.decisions.scale (segments_from held.old 0 count) }
+            ≡ restored self.old.decisions.scale (segments_from held.now 0 count) }
         ensures count { length (take self.new.count self.new.segments.items) ≡ count }
         ensures total { self.new.total ≡ self.old.total + count }
         ensures runs { self.new.runs
-            ≡ self.old.runs + begun (record { begins = begins; segments = segments_from held.old 0 count }) }
+            ≡ self.old.runs + begun (record { begins = begins; segments = segments_from held.now 0 count }) }
         ensures cost { self.new.cost
-            ≡ self.old.cost + path_cost self.old.decisions.scale (segments_from held.old 0 count) }
+            ≡ self.old.cost + path_cost self.old.decisions.scale (segments_from held.now 0 count) }
+        ensures field_cost { self.new.field_cost
+            ≡ path_cost self.old.decisions.scale (segments_from held.now 0 count) }
         ensures scale { self.new.decisions.scale ≡ self.old.decisions.scale }
-        ensures held { held.new ≡ drop gone held.old }
     {
         let cost = restore_front(
             &mut self.soft,
             &self.decisions,
-            held.all(),
+            held,
             count,
             &mut self.segments,
         );
@@ -81,7 +84,7 @@ impl Giver {
         self.total += count as u64;
         self.runs += run_of(begins, count);
         self.cost += cost;
-        held.leave(gone);
+        self.field_cost = cost;
     }
 }
 

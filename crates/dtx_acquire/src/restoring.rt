@@ -14,7 +14,7 @@ use dtx_sizes::{FIELD_PACKETS, FIELD_SEGMENTS, GROUP_PACKETS, SEGMENT, SEGMENT_L
 use dtx_soft::Soft;
 
 /// The greatest cost of the symbols of a data segment. None is off a level by more than 254, which is 128 + 7 * 18.
-pub(crate) const MOST_COST: u64 = 828 * 64_516;
+pub const MOST_COST: u64 = 828 * 64_516;
 
 /// Restores a field, or the first segments of one, and returns the cost of its least paths.
 pub(crate) fn restore(soft: &mut Soft, decisions: &Decisions, segments: &mut [[i8; SEGMENT]]) -> u64

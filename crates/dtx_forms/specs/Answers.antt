@@ -4,7 +4,7 @@ use Rattle.dtx_meaning.specs.declared.status.Status.{Status}
 use Rattle.dtx_meaning.specs.declared.status.Status.TheVariants.{Plan, Packet, TooLong, OutOfFeed, OutOfAir, NoSync}
 use Rattle.dtx_words.specs.declared.rows.Command.{Command}
 use Rattle.dtx_words.specs.declared.rows.Command.TheVariants.{Adapt, Code, Receive, Net, Make, Hurt, Place, Trial}
-use Rattle.dtx_words.specs.declared.rows.Command.TheVariants.{Mend, DvbCode, Repeat, Acquire, Level}
+use Rattle.dtx_words.specs.declared.rows.Command.TheVariants.{Mend, DvbCode, Repeat, Acquire, Level, Refine}
 
 -- the command reads a plan, or a file of changes
 abbrev pub reads_plan : Command → Bool
@@ -49,6 +49,7 @@ needs_sync Mend = true
 needs_sync Repeat = true
 needs_sync Acquire = true
 needs_sync Level = true
+needs_sync Refine = true
 needs_sync command = false
 
 abbrev pub Where : Bool → Type 0

@@ -4,9 +4,9 @@ use Rattle.std.specs.Prelude.{ℕ, ℤ, pos, ◌+◌, ◌-◌, ◌*◌, ◌/◌,
 use Rattle.std.specs.Prelude.{List, [], ◌++◌, length, map, take, drop, slice_index_or, sum}
 use Rattle.std.proofs.Common.{zero, suc}
 use Rattle.std.specs.Ordering.{int_eq}
-use Rattle.std.specs.List.{flat_map, range_with_len}
+use Rattle.std.specs.List.{range_with_len}
 use Rattle.dtx_receiver.specs.Bytes.{bytes_in}
-use Rattle.dtx_acquire.specs.Acquired.{acquired, all_fields}
+use Rattle.dtx_acquire.specs.Acquired.{acquired, acquired_so_far, all_fields, heard_in}
 use Rattle.dtx_acquire.specs.Scaled.{decided}
 use Rattle.dtx_acquire.specs.Sent.{groups_behind}
 use Rattle.dtx_pins.specs.PinnedField.{pinned, pinned_coder_cost}
@@ -59,11 +59,26 @@ rounds_of scale heard given (suc r) = rounded scale heard (rounds_of scale heard
 
 -- the segments that are given of a capture, with their symbols as they were received
 unfoldable pub heard_of : List ℤ → List (List ℤ)
-heard_of symbols = flat_map (λ field. field.segments) (all_fields symbols)
+heard_of symbols = heard_in (all_fields symbols)
 
 -- the segments of a capture after r rounds
 unfoldable pub refined : ℕ → List ℤ → ℕ → List (List ℤ)
 refined scale symbols r = rounds_of scale (heard_of symbols) (acquired scale symbols) r
+
+-- ---- piece by piece
+
+-- How many segments of these symbols are refined whatever follows: those of all settled fields but the last r. A round
+-- over a field waits for the next one.
+unfoldable pub settled_count : ℕ → List ℤ → ℕ → ℕ
+settled_count scale symbols r = length (acquired_so_far scale symbols) - 313 * r
+
+-- these segments
+unfoldable pub refined_so_far : ℕ → List ℤ → ℕ → List (List ℤ)
+refined_so_far scale symbols r = take (settled_count scale symbols r) (refined scale symbols r)
+
+-- the segments that the symbols' end adds
+unfoldable pub refined_rest : ℕ → List ℤ → ℕ → List (List ℤ)
+refined_rest scale symbols r = drop (settled_count scale symbols r) (refined scale symbols r)
 
 -- ---- the numbers of a round
 

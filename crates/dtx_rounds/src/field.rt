@@ -15,6 +15,13 @@ pub(crate) const WORDS: usize = FIELD_PACKETS as usize;
 /// How many bytes the data segments of a field have.
 pub(crate) const BYTES: usize = CODEWORD * WORDS;
 
+/// What the least paths of a field cost at most, in 313 segments of 828 symbols. No symbol is off a level by more than
+/// 254, which is 128 + 7 * 18.
+pub const MOST_FIELD_COST: u64 = 313 * 828 * 64_516;
+
+/// In how many symbols a field's segments can differ from those before: all of its data segments.
+pub const MOST_MOVED: u64 = (SEGMENT * WORDS) as u64;
+
 /// A field of a capture between two rounds: its symbols as they were received, the segments that were decided of them,
 /// and what is known. A round knows a byte where the word is known whose byte stands there.
 #[derive(Drop)]
@@ -34,6 +41,8 @@ pub struct Field {
     /// In how many symbols the last round's segments differ from those of the round before.
     pub(crate) moved: u64,
     ghost few: { count ≤ 313 },
+    ghost cost_small: { cost ≤ 16720224624 },
+    ghost moved_small: { moved ≤ 259584 },
     ghost heard_long: { vec_len heard ≡ 313 },
     ghost decided_long: { vec_len decided ≡ 313 },
     ghost known_long: { vec_len known ≡ 64584 },
@@ -66,6 +75,7 @@ impl Field {
     pub fn set(&mut self, heard: &[[i8; SEGMENT]], decided: &[[i8; SEGMENT]], cost: u64)
         requires few { length heard.now ≤ SEGMENTS }
         requires same { length decided.now ≡ length heard.now }
+        requires cost { cost ≤ MOST_FIELD_COST }
         ensures heard { take self.new.count self.new.heard.items ≡ heard.now }
         ensures decided { take self.new.count self.new.decided.items ≡ decided.now }
         ensures count { self.new.count ≡ length heard.now }
@@ -114,14 +124,16 @@ impl Field {
 
     /// What the least paths cost by which the segments were decided.
     pub fn cost(&self) -> u64
-        ensures { result ≡ self.now.cost }
+        ensures cost { result ≡ self.now.cost }
+        ensures most { result ≤ MOST_FIELD_COST }
     {
         self.cost
     }
 
     /// In how many symbols the last round's segments differ from those of the round before.
     pub fn moved(&self) -> u64
-        ensures { result ≡ self.now.moved }
+        ensures moved { result ≡ self.now.moved }
+        ensures most { result ≤ MOST_MOVED }
     {
         self.moved
     }

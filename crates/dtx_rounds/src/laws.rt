@@ -1,6 +1,6 @@
 //! Laws of rounds.
 
-ghost use Rattle.std.specs.Prelude.{◌≡◌, ◌+◌, ◌*◌, ◌<◌, ◌≤◌, ℕ, ℤ, true, Option, Some, None};
+ghost use Rattle.std.specs.Prelude.{◌≡◌, ◌+◌, ◌++◌, ◌*◌, ◌<◌, ◌≤◌, ℕ, ℤ, true, Option, Some, None};
 ghost use Rattle.std.specs.Prelude.{List, [], length, map, slice_index_or, sum};
 ghost use Rattle.std.specs.List.{range_with_len};
 ghost use Rattle.dtx_laws.specs.Codeword.{IsCodeword};
@@ -14,7 +14,8 @@ ghost use Rattle.dtx_rounds.specs.FieldRound.{KnowsNothing, field_rounded, words
 ghost use Rattle.dtx_rounds.specs.Fields.{AreSegments, rows_of};
 ghost use Rattle.dtx_rounds.specs.Known.{known_byte, known_bytes, known_count, known_word};
 ghost use Rattle.dtx_rounds.specs.Pins.{byte_at_step};
-ghost use Rattle.dtx_rounds.specs.Rounds.{coder_cost, groups_in, fields_in, heard_of, refined, rounded, rounds_of};
+ghost use Rattle.dtx_rounds.specs.Rounds.{coder_cost, groups_in, fields_in, heard_of, refined, refined_rest};
+ghost use Rattle.dtx_rounds.specs.Rounds.{refined_so_far, rounded, rounds_of};
 ghost use Rattle.dtx_rounds.specs.Rounds.{round_cost, round_moved};
 ghost use Rattle.dtx_rounds.specs.RunField.{IsInRun, IsRounded};
 ghost use Rattle.dtx_rounds.specs.RunRounds.{IsGiven};
@@ -115,6 +116,16 @@ pub fn the_numbers_of_a_round_are_those_of_its_fields()
         → ((f : ℕ) → f < fields_in given → IsRounded scale heard given f (field f))
         → sum (map (λ f. words_known (field f).words) (range_with_len 0 (fields_in given)))
         ≡ known_count (bytes_in given) }
+{}
+
+/// All refined segments of a capture are in two parts: those that are refined whatever follows, and those that the end
+/// adds. What is refined of first symbols, whatever follows, is a prefix of what is refined of more symbols, and of all
+/// refined segments of these.
+pub fn more_is_refined_of_more()
+    ensures all { (scale r : ℕ) (symbols : List ℤ)
+        → refined_so_far scale symbols r ++ refined_rest scale symbols r ≡ refined scale symbols r }
+    ensures more { (scale r : ℕ) (symbols more : List ℤ) → (others : List (List ℤ))
+        × (refined_so_far scale (symbols ++ more) r ≡ refined_so_far scale symbols r ++ others) }
 {}
 
 /// Where a round gives what it was given, all further ones do.

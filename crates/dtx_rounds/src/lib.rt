@@ -11,5 +11,5 @@ mod round;
 mod rounds;
 mod words;
 
-pub use field::Field;
+pub use field::{Field, MOST_FIELD_COST, MOST_MOVED};
 pub use rounds::Rounds;

@@ -4,7 +4,7 @@ use Rattle.std.specs.List.{list_any}
 use Rattle.dtx_words.specs.declared.rows.Command.{Command}
 use Rattle.dtx_words.specs.declared.rows.Command.TheVariants.{Adapt, Code, Excite, Receive, Net, Make, Hurt, Place}
 use Rattle.dtx_words.specs.declared.rows.Command.TheVariants.{Trial, Soft, Mend, DvbCode, DvbRead, Repeat}
-use Rattle.dtx_words.specs.declared.rows.Command.TheVariants.{Acquire, Watch, Level}
+use Rattle.dtx_words.specs.declared.rows.Command.TheVariants.{Acquire, Watch, Level, Refine}
 use Rattle.dtx_words.specs.declared.rows.CommandRow.{CommandRow}
 use Rattle.dtx_words.specs.declared.rows.Field.{Field}
 use Rattle.dtx_words.specs.declared.rows.Field.TheVariants.{Input, Output, Number, Within, Second}
@@ -189,6 +189,16 @@ level_row = record {
   fewest = 3;
 }
 
+-- `refine SCALE ROUNDS IN OUT`: a scale of 1 to 18, 1 to 32 rounds
+abbrev pub refine_row : Row
+refine_row = record {
+  verb = codes "refine";
+  fields = Within 1 18 ∷ Within 1 32 ∷ Input ∷ Output ∷ [];
+  labels = codes "symbols " ∷ codes " runs " ∷ codes " segments " ∷ codes " cost " ∷ codes " known " ∷ codes " moved "
+      ∷ codes " loose " ∷ [];
+  fewest = 7;
+}
+
 -- the row of a command
 abbrev pub row_of : Command → Row
 row_of Adapt = adapt_row
@@ -208,6 +218,7 @@ row_of Repeat = repeat_row
 row_of Acquire = acquire_row
 row_of Watch = watch_row
 row_of Level = level_row
+row_of Refine = refine_row
 
 -- the row of the definitions that a row of the code is
 abbrev pub row_behind : CommandRow → Row
@@ -227,9 +238,9 @@ are_inputs_first (field ∷ fields) = are_inputs_first fields
 -- all commands
 abbrev pub commands : List Command
 commands = Adapt ∷ Code ∷ Excite ∷ Receive ∷ Net ∷ Make ∷ Hurt ∷ Place ∷ Trial ∷ Soft ∷ Mend ∷ DvbCode ∷ DvbRead
-    ∷ Repeat ∷ Acquire ∷ Watch ∷ Level ∷ []
+    ∷ Repeat ∷ Acquire ∷ Watch ∷ Level ∷ Refine ∷ []
 
 -- one command for each first word, in the order of the usage line
 abbrev pub first_words : List Command
 first_words = Adapt ∷ Code ∷ Excite ∷ Receive ∷ Net ∷ Make ∷ Hurt ∷ Place ∷ Trial ∷ Soft ∷ Mend ∷ DvbCode ∷ Repeat
-    ∷ Acquire ∷ Watch ∷ Level ∷ []
+    ∷ Acquire ∷ Watch ∷ Level ∷ Refine ∷ []

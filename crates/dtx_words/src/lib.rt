@@ -18,4 +18,4 @@ pub use network_names::{
     NETWORK_NAME, feed_name, log_name, names_differ, received_name, symbol_name, trial_name,
 };
 pub use number::{number_up_to, number_within};
-pub use rows::{Command, FEWEST_TRIAL, Field, MOST_SCALE, MOST_TRIAL, SecondWord};
+pub use rows::{Command, FEWEST_TRIAL, Field, MOST_ROUNDS, MOST_SCALE, MOST_TRIAL, SecondWord};

@@ -14,6 +14,9 @@ pub const MOST_TRIAL: u64 = 1_000_000;
 /// fits a signed byte.
 pub const MOST_SCALE: u64 = 18;
 
+/// How many rounds a capture is refined in at most (the profile's own limit).
+pub const MOST_ROUNDS: u64 = 32;
+
 /// A command. It has one word of its own, or two. Each variant says what the command does with words that fit it. What
 /// a stream, a feed and symbols are, `docs/glossary.md` says.
 #[derive(Clone, Copy, PartialEq, Eq)]
@@ -88,6 +91,10 @@ pub enum Command {
     /// writes a line to LOG for each sync (the profile's own). IN has one signed byte a symbol, of any gain and
     /// constant, inverted or not.
     Level,
+    /// `refine SCALE ROUNDS IN OUT` finds the fields of the capture IN as `acquire` does, and decides their symbols in
+    /// ROUNDS rounds, 1 to 32 (the profile's own). The words of the packets that a round can put right tell the trellis
+    /// decoder of the next one which pairs were sent.
+    Refine,
 }
 
 /// The second word of a command that has two.
@@ -139,7 +146,7 @@ pub(crate) struct CommandRow {
 }
 
 /// All commands.
-pub(crate) const COMMANDS: [Command; 17] = [
+pub(crate) const COMMANDS: [Command; 18] = [
     Command::Adapt,
     Command::Code,
     Command::Excite,
@@ -157,10 +164,11 @@ pub(crate) const COMMANDS: [Command; 17] = [
     Command::Acquire,
     Command::Watch,
     Command::Level,
+    Command::Refine,
 ];
 
 /// One command for each first word, in the order of the usage line.
-pub(crate) const FIRST_WORDS: [Command; 16] = [
+pub(crate) const FIRST_WORDS: [Command; 17] = [
     Command::Adapt,
     Command::Code,
     Command::Excite,
@@ -177,6 +185,7 @@ pub(crate) const FIRST_WORDS: [Command; 16] = [
     Command::Acquire,
     Command::Watch,
     Command::Level,
+    Command::Refine,
 ];
 
 /// `adapt PLAN IN OUT`
@@ -361,6 +370,27 @@ const LEVEL: CommandRow = CommandRow {
     fewest: 3,
 };
 
+/// `refine SCALE ROUNDS IN OUT`
+const REFINE: CommandRow = CommandRow {
+    verb: "refine",
+    fields: &[
+        Field::Within(1, MOST_SCALE),
+        Field::Within(1, MOST_ROUNDS),
+        Field::Input,
+        Field::Output,
+    ],
+    labels: &[
+        "symbols ",
+        " runs ",
+        " segments ",
+        " cost ",
+        " known ",
+        " moved ",
+        " loose ",
+    ],
+    fewest: 7,
+};
+
 /// The row of a command.
 pub(crate) fn row(command: Command) -> &'static CommandRow
     ensures { row_behind result.now ≡ row_of command }
@@ -383,5 +413,6 @@ pub(crate) fn row(command: Command) -> &'static CommandRow
         Command::Acquire => &ACQUIRE,
         Command::Watch => &WATCH,
         Command::Level => &LEVEL,
+        Command::Refine => &REFINE,
     }
 }

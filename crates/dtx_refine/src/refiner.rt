@@ -1,0 +1,259 @@
+//! A refiner, which makes segments from symbols as they come.
+
+ghost use Rattle.std.specs.Prelude.{◌≡◌, ℤ, ◌+◌, ◌-◌, ◌*◌, ◌<◌, ◌≤◌, ◌++◌, true, false, [], List, IfOk, length, take};
+ghost use Rattle.dtx_receiver.specs.Bytes.{bytes_in};
+ghost use Rattle.dtx_acquire.specs.Acquired.{acquired, acquired_runs};
+ghost use Rattle.dtx_rounds.specs.Known.{known_count};
+ghost use Rattle.dtx_rounds.specs.Rounds.{heard_of, refined, refined_rest, refined_so_far, round_cost, round_moved};
+ghost use Rattle.dtx_refine.specs.Refiner.{IsEnding, StandsFor};
+
+use dtx_acquire::Acquirer;
+use dtx_rounds::{Field, Rounds};
+use dtx_sizes::{FIELD_SEGMENTS, MOST_SYMBOLS, SEGMENT};
+use dtx_soft::MAX_SCALE;
+use std::alloc::{AllocError, Global};
+use std::marker::Model;
+
+/// How many rounds a refiner has at most (the profile's own limit).
+pub const MOST_ROUNDS: usize = 32;
+
+/// Finds the fields of a capture as an `Acquirer` does, and passes each through rounds, in which the words that are
+/// known pin the paths of the trellis around them (the profile's own; ATSC A/53 Part 2, trellis coding). It is given the
+/// symbols in pieces of any length, and gives whole segments, a field at a time. It allocates only in `new`.
+/// `StandsFor refiner symbols` is its invariant: it was given these symbols, and gave all that is refined of them
+/// whatever follows.
+#[derive(Drop)]
+pub struct Refiner {
+    acquirer: Acquirer,
+    rounds: Rounds,
+    /// How many rounds there are.
+    count: usize,
+    /// The field that goes through the rounds. Where `gives` is true, it had all of them.
+    field: Field,
+    gives: bool,
+    /// Whether the symbols have ended.
+    ended: bool,
+    /// How many fields the rounds hold.
+    held: usize,
+    /// How many fields had all rounds.
+    done: u64,
+    known: u64,
+    cost: u64,
+    moved: u64,
+}
+
+impl Model for Refiner {
+    ghost use Rattle.std.specs.Prelude.{ℕ, ◌≡◌, ◌+◌, ◌*◌, ◌<◌, ◌≤◌, if◌then◌else◌, [], length, take};
+    ghost use Rattle.dtx_refine.specs.Refiner.{Refining};
+
+    ghost Value = { Refining };
+
+    ghost view = { λ r. record {
+      acquirer = r.acquirer;
+      passes = r.rounds;
+      ended = r.ended;
+      fields = r.held;
+      scale = r.acquirer.scale;
+      rounds = r.count;
+      given = if r.gives then take r.field.count r.field.decided.items else [];
+      held = length r.acquirer.held;
+      waiting = 313 * r.held + (if r.ended then 0 else 313);
+      symbols = r.acquirer.symbols;
+      runs = r.acquirer.runs;
+      segments = r.acquirer.segments;
+      known = r.known;
+      cost = r.cost;
+      moved = r.moved;
+    } };
+
+    ghost invariant = { λ r. (832 * r.acquirer.segments + length r.acquirer.held ≤ r.acquirer.symbols)
+        × (r.acquirer.symbols ≤ 520832000000) × (0 < r.count) × (r.count ≤ 32)
+        × (r.done + r.held ≤ r.acquirer.segments) × (r.known ≤ 312 * r.done)
+        × (r.cost ≤ 16720224624 * r.done) × (r.moved ≤ 259584 * r.done) };
+}
+
+impl Refiner {
+    /// A new refiner, for symbols at this scale, with so many rounds. The only error is out of memory.
+    pub fn new(alloc: Global, scale: u8, rounds: usize) -> Result<Refiner, AllocError>
+        requires from { 0 < scale }
+        requires to { scale ≤ MAX_SCALE }
+        requires some { 0 < rounds }
+        requires most { rounds ≤ MOST_ROUNDS }
+        ensures stands { IfOk result (λ refiner. StandsFor refiner []) }
+        ensures given { IfOk result (λ refiner. refiner.given ≡ []) }
+        ensures scale { IfOk result (λ refiner. refiner.scale ≡ scale) }
+        ensures rounds { IfOk result (λ refiner. refiner.rounds ≡ rounds) }
+        ensures symbols { IfOk result (λ refiner. refiner.symbols ≡ 0) }
+    {
+        Ok(Refiner {
+            acquirer: Acquirer::new(alloc, scale)?,
+            rounds: Rounds::new(alloc, scale, rounds)?,
+            count: rounds,
+            field: Field::new(alloc)?,
+            gives: false,
+            ended: false,
+            held: 0,
+            done: 0,
+            known: 0,
+            cost: 0,
+            moved: 0,
+        })
+    }
+
+    /// Takes symbols that follow those given before, and returns how many it took. It takes no more than it has room
+    /// for until the next field is whole. `given` has the segments that they bring. The caller calls again with the
+    /// rest.
+    pub fn take(&mut self, symbols: &[i8]) -> usize
+        requires most { self.old.symbols + length symbols.now ≤ MOST_SYMBOLS }
+        ensures within { result ≤ length symbols.now }
+        ensures some { (before : List ℤ) → StandsFor self.old before → 0 < length symbols.now → 0 < result }
+        ensures stands { (before : List ℤ) → StandsFor self.old before
+            → StandsFor self.new (before ++ take result symbols.now) }
+        ensures given { (before : List ℤ) → StandsFor self.old before
+            → refined_so_far self.old.scale (before ++ take result symbols.now) self.old.rounds
+            ≡ refined_so_far self.old.scale before self.old.rounds ++ self.new.given }
+        ensures room { SEGMENT * length self.new.given + length self.new.held ≤ length self.old.held + result }
+        ensures scale { self.new.scale ≡ self.old.scale }
+        ensures rounds { self.new.rounds ≡ self.old.rounds }
+        ensures symbols { self.new.symbols ≡ self.old.symbols + result }
+    {
+        let count = self.acquirer.take(symbols);
+        self.pass();
+        count
+    }
+
+    /// Ends the symbols: gives the next of the last segments. The answer is false where there is none. The caller calls
+    /// until then. The numbers below are then those of all symbols.
+    pub fn finish(&mut self) -> bool
+        ensures begins { (symbols : List ℤ) → StandsFor self.old symbols → IsEnding self.old symbols [] }
+        ensures more { (symbols : List ℤ) (before : List (List ℤ)) → IsEnding self.old symbols before
+            → IsEnding self.new symbols (before ++ self.new.given) }
+        ensures all { (symbols : List ℤ) (before : List (List ℤ)) → IsEnding self.old symbols before
+            → result ≡ false → before ≡ refined_rest self.old.scale symbols self.old.rounds }
+        ensures runs { (symbols : List ℤ) (before : List (List ℤ)) → IsEnding self.old symbols before
+            → result ≡ false → self.new.runs ≡ acquired_runs symbols }
+        ensures segments { (symbols : List ℤ) (before : List (List ℤ)) → IsEnding self.old symbols before
+            → result ≡ false → self.new.segments ≡ length (acquired self.old.scale symbols) }
+        ensures known { (symbols : List ℤ) (before : List (List ℤ)) → IsEnding self.old symbols before
+            → result ≡ false → self.new.known
+            ≡ known_count (bytes_in (refined self.old.scale symbols (self.old.rounds - 1))) }
+        ensures cost { (symbols : List ℤ) (before : List (List ℤ)) → IsEnding self.old symbols before
+            → result ≡ false → self.new.cost
+            ≡ round_cost self.old.scale (heard_of symbols) (refined self.old.scale symbols (self.old.rounds - 1)) }
+        ensures moved { (symbols : List ℤ) (before : List (List ℤ)) → IsEnding self.old symbols before
+            → result ≡ false → self.new.moved
+            ≡ round_moved self.old.scale (heard_of symbols) (refined self.old.scale symbols (self.old.rounds - 1)) }
+        ensures few { length self.new.given ≤ FIELD_SEGMENTS }
+        ensures none { result ≡ false → self.new.given ≡ [] }
+        ensures waiting { self.new.waiting + length self.new.given ≤ self.old.waiting }
+        ensures fewer { result ≡ true → self.new.waiting < self.old.waiting }
+        ensures scale { self.new.scale ≡ self.old.scale }
+        ensures rounds { self.new.rounds ≡ self.old.rounds }
+        ensures symbols { self.new.symbols ≡ self.old.symbols }
+    {
+        if self.ended {
+            self.next();
+        } else {
+            self.ended = true;
+            self.acquirer.finish();
+            self.pass();
+            if !self.gives {
+                self.next();
+            }
+        }
+        self.gives
+    }
+
+    /// The segments that the last call of `take` or `finish` has brought.
+    pub fn given(&self) -> &[[i8; SEGMENT]]
+        ensures { result.now ≡ self.now.given }
+    {
+        let segments = self.field.decided();
+        let count = if self.gives { segments.len() } else { 0 };
+        &segments[..count]
+    }
+
+    /// How many symbols were taken.
+    pub fn symbols(&self) -> u64
+        ensures { result ≡ self.now.symbols }
+    {
+        self.acquirer.symbols()
+    }
+
+    /// How many runs have given segments.
+    pub fn runs(&self) -> u64
+        ensures { result ≡ self.now.runs }
+    {
+        self.acquirer.runs()
+    }
+
+    /// How many segments were acquired.
+    pub fn segments(&self) -> u64
+        ensures { result ≡ self.now.segments }
+    {
+        self.acquirer.segments()
+    }
+
+    /// How many words the last round knew, of all fields that had it.
+    pub fn known(&self) -> u64
+        ensures { result ≡ self.now.known }
+    {
+        self.known
+    }
+
+    /// What the least paths of the last round cost, of all fields that had it.
+    pub fn cost(&self) -> u64
+        ensures { result ≡ self.now.cost }
+    {
+        self.cost
+    }
+
+    /// In how many symbols the last round's segments differ from those that it was given, of all fields that had it.
+    pub fn moved(&self) -> u64
+        ensures { result ≡ self.now.moved }
+    {
+        self.moved
+    }
+
+    /// How many symbols are in no segment that was acquired.
+    pub fn loose(&self) -> u64
+        ensures { result ≡ self.now.symbols - SEGMENT * self.now.segments }
+    {
+        self.acquirer.loose()
+    }
+
+    /// Passes the field that the acquirer gave, if it gave one, through the rounds.
+    fn pass(&mut self) {
+        self.gives = false;
+        if self.acquirer.given().len() > 0 {
+            self.field.set(
+                self.acquirer.heard(),
+                self.acquirer.given(),
+                self.acquirer.field_cost(),
+            );
+            self.gives = self.rounds.take(&mut self.field);
+            if self.gives {
+                self.add();
+            } else {
+                self.held += 1;
+            }
+        }
+    }
+
+    /// Gives the next of the fields that the rounds hold behind the end of the symbols, if they hold one.
+    fn next(&mut self) {
+        self.gives = self.held > 0 && self.rounds.finish(&mut self.field);
+        if self.gives {
+            self.held -= 1;
+            self.add();
+        }
+    }
+
+    /// Adds the numbers of a field that had all rounds.
+    fn add(&mut self) {
+        self.done += 1;
+        self.known += self.field.known_words();
+        self.cost += self.field.cost();
+        self.moved += self.field.moved();
+    }
+}
