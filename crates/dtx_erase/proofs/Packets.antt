@@ -143,14 +143,14 @@ next_given kept now new j before after g sides waiting given = by_waits (cases_l
 
 -- ---- segments, behind a run of which these segments were kept
 
-pub all_taken : (xs : List (List ℤ)) (old kept new : Decoding) (b m : Side) (place h k : ℕ) (brought : List Received)
-    → kept ≡ old → k ≡ h
-    → ((r : List (List ℤ)) → Holds kept.bytes r → length r % 313 ≡ place + 1 → IsFurther b h r (r ++ xs))
-    → ((r : List (List ℤ)) → Holds kept.marks r → length r % 313 ≡ place + 1 → IsFurther m k r (r ++ shown_run xs))
+pub all_taken : (xs : List (List ℤ)) (old kept new : Decoding) (kb km b m : Side) (place h k : ℕ)
+    (brought : List Received) → kept ≡ old → k ≡ h → kb ≡ kept.bytes → km ≡ kept.marks
+    → ((r : List (List ℤ)) → Holds kb r → length r % 313 ≡ place + 1 → IsFurther b h r (r ++ xs))
+    → ((r : List (List ℤ)) → Holds km r → length r % 313 ≡ place + 1 → IsFurther m k r (r ++ shown_run xs))
     → AreGiven (behind kept b m) new h brought
     → (run : List (List ℤ)) → Decodes old run → length run % 313 ≡ place + 1
     → AreCarried Decodes mended_run_early xs new run brought
-all_taken xs old kept new b m place h k brought is same bytes marks g run d e =
+all_taken xs old kept new kb km b m place h k brought is same from_b from_m bytes marks g run d e =
     record {
       holds = decodes_further kept new h run (run ++ xs) both;
       packets = early_further kept new h run (run ++ xs) brought both
@@ -164,11 +164,13 @@ all_taken xs old kept new b m place h k brought is same bytes marks g run d e =
     both : Both kept new h run (run ++ xs)
     both = record {
       old = here;
-      bytes = subst (λ (s : Side). IsFurther s h run (run ++ xs)) (sym g.bytes) (bytes run here.bytes e);
+      bytes = subst (λ (s : Side). IsFurther s h run (run ++ xs)) (sym g.bytes)
+          (bytes run (subst (λ (s : Side). Holds s run) (sym from_b) here.bytes) e);
       marks = subst (λ (s : Side). IsFurther s h (shown_run run) (shown_run (run ++ xs))) (sym g.marks)
           (subst (IsFurther m h (shown_run run)) (sym (map-append (map shown) run xs))
           (subst (λ (n : ℕ). IsFurther m n (shown_run run) (shown_run run ++ shown_run xs)) same
-          (marks (shown_run run) here.marks (shown_due run place e))));
+          (marks (shown_run run) (subst (λ (s : Side). Holds s (shown_run run)) (sym from_m) here.marks)
+          (shown_due run place e))));
       waits = g.waits;
       place = g.place;
     }

@@ -25,9 +25,9 @@ pub type MendReceiver = RunReceiver<MendDecoder>;
 /// what the segments of the run leave.
 #[derive(Drop)]
 pub struct MendDecoder {
-    bytes: Side,
-    marks: MarkSide,
-    words: Words,
+    bytes: Box<Side>,
+    marks: Box<MarkSide>,
+    words: Box<Words>,
     waits: u8,
     place: u16,
 }
@@ -38,9 +38,14 @@ impl Model for MendDecoder {
 
     ghost Value = { Decoding };
 
-    ghost view = { λ d. record { bytes = d.bytes; marks = d.marks; waits = d.waits; place = d.place } };
+    ghost view = { λ d. record {
+      bytes = d.bytes.value;
+      marks = d.marks.value;
+      waits = d.waits;
+      place = d.place;
+    } };
 
-    ghost invariant = { λ d. (d.place < 312) × (d.bytes.groups.held ≡ []) };
+    ghost invariant = { λ d. (d.place < 312) × (d.bytes.value.groups.held ≡ []) };
 }
 
 impl RunDecoder for MendDecoder {
@@ -59,9 +64,9 @@ impl RunDecoder for MendDecoder {
 
     fn new(alloc: Global) -> Result<MendDecoder, AllocError> {
         Ok(MendDecoder {
-            bytes: Side::new(alloc)?,
-            marks: MarkSide::new(alloc)?,
-            words: Words::new(alloc)?,
+            bytes: Box::new(alloc, Side::new(alloc)?)?,
+            marks: Box::new(alloc, MarkSide::new(alloc)?)?,
+            words: Box::new(alloc, Words::new(alloc)?)?,
             waits: 0,
             place: 0,
         })

@@ -3,7 +3,7 @@ use Rattle.std.proofs.lemmas.List.{length_push}
 use Rattle.dtx_receiver.specs.declared.batch.Received.{Received}
 use Rattle.dtx_erase.specs.Marks.{shown_run}
 use Rattle.dtx_erase.specs.Mended.{mended_run_early}
-use Rattle.dtx_erase.specs.Sides.{Decoding, Decodes, mended_word}
+use Rattle.dtx_erase.specs.Sides.{Decoding, Decodes, Holds, mended_word}
 use Rattle.dtx_erase.proofs.Packets.{ends_one, ends_none}
 use Rattle.dtx_erase.proofs.decoder.MendDecoderRunDecoder.end.Goals as goal
 use Rattle.dtx_erase.proofs.decoder.MendDecoderRunDecoder.end.Goals.{else-self-eq0-via-then-self-eq0+else-self-eq0-2}
@@ -15,7 +15,10 @@ returns-then-self-eq0-2-clause-packets c = λ run d.
     let packet : Received =
     mended_word (187 * c.self.inside.place) c.last_word-word.result c.last_word-flags.result in
     ends_one _ run c.last_word-word.result c.last_word-flags.result here c.if-self-eq0.true c.if-self-eq0-2.true
-    (λ k. c.last_word-word.ensures.word run k here.bytes) (λ k. c.last_word-flags.ensures (shown_run run) k here.marks)
+    (λ k. c.last_word-word.ensures.word run k
+    (subst (λ s. Holds s run) (sym c.deref_mut.ensures.value) here.bytes))
+    (λ k. c.last_word-flags.ensures (shown_run run) k
+    (subst (λ s. Holds s (shown_run run)) (sym c.deref_mut-then-self-eq0-2.ensures.value) here.marks))
     ∙ ap (λ xs. mended_run_early run ++ xs)
     (sym (c.give.ensures ∙ ap (λ (xs : List Received). xs ++ packet ∷ []) c.requires.none))
 
