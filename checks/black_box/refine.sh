@@ -1,5 +1,8 @@
 # Rounds over a capture. The numbers and digests are those of programs that share nothing with dtx.
 
+python3 -c 'import sys; sys.stdout.buffer.write(sys.stdin.buffer.read().translate(bytes(18 * each & 255 for each in range(256))))' \
+    <"$room/feed.sym" >"$room/eighteen.sym"
+
 # sent FROM END: those bytes of the symbols of the feed, up to their end where END is left out.
 sent() {
     tail -c +$(($1 + 1)) "$room/feed.sym" | head -c $((${2:-1085760} - $1))
@@ -36,8 +39,8 @@ in_rounds() {
 
 all='symbols 1085760 runs 1 segments 1305 cost 0 known 1249 moved 0 loose 0'
 in_rounds 'as it was sent' 1 '1 3 32' "$all" <"$room/feed.sym" 9<"$room/feed.sym"
-in_rounds 'at eighteen steps a unit' 18 '1 2' "$all" 9<"$room/feed.sym" < <(python3 -c 'import sys
-sys.stdout.buffer.write(sys.stdin.buffer.read().translate(bytes(18 * each & 255 for each in range(256))))' <"$room/feed.sym")
+in_rounds 'at eighteen steps a unit' 18 '1 2' "$all" <"$room/eighteen.sym" 9<"$room/feed.sym"
+rm "$room/eighteen.sym"
 in_rounds 'behind 100 of nothing' 1 2 'symbols 1085860 runs 1 segments 1305 cost 0 known 1249 moved 0 loose 100' \
     < <(zeros 100 && sent 0) 9<"$room/feed.sym"
 in_rounds 'without the first 1000' 1 '1 2' 'symbols 1084760 runs 1 segments 992 cost 0 known 937 moved 0 loose 259416' \
