@@ -5,5 +5,6 @@
 pub mod acquire_laws;
 pub mod laws;
 pub mod level_laws;
+pub mod refine_laws;
 pub mod soft_laws;
 pub mod symbol_laws;
