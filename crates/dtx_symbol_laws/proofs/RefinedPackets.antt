@@ -1,17 +1,16 @@
 -- The packets of the segments after rounds: those whose words are known stay, and there are as many of them.
 use Rattle.std.proofs.Common.{◌≡◌, ◌≢◌, ℕ, ℤ, ◌+◌, ◌-◌, ◌*◌, ◌/◌, ◌%◌, ◌<◌, ◌≤◌, ◌⊎◌, inl, inr, true, Option, Some, None}
-use Rattle.std.proofs.Common.{List, [], ◌∷◌, ◌++◌, length, map, get_or, refl, sym, ap, ap₂, ◌∙◌, subst, arith, zero-add}
+use Rattle.std.proofs.Common.{List, [], ◌∷◌, ◌++◌, length, map, refl, sym, ap, ap₂, ◌∙◌, subst, arith, zero-add}
 use Rattle.std.specs.Prelude.{slice_get}
-use Rattle.std.specs.List.{filter, flat_map, range_with_len}
+use Rattle.std.specs.List.{filter, range_with_len}
 use Rattle.std.proofs.lemmas.Bool.{cases_eq, cases_lt}
 use Rattle.std.proofs.lemmas.List.{append-nil, length-append, length-map}
 use Rattle.std.proofs.lemmas.List.FromFn.{length-range_with_len}
-use Rattle.std.proofs.lemmas.Option.{same_Some, slice_get-get_or, slice_get_within}
+use Rattle.std.proofs.lemmas.Option.{same_Some, slice_get_within}
 use Rattle.dtx_laws.specs.Words.{correction}
 use Rattle.dtx_outer.specs.Inner.{IsComplete, word_at}
-use Rattle.dtx_slice.specs.Slicing.{sliced_data}
 use Rattle.dtx_slice.specs.Unrolled.{level_groups}
-use Rattle.dtx_receiver.specs.Bytes.{bytes_in, data_at, groups_of, levels_in}
+use Rattle.dtx_receiver.specs.Bytes.{bytes_in, levels_in}
 use Rattle.dtx_receiver.specs.Packets.{all_packets, is_complete, received_at, received_by, run_packets}
 use Rattle.dtx_receiver.specs.declared.batch.Received.{Received}
 use Rattle.dtx_receiver.proofs.CompleteLemmas.{complete_all, complete_last, complete_none, complete_parts, complete_told}
@@ -21,7 +20,7 @@ use Rattle.dtx_chain.proofs.RunsLemmas.{middle_at}
 use Rattle.dtx_acquire.specs.Acquired.{acquired}
 use Rattle.dtx_acquire.specs.Sent.{AreInFields}
 use Rattle.dtx_rounds.specs.Known.{known_word}
-use Rattle.dtx_rounds.specs.Rounds.{refined}
+use Rattle.dtx_rounds.specs.Rounds.{refined, rounds_of}
 use Rattle.dtx_rounds.proofs.KnownLemmas.{known_from, known_parts}
 use Rattle.dtx_symbol_laws.specs.RefinedPackets.{StayGood, received_as}
 use Rattle.dtx_symbol_laws.proofs.RefinedFields.{fields_refined, packets_of_run}
@@ -99,11 +98,13 @@ by_found from word (Some code) good = (code, refl)
 good_known : (bytes : List ℕ) (s k : ℕ) (old : Received) → length bytes ≡ 207 * s
     → slice_get (run_packets bytes) k ≡ Some old → old.good ≡ true → (code : List ℕ) × (known_word bytes k ≡ Some code)
 unfolding received_at
-good_known bytes s k old e at good =
-    (found.0, known_from bytes k found.0 (record {
-      complete = (complete_told (length bytes) k).1 there;
-      corrected = found.1;
-    }))
+good_known bytes s k old e at good = (
+  found.0,
+  known_from bytes k found.0 (record {
+    complete = (complete_told (length bytes) k).1 there;
+    corrected = found.1;
+  }),
+)
   where
     there : IsComplete 207 52 4 (length bytes) k
     there = given_there bytes s k e (slice_get_within (run_packets bytes) k old at)
@@ -158,3 +159,12 @@ good_stay stay scale r n symbols some most h k old at good =
     same : new.packet ≡ old.packet
     same = ap (λ (r : Received). r.packet)
         (same_Some (received_as before k known.0) old (sym (known_given before k known.0 known.1) ∙ own))
+
+-- those of the acquired segments, which are the ones before the first round
+pub acquired_stay : WordsStay → (scale r : ℕ) (symbols : List ℤ) → 0 < scale → scale ≤ 18
+    → AreInFields (acquired scale symbols)
+    → StayGood (all_packets (acquired scale symbols)) (all_packets (refined scale symbols r))
+unfolding refined rounds_of
+acquired_stay stay scale r symbols some most h =
+    subst (λ n. StayGood (all_packets (acquired scale symbols)) (all_packets (refined scale symbols n))) (zero-add r)
+    (good_stay stay scale 0 r symbols some most h)

@@ -44,8 +44,9 @@ pub fn a_stream_is_refined_behind_zeros()
     nothing_moves_where_no_byte_is_put_right();
 }
 
-/// The segments after rounds are one run for `receive`, where there are any: as many as are acquired. Each segment whose
-/// number 313 divides looks like a field sync. The segments of the file that is written are those after the rounds.
+/// After rounds there are as many segments as are acquired. They are one run for `receive`, where there are any. Each
+/// segment whose number 313 divides looks like a field sync. The segments of the file that is written are those after
+/// the rounds.
 pub fn one_run_is_refined()
     ensures count { (scale r : ℕ) (symbols : List ℤ) → 0 < scale
         → length (refined scale symbols r) ≡ length (acquired scale symbols) }
@@ -62,6 +63,8 @@ pub fn one_run_is_refined()
 /// A packet that is known stays. Let word k of the bytes after r rounds have this correction. Then `receive` gives the
 /// correction's data as packet k, not flagged, after these rounds and after all further ones. So each packet that it
 /// gives without a flag after r rounds it gives after all further ones too, at the same place, the same and not flagged.
+/// The same holds of the packets before the first round, which are those of the acquired segments. There are always as
+/// many packets as of these.
 pub fn a_packet_that_is_known_stays()
     ensures known { (scale r n k : ℕ) (symbols : List ℤ) (code : List ℕ) → 0 < scale → scale ≤ MAX_SCALE
         → known_word (bytes_in (refined scale symbols r)) k ≡ Some code
@@ -69,6 +72,10 @@ pub fn a_packet_that_is_known_stays()
         ≡ Some (received_as (bytes_in (refined scale symbols (r + n))) k code) }
     ensures good { (scale r n : ℕ) (symbols : List ℤ) → 0 < scale → scale ≤ MAX_SCALE
         → StayGood (all_packets (refined scale symbols r)) (all_packets (refined scale symbols (r + n))) }
+    ensures acquired { (scale r : ℕ) (symbols : List ℤ) → 0 < scale → scale ≤ MAX_SCALE
+        → StayGood (all_packets (acquired scale symbols)) (all_packets (refined scale symbols r)) }
+    ensures count { (scale r : ℕ) (symbols : List ℤ) → 0 < scale
+        → length (all_packets (refined scale symbols r)) ≡ length (all_packets (acquired scale symbols)) }
 {
     what_is_known_stays();
     whole_fields_are_acquired();
