@@ -1,6 +1,6 @@
 -- The packets of the segments after rounds: those whose words are known stay, and there are as many of them.
-use Rattle.std.proofs.Common.{◌≡◌, ◌≢◌, ℕ, ℤ, ◌+◌, ◌-◌, ◌*◌, ◌/◌, ◌%◌, ◌<◌, ◌≤◌, ◌⊎◌, inl, inr, true, Option, Some, None}
-use Rattle.std.proofs.Common.{List, [], ◌∷◌, ◌++◌, length, map, refl, sym, ap, ap₂, ◌∙◌, subst, arith, zero-add}
+use Rattle.std.proofs.Common.{◌≡◌, ◌≢◌, ℕ, ℤ, ◌+◌, ◌-◌, ◌*◌, ◌/◌, ◌%◌, ◌<◌, ◌≤◌, ◌⊎◌, inl, inr, true, Option}
+use Rattle.std.proofs.Common.{Some, None, List, [], ◌∷◌, ◌++◌, length, map, refl, sym, ap, ap₂, ◌∙◌, subst, arith, zero-add}
 use Rattle.std.specs.Prelude.{slice_get}
 use Rattle.std.specs.List.{filter, range_with_len}
 use Rattle.std.proofs.lemmas.Bool.{cases_eq, cases_lt}
@@ -13,7 +13,8 @@ use Rattle.dtx_slice.specs.Unrolled.{level_groups}
 use Rattle.dtx_receiver.specs.Bytes.{bytes_in, levels_in}
 use Rattle.dtx_receiver.specs.Packets.{all_packets, is_complete, received_at, received_by, run_packets}
 use Rattle.dtx_receiver.specs.declared.batch.Received.{Received}
-use Rattle.dtx_receiver.proofs.CompleteLemmas.{complete_all, complete_last, complete_none, complete_parts, complete_told}
+use Rattle.dtx_receiver.proofs.CompleteLemmas.{complete_all, complete_last, complete_none, complete_parts}
+use Rattle.dtx_receiver.proofs.CompleteLemmas.{complete_told}
 use Rattle.dtx_receiver.proofs.CountingLemmas.{bytes_count}
 use Rattle.dtx_chain.proofs.NumbersLemmas.{number_at}
 use Rattle.dtx_chain.proofs.RunsLemmas.{middle_at}

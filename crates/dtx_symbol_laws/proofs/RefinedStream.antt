@@ -62,5 +62,6 @@ CodewordsStay = (scale r : ℕ) (symbols : List ℤ) → 0 < scale → scale ≤
 pub stream_refined : CodewordsStay → (scale r : ℕ) (ps : List (List ℕ)) (symbols : List ℤ) → 0 < scale → scale ≤ 18
     → ArePackets ps → acquired scale symbols ≡ a53 ps → refined scale symbols r ≡ a53 ps
 stream_refined stay scale r ps symbols some most h e =
-    stay scale r symbols some most (subst (λ (s : List (List ℤ)). AreCodewords (bytes_in s)) (sym e) (stream_coded ps h))
+    stay scale r symbols some most
+    (subst (λ (s : List (List ℤ)). AreCodewords (bytes_in s)) (sym e) (stream_coded ps h))
     ∙ e

@@ -62,9 +62,9 @@ pub fn one_run_is_refined()
 
 /// A packet that is known stays. Let word k of the bytes after r rounds have this correction. Then `receive` gives the
 /// correction's data as packet k, not flagged, after these rounds and after all further ones. So each packet that it
-/// gives without a flag after r rounds it gives after all further ones too, at the same place, the same and not flagged.
-/// The same holds of the packets before the first round, which are those of the acquired segments. There are always as
-/// many packets as of these.
+/// gives without a flag after r rounds it gives after all further ones too, at the same place and without a flag. The
+/// same holds of the packets of the acquired segments, which are those before the first round. There are always as many
+/// packets as of these.
 pub fn a_packet_that_is_known_stays()
     ensures known { (scale r n k : ℕ) (symbols : List ℤ) (code : List ℕ) → 0 < scale → scale ≤ MAX_SCALE
         → known_word (bytes_in (refined scale symbols r)) k ≡ Some code
