@@ -33,3 +33,6 @@ returns-clause-cost c =
     (by_groups c.args.decoder.now c.put_pins.new.pins c.args.heard.now c.copy_from_slice.new.self
     c.field-cost.new.segments (field_pins c.args.known.now 0) c.requires.whole c.put_pins.ensures.pins
     c.copy_from_slice.ensures.after c.field-cost.ensures.segments)
+
+pub returns-clause-most : goal.returns-clause-most
+returns-clause-most c = omega (arith, c.field-cost.ensures.most, ap length c.copy_from_slice.ensures.after)
