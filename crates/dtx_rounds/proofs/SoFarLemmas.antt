@@ -3,7 +3,7 @@ use Rattle.std.proofs.Common.{◌≡◌, ℕ, ℤ, zero, suc, ◌+◌, ◌-◌, 
 use Rattle.std.proofs.Common.{length, take, drop, append_assoc, refl, sym, ap, ◌∙◌, arith, take-add}
 use Rattle.std.proofs.Common.{take-append-drop}
 use Rattle.std.proofs.lemmas.Bool.{cases_lt}
-use Rattle.std.proofs.lemmas.List.{append-nil, length-append, take_at}
+use Rattle.std.proofs.lemmas.List.{append-nil, length-append, length-take-le, take_at}
 use Rattle.dtx_acquire.specs.Acquired.{acquired, acquired_rest, acquired_so_far, heard_rest, heard_so_far}
 use Rattle.dtx_acquire.proofs.AcquiredLemmas.{all_is_acquired, all_is_heard, heard_grows, length-heard_so_far}
 use Rattle.dtx_acquire.proofs.AcquiredLemmas.{so_far_grows}
@@ -16,36 +16,56 @@ use Rattle.dtx_rounds.proofs.RefinedLemmas.{length-heard, length-rounded}
 -- ---- what is acquired and received of first symbols
 
 -- What is acquired of first symbols, whatever follows, is a prefix of all that is acquired of them and more.
+pub acquired_ahead : (scale : ℕ) (symbols more : List ℤ)
+    → (others : List (List ℤ)) × (acquired scale (symbols ++ more) ≡ acquired_so_far scale symbols ++ others)
+acquired_ahead scale symbols more =
+    let so_far = so_far_grows scale symbols more in
+    let rest : List (List ℤ) = acquired_rest scale (symbols ++ more) in (
+      so_far.0 ++ rest,
+      sym (all_is_acquired scale (symbols ++ more))
+          ∙ ap (λ xs. xs ++ rest) so_far.1
+          ∙ append_assoc (acquired_so_far scale symbols) so_far.0 rest,
+    )
+
+-- The same is true of the segments as they were received.
+pub heard_ahead : (symbols more : List ℤ)
+    → (others : List (List ℤ)) × (heard_of (symbols ++ more) ≡ heard_so_far symbols ++ others)
+unfolding heard_of
+heard_ahead symbols more =
+    let so_far = heard_grows symbols more in
+    let rest : List (List ℤ) = heard_rest (symbols ++ more) in (
+      so_far.0 ++ rest,
+      sym (all_is_heard (symbols ++ more))
+          ∙ ap (λ xs. xs ++ rest) so_far.1
+          ∙ append_assoc (heard_so_far symbols) so_far.0 rest,
+    )
+
+-- the first segments of both
 pub acquired_front : (scale : ℕ) (symbols more : List ℤ)
     → take (length (acquired_so_far scale symbols)) (acquired scale (symbols ++ more)) ≡ acquired_so_far scale symbols
 acquired_front scale symbols more =
-    let so_far = so_far_grows scale symbols more in
-    let rest : List (List ℤ) = acquired_rest scale (symbols ++ more) in
-    ap (take (length (acquired_so_far scale symbols)))
-    (sym (all_is_acquired scale (symbols ++ more))
-    ∙ ap (λ xs. xs ++ rest) so_far.1
-    ∙ append_assoc (acquired_so_far scale symbols) so_far.0 rest)
-    ∙ take_at (acquired_so_far scale symbols) (so_far.0 ++ rest) (length (acquired_so_far scale symbols)) refl
+    let all = acquired_ahead scale symbols more in
+    ap (take (length (acquired_so_far scale symbols))) all.1
+    ∙ take_at (acquired_so_far scale symbols) all.0 (length (acquired_so_far scale symbols)) refl
 
--- The same is true of the segments as they were received.
 pub heard_front : (scale : ℕ) (symbols more : List ℤ)
     → take (length (acquired_so_far scale symbols)) (heard_of (symbols ++ more)) ≡ heard_so_far symbols
-unfolding heard_of
 heard_front scale symbols more =
-    let so_far = heard_grows symbols more in
-    let rest : List (List ℤ) = heard_rest (symbols ++ more) in
-    ap (take (length (acquired_so_far scale symbols)))
-    (sym (all_is_heard (symbols ++ more))
-    ∙ ap (λ xs. xs ++ rest) so_far.1
-    ∙ append_assoc (heard_so_far symbols) so_far.0 rest)
-    ∙ take_at (heard_so_far symbols) (so_far.0 ++ rest) (length (acquired_so_far scale symbols))
-    (length-heard_so_far scale symbols)
+    let all = heard_ahead symbols more in
+    ap (take (length (acquired_so_far scale symbols))) all.1
+    ∙ take_at (heard_so_far symbols) all.0 (length (acquired_so_far scale symbols)) (length-heard_so_far scale symbols)
 
 pub so_far_room : (scale : ℕ) (symbols more : List ℤ)
     → length (acquired_so_far scale symbols) ≤ length (acquired_so_far scale (symbols ++ more))
 so_far_room scale symbols more =
     let so_far = so_far_grows scale symbols more in
     omega (arith, ap length so_far.1, length-append (acquired_so_far scale symbols) so_far.0)
+
+pub all_room : (scale : ℕ) (symbols : List ℤ)
+    → length (acquired_so_far scale symbols) ≤ length (acquired scale symbols)
+all_room scale symbols =
+    let all = length-append (acquired_so_far scale symbols) (acquired_rest scale symbols) in
+    omega (arith, ap length (all_is_acquired scale symbols), all)
 
 -- ---- what is refined of them
 
@@ -67,18 +87,20 @@ refined_long scale r symbols =
       room = omega arith;
     })).long
 
+-- as many as were settled, but for r fields
+pub length-refined_so_far : (scale r : ℕ) (symbols : List ℤ)
+    → length (refined_so_far scale symbols r) ≡ length (acquired_so_far scale symbols) - 313 * r
+unfolding refined_so_far settled_count
+length-refined_so_far scale r symbols =
+    length-take-le (length (acquired_so_far scale symbols) - 313 * r) (refined scale symbols r)
+    (omega (arith, all_room scale symbols, length-refined scale r symbols))
+
 is_run : (scale : ℕ) (symbols more : List ℤ)
     → IsRun (length (acquired_so_far scale symbols)) (heard_of (symbols ++ more)) (acquired scale (symbols ++ more))
 is_run scale symbols more = record {
   long = long_acquired scale (symbols ++ more);
   same = length-heard scale (symbols ++ more);
-  room =
-      omega (
-        arith,
-        so_far_room scale symbols more,
-        ap length (all_is_acquired scale (symbols ++ more)),
-        length-append (acquired_so_far scale (symbols ++ more)) (acquired_rest scale (symbols ++ more)),
-      );
+  room = omega (arith, so_far_room scale symbols more, all_room scale (symbols ++ more));
 }
 
 -- whatever follows
