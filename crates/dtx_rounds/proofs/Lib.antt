@@ -32,3 +32,6 @@ pub mod MovedRows
 pub mod RowsRounded
 pub mod FieldRounds
 pub mod UnknownFields
+pub mod FrontFields
+pub mod WholeLemmas
+pub mod SoFarLemmas
