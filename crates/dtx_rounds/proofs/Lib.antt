@@ -22,6 +22,7 @@ pub mod RefinedLemmas
 pub mod PassedRounds
 pub mod BegunFields
 pub mod GivenLemmas
+pub mod OnRounds
 pub mod MadeLemmas
 pub mod RoundNumbers
 pub mod FieldRows
