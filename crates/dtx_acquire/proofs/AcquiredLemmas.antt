@@ -1,17 +1,21 @@
 -- Lemmas of what is acquired: of first symbols, of more behind them, and of their end.
-use Rattle.std.proofs.Common.{◌≡◌, ℕ, ℤ, zero, suc, ◌+◌, ◌*◌, ◌<◌, ◌≤◌, ◌⊎◌, inl, inr, Bool, true, false, not, cond}
+use Rattle.std.proofs.Common.{◌≡◌, ℕ, ℤ, zero, suc, ◌+◌, ◌*◌, ◌/◌, ◌<◌, ◌≤◌, ◌⊎◌, inl, inr, Bool, true, false, not, cond}
 use Rattle.std.proofs.Common.{Option, Some, None, option_map, List, [], ◌∷◌, ◌++◌, length, map, take, drop, filter}
 use Rattle.std.proofs.Common.{refl, sym, ap, ap₂, ◌∙◌, arith, length-append}
 use Rattle.std.proofs.lemmas.Bool.{cond-true, cond-false, cases_lt, le-leb, le-ltb, leb-true}
-use Rattle.std.proofs.lemmas.List.{drop-append-le, length-drop, take-append-le}
+use Rattle.std.proofs.lemmas.List.{drop-append-le, length-drop, length-map, length-take-le, take-append-le}
+use Rattle.std.proofs.lemmas.List.FromFn.{length-map-range_with_len}
 use Rattle.std.proofs.lemmas.Grind.{flat_map-append}
 use Rattle.dtx_lists.proofs.Range.{map-range_same}
+use Rattle.dtx_soft.specs.Softened.{softened, softened_segment}
 use Rattle.dtx_acquire.specs.Agreement.{agrees, least_from}
 use Rattle.dtx_acquire.specs.AgreementLaws.{past_end}
 use Rattle.dtx_acquire.specs.Acquired.{Field, Sync, acquired, acquired_cost, acquired_rest, acquired_runs}
 use Rattle.dtx_acquire.specs.Acquired.{acquired_so_far, all_syncs, begun_at, behind, due, field_at, fields_where}
 use Rattle.dtx_acquire.specs.Acquired.{given_at, is_met, restored, restored_of, runs_of, segments_from, cost_of}
-use Rattle.dtx_acquire.specs.Acquired.{syncs_from, unless_lost, IsSame}
+use Rattle.dtx_acquire.specs.Acquired.{syncs_from, unless_lost, IsSame, all_fields, behind_groups, heard_in}
+use Rattle.dtx_acquire.specs.Acquired.{heard_rest, heard_so_far, in_groups, last_fields, restored_data}
+use Rattle.dtx_acquire.specs.Acquired.{restored_field, settled_fields}
 use Rattle.dtx_acquire.proofs.PlacesLemmas.{least_gives, least_here, least_misses, least_skip, whole_there}
 use Rattle.dtx_acquire.proofs.SyncsLemmas.{IsEnough, later, sync_of}
 use Rattle.dtx_acquire.proofs.FieldsLemmas.{enough_first, fields_of, fields_short, fields_skip, first_of}
@@ -21,6 +25,46 @@ pub restored_append : (scale : ℕ) (xs ys : List Field)
     → restored_of scale (xs ++ ys) ≡ restored_of scale xs ++ restored_of scale ys
 unfolding restored_of
 restored_append scale xs ys = flat_map-append (λ (field : Field). restored scale field.segments) xs ys
+
+pub heard_append : (xs ys : List Field) → heard_in (xs ++ ys) ≡ heard_in xs ++ heard_in ys
+heard_append xs ys = flat_map-append (λ (field : Field). field.segments) xs ys
+
+-- ---- lengths
+
+length-field : (scale : ℕ) (segments : List (List ℤ)) → length (restored_field scale segments) ≡ length segments
+unfolding restored_field in_groups behind_groups softened
+length-field scale segments =
+    let whole : 4 * (length segments / 4) ≤ length segments = omega arith in
+    let groups = length-take-le (4 * (length segments / 4)) segments whole in
+    let others = length-drop (4 * (length segments / 4)) segments in
+    let soft = length-map-range_with_len (softened_segment scale (in_groups segments)) 0
+    (length (in_groups segments)) in
+    let both = length-append (softened scale (in_groups segments)) (behind_groups segments) in
+    length-map (softened scale (in_groups segments) ++ behind_groups segments) (restored_data scale)
+    ∙ omega (arith, both, soft, groups, others, whole)
+
+pub length-restored : (scale : ℕ) (segments : List (List ℤ)) → length (restored scale segments) ≡ length segments
+length-restored scale [] = refl
+length-restored scale (x ∷ segments) = ap (λ n. suc n) (length-field scale segments)
+
+-- As many segments are restored as were received.
+pub length-heard_in : (scale : ℕ) (fields : List Field) → length (heard_in fields) ≡ length (restored_of scale fields)
+unfolding restored_of
+length-heard_in scale [] = refl
+length-heard_in scale (x ∷ xs) =
+    length-append x.segments (heard_in xs)
+    ∙ ap₂ (λ a b. a + b) (sym (length-restored scale x.segments)) (length-heard_in scale xs)
+    ∙ sym (length-append (restored scale x.segments) (restored_of scale xs))
+
+pub length-heard_so_far : (scale : ℕ) (symbols : List ℤ)
+    → length (heard_so_far symbols) ≡ length (acquired_so_far scale symbols)
+unfolding heard_so_far acquired_so_far
+length-heard_so_far scale symbols = length-heard_in scale (settled_fields symbols)
+
+pub length-heard_rest : (scale : ℕ) (symbols : List ℤ)
+    → length (heard_rest symbols) ≡ length (acquired_rest scale symbols)
+unfolding heard_rest acquired_rest
+length-heard_rest scale symbols = length-heard_in scale (last_fields symbols)
 
 -- ---- symbols in front
 
@@ -72,21 +116,33 @@ parted v (suc n) (Some s) = by_met (is_met v s.place) refl (parted v n (behind v
         ∙ ap (λ rest. map (field_at v) (filter (λ t. is_met v t.place) (s ∷ rest))
         ++ map (field_at v) (filter (λ t. not (is_met v t.place)) (s ∷ rest))) (sym none)
 
+parted_fields : (symbols : List ℤ) → all_fields symbols ≡ settled_fields symbols ++ last_fields symbols
+unfolding fields_where all_syncs
+parted_fields symbols = parted symbols (length symbols) (first_of true symbols)
+
 -- What is acquired of symbols, whatever follows, and what their end adds are all.
 pub all_is_acquired : (scale : ℕ) (symbols : List ℤ)
     → acquired_so_far scale symbols ++ acquired_rest scale symbols ≡ acquired scale symbols
-unfolding acquired acquired_so_far acquired_rest fields_where all_syncs
+unfolding acquired acquired_so_far acquired_rest
 all_is_acquired scale symbols =
-    sym (ap (restored_of scale) (parted symbols (length symbols) (first_of true symbols))
-    ∙ restored_append scale (fields_of (λ met. met) symbols
-    (syncs_from symbols (length symbols) (first_of true symbols)))
-    (fields_of not symbols (syncs_from symbols (length symbols) (first_of true symbols))))
+    sym (ap (restored_of scale) (parted_fields symbols)
+    ∙ restored_append scale (settled_fields symbols) (last_fields symbols))
+
+-- The same is true of the segments as they were received.
+pub all_is_heard : (symbols : List ℤ) → heard_so_far symbols ++ heard_rest symbols ≡ heard_in (all_fields symbols)
+unfolding heard_so_far heard_rest
+all_is_heard symbols =
+    sym (ap heard_in (parted_fields symbols) ∙ heard_append (settled_fields symbols) (last_fields symbols))
 
 -- ---- more symbols
 
 pub none_so_far : (scale : ℕ) → acquired_so_far scale [] ≡ []
 unfolding acquired_so_far restored_of
 none_so_far scale = ap (restored_of scale) (fields_short true [] (omega arith))
+
+pub none_heard : heard_so_far [] ≡ []
+unfolding heard_so_far
+none_heard = ap heard_in (fields_short true [] (omega arith))
 
 least_more : (s t : List ℤ) (from r : ℕ) → least_from s from ≡ Some r → least_from (s ++ t) from ≡ Some r
 least_more s t from r e =
@@ -256,17 +312,11 @@ grown s t (suc n) m (Some x) more (inr e) k =
     by_fuel grows zero k = absurd (let a = k x refl in omega (arith, a.0, a.1))
     by_fuel grows (suc j) k = by_met grows j (is_met s x.place) refl k
 
--- What is acquired of first symbols is a front part of what is acquired of more.
-pub so_far_grows : (scale : ℕ) (s t : List ℤ)
-    → (more : List (List ℤ)) × (acquired_so_far scale (s ++ t) ≡ acquired_so_far scale s ++ more)
-unfolding acquired_so_far fields_where all_syncs
-so_far_grows scale s t =
-    let found = grown s t (length s) (length (s ++ t)) (first_of true s) (first_of true (s ++ t)) first
-    (enough_first true (s ++ t) (length (s ++ t)) (omega arith)) in (
-      restored_of scale found.0,
-      ap (restored_of scale) found.1
-          ∙ restored_append scale (fields_of (λ met. met) s (syncs_from s (length s) (first_of true s))) found.0,
-    )
+settled_grow : (s t : List ℤ) → (others : List Field) × (settled_fields (s ++ t) ≡ settled_fields s ++ others)
+unfolding fields_where all_syncs
+settled_grow s t =
+    grown s t (length s) (length (s ++ t)) (first_of true s) (first_of true (s ++ t)) first
+    (enough_first true (s ++ t) (length (s ++ t)) (omega arith))
   where
     by_least : (o : Option ℕ) → least_from s 0 ≡ o
         → (first_of true s ≡ None) ⊎ (first_of true (s ++ t) ≡ first_of true s)
@@ -275,3 +325,20 @@ so_far_grows scale s t =
 
     first : (first_of true s ≡ None) ⊎ (first_of true (s ++ t) ≡ first_of true s)
     first = by_least (least_from s 0) refl
+
+-- What is acquired of first symbols is a front part of what is acquired of more.
+pub so_far_grows : (scale : ℕ) (s t : List ℤ)
+    → (more : List (List ℤ)) × (acquired_so_far scale (s ++ t) ≡ acquired_so_far scale s ++ more)
+unfolding acquired_so_far
+so_far_grows scale s t =
+    let found = settled_grow s t in (
+      restored_of scale found.0,
+      ap (restored_of scale) found.1 ∙ restored_append scale (settled_fields s) found.0,
+    )
+
+-- The same is true of the segments as they were received.
+pub heard_grows : (s t : List ℤ) → (more : List (List ℤ)) × (heard_so_far (s ++ t) ≡ heard_so_far s ++ more)
+unfolding heard_so_far
+heard_grows s t =
+    let found = settled_grow s t in
+    (heard_in found.0, ap heard_in found.1 ∙ heard_append (settled_fields s) found.0)

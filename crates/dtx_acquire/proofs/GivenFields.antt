@@ -13,7 +13,8 @@ use Rattle.dtx_acquire.proofs.FieldsLemmas.{enough_first, fields_of, first_of}
 use Rattle.dtx_acquire.specs.Sent.{AreInFields}
 use Rattle.dtx_acquire.proofs.SyncsLemmas.{later, sync_of}
 use Rattle.dtx_acquire.proofs.GivenSegments.{from_whole, restored_given, segments_append}
-use Rattle.dtx_acquire.proofs.Leaving.{length-restored, length-segments_from}
+use Rattle.dtx_acquire.proofs.AcquiredLemmas.{length-restored}
+use Rattle.dtx_acquire.proofs.Leaving.{length-segments_from}
 
 -- ---- a field
 

@@ -17,7 +17,7 @@ use Rattle.dtx_acquire.specs.Acquired.{segments_from}
 use Rattle.dtx_acquire.specs.Agreement.{is_second}
 use Rattle.dtx_acquire.specs.Scaled.{scaled_level}
 use Rattle.dtx_acquire.specs.Sent.{AreLevels, AreInFields, IsData, IsSync}
-use Rattle.dtx_acquire.proofs.Leaving.{length-restored}
+use Rattle.dtx_acquire.proofs.AcquiredLemmas.{length-restored}
 use Rattle.dtx_acquire.proofs.NearGroups.{softened_row}
 
 -- ---- a segment

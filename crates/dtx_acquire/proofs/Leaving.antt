@@ -1,23 +1,21 @@
 -- What an acquirer holds, step by step.
-use Rattle.std.proofs.Common.{◌≡◌, ℕ, ℤ, suc, ◌+◌, ◌*◌, ◌/◌, ◌<◌, ◌≤◌, ◌⊎◌, inl, inr, Bool, true, false, not}
+use Rattle.std.proofs.Common.{◌≡◌, ℕ, ℤ, ◌+◌, ◌*◌, ◌/◌, ◌<◌, ◌⊎◌, inl, inr, Bool, true, false, not}
 use Rattle.std.proofs.Common.{List, [], ◌∷◌, ◌++◌, length, map, sum, take, drop, append_assoc, refl, sym, ap}
 use Rattle.std.proofs.Common.{ap₂, ◌∙◌, subst}
 use Rattle.std.proofs.Common.{arith, length-append}
-use Rattle.std.proofs.lemmas.List.{append-nil, length-drop, length-map, length-take-le, map-append}
+use Rattle.std.proofs.lemmas.List.{append-nil, length-drop, map-append}
 use Rattle.std.proofs.lemmas.List.FromFn.{length-map-range_with_len}
 use Rattle.std.proofs.lemmas.List.Sums.{sum_by-append, sum_by-cons}
-use Rattle.dtx_soft.specs.Softened.{softened, softened_segment}
 use Rattle.dtx_acquire.specs.Agreement.{agrees}
 use Rattle.dtx_acquire.specs.AgreementLaws.{past_end}
 use Rattle.dtx_acquire.specs.Acquired.{Field, acquired, acquired_cost, acquired_rest, acquired_runs}
 use Rattle.dtx_acquire.specs.Acquired.{acquired_so_far, begun}
-use Rattle.dtx_acquire.specs.Acquired.{all_fields, behind_groups, cost_of, fields_where, in_groups, last_fields}
-use Rattle.dtx_acquire.specs.Acquired.{path_cost}
-use Rattle.dtx_acquire.specs.Acquired.{restored, restored_data, restored_field, restored_of, runs_of, segments_from}
+use Rattle.dtx_acquire.specs.Acquired.{all_fields, cost_of, fields_where, heard_in, heard_rest, heard_so_far}
+use Rattle.dtx_acquire.specs.Acquired.{last_fields, path_cost, restored, restored_of, runs_of, segments_from}
 use Rattle.dtx_acquire.specs.Acquired.{settled_fields}
 use Rattle.dtx_acquire.specs.Acquirer.{Holding, IsSought, Leaves, StandsFor, field_of, where_wanted}
 use Rattle.dtx_acquire.proofs.PlacesLemmas.{least_none}
-use Rattle.dtx_acquire.proofs.AcquiredLemmas.{restored_append}
+use Rattle.dtx_acquire.proofs.AcquiredLemmas.{heard_append, length-restored, restored_append}
 use Rattle.dtx_acquire.proofs.FieldsLemmas.{fields_last, fields_none, fields_short}
 use Rattle.dtx_acquire.proofs.StepsLemmas.{sought_fields}
 
@@ -33,6 +31,9 @@ cost_append scale xs ys =
     ap sum (map-append (λ (field : Field). path_cost scale field.segments) xs ys)
     ∙ sum_by-append (λ x. x) (map (λ (field : Field). path_cost scale field.segments) xs)
     (map (λ (field : Field). path_cost scale field.segments) ys)
+
+pub heard_one : (field : Field) → heard_in (field ∷ []) ≡ field.segments
+heard_one field = append-nil field.segments
 
 pub restored_one : (scale : ℕ) (field : Field) → restored_of scale (field ∷ []) ≡ restored scale field.segments
 unfolding restored_of
@@ -54,22 +55,6 @@ cost_one scale field =
     added n = omega arith
 
 -- ---- lengths
-
-length-field : (scale : ℕ) (segments : List (List ℤ)) → length (restored_field scale segments) ≡ length segments
-unfolding restored_field in_groups behind_groups softened
-length-field scale segments =
-    let whole : 4 * (length segments / 4) ≤ length segments = omega arith in
-    let groups = length-take-le (4 * (length segments / 4)) segments whole in
-    let others = length-drop (4 * (length segments / 4)) segments in
-    let soft = length-map-range_with_len (softened_segment scale (in_groups segments)) 0
-    (length (in_groups segments)) in
-    let both = length-append (softened scale (in_groups segments)) (behind_groups segments) in
-    length-map (softened scale (in_groups segments) ++ behind_groups segments) (restored_data scale)
-    ∙ omega (arith, both, soft, groups, others, whole)
-
-pub length-restored : (scale : ℕ) (segments : List (List ℤ)) → length (restored scale segments) ≡ length segments
-length-restored scale [] = refl
-length-restored scale (x ∷ segments) = ap (λ n. suc n) (length-field scale segments)
 
 pub length-segments_from : (symbols : List ℤ) (place count : ℕ) → length (segments_from symbols place count) ≡ count
 unfolding segments_from
@@ -143,23 +128,21 @@ pub leaves_settled : (old new : Holding) (held : List ℤ) (count given : ℕ) (
     → ((wanted : Bool → Bool) (begins : Bool) (more : List ℤ) → fields_where wanted begins (held ++ more)
     ≡ where_wanted (wanted true) (field_of given begins held ∷ []) ++ fields_where wanted new.begins
     (drop count held ++ more))
-    → new.held ≡ drop count old.held → new.symbols ≡ old.symbols → new.scale ≡ old.scale
-    → new.runs ≡ old.runs + begun (field_of given old.begins old.held) → new.segments ≡ old.segments + given
-    → new.cost ≡ old.cost + path_cost old.scale (segments_from old.held 0 given)
-    → Leaves new symbols (done ++ field_of given old.begins old.held ∷ [])
+    → new.held ≡ drop count held → new.symbols ≡ old.symbols → new.scale ≡ old.scale
+    → new.runs ≡ old.runs + begun (field_of given old.begins held) → new.segments ≡ old.segments + given
+    → new.cost ≡ old.cost + path_cost old.scale (segments_from held 0 given)
+    → Leaves new symbols (done ++ field_of given old.begins held ∷ [])
 leaves_settled old new held count given symbols done h same step left counted scale runs segments cost =
-    let field = field_of given old.begins old.held in
+    let field = field_of given old.begins held in
     leaves_step old new symbols done (field ∷ []) h
     (λ wanted more. ap (λ (xs : List ℤ). fields_where wanted old.begins (xs ++ more)) (sym same)
     ∙ step wanted old.begins more
-    ∙ ap (λ (xs : List ℤ). where_wanted (wanted true) (field_of given old.begins xs ∷ [])
-    ++ fields_where wanted new.begins (drop count xs ++ more)) same
     ∙ ap (λ (xs : List ℤ). where_wanted (wanted true) (field ∷ []) ++ fields_where wanted new.begins (xs ++ more))
     (sym left))
     counted scale
     (runs ∙ ap (λ n. old.runs + n) (sym (runs_one field)))
-    (segments ∙ ap (λ n. old.segments + n) (sym (length-segments_from old.held 0 given)
-    ∙ sym (length-restored old.scale (segments_from old.held 0 given))
+    (segments ∙ ap (λ n. old.segments + n) (sym (length-segments_from held 0 given)
+    ∙ sym (length-restored old.scale (segments_from held 0 given))
     ∙ ap length (sym (restored_one old.scale field))))
     (cost ∙ ap (λ n. old.cost + n) (sym (cost_one old.scale field)))
 
@@ -187,6 +170,14 @@ so_far_by holding before symbols fields scale h few =
     ap (restored_of scale) (settled_are holding symbols (settled_fields before ++ fields) h few)
     ∙ restored_append scale (settled_fields before) fields
 
+pub heard_by : (holding : Holding) (before symbols : List ℤ) (fields : List Field)
+    → Leaves holding symbols (settled_fields before ++ fields) → length holding.held < 261248
+    → heard_so_far symbols ≡ heard_so_far before ++ heard_in fields
+unfolding heard_so_far
+heard_by holding before symbols fields h few =
+    ap heard_in (settled_are holding symbols (settled_fields before ++ fields) h few)
+    ∙ heard_append (settled_fields before) fields
+
 -- nothing was given
 pub stands_first : (holding : Holding) → holding.held ≡ [] → holding.begins ≡ true → holding.symbols ≡ 0
     → holding.runs ≡ 0 → holding.segments ≡ 0 → holding.cost ≡ 0 → StandsFor holding []
@@ -211,6 +202,7 @@ stands_first holding held begins count runs segments cost =
 pub record IsLast (on begins : Bool) (held : List ℤ) (count : ℕ) (last : List Field) : Type 0 where
   pub fields : (wanted : Bool → Bool) → fields_where wanted begins held ≡ where_wanted (wanted false) last
   pub gives : (scale : ℕ) → restored_of scale last ≡ restored scale (segments_from held 0 count)
+  pub hears : heard_in last ≡ segments_from held 0 count
   pub runs : runs_of last ≡ begun (field_of count begins held)
   pub costs : (scale : ℕ) → cost_of scale last ≡ path_cost scale (segments_from held 0 count)
 
@@ -226,6 +218,7 @@ last_is true begins held count few front short whole none = (
         fields_last wanted begins held few (front refl)
         ∙ ap (λ n. where_wanted (wanted false) (field_of n begins held ∷ [])) (sym (whole refl few));
     gives = λ scale. restored_one scale (field_of count begins held);
+    hears = heard_one (field_of count begins held);
     runs = runs_one (field_of count begins held);
     costs = λ scale. cost_one scale (field_of count begins held);
   },
@@ -238,6 +231,7 @@ last_is false begins held count few front short whole none = (
         (least_none agrees past_end held 0 (λ i l m. absurd (by_short short i m)))
         ∙ empty (wanted false);
     gives = λ scale. ap (λ n. restored scale (segments_from held 0 n)) (sym (none refl));
+    hears = ap (segments_from held 0) (sym (none refl));
     runs = not_begun begins ∙ ap (λ n. begun (field_of n begins held)) (sym (none refl));
     costs = λ scale. ap (λ n. path_cost scale (segments_from held 0 n)) (sym (none refl));
   },
@@ -279,23 +273,24 @@ all_are holding symbols left on count last h sought is = record {
         (sought_fields holding.held left sought wanted holding.begins []
         ∙ ap (fields_where wanted holding.begins) (append-nil left) ∙ is.fields wanted)
 
-pub record IsEnd (symbols : List ℤ) (scale : ℕ) (given : List (List ℤ)) (runs segments cost : ℕ) : Type 0 where
+pub record IsEnd (symbols : List ℤ) (scale : ℕ) (given heard : List (List ℤ)) (runs segments cost : ℕ) : Type 0 where
   pub gives : given ≡ acquired_rest scale symbols
+  pub hears : heard ≡ heard_rest symbols
   pub runs_are : runs ≡ acquired_runs symbols
   pub segments_are : segments ≡ length (acquired scale symbols)
   pub cost_is : cost ≡ acquired_cost scale symbols
 
 pub ends : (holding : Holding) (symbols left : List ℤ) (on : Bool) (count runs segments cost : ℕ)
-    (given : List (List ℤ)) → StandsFor holding symbols → IsSought holding.held left
+    (given heard : List (List ℤ)) → StandsFor holding symbols → IsSought holding.held left
     → (on ≡ true → agrees left 0 ≡ true) → (on ≡ true) ⊎ (length left < 832)
     → (on ≡ true → length left < 261248 → count ≡ length left / 832) → (on ≡ false → count ≡ 0)
-    → given ≡ restored holding.scale (segments_from left 0 count)
+    → given ≡ restored holding.scale (segments_from left 0 count) → heard ≡ segments_from left 0 count
     → runs ≡ holding.runs + begun (field_of count holding.begins left) → segments ≡ holding.segments + count
     → cost ≡ holding.cost + path_cost holding.scale (segments_from left 0 count)
-    → IsEnd symbols holding.scale given runs segments cost
-unfolding acquired_rest acquired_runs acquired acquired_cost
-ends holding symbols left on count runs segments cost given h sought front short whole none gives begun_are counted
-    costs =
+    → IsEnd symbols holding.scale given heard runs segments cost
+unfolding acquired_rest acquired_runs acquired acquired_cost heard_rest
+ends holding symbols left on count runs segments cost given heard h sought front short whole none gives hears
+    begun_are counted costs =
     let few : length left < 261248 = omega
     (arith, h.few, ap length sought.left, length-drop sought.count holding.held) in
     let last = last_is on holding.begins left count few front short whole none in
@@ -304,6 +299,7 @@ ends holding symbols left on count runs segments cost given h sought front short
     record {
       gives =
           gives ∙ sym (is.gives holding.scale) ∙ ap (restored_of holding.scale) (sym are.rest);
+      hears = hears ∙ sym is.hears ∙ ap heard_in (sym are.rest);
       runs_are =
           begun_are
           ∙ ap₂ (λ a b. a + b) h.leaves.runs_are (sym is.runs)

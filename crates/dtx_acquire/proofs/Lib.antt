@@ -3,6 +3,7 @@ pub mod AgreementLemmas
 pub mod SyncsLemmas
 pub mod FieldsLemmas
 mod StepsLemmas
+mod Chunks
 pub mod AcquiredLemmas
 pub mod Packing
 pub mod Windows
@@ -10,6 +11,7 @@ pub mod Moved
 pub mod Levels
 pub mod Each
 pub mod Leaving
+mod Fit
 pub mod SentLemmas
 pub mod NearLevels
 pub mod NearPaths

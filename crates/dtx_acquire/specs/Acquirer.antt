@@ -1,7 +1,7 @@
 -- An acquirer as contracts see it, and which symbols it stands for.
-use Rattle.std.specs.Prelude.{ℕ, ℤ, ◌≡◌, ◌+◌, ◌<◌, ◌≤◌, Bool, true, false, if◌then◌else◌, List, [], ◌++◌, length, drop}
+use Rattle.std.specs.Prelude.{ℕ, ℤ, ◌≡◌, ◌+◌, ◌*◌, ◌<◌, ◌≤◌, Bool, true, false, if◌then◌else◌, List, [], ◌++◌, length, drop}
 use Rattle.dtx_acquire.specs.Agreement.{agrees}
-use Rattle.dtx_acquire.specs.Acquired.{Field, cost_of, fields_where, restored_of, runs_of, segments_from}
+use Rattle.dtx_acquire.specs.Acquired.{Field, cost_of, fields_where, path_cost, restored_of, runs_of, segments_from}
 use Rattle.dtx_acquire.specs.Acquired.{settled_fields}
 
 -- An acquirer: its scale, and the symbols that it holds. `on` says whether a sync stands in front of them, and `begins`
@@ -18,6 +18,17 @@ pub record Holding : Type 0 where
   pub runs : ℕ
   pub segments : ℕ
   pub cost : ℕ
+
+-- What is true of an acquirer's fields: it holds symbols, of which the first `gone` are dropped before others are taken,
+-- and gave `count` segments of them last, whose least paths cost this.
+pub record IsFit (held : List ℤ) (gone : ℕ) (on : Bool) (symbols total scale count cost : ℕ) : Type 0 where
+  pub room : 832 * total + length (drop gone held) ≤ symbols
+  pub most : symbols ≤ 520832000000
+  pub front : on ≡ true → agrees (drop gone held) 0 ≡ true
+  pub few : length held ≤ 261248
+  pub within : gone ≤ length held
+  pub whole : 832 * count ≤ length held
+  pub costs : cost ≡ path_cost scale (segments_from held 0 count)
 
 -- these fields if they are wanted, and otherwise none
 abbrev pub where_wanted : Bool → List Field → List Field

@@ -1,7 +1,7 @@
 //! An acquirer, which makes segments from symbols as they come.
 
 ghost use Rattle.std.specs.Prelude.{◌≡◌, ℤ, ◌+◌, ◌-◌, ◌*◌, ◌/◌, ◌<◌, ◌≤◌, ◌++◌, true, false, [], List, IfOk};
-ghost use Rattle.std.specs.Prelude.{◌⊎◌, length, take};
+ghost use Rattle.std.specs.Prelude.{◌⊎◌, drop, length, take};
 ghost use Rattle.dtx_acquire.specs.Acquired.{Field, acquired, acquired_cost, acquired_rest, acquired_runs};
 ghost use Rattle.dtx_acquire.specs.Acquired.{acquired_so_far, heard_in, heard_rest, heard_so_far, path_cost};
 ghost use Rattle.dtx_acquire.specs.Acquired.{restored_of};
@@ -35,10 +35,9 @@ pub struct Acquirer {
 }
 
 impl Model for Acquirer {
-    ghost use Rattle.std.specs.Prelude.{◌≡◌, ◌+◌, ◌*◌, ◌≤◌, true, drop, length, take};
-    ghost use Rattle.dtx_acquire.specs.Acquired.{path_cost, segments_from};
-    ghost use Rattle.dtx_acquire.specs.Acquirer.{Holding};
-    ghost use Rattle.dtx_acquire.specs.Agreement.{agrees};
+    ghost use Rattle.std.specs.Prelude.{drop, take};
+    ghost use Rattle.dtx_acquire.specs.Acquired.{segments_from};
+    ghost use Rattle.dtx_acquire.specs.Acquirer.{Holding, IsFit};
 
     ghost Value = { Holding };
 
@@ -55,10 +54,8 @@ impl Model for Acquirer {
       cost = a.giver.cost;
     } };
 
-    ghost invariant = { λ a. (832 * a.giver.total + length (drop a.gone a.held) ≤ a.symbols)
-        × (a.symbols ≤ 520832000000) × (a.on ≡ true → agrees (drop a.gone a.held) 0 ≡ true)
-        × (a.gone ≤ length a.held) × (832 * a.giver.count ≤ length a.held)
-        × (a.giver.field_cost ≡ path_cost a.giver.decisions.scale (segments_from a.held 0 a.giver.count)) };
+    ghost invariant = { λ a. IsFit a.held a.gone a.on a.symbols a.giver.total a.giver.decisions.scale a.giver.count
+        a.giver.field_cost };
 }
 
 impl Acquirer {
@@ -102,7 +99,10 @@ impl Acquirer {
         ensures scale { self.new.scale ≡ self.old.scale }
         ensures symbols { self.new.symbols ≡ self.old.symbols + result }
     {
-        self.forget();
+        self.giver.field_cost = 0;
+        self.giver.count = 0;
+        forget(&mut self.held, self.gone);
+        self.gone = 0;
         let count = self.held.take(symbols);
         self.symbols += count as u64;
         if self.held.len() == MOST_HELD {
@@ -129,25 +129,13 @@ impl Acquirer {
         ensures scale { self.new.scale ≡ self.old.scale }
         ensures symbols { self.new.symbols ≡ self.old.symbols }
     {
-        self.forget();
+        forget(&mut self.held, self.gone);
         let on = seek(self.on, &mut self.held);
         let left = self.held.len();
         let count = whole_segments(on, left);
         self.giver.give(self.held.all(), count, self.begins);
         self.gone = left;
         self.on = false;
-    }
-
-    /// Drops what was given last.
-    fn forget(&mut self)
-        ensures gone { self.new.held ≡ self.old.held }
-    {
-        self.giver.count = 0;
-        self.giver.field_cost = 0;
-        if self.gone > 0 {
-            self.held.leave(self.gone);
-            self.gone = 0;
-        }
     }
 
     /// The segments that the last call of `take` or `finish` has brought.
@@ -210,13 +198,16 @@ impl Acquirer {
 
     /// Looks for a sync if none stands in front. Gives the field after it if the next segment is held too.
     fn turn(&mut self)
-        requires none { self.old.given ≡ [] }
-        requires most { length self.old.held ≤ MOST_HELD }
+        requires none { self.old.heard ≡ [] }
+        requires full { length self.old.held ≡ MOST_HELD }
         ensures few { length self.new.held < MOST_HELD }
         ensures room { SEGMENT * length self.new.given + length self.new.held ≤ length self.old.held }
         ensures leaves { (symbols : List ℤ) (done : List Field) → Leaves self.old symbols done
             → (fields : List Field) × Leaves self.new symbols (done ++ fields)
-            × (self.new.given ≡ restored_of self.old.scale fields) }
+            × (self.new.given ≡ restored_of self.old.scale fields) × (self.new.heard ≡ heard_in fields) }
+        ensures whole { (self.new.given ≡ []) ⊎ (length self.new.given ≡ FIELD_SEGMENTS) }
+        ensures same { length self.new.heard ≡ length self.new.given }
+        ensures total { self.new.segments ≡ self.old.segments + length self.new.given }
         ensures scale { self.new.scale ≡ self.old.scale }
         ensures symbols { self.new.symbols ≡ self.old.symbols }
     {
@@ -229,21 +220,34 @@ impl Acquirer {
     /// Gives the field in front of the symbols that are held, once the segment after it is held too.
     fn settle(&mut self)
         requires full { length self.old.held ≡ MOST_HELD }
-        requires none { self.old.given ≡ [] }
         requires front { agrees self.old.held 0 ≡ true }
         ensures few { length self.new.held < MOST_HELD }
         ensures room { SEGMENT * length self.new.given + length self.new.held ≤ length self.old.held }
         ensures leaves { (symbols : List ℤ) (done : List Field) → Leaves self.old symbols done
             → (fields : List Field) × Leaves self.new symbols (done ++ fields)
-            × (self.new.given ≡ restored_of self.old.scale fields) }
+            × (self.new.given ≡ restored_of self.old.scale fields) × (self.new.heard ≡ heard_in fields) }
+        ensures whole { (self.new.given ≡ []) ⊎ (length self.new.given ≡ FIELD_SEGMENTS) }
+        ensures same { length self.new.heard ≡ length self.new.given }
+        ensures total { self.new.segments ≡ self.old.segments + length self.new.given }
         ensures scale { self.new.scale ≡ self.old.scale }
         ensures symbols { self.new.symbols ≡ self.old.symbols }
     {
-        let step = step_of(self.held.all());
-        self.giver.give(self.held.all(), step.given, self.begins);
+        let symbols = self.held.all();
+        let step = step_of(symbols);
+        self.giver.give(symbols, step.given, self.begins);
         self.gone = step.count;
         self.on = step.on;
         self.begins = step.begins;
+    }
+}
+
+/// Drops the first `gone` symbols.
+fn forget(held: &mut Held, gone: usize)
+    requires { gone ≤ length held.old }
+    ensures { held.new ≡ drop gone held.old }
+{
+    if gone > 0 {
+        held.leave(gone);
     }
 }
 

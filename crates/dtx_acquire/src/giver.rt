@@ -63,7 +63,8 @@ impl Giver {
         requires most { self.old.total ≤ MOST_SEGMENTS }
         ensures given { take self.new.count self.new.segments.items
             ≡ restored self.old.decisions.scale (segments_from held.now 0 count) }
-        ensures count { length (take self.new.count self.new.segments.items) ≡ count }
+        ensures count { self.new.count ≡ count }
+        ensures long { length (take self.new.count self.new.segments.items) ≡ count }
         ensures total { self.new.total ≡ self.old.total + count }
         ensures runs { self.new.runs
             ≡ self.old.runs + begun (record { begins = begins; segments = segments_from held.now 0 count }) }

@@ -62,6 +62,7 @@ pub(crate) fn step_of(symbols: &[i8]) -> Step
     ensures front { result.on ≡ true → agrees (drop result.count symbols.now) 0 ≡ true }
     ensures some { 0 < result.count }
     ensures most { result.count ≤ MOST_HELD }
+    ensures whole { (result.given ≡ FIELD) ⊎ (result.given ≡ 0) }
     ensures few { result.given ≤ FIELD }
     ensures behind { SEGMENT * result.given ≤ result.count }
 {

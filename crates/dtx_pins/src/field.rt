@@ -26,6 +26,7 @@ pub(crate) fn pin_field(
     requires marks { length marks.old ≡ MAX_SYMBOLS }
     ensures segments { IsPinned weights.now.scale pins.now segments.old segments.new }
     ensures cost { result ≡ coders_distance segments.old segments.new CODERS }
+    ensures most { result ≤ 53419248 * length segments.old }
 {
     let count = SEGMENT_ROUNDS * segments.len();
     pin_rounds(
@@ -51,6 +52,7 @@ fn pin_rounds(
     requires marks { length marks.old ≡ SEGMENT_ROUNDS * length segments.old }
     ensures segments { IsPinned weights.now.scale pins.now segments.old segments.new }
     ensures cost { result ≡ coders_distance segments.old segments.new CODERS }
+    ensures most { result ≤ 53419248 * length segments.old }
 {
     lay_out(segments, rounds);
     let behind = backward(weights, pins, rounds, marks);

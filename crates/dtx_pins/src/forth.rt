@@ -51,6 +51,7 @@ pub(crate) fn forward(
         → AreLeastPinned scale (coder_pins pins.now e) (column rounds.old e) (column rounds.new e) }
     ensures costs { (e : ℕ) → e < CODERS
         → slice_index result e ≡ distance (column rounds.old e) (column rounds.new e) }
+    ensures most { (e : ℕ) → e < CODERS → slice_index result e ≤ 64516 * length rounds.old }
 {
     let mut stands = starts(pins, behind);
     for t in 0..rounds.len() {

@@ -52,7 +52,7 @@ impl Pinned {
 
     /// Replaces the symbols of each of the twelve coders by those of its least path under its pins, in the first data
     /// segments of a field. The symbols that it writes are at its scale. It returns the sum of the costs of the twelve
-    /// paths.
+    /// paths. A segment has 828 symbols, and none is off a level by more than 254.
     ///
     /// `pins` has an entry for each step of the coders, 69 for each segment, and in it a pin for each coder. A pin
     /// below 4 is the pair 2 * X2 + X1. From `NO_PIN` on it says nothing. The X2 of the first entry says nothing
@@ -62,6 +62,7 @@ impl Pinned {
         requires pins { length pins.now ≡ SEGMENT_ROUNDS * length segments.old }
         ensures segments { IsPinned self.old pins.now segments.old segments.new }
         ensures cost { result ≡ coders_distance segments.old segments.new CODERS }
+        ensures most { result ≤ 53419248 * length segments.old }
         ensures scale { self.new ≡ self.old }
     {
         pin_field(

@@ -1,0 +1,5 @@
+mod Pieces
+mod Counted
+mod Steps
+mod Takes
+mod Ends

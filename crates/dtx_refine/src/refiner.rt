@@ -5,10 +5,11 @@ ghost use Rattle.dtx_receiver.specs.Bytes.{bytes_in};
 ghost use Rattle.dtx_acquire.specs.Acquired.{acquired, acquired_runs};
 ghost use Rattle.dtx_rounds.specs.Known.{known_count};
 ghost use Rattle.dtx_rounds.specs.Rounds.{heard_of, refined, refined_rest, refined_so_far, round_cost, round_moved};
-ghost use Rattle.dtx_refine.specs.Refiner.{IsEnding, StandsFor};
+ghost use Rattle.dtx_refine.specs.Refiner.{HasEnded, HasStepped, IsEnding, IsOver, StandsFor};
 
+use crate::passes::Passes;
 use dtx_acquire::Acquirer;
-use dtx_rounds::{Field, Rounds};
+use dtx_rounds::laws::{a_capture_begins_as_it_was_acquired, the_numbers_of_a_round_are_those_of_its_fields};
 use dtx_sizes::{FIELD_SEGMENTS, MOST_SYMBOLS, SEGMENT};
 use dtx_soft::MAX_SCALE;
 use std::alloc::{AllocError, Global};
@@ -25,51 +26,21 @@ pub const MOST_ROUNDS: usize = 32;
 #[derive(Drop)]
 pub struct Refiner {
     acquirer: Acquirer,
-    rounds: Rounds,
-    /// How many rounds there are.
-    count: usize,
-    /// The field that goes through the rounds. Where `gives` is true, it had all of them.
-    field: Field,
-    gives: bool,
+    passes: Passes,
     /// Whether the symbols have ended.
     ended: bool,
-    /// How many fields the rounds hold.
-    held: usize,
-    /// How many fields had all rounds.
-    done: u64,
-    known: u64,
-    cost: u64,
-    moved: u64,
 }
 
 impl Model for Refiner {
-    ghost use Rattle.std.specs.Prelude.{ℕ, ◌≡◌, ◌+◌, ◌*◌, ◌<◌, ◌≤◌, if◌then◌else◌, [], length, take};
-    ghost use Rattle.dtx_refine.specs.Refiner.{Refining};
+    ghost use Rattle.std.specs.Prelude.{◌+◌, ◌*◌, ◌≤◌, length};
+    ghost use Rattle.dtx_refine.specs.Refiner.{Refining, refining};
 
     ghost Value = { Refining };
 
-    ghost view = { λ r. record {
-      acquirer = r.acquirer;
-      passes = r.rounds;
-      ended = r.ended;
-      fields = r.held;
-      scale = r.acquirer.scale;
-      rounds = r.count;
-      given = if r.gives then take r.field.count r.field.decided.items else [];
-      held = length r.acquirer.held;
-      waiting = 313 * r.held + (if r.ended then 0 else 313);
-      symbols = r.acquirer.symbols;
-      runs = r.acquirer.runs;
-      segments = r.acquirer.segments;
-      known = r.known;
-      cost = r.cost;
-      moved = r.moved;
-    } };
+    ghost view = { λ r. refining r.acquirer r.passes r.ended };
 
-    ghost invariant = { λ r. (832 * r.acquirer.segments + length r.acquirer.held ≤ r.acquirer.symbols)
-        × (r.acquirer.symbols ≤ 520832000000) × (0 < r.count) × (r.count ≤ 32)
-        × (r.done + r.held ≤ r.acquirer.segments) × (r.known ≤ 312 * r.done)
-        × (r.cost ≤ 16720224624 * r.done) × (r.moved ≤ 259584 * r.done) };
+    ghost invariant = { λ r. (832 * r.acquirer.segments + length r.acquirer.held ≤ r.acquirer.symbols + 261248)
+        × (r.acquirer.symbols ≤ 520832000000) × (r.passes.numbers.done + r.passes.held ≤ r.acquirer.segments) };
 }
 
 impl Refiner {
@@ -87,16 +58,8 @@ impl Refiner {
     {
         Ok(Refiner {
             acquirer: Acquirer::new(alloc, scale)?,
-            rounds: Rounds::new(alloc, scale, rounds)?,
-            count: rounds,
-            field: Field::new(alloc)?,
-            gives: false,
+            passes: Passes::new(alloc, scale, rounds)?,
             ended: false,
-            held: 0,
-            done: 0,
-            known: 0,
-            cost: 0,
-            moved: 0,
         })
     }
 
@@ -118,7 +81,7 @@ impl Refiner {
         ensures symbols { self.new.symbols ≡ self.old.symbols + result }
     {
         let count = self.acquirer.take(symbols);
-        self.pass();
+        self.passes.take(&self.acquirer);
         count
     }
 
@@ -151,26 +114,14 @@ impl Refiner {
         ensures rounds { self.new.rounds ≡ self.old.rounds }
         ensures symbols { self.new.symbols ≡ self.old.symbols }
     {
-        if self.ended {
-            self.next();
-        } else {
-            self.ended = true;
-            self.acquirer.finish();
-            self.pass();
-            if !self.gives {
-                self.next();
-            }
-        }
-        self.gives
+        self.step()
     }
 
     /// The segments that the last call of `take` or `finish` has brought.
     pub fn given(&self) -> &[[i8; SEGMENT]]
         ensures { result.now ≡ self.now.given }
     {
-        let segments = self.field.decided();
-        let count = if self.gives { segments.len() } else { 0 };
-        &segments[..count]
+        self.passes.given()
     }
 
     /// Gives proofs a fact, and has no effect: fewer symbols are held than those of a field and one segment.
@@ -205,21 +156,21 @@ impl Refiner {
     pub fn known(&self) -> u64
         ensures { result ≡ self.now.known }
     {
-        self.known
+        self.passes.numbers.known
     }
 
     /// What the least paths of the last round cost, of all fields that had it.
     pub fn cost(&self) -> u64
         ensures { result ≡ self.now.cost }
     {
-        self.cost
+        self.passes.numbers.cost
     }
 
     /// In how many symbols the last round's segments differ from those that it was given, of all fields that had it.
     pub fn moved(&self) -> u64
         ensures { result ≡ self.now.moved }
     {
-        self.moved
+        self.passes.numbers.moved
     }
 
     /// How many symbols are in no segment that was acquired.
@@ -229,38 +180,47 @@ impl Refiner {
         self.acquirer.loose()
     }
 
-    /// Passes the field that the acquirer gave, if it gave one, through the rounds.
-    fn pass(&mut self) {
-        self.gives = false;
-        if self.acquirer.given().len() > 0 {
-            self.field.set(
-                self.acquirer.heard(),
-                self.acquirer.given(),
-                self.acquirer.field_cost(),
-            );
-            self.gives = self.rounds.take(&mut self.field);
-            if self.gives {
-                self.add();
-            } else {
-                self.held += 1;
-            }
+    /// Ends the symbols if they have not ended. Gives the next of the last segments, if there is one.
+    fn step(&mut self) -> bool
+        ensures ended { (symbols : List ℤ) (before : List (List ℤ)) → IsEnding self.old symbols before
+            → HasEnded self.new symbols (before ++ self.new.given) }
+        ensures all { (symbols : List ℤ) (before : List (List ℤ)) → IsEnding self.old symbols before
+            → result ≡ false → IsOver self.new symbols }
+        ensures stepped { HasStepped self.old self.new result }
+    {
+        if self.ended {
+            self.next()
+        } else if self.end() {
+            true
+        } else {
+            self.next()
         }
     }
 
-    /// Gives the next of the fields that the rounds hold behind the end of the symbols, if they hold one.
-    fn next(&mut self) {
-        self.gives = self.held > 0 && self.rounds.finish(&mut self.field);
-        if self.gives {
-            self.held -= 1;
-            self.add();
-        }
+    /// Ends the symbols, and passes the last field through the rounds.
+    fn end(&mut self) -> bool
+        requires { self.old.ended ≡ false }
+        ensures ended { (symbols : List ℤ) → StandsFor self.old symbols → HasEnded self.new symbols self.new.given }
+        ensures stepped { HasStepped self.old self.new result }
+    {
+        self.ended = true;
+        self.acquirer.finish();
+        self.passes.take(&self.acquirer);
+        self.passes.gives
     }
 
-    /// Adds the numbers of a field that had all rounds.
-    fn add(&mut self) {
-        self.done += 1;
-        self.known += self.field.known_words();
-        self.cost += self.field.cost();
-        self.moved += self.field.moved();
+    /// Gives the next of the fields that the rounds hold.
+    fn next(&mut self) -> bool
+        requires { self.old.ended ≡ true }
+        ensures ended { (symbols : List ℤ) (before : List (List ℤ)) → HasEnded self.old symbols before
+            → HasEnded self.new symbols (before ++ self.new.given) }
+        ensures all { (symbols : List ℤ) (before : List (List ℤ)) → HasEnded self.old symbols before
+            → result ≡ false → IsOver self.new symbols }
+        ensures stepped { HasStepped self.old self.new result }
+    {
+        a_capture_begins_as_it_was_acquired();
+        the_numbers_of_a_round_are_those_of_its_fields();
+        self.passes.next();
+        self.passes.gives
     }
 }

@@ -22,6 +22,7 @@ pub mod RefinedLemmas
 pub mod PassedRounds
 pub mod BegunFields
 pub mod GivenLemmas
+pub mod OnRounds
 pub mod MadeLemmas
 pub mod RoundNumbers
 pub mod FieldRows
@@ -32,3 +33,6 @@ pub mod MovedRows
 pub mod RowsRounded
 pub mod FieldRounds
 pub mod UnknownFields
+pub mod FrontFields
+pub mod WholeLemmas
+pub mod SoFarLemmas

@@ -48,6 +48,11 @@ abbrev pub given_count : ℕ → List Round → ℕ
 given_count t [] = t
 given_count t (round ∷ rounds) = given_count (given_by round t) rounds
 
+-- how many rounds hold a field
+abbrev pub on_count : List Round → ℕ
+on_count [] = 0
+on_count (round ∷ rounds) = (if round.on then 1 else 0) + on_count rounds
+
 -- It is field f of the run after so many rounds, with what the last of them cost and how many symbols it moved.
 abbrev pub IsGiven : ℕ → List (List ℤ) → List (List ℤ) → List ℕ → ℕ → ℕ → Field → Type 0
 IsGiven scale heard given before zero f field = IsInRun scale heard given (known_word before) f field

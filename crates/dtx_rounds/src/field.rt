@@ -80,6 +80,7 @@ impl Field {
         ensures decided { take self.new.count self.new.decided.items ≡ decided.now }
         ensures count { self.new.count ≡ length heard.now }
         ensures cost { self.new.cost ≡ cost }
+        ensures words { length self.new.words ≡ WORDS }
         ensures nothing { KnowsNothing self.new.known.items self.new.words self.new.knows_more self.new.moved }
     {
         self.clear();
@@ -93,6 +94,7 @@ impl Field {
     pub(crate) fn clear(&mut self)
         ensures count { self.new.count ≡ 0 }
         ensures cost { self.new.cost ≡ 0 }
+        ensures words { length self.new.words ≡ WORDS }
         ensures nothing { KnowsNothing self.new.known.items self.new.words self.new.knows_more self.new.moved }
     {
         self.count = 0;

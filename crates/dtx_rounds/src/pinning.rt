@@ -45,6 +45,7 @@ fn find_paths(means: &mut Means, known: &[Option<u8>], heard: &[[i8; SEGMENT]]) 
         ≡ pinned means.old.scale (field_pins known.now 0 (SEGMENT_ROUNDS * length heard.now)) heard.now }
     ensures cost { result
         ≡ pinned_cost means.old.scale (field_pins known.now 0 (SEGMENT_ROUNDS * length heard.now)) heard.now }
+    ensures most { result ≤ 53419248 * length heard.now }
     ensures scale { means.new.scale ≡ means.old.scale }
 {
     pin_first(
@@ -73,6 +74,7 @@ fn pin_first(
         ≡ pinned decoder.old (field_pins known.now 0 (SEGMENT_ROUNDS * length heard.now)) heard.now }
     ensures cost { result
         ≡ pinned_cost decoder.old (field_pins known.now 0 (SEGMENT_ROUNDS * length heard.now)) heard.now }
+    ensures most { result ≤ 53419248 * length heard.now }
     ensures scale { decoder.new ≡ decoder.old }
     ensures pins { length pins.new ≡ length pins.old }
     ensures long { length paths.new ≡ length paths.old }
@@ -97,6 +99,7 @@ fn pin_rows(
         ≡ pinned decoder.old (field_pins known.now 0 (SEGMENT_ROUNDS * length heard.now)) heard.now }
     ensures cost { result
         ≡ pinned_cost decoder.old (field_pins known.now 0 (SEGMENT_ROUNDS * length heard.now)) heard.now }
+    ensures most { result ≤ 53419248 * length heard.now }
     ensures scale { decoder.new ≡ decoder.old }
     ensures pins { length pins.new ≡ length pins.old }
     ensures long { length paths.new ≡ length paths.old }
@@ -123,6 +126,7 @@ fn move_all(scale: u8, paths: &[[i8; SEGMENT]], segments: &mut [[i8; SEGMENT]]) 
     requires levels { (i : ℕ) → i < length paths.now → IsOnLevels scale (slice_index_or paths.now i []) }
     ensures segments { segments.new ≡ on_paths scale paths.now segments.old }
     ensures moved { result ≡ rows_moved segments.old segments.new }
+    ensures most { result ≤ SEGMENT * length paths.now }
 {
     let mut moved = 0;
     for i in 0..paths.len() {

@@ -1,6 +1,6 @@
 //! Rounds, one behind the other.
 
-ghost use Rattle.std.specs.Prelude.{◌≡◌, ◌*◌, ◌<◌, ◌≤◌, ℕ, ℤ, IfOk, true, false, List, [], length};
+ghost use Rattle.std.specs.Prelude.{◌≡◌, ◌*◌, ◌<◌, ◌≤◌, nat_le, ℕ, ℤ, IfOk, true, false, List, [], length};
 ghost use Rattle.dtx_receiver.specs.Bytes.{bytes_in};
 ghost use Rattle.dtx_rounds.specs.Fields.{AreSegments};
 ghost use Rattle.dtx_rounds.specs.Known.{known_word};
@@ -8,7 +8,7 @@ ghost use Rattle.dtx_rounds.specs.MadeRounds.{AreFinished, AreMade, AreTaken};
 ghost use Rattle.dtx_rounds.specs.Rounds.{fields_in, rounded};
 ghost use Rattle.dtx_rounds.specs.RunField.{IsInRun, IsRounded};
 ghost use Rattle.dtx_rounds.specs.RunRounds.{AreAt, AreOff, IsAt, IsEnded, IsEndedFirst, IsPassed, IsRun, given_by};
-ghost use Rattle.dtx_rounds.specs.RunRounds.{given_count};
+ghost use Rattle.dtx_rounds.specs.RunRounds.{given_count, on_count};
 
 use crate::field::Field;
 use crate::means::Means;
@@ -38,8 +38,8 @@ impl Rounds {
         })
     }
 
-    /// Takes the next field of a capture, of which nothing is known. Where a field has had all rounds, it is given in
-    /// its place, and the answer is true. The fields are given in order.
+    /// Takes the next field of a capture, of which nothing is known. Where each round holds a field, one has had all
+    /// rounds: it is given in its place, and the answer is true. The fields are given in order.
     pub fn take(&mut self, field: &mut Field) -> bool
         ensures taken { (scale count t f : ℕ) (heard given : List (List ℤ)) → AreSegments given
             → length heard ≡ length given → 313 * t < length given → AreMade scale heard given count t f self.old
@@ -72,7 +72,8 @@ fn empty_rounds(alloc: Global, count: usize) -> Result<Vec<Round>, AllocError>
     Ok(rounds)
 }
 
-/// Passes a field through rounds. Where one of them holds none yet, that one keeps it, and the answer is false.
+/// Passes a field through rounds. Where one of them holds none yet, that one keeps it, and the answer is false. Where
+/// all of them hold one, the answer is true.
 fn pass(means: &mut Means, rounds: &mut [Round], field: &mut Field) -> bool
     ensures scale { means.new.scale ≡ means.old.scale }
     ensures passed { (heard given : List (List ℤ)) (before : List ℕ) (t : ℕ) → IsRun heard given before
@@ -80,6 +81,7 @@ fn pass(means: &mut Means, rounds: &mut [Round], field: &mut Field) -> bool
         → IsInRun means.old.scale heard given (known_word before) t field.old
         → IsPassed means.old.scale heard given before t rounds.old rounds.new result field.new }
     ensures still { length rounds.old ≡ 0 → field.new ≡ field.old }
+    ensures full { result ≡ nat_le (length rounds.old) (on_count rounds.old) }
 {
     match rounds.split_first_mut() {
         None => true,

@@ -79,3 +79,8 @@ returns-clause-costs c e l =
     (omega (arith, length-column c.args.rounds.now e, c.loop-t.invariant.long))
     (length-column c.loop-t.rounds e ∙ c.loop-t.invariant.long ∙ sym (length-column c.args.rounds.now e))
     (c.loop-t.invariant.under_way e l)).1
+
+pub returns-clause-most : goal.returns-clause-most
+returns-clause-most c e l =
+    let stand = c.loop-t.invariant.stands e (omega arith) in
+    omega (arith, stand.cost, c.loop-t.invariant.long)

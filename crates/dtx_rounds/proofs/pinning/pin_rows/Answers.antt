@@ -1,4 +1,4 @@
-use Rattle.std.proofs.Common.{◌≡◌, ℕ, ℤ, ◌*◌, ◌/◌, List, length, take, ap, ◌∙◌, subst, arith}
+use Rattle.std.proofs.Common.{◌≡◌, ℕ, ℤ, ◌*◌, ◌/◌, ◌≤◌, List, length, take, ap, ◌∙◌, subst, arith}
 use Rattle.dtx_soft.specs.Coders.{coders_distance}
 use Rattle.dtx_pins.specs.PinnedField.{IsPinned}
 use Rattle.dtx_pins.proofs.PinnedFieldLemmas.{pinned_cost_is, pinned_is}
@@ -33,3 +33,6 @@ returns-clause-cost c =
     (by_groups c.args.decoder.now c.put_pins.new.pins c.args.heard.now c.copy_from_slice.new.self
     c.field-cost.new.segments (field_pins c.args.known.now 0) c.requires.whole c.put_pins.ensures.pins
     c.copy_from_slice.ensures.after c.field-cost.ensures.segments)
+
+pub returns-clause-most : goal.returns-clause-most
+returns-clause-most c = omega (arith, c.field-cost.ensures.most, ap length c.copy_from_slice.ensures.after)

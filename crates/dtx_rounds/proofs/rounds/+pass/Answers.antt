@@ -1,11 +1,13 @@
-use Rattle.std.proofs.Common.{◌≡◌, ℕ, ℤ, ◌+◌, ◌-◌, ◌*◌, ◌<◌, ◌≤◌, ◌⊎◌, inl, inr, true, false, List, ◌∷◌, length, sym}
+use Rattle.std.proofs.Common.{◌≡◌, ℕ, ℤ, ◌+◌, ◌-◌, ◌*◌, ◌<◌, ◌≤◌, ◌⊎◌, inl, inr, nat_le, true, false, List, ◌∷◌}
+use Rattle.std.proofs.Common.{length, sym}
 use Rattle.std.proofs.Common.{ap, subst}
 use Rattle.std.proofs.Common.{◌∙◌, arith}
 use Rattle.dtx_receiver.specs.Bytes.{bytes_in}
 use Rattle.dtx_rounds.specs.Known.{known_word}
 use Rattle.dtx_rounds.specs.Rounds.{rounded}
 use Rattle.dtx_rounds.specs.RunField.{IsInRun}
-use Rattle.dtx_rounds.specs.RunRounds.{AreAt, IsPassed, IsRun}
+use Rattle.dtx_rounds.specs.RunRounds.{AreAt, IsPassed, IsRun, on_count}
+use Rattle.dtx_rounds.proofs.OnRounds.{full_off, full_on, none_full}
 use Rattle.dtx_rounds.proofs.PassedRounds.{given_on, next_run, passed_all, passed_off, passed_on}
 use Rattle.dtx_rounds.proofs.RefinedLemmas.{length-rounded}
 use Rattle.dtx_rounds.proofs.rounds.+pass.Goals as goal
@@ -88,3 +90,17 @@ returns-then-take-clause-still m c = λ e. absurd (omega (arith, ap length c.in-
 
 pub returns-else-take-clause-still : goal.returns-else-take-clause-still
 returns-else-take-clause-still m c = λ e. absurd (omega (arith, ap length c.in-Some.ensures.cases.0, e))
+
+pub returns-in-None-clause-full : goal.returns-in-None-clause-full
+returns-in-None-clause-full m c = none_full c.args.rounds.now c.in-None.ensures.cases
+
+pub returns-then-take-clause-full : goal.returns-then-take-clause-full
+returns-then-take-clause-full m c =
+    c.pass.ensures.full
+    ∙ full_on c.in-Some.round.now c.in-Some.rest.now (sym c.take.ensures.had ∙ c.if-take.true)
+    ∙ ap (λ rounds. nat_le (length rounds) (on_count rounds)) (sym c.in-Some.ensures.cases.0)
+
+pub returns-else-take-clause-full : goal.returns-else-take-clause-full
+returns-else-take-clause-full m c =
+    full_off c.in-Some.round.now c.in-Some.rest.now (sym c.take.ensures.had ∙ c.if-take.false)
+    ∙ ap (λ rounds. nat_le (length rounds) (on_count rounds)) (sym c.in-Some.ensures.cases.0)

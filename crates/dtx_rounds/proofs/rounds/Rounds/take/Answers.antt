@@ -1,10 +1,10 @@
-use Rattle.std.proofs.Common.{◌≡◌, ℕ, ℤ, ◌*◌, ◌<◌, List, [], length, sym, ap, ◌∙◌, subst, arith}
+use Rattle.std.proofs.Common.{◌≡◌, ℕ, ℤ, ◌*◌, ◌<◌, nat_le, List, [], length, sym, ap, ◌∙◌, subst, arith}
 use Rattle.std.specs.Vec.{with_items}
 use Rattle.dtx_rounds.specs.Fields.{AreSegments}
 use Rattle.dtx_rounds.specs.Known.{known_word}
 use Rattle.dtx_rounds.specs.MadeRounds.{AreTaken, AreMade}
 use Rattle.dtx_rounds.specs.RunField.{IsInRun}
-use Rattle.dtx_rounds.specs.RunRounds.{AreAt, IsPassed}
+use Rattle.dtx_rounds.specs.RunRounds.{AreAt, IsPassed, on_count}
 use Rattle.dtx_rounds.specs.declared.rounds.Rounds.{Rounds}
 use Rattle.dtx_rounds.proofs.LaidWords.{items_written}
 use Rattle.dtx_rounds.proofs.MadeLemmas.{run_of, taken}
@@ -16,7 +16,7 @@ returns c = record {
       subst (λ s. AreMade s heard given count t f old → IsInRun s heard given (known_word []) t c.args.field.now
       → AreTaken s heard given count t f c.pass.result new c.pass.new.field) made.scale_is
       (λ m k. taken old.means.scale count t f heard given old new c.pass.result c.pass.new.field m
-      c.pass.ensures.scale kept (passed heard given t long same more m.at k)) made h;
+      c.pass.ensures.scale kept full (passed heard given t long same more m.at k)) made h;
 }
   where
     old : Rounds
@@ -33,6 +33,10 @@ returns c = record {
 
     kept : length new.rounds.items ≡ length old.rounds.items
     kept = ap length items ∙ c.pass.auto.rounds ∙ ap length c.deref_mut.ensures.value
+
+    full : c.pass.result ≡ nat_le (length old.rounds.items) (on_count old.rounds.items)
+    full =
+        c.pass.ensures.full ∙ ap (λ rounds. nat_le (length rounds) (on_count rounds)) c.deref_mut.ensures.value
 
     passed : (heard given : List (List ℤ)) (t : ℕ) → AreSegments given → length heard ≡ length given
         → 313 * t < length given → AreAt old.means.scale heard given [] t old.rounds.items

@@ -1,0 +1,257 @@
+-- A refiner at the end of the symbols.
+use Rattle.std.proofs.Common.{◌≡◌, ℕ, ℤ, zero, suc, ◌+◌, ◌-◌, ◌*◌, ◌/◌, ◌<◌, ◌≤◌, Bool, true, false, cond, List, []}
+use Rattle.std.proofs.Common.{◌++◌, length, map, sum, take, drop, refl, sym, ap, ◌∙◌, subst, arith, length-append}
+use Rattle.std.specs.List.{range_with_len}
+use Rattle.std.proofs.lemmas.List.{append-nil, append_assoc, append_cancel_left}
+use Rattle.std.proofs.lemmas.List.{take-append-drop, take_all}
+use Rattle.dtx_receiver.specs.Bytes.{bytes_in}
+use Rattle.dtx_acquire.specs.Acquired.{acquired, acquired_rest, acquired_runs, acquired_so_far, heard_rest}
+use Rattle.dtx_acquire.specs.Acquired.{heard_so_far}
+use Rattle.dtx_acquire.specs.Acquirer.{Holding}
+use Rattle.dtx_acquire.proofs.AcquiredLemmas.{all_is_acquired, all_is_heard, length-heard_so_far}
+use Rattle.dtx_rounds.specs.FieldRound.{words_known}
+use Rattle.dtx_rounds.specs.Fields.{AreSegments, rows_of}
+use Rattle.dtx_rounds.specs.Known.{known_count}
+use Rattle.dtx_rounds.specs.Rounds.{fields_in, heard_of, refined, refined_rest, refined_so_far, round_cost}
+use Rattle.dtx_rounds.specs.Rounds.{round_moved, rounds_of, settled_count}
+use Rattle.dtx_rounds.specs.RunField.{IsRounded}
+use Rattle.dtx_rounds.specs.declared.field.Field.{Field}
+use Rattle.dtx_rounds.proofs.RefinedLemmas.{length-rounded, rounded_long}
+use Rattle.dtx_refine.specs.Passes.{ArePassed, HasEndedOne, HasTaken, IsField, given_of}
+use Rattle.dtx_refine.specs.Refiner.{HasEnded, HasStepped, IsOver, Refining, StandsFor, refining}
+use Rattle.dtx_refine.specs.declared.passes.Passes.{Passes}
+use Rattle.dtx_refine.proofs.Pieces.{field_last}
+use Rattle.dtx_refine.proofs.Steps.{given_few, given_next, given_none}
+
+-- ---- the last field
+
+field_ended : (acquirer : Holding) (symbols : List ℤ) (t : ℕ)
+    → acquirer.given ≡ acquired_rest acquirer.scale symbols → acquirer.heard ≡ heard_rest symbols
+    → length (acquired_so_far acquirer.scale symbols) ≡ 313 * t → length acquirer.given ≤ 313
+    → length acquirer.heard ≡ length acquirer.given → 0 < length acquirer.given → IsField acquirer symbols t
+unfolding heard_of
+field_ended acquirer symbols t given heard long few same l = record {
+  within = omega (arith, long, l, ap length segments,
+      length-append (acquired_so_far acquirer.scale symbols) acquirer.given);
+  given_are = sym (ap (λ xs. rows_of xs t) segments
+      ∙ field_last t (acquired_so_far acquirer.scale symbols) acquirer.given long few);
+  heard_are = sym (ap (λ xs. rows_of xs t) received
+      ∙ field_last t (heard_so_far symbols) acquirer.heard
+      (length-heard_so_far acquirer.scale symbols ∙ long) (omega (arith, few, same)));
+}
+  where
+    segments : acquired acquirer.scale symbols ≡ acquired_so_far acquirer.scale symbols ++ acquirer.given
+    segments =
+        sym (all_is_acquired acquirer.scale symbols)
+        ∙ ap (λ xs. acquired_so_far acquirer.scale symbols ++ xs) (sym given)
+
+    received : heard_of symbols ≡ heard_so_far symbols ++ acquirer.heard
+    received = sym (all_is_heard symbols) ∙ ap (λ xs. heard_so_far symbols ++ xs) (sym heard)
+
+-- ---- the end of the symbols
+
+-- An acquirer ended its symbols, and rounds took what it gave then.
+pub record HasEndedSymbols (acquirer now_acquirer : Holding) (passes now_passes : Passes) (symbols : List ℤ)
+    : Type 0 where
+  pub given : now_acquirer.given ≡ acquired_rest acquirer.scale symbols
+  pub heard : now_acquirer.heard ≡ heard_rest symbols
+  pub few : length now_acquirer.given ≤ 313
+  pub same : length now_acquirer.heard ≡ length now_acquirer.given
+  pub taken : (s : List ℤ) (t : ℕ) → ArePassed now_acquirer.scale s t passes
+      → (0 < length now_acquirer.given → IsField now_acquirer s t)
+      → HasTaken now_acquirer.scale s t (fields_in now_acquirer.given) passes now_passes
+  pub held : now_passes.held ≤ passes.held + 1
+  pub scale_is : now_acquirer.scale ≡ acquirer.scale
+  pub count_is : now_passes.count ≡ passes.count
+  pub runs_are : now_acquirer.runs ≡ acquired_runs symbols
+  pub segments_are : now_acquirer.segments ≡ length (acquired acquirer.scale symbols)
+
+module _ (a b : Holding) (p q : Passes) (ended : Bool) (symbols : List ℤ)
+    (was : StandsFor (refining a p ended) symbols) (h : HasEndedSymbols a b p q symbols) where
+  fields : ℕ
+  fields = fields_in b.given
+
+  long_before : length (acquired_so_far b.scale symbols) ≡ 313 * was.taken
+  long_before = ap (λ s. length (acquired_so_far s symbols)) h.scale_is ∙ was.long
+
+  given_rest : b.given ≡ acquired_rest b.scale symbols
+  given_rest = h.given ∙ ap (λ s. acquired_rest s symbols) (sym h.scale_is)
+
+  fields_now : was.taken + fields ≡ fields_in (acquired b.scale symbols)
+  fields_now =
+      omega (arith, long_before, ap length (all_is_acquired b.scale symbols),
+      length-append (acquired_so_far b.scale symbols) (acquired_rest b.scale symbols), ap length given_rest)
+
+  taken_now : HasTaken b.scale symbols was.taken fields p q
+  taken_now =
+      h.taken symbols was.taken
+      (subst (λ s. ArePassed s symbols was.taken p) (sym h.scale_is)
+      (subst (λ s. ArePassed a.scale s was.taken p) (append-nil symbols) (was.passed [])))
+      (λ l. field_ended b symbols was.taken given_rest h.heard long_before h.few h.same l)
+
+  pub ended_now : HasEnded (refining b q true) symbols (given_of q)
+  unfolding refined_so_far settled_count
+  ended_now = record {
+    passed = subst (λ t. ArePassed b.scale symbols t q) fields_now taken_now.given.passed;
+    given_are = ap (λ n. take n (refined b.scale symbols q.count) ++ given_of q) count_before
+        ∙ ap (λ n. take (313 * p.numbers.done) (refined b.scale symbols n) ++ given_of q) h.count_is
+        ∙ sym (given_next b.scale (was.taken + fields) symbols p q taken_now.given)
+        ∙ ap (λ n. take (313 * q.numbers.done) (refined b.scale symbols n)) (sym h.count_is);
+    runs_are = h.runs_are;
+    segments_are = h.segments_are ∙ ap (λ s. length (acquired s symbols)) (sym h.scale_is);
+    few = omega (arith, ap (λ e. cond e 0 313) was.going, was.few, h.held, h.count_is);
+  }
+    where
+      count_before : length (acquired_so_far b.scale symbols) - 313 * q.count ≡ 313 * p.numbers.done
+      count_before = omega (arith, long_before, was.done, h.count_is)
+
+-- ---- a step behind the end
+
+pub ended_next : (a : Holding) (p q : Passes) (ended : Bool) (symbols : List ℤ) (before : List (List ℤ))
+    → HasEnded (refining a p ended) symbols before → HasEndedOne a.scale symbols p q → q.count ≡ p.count
+    → q.held ≤ p.held → HasEnded (refining a q ended) symbols (before ++ given_of q)
+ended_next a p q ended symbols before was one count held = record {
+  passed = one.given.passed;
+  given_are =
+      sym (append_assoc (refined_so_far a.scale symbols q.count) before (given_of q))
+      ∙ ap (λ n. (refined_so_far a.scale symbols n ++ before) ++ given_of q) count
+      ∙ ap (λ xs. xs ++ given_of q) was.given_are
+      ∙ sym (given_next a.scale (fields_in (acquired a.scale symbols)) symbols p q one.given)
+      ∙ ap (λ n. take (313 * q.numbers.done) (refined a.scale symbols n)) (sym count);
+  runs_are = was.runs_are;
+  segments_are = was.segments_are;
+  few = omega (arith, was.few, held, count);
+}
+
+-- ---- all segments
+
+rounds_same : (scale r : ℕ) (heard given : List (List ℤ)) → length (rounds_of scale heard given r) ≡ length given
+unfolding rounds_of
+rounds_same scale zero heard given = refl
+rounds_same scale (suc r) heard given =
+    length-rounded scale heard (rounds_of scale heard given r) ∙ rounds_same scale r heard given
+
+rounds_long : (scale r : ℕ) (heard given : List (List ℤ)) → AreSegments given → length heard ≡ length given
+    → AreSegments (rounds_of scale heard given r)
+unfolding rounds_of
+rounds_long scale zero heard given long same = long
+rounds_long scale (suc r) heard given long same =
+    rounded_long scale heard (rounds_of scale heard given r) (rounds_long scale r heard given long same)
+    (same ∙ sym (rounds_same scale r heard given))
+
+-- the segments after each round: as many as were received, of 832 symbols
+pub refined_same : (scale r : ℕ) (symbols : List ℤ)
+    → length (refined scale symbols r) ≡ length (acquired scale symbols)
+unfolding refined
+refined_same scale r symbols = rounds_same scale r (heard_of symbols) (acquired scale symbols)
+
+pub refined_long : (scale r : ℕ) (symbols : List ℤ) → AreSegments (acquired scale symbols)
+    → length (heard_of symbols) ≡ length (acquired scale symbols) → AreSegments (refined scale symbols r)
+unfolding refined
+refined_long scale r symbols long same = rounds_long scale r (heard_of symbols) (acquired scale symbols) long same
+
+-- the numbers of a round, by those of its fields
+pub record AreSums (scale : ℕ) (heard given : List (List ℤ)) : Type 0 where
+  pub known : (field : ℕ → Field) → ((f : ℕ) → f < fields_in given → IsRounded scale heard given f (field f))
+      → sum (map (λ f. words_known (field f).words) (range_with_len 0 (fields_in given))) ≡ known_count (bytes_in given)
+  pub cost : (field : ℕ → Field) → ((f : ℕ) → f < fields_in given → IsRounded scale heard given f (field f))
+      → sum (map (λ f. (field f).cost) (range_with_len 0 (fields_in given))) ≡ round_cost scale heard given
+  pub moved : (field : ℕ → Field) → ((f : ℕ) → f < fields_in given → IsRounded scale heard given f (field f))
+      → sum (map (λ f. (field f).moved) (range_with_len 0 (fields_in given))) ≡ round_moved scale heard given
+
+-- all fields had all rounds
+pub over : (a : Holding) (p : Passes) (ended : Bool) (symbols : List ℤ)
+    → p.numbers.done ≡ fields_in (acquired a.scale symbols)
+    → ArePassed a.scale symbols (fields_in (acquired a.scale symbols)) p
+    → AreSums a.scale (heard_of symbols) (refined a.scale symbols (p.count - 1)) → IsOver (refining a p ended) symbols
+over a p ended symbols done h sums = record {
+  done = done;
+  known_are = h.counted.known_are
+      ∙ ap (λ n. sum (map (λ f. words_known (h.counted.field f).words) (range_with_len 0 n))) all
+      ∙ sums.known h.counted.field each;
+  cost_is = h.counted.cost_is
+      ∙ ap (λ n. sum (map (λ f. (h.counted.field f).cost) (range_with_len 0 n))) all
+      ∙ sums.cost h.counted.field each;
+  moved_are = h.counted.moved_are
+      ∙ ap (λ n. sum (map (λ f. (h.counted.field f).moved) (range_with_len 0 n))) all
+      ∙ sums.moved h.counted.field each;
+}
+  where
+    last : List (List ℤ)
+    last = refined a.scale symbols (p.count - 1)
+
+    all : p.numbers.done ≡ fields_in last
+    all = done ∙ ap (λ n. (n + 312) / 313) (sym (refined_same a.scale (p.count - 1) symbols))
+
+    each : (f : ℕ) → f < fields_in last → IsRounded a.scale (heard_of symbols) last f (h.counted.field f)
+    each f l = h.counted.rounded f (omega (arith, l, all))
+
+-- what was given behind the end is all that it adds
+pub rest_is : (refiner : Refining) (symbols : List ℤ) (before : List (List ℤ)) → HasEnded refiner symbols before
+    → refiner.passes.numbers.done ≡ fields_in (acquired refiner.scale symbols)
+    → before ≡ refined_rest refiner.scale symbols refiner.rounds
+unfolding refined_so_far refined_rest
+rest_is refiner symbols before h done =
+    append_cancel_left (take (settled_count refiner.scale symbols refiner.rounds) segments) before
+    (drop (settled_count refiner.scale symbols refiner.rounds) segments)
+    (h.given_are ∙ take_all (313 * refiner.passes.numbers.done) segments
+    (omega (arith, done, refined_same refiner.scale refiner.rounds symbols))
+    ∙ sym (take-append-drop (settled_count refiner.scale symbols refiner.rounds) segments))
+  where
+    segments : List (List ℤ)
+    segments = refined refiner.scale symbols refiner.rounds
+
+-- ---- what a step does to the numbers
+
+-- a field can be left where none was given
+waits : (p : Passes) (before behind : ℕ) → 313 * p.held + behind ≤ before
+    → (p.gives ≡ true → 313 * p.held + behind + 313 ≤ before) → 313 * p.held + behind + length (given_of p) ≤ before
+waits p before behind l more = by_answer p.gives refl
+  where
+    by_answer : (b : Bool) → p.gives ≡ b → 313 * p.held + behind + length (given_of p) ≤ before
+    by_answer true e = omega (arith, given_few p, more e)
+    by_answer false e = omega (arith, ap length (given_none p e), l)
+
+pub stepped_end : (a b : Holding) (p q : Passes) (ended : Bool) → ended ≡ false → b.scale ≡ a.scale
+    → b.symbols ≡ a.symbols → q.count ≡ p.count → q.held ≤ p.held + 1 → (q.gives ≡ true → q.held ≤ p.held)
+    → HasStepped (refining a p ended) (refining b q true) q.gives
+stepped_end a b p q ended going scale symbols count most still = record {
+  few = given_few q;
+  none = given_none q;
+  waiting = waits q (313 * p.held + cond ended 0 313) 0 (omega (arith, ap (λ e. cond e 0 313) going, most))
+      (λ e. omega (arith, ap (λ e. cond e 0 313) going, still e));
+  fewer = λ e. omega (arith, ap (λ e. cond e 0 313) going, still e);
+  scale = scale;
+  rounds = count;
+  symbols = symbols;
+  over = refl;
+}
+
+pub stepped_next : (a : Holding) (p q : Passes) (ended : Bool) → ended ≡ true → q.count ≡ p.count
+    → q.held ≤ p.held → (q.gives ≡ true → q.held < p.held)
+    → HasStepped (refining a p ended) (refining a q ended) q.gives
+stepped_next a p q ended over count most less = record {
+  few = given_few q;
+  none = given_none q;
+  waiting = waits q (313 * p.held + cond ended 0 313) (cond ended 0 313) (omega (arith, most))
+      (λ e. omega (arith, less e));
+  fewer = λ e. omega (arith, less e);
+  scale = refl;
+  rounds = count;
+  symbols = refl;
+  over = over;
+}
+
+-- a step that gave nothing, and another
+pub stepped_two : (old mid new : Refining) (answer : Bool) → HasStepped old mid false → HasStepped mid new answer
+    → HasStepped old new answer
+stepped_two old mid new answer h k = record {
+  few = k.few;
+  none = k.none;
+  waiting = omega (arith, h.waiting, k.waiting);
+  fewer = λ e. omega (arith, h.waiting, k.fewer e);
+  scale = k.scale ∙ h.scale;
+  rounds = k.rounds ∙ h.rounds;
+  symbols = k.symbols ∙ h.symbols;
+  over = k.over;
+}

@@ -1,0 +1,243 @@
+-- One field more that goes through the rounds, and one that they give.
+use Rattle.std.proofs.Common.{◌≡◌, ℕ, ℤ, ◌+◌, ◌-◌, ◌*◌, ◌<◌, ◌≤◌, Bool, true, false, cond, leb, List, [], ◌∷◌}
+use Rattle.std.proofs.Common.{◌++◌, length, take, drop, refl, sym, ap, ◌∙◌, subst, arith}
+use Rattle.std.proofs.lemmas.Bool.{leb-false, leb-true, true≢false}
+use Rattle.std.proofs.lemmas.List.{append-nil, drop-drop, length-take}
+use Rattle.dtx_acquire.specs.Acquired.{acquired, in_groups, path_cost}
+use Rattle.dtx_acquire.specs.Sent.{groups_behind}
+use Rattle.dtx_soft.specs.Softened.{softened_cost}
+use Rattle.dtx_rounds.specs.Decided.{decided_rows}
+use Rattle.dtx_rounds.specs.Fields.{rows_of}
+use Rattle.dtx_rounds.specs.MadeRounds.{AreFinished, AreMade, AreTaken}
+use Rattle.dtx_rounds.specs.Rounds.{fields_in, groups_in, heard_of, refined}
+use Rattle.dtx_rounds.specs.RunField.{IsRounded}
+use Rattle.dtx_rounds.specs.RunRounds.{IsGiven}
+use Rattle.dtx_rounds.specs.declared.field.Field.{Field}
+use Rattle.dtx_rounds.proofs.GivenLemmas.{given_last, given_segments}
+use Rattle.dtx_refine.specs.Passes.{AreCounted, ArePassed, HasEndedOne, HasGiven, HasTaken, IsAdded, given_of}
+use Rattle.dtx_refine.specs.declared.passes.Passes.{Passes}
+use Rattle.dtx_refine.proofs.Counted.{counted_next, counted_none}
+use Rattle.dtx_refine.proofs.Pieces.{take_two}
+
+-- ---- the cost of a field's paths
+
+tail_same : (xs : List (List ℤ)) (sync : List ℤ) (others : List (List ℤ)) → take 313 xs ≡ sync ∷ others
+    → take 312 (drop 1 xs) ≡ others
+tail_same [] sync others e = absurd (omega (arith, ap length e))
+tail_same (x ∷ xs) sync others e = ap (drop 1) e
+
+-- the segments of a field behind its sync
+rows_behind : (n : ℕ) (rows : List (List ℤ)) (sync : List ℤ) (others : List (List ℤ))
+    → take 313 (drop n rows) ≡ sync ∷ others → take 312 (drop (n + 1) rows) ≡ others
+rows_behind n rows sync others e =
+    ap (take 312) (sym (drop-drop 1 n rows)) ∙ tail_same (drop n rows) sync others e
+
+pub field_cost_is : (scale t : ℕ) (heard rows : List (List ℤ)) → rows ≡ rows_of heard t → 0 < length rows
+    → path_cost scale rows ≡ softened_cost scale (groups_in heard t)
+unfolding groups_behind
+field_cost_is scale t heard [] e l = absurd (omega (arith, l))
+field_cost_is scale t heard (sync ∷ others) e l =
+    ap (λ xs. softened_cost scale (in_groups xs)) (sym (rows_behind (313 * t) heard sync others (sym e)))
+
+-- ---- what was passed
+
+made_now : (scale u : ℕ) (symbols : List ℤ) (old new : Passes) → 0 < scale → scale ≤ 18 → new.count ≡ old.count
+    → AreMade scale (heard_of symbols) (acquired scale symbols) old.count u new.numbers.done new.rounds
+    → new.held + new.numbers.done ≡ u → AreCounted scale old.count symbols new.numbers
+    → ArePassed scale symbols u new
+made_now scale u symbols old new some most count made all counted = record {
+  some = some;
+  most = most;
+  made = subst (λ n. AreMade scale (heard_of symbols) (acquired scale symbols) n u new.numbers.done new.rounds)
+      (sym count) made;
+  all = all;
+  counted = subst (λ n. AreCounted scale n symbols new.numbers) (sym count) counted;
+}
+
+-- no field came yet
+pub none_passed : (scale : ℕ) (symbols : List ℤ) (passes : Passes) → 0 < scale → scale ≤ 18
+    → AreMade scale (heard_of symbols) (acquired scale symbols) passes.count 0 0 passes.rounds → passes.held ≡ 0
+    → passes.numbers.done ≡ 0 → passes.numbers.known ≡ 0 → passes.numbers.cost ≡ 0 → passes.numbers.moved ≡ 0
+    → ArePassed scale symbols 0 passes
+none_passed scale symbols passes some most made held done known cost moved = record {
+  some = some;
+  most = most;
+  made = subst (λ n. AreMade scale (heard_of symbols) (acquired scale symbols) passes.count 0 n passes.rounds)
+      (sym done) made;
+  all = omega (arith, held, done);
+  counted = counted_none scale passes.count symbols passes.numbers passes.field done known cost moved;
+}
+
+-- field `old.numbers.done` is given, with its numbers
+module _ (scale u : ℕ) (symbols : List ℤ) (old new : Passes) where
+  -- what is known of it
+  rounded_now : IsGiven scale (heard_of symbols) (acquired scale symbols) [] old.count old.numbers.done new.field
+      → IsRounded scale (heard_of symbols) (refined scale symbols (old.count - 1)) old.numbers.done new.field
+  rounded_now g =
+      given_last scale (old.count - 1) old.numbers.done symbols new.field
+      (subst (λ n. IsGiven scale (heard_of symbols) (acquired scale symbols) [] n old.numbers.done new.field) back g)
+    where
+      back : old.count ≡ old.count - 1 + 1
+      back = omega (arith, old.some)
+
+  gave : (t : ℕ) → ArePassed scale symbols t old → new.gives ≡ true → new.count ≡ old.count
+      → IsAdded new.field old.numbers new.numbers
+      → AreMade scale (heard_of symbols) (acquired scale symbols) old.count u (old.numbers.done + 1) new.rounds
+      → IsGiven scale (heard_of symbols) (acquired scale symbols) [] old.count old.numbers.done new.field
+      → new.held + new.numbers.done ≡ u → HasGiven scale symbols u old new
+  gave t h gives count added made given all = record {
+    passed = made_now scale u symbols old new h.some h.most count
+        (subst (λ n. AreMade scale (heard_of symbols) (acquired scale symbols) old.count u n new.rounds)
+        (sym added.done_is) made) all
+        (counted_next scale old.count symbols old.numbers new.numbers new.field h.counted (rounded_now given) added);
+    done = added.done_is ∙ ap (λ b. old.numbers.done + cond b 1 0) (sym gives);
+    given_are = λ _. given_segments scale old.count old.numbers.done symbols new.field given;
+  }
+
+  gave_none : (t : ℕ) → ArePassed scale symbols t old → new.gives ≡ false → new.count ≡ old.count
+      → new.numbers ≡ old.numbers
+      → AreMade scale (heard_of symbols) (acquired scale symbols) old.count u old.numbers.done new.rounds
+      → new.held + old.numbers.done ≡ u → HasGiven scale symbols u old new
+  gave_none t h gives count numbers made all = record {
+    passed = made_now scale u symbols old new h.some h.most count
+        (subst (λ x. AreMade scale (heard_of symbols) (acquired scale symbols) old.count u x.done new.rounds)
+        (sym numbers) made) (ap (λ x. new.held + x.done) numbers ∙ all)
+        (subst (AreCounted scale old.count symbols) (sym numbers) h.counted);
+    done = ap (λ x. x.done) numbers ∙ same ∙ ap (λ b. old.numbers.done + cond b 1 0) (sym gives);
+    given_are = λ wrong. absurd (true≢false (sym wrong ∙ gives));
+  }
+    where
+      same : old.numbers.done ≡ old.numbers.done + 0
+      same = omega arith
+
+-- ---- a field more
+
+module _ (scale t : ℕ) (symbols : List ℤ) (old new : Passes) (h : ArePassed scale symbols t old)
+    (count : new.count ≡ old.count) where
+  pub took : (answer : Bool) → AreTaken scale (heard_of symbols) (acquired scale symbols) old.count t old.numbers.done
+      answer new.rounds new.field → answer ≡ true → new.gives ≡ true → new.held ≡ old.held
+      → IsAdded new.field old.numbers new.numbers → HasTaken scale symbols t 1 old new
+  took answer taken is gives held added = record {
+    given = gave scale (t + 1) symbols old new t h gives count added
+        (subst (λ b. AreMade scale (heard_of symbols) (acquired scale symbols) old.count (t + 1)
+        (old.numbers.done + cond b 1 0) new.rounds) is taken.made)
+        (taken.given_is is) (omega (arith, held, added.done_is, h.all));
+    waits = λ e.
+        (let room = leb-true (old.numbers.done + old.count) t (sym taken.answer_is ∙ is) in
+        omega (arith, e, room, added.done_is));
+  }
+
+  pub kept : (answer : Bool) → AreTaken scale (heard_of symbols) (acquired scale symbols) old.count t old.numbers.done
+      answer new.rounds new.field → answer ≡ false → new.gives ≡ false → new.held ≡ old.held + 1
+      → new.numbers ≡ old.numbers → HasTaken scale symbols t 1 old new
+  kept answer taken is gives held numbers = record {
+    given = gave_none scale (t + 1) symbols old new t h gives count numbers
+        (subst (λ n. AreMade scale (heard_of symbols) (acquired scale symbols) old.count (t + 1) n new.rounds) none
+        (subst (λ b. AreMade scale (heard_of symbols) (acquired scale symbols) old.count (t + 1)
+        (old.numbers.done + cond b 1 0) new.rounds) is taken.made))
+        (omega (arith, held, h.all));
+    waits = λ e.
+        (let room = leb-false (old.numbers.done + old.count) t (sym taken.answer_is ∙ is) in
+        ap (λ x. x.done) numbers ∙ omega (arith, e, room));
+  }
+    where
+      none : old.numbers.done + 0 ≡ old.numbers.done
+      none = omega arith
+
+  pub idle : new.gives ≡ false → new.held ≡ old.held → new.numbers ≡ old.numbers → new.rounds ≡ old.rounds
+      → HasTaken scale symbols t 0 old new
+  idle gives held numbers rounds = record {
+    given = gave_none scale (t + 0) symbols old new t h gives count numbers
+        (subst (λ n. AreMade scale (heard_of symbols) (acquired scale symbols) old.count n old.numbers.done new.rounds)
+        none (subst (AreMade scale (heard_of symbols) (acquired scale symbols) old.count t old.numbers.done)
+        (sym rounds) h.made))
+        (omega (arith, held, h.all));
+    waits = λ e. ap (λ x. x.done) numbers ∙ omega (arith, e);
+  }
+    where
+      none : t ≡ t + 0
+      none = omega arith
+
+-- ---- the end
+
+module _ (scale : ℕ) (symbols : List ℤ) (old new : Passes)
+    (h : ArePassed scale symbols (fields_in (acquired scale symbols)) old) (count : new.count ≡ old.count) where
+  pub ended_one : (answer : Bool) → AreFinished scale (heard_of symbols) (acquired scale symbols) old.count
+      (fields_in (acquired scale symbols)) old.numbers.done answer new.rounds new.field → answer ≡ true
+      → new.gives ≡ true → new.held + 1 ≡ old.held → IsAdded new.field old.numbers new.numbers
+      → HasEndedOne scale symbols old new
+  ended_one answer ended is gives held added = record {
+    given = gave scale (fields_in (acquired scale symbols)) symbols old new (fields_in (acquired scale symbols)) h gives
+        count added
+        (subst (λ b. AreMade scale (heard_of symbols) (acquired scale symbols) old.count
+        (fields_in (acquired scale symbols)) (old.numbers.done + cond b 1 0) new.rounds) is ended.made)
+        (ended.given_is is) (omega (arith, held, added.done_is, h.all));
+    all = λ wrong. absurd (true≢false (sym gives ∙ wrong));
+  }
+
+  pub ended_none : (answer : Bool) → AreFinished scale (heard_of symbols) (acquired scale symbols) old.count
+      (fields_in (acquired scale symbols)) old.numbers.done answer new.rounds new.field → answer ≡ false
+      → new.gives ≡ false → new.held ≡ old.held → new.numbers ≡ old.numbers → HasEndedOne scale symbols old new
+  ended_none answer ended is gives held numbers = record {
+    given = gave_none scale (fields_in (acquired scale symbols)) symbols old new (fields_in (acquired scale symbols)) h
+        gives count numbers
+        (subst (λ n. AreMade scale (heard_of symbols) (acquired scale symbols) old.count
+        (fields_in (acquired scale symbols)) n new.rounds) none
+        (subst (λ b. AreMade scale (heard_of symbols) (acquired scale symbols) old.count
+        (fields_in (acquired scale symbols)) (old.numbers.done + cond b 1 0) new.rounds) is ended.made))
+        (ap (λ n. n + old.numbers.done) held ∙ h.all);
+    all = λ _. ap (λ x. x.done) numbers ∙ ended.all is;
+  }
+    where
+      none : old.numbers.done + 0 ≡ old.numbers.done
+      none = omega arith
+
+  pub held_none : new.gives ≡ false → old.held ≡ 0 → new.held ≡ old.held → new.numbers ≡ old.numbers
+      → new.rounds ≡ old.rounds → HasEndedOne scale symbols old new
+  held_none gives empty held numbers rounds = record {
+    given = gave_none scale (fields_in (acquired scale symbols)) symbols old new (fields_in (acquired scale symbols)) h
+        gives count numbers
+        (subst (AreMade scale (heard_of symbols) (acquired scale symbols) old.count
+        (fields_in (acquired scale symbols)) old.numbers.done) (sym rounds) h.made)
+        (ap (λ n. n + old.numbers.done) held ∙ h.all);
+    all = λ _. ap (λ x. x.done) numbers ∙ zero_more ∙ ap (λ n. n + old.numbers.done) (sym empty) ∙ h.all;
+  }
+    where
+      zero_more : old.numbers.done ≡ 0 + old.numbers.done
+      zero_more = omega arith
+
+-- ---- what was given
+
+-- the segments of the fields that had all rounds, after one more at most
+pub given_next : (scale t : ℕ) (symbols : List ℤ) (old new : Passes) → HasGiven scale symbols t old new
+    → take (313 * new.numbers.done) (refined scale symbols old.count)
+    ≡ take (313 * old.numbers.done) (refined scale symbols old.count) ++ given_of new
+given_next scale t symbols old new h = by_answer new.gives refl
+  where
+    segments : List (List ℤ)
+    segments = refined scale symbols old.count
+
+    by_answer : (b : Bool) → new.gives ≡ b
+        → take (313 * new.numbers.done) segments ≡ take (313 * old.numbers.done) segments ++ given_of new
+    by_answer true e =
+        let next : 313 * new.numbers.done ≡ 313 * old.numbers.done + 313 =
+        omega (arith, h.done ∙ ap (λ b. old.numbers.done + cond b 1 0) e) in
+        ap (λ n. take n segments) next ∙ take_two (313 * old.numbers.done) 313 segments
+        ∙ ap (λ xs. take (313 * old.numbers.done) segments ++ xs)
+        (sym (h.given_are e) ∙ ap (λ b. cond b (decided_rows new.field) []) (sym e))
+    by_answer false e =
+        let same : 313 * new.numbers.done ≡ 313 * old.numbers.done =
+        omega (arith, h.done ∙ ap (λ b. old.numbers.done + cond b 1 0) e) in
+        ap (λ n. take n segments) same
+        ∙ sym (append-nil (take (313 * old.numbers.done) segments))
+        ∙ ap (λ b. take (313 * old.numbers.done) segments ++ cond b (decided_rows new.field) []) (sym e)
+
+pub given_few : (p : Passes) → length (given_of p) ≤ 313
+given_few p = by_answer p.gives
+  where
+    by_answer : (b : Bool) → length (cond b (decided_rows p.field) []) ≤ 313
+    by_answer true = omega (arith, length-take p.field.count p.field.decided.items, p.field.few)
+    by_answer false = omega arith
+
+pub given_none : (p : Passes) → p.gives ≡ false → given_of p ≡ []
+given_none p e = ap (λ b. cond b (decided_rows p.field) []) e

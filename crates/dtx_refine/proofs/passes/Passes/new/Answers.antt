@@ -1,0 +1,11 @@
+use Rattle.std.proofs.Common.{refl}
+use Rattle.dtx_acquire.specs.Acquired.{acquired}
+use Rattle.dtx_rounds.specs.Rounds.{heard_of}
+use Rattle.dtx_refine.proofs.Steps.{none_passed}
+use Rattle.dtx_refine.proofs.passes.Passes.new.Goals as goal
+
+pub returns-clause-passed : goal.returns-clause-passed
+returns-clause-passed c = λ symbols.
+    none_passed c.args.scale symbols _ c.requires.from c.requires.to
+    (c.in_ok-new.ensures.begun (heard_of symbols) (acquired c.args.scale symbols)) refl c.new.ensures.done
+    c.new.ensures.known c.new.ensures.cost c.new.ensures.moved
