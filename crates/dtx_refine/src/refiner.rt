@@ -126,7 +126,7 @@ impl Refiner {
 
     /// Gives proofs a fact, and has no effect: fewer symbols are held than those of a field and one segment.
     pub fn holds_few(&self)
-        ensures { (symbols : List ℤ) → StandsFor self.now symbols → self.now.held < 261248 }
+        ensures { (symbols : List ℤ) → StandsFor self.now symbols → length self.now.held < 261248 }
     {
         let _ended = self.ended;
     }

@@ -31,7 +31,7 @@ pub loop-gathered-preserved : goal.loop-gathered-preserved
 loop-gathered-preserved c =
     let old = c.loop-gathered.refiner in
     let bytes = c.loop-gathered.gathered in
-    let given = c.finish.new.refiner.given in
+    let given = c.finish.new.self.given in
     let inv = c.loop-gathered.invariant in
     record {
       ending = λ symbols is.
