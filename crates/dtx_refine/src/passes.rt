@@ -115,7 +115,6 @@ impl Passes {
         ensures still { self.new.gives ≡ true → self.new.held ≤ self.old.held }
         ensures count { self.new.count ≡ self.old.count }
     {
-        a_capture_begins_as_it_was_acquired();
         Passes::set(&mut self.field, acquirer);
         self.gives = self.rounds.take(&mut self.field);
         if self.gives {
@@ -154,7 +153,6 @@ impl Passes {
         ensures less { self.new.gives ≡ true → self.new.held < self.old.held }
         ensures count { self.new.count ≡ self.old.count }
     {
-        a_capture_begins_as_it_was_acquired();
         self.gives = self.rounds.finish(&mut self.field);
         if self.gives {
             self.held -= 1;

@@ -9,7 +9,7 @@ ghost use Rattle.dtx_refine.specs.Refiner.{HasEnded, HasStepped, IsEnding, IsOve
 
 use crate::passes::Passes;
 use dtx_acquire::Acquirer;
-use dtx_rounds::laws::{a_capture_begins_as_it_was_acquired, the_numbers_of_a_round_are_those_of_its_fields};
+use dtx_rounds::laws::the_numbers_of_a_round_are_those_of_its_fields;
 use dtx_sizes::{FIELD_SEGMENTS, MOST_SYMBOLS, SEGMENT};
 use dtx_soft::MAX_SCALE;
 use std::alloc::{AllocError, Global};
@@ -218,7 +218,6 @@ impl Refiner {
             → result ≡ false → IsOver self.new symbols }
         ensures stepped { HasStepped self.old self.new result }
     {
-        a_capture_begins_as_it_was_acquired();
         the_numbers_of_a_round_are_those_of_its_fields();
         self.passes.next();
         self.passes.gives

@@ -1,8 +1,9 @@
 use Rattle.std.proofs.Common.{ℤ, ◌≡◌, ◌+◌, ◌≤◌, List, ◌++◌, length, take, sym, ap, ◌∙◌, subst, arith}
 use Rattle.dtx_rounds.specs.Rounds.{refined_so_far}
+use Rattle.dtx_rounds.proofs.SoFarLemmas.{refined_front}
 use Rattle.dtx_refine.specs.Passes.{given_of}
 use Rattle.dtx_refine.specs.Refiner.{Refining, StandsFor, refining}
-use Rattle.dtx_refine.proofs.Takes.{HasTakenSymbols, few_whole, given_now, given_within, refined_grows, stands_now}
+use Rattle.dtx_refine.proofs.Takes.{HasTakenSymbols, few_whole, given_now, given_within, stands_now}
 use Rattle.dtx_refine.proofs.refiner.Refiner.take.Goals as goal
 
 -- the refiner by its parts
@@ -41,7 +42,7 @@ returns-clause-given c = λ before h.
     ≡ refined_so_far x.scale before x.rounds ++ given_of c.take.new.self) c.self.view_is
     (given_now c.self.inside.acquirer c.take-count.new.self c.self.inside.passes c.take.new.self c.self.inside.ended
     before more (stood c before h) (took c before h)
-    (refined_grows c.self.inside.acquirer.scale c.self.inside.passes.count before more))
+    (refined_front c.self.inside.acquirer.scale c.self.inside.passes.count before more))
 
 pub returns-clause-room : goal.returns-clause-room
 returns-clause-room c =
