@@ -10,6 +10,7 @@ use Rattle.std.proofs.lemmas.Fmt.{digits_value-decimal}
 use Rattle.std.proofs.lemmas.Slice.Eq.{bytes_eq-Decides}
 use Rattle.std.proofs.lemmas.Str.Parse.{IsNumeralModel, numerals_by_value, tells_digits}
 use Rattle.dtx_engine.specs.Recipe.{meaning}
+use Rattle.dtx_forms.specs.Capture.{captured}
 use Rattle.dtx_forms.specs.Job.{unless_same}
 use Rattle.dtx_forms.specs.PlanFile.{under_plan, under_said}
 use Rattle.dtx_forms.specs.Shapes.{coded_packets, packets, segments, single_bytes}
@@ -22,7 +23,7 @@ use Rattle.dtx_packet_jobs.specs.DvbRead.{dvb_reading}
 use Rattle.dtx_packet_jobs.specs.DvbShapes.{blocks, dvb_packets}
 use Rattle.dtx_plan.specs.Plan.{plan_of}
 use Rattle.dtx_plan.specs.declared.plan.Plan.{Plan}
-use Rattle.dtx_jobs.specs.Acquire.{acquire_at, acquiring}
+use Rattle.dtx_jobs.specs.Acquire.{acquiring}
 use Rattle.dtx_jobs.specs.Code.{coding}
 use Rattle.dtx_jobs.specs.Excite.{exciting}
 use Rattle.dtx_jobs.specs.Mend.{mending_symbols}
@@ -136,7 +137,8 @@ acquire_read words scale input output held is some most =
     (bytes_eq input output) single_bytes (acquiring scale) 0 (output ∷ []) input held) (sym is)
     (record {
       fits = refl;
-      reads = ap (λ number. acquire_at number input output held) (spelled_scale scale some most);
+      reads = ap (λ number. captured single_bytes (λ scale rounds. acquiring scale) number (Some 1) input output held)
+          (spelled_scale scale some most);
     })
 
 pub excite_read : (words : List (List ℕ)) (address delay : ℕ) (input output log : List ℕ) (held : Files)

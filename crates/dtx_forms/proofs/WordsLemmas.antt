@@ -21,6 +21,16 @@ by_four P (a ∷ (b ∷ words)) h j k h' j' k' l u p q r is =
     by_three (λ w. P (a ∷ w)) (b ∷ words) j k j' k' (omega (arith, l)) (omega (arith, u)) q r
     (subst (λ x. P (a ∷ x ∷ j' ∷ k' ∷ [])) p is)
 
+-- five words, of which four were read
+pub by_five : (P : List (List ℕ) → Type 0) (words : List (List ℕ)) (h j k m h' j' k' m' : List ℕ)
+    → 5 ≤ length words → length words < 6 → h' ≡ get_or words 1 h → j' ≡ get_or words 2 j → k' ≡ get_or words 3 k
+    → m' ≡ get_or words 4 m → P (get_or words 0 [] ∷ h' ∷ j' ∷ k' ∷ m' ∷ []) → P words
+by_five P [] h j k m h' j' k' m' l u p q r s is = absurd (omega (arith, l))
+by_five P (a ∷ []) h j k m h' j' k' m' l u p q r s is = absurd (omega (arith, l))
+by_five P (a ∷ (b ∷ words)) h j k m h' j' k' m' l u p q r s is =
+    by_four (λ w. P (a ∷ w)) (b ∷ words) j k m j' k' m' (omega (arith, l)) (omega (arith, u)) q r s
+    (subst (λ x. P (a ∷ x ∷ j' ∷ k' ∷ m' ∷ [])) p is)
+
 -- six words, of which five were read
 pub by_six : (P : List (List ℕ) → Type 0) (words : List (List ℕ)) (h j k m n h' j' k' m' n' : List ℕ)
     → 6 ≤ length words → length words < 7 → h' ≡ get_or words 1 h → j' ≡ get_or words 2 j → k' ≡ get_or words 3 k

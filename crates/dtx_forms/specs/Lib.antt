@@ -1,4 +1,5 @@
 pub mod Answers
+pub mod Capture
 pub mod Combine
 pub mod Damaged
 pub mod DamagedLaws

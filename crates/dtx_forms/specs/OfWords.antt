@@ -32,15 +32,17 @@ numbers_same None second same = None
 numbers_same (Some first) None same = None
 numbers_same (Some first) (Some second) same = Some same
 
--- nothing, unless the word is a number in its range
-abbrev pub number_same : Option ℕ → Bool → Option Bool
-number_same None same = None
-number_same (Some number) same = Some same
+-- of `.. SCALE IN OUT`
+abbrev pub scaled_same : List (List ℕ) → Option Bool
+scaled_same (verb ∷ scale ∷ input ∷ output ∷ []) =
+    numbers_same (number_within 1 18 scale) (Some 1) (bytes_eq input output)
+scaled_same words = None
 
--- of `acquire SCALE IN OUT`
-abbrev pub acquire_same : List (List ℕ) → Option Bool
-acquire_same (verb ∷ scale ∷ input ∷ output ∷ []) = number_same (number_within 1 18 scale) (bytes_eq input output)
-acquire_same words = None
+-- of `.. SCALE ROUNDS IN OUT`
+abbrev pub rounds_same : List (List ℕ) → Option Bool
+rounds_same (verb ∷ scale ∷ rounds ∷ input ∷ output ∷ []) =
+    numbers_same (number_within 1 18 scale) (number_within 1 32 rounds) (bytes_eq input output)
+rounds_same words = None
 
 -- of `excite FEED ADDRESS DELAY OUT LOG`
 abbrev pub transmit_same : List (List ℕ) → Option Bool

@@ -1,8 +1,9 @@
-//! Jobs and their forms: one output from one input, an output and a log from one input, a transmitter's symbols and
+//! Jobs and their forms: one output from one input, perhaps a capture at a scale, an output and a log from one input, a transmitter's symbols and
 //! log, and one output from two inputs. Also how a plan or a file of changes is read, and in which units the commands
 //! read their inputs.
 #![tactic(auto)]
 
+mod capturing;
 mod changing;
 mod combining;
 mod damaged;
@@ -12,6 +13,7 @@ mod shapes;
 mod transforming;
 mod transmitting;
 
+pub use capturing::{Capturing, transform_in_rounds, transform_scaled};
 pub use changing::Changing;
 pub use combining::{Combining, combine};
 pub use damaged::Damaged;

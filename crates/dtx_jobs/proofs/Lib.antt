@@ -1,5 +1,3 @@
-mod AcquireLemmas
-mod AnswersLemmas
 mod CodeLemmas
 mod ExciteLemmas
 pub mod GivenLemmas

@@ -1,28 +1,30 @@
 -- Laws of what `acquire` makes. They stand in specs/, since the ghost members of an impl, a trait's laws, can cite
 -- lemmas from there only.
-use Rattle.std.proofs.Common.{◌≡◌, ℕ, List, [], ◌++◌, refl, sym, ap, ◌∙◌}
-use Rattle.std.proofs.lemmas.List.{map-append}
-use Rattle.dtx_acquire.specs.Acquired.{acquired_so_far}
+use Rattle.std.specs.Prelude.{◌==◌, ℕ, length}
+use Rattle.dtx_acquire.specs.Acquired.{acquired, acquired_cost, acquired_runs}
 use Rattle.dtx_acquire.proofs.AcquiredLemmas.{none_so_far, so_far_grows}
-use Rattle.dtx_engine.specs.Made.{AreFrontsOf, only}
-use Rattle.dtx_files.proofs.AppendedLemmas.{segment_bytes-append}
-use Rattle.dtx_files.specs.Symbols.{segment_bytes}
-use Rattle.dtx_jobs.specs.Acquire.{acquiring}
-use Rattle.dtx_jobs.specs.SymbolFile.{symbol_of_byte, symbols}
+use Rattle.dtx_engine.specs.Recipe.{IsAnswerOf}
+use Rattle.dtx_meaning.specs.declared.status.Status.{Status}
+use Rattle.dtx_meaning.specs.declared.status.Status.TheVariants.{Done}
+use Rattle.dtx_words.specs.declared.rows.Command.TheVariants.{Acquire}
+use Rattle.dtx_forms.specs.Answers.{Knows}
+use Rattle.dtx_forms.proofs.AnswersLemmas.{knows_by, none_refused}
+use Rattle.dtx_jobs.specs.Acquire.{acquired_numbers, acquiring, with_acquirer}
+use Rattle.dtx_jobs.specs.AnswersLaws.{sync_or_not}
+use Rattle.dtx_jobs.specs.Restoring.{IsRestoring}
+use Rattle.dtx_jobs.specs.SymbolFile.{symbols}
 
--- ---- what is made
+-- what is made grows
+pub acquires : (scale : ℕ) → IsRestoring (with_acquirer scale)
+acquires scale = record { starts = none_so_far scale; grows = so_far_grows scale }
 
-pub acquires_none : (scale : ℕ) → (acquiring scale).made [] ≡ only []
-acquires_none scale = ap (λ s. only (segment_bytes s)) (none_so_far scale)
-
-pub acquires_more : (scale : ℕ) (a b : List ℕ)
-    → AreFrontsOf ((acquiring scale).made a) ((acquiring scale).made (a ++ b))
-acquires_more scale a b =
-    let on = so_far_grows scale (symbols a) (symbols b) in (
-      (
-        segment_bytes on.0,
-        sym (ap (λ s. segment_bytes (acquired_so_far scale s)) (map-append symbol_of_byte a b)
-            ∙ ap segment_bytes on.1 ∙ segment_bytes-append (acquired_so_far scale (symbols a)) on.0),
-      ),
-      ([], refl),
-    )
+-- each answer is one that the command may give
+pub acquire_knows : (scale : ℕ) (status : Status) → IsAnswerOf (acquiring scale) status → Knows Acquire status
+acquire_knows scale =
+    knows_by (acquiring scale) Acquire tt (λ k unit. none_refused unit)
+    (λ given loose. sync_or_not Acquire (acquired_runs (symbols given) == 0) (record {
+      status = Done;
+      numbers = acquired_numbers (length (symbols given)) (acquired_runs (symbols given))
+          (length (acquired scale (symbols given))) (acquired_cost scale (symbols given));
+      shown = 5;
+    }) tt tt)

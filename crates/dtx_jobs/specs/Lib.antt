@@ -1,6 +1,5 @@
 pub mod Acquire
 pub mod AcquireLaws
-pub mod Acquisition
 pub mod AnswersLaws
 pub mod Code
 pub mod CodeLaws
@@ -22,10 +21,14 @@ pub mod MendedBack
 pub mod Receive
 pub mod ReceiveLaws
 pub mod Reception
+pub mod Refine
+pub mod RefineLaws
 pub mod Repeat
 pub mod RepeatLaws
 pub mod Repetition
 pub mod Restarts
+pub mod Restoring
+pub mod RestoringLaws
 pub mod Soft
 pub mod SoftLaws
 pub mod SoftPlacesLaws

@@ -3,6 +3,7 @@
 #![tactic(auto)]
 
 mod acquire_command;
+mod acquiring;
 mod acquisition;
 mod code_command;
 mod excitation;
@@ -14,8 +15,11 @@ mod life_tally;
 mod mend_command;
 mod receive_command;
 mod reception;
+mod refine_command;
+mod refining;
 mod repeat_command;
 mod repetition;
+mod restorer;
 mod segment_receiver;
 mod sending;
 mod signed;
@@ -35,6 +39,7 @@ pub use level_command::level;
 pub use mend_command::mend;
 pub use receive_command::receive;
 pub use reception::Reception;
+pub use refine_command::refine;
 pub use repeat_command::repeat;
 pub use segment_receiver::SegmentReceiver;
 pub use soft_command::soft;

@@ -20,6 +20,7 @@ use Rattle.dtx_refine.specs.Passes.{ArePassed, HasEndedOne, HasTaken, IsField, g
 use Rattle.dtx_refine.specs.Refiner.{HasEnded, HasStepped, IsOver, Refining, StandsFor, refining}
 use Rattle.dtx_refine.specs.declared.passes.Passes.{Passes}
 use Rattle.dtx_refine.proofs.Pieces.{field_last}
+use Rattle.dtx_refine.proofs.Takes.{waiting_then}
 use Rattle.dtx_refine.proofs.Steps.{given_few, given_next, given_none}
 
 -- ---- the last field
@@ -67,7 +68,7 @@ pub record HasEndedSymbols (acquirer now_acquirer : Holding) (passes now_passes 
 
 module _ (a b : Holding) (p q : Passes) (ended : Bool) (symbols : List ℤ)
     (was : StandsFor (refining a p ended) symbols) (h : HasEndedSymbols a b p q symbols) where
-  fields : ℕ
+  abbrev fields : ℕ
   fields = fields_in b.given
 
   long_before : length (acquired_so_far b.scale symbols) ≡ 313 * was.taken
@@ -98,7 +99,7 @@ module _ (a b : Holding) (p q : Passes) (ended : Bool) (symbols : List ℤ)
         ∙ ap (λ n. take (313 * q.numbers.done) (refined b.scale symbols n)) (sym h.count_is);
     runs_are = h.runs_are;
     segments_are = h.segments_are ∙ ap (λ s. length (acquired s symbols)) (sym h.scale_is);
-    few = omega (arith, ap (λ e. cond e 0 313) was.going, was.few, h.held, h.count_is);
+    few = omega (arith, waiting_then ended was.going, was.few, h.held, h.count_is);
   }
     where
       count_before : length (acquired_so_far b.scale symbols) - 313 * q.count ≡ 313 * p.numbers.done
@@ -188,9 +189,9 @@ pub stepped_end : (a b : Holding) (p q : Passes) (ended : Bool) → ended ≡ fa
 stepped_end a b p q ended going scale symbols count most still = record {
   few = given_few q;
   none = given_none q;
-  waiting = waits q (313 * p.held + cond ended 0 313) 0 (omega (arith, ap (λ e. cond e 0 313) going, most))
-      (λ e. omega (arith, ap (λ e. cond e 0 313) going, still e));
-  fewer = λ e. omega (arith, ap (λ e. cond e 0 313) going, still e);
+  waiting = waits q (313 * p.held + cond ended 0 313) 0 (omega (arith, waiting_then ended going, most))
+      (λ e. omega (arith, waiting_then ended going, still e));
+  fewer = λ e. omega (arith, waiting_then ended going, still e);
   scale = scale;
   rounds = count;
   symbols = symbols;

@@ -1,6 +1,7 @@
 -- A refiner that takes symbols.
 use Rattle.std.proofs.Common.{◌≡◌, ℕ, ℤ, ◌+◌, ◌-◌, ◌*◌, ◌/◌, ◌<◌, ◌≤◌, ◌⊎◌, inl, inr, Bool, true, false, cond}
 use Rattle.std.proofs.Common.{List, [], ◌++◌, length, take, refl, sym, ap, ◌∙◌, subst, arith, length-append}
+use Rattle.std.proofs.lemmas.Bool.{cond-false}
 use Rattle.std.proofs.lemmas.List.{append-nil, append_assoc}
 use Rattle.dtx_acquire.specs.Acquired.{acquired, acquired_so_far, heard_so_far}
 use Rattle.dtx_acquire.specs.Acquirer as acquirers
@@ -61,9 +62,13 @@ pub record HasTakenSymbols (acquirer now_acquirer : Holding) (passes now_passes 
   pub scale_is : now_acquirer.scale ≡ acquirer.scale
   pub count_is : now_passes.count ≡ passes.count
 
+-- how many segments more can wait before the end of the symbols
+pub waiting_then : (ended : Bool) → ended ≡ false → ◌≡◌ {A = ℕ} (cond ended 0 313) 313
+waiting_then ended e = cond-false ended 0 313 e
+
 module _ (a b : Holding) (p q : Passes) (ended : Bool) (before more : List ℤ)
     (was : StandsFor (refining a p ended) before) (h : HasTakenSymbols a b p q before (before ++ more)) where
-  fields : ℕ
+  abbrev fields : ℕ
   fields = fields_in b.given
 
   long_given : length b.given ≡ 313 * fields
@@ -107,7 +112,7 @@ module _ (a b : Holding) (p q : Passes) (ended : Bool) (before more : List ℤ)
     long = ap (λ s. length (acquired_so_far s (before ++ more))) h.scale_is ∙ long_now;
     passed = λ others. (taken_all others).given.passed;
     done = taken_now.waits was.done ∙ ap (λ n. was.taken + fields - n) (sym h.count_is);
-    few = omega (arith, ap (λ e. cond e 0 313) was.going, taken_now.given.passed.all, taken_now.waits was.done,
+    few = omega (arith, waiting_then ended was.going, taken_now.given.passed.all, taken_now.waits was.done,
         h.count_is);
   }
 

@@ -10,17 +10,17 @@ use Rattle.dtx_meaning.specs.Status.{IsOfInputs}
 use Rattle.dtx_meaning.specs.declared.status.Status.{Status}
 use Rattle.dtx_meaning.specs.declared.status.Status.TheVariants.{Usage, Memory}
 use Rattle.dtx_forms.specs.Answers.{Knows}
-use Rattle.dtx_forms.specs.OfWords.{IsOfWords, acquire_same, transmit_same, make_same, number_same, numbers_same}
+use Rattle.dtx_forms.specs.OfWords.{IsOfWords, transmit_same, make_same, numbers_same, rounds_same, scaled_same}
 use Rattle.dtx_forms.specs.OfWords.{dvb_same, three_same, two_same}
 use Rattle.dtx_words.specs.Fitting.{command_of, fit_fields, fits}
 use Rattle.dtx_words.proofs.FittingLemmas.{command_fits}
 use Rattle.dtx_words.specs.Line.{finished}
 use Rattle.dtx_words.specs.Names.{names_at, repeated}
 use Rattle.dtx_words.specs.Rows.{acquire_row, adapt_row, code_row, excite_row, level_row, make_row, net_row}
-use Rattle.dtx_words.specs.Rows.{trial_row}
+use Rattle.dtx_words.specs.Rows.{refine_row, trial_row}
 use Rattle.dtx_words.specs.declared.rows.Command.{Command}
 use Rattle.dtx_words.specs.declared.rows.Command.TheVariants.{Acquire, Adapt, DvbCode, DvbRead, Excite, Hurt, Level}
-use Rattle.dtx_words.specs.declared.rows.Command.TheVariants.{Make, Net, Repeat, Trial}
+use Rattle.dtx_words.specs.declared.rows.Command.TheVariants.{Make, Net, Refine, Repeat, Trial}
 use Rattle.dtx_words.specs.declared.rows.Field.{Field}
 use Rattle.dtx_words.specs.declared.rows.Field.TheVariants.{Second}
 use Rattle.dtx_words.specs.declared.rows.SecondWord.{SecondWord}
@@ -58,6 +58,11 @@ with_three : (P : List (List ℕ) → Type 0) (words : List (List ℕ)) → leng
     → ((a b c : List ℕ) → P (a ∷ b ∷ c ∷ [])) → P words
 with_three P [] long all = absurd (omega (arith, long))
 with_three P (a ∷ words) long all = with_two (λ ws. P (a ∷ ws)) words (omega (arith, long)) (all a)
+
+with_four : (P : List (List ℕ) → Type 0) (words : List (List ℕ)) → length words ≡ 4
+    → ((a b c d : List ℕ) → P (a ∷ b ∷ c ∷ d ∷ [])) → P words
+with_four P [] long all = absurd (omega (arith, long))
+with_four P (a ∷ words) long all = with_three (λ ws. P (a ∷ ws)) words (omega (arith, long)) (all a)
 
 with_five : (P : List (List ℕ) → Type 0) (words : List (List ℕ)) → length words ≡ 5
     → ((a b c d e : List ℕ) → P (a ∷ b ∷ c ∷ d ∷ e ∷ [])) → P words
@@ -112,11 +117,6 @@ numbers_told None second same inputs status one other is = let e : false ≡ tru
 numbers_told (Some first) None same inputs status one other is = let e : false ≡ true = other in cc
 numbers_told (Some first) (Some second) same inputs status one other is = is
 
-number_told : (number : Option ℕ) (same : Bool) (inputs : ℕ) (status : Status) → is_some number ≡ true
-    → IsOfWords (number_same number same) inputs status → IsOfInputs same inputs status
-number_told None same inputs status one is = let e : false ≡ true = one in cc
-number_told (Some number) same inputs status one is = is
-
 -- `excite FEED ADDRESS DELAY OUT LOG`
 excite_told : (verb : List ℕ) (words : List (List ℕ)) (status : Status) → fit_fields excite_row.fields words ≡ true
     → IsOfWords (transmit_same (verb ∷ words)) 1 status
@@ -130,16 +130,29 @@ excite_told verb words status fit = with_five (λ ws. fit_fields excite_row.fiel
     let last = (and_parts _ _ behind).1 in
     numbers_told _ _ _ 1 status (and_parts _ _ behind).0 (and_parts _ _ last).0 is) fit
 
--- `acquire SCALE IN OUT`
-acquire_told : (verb : List ℕ) (words : List (List ℕ)) (status : Status) → fit_fields acquire_row.fields words ≡ true
-    → IsOfWords (acquire_same (verb ∷ words)) 1 status
+-- `.. SCALE IN OUT`
+scaled_told : (verb : List ℕ) (words : List (List ℕ)) (status : Status) → fit_fields acquire_row.fields words ≡ true
+    → IsOfWords (scaled_same (verb ∷ words)) 1 status
     → IsOfInputs (is_some (repeated (names_at acquire_row.fields words))) 1 status
-acquire_told verb words status fit = with_three (λ ws. fit_fields acquire_row.fields ws ≡ true
-    → IsOfWords (acquire_same (verb ∷ ws)) 1 status
+scaled_told verb words status fit = with_three (λ ws. fit_fields acquire_row.fields ws ≡ true
+    → IsOfWords (scaled_same (verb ∷ ws)) 1 status
     → IsOfInputs (is_some (repeated (names_at acquire_row.fields ws))) 1 status) words
     (fit_length acquire_row.fields words fit)
     (λ a b c fit is. subst (λ (s : Bool). IsOfInputs s 1 status) (sym (second_repeated c (bytes_eq b c)))
-    (number_told _ _ 1 status (and_parts _ _ fit).0 is)) fit
+    (numbers_told _ (Some 1) _ 1 status (and_parts _ _ fit).0 refl is)) fit
+
+-- `.. SCALE ROUNDS IN OUT`
+rounds_told : (verb : List ℕ) (words : List (List ℕ)) (status : Status) → fit_fields refine_row.fields words ≡ true
+    → IsOfWords (rounds_same (verb ∷ words)) 1 status
+    → IsOfInputs (is_some (repeated (names_at refine_row.fields words))) 1 status
+rounds_told verb words status fit = with_four (λ ws. fit_fields refine_row.fields ws ≡ true
+    → IsOfWords (rounds_same (verb ∷ ws)) 1 status
+    → IsOfInputs (is_some (repeated (names_at refine_row.fields ws))) 1 status) words
+    (fit_length refine_row.fields words fit)
+    (λ a b c d fit is.
+    let behind = (and_parts _ _ fit).1 in
+    subst (λ (s : Bool). IsOfInputs s 1 status) (sym (second_repeated d (bytes_eq c d)))
+    (numbers_told _ _ _ 1 status (and_parts _ _ fit).0 (and_parts _ _ behind).0 is)) fit
 
 -- `make SEED COUNT OUT`
 make_told : (verb : List ℕ) (words : List (List ℕ)) (status : Status) → fit_fields make_row.fields words ≡ true
@@ -184,7 +197,8 @@ fitted_told DvbCode (verb ∷ words) status fit is =
     (two_behind_told second.Code verb words status (and_parts _ _ fit).1 is.0, is.1)
 fitted_told DvbRead (verb ∷ words) status fit is =
     (two_behind_told second.Read verb words status (and_parts _ _ fit).1 is.0, is.1)
-fitted_told Acquire (verb ∷ words) status fit is = (acquire_told verb words status (and_parts _ _ fit).1 is.0, is.1)
+fitted_told Acquire (verb ∷ words) status fit is = (scaled_told verb words status (and_parts _ _ fit).1 is.0, is.1)
+fitted_told Refine (verb ∷ words) status fit is = (rounds_told verb words status (and_parts _ _ fit).1 is.0, is.1)
 fitted_told Level (verb ∷ words) status fit is = (logged_told verb words status (and_parts _ _ fit).1 is.0, is.1)
 -- the others are `.. IN OUT`
 fitted_told command (verb ∷ words) status fit is = (two_told verb words status (and_parts _ _ fit).1 is.0, is.1)

@@ -3,7 +3,7 @@ use Rattle.std.specs.Prelude.{Option, Some, None}
 use Rattle.dtx_words.specs.declared.rows.Command.{Command}
 use Rattle.dtx_words.specs.declared.rows.Command.TheVariants.{Adapt, Code, Excite, Receive, Net, Make, Hurt, Place}
 use Rattle.dtx_words.specs.declared.rows.Command.TheVariants.{Trial, Soft, Mend, DvbCode, DvbRead, Repeat}
-use Rattle.dtx_words.specs.declared.rows.Command.TheVariants.{Acquire, Watch, Level}
+use Rattle.dtx_words.specs.declared.rows.Command.TheVariants.{Acquire, Watch, Level, Refine}
 use Rattle.dtx_forms.specs.Job.{Job}
 use Rattle.dtx_packet_jobs.specs.Adapt.{adapt_job}
 use Rattle.dtx_packet_jobs.specs.DvbCode.{dvb_code_job}
@@ -17,6 +17,7 @@ use Rattle.dtx_jobs.specs.Excite.{excite_job}
 use Rattle.dtx_jobs.specs.Level.{level_job}
 use Rattle.dtx_jobs.specs.Mend.{mend_job}
 use Rattle.dtx_jobs.specs.Receive.{receive_job}
+use Rattle.dtx_jobs.specs.Refine.{refine_job}
 use Rattle.dtx_jobs.specs.Repeat.{repeat_job}
 use Rattle.dtx_jobs.specs.Soft.{soft_job}
 use Rattle.dtx_jobs.specs.Watch.{watch_job}
@@ -41,3 +42,4 @@ job_of Repeat = Some repeat_job
 job_of Acquire = Some acquire_job
 job_of Watch = Some watch_job
 job_of Level = Some level_job
+job_of Refine = Some refine_job

@@ -6,7 +6,7 @@ ghost use Rattle.dtx_top.specs.Stages.{HasStagesOf};
 use crate::net_command::{NetOutcome, net};
 use crate::trial_command::trial;
 use arrayvec::ArrayString;
-use dtx_jobs::{acquire, code, excite, level, mend, receive, repeat, soft, watch};
+use dtx_jobs::{acquire, code, excite, level, mend, receive, refine, repeat, soft, watch};
 use dtx_meaning::{Outcome, Status, ended};
 use dtx_outside::{Shelf, Word};
 use dtx_packet_jobs::{adapt, dvb_code, dvb_read, hurt, make, place};
@@ -62,6 +62,7 @@ fn perform_one<S: Shelf>(
         Command::Acquire => nameless(acquire(alloc, words, shelf)),
         Command::Watch => nameless(watch(alloc, words, shelf)),
         Command::Level => nameless(level(alloc, words, shelf)),
+        Command::Refine => nameless(refine(alloc, words, shelf)),
     }
 }
 

@@ -1,23 +1,36 @@
-use Rattle.std.proofs.Common.{ℤ, List, ap, sym, subst, ◌∙◌}
-use Rattle.std.proofs.lemmas.List.{map-append}
-use Rattle.dtx_acquire.specs.Acquired.{acquired_so_far}
-use Rattle.dtx_acquire.specs.Acquirer.{StandsFor}
+use Rattle.std.proofs.Common.{ℤ, List, length, ap, sym, subst, ◌∙◌, arith}
+use Rattle.std.proofs.lemmas.List.{length-map, map-append}
 use Rattle.dtx_engine.specs.Made.{only}
 use Rattle.dtx_files.specs.Symbols.{segment_bytes}
+use Rattle.dtx_jobs.specs.Restoring.{Restoring, restoring_by}
 use Rattle.dtx_jobs.specs.SymbolFile.{symbol_of_byte, symbols}
 use Rattle.dtx_jobs.proofs.acquisition.AcquisitionEngine.feed.Goals as goal
 
+pub restore_piece-requires : goal.restore_piece-requires
+restore_piece-requires g c =
+    let some = c.requires.given in (
+      omega arith,
+      (
+        (symbols some.0, some.2.given, omega (arith, length-map some.0 symbol_of_byte, some.1, c.requires.most)),
+        (omega (arith, c.requires.room), (some.2.long, c.clear.ensures)),
+      ),
+    )
+
+pub returns-clause-kept : goal.returns-clause-kept
+returns-clause-kept g c = ap restoring_by c.restore_piece.ensures.kept
+
 pub returns-clause-fed : goal.returns-clause-fed
-returns-clause-fed c = λ before long stand.
-    let bytes = c.args.bytes.now in
-    let all = map-append symbol_of_byte before bytes in
+returns-clause-fed g c = λ before long stand.
+    let made = g.R.Restorer.restoring c.args.self.now.restorer in
+    let all = map-append symbol_of_byte before c.args.bytes.now in
+    let restored = c.restore_piece.ensures.restored in
     record {
       stand = record {
-        room = c.acquire_piece.ensures.room;
-        stands = subst (StandsFor c.acquire_piece.new.acquirer) (sym all)
-            (c.acquire_piece.ensures.acquired.stands (symbols before) stand.stands);
+        long = c.restore_piece.ensures.room;
+        given = subst (g.R.Restorer.stands c.restore_piece.new.restorer) (sym all)
+            (restored.stands (symbols before) stand.given);
       };
       made =
-          ap (λ (s : List ℤ). only (segment_bytes (acquired_so_far c.args.self.now.acquirer.scale s))) all
-          ∙ ap only (c.acquire_piece.ensures.acquired.symbols (symbols before) stand.stands);
+          ap (λ (s : List ℤ). only (segment_bytes (made.so_far s))) all
+          ∙ ap only (restored.made (symbols before) stand.given);
     }

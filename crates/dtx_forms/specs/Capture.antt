@@ -1,0 +1,83 @@
+-- The job of a command that makes OUT from a capture IN, of the words `.. SCALE IN OUT` or `.. SCALE ROUNDS IN OUT`.
+-- The shape says in which units IN is read. `makes` gives the recipe for a scale and a number of rounds.
+use Rattle.std.specs.Prelude.{ℕ, ◌≤◌, List, [], ◌∷◌, Option, Some, None}
+use Rattle.dtx_engine.specs.Recipe.{Recipe, transformed}
+use Rattle.dtx_engine.specs.declared.engine.Shape.{Shape}
+use Rattle.dtx_meaning.specs.Meaning.{Meaning, refused}
+use Rattle.dtx_meaning.specs.declared.status.Status.TheVariants.{Usage}
+use Rattle.dtx_outside.specs.Shelf.{Files}
+use Rattle.dtx_words.specs.Number.{number_within}
+use Rattle.dtx_words.specs.declared.rows.Command.{Command}
+use Rattle.dtx_forms.specs.Job.{Job}
+use Rattle.dtx_forms.specs.OfWords.{rounds_same, scaled_same}
+use Rattle.dtx_forms.specs.Stages.{Stages, stages_of}
+
+-- a scale: so many steps of a capture make a unit of the standard's levels
+abbrev pub IsScale : ℕ → Type 0
+IsScale scale = (1 ≤ scale) × (scale ≤ 18)
+
+-- a number of rounds
+abbrev pub IsRound : ℕ → Type 0
+IsRound rounds = (1 ≤ rounds) × (rounds ≤ 32)
+
+-- the meaning once the words of the numbers were read: either may be no number in its range
+abbrev pub captured : Shape → (ℕ → ℕ → Recipe) → Option ℕ → Option ℕ → List ℕ → List ℕ → Files → Meaning
+captured shape makes None rounds input output held = refused Usage
+captured shape makes (Some scale) None input output held = refused Usage
+captured shape makes (Some scale) (Some rounds) input output held =
+    transformed shape (makes scale rounds) input output held
+
+-- the stages then
+abbrev pub captured_stages : Shape → (ℕ → ℕ → Recipe) → Option ℕ → Option ℕ → List ℕ → List ℕ → Option Stages
+captured_stages shape makes None rounds input output = None
+captured_stages shape makes (Some scale) None input output = None
+captured_stages shape makes (Some scale) (Some rounds) input output =
+    Some (stages_of shape (makes scale rounds) input (output ∷ []))
+
+-- ---- `.. SCALE IN OUT`
+
+-- what the words mean, as with one round
+abbrev pub scaled_meaning : Shape → (ℕ → ℕ → Recipe) → List (List ℕ) → Files → Meaning
+scaled_meaning shape makes (verb ∷ scale ∷ input ∷ output ∷ []) held =
+    captured shape makes (number_within 1 18 scale) (Some 1) input output held
+scaled_meaning shape makes words held = refused Usage
+
+-- their stages
+abbrev pub scaled_stages : Shape → (ℕ → ℕ → Recipe) → List (List ℕ) → Option Stages
+scaled_stages shape makes (verb ∷ scale ∷ input ∷ output ∷ []) =
+    captured_stages shape makes (number_within 1 18 scale) (Some 1) input output
+scaled_stages shape makes words = None
+
+-- their job
+abbrev pub scaled_job : Command → Shape → (ℕ → ℕ → Recipe) → Job
+scaled_job command shape makes = record {
+  command = command;
+  means = scaled_meaning shape makes;
+  same = scaled_same;
+  inputs = 1;
+  stages = scaled_stages shape makes;
+}
+
+-- ---- `.. SCALE ROUNDS IN OUT`
+
+-- what the words mean
+abbrev pub rounds_meaning : Shape → (ℕ → ℕ → Recipe) → List (List ℕ) → Files → Meaning
+rounds_meaning shape makes (verb ∷ scale ∷ rounds ∷ input ∷ output ∷ []) held =
+    captured shape makes (number_within 1 18 scale) (number_within 1 32 rounds) input output held
+rounds_meaning shape makes words held = refused Usage
+
+-- their stages
+abbrev pub rounds_stages : Shape → (ℕ → ℕ → Recipe) → List (List ℕ) → Option Stages
+rounds_stages shape makes (verb ∷ scale ∷ rounds ∷ input ∷ output ∷ []) =
+    captured_stages shape makes (number_within 1 18 scale) (number_within 1 32 rounds) input output
+rounds_stages shape makes words = None
+
+-- their job
+abbrev pub rounds_job : Command → Shape → (ℕ → ℕ → Recipe) → Job
+rounds_job command shape makes = record {
+  command = command;
+  means = rounds_meaning shape makes;
+  same = rounds_same;
+  inputs = 1;
+  stages = rounds_stages shape makes;
+}

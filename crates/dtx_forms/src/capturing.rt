@@ -1,0 +1,145 @@
+// `.. SCALE IN OUT` and `.. SCALE ROUNDS IN OUT`: what an engine makes of a capture of symbols.
+ghost use Rattle.std.specs.Prelude.{◌≡◌, ◌<◌, ◌≤◌, ℕ, [], ◌∷◌, Some, IfOk, IfSome};
+ghost use Rattle.std.specs.Str.{bytes_eq};
+ghost use Rattle.dtx_engine.specs.Recipe.{IsAnswerOf, Recipe, transformed};
+ghost use Rattle.dtx_words.specs.declared.rows.Command.{Command};
+ghost use Rattle.dtx_forms.specs.Answers.{Knows};
+ghost use Rattle.dtx_forms.specs.Capture.{IsRound, IsScale, captured, captured_stages, rounds_job, rounds_stages};
+ghost use Rattle.dtx_forms.specs.Capture.{scaled_job, scaled_stages};
+ghost use Rattle.dtx_forms.specs.Job.{IsPerformed, IsJobPerformed};
+ghost use Rattle.dtx_forms.specs.OfWords.{numbers_same};
+ghost use Rattle.dtx_forms.specs.Stages.{IsStaged, stages_of};
+
+use dtx_engine::Engine;
+use dtx_meaning::{Outcome, Status, ended};
+use dtx_outside::{Shelf, Word};
+use dtx_words::{MOST_ROUNDS, MOST_SCALE, number_within};
+use std::alloc::{AllocError, Global};
+
+/// An engine that makes what a command writes from its one input, a capture at a scale.
+pub trait Capturing: Engine + Drop {
+    ghost use Rattle.dtx_meaning.specs.declared.status.Status.{Status};
+
+    /// The command that it carries out.
+    ghost command: { Command };
+
+    /// Its recipe for a scale and a number of rounds.
+    ghost makes: { ℕ → ℕ → Recipe };
+
+    /// An engine that was given nothing. The only error is out of memory.
+    fn new(alloc: Global, scale: u8, rounds: usize) -> Result<Self, AllocError>
+        requires scale { IsScale scale }
+        requires rounds { IsRound rounds }
+        ensures given { IfOk result (λ engine. Self.stands engine []) }
+        ensures makes { IfOk result (λ engine. Self.recipe engine ≡ makes scale rounds) };
+
+    /// Each answer that can come is one that the command may give.
+    ghost knows: { (scale rounds : ℕ) (status : Status) → IsAnswerOf (makes scale rounds) status
+        → Knows command status };
+}
+
+/// Makes OUT from the capture IN, of which SCALE steps make a unit. SCALE is 1 to 18, in decimal digits without sign
+/// and without a leading zero. The engine is given one round, since the words name no other number.
+#[tactic(auto, using(crate::proofs::StagesLemmas::ended_staged))]
+pub fn transform_scaled<E: Capturing, S: Shelf>(
+    alloc: Global,
+    words: &[Word],
+    shelf: &mut S,
+) -> Outcome
+    ensures performed { IsJobPerformed (scaled_job E.command E.shape E.makes) words.now result
+        (S.files shelf.old) (S.files shelf.new) (S.counts shelf.old) (S.counts shelf.new) }
+    ensures stages { IsStaged S.foreseen (scaled_stages E.shape E.makes words.now) result.status
+        (S.files shelf.old) (S.files shelf.new) (S.counts shelf.old) (S.counts shelf.new) }
+{
+    match words {
+        [_, scale, input, output] => {
+            let scale = number_within(1, MOST_SCALE, scale.as_str());
+            transform_read::<E, S>(
+                alloc,
+                scale,
+                Some(1),
+                input.as_str(),
+                output.as_str(),
+                shelf,
+            )
+        }
+        _ => ended(Status::Usage),
+    }
+}
+
+/// Does what `transform_scaled` does, in ROUNDS rounds. ROUNDS is 1 to 32, written as SCALE is.
+#[tactic(auto, using(crate::proofs::StagesLemmas::ended_staged))]
+pub fn transform_in_rounds<E: Capturing, S: Shelf>(
+    alloc: Global,
+    words: &[Word],
+    shelf: &mut S,
+) -> Outcome
+    ensures performed { IsJobPerformed (rounds_job E.command E.shape E.makes) words.now result
+        (S.files shelf.old) (S.files shelf.new) (S.counts shelf.old) (S.counts shelf.new) }
+    ensures stages { IsStaged S.foreseen (rounds_stages E.shape E.makes words.now) result.status
+        (S.files shelf.old) (S.files shelf.new) (S.counts shelf.old) (S.counts shelf.new) }
+{
+    match words {
+        [_, scale, rounds, input, output] => {
+            let scale = number_within(1, MOST_SCALE, scale.as_str());
+            let rounds = number_within(1, MOST_ROUNDS, rounds.as_str());
+            transform_read::<E, S>(alloc, scale, rounds, input.as_str(), output.as_str(), shelf)
+        }
+        _ => ended(Status::Usage),
+    }
+}
+
+/// Makes the output of that name from the input of that name, where both numbers are there.
+#[tactic(auto, using(crate::proofs::StagesLemmas::ended_staged))]
+fn transform_read<E: Capturing, S: Shelf>(
+    alloc: Global,
+    scale: Option<u64>,
+    rounds: Option<u64>,
+    input: &str,
+    output: &str,
+    shelf: &mut S,
+) -> Outcome
+    requires scale { IfSome scale IsScale }
+    requires rounds { IfSome rounds IsRound }
+    ensures performed { IsPerformed E.command (captured E.shape E.makes scale rounds input.now output.now)
+        (numbers_same scale rounds (bytes_eq input.now output.now)) 1 result (S.files shelf.old) (S.files shelf.new)
+        (S.counts shelf.old) (S.counts shelf.new) }
+    ensures stages { IsStaged S.foreseen (captured_stages E.shape E.makes scale rounds input.now output.now)
+        result.status (S.files shelf.old) (S.files shelf.new) (S.counts shelf.old) (S.counts shelf.new) }
+{
+    match scale {
+        Some(scale) => match rounds {
+            Some(rounds) => {
+                transform_capture::<E, S>(alloc, scale as u8, rounds as usize, input, output, shelf)
+            }
+            None => ended(Status::Usage),
+        },
+        None => ended(Status::Usage),
+    }
+}
+
+/// Makes the output of that name from the input of that name. It refuses equal names.
+#[inline(never)]
+#[tactic(auto, using(crate::proofs::StagesLemmas::ended_staged))]
+fn transform_capture<E: Capturing, S: Shelf>(
+    alloc: Global,
+    scale: u8,
+    rounds: usize,
+    input: &str,
+    output: &str,
+    shelf: &mut S,
+) -> Outcome
+    requires scale { IsScale scale }
+    requires rounds { IsRound rounds }
+    ensures performed { IsPerformed E.command (transformed E.shape (E.makes scale rounds) input.now output.now)
+        (Some (bytes_eq input.now output.now)) 1 result (S.files shelf.old) (S.files shelf.new)
+        (S.counts shelf.old) (S.counts shelf.new) }
+    ensures stages { IsStaged S.foreseen
+        (Some (stages_of E.shape (E.makes scale rounds) input.now (output.now ∷ []))) result.status
+        (S.files shelf.old) (S.files shelf.new) (S.counts shelf.old) (S.counts shelf.new) }
+{
+    match E::new(alloc, scale, rounds) {
+        Ok(mut engine) => dtx_engine::transform(alloc, &mut engine, input, output, shelf),
+        Err(_) => ended(Status::Memory),
+    }
+}

@@ -1,0 +1,37 @@
+use Rattle.std.proofs.Common.{◌++◌, ap, length, ◌∙◌, arith}
+use Rattle.dtx_acquire.specs.Acquired.{acquired, acquired_runs}
+use Rattle.dtx_files.specs.Symbols.{segment_bytes}
+use Rattle.dtx_jobs.specs.Acquire.{acquired_answer, with_acquirer}
+use Rattle.dtx_jobs.proofs.acquiring.AcquirerRestorerACQUIRED_BYTES.finish.Goals as goal
+
+pub push_all-requires : goal.push_all-requires
+push_all-requires c =
+    omega (
+      arith,
+      c.requires.stands.1.few,
+      c.finish.ensures.room,
+      ap length c.requires.empty,
+      ap length c.given.ensures,
+    )
+
+pub returns-clause-rest : goal.returns-clause-rest
+returns-clause-rest c = λ symbols is.
+    c.push_all.ensures.bytes
+    ∙ ap (λ z. z ++ segment_bytes c.given.result.now) c.requires.empty
+    ∙ ap segment_bytes (c.given.ensures ∙ c.finish.ensures.given symbols is)
+
+pub returns-clause-answer : goal.returns-clause-answer
+returns-clause-answer c = λ symbols is.
+    let new = c.finish.new.self in
+    let scale = c.args.self.now.scale in
+    c.answer.ensures.outcome
+    ∙ ap (λ n. acquired_answer n new.runs new.segments new.cost)
+    (c.finish.ensures.symbols ∙ is.leaves.symbols_are)
+    ∙ ap (λ n. acquired_answer (length symbols) n new.segments new.cost) (c.finish.ensures.runs symbols is)
+    ∙ ap (λ n. acquired_answer (length symbols) (acquired_runs symbols) n new.cost)
+    (c.finish.ensures.segments symbols is)
+    ∙ ap (λ n. acquired_answer (length symbols) (acquired_runs symbols) (length (acquired scale symbols)) n)
+    (c.finish.ensures.cost symbols is)
+
+pub returns-clause-kept : goal.returns-clause-kept
+returns-clause-kept c = ap with_acquirer c.finish.ensures.scale

@@ -1,0 +1,26 @@
+// `refine SCALE ROUNDS IN OUT`: the segments of a capture, decided in rounds.
+ghost use Rattle.dtx_forms.specs.Job.{IsJobPerformed};
+ghost use Rattle.dtx_forms.specs.Stages.{IsStaged};
+ghost use Rattle.dtx_jobs.specs.Refine.{refine_job};
+
+use crate::acquisition::Acquisition;
+use crate::refining::REFINED_BYTES;
+use dtx_forms::transform_in_rounds;
+use dtx_meaning::Outcome;
+use dtx_outside::{Shelf, Word};
+use dtx_refine::Refiner;
+use std::alloc::Global;
+
+/// Finds the fields of the capture IN as `acquire` does, decides their symbols in ROUNDS rounds, and writes their
+/// segments to OUT (the profile's own; ATSC A/53 Part 2, trellis coding). The words that a round can put right pin the
+/// paths of the next one. ROUNDS is 1 to 32. The numbers are those of `acquire`, where the cost is that of the last
+/// round's paths, and before the last one how many words this round knew and how many symbols it moved. IN is refused
+/// as by `acquire`.
+pub fn refine<S: Shelf>(alloc: Global, words: &[Word], shelf: &mut S) -> Outcome
+    ensures performed { IsJobPerformed refine_job words.now result (S.files shelf.old) (S.files shelf.new)
+        (S.counts shelf.old) (S.counts shelf.new) }
+    ensures stages { IsStaged S.foreseen (refine_job.stages words.now) result.status
+        (S.files shelf.old) (S.files shelf.new) (S.counts shelf.old) (S.counts shelf.new) }
+{
+    transform_in_rounds::<Acquisition<Refiner, REFINED_BYTES>, S>(alloc, words, shelf)
+}
