@@ -1,4 +1,4 @@
-use Rattle.std.proofs.Common.{◌≡◌, ◌++◌, ◌⊎◌, ℕ, ℤ, List, [], length, inl, inr, ap, sym, refl, ◌∙◌, subst, arith}
+use Rattle.std.proofs.Common.{◌≡◌, ◌++◌, ◌⊎◌, ℕ, ℤ, List, [], length, inl, inr, ap, sym, refl, ◌∙◌, arith}
 use Rattle.dtx_files.proofs.AppendedLemmas.{segment_bytes-append}
 use Rattle.dtx_files.specs.Symbols.{segment_bytes}
 use Rattle.dtx_refine.specs.Refiner.{IsEnding, Refining, StandsFor}
