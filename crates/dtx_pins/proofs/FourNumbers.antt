@@ -2,7 +2,12 @@
 use Rattle.std.proofs.Common.{◌≡◌, ℕ, ◌+◌, ◌-◌, ◌%◌, ◌<◌, ◌≤◌, ◌⊎◌, inl, inr, min, ap, ◌∙◌, subst, arith}
 use Rattle.std.proofs.lemmas.Bool.{cases_lt}
 use Rattle.dtx_soft.proofs.WritesLemmas.{four}
-use Rattle.dtx_pins.specs.Steps.{IsFirstLeast}
+
+-- the first of four numbers at which a function is least
+pub record IsFirstLeast (f : ℕ → ℕ) (k : ℕ) : Type 0 where
+  pub small : k < 4
+  pub least : (j : ℕ) → j < 4 → f k ≤ f j
+  pub first : (j : ℕ) → j < 4 → f j ≡ f k → k ≤ j
 
 -- the number, and what the function is there
 abbrev pub IsFound : (ℕ → ℕ) → ℕ → Type 0

@@ -8,7 +8,18 @@ use Rattle.dtx_soft.proofs.LeastPathLemmas.{next_small}
 use Rattle.dtx_soft.proofs.MovedLemmas.{distance-cons}
 use Rattle.dtx_pins.specs.Pins.{AgreesFrom, pair_of, pin_at}
 use Rattle.dtx_pins.specs.Steps.{IsBest, cost_at, level_by, square_of, through, told_number}
-use Rattle.dtx_pins.specs.Walks.{AreLeastCosts, IsLeastCost, IsLeastFrom}
+use Rattle.dtx_pins.specs.Walks.{AreLeastCosts, IsLeastCost}
+
+-- the least path that agrees, from a former Z2 and a state; of several, the first in order
+pub record IsLeastFrom (scale : ℕ) (pins : List ℕ) (symbols : List ℤ) (former state : ℕ)
+    (levels : List ℕ) : Type 0 where
+  pub long : length levels ≡ length symbols
+  pub path : IsPath state levels
+  pub agrees : AgreesFrom former pins levels
+  pub least : (others : List ℕ) → length others ≡ length symbols → IsPath state others → AgreesFrom former pins others
+      → cost scale symbols levels ≤ cost scale symbols others
+  pub first : (others : List ℕ) → length others ≡ length symbols → IsPath state others → AgreesFrom former pins others
+      → cost scale symbols others ≡ cost scale symbols levels → AreInOrder levels others
 
 pub cost-cons : (scale : ℕ) (v : ℤ) (symbols : List ℤ) (z : ℕ) (levels : List ℕ)
     → cost scale (v ∷ symbols) (z ∷ levels) ≡ squared v (symbol_at scale z) + cost scale symbols levels

@@ -10,9 +10,9 @@ use Rattle.dtx_pins.specs.LeastPinned.{IsLeastPinned}
 use Rattle.dtx_pins.specs.Pins.{AgreesFrom, pair_of, pin_at}
 use Rattle.dtx_pins.specs.Steps.{cost_at}
 use Rattle.dtx_pins.specs.Trace.{IsStart, state_of, x2_of}
-use Rattle.dtx_pins.specs.Walks.{AreLeastCosts, IsLeastFrom}
+use Rattle.dtx_pins.specs.Walks.{AreLeastCosts}
 use Rattle.dtx_pins.proofs.Agreements.{agrees_all, agrees_with_one}
-use Rattle.dtx_pins.proofs.PinnedPaths.{least_is}
+use Rattle.dtx_pins.proofs.PinnedPaths.{IsLeastFrom, least_is}
 
 -- ---- the state and the former Z2 of least cost
 

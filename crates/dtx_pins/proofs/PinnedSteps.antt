@@ -10,10 +10,10 @@ use Rattle.dtx_lists.proofs.Below.{at_below, holds_below}
 use Rattle.dtx_soft.specs.Paths.{next_state}
 use Rattle.dtx_soft.proofs.LeastPathLemmas.{next_small}
 use Rattle.dtx_soft.proofs.WritesLemmas.{four}
-use Rattle.dtx_pins.specs.Steps.{AreAtMost, AreBounded, IsBest, IsFirstLeast, cost_at, level_by, number_of}
+use Rattle.dtx_pins.specs.Steps.{AreAtMost, AreBounded, IsBest, cost_at, level_by, number_of}
 use Rattle.dtx_pins.specs.Steps.{pen_of, through, told_number}
 use Rattle.dtx_pins.specs.Weights.{AreMultiples, fare, weight}
-use Rattle.dtx_pins.proofs.FourNumbers.{told_by_least}
+use Rattle.dtx_pins.proofs.FourNumbers.{IsFirstLeast, told_by_least}
 
 -- ---- pens
 

@@ -13,8 +13,8 @@ use Rattle.dtx_pins.specs.PinnedField.{AreLeastPinned}
 use Rattle.dtx_pins.specs.Pins.{pin_at}
 use Rattle.dtx_pins.specs.Steps.{level_by, number_of}
 use Rattle.dtx_pins.specs.Trace.{IsNext, IsStand, IsStart, state_of}
-use Rattle.dtx_pins.specs.Walks.{AreLeastCosts, AreLeastSums, IsLeastFrom, IsMark}
-use Rattle.dtx_pins.proofs.PinnedPaths.{IsBestLevel, best_level, nothing_least, one_more}
+use Rattle.dtx_pins.specs.Walks.{AreLeastCosts, AreLeastSums, IsMark}
+use Rattle.dtx_pins.proofs.PinnedPaths.{IsBestLevel, IsLeastFrom, best_level, nothing_least, one_more}
 use Rattle.dtx_pins.proofs.PinnedStarts.{from_start}
 use Rattle.dtx_pins.proofs.PinnedUnits.{start_units}
 use Rattle.dtx_pins.proofs.PinnedWalks.{pin_here, pins_behind}

@@ -8,10 +8,14 @@ use Rattle.dtx_soft.specs.Paths.{next_state}
 use Rattle.dtx_soft.proofs.LeastPathLemmas.{next_small}
 use Rattle.dtx_soft.proofs.WritesLemmas.{four}
 use Rattle.dtx_pins.specs.declared.forth.Stand.{Stand}
-use Rattle.dtx_pins.specs.Steps.{IsBest, IsStep, IsStepAt, cost_at, level_by, number_of, square_of, through}
+use Rattle.dtx_pins.specs.Steps.{IsBest, IsStep, cost_at, level_by, number_of, square_of, through}
 use Rattle.dtx_pins.specs.Trace.{IsStart, state_of}
 use Rattle.dtx_pins.specs.Weights.{AreUnits, weight}
 use Rattle.dtx_pins.proofs.WeightTests.{IsWeighed, is_weighed}
+
+-- the step at a symbol
+abbrev pub IsStepAt : ℕ → ℤ → ℕ → List (List ℕ) → List (List ℕ) → ℕ → Type 0
+IsStepAt scale symbol pin old new mark = IsStep (square_of scale symbol) pin old new mark
 
 -- ---- orders
 

@@ -9,13 +9,13 @@ use Rattle.dtx_soft.specs.Paths.{next_state}
 use Rattle.dtx_soft.proofs.ColumnsLemmas.{length-column, symbol_in_column}
 use Rattle.dtx_soft.proofs.WritesLemmas.{by_entry}
 use Rattle.dtx_pins.specs.Pins.{coder_pins, pin_at}
-use Rattle.dtx_pins.specs.Steps.{AreBounded, IsBest, IsStep, IsStepAt, cost_at, level_by, number_of, square_of}
+use Rattle.dtx_pins.specs.Steps.{AreBounded, IsBest, IsStep, cost_at, level_by, number_of, square_of}
 use Rattle.dtx_pins.specs.Walks.{AreLeastCosts, AreLeastSums, AreWalked, IsLeastCost, IsMark}
 use Rattle.dtx_pins.specs.Weights.{AreMultiples, weight}
 use Rattle.dtx_soft.proofs.LeastPathLemmas.{next_small}
 use Rattle.dtx_pins.proofs.PinnedPaths.{IsBestLevel, best_level, cost_more, nothing_cost, onto}
 use Rattle.dtx_pins.proofs.PinnedPaths.{onto_through}
-use Rattle.dtx_pins.proofs.PinnedUnits.{AreStepUnits, step_units}
+use Rattle.dtx_pins.proofs.PinnedUnits.{AreStepUnits, IsStepAt, step_units}
 use Rattle.dtx_pins.proofs.WeightTests.{is_weighed}
 
 -- the pins of a coder

@@ -44,12 +44,6 @@ unfoldable pub pen_of : ℕ → ℕ → ℕ
 pen_of pin i =
     if nat_le 4 pin then 0 else (if (if nat_lt i 2 then pin else pin / 2) % 2 == i % 2 then 0 else 1400000000)
 
--- the first of four numbers at which a function is least
-pub record IsFirstLeast (f : ℕ → ℕ) (k : ℕ) : Type 0 where
-  pub small : k < 4
-  pub least : (j : ℕ) → j < 4 → f k ≤ f j
-  pub first : (j : ℕ) → j < 4 → f j ≡ f k → k ≤ j
-
 -- of the levels that may follow a state and give the pin's pair, the first that comes to the least
 pub record IsBest (level_cost : ℕ → ℕ) (pin : ℕ) (behind : List (List ℕ)) (former state k : ℕ) : Type 0 where
   pub small : k < 4
@@ -63,7 +57,3 @@ pub record IsBest (level_cost : ℕ → ℕ) (pin : ℕ) (behind : List (List �
 pub record IsStep (level_cost : ℕ → ℕ) (pin : ℕ) (old new : List (List ℕ)) (mark : ℕ) : Type 0 where
   pub best : (p s : ℕ) → p < 2 → s < 4 → IsBest level_cost pin old p s (number_of mark p s)
   pub costs : (p s : ℕ) → p < 2 → s < 4 → cost_at new p s ≡ through level_cost old s (number_of mark p s)
-
--- the step at a symbol
-abbrev pub IsStepAt : ℕ → ℤ → ℕ → List (List ℕ) → List (List ℕ) → ℕ → Type 0
-IsStepAt scale symbol pin old new mark = IsStep (square_of scale symbol) pin old new mark

@@ -1,6 +1,5 @@
 -- What the walk back keeps: the least costs of paths that agree with pins, and the marks.
 use Rattle.std.specs.Prelude.{ℕ, ℤ, pos, ◌≡◌, ◌+◌, ◌<◌, ◌≤◌, List, [], length, drop, slice_index, slice_index_or}
-use Rattle.dtx_soft.specs.Least.{AreInOrder}
 use Rattle.dtx_soft.specs.Paths.{IsPath, cost}
 use Rattle.dtx_pins.specs.Pins.{AgreesFrom, coder_pins, pin_at}
 use Rattle.dtx_soft.specs.Gaps.{column, unit}
@@ -18,17 +17,6 @@ pub record IsLeastCost (scale : ℕ) (pins : List ℕ) (symbols : List ℤ) (for
 abbrev pub AreLeastCosts : ℕ → List ℕ → List ℤ → List (List ℕ) → Type 0
 AreLeastCosts scale pins symbols costs =
     (p s : ℕ) → p < 2 → s < 4 → IsLeastCost scale pins symbols p s (cost_at costs p s)
-
--- the least path that agrees, from a former Z2 and a state; of several, the first in order
-pub record IsLeastFrom (scale : ℕ) (pins : List ℕ) (symbols : List ℤ) (former state : ℕ)
-    (levels : List ℕ) : Type 0 where
-  pub long : length levels ≡ length symbols
-  pub path : IsPath state levels
-  pub agrees : AgreesFrom former pins levels
-  pub least : (others : List ℕ) → length others ≡ length symbols → IsPath state others → AgreesFrom former pins others
-      → cost scale symbols levels ≤ cost scale symbols others
-  pub first : (others : List ℕ) → length others ≡ length symbols → IsPath state others → AgreesFrom former pins others
-      → cost scale symbols others ≡ cost scale symbols levels → AreInOrder levels others
 
 -- sums of weights that stand for the least costs
 pub record AreLeastSums (scale : ℕ) (pins : List ℕ) (symbols : List ℤ) (sums : List (List ℕ)) : Type 0 where
