@@ -1,6 +1,6 @@
 -- Segments whose symbols are set to those of paths, one behind the other.
-use Rattle.std.proofs.Common.{◌≡◌, ℕ, ℤ, pos, zero, suc, ◌+◌, ◌-◌, ◌*◌, ◌/◌, ◌%◌, ◌<◌, ◌≤◌, ◌⊎◌, inl, inr, Bool, true}
-use Rattle.std.proofs.Common.{cond, List, [], length, map, take, drop, get_or, set, sum, int_div, refl, sym, ap}
+use Rattle.std.proofs.Common.{◌≡◌, ℕ, ℤ, pos, zero, suc, ◌+◌, ◌-◌, ◌<◌, ◌≤◌, ◌⊎◌, inl, inr}
+use Rattle.std.proofs.Common.{cond, List, [], length, map, take, drop, get_or, set, sum, refl, sym, ap}
 use Rattle.std.proofs.Common.{◌∙◌, ap₂, arith}
 use Rattle.std.specs.Ordering.{int_eq}
 use Rattle.std.specs.List.{range_with_len}
@@ -10,37 +10,9 @@ use Rattle.std.proofs.lemmas.Grind.{get_or-set_at}
 use Rattle.std.proofs.lemmas.List.{get_or-append_right, get_or-drop, get_or-map, get_or-set_other, get_or-take}
 use Rattle.std.proofs.lemmas.List.{get_or_append_left, length-append, length-drop, length-map, length-take-le}
 use Rattle.std.proofs.lemmas.List.FromFn.{fill_by_all, get_or-map-range_with_len, length-map-range_with_len}
-use Rattle.dtx_lists.proofs.Below.{at_below, holds_below}
-use Rattle.dtx_trellis.specs.Trellis.{symbol_of}
-use Rattle.dtx_soft.specs.Paths.{symbol_at}
-use Rattle.dtx_acquire.specs.Scaled.{decided, scaled_level}
+use Rattle.dtx_acquire.specs.Scaled.{decided}
 use Rattle.dtx_rounds.specs.FieldRound.{on_path, on_paths}
 use Rattle.dtx_rounds.proofs.RangeSteps.{sum_next}
-
--- ---- a symbol at a scale
-
--- divided by the scale it is the symbol of its level
-abbrev is_quotient : ℕ → Bool
-is_quotient n =
-    int_eq (int_div (symbol_at (n / 8 + 1) (n % 8)) (pos (n / 8 + 1)))
-    (decided (n / 8 + 1) (symbol_at (n / 8 + 1) (n % 8)))
-
-all_are_quotients : holds_below is_quotient 144 ≡ true
-unfolding scaled_level symbol_at symbol_of
-all_are_quotients = refl
-
-pub quotient_is : (scale z : ℕ) (symbol : ℤ) → 0 < scale → scale < 19 → z < 8 → symbol ≡ symbol_at scale z
-    → int_div symbol (pos scale) ≡ decided scale symbol
-quotient_is scale z symbol some most small e =
-    let first : (8 * (scale - 1) + z) / 8 + 1 ≡ scale = omega arith in
-    let second : (8 * (scale - 1) + z) % 8 ≡ z = omega arith in
-    let there = (Decides-int_eq _ _).0
-    (at_below is_quotient 144 (8 * (scale - 1) + z) all_are_quotients (omega arith)) in
-    ap (λ s. int_div s (pos scale)) e
-    ∙ ap₂ (λ (c y : ℕ). int_div (symbol_at c y) (pos c)) (sym first) (sym second)
-    ∙ there
-    ∙ ap₂ (λ (c y : ℕ). decided c (symbol_at c y)) first second
-    ∙ ap (decided scale) (sym e)
 
 -- ---- a segment on a path
 

@@ -1,6 +1,6 @@
 //! The symbols of a field, decided under the pins of what is known.
 
-ghost use Rattle.std.specs.Prelude.{◌≡◌, ℕ, ◌*◌, ◌/◌, ◌≤◌, ◌<◌, if◌then◌else◌, [], length, slice_index_or, take};
+ghost use Rattle.std.specs.Prelude.{◌≡◌, ℕ, ◌+◌, ◌*◌, ◌/◌, ◌≤◌, ◌<◌, if◌then◌else◌, [], length, slice_index_or, take};
 ghost use Rattle.std.specs.Ordering.{int_eq};
 ghost use Rattle.dtx_soft.specs.Paths.{symbol_at};
 ghost use Rattle.dtx_acquire.specs.Scaled.{decided};
@@ -128,17 +128,32 @@ fn move_all(scale: u8, paths: &[[i8; SEGMENT]], segments: &mut [[i8; SEGMENT]]) 
     ensures moved { result ≡ rows_moved segments.old segments.new }
     ensures most { result ≤ SEGMENT * length paths.now }
 {
+    let reciprocal = reciprocal(scale);
     let mut moved = 0;
     for i in 0..paths.len() {
-        moved += move_symbols(scale, &paths[i], &mut segments[i]);
+        moved += move_symbols(scale, reciprocal, &paths[i], &mut segments[i]) as u64;
     }
     moved
 }
 
+/// By which a multiple of the scale is multiplied, and then divided by 256, in place of a division by the scale.
+fn reciprocal(scale: u8) -> u16
+    requires some { 0 < scale }
+    ensures { result ≡ (255 + scale) / scale }
+{
+    (255 + scale as u16) / scale as u16
+}
+
 /// The same for one segment.
-fn move_symbols(scale: u8, path: &[i8; SEGMENT], segment: &mut [i8; SEGMENT]) -> u64
+fn move_symbols(
+    scale: u8,
+    reciprocal: u16,
+    path: &[i8; SEGMENT],
+    segment: &mut [i8; SEGMENT],
+) -> u16
     requires some { 0 < scale }
     requires most { scale ≤ MAX_SCALE }
+    requires reciprocal { reciprocal ≡ (255 + scale) / scale }
     requires levels { IsOnLevels scale path.now }
     ensures segment { segment.new ≡ on_path scale path.now segment.old }
     ensures moved { result ≡ moved_in segment.old segment.new }
@@ -146,14 +161,14 @@ fn move_symbols(scale: u8, path: &[i8; SEGMENT], segment: &mut [i8; SEGMENT]) ->
 {
     let mut moved = 0;
     for k in SEGMENT_SYNC..SEGMENT {
-        moved += put_symbol(&mut segment[k], level_symbol(scale, path[k]));
+        moved += put_symbol(&mut segment[k], level_symbol(scale, reciprocal, path[k]));
     }
     moved
 }
 
 /// Puts a symbol in place of another one. Returns 1 where they differ, and 0 otherwise.
 #[inline(always)]
-fn put_symbol(place: &mut i8, symbol: i8) -> u64
+fn put_symbol(place: &mut i8, symbol: i8) -> u16
     ensures put { place.new ≡ symbol }
     ensures moved { result ≡ (if int_eq place.old symbol then 0 else 1) }
     ensures most { result ≤ 1 }
@@ -163,13 +178,16 @@ fn put_symbol(place: &mut i8, symbol: i8) -> u64
     moved
 }
 
-/// The symbol of the level of a path's symbol, which is at the scale.
+/// The symbol of the level of a path's symbol, which is at the scale. No symbol is divided by the scale, since a
+/// processor multiplies many at once, and divides one by one.
 #[inline(always)]
-fn level_symbol(scale: u8, symbol: i8) -> i8
+fn level_symbol(scale: u8, reciprocal: u16, symbol: i8) -> i8
     requires some { 0 < scale }
     requires most { scale ≤ MAX_SCALE }
+    requires reciprocal { reciprocal ≡ (255 + scale) / scale }
     requires level { (z : ℕ) × (z < 8) × (symbol ≡ symbol_at scale z) }
     ensures { result ≡ decided scale symbol }
 {
-    symbol / scale as i8
+    let steps = (symbol as i16 + 7 * scale as i16) as u16;
+    (steps * reciprocal / 256) as i8 - 7
 }

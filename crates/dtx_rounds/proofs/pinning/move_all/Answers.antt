@@ -10,14 +10,14 @@ use Rattle.dtx_rounds.proofs.pinning.move_all.Goals as goal
 pub loop-i-preserved : goal.loop-i-preserved
 loop-i-preserved c = record {
   written = written_set [] i (on_paths c.args.scale c.args.paths.now c.args.segments.now) c.args.segments.now
-      c.loop-i.segments c.move_symbols-moved.new.segment c.loop-i.invariant.written
+      c.loop-i.segments c.move_symbols.new.segment c.loop-i.invariant.written
       (omega (arith, c.loop-i.invariant.long))
       row;
-  moved = moved_next _ i c.loop-i.moved c.move_symbols-moved.result c.loop-i.invariant.moved
-      (c.move_symbols-moved.ensures.moved
+  moved = moved_next _ i c.loop-i.moved c.move_symbols.result c.loop-i.invariant.moved
+      (c.move_symbols.ensures.moved
       ∙ ap₂ moved_in was row);
   most = omega arith;
-  long = length-set c.loop-i.segments i c.move_symbols-moved.new.segment ∙ c.loop-i.invariant.long;
+  long = length-set c.loop-i.segments i c.move_symbols.new.segment ∙ c.loop-i.invariant.long;
 }
   where
     i : ℕ
@@ -26,9 +26,9 @@ loop-i-preserved c = record {
     was : get_or c.loop-i.segments i [] ≡ get_or c.args.segments.now i []
     was = c.loop-i.invariant.written.rest i (omega arith)
 
-    row : c.move_symbols-moved.new.segment ≡ get_or (on_paths c.args.scale c.args.paths.now c.args.segments.now) i []
+    row : c.move_symbols.new.segment ≡ get_or (on_paths c.args.scale c.args.paths.now c.args.segments.now) i []
     row =
-        c.move_symbols-moved.ensures.segment
+        c.move_symbols.ensures.segment
         ∙ ap (on_path c.args.scale (get_or c.args.paths.now i [])) was
         ∙ sym (on_paths_at c.args.scale i c.args.paths.now c.args.segments.now (omega (arith, c.requires.same)))
 
