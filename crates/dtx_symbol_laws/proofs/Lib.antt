@@ -3,6 +3,10 @@ pub mod AcquiredFile
 pub mod AcquiredRun
 pub mod AcquiredStream
 pub mod LevelledStream
+pub mod RefinedCounts
+pub mod RefinedFields
+pub mod RefinedPackets
+pub mod RefinedStream
 pub mod RepeatedFiles
 pub mod SoftBack
 pub mod SoftCoded

@@ -1,9 +1,10 @@
 //! Laws of the commands that read symbol files: `receive`, `mend`, `repeat`, `soft`, `level` and `acquire`. There is no
-//! engine here. Each law is about the meaning of a command.
+//! engine here. Each law is about the meaning of a command, or about rounds over what is acquired.
 #![tactic(auto)]
 
 pub mod acquire_laws;
 pub mod laws;
 pub mod level_laws;
+pub mod refine_laws;
 pub mod soft_laws;
 pub mod symbol_laws;
