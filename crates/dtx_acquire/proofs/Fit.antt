@@ -84,14 +84,15 @@ pub fit_given : {held : List ℤ} {gone : ℕ} {on : Bool} {symbols total scale 
     → total ≡ before + given → scale ≡ was → count ≡ given
     → cost ≡ path_cost was (segments_from held 0 given)
     → IsFit held gone on symbols total scale count cost
-fit_given {held} {gone} {was = was} {count = count} before room most few front within whole counted same many costs = record {
-  room = omega (arith, room, whole, within, counted, length-drop gone held);
-  most = most;
-  front = front;
-  few = few;
-  within = within;
-  whole = omega (arith, whole, within, many);
-  costs =
-      costs ∙ ap (λ n. path_cost was (segments_from held 0 n)) (sym many)
-      ∙ ap (λ n. path_cost n (segments_from held 0 count)) (sym same);
-}
+fit_given {held} {gone} {was = was} {count = count} before room most few front within whole counted same many
+    costs = record {
+      room = omega (arith, room, whole, within, counted, length-drop gone held);
+      most = most;
+      front = front;
+      few = few;
+      within = within;
+      whole = omega (arith, whole, within, many);
+      costs =
+          costs ∙ ap (λ n. path_cost was (segments_from held 0 n)) (sym many)
+          ∙ ap (λ n. path_cost n (segments_from held 0 count)) (sym same);
+    }

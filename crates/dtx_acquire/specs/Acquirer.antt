@@ -1,5 +1,6 @@
 -- An acquirer as contracts see it, and which symbols it stands for.
-use Rattle.std.specs.Prelude.{ℕ, ℤ, ◌≡◌, ◌+◌, ◌*◌, ◌<◌, ◌≤◌, Bool, true, false, if◌then◌else◌, List, [], ◌++◌, length, drop}
+use Rattle.std.specs.Prelude.{ℕ, ℤ, ◌≡◌, ◌+◌, ◌*◌, ◌<◌, ◌≤◌, Bool, true, false, if◌then◌else◌, List, [], ◌++◌}
+use Rattle.std.specs.Prelude.{length, drop}
 use Rattle.dtx_acquire.specs.Agreement.{agrees}
 use Rattle.dtx_acquire.specs.Acquired.{Field, cost_of, fields_where, path_cost, restored_of, runs_of, segments_from}
 use Rattle.dtx_acquire.specs.Acquired.{settled_fields}
@@ -19,8 +20,8 @@ pub record Holding : Type 0 where
   pub segments : ℕ
   pub cost : ℕ
 
--- What is true of an acquirer's fields: it holds symbols, of which the first `gone` are dropped before others are taken,
--- and gave `count` segments of them last, whose least paths cost this.
+-- What is true of an acquirer's fields. The first `gone` of the symbols that it holds are dropped before others are
+-- taken. The first `count` segments of them were given last, and their least paths cost `cost`.
 pub record IsFit (held : List ℤ) (gone : ℕ) (on : Bool) (symbols total scale count cost : ℕ) : Type 0 where
   pub room : 832 * total + length (drop gone held) ≤ symbols
   pub most : symbols ≤ 520832000000

@@ -1,6 +1,6 @@
 -- Laws of what `refine` makes. They stand in specs/, since the ghost members of an impl, a trait's laws, can cite
 -- lemmas from there only.
-use Rattle.std.proofs.Common.{◌≡◌, ◌++◌, ◌-◌, ◌*◌, ℕ, ℤ, List, [], length, take, ap, arith}
+use Rattle.std.proofs.Common.{◌≡◌, ◌-◌, ◌*◌, ℕ, [], length, take, ap, arith}
 use Rattle.std.specs.Prelude.{◌==◌}
 use Rattle.dtx_receiver.specs.Bytes.{bytes_in}
 use Rattle.dtx_acquire.specs.Acquired.{acquired, acquired_runs, acquired_so_far}
@@ -8,6 +8,7 @@ use Rattle.dtx_acquire.proofs.AcquiredLemmas.{none_so_far}
 use Rattle.dtx_rounds.specs.Known.{known_count}
 use Rattle.dtx_rounds.specs.Rounds.{heard_of, refined, refined_so_far, round_cost, round_moved}
 use Rattle.dtx_rounds.specs.Rounds.{settled_count}
+use Rattle.dtx_rounds.proofs.SoFarLemmas.{refined_grows}
 use Rattle.dtx_engine.specs.Recipe.{IsAnswerOf}
 use Rattle.dtx_meaning.specs.declared.status.Status.{Status}
 use Rattle.dtx_meaning.specs.declared.status.Status.TheVariants.{Done}
@@ -25,13 +26,9 @@ none_refined scale rounds =
     let none : length (acquired_so_far scale []) - 313 * rounds ≡ 0 = omega (arith, ap length (none_so_far scale)) in
     ap (λ n. take n (refined scale [] rounds)) none
 
-more_refined : (scale rounds : ℕ) (some more : List ℤ) → (others : List (List ℤ))
-    × (refined_so_far scale (some ++ more) rounds ≡ refined_so_far scale some rounds ++ others)
-more_refined scale rounds some more = ?
-
 -- what is made grows
 pub refines : (scale rounds : ℕ) → IsRestoring (with_refiner scale rounds)
-refines scale rounds = record { starts = none_refined scale rounds; grows = more_refined scale rounds }
+refines scale rounds = record { starts = none_refined scale rounds; grows = refined_grows scale rounds }
 
 -- each answer is one that the command may give
 pub refine_knows : (scale rounds : ℕ) (status : Status) → IsAnswerOf (refining scale rounds) status

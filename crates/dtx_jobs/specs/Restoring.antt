@@ -1,5 +1,5 @@
 -- What commands make of a capture that restore its segments.
-use Rattle.std.specs.Prelude.{◌≡◌, ◌++◌, ℕ, ℤ, true, List, [], vec_len}
+use Rattle.std.specs.Prelude.{◌≡◌, ◌++◌, ℕ, ℤ, true, List, []}
 use Rattle.dtx_engine.specs.Made.{only}
 use Rattle.dtx_engine.specs.Recipe.{Recipe}
 use Rattle.dtx_files.specs.Symbols.{segment_bytes}

@@ -1,6 +1,6 @@
 -- Laws of what restored segments make of a file. They stand in specs/, since the ghost members of an impl, a trait's
 -- laws, can cite lemmas from there only.
-use Rattle.std.proofs.Common.{◌≡◌, ◌≤◌, ℕ, ℤ, List, [], ◌++◌, refl, sym, ap, ◌∙◌, arith}
+use Rattle.std.proofs.Common.{◌≡◌, ℕ, ℤ, List, [], ◌++◌, refl, sym, ap, ◌∙◌}
 use Rattle.std.proofs.lemmas.List.{map-append}
 use Rattle.dtx_engine.specs.Made.{AreFrontsOf, only}
 use Rattle.dtx_files.proofs.AppendedLemmas.{segment_bytes-append}

@@ -15,6 +15,7 @@ use std::alloc::{AllocError, Global};
 pub(crate) const REFINED_BYTES: usize = SEGMENT * FIELD_SEGMENTS as usize * (MOST_ROUNDS + 1);
 
 impl Restorer<REFINED_BYTES> for Refiner {
+    ghost use Rattle.std.specs.Prelude.{length};
     ghost use Rattle.dtx_words.specs.declared.rows.Command.TheVariants as command;
     ghost use Rattle.dtx_jobs.specs.Refine.{IsRefining, with_refiner};
     ghost use Rattle.dtx_jobs.specs.RefineLaws.{refine_knows, refines};
@@ -27,7 +28,7 @@ impl Restorer<REFINED_BYTES> for Refiner {
 
     ghost stands = { IsRefining };
 
-    ghost held = { λ r. r.held };
+    ghost held = { λ r. length r.held };
 
     ghost given = { λ r. r.given };
 

@@ -1,26 +1,26 @@
 -- A refiner at the end of the symbols.
-use Rattle.std.proofs.Common.{◌≡◌, ℕ, ℤ, zero, suc, ◌+◌, ◌-◌, ◌*◌, ◌/◌, ◌<◌, ◌≤◌, Bool, true, false, cond, List, []}
-use Rattle.std.proofs.Common.{◌++◌, length, map, sum, take, drop, refl, sym, ap, ◌∙◌, subst, arith, length-append}
+use Rattle.std.proofs.Common.{◌≡◌, ℕ, ℤ, ◌+◌, ◌-◌, ◌*◌, ◌/◌, ◌<◌, ◌≤◌, Bool, true, false, cond, List, []}
+use Rattle.std.proofs.Common.{◌++◌, length, map, sum, take, refl, sym, ap, ◌∙◌, subst, arith, length-append}
 use Rattle.std.specs.List.{range_with_len}
-use Rattle.std.proofs.lemmas.List.{append-nil, append_assoc, append_cancel_left}
-use Rattle.std.proofs.lemmas.List.{take-append-drop, take_all}
+use Rattle.std.proofs.lemmas.List.{append-nil, append_assoc, append_cancel_left, take_all}
 use Rattle.dtx_receiver.specs.Bytes.{bytes_in}
 use Rattle.dtx_acquire.specs.Acquired.{acquired, acquired_rest, acquired_runs, acquired_so_far, heard_rest}
 use Rattle.dtx_acquire.specs.Acquired.{heard_so_far}
 use Rattle.dtx_acquire.specs.Acquirer.{Holding}
 use Rattle.dtx_acquire.proofs.AcquiredLemmas.{all_is_acquired, all_is_heard, length-heard_so_far}
 use Rattle.dtx_rounds.specs.FieldRound.{words_known}
-use Rattle.dtx_rounds.specs.Fields.{AreSegments, rows_of}
+use Rattle.dtx_rounds.specs.Fields.{rows_of}
 use Rattle.dtx_rounds.specs.Known.{known_count}
 use Rattle.dtx_rounds.specs.Rounds.{fields_in, heard_of, refined, refined_rest, refined_so_far, round_cost}
-use Rattle.dtx_rounds.specs.Rounds.{round_moved, rounds_of, settled_count}
+use Rattle.dtx_rounds.specs.Rounds.{round_moved, settled_count}
 use Rattle.dtx_rounds.specs.RunField.{IsRounded}
 use Rattle.dtx_rounds.specs.declared.field.Field.{Field}
-use Rattle.dtx_rounds.proofs.RefinedLemmas.{length-rounded, rounded_long}
+use Rattle.dtx_rounds.proofs.SoFarLemmas.{all_is_refined, length-refined}
 use Rattle.dtx_refine.specs.Passes.{ArePassed, HasEndedOne, HasTaken, IsField, given_of}
 use Rattle.dtx_refine.specs.Refiner.{HasEnded, HasStepped, IsOver, Refining, StandsFor, refining}
 use Rattle.dtx_refine.specs.declared.passes.Passes.{Passes}
 use Rattle.dtx_refine.proofs.Pieces.{field_last}
+use Rattle.dtx_refine.proofs.Takes.{waiting_then}
 use Rattle.dtx_refine.proofs.Steps.{given_few, given_next, given_none}
 
 -- ---- the last field
@@ -31,8 +31,13 @@ field_ended : (acquirer : Holding) (symbols : List ℤ) (t : ℕ)
     → length acquirer.heard ≡ length acquirer.given → 0 < length acquirer.given → IsField acquirer symbols t
 unfolding heard_of
 field_ended acquirer symbols t given heard long few same l = record {
-  within = omega (arith, long, l, ap length segments,
-      length-append (acquired_so_far acquirer.scale symbols) acquirer.given);
+  within = omega (
+    arith,
+    long,
+    l,
+    ap length segments,
+    length-append (acquired_so_far acquirer.scale symbols) acquirer.given,
+  );
   given_are = sym (ap (λ xs. rows_of xs t) segments
       ∙ field_last t (acquired_so_far acquirer.scale symbols) acquirer.given long few);
   heard_are = sym (ap (λ xs. rows_of xs t) received
@@ -68,7 +73,7 @@ pub record HasEndedSymbols (acquirer now_acquirer : Holding) (passes now_passes 
 
 module _ (a b : Holding) (p q : Passes) (ended : Bool) (symbols : List ℤ)
     (was : StandsFor (refining a p ended) symbols) (h : HasEndedSymbols a b p q symbols) where
-  fields : ℕ
+  abbrev fields : ℕ
   fields = fields_in b.given
 
   long_before : length (acquired_so_far b.scale symbols) ≡ 313 * was.taken
@@ -79,8 +84,13 @@ module _ (a b : Holding) (p q : Passes) (ended : Bool) (symbols : List ℤ)
 
   fields_now : was.taken + fields ≡ fields_in (acquired b.scale symbols)
   fields_now =
-      omega (arith, long_before, ap length (all_is_acquired b.scale symbols),
-      length-append (acquired_so_far b.scale symbols) (acquired_rest b.scale symbols), ap length given_rest)
+      omega (
+        arith,
+        long_before,
+        ap length (all_is_acquired b.scale symbols),
+        length-append (acquired_so_far b.scale symbols) (acquired_rest b.scale symbols),
+        ap length given_rest,
+      )
 
   taken_now : HasTaken b.scale symbols was.taken fields p q
   taken_now =
@@ -99,7 +109,7 @@ module _ (a b : Holding) (p q : Passes) (ended : Bool) (symbols : List ℤ)
         ∙ ap (λ n. take (313 * q.numbers.done) (refined b.scale symbols n)) (sym h.count_is);
     runs_are = h.runs_are;
     segments_are = h.segments_are ∙ ap (λ s. length (acquired s symbols)) (sym h.scale_is);
-    few = omega (arith, ap (λ e. cond e 0 313) was.going, was.few, h.held, h.count_is);
+    few = omega (arith, waiting_then ended was.going, was.few, h.held, h.count_is);
   }
     where
       count_before : length (acquired_so_far b.scale symbols) - 313 * q.count ≡ 313 * p.numbers.done
@@ -124,31 +134,6 @@ ended_next a p q ended symbols before was one count held = record {
 }
 
 -- ---- all segments
-
-rounds_same : (scale r : ℕ) (heard given : List (List ℤ)) → length (rounds_of scale heard given r) ≡ length given
-unfolding rounds_of
-rounds_same scale zero heard given = refl
-rounds_same scale (suc r) heard given =
-    length-rounded scale heard (rounds_of scale heard given r) ∙ rounds_same scale r heard given
-
-rounds_long : (scale r : ℕ) (heard given : List (List ℤ)) → AreSegments given → length heard ≡ length given
-    → AreSegments (rounds_of scale heard given r)
-unfolding rounds_of
-rounds_long scale zero heard given long same = long
-rounds_long scale (suc r) heard given long same =
-    rounded_long scale heard (rounds_of scale heard given r) (rounds_long scale r heard given long same)
-    (same ∙ sym (rounds_same scale r heard given))
-
--- the segments after each round: as many as were received, of 832 symbols
-pub refined_same : (scale r : ℕ) (symbols : List ℤ)
-    → length (refined scale symbols r) ≡ length (acquired scale symbols)
-unfolding refined
-refined_same scale r symbols = rounds_same scale r (heard_of symbols) (acquired scale symbols)
-
-pub refined_long : (scale r : ℕ) (symbols : List ℤ) → AreSegments (acquired scale symbols)
-    → length (heard_of symbols) ≡ length (acquired scale symbols) → AreSegments (refined scale symbols r)
-unfolding refined
-refined_long scale r symbols long same = rounds_long scale r (heard_of symbols) (acquired scale symbols) long same
 
 -- the numbers of a round, by those of its fields
 pub record AreSums (scale : ℕ) (heard given : List (List ℤ)) : Type 0 where
@@ -181,7 +166,7 @@ over a p ended symbols done h sums = record {
     last = refined a.scale symbols (p.count - 1)
 
     all : p.numbers.done ≡ fields_in last
-    all = done ∙ ap (λ n. (n + 312) / 313) (sym (refined_same a.scale (p.count - 1) symbols))
+    all = done ∙ ap (λ n. (n + 312) / 313) (sym (length-refined a.scale (p.count - 1) symbols))
 
     each : (f : ℕ) → f < fields_in last → IsRounded a.scale (heard_of symbols) last f (h.counted.field f)
     each f l = h.counted.rounded f (omega (arith, l, all))
@@ -190,16 +175,12 @@ over a p ended symbols done h sums = record {
 pub rest_is : (refiner : Refining) (symbols : List ℤ) (before : List (List ℤ)) → HasEnded refiner symbols before
     → refiner.passes.numbers.done ≡ fields_in (acquired refiner.scale symbols)
     → before ≡ refined_rest refiner.scale symbols refiner.rounds
-unfolding refined_so_far refined_rest
 rest_is refiner symbols before h done =
-    append_cancel_left (take (settled_count refiner.scale symbols refiner.rounds) segments) before
-    (drop (settled_count refiner.scale symbols refiner.rounds) segments)
-    (h.given_are ∙ take_all (313 * refiner.passes.numbers.done) segments
-    (omega (arith, done, refined_same refiner.scale refiner.rounds symbols))
-    ∙ sym (take-append-drop (settled_count refiner.scale symbols refiner.rounds) segments))
-  where
-    segments : List (List ℤ)
-    segments = refined refiner.scale symbols refiner.rounds
+    append_cancel_left (refined_so_far refiner.scale symbols refiner.rounds) before
+    (refined_rest refiner.scale symbols refiner.rounds)
+    (h.given_are ∙ take_all (313 * refiner.passes.numbers.done) (refined refiner.scale symbols refiner.rounds)
+    (omega (arith, done, length-refined refiner.scale refiner.rounds symbols))
+    ∙ sym (all_is_refined refiner.scale refiner.rounds symbols))
 
 -- ---- what a step does to the numbers
 
@@ -218,9 +199,9 @@ pub stepped_end : (a b : Holding) (p q : Passes) (ended : Bool) → ended ≡ fa
 stepped_end a b p q ended going scale symbols count most still = record {
   few = given_few q;
   none = given_none q;
-  waiting = waits q (313 * p.held + cond ended 0 313) 0 (omega (arith, ap (λ e. cond e 0 313) going, most))
-      (λ e. omega (arith, ap (λ e. cond e 0 313) going, still e));
-  fewer = λ e. omega (arith, ap (λ e. cond e 0 313) going, still e);
+  waiting = waits q (313 * p.held + cond ended 0 313) 0 (omega (arith, waiting_then ended going, most))
+      (λ e. omega (arith, waiting_then ended going, still e));
+  fewer = λ e. omega (arith, waiting_then ended going, still e);
   scale = scale;
   rounds = count;
   symbols = symbols;

@@ -1,5 +1,5 @@
 -- One field more that goes through the rounds, and one that they give.
-use Rattle.std.proofs.Common.{◌≡◌, ℕ, ℤ, ◌+◌, ◌-◌, ◌*◌, ◌<◌, ◌≤◌, Bool, true, false, cond, leb, List, [], ◌∷◌}
+use Rattle.std.proofs.Common.{◌≡◌, ℕ, ℤ, ◌+◌, ◌-◌, ◌*◌, ◌<◌, ◌≤◌, Bool, true, false, cond, List, [], ◌∷◌}
 use Rattle.std.proofs.Common.{◌++◌, length, take, drop, refl, sym, ap, ◌∙◌, subst, arith}
 use Rattle.std.proofs.lemmas.Bool.{leb-false, leb-true, true≢false}
 use Rattle.std.proofs.lemmas.List.{append-nil, drop-drop, length-take}
@@ -12,7 +12,6 @@ use Rattle.dtx_rounds.specs.MadeRounds.{AreFinished, AreMade, AreTaken}
 use Rattle.dtx_rounds.specs.Rounds.{fields_in, groups_in, heard_of, refined}
 use Rattle.dtx_rounds.specs.RunField.{IsRounded}
 use Rattle.dtx_rounds.specs.RunRounds.{IsGiven}
-use Rattle.dtx_rounds.specs.declared.field.Field.{Field}
 use Rattle.dtx_rounds.proofs.GivenLemmas.{given_last, given_segments}
 use Rattle.dtx_refine.specs.Passes.{AreCounted, ArePassed, HasEndedOne, HasGiven, HasTaken, IsAdded, given_of}
 use Rattle.dtx_refine.specs.declared.passes.Passes.{Passes}
@@ -144,19 +143,19 @@ module _ (scale t : ℕ) (symbols : List ℤ) (old new : Passes) (h : ArePassed 
       none : old.numbers.done + 0 ≡ old.numbers.done
       none = omega arith
 
-  pub idle : new.gives ≡ false → new.held ≡ old.held → new.numbers ≡ old.numbers → new.rounds ≡ old.rounds
-      → HasTaken scale symbols t 0 old new
-  idle gives held numbers rounds = record {
-    given = gave_none scale (t + 0) symbols old new t h gives count numbers
+  pub idle : (n : ℕ) → n ≡ 0 → new.gives ≡ false → new.held ≡ old.held → new.numbers ≡ old.numbers
+      → new.rounds ≡ old.rounds → HasTaken scale symbols t n old new
+  idle n is gives held numbers rounds = record {
+    given = gave_none scale (t + n) symbols old new t h gives count numbers
         (subst (λ n. AreMade scale (heard_of symbols) (acquired scale symbols) old.count n old.numbers.done new.rounds)
         none (subst (AreMade scale (heard_of symbols) (acquired scale symbols) old.count t old.numbers.done)
         (sym rounds) h.made))
-        (omega (arith, held, h.all));
-    waits = λ e. ap (λ x. x.done) numbers ∙ omega (arith, e);
+        (omega (arith, held, h.all, is));
+    waits = λ e. ap (λ x. x.done) numbers ∙ omega (arith, e, is);
   }
     where
-      none : t ≡ t + 0
-      none = omega arith
+      none : t ≡ t + n
+      none = omega (arith, is)
 
 -- ---- the end
 

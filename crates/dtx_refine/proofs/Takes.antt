@@ -1,15 +1,15 @@
 -- A refiner that takes symbols.
-use Rattle.std.proofs.Common.{◌≡◌, ℕ, ℤ, ◌+◌, ◌-◌, ◌*◌, ◌/◌, ◌<◌, ◌≤◌, ◌⊎◌, inl, inr, Bool, true, false, cond}
+use Rattle.std.proofs.Common.{◌≡◌, ℕ, ℤ, ◌+◌, ◌-◌, ◌*◌, ◌<◌, ◌≤◌, ◌⊎◌, inl, inr, Bool, true, false, cond}
 use Rattle.std.proofs.Common.{List, [], ◌++◌, length, take, refl, sym, ap, ◌∙◌, subst, arith, length-append}
+use Rattle.std.proofs.lemmas.Bool.{cond-false}
 use Rattle.std.proofs.lemmas.List.{append-nil, append_assoc}
-use Rattle.dtx_acquire.specs.Acquired.{acquired, acquired_rest, acquired_so_far, all_fields, heard_in, heard_rest}
-use Rattle.dtx_acquire.specs.Acquired.{heard_so_far}
+use Rattle.dtx_acquire.specs.Acquired.{acquired, acquired_so_far, heard_so_far}
 use Rattle.dtx_acquire.specs.Acquirer as acquirers
 use Rattle.dtx_acquire.specs.Acquirer.{Holding}
-use Rattle.dtx_acquire.proofs.AcquiredLemmas.{all_is_acquired, all_is_heard, heard_grows, length-heard_so_far}
-use Rattle.dtx_acquire.proofs.AcquiredLemmas.{so_far_grows}
+use Rattle.dtx_acquire.proofs.AcquiredLemmas.{length-heard_so_far}
 use Rattle.dtx_rounds.specs.Fields.{rows_of}
 use Rattle.dtx_rounds.specs.Rounds.{fields_in, heard_of, refined, refined_so_far, settled_count}
+use Rattle.dtx_rounds.proofs.SoFarLemmas.{acquired_ahead, heard_ahead}
 use Rattle.dtx_refine.specs.Passes.{ArePassed, HasTaken, IsField, given_of}
 use Rattle.dtx_refine.specs.Refiner.{StandsFor, refining}
 use Rattle.dtx_refine.specs.declared.passes.Passes.{Passes}
@@ -18,27 +18,6 @@ use Rattle.dtx_refine.proofs.Steps.{given_few, given_next, given_none}
 
 -- ---- the field that the acquirer gave
 
-front_acquired : (scale : ℕ) (s more : List ℤ)
-    → (others : List (List ℤ)) × (acquired scale (s ++ more) ≡ acquired_so_far scale s ++ others)
-front_acquired scale s more =
-    let found = so_far_grows scale s more in (
-      found.0 ++ acquired_rest scale (s ++ more),
-      sym (all_is_acquired scale (s ++ more))
-          ∙ ap (λ xs. xs ++ acquired_rest scale (s ++ more)) found.1
-          ∙ append_assoc (acquired_so_far scale s) found.0 (acquired_rest scale (s ++ more)),
-    )
-
-front_heard : (s more : List ℤ)
-    → (others : List (List ℤ)) × (heard_of (s ++ more) ≡ heard_so_far s ++ others)
-unfolding heard_of
-front_heard s more =
-    let found = heard_grows s more in (
-      found.0 ++ heard_rest (s ++ more),
-      sym (all_is_heard (s ++ more))
-          ∙ ap (λ xs. xs ++ heard_rest (s ++ more)) found.1
-          ∙ append_assoc (heard_so_far s) found.0 (heard_rest (s ++ more)),
-    )
-
 -- the field that came of more symbols, in every capture that goes on from there
 field_taken : (acquirer : Holding) (before now more : List ℤ) (t : ℕ)
     → acquired_so_far acquirer.scale now ≡ acquired_so_far acquirer.scale before ++ acquirer.given
@@ -46,9 +25,14 @@ field_taken : (acquirer : Holding) (before now more : List ℤ) (t : ℕ)
     → length (acquired_so_far acquirer.scale before) ≡ 313 * t → length acquirer.given ≡ 313
     → length acquirer.heard ≡ length acquirer.given → IsField acquirer (now ++ more) t
 field_taken acquirer before now more t so_far heard long whole same = record {
-  within = omega (arith, long, whole, ap length segments,
-      length-append (acquired_so_far acquirer.scale before ++ acquirer.given) a.0,
-      length-append (acquired_so_far acquirer.scale before) acquirer.given);
+  within = omega (
+    arith,
+    long,
+    whole,
+    ap length segments,
+    length-append (acquired_so_far acquirer.scale before ++ acquirer.given) a.0,
+    length-append (acquired_so_far acquirer.scale before) acquirer.given,
+  );
   given_are = sym (ap (λ xs. rows_of xs t) segments
       ∙ field_behind t (acquired_so_far acquirer.scale before) acquirer.given a.0 long whole);
   heard_are = sym (ap (λ xs. rows_of xs t) (h.1 ∙ ap (λ xs. xs ++ h.0) heard)
@@ -58,14 +42,14 @@ field_taken acquirer before now more t so_far heard long whole same = record {
   where
     a : (others : List (List ℤ)) × (acquired acquirer.scale (now ++ more)
         ≡ acquired_so_far acquirer.scale now ++ others)
-    a = front_acquired acquirer.scale now more
+    a = acquired_ahead acquirer.scale now more
 
     segments : acquired acquirer.scale (now ++ more)
         ≡ (acquired_so_far acquirer.scale before ++ acquirer.given) ++ a.0
     segments = a.1 ∙ ap (λ xs. xs ++ a.0) so_far
 
     h : (others : List (List ℤ)) × (heard_of (now ++ more) ≡ heard_so_far now ++ others)
-    h = front_heard now more
+    h = heard_ahead now more
 
 -- ---- the refiner
 
@@ -83,9 +67,13 @@ pub record HasTakenSymbols (acquirer now_acquirer : Holding) (passes now_passes 
   pub scale_is : now_acquirer.scale ≡ acquirer.scale
   pub count_is : now_passes.count ≡ passes.count
 
+-- how many segments more can wait before the end of the symbols
+pub waiting_then : (ended : Bool) → ended ≡ false → ◌≡◌ {A = ℕ} (cond ended 0 313) 313
+waiting_then ended e = cond-false ended 0 313 e
+
 module _ (a b : Holding) (p q : Passes) (ended : Bool) (before more : List ℤ)
     (was : StandsFor (refining a p ended) before) (h : HasTakenSymbols a b p q before (before ++ more)) where
-  fields : ℕ
+  abbrev fields : ℕ
   fields = fields_in b.given
 
   long_given : length b.given ≡ 313 * fields
@@ -129,8 +117,13 @@ module _ (a b : Holding) (p q : Passes) (ended : Bool) (before more : List ℤ)
     long = ap (λ s. length (acquired_so_far s (before ++ more))) h.scale_is ∙ long_now;
     passed = λ others. (taken_all others).given.passed;
     done = taken_now.waits was.done ∙ ap (λ n. was.taken + fields - n) (sym h.count_is);
-    few = omega (arith, ap (λ e. cond e 0 313) was.going, taken_now.given.passed.all, taken_now.waits was.done,
-        h.count_is);
+    few = omega (
+      arith,
+      waiting_then ended was.going,
+      taken_now.given.passed.all,
+      taken_now.waits was.done,
+      h.count_is,
+    );
   }
 
   pub given_now : (refined_so_far a.scale before p.count
@@ -165,9 +158,3 @@ given_within p given some whole = by_answer p.gives refl whole
     by_answer true e (inl none) = absurd (omega (arith, some e, ap length none))
     by_answer true e (inr all) = omega (arith, all, given_few p)
     by_answer false e h = omega (arith, ap length (given_none p e))
-
--- What is refined of first symbols, whatever follows, is a front part of what is refined of more.
-pub refined_grows : (scale r : ℕ) (symbols more : List ℤ)
-    → refined_so_far scale symbols r
-    ≡ take (length (acquired_so_far scale symbols) - 313 * r) (refined scale (symbols ++ more) r)
-refined_grows scale r symbols more = ?

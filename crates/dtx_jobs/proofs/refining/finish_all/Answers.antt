@@ -1,4 +1,4 @@
-use Rattle.std.proofs.Common.{◌≡◌, ◌++◌, ◌⊎◌, ℕ, ℤ, List, [], length, inl, inr, ap, sym, refl, ◌∙◌, subst, arith}
+use Rattle.std.proofs.Common.{◌≡◌, ◌++◌, ◌⊎◌, ℕ, ℤ, List, [], length, inl, inr, ap, sym, refl, ◌∙◌, arith}
 use Rattle.dtx_files.proofs.AppendedLemmas.{segment_bytes-append}
 use Rattle.dtx_files.specs.Symbols.{segment_bytes}
 use Rattle.dtx_refine.specs.Refiner.{IsEnding, Refining, StandsFor}
@@ -31,7 +31,7 @@ pub loop-gathered-preserved : goal.loop-gathered-preserved
 loop-gathered-preserved c =
     let old = c.loop-gathered.refiner in
     let bytes = c.loop-gathered.gathered in
-    let given = c.finish.new.refiner.given in
+    let given = c.finish.new.self.given in
     let inv = c.loop-gathered.invariant in
     record {
       ending = λ symbols is.

@@ -1,8 +1,8 @@
-use Rattle.std.proofs.Common.{ℤ, List, length, ap, sym, subst, ◌∙◌, arith}
+use Rattle.std.proofs.Common.{ℤ, List, ap, sym, subst, ◌∙◌, arith}
 use Rattle.std.proofs.lemmas.List.{length-map, map-append}
 use Rattle.dtx_engine.specs.Made.{only}
 use Rattle.dtx_files.specs.Symbols.{segment_bytes}
-use Rattle.dtx_jobs.specs.Restoring.{Restoring, restoring_by}
+use Rattle.dtx_jobs.specs.Restoring.{restoring_by}
 use Rattle.dtx_jobs.specs.SymbolFile.{symbol_of_byte, symbols}
 use Rattle.dtx_jobs.proofs.acquisition.AcquisitionEngine.feed.Goals as goal
 

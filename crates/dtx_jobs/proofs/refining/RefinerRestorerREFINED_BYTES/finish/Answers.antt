@@ -1,5 +1,5 @@
-use Rattle.std.proofs.Common.{ap, ap₂, length, ◌∙◌}
-use Rattle.dtx_jobs.specs.Refine.{refined_answer, with_refiner}
+use Rattle.std.proofs.Common.{ap₂}
+use Rattle.dtx_jobs.specs.Refine.{with_refiner}
 use Rattle.dtx_jobs.proofs.refining.RefinerRestorerREFINED_BYTES.finish.Goals as goal
 
 pub returns-clause-rest : goal.returns-clause-rest

@@ -1,6 +1,8 @@
 use Rattle.std.proofs.Common.{refl}
 use Rattle.dtx_acquire.specs.Acquired.{acquired}
 use Rattle.dtx_rounds.specs.Rounds.{heard_of}
+use Rattle.dtx_rounds.proofs.RefinedLemmas.{length-heard}
+use Rattle.dtx_rounds.proofs.WholeLemmas.{long_acquired}
 use Rattle.dtx_refine.proofs.Steps.{kept, took}
 use Rattle.dtx_refine.proofs.passes.Passes.pass.Goals as goal
 
@@ -9,8 +11,8 @@ returns-then-self-clause-taken c = λ symbols t h is.
     let scale = c.args.acquirer.now.scale in
     took scale t symbols c.args.self.now _ h refl c.take-self.result
     (c.take-self.ensures.taken scale c.args.self.now.count t c.args.self.now.numbers.done (heard_of symbols)
-    (acquired scale symbols) (c.a_capture_begins_as_it_was_acquired.ensures.long scale symbols h.some h.most)
-    (c.a_capture_begins_as_it_was_acquired.ensures.same scale symbols) is.within h.made
+    (acquired scale symbols) (long_acquired scale symbols)
+    (length-heard scale symbols) is.within h.made
     (c.set.ensures symbols t h.some h.most is))
     c.if-self.true c.if-self.true refl c.add.ensures
 
@@ -19,7 +21,7 @@ returns-else-self-clause-taken c = λ symbols t h is.
     let scale = c.args.acquirer.now.scale in
     kept scale t symbols c.args.self.now _ h refl c.take-self.result
     (c.take-self.ensures.taken scale c.args.self.now.count t c.args.self.now.numbers.done (heard_of symbols)
-    (acquired scale symbols) (c.a_capture_begins_as_it_was_acquired.ensures.long scale symbols h.some h.most)
-    (c.a_capture_begins_as_it_was_acquired.ensures.same scale symbols) is.within h.made
+    (acquired scale symbols) (long_acquired scale symbols)
+    (length-heard scale symbols) is.within h.made
     (c.set.ensures symbols t h.some h.most is))
     c.if-self.false c.if-self.false refl refl

@@ -1,7 +1,8 @@
 use Rattle.std.proofs.Common.{◌-◌, sym, ap, ◌∙◌, subst, arith}
 use Rattle.dtx_rounds.specs.Rounds.{heard_of, refined}
+use Rattle.dtx_rounds.proofs.SoFarLemmas.{refined_long}
 use Rattle.dtx_refine.specs.Refiner.{HasEnded, HasStepped, Refining, refining}
-use Rattle.dtx_refine.proofs.Ends.{AreSums, ended_next, over, refined_long, stepped_next}
+use Rattle.dtx_refine.proofs.Ends.{AreSums, ended_next, over, stepped_next}
 use Rattle.dtx_refine.proofs.refiner.Refiner.next.Goals as goal
 
 pub returns-clause-ended : goal.returns-clause-ended
@@ -16,12 +17,9 @@ returns-clause-all c = λ symbols before h e.
     let was = subst (λ (x : Refining). HasEnded x symbols before) (sym c.self.view_is) h in
     let one = c.next.ensures.ended scale symbols was.passed in
     let last = refined scale symbols (c.next.new.self.count - 1) in
-    let long = refined_long scale (c.next.new.self.count - 1) symbols
-    (c.a_capture_begins_as_it_was_acquired.ensures.long scale symbols was.passed.some was.passed.most)
-    (c.a_capture_begins_as_it_was_acquired.ensures.same scale symbols) in
     let sums : AreSums scale (heard_of symbols) last = record {
       known = λ field each. c.the_numbers_of_a_round_are_those_of_its_fields.ensures.known scale (heard_of symbols)
-          last field long each;
+          last field (refined_long scale (c.next.new.self.count - 1) symbols) each;
       cost = c.the_numbers_of_a_round_are_those_of_its_fields.ensures.cost scale (heard_of symbols) last;
       moved = c.the_numbers_of_a_round_are_those_of_its_fields.ensures.moved scale (heard_of symbols) last;
     } in

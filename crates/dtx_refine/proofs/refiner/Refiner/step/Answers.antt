@@ -1,18 +1,20 @@
-use Rattle.std.proofs.Common.{◌++◌, true, refl, sym, ap, ◌∙◌, subst}
+use Rattle.std.proofs.Common.{◌++◌, sym, ap, ◌∙◌, subst}
 use Rattle.std.proofs.lemmas.Bool.{true≢false}
 use Rattle.dtx_refine.specs.Refiner.{HasEnded, HasStepped, Refining}
 use Rattle.dtx_refine.proofs.Ends.{stepped_two}
 use Rattle.dtx_refine.proofs.refiner.Refiner.step.Goals as goal
 
 pub returns-then-self-clause-ended : goal.returns-then-self-clause-ended
-returns-then-self-clause-ended c = λ symbols before h. c.next.ensures.ended symbols before (h.over c.next.requires)
+returns-then-self-clause-ended c = λ symbols before h.
+    c.next.ensures.ended symbols before (h.over (sym (ap (λ (x : Refining). x.ended) c.self.view_is) ∙ c.if-self.true))
 
 pub returns-then-self-clause-all : goal.returns-then-self-clause-all
-returns-then-self-clause-all c = λ symbols before h e. c.next.ensures.all symbols before (h.over c.next.requires) e
+returns-then-self-clause-all c = λ symbols before h e.
+    c.next.ensures.all symbols before (h.over (sym (ap (λ (x : Refining). x.ended) c.self.view_is) ∙ c.if-self.true)) e
 
 pub returns-then-end-clause-ended : goal.returns-then-end-clause-ended
 returns-then-end-clause-ended c = λ symbols before h.
-    let was = h.going c.end.requires in
+    let was = h.going (sym (ap (λ (x : Refining). x.ended) c.self.view_is) ∙ c.if-self.false) in
     subst (λ xs. HasEnded c.end.new.self symbols (xs ++ c.end.new.self.given)) (sym was.1)
     (c.end.ensures.ended symbols was.0)
 
@@ -25,14 +27,14 @@ returns-then-end-clause-stepped c =
 
 pub returns-else-end-clause-ended : goal.returns-else-end-clause-ended
 returns-else-end-clause-ended c = λ symbols before h.
-    let was = h.going c.end.requires in
+    let was = h.going (sym (ap (λ (x : Refining). x.ended) c.self.view_is) ∙ c.if-self.false) in
     c.next-else-end.ensures.ended symbols before
     (subst (λ xs. HasEnded c.end.new.self symbols xs) (c.end.ensures.stepped.none c.if-end.false ∙ sym was.1)
     (c.end.ensures.ended symbols was.0))
 
 pub returns-else-end-clause-all : goal.returns-else-end-clause-all
 returns-else-end-clause-all c = λ symbols before h e.
-    let was = h.going c.end.requires in
+    let was = h.going (sym (ap (λ (x : Refining). x.ended) c.self.view_is) ∙ c.if-self.false) in
     c.next-else-end.ensures.all symbols before
     (subst (λ xs. HasEnded c.end.new.self symbols xs) (c.end.ensures.stepped.none c.if-end.false ∙ sym was.1)
     (c.end.ensures.ended symbols was.0)) e

@@ -1,8 +1,9 @@
 use Rattle.std.proofs.Common.{ℤ, ◌≡◌, ◌+◌, ◌≤◌, List, ◌++◌, length, take, sym, ap, ◌∙◌, subst, arith}
 use Rattle.dtx_rounds.specs.Rounds.{refined_so_far}
+use Rattle.dtx_rounds.proofs.SoFarLemmas.{refined_front}
 use Rattle.dtx_refine.specs.Passes.{given_of}
 use Rattle.dtx_refine.specs.Refiner.{Refining, StandsFor, refining}
-use Rattle.dtx_refine.proofs.Takes.{HasTakenSymbols, few_whole, given_now, given_within, refined_grows, stands_now}
+use Rattle.dtx_refine.proofs.Takes.{HasTakenSymbols, few_whole, given_now, given_within, stands_now}
 use Rattle.dtx_refine.proofs.refiner.Refiner.take.Goals as goal
 
 -- the refiner by its parts
@@ -41,12 +42,16 @@ returns-clause-given c = λ before h.
     ≡ refined_so_far x.scale before x.rounds ++ given_of c.take.new.self) c.self.view_is
     (given_now c.self.inside.acquirer c.take-count.new.self c.self.inside.passes c.take.new.self c.self.inside.ended
     before more (stood c before h) (took c before h)
-    (refined_grows c.self.inside.acquirer.scale c.self.inside.passes.count before more))
+    (refined_front c.self.inside.acquirer.scale c.self.inside.passes.count before more))
 
 pub returns-clause-room : goal.returns-clause-room
 returns-clause-room c =
-    omega (arith, c.take-count.ensures.room, ap (λ (x : Refining). length x.held) c.self.view_is,
-    given_within c.take.new.self c.take-count.new.self.given c.take.ensures.some c.take-count.ensures.whole)
+    omega (
+      arith,
+      c.take-count.ensures.room,
+      ap (λ (x : Refining). length x.held) c.self.view_is,
+      given_within c.take.new.self c.take-count.new.self.given c.take.ensures.some c.take-count.ensures.whole,
+    )
 
 pub returns-clause-scale : goal.returns-clause-scale
 returns-clause-scale c = c.take-count.ensures.scale ∙ ap (λ (x : Refining). x.scale) c.self.view_is
@@ -69,15 +74,32 @@ take-requires-clause-few c = few_whole c.take-count.new.self.given c.take-count.
 
 pub take-requires-clause-room : goal.take-requires-clause-room
 take-requires-clause-room c =
-    omega (arith, subst (λ (x : Refining). x.symbols + length c.args.symbols.now ≤ 520832000000) (sym c.self.view_is)
-    c.requires.most, c.self.invariant.0, c.self.invariant.2, c.take-count.ensures.total, c.take-count.ensures.room,
-    c.take-count.ensures.within)
+    omega (
+      arith,
+      subst (λ (x : Refining). x.symbols + length c.args.symbols.now ≤ 520832000000) (sym c.self.view_is)
+          c.requires.most,
+      c.self.invariant.0,
+      c.self.invariant.2,
+      c.take-count.ensures.total,
+      c.take-count.ensures.room,
+      c.take-count.ensures.within,
+    )
 
 pub invariant_of-self : goal.invariant_of-self
 invariant_of-self c = (
-  omega (arith, c.self.invariant.0, c.take-count.ensures.total, c.take-count.ensures.room,
-      c.take-count.ensures.symbols),
-  omega (arith, subst (λ (x : Refining). x.symbols + length c.args.symbols.now ≤ 520832000000) (sym c.self.view_is)
-      c.requires.most, c.take-count.ensures.symbols, c.take-count.ensures.within),
+  omega (
+    arith,
+    c.self.invariant.0,
+    c.take-count.ensures.total,
+    c.take-count.ensures.room,
+    c.take-count.ensures.symbols,
+  ),
+  omega (
+    arith,
+    subst (λ (x : Refining). x.symbols + length c.args.symbols.now ≤ 520832000000) (sym c.self.view_is)
+        c.requires.most,
+    c.take-count.ensures.symbols,
+    c.take-count.ensures.within,
+  ),
   omega (arith, c.self.invariant.2, c.take-count.ensures.total, c.take.ensures.total),
 )
