@@ -28,11 +28,12 @@ use Rattle.dtx_jobs.specs.Code.{coding}
 use Rattle.dtx_jobs.specs.Excite.{exciting}
 use Rattle.dtx_jobs.specs.Mend.{mending_symbols}
 use Rattle.dtx_jobs.specs.Receive.{receiving}
+use Rattle.dtx_jobs.specs.Refine.{refining}
 use Rattle.dtx_words.specs.Fitting.{is_name}
 use Rattle.dtx_words.specs.Names.{repeated}
 use Rattle.dtx_words.specs.Number.{at_least, number_in, number_within}
 use Rattle.dtx_words.specs.declared.rows.Command.TheVariants.{Acquire, Adapt, Code, DvbCode, DvbRead, Excite, Mend}
-use Rattle.dtx_words.specs.declared.rows.Command.TheVariants.{Receive}
+use Rattle.dtx_words.specs.declared.rows.Command.TheVariants.{Receive, Refine}
 use Rattle.dtx_file_laws.proofs.Answered.{IsRead}
 
 -- ---- words without numbers
@@ -122,10 +123,16 @@ spelled most n small le =
     ((bytes_eq-Decides (decimal n) (decimal (digits_value 10 (decimal n)))).1 (ap decimal (sym value)))
     (le-leb (digits_value 10 (decimal n)) most (omega (arith, value, le)))) ∙ ap Some value
 
+-- so is that of a number from 1 on
+spelled_within : (most n : ℕ) → most < 2 ^ 64 → 0 < n → n ≤ most → number_within 1 most (decimal n) ≡ Some n
+spelled_within most n small some le =
+    ap (at_least 1) (spelled most n small le) ∙ cond-true (nat_le 1 n) (Some n) None (le-leb 1 n some)
+
 spelled_scale : (scale : ℕ) → 0 < scale → scale ≤ 18 → number_within 1 18 (decimal scale) ≡ Some scale
-spelled_scale scale some most =
-    ap (at_least 1) (spelled 18 scale (omega arith) most)
-    ∙ cond-true (nat_le 1 scale) (Some scale) None (le-leb 1 scale some)
+spelled_scale scale some most = spelled_within 18 scale (omega arith) some most
+
+spelled_rounds : (rounds : ℕ) → 0 < rounds → rounds ≤ 32 → number_within 1 32 (decimal rounds) ≡ Some rounds
+spelled_rounds rounds some most = spelled_within 32 rounds (omega arith) some most
 
 pub acquire_read : (words : List (List ℕ)) (scale : ℕ) (input output : List ℕ) (held : Files)
     → words ≡ codes "acquire" ∷ decimal scale ∷ input ∷ output ∷ [] → 0 < scale → scale ≤ 18
@@ -139,6 +146,22 @@ acquire_read words scale input output held is some most =
       fits = refl;
       reads = ap (λ number. captured single_bytes (λ scale rounds. acquiring scale) number (Some 1) input output held)
           (spelled_scale scale some most);
+    })
+
+pub refine_read : (words : List (List ℕ)) (scale rounds : ℕ) (input output : List ℕ) (held : Files)
+    → words ≡ codes "refine" ∷ decimal scale ∷ decimal rounds ∷ input ∷ output ∷ [] → 0 < scale → scale ≤ 18
+    → 0 < rounds → rounds ≤ 32
+    → IsRead words (is_some (number_within 1 18 (decimal scale))
+    && (is_some (number_within 1 32 (decimal rounds)) && (is_name input && (is_name output && true)))) Refine
+    (bytes_eq input output) single_bytes (refining scale rounds) 0 (output ∷ []) input held
+refine_read words scale rounds input output held is some most one many =
+    subst (λ (ws : List (List ℕ)). IsRead ws (is_some (number_within 1 18 (decimal scale))
+    && (is_some (number_within 1 32 (decimal rounds)) && (is_name input && (is_name output && true)))) Refine
+    (bytes_eq input output) single_bytes (refining scale rounds) 0 (output ∷ []) input held) (sym is)
+    (record {
+      fits = refl;
+      reads = ap₂ (λ s r. captured single_bytes refining s r input output held) (spelled_scale scale some most)
+          (spelled_rounds rounds one many);
     })
 
 pub excite_read : (words : List (List ℕ)) (address delay : ℕ) (input output log : List ℕ) (held : Files)
@@ -173,6 +196,14 @@ pub acquire_named : (scale : ℕ) (input output : List ℕ) → 0 < scale → sc
     → (is_some (number_within 1 18 (decimal scale)) && (is_name input && (is_name output && true))) ≡ true
 acquire_named scale input output some most in_named out_named =
     and_from _ _ (ap is_some (spelled_scale scale some most)) (both_named input output in_named out_named)
+
+pub refine_named : (scale rounds : ℕ) (input output : List ℕ) → 0 < scale → scale ≤ 18 → 0 < rounds → rounds ≤ 32
+    → input ≢ [] → output ≢ []
+    → (is_some (number_within 1 18 (decimal scale))
+    && (is_some (number_within 1 32 (decimal rounds)) && (is_name input && (is_name output && true)))) ≡ true
+refine_named scale rounds input output some most one many in_named out_named =
+    and_from _ _ (ap is_some (spelled_scale scale some most))
+    (and_from _ _ (ap is_some (spelled_rounds rounds one many)) (both_named input output in_named out_named))
 
 pub adapt_read : (words : List (List ℕ)) (plan input output bytes : List ℕ) (said : Plan) (held : Files)
     → words ≡ codes "adapt" ∷ plan ∷ input ∷ output ∷ [] → get held plan ≡ Some bytes → plan_of bytes ≡ Ok said

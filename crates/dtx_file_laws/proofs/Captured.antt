@@ -1,10 +1,9 @@
--- A capture whose samples lie near a stream's symbols, and what `acquire` answers and writes of it.
+-- A capture whose samples lie near a stream's symbols, and what is answered and written of it.
 use Rattle.std.proofs.Common.{◌≡◌, ◌≢◌, ℕ, ℤ, zero, suc, pos, ◌+◌, ◌*◌, ◌<◌, ◌≤◌, List, [], ◌++◌}
 use Rattle.std.proofs.Common.{length, take, drop, get_or, refl, sym, ap, ◌∙◌, subst, arith}
 use Rattle.std.specs.Prelude.{◌-ℤ◌, ◌*ℤ◌, nat_abs}
 use Rattle.std.proofs.Math.Seq.{take-add}
 use Rattle.std.proofs.lemmas.List.{drop-drop, get_or-map, length-map, map-append, take_all}
-use Rattle.dtx_acquire.specs.Acquired.{acquired}
 use Rattle.dtx_acquire.specs.Sent.{AreNear}
 use Rattle.dtx_coder.proofs.CountsLemmas.{length-a53}
 use Rattle.dtx_coder.specs.Stream.{a53, a53_symbols, symbols_of}
@@ -13,10 +12,12 @@ use Rattle.dtx_engine.specs.Recipe.{meaning_of_file}
 use Rattle.dtx_files.specs.Symbols.{byte_of_symbol, segment_bytes}
 use Rattle.dtx_forms.specs.Shapes.{single_bytes}
 use Rattle.dtx_meaning.specs.Meaning.{Meaning}
+use Rattle.dtx_meaning.specs.declared.status.Outcome.{Outcome}
+use Rattle.dtx_meaning.specs.declared.status.Status.TheVariants.{Done}
 use Rattle.dtx_repeated_feed.specs.DoneWith.{IsDoneWith}
-use Rattle.dtx_symbol_laws.specs.AcquiredFile.{acquired_of, file_acquired}
-use Rattle.dtx_jobs.specs.Acquire.{acquiring}
+use Rattle.dtx_symbol_laws.specs.RestoredFile.{restored_with}
 use Rattle.dtx_jobs.proofs.StreamBackLemmas.{length-symbol_bytes, stream_read_back}
+use Rattle.dtx_jobs.specs.Restoring.{Restoring, restoring_by}
 use Rattle.dtx_jobs.specs.SymbolFile.{segment_at, segments_from, symbol_of_byte, symbols, whole_segments}
 use Rattle.dtx_jobs.specs.Symbols.{symbol_bytes}
 use Rattle.dtx_file_laws.specs.Damaged.{IsNoisy}
@@ -80,17 +81,17 @@ pub stream_bytes : (packets : List (List ℕ)) → segment_bytes (a53 packets) �
 unfolding a53_symbols
 stream_bytes packets = refl
 
-pub acquired_with : (names : List (List ℕ)) (scale : ℕ) (packets : List (List ℕ)) (file : List ℕ)
-    → 4 ≤ length packets → acquired scale (symbols file) ≡ a53 packets
-    → (file_acquired scale file ≢ []
-    → meaning_of_file single_bytes (acquiring scale) names file ≡ acquired_of scale names file)
-    → IsDoneWith names (only (symbol_bytes packets)) (meaning_of_file single_bytes (acquiring scale) names file)
-acquired_with names scale packets file some is means =
-    let found : file_acquired scale file ≢ [] = λ none.
+pub restored_as : (restoring : Restoring) (names packets : List (List ℕ)) (file : List ℕ) (all : List (List ℤ))
+    (outcome : Outcome) → outcome.status ≡ Done → 4 ≤ length packets → all ≡ a53 packets
+    → (all ≢ [] → meaning_of_file single_bytes (restoring_by restoring) names file ≡ restored_with names outcome all)
+    → IsDoneWith names (only (symbol_bytes packets))
+    (meaning_of_file single_bytes (restoring_by restoring) names file)
+restored_as restoring names packets file all outcome done some is means =
+    let found : all ≢ [] = λ none.
     let nothing : length (a53 packets) ≡ 0 = ap length (sym is ∙ none) in
     omega (arith, nothing, length-a53 packets, some) in
     record {
-      done = ap (λ (m : Meaning). m.outcome.status) (means found);
+      done = ap (λ (m : Meaning). m.outcome.status) (means found) ∙ done;
       outputs = ap (λ (m : Meaning). m.outputs) (means found)
           ∙ ap (λ (segments : List (List ℤ)). outputs_of names (only (segment_bytes segments))) is
           ∙ ap (λ (bytes : List ℕ). outputs_of names (only bytes)) (stream_bytes packets);

@@ -1,8 +1,8 @@
 -- What is acquired is received as one run, and read back from its file.
-use Rattle.std.proofs.Common.{◌≡◌, ◌≢◌, ℕ, ℤ, suc, ◌+◌, ◌-◌, ◌%◌, ◌<◌, ◌⊎◌, inl, inr, ◌==◌, ◌↔◌, Bool, true}
+use Rattle.std.proofs.Common.{◌≡◌, ◌≢◌, ℕ, ℤ, suc, ◌+◌, ◌-◌, ◌%◌, ◌<◌, ◌⊎◌, inl, inr, ◌==◌, Bool, true}
 use Rattle.std.proofs.Common.{false, List, [], ◌∷◌, length, map, get_or, pos, negsuc, cond, refl, sym, ap}
 use Rattle.std.proofs.Common.{ap₂, ◌∙◌, subst, arith}
-use Rattle.std.proofs.lemmas.Bool.{cases_eq, cond-false, cond-true, eq-eqb, ne_eqb}
+use Rattle.std.proofs.lemmas.Bool.{cases_eq}
 use Rattle.std.proofs.lemmas.List.{length-append, length-map, take_all}
 use Rattle.dtx_trellis.specs.Trellis.{symbol_of}
 use Rattle.dtx_frame.proofs.AlikeLemmas.{looks_alike}
@@ -13,14 +13,8 @@ use Rattle.dtx_coder.proofs.CountsLemmas.{AreSegments}
 use Rattle.dtx_receiver.specs.Intervals.{AreRuns, IsRun, looks_at, segments_in}
 use Rattle.dtx_receiver.proofs.IntervalsLemmas.{are_runs, only_runs}
 use Rattle.dtx_receiver.specs.Runs.{runs}
-use Rattle.dtx_acquire.specs.Acquired.{acquired, acquired_cost, acquired_runs}
 use Rattle.dtx_acquire.specs.Sent.{AreInFields, AreLevels, IsData, IsSync}
-use Rattle.dtx_meaning.specs.Status.{ended}
-use Rattle.dtx_meaning.specs.declared.status.Outcome.{Outcome}
-use Rattle.dtx_meaning.specs.declared.status.Status.{Status}
-use Rattle.dtx_meaning.specs.declared.status.Status.TheVariants.{Done, NoSync}
 use Rattle.dtx_files.specs.Symbols.{segment_bytes}
-use Rattle.dtx_jobs.specs.Acquire.{acquire_answer, acquired_answer, acquired_numbers}
 use Rattle.dtx_jobs.specs.SymbolFile.{file_segments}
 use Rattle.dtx_jobs.proofs.SymbolsBackLemmas.{AreBack, EachBack, IsBack, each_append, level_back, segments_read_back}
 
@@ -119,30 +113,3 @@ all_back (x ∷ s) h = ((h 0 (omega arith)).1, all_back s (λ i l. h (suc i) (om
 
 pub fields_read_back : (s : List (List ℤ)) → AreInFields s → file_segments (segment_bytes s) ≡ s
 fields_read_back s h = segments_read_back s (all_long s (row_back s h)) (all_back s (row_back s h))
-
--- ---- the answer
-
-status_is : (n r count cost : ℕ) → ((acquired_answer n r count cost).status ≡ NoSync) ↔ (r ≡ 0)
-status_is n r count cost = (
-  λ e. by_runs e (cases_eq r 0),
-  λ e. ap (λ (o : Outcome). o.status) (cond-true (r == 0) (ended NoSync) some (eq-eqb r 0 e)),
-)
-  where
-    some : Outcome
-    some = record { status = Done; numbers = acquired_numbers n r count cost; shown = 5 }
-
-    done_none : ◌≡◌ {A = Status} Done NoSync → ⊥
-    done_none e = cc
-
-    by_runs : (acquired_answer n r count cost).status ≡ NoSync → (r ≡ 0) ⊎ (r ≢ 0) → r ≡ 0
-    by_runs e (inl z) = z
-    by_runs e (inr z) =
-        absurd (done_none (sym (ap (λ (o : Outcome). o.status) (cond-false (r == 0) (ended NoSync) some
-        (ne_eqb r 0 z))) ∙ e))
-
-pub no_sync : (scale : ℕ) (symbols : List ℤ) → (acquired_runs symbols ≡ 0) ↔ (acquired scale symbols ≡ [])
-    → ((acquire_answer scale symbols).status ≡ NoSync) ↔ (acquired scale symbols ≡ [])
-no_sync scale symbols h =
-    let is = status_is (length symbols) (acquired_runs symbols) (length (acquired scale symbols))
-    (acquired_cost scale symbols) in
-    (λ e. h.0 (is.0 e), λ e. is.1 (h.1 e))

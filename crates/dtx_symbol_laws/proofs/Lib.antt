@@ -5,9 +5,11 @@ pub mod AcquiredStream
 pub mod LevelledStream
 pub mod RefinedCounts
 pub mod RefinedFields
+pub mod RefinedFile
 pub mod RefinedPackets
 pub mod RefinedStream
 pub mod RepeatedFiles
+pub mod RestoredFile
 pub mod SoftBack
 pub mod SoftCoded
 pub mod SoftFields

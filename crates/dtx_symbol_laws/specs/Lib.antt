@@ -1,5 +1,5 @@
-pub mod AcquiredFile
 pub mod LevelledStream
 pub mod RefinedPackets
 pub mod RepeatedFiles
+pub mod RestoredFile
 pub mod SoftFields

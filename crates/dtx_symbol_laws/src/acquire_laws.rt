@@ -11,10 +11,10 @@ ghost use Rattle.dtx_meaning.specs.declared.status.Status.TheVariants.{NoSync};
 ghost use Rattle.dtx_engine.specs.Recipe.{meaning_of_file};
 ghost use Rattle.dtx_files.specs.Symbols.{segment_bytes};
 ghost use Rattle.dtx_forms.specs.Shapes as shapes;
-ghost use Rattle.dtx_jobs.specs.Acquire.{acquire_answer, acquiring};
+ghost use Rattle.dtx_jobs.specs.Acquire.{acquire_answer, acquiring, with_acquirer};
 ghost use Rattle.dtx_jobs.specs.Giving.{no_sync_in};
 ghost use Rattle.dtx_jobs.specs.SymbolFile.{file_segments};
-ghost use Rattle.dtx_symbol_laws.specs.AcquiredFile.{acquired_of, acquired_until, file_acquired};
+ghost use Rattle.dtx_symbol_laws.specs.RestoredFile.{acquired_of, file_acquired, restored_until};
 
 use dtx_acquire::laws::{
     a_small_error_moves_nothing, silence_moves_nothing, whole_fields_are_acquired,
@@ -35,7 +35,8 @@ pub fn all_is_acquired_of_a_file()
         → file_acquired scale file ≡ []
         → meaning_of_file shapes.single_bytes (acquiring scale) names file ≡ no_sync_in names }
     ensures too_long { (names : List (List ℕ)) (scale : ℕ) (file : List ℕ) → MOST_SYMBOLS < length file
-        → meaning_of_file shapes.single_bytes (acquiring scale) names file ≡ acquired_until scale names file }
+        → meaning_of_file shapes.single_bytes (acquiring scale) names file
+        ≡ restored_until (with_acquirer scale) names file }
     ensures front { (scale : ℕ) (symbols : List ℤ) (n : ℕ)
         → (rest : List (List ℤ)) × (acquired scale symbols ≡ acquired_so_far scale (take n symbols) ++ rest) }
 {

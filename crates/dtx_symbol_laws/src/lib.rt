@@ -1,5 +1,5 @@
-//! Laws of the commands that read symbol files: `receive`, `mend`, `repeat`, `soft`, `level` and `acquire`. There is no
-//! engine here. Each law is about the meaning of a command, or about rounds over what is acquired.
+//! Laws of the commands that read symbol files: `receive`, `mend`, `repeat`, `soft`, `level`, `acquire` and `refine`.
+//! There is no engine here. Each law is about the meaning of a command, or about what is acquired or refined.
 #![tactic(auto)]
 
 pub mod acquire_laws;

@@ -9,16 +9,18 @@ ghost use Rattle.dtx_file_laws.specs.Back.{CanBeCoded, IsGivenBack, IsReadBack};
 ghost use Rattle.dtx_file_laws.specs.Damaged.{IsBurst, IsGap, IsNoisy, SparesSyncs};
 ghost use Rattle.dtx_file_laws.specs.Told.{Holds};
 
-use crate::laws::acquiring::a_noisy_capture_is_acquired;
+use crate::laws::acquiring::{a_noisy_capture_is_acquired, a_noisy_capture_is_refined};
 use crate::laws::air::{a_stream_is_coded, bursts_come_back, what_was_coded_is_received};
 use crate::laws::calls::{
     run_of_acquire, run_of_code, run_of_dvb_code, run_of_dvb_read, run_of_mend, run_of_receive,
+    run_of_refine,
 };
 use crate::laws::dvb_bytes::a_burst_is_read;
 use dtx_outside::{Shelf, Sink, Word};
 use dtx_packet_jobs::laws::dvb_streams::all_is_sent;
 use dtx_sizes::{GROUP_PACKETS, MOST_PACKETS};
 use dtx_symbol_laws::acquire_laws::{a_stream_is_acquired, all_is_acquired_of_a_file};
+use dtx_symbol_laws::refine_laws::{a_stream_is_refined, all_is_refined_of_a_file};
 use dtx_top::Status;
 use std::alloc::Global;
 
@@ -131,6 +133,32 @@ pub fn run_of_code_and_acquire<S: Shelf, R: Shelf, O: Sink>(
     let sent = run_of_code(alloc, words.0, sender, out);
     let acquired = run_of_acquire(alloc, words.1, receiver, out);
     (sent, acquired)
+}
+
+/// Runs `code IN SENT` over a sender's files, and then `refine SCALE ROUNDS GOT OUT` over a receiver's. Let both answer
+/// `Done`. If each sample of GOT differs from SCALE times the symbol of SENT by less than SCALE, OUT is SENT, byte for
+/// byte.
+pub fn run_of_code_and_refine<S: Shelf, R: Shelf, O: Sink>(
+    alloc: Global,
+    words: &(&[Word], &[Word]),
+    sender: &mut S,
+    receiver: &mut R,
+    out: &mut O,
+) -> (Status, Status)
+    ensures { (input sent got output stream symbols file : List ℕ) (scale rounds : ℕ)
+        → words.now.0.now ≡ codes "code" ∷ input ∷ sent ∷ []
+        → words.now.1.now ≡ codes "refine" ∷ decimal scale ∷ decimal rounds ∷ got ∷ output ∷ []
+        → 0 < scale → scale ≤ 18 → 0 < rounds → rounds ≤ 32 → AreBytes stream
+        → Holds (S.files sender.old) input stream → result.0 ≡ Status.Done → Holds (S.files sender.new) sent symbols
+        → IsNoisy scale symbols file → Holds (R.files receiver.old) got file → result.1 ≡ Status.Done
+        → Holds (R.files receiver.new) output symbols }
+{
+    a_noisy_capture_is_refined();
+    a_stream_is_refined();
+    all_is_refined_of_a_file();
+    let sent = run_of_code(alloc, words.0, sender, out);
+    let refined = run_of_refine(alloc, words.1, receiver, out);
+    (sent, refined)
 }
 
 /// Runs `dvb code IN SENT` over a sender's files, and then `dvb read GOT OUT` over a receiver's. Let both answer

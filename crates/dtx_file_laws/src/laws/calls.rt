@@ -19,6 +19,7 @@ ghost use Rattle.dtx_jobs.specs.Code.{coding};
 ghost use Rattle.dtx_jobs.specs.Excite.{exciting};
 ghost use Rattle.dtx_jobs.specs.Mend.{mending_symbols};
 ghost use Rattle.dtx_jobs.specs.Receive.{receiving};
+ghost use Rattle.dtx_jobs.specs.Refine.{refining};
 ghost use Rattle.dtx_words.specs.Line.{done_line};
 ghost use Rattle.dtx_words.specs.Printed.{printed};
 ghost use Rattle.dtx_words.specs.declared.rows.Command.TheVariants as command;
@@ -158,6 +159,30 @@ pub fn run_of_acquire<S: Shelf, O: Sink>(
         → input ≢ [] → output ≢ [] → input ≢ output
         → IfSome (S.files shelf.old) (λ held. get held input ≡ Some file
         → (result ≡ (meaning_of_file shapes.single_bytes (acquiring scale) (output ∷ []) file).outcome.status)
+        ⊎ IsFault result) }
+{
+    run(alloc, words, shelf, out)
+}
+
+/// `refine SCALE ROUNDS IN OUT`: the meaning of IN's samples is done, and OUT holds its output.
+pub fn run_of_refine<S: Shelf, O: Sink>(
+    alloc: Global,
+    words: &[Word],
+    shelf: &mut S,
+    out: &mut O,
+) -> Status
+    ensures done { (scale rounds : ℕ) (input output file : List ℕ)
+        → words.now ≡ codes "refine" ∷ decimal scale ∷ decimal rounds ∷ input ∷ output ∷ []
+        → 0 < scale → scale ≤ 18 → 0 < rounds → rounds ≤ 32
+        → IfSome (S.files shelf.old) (λ held. get held input ≡ Some file → result ≡ Status.Done
+        → IsAnswered (meaning_of_file shapes.single_bytes (refining scale rounds) (output ∷ []) file) (Some held)
+        result (S.files shelf.new)) }
+    ensures answer { (scale rounds : ℕ) (input output file : List ℕ)
+        → words.now ≡ codes "refine" ∷ decimal scale ∷ decimal rounds ∷ input ∷ output ∷ []
+        → 0 < scale → scale ≤ 18 → 0 < rounds → rounds ≤ 32
+        → input ≢ [] → output ≢ [] → input ≢ output
+        → IfSome (S.files shelf.old) (λ held. get held input ≡ Some file
+        → (result ≡ (meaning_of_file shapes.single_bytes (refining scale rounds) (output ∷ []) file).outcome.status)
         ⊎ IsFault result) }
 {
     run(alloc, words, shelf, out)

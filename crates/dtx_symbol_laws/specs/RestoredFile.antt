@@ -1,0 +1,67 @@
+-- What `acquire` and `refine` answer and write for whole files (the profile's own).
+use Rattle.std.specs.Prelude.{ℕ, ℤ, List, length, take}
+use Rattle.dtx_receiver.specs.Bytes.{bytes_in}
+use Rattle.dtx_acquire.specs.Acquired.{acquired, acquired_cost, acquired_runs}
+use Rattle.dtx_rounds.specs.Known.{known_count}
+use Rattle.dtx_rounds.specs.Rounds.{heard_of, refined, round_cost, round_moved}
+use Rattle.dtx_engine.specs.Made.{only, outputs_of}
+use Rattle.dtx_files.specs.Symbols.{segment_bytes}
+use Rattle.dtx_meaning.specs.Meaning.{Meaning}
+use Rattle.dtx_meaning.specs.Status.{ended}
+use Rattle.dtx_meaning.specs.declared.status.Outcome.{Outcome}
+use Rattle.dtx_meaning.specs.declared.status.Status.TheVariants.{Done, TooLong}
+use Rattle.dtx_sizes.specs.declared.limits.TheConstants.{MOST_SYMBOLS}
+use Rattle.dtx_jobs.specs.Acquire.{acquired_numbers}
+use Rattle.dtx_jobs.specs.Refine.{before_last, refined_numbers}
+use Rattle.dtx_jobs.specs.Restoring.{Restoring}
+use Rattle.dtx_jobs.specs.SymbolFile.{symbols}
+
+-- ---- both
+
+-- an answer, and the segments that OUT holds
+abbrev pub restored_with : List (List ℕ) → Outcome → List (List ℤ) → Meaning
+restored_with names outcome segments = record {
+  outcome = outcome;
+  outputs = outputs_of names (only (segment_bytes segments));
+}
+
+-- What is answered and written for a file of more than MOST_SYMBOLS bytes: the answer is `TooLong`. OUT is what the
+-- first MOST_SYMBOLS symbols give while they come.
+abbrev pub restored_until : Restoring → List (List ℕ) → List ℕ → Meaning
+restored_until restoring names file =
+    restored_with names (ended TooLong) (restoring.so_far (take MOST_SYMBOLS (symbols file)))
+
+-- ---- `acquire`
+
+-- the segments that are acquired of a file; each byte is a symbol
+abbrev pub file_acquired : ℕ → List ℕ → List (List ℤ)
+file_acquired scale file = acquired scale (symbols file)
+
+-- what `acquire` answers and writes for a file of which something is acquired
+abbrev pub acquired_of : ℕ → List (List ℕ) → List ℕ → Meaning
+acquired_of scale names file =
+    restored_with names (record {
+      status = Done;
+      numbers = acquired_numbers (length file) (acquired_runs (symbols file)) (length (file_acquired scale file))
+          (acquired_cost scale (symbols file));
+      shown = 5;
+    }) (file_acquired scale file)
+
+-- ---- `refine`
+
+-- the segments of a file after so many rounds; each byte is a symbol
+abbrev pub file_refined : ℕ → ℕ → List ℕ → List (List ℤ)
+file_refined scale rounds file = refined scale (symbols file) rounds
+
+-- What `refine` answers and writes for a file of which something is refined. The cost, the words known and the
+-- symbols moved are those of the last round, over what it was given.
+abbrev pub refined_of : ℕ → ℕ → List (List ℕ) → List ℕ → Meaning
+refined_of scale rounds names file =
+    restored_with names (record {
+      status = Done;
+      numbers = refined_numbers (length file) (acquired_runs (symbols file)) (length (file_refined scale rounds file))
+          (round_cost scale (heard_of (symbols file)) (before_last scale rounds (symbols file)))
+          (known_count (bytes_in (before_last scale rounds (symbols file))))
+          (round_moved scale (heard_of (symbols file)) (before_last scale rounds (symbols file)));
+      shown = 7;
+    }) (file_refined scale rounds file)
