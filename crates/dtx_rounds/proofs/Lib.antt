@@ -36,3 +36,5 @@ pub mod UnknownFields
 pub mod FrontFields
 pub mod WholeLemmas
 pub mod SoFarLemmas
+pub mod MovedRounds
+pub mod CostSums
