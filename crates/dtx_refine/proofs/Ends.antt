@@ -1,6 +1,6 @@
 -- A refiner at the end of the symbols.
 use Rattle.std.proofs.Common.{◌≡◌, ℕ, ℤ, ◌+◌, ◌-◌, ◌*◌, ◌/◌, ◌<◌, ◌≤◌, Bool, true, false, cond, List, []}
-use Rattle.std.proofs.Common.{◌++◌, length, map, sum, take, drop, refl, sym, ap, ◌∙◌, subst, arith, length-append}
+use Rattle.std.proofs.Common.{◌++◌, length, map, sum, take, refl, sym, ap, ◌∙◌, subst, arith, length-append}
 use Rattle.std.specs.List.{range_with_len}
 use Rattle.std.proofs.lemmas.List.{append-nil, append_assoc, append_cancel_left, take_all}
 use Rattle.dtx_receiver.specs.Bytes.{bytes_in}
@@ -31,8 +31,13 @@ field_ended : (acquirer : Holding) (symbols : List ℤ) (t : ℕ)
     → length acquirer.heard ≡ length acquirer.given → 0 < length acquirer.given → IsField acquirer symbols t
 unfolding heard_of
 field_ended acquirer symbols t given heard long few same l = record {
-  within = omega (arith, long, l, ap length segments,
-      length-append (acquired_so_far acquirer.scale symbols) acquirer.given);
+  within = omega (
+    arith,
+    long,
+    l,
+    ap length segments,
+    length-append (acquired_so_far acquirer.scale symbols) acquirer.given,
+  );
   given_are = sym (ap (λ xs. rows_of xs t) segments
       ∙ field_last t (acquired_so_far acquirer.scale symbols) acquirer.given long few);
   heard_are = sym (ap (λ xs. rows_of xs t) received
@@ -79,8 +84,13 @@ module _ (a b : Holding) (p q : Passes) (ended : Bool) (symbols : List ℤ)
 
   fields_now : was.taken + fields ≡ fields_in (acquired b.scale symbols)
   fields_now =
-      omega (arith, long_before, ap length (all_is_acquired b.scale symbols),
-      length-append (acquired_so_far b.scale symbols) (acquired_rest b.scale symbols), ap length given_rest)
+      omega (
+        arith,
+        long_before,
+        ap length (all_is_acquired b.scale symbols),
+        length-append (acquired_so_far b.scale symbols) (acquired_rest b.scale symbols),
+        ap length given_rest,
+      )
 
   taken_now : HasTaken b.scale symbols was.taken fields p q
   taken_now =

@@ -1,5 +1,5 @@
 -- One field more that goes through the rounds, and one that they give.
-use Rattle.std.proofs.Common.{◌≡◌, ℕ, ℤ, ◌+◌, ◌-◌, ◌*◌, ◌<◌, ◌≤◌, Bool, true, false, cond, leb, List, [], ◌∷◌}
+use Rattle.std.proofs.Common.{◌≡◌, ℕ, ℤ, ◌+◌, ◌-◌, ◌*◌, ◌<◌, ◌≤◌, Bool, true, false, cond, List, [], ◌∷◌}
 use Rattle.std.proofs.Common.{◌++◌, length, take, drop, refl, sym, ap, ◌∙◌, subst, arith}
 use Rattle.std.proofs.lemmas.Bool.{leb-false, leb-true, true≢false}
 use Rattle.std.proofs.lemmas.List.{append-nil, drop-drop, length-take}
@@ -12,7 +12,6 @@ use Rattle.dtx_rounds.specs.MadeRounds.{AreFinished, AreMade, AreTaken}
 use Rattle.dtx_rounds.specs.Rounds.{fields_in, groups_in, heard_of, refined}
 use Rattle.dtx_rounds.specs.RunField.{IsRounded}
 use Rattle.dtx_rounds.specs.RunRounds.{IsGiven}
-use Rattle.dtx_rounds.specs.declared.field.Field.{Field}
 use Rattle.dtx_rounds.proofs.GivenLemmas.{given_last, given_segments}
 use Rattle.dtx_refine.specs.Passes.{AreCounted, ArePassed, HasEndedOne, HasGiven, HasTaken, IsAdded, given_of}
 use Rattle.dtx_refine.specs.declared.passes.Passes.{Passes}

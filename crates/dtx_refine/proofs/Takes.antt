@@ -1,5 +1,5 @@
 -- A refiner that takes symbols.
-use Rattle.std.proofs.Common.{◌≡◌, ℕ, ℤ, ◌+◌, ◌-◌, ◌*◌, ◌/◌, ◌<◌, ◌≤◌, ◌⊎◌, inl, inr, Bool, true, false, cond}
+use Rattle.std.proofs.Common.{◌≡◌, ℕ, ℤ, ◌+◌, ◌-◌, ◌*◌, ◌<◌, ◌≤◌, ◌⊎◌, inl, inr, Bool, true, false, cond}
 use Rattle.std.proofs.Common.{List, [], ◌++◌, length, take, refl, sym, ap, ◌∙◌, subst, arith, length-append}
 use Rattle.std.proofs.lemmas.Bool.{cond-false}
 use Rattle.std.proofs.lemmas.List.{append-nil, append_assoc}
@@ -25,9 +25,14 @@ field_taken : (acquirer : Holding) (before now more : List ℤ) (t : ℕ)
     → length (acquired_so_far acquirer.scale before) ≡ 313 * t → length acquirer.given ≡ 313
     → length acquirer.heard ≡ length acquirer.given → IsField acquirer (now ++ more) t
 field_taken acquirer before now more t so_far heard long whole same = record {
-  within = omega (arith, long, whole, ap length segments,
-      length-append (acquired_so_far acquirer.scale before ++ acquirer.given) a.0,
-      length-append (acquired_so_far acquirer.scale before) acquirer.given);
+  within = omega (
+    arith,
+    long,
+    whole,
+    ap length segments,
+    length-append (acquired_so_far acquirer.scale before ++ acquirer.given) a.0,
+    length-append (acquired_so_far acquirer.scale before) acquirer.given,
+  );
   given_are = sym (ap (λ xs. rows_of xs t) segments
       ∙ field_behind t (acquired_so_far acquirer.scale before) acquirer.given a.0 long whole);
   heard_are = sym (ap (λ xs. rows_of xs t) (h.1 ∙ ap (λ xs. xs ++ h.0) heard)
@@ -112,8 +117,13 @@ module _ (a b : Holding) (p q : Passes) (ended : Bool) (before more : List ℤ)
     long = ap (λ s. length (acquired_so_far s (before ++ more))) h.scale_is ∙ long_now;
     passed = λ others. (taken_all others).given.passed;
     done = taken_now.waits was.done ∙ ap (λ n. was.taken + fields - n) (sym h.count_is);
-    few = omega (arith, waiting_then ended was.going, taken_now.given.passed.all, taken_now.waits was.done,
-        h.count_is);
+    few = omega (
+      arith,
+      waiting_then ended was.going,
+      taken_now.given.passed.all,
+      taken_now.waits was.done,
+      h.count_is,
+    );
   }
 
   pub given_now : (refined_so_far a.scale before p.count

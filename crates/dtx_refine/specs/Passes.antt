@@ -1,5 +1,6 @@
 -- The fields of a capture on their way through all rounds.
-use Rattle.std.specs.Prelude.{ℕ, ℤ, ◌≡◌, ◌+◌, ◌-◌, ◌*◌, ◌<◌, ◌≤◌, true, false, if◌then◌else◌, List, [], length, map, sum}
+use Rattle.std.specs.Prelude.{ℕ, ℤ, ◌≡◌, ◌+◌, ◌-◌, ◌*◌, ◌<◌, ◌≤◌, true, false, if◌then◌else◌}
+use Rattle.std.specs.Prelude.{List, [], length, map, sum}
 use Rattle.std.specs.List.{range_with_len}
 use Rattle.dtx_acquire.specs.Acquired.{acquired}
 use Rattle.dtx_acquire.specs.Acquirer.{Holding}

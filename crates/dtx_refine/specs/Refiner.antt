@@ -29,6 +29,7 @@ pub record Refining : Type 0 where
   pub cost : ℕ
   pub moved : ℕ
 
+-- a refiner by its parts
 abbrev pub refining : Holding → Passes → Bool → Refining
 refining holding passes ended = record {
   acquirer = holding;

@@ -4,6 +4,9 @@ ghost use Rattle.std.specs.Prelude.{◌≡◌, ◌*◌, ◌<◌, ◌≤◌};
 
 use dtx_rounds::Field;
 
+/// More fields than all segments of a capture, so few that no sum overflows.
+pub(crate) const MOST_FIELDS: u64 = 700_000_000;
+
 /// How many fields had all rounds, and the sums of what the last round says of them.
 #[derive(Drop)]
 pub(crate) struct Numbers {
@@ -40,7 +43,7 @@ impl Numbers {
 
     /// Adds those of a field that had all rounds.
     pub(crate) fn add(&mut self, field: &Field)
-        requires { self.old.done < 700000000 }
+        requires { self.old.done < MOST_FIELDS }
         ensures { IsAdded field.now self.old self.new }
     {
         self.done += 1;

@@ -6,7 +6,7 @@ ghost use Rattle.dtx_rounds.specs.Known.{known_word};
 ghost use Rattle.dtx_rounds.specs.Rounds.{fields_in, heard_of};
 ghost use Rattle.dtx_rounds.specs.RunField.{IsInRun};
 
-use crate::numbers::Numbers;
+use crate::numbers::{MOST_FIELDS, Numbers};
 use dtx_acquire::Acquirer;
 use dtx_rounds::laws::a_capture_begins_as_it_was_acquired;
 use dtx_rounds::{Field, Rounds};
@@ -57,7 +57,7 @@ impl Passes {
     pub(crate) fn take(&mut self, acquirer: &Acquirer)
         requires few { length acquirer.now.given ≤ FIELD_SEGMENTS }
         requires same { length acquirer.now.heard ≡ length acquirer.now.given }
-        requires room { self.old.numbers.done + self.old.held + length acquirer.now.given ≤ 700000000 }
+        requires room { self.old.numbers.done + self.old.held + length acquirer.now.given ≤ MOST_FIELDS }
         ensures taken { (symbols : List ℤ) (t : ℕ) → ArePassed acquirer.now.scale symbols t self.old
             → (0 < length acquirer.now.given → IsField acquirer.now symbols t)
             → HasTaken acquirer.now.scale symbols t (fields_in acquirer.now.given) self.old self.new }
@@ -77,7 +77,7 @@ impl Passes {
 
     /// Gives the next of the fields that the rounds hold behind the end of the symbols, if they hold one.
     pub(crate) fn next(&mut self)
-        requires { self.old.numbers.done + self.old.held ≤ 700000000 }
+        requires { self.old.numbers.done + self.old.held ≤ MOST_FIELDS }
         ensures ended { (scale : ℕ) (symbols : List ℤ)
             → ArePassed scale symbols (fields_in (acquired scale symbols)) self.old
             → HasEndedOne scale symbols self.old self.new }
@@ -107,7 +107,7 @@ impl Passes {
         requires few { length acquirer.now.given ≤ FIELD_SEGMENTS }
         requires same { length acquirer.now.heard ≡ length acquirer.now.given }
         requires some { 0 < length acquirer.now.given }
-        requires room { self.old.numbers.done + self.old.held < 700000000 }
+        requires room { self.old.numbers.done + self.old.held < MOST_FIELDS }
         ensures taken { (symbols : List ℤ) (t : ℕ) → ArePassed acquirer.now.scale symbols t self.old
             → IsField acquirer.now symbols t → HasTaken acquirer.now.scale symbols t 1 self.old self.new }
         ensures total { self.new.numbers.done + self.new.held ≡ self.old.numbers.done + self.old.held + 1 }
@@ -134,17 +134,13 @@ impl Passes {
             (acquired acquirer.now.scale symbols) (known_word []) t field.new }
     {
         a_capture_begins_as_it_was_acquired();
-        field.set(
-            acquirer.heard(),
-            acquirer.given(),
-            acquirer.field_cost(),
-        );
+        field.set(acquirer.heard(), acquirer.given(), acquirer.field_cost());
     }
 
     /// Gives the next of the fields that the rounds hold.
     fn end(&mut self)
         requires some { 0 < self.old.held }
-        requires room { self.old.numbers.done + self.old.held ≤ 700000000 }
+        requires room { self.old.numbers.done + self.old.held ≤ MOST_FIELDS }
         ensures ended { (scale : ℕ) (symbols : List ℤ)
             → ArePassed scale symbols (fields_in (acquired scale symbols)) self.old
             → HasEndedOne scale symbols self.old self.new }

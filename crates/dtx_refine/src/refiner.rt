@@ -19,8 +19,8 @@ use std::marker::Model;
 pub const MOST_ROUNDS: usize = 32;
 
 /// Finds the fields of a capture as an `Acquirer` does, and passes each through rounds, in which the words that are
-/// known pin the paths of the trellis around them (the profile's own; ATSC A/53 Part 2, trellis coding). It is given the
-/// symbols in pieces of any length, and gives whole segments, a field at a time. It allocates only in `new`.
+/// known pin the paths of the trellis around them (the profile's own; ATSC A/53 Part 2, trellis coding). It is given
+/// the symbols in pieces of any length, and gives whole segments, a field at a time. It allocates only in `new`.
 /// `StandsFor refiner symbols` is its invariant: it was given these symbols, and gave all that is refined of them
 /// whatever follows.
 #[derive(Drop)]
@@ -39,6 +39,7 @@ impl Model for Refiner {
 
     ghost view = { λ r. refining r.acquirer r.passes r.ended };
 
+    // The acquirer is known to hold less than a field and a segment before it takes symbols, which are 261248.
     ghost invariant = { λ r. (832 * r.acquirer.segments + length r.acquirer.held ≤ r.acquirer.symbols + 261248)
         × (r.acquirer.symbols ≤ 520832000000) × (r.passes.numbers.done + r.passes.held ≤ r.acquirer.segments) };
 }

@@ -1,4 +1,4 @@
-use Rattle.std.proofs.Common.{ℕ, length, sym, ap, ◌∙◌, arith}
+use Rattle.std.proofs.Common.{length, ap, ◌∙◌, arith}
 use Rattle.dtx_rounds.specs.Rounds.{heard_of}
 use Rattle.dtx_refine.proofs.Steps.{field_cost_is}
 use Rattle.dtx_refine.proofs.passes.Passes.set.Goals as goal

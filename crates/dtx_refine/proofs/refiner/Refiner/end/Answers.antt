@@ -1,6 +1,6 @@
 use Rattle.std.proofs.Common.{true, length, sym, ap, ◌∙◌, subst, arith}
 use Rattle.dtx_refine.specs.Refiner.{HasStepped, Refining, StandsFor, refining}
-use Rattle.dtx_refine.proofs.Ends.{HasEndedSymbols, ended_now, stepped_end}
+use Rattle.dtx_refine.proofs.Ends.{ended_now, stepped_end}
 use Rattle.dtx_refine.proofs.refiner.Refiner.end.Goals as goal
 
 pub returns-clause-ended : goal.returns-clause-ended
@@ -34,8 +34,14 @@ take-requires-clause-room c =
 
 pub invariant_of-self : goal.invariant_of-self
 invariant_of-self c = (
-  omega (arith, c.self.invariant.0, c.finish.ensures.total, c.finish.ensures.room, c.finish.ensures.symbols,
-      ap length c.finish.ensures.held),
+  omega (
+    arith,
+    c.self.invariant.0,
+    c.finish.ensures.total,
+    c.finish.ensures.room,
+    c.finish.ensures.symbols,
+    ap length c.finish.ensures.held,
+  ),
   omega (arith, c.self.invariant.1, c.finish.ensures.symbols),
   omega (arith, c.self.invariant.2, c.finish.ensures.total, c.take.ensures.total),
 )

@@ -1,4 +1,4 @@
-use Rattle.std.proofs.Common.{length, refl, sym, ap, ◌∙◌, subst, arith}
+use Rattle.std.proofs.Common.{length, refl, sym, ap, subst, arith}
 use Rattle.dtx_acquire.specs.Acquired.{acquired_so_far}
 use Rattle.dtx_acquire.proofs.AcquiredLemmas.{none_so_far}
 use Rattle.dtx_refine.specs.Passes.{ArePassed}
@@ -20,8 +20,12 @@ returns-clause-stands c = record {
 pub invariant_of-result : goal.invariant_of-result
 unfolding acquired_so_far
 invariant_of-result c = (
-  omega (arith, c.in_ok-new.ensures.stands.few, c.in_ok-new.ensures.stands.leaves.segments_are,
-      ap length (none_so_far c.in_ok-new.field-0.scale)),
+  omega (
+    arith,
+    c.in_ok-new.ensures.stands.few,
+    c.in_ok-new.ensures.stands.leaves.segments_are,
+    ap length (none_so_far c.in_ok-new.field-0.scale),
+  ),
   omega (arith, c.in_ok-new.ensures.symbols),
   omega (arith, c.in_ok-new-2.ensures.held, c.in_ok-new-2.ensures.done),
 )

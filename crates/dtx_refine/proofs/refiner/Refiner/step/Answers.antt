@@ -1,4 +1,4 @@
-use Rattle.std.proofs.Common.{◌++◌, true, refl, sym, ap, ◌∙◌, subst}
+use Rattle.std.proofs.Common.{◌++◌, sym, ap, ◌∙◌, subst}
 use Rattle.std.proofs.lemmas.Bool.{true≢false}
 use Rattle.dtx_refine.specs.Refiner.{HasEnded, HasStepped, Refining}
 use Rattle.dtx_refine.proofs.Ends.{stepped_two}

@@ -46,8 +46,12 @@ returns-clause-given c = λ before h.
 
 pub returns-clause-room : goal.returns-clause-room
 returns-clause-room c =
-    omega (arith, c.take-count.ensures.room, ap (λ (x : Refining). length x.held) c.self.view_is,
-    given_within c.take.new.self c.take-count.new.self.given c.take.ensures.some c.take-count.ensures.whole)
+    omega (
+      arith,
+      c.take-count.ensures.room,
+      ap (λ (x : Refining). length x.held) c.self.view_is,
+      given_within c.take.new.self c.take-count.new.self.given c.take.ensures.some c.take-count.ensures.whole,
+    )
 
 pub returns-clause-scale : goal.returns-clause-scale
 returns-clause-scale c = c.take-count.ensures.scale ∙ ap (λ (x : Refining). x.scale) c.self.view_is
@@ -70,15 +74,32 @@ take-requires-clause-few c = few_whole c.take-count.new.self.given c.take-count.
 
 pub take-requires-clause-room : goal.take-requires-clause-room
 take-requires-clause-room c =
-    omega (arith, subst (λ (x : Refining). x.symbols + length c.args.symbols.now ≤ 520832000000) (sym c.self.view_is)
-    c.requires.most, c.self.invariant.0, c.self.invariant.2, c.take-count.ensures.total, c.take-count.ensures.room,
-    c.take-count.ensures.within)
+    omega (
+      arith,
+      subst (λ (x : Refining). x.symbols + length c.args.symbols.now ≤ 520832000000) (sym c.self.view_is)
+          c.requires.most,
+      c.self.invariant.0,
+      c.self.invariant.2,
+      c.take-count.ensures.total,
+      c.take-count.ensures.room,
+      c.take-count.ensures.within,
+    )
 
 pub invariant_of-self : goal.invariant_of-self
 invariant_of-self c = (
-  omega (arith, c.self.invariant.0, c.take-count.ensures.total, c.take-count.ensures.room,
-      c.take-count.ensures.symbols),
-  omega (arith, subst (λ (x : Refining). x.symbols + length c.args.symbols.now ≤ 520832000000) (sym c.self.view_is)
-      c.requires.most, c.take-count.ensures.symbols, c.take-count.ensures.within),
+  omega (
+    arith,
+    c.self.invariant.0,
+    c.take-count.ensures.total,
+    c.take-count.ensures.room,
+    c.take-count.ensures.symbols,
+  ),
+  omega (
+    arith,
+    subst (λ (x : Refining). x.symbols + length c.args.symbols.now ≤ 520832000000) (sym c.self.view_is)
+        c.requires.most,
+    c.take-count.ensures.symbols,
+    c.take-count.ensures.within,
+  ),
   omega (arith, c.self.invariant.2, c.take-count.ensures.total, c.take.ensures.total),
 )
