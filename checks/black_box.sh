@@ -16,7 +16,7 @@ if [[ ${1-} == --released ]]; then
     shift
 fi
 parts=("$@")
-usage='usage: dtx adapt|code|excite|receive|net|make|hurt|place|trial|soft|mend|dvb|repeat|acquire|watch|level'
+usage='usage: dtx adapt|code|excite|receive|net|make|hurt|place|trial|soft|mend|dvb|repeat|acquire|watch|level|refine'
 
 if [[ $("$dtx" </dev/null) != "$usage" ]]; then
     echo 'FAILED: the program could not be built'
@@ -288,7 +288,7 @@ plan_of() {
 
 # ---- The cases, subject by subject ----
 
-((${#parts[@]})) || parts=(launcher adapt plans make code receive excite hurt place net pages small trial soft mend dvb repeat acquire level watch
+((${#parts[@]})) || parts=(launcher adapt plans make code receive excite hurt place net pages small trial soft mend dvb repeat acquire refine level watch
     names overlaps words refused_streams refused_files forbidden_files host_faults pipes each_call progress many)
 for part in "${parts[@]}"; do
     usual=("$dtx")

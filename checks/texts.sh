@@ -14,11 +14,11 @@ if [[ ! $(git ls-files crates.txt) ]]; then
 fi
 
 # Crates that may have fewer than three wrong programs, in the gate and beside it: `dtx` and `dtx_bench` are programs, whose
-# `main` has no contract that an edit could break, `dtx_lists`, `dtx_chain`, `dtx_rounds`, `dtx_bursts`, `dtx_network`, `dtx_calm_feed`,
+# `main` has no contract that an edit could break, `dtx_lists`, `dtx_chain`, `dtx_bursts`, `dtx_network`, `dtx_calm_feed`,
 # `dtx_gap_filler`, `dtx_repeated_feed`, `dtx_trial` and `dtx_symbol_laws` have lemmas and laws alone, `dtx_host` promises what
 # the traits ask of files that tell nothing, and that answers are counted, and the crates of tests, whose names end so, have
 # nothing that another crate stands on.
-few_edits=' dtx dtx_bench dtx_host dtx_lists dtx_chain dtx_rounds dtx_bursts dtx_network dtx_calm_feed dtx_gap_filler dtx_repeated_feed dtx_symbol_laws dtx_trial dtx_file_laws '
+few_edits=' dtx dtx_bench dtx_host dtx_lists dtx_chain dtx_bursts dtx_network dtx_calm_feed dtx_gap_filler dtx_repeated_feed dtx_symbol_laws dtx_trial dtx_file_laws '
 
 passed=0
 failed=0

@@ -4,6 +4,7 @@
 # It needs 200 MB on the disk of temporary files. The status is 0 where each command holds at most its bar:
 # - every command that isn't named below: what it held when each command had a loop of its own
 # - `soft`, which holds a field, and `acquire`: 12 MB
+# - `refine`: 4 MB, and 2 MB for each round
 # - `level`: 3 MB
 # - `mend`: twice the bar of `receive`
 # - `repeat`: the bars of `receive` and `excite` together
@@ -53,6 +54,9 @@ holds 10324 net net-35.toml
 holds 262144 net net-1020.toml
 holds 12288 soft in.sym out.sym
 holds 12288 acquire 1 in.sym out.sym
+for times in 1 8 32; do
+    holds $((4096 + 2048 * times)) refine 1 $times in.sym out.sym
+done
 holds 3072 level in.sym out.sym out.log
 holds 4376 mend in.sym out.ts
 holds 4428 repeat in.sym 1 0 out.sym out.log

@@ -1,7 +1,7 @@
 #!/usr/bin/env bash
 # How many packets of a made stream come back of its symbols with noise, by decibels of the signal over the noise:
 # - of a capture at one step a unit, by `receive`, and by `soft` and by `acquire` with `receive` after them
-# - of a capture at eight steps a unit, by `acquire`
+# - of a capture at eight steps a unit, by `acquire`, and by `refine` with 16 rounds
 # - of the same, by GNU Radio's receive chain, where Debian's packages `gnuradio` and `python3-numpy` are installed
 #
 # `decibels.sh [DECIBELS..]` prints a table with tabs, which examples/pictures/reception.py draws. It takes a minute
@@ -29,7 +29,7 @@ captured() {
     "$top/examples/capture.py" "$1" "$2" 1 "$room/in.sym" "$room/air.sym"
 }
 
-printf '%s' dB $'\t'receive $'\t''soft, receive' $'\t''acquire, receive, 1 step' $'\t''acquire, receive, 8 steps' "${theirs:+$'\t'$theirs}" $'\n'
+printf '%s' dB $'\t'receive $'\t''soft, receive' $'\t''acquire, receive, 1 step' $'\t''acquire, receive, 8 steps' $'\t''refine, receive, 8 steps' "${theirs:+$'\t'$theirs}" $'\n'
 for each in "${decibels[@]}"; do
     captured 1 "$each"
     line=$each$'\t'$(given "$room/air.sym")
@@ -39,6 +39,8 @@ for each in "${decibels[@]}"; do
     line+=$'\t'$(given "$room/made.sym")
     captured 8 "$each"
     "$program" acquire 8 "$room/air.sym" "$room/made.sym" >"$room/said" || [[ $? == 10 ]]
+    line+=$'\t'$(given "$room/made.sym")
+    "$program" refine 8 16 "$room/air.sym" "$room/made.sym" >"$room/said" || [[ $? == 10 ]]
     line+=$'\t'$(given "$room/made.sym")
     if [[ $theirs ]]; then
         "$gnuradio_python" "$top/bench/gnuradio/receive.py" "$room/air.sym" "$room/out.ts" 8 >"$room/said" 2>&1

@@ -153,6 +153,7 @@ soft ../inputs/calls.sym out.sym
 mend ../inputs/calls.sym out.ts
 repeat ../inputs/calls.air 7 1000 out.sym out.log
 acquire 1 ../inputs/calls.sym out.sym
+refine 1 2 ../inputs/calls.sym out.sym
 level ../inputs/calls.sym out.sym out.log
 watch ../inputs/calls.feed out.txt
 dvb code ../inputs/calls.ts out.dvb

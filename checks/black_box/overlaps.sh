@@ -51,6 +51,7 @@ while read -r name; do
     overlaps in.sym soft in.sym "$name"
     overlaps in.sym mend in.sym "$name"
     overlaps in.sym acquire 1 in.sym "$name"
+    overlaps in.sym refine 1 2 in.sym "$name"
     for words in 'repeat in.sym 7 0' 'level in.sym'; do
         # shellcheck disable=SC2086
         overlaps in.sym $words "$name" out.log

@@ -87,6 +87,7 @@ soft @ROOM/feed.sym out.sym
 mend @ROOM/feed.sym out.ts
 repeat @ROOM/feed.sym 7 1000 out.sym out.log
 acquire 1 @ROOM/feed.sym out.sym
+refine 1 2 @ROOM/feed.sym out.sym
 level @ROOM/feed.sym out.sym out.log
 watch @ROOM/feed.ts out.txt
 dvb code @../inputs/given.ts out.dvb

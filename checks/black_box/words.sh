@@ -33,6 +33,8 @@ while read -r number; do
     is_usage "the address '$number'" excite ../inputs/given.ts "$number" 0 out.sym out.log
     is_usage "the delay '$number'" excite ../inputs/given.ts 7 "$number" out.sym out.log
     is_usage "the scale '$number'" acquire "$number" ../inputs/given.ts out.sym
+    is_usage "the scale '$number' of \`refine\`" refine "$number" 1 ../inputs/given.ts out.sym
+    is_usage "the rounds '$number'" refine 1 "$number" ../inputs/given.ts out.sym
 done <<'end'
 
 01
@@ -67,6 +69,13 @@ is_usage '`repeat` with a word too many' repeat ../inputs/given.ts 7 0 out.sym o
 is_usage 'an address of a repeater beyond 16 bits' repeat ../inputs/given.ts 65536 0 out.sym out.log
 is_usage 'a scale below 1' acquire 0 ../inputs/given.ts out.sym
 is_usage 'a scale beyond 18' acquire 19 ../inputs/given.ts out.sym
+is_usage '`refine` without its rounds' refine 1 ../inputs/given.ts out.sym
+for number in 0 19 1.5; do
+    is_usage "the scale $number of \`refine\`" refine $number 1 ../inputs/given.ts out.sym
+done
+for number in 0 33 1.5; do
+    is_usage "$number rounds" refine 1 $number ../inputs/given.ts out.sym
+done
 is_usage '`level` alone' level
 is_usage '`level` with a word too few' level ../inputs/given.ts out.sym
 is_usage '`level` with a word too many' level ../inputs/given.ts out.sym out.log more
@@ -107,6 +116,7 @@ soft
 mend
 watch
 acquire 1
+refine 8 4
 dvb code
 dvb read
 end

@@ -11,7 +11,7 @@ import random
 import sys
 import tempfile
 
-from acquire import MOST_SCALE, acquired, capture, runs_of
+from acquire import MOST_SCALE, acquired, noisy, runs_of
 from network import differences
 from receiver import LEVELS, SEGMENT, bytes_of, words_of
 from reference import FIELD, PACKET, answer_file, corrected, kinds_missing, try_each
@@ -187,6 +187,27 @@ def short_cases(chance, lists):
         by_table = least_under(symbols, pins, scale)
         by_all = least_of_all(symbols, scale, lambda levels: agrees(levels, pins))
         yield f"the symbols {list(symbols)} under {pins}", [] if by_table == by_all else [f"{by_table} by the table, not {by_all}"]
+
+
+def capture(chance, coded):
+    """A capture and its scale: segments from a sync or from anywhere on, most of them as many as words need, with noise around the
+    threshold. A sync may be hidden. There may be symbols in front, put in, or taken out."""
+    scale = chance.choice((1, 2, 4, 8, 8, 17, MOST_SCALE))
+    first = chance.choice((0, 0, 313, chance.randrange(600)))
+    symbols = b"".join(coded[first : first + chance.choice((1, 53, 54, 60, 119, 320, 372, 640))])
+    decibels = chance.triangular(12.5, 20, 13.5)
+    symbols = bytearray(noisy(chance, symbols, scale, scale * (21 / 10 ** (decibels / 10)) ** 0.5))
+    if chance.random() < 0.2:
+        sync = -first % (FIELD + 1) * SEGMENT
+        symbols[sync : sync + 515] = bytes(len(symbols[sync : sync + 515]))
+    symbols[:0] = chance.choice((b"", b"", bytes(100), chance.randbytes(999)))
+    for _ in range(chance.choice((0, 0, 0, 1, 2))):
+        at, count = chance.randrange(len(symbols)), chance.choice((1, 7, 100, 831, 832, 5000))
+        if chance.random() < 0.5:
+            symbols[at:at] = chance.choice((bytes, chance.randbytes))(count)
+        else:
+            del symbols[at : at + count]
+    return bytes(symbols), scale
 
 
 def cases(dtx, lists):
