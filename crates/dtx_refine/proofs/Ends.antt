@@ -21,7 +21,7 @@ use Rattle.dtx_refine.specs.Refiner.{HasEnded, HasStepped, IsOver, Refining, Sta
 use Rattle.dtx_refine.specs.declared.passes.Passes.{Passes}
 use Rattle.dtx_refine.proofs.Pieces.{field_last}
 use Rattle.dtx_refine.proofs.Takes.{waiting_then}
-use Rattle.dtx_refine.proofs.Steps.{given_few, given_next, given_none}
+use Rattle.dtx_refine.proofs.Steps.{given_few, given_next, given_none, given_some}
 
 -- ---- the last field
 
@@ -114,6 +114,9 @@ module _ (a b : Holding) (p q : Passes) (ended : Bool) (symbols : List ℤ)
     where
       count_before : length (acquired_so_far b.scale symbols) - 313 * q.count ≡ 313 * p.numbers.done
       count_before = omega (arith, long_before, was.done, h.count_is)
+
+  pub some_now : q.gives ≡ true → 0 < length (given_of q)
+  some_now = given_some b.scale (was.taken + fields) symbols p q taken_now.given fields_now
 
 -- ---- a step behind the end
 

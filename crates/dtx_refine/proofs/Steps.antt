@@ -2,7 +2,7 @@
 use Rattle.std.proofs.Common.{◌≡◌, ℕ, ℤ, ◌+◌, ◌-◌, ◌*◌, ◌<◌, ◌≤◌, Bool, true, false, cond, List, [], ◌∷◌}
 use Rattle.std.proofs.Common.{◌++◌, length, take, drop, refl, sym, ap, ◌∙◌, subst, arith}
 use Rattle.std.proofs.lemmas.Bool.{leb-false, leb-true, true≢false}
-use Rattle.std.proofs.lemmas.List.{append-nil, drop-drop, length-take}
+use Rattle.std.proofs.lemmas.List.{append-nil, drop-drop, length-drop, length-take}
 use Rattle.dtx_acquire.specs.Acquired.{acquired, in_groups, path_cost}
 use Rattle.dtx_acquire.specs.Sent.{groups_behind}
 use Rattle.dtx_soft.specs.Softened.{softened_cost}
@@ -13,6 +13,7 @@ use Rattle.dtx_rounds.specs.Rounds.{fields_in, groups_in, heard_of, refined}
 use Rattle.dtx_rounds.specs.RunField.{IsRounded}
 use Rattle.dtx_rounds.specs.RunRounds.{IsGiven}
 use Rattle.dtx_rounds.proofs.GivenLemmas.{given_last, given_segments}
+use Rattle.dtx_rounds.proofs.SoFarLemmas.{length-refined}
 use Rattle.dtx_refine.specs.Passes.{AreCounted, ArePassed, HasEndedOne, HasGiven, HasTaken, IsAdded, given_of}
 use Rattle.dtx_refine.specs.declared.passes.Passes.{Passes}
 use Rattle.dtx_refine.proofs.Counted.{counted_next, counted_none}
@@ -240,3 +241,18 @@ given_few p = by_answer p.gives
 
 pub given_none : (p : Passes) → p.gives ≡ false → given_of p ≡ []
 given_none p e = ap (λ b. cond b (decided_rows p.field) []) e
+
+-- each field that is given has a segment at least
+pub given_some : (scale t : ℕ) (symbols : List ℤ) (old new : Passes) → HasGiven scale symbols t old new
+    → t ≡ fields_in (acquired scale symbols) → new.gives ≡ true → 0 < length (given_of new)
+given_some scale t symbols old new h all gives =
+    omega (
+      arith,
+      all,
+      h.passed.all,
+      h.done ∙ ap (λ b. old.numbers.done + cond b 1 0) gives,
+      ap (λ b. length (cond b (decided_rows new.field) [])) gives ∙ ap length (h.given_are gives)
+          ∙ length-take 313 (drop (313 * old.numbers.done) (refined scale symbols old.count)),
+      length-drop (313 * old.numbers.done) (refined scale symbols old.count),
+      length-refined scale old.count symbols,
+    )

@@ -108,6 +108,8 @@ impl Refiner {
             → result ≡ false → self.new.moved
             ≡ round_moved self.old.scale (heard_of symbols) (refined self.old.scale symbols (self.old.rounds - 1)) }
         ensures few { length self.new.given ≤ FIELD_SEGMENTS }
+        ensures some { (symbols : List ℤ) (before : List (List ℤ)) → IsEnding self.old symbols before
+            → result ≡ true → 0 < length self.new.given }
         ensures none { result ≡ false → self.new.given ≡ [] }
         ensures waiting { self.new.waiting + length self.new.given ≤ self.old.waiting }
         ensures fewer { result ≡ true → self.new.waiting < self.old.waiting }
@@ -187,6 +189,8 @@ impl Refiner {
             → HasEnded self.new symbols (before ++ self.new.given) }
         ensures all { (symbols : List ℤ) (before : List (List ℤ)) → IsEnding self.old symbols before
             → result ≡ false → IsOver self.new symbols }
+        ensures some { (symbols : List ℤ) (before : List (List ℤ)) → IsEnding self.old symbols before
+            → result ≡ true → 0 < length self.new.given }
         ensures stepped { HasStepped self.old self.new result }
     {
         if self.ended {
@@ -202,6 +206,8 @@ impl Refiner {
     fn end(&mut self) -> bool
         requires { self.old.ended ≡ false }
         ensures ended { (symbols : List ℤ) → StandsFor self.old symbols → HasEnded self.new symbols self.new.given }
+        ensures some { (symbols : List ℤ) → StandsFor self.old symbols
+            → result ≡ true → 0 < length self.new.given }
         ensures stepped { HasStepped self.old self.new result }
     {
         self.ended = true;
@@ -217,6 +223,8 @@ impl Refiner {
             → HasEnded self.new symbols (before ++ self.new.given) }
         ensures all { (symbols : List ℤ) (before : List (List ℤ)) → HasEnded self.old symbols before
             → result ≡ false → IsOver self.new symbols }
+        ensures some { (symbols : List ℤ) (before : List (List ℤ)) → HasEnded self.old symbols before
+            → result ≡ true → 0 < length self.new.given }
         ensures stepped { HasStepped self.old self.new result }
     {
         the_numbers_of_a_round_are_those_of_its_fields();

@@ -16,7 +16,7 @@ use Rattle.dtx_rounds.proofs.RoundLevels.{length-groups}
 
 -- ---- fields
 
-abbrev IsAllButLast : Field → List Field → Type 0
+abbrev pub IsAllButLast : Field → List Field → Type 0
 IsAllButLast x [] = Unit {0}
 IsAllButLast x (y ∷ ys) = (length x.segments ≡ 313) ⊎ (length x.segments ≡ 0)
 
@@ -53,7 +53,7 @@ empty [] e = refl
 empty (y ∷ ys) e = absurd (omega arith)
 
 -- behind a whole field
-groups_next : (front rest : List (List ℤ)) (f : ℕ) → length front ≡ 313
+pub groups_next : (front rest : List (List ℤ)) (f : ℕ) → length front ≡ 313
     → groups_in (front ++ rest) (f + 1) ≡ groups_in rest f
 unfolding groups_behind
 groups_next front rest f e =
@@ -74,7 +74,7 @@ front_only rows rest (inl e) = take_at rows rest 312 e
 front_only rows rest (inr h) =
     ap (λ (ys : List (List ℤ)). take 312 (rows ++ ys)) h.1 ∙ ap (take 312) (append-nil rows) ∙ take_all 312 rows h.0
 
-groups_first : (sync : List ℤ) (rows rest : List (List ℤ))
+pub groups_first : (sync : List ℤ) (rows rest : List (List ℤ))
     → (length rows ≡ 312) ⊎ ((length rows ≤ 312) × (rest ≡ [])) → groups_in ((sync ∷ rows) ++ rest) 0 ≡ in_groups rows
 unfolding groups_behind
 groups_first sync rows rest h = ap in_groups (front_only rows rest h)

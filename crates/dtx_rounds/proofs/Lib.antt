@@ -37,3 +37,5 @@ pub mod UnknownFields
 pub mod FrontFields
 pub mod WholeLemmas
 pub mod SoFarLemmas
+pub mod MovedRounds
+pub mod CostSums

@@ -8,7 +8,7 @@ ghost use Rattle.dtx_outer.specs.Inner.{word_at};
 ghost use Rattle.dtx_receiver.specs.Bytes.{bytes_in};
 ghost use Rattle.dtx_receiver.specs.Packets.{is_complete};
 ghost use Rattle.dtx_soft.specs.Softened.{least_cost, softened_cost};
-ghost use Rattle.dtx_acquire.specs.Acquired.{acquired};
+ghost use Rattle.dtx_acquire.specs.Acquired.{acquired, acquired_cost};
 ghost use Rattle.dtx_rounds.specs.Decided.{decided_rows, heard_rows};
 ghost use Rattle.dtx_rounds.specs.FieldRound.{KnowsNothing, field_rounded, words_known};
 ghost use Rattle.dtx_rounds.specs.Fields.{AreSegments, rows_of};
@@ -23,7 +23,7 @@ ghost use Rattle.dtx_rounds.specs.declared.field.Field.{Field};
 
 use crate::field::{BYTES, WORDS};
 use dtx_acquire::laws::whole_fields_are_acquired;
-use dtx_sizes::{CODERS, CODEWORD, PACKET_DATA, SEGMENT};
+use dtx_sizes::{CODERS, CODEWORD, PACKET_DATA};
 use dtx_soft::MAX_SCALE;
 
 /// At the first step of each of the first five segments of a field: the place of the byte whose pair a coder takes. The
@@ -40,7 +40,7 @@ pub fn first_bytes()
 /// that is known after some rounds over a capture is known after all further ones.
 pub fn what_is_known_stays()
     ensures round { (scale k : ℕ) (heard given : List (List ℤ)) (code : List ℕ) → 0 < scale → scale ≤ MAX_SCALE
-        → ((i : ℕ) → i < length given → length (slice_index_or given i []) ≡ SEGMENT) → length heard ≡ length given
+        → AreSegments given → length heard ≡ length given
         → known_word (bytes_in given) k ≡ Some code → known_word (bytes_in (rounded scale heard given)) k ≡ Some code }
     ensures capture { (scale r n k : ℕ) (symbols : List ℤ) (code : List ℕ) → 0 < scale → scale ≤ MAX_SCALE
         → known_word (bytes_in (refined scale symbols r)) k ≡ Some code
@@ -128,22 +128,36 @@ pub fn more_is_refined_of_more()
         × (refined_so_far scale (symbols ++ more) r ≡ refined_so_far scale symbols r ++ others) }
 {}
 
-/// Where a round gives what it was given, all further ones do.
+/// Where a round gives what it was given, all further ones do. Over segments of 832 symbols, as many as were received,
+/// it gives that exactly if it moves no symbol.
 pub fn a_round_that_moves_nothing_is_the_last()
     ensures rounds { (scale n : ℕ) (heard given : List (List ℤ)) → rounded scale heard given ≡ given
         → rounds_of scale heard given n ≡ given }
     ensures capture { (scale r n : ℕ) (symbols : List ℤ) → refined scale symbols (r + 1) ≡ refined scale symbols r
         → refined scale symbols (r + n) ≡ refined scale symbols r }
+    ensures still { (scale : ℕ) (heard given : List (List ℤ)) → AreSegments given → length heard ≡ length given
+        → round_moved scale heard given ≡ 0 → rounded scale heard given ≡ given }
+    ensures none { (scale : ℕ) (heard given : List (List ℤ)) → rounded scale heard given ≡ given
+        → round_moved scale heard given ≡ 0 }
+    ensures still_capture { (scale r n : ℕ) (symbols : List ℤ)
+        → round_moved scale (heard_of symbols) (refined scale symbols r) ≡ 0
+        → refined scale symbols (r + n) ≡ refined scale symbols r }
 {}
 
 /// The least path of a coder in a field costs no less in a round than in the one before, and in the first round no less
-/// than without pins.
+/// than without pins. So all least paths of a round together cost no less than those of the round before, and in the
+/// first round no less than those by which the capture was acquired.
 pub fn costs_rise()
     ensures first { (scale f e : ℕ) (symbols : List ℤ) → least_cost scale (groups_in (heard_of symbols) f) e
         ≤ coder_cost scale (heard_of symbols) (known_bytes (bytes_in (refined scale symbols 0))) f e }
     ensures next { (scale r f e : ℕ) (symbols : List ℤ) → 0 < scale → scale ≤ MAX_SCALE → e < CODERS
         → coder_cost scale (heard_of symbols) (known_bytes (bytes_in (refined scale symbols r))) f e
         ≤ coder_cost scale (heard_of symbols) (known_bytes (bytes_in (refined scale symbols (r + 1)))) f e }
+    ensures begin { (scale : ℕ) (symbols : List ℤ)
+        → acquired_cost scale symbols ≤ round_cost scale (heard_of symbols) (refined scale symbols 0) }
+    ensures whole { (scale r : ℕ) (symbols : List ℤ) → 0 < scale → scale ≤ MAX_SCALE
+        → round_cost scale (heard_of symbols) (refined scale symbols r)
+        ≤ round_cost scale (heard_of symbols) (refined scale symbols (r + 1)) }
 {
     whole_fields_are_acquired();
 }

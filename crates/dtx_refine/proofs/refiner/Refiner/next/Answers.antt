@@ -1,8 +1,10 @@
-use Rattle.std.proofs.Common.{◌-◌, sym, ap, ◌∙◌, subst, arith}
-use Rattle.dtx_rounds.specs.Rounds.{heard_of, refined}
+use Rattle.std.proofs.Common.{◌-◌, refl, sym, ap, ◌∙◌, subst, arith}
+use Rattle.dtx_acquire.specs.Acquired.{acquired}
+use Rattle.dtx_rounds.specs.Rounds.{fields_in, heard_of, refined}
 use Rattle.dtx_rounds.proofs.SoFarLemmas.{refined_long}
 use Rattle.dtx_refine.specs.Refiner.{HasEnded, HasStepped, Refining, refining}
 use Rattle.dtx_refine.proofs.Ends.{AreSums, ended_next, over, stepped_next}
+use Rattle.dtx_refine.proofs.Steps.{given_some}
 use Rattle.dtx_refine.proofs.refiner.Refiner.next.Goals as goal
 
 pub returns-clause-ended : goal.returns-clause-ended
@@ -24,6 +26,13 @@ returns-clause-all c = λ symbols before h e.
       moved = c.the_numbers_of_a_round_are_those_of_its_fields.ensures.moved scale (heard_of symbols) last;
     } in
     over c.self.inside.acquirer c.next.new.self c.self.inside.ended symbols (one.all e) one.given.passed sums
+
+pub returns-clause-some : goal.returns-clause-some
+returns-clause-some c = λ symbols before h e.
+    let scale = c.self.inside.acquirer.scale in
+    let was = subst (λ (x : Refining). HasEnded x symbols before) (sym c.self.view_is) h in
+    given_some scale (fields_in (acquired scale symbols)) symbols c.self.inside.passes c.next.new.self
+    (c.next.ensures.ended scale symbols was.passed).given refl e
 
 pub returns-clause-stepped : goal.returns-clause-stepped
 returns-clause-stepped c =

@@ -12,6 +12,10 @@ pub returns-then-self-clause-all : goal.returns-then-self-clause-all
 returns-then-self-clause-all c = λ symbols before h e.
     c.next.ensures.all symbols before (h.over (sym (ap (λ (x : Refining). x.ended) c.self.view_is) ∙ c.if-self.true)) e
 
+pub returns-then-self-clause-some : goal.returns-then-self-clause-some
+returns-then-self-clause-some c = λ symbols before h e.
+    c.next.ensures.some symbols before (h.over (sym (ap (λ (x : Refining). x.ended) c.self.view_is) ∙ c.if-self.true)) e
+
 pub returns-then-end-clause-ended : goal.returns-then-end-clause-ended
 returns-then-end-clause-ended c = λ symbols before h.
     let was = h.going (sym (ap (λ (x : Refining). x.ended) c.self.view_is) ∙ c.if-self.false) in
@@ -20,6 +24,11 @@ returns-then-end-clause-ended c = λ symbols before h.
 
 pub returns-then-end-clause-all : goal.returns-then-end-clause-all
 returns-then-end-clause-all c = λ symbols before h e. absurd (true≢false e)
+
+pub returns-then-end-clause-some : goal.returns-then-end-clause-some
+returns-then-end-clause-some c = λ symbols before h e.
+    c.end.ensures.some symbols (h.going (sym (ap (λ (x : Refining). x.ended) c.self.view_is) ∙ c.if-self.false)).0
+    c.if-end.true
 
 pub returns-then-end-clause-stepped : goal.returns-then-end-clause-stepped
 returns-then-end-clause-stepped c =
@@ -36,6 +45,13 @@ pub returns-else-end-clause-all : goal.returns-else-end-clause-all
 returns-else-end-clause-all c = λ symbols before h e.
     let was = h.going (sym (ap (λ (x : Refining). x.ended) c.self.view_is) ∙ c.if-self.false) in
     c.next-else-end.ensures.all symbols before
+    (subst (λ xs. HasEnded c.end.new.self symbols xs) (c.end.ensures.stepped.none c.if-end.false ∙ sym was.1)
+    (c.end.ensures.ended symbols was.0)) e
+
+pub returns-else-end-clause-some : goal.returns-else-end-clause-some
+returns-else-end-clause-some c = λ symbols before h e.
+    let was = h.going (sym (ap (λ (x : Refining). x.ended) c.self.view_is) ∙ c.if-self.false) in
+    c.next-else-end.ensures.some symbols before
     (subst (λ xs. HasEnded c.end.new.self symbols xs) (c.end.ensures.stepped.none c.if-end.false ∙ sym was.1)
     (c.end.ensures.ended symbols was.0)) e
 
