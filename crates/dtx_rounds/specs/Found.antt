@@ -76,6 +76,13 @@ pub record IsKept (field new : Field) : Type 0 where
   pub cost : new.cost ≡ field.cost
   pub moved : new.moved ≡ field.moved
 
+-- all that a round reads of a field is as before
+pub record IsUnchanged (field new : Field) : Type 0 where
+  pub rest : IsKept field new
+  pub known : new.known ≡ field.known
+  pub words : new.words ≡ field.words
+  pub knows_more : new.knows_more ≡ field.knows_more
+
 -- A field and the one behind it, `new` and `new_next`, are as before but for what is known with these corrections.
 pub record AreFound (codes : ℕ → Option (List ℕ)) (field next new new_next : Field) : Type 0 where
   pub known : new.known.items ≡ bytes_with codes 0 field.known.items

@@ -25,6 +25,7 @@ pub(crate) fn decide(means: &mut Means, field: &mut Field)
     field.moved = 0;
     if field.knows_more {
         field.knows_more = false;
+        field.written = false;
         let count = field.in_groups();
         field.cost = find_paths(means, &field.known[..], &field.heard[1..count + 1]);
         field.moved = move_all(
