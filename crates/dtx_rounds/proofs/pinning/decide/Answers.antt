@@ -1,7 +1,7 @@
 use Rattle.std.proofs.Common.{◌≡◌, ℕ, ℤ, ◌+◌, ◌-◌, ◌*◌, List, ◌++◌, length, take, drop, refl, sym, ap, ap₂, ◌∙◌}
 use Rattle.std.proofs.Common.{arith}
 use Rattle.std.proofs.lemmas.Bool.{cond-false, cond-true}
-use Rattle.std.proofs.lemmas.List.{take_at}
+use Rattle.std.proofs.lemmas.List.{length-take, take_at}
 use borrow.Rule.Slice.PartMut.{put_mid}
 use Rattle.dtx_rounds.specs.FieldRound.{field_cost, field_rounded, on_paths, rows_moved}
 use Rattle.dtx_rounds.specs.Pins.{field_pins}
@@ -21,6 +21,24 @@ move_all-field-requires-clause-levels c =
   where
     heard : List (List ℤ)
     heard = take (c.in_groups-count.result + 1 - 1) (drop 1 c.deref-then-field.result.now)
+
+pub invariant_of-field-then-field-clause-cost_small : goal.invariant_of-field-then-field-clause-cost_small
+invariant_of-field-then-field-clause-cost_small c =
+    omega (
+      arith,
+      c.find_paths-field.ensures.most,
+      c.in_groups-count.ensures.few,
+      length-take (c.in_groups-count.result + 1 - 1) (drop 1 c.deref-then-field.result.now),
+    )
+
+pub invariant_of-field-then-field-clause-moved_small : goal.invariant_of-field-then-field-clause-moved_small
+invariant_of-field-then-field-clause-moved_small c =
+    omega (
+      arith,
+      c.move_all-field.ensures.most,
+      c.in_groups-count.ensures.few,
+      length-take c.in_groups-count.result c.deref-then-field-2.result.now,
+    )
 
 pub returns-then-field-clause-decided : goal.returns-then-field-clause-decided
 returns-then-field-clause-decided c = record {

@@ -1,4 +1,4 @@
-use Rattle.std.proofs.Common.{◌≡◌, ℕ, ℤ, ◌*◌, ◌/◌, ◌≤◌, List, length, take, ap, ◌∙◌, subst, arith}
+use Rattle.std.proofs.Common.{◌≡◌, ℕ, ℤ, ◌*◌, ◌/◌, List, length, take, ap, ◌∙◌, subst, arith}
 use Rattle.dtx_soft.specs.Coders.{coders_distance}
 use Rattle.dtx_pins.specs.PinnedField.{IsPinned}
 use Rattle.dtx_pins.proofs.PinnedFieldLemmas.{pinned_cost_is, pinned_is}
