@@ -5,7 +5,9 @@ ghost use Rattle.dtx_rounds.specs.FieldRound.{KnowsNothing, words_known};
 ghost use Rattle.dtx_rounds.specs.Written.{IsWritten};
 
 use crate::group_bytes::empty_bytes;
-use dtx_sizes::{CODEWORD, FIELD_PACKETS, FIELD_SEGMENTS, GROUP_BYTES, GROUP_PACKETS, PRECODE, SEGMENT};
+use dtx_sizes::{
+    CODEWORD, FIELD_PACKETS, FIELD_SEGMENTS, GROUP_BYTES, GROUP_PACKETS, PRECODE, SEGMENT,
+};
 use std::alloc::{AllocError, Global};
 
 /// How many segments a field has, with its sync.
@@ -102,6 +104,7 @@ impl Field {
 
     /// Makes it a field without segments, of which nothing is known.
     pub(crate) fn clear(&mut self)
+        ensures written { self.new.written ≡ false }
         ensures count { self.new.count ≡ 0 }
         ensures cost { self.new.cost ≡ 0 }
         ensures nothing { KnowsNothing self.new.known.items self.new.words self.new.knows_more self.new.moved }

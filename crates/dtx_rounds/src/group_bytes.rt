@@ -24,11 +24,7 @@ pub(crate) fn empty_bytes(alloc: Global) -> Result<Vec<[u8; GROUP_BYTES]>, Alloc
 
 /// Writes the bytes of the groups of a field, before which the last twelve symbols have these levels. Where they are
 /// those that the field keeps, they are copied.
-pub(crate) fn write_bytes(
-    last: &[u8; PRECODE],
-    field: &mut Field,
-    bytes: &mut [[u8; GROUP_BYTES]],
-)
+pub(crate) fn write_bytes(last: &[u8; PRECODE], field: &mut Field, bytes: &mut [[u8; GROUP_BYTES]])
     requires groups { length bytes.old ≡ GROUPS }
     requires levels { EachIndex last.now (λ q. slice_index last.now q < 8) }
     ensures written { IsWritten field.new.count field.new.decided.items last.now bytes.new }
