@@ -14,7 +14,7 @@ use Rattle.dtx_receiver.specs.Bytes.{bytes_in, data_count, groups_of, levels_fro
 use Rattle.dtx_rounds.specs.Decided.{decided_rows}
 use Rattle.dtx_rounds.specs.FieldRound.{field_cost, rows_moved}
 use Rattle.dtx_rounds.specs.Fields.{rows_of}
-use Rattle.dtx_rounds.specs.Found.{bytes_there, field_levels, whole_segments}
+use Rattle.dtx_rounds.specs.Found.{bytes_there, whole_segments}
 use Rattle.dtx_rounds.specs.Known.{known_bytes, known_word}
 use Rattle.dtx_rounds.specs.Rounds.{rounded}
 use Rattle.dtx_rounds.specs.RunField.{IsInRun, IsRounded, IsTurned, StayKnown, codes_upto, whole_in}
@@ -112,8 +112,9 @@ whole_few : (count : ℕ) → (count - 1) / 4 * 4 ≤ count - 1
 whole_few count = omega arith
 
 levels_are : (given : List (List ℤ)) (f : ℕ) (field : Field) → field.count ≡ length (rows_of given f)
-    → decided_rows field ≡ rows_of given f → field_levels field ≡ levels_from given (312 * f) (whole_in given f)
-unfolding field_levels
+    → decided_rows field ≡ rows_of given f
+    → flat_map sliced_data (take (whole_segments field.count) (drop 1 field.decided.items))
+    ≡ levels_from given (312 * f) (whole_in given f)
 levels_are given f field count rows =
     sym (ap (flat_map sliced_data) (front_rows (whole_segments field.count) field.count field.decided.items
     (whole_few field.count)))
@@ -140,7 +141,6 @@ pub written_bytes : (given : List (List ℤ)) (f : ℕ) (field : Field) (last : 
     → IsWritten field.count field.decided.items last groups
     → take (207 * whole_in given f) (flat_map (λ group. group) groups)
     ≡ take (207 * whole_in given f) (drop (64584 * f) (bytes_in given))
-unfolding field_levels
 written_bytes given f field last groups long l count rows before written =
     ap (λ n. take (207 * whole_segments n) (flat_map (λ (group : List ℕ). group) groups)) (sym count) ∙ written.bytes
     ∙ ap₂ (bytes_back 0) before (levels_are given f field count rows)

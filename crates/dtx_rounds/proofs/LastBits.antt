@@ -1,6 +1,6 @@
 -- The precoder bits behind a whole field: its last twelve symbols are the last ones of the twelve coders.
-use Rattle.std.proofs.Common.{◌≡◌, ℕ, ℤ, pos, ◌+◌, ◌-◌, ◌*◌, ◌/◌, ◌%◌, ◌<◌, ◌≤◌, List, drop, get_or, length, sym, ap, ap₂}
-use Rattle.std.proofs.Common.{◌∙◌, arith}
+use Rattle.std.proofs.Common.{◌≡◌, ℕ, ℤ, pos, ◌+◌, ◌-◌, ◌*◌, ◌/◌, ◌%◌, ◌<◌, ◌≤◌, List, drop, get_or, length}
+use Rattle.std.proofs.Common.{sym, ap, ◌∙◌, arith}
 use Rattle.std.proofs.lemmas.List.{get_or-drop, get_or-map, length-drop}
 use Rattle.dtx_lists.proofs.Range.{map-range_same}
 use Rattle.dtx_slice.specs.Slicing.{sliced, sliced_last}

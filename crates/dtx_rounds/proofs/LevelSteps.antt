@@ -1,5 +1,5 @@
--- The symbol of a level at a scale, found by a multiplication: the steps from the lowest level to it, times 256 over the
--- scale, rounded up.
+-- The symbol of a level at a scale, found by a multiplication: the steps from the lowest level to it, times 256 over
+-- the scale, rounded up.
 use Rattle.std.proofs.Common.{◌≡◌, ℕ, ℤ, pos, ◌+◌, ◌-◌, ◌*◌, ◌/◌, ◌%◌, ◌<◌, ◌+ℤ◌, ◌-ℤ◌, ◌*ℤ◌, Bool, true, nat_lt, refl}
 use Rattle.std.proofs.Common.{sym, ap, ap₂, ◌∙◌, subst, arith, to_z, of_z, w8, Fits, FitsSigned}
 use Rattle.std.specs.Ordering.{int_eq}

@@ -1,6 +1,7 @@
 //! A field of a capture on its way through the rounds.
 
-ghost use Rattle.std.specs.Prelude.{◌≡◌, ◌+◌, ◌-◌, ◌*◌, ◌/◌, ◌<◌, ◌≤◌, ◌++◌, IfOk, true, false, drop, length, take, vec_len};
+ghost use Rattle.std.specs.Prelude.{◌≡◌, ◌+◌, ◌-◌, ◌*◌, ◌/◌, ◌<◌, ◌≤◌, ◌++◌, IfOk, true, false, drop, length, take};
+ghost use Rattle.std.specs.Prelude.{vec_len};
 ghost use Rattle.dtx_rounds.specs.FieldRound.{KnowsNothing, words_known};
 ghost use Rattle.dtx_rounds.specs.Written.{IsWritten};
 
@@ -44,9 +45,11 @@ pub struct Field {
     pub(crate) knows_more: bool,
     /// In how many symbols the last round's segments differ from those of the round before.
     pub(crate) moved: u64,
-    /// Whether the bytes of the decided segments are kept, which follow the levels of these last twelve symbols.
+    /// Whether the bytes of the decided segments are kept.
     pub(crate) written: bool,
+    /// The levels of the last twelve symbols before these segments, when their bytes were written.
     pub(crate) last: [u8; PRECODE],
+    /// The bytes that are kept.
     pub(crate) bytes: Vec<[u8; GROUP_BYTES]>,
     ghost few: { count ≤ 313 },
     ghost cost_small: { cost ≤ 16720224624 },

@@ -91,6 +91,7 @@ impl Round {
             → IsRounded means.old.scale heard given f field.new
             × Holds means.old.scale heard given before (f + 1) self.new.held self.new.bytes.items }
     {
+        // A whole field ends with the last symbols of the twelve coders.
         let last = last_levels(&self.held.decided[WORDS]);
         write_bytes(&last, field, &mut self.behind[..]);
         turn(
