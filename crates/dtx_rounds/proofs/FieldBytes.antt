@@ -48,18 +48,9 @@ field_place : (f : ℕ) → group_place 0 (78 * f) ≡ 0
 unfolding group_place
 field_place f = omega arith
 
-before_long : (run : List (List ℤ)) (f : ℕ) → AreLong run → 312 * f ≤ 4 * groups_of run
+pub before_long : (run : List (List ℤ)) (f : ℕ) → AreLong run → 312 * f ≤ 4 * groups_of run
     → length (levels_from run 0 (312 * f)) ≡ 3312 * (78 * f)
 before_long run f h l = length-from run 0 (312 * f) h (omega (arith, l)) ∙ omega arith
-
-pub bits_next : (run : List (List ℤ)) (f n : ℕ) → AreLong run → 312 * f ≤ 4 * groups_of run
-    → precoder_bits_after 0 (first_bits run) (levels_from run 0 (312 * f + n))
-    ≡ precoder_bits_after 0 (field_bits run f) (levels_from run (312 * f) n)
-bits_next run f n h l =
-    ap (precoder_bits_after 0 (first_bits run)) (levels_parts run 0 (312 * f) n)
-    ∙ precoder_bits_append 0 (78 * f) (first_bits run) (levels_from run 0 (312 * f)) (levels_from run (0 + 312 * f) n)
-    (before_long run f h l)
-    ∙ ap₂ (λ s a. precoder_bits_after s (field_bits run f) (levels_from run a n)) (field_place f) (omega arith)
 
 -- all levels from a field on
 levels_split : (run : List (List ℤ)) (a b c : ℕ) → a + (b + c) ≡ 4 * groups_of run

@@ -9,17 +9,18 @@ use Rattle.std.proofs.lemmas.List.{length-drop}
 use Rattle.std.proofs.lemmas.List.{take-take}
 use Rattle.std.proofs.lemmas.List.FromFn.{get_or-map-range_with_len, length-map-range_with_len}
 use Rattle.dtx_slice.specs.Slicing.{sliced_data}
-use Rattle.dtx_slice.specs.Unrolled.{bytes_back, precoder_bits_after}
+use Rattle.dtx_slice.specs.Unrolled.{bytes_back, precoder_bits_of}
 use Rattle.dtx_receiver.specs.Bytes.{bytes_in, data_count, groups_of, levels_from}
 use Rattle.dtx_rounds.specs.Decided.{decided_rows}
 use Rattle.dtx_rounds.specs.FieldRound.{field_cost, rows_moved}
 use Rattle.dtx_rounds.specs.Fields.{rows_of}
-use Rattle.dtx_rounds.specs.Found.{bytes_there, field_levels, whole_segments}
+use Rattle.dtx_rounds.specs.Found.{bytes_there, whole_segments}
 use Rattle.dtx_rounds.specs.Known.{known_bytes, known_word}
 use Rattle.dtx_rounds.specs.Rounds.{rounded}
-use Rattle.dtx_rounds.specs.RunField.{IsInRun, IsRounded, IsTurned, StayKnown, bits_before, codes_upto, whole_in}
+use Rattle.dtx_rounds.specs.RunField.{IsInRun, IsRounded, IsTurned, StayKnown, codes_upto, whole_in}
+use Rattle.dtx_rounds.specs.Written.{IsWritten}
 use Rattle.dtx_rounds.specs.declared.field.Field.{Field}
-use Rattle.dtx_rounds.proofs.FieldBytes.{bits_next, bytes_in_field, levels_rows}
+use Rattle.dtx_rounds.proofs.FieldBytes.{bytes_in_field, field_bits, levels_rows}
 use Rattle.dtx_rounds.proofs.FieldRounds.{length-rows}
 use Rattle.dtx_rounds.proofs.FieldWords.{AreThere, known_in_field}
 use Rattle.dtx_rounds.proofs.FoundFields.{found_field}
@@ -111,8 +112,9 @@ whole_few : (count : ℕ) → (count - 1) / 4 * 4 ≤ count - 1
 whole_few count = omega arith
 
 levels_are : (given : List (List ℤ)) (f : ℕ) (field : Field) → field.count ≡ length (rows_of given f)
-    → decided_rows field ≡ rows_of given f → field_levels field ≡ levels_from given (312 * f) (whole_in given f)
-unfolding field_levels
+    → decided_rows field ≡ rows_of given f
+    → flat_map sliced_data (take (whole_segments field.count) (drop 1 field.decided.items))
+    ≡ levels_from given (312 * f) (whole_in given f)
 levels_are given f field count rows =
     sym (ap (flat_map sliced_data) (front_rows (whole_segments field.count) field.count field.decided.items
     (whole_few field.count)))
@@ -133,32 +135,23 @@ room given f l =
     subst (λ c. 312 * f + whole_segments c ≤ 4 * ((length given - (length given + 312) / 313) / 4))
     (sym (length-rows given f)) (room_in_run (length given) f l)
 
-pub written_bytes : (given : List (List ℤ)) (f : ℕ) (field : Field) (bits : List ℕ) (groups : List (List ℕ))
+pub written_bytes : (given : List (List ℤ)) (f : ℕ) (field : Field) (last : List ℕ) (groups : List (List ℕ))
     → AreLong given → 313 * f < length given → field.count ≡ length (rows_of given f)
-    → decided_rows field ≡ rows_of given f → bits ≡ bits_before given (312 * f)
-    → take (207 * whole_segments field.count) (flat_map (λ group. group) groups)
-    ≡ bytes_back 0 bits (field_levels field)
+    → decided_rows field ≡ rows_of given f → precoder_bits_of last ≡ field_bits given f
+    → IsWritten field.count field.decided.items last groups
     → take (207 * whole_in given f) (flat_map (λ group. group) groups)
     ≡ take (207 * whole_in given f) (drop (64584 * f) (bytes_in given))
-written_bytes given f field bits groups long l count rows before written =
-    ap (λ n. take (207 * whole_segments n) (flat_map (λ (group : List ℕ). group) groups)) (sym count) ∙ written
+written_bytes given f field last groups long l count rows before written =
+    ap (λ n. take (207 * whole_segments n) (flat_map (λ (group : List ℕ). group) groups)) (sym count) ∙ written.bytes
     ∙ ap₂ (bytes_back 0) before (levels_are given f field count rows)
     ∙ by_groups ((length (rows_of given f) - 1) / 4) (whole_in given f) (omega arith) (room given f l)
   where
     by_groups : (g n : ℕ) → n ≡ g * 4 → 312 * f + n ≤ 4 * groups_of given
-        → bytes_back 0 (bits_before given (312 * f)) (levels_from given (312 * f) n)
+        → bytes_back 0 (field_bits given f) (levels_from given (312 * f) n)
         ≡ take (207 * n) (drop (64584 * f) (bytes_in given))
     by_groups g n e m =
         let segments : n ≡ 4 * g = omega (arith, e) in
         let bytes : 828 * g ≡ 207 * n = omega (arith, e) in
-        ap (λ k. bytes_back 0 (bits_before given (312 * f)) (levels_from given (312 * f) k)) segments
+        ap (λ k. bytes_back 0 (field_bits given f) (levels_from given (312 * f) k)) segments
         ∙ sym (bytes_in_field given f g long (omega (arith, e, m)))
         ∙ ap (λ k. take k (drop (64584 * f) (bytes_in given))) bytes
-
-pub written_bits : (given : List (List ℤ)) (f : ℕ) (field : Field) (bits new : List ℕ) → AreLong given
-    → 313 * f < length given → field.count ≡ length (rows_of given f) → decided_rows field ≡ rows_of given f
-    → bits ≡ bits_before given (312 * f) → new ≡ precoder_bits_after 0 bits (field_levels field)
-    → new ≡ bits_before given (312 * f + whole_in given f)
-written_bits given f field bits new long l count rows before written =
-    written ∙ ap₂ (precoder_bits_after 0) before (levels_are given f field count rows)
-    ∙ sym (bits_next given f (whole_in given f) long (omega (arith, room given f l)))

@@ -9,19 +9,22 @@ use Rattle.std.proofs.lemmas.List.FromFn.{length-map-range_with_len}
 use Rattle.std.proofs.Math.Seq.{take-add}
 use Rattle.dtx_lists.proofs.Range.{map-range_same}
 use Rattle.dtx_slice.specs.Slicing.{sliced_last}
-use Rattle.dtx_slice.specs.Unrolled.{bytes_back, precoder_bits_after, precoder_bits_of}
-use Rattle.dtx_receiver.specs.Bytes.{bytes_in, data_count, first_bits, groups_of, levels_from}
+use Rattle.dtx_slice.specs.Unrolled.{precoder_bits_of}
+use Rattle.dtx_receiver.specs.Bytes.{bytes_in, data_at, data_count, first_bits, groups_of, levels_from}
 use Rattle.dtx_rounds.specs.Decided.{decided_rows}
 use Rattle.dtx_rounds.specs.Fields.{rows_of}
-use Rattle.dtx_rounds.specs.Found.{bytes_there, field_levels, whole_segments}
+use Rattle.dtx_rounds.specs.Found.{bytes_there, whole_segments}
 use Rattle.dtx_rounds.specs.Known.{known_word}
-use Rattle.dtx_rounds.specs.RunField.{Holds, IsInRun, IsRounded, IsTurned, StayKnown, bits_before, codes_upto, whole_in}
+use Rattle.dtx_rounds.specs.RunField.{Holds, IsInRun, IsRounded, IsTurned, StayKnown, codes_upto, whole_in}
+use Rattle.dtx_rounds.specs.Written.{IsWritten}
 use Rattle.dtx_rounds.specs.declared.field.Field.{Field}
+use Rattle.dtx_rounds.proofs.FieldBytes.{field_bits}
 use Rattle.dtx_rounds.proofs.FieldRounds.{length-rows, row_of}
 use Rattle.dtx_rounds.proofs.FieldWords.{AreThere}
 use Rattle.dtx_rounds.proofs.FoundFields.{found_behind}
 use Rattle.dtx_rounds.proofs.GroupBytes.{bits_none}
-use Rattle.dtx_rounds.proofs.HeldFields.{rounded_from, sought_from, there_last, there_next, written_bits, written_bytes}
+use Rattle.dtx_rounds.proofs.HeldFields.{rounded_from, sought_from, there_last, there_next, written_bytes}
+use Rattle.dtx_rounds.proofs.LastBits.{last_bits}
 use Rattle.dtx_rounds.proofs.RunLevels.{AreLong}
 use Rattle.dtx_rounds.proofs.RunWords.{AreSought, code_byte_same, upto_before}
 
@@ -46,7 +49,7 @@ unfolding first_bits precoder_bits_of
 length-first given =
     length-map-range_with_len (λ e. get_or (sliced_last (get_or given 0 [])) ((e + 4) % 12) 0 / 4) 0 12
 
-bits_first : (given : List (List ℤ)) → first_bits given ≡ bits_before given (312 * 0)
+bits_first : (given : List (List ℤ)) → first_bits given ≡ field_bits given 0
 unfolding levels_from
 bits_first given = bits_none (first_bits given) (length-first given)
 
@@ -57,24 +60,22 @@ sync_is given field some count rows =
     sym (get_or-take field.count field.decided.items 0 [] (omega (arith, count, length-rows given 0, some)))
     ∙ ap (λ (xs : List (List ℤ)). get_or xs 0 []) rows ∙ row_of given 0 0 (omega arith)
 
-pub held_first : (scale : ℕ) (heard given : List (List ℤ)) (before : List ℕ) (field : Field) (bits new : List ℕ)
+pub held_first : (scale : ℕ) (heard given : List (List ℤ)) (before : List ℕ) (field : Field)
     (groups : List (List ℕ)) → AreLong given → 0 < length given
     → IsInRun scale heard given (known_word before) 0 field
-    → bits ≡ precoder_bits_of (sliced_last (get_or field.decided.items 0 []))
-    → take (207 * whole_segments field.count) (flat_map (λ group. group) groups)
-    ≡ bytes_back 0 bits (field_levels field)
-    → new ≡ precoder_bits_after 0 bits (field_levels field) → Holds scale heard given before 0 field groups new
+    → IsWritten field.count field.decided.items (sliced_last (get_or field.decided.items 0 [])) groups
+    → Holds scale heard given before 0 field groups
 unfolding first_bits
-held_first scale heard given before field bits new groups long some h start bytes after = record {
+held_first scale heard given before field groups long some h written = record {
   held = same_codes scale 0 heard given (known_word before) (codes_upto before (bytes_in given) (312 * 0)) field
       (λ k. sym (upto_before before (bytes_in given) (312 * 0) k (omega arith))) h;
-  bytes = written_bytes given 0 field bits groups long (omega (arith, some)) h.count h.decided here bytes;
-  bits_are = written_bits given 0 field bits new long (omega (arith, some)) h.count h.decided here after;
+  bytes = written_bytes given 0 field (sliced_last (get_or field.decided.items 0 [])) groups long (omega (arith, some))
+      h.count h.decided here written;
 }
   where
-    here : bits ≡ bits_before given (312 * 0)
+    here : precoder_bits_of (sliced_last (get_or field.decided.items 0 [])) ≡ field_bits given 0
     here =
-        start ∙ ap (λ s. precoder_bits_of (sliced_last s)) (sync_is given field some h.count h.decided)
+        ap (λ s. precoder_bits_of (sliced_last s)) (sync_is given field some h.count h.decided)
         ∙ bits_first given
 
 -- ---- from a field to the next one
@@ -84,6 +85,29 @@ whole_field n f l = omega (arith, l)
 
 whole_before : (given : List (List ℤ)) (f : ℕ) → 313 * (f + 1) < length given → whole_in given f ≡ 312
 whole_before given f l = ap whole_segments (length-rows given f) ∙ whole_field (length given) f l
+
+-- the last segment of a field that isn't the last one
+last_is : (given : List (List ℤ)) (f : ℕ) (field : Field) → 313 * (f + 1) < length given
+    → field.count ≡ length (rows_of given f) → decided_rows field ≡ rows_of given f
+    → get_or field.decided.items 312 [] ≡ data_at given (312 * f + 311)
+unfolding data_at
+last_is given f field more count rows =
+    let there : 313 * f + 312 ≡ 312 * f + 311 + (312 * f + 311) / 312 + 1 = omega arith in
+    sym (get_or-take field.count field.decided.items 312 [] (omega (arith, count, length-rows given f, more)))
+    ∙ ap (λ (xs : List (List ℤ)). get_or xs 312 []) rows ∙ row_of given f 312 (omega arith)
+    ∙ ap (λ n. get_or given n []) there
+
+full_before : (n f : ℕ) → 313 * (f + 1) < n → 312 * (f + 1) ≤ 4 * ((n - (n + 312) / 313) / 4)
+full_before n f l = omega (arith, l)
+
+-- the precoder bits behind it
+bits_behind : (given : List (List ℤ)) (f : ℕ) (field : Field) → AreLong given → 313 * (f + 1) < length given
+    → field.count ≡ length (rows_of given f) → decided_rows field ≡ rows_of given f
+    → precoder_bits_of (sliced_last (get_or field.decided.items 312 [])) ≡ field_bits given (f + 1)
+unfolding groups_of data_count
+bits_behind given f field long more count rows =
+    ap (λ s. precoder_bits_of (sliced_last s)) (last_is given f field more count rows)
+    ∙ last_bits given f long (full_before (length given) f more)
 
 -- the bytes of both fields
 join : (own behind all : List ℕ) (f n : ℕ) → length own ≡ 64584
@@ -102,26 +126,22 @@ join own behind all f n long e h =
     ∙ take-add (207 * 312) (207 * n) (drop (64584 * f) all))
 
 pub held_next : (scale f : ℕ) (heard given : List (List ℤ)) (before : List ℕ) (held field new new_next : Field)
-    (groups behind : List (List ℕ)) (bits new_bits : List ℕ) → AreLong given → StayKnown before (bytes_in given)
-    → 313 * (f + 1) < length given → Holds scale heard given before f held groups bits
+    (groups behind : List (List ℕ)) → AreLong given → StayKnown before (bytes_in given)
+    → 313 * (f + 1) < length given → Holds scale heard given before f held groups
     → IsInRun scale heard given (known_word before) (f + 1) field
     → length (flat_map (λ group. group) groups) ≡ 64584
-    → take (207 * whole_segments field.count) (flat_map (λ group. group) behind)
-    ≡ bytes_back 0 bits (field_levels field)
-    → new_bits ≡ precoder_bits_after 0 bits (field_levels field)
+    → IsWritten field.count field.decided.items (sliced_last (get_or held.decided.items 312 [])) behind
     → IsTurned scale (flat_map (λ group. group) groups) (flat_map (λ group. group) behind) held field new new_next
-    → IsRounded scale heard given f new × Holds scale heard given before (f + 1) new_next behind new_bits
+    → IsRounded scale heard given f new × Holds scale heard given before (f + 1) new_next behind
 unfolding bytes_there groups_of data_count
-held_next scale f heard given before held field new new_next groups behind bits new_bits long stays more h k full
-    written after t = (
-      rounded_from scale f heard given before own other held field new new_next long h.held sought t,
-      record {
-        held = found_behind scale f heard given before (bytes_in given) (bytes_there held field own other) held field
-            t.between new_next k sought t.words;
-        bytes = next;
-        bits_are = written_bits given (f + 1) field bits new_bits long more k.count k.decided here after;
-      },
-    )
+held_next scale f heard given before held field new new_next groups behind long stays more h k full written t = (
+  rounded_from scale f heard given before own other held field new new_next long h.held sought t,
+  record {
+    held = found_behind scale f heard given before (bytes_in given) (bytes_there held field own other) held field
+        t.between new_next k sought t.words;
+    bytes = next;
+  },
+)
   where
     own : List ℕ
     own = flat_map (λ group. group) groups
@@ -132,14 +152,11 @@ held_next scale f heard given before held field new new_next groups behind bits 
     all : whole_in given f ≡ 312
     all = whole_before given f more
 
-    here : bits ≡ bits_before given (312 * (f + 1))
-    here =
-        let there : 312 * f + whole_in given f ≡ 312 * (f + 1) = omega (arith, all) in
-        h.bits_are ∙ ap (bits_before given) there
-
     next : take (207 * whole_in given (f + 1)) other
         ≡ take (207 * whole_in given (f + 1)) (drop (64584 * (f + 1)) (bytes_in given))
-    next = written_bytes given (f + 1) field bits behind long more k.count k.decided here written
+    next =
+        written_bytes given (f + 1) field (sliced_last (get_or held.decided.items 312 [])) behind long more k.count
+        k.decided (bits_behind given f held long more h.held.count h.held.decided) written
 
     there_are : bytes_there held field own other
         ≡ take (207 * (whole_in given f + whole_in given (f + 1))) (drop (64584 * f) (bytes_in given))
@@ -167,13 +184,13 @@ held_next scale f heard given before held field new new_next groups behind bits 
 -- ---- the last field
 
 pub held_last : (scale f : ℕ) (heard given : List (List ℤ)) (before behind : List ℕ) (held field new new_next : Field)
-    (groups : List (List ℕ)) (bits : List ℕ) → AreLong given → StayKnown before (bytes_in given)
-    → 313 * f < length given → length given ≤ 313 * (f + 1) → Holds scale heard given before f held groups bits
+    (groups : List (List ℕ)) → AreLong given → StayKnown before (bytes_in given)
+    → 313 * f < length given → length given ≤ 313 * (f + 1) → Holds scale heard given before f held groups
     → field.count ≡ 0 → length (flat_map (λ group. group) groups) ≡ 64584
     → IsTurned scale (flat_map (λ group. group) groups) behind held field new new_next
     → IsRounded scale heard given f new
 unfolding bytes_there groups_of data_count
-held_last scale f heard given before behind held field new new_next groups bits long stays some most h none full t =
+held_last scale f heard given before behind held field new new_next groups long stays some most h none full t =
     rounded_from scale f heard given before own behind held field new new_next long h.held
     (sought_from scale f (whole_in given f + whole_segments 0) heard given before (bytes_there held field own behind)
     held long stays h.held segments there_are) t

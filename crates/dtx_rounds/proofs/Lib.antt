@@ -12,6 +12,8 @@ pub mod FoundFields
 pub mod TurnedFields
 pub mod HeldFields
 pub mod HeldRounds
+pub mod LastBits
+pub mod UnchangedFields
 pub mod FieldWords
 pub mod FieldBytes
 pub mod KnownPlaces

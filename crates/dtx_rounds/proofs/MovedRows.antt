@@ -1,17 +1,18 @@
 -- Segments whose symbols are set to those of paths, one behind the other.
-use Rattle.std.proofs.Common.{◌≡◌, ℕ, ℤ, pos, zero, suc, ◌+◌, ◌-◌, ◌<◌, ◌≤◌, ◌⊎◌, inl, inr}
+use Rattle.std.proofs.Common.{◌≡◌, ℕ, ℤ, pos, zero, suc, ◌+◌, ◌-◌, ◌<◌, ◌≤◌, ◌⊎◌, inl, inr, true, false}
 use Rattle.std.proofs.Common.{cond, List, [], length, map, take, drop, get_or, set, sum, refl, sym, ap}
 use Rattle.std.proofs.Common.{◌∙◌, ap₂, arith}
 use Rattle.std.specs.Ordering.{int_eq}
 use Rattle.std.specs.List.{range_with_len}
-use Rattle.std.proofs.lemmas.Bool.{cases_lt}
+use Rattle.std.proofs.lemmas.Bool.{cases_Bool, cases_lt}
 use Rattle.std.proofs.lemmas.Bool.Decides.{Decides-int_eq}
 use Rattle.std.proofs.lemmas.Grind.{get_or-set_at}
 use Rattle.std.proofs.lemmas.List.{get_or-append_right, get_or-drop, get_or-map, get_or-set_other, get_or-take}
 use Rattle.std.proofs.lemmas.List.{get_or_append_left, length-append, length-drop, length-map, length-take-le}
 use Rattle.std.proofs.lemmas.List.FromFn.{fill_by_all, get_or-map-range_with_len, length-map-range_with_len}
 use Rattle.dtx_acquire.specs.Scaled.{decided}
-use Rattle.dtx_rounds.specs.FieldRound.{on_path, on_paths}
+use Rattle.dtx_rounds.specs.FieldRound.{on_path, on_paths, rows_moved}
+use Rattle.dtx_rounds.specs.Rounds.{moved_in}
 use Rattle.dtx_rounds.proofs.RangeSteps.{sum_next}
 
 -- ---- a segment on a path
@@ -114,3 +115,61 @@ pub length-on_paths : (scale : ℕ) (paths segments : List (List ℤ))
 unfolding on_paths
 length-on_paths scale paths segments =
     length-map-range_with_len (λ i. on_path scale (get_or paths i []) (get_or segments i [])) 0 (length segments)
+
+-- ---- where nothing moves
+
+last_or_before : (f : ℕ → ℕ) (n i : ℕ) → i < suc n → sum (map f (range_with_len 0 n)) + f n ≡ 0
+    → (sum (map f (range_with_len 0 n)) ≡ 0 → i < n → f i ≡ 0) → (i < n) ⊎ (n ≤ i) → f i ≡ 0
+last_or_before f n i l e h (inl before) = h (omega (arith, e)) before
+last_or_before f n i l e h (inr there) =
+    let here : i ≡ n = omega (arith, l, there) in
+    ap f here ∙ omega (arith, e)
+
+none_of_sum : (f : ℕ → ℕ) (n i : ℕ) → sum (map f (range_with_len 0 n)) ≡ 0 → i < n → f i ≡ 0
+none_of_sum f zero i e l = absurd (omega arith)
+none_of_sum f (suc n) i e l =
+    let next : n + 1 ≡ suc n = omega arith in
+    last_or_before f n i l (sym (sum_next f n) ∙ ap (λ m. sum (map f (range_with_len 0 m))) next ∙ e)
+    (λ none before. none_of_sum f n i none before) (cases_lt i n)
+
+same_symbol : (a b : ℤ) → ◌≡◌ {A = ℕ} (cond (int_eq a b) 0 1) 0 → a ≡ b
+same_symbol a b e = by_test (cases_Bool (int_eq a b))
+  where
+    by_test : (int_eq a b ≡ true) ⊎ (int_eq a b ≡ false) → a ≡ b
+    by_test (inl same) = (Decides-int_eq a b).0 same
+    by_test (inr other) =
+        let one : ◌≡◌ {A = ℕ} 1 0 = sym (ap (λ t. cond {A = ℕ} t 0 1) other) ∙ e in
+        absurd (omega (arith, one))
+
+up_to : (n : ℕ) → n ≤ n
+up_to n = omega arith
+
+same_segment : (old new : List ℤ) → length old ≡ 832 → length new ≡ 832 → moved_in old new ≡ 0 → new ≡ old
+unfolding moved_in
+same_segment old new long full e =
+    written_all (pos 0) 832 832 old new new
+    (record {
+      done = λ j l. sym (same_symbol _ _ (none_of_sum (λ k. cond (int_eq (get_or old k (pos 0))
+          (get_or new k (pos 0))) 0 1) 832 j e l));
+      rest = λ j l. refl;
+    }) (up_to 832) full long
+
+-- segments of which no symbol moves stay
+pub same_segments : (scale : ℕ) (paths segments : List (List ℤ)) → length segments ≡ length paths
+    → ((i : ℕ) → i < length paths → length (get_or paths i []) ≡ 832)
+    → ((i : ℕ) → i < length segments → length (get_or segments i []) ≡ 832)
+    → rows_moved segments (on_paths scale paths segments) ≡ 0 → on_paths scale paths segments ≡ segments
+unfolding rows_moved
+same_segments scale paths segments same paths_long long e =
+    written_all [] (length segments) (length segments) segments (on_paths scale paths segments)
+    (on_paths scale paths segments) (record { done = λ j l. row j l; rest = λ j l. refl }) (up_to (length segments))
+    (length-on_paths scale paths segments) refl
+  where
+    row : (j : ℕ) → j < length segments → get_or (on_paths scale paths segments) j [] ≡ get_or segments j []
+    row j l =
+        same_segment (get_or segments j []) (get_or (on_paths scale paths segments) j []) (long j l)
+        (ap length (on_paths_at scale j paths segments l)
+        ∙ length-on_path scale (get_or paths j []) (get_or segments j []) (long j l)
+        (paths_long j (omega (arith, l, same))))
+        (none_of_sum (λ i. moved_in (get_or segments i []) (get_or (on_paths scale paths segments) i []))
+        (length segments) j e l)

@@ -62,18 +62,24 @@ rows_are : (run : List (List ℤ)) → AreLong run → (j : ℕ) → 0 ≤ j →
     → length (sliced_data (data_at run j)) ≡ 828
 rows_are run h j a l = segment_long (data_at run j) (data_long run j h (omega arith))
 
--- the level of data symbol k of data segment d
-pub level_in : (run : List (List ℤ)) (d k : ℕ) → AreLong run → d < 4 * groups_of run → k < 828
-    → get_or (levels_in run) (828 * d + k) 0 ≡ sliced (get_or (data_at run d) (4 + k) (pos 0))
-unfolding levels_in levels_from sliced_data
-level_in run d k h l m =
+-- the level of data symbol k of data segment d, among those of the first n
+pub level_from : (run : List (List ℤ)) (n d k : ℕ) → AreLong run → n ≤ 4 * groups_of run → d < n → k < 828
+    → get_or (levels_from run 0 n) (828 * d + k) 0 ≡ sliced (get_or (data_at run d) (4 + k) (pos 0))
+unfolding levels_from sliced_data
+level_from run n d k h few l m =
     let none : 0 + d ≡ d = omega arith in
     let rest : k < length (drop 4 (data_at run d)) =
-    omega (arith, m, length-drop 4 (data_at run d), data_long run d h l) in
-    row_at (λ i. sliced_data (data_at run i)) 0 (4 * groups_of run) d k (rows_are run h) l m
+    omega (arith, m, length-drop 4 (data_at run d), data_long run d h (omega (arith, l, few))) in
+    row_at (λ i. sliced_data (data_at run i)) 0 n d k (λ j a b. rows_are run h j a (omega (arith, b, few))) l m
     ∙ ap (λ i. get_or (sliced_data (data_at run i)) k 0) none
     ∙ get_or-map sliced (drop 4 (data_at run d)) k (pos 0) 0 rest
     ∙ ap sliced (get_or-drop 4 (data_at run d) k (pos 0))
+
+-- the same among all
+pub level_in : (run : List (List ℤ)) (d k : ℕ) → AreLong run → d < 4 * groups_of run → k < 828
+    → get_or (levels_in run) (828 * d + k) 0 ≡ sliced (get_or (data_at run d) (4 + k) (pos 0))
+unfolding levels_in
+level_in run d k h l m = level_from run (4 * groups_of run) d k h (omega arith) l m
 
 pub length-from : (run : List (List ℤ)) (a n : ℕ) → AreLong run → a + n ≤ 4 * groups_of run
     → length (levels_from run a n) ≡ 828 * n

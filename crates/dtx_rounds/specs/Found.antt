@@ -4,8 +4,7 @@
 use Rattle.std.specs.Prelude.{ℕ, ◌≡◌, ◌+◌, ◌-◌, ◌*◌, ◌/◌, ◌%◌, ◌==◌, ◌++◌, ◌&&◌, ◌||◌, nat_le, not, Bool, false, true}
 use Rattle.std.specs.Prelude.{if◌then◌else◌, Option, Some, None, is_some, option_map, List, length, map, take, drop}
 use Rattle.std.specs.Prelude.{slice_index, slice_index_or}
-use Rattle.std.specs.List.{flat_map, list_any, range_with_len}
-use Rattle.dtx_slice.specs.Slicing.{sliced_data}
+use Rattle.std.specs.List.{list_any, range_with_len}
 use Rattle.dtx_receiver.specs.Packets.{is_complete}
 use Rattle.dtx_rounds.specs.Known.{known_word}
 use Rattle.dtx_rounds.specs.declared.field.Field.{Field}
@@ -13,10 +12,6 @@ use Rattle.dtx_rounds.specs.declared.field.Field.{Field}
 -- how many data segments a field with so many segments has in whole groups: its first segment is its sync
 abbrev pub whole_segments : ℕ → ℕ
 whole_segments count = (count - 1) / 4 * 4
-
--- the levels of these segments, as they are decided
-unfoldable pub field_levels : Field → List ℕ
-field_levels field = flat_map sliced_data (take (whole_segments field.count) (drop 1 field.decided.items))
 
 -- Those bytes of a field and of the one behind it that are there: 207 of each data segment in a whole group. The field
 -- behind has a segment only where this one has all of its own.
@@ -75,6 +70,13 @@ pub record IsKept (field new : Field) : Type 0 where
   pub decided : new.decided ≡ field.decided
   pub cost : new.cost ≡ field.cost
   pub moved : new.moved ≡ field.moved
+
+-- all that a round reads of a field is as before
+pub record IsUnchanged (field new : Field) : Type 0 where
+  pub rest : IsKept field new
+  pub known : new.known ≡ field.known
+  pub words : new.words ≡ field.words
+  pub knows_more : new.knows_more ≡ field.knows_more
 
 -- A field and the one behind it, `new` and `new_next`, are as before but for what is known with these corrections.
 pub record AreFound (codes : ℕ → Option (List ℕ)) (field next new new_next : Field) : Type 0 where

@@ -1,5 +1,6 @@
 pub mod Known
 pub mod Found
+pub mod Written
 pub mod Pins
 pub mod Rounds
 pub mod Fields

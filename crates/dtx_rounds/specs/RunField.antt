@@ -2,8 +2,7 @@
 use Rattle.std.specs.Prelude.{ℕ, ℤ, ◌≡◌, ◌+◌, ◌*◌, ◌<◌, nat_lt, false, if◌then◌else◌, Option, Some, None, is_some, List}
 use Rattle.std.specs.Prelude.{drop, length, map, slice_index_or, sum, take}
 use Rattle.std.specs.List.{flat_map, range_with_len}
-use Rattle.dtx_slice.specs.Unrolled.{precoder_bits_after}
-use Rattle.dtx_receiver.specs.Bytes.{bytes_in, first_bits, levels_from}
+use Rattle.dtx_receiver.specs.Bytes.{bytes_in}
 use Rattle.dtx_rounds.specs.Decided.{IsDecided, decided_rows, heard_rows}
 use Rattle.dtx_rounds.specs.FieldRound.{field_cost, field_rounded, rows_moved}
 use Rattle.dtx_rounds.specs.Fields.{rows_of}
@@ -45,18 +44,13 @@ pub record IsInRun (scale : ℕ) (heard given : List (List ℤ)) (codes : ℕ �
 abbrev pub whole_in : List (List ℤ) → ℕ → ℕ
 whole_in given f = whole_segments (length (rows_of given f))
 
--- the precoder bits of the coders before data segment d of a run
-abbrev pub bits_before : List (List ℤ) → ℕ → List ℕ
-bits_before given d = precoder_bits_after 0 (first_bits given) (levels_from given 0 d)
-
--- A round holds field f of a run, with the bytes of its groups, and the precoder bits behind them. The words of the
--- fields before it were sought. `before` are the bytes that the run had before the last round.
+-- A round holds field f of a run, with the bytes of its groups. The words of the fields before it were sought. `before`
+-- are the bytes that the run had before the last round.
 pub record Holds (scale : ℕ) (heard given : List (List ℤ)) (before : List ℕ) (f : ℕ) (field : Field)
-    (groups : List (List ℕ)) (bits : List ℕ) : Type 0 where
+    (groups : List (List ℕ)) : Type 0 where
   pub held : IsInRun scale heard given (codes_upto before (bytes_in given) (312 * f)) f field
   pub bytes : take (207 * whole_in given f) (flat_map (λ group. group) groups)
       ≡ take (207 * whole_in given f) (drop (64584 * f) (bytes_in given))
-  pub bits_are : bits ≡ bits_before given (312 * f + whole_in given f)
 
 -- ---- its round
 

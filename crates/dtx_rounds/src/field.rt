@@ -1,9 +1,14 @@
 //! A field of a capture on its way through the rounds.
 
-ghost use Rattle.std.specs.Prelude.{◌≡◌, ◌+◌, ◌-◌, ◌*◌, ◌/◌, ◌<◌, ◌≤◌, ◌++◌, IfOk, false, drop, length, take, vec_len};
+ghost use Rattle.std.specs.Prelude.{◌≡◌, ◌+◌, ◌-◌, ◌*◌, ◌/◌, ◌<◌, ◌≤◌, ◌++◌, IfOk, true, false, drop, length, take};
+ghost use Rattle.std.specs.Prelude.{vec_len};
 ghost use Rattle.dtx_rounds.specs.FieldRound.{KnowsNothing, words_known};
+ghost use Rattle.dtx_rounds.specs.Written.{IsWritten};
 
-use dtx_sizes::{CODEWORD, FIELD_PACKETS, FIELD_SEGMENTS, GROUP_PACKETS, SEGMENT};
+use crate::group_bytes::empty_bytes;
+use dtx_sizes::{
+    CODEWORD, FIELD_PACKETS, FIELD_SEGMENTS, GROUP_BYTES, GROUP_PACKETS, PRECODE, SEGMENT,
+};
 use std::alloc::{AllocError, Global};
 
 /// How many segments a field has, with its sync.
@@ -40,12 +45,20 @@ pub struct Field {
     pub(crate) knows_more: bool,
     /// In how many symbols the last round's segments differ from those of the round before.
     pub(crate) moved: u64,
+    /// Whether the bytes of the decided segments are kept.
+    pub(crate) written: bool,
+    /// The levels of the last twelve symbols before these segments, when their bytes were written.
+    pub(crate) last: [u8; PRECODE],
+    /// The bytes that are kept.
+    pub(crate) bytes: Vec<[u8; GROUP_BYTES]>,
     ghost few: { count ≤ 313 },
     ghost cost_small: { cost ≤ 16720224624 },
     ghost moved_small: { moved ≤ 259584 },
     ghost heard_long: { vec_len heard ≡ 313 },
     ghost decided_long: { vec_len decided ≡ 313 },
     ghost known_long: { vec_len known ≡ 64584 },
+    ghost bytes_long: { vec_len bytes ≡ 78 },
+    ghost kept: { written ≡ true → IsWritten count decided.items last bytes.items },
 }
 
 impl Field {
@@ -65,6 +78,9 @@ impl Field {
             words: [false; WORDS],
             knows_more: false,
             moved: 0,
+            written: false,
+            last: [0; PRECODE],
+            bytes: empty_bytes(alloc)?,
         };
         field.clear();
         Ok(field)
@@ -92,11 +108,13 @@ impl Field {
 
     /// Makes it a field without segments, of which nothing is known.
     pub(crate) fn clear(&mut self)
+        ensures written { self.new.written ≡ false }
         ensures count { self.new.count ≡ 0 }
         ensures cost { self.new.cost ≡ 0 }
         ensures words { length self.new.words ≡ WORDS }
         ensures nothing { KnowsNothing self.new.known.items self.new.words self.new.knows_more self.new.moved }
     {
+        self.written = false;
         self.count = 0;
         self.cost = 0;
         self.words = [false; WORDS];

@@ -32,6 +32,7 @@ pub(crate) fn decide(means: &mut Means, field: &mut Field)
             &means.segments[..count],
             &mut field.decided[1..count + 1],
         );
+        field.written &= field.moved == 0;
     }
 }
 
@@ -126,6 +127,7 @@ fn move_all(scale: u8, paths: &[[i8; SEGMENT]], segments: &mut [[i8; SEGMENT]]) 
     requires levels { (i : ℕ) → i < length paths.now → IsOnLevels scale (slice_index_or paths.now i []) }
     ensures segments { segments.new ≡ on_paths scale paths.now segments.old }
     ensures moved { result ≡ rows_moved segments.old segments.new }
+    ensures still { result ≡ 0 → segments.new ≡ segments.old }
     ensures most { result ≤ SEGMENT * length paths.now }
 {
     let reciprocal = reciprocal(scale);

@@ -6,13 +6,13 @@ ghost use Rattle.dtx_rounds.specs.Fields.{AreSegments};
 ghost use Rattle.dtx_rounds.specs.Known.{known_word};
 ghost use Rattle.dtx_rounds.specs.RunField.{Holds, IsInRun, IsRounded, IsTurned, StayKnown};
 
-use crate::field::{BYTES, Field};
+use crate::field::{BYTES, Field, WORDS};
 use crate::group_bytes::{empty_bytes, write_bytes};
 use crate::means::Means;
 use crate::pinning::decide;
 use crate::words::find_words;
 use dtx_sizes::GROUP_BYTES;
-use dtx_slice::{Unroll, last_levels};
+use dtx_slice::last_levels;
 use std::alloc::{AllocError, Global};
 
 /// A round over the fields of a run. It holds one field, since words that begin in a field end in the next one.
@@ -25,10 +25,8 @@ pub(crate) struct Round {
     bytes: Vec<[u8; GROUP_BYTES]>,
     /// Room for those of the next field.
     behind: Vec<[u8; GROUP_BYTES]>,
-    unroll: Unroll,
     ghost bytes_long: { vec_len bytes ≡ 78 },
     ghost behind_long: { vec_len behind ≡ 78 },
-    ghost coders: { length unroll ≡ 12 },
 }
 
 impl Round {
@@ -41,7 +39,6 @@ impl Round {
             held: Field::new(alloc)?,
             bytes: empty_bytes(alloc)?,
             behind: empty_bytes(alloc)?,
-            unroll: Unroll::new(),
         })
     }
 
@@ -53,13 +50,13 @@ impl Round {
         ensures scale { means.new.scale ≡ means.old.scale }
         ensures first { self.old.on ≡ false → (scale : ℕ) (heard given : List (List ℤ)) (before : List ℕ)
             → AreSegments given → 0 < length given → IsInRun scale heard given (known_word before) 0 field.old
-            → Holds scale heard given before 0 self.new.held self.new.bytes.items self.new.unroll }
+            → Holds scale heard given before 0 self.new.held self.new.bytes.items }
         ensures next { self.old.on ≡ true → (heard given : List (List ℤ)) (before : List ℕ) (f : ℕ)
             → AreSegments given → StayKnown before (bytes_in given) → 313 * (f + 1) < length given
-            → Holds means.old.scale heard given before f self.old.held self.old.bytes.items self.old.unroll
+            → Holds means.old.scale heard given before f self.old.held self.old.bytes.items
             → IsInRun means.old.scale heard given (known_word before) (f + 1) field.old
             → IsRounded means.old.scale heard given f field.new
-            × Holds means.old.scale heard given before (f + 1) self.new.held self.new.bytes.items self.new.unroll }
+            × Holds means.old.scale heard given before (f + 1) self.new.held self.new.bytes.items }
     {
         if self.on {
             self.next(means, field);
@@ -75,10 +72,10 @@ impl Round {
         ensures on { self.new.on ≡ true }
         ensures holds { (scale : ℕ) (heard given : List (List ℤ)) (before : List ℕ) → AreSegments given
             → 0 < length given → IsInRun scale heard given (known_word before) 0 field.old
-            → Holds scale heard given before 0 self.new.held self.new.bytes.items self.new.unroll }
+            → Holds scale heard given before 0 self.new.held self.new.bytes.items }
     {
-        self.unroll.start(&last_levels(&field.decided[0]));
-        write_bytes(&mut self.unroll, field, &mut self.bytes[..]);
+        let last = last_levels(&field.decided[0]);
+        write_bytes(&last, field, &mut self.bytes[..]);
         self.on = true;
         std::mem::swap(&mut self.held, field);
     }
@@ -89,12 +86,14 @@ impl Round {
         ensures scale { means.new.scale ≡ means.old.scale }
         ensures rounded { (heard given : List (List ℤ)) (before : List ℕ) (f : ℕ) → AreSegments given
             → StayKnown before (bytes_in given) → 313 * (f + 1) < length given
-            → Holds means.old.scale heard given before f self.old.held self.old.bytes.items self.old.unroll
+            → Holds means.old.scale heard given before f self.old.held self.old.bytes.items
             → IsInRun means.old.scale heard given (known_word before) (f + 1) field.old
             → IsRounded means.old.scale heard given f field.new
-            × Holds means.old.scale heard given before (f + 1) self.new.held self.new.bytes.items self.new.unroll }
+            × Holds means.old.scale heard given before (f + 1) self.new.held self.new.bytes.items }
     {
-        write_bytes(&mut self.unroll, field, &mut self.behind[..]);
+        // A whole field ends with the last symbols of the twelve coders.
+        let last = last_levels(&self.held.decided[WORDS]);
+        write_bytes(&last, field, &mut self.behind[..]);
         turn(
             means,
             self.bytes.as_flattened(),
@@ -114,7 +113,7 @@ impl Round {
         ensures last { self.old.on ≡ true → (heard given : List (List ℤ)) (before : List ℕ) (f : ℕ)
             → AreSegments given → StayKnown before (bytes_in given) → 313 * f < length given
             → length given ≤ 313 * (f + 1)
-            → Holds means.old.scale heard given before f self.old.held self.old.bytes.items self.old.unroll
+            → Holds means.old.scale heard given before f self.old.held self.old.bytes.items
             → IsRounded means.old.scale heard given f field.new }
     {
         let had = self.on;
@@ -130,7 +129,7 @@ impl Round {
         ensures scale { means.new.scale ≡ means.old.scale }
         ensures rounded { (heard given : List (List ℤ)) (before : List ℕ) (f : ℕ) → AreSegments given
             → StayKnown before (bytes_in given) → 313 * f < length given → length given ≤ 313 * (f + 1)
-            → Holds means.old.scale heard given before f self.old.held self.old.bytes.items self.old.unroll
+            → Holds means.old.scale heard given before f self.old.held self.old.bytes.items
             → IsRounded means.old.scale heard given f field.new }
     {
         field.clear();

@@ -1,10 +1,11 @@
 use Rattle.std.proofs.Common.{◌≡◌, ℕ, ℤ, ◌+◌, ◌-◌, ◌*◌, List, ◌++◌, length, take, drop, refl, sym, ap, ap₂, ◌∙◌}
-use Rattle.std.proofs.Common.{arith}
-use Rattle.std.proofs.lemmas.Bool.{cond-false, cond-true}
-use Rattle.std.proofs.lemmas.List.{length-take, take_at}
+use Rattle.std.proofs.Common.{arith, nat_eq, subst}
+use Rattle.std.proofs.lemmas.Bool.{and_parts, cond-false, cond-true, eqb-true}
+use Rattle.std.proofs.lemmas.List.{length-take, take-append-drop, take_at}
 use borrow.Rule.Slice.PartMut.{put_mid}
 use Rattle.dtx_rounds.specs.FieldRound.{field_cost, field_rounded, on_paths, rows_moved}
 use Rattle.dtx_rounds.specs.Pins.{field_pins}
+use Rattle.dtx_rounds.specs.Written.{IsWritten}
 use Rattle.dtx_rounds.proofs.RowsRounded.{IsRounded, left_on_levels, paths_left, rounded_field, still_rows}
 use Rattle.dtx_rounds.proofs.pinning.decide.Goals as goal
 
@@ -39,6 +40,24 @@ invariant_of-field-then-field-clause-moved_small c =
       c.in_groups-count.ensures.few,
       length-take c.in_groups-count.result c.deref-then-field-2.result.now,
     )
+
+-- a part that is put back as it was
+put_back : {A : Type 0} (a k n : ℕ) (xs items part : List A) → xs ≡ items → part ≡ take k (drop a xs)
+    → length items ≡ n → take n (put_mid a k xs part ++ drop (length (put_mid a k xs part)) items) ≡ items
+put_back a k n xs items part same back long =
+    let all : put_mid a k xs part ≡ items = ap (put_mid a k xs) back
+    ∙ ap (λ ys. take a xs ++ ys) (take-append-drop k (drop a xs)) ∙ take-append-drop a xs ∙ same in
+    ap (λ ys. take n (ys ++ drop (length ys) items)) all ∙ take_at items (drop (length items) items) n long
+
+-- where nothing moved, the bytes are those of the segments
+pub invariant_of-field-then-field-clause-kept : goal.invariant_of-field-then-field-clause-kept
+invariant_of-field-then-field-clause-kept c = λ e.
+    let parts = and_parts c.args.field.now.written (nat_eq c.move_all-field.result 0) e in
+    subst (λ rows. IsWritten c.args.field.now.count rows c.args.field.now.last c.args.field.now.bytes.items)
+    (sym (put_back 1 (c.in_groups-count.result + 1 - 1) c.args.field.now.decided.len c.deref_mut.result.now
+    c.args.field.now.decided.items c.move_all-field.new.segments c.deref_mut.ensures.value
+    (c.move_all-field.ensures.still (eqb-true _ _ parts.1)) (sym c.args.field.now.decided.ok.0)))
+    (c.args.field.now.kept parts.0)
 
 pub returns-then-field-clause-decided : goal.returns-then-field-clause-decided
 returns-then-field-clause-decided c = record {

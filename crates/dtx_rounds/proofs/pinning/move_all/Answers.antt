@@ -4,7 +4,8 @@ use Rattle.std.proofs.Math.ListN.{length-set}
 use Rattle.std.specs.List.{range_with_len}
 use Rattle.dtx_rounds.specs.FieldRound.{on_path, on_paths, rows_moved}
 use Rattle.dtx_rounds.specs.Rounds.{moved_in}
-use Rattle.dtx_rounds.proofs.MovedRows.{length-on_paths, moved_next, on_paths_at, written_all, written_set}
+use Rattle.dtx_rounds.proofs.MovedRows.{length-on_paths, moved_next, on_paths_at, same_segments, written_all}
+use Rattle.dtx_rounds.proofs.MovedRows.{written_set}
 use Rattle.dtx_rounds.proofs.pinning.move_all.Goals as goal
 
 pub loop-i-preserved : goal.loop-i-preserved
@@ -49,3 +50,9 @@ returns-clause-moved c =
     (on_paths c.args.scale c.args.paths.now c.args.segments.now)
     c.args.segments.now c.loop-i.segments c.loop-i.invariant.written (omega arith) c.loop-i.invariant.long
     (length-on_paths c.args.scale c.args.paths.now c.args.segments.now ∙ c.requires.same)))
+
+pub returns-clause-still : goal.returns-clause-still
+returns-clause-still c = λ none.
+    returns-clause-segments c
+    ∙ same_segments c.args.scale c.args.paths.now c.args.segments.now c.requires.same c.told-paths c.told-segments
+    (ap (rows_moved c.args.segments.now) (sym (returns-clause-segments c)) ∙ sym (returns-clause-moved c) ∙ none)

@@ -1,22 +1,21 @@
-use Rattle.std.proofs.Common.{◌≡◌, ◌∙◌, ℕ, ◌*◌, List, [], length, take, sym, ap, subst, arith}
-use Rattle.std.specs.List.{flat_map}
+use Rattle.std.proofs.Common.{◌≡◌, ◌∙◌, ℕ, List, [], get_or, length, sym, ap, subst, arith}
 use Rattle.std.specs.Vec.{with_items}
-use Rattle.dtx_slice.specs.Slicing.{sliced_last}
-use Rattle.dtx_slice.specs.Unrolled.{bytes_back, precoder_bits_of}
-use Rattle.dtx_rounds.specs.Found.{field_levels, whole_segments}
-use Rattle.dtx_rounds.specs.RunField.{Holds}
-use Rattle.dtx_rounds.proofs.HeldRounds.{held_first}
 use Rattle.std.proofs.lemmas.List.{get_or_default}
+use Rattle.dtx_slice.specs.Slicing.{sliced_last}
+use Rattle.dtx_rounds.specs.Known.{known_word}
+use Rattle.dtx_rounds.specs.RunField.{Holds}
+use Rattle.dtx_rounds.specs.Written.{IsWritten}
+use Rattle.dtx_rounds.proofs.HeldRounds.{held_first}
 use Rattle.dtx_rounds.proofs.LaidWords.{decided_items, items_written}
+use Rattle.dtx_rounds.proofs.UnchangedFields.{in_run_unchanged}
 use Rattle.dtx_rounds.proofs.round.Round.begin.Goals as goal
 
 pub returns-clause-holds : goal.returns-clause-holds
 returns-clause-holds c = λ scale heard given before long some h.
-    subst (λ field. Holds scale heard given before 0 field groups c.write_bytes.new.unroll) (sym c.swap.ensures.x_after)
-    (held_first scale heard given before c.args.field.now c.start.new.self c.write_bytes.new.unroll groups long some h
-    (c.start.ensures.precoder_bits ∙ ap precoder_bits_of (c.last_levels.ensures.levels ∙ ap sliced_last (c.index.ensures
-    ∙ get_or_default c.args.field.now.decided.items 0 c.index.result.now [] (omega (arith, rows))))) written
-    c.write_bytes.ensures.precoder_bits)
+    subst (λ field. Holds scale heard given before 0 field groups) (sym c.swap.ensures.x_after)
+    (held_first scale heard given before c.write_bytes.new.field groups long some
+    (in_run_unchanged scale 0 heard given (known_word before) c.args.field.now c.write_bytes.new.field
+    c.write_bytes.ensures.rest h) written)
   where
     rows : length c.args.field.now.decided.items ≡ 313
     rows = decided_items c.args.field.now
@@ -24,10 +23,17 @@ returns-clause-holds c = λ scale heard given before long some h.
     groups : List (List ℕ)
     groups = (with_items c.args.self.now.bytes c.write_bytes.new.bytes).items
 
-    written : take (207 * whole_segments c.args.field.now.count) (flat_map (λ group. group) groups)
-        ≡ bytes_back 0 c.start.new.self (field_levels c.args.field.now)
+    last : c.last_levels-last.result ≡ sliced_last (get_or c.write_bytes.new.field.decided.items 0 [])
+    last =
+        c.last_levels-last.ensures.levels
+        ∙ ap sliced_last (c.index.ensures
+        ∙ get_or_default c.args.field.now.decided.items 0 c.index.result.now [] (omega (arith, rows))
+        ∙ ap (λ v. get_or v.items 0 []) (sym c.write_bytes.ensures.rest.rest.decided))
+
+    written : IsWritten c.write_bytes.new.field.count c.write_bytes.new.field.decided.items
+        (sliced_last (get_or c.write_bytes.new.field.decided.items 0 [])) groups
     written =
-        ap (λ gs. take (207 * whole_segments c.args.field.now.count) (flat_map (λ (group : List ℕ). group) gs))
-        (items_written c.args.self.now.bytes c.write_bytes.new.bytes
-        (omega (arith, c.write_bytes.auto.bytes, c.deref_mut.ensures.len)))
-        ∙ c.write_bytes.ensures.bytes
+        subst (λ q. IsWritten c.write_bytes.new.field.count c.write_bytes.new.field.decided.items q groups) last
+        (subst (λ gs. IsWritten c.write_bytes.new.field.count c.write_bytes.new.field.decided.items
+        c.last_levels-last.result gs) (sym (items_written c.args.self.now.bytes c.write_bytes.new.bytes
+        (omega (arith, c.write_bytes.auto.bytes, c.deref_mut.ensures.len)))) c.write_bytes.ensures.written)

@@ -8,7 +8,7 @@ pub returns-clause-rounded : goal.returns-clause-rounded
 returns-clause-rounded c = λ heard given before f long stays some most h.
     subst (λ field. IsRounded c.args.means.now.scale heard given f field) (sym c.swap.ensures.y_after)
     (held_last c.args.means.now.scale f heard given before c.as_flattened-2.result.now c.args.self.now.held
-    c.clear.new.self c.turn.new.held c.turn.new.next c.args.self.now.bytes.items c.args.self.now.unroll long stays
+    c.clear.new.self c.turn.new.held c.turn.new.next c.args.self.now.bytes.items long stays
     some most h c.clear.ensures.count full
     (subst (λ bytes. IsTurned c.args.means.now.scale bytes c.as_flattened-2.result.now c.args.self.now.held
     c.clear.new.self c.turn.new.held c.turn.new.next) own c.turn.ensures.turned))
