@@ -31,7 +31,7 @@ use Rattle.dtx_file_laws.proofs.Captured.{are_near, few_symbols}
 pub record Laws (restoring : Restoring) (scale : ℕ) (names packets : List (List ℕ)) (file : List ℕ)
     (all : List (List ℤ)) : Type 0 where
   pub stream : AreNear scale (a53_symbols packets) (symbols file) → all ≡ a53 packets
-  pub file : 4 ≤ length packets → length packets ≤ 624000000 → IsNoisy scale (symbol_bytes packets) file
+  pub written : 4 ≤ length packets → length packets ≤ 624000000 → IsNoisy scale (symbol_bytes packets) file
       → IsDoneWith names (only (symbol_bytes packets))
       (meaning_of_file single_bytes (restoring_by restoring) names file)
   pub no_sync : length file ≤ 520832000000 → all ≡ []
@@ -77,4 +77,4 @@ restore_through restoring all start mid at now input sent got output stream byte
     let answered = of found given_done in
     let some = some_packets restoring scale (output ∷ []) packets file all laws few noisy
     (sym answered.answer ∙ given_done) in
-    one_holds m output (symbol_bytes packets) held now given (laws.file some few noisy).outputs answered))
+    one_holds m output (symbol_bytes packets) held now given (laws.written some few noisy).outputs answered))

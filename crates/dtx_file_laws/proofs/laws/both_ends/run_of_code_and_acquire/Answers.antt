@@ -15,7 +15,7 @@ returns g c = λ input sent got output stream bytes file scale code acquire posi
     stream bytes file scale _ _
     (record {
       stream = c.a_stream_is_acquired.ensures scale (packets_of stream) (symbols file) positive;
-      file = c.a_noisy_capture_is_acquired.ensures (output ∷ []) (packets_of stream) scale file positive;
+      written = c.a_noisy_capture_is_acquired.ensures (output ∷ []) (packets_of stream) scale file positive;
       no_sync = c.all_is_acquired_of_a_file.ensures.no_sync (output ∷ []) scale file;
     })
     there coded left (c.run_of_code-sent.ensures.done input sent stream code) noise here done

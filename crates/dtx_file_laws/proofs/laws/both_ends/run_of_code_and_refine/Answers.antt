@@ -17,7 +17,7 @@ returns g c = λ input sent got output stream bytes file scale rounds code refin
     stream bytes file scale _ _
     (record {
       stream = c.a_stream_is_refined.ensures scale rounds (packets_of stream) (symbols file) positive most whole;
-      file = c.a_noisy_capture_is_refined.ensures (output ∷ []) (packets_of stream) scale rounds file positive most
+      written = c.a_noisy_capture_is_refined.ensures (output ∷ []) (packets_of stream) scale rounds file positive most
           whole;
       no_sync = c.all_is_refined_of_a_file.ensures.no_sync (output ∷ []) scale rounds file;
     })

@@ -15,6 +15,8 @@ pub returns-clause-answer : goal.returns-clause-answer
 returns-clause-answer g c = λ scale rounds input output file is positive most one many some other apart.
     if_so (g.S.Shelf.files c.args.shelf.now) _ _
     (λ held carried there. ended_so c.args.words.now _ _ _ _ _ _ (output ∷ []) input file held
-    (g.S.Shelf.files c.run.new.shelf) _ _ (refine_read c.args.words.now scale rounds input output held is positive most one many)
-    (refine_named scale rounds input output positive most one many some other) (unlike input output apart) there carried)
+    (g.S.Shelf.files c.run.new.shelf) _ _
+    (refine_read c.args.words.now scale rounds input output held is positive most one many)
+    (refine_named scale rounds input output positive most one many some other) (unlike input output apart) there
+    carried)
     c.run.ensures.carried
