@@ -47,7 +47,7 @@ put = -128
 ";
 
 /// The words of a command, and the files that it leaves. Each finds those of the commands before it.
-static RUNS: [(&str, &str); 23] = [
+static RUNS: [(&str, &str); 24] = [
     ("make 1 700 made.ts", "made.ts"),
     ("place made.ts placed.ts", "placed.ts"),
     ("adapt plan made.ts feed.ts", "feed.ts"),
@@ -61,6 +61,7 @@ static RUNS: [(&str, &str); 23] = [
     ("mend hurt.sym mended.ts", "mended.ts"),
     ("soft hurt.sym soft.sym", "soft.sym"),
     ("acquire 1 hurt.sym acquired.sym", "acquired.sym"),
+    ("refine 1 2 hurt.sym refined.sym", "refined.sym"),
     ("level hurt.sym level.sym level.log", "level.sym level.log"),
     ("repeat coded.sym 9 2000 air.sym air.log", "air.sym air.log"),
     ("watch feed.ts watched", "watched"),
