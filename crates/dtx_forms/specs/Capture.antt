@@ -17,8 +17,8 @@ abbrev pub IsScale : ℕ → Type 0
 IsScale scale = (1 ≤ scale) × (scale ≤ 18)
 
 -- a number of rounds
-abbrev pub IsRound : ℕ → Type 0
-IsRound rounds = (1 ≤ rounds) × (rounds ≤ 32)
+abbrev pub IsRounds : ℕ → Type 0
+IsRounds rounds = (1 ≤ rounds) × (rounds ≤ 32)
 
 -- the meaning once the words of the numbers were read: either may be no number in its range
 abbrev pub captured : Shape → (ℕ → ℕ → Recipe) → Option ℕ → Option ℕ → List ℕ → List ℕ → Files → Meaning
@@ -36,7 +36,7 @@ captured_stages shape makes (Some scale) (Some rounds) input output =
 
 -- ---- `.. SCALE IN OUT`
 
--- what the words mean, as with one round
+-- what the words mean; the recipe is that of one round
 abbrev pub scaled_meaning : Shape → (ℕ → ℕ → Recipe) → List (List ℕ) → Files → Meaning
 scaled_meaning shape makes (verb ∷ scale ∷ input ∷ output ∷ []) held =
     captured shape makes (number_within 1 18 scale) (Some 1) input output held

@@ -4,7 +4,7 @@ ghost use Rattle.std.specs.Str.{bytes_eq};
 ghost use Rattle.dtx_engine.specs.Recipe.{IsAnswerOf, Recipe, transformed};
 ghost use Rattle.dtx_words.specs.declared.rows.Command.{Command};
 ghost use Rattle.dtx_forms.specs.Answers.{Knows};
-ghost use Rattle.dtx_forms.specs.Capture.{IsRound, IsScale, captured, captured_stages, rounds_job, rounds_stages};
+ghost use Rattle.dtx_forms.specs.Capture.{IsRounds, IsScale, captured, captured_stages, rounds_job, rounds_stages};
 ghost use Rattle.dtx_forms.specs.Capture.{scaled_job, scaled_stages};
 ghost use Rattle.dtx_forms.specs.Job.{IsPerformed, IsJobPerformed};
 ghost use Rattle.dtx_forms.specs.OfWords.{numbers_same};
@@ -29,7 +29,7 @@ pub trait Capturing: Engine + Drop {
     /// An engine that was given nothing. The only error is out of memory.
     fn new(alloc: Global, scale: u8, rounds: usize) -> Result<Self, AllocError>
         requires scale { IsScale scale }
-        requires rounds { IsRound rounds }
+        requires rounds { IsRounds rounds }
         ensures given { IfOk result (λ engine. Self.stands engine []) }
         ensures makes { IfOk result (λ engine. Self.recipe engine ≡ makes scale rounds) };
 
@@ -100,7 +100,7 @@ fn transform_read<E: Capturing, S: Shelf>(
     shelf: &mut S,
 ) -> Outcome
     requires scale { IfSome scale IsScale }
-    requires rounds { IfSome rounds IsRound }
+    requires rounds { IfSome rounds IsRounds }
     ensures performed { IsPerformed E.command (captured E.shape E.makes scale rounds input.now output.now)
         (numbers_same scale rounds (bytes_eq input.now output.now)) 1 result (S.files shelf.old) (S.files shelf.new)
         (S.counts shelf.old) (S.counts shelf.new) }
@@ -130,7 +130,7 @@ fn transform_capture<E: Capturing, S: Shelf>(
     shelf: &mut S,
 ) -> Outcome
     requires scale { IsScale scale }
-    requires rounds { IsRound rounds }
+    requires rounds { IsRounds rounds }
     ensures performed { IsPerformed E.command (transformed E.shape (E.makes scale rounds) input.now output.now)
         (Some (bytes_eq input.now output.now)) 1 result (S.files shelf.old) (S.files shelf.new)
         (S.counts shelf.old) (S.counts shelf.new) }

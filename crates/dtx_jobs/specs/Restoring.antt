@@ -1,4 +1,4 @@
--- What commands make of a capture that restore its segments.
+-- What the commands that restore segments make of a capture.
 use Rattle.std.specs.Prelude.{◌≡◌, ◌++◌, ℕ, ℤ, true, List, []}
 use Rattle.dtx_engine.specs.Made.{only}
 use Rattle.dtx_engine.specs.Recipe.{Recipe}

@@ -12,10 +12,10 @@ use dtx_refine::Refiner;
 use std::alloc::Global;
 
 /// Finds the fields of the capture IN as `acquire` does, decides their symbols in ROUNDS rounds, and writes their
-/// segments to OUT (the profile's own; ATSC A/53 Part 2, trellis coding). The words that a round can put right pin the
-/// paths of the next one. ROUNDS is 1 to 32. The numbers are those of `acquire`, where the cost is that of the last
-/// round's paths, and before the last one how many words this round knew and how many symbols it moved. IN is refused
-/// as by `acquire`.
+/// segments to OUT (the profile's own; ATSC A/53 Part 2, trellis coding). The words that can be put right before a
+/// round pin its paths. ROUNDS is 1 to 32. The numbers are the bytes of IN, the runs, the segments, what the last
+/// round's least paths cost, how many words it knew, how many symbols it moved, and the bytes in no segment. IN is
+/// refused as by `acquire`.
 pub fn refine<S: Shelf>(alloc: Global, words: &[Word], shelf: &mut S) -> Outcome
     ensures performed { IsJobPerformed refine_job words.now result (S.files shelf.old) (S.files shelf.new)
         (S.counts shelf.old) (S.counts shelf.new) }

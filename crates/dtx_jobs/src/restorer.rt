@@ -1,7 +1,7 @@
 // What every restorer of segments does, so that `acquire` and `refine` have one engine.
 ghost use Rattle.std.specs.Prelude.{◌≡◌, ◌+◌, ◌*◌, ◌<◌, ◌≤◌, ◌++◌, [], ℕ, ℤ, IfOk, List, length, take};
 ghost use Rattle.dtx_files.specs.Symbols.{segment_bytes};
-ghost use Rattle.dtx_forms.specs.Capture.{IsRound, IsScale};
+ghost use Rattle.dtx_forms.specs.Capture.{IsRounds, IsScale};
 ghost use Rattle.dtx_meaning.specs.Status.{IsOfBytes, blame_of};
 ghost use Rattle.dtx_outside.specs.Counts.{Nothing};
 ghost use Rattle.dtx_jobs.specs.Restoring.{IsRestoring, Restoring, restoring_by};
@@ -13,8 +13,7 @@ use dtx_meaning::Outcome;
 use dtx_sizes::{MOST_SYMBOLS, SEGMENT};
 use std::alloc::{AllocError, Global};
 
-/// What makes whole segments of a capture's symbols as they come, and what a command writes of them. At most `N`
-/// symbols come of a piece, or of the end.
+/// Makes whole segments of a capture's symbols as they come. A piece brings at most `N` symbols, and so does the end.
 pub(crate) trait Restorer<const N: usize>: Drop {
     ghost use Rattle.dtx_engine.specs.Recipe.{IsAnswerOf};
     ghost use Rattle.dtx_meaning.specs.declared.status.Status.{Status};
@@ -42,7 +41,7 @@ pub(crate) trait Restorer<const N: usize>: Drop {
     /// A restorer to which no symbol was given. The only error is out of memory.
     fn new(alloc: Global, scale: u8, rounds: usize) -> Result<Self, AllocError>
         requires scale { IsScale scale }
-        requires rounds { IsRound rounds }
+        requires rounds { IsRounds rounds }
         ensures stands { IfOk result (λ restorer. stands restorer []) }
         ensures makes { IfOk result (λ restorer. restoring restorer ≡ makes scale rounds) };
 

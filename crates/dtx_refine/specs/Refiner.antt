@@ -84,7 +84,8 @@ pub record IsOver (refiner : Refining) (symbols : List ℤ) : Type 0 where
   pub moved_are : refiner.moved
       ≡ round_moved refiner.scale (heard_of symbols) (refined refiner.scale symbols (refiner.rounds - 1))
 
--- What a step at the end does to the numbers. Where the answer is true, it gave segments.
+-- What a step at the end leaves as it was, and what it gives. Where the answer is false it gave none. Where it is true,
+-- fewer segments can still come.
 pub record HasStepped (old new : Refining) (answer : Bool) : Type 0 where
   pub few : length new.given ≤ 313
   pub none : answer ≡ false → new.given ≡ []

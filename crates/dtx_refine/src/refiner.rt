@@ -20,9 +20,9 @@ pub const MOST_ROUNDS: usize = 32;
 
 /// Finds the fields of a capture as an `Acquirer` does, and passes each through rounds, in which the words that are
 /// known pin the paths of the trellis around them (the profile's own; ATSC A/53 Part 2, trellis coding). It is given
-/// the symbols in pieces of any length, and gives whole segments, a field at a time. It allocates only in `new`.
-/// `StandsFor refiner symbols` is its invariant: it was given these symbols, and gave all that is refined of them
-/// whatever follows.
+/// the symbols in pieces of any length, and gives whole segments. It allocates only in `new`. `StandsFor refiner
+/// symbols` is its invariant: it was given these symbols, and its rounds took all fields that are settled whatever
+/// follows.
 #[derive(Drop)]
 pub struct Refiner {
     acquirer: Acquirer,
@@ -39,7 +39,7 @@ impl Model for Refiner {
 
     ghost view = { λ r. refining r.acquirer r.passes r.ended };
 
-    // The acquirer is known to hold less than a field and a segment before it takes symbols, which are 261248.
+    // A field and a segment are 261248 symbols. So segments are few enough that no number below overflows.
     ghost invariant = { λ r. (832 * r.acquirer.segments + length r.acquirer.held ≤ r.acquirer.symbols + 261248)
         × (r.acquirer.symbols ≤ 520832000000) × (r.passes.numbers.done + r.passes.held ≤ r.acquirer.segments) };
 }
@@ -86,8 +86,8 @@ impl Refiner {
         count
     }
 
-    /// Ends the symbols: gives the next of the last segments. The answer is false where there is none. The caller calls
-    /// until then. The numbers below are then those of all symbols.
+    /// Ends the symbols: gives the segments of the next field that is left. The answer is false where there is none. The
+    /// caller calls until then. The numbers below are then those of all symbols.
     pub fn finish(&mut self) -> bool
         ensures begins { (symbols : List ℤ) → StandsFor self.old symbols → IsEnding self.old symbols [] }
         ensures more { (symbols : List ℤ) (before : List (List ℤ)) → IsEnding self.old symbols before
@@ -183,7 +183,7 @@ impl Refiner {
         self.acquirer.loose()
     }
 
-    /// Ends the symbols if they have not ended. Gives the next of the last segments, if there is one.
+    /// Ends the symbols if they have not ended. Gives the segments of the next field that is left, if there is one.
     fn step(&mut self) -> bool
         ensures ended { (symbols : List ℤ) (before : List (List ℤ)) → IsEnding self.old symbols before
             → HasEnded self.new symbols (before ++ self.new.given) }

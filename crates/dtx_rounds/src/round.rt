@@ -15,7 +15,8 @@ use dtx_sizes::GROUP_BYTES;
 use dtx_slice::last_levels;
 use std::alloc::{AllocError, Global};
 
-/// A round over the fields of a run. It holds one field, since words that begin in a field end in the next one.
+/// A round over the fields of a run. It holds one field, since a word may end in the field behind the one in which it
+/// begins.
 #[derive(Drop)]
 pub(crate) struct Round {
     /// Whether a field is held.

@@ -29,7 +29,8 @@ use dtx_rounds::laws::{nothing_moves_where_no_byte_is_put_right, what_is_known_s
 use dtx_sizes::{FIELD_SEGMENTS, MOST_SYMBOLS};
 use dtx_soft::MAX_SCALE;
 
-/// What `refine` answers and writes for any file, at any scale and after any number of rounds. Each byte is a symbol.
+/// What `refine` answers and writes for any file, at any scale and after any number of rounds but 0. Each byte is a
+/// symbol.
 /// Let the file have at most MOST_SYMBOLS bytes. Where something is refined of them, the answer is `Done`, and OUT is
 /// all that is refined. The numbers are the bytes, the runs and the segments, what all least paths of the last round
 /// cost, the words that it knew, the symbols that it moved, and the bytes in no segment. Where nothing is refined, the
@@ -52,9 +53,9 @@ pub fn all_is_refined_of_a_file()
     whole_fields_are_acquired();
 }
 
-/// A stream without damage comes back whatever the rounds. Take as many symbols as a stream of packets has. Let each
-/// differ from the scale times the stream's symbol by less than the scale. Then the segments after any number of rounds
-/// are the stream's segments.
+/// Noise below half the distance of two levels changes nothing, whatever the rounds. Take as many symbols as a stream
+/// of packets has. Let each differ from the scale times the stream's symbol by less than the scale. Then the segments
+/// after any number of rounds are the stream's segments.
 pub fn a_stream_is_refined()
     ensures { (scale r : ℕ) (packets : List (List ℕ)) (symbols : List ℤ) → 0 < scale → scale ≤ MAX_SCALE
         → ArePackets packets → AreNear scale (a53_symbols packets) symbols
@@ -94,7 +95,7 @@ pub fn one_run_is_refined()
 /// correction's data as packet k, not flagged, after these rounds and after all further ones. So each packet that it
 /// gives without a flag after r rounds it gives after all further ones too, at the same place and without a flag. The
 /// same holds of the packets of the acquired segments, which are those before the first round. There are always as many
-/// packets as of these.
+/// packets as of the acquired segments.
 pub fn a_packet_that_is_known_stays()
     ensures known { (scale r n k : ℕ) (symbols : List ℤ) (code : List ℕ) → 0 < scale → scale ≤ MAX_SCALE
         → known_word (bytes_in (refined scale symbols r)) k ≡ Some code

@@ -92,8 +92,8 @@ pub enum Command {
     /// constant, inverted or not.
     Level,
     /// `refine SCALE ROUNDS IN OUT` finds the fields of the capture IN as `acquire` does, and decides their symbols in
-    /// ROUNDS rounds, 1 to 32 (the profile's own). The words of the packets that a round can put right tell the trellis
-    /// decoder of the next one which pairs were sent.
+    /// ROUNDS rounds, 1 to 32 (the profile's own). The words that can be put right before a round pin its paths: the
+    /// trellis decoder has to give their pairs.
     Refine,
 }
 

@@ -30,7 +30,8 @@ pub fn a_noisy_capture_is_acquired()
     all_is_acquired_of_a_file();
 }
 
-/// The same holds of `refine SCALE ROUNDS`, after any number of rounds, where SCALE is at most 18.
+/// The same holds of `refine SCALE ROUNDS`, after any number of rounds, where SCALE is at most 18 and the packets have
+/// 188 bytes each, all of them numbers below 256.
 pub fn a_noisy_capture_is_refined()
     ensures { (names packets : List (List ℕ)) (scale rounds : ℕ) (file : List ℕ) → 0 < scale → scale ≤ 18
         → ArePackets packets → GROUP_PACKETS ≤ length packets → length packets ≤ MOST_PACKETS
