@@ -86,8 +86,8 @@ impl Refiner {
         count
     }
 
-    /// Ends the symbols: gives the segments of the next field that is left. The answer is false where there is none. The
-    /// caller calls until then. The numbers below are then those of all symbols.
+    /// Ends the symbols: gives the segments of the next field that is left. The answer is false where there is none.
+    /// The caller calls until then. The numbers below are then those of all symbols.
     pub fn finish(&mut self) -> bool
         ensures begins { (symbols : List ℤ) → StandsFor self.old symbols → IsEnding self.old symbols [] }
         ensures more { (symbols : List ℤ) (before : List (List ℤ)) → IsEnding self.old symbols before

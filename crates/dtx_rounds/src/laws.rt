@@ -26,8 +26,8 @@ use dtx_acquire::laws::whole_fields_are_acquired;
 use dtx_sizes::{CODERS, CODEWORD, PACKET_DATA};
 use dtx_soft::MAX_SCALE;
 
-/// At the first step of each of the first five data segments of a field: the place of the byte whose pair a coder takes.
-/// The coders are 0, 4, 8, 0 and 4.
+/// At the first step of each of the first five data segments of a field: the place of the byte whose pair a coder
+/// takes. The coders are 0, 4, 8, 0 and 4.
 pub fn first_bytes()
     ensures segment_0 { byte_at_step 0 0 ≡ 0 }
     ensures segment_1 { byte_at_step 4 69 ≡ 208 }
