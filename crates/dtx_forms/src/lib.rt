@@ -1,6 +1,6 @@
 //! Jobs and their forms: one output from one input (which may be a capture at a scale), an output and a log from one
-//! input, a transmitter's symbols and log, and one output from two inputs. Also how a plan or a file of changes is read,
-//! and in which units the commands read their inputs.
+//! input, a transmitter's symbols and log, and one output from two inputs. Also how a plan or a file of changes is
+//! read, and in which units the commands read their inputs.
 #![tactic(auto)]
 
 mod capturing;
