@@ -1,6 +1,6 @@
 -- The pins of twelve bytes, one of each coder, and where they stand among those of a field.
-use Rattle.std.proofs.Common.{◌≡◌, ℕ, ◌+◌, ◌-◌, ◌*◌, ◌/◌, ◌%◌, ◌^◌, ◌<◌, ◌≤◌, Option, Some, None, List, [], ◌++◌}
-use Rattle.std.proofs.Common.{length, map, take, drop, get_or, refl, ap, ◌∙◌, arith}
+use Rattle.std.proofs.Common.{◌≡◌, ℕ, zero, suc, ◌+◌, ◌-◌, ◌*◌, ◌/◌, ◌%◌, ◌^◌, ◌<◌, ◌≤◌, Option, Some, None, List, [], ◌∷◌, ◌++◌}
+use Rattle.std.proofs.Common.{length, map, option_map, unwrap_or, set, take, drop, get_or, refl, ap, ◌∙◌, arith}
 use Rattle.std.specs.List.{range_with_len}
 use Rattle.std.proofs.lemmas.List.{get_or-append_right, get_or-drop, get_or-take, get_or_append_left, length-take-le}
 use Rattle.std.proofs.lemmas.List.FromFn.{fill_by_all}
@@ -27,6 +27,10 @@ mid_at a k i xs ys l m =
 pub part_entry : (a k x : ℕ) (known : List (Option ℕ)) → x < k
     → get_or (take k (drop a known)) x None ≡ get_or known (a + x) None
 part_entry a k x known l = get_or-take k (drop a known) x None l ∙ get_or-drop a known x None
+
+pub part_byte : (a k x : ℕ) (bytes : List ℕ) → x < k
+    → get_or (take k (drop a bytes)) x 0 ≡ get_or bytes (a + x) 0
+part_byte a k x bytes l = get_or-take k (drop a bytes) x 0 l ∙ get_or-drop a bytes x 0
 
 -- ---- pins
 
@@ -65,6 +69,30 @@ row_pin known b i e l m =
     let step : (4 * b + i) % 276 % 4 ≡ i % 4 = omega arith in
     ap (λ n. pin_of (get_or known n None) ((4 * b + i) % 276)) (row_byte b i e l m)
     ∙ same_pair (get_or known (12 * b + (e + 12 - 4 * (4 * b / 69 % 3)) % 12) None) ((4 * b + i) % 276) i step
+
+no_pair : (i : ℕ) → i < 4 → pair_in 0 i ≡ 0
+unfolding pair_in
+no_pair zero l = refl
+no_pair (suc zero) l = refl
+no_pair (suc (suc zero)) l = refl
+no_pair (suc (suc (suc zero))) l = refl
+no_pair (suc (suc (suc (suc i)))) l = absurd (omega arith)
+
+-- the pin is a pair of the byte, or 4, which is added where the byte isn't known and 0 stands for it
+pub pin_parts : (i : ℕ) → i < 4 → (byte : Option ℕ)
+    → pair_in (unwrap_or byte 0) i + unwrap_or (option_map (λ byte. 0) byte) 4 ≡ pin_of byte i
+pin_parts i l (Some b) = (let same : pair_in b i + 0 ≡ pair_in b i = omega arith in same)
+pin_parts i l None = ap (λ n. n + 4) (no_pair i l)
+
+-- four rows that were written one by one
+pub four_rows : {X : Type 0} (rows : List (List X)) (a b c d : List X) → length rows ≡ 4
+    → set (set (set (set rows 0 a) 1 b) 2 c) 3 d ≡ a ∷ b ∷ c ∷ d ∷ []
+four_rows [] a b c d l = absurd (omega arith)
+four_rows (x ∷ []) a b c d l = absurd (omega arith)
+four_rows (x ∷ y ∷ []) a b c d l = absurd (omega arith)
+four_rows (x ∷ y ∷ z ∷ []) a b c d l = absurd (omega arith)
+four_rows (x ∷ y ∷ z ∷ w ∷ []) a b c d l = refl
+four_rows (x ∷ y ∷ z ∷ w ∷ v ∷ more) a b c d l = absurd (omega arith)
 
 -- all pins of a field
 pub all_pins : (known : List (Option ℕ)) (n : ℕ) (pins : List (List ℕ)) → length pins ≡ n

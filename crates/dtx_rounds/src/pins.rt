@@ -1,7 +1,8 @@
 //! The pins of the known bytes of a field.
 
 ghost use Rattle.std.specs.Prelude.{◌≡◌, ℕ, ◌+◌, ◌-◌, ◌*◌, ◌/◌, ◌%◌, ◌<◌, ◌≤◌, None, [], length, slice_index};
-ghost use Rattle.std.specs.Prelude.{slice_index_or, take};
+ghost use Rattle.std.specs.Prelude.{option_map, slice_index_or, take, unwrap_or};
+ghost use Rattle.dtx_trellis.specs.Pairs.{pair_in};
 ghost use Rattle.dtx_rounds.specs.Pins.{field_pins, pin_of};
 
 use crate::field::BYTES;
@@ -35,33 +36,79 @@ fn put_row(known: &[Option<u8>], turn: usize, pins: &mut [[u8; CODERS]])
         ≡ pin_of (slice_index_or known.now ((e + CODERS - turn) % CODERS) None) i }
     ensures rows { (i : ℕ) → i < 4 → length (slice_index_or pins.new i []) ≡ CODERS }
 {
+    let mut bytes = [0; CODERS];
+    let mut unknown = [0; CODERS];
+    read_known(known, &mut bytes, &mut unknown);
+    let first = CODERS - turn;
+    put_pairs(
+        &twice(&bytes)[first..first + CODERS],
+        &twice(&unknown)[first..first + CODERS],
+        pins,
+    );
+}
+
+/// Parts twelve bytes in two rows: the known bytes, with 0 where none is known, and `NO_PIN` there, with 0 elsewhere. It
+/// isn't put into its caller, so that the rows stand in memory. From there they are read in one go.
+#[inline(never)]
+fn read_known(known: &[Option<u8>], bytes: &mut [u8; CODERS], unknown: &mut [u8; CODERS])
+    requires { length known.now ≡ CODERS }
+    ensures bytes { (e : ℕ) → e < CODERS → slice_index bytes.new e
+        ≡ unwrap_or (slice_index_or known.now e None) 0 }
+    ensures unknown { (e : ℕ) → e < CODERS → slice_index unknown.new e
+        ≡ unwrap_or (option_map (λ byte. 0) (slice_index_or known.now e None)) 4 }
+{
+    *bytes = [0; CODERS];
+    *unknown = [NO_PIN; CODERS];
     for e in 0..CODERS {
-        put_column(pairs(known[(e + CODERS - turn) % CODERS]), e, pins);
+        if let Some(byte) = known[e] {
+            bytes[e] = byte;
+            unknown[e] = 0;
+        }
     }
 }
 
-/// Writes the pins of coder e in four steps.
+/// A row twice, one behind the other. Then the row that begins at any place of it is a part.
 #[inline(always)]
-fn put_column(column: [u8; 4], e: usize, pins: &mut [[u8; CODERS]])
-    requires coder { e < CODERS }
+fn twice(row: &[u8; CODERS]) -> [u8; 2 * CODERS]
+    ensures { (n : ℕ) → n < 2 * CODERS → slice_index result n ≡ slice_index row.now (n % CODERS) }
+{
+    let mut both = [0; 2 * CODERS];
+    for n in 0..2 * CODERS {
+        both[n] = row[n % CODERS];
+    }
+    both
+}
+
+/// Writes the pins of the four pairs of twelve bytes.
+#[inline(always)]
+fn put_pairs(bytes: &[u8], unknown: &[u8], pins: &mut [[u8; CODERS]])
+    requires bytes { length bytes.now ≡ CODERS }
+    requires unknown { length unknown.now ≡ CODERS }
+    requires most { (e : ℕ) → e < CODERS → slice_index unknown.now e ≤ NO_PIN }
     requires room { length pins.old ≡ 4 }
-    ensures own { (i : ℕ) → i < 4 → slice_index (slice_index_or pins.new i []) e ≡ slice_index column i }
-    ensures others { (i f : ℕ) → i < 4 → f < e → slice_index (slice_index_or pins.new i []) f
-        ≡ slice_index (slice_index_or pins.old i []) f }
+    ensures pins { (i e : ℕ) → i < 4 → e < CODERS → slice_index (slice_index_or pins.new i []) e
+        ≡ pair_in (slice_index bytes.now e) i + slice_index unknown.now e }
     ensures rows { (i : ℕ) → i < 4 → length (slice_index_or pins.new i []) ≡ CODERS }
 {
-    for i in 0..4 {
-        pins[i][e] = column[i];
-    }
+    pins[0] = pairs(bytes, unknown, 64);
+    pins[1] = pairs(bytes, unknown, 16);
+    pins[2] = pairs(bytes, unknown, 4);
+    pins[3] = pairs(bytes, unknown, 1);
 }
 
-/// The pins of a byte's four pairs, where it is known.
+/// The pins of one pair of each byte: the pair that `divisor` shifts to the low end.
 #[inline(always)]
-fn pairs(byte: Option<u8>) -> [u8; 4]
-    ensures { (i : ℕ) → i < 4 → slice_index result i ≡ pin_of byte i }
+fn pairs(bytes: &[u8], unknown: &[u8], divisor: u8) -> [u8; CODERS]
+    requires bytes { length bytes.now ≡ CODERS }
+    requires unknown { length unknown.now ≡ CODERS }
+    requires most { (e : ℕ) → e < CODERS → slice_index unknown.now e ≤ NO_PIN }
+    requires divisor { 0 < divisor }
+    ensures { (e : ℕ) → e < CODERS → slice_index result e
+        ≡ slice_index bytes.now e / divisor % 4 + slice_index unknown.now e }
 {
-    match byte {
-        None => [NO_PIN; 4],
-        Some(byte) => [byte / 64 % 4, byte / 16 % 4, byte / 4 % 4, byte % 4],
+    let mut row = [0; CODERS];
+    for e in 0..CODERS {
+        row[e] = bytes[e] / divisor % 4 + unknown[e];
     }
+    row
 }

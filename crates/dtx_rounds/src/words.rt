@@ -1,6 +1,6 @@
 //! The words that begin in a field: those that are put right are known from then on.
 
-ghost use Rattle.std.specs.Prelude.{◌≡◌, ◌≢◌, ℕ, ◌+◌, ◌*◌, ◌<◌, ◌≤◌, ◌++◌, ◌↔◌, IsTrue, Some, None};
+ghost use Rattle.std.specs.Prelude.{◌≡◌, ◌≢◌, ℕ, ◌+◌, ◌*◌, ◌%◌, ◌<◌, ◌≤◌, ◌++◌, ◌↔◌, IsTrue, Some, None};
 ghost use Rattle.std.specs.Prelude.{length, slice_index, slice_index_or, slice_set, take};
 ghost use Rattle.dtx_laws.specs.Words.{correction};
 ghost use Rattle.dtx_outer.specs.Inner.{IsComplete, codeword_byte_place, word_at};
@@ -111,13 +111,47 @@ fn is_whole(k: usize, segments: usize) -> bool
     k + BRANCHES < segments || k + BRANCHES == segments && k % BRANCHES == 0
 }
 
+/// Where a byte of the words stands, and its column.
+#[derive(Clone, Copy)]
+struct Place {
+    at: usize,
+    column: usize,
+}
+
 /// The place of byte p of the words (ATSC A/53 Part 2, interleaving).
 #[inline(always)]
-fn place(p: usize) -> usize
+fn place_of(p: usize) -> Place
     requires { p < BYTES }
-    ensures { result ≡ codeword_byte_place BRANCHES BRANCH_STEP p }
+    ensures at { result.at ≡ codeword_byte_place BRANCHES BRANCH_STEP p }
+    ensures column { result.column ≡ p % BRANCHES }
 {
-    p + BRANCHES * BRANCH_STEP * (p % BRANCHES)
+    Place {
+        at: p + BRANCHES * BRANCH_STEP * (p % BRANCHES),
+        column: p % BRANCHES,
+    }
+}
+
+/// The place of the next byte of the words. It is found without a division, since it is found for each byte.
+#[inline(always)]
+fn next_place(place: Place) -> Place
+    requires column { place.column < BRANCHES }
+    requires first { BRANCHES * BRANCH_STEP * place.column ≤ place.at }
+    requires most { place.at < 2 * BYTES }
+    ensures at { (p : ℕ) → place.at ≡ codeword_byte_place BRANCHES BRANCH_STEP p → place.column ≡ p % BRANCHES
+        → result.at ≡ codeword_byte_place BRANCHES BRANCH_STEP (p + 1) }
+    ensures column { (p : ℕ) → place.column ≡ p % BRANCHES → result.column ≡ (p + 1) % BRANCHES }
+{
+    if place.column + 1 == BRANCHES {
+        Place {
+            at: place.at + 1 - BRANCHES * BRANCH_STEP * (BRANCHES - 1),
+            column: 0,
+        }
+    } else {
+        Place {
+            at: place.at + BRANCHES * BRANCH_STEP + 1,
+            column: place.column + 1,
+        }
+    }
 }
 
 /// Word k, gathered from its places.
@@ -128,8 +162,10 @@ fn gathered(bytes: &[u8], behind: &[u8], k: usize) -> [u8; CODEWORD]
     ensures { result ≡ word_at CODEWORD BRANCHES BRANCH_STEP (bytes.now ++ behind.now) k }
 {
     let mut word = [0; CODEWORD];
+    let mut place = place_of(CODEWORD * k);
     for j in 0..CODEWORD {
-        word[j] = byte_at(bytes, behind, place(CODEWORD * k + j));
+        word[j] = byte_at(bytes, behind, place.at);
+        place = next_place(place);
     }
     word
 }
@@ -160,8 +196,10 @@ fn lay(word: &[u8; CODEWORD], k: usize, known: &mut [Option<u8>], next: &mut [Op
         → ((j : ℕ) → j < CODEWORD → n ≢ codeword_byte_place BRANCHES BRANCH_STEP (CODEWORD * k + j))
         → slice_index_or (known.new ++ next.new) n None ≡ slice_index_or (known.old ++ next.old) n None }
 {
+    let mut place = place_of(CODEWORD * k);
     for j in 0..CODEWORD {
-        know(known, next, place(CODEWORD * k + j), word[j]);
+        know(known, next, place.at, word[j]);
+        place = next_place(place);
     }
 }
 
