@@ -47,8 +47,8 @@ fn put_row(known: &[Option<u8>], turn: usize, pins: &mut [[u8; CODERS]])
     );
 }
 
-/// Parts twelve bytes in two rows: the known bytes, with 0 where none is known, and `NO_PIN` there, with 0 elsewhere. It
-/// isn't put into its caller, so that the rows stand in memory. From there they are read in one go.
+/// Parts twelve bytes in two rows: the known bytes, with 0 where none is known, and `NO_PIN` there, with 0 elsewhere.
+/// It isn't inlined, so that the rows stand in memory. From there they are read in one go.
 #[inline(never)]
 fn read_known(known: &[Option<u8>], bytes: &mut [u8; CODERS], unknown: &mut [u8; CODERS])
     requires { length known.now ≡ CODERS }

@@ -7,7 +7,8 @@ pub returns-clause-pins : goal.returns-clause-pins
 returns-clause-pins c =
     λ i e l m. c.put_pairs.ensures.pins i e l m
     ∙ ap₂ (λ x y. pair_in x i + y)
-    (turned c.read_known.new.bytes c.twice.result c.twice.ensures e m ∙ c.read_known.ensures.bytes (source e) (within e))
+    (turned c.read_known.new.bytes c.twice.result c.twice.ensures e m
+    ∙ c.read_known.ensures.bytes (source e) (within e))
     (turned c.read_known.new.unknown c.twice-2.result c.twice-2.ensures e m
     ∙ c.read_known.ensures.unknown (source e) (within e))
     ∙ pin_parts i l (get_or c.args.known.now (source e) None)

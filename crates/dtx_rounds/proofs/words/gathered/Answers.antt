@@ -1,4 +1,5 @@
-use Rattle.std.proofs.Common.{◌≡◌, ℕ, ◌+◌, ◌*◌, ◌%◌, ◌++◌, length-set, get_or, get_or-set_other, get_or-set_same, set, arith}
+use Rattle.std.proofs.Common.{◌≡◌, ℕ, ◌+◌, ◌*◌, ◌%◌, ◌++◌}
+use Rattle.std.proofs.Common.{length-set, get_or, get_or-set_other, get_or-set_same, set, arith}
 use Rattle.std.proofs.Common.{below_more, ap, ◌∙◌}
 use Rattle.dtx_outer.specs.Inner.{codeword_byte_place}
 use Rattle.dtx_outer.proofs.WordsLemmas.{word_by}
