@@ -1,6 +1,7 @@
 pub mod Pins
 pub mod LeastPinned
 pub mod PinnedField
+pub mod Moved
 pub mod Steps
 pub mod Weights
 pub mod Lanes

@@ -9,19 +9,21 @@ use Rattle.dtx_soft.specs.Paths.{cost, symbol_at}
 use Rattle.dtx_pins.specs.LeastPinned.{IsLeastPinned, least_pinned_levels}
 use Rattle.dtx_pins.specs.Pins.{coder_pins}
 
--- the new symbols are those of the least path over the old ones under pins
-pub record AreLeastPinned (scale : ℕ) (pins : List ℕ) (old new : List ℤ) : Type 0 where
+-- The new symbols are those of the levels of the least path over the symbols that were heard, under pins. They are at
+-- the scale `at`.
+pub record AreLeastPinned (scale at : ℕ) (pins : List ℕ) (heard new : List ℤ) : Type 0 where
   pub start : ℕ
   pub levels : List ℕ
-  pub least : IsLeastPinned scale pins old start levels
-  pub symbols : new ≡ map (symbol_at scale) levels
+  pub least : IsLeastPinned scale pins heard start levels
+  pub symbols : new ≡ map (symbol_at at) levels
 
--- Segments in which each coder's symbols were replaced by those of its least path under its pins.
-pub record IsPinned (scale : ℕ) (pins : List (List ℕ)) (old new : List (List ℤ)) : Type 0 where
+-- Segments in which each coder's symbols were replaced by those of its least path under its pins, over the symbols that
+-- were heard.
+pub record IsPinned (scale at : ℕ) (pins : List (List ℕ)) (heard old new : List (List ℤ)) : Type 0 where
   pub long : length new ≡ length old
   pub syncs : KeepsSyncs old new
   pub coders : (e : ℕ) → e < 12
-      → AreLeastPinned scale (coder_pins pins e) (coder_symbols old e) (coder_symbols new e)
+      → AreLeastPinned scale at (coder_pins pins e) (coder_symbols heard e) (coder_symbols new e)
 
 -- ---- the same as a function
 

@@ -46,6 +46,10 @@ unfoldable pub agrees : List ℕ → List ℕ → Bool
 agrees pins levels =
     list_all (λ t. nat_le 4 (pin_at pins t) || tells_pair (pin_at pins t) levels t) (range_with_len 0 (length levels))
 
+-- each of twelve pins at each step tells a pair
+abbrev pub AreAllTold : List (List ℕ) → Type 0
+AreAllTold pins = (t e : ℕ) → t < length pins → e < 12 → pin_at (slice_index_or pins t []) e < 4
+
 -- the pins of coder e, of a list that has an entry for each step and in it a pin for each coder
 unfoldable pub coder_pins : List (List ℕ) → ℕ → List ℕ
 coder_pins pins e = map (λ entry. pin_at entry e) pins

@@ -1,10 +1,11 @@
 -- The walk along the least paths under pins, from the first symbol to the last.
 use Rattle.std.specs.Prelude.{ℕ, ℤ, pos, ◌+ℤ◌, ◌≤ℤ◌, ◌≡◌, ◌+◌, ◌*◌, ◌/◌, ◌%◌, ◌<◌, ◌≤◌, ◌⊎◌, ◌==◌, if◌then◌else◌, List}
-use Rattle.std.specs.Prelude.{slice_index}
+use Rattle.std.specs.Prelude.{[], slice_index, slice_index_or}
 use Rattle.dtx_soft.specs.Paths.{squared, symbol_at}
+use Rattle.dtx_pins.specs.Pins.{pin_at}
 use Rattle.dtx_pins.specs.Steps.{cost_at, number_of}
-use Rattle.dtx_pins.specs.declared.forth.Stand.{Stand}
-use Rattle.dtx_pins.specs.declared.forth.Stands.{Stands}
+use Rattle.dtx_pins.specs.declared.start.Stand.{Stand}
+use Rattle.dtx_pins.specs.declared.start.Stands.{Stands}
 
 abbrev pub state_of : Stand → ℕ
 state_of stand = 2 * stand.q1 + stand.q0
@@ -31,26 +32,26 @@ pub record IsStart (pin : ℕ) (costs : List (List ℕ)) (stand : Stand) : Type 
   pub first : (p s : ℕ) → p < 2 → s < 4 → cost_at costs p s ≡ cost_at costs stand.former (state_of stand)
       → (state_of stand < s) ⊎ ((state_of stand ≡ s) × ((stand.former ≡ p) ⊎ (stand.former ≡ x2_of pin)))
 
--- one step further: the former Z2 and the state that the level leads to, and its symbol; the cost stays
-pub record IsMoved (scale mark : ℕ) (old new : Stand) (written : ℤ) : Type 0 where
+-- one step further: the former Z2 and the state that the level leads to; the cost stays
+pub record IsMoved (mark : ℕ) (old new : Stand) (level : ℕ) : Type 0 where
   pub former : new.former ≡ number_of mark old.former (state_of old) / 2
   pub q1 : new.q1 ≡ (number_of mark old.former (state_of old) % 2 + old.q0) % 2
   pub q0 : new.q0 ≡ old.q1
-  pub written_is : written ≡ symbol_at scale (2 * number_of mark old.former (state_of old) + old.q1)
+  pub level_is : level ≡ 2 * number_of mark old.former (state_of old) + old.q1
   pub small : number_of mark old.former (state_of old) < 4
-  pub from : pos 0 ≤ℤ (written +ℤ pos 126)
-  pub to : written ≤ℤ pos 126
   pub cost : new.cost ≡ old.cost
 
--- the same, with the square of how far the symbol is off added to the cost
+-- The same, with the square of how far the symbol is off the level added to the cost. The symbol that is written is
+-- that of the level at scale 1.
 pub record IsNext (scale : ℕ) (symbol : ℤ) (mark : ℕ) (old new : Stand) (written : ℤ) : Type 0 where
   pub former : new.former ≡ number_of mark old.former (state_of old) / 2
   pub q1 : new.q1 ≡ (number_of mark old.former (state_of old) % 2 + old.q0) % 2
   pub q0 : new.q0 ≡ old.q1
-  pub written_is : written ≡ symbol_at scale (2 * number_of mark old.former (state_of old) + old.q1)
+  pub written_is : written ≡ symbol_at 1 (2 * number_of mark old.former (state_of old) + old.q1)
   pub number_small : number_of mark old.former (state_of old) < 4
-  pub cost : new.cost ≡ old.cost + squared symbol written
-  pub small : squared symbol written ≤ 64516
+  pub cost : new.cost ≡ old.cost
+      + squared symbol (symbol_at scale (2 * number_of mark old.former (state_of old) + old.q1))
+  pub small : squared symbol (symbol_at scale (2 * number_of mark old.former (state_of old) + old.q1)) ≤ 64516
 
 -- where the path of coder e stands
 abbrev pub stand_at : Stands → ℕ → Stand
@@ -60,3 +61,8 @@ stand_at stands e = record {
   q0 = slice_index stands.q0 e;
   cost = slice_index stands.cost e;
 }
+
+-- where the least paths of all coders begin, under the pins of the first step
+pub record AreStarts (pins : List (List ℕ)) (sums : ℕ → List (List ℕ)) (stands : Stands) : Type 0 where
+  pub starts : (e : ℕ) → e < 12 → IsStart (pin_at (slice_index_or pins 0 []) e) (sums e) (stand_at stands e)
+  pub stands : (e : ℕ) → e < 16 → IsStand 0 (stand_at stands e)

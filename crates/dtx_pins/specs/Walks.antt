@@ -1,8 +1,9 @@
 -- What the walk back keeps: the least costs of paths that agree with pins, and the marks.
-use Rattle.std.specs.Prelude.{ℕ, ℤ, pos, ◌≡◌, ◌+◌, ◌<◌, ◌≤◌, List, [], length, drop, slice_index, slice_index_or}
+use Rattle.std.specs.Prelude.{ℕ, ℤ, pos, ◌≡◌, ◌+◌, ◌*◌, ◌<◌, ◌≤◌, List, [], length, drop, slice_index, slice_index_or}
 use Rattle.dtx_soft.specs.Paths.{IsPath, cost}
 use Rattle.dtx_pins.specs.Pins.{AgreesFrom, coder_pins, pin_at}
-use Rattle.dtx_soft.specs.Gaps.{column, unit}
+use Rattle.dtx_soft.specs.Coders.{coder_symbols}
+use Rattle.dtx_soft.specs.Gaps.{unit}
 use Rattle.dtx_pins.specs.Steps.{IsBest, cost_at, number_of, square_of}
 use Rattle.dtx_pins.specs.Weights.{AreUnits}
 
@@ -33,9 +34,9 @@ pub record IsMark (scale : ℕ) (pins : List ℕ) (symbols : List ℤ) (t mark :
 
 -- what a walk back to step t gives: sums of weights that stand for the least costs of each coder there, and the marks
 -- from there on
-pub record AreWalked (scale t : ℕ) (pins : List (List ℕ)) (rounds : List (List ℤ)) (sums : ℕ → List (List ℕ))
+pub record AreWalked (scale t : ℕ) (pins : List (List ℕ)) (heard : List (List ℤ)) (sums : ℕ → List (List ℕ))
     (marks : List (List ℕ)) : Type 0 where
   pub sums_are : (e : ℕ) → e < 12
-      → AreLeastSums scale (drop t (coder_pins pins e)) (drop t (column rounds e)) (sums e)
-  pub marks_are : (k e : ℕ) → t ≤ k → k < length rounds → e < 12
-      → IsMark scale (coder_pins pins e) (column rounds e) k (slice_index (slice_index_or marks k []) e)
+      → AreLeastSums scale (drop t (coder_pins pins e)) (drop t (coder_symbols heard e)) (sums e)
+  pub marks_are : (k e : ℕ) → t ≤ k → k < 69 * length heard → e < 12
+      → IsMark scale (coder_pins pins e) (coder_symbols heard e) k (slice_index (slice_index_or marks k []) e)

@@ -1,6 +1,6 @@
 //! The walk from the end of the symbols to their beginning, for all coders side by side.
 
-ghost use Rattle.std.specs.Prelude.{◌≡◌, ℕ, pos, ◌*◌, ◌<◌, ◌≤◌, [], length, slice_index, slice_index_or};
+ghost use Rattle.std.specs.Prelude.{◌≡◌, ℕ, pos, ◌*◌, ◌+◌, ◌<◌, ◌≤◌, [], length, slice_index, slice_index_or};
 ghost use Rattle.std.specs.Prelude.{◌≤ℤ◌, ◌+ℤ◌};
 ghost use Rattle.dtx_pins.specs.Lanes.{sums_of};
 ghost use Rattle.dtx_pins.specs.Pins.{pin_at};
@@ -11,37 +11,66 @@ ghost use Rattle.dtx_pins.specs.Weights.{AreMultiples, weight};
 use crate::lanes::{Sums, all_sums, coder_sums, no_sums, put_sums};
 use crate::step::{MAX_WEIGHT, stepped};
 use crate::weights::Weights;
-use dtx_sizes::CODERS;
-use dtx_soft::{LANES, MAX_SYMBOLS};
+use dtx_sizes::{CODERS, FIELD_PACKETS, SEGMENT, SEGMENT_ROUNDS};
+use dtx_soft::{LANES, MAX_SYMBOLS, read_turned};
 
-/// Writes the marks of all steps, and returns sums of weights that stand for the least costs before the first one.
+/// Writes the marks of all steps in place of their pins, and returns sums of weights that stand for the least costs
+/// before the first one.
 #[inline(never)]
 pub(crate) fn backward(
     weights: &Weights,
-    pins: &[[u8; CODERS]],
-    rounds: &[[i8; LANES]],
-    marks: &mut [[u16; LANES]],
+    cells: &mut [[u16; CODERS]],
+    heard: &[[i8; SEGMENT]],
 ) -> [[[u32; 4]; 2]; CODERS]
-    requires few { length rounds.now ≤ MAX_SYMBOLS }
-    requires pins { length pins.now ≡ length rounds.now }
-    requires room { length marks.old ≡ length rounds.now }
-    ensures { AreWalked weights.now.scale 0 pins.now rounds.now (λ e. slice_index_or result e []) marks.new }
+    requires few { length heard.now ≤ FIELD_PACKETS }
+    requires pins { length cells.old ≡ SEGMENT_ROUNDS * length heard.now }
+    ensures walked { AreWalked weights.now.scale 0 cells.old heard.now (λ e. slice_index_or result e []) cells.new }
+    ensures long { length cells.new ≡ length cells.old }
 {
     let mut sums = no_sums();
-    for t in (0..rounds.len()).rev() {
-        marks[t] = step_all(weights, &pins[t], &rounds[t], &mut sums);
+    for i in (0..heard.len()).rev() {
+        let at = SEGMENT_ROUNDS * i;
+        back_segment(
+            weights,
+            &heard[i],
+            i % 3,
+            &mut cells[at..at + SEGMENT_ROUNDS],
+            &mut sums,
+        );
     }
     all_sums(&sums)
+}
+
+/// Takes the steps of one segment. In it the coders have moved on by four places `turn` times.
+#[inline(always)]
+fn back_segment(
+    weights: &Weights,
+    heard: &[i8; SEGMENT],
+    turn: usize,
+    cells: &mut [[u16; CODERS]],
+    sums: &mut Sums,
+)
+    requires turn { turn < 3 }
+    requires pins { length cells.old ≡ SEGMENT_ROUNDS }
+    requires bounded { (e : ℕ) → e < CODERS
+        → AreBounded (MAX_WEIGHT * (MAX_SYMBOLS - SEGMENT_ROUNDS)) (sums_of sums.old e) }
+    requires multiples { (e : ℕ) → e < CODERS → AreMultiples (sums_of sums.old e) }
+    ensures multiples { (e : ℕ) → e < CODERS → AreMultiples (sums_of sums.new e) }
+    ensures long { length cells.new ≡ length cells.old }
+{
+    for r in (0..SEGMENT_ROUNDS).rev() {
+        cells[r] = step_all(weights, &cells[r], &read_turned(heard, r, turn), sums);
+    }
 }
 
 /// Takes one step more in front, and returns its marks.
 #[inline(always)]
 fn step_all(
     weights: &Weights,
-    pins: &[u8; CODERS],
+    pins: &[u16; CODERS],
     symbols: &[i8; LANES],
     sums: &mut Sums,
-) -> [u16; LANES]
+) -> [u16; CODERS]
     requires bounded { (e : ℕ) → e < CODERS → AreBounded (MAX_WEIGHT * MAX_SYMBOLS) (sums_of sums.old e) }
     requires multiples { (e : ℕ) → e < CODERS → AreMultiples (sums_of sums.old e) }
     ensures step { (e : ℕ) → e < CODERS → IsStep (weight weights.now.scale (slice_index_or symbols.now e (pos 0)))
@@ -50,7 +79,7 @@ fn step_all(
     ensures from { (e : ℕ) → e < CODERS → pos 0 ≤ℤ (slice_index_or symbols.now e (pos 0) +ℤ pos 128) }
     ensures to { (e : ℕ) → e < CODERS → slice_index_or symbols.now e (pos 0) ≤ℤ pos 127 }
 {
-    let mut marks = [0; LANES];
+    let mut marks = [0; CODERS];
     for e in 0..CODERS {
         let mut coder = coder_sums(sums, e);
         marks[e] = stepped(weights, symbols[e], pins[e], &mut coder);

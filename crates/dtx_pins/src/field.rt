@@ -1,73 +1,82 @@
 //! All twelve coders of a field.
 
-ghost use Rattle.std.specs.Prelude.{◌≡◌, ℕ, ◌*◌, ◌≤◌, length, map, slice_index, sum};
+ghost use Rattle.std.specs.Prelude.{◌≡◌, ℕ, ◌*◌, ◌<◌, ◌≤◌, [], ◌∷◌, length, slice_index_or, true};
 ghost use Rattle.std.specs.List.{range_with_len};
-ghost use Rattle.dtx_soft.specs.Coders.{coders_distance};
-ghost use Rattle.dtx_pins.specs.PinnedField.{IsPinned};
+ghost use Rattle.dtx_pins.specs.Pins.{AreAllTold};
+ghost use Rattle.dtx_pins.specs.Moved.{rows_moved};
+ghost use Rattle.dtx_pins.specs.PinnedField.{IsPinned, pinned_cost};
+ghost use Rattle.dtx_pins.specs.Walks.{AreWalked};
 
 use crate::back::backward;
 use crate::forth::forward;
+use crate::pinned::{Decision, NO_PIN};
+use crate::start::starts;
+use crate::told::told_sums;
 use crate::weights::Weights;
 use dtx_sizes::{CODERS, FIELD_PACKETS, SEGMENT, SEGMENT_ROUNDS};
-use dtx_soft::{LANES, MAX_SYMBOLS, lay_out, put_back};
+use dtx_soft::MOST_SEGMENT_COST;
 
-/// Replaces the symbols of each coder by those of its least path under its pins, and returns the sum of the costs. The
-/// caller lends the room: `rounds` for the symbols of all coders, and `marks` for a mark of each.
-pub(crate) fn pin_field(
+/// Decides the symbols of a field under pins. The marks of the steps are written in place of the pins.
+pub(crate) fn decide_field(
     weights: &Weights,
-    pins: &[[u8; CODERS]],
-    rounds: &mut [[i8; LANES]],
-    marks: &mut [[u16; LANES]],
-    segments: &mut [[i8; SEGMENT]],
-) -> u64
-    requires few { length segments.old ≤ FIELD_PACKETS }
-    requires pins { length pins.now ≡ SEGMENT_ROUNDS * length segments.old }
-    requires rounds { length rounds.old ≡ MAX_SYMBOLS }
-    requires marks { length marks.old ≡ MAX_SYMBOLS }
-    ensures segments { IsPinned weights.now.scale pins.now segments.old segments.new }
-    ensures cost { result ≡ coders_distance segments.old segments.new CODERS }
-    ensures most { result ≤ 53419248 * length segments.old }
+    cells: &mut [[u16; CODERS]],
+    heard: &[[i8; SEGMENT]],
+    decided: &mut [[i8; SEGMENT]],
+) -> Decision
+    requires few { length heard.now ≤ FIELD_PACKETS }
+    requires pins { length cells.old ≡ SEGMENT_ROUNDS * length heard.now }
+    requires same { length decided.old ≡ length heard.now }
+    ensures segments { IsPinned weights.now.scale 1 cells.old heard.now decided.old decided.new }
+    ensures cost { result.cost ≡ pinned_cost weights.now.scale cells.old heard.now }
+    ensures most { result.cost ≤ MOST_SEGMENT_COST * length heard.now }
+    ensures moved { result.moved ≡ rows_moved decided.old decided.new }
+    ensures still { result.moved ≡ 0 → decided.new ≡ decided.old }
+    ensures few { result.moved ≤ SEGMENT * length heard.now }
 {
-    let count = SEGMENT_ROUNDS * segments.len();
-    pin_rounds(
-        weights,
-        pins,
-        &mut rounds[..count],
-        &mut marks[..count],
-        segments,
-    )
+    let first = first_pins(cells);
+    let behind = walk_back(weights, cells, heard);
+    let stands = starts(&first, &behind);
+    forward(weights.scale, cells, stands, heard, decided)
 }
 
-/// Does the same with just the room that is needed.
-fn pin_rounds(
-    weights: &Weights,
-    pins: &[[u8; CODERS]],
-    rounds: &mut [[i8; LANES]],
-    marks: &mut [[u16; LANES]],
-    segments: &mut [[i8; SEGMENT]],
-) -> u64
-    requires few { length segments.old ≤ FIELD_PACKETS }
-    requires pins { length pins.now ≡ SEGMENT_ROUNDS * length segments.old }
-    requires rounds { length rounds.old ≡ SEGMENT_ROUNDS * length segments.old }
-    requires marks { length marks.old ≡ SEGMENT_ROUNDS * length segments.old }
-    ensures segments { IsPinned weights.now.scale pins.now segments.old segments.new }
-    ensures cost { result ≡ coders_distance segments.old segments.new CODERS }
-    ensures most { result ≤ 53419248 * length segments.old }
+/// The pins of the first step. Where there is no step, nothing is known.
+fn first_pins(pins: &[[u16; CODERS]]) -> [u16; CODERS]
+    ensures { result ≡ slice_index_or pins.now 0 (NO_PIN ∷ []) }
 {
-    lay_out(segments, rounds);
-    let behind = backward(weights, pins, rounds, marks);
-    let costs = forward(weights.scale, pins, marks, &behind, rounds);
-    put_back(rounds, segments);
-    total(&costs)
-}
-
-/// The sum of the costs of the twelve coders' paths.
-fn total(costs: &[u32; LANES]) -> u64
-    ensures { result ≡ sum (map (λ e. slice_index costs.now e) (range_with_len 0 CODERS)) }
-{
-    let mut total = 0;
-    for e in 0..CODERS {
-        total += costs[e] as u64;
+    match pins.first() {
+        Some(row) => *row,
+        None => [NO_PIN; CODERS],
     }
-    total
+}
+
+/// Writes the marks in place of the pins, and returns sums that stand for the least costs before the first step. Where
+/// all pairs are known, one way is left from each beginning, and no search is needed.
+fn walk_back(
+    weights: &Weights,
+    cells: &mut [[u16; CODERS]],
+    heard: &[[i8; SEGMENT]],
+) -> [[[u32; 4]; 2]; CODERS]
+    requires few { length heard.now ≤ FIELD_PACKETS }
+    requires pins { length cells.old ≡ SEGMENT_ROUNDS * length heard.now }
+    ensures walked { AreWalked weights.now.scale 0 cells.old heard.now (λ e. slice_index_or result e []) cells.new }
+    ensures long { length cells.new ≡ length cells.old }
+{
+    if weights.scale > 0 && are_all_told(cells) {
+        told_sums(weights.scale, cells, heard)
+    } else {
+        backward(weights, cells, heard)
+    }
+}
+
+/// Whether all pins tell a pair.
+fn are_all_told(pins: &[[u16; CODERS]]) -> bool
+    ensures { result ≡ true → AreAllTold pins.now }
+{
+    let mut highest = 0;
+    for row in pins {
+        for pin in row {
+            highest = highest.max(*pin);
+        }
+    }
+    highest < NO_PIN
 }

@@ -1,67 +1,106 @@
 //! The walk from the beginning of the symbols to their end, for all coders side by side. It follows the marks, and
-//! writes the symbols of the least paths.
+//! decides the symbols by the levels of the least paths.
 
 ghost use Rattle.std.specs.Prelude.{◌≡◌, ◌≢◌, ℕ, pos, ◌+◌, ◌*◌, ◌/◌, ◌%◌, ◌<◌, ◌≤◌, length, slice_index};
-ghost use Rattle.std.specs.Prelude.{◌+ℤ◌, ◌≤ℤ◌, [], slice_index_or};
-ghost use Rattle.dtx_soft.specs.Gaps.{column};
-ghost use Rattle.dtx_soft.specs.Paths.{distance, symbol_at};
+ghost use Rattle.std.specs.Prelude.{List, map, sum, [], slice_index_or, if◌then◌else◌};
+ghost use Rattle.std.specs.List.{range_with_len};
+ghost use Rattle.std.specs.Ordering.{int_eq};
+ghost use Rattle.dtx_pins.specs.Moved.{moved_in, rows_moved};
 ghost use Rattle.dtx_pins.specs.Pins.{coder_pins};
-ghost use Rattle.dtx_pins.specs.PinnedField.{AreLeastPinned};
+ghost use Rattle.dtx_pins.specs.PinnedField.{IsPinned, pinned_cost};
 ghost use Rattle.dtx_pins.specs.Steps.{number_of};
-ghost use Rattle.dtx_pins.specs.Trace.{IsMoved, IsNext, IsStand, stand_at};
+ghost use Rattle.dtx_pins.specs.Trace.{AreStarts, IsMoved, IsNext, IsStand, stand_at};
 ghost use Rattle.dtx_pins.specs.Walks.{AreWalked};
 
-use crate::start::starts;
-use dtx_sizes::CODERS;
-use dtx_soft::{LANES, MAX_SCALE, MAX_SYMBOLS, square, symbol_at};
+use crate::lanes::lanes_of;
+use crate::pinned::Decision;
+use crate::start::Stands;
+use dtx_sizes::{CODERS, FIELD_PACKETS, SEGMENT, SEGMENT_ROUNDS, SEGMENT_SYNC};
+use dtx_soft::{LANES, MAX_SCALE, MOST_SEGMENT_COST, read_turned, square, write_turned};
 
-/// Where a path stands: the former Z2, the state 2 * q1 + q0, and the cost so far.
-#[derive(Drop)]
-pub(crate) struct Stand {
-    pub(crate) former: u16,
-    pub(crate) q1: u16,
-    pub(crate) q0: u16,
-    pub(crate) cost: u32,
-}
-
-/// Where the path of each coder stands. The lanes behind the coders aren't used.
-#[derive(Drop)]
-pub(crate) struct Stands {
-    pub(crate) former: [u16; LANES],
-    pub(crate) q1: [u16; LANES],
-    pub(crate) q0: [u16; LANES],
-    pub(crate) cost: [u32; LANES],
-}
-
-/// Replaces the symbols of each coder by those of its least path, and returns the costs of the paths. `behind` has sums
-/// of weights that stand for the least costs before the first symbol.
+/// Decides the data symbols of segments by the levels of the least paths over the symbols that were heard. `stands` has
+/// the beginnings of the paths.
 pub(crate) fn forward(
     scale: u8,
-    pins: &[[u8; CODERS]],
-    marks: &[[u16; LANES]],
-    behind: &[[[u32; 4]; 2]; CODERS],
-    rounds: &mut [[i8; LANES]],
-) -> [u32; LANES]
+    marks: &[[u16; CODERS]],
+    mut stands: Stands,
+    heard: &[[i8; SEGMENT]],
+    decided: &mut [[i8; SEGMENT]],
+) -> Decision
     requires scale { scale ≤ MAX_SCALE }
-    requires few { length rounds.old ≤ MAX_SYMBOLS }
-    requires pins { length pins.now ≡ length rounds.old }
-    requires room { length marks.now ≡ length rounds.old }
-    requires walked { AreWalked scale 0 pins.now rounds.old (λ e. slice_index_or behind.now e []) marks.now }
-    ensures paths { (e : ℕ) → e < CODERS
-        → AreLeastPinned scale (coder_pins pins.now e) (column rounds.old e) (column rounds.new e) }
-    ensures costs { (e : ℕ) → e < CODERS
-        → slice_index result e ≡ distance (column rounds.old e) (column rounds.new e) }
-    ensures most { (e : ℕ) → e < CODERS → slice_index result e ≤ 64516 * length rounds.old }
+    requires few { length heard.now ≤ FIELD_PACKETS }
+    requires room { length marks.now ≡ SEGMENT_ROUNDS * length heard.now }
+    requires same { length decided.old ≡ length heard.now }
+    ensures paths { (pins : List (List ℕ)) (sums : ℕ → List (List ℕ)) → length pins ≡ length marks.now
+        → AreWalked scale 0 pins heard.now sums marks.now → AreStarts pins sums stands
+        → IsPinned scale 1 pins heard.now decided.old decided.new }
+    ensures cost { (pins : List (List ℕ)) (sums : ℕ → List (List ℕ)) → length pins ≡ length marks.now
+        → AreWalked scale 0 pins heard.now sums marks.now → AreStarts pins sums stands
+        → result.cost ≡ pinned_cost scale pins heard.now }
+    ensures most { result.cost ≤ MOST_SEGMENT_COST * length heard.now }
+    ensures moved { result.moved ≡ rows_moved decided.old decided.new }
+    ensures still { result.moved ≡ 0 → decided.new ≡ decided.old }
+    ensures few { result.moved ≤ SEGMENT * length heard.now }
 {
-    let mut stands = starts(pins, behind);
-    for t in 0..rounds.len() {
-        let symbols = rounds[t];
-        rounds[t] = trace_all(scale, &symbols, &marks[t], &mut stands);
+    let mut moved = 0;
+    for i in 0..heard.len() {
+        let at = SEGMENT_ROUNDS * i;
+        let path = trace_turned(
+            scale,
+            &marks[at..at + SEGMENT_ROUNDS],
+            &heard[i],
+            i % 3,
+            &mut stands,
+        );
+        moved += move_symbols(&path, &mut decided[i]) as u64;
     }
-    stands.cost
+    Decision {
+        cost: total(&stands.cost),
+        moved,
+    }
 }
 
-/// Takes one step more, and returns the symbols of the least paths.
+/// The symbols of the least paths in a segment. In it the coders have moved on by four places `turn` times. Each turn has
+/// its own loop, for speed.
+fn trace_turned(
+    scale: u8,
+    marks: &[[u16; CODERS]],
+    heard: &[i8; SEGMENT],
+    turn: usize,
+    stands: &mut Stands,
+) -> [i8; SEGMENT]
+{
+    match turn {
+        0 => trace_segment(scale, marks, heard, 0, stands),
+        1 => trace_segment(scale, marks, heard, 1, stands),
+        _ => trace_segment(scale, marks, heard, 2, stands),
+    }
+}
+
+/// The symbols of the least paths in a segment.
+#[inline(always)]
+fn trace_segment(
+    scale: u8,
+    marks: &[[u16; CODERS]],
+    heard: &[i8; SEGMENT],
+    turn: usize,
+    stands: &mut Stands,
+) -> [i8; SEGMENT]
+{
+    let mut path = [0; SEGMENT];
+    for r in 0..SEGMENT_ROUNDS {
+        let symbols = trace_all(
+            scale,
+            &read_turned(heard, r, turn),
+            &lanes_of(&marks[r]),
+            stands,
+        );
+        write_turned(&symbols, r, turn, &mut path);
+    }
+    path
+}
+
+/// Takes one step more, and returns the symbols of the least paths: 2 * z - 7 for level z.
 #[inline(always)]
 fn trace_all(
     scale: u8,
@@ -74,70 +113,34 @@ fn trace_all(
     ensures { (e : ℕ) → e < LANES → IsNext scale (slice_index_or symbols.now e (pos 0)) (slice_index marks.now e)
         (stand_at stands.old e) (stand_at stands.new e) (slice_index_or result e (pos 0)) }
 {
-    let written = move_all(scale, marks, stands);
-    for e in 0..LANES {
-        stands.cost[e] = stands.cost[e] + square(symbols[e], written[e] as i16);
-    }
-    written
-}
-
-/// Does the same, but leaves the costs as they are.
-#[inline(always)]
-fn move_all(scale: u8, marks: &[u16; LANES], stands: &mut Stands) -> [i8; LANES]
-    requires scale { scale ≤ MAX_SCALE }
-    requires stands { (e : ℕ) → e < LANES → IsStand 21527 (stand_at stands.old e) }
-    ensures { (e : ℕ) → e < LANES → IsMoved scale (slice_index marks.now e) (stand_at stands.old e)
-        (stand_at stands.new e) (slice_index_or result e (pos 0)) }
-{
+    let levels = move_all(marks, stands);
     let mut written = [0; LANES];
     for e in 0..LANES {
-        let stand = stand_of(stands, e);
-        let number = number(marks[e], stand.former, stand.q1, stand.q0);
-        written[e] = symbol_of(scale, number, stand.q1);
-        put_state(number / 2, (number % 2 + stand.q0) % 2, stand.q1, e, stands);
+        let symbol = 2 * levels[e] as i16 - 7;
+        written[e] = symbol as i8;
+        stands.cost[e] = stands.cost[e] + square(symbols[e], scale as i16 * symbol);
     }
     written
 }
 
-/// The stand of a coder.
+/// Takes one step more, but leaves the costs as they are. Returns the levels.
 #[inline(always)]
-fn stand_of(stands: &Stands, e: usize) -> Stand
-    requires { e < LANES }
-    ensures { result ≡ stand_at stands.now e }
+fn move_all(marks: &[u16; LANES], stands: &mut Stands) -> [u16; LANES]
+    requires stands { (e : ℕ) → e < LANES → IsStand 21527 (stand_at stands.old e) }
+    ensures { (e : ℕ) → e < LANES → IsMoved (slice_index marks.now e) (stand_at stands.old e) (stand_at stands.new e)
+        (slice_index result e) }
 {
-    Stand {
-        former: stands.former[e],
-        q1: stands.q1[e],
-        q0: stands.q0[e],
-        cost: stands.cost[e],
+    let mut levels = [0; LANES];
+    let mut q1s = [0; LANES];
+    for e in 0..LANES {
+        let number = number(marks[e], stands.former[e], stands.q1[e], stands.q0[e]);
+        levels[e] = 2 * number + stands.q1[e];
+        stands.former[e] = number / 2;
+        q1s[e] = (number % 2 + stands.q0[e]) % 2;
     }
-}
-
-/// Writes the stand of a coder.
-pub(crate) fn put_stand(stand: Stand, e: usize, stands: &mut Stands)
-    requires { e < LANES }
-    ensures written { stand_at stands.new e ≡ stand }
-    ensures others { (k : ℕ) → k ≢ e → stand_at stands.new k ≡ stand_at stands.old k }
-{
-    stands.former[e] = stand.former;
-    stands.q1[e] = stand.q1;
-    stands.q0[e] = stand.q0;
-    stands.cost[e] = stand.cost;
-}
-
-/// Writes the former Z2 and the state of a coder.
-#[inline(always)]
-fn put_state(former: u16, q1: u16, q0: u16, e: usize, stands: &mut Stands)
-    requires { e < LANES }
-    ensures former { (stand_at stands.new e).former ≡ former }
-    ensures q1 { (stand_at stands.new e).q1 ≡ q1 }
-    ensures q0 { (stand_at stands.new e).q0 ≡ q0 }
-    ensures cost { (stand_at stands.new e).cost ≡ (stand_at stands.old e).cost }
-    ensures others { (k : ℕ) → k ≢ e → stand_at stands.new k ≡ stand_at stands.old k }
-{
-    stands.former[e] = former;
-    stands.q1[e] = q1;
-    stands.q0[e] = q0;
+    stands.q0 = stands.q1;
+    stands.q1 = q1s;
+    levels
 }
 
 /// The number of the level that a mark gives: half of the level, rounded down.
@@ -155,15 +158,40 @@ fn number(mark: u16, former: u16, q1: u16, q0: u16) -> u16
     two % 4
 }
 
-/// The symbol of level 2 * number + q1.
-#[inline(always)]
-fn symbol_of(scale: u8, number: u16, q1: u16) -> i8
-    requires scale { scale ≤ MAX_SCALE }
-    requires number { number < 4 }
-    requires q1 { q1 < 2 }
-    ensures symbol { result ≡ symbol_at scale (2 * number + q1) }
-    ensures from { pos 0 ≤ℤ (result +ℤ pos 126) }
-    ensures to { result ≤ℤ pos 126 }
+/// Sets the data symbols of a segment to those of a path, and returns how many of them move.
+fn move_symbols(path: &[i8; SEGMENT], segment: &mut [i8; SEGMENT]) -> u16
+    ensures sync { (k : ℕ) → k < 4 → slice_index_or segment.new k (pos 0) ≡ slice_index_or segment.old k (pos 0) }
+    ensures data { (k : ℕ) → 4 ≤ k → slice_index_or segment.new k (pos 0) ≡ slice_index_or path.now k (pos 0) }
+    ensures moved { result ≡ moved_in segment.old segment.new }
+    ensures still { result ≡ 0 → segment.new ≡ segment.old }
+    ensures most { result ≤ SEGMENT }
 {
-    symbol_at(scale, (2 * number + q1) as u8) as i8
+    let mut moved = 0;
+    for k in SEGMENT_SYNC..SEGMENT {
+        moved += put_symbol(&mut segment[k], path[k]);
+    }
+    moved
+}
+
+/// Puts a symbol in place of another one. Returns 1 where they differ, and 0 otherwise.
+#[inline(always)]
+fn put_symbol(place: &mut i8, symbol: i8) -> u16
+    ensures put { place.new ≡ symbol }
+    ensures moved { result ≡ (if int_eq place.old symbol then 0 else 1) }
+    ensures most { result ≤ 1 }
+{
+    let moved = if *place == symbol { 0 } else { 1 };
+    *place = symbol;
+    moved
+}
+
+/// The sum of the costs of the twelve coders' paths.
+fn total(costs: &[u32; LANES]) -> u64
+    ensures { result ≡ sum (map (λ e. slice_index costs.now e) (range_with_len 0 CODERS)) }
+{
+    let mut total = 0;
+    for e in 0..CODERS {
+        total += costs[e] as u64;
+    }
+    total
 }

@@ -5,6 +5,7 @@ ghost use Rattle.dtx_pins.specs.Lanes.{lane_of, sums_of};
 ghost use Rattle.dtx_pins.specs.Steps.{cost_at};
 
 use dtx_sizes::CODERS;
+use dtx_soft::LANES;
 
 /// The sums of all coders, from each of the four states.
 #[derive(Drop)]
@@ -100,4 +101,16 @@ pub(crate) fn all_sums(sums: &Sums) -> [[[u32; 4]; 2]; CODERS]
         all[e] = coder_sums(sums, e);
     }
     all
+}
+
+/// A row of the coders, with zeros behind it.
+#[inline(always)]
+pub(crate) fn lanes_of(row: &[u16; CODERS]) -> [u16; LANES]
+    ensures { (e : ℕ) → e < CODERS → slice_index result e ≡ slice_index row.now e }
+{
+    let mut lanes = [0; LANES];
+    for e in 0..CODERS {
+        lanes[e] = row[e];
+    }
+    lanes
 }

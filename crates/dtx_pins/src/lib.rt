@@ -9,6 +9,7 @@ pub mod laws;
 mod pinned;
 mod start;
 mod step;
+mod told;
 mod weights;
 
-pub use pinned::{NO_PIN, Pinned};
+pub use pinned::{Decision, NO_PIN, Pinned};

@@ -1,18 +1,32 @@
 //! Where the least paths begin.
 
-ghost use Rattle.std.specs.Prelude.{◌≡◌, ℕ, ◌-◌, ◌<◌, [], slice_index_or, nat_lt, if◌then◌else◌};
-ghost use Rattle.dtx_pins.specs.Pins.{pin_at};
-ghost use Rattle.dtx_pins.specs.Trace.{IsStand, IsStart, stand_at, x2_of};
+ghost use Rattle.std.specs.Prelude.{◌≡◌, ◌≢◌, ℕ, ◌-◌, ◌<◌, [], ◌∷◌, slice_index_or, nat_lt, if◌then◌else◌};
+ghost use Rattle.dtx_pins.specs.Trace.{AreStarts, IsStart, stand_at, x2_of};
 
-use crate::forth::{Stand, Stands, put_stand};
 use dtx_sizes::CODERS;
 use dtx_soft::{LANES, least_of};
 
-/// The stands from which the least paths of all coders begin.
-pub(crate) fn starts(pins: &[[u8; CODERS]], behind: &[[[u32; 4]; 2]; CODERS]) -> Stands
-    ensures starts { (e : ℕ) → e < CODERS → IsStart (pin_at (slice_index_or pins.now 0 []) e)
-        (slice_index_or behind.now e []) (stand_at result e) }
-    ensures stands { (e : ℕ) → e < LANES → IsStand 0 (stand_at result e) }
+/// Where a path stands: the former Z2, the state 2 * q1 + q0, and the cost so far.
+#[derive(Drop)]
+pub(crate) struct Stand {
+    pub(crate) former: u16,
+    pub(crate) q1: u16,
+    pub(crate) q0: u16,
+    pub(crate) cost: u32,
+}
+
+/// Where the path of each coder stands. The lanes behind the coders aren't used.
+#[derive(Drop)]
+pub(crate) struct Stands {
+    pub(crate) former: [u16; LANES],
+    pub(crate) q1: [u16; LANES],
+    pub(crate) q0: [u16; LANES],
+    pub(crate) cost: [u32; LANES],
+}
+
+/// The stands from which the least paths of all coders begin, under the pins of the first step.
+pub(crate) fn starts(first: &[u16; CODERS], behind: &[[[u32; 4]; 2]; CODERS]) -> Stands
+    ensures { AreStarts (first.now ∷ []) (λ e. slice_index_or behind.now e []) result }
 {
     let mut stands = Stands {
         former: [0; LANES],
@@ -21,21 +35,28 @@ pub(crate) fn starts(pins: &[[u8; CODERS]], behind: &[[[u32; 4]; 2]; CODERS]) ->
         cost: [0; LANES],
     };
     for e in 0..CODERS {
-        put_stand(start_of(first_x2(pins, e), &behind[e]), e, &mut stands);
+        put_stand(start_of(first_x2(first[e]), &behind[e]), e, &mut stands);
     }
     stands
 }
 
-/// X2 of a coder's first pin, or 0 where it has none.
-fn first_x2(pins: &[[u8; CODERS]], e: usize) -> u8
-    requires { e < CODERS }
-    ensures { result ≡ x2_of (pin_at (slice_index_or pins.now 0 []) e) }
+/// Writes the stand of a coder.
+fn put_stand(stand: Stand, e: usize, stands: &mut Stands)
+    requires { e < LANES }
+    ensures written { stand_at stands.new e ≡ stand }
+    ensures others { (k : ℕ) → k ≢ e → stand_at stands.new k ≡ stand_at stands.old k }
 {
-    if pins.is_empty() || pins[0][e] / 2 != 1 {
-        0
-    } else {
-        1
-    }
+    stands.former[e] = stand.former;
+    stands.q1[e] = stand.q1;
+    stands.q0[e] = stand.q0;
+    stands.cost[e] = stand.cost;
+}
+
+/// X2 of a pin, or 0 where it tells none.
+fn first_x2(pin: u16) -> u8
+    ensures { result ≡ x2_of pin }
+{
+    if pin / 2 == 1 { 1 } else { 0 }
 }
 
 /// The state of least cost, the first of several, and the former Z2 with which it comes to that. Of two equal ones it

@@ -30,7 +30,7 @@ struct Pens {
 /// Turns the least sums behind a symbol into those before it, and returns the mark of the step. Entry p of the sums is
 /// for the former Z2, and has one for each state.
 #[inline(always)]
-pub(crate) fn stepped(weights: &Weights, symbol: i8, pin: u8, behind: &mut [[u32; 4]; 2]) -> u16
+pub(crate) fn stepped(weights: &Weights, symbol: i8, pin: u16, behind: &mut [[u32; 4]; 2]) -> u16
     requires bounded { AreBounded (MAX_WEIGHT * MAX_SYMBOLS) behind.old }
     requires multiples { AreMultiples behind.old }
     ensures step { IsStep (weight weights.now.scale symbol) pin behind.old behind.new result }
@@ -48,7 +48,7 @@ pub(crate) fn stepped(weights: &Weights, symbol: i8, pin: u8, behind: &mut [[u32
 
 /// The pens of a pin.
 #[inline(always)]
-fn pens_of(pin: u8) -> Pens
+fn pens_of(pin: u16) -> Pens
     ensures first { result.first ≡ pen_of pin 0 }
     ensures second { result.second ≡ pen_of pin 1 }
     ensures near { result.near ≡ pen_of pin 2 }
@@ -67,7 +67,7 @@ fn pens_of(pin: u8) -> Pens
 
 /// The pen of a pin that tells a pair, or none.
 #[inline(always)]
-fn pen_of_all(pin: u8) -> u32
+fn pen_of_all(pin: u16) -> u32
     ensures { result ≡ if nat_le 4 pin then 0 else PEN }
 {
     if NO_PIN <= pin { 0 } else { PEN }
@@ -75,7 +75,7 @@ fn pen_of_all(pin: u8) -> u32
 
 /// The pen of the levels with 0 where the pin has this bit.
 #[inline(always)]
-fn pen_by(bit: u8, all: u32) -> u32
+fn pen_by(bit: u16, all: u32) -> u32
     ensures pen { result ≡ if bit == 0 then 0 else all }
     ensures small { result ≤ all }
 {

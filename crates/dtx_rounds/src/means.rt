@@ -6,24 +6,22 @@ use crate::field::WORDS;
 use crate::words::Corrector;
 use dtx_fast::Fast;
 use dtx_pins::{NO_PIN, Pinned};
-use dtx_sizes::{CODERS, SEGMENT, SEGMENT_ROUNDS};
+use dtx_sizes::{CODERS, SEGMENT_ROUNDS};
 use dtx_soft::MAX_SCALE;
 use std::alloc::{AllocError, Global};
 use std::rc::Rc;
 
-/// The corrector and the decoder that rounds use in turn, and the room for the pins and the segments of a field.
+/// The corrector and the decoder that rounds use in turn, and the room for the pins of a field.
 #[derive(Drop)]
 pub(crate) struct Means {
     pub(crate) scale: u8,
     pub(crate) corrector: Rc<Corrector>,
     pub(crate) decoder: Pinned,
-    pub(crate) pins: Vec<[u8; CODERS]>,
-    pub(crate) segments: Vec<[i8; SEGMENT]>,
+    pub(crate) pins: Vec<[u16; CODERS]>,
     ghost some: { 0 < scale },
     ghost most: { scale ≤ 18 },
     ghost decoder_scale: { decoder ≡ scale },
     ghost pins_long: { vec_len pins ≡ 21528 },
-    ghost segments_long: { vec_len segments ≡ 312 },
 }
 
 impl Means {
@@ -36,9 +34,8 @@ impl Means {
         Ok(Means {
             scale,
             corrector: Rc::new(alloc, Fast::new())?,
-            decoder: Pinned::scaled(alloc, scale)?,
+            decoder: Pinned::scaled(scale),
             pins: vec![in alloc; [NO_PIN; CODERS]; SEGMENT_ROUNDS * WORDS]?,
-            segments: vec![in alloc; [0i8; SEGMENT]; WORDS]?,
         })
     }
 }

@@ -11,7 +11,7 @@ use dtx_pins::NO_PIN;
 use dtx_sizes::{CODER_BYTES, CODERS, ROUNDS, SEGMENT_ROUNDS};
 
 /// Writes the pins of a field's first groups.
-pub(crate) fn put_pins(known: &[Option<u8>], groups: usize, pins: &mut [[u8; CODERS]])
+pub(crate) fn put_pins(known: &[Option<u8>], groups: usize, pins: &mut [[u16; CODERS]])
     requires known { length known.now ≡ BYTES }
     requires groups { groups ≤ GROUPS }
     requires room { length pins.old ≡ ROUNDS * GROUPS }
@@ -28,7 +28,7 @@ pub(crate) fn put_pins(known: &[Option<u8>], groups: usize, pins: &mut [[u8; COD
 }
 
 /// Writes the pins of the four steps in which the coders work on twelve bytes. The first byte is that of coder `turn`.
-fn put_row(known: &[Option<u8>], turn: usize, pins: &mut [[u8; CODERS]])
+fn put_row(known: &[Option<u8>], turn: usize, pins: &mut [[u16; CODERS]])
     requires known { length known.now ≡ CODERS }
     requires turn { turn < CODERS }
     requires room { length pins.old ≡ 4 }
@@ -58,7 +58,7 @@ fn read_known(known: &[Option<u8>], bytes: &mut [u8; CODERS], unknown: &mut [u8;
         ≡ unwrap_or (option_map (λ byte. 0) (slice_index_or known.now e None)) 4 }
 {
     *bytes = [0; CODERS];
-    *unknown = [NO_PIN; CODERS];
+    *unknown = [NO_PIN as u8; CODERS];
     for e in 0..CODERS {
         if let Some(byte) = known[e] {
             bytes[e] = byte;
@@ -81,7 +81,7 @@ fn twice(row: &[u8; CODERS]) -> [u8; 2 * CODERS]
 
 /// Writes the pins of the four pairs of twelve bytes.
 #[inline(always)]
-fn put_pairs(bytes: &[u8], unknown: &[u8], pins: &mut [[u8; CODERS]])
+fn put_pairs(bytes: &[u8], unknown: &[u8], pins: &mut [[u16; CODERS]])
     requires bytes { length bytes.now ≡ CODERS }
     requires unknown { length unknown.now ≡ CODERS }
     requires most { (e : ℕ) → e < CODERS → slice_index unknown.now e ≤ NO_PIN }
@@ -98,7 +98,7 @@ fn put_pairs(bytes: &[u8], unknown: &[u8], pins: &mut [[u8; CODERS]])
 
 /// The pins of one pair of each byte: the pair that `divisor` shifts to the low end.
 #[inline(always)]
-fn pairs(bytes: &[u8], unknown: &[u8], divisor: u8) -> [u8; CODERS]
+fn pairs(bytes: &[u8], unknown: &[u8], divisor: u8) -> [u16; CODERS]
     requires bytes { length bytes.now ≡ CODERS }
     requires unknown { length unknown.now ≡ CODERS }
     requires most { (e : ℕ) → e < CODERS → slice_index unknown.now e ≤ NO_PIN }
@@ -108,7 +108,7 @@ fn pairs(bytes: &[u8], unknown: &[u8], divisor: u8) -> [u8; CODERS]
 {
     let mut row = [0; CODERS];
     for e in 0..CODERS {
-        row[e] = bytes[e] / divisor % 4 + unknown[e];
+        row[e] = (bytes[e] / divisor % 4 + unknown[e]) as u16;
     }
     row
 }

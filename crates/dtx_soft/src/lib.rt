@@ -18,7 +18,7 @@ mod walker;
 
 pub use certificate::proves;
 pub use gaps::LANES;
-pub use nearest::{MAX_SCALE, square, squared_distance, symbol_at};
-pub use rounds::{lay_out, put_back};
+pub use nearest::{MAX_SCALE, MOST_SEGMENT_COST, square, squared_distance, symbol_at};
+pub use rounds::{read_turned, write_turned};
 pub use soft::Soft;
 pub use walk::{Found, MAX_SYMBOLS, least_of};

@@ -13,6 +13,9 @@ pub const MAX_SCALE: u8 = 18;
 /// The greatest square of a symbol's distance from a level: (128 + 7 * 18)^2.
 pub(crate) const MAX_SQUARE: u32 = 64_516;
 
+/// What paths over the 828 data symbols of a segment cost at most.
+pub const MOST_SEGMENT_COST: u64 = 828 * 64_516;
+
 /// A row of the table. For z below 4 it has the one of levels z and z + 4 that is nearest to the symbol, and the square
 /// of the distance. Of two equally near ones it is z. For z = 0 and z = 1 the tie break is 1 where the level of z + 2
 /// comes before that of z, else 0.

@@ -8,7 +8,7 @@ use crate::gaps::LANES;
 use dtx_sizes::{CODERS, SEGMENT, SEGMENT_ROUNDS, SEGMENT_SYNC};
 
 /// Reads the rounds of all segments. Lane e is for coder e, and the lanes behind the coders aren't used.
-pub fn lay_out(segments: &[[i8; SEGMENT]], rounds: &mut [[i8; LANES]])
+pub(crate) fn lay_out(segments: &[[i8; SEGMENT]], rounds: &mut [[i8; LANES]])
     requires room { length rounds.old ≡ SEGMENT_ROUNDS * length segments.now }
     ensures { (e : ℕ) → e < CODERS → column rounds.new e ≡ coder_symbols segments.now e }
 {
@@ -33,9 +33,10 @@ fn read_segment(segment: &[i8; SEGMENT], turn: usize, at: usize, rounds: &mut [[
     }
 }
 
-/// Reads a round of a segment. Each turn has its own loop, for speed.
+/// Reads a round of a segment in which the coders have moved on by four places `turn` times. Lane e is for coder e, and
+/// the lanes behind the coders aren't used. Each turn has its own loop, for speed.
 #[inline(always)]
-fn read_turned(segment: &[i8; SEGMENT], r: usize, turn: usize) -> [i8; LANES]
+pub fn read_turned(segment: &[i8; SEGMENT], r: usize, turn: usize) -> [i8; LANES]
     requires round { r < SEGMENT_ROUNDS }
     requires turn { turn < 3 }
     ensures { (e : ℕ) → e < CODERS → slice_index_or result e (pos 0)
@@ -64,7 +65,7 @@ fn read_round(segment: &[i8; SEGMENT], r: usize, turn: usize) -> [i8; LANES]
 }
 
 /// Writes the rounds of all segments.
-pub fn put_back(rounds: &[[i8; LANES]], segments: &mut [[i8; SEGMENT]])
+pub(crate) fn put_back(rounds: &[[i8; LANES]], segments: &mut [[i8; SEGMENT]])
     requires room { length rounds.now ≡ SEGMENT_ROUNDS * length segments.old }
     ensures coders { (e : ℕ) → e < CODERS → coder_symbols segments.new e ≡ column rounds.now e }
     ensures syncs { KeepsSyncs segments.old segments.new }
@@ -91,9 +92,10 @@ fn write_segment(rounds: &[[i8; LANES]], at: usize, turn: usize, segment: &mut [
     }
 }
 
-/// Writes a round of a segment. Each turn has its own loop, for speed.
+/// Writes a round of a segment in which the coders have moved on by four places `turn` times. Each turn has its own
+/// loop, for speed.
 #[inline(always)]
-fn write_turned(lanes: &[i8; LANES], r: usize, turn: usize, segment: &mut [i8; SEGMENT])
+pub fn write_turned(lanes: &[i8; LANES], r: usize, turn: usize, segment: &mut [i8; SEGMENT])
     requires round { r < SEGMENT_ROUNDS }
     requires turn { turn < 3 }
     ensures symbols { (p : ℕ) → p < CODERS → slice_index_or segment.new (4 + 12 * r + p) (pos 0)
