@@ -1,63 +1,92 @@
-//! All twelve coders of a field.
+//! The decoder of all twelve coders of a field.
 
-ghost use Rattle.std.specs.Prelude.{◌≡◌, ℕ, ◌+◌, ◌*◌, ◌<◌, ◌≤◌, length, map, slice_index, sum};
+ghost use Rattle.std.specs.Prelude.{◌≡◌, ℕ, ◌+◌, ◌*◌, ◌<◌, ◌≤◌, IfOk, length, map, slice_index, sum};
 ghost use Rattle.std.specs.List.{range_with_len};
 ghost use Rattle.dtx_soft.specs.Gaps.{AreWalked, IsBounded, gap_at};
-ghost use Rattle.dtx_soft.specs.Least.{HoldPotentials};
-ghost use Rattle.dtx_soft.specs.Coders.{IsSoftened, coder_symbols, coders_distance};
+ghost use Rattle.dtx_soft.specs.Coders.{IsSoftened, coders_distance};
 
-use crate::coders::gather;
 use crate::gaps::{self, Gaps, LANES};
 use crate::near::{self, are_near, widened};
 use crate::nearest::MAX_SCALE;
 use crate::rounds::{lay_out, put_back};
 use crate::trace::forward;
 use crate::walk::MAX_SYMBOLS;
-use crate::walker::Walker;
 use dtx_sizes::{CODERS, FIELD_PACKETS, SEGMENT, SEGMENT_ROUNDS};
+use std::alloc::{AllocError, Global};
+use std::marker::Model;
+
+/// Decodes the symbols of the twelve trellis coders of a field (ATSC A/53 Part 2, trellis coding). For each coder it
+/// finds the path whose levels lie nearest to its symbols, in the sum of the squares. Contracts see its scale.
+#[derive(Drop)]
+pub struct FieldDecoder {
+    scale: u8,
+    rounds: Vec<[i8; LANES]>,
+    marks: Vec<[u8; LANES]>,
+}
+
+impl Model for FieldDecoder {
+    ghost use Rattle.std.specs.Prelude.{ℕ, ◌≡◌, ◌≤◌, vec_len};
+    ghost use Rattle.dtx_soft.specs.declared.nearest.TheConstants.{MAX_SCALE};
+    ghost use Rattle.dtx_soft.specs.declared.walk.TheConstants.{MAX_SYMBOLS};
+
+    ghost Value = { ℕ };
+
+    ghost view = { λ d. d.scale };
+
+    ghost invariant = { λ d. (d.scale ≤ MAX_SCALE) × (vec_len d.rounds ≡ MAX_SYMBOLS) × (vec_len d.marks ≡ MAX_SYMBOLS) };
+}
+
+impl FieldDecoder {
+    /// A decoder of symbols at `scale` times the standard's levels, which are 2 * z - 7 for z from 0 to 7. The only
+    /// error is out of memory.
+    pub fn scaled(alloc: Global, scale: u8) -> Result<FieldDecoder, AllocError>
+        requires { scale ≤ MAX_SCALE }
+        ensures { IfOk result (λ decoder. decoder ≡ scale) }
+    {
+        Ok(FieldDecoder {
+            scale,
+            rounds: vec![in alloc; [0i8; LANES]; MAX_SYMBOLS]?,
+            marks: vec![in alloc; [0u8; LANES]; MAX_SYMBOLS]?,
+        })
+    }
+
+    /// Replaces the symbols of each of the twelve coders by those of its least path, in the first data segments of a
+    /// field. It returns the sum of the costs of the twelve paths.
+    pub fn field(&mut self, segments: &mut [[i8; SEGMENT]]) -> u64
+        requires few { length segments.old ≤ FIELD_PACKETS }
+        ensures segments { IsSoftened self.old segments.old segments.new }
+        ensures cost { result ≡ coders_distance segments.old segments.new CODERS }
+        ensures scale { self.new ≡ self.old }
+    {
+        soften(
+            self.scale,
+            &mut self.rounds[..],
+            &mut self.marks[..],
+            segments,
+        )
+    }
+}
 
 /// Replaces the symbols of each coder by those of its least path, and returns the sum of the costs. The caller lends
-/// the room: `symbols` for those of one coder, `rounds` for those of all, and `marks` for a mark of each.
-pub(crate) fn soften(
-    walker: &mut Walker,
-    symbols: &mut [i8],
+/// the room: `rounds` for the symbols of all coders, and `marks` for a mark of each.
+fn soften(
+    scale: u8,
     rounds: &mut [[i8; LANES]],
     marks: &mut [[u8; LANES]],
     segments: &mut [[i8; SEGMENT]],
 ) -> u64
+    requires scale { scale ≤ MAX_SCALE }
     requires few { length segments.old ≤ FIELD_PACKETS }
-    requires symbols { length symbols.old ≡ MAX_SYMBOLS }
     requires rounds { length rounds.old ≡ MAX_SYMBOLS }
     requires marks { length marks.old ≡ MAX_SYMBOLS }
-    ensures segments { IsSoftened walker.old.table.scale segments.old segments.new }
+    ensures segments { IsSoftened scale segments.old segments.new }
     ensures cost { result ≡ coders_distance segments.old segments.new CODERS }
-    ensures potentials { HoldPotentials walker.old.table.scale (coder_symbols segments.old 11)
-        walker.new.potentials.items }
-    ensures table { walker.new.table ≡ walker.old.table }
 {
     let count = SEGMENT_ROUNDS * segments.len();
-    hold_last(walker, &mut symbols[..count], segments);
-    soften_rounds(
-        walker.table.scale,
-        &mut rounds[..count],
-        &mut marks[..count],
-        segments,
-    )
+    soften_rounds(scale, &mut rounds[..count], &mut marks[..count], segments)
 }
 
-/// Writes the potentials of the last coder's symbols to the walker's table.
-fn hold_last(walker: &mut Walker, symbols: &mut [i8], segments: &[[i8; SEGMENT]])
-    requires few { length segments.now ≤ FIELD_PACKETS }
-    requires symbols { length symbols.old ≡ SEGMENT_ROUNDS * length segments.now }
-    ensures potentials { HoldPotentials walker.old.table.scale (coder_symbols segments.now 11)
-        walker.new.potentials.items }
-    ensures table { walker.new.table ≡ walker.old.table }
-{
-    gather(segments, CODERS - 1, symbols);
-    walker.hold(symbols);
-}
-
-/// Does this for all coders side by side, each in its lane.
+/// Does the same with just the room that is needed, for all coders side by side, each in its lane.
 fn soften_rounds(
     scale: u8,
     rounds: &mut [[i8; LANES]],

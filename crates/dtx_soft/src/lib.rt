@@ -17,6 +17,7 @@ mod walk;
 mod walker;
 
 pub use certificate::proves;
+pub use field::FieldDecoder;
 pub use gaps::LANES;
 pub use nearest::{MAX_SCALE, MOST_SEGMENT_COST, square, squared_distance, symbol_at};
 pub use rounds::{read_turned, write_turned};

@@ -2,12 +2,12 @@
 
 ghost use Rattle.std.specs.Prelude.{◌≡◌, ℕ, ◌+◌, ◌*◌, ◌%◌, ◌<◌, ◌≤◌, EachIndex, IfOk, length, slice_index};
 ghost use Rattle.dtx_soft.specs.Paths.{cost};
-ghost use Rattle.dtx_soft.specs.Least.{ArePotentials, IsLeast};
+ghost use Rattle.dtx_soft.specs.Least.{ArePotentials, HoldPotentials, IsLeast};
 ghost use Rattle.dtx_soft.specs.Coders.{IsSoftened, coder_symbols, coders_distance};
 ghost use Rattle.dtx_soft.specs.Decoder.{new_decoder};
 
-use crate::field::soften;
-use crate::gaps::LANES;
+use crate::coders::gather;
+use crate::field::FieldDecoder;
 use crate::nearest::MAX_SCALE;
 use crate::walk::{Found, MAX_SYMBOLS};
 use crate::walker::Walker;
@@ -23,8 +23,8 @@ pub struct Soft {
     walker: Walker,
     entries: usize,
     symbols: Vec<i8>,
-    rounds: Vec<[i8; LANES]>,
-    marks: Vec<[u8; LANES]>,
+    decoder: FieldDecoder,
+    ghost one_scale: { decoder ≡ walker.table.scale },
 }
 
 impl Model for Soft {
@@ -40,8 +40,7 @@ impl Model for Soft {
       potentials = take s.entries s.walker.potentials.items;
     } };
 
-    ghost invariant = { λ s. (s.entries ≤ ENTRIES) × (vec_len s.symbols ≡ MAX_SYMBOLS)
-        × (vec_len s.rounds ≡ MAX_SYMBOLS) × (vec_len s.marks ≡ MAX_SYMBOLS) };
+    ghost invariant = { λ s. (s.entries ≤ ENTRIES) × (vec_len s.symbols ≡ MAX_SYMBOLS) };
 }
 
 impl Soft {
@@ -62,8 +61,7 @@ impl Soft {
             walker: Walker::new(alloc, scale)?,
             entries: 0,
             symbols: vec![in alloc; 0i8; MAX_SYMBOLS]?,
-            rounds: vec![in alloc; [0i8; LANES]; MAX_SYMBOLS]?,
-            marks: vec![in alloc; [0u8; LANES]; MAX_SYMBOLS]?,
+            decoder: FieldDecoder::scaled(alloc, scale)?,
         })
     }
 
@@ -101,12 +99,20 @@ impl Soft {
         ensures scale { self.new.scale ≡ self.old.scale }
     {
         self.entries = SEGMENT_ROUNDS * segments.len() + 1;
-        soften(
-            &mut self.walker,
-            &mut self.symbols[..],
-            &mut self.rounds[..],
-            &mut self.marks[..],
-            segments,
-        )
+        hold_last(&mut self.walker, &mut self.symbols[..], segments);
+        self.decoder.field(segments)
     }
+}
+
+/// Writes the potentials of the last coder's symbols to the walker's table.
+fn hold_last(walker: &mut Walker, symbols: &mut [i8], segments: &[[i8; SEGMENT]])
+    requires few { length segments.now ≤ FIELD_PACKETS }
+    requires symbols { length symbols.old ≡ MAX_SYMBOLS }
+    ensures potentials { HoldPotentials walker.old.table.scale (coder_symbols segments.now 11)
+        walker.new.potentials.items }
+    ensures table { walker.new.table ≡ walker.old.table }
+{
+    let symbols = &mut symbols[..SEGMENT_ROUNDS * segments.len()];
+    gather(segments, CODERS - 1, symbols);
+    walker.hold(symbols);
 }

@@ -1,6 +1,6 @@
 use Rattle.std.proofs.Common.{subst}
 use Rattle.dtx_soft.specs.Least.{HoldPotentials}
-use Rattle.dtx_soft.proofs.field.hold_last.Goals as goal
+use Rattle.dtx_soft.proofs.soft.hold_last.Goals as goal
 
 pub returns-clause-potentials : goal.returns-clause-potentials
 returns-clause-potentials c =
