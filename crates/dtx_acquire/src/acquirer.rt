@@ -10,10 +10,9 @@ ghost use Rattle.dtx_acquire.specs.Agreement.{agrees};
 
 use crate::giver::Giver;
 use crate::held::{Held, MOST_HELD};
-use crate::restoring::MOST_COST;
 use crate::step::{FIELD, seek, step_of};
 use dtx_sizes::{FIELD_SEGMENTS, MOST_SYMBOLS, SEGMENT};
-use dtx_soft::MAX_SCALE;
+use dtx_soft::{MAX_SCALE, MOST_SEGMENT_COST};
 use std::alloc::{AllocError, Global};
 use std::marker::Model;
 
@@ -156,7 +155,7 @@ impl Acquirer {
     /// What the least paths of these segments cost.
     pub fn field_cost(&self) -> u64
         ensures cost { result ≡ path_cost self.now.scale self.now.heard }
-        ensures most { result ≤ MOST_COST * length self.now.heard }
+        ensures most { result ≤ MOST_SEGMENT_COST * length self.now.heard }
     {
         self.giver.field_cost
     }

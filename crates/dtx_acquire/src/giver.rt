@@ -3,19 +3,20 @@
 ghost use Rattle.std.specs.Prelude.{◌≡◌, ℕ, ℤ, ◌+◌, ◌*◌, ◌<◌, ◌≤◌, Bool, List, [], IfOk};
 ghost use Rattle.std.specs.Prelude.{drop, length, take, vec_len};
 ghost use Rattle.dtx_acquire.specs.Acquired.{begun, path_cost, restored, segments_from};
+ghost use Rattle.dtx_soft.specs.declared.nearest.TheConstants.{MOST_SEGMENT_COST};
 
 use crate::deciding::Decisions;
 use crate::restoring::restore;
 use crate::step::FIELD;
 use dtx_sizes::{MOST_SEGMENTS, SEGMENT};
-use dtx_soft::{MAX_SCALE, Soft};
+use dtx_soft::{FieldDecoder, MAX_SCALE, MOST_SEGMENT_COST};
 use std::alloc::{AllocError, Global};
 
 /// What restores fields, with the segments of the last one. It also counts the runs and segments that were given, and
 /// the costs of their least paths.
 #[derive(Drop)]
 pub(crate) struct Giver {
-    soft: Soft,
+    decoder: FieldDecoder,
     pub(crate) decisions: Decisions,
     pub(crate) segments: Vec<[i8; SEGMENT]>,
     pub(crate) count: usize,
@@ -24,12 +25,12 @@ pub(crate) struct Giver {
     pub(crate) cost: u64,
     /// What the least paths of the segments cost that were given last.
     pub(crate) field_cost: u64,
-    ghost scale: { soft.scale ≡ decisions.scale },
+    ghost scale: { decoder ≡ decisions.scale },
     ghost long: { vec_len segments ≡ 313 },
     ghost few: { count ≤ 313 },
     ghost runs_small: { runs ≤ total },
-    ghost cost_small: { cost ≤ 53419248 * total },
-    ghost field_cost_small: { field_cost ≤ 53419248 * count },
+    ghost cost_small: { cost ≤ MOST_SEGMENT_COST * total },
+    ghost field_cost_small: { field_cost ≤ MOST_SEGMENT_COST * count },
 }
 
 impl Giver {
@@ -47,7 +48,7 @@ impl Giver {
         Ok(Giver {
             segments: empty_field(alloc)?,
             decisions: Decisions::new(alloc, scale)?,
-            soft: Soft::scaled(alloc, scale)?,
+            decoder: FieldDecoder::scaled(alloc, scale)?,
             count: 0,
             runs: 0,
             total: 0,
@@ -75,7 +76,7 @@ impl Giver {
         ensures scale { self.new.decisions.scale ≡ self.old.decisions.scale }
     {
         let cost = restore_front(
-            &mut self.soft,
+            &mut self.decoder,
             &self.decisions,
             held,
             count,
@@ -107,66 +108,66 @@ fn run_of(begins: bool, count: usize) -> u64
 
 /// Copies the first symbols to the first `count` segments, and restores these. Returns the cost of their least paths.
 fn restore_front(
-    soft: &mut Soft,
+    decoder: &mut FieldDecoder,
     decisions: &Decisions,
     symbols: &[i8],
     count: usize,
     segments: &mut Vec<[i8; SEGMENT]>,
 ) -> u64
-    requires scale { soft.old.scale ≡ decisions.now.scale }
+    requires scale { decoder.old ≡ decisions.now.scale }
     requires few { count ≤ FIELD }
     requires long { vec_len segments.old ≡ FIELD }
     requires room { SEGMENT * count ≤ length symbols.now }
     ensures segments { take count segments.new.items
         ≡ restored decisions.now.scale (segments_from symbols.now 0 count) }
     ensures cost { result ≡ path_cost decisions.now.scale (segments_from symbols.now 0 count) }
-    ensures most { result ≤ 53419248 * count }
-    ensures scale { soft.new.scale ≡ soft.old.scale }
+    ensures most { result ≤ MOST_SEGMENT_COST * count }
+    ensures scale { decoder.new ≡ decoder.old }
     ensures long { vec_len segments.new ≡ FIELD }
 {
-    restore_first(soft, decisions, symbols, count, &mut segments[..])
+    restore_first(decoder, decisions, symbols, count, &mut segments[..])
 }
 
 /// Does the same with a slice of segments.
 fn restore_first(
-    soft: &mut Soft,
+    decoder: &mut FieldDecoder,
     decisions: &Decisions,
     symbols: &[i8],
     count: usize,
     segments: &mut [[i8; SEGMENT]],
 ) -> u64
-    requires scale { soft.old.scale ≡ decisions.now.scale }
+    requires scale { decoder.old ≡ decisions.now.scale }
     requires few { count ≤ FIELD }
     requires long { length segments.old ≡ FIELD }
     requires room { SEGMENT * count ≤ length symbols.now }
     ensures segments { take count segments.new
         ≡ restored decisions.now.scale (segments_from symbols.now 0 count) }
     ensures cost { result ≡ path_cost decisions.now.scale (segments_from symbols.now 0 count) }
-    ensures most { result ≤ 53419248 * count }
-    ensures scale { soft.new.scale ≡ soft.old.scale }
+    ensures most { result ≤ MOST_SEGMENT_COST * count }
+    ensures scale { decoder.new ≡ decoder.old }
     ensures long { length segments.new ≡ FIELD }
 {
-    restore_from(soft, decisions, symbols, &mut segments[..count])
+    restore_from(decoder, decisions, symbols, &mut segments[..count])
 }
 
 /// Copies the first symbols to all these segments, and restores them. Returns the cost of their least paths.
 fn restore_from(
-    soft: &mut Soft,
+    decoder: &mut FieldDecoder,
     decisions: &Decisions,
     symbols: &[i8],
     segments: &mut [[i8; SEGMENT]],
 ) -> u64
-    requires scale { soft.old.scale ≡ decisions.now.scale }
+    requires scale { decoder.old ≡ decisions.now.scale }
     requires few { length segments.old ≤ FIELD }
     requires room { SEGMENT * length segments.old ≤ length symbols.now }
     ensures segments { segments.new
         ≡ restored decisions.now.scale (segments_from symbols.now 0 (length segments.old)) }
     ensures cost { result ≡ path_cost decisions.now.scale (segments_from symbols.now 0 (length segments.old)) }
-    ensures most { result ≤ 53419248 * length segments.old }
-    ensures scale { soft.new.scale ≡ soft.old.scale }
+    ensures most { result ≤ MOST_SEGMENT_COST * length segments.old }
+    ensures scale { decoder.new ≡ decoder.old }
 {
     gather(symbols, segments);
-    restore(soft, decisions, segments)
+    restore(decoder, decisions, segments)
 }
 
 /// Copies the first symbols to segments.

@@ -14,6 +14,5 @@ mod upright;
 
 pub use acquirer::Acquirer;
 pub use held::{Held, MOST_HELD};
-pub use restoring::MOST_COST;
 pub use searching::{MAY_BE_UNLIKE, SyncTest, is_sync_at, search};
 pub use signs::is_second;

@@ -11,25 +11,26 @@ use crate::deciding::Decisions;
 use crate::signs::is_second;
 use dtx_frame::{data_segment, field_sync};
 use dtx_sizes::{FIELD_PACKETS, FIELD_SEGMENTS, GROUP_PACKETS, SEGMENT, SEGMENT_LEVELS};
-use dtx_soft::Soft;
-
-/// The greatest cost of the symbols of a data segment. None is off a level by more than 254, which is 128 + 7 * 18.
-pub const MOST_COST: u64 = 828 * 64_516;
+use dtx_soft::{FieldDecoder, MOST_SEGMENT_COST};
 
 /// Restores a field, or the first segments of one, and returns the cost of its least paths.
-pub(crate) fn restore(soft: &mut Soft, decisions: &Decisions, segments: &mut [[i8; SEGMENT]]) -> u64
-    requires scale { soft.old.scale ≡ decisions.now.scale }
+pub(crate) fn restore(
+    decoder: &mut FieldDecoder,
+    decisions: &Decisions,
+    segments: &mut [[i8; SEGMENT]],
+) -> u64
+    requires scale { decoder.old ≡ decisions.now.scale }
     requires few { length segments.old ≤ FIELD_SEGMENTS }
     ensures segments { segments.new ≡ restored decisions.now.scale segments.old }
     ensures cost { result ≡ path_cost decisions.now.scale segments.old }
-    ensures most { result ≤ MOST_COST * length segments.old }
-    ensures scale { soft.new.scale ≡ soft.old.scale }
+    ensures most { result ≤ MOST_SEGMENT_COST * length segments.old }
+    ensures scale { decoder.new ≡ decoder.old }
 {
     if segments.len() == 0 {
         return 0;
     }
     restore_sync(decisions, &mut segments[0]);
-    restore_field(soft, decisions, &mut segments[1..])
+    restore_field(decoder, decisions, &mut segments[1..])
 }
 
 /// Restores a field sync.
@@ -42,32 +43,36 @@ fn restore_sync(decisions: &Decisions, segment: &mut [i8; SEGMENT])
 }
 
 /// Restores the data segments after a field sync, and returns the cost of their least paths.
-fn restore_field(soft: &mut Soft, decisions: &Decisions, segments: &mut [[i8; SEGMENT]]) -> u64
-    requires scale { soft.old.scale ≡ decisions.now.scale }
+fn restore_field(
+    decoder: &mut FieldDecoder,
+    decisions: &Decisions,
+    segments: &mut [[i8; SEGMENT]],
+) -> u64
+    requires scale { decoder.old ≡ decisions.now.scale }
     requires few { length segments.old ≤ FIELD_PACKETS }
     ensures segments { segments.new ≡ restored_field decisions.now.scale segments.old }
     ensures cost { result ≡ softened_cost decisions.now.scale (in_groups segments.old) }
-    ensures most { result ≤ MOST_COST * length segments.old }
-    ensures scale { soft.new.scale ≡ soft.old.scale }
+    ensures most { result ≤ MOST_SEGMENT_COST * length segments.old }
+    ensures scale { decoder.new ≡ decoder.old }
 {
     let whole = GROUP_PACKETS * (segments.len() / GROUP_PACKETS);
-    let cost = soften(soft, &mut segments[..whole]);
+    let cost = soften(decoder, &mut segments[..whole]);
     restore_all_data(decisions, segments);
     cost
 }
 
 /// Softens whole groups: their symbols become those of their least paths. Returns the cost of these.
-fn soften(soft: &mut Soft, segments: &mut [[i8; SEGMENT]]) -> u64
-    requires scale { soft.old.scale ≤ 18 }
+fn soften(decoder: &mut FieldDecoder, segments: &mut [[i8; SEGMENT]]) -> u64
+    requires scale { decoder.old ≤ 18 }
     requires whole { length segments.old % GROUP_PACKETS ≡ 0 }
     requires few { length segments.old ≤ FIELD_PACKETS }
-    ensures segments { segments.new ≡ softened soft.old.scale segments.old }
-    ensures cost { result ≡ softened_cost soft.old.scale segments.old }
-    ensures most { result ≤ MOST_COST * length segments.old }
-    ensures scale { soft.new.scale ≡ soft.old.scale }
+    ensures segments { segments.new ≡ softened decoder.old segments.old }
+    ensures cost { result ≡ softened_cost decoder.old segments.old }
+    ensures most { result ≤ MOST_SEGMENT_COST * length segments.old }
+    ensures scale { decoder.new ≡ decoder.old }
 {
     signed(segments);
-    let cost = soft.field(segments);
+    let cost = decoder.field(segments);
     known(segments);
     cost
 }

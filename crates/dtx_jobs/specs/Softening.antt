@@ -31,7 +31,7 @@ pub record IsKept (kept : Softening) : Type 0 where
   pub room : vec_len kept.field ≡ 312
   pub small : IfSome kept.place (λ place. place < 312)
   pub signed : AreSigned (take (kept_rows kept) kept.field.items)
-  pub scale : kept.soft.scale ≡ 1
+  pub scale : kept.decoder ≡ 1
   pub fields : kept.fields ≤ kept.segments
   pub cost : kept.cost ≤ MOST_COST * kept.segments
 

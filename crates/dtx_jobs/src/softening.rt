@@ -18,7 +18,7 @@ use dtx_forms::{PIECE_SEGMENTS, Transforming, segments};
 use dtx_frame::looks;
 use dtx_meaning::{Outcome, Status};
 use dtx_sizes::{FIELD_PACKETS, GROUP_PACKETS, MOST_SEGMENTS, SEGMENT};
-use dtx_soft::Soft;
+use dtx_soft::FieldDecoder;
 use std::alloc::{AllocError, Global};
 
 /// How many data segments a field has.
@@ -34,7 +34,7 @@ pub(crate) const MOST_COST: u64 = 258_336 * 18_225;
 /// The data segments of the current field, the symbols that the last piece brought, and the numbers of all segments.
 #[derive(Drop)]
 pub(crate) struct Softening {
-    soft: Soft,
+    decoder: FieldDecoder,
     field: Vec<[i8; SEGMENT]>,
     /// The place of the next segment in its field, or `None` where the next segment isn't data.
     place: Option<u16>,
@@ -140,7 +140,7 @@ impl Softening {
         requires few { count ≤ FIELD_ROWS }
         requires room { vec_len self.old.field ≡ FIELD_ROWS }
         requires signed { AreSigned (take count self.old.field.items) }
-        requires scale { self.old.soft.scale ≡ 1 }
+        requires scale { self.old.decoder ≡ 1 }
         requires fields { self.old.fields ≤ MOST_SEGMENTS }
         requires cost { self.old.cost ≤ MOST_COST * MOST_SEGMENTS }
         requires fits { length self.old.symbols + SEGMENT * count ≤ SOFT_BYTES }
@@ -150,12 +150,12 @@ impl Softening {
         ensures fields { self.new.fields ≡ self.old.fields + has_group (groups_in (take count self.old.field.items)) }
         ensures cost { self.new.cost ≡ self.old.cost + softened_cost 1 (groups_in (take count self.old.field.items)) }
         ensures most { self.new.cost ≤ self.old.cost + MOST_COST }
-        ensures scale { self.new.soft.scale ≡ 1 }
+        ensures scale { self.new.decoder ≡ 1 }
         ensures count { self.new.segments ≡ self.old.segments }
         ensures kept { vec_len self.new.field ≡ FIELD_ROWS }
     {
         self.fields += (count / GROUP_PACKETS).min(1) as u64;
-        let cost = flush_field(&mut self.soft, &mut self.field, count, &mut self.symbols);
+        let cost = flush_field(&mut self.decoder, &mut self.field, count, &mut self.symbols);
         self.cost += cost;
     }
 }
@@ -233,7 +233,7 @@ impl Transforming for Softening {
             place: None,
             segment: [0; SEGMENT],
             symbols: SymbolBuffer::new(alloc)?,
-            soft: Soft::new(alloc)?,
+            decoder: FieldDecoder::scaled(alloc, 1)?,
             segments: 0,
             fields: 0,
             cost: 0,
@@ -258,25 +258,25 @@ fn rows_of(place: Option<u16>) -> usize
 /// Gathers the symbols of the first `count` data segments of the field. Those in whole groups are softened. Returns
 /// what their least paths cost.
 fn flush_field(
-    soft: &mut Soft,
+    decoder: &mut FieldDecoder,
     field: &mut Vec<[i8; SEGMENT]>,
     count: usize,
     symbols: &mut SymbolBuffer<SOFT_BYTES>,
 ) -> u64
     requires room { vec_len field.old ≡ FIELD_ROWS }
     requires few { count ≤ FIELD_ROWS }
-    requires scale { soft.old.scale ≡ 1 }
+    requires scale { decoder.old ≡ 1 }
     requires signed { AreSigned (take count field.old.items) }
     requires fits { length symbols.old + SEGMENT * count ≤ SOFT_BYTES }
     ensures symbols { symbols.new ≡ symbols.old ++ segment_bytes (flushed (take count field.old.items)) }
     ensures long { length symbols.new ≡ length symbols.old + SEGMENT * count }
     ensures cost { result ≡ softened_cost 1 (groups_in (take count field.old.items)) }
     ensures most { result ≤ MOST_COST }
-    ensures scale { soft.new.scale ≡ 1 }
+    ensures scale { decoder.new ≡ 1 }
     ensures kept { vec_len field.new ≡ FIELD_ROWS }
 {
     let rows = &mut field[..count];
-    let cost = soften(soft, rows);
+    let cost = soften(decoder, rows);
     symbols.push_all(rows);
     cost
 }
@@ -290,18 +290,18 @@ fn place_behind(segment: &[i8; SEGMENT]) -> Option<u16>
 }
 
 /// Softens those of a field's first data segments that stand in whole groups. Returns what their least paths cost.
-fn soften(soft: &mut Soft, rows: &mut [[i8; SEGMENT]]) -> u64
-    requires scale { soft.old.scale ≡ 1 }
+fn soften(decoder: &mut FieldDecoder, rows: &mut [[i8; SEGMENT]]) -> u64
+    requires scale { decoder.old ≡ 1 }
     requires few { length rows.old ≤ FIELD_PACKETS }
     requires signed { AreSigned rows.old }
     ensures rows { rows.new ≡ flushed rows.old }
     ensures cost { result ≡ softened_cost 1 (groups_in rows.old) }
     ensures most { result ≤ MOST_COST }
-    ensures scale { soft.new.scale ≡ 1 }
+    ensures scale { decoder.new ≡ 1 }
 {
     let whole = GROUP_PACKETS * (rows.len() / GROUP_PACKETS);
     let groups = &mut rows[..whole];
-    let cost = soft.field(groups);
+    let cost = decoder.field(groups);
     known(groups);
     cost
 }

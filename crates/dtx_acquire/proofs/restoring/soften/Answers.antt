@@ -6,19 +6,19 @@ use Rattle.dtx_acquire.proofs.restoring.soften.Goals as goal
 
 pub returns-clause-segments : goal.returns-clause-segments
 returns-clause-segments c =
-    softened_is c.args.soft.now.scale c.args.segments.now c.field-cost.new.segments c.field-cost.ensures.segments
+    softened_is c.args.decoder.now c.args.segments.now c.field-cost.new.segments c.field-cost.ensures.segments
     c.known.ensures
 
 pub returns-clause-cost : goal.returns-clause-cost
 returns-clause-cost c =
     c.field-cost.ensures.cost
-    ∙ cost_is c.args.soft.now.scale c.args.segments.now c.field-cost.new.segments c.field-cost.ensures.segments
+    ∙ cost_is c.args.decoder.now c.args.segments.now c.field-cost.new.segments c.field-cost.ensures.segments
 
 pub returns-clause-most : goal.returns-clause-most
 returns-clause-most c =
-    let most = scaled_costs_small c.args.soft.now.scale c.args.segments.now c.field-cost.new.segments c.signed.ensures
+    let most = scaled_costs_small c.args.decoder.now c.args.segments.now c.field-cost.new.segments c.signed.ensures
     c.field-cost.ensures.segments in
-    bounded c.args.soft.now.scale (length c.args.segments.now) c.field-cost.result c.requires.scale
+    bounded c.args.decoder.now (length c.args.segments.now) c.field-cost.result c.requires.scale
     (omega (arith, most, c.field-cost.ensures.cost))
   where
     bounded : (scale n cost : ℕ) → scale ≤ 18

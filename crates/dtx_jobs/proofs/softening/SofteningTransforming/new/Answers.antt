@@ -1,5 +1,4 @@
-use Rattle.std.proofs.Common.{ap, arith, refl}
-use Rattle.dtx_soft.specs.Decoder.{Decoder}
+use Rattle.std.proofs.Common.{arith, refl}
 use Rattle.dtx_jobs.proofs.SofteningLemmas.{softening_none}
 use Rattle.dtx_jobs.proofs.softening.SofteningTransforming.new.Goals as goal
 
@@ -10,7 +9,7 @@ returns-clause-given c = record {
     room = c.in_ok-vec.ensures.len;
     small = tt;
     signed = λ i k. omega arith;
-    scale = ap (λ (d : Decoder). d.scale) c.in_ok-new-2.ensures;
+    scale = c.in_ok-scaled.ensures;
     fields = omega arith;
     cost = omega arith;
   };
