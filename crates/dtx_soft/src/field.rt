@@ -33,7 +33,8 @@ impl Model for FieldDecoder {
 
     ghost view = { λ d. d.scale };
 
-    ghost invariant = { λ d. (d.scale ≤ MAX_SCALE) × (vec_len d.rounds ≡ MAX_SYMBOLS) × (vec_len d.marks ≡ MAX_SYMBOLS) };
+    ghost invariant = { λ d. (d.scale ≤ MAX_SCALE) × (vec_len d.rounds ≡ MAX_SYMBOLS)
+        × (vec_len d.marks ≡ MAX_SYMBOLS) };
 }
 
 impl FieldDecoder {
