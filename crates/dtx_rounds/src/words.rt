@@ -31,13 +31,7 @@ pub(crate) fn find_words(corrector: &Corrector, field: &mut Field, next: &mut Fi
 
 /// Puts word k right, if its bytes are among those of so many data segments and it has a correction. Lays the bytes of
 /// the correction back to their places.
-fn find_word(
-    corrector: &Corrector,
-    segments: usize,
-    k: usize,
-    field: &mut Field,
-    next: &mut Field,
-)
+fn find_word(corrector: &Corrector, segments: usize, k: usize, field: &mut Field, next: &mut Field)
     requires most { segments ≤ 2 * WORDS }
     requires word { k < WORDS }
     ensures { AreFound
