@@ -2,7 +2,7 @@
 -- interleaver). Words and places are counted from the field's beginning, where branch 0 stands. A field has 312 words
 -- and 64584 bytes. Its words reach into the field behind it.
 use Rattle.std.specs.Prelude.{ℕ, ◌≡◌, ◌+◌, ◌-◌, ◌*◌, ◌/◌, ◌%◌, ◌==◌, ◌++◌, ◌&&◌, ◌||◌, nat_le, not, Bool, false, true}
-use Rattle.std.specs.Prelude.{if◌then◌else◌, Option, Some, None, is_some, option_map, List, length, map, take, drop}
+use Rattle.std.specs.Prelude.{if◌then◌else◌, Option, Some, None, is_some, option_map, List, length, map, take}
 use Rattle.std.specs.Prelude.{slice_index, slice_index_or}
 use Rattle.std.specs.List.{flat_map, list_any, range_with_len}
 use Rattle.dtx_receiver.specs.Packets.{is_complete}
