@@ -44,10 +44,9 @@ pub record IsInRun (scale : ℕ) (heard given : List (List ℤ)) (codes : ℕ �
 abbrev pub whole_in : List (List ℤ) → ℕ → ℕ
 whole_in given f = whole_segments (length (rows_of given f))
 
--- A round holds field f of a run, and the bytes of its groups are written. The words of the fields before it were sought. `before`
+-- A round holds field f of a run, with the bytes of its groups. The words of the fields before it were sought. `before`
 -- are the bytes that the run had before the last round.
-pub record Holds (scale : ℕ) (heard given : List (List ℤ)) (before : List ℕ) (f : ℕ) (field : Field)
-    : Type 0 where
+pub record Holds (scale : ℕ) (heard given : List (List ℤ)) (before : List ℕ) (f : ℕ) (field : Field) : Type 0 where
   pub held : IsInRun scale heard given (codes_upto before (bytes_in given) (312 * f)) f field
   pub bytes : take (207 * whole_in given f) (bytes_of field)
       ≡ take (207 * whole_in given f) (drop (64584 * f) (bytes_in given))

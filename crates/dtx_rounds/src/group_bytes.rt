@@ -1,6 +1,7 @@
 //! The bytes of a field's decided segments.
 
-ghost use Rattle.std.specs.Prelude.{◌≡◌, ◌%◌, ◌<◌, ◌*◌, ◌/◌, ◌≤◌, EachIndex, IfOk, length, slice_index, take, true, vec_len};
+ghost use Rattle.std.specs.Prelude.{◌≡◌, ◌*◌, ◌/◌, ◌%◌, ◌<◌, ◌≤◌, EachIndex, IfOk, length, slice_index, take, true};
+ghost use Rattle.std.specs.Prelude.{vec_len};
 ghost use Rattle.std.specs.List.{flat_map};
 ghost use Rattle.dtx_slice.specs.Slicing.{sliced_data};
 ghost use Rattle.dtx_slice.specs.Unrolled.{bytes_back, precoder_bits_after, precoder_bits_of};
