@@ -7,7 +7,7 @@ use Rattle.std.proofs.lemmas.List.{append-nil, drop_at, get_or-drop, length-drop
 use Rattle.dtx_trellis.specs.Pairs.{group_place}
 use Rattle.dtx_slice.specs.Slicing.{sliced_data}
 use Rattle.dtx_slice.specs.Unrolled.{bytes_back, precoder_bits_after}
-use Rattle.dtx_slice.proofs.JoinsLemmas.{bytes_append, precoder_bits_append}
+use Rattle.dtx_slice.proofs.JoinsLemmas.{bytes_append}
 use Rattle.dtx_receiver.specs.Bytes.{bytes_in, data_at, first_bits, groups_of, levels_from, levels_in}
 use Rattle.dtx_receiver.proofs.SegmentsLemmas.{levels_parts}
 use Rattle.dtx_rounds.specs.Fields.{rows_of}

@@ -242,11 +242,11 @@ found_none codes field next none = record {
   known = bytes_none codes 0 field.known.items none;
   words = words_none codes field.words none;
   more = or_false field.knows_more ∙ ap (λ x. field.knows_more || x) (sym (has_none codes 312 none));
-  rest = record { count = refl; heard = refl; decided = refl; cost = refl; moved = refl };
+  rest = record { count = refl; heard = refl; decided = refl; bytes = refl; cost = refl; moved = refl };
   next_known = bytes_none codes 64584 next.known.items none;
   next_words = refl;
   next_more = or_false next.knows_more ∙ ap (λ x. next.knows_more || x) (sym (behind_none codes 312 none));
-  next_rest = record { count = refl; heard = refl; decided = refl; cost = refl; moved = refl };
+  next_rest = record { count = refl; heard = refl; decided = refl; bytes = refl; cost = refl; moved = refl };
 }
 
 kept_twice : (a b c : Field) → IsKept a b → IsKept b c → IsKept a c
@@ -254,6 +254,7 @@ kept_twice a b c h k = record {
   count = k.count ∙ h.count;
   heard = k.heard ∙ h.heard;
   decided = k.decided ∙ h.decided;
+  bytes = k.bytes ∙ h.bytes;
   cost = k.cost ∙ h.cost;
   moved = k.moved ∙ h.moved;
 }

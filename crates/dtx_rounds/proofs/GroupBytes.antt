@@ -4,7 +4,7 @@ use Rattle.std.proofs.Common.{refl, sym, ap, ap₂, ◌∙◌, arith}
 use Rattle.std.specs.List.{flat_map}
 use Rattle.std.proofs.lemmas.Grind.{flat_map-append}
 use Rattle.std.proofs.lemmas.List.{append-nil, length-append, length-set, length-take-le, take-append-drop, take_at}
-use Rattle.std.proofs.lemmas.List.{take_more, take_more_set}
+use Rattle.std.proofs.lemmas.List.{take_all, take_more, take_more_set}
 use Rattle.std.proofs.Math.Seq.{take-add}
 use Rattle.std.proofs.lemmas.List.FromFn.{fill_by_all, length-map-range_with_len}
 use Rattle.dtx_trellis.specs.Pairs.{group_place}
@@ -111,16 +111,16 @@ written_next rows segments from g bits new group groups h l part bytes precoder 
         ∙ flat_map-append sliced_data (take (4 * g) rows) segments
 
 -- all groups
-pub written_all : (rows : List (List ℤ)) (from : List ℕ) (g n : ℕ) (bits : List ℕ) (groups : List (List ℕ))
-    → AreWritten rows from g bits groups → n ≡ 4 * g
-    → take (207 * n) (flat_map (λ group. group) groups) ≡ bytes_back 0 from (flat_map sliced_data (take n rows))
-written_all rows from g n bits groups h e =
-    ap (take (207 * n)) (ap flat (sym (take-append-drop g groups))
+pub written_all : (rows : List (List ℤ)) (from : List ℕ) (g : ℕ) (bits : List ℕ) (groups : List (List ℕ))
+    → AreWritten rows from g bits groups → length rows ≡ 4 * g
+    → take (207 * length rows) (flat_map (λ group. group) groups) ≡ bytes_back 0 from (flat_map sliced_data rows)
+written_all rows from g bits groups h e =
+    ap (take (207 * length rows)) (ap flat (sym (take-append-drop g groups))
     ∙ flat_map-append (λ (xs : List ℕ). xs) (take g groups) (drop g groups))
-    ∙ take_at (flat (take g groups)) (flat (drop g groups)) (207 * n) long
-    ∙ h.bytes ∙ ap (λ m. bytes_back 0 from (flat_map sliced_data (take m rows))) (sym e)
+    ∙ take_at (flat (take g groups)) (flat (drop g groups)) (207 * length rows) long
+    ∙ h.bytes ∙ ap (λ xs. bytes_back 0 from (flat_map sliced_data xs)) (take_all (4 * g) rows (omega (arith, e)))
   where
-    long : length (flat (take g groups)) ≡ 207 * n
+    long : length (flat (take g groups)) ≡ 207 * length rows
     long =
-        let whole : 828 * g ≡ 207 * n = omega (arith, e) in
+        let whole : 828 * g ≡ 207 * length rows = omega (arith, e) in
         ap length h.bytes ∙ length_back 0 g from (levels_of rows g) h.long ∙ whole

@@ -14,7 +14,7 @@ use Rattle.dtx_receiver.specs.Bytes.{bytes_in, data_count, groups_of, levels_fro
 use Rattle.dtx_rounds.specs.Decided.{decided_rows}
 use Rattle.dtx_rounds.specs.FieldRound.{field_cost, rows_moved}
 use Rattle.dtx_rounds.specs.Fields.{rows_of}
-use Rattle.dtx_rounds.specs.Found.{bytes_there, whole_segments}
+use Rattle.dtx_rounds.specs.Found.{bytes_of, bytes_there, whole_segments}
 use Rattle.dtx_rounds.specs.Known.{known_bytes, known_word}
 use Rattle.dtx_rounds.specs.Rounds.{rounded}
 use Rattle.dtx_rounds.specs.RunField.{IsInRun, IsRounded, IsTurned, StayKnown, codes_upto, whole_in}
@@ -32,13 +32,13 @@ use Rattle.dtx_rounds.proofs.TurnedFields.{cost_all, turned_field}
 
 -- ---- the round of a field
 
-pub rounded_from : (scale f : ℕ) (heard given : List (List ℤ)) (before bytes behind : List ℕ)
+pub rounded_from : (scale f : ℕ) (heard given : List (List ℤ)) (before : List ℕ)
     (held next new new_next : Field) → AreLong given
     → IsInRun scale heard given (codes_upto before (bytes_in given) (312 * f)) f held
-    → AreSought before (bytes_in given) (bytes_there held next bytes behind) f held.words
-    → IsTurned scale bytes behind held next new new_next → IsRounded scale heard given f new
+    → AreSought before (bytes_in given) (bytes_there held next) f held.words
+    → IsTurned scale held next new new_next → IsRounded scale heard given f new
 unfolding rounded
-rounded_from scale f heard given before bytes behind held next new new_next long h s t = record {
+rounded_from scale f heard given before held next new new_next long h s t = record {
   turned = turned;
   done = t.decided.knows_more;
   cost = cost_all scale t.between new found.settled t.decided
@@ -51,7 +51,7 @@ rounded_from scale f heard given before bytes behind held next new new_next long
   where
     found : IsInRun scale heard given (codes_upto before (bytes_in given) (312 * (f + 1))) f t.between
     found =
-        found_field scale f heard given before (bytes_in given) (bytes_there held next bytes behind) held next
+        found_field scale f heard given before (bytes_in given) (bytes_there held next) held next
         t.between new_next h s t.words
 
     turned : IsInRun scale heard (rounded scale heard given) (known_word (bytes_in given)) f new
@@ -135,14 +135,14 @@ room given f l =
     subst (λ c. 312 * f + whole_segments c ≤ 4 * ((length given - (length given + 312) / 313) / 4))
     (sym (length-rows given f)) (room_in_run (length given) f l)
 
-pub written_bytes : (given : List (List ℤ)) (f : ℕ) (field : Field) (last : List ℕ) (groups : List (List ℕ))
-    → AreLong given → 313 * f < length given → field.count ≡ length (rows_of given f)
+pub written_bytes : (given : List (List ℤ)) (f : ℕ) (field : Field) (last : List ℕ) → AreLong given
+    → 313 * f < length given → field.count ≡ length (rows_of given f)
     → decided_rows field ≡ rows_of given f → precoder_bits_of last ≡ field_bits given f
-    → IsWritten field.count field.decided.items last groups
-    → take (207 * whole_in given f) (flat_map (λ group. group) groups)
+    → IsWritten field.count field.decided.items last field.bytes.items
+    → take (207 * whole_in given f) (bytes_of field)
     ≡ take (207 * whole_in given f) (drop (64584 * f) (bytes_in given))
-written_bytes given f field last groups long l count rows before written =
-    ap (λ n. take (207 * whole_segments n) (flat_map (λ (group : List ℕ). group) groups)) (sym count) ∙ written.bytes
+written_bytes given f field last long l count rows before written =
+    ap (λ n. take (207 * whole_segments n) (bytes_of field)) (sym count) ∙ written.bytes
     ∙ ap₂ (bytes_back 0) before (levels_are given f field count rows)
     ∙ by_groups ((length (rows_of given f) - 1) / 4) (whole_in given f) (omega arith) (room given f l)
   where

@@ -13,7 +13,7 @@ use Rattle.dtx_slice.specs.Unrolled.{precoder_bits_of}
 use Rattle.dtx_receiver.specs.Bytes.{bytes_in, data_at, data_count, first_bits, groups_of, levels_from}
 use Rattle.dtx_rounds.specs.Decided.{decided_rows}
 use Rattle.dtx_rounds.specs.Fields.{rows_of}
-use Rattle.dtx_rounds.specs.Found.{bytes_there, whole_segments}
+use Rattle.dtx_rounds.specs.Found.{bytes_of, bytes_there, whole_segments}
 use Rattle.dtx_rounds.specs.Known.{known_word}
 use Rattle.dtx_rounds.specs.RunField.{Holds, IsInRun, IsRounded, IsTurned, StayKnown, codes_upto, whole_in}
 use Rattle.dtx_rounds.specs.Written.{IsWritten}
@@ -60,16 +60,15 @@ sync_is given field some count rows =
     sym (get_or-take field.count field.decided.items 0 [] (omega (arith, count, length-rows given 0, some)))
     ∙ ap (λ (xs : List (List ℤ)). get_or xs 0 []) rows ∙ row_of given 0 0 (omega arith)
 
-pub held_first : (scale : ℕ) (heard given : List (List ℤ)) (before : List ℕ) (field : Field)
-    (groups : List (List ℕ)) → AreLong given → 0 < length given
-    → IsInRun scale heard given (known_word before) 0 field
-    → IsWritten field.count field.decided.items (sliced_last (get_or field.decided.items 0 [])) groups
-    → Holds scale heard given before 0 field groups
+pub held_first : (scale : ℕ) (heard given : List (List ℤ)) (before : List ℕ) (field : Field) → AreLong given
+    → 0 < length given → IsInRun scale heard given (known_word before) 0 field
+    → IsWritten field.count field.decided.items (sliced_last (get_or field.decided.items 0 [])) field.bytes.items
+    → Holds scale heard given before 0 field
 unfolding first_bits
-held_first scale heard given before field groups long some h written = record {
+held_first scale heard given before field long some h written = record {
   held = same_codes scale 0 heard given (known_word before) (codes_upto before (bytes_in given) (312 * 0)) field
       (λ k. sym (upto_before before (bytes_in given) (312 * 0) k (omega arith))) h;
-  bytes = written_bytes given 0 field (sliced_last (get_or field.decided.items 0 [])) groups long (omega (arith, some))
+  bytes = written_bytes given 0 field (sliced_last (get_or field.decided.items 0 [])) long (omega (arith, some))
       h.count h.decided here written;
 }
   where
@@ -126,45 +125,40 @@ join own behind all f n long e h =
     ∙ take-add (207 * 312) (207 * n) (drop (64584 * f) all))
 
 pub held_next : (scale f : ℕ) (heard given : List (List ℤ)) (before : List ℕ) (held field new new_next : Field)
-    (groups behind : List (List ℕ)) → AreLong given → StayKnown before (bytes_in given)
-    → 313 * (f + 1) < length given → Holds scale heard given before f held groups
-    → IsInRun scale heard given (known_word before) (f + 1) field
-    → length (flat_map (λ group. group) groups) ≡ 64584
-    → IsWritten field.count field.decided.items (sliced_last (get_or held.decided.items 312 [])) behind
-    → IsTurned scale (flat_map (λ group. group) groups) (flat_map (λ group. group) behind) held field new new_next
-    → IsRounded scale heard given f new × Holds scale heard given before (f + 1) new_next behind
+    → AreLong given → StayKnown before (bytes_in given) → 313 * (f + 1) < length given
+    → Holds scale heard given before f held → IsInRun scale heard given (known_word before) (f + 1) field
+    → length (bytes_of held) ≡ 64584
+    → IsWritten field.count field.decided.items (sliced_last (get_or held.decided.items 312 [])) field.bytes.items
+    → IsTurned scale held field new new_next
+    → IsRounded scale heard given f new × Holds scale heard given before (f + 1) new_next
 unfolding bytes_there groups_of data_count
-held_next scale f heard given before held field new new_next groups behind long stays more h k full written t = (
-  rounded_from scale f heard given before own other held field new new_next long h.held sought t,
+held_next scale f heard given before held field new new_next long stays more h k full written t = (
+  rounded_from scale f heard given before held field new new_next long h.held sought t,
   record {
-    held = found_behind scale f heard given before (bytes_in given) (bytes_there held field own other) held field
-        t.between new_next k sought t.words;
-    bytes = next;
+    held = found_behind scale f heard given before (bytes_in given) (bytes_there held field) held field t.between
+        new_next k sought t.words;
+    bytes = ap (λ v. take (207 * whole_in given (f + 1)) (flat_map (λ (group : List ℕ). group) v.items))
+        t.words.next_rest.bytes ∙ next;
   },
 )
   where
-    own : List ℕ
-    own = flat_map (λ group. group) groups
-
-    other : List ℕ
-    other = flat_map (λ group. group) behind
-
     all : whole_in given f ≡ 312
     all = whole_before given f more
 
-    next : take (207 * whole_in given (f + 1)) other
+    next : take (207 * whole_in given (f + 1)) (bytes_of field)
         ≡ take (207 * whole_in given (f + 1)) (drop (64584 * (f + 1)) (bytes_in given))
     next =
-        written_bytes given (f + 1) field (sliced_last (get_or held.decided.items 312 [])) behind long more k.count
+        written_bytes given (f + 1) field (sliced_last (get_or held.decided.items 312 [])) long more k.count
         k.decided (bits_behind given f held long more h.held.count h.held.decided) written
 
-    there_are : bytes_there held field own other
+    there_are : bytes_there held field
         ≡ take (207 * (whole_in given f + whole_in given (f + 1))) (drop (64584 * f) (bytes_in given))
     there_are =
-        ap₂ (λ m n. take (207 * (whole_segments m + whole_segments n)) (own ++ other)) h.held.count k.count
-        ∙ ap (λ m. take (207 * (m + whole_in given (f + 1))) (own ++ other)) all
-        ∙ join own other (bytes_in given) f (whole_in given (f + 1)) full
-        (ap (λ m. take (207 * m) own) (sym all) ∙ h.bytes
+        ap₂ (λ m n. take (207 * (whole_segments m + whole_segments n)) (bytes_of held ++ bytes_of field))
+        h.held.count k.count
+        ∙ ap (λ m. take (207 * (m + whole_in given (f + 1))) (bytes_of held ++ bytes_of field)) all
+        ∙ join (bytes_of held) (bytes_of field) (bytes_in given) f (whole_in given (f + 1)) full
+        (ap (λ m. take (207 * m) (bytes_of held)) (sym all) ∙ h.bytes
         ∙ ap (λ m. take (207 * m) (drop (64584 * f) (bytes_in given))) all) next
         ∙ ap (λ m. take (207 * (m + whole_in given (f + 1))) (drop (64584 * f) (bytes_in given))) (sym all)
 
@@ -176,38 +170,35 @@ held_next scale f heard given before held field new new_next groups behind long 
         (whole_segments (min 313 (length given - 313 * f)) + whole_segments m))
         (sym (length-rows given (f + 1))) (there_next (length given) f more))
 
-    sought : AreSought before (bytes_in given) (bytes_there held field own other) f held.words
+    sought : AreSought before (bytes_in given) (bytes_there held field) f held.words
     sought =
-        sought_from scale f (whole_in given f + whole_in given (f + 1)) heard given before
-        (bytes_there held field own other) held long stays h.held segments there_are
+        sought_from scale f (whole_in given f + whole_in given (f + 1)) heard given before (bytes_there held field)
+        held long stays h.held segments there_are
 
 -- ---- the last field
 
-pub held_last : (scale f : ℕ) (heard given : List (List ℤ)) (before behind : List ℕ) (held field new new_next : Field)
-    (groups : List (List ℕ)) → AreLong given → StayKnown before (bytes_in given)
-    → 313 * f < length given → length given ≤ 313 * (f + 1) → Holds scale heard given before f held groups
-    → field.count ≡ 0 → length (flat_map (λ group. group) groups) ≡ 64584
-    → IsTurned scale (flat_map (λ group. group) groups) behind held field new new_next
-    → IsRounded scale heard given f new
+pub held_last : (scale f : ℕ) (heard given : List (List ℤ)) (before : List ℕ) (held field new new_next : Field)
+    → AreLong given → StayKnown before (bytes_in given) → 313 * f < length given → length given ≤ 313 * (f + 1)
+    → Holds scale heard given before f held → field.count ≡ 0 → length (bytes_of held) ≡ 64584
+    → IsTurned scale held field new new_next → IsRounded scale heard given f new
 unfolding bytes_there groups_of data_count
-held_last scale f heard given before behind held field new new_next groups long stays some most h none full t =
-    rounded_from scale f heard given before own behind held field new new_next long h.held
-    (sought_from scale f (whole_in given f + whole_segments 0) heard given before (bytes_there held field own behind)
-    held long stays h.held segments there_are) t
+held_last scale f heard given before held field new new_next long stays some most h none full t =
+    rounded_from scale f heard given before held field new new_next long h.held
+    (sought_from scale f (whole_in given f + whole_segments 0) heard given before (bytes_there held field) held long
+    stays h.held segments there_are) t
   where
-    own : List ℕ
-    own = flat_map (λ group. group) groups
-
     few : (n : ℕ) → n ≡ whole_in given f → 207 * (n + 0) ≤ 64584
     few n e = omega (arith, e, length-rows given f)
 
-    there_are : bytes_there held field own behind
+    there_are : bytes_there held field
         ≡ take (207 * (whole_in given f + whole_segments 0)) (drop (64584 * f) (bytes_in given))
     there_are =
         let alone : whole_in given f + 0 ≡ whole_in given f = omega arith in
-        ap₂ (λ m n. take (207 * (whole_segments m + whole_segments n)) (own ++ behind)) h.held.count none
-        ∙ take-append-le (207 * (whole_in given f + 0)) own behind (omega (arith, full, few (whole_in given f) refl))
-        ∙ ap (λ m. take (207 * m) own) alone ∙ h.bytes
+        ap₂ (λ m n. take (207 * (whole_segments m + whole_segments n)) (bytes_of held ++ bytes_of field))
+        h.held.count none
+        ∙ take-append-le (207 * (whole_in given f + 0)) (bytes_of held) (bytes_of field)
+        (omega (arith, full, few (whole_in given f) refl))
+        ∙ ap (λ m. take (207 * m) (bytes_of held)) alone ∙ h.bytes
         ∙ ap (λ m. take (207 * m) (drop (64584 * f) (bytes_in given))) (sym alone)
 
     segments : AreThere f (4 * groups_of given) (whole_in given f + whole_segments 0)

@@ -64,7 +64,7 @@ passed_none scale heard given before t field h = record { at = tt; count = refl;
 -- a round that holds a field gives it
 pub passed_on : (scale : ℕ) (heard given : List (List ℤ)) (before : List ℕ) (t : ℕ) (round new : Round)
     (rest after : List Round) (answer : Bool) (taken field : Field) → round.on ≡ true → 0 < t → new.on ≡ true
-    → Holds scale heard given before (t - 1 + 1) new.held new.bytes.items
+    → Holds scale heard given before (t - 1 + 1) new.held
     → (length rest ≡ 0 → field ≡ taken) → IsRounded scale heard given (t - 1) taken
     → IsPassed scale heard (rounded scale heard given) (bytes_in given) (t - 1) rest after answer field
     → IsPassed scale heard given before t (round ∷ rest) (new ∷ after) answer field
@@ -73,7 +73,7 @@ passed_on scale heard given before t round new rest after answer taken field on 
     record {
       on = λ _. (
         omega arith,
-        subst (λ n. Holds scale heard given before n new.held new.bytes.items) same held,
+        subst (λ n. Holds scale heard given before n new.held) same held,
       );
       off = λ e. absurd (true≢false (sym new_on ∙ e));
     },
@@ -96,7 +96,7 @@ passed_on scale heard given before t round new rest after answer taken field on 
 -- a round that holds none keeps the first
 pub passed_off : (scale : ℕ) (heard given : List (List ℤ)) (before : List ℕ) (t : ℕ) (round new : Round)
     (rest : List Round) (field : Field) → round.on ≡ false → t ≡ 0 → new.on ≡ true
-    → Holds scale heard given before 0 new.held new.bytes.items
+    → Holds scale heard given before 0 new.held
     → AreAt scale heard (rounded scale heard given) (bytes_in given) (given_by round t) rest
     → IsPassed scale heard given before t (round ∷ rest) (new ∷ rest) false field
 passed_off scale heard given before t round new rest field off none new_on held h = record {
@@ -104,7 +104,7 @@ passed_off scale heard given before t round new rest field off none new_on held 
     record {
       on = λ _. (
         omega arith,
-        subst (λ n. Holds scale heard given before n new.held new.bytes.items) first held,
+        subst (λ n. Holds scale heard given before n new.held) first held,
       );
       off = λ e. absurd (true≢false (sym new_on ∙ e));
     },

@@ -2,9 +2,9 @@
 -- interleaver). Words and places are counted from the field's beginning, where branch 0 stands. A field has 312 words
 -- and 64584 bytes. Its words reach into the field behind it.
 use Rattle.std.specs.Prelude.{ℕ, ◌≡◌, ◌+◌, ◌-◌, ◌*◌, ◌/◌, ◌%◌, ◌==◌, ◌++◌, ◌&&◌, ◌||◌, nat_le, not, Bool, false, true}
-use Rattle.std.specs.Prelude.{if◌then◌else◌, Option, Some, None, is_some, option_map, List, length, map, take, drop}
+use Rattle.std.specs.Prelude.{if◌then◌else◌, Option, Some, None, is_some, option_map, List, length, map, take}
 use Rattle.std.specs.Prelude.{slice_index, slice_index_or}
-use Rattle.std.specs.List.{list_any, range_with_len}
+use Rattle.std.specs.List.{flat_map, list_any, range_with_len}
 use Rattle.dtx_receiver.specs.Packets.{is_complete}
 use Rattle.dtx_rounds.specs.Known.{known_word}
 use Rattle.dtx_rounds.specs.declared.field.Field.{Field}
@@ -13,11 +13,15 @@ use Rattle.dtx_rounds.specs.declared.field.Field.{Field}
 abbrev pub whole_segments : ℕ → ℕ
 whole_segments count = (count - 1) / 4 * 4
 
+-- the bytes of its groups, one behind the other
+abbrev pub bytes_of : Field → List ℕ
+bytes_of field = flat_map (λ group. group) field.bytes.items
+
 -- Those bytes of a field and of the one behind it that are there: 207 of each data segment in a whole group. The field
 -- behind has a segment only where this one has all of its own.
-unfoldable pub bytes_there : Field → Field → List ℕ → List ℕ → List ℕ
-bytes_there field next bytes behind =
-    take (207 * (whole_segments field.count + whole_segments next.count)) (bytes ++ behind)
+unfoldable pub bytes_there : Field → Field → List ℕ
+bytes_there field next =
+    take (207 * (whole_segments field.count + whole_segments next.count)) (bytes_of field ++ bytes_of next)
 
 -- ---- corrections
 
@@ -68,14 +72,18 @@ pub record IsKept (field new : Field) : Type 0 where
   pub count : new.count ≡ field.count
   pub heard : new.heard ≡ field.heard
   pub decided : new.decided ≡ field.decided
+  pub bytes : new.bytes ≡ field.bytes
   pub cost : new.cost ≡ field.cost
   pub moved : new.moved ≡ field.moved
 
--- all that a round reads of a field is as before
+-- all that a round reads of a field is as before, but for its bytes
 pub record IsUnchanged (field new : Field) : Type 0 where
-  pub rest : IsKept field new
+  pub count : new.count ≡ field.count
+  pub heard : new.heard ≡ field.heard
+  pub decided : new.decided ≡ field.decided
   pub known : new.known ≡ field.known
   pub words : new.words ≡ field.words
+  pub cost : new.cost ≡ field.cost
   pub knows_more : new.knows_more ≡ field.knows_more
 
 -- A field and the one behind it, `new` and `new_next`, are as before but for what is known with these corrections.

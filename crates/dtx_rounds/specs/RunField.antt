@@ -1,12 +1,12 @@
 -- A field of a run on its way through a round.
 use Rattle.std.specs.Prelude.{ℕ, ℤ, ◌≡◌, ◌+◌, ◌*◌, ◌<◌, nat_lt, false, if◌then◌else◌, Option, Some, None, is_some, List}
 use Rattle.std.specs.Prelude.{drop, length, map, slice_index_or, sum, take}
-use Rattle.std.specs.List.{flat_map, range_with_len}
+use Rattle.std.specs.List.{range_with_len}
 use Rattle.dtx_receiver.specs.Bytes.{bytes_in}
 use Rattle.dtx_rounds.specs.Decided.{IsDecided, decided_rows, heard_rows}
 use Rattle.dtx_rounds.specs.FieldRound.{field_cost, field_rounded, rows_moved}
 use Rattle.dtx_rounds.specs.Fields.{rows_of}
-use Rattle.dtx_rounds.specs.Found.{AreFound, bytes_there, code_byte, new_code, whole_segments}
+use Rattle.dtx_rounds.specs.Found.{AreFound, bytes_of, bytes_there, code_byte, new_code, whole_segments}
 use Rattle.dtx_rounds.specs.Known.{known_bytes, known_word}
 use Rattle.dtx_rounds.specs.Rounds.{coder_cost, rounded}
 use Rattle.dtx_rounds.specs.declared.field.Field.{Field}
@@ -46,18 +46,17 @@ whole_in given f = whole_segments (length (rows_of given f))
 
 -- A round holds field f of a run, with the bytes of its groups. The words of the fields before it were sought. `before`
 -- are the bytes that the run had before the last round.
-pub record Holds (scale : ℕ) (heard given : List (List ℤ)) (before : List ℕ) (f : ℕ) (field : Field)
-    (groups : List (List ℕ)) : Type 0 where
+pub record Holds (scale : ℕ) (heard given : List (List ℤ)) (before : List ℕ) (f : ℕ) (field : Field) : Type 0 where
   pub held : IsInRun scale heard given (codes_upto before (bytes_in given) (312 * f)) f field
-  pub bytes : take (207 * whole_in given f) (flat_map (λ group. group) groups)
+  pub bytes : take (207 * whole_in given f) (bytes_of field)
       ≡ take (207 * whole_in given f) (drop (64584 * f) (bytes_in given))
 
 -- ---- its round
 
 -- Words of the held field were sought, among its bytes and those of the next field, and then its symbols were decided.
-pub record IsTurned (scale : ℕ) (bytes behind : List ℕ) (held next new new_next : Field) : Type 0 where
+pub record IsTurned (scale : ℕ) (held next new new_next : Field) : Type 0 where
   pub between : Field
-  pub words : AreFound (new_code (bytes_there held next bytes behind) held.words) held next between new_next
+  pub words : AreFound (new_code (bytes_there held next) held.words) held next between new_next
   pub decided : IsDecided scale between new
 
 -- It is field f of the run after a round, and what its paths cost and how many symbols moved.

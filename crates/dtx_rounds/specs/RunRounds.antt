@@ -21,8 +21,7 @@ pub record IsRun (heard given : List (List ℤ)) (before : List ℕ) : Type 0 wh
 
 -- A round that took t fields of a run holds the last of them, or none before the first and after the last one.
 pub record IsAt (scale : ℕ) (heard given : List (List ℤ)) (before : List ℕ) (t : ℕ) (round : Round) : Type 0 where
-  pub on : round.on ≡ true
-      → (0 < t) × Holds scale heard given before (t - 1) round.held round.bytes.items
+  pub on : round.on ≡ true → (0 < t) × Holds scale heard given before (t - 1) round.held
   pub off : round.on ≡ false → (t ≡ 0) ⊎ (length given ≤ 313 * t)
 
 -- how many fields it gave

@@ -2,6 +2,7 @@
 
 ghost use Rattle.std.specs.Prelude.{◌≡◌, ◌+◌, ◌-◌, ◌*◌, ◌/◌, ◌<◌, ◌≤◌, ◌++◌, IfOk, true, false, drop, length, take};
 ghost use Rattle.std.specs.Prelude.{vec_len};
+ghost use Rattle.std.specs.List.{flat_map};
 ghost use Rattle.dtx_rounds.specs.FieldRound.{KnowsNothing, words_known};
 ghost use Rattle.dtx_rounds.specs.Written.{IsWritten};
 
@@ -130,6 +131,14 @@ impl Field {
         ensures { result.now ≡ take self.now.count self.now.decided.items }
     {
         &self.decided[..self.count]
+    }
+
+    /// The bytes that are kept.
+    pub(crate) fn bytes(&self) -> &[u8]
+        ensures bytes { result.now ≡ flat_map (λ group. group) self.now.bytes.items }
+        ensures long { length result.now ≡ BYTES }
+    {
+        self.bytes.as_flattened()
     }
 
     /// How many data segments are in whole groups.

@@ -1,14 +1,15 @@
 //! The bytes of a field's decided segments.
 
-ghost use Rattle.std.specs.Prelude.{◌≡◌, ◌%◌, ◌<◌, EachIndex, IfOk, length, slice_index, true, vec_len};
+ghost use Rattle.std.specs.Prelude.{◌≡◌, ◌*◌, ◌/◌, ◌%◌, ◌<◌, ◌≤◌, EachIndex, IfOk, length, slice_index, take, true};
+ghost use Rattle.std.specs.Prelude.{vec_len};
 ghost use Rattle.std.specs.List.{flat_map};
 ghost use Rattle.dtx_slice.specs.Slicing.{sliced_data};
-ghost use Rattle.dtx_slice.specs.Unrolled.{bytes_back, precoder_bits_after};
+ghost use Rattle.dtx_slice.specs.Unrolled.{bytes_back, precoder_bits_after, precoder_bits_of};
 ghost use Rattle.dtx_rounds.specs.Found.{IsUnchanged};
 ghost use Rattle.dtx_rounds.specs.Written.{IsWritten};
 
 use crate::field::{Field, WORDS};
-use dtx_sizes::{CODERS, GROUP_BYTES, GROUP_LEVELS, GROUP_PACKETS, PRECODE, SEGMENT};
+use dtx_sizes::{CODERS, CODEWORD, GROUP_BYTES, GROUP_LEVELS, GROUP_PACKETS, PRECODE, SEGMENT};
 use dtx_slice::{Unroll, put_levels};
 use std::alloc::{AllocError, Global};
 
@@ -22,19 +23,19 @@ pub(crate) fn empty_bytes(alloc: Global) -> Result<Vec<[u8; GROUP_BYTES]>, Alloc
     vec![in alloc; [0u8; GROUP_BYTES]; GROUPS]
 }
 
-/// Writes the bytes of the groups of a field, before which the last twelve symbols have these levels. Where they are
-/// those that the field keeps, they are copied.
-pub(crate) fn write_bytes(last: &[u8; PRECODE], field: &mut Field, bytes: &mut [[u8; GROUP_BYTES]])
-    requires groups { length bytes.old ≡ GROUPS }
+/// Writes the bytes of the groups of a field, before which the last twelve symbols have these levels. Where the field
+/// keeps those already, nothing is written.
+pub(crate) fn write_bytes(last: &[u8; PRECODE], field: &mut Field)
     requires levels { EachIndex last.now (λ q. slice_index last.now q < 8) }
-    ensures written { IsWritten field.new.count field.new.decided.items last.now bytes.new }
+    ensures written { IsWritten field.new.count field.new.decided.items last.now field.new.bytes.items }
     ensures rest { IsUnchanged field.old field.new }
 {
-    if keeps(field, last) {
-        bytes.copy_from_slice(&field.bytes[..]);
-    } else {
-        write_groups(last, field, bytes);
-        keep(last, bytes, field);
+    if !keeps(field, last) {
+        field.written = false;
+        let count = field.in_groups();
+        write_groups(last, &field.decided[1..count + 1], &mut field.bytes[..]);
+        field.last = *last;
+        field.written = true;
     }
 }
 
@@ -45,32 +46,23 @@ fn keeps(field: &Field, last: &[u8; PRECODE]) -> bool
     field.written && field.last == *last
 }
 
-/// Lets a field keep the bytes that were written of it.
-fn keep(last: &[u8; PRECODE], bytes: &[[u8; GROUP_BYTES]], field: &mut Field)
-    requires groups { length bytes.now ≡ GROUPS }
-    requires written { IsWritten field.old.count field.old.decided.items last.now bytes.now }
-    ensures rest { IsUnchanged field.old field.new }
-{
-    field.written = false;
-    field.last = *last;
-    field.bytes.copy_from_slice(bytes);
-    field.written = true;
-}
-
-/// Writes the bytes of the groups of a field, from its decided segments.
-fn write_groups(last: &[u8; PRECODE], field: &Field, bytes: &mut [[u8; GROUP_BYTES]])
-    requires groups { length bytes.old ≡ GROUPS }
+/// Writes the bytes of data segments in whole groups.
+fn write_groups(last: &[u8; PRECODE], segments: &[[i8; SEGMENT]], bytes: &mut [[u8; GROUP_BYTES]])
+    requires room { length bytes.old ≡ GROUPS }
+    requires few { length segments.now ≤ WORDS }
+    requires whole { length segments.now ≡ GROUP_PACKETS * (length segments.now / GROUP_PACKETS) }
     requires levels { EachIndex last.now (λ q. slice_index last.now q < 8) }
-    ensures written { IsWritten field.now.count field.now.decided.items last.now bytes.new }
+    ensures { take (CODEWORD * length segments.now) (flat_map (λ group. group) bytes.new)
+        ≡ bytes_back 0 (precoder_bits_of last.now) (flat_map sliced_data segments.now) }
 {
     let mut unroll = Unroll::new();
     unroll.start(last);
-    for g in 0..field.in_groups() / GROUP_PACKETS {
+    for g in 0..segments.len() / GROUP_PACKETS {
         let first = GROUP_PACKETS * g;
         write_group(
             &mut unroll,
             first as u16,
-            &field.decided[1 + first..1 + first + GROUP_PACKETS],
+            &segments[first..first + GROUP_PACKETS],
             &mut bytes[g],
         );
     }

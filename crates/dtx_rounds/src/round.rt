@@ -1,17 +1,16 @@
 //! One round, which is a field behind the one before it.
 
-ghost use Rattle.std.specs.Prelude.{◌≡◌, ◌+◌, ◌*◌, ◌<◌, ◌≤◌, ℕ, ℤ, IfOk, true, false, List, length, vec_len};
+ghost use Rattle.std.specs.Prelude.{◌≡◌, ◌+◌, ◌*◌, ◌<◌, ◌≤◌, ℕ, ℤ, IfOk, true, false, List, length};
 ghost use Rattle.dtx_receiver.specs.Bytes.{bytes_in};
 ghost use Rattle.dtx_rounds.specs.Fields.{AreSegments};
 ghost use Rattle.dtx_rounds.specs.Known.{known_word};
 ghost use Rattle.dtx_rounds.specs.RunField.{Holds, IsInRun, IsRounded, IsTurned, StayKnown};
 
 use crate::field::{BYTES, Field, WORDS};
-use crate::group_bytes::{empty_bytes, write_bytes};
+use crate::group_bytes::write_bytes;
 use crate::means::Means;
 use crate::pinning::decide;
 use crate::words::find_words;
-use dtx_sizes::GROUP_BYTES;
 use dtx_slice::last_levels;
 use std::alloc::{AllocError, Global};
 
@@ -21,13 +20,8 @@ use std::alloc::{AllocError, Global};
 pub(crate) struct Round {
     /// Whether a field is held.
     on: bool,
+    /// Its bytes are those of its segments, as they were before this round.
     held: Field,
-    /// The bytes of the held field's segments, as they were before this round.
-    bytes: Vec<[u8; GROUP_BYTES]>,
-    /// Room for those of the next field.
-    behind: Vec<[u8; GROUP_BYTES]>,
-    ghost bytes_long: { vec_len bytes ≡ 78 },
-    ghost behind_long: { vec_len behind ≡ 78 },
 }
 
 impl Round {
@@ -38,8 +32,6 @@ impl Round {
         Ok(Round {
             on: false,
             held: Field::new(alloc)?,
-            bytes: empty_bytes(alloc)?,
-            behind: empty_bytes(alloc)?,
         })
     }
 
@@ -51,13 +43,13 @@ impl Round {
         ensures scale { means.new.scale ≡ means.old.scale }
         ensures first { self.old.on ≡ false → (scale : ℕ) (heard given : List (List ℤ)) (before : List ℕ)
             → AreSegments given → 0 < length given → IsInRun scale heard given (known_word before) 0 field.old
-            → Holds scale heard given before 0 self.new.held self.new.bytes.items }
+            → Holds scale heard given before 0 self.new.held }
         ensures next { self.old.on ≡ true → (heard given : List (List ℤ)) (before : List ℕ) (f : ℕ)
             → AreSegments given → StayKnown before (bytes_in given) → 313 * (f + 1) < length given
-            → Holds means.old.scale heard given before f self.old.held self.old.bytes.items
+            → Holds means.old.scale heard given before f self.old.held
             → IsInRun means.old.scale heard given (known_word before) (f + 1) field.old
             → IsRounded means.old.scale heard given f field.new
-            × Holds means.old.scale heard given before (f + 1) self.new.held self.new.bytes.items }
+            × Holds means.old.scale heard given before (f + 1) self.new.held }
     {
         if self.on {
             self.next(means, field);
@@ -73,10 +65,10 @@ impl Round {
         ensures on { self.new.on ≡ true }
         ensures holds { (scale : ℕ) (heard given : List (List ℤ)) (before : List ℕ) → AreSegments given
             → 0 < length given → IsInRun scale heard given (known_word before) 0 field.old
-            → Holds scale heard given before 0 self.new.held self.new.bytes.items }
+            → Holds scale heard given before 0 self.new.held }
     {
         let last = last_levels(&field.decided[0]);
-        write_bytes(&last, field, &mut self.bytes[..]);
+        write_bytes(&last, field);
         self.on = true;
         std::mem::swap(&mut self.held, field);
     }
@@ -87,23 +79,18 @@ impl Round {
         ensures scale { means.new.scale ≡ means.old.scale }
         ensures rounded { (heard given : List (List ℤ)) (before : List ℕ) (f : ℕ) → AreSegments given
             → StayKnown before (bytes_in given) → 313 * (f + 1) < length given
-            → Holds means.old.scale heard given before f self.old.held self.old.bytes.items
+            → Holds means.old.scale heard given before f self.old.held
             → IsInRun means.old.scale heard given (known_word before) (f + 1) field.old
             → IsRounded means.old.scale heard given f field.new
-            × Holds means.old.scale heard given before (f + 1) self.new.held self.new.bytes.items }
+            × Holds means.old.scale heard given before (f + 1) self.new.held }
     {
         // A whole field ends with the last symbols of the twelve coders.
         let last = last_levels(&self.held.decided[WORDS]);
-        write_bytes(&last, field, &mut self.behind[..]);
-        turn(
-            means,
-            self.bytes.as_flattened(),
-            self.behind.as_flattened(),
-            &mut self.held,
-            field,
-        );
+        write_bytes(&last, field);
+        // Behind them stand those of the next field.
+        prove!(self.held.bytes().len() == BYTES);
+        turn(means, &mut self.held, field);
         std::mem::swap(&mut self.held, field);
-        std::mem::swap(&mut self.bytes, &mut self.behind);
     }
 
     /// Ends the fields: the one that is held has its round. The answer is false where none is held.
@@ -114,7 +101,7 @@ impl Round {
         ensures last { self.old.on ≡ true → (heard given : List (List ℤ)) (before : List ℕ) (f : ℕ)
             → AreSegments given → StayKnown before (bytes_in given) → 313 * f < length given
             → length given ≤ 313 * (f + 1)
-            → Holds means.old.scale heard given before f self.old.held self.old.bytes.items
+            → Holds means.old.scale heard given before f self.old.held
             → IsRounded means.old.scale heard given f field.new }
     {
         let had = self.on;
@@ -130,29 +117,22 @@ impl Round {
         ensures scale { means.new.scale ≡ means.old.scale }
         ensures rounded { (heard given : List (List ℤ)) (before : List ℕ) (f : ℕ) → AreSegments given
             → StayKnown before (bytes_in given) → 313 * f < length given → length given ≤ 313 * (f + 1)
-            → Holds means.old.scale heard given before f self.old.held self.old.bytes.items
+            → Holds means.old.scale heard given before f self.old.held
             → IsRounded means.old.scale heard given f field.new }
     {
         field.clear();
-        turn(
-            means,
-            self.bytes.as_flattened(),
-            self.behind.as_flattened(),
-            &mut self.held,
-            field,
-        );
+        prove!(self.held.bytes().len() == BYTES);
+        turn(means, &mut self.held, field);
         self.on = false;
         std::mem::swap(&mut self.held, field);
     }
 }
 
-/// The round of a held field, before the next one. Their bytes are as they were before it.
-fn turn(means: &mut Means, bytes: &[u8], behind: &[u8], held: &mut Field, next: &mut Field)
-    requires bytes { length bytes.now ≡ BYTES }
-    requires behind { length behind.now ≡ BYTES }
-    ensures turned { IsTurned means.old.scale bytes.now behind.now held.old next.old held.new next.new }
+/// The round of a held field, before the next one.
+fn turn(means: &mut Means, held: &mut Field, next: &mut Field)
+    ensures turned { IsTurned means.old.scale held.old next.old held.new next.new }
     ensures scale { means.new.scale ≡ means.old.scale }
 {
-    find_words(&means.corrector, bytes, behind, held, next);
+    find_words(&means.corrector, held, next);
     decide(means, held);
 }

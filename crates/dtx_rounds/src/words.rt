@@ -4,7 +4,7 @@ ghost use Rattle.std.specs.Prelude.{◌≡◌, ◌≢◌, ℕ, ◌+◌, ◌*◌,
 ghost use Rattle.std.specs.Prelude.{length, slice_index, slice_index_or, slice_set, take};
 ghost use Rattle.dtx_laws.specs.Words.{correction};
 ghost use Rattle.dtx_outer.specs.Inner.{IsComplete, codeword_byte_place, word_at};
-ghost use Rattle.dtx_rounds.specs.Found.{AreFound, bytes_there, new_code, only_code};
+ghost use Rattle.dtx_rounds.specs.Found.{AreFound, bytes_of, bytes_there, new_code, only_code};
 ghost use Rattle.dtx_rounds.specs.Known.{known_word};
 
 use crate::field::{BYTES, Field, WORDS};
@@ -15,47 +15,30 @@ use dtx_sizes::{BRANCH_STEP, BRANCHES, CODEWORD, PACKET_DATA};
 /// The corrector of the standard's words.
 pub(crate) type Corrector = Fast<CODEWORD, PACKET_DATA>;
 
-/// Puts those words right that begin in a field and aren't known yet, as far as their bytes are there. The bytes are
-/// those of the field and of the one behind it.
-pub(crate) fn find_words(
-    corrector: &Corrector,
-    bytes: &[u8],
-    behind: &[u8],
-    field: &mut Field,
-    next: &mut Field,
-)
-    requires bytes { length bytes.now ≡ BYTES }
-    requires behind { length behind.now ≡ BYTES }
-    ensures { AreFound (new_code (bytes_there field.old next.old bytes.now behind.now) field.old.words)
-        field.old next.old field.new next.new }
+/// Puts those words right that begin in a field and aren't known yet, as far as their bytes are there. Their bytes are
+/// among those of the field and of the one behind it.
+pub(crate) fn find_words(corrector: &Corrector, field: &mut Field, next: &mut Field)
+    ensures { AreFound (new_code (bytes_there field.old next.old) field.old.words) field.old next.old
+        field.new next.new }
 {
     let segments = field.in_groups() + next.in_groups();
     for k in 0..WORDS {
         if !field.words[k] {
-            find_word(corrector, bytes, behind, segments, k, field, next);
+            find_word(corrector, segments, k, field, next);
         }
     }
 }
 
 /// Puts word k right, if its bytes are among those of so many data segments and it has a correction. Lays the bytes of
 /// the correction back to their places.
-fn find_word(
-    corrector: &Corrector,
-    bytes: &[u8],
-    behind: &[u8],
-    segments: usize,
-    k: usize,
-    field: &mut Field,
-    next: &mut Field,
-)
-    requires bytes { length bytes.now ≡ BYTES }
-    requires behind { length behind.now ≡ BYTES }
+fn find_word(corrector: &Corrector, segments: usize, k: usize, field: &mut Field, next: &mut Field)
     requires most { segments ≤ 2 * WORDS }
     requires word { k < WORDS }
-    ensures { AreFound (only_code k (known_word (take (CODEWORD * segments) (bytes.now ++ behind.now)) k))
+    ensures { AreFound
+        (only_code k (known_word (take (CODEWORD * segments) (bytes_of field.old ++ bytes_of next.old)) k))
         field.old next.old field.new next.new }
 {
-    if let Some(code) = code_of(corrector, bytes, behind, segments, k) {
+    if let Some(code) = code_of(corrector, field, next, segments, k) {
         lay_back(&code, k, field, next);
     }
 }
@@ -63,17 +46,17 @@ fn find_word(
 /// The correction of word k, if its bytes are among those of so many data segments and it has one.
 fn code_of(
     corrector: &Corrector,
-    bytes: &[u8],
-    behind: &[u8],
+    field: &Field,
+    next: &Field,
     segments: usize,
     k: usize,
 ) -> Option<[u8; CODEWORD]>
-    requires bytes { length bytes.now ≡ BYTES }
-    requires behind { length behind.now ≡ BYTES }
     requires most { segments ≤ 2 * WORDS }
     requires word { k < WORDS }
-    ensures { result ≡ known_word (take (CODEWORD * segments) (bytes.now ++ behind.now)) k }
+    ensures { result ≡ known_word (take (CODEWORD * segments) (bytes_of field.now ++ bytes_of next.now)) k }
 {
+    let bytes = field.bytes();
+    let behind = next.bytes();
     if is_whole(k, segments) {
         corrected(corrector, &gathered(bytes, behind, k))
     } else {

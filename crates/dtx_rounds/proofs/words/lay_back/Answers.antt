@@ -13,9 +13,9 @@ returns c =
     (λ n ne. both n ∙ c.lay.ensures.others n ne
     ∙ ap₂ (λ (xs ys : List (Option ℕ)). get_or (xs ++ ys) n None) c.deref_mut.ensures.value
     c.deref_mut-2.ensures.value) refl refl
-    (record { count = refl; heard = refl; decided = refl; cost = refl; moved = refl }) refl
+    (record { count = refl; heard = refl; decided = refl; bytes = refl; cost = refl; moved = refl }) refl
     (ap (λ b. c.args.next.now.knows_more || not b) (complete_by c.is_whole.result 64584 c.args.k c.is_whole.ensures))
-    (record { count = refl; heard = refl; decided = refl; cost = refl; moved = refl })
+    (record { count = refl; heard = refl; decided = refl; bytes = refl; cost = refl; moved = refl })
   where
     known : (with_items c.args.field.now.known c.lay.new.known).items ≡ c.lay.new.known
     known =
