@@ -161,17 +161,7 @@ one_walked scale t u pins marks heard old new symbols pin mark small e l symbol 
         (more n p).mark_is)
     by_step k n m o p (inr d) = h.marks_are k n (omega arith) o p
 
--- the same, where the sums are kept elsewhere
-pub coders_alike : (scale t : ℕ) (pins : List (List ℕ)) (heard : List (List ℤ)) (sums others : ℕ → List (List ℕ))
-    (marks : List (List ℕ)) → ((e : ℕ) → e < 12 → others e ≡ sums e) → AreWalked scale t pins heard sums marks
-    → AreWalked scale t pins heard others marks
-coders_alike scale t pins heard sums others marks same h = record {
-  sums_are = λ e l. subst (AreLeastSums scale (drop t (coder_pins pins e)) (drop t (coder_symbols heard e)))
-      (sym (same e l)) (h.sums_are e l);
-  marks_are = h.marks_are;
-}
-
--- the same, where the marks are
+-- the same, where the marks are kept elsewhere
 pub marks_alike : (scale t : ℕ) (pins : List (List ℕ)) (heard : List (List ℤ)) (sums : ℕ → List (List ℕ))
     (marks others : List (List ℕ)) → ((k : ℕ) → t ≤ k → get_or others k [] ≡ get_or marks k [])
     → AreWalked scale t pins heard sums marks → AreWalked scale t pins heard sums others
@@ -245,11 +235,6 @@ LeadsTo scale turn segment pins r marks old new =
     → AreWalked scale (69 * (i + 1)) all_pins heard old all_marks
     → AreWalked scale (69 * i + r) all_pins heard new all_marks
 
-pub none_led : (scale turn : ℕ) (segment : List ℤ) (pins marks : List (List ℕ)) (sums : ℕ → List (List ℕ))
-    → LeadsTo scale turn segment pins 69 marks sums sums
-none_led scale turn segment pins marks sums i all_pins all_marks heard l t at stand marks_are h =
-    subst (λ t. AreWalked scale t all_pins heard sums all_marks) (omega arith) h
-
 pub one_led : (scale turn : ℕ) (segment : List ℤ) (pins marks : List (List ℕ)) (r u : ℕ)
     (start old new : ℕ → List (List ℕ)) (symbols : List ℤ) (pin mark : List ℕ) → scale ≤ 18 → u ≡ r + 1 → u ≤ 69
     → length marks ≡ 69
@@ -266,7 +251,7 @@ one_led scale turn segment pins marks r u start old new symbols pin mark small n
     i all_pins all_marks heard f t at stand marks_are walked =
     one_walked scale (69 * i + r) (69 * i + u) all_pins all_marks heard old new symbols pin mark small (omega arith)
     (omega arith) here (stand r (omega arith) ∙ sym pin_is)
-    (marks_are r (omega arith) (omega arith) ∙ get_or-set_same marks r mark [] (omega (arith, next, l, long))) from to step
+    (marks_are r (omega arith) (omega arith) ∙ get_or-set_same marks r mark [] (omega arith)) from to step
     (h i all_pins all_marks heard f t at stand behind walked)
   where
     here : (e : ℕ) → e < 12 → get_or (coder_symbols heard e) (69 * i + r) (pos 0) ≡ get_or symbols e (pos 0)
@@ -278,18 +263,18 @@ one_led scale turn segment pins marks r u start old new symbols pin mark small n
     behind k m o =
         marks_are k (omega arith) o ∙ get_or-set_other marks r k mark [] (λ d. absurd (omega arith))
 
--- as many more steps in front as a segment has
-pub segment_led : (scale turn i : ℕ) (pins part marks rows : List (List ℕ)) (heard : List (List ℤ))
-    (old new : ℕ → List (List ℕ)) → i < length heard → turn ≡ i % 3 → length rows ≡ 69 * length heard
-    → length marks ≡ 69 → part ≡ take 69 (drop (69 * i) rows)
-    → ((k : ℕ) → k < 69 * (i + 1) → get_or rows k [] ≡ get_or pins k [])
-    → LeadsOn scale turn (get_or heard i []) part marks old new
-    → AreWalked scale (69 * (i + 1)) pins heard old rows
-    → AreWalked scale (69 * i) pins heard new (put_mid (69 * i) 69 rows marks)
-segment_led scale turn i pins part marks rows heard old new l t long few part_is before leads h =
-    leads i pins (put_mid (69 * i) 69 rows marks) heard l t refl
-    (λ r m. sym (before (69 * i + r) (omega arith)) ∙ sym (part_row (69 * i) 69 r rows m)
-    ∙ ap (λ part. get_or part r []) (sym part_is))
-    (λ r m. row_within (69 * i) 69 r rows marks (omega arith) (omega arith))
-    (marks_alike scale (69 * (i + 1)) pins heard old rows (put_mid (69 * i) 69 rows marks)
-    (λ k m. row_behind (69 * i) 69 k rows marks (omega arith) few (omega arith)) h)
+-- all steps of segment i, where its rows have its pins before, and its marks behind it
+pub segment_led : (scale turn i u k : ℕ) (pins rows marks : List (List ℕ)) (heard : List (List ℤ))
+    (old new : ℕ → List (List ℕ)) → u ≡ i + 1 → i < length heard → turn ≡ i % 3 → k ≡ 69
+    → length rows ≡ 69 * length heard → length marks ≡ k
+    → ((t : ℕ) → t < 69 * u → get_or rows t [] ≡ get_or pins t [])
+    → LeadsOn scale turn (get_or heard i []) (take k (drop (69 * i) rows)) marks old new
+    → AreWalked scale (69 * u) pins heard old rows
+    → AreWalked scale (69 * i) pins heard new (put_mid (69 * i) k rows marks)
+segment_led scale turn i u k pins rows marks heard old new next l t size long few before leads h =
+    leads i pins (put_mid (69 * i) k rows marks) heard l t refl
+    (λ r m. sym (before (69 * i + r) (omega arith)) ∙ sym (part_row (69 * i) k r rows (omega arith)))
+    (λ r m. row_within (69 * i) k r rows marks (omega arith) (omega arith))
+    (marks_alike scale (69 * (i + 1)) pins heard old rows (put_mid (69 * i) k rows marks)
+    (λ t m. row_behind (69 * i) k t rows marks (omega arith) few (omega arith))
+    (subst (λ u. AreWalked scale (69 * u) pins heard old rows) next h))

@@ -55,7 +55,8 @@ fn back_segment(
     requires bounded { (e : ℕ) → e < CODERS
         → AreBounded (MAX_WEIGHT * (MAX_SYMBOLS - SEGMENT_ROUNDS)) (sums_of sums.old e) }
     requires multiples { (e : ℕ) → e < CODERS → AreMultiples (sums_of sums.old e) }
-    ensures walked { LeadsOn weights.now.scale turn heard.now cells.old cells.new (sums_of sums.old) (sums_of sums.new) }
+    ensures walked { LeadsOn weights.now.scale turn heard.now cells.old cells.new (sums_of sums.old)
+        (sums_of sums.new) }
     ensures bounded { (n : ℕ) → ((e : ℕ) → e < CODERS → AreBounded n (sums_of sums.old e))
         → (e : ℕ) → e < CODERS → AreBounded (MAX_WEIGHT * SEGMENT_ROUNDS + n) (sums_of sums.new e) }
     ensures multiples { (e : ℕ) → e < CODERS → AreMultiples (sums_of sums.new e) }
