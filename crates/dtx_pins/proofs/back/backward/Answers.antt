@@ -1,41 +1,37 @@
-use Rattle.std.proofs.Common.{◌≡◌, ◌-◌, ◌*◌, ◌%◌, [], ap, get_or, length, ◌∙◌, subst}
-use Rattle.std.proofs.Common.{arith}
-use Rattle.std.proofs.lemmas.List.{length-set}
+use Rattle.std.proofs.Common.{◌≡◌, ◌+◌, ◌-◌, ◌*◌, ◌%◌, ap, length, refl, ◌∙◌, arith, rules}
+use Rattle.dtx_lists.proofs.Written.{length-put_mid}
 use Rattle.dtx_pins.specs.Lanes.{sums_of}
-use Rattle.dtx_pins.specs.Walks.{AreWalked}
-use Rattle.dtx_pins.proofs.PinnedWalks.{bounded_more, coders_alike, none_walked, one_walked}
+use Rattle.dtx_pins.proofs.PinnedWalks.{none_walked, segment_led}
+use Rattle.dtx_pins.proofs.SegmentRows.{row_before}
 use Rattle.dtx_pins.proofs.back.backward.Goals as goal
 
-pub loop-t-init : goal.loop-t-init
-loop-t-init c = record {
-  room = c.requires.room;
+pub loop-i-init : goal.loop-i-init
+loop-i-init c = record {
+  long = c.requires.pins;
+  pins = λ k l. refl;
   bounded = λ e l p s f m. (let z = c.no_sums-sums.ensures e p s l f m in omega (arith, z));
   multiples = λ e l p s f m. ap (λ n. n % 4) (c.no_sums-sums.ensures e p s l f m);
-  walked = none_walked c.args.weights.now.scale c.args.pins.now c.args.rounds.now (sums_of c.no_sums-sums.result)
-      c.args.marks.now c.no_sums-sums.ensures;
+  walked = none_walked c.args.weights.now.scale c.args.cells.now c.args.heard.now (sums_of c.no_sums-sums.result)
+      c.args.cells.now c.no_sums-sums.ensures;
 }
 
-pub loop-t-preserved : goal.loop-t-preserved
-loop-t-preserved c = record {
-  room = length-set c.loop-t.marks (c.loop-t.t - 1) c.step_all.result ∙ c.loop-t.invariant.room;
-  bounded = λ e l p s f m. (let a = bounded_more c.args.weights.now.scale _ _
-      (7168 * (length c.args.rounds.now - c.loop-t.t)) (sums_of c.loop-t.sums e)
-      (sums_of c.step_all.new.sums e) _ c.args.weights.now.small (c.step_all.ensures.from e l)
-      (c.step_all.ensures.to e l) (c.step_all.ensures.step e l) (c.loop-t.invariant.bounded e l) p s f m in
+pub loop-i-preserved : goal.loop-i-preserved
+loop-i-preserved c = record {
+  long = length-put_mid (69 * (c.loop-i.i - 1)) (69 * (c.loop-i.i - 1) + 69 - 69 * (c.loop-i.i - 1)) c.loop-i.cells
+      c.back_segment.new.cells (omega (arith, c.loop-i.invariant.long)) few ∙ c.loop-i.invariant.long;
+  pins = λ k l. row_before (69 * (c.loop-i.i - 1)) (69 * (c.loop-i.i - 1) + 69 - 69 * (c.loop-i.i - 1)) k c.loop-i.cells
+      c.back_segment.new.cells (omega (arith, c.loop-i.invariant.long)) l
+      ∙ c.loop-i.invariant.pins k (omega arith);
+  bounded = λ e l p s f m. (let a = c.back_segment.ensures.bounded
+      (7168 * (69 * (length c.args.heard.now - c.loop-i.i))) c.loop-i.invariant.bounded e l p s f m in
       omega (arith, a));
-  multiples = c.step_all.ensures.multiples;
-  walked = one_walked c.args.weights.now.scale (c.loop-t.t - 1) c.loop-t.t c.args.pins.now c.args.rounds.now
-      (sums_of c.loop-t.sums) (sums_of c.step_all.new.sums) c.loop-t.marks c.step_all.result
-      c.args.weights.now.small (omega arith) (omega arith) c.loop-t.invariant.room c.step_all.ensures.from
-      c.step_all.ensures.to c.step_all.ensures.step c.loop-t.invariant.walked;
+  multiples = c.back_segment.ensures.multiples;
+  walked = segment_led c.args.weights.now.scale ((c.loop-i.i - 1) % 3) (c.loop-i.i - 1) c.loop-i.i
+      (69 * (c.loop-i.i - 1) + 69 - 69 * (c.loop-i.i - 1)) c.args.cells.now c.loop-i.cells c.back_segment.new.cells
+      c.args.heard.now (sums_of c.loop-i.sums) (sums_of c.back_segment.new.sums) (omega arith) (omega arith) refl
+      (omega arith) c.loop-i.invariant.long few c.loop-i.invariant.pins c.back_segment.ensures.walked
+      c.loop-i.invariant.walked;
 }
-
-pub returns : goal.returns
-returns c =
-    coders_alike c.args.weights.now.scale 0 c.args.pins.now c.args.rounds.now (sums_of c.loop-t.sums)
-    (λ e. get_or c.all_sums.result e []) c.loop-t.marks (λ e l. c.all_sums.ensures e l)
-    (subst (λ t. AreWalked c.args.weights.now.scale t c.args.pins.now c.args.rounds.now (sums_of c.loop-t.sums)
-    c.loop-t.marks) end c.loop-t.invariant.walked)
   where
-    end : c.loop-t.t ≡ 0
-    end = omega arith
+    few : length c.back_segment.new.cells ≡ 69 * (c.loop-i.i - 1) + 69 - 69 * (c.loop-i.i - 1)
+    few = search rules
