@@ -4,6 +4,7 @@ pub mod GroupBytes
 pub mod KnownLemmas
 pub mod FoundWords
 pub mod LaidWords
+mod Stretches
 pub mod RoundLevels
 pub mod PinRows
 pub mod RunFields

@@ -94,46 +94,38 @@ fn is_whole(k: usize, segments: usize) -> bool
     k + BRANCHES < segments || k + BRANCHES == segments && k % BRANCHES == 0
 }
 
-/// Where a byte of the words stands, and its column.
-#[derive(Clone, Copy)]
-struct Place {
+/// How far apart the bytes of a word stand that come to neighbouring branches.
+const SPACING: usize = BRANCHES * BRANCH_STEP + 1;
+
+/// Bytes of a word that follow each other and stand `SPACING` apart in one field.
+struct Stretch {
+    /// The place of the first byte.
     at: usize,
-    column: usize,
+    count: usize,
 }
 
-/// The place of byte p of the words (ATSC A/53 Part 2, interleaving).
+/// The bytes of the words from byte p on, at most so many, up to the last branch and up to the field's end (ATSC A/53
+/// Part 2, interleaving).
 #[inline(always)]
-fn place_of(p: usize) -> Place
-    requires { p < BYTES }
+fn stretch_from(p: usize, most: usize) -> Stretch
+    requires word { p < BYTES }
+    requires some { 0 < most }
     ensures at { result.at ≡ codeword_byte_place BRANCHES BRANCH_STEP p }
-    ensures column { result.column ≡ p % BRANCHES }
+    ensures some { 0 < result.count }
+    ensures few { result.count ≤ most }
+    ensures spaced { (i : ℕ) → i < result.count
+        → codeword_byte_place BRANCHES BRANCH_STEP (p + i) ≡ result.at + SPACING * i }
+    ensures in_field { result.at < BYTES → result.at + SPACING * result.count < BYTES + SPACING }
 {
-    Place {
-        at: p + BRANCHES * BRANCH_STEP * (p % BRANCHES),
-        column: p % BRANCHES,
-    }
-}
-
-/// The place of the next byte of the words. It is found without a division, since it is found for each byte.
-#[inline(always)]
-fn next_place(place: Place) -> Place
-    requires column { place.column < BRANCHES }
-    requires first { BRANCHES * BRANCH_STEP * place.column ≤ place.at }
-    requires most { place.at < 2 * BYTES }
-    ensures at { (p : ℕ) → place.at ≡ codeword_byte_place BRANCHES BRANCH_STEP p → place.column ≡ p % BRANCHES
-        → result.at ≡ codeword_byte_place BRANCHES BRANCH_STEP (p + 1) }
-    ensures column { (p : ℕ) → place.column ≡ p % BRANCHES → result.column ≡ (p + 1) % BRANCHES }
-{
-    if place.column + 1 == BRANCHES {
-        Place {
-            at: place.at + 1 - BRANCHES * BRANCH_STEP * (BRANCHES - 1),
-            column: 0,
+    let at = p + BRANCHES * BRANCH_STEP * (p % BRANCHES);
+    let count = most.min(BRANCHES - p % BRANCHES);
+    if at < BYTES {
+        Stretch {
+            at,
+            count: count.min((BYTES - 1 - at) / SPACING + 1),
         }
     } else {
-        Place {
-            at: place.at + BRANCHES * BRANCH_STEP + 1,
-            column: place.column + 1,
-        }
+        Stretch { at, count }
     }
 }
 
@@ -145,25 +137,29 @@ fn gathered(bytes: &[u8], behind: &[u8], k: usize) -> [u8; CODEWORD]
     ensures { result ≡ word_at CODEWORD BRANCHES BRANCH_STEP (bytes.now ++ behind.now) k }
 {
     let mut word = [0; CODEWORD];
-    let mut place = place_of(CODEWORD * k);
-    for j in 0..CODEWORD {
-        word[j] = byte_at(bytes, behind, place.at);
-        place = next_place(place);
+    let mut j = 0;
+    while j < CODEWORD {
+        let Stretch { at, count } = stretch_from(CODEWORD * k + j, CODEWORD - j);
+        if at < BYTES {
+            gather(bytes, at, count, &mut word, j);
+        } else {
+            gather(behind, at - BYTES, count, &mut word, j);
+        }
+        j += count;
     }
     word
 }
 
-/// The byte at a place among those of a field and of the one behind it.
-#[inline(always)]
-fn byte_at(bytes: &[u8], behind: &[u8], at: usize) -> u8
-    requires long { length bytes.now ≡ BYTES }
-    requires there { at < BYTES + length behind.now }
-    ensures { result ≡ slice_index (bytes.now ++ behind.now) at }
+/// Gathers bytes of a word from byte j on. They stand `SPACING` apart from a place on.
+fn gather(bytes: &[u8], at: usize, count: usize, word: &mut [u8; CODEWORD], j: usize)
+    requires there { at + SPACING * count < length bytes.now + SPACING }
+    requires word { j + count ≤ CODEWORD }
+    ensures gathered { (i : ℕ) → i < count
+        → slice_index word.new (j + i) ≡ slice_index bytes.now (at + SPACING * i) }
+    ensures before { (i : ℕ) → i < j → slice_index word.new i ≡ slice_index word.old i }
 {
-    if at < BYTES {
-        bytes[at]
-    } else {
-        behind[at - BYTES]
+    for i in 0..count {
+        word[j + i] = bytes[at + SPACING * i];
     }
 }
 
@@ -179,23 +175,28 @@ fn lay(word: &[u8; CODEWORD], k: usize, known: &mut [Option<u8>], next: &mut [Op
         → ((j : ℕ) → j < CODEWORD → n ≢ codeword_byte_place BRANCHES BRANCH_STEP (CODEWORD * k + j))
         → slice_index_or (known.new ++ next.new) n None ≡ slice_index_or (known.old ++ next.old) n None }
 {
-    let mut place = place_of(CODEWORD * k);
-    for j in 0..CODEWORD {
-        know(known, next, place.at, word[j]);
-        place = next_place(place);
+    let mut j = 0;
+    while j < CODEWORD {
+        let Stretch { at, count } = stretch_from(CODEWORD * k + j, CODEWORD - j);
+        if at < BYTES {
+            lay_down(word, j, count, known, at);
+        } else {
+            lay_down(word, j, count, next, at - BYTES);
+        }
+        j += count;
     }
 }
 
-/// One byte more is known, among those of a field and of the next one.
-#[inline(always)]
-fn know(known: &mut [Option<u8>], next: &mut [Option<u8>], at: usize, byte: u8)
-    requires known { length known.old ≡ BYTES }
-    requires there { at < BYTES + length next.old }
-    ensures { known.new ++ next.new ≡ slice_set (known.old ++ next.old) at (Some byte) }
+/// Lays bytes of a word down from byte j on. They come to stand `SPACING` apart from a place on.
+fn lay_down(word: &[u8; CODEWORD], j: usize, count: usize, known: &mut [Option<u8>], at: usize)
+    requires there { at + SPACING * count < length known.old + SPACING }
+    requires word { j + count ≤ CODEWORD }
+    ensures laid { (i : ℕ) → i < count
+        → slice_index_or known.new (at + SPACING * i) None ≡ Some (slice_index word.now (j + i)) }
+    ensures others { (n : ℕ) → ((i : ℕ) → i < count → n ≢ at + SPACING * i)
+        → slice_index_or known.new n None ≡ slice_index_or known.old n None }
 {
-    if at < BYTES {
-        known[at] = Some(byte);
-    } else {
-        next[at - BYTES] = Some(byte);
+    for i in 0..count {
+        known[at + SPACING * i] = Some(word[j + i]);
     }
 }

@@ -1,39 +1,44 @@
-use Rattle.std.proofs.Common.{◌≡◌, ℕ, ◌+◌, ◌*◌, ◌%◌, ◌++◌}
-use Rattle.std.proofs.Common.{length-set, get_or, get_or-set_other, get_or-set_same, set, arith}
-use Rattle.std.proofs.Common.{below_more, ap, ◌∙◌}
-use Rattle.dtx_outer.specs.Inner.{codeword_byte_place}
+use Rattle.std.proofs.Common.{◌+◌, ◌≤◌, ◌++◌, length, sym, subst, arith, ◌∙◌}
 use Rattle.dtx_outer.proofs.WordsLemmas.{word_by}
+use Rattle.dtx_rounds.proofs.Stretches.{IsGathered, from_behind, from_front, gathered_on, stretch_there}
 use Rattle.dtx_rounds.proofs.words.gathered.Goals as goal
+use Rattle.dtx_rounds.proofs.words.gathered.Goals.{then-at-lt-BYTES, else-at-lt-BYTES}
 
-next_byte : (a j : ℕ) → a + j + 1 ≡ a + (j + 1)
-next_byte a j = omega arith
+pub gather-requires-else-at-lt-BYTES-clause-there : goal.gather-requires-else-at-lt-BYTES-clause-there
+gather-requires-else-at-lt-BYTES-clause-there c =
+    let run = c.stretch_from-at in
+    omega (
+      arith,
+      c.if-at-lt-BYTES.false,
+      stretch_there c.args.k c.loop-j.j run.result.count run.result.at (64584 + length c.args.behind.now)
+          run.ensures.spaced run.ensures.some (omega (arith, run.ensures.few, c.loop-j.invariant.within))
+          c.requires.whole,
+    )
 
 pub loop-j-preserved : goal.loop-j-preserved
-loop-j-preserved c = record {
-  at = next_at;
-  column = next_column;
-  long = length-set c.loop-j.word c.loop-j.j c.byte_at.result ∙ c.loop-j.invariant.long;
-  written = below_more
-      (λ j. get_or (set c.loop-j.word c.loop-j.j c.byte_at.result) j 0
-      ≡ get_or (c.args.bytes.now ++ c.args.behind.now) (codeword_byte_place 52 4 (207 * c.args.k + j)) 0) c.loop-j.j
-      (λ j l. get_or-set_other c.loop-j.word c.loop-j.j j c.byte_at.result 0 (omega arith)
-      ∙ c.loop-j.invariant.written j l)
-      (get_or-set_same c.loop-j.word c.loop-j.j c.byte_at.result 0
-      (omega (arith, c.loop-j.invariant.long, c.loop-j-test.true))
-      ∙ c.byte_at.ensures ∙ ap (λ i. get_or (c.args.bytes.now ++ c.args.behind.now) i 0) c.loop-j.invariant.at);
-}
-  where
-    next_at : c.next_place-place.result.at ≡ codeword_byte_place 52 4 (207 * c.args.k + (c.loop-j.j + 1))
-    next_at =
-        c.next_place-place.ensures.at (207 * c.args.k + c.loop-j.j) c.loop-j.invariant.at c.loop-j.invariant.column
-        ∙ ap (codeword_byte_place 52 4) (next_byte (207 * c.args.k) c.loop-j.j)
-
-    next_column : c.next_place-place.result.column ≡ (207 * c.args.k + (c.loop-j.j + 1)) % 52
-    next_column =
-        c.next_place-place.ensures.column (207 * c.args.k + c.loop-j.j) c.loop-j.invariant.column
-        ∙ ap (λ n. n % 52) (next_byte (207 * c.args.k) c.loop-j.j)
+loop-j-preserved c =
+    let both = c.args.bytes.now ++ c.args.behind.now in
+    let at = c.stretch_from-at.result.at in
+    let count = c.stretch_from-at.result.count in
+    let run = c.stretch_from-at.ensures in
+    let within : c.loop-j.j + count ≤ 207 = omega (arith, run.few, c.loop-j.invariant.within) in
+    elim c.if-at-lt-BYTES.branch [
+      | then-at-lt-BYTES w ↦ subst (λ word. IsGathered both word c.args.k (c.loop-j.j + count)) (sym w.word-is)
+          (gathered_on both c.loop-j.word w.gather.new.word c.args.k c.loop-j.j count at run.spaced within
+          c.loop-j.invariant w.gather.array_long
+          (λ i l. w.gather.ensures.gathered i l
+          ∙ from_front c.args.bytes.now c.args.behind.now at i count
+          (omega (arith, run.in_field w.if-at-lt-BYTES.true, c.requires.long)) l)
+          w.gather.ensures.before)
+      | else-at-lt-BYTES w ↦ subst (λ word. IsGathered both word c.args.k (c.loop-j.j + count)) (sym w.word-is)
+          (gathered_on both c.loop-j.word w.gather-else-at-lt-BYTES.new.word c.args.k c.loop-j.j count at run.spaced
+          within c.loop-j.invariant w.gather-else-at-lt-BYTES.array_long
+          (λ i l. w.gather-else-at-lt-BYTES.ensures.gathered i l
+          ∙ from_behind c.args.bytes.now c.args.behind.now at i 64584 c.requires.long w.if-at-lt-BYTES.false)
+          w.gather-else-at-lt-BYTES.ensures.before)
+    ]
 
 pub returns : goal.returns
 returns c =
     word_by 207 52 4 (c.args.bytes.now ++ c.args.behind.now) c.args.k c.loop-j.word c.loop-j.invariant.long
-    (λ j l. c.loop-j.invariant.written j (omega (arith, l, c.loop-j-test.false)))
+    (λ i l. c.loop-j.invariant.gathered i (omega (arith, l, c.loop-j-test.false)))
