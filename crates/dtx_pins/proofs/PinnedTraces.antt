@@ -7,7 +7,7 @@ use Rattle.std.proofs.lemmas.List.{drop_all, drop_more, length-append, length-ta
 use Rattle.std.proofs.lemmas.List.{take_more_set}
 use Rattle.dtx_soft.specs.Paths.{distance, next_state, squared, symbol_at}
 use Rattle.dtx_soft.proofs.TracesLemmas.{distance-more}
-use Rattle.dtx_pins.specs.declared.forth.Stand.{Stand}
+use Rattle.dtx_pins.specs.declared.start.Stand.{Stand}
 use Rattle.dtx_pins.specs.LeastPinned.{IsLeastPinned}
 use Rattle.dtx_pins.specs.PinnedField.{AreLeastPinned}
 use Rattle.dtx_pins.specs.Pins.{pin_at}

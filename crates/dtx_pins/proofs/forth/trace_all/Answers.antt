@@ -7,7 +7,7 @@ use Rattle.std.proofs.lemmas.Int.{ints, to_z-of_z}
 use Rattle.std.proofs.lemmas.List.{get_or-set_same, get_or-set_other}
 use Rattle.dtx_soft.specs.Paths.{squared}
 use Rattle.dtx_soft.proofs.WrapsLemmas.{read}
-use Rattle.dtx_pins.specs.declared.forth.Stands.{Stands}
+use Rattle.dtx_pins.specs.declared.start.Stands.{Stands}
 use Rattle.dtx_pins.specs.Trace.{IsNext, stand_at}
 use Rattle.dtx_pins.proofs.forth.trace_all.Goals as goal
 
