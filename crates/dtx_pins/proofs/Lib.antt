@@ -5,6 +5,7 @@ pub mod PinnedPaths
 pub mod PinnedWalks
 pub mod PinnedStarts
 pub mod PinnedTraces
+pub mod ScaledSymbols
 pub mod FourNumbers
 pub mod WeightTests
 pub mod SymbolDepths
