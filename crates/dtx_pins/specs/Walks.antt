@@ -1,5 +1,5 @@
 -- What the walk back keeps: the least costs of paths that agree with pins, and the marks.
-use Rattle.std.specs.Prelude.{ℕ, ℤ, pos, ◌≡◌, ◌+◌, ◌*◌, ◌<◌, ◌≤◌, List, [], length, drop, slice_index, slice_index_or}
+use Rattle.std.specs.Prelude.{ℕ, ℤ, pos, ◌≡◌, ◌+◌, ◌*◌, ◌%◌, ◌<◌, ◌≤◌, List, [], length, drop, slice_index, slice_index_or}
 use Rattle.dtx_soft.specs.Paths.{IsPath, cost}
 use Rattle.dtx_pins.specs.Pins.{AgreesFrom, coder_pins, pin_at}
 use Rattle.dtx_soft.specs.Coders.{coder_symbols}
@@ -40,3 +40,16 @@ pub record AreWalked (scale t : ℕ) (pins : List (List ℕ)) (heard : List (Lis
       → AreLeastSums scale (drop t (coder_pins pins e)) (drop t (coder_symbols heard e)) (sums e)
   pub marks_are : (k e : ℕ) → t ≤ k → k < 69 * length heard → e < 12
       → IsMark scale (coder_pins pins e) (coder_symbols heard e) k (slice_index (slice_index_or marks k []) e)
+
+-- these rows, 69 of them, stand in a list from row `at` on
+abbrev pub StandAt : ℕ → List (List ℕ) → List (List ℕ) → Type 0
+StandAt at rows list = (r : ℕ) → r < 69 → slice_index_or list (at + r) [] ≡ slice_index_or rows r []
+
+-- What the walk back does in a segment, from the sums `old` behind it to the sums `new`. Wherever the segment stands
+-- among those that were heard, with its pins and its marks, a walk back to the step behind it leads on to its first
+-- step.
+abbrev pub LeadsOn : ℕ → ℕ → List ℤ → List (List ℕ) → List (List ℕ) → (ℕ → List (List ℕ)) → (ℕ → List (List ℕ)) → Type 0
+LeadsOn scale turn segment pins marks old new =
+    (i : ℕ) (all_pins all_marks : List (List ℕ)) (heard : List (List ℤ)) → i < length heard → turn ≡ i % 3
+    → segment ≡ slice_index_or heard i [] → StandAt (69 * i) pins all_pins → StandAt (69 * i) marks all_marks
+    → AreWalked scale (69 * (i + 1)) all_pins heard old all_marks → AreWalked scale (69 * i) all_pins heard new all_marks

@@ -1,11 +1,11 @@
 //! The walk from the end of the symbols to their beginning, for all coders side by side.
 
-ghost use Rattle.std.specs.Prelude.{◌≡◌, ℕ, pos, ◌*◌, ◌+◌, ◌<◌, ◌≤◌, [], length, slice_index, slice_index_or};
+ghost use Rattle.std.specs.Prelude.{◌≡◌, ℕ, pos, ◌*◌, ◌+◌, ◌-◌, ◌<◌, ◌≤◌, [], length, slice_index, slice_index_or};
 ghost use Rattle.std.specs.Prelude.{◌≤ℤ◌, ◌+ℤ◌};
 ghost use Rattle.dtx_pins.specs.Lanes.{sums_of};
 ghost use Rattle.dtx_pins.specs.Pins.{pin_at};
 ghost use Rattle.dtx_pins.specs.Steps.{AreBounded, IsStep};
-ghost use Rattle.dtx_pins.specs.Walks.{AreWalked};
+ghost use Rattle.dtx_pins.specs.Walks.{AreWalked, LeadsOn};
 ghost use Rattle.dtx_pins.specs.Weights.{AreMultiples, weight};
 
 use crate::lanes::{Sums, all_sums, coder_sums, no_sums, put_sums};
@@ -55,6 +55,9 @@ fn back_segment(
     requires bounded { (e : ℕ) → e < CODERS
         → AreBounded (MAX_WEIGHT * (MAX_SYMBOLS - SEGMENT_ROUNDS)) (sums_of sums.old e) }
     requires multiples { (e : ℕ) → e < CODERS → AreMultiples (sums_of sums.old e) }
+    ensures walked { LeadsOn weights.now.scale turn heard.now cells.old cells.new (sums_of sums.old) (sums_of sums.new) }
+    ensures bounded { (n : ℕ) → ((e : ℕ) → e < CODERS → AreBounded n (sums_of sums.old e))
+        → (e : ℕ) → e < CODERS → AreBounded (MAX_WEIGHT * SEGMENT_ROUNDS + n) (sums_of sums.new e) }
     ensures multiples { (e : ℕ) → e < CODERS → AreMultiples (sums_of sums.new e) }
     ensures long { length cells.new ≡ length cells.old }
 {
