@@ -7,6 +7,7 @@ pub mod PinnedWalks
 pub mod PinnedStarts
 pub mod PinnedTraces
 pub mod ScaledSymbols
+pub mod TracedSteps
 pub mod FourNumbers
 pub mod WeightTests
 pub mod SymbolDepths
