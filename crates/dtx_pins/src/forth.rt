@@ -189,6 +189,7 @@ fn move_symbols(path: &[i8; SEGMENT], segment: &mut [i8; SEGMENT]) -> u16
 fn put_symbol(place: &mut i8, symbol: i8) -> u16
     ensures put { place.new ≡ symbol }
     ensures moved { result ≡ (if int_eq place.old symbol then 0 else 1) }
+    ensures still { result ≡ 0 → place.new ≡ place.old }
     ensures most { result ≤ 1 }
 {
     let moved = if *place == symbol { 0 } else { 1 };
