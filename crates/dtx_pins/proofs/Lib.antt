@@ -8,6 +8,7 @@ pub mod PinnedStarts
 pub mod PinnedTraces
 pub mod ScaledSymbols
 pub mod TracedSteps
+pub mod TracedSegments
 pub mod MovedSums
 pub mod FourNumbers
 pub mod WeightTests
