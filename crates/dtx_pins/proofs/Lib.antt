@@ -6,6 +6,10 @@ pub mod SegmentRows
 pub mod PinnedWalks
 pub mod PinnedStarts
 pub mod PinnedTraces
+pub mod ScaledSymbols
+pub mod TracedSteps
+pub mod TracedSegments
+pub mod MovedSums
 pub mod FourNumbers
 pub mod WeightTests
 pub mod SymbolDepths

@@ -5,7 +5,7 @@ use Rattle.std.proofs.lemmas.Bool.{cases_eq, cases_lt, cond-false, cond-true, le
 use Rattle.std.proofs.lemmas.Bool.Decides.{nat_tests}
 use Rattle.dtx_soft.specs.Least.{AreInOrder}
 use Rattle.dtx_soft.specs.Paths.{IsPath, cost}
-use Rattle.dtx_pins.specs.declared.forth.Stand.{Stand}
+use Rattle.dtx_pins.specs.declared.start.Stand.{Stand}
 use Rattle.dtx_pins.specs.LeastPinned.{IsLeastPinned}
 use Rattle.dtx_pins.specs.Pins.{AgreesFrom, pair_of, pin_at}
 use Rattle.dtx_pins.specs.Steps.{cost_at}

@@ -1,19 +1,21 @@
 -- The walk on, one symbol further.
-use Rattle.std.proofs.Common.{◌≡◌, ℕ, ℤ, pos, ◌+◌, ◌*◌, ◌/◌, ◌%◌, ◌<◌, ◌≤◌, List, [], ◌∷◌, ◌++◌, length, take, drop}
-use Rattle.std.proofs.Common.{min}
-use Rattle.std.proofs.Common.{append-nil, append_assoc, get_or, map, slice_set, take_all, refl, sym, ap, ap₂, ◌∙◌}
-use Rattle.std.proofs.Common.{subst, arith}
-use Rattle.std.proofs.lemmas.List.{drop_all, drop_more, length-append, length-take, map-append, take_more}
-use Rattle.std.proofs.lemmas.List.{take_more_set}
-use Rattle.dtx_soft.specs.Paths.{distance, next_state, squared, symbol_at}
+use Rattle.std.proofs.Common.{◌≡◌, ◌≢◌, ℕ, zero, suc, ℤ, pos, ◌+◌, ◌-◌, ◌*◌, ◌/◌, ◌%◌, ◌<◌, ◌≤◌, ◌⊎◌, inl, inr, List, []}
+use Rattle.std.proofs.Common.{◌∷◌, ◌++◌, length, take, drop, min, append-nil, append_assoc, get_or, map, take_all, refl}
+use Rattle.std.proofs.Common.{sym, ap, ap₂, ◌∙◌, subst, arith}
+use Rattle.std.proofs.lemmas.Bool.{cases_lt}
+use Rattle.std.proofs.lemmas.List.{drop_all, drop_more, get_or-append_right, get_or-map, get_or_append_left}
+use Rattle.std.proofs.lemmas.List.{length-append, length-map, length-take, map-append, take_more}
+use Rattle.std.proofs.lemmas.List.FromFn.{fill_by_all}
+use Rattle.dtx_soft.specs.Paths.{cost, distance, next_state, squared, symbol_at}
 use Rattle.dtx_soft.proofs.TracesLemmas.{distance-more}
-use Rattle.dtx_pins.specs.declared.forth.Stand.{Stand}
-use Rattle.dtx_pins.specs.LeastPinned.{IsLeastPinned}
+use Rattle.dtx_pins.specs.declared.start.Stand.{Stand}
+use Rattle.dtx_pins.specs.LeastPinned.{IsLeastPinned, least_pinned_levels}
 use Rattle.dtx_pins.specs.PinnedField.{AreLeastPinned}
 use Rattle.dtx_pins.specs.Pins.{pin_at}
 use Rattle.dtx_pins.specs.Steps.{level_by, number_of}
-use Rattle.dtx_pins.specs.Trace.{IsNext, IsStand, IsStart, state_of}
+use Rattle.dtx_pins.specs.Trace.{IsNext, IsStand, IsStart, IsTraced, state_of}
 use Rattle.dtx_pins.specs.Walks.{AreLeastCosts, AreLeastSums, IsMark}
+use Rattle.dtx_pins.proofs.LeastPinnedLemmas.{least_pinned_levels_are}
 use Rattle.dtx_pins.proofs.PinnedPaths.{IsBestLevel, IsLeastFrom, best_level, nothing_least, one_more}
 use Rattle.dtx_pins.proofs.PinnedStarts.{from_start}
 use Rattle.dtx_pins.proofs.PinnedUnits.{start_units}
@@ -31,16 +33,16 @@ pub record IsUnderWay (scale : ℕ) (pins : List ℕ) (symbols now : List ℤ) (
   pub goes_on : (rest : List ℕ)
       → IsLeastFrom scale (drop t pins) (drop t symbols) stand.former (state_of stand) rest
       → IsLeastFrom scale pins symbols former start (levels ++ rest)
-  pub written : take t now ≡ map (symbol_at scale) levels
-  pub cost : stand.cost ≡ distance (take t symbols) (take t now)
+  pub written : (k : ℕ) → k < t → get_or now k (pos 0) ≡ symbol_at 1 (get_or levels k 0)
+  pub spent : stand.cost ≡ cost scale (take t symbols) levels
   pub whole : (levels : List ℕ) → IsLeastFrom scale pins symbols former start levels
       → IsLeastPinned scale pins symbols start levels
 
-pub sets_out : (scale : ℕ) (pins : List ℕ) (symbols : List ℤ) (sums : List (List ℕ)) (stand : Stand)
+pub sets_out : (scale : ℕ) (pins : List ℕ) (symbols now : List ℤ) (sums : List (List ℕ)) (stand : Stand)
     → IsStart (pin_at pins 0) sums stand → AreLeastSums scale pins symbols sums
-    → IsUnderWay scale pins symbols symbols 0 stand
-unfolding distance
-sets_out scale pins symbols sums stand s p = record {
+    → IsUnderWay scale pins symbols now 0 stand
+unfolding cost distance
+sets_out scale pins symbols now sums stand s p = record {
   former = stand.former;
   start = state_of stand;
   levels = [];
@@ -49,8 +51,8 @@ sets_out scale pins symbols sums stand s p = record {
   q0 = s.q0;
   long = refl;
   goes_on = λ rest h. h;
-  written = refl;
-  cost = s.cost;
+  written = λ k l. absurd (omega arith);
+  spent = s.cost;
   whole = λ levels h. from_start scale pins symbols p.costs stand levels
       (start_units scale (pin_at pins 0) p.costs sums stand p.units s) p.least h;
 }
@@ -65,10 +67,20 @@ next_is q1 q0 k l m =
     let e : level_by (2 * q1 + q0) k / 2 ≡ k = omega arith in
     ap₂ (λ x y. 2 * x + y) (ap (λ x. x % 2) (ap₂ (λ x y. x + y) (ap (λ x. x % 2) (sym e)) (sym b))) (sym a)
 
-pub goes_further : (scale : ℕ) (pins : List ℕ) (symbols now : List ℤ) (t mark : ℕ) (old new : Stand) (written : ℤ)
-    → t < length symbols → length now ≡ length symbols → IsMark scale pins symbols t mark
+-- what levels cost, with one level more
+cost-more : (scale t : ℕ) (symbols : List ℤ) (levels : List ℕ) (z : ℕ) → t < length symbols → length levels ≡ t
+    → cost scale (take (t + 1) symbols) (levels ++ (z ∷ []))
+    ≡ cost scale (take t symbols) levels + squared (get_or symbols t (pos 0)) (symbol_at scale z)
+unfolding cost
+cost-more scale t symbols levels z l n =
+    ap₂ distance (take_more symbols t (pos 0) l) (map-append (symbol_at scale) levels (z ∷ []))
+    ∙ distance-more (take t symbols) (map (symbol_at scale) levels) (get_or symbols t (pos 0)) (symbol_at scale z)
+    (omega (arith, n, length-take t symbols, length-map levels (symbol_at scale)))
+
+goes_further : (scale : ℕ) (pins : List ℕ) (symbols now : List ℤ) (t mark : ℕ) (old new : Stand) (written : ℤ)
+    → t < length symbols → get_or now t (pos 0) ≡ written → IsMark scale pins symbols t mark
     → IsNext scale (get_or symbols t (pos 0)) mark old new written → IsUnderWay scale pins symbols now t old
-    → IsUnderWay scale pins symbols (slice_set now t written) (t + 1) new
+    → IsUnderWay scale pins symbols now (t + 1) new
 goes_further scale pins symbols now t mark old new written l n m next u = record {
   former = u.former;
   start = u.start;
@@ -81,12 +93,9 @@ goes_further scale pins symbols now t mark old new written l n m next u = record
       (sym (append_assoc u.levels (level ∷ []) rest)) (u.goes_on (level ∷ rest) (longer rest
       (subst (λ s. IsLeastFrom scale (drop (t + 1) pins) (drop (t + 1) symbols) (level / 4) s rest) state_is
       (subst (λ f. IsLeastFrom scale (drop (t + 1) pins) (drop (t + 1) symbols) f (state_of new) rest) former_is h))));
-  written = take_more_set now t written (omega (arith, n)) ∙ ap₂ (λ (xs ys : List ℤ). xs ++ ys) u.written
-      (ap (λ x. x ∷ []) (next.written_is ∙ ap (symbol_at scale) level_is))
-      ∙ sym (map-append (symbol_at scale) u.levels (level ∷ []));
-  cost = next.cost ∙ ap (λ n. n + squared v written) u.cost
-      ∙ sym (distance-more (take t symbols) (take t now) v written (omega (arith, front t symbols, front t now)))
-      ∙ ap₂ distance (sym (take_more symbols t (pos 0) l)) (sym (take_more_set now t written (omega (arith, n))));
+  written = λ k o. by_place k o (cases_lt k t);
+  spent = next.cost ∙ ap₂ (λ n z. n + squared v (symbol_at scale z)) u.spent level_is
+      ∙ sym (cost-more scale t symbols u.levels level l u.long);
   whole = u.whole;
 }
   where
@@ -147,38 +156,77 @@ goes_further scale pins symbols now t mark old new written l n m next u = record
         (next_state (state_of old) (level_by (state_of old) (number_of mark old.former (state_of old)))) rest)
         (sym (pins_behind pins t (t + 1) refl)) h))
 
-    front : (t : ℕ) (xs : List ℤ) → length (take t xs) ≡ min t (length xs)
-    front t xs = length-take t xs
+    by_place : (k : ℕ) → k < t + 1 → (k < t) ⊎ (t ≤ k)
+        → get_or now k (pos 0) ≡ symbol_at 1 (get_or (u.levels ++ (level ∷ [])) k 0)
+    by_place k o (inl before) =
+        u.written k before
+        ∙ ap (symbol_at 1) (sym (get_or_append_left u.levels (level ∷ []) 0 k (omega (arith, u.long, before))))
+    by_place k o (inr there) =
+        let here : k ≡ t = omega (arith, o, there) in
+        let none : k - t ≡ 0 = omega (arith, o, there) in
+        ap (λ k. get_or now k (pos 0)) here ∙ n ∙ next.written_is ∙ ap (symbol_at 1) (level_is
+        ∙ sym (get_or-append_right u.levels (level ∷ []) t k 0 u.long there
+        ∙ ap (λ i. get_or (level ∷ []) i 0) none))
 
-pub stands_further : (scale : ℕ) (symbol : ℤ) (t mark : ℕ) (old new : Stand) (written : ℤ)
-    → IsNext scale symbol mark old new written → IsStand t old → IsStand (t + 1) new
-stands_further scale symbol t mark old new written next h = record {
-  former = (let e = next.former in let f = next.number_small in omega arith);
-  q1 = (let e = next.q1 in omega arith);
-  q0 = (let e = next.q0 in let f = h.q1 in omega arith);
-  cost = (let a = h.cost in let b = next.cost in let d = next.small in omega arith);
-}
+-- several steps further
+pub goes_on : (scale : ℕ) (pins : List ℕ) (symbols now : List ℤ) (t : ℕ) (heard : ℕ → ℤ) (marks : ℕ → ℕ)
+    (written : ℕ → ℤ) (n : ℕ) (old new : Stand) → t + n ≤ length symbols
+    → ((k : ℕ) → k < n → get_or symbols (t + k) (pos 0) ≡ heard k)
+    → ((k : ℕ) → k < n → get_or now (t + k) (pos 0) ≡ written k)
+    → ((k : ℕ) → k < n → IsMark scale pins symbols (t + k) (marks k))
+    → IsTraced scale heard marks written n old new → IsUnderWay scale pins symbols now t old
+    → IsUnderWay scale pins symbols now (t + n) new
+goes_on scale pins symbols now t heard marks written zero old new l e f m traced u =
+    let none : t ≡ t + 0 = omega arith in
+    subst (λ t. IsUnderWay scale pins symbols now t new) none
+    (subst (IsUnderWay scale pins symbols now t) (sym traced) u)
+goes_on scale pins symbols now t heard marks written (suc n) old new l e f m traced u =
+    let next : t + n + 1 ≡ t + suc n = omega arith in
+    subst (λ t. IsUnderWay scale pins symbols now t new) next
+    (goes_further scale pins symbols now (t + n) (marks n) traced.0 new (written n) (omega (arith, l))
+    (f n (omega arith)) (m n (omega arith))
+    (subst (λ v. IsNext scale v (marks n) traced.0 new (written n)) (sym (e n (omega arith))) traced.2)
+    (goes_on scale pins symbols now t heard marks written n old traced.0 (omega (arith, l)) (λ k o. e k (omega (arith, o)))
+    (λ k o. f k (omega (arith, o))) (λ k o. m k (omega (arith, o))) traced.1 u))
 
-pub stands_within : (t n : ℕ) (stand : Stand) → t ≤ n → IsStand t stand → IsStand n stand
-stands_within t n stand l h = record {
-  former = h.former;
-  q1 = h.q1;
-  q0 = h.q0;
-  cost = (let a = h.cost in omega arith);
+-- where the symbols that are written so far stand elsewhere
+pub goes_elsewhere : (scale : ℕ) (pins : List ℕ) (symbols now other : List ℤ) (t : ℕ) (stand : Stand)
+    → ((k : ℕ) → k < t → get_or other k (pos 0) ≡ get_or now k (pos 0)) → IsUnderWay scale pins symbols now t stand
+    → IsUnderWay scale pins symbols other t stand
+goes_elsewhere scale pins symbols now other t stand e u = record {
+  former = u.former;
+  start = u.start;
+  levels = u.levels;
+  former_small = u.former_small;
+  q1 = u.q1;
+  q0 = u.q0;
+  long = u.long;
+  goes_on = u.goes_on;
+  written = λ k l. e k l ∙ u.written k l;
+  spent = u.spent;
+  whole = u.whole;
 }
 
 pub arrives : (scale : ℕ) (pins : List ℕ) (symbols now : List ℤ) (t : ℕ) (stand : Stand) → t ≡ length symbols
     → length now ≡ length symbols → IsUnderWay scale pins symbols now t stand
-    → AreLeastPinned scale pins symbols now × (stand.cost ≡ distance symbols now)
+    → AreLeastPinned scale 1 pins symbols now
+    × (stand.cost ≡ cost scale symbols (least_pinned_levels scale pins symbols))
 arrives scale pins symbols now t stand e n u = (
-  record {
-    start = u.start;
-    levels = u.levels;
-    least = u.whole u.levels (subst (IsLeastFrom scale pins symbols u.former u.start) (append-nil u.levels)
-        (u.goes_on [] (subst (λ rest. IsLeastFrom scale (drop t pins) rest stand.former (state_of stand) [])
-        (sym (drop_all t symbols (omega arith)))
-        (nothing_least scale (drop t pins) stand.former (state_of stand)))));
-    symbols = sym (take_all t now (omega arith)) ∙ u.written;
-  },
-  u.cost ∙ ap₂ distance (take_all t symbols (omega arith)) (take_all t now (omega arith)),
+  record { start = u.start; levels = u.levels; least = least; symbols = written },
+  u.spent ∙ ap₂ (cost scale) (take_all t symbols (omega (arith, e)))
+      (sym (least_pinned_levels_are scale pins symbols u.start u.levels least)),
 )
+  where
+    least : IsLeastPinned scale pins symbols u.start u.levels
+    least =
+        u.whole u.levels (subst (IsLeastFrom scale pins symbols u.former u.start) (append-nil u.levels)
+        (u.goes_on [] (subst (λ rest. IsLeastFrom scale (drop t pins) rest stand.former (state_of stand) [])
+        (sym (drop_all t symbols (omega (arith, e))))
+        (nothing_least scale (drop t pins) stand.former (state_of stand)))))
+
+    written : now ≡ map (symbol_at 1) u.levels
+    written =
+        fill_by_all (λ k. symbol_at 1 (get_or u.levels k 0)) now t (pos 0) (n ∙ sym e) u.written
+        ∙ sym (fill_by_all (λ k. symbol_at 1 (get_or u.levels k 0)) (map (symbol_at 1) u.levels) t (pos 0)
+        (length-map u.levels (symbol_at 1) ∙ u.long)
+        (λ k l. get_or-map (symbol_at 1) u.levels k 0 (pos 0) (omega (arith, l, u.long))))

@@ -1,5 +1,5 @@
 -- The walk along the least paths under pins, from the first symbol to the last.
-use Rattle.std.specs.Prelude.{ℕ, ℤ, pos, ◌+ℤ◌, ◌≤ℤ◌, ◌≡◌, ◌+◌, ◌*◌, ◌/◌, ◌%◌, ◌<◌, ◌≤◌, ◌⊎◌, ◌==◌, if◌then◌else◌, List}
+use Rattle.std.specs.Prelude.{ℕ, zero, suc, ℤ, pos, ◌≡◌, ◌+◌, ◌-◌, ◌*◌, ◌/◌, ◌%◌, ◌<◌, ◌≤◌, ◌⊎◌, ◌==◌, if◌then◌else◌, List}
 use Rattle.std.specs.Prelude.{[], slice_index, slice_index_or}
 use Rattle.dtx_soft.specs.Paths.{squared, symbol_at}
 use Rattle.dtx_pins.specs.Pins.{pin_at}
@@ -63,6 +63,26 @@ stand_at stands e = record {
 }
 
 -- where the least paths of all coders begin, under the pins of the first step
-pub record AreStarts (pins : List (List ℕ)) (sums : ℕ → List (List ℕ)) (stands : Stands) : Type 0 where
-  pub starts : (e : ℕ) → e < 12 → IsStart (pin_at (slice_index_or pins 0 []) e) (sums e) (stand_at stands e)
-  pub stands : (e : ℕ) → e < 16 → IsStand 0 (stand_at stands e)
+pub record AreStarts (pins : List (List ℕ)) (sums : ℕ → List (List ℕ)) (begun : Stands) : Type 0 where
+  pub starts : (e : ℕ) → e < 12 → IsStart (pin_at (slice_index_or pins 0 []) e) (sums e) (stand_at begun e)
+  pub stands : (e : ℕ) → e < 16 → IsStand 0 (stand_at begun e)
+
+-- Where the symbol of coder e stands in round r of a segment. In the segment the coders have moved on by four places
+-- `turn` times.
+abbrev pub turned_place : ℕ → ℕ → ℕ → ℕ
+turned_place turn r e = 4 + 12 * r + (e + 12 - 4 * turn) % 12
+
+-- n steps from one stand to another, over the symbols that were heard
+abbrev pub IsTraced : ℕ → (ℕ → ℤ) → (ℕ → ℕ) → (ℕ → ℤ) → ℕ → Stand → Stand → Type 0
+IsTraced scale symbols marks written zero old new = new ≡ old
+IsTraced scale symbols marks written (suc n) old new =
+    (between : Stand) × IsTraced scale symbols marks written n old between
+    × IsNext scale (symbols n) (marks n) between new (written n)
+
+-- the first rounds of a segment, for all coders
+pub record AreTraced (scale turn rounds : ℕ) (marks : List (List ℕ)) (heard path : List ℤ)
+    (old new : Stands) : Type 0 where
+  pub traced : (e : ℕ) → e < 12 → IsTraced scale (λ r. slice_index_or heard (turned_place turn r e) (pos 0))
+      (λ r. slice_index (slice_index_or marks r []) e) (λ r. slice_index_or path (turned_place turn r e) (pos 0)) rounds
+      (stand_at old e) (stand_at new e)
+  pub stands : (t e : ℕ) → e < 16 → IsStand t (stand_at old e) → IsStand (t + rounds) (stand_at new e)

@@ -9,7 +9,7 @@ ghost use Rattle.dtx_pins.specs.Moved.{moved_in, rows_moved};
 ghost use Rattle.dtx_pins.specs.Pins.{coder_pins};
 ghost use Rattle.dtx_pins.specs.PinnedField.{IsPinned, pinned_cost};
 ghost use Rattle.dtx_pins.specs.Steps.{number_of};
-ghost use Rattle.dtx_pins.specs.Trace.{AreStarts, IsMoved, IsNext, IsStand, stand_at};
+ghost use Rattle.dtx_pins.specs.Trace.{AreStarts, AreTraced, IsMoved, IsNext, IsStand, stand_at};
 ghost use Rattle.dtx_pins.specs.Walks.{AreWalked};
 
 use crate::lanes::lanes_of;
@@ -31,6 +31,7 @@ pub(crate) fn forward(
     requires few { length heard.now ≤ FIELD_PACKETS }
     requires room { length marks.now ≡ SEGMENT_ROUNDS * length heard.now }
     requires same { length decided.old ≡ length heard.now }
+    requires stands { (e : ℕ) → e < LANES → IsStand 0 (stand_at stands e) }
     ensures paths { (pins : List (List ℕ)) (sums : ℕ → List (List ℕ)) → length pins ≡ length marks.now
         → AreWalked scale 0 pins heard.now sums marks.now → AreStarts pins sums stands
         → IsPinned scale 1 pins heard.now decided.old decided.new }
@@ -69,6 +70,11 @@ fn trace_turned(
     turn: usize,
     stands: &mut Stands,
 ) -> [i8; SEGMENT]
+    requires scale { scale ≤ MAX_SCALE }
+    requires turn { turn < 3 }
+    requires marks { length marks.now ≡ SEGMENT_ROUNDS }
+    requires stands { (e : ℕ) → e < LANES → IsStand 21459 (stand_at stands.old e) }
+    ensures { AreTraced scale turn SEGMENT_ROUNDS marks.now heard.now result stands.old stands.new }
 {
     match turn {
         0 => trace_segment(scale, marks, heard, 0, stands),
@@ -86,6 +92,11 @@ fn trace_segment(
     turn: usize,
     stands: &mut Stands,
 ) -> [i8; SEGMENT]
+    requires scale { scale ≤ MAX_SCALE }
+    requires turn { turn < 3 }
+    requires marks { length marks.now ≡ SEGMENT_ROUNDS }
+    requires stands { (e : ℕ) → e < LANES → IsStand 21459 (stand_at stands.old e) }
+    ensures { AreTraced scale turn SEGMENT_ROUNDS marks.now heard.now result stands.old stands.new }
 {
     let mut path = [0; SEGMENT];
     for r in 0..SEGMENT_ROUNDS {
@@ -178,6 +189,7 @@ fn move_symbols(path: &[i8; SEGMENT], segment: &mut [i8; SEGMENT]) -> u16
 fn put_symbol(place: &mut i8, symbol: i8) -> u16
     ensures put { place.new ≡ symbol }
     ensures moved { result ≡ (if int_eq place.old symbol then 0 else 1) }
+    ensures still { result ≡ 0 → place.new ≡ place.old }
     ensures most { result ≤ 1 }
 {
     let moved = if *place == symbol { 0 } else { 1 };

@@ -1,86 +1,113 @@
-use Rattle.std.proofs.Common.{◌≡◌, ℕ, ◌+◌, ◌<◌, [], get_or, length, pos, refl, sym, ap, ◌∙◌, subst, arith}
-use Rattle.std.proofs.lemmas.List.{get_or-set_other, length-set}
-use Rattle.dtx_soft.specs.Gaps.{column}
-use Rattle.dtx_soft.proofs.ColumnsLemmas.{length-column, symbol_in_column}
-use Rattle.dtx_soft.proofs.TracesLemmas.{column-set}
+use Rattle.std.proofs.Common.{◌≡◌, ℕ, ℤ, ◌+◌, ◌-◌, ◌*◌, ◌<◌, ◌≤◌, List, [], get_or, length, map, slice_set, sum, refl, sym, ap}
+use Rattle.std.proofs.Common.{ap₂, ◌∙◌, subst, arith}
+use Rattle.std.specs.List.{range_with_len}
+use Rattle.std.proofs.lemmas.List.{get_or-set_same, get_or-set_other, length-set, set-get_or}
+use Rattle.dtx_lists.proofs.Range.{map-range_same}
+use Rattle.dtx_soft.specs.Coders.{coder_symbols}
+use Rattle.dtx_soft.specs.Paths.{cost}
+use Rattle.dtx_soft.proofs.Places.{syncs_written}
+use Rattle.dtx_soft.proofs.SoftenedLemmas.{length-coder}
+use Rattle.dtx_pins.specs.LeastPinned.{least_pinned_levels}
+use Rattle.dtx_pins.specs.Moved.{moved_in, rows_moved}
+use Rattle.dtx_pins.specs.PinnedField.{AreLeastPinned, pinned_coder_cost, pinned_cost}
 use Rattle.dtx_pins.specs.Pins.{coder_pins}
-use Rattle.dtx_pins.specs.Trace.{IsNext, IsStart, stand_at}
-use Rattle.dtx_pins.proofs.PinnedTraces.{IsUnderWay, arrives, goes_further, sets_out, stands_further}
-use Rattle.dtx_pins.proofs.PinnedTraces.{stands_within}
+use Rattle.dtx_pins.specs.Trace.{AreStarts, IsStand, IsStart, stand_at}
+use Rattle.dtx_pins.specs.Walks.{AreWalked}
+use Rattle.dtx_pins.proofs.MovedSums.{moved_more}
+use Rattle.dtx_pins.proofs.PinnedTraces.{arrives, sets_out}
 use Rattle.dtx_pins.proofs.PinnedWalks.{pin_in_column}
+use Rattle.dtx_pins.proofs.TracedSegments.{segment_traced}
 use Rattle.dtx_pins.proofs.forth.forward.Goals as goal
 
-pub loop-t-init : goal.loop-t-init
-loop-t-init c = record {
+pub loop-i-init : goal.loop-i-init
+loop-i-init c = record {
   long = refl;
   left = λ k l. refl;
-  under_way = λ e l. sets_out c.args.scale (coder_pins c.args.pins.now e) (column c.args.rounds.now e)
-      (get_or c.args.behind.now e []) (stand_at c.starts-stands.result e)
-      (subst (λ pin. IsStart pin (get_or c.args.behind.now e []) (stand_at c.starts-stands.result e))
-      (sym (pin_in_column c.args.pins.now e 0)) (c.starts-stands.ensures.starts e l)) (c.requires.walked.sums_are e l);
-  stands = c.starts-stands.ensures.stands;
+  syncs = λ i k l. refl;
+  moved = refl;
+  few = omega arith;
+  still = λ e. refl;
+  stands = c.requires.stands;
+  under_way = λ pins sums walked begun e l. sets_out c.args.scale (coder_pins pins e)
+      (coder_symbols c.args.heard.now e) (coder_symbols c.args.decided.now e) (sums e) (stand_at c.args.stands e)
+      (subst (λ pin. IsStart pin (sums e) (stand_at c.args.stands e)) (sym (pin_in_column pins e 0))
+      (begun.starts e l)) (walked.sums_are e l);
 }
 
-pub trace_all-requires-clause-stands : goal.trace_all-requires-clause-stands
-trace_all-requires-clause-stands c e l =
-    stands_within c.loop-t.t 21527 (stand_at c.loop-t.stands e) (omega (arith, c.loop-t.invariant.long, c.requires.few))
-    (c.loop-t.invariant.stands e l)
-
-pub loop-t-preserved : goal.loop-t-preserved
-loop-t-preserved c = record {
-  long = length-set c.loop-t.rounds c.loop-t.t c.trace_all.result ∙ c.loop-t.invariant.long;
-  left = λ k l. get_or-set_other c.loop-t.rounds c.loop-t.t k c.trace_all.result [] (λ e. absurd (omega arith))
-      ∙ c.loop-t.invariant.left k (omega arith);
-  stands = λ e l. stands_further c.args.scale _ c.loop-t.t _ (stand_at c.loop-t.stands e)
-      (stand_at c.trace_all.new.stands e) _ (c.trace_all.ensures e l) (c.loop-t.invariant.stands e l);
-  under_way = λ e l. subst (λ now. IsUnderWay c.args.scale (coder_pins c.args.pins.now e)
-      (column c.args.rounds.now e) now
-      (c.loop-t.t + 1) (stand_at c.trace_all.new.stands e))
-      (sym (column-set c.loop-t.rounds e c.loop-t.t c.trace_all.result))
-      (goes_further c.args.scale (coder_pins c.args.pins.now e) (column c.args.rounds.now e) (column c.loop-t.rounds e)
-      c.loop-t.t (get_or (get_or c.args.marks.now c.loop-t.t []) e 0) (stand_at c.loop-t.stands e)
-      (stand_at c.trace_all.new.stands e) (get_or c.trace_all.result e (pos 0)) (within e) (long e)
-      (c.requires.walked.marks_are c.loop-t.t e (omega arith) (omega (arith, c.loop-t.invariant.long)) l) (next e l)
-      (c.loop-t.invariant.under_way e l));
+pub loop-i-preserved : goal.loop-i-preserved
+loop-i-preserved c = record {
+  long = length-set c.loop-i.decided i row ∙ c.loop-i.invariant.long;
+  left = λ k l. get_or-set_other c.loop-i.decided i k row [] (λ e. absurd (omega (arith, l, e)))
+      ∙ c.loop-i.invariant.left k (omega (arith, l));
+  syncs = syncs_written c.args.decided.now c.loop-i.decided i row within c.move_symbols.ensures.sync
+      c.loop-i.invariant.syncs;
+  moved = moved_more (λ k. moved_in (get_or c.args.decided.now k []) (get_or c.loop-i.decided k []))
+      (λ k. moved_in (get_or c.args.decided.now k []) (get_or (slice_set c.loop-i.decided i row) k [])) i
+      c.loop-i.moved c.move_symbols.result
+      (λ k l. ap (moved_in (get_or c.args.decided.now k [])) (get_or-set_other c.loop-i.decided i k row []
+      (λ e. absurd (omega (arith, l, e))))) c.loop-i.invariant.moved
+      (c.move_symbols.ensures.moved
+      ∙ ap₂ moved_in (c.loop-i.invariant.left i (omega arith)) (sym (get_or-set_same c.loop-i.decided i row [] within)));
+  few = omega (arith, c.loop-i.invariant.few, c.move_symbols.ensures.most);
+  still = λ e. ap (slice_set c.loop-i.decided i) (c.move_symbols.ensures.still (omega (arith, e)))
+      ∙ set-get_or c.loop-i.decided i [] ∙ c.loop-i.invariant.still (omega (arith, e));
+  stands = λ e l. subst (λ t. IsStand t (stand_at c.trace_turned-path.new.stands e)) next
+      (c.trace_turned-path.ensures.stands (69 * i) e l (c.loop-i.invariant.stands e l));
+  under_way = λ pins sums walked begun e l. segment_traced c.args.scale i (69 * i + 69 - 69 * i) pins c.args.marks.now
+      c.args.heard.now c.loop-i.decided c.trace_turned-path.result row sums c.loop-i.stands
+      c.trace_turned-path.new.stands (omega arith) c.loop-i-test.true same walked c.trace_turned-path.ensures
+      c.move_symbols.ensures.data e l (c.loop-i.invariant.under_way pins sums walked begun e l);
 }
   where
-    within : (e : ℕ) → c.loop-t.t < length (column c.args.rounds.now e)
-    within e = omega (arith, length-column c.args.rounds.now e, c.loop-t.invariant.long)
+    i : ℕ
+    i = c.loop-i.i
 
-    long : (e : ℕ) → length (column c.loop-t.rounds e) ≡ length (column c.args.rounds.now e)
-    long e = length-column c.loop-t.rounds e ∙ c.loop-t.invariant.long ∙ sym (length-column c.args.rounds.now e)
+    row : List ℤ
+    row = c.move_symbols.new.segment
 
-    symbol : (e : ℕ) → get_or (get_or c.loop-t.rounds c.loop-t.t []) e (pos 0)
-        ≡ get_or (column c.args.rounds.now e) c.loop-t.t (pos 0)
-    symbol e =
-        ap (λ round. get_or round e (pos 0)) (c.loop-t.invariant.left c.loop-t.t (omega arith))
-        ∙ sym (symbol_in_column c.args.rounds.now e c.loop-t.t (omega (arith, c.loop-t.invariant.long)))
+    same : length c.loop-i.decided ≡ length c.args.heard.now
+    same = c.loop-i.invariant.long ∙ c.requires.same
 
-    next : (e : ℕ) → e < 12 → IsNext c.args.scale (get_or (column c.args.rounds.now e) c.loop-t.t (pos 0))
-        (get_or (get_or c.args.marks.now c.loop-t.t []) e 0) (stand_at c.loop-t.stands e)
-        (stand_at c.trace_all.new.stands e) (get_or c.trace_all.result e (pos 0))
-    next e l =
-        subst (λ v. IsNext c.args.scale v (get_or (get_or c.args.marks.now c.loop-t.t []) e 0)
-        (stand_at c.loop-t.stands e) (stand_at c.trace_all.new.stands e) (get_or c.trace_all.result e (pos 0)))
-        (symbol e) (c.trace_all.ensures e (omega arith))
+    within : c.loop-i.i < length c.loop-i.decided
+    within = omega (arith, same, c.loop-i-test.true)
+
+    next : 69 * c.loop-i.i + 69 ≡ 69 * (c.loop-i.i + 1)
+    next = omega arith
+
+-- where all symbols were walked over
+arrived : (c : goal.After-total) (pins : List (List ℕ)) (sums : ℕ → List (List ℕ))
+    → AreWalked c.args.scale 0 pins c.args.heard.now sums c.args.marks.now → AreStarts pins sums c.args.stands
+    → (e : ℕ) → e < 12
+    → AreLeastPinned c.args.scale 1 (coder_pins pins e) (coder_symbols c.args.heard.now e)
+    (coder_symbols c.loop-i.decided e)
+    × (get_or c.loop-i.stands.cost e 0
+    ≡ cost c.args.scale (coder_symbols c.args.heard.now e)
+    (least_pinned_levels c.args.scale (coder_pins pins e) (coder_symbols c.args.heard.now e)))
+arrived c pins sums walked begun e l =
+    let same : length c.loop-i.decided ≡ length c.args.heard.now = c.loop-i.invariant.long ∙ c.requires.same in
+    arrives c.args.scale (coder_pins pins e) (coder_symbols c.args.heard.now e) (coder_symbols c.loop-i.decided e)
+    (69 * c.loop-i.i) (stand_at c.loop-i.stands e) (omega (arith, length-coder c.args.heard.now e))
+    (omega (arith, same, length-coder c.args.heard.now e, length-coder c.loop-i.decided e))
+    (c.loop-i.invariant.under_way pins sums walked begun e l)
 
 pub returns-clause-paths : goal.returns-clause-paths
-returns-clause-paths c e l =
-    (arrives c.args.scale (coder_pins c.args.pins.now e) (column c.args.rounds.now e) (column c.loop-t.rounds e)
-    c.loop-t.t (stand_at c.loop-t.stands e)
-    (omega (arith, length-column c.args.rounds.now e, c.loop-t.invariant.long))
-    (length-column c.loop-t.rounds e ∙ c.loop-t.invariant.long ∙ sym (length-column c.args.rounds.now e))
-    (c.loop-t.invariant.under_way e l)).0
+returns-clause-paths c pins sums room walked begun = record {
+  long = c.loop-i.invariant.long;
+  syncs = c.loop-i.invariant.syncs;
+  coders = λ e l. (arrived c pins sums walked begun e l).0;
+}
 
-pub returns-clause-costs : goal.returns-clause-costs
-returns-clause-costs c e l =
-    (arrives c.args.scale (coder_pins c.args.pins.now e) (column c.args.rounds.now e) (column c.loop-t.rounds e)
-    c.loop-t.t (stand_at c.loop-t.stands e)
-    (omega (arith, length-column c.args.rounds.now e, c.loop-t.invariant.long))
-    (length-column c.loop-t.rounds e ∙ c.loop-t.invariant.long ∙ sym (length-column c.args.rounds.now e))
-    (c.loop-t.invariant.under_way e l)).1
+pub returns-clause-cost : goal.returns-clause-cost
+unfolding pinned_cost pinned_coder_cost
+returns-clause-cost c pins sums room walked begun =
+    c.total.ensures
+    ∙ ap sum (map-range_same (λ e. get_or c.loop-i.stands.cost e 0) (pinned_coder_cost c.args.scale pins c.args.heard.now) 0 12
+    (λ e a b. (arrived c pins sums walked begun e (omega (arith, b))).1))
 
-pub returns-clause-most : goal.returns-clause-most
-returns-clause-most c e l =
-    let stand = c.loop-t.invariant.stands e (omega arith) in
-    omega (arith, stand.cost, c.loop-t.invariant.long)
+pub returns-clause-moved : goal.returns-clause-moved
+unfolding rows_moved
+returns-clause-moved c =
+    let all : c.loop-i.i ≡ length c.args.decided.now = omega (arith, c.requires.same) in
+    c.loop-i.invariant.moved
+    ∙ ap (λ n. sum (map (λ k. moved_in (get_or c.args.decided.now k []) (get_or c.loop-i.decided k []))
+    (range_with_len 0 n))) all

@@ -1,9 +1,10 @@
-use Rattle.std.proofs.Common.{◌≡◌, ◌≢◌, ◌⊎◌, inl, inr, ℕ, ◌+◌, ◌<◌, List, [], get_or, replicate, sym, subst, arith}
+use Rattle.std.proofs.Common.{◌≡◌, ◌≢◌, ◌⊎◌, inl, inr, ℕ, ◌+◌, ◌<◌, List, [], get_or, replicate, sym, subst, arith, ap}
+use Rattle.std.proofs.Common.{◌∙◌, length, rules}
 use Rattle.std.proofs.lemmas.Bool.{cases_eq}
-use Rattle.std.proofs.lemmas.List.{get_or-replicate}
+use Rattle.std.proofs.lemmas.List.{get_or-replicate, get_or_default}
 use Rattle.dtx_pins.specs.Pins.{pin_at}
-use Rattle.dtx_pins.specs.declared.forth.Stand.{Stand}
-use Rattle.dtx_pins.specs.Trace.{IsStand, IsStart, stand_at}
+use Rattle.dtx_pins.specs.declared.start.Stand.{Stand}
+use Rattle.dtx_pins.specs.Trace.{IsStand, IsStart, stand_at, x2_of}
 use Rattle.dtx_pins.proofs.start.starts.Goals as goal
 
 none : (k x : ℕ) → k < 16 → get_or (replicate 16 x) k 0 ≡ x
@@ -30,21 +31,24 @@ loop-e-preserved c = record {
   stands = λ k l. stand k l (cases_eq k c.loop-e.e);
 }
   where
-    begun : IsStart (pin_at (get_or c.args.pins.now 0 []) c.loop-e.e) (get_or c.args.behind.now c.loop-e.e [])
+    long : length c.args.first.now ≡ 12
+    long = search rules
+
+    begun : IsStart (pin_at c.args.first.now c.loop-e.e) (get_or c.args.behind.now c.loop-e.e [])
         (stand_at c.put_stand.new.stands c.loop-e.e)
     begun =
-        subst (IsStart (pin_at (get_or c.args.pins.now 0 []) c.loop-e.e) (get_or c.args.behind.now c.loop-e.e []))
+        subst (IsStart (pin_at c.args.first.now c.loop-e.e) (get_or c.args.behind.now c.loop-e.e []))
         (sym c.put_stand.ensures.written)
-        (c.start_of.ensures (pin_at (get_or c.args.pins.now 0 []) c.loop-e.e) (sym c.first_x2.ensures))
+        (c.start_of.ensures (pin_at c.args.first.now c.loop-e.e)
+        (ap x2_of (get_or_default c.args.first.now c.loop-e.e 4 0 (omega (arith, long))) ∙ sym c.first_x2.ensures))
 
     by_coder : (k : ℕ) → k < c.loop-e.e + 1 → (k ≡ c.loop-e.e) ⊎ (k ≢ c.loop-e.e)
-        → IsStart (pin_at (get_or c.args.pins.now 0 []) k) (get_or c.args.behind.now k [])
-        (stand_at c.put_stand.new.stands k)
+        → IsStart (pin_at c.args.first.now k) (get_or c.args.behind.now k []) (stand_at c.put_stand.new.stands k)
     by_coder k l (inl e) =
-        subst (λ k. IsStart (pin_at (get_or c.args.pins.now 0 []) k) (get_or c.args.behind.now k [])
+        subst (λ k. IsStart (pin_at c.args.first.now k) (get_or c.args.behind.now k [])
         (stand_at c.put_stand.new.stands k)) (sym e) begun
     by_coder k l (inr n) =
-        subst (IsStart (pin_at (get_or c.args.pins.now 0 []) k) (get_or c.args.behind.now k []))
+        subst (IsStart (pin_at c.args.first.now k) (get_or c.args.behind.now k []))
         (sym (c.put_stand.ensures.others k n)) (c.loop-e.invariant.starts k (omega arith))
 
     stand : (k : ℕ) → k < 16 → (k ≡ c.loop-e.e) ⊎ (k ≢ c.loop-e.e) → IsStand 0 (stand_at c.put_stand.new.stands k)

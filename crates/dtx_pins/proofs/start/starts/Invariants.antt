@@ -5,6 +5,6 @@ use Rattle.dtx_pins.proofs.start.starts.Given as goal
 
 abbrev pub invariant-loop-e : goal.invariant-loop-e
 invariant-loop-e l = record {
-  starts : (k : ℕ) → k < l.e → IsStart (pin_at (get_or l.pins 0 []) k) (get_or l.behind k []) (stand_at l.stands k);
+  starts : (k : ℕ) → k < l.e → IsStart (pin_at l.first k) (get_or l.behind k []) (stand_at l.stands k);
   stands : (k : ℕ) → k < 16 → IsStand 0 (stand_at l.stands k);
 }

@@ -1,6 +1,6 @@
 use Rattle.std.proofs.Common.{◌≡◌, ◌*◌, ◌≤◌, get_or, map, sum}
 use Rattle.std.specs.List.{range_with_len}
-use Rattle.dtx_pins.proofs.field.total.Given as goal
+use Rattle.dtx_pins.proofs.forth.total.Given as goal
 
 abbrev pub invariant-loop-e : goal.invariant-loop-e
 invariant-loop-e l = record {
