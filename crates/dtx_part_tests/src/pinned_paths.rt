@@ -1,7 +1,8 @@
 //! A segment whose least paths under pins were found by trying all: each coder has six symbols of its own, and the pins
-//! behind them leave one way on.
+//! behind them leave one way on. And the same segment where all pairs are known, so that one way is left from each of
+//! eight beginnings.
 
-ghost use Rattle.std.specs.Prelude.{◌<◌};
+ghost use Rattle.std.specs.Prelude.{◌≡◌, ◌<◌, length};
 
 use crate::expect::expect_none;
 use dtx_pins::Pinned;
@@ -27,7 +28,7 @@ static SYMBOLS: [[i8; 6]; CODERS] = [
 ];
 
 /// The pins of these steps. Those of the later steps are (t + e) modulo 4, at step t of coder e.
-static PINS: [[u8; 6]; CODERS] = [
+static PINS: [[u16; 6]; CODERS] = [
     [255, 4, 255, 4, 255, 4],
     [255, 1, 255, 0, 2, 0],
     [3, 0, 2, 0, 4, 0],
@@ -42,24 +43,43 @@ static PINS: [[u8; 6]; CODERS] = [
     [0, 0, 3, 3, 3, 0],
 ];
 
-/// What the symbols have to become.
+/// What the symbols have to become, at scale 1. The numbers were found at the scale: these are an eighth of them.
 static DECIDED: [[i8; 6]; CODERS] = [
-    [8, -24, 24, 8, -8, -8],
-    [-56, -24, -40, -56, 24, 8],
-    [-8, -40, 24, 24, -40, -40],
-    [8, -56, 40, 24, 8, -8],
-    [8, 8, 8, -24, -8, -8],
-    [-40, 8, -8, -40, -8, 8],
-    [-8, 8, -40, -24, -24, -8],
-    [8, -40, 40, -24, -8, -40],
-    [8, 24, 8, -8, 24, -8],
-    [-40, -56, 24, -56, -40, 8],
-    [-24, -56, 8, -24, -8, -40],
-    [8, 24, -24, 40, -8, -40],
+    [1, -3, 3, 1, -1, -1],
+    [-7, -3, -5, -7, 3, 1],
+    [-1, -5, 3, 3, -5, -5],
+    [1, -7, 5, 3, 1, -1],
+    [1, 1, 1, -3, -1, -1],
+    [-5, 1, -1, -5, -1, 1],
+    [-1, 1, -5, -3, -3, -1],
+    [1, -5, 5, -3, -1, -5],
+    [1, 3, 1, -1, 3, -1],
+    [-5, -7, 3, -7, -5, 1],
+    [-3, -7, 1, -3, -1, -5],
+    [1, 3, -3, 5, -1, -5],
 ];
 
 /// The sum of the costs of the twelve paths.
 const COST: u64 = 452_836;
+
+/// What they have to become where all pairs are known: `PINS` modulo 4 at the first six steps.
+static TOLD: [[i8; 6]; CODERS] = [
+    [-3, -5, 5, 1, -3, -5],
+    [5, 7, -1, -7, 3, 1],
+    [7, 3, -5, -5, -5, -5],
+    [1, -7, 5, 3, 1, -1],
+    [3, -1, 5, 1, -3, -5],
+    [-5, 1, -1, -5, -1, 1],
+    [5, 1, -7, -7, -3, -1],
+    [1, -5, 5, -3, -1, -5],
+    [-3, -5, -7, 7, 3, -1],
+    [3, 1, -5, -7, -5, 1],
+    [5, 1, -7, 5, -1, -5],
+    [1, 3, -3, 5, -1, -5],
+];
+
+/// The sum of the costs of these paths.
+const TOLD_COST: u64 = 560_196;
 
 /// Where coder `e` has its symbol of step `t`, in the first segment of a field.
 fn place(t: usize, e: usize) -> usize
@@ -80,14 +100,17 @@ fn segment() -> [i8; SEGMENT] {
     segment
 }
 
-fn pins() -> [[u8; CODERS]; SEGMENT_ROUNDS] {
+/// The pins, each of the first six steps modulo `divisor`.
+fn pins(divisor: u16) -> [[u16; CODERS]; SEGMENT_ROUNDS]
+    requires { 0 < divisor }
+{
     let mut pins = [[0; CODERS]; SEGMENT_ROUNDS];
     for t in 0..SEGMENT_ROUNDS {
         for e in 0..CODERS {
             pins[t][e] = if t < 6 {
-                PINS[e][t]
+                PINS[e][t] % divisor
             } else {
-                ((t + e) % 4) as u8
+                ((t + e) % 4) as u16
             };
         }
     }
@@ -95,10 +118,10 @@ fn pins() -> [[u8; CODERS]; SEGMENT_ROUNDS] {
 }
 
 /// The first coder of which a symbol has not become what it should.
-fn first_wrong(segment: &[i8; SEGMENT]) -> Option<usize> {
+fn first_wrong(segment: &[i8; SEGMENT], symbols: &[[i8; 6]; CODERS]) -> Option<usize> {
     for e in 0..CODERS {
         for t in 0..6 {
-            if segment[place(t, e)] != DECIDED[e][t] {
+            if segment[place(t, e)] != symbols[e][t] {
                 return Some(e);
             }
         }
@@ -106,19 +129,25 @@ fn first_wrong(segment: &[i8; SEGMENT]) -> Option<usize> {
     None
 }
 
-/// The coder that is wrong, or their number where the sum of the costs is.
-fn wrong(pinned: &mut Pinned) -> Option<usize> {
-    let mut segments = [segment()];
-    if pinned.field(&pins()[..], &mut segments[..]) != COST {
+/// The coder that is wrong, or their number where the sum of the costs is, or how many symbols move: all, since none of
+/// them is 0.
+fn wrong(pins: &mut [[u16; CODERS]], symbols: &[[i8; 6]; CODERS], cost: u64) -> Option<usize>
+    requires { length pins.old ≡ SEGMENT_ROUNDS }
+{
+    let mut decided = [[0; SEGMENT]];
+    let decision = Pinned::scaled(SCALE).field(pins, &[segment()], &mut decided[..]);
+    if decision.cost != cost || decision.moved != (SEGMENT - SEGMENT_SYNC) as u64 {
         return Some(CODERS);
     }
-    first_wrong(&segments[0])
+    first_wrong(&decided[0], symbols)
 }
 
 #[test]
 fn least_paths_under_pins_are_found_and_the_first_of_equal_ones(rt: HostRuntime) {
-    match Pinned::scaled(rt.alloc(), SCALE) {
-        Ok(mut pinned) => expect_none(&rt, wrong(&mut pinned)),
-        Err(_) => expect_none(&rt, Some(0)),
-    }
+    expect_none(&rt, wrong(&mut pins(256)[..], &DECIDED, COST));
+}
+
+#[test]
+fn where_all_pairs_are_known_the_best_of_eight_beginnings_is_found(rt: HostRuntime) {
+    expect_none(&rt, wrong(&mut pins(4)[..], &TOLD, TOLD_COST));
 }

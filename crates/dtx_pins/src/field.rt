@@ -1,8 +1,7 @@
 //! All twelve coders of a field.
 
-ghost use Rattle.std.specs.Prelude.{◌≡◌, ℕ, ◌*◌, ◌<◌, ◌≤◌, [], ◌∷◌, length, slice_index_or, true};
-ghost use Rattle.std.specs.List.{range_with_len};
-ghost use Rattle.dtx_pins.specs.Pins.{AreAllTold};
+ghost use Rattle.std.specs.Prelude.{◌≡◌, ℕ, ◌*◌, ◌≤◌, [], length, slice_index_or, true};
+ghost use Rattle.dtx_pins.specs.Pins.{AreAllTold, pin_at};
 ghost use Rattle.dtx_pins.specs.Moved.{rows_moved};
 ghost use Rattle.dtx_pins.specs.PinnedField.{IsPinned, pinned_cost};
 ghost use Rattle.dtx_pins.specs.Walks.{AreWalked};
@@ -41,7 +40,7 @@ pub(crate) fn decide_field(
 
 /// The pins of the first step. Where there is no step, nothing is known.
 fn first_pins(pins: &[[u16; CODERS]]) -> [u16; CODERS]
-    ensures { result ≡ slice_index_or pins.now 0 (NO_PIN ∷ []) }
+    ensures { (e : ℕ) → pin_at result e ≡ pin_at (slice_index_or pins.now 0 []) e }
 {
     match pins.first() {
         Some(row) => *row,

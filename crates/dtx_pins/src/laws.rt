@@ -39,16 +39,24 @@ pub fn agreement()
     ensures { (pins levels : List ℕ) → IsTrue (agrees pins levels) ↔ Agrees pins levels }
 {}
 
-/// What `pinned` gives are segments decided under pins. No other list of segments with 832 symbols each is so decided.
+/// What `pinned` gives are segments decided under pins, at the scale of what was heard. No other list of segments with
+/// 832 symbols each is so decided. At each other scale too no more than one list is.
 pub fn one_pinning()
     ensures found { (scale : ℕ) (pins : List (List ℕ)) (segments : List (List ℤ))
-        → IsPinned scale pins segments (pinned scale pins segments) }
-    ensures one { (scale : ℕ) (pins : List (List ℕ)) (old new : List (List ℤ)) → IsPinned scale pins old new
+        → IsPinned scale scale pins segments segments (pinned scale pins segments) }
+    ensures one { (scale : ℕ) (pins : List (List ℕ)) (old new : List (List ℤ))
+        → IsPinned scale scale pins old old new
         → ((i : ℕ) → i < length new → length (slice_index_or new i []) ≡ SEGMENT) → new ≡ pinned scale pins old }
+    ensures alone { (scale at : ℕ) (pins : List (List ℕ)) (heard old new other : List (List ℤ))
+        → IsPinned scale at pins heard old new → IsPinned scale at pins heard old other
+        → ((i : ℕ) → i < length new → length (slice_index_or new i []) ≡ SEGMENT)
+        → ((i : ℕ) → i < length other → length (slice_index_or other i []) ≡ SEGMENT) → new ≡ other }
 {}
 
-/// The symbols of the twelve coders move by what their least paths under pins cost, in the sum of the squares.
+/// At the scale of what was heard the symbols of the twelve coders are off it by what their least paths under pins cost,
+/// in the sum of the squares.
 pub fn cost_of_pinning()
-    ensures { (scale : ℕ) (pins : List (List ℕ)) (old new : List (List ℤ)) → IsPinned scale pins old new
-        → coders_distance old new CODERS ≡ pinned_cost scale pins old }
+    ensures { (scale : ℕ) (pins : List (List ℕ)) (heard old new : List (List ℤ))
+        → IsPinned scale scale pins heard old new
+        → coders_distance heard new CODERS ≡ pinned_cost scale pins heard }
 {}
