@@ -1,5 +1,5 @@
-use Rattle.std.proofs.Common.{◌≡◌, ℕ, ℤ, pos, ◌+◌, ◌-◌, ◌*◌, ◌%◌, ◌<◌, ◌≤◌, [], get_or, sym, ap, ◌∙◌, subst, arith}
-use Rattle.dtx_pins.specs.Trace.{IsNext, IsTraced, stand_at, turned_place}
+use Rattle.std.proofs.Common.{◌≡◌, ℕ, pos, ◌+◌, ◌-◌, ◌*◌, ◌%◌, ◌<◌, [], get_or, sym, ap, ◌∙◌, subst, arith}
+use Rattle.dtx_pins.specs.Trace.{IsNext, stand_at, turned_place}
 use Rattle.dtx_pins.proofs.TracedSteps.{stands_further, stands_within, traced_more, turned_back}
 use Rattle.dtx_pins.proofs.forth.trace_segment.Goals as goal
 
