@@ -1,5 +1,5 @@
-use Rattle.std.proofs.Common.{◌≡◌, ◌≢◌, ℕ, ℤ, pos, ◌+◌, ◌*◌, ◌<◌, ◌≤◌, ◌⊎◌, inl, inr, ◌+ℤ◌, ◌≤ℤ◌, List, get_or, length, slice_set, refl, sym}
-use Rattle.std.proofs.Common.{ap, ap₂, ◌∙◌, subst, w8, arith, rules}
+use Rattle.std.proofs.Common.{◌≡◌, ◌≢◌, ℕ, ℤ, pos, ◌+◌, ◌*◌, ◌<◌, ◌≤◌, ◌⊎◌, inl, inr, ◌+ℤ◌, ◌≤ℤ◌, List}
+use Rattle.std.proofs.Common.{get_or, length, slice_set, refl, sym, ap, ap₂, ◌∙◌, subst, w8, arith, rules}
 use mir.Val.{SFits}
 use Rattle.std.proofs.lemmas.Bool.{cases_eq}
 use Rattle.std.proofs.lemmas.Int.{to_z-of_z}
