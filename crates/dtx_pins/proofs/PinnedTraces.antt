@@ -1,6 +1,6 @@
 -- The walk on, one symbol further.
-use Rattle.std.proofs.Common.{◌≡◌, ◌≢◌, ℕ, zero, suc, ℤ, pos, ◌+◌, ◌-◌, ◌*◌, ◌/◌, ◌%◌, ◌<◌, ◌≤◌, ◌⊎◌, inl, inr, List, []}
-use Rattle.std.proofs.Common.{◌∷◌, ◌++◌, length, take, drop, min, append-nil, append_assoc, get_or, map, take_all, refl}
+use Rattle.std.proofs.Common.{◌≡◌, ℕ, zero, suc, ℤ, pos, ◌+◌, ◌-◌, ◌*◌, ◌/◌, ◌%◌, ◌<◌, ◌≤◌, ◌⊎◌, inl, inr, List, []}
+use Rattle.std.proofs.Common.{◌∷◌, ◌++◌, length, take, drop, append-nil, append_assoc, get_or, map, take_all, refl}
 use Rattle.std.proofs.Common.{sym, ap, ap₂, ◌∙◌, subst, arith}
 use Rattle.std.proofs.lemmas.Bool.{cases_lt}
 use Rattle.std.proofs.lemmas.List.{drop_all, drop_more, get_or-append_right, get_or-map, get_or_append_left}
@@ -13,7 +13,7 @@ use Rattle.dtx_pins.specs.LeastPinned.{IsLeastPinned, least_pinned_levels}
 use Rattle.dtx_pins.specs.PinnedField.{AreLeastPinned}
 use Rattle.dtx_pins.specs.Pins.{pin_at}
 use Rattle.dtx_pins.specs.Steps.{level_by, number_of}
-use Rattle.dtx_pins.specs.Trace.{IsNext, IsStand, IsStart, IsTraced, state_of}
+use Rattle.dtx_pins.specs.Trace.{IsNext, IsStart, IsTraced, state_of}
 use Rattle.dtx_pins.specs.Walks.{AreLeastCosts, AreLeastSums, IsMark}
 use Rattle.dtx_pins.proofs.LeastPinnedLemmas.{least_pinned_levels_are}
 use Rattle.dtx_pins.proofs.PinnedPaths.{IsBestLevel, IsLeastFrom, best_level, nothing_least, one_more}
@@ -186,8 +186,8 @@ goes_on scale pins symbols now t heard marks written (suc n) old new l e f m tra
     (goes_further scale pins symbols now (t + n) (marks n) traced.0 new (written n) (omega (arith, l))
     (f n (omega arith)) (m n (omega arith))
     (subst (λ v. IsNext scale v (marks n) traced.0 new (written n)) (sym (e n (omega arith))) traced.2)
-    (goes_on scale pins symbols now t heard marks written n old traced.0 (omega (arith, l)) (λ k o. e k (omega (arith, o)))
-    (λ k o. f k (omega (arith, o))) (λ k o. m k (omega (arith, o))) traced.1 u))
+    (goes_on scale pins symbols now t heard marks written n old traced.0 (omega (arith, l))
+    (λ k o. e k (omega (arith, o))) (λ k o. f k (omega (arith, o))) (λ k o. m k (omega (arith, o))) traced.1 u))
 
 -- where the symbols that are written so far stand elsewhere
 pub goes_elsewhere : (scale : ℕ) (pins : List ℕ) (symbols now other : List ℤ) (t : ℕ) (stand : Stand)

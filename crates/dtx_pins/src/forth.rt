@@ -61,8 +61,8 @@ pub(crate) fn forward(
     }
 }
 
-/// The symbols of the least paths in a segment. In it the coders have moved on by four places `turn` times. Each turn has
-/// its own loop, for speed.
+/// The symbols of the least paths in a segment. In it the coders have moved on by four places `turn` times. Each turn
+/// has its own loop, for speed.
 fn trace_turned(
     scale: u8,
     marks: &[[u16; CODERS]],

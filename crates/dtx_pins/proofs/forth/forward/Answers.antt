@@ -1,12 +1,12 @@
-use Rattle.std.proofs.Common.{◌≡◌, ℕ, ℤ, ◌+◌, ◌-◌, ◌*◌, ◌<◌, ◌≤◌, List, [], get_or, length, map, slice_set, sum, refl, sym, ap}
-use Rattle.std.proofs.Common.{ap₂, ◌∙◌, subst, arith}
+use Rattle.std.proofs.Common.{◌≡◌, ℕ, ℤ, pos, ◌+◌, ◌-◌, ◌*◌, ◌<◌, List, [], get_or, length, map, slice_set, sum, refl}
+use Rattle.std.proofs.Common.{sym, ap, ap₂, ◌∙◌, subst, arith}
 use Rattle.std.specs.List.{range_with_len}
 use Rattle.std.proofs.lemmas.List.{get_or-set_same, get_or-set_other, length-set, set-get_or}
 use Rattle.dtx_lists.proofs.Range.{map-range_same}
 use Rattle.dtx_soft.specs.Coders.{coder_symbols}
 use Rattle.dtx_soft.specs.Paths.{cost}
-use Rattle.dtx_soft.proofs.Places.{syncs_written}
 use Rattle.dtx_soft.proofs.SoftenedLemmas.{length-coder}
+use Rattle.dtx_soft.proofs.WritesLemmas.{by_entry}
 use Rattle.dtx_pins.specs.LeastPinned.{least_pinned_levels}
 use Rattle.dtx_pins.specs.Moved.{moved_in, rows_moved}
 use Rattle.dtx_pins.specs.PinnedField.{AreLeastPinned, pinned_coder_cost, pinned_cost}
@@ -39,15 +39,17 @@ loop-i-preserved c = record {
   long = length-set c.loop-i.decided i row ∙ c.loop-i.invariant.long;
   left = λ k l. get_or-set_other c.loop-i.decided i k row [] (λ e. absurd (omega (arith, l, e)))
       ∙ c.loop-i.invariant.left k (omega (arith, l));
-  syncs = syncs_written c.args.decided.now c.loop-i.decided i row within c.move_symbols.ensures.sync
-      c.loop-i.invariant.syncs;
+  syncs = λ j k l. by_entry (λ j row. get_or row k (pos 0) ≡ get_or (get_or c.args.decided.now j []) k (pos 0))
+      c.loop-i.decided i row within (c.move_symbols.ensures.sync k l ∙ c.loop-i.invariant.syncs i k l) j []
+      (λ n. c.loop-i.invariant.syncs j k l);
   moved = moved_more (λ k. moved_in (get_or c.args.decided.now k []) (get_or c.loop-i.decided k []))
       (λ k. moved_in (get_or c.args.decided.now k []) (get_or (slice_set c.loop-i.decided i row) k [])) i
       c.loop-i.moved c.move_symbols.result
       (λ k l. ap (moved_in (get_or c.args.decided.now k [])) (get_or-set_other c.loop-i.decided i k row []
       (λ e. absurd (omega (arith, l, e))))) c.loop-i.invariant.moved
       (c.move_symbols.ensures.moved
-      ∙ ap₂ moved_in (c.loop-i.invariant.left i (omega arith)) (sym (get_or-set_same c.loop-i.decided i row [] within)));
+      ∙ ap₂ moved_in (c.loop-i.invariant.left i (omega arith))
+      (sym (get_or-set_same c.loop-i.decided i row [] within)));
   few = omega (arith, c.loop-i.invariant.few, c.move_symbols.ensures.most);
   still = λ e. ap (slice_set c.loop-i.decided i) (c.move_symbols.ensures.still (omega (arith, e)))
       ∙ set-get_or c.loop-i.decided i [] ∙ c.loop-i.invariant.still (omega (arith, e));
@@ -101,7 +103,8 @@ pub returns-clause-cost : goal.returns-clause-cost
 unfolding pinned_cost pinned_coder_cost
 returns-clause-cost c pins sums room walked begun =
     c.total.ensures
-    ∙ ap sum (map-range_same (λ e. get_or c.loop-i.stands.cost e 0) (pinned_coder_cost c.args.scale pins c.args.heard.now) 0 12
+    ∙ ap sum (map-range_same (λ e. get_or c.loop-i.stands.cost e 0)
+    (pinned_coder_cost c.args.scale pins c.args.heard.now) 0 12
     (λ e a b. (arrived c pins sums walked begun e (omega (arith, b))).1))
 
 pub returns-clause-moved : goal.returns-clause-moved

@@ -1,4 +1,4 @@
-use Rattle.std.proofs.Common.{◌≡◌, ℕ, ℤ, pos, ◌+◌, ◌<◌, ◌≤◌, ◌⊎◌, inl, inr, cond, List, get_or, length, map, slice_set, sum}
+use Rattle.std.proofs.Common.{◌≡◌, ℕ, ℤ, pos, ◌+◌, ◌<◌, ◌≤◌, ◌⊎◌, inl, inr, cond, List, get_or, map, slice_set, sum}
 use Rattle.std.proofs.Common.{sym, ap, ap₂, ◌∙◌, w8, arith, rules}
 use mir.Val.{SFits}
 use Rattle.std.specs.List.{range_with_len}

@@ -1,6 +1,5 @@
-use Rattle.std.proofs.Common.{◌≡◌, ◌≢◌, ℕ, ℤ, pos, ◌+◌, ◌*◌, ◌<◌, ◌≤◌, ◌⊎◌, inl, inr, ◌+ℤ◌, ◌≤ℤ◌, List, get_or, length, slice_set, refl, sym}
-use Rattle.std.proofs.Common.{ap, ap₂, ◌∙◌, subst, to_z, w8, arith, rules}
-use mir.Syntax.{w16}
+use Rattle.std.proofs.Common.{◌≡◌, ◌≢◌, ℕ, ℤ, pos, ◌+◌, ◌*◌, ◌<◌, ◌≤◌, ◌⊎◌, inl, inr, ◌+ℤ◌, ◌≤ℤ◌, List}
+use Rattle.std.proofs.Common.{get_or, length, slice_set, refl, sym, ap, ap₂, ◌∙◌, subst, w8, arith, rules}
 use mir.Val.{SFits}
 use Rattle.std.proofs.lemmas.Bool.{cases_eq}
 use Rattle.std.proofs.lemmas.Int.{to_z-of_z}
@@ -49,8 +48,10 @@ pub square-requires-clause-to : goal.square-requires-clause-to
 square-requires-clause-to c = subst (λ v. v ≤ℤ pos 126) (sym (scaled c).symbol) (scaled c).to
 
 pub overflow_add-stands : goal.overflow_add-stands
-overflow_add-stands c = record { fits = sum (c.requires.stands e c.loop-e-test.true).cost
-    (c.loop-e.invariant.left e (omega arith) c.loop-e-test.true).cost c.square.ensures.small }
+overflow_add-stands c = record {
+  fits = sum (c.requires.stands e c.loop-e-test.true).cost
+      (c.loop-e.invariant.left e (omega arith) c.loop-e-test.true).cost c.square.ensures.small;
+}
   where
     e : ℕ
     e = c.loop-e.e

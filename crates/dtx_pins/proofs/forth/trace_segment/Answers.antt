@@ -1,5 +1,5 @@
-use Rattle.std.proofs.Common.{◌≡◌, ℕ, ℤ, pos, ◌+◌, ◌-◌, ◌*◌, ◌%◌, ◌<◌, ◌≤◌, [], get_or, sym, ap, ◌∙◌, subst, arith}
-use Rattle.dtx_pins.specs.Trace.{IsNext, IsTraced, stand_at, turned_place}
+use Rattle.std.proofs.Common.{◌≡◌, ℕ, pos, ◌+◌, ◌-◌, ◌*◌, ◌%◌, ◌<◌, [], get_or, sym, ap, ◌∙◌, subst, arith}
+use Rattle.dtx_pins.specs.Trace.{IsNext, stand_at, turned_place}
 use Rattle.dtx_pins.proofs.TracedSteps.{stands_further, stands_within, traced_more, turned_back}
 use Rattle.dtx_pins.proofs.forth.trace_segment.Goals as goal
 
@@ -31,7 +31,8 @@ loop-r-preserved c = record {
     earlier turn k r e l = omega arith
 
     written : (e : ℕ) → e < 12
-        → get_or c.trace_all-symbols.result e (pos 0) ≡ get_or c.write_turned.new.segment (turned_place turn r e) (pos 0)
+        → get_or c.trace_all-symbols.result e (pos 0)
+        ≡ get_or c.write_turned.new.segment (turned_place turn r e) (pos 0)
     written e l =
         sym (c.write_turned.ensures.symbols ((e + 12 - 4 * turn) % 12) (omega arith)
         ∙ ap (λ e. get_or c.trace_all-symbols.result e (pos 0)) (turned_back turn e c.requires.turn l))
