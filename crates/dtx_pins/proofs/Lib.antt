@@ -10,3 +10,5 @@ pub mod WeightTests
 pub mod SymbolDepths
 pub mod PinnedUnits
 pub mod PinnedSteps
+pub mod ToldPaths
+pub mod ToldLanes

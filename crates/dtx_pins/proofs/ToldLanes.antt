@@ -1,0 +1,101 @@
+-- A coder's path, one step further.
+use Rattle.std.proofs.Common.{◌≡◌, ◌≢◌, ◌⊎◌, inl, inr, ℕ, ℤ, pos, ◌+◌, ◌*◌, ◌<◌, ◌≤◌, ◌+ℤ◌, ◌-ℤ◌, ◌≤ℤ◌, neg_ℤ, Bool}
+use Rattle.std.proofs.Common.{true, false, cond, nat_eq, List, get_or, sym, ap, ◌∙◌, subst, arith}
+use Rattle.std.proofs.lemmas.Bool.{cases_eq}
+use Rattle.std.proofs.lemmas.Int.{ints}
+use Rattle.dtx_pins.specs.declared.told.Excess.{Excess}
+use Rattle.dtx_pins.specs.declared.told.Lane.{Lane}
+use Rattle.dtx_pins.specs.Told.{IsLane, IsWithin, lane_after, signed}
+
+-- a number is k, or its negative where the bit is 1
+pub record IsSigned (bit k : ℕ) (number : ℤ) : Type 0 where
+  pub is : number ≡ signed bit (pos k)
+  pub from : pos 0 ≤ℤ (number +ℤ pos k)
+  pub to : number ≤ℤ pos k
+
+pub is_signed : (bit k : ℕ) (number whole : ℤ) → number ≡ signed bit whole → whole ≡ pos k → IsSigned bit k number
+is_signed bit k number whole e f = record {
+  is = e ∙ ap (signed bit) f;
+  from = subst (λ x. pos 0 ≤ℤ (x +ℤ pos k)) (sym (e ∙ ap (signed bit) f)) (from (nat_eq bit 0));
+  to = subst (λ x. x ≤ℤ pos k) (sym (e ∙ ap (signed bit) f)) (to (nat_eq bit 0));
+}
+  where
+    from : (t : Bool) → pos 0 ≤ℤ (cond t (pos k) (neg_ℤ (pos k)) +ℤ pos k)
+    from true = omega (arith, ints)
+    from false = omega (arith, ints)
+
+    to : (t : Bool) → cond t (pos k) (neg_ℤ (pos k)) ≤ℤ pos k
+    to true = omega (arith, ints)
+    to false = omega (arith, ints)
+
+pub same_excess : (a b : Excess ℤ) → a.far ≡ b.far → a.near ≡ b.near → a.other_near ≡ b.other_near
+    → a.both ≡ b.both → a.other_both ≡ b.other_both → a ≡ b
+same_excess a b e f g h i =
+    ap (λ (x : ℤ). record { far = x; near = a.near; other_near = a.other_near; both = a.both;
+    other_both = a.other_both; }) e
+    ∙ ap (λ (x : ℤ). record { far = b.far; near = x; other_near = a.other_near; both = a.both;
+    other_both = a.other_both; }) f
+    ∙ ap (λ (x : ℤ). record { far = b.far; near = b.near; other_near = x; both = a.both;
+    other_both = a.other_both; }) g
+    ∙ ap (λ (x : ℤ). record { far = b.far; near = b.near; other_near = b.other_near; both = x;
+    other_both = a.other_both; }) h
+    ∙ ap (λ (x : ℤ). record { far = b.far; near = b.near; other_near = b.other_near; both = b.both;
+    other_both = x; }) i
+
+pub same_lane : (a b : Lane) → a.former ≡ b.former → a.q1 ≡ b.q1 → a.q0 ≡ b.q0 → a.more ≡ b.more → a ≡ b
+same_lane a b e f g h =
+    ap (λ (x : ℕ). record { former = x; q1 = a.q1; q0 = a.q0; more = a.more; }) e
+    ∙ ap (λ (x : ℕ). record { former = b.former; q1 = x; q0 = a.q0; more = a.more; }) f
+    ∙ ap (λ (x : ℕ). record { former = b.former; q1 = b.q1; q0 = x; more = a.more; }) g
+    ∙ ap (λ (x : Excess ℤ). record { former = b.former; q1 = b.q1; q0 = b.q0; more = x; }) h
+
+-- the first n coders have taken a step, and the others have not
+pub record AreLanesAfter (scale : ℕ) (pins : List ℕ) (symbols : List ℤ) (n : ℕ) (old new : ℕ → Lane) : Type 0 where
+  pub done : (k : ℕ) → k < n → new k ≡ lane_after scale (get_or pins k 0) (get_or symbols k (pos 0)) (old k)
+  pub small : (m k : ℕ) → k < n → IsLane m (old k) → IsLane (m + 1) (new k)
+  pub left : (k : ℕ) → n ≤ k → new k ≡ old k
+
+pub lane_stepped : (scale : ℕ) (pins : List ℕ) (symbols : List ℤ) (n : ℕ) (old now new : ℕ → Lane)
+    → ((k : ℕ) → k ≢ n → new k ≡ now k)
+    → new n ≡ lane_after scale (get_or pins n 0) (get_or symbols n (pos 0)) (old n)
+    → ((m : ℕ) → IsLane m (old n) → IsLane (m + 1) (new n)) → AreLanesAfter scale pins symbols n old now
+    → AreLanesAfter scale pins symbols (n + 1) old new
+lane_stepped scale pins symbols n old now new others step small h = record {
+  done = λ k l. done k l (cases_eq k n);
+  small = λ m k l lane. small_at m k l lane (cases_eq k n);
+  left = λ k l. others k (λ e. absurd (omega arith)) ∙ h.left k (omega arith);
+}
+  where
+    done : (k : ℕ) → k < n + 1 → (k ≡ n) ⊎ (k ≢ n)
+        → new k ≡ lane_after scale (get_or pins k 0) (get_or symbols k (pos 0)) (old k)
+    done k l (inl e) =
+        subst (λ k. new k ≡ lane_after scale (get_or pins k 0) (get_or symbols k (pos 0)) (old k)) (sym e) step
+    done k l (inr d) = others k d ∙ h.done k (omega arith)
+
+    small_at : (m k : ℕ) → k < n + 1 → IsLane m (old k) → (k ≡ n) ⊎ (k ≢ n) → IsLane (m + 1) (new k)
+    small_at m k l lane (inl e) =
+        subst (λ k. IsLane (m + 1) (new k)) (sym e) (small m (subst (λ k. IsLane m (old k)) e lane))
+    small_at m k l lane (inr d) = subst (IsLane (m + 1)) (sym (others k d)) (h.small m k (omega arith) lane)
+
+-- fewer steps
+pub within_more : (m n : ℕ) (more : Excess ℤ) → m ≤ n → IsWithin m more → IsWithin n more
+within_more m n more l h = record {
+  far_from = (let a = h.far_from in omega (arith, ints, a));
+  far_to = (let a = h.far_to in omega (arith, ints, a));
+  near_from = (let a = h.near_from in omega (arith, ints, a));
+  near_to = (let a = h.near_to in omega (arith, ints, a));
+  other_near_from = (let a = h.other_near_from in omega (arith, ints, a));
+  other_near_to = (let a = h.other_near_to in omega (arith, ints, a));
+  both_from = (let a = h.both_from in omega (arith, ints, a));
+  both_to = (let a = h.both_to in omega (arith, ints, a));
+  other_both_from = (let a = h.other_both_from in omega (arith, ints, a));
+  other_both_to = (let a = h.other_both_to in omega (arith, ints, a));
+}
+
+pub lane_more : (m n : ℕ) (lane : Lane) → m ≤ n → IsLane m lane → IsLane n lane
+lane_more m n lane l h = record {
+  former = h.former;
+  q1 = h.q1;
+  q0 = h.q0;
+  small = within_more m n lane.more l h.small;
+}
