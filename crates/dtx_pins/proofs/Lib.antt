@@ -12,3 +12,4 @@ pub mod PinnedUnits
 pub mod PinnedSteps
 pub mod ToldPaths
 pub mod ToldLanes
+pub mod ToldSums

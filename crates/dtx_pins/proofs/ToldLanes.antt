@@ -1,11 +1,14 @@
 -- A coder's path, one step further.
-use Rattle.std.proofs.Common.{◌≡◌, ◌≢◌, ◌⊎◌, inl, inr, ℕ, ℤ, pos, ◌+◌, ◌*◌, ◌<◌, ◌≤◌, ◌+ℤ◌, ◌-ℤ◌, ◌≤ℤ◌, neg_ℤ, Bool}
+use Rattle.std.proofs.Common.{◌≡◌, ◌≢◌, ◌⊎◌, inl, inr, ℕ, zero, suc, ℤ, pos, ◌+◌, ◌*◌, ◌<◌, ◌≤◌, ◌+ℤ◌, ◌≤ℤ◌, neg_ℤ}
+use Rattle.std.proofs.Common.{Bool}
+use mir.Syntax.{w16}
+use Rattle.dtx_soft.proofs.WrapsLemmas.{read, sum_read}
 use Rattle.std.proofs.Common.{true, false, cond, nat_eq, List, get_or, sym, ap, ◌∙◌, subst, arith}
 use Rattle.std.proofs.lemmas.Bool.{cases_eq}
 use Rattle.std.proofs.lemmas.Int.{ints}
 use Rattle.dtx_pins.specs.declared.told.Excess.{Excess}
 use Rattle.dtx_pins.specs.declared.told.Lane.{Lane}
-use Rattle.dtx_pins.specs.Told.{IsLane, IsWithin, lane_after, signed}
+use Rattle.dtx_pins.specs.Told.{IsLane, IsWithin, if_bit, lane_after, signed}
 
 -- a number is k, or its negative where the bit is 1
 pub record IsSigned (bit k : ℕ) (number : ℤ) : Type 0 where
@@ -99,3 +102,47 @@ lane_more m n lane l h = record {
   q0 = h.q0;
   small = within_more m n lane.more l h.small;
 }
+
+-- a sum of a lane and what a step adds to it, in numbers of 16 bits
+pub summed : (a b x : ℤ) → pos 0 ≤ℤ (a +ℤ pos 16320) → a ≤ℤ pos 16320 → pos 0 ≤ℤ (b +ℤ pos 240) → b ≤ℤ pos 240
+    → b ≡ x → read w16 (read w16 a +ℤ read w16 b) ≡ a +ℤ x
+summed a b x from to b_from b_to e =
+    sum_read w16 (read w16 a) (read w16 b) a b (omega (arith, ints)) (omega (arith, ints)) (omega (arith, ints))
+    ∙ ap (λ x. a +ℤ x) e
+
+-- a number where a bit is 1
+pub record IsBit (bit k : ℕ) (number whole : ℤ) : Type 0 where
+  pub is : number ≡ if_bit bit whole
+  pub from : pos 0 ≤ℤ (number +ℤ pos k)
+  pub to : number ≤ℤ pos k
+
+pub is_bit : (bit k : ℕ) (number raw whole : ℤ) → number ≡ if_bit bit raw → raw ≡ whole
+    → pos 0 ≤ℤ (whole +ℤ pos k) → whole ≤ℤ pos k → IsBit bit k number whole
+is_bit bit k number raw whole e f from to = record {
+  is = e ∙ ap (if_bit bit) f;
+  from = subst (λ x. pos 0 ≤ℤ (x +ℤ pos k)) (sym (e ∙ ap (if_bit bit) f)) (from_of (nat_eq bit 0));
+  to = subst (λ x. x ≤ℤ pos k) (sym (e ∙ ap (if_bit bit) f)) (to_of (nat_eq bit 0));
+}
+  where
+    from_of : (t : Bool) → pos 0 ≤ℤ (cond t (pos 0) whole +ℤ pos k)
+    from_of true = omega (arith, ints)
+    from_of false = from
+
+    to_of : (t : Bool) → cond t (pos 0) whole ≤ℤ pos k
+    to_of true = omega (arith, ints)
+    to_of false = to
+
+-- each of two, and of eight
+pub two : (P : ℕ → Type 0) → P 0 → P 1 → (k : ℕ) → k < 2 → P k
+two P a b zero l = a
+two P a b (suc zero) l = b
+two P a b (suc (suc k)) l = absurd (omega arith)
+
+pub eight : (P : ℕ → ℕ → ℕ → Type 0) → P 0 0 0 → P 0 0 1 → P 0 1 0 → P 0 1 1 → P 1 0 0 → P 1 0 1 → P 1 1 0 → P 1 1 1
+    → (p a b : ℕ) → p < 2 → a < 2 → b < 2 → P p a b
+eight P c d e f g h i j p a b l m n =
+    two (λ p. P p a b) (two (λ a. P 0 a b) (two (P 0 0) c d b n) (two (P 0 1) e f b n) a m)
+    (two (λ a. P 1 a b) (two (P 1 0) g h b n) (two (P 1 1) i j b n) a m) p l
+
+pub each_two : (P : ℕ → ℕ → Type 0) → P 0 0 → P 0 1 → P 1 0 → P 1 1 → (p a : ℕ) → p < 2 → a < 2 → P p a
+each_two P c d e f p a l m = two (λ p. P p a) (two (P 0) c d a m) (two (P 1) e f a m) p l

@@ -107,6 +107,15 @@ no_excess = record {
   other_both = pos 0;
 }
 
+-- the path at its beginning
+abbrev pub beginning : Lane
+beginning = record {
+  former = 0;
+  q1 = 0;
+  q0 = 0;
+  more = no_excess;
+}
+
 -- the same path with new sums
 abbrev pub emptied : Lane → Lane
 emptied lane = record {
@@ -124,12 +133,19 @@ told_mark pin = 85 * pin + 21760 * ((pin + 2) % 4)
 abbrev pub if_bit : ℕ → ℤ → ℤ
 if_bit bit number = if bit == 0 then pos 0 else number
 
+-- what it weighs less since Z2 is another one
+abbrev pub less_with_z2 : ℕ → ℕ → Excess ℤ → ℤ
+less_with_z2 a b more =
+    (pos 16 *ℤ more.far) -ℤ (if_bit a (pos 32 *ℤ more.both) +ℤ if_bit b (pos 32 *ℤ more.other_both))
+
+-- what it weighs less since Z0 is another one
+abbrev pub less_beside : ℕ → ℕ → Excess ℤ → ℤ
+less_beside a b more = if_bit a (pos 4 *ℤ more.near) +ℤ if_bit b (pos 4 *ℤ more.other_near)
+
 -- What the path from another beginning weighs less. It begins with another Z2 where p is 1, with another q1 where a is
 -- 1, and with another q0 where b is 1. `near` and `both` are over the even steps.
 abbrev pub less_by : ℕ → ℕ → ℕ → Excess ℤ → ℤ
-less_by p a b more =
-    if_bit p ((pos 16 *ℤ more.far) -ℤ (if_bit a (pos 32 *ℤ more.both) +ℤ if_bit b (pos 32 *ℤ more.other_both)))
-    +ℤ (if_bit a (pos 4 *ℤ more.near) +ℤ if_bit b (pos 4 *ℤ more.other_near))
+less_by p a b more = if_bit p (less_with_z2 a b more) +ℤ less_beside a b more
 
 -- the sums with `near` over the steps that are an even number of steps behind the beginning
 abbrev pub from_beginning : ℕ → Excess ℤ → Excess ℤ

@@ -4,12 +4,13 @@
 //! for each coder, and sums say by how much the others come to more.
 
 ghost use Rattle.std.specs.Prelude.{◌≡◌, ◌≢◌, ℕ, pos, ◌+◌, ◌-◌, ◌*◌, ◌/◌, ◌%◌, ◌<◌, ◌≤◌, ◌+ℤ◌, ◌-ℤ◌, ◌≤ℤ◌, neg_ℤ};
-ghost use Rattle.std.specs.Prelude.{[], length, slice_index, slice_index_or, ◌==◌, if◌then◌else◌};
+ghost use Rattle.std.specs.Prelude.{FitsSigned, [], length, slice_index, slice_index_or, ◌==◌, if◌then◌else◌};
+ghost use Rattle.std.specs.Int.{w8};
 ghost use Rattle.dtx_pins.specs.Pins.{AreAllTold, pin_at};
 ghost use Rattle.dtx_pins.specs.Steps.{cost_at};
 ghost use Rattle.dtx_pins.specs.Told.{IsLane, IsWithin, both_by, emptied, excess_at, excess_or, excess_with, far_by};
 ghost use Rattle.dtx_pins.specs.Told.{lane_after, lane_at, lane_behind, less_by, near_by, no_excess, signed, told_mark};
-ghost use Rattle.dtx_pins.specs.Told.{from_beginning, if_bit};
+ghost use Rattle.dtx_pins.specs.Told.{beginning, from_beginning, if_bit, less_beside, less_with_z2};
 ghost use Rattle.dtx_pins.specs.Walks.{AreWalked};
 
 use crate::lanes::lanes_of;
@@ -92,7 +93,7 @@ pub(crate) fn told_sums(
 
 /// The beginnings of the paths.
 fn beginning() -> Told
-    ensures { (e : ℕ) → e < LANES → IsLane 0 (lane_at result e) }
+    ensures { (e : ℕ) → e < LANES → lane_at result e ≡ beginning }
 {
     Told {
         former: [0; LANES],
@@ -143,6 +144,7 @@ fn told_segment(
     ensures marks { (r e : ℕ) → r < SEGMENT_ROUNDS → e < CODERS → slice_index (slice_index_or cells.new r []) e
         ≡ told_mark (pin_at (slice_index_or cells.old r []) e) }
     ensures long { length cells.new ≡ length cells.old }
+    ensures bytes { (k : ℕ) → FitsSigned w8 (slice_index_or heard.now k (pos 0)) }
 {
     for r in 0..SEGMENT_ROUNDS {
         let pins = cells[r];
@@ -442,9 +444,28 @@ fn less_by(p: u8, a: u8, b: u8, more: &Excess<i32>) -> i32
     ensures from { pos 0 ≤ℤ (result +ℤ pos 1_000_000_000) }
     ensures to { result ≤ℤ pos 1_000_000_000 }
 {
+    if_bit(p, less_with_z2(a, b, more)) + less_beside(a, b, more)
+}
+
+/// What it weighs less since Z2 is another one.
+fn less_with_z2(a: u8, b: u8, more: &Excess<i32>) -> i32
+    requires { IsWithin (SEGMENT_ROUNDS * FIELD_PACKETS) more.now }
+    ensures less { result ≡ less_with_z2 a b more.now }
+    ensures from { pos 0 ≤ℤ (result +ℤ pos 420_000_000) }
+    ensures to { result ≤ℤ pos 420_000_000 }
+{
     let both = if_bit(a, 32 * more.both) + if_bit(b, 32 * more.other_both);
-    let near = if_bit(a, 4 * more.near) + if_bit(b, 4 * more.other_near);
-    if_bit(p, 16 * more.far - both) + near
+    16 * more.far - both
+}
+
+/// What it weighs less since Z0 is another one.
+fn less_beside(a: u8, b: u8, more: &Excess<i32>) -> i32
+    requires { IsWithin (SEGMENT_ROUNDS * FIELD_PACKETS) more.now }
+    ensures less { result ≡ less_beside a b more.now }
+    ensures from { pos 0 ≤ℤ (result +ℤ pos 42_000_000) }
+    ensures to { result ≤ℤ pos 42_000_000 }
+{
+    if_bit(a, 4 * more.near) + if_bit(b, 4 * more.other_near)
 }
 
 /// A number where a bit is 1, and else 0.
