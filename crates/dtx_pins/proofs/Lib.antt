@@ -13,3 +13,4 @@ pub mod PinnedSteps
 pub mod ToldPaths
 pub mod ToldLanes
 pub mod ToldSums
+pub mod ToldWalks

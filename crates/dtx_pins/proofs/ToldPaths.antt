@@ -1,7 +1,7 @@
 -- The one path from each beginning where all pairs are known.
 use Rattle.std.proofs.Common.{◌≡◌, ℕ, zero, suc, ℤ, pos, ◌+◌, ◌*◌, ◌/◌, ◌%◌, ◌<◌, ◌≤◌, List, [], ◌∷◌, length, drop}
-use Rattle.std.proofs.Common.{refl, sym, ap, ◌∙◌, subst, get_or, arith}
-use Rattle.std.proofs.lemmas.List.{drop-drop, get_or-drop}
+use Rattle.std.proofs.Common.{refl, sym, ap, ◌∙◌, subst, get_or, length-drop, arith}
+use Rattle.std.proofs.lemmas.List.{get_or-drop}
 use Rattle.dtx_soft.specs.Paths.{next_state, squared, symbol_at}
 use Rattle.dtx_soft.proofs.LeastPathLemmas.{next_small}
 use Rattle.dtx_soft.proofs.WritesLemmas.{four}
@@ -9,7 +9,7 @@ use Rattle.dtx_pins.specs.Pins.{pin_at}
 use Rattle.dtx_pins.specs.Steps.{IsBest, cost_at, level_by, number_of, square_of, through, told_number}
 use Rattle.dtx_pins.specs.Told.{told_mark}
 use Rattle.dtx_pins.specs.Walks.{AreLeastCosts, IsLeastCost, IsMark}
-use Rattle.dtx_pins.proofs.PinnedPaths.{best_level, cost_more, nothing_cost, onto}
+use Rattle.dtx_pins.proofs.PinnedPaths.{best_level, cost_more, nothing_cost}
 
 -- the level behind a former Z2 and a state that gives a pin's pair
 abbrev pub told_level : ℕ → ℕ → ℕ → ℕ
@@ -55,27 +55,20 @@ pub told_least : (scale : ℕ) (pins : List ℕ) (symbols : List ℤ) (former st
     → former < 2 → state < 4 → IsLeastCost scale pins symbols former state (told_cost scale pins symbols former state)
 told_least scale pins [] former state told f m = nothing_cost scale pins former state
 told_least scale pins (v ∷ symbols) former state told f m =
-    subst (IsLeastCost scale pins (v ∷ symbols) former state) value
-    (cost_more scale v pins symbols behind former state (told_level (pin_at pins 0) former state) least m
-    (best_level scale (pin_at pins 0) v behind former state (told_number (pin_at pins 0) former) f m
-    (only_level (square_of scale v) (pin_at pins 0) behind former state (told 0 (omega arith)))))
-  where
-    behind : List (List ℕ)
-    behind = listed (told_cost scale (drop 1 pins) symbols)
-
-    least : AreLeastCosts scale (drop 1 pins) symbols (listed (told_cost scale (drop 1 pins) symbols))
-    least p s l k =
+    let behind = listed (told_cost scale (drop 1 pins) symbols) in
+    let z = told_level (pin_at pins 0) former state in
+    let least : AreLeastCosts scale (drop 1 pins) symbols (listed (told_cost scale (drop 1 pins) symbols)) = λ p s l k.
         subst (IsLeastCost scale (drop 1 pins) symbols p s)
         (sym (listed_at (told_cost scale (drop 1 pins) symbols) p s l k))
         (told_least scale (drop 1 pins) symbols p s (told_behind pins 1 (length symbols) (λ t n. told t (omega arith)))
-        l k)
-
-    value : onto scale v (listed (told_cost scale (drop 1 pins) symbols)) state (told_level (pin_at pins 0) former state)
-        ≡ told_cost scale pins (v ∷ symbols) former state
-    value = ap (λ x. squared v (symbol_at scale (told_level (pin_at pins 0) former state)) + x)
-        (listed_at (told_cost scale (drop 1 pins) symbols) (told_level (pin_at pins 0) former state / 4)
-        (next_state state (told_level (pin_at pins 0) former state)) (omega arith)
-        (next_small state (told_level (pin_at pins 0) former state) m))
+        l k) in
+    subst (IsLeastCost scale pins (v ∷ symbols) former state)
+    (ap (λ x. squared v (symbol_at scale z) + x)
+    (listed_at (told_cost scale (drop 1 pins) symbols) (z / 4) (next_state state z) (omega arith)
+    (next_small state z m)))
+    (cost_more scale v pins symbols behind former state z least m
+    (best_level scale (pin_at pins 0) v behind former state (told_number (pin_at pins 0) former) f m
+    (only_level (square_of scale v) (pin_at pins 0) behind former state (told 0 (omega arith)))))
 
 pub told_costs : (scale : ℕ) (pins : List ℕ) (symbols : List ℤ) → AreTold pins (length symbols)
     → AreLeastCosts scale pins symbols (listed (told_cost scale pins symbols))

@@ -8,7 +8,7 @@ use Rattle.std.proofs.lemmas.Int.{ints}
 use Rattle.std.proofs.Math.Nat.{mul-add}
 use Rattle.dtx_soft.specs.Gaps.{unit}
 use Rattle.dtx_soft.specs.Paths.{next_state, squared, symbol_at}
-use Rattle.dtx_soft.specs.Squares.{seen}
+use Rattle.dtx_soft.proofs.LeastPathLemmas.{next_small}
 use Rattle.dtx_pins.specs.declared.told.Excess.{Excess}
 use Rattle.dtx_pins.specs.declared.told.Lane.{Lane}
 use Rattle.dtx_pins.specs.Pins.{pin_at}
@@ -55,7 +55,7 @@ told_units scale pins [] former state l f m bytes = refl
 told_units scale pins (v ∷ symbols) former state l f m bytes =
     sum_units (unit scale) (length symbols) (4 * square_of scale v 0) _ _ _ _ (base_of scale symbols)
     (is_weighed scale v z l (omega (arith, ints, byte)) (omega (arith, ints, byte)) small).units
-    (told_units scale (drop 1 pins) symbols (z / 4) (next_state state z) l (omega arith) (next_is state z m)
+    (told_units scale (drop 1 pins) symbols (z / 4) (next_state state z) l (omega arith) (next_small state z m)
     (bytes_behind v symbols bytes))
   where
     z : ℕ
@@ -66,10 +66,6 @@ told_units scale pins (v ∷ symbols) former state l f m bytes =
 
     small : told_level (pin_at pins 0) former state < 8
     small = omega arith
-
-    next_is : (state z : ℕ) → state < 4 → next_state state z < 4
-    unfolding next_state
-    next_is state z m = omega arith
 
 -- ---- one step
 
@@ -161,34 +157,26 @@ flipped_weight scale pins symbols lane p a b =
     told_weight scale pins symbols ((lane.former + p) % 2) (2 * ((lane.q1 + a) % 2) + (lane.q0 + b) % 2)
 
 -- where it goes on
-flipped_more : (scale : ℕ) (pins : List ℕ) (v : ℤ) (symbols : List ℤ) (lane : Lane) (p a b : ℕ) → HasBits lane
-    → pin_at pins 0 < 4 → p < 2 → a < 2 → b < 2
-    → flipped_weight scale pins (v ∷ symbols) lane p a b
-    ≡ weight scale v (4 * (((lane.former + pin_at pins 0 / 2) % 2 + p) % 2) + 2 * (pin_at pins 0 % 2)
-    + (lane.q1 + a) % 2)
-    + flipped_weight scale (drop 1 pins) symbols (lane_after scale (pin_at pins 0) v lane) p b a
-flipped_more scale pins v symbols lane p a b bits l m n o =
-    opened (pin_at pins 0) lane.former lane.q1 lane.q0 l bits.former bits.q1 bits.q0
-  where
-    opened : (pin former q1 q0 : ℕ) → pin < 4 → former < 2 → q1 < 2 → q0 < 2
-        → weight scale v (told_level pin ((former + p) % 2) (2 * ((q1 + a) % 2) + (q0 + b) % 2))
-        + told_weight scale (drop 1 pins) symbols
-        (told_level pin ((former + p) % 2) (2 * ((q1 + a) % 2) + (q0 + b) % 2) / 4)
-        (next_state (2 * ((q1 + a) % 2) + (q0 + b) % 2)
-        (told_level pin ((former + p) % 2) (2 * ((q1 + a) % 2) + (q0 + b) % 2)))
-        ≡ weight scale v (4 * (((former + pin / 2) % 2 + p) % 2) + 2 * (pin % 2) + (q1 + a) % 2)
-        + told_weight scale (drop 1 pins) symbols (((former + pin / 2) % 2 + p) % 2)
-        (2 * (((pin % 2 + q0) % 2 + b) % 2) + (q1 + a) % 2)
-    unfolding next_state
-    opened pin former q1 q0 l f g h =
-        let z : told_level pin ((former + p) % 2) (2 * ((q1 + a) % 2) + (q0 + b) % 2)
-            ≡ 4 * (((former + pin / 2) % 2 + p) % 2) + 2 * (pin % 2) + (q1 + a) % 2 = omega arith in
-        let z2 : told_level pin ((former + p) % 2) (2 * ((q1 + a) % 2) + (q0 + b) % 2) / 4
-            ≡ ((former + pin / 2) % 2 + p) % 2 = omega (arith, z) in
-        let state : next_state (2 * ((q1 + a) % 2) + (q0 + b) % 2)
-            (told_level pin ((former + p) % 2) (2 * ((q1 + a) % 2) + (q0 + b) % 2))
-            ≡ 2 * (((pin % 2 + q0) % 2 + b) % 2) + (q1 + a) % 2 = omega (arith, z) in
-        ap₂ (λ x y. x + y) (ap (weight scale v) z) (ap₂ (told_weight scale (drop 1 pins) symbols) z2 state)
+flipped_more : (scale : ℕ) (pins : List ℕ) (v : ℤ) (symbols : List ℤ) (p a b pin former q1 q0 : ℕ) → pin < 4
+    → former < 2 → q1 < 2 → q0 < 2 → p < 2 → a < 2 → b < 2
+    → weight scale v (told_level pin ((former + p) % 2) (2 * ((q1 + a) % 2) + (q0 + b) % 2))
+    + told_weight scale pins symbols
+    (told_level pin ((former + p) % 2) (2 * ((q1 + a) % 2) + (q0 + b) % 2) / 4)
+    (next_state (2 * ((q1 + a) % 2) + (q0 + b) % 2)
+    (told_level pin ((former + p) % 2) (2 * ((q1 + a) % 2) + (q0 + b) % 2)))
+    ≡ weight scale v (4 * (((former + pin / 2) % 2 + p) % 2) + 2 * (pin % 2) + (q1 + a) % 2)
+    + told_weight scale pins symbols (((former + pin / 2) % 2 + p) % 2)
+    (2 * (((pin % 2 + q0) % 2 + b) % 2) + (q1 + a) % 2)
+unfolding next_state
+flipped_more scale pins v symbols p a b pin former q1 q0 l f g h m n o =
+    let z : told_level pin ((former + p) % 2) (2 * ((q1 + a) % 2) + (q0 + b) % 2)
+        ≡ 4 * (((former + pin / 2) % 2 + p) % 2) + 2 * (pin % 2) + (q1 + a) % 2 = omega arith in
+    let z2 : told_level pin ((former + p) % 2) (2 * ((q1 + a) % 2) + (q0 + b) % 2) / 4
+        ≡ ((former + pin / 2) % 2 + p) % 2 = omega (arith, z) in
+    let state : next_state (2 * ((q1 + a) % 2) + (q0 + b) % 2)
+        (told_level pin ((former + p) % 2) (2 * ((q1 + a) % 2) + (q0 + b) % 2))
+        ≡ 2 * (((pin % 2 + q0) % 2 + b) % 2) + (q1 + a) % 2 = omega (arith, z) in
+    ap₂ (λ x y. x + y) (ap (weight scale v) z) (ap₂ (told_weight scale pins symbols) z2 state)
 
 bits_after : (scale pin : ℕ) (v : ℤ) (lane : Lane) → HasBits lane → HasBits (lane_after scale pin v lane)
 bits_after scale pin v lane bits = record {
@@ -210,11 +198,12 @@ told_difference scale pins [] lane p a b from to told bytes bits l m n = refl
 told_difference scale pins (v ∷ symbols) lane p a b from to told bytes bits l m n =
     subst (λ x. (pos x +ℤ less_at_end p b a symbols end.more)
     ≡ (pos (flipped_weight scale pins (v ∷ symbols) lane 0 0 0) +ℤ less_by p a b lane.more))
-    (sym (flipped_more scale pins v symbols lane p a b bits (told 0 (omega arith)) l m n))
+    (sym (flipped_more scale (drop 1 pins) v symbols p a b (pin_at pins 0) lane.former lane.q1 lane.q0
+    (told 0 (omega arith)) bits.former bits.q1 bits.q0 l m n))
     (subst (λ x. (pos (weight scale v (z p a) + flipped_weight scale (drop 1 pins) symbols next p b a)
     +ℤ less_at_end p b a symbols end.more) ≡ (pos x +ℤ less_by p a b lane.more))
-    (sym (flipped_more scale pins v symbols lane 0 0 0 bits (told 0 (omega arith)) (omega arith) (omega arith)
-    (omega arith)))
+    (sym (flipped_more scale (drop 1 pins) v symbols 0 0 0 (pin_at pins 0) lane.former lane.q1 lane.q0
+    (told 0 (omega arith)) bits.former bits.q1 bits.q0 (omega arith) (omega arith) (omega arith)))
     (both_steps (weight scale v (z p a)) (weight scale v (z 0 0))
     (flipped_weight scale (drop 1 pins) symbols next p b a) (flipped_weight scale (drop 1 pins) symbols next 0 0 0)
     (less_at_end p b a symbols end.more) (less_by p b a next.more) (less_by p a b lane.more)

@@ -62,7 +62,7 @@ lane_after scale pin symbol lane = record {
 }
 
 -- the path behind r steps, from their pins and symbols
-abbrev pub lane_behind : ℕ → (ℕ → ℕ) → (ℕ → ℤ) → ℕ → Lane → Lane
+unfoldable pub lane_behind : ℕ → (ℕ → ℕ) → (ℕ → ℤ) → ℕ → Lane → Lane
 lane_behind scale pins symbols zero lane = lane
 lane_behind scale pins symbols (suc r) lane =
     lane_after scale (pins r) (symbols r) (lane_behind scale pins symbols r lane)
