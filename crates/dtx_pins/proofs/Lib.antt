@@ -2,6 +2,7 @@ pub mod Agreements
 pub mod LeastPinnedLemmas
 pub mod PinnedFieldLemmas
 pub mod PinnedPaths
+pub mod SegmentRows
 pub mod PinnedWalks
 pub mod PinnedStarts
 pub mod PinnedTraces

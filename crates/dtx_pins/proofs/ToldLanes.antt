@@ -1,14 +1,16 @@
 -- A coder's path, one step further.
 use Rattle.std.proofs.Common.{◌≡◌, ◌≢◌, ◌⊎◌, inl, inr, ℕ, zero, suc, ℤ, pos, ◌+◌, ◌*◌, ◌<◌, ◌≤◌, ◌+ℤ◌, ◌≤ℤ◌, neg_ℤ}
-use Rattle.std.proofs.Common.{Bool}
+use Rattle.std.proofs.Common.{Bool, [], length}
 use mir.Syntax.{w16}
 use Rattle.dtx_soft.proofs.WrapsLemmas.{read, sum_read}
 use Rattle.std.proofs.Common.{true, false, cond, nat_eq, List, get_or, sym, ap, ◌∙◌, subst, arith}
 use Rattle.std.proofs.lemmas.Bool.{cases_eq}
 use Rattle.std.proofs.lemmas.Int.{ints}
+use Rattle.std.proofs.lemmas.List.{get_or_default}
+use Rattle.dtx_pins.specs.Pins.{pin_at}
 use Rattle.dtx_pins.specs.declared.told.Excess.{Excess}
 use Rattle.dtx_pins.specs.declared.told.Lane.{Lane}
-use Rattle.dtx_pins.specs.Told.{IsLane, IsWithin, if_bit, lane_after, signed}
+use Rattle.dtx_pins.specs.Told.{IsLane, IsWithin, beginning, emptied, excess_with, if_bit, lane_after, signed}
 
 -- a number is k, or its negative where the bit is 1
 pub record IsSigned (bit k : ℕ) (number : ℤ) : Type 0 where
@@ -146,3 +148,66 @@ eight P c d e f g h i j p a b l m n =
 
 pub each_two : (P : ℕ → ℕ → Type 0) → P 0 0 → P 0 1 → P 1 0 → P 1 1 → (p a : ℕ) → p < 2 → a < 2 → P p a
 each_two P c d e f p a l m = two (λ p. P p a) (two (P 0) c d a m) (two (P 1) e f a m) p l
+
+-- a pin that was not written over
+pub pin_kept : (old now : List (List ℕ)) (r e : ℕ) → r < 69 → e < 12 → r < length old
+    → ((i : ℕ) → i < length old → length (get_or old i []) ≡ 12) → ((i : ℕ) → r ≤ i → get_or now i [] ≡ get_or old i [])
+    → get_or (get_or now r []) e 0 ≡ pin_at (get_or old r []) e
+pin_kept old now r e m l within long left =
+    ap (λ row. get_or row e 0) (left r (omega arith))
+    ∙ get_or_default (get_or old r []) e 0 4 (omega (arith, long r within))
+
+-- sums that begin anew
+pub emptied_lane : (n : ℕ) (lane : Lane) → IsLane n lane → IsLane 0 (emptied lane)
+emptied_lane n lane h = record {
+  former = h.former;
+  q1 = h.q1;
+  q0 = h.q0;
+  small = record {
+    far_from = omega (arith, ints);
+    far_to = omega (arith, ints);
+    near_from = omega (arith, ints);
+    near_to = omega (arith, ints);
+    other_near_from = omega (arith, ints);
+    other_near_to = omega (arith, ints);
+    both_from = omega (arith, ints);
+    both_to = omega (arith, ints);
+    other_both_from = omega (arith, ints);
+    other_both_to = omega (arith, ints);
+  };
+}
+
+-- sums with those of the steps before them
+pub within_sum : (m n k : ℕ) (total more : Excess ℤ) → k ≡ m + n → IsWithin m total → IsWithin n more
+    → IsWithin k (excess_with total more)
+within_sum m n k total more e h g = record {
+  far_from = (let a = h.far_from in let b = g.far_from in omega (arith, ints, a, b, e));
+  far_to = (let a = h.far_to in let b = g.far_to in omega (arith, ints, a, b, e));
+  near_from = (let a = h.other_near_from in let b = g.near_from in omega (arith, ints, a, b, e));
+  near_to = (let a = h.other_near_to in let b = g.near_to in omega (arith, ints, a, b, e));
+  other_near_from = (let a = h.near_from in let b = g.other_near_from in omega (arith, ints, a, b, e));
+  other_near_to = (let a = h.near_to in let b = g.other_near_to in omega (arith, ints, a, b, e));
+  both_from = (let a = h.other_both_from in let b = g.both_from in omega (arith, ints, a, b, e));
+  both_to = (let a = h.other_both_to in let b = g.both_to in omega (arith, ints, a, b, e));
+  other_both_from = (let a = h.both_from in let b = g.other_both_from in omega (arith, ints, a, b, e));
+  other_both_to = (let a = h.both_to in let b = g.other_both_to in omega (arith, ints, a, b, e));
+}
+
+pub beginning_lane : IsLane 0 beginning
+beginning_lane = record {
+  former = omega arith;
+  q1 = omega arith;
+  q0 = omega arith;
+  small = record {
+    far_from = omega (arith, ints);
+    far_to = omega (arith, ints);
+    near_from = omega (arith, ints);
+    near_to = omega (arith, ints);
+    other_near_from = omega (arith, ints);
+    other_near_to = omega (arith, ints);
+    both_from = omega (arith, ints);
+    both_to = omega (arith, ints);
+    other_both_from = omega (arith, ints);
+    other_both_to = omega (arith, ints);
+  };
+}

@@ -1,5 +1,5 @@
 -- What paths from other beginnings weigh, where all pairs are known.
-use Rattle.std.proofs.Common.{◌≡◌, ℕ, zero, suc, ℤ, pos, ◌+◌, ◌*◌, ◌/◌, ◌%◌, ◌<◌, ◌≤◌, ◌+ℤ◌, ◌-ℤ◌, ◌*ℤ◌, ◌≤ℤ◌, Bool}
+use Rattle.std.proofs.Common.{◌≡◌, ℕ, zero, suc, ℤ, pos, ◌+◌, ◌*◌, ◌/◌, ◌%◌, ◌<◌, ◌≤◌, ◌-◌, ◌+ℤ◌, ◌-ℤ◌, ◌*ℤ◌, ◌≤ℤ◌, Bool}
 use Rattle.std.proofs.Common.{true, false, cond, nat_abs, nat_eq, List, [], ◌∷◌, length, drop, refl, sym, ap, ap₂, ◌∙◌, subst}
 use Rattle.std.proofs.Common.{get_or, w8, arith}
 use mir.Val.{SFits}
@@ -12,11 +12,12 @@ use Rattle.dtx_soft.proofs.LeastPathLemmas.{next_small}
 use Rattle.dtx_pins.specs.declared.told.Excess.{Excess}
 use Rattle.dtx_pins.specs.declared.told.Lane.{Lane}
 use Rattle.dtx_pins.specs.Pins.{pin_at}
-use Rattle.dtx_pins.specs.Steps.{level_by, square_of, told_number}
-use Rattle.dtx_pins.specs.Told.{both_by, far_by, if_bit, lane_after, less_by, near_by}
+use Rattle.dtx_pins.specs.Steps.{cost_at, square_of}
+use Rattle.dtx_pins.specs.Told.{beginning, both_by, far_by, from_beginning, if_bit, lane_after, less_by, near_by, no_excess}
+use Rattle.dtx_pins.specs.Walks.{AreLeastSums}
 use Rattle.dtx_pins.specs.Weights.{depth, ground, weight}
 use Rattle.dtx_pins.proofs.ToldLanes.{eight, each_two}
-use Rattle.dtx_pins.proofs.ToldPaths.{AreTold, told_behind, told_cost, told_level}
+use Rattle.dtx_pins.proofs.ToldPaths.{AreTold, listed, listed_at, told_behind, told_cost, told_costs, told_level}
 use Rattle.dtx_pins.proofs.WeightTests.{is_weighed}
 
 -- each symbol is a signed byte
@@ -239,3 +240,128 @@ told_difference scale pins (v ∷ symbols) lane p a b from to told bytes bits l 
         +ℤ (if_bit p (pos 16 *ℤ far_by scale z2 x1 q1 v) +ℤ if_bit a (pos 4 *ℤ near_by scale z2 x1 q1 v)))
         ≡ (pos (weight scale v z) +ℤ if_bit p (if_bit a (pos 32 *ℤ both_by scale z2 q1)))) (omega arith)
         (flips_to scale v z2 x1 q1 p a from to (bytes 0 (omega arith)) f g h l m)
+
+-- ---- where the sums stand at the end
+
+not : Bool → Bool
+not true = false
+not false = true
+
+picked : Bool → Excess ℤ → Excess ℤ
+picked t more = record {
+  far = more.far;
+  near = cond t more.near more.other_near;
+  other_near = cond t more.other_near more.near;
+  both = cond t more.both more.other_both;
+  other_both = cond t more.other_both more.both;
+}
+
+swapped : (x y : ℤ) → (x +ℤ y) ≡ (y +ℤ x)
+swapped x y = omega (arith, ints)
+
+less_picked : (t : Bool) (p a b : ℕ) (more : Excess ℤ) → less_by p b a (picked t more) ≡ less_by p a b (picked (not t) more)
+unfolding picked not
+less_picked true p a b more =
+    ap₂ (λ x y. if_bit p ((pos 16 *ℤ more.far) -ℤ x) +ℤ y) (swapped _ _) (swapped _ _)
+less_picked false p a b more =
+    ap₂ (λ x y. if_bit p ((pos 16 *ℤ more.far) -ℤ x) +ℤ y) (swapped _ _) (swapped _ _)
+
+is_even : ℕ → Bool
+is_even n = nat_eq (n % 2) 0
+
+even_next : (n : ℕ) → not (is_even n) ≡ is_even (suc n)
+unfolding not is_even
+even_next n = by_rest (n % 2) (suc n % 2) (omega arith) (omega arith)
+  where
+    by_rest : (m k : ℕ) → m < 2 → k ≡ 1 - m → not (nat_eq m 0) ≡ nat_eq k 0
+    by_rest zero k l e = ap (λ k. nat_eq k 0) (sym e)
+    by_rest (suc zero) k l e = ap (λ k. nat_eq k 0) (sym e)
+    by_rest (suc (suc m)) k l e = absurd (omega arith)
+
+less_is : (p a b : ℕ) (symbols : List ℤ) (more : Excess ℤ)
+    → less_at_end p a b symbols more ≡ less_by p a b (picked (is_even (length symbols)) more)
+unfolding picked is_even
+less_is p a b [] more = refl
+less_is p a b (v ∷ symbols) more =
+    less_is p b a symbols more ∙ less_picked (is_even (length symbols)) p a b more
+    ∙ ap (λ t. less_by p a b (picked t more)) (even_next (length symbols))
+
+less_from_beginning : (p a b segments : ℕ) (symbols : List ℤ) (more : Excess ℤ) → length symbols ≡ 69 * segments
+    → less_at_end p a b symbols more ≡ less_by p a b (from_beginning segments more)
+unfolding picked is_even
+less_from_beginning p a b segments symbols more e =
+    less_is p a b symbols more
+    ∙ ap (λ n. less_by p a b (picked (nat_eq n 0) more)) (parity (length symbols) segments e)
+  where
+    parity : (n k : ℕ) → n ≡ 69 * k → n % 2 ≡ k % 2
+    parity n k e = omega arith
+
+-- ---- sums that stand for the costs
+
+less_nothing : (p a b : ℕ) → p < 2 → a < 2 → b < 2 → less_by p a b no_excess ≡ pos 0
+less_nothing = eight (λ p a b. less_by p a b no_excess ≡ pos 0) refl refl refl refl refl refl refl refl
+
+-- the sum of one beginning, and what its path weighs
+sum_weight : (scale : ℕ) (pins : List ℕ) (symbols : List ℤ) (segments p s sum : ℕ) (more : Excess ℤ) → 0 < scale
+    → scale ≤ 18 → AreTold pins (length symbols) → AreBytes symbols → length symbols ≡ 69 * segments
+    → (lane_at_end scale pins symbols beginning).more ≡ more → p < 2 → s < 4
+    → pos sum ≡ (pos 1_000_000_000 -ℤ less_by p (s / 2) (s % 2) (from_beginning segments more))
+    → told_weight scale pins symbols p s + 1_000_000_000 ≡ told_weight scale pins symbols 0 0 + sum
+sum_weight scale pins symbols segments p s sum more from to told bytes long end l m e =
+    numbers (told_weight scale pins symbols p s) (told_weight scale pins symbols 0 0) sum _ _ _ difference
+    (less_nothing p (s / 2) (s % 2) l (omega arith) (omega arith))
+    (less_from_beginning p (s / 2) (s % 2) segments symbols (lane_at_end scale pins symbols beginning).more long
+    ∙ ap (λ more. less_by p (s / 2) (s % 2) (from_beginning segments more)) end) e
+  where
+    numbers : (w start sum : ℕ) (d c x : ℤ) → (pos w +ℤ d) ≡ (pos start +ℤ c) → c ≡ pos 0 → d ≡ x
+        → pos sum ≡ (pos 1_000_000_000 -ℤ x) → w + 1_000_000_000 ≡ start + sum
+    numbers w start sum d c x e f g h = omega (arith, ints, e, f, g, h)
+
+    state : 2 * ((0 + s / 2) % 2) + (0 + s % 2) % 2 ≡ s
+    state = omega arith
+
+    former : (0 + p) % 2 ≡ p
+    former = omega arith
+
+    difference : (pos (told_weight scale pins symbols p s) +ℤ less_at_end p (s / 2) (s % 2) symbols
+        (lane_at_end scale pins symbols beginning).more)
+        ≡ (pos (told_weight scale pins symbols 0 0) +ℤ less_by p (s / 2) (s % 2) no_excess)
+    difference =
+        ap₂ (λ former t. pos (told_weight scale pins symbols former t) +ℤ less_at_end p (s / 2) (s % 2) symbols
+        (lane_at_end scale pins symbols beginning).more) (sym former) (sym state)
+        ∙ told_difference scale pins symbols beginning p (s / 2) (s % 2) from to told bytes
+        (record { former = omega arith; q1 = omega arith; q0 = omega arith; }) l (omega arith) (omega arith)
+
+pub told_sums_are : (scale : ℕ) (pins : List ℕ) (symbols : List ℤ) (segments : ℕ) (more : Excess ℤ)
+    (sums : List (List ℕ)) → 0 < scale → scale ≤ 18 → AreTold pins (length symbols) → AreBytes symbols
+    → length symbols ≡ 69 * segments → (lane_at_end scale pins symbols beginning).more ≡ more
+    → ((p a b : ℕ) → p < 2 → a < 2 → b < 2 → pos (cost_at sums p (2 * a + b))
+    ≡ (pos 1_000_000_000 -ℤ less_by p a b (from_beginning segments more)))
+    → AreLeastSums scale pins symbols sums
+told_sums_are scale pins symbols segments more sums from to told bytes long end are = record {
+  costs = listed (told_cost scale pins symbols);
+  least = told_costs scale pins symbols told;
+  units = record {
+    base = base_of scale symbols + unit scale * told_weight scale pins symbols 0 0;
+    lift = 3584 * length symbols + 1_000_000_000;
+    each = λ p s l m. subst (λ cost. 4 * cost + unit scale * (3584 * length symbols + 1_000_000_000)
+        ≡ base_of scale symbols + unit scale * told_weight scale pins symbols 0 0 + unit scale * cost_at sums p s)
+        (sym (listed_at (told_cost scale pins symbols) p s l m))
+        (numbers (unit scale) _ _ _ _ _ _ (told_units scale pins symbols p s to l m bytes)
+        (sum_weight scale pins symbols segments p s (cost_at sums p s) more from to told bytes long end l m
+        (by_state p s l m)));
+  };
+}
+  where
+    numbers : (k n c b w start sum : ℕ) → 4 * c + k * n ≡ b + k * w → w + 1_000_000_000 ≡ start + sum
+        → 4 * c + k * (n + 1_000_000_000) ≡ b + k * start + k * sum
+    numbers k n c b w start sum e f =
+        let g : k * (w + 1_000_000_000) ≡ k * (start + sum) = ap (λ x. k * x) f in
+        omega (arith, e, g, mul-add k n 1_000_000_000, mul-add k w 1_000_000_000, mul-add k start sum)
+
+    by_state : (p s : ℕ) → p < 2 → s < 4 → pos (cost_at sums p s)
+        ≡ (pos 1_000_000_000 -ℤ less_by p (s / 2) (s % 2) (from_beginning segments more))
+    by_state p s l m =
+        subst (λ n. pos (cost_at sums p n)
+        ≡ (pos 1_000_000_000 -ℤ less_by p (s / 2) (s % 2) (from_beginning segments more))) (omega arith)
+        (are p (s / 2) (s % 2) l (omega arith) (omega arith))

@@ -144,7 +144,7 @@ fn told_segment(
     ensures marks { (r e : ℕ) → r < SEGMENT_ROUNDS → e < CODERS → slice_index (slice_index_or cells.new r []) e
         ≡ told_mark (pin_at (slice_index_or cells.old r []) e) }
     ensures long { length cells.new ≡ length cells.old }
-    ensures bytes { (k : ℕ) → FitsSigned w8 (slice_index_or heard.now k (pos 0)) }
+    ensures bytes { (k : ℕ) → k < SEGMENT → FitsSigned w8 (slice_index_or heard.now k (pos 0)) }
 {
     for r in 0..SEGMENT_ROUNDS {
         let pins = cells[r];
