@@ -1,7 +1,8 @@
 -- A coder's path, one step further.
 use Rattle.std.proofs.Common.{◌≡◌, ◌≢◌, ◌⊎◌, inl, inr, ℕ, zero, suc, ℤ, pos, ◌+◌, ◌*◌, ◌<◌, ◌≤◌, ◌+ℤ◌, ◌≤ℤ◌, neg_ℤ}
-use Rattle.std.proofs.Common.{Bool, [], length}
+use Rattle.std.proofs.Common.{Bool, [], length, w8}
 use mir.Syntax.{w16}
+use mir.Val.{SFits}
 use Rattle.dtx_soft.proofs.WrapsLemmas.{read, sum_read}
 use Rattle.std.proofs.Common.{true, false, cond, nat_eq, List, get_or, sym, ap, ◌∙◌, subst, arith}
 use Rattle.std.proofs.lemmas.Bool.{cases_eq}
@@ -59,16 +60,18 @@ pub record AreLanesAfter (scale : ℕ) (pins : List ℕ) (symbols : List ℤ) (n
   pub done : (k : ℕ) → k < n → new k ≡ lane_after scale (get_or pins k 0) (get_or symbols k (pos 0)) (old k)
   pub small : (m k : ℕ) → k < n → IsLane m (old k) → IsLane (m + 1) (new k)
   pub left : (k : ℕ) → n ≤ k → new k ≡ old k
+  pub bytes : (k : ℕ) → k < n → SFits w8 (get_or symbols k (pos 0))
 
 pub lane_stepped : (scale : ℕ) (pins : List ℕ) (symbols : List ℤ) (n : ℕ) (old now new : ℕ → Lane)
     → ((k : ℕ) → k ≢ n → new k ≡ now k)
     → new n ≡ lane_after scale (get_or pins n 0) (get_or symbols n (pos 0)) (old n)
-    → ((m : ℕ) → IsLane m (old n) → IsLane (m + 1) (new n)) → AreLanesAfter scale pins symbols n old now
-    → AreLanesAfter scale pins symbols (n + 1) old new
-lane_stepped scale pins symbols n old now new others step small h = record {
+    → ((m : ℕ) → IsLane m (old n) → IsLane (m + 1) (new n)) → SFits w8 (get_or symbols n (pos 0))
+    → AreLanesAfter scale pins symbols n old now → AreLanesAfter scale pins symbols (n + 1) old new
+lane_stepped scale pins symbols n old now new others step small byte h = record {
   done = λ k l. done k l (cases_eq k n);
   small = λ m k l lane. small_at m k l lane (cases_eq k n);
   left = λ k l. others k (λ e. absurd (omega arith)) ∙ h.left k (omega arith);
+  bytes = λ k l. byte_at k l (cases_eq k n);
 }
   where
     done : (k : ℕ) → k < n + 1 → (k ≡ n) ⊎ (k ≢ n)
@@ -76,6 +79,10 @@ lane_stepped scale pins symbols n old now new others step small h = record {
     done k l (inl e) =
         subst (λ k. new k ≡ lane_after scale (get_or pins k 0) (get_or symbols k (pos 0)) (old k)) (sym e) step
     done k l (inr d) = others k d ∙ h.done k (omega arith)
+
+    byte_at : (k : ℕ) → k < n + 1 → (k ≡ n) ⊎ (k ≢ n) → SFits w8 (get_or symbols k (pos 0))
+    byte_at k l (inl e) = subst (λ k. SFits w8 (get_or symbols k (pos 0))) (sym e) byte
+    byte_at k l (inr d) = h.bytes k (omega arith)
 
     small_at : (m k : ℕ) → k < n + 1 → IsLane m (old k) → (k ≡ n) ⊎ (k ≢ n) → IsLane (m + 1) (new k)
     small_at m k l lane (inl e) =

@@ -262,9 +262,13 @@ swapped x y = omega (arith, ints)
 less_picked : (t : Bool) (p a b : ℕ) (more : Excess ℤ) → less_by p b a (picked t more) ≡ less_by p a b (picked (not t) more)
 unfolding picked not
 less_picked true p a b more =
-    ap₂ (λ x y. if_bit p ((pos 16 *ℤ more.far) -ℤ x) +ℤ y) (swapped _ _) (swapped _ _)
+    ap₂ (λ x y. if_bit p ((pos 16 *ℤ more.far) -ℤ x) +ℤ y)
+    (swapped (if_bit b (pos 32 *ℤ more.both)) (if_bit a (pos 32 *ℤ more.other_both)))
+    (swapped (if_bit b (pos 4 *ℤ more.near)) (if_bit a (pos 4 *ℤ more.other_near)))
 less_picked false p a b more =
-    ap₂ (λ x y. if_bit p ((pos 16 *ℤ more.far) -ℤ x) +ℤ y) (swapped _ _) (swapped _ _)
+    ap₂ (λ x y. if_bit p ((pos 16 *ℤ more.far) -ℤ x) +ℤ y)
+    (swapped (if_bit b (pos 32 *ℤ more.other_both)) (if_bit a (pos 32 *ℤ more.both)))
+    (swapped (if_bit b (pos 4 *ℤ more.other_near)) (if_bit a (pos 4 *ℤ more.near)))
 
 is_even : ℕ → Bool
 is_even n = nat_eq (n % 2) 0

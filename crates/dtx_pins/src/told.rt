@@ -144,7 +144,8 @@ fn told_segment(
     ensures marks { (r e : ℕ) → r < SEGMENT_ROUNDS → e < CODERS → slice_index (slice_index_or cells.new r []) e
         ≡ told_mark (pin_at (slice_index_or cells.old r []) e) }
     ensures long { length cells.new ≡ length cells.old }
-    ensures bytes { (k : ℕ) → k < SEGMENT → FitsSigned w8 (slice_index_or heard.now k (pos 0)) }
+    ensures bytes { (r e : ℕ) → r < SEGMENT_ROUNDS → e < CODERS
+        → FitsSigned w8 (slice_index_or heard.now (4 + 12 * r + (e + 12 - 4 * turn) % 12) (pos 0)) }
 {
     for r in 0..SEGMENT_ROUNDS {
         let pins = cells[r];
@@ -179,6 +180,7 @@ fn told_step(scale: u8, pins: &[u16; LANES], symbols: &[i8; LANES], told: &mut T
     ensures lanes { (e : ℕ) → e < LANES → lane_at told.new e
         ≡ lane_after scale (slice_index pins.now e) (slice_index_or symbols.now e (pos 0)) (lane_at told.old e) }
     ensures small { (n e : ℕ) → e < LANES → IsLane n (lane_at told.old e) → IsLane (n + 1) (lane_at told.new e) }
+    ensures bytes { (e : ℕ) → e < LANES → FitsSigned w8 (slice_index_or symbols.now e (pos 0)) }
 {
     for e in 0..LANES {
         let lane = lane_of(told, e);

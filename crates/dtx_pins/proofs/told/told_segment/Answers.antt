@@ -1,5 +1,7 @@
 use Rattle.std.proofs.Common.{◌≡◌, ℕ, ◌+◌, ◌-◌, ◌*◌, ◌%◌, ◌<◌, ◌≤◌, [], get_or, length, pos, refl, sym, ap, ◌∙◌, subst}
-use Rattle.std.proofs.Common.{arith, rules}
+use Rattle.std.proofs.Common.{◌≢◌, ◌⊎◌, inl, inr, w8, arith}
+use mir.Val.{SFits}
+use Rattle.std.proofs.lemmas.Bool.{cases_eq}
 use Rattle.std.proofs.lemmas.List.{get_or-set_other, get_or_default, length-set}
 use Rattle.dtx_soft.proofs.WritesLemmas.{by_entry}
 use Rattle.dtx_pins.specs.Pins.{pin_at}
@@ -15,6 +17,7 @@ loop-r-init c = record {
   small = c.requires.lanes;
   marks = λ r e l m. absurd (omega arith);
   left = λ r l. refl;
+  bytes = λ r e l m. absurd (omega arith);
 }
 
 pub told_step-requires-clause-lanes : goal.told_step-requires-clause-lanes
@@ -38,8 +41,16 @@ loop-r-preserved c = record {
       (c.marks_of.ensures e m ∙ ap told_mark (pin e m)) r [] (λ n. c.loop-r.invariant.marks r e (omega arith) m);
   left = λ r l. get_or-set_other c.loop-r.cells c.loop-r.r r c.marks_of.result [] (λ e. absurd (omega arith))
       ∙ c.loop-r.invariant.left r (omega arith);
+  bytes = λ r e l m. bytes r e l m (cases_eq r c.loop-r.r);
 }
   where
+    bytes : (r e : ℕ) → r < c.loop-r.r + 1 → e < 12 → (r ≡ c.loop-r.r) ⊎ (r ≢ c.loop-r.r)
+        → SFits w8 (get_or c.args.heard.now (4 + 12 * r + (e + 12 - 4 * c.args.turn) % 12) (pos 0))
+    bytes r e l m (inl same) =
+        subst (λ r. SFits w8 (get_or c.args.heard.now (4 + 12 * r + (e + 12 - 4 * c.args.turn) % 12) (pos 0)))
+        (sym same) (subst (SFits w8) (c.read_turned.ensures e m) (c.told_step.ensures.bytes e (omega arith)))
+    bytes r e l m (inr d) = c.loop-r.invariant.bytes r e (omega arith) m
+
     pin : (e : ℕ) → e < 12 → get_or (get_or c.loop-r.cells c.loop-r.r []) e 0
         ≡ pin_at (get_or c.args.cells.now c.loop-r.r []) e
     pin e l =
@@ -55,6 +66,3 @@ returns-clause-lanes c e l =
   where
     end : (r : ℕ) → 69 ≤ r → r ≤ 69 → r ≡ 69
     end r l m = omega arith
-
-pub returns-clause-bytes : goal.returns-clause-bytes
-returns-clause-bytes c k l = search rules

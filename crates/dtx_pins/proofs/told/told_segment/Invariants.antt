@@ -1,4 +1,5 @@
-use Rattle.std.proofs.Common.{◌≡◌, ℕ, ◌+◌, ◌-◌, ◌*◌, ◌%◌, ◌<◌, ◌≤◌, [], get_or, length, pos}
+use Rattle.std.proofs.Common.{◌≡◌, ℕ, ◌+◌, ◌-◌, ◌*◌, ◌%◌, ◌<◌, ◌≤◌, [], get_or, length, pos, w8}
+use mir.Val.{SFits}
 use Rattle.dtx_pins.specs.Pins.{pin_at}
 use Rattle.dtx_pins.specs.Told.{IsLane, lane_at, lane_behind, told_mark}
 use Rattle.dtx_pins.proofs.told.told_segment.Given as goal
@@ -13,4 +14,6 @@ invariant-loop-r l = record {
   marks : (r e : ℕ) → r < l.r → e < 12
       → get_or (get_or l.cells r []) e 0 ≡ told_mark (pin_at (get_or l.fn.cells r []) e);
   left : (r : ℕ) → l.r ≤ r → get_or l.cells r [] ≡ get_or l.fn.cells r [];
+  bytes : (r e : ℕ) → r < l.r → e < 12
+      → SFits w8 (get_or l.heard (4 + 12 * r + (e + 12 - 4 * l.turn) % 12) (pos 0));
 }

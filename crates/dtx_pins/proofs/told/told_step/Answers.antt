@@ -17,7 +17,7 @@ loop-e-preserved c =
     (c.put_lane.ensures.written ∙ c.told_lane.ensures.after ∙ ap₂ (lane_after c.args.scale
     (get_or c.args.pins.now c.loop-e.e 0)) (to_z-of_z w8 symbol fits) lane)
     (λ m h. subst (IsLane (m + 1)) (sym c.put_lane.ensures.written)
-    (c.told_lane.ensures.small m (subst (IsLane m) (sym lane) h))) c.loop-e.invariant
+    (c.told_lane.ensures.small m (subst (IsLane m) (sym lane) h))) fits c.loop-e.invariant
   where
     symbol : ℤ
     symbol = get_or c.args.symbols.now c.loop-e.e (pos 0)

@@ -26,7 +26,7 @@ loop-i-init c = record {
   totals = λ e l. subst (IsWithin 0) (sym (c.no_totals-totals.ensures e l)) beginning_lane.small;
   marks = λ t e l m. absurd (omega arith);
   left = λ t l. refl;
-  bytes = λ i k l m. absurd (omega arith);
+  bytes = λ i r e l m n. absurd (omega arith);
 }
 
 pub add-requires-clause-totals : goal.add-requires-clause-totals
@@ -57,7 +57,7 @@ loop-i-preserved c = record {
   marks = λ t e l m. marks t e l m (cases_lt t (69 * c.loop-i.i));
   left = λ t l. row_behind at k t c.loop-i.cells c.told_segment.new.cells (omega (arith, c.loop-i.invariant.long)) few
       (omega arith) ∙ c.loop-i.invariant.left t (omega arith);
-  bytes = λ i n l m. bytes i n l m (cases_eq i c.loop-i.i);
+  bytes = λ i r e l m n. bytes i r e l m n (cases_eq i c.loop-i.i);
 }
   where
     at : ℕ
@@ -93,18 +93,18 @@ loop-i-preserved c = record {
         there : 69 * c.loop-i.i + (t - 69 * c.loop-i.i) ≡ t
         there = omega arith
 
-    bytes : (i n : ℕ) → i < c.loop-i.i + 1 → n < 832 → (i ≡ c.loop-i.i) ⊎ (i ≢ c.loop-i.i)
-        → SFits w8 (get_or (get_or c.args.heard.now i []) n (pos 0))
-    bytes i n l m (inl e) =
-        subst (λ i. SFits w8 (get_or (get_or c.args.heard.now i []) n (pos 0))) (sym e)
-        (c.told_segment.ensures.bytes n m)
-    bytes i n l m (inr d) = c.loop-i.invariant.bytes i n (omega arith) m
+    bytes : (i r e : ℕ) → i < c.loop-i.i + 1 → r < 69 → e < 12 → (i ≡ c.loop-i.i) ⊎ (i ≢ c.loop-i.i)
+        → SFits w8 (get_or (get_or c.args.heard.now i []) (4 + 12 * r + (e + 12 - 4 * (i % 3)) % 12) (pos 0))
+    bytes i r e l m n (inl same) =
+        subst (λ i. SFits w8 (get_or (get_or c.args.heard.now i []) (4 + 12 * r + (e + 12 - 4 * (i % 3)) % 12) (pos 0)))
+        (sym same) (c.told_segment.ensures.bytes r e m n)
+    bytes i r e l m n (inr d) = c.loop-i.invariant.bytes i r e (omega arith) m n
 
 pub returns-clause-walked : goal.returns-clause-walked
 returns-clause-walked c = record {
   sums_are = λ e l. told_sums_are c.args.scale (coder_pins c.args.cells.now e) (coder_symbols c.args.heard.now e)
       (length c.args.heard.now) (excess_at c.loop-i.totals e) (get_or c.all_sums.result e []) c.requires.from
-      c.requires.to (told e l) (bytes e) (length-coder c.args.heard.now e) (at_end e l)
+      c.requires.to (told e l) (bytes e l) (length-coder c.args.heard.now e) (at_end e l)
       (λ p a b. c.all_sums.ensures e p a b l);
   marks_are = λ t e l m n. told_mark_is c.args.scale (coder_pins c.args.cells.now e) (coder_symbols c.args.heard.now e) t
       _ (omega (arith, length-coder c.args.heard.now e)) (told e n)
@@ -121,11 +121,11 @@ returns-clause-walked c = record {
         subst (λ pin. pin < 4) (sym (pin_of_coder c.args.cells.now e t))
         (c.requires.told t e (omega (arith, m, length-coder c.args.heard.now e, c.requires.pins)) l)
 
-    bytes : (e : ℕ) → AreBytes (coder_symbols c.args.heard.now e)
-    bytes e t m =
+    bytes : (e : ℕ) → e < 12 → AreBytes (coder_symbols c.args.heard.now e)
+    bytes e l t m =
         subst (SFits w8) (sym same ∙ ap (λ t. get_or (coder_symbols c.args.heard.now e) t (pos 0)) there)
-        (c.loop-i.invariant.bytes (t / 69) (4 + 12 * (t % 69) + (e + 12 - 4 * (t / 69 % 3)) % 12)
-        (omega (arith, end, m, length-coder c.args.heard.now e)) (omega arith))
+        (c.loop-i.invariant.bytes (t / 69) (t % 69) e (omega (arith, end, m, length-coder c.args.heard.now e))
+        (omega arith) l)
       where
         there : 69 * (t / 69) + t % 69 ≡ t
         there = omega arith

@@ -1,4 +1,4 @@
-use Rattle.std.proofs.Common.{◌≡◌, ℕ, ◌*◌, ◌<◌, ◌≤◌, [], drop, get_or, length, pos, w8}
+use Rattle.std.proofs.Common.{◌≡◌, ℕ, ◌+◌, ◌-◌, ◌*◌, ◌%◌, ◌<◌, ◌≤◌, [], drop, get_or, length, pos, w8}
 use mir.Val.{SFits}
 use Rattle.dtx_soft.specs.Coders.{coder_symbols}
 use Rattle.dtx_pins.specs.Pins.{coder_pins, pin_at}
@@ -19,5 +19,6 @@ invariant-loop-i l = record {
   marks : (t e : ℕ) → t < 69 * l.i → e < 12
       → get_or (get_or l.cells t []) e 0 ≡ told_mark (pin_at (get_or l.fn.cells t []) e);
   left : (t : ℕ) → 69 * l.i ≤ t → get_or l.cells t [] ≡ get_or l.fn.cells t [];
-  bytes : (i k : ℕ) → i < l.i → k < 832 → SFits w8 (get_or (get_or l.heard i []) k (pos 0));
+  bytes : (i r e : ℕ) → i < l.i → r < 69 → e < 12
+      → SFits w8 (get_or (get_or l.heard i []) (4 + 12 * r + (e + 12 - 4 * (i % 3)) % 12) (pos 0));
 }
