@@ -15,3 +15,7 @@ pub mod WeightTests
 pub mod SymbolDepths
 pub mod PinnedUnits
 pub mod PinnedSteps
+pub mod ToldPaths
+pub mod ToldLanes
+pub mod ToldSums
+pub mod ToldWalks

@@ -7,3 +7,4 @@ pub mod Weights
 pub mod Lanes
 pub mod Walks
 pub mod Trace
+pub mod Told
