@@ -231,22 +231,22 @@ pub rounded_field : (scale n c : ℕ) (heard given new : List (List ℤ)) (known
 unfolding field_cost field_rounded rows_moved coder_cost pinned_cost
 rounded_field scale n c heard given new known cost moved some most few heard_long given_long e cost_is is moved_is rows_long
     rows_whole = record {
-  long = long;
-  rows = fill_by_all (round_segment scale (take n heard) known (take n given)) (take n made) (length (take n given)) []
-      (length-take-le n made (omega (arith, long)) ∙ sym (length-take-le n given (omega (arith, given_long))))
-      (λ i l. row i (omega (arith, l, length-take-le n given (omega (arith, given_long)))));
-  cost_is = cost_is ∙ ap (λ rows. sum (map (pinned_coder_cost scale (field_pins known 0 (69 * length rows)) rows)
-      (range_with_len 0 12))) (sym (groups_first n c heard few (omega (arith, heard_long)) e));
-  moved_is = moved_is
-      ∙ ap (over (λ i. moved_in (get_or (take c (drop 1 given)) i []) (get_or new i [])) 0) taken
-      ∙ part_sum (λ i. moved_in (get_or (take n given) i []) (get_or (take n made) i []))
-      (λ i. moved_in (get_or (take c (drop 1 given)) i []) (get_or new i [])) n c (λ l. omega arith) (λ l. omega arith)
-      (λ j l. ap₂ moved_in (given_at j l) (made_at j l))
-      (λ i l out. ap₂ moved_in (get_or-take n given i [] l) (get_or-take n made i [] l ∙ stays i l out)
-      ∙ none_moves (get_or given i []))
-      ∙ ap (over (λ i. moved_in (get_or (take n given) i []) (get_or (take n made) i [])) 0)
-      (sym (length-take-le n given (omega (arith, given_long))));
-}
+      long = long;
+      rows = fill_by_all (round_segment scale (take n heard) known (take n given)) (take n made) (length (take n given)) []
+          (length-take-le n made (omega (arith, long)) ∙ sym (length-take-le n given (omega (arith, given_long))))
+          (λ i l. row i (omega (arith, l, length-take-le n given (omega (arith, given_long)))));
+      cost_is = cost_is ∙ ap (λ rows. sum (map (pinned_coder_cost scale (field_pins known 0 (69 * length rows)) rows)
+          (range_with_len 0 12))) (sym (groups_first n c heard few (omega (arith, heard_long)) e));
+      moved_is = moved_is
+          ∙ ap (over (λ i. moved_in (get_or (take c (drop 1 given)) i []) (get_or new i [])) 0) taken
+          ∙ part_sum (λ i. moved_in (get_or (take n given) i []) (get_or (take n made) i []))
+          (λ i. moved_in (get_or (take c (drop 1 given)) i []) (get_or new i [])) n c (λ l. omega arith) (λ l. omega arith)
+          (λ j l. ap₂ moved_in (given_at j l) (made_at j l))
+          (λ i l out. ap₂ moved_in (get_or-take n given i [] l) (get_or-take n made i [] l ∙ stays i l out)
+          ∙ none_moves (get_or given i []))
+          ∙ ap (over (λ i. moved_in (get_or (take n given) i []) (get_or (take n made) i [])) 0)
+          (sym (length-take-le n given (omega (arith, given_long))));
+    }
   where
     made : List (List ℤ)
     made = put_mid 1 c given new
@@ -284,8 +284,14 @@ rounded_field scale n c heard given new known cost moved some most few heard_lon
         made_at j l
         ∙ decided_row scale j (field_pins known 0 (69 * length (take c (drop 1 heard)))) (take c (drop 1 heard))
         (take c (drop 1 given)) new some most is
-        (omega (arith, l, heard_long, length-drop 1 heard, length-take-le c (drop 1 heard)
-        (omega (arith, length-drop 1 heard, heard_long))))
+        (omega (
+          arith,
+          l,
+          heard_long,
+          length-drop 1 heard,
+          length-take-le c (drop 1 heard)
+              (omega (arith, length-drop 1 heard, heard_long)),
+        ))
         (omega (arith, new_long, l))
         (rows_long j (omega (arith, taken, l))) (rows_whole j (omega (arith, new_long, l)))
         ∙ ap₂ (λ (i : ℕ) (segment : List ℤ). take 4 segment ++ map (decided scale) (drop 4 (get_or (pinned scale

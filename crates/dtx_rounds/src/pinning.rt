@@ -17,7 +17,8 @@ pub(crate) fn decide(means: &mut Means, field: &mut Field)
     if field.knows_more {
         field.knows_more = false;
         let count = field.in_groups();
-        let pins = &mut means.pins[..SEGMENT_ROUNDS * count];
+        // The checker follows the loan of a range only where it has both ends.
+        let pins = &mut means.pins[0..SEGMENT_ROUNDS * count];
         let decided = &mut field.decided[1..count + 1];
         put_pins(&field.known[..], pins);
         known_long(decided);
