@@ -13,11 +13,12 @@ use Rattle.dtx_lists.proofs.RangeSums.{over, over_parts}
 use Rattle.dtx_trellis.specs.Pairs.{byte_place, group_place}
 use Rattle.dtx_receiver.specs.Bytes.{bytes_in}
 use Rattle.dtx_acquire.specs.Scaled.{decided}
+use Rattle.dtx_pins.specs.Moved.{moved_in, rows_moved}
 use Rattle.dtx_pins.specs.PinnedField.{pinned, pinned_coder_cost}
-use Rattle.dtx_rounds.specs.FieldRound.{field_cost, field_rounded, rows_moved}
+use Rattle.dtx_rounds.specs.FieldRound.{field_cost, field_rounded}
 use Rattle.dtx_rounds.specs.Known.{known_bytes}
 use Rattle.dtx_rounds.specs.Pins.{byte_at_step, field_pins, known_pin, pin_of}
-use Rattle.dtx_rounds.specs.Rounds.{coder_cost, groups_in, in_whole_group, moved_in, paths_in, round_segment}
+use Rattle.dtx_rounds.specs.Rounds.{coder_cost, groups_in, in_whole_group, paths_in, round_segment}
 use Rattle.dtx_rounds.specs.Rounds.{fields_in, rounded}
 use Rattle.dtx_rounds.proofs.OwnRounds.{group_row}
 use Rattle.dtx_rounds.proofs.RoundLevels.{after, length-after, length-groups, same_groups}

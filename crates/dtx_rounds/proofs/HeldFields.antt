@@ -11,8 +11,9 @@ use Rattle.std.proofs.lemmas.List.FromFn.{get_or-map-range_with_len, length-map-
 use Rattle.dtx_slice.specs.Slicing.{sliced_data}
 use Rattle.dtx_slice.specs.Unrolled.{bytes_back, precoder_bits_of}
 use Rattle.dtx_receiver.specs.Bytes.{bytes_in, data_count, groups_of, levels_from}
+use Rattle.dtx_pins.specs.Moved.{rows_moved}
 use Rattle.dtx_rounds.specs.Decided.{decided_rows}
-use Rattle.dtx_rounds.specs.FieldRound.{field_cost, rows_moved}
+use Rattle.dtx_rounds.specs.FieldRound.{field_cost}
 use Rattle.dtx_rounds.specs.Fields.{rows_of}
 use Rattle.dtx_rounds.specs.Found.{bytes_of, bytes_there, whole_segments}
 use Rattle.dtx_rounds.specs.Known.{known_bytes, known_word}

@@ -32,8 +32,6 @@ pub mod FieldRows
 pub mod OwnRounds
 pub mod StillLemmas
 pub mod RangeSteps
-pub mod LevelSteps
-pub mod MovedRows
 pub mod RowsRounded
 pub mod FieldRounds
 pub mod UnknownFields

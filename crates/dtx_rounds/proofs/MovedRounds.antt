@@ -3,9 +3,9 @@ use Rattle.std.proofs.Common.{◌≡◌, ℕ, ℤ, pos, ◌+◌, Bool, true, fal
 use Rattle.std.proofs.Common.{ap, ◌∙◌, arith}
 use Rattle.std.specs.Ordering.{int_eq}
 use Rattle.std.proofs.lemmas.Bool.Decides.{Decides-int_eq}
-use Rattle.dtx_rounds.specs.FieldRound.{rows_moved}
+use Rattle.dtx_pins.specs.Moved.{moved_in, rows_moved}
 use Rattle.dtx_rounds.specs.Fields.{AreSegments}
-use Rattle.dtx_rounds.specs.Rounds.{heard_of, moved_in, refined, round_moved, rounded}
+use Rattle.dtx_rounds.specs.Rounds.{heard_of, refined, round_moved, rounded}
 use Rattle.dtx_rounds.proofs.RangeSteps.{sum_zero}
 use Rattle.dtx_rounds.proofs.RefinedLemmas.{length-heard, length-rounded, rounded_long}
 use Rattle.dtx_rounds.proofs.RoundsLemmas.{refined_next, refined_stays}

@@ -11,6 +11,15 @@ use Rattle.dtx_lists.proofs.Range.{range_with_len-parts}
 pub sum_next : (f : ℕ → ℕ) (k : ℕ) → sum (map f (range_with_len 0 (k + 1))) ≡ sum (map f (range_with_len 0 k)) + f k
 sum_next f k = sum_by-map-range_with_len_more (λ x. x) f 0 k k (omega arith)
 
+-- a sum of nothing
+pub sum_none : (f : ℕ → ℕ) (n : ℕ) → ((i : ℕ) → i < n → f i ≡ 0) → sum (map f (range_with_len 0 n)) ≡ 0
+sum_none f zero h = refl
+sum_none f (suc n) h =
+    let next : suc n ≡ n + 1 = omega arith in
+    ap (λ m. sum (map f (range_with_len 0 m))) next
+    ∙ sum_next f n
+    ∙ omega (arith, sum_none f n (λ i l. h i (omega (arith, l))), h n (omega arith))
+
 -- each number of a sum of nothing is 0
 pub sum_zero : (f : ℕ → ℕ) (n : ℕ) → sum (map f (range_with_len 0 n)) ≡ 0 → (i : ℕ) → i < n → f i ≡ 0
 sum_zero f zero e i l = absurd (omega (arith, l))

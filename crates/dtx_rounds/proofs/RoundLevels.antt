@@ -3,8 +3,10 @@ use Rattle.std.proofs.Common.{◌≡◌, ℕ, ℤ, pos, zero, suc, ◌+◌, ◌-
 use Rattle.std.proofs.Common.{nat_le, nat_lt, nat_eq, Bool, true, false, cond, Option, List, [], ◌∷◌, ◌++◌, length}
 use Rattle.std.proofs.Common.{map, take, drop, get_or, refl, sym, ap, ap₂, ◌∙◌, subst, arith}
 use Rattle.std.specs.List.{range_with_len}
+use Rattle.std.specs.Ordering.{int_eq}
 use Rattle.std.proofs.lemmas.Bool.{and_from, and_parts, cases_Bool, cond-false, cond-true, le-leb, leb-true, lt-ltb}
 use Rattle.std.proofs.lemmas.Bool.{ltb-true, eqb-true}
+use Rattle.std.proofs.lemmas.Bool.Decides.{Decides-int_eq}
 use Rattle.std.proofs.lemmas.List.{get_or-append_right, get_or-drop, get_or-map, length-append, length-drop}
 use Rattle.std.proofs.lemmas.List.{length-map, length-take, length-take-le}
 use Rattle.std.proofs.lemmas.List.FromFn.{get_or-map-range_with_len, length-map-range_with_len}
@@ -86,7 +88,7 @@ pub groups_after : (scale : ℕ) (heard given : List (List ℤ)) (known : List (
 unfolding groups_of data_count
 groups_after scale heard given known = ap (λ n. (n - (n + 312) / 313) / 4) (length-after scale heard given known)
 
-path_row : (scale : ℕ) (pins : List (List ℕ)) (rows : List (List ℤ)) (i : ℕ) → i < length rows
+pub path_row : (scale : ℕ) (pins : List (List ℕ)) (rows : List (List ℤ)) (i : ℕ) → i < length rows
     → length (get_or (pinned scale pins rows) i []) ≡ 832
 unfolding pinned pinned_segment
 path_row scale pins rows i l =
@@ -139,23 +141,33 @@ path_small (z ∷ levels) state zero h l = h.0
 path_small (z ∷ levels) state (suc t) h l = path_small levels (next_state state z) t h.2 (omega arith)
 
 -- a level's symbol at a scale is decided to be that of the level
-abbrev comes_back : ℕ → Bool
-comes_back n = nat_eq (sliced (decided (n / 8 + 1) (symbol_at (n / 8 + 1) (n % 8)))) (n % 8)
+abbrev is_decided : ℕ → Bool
+is_decided n = int_eq (decided (n / 8 + 1) (symbol_at (n / 8 + 1) (n % 8))) (symbol_at 1 (n % 8))
 
-all_come_back : holds_below comes_back 144 ≡ true
-unfolding sliced scaled_level symbol_at symbol_of
-all_come_back = refl
+all_are_decided : holds_below is_decided 144 ≡ true
+unfolding scaled_level symbol_at symbol_of
+all_are_decided = refl
+
+pub decided_level : (scale z : ℕ) → 0 < scale → scale < 19 → z < 8
+    → decided scale (symbol_at scale z) ≡ symbol_at 1 z
+decided_level scale z some most small =
+    let first : (8 * (scale - 1) + z) / 8 + 1 ≡ scale = omega arith in
+    let second : (8 * (scale - 1) + z) % 8 ≡ z = omega arith in
+    sym (ap₂ (λ (c y : ℕ). decided c (symbol_at c y)) first second)
+    ∙ (Decides-int_eq _ _).0 (at_below is_decided 144 (8 * (scale - 1) + z) all_are_decided (omega arith))
+    ∙ ap (symbol_at 1) second
+
+sliced_level : (z : ℕ) → z < 8 → sliced (symbol_at 1 z) ≡ z
+unfolding sliced symbol_at
+sliced_level z small = eqb-true _ _ (at_below (λ y. nat_eq (sliced (symbol_at 1 y)) y) 8 z refl small)
 
 level_back : (scale z : ℕ) → 0 < scale → scale < 19 → z < 8 → sliced (decided scale (symbol_at scale z)) ≡ z
 level_back scale z some most small =
-    let first : (8 * (scale - 1) + z) / 8 + 1 ≡ scale = omega arith in
-    let second : (8 * (scale - 1) + z) % 8 ≡ z = omega arith in
-    sym (ap₂ (λ (c y : ℕ). sliced (decided c (symbol_at c y))) first second)
-    ∙ eqb-true _ _ (at_below comes_back 144 (8 * (scale - 1) + z) all_come_back (omega arith)) ∙ second
+    ap sliced (decided_level scale z some most small) ∙ sliced_level z small
 
 -- the symbol of a coder's path
-pub path_symbol : (scale : ℕ) (pins : List (List ℕ)) (rows paths : List (List ℤ)) (e t : ℕ) (l : e < 12)
-    (is : IsPinned scale pins rows paths) → t < 69 * length rows
+path_symbol : (scale : ℕ) (pins : List (List ℕ)) (rows paths : List (List ℤ)) (e t : ℕ) (l : e < 12)
+    (is : IsPinned scale scale pins rows rows paths) → t < 69 * length rows
     → data_symbol paths (symbol_place 0 t e) ≡ symbol_at scale (get_or (is.coders e l).levels t 0)
 unfolding coder_symbols
 path_symbol scale pins rows paths e t l is m =
@@ -169,7 +181,8 @@ path_symbol scale pins rows paths e t l is m =
 -- what a round's paths are
 abbrev pub HasPaths : ℕ → List (List ℤ) → List (Option ℕ) → Type 0
 HasPaths scale heard known =
-    (f : ℕ) → IsPinned scale (pins_in heard known f) (groups_in heard f) (paths_in scale heard known f)
+    (f : ℕ) → IsPinned scale scale (pins_in heard known f) (groups_in heard f) (groups_in heard f)
+    (paths_in scale heard known f)
 
 -- the levels of coder e in field f
 abbrev pub levels_of : (scale : ℕ) (heard : List (List ℤ)) (known : List (Option ℕ)) → HasPaths scale heard known

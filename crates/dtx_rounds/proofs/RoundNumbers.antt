@@ -7,7 +7,8 @@ use Rattle.dtx_lists.proofs.Range.{map-range_same}
 use Rattle.dtx_outer.specs.Inner.{codeword_byte_place}
 use Rattle.dtx_receiver.specs.Bytes.{bytes_in, data_count, groups_of}
 use Rattle.dtx_receiver.proofs.CompleteLemmas.{complete_told}
-use Rattle.dtx_rounds.specs.FieldRound.{rows_moved, words_known}
+use Rattle.dtx_pins.specs.Moved.{rows_moved}
+use Rattle.dtx_rounds.specs.FieldRound.{words_known}
 use Rattle.dtx_rounds.specs.Fields.{rows_of}
 use Rattle.dtx_rounds.specs.Known.{known_bytes, known_count, known_word}
 use Rattle.dtx_rounds.specs.Rounds.{coder_cost, fields_in, round_cost, round_moved, rounded}

@@ -6,24 +6,26 @@ use Rattle.std.specs.List.{range_with_len}
 use Rattle.std.specs.Ordering.{int_eq}
 use Rattle.std.proofs.lemmas.Bool.{and_from, and_left, and_right, cases_lt, cond-false, cond-true, le-leb, le-ltb}
 use Rattle.std.proofs.lemmas.Bool.{lt-leb, lt-ltb}
-use Rattle.std.proofs.lemmas.List.{get_or-append_right, get_or-drop, get_or-take, length-drop, length-take-le}
+use Rattle.std.proofs.lemmas.Bool.Decides.{Decides-int_eq}
+use Rattle.std.proofs.lemmas.List.{get_or-append_right, get_or-drop, get_or-map, get_or-take, get_or_append_left}
+use Rattle.std.proofs.lemmas.List.{length-append, length-drop, length-map, length-take-le}
 use Rattle.std.proofs.lemmas.List.FromFn.{fill_by_all}
 use borrow.Rule.Slice.PartMut.{post_of, put_mid}
 use Rattle.dtx_lists.proofs.RangeMoved.{map-range_moved}
 use Rattle.dtx_lists.proofs.RangeSums.{over, over_parts}
 use Rattle.dtx_lists.proofs.Written.{length-put_mid}
-use Rattle.dtx_trellis.specs.Pairs.{coder_at}
-use Rattle.dtx_soft.specs.Coders.{data_symbol}
-use Rattle.dtx_soft.proofs.SoftenedLemmas.{coder_small, length-coder, own_place}
-use Rattle.dtx_pins.specs.PinnedField.{pinned, pinned_coder_cost, pinned_cost}
-use Rattle.dtx_pins.proofs.PinnedFieldLemmas.{pinned_found}
-use Rattle.dtx_rounds.specs.FieldRound.{IsOnLevels, field_cost, field_rounded, on_path, on_paths, rows_moved}
+use Rattle.dtx_acquire.specs.Scaled.{decided}
+use Rattle.dtx_pins.specs.Moved.{moved_in, rows_moved}
+use Rattle.dtx_pins.specs.PinnedField.{IsPinned, pinned, pinned_coder_cost, pinned_cost}
+use Rattle.dtx_pins.proofs.PinnedFieldLemmas.{pinned_level}
+use Rattle.dtx_rounds.specs.FieldRound.{field_cost, field_rounded}
 use Rattle.dtx_rounds.specs.Pins.{field_pins}
-use Rattle.dtx_rounds.specs.Rounds.{coder_cost, groups_in, in_whole_group, moved_in, paths_in, round_segment}
-use Rattle.dtx_rounds.proofs.MovedRows.{eq_same, length-on_paths, on_paths_at, sum_none}
+use Rattle.dtx_rounds.specs.Rounds.{coder_cost, groups_in, in_whole_group, paths_in, round_segment}
 use Rattle.dtx_rounds.proofs.OwnRounds.{group_row}
 use Rattle.dtx_rounds.proofs.PinRows.{mid_at, mid_before}
-use Rattle.dtx_rounds.proofs.RoundLevels.{length-groups, path_small, path_symbol}
+use Rattle.dtx_rounds.proofs.RangeSteps.{sum_none}
+use Rattle.dtx_rounds.proofs.RoundLevels.{decided_level, length-groups, path_row}
+use Rattle.dtx_rounds.proofs.RunLevels.{AreLong}
 
 -- ---- lists
 
@@ -43,58 +45,47 @@ mid_behind a k i xs ys l e m =
     ∙ get_or-drop a xs (k + (i - a - k)) []
     ∙ (let there : a + (k + (i - a - k)) ≡ i = omega arith in ap (λ j. get_or xs j []) there)
 
--- ---- paths
+-- ---- a row
 
--- the symbols of pinned segments are those of levels
-pub on_levels : (scale : ℕ) (pins : List (List ℕ)) (rows : List (List ℤ)) (i : ℕ) → i < length rows
-    → IsOnLevels scale (get_or (pinned scale pins rows) i [])
-unfolding data_symbol
-on_levels scale pins rows i l k m n =
-    let one = (pinned_found scale pins rows).coders e (coder_small d) in (
-      get_or one.levels (d / 12) 0,
-      path_small one.levels one.start (d / 12) one.least.path (omega (arith, few, one.least.long, length-coder rows e)),
-      sym (ap₂ (λ (x y : ℕ). get_or (get_or paths x []) y (pos 0)) row column)
-          ∙ ap (data_symbol paths) (sym (own_place d))
-          ∙ path_symbol scale pins rows paths e (d / 12) (coder_small d) (pinned_found scale pins rows) few,
-    )
+-- a segment behind whose sync stand the symbols of a path, decided
+row_is : (scale : ℕ) (old path new : List ℤ) → length old ≡ 832 → length path ≡ 832 → length new ≡ 832
+    → ((k : ℕ) → k < 4 → get_or new k (pos 0) ≡ get_or old k (pos 0))
+    → ((k : ℕ) → 4 ≤ k → k < 832 → get_or new k (pos 0) ≡ decided scale (get_or path k (pos 0)))
+    → new ≡ take 4 old ++ map (decided scale) (drop 4 path)
+row_is scale old path new long full whole syncs symbols =
+    same_items (pos 0) 832 new (take 4 old ++ map (decided scale) (drop 4 path)) whole
+    (length-append (take 4 old) (map (decided scale) (drop 4 path))
+    ∙ omega (arith, front, full, length-map (drop 4 path) (decided scale), length-drop 4 path))
+    (λ k l. by_place k l (cases_lt k 4))
   where
-    d : ℕ
-    d = 828 * i + (k - 4)
+    front : length (take 4 old) ≡ 4
+    front = length-take-le 4 old (omega (arith, long))
 
-    e : ℕ
-    e = coder_at 0 d
+    by_place : (k : ℕ) → k < 832 → (k < 4) ⊎ (4 ≤ k)
+        → get_or new k (pos 0) ≡ get_or (take 4 old ++ map (decided scale) (drop 4 path)) k (pos 0)
+    by_place k l (inl m) =
+        syncs k m
+        ∙ sym (get_or_append_left (take 4 old) (map (decided scale) (drop 4 path)) (pos 0) k (omega (arith, front, m))
+        ∙ get_or-take 4 old k (pos 0) m)
+    by_place k l (inr m) =
+        let back : 4 + (k - 4) ≡ k = omega arith in
+        symbols k m l
+        ∙ sym (get_or-append_right (take 4 old) (map (decided scale) (drop 4 path)) 4 k (pos 0) front m
+        ∙ get_or-map (decided scale) (drop 4 path) (k - 4) (pos 0) (pos 0)
+        (omega (arith, l, m, full, length-drop 4 path))
+        ∙ ap (decided scale) (get_or-drop 4 path (k - 4) (pos 0) ∙ ap (λ i. get_or path i (pos 0)) back))
 
-    paths : List (List ℤ)
-    paths = pinned scale pins rows
-
-    row : d / 828 ≡ i
-    row = omega arith
-
-    column : 4 + d % 828 ≡ k
-    column = omega arith
-
-    few : d / 12 < 69 * length rows
-    few = omega arith
-
--- the paths that were left in the room for segments
-pub paths_left : (scale c : ℕ) (heard segments lent : List (List ℤ)) (pins : ℕ → List (List ℕ)) → c ≤ 312
-    → length heard ≡ 313 → lent ≡ segments
-    → take (length (take (c + 1 - 1) (drop 1 heard))) segments
-    ≡ pinned scale (pins (length (take (c + 1 - 1) (drop 1 heard)))) (take (c + 1 - 1) (drop 1 heard))
-    → take c lent ≡ pinned scale (pins (length (take (c + 1 - 1) (drop 1 heard)))) (take (c + 1 - 1) (drop 1 heard))
-paths_left scale c heard segments lent pins l long same e =
-    let count : c ≡ length (take (c + 1 - 1) (drop 1 heard)) =
-    omega (arith, length-take-le (c + 1 - 1) (drop 1 heard) (omega (arith, long, length-drop 1 heard))) in
-    ap₂ (λ m (rows : List (List ℤ)). take m rows) count same ∙ e
-
-pub left_on_levels : (scale now c : ℕ) (pins : List (List ℕ)) (rows lent : List (List ℤ)) → now ≡ scale
-    → take c lent ≡ pinned scale pins rows → (i : ℕ) → i < length (take c lent)
-    → IsOnLevels now (get_or (take c lent) i [])
-left_on_levels scale now c pins rows lent same e i l =
-    let long : length (take c lent) ≡ length rows = ap length e ∙ (pinned_found scale pins rows).long in
-    subst (λ s. IsOnLevels s (get_or (take c lent) i [])) (sym same)
-    (subst (λ paths. IsOnLevels scale (get_or paths i [])) (sym e)
-    (on_levels scale pins rows i (omega (arith, long, l))))
+-- what the decoder writes
+decided_row : (scale i : ℕ) (pins : List (List ℕ)) (heard old new : List (List ℤ)) → 0 < scale → scale < 19
+    → IsPinned scale 1 pins heard old new → i < length heard → i < length new
+    → length (get_or old i []) ≡ 832 → length (get_or new i []) ≡ 832
+    → get_or new i []
+    ≡ take 4 (get_or old i []) ++ map (decided scale) (drop 4 (get_or (pinned scale pins heard) i []))
+decided_row scale i pins heard old new some most is there l long whole =
+    row_is scale (get_or old i []) (get_or (pinned scale pins heard) i []) (get_or new i []) long
+    (path_row scale pins heard i there) whole (λ k m. is.syncs i k m)
+    (λ k m n. (let level = pinned_level scale pins heard old new i k is l m n in
+    level.3 ∙ sym (ap (decided scale) level.2 ∙ decided_level scale level.0 some most level.1)))
 
 -- ---- the groups of a field
 
@@ -117,12 +108,13 @@ groups_first n c segments few room e =
 round_is : (scale n c i : ℕ) (heard given : List (List ℤ)) (known : List (Option ℕ)) → n ≤ 313 → n ≤ length heard
     → n ≤ length given → c ≡ (n - 1) / 4 * 4 → i < n → 0 < i → i ≤ c
     → round_segment scale (take n heard) known (take n given) i
-    ≡ on_path scale (get_or (pinned scale (field_pins known 0 (69 * length (take c (drop 1 heard))))
-    (take c (drop 1 heard))) (i - 1) []) (get_or given i [])
+    ≡ take 4 (get_or given i []) ++ map (decided scale) (drop 4 (get_or (pinned scale
+    (field_pins known 0 (69 * length (take c (drop 1 heard)))) (take c (drop 1 heard))) (i - 1) []))
 unfolding round_segment in_whole_group paths_in
 round_is scale n c i heard given known few room own e l some whole =
     cond-true (in_whole_group (take n given) i) _ (get_or (take n given) i []) within
-    ∙ ap₂ (λ (path segment : List ℤ). on_path scale path segment) path (get_or-take n given i [] l)
+    ∙ ap₂ (λ (path segment : List ℤ). take 4 segment ++ map (decided scale) (drop 4 path)) path
+    (get_or-take n given i [] l)
   where
     place : i % 313 ≡ i
     place = omega arith
@@ -189,7 +181,7 @@ none_moves : (row : List ℤ) → moved_in row row ≡ 0
 unfolding moved_in
 none_moves row =
     sum_none (λ k. cond {A = ℕ} (int_eq (get_or row k (pos 0)) (get_or row k (pos 0))) 0 1) 832
-    (λ k l. eq_same (get_or row k (pos 0)) (get_or row k (pos 0)) refl)
+    (λ k l. ap (λ t. cond t 0 1) ((Decides-int_eq (get_or row k (pos 0)) (get_or row k (pos 0))).1 refl))
 
 -- rows that stay move nothing
 pub still_rows : (rows : List (List ℤ)) → rows_moved rows rows ≡ 0
@@ -230,31 +222,31 @@ part_sum f g (suc m) c some none here rest =
         ∙ sum_none (λ i. f (1 + c + i)) (m - c) (λ i l. rest (1 + c + i) (omega arith) (inr (omega arith)))
 
 pub rounded_field : (scale n c : ℕ) (heard given new : List (List ℤ)) (known : List (Option ℕ)) (cost moved : ℕ)
-    → n ≤ 313 → length heard ≡ 313 → length given ≡ 313 → c ≡ (n - 1) / 4 * 4
+    → 0 < scale → scale < 19 → n ≤ 313 → length heard ≡ 313 → length given ≡ 313 → c ≡ (n - 1) / 4 * 4
     → cost ≡ pinned_cost scale (field_pins known 0 (69 * length (take c (drop 1 heard)))) (take c (drop 1 heard))
-    → new ≡ on_paths scale (pinned scale (field_pins known 0 (69 * length (take c (drop 1 heard))))
-    (take c (drop 1 heard))) (take c (drop 1 given))
-    → moved ≡ rows_moved (take c (drop 1 given)) new
+    → IsPinned scale 1 (field_pins known 0 (69 * length (take c (drop 1 heard)))) (take c (drop 1 heard))
+    (take c (drop 1 given)) new
+    → moved ≡ rows_moved (take c (drop 1 given)) new → AreLong (take c (drop 1 given)) → AreLong new
     → IsRounded scale n heard given known (put_mid 1 c given new) cost moved
-unfolding field_cost field_rounded rows_moved coder_cost pinned_cost on_paths
-rounded_field scale n c heard given new known cost moved few heard_long given_long e cost_is new_is moved_is = record {
-  long = long;
-  rows = fill_by_all (round_segment scale (take n heard) known (take n given)) (take n made) (length (take n given)) []
-      (length-take-le n made (omega (arith, long)) ∙ sym (length-take-le n given (omega (arith, given_long))))
-      (λ i l. row i (omega (arith, l, length-take-le n given (omega (arith, given_long)))));
-  cost_is = cost_is ∙ ap (λ rows. sum (map (pinned_coder_cost scale (field_pins known 0 (69 * length rows)) rows)
-      (range_with_len 0 12))) (sym (groups_first n c heard few (omega (arith, heard_long)) e));
-  moved_is = moved_is
-      ∙ ap (over (λ i. moved_in (get_or (take c (drop 1 given)) i []) (get_or new i [])) 0)
-      (length-take-le c (drop 1 given) (omega (arith, length-drop 1 given, given_long)))
-      ∙ part_sum (λ i. moved_in (get_or (take n given) i []) (get_or (take n made) i []))
-      (λ i. moved_in (get_or (take c (drop 1 given)) i []) (get_or new i [])) n c (λ l. omega arith) (λ l. omega arith)
-      (λ j l. ap₂ moved_in (given_at j l) (made_at j l))
-      (λ i l out. ap₂ moved_in (get_or-take n given i [] l) (get_or-take n made i [] l ∙ stays i l out)
-      ∙ none_moves (get_or given i []))
-      ∙ ap (over (λ i. moved_in (get_or (take n given) i []) (get_or (take n made) i [])) 0)
-      (sym (length-take-le n given (omega (arith, given_long))));
-}
+unfolding field_cost field_rounded rows_moved coder_cost pinned_cost
+rounded_field scale n c heard given new known cost moved some most few heard_long given_long e cost_is is moved_is rows_long
+    rows_whole = record {
+      long = long;
+      rows = fill_by_all (round_segment scale (take n heard) known (take n given)) (take n made) (length (take n given)) []
+          (length-take-le n made (omega (arith, long)) ∙ sym (length-take-le n given (omega (arith, given_long))))
+          (λ i l. row i (omega (arith, l, length-take-le n given (omega (arith, given_long)))));
+      cost_is = cost_is ∙ ap (λ rows. sum (map (pinned_coder_cost scale (field_pins known 0 (69 * length rows)) rows)
+          (range_with_len 0 12))) (sym (groups_first n c heard few (omega (arith, heard_long)) e));
+      moved_is = moved_is
+          ∙ ap (over (λ i. moved_in (get_or (take c (drop 1 given)) i []) (get_or new i [])) 0) taken
+          ∙ part_sum (λ i. moved_in (get_or (take n given) i []) (get_or (take n made) i []))
+          (λ i. moved_in (get_or (take c (drop 1 given)) i []) (get_or new i [])) n c (λ l. omega arith) (λ l. omega arith)
+          (λ j l. ap₂ moved_in (given_at j l) (made_at j l))
+          (λ i l out. ap₂ moved_in (get_or-take n given i [] l) (get_or-take n made i [] l ∙ stays i l out)
+          ∙ none_moves (get_or given i []))
+          ∙ ap (over (λ i. moved_in (get_or (take n given) i []) (get_or (take n made) i [])) 0)
+          (sym (length-take-le n given (omega (arith, given_long))));
+    }
   where
     made : List (List ℤ)
     made = put_mid 1 c given new
@@ -262,12 +254,11 @@ rounded_field scale n c heard given new known cost moved few heard_long given_lo
     inside : c ≤ 312
     inside = omega arith
 
+    taken : length (take c (drop 1 given)) ≡ c
+    taken = length-take-le c (drop 1 given) (omega (arith, length-drop 1 given, given_long))
+
     new_long : length new ≡ c
-    new_long =
-        ap length new_is
-        ∙ length-on_paths scale (pinned scale (field_pins known 0 (69 * length (take c (drop 1 heard))))
-        (take c (drop 1 heard))) (take c (drop 1 given))
-        ∙ length-take-le c (drop 1 given) (omega (arith, length-drop 1 given, given_long))
+    new_long = is.long ∙ taken
 
     long : length made ≡ 313
     long = length-put_mid 1 c given new (omega (arith, given_long)) new_long ∙ given_long
@@ -276,42 +267,56 @@ rounded_field scale n c heard given new known cost moved few heard_long given_lo
     stays i l (inl none) = mid_before 1 c i given new (omega arith) (omega (arith, given_long))
     stays i l (inr more) = mid_behind 1 c i given new (omega (arith, given_long)) new_long (omega arith)
 
+    old_at : (j : ℕ) → j < c → get_or given (1 + j) [] ≡ get_or (take c (drop 1 given)) j []
+    old_at j l = sym (get_or-take c (drop 1 given) j [] l ∙ get_or-drop 1 given j [])
+
     given_at : (j : ℕ) → j < c → get_or (take n given) (1 + j) [] ≡ get_or (take c (drop 1 given)) j []
-    given_at j l =
-        get_or-take n given (1 + j) [] (omega arith)
-        ∙ sym (get_or-take c (drop 1 given) j [] l ∙ get_or-drop 1 given j [])
+    given_at j l = get_or-take n given (1 + j) [] (omega arith) ∙ old_at j l
 
     made_at : (j : ℕ) → j < c → get_or (take n made) (1 + j) [] ≡ get_or new j []
     made_at j l =
         get_or-take n made (1 + j) [] (omega arith)
         ∙ mid_at 1 c j given new (omega (arith, new_long, l)) (omega (arith, given_long))
 
+    written : (j : ℕ) → j < c
+        → get_or (take n made) (1 + j) [] ≡ round_segment scale (take n heard) known (take n given) (1 + j)
+    written j l =
+        made_at j l
+        ∙ decided_row scale j (field_pins known 0 (69 * length (take c (drop 1 heard)))) (take c (drop 1 heard))
+        (take c (drop 1 given)) new some most is
+        (omega (
+          arith,
+          l,
+          heard_long,
+          length-drop 1 heard,
+          length-take-le c (drop 1 heard)
+              (omega (arith, length-drop 1 heard, heard_long)),
+        ))
+        (omega (arith, new_long, l))
+        (rows_long j (omega (arith, taken, l))) (rows_whole j (omega (arith, new_long, l)))
+        ∙ ap₂ (λ (i : ℕ) (segment : List ℤ). take 4 segment ++ map (decided scale) (drop 4 (get_or (pinned scale
+        (field_pins known 0 (69 * length (take c (drop 1 heard)))) (take c (drop 1 heard))) i []))) back
+        (sym (old_at j l))
+        ∙ sym (round_is scale n c (1 + j) heard given known few (omega (arith, heard_long)) (omega (arith, given_long)) e
+        (omega arith) (omega arith) (omega arith))
+      where
+        back : j ≡ 1 + j - 1
+        back = omega arith
+
     row : (i : ℕ) → i < n → get_or (take n made) i [] ≡ round_segment scale (take n heard) known (take n given) i
     row i l = by_place (cases_lt 0 i) (cases_lt c i)
       where
+        other : (i ≡ 0) ⊎ (c < i)
+            → get_or (take n made) i [] ≡ round_segment scale (take n heard) known (take n given) i
+        other out =
+            get_or-take n made i [] l ∙ stays i l out
+            ∙ sym (round_stays scale n c i heard given known few (omega (arith, given_long)) e l out)
+
         by_place : (0 < i) ⊎ (i ≤ 0) → (c < i) ⊎ (i ≤ c)
             → get_or (take n made) i [] ≡ round_segment scale (take n heard) known (take n given) i
-        by_place (inr none) other =
-            get_or-take n made i [] l ∙ stays i l (inl (omega arith))
-            ∙ sym (round_stays scale n c i heard given known few (omega (arith, given_long)) e l (inl (omega arith)))
-        by_place (inl some) (inl more) =
-            get_or-take n made i [] l ∙ stays i l (inr more)
-            ∙ sym (round_stays scale n c i heard given known few (omega (arith, given_long)) e l (inr more))
-        by_place (inl some) (inr within) =
-            let next : i ≡ 1 + (i - 1) = omega arith in
-            let there : i - 1 < c = omega arith in
-            let taken = length-take-le c (drop 1 given) (omega (arith, length-drop 1 given, given_long)) in
-            ap (λ j. get_or (take n made) j []) next
-            ∙ made_at (i - 1) there
-            ∙ ap (λ (rows : List (List ℤ)). get_or rows (i - 1) []) new_is
-            ∙ on_paths_at scale (i - 1) paths (take c (drop 1 given)) (omega (arith, taken, there))
-            ∙ ap (on_path scale (get_or paths (i - 1) []))
-            (sym (given_at (i - 1) there) ∙ get_or-take n given (1 + (i - 1)) [] (omega arith)
-            ∙ ap (λ j. get_or given j []) (sym next))
-            ∙ sym (round_is scale n c i heard given known few (omega (arith, heard_long))
-            (omega (arith, given_long)) e l
-            some within)
-          where
-            paths : List (List ℤ)
-            paths =
-                pinned scale (field_pins known 0 (69 * length (take c (drop 1 heard)))) (take c (drop 1 heard))
+        by_place (inr none) behind = other (inl (omega arith))
+        by_place (inl first) (inl more) = other (inr more)
+        by_place (inl first) (inr within) =
+            let next : 1 + (i - 1) ≡ i = omega arith in
+            subst (λ j. get_or (take n made) j [] ≡ round_segment scale (take n heard) known (take n given) j) next
+            (written (i - 1) (omega arith))

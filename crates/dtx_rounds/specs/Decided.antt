@@ -1,6 +1,7 @@
 -- What a round leaves of a field that it holds.
 use Rattle.std.specs.Prelude.{ℕ, ℤ, ◌≡◌, false, if◌then◌else◌, List, take}
-use Rattle.dtx_rounds.specs.FieldRound.{field_cost, field_rounded, rows_moved}
+use Rattle.dtx_pins.specs.Moved.{rows_moved}
+use Rattle.dtx_rounds.specs.FieldRound.{field_cost, field_rounded}
 use Rattle.dtx_rounds.specs.declared.field.Field.{Field}
 
 -- the field's segments as they were received, and as they were decided

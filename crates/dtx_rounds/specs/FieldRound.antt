@@ -1,35 +1,9 @@
 -- A round over a single field (the profile's own; ATSC A/53 Part 2, trellis coding). The field is a run of its own, of
 -- at most 313 segments, and what is known of it is given.
-use Rattle.std.specs.Prelude.{ℕ, ℤ, pos, ◌≡◌, ◌<◌, ◌≤◌, Bool, true, false, Option, None, List, [], ◌++◌}
-use Rattle.std.specs.Prelude.{length, map, take, drop, filter, slice_index_or, sum}
+use Rattle.std.specs.Prelude.{ℕ, ℤ, ◌≡◌, ◌<◌, Bool, true, false, Option, None, List, length, map, filter}
+use Rattle.std.specs.Prelude.{slice_index_or, sum}
 use Rattle.std.specs.List.{range_with_len}
-use Rattle.dtx_acquire.specs.Scaled.{decided}
-use Rattle.dtx_soft.specs.Paths.{symbol_at}
-use Rattle.dtx_rounds.specs.Rounds.{coder_cost, moved_in, round_segment}
-
--- ---- segments
-
--- a segment with its segment sync, and its other symbols those of the levels of a path
-abbrev pub on_path : ℕ → List ℤ → List ℤ → List ℤ
-on_path scale path segment = take 4 segment ++ map (decided scale) (drop 4 path)
-
--- the same for several, each with its own path
-unfoldable pub on_paths : ℕ → List (List ℤ) → List (List ℤ) → List (List ℤ)
-on_paths scale paths segments =
-    map (λ i. on_path scale (slice_index_or paths i []) (slice_index_or segments i []))
-    (range_with_len 0 (length segments))
-
--- in how many symbols segments differ from others
-unfoldable pub rows_moved : List (List ℤ) → List (List ℤ) → ℕ
-rows_moved old new =
-    sum (map (λ i. moved_in (slice_index_or old i []) (slice_index_or new i [])) (range_with_len 0 (length old)))
-
--- The data symbols of a path: each is that of a level at the scale.
-abbrev pub IsOnLevels : ℕ → List ℤ → Type 0
-IsOnLevels scale path = (k : ℕ) → 4 ≤ k → k < 832
-    → (z : ℕ) × (z < 8) × (slice_index_or path k (pos 0) ≡ symbol_at scale z)
-
--- ---- a field
+use Rattle.dtx_rounds.specs.Rounds.{coder_cost, round_segment}
 
 -- the segments after a round
 unfoldable pub field_rounded : ℕ → List (List ℤ) → List (Option ℕ) → List (List ℤ) → List (List ℤ)

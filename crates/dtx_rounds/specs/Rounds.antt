@@ -1,14 +1,14 @@
 -- Rounds over a capture: what the segments of one round make known pins the paths of the next one (the profile's own;
 -- ATSC A/53 Part 2, trellis coding).
-use Rattle.std.specs.Prelude.{ℕ, ℤ, pos, ◌+◌, ◌-◌, ◌*◌, ◌/◌, ◌%◌, ◌&&◌, nat_le, nat_lt, Bool, if◌then◌else◌, Option}
+use Rattle.std.specs.Prelude.{ℕ, ℤ, ◌+◌, ◌-◌, ◌*◌, ◌/◌, ◌%◌, ◌&&◌, nat_le, nat_lt, Bool, if◌then◌else◌, Option}
 use Rattle.std.specs.Prelude.{List, [], ◌++◌, length, map, take, drop, slice_index_or, sum}
 use Rattle.std.proofs.Common.{zero, suc}
-use Rattle.std.specs.Ordering.{int_eq}
 use Rattle.std.specs.List.{range_with_len}
 use Rattle.dtx_receiver.specs.Bytes.{bytes_in}
 use Rattle.dtx_acquire.specs.Acquired.{acquired, acquired_so_far, all_fields, heard_in}
 use Rattle.dtx_acquire.specs.Scaled.{decided}
 use Rattle.dtx_acquire.specs.Sent.{groups_behind}
+use Rattle.dtx_pins.specs.Moved.{moved_in}
 use Rattle.dtx_pins.specs.PinnedField.{pinned, pinned_coder_cost}
 use Rattle.dtx_rounds.specs.Known.{known_bytes}
 use Rattle.dtx_rounds.specs.Pins.{field_pins}
@@ -91,12 +91,6 @@ unfoldable pub round_cost : ℕ → List (List ℤ) → List (List ℤ) → ℕ
 round_cost scale heard given =
     sum (map (λ f. sum (map (coder_cost scale heard (known_bytes (bytes_in given)) f) (range_with_len 0 12)))
     (range_with_len 0 (fields_in given)))
-
--- in how many symbols a segment differs from another one
-unfoldable pub moved_in : List ℤ → List ℤ → ℕ
-moved_in old new =
-    sum (map (λ k. if int_eq (slice_index_or old k (pos 0)) (slice_index_or new k (pos 0)) then 0 else 1)
-    (range_with_len 0 832))
 
 -- in how many symbols the segments after a round differ from those given
 unfoldable pub round_moved : ℕ → List (List ℤ) → List (List ℤ) → ℕ

@@ -10,6 +10,7 @@ use crate::group_bytes::empty_bytes;
 use dtx_sizes::{
     CODEWORD, FIELD_PACKETS, FIELD_SEGMENTS, GROUP_BYTES, GROUP_PACKETS, PRECODE, SEGMENT,
 };
+use dtx_soft::MOST_SEGMENT_COST;
 use std::alloc::{AllocError, Global};
 
 /// How many segments a field has, with its sync.
@@ -21,9 +22,8 @@ pub(crate) const WORDS: usize = FIELD_PACKETS as usize;
 /// How many bytes the data segments of a field have.
 pub(crate) const BYTES: usize = CODEWORD * WORDS;
 
-/// What the least paths of a field cost at most, in 313 segments of 828 symbols. No symbol is off a level by more than
-/// 254, which is 128 + 7 * 18.
-pub const MOST_FIELD_COST: u64 = 313 * 828 * 64_516;
+/// What the least paths of a field cost at most, in its 313 segments.
+pub const MOST_FIELD_COST: u64 = 313 * MOST_SEGMENT_COST;
 
 /// In how many symbols a field's segments can differ from those before: all of its data segments.
 pub const MOST_MOVED: u64 = (SEGMENT * WORDS) as u64;

@@ -1,24 +1,23 @@
 //! The pins of the known bytes of a field.
 
 ghost use Rattle.std.specs.Prelude.{◌≡◌, ℕ, ◌+◌, ◌-◌, ◌*◌, ◌/◌, ◌%◌, ◌<◌, ◌≤◌, None, [], length, slice_index};
-ghost use Rattle.std.specs.Prelude.{option_map, slice_index_or, take, unwrap_or};
+ghost use Rattle.std.specs.Prelude.{option_map, slice_index_or, unwrap_or};
 ghost use Rattle.dtx_trellis.specs.Pairs.{pair_in};
 ghost use Rattle.dtx_rounds.specs.Pins.{field_pins, pin_of};
 
-use crate::field::BYTES;
-use crate::group_bytes::GROUPS;
+use crate::field::{BYTES, WORDS};
 use dtx_pins::NO_PIN;
-use dtx_sizes::{CODER_BYTES, CODERS, ROUNDS, SEGMENT_ROUNDS};
+use dtx_sizes::{CODERS, SEGMENT_ROUNDS};
 
-/// Writes the pins of a field's first groups.
-pub(crate) fn put_pins(known: &[Option<u8>], groups: usize, pins: &mut [[u16; CODERS]])
+/// Writes the pins of a field's first steps, four of which take a byte of each coder.
+pub(crate) fn put_pins(known: &[Option<u8>], pins: &mut [[u16; CODERS]])
     requires known { length known.now ≡ BYTES }
-    requires groups { groups ≤ GROUPS }
-    requires room { length pins.old ≡ ROUNDS * GROUPS }
-    ensures pins { take (ROUNDS * groups) pins.new ≡ field_pins known.now 0 (ROUNDS * groups) }
+    requires few { length pins.old ≤ SEGMENT_ROUNDS * WORDS }
+    requires whole { length pins.old ≡ 4 * (length pins.old / 4) }
+    ensures pins { pins.new ≡ field_pins known.now 0 (length pins.old) }
     ensures long { length pins.new ≡ length pins.old }
 {
-    for b in 0..CODER_BYTES * groups {
+    for b in 0..pins.len() / 4 {
         put_row(
             &known[CODERS * b..CODERS * b + CODERS],
             4 * (4 * b / SEGMENT_ROUNDS % 3),

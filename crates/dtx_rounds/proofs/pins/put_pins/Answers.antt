@@ -1,7 +1,6 @@
 use Rattle.std.proofs.Common.{◌≡◌, ℕ, ◌+◌, ◌-◌, ◌*◌, ◌/◌, ◌%◌, ◌<◌, ◌≤◌, ◌⊎◌, inl, inr, List, [], length, take}
 use Rattle.std.proofs.Common.{get_or, sym, ap, ◌∙◌, subst, arith}
 use Rattle.std.proofs.lemmas.Bool.{cases_lt}
-use Rattle.std.proofs.lemmas.List.{get_or-take, length-take-le}
 use borrow.Rule.Slice.PartMut.{put_mid}
 use Rattle.dtx_lists.proofs.Written.{length-put_mid}
 use Rattle.dtx_rounds.specs.Pins.{known_pin, pin_of}
@@ -23,7 +22,7 @@ loop-b-preserved c = record {
     four = omega arith
 
     room : 4 * b + 4 ≤ length c.loop-b.pins
-    room = omega (arith, c.loop-b.invariant.long, c.loop-b-test.true, c.requires.groups)
+    room = omega (arith, c.loop-b.invariant.long, c.loop-b-test.true)
 
     new : List (List ℕ)
     new = put_mid (4 * b) (4 * b + 4 - 4 * b) c.loop-b.pins c.put_row.new.pins
@@ -64,16 +63,8 @@ loop-b-preserved c = record {
 
 pub returns-clause-pins : goal.returns-clause-pins
 returns-clause-pins c =
-    all_pins c.args.known.now n (take n c.loop-b.pins) (length-take-le n c.loop-b.pins most)
-    (λ t l. ap length (get_or-take n c.loop-b.pins t [] l) ∙ c.loop-b.invariant.rows t (within t l))
-    (λ t e l m. ap (λ (xs : List ℕ). get_or xs e 0) (get_or-take n c.loop-b.pins t [] l)
-    ∙ c.loop-b.invariant.pins t e (within t l) m)
+    all_pins c.args.known.now (length c.args.pins.now) c.loop-b.pins c.loop-b.invariant.long
+    (λ t l. c.loop-b.invariant.rows t (within t l)) (λ t e l m. c.loop-b.invariant.pins t e (within t l) m)
   where
-    n : ℕ
-    n = 276 * c.args.groups
-
-    most : n ≤ length c.loop-b.pins
-    most = omega (arith, c.loop-b.invariant.long, c.requires.groups)
-
-    within : (t : ℕ) → t < n → t < 4 * c.loop-b.b
-    within t l = omega (arith, l, c.loop-b-test.false)
+    within : (t : ℕ) → t < length c.args.pins.now → t < 4 * c.loop-b.b
+    within t l = omega (arith, l, c.loop-b-test.false, c.requires.whole)
