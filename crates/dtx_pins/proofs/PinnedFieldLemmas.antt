@@ -232,8 +232,8 @@ pinned_level scale pins heard old new i k h l n m = (
   level,
   path_small (least_pinned_start scale (coder_pins pins e) (coder_symbols heard e)) levels least.path (d / 12) within,
   pinned_at scale pins heard i k (omega (arith, many)) m
-  ∙ cond-false (nat_lt k 4) (get_or (get_or heard i []) k (pos 0)) (pinned_symbol scale pins heard d) (le-ltb k 4 n)
-  ∙ get_or-map (symbol_at scale) levels (d / 12) 0 (pos 0) within,
+      ∙ cond-false (nat_lt k 4) (get_or (get_or heard i []) k (pos 0)) (pinned_symbol scale pins heard d) (le-ltb k 4 n)
+      ∙ get_or-map (symbol_at scale) levels (d / 12) 0 (pos 0) within,
   data_is scale 1 pins heard old new i k h l n m ∙ get_or-map (symbol_at 1) levels (d / 12) 0 (pos 0) within,
 )
   where

@@ -37,23 +37,48 @@ is_signed bit k number whole e f = record {
 pub same_excess : (a b : Excess ℤ) → a.far ≡ b.far → a.near ≡ b.near → a.other_near ≡ b.other_near
     → a.both ≡ b.both → a.other_both ≡ b.other_both → a ≡ b
 same_excess a b e f g h i =
-    ap (λ (x : ℤ). record { far = x; near = a.near; other_near = a.other_near; both = a.both;
-    other_both = a.other_both; }) e
-    ∙ ap (λ (x : ℤ). record { far = b.far; near = x; other_near = a.other_near; both = a.both;
-    other_both = a.other_both; }) f
-    ∙ ap (λ (x : ℤ). record { far = b.far; near = b.near; other_near = x; both = a.both;
-    other_both = a.other_both; }) g
-    ∙ ap (λ (x : ℤ). record { far = b.far; near = b.near; other_near = b.other_near; both = x;
-    other_both = a.other_both; }) h
-    ∙ ap (λ (x : ℤ). record { far = b.far; near = b.near; other_near = b.other_near; both = b.both;
-    other_both = x; }) i
+    ap (λ (x : ℤ). record {
+      far = x;
+      near = a.near;
+      other_near = a.other_near;
+      both = a.both;
+      other_both = a.other_both;
+    }) e
+    ∙ ap (λ (x : ℤ). record {
+      far = b.far;
+      near = x;
+      other_near = a.other_near;
+      both = a.both;
+      other_both = a.other_both;
+    }) f
+    ∙ ap (λ (x : ℤ). record {
+      far = b.far;
+      near = b.near;
+      other_near = x;
+      both = a.both;
+      other_both = a.other_both;
+    }) g
+    ∙ ap (λ (x : ℤ). record {
+      far = b.far;
+      near = b.near;
+      other_near = b.other_near;
+      both = x;
+      other_both = a.other_both;
+    }) h
+    ∙ ap (λ (x : ℤ). record {
+      far = b.far;
+      near = b.near;
+      other_near = b.other_near;
+      both = b.both;
+      other_both = x;
+    }) i
 
 pub same_lane : (a b : Lane) → a.former ≡ b.former → a.q1 ≡ b.q1 → a.q0 ≡ b.q0 → a.more ≡ b.more → a ≡ b
 same_lane a b e f g h =
-    ap (λ (x : ℕ). record { former = x; q1 = a.q1; q0 = a.q0; more = a.more; }) e
-    ∙ ap (λ (x : ℕ). record { former = b.former; q1 = x; q0 = a.q0; more = a.more; }) f
-    ∙ ap (λ (x : ℕ). record { former = b.former; q1 = b.q1; q0 = x; more = a.more; }) g
-    ∙ ap (λ (x : Excess ℤ). record { former = b.former; q1 = b.q1; q0 = b.q0; more = x; }) h
+    ap (λ (x : ℕ). record { former = x; q1 = a.q1; q0 = a.q0; more = a.more }) e
+    ∙ ap (λ (x : ℕ). record { former = b.former; q1 = x; q0 = a.q0; more = a.more }) f
+    ∙ ap (λ (x : ℕ). record { former = b.former; q1 = b.q1; q0 = x; more = a.more }) g
+    ∙ ap (λ (x : Excess ℤ). record { former = b.former; q1 = b.q1; q0 = b.q0; more = x }) h
 
 -- the first n coders have taken a step, and the others have not
 pub record AreLanesAfter (scale : ℕ) (pins : List ℕ) (symbols : List ℤ) (n : ℕ) (old new : ℕ → Lane) : Type 0 where

@@ -171,12 +171,12 @@ flipped_more : (scale : ℕ) (pins : List ℕ) (v : ℤ) (symbols : List ℤ) (p
 unfolding next_state
 flipped_more scale pins v symbols p a b pin former q1 q0 l f g h m n o =
     let z : told_level pin ((former + p) % 2) (2 * ((q1 + a) % 2) + (q0 + b) % 2)
-        ≡ 4 * (((former + pin / 2) % 2 + p) % 2) + 2 * (pin % 2) + (q1 + a) % 2 = omega arith in
+    ≡ 4 * (((former + pin / 2) % 2 + p) % 2) + 2 * (pin % 2) + (q1 + a) % 2 = omega arith in
     let z2 : told_level pin ((former + p) % 2) (2 * ((q1 + a) % 2) + (q0 + b) % 2) / 4
-        ≡ ((former + pin / 2) % 2 + p) % 2 = omega (arith, z) in
+    ≡ ((former + pin / 2) % 2 + p) % 2 = omega (arith, z) in
     let state : next_state (2 * ((q1 + a) % 2) + (q0 + b) % 2)
-        (told_level pin ((former + p) % 2) (2 * ((q1 + a) % 2) + (q0 + b) % 2))
-        ≡ 2 * (((pin % 2 + q0) % 2 + b) % 2) + (q1 + a) % 2 = omega (arith, z) in
+    (told_level pin ((former + p) % 2) (2 * ((q1 + a) % 2) + (q0 + b) % 2))
+    ≡ 2 * (((pin % 2 + q0) % 2 + b) % 2) + (q1 + a) % 2 = omega (arith, z) in
     ap₂ (λ x y. x + y) (ap (weight scale v) z) (ap₂ (told_weight scale pins symbols) z2 state)
 
 bits_after : (scale pin : ℕ) (v : ℤ) (lane : Lane) → HasBits lane → HasBits (lane_after scale pin v lane)
@@ -334,7 +334,7 @@ sum_weight scale pins symbols segments p s sum more from to told bytes long end 
         ap₂ (λ former t. pos (told_weight scale pins symbols former t) +ℤ less_at_end p (s / 2) (s % 2) symbols
         (lane_at_end scale pins symbols beginning).more) (sym former) (sym state)
         ∙ told_difference scale pins symbols beginning p (s / 2) (s % 2) from to told bytes
-        (record { former = omega arith; q1 = omega arith; q0 = omega arith; }) l (omega arith) (omega arith)
+        (record { former = omega arith; q1 = omega arith; q0 = omega arith }) l (omega arith) (omega arith)
 
 pub told_sums_are : (scale : ℕ) (pins : List ℕ) (symbols : List ℤ) (segments : ℕ) (more : Excess ℤ)
     (sums : List (List ℕ)) → 0 < scale → scale ≤ 18 → AreTold pins (length symbols) → AreBytes symbols

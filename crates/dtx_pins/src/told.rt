@@ -149,12 +149,7 @@ fn told_segment(
 {
     for r in 0..SEGMENT_ROUNDS {
         let pins = cells[r];
-        told_step(
-            scale,
-            &lanes_of(&pins),
-            &read_turned(heard, r, turn),
-            told,
-        );
+        told_step(scale, &lanes_of(&pins), &read_turned(heard, r, turn), told);
         cells[r] = marks_of(&pins);
     }
 }
@@ -184,11 +179,7 @@ fn told_step(scale: u8, pins: &[u16; LANES], symbols: &[i8; LANES], told: &mut T
 {
     for e in 0..LANES {
         let lane = lane_of(told, e);
-        put_lane(
-            &told_lane(scale, pins[e], symbols[e], &lane),
-            e,
-            told,
-        );
+        put_lane(&told_lane(scale, pins[e], symbols[e], &lane), e, told);
     }
 }
 
@@ -333,11 +324,7 @@ fn add(told: &mut Told, totals: &mut Excesses<i32>)
 {
     for e in 0..LANES {
         let lane = lane_of(told, e);
-        put_excess(
-            excess_with(excess_of(totals, e), lane.more),
-            e,
-            totals,
-        );
+        put_excess(excess_with(excess_of(totals, e), lane.more), e, totals);
         put_lane(&emptied(&lane), e, told);
     }
 }

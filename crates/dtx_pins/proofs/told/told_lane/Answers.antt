@@ -27,25 +27,97 @@ returns-clause-small c n h = record {
   q1 = omega arith;
   q0 = h.q1;
   small = record {
-    far_from = omega (arith, ints, h.small.far_from, h.small.far_to, c.requires.lane.small.far_from,
-        c.requires.lane.small.far_to, c.far_by.ensures.from, c.far_by.ensures.to);
-    far_to = omega (arith, ints, h.small.far_from, h.small.far_to, c.requires.lane.small.far_from,
-        c.requires.lane.small.far_to, c.far_by.ensures.from, c.far_by.ensures.to);
-    near_from = omega (arith, ints, h.small.other_near_from, h.small.other_near_to, c.requires.lane.small.other_near_from,
-        c.requires.lane.small.other_near_to);
-    near_to = omega (arith, ints, h.small.other_near_from, h.small.other_near_to, c.requires.lane.small.other_near_from,
-        c.requires.lane.small.other_near_to);
-    other_near_from = omega (arith, ints, h.small.near_from, h.small.near_to, c.requires.lane.small.near_from,
-        c.requires.lane.small.near_to, c.near_by.ensures.from, c.near_by.ensures.to);
-    other_near_to = omega (arith, ints, h.small.near_from, h.small.near_to, c.requires.lane.small.near_from,
-        c.requires.lane.small.near_to, c.near_by.ensures.from, c.near_by.ensures.to);
-    both_from = omega (arith, ints, h.small.other_both_from, h.small.other_both_to, c.requires.lane.small.other_both_from,
-        c.requires.lane.small.other_both_to);
-    both_to = omega (arith, ints, h.small.other_both_from, h.small.other_both_to, c.requires.lane.small.other_both_from,
-        c.requires.lane.small.other_both_to);
-    other_both_from = omega (arith, ints, h.small.both_from, h.small.both_to, c.requires.lane.small.both_from,
-        c.requires.lane.small.both_to, c.both_by.ensures.from, c.both_by.ensures.to);
-    other_both_to = omega (arith, ints, h.small.both_from, h.small.both_to, c.requires.lane.small.both_from,
-        c.requires.lane.small.both_to, c.both_by.ensures.from, c.both_by.ensures.to);
+    far_from = omega (
+      arith,
+      ints,
+      h.small.far_from,
+      h.small.far_to,
+      c.requires.lane.small.far_from,
+      c.requires.lane.small.far_to,
+      c.far_by.ensures.from,
+      c.far_by.ensures.to,
+    );
+    far_to = omega (
+      arith,
+      ints,
+      h.small.far_from,
+      h.small.far_to,
+      c.requires.lane.small.far_from,
+      c.requires.lane.small.far_to,
+      c.far_by.ensures.from,
+      c.far_by.ensures.to,
+    );
+    near_from = omega (
+      arith,
+      ints,
+      h.small.other_near_from,
+      h.small.other_near_to,
+      c.requires.lane.small.other_near_from,
+      c.requires.lane.small.other_near_to,
+    );
+    near_to = omega (
+      arith,
+      ints,
+      h.small.other_near_from,
+      h.small.other_near_to,
+      c.requires.lane.small.other_near_from,
+      c.requires.lane.small.other_near_to,
+    );
+    other_near_from = omega (
+      arith,
+      ints,
+      h.small.near_from,
+      h.small.near_to,
+      c.requires.lane.small.near_from,
+      c.requires.lane.small.near_to,
+      c.near_by.ensures.from,
+      c.near_by.ensures.to,
+    );
+    other_near_to = omega (
+      arith,
+      ints,
+      h.small.near_from,
+      h.small.near_to,
+      c.requires.lane.small.near_from,
+      c.requires.lane.small.near_to,
+      c.near_by.ensures.from,
+      c.near_by.ensures.to,
+    );
+    both_from = omega (
+      arith,
+      ints,
+      h.small.other_both_from,
+      h.small.other_both_to,
+      c.requires.lane.small.other_both_from,
+      c.requires.lane.small.other_both_to,
+    );
+    both_to = omega (
+      arith,
+      ints,
+      h.small.other_both_from,
+      h.small.other_both_to,
+      c.requires.lane.small.other_both_from,
+      c.requires.lane.small.other_both_to,
+    );
+    other_both_from = omega (
+      arith,
+      ints,
+      h.small.both_from,
+      h.small.both_to,
+      c.requires.lane.small.both_from,
+      c.requires.lane.small.both_to,
+      c.both_by.ensures.from,
+      c.both_by.ensures.to,
+    );
+    other_both_to = omega (
+      arith,
+      ints,
+      h.small.both_from,
+      h.small.both_to,
+      c.requires.lane.small.both_from,
+      c.requires.lane.small.both_to,
+      c.both_by.ensures.from,
+      c.both_by.ensures.to,
+    );
   };
 }
