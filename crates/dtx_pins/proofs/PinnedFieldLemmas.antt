@@ -1,6 +1,6 @@
--- Segments in which each coder's symbols were replaced are what the function gives, which is so replaced; and what that
--- costs.
-use Rattle.std.proofs.Common.{◌≡◌, ℕ, ℤ, pos, ◌+◌, ◌-◌, ◌*◌, ◌/◌, ◌%◌, ◌<◌, ◌≤◌, ◌⊎◌, inl, inr, nat_lt, cond, List, []}
+-- Segments in which each coder's symbols were replaced are what the function gives, which is so replaced; their levels; and
+-- what that costs.
+use Rattle.std.proofs.Common.{◌≡◌, ℕ, zero, suc, ◌∷◌, ℤ, pos, ◌+◌, ◌-◌, ◌*◌, ◌/◌, ◌%◌, ◌<◌, ◌≤◌, ◌⊎◌, inl, inr, nat_lt, cond, List, []}
 use Rattle.std.proofs.Common.{length, map, get_or, sum, sym, ap, ap₂, ◌∙◌, arith}
 use Rattle.std.proofs.lemmas.Bool.{cases_lt, cond-true, cond-false, lt-ltb, le-ltb}
 use Rattle.std.specs.List.{range_with_len}
@@ -10,8 +10,7 @@ use Rattle.dtx_lists.proofs.Range.{map-range_same}
 use Rattle.dtx_slice.specs.Unrolled.{symbol_place}
 use Rattle.dtx_trellis.specs.Pairs.{coder_at}
 use Rattle.dtx_soft.specs.Coders.{coder_symbols, coders_distance, data_symbol}
-use Rattle.dtx_soft.specs.Paths.{cost, distance, symbol_at}
-use Rattle.dtx_soft.proofs.Paths.{path_small}
+use Rattle.dtx_soft.specs.Paths.{IsPath, cost, distance, next_state, symbol_at}
 use Rattle.dtx_soft.proofs.SoftenedLemmas.{coder_is, round_is}
 use Rattle.dtx_soft.proofs.SoftenedLemmas.{coder_small, length-coder, own_place}
 use Rattle.dtx_pins.specs.LeastPinned.{IsLeastPinned, least_pinned_levels, least_pinned_start}
@@ -221,6 +220,13 @@ length-heard scale at pins heard old new h =
     ∙ length-coder heard 0 in
     omega (arith, many)
 
+-- every level of a path is below 8
+path_small : (state : ℕ) (levels : List ℕ) → IsPath state levels → (k : ℕ) → k < length levels
+    → get_or levels k 0 < 8
+path_small state [] path k l = absurd (omega arith)
+path_small state (z ∷ levels) path zero l = path.0
+path_small state (z ∷ levels) path (suc k) l = path_small (next_state state z) levels path.2 k (omega arith)
+
 -- The levels that are decided: at scale 1 they have the symbols that the decoder writes, and at the scale of what was
 -- heard those that `pinned` gives.
 pub pinned_level : (scale : ℕ) (pins : List (List ℕ)) (heard old new : List (List ℤ)) (i k : ℕ)
@@ -232,8 +238,8 @@ pinned_level scale pins heard old new i k h l n m = (
   level,
   path_small (least_pinned_start scale (coder_pins pins e) (coder_symbols heard e)) levels least.path (d / 12) within,
   pinned_at scale pins heard i k (omega (arith, many)) m
-  ∙ cond-false (nat_lt k 4) (get_or (get_or heard i []) k (pos 0)) (pinned_symbol scale pins heard d) (le-ltb k 4 n)
-  ∙ get_or-map (symbol_at scale) levels (d / 12) 0 (pos 0) within,
+      ∙ cond-false (nat_lt k 4) (get_or (get_or heard i []) k (pos 0)) (pinned_symbol scale pins heard d) (le-ltb k 4 n)
+      ∙ get_or-map (symbol_at scale) levels (d / 12) 0 (pos 0) within,
   data_is scale 1 pins heard old new i k h l n m ∙ get_or-map (symbol_at 1) levels (d / 12) 0 (pos 0) within,
 )
   where

@@ -53,8 +53,8 @@ pub fn one_pinning()
         → ((i : ℕ) → i < length other → length (slice_index_or other i []) ≡ SEGMENT) → new ≡ other }
 {}
 
-/// At the scale of what was heard the symbols of the twelve coders are off it by what their least paths under pins cost,
-/// in the sum of the squares.
+/// At the scale of what was heard the symbols of the twelve coders are off it by what their least paths under pins
+/// cost, in the sum of the squares.
 pub fn cost_of_pinning()
     ensures { (scale : ℕ) (pins : List (List ℕ)) (heard old new : List (List ℤ))
         → IsPinned scale scale pins heard old new
