@@ -1,7 +1,7 @@
--- Segments in which each coder's symbols were replaced are what the function gives, which is so replaced; their levels; and
--- what that costs.
-use Rattle.std.proofs.Common.{◌≡◌, ℕ, zero, suc, ◌∷◌, ℤ, pos, ◌+◌, ◌-◌, ◌*◌, ◌/◌, ◌%◌, ◌<◌, ◌≤◌, ◌⊎◌, inl, inr, nat_lt, cond, List, []}
-use Rattle.std.proofs.Common.{length, map, get_or, sum, sym, ap, ap₂, ◌∙◌, arith}
+-- Segments in which each coder's symbols were replaced: no others are so decided, and the function gives them at the
+-- scale of what was heard. What they cost, and their levels.
+use Rattle.std.proofs.Common.{◌≡◌, ℕ, zero, suc, ℤ, pos, ◌+◌, ◌-◌, ◌*◌, ◌/◌, ◌%◌, ◌<◌, ◌≤◌, ◌⊎◌, inl, inr, nat_lt, cond}
+use Rattle.std.proofs.Common.{List, [], ◌∷◌, length, map, get_or, sum, sym, ap, ap₂, ◌∙◌, arith}
 use Rattle.std.proofs.lemmas.Bool.{cases_lt, cond-true, cond-false, lt-ltb, le-ltb}
 use Rattle.std.specs.List.{range_with_len}
 use Rattle.std.proofs.lemmas.List.{get_or-map, get_or_past, length-map}
