@@ -1,7 +1,7 @@
--- Segments in which each coder's symbols were replaced are what the function gives, which is so replaced; and what that
--- costs.
-use Rattle.std.proofs.Common.{◌≡◌, ℕ, ℤ, pos, ◌+◌, ◌-◌, ◌*◌, ◌/◌, ◌%◌, ◌<◌, ◌≤◌, ◌⊎◌, inl, inr, nat_lt, cond, List, []}
-use Rattle.std.proofs.Common.{length, map, get_or, sum, sym, ap, ap₂, ◌∙◌, arith}
+-- Segments in which each coder's symbols were replaced: no others are so decided, and the function gives them at the
+-- scale of what was heard. What they cost, and their levels.
+use Rattle.std.proofs.Common.{◌≡◌, ℕ, zero, suc, ℤ, pos, ◌+◌, ◌-◌, ◌*◌, ◌/◌, ◌%◌, ◌<◌, ◌≤◌, ◌⊎◌, inl, inr, nat_lt, cond}
+use Rattle.std.proofs.Common.{List, [], ◌∷◌, length, map, get_or, sum, sym, ap, ap₂, ◌∙◌, arith}
 use Rattle.std.proofs.lemmas.Bool.{cases_lt, cond-true, cond-false, lt-ltb, le-ltb}
 use Rattle.std.specs.List.{range_with_len}
 use Rattle.std.proofs.lemmas.List.{get_or-map, get_or_past, length-map}
@@ -10,8 +10,7 @@ use Rattle.dtx_lists.proofs.Range.{map-range_same}
 use Rattle.dtx_slice.specs.Unrolled.{symbol_place}
 use Rattle.dtx_trellis.specs.Pairs.{coder_at}
 use Rattle.dtx_soft.specs.Coders.{coder_symbols, coders_distance, data_symbol}
-use Rattle.dtx_soft.specs.Paths.{cost, distance, symbol_at}
-use Rattle.dtx_soft.proofs.Paths.{path_small}
+use Rattle.dtx_soft.specs.Paths.{IsPath, cost, distance, next_state, symbol_at}
 use Rattle.dtx_soft.proofs.SoftenedLemmas.{coder_is, round_is}
 use Rattle.dtx_soft.proofs.SoftenedLemmas.{coder_small, length-coder, own_place}
 use Rattle.dtx_pins.specs.LeastPinned.{IsLeastPinned, least_pinned_levels, least_pinned_start}
@@ -220,6 +219,13 @@ length-heard scale at pins heard old new h =
     sym (length-coder new 0) ∙ ap length first.symbols ∙ length-map first.levels (symbol_at at) ∙ first.least.long
     ∙ length-coder heard 0 in
     omega (arith, many)
+
+-- every level of a path is below 8
+path_small : (state : ℕ) (levels : List ℕ) → IsPath state levels → (k : ℕ) → k < length levels
+    → get_or levels k 0 < 8
+path_small state [] path k l = absurd (omega arith)
+path_small state (z ∷ levels) path zero l = path.0
+path_small state (z ∷ levels) path (suc k) l = path_small (next_state state z) levels path.2 k (omega arith)
 
 -- The levels that are decided: at scale 1 they have the symbols that the decoder writes, and at the scale of what was
 -- heard those that `pinned` gives.

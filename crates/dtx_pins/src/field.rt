@@ -49,7 +49,8 @@ fn first_pins(pins: &[[u16; CODERS]]) -> [u16; CODERS]
 }
 
 /// Writes the marks in place of the pins, and returns sums that stand for the least costs before the first step. Where
-/// all pairs are known, one way is left from each beginning, and no search is needed.
+/// all pairs are known, one way is left from each beginning, and no search is needed. At scale 0 all paths cost the
+/// same, which sums over one path would not show.
 fn walk_back(
     weights: &Weights,
     cells: &mut [[u16; CODERS]],

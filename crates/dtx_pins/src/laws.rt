@@ -1,9 +1,10 @@
 //! Laws of the definitions: the one least path under pins, and what pins change.
 
-ghost use Rattle.std.specs.Prelude.{◌≡◌, ◌↔◌, ℕ, ℤ, ◌<◌, ◌≤◌, IsTrue, List, [], ◌∷◌, length, slice_index_or};
+ghost use Rattle.std.specs.Prelude.{◌≡◌, ◌↔◌, ℕ, ℤ, pos, ◌<◌, ◌≤◌, IsTrue, List, [], ◌∷◌, length};
+ghost use Rattle.std.specs.Prelude.{slice_index_or};
 ghost use Rattle.dtx_soft.specs.Coders.{coders_distance};
 ghost use Rattle.dtx_soft.specs.LeastPath.{least_path};
-ghost use Rattle.dtx_soft.specs.Paths.{cost};
+ghost use Rattle.dtx_soft.specs.Paths.{cost, symbol_at};
 ghost use Rattle.dtx_pins.specs.Pins.{Agrees, agrees, pin_at};
 ghost use Rattle.dtx_pins.specs.LeastPinned.{IsLeastPinned, least_pinned_levels, least_pinned_path};
 ghost use Rattle.dtx_pins.specs.LeastPinned.{least_pinned_start};
@@ -53,8 +54,17 @@ pub fn one_pinning()
         → ((i : ℕ) → i < length other → length (slice_index_or other i []) ≡ SEGMENT) → new ≡ other }
 {}
 
-/// At the scale of what was heard the symbols of the twelve coders are off it by what their least paths under pins cost,
-/// in the sum of the squares.
+/// Let a field be decided at scale 1. Each data symbol is then that of the level whose symbol `pinned` has there.
+pub fn decided_levels()
+    ensures { (scale i k : ℕ) (pins : List (List ℕ)) (heard old new : List (List ℤ))
+        → IsPinned scale 1 pins heard old new → i < length new → 4 ≤ k → k < SEGMENT
+        → (z : ℕ) × (z < 8)
+        × (slice_index_or (slice_index_or (pinned scale pins heard) i []) k (pos 0) ≡ symbol_at scale z)
+        × (slice_index_or (slice_index_or new i []) k (pos 0) ≡ symbol_at 1 z) }
+{}
+
+/// Let segments be decided at the scale of what was heard. The symbols of each coder are then off those that were
+/// heard by what its least path under pins costs, in the sum of the squares.
 pub fn cost_of_pinning()
     ensures { (scale : ℕ) (pins : List (List ℕ)) (heard old new : List (List ℤ))
         → IsPinned scale scale pins heard old new

@@ -1,7 +1,7 @@
-//! Fields all of whose pairs are known. From each beginning one path is left: that of the encoder. A beginning is a state
-//! 2 * q1 + q0 and the Z2 before the first level. Two paths of one coder differ just as their beginnings do: in Z2 of each
-//! level where those do in Z2, and in Z0 where those do in q1 at even steps, and in q0 at odd ones. So one path is followed
-//! for each coder, and sums say by how much the others come to more.
+//! Fields all of whose pairs are known. From each beginning one path is left: that of the encoder. A beginning is a
+//! state 2 * q1 + q0, and the Z2 before the first level. Two such paths of a coder have the same Z1. Their Z2 differ at
+//! each step if the beginnings do in Z2. Their Z0 differ at even steps if the beginnings do in q1, and at odd steps if
+//! they do in q0. So one path is followed for each coder, and sums say what the others weigh less.
 
 ghost use Rattle.std.specs.Prelude.{◌≡◌, ◌≢◌, ℕ, pos, ◌+◌, ◌-◌, ◌*◌, ◌/◌, ◌%◌, ◌<◌, ◌≤◌, ◌+ℤ◌, ◌-ℤ◌, ◌≤ℤ◌, neg_ℤ};
 ghost use Rattle.std.specs.Prelude.{FitsSigned, [], length, slice_index, slice_index_or, ◌==◌, if◌then◌else◌};
@@ -154,7 +154,7 @@ fn told_segment(
     }
 }
 
-/// The mark of each pin: the same level from each state, with the other Z2 behind the other one.
+/// The mark of each pin. It has one number for all states, and behind the other Z2 the number with the other Z2.
 #[inline(always)]
 fn marks_of(pins: &[u16; CODERS]) -> [u16; CODERS]
     requires told { (e : ℕ) → e < CODERS → slice_index pins.now e < 4 }

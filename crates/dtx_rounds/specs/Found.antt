@@ -84,6 +84,7 @@ pub record IsUnchanged (field new : Field) : Type 0 where
   pub known : new.known ≡ field.known
   pub words : new.words ≡ field.words
   pub cost : new.cost ≡ field.cost
+  pub moved : new.moved ≡ field.moved
   pub knows_more : new.knows_more ≡ field.knows_more
 
 -- A field and the one behind it, `new` and `new_next`, are as before but for what is known with these corrections.

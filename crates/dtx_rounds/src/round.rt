@@ -87,7 +87,7 @@ impl Round {
         // A whole field ends with the last symbols of the twelve coders.
         let last = last_levels(&self.held.decided[WORDS]);
         write_bytes(&last, field);
-        // Behind them stand those of the next field.
+        // The bytes of the next field stand behind all those of the held one.
         prove!(self.held.bytes().len() == BYTES);
         turn(means, &mut self.held, field);
         std::mem::swap(&mut self.held, field);

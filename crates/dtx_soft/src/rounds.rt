@@ -102,6 +102,8 @@ pub fn write_turned(lanes: &[i8; LANES], r: usize, turn: usize, segment: &mut [i
         ≡ slice_index_or lanes.now ((p + 4 * turn) % 12) (pos 0) }
     ensures before { (k : ℕ) → k < 4 + 12 * r
         → slice_index_or segment.new k (pos 0) ≡ slice_index_or segment.old k (pos 0) }
+    ensures behind { (k : ℕ) → 16 + 12 * r ≤ k
+        → slice_index_or segment.new k (pos 0) ≡ slice_index_or segment.old k (pos 0) }
 {
     match turn {
         0 => write_round(lanes, r, 0, segment),
@@ -118,6 +120,8 @@ fn write_round(lanes: &[i8; LANES], r: usize, turn: usize, segment: &mut [i8; SE
     ensures symbols { (p : ℕ) → p < CODERS → slice_index_or segment.new (4 + 12 * r + p) (pos 0)
         ≡ slice_index_or lanes.now ((p + 4 * turn) % 12) (pos 0) }
     ensures before { (k : ℕ) → k < 4 + 12 * r
+        → slice_index_or segment.new k (pos 0) ≡ slice_index_or segment.old k (pos 0) }
+    ensures behind { (k : ℕ) → 16 + 12 * r ≤ k
         → slice_index_or segment.new k (pos 0) ≡ slice_index_or segment.old k (pos 0) }
 {
     for p in 0..CODERS {

@@ -13,6 +13,8 @@ loop-p-preserved c = record {
   symbols = λ p l. by_place p l (cases_eq p c.loop-p.p);
   before = λ k l. get_or-set_other c.loop-p.segment (4 + 12 * c.args.r + c.loop-p.p) k _ (pos 0)
       (λ e. absurd (omega arith)) ∙ c.loop-p.invariant.before k l;
+  behind = λ k l. get_or-set_other c.loop-p.segment (4 + 12 * c.args.r + c.loop-p.p) k _ (pos 0)
+      (λ e. absurd (omega arith)) ∙ c.loop-p.invariant.behind k l;
 }
   where
     symbol : ℕ → ℤ
