@@ -58,10 +58,10 @@ told_least scale pins (v ∷ symbols) former state told f m =
     let behind = listed (told_cost scale (drop 1 pins) symbols) in
     let z = told_level (pin_at pins 0) former state in
     let least : AreLeastCosts scale (drop 1 pins) symbols (listed (told_cost scale (drop 1 pins) symbols)) = λ p s l k.
-        subst (IsLeastCost scale (drop 1 pins) symbols p s)
-        (sym (listed_at (told_cost scale (drop 1 pins) symbols) p s l k))
-        (told_least scale (drop 1 pins) symbols p s (told_behind pins 1 (length symbols) (λ t n. told t (omega arith)))
-        l k) in
+    subst (IsLeastCost scale (drop 1 pins) symbols p s)
+    (sym (listed_at (told_cost scale (drop 1 pins) symbols) p s l k))
+    (told_least scale (drop 1 pins) symbols p s (told_behind pins 1 (length symbols) (λ t n. told t (omega arith)))
+    l k) in
     subst (IsLeastCost scale pins (v ∷ symbols) former state)
     (ap (λ x. squared v (symbol_at scale z) + x)
     (listed_at (told_cost scale (drop 1 pins) symbols) (z / 4) (next_state state z) (omega arith)

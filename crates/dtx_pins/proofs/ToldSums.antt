@@ -1,6 +1,8 @@
 -- What paths from other beginnings weigh, where all pairs are known.
-use Rattle.std.proofs.Common.{◌≡◌, ℕ, zero, suc, ℤ, pos, ◌+◌, ◌*◌, ◌/◌, ◌%◌, ◌<◌, ◌≤◌, ◌-◌, ◌+ℤ◌, ◌-ℤ◌, ◌*ℤ◌, ◌≤ℤ◌, Bool}
-use Rattle.std.proofs.Common.{true, false, cond, nat_abs, nat_eq, List, [], ◌∷◌, length, drop, refl, sym, ap, ap₂, ◌∙◌, subst}
+use Rattle.std.proofs.Common.{◌≡◌, ℕ, zero, suc, ℤ, pos, ◌+◌, ◌*◌, ◌/◌, ◌%◌, ◌<◌, ◌≤◌, ◌-◌, ◌+ℤ◌, ◌-ℤ◌, ◌*ℤ◌, ◌≤ℤ◌}
+use Rattle.std.proofs.Common.{Bool}
+use Rattle.std.proofs.Common.{true, false, cond, nat_abs, nat_eq, List, [], ◌∷◌, length, drop, refl, sym, ap, ap₂, ◌∙◌}
+use Rattle.std.proofs.Common.{subst}
 use Rattle.std.proofs.Common.{get_or, w8, arith}
 use mir.Val.{SFits}
 use Rattle.std.proofs.lemmas.Bool.Decides.{nat_tests}
@@ -13,7 +15,8 @@ use Rattle.dtx_pins.specs.declared.told.Excess.{Excess}
 use Rattle.dtx_pins.specs.declared.told.Lane.{Lane}
 use Rattle.dtx_pins.specs.Pins.{pin_at}
 use Rattle.dtx_pins.specs.Steps.{cost_at, square_of}
-use Rattle.dtx_pins.specs.Told.{beginning, both_by, far_by, from_beginning, if_bit, lane_after, less_by, near_by, no_excess}
+use Rattle.dtx_pins.specs.Told.{beginning, both_by, far_by, from_beginning, if_bit, lane_after, less_by, near_by}
+use Rattle.dtx_pins.specs.Told.{no_excess}
 use Rattle.dtx_pins.specs.Walks.{AreLeastSums}
 use Rattle.dtx_pins.specs.Weights.{depth, ground, weight}
 use Rattle.dtx_pins.proofs.ToldLanes.{eight, each_two}
@@ -171,12 +174,12 @@ flipped_more : (scale : ℕ) (pins : List ℕ) (v : ℤ) (symbols : List ℤ) (p
 unfolding next_state
 flipped_more scale pins v symbols p a b pin former q1 q0 l f g h m n o =
     let z : told_level pin ((former + p) % 2) (2 * ((q1 + a) % 2) + (q0 + b) % 2)
-        ≡ 4 * (((former + pin / 2) % 2 + p) % 2) + 2 * (pin % 2) + (q1 + a) % 2 = omega arith in
+    ≡ 4 * (((former + pin / 2) % 2 + p) % 2) + 2 * (pin % 2) + (q1 + a) % 2 = omega arith in
     let z2 : told_level pin ((former + p) % 2) (2 * ((q1 + a) % 2) + (q0 + b) % 2) / 4
-        ≡ ((former + pin / 2) % 2 + p) % 2 = omega (arith, z) in
+    ≡ ((former + pin / 2) % 2 + p) % 2 = omega (arith, z) in
     let state : next_state (2 * ((q1 + a) % 2) + (q0 + b) % 2)
-        (told_level pin ((former + p) % 2) (2 * ((q1 + a) % 2) + (q0 + b) % 2))
-        ≡ 2 * (((pin % 2 + q0) % 2 + b) % 2) + (q1 + a) % 2 = omega (arith, z) in
+    (told_level pin ((former + p) % 2) (2 * ((q1 + a) % 2) + (q0 + b) % 2))
+    ≡ 2 * (((pin % 2 + q0) % 2 + b) % 2) + (q1 + a) % 2 = omega (arith, z) in
     ap₂ (λ x y. x + y) (ap (weight scale v) z) (ap₂ (told_weight scale pins symbols) z2 state)
 
 bits_after : (scale pin : ℕ) (v : ℤ) (lane : Lane) → HasBits lane → HasBits (lane_after scale pin v lane)
@@ -259,7 +262,8 @@ picked t more = record {
 swapped : (x y : ℤ) → (x +ℤ y) ≡ (y +ℤ x)
 swapped x y = omega (arith, ints)
 
-less_picked : (t : Bool) (p a b : ℕ) (more : Excess ℤ) → less_by p b a (picked t more) ≡ less_by p a b (picked (not t) more)
+less_picked : (t : Bool) (p a b : ℕ) (more : Excess ℤ)
+    → less_by p b a (picked t more) ≡ less_by p a b (picked (not t) more)
 unfolding picked not
 less_picked true p a b more =
     ap₂ (λ x y. if_bit p ((pos 16 *ℤ more.far) -ℤ x) +ℤ y)
@@ -334,7 +338,7 @@ sum_weight scale pins symbols segments p s sum more from to told bytes long end 
         ap₂ (λ former t. pos (told_weight scale pins symbols former t) +ℤ less_at_end p (s / 2) (s % 2) symbols
         (lane_at_end scale pins symbols beginning).more) (sym former) (sym state)
         ∙ told_difference scale pins symbols beginning p (s / 2) (s % 2) from to told bytes
-        (record { former = omega arith; q1 = omega arith; q0 = omega arith; }) l (omega arith) (omega arith)
+        (record { former = omega arith; q1 = omega arith; q0 = omega arith }) l (omega arith) (omega arith)
 
 pub told_sums_are : (scale : ℕ) (pins : List ℕ) (symbols : List ℤ) (segments : ℕ) (more : Excess ℤ)
     (sums : List (List ℕ)) → 0 < scale → scale ≤ 18 → AreTold pins (length symbols) → AreBytes symbols

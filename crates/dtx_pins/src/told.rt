@@ -1,10 +1,10 @@
-//! Fields all of whose pairs are known. From each beginning one path is left: that of the encoder. A beginning is a state
-//! 2 * q1 + q0 and the Z2 before the first level. Two paths of one coder differ just as their beginnings do: in Z2 of each
-//! level where those do in Z2, and in Z0 where those do in q1 at even steps, and in q0 at odd ones. So one path is followed
-//! for each coder, and sums say by how much the others come to more.
+//! Fields all of whose pairs are known. From each beginning one path is left: that of the encoder. A beginning is a
+//! state 2 * q1 + q0 and the Z2 before the first level. Two paths of one coder differ just as their beginnings do: in
+//! Z2 of each level where those do in Z2, and in Z0 where those do in q1 at even steps, and in q0 at odd ones. So one
+//! path is followed for each coder, and sums say by how much it weighs more than the others.
 
-ghost use Rattle.std.specs.Prelude.{◌≡◌, ◌≢◌, ℕ, pos, ◌+◌, ◌-◌, ◌*◌, ◌/◌, ◌%◌, ◌<◌, ◌≤◌, ◌+ℤ◌, ◌-ℤ◌, ◌≤ℤ◌, neg_ℤ};
-ghost use Rattle.std.specs.Prelude.{FitsSigned, [], length, slice_index, slice_index_or, ◌==◌, if◌then◌else◌};
+ghost use Rattle.std.specs.Prelude.{◌≡◌, ◌≢◌, ℕ, pos, ◌+◌, ◌-◌, ◌*◌, ◌%◌, ◌<◌, ◌≤◌, ◌+ℤ◌, ◌-ℤ◌, ◌≤ℤ◌};
+ghost use Rattle.std.specs.Prelude.{FitsSigned, [], length, slice_index, slice_index_or};
 ghost use Rattle.std.specs.Int.{w8};
 ghost use Rattle.dtx_pins.specs.Pins.{AreAllTold, pin_at};
 ghost use Rattle.dtx_pins.specs.Steps.{cost_at};
@@ -17,8 +17,8 @@ use crate::lanes::lanes_of;
 use dtx_sizes::{CODERS, FIELD_PACKETS, SEGMENT, SEGMENT_ROUNDS};
 use dtx_soft::{LANES, MAX_SCALE, read_turned};
 
-/// Sums over steps of one coder, of what its path weighs more than others. `near` and `both` are over the steps that are
-/// an even number of steps before the next one, and `other_near` and `other_both` over those between them.
+/// Sums over steps of one coder, of what its path weighs more than others. `near` and `both` are over the steps that
+/// are an even number of steps before the next one, and `other_near` and `other_both` over those between them.
 #[derive(Clone, Copy, Drop)]
 struct Excess<T> {
     /// A sixteenth of what the path weighs more than the one with the other Z2.
@@ -149,12 +149,7 @@ fn told_segment(
 {
     for r in 0..SEGMENT_ROUNDS {
         let pins = cells[r];
-        told_step(
-            scale,
-            &lanes_of(&pins),
-            &read_turned(heard, r, turn),
-            told,
-        );
+        told_step(scale, &lanes_of(&pins), &read_turned(heard, r, turn), told);
         cells[r] = marks_of(&pins);
     }
 }
@@ -184,11 +179,7 @@ fn told_step(scale: u8, pins: &[u16; LANES], symbols: &[i8; LANES], told: &mut T
 {
     for e in 0..LANES {
         let lane = lane_of(told, e);
-        put_lane(
-            &told_lane(scale, pins[e], symbols[e], &lane),
-            e,
-            told,
-        );
+        put_lane(&told_lane(scale, pins[e], symbols[e], &lane), e, told);
     }
 }
 
@@ -333,11 +324,7 @@ fn add(told: &mut Told, totals: &mut Excesses<i32>)
 {
     for e in 0..LANES {
         let lane = lane_of(told, e);
-        put_excess(
-            excess_with(excess_of(totals, e), lane.more),
-            e,
-            totals,
-        );
+        put_excess(excess_with(excess_of(totals, e), lane.more), e, totals);
         put_lane(&emptied(&lane), e, told);
     }
 }
