@@ -1,7 +1,7 @@
 -- A coder's path, one step further.
-use Rattle.std.proofs.Common.{◌≡◌, ◌≢◌, ◌⊎◌, inl, inr, ℕ, zero, suc, ℤ, pos, ◌+◌, ◌*◌, ◌<◌, ◌≤◌, ◌+ℤ◌, ◌≤ℤ◌, neg_ℤ}
-use Rattle.std.proofs.Common.{Bool, [], length, w8}
-use mir.Syntax.{w16}
+use Rattle.std.proofs.Common.{◌≡◌, ◌≢◌, ◌⊎◌, inl, inr, ℕ, zero, suc, ℤ, pos, ◌+◌, ◌*◌, ◌<◌, ◌≤◌, ◌+ℤ◌, ◌≤ℤ◌}
+use Rattle.std.proofs.Common.{neg_ℤ, ◌*ℤ◌, Bool, [], length, w8}
+use mir.Syntax.{w16, w32}
 use mir.Val.{SFits}
 use Rattle.dtx_soft.proofs.WrapsLemmas.{read, sum_read}
 use Rattle.std.proofs.Common.{true, false, cond, nat_eq, List, get_or, sym, ap, ◌∙◌, subst, arith}
@@ -19,7 +19,8 @@ pub record IsSigned (bit k : ℕ) (number : ℤ) : Type 0 where
   pub from : pos 0 ≤ℤ (number +ℤ pos k)
   pub to : number ≤ℤ pos k
 
-pub is_signed : (bit k : ℕ) (number whole : ℤ) → number ≡ signed bit whole → whole ≡ pos k → IsSigned bit k number
+pub is_signed : (bit k : ℕ) (number whole : ℤ) → number ≡ signed bit whole → whole ≡ pos k
+    → IsSigned bit k number
 is_signed bit k number whole e f = record {
   is = e ∙ ap (signed bit) f;
   from = subst (λ x. pos 0 ≤ℤ (x +ℤ pos k)) (sym (e ∙ ap (signed bit) f)) (from (nat_eq bit 0));
@@ -243,3 +244,36 @@ beginning_lane = record {
     other_both_to = omega (arith, ints);
   };
 }
+
+-- sums of a lane behind a step
+pub record IsSum (n : ℕ) (x : ℤ) : Type 0 where
+  pub from : pos 0 ≤ℤ (x +ℤ pos (240 * (n + 1)))
+  pub to : x ≤ℤ pos (240 * (n + 1))
+
+pub sum_more : (n : ℕ) (a b : ℤ) → pos 0 ≤ℤ (a +ℤ pos 16320) → a ≤ℤ pos 16320 → pos 0 ≤ℤ (b +ℤ pos 240)
+    → b ≤ℤ pos 240 → pos 0 ≤ℤ (a +ℤ pos (240 * n)) → a ≤ℤ pos (240 * n)
+    → IsSum n (read w16 (read w16 a +ℤ read w16 b))
+sum_more n a b a_from a_to b_from b_to from to = record {
+  from = omega (arith, ints, a_from, a_to, b_from, b_to, from);
+  to = omega (arith, ints, a_from, a_to, b_from, b_to, to);
+}
+
+pub sum_kept : (n : ℕ) (a : ℤ) → pos 0 ≤ℤ (a +ℤ pos 16320) → a ≤ℤ pos 16320 → pos 0 ≤ℤ (a +ℤ pos (240 * n))
+    → a ≤ℤ pos (240 * n) → IsSum n (read w16 a)
+sum_kept n a a_from a_to from to = record {
+  from = omega (arith, ints, a_from, a_to, from);
+  to = omega (arith, ints, a_from, a_to, to);
+}
+
+-- multiples of a sum where a bit is 1
+pub four_times : (bit : ℕ) (number x : ℤ) → number ≡ if_bit bit (read w32 (pos 4 *ℤ read w32 x))
+    → pos 0 ≤ℤ (x +ℤ pos 5166720) → x ≤ℤ pos 5166720 → IsBit bit 20666880 number (pos 4 *ℤ x)
+four_times bit number x e from to =
+    is_bit bit 20666880 number _ (pos 4 *ℤ x) e (omega (arith, ints, from, to)) (omega (arith, ints, from, to))
+    (omega (arith, ints, from, to))
+
+pub times_32 : (bit : ℕ) (number x : ℤ) → number ≡ if_bit bit (read w32 (pos 32 *ℤ read w32 x))
+    → pos 0 ≤ℤ (x +ℤ pos 5166720) → x ≤ℤ pos 5166720 → IsBit bit 165335040 number (pos 32 *ℤ x)
+times_32 bit number x e from to =
+    is_bit bit 165335040 number _ (pos 32 *ℤ x) e (omega (arith, ints, from, to)) (omega (arith, ints, from, to))
+    (omega (arith, ints, from, to))

@@ -1,6 +1,8 @@
 -- What paths from other beginnings weigh, where all pairs are known.
-use Rattle.std.proofs.Common.{◌≡◌, ℕ, zero, suc, ℤ, pos, ◌+◌, ◌*◌, ◌/◌, ◌%◌, ◌<◌, ◌≤◌, ◌-◌, ◌+ℤ◌, ◌-ℤ◌, ◌*ℤ◌, ◌≤ℤ◌, Bool}
-use Rattle.std.proofs.Common.{true, false, cond, nat_abs, nat_eq, List, [], ◌∷◌, length, drop, refl, sym, ap, ap₂, ◌∙◌, subst}
+use Rattle.std.proofs.Common.{◌≡◌, ℕ, zero, suc, ℤ, pos, ◌+◌, ◌*◌, ◌/◌, ◌%◌, ◌<◌, ◌≤◌, ◌-◌, ◌+ℤ◌, ◌-ℤ◌, ◌*ℤ◌, ◌≤ℤ◌}
+use Rattle.std.proofs.Common.{Bool}
+use Rattle.std.proofs.Common.{true, false, cond, nat_abs, nat_eq, List, [], ◌∷◌, length, drop, refl, sym, ap, ap₂, ◌∙◌}
+use Rattle.std.proofs.Common.{subst}
 use Rattle.std.proofs.Common.{get_or, w8, arith}
 use mir.Val.{SFits}
 use Rattle.std.proofs.lemmas.Bool.Decides.{nat_tests}
@@ -13,7 +15,8 @@ use Rattle.dtx_pins.specs.declared.told.Excess.{Excess}
 use Rattle.dtx_pins.specs.declared.told.Lane.{Lane}
 use Rattle.dtx_pins.specs.Pins.{pin_at}
 use Rattle.dtx_pins.specs.Steps.{cost_at, square_of}
-use Rattle.dtx_pins.specs.Told.{beginning, both_by, far_by, from_beginning, if_bit, lane_after, less_by, near_by, no_excess}
+use Rattle.dtx_pins.specs.Told.{beginning, both_by, far_by, from_beginning, if_bit, lane_after, less_by, near_by}
+use Rattle.dtx_pins.specs.Told.{no_excess}
 use Rattle.dtx_pins.specs.Walks.{AreLeastSums}
 use Rattle.dtx_pins.specs.Weights.{depth, ground, weight}
 use Rattle.dtx_pins.proofs.ToldLanes.{eight, each_two}
@@ -259,7 +262,8 @@ picked t more = record {
 swapped : (x y : ℤ) → (x +ℤ y) ≡ (y +ℤ x)
 swapped x y = omega (arith, ints)
 
-less_picked : (t : Bool) (p a b : ℕ) (more : Excess ℤ) → less_by p b a (picked t more) ≡ less_by p a b (picked (not t) more)
+less_picked : (t : Bool) (p a b : ℕ) (more : Excess ℤ)
+    → less_by p b a (picked t more) ≡ less_by p a b (picked (not t) more)
 unfolding picked not
 less_picked true p a b more =
     ap₂ (λ x y. if_bit p ((pos 16 *ℤ more.far) -ℤ x) +ℤ y)

@@ -3,8 +3,8 @@
 //! each step if the beginnings do in Z2. Their Z0 differ at even steps if the beginnings do in q1, and at odd steps if
 //! they do in q0. So one path is followed for each coder, and sums say what the others weigh less.
 
-ghost use Rattle.std.specs.Prelude.{◌≡◌, ◌≢◌, ℕ, pos, ◌+◌, ◌-◌, ◌*◌, ◌/◌, ◌%◌, ◌<◌, ◌≤◌, ◌+ℤ◌, ◌-ℤ◌, ◌≤ℤ◌, neg_ℤ};
-ghost use Rattle.std.specs.Prelude.{FitsSigned, [], length, slice_index, slice_index_or, ◌==◌, if◌then◌else◌};
+ghost use Rattle.std.specs.Prelude.{◌≡◌, ◌≢◌, ℕ, pos, ◌+◌, ◌-◌, ◌*◌, ◌%◌, ◌<◌, ◌≤◌, ◌+ℤ◌, ◌-ℤ◌, ◌≤ℤ◌};
+ghost use Rattle.std.specs.Prelude.{FitsSigned, [], length, slice_index, slice_index_or};
 ghost use Rattle.std.specs.Int.{w8};
 ghost use Rattle.dtx_pins.specs.Pins.{AreAllTold, pin_at};
 ghost use Rattle.dtx_pins.specs.Steps.{cost_at};
@@ -17,8 +17,8 @@ use crate::lanes::lanes_of;
 use dtx_sizes::{CODERS, FIELD_PACKETS, SEGMENT, SEGMENT_ROUNDS};
 use dtx_soft::{LANES, MAX_SCALE, read_turned};
 
-/// Sums over steps of one coder, of what its path weighs more than others. `near` and `both` are over the steps that are
-/// an even number of steps before the next one, and `other_near` and `other_both` over those between them.
+/// Sums over steps of one coder, of what its path weighs more than others. `near` and `both` are over the steps that
+/// are an even number of steps before the next one, and `other_near` and `other_both` over those between them.
 #[derive(Clone, Copy, Drop)]
 struct Excess<T> {
     /// A sixteenth of what the path weighs more than the one with the other Z2.

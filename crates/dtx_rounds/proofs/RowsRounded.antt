@@ -229,10 +229,12 @@ pub rounded_field : (scale n c : ℕ) (heard given new : List (List ℤ)) (known
     → moved ≡ rows_moved (take c (drop 1 given)) new → AreLong (take c (drop 1 given)) → AreLong new
     → IsRounded scale n heard given known (put_mid 1 c given new) cost moved
 unfolding field_cost field_rounded rows_moved coder_cost pinned_cost
-rounded_field scale n c heard given new known cost moved some most few heard_long given_long e cost_is is moved_is rows_long
+rounded_field scale n c heard given new known cost moved some most few heard_long given_long e cost_is is moved_is
+    rows_long
     rows_whole = record {
       long = long;
-      rows = fill_by_all (round_segment scale (take n heard) known (take n given)) (take n made) (length (take n given)) []
+      rows = fill_by_all (round_segment scale (take n heard) known (take n given)) (take n made) (length
+          (take n given)) []
           (length-take-le n made (omega (arith, long)) ∙ sym (length-take-le n given (omega (arith, given_long))))
           (λ i l. row i (omega (arith, l, length-take-le n given (omega (arith, given_long)))));
       cost_is = cost_is ∙ ap (λ rows. sum (map (pinned_coder_cost scale (field_pins known 0 (69 * length rows)) rows)
@@ -240,7 +242,8 @@ rounded_field scale n c heard given new known cost moved some most few heard_lon
       moved_is = moved_is
           ∙ ap (over (λ i. moved_in (get_or (take c (drop 1 given)) i []) (get_or new i [])) 0) taken
           ∙ part_sum (λ i. moved_in (get_or (take n given) i []) (get_or (take n made) i []))
-          (λ i. moved_in (get_or (take c (drop 1 given)) i []) (get_or new i [])) n c (λ l. omega arith) (λ l. omega arith)
+          (λ i. moved_in (get_or (take c (drop 1 given)) i []) (get_or new i [])) n c (λ l. omega arith)
+              (λ l. omega arith)
           (λ j l. ap₂ moved_in (given_at j l) (made_at j l))
           (λ i l out. ap₂ moved_in (get_or-take n given i [] l) (get_or-take n made i [] l ∙ stays i l out)
           ∙ none_moves (get_or given i []))
@@ -297,7 +300,8 @@ rounded_field scale n c heard given new known cost moved some most few heard_lon
         ∙ ap₂ (λ (i : ℕ) (segment : List ℤ). take 4 segment ++ map (decided scale) (drop 4 (get_or (pinned scale
         (field_pins known 0 (69 * length (take c (drop 1 heard)))) (take c (drop 1 heard))) i []))) back
         (sym (old_at j l))
-        ∙ sym (round_is scale n c (1 + j) heard given known few (omega (arith, heard_long)) (omega (arith, given_long)) e
+        ∙ sym (round_is scale n c (1 + j) heard given known few (omega (arith, heard_long)) (omega
+            (arith, given_long)) e
         (omega arith) (omega arith) (omega arith))
       where
         back : j ≡ 1 + j - 1

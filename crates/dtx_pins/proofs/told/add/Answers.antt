@@ -25,7 +25,8 @@ loop-e-preserved c = record {
     totals k l (inl e) =
         subst (λ k. excess_at c.put_excess.new.excesses k
         ≡ excess_with (excess_at c.args.totals.now k) (lane_at c.args.told.now k).more) (sym e)
-        (c.put_excess.ensures.written (pos 0) ∙ c.excess_with.ensures ∙ ap₂ excess_with total (ap (λ lane. lane.more) lane))
+        (c.put_excess.ensures.written (pos 0) ∙ c.excess_with.ensures
+        ∙ ap₂ excess_with total (ap (λ lane. lane.more) lane))
     totals k l (inr n) = c.put_excess.ensures.others k (pos 0) n ∙ c.loop-e.invariant.totals k (omega arith)
 
     lanes : (k : ℕ) → k < c.loop-e.e + 1 → (k ≡ c.loop-e.e) ⊎ (k ≢ c.loop-e.e)

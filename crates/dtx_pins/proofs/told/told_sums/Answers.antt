@@ -1,4 +1,5 @@
-use Rattle.std.proofs.Common.{◌≡◌, ◌≢◌, ℕ, ◌+◌, ◌-◌, ◌*◌, ◌/◌, ◌%◌, ◌<◌, ◌≤◌, ◌⊎◌, inl, inr, [], drop, take, get_or, length}
+use Rattle.std.proofs.Common.{◌≡◌, ◌≢◌, ℕ, ◌+◌, ◌-◌, ◌*◌, ◌/◌, ◌%◌, ◌<◌, ◌≤◌, ◌⊎◌, inl, inr, [], drop, take, get_or}
+use Rattle.std.proofs.Common.{length}
 use Rattle.std.proofs.Common.{pos, refl, sym, ap, ap₂, ◌∙◌, subst, w8, arith, rules}
 use mir.Val.{SFits}
 use borrow.Rule.Slice.PartMut.{put_mid}
@@ -106,8 +107,8 @@ returns-clause-walked c = record {
       (length c.args.heard.now) (excess_at c.loop-i.totals e) (get_or c.all_sums.result e []) c.requires.from
       c.requires.to (told e l) (bytes e l) (length-coder c.args.heard.now e) (at_end e l)
       (λ p a b. c.all_sums.ensures e p a b l);
-  marks_are = λ t e l m n. told_mark_is c.args.scale (coder_pins c.args.cells.now e) (coder_symbols c.args.heard.now e) t
-      _ (omega (arith, length-coder c.args.heard.now e)) (told e n)
+  marks_are = λ t e l m n. told_mark_is c.args.scale (coder_pins c.args.cells.now e)
+      (coder_symbols c.args.heard.now e) t _ (omega (arith, length-coder c.args.heard.now e)) (told e n)
       (c.loop-i.invariant.marks t e (omega (arith, end)) n
       ∙ ap told_mark (sym (pin_of_coder c.args.cells.now e t)));
 }
