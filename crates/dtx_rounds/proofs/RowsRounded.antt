@@ -243,7 +243,7 @@ rounded_field scale n c heard given new known cost moved some most few heard_lon
           ∙ ap (over (λ i. moved_in (get_or (take c (drop 1 given)) i []) (get_or new i [])) 0) taken
           ∙ part_sum (λ i. moved_in (get_or (take n given) i []) (get_or (take n made) i []))
           (λ i. moved_in (get_or (take c (drop 1 given)) i []) (get_or new i [])) n c (λ l. omega arith)
-              (λ l. omega arith)
+          (λ l. omega arith)
           (λ j l. ap₂ moved_in (given_at j l) (made_at j l))
           (λ i l out. ap₂ moved_in (get_or-take n given i [] l) (get_or-take n made i [] l ∙ stays i l out)
           ∙ none_moves (get_or given i []))
@@ -301,7 +301,7 @@ rounded_field scale n c heard given new known cost moved some most few heard_lon
         (field_pins known 0 (69 * length (take c (drop 1 heard)))) (take c (drop 1 heard))) i []))) back
         (sym (old_at j l))
         ∙ sym (round_is scale n c (1 + j) heard given known few (omega (arith, heard_long)) (omega
-            (arith, given_long)) e
+        (arith, given_long)) e
         (omega arith) (omega arith) (omega arith))
       where
         back : j ≡ 1 + j - 1

@@ -96,7 +96,7 @@ returns-then-field-clause-decided c = record {
     pins =
         c.put_pins.ensures.pins
         ∙ ap (field_pins c.deref.result.now 0) (length-take-le
-            (69 * c.in_groups-count.result - 0) c.deref_mut.result.now
+        (69 * c.in_groups-count.result - 0) c.deref_mut.result.now
         (omega (arith, c.deref_mut.ensures.len, c.args.means.now.pins_long, c.in_groups-count.ensures.few))
         ∙ omega (arith, c.in_groups-count.ensures.few, heard_long, length-drop 1 heard, length-take k (drop 1 heard)))
 
