@@ -4,10 +4,9 @@ use Rattle.std.specs.Prelude.{Option, Some, None, IfSome, is_some}
 use Rattle.std.proofs.lemmas.Bool.{and_parts}
 use Rattle.dtx_meaning.specs.declared.status.Status.TheVariants.{Done}
 use Rattle.dtx_outside.specs.Shelf.{Files}
-use Rattle.dtx_words.specs.Fitting.{command_of, fit_fields, fits}
+use Rattle.dtx_words.specs.Fitting.{command_of, fits}
 use Rattle.dtx_words.proofs.FittingLemmas.{command_fits}
 use Rattle.dtx_words.specs.Number.{number_in, number_within}
-use Rattle.dtx_words.specs.Rows.{trial_row}
 use Rattle.dtx_words.specs.declared.rows.Command.{Command}
 use Rattle.dtx_words.specs.declared.rows.Command.TheVariants.{Trial}
 use Rattle.dtx_top.specs.Means.{means, means_of}
@@ -46,7 +45,8 @@ fitted_done law (verb ∷ seed ∷ count ∷ []) held fit =
     (within_range 624 1000000 count (number_within 624 1000000 count) refl)
     (and_parts _ _ all).0 (and_parts _ _ (and_parts _ _ all).1).0
 fitted_done law (verb ∷ seed ∷ count ∷ word ∷ words) held fit =
-    let e : false ≡ true = (and_parts _ false (and_parts _ _ (and_parts _ _ fit).1).1).1 in cc
+    let behind = (and_parts _ _ (and_parts _ _ fit).1).1 in
+    let e : false ≡ true = (and_parts (is_some (number_within 624 1000000 count)) false behind).1 in cc
 
 pub words_done : TrialLaw → (words : List (List ℕ)) (held : Files) → command_of words ≡ Some Trial
     → (means words held).outcome.status ≡ Done
