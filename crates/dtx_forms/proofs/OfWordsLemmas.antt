@@ -1,5 +1,5 @@
 -- Lemmas of answers that the words alone tell.
-use Rattle.std.specs.Prelude.{ℕ, false, refl}
+use Rattle.std.specs.Prelude.{ℕ, Bool, true, false, ◌||◌, cond, is_some, List, Some, None, refl}
 use Rattle.dtx_meaning.specs.Status.{IsOfInput, IsOfInputs, of_write}
 use Rattle.dtx_meaning.specs.declared.status.Status.{Status}
 use Rattle.dtx_meaning.specs.declared.status.Status.TheVariants.{Done, Usage, Same, Absent, Plan, Packet, TooLong}
@@ -8,6 +8,12 @@ use Rattle.dtx_meaning.specs.declared.status.Status.TheVariants.{Memory}
 use Rattle.dtx_outside.specs.declared.shelf.WriteNo.{WriteNo}
 use Rattle.dtx_outside.specs.declared.shelf.WriteNo.TheVariants as write
 use Rattle.dtx_forms.specs.PlanFile.{IsPlanRefusal}
+
+-- whether the second of two names equals the first
+pub pair_told : (second : List ℕ) (same : Bool) (inputs : ℕ) (status : Status) → IsOfInputs same inputs status
+    → IsOfInputs (is_some (cond (same || false) (Some second) None)) inputs status
+pair_told second true inputs status is = is
+pair_told second false inputs status is = is
 
 -- a fault of writing
 pub write_of_inputs : (cause : WriteNo) → IsOfInputs false 0 (of_write cause)

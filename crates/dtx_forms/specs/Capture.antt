@@ -8,8 +8,8 @@ use Rattle.dtx_meaning.specs.declared.status.Status.TheVariants.{Usage}
 use Rattle.dtx_outside.specs.Shelf.{Files}
 use Rattle.dtx_words.specs.Number.{number_within}
 use Rattle.dtx_words.specs.declared.rows.Command.{Command}
+use Rattle.dtx_words.specs.declared.rows.Field.TheVariants.{Input, Output, Within}
 use Rattle.dtx_forms.specs.Job.{Job}
-use Rattle.dtx_forms.specs.OfWords.{rounds_same, scaled_same}
 use Rattle.dtx_forms.specs.Stages.{Stages, stages_of}
 
 -- a scale: so many steps of a capture make a unit of the standard's levels
@@ -52,8 +52,8 @@ scaled_stages shape makes words = None
 abbrev pub scaled_job : Command → Shape → (ℕ → ℕ → Recipe) → Job
 scaled_job command shape makes = record {
   command = command;
+  fields = Within 1 18 ∷ Input ∷ Output ∷ [];
   means = scaled_meaning shape makes;
-  same = scaled_same;
   inputs = 1;
   stages = scaled_stages shape makes;
 }
@@ -76,8 +76,8 @@ rounds_stages shape makes words = None
 abbrev pub rounds_job : Command → Shape → (ℕ → ℕ → Recipe) → Job
 rounds_job command shape makes = record {
   command = command;
+  fields = Within 1 18 ∷ Within 1 32 ∷ Input ∷ Output ∷ [];
   means = rounds_meaning shape makes;
-  same = rounds_same;
   inputs = 1;
   stages = rounds_stages shape makes;
 }

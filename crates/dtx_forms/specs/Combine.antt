@@ -5,8 +5,8 @@ use Rattle.dtx_meaning.specs.declared.status.Status.TheVariants.{Usage}
 use Rattle.dtx_outside.specs.Shelf.{Files}
 use Rattle.dtx_words.specs.Names.{repeated}
 use Rattle.dtx_words.specs.declared.rows.Command.{Command}
+use Rattle.dtx_words.specs.declared.rows.Field.TheVariants.{Input, Output}
 use Rattle.dtx_forms.specs.Job.{Job, unless_same}
-use Rattle.dtx_forms.specs.OfWords.{three_same}
 use Rattle.dtx_forms.specs.Stages.{Stages}
 
 -- the meaning with files of these names: a refusal where two are equal, and else `means`
@@ -29,8 +29,8 @@ abbrev pub combine_job : Command → (List ℕ → List ℕ → List ℕ → Fil
     → Job
 combine_job command means stages = record {
   command = command;
+  fields = Input ∷ Input ∷ Output ∷ [];
   means = combine_meaning means;
-  same = three_same;
   inputs = 2;
   stages = combine_stages stages;
 }

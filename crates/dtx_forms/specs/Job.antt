@@ -7,16 +7,17 @@ use Rattle.dtx_meaning.specs.declared.status.Status.TheVariants.{Same}
 use Rattle.dtx_outside.specs.Counts.{Counts, HasGone}
 use Rattle.dtx_outside.specs.Shelf.{Files}
 use Rattle.dtx_words.specs.declared.rows.Command.{Command}
+use Rattle.dtx_words.specs.declared.rows.Field.{Field}
 use Rattle.dtx_forms.specs.Answers.{Knows}
-use Rattle.dtx_forms.specs.OfWords.{IsOfWords}
+use Rattle.dtx_forms.specs.OfWords.{IsOfWords, same_in}
 use Rattle.dtx_forms.specs.Stages.{Stages}
 
--- Which command it is, what it means with some words, and how many inputs it has. Also whether two of its file names
--- are equal, and in which stages it reads and writes. Both are nothing where the words don't fit.
+-- Which command it is, what the words behind the first one stand for, what it means with some words, how many inputs
+-- it has, and in which stages it reads and writes. The stages are nothing where the words don't fit.
 pub record Job : Type 0 where
   pub command : Command
+  pub fields : List Field
   pub means : List (List ℕ) → Files → Meaning
-  pub same : List (List ℕ) → Option Bool
   pub inputs : ℕ
   pub stages : List (List ℕ) → Option Stages
 
@@ -33,7 +34,7 @@ pub record IsPerformed (command : Command) (means : Files → Meaning) (same : O
 
 -- the job was performed with these words
 abbrev pub IsJobPerformed : Job → List (List ℕ) → Outcome → Option Files → Option Files → Counts → Counts → Type 0
-IsJobPerformed job words = IsPerformed job.command (job.means words) (job.same words) job.inputs
+IsJobPerformed job words = IsPerformed job.command (job.means words) (same_in job.fields words) job.inputs
 
 -- a refusal where a name was found to be repeated, and else the meaning
 abbrev pub unless_same : Option (List ℕ) → Meaning → Meaning

@@ -9,8 +9,8 @@ use Rattle.dtx_meaning.specs.declared.status.Status.TheVariants.{Usage}
 use Rattle.dtx_outside.specs.Shelf.{Files}
 use Rattle.dtx_words.specs.Names.{repeated}
 use Rattle.dtx_words.specs.declared.rows.Command.{Command}
+use Rattle.dtx_words.specs.declared.rows.Field.TheVariants.{Input, Output}
 use Rattle.dtx_forms.specs.Job.{Job, unless_same}
-use Rattle.dtx_forms.specs.OfWords.{three_same}
 use Rattle.dtx_forms.specs.Stages.{Stages, stages_of}
 
 -- what is meant with these files
@@ -32,8 +32,8 @@ logged_stages shape recipe words = None
 abbrev pub logged_job : Command → Shape → Recipe → Job
 logged_job command shape recipe = record {
   command = command;
+  fields = Input ∷ Output ∷ Output ∷ [];
   means = logged_meaning shape recipe;
-  same = three_same;
   inputs = 1;
   stages = logged_stages shape recipe;
 }

@@ -7,8 +7,11 @@ use Rattle.dtx_meaning.specs.Meaning.{Meaning, refused}
 use Rattle.dtx_meaning.specs.declared.status.Status.TheVariants.{Usage}
 use Rattle.dtx_outside.specs.Shelf.{Files}
 use Rattle.dtx_words.specs.declared.rows.Command.{Command}
+use Rattle.dtx_words.specs.declared.rows.Command.TheVariants.{DvbRead}
+use Rattle.dtx_words.specs.declared.rows.Field.TheVariants.{Input, Output, Second}
+use Rattle.dtx_words.specs.declared.rows.SecondWord.{SecondWord}
+use Rattle.dtx_words.specs.declared.rows.SecondWord.TheVariants as second
 use Rattle.dtx_forms.specs.Job.{Job}
-use Rattle.dtx_forms.specs.OfWords.{dvb_same, two_same}
 use Rattle.dtx_forms.specs.Stages.{Stages, stages_of}
 
 -- the meaning of the words `.. IN OUT`
@@ -35,18 +38,23 @@ dvb_stages shape recipe words = None
 abbrev pub transform_job : Command → Shape → Recipe → Job
 transform_job command shape recipe = record {
   command = command;
+  fields = Input ∷ Output ∷ [];
   means = transform_meaning shape recipe;
-  same = two_same;
   inputs = 1;
   stages = transform_stages shape recipe;
 }
+
+-- the second word of a command that has one
+abbrev pub second_word : Command → SecondWord
+second_word DvbRead = second.Read
+second_word command = second.Code
 
 -- the job of the words `dvb .. IN OUT`
 abbrev pub dvb_job : Command → Shape → Recipe → Job
 dvb_job command shape recipe = record {
   command = command;
+  fields = Second (second_word command) ∷ Input ∷ Output ∷ [];
   means = dvb_meaning shape recipe;
-  same = dvb_same;
   inputs = 1;
   stages = dvb_stages shape recipe;
 }

@@ -8,9 +8,9 @@ use Rattle.dtx_meaning.specs.declared.status.Status.TheVariants.{Usage}
 use Rattle.dtx_outside.specs.Shelf.{Files}
 use Rattle.dtx_words.specs.Number.{number_in}
 use Rattle.dtx_words.specs.declared.rows.Command.{Command}
+use Rattle.dtx_words.specs.declared.rows.Field.TheVariants.{Input, Number, Output}
 use Rattle.dtx_forms.specs.Job.{Job}
 use Rattle.dtx_forms.specs.Logged.{logged}
-use Rattle.dtx_forms.specs.OfWords.{transmit_same}
 use Rattle.dtx_forms.specs.Stages.{Stages, stages_of}
 
 -- The meaning with these files. The shape says in which units the input is read, and `sends` gives the recipe for an
@@ -50,8 +50,8 @@ transmit_stages shape sends words = None
 abbrev pub transmit_job : Command → Shape → (ℕ → ℕ → Recipe) → Job
 transmit_job command shape sends = record {
   command = command;
+  fields = Input ∷ Number 65535 ∷ Number 4294967295 ∷ Output ∷ Output ∷ [];
   means = transmit_meaning shape sends;
-  same = transmit_same;
   inputs = 1;
   stages = transmit_stages shape sends;
 }

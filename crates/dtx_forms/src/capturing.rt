@@ -1,13 +1,13 @@
 // `.. SCALE IN OUT` and `.. SCALE ROUNDS IN OUT`: what an engine makes of a capture of symbols.
-ghost use Rattle.std.specs.Prelude.{◌≡◌, ◌<◌, ◌≤◌, ℕ, [], ◌∷◌, Some, IfOk, IfSome};
-ghost use Rattle.std.specs.Str.{bytes_eq};
+ghost use Rattle.std.specs.Prelude.{◌≡◌, ◌<◌, ◌≤◌, is_some, ℕ, [], ◌∷◌, Some, IfOk, IfSome};
+ghost use Rattle.std.specs.Option.{option_and};
 ghost use Rattle.dtx_engine.specs.Recipe.{IsAnswerOf, Recipe, transformed};
+ghost use Rattle.dtx_words.specs.Names.{repeated};
 ghost use Rattle.dtx_words.specs.declared.rows.Command.{Command};
 ghost use Rattle.dtx_forms.specs.Answers.{Knows};
 ghost use Rattle.dtx_forms.specs.Capture.{IsRounds, IsScale, captured, captured_stages, rounds_job, rounds_stages};
 ghost use Rattle.dtx_forms.specs.Capture.{scaled_job, scaled_stages};
 ghost use Rattle.dtx_forms.specs.Job.{IsPerformed, IsJobPerformed};
-ghost use Rattle.dtx_forms.specs.OfWords.{numbers_same};
 ghost use Rattle.dtx_forms.specs.Stages.{IsStaged, stages_of};
 
 use dtx_engine::Engine;
@@ -102,8 +102,8 @@ fn transform_read<E: Capturing, S: Shelf>(
     requires scale { IfSome scale IsScale }
     requires rounds { IfSome rounds IsRounds }
     ensures performed { IsPerformed E.command (captured E.shape E.makes scale rounds input.now output.now)
-        (numbers_same scale rounds (bytes_eq input.now output.now)) 1 result (S.files shelf.old) (S.files shelf.new)
-        (S.counts shelf.old) (S.counts shelf.new) }
+        (option_and scale (option_and rounds (Some (is_some (repeated (input.now ∷ output.now ∷ [])))))) 1 result
+        (S.files shelf.old) (S.files shelf.new) (S.counts shelf.old) (S.counts shelf.new) }
     ensures stages { IsStaged S.foreseen (captured_stages E.shape E.makes scale rounds input.now output.now)
         result.status (S.files shelf.old) (S.files shelf.new) (S.counts shelf.old) (S.counts shelf.new) }
 {
@@ -132,7 +132,7 @@ fn transform_capture<E: Capturing, S: Shelf>(
     requires scale { IsScale scale }
     requires rounds { IsRounds rounds }
     ensures performed { IsPerformed E.command (transformed E.shape (E.makes scale rounds) input.now output.now)
-        (Some (bytes_eq input.now output.now)) 1 result (S.files shelf.old) (S.files shelf.new)
+        (Some (is_some (repeated (input.now ∷ output.now ∷ [])))) 1 result (S.files shelf.old) (S.files shelf.new)
         (S.counts shelf.old) (S.counts shelf.new) }
     ensures stages { IsStaged S.foreseen
         (Some (stages_of E.shape (E.makes scale rounds) input.now (output.now ∷ []))) result.status

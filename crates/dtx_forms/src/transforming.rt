@@ -1,7 +1,7 @@
 // `.. IN OUT` and `dvb .. IN OUT`: what an engine makes of an input alone.
-ghost use Rattle.std.specs.Prelude.{◌≡◌, [], ◌∷◌, Some, IfOk};
-ghost use Rattle.std.specs.Str.{bytes_eq};
+ghost use Rattle.std.specs.Prelude.{◌≡◌, is_some, [], ◌∷◌, Some, IfOk};
 ghost use Rattle.dtx_engine.specs.Recipe.{IsAnswerOf, Recipe, transformed};
+ghost use Rattle.dtx_words.specs.Names.{repeated};
 ghost use Rattle.dtx_words.specs.declared.rows.Command.{Command};
 ghost use Rattle.dtx_forms.specs.Answers.{Knows};
 ghost use Rattle.dtx_forms.specs.Job.{IsPerformed, IsJobPerformed};
@@ -80,7 +80,7 @@ fn transform_files<E: Transforming, S: Shelf>(
     shelf: &mut S,
 ) -> Outcome
     ensures performed { IsPerformed E.command (transformed E.shape E.makes input.now output.now)
-        (Some (bytes_eq input.now output.now)) 1 result (S.files shelf.old) (S.files shelf.new)
+        (Some (is_some (repeated (input.now ∷ output.now ∷ [])))) 1 result (S.files shelf.old) (S.files shelf.new)
         (S.counts shelf.old) (S.counts shelf.new) }
     ensures stages { IsStaged S.foreseen (Some (stages_of E.shape E.makes input.now (output.now ∷ []))) result.status
         (S.files shelf.old) (S.files shelf.new) (S.counts shelf.old) (S.counts shelf.new) }

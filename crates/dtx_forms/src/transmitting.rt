@@ -1,13 +1,13 @@
 // `.. IN ADDRESS DELAY OUT LOG`: what a transmitter sends for an input, and its log.
 ghost use Rattle.std.specs.Prelude.{◌≡◌, ◌≢◌, false, is_some, ℕ, [], ◌∷◌, Some, IfOk};
 ghost use Rattle.std.specs.FinMap as held_at;
+ghost use Rattle.std.specs.Option.{option_and};
 ghost use Rattle.dtx_engine.specs.Recipe.{IsAnswerOf, Recipe, meaning};
 ghost use Rattle.dtx_words.specs.Names.{repeated};
 ghost use Rattle.dtx_words.specs.Number.{number_in};
 ghost use Rattle.dtx_words.specs.declared.rows.Command.{Command};
 ghost use Rattle.dtx_forms.specs.Answers.{Knows};
 ghost use Rattle.dtx_forms.specs.Job.{IsPerformed, IsJobPerformed};
-ghost use Rattle.dtx_forms.specs.OfWords.{numbers_same};
 ghost use Rattle.dtx_forms.specs.Stages.{IsStaged, stages_of};
 ghost use Rattle.dtx_forms.specs.Transmit.{transmit_at, transmit_job, transmit_stages, transmit_stages_with};
 ghost use Rattle.dtx_forms.specs.Transmit.{transmit_with};
@@ -76,8 +76,8 @@ fn transmit_read<E: Transmitting, S: Shelf>(
     ensures performed { IsPerformed E.command
         (transmit_with E.shape E.sends (number_in 65535 address.now) (number_in 4294967295 delay.now)
         files.entry.input.now files.entry.output.now files.entry.log.now)
-        (numbers_same (number_in 65535 address.now) (number_in 4294967295 delay.now)
-        (is_some (repeated (files.entry.input.now ∷ files.entry.output.now ∷ files.entry.log.now ∷ []))))
+        (option_and (number_in 65535 address.now) (option_and (number_in 4294967295 delay.now)
+        (Some (is_some (repeated (files.entry.input.now ∷ files.entry.output.now ∷ files.entry.log.now ∷ []))))))
         1 result (S.files shelf.old) (S.files shelf.new)
         (S.counts shelf.old) (S.counts shelf.new) }
     ensures stages { IsStaged S.foreseen

@@ -7,8 +7,8 @@ use Rattle.dtx_meaning.specs.declared.status.Status.TheVariants.{Done, Usage}
 use Rattle.dtx_packets.specs.Packets.{most_packets}
 use Rattle.dtx_words.specs.Number.{number_in}
 use Rattle.dtx_words.specs.declared.rows.Command.TheVariants.{Make}
+use Rattle.dtx_words.specs.declared.rows.Field.TheVariants.{Number, Output}
 use Rattle.dtx_forms.specs.Job.{Job}
-use Rattle.dtx_forms.specs.OfWords.{make_same}
 
 -- the packets 0 to `count - 1` of a seed are written to a file of that name
 abbrev pub made_file : ℕ → ℕ → List ℕ → Meaning
@@ -31,5 +31,10 @@ make_meaning words held = refused Usage
 
 -- the command `make SEED COUNT OUT`
 abbrev pub make_job : Job
-make_job =
-    record { command = Make; means = make_meaning; same = make_same; inputs = 0; stages = λ words. None }
+make_job = record {
+  command = Make;
+  fields = Number (2 ^ 64 - 1) ∷ Number most_packets ∷ Output ∷ [];
+  means = make_meaning;
+  inputs = 0;
+  stages = λ words. None;
+}

@@ -1,5 +1,6 @@
 // `make SEED COUNT OUT`: a made stream.
 ghost use Rattle.std.specs.Prelude.{◌≡◌, false, [], Some, Option};
+ghost use Rattle.std.specs.Option.{option_and};
 ghost use Rattle.dtx_outside.specs.Counts.{HasGone, blame_of_write};
 ghost use Rattle.dtx_outside.specs.Shelf.{Files};
 ghost use Rattle.dtx_outside.specs.Written.{IsWritten, IsFlushOf};
@@ -9,7 +10,6 @@ ghost use Rattle.dtx_meaning.specs.Status.{IsOfInputs, blame_of};
 ghost use Rattle.dtx_words.specs.declared.rows.Command.TheVariants as command;
 ghost use Rattle.dtx_forms.specs.Answers.{Knows};
 ghost use Rattle.dtx_forms.specs.Job.{IsPerformed, IsJobPerformed};
-ghost use Rattle.dtx_forms.specs.OfWords.{numbers_same};
 ghost use Rattle.dtx_packet_jobs.specs.Make.{made_file, made_of, make_job};
 
 use dtx_make::packet;
@@ -44,7 +44,8 @@ fn make_ordered<S: Shelf>(
     output: &str,
     shelf: &mut S,
 ) -> Outcome
-    ensures { IsPerformed command.Make (λ held. made_of seed count output.now) (numbers_same seed count false) 0 result
+    ensures { IsPerformed command.Make (λ held. made_of seed count output.now)
+        (option_and seed (option_and count (Some false))) 0 result
         (S.files shelf.old) (S.files shelf.new) (S.counts shelf.old) (S.counts shelf.new) }
 {
     match (seed, count) {

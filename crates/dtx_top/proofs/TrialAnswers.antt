@@ -4,15 +4,13 @@ use Rattle.std.specs.Prelude.{Option, Some, None, IfSome, is_some}
 use Rattle.std.proofs.lemmas.Bool.{and_parts}
 use Rattle.dtx_meaning.specs.declared.status.Status.TheVariants.{Done}
 use Rattle.dtx_outside.specs.Shelf.{Files}
-use Rattle.dtx_words.specs.Fitting.{command_of, fit_fields, fits}
+use Rattle.dtx_words.specs.Fitting.{command_of, fits}
 use Rattle.dtx_words.proofs.FittingLemmas.{command_fits}
 use Rattle.dtx_words.specs.Number.{number_in, number_within}
-use Rattle.dtx_words.specs.Rows.{trial_row}
 use Rattle.dtx_words.specs.declared.rows.Command.{Command}
 use Rattle.dtx_words.specs.declared.rows.Command.TheVariants.{Trial}
 use Rattle.dtx_top.specs.Means.{means, means_of}
 use Rattle.dtx_top.specs.Trial.{trial_made, trial_meaning, trial_of}
-use Rattle.dtx_top.proofs.ByWords.{fit_length, with_two}
 use Rattle.dtx_forms.proofs.NumbersLemmas.{number_most, within_range}
 
 -- trials of numbers in their ranges are done
@@ -37,15 +35,18 @@ numbers_done law (Some seed) (Some count) small within one other = law seed coun
 fitted_done : TrialLaw → (words : List (List ℕ)) (held : Files) → fits Trial words ≡ true
     → (trial_meaning words held).outcome.status ≡ Done
 fitted_done law [] held fit = let e : false ≡ true = fit in cc
-fitted_done law (verb ∷ words) held fit =
+fitted_done law (verb ∷ []) held fit = let e : false ≡ true = (and_parts _ false fit).1 in cc
+fitted_done law (verb ∷ seed ∷ []) held fit =
+    let e : false ≡ true = (and_parts _ false (and_parts _ _ fit).1).1 in cc
+fitted_done law (verb ∷ seed ∷ count ∷ []) held fit =
     let all = (and_parts _ _ fit).1 in
-    with_two (λ ws. fit_fields trial_row.fields ws ≡ true → (trial_meaning (verb ∷ ws) held).outcome.status ≡ Done)
-    words (fit_length trial_row.fields words all) (λ seed count fit.
-    let behind = (and_parts _ _ fit).1 in
     numbers_done law (number_in (2 ^ 64 - 1) seed) (number_within 624 1000000 count)
     (within_most (2 ^ 64 - 1) seed (number_in (2 ^ 64 - 1) seed) refl)
     (within_range 624 1000000 count (number_within 624 1000000 count) refl)
-    (and_parts _ _ fit).0 (and_parts _ _ behind).0) all
+    (and_parts _ _ all).0 (and_parts _ _ (and_parts _ _ all).1).0
+fitted_done law (verb ∷ seed ∷ count ∷ word ∷ words) held fit =
+    let behind = (and_parts _ _ (and_parts _ _ fit).1).1 in
+    let e : false ≡ true = (and_parts (is_some (number_within 624 1000000 count)) false behind).1 in cc
 
 pub words_done : TrialLaw → (words : List (List ℕ)) (held : Files) → command_of words ≡ Some Trial
     → (means words held).outcome.status ≡ Done

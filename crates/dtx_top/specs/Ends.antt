@@ -11,7 +11,7 @@ use Rattle.dtx_meaning.specs.declared.status.Status.{Status}
 use Rattle.dtx_meaning.specs.declared.status.Status.TheVariants.{Done, Usage, Absent, ReadFault, WriteFault, Memory}
 use Rattle.dtx_forms.specs.Answers.{Knows}
 use Rattle.dtx_forms.specs.Job.{Job}
-use Rattle.dtx_forms.specs.OfWords.{IsOfWords}
+use Rattle.dtx_forms.specs.OfWords.{IsOfWords, same_in}
 use Rattle.dtx_words.specs.Names.{line_name, names_of, repeated}
 use Rattle.dtx_words.specs.Rows.{row_of}
 use Rattle.dtx_words.specs.declared.rows.Command.{Command}
@@ -96,7 +96,7 @@ IsByWords (Some command) words status =
 
 -- what the words alone say of the answer of a job, and of `net`, which has no job
 abbrev pub IsOfJob : Option Job → List (List ℕ) → Status → Type 0
-IsOfJob (Some job) words status = IsOfWords (job.same words) job.inputs status × Knows job.command status
+IsOfJob (Some job) words status = IsOfWords (same_in job.fields words) job.inputs status × Knows job.command status
 IsOfJob None words status = IsOfNetWords words status
 
 -- the same of a command, before its line is printed

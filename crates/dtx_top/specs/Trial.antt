@@ -1,10 +1,9 @@
 -- What `trial SEED COUNT` means: a made stream, and the network of the trial plan over it (the profile's own).
-use Rattle.std.specs.Prelude.{◌≡◌, ◌⊎◌, ℕ, ◌-◌, ◌^◌, ◌≤◌, ℤ, pos, negsuc, Bool, false, Option, Some, None, IsSomeAnd}
+use Rattle.std.specs.Prelude.{◌≡◌, ◌⊎◌, ℕ, ◌-◌, ◌^◌, ◌≤◌, ℤ, pos, negsuc, Option, Some, None, IsSomeAnd}
 use Rattle.std.specs.Prelude.{List, [], ◌∷◌}
 use Rattle.std.specs.FinMap.{get}
 use Rattle.dtx_packet_jobs.specs.Make.{made_file}
 use Rattle.dtx_forms.specs.Job.{Job}
-use Rattle.dtx_forms.specs.OfWords.{numbers_same}
 use Rattle.dtx_make.specs.Made.{made_stream}
 use Rattle.dtx_meaning.specs.Meaning.{ArePartWritten, Meaning, and_then, refused}
 use Rattle.dtx_meaning.specs.Status.{IsFault}
@@ -21,6 +20,7 @@ use Rattle.dtx_plan.specs.declared.transmitter.Transmitter.{Transmitter}
 use Rattle.dtx_words.specs.NetworkNames.{feed_name, symbol_name, trial_name}
 use Rattle.dtx_words.specs.Number.{number_in, number_within}
 use Rattle.dtx_words.specs.declared.rows.Command.TheVariants.{Trial}
+use Rattle.dtx_words.specs.declared.rows.Field.TheVariants.{Number, Within}
 use Rattle.dtx_top.specs.HeadlineOfFiles.{HeadlineOfFiles}
 use Rattle.dtx_top.specs.NetMeaning.{answered, network_meaning}
 use Rattle.dtx_top.specs.NetProgress.{HasNetProgress}
@@ -105,16 +105,15 @@ trial_meaning (verb ∷ seed ∷ count ∷ []) held =
     trial_of (number_in (2 ^ 64 - 1) seed) (number_within 624 1000000 count)
 trial_meaning words held = refused Usage
 
--- whether two names are equal, where the words fit: a trial's never are
-abbrev pub trial_same : List (List ℕ) → Option Bool
-trial_same (verb ∷ seed ∷ count ∷ []) =
-    numbers_same (number_in (2 ^ 64 - 1) seed) (number_within 624 1000000 count) false
-trial_same words = None
-
 -- the job of `trial SEED COUNT`; the headline and the progress are no part of it
 abbrev pub trial_job : Job
-trial_job =
-    record { command = Trial; means = trial_meaning; same = trial_same; inputs = 3; stages = λ words. None }
+trial_job = record {
+  command = Trial;
+  fields = Number (2 ^ 64 - 1) ∷ Within 624 1000000 ∷ [];
+  means = trial_meaning;
+  inputs = 3;
+  stages = λ words. None;
+}
 
 -- ---- how far a trial came
 

@@ -1,8 +1,9 @@
 // `trial SEED COUNT`: a made stream, and the network of the trial plan over it.
 ghost use Rattle.std.specs.Prelude.{◌≡◌, ◌≤◌, ℕ, IfSome, Some, false};
 ghost use Rattle.std.specs.FinMap as files;
+ghost use Rattle.std.specs.Option.{option_and};
 ghost use Rattle.dtx_forms.specs.Answers.{Knows};
-ghost use Rattle.dtx_forms.specs.OfWords.{IsOfWords, numbers_same};
+ghost use Rattle.dtx_forms.specs.OfWords.{IsOfWords, same_in};
 ghost use Rattle.dtx_make.specs.Made.{made_stream};
 ghost use Rattle.dtx_meaning.specs.Meaning.{IsCarriedOut};
 ghost use Rattle.dtx_meaning.specs.Status.{IsOfInputs, blame_of};
@@ -13,7 +14,7 @@ ghost use Rattle.dtx_words.specs.declared.rows.Command.TheVariants as command;
 ghost use Rattle.dtx_top.specs.NetProgress.{HasNetProgress};
 ghost use Rattle.dtx_top.specs.Trial as trials;
 ghost use Rattle.dtx_top.specs.Trial.{HasMadeProgress, HasNumbersHeadline, HasNumbersProgress, HasTrialHeadline};
-ghost use Rattle.dtx_top.specs.Trial.{HasTrialProgress, IsTrialPlan, trial_meaning, trial_of, trial_same};
+ghost use Rattle.dtx_top.specs.Trial.{HasTrialProgress, IsTrialPlan, trial_job, trial_meaning, trial_of};
 
 use crate::replaying::replay;
 use crate::trial_plan::trial_plan;
@@ -35,7 +36,7 @@ pub fn trial<S: Shelf>(alloc: Global, words: &[Word], shelf: &mut S) -> Outcome
     ensures gone { HasGone (S.counts shelf.old) (S.counts shelf.new) (blame_of result.status) }
 
     // Told or not: what the words alone say of the answer.
-    ensures words { IsOfWords (trial_same words.now) 3 result.status }
+    ensures words { IsOfWords (same_in trial_job.fields words.now) 3 result.status }
     ensures answers { Knows command.Trial result.status }
 
     // How far it came, whatever it answers.
@@ -67,7 +68,7 @@ fn trial_ordered<S: Shelf>(
     ensures carried { IfSome (S.files shelf.old) (λ held.
         IsCarriedOut (trial_of seed count) (Some held) result (S.files shelf.new)) }
     ensures gone { HasGone (S.counts shelf.old) (S.counts shelf.new) (blame_of result.status) }
-    ensures words { IsOfWords (numbers_same seed count false) 3 result.status }
+    ensures words { IsOfWords (option_and seed (option_and count (Some false))) 3 result.status }
     ensures answers { Knows command.Trial result.status }
     ensures progress { IfSome (S.files shelf.old) (λ held.
         HasNumbersProgress seed count result.status held (S.files shelf.new)) }

@@ -1,12 +1,13 @@
 use Rattle.std.proofs.Common.{[], ◌∷◌}
 use Rattle.dtx_forms.proofs.AnswersLemmas.{transformed_knows}
+use Rattle.dtx_forms.proofs.OfWordsLemmas.{pair_told}
 use Rattle.dtx_forms.proofs.StagesLemmas.{loop_staged}
 use Rattle.dtx_forms.proofs.capturing.transform_capture.Goals as goal
 
 pub returns-in-Ok-clause-performed : goal.returns-in-Ok-clause-performed
 returns-in-Ok-clause-performed g c = record {
   carried = rw (← c.in-Ok.ensures.makes) c.transform.ensures.carried;
-  words = c.transform.ensures.input;
+  words = pair_told c.args.output.now _ 1 _ c.transform.ensures.input;
   answers = transformed_knows (g.E.Capturing.makes c.args.scale c.args.rounds) g.E.Capturing.command _
       (g.met.E.Capturing.knows c.args.scale c.args.rounds)
       (rw (← c.in-Ok.ensures.makes) c.transform.ensures.answer);
