@@ -39,7 +39,7 @@ fn find_word(corrector: &Corrector, segments: usize, k: usize, field: &mut Field
         field.old next.old field.new next.new }
 {
     if let Some(code) = code_of(corrector, field, next, segments, k) {
-        lay_back(&code, k, field, next);
+        make_known(&code, k, field, next);
     }
 }
 
@@ -58,7 +58,7 @@ fn code_of(
     let bytes = field.bytes();
     let behind = next.bytes();
     if is_whole(k, segments) {
-        corrected(corrector, &gathered(bytes, behind, k))
+        corrected(corrector, &gather_word(bytes, behind, k))
     } else {
         None
     }
@@ -76,11 +76,11 @@ fn corrected(corrector: &Corrector, word: &[u8; CODEWORD]) -> Option<[u8; CODEWO
 }
 
 /// Lays the bytes of word k back to their places in its field and the next one. The word is known from then on.
-fn lay_back(word: &[u8; CODEWORD], k: usize, field: &mut Field, next: &mut Field)
+fn make_known(word: &[u8; CODEWORD], k: usize, field: &mut Field, next: &mut Field)
     requires { k < WORDS }
     ensures { AreFound (only_code k (Some word.now)) field.old next.old field.new next.new }
 {
-    lay(word, k, &mut field.known[..], &mut next.known[..]);
+    lay_word(word, k, &mut field.known[..], &mut next.known[..]);
     field.words[k] = true;
     field.knows_more = true;
     next.knows_more |= !is_whole(k, WORDS);
@@ -130,7 +130,7 @@ fn stretch_from(p: usize, most: usize) -> Stretch
 }
 
 /// Word k, gathered from its places.
-fn gathered(bytes: &[u8], behind: &[u8], k: usize) -> [u8; CODEWORD]
+fn gather_word(bytes: &[u8], behind: &[u8], k: usize) -> [u8; CODEWORD]
     requires long { length bytes.now ≡ BYTES }
     requires word { k < WORDS }
     requires whole { IsComplete CODEWORD BRANCHES BRANCH_STEP (BYTES + length behind.now) k }
@@ -141,9 +141,9 @@ fn gathered(bytes: &[u8], behind: &[u8], k: usize) -> [u8; CODEWORD]
     while j < CODEWORD {
         let Stretch { at, count } = stretch_from(CODEWORD * k + j, CODEWORD - j);
         if at < BYTES {
-            gather(bytes, at, count, &mut word, j);
+            gather_stretch(bytes, at, count, &mut word, j);
         } else {
-            gather(behind, at - BYTES, count, &mut word, j);
+            gather_stretch(behind, at - BYTES, count, &mut word, j);
         }
         j += count;
     }
@@ -151,7 +151,7 @@ fn gathered(bytes: &[u8], behind: &[u8], k: usize) -> [u8; CODEWORD]
 }
 
 /// Gathers bytes of a word from byte j on. They stand `SPACING` apart from a place on.
-fn gather(bytes: &[u8], at: usize, count: usize, word: &mut [u8; CODEWORD], j: usize)
+fn gather_stretch(bytes: &[u8], at: usize, count: usize, word: &mut [u8; CODEWORD], j: usize)
     requires there { at + SPACING * count < length bytes.now + SPACING }
     requires word { j + count ≤ CODEWORD }
     ensures gathered { (i : ℕ) → i < count
@@ -164,7 +164,7 @@ fn gather(bytes: &[u8], at: usize, count: usize, word: &mut [u8; CODEWORD], j: u
 }
 
 /// Lays the bytes of word k back to their places, where they are known.
-fn lay(word: &[u8; CODEWORD], k: usize, known: &mut [Option<u8>], next: &mut [Option<u8>])
+fn lay_word(word: &[u8; CODEWORD], k: usize, known: &mut [Option<u8>], next: &mut [Option<u8>])
     requires known { length known.old ≡ BYTES }
     requires next { length next.old ≡ BYTES }
     requires word { k < WORDS }
@@ -179,16 +179,16 @@ fn lay(word: &[u8; CODEWORD], k: usize, known: &mut [Option<u8>], next: &mut [Op
     while j < CODEWORD {
         let Stretch { at, count } = stretch_from(CODEWORD * k + j, CODEWORD - j);
         if at < BYTES {
-            lay_down(word, j, count, known, at);
+            lay_stretch(word, j, count, known, at);
         } else {
-            lay_down(word, j, count, next, at - BYTES);
+            lay_stretch(word, j, count, next, at - BYTES);
         }
         j += count;
     }
 }
 
 /// Lays bytes of a word down from byte j on. They come to stand `SPACING` apart from a place on.
-fn lay_down(word: &[u8; CODEWORD], j: usize, count: usize, known: &mut [Option<u8>], at: usize)
+fn lay_stretch(word: &[u8; CODEWORD], j: usize, count: usize, known: &mut [Option<u8>], at: usize)
     requires there { at + SPACING * count < length known.old + SPACING }
     requires word { j + count ≤ CODEWORD }
     ensures laid { (i : ℕ) → i < count

@@ -13,7 +13,7 @@ room own behind segments e f l = omega (arith, e, f, l, length-append own behind
 
 pub returns-then-is_whole : goal.returns-then-is_whole
 returns-then-is_whole c =
-    c.corrected.ensures ∙ ap (correction 207 187) (c.gathered.ensures
+    c.corrected.ensures ∙ ap (correction 207 187) (c.gather_word.ensures
     ∙ ap₂ (λ (xs ys : List ℕ). word_at 207 52 4 (xs ++ ys) c.args.k) c.bytes-bytes.ensures.bytes
     c.bytes-behind.ensures.bytes)
     ∙ sym (known_there (bytes_of c.args.field.now ++ bytes_of c.args.next.now) (207 * c.args.segments) c.args.k

@@ -1,11 +1,11 @@
 use Rattle.std.proofs.Common.{◌+◌, ◌≤◌, ◌++◌, length, sym, subst, arith, ◌∙◌}
 use Rattle.dtx_outer.proofs.WordsLemmas.{word_by}
 use Rattle.dtx_rounds.proofs.Stretches.{IsGathered, from_behind, from_front, gathered_on, stretch_there}
-use Rattle.dtx_rounds.proofs.words.gathered.Goals as goal
-use Rattle.dtx_rounds.proofs.words.gathered.Goals.{then-at-lt-BYTES, else-at-lt-BYTES}
+use Rattle.dtx_rounds.proofs.words.gather_word.Goals as goal
+use Rattle.dtx_rounds.proofs.words.gather_word.Goals.{then-at-lt-BYTES, else-at-lt-BYTES}
 
-pub gather-requires-else-at-lt-BYTES-clause-there : goal.gather-requires-else-at-lt-BYTES-clause-there
-gather-requires-else-at-lt-BYTES-clause-there c =
+pub gather_stretch-requires-else-at-lt-BYTES-clause-there : goal.gather_stretch-requires-else-at-lt-BYTES-clause-there
+gather_stretch-requires-else-at-lt-BYTES-clause-there c =
     let run = c.stretch_from-at in
     omega (
       arith,
@@ -24,18 +24,18 @@ loop-j-preserved c =
     let within : c.loop-j.j + count ≤ 207 = omega (arith, run.few, c.loop-j.invariant.within) in
     elim c.if-at-lt-BYTES.branch [
       | then-at-lt-BYTES w ↦ subst (λ word. IsGathered both word c.args.k (c.loop-j.j + count)) (sym w.word-is)
-          (gathered_on both c.loop-j.word w.gather.new.word c.args.k c.loop-j.j count at run.spaced within
-          c.loop-j.invariant w.gather.array_long
-          (λ i l. w.gather.ensures.gathered i l
+          (gathered_on both c.loop-j.word w.gather_stretch.new.word c.args.k c.loop-j.j count at run.spaced within
+          c.loop-j.invariant w.gather_stretch.array_long
+          (λ i l. w.gather_stretch.ensures.gathered i l
           ∙ from_front c.args.bytes.now c.args.behind.now at i count
           (omega (arith, run.in_field w.if-at-lt-BYTES.true, c.requires.long)) l)
-          w.gather.ensures.before)
+          w.gather_stretch.ensures.before)
       | else-at-lt-BYTES w ↦ subst (λ word. IsGathered both word c.args.k (c.loop-j.j + count)) (sym w.word-is)
-          (gathered_on both c.loop-j.word w.gather-else-at-lt-BYTES.new.word c.args.k c.loop-j.j count at run.spaced
-          within c.loop-j.invariant w.gather-else-at-lt-BYTES.array_long
-          (λ i l. w.gather-else-at-lt-BYTES.ensures.gathered i l
+          (gathered_on both c.loop-j.word w.gather_stretch-else-at-lt-BYTES.new.word c.args.k c.loop-j.j count at run.spaced
+          within c.loop-j.invariant w.gather_stretch-else-at-lt-BYTES.array_long
+          (λ i l. w.gather_stretch-else-at-lt-BYTES.ensures.gathered i l
           ∙ from_behind c.args.bytes.now c.args.behind.now at i 64584 c.requires.long w.if-at-lt-BYTES.false)
-          w.gather-else-at-lt-BYTES.ensures.before)
+          w.gather_stretch-else-at-lt-BYTES.ensures.before)
     ]
 
 pub returns : goal.returns

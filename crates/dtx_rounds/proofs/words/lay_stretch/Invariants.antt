@@ -1,5 +1,5 @@
 use Rattle.std.proofs.Common.{◌≡◌, ◌≢◌, ℕ, ◌+◌, ◌*◌, ◌<◌, Some, None, get_or}
-use Rattle.dtx_rounds.proofs.words.lay_down.Given as goal
+use Rattle.dtx_rounds.proofs.words.lay_stretch.Given as goal
 
 abbrev pub invariant-loop-i : goal.invariant-loop-i
 invariant-loop-i l = record {

@@ -1,6 +1,6 @@
 use Rattle.std.proofs.Common.{◌≡◌, ◌+◌, ◌*◌, Some, None, get_or, set, arith, below_more, ◌∙◌}
 use Rattle.std.proofs.Common.{get_or-set_other, get_or-set_same}
-use Rattle.dtx_rounds.proofs.words.lay_down.Goals as goal
+use Rattle.dtx_rounds.proofs.words.lay_stretch.Goals as goal
 
 pub loop-i-preserved : goal.loop-i-preserved
 loop-i-preserved c =
