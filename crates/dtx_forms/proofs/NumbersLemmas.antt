@@ -1,11 +1,13 @@
 -- Lemmas of numbers among the words: they are within their range.
 use Rattle.std.proofs.Common.{◌≡◌, ℕ, ◌≤◌, Bool, true, false, cond, List, refl, sym, subst}
 use Rattle.std.specs.Prelude.{Option, Some, None, IfSome, ◌&&◌, nat_le, decimal}
+use Rattle.std.specs.Option.{option_and}
 use Rattle.std.specs.Str.{bytes_eq}
 use Rattle.std.specs.Str.Parse.{digits_value}
 use Rattle.std.proofs.lemmas.Bool.{and_parts, leb-true}
 use Rattle.std.proofs.lemmas.Option.{same_Some}
 use Rattle.dtx_words.specs.Number.{at_least, number_in, number_within}
+use Rattle.dtx_forms.specs.Capture.{setting_of}
 
 pub number_most : (most : ℕ) (word : List ℕ) (number : ℕ) → number_in most word ≡ Some number → number ≤ most
 unfolding number_in
@@ -37,3 +39,10 @@ within_range least most word found is =
     by_number None is = tt
     by_number (Some number) is =
         at_test number (nat_le least number) refl (number_most most word number is)
+
+-- the setting of two numbers is there where both are
+pub and_setting : (scale rounds : Option ℕ) (same : Option Bool)
+    → option_and (setting_of scale rounds) same ≡ option_and scale (option_and rounds same)
+and_setting None rounds same = refl
+and_setting (Some scale) None same = refl
+and_setting (Some scale) (Some rounds) same = refl

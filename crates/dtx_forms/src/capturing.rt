@@ -1,14 +1,14 @@
 // `.. SCALE IN OUT` and `.. SCALE ROUNDS IN OUT`: what an engine makes of a capture of symbols.
 ghost use Rattle.std.specs.Prelude.{◌≡◌, ◌<◌, ◌≤◌, is_some, ℕ, [], ◌∷◌, Some, IfOk, IfSome};
 ghost use Rattle.std.specs.Option.{option_and};
-ghost use Rattle.dtx_engine.specs.Recipe.{IsAnswerOf, Recipe, transformed};
+ghost use Rattle.dtx_engine.specs.Recipe.{IsAnswerOf, Recipe};
 ghost use Rattle.dtx_words.specs.Names.{repeated};
 ghost use Rattle.dtx_words.specs.declared.rows.Command.{Command};
 ghost use Rattle.dtx_forms.specs.Answers.{Knows};
-ghost use Rattle.dtx_forms.specs.Capture.{IsRounds, IsScale, captured, captured_stages, rounds_job, rounds_stages};
-ghost use Rattle.dtx_forms.specs.Capture.{scaled_job, scaled_stages};
+ghost use Rattle.dtx_forms.specs.Capture.{IsRounds, IsScale, IsSetting, captured, captured_stages, rounds_job};
+ghost use Rattle.dtx_forms.specs.Capture.{rounds_stages, scaled_job, scaled_stages, setting_of};
 ghost use Rattle.dtx_forms.specs.Job.{IsPerformed, IsJobPerformed};
-ghost use Rattle.dtx_forms.specs.Stages.{IsStaged, stages_of};
+ghost use Rattle.dtx_forms.specs.Stages.{IsStaged};
 
 use dtx_engine::Engine;
 use dtx_meaning::{Outcome, Status, ended};
@@ -16,7 +16,14 @@ use dtx_outside::{Shelf, Word};
 use dtx_words::{MOST_ROUNDS, MOST_SCALE, number_within};
 use std::alloc::{AllocError, Global};
 
-/// An engine that makes what a command writes from its one input, a capture at a scale.
+/// How a capture is decided: how many of its steps make a unit of the standard's levels, and in how many rounds.
+#[derive(Clone, Copy)]
+pub struct Setting {
+    pub scale: u8,
+    pub rounds: usize,
+}
+
+/// An engine that makes what a command writes from its one input, a capture.
 pub trait Capturing: Engine + Drop {
     ghost use Rattle.dtx_meaning.specs.declared.status.Status.{Status};
 
@@ -27,11 +34,10 @@ pub trait Capturing: Engine + Drop {
     ghost makes: { ℕ → ℕ → Recipe };
 
     /// An engine that was given nothing. The only error is out of memory.
-    fn new(alloc: Global, scale: u8, rounds: usize) -> Result<Self, AllocError>
-        requires scale { IsScale scale }
-        requires rounds { IsRounds rounds }
+    fn new(alloc: Global, setting: Setting) -> Result<Self, AllocError>
+        requires { IsSetting setting }
         ensures given { IfOk result (λ engine. Self.stands engine []) }
-        ensures makes { IfOk result (λ engine. Self.recipe engine ≡ makes scale rounds) };
+        ensures makes { IfOk result (λ engine. Self.recipe engine ≡ makes setting.scale setting.rounds) };
 
     /// Each answer that can come is one that the command may give.
     ghost knows: { (scale rounds : ℕ) (status : Status) → IsAnswerOf (makes scale rounds) status
@@ -54,14 +60,8 @@ pub fn transform_scaled<E: Capturing, S: Shelf>(
     match words {
         [_, scale, input, output] => {
             let scale = number_within(1, MOST_SCALE, scale.as_str());
-            transform_read::<E, S>(
-                alloc,
-                scale,
-                Some(1),
-                input.as_str(),
-                output.as_str(),
-                shelf,
-            )
+            let setting = both_read(scale, Some(1));
+            transform_capture::<E, S>(alloc, setting, input.as_str(), output.as_str(), shelf)
         }
         _ => ended(Status::Usage),
     }
@@ -83,63 +83,51 @@ pub fn transform_in_rounds<E: Capturing, S: Shelf>(
         [_, scale, rounds, input, output] => {
             let scale = number_within(1, MOST_SCALE, scale.as_str());
             let rounds = number_within(1, MOST_ROUNDS, rounds.as_str());
-            transform_read::<E, S>(alloc, scale, rounds, input.as_str(), output.as_str(), shelf)
+            let setting = both_read(scale, rounds);
+            transform_capture::<E, S>(alloc, setting, input.as_str(), output.as_str(), shelf)
         }
         _ => ended(Status::Usage),
     }
 }
 
-/// Makes the output of that name from the input of that name, where both numbers are there.
-#[tactic(auto, using(crate::proofs::StagesLemmas::ended_staged))]
-fn transform_read<E: Capturing, S: Shelf>(
-    alloc: Global,
-    scale: Option<u64>,
-    rounds: Option<u64>,
-    input: &str,
-    output: &str,
-    shelf: &mut S,
-) -> Outcome
+/// The setting of both numbers, where both are there.
+fn both_read(scale: Option<u64>, rounds: Option<u64>) -> Option<Setting>
     requires scale { IfSome scale IsScale }
     requires rounds { IfSome rounds IsRounds }
-    ensures performed { IsPerformed E.command (captured E.shape E.makes scale rounds input.now output.now)
-        (option_and scale (option_and rounds (Some (is_some (repeated (input.now ∷ output.now ∷ [])))))) 1 result
-        (S.files shelf.old) (S.files shelf.new) (S.counts shelf.old) (S.counts shelf.new) }
-    ensures stages { IsStaged S.foreseen (captured_stages E.shape E.makes scale rounds input.now output.now)
-        result.status (S.files shelf.old) (S.files shelf.new) (S.counts shelf.old) (S.counts shelf.new) }
+    ensures setting { result ≡ setting_of scale rounds }
+    ensures ranges { IfSome result IsSetting }
 {
-    match scale {
-        Some(scale) => match rounds {
-            Some(rounds) => {
-                transform_capture::<E, S>(alloc, scale as u8, rounds as usize, input, output, shelf)
-            }
-            None => ended(Status::Usage),
-        },
-        None => ended(Status::Usage),
+    match (scale, rounds) {
+        (Some(scale), Some(rounds)) => Some(Setting {
+            scale: scale as u8,
+            rounds: rounds as usize,
+        }),
+        _ => None,
     }
 }
 
-/// Makes the output of that name from the input of that name. It refuses equal names.
+/// Makes the output of that name from the input of that name, where the numbers were read. It refuses equal names.
 #[inline(never)]
 #[tactic(auto, using(crate::proofs::StagesLemmas::ended_staged))]
 fn transform_capture<E: Capturing, S: Shelf>(
     alloc: Global,
-    scale: u8,
-    rounds: usize,
+    setting: Option<Setting>,
     input: &str,
     output: &str,
     shelf: &mut S,
 ) -> Outcome
-    requires scale { IsScale scale }
-    requires rounds { IsRounds rounds }
-    ensures performed { IsPerformed E.command (transformed E.shape (E.makes scale rounds) input.now output.now)
-        (Some (is_some (repeated (input.now ∷ output.now ∷ [])))) 1 result (S.files shelf.old) (S.files shelf.new)
-        (S.counts shelf.old) (S.counts shelf.new) }
-    ensures stages { IsStaged S.foreseen
-        (Some (stages_of E.shape (E.makes scale rounds) input.now (output.now ∷ []))) result.status
+    requires { IfSome setting IsSetting }
+    ensures performed { IsPerformed E.command (captured E.shape E.makes setting input.now output.now)
+        (option_and setting (Some (is_some (repeated (input.now ∷ output.now ∷ []))))) 1 result
+        (S.files shelf.old) (S.files shelf.new) (S.counts shelf.old) (S.counts shelf.new) }
+    ensures stages { IsStaged S.foreseen (captured_stages E.shape E.makes setting input.now output.now) result.status
         (S.files shelf.old) (S.files shelf.new) (S.counts shelf.old) (S.counts shelf.new) }
 {
-    match E::new(alloc, scale, rounds) {
-        Ok(mut engine) => dtx_engine::transform(alloc, &mut engine, input, output, shelf),
-        Err(_) => ended(Status::Memory),
+    match setting {
+        Some(setting) => match E::new(alloc, setting) {
+            Ok(mut engine) => dtx_engine::transform(alloc, &mut engine, input, output, shelf),
+            Err(_) => ended(Status::Memory),
+        },
+        None => ended(Status::Usage),
     }
 }

@@ -13,7 +13,7 @@ mod shapes;
 mod transforming;
 mod transmitting;
 
-pub use capturing::{Capturing, transform_in_rounds, transform_scaled};
+pub use capturing::{Capturing, Setting, transform_in_rounds, transform_scaled};
 pub use changing::Changing;
 pub use combining::{Combining, combine};
 pub use damaged::Damaged;

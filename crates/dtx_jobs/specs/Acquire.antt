@@ -1,16 +1,15 @@
 -- What `acquire SCALE IN OUT` means: it writes the segments that are acquired of a capture's symbols (the profile's
 -- own).
-use Rattle.std.specs.Prelude.{ℕ, ℤ, ◌-◌, ◌*◌, ◌==◌, if◌then◌else◌, List, [], ◌∷◌, length}
+use Rattle.std.specs.Prelude.{ℕ, ℤ, ◌-◌, ◌*◌, List, [], ◌∷◌, length}
 use Rattle.dtx_acquire.specs.Acquired.{acquired, acquired_cost, acquired_rest, acquired_runs, acquired_so_far}
 use Rattle.dtx_engine.specs.Recipe.{Recipe}
-use Rattle.dtx_meaning.specs.Status.{ended}
 use Rattle.dtx_meaning.specs.declared.status.Outcome.{Outcome}
-use Rattle.dtx_meaning.specs.declared.status.Status.TheVariants.{Done, NoSync}
 use Rattle.dtx_words.specs.declared.rows.Command.TheVariants.{Acquire}
 use Rattle.dtx_forms.specs.Capture.{scaled_job}
 use Rattle.dtx_forms.specs.Job.{Job}
 use Rattle.dtx_forms.specs.Shapes as shapes
 use Rattle.dtx_jobs.specs.Restoring.{Restoring, restoring_by}
+use Rattle.dtx_jobs.specs.Synced.{synced}
 
 -- the line's numbers: the bytes, the runs of which something is left, the segments, what all least paths cost, and the
 -- bytes in no segment
@@ -20,9 +19,7 @@ acquired_numbers symbols runs segments cost =
 
 -- the answer: `NoSync` where there is no run
 abbrev pub acquired_answer : ℕ → ℕ → ℕ → ℕ → Outcome
-acquired_answer symbols runs segments cost =
-    if runs == 0 then ended NoSync
-    else record { status = Done; numbers = acquired_numbers symbols runs segments cost; shown = 5 }
+acquired_answer symbols runs segments cost = synced runs (acquired_numbers symbols runs segments cost) 5
 
 abbrev pub acquire_answer : ℕ → List ℤ → Outcome
 acquire_answer scale symbols =

@@ -1,18 +1,15 @@
 -- Laws of what `acquire` makes. They stand in specs/, since the ghost members of an impl, a trait's laws, can cite
 -- lemmas from there only.
-use Rattle.std.specs.Prelude.{◌==◌, ℕ, length}
-use Rattle.dtx_acquire.specs.Acquired.{acquired, acquired_cost, acquired_runs}
+use Rattle.std.specs.Prelude.{ℕ}
 use Rattle.dtx_acquire.proofs.AcquiredLemmas.{none_so_far, so_far_grows}
 use Rattle.dtx_engine.specs.Recipe.{IsAnswerOf}
 use Rattle.dtx_meaning.specs.declared.status.Status.{Status}
-use Rattle.dtx_meaning.specs.declared.status.Status.TheVariants.{Done}
 use Rattle.dtx_words.specs.declared.rows.Command.TheVariants.{Acquire}
 use Rattle.dtx_forms.specs.Answers.{Knows}
 use Rattle.dtx_forms.proofs.AnswersLemmas.{knows_by, none_refused}
-use Rattle.dtx_jobs.specs.Acquire.{acquired_numbers, acquiring, with_acquirer}
-use Rattle.dtx_jobs.specs.AnswersLaws.{sync_or_not}
+use Rattle.dtx_jobs.specs.Acquire.{acquiring, with_acquirer}
+use Rattle.dtx_jobs.specs.AnswersLaws.{synced_known}
 use Rattle.dtx_jobs.specs.Restoring.{IsRestoring}
-use Rattle.dtx_jobs.specs.SymbolFile.{symbols}
 
 -- what is made grows
 pub acquires : (scale : ℕ) → IsRestoring (with_acquirer scale)
@@ -22,9 +19,4 @@ acquires scale = record { starts = none_so_far scale; grows = so_far_grows scale
 pub acquire_knows : (scale : ℕ) (status : Status) → IsAnswerOf (acquiring scale) status → Knows Acquire status
 acquire_knows scale =
     knows_by (acquiring scale) Acquire tt (λ k unit. none_refused unit)
-    (λ given loose. sync_or_not Acquire (acquired_runs (symbols given) == 0) (record {
-      status = Done;
-      numbers = acquired_numbers (length (symbols given)) (acquired_runs (symbols given))
-          (length (acquired scale (symbols given))) (acquired_cost scale (symbols given));
-      shown = 5;
-    }) tt tt)
+    (λ given loose. synced_known Acquire _ _ 5 tt)

@@ -1,10 +1,7 @@
 -- Laws: each answer of a command's recipe is one that the command may give (`Knows`). They stand in specs/, since the
 -- ghost members of an impl, a trait's laws, can cite lemmas from there only.
-use Rattle.std.specs.Prelude.{◌==◌, ℕ, Bool, false, true, length, if◌then◌else◌}
-use Rattle.dtx_receiver.specs.Runs.{runs}
-use Rattle.dtx_repeat.specs.Lives.{lives}
+use Rattle.std.specs.Prelude.{ℕ, Bool, true, false, if◌then◌else◌, List}
 use Rattle.dtx_meaning.specs.Status.{ended}
-use Rattle.dtx_meaning.specs.declared.status.Outcome.{Outcome}
 use Rattle.dtx_meaning.specs.declared.status.Status.{Status}
 use Rattle.dtx_meaning.specs.declared.status.Status.TheVariants.{Done, TooLong, NoSync}
 use Rattle.dtx_engine.specs.Recipe.{IsAnswerOf}
@@ -14,13 +11,11 @@ use Rattle.dtx_forms.specs.Answers.{Knows}
 use Rattle.dtx_forms.proofs.AnswersLemmas.{knows_by, none_refused}
 use Rattle.dtx_jobs.specs.Code.{coding}
 use Rattle.dtx_jobs.specs.Excite.{exciting}
-use Rattle.dtx_jobs.specs.Giving.{Giving, given_numbers, receiving_by}
+use Rattle.dtx_jobs.specs.Giving.{Giving, receiving_by}
 use Rattle.dtx_jobs.specs.Mend.{mending_symbols, with_mendings}
 use Rattle.dtx_jobs.specs.Receive.{receiving, with_corrections}
-use Rattle.dtx_jobs.specs.Lives.{lives_tally}
-use Rattle.dtx_jobs.specs.Repeat.{repeated_numbers, repeating}
+use Rattle.dtx_jobs.specs.Repeat.{repeating}
 use Rattle.dtx_jobs.specs.Soft.{softening}
-use Rattle.dtx_jobs.specs.SymbolFile.{file_segments}
 use Rattle.dtx_jobs.specs.Watch.{watching}
 
 -- `code`
@@ -33,22 +28,18 @@ pub excite_knows : (address delay : ℕ) (status : Status) → IsAnswerOf (excit
 excite_knows address delay =
     knows_by (exciting address delay) Excite tt (λ k unit. none_refused unit) (λ given loose. tt)
 
--- the answer is `NoSync` where `none` is true, and else this outcome
-pub sync_or_not : (command : Command) (none : Bool) (outcome : Outcome) → Knows command NoSync
-    → Knows command outcome.status → Knows command (if none then ended NoSync else outcome).status
-sync_or_not command true outcome missing given = missing
-sync_or_not command false outcome missing given = given
+-- a command that needs a field sync, where `none` says that nothing was found (`synced`)
+pub synced_known : (command : Command) (none : Bool) (numbers : List ℕ) (shown : ℕ) → Knows command NoSync
+    → Knows command (if none then ended NoSync else record { status = Done; numbers = numbers; shown = shown }).status
+synced_known command true numbers shown missing = missing
+synced_known command false numbers shown missing = tt
 
 -- `receive` and `mend`: any receiver
 pub given_knows : (giving : Giving) (command : Command) → Knows command TooLong → Knows command NoSync
     → (status : Status) → IsAnswerOf (receiving_by giving) status → Knows command status
 given_knows giving command long missing =
     knows_by (receiving_by giving) command long (λ k unit. none_refused unit)
-    (λ given loose. sync_or_not command (length (runs (file_segments given)) == 0) (record {
-      status = Done;
-      numbers = given_numbers giving (file_segments given) loose;
-      shown = 6;
-    }) missing tt)
+    (λ given loose. synced_known command _ _ 6 missing)
 
 pub receive_knows : (status : Status) → IsAnswerOf receiving status → Knows Receive status
 receive_knows = given_knows with_corrections Receive tt tt
@@ -61,12 +52,7 @@ pub repeat_knows : (address delay : ℕ) (status : Status) → IsAnswerOf (repea
     → Knows Repeat status
 repeat_knows address delay =
     knows_by (repeating address delay) Repeat tt (λ k unit. none_refused unit)
-    (λ given loose. sync_or_not Repeat (length (runs (file_segments given)) == 0) (record {
-      status = Done;
-      numbers = repeated_numbers (length (file_segments given)) (length (runs (file_segments given)))
-          (lives_tally address delay (lives (file_segments given))) loose;
-      shown = 7;
-    }) tt tt)
+    (λ given loose. synced_known Repeat _ _ 7 tt)
 
 -- `soft`
 pub soft_knows : (status : Status) → IsAnswerOf softening status → Knows Soft status

@@ -1,17 +1,18 @@
 -- What any receiver gives for segments, and what a command makes of a symbol file by it (ATSC A/53 Part 2, the way
 -- back).
-use Rattle.std.specs.Prelude.{◌≡◌, ℕ, ℤ, ◌==◌, true, if◌then◌else◌, List, [], ◌∷◌, ◌++◌, length, map, take, drop}
+use Rattle.std.specs.Prelude.{◌≡◌, ℕ, ℤ, true, List, [], ◌∷◌, ◌++◌, length, map, take, drop}
 use Rattle.std.specs.List.{flat_map}
 use Rattle.dtx_engine.specs.Made.{only, outputs_of}
 use Rattle.dtx_engine.specs.Recipe.{Recipe}
 use Rattle.dtx_meaning.specs.Meaning.{Meaning}
 use Rattle.dtx_meaning.specs.Status.{ended}
 use Rattle.dtx_meaning.specs.declared.status.Outcome.{Outcome}
-use Rattle.dtx_meaning.specs.declared.status.Status.TheVariants.{Done, NoSync, TooLong}
+use Rattle.dtx_meaning.specs.declared.status.Status.TheVariants.{NoSync, TooLong}
 use Rattle.dtx_receiver.specs.Runs.{runs}
 use Rattle.dtx_receiver.specs.declared.batch.Received.{Received}
 use Rattle.dtx_sizes.specs.declared.limits.TheConstants.{MOST_SEGMENTS}
 use Rattle.dtx_jobs.specs.SymbolFile.{file_segments}
+use Rattle.dtx_jobs.specs.Synced.{synced}
 use Rattle.dtx_jobs.specs.Tally.{numbers_in, tally_of}
 
 -- What a receiver gives for a list of segments: `so_far` is the packets that it gives while they come. `all` is all
@@ -54,9 +55,7 @@ given_numbers giving list loose = numbers_in (tally_of list (giving.all list)) l
 
 -- the answer: `NoSync` where there is no run, since no segment looks like a field sync
 abbrev pub answer_of : Giving → List (List ℤ) → ℕ → Outcome
-answer_of giving list loose =
-    if length (runs list) == 0 then ended NoSync
-    else record { status = Done; numbers = given_numbers giving list loose; shown = 6 }
+answer_of giving list loose = synced (length (runs list)) (given_numbers giving list loose) 6
 
 -- the recipe
 abbrev pub receiving_by : Giving → Recipe

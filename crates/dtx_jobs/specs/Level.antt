@@ -1,6 +1,6 @@
 -- What `level IN OUT LOG` means: it writes the symbols of a capture at eight steps a unit, and a line for each field
 -- sync (the profile's own).
-use Rattle.std.specs.Prelude.{ℕ, ℤ, ◌==◌, true, if◌then◌else◌, List, [], ◌∷◌, length, map}
+use Rattle.std.specs.Prelude.{ℕ, ℤ, true, List, [], ◌∷◌, length, map}
 use Rattle.dtx_engine.specs.Made.{Made}
 use Rattle.dtx_engine.specs.Recipe.{Recipe}
 use Rattle.dtx_files.specs.Symbols.{byte_of_symbol}
@@ -8,14 +8,13 @@ use Rattle.dtx_forms.specs.Job.{Job}
 use Rattle.dtx_forms.specs.Logged.{logged_job}
 use Rattle.dtx_forms.specs.Shapes as shapes
 use Rattle.dtx_jobs.specs.SymbolFile.{symbols}
+use Rattle.dtx_jobs.specs.Synced.{synced}
 use Rattle.dtx_level.specs.Levelled.{levelled_rest, levelled_so_far}
 use Rattle.dtx_level.specs.MeasureText.{measures_text}
 use Rattle.dtx_level.specs.Measures.{measures_rest, measures_so_far}
 use Rattle.dtx_level.specs.Syncs.{all_syncs, slips}
 use Rattle.dtx_level.specs.declared.measure.Measure.{Measure}
-use Rattle.dtx_meaning.specs.Status.{ended}
 use Rattle.dtx_meaning.specs.declared.status.Outcome.{Outcome}
-use Rattle.dtx_meaning.specs.declared.status.Status.TheVariants.{Done, NoSync}
 use Rattle.dtx_words.specs.declared.rows.Command.TheVariants.{Level}
 
 -- OUT and LOG: a byte for each symbol, and a line for each sync that was measured
@@ -26,9 +25,7 @@ levelled_files symbols measures =
 -- The answer: `NoSync` where there is no sync. Else the numbers are the symbols, the syncs, and the syncs that don't
 -- lie a multiple of 313 segments behind the one before.
 abbrev pub levelled_answer : ℕ → ℕ → ℕ → Outcome
-levelled_answer symbols syncs slips =
-    if syncs == 0 then ended NoSync
-    else record { status = Done; numbers = symbols ∷ syncs ∷ slips ∷ 0 ∷ 0 ∷ 0 ∷ 0 ∷ []; shown = 3 }
+levelled_answer symbols syncs slips = synced syncs (symbols ∷ syncs ∷ slips ∷ 0 ∷ 0 ∷ 0 ∷ 0 ∷ []) 3
 
 abbrev pub level_answer : List ℤ → Outcome
 level_answer symbols = levelled_answer (length symbols) (length (all_syncs symbols)) (slips (all_syncs symbols))

@@ -1,6 +1,6 @@
 -- Laws of what `level` makes. They stand in specs/, since the ghost members of an impl, a trait's laws, can cite lemmas
 -- from there only.
-use Rattle.std.proofs.Common.{◌≡◌, ℕ, ◌==◌, List, [], ◌∷◌, ◌++◌, length, map, sym, ap, ap₂, ◌∙◌}
+use Rattle.std.proofs.Common.{◌≡◌, ℕ, List, [], ◌++◌, map, sym, ap, ap₂, ◌∙◌}
 use Rattle.std.proofs.lemmas.Grind.{flat_map-append}
 use Rattle.std.proofs.lemmas.List.{map-append}
 use Rattle.dtx_engine.specs.Made.{AreFrontsOf, only}
@@ -8,16 +8,14 @@ use Rattle.dtx_engine.specs.Recipe.{IsAnswerOf}
 use Rattle.dtx_files.specs.Symbols.{byte_of_symbol}
 use Rattle.dtx_forms.proofs.AnswersLemmas.{knows_by, none_refused}
 use Rattle.dtx_forms.specs.Answers.{Knows}
-use Rattle.dtx_jobs.specs.AnswersLaws.{sync_or_not}
+use Rattle.dtx_jobs.specs.AnswersLaws.{synced_known}
 use Rattle.dtx_jobs.specs.Level.{levelled_files, levelling}
 use Rattle.dtx_jobs.specs.SymbolFile.{symbol_of_byte, symbols}
 use Rattle.dtx_level.proofs.LevelledLemmas.{none_so_far, so_far_grows}
 use Rattle.dtx_level.specs.Levelled.{levelled_so_far}
 use Rattle.dtx_level.specs.MeasureText.{measure_text, measures_text}
 use Rattle.dtx_level.specs.Measures.{measures_so_far}
-use Rattle.dtx_level.specs.Syncs.{all_syncs, slips}
 use Rattle.dtx_meaning.specs.declared.status.Status.{Status}
-use Rattle.dtx_meaning.specs.declared.status.Status.TheVariants.{Done}
 use Rattle.dtx_words.specs.declared.rows.Command.TheVariants.{Level}
 
 -- ---- what is made
@@ -46,9 +44,4 @@ levels_more a b =
 pub level_knows : (status : Status) → IsAnswerOf levelling status → Knows Level status
 level_knows =
     knows_by levelling Level tt (λ k unit. none_refused unit)
-    (λ given loose. sync_or_not Level (length (all_syncs (symbols given)) == 0) (record {
-      status = Done;
-      numbers = length (symbols given) ∷ length (all_syncs (symbols given)) ∷ slips (all_syncs (symbols given)) ∷ 0 ∷ 0
-          ∷ 0 ∷ 0 ∷ [];
-      shown = 3;
-    }) tt tt)
+    (λ given loose. synced_known Level _ _ 3 tt)

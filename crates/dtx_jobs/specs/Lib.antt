@@ -38,6 +38,7 @@ pub mod StreamCoder
 pub mod SymbolFile
 pub mod SymbolFileLaws
 pub mod Symbols
+pub mod Synced
 pub mod Tally
 pub mod Watch
 pub mod WatchLaws

@@ -1,6 +1,6 @@
 -- What `refine SCALE ROUNDS IN OUT` means: it writes the segments of a capture after so many rounds (the profile's
 -- own).
-use Rattle.std.specs.Prelude.{ℕ, ℤ, ◌≡◌, ◌-◌, ◌*◌, ◌≤◌, ◌==◌, if◌then◌else◌, List, [], ◌∷◌, length}
+use Rattle.std.specs.Prelude.{ℕ, ℤ, ◌≡◌, ◌-◌, ◌*◌, ◌≤◌, List, [], ◌∷◌, length}
 use Rattle.dtx_receiver.specs.Bytes.{bytes_in}
 use Rattle.dtx_acquire.specs.Acquired.{acquired, acquired_runs}
 use Rattle.dtx_rounds.specs.Known.{known_count}
@@ -8,14 +8,13 @@ use Rattle.dtx_rounds.specs.Rounds.{heard_of, refined, refined_rest, refined_so_
 use Rattle.dtx_refine.specs.Refiner.{Refining, StandsFor}
 use Rattle.dtx_engine.specs.Recipe.{Recipe}
 use Rattle.dtx_files.specs.Symbols.{segment_bytes}
-use Rattle.dtx_meaning.specs.Status.{ended}
 use Rattle.dtx_meaning.specs.declared.status.Outcome.{Outcome}
-use Rattle.dtx_meaning.specs.declared.status.Status.TheVariants.{Done, NoSync}
 use Rattle.dtx_words.specs.declared.rows.Command.TheVariants.{Refine}
 use Rattle.dtx_forms.specs.Capture.{rounds_job}
 use Rattle.dtx_forms.specs.Job.{Job}
 use Rattle.dtx_forms.specs.Shapes as shapes
 use Rattle.dtx_jobs.specs.Restoring.{Restoring, restoring_by}
+use Rattle.dtx_jobs.specs.Synced.{synced}
 
 -- the line's numbers: the bytes, the runs of which something is left, the segments, what the least paths of the last
 -- round cost, how many words it knew and how many symbols it moved, and the bytes in no segment
@@ -26,8 +25,7 @@ refined_numbers symbols runs segments cost known moved =
 -- the answer: `NoSync` where there is no run
 abbrev pub refined_answer : ℕ → ℕ → ℕ → ℕ → ℕ → ℕ → Outcome
 refined_answer symbols runs segments cost known moved =
-    if runs == 0 then ended NoSync
-    else record { status = Done; numbers = refined_numbers symbols runs segments cost known moved; shown = 7 }
+    synced runs (refined_numbers symbols runs segments cost known moved) 7
 
 -- what the last round was given
 abbrev pub before_last : ℕ → ℕ → List ℤ → List (List ℤ)

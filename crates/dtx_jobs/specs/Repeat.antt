@@ -1,10 +1,8 @@
 -- What `repeat` makes of a symbol file (the profile's own, over ATSC A/53 Part 2 and in the manner of ATSC A/110).
-use Rattle.std.specs.Prelude.{ℕ, ℤ, ◌==◌, true, if◌then◌else◌, List, [], ◌∷◌, length, drop}
+use Rattle.std.specs.Prelude.{ℕ, ℤ, true, List, [], ◌∷◌, length, drop}
 use Rattle.dtx_receiver.specs.Runs.{runs}
 use Rattle.dtx_repeat.specs.Lives.{lives, lives_so_far}
-use Rattle.dtx_meaning.specs.Status.{ended}
 use Rattle.dtx_meaning.specs.declared.status.Outcome.{Outcome}
-use Rattle.dtx_meaning.specs.declared.status.Status.TheVariants.{Done, NoSync}
 use Rattle.dtx_engine.specs.Made.{Made}
 use Rattle.dtx_engine.specs.Recipe.{Recipe}
 use Rattle.dtx_words.specs.declared.rows.Command.TheVariants.{Repeat}
@@ -13,6 +11,7 @@ use Rattle.dtx_forms.specs.Shapes.{segments}
 use Rattle.dtx_forms.specs.Transmit.{transmit_job}
 use Rattle.dtx_jobs.specs.Lives.{sent_over, logged_over, lives_tally}
 use Rattle.dtx_jobs.specs.SymbolFile.{file_segments}
+use Rattle.dtx_jobs.specs.Synced.{synced}
 use Rattle.dtx_jobs.specs.declared.life_tally.LifeTally.{LifeTally}
 
 -- the symbols that the transmitter with this address and delay sends in these lives, and the transmitter's log
@@ -44,13 +43,8 @@ repeated_numbers segments runs tally loose =
 
 -- the answer: `NoSync` where there is no run, since no segment looks like a field sync
 abbrev pub repeat_answer : ℕ → ℕ → List (List ℤ) → ℕ → Outcome
-repeat_answer address delay list loose =
-    if length (runs list) == 0 then ended NoSync
-    else record {
-      status = Done;
-      numbers = repeated_numbers (length list) (length (runs list)) (lives_tally address delay (lives list)) loose;
-      shown = 7;
-    }
+repeat_answer address delay list loose = synced (length (runs list))
+    (repeated_numbers (length list) (length (runs list)) (lives_tally address delay (lives list)) loose) 7
 
 -- the recipe
 abbrev pub repeating : ℕ → ℕ → Recipe

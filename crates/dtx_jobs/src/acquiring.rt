@@ -7,7 +7,7 @@ ghost use Rattle.dtx_jobs.specs.Acquire.{acquired_answer};
 use crate::restorer::Restorer;
 use crate::symbol_buffer::SymbolBuffer;
 use dtx_acquire::{Acquirer, MOST_HELD};
-use dtx_forms::PIECE_BYTES;
+use dtx_forms::{PIECE_BYTES, Setting};
 use dtx_meaning::{Outcome, Status, ended};
 use dtx_sizes::SEGMENT;
 use std::alloc::{AllocError, Global};
@@ -34,8 +34,8 @@ impl Restorer<ACQUIRED_BYTES> for Acquirer {
 
     ghost given = { λ a. a.given };
 
-    fn new(alloc: Global, scale: u8, _rounds: usize) -> Result<Acquirer, AllocError> {
-        Acquirer::new(alloc, scale)
+    fn new(alloc: Global, setting: Setting) -> Result<Acquirer, AllocError> {
+        Acquirer::new(alloc, setting.scale)
     }
 
     fn known(&self) {}

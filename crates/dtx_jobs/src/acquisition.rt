@@ -7,7 +7,7 @@ use crate::restorer::Restorer;
 use crate::signed::to_symbols;
 use crate::symbol_buffer::SymbolBuffer;
 use dtx_engine::{Engine, Shape};
-use dtx_forms::{Capturing, PIECE_BYTES, single_bytes};
+use dtx_forms::{Capturing, PIECE_BYTES, Setting, single_bytes};
 use dtx_meaning::Outcome;
 use dtx_sizes::MOST_SYMBOLS;
 use std::alloc::{AllocError, Global};
@@ -84,11 +84,11 @@ impl<R: Restorer<N>, const N: usize> Capturing for Acquisition<R, N> {
 
     ghost makes = { λ scale rounds. restoring_by (R.makes scale rounds) };
 
-    fn new(alloc: Global, scale: u8, rounds: usize) -> Result<Acquisition<R, N>, AllocError> {
+    fn new(alloc: Global, setting: Setting) -> Result<Acquisition<R, N>, AllocError> {
         Ok(Acquisition {
             piece: vec![in alloc; 0i8; PIECE_BYTES]?,
             symbols: SymbolBuffer::new(alloc)?,
-            restorer: R::new(alloc, scale, rounds)?,
+            restorer: R::new(alloc, setting)?,
         })
     }
 

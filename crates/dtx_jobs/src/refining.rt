@@ -6,6 +6,7 @@ ghost use Rattle.dtx_jobs.specs.Refine.{IsRefining, WasFinished, refined_answer}
 
 use crate::restorer::Restorer;
 use crate::symbol_buffer::SymbolBuffer;
+use dtx_forms::Setting;
 use dtx_meaning::{Outcome, Status, ended};
 use dtx_refine::{MOST_ROUNDS, Refiner};
 use dtx_sizes::{FIELD_SEGMENTS, SEGMENT};
@@ -32,8 +33,8 @@ impl Restorer<REFINED_BYTES> for Refiner {
 
     ghost given = { λ r. r.given };
 
-    fn new(alloc: Global, scale: u8, rounds: usize) -> Result<Refiner, AllocError> {
-        Refiner::new(alloc, scale, rounds)
+    fn new(alloc: Global, setting: Setting) -> Result<Refiner, AllocError> {
+        Refiner::new(alloc, setting.scale, setting.rounds)
     }
 
     fn known(&self) {

@@ -1,14 +1,14 @@
 // What every restorer of segments does, so that `acquire` and `refine` have one engine.
 ghost use Rattle.std.specs.Prelude.{◌≡◌, ◌+◌, ◌*◌, ◌<◌, ◌≤◌, ◌++◌, [], ℕ, ℤ, IfOk, List, length, take};
 ghost use Rattle.dtx_files.specs.Symbols.{segment_bytes};
-ghost use Rattle.dtx_forms.specs.Capture.{IsRounds, IsScale};
+ghost use Rattle.dtx_forms.specs.Capture.{IsSetting};
 ghost use Rattle.dtx_meaning.specs.Status.{IsOfBytes, blame_of};
 ghost use Rattle.dtx_outside.specs.Counts.{Nothing};
 ghost use Rattle.dtx_jobs.specs.Restoring.{IsRestoring, Restoring, restoring_by};
 
 use crate::symbol_buffer::SymbolBuffer;
 use dtx_acquire::MOST_HELD;
-use dtx_forms::PIECE_BYTES;
+use dtx_forms::{PIECE_BYTES, Setting};
 use dtx_meaning::Outcome;
 use dtx_sizes::{MOST_SYMBOLS, SEGMENT};
 use std::alloc::{AllocError, Global};
@@ -39,11 +39,10 @@ pub(crate) trait Restorer<const N: usize>: Drop {
     ghost given: { Self → List (List ℤ) };
 
     /// A restorer to which no symbol was given. The only error is out of memory.
-    fn new(alloc: Global, scale: u8, rounds: usize) -> Result<Self, AllocError>
-        requires scale { IsScale scale }
-        requires rounds { IsRounds rounds }
+    fn new(alloc: Global, setting: Setting) -> Result<Self, AllocError>
+        requires { IsSetting setting }
         ensures stands { IfOk result (λ restorer. stands restorer []) }
-        ensures makes { IfOk result (λ restorer. restoring restorer ≡ makes scale rounds) };
+        ensures makes { IfOk result (λ restorer. restoring restorer ≡ makes setting.scale setting.rounds) };
 
     /// Gives proofs facts, and has no effect.
     fn known(&self)

@@ -5,18 +5,22 @@ use Rattle.dtx_forms.proofs.StagesLemmas.{loop_staged}
 use Rattle.dtx_forms.proofs.capturing.transform_capture.Goals as goal
 
 pub returns-in-Ok-clause-performed : goal.returns-in-Ok-clause-performed
-returns-in-Ok-clause-performed g c = record {
-  carried = rw (← c.in-Ok.ensures.makes) c.transform.ensures.carried;
-  words = pair_told c.args.output.now _ 1 _ c.transform.ensures.input;
-  answers = transformed_knows (g.E.Capturing.makes c.args.scale c.args.rounds) g.E.Capturing.command _
-      (g.met.E.Capturing.knows c.args.scale c.args.rounds)
-      (rw (← c.in-Ok.ensures.makes) c.transform.ensures.answer);
-  gone = c.transform.ensures.gone;
-}
+returns-in-Ok-clause-performed g c =
+    let setting = c.in-Some.setting in
+    rw c.in-Some.is (record {
+      carried = rw (← c.in-Ok.ensures.makes) c.transform.ensures.carried;
+      words = pair_told c.args.output.now _ 1 _ c.transform.ensures.input;
+      answers = transformed_knows (g.E.Capturing.makes setting.scale setting.rounds) g.E.Capturing.command _
+          (g.met.E.Capturing.knows setting.scale setting.rounds)
+          (rw (← c.in-Ok.ensures.makes) c.transform.ensures.answer);
+      gone = c.transform.ensures.gone;
+    })
 
 pub returns-in-Ok-clause-stages : goal.returns-in-Ok-clause-stages
 returns-in-Ok-clause-stages g c =
-    loop_staged g.S.Shelf.foreseen g.E.Engine.shape (g.E.Capturing.makes c.args.scale c.args.rounds) c.args.input.now
-    (c.args.output.now ∷ []) c.transform.result.status (g.S.Shelf.files c.args.shelf.now)
+    let setting = c.in-Some.setting in
+    rw c.in-Some.is
+    (loop_staged g.S.Shelf.foreseen g.E.Engine.shape (g.E.Capturing.makes setting.scale setting.rounds)
+    c.args.input.now (c.args.output.now ∷ []) c.transform.result.status (g.S.Shelf.files c.args.shelf.now)
     (g.S.Shelf.files c.transform.new.shelf) (g.S.Shelf.counts c.args.shelf.now)
-    (g.S.Shelf.counts c.transform.new.shelf) (rw (← c.in-Ok.ensures.makes) c.transform.ensures.stages)
+    (g.S.Shelf.counts c.transform.new.shelf) (rw (← c.in-Ok.ensures.makes) c.transform.ensures.stages))

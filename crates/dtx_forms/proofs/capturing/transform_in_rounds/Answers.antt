@@ -1,38 +1,42 @@
 use Rattle.std.proofs.Common.{◌∙◌}
+use Rattle.dtx_words.specs.Number.{number_within}
 use Rattle.dtx_forms.specs.Capture.{rounds_job, rounds_stages}
 use Rattle.dtx_forms.specs.Job.{IsJobPerformed}
 use Rattle.dtx_forms.specs.Stages.{IsStaged}
-use Rattle.dtx_forms.proofs.NumbersLemmas.{within_range}
+use Rattle.dtx_forms.proofs.NumbersLemmas.{and_setting, within_range}
 use Rattle.dtx_forms.proofs.WordsLemmas.{by_five}
 use Rattle.dtx_forms.proofs.capturing.transform_in_rounds.Goals as goal
 
-pub transform_read-requires-clause-scale : goal.transform_read-requires-clause-scale
-transform_read-requires-clause-scale g c =
+pub both_read-setting-requires-clause-scale : goal.both_read-setting-requires-clause-scale
+both_read-setting-requires-clause-scale g c =
     within_range 1 18 c.as_str.result.now c.number_within-scale.result c.number_within-scale.ensures
 
-pub transform_read-requires-clause-rounds : goal.transform_read-requires-clause-rounds
-transform_read-requires-clause-rounds g c =
+pub both_read-setting-requires-clause-rounds : goal.both_read-setting-requires-clause-rounds
+both_read-setting-requires-clause-rounds g c =
     within_range 1 32 c.as_str-in-len5.result.now c.number_within-rounds.result c.number_within-rounds.ensures
 
 pub returns-in-len5-clause-performed : goal.returns-in-len5-clause-performed
 returns-in-len5-clause-performed g c =
     let job = rounds_job g.E.Capturing.command g.E.Engine.shape g.E.Capturing.makes in
-    let is = rw c.number_within-scale.ensures at c.transform_read.ensures.performed in
-    by_five (λ w. IsJobPerformed job w c.transform_read.result
-    (g.S.Shelf.files c.args.shelf.now) (g.S.Shelf.files c.transform_read.new.shelf)
-    (g.S.Shelf.counts c.args.shelf.now) (g.S.Shelf.counts c.transform_read.new.shelf))
+    let is = rw (c.both_read-setting.ensures.setting, c.number_within-scale.ensures, c.number_within-rounds.ensures) at
+    c.transform_capture.ensures.performed in
+    by_five (λ w. IsJobPerformed job w c.transform_capture.result
+    (g.S.Shelf.files c.args.shelf.now) (g.S.Shelf.files c.transform_capture.new.shelf)
+    (g.S.Shelf.counts c.args.shelf.now) (g.S.Shelf.counts c.transform_capture.new.shelf))
     c.args.words.now _ _ _ _ c.as_str.result.now c.as_str-in-len5.result.now c.as_str-in-len5-2.result.now
     c.as_str-in-len5-3.result.now c.in-len5.len_at_least c.in-len5.len_below (c.as_str.ensures ∙ c.scale-item.is)
     (c.as_str-in-len5.ensures ∙ c.rounds-item.is) (c.as_str-in-len5-2.ensures ∙ c.input-item.is)
-    (c.as_str-in-len5-3.ensures ∙ c.output-item.is) (rw c.number_within-rounds.ensures at is)
+    (c.as_str-in-len5-3.ensures ∙ c.output-item.is)
+    (rw (and_setting (number_within 1 18 c.as_str.result.now) (number_within 1 32 c.as_str-in-len5.result.now) _) at is)
 
 pub returns-in-len5-clause-stages : goal.returns-in-len5-clause-stages
 returns-in-len5-clause-stages g c =
-    let is = rw c.number_within-scale.ensures at c.transform_read.ensures.stages in
+    let is = rw (c.both_read-setting.ensures.setting, c.number_within-scale.ensures, c.number_within-rounds.ensures) at
+    c.transform_capture.ensures.stages in
     by_five (λ w. IsStaged g.S.Shelf.foreseen (rounds_stages g.E.Engine.shape g.E.Capturing.makes w)
-    c.transform_read.result.status (g.S.Shelf.files c.args.shelf.now) (g.S.Shelf.files c.transform_read.new.shelf)
-    (g.S.Shelf.counts c.args.shelf.now) (g.S.Shelf.counts c.transform_read.new.shelf))
+    c.transform_capture.result.status (g.S.Shelf.files c.args.shelf.now) (g.S.Shelf.files c.transform_capture.new.shelf)
+    (g.S.Shelf.counts c.args.shelf.now) (g.S.Shelf.counts c.transform_capture.new.shelf))
     c.args.words.now _ _ _ _ c.as_str.result.now c.as_str-in-len5.result.now c.as_str-in-len5-2.result.now
     c.as_str-in-len5-3.result.now c.in-len5.len_at_least c.in-len5.len_below (c.as_str.ensures ∙ c.scale-item.is)
     (c.as_str-in-len5.ensures ∙ c.rounds-item.is) (c.as_str-in-len5-2.ensures ∙ c.input-item.is)
-    (c.as_str-in-len5-3.ensures ∙ c.output-item.is) (rw c.number_within-rounds.ensures at is)
+    (c.as_str-in-len5-3.ensures ∙ c.output-item.is) is

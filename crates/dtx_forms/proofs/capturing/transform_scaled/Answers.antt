@@ -1,32 +1,35 @@
 use Rattle.std.proofs.Common.{◌∙◌}
+use Rattle.std.specs.Prelude.{Some}
+use Rattle.dtx_words.specs.Number.{number_within}
 use Rattle.dtx_forms.specs.Capture.{scaled_job, scaled_stages}
 use Rattle.dtx_forms.specs.Job.{IsJobPerformed}
 use Rattle.dtx_forms.specs.Stages.{IsStaged}
-use Rattle.dtx_forms.proofs.NumbersLemmas.{within_range}
+use Rattle.dtx_forms.proofs.NumbersLemmas.{and_setting, within_range}
 use Rattle.dtx_forms.proofs.WordsLemmas.{by_four}
 use Rattle.dtx_forms.proofs.capturing.transform_scaled.Goals as goal
 
-pub transform_read-requires-clause-scale : goal.transform_read-requires-clause-scale
-transform_read-requires-clause-scale g c =
+pub both_read-setting-requires-clause-scale : goal.both_read-setting-requires-clause-scale
+both_read-setting-requires-clause-scale g c =
     within_range 1 18 c.as_str.result.now c.number_within-scale.result c.number_within-scale.ensures
 
 pub returns-in-len4-clause-performed : goal.returns-in-len4-clause-performed
 returns-in-len4-clause-performed g c =
     let job = scaled_job g.E.Capturing.command g.E.Engine.shape g.E.Capturing.makes in
-    by_four (λ w. IsJobPerformed job w c.transform_read.result
-    (g.S.Shelf.files c.args.shelf.now) (g.S.Shelf.files c.transform_read.new.shelf)
-    (g.S.Shelf.counts c.args.shelf.now) (g.S.Shelf.counts c.transform_read.new.shelf))
+    let is = rw (c.both_read-setting.ensures.setting, c.number_within-scale.ensures) at c.transform_capture.ensures.performed in
+    by_four (λ w. IsJobPerformed job w c.transform_capture.result
+    (g.S.Shelf.files c.args.shelf.now) (g.S.Shelf.files c.transform_capture.new.shelf)
+    (g.S.Shelf.counts c.args.shelf.now) (g.S.Shelf.counts c.transform_capture.new.shelf))
     c.args.words.now _ _ _ c.as_str.result.now c.as_str-in-len4.result.now c.as_str-in-len4-2.result.now
     c.in-len4.len_at_least c.in-len4.len_below (c.as_str.ensures ∙ c.scale-item.is)
     (c.as_str-in-len4.ensures ∙ c.input-item.is) (c.as_str-in-len4-2.ensures ∙ c.output-item.is)
-    (rw c.number_within-scale.ensures at c.transform_read.ensures.performed)
+    (rw (and_setting (number_within 1 18 c.as_str.result.now) (Some 1) _) at is)
 
 pub returns-in-len4-clause-stages : goal.returns-in-len4-clause-stages
 returns-in-len4-clause-stages g c =
     by_four (λ w. IsStaged g.S.Shelf.foreseen (scaled_stages g.E.Engine.shape g.E.Capturing.makes w)
-    c.transform_read.result.status (g.S.Shelf.files c.args.shelf.now) (g.S.Shelf.files c.transform_read.new.shelf)
-    (g.S.Shelf.counts c.args.shelf.now) (g.S.Shelf.counts c.transform_read.new.shelf))
+    c.transform_capture.result.status (g.S.Shelf.files c.args.shelf.now) (g.S.Shelf.files c.transform_capture.new.shelf)
+    (g.S.Shelf.counts c.args.shelf.now) (g.S.Shelf.counts c.transform_capture.new.shelf))
     c.args.words.now _ _ _ c.as_str.result.now c.as_str-in-len4.result.now c.as_str-in-len4-2.result.now
     c.in-len4.len_at_least c.in-len4.len_below (c.as_str.ensures ∙ c.scale-item.is)
     (c.as_str-in-len4.ensures ∙ c.input-item.is) (c.as_str-in-len4-2.ensures ∙ c.output-item.is)
-    (rw c.number_within-scale.ensures at c.transform_read.ensures.stages)
+    (rw (c.both_read-setting.ensures.setting, c.number_within-scale.ensures) at c.transform_capture.ensures.stages)
