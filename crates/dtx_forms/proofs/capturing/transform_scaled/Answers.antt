@@ -15,7 +15,8 @@ both_read-setting-requires-clause-scale g c =
 pub returns-in-len4-clause-performed : goal.returns-in-len4-clause-performed
 returns-in-len4-clause-performed g c =
     let job = scaled_job g.E.Capturing.command g.E.Engine.shape g.E.Capturing.makes in
-    let is = rw (c.both_read-setting.ensures.setting, c.number_within-scale.ensures) at c.transform_capture.ensures.performed in
+    let is = rw (c.both_read-setting.ensures.setting, c.number_within-scale.ensures) at
+    c.transform_capture.ensures.performed in
     by_four (λ w. IsJobPerformed job w c.transform_capture.result
     (g.S.Shelf.files c.args.shelf.now) (g.S.Shelf.files c.transform_capture.new.shelf)
     (g.S.Shelf.counts c.args.shelf.now) (g.S.Shelf.counts c.transform_capture.new.shelf))

@@ -31,7 +31,8 @@ loop-j-preserved c =
           (omega (arith, run.in_field w.if-at-lt-BYTES.true, c.requires.long)) l)
           w.gather_stretch.ensures.before)
       | else-at-lt-BYTES w ↦ subst (λ word. IsGathered both word c.args.k (c.loop-j.j + count)) (sym w.word-is)
-          (gathered_on both c.loop-j.word w.gather_stretch-else-at-lt-BYTES.new.word c.args.k c.loop-j.j count at run.spaced
+          (gathered_on both c.loop-j.word w.gather_stretch-else-at-lt-BYTES.new.word c.args.k c.loop-j.j count at
+          run.spaced
           within c.loop-j.invariant w.gather_stretch-else-at-lt-BYTES.array_long
           (λ i l. w.gather_stretch-else-at-lt-BYTES.ensures.gathered i l
           ∙ from_behind c.args.bytes.now c.args.behind.now at i 64584 c.requires.long w.if-at-lt-BYTES.false)

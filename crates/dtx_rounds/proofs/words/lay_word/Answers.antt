@@ -17,7 +17,8 @@ loop-j-preserved c =
           ap₂ (λ (xs ys : List (Option ℕ)). xs ++ ys) w.known-is w.next-is in
           subst (IsLaidTo word c.args.k (c.loop-j.j + count) first) (sym new)
           (laid_on word c.args.k c.loop-j.j count at first _ _ run.spaced within c.loop-j.invariant
-          (laid_front word c.loop-j.j count at c.loop-j.known w.lay_stretch.new.known c.loop-j.next w.lay_stretch.auto.known
+          (laid_front word c.loop-j.j count at c.loop-j.known w.lay_stretch.new.known c.loop-j.next
+          w.lay_stretch.auto.known
           (omega (arith, run.in_field w.if-at-lt-BYTES.true, c.loop-j.auto.known, c.requires.known))
           (record { laid = w.lay_stretch.ensures.laid; others = w.lay_stretch.ensures.others })))
       | else-at-lt-BYTES w ↦
