@@ -19,11 +19,11 @@ use Rattle.dtx_outside.proofs.FilesLemmas.{get-insert_other}
 use Rattle.dtx_outside.specs.Shelf.{Files}
 use Rattle.dtx_packets.specs.Packets.{packet_at, packets_of, whole_packets}
 use Rattle.dtx_forms.proofs.FilePacketsLemmas.{length-packets_of}
-use Rattle.dtx_jobs.specs.Code.{coding}
+use Rattle.dtx_recipes.specs.Code.{coding}
 use Rattle.dtx_jobs.proofs.GivenLemmas.{nothing_received}
-use Rattle.dtx_jobs.specs.Giving.{Giving, IsGiving, receiving_by}
-use Rattle.dtx_jobs.specs.SymbolFile.{whole_segments}
-use Rattle.dtx_jobs.specs.Symbols.{symbol_bytes}
+use Rattle.dtx_recipes.specs.Giving.{Giving, IsGiving, receiving_by}
+use Rattle.dtx_recipes.specs.SymbolFile.{whole_segments}
+use Rattle.dtx_recipes.specs.Symbols.{symbol_bytes}
 use Rattle.dtx_jobs.proofs.SymbolsBackLemmas.{each_drop, each_range, each_take}
 use Rattle.dtx_words.specs.Line.{done_line}
 use Rattle.dtx_words.specs.Printed.{printed}

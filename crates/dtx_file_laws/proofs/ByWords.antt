@@ -17,18 +17,18 @@ use Rattle.dtx_forms.specs.Shapes.{coded_packets, packets, segments, single_byte
 use Rattle.dtx_forms.specs.Transmit.{transmit_with}
 use Rattle.dtx_meaning.specs.Meaning.{Meaning}
 use Rattle.dtx_outside.specs.Shelf.{Files}
-use Rattle.dtx_packet_jobs.specs.Adapt.{feeding}
-use Rattle.dtx_packet_jobs.specs.DvbCode.{dvb_coding}
-use Rattle.dtx_packet_jobs.specs.DvbRead.{dvb_reading}
-use Rattle.dtx_packet_jobs.specs.DvbShapes.{blocks, dvb_packets}
+use Rattle.dtx_recipes.specs.Adapt.{feeding}
+use Rattle.dtx_recipes.specs.DvbCode.{dvb_coding}
+use Rattle.dtx_recipes.specs.DvbRead.{dvb_reading}
+use Rattle.dtx_recipes.specs.DvbShapes.{blocks, dvb_packets}
 use Rattle.dtx_plan.specs.Plan.{plan_of}
 use Rattle.dtx_plan.specs.declared.plan.Plan.{Plan}
-use Rattle.dtx_jobs.specs.Acquire.{acquiring}
-use Rattle.dtx_jobs.specs.Code.{coding}
-use Rattle.dtx_jobs.specs.Excite.{exciting}
-use Rattle.dtx_jobs.specs.Mend.{mending_symbols}
-use Rattle.dtx_jobs.specs.Receive.{receiving}
-use Rattle.dtx_jobs.specs.Refine.{refining}
+use Rattle.dtx_recipes.specs.Acquire.{acquiring}
+use Rattle.dtx_recipes.specs.Code.{coding}
+use Rattle.dtx_recipes.specs.Excite.{exciting}
+use Rattle.dtx_recipes.specs.Mend.{mending_symbols}
+use Rattle.dtx_recipes.specs.Receive.{receiving}
+use Rattle.dtx_recipes.specs.Refine.{refining}
 use Rattle.dtx_words.specs.Fitting.{is_name}
 use Rattle.dtx_words.specs.Names.{repeated}
 use Rattle.dtx_words.specs.Number.{at_least, number_in, number_within}

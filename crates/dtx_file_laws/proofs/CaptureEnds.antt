@@ -15,11 +15,11 @@ use Rattle.dtx_meaning.specs.declared.status.Status.{Status}
 use Rattle.dtx_meaning.specs.declared.status.Status.TheVariants.{Done, NoSync}
 use Rattle.dtx_outside.specs.Shelf.{Files}
 use Rattle.dtx_packets.specs.Packets.{packets_of}
-use Rattle.dtx_jobs.specs.Code.{coding}
-use Rattle.dtx_jobs.specs.Giving.{no_sync_in}
-use Rattle.dtx_jobs.specs.Restoring.{Restoring, restoring_by}
-use Rattle.dtx_jobs.specs.SymbolFile.{symbols}
-use Rattle.dtx_jobs.specs.Symbols.{symbol_bytes}
+use Rattle.dtx_recipes.specs.Code.{coding}
+use Rattle.dtx_recipes.specs.Giving.{no_sync_in}
+use Rattle.dtx_recipes.specs.Restoring.{Restoring, restoring_by}
+use Rattle.dtx_recipes.specs.SymbolFile.{symbols}
+use Rattle.dtx_recipes.specs.Symbols.{symbol_bytes}
 use Rattle.dtx_repeated_feed.specs.DoneWith.{IsDoneWith}
 use Rattle.dtx_file_laws.specs.Damaged.{IsNoisy}
 use Rattle.dtx_file_laws.specs.Told.{Holds}

@@ -16,11 +16,11 @@ use Rattle.dtx_meaning.specs.declared.status.Status.TheVariants.{Done}
 use Rattle.dtx_outside.specs.Shelf.{Files}
 use Rattle.dtx_packets.specs.Packet.{sync_of}
 use Rattle.dtx_packets.specs.Packets.{packet_at, packets_of, whole_packets}
-use Rattle.dtx_packet_jobs.specs.DvbBack.{HaveSyncs, back_of, sent_of}
-use Rattle.dtx_packet_jobs.specs.DvbCode.{dvb_coding}
-use Rattle.dtx_packet_jobs.specs.DvbRead.{dvb_reading}
-use Rattle.dtx_packet_jobs.specs.DvbShapes.{blocks, dvb_packets}
-use Rattle.dtx_packet_jobs.specs.Place.{has_sync}
+use Rattle.dtx_recipes.specs.DvbBack.{HaveSyncs, back_of, sent_of}
+use Rattle.dtx_recipes.specs.DvbCode.{dvb_coding}
+use Rattle.dtx_recipes.specs.DvbRead.{dvb_reading}
+use Rattle.dtx_recipes.specs.DvbShapes.{blocks, dvb_packets}
+use Rattle.dtx_recipes.specs.Place.{has_sync}
 use Rattle.dtx_jobs.proofs.SymbolsBackLemmas.{each_drop, each_range, each_take}
 use Rattle.dtx_words.specs.Line.{done_line}
 use Rattle.dtx_words.specs.Printed.{printed}

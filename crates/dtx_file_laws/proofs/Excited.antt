@@ -13,7 +13,7 @@ use Rattle.dtx_files.specs.LogText.{log_text}
 use Rattle.dtx_files.specs.Symbols.{segment_bytes}
 use Rattle.dtx_forms.proofs.AllowedFileLemmas.{all_read, none_found}
 use Rattle.dtx_forms.specs.Shapes.{coded_packets}
-use Rattle.dtx_jobs.specs.Excite.{excited, exciting}
+use Rattle.dtx_recipes.specs.Excite.{excited, exciting}
 use Rattle.dtx_meaning.specs.Meaning.{IsAnswered, Meaning, with_outputs}
 use Rattle.dtx_meaning.specs.declared.status.Status.{Status}
 use Rattle.dtx_meaning.specs.declared.status.Status.TheVariants.{Done}

@@ -26,14 +26,14 @@ use Rattle.dtx_network.specs.Plans.{IsInTime, IsListed, IsPlan, IsStream}
 use Rattle.dtx_network.specs.Presets.{presets}
 use Rattle.dtx_outside.specs.Shelf.{Files}
 use Rattle.dtx_packets.specs.Packets.{packet_at, packets_of, whole_packets}
-use Rattle.dtx_packet_jobs.specs.Adapt.{feeding}
-use Rattle.dtx_packet_jobs.specs.Feed.{feed_bytes}
+use Rattle.dtx_recipes.specs.Adapt.{feeding}
+use Rattle.dtx_recipes.specs.Feed.{feed_bytes}
 use Rattle.dtx_forms.proofs.FilePacketsLemmas.{length-packets_of, long-packets_of}
 use Rattle.dtx_plan.specs.Plan.{plan_of}
 use Rattle.dtx_plan.specs.Sound.{IsSound, IsTransmitter}
 use Rattle.dtx_plan.specs.declared.plan.Plan.{Plan}
 use Rattle.dtx_plan.specs.declared.transmitter.Transmitter.{Transmitter}
-use Rattle.dtx_jobs.specs.Excite.{exciting}
+use Rattle.dtx_recipes.specs.Excite.{exciting}
 use Rattle.dtx_jobs.proofs.SymbolsBackLemmas.{each_drop, each_take}
 use Rattle.dtx_repeated_feed.specs.DoneWith.{IsDoneWith}
 use Rattle.dtx_file_laws.specs.Told.{Holds}

@@ -5,7 +5,7 @@ use Rattle.std.proofs.lemmas.Fmt.{decimal_digit}
 use Rattle.std.proofs.lemmas.List.{append_assoc}
 use Rattle.dtx_coder.proofs.CountsLemmas.{length-a53}
 use Rattle.dtx_coder.specs.Stream.{a53}
-use Rattle.dtx_packet_jobs.specs.DvbBack.{back_of}
+use Rattle.dtx_recipes.specs.DvbBack.{back_of}
 use Rattle.dtx_packets.specs.Packets.{whole_packets}
 use Rattle.dtx_words.specs.Line.{done_line, numbered}
 use Rattle.dtx_words.specs.Printed.{printed}

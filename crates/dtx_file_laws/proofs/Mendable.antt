@@ -6,7 +6,7 @@ use Rattle.dtx_erase.specs.Mended.{marks_at}
 use Rattle.dtx_erase.specs.Mending.{lost, unmarked_distance}
 use Rattle.dtx_outer.specs.Inner.{IsComplete, word_at}
 use Rattle.dtx_receiver.specs.Bytes.{bytes_in, groups_of}
-use Rattle.dtx_jobs.specs.MendedBack.{CanAllBeMended}
+use Rattle.dtx_recipes.specs.MendedBack.{CanAllBeMended}
 
 pub all_mendable : (packets : List (List ℕ)) (first : ℕ) (sent got : List (List ℤ)) → AreFound first sent got
     → ((j : ℕ) → IsComplete 207 52 4 (828 * groups_of (from_sync first got)) j

@@ -20,13 +20,13 @@ use Rattle.dtx_engine.specs.Made.{only, outputs_of}
 use Rattle.dtx_engine.specs.Recipe.{meaning_of_file}
 use Rattle.dtx_forms.specs.Shapes.{segments}
 use Rattle.dtx_jobs.proofs.GivenLemmas.{sync_answered}
-use Rattle.dtx_jobs.specs.Giving.{answer_of}
-use Rattle.dtx_jobs.specs.MendedBack.{all_back_of}
-use Rattle.dtx_jobs.specs.Receive.{receiving, with_corrections}
+use Rattle.dtx_recipes.specs.Giving.{answer_of}
+use Rattle.dtx_recipes.specs.MendedBack.{all_back_of}
+use Rattle.dtx_recipes.specs.Receive.{receiving, with_corrections}
 use Rattle.dtx_jobs.proofs.ReceivedLemmas.{all_received}
-use Rattle.dtx_jobs.specs.SymbolFile.{file_segments, whole_segments}
+use Rattle.dtx_recipes.specs.SymbolFile.{file_segments, whole_segments}
 use Rattle.dtx_jobs.proofs.SymbolFileLemmas.{length-segments_of}
-use Rattle.dtx_jobs.specs.Tally.{fixed_in, flagged_in}
+use Rattle.dtx_recipes.specs.Tally.{fixed_in, flagged_in}
 
 -- how many bytes were put right in packets that come back, and that none is flagged
 pub all_fixed : (stream : List (List ℕ)) (f : ℕ) (word : ℕ → List ℕ) (js : List ℕ)

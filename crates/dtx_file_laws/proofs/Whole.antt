@@ -16,13 +16,13 @@ use Rattle.dtx_forms.specs.Shapes.{segments}
 use Rattle.dtx_meaning.specs.Meaning.{Meaning}
 use Rattle.dtx_meaning.specs.declared.status.Status.TheVariants.{Done}
 use Rattle.dtx_receiver.specs.Packets.{all_packets}
-use Rattle.dtx_jobs.specs.MendedBack.{all_back_of, put_right}
-use Rattle.dtx_jobs.specs.Receive.{receiving}
+use Rattle.dtx_recipes.specs.MendedBack.{all_back_of, put_right}
+use Rattle.dtx_recipes.specs.Receive.{receiving}
 use Rattle.dtx_jobs.proofs.StreamBackLemmas.{length-symbol_bytes, stream_read_back}
-use Rattle.dtx_jobs.specs.SymbolFile.{file_segments, segment_at, symbol_of_byte, whole_segments}
+use Rattle.dtx_recipes.specs.SymbolFile.{file_segments, segment_at, symbol_of_byte, whole_segments}
 use Rattle.dtx_jobs.proofs.SymbolFileLemmas.{length-segments_of}
-use Rattle.dtx_jobs.specs.Symbols.{symbol_bytes}
-use Rattle.dtx_jobs.specs.Tally.{fixed_in}
+use Rattle.dtx_recipes.specs.Symbols.{symbol_bytes}
+use Rattle.dtx_recipes.specs.Tally.{fixed_in}
 use Rattle.dtx_file_laws.specs.Back.{all_back, back_of_all, packets_back}
 use Rattle.dtx_file_laws.proofs.Counted.{bytes_back, numbers_are}
 use Rattle.dtx_file_laws.proofs.Stretches.{all_fixed, all_received_back, none_fixed}

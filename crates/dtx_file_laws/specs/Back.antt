@@ -10,7 +10,7 @@ use Rattle.dtx_meaning.specs.Meaning.{Meaning}
 use Rattle.dtx_meaning.specs.declared.status.Status.TheVariants.{Done}
 use Rattle.dtx_outside.specs.Shelf.{Files}
 use Rattle.dtx_packets.specs.Packets.{packet_at, packets_of, whole_packets}
-use Rattle.dtx_jobs.specs.Code.{may_be_coded}
+use Rattle.dtx_recipes.specs.Code.{may_be_coded}
 use Rattle.dtx_file_laws.specs.Told.{EndsWith, Holds}
 
 -- each whole packet of a stream begins with 0x47, or with the mark 0xB8

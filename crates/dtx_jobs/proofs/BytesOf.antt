@@ -2,8 +2,8 @@
 use Rattle.std.proofs.Common.{◌≡◌, ℕ, ◌+◌, ◌<◌, List, [], ◌∷◌, ◌++◌, length, take, get_or, sym, ap, ◌∙◌}
 use Rattle.std.proofs.lemmas.List.{take_more, append_assoc, append-nil}
 use Rattle.dtx_receiver.specs.declared.batch.Received.{Received}
-use Rattle.dtx_jobs.specs.Giving.{bytes_of}
-use Rattle.dtx_jobs.specs.GivingLaws.{bytes_of-append}
+use Rattle.dtx_recipes.specs.Giving.{bytes_of}
+use Rattle.dtx_recipes.proofs.GivingLemmas.{bytes_of-append}
 
 bytes_on : (before : List ℕ) (packets : List Received) (i : ℕ) (d : Received) → i < length packets
     → (before ++ bytes_of (take i packets)) ++ (get_or packets i d).packet.0 ≡ before ++ bytes_of (take (i + 1) packets)

@@ -3,7 +3,7 @@ use Rattle.std.proofs.Common.{◌≡◌, ℕ, List, map, take, ap}
 use Rattle.dtx_coder.proofs.StreamLemmas.{a53_whole}
 use Rattle.dtx_coder.specs.Stream.{a53, symbols_of, a53_symbols}
 use Rattle.dtx_files.specs.Symbols.{byte_of_symbol}
-use Rattle.dtx_jobs.specs.Symbols.{symbol_bytes, in_groups}
+use Rattle.dtx_recipes.specs.Symbols.{symbol_bytes, in_groups}
 
 -- packets behind the last whole group bring no symbols
 same_symbols : (ps qs : List (List ℕ)) → a53 ps ≡ a53 qs → symbol_bytes ps ≡ symbol_bytes qs

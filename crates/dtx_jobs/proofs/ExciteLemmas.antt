@@ -5,7 +5,7 @@ use Rattle.dtx_exciter.proofs.EmittedLemmas.{emission_push}
 use Rattle.dtx_exciter.specs.Emission.{last_segments, emission}
 use Rattle.dtx_files.proofs.AppendedLemmas.{segment_bytes-append}
 use Rattle.dtx_files.specs.Symbols.{byte_of_symbol}
-use Rattle.dtx_jobs.specs.Life.{sent_bytes}
+use Rattle.dtx_recipes.specs.Life.{sent_bytes}
 
 -- ---- one packet further
 

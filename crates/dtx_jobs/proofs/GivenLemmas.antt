@@ -23,10 +23,10 @@ use Rattle.dtx_engine.specs.declared.piece.Ending.TheVariants.{Whole}
 use Rattle.dtx_forms.proofs.AllowedFileLemmas.{all_read, first_read, none_found}
 use Rattle.dtx_forms.specs.Shapes.{segments}
 use Rattle.dtx_forms.specs.Damaged.{damaged_making}
-use Rattle.dtx_jobs.specs.Giving.{Giving, IsGiving, all_bytes, answer_of, bytes_of, given_numbers, given_of}
-use Rattle.dtx_jobs.specs.Giving.{given_until, no_sync_in, receiving_by}
+use Rattle.dtx_recipes.specs.Giving.{Giving, IsGiving, all_bytes, answer_of, bytes_of, given_numbers, given_of}
+use Rattle.dtx_recipes.specs.Giving.{given_until, no_sync_in, receiving_by}
 use Rattle.dtx_jobs.proofs.GivingLemmas.{bytes_of-all, receives_whole}
-use Rattle.dtx_jobs.specs.SymbolFile.{file_segments, whole_segments}
+use Rattle.dtx_recipes.specs.SymbolFile.{file_segments, whole_segments}
 use Rattle.dtx_jobs.proofs.SymbolFileLemmas.{file_segments-whole, first_segments, length-segments_of}
 
 -- ---- all units are allowed

@@ -5,9 +5,9 @@ use Rattle.std.specs.List.{flat_map}
 use Rattle.std.proofs.lemmas.List.{append_assoc, drop_at, take-append-drop}
 use Rattle.dtx_engine.specs.Made.{only, joined}
 use Rattle.dtx_receiver.specs.declared.batch.Received.{Received}
-use Rattle.dtx_jobs.specs.Giving.{Giving, IsGiving, all_bytes, bytes_of, early_bytes, end_bytes, receiving_by}
-use Rattle.dtx_jobs.specs.SymbolFile.{file_segments}
-use Rattle.dtx_jobs.specs.GivingLaws.{bytes_of-append, given_on}
+use Rattle.dtx_recipes.specs.Giving.{Giving, IsGiving, all_bytes, bytes_of, early_bytes, end_bytes, receiving_by}
+use Rattle.dtx_recipes.specs.SymbolFile.{file_segments}
+use Rattle.dtx_recipes.proofs.GivingLemmas.{bytes_of-append, given_on}
 
 pub flat_bytes : (ps : List Received)
     → flat_map (λ (p : List ℕ). p) (map (λ (r : Received). r.packet.0) ps) ≡ bytes_of ps

@@ -10,9 +10,9 @@ use Rattle.dtx_engine.specs.declared.piece.Ending.TheVariants.{Whole}
 use Rattle.dtx_files.specs.Symbols.{byte_of_symbol}
 use Rattle.dtx_forms.proofs.AllowedFileLemmas.{all_read, first_read, none_found}
 use Rattle.dtx_forms.specs.Shapes.{single_bytes}
-use Rattle.dtx_jobs.specs.Level.{level_answer, levelled_files, levelling}
-use Rattle.dtx_jobs.specs.LevelledFile.{levelled_of, levelled_until}
-use Rattle.dtx_jobs.specs.SymbolFile.{symbol_of_byte, symbols}
+use Rattle.dtx_recipes.specs.Level.{level_answer, levelled_files, levelling}
+use Rattle.dtx_recipes.specs.LevelledFile.{levelled_of, levelled_until}
+use Rattle.dtx_recipes.specs.SymbolFile.{symbol_of_byte, symbols}
 use Rattle.dtx_level.proofs.LevelledLemmas.{all_are_levelled, all_are_measured}
 use Rattle.dtx_level.specs.Levelled.{levelled, levelled_rest, levelled_so_far}
 use Rattle.dtx_level.specs.MeasureText.{measure_text, measures_text}

@@ -12,9 +12,9 @@ use Rattle.dtx_exciter.specs.Packets.{last_answer}
 use Rattle.dtx_exciter.specs.declared.answers.Told.{Told}
 use Rattle.dtx_exciter.specs.declared.answers.Told.TheVariants.{Quiet, Sent, Muted}
 use Rattle.dtx_files.proofs.GivenFewLemmas.{given_few}
-use Rattle.dtx_jobs.specs.ExciteLaws.{line_at, lines_push}
-use Rattle.dtx_jobs.specs.Life.{one_preset, one_mute, presets_in, mutes_in, life_tally, tally_with, HasRoom}
-use Rattle.dtx_jobs.specs.declared.life_tally.LifeTally.{LifeTally}
+use Rattle.dtx_recipes.proofs.ExciteLemmas.{line_at, lines_push}
+use Rattle.dtx_recipes.specs.Life.{one_preset, one_mute, presets_in, mutes_in, life_tally, tally_with, HasRoom}
+use Rattle.dtx_recipes.specs.declared.life_tally.LifeTally.{LifeTally}
 
 pub tally_none : (a d : ℕ) → life_tally a d [] ≡ record { packets = 0; segments = 0; presets = 0; mutes = 0 }
 unfolding life_lines emission

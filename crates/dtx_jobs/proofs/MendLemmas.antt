@@ -17,11 +17,11 @@ use Rattle.dtx_engine.specs.declared.piece.Ending.{Ending}
 use Rattle.dtx_engine.specs.declared.piece.Ending.TheVariants.{Whole, Refused}
 use Rattle.dtx_forms.specs.Shapes.{segments}
 use Rattle.dtx_jobs.proofs.GivenLemmas.{all_allowed}
-use Rattle.dtx_jobs.specs.Mend.{mend_job, mending_symbols, with_mendings}
-use Rattle.dtx_jobs.specs.MendedBack.{NoneMissing}
-use Rattle.dtx_jobs.specs.Receive.{receive_job, receiving, with_corrections}
+use Rattle.dtx_recipes.specs.Mend.{mend_job, mending_symbols, with_mendings}
+use Rattle.dtx_recipes.specs.MendedBack.{NoneMissing}
+use Rattle.dtx_recipes.specs.Receive.{receive_job, receiving, with_corrections}
 use Rattle.dtx_jobs.proofs.SplicedSymbolsLemmas.{segments_cut}
-use Rattle.dtx_jobs.specs.SymbolFile.{file_segments, segments_from, symbol_of_byte, symbols, whole_segments}
+use Rattle.dtx_recipes.specs.SymbolFile.{file_segments, segments_from, symbol_of_byte, symbols, whole_segments}
 use Rattle.dtx_jobs.proofs.SymbolFileLemmas.{file_segments-whole}
 
 -- ---- where no symbol is missing

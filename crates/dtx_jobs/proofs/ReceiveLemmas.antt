@@ -2,8 +2,8 @@
 use Rattle.std.proofs.Common.{◌≡◌, ℕ, List}
 use Rattle.dtx_engine.specs.Made.{only, joined}
 use Rattle.dtx_jobs.proofs.GivingLemmas.{receives_whole}
-use Rattle.dtx_jobs.specs.Receive.{received_bytes, receiving, with_corrections}
-use Rattle.dtx_jobs.specs.ReceiveLaws.{corrections_given}
+use Rattle.dtx_recipes.specs.Receive.{received_bytes, receiving, with_corrections}
+use Rattle.dtx_recipes.proofs.ReceiveLemmas.{corrections_given}
 
 -- what is made of all segments is their packets
 pub receives_all : (file : List ℕ) → joined (receiving.made file) (receiving.rest file) ≡ only (received_bytes file)

@@ -6,9 +6,9 @@ use Rattle.dtx_engine.specs.Recipe.{meaning_of_file}
 use Rattle.dtx_forms.specs.Shapes.{segments}
 use Rattle.dtx_forms.specs.Damaged.{damaged_making}
 use Rattle.dtx_jobs.proofs.GivenLemmas.{all_damaged_given, all_given}
-use Rattle.dtx_jobs.specs.Receive.{receiving, with_corrections, received_of}
-use Rattle.dtx_jobs.specs.ReceiveLaws.{corrections_given}
-use Rattle.dtx_jobs.specs.SymbolFile.{whole_segments}
+use Rattle.dtx_recipes.specs.Receive.{receiving, with_corrections, received_of}
+use Rattle.dtx_recipes.proofs.ReceiveLemmas.{corrections_given}
+use Rattle.dtx_recipes.specs.SymbolFile.{whole_segments}
 
 -- a symbol file with no more segments than are received
 pub all_received : (names : List (List ℕ)) (file : List ℕ) → whole_segments file ≤ 626000000

@@ -4,10 +4,10 @@ use Rattle.std.proofs.lemmas.List.{drop_at, take-append-drop}
 use Rattle.dtx_engine.specs.Made.{Made, joined, AreFrontsOf}
 use Rattle.dtx_repeat.specs.Lives.{lives, lives_so_far}
 use Rattle.dtx_repeat.proofs.LivesLemmas.{lives_end, some_last}
-use Rattle.dtx_jobs.specs.Lives.{sent_over, logged_over}
-use Rattle.dtx_jobs.specs.Repeat.{sent_in, repeating, repeated_files}
-use Rattle.dtx_jobs.specs.SymbolFile.{file_segments}
-use Rattle.dtx_jobs.specs.RepeatLaws.{Fronts, fronts_on, fronts_given, fronts_segments}
+use Rattle.dtx_recipes.specs.Lives.{sent_over, logged_over}
+use Rattle.dtx_recipes.specs.Repeat.{sent_in, repeating, repeated_files}
+use Rattle.dtx_recipes.specs.SymbolFile.{file_segments}
+use Rattle.dtx_recipes.proofs.RepeatLemmas.{Fronts, fronts_on, fronts_given, fronts_segments}
 
 -- what lives make so far is a front part of what all make at the end
 fronts_end : (a d : ℕ) (s : List (List ℤ)) → Fronts a d (lives_so_far s) (lives s)

@@ -8,11 +8,11 @@ use Rattle.dtx_lists.proofs.Range.{map-range_same, range_with_len-parts}
 use Rattle.dtx_soft.specs.Coders.{coder_symbols}
 use Rattle.dtx_soft.specs.Paths.{cost, distance}
 use Rattle.dtx_soft.specs.Softened.{least_cost, softened_cost}
-use Rattle.dtx_jobs.specs.Soft.{count_from, field_sum, flushed, groups_in, next_place, pending, place_at, ahead}
-use Rattle.dtx_jobs.specs.Soft.{soft_at, soft_rest, soft_so_far, soft_symbols}
-use Rattle.dtx_jobs.specs.SoftPlacesLaws.{IsFollowed, before_push, at_push, follows, place_small}
-use Rattle.dtx_jobs.specs.SoftLaws.{part_stays, IsField, groups_are, length-groups, field_soft, followed_field}
-use Rattle.dtx_jobs.specs.SoftLaws.{ahead_copied, ahead_kept, ahead_full, full_field, full_rows}
+use Rattle.dtx_recipes.specs.Soft.{count_from, field_sum, flushed, groups_in, next_place, pending, place_at, ahead}
+use Rattle.dtx_recipes.specs.Soft.{soft_at, soft_rest, soft_so_far, soft_symbols}
+use Rattle.dtx_recipes.proofs.SoftPlacesLemmas.{IsFollowed, before_push, at_push, follows, place_small}
+use Rattle.dtx_recipes.proofs.SoftLemmas.{part_stays, IsField, groups_are, length-groups, field_soft, followed_field}
+use Rattle.dtx_recipes.proofs.SoftLemmas.{ahead_copied, ahead_kept, ahead_full, full_field, full_rows}
 
 -- ---- what stays
 

@@ -12,11 +12,12 @@ use Rattle.dtx_frame.specs.Detection.{looks_like}
 use Rattle.dtx_soft.specs.Signed.{AreSigned}
 use Rattle.dtx_soft.specs.Softened.{softened_cost}
 use Rattle.dtx_jobs.specs.declared.softening.Softening.{Softening}
-use Rattle.dtx_jobs.specs.Soft.{field_sum, flushed, groups_in, has_group, next_place, ahead, soft_rest, soft_so_far}
+use Rattle.dtx_recipes.specs.Soft.{field_sum, flushed, groups_in, has_group, next_place, ahead, soft_rest}
+use Rattle.dtx_recipes.specs.Soft.{soft_so_far}
 use Rattle.dtx_jobs.proofs.SoftLemmas.{count_copied, count_full, count_kept, count_rest, no_cost, field_sum_none}
-use Rattle.dtx_jobs.specs.SoftLaws.{pending_copied, pending_is, so_far_copied, so_far_full, so_far_kept}
+use Rattle.dtx_recipes.proofs.SoftLemmas.{pending_copied, pending_is, so_far_copied, so_far_full, so_far_kept}
 use Rattle.dtx_jobs.proofs.SoftLemmas.{rest_is}
-use Rattle.dtx_jobs.specs.SoftPlacesLaws.{place_copied, place_ends, place_first, place_on}
+use Rattle.dtx_recipes.proofs.SoftPlacesLemmas.{place_copied, place_ends, place_first, place_on}
 use Rattle.dtx_jobs.specs.Softening.{IsSigned, IsSoftening}
 
 place_of : (old : Softening) (s : List (List ℤ)) (o : Option ℕ) → IsSoftening old s → old.place ≡ o → next_place s ≡ o

@@ -12,11 +12,11 @@ use Rattle.dtx_receiver.proofs.SplicingLemmas.{more_received, spliced_received}
 use Rattle.dtx_meaning.specs.Meaning.{Meaning}
 use Rattle.dtx_engine.specs.Recipe.{meaning}
 use Rattle.dtx_forms.specs.Shapes.{segments}
-use Rattle.dtx_jobs.specs.Receive.{IsWritten, received_bytes, receiving}
+use Rattle.dtx_recipes.specs.Receive.{IsWritten, received_bytes, receiving}
 use Rattle.dtx_jobs.proofs.ReceivedLemmas.{all_received}
-use Rattle.dtx_jobs.specs.SymbolFile.{file_segments, whole_segments}
+use Rattle.dtx_recipes.specs.SymbolFile.{file_segments, whole_segments}
 use Rattle.dtx_jobs.proofs.SymbolFileLemmas.{length-segments_of, file_segments-whole}
-use Rattle.dtx_jobs.specs.SymbolFileLaws.{file_segments-append}
+use Rattle.dtx_recipes.proofs.SymbolFileLemmas.{file_segments-append}
 
 -- of a symbol file all packets are written
 all_written : (file : List ℕ) → whole_segments file ≤ 626000000 → IsWritten file (received_bytes file)

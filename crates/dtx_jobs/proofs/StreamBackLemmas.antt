@@ -17,8 +17,8 @@ use Rattle.dtx_coder.proofs.CountsLemmas.{a53_segment, length-a53_symbols}
 use Rattle.dtx_coder.specs.Stream.{a53, a53_symbols, four_segments, group_segments, last_before, last_of, levels}
 use Rattle.dtx_coder.specs.Stream.{no_last, segment, sync_before, zero_states}
 use Rattle.dtx_files.specs.Symbols.{byte_of_symbol}
-use Rattle.dtx_jobs.specs.SymbolFile.{file_segments}
-use Rattle.dtx_jobs.specs.Symbols.{symbol_bytes}
+use Rattle.dtx_recipes.specs.SymbolFile.{file_segments}
+use Rattle.dtx_recipes.specs.Symbols.{symbol_bytes}
 use Rattle.dtx_jobs.proofs.SymbolsBackLemmas.{AreBack, EachBack, IsBack, each_append, each_drop, each_flat, each_map}
 use Rattle.dtx_jobs.proofs.SymbolsBackLemmas.{each_of, each_range, each_take, level_back, segments_read_back}
 

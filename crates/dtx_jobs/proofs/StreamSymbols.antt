@@ -21,7 +21,7 @@ use Rattle.dtx_sizes.specs.declared.fields.FieldPlace.{FieldPlace}
 use Rattle.dtx_packets.proofs.PacketLemmas.{packets_of-append}
 use Rattle.dtx_packets.specs.Packets.{packets_from, packets_of, whole_packets}
 use Rattle.dtx_forms.proofs.FilePacketsLemmas.{front_of, length-packets_of}
-use Rattle.dtx_jobs.specs.Symbols.{symbol_bytes, in_groups}
+use Rattle.dtx_recipes.specs.Symbols.{symbol_bytes, in_groups}
 
 -- ---- a group
 

@@ -8,8 +8,8 @@ use Rattle.std.proofs.lemmas.List.{length-map, length-take-le, take_all, take_at
 use Rattle.std.proofs.lemmas.List.FromFn.{get_or-map-range_with_len, length-map-range_with_len, map-range_with_len_more}
 use Rattle.dtx_packets.proofs.ChunksLemmas.{get_or-first_chunks}
 use Rattle.dtx_receiver.specs.Symbols.{symbols_in}
-use Rattle.dtx_jobs.specs.SymbolFile.{symbols, segment_at, segments_from, file_segments, whole_segments}
-use Rattle.dtx_jobs.specs.SymbolFileLaws.{segments_from-append, segments_from-piece}
+use Rattle.dtx_recipes.specs.SymbolFile.{symbols, segment_at, segments_from, file_segments, whole_segments}
+use Rattle.dtx_recipes.proofs.SymbolFileLemmas.{segments_from-append, segments_from-piece}
 
 -- how many segments bytes have
 pub length-segments_of : (file : List ℕ) → length (file_segments file) ≡ whole_segments file

@@ -9,7 +9,7 @@ use Rattle.dtx_coder.specs.Stream.{symbols_of}
 use Rattle.dtx_coder.proofs.CountsLemmas.{AreSegments}
 use Rattle.dtx_trellis.specs.Trellis.{symbol_of}
 use Rattle.dtx_files.specs.Symbols.{byte_of_symbol, segment_bytes}
-use Rattle.dtx_jobs.specs.SymbolFile.{file_segments, segments_from, symbol_of_byte, symbols, whole_segments}
+use Rattle.dtx_recipes.specs.SymbolFile.{file_segments, segments_from, symbol_of_byte, symbols, whole_segments}
 
 -- the symbol comes back from its byte
 abbrev pub IsBack : ℤ → Type 0

@@ -6,9 +6,9 @@ use Rattle.std.proofs.lemmas.List.Sums.{sum_by-append}
 use Rattle.dtx_receiver.proofs.CountingLemmas.{no_segments}
 use Rattle.dtx_receiver.specs.Runs.{runs}
 use Rattle.dtx_receiver.specs.declared.batch.Received.{Received}
-use Rattle.dtx_jobs.specs.Giving.{Giving, IsGiving}
-use Rattle.dtx_jobs.specs.Tally.{fixed_in, flagged_in, tally_of, tally_with}
-use Rattle.dtx_jobs.specs.declared.tally.Tally.{Tally}
+use Rattle.dtx_recipes.specs.Giving.{Giving, IsGiving}
+use Rattle.dtx_recipes.specs.Tally.{fixed_in, flagged_in, tally_of, tally_with}
+use Rattle.dtx_recipes.specs.declared.tally.Tally.{Tally}
 
 -- before the first segment
 pub tally_none : (giving : Giving) → IsGiving giving → (tally : Tally)

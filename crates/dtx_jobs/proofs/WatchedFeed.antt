@@ -38,11 +38,11 @@ use Rattle.dtx_watch.specs.declared.notes.StatesNote.TheVariants as states
 use Rattle.dtx_watch.specs.declared.notes.What.{What}
 use Rattle.dtx_watch.specs.declared.notes.What.TheVariants as what
 use Rattle.dtx_forms.specs.Shapes.{single_packets}
-use Rattle.dtx_jobs.specs.Watch.{count_of, watch_numbers, watch_tally, watching, one_ops, one_slip, one_jump}
-use Rattle.dtx_jobs.specs.Watch.{slips_of, jumps_of, one_unread, one_stray}
+use Rattle.dtx_recipes.specs.Watch.{count_of, watch_numbers, watch_tally, watching, one_ops, one_slip, one_jump}
+use Rattle.dtx_recipes.specs.Watch.{slips_of, jumps_of, one_unread, one_stray}
 use Rattle.dtx_jobs.proofs.WatchLemmas.{same_numbers}
-use Rattle.dtx_jobs.specs.WatchedFeed.{ops_packets, ops_at, AreCalm, IsWatchedCalmly}
-use Rattle.dtx_jobs.specs.declared.watch_tally.WatchTally.{WatchTally}
+use Rattle.dtx_recipes.specs.WatchedFeed.{ops_packets, ops_at, AreCalm, IsWatchedCalmly}
+use Rattle.dtx_recipes.specs.declared.watch_tally.WatchTally.{WatchTally}
 use Rattle.dtx_jobs.proofs.WatchedText.{notes_watched}
 
 -- ---- which packets are operations packets

@@ -26,11 +26,11 @@ use Rattle.dtx_engine.specs.Recipe.{first_refused, meaning_of_file}
 use Rattle.dtx_forms.proofs.AllowedFileLemmas.{all_read, none_found}
 use Rattle.dtx_forms.specs.Shapes.{single_packets}
 use Rattle.dtx_forms.proofs.FilePacketsLemmas.{length-packets_of}
-use Rattle.dtx_jobs.specs.Watch.{watched_bytes, waiting_bytes, count_of, watch_tally, watch_numbers, watch_answer}
-use Rattle.dtx_jobs.specs.Watch.{watching, one_ops, one_slip, one_jump, slips_of, jumps_of, one_unread, one_stray}
+use Rattle.dtx_recipes.specs.Watch.{watched_bytes, waiting_bytes, count_of, watch_tally, watch_numbers, watch_answer}
+use Rattle.dtx_recipes.specs.Watch.{watching, one_ops, one_slip, one_jump, slips_of, jumps_of, one_unread, one_stray}
 use Rattle.dtx_jobs.proofs.WatchLemmas.{same_numbers}
-use Rattle.dtx_jobs.specs.WatchedFeed.{tally_of_text, watched_of}
-use Rattle.dtx_jobs.specs.declared.watch_tally.WatchTally.{WatchTally}
+use Rattle.dtx_recipes.specs.WatchedFeed.{tally_of_text, watched_of}
+use Rattle.dtx_recipes.specs.declared.watch_tally.WatchTally.{WatchTally}
 
 -- ---- the numbers
 

@@ -2,7 +2,7 @@
 use Rattle.std.specs.Prelude.{◌≡◌, ℕ, List}
 use Rattle.dtx_exciter.specs.Kept.{StandsFor}
 use Rattle.dtx_packets.specs.Packets.{packets_of}
-use Rattle.dtx_jobs.specs.Life.{life_tally}
+use Rattle.dtx_recipes.specs.Life.{life_tally}
 use Rattle.dtx_jobs.specs.declared.excitation.Excitation.{Excitation}
 
 -- the state after these packets: the exciter stands for them, and the numbers are theirs

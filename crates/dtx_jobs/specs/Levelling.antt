@@ -2,7 +2,7 @@
 use Rattle.std.specs.Prelude.{◌≡◌, ◌++◌, ℕ, ℤ, List, [], map, replicate, vec_len}
 use Rattle.dtx_files.specs.Symbols.{byte_of_symbol}
 use Rattle.dtx_forms.specs.declared.shapes.TheConstants.{PIECE_BYTES}
-use Rattle.dtx_jobs.specs.SymbolFile.{symbols}
+use Rattle.dtx_recipes.specs.SymbolFile.{symbols}
 use Rattle.dtx_jobs.specs.declared.levelling.Brought.{Brought}
 use Rattle.dtx_jobs.specs.declared.levelling.Levelling.{Levelling}
 use Rattle.dtx_level.specs.Levelled.{levelled_so_far}

@@ -1,9 +1,9 @@
 -- What the engine of `receive` and `mend` keeps.
 use Rattle.std.specs.Prelude.{◌≡◌, ℕ, ℤ, List}
-use Rattle.dtx_jobs.specs.Giving.{Giving}
-use Rattle.dtx_jobs.specs.SymbolFile.{file_segments}
-use Rattle.dtx_jobs.specs.Tally.{tally_of, IsBounded}
-use Rattle.dtx_jobs.specs.declared.tally.Tally.{Tally}
+use Rattle.dtx_recipes.specs.Giving.{Giving}
+use Rattle.dtx_recipes.specs.SymbolFile.{file_segments}
+use Rattle.dtx_recipes.specs.Tally.{tally_of, IsBounded}
+use Rattle.dtx_recipes.specs.declared.tally.Tally.{Tally}
 
 -- the state after these segments: the receiver stands for them, and the numbers are those of the segments and of the
 -- packets that they gave

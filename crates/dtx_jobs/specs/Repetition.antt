@@ -4,8 +4,8 @@ use Rattle.dtx_receiver.specs.Runs.{runs}
 use Rattle.dtx_repeat.specs.GoingOn.{last_life}
 use Rattle.dtx_repeat.specs.Lives.{lives_so_far}
 use Rattle.dtx_repeat.specs.Repeater.{StandsFor}
-use Rattle.dtx_jobs.specs.Lives.{sent_over, logged_over, lives_tally}
-use Rattle.dtx_jobs.specs.SymbolFile.{file_segments}
+use Rattle.dtx_recipes.specs.Lives.{sent_over, logged_over, lives_tally}
+use Rattle.dtx_recipes.specs.SymbolFile.{file_segments}
 use Rattle.dtx_jobs.specs.declared.repetition.Repetition.{Repetition}
 
 -- These segments were received, and the exciter was given the packets of these lives. The repeater stands for the

@@ -5,8 +5,8 @@ use Rattle.dtx_soft.specs.Signed.{AreSigned}
 use Rattle.dtx_soft.specs.Softened.{softened_cost}
 use Rattle.dtx_jobs.specs.declared.softening.Softening.{Softening}
 use Rattle.dtx_jobs.specs.declared.softening.TheConstants.{MOST_COST}
-use Rattle.dtx_jobs.specs.Soft.{field_sum, has_group, next_place, pending, ahead}
-use Rattle.dtx_jobs.specs.SymbolFile.{file_segments}
+use Rattle.dtx_recipes.specs.Soft.{field_sum, has_group, next_place, pending, ahead}
+use Rattle.dtx_recipes.specs.SymbolFile.{file_segments}
 
 -- each symbol of a segment is a signed byte
 abbrev pub IsSigned : List ℤ → Type 0

@@ -3,7 +3,7 @@ use Rattle.std.specs.Prelude.{◌≡◌, ℕ, ◌*◌, List, length, take, drop}
 use Rattle.dtx_coder.specs.Groups.{StandsFor, stream_coding}
 use Rattle.dtx_coder.specs.Batches.{IsAhead}
 use Rattle.dtx_packets.specs.Packets.{packets_of, whole_packets}
-use Rattle.dtx_jobs.specs.Symbols.{in_groups}
+use Rattle.dtx_recipes.specs.Symbols.{in_groups}
 use Rattle.dtx_jobs.specs.declared.stream_coder.StreamCoder.{StreamCoder}
 
 -- the state after the packets of these bytes: the coder stands for their whole groups, and the packets are counted

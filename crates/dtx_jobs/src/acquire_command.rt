@@ -1,7 +1,7 @@
 // `acquire SCALE IN OUT`: the segments of a capture of symbols that begins anywhere.
 ghost use Rattle.dtx_forms.specs.Job.{IsJobPerformed};
 ghost use Rattle.dtx_forms.specs.Stages.{IsStaged};
-ghost use Rattle.dtx_jobs.specs.Acquire.{acquire_job};
+ghost use Rattle.dtx_recipes.specs.Acquire.{acquire_job};
 
 use crate::acquiring::ACQUIRED_BYTES;
 use crate::acquisition::Acquisition;

@@ -2,7 +2,7 @@
 ghost use Rattle.std.specs.Prelude.{◌≡◌};
 ghost use Rattle.dtx_meaning.specs.Status.{IsOfBytes, blame_of};
 ghost use Rattle.dtx_outside.specs.Counts.{Nothing};
-ghost use Rattle.dtx_jobs.specs.Acquire.{acquired_answer};
+ghost use Rattle.dtx_recipes.specs.Acquire.{acquired_answer};
 
 use crate::restorer::Restorer;
 use crate::symbol_buffer::SymbolBuffer;
@@ -19,8 +19,8 @@ impl Restorer<ACQUIRED_BYTES> for Acquirer {
     ghost use Rattle.std.specs.Prelude.{length};
     ghost use Rattle.dtx_acquire.specs.Acquirer.{StandsFor};
     ghost use Rattle.dtx_words.specs.declared.rows.Command.TheVariants as command;
-    ghost use Rattle.dtx_jobs.specs.Acquire.{with_acquirer};
-    ghost use Rattle.dtx_jobs.specs.AcquireLaws.{acquire_knows, acquires};
+    ghost use Rattle.dtx_recipes.specs.Acquire.{with_acquirer};
+    ghost use Rattle.dtx_recipes.proofs.AcquireLemmas.{acquire_knows, acquires};
 
     ghost command = { command.Acquire };
 

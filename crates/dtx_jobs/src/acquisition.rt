@@ -1,7 +1,7 @@
 // The engine of `acquire` and `refine`: restores the segments of a capture, a piece of its file at a time.
 ghost use Rattle.std.specs.Prelude.{◌≡◌, ◌+◌, ◌≤◌, ℤ, List, [], length, vec_len};
-ghost use Rattle.dtx_jobs.specs.Restoring.{WereRestored};
-ghost use Rattle.dtx_jobs.specs.SymbolFile.{symbols};
+ghost use Rattle.dtx_jobs.specs.Restorer.{WereRestored};
+ghost use Rattle.dtx_recipes.specs.SymbolFile.{symbols};
 
 use crate::restorer::Restorer;
 use crate::signed::to_symbols;
@@ -23,8 +23,9 @@ pub(crate) struct Acquisition<R, const N: usize> {
 impl<R: Restorer<N>, const N: usize> Engine for Acquisition<R, N> {
     ghost use Rattle.std.specs.Prelude.{vec_len};
     ghost use Rattle.dtx_engine.specs.Made.{only};
-    ghost use Rattle.dtx_jobs.specs.Restoring.{WasGiven, restoring_by};
-    ghost use Rattle.dtx_jobs.specs.RestoringLaws.{restores_more, restores_none};
+    ghost use Rattle.dtx_jobs.specs.Restorer.{WasGiven};
+    ghost use Rattle.dtx_recipes.specs.Restoring.{restoring_by};
+    ghost use Rattle.dtx_recipes.proofs.RestoringLemmas.{restores_more, restores_none};
     ghost use Rattle.dtx_forms.specs.Shapes as shapes;
 
     ghost shape = { shapes.single_bytes };
@@ -78,7 +79,7 @@ impl<R: Restorer<N>, const N: usize> Engine for Acquisition<R, N> {
 }
 
 impl<R: Restorer<N>, const N: usize> Capturing for Acquisition<R, N> {
-    ghost use Rattle.dtx_jobs.specs.Restoring.{restoring_by};
+    ghost use Rattle.dtx_recipes.specs.Restoring.{restoring_by};
 
     ghost command = { R.command };
 

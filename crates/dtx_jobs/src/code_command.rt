@@ -1,7 +1,7 @@
 // `code IN OUT`: the symbols of a stream.
 ghost use Rattle.dtx_forms.specs.Job.{IsJobPerformed};
 ghost use Rattle.dtx_forms.specs.Stages.{IsStaged};
-ghost use Rattle.dtx_jobs.specs.Code.{code_job};
+ghost use Rattle.dtx_recipes.specs.Code.{code_job};
 
 use crate::stream_coder::StreamCoder;
 use dtx_forms::transform;

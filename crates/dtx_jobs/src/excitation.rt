@@ -3,7 +3,7 @@ ghost use Rattle.std.specs.Prelude.{◌≡◌, ◌+◌, ◌*◌, ◌/◌, ◌<�
 ghost use Rattle.dtx_exciter.specs.Packets.{group_part};
 ghost use Rattle.dtx_packets.specs.Packets.{packets_of};
 ghost use Rattle.dtx_jobs.specs.Excitation.{IsLife};
-ghost use Rattle.dtx_jobs.specs.Life.{sent_bytes, logged_bytes};
+ghost use Rattle.dtx_recipes.specs.Life.{sent_bytes, logged_bytes};
 
 use crate::sending::Sending;
 use dtx_coder::AIR_SYMBOLS;
@@ -92,8 +92,8 @@ impl Excitation {
 impl Engine for Excitation {
     ghost use Rattle.dtx_engine.specs.Made.{Made};
     ghost use Rattle.dtx_jobs.specs.Excitation.{WasExcited};
-    ghost use Rattle.dtx_jobs.specs.Excite.{exciting};
-    ghost use Rattle.dtx_jobs.specs.ExciteLaws.{excites_none, excites_more};
+    ghost use Rattle.dtx_recipes.specs.Excite.{exciting};
+    ghost use Rattle.dtx_recipes.proofs.ExciteLemmas.{excites_none, excites_more};
     ghost use Rattle.dtx_forms.specs.Shapes as shapes;
 
     ghost shape = { shapes.coded_packets };
@@ -147,8 +147,8 @@ impl Engine for Excitation {
 
 impl Transmitting for Excitation {
     ghost use Rattle.dtx_words.specs.declared.rows.Command.TheVariants as command;
-    ghost use Rattle.dtx_jobs.specs.AnswersLaws.{excite_knows};
-    ghost use Rattle.dtx_jobs.specs.Excite.{exciting};
+    ghost use Rattle.dtx_recipes.proofs.AnswersLemmas.{excite_knows};
+    ghost use Rattle.dtx_recipes.specs.Excite.{exciting};
 
     ghost command = { command.Excite };
 

@@ -1,7 +1,7 @@
 // `excite FEED ADDRESS DELAY OUT LOG`: what an exciter sends for a feed, and its log.
 ghost use Rattle.dtx_forms.specs.Job.{IsJobPerformed};
 ghost use Rattle.dtx_forms.specs.Stages.{IsStaged};
-ghost use Rattle.dtx_jobs.specs.Excite.{excite_job};
+ghost use Rattle.dtx_recipes.specs.Excite.{excite_job};
 
 use crate::excitation::Excitation;
 use dtx_forms::transmit;

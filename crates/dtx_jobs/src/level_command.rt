@@ -1,7 +1,7 @@
 // `level IN OUT LOG`: a capture of unknown gain at eight steps a unit.
 ghost use Rattle.dtx_forms.specs.Job.{IsJobPerformed};
 ghost use Rattle.dtx_forms.specs.Stages.{IsStaged};
-ghost use Rattle.dtx_jobs.specs.Level.{level_job};
+ghost use Rattle.dtx_recipes.specs.Level.{level_job};
 
 use crate::levelling::Levelling;
 use dtx_forms::transform_logged;

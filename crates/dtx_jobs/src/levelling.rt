@@ -5,9 +5,9 @@ ghost use Rattle.dtx_level.specs.Leveller.{StandsFor, all_given, as_list};
 ghost use Rattle.dtx_level.specs.MeasureText.{measures_text};
 ghost use Rattle.dtx_meaning.specs.Status.{IsOfBytes, blame_of};
 ghost use Rattle.dtx_outside.specs.Counts.{Nothing};
-ghost use Rattle.dtx_jobs.specs.Level.{levelled_answer};
+ghost use Rattle.dtx_recipes.specs.Level.{levelled_answer};
 ghost use Rattle.dtx_jobs.specs.Levelling.{IsEmpty, WereLevelled, bytes_brought};
-ghost use Rattle.dtx_jobs.specs.SymbolFile.{symbols};
+ghost use Rattle.dtx_recipes.specs.SymbolFile.{symbols};
 
 use crate::signed::to_symbols;
 use crate::symbol_buffer::SymbolBuffer;
@@ -86,8 +86,8 @@ pub(crate) struct Levelling {
 
 impl Engine for Levelling {
     ghost use Rattle.dtx_forms.specs.Shapes as shapes;
-    ghost use Rattle.dtx_jobs.specs.Level.{levelling};
-    ghost use Rattle.dtx_jobs.specs.LevelLaws.{levels_more, levels_none};
+    ghost use Rattle.dtx_recipes.specs.Level.{levelling};
+    ghost use Rattle.dtx_recipes.proofs.LevelLemmas.{levels_more, levels_none};
     ghost use Rattle.dtx_jobs.specs.Levelling.{WasLevelled, bytes_brought};
 
     ghost shape = { shapes.single_bytes };
@@ -144,8 +144,8 @@ impl Engine for Levelling {
 
 impl Transforming for Levelling {
     ghost use Rattle.dtx_words.specs.declared.rows.Command.TheVariants as command;
-    ghost use Rattle.dtx_jobs.specs.Level.{levelling};
-    ghost use Rattle.dtx_jobs.specs.LevelLaws.{level_knows};
+    ghost use Rattle.dtx_recipes.specs.Level.{levelling};
+    ghost use Rattle.dtx_recipes.proofs.LevelLemmas.{level_knows};
 
     ghost command = { command.Level };
 

@@ -11,7 +11,6 @@ mod excite_command;
 pub mod laws;
 mod level_command;
 mod levelling;
-mod life_tally;
 mod mend_command;
 mod receive_command;
 mod reception;
@@ -27,9 +26,7 @@ mod soft_command;
 mod softening;
 mod stream_coder;
 mod symbol_buffer;
-mod tally;
 mod watch_command;
-mod watch_tally;
 mod watching;
 
 pub use acquire_command::acquire;

@@ -1,7 +1,7 @@
 // `mend IN OUT`: the packets of a symbol file of which some symbols are missing.
 ghost use Rattle.dtx_forms.specs.Job.{IsJobPerformed};
 ghost use Rattle.dtx_forms.specs.Stages.{IsStaged};
-ghost use Rattle.dtx_jobs.specs.Mend.{mend_job};
+ghost use Rattle.dtx_recipes.specs.Mend.{mend_job};
 
 use crate::reception::Reception;
 use dtx_erase::MendReceiver;

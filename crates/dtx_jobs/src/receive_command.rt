@@ -1,7 +1,7 @@
 // `receive IN OUT`: the packets of a symbol file.
 ghost use Rattle.dtx_forms.specs.Job.{IsJobPerformed};
 ghost use Rattle.dtx_forms.specs.Stages.{IsStaged};
-ghost use Rattle.dtx_jobs.specs.Receive.{receive_job};
+ghost use Rattle.dtx_recipes.specs.Receive.{receive_job};
 
 use crate::reception::Reception;
 use dtx_forms::transform;

@@ -1,17 +1,17 @@
 // The engine of `receive` and `mend`: receives symbols, one piece of their file at a time.
 ghost use Rattle.std.specs.Prelude.{◌≡◌, ◌+◌, ◌*◌, ◌/◌, ◌<◌, ◌≤◌, ◌++◌, [], ℤ, List, IfOk, length, take};
 ghost use Rattle.dtx_receiver.specs.Symbols.{symbols_in};
-ghost use Rattle.dtx_jobs.specs.Giving.{bytes_of};
+ghost use Rattle.dtx_recipes.specs.Giving.{bytes_of};
 ghost use Rattle.dtx_jobs.specs.Reception.{IsReceiving, WasGiven};
-ghost use Rattle.dtx_jobs.specs.SymbolFile.{file_segments};
-ghost use Rattle.dtx_jobs.specs.Tally.{IsBounded, tally_of};
+ghost use Rattle.dtx_recipes.specs.SymbolFile.{file_segments};
+ghost use Rattle.dtx_recipes.specs.Tally.{IsBounded, tally_of};
 
 use crate::segment_receiver::{Receiving, SegmentReceiver};
-use crate::tally::Tally;
 use dtx_engine::{Buffer, Engine, Shape};
 use dtx_forms::{PIECE_SEGMENTS, Transforming, segments};
 use dtx_meaning::{Outcome, Status, ended};
 use dtx_receiver::{Batch, Received};
+use dtx_recipes::Tally;
 use dtx_sizes::{GROUP_PACKETS, MOST_SEGMENTS, PACKET, SEGMENT};
 use std::alloc::{AllocError, Global};
 
@@ -113,8 +113,8 @@ impl<R: SegmentReceiver> Reception<R> {
 
 impl<R: SegmentReceiver> Engine for Reception<R> {
     ghost use Rattle.dtx_engine.specs.Made.{only};
-    ghost use Rattle.dtx_jobs.specs.Giving.{receiving_by};
-    ghost use Rattle.dtx_jobs.specs.GivingLaws.{receives_none, receives_more};
+    ghost use Rattle.dtx_recipes.specs.Giving.{receiving_by};
+    ghost use Rattle.dtx_recipes.proofs.GivingLemmas.{receives_none, receives_more};
     ghost use Rattle.dtx_jobs.specs.Reception.{WasGiven};
     ghost use Rattle.dtx_forms.specs.Shapes as shapes;
 
@@ -173,7 +173,7 @@ impl<R: SegmentReceiver> Engine for Reception<R> {
 }
 
 impl<R: Receiving> Transforming for Reception<R> {
-    ghost use Rattle.dtx_jobs.specs.Giving.{receiving_by};
+    ghost use Rattle.dtx_recipes.specs.Giving.{receiving_by};
 
     ghost command = { R.command };
 

@@ -1,7 +1,7 @@
 // `refine SCALE ROUNDS IN OUT`: the segments of a capture, decided in rounds.
 ghost use Rattle.dtx_forms.specs.Job.{IsJobPerformed};
 ghost use Rattle.dtx_forms.specs.Stages.{IsStaged};
-ghost use Rattle.dtx_jobs.specs.Refine.{refine_job};
+ghost use Rattle.dtx_recipes.specs.Refine.{refine_job};
 
 use crate::acquisition::Acquisition;
 use crate::refining::REFINED_BYTES;

@@ -1,7 +1,7 @@
 // `repeat IN ADDRESS DELAY OUT LOG`: what a transmitter that is fed from the air sends again, and its log.
 ghost use Rattle.dtx_forms.specs.Job.{IsJobPerformed};
 ghost use Rattle.dtx_forms.specs.Stages.{IsStaged};
-ghost use Rattle.dtx_jobs.specs.Repeat.{repeat_job};
+ghost use Rattle.dtx_recipes.specs.Repeat.{repeat_job};
 
 use crate::repetition::Repetition;
 use dtx_forms::transmit;

@@ -5,11 +5,11 @@ ghost use Rattle.dtx_files.specs.LogText.{log_text};
 ghost use Rattle.dtx_receiver.specs.Symbols.{symbols_in};
 ghost use Rattle.dtx_repeat.specs.GoingOn.{last_life, longer};
 ghost use Rattle.dtx_repeat.specs.Lives.{lives, lives_so_far, packets_in};
-ghost use Rattle.dtx_jobs.specs.Lives.{lives_tally, logged_over, sent_over};
-ghost use Rattle.dtx_jobs.specs.Repeat.{repeated_numbers};
+ghost use Rattle.dtx_recipes.specs.Lives.{lives_tally, logged_over, sent_over};
+ghost use Rattle.dtx_recipes.specs.Repeat.{repeated_numbers};
 ghost use Rattle.dtx_jobs.specs.Repetition.{AreFew, IsRepeating, IsSending, IsSentOn};
-ghost use Rattle.dtx_jobs.specs.Restarts.{restart_with};
-ghost use Rattle.dtx_jobs.specs.SymbolFile.{file_segments};
+ghost use Rattle.dtx_recipes.specs.Restarts.{restart_with};
+ghost use Rattle.dtx_recipes.specs.SymbolFile.{file_segments};
 
 use crate::sending::Sending;
 use dtx_coder::AIR_SYMBOLS;
@@ -239,8 +239,8 @@ impl Repetition {
 
 impl Engine for Repetition {
     ghost use Rattle.dtx_engine.specs.Made.{Made};
-    ghost use Rattle.dtx_jobs.specs.Repeat.{repeating};
-    ghost use Rattle.dtx_jobs.specs.RepeatLaws.{repeats_none, repeats_more};
+    ghost use Rattle.dtx_recipes.specs.Repeat.{repeating};
+    ghost use Rattle.dtx_recipes.proofs.RepeatLemmas.{repeats_none, repeats_more};
     ghost use Rattle.dtx_jobs.specs.Repetition.{WasRepeated};
     ghost use Rattle.dtx_forms.specs.Shapes as shapes;
 
@@ -300,8 +300,8 @@ impl Engine for Repetition {
 
 impl Transmitting for Repetition {
     ghost use Rattle.dtx_words.specs.declared.rows.Command.TheVariants as command;
-    ghost use Rattle.dtx_jobs.specs.AnswersLaws.{repeat_knows};
-    ghost use Rattle.dtx_jobs.specs.Repeat.{repeating};
+    ghost use Rattle.dtx_recipes.proofs.AnswersLemmas.{repeat_knows};
+    ghost use Rattle.dtx_recipes.specs.Repeat.{repeating};
 
     ghost command = { command.Repeat };
 

@@ -4,7 +4,7 @@ ghost use Rattle.dtx_files.specs.Symbols.{segment_bytes};
 ghost use Rattle.dtx_forms.specs.Capture.{IsSetting};
 ghost use Rattle.dtx_meaning.specs.Status.{IsOfBytes, blame_of};
 ghost use Rattle.dtx_outside.specs.Counts.{Nothing};
-ghost use Rattle.dtx_jobs.specs.Restoring.{IsRestoring, Restoring, restoring_by};
+ghost use Rattle.dtx_recipes.specs.Restoring.{IsRestoring, Restoring, restoring_by};
 
 use crate::symbol_buffer::SymbolBuffer;
 use dtx_acquire::MOST_HELD;

@@ -2,7 +2,7 @@
 ghost use Rattle.std.specs.Prelude.{◌≡◌, ◌+◌, ◌*◌, ◌<◌, ◌≤◌, ◌++◌, [], ℤ, IfOk, List, length, take};
 ghost use Rattle.dtx_receiver.specs.Runs.{runs};
 ghost use Rattle.dtx_receiver.specs.Symbols.{symbols_in};
-ghost use Rattle.dtx_jobs.specs.Giving.{Giving, IsGiving};
+ghost use Rattle.dtx_recipes.specs.Giving.{Giving, IsGiving};
 
 use dtx_erase::MendReceiver;
 use dtx_receiver::{Batch, Progress, Receiver};
@@ -55,7 +55,7 @@ pub(crate) trait Receiving: SegmentReceiver {
     ghost use Rattle.dtx_meaning.specs.declared.status.Status.{Status};
     ghost use Rattle.dtx_words.specs.declared.rows.Command.{Command};
     ghost use Rattle.dtx_forms.specs.Answers.{Knows};
-    ghost use Rattle.dtx_jobs.specs.Giving.{receiving_by};
+    ghost use Rattle.dtx_recipes.specs.Giving.{receiving_by};
 
     /// The command.
     ghost command: { Command };
@@ -66,8 +66,8 @@ pub(crate) trait Receiving: SegmentReceiver {
 
 impl SegmentReceiver for Receiver {
     ghost use Rattle.dtx_receiver.specs.Receiver.{StandsFor};
-    ghost use Rattle.dtx_jobs.specs.ReceiveLaws.{corrections_given};
-    ghost use Rattle.dtx_jobs.specs.Receive.{with_corrections};
+    ghost use Rattle.dtx_recipes.proofs.ReceiveLemmas.{corrections_given};
+    ghost use Rattle.dtx_recipes.specs.Receive.{with_corrections};
 
     ghost giving = { with_corrections };
 
@@ -90,8 +90,8 @@ impl SegmentReceiver for Receiver {
 
 impl SegmentReceiver for MendReceiver {
     ghost use Rattle.dtx_erase.specs.Sides.{Mends};
-    ghost use Rattle.dtx_jobs.specs.MendLaws.{mendings_given};
-    ghost use Rattle.dtx_jobs.specs.Mend.{with_mendings};
+    ghost use Rattle.dtx_recipes.proofs.MendLemmas.{mendings_given};
+    ghost use Rattle.dtx_recipes.specs.Mend.{with_mendings};
 
     ghost giving = { with_mendings };
 
@@ -114,7 +114,7 @@ impl SegmentReceiver for MendReceiver {
 
 impl Receiving for Receiver {
     ghost use Rattle.dtx_words.specs.declared.rows.Command.TheVariants as command;
-    ghost use Rattle.dtx_jobs.specs.AnswersLaws.{receive_knows};
+    ghost use Rattle.dtx_recipes.proofs.AnswersLemmas.{receive_knows};
 
     ghost command = { command.Receive };
 
@@ -123,7 +123,7 @@ impl Receiving for Receiver {
 
 impl Receiving for MendReceiver {
     ghost use Rattle.dtx_words.specs.declared.rows.Command.TheVariants as command;
-    ghost use Rattle.dtx_jobs.specs.AnswersLaws.{mend_knows};
+    ghost use Rattle.dtx_recipes.proofs.AnswersLemmas.{mend_knows};
 
     ghost command = { command.Mend };
 

@@ -3,15 +3,15 @@ ghost use Rattle.std.specs.Prelude.{◌≡◌, ◌+◌, ◌*◌, ◌≤◌, ◌+
 ghost use Rattle.dtx_exciter.specs.Log.{Line, line_of};
 ghost use Rattle.dtx_files.specs.LogText.{log_text};
 ghost use Rattle.dtx_files.specs.Symbols.{byte_of_symbol};
-ghost use Rattle.dtx_jobs.specs.Life.{tally_with, HasRoom};
+ghost use Rattle.dtx_recipes.specs.Life.{tally_with, HasRoom};
 
-use crate::life_tally::LifeTally;
 use crate::symbol_buffer::SymbolBuffer;
 use arrayvec::ArrayString;
 use dtx_coder::{AIR_SEGMENTS, AIR_SYMBOLS, Air};
 use dtx_engine::Buffer;
 use dtx_exciter::Told;
 use dtx_files::{LOG_LINE, write_line, write_restart};
+use dtx_recipes::LifeTally;
 use dtx_sizes::SEGMENT;
 use std::alloc::{AllocError, Global};
 

@@ -1,7 +1,7 @@
 // The symbols of a file's bytes.
 ghost use Rattle.std.specs.Prelude.{◌≡◌, length};
 ghost use Rattle.dtx_jobs.specs.Softening.{IsSigned};
-ghost use Rattle.dtx_jobs.specs.SymbolFile.{symbols};
+ghost use Rattle.dtx_recipes.specs.SymbolFile.{symbols};
 
 /// Sets each symbol to the byte at its place, read in two's complement.
 pub(crate) fn to_symbols(bytes: &[u8], brought: &mut [i8])

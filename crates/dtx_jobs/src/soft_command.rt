@@ -1,7 +1,7 @@
 // `soft IN OUT`: symbols with each coder's replaced by those of its least path.
 ghost use Rattle.dtx_forms.specs.Job.{IsJobPerformed};
 ghost use Rattle.dtx_forms.specs.Stages.{IsStaged};
-ghost use Rattle.dtx_jobs.specs.Soft.{soft_job};
+ghost use Rattle.dtx_recipes.specs.Soft.{soft_job};
 
 use crate::softening::Softening;
 use dtx_forms::transform;

@@ -7,9 +7,9 @@ ghost use Rattle.dtx_files.specs.Symbols.{segment_bytes};
 ghost use Rattle.dtx_frame.specs.Detection.{looks_like};
 ghost use Rattle.dtx_soft.specs.Signed.{AreSigned};
 ghost use Rattle.dtx_soft.specs.Softened.{softened_cost};
-ghost use Rattle.dtx_jobs.specs.Soft.{flushed, groups_in, has_group, soft_rest, soft_so_far};
+ghost use Rattle.dtx_recipes.specs.Soft.{flushed, groups_in, has_group, soft_rest, soft_so_far};
 ghost use Rattle.dtx_jobs.specs.Softening.{IsKept, IsSigned, IsSoftening, kept_rows};
-ghost use Rattle.dtx_jobs.specs.SymbolFile.{file_segments, symbols};
+ghost use Rattle.dtx_recipes.specs.SymbolFile.{file_segments, symbols};
 
 use crate::signed::to_symbols;
 use crate::symbol_buffer::SymbolBuffer;
@@ -163,9 +163,9 @@ impl Softening {
 impl Engine for Softening {
     ghost use Rattle.dtx_engine.specs.Made.{only};
     ghost use Rattle.dtx_forms.specs.Shapes as shapes;
-    ghost use Rattle.dtx_jobs.specs.Soft.{softening};
+    ghost use Rattle.dtx_recipes.specs.Soft.{softening};
     ghost use Rattle.dtx_jobs.specs.Softening.{WasSoftened};
-    ghost use Rattle.dtx_jobs.specs.SofteningLaws.{softens_more, softens_none};
+    ghost use Rattle.dtx_recipes.proofs.SofteningLemmas.{softens_more, softens_none};
 
     ghost shape = { shapes.segments };
 
@@ -220,8 +220,8 @@ impl Engine for Softening {
 
 impl Transforming for Softening {
     ghost use Rattle.dtx_words.specs.declared.rows.Command.TheVariants as command;
-    ghost use Rattle.dtx_jobs.specs.AnswersLaws.{soft_knows};
-    ghost use Rattle.dtx_jobs.specs.Soft.{softening};
+    ghost use Rattle.dtx_recipes.proofs.AnswersLemmas.{soft_knows};
+    ghost use Rattle.dtx_recipes.specs.Soft.{softening};
 
     ghost command = { command.Soft };
 

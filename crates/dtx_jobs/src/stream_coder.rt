@@ -5,7 +5,7 @@ ghost use Rattle.dtx_coder.specs.Groups.{StandsFor};
 ghost use Rattle.dtx_coder.specs.Stream.{a53};
 ghost use Rattle.dtx_packets.specs.Packets.{packets_from};
 ghost use Rattle.dtx_jobs.specs.StreamCoder.{AreInterleaved};
-ghost use Rattle.dtx_jobs.specs.Symbols.{symbol_bytes};
+ghost use Rattle.dtx_recipes.specs.Symbols.{symbol_bytes};
 
 use crate::symbol_buffer::SymbolBuffer;
 use dtx_coder::{AIR_SYMBOLS, Air, BATCH_BYTES, BATCH_PACKETS, Coder};
@@ -123,8 +123,8 @@ impl StreamCoder {
 impl Engine for StreamCoder {
     ghost use Rattle.dtx_engine.specs.Made.{only};
     ghost use Rattle.dtx_forms.specs.Shapes as shapes;
-    ghost use Rattle.dtx_jobs.specs.Code.{coding};
-    ghost use Rattle.dtx_jobs.specs.CodeLaws.{codes_none, codes_more};
+    ghost use Rattle.dtx_recipes.specs.Code.{coding};
+    ghost use Rattle.dtx_recipes.proofs.CodeLemmas.{codes_none, codes_more};
     ghost use Rattle.dtx_jobs.specs.StreamCoder.{WasCoded};
 
     ghost shape = { shapes.coded_packets };
@@ -187,8 +187,8 @@ impl Engine for StreamCoder {
 
 impl Transforming for StreamCoder {
     ghost use Rattle.dtx_words.specs.declared.rows.Command.TheVariants as command;
-    ghost use Rattle.dtx_jobs.specs.AnswersLaws.{code_knows};
-    ghost use Rattle.dtx_jobs.specs.Code.{coding};
+    ghost use Rattle.dtx_recipes.proofs.AnswersLemmas.{code_knows};
+    ghost use Rattle.dtx_recipes.specs.Code.{coding};
 
     ghost command = { command.Code };
 

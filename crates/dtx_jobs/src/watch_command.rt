@@ -1,7 +1,7 @@
 // `watch FEED OUT`: whether a feed is sound.
 ghost use Rattle.dtx_forms.specs.Job.{IsJobPerformed};
 ghost use Rattle.dtx_forms.specs.Stages.{IsStaged};
-ghost use Rattle.dtx_jobs.specs.Watch.{watch_job};
+ghost use Rattle.dtx_recipes.specs.Watch.{watch_job};
 
 use crate::watching::Watching;
 use dtx_forms::transform;

@@ -2,15 +2,16 @@
 ghost use Rattle.std.specs.Prelude.{◌≡◌, ◌+◌, ◌*◌, ◌/◌, ◌<◌, ◌≤◌, ◌++◌, ◌∷◌, [], ℕ, List, length};
 ghost use Rattle.dtx_packets.specs.Packets.{packets_of};
 ghost use Rattle.dtx_watch.specs.WatchText.{note_text, watch_text};
-ghost use Rattle.dtx_jobs.specs.Watch.{watched_bytes};
-ghost use Rattle.dtx_jobs.specs.Watching.{HasRoom, IsWatched, tally_of_one, tally_with};
+ghost use Rattle.dtx_recipes.specs.Watch.{watched_bytes};
+ghost use Rattle.dtx_recipes.specs.WatchTally.{HasRoom, tally_of_one, tally_with};
+ghost use Rattle.dtx_jobs.specs.Watching.{IsWatched};
 
-use crate::watch_tally::WatchTally;
 use arrayvec::{ArrayString, ArrayVec};
 use dtx_engine::{Buffer, Engine, Shape};
 use dtx_forms::{Transforming, single_packets};
 use dtx_meaning::{Outcome, Status};
 use dtx_packets::{PIECE_PACKETS, Packet};
+use dtx_recipes::WatchTally;
 use dtx_sizes::{MOST_PACKETS, PACKET};
 use dtx_watch::{MOST_NOTES, Note, WATCH_LINE, Watcher, write_note};
 use std::alloc::{AllocError, Global};
@@ -101,8 +102,8 @@ impl Watching {
 impl Engine for Watching {
     ghost use Rattle.dtx_engine.specs.Made.{only};
     ghost use Rattle.dtx_forms.specs.Shapes as shapes;
-    ghost use Rattle.dtx_jobs.specs.Watch.{watching};
-    ghost use Rattle.dtx_jobs.specs.WatchLaws.{watches_none, watches_more};
+    ghost use Rattle.dtx_recipes.specs.Watch.{watching};
+    ghost use Rattle.dtx_recipes.proofs.WatchLemmas.{watches_none, watches_more};
     ghost use Rattle.dtx_jobs.specs.Watching.{WasWatched};
 
     ghost shape = { shapes.single_packets };
@@ -158,8 +159,8 @@ impl Engine for Watching {
 
 impl Transforming for Watching {
     ghost use Rattle.dtx_words.specs.declared.rows.Command.TheVariants as command;
-    ghost use Rattle.dtx_jobs.specs.AnswersLaws.{watch_knows};
-    ghost use Rattle.dtx_jobs.specs.Watch.{watching};
+    ghost use Rattle.dtx_recipes.proofs.AnswersLemmas.{watch_knows};
+    ghost use Rattle.dtx_recipes.specs.Watch.{watching};
 
     ghost command = { command.Watch };
 

@@ -11,8 +11,8 @@ use Rattle.dtx_engine.specs.Recipe.{IsAnswerOf}
 use Rattle.dtx_words.specs.declared.rows.Command.TheVariants.{Adapt, Make, Hurt}
 use Rattle.dtx_forms.specs.Answers.{Knows}
 use Rattle.dtx_forms.proofs.AnswersLemmas.{knows_by, none_refused}
-use Rattle.dtx_packet_jobs.specs.Adapt.{feeding}
-use Rattle.dtx_packet_jobs.specs.Hurt.{hurting, hurt_end}
+use Rattle.dtx_recipes.specs.Adapt.{feeding}
+use Rattle.dtx_recipes.specs.Hurt.{hurting, hurt_end}
 
 -- a stream that is adapted
 pub adapt_knows : (plan : plans.Plan) (status : Status) → IsAnswerOf (feeding plan) status → Knows Adapt status

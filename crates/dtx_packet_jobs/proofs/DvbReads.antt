@@ -10,8 +10,8 @@ use Rattle.dtx_dvb.specs.Given.{given, given_in}
 use Rattle.dtx_dvb.specs.Read.{Read, fixed_in, fixed_of, flag_of, flagged_in}
 use Rattle.dtx_outer.specs.declared.inner.Taken.{Taken}
 use Rattle.dtx_outer.specs.declared.inner.Taken.TheVariants.{None, Good, Bad}
-use Rattle.dtx_packet_jobs.specs.DvbRead.{bytes_of_reads}
-use Rattle.dtx_packet_jobs.specs.DvbReadLaws.{bytes_of_reads-append}
+use Rattle.dtx_recipes.specs.DvbRead.{bytes_of_reads}
+use Rattle.dtx_recipes.proofs.DvbReadLemmas.{bytes_of_reads-append}
 use Rattle.dtx_packet_jobs.specs.DvbReading.{HasGathered}
 use Rattle.dtx_packet_jobs.specs.declared.dvb_reading.Gathered.{Gathered}
 

@@ -11,8 +11,9 @@ use Rattle.dtx_engine.specs.Made.{Made, joined, only}
 use Rattle.dtx_engine.specs.Recipe.{Recipe, IsFed}
 use Rattle.dtx_packets.proofs.PacketLemmas.{packets_of-append, whole_packets-append}
 use Rattle.dtx_packets.specs.Packets.{packets_of, whole_packets}
-use Rattle.dtx_packet_jobs.specs.Adapt.{feeding}
-use Rattle.dtx_packet_jobs.specs.Feed.{feed_bytes, HasFed, IsCounted}
+use Rattle.dtx_recipes.specs.Adapt.{feeding}
+use Rattle.dtx_recipes.specs.Feed.{feed_bytes}
+use Rattle.dtx_packet_jobs.specs.Feeding.{HasFed, IsCounted}
 use Rattle.dtx_forms.proofs.FilePacketsLemmas.{length-packets_of}
 use Rattle.dtx_packet_jobs.specs.declared.feeder.Feeder.{Feeder}
 use borrow.Rule.Slice.PartMut.{put_mid}

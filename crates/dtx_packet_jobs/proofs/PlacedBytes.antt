@@ -9,7 +9,7 @@ use Rattle.dtx_engine.specs.Each.{each}
 use Rattle.dtx_engine.proofs.EachLemmas.{each-next}
 use Rattle.dtx_packets.specs.Packets.{packet_at, packets_from, packets_of, whole_packets}
 use Rattle.dtx_packets.proofs.PacketLemmas.{packets_of-append, packets_of-piece}
-use Rattle.dtx_packet_jobs.specs.Place.{placed, placed_behind, placed_one, placing}
+use Rattle.dtx_recipes.specs.Place.{placed, placed_behind, placed_one, placing}
 use Rattle.dtx_packet_jobs.proofs.PlacedPackets.{placed-next}
 
 -- one packet more

@@ -8,7 +8,7 @@ use Rattle.std.proofs.lemmas.List.FromFn.{length-map-range_with_len, sum_by-map-
 use Rattle.std.proofs.lemmas.List.Sums.{count_by-le-length, sum_by-append}
 use Rattle.dtx_lists.proofs.Range.{map-range_same}
 use Rattle.dtx_adapter.specs.Feed.{is_placeholder}
-use Rattle.dtx_packet_jobs.specs.Place.{bare_fields, becomes, becoming, behind, fields, placed_count}
+use Rattle.dtx_recipes.specs.Place.{bare_fields, becomes, becoming, behind, fields, placed_count}
 use Rattle.dtx_packet_jobs.proofs.PlacedPackets.{behind_same, length-scanned}
 use Rattle.dtx_packet_jobs.proofs.PlacedPackets.{scanned-next}
 

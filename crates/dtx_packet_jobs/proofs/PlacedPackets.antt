@@ -19,7 +19,7 @@ use Rattle.std.proofs.Math.Seq.{get_or-append_seam, take-append_seam}
 use Rattle.dtx_lists.proofs.Range.{map-range_same}
 use Rattle.dtx_adapter.specs.Feed.{is_placeholder}
 use Rattle.dtx_packets.specs.Packet.{pid_of}
-use Rattle.dtx_packet_jobs.specs.Place.{as_placeholder, becomes, behind, is_null, is_open, placed, placed_one}
+use Rattle.dtx_recipes.specs.Place.{as_placeholder, becomes, behind, is_null, is_open, placed, placed_one}
 
 -- ---- lists, as they come
 

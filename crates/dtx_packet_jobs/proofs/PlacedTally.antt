@@ -6,7 +6,8 @@ use Rattle.std.specs.List.{list_any}
 use Rattle.std.proofs.lemmas.Bool.{cases_lt, cases_eq, eq-eqb, ne_eqb, le-leb, lt-leb}
 use Rattle.std.proofs.lemmas.List.{length-append}
 use Rattle.dtx_adapter.specs.Feed.{is_placeholder}
-use Rattle.dtx_packet_jobs.specs.Place.{IsCounted, bare_fields, becomes, behind, is_null, is_open, placed, placed_one}
+use Rattle.dtx_packet_jobs.specs.Placing.{IsCounted}
+use Rattle.dtx_recipes.specs.Place.{bare_fields, becomes, behind, is_null, is_open, placed, placed_one}
 use Rattle.dtx_packet_jobs.specs.declared.placing.Placing.{Placing}
 use Rattle.dtx_packet_jobs.proofs.PlacedPackets.{any_more, any_same, becomes_early, becomes_late, behind_none}
 use Rattle.dtx_packet_jobs.proofs.PlacedPackets.{length-placed}

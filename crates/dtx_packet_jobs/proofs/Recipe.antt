@@ -15,7 +15,7 @@ use Rattle.dtx_outside.specs.Written.{IsWritten, IsGathered, IsPartWritten}
 use Rattle.dtx_outside.proofs.WrittenLemmas.{gathered_of_written, part_of_more}
 use Rattle.dtx_outside.specs.declared.shelf.WriteNo.{WriteNo}
 use Rattle.dtx_outside.specs.declared.shelf.WriteNo.TheVariants.{Failed, Memory}
-use Rattle.dtx_packet_jobs.specs.Make.{made_file}
+use Rattle.dtx_recipes.specs.Make.{made_file}
 
 -- nothing is made yet
 pub made_none : (start now : Option Files) (output gathered : List ℕ) (seed : ℕ) → gathered ≡ []

@@ -3,7 +3,7 @@ use Rattle.std.specs.Prelude.{◌≡◌, ◌*◌, ◌≤◌, ℕ, ◌++◌, List
 use Rattle.dtx_dvb.specs.Read.{Read, fixed_in, flagged_in}
 use Rattle.dtx_dvb.specs.Reading.{read_dvb}
 use Rattle.dtx_outer.specs.Inner.{StandsFor}
-use Rattle.dtx_packet_jobs.specs.DvbRead.{bytes_of_reads, whole_blocks}
+use Rattle.dtx_recipes.specs.DvbRead.{bytes_of_reads, whole_blocks}
 use Rattle.dtx_packet_jobs.specs.declared.dvb_reading.DvbReading.{DvbReading}
 use Rattle.dtx_packet_jobs.specs.declared.dvb_reading.Gathered.{Gathered}
 

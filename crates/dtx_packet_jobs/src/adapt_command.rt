@@ -4,7 +4,7 @@ ghost use Rattle.std.specs.FinMap as files;
 ghost use Rattle.dtx_engine.specs.Recipe.{meaning};
 ghost use Rattle.dtx_plan.specs.Sound.{IsSound};
 ghost use Rattle.dtx_words.specs.declared.rows.Command.TheVariants as command;
-ghost use Rattle.dtx_packet_jobs.specs.Adapt.{adapt_job, feeding};
+ghost use Rattle.dtx_recipes.specs.Adapt.{adapt_job, feeding};
 ghost use Rattle.dtx_forms.specs.Stages.{IsStaged, stages_of};
 ghost use Rattle.dtx_forms.specs.Job.{IsPerformed, IsJobPerformed};
 ghost use Rattle.dtx_forms.specs.Shapes as shapes;
@@ -36,7 +36,7 @@ struct Adapting;
 
 impl Combining for Adapting {
     ghost use Rattle.dtx_words.specs.declared.rows.Command.TheVariants as command;
-    ghost use Rattle.dtx_packet_jobs.specs.Adapt.{adapt_stages, adapted};
+    ghost use Rattle.dtx_recipes.specs.Adapt.{adapt_stages, adapted};
 
     ghost command = { command.Adapt };
 

@@ -1,7 +1,7 @@
 // `dvb code IN OUT`: a stream by the outer coding of DVB.
 ghost use Rattle.dtx_forms.specs.Stages.{IsStaged};
 ghost use Rattle.dtx_forms.specs.Job.{IsJobPerformed};
-ghost use Rattle.dtx_packet_jobs.specs.DvbCode.{dvb_code_job};
+ghost use Rattle.dtx_recipes.specs.DvbCode.{dvb_code_job};
 
 use crate::dvb_coding::DvbCoding;
 use dtx_forms::transform_dvb;

@@ -104,10 +104,10 @@ impl DvbCoding {
 
 impl Engine for DvbCoding {
     ghost use Rattle.dtx_engine.specs.Made.{only};
-    ghost use Rattle.dtx_packet_jobs.specs.DvbCode.{dvb_coding};
-    ghost use Rattle.dtx_packet_jobs.specs.DvbCodeLaws.{sends_none, sends_more};
+    ghost use Rattle.dtx_recipes.specs.DvbCode.{dvb_coding};
+    ghost use Rattle.dtx_recipes.proofs.DvbCodeLemmas.{sends_none, sends_more};
     ghost use Rattle.dtx_packet_jobs.specs.DvbCoding.{WasSent};
-    ghost use Rattle.dtx_packet_jobs.specs.DvbShapes as shapes;
+    ghost use Rattle.dtx_recipes.specs.DvbShapes as shapes;
 
     ghost shape = { shapes.dvb_packets };
 
@@ -161,8 +161,8 @@ impl Engine for DvbCoding {
 
 impl Transforming for DvbCoding {
     ghost use Rattle.dtx_words.specs.declared.rows.Command.TheVariants as command;
-    ghost use Rattle.dtx_packet_jobs.specs.AnswersLaws.{dvb_code_knows};
-    ghost use Rattle.dtx_packet_jobs.specs.DvbCode.{dvb_coding};
+    ghost use Rattle.dtx_recipes.proofs.AnswersLemmas.{dvb_code_knows};
+    ghost use Rattle.dtx_recipes.specs.DvbCode.{dvb_coding};
 
     ghost command = { command.DvbCode };
 

@@ -1,7 +1,7 @@
 // `dvb read IN OUT`: the packets of a stream that was sent by the outer coding of DVB.
 ghost use Rattle.dtx_forms.specs.Stages.{IsStaged};
 ghost use Rattle.dtx_forms.specs.Job.{IsJobPerformed};
-ghost use Rattle.dtx_packet_jobs.specs.DvbRead.{dvb_read_job};
+ghost use Rattle.dtx_recipes.specs.DvbRead.{dvb_read_job};
 
 use crate::dvb_reading::DvbReading;
 use dtx_forms::transform_dvb;

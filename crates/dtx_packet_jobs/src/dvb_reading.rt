@@ -5,7 +5,7 @@ ghost use Rattle.dtx_dvb.specs.Given.{all_given, given};
 ghost use Rattle.dtx_dvb.specs.Read.{Read, fixed_of, flag_of};
 ghost use Rattle.dtx_dvb.specs.Reading.{read_dvb};
 ghost use Rattle.dtx_dvb.specs.Sending.{HasRead};
-ghost use Rattle.dtx_packet_jobs.specs.DvbRead.{bytes_of_reads};
+ghost use Rattle.dtx_recipes.specs.DvbRead.{bytes_of_reads};
 ghost use Rattle.dtx_packet_jobs.specs.DvbReading.{IsBounded, HasGathered, IsReading};
 
 use crate::dvb_shapes::{BATCH_BYTES, BATCH_PACKETS, blocks};
@@ -185,10 +185,10 @@ impl Gathered {
 
 impl Engine for DvbReading {
     ghost use Rattle.dtx_engine.specs.Made.{only};
-    ghost use Rattle.dtx_packet_jobs.specs.DvbRead.{dvb_reading};
-    ghost use Rattle.dtx_packet_jobs.specs.DvbReadLaws.{reads_none, reads_more};
+    ghost use Rattle.dtx_recipes.specs.DvbRead.{dvb_reading};
+    ghost use Rattle.dtx_recipes.proofs.DvbReadLemmas.{reads_none, reads_more};
     ghost use Rattle.dtx_packet_jobs.specs.DvbReading.{WasRead};
-    ghost use Rattle.dtx_packet_jobs.specs.DvbShapes as shapes;
+    ghost use Rattle.dtx_recipes.specs.DvbShapes as shapes;
 
     ghost shape = { shapes.blocks };
 
@@ -250,8 +250,8 @@ impl Engine for DvbReading {
 
 impl Transforming for DvbReading {
     ghost use Rattle.dtx_words.specs.declared.rows.Command.TheVariants as command;
-    ghost use Rattle.dtx_packet_jobs.specs.AnswersLaws.{dvb_read_knows};
-    ghost use Rattle.dtx_packet_jobs.specs.DvbRead.{dvb_reading};
+    ghost use Rattle.dtx_recipes.proofs.AnswersLemmas.{dvb_read_knows};
+    ghost use Rattle.dtx_recipes.specs.DvbRead.{dvb_reading};
 
     ghost command = { command.DvbRead };
 

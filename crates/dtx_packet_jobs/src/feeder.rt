@@ -7,8 +7,9 @@ ghost use Rattle.dtx_engine.specs.Recipe.{IsFed};
 ghost use Rattle.dtx_packets.specs.Packets.{packets_of, whole_packets};
 ghost use Rattle.dtx_plan.specs.Sound.{IsSound};
 ghost use Rattle.dtx_plan.specs.declared.plan.Plan.{Plan};
-ghost use Rattle.dtx_packet_jobs.specs.Adapt.{feeding};
-ghost use Rattle.dtx_packet_jobs.specs.Feed.{feed_bytes, HasFed, IsCounted};
+ghost use Rattle.dtx_recipes.specs.Adapt.{feeding};
+ghost use Rattle.dtx_recipes.specs.Feed.{feed_bytes};
+ghost use Rattle.dtx_packet_jobs.specs.Feeding.{HasFed, IsCounted};
 
 use dtx_adapter::Adapter;
 use dtx_adapter::laws::goes_on;
@@ -97,9 +98,9 @@ fn adapt_part(adapter: &mut Adapter, room: &mut [[u8; PACKET]], bytes: &mut [u8]
 
 impl Engine for Feeder<'_> {
     ghost use Rattle.dtx_engine.specs.Made.{only};
-    ghost use Rattle.dtx_packet_jobs.specs.Adapt.{feeding};
-    ghost use Rattle.dtx_packet_jobs.specs.Feed.{HasFed};
-    ghost use Rattle.dtx_packet_jobs.specs.FeedLaws.{feeding_starts, feeding_grows};
+    ghost use Rattle.dtx_recipes.specs.Adapt.{feeding};
+    ghost use Rattle.dtx_packet_jobs.specs.Feeding.{HasFed};
+    ghost use Rattle.dtx_recipes.proofs.FeedLemmas.{feeding_starts, feeding_grows};
     ghost use Rattle.dtx_forms.specs.Shapes as shapes;
 
     ghost shape = { shapes.packets };

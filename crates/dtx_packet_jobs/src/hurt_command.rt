@@ -1,5 +1,5 @@
 // `hurt IN CHANGES OUT`: a file with damage laid over its bytes.
-ghost use Rattle.dtx_packet_jobs.specs.Hurt.{hurt_job};
+ghost use Rattle.dtx_recipes.specs.Hurt.{hurt_job};
 ghost use Rattle.dtx_forms.specs.Stages.{IsStaged};
 ghost use Rattle.dtx_forms.specs.Job.{IsJobPerformed};
 
@@ -28,7 +28,7 @@ struct Hurting;
 
 impl Combining for Hurting {
     ghost use Rattle.dtx_words.specs.declared.rows.Command.TheVariants as command;
-    ghost use Rattle.dtx_packet_jobs.specs.Hurt.{hurt_file, hurt_stages};
+    ghost use Rattle.dtx_recipes.specs.Hurt.{hurt_file, hurt_stages};
 
     ghost command = { command.Hurt };
 

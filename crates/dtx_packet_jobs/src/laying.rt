@@ -1,7 +1,7 @@
 // The engine of `hurt`: lays damage over the bytes of a file, one piece at a time.
 ghost use Rattle.std.specs.Prelude.{◌≡◌, []};
 ghost use Rattle.dtx_plan.specs.Sound.{AreDamages};
-ghost use Rattle.dtx_packet_jobs.specs.Hurt.{hurting};
+ghost use Rattle.dtx_recipes.specs.Hurt.{hurting};
 
 use crate::past_end::first_past;
 use dtx_engine::{Engine, Shape};
@@ -39,8 +39,9 @@ impl<'a> Laying<'a> {
 
 impl Engine for Laying<'_> {
     ghost use Rattle.dtx_engine.specs.Made.{only};
-    ghost use Rattle.dtx_packet_jobs.specs.Hurt.{hurting, HasLaid};
-    ghost use Rattle.dtx_packet_jobs.specs.HurtLaws.{hurting_starts, hurting_grows};
+    ghost use Rattle.dtx_recipes.specs.Hurt.{hurting};
+    ghost use Rattle.dtx_packet_jobs.specs.Laying.{HasLaid};
+    ghost use Rattle.dtx_recipes.proofs.HurtLemmas.{hurting_starts, hurting_grows};
     ghost use Rattle.dtx_forms.specs.Shapes as shapes;
 
     ghost shape = { shapes.single_bytes };

@@ -10,7 +10,7 @@ ghost use Rattle.dtx_meaning.specs.Status.{IsOfInputs, blame_of};
 ghost use Rattle.dtx_words.specs.declared.rows.Command.TheVariants as command;
 ghost use Rattle.dtx_forms.specs.Answers.{Knows};
 ghost use Rattle.dtx_forms.specs.Job.{IsPerformed, IsJobPerformed};
-ghost use Rattle.dtx_packet_jobs.specs.Make.{made_file, made_of, make_job};
+ghost use Rattle.dtx_recipes.specs.Make.{made_file, made_of, make_job};
 
 use dtx_make::packet;
 use dtx_meaning::{Outcome, Status, ended};

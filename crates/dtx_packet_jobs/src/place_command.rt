@@ -1,7 +1,7 @@
 // `place IN OUT`: a stream with placeholders in the place of null packets.
 ghost use Rattle.dtx_forms.specs.Stages.{IsStaged};
 ghost use Rattle.dtx_forms.specs.Job.{IsJobPerformed};
-ghost use Rattle.dtx_packet_jobs.specs.Place.{place_job};
+ghost use Rattle.dtx_recipes.specs.Place.{place_job};
 
 use crate::placing::Placing;
 use dtx_engine::Each;

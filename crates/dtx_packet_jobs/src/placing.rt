@@ -3,8 +3,8 @@ ghost use Rattle.std.specs.Prelude.{◌≡◌, ◌≢◌, ◌+◌, ◌-◌, ◌<
 ghost use Rattle.std.specs.Prelude.{false, if◌then◌else◌, length};
 ghost use Rattle.dtx_adapter.specs.Feed.{is_placeholder};
 ghost use Rattle.dtx_packets.specs.Packet.{pid_of};
-ghost use Rattle.dtx_packet_jobs.specs.Place as place;
-ghost use Rattle.dtx_packet_jobs.specs.Place.{as_placeholder};
+ghost use Rattle.dtx_recipes.specs.Place as place;
+ghost use Rattle.dtx_recipes.specs.Place.{as_placeholder};
 
 use dtx_engine::{Change, Shape};
 use dtx_forms::{Changing, single_packets};
@@ -52,7 +52,8 @@ impl Placing {
 
 impl Change for Placing {
     ghost use Rattle.dtx_packets.specs.Packets.{packets_of};
-    ghost use Rattle.dtx_packet_jobs.specs.Place.{IsCounted, has_sync, placed_behind, placing_answer};
+    ghost use Rattle.dtx_packet_jobs.specs.Placing.{IsCounted};
+    ghost use Rattle.dtx_recipes.specs.Place.{has_sync, placed_behind, placing_answer};
     ghost use Rattle.dtx_forms.specs.Shapes as shapes;
 
     ghost shape = { shapes.single_packets };
@@ -94,7 +95,7 @@ impl Change for Placing {
 
 impl Changing for Placing {
     ghost use Rattle.dtx_words.specs.declared.rows.Command.TheVariants as command;
-    ghost use Rattle.dtx_packet_jobs.specs.AnswersLaws.{place_knows};
+    ghost use Rattle.dtx_recipes.proofs.AnswersLemmas.{place_knows};
 
     ghost command = { command.Place };
 
@@ -134,7 +135,7 @@ fn pid(packet: &[u8]) -> u16
 }
 
 /// Gives a null packet the packet identifier of a placeholder.
-#[tactic(auto, unfolding(crate::specs::Place::as_placeholder))]
+#[tactic(auto, unfolding(dtx_recipes::specs::Place::as_placeholder))]
 fn become_placeholder(packet: &mut [u8])
     requires null { pid_of packet.old ≡ NULL_PID }
     requires long { 2 < length packet.old }

@@ -19,10 +19,10 @@ use Rattle.dtx_words.specs.Number.{number_in}
 use Rattle.dtx_words.specs.declared.rows.Command.{Command}
 use Rattle.dtx_words.specs.declared.rows.Command.TheVariants.{Repeat}
 use Rattle.dtx_jobs.proofs.GivenLemmas.{no_run_in}
-use Rattle.dtx_jobs.specs.Repeat.{repeating}
+use Rattle.dtx_recipes.specs.Repeat.{repeating}
 use Rattle.dtx_symbol_laws.specs.RepeatedFiles.{repeated_of}
 use Rattle.dtx_forms.specs.Shapes.{segments}
-use Rattle.dtx_jobs.specs.SymbolFile.{file_segments, whole_segments}
+use Rattle.dtx_recipes.specs.SymbolFile.{file_segments, whole_segments}
 use Rattle.dtx_forms.specs.Transmit.{transmit_with}
 use Rattle.dtx_repeated_feed.specs.DoneWith.{IsDoneWith}
 use Rattle.dtx_top.specs.Means.{means, means_of}

@@ -4,8 +4,8 @@ use Rattle.std.proofs.lemmas.List.{length-map}
 use Rattle.dtx_acquire.specs.Acquired.{acquired, acquired_cost, acquired_runs}
 use Rattle.dtx_acquire.proofs.AcquiredLemmas.{all_is_acquired}
 use Rattle.dtx_meaning.specs.declared.status.Status.TheVariants.{Done}
-use Rattle.dtx_jobs.specs.Acquire.{acquired_answer, acquired_numbers, with_acquirer}
-use Rattle.dtx_jobs.specs.SymbolFile.{symbol_of_byte, symbols}
+use Rattle.dtx_recipes.specs.Acquire.{acquired_answer, acquired_numbers, with_acquirer}
+use Rattle.dtx_recipes.specs.SymbolFile.{symbol_of_byte, symbols}
 use Rattle.dtx_symbol_laws.specs.RestoredFile.{acquired_of}
 use Rattle.dtx_symbol_laws.proofs.RestoredFile.{IsRestored}
 

@@ -15,7 +15,7 @@ use Rattle.dtx_receiver.proofs.IntervalsLemmas.{are_runs, only_runs}
 use Rattle.dtx_receiver.specs.Runs.{runs}
 use Rattle.dtx_acquire.specs.Sent.{AreInFields, AreLevels, IsData, IsSync}
 use Rattle.dtx_files.specs.Symbols.{segment_bytes}
-use Rattle.dtx_jobs.specs.SymbolFile.{file_segments}
+use Rattle.dtx_recipes.specs.SymbolFile.{file_segments}
 use Rattle.dtx_jobs.proofs.SymbolsBackLemmas.{AreBack, EachBack, IsBack, each_append, level_back, segments_read_back}
 
 -- ---- the run

@@ -20,7 +20,7 @@ use Rattle.dtx_soft.specs.Coders.{coder_symbols}
 use Rattle.dtx_soft.specs.Softened.{IsOwn}
 use Rattle.dtx_acquire.specs.Acquired as acquired
 use Rattle.dtx_acquire.specs.Sent.{AreInFields, AreLevels, AreNear, AreSent, IsData, IsSync, groups_behind}
-use Rattle.dtx_jobs.specs.Soft.{in_groups}
+use Rattle.dtx_recipes.specs.Soft.{in_groups}
 use Rattle.dtx_symbol_laws.proofs.SoftStream.{TakesPaths, field_own}
 
 -- ---- data segments

@@ -39,17 +39,18 @@ use Rattle.dtx_forms.specs.Shapes.{segments}
 use Rattle.dtx_forms.proofs.FilePacketsLemmas.{IsLong}
 use Rattle.dtx_packet_jobs.proofs.PacketFileLemmas.{length-bytes_of_packets, packets_of-bytes}
 use Rattle.dtx_jobs.proofs.GivenLemmas.{all_given, sync_answered}
-use Rattle.dtx_jobs.specs.Giving.{Giving, IsGiving, answer_of, bytes_of}
+use Rattle.dtx_recipes.specs.Giving.{Giving, IsGiving, answer_of, bytes_of}
 use Rattle.dtx_jobs.proofs.GivingLemmas.{flat_bytes}
-use Rattle.dtx_jobs.specs.Mend.{mending_symbols, with_mendings}
-use Rattle.dtx_jobs.specs.MendLaws.{mendings_given}
-use Rattle.dtx_jobs.specs.MendedBack.{CanAllBeMended, CanBeMended, IsMendedBack, all_back_of, mended_bytes, mended_of}
-use Rattle.dtx_jobs.specs.MendedBack.{IsMendable, packets_before, word_marks, word_of}
-use Rattle.dtx_jobs.specs.Receive.{received_bytes, with_corrections}
-use Rattle.dtx_jobs.specs.ReceiveLaws.{corrections_given}
-use Rattle.dtx_jobs.specs.SymbolFile.{file_segments, whole_segments}
+use Rattle.dtx_recipes.specs.Mend.{mending_symbols, with_mendings}
+use Rattle.dtx_recipes.proofs.MendLemmas.{mendings_given}
+use Rattle.dtx_recipes.specs.MendedBack.{CanAllBeMended, CanBeMended, IsMendedBack, all_back_of, mended_bytes}
+use Rattle.dtx_recipes.specs.MendedBack.{mended_of}
+use Rattle.dtx_recipes.specs.MendedBack.{IsMendable, packets_before, word_marks, word_of}
+use Rattle.dtx_recipes.specs.Receive.{received_bytes, with_corrections}
+use Rattle.dtx_recipes.proofs.ReceiveLemmas.{corrections_given}
+use Rattle.dtx_recipes.specs.SymbolFile.{file_segments, whole_segments}
 use Rattle.dtx_jobs.proofs.SymbolFileLemmas.{length-segments_of}
-use Rattle.dtx_jobs.specs.Tally.{fixed_in, flagged_in}
+use Rattle.dtx_recipes.specs.Tally.{fixed_in, flagged_in}
 
 -- ---- the packets that are written
 

@@ -7,8 +7,8 @@ use Rattle.dtx_rounds.specs.Known.{known_count}
 use Rattle.dtx_rounds.specs.Rounds.{heard_of, refined, round_cost, round_moved}
 use Rattle.dtx_rounds.proofs.SoFarLemmas.{all_is_refined, length-refined}
 use Rattle.dtx_meaning.specs.declared.status.Status.TheVariants.{Done}
-use Rattle.dtx_jobs.specs.Refine.{before_last, refined_answer, refined_numbers, with_refiner}
-use Rattle.dtx_jobs.specs.SymbolFile.{symbol_of_byte, symbols}
+use Rattle.dtx_recipes.specs.Refine.{before_last, refined_answer, refined_numbers, with_refiner}
+use Rattle.dtx_recipes.specs.SymbolFile.{symbol_of_byte, symbols}
 use Rattle.dtx_symbol_laws.specs.RestoredFile.{refined_of}
 use Rattle.dtx_symbol_laws.proofs.RestoredFile.{IsRestored}
 

@@ -17,12 +17,12 @@ use Rattle.dtx_engine.specs.Recipe.{first_refused, meaning_at, meaning_of_file}
 use Rattle.dtx_engine.specs.declared.piece.Ending.TheVariants.{Whole}
 use Rattle.dtx_forms.proofs.AllowedFileLemmas.{all_read, first_read, none_found}
 use Rattle.dtx_forms.specs.Shapes.{segments}
-use Rattle.dtx_jobs.specs.Giving.{no_sync_in}
+use Rattle.dtx_recipes.specs.Giving.{no_sync_in}
 use Rattle.dtx_jobs.proofs.GivenLemmas.{no_run_in}
-use Rattle.dtx_jobs.specs.Lives.{lives_tally}
-use Rattle.dtx_jobs.specs.Repeat.{repeat_answer, repeated_numbers, repeating, sent_in}
+use Rattle.dtx_recipes.specs.Lives.{lives_tally}
+use Rattle.dtx_recipes.specs.Repeat.{repeat_answer, repeated_numbers, repeating, sent_in}
 use Rattle.dtx_jobs.proofs.RepeatLemmas.{repeats_all}
-use Rattle.dtx_jobs.specs.SymbolFile.{file_segments, whole_segments}
+use Rattle.dtx_recipes.specs.SymbolFile.{file_segments, whole_segments}
 use Rattle.dtx_jobs.proofs.SymbolFileLemmas.{file_segments-whole, first_segments, length-segments_of}
 use Rattle.dtx_symbol_laws.specs.RepeatedFiles.{repeated_of, repeated_outputs, repeated_until}
 

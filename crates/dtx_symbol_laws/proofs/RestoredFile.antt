@@ -16,9 +16,9 @@ use Rattle.dtx_files.proofs.AppendedLemmas.{segment_bytes-append}
 use Rattle.dtx_files.specs.Symbols.{segment_bytes}
 use Rattle.dtx_forms.proofs.AllowedFileLemmas.{all_read, first_read, none_found}
 use Rattle.dtx_forms.specs.Shapes.{single_bytes}
-use Rattle.dtx_jobs.specs.Giving.{no_sync_in}
-use Rattle.dtx_jobs.specs.Restoring.{IsRestoring, Restoring, restoring_by}
-use Rattle.dtx_jobs.specs.SymbolFile.{symbol_of_byte, symbols}
+use Rattle.dtx_recipes.specs.Giving.{no_sync_in}
+use Rattle.dtx_recipes.specs.Restoring.{IsRestoring, Restoring, restoring_by}
+use Rattle.dtx_recipes.specs.SymbolFile.{symbol_of_byte, symbols}
 use Rattle.dtx_symbol_laws.specs.RestoredFile.{restored_until, restored_with}
 
 -- the answer, where so many runs are counted

@@ -12,8 +12,8 @@ use Rattle.dtx_soft.proofs.LeastPathLemmas.{least_path_found}
 use Rattle.dtx_soft.specs.Paths.{IsPath, next_state, symbol_at}
 use Rattle.dtx_soft.specs.Softened.{least_symbols, softened, softened_segment, softened_symbol}
 use Rattle.dtx_files.specs.Symbols.{segment_bytes}
-use Rattle.dtx_jobs.specs.Soft.{in_groups, place_at, soft_at, soft_from, soft_symbols}
-use Rattle.dtx_jobs.specs.SymbolFile.{file_segments, segment_at, symbol_of_byte, whole_segments}
+use Rattle.dtx_recipes.specs.Soft.{in_groups, place_at, soft_at, soft_from, soft_symbols}
+use Rattle.dtx_recipes.specs.SymbolFile.{file_segments, segment_at, symbol_of_byte, whole_segments}
 use Rattle.dtx_jobs.proofs.SymbolsBackLemmas.{AreBack, EachBack, IsBack, each_at, each_drop, each_map, each_of}
 use Rattle.dtx_jobs.proofs.SymbolsBackLemmas.{each_range, each_take, level_back, segments_read_back}
 use Rattle.dtx_symbol_laws.proofs.SoftFiles.{byte_back}

@@ -16,7 +16,8 @@ use Rattle.dtx_receiver.specs.Intervals.{AreRuns, IsRun, NoneLooks, looks_at, se
 use Rattle.dtx_receiver.proofs.IntervalsLemmas.{are_runs, only_runs}
 use Rattle.dtx_soft.specs.Softened.{softened, softened_segment}
 use Rattle.dtx_soft.proofs.SumsLemmas.{none_first, over, over_more, over_none, over_one, over_parts, over_same}
-use Rattle.dtx_jobs.specs.Soft.{count_from, field_sum, groups_in, in_groups, place_at, soft_at, soft_from, soft_symbols}
+use Rattle.dtx_recipes.specs.Soft.{count_from, field_sum, groups_in, in_groups, place_at, soft_at, soft_from}
+use Rattle.dtx_recipes.specs.Soft.{soft_symbols}
 use Rattle.dtx_symbol_laws.specs.SoftFields.{field_groups, fields_in, fields_of, place_behind}
 use Rattle.dtx_symbol_laws.proofs.SoftPlaces.{Begins, begins_first, none_from, places_stay, run_begins, run_behind}
 use Rattle.dtx_symbol_laws.proofs.SoftPlaces.{run_ends}

@@ -22,10 +22,12 @@ use Rattle.dtx_files.proofs.AppendedLemmas.{segment_bytes-append}
 use Rattle.dtx_files.specs.Symbols.{byte_of_symbol, segment_bytes}
 use Rattle.dtx_forms.proofs.AllowedFileLemmas.{all_read, first_read, none_found}
 use Rattle.dtx_forms.specs.Shapes.{segments}
-use Rattle.dtx_jobs.specs.Soft.{field_sum, has_group, soft_numbers, soft_rest, soft_so_far, soft_symbols, softening}
+use Rattle.dtx_recipes.specs.Soft.{field_sum, has_group, soft_numbers, soft_rest, soft_so_far, soft_symbols}
+use Rattle.dtx_recipes.specs.Soft.{softening}
 use Rattle.dtx_jobs.proofs.SoftLemmas.{all_is}
-use Rattle.dtx_jobs.specs.SoftLaws.{so_far_on}
-use Rattle.dtx_jobs.specs.SymbolFile.{file_segments, segment_at, segments_from, symbol_of_byte, symbols, whole_segments}
+use Rattle.dtx_recipes.proofs.SoftLemmas.{so_far_on}
+use Rattle.dtx_recipes.specs.SymbolFile.{file_segments, segment_at, segments_from, symbol_of_byte, symbols}
+use Rattle.dtx_recipes.specs.SymbolFile.{whole_segments}
 use Rattle.dtx_jobs.proofs.SymbolFileLemmas.{file_segments-whole, first_segments, length-segments_of}
 use Rattle.dtx_symbol_laws.specs.SoftFields.{copied_of, softened_of, softened_until}
 use Rattle.dtx_symbol_laws.proofs.SoftFields.{none_stay, nothing_counted}

@@ -14,8 +14,8 @@ use Rattle.dtx_soft.specs.Paths.{distance}
 use Rattle.dtx_soft.specs.Softened.{softened, softened_cost, softened_segment, softened_symbol}
 use Rattle.dtx_soft.proofs.SoftenedLemmas.{cost_is, softened_found}
 use Rattle.dtx_soft.proofs.SumsLemmas.{none_first, over, over_more, over_moved, over_none, over_one, over_parts}
-use Rattle.dtx_jobs.specs.Soft.{count_from, field_sum, in_groups, place_at, soft_symbols}
-use Rattle.dtx_jobs.specs.SymbolFile.{file_segments, segment_at, symbol_of_byte, whole_segments}
+use Rattle.dtx_recipes.specs.Soft.{count_from, field_sum, in_groups, place_at, soft_symbols}
+use Rattle.dtx_recipes.specs.SymbolFile.{file_segments, segment_at, symbol_of_byte, whole_segments}
 use Rattle.dtx_jobs.proofs.SymbolFileLemmas.{length-segments_of}
 use Rattle.dtx_symbol_laws.specs.SoftFields.{place_behind}
 use Rattle.dtx_symbol_laws.proofs.SoftFields.{IsField, all_sum, count_at, count_is, field_of, groups_become}

@@ -8,8 +8,8 @@ use Rattle.std.proofs.lemmas.List.Elements.{All-nil, All-cons, All-contains}
 use Rattle.std.specs.List.{Contains}
 use Rattle.dtx_frame.specs.Detection.{looks_like}
 use Rattle.dtx_receiver.specs.Intervals.{AreRuns, IsRun, NoneLooks, looks_at}
-use Rattle.dtx_jobs.specs.Soft.{next_place, place_at, soft_symbols}
-use Rattle.dtx_jobs.specs.SoftPlacesLaws.{place_copied, place_ends, place_first, place_on}
+use Rattle.dtx_recipes.specs.Soft.{next_place, place_at, soft_symbols}
+use Rattle.dtx_recipes.proofs.SoftPlacesLemmas.{place_copied, place_ends, place_first, place_on}
 use Rattle.dtx_symbol_laws.specs.SoftFields.{place_behind}
 use Rattle.dtx_symbol_laws.proofs.SoftRuns.{copied, soft_length}
 

@@ -9,7 +9,7 @@ use Rattle.dtx_frame.specs.Detection.{looks_like}
 use Rattle.dtx_receiver.specs.declared.tracking.Tracking.TheVariants.{Searching, Began, Sync, Data, Ended}
 use Rattle.dtx_receiver.proofs.FollowingLemmas.{tracked_push}
 use Rattle.dtx_receiver.specs.Runs.{followed, runs, sync_due, Tracked, tracked, tracking, tracking_of}
-use Rattle.dtx_jobs.specs.Soft.{next_place, place_in, soft_at, soft_from, soft_symbols}
+use Rattle.dtx_recipes.specs.Soft.{next_place, place_in, soft_at, soft_from, soft_symbols}
 
 -- runs of the same lengths
 record AreAlike (s t : Tracked) : Type 0 where

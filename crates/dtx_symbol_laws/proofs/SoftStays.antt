@@ -12,9 +12,9 @@ use Rattle.dtx_coder.specs.Stream.{a53}
 use Rattle.dtx_soft.specs.Coders.{coder_symbols}
 use Rattle.dtx_soft.specs.Softened.{IsOwn, softened, softened_cost}
 use Rattle.dtx_chain.proofs.PlacesLemmas.{sync_at_place}
-use Rattle.dtx_jobs.specs.Soft.{count_from, field_sum, in_groups, place_at, soft_at, soft_from, soft_symbols}
+use Rattle.dtx_recipes.specs.Soft.{count_from, field_sum, in_groups, place_at, soft_at, soft_from, soft_symbols}
 use Rattle.dtx_jobs.proofs.SoftLemmas.{none_counts}
-use Rattle.dtx_jobs.specs.SoftPlacesLaws.{place_first}
+use Rattle.dtx_recipes.proofs.SoftPlacesLemmas.{place_first}
 use Rattle.dtx_symbol_laws.specs.SoftFields.{place_behind}
 use Rattle.dtx_symbol_laws.proofs.SoftPlaces.{in_run}
 use Rattle.dtx_symbol_laws.proofs.SoftStream.{TakesPaths, count, field_at, field_own, length-field}

@@ -28,7 +28,7 @@ use Rattle.dtx_chain.proofs.PlacesLemmas.{data_at_place}
 use Rattle.dtx_soft.specs.Coders.{coder_symbols, data_symbol}
 use Rattle.dtx_soft.specs.Paths.{IsPath, symbol_at}
 use Rattle.dtx_soft.specs.Softened.{IsOwn}
-use Rattle.dtx_jobs.specs.Soft.{in_groups}
+use Rattle.dtx_recipes.specs.Soft.{in_groups}
 
 -- ---- one coder
 

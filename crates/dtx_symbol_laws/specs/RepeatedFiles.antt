@@ -10,9 +10,9 @@ use Rattle.dtx_meaning.specs.declared.status.Status.TheVariants.{Done, TooLong}
 use Rattle.dtx_receiver.specs.Runs.{runs}
 use Rattle.dtx_repeat.specs.Lives.{lives, lives_so_far, repeated, repeated_log}
 use Rattle.dtx_sizes.specs.declared.limits.TheConstants.{MOST_SEGMENTS}
-use Rattle.dtx_jobs.specs.Lives.{lives_tally}
-use Rattle.dtx_jobs.specs.Repeat.{repeated_numbers, sent_in}
-use Rattle.dtx_jobs.specs.SymbolFile.{file_segments, whole_segments}
+use Rattle.dtx_recipes.specs.Lives.{lives_tally}
+use Rattle.dtx_recipes.specs.Repeat.{repeated_numbers, sent_in}
+use Rattle.dtx_recipes.specs.SymbolFile.{file_segments, whole_segments}
 
 -- what is written for segments: one byte for each symbol that is sent, and the lines of the log
 abbrev pub repeated_outputs : ℕ → ℕ → List (List ℤ) → Made

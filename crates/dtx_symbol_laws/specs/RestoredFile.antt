@@ -11,10 +11,10 @@ use Rattle.dtx_meaning.specs.Status.{ended}
 use Rattle.dtx_meaning.specs.declared.status.Outcome.{Outcome}
 use Rattle.dtx_meaning.specs.declared.status.Status.TheVariants.{Done, TooLong}
 use Rattle.dtx_sizes.specs.declared.limits.TheConstants.{MOST_SYMBOLS}
-use Rattle.dtx_jobs.specs.Acquire.{acquired_numbers}
-use Rattle.dtx_jobs.specs.Refine.{before_last, refined_numbers}
-use Rattle.dtx_jobs.specs.Restoring.{Restoring}
-use Rattle.dtx_jobs.specs.SymbolFile.{symbols}
+use Rattle.dtx_recipes.specs.Acquire.{acquired_numbers}
+use Rattle.dtx_recipes.specs.Refine.{before_last, refined_numbers}
+use Rattle.dtx_recipes.specs.Restoring.{Restoring}
+use Rattle.dtx_recipes.specs.SymbolFile.{symbols}
 
 -- ---- both
 

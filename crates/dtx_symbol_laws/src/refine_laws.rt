@@ -17,9 +17,9 @@ ghost use Rattle.dtx_meaning.specs.declared.status.Status.TheVariants.{NoSync};
 ghost use Rattle.dtx_engine.specs.Recipe.{meaning_of_file};
 ghost use Rattle.dtx_files.specs.Symbols.{segment_bytes};
 ghost use Rattle.dtx_forms.specs.Shapes as shapes;
-ghost use Rattle.dtx_jobs.specs.Giving.{no_sync_in};
-ghost use Rattle.dtx_jobs.specs.Refine.{refine_answer, refining, with_refiner};
-ghost use Rattle.dtx_jobs.specs.SymbolFile.{file_segments};
+ghost use Rattle.dtx_recipes.specs.Giving.{no_sync_in};
+ghost use Rattle.dtx_recipes.specs.Refine.{refine_answer, refining, with_refiner};
+ghost use Rattle.dtx_recipes.specs.SymbolFile.{file_segments};
 ghost use Rattle.dtx_symbol_laws.specs.RefinedPackets.{StayGood, received_as};
 ghost use Rattle.dtx_symbol_laws.specs.RestoredFile.{file_refined, refined_of, restored_until};
 

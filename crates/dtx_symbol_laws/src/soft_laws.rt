@@ -12,9 +12,10 @@ ghost use Rattle.dtx_soft.specs.Softened.{softened, softened_cost};
 ghost use Rattle.dtx_engine.specs.Recipe.{meaning_of_file};
 ghost use Rattle.dtx_files.specs.Symbols.{segment_bytes};
 ghost use Rattle.dtx_forms.specs.Shapes as shapes;
-ghost use Rattle.dtx_jobs.specs.Soft.{field_sum, in_groups, place_at, soft_rest, soft_so_far, soft_symbols, softening};
-ghost use Rattle.dtx_jobs.specs.SymbolFile.{file_segments, whole_segments};
-ghost use Rattle.dtx_jobs.specs.Symbols.{symbol_bytes};
+ghost use Rattle.dtx_recipes.specs.Soft.{field_sum, in_groups, place_at, soft_rest, soft_so_far, soft_symbols};
+ghost use Rattle.dtx_recipes.specs.Soft.{softening};
+ghost use Rattle.dtx_recipes.specs.SymbolFile.{file_segments, whole_segments};
+ghost use Rattle.dtx_recipes.specs.Symbols.{symbol_bytes};
 ghost use Rattle.dtx_symbol_laws.specs.SoftFields.{copied_of, fields_of, kept_of, place_behind};
 ghost use Rattle.dtx_symbol_laws.specs.SoftFields.{softened_of, softened_until};
 

@@ -10,10 +10,10 @@ ghost use Rattle.dtx_meaning.specs.Status.{ended};
 ghost use Rattle.dtx_engine.specs.Recipe.{meaning_of_file};
 ghost use Rattle.dtx_forms.specs.Shapes as shapes;
 ghost use Rattle.dtx_forms.specs.Damaged.{damaged_making};
-ghost use Rattle.dtx_jobs.specs.Giving.{given_until};
-ghost use Rattle.dtx_jobs.specs.Receive.{IsWritten, receive_answer, received_bytes, receiving, with_corrections};
-ghost use Rattle.dtx_jobs.specs.Receive.{received_of};
-ghost use Rattle.dtx_jobs.specs.SymbolFile.{file_segments, whole_segments};
+ghost use Rattle.dtx_recipes.specs.Giving.{given_until};
+ghost use Rattle.dtx_recipes.specs.Receive.{IsWritten, receive_answer, received_bytes, receiving, with_corrections};
+ghost use Rattle.dtx_recipes.specs.Receive.{received_of};
+ghost use Rattle.dtx_recipes.specs.SymbolFile.{file_segments, whole_segments};
 
 use dtx_meaning::Status;
 use dtx_sizes::MOST_SEGMENTS;

@@ -9,7 +9,7 @@ use Rattle.dtx_engine.specs.Recipe.{Course, Recipe, course_from, first_refused, 
 use Rattle.dtx_engine.specs.Recipe.{meaning_of_file, whole_units}
 use Rattle.dtx_engine.specs.declared.engine.Shape.{Shape}
 use Rattle.dtx_engine.specs.declared.piece.Ending.TheVariants.{Whole, Refused}
-use Rattle.dtx_packet_jobs.specs.Feed.{feed_bytes}
+use Rattle.dtx_recipes.specs.Feed.{feed_bytes}
 use Rattle.dtx_forms.proofs.FilePacketsLemmas.{length-packets_of, long-packets_of}
 use Rattle.dtx_forms.specs.Shapes.{packets}
 use Rattle.dtx_meaning.proofs.MeaningLemmas.{carried_before, carried_then, part_of_carried}

@@ -7,8 +7,8 @@ use Rattle.std.proofs.lemmas.Bool.{cond-false}
 use Rattle.dtx_engine.specs.Recipe.{Recipe, meaning}
 use Rattle.dtx_engine.specs.declared.engine.Shape.{Shape}
 use Rattle.dtx_forms.specs.Damaged.{damaged_making}
-use Rattle.dtx_packet_jobs.specs.PastEnd.{first_past}
-use Rattle.dtx_jobs.specs.Receive.{receiving}
+use Rattle.dtx_recipes.specs.PastEnd.{first_past}
+use Rattle.dtx_recipes.specs.Receive.{receiving}
 use Rattle.dtx_forms.specs.Shapes.{segments}
 use Rattle.dtx_meaning.proofs.MeaningLemmas.{carried_refused}
 use Rattle.dtx_meaning.specs.Meaning.{Meaning, IsCarriedOut}

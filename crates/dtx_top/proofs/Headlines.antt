@@ -38,12 +38,12 @@ use Rattle.dtx_words.specs.NetworkNames.{feed_name, received_name}
 use Rattle.dtx_forms.specs.PlanFile.{under_plan, under_said}
 use Rattle.dtx_forms.specs.Shapes.{packets, segments}
 use Rattle.dtx_forms.specs.Damaged.{damaged_making}
-use Rattle.dtx_packet_jobs.specs.Feed.{feed_bytes}
+use Rattle.dtx_recipes.specs.Feed.{feed_bytes}
 use Rattle.dtx_packet_jobs.proofs.PacketFileLemmas.{packets_of-bytes}
-use Rattle.dtx_packet_jobs.specs.PastEnd.{first_past}
-use Rattle.dtx_jobs.specs.Receive.{received_bytes, receiving}
+use Rattle.dtx_recipes.specs.PastEnd.{first_past}
+use Rattle.dtx_recipes.specs.Receive.{received_bytes, receiving}
 use Rattle.dtx_jobs.proofs.ReceiveLemmas.{receives_all}
-use Rattle.dtx_jobs.specs.SymbolFile as symbols
+use Rattle.dtx_recipes.specs.SymbolFile as symbols
 use Rattle.dtx_schedule.specs.Inside.{first_past_feed}
 use Rattle.dtx_schedule.proofs.FilesLemmas.{AreApart, apart_of, files_with, with_outputs-told}
 use Rattle.dtx_schedule.specs.TransmitterFiles.{played_outputs, symbol_file}

@@ -16,9 +16,9 @@ use Rattle.dtx_forms.specs.Answers.{Knows}
 use Rattle.dtx_forms.proofs.OfWordsLemmas.{refusal_of_input}
 use Rattle.dtx_forms.specs.PlanFile.{IsPlanRefusal}
 use Rattle.dtx_forms.specs.Damaged.{damaged_making}
-use Rattle.dtx_packet_jobs.specs.PastEnd.{ends_past, first_past}
-use Rattle.dtx_jobs.specs.AnswersLaws.{receive_knows}
-use Rattle.dtx_jobs.specs.Receive.{receiving}
+use Rattle.dtx_recipes.specs.PastEnd.{ends_past, first_past}
+use Rattle.dtx_recipes.proofs.AnswersLemmas.{receive_knows}
+use Rattle.dtx_recipes.specs.Receive.{receiving}
 use Rattle.dtx_schedule.specs.PlayedSoFar.{IsOfFeed}
 use Rattle.dtx_top.specs.NetAnswers.{IsOfNetwork, IsOfReplay}
 use Rattle.dtx_top.specs.NetMeaning.{adapting}

@@ -4,7 +4,7 @@ use Rattle.std.specs.Prelude.{Option, Some, None, IfSome}
 use Rattle.std.specs.FinMap.{get}
 use Rattle.std.specs.List.{Contains}
 use Rattle.std.proofs.lemmas.List.Elements.{Contains-append_left, Contains-append_right}
-use Rattle.dtx_packet_jobs.specs.Feed.{feed_bytes}
+use Rattle.dtx_recipes.specs.Feed.{feed_bytes}
 use Rattle.dtx_meaning.specs.Meaning.{Outputs, IsNoOutput}
 use Rattle.dtx_net.specs.Steps.{Step}
 use Rattle.dtx_network.specs.Network.{steps_under}

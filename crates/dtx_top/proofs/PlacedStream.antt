@@ -11,7 +11,7 @@ use Rattle.dtx_galois.specs.Field.{AreBytes}
 use Rattle.dtx_laws.proofs.PartsLemmas.{byte_at}
 use Rattle.dtx_network.specs.Plans.{IsStream}
 use Rattle.dtx_packets.specs.Packet.{pid_of}
-use Rattle.dtx_packet_jobs.specs.Place.{behind, placed}
+use Rattle.dtx_recipes.specs.Place.{behind, placed}
 
 -- where there are as many packets as before, each as long as it was, and no byte grows
 pub placed_stream : (stream : List (List ℕ)) → length (placed stream) ≡ length stream

@@ -1,7 +1,7 @@
 -- The segments of a symbol file that was written of segments are those segments.
 use Rattle.std.proofs.Common.{◌≡◌, ℕ, List, length}
-use Rattle.dtx_jobs.specs.SymbolFile as file
-use Rattle.dtx_jobs.specs.SymbolFile.{whole_segments}
+use Rattle.dtx_recipes.specs.SymbolFile as file
+use Rattle.dtx_recipes.specs.SymbolFile.{whole_segments}
 use Rattle.dtx_jobs.proofs.SymbolsBackLemmas.{segments_read_back, whole_segments_back}
 use Rattle.dtx_net.specs.Sent as sent
 use Rattle.dtx_net.specs.Steps.{Step}

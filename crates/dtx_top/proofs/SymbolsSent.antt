@@ -6,7 +6,7 @@ use Rattle.std.specs.List.{All, position_or_len}
 use Rattle.std.specs.Option.{option_map_or}
 use Rattle.std.proofs.lemmas.Bool.{cases_lt, false≢true, le-ltb}
 use Rattle.std.proofs.lemmas.List.Elements.{All-head, All-tail}
-use Rattle.dtx_packet_jobs.specs.PastEnd.{ends_past, first_past}
+use Rattle.dtx_recipes.specs.PastEnd.{ends_past, first_past}
 use Rattle.dtx_net.specs.Sent.{sent_segments}
 use Rattle.dtx_net.specs.Steps.{Step, transmitter_place}
 use Rattle.dtx_net.proofs.PlaceOfLemmas.{place_found, place_missing}

@@ -2,7 +2,7 @@
 use Rattle.std.proofs.Common.{◌≡◌, ℕ, ◌≤◌, List, [], length, refl, sym, ap, subst, ◌∙◌, arith}
 use Rattle.std.specs.Prelude.{Option, Some}
 use Rattle.std.proofs.lemmas.Bool.{cond-true}
-use Rattle.dtx_packet_jobs.specs.PastEnd.{first_past}
+use Rattle.dtx_recipes.specs.PastEnd.{first_past}
 use Rattle.dtx_make.specs.Made.{made_stream}
 use Rattle.dtx_meaning.specs.Meaning.{Meaning}
 use Rattle.dtx_meaning.specs.declared.status.Outcome.{Outcome}

@@ -46,10 +46,10 @@ use Rattle.dtx_meaning.specs.Status.{ended}
 use Rattle.dtx_meaning.specs.declared.status.Outcome.{Outcome}
 use Rattle.dtx_meaning.specs.declared.status.Status.TheVariants.{Done, NoSync}
 use Rattle.dtx_words.specs.NetworkNames.{received_name}
-use Rattle.dtx_packet_jobs.specs.PastEnd.{first_past}
-use Rattle.dtx_jobs.specs.Receive.{receive_answer}
+use Rattle.dtx_recipes.specs.PastEnd.{first_past}
+use Rattle.dtx_recipes.specs.Receive.{receive_answer}
 use Rattle.dtx_jobs.proofs.ReceivedLemmas.{all_damaged_received}
-use Rattle.dtx_jobs.specs.SymbolFile.{file_segments, whole_segments}
+use Rattle.dtx_recipes.specs.SymbolFile.{file_segments, whole_segments}
 use Rattle.dtx_schedule.specs.TransmitterFiles.{symbol_file}
 use Rattle.dtx_top.specs.NetMeaning.{received_past}
 use Rattle.dtx_top.specs.Networks.{sent_file}

@@ -10,7 +10,7 @@ use Rattle.std.proofs.lemmas.Int.{fits_signed_from_abs}
 use Rattle.std.proofs.lemmas.List.Elements.{All-cons, All-nil}
 use Rattle.std.proofs.lemmas.Option.{same_Some}
 use Rattle.dtx_forms.specs.Answers.{Knows}
-use Rattle.dtx_packet_jobs.specs.Make.{made_file}
+use Rattle.dtx_recipes.specs.Make.{made_file}
 use Rattle.dtx_make.specs.Made.{made_stream}
 use Rattle.dtx_meaning.proofs.MeaningLemmas.{carried_before, carried_then, part_of_carried, part_of_none}
 use Rattle.dtx_meaning.proofs.MeaningLemmas.{whole_of_carried}

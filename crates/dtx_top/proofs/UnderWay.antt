@@ -3,7 +3,7 @@ use Rattle.std.proofs.Common.{◌≡◌, ◌≢◌, ℕ, ◌*◌, ◌+◌, List,
 use Rattle.std.specs.Prelude.{Option, Some, None, IsSomeAnd}
 use Rattle.std.specs.FinMap.{get}
 use Rattle.std.proofs.lemmas.Option.{same_Some}
-use Rattle.dtx_packet_jobs.specs.PastEnd.{first_past}
+use Rattle.dtx_recipes.specs.PastEnd.{first_past}
 use Rattle.dtx_meaning.specs.Meaning.{IsNoOutput, Outputs}
 use Rattle.dtx_meaning.specs.declared.status.Status.{Status}
 use Rattle.dtx_net.specs.Steps.{Step}

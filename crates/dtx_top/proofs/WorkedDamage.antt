@@ -14,7 +14,7 @@ use Rattle.dtx_chain.proofs.NoDamageLemmas.{part_received, slight_before}
 use Rattle.dtx_chain.specs.Undamaged.{ArePackets}
 use Rattle.dtx_exciter.specs.Lockstep.{segment_place}
 use Rattle.dtx_frame.proofs.CountsLemmas.{sum_is, total, total_zeros}
-use Rattle.dtx_jobs.specs.SymbolFile.{segment_at, file_segments, symbol_of_byte, symbols}
+use Rattle.dtx_recipes.specs.SymbolFile.{segment_at, file_segments, symbol_of_byte, symbols}
 use Rattle.dtx_make.proofs.EntriesLemmas.{covers_before, covers_within}
 use Rattle.dtx_make.specs.Hurt.{covers, entry_at, hurt}
 use Rattle.dtx_make.proofs.LaidBytesLemmas.{laid_stays}

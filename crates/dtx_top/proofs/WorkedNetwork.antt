@@ -36,7 +36,7 @@ use Rattle.dtx_network.specs.Orders.{has_listing, has_order}
 use Rattle.dtx_network.specs.Plans.{IsInTime, IsListed, IsPlan, IsStream}
 use Rattle.dtx_network.specs.Presets.{orders}
 use Rattle.dtx_words.specs.NetworkNames.{received_name}
-use Rattle.dtx_jobs.specs.SymbolFile as file
+use Rattle.dtx_recipes.specs.SymbolFile as file
 use Rattle.dtx_schedule.specs.TransmitterFiles.{symbol_file}
 use Rattle.dtx_top.specs.HeadlineOfFiles.{HeadlineOfFiles}
 use Rattle.dtx_top.specs.Networks.{damaged_file, sent_file}

@@ -14,7 +14,7 @@ use Rattle.dtx_net.specs.Sent as sent
 use Rattle.dtx_network.specs.GivesBack.{GivesBack, GivesAllBack}
 use Rattle.dtx_network.specs.Network.{steps_under, Headline, Joined}
 use Rattle.dtx_words.specs.NetworkNames.{received_name}
-use Rattle.dtx_jobs.specs.SymbolFile.{file_segments}
+use Rattle.dtx_recipes.specs.SymbolFile.{file_segments}
 use Rattle.dtx_schedule.specs.TransmitterFiles.{symbol_file}
 use Rattle.dtx_top.specs.Networks.{damaged_file, AreWholeFiles, OfNetwork}
 

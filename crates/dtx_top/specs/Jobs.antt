@@ -5,22 +5,22 @@ use Rattle.dtx_words.specs.declared.rows.Command.TheVariants.{Adapt, Code, Excit
 use Rattle.dtx_words.specs.declared.rows.Command.TheVariants.{Trial, Soft, Mend, DvbCode, DvbRead, Repeat}
 use Rattle.dtx_words.specs.declared.rows.Command.TheVariants.{Acquire, Watch, Level, Refine}
 use Rattle.dtx_forms.specs.Job.{Job}
-use Rattle.dtx_packet_jobs.specs.Adapt.{adapt_job}
-use Rattle.dtx_packet_jobs.specs.DvbCode.{dvb_code_job}
-use Rattle.dtx_packet_jobs.specs.DvbRead.{dvb_read_job}
-use Rattle.dtx_packet_jobs.specs.Hurt.{hurt_job}
-use Rattle.dtx_packet_jobs.specs.Make.{make_job}
-use Rattle.dtx_packet_jobs.specs.Place.{place_job}
-use Rattle.dtx_jobs.specs.Acquire.{acquire_job}
-use Rattle.dtx_jobs.specs.Code.{code_job}
-use Rattle.dtx_jobs.specs.Excite.{excite_job}
-use Rattle.dtx_jobs.specs.Level.{level_job}
-use Rattle.dtx_jobs.specs.Mend.{mend_job}
-use Rattle.dtx_jobs.specs.Receive.{receive_job}
-use Rattle.dtx_jobs.specs.Refine.{refine_job}
-use Rattle.dtx_jobs.specs.Repeat.{repeat_job}
-use Rattle.dtx_jobs.specs.Soft.{soft_job}
-use Rattle.dtx_jobs.specs.Watch.{watch_job}
+use Rattle.dtx_recipes.specs.Adapt.{adapt_job}
+use Rattle.dtx_recipes.specs.DvbCode.{dvb_code_job}
+use Rattle.dtx_recipes.specs.DvbRead.{dvb_read_job}
+use Rattle.dtx_recipes.specs.Hurt.{hurt_job}
+use Rattle.dtx_recipes.specs.Make.{make_job}
+use Rattle.dtx_recipes.specs.Place.{place_job}
+use Rattle.dtx_recipes.specs.Acquire.{acquire_job}
+use Rattle.dtx_recipes.specs.Code.{code_job}
+use Rattle.dtx_recipes.specs.Excite.{excite_job}
+use Rattle.dtx_recipes.specs.Level.{level_job}
+use Rattle.dtx_recipes.specs.Mend.{mend_job}
+use Rattle.dtx_recipes.specs.Receive.{receive_job}
+use Rattle.dtx_recipes.specs.Refine.{refine_job}
+use Rattle.dtx_recipes.specs.Repeat.{repeat_job}
+use Rattle.dtx_recipes.specs.Soft.{soft_job}
+use Rattle.dtx_recipes.specs.Watch.{watch_job}
 use Rattle.dtx_top.specs.Trial.{trial_job}
 
 -- The job of a command. `net` has none, since its plan and not its words says which files it reads and writes.

@@ -21,10 +21,10 @@ use Rattle.dtx_words.specs.Names.{repeated}
 use Rattle.dtx_words.specs.NetworkNames.{feed_name, received_name}
 use Rattle.dtx_forms.specs.PlanFile.{under_plan}
 use Rattle.dtx_forms.specs.Shapes.{packets, segments}
-use Rattle.dtx_packet_jobs.specs.Adapt.{feeding}
+use Rattle.dtx_recipes.specs.Adapt.{feeding}
 use Rattle.dtx_forms.specs.Damaged.{damaged_making}
-use Rattle.dtx_packet_jobs.specs.PastEnd.{first_past}
-use Rattle.dtx_jobs.specs.Receive.{receiving}
+use Rattle.dtx_recipes.specs.PastEnd.{first_past}
+use Rattle.dtx_recipes.specs.Receive.{receiving}
 use Rattle.dtx_schedule.specs.Inside.{first_past_feed}
 use Rattle.dtx_schedule.specs.Playout.{packets_given}
 use Rattle.dtx_schedule.specs.TransmitterFiles.{played_outputs}

@@ -4,8 +4,8 @@ use Rattle.std.specs.FinMap.{get}
 use Rattle.std.specs.List.{Contains}
 use Rattle.std.specs.Option.{option_map_or}
 use Rattle.std.specs.Result.{IsOkAnd}
-use Rattle.dtx_packet_jobs.specs.Feed.{feed_bytes}
-use Rattle.dtx_jobs.specs.Receive.{received_bytes}
+use Rattle.dtx_recipes.specs.Feed.{feed_bytes}
+use Rattle.dtx_recipes.specs.Receive.{received_bytes}
 use Rattle.dtx_make.specs.Hurt.{hurt}
 use Rattle.dtx_net.specs.Steps.{transmitter_place}
 use Rattle.dtx_network.specs.Network.{steps_under}

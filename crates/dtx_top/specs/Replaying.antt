@@ -2,7 +2,7 @@
 use Rattle.std.specs.Prelude.{◌≡◌, ℕ, Some, List, All, length, slice_index}
 use Rattle.std.specs.FinMap.{get}
 use Rattle.dtx_adapter.specs.Feed.{placeholders}
-use Rattle.dtx_packet_jobs.specs.Feed.{feed_bytes}
+use Rattle.dtx_recipes.specs.Feed.{feed_bytes}
 use Rattle.dtx_meaning.specs.declared.status.Outcome.{Outcome}
 use Rattle.dtx_outside.specs.Shelf.{Files}
 use Rattle.dtx_plan.specs.declared.plan.Plan.{Plan}

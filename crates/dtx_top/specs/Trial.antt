@@ -2,7 +2,7 @@
 use Rattle.std.specs.Prelude.{◌≡◌, ◌⊎◌, ℕ, ◌-◌, ◌^◌, ◌≤◌, ℤ, pos, negsuc, Option, Some, None, IsSomeAnd}
 use Rattle.std.specs.Prelude.{List, [], ◌∷◌}
 use Rattle.std.specs.FinMap.{get}
-use Rattle.dtx_packet_jobs.specs.Make.{made_file}
+use Rattle.dtx_recipes.specs.Make.{made_file}
 use Rattle.dtx_forms.specs.Job.{Job}
 use Rattle.dtx_make.specs.Made.{made_stream}
 use Rattle.dtx_meaning.specs.Meaning.{ArePartWritten, Meaning, and_then, refused}

@@ -8,7 +8,7 @@ use Rattle.std.specs.Result.{IsOkAnd}
 use Rattle.dtx_adapter.specs.Feed.{feed}
 use Rattle.dtx_chain.specs.Damage.{numbers_in}
 use Rattle.dtx_chain.specs.Undamaged.{as_received}
-use Rattle.dtx_jobs.specs.SymbolFile.{file_segments}
+use Rattle.dtx_recipes.specs.SymbolFile.{file_segments}
 use Rattle.dtx_make.specs.Made.{made_packet}
 use Rattle.dtx_net.specs.Sent.{lines_of}
 use Rattle.dtx_network.specs.GivesBack.{BeginsField, IsReceivedAlone, IsAllBack, next_field, to_field}

@@ -3,8 +3,8 @@ ghost use Rattle.std.specs.Prelude.{◌≡◌, [], ◌∷◌, ℕ, List, Some, I
 ghost use Rattle.std.specs.FinMap as files;
 ghost use Rattle.dtx_engine.specs.Recipe.{meaning};
 ghost use Rattle.dtx_forms.specs.Damaged.{damaged_making};
-ghost use Rattle.dtx_packet_jobs.specs.PastEnd as past;
-ghost use Rattle.dtx_jobs.specs.Receive.{receiving};
+ghost use Rattle.dtx_recipes.specs.PastEnd as past;
+ghost use Rattle.dtx_recipes.specs.Receive.{receiving};
 ghost use Rattle.dtx_forms.specs.Shapes as shapes;
 ghost use Rattle.dtx_meaning.specs.Meaning.{IsCarriedOut};
 ghost use Rattle.dtx_meaning.specs.Status.{blame_of};

@@ -18,8 +18,8 @@ use Rattle.dtx_exciter.specs.Emission.{emission}
 use Rattle.dtx_exciter.specs.Log.{emission_over, life_lines, log}
 use Rattle.dtx_files.specs.LogText.{log_text}
 use Rattle.dtx_files.specs.Symbols.{segment_bytes}
-use Rattle.dtx_jobs.specs.Receive.{received_bytes}
-use Rattle.dtx_jobs.specs.SymbolFile.{file_segments}
+use Rattle.dtx_recipes.specs.Receive.{received_bytes}
+use Rattle.dtx_recipes.specs.SymbolFile.{file_segments}
 use Rattle.dtx_make.proofs.EntriesLemmas.{entry_at_nothing}
 use Rattle.dtx_make.specs.Hurt.{hurt}
 use Rattle.dtx_make.proofs.LaidBytesLemmas.{laid_none}

@@ -5,9 +5,9 @@ ghost use Rattle.dtx_dvb.specs.Damage.{ArePackets};
 ghost use Rattle.dtx_dvb.specs.Stream.{dvb};
 ghost use Rattle.dtx_engine.specs.Recipe.{meaning_of_file};
 ghost use Rattle.dtx_packets.specs.Packets.{packets_of, whole_packets};
-ghost use Rattle.dtx_packet_jobs.specs.DvbBack.{back_of};
-ghost use Rattle.dtx_packet_jobs.specs.DvbRead.{dvb_reading};
-ghost use Rattle.dtx_packet_jobs.specs.DvbShapes as shapes;
+ghost use Rattle.dtx_recipes.specs.DvbBack.{back_of};
+ghost use Rattle.dtx_recipes.specs.DvbRead.{dvb_reading};
+ghost use Rattle.dtx_recipes.specs.DvbShapes as shapes;
 ghost use Rattle.dtx_file_laws.specs.Damaged.{IsBurst};
 
 use dtx_dvb::laws::{burst, sending};

@@ -9,7 +9,7 @@ ghost use Rattle.dtx_exciter.specs.Log.{Line};
 ghost use Rattle.dtx_files.specs.LogText.{log_text};
 ghost use Rattle.dtx_files.specs.Symbols.{segment_bytes};
 ghost use Rattle.dtx_forms.specs.Shapes as shapes;
-ghost use Rattle.dtx_jobs.specs.Excite.{exciting};
+ghost use Rattle.dtx_recipes.specs.Excite.{exciting};
 ghost use Rattle.dtx_network.specs.Headline.{HasNoListing, IsFedAnew, IsFirstListing, stretch_of};
 ghost use Rattle.dtx_network.specs.Presets.{presets};
 ghost use Rattle.dtx_packets.specs.Packets.{packets_of, whole_packets};

@@ -7,8 +7,8 @@ ghost use Rattle.dtx_watch.specs.Sound.{IsSoundFeed};
 ghost use Rattle.dtx_watch.specs.WatchText.{watch_text};
 ghost use Rattle.dtx_watch.specs.declared.notes.Note.{Note};
 ghost use Rattle.dtx_forms.specs.Shapes as shapes;
-ghost use Rattle.dtx_jobs.specs.Watch.{watch_tally, watching};
-ghost use Rattle.dtx_jobs.specs.WatchedFeed.{IsWatchedCalmly, tally_of_text, watched_of};
+ghost use Rattle.dtx_recipes.specs.Watch.{watch_tally, watching};
+ghost use Rattle.dtx_recipes.specs.WatchedFeed.{IsWatchedCalmly, tally_of_text, watched_of};
 
 use dtx_sizes::MOST_PACKETS;
 

@@ -5,12 +5,12 @@ ghost use Rattle.dtx_dvb.specs.Damage.{ArePackets, IsSlight};
 ghost use Rattle.dtx_dvb.specs.Stream.{dvb};
 ghost use Rattle.dtx_engine.specs.Recipe.{meaning_of_file};
 ghost use Rattle.dtx_packets.specs.Packets.{packet_at, packets_of, whole_packets};
-ghost use Rattle.dtx_packet_jobs.specs.DvbBack.{HaveSyncs, back_of, read_of, read_until, sent_of, sent_until};
-ghost use Rattle.dtx_packet_jobs.specs.DvbBack.{wrong_in_all};
-ghost use Rattle.dtx_packet_jobs.specs.DvbCode.{dvb_coding};
-ghost use Rattle.dtx_packet_jobs.specs.DvbRead.{dvb_reading, whole_blocks};
-ghost use Rattle.dtx_packet_jobs.specs.Place.{has_sync};
-ghost use Rattle.dtx_packet_jobs.specs.DvbShapes as shapes;
+ghost use Rattle.dtx_recipes.specs.DvbBack.{HaveSyncs, back_of, read_of, read_until, sent_of, sent_until};
+ghost use Rattle.dtx_recipes.specs.DvbBack.{wrong_in_all};
+ghost use Rattle.dtx_recipes.specs.DvbCode.{dvb_coding};
+ghost use Rattle.dtx_recipes.specs.DvbRead.{dvb_reading, whole_blocks};
+ghost use Rattle.dtx_recipes.specs.Place.{has_sync};
+ghost use Rattle.dtx_recipes.specs.DvbShapes as shapes;
 
 use dtx_meaning::Status;
 use dtx_sizes::MOST_PACKETS;

@@ -13,12 +13,12 @@ ghost use Rattle.dtx_chain.specs.Damage.{AreReceived, to_sync};
 ghost use Rattle.dtx_chain.specs.Undamaged.{ArePackets};
 ghost use Rattle.dtx_engine.specs.Recipe.{meaning_of_file};
 ghost use Rattle.dtx_forms.specs.Shapes as shapes;
-ghost use Rattle.dtx_jobs.specs.Giving.{bytes_of, no_sync_in};
-ghost use Rattle.dtx_jobs.specs.Mend.{mend_job, mending_symbols};
-ghost use Rattle.dtx_jobs.specs.MendedBack.{CanAllBeMended, CanBeMended, IsMendedBack, NoneMissing, all_back_of};
-ghost use Rattle.dtx_jobs.specs.MendedBack.{mended_bytes, mended_of, mended_until, packets_before, word_of};
-ghost use Rattle.dtx_jobs.specs.Receive.{receive_job, received_bytes, receiving};
-ghost use Rattle.dtx_jobs.specs.SymbolFile.{file_segments, whole_segments};
+ghost use Rattle.dtx_recipes.specs.Giving.{bytes_of, no_sync_in};
+ghost use Rattle.dtx_recipes.specs.Mend.{mend_job, mending_symbols};
+ghost use Rattle.dtx_recipes.specs.MendedBack.{CanAllBeMended, CanBeMended, IsMendedBack, NoneMissing, all_back_of};
+ghost use Rattle.dtx_recipes.specs.MendedBack.{mended_bytes, mended_of, mended_until, packets_before, word_of};
+ghost use Rattle.dtx_recipes.specs.Receive.{receive_job, received_bytes, receiving};
+ghost use Rattle.dtx_recipes.specs.SymbolFile.{file_segments, whole_segments};
 
 use dtx_meaning::Status;
 use dtx_sizes::{FIELD_PACKETS, MOST_SEGMENTS};

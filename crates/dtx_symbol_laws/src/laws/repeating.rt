@@ -6,9 +6,9 @@ ghost use Rattle.dtx_receiver.specs.Intervals.{NoneLooks};
 ghost use Rattle.dtx_engine.specs.Made.{AreFrontsOf};
 ghost use Rattle.dtx_engine.specs.Recipe.{meaning_of_file};
 ghost use Rattle.dtx_forms.specs.Shapes as shapes;
-ghost use Rattle.dtx_jobs.specs.Giving.{no_sync_in};
-ghost use Rattle.dtx_jobs.specs.Repeat.{repeating};
-ghost use Rattle.dtx_jobs.specs.SymbolFile.{file_segments, whole_segments};
+ghost use Rattle.dtx_recipes.specs.Giving.{no_sync_in};
+ghost use Rattle.dtx_recipes.specs.Repeat.{repeating};
+ghost use Rattle.dtx_recipes.specs.SymbolFile.{file_segments, whole_segments};
 ghost use Rattle.dtx_symbol_laws.specs.RepeatedFiles.{outputs_so_far, repeated_of, repeated_outputs, repeated_until};
 
 use dtx_sizes::MOST_SEGMENTS;

@@ -4,7 +4,7 @@ use Rattle.std.proofs.Math.Seq.{take-add}
 use Rattle.std.proofs.lemmas.List.{append-nil, take_all}
 use Rattle.dtx_files.proofs.AppendedLemmas.{segment_bytes-append}
 use Rattle.dtx_files.specs.Symbols.{segment_bytes}
-use Rattle.dtx_jobs.specs.Restoring.{Restoring}
+use Rattle.dtx_recipes.specs.Restoring.{Restoring}
 use Rattle.dtx_jobs.proofs.acquisition.restore_all.Goals as goal
 
 -- the symbols that are left, as they are cut off

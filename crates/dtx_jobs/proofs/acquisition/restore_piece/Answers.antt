@@ -1,5 +1,5 @@
 use Rattle.std.proofs.Common.{ℤ, List, subst}
-use Rattle.dtx_jobs.specs.Restoring.{WereRestored}
+use Rattle.dtx_jobs.specs.Restorer.{WereRestored}
 use Rattle.dtx_jobs.proofs.acquisition.restore_piece.Goals as goal
 
 pub returns-clause-restored : goal.returns-clause-restored

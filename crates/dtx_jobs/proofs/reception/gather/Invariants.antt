@@ -1,5 +1,5 @@
 use Rattle.std.proofs.Common.{◌≡◌, ◌+◌, ◌*◌, ◌++◌, length, take}
-use Rattle.dtx_jobs.specs.Giving.{bytes_of}
+use Rattle.dtx_recipes.specs.Giving.{bytes_of}
 use Rattle.dtx_jobs.proofs.reception.gather.Given as goal
 
 abbrev pub invariant-loop-i : goal.invariant-loop-i

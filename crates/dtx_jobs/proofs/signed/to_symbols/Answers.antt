@@ -3,7 +3,7 @@ use Rattle.std.proofs.lemmas.Bool.{cases_lt}
 use Rattle.std.proofs.lemmas.Int.{ints}
 use Rattle.std.proofs.lemmas.List.{get_or-map, get_or_past, length-map}
 use Rattle.dtx_jobs.specs.Softening.{IsSigned}
-use Rattle.dtx_jobs.specs.SymbolFile.{symbol_of_byte}
+use Rattle.dtx_recipes.specs.SymbolFile.{symbol_of_byte}
 use Rattle.dtx_jobs.proofs.signed.to_symbols.Goals as goal
 
 symbol_small : (byte : ℕ) → byte < 256 → nat_abs (symbol_of_byte byte) ≤ 128

@@ -3,7 +3,7 @@ use Rattle.std.proofs.lemmas.List.{length-take}
 use Rattle.dtx_soft.specs.Coders.{IsSoftened}
 use Rattle.dtx_soft.proofs.CostLemmas.{costs_small}
 use Rattle.dtx_soft.proofs.SoftenedLemmas.{cost_is, softened_is}
-use Rattle.dtx_jobs.specs.Soft.{flushed, groups_in}
+use Rattle.dtx_recipes.specs.Soft.{flushed, groups_in}
 use Rattle.dtx_jobs.proofs.SoftRowsLemmas.{signed_take}
 use Rattle.dtx_jobs.proofs.softening.soften.Goals as goal
 

@@ -7,7 +7,7 @@ use Rattle.dtx_meaning.specs.declared.status.Status.TheVariants.{Memory}
 use Rattle.dtx_forms.specs.Shapes.{packets}
 use Rattle.dtx_forms.specs.Stages.{stages_of}
 use Rattle.dtx_forms.proofs.StagesLemmas.{ended_staged, loop_staged}
-use Rattle.dtx_packet_jobs.specs.Adapt.{feeding}
+use Rattle.dtx_recipes.specs.Adapt.{feeding}
 use Rattle.dtx_packet_jobs.proofs.AnswersLemmas.{adapt_knows}
 use Rattle.dtx_packet_jobs.proofs.adapt_command.adapt_under.Goals as goal
 

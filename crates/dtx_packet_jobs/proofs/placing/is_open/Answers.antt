@@ -1,6 +1,6 @@
 use Rattle.std.proofs.Common.{ℕ, Bool, ◌==◌, ◌||◌, ap₂}
 use Rattle.dtx_adapter.specs.Feed.{is_placeholder}
-use Rattle.dtx_packet_jobs.specs.Place.{is_open}
+use Rattle.dtx_recipes.specs.Place.{is_open}
 use Rattle.dtx_packet_jobs.proofs.placing.is_open.Goals as goal
 
 pub returns : goal.returns

@@ -2,7 +2,7 @@ use Rattle.std.specs.Prelude.{[], slice_range}
 use Rattle.dtx_adapter.specs.Feed.{feed}
 use Rattle.dtx_chain.specs.Damage.{packet_behind}
 use Rattle.dtx_gap_filler.specs.Heard.{heard_to}
-use Rattle.dtx_jobs.specs.SymbolFile.{file_segments}
+use Rattle.dtx_recipes.specs.SymbolFile.{file_segments}
 use Rattle.dtx_network.specs.Headline.{stretch_of}
 use Rattle.dtx_network.specs.Presets.{presets}
 use Rattle.dtx_repeated_feed.proofs.RepeatedFeed.{by_words, done_with, some_looks}

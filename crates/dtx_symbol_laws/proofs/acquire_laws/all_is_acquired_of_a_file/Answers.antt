@@ -1,8 +1,8 @@
 use Rattle.dtx_acquire.specs.Acquired.{acquired}
 use Rattle.dtx_acquire.proofs.AcquiredLemmas.{all_is_acquired}
-use Rattle.dtx_jobs.specs.Acquire.{with_acquirer}
-use Rattle.dtx_jobs.specs.AcquireLaws.{acquires}
-use Rattle.dtx_jobs.specs.SymbolFile.{symbols}
+use Rattle.dtx_recipes.specs.Acquire.{with_acquirer}
+use Rattle.dtx_recipes.proofs.AcquireLemmas.{acquires}
+use Rattle.dtx_recipes.specs.SymbolFile.{symbols}
 use Rattle.dtx_symbol_laws.specs.RestoredFile.{file_acquired}
 use Rattle.dtx_symbol_laws.proofs.AcquiredFile.{file_acquires}
 use Rattle.dtx_symbol_laws.proofs.RestoredFile.{first_restored, none_restored, some_restored, until_restored}

@@ -1,6 +1,6 @@
 use Rattle.std.proofs.Common.{length, refl}
 use Rattle.dtx_acquire.specs.Acquired.{acquired}
-use Rattle.dtx_jobs.specs.Acquire.{with_acquirer}
+use Rattle.dtx_recipes.specs.Acquire.{with_acquirer}
 use Rattle.dtx_symbol_laws.proofs.AcquiredFile.{symbols_acquired}
 use Rattle.dtx_symbol_laws.proofs.RestoredFile.{no_sync}
 use Rattle.dtx_symbol_laws.proofs.acquire_laws.no_sync_where_nothing_is_acquired.Goals as goal

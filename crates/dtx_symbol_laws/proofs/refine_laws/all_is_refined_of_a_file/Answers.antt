@@ -1,8 +1,8 @@
 use Rattle.dtx_rounds.specs.Rounds.{refined}
 use Rattle.dtx_rounds.proofs.SoFarLemmas.{all_is_refined}
-use Rattle.dtx_jobs.specs.Refine.{with_refiner}
-use Rattle.dtx_jobs.specs.RefineLaws.{refines}
-use Rattle.dtx_jobs.specs.SymbolFile.{symbols}
+use Rattle.dtx_recipes.specs.Refine.{with_refiner}
+use Rattle.dtx_recipes.proofs.RefineLemmas.{refines}
+use Rattle.dtx_recipes.specs.SymbolFile.{symbols}
 use Rattle.dtx_symbol_laws.specs.RestoredFile.{file_refined}
 use Rattle.dtx_symbol_laws.proofs.RefinedFile.{file_refines}
 use Rattle.dtx_symbol_laws.proofs.RestoredFile.{first_restored, none_restored, some_restored, until_restored}

@@ -1,6 +1,6 @@
 use Rattle.std.proofs.Common.{length, refl}
 use Rattle.dtx_rounds.specs.Rounds.{refined}
-use Rattle.dtx_jobs.specs.Refine.{with_refiner}
+use Rattle.dtx_recipes.specs.Refine.{with_refiner}
 use Rattle.dtx_symbol_laws.proofs.RefinedFile.{symbols_refined}
 use Rattle.dtx_symbol_laws.proofs.RestoredFile.{no_sync}
 use Rattle.dtx_symbol_laws.proofs.refine_laws.no_sync_where_nothing_is_refined.Goals as goal

@@ -1,7 +1,7 @@
 use Rattle.dtx_jobs.proofs.GivenLemmas.{no_run_in, no_sync_answered, nothing_given}
-use Rattle.dtx_jobs.specs.Receive.{with_corrections}
-use Rattle.dtx_jobs.specs.ReceiveLaws.{corrections_given}
-use Rattle.dtx_jobs.specs.SymbolFile.{file_segments}
+use Rattle.dtx_recipes.specs.Receive.{with_corrections}
+use Rattle.dtx_recipes.proofs.ReceiveLemmas.{corrections_given}
+use Rattle.dtx_recipes.specs.SymbolFile.{file_segments}
 use Rattle.dtx_symbol_laws.proofs.symbol_laws.nothing_without_a_sync.Goals as goal
 
 pub returns : goal.returns

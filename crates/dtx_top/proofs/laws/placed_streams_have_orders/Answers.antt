@@ -1,5 +1,5 @@
 use Rattle.std.proofs.Common.{◌∙◌}
-use Rattle.dtx_packet_jobs.specs.Place.{placed}
+use Rattle.dtx_recipes.specs.Place.{placed}
 use Rattle.dtx_top.proofs.PlacedStream.{late_in_field, placed_stream}
 use Rattle.dtx_top.proofs.laws.placed_streams_have_orders.Goals as goal
 

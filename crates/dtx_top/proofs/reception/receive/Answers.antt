@@ -1,7 +1,7 @@
 use Rattle.std.proofs.Common.{subst, ◌∙◌}
 use Rattle.dtx_engine.specs.Recipe.{IsAnswerOf, Recipe}
 use Rattle.dtx_forms.specs.Damaged.{damaged_making}
-use Rattle.dtx_jobs.specs.Receive.{receiving}
+use Rattle.dtx_recipes.specs.Receive.{receiving}
 use Rattle.dtx_forms.specs.Shapes.{segments}
 use Rattle.dtx_words.specs.NetworkNames.{received_name, symbol_name}
 use Rattle.dtx_top.proofs.Carrying.{carried_by}

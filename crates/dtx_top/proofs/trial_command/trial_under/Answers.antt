@@ -1,5 +1,5 @@
 use Rattle.std.proofs.Common.{ℕ, List, subst, arith}
-use Rattle.dtx_packet_jobs.specs.Make.{made_file}
+use Rattle.dtx_recipes.specs.Make.{made_file}
 use Rattle.dtx_meaning.specs.Meaning.{IsCarriedOut}
 use Rattle.dtx_top.proofs.Trials.{alone_carried, alone_come, make_of_trial, then_carried, then_come}
 use Rattle.dtx_top.proofs.trial_command.trial_under.Goals as goal

@@ -1,6 +1,6 @@
 use Rattle.std.proofs.Common.{refl}
-use Rattle.dtx_jobs.specs.Acquire.{with_acquirer}
-use Rattle.dtx_jobs.specs.SymbolFile.{symbols}
+use Rattle.dtx_recipes.specs.Acquire.{with_acquirer}
+use Rattle.dtx_recipes.specs.SymbolFile.{symbols}
 use Rattle.dtx_symbol_laws.specs.RestoredFile.{acquired_of, file_acquired}
 use Rattle.dtx_file_laws.proofs.Captured.{are_near, few_symbols, restored_as}
 use Rattle.dtx_file_laws.proofs.laws.acquiring.a_noisy_capture_is_acquired.Goals as goal

@@ -1,6 +1,6 @@
 use Rattle.std.proofs.Common.{refl}
-use Rattle.dtx_jobs.specs.Refine.{with_refiner}
-use Rattle.dtx_jobs.specs.SymbolFile.{symbols}
+use Rattle.dtx_recipes.specs.Refine.{with_refiner}
+use Rattle.dtx_recipes.specs.SymbolFile.{symbols}
 use Rattle.dtx_symbol_laws.specs.RestoredFile.{file_refined, refined_of}
 use Rattle.dtx_file_laws.proofs.Captured.{are_near, few_symbols, restored_as}
 use Rattle.dtx_file_laws.proofs.laws.acquiring.a_noisy_capture_is_refined.Goals as goal

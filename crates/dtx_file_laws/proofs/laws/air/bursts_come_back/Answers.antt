@@ -1,7 +1,7 @@
 use Rattle.std.proofs.Common.{◌∙◌}
 use Rattle.dtx_coder.specs.Stream.{a53}
-use Rattle.dtx_jobs.specs.MendedBack.{put_right}
-use Rattle.dtx_jobs.specs.SymbolFile.{file_segments}
+use Rattle.dtx_recipes.specs.MendedBack.{put_right}
+use Rattle.dtx_recipes.specs.SymbolFile.{file_segments}
 use Rattle.dtx_file_laws.proofs.Bytes.{burst_of_symbols, gap_of_symbols, syncs_left}
 use Rattle.dtx_file_laws.proofs.Mendable.{all_mendable}
 use Rattle.dtx_file_laws.proofs.Whole.{are_received, few_segments, near_back, of_all, some_segments}

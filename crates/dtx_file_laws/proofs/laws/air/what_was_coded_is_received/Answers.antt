@@ -1,5 +1,5 @@
-use Rattle.dtx_jobs.specs.MendedBack.{put_right}
-use Rattle.dtx_jobs.specs.SymbolFile.{file_segments}
+use Rattle.dtx_recipes.specs.MendedBack.{put_right}
+use Rattle.dtx_recipes.specs.SymbolFile.{file_segments}
 use Rattle.dtx_file_laws.proofs.Whole.{near_back, stream_back}
 use Rattle.dtx_file_laws.proofs.laws.air.what_was_coded_is_received.Goals as goal
 

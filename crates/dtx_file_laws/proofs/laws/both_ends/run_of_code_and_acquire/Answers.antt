@@ -1,6 +1,6 @@
 use Rattle.std.proofs.Common.{[], ◌∷◌}
-use Rattle.dtx_jobs.specs.Acquire.{with_acquirer}
-use Rattle.dtx_jobs.specs.SymbolFile.{symbols}
+use Rattle.dtx_recipes.specs.Acquire.{with_acquirer}
+use Rattle.dtx_recipes.specs.SymbolFile.{symbols}
 use Rattle.dtx_packets.specs.Packets.{packets_of}
 use Rattle.dtx_symbol_laws.specs.RestoredFile.{file_acquired}
 use Rattle.dtx_file_laws.proofs.CaptureEnds.{restore_through}

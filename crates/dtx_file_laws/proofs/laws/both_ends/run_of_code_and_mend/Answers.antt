@@ -1,6 +1,6 @@
 use Rattle.std.proofs.Common.{[], ◌∷◌, subst}
-use Rattle.dtx_jobs.specs.Mend.{with_mendings}
-use Rattle.dtx_jobs.specs.MendLaws.{mendings_given}
+use Rattle.dtx_recipes.specs.Mend.{with_mendings}
+use Rattle.dtx_recipes.proofs.MendLemmas.{mendings_given}
 use Rattle.dtx_packets.specs.Packets.{packets_of}
 use Rattle.dtx_words.specs.declared.rows.Command.TheVariants.{Mend}
 use Rattle.dtx_file_laws.specs.Damaged.{IsGap}

@@ -1,8 +1,8 @@
 use Rattle.std.proofs.Common.{◌≡◌, [], ◌∷◌, length, refl, ap, subst, ◌∙◌}
 use Rattle.dtx_engine.specs.Recipe.{meaning_of_file}
 use Rattle.dtx_forms.specs.Shapes.{segments}
-use Rattle.dtx_jobs.specs.Receive.{receiving, with_corrections}
-use Rattle.dtx_jobs.specs.ReceiveLaws.{corrections_given}
+use Rattle.dtx_recipes.specs.Receive.{receiving, with_corrections}
+use Rattle.dtx_recipes.proofs.ReceiveLemmas.{corrections_given}
 use Rattle.dtx_packets.specs.Packets.{packets_of}
 use Rattle.dtx_words.specs.declared.rows.Command.TheVariants.{Receive}
 use Rattle.dtx_file_laws.specs.Back.{IsGivenBack}

@@ -1,6 +1,6 @@
 use Rattle.std.proofs.Common.{[], ◌∷◌}
-use Rattle.dtx_jobs.specs.Refine.{with_refiner}
-use Rattle.dtx_jobs.specs.SymbolFile.{symbols}
+use Rattle.dtx_recipes.specs.Refine.{with_refiner}
+use Rattle.dtx_recipes.specs.SymbolFile.{symbols}
 use Rattle.dtx_packets.specs.Packets.{packets_of}
 use Rattle.dtx_symbol_laws.specs.RestoredFile.{file_refined}
 use Rattle.dtx_file_laws.proofs.BothEnds.{are_packets}

@@ -1,6 +1,6 @@
 use Rattle.std.proofs.Common.{◌<◌, subst, ◌∙◌}
 use Rattle.dtx_packets.specs.Packets.{packets_of}
-use Rattle.dtx_packet_jobs.specs.DvbBack.{wrong_in_all}
+use Rattle.dtx_recipes.specs.DvbBack.{wrong_in_all}
 use Rattle.dtx_file_laws.proofs.laws.dvb_bytes.a_burst_is_read.Goals as goal
 
 pub returns : goal.returns

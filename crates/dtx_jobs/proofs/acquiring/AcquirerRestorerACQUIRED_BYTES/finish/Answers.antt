@@ -1,7 +1,7 @@
 use Rattle.std.proofs.Common.{◌++◌, ap, length, ◌∙◌, arith}
 use Rattle.dtx_acquire.specs.Acquired.{acquired, acquired_runs}
 use Rattle.dtx_files.specs.Symbols.{segment_bytes}
-use Rattle.dtx_jobs.specs.Acquire.{acquired_answer, with_acquirer}
+use Rattle.dtx_recipes.specs.Acquire.{acquired_answer, with_acquirer}
 use Rattle.dtx_jobs.proofs.acquiring.AcquirerRestorerACQUIRED_BYTES.finish.Goals as goal
 
 pub push_all-requires : goal.push_all-requires

@@ -1,5 +1,5 @@
 use Rattle.std.proofs.Common.{ap, arith}
-use Rattle.dtx_jobs.specs.Acquire.{with_acquirer}
+use Rattle.dtx_recipes.specs.Acquire.{with_acquirer}
 use Rattle.dtx_jobs.proofs.acquiring.AcquirerRestorerACQUIRED_BYTES.take.Goals as goal
 
 pub take-requires : goal.take-requires

@@ -2,8 +2,8 @@ use Rattle.std.proofs.Common.{ℤ, List, ap, sym, subst, ◌∙◌, arith}
 use Rattle.std.proofs.lemmas.List.{length-map, map-append}
 use Rattle.dtx_engine.specs.Made.{only}
 use Rattle.dtx_files.specs.Symbols.{segment_bytes}
-use Rattle.dtx_jobs.specs.Restoring.{restoring_by}
-use Rattle.dtx_jobs.specs.SymbolFile.{symbol_of_byte, symbols}
+use Rattle.dtx_recipes.specs.Restoring.{restoring_by}
+use Rattle.dtx_recipes.specs.SymbolFile.{symbol_of_byte, symbols}
 use Rattle.dtx_jobs.proofs.acquisition.AcquisitionEngine.feed.Goals as goal
 
 pub restore_piece-requires : goal.restore_piece-requires

@@ -9,9 +9,9 @@ use Rattle.dtx_files.proofs.GivenFewLemmas.{given_few}
 use Rattle.dtx_files.specs.LogText.{log_text}
 use Rattle.dtx_files.specs.Symbols.{byte_of_symbol}
 use Rattle.dtx_jobs.proofs.ExciteLemmas.{sent_push}
-use Rattle.dtx_jobs.specs.ExciteLaws.{logged_push}
-use Rattle.dtx_jobs.specs.Life.{life_tally, tally_with, HasRoom}
-use Rattle.dtx_jobs.specs.declared.life_tally.LifeTally.{LifeTally}
+use Rattle.dtx_recipes.proofs.ExciteLemmas.{logged_push}
+use Rattle.dtx_recipes.specs.Life.{life_tally, tally_with, HasRoom}
+use Rattle.dtx_recipes.specs.declared.life_tally.LifeTally.{LifeTally}
 use Rattle.dtx_jobs.proofs.LifeOn.{has_room, tally_push}
 use Rattle.dtx_jobs.proofs.excitation.Excitation.take.Goals as goal
 

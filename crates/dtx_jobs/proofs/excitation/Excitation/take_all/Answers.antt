@@ -5,7 +5,7 @@ use Rattle.dtx_exciter.specs.Packets.{group_part}
 use Rattle.dtx_packets.proofs.ChunksLemmas.{get_or-first_chunks}
 use Rattle.dtx_packets.specs.Packets.{packet_at, packets_from}
 use Rattle.dtx_jobs.specs.Excitation.{IsLife}
-use Rattle.dtx_jobs.specs.Life.{sent_bytes, logged_bytes}
+use Rattle.dtx_recipes.specs.Life.{sent_bytes, logged_bytes}
 use Rattle.dtx_jobs.proofs.excitation.Excitation.take_all.Goals as goal
 
 -- packet i of a piece, behind those before

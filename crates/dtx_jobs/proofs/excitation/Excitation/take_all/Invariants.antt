@@ -2,7 +2,7 @@ use Rattle.std.proofs.Common.{◌≡◌, ◌≤◌, ◌+◌, ◌*◌, ◌++◌, 
 use Rattle.dtx_exciter.specs.Packets.{group_part}
 use Rattle.dtx_packets.specs.Packets.{packets_from}
 use Rattle.dtx_jobs.specs.Excitation.{IsLife}
-use Rattle.dtx_jobs.specs.Life.{sent_bytes, logged_bytes}
+use Rattle.dtx_recipes.specs.Life.{sent_bytes, logged_bytes}
 use Rattle.dtx_jobs.proofs.excitation.Excitation.take_all.Given as goal
 
 abbrev pub invariant-loop-i : goal.invariant-loop-i

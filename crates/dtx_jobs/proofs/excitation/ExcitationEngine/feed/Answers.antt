@@ -4,8 +4,8 @@ use Rattle.dtx_packets.specs.Packets.{packets_of}
 use Rattle.dtx_engine.specs.Made.{Made}
 use Rattle.dtx_forms.proofs.FilePacketsLemmas.{length-packets_of}
 use Rattle.dtx_jobs.specs.Excitation.{IsLife}
-use Rattle.dtx_jobs.specs.Excite.{excited}
-use Rattle.dtx_jobs.specs.declared.life_tally.LifeTally.{LifeTally}
+use Rattle.dtx_recipes.specs.Excite.{excited}
+use Rattle.dtx_recipes.specs.declared.life_tally.LifeTally.{LifeTally}
 use Rattle.dtx_jobs.proofs.excitation.ExcitationEngine.feed.Goals as goal
 
 pub take_all-requires-clause-most : goal.take_all-requires-clause-most

@@ -6,7 +6,7 @@ use Rattle.dtx_level.specs.Levelled.{levelled_so_far}
 use Rattle.dtx_level.specs.Leveller.{StandsFor}
 use Rattle.dtx_level.specs.MeasureText.{measures_text}
 use Rattle.dtx_level.specs.Measures.{measures_so_far}
-use Rattle.dtx_jobs.specs.SymbolFile.{symbol_of_byte, symbols}
+use Rattle.dtx_recipes.specs.SymbolFile.{symbol_of_byte, symbols}
 use Rattle.dtx_jobs.proofs.levelling.LevellingEngine.feed.Goals as goal
 
 pub returns-clause-fed : goal.returns-clause-fed

@@ -1,5 +1,5 @@
 use Rattle.std.proofs.Common.{arith, ap, subst, sym, []}
-use Rattle.dtx_jobs.specs.declared.tally.Tally.{Tally}
+use Rattle.dtx_recipes.specs.declared.tally.Tally.{Tally}
 use Rattle.dtx_jobs.proofs.Tallied.{tally_none}
 use Rattle.dtx_jobs.proofs.reception.Reception.new.Goals as goal
 

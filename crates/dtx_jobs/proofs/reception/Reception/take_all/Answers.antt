@@ -2,10 +2,10 @@ use Rattle.std.proofs.Common.{◌≡◌, ◌+◌, ◌-◌, ◌/◌, ◌≤◌, �
 use Rattle.std.proofs.Common.{append_assoc, arith}
 use Rattle.std.proofs.lemmas.List.{append-nil}
 use Rattle.dtx_receiver.specs.Symbols.{symbols_in}
-use Rattle.dtx_jobs.specs.Giving.{bytes_of}
-use Rattle.dtx_jobs.specs.GivingLaws.{bytes_of-append}
+use Rattle.dtx_recipes.specs.Giving.{bytes_of}
+use Rattle.dtx_recipes.proofs.GivingLemmas.{bytes_of-append}
 use Rattle.dtx_jobs.specs.Reception.{IsReceiving}
-use Rattle.dtx_jobs.specs.SymbolFile.{segments_from}
+use Rattle.dtx_recipes.specs.SymbolFile.{segments_from}
 use Rattle.dtx_jobs.proofs.SymbolFileLemmas.{segments_on}
 use Rattle.dtx_jobs.proofs.reception.Reception.take_all.Goals as goal
 

@@ -1,9 +1,9 @@
 use Rattle.std.proofs.Common.{◌≡◌, ◌≤◌, ◌+◌, ◌-◌, ◌*◌, ◌/◌, ◌++◌, List, length}
 use Rattle.std.specs.Prelude.{ℤ}
-use Rattle.dtx_jobs.specs.Giving.{bytes_of}
+use Rattle.dtx_recipes.specs.Giving.{bytes_of}
 use Rattle.dtx_jobs.specs.Reception.{IsReceiving}
-use Rattle.dtx_jobs.specs.SymbolFile.{segments_from}
-use Rattle.dtx_jobs.specs.Tally.{IsBounded}
+use Rattle.dtx_recipes.specs.SymbolFile.{segments_from}
+use Rattle.dtx_recipes.specs.Tally.{IsBounded}
 use Rattle.dtx_jobs.proofs.reception.Reception.take_all.Given as goal
 
 abbrev pub invariant-loop-done : goal.invariant-loop-done

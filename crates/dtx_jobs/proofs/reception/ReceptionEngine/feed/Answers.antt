@@ -1,11 +1,11 @@
 use Rattle.std.proofs.Common.{ap, sym, subst, ◌∙◌, arith}
 use Rattle.dtx_engine.specs.Made.{only}
-use Rattle.dtx_jobs.specs.Giving.{bytes_of}
+use Rattle.dtx_recipes.specs.Giving.{bytes_of}
 use Rattle.dtx_jobs.specs.Reception.{IsReceiving}
-use Rattle.dtx_jobs.specs.SymbolFile.{file_segments}
-use Rattle.dtx_jobs.specs.SymbolFileLaws.{file_segments-append}
+use Rattle.dtx_recipes.specs.SymbolFile.{file_segments}
+use Rattle.dtx_recipes.proofs.SymbolFileLemmas.{file_segments-append}
 use Rattle.dtx_jobs.proofs.SymbolFileLemmas.{length-segments_of}
-use Rattle.dtx_jobs.specs.declared.tally.Tally.{Tally}
+use Rattle.dtx_recipes.specs.declared.tally.Tally.{Tally}
 use Rattle.dtx_jobs.proofs.reception.ReceptionEngine.feed.Goals as goal
 
 pub take_all-requires-clause-most : goal.take_all-requires-clause-most

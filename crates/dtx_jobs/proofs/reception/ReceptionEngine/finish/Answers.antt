@@ -1,9 +1,9 @@
 use Rattle.std.proofs.Common.{ap, arith, rules}
 use Rattle.dtx_engine.specs.Made.{only}
 use Rattle.dtx_jobs.proofs.GivingLemmas.{receives_last}
-use Rattle.dtx_jobs.specs.SymbolFile.{file_segments}
+use Rattle.dtx_recipes.specs.SymbolFile.{file_segments}
 use Rattle.dtx_jobs.proofs.SymbolFileLemmas.{length-segments_of}
-use Rattle.dtx_jobs.specs.declared.tally.Tally.{Tally}
+use Rattle.dtx_recipes.specs.declared.tally.Tally.{Tally}
 use Rattle.dtx_jobs.proofs.reception.ReceptionEngine.finish.Goals as goal
 
 pub end-requires-clause-most : goal.end-requires-clause-most

@@ -1,5 +1,5 @@
 use Rattle.std.proofs.Common.{ap₂}
-use Rattle.dtx_jobs.specs.Refine.{with_refiner}
+use Rattle.dtx_recipes.specs.Refine.{with_refiner}
 use Rattle.dtx_jobs.proofs.refining.RefinerRestorerREFINED_BYTES.finish.Goals as goal
 
 pub returns-clause-rest : goal.returns-clause-rest

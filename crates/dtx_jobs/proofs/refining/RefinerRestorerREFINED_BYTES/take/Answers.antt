@@ -1,6 +1,6 @@
 use Rattle.std.proofs.Common.{ap₂, length-append, take, arith}
 use Rattle.std.proofs.lemmas.List.{length-take-le}
-use Rattle.dtx_jobs.specs.Refine.{with_refiner}
+use Rattle.dtx_recipes.specs.Refine.{with_refiner}
 use Rattle.dtx_jobs.proofs.refining.RefinerRestorerREFINED_BYTES.take.Goals as goal
 
 pub take-requires : goal.take-requires

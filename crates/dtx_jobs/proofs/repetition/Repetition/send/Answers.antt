@@ -10,11 +10,11 @@ use Rattle.dtx_files.specs.Symbols.{byte_of_symbol}
 use Rattle.dtx_repeat.specs.GoingOn.{last_life}
 use Rattle.dtx_repeat.proofs.GoingOnLemmas.{last_longer_one}
 use Rattle.dtx_repeat.specs.Repeater.{StandsFor}
-use Rattle.dtx_jobs.specs.Life.{tally_with, HasRoom}
-use Rattle.dtx_jobs.specs.Lives.{lives_tally}
-use Rattle.dtx_jobs.specs.LivesLaws.{brought_by, line_by, sent_longer, logged_longer}
+use Rattle.dtx_recipes.specs.Life.{tally_with, HasRoom}
+use Rattle.dtx_recipes.specs.Lives.{lives_tally}
+use Rattle.dtx_recipes.proofs.LivesLemmas.{brought_by, line_by, sent_longer, logged_longer}
 use Rattle.dtx_jobs.proofs.LivesLemmas.{tally_longer}
-use Rattle.dtx_jobs.specs.declared.life_tally.LifeTally.{LifeTally}
+use Rattle.dtx_recipes.specs.declared.life_tally.LifeTally.{LifeTally}
 use Rattle.dtx_jobs.proofs.LivesOn.{lives_room}
 use Rattle.dtx_jobs.proofs.repetition.Repetition.send.Goals as goal
 

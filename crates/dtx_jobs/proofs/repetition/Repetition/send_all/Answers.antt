@@ -7,7 +7,7 @@ use Rattle.dtx_receiver.specs.declared.batch.Received.{Received}
 use Rattle.dtx_repeat.specs.GoingOn.{last_life, longer}
 use Rattle.dtx_repeat.proofs.GoingOnLemmas.{longer_none, longer_longer, length-longer}
 use Rattle.dtx_repeat.specs.Lives.{packets_in}
-use Rattle.dtx_jobs.specs.Lives.{sent_over, logged_over}
+use Rattle.dtx_recipes.specs.Lives.{sent_over, logged_over}
 use Rattle.dtx_jobs.specs.Repetition.{IsSending, IsSentOn}
 use Rattle.dtx_jobs.proofs.LivesOn.{sent_on, some_lives, packet_more}
 use Rattle.dtx_jobs.proofs.repetition.Repetition.send_all.Goals as goal

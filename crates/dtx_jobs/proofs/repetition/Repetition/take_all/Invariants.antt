@@ -2,9 +2,9 @@ use Rattle.std.proofs.Common.{◌≡◌, ◌≤◌, ◌+◌, ◌-◌, ◌*◌, �
 use Rattle.dtx_exciter.specs.Packets.{group_part}
 use Rattle.dtx_repeat.specs.GoingOn.{last_life}
 use Rattle.dtx_repeat.specs.Lives.{lives_so_far}
-use Rattle.dtx_jobs.specs.Lives.{sent_over, logged_over}
+use Rattle.dtx_recipes.specs.Lives.{sent_over, logged_over}
 use Rattle.dtx_jobs.specs.Repetition.{AreFew, IsRepeating}
-use Rattle.dtx_jobs.specs.SymbolFile.{segments_from}
+use Rattle.dtx_recipes.specs.SymbolFile.{segments_from}
 use Rattle.dtx_jobs.proofs.repetition.Repetition.take_all.Given as goal
 
 abbrev pub invariant-loop-done : goal.invariant-loop-done

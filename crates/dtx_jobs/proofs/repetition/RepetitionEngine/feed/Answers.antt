@@ -1,10 +1,10 @@
 use Rattle.std.proofs.Common.{ℕ, List, ap, ap₂, sym, subst, ◌∙◌, arith}
 use Rattle.dtx_engine.specs.Made.{Made}
 use Rattle.dtx_repeat.specs.Lives.{lives_so_far}
-use Rattle.dtx_jobs.specs.Repeat.{sent_in}
+use Rattle.dtx_recipes.specs.Repeat.{sent_in}
 use Rattle.dtx_jobs.specs.Repetition.{IsRepeating}
-use Rattle.dtx_jobs.specs.SymbolFile.{file_segments}
-use Rattle.dtx_jobs.specs.SymbolFileLaws.{file_segments-append}
+use Rattle.dtx_recipes.specs.SymbolFile.{file_segments}
+use Rattle.dtx_recipes.proofs.SymbolFileLemmas.{file_segments-append}
 use Rattle.dtx_jobs.proofs.SymbolFileLemmas.{length-segments_of}
 use Rattle.dtx_jobs.proofs.LivesOn.{cleared}
 use Rattle.dtx_jobs.proofs.repetition.RepetitionEngine.feed.Goals as goal

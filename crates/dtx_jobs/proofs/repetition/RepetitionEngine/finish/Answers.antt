@@ -1,11 +1,11 @@
 use Rattle.std.proofs.Common.{◌≡◌, ℕ, List, ap, sym, ◌∙◌, arith, ◌++◌}
 use Rattle.std.proofs.lemmas.List.{append-nil}
 use Rattle.dtx_repeat.specs.Lives.{lives_so_far}
-use Rattle.dtx_jobs.specs.Lives.{sent_over, logged_over}
-use Rattle.dtx_jobs.specs.Repeat.{repeating}
+use Rattle.dtx_recipes.specs.Lives.{sent_over, logged_over}
+use Rattle.dtx_recipes.specs.Repeat.{repeating}
 use Rattle.dtx_jobs.proofs.RepeatLemmas.{repeats_last}
 use Rattle.dtx_jobs.specs.Repetition.{WasRepeated}
-use Rattle.dtx_jobs.specs.SymbolFile.{file_segments}
+use Rattle.dtx_recipes.specs.SymbolFile.{file_segments}
 use Rattle.dtx_jobs.proofs.SymbolFileLemmas.{length-segments_of}
 use Rattle.dtx_jobs.proofs.LivesOn.{cleared}
 use Rattle.dtx_jobs.proofs.repetition.RepetitionEngine.finish.Goals as goal

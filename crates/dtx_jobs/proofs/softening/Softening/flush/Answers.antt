@@ -1,6 +1,6 @@
 use Rattle.std.proofs.Common.{take, ap, ℕ, ◌+◌, arith}
 use Rattle.std.proofs.lemmas.List.{length-take}
-use Rattle.dtx_jobs.specs.SoftLaws.{length-groups}
+use Rattle.dtx_recipes.proofs.SoftLemmas.{length-groups}
 use Rattle.dtx_jobs.proofs.softening.Softening.flush.Goals as goal
 
 pub returns-clause-fields : goal.returns-clause-fields

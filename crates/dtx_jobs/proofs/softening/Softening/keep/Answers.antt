@@ -3,7 +3,7 @@ use Rattle.std.proofs.Common.{slice_set, take, unwrap_or, refl}
 use Rattle.dtx_files.specs.Symbols.{segment_bytes}
 use Rattle.dtx_soft.specs.Signed.{AreSigned}
 use Rattle.dtx_soft.specs.Softened.{softened_cost}
-use Rattle.dtx_jobs.specs.Soft.{flushed, groups_in, has_group}
+use Rattle.dtx_recipes.specs.Soft.{flushed, groups_in, has_group}
 use Rattle.dtx_jobs.proofs.SofteningLemmas.{brought_full, brought_kept, signed_more, stands_full, stands_kept}
 use Rattle.dtx_jobs.proofs.softening.Softening.keep.Goals as goal
 

@@ -3,9 +3,9 @@ use Rattle.std.proofs.Common.{subst, ◌∙◌, arith, Option, Some, None, IfSom
 use Rattle.std.proofs.lemmas.List.{append-nil}
 use Rattle.dtx_files.specs.Symbols.{segment_bytes}
 use Rattle.dtx_packets.proofs.ChunksLemmas.{get_or-first_chunks}
-use Rattle.dtx_jobs.specs.Soft.{soft_so_far}
+use Rattle.dtx_recipes.specs.Soft.{soft_so_far}
 use Rattle.dtx_jobs.specs.Softening.{IsSoftening}
-use Rattle.dtx_jobs.specs.SymbolFile.{segments_from}
+use Rattle.dtx_recipes.specs.SymbolFile.{segments_from}
 use Rattle.dtx_jobs.proofs.SymbolFileLemmas.{segment_on}
 use Rattle.dtx_jobs.proofs.softening.Softening.take_all.Goals as goal
 

@@ -1,9 +1,9 @@
 use Rattle.std.proofs.Common.{◌≡◌, ◌+◌, ◌*◌, ◌++◌, List, length}
 use Rattle.std.specs.Prelude.{ℤ}
 use Rattle.dtx_files.specs.Symbols.{segment_bytes}
-use Rattle.dtx_jobs.specs.Soft.{soft_so_far}
+use Rattle.dtx_recipes.specs.Soft.{soft_so_far}
 use Rattle.dtx_jobs.specs.Softening.{IsKept, IsSoftening, kept_rows}
-use Rattle.dtx_jobs.specs.SymbolFile.{segments_from}
+use Rattle.dtx_recipes.specs.SymbolFile.{segments_from}
 use Rattle.dtx_jobs.proofs.softening.Softening.take_all.Given as goal
 
 abbrev pub invariant-loop-i : goal.invariant-loop-i

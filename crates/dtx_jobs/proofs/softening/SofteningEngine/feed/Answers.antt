@@ -1,10 +1,10 @@
 use Rattle.std.proofs.Common.{ap, sym, subst, ◌∙◌, arith}
 use Rattle.dtx_engine.specs.Made.{only}
 use Rattle.dtx_files.specs.Symbols.{segment_bytes}
-use Rattle.dtx_jobs.specs.Soft.{soft_so_far}
+use Rattle.dtx_recipes.specs.Soft.{soft_so_far}
 use Rattle.dtx_jobs.specs.Softening.{IsSoftening}
-use Rattle.dtx_jobs.specs.SymbolFile.{file_segments}
-use Rattle.dtx_jobs.specs.SymbolFileLaws.{file_segments-append}
+use Rattle.dtx_recipes.specs.SymbolFile.{file_segments}
+use Rattle.dtx_recipes.proofs.SymbolFileLemmas.{file_segments-append}
 use Rattle.dtx_jobs.proofs.SymbolFileLemmas.{length-segments_of}
 use Rattle.dtx_jobs.proofs.softening.SofteningEngine.feed.Goals as goal
 

@@ -4,10 +4,10 @@ use Rattle.dtx_engine.specs.Made.{only}
 use Rattle.dtx_meaning.specs.declared.status.Outcome.{Outcome}
 use Rattle.dtx_meaning.specs.declared.status.Status.TheVariants.{Done}
 use Rattle.dtx_soft.specs.Softened.{softened_cost}
-use Rattle.dtx_jobs.specs.Soft.{field_sum, flushed, has_group}
+use Rattle.dtx_recipes.specs.Soft.{field_sum, flushed, has_group}
 use Rattle.dtx_jobs.proofs.SoftLemmas.{no_cost}
 use Rattle.dtx_jobs.proofs.SofteningLemmas.{field_sum_all, rest_of}
-use Rattle.dtx_jobs.specs.SymbolFile.{file_segments}
+use Rattle.dtx_recipes.specs.SymbolFile.{file_segments}
 use Rattle.dtx_jobs.proofs.SymbolFileLemmas.{length-segments_of}
 use Rattle.dtx_jobs.proofs.softening.SofteningEngine.finish.Goals as goal
 

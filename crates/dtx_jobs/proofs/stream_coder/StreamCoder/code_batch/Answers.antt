@@ -6,7 +6,7 @@ use Rattle.dtx_coder.specs.Batches.{IsAhead}
 use Rattle.dtx_coder.specs.Groups.{Coding, StandsFor, stream_coding}
 use Rattle.dtx_sizes.specs.declared.fields.FieldPlace.{FieldPlace}
 use Rattle.dtx_jobs.specs.StreamCoder.{AreInterleaved}
-use Rattle.dtx_jobs.specs.Symbols.{symbol_bytes}
+use Rattle.dtx_recipes.specs.Symbols.{symbol_bytes}
 use Rattle.dtx_jobs.proofs.StreamSymbols.{four_on, four_left}
 use Rattle.dtx_jobs.proofs.stream_coder.StreamCoder.code_batch.Goals as goal
 

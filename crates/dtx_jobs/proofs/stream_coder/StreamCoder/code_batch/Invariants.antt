@@ -1,7 +1,7 @@
 use Rattle.std.proofs.Common.{◌≡◌, ◌≤◌, ◌+◌, ◌*◌, ◌++◌, ℕ, List, length, take, drop}
 use Rattle.dtx_coder.specs.Groups.{StandsFor}
 use Rattle.dtx_jobs.specs.StreamCoder.{AreInterleaved}
-use Rattle.dtx_jobs.specs.Symbols.{symbol_bytes}
+use Rattle.dtx_recipes.specs.Symbols.{symbol_bytes}
 use Rattle.dtx_jobs.proofs.stream_coder.StreamCoder.code_batch.Given as goal
 
 abbrev pub invariant-loop-i : goal.invariant-loop-i

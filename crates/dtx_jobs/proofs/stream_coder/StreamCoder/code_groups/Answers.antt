@@ -6,7 +6,7 @@ use Rattle.dtx_coder.specs.Groups.{StandsFor}
 use Rattle.dtx_packets.specs.Packets.{packet_at, packets_from, packets_of}
 use Rattle.dtx_forms.proofs.FilePacketsLemmas.{packets_are}
 use Rattle.dtx_jobs.proofs.StreamSymbols.{piece_on}
-use Rattle.dtx_jobs.specs.Symbols.{symbol_bytes}
+use Rattle.dtx_recipes.specs.Symbols.{symbol_bytes}
 use Rattle.dtx_jobs.proofs.stream_coder.StreamCoder.code_groups.Goals as goal
 
 long_so_far : (before : List (List ℕ)) (bytes : List ℕ) (first done : ℕ) → length before ≡ first

@@ -1,7 +1,7 @@
 use Rattle.std.proofs.Common.{◌≡◌, ◌≤◌, ◌-◌, ◌*◌, ◌/◌, ◌%◌, ◌++◌, ℕ, List, length}
 use Rattle.dtx_coder.specs.Groups.{StandsFor}
 use Rattle.dtx_packets.specs.Packets.{packets_from}
-use Rattle.dtx_jobs.specs.Symbols.{symbol_bytes}
+use Rattle.dtx_recipes.specs.Symbols.{symbol_bytes}
 use Rattle.dtx_jobs.proofs.stream_coder.StreamCoder.code_groups.Given as goal
 
 abbrev pub invariant-loop-done : goal.invariant-loop-done

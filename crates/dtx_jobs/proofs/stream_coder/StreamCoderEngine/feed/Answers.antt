@@ -5,7 +5,7 @@ use Rattle.dtx_coder.specs.Groups.{StandsFor}
 use Rattle.dtx_engine.specs.Made.{only}
 use Rattle.dtx_forms.proofs.FilePacketsLemmas.{length-packets_of}
 use Rattle.dtx_jobs.proofs.CodeLemmas.{symbols_whole}
-use Rattle.dtx_jobs.specs.Symbols.{symbol_bytes}
+use Rattle.dtx_recipes.specs.Symbols.{symbol_bytes}
 use Rattle.dtx_jobs.proofs.StreamSymbols.{all_in_groups, groups_of_piece}
 use Rattle.dtx_jobs.proofs.stream_coder.StreamCoderEngine.feed.Goals as goal
 

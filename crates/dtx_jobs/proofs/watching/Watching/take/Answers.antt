@@ -4,11 +4,11 @@ use Rattle.dtx_watch.specs.Kept.{StandsFor}
 use Rattle.dtx_watch.specs.Watch.{told}
 use Rattle.dtx_watch.specs.WatchText.{watch_text}
 use Rattle.dtx_watch.specs.declared.notes.Note.{Note}
-use Rattle.dtx_jobs.specs.Watch.{watch_tally}
-use Rattle.dtx_jobs.specs.Watching.{tally_with}
+use Rattle.dtx_recipes.specs.Watch.{watch_tally}
+use Rattle.dtx_recipes.specs.WatchTally.{tally_with}
 use Rattle.dtx_jobs.proofs.WatchLemmas.{has_room, tally_parts}
-use Rattle.dtx_jobs.specs.WatchLaws.{watched_parts}
-use Rattle.dtx_jobs.specs.declared.watch_tally.WatchTally.{WatchTally}
+use Rattle.dtx_recipes.proofs.WatchLemmas.{watched_parts}
+use Rattle.dtx_recipes.specs.declared.watch_tally.WatchTally.{WatchTally}
 use Rattle.dtx_jobs.proofs.watching.Watching.take.Goals as goal
 
 pub gather-requires-clause-tally : goal.gather-requires-clause-tally

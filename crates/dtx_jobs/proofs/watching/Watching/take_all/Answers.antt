@@ -4,7 +4,7 @@ use Rattle.std.proofs.lemmas.List.{length-append}
 use Rattle.std.proofs.lemmas.List.FromFn.{map-range_with_len_more, length-map-range_with_len}
 use Rattle.dtx_packets.proofs.ChunksLemmas.{get_or-first_chunks}
 use Rattle.dtx_packets.specs.Packets.{packet_at, packets_from}
-use Rattle.dtx_jobs.specs.Watch.{watched_bytes}
+use Rattle.dtx_recipes.specs.Watch.{watched_bytes}
 use Rattle.dtx_jobs.specs.Watching.{IsWatched}
 use Rattle.dtx_jobs.proofs.watching.Watching.take_all.Goals as goal
 

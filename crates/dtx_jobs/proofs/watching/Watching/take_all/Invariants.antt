@@ -1,6 +1,6 @@
 use Rattle.std.proofs.Common.{◌≡◌, ◌≤◌, ◌*◌, ◌++◌, ℕ, List, length}
 use Rattle.dtx_packets.specs.Packets.{packets_from}
-use Rattle.dtx_jobs.specs.Watch.{watched_bytes}
+use Rattle.dtx_recipes.specs.Watch.{watched_bytes}
 use Rattle.dtx_jobs.specs.Watching.{IsWatched}
 use Rattle.dtx_jobs.proofs.watching.Watching.take_all.Given as goal
 

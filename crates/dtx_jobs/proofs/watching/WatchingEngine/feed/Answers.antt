@@ -3,7 +3,7 @@ use Rattle.dtx_packets.proofs.PacketLemmas.{packets_of-append}
 use Rattle.dtx_packets.specs.Packets.{packets_of}
 use Rattle.dtx_engine.specs.Made.{only}
 use Rattle.dtx_forms.proofs.FilePacketsLemmas.{length-packets_of}
-use Rattle.dtx_jobs.specs.Watch.{watched_bytes}
+use Rattle.dtx_recipes.specs.Watch.{watched_bytes}
 use Rattle.dtx_jobs.specs.Watching.{IsWatched}
 use Rattle.dtx_jobs.proofs.watching.WatchingEngine.feed.Goals as goal
 

@@ -9,10 +9,10 @@ use Rattle.dtx_meaning.specs.declared.status.Outcome.{Outcome}
 use Rattle.dtx_meaning.specs.declared.status.Status.TheVariants.{Done}
 use Rattle.dtx_engine.specs.Made.{only}
 use Rattle.dtx_forms.proofs.FilePacketsLemmas.{length-packets_of}
-use Rattle.dtx_jobs.specs.Watch.{watch_tally, watch_numbers}
-use Rattle.dtx_jobs.specs.Watching.{tally_with}
+use Rattle.dtx_recipes.specs.Watch.{watch_tally, watch_numbers}
+use Rattle.dtx_recipes.specs.WatchTally.{tally_with}
 use Rattle.dtx_jobs.proofs.WatchLemmas.{has_room, tally_parts, waiting_is}
-use Rattle.dtx_jobs.specs.declared.watch_tally.WatchTally.{WatchTally}
+use Rattle.dtx_recipes.specs.declared.watch_tally.WatchTally.{WatchTally}
 use Rattle.dtx_jobs.proofs.watching.WatchingEngine.finish.Goals as goal
 
 pub finish-requires : goal.finish-requires

@@ -6,7 +6,7 @@ use Rattle.dtx_words.specs.declared.rows.Command.TheVariants.{Adapt}
 use Rattle.dtx_forms.specs.Shapes.{packets}
 use Rattle.dtx_forms.proofs.PerformedLemmas.{read_performed, unread_performed}
 use Rattle.dtx_forms.proofs.StagesLemmas.{read_staged, unread_staged}
-use Rattle.dtx_packet_jobs.specs.Adapt.{feeding}
+use Rattle.dtx_recipes.specs.Adapt.{feeding}
 use Rattle.dtx_packet_jobs.proofs.adapt_command.AdaptingCombining.combine_apart.Goals as goal
 
 pub returns-in-Ok-clause-performed : goal.returns-in-Ok-clause-performed

@@ -2,7 +2,7 @@ use Rattle.std.proofs.Common.{◌++◌, ℕ, List, ap, sym, ◌∙◌, arith}
 use Rattle.std.proofs.lemmas.List.{length-append, append-nil}
 use Rattle.dtx_dvb.specs.Reading.{read_dvb}
 use Rattle.dtx_engine.specs.Made.{only}
-use Rattle.dtx_packet_jobs.specs.DvbRead.{bytes_of_reads}
+use Rattle.dtx_recipes.specs.DvbRead.{bytes_of_reads}
 use Rattle.dtx_packet_jobs.proofs.dvb_reading.DvbReadingEngine.feed.Goals as goal
 
 pub returns-clause-fed : goal.returns-clause-fed

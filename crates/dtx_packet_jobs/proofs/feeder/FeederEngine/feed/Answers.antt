@@ -3,8 +3,8 @@ use Rattle.std.proofs.Common.{ap, subst, ◌∙◌, arith}
 use Rattle.std.proofs.lemmas.List.{length-append, length-take-le, length-drop, take_all}
 use Rattle.dtx_engine.specs.Made.{only}
 use Rattle.dtx_engine.specs.Recipe.{IsFed}
-use Rattle.dtx_packet_jobs.specs.Adapt.{feeding}
-use Rattle.dtx_packet_jobs.specs.Feed.{HasFed}
+use Rattle.dtx_recipes.specs.Adapt.{feeding}
+use Rattle.dtx_packet_jobs.specs.Feeding.{HasFed}
 use Rattle.dtx_packet_jobs.proofs.Feeding.{counted_of, fed_none, rest_fed, part_fed}
 use Rattle.dtx_packet_jobs.proofs.feeder.FeederEngine.feed.Goals as goal
 use borrow.Rule.Slice.PartMut.{put_mid}

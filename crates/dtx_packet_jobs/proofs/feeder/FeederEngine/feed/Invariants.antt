@@ -1,8 +1,8 @@
 use Rattle.std.proofs.Common.{◌≡◌, ◌+◌, ◌-◌, ◌*◌, ◌/◌, ◌%◌, ◌<◌, ◌≤◌, List, ℕ, length, take, drop}
 use Rattle.dtx_engine.specs.Made.{only}
 use Rattle.dtx_engine.specs.Recipe.{IsFed}
-use Rattle.dtx_packet_jobs.specs.Adapt.{feeding}
-use Rattle.dtx_packet_jobs.specs.Feed.{HasFed, IsCounted}
+use Rattle.dtx_recipes.specs.Adapt.{feeding}
+use Rattle.dtx_packet_jobs.specs.Feeding.{HasFed, IsCounted}
 use Rattle.dtx_packet_jobs.proofs.feeder.FeederEngine.feed.Given as goal
 
 abbrev pub invariant-loop-done : goal.invariant-loop-done

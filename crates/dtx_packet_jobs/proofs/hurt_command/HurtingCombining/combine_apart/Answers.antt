@@ -8,7 +8,7 @@ use Rattle.dtx_forms.specs.Shapes.{single_bytes}
 use Rattle.dtx_forms.proofs.PerformedLemmas.{read_performed, unread_performed}
 use Rattle.dtx_forms.proofs.StagesLemmas.{loop_staged, read_staged, unread_staged}
 use Rattle.dtx_packet_jobs.proofs.AnswersLemmas.{hurt_knows}
-use Rattle.dtx_packet_jobs.specs.Hurt.{hurting}
+use Rattle.dtx_recipes.specs.Hurt.{hurting}
 use Rattle.dtx_packet_jobs.proofs.hurt_command.HurtingCombining.combine_apart.Goals as goal
 
 pub returns-in-Ok-clause-performed : goal.returns-in-Ok-clause-performed

@@ -1,7 +1,8 @@
 use Rattle.std.proofs.Common.{◌≡◌, ◌+◌, ◌*◌, ◌%◌, ◌&&◌, ◌++◌, ℕ, Bool, List, length, sym, ap, subst, ◌∙◌, arith}
 use Rattle.std.proofs.lemmas.Bool.{cond-true, cond-false}
 use Rattle.dtx_packets.specs.Packets.{packets_of}
-use Rattle.dtx_packet_jobs.specs.Place.{IsCounted, as_placeholder, becomes}
+use Rattle.dtx_packet_jobs.specs.Placing.{IsCounted}
+use Rattle.dtx_recipes.specs.Place.{as_placeholder, becomes}
 use Rattle.dtx_forms.proofs.FilePacketsLemmas.{length-packets_of}
 use Rattle.dtx_packet_jobs.proofs.PlacedBytes.{packets_of-next}
 use Rattle.dtx_packet_jobs.proofs.PlacedCounts.{one_if}

@@ -1,5 +1,5 @@
 use Rattle.std.proofs.Common.{refl}
-use Rattle.dtx_packet_jobs.specs.Place.{bare_fields, placed, placed_count}
+use Rattle.dtx_recipes.specs.Place.{bare_fields, placed, placed_count}
 use Rattle.dtx_packet_jobs.proofs.placing.PlacingChanging.new.Goals as goal
 
 pub returns : goal.returns

@@ -1,0 +1,34 @@
+-- What `dvb code` makes of a stream (EN 300 429).
+use Rattle.std.specs.Prelude.{ℕ, List, [], ◌∷◌}
+use Rattle.dtx_packets.specs.Packets.{packets_of, whole_packets}
+use Rattle.dtx_dvb.specs.Stream.{dvb}
+use Rattle.dtx_meaning.specs.declared.status.Outcome.{Outcome}
+use Rattle.dtx_meaning.specs.declared.status.Status.TheVariants.{Done}
+use Rattle.dtx_engine.specs.Made.{only}
+use Rattle.dtx_engine.specs.Recipe.{Recipe}
+use Rattle.dtx_words.specs.declared.rows.Command.TheVariants.{DvbCode}
+use Rattle.dtx_forms.specs.Job.{Job}
+use Rattle.dtx_forms.specs.Transform.{dvb_job}
+use Rattle.dtx_recipes.specs.Place.{has_sync}
+use Rattle.dtx_recipes.specs.DvbShapes.{dvb_packets}
+
+-- the answer: the number of packets, and of loose bytes
+abbrev pub dvb_code_answer : List ℕ → ℕ → Outcome
+dvb_code_answer bytes loose = record {
+  status = Done;
+  numbers = whole_packets bytes ∷ loose ∷ 0 ∷ 0 ∷ 0 ∷ 0 ∷ 0 ∷ [];
+  shown = 2;
+}
+
+-- the recipe: packets that begin with 0x47 are allowed, and are sent as one stream
+abbrev pub dvb_coding : Recipe
+dvb_coding = record {
+  allows = has_sync;
+  made = λ bytes. only (dvb (packets_of bytes));
+  rest = λ _. only [];
+  answer = dvb_code_answer;
+}
+
+-- the command `dvb code IN OUT`
+abbrev pub dvb_code_job : Job
+dvb_code_job = dvb_job DvbCode dvb_packets dvb_coding
