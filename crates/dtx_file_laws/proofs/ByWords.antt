@@ -11,7 +11,7 @@ use Rattle.std.proofs.lemmas.Slice.Eq.{bytes_eq-Decides}
 use Rattle.std.proofs.lemmas.Str.Parse.{IsNumeralModel, numerals_by_value, tells_digits}
 use Rattle.dtx_engine.specs.Recipe.{meaning}
 use Rattle.dtx_forms.specs.Capture.{captured, setting_of}
-use Rattle.dtx_forms.specs.Job.{unless_same}
+use Rattle.dtx_forms.specs.Job.{task_meaning, unless_same}
 use Rattle.dtx_forms.specs.PlanFile.{under_plan, under_said}
 use Rattle.dtx_forms.specs.Shapes.{coded_packets, packets, segments, single_bytes}
 use Rattle.dtx_forms.specs.Transmit.{transmit_with}
@@ -144,8 +144,8 @@ acquire_read words scale input output held is some most =
     (bytes_eq input output) single_bytes (acquiring scale) 0 (output ∷ []) input held) (sym is)
     (record {
       fits = refl;
-      reads = ap (λ number. captured single_bytes (λ scale rounds. acquiring scale) (setting_of number (Some 1)) input
-          output held) (spelled_scale scale some most);
+      reads = ap (λ number. task_meaning (captured single_bytes (λ scale rounds. acquiring scale)
+          (setting_of number (Some 1)) input output) held) (spelled_scale scale some most);
     })
 
 pub refine_read : (words : List (List ℕ)) (scale rounds : ℕ) (input output : List ℕ) (held : Files)
@@ -160,7 +160,7 @@ refine_read words scale rounds input output held is some most one many =
     (bytes_eq input output) single_bytes (refining scale rounds) 0 (output ∷ []) input held) (sym is)
     (record {
       fits = refl;
-      reads = ap₂ (λ s r. captured single_bytes refining (setting_of s r) input output held)
+      reads = ap₂ (λ s r. task_meaning (captured single_bytes refining (setting_of s r) input output) held)
           (spelled_scale scale some most) (spelled_rounds rounds one many);
     })
 
@@ -178,7 +178,7 @@ excite_read words address delay input output log held is small_address small_del
     held) (sym is)
     (record {
       fits = refl;
-      reads = ap₂ (λ a d. transmit_with coded_packets exciting a d input output log held)
+      reads = ap₂ (λ a d. task_meaning (transmit_with coded_packets exciting a d input output log) held)
           (spelled 65535 address (omega arith) small_address) (spelled 4294967295 delay (omega arith) small_delay);
     })
 

@@ -1,9 +1,9 @@
 -- A job is a command whose words alone name its files. `IsPerformed` says that it was performed: one statement for all.
-use Rattle.std.specs.Prelude.{ℕ, Bool, if◌then◌else◌, is_some, List, Option, Some, IfSome}
+use Rattle.std.specs.Prelude.{ℕ, Bool, if◌then◌else◌, is_some, List, Option, Some, None, IfSome}
 use Rattle.dtx_meaning.specs.Meaning.{IsCarriedOut, Meaning, refused}
 use Rattle.dtx_meaning.specs.Status.{blame_of}
 use Rattle.dtx_meaning.specs.declared.status.Outcome.{Outcome}
-use Rattle.dtx_meaning.specs.declared.status.Status.TheVariants.{Same}
+use Rattle.dtx_meaning.specs.declared.status.Status.TheVariants.{Same, Usage}
 use Rattle.dtx_outside.specs.Counts.{Counts, HasGone}
 use Rattle.dtx_outside.specs.Shelf.{Files}
 use Rattle.dtx_words.specs.declared.rows.Command.{Command}
@@ -35,6 +35,31 @@ pub record IsPerformed (command : Command) (means : Files → Meaning) (same : O
 -- the job was performed with these words
 abbrev pub IsJobPerformed : Job → List (List ℕ) → Outcome → Option Files → Option Files → Counts → Counts → Type 0
 IsJobPerformed job words = IsPerformed job.command (job.means words) (same_in job.fields words) job.inputs
+
+-- what a job does once its words were read: what it means, and in which stages it reads and writes
+pub record Task : Type 0 where
+  pub means : Files → Meaning
+  pub stages : Stages
+
+-- what is meant: words that can't be read are refused
+abbrev pub task_meaning : Option Task → Files → Meaning
+task_meaning None held = refused Usage
+task_meaning (Some task) held = task.means held
+
+-- the stages
+abbrev pub task_stages : Option Task → Option Stages
+task_stages None = None
+task_stages (Some task) = Some task.stages
+
+-- the job of a command that reads its words so
+abbrev pub job_of_task : Command → List Field → ℕ → (List (List ℕ) → Option Task) → Job
+job_of_task command fields inputs task = record {
+  command = command;
+  fields = fields;
+  means = λ words. task_meaning (task words);
+  inputs = inputs;
+  stages = λ words. task_stages (task words);
+}
 
 -- a refusal where a name was found to be repeated, and else the meaning
 abbrev pub unless_same : Option (List ℕ) → Meaning → Meaning

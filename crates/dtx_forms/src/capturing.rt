@@ -5,9 +5,8 @@ ghost use Rattle.dtx_engine.specs.Recipe.{IsAnswerOf, Recipe};
 ghost use Rattle.dtx_words.specs.Names.{repeated};
 ghost use Rattle.dtx_words.specs.declared.rows.Command.{Command};
 ghost use Rattle.dtx_forms.specs.Answers.{Knows};
-ghost use Rattle.dtx_forms.specs.Capture.{IsRounds, IsScale, IsSetting, captured, captured_stages, rounds_job};
-ghost use Rattle.dtx_forms.specs.Capture.{rounds_stages, scaled_job, scaled_stages, setting_of};
-ghost use Rattle.dtx_forms.specs.Job.{IsPerformed, IsJobPerformed};
+ghost use Rattle.dtx_forms.specs.Capture.{IsRounds, IsScale, IsSetting, captured, rounds_job, scaled_job, setting_of};
+ghost use Rattle.dtx_forms.specs.Job.{IsPerformed, IsJobPerformed, task_meaning, task_stages};
 ghost use Rattle.dtx_forms.specs.Stages.{IsStaged};
 
 use dtx_engine::Engine;
@@ -54,7 +53,7 @@ pub fn transform_scaled<E: Capturing, S: Shelf>(
 ) -> Outcome
     ensures performed { IsJobPerformed (scaled_job E.command E.shape E.makes) words.now result
         (S.files shelf.old) (S.files shelf.new) (S.counts shelf.old) (S.counts shelf.new) }
-    ensures stages { IsStaged S.foreseen (scaled_stages E.shape E.makes words.now) result.status
+    ensures stages { IsStaged S.foreseen ((scaled_job E.command E.shape E.makes).stages words.now) result.status
         (S.files shelf.old) (S.files shelf.new) (S.counts shelf.old) (S.counts shelf.new) }
 {
     match words {
@@ -76,7 +75,7 @@ pub fn transform_in_rounds<E: Capturing, S: Shelf>(
 ) -> Outcome
     ensures performed { IsJobPerformed (rounds_job E.command E.shape E.makes) words.now result
         (S.files shelf.old) (S.files shelf.new) (S.counts shelf.old) (S.counts shelf.new) }
-    ensures stages { IsStaged S.foreseen (rounds_stages E.shape E.makes words.now) result.status
+    ensures stages { IsStaged S.foreseen ((rounds_job E.command E.shape E.makes).stages words.now) result.status
         (S.files shelf.old) (S.files shelf.new) (S.counts shelf.old) (S.counts shelf.new) }
 {
     match words {
@@ -117,11 +116,11 @@ fn transform_capture<E: Capturing, S: Shelf>(
     shelf: &mut S,
 ) -> Outcome
     requires { IfSome setting IsSetting }
-    ensures performed { IsPerformed E.command (captured E.shape E.makes setting input.now output.now)
+    ensures performed { IsPerformed E.command (task_meaning (captured E.shape E.makes setting input.now output.now))
         (option_and setting (Some (is_some (repeated (input.now ∷ output.now ∷ []))))) 1 result
         (S.files shelf.old) (S.files shelf.new) (S.counts shelf.old) (S.counts shelf.new) }
-    ensures stages { IsStaged S.foreseen (captured_stages E.shape E.makes setting input.now output.now) result.status
-        (S.files shelf.old) (S.files shelf.new) (S.counts shelf.old) (S.counts shelf.new) }
+    ensures stages { IsStaged S.foreseen (task_stages (captured E.shape E.makes setting input.now output.now))
+        result.status (S.files shelf.old) (S.files shelf.new) (S.counts shelf.old) (S.counts shelf.new) }
 {
     match setting {
         Some(setting) => match E::new(alloc, setting) {

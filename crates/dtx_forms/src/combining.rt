@@ -5,7 +5,7 @@ ghost use Rattle.dtx_outside.specs.Shelf.{Files};
 ghost use Rattle.dtx_words.specs.Names.{repeated};
 ghost use Rattle.dtx_words.specs.declared.rows.Command.{Command};
 ghost use Rattle.dtx_forms.specs.Job.{IsPerformed, IsJobPerformed};
-ghost use Rattle.dtx_forms.specs.Combine.{combine_job, combine_stages, combined};
+ghost use Rattle.dtx_forms.specs.Combine.{combine_job, combined};
 ghost use Rattle.dtx_forms.specs.Stages.{IsStaged, Stages};
 
 use dtx_meaning::{Outcome, Status, ended};
@@ -45,7 +45,7 @@ pub trait Combining {
 pub fn combine<C: Combining, S: Shelf>(alloc: Global, words: &[Word], shelf: &mut S) -> Outcome
     ensures performed { IsJobPerformed (combine_job C.command C.means C.stages) words.now result
         (S.files shelf.old) (S.files shelf.new) (S.counts shelf.old) (S.counts shelf.new) }
-    ensures stages { IsStaged S.foreseen (combine_stages C.stages words.now) result.status
+    ensures stages { IsStaged S.foreseen ((combine_job C.command C.means C.stages).stages words.now) result.status
         (S.files shelf.old) (S.files shelf.new) (S.counts shelf.old) (S.counts shelf.new) }
 {
     match words {

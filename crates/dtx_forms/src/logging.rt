@@ -7,7 +7,7 @@ ghost use Rattle.dtx_meaning.specs.Status.{IsOfInput, blame_of};
 ghost use Rattle.dtx_outside.specs.Counts.{HasGone};
 ghost use Rattle.dtx_words.specs.Names.{repeated};
 ghost use Rattle.dtx_forms.specs.Job.{IsPerformed, IsJobPerformed};
-ghost use Rattle.dtx_forms.specs.Logged.{logged, logged_job, logged_stages};
+ghost use Rattle.dtx_forms.specs.Logged.{logged, logged_job};
 ghost use Rattle.dtx_forms.specs.Stages.{IsStaged, stages_of};
 
 use crate::Transforming;
@@ -35,7 +35,7 @@ pub fn transform_logged<E: Transforming, S: Shelf>(
     ensures performed { IsJobPerformed (logged_job E.command E.shape E.makes) words.now result
         (S.files shelf.old) (S.files shelf.new)
         (S.counts shelf.old) (S.counts shelf.new) }
-    ensures stages { IsStaged S.foreseen (logged_stages E.shape E.makes words.now) result.status
+    ensures stages { IsStaged S.foreseen ((logged_job E.command E.shape E.makes).stages words.now) result.status
         (S.files shelf.old) (S.files shelf.new) (S.counts shelf.old) (S.counts shelf.new) }
 {
     match words {

@@ -6,7 +6,7 @@ ghost use Rattle.dtx_words.specs.declared.rows.Command.{Command};
 ghost use Rattle.dtx_forms.specs.Answers.{Knows};
 ghost use Rattle.dtx_forms.specs.Job.{IsPerformed, IsJobPerformed};
 ghost use Rattle.dtx_forms.specs.Stages.{IsStaged, stages_of};
-ghost use Rattle.dtx_forms.specs.Transform.{dvb_job, dvb_stages, transform_job, transform_stages};
+ghost use Rattle.dtx_forms.specs.Transform.{dvb_job, transform_job};
 
 use dtx_engine::Engine;
 use dtx_meaning::{Outcome, Status, ended};
@@ -38,7 +38,7 @@ pub fn transform<E: Transforming, S: Shelf>(alloc: Global, words: &[Word], shelf
     ensures performed { IsJobPerformed (transform_job E.command E.shape E.makes) words.now result
         (S.files shelf.old) (S.files shelf.new)
         (S.counts shelf.old) (S.counts shelf.new) }
-    ensures stages { IsStaged S.foreseen (transform_stages E.shape E.makes words.now) result.status
+    ensures stages { IsStaged S.foreseen ((transform_job E.command E.shape E.makes).stages words.now) result.status
         (S.files shelf.old) (S.files shelf.new) (S.counts shelf.old) (S.counts shelf.new) }
 {
     match words {
@@ -59,7 +59,7 @@ pub fn transform_dvb<E: Transforming, S: Shelf>(
     ensures performed { IsJobPerformed (dvb_job E.command E.shape E.makes) words.now result
         (S.files shelf.old) (S.files shelf.new)
         (S.counts shelf.old) (S.counts shelf.new) }
-    ensures stages { IsStaged S.foreseen (dvb_stages E.shape E.makes words.now) result.status
+    ensures stages { IsStaged S.foreseen ((dvb_job E.command E.shape E.makes).stages words.now) result.status
         (S.files shelf.old) (S.files shelf.new) (S.counts shelf.old) (S.counts shelf.new) }
 {
     match words {

@@ -7,10 +7,10 @@ ghost use Rattle.dtx_words.specs.Names.{repeated};
 ghost use Rattle.dtx_words.specs.Number.{number_in};
 ghost use Rattle.dtx_words.specs.declared.rows.Command.{Command};
 ghost use Rattle.dtx_forms.specs.Answers.{Knows};
-ghost use Rattle.dtx_forms.specs.Job.{IsPerformed, IsJobPerformed};
+ghost use Rattle.dtx_forms.specs.Job.{IsPerformed, IsJobPerformed, task_meaning, task_stages};
+ghost use Rattle.dtx_forms.specs.Logged.{logged};
 ghost use Rattle.dtx_forms.specs.Stages.{IsStaged, stages_of};
-ghost use Rattle.dtx_forms.specs.Transmit.{transmit_at, transmit_job, transmit_stages, transmit_stages_with};
-ghost use Rattle.dtx_forms.specs.Transmit.{transmit_with};
+ghost use Rattle.dtx_forms.specs.Transmit.{transmit_job, transmit_with};
 
 use crate::logging::{LoggedFiles, make_both};
 use dtx_engine::Engine;
@@ -48,7 +48,7 @@ pub fn transmit<E: Transmitting, S: Shelf>(alloc: Global, words: &[Word], shelf:
     ensures performed { IsJobPerformed (transmit_job E.command E.shape E.sends) words.now result
         (S.files shelf.old) (S.files shelf.new)
         (S.counts shelf.old) (S.counts shelf.new) }
-    ensures stages { IsStaged S.foreseen (transmit_stages E.shape E.sends words.now) result.status
+    ensures stages { IsStaged S.foreseen ((transmit_job E.command E.shape E.sends).stages words.now) result.status
         (S.files shelf.old) (S.files shelf.new) (S.counts shelf.old) (S.counts shelf.new) }
 {
     match words {
@@ -74,15 +74,15 @@ fn transmit_read<E: Transmitting, S: Shelf>(
     shelf: &mut S,
 ) -> Outcome
     ensures performed { IsPerformed E.command
-        (transmit_with E.shape E.sends (number_in 65535 address.now) (number_in 4294967295 delay.now)
-        files.entry.input.now files.entry.output.now files.entry.log.now)
+        (task_meaning (transmit_with E.shape E.sends (number_in 65535 address.now) (number_in 4294967295 delay.now)
+        files.entry.input.now files.entry.output.now files.entry.log.now))
         (option_and (number_in 65535 address.now) (option_and (number_in 4294967295 delay.now)
         (Some (is_some (repeated (files.entry.input.now ∷ files.entry.output.now ∷ files.entry.log.now ∷ []))))))
         1 result (S.files shelf.old) (S.files shelf.new)
         (S.counts shelf.old) (S.counts shelf.new) }
     ensures stages { IsStaged S.foreseen
-        (transmit_stages_with E.shape E.sends (number_in 65535 address.now) (number_in 4294967295 delay.now)
-        files.entry.input.now files.entry.output.now files.entry.log.now)
+        (task_stages (transmit_with E.shape E.sends (number_in 65535 address.now) (number_in 4294967295 delay.now)
+        files.entry.input.now files.entry.output.now files.entry.log.now))
         result.status (S.files shelf.old) (S.files shelf.new) (S.counts shelf.old) (S.counts shelf.new) }
 {
     match number_up_to(u16::MAX as u64, address) {
@@ -106,13 +106,13 @@ fn transmit_files<E: Transmitting, S: Shelf>(
     shelf: &mut S,
 ) -> Outcome
     ensures performed { IsPerformed E.command
-        (transmit_at E.shape E.sends address delay files.entry.input.now files.entry.output.now files.entry.log.now)
+        (logged E.shape (E.sends address delay) files.entry.input.now files.entry.output.now files.entry.log.now)
         (Some (is_some (repeated (files.entry.input.now ∷ files.entry.output.now ∷ files.entry.log.now ∷ []))))
         1 result (S.files shelf.old) (S.files shelf.new)
         (S.counts shelf.old) (S.counts shelf.new) }
     ensures stages { IsStaged S.foreseen
-        (transmit_stages_with E.shape E.sends (Some address) (Some delay) files.entry.input.now files.entry.output.now
-        files.entry.log.now)
+        (Some (stages_of E.shape (E.sends address delay) files.entry.input.now
+        (files.entry.output.now ∷ files.entry.log.now ∷ [])))
         result.status (S.files shelf.old) (S.files shelf.new) (S.counts shelf.old) (S.counts shelf.new) }
 {
     match repeated_name(&[files.input, files.output, files.log]) {

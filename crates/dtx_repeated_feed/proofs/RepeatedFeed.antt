@@ -23,6 +23,7 @@ use Rattle.dtx_recipes.specs.Repeat.{repeating}
 use Rattle.dtx_symbol_laws.specs.RepeatedFiles.{repeated_of}
 use Rattle.dtx_forms.specs.Shapes.{segments}
 use Rattle.dtx_recipes.specs.SymbolFile.{file_segments, whole_segments}
+use Rattle.dtx_forms.specs.Job.{task_meaning}
 use Rattle.dtx_forms.specs.Transmit.{transmit_with}
 use Rattle.dtx_repeated_feed.specs.DoneWith.{IsDoneWith}
 use Rattle.dtx_top.specs.Means.{means, means_of}
@@ -55,7 +56,7 @@ pub by_words : (verb input of_address of_delay output log file : List ℕ) (addr
 by_words verb input of_address of_delay output log file address delay held fit is_address is_delay once there =
     let to : List (List ℕ) = output ∷ log ∷ [] in
     ap (λ (command : Option Command). means_of command (verb ∷ input ∷ of_address ∷ of_delay ∷ to) held) fit
-    ∙ ap₂ (λ a d. transmit_with segments repeating a d input output log held) is_address is_delay
+    ∙ ap₂ (λ a d. task_meaning (transmit_with segments repeating a d input output log) held) is_address is_delay
     ∙ ap (λ (name : Option (List ℕ)). if is_some name then refused Same
     else meaning segments (repeating address delay) 0 to (get held input)) once
     ∙ ap (meaning segments (repeating address delay) 0 to) there

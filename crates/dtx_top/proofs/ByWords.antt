@@ -16,7 +16,7 @@ use Rattle.dtx_words.specs.Fitting.{command_of, fit_fields, fits, is_name}
 use Rattle.dtx_words.proofs.FittingLemmas.{command_fits}
 use Rattle.dtx_words.specs.Line.{finished}
 use Rattle.dtx_words.specs.Names.{names_at, repeated}
-use Rattle.dtx_words.specs.Rows.{net_row, row_of, trial_row}
+use Rattle.dtx_words.specs.Rows.{row_of}
 use Rattle.dtx_words.specs.declared.rows.Command.{Command}
 use Rattle.dtx_words.specs.declared.rows.Command.TheVariants.{Net, Trial}
 use Rattle.dtx_words.specs.declared.rows.Field.{Field}
@@ -54,7 +54,7 @@ names_told names all (field ∷ fields) (word ∷ words) inputs status same fit 
     (append_assoc names (word ∷ []) (names_at fields words) ∙ same) (and_parts _ _ fit).1 is
 
 -- `net PLAN`
-net_told : (verb : List ℕ) (words : List (List ℕ)) (status : Status) → fit_fields net_row.fields words ≡ true
+net_told : (verb : List ℕ) (words : List (List ℕ)) (status : Status) → fit_fields (row_of Net).fields words ≡ true
     → IsOfNetWords (verb ∷ words) status → IsOfNetwork status
 net_told verb [] status fit is = let e : false ≡ true = fit in cc
 net_told verb (plan ∷ []) status fit is = is
@@ -62,7 +62,7 @@ net_told verb (plan ∷ word ∷ words) status fit is =
     let e : false ≡ true = (and_parts (is_name plan) false fit).1 in cc
 
 -- `trial SEED COUNT`, which has no names
-no_names : (words : List (List ℕ)) → names_at trial_row.fields words ≡ []
+no_names : (words : List (List ℕ)) → names_at (row_of Trial).fields words ≡ []
 no_names [] = refl
 no_names (seed ∷ []) = refl
 no_names (seed ∷ count ∷ words) = refl
@@ -73,7 +73,7 @@ fitted_told : (command : Command) (words : List (List ℕ)) (status : Status) �
 fitted_told command [] status fit is = let e : false ≡ true = fit in cc
 fitted_told Net (verb ∷ words) status fit is = net_told verb words status (and_parts _ _ fit).1 is
 fitted_told Trial (verb ∷ words) status fit is =
-    (names_told [] [] trial_row.fields words 3 status (no_names words) (and_parts _ _ fit).1 is.0, is.1)
+    (names_told [] [] (row_of Trial).fields words 3 status (no_names words) (and_parts _ _ fit).1 is.0, is.1)
 fitted_told command (verb ∷ words) status fit is =
     (names_told [] _ (row_of command).fields words _ status refl (and_parts _ _ fit).1 is.0, is.1)
 

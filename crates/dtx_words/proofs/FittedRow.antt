@@ -17,7 +17,7 @@ none_fit command (word ∷ words) none = absurd (omega arith)
 
 -- the first word is the row's, and the others fit as its fields say
 pub fits_behind : (row : CommandRow) (command : Command) (words : List (List ℕ)) (verb other : List ℕ) (result : Bool)
-    → row_behind row ≡ row_of command → 1 ≤ length words → verb ≡ get_or words 0 other
+    → row_behind (row_of command).refuses row ≡ row_of command → 1 ≤ length words → verb ≡ get_or words 0 other
     → bytes_eq verb row.verb.now ≡ true
     → result ≡ fit_fields row.fields.now (take (length words - 1) (drop 1 words)) → result ≡ fits command words
 fits_behind row command [] verb other result is some same equal fitted = absurd (omega arith)
@@ -28,7 +28,7 @@ fits_behind row command (word ∷ words) verb other result is some same equal fi
 
 -- the first word is another one
 pub fits_not : (row : CommandRow) (command : Command) (words : List (List ℕ)) (verb other : List ℕ) (result : Bool)
-    → row_behind row ≡ row_of command → 1 ≤ length words → verb ≡ get_or words 0 other
+    → row_behind (row_of command).refuses row ≡ row_of command → 1 ≤ length words → verb ≡ get_or words 0 other
     → bytes_eq verb row.verb.now ≡ false → result ≡ false → result ≡ fits command words
 fits_not row command [] verb other result is some same differ wrong = absurd (omega arith)
 fits_not row command (word ∷ words) verb other result is some same differ wrong =
@@ -37,7 +37,8 @@ fits_not row command (word ∷ words) verb other result is some same differ wron
     ∙ sym (ap (λ b. b && fit_fields row.fields.now words) (ap (λ v. bytes_eq v row.verb.now) (sym same) ∙ differ)))
 
 -- the file names among words, as the row's fields say
-pub names_behind : (row : CommandRow) (command : Command) (words : List (List ℕ)) → row_behind row ≡ row_of command
+pub names_behind : (row : CommandRow) (command : Command) (words : List (List ℕ))
+    → row_behind (row_of command).refuses row ≡ row_of command
     → 1 ≤ length words
     → names_at row.fields.now (take (length words - 1) (drop 1 words)) ≡ names_of (Some command) words
 names_behind row command [] is some = absurd (omega arith)

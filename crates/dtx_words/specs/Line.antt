@@ -10,6 +10,7 @@ use Rattle.dtx_meaning.specs.declared.status.Status.TheVariants.{OutOfFeed, OutO
 use Rattle.dtx_meaning.specs.declared.status.Status.TheVariants.{Memory}
 use Rattle.dtx_words.specs.Rows.{row_of, first_words}
 use Rattle.dtx_words.specs.declared.rows.Command.{Command}
+use Rattle.dtx_words.specs.declared.rows.Command.TheVariants.{Net}
 
 -- each label, followed by its number
 abbrev pub numbered : List (List ℕ) → List ℕ → List ℕ
@@ -17,10 +18,11 @@ numbered [] numbers = []
 numbered (label ∷ labels) [] = []
 numbered (label ∷ labels) (number ∷ numbers) = label ++ (decimal number ++ numbered labels numbers)
 
--- the labels of a line that shows `shown` numbers, and no fewer than its row always has
+-- the labels of a line: all of its row, but of `net` as many as it shows numbers, and three at least
 abbrev pub labels_of : Option Command → ℕ → List (List ℕ)
 labels_of None shown = []
-labels_of (Some command) shown = take (max shown (row_of command).fewest) (row_of command).labels
+labels_of (Some Net) shown = take (max shown 3) (row_of Net).labels
+labels_of (Some command) shown = (row_of command).labels
 
 -- the first words of some commands, with `before` in front and a bar between them
 abbrev pub verbs_behind : List ℕ → List Command → List ℕ

@@ -21,212 +21,181 @@ abbrev pub second_text : SecondWord → List ℕ
 second_text second.Code = codes "code"
 second_text second.Read = codes "read"
 
--- the row of a command: its words, and its line
+-- What a command may refuse, besides what its words alone tell. A plan, or a file of changes, breaks a rule. A packet
+-- isn't allowed. An input is too long. An event names a packet past the end of the feed. An entry of damage ends past
+-- the end of its file. No field sync is found.
+pub data Refusal : Type 0 where
+  plan : Refusal
+  packet : Refusal
+  too_long : Refusal
+  out_of_feed : Refusal
+  out_of_air : Refusal
+  no_sync : Refusal
+
+-- the row of a command: its words, its line, and what it may refuse
 pub record Row : Type 0 where
   -- its first word
   pub verb : List ℕ
   -- what the words that follow stand for, in their order
   pub fields : List Field
-  -- the text before each number of its line
+  -- the text before each number of its line; of `net` the first three alone, where it has no receiver
   pub labels : List (List ℕ)
-  -- how many numbers its line has at least: all of them, except for `net`, which may have no receiver
-  pub fewest : ℕ
+  -- what it may refuse
+  pub refuses : List Refusal
 
+-- the fields of an exciter: its input, an address of 16 bits, a delay of 32 bits in ticks of 100 ns, symbols and a log
+abbrev exciter_fields : List Field
+exciter_fields = Input ∷ Number 65535 ∷ Number 4294967295 ∷ Output ∷ Output ∷ []
+
+-- the labels of a receiver's line
+abbrev receiver_labels : List (List ℕ)
+receiver_labels = codes "segments " ∷ codes " runs " ∷ codes " packets " ∷ codes " fixed " ∷ codes " flagged " ∷ codes
+    " loose " ∷ []
+
+-- the labels of a network's line
+abbrev network_labels : List (List ℕ)
+network_labels = codes "feed " ∷ codes " filled " ∷ codes " steps " ∷ codes " packets " ∷ codes " fixed " ∷ codes
+    " flagged " ∷ []
+
+-- the row of a command
+abbrev pub row_of : Command → Row
 -- `adapt PLAN IN OUT`
-abbrev pub adapt_row : Row
-adapt_row = record {
+row_of Adapt = record {
   verb = codes "adapt";
   fields = Input ∷ Input ∷ Output ∷ [];
   labels = codes "packets " ∷ codes " filled " ∷ codes " loose " ∷ [];
-  fewest = 3;
+  refuses = plan ∷ packet ∷ too_long ∷ [];
 }
-
 -- `code IN OUT`
-abbrev pub code_row : Row
-code_row = record {
+row_of Code = record {
   verb = codes "code";
   fields = Input ∷ Output ∷ [];
   labels = codes "packets " ∷ codes " segments " ∷ codes " loose " ∷ [];
-  fewest = 3;
+  refuses = packet ∷ too_long ∷ [];
 }
-
 -- `excite FEED ADDRESS DELAY OUT LOG`: an address of 16 bits, a delay of 32 bits in ticks of 100 ns
-abbrev pub excite_row : Row
-excite_row = record {
+row_of Excite = record {
   verb = codes "excite";
-  fields = Input ∷ Number 65535 ∷ Number 4294967295 ∷ Output ∷ Output ∷ [];
+  fields = exciter_fields;
   labels = codes "packets " ∷ codes " segments " ∷ codes " presets " ∷ codes " mutes " ∷ codes " loose " ∷ [];
-  fewest = 5;
+  refuses = too_long ∷ [];
 }
-
 -- `receive IN OUT`
-abbrev pub receive_row : Row
-receive_row = record {
+row_of Receive = record {
   verb = codes "receive";
   fields = Input ∷ Output ∷ [];
-  labels = codes "segments " ∷ codes " runs " ∷ codes " packets " ∷ codes " fixed " ∷ codes " flagged " ∷ codes
-      " loose " ∷ [];
-  fewest = 6;
+  labels = receiver_labels;
+  refuses = too_long ∷ no_sync ∷ [];
 }
-
 -- `net PLAN`: the plan names the other files
-abbrev pub net_row : Row
-net_row = record {
+row_of Net = record {
   verb = codes "net";
   fields = Input ∷ [];
-  labels = codes "feed " ∷ codes " filled " ∷ codes " steps " ∷ codes " packets " ∷ codes " fixed " ∷ codes
-      " flagged " ∷ [];
-  fewest = 3;
+  labels = network_labels;
+  refuses = plan ∷ packet ∷ too_long ∷ out_of_feed ∷ out_of_air ∷ no_sync ∷ [];
 }
-
 -- `make SEED COUNT OUT`: a seed of 64 bits, at most 624,000,000 packets
-abbrev pub make_row : Row
-make_row = record {
+row_of Make = record {
   verb = codes "make";
   fields = Number (2 ^ 64 - 1) ∷ Number 624000000 ∷ Output ∷ [];
   labels = codes "packets " ∷ [];
-  fewest = 1;
+  refuses = [];
 }
-
 -- `hurt IN CHANGES OUT`
-abbrev pub hurt_row : Row
-hurt_row = record {
+row_of Hurt = record {
   verb = codes "hurt";
   fields = Input ∷ Input ∷ Output ∷ [];
   labels = codes "bytes " ∷ codes " damaged " ∷ [];
-  fewest = 2;
+  refuses = plan ∷ too_long ∷ out_of_air ∷ [];
 }
-
 -- `place IN OUT`
-abbrev pub place_row : Row
-place_row = record {
+row_of Place = record {
   verb = codes "place";
   fields = Input ∷ Output ∷ [];
   labels = codes "packets " ∷ codes " placed " ∷ codes " bare " ∷ codes " loose " ∷ [];
-  fewest = 4;
+  refuses = packet ∷ too_long ∷ [];
 }
-
 -- `trial SEED COUNT`: a seed of 64 bits, 624 to 1,000,000 packets; the line is that of `net` with a receiver
-abbrev pub trial_row : Row
-trial_row = record {
+row_of Trial = record {
   verb = codes "trial";
   fields = Number (2 ^ 64 - 1) ∷ Within 624 1000000 ∷ [];
-  labels = net_row.labels;
-  fewest = 6;
+  labels = network_labels;
+  refuses = packet ∷ too_long ∷ out_of_feed ∷ no_sync ∷ [];
 }
-
 -- `soft IN OUT`
-abbrev pub soft_row : Row
-soft_row = record {
+row_of Soft = record {
   verb = codes "soft";
   fields = Input ∷ Output ∷ [];
   labels = codes "segments " ∷ codes " fields " ∷ codes " cost " ∷ codes " loose " ∷ [];
-  fewest = 4;
+  refuses = too_long ∷ [];
 }
-
 -- `mend IN OUT`: the line is that of `receive`
-abbrev pub mend_row : Row
-mend_row = record {
+row_of Mend = record {
   verb = codes "mend";
   fields = Input ∷ Output ∷ [];
-  labels = receive_row.labels;
-  fewest = 6;
+  labels = receiver_labels;
+  refuses = too_long ∷ no_sync ∷ [];
 }
-
 -- `dvb code IN OUT`
-abbrev pub dvb_code_row : Row
-dvb_code_row = record {
+row_of DvbCode = record {
   verb = codes "dvb";
   fields = Second second.Code ∷ Input ∷ Output ∷ [];
   labels = codes "packets " ∷ codes " loose " ∷ [];
-  fewest = 2;
+  refuses = packet ∷ too_long ∷ [];
 }
-
 -- `dvb read IN OUT`
-abbrev pub dvb_read_row : Row
-dvb_read_row = record {
+row_of DvbRead = record {
   verb = codes "dvb";
   fields = Second second.Read ∷ Input ∷ Output ∷ [];
   labels = codes "blocks " ∷ codes " packets " ∷ codes " fixed " ∷ codes " flagged " ∷ codes " loose " ∷ [];
-  fewest = 5;
+  refuses = too_long ∷ [];
 }
-
 -- `repeat IN ADDRESS DELAY OUT LOG`: address and delay as for `excite`
-abbrev pub repeat_row : Row
-repeat_row = record {
+row_of Repeat = record {
   verb = codes "repeat";
-  fields = excite_row.fields;
+  fields = exciter_fields;
   labels = codes "segments " ∷ codes " runs " ∷ codes " packets " ∷ codes " sent " ∷ codes " presets " ∷ codes
       " mutes " ∷ codes " loose " ∷ [];
-  fewest = 7;
+  refuses = too_long ∷ no_sync ∷ [];
 }
-
 -- `acquire SCALE IN OUT`: 1 to 18 steps a unit of the standard's levels
-abbrev pub acquire_row : Row
-acquire_row = record {
+row_of Acquire = record {
   verb = codes "acquire";
   fields = Within 1 18 ∷ Input ∷ Output ∷ [];
   labels = codes "symbols " ∷ codes " runs " ∷ codes " segments " ∷ codes " cost " ∷ codes " loose " ∷ [];
-  fewest = 5;
+  refuses = too_long ∷ no_sync ∷ [];
 }
-
 -- `watch FEED OUT`
-abbrev pub watch_row : Row
-watch_row = record {
+row_of Watch = record {
   verb = codes "watch";
   fields = Input ∷ Output ∷ [];
   labels = codes "packets " ∷ codes " ops " ∷ codes " slips " ∷ codes " jumps " ∷ codes " unread " ∷ codes
       " stray " ∷ codes " loose " ∷ [];
-  fewest = 7;
+  refuses = too_long ∷ [];
 }
-
 -- `level IN OUT LOG`
-abbrev pub level_row : Row
-level_row = record {
+row_of Level = record {
   verb = codes "level";
   fields = Input ∷ Output ∷ Output ∷ [];
   labels = codes "symbols " ∷ codes " syncs " ∷ codes " slips " ∷ [];
-  fewest = 3;
+  refuses = too_long ∷ no_sync ∷ [];
 }
-
 -- `refine SCALE ROUNDS IN OUT`: a scale of 1 to 18, 1 to 32 rounds
-abbrev pub refine_row : Row
-refine_row = record {
+row_of Refine = record {
   verb = codes "refine";
   fields = Within 1 18 ∷ Within 1 32 ∷ Input ∷ Output ∷ [];
   labels = codes "symbols " ∷ codes " runs " ∷ codes " segments " ∷ codes " cost " ∷ codes " known " ∷ codes " moved "
       ∷ codes " loose " ∷ [];
-  fewest = 7;
+  refuses = too_long ∷ no_sync ∷ [];
 }
 
--- the row of a command
-abbrev pub row_of : Command → Row
-row_of Adapt = adapt_row
-row_of Code = code_row
-row_of Excite = excite_row
-row_of Receive = receive_row
-row_of Net = net_row
-row_of Make = make_row
-row_of Hurt = hurt_row
-row_of Place = place_row
-row_of Trial = trial_row
-row_of Soft = soft_row
-row_of Mend = mend_row
-row_of DvbCode = dvb_code_row
-row_of DvbRead = dvb_read_row
-row_of Repeat = repeat_row
-row_of Acquire = acquire_row
-row_of Watch = watch_row
-row_of Level = level_row
-row_of Refine = refine_row
-
--- the row of the definitions that a row of the code is
-abbrev pub row_behind : CommandRow → Row
-row_behind row = record {
+-- the row of the definitions that a row of the code is; of what is refused the code says nothing
+abbrev pub row_behind : List Refusal → CommandRow → Row
+row_behind refuses row = record {
   verb = row.verb.now;
   fields = row.fields.now;
   labels = map (λ label. label.now) row.labels.now;
-  fewest = row.fewest;
+  refuses = refuses;
 }
 
 -- no input stands after an output

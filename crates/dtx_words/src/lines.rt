@@ -15,9 +15,9 @@ use dtx_outside::{Sink, SinkNo};
 use dtx_plan::PlanNo;
 use itoa::Buffer;
 
-/// Prints the line of an outcome. For `Done` it has the labels of the command's row, each with its number: as many as
-/// the outcome shows, and at least the row's `fewest`. For any other status it is the line of the refusal, which ends
-/// with `name` for `Same` and `Absent`. After an error a prefix of the line was printed.
+/// Prints the line of an outcome. For `Done` it has the labels of the command's row, each with its number: of `net` as
+/// many as the outcome shows, and at least three. For any other status it is the line of the refusal, which ends with
+/// `name` for `Same` and `Absent`. After an error a prefix of the line was printed.
 pub fn line<O: Sink>(
     command: Option<Command>,
     outcome: &Outcome,
@@ -54,16 +54,17 @@ fn put_done<O: Sink>(command: Option<Command>, outcome: &Outcome, out: &mut O) -
     put_all(out, &["\n"])
 }
 
-/// The labels of a line that shows so many numbers: at least the row's `fewest`, and at most all of the row's.
+/// The labels of a line: all of the command's row, but of `net` as many as it shows numbers, and three at least.
 fn labels(command: Option<Command>, shown: usize) -> &'static [&'static str]
     ensures labels { map (λ label. label.now) result.now ≡ labels_of command shown }
     ensures few { length result.now ≤ 7 }
 {
     match command {
-        Some(command) => {
-            let row = row(command);
-            &row.labels[..shown.max(row.fewest).min(row.labels.len())]
+        Some(Command::Net) => {
+            let row = row(Command::Net);
+            &row.labels[..shown.max(3).min(row.labels.len())]
         }
+        Some(command) => row(command).labels,
         None => &[],
     }
 }

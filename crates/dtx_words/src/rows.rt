@@ -139,10 +139,8 @@ pub(crate) struct CommandRow {
     pub verb: &'static str,
     /// What the words that follow stand for.
     pub fields: &'static [Field],
-    /// The text before each number of its line.
+    /// The text before each number of its line; of `net` the first three alone, where it has no receiver.
     pub labels: &'static [&'static str],
-    /// How many numbers its line has at least.
-    pub fewest: usize,
 }
 
 /// All commands.
@@ -193,7 +191,6 @@ const ADAPT: CommandRow = CommandRow {
     verb: "adapt",
     fields: &[Field::Input, Field::Input, Field::Output],
     labels: &["packets ", " filled ", " loose "],
-    fewest: 3,
 };
 
 /// `code IN OUT`
@@ -201,7 +198,6 @@ const CODE: CommandRow = CommandRow {
     verb: "code",
     fields: &[Field::Input, Field::Output],
     labels: &["packets ", " segments ", " loose "],
-    fewest: 3,
 };
 
 /// The fields of an exciter: its input, its address, the delay to it in ticks of 100 ns, its symbols and its log.
@@ -218,7 +214,6 @@ const EXCITE: CommandRow = CommandRow {
     verb: "excite",
     fields: EXCITER_FIELDS,
     labels: &["packets ", " segments ", " presets ", " mutes ", " loose "],
-    fewest: 5,
 };
 
 /// The labels of a receiver's line.
@@ -236,7 +231,6 @@ const RECEIVE: CommandRow = CommandRow {
     verb: "receive",
     fields: &[Field::Input, Field::Output],
     labels: RECEIVER_LABELS,
-    fewest: 6,
 };
 
 /// The labels of a network's line.
@@ -254,7 +248,6 @@ const NET: CommandRow = CommandRow {
     verb: "net",
     fields: &[Field::Input],
     labels: NETWORK_LABELS,
-    fewest: 3,
 };
 
 /// `make SEED COUNT OUT`
@@ -266,7 +259,6 @@ const MAKE: CommandRow = CommandRow {
         Field::Output,
     ],
     labels: &["packets "],
-    fewest: 1,
 };
 
 /// `hurt IN CHANGES OUT`
@@ -274,7 +266,6 @@ const HURT: CommandRow = CommandRow {
     verb: "hurt",
     fields: &[Field::Input, Field::Input, Field::Output],
     labels: &["bytes ", " damaged "],
-    fewest: 2,
 };
 
 /// `place IN OUT`
@@ -282,7 +273,6 @@ const PLACE: CommandRow = CommandRow {
     verb: "place",
     fields: &[Field::Input, Field::Output],
     labels: &["packets ", " placed ", " bare ", " loose "],
-    fewest: 4,
 };
 
 /// `trial SEED COUNT`
@@ -293,7 +283,6 @@ const TRIAL: CommandRow = CommandRow {
         Field::Within(FEWEST_TRIAL, MOST_TRIAL),
     ],
     labels: NETWORK_LABELS,
-    fewest: 6,
 };
 
 /// `soft IN OUT`
@@ -301,7 +290,6 @@ const SOFT: CommandRow = CommandRow {
     verb: "soft",
     fields: &[Field::Input, Field::Output],
     labels: &["segments ", " fields ", " cost ", " loose "],
-    fewest: 4,
 };
 
 /// `mend IN OUT`
@@ -309,7 +297,6 @@ const MEND: CommandRow = CommandRow {
     verb: "mend",
     fields: &[Field::Input, Field::Output],
     labels: RECEIVER_LABELS,
-    fewest: 6,
 };
 
 /// `dvb code IN OUT`
@@ -317,7 +304,6 @@ const DVB_CODE: CommandRow = CommandRow {
     verb: "dvb",
     fields: &[Field::Second(SecondWord::Code), Field::Input, Field::Output],
     labels: &["packets ", " loose "],
-    fewest: 2,
 };
 
 /// `dvb read IN OUT`
@@ -325,7 +311,6 @@ const DVB_READ: CommandRow = CommandRow {
     verb: "dvb",
     fields: &[Field::Second(SecondWord::Read), Field::Input, Field::Output],
     labels: &["blocks ", " packets ", " fixed ", " flagged ", " loose "],
-    fewest: 5,
 };
 
 /// `repeat IN ADDRESS DELAY OUT LOG`
@@ -341,7 +326,6 @@ const REPEAT: CommandRow = CommandRow {
         " mutes ",
         " loose ",
     ],
-    fewest: 7,
 };
 
 /// `acquire SCALE IN OUT`
@@ -349,7 +333,6 @@ const ACQUIRE: CommandRow = CommandRow {
     verb: "acquire",
     fields: &[Field::Within(1, MOST_SCALE), Field::Input, Field::Output],
     labels: &["symbols ", " runs ", " segments ", " cost ", " loose "],
-    fewest: 5,
 };
 
 /// `watch FEED OUT`
@@ -359,7 +342,6 @@ const WATCH: CommandRow = CommandRow {
     labels: &[
         "packets ", " ops ", " slips ", " jumps ", " unread ", " stray ", " loose ",
     ],
-    fewest: 7,
 };
 
 /// `level IN OUT LOG`
@@ -367,7 +349,6 @@ const LEVEL: CommandRow = CommandRow {
     verb: "level",
     fields: &[Field::Input, Field::Output, Field::Output],
     labels: &["symbols ", " syncs ", " slips "],
-    fewest: 3,
 };
 
 /// `refine SCALE ROUNDS IN OUT`
@@ -388,12 +369,11 @@ const REFINE: CommandRow = CommandRow {
         " moved ",
         " loose ",
     ],
-    fewest: 7,
 };
 
 /// The row of a command.
 pub(crate) fn row(command: Command) -> &'static CommandRow
-    ensures { row_behind result.now ≡ row_of command }
+    ensures { row_behind (row_of command).refuses result.now ≡ row_of command }
 {
     match command {
         Command::Adapt => &ADAPT,

@@ -1,27 +1,21 @@
 use Rattle.std.proofs.Common.{◌∙◌}
 use Rattle.dtx_forms.specs.Job.{IsJobPerformed}
-use Rattle.dtx_forms.specs.Logged.{logged_job, logged_stages}
+use Rattle.dtx_forms.specs.Logged.{logged_job}
 use Rattle.dtx_forms.specs.Stages.{IsStaged}
 use Rattle.dtx_forms.proofs.WordsLemmas.{by_four}
 use Rattle.dtx_forms.proofs.logging.transform_logged.Goals as goal
 
-pub returns-in-len4-clause-performed : goal.returns-in-len4-clause-performed
-returns-in-len4-clause-performed g c =
+pub returns-in-len4 : goal.returns-in-len4
+returns-in-len4 g c =
     let job = logged_job g.E.Transforming.command g.E.Engine.shape g.E.Transforming.makes in
-    by_four (λ w. IsJobPerformed job w c.logged_files.result
-    (g.S.Shelf.files c.args.shelf.now) (g.S.Shelf.files c.logged_files.new.shelf)
-    (g.S.Shelf.counts c.args.shelf.now) (g.S.Shelf.counts c.logged_files.new.shelf))
+    let told = g.S.Shelf.files c.args.shelf.now in
+    let now = g.S.Shelf.files c.logged_files.new.shelf in
+    let before = g.S.Shelf.counts c.args.shelf.now in
+    let after = g.S.Shelf.counts c.logged_files.new.shelf in
+    let both = by_four (λ w. IsJobPerformed job w c.logged_files.result told now before after
+    × IsStaged g.S.Shelf.foreseen (job.stages w) c.logged_files.result.status told now before after)
     c.args.words.now _ _ _ c.as_str.result.now c.as_str-in-len4.result.now c.as_str-in-len4-2.result.now
     c.in-len4.len_at_least c.in-len4.len_below (c.as_str.ensures ∙ c.input-item.is)
     (c.as_str-in-len4.ensures ∙ c.output-item.is) (c.as_str-in-len4-2.ensures ∙ c.log-item.is)
-    c.logged_files.ensures.performed
-
-pub returns-in-len4-clause-stages : goal.returns-in-len4-clause-stages
-returns-in-len4-clause-stages g c =
-    by_four (λ w. IsStaged g.S.Shelf.foreseen (logged_stages g.E.Engine.shape g.E.Transforming.makes w)
-    c.logged_files.result.status (g.S.Shelf.files c.args.shelf.now) (g.S.Shelf.files c.logged_files.new.shelf)
-    (g.S.Shelf.counts c.args.shelf.now) (g.S.Shelf.counts c.logged_files.new.shelf))
-    c.args.words.now _ _ _ c.as_str.result.now c.as_str-in-len4.result.now c.as_str-in-len4-2.result.now
-    c.in-len4.len_at_least c.in-len4.len_below (c.as_str.ensures ∙ c.input-item.is)
-    (c.as_str-in-len4.ensures ∙ c.output-item.is) (c.as_str-in-len4-2.ensures ∙ c.log-item.is)
-    c.logged_files.ensures.stages
+    (c.logged_files.ensures.performed, c.logged_files.ensures.stages) in
+    record { performed = both.0; stages = both.1 }
