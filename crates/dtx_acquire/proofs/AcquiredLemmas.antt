@@ -1,25 +1,23 @@
 -- Lemmas of what is acquired: of first symbols, of more behind them, and of their end.
-use Rattle.std.proofs.Common.{◌≡◌, ℕ, ℤ, zero, suc, ◌+◌, ◌*◌, ◌/◌, ◌<◌, ◌≤◌, ◌⊎◌, inl, inr, Bool, true, false, not}
-use Rattle.std.proofs.Common.{Option, Some, None, option_map, List, [], ◌∷◌, ◌++◌, length, map, take, drop, filter}
-use Rattle.std.proofs.Common.{cond, refl, sym, ap, ap₂, ◌∙◌, arith, length-append}
-use Rattle.std.proofs.lemmas.Bool.{cond-true, cond-false, cases_lt, le-leb, le-ltb, leb-true}
-use Rattle.std.proofs.lemmas.List.{drop-append-le, length-drop, length-map, length-take-le, take-append-le}
-use Rattle.std.proofs.lemmas.List.FromFn.{length-map-range_with_len}
+use Rattle.std.proofs.Common.{◌≡◌, ℕ, ℤ, zero, suc, ◌+◌, ◌<◌, ◌≤◌, ◌⊎◌, inl, inr, Bool, true, false, not, Option, Some}
+use Rattle.std.proofs.Common.{None, List, [], ◌∷◌, ◌++◌, length, map, take, drop, filter, append_assoc, refl}
+use Rattle.std.proofs.Common.{sym, ap, ap₂}
+use Rattle.std.proofs.Common.{◌∙◌, arith, length-append}
+use Rattle.std.proofs.lemmas.Bool.{cond-true, cases_lt}
+use Rattle.std.proofs.lemmas.List.{append-nil, length-drop, length-take-le, take-append-drop}
 use Rattle.std.proofs.lemmas.Grind.{flat_map-append}
-use Rattle.dtx_lists.proofs.Range.{map-range_same}
-use Rattle.dtx_soft.specs.Softened.{softened, softened_segment}
 use Rattle.dtx_acquire.specs.Agreement.{agrees, least_from}
-use Rattle.dtx_acquire.specs.AgreementLaws.{past_end}
 use Rattle.dtx_acquire.specs.Acquired.{Field, Sync, acquired, acquired_cost, acquired_rest, acquired_runs}
-use Rattle.dtx_acquire.specs.Acquired.{acquired_so_far, all_syncs, begun_at, behind, due, field_at, fields_where}
-use Rattle.dtx_acquire.specs.Acquired.{given_at, is_met, restored, restored_of, runs_of, segments_from, cost_of}
-use Rattle.dtx_acquire.specs.Acquired.{syncs_from, unless_lost, IsSame, all_fields, behind_groups, heard_in}
-use Rattle.dtx_acquire.specs.Acquired.{heard_rest, heard_so_far, in_groups, last_fields, restored_data}
-use Rattle.dtx_acquire.specs.Acquired.{restored_field, settled_fields}
-use Rattle.dtx_acquire.proofs.PlacesLemmas.{least_gives, least_here, least_misses, least_skip, whole_there}
-use Rattle.dtx_acquire.proofs.SyncsLemmas.{IsEnough, later, sync_of}
-use Rattle.dtx_acquire.proofs.FieldsLemmas.{enough_first, fields_of, fields_short, fields_skip, first_of}
-use Rattle.dtx_acquire.proofs.StepsLemmas.{agrees_front}
+use Rattle.dtx_acquire.specs.Acquired.{acquired_so_far, all_syncs, field_at, fields_where}
+use Rattle.dtx_acquire.specs.Acquired.{is_met, restored, restored_of, runs_of, cost_of}
+use Rattle.dtx_acquire.specs.Acquired.{IsSame, all_fields, heard_in}
+use Rattle.dtx_acquire.specs.Acquired.{heard_rest, heard_so_far, last_fields}
+use Rattle.dtx_acquire.specs.Acquired.{settled_fields}
+use Rattle.dtx_acquire.specs.Acquirer.{field_of, where_wanted}
+use Rattle.dtx_acquire.proofs.PlacesLemmas.{least_gives}
+use Rattle.dtx_acquire.proofs.FieldsLemmas.{fields_short, fields_skip, unmet, wanted_both}
+use Rattle.dtx_acquire.proofs.StepsLemmas.{sought_fields, step_due, step_kept, step_lost}
+use Rattle.dtx_acquire.proofs.WholeLemmas.{length-restored}
 
 pub restored_append : (scale : ℕ) (xs ys : List Field)
     → restored_of scale (xs ++ ys) ≡ restored_of scale xs ++ restored_of scale ys
@@ -30,22 +28,6 @@ pub heard_append : (xs ys : List Field) → heard_in (xs ++ ys) ≡ heard_in xs 
 heard_append xs ys = flat_map-append (λ (field : Field). field.segments) xs ys
 
 -- ---- lengths
-
-length-field : (scale : ℕ) (segments : List (List ℤ)) → length (restored_field scale segments) ≡ length segments
-unfolding restored_field in_groups behind_groups softened
-length-field scale segments =
-    let whole : 4 * (length segments / 4) ≤ length segments = omega arith in
-    let groups = length-take-le (4 * (length segments / 4)) segments whole in
-    let others = length-drop (4 * (length segments / 4)) segments in
-    let soft = length-map-range_with_len (softened_segment scale (in_groups segments)) 0
-    (length (in_groups segments)) in
-    let both = length-append (softened scale (in_groups segments)) (behind_groups segments) in
-    length-map (softened scale (in_groups segments) ++ behind_groups segments) (restored_data scale)
-    ∙ omega (arith, both, soft, groups, others, whole)
-
-pub length-restored : (scale : ℕ) (segments : List (List ℤ)) → length (restored scale segments) ≡ length segments
-length-restored scale [] = refl
-length-restored scale (x ∷ segments) = ap (λ n. suc n) (length-field scale segments)
 
 -- As many segments are restored as were received.
 pub length-heard_in : (scale : ℕ) (fields : List Field) → length (heard_in fields) ≡ length (restored_of scale fields)
@@ -61,11 +43,6 @@ pub length-heard_so_far : (scale : ℕ) (symbols : List ℤ)
 unfolding heard_so_far acquired_so_far
 length-heard_so_far scale symbols = length-heard_in scale (settled_fields symbols)
 
-pub length-heard_rest : (scale : ℕ) (symbols : List ℤ)
-    → length (heard_rest symbols) ≡ length (acquired_rest scale symbols)
-unfolding heard_rest acquired_rest
-length-heard_rest scale symbols = length-heard_in scale (last_fields symbols)
-
 -- ---- symbols in front
 
 pub same_behind : (scale : ℕ) (front symbols : List ℤ)
@@ -79,46 +56,134 @@ same_behind scale front symbols h =
       costs = ap (cost_of scale) same;
     }
 
--- ---- the end
+-- ---- first symbols
 
-no_syncs : (v : List ℤ) (n : ℕ) → syncs_from v n None ≡ []
-unfolding syncs_from
-no_syncs v zero = refl
-no_syncs v (suc n) = refl
+-- These fields are settled, whatever follows. The others are those of the symbols that are held, with what follows.
+abbrev pub AreSettled : Bool → List ℤ → List Field → Bool → List ℤ → Type 0
+AreSettled begins symbols done next held = (wanted : Bool → Bool) (more : List ℤ)
+    → fields_where wanted begins (symbols ++ more)
+    ≡ where_wanted (wanted true) done ++ fields_where wanted next (held ++ more)
 
-parted : (v : List ℤ) (n : ℕ) (o : Option Sync)
-    → fields_of (λ met. true) v (syncs_from v n o)
-    ≡ fields_of (λ met. met) v (syncs_from v n o) ++ fields_of not v (syncs_from v n o)
-unfolding syncs_from behind
-parted v zero o = refl
-parted v (suc n) None = refl
-parted v (suc n) (Some s) = by_met (is_met v s.place) refl (parted v n (behind v s.place))
+-- with nothing behind the symbols
+fields_now : (begins next : Bool) (symbols held : List ℤ) (done : List Field)
+    → AreSettled begins symbols done next held → (wanted : Bool → Bool)
+    → fields_where wanted begins symbols ≡ where_wanted (wanted true) done ++ fields_where wanted next held
+fields_now begins next symbols held done h wanted =
+    ap (fields_where wanted begins) (sym (append-nil symbols)) ∙ h wanted []
+    ∙ ap (λ (xs : List ℤ). where_wanted (wanted true) done ++ fields_where wanted next xs) (append-nil held)
+
+pub settled_by : (next : Bool) (symbols held : List ℤ) (done : List Field) → AreSettled true symbols done next held
+    → length held < 261248 → settled_fields symbols ≡ done
+settled_by next symbols held done h few =
+    fields_now true next symbols held done h (λ met. met)
+    ∙ ap (λ xs. done ++ xs) (fields_short next held few) ∙ append-nil done
+
+-- settled fields, and fewer than so many symbols behind them
+record Parting (begins : Bool) (symbols : List ℤ) (most : ℕ) : Type 0 where
+  done : List Field
+  next : Bool
+  held : List ℤ
+  few : length held < most
+  fields : AreSettled begins symbols done next held
+
+none_more : (b : Bool) (xs : List Field) → xs ≡ where_wanted b [] ++ xs
+none_more true xs = refl
+none_more false xs = refl
+
+-- the first field of many symbols, or their first symbol where no sync is in front
+first_parted : (begins : Bool) (h v : List ℤ) → length h ≡ 261248 → Parting begins (h ++ v) (length (h ++ v))
+first_parted begins h v full = by_front (agrees h 0) refl
   where
-    by_met : (b : Bool) → is_met v s.place ≡ b
-        → fields_of (λ met. true) v (syncs_from v n (behind v s.place))
-        ≡ fields_of (λ met. met) v (syncs_from v n (behind v s.place))
-        ++ fields_of not v (syncs_from v n (behind v s.place))
-        → fields_of (λ met. true) v (syncs_from v (suc n) (Some s))
-        ≡ fields_of (λ met. met) v (syncs_from v (suc n) (Some s)) ++ fields_of not v (syncs_from v (suc n) (Some s))
-    by_met true e behind_is =
-        let rest = syncs_from v n (behind v s.place) in
-        ap (λ xs. field_at v s ∷ xs) behind_is
-        ∙ ap₂ (λ b c. map (field_at v) (cond b (s ∷ filter (λ t. is_met v t.place) rest)
-        (filter (λ t. is_met v t.place) rest))
-        ++ map (field_at v) (cond c (s ∷ filter (λ t. not (is_met v t.place)) rest)
-        (filter (λ t. not (is_met v t.place)) rest))) (sym e) (sym (ap not e))
-    by_met false e behind_is =
-        let none : syncs_from v n (behind v s.place) ≡ [] =
-        ap (syncs_from v n) (cond-false (is_met v s.place) _ None e) ∙ no_syncs v n in
-        ap (λ rest. field_at v s ∷ map (field_at v) (filter (λ (t : Sync). true) rest)) none
-        ∙ ap₂ (λ b c. map (field_at v) (cond b (s ∷ []) []) ++ map (field_at v) (cond c (s ∷ []) [])) (sym e)
-        (sym (ap not e))
-        ∙ ap (λ rest. map (field_at v) (filter (λ t. is_met v t.place) (s ∷ rest))
-        ++ map (field_at v) (filter (λ t. not (is_met v t.place)) (s ∷ rest))) (sym none)
+    field : (next : Bool) (count given : ℕ) → 0 < count
+        → AreSettled begins h (field_of given begins h ∷ []) next (drop count h)
+        → Parting begins (h ++ v) (length (h ++ v))
+    field next count given some fields = record {
+      done = field_of given begins h ∷ [];
+      next = next;
+      held = drop count h ++ v;
+      few = omega (arith, some, full, length-append h v, length-append (drop count h) v, length-drop count h);
+      fields = λ wanted more. simp append_assoc (fields wanted (v ++ more));
+    }
+
+    by_least : agrees h 0 ≡ true → agrees h 260416 ≡ false → (o : Option ℕ) → least_from h 1 ≡ o
+        → Parting begins (h ++ v) (length (h ++ v))
+    by_least a d None e =
+        field true 260417 313 (omega arith) (λ wanted more. step_kept wanted begins h more full a d e)
+    by_least a d (Some r) e =
+        field true r 0 (least_gives agrees h 1 r e).least (λ wanted more. step_lost wanted begins r h more full a d e)
+
+    by_due : agrees h 0 ≡ true → (d : Bool) → agrees h 260416 ≡ d → Parting begins (h ++ v) (length (h ++ v))
+    by_due a true d =
+        field false 260416 313 (omega arith) (λ wanted more. step_due wanted begins h more full a d)
+    by_due a false d = by_least a d (least_from h 1) refl
+
+    by_front : (a : Bool) → agrees h 0 ≡ a → Parting begins (h ++ v) (length (h ++ v))
+    by_front true a = by_due a (agrees h 260416) refl
+    by_front false a = record {
+      done = [];
+      next = begins;
+      held = drop 1 h ++ v;
+      few = omega (arith, full, length-append h v, length-append (drop 1 h) v, length-drop 1 h);
+      fields = λ wanted more. simp append_assoc (sought_fields h (drop 1 h) (record {
+        count = 1;
+        within = omega (arith, full);
+        left = refl;
+        none = λ p l. (let zero : p ≡ 0 = omega arith in (omega (arith, full), ap (agrees h) zero ∙ a));
+      }) wanted begins (v ++ more) ∙ none_more (wanted true) _);
+    }
+
+parted : (n : ℕ) (begins : Bool) (symbols : List ℤ) → length symbols ≤ n
+    → (length symbols < 261248) ⊎ (261248 ≤ length symbols) → Parting begins symbols 261248
+parted n begins symbols l (inl few) = record {
+  done = [];
+  next = begins;
+  held = symbols;
+  few = few;
+  fields = λ wanted more. none_more (wanted true) _;
+}
+parted zero begins symbols l (inr many) = absurd (omega arith)
+parted (suc n) begins symbols l (inr many) =
+    let all : take 261248 symbols ++ drop 261248 symbols ≡ symbols = take-append-drop 261248 symbols in
+    let a = first_parted begins (take 261248 symbols) (drop 261248 symbols) (length-take-le 261248 symbols many) in
+    let b = parted n a.next a.held (omega (arith, a.few, ap length all)) (cases_lt (length a.held) 261248) in
+    record {
+      done = a.done ++ b.done;
+      next = b.next;
+      held = b.held;
+      few = b.few;
+      fields = λ wanted more.
+          ap (λ (xs : List ℤ). fields_where wanted begins (xs ++ more)) (sym all) ∙ a.fields wanted more
+          ∙ ap (λ xs. where_wanted (wanted true) a.done ++ xs) (b.fields wanted more)
+          ∙ wanted_both (wanted true) a.done b.done (fields_where wanted b.next (b.held ++ more));
+    }
+
+-- all symbols, and what is settled of them
+record AreParted (symbols : List ℤ) : Type 0 where
+  parts : Parting true symbols 261248
+  settled : settled_fields symbols ≡ parts.done
+
+all_parted : (symbols : List ℤ) → AreParted symbols
+all_parted symbols =
+    let p = parted (length symbols) true symbols (omega arith) (cases_lt (length symbols) 261248) in
+    record { parts = p; settled = settled_by p.next symbols p.held p.done p.fields p.few }
+
+-- none of few symbols is settled
+few_unmet : (begins : Bool) (v : List ℤ) → length v < 261248
+    → fields_where (λ met. true) begins v ≡ fields_where not begins v
+unfolding fields_where
+few_unmet begins v few = ap (map (field_at v)) (same (all_syncs begins v))
+  where
+    same : (xs : List Sync) → filter (λ s. true) xs ≡ filter (λ s. not (is_met v s.place)) xs
+    same [] = refl
+    same (s ∷ xs) =
+        ap (λ ys. s ∷ ys) (same xs) ∙ sym (cond-true (not (is_met v s.place)) _ _ (ap not (unmet v s.place few)))
 
 parted_fields : (symbols : List ℤ) → all_fields symbols ≡ settled_fields symbols ++ last_fields symbols
-unfolding fields_where all_syncs
-parted_fields symbols = parted symbols (length symbols) (first_of true symbols)
+parted_fields symbols =
+    let all = all_parted symbols in
+    let p = all.parts in
+    let now = fields_now true p.next symbols p.held p.done p.fields in
+    now (λ met. true) ∙ ap₂ ◌++◌ (sym all.settled) (few_unmet p.next p.held p.few ∙ sym (now not))
 
 -- What is acquired of symbols, whatever follows, and what their end adds are all.
 pub all_is_acquired : (scale : ℕ) (symbols : List ℤ)
@@ -144,187 +209,11 @@ pub none_heard : heard_so_far [] ≡ []
 unfolding heard_so_far
 none_heard = ap heard_in (fields_short true [] (omega arith))
 
-least_more : (s t : List ℤ) (from r : ℕ) → least_from s from ≡ Some r → least_from (s ++ t) from ≡ Some r
-least_more s t from r e =
-    let is = least_gives agrees s from r e in
-    let there = whole_there agrees past_end s r is.passes in
-    least_skip agrees past_end (s ++ t) from r is.least
-    (λ i l m. agrees_front s t i (omega (arith, there, m)) ∙ is.before i l m)
-    ∙ least_here agrees past_end (s ++ t) r (agrees_front s t r there ∙ is.passes)
-
-met_more : (s t : List ℤ) (p : ℕ) → is_met s p ≡ true → (p + 261248 ≤ length s) × (is_met (s ++ t) p ≡ true)
-unfolding is_met
-met_more s t p e =
-    let room : p + 260416 + 832 ≤ length s = leb-true (p + 260416 + 832) (length s) e in
-    (omega arith, le-leb (p + 260416 + 832) (length (s ++ t)) (omega (arith, room, length-append s t)))
-
-segments_more : (s t : List ℤ) (p n : ℕ) → p + 832 * n ≤ length s → segments_from (s ++ t) p n ≡ segments_from s p n
-unfolding segments_from
-segments_more s t p n l =
-    map-range_same (λ i. take 832 (drop (p + 832 * i) (s ++ t))) (λ i. take 832 (drop (p + 832 * i) s)) 0 n
-    (λ i a b. ap (take 832) (drop-append-le (p + 832 * i) s t (omega arith))
-    ∙ take-append-le 832 (drop (p + 832 * i) s) t (omega (arith, length-drop (p + 832 * i) s)))
-
--- the field behind a sync whose next one can be judged
-field_more : (s t : List ℤ) (x : Sync) → is_met s x.place ≡ true → field_at (s ++ t) x ≡ field_at s x
-unfolding field_at given_at
-field_more s t x e =
-    let met = met_more s t x.place e in
-    let room : x.place + 260416 + 832 ≤ length s = omega (arith, met.0) in
-    by_due (agrees s (due x.place)) refl (agrees_front s t (due x.place) room) met.0 met.1
-  where
-    field : (n m : ℕ) → n ≡ m → m ≤ 313 → x.place + 261248 ≤ length s
-        → ◌≡◌ {A = Field} (record { begins = x.begins; segments = segments_from (s ++ t) x.place n })
-        (record { begins = x.begins; segments = segments_from s x.place m })
-    field n m f l r =
-        ap (λ k. record { begins = x.begins; segments = segments_from (s ++ t) x.place k }) f
-        ∙ ap (λ xs. record { begins = x.begins; segments = xs }) (segments_more s t x.place m (omega arith))
-
-    few : (o : Option ℕ) → unless_lost x.place o ≤ 313
-    few None = omega arith
-    few (Some r) = by_test _
-      where
-        by_test : (b : Bool) → cond b 0 313 ≤ 313
-        by_test true = omega arith
-        by_test false = omega arith
-
-    -- whether another sync is before the due place
-    lost : x.place + 261248 ≤ length s → (o : Option ℕ) → least_from s (x.place + 1) ≡ o
-        → agrees s (due x.place) ≡ false
-        → unless_lost x.place (least_from (s ++ t) (x.place + 1)) ≡ unless_lost x.place (least_from s (x.place + 1))
-    lost r (Some q) f d =
-        ap (unless_lost x.place) (least_more s t (x.place + 1) q f) ∙ ap (unless_lost x.place) (sym f)
-    lost r None f d =
-        by_more (least_from (s ++ t) (x.place + 1)) refl ∙ ap (unless_lost x.place) (sym f)
-      where
-        by_more : (o : Option ℕ) → least_from (s ++ t) (x.place + 1) ≡ o
-            → unless_lost x.place (least_from (s ++ t) (x.place + 1)) ≡ unless_lost x.place None
-        by_more None g = ap (unless_lost x.place) g
-        by_more (Some q) g =
-            ap (unless_lost x.place) g
-            ∙ cond-false _ 0 313 (le-ltb q (due x.place) (late (cases_lt q (due x.place))))
-          where
-            unlike_tests : ◌≡◌ {A = Bool} true false → ⊥
-            unlike_tests e = cc
-
-            late : (q < due x.place) ⊎ (due x.place ≤ q) → due x.place ≤ q
-            late (inr l) = l
-            late (inl l) =
-                let is = least_gives agrees (s ++ t) (x.place + 1) q g in
-                absurd (unlike_tests (sym is.passes ∙ agrees_front s t q (omega arith)
-                ∙ least_misses agrees past_end s (x.place + 1) q f is.least))
-
-    by_due : (g : Bool) → agrees s (due x.place) ≡ g
-        → agrees (s ++ t) (due x.place) ≡ agrees s (due x.place) → x.place + 261248 ≤ length s
-        → is_met (s ++ t) x.place ≡ true
-        → field_at (s ++ t) x ≡ field_at s x
-    by_due true f h r m =
-        field _ 313 (cond-true (is_met (s ++ t) x.place) _ _ m
-        ∙ cond-true (agrees (s ++ t) (due x.place)) 313 _ (h ∙ f))
-        (omega arith) r
-        ∙ ap (λ n. record { begins = x.begins; segments = segments_from s x.place n })
-        (sym (cond-true (is_met s x.place) _ _ e ∙ cond-true (agrees s (due x.place)) 313 _ f))
-    by_due false f h r m =
-        field _ (unless_lost x.place (least_from s (x.place + 1)))
-        (cond-true (is_met (s ++ t) x.place) _ _ m ∙ cond-false (agrees (s ++ t) (due x.place)) 313 _ (h ∙ f)
-        ∙ lost r (least_from s (x.place + 1)) refl f)
-        (few (least_from s (x.place + 1))) r
-        ∙ ap (λ n. record { begins = x.begins; segments = segments_from s x.place n })
-        (sym (cond-true (is_met s x.place) _ _ e ∙ cond-false (agrees s (due x.place)) 313 _ f))
-
--- the sync behind it is the same, or wasn't there
-behind_more : (s t : List ℤ) (p : ℕ) → is_met s p ≡ true
-    → (behind s p ≡ None) ⊎ (behind (s ++ t) p ≡ behind s p)
-unfolding behind
-behind_more s t p e =
-    let met = met_more s t p e in
-    by_due (agrees s (due p)) refl (agrees_front s t (due p) (omega (arith, met.0))) met.1
-  where
-    by_due : (g : Bool) → agrees s (due p) ≡ g → agrees (s ++ t) (due p) ≡ agrees s (due p)
-        → is_met (s ++ t) p ≡ true → (behind s p ≡ None) ⊎ (behind (s ++ t) p ≡ behind s p)
-    by_due true f h m =
-        inr (cond-true (is_met (s ++ t) p) _ None m ∙ cond-true (agrees (s ++ t) (due p)) _ _ (h ∙ f)
-        ∙ sym (cond-true (is_met s p) _ None e ∙ cond-true (agrees s (due p)) _ _ f))
-    by_due false f h m = by_least (least_from s (p + 1)) refl
-      where
-        was : behind s p ≡ begun_at (least_from s (p + 1))
-        was = cond-true (is_met s p) _ None e ∙ cond-false (agrees s (due p)) _ _ f
-
-        by_least : (o : Option ℕ) → least_from s (p + 1) ≡ o → (behind s p ≡ None) ⊎ (behind (s ++ t) p ≡ behind s p)
-        by_least None g = inl (was ∙ ap begun_at g)
-        by_least (Some r) g =
-            inr (cond-true (is_met (s ++ t) p) _ None m ∙ cond-false (agrees (s ++ t) (due p)) _ _ (h ∙ f)
-            ∙ ap begun_at (least_more s t (p + 1) r g ∙ sym g) ∙ sym was)
-
-behind_unmet : (s : List ℤ) (p : ℕ) → is_met s p ≡ false → behind s p ≡ None
-unfolding behind
-behind_unmet s p e = cond-false (is_met s p) _ None e
-
-abbrev Grows : List ℤ → List ℤ → ℕ → Sync → ℕ → Type 0
-Grows s t n x j = (behind s x.place ≡ None) ⊎ (behind (s ++ t) x.place ≡ behind s x.place)
-    → IsEnough (s ++ t) j (behind (s ++ t) x.place)
-    → (others : List Field)
-    × (fields_of (λ met. met) (s ++ t) (syncs_from (s ++ t) j (behind (s ++ t) x.place))
-    ≡ fields_of (λ met. met) s (syncs_from s n (behind s x.place)) ++ others)
-
-grown : (s t : List ℤ) (n m : ℕ) (o more : Option Sync) → (o ≡ None) ⊎ (more ≡ o) → IsEnough (s ++ t) m more
-    → (others : List Field) × (fields_of (λ met. met) (s ++ t) (syncs_from (s ++ t) m more)
-    ≡ fields_of (λ met. met) s (syncs_from s n o) ++ others)
-unfolding syncs_from
-grown s t zero m o more h k = (fields_of (λ met. met) (s ++ t) (syncs_from (s ++ t) m more), refl)
-grown s t (suc n) m None more h k = (fields_of (λ met. met) (s ++ t) (syncs_from (s ++ t) m more), refl)
-grown s t (suc n) m (Some x) more (inl e) k = absurd (none_some e)
-  where
-    none_some : ◌≡◌ {A = Option Sync} (Some x) None → ⊥
-    none_some e = cc
-grown s t (suc n) m (Some x) more (inr e) k =
-    let found = by_fuel (λ j. grown s t n j (behind s x.place) (behind (s ++ t) x.place)) m (λ y f. k y (e ∙ f)) in
-    (found.0, ap (λ o. fields_of (λ met. met) (s ++ t) (syncs_from (s ++ t) m o)) e ∙ found.1)
-  where
-    by_met : ((j : ℕ) → Grows s t n x j) → (j : ℕ) (b : Bool) → is_met s x.place ≡ b
-        → IsEnough (s ++ t) (suc j) (Some x)
-        → (others : List Field) × (fields_of (λ met. met) (s ++ t) (syncs_from (s ++ t) (suc j) (Some x))
-        ≡ fields_of (λ met. met) s (syncs_from s (suc n) (Some x)) ++ others)
-    by_met grows j true f k =
-        let rest = grows j (behind_more s t x.place f)
-        (λ y g. (let w = later (s ++ t) x.place y g in let a = k x refl in (w.1, omega (arith, w.0, a.1)))) in (
-          rest.0,
-          ap (map (field_at (s ++ t))) (cond-true (is_met (s ++ t) x.place) _ _ (met_more s t x.place f).1)
-              ∙ ap₂ ◌∷◌ (field_more s t x f) rest.1
-              ∙ ap (λ (xs : List Field). xs ++ rest.0)
-              (sym (ap (map (field_at s)) (cond-true (is_met s x.place) _ _ f))),
-        )
-    by_met grows j false f k =
-        let none : syncs_from s n (behind s x.place) ≡ [] =
-        ap (syncs_from s n) (unmet_behind f) ∙ no_syncs s n in (
-          fields_of (λ met. met) (s ++ t) (syncs_from (s ++ t) (suc j) (Some x)),
-          ap (λ (xs : List Field). xs ++ fields_of (λ met. met) (s ++ t) (syncs_from (s ++ t) (suc j) (Some x)))
-              (sym (ap (map (field_at s)) (cond-false (is_met s x.place) _ _ f
-              ∙ ap (filter (λ y. is_met s y.place)) none))),
-        )
-      where
-        unmet_behind : is_met s x.place ≡ false → behind s x.place ≡ None
-        unmet_behind g = behind_unmet s x.place g
-
-    by_fuel : ((j : ℕ) → Grows s t n x j) → (j : ℕ) → IsEnough (s ++ t) j (Some x)
-        → (others : List Field) × (fields_of (λ met. met) (s ++ t) (syncs_from (s ++ t) j (Some x))
-        ≡ fields_of (λ met. met) s (syncs_from s (suc n) (Some x)) ++ others)
-    by_fuel grows zero k = absurd (let a = k x refl in omega (arith, a.0, a.1))
-    by_fuel grows (suc j) k = by_met grows j (is_met s x.place) refl k
-
 settled_grow : (s t : List ℤ) → (others : List Field) × (settled_fields (s ++ t) ≡ settled_fields s ++ others)
-unfolding fields_where all_syncs
 settled_grow s t =
-    grown s t (length s) (length (s ++ t)) (first_of true s) (first_of true (s ++ t)) first
-    (enough_first true (s ++ t) (length (s ++ t)) (omega arith))
-  where
-    by_least : (o : Option ℕ) → least_from s 0 ≡ o
-        → (first_of true s ≡ None) ⊎ (first_of true (s ++ t) ≡ first_of true s)
-    by_least None e = inl (ap (λ o. option_map (sync_of true) o) e)
-    by_least (Some r) e = inr (ap (λ o. option_map (sync_of true) o) (least_more s t 0 r e ∙ sym e))
-
-    first : (first_of true s ≡ None) ⊎ (first_of true (s ++ t) ≡ first_of true s)
-    first = by_least (least_from s 0) refl
+    let all = all_parted s in
+    let others = fields_where (λ met. met) all.parts.next (all.parts.held ++ t) in
+    (others, all.parts.fields (λ met. met) t ∙ ap (λ xs. xs ++ others) (sym all.settled))
 
 -- What is acquired of first symbols is a front part of what is acquired of more.
 pub so_far_grows : (scale : ℕ) (s t : List ℤ)

@@ -1,7 +1,7 @@
 -- Fields of symbols behind others.
 use Rattle.std.proofs.Common.{◌≡◌, ℕ, ℤ, zero, suc, ◌+◌, ◌-◌, ◌*◌, ◌/◌, ◌<◌, ◌≤◌, ◌⊎◌, inl, inr, Bool, true, false}
 use Rattle.std.proofs.Common.{cond, ltb, Option, Some, None, option_map, List, [], ◌∷◌, ◌++◌, length, map, take, drop}
-use Rattle.std.proofs.Common.{filter, refl, sym, ap, ap₂, ◌∙◌, arith, length-append}
+use Rattle.std.proofs.Common.{filter, append_assoc, refl, sym, ap, ap₂, ◌∙◌, arith, length-append}
 use Rattle.std.proofs.Math.Seq.{drop-append-add}
 use Rattle.std.proofs.lemmas.Bool.{cond-true, cond-false, cases_lt, lt-leb, lt-ltb, le-ltb}
 use Rattle.dtx_lists.proofs.Range.{map-range_same}
@@ -110,6 +110,11 @@ later_first begins k (Some p) = refl
 
 -- ---- what is in front
 
+pub wanted_both : (b : Bool) (xs ys zs : List Field)
+    → where_wanted b xs ++ (where_wanted b ys ++ zs) ≡ where_wanted b (xs ++ ys) ++ zs
+wanted_both true xs ys zs = sym (append_assoc xs ys zs)
+wanted_both false xs ys zs = refl
+
 -- Where no place of a front agrees, the fields are those behind it.
 pub fields_skip : (wanted : Bool → Bool) (begins : Bool) (front v : List ℤ)
     → ((p : ℕ) → p < length front → agrees (front ++ v) p ≡ false)
@@ -169,7 +174,7 @@ fields_next wanted begins next front v h met some e =
 
 -- ---- the end
 
-unmet : (v : List ℤ) (p : ℕ) → length v < 261248 → is_met v p ≡ false
+pub unmet : (v : List ℤ) (p : ℕ) → length v < 261248 → is_met v p ≡ false
 unfolding is_met
 unmet v p l = lt-leb (p + 260416 + 832) (length v) (omega arith)
 

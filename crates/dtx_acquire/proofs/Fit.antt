@@ -6,7 +6,7 @@ use Rattle.dtx_acquire.specs.Agreement.{agrees}
 use Rattle.dtx_acquire.specs.AgreementLaws.{past_end}
 use Rattle.dtx_acquire.specs.Acquired.{path_cost, segments_from}
 use Rattle.dtx_acquire.specs.Acquirer.{IsFit, IsSought}
-use Rattle.dtx_acquire.proofs.Leaving.{length-segments_from}
+use Rattle.dtx_acquire.proofs.WholeLemmas.{length-segments_from}
 use Rattle.dtx_acquire.proofs.PlacesLemmas.{whole_there}
 use Rattle.dtx_acquire.proofs.StepsLemmas.{agrees_front}
 

@@ -1,76 +1,21 @@
 -- How many segments fields give: each but the last 313 or none.
-use Rattle.std.proofs.Common.{◌≡◌, ℕ, ℤ, zero, suc, ◌+◌, ◌-◌, ◌*◌, ◌/◌, ◌%◌, ◌<◌, ◌≤◌, ◌⊎◌, inl, inr, Bool, true, false}
+use Rattle.std.proofs.Common.{◌≡◌, ℕ, ℤ, zero, suc, ◌+◌, ◌-◌, ◌/◌, ◌%◌, ◌<◌, ◌≤◌, ◌⊎◌, inl, inr, Bool, true, false}
 use Rattle.std.proofs.Common.{◌&&◌, cond, nat_lt, ◌↔◌, Option, Some, None, option_map, List, [], ◌∷◌, ◌++◌, length, map}
-use Rattle.std.proofs.Common.{refl, sym, ap, ap₂, ◌∙◌, subst, arith}
-use Rattle.std.proofs.lemmas.Bool.{cond-false, cond-true, leb-false, leb-true, lt-ltb}
+use Rattle.std.proofs.Common.{filter, refl, sym, ap, ap₂, ◌∙◌, subst, arith}
+use Rattle.std.proofs.lemmas.Bool.{lt-ltb}
 use Rattle.std.proofs.lemmas.List.{append-nil, length-append}
 use Rattle.std.proofs.lemmas.List.Sums.{sum_by-cons}
 use Rattle.dtx_acquire.specs.Agreement.{agrees, least_from}
 use Rattle.dtx_acquire.specs.Acquired.{Field, Sync, acquired, acquired_runs, all_fields, all_syncs, begun, begun_at}
 use Rattle.dtx_acquire.specs.Acquired.{behind, due, field_at, fields_where, given_at, is_met, restored, restored_of}
-use Rattle.dtx_acquire.specs.Acquired.{runs_of, segments_from, syncs_from, unless_lost}
-use Rattle.dtx_acquire.proofs.FieldsLemmas.{enough_first, fields_of, first_of}
+use Rattle.dtx_acquire.specs.Acquired.{runs_of, syncs_from, unless_lost}
+use Rattle.dtx_acquire.proofs.FieldsLemmas.{fields_of, first_of}
 use Rattle.dtx_acquire.specs.Sent.{AreInFields}
-use Rattle.dtx_acquire.proofs.SyncsLemmas.{later, sync_of}
-use Rattle.dtx_acquire.proofs.GivenSegments.{from_whole, restored_given, segments_append}
-use Rattle.dtx_acquire.proofs.AcquiredLemmas.{length-restored}
-use Rattle.dtx_acquire.proofs.Leaving.{length-segments_from}
+use Rattle.dtx_acquire.proofs.SyncsLemmas.{sync_of}
+use Rattle.dtx_acquire.proofs.GivenSegments.{restored_given, segments_append}
+use Rattle.dtx_acquire.proofs.WholeLemmas.{IsAll, given_met, given_room, length-field_at, length-restored, long_at}
 
 -- ---- a field
-
-abbrev IsAll : ℕ → Type 0
-IsAll n = (n ≡ 313) ⊎ (n ≡ 0)
-
-unless_all : (p : ℕ) (o : Option ℕ) → IsAll (unless_lost p o)
-unless_all p None = inl refl
-unless_all p (Some r) = by_test (nat_lt r (due p))
-  where
-    by_test : (b : Bool) → IsAll (cond b 0 313)
-    by_test true = inr refl
-    by_test false = inl refl
-
--- where another sync is behind it
-given_before : (v : List ℤ) (p : ℕ) → is_met v p ≡ true → IsAll (given_at v p)
-unfolding given_at
-given_before v p m = by_due (agrees v (due p)) refl
-  where
-    by_due : (g : Bool) → agrees v (due p) ≡ g
-        → IsAll (cond (is_met v p) (cond (agrees v (due p)) 313 (unless_lost p (least_from v (p + 1))))
-        ((length v - p) / 832))
-    by_due true e =
-        subst IsAll (sym (cond-true (is_met v p) _ ((length v - p) / 832) m ∙ cond-true (agrees v (due p)) 313 _ e))
-        (inl refl)
-    by_due false e =
-        subst IsAll (sym (cond-true (is_met v p) _ ((length v - p) / 832) m ∙ cond-false (agrees v (due p)) 313 _ e))
-        (unless_all p (least_from v (p + 1)))
-
-given_last : (v : List ℤ) (p : ℕ) → is_met v p ≡ false → given_at v p ≡ (length v - p) / 832
-unfolding given_at
-given_last v p m = cond-false (is_met v p) _ ((length v - p) / 832) m
-
-met_room : (v : List ℤ) (p : ℕ) → is_met v p ≡ true → p + 261248 ≤ length v
-unfolding is_met
-met_room v p m = (let room : p + 260416 + 832 ≤ length v = leb-true (p + 260416 + 832) (length v) m in omega arith)
-
-unmet_room : (v : List ℤ) (p : ℕ) → is_met v p ≡ false → length v < p + 261248
-unfolding is_met
-unmet_room v p m = (let room : length v < p + 260416 + 832 = leb-false (p + 260416 + 832) (length v) m in omega arith)
-
--- its segments are there, and no more than a field has
-pub given_room : (v : List ℤ) (p : ℕ) → p ≤ length v → (p + 832 * given_at v p ≤ length v) × (given_at v p ≤ 313)
-given_room v p l = by_met (is_met v p) refl
-  where
-    by_all : p + 261248 ≤ length v → IsAll (given_at v p)
-        → (p + 832 * given_at v p ≤ length v) × (given_at v p ≤ 313)
-    by_all room (inl e) = (omega (arith, room, e), omega (arith, e))
-    by_all room (inr e) = (omega (arith, room, e), omega (arith, e))
-
-    by_met : (m : Bool) → is_met v p ≡ m → (p + 832 * given_at v p ≤ length v) × (given_at v p ≤ 313)
-    by_met true e = by_all (met_room v p e) (given_before v p e)
-    by_met false e =
-        let short = unmet_room v p e in
-        let is = given_last v p e in
-        (omega (arith, l, short, is), omega (arith, l, short, is))
 
 behind_met : (v : List ℤ) (p : ℕ) (s : Sync) → behind v p ≡ Some s → is_met v p ≡ true
 unfolding behind
@@ -96,18 +41,10 @@ abbrev AreGiven : ℕ → List Field → Type 0
 AreGiven scale [] = Unit {0}
 AreGiven scale (x ∷ xs) = AreInFields (restored scale x.segments) × IsWhole x xs × AreGiven scale xs
 
-length-at : (v : List ℤ) (s : Sync) → length (field_at v s).segments ≡ given_at v s.place
-unfolding field_at
-length-at v s = length-segments_from v s.place (given_at v s.place)
-
-field_segments : (scale : ℕ) (v : List ℤ) (s : Sync) → 0 < scale → s.place ≤ length v
-    → AreInFields (restored scale (field_at v s).segments)
-unfolding field_at
-field_segments scale v s some l =
-    let room = given_room v s.place l in
-    restored_given scale (segments_from v s.place (given_at v s.place)) some
-    (from_whole v s.place (given_at v s.place) room.0)
-    (omega (arith, room.1, length-segments_from v s.place (given_at v s.place)))
+field_segments : (scale : ℕ) (v : List ℤ) (s : Sync) → 0 < scale → AreInFields (restored scale (field_at v s).segments)
+field_segments scale v s some =
+    restored_given scale (field_at v s).segments some (long_at v s)
+    (omega (arith, (given_room v s.place).few, length-field_at v s))
 
 whole_next : (v : List ℤ) (s : Sync) (n : ℕ) (o : Option Sync) → behind v s.place ≡ o
     → IsWhole (field_at v s) (fields_of (λ met. true) v (syncs_from v n o))
@@ -115,24 +52,22 @@ unfolding syncs_from
 whole_next v s zero o e = tt
 whole_next v s (suc n) None e = tt
 whole_next v s (suc n) (Some t) e =
-    subst IsAll (sym (length-at v s)) (given_before v s.place (behind_met v s.place t e))
+    subst IsAll (sym (length-field_at v s)) (given_met v s.place (behind_met v s.place t e))
 
 given_from : (scale : ℕ) (v : List ℤ) (n : ℕ) (o : Option Sync) → 0 < scale
-    → ((s : Sync) → o ≡ Some s → s.place ≤ length v) → AreGiven scale (fields_of (λ met. true) v (syncs_from v n o))
+    → AreGiven scale (fields_of (λ met. true) v (syncs_from v n o))
 unfolding syncs_from
-given_from scale v zero o some h = tt
-given_from scale v (suc n) None some h = tt
-given_from scale v (suc n) (Some s) some h = (
-  field_segments scale v s some (h s refl),
+given_from scale v zero o some = tt
+given_from scale v (suc n) None some = tt
+given_from scale v (suc n) (Some s) some = (
+  field_segments scale v s some,
   whole_next v s n (behind v s.place) refl,
-  given_from scale v n (behind v s.place) some (λ t e. (let w = later v s.place t e in omega (arith, w.1))),
+  given_from scale v n (behind v s.place) some,
 )
 
 all_given : (scale : ℕ) (v : List ℤ) → 0 < scale → AreGiven scale (all_fields v)
 unfolding fields_where all_syncs
-all_given scale v some =
-    given_from scale v (length v) (first_of true v) some
-    (λ s e. (let w = enough_first true v (length v) (omega arith) s e in omega (arith, w.0)))
+all_given scale v some = given_from scale v (length v) (first_of true v) some
 
 restored_segments : (scale : ℕ) (fields : List Field) → AreGiven scale fields → AreInFields (restored_of scale fields)
 unfolding restored_of
@@ -173,21 +108,13 @@ abbrev AreShort : List Field → Type 0
 AreShort [] = Unit {0}
 AreShort (x ∷ xs) = (length x.segments ≤ 313) × AreShort xs
 
-short_from : (v : List ℤ) (n : ℕ) (o : Option Sync) → ((s : Sync) → o ≡ Some s → s.place ≤ length v)
-    → AreShort (fields_of (λ met. true) v (syncs_from v n o))
-unfolding syncs_from
-short_from v zero o h = tt
-short_from v (suc n) None h = tt
-short_from v (suc n) (Some s) h = (
-  (let room = given_room v s.place (h s refl) in omega (arith, room.1, length-at v s)),
-  short_from v n (behind v s.place) (λ t e. (let w = later v s.place t e in omega (arith, w.1))),
-)
-
 all_short : (v : List ℤ) → AreShort (all_fields v)
-unfolding fields_where all_syncs
-all_short v =
-    short_from v (length v) (first_of true v)
-    (λ s e. (let w = enough_first true v (length v) (omega arith) s e in omega (arith, w.0)))
+unfolding fields_where
+all_short v = short (filter (λ s. true) (all_syncs true v))
+  where
+    short : (syncs : List Sync) → AreShort (map (field_at v) syncs)
+    short [] = tt
+    short (s ∷ syncs) = (omega (arith, (given_room v s.place).few, length-field_at v s), short syncs)
 
 short_at : (fields front : List Field) (x : Field) (back : List Field) → AreShort fields
     → fields ≡ front ++ x ∷ back → length x.segments ≤ 313
@@ -251,7 +178,7 @@ none_from v (suc n) s b z =
     let all = runs-cons (field_at v s) (fields_of (λ met. true) v (syncs_from v n (behind v s.place))) in
     let none = not_begun (field_at v s) b (omega (arith, all, z)) in (
       none,
-      by_next n (behind v s.place) refl (sym (length-at v s) ∙ none) (omega (arith, all, z))
+      by_next n (behind v s.place) refl (sym (length-field_at v s) ∙ none) (omega (arith, all, z))
           (λ t c y. none_from v n t c y),
     )
   where

@@ -1,24 +1,20 @@
 -- What is restored of a field: a field sync, and data segments behind it.
 use Rattle.std.proofs.Common.{◌≡◌, ◌≢◌, ℕ, ℤ, pos, negsuc, zero, suc, ◌+◌, ◌-◌, ◌*◌, ◌/◌, ◌%◌, ◌<◌, ◌≤◌, ◌⊎◌, inl, inr}
-use Rattle.std.proofs.Common.{min, List, [], ◌∷◌, ◌++◌, length, map, take, drop, get_or}
+use Rattle.std.proofs.Common.{min, List, [], ◌∷◌, ◌++◌, length, map, drop, get_or}
 use Rattle.std.proofs.Common.{refl, sym, ap, ◌∙◌, subst, arith}
 use Rattle.std.proofs.Math.Nat.{div-lt_iff_lt-mul}
 use Rattle.std.proofs.lemmas.Bool.{cases_lt}
-use Rattle.std.proofs.lemmas.List.{get_or-append_right, get_or-drop, get_or-map, get_or_append_left}
-use Rattle.std.proofs.lemmas.List.{length-append, length-drop, length-map, length-take-le}
-use Rattle.std.proofs.lemmas.List.FromFn.{get_or-map-range_with_len, length-map-range_with_len}
+use Rattle.std.proofs.lemmas.List.{get_or-append_right, get_or-map, get_or_append_left}
+use Rattle.std.proofs.lemmas.List.{length-append, length-drop, length-map}
 use Rattle.std.proofs.lemmas.Simd.{map-map}
 use Rattle.dtx_trellis.specs.Trellis.{symbol_of}
 use Rattle.dtx_frame.specs.Segments.{data_segment, field_sync, segment_sync}
 use Rattle.dtx_soft.specs.Softened.{softened}
-use Rattle.dtx_soft.proofs.SoftenedLemmas.{softened_found}
 use Rattle.dtx_acquire.specs.Acquired.{behind_groups, in_groups, restored, restored_data, restored_field, restored_sync}
-use Rattle.dtx_acquire.specs.Acquired.{segments_from}
 use Rattle.dtx_acquire.specs.Agreement.{is_second}
 use Rattle.dtx_acquire.specs.Scaled.{scaled_level}
 use Rattle.dtx_acquire.specs.Sent.{AreLevels, AreInFields, IsData, IsSync}
-use Rattle.dtx_acquire.proofs.AcquiredLemmas.{length-restored}
-use Rattle.dtx_acquire.proofs.NearGroups.{softened_row}
+use Rattle.dtx_acquire.proofs.WholeLemmas.{AreLong, length-restored, long_decided}
 
 -- ---- a segment
 
@@ -62,37 +58,16 @@ sync_given scale row l e = record {
 
 -- ---- a field
 
-abbrev pub AreWhole : List (List ℤ) → Type 0
-AreWhole rows = (i : ℕ) → i < length rows → length (get_or rows i []) ≡ 832
-
-softened_whole : (scale : ℕ) (rows : List (List ℤ)) → AreWhole (softened scale rows)
-softened_whole scale rows = λ i l. softened_row scale rows i (omega (arith, l, (softened_found scale rows).long))
-
-whole_append : (xs ys : List (List ℤ)) → AreWhole xs → AreWhole ys → AreWhole (xs ++ ys)
-whole_append xs ys h k = λ i l. by_place i l (cases_lt i (length xs))
-  where
-    by_place : (i : ℕ) → i < length (xs ++ ys) → (i < length xs) ⊎ (length xs ≤ i)
-        → length (get_or (xs ++ ys) i []) ≡ 832
-    by_place i l (inl m) = ap length (get_or_append_left xs ys [] i m) ∙ h i m
-    by_place i l (inr m) =
-        ap length (get_or-append_right xs ys (length xs) i [] refl m)
-        ∙ k (i - length xs) (omega (arith, l, m, length-append xs ys))
-
-whole_drop : (n : ℕ) (rows : List (List ℤ)) → AreWhole rows → AreWhole (drop n rows)
-whole_drop n rows h = λ i l. ap length (get_or-drop n rows i []) ∙ h (n + i) (omega (arith, l, length-drop n rows))
-
-field_given : (scale : ℕ) (rows : List (List ℤ)) (i : ℕ) → 0 < scale → AreWhole rows
+field_given : (scale : ℕ) (rows : List (List ℤ)) (i : ℕ) → 0 < scale → AreLong rows
     → i < length (restored_field scale rows) → IsData (get_or (restored_field scale rows) i [])
-unfolding restored_field behind_groups
+unfolding restored_field
 field_given scale rows i some h l =
-    let all = softened scale (in_groups rows) ++ drop (4 * (length rows / 4)) rows in
+    let all : List (List ℤ) = softened scale (in_groups rows) ++ behind_groups rows in
     let m : i < length all = omega (arith, l, length-map all (restored_data scale)) in
     subst IsData (sym (get_or-map (restored_data scale) all i [] [] m))
-    (data_given scale (get_or all i []) some
-    (whole_append (softened scale (in_groups rows)) (drop (4 * (length rows / 4)) rows)
-    (softened_whole scale (in_groups rows)) (whole_drop (4 * (length rows / 4)) rows h) i m))
+    (data_given scale (get_or all i []) some (long_decided scale rows h i m))
 
-pub restored_given : (scale : ℕ) (rows : List (List ℤ)) → 0 < scale → AreWhole rows → length rows ≤ 313
+pub restored_given : (scale : ℕ) (rows : List (List ℤ)) → 0 < scale → AreLong rows → length rows ≤ 313
     → AreInFields (restored scale rows)
 restored_given scale [] some h few = record {
   syncs = λ i l e. absurd (omega arith);
@@ -111,16 +86,6 @@ restored_given scale (r ∷ rows) some h few = record {
         → IsData (get_or (restored scale (r ∷ rows)) i [])
     data_at zero l e = absurd (e refl)
     data_at (suc i) l e = field_given scale rows i some (λ j m. h (suc j) (omega arith)) (omega arith)
-
-pub from_whole : (symbols : List ℤ) (place count : ℕ) → place + 832 * count ≤ length symbols
-    → AreWhole (segments_from symbols place count)
-unfolding segments_from
-from_whole symbols place count l = λ i m.
-    let n : i < count = omega
-    (arith, m, length-map-range_with_len (λ i. take 832 (drop (place + 832 * i) symbols)) 0 count) in
-    ap length (get_or-map-range_with_len (λ i. take 832 (drop (place + 832 * i) symbols)) 0 count i i [] n
-    (omega arith))
-    ∙ length-take-le 832 (drop (place + 832 * i) symbols) (omega (arith, l, n, length-drop (place + 832 * i) symbols))
 
 -- ---- one behind the other
 

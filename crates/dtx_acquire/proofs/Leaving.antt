@@ -1,10 +1,9 @@
 -- What an acquirer holds, step by step.
-use Rattle.std.proofs.Common.{◌≡◌, ℕ, ℤ, ◌+◌, ◌*◌, ◌/◌, ◌<◌, ◌⊎◌, inl, inr, Bool, true, false, not}
-use Rattle.std.proofs.Common.{List, [], ◌∷◌, ◌++◌, length, map, sum, take, drop, append_assoc, refl, sym, ap}
+use Rattle.std.proofs.Common.{◌≡◌, ℕ, ℤ, ◌+◌, ◌/◌, ◌<◌, ◌⊎◌, inl, inr, Bool, true, false, not}
+use Rattle.std.proofs.Common.{List, [], ◌∷◌, ◌++◌, length, map, sum, drop, append_assoc, refl, sym, ap}
 use Rattle.std.proofs.Common.{ap₂, ◌∙◌, subst}
 use Rattle.std.proofs.Common.{arith, length-append}
 use Rattle.std.proofs.lemmas.List.{append-nil, length-drop, map-append}
-use Rattle.std.proofs.lemmas.List.FromFn.{length-map-range_with_len}
 use Rattle.std.proofs.lemmas.List.Sums.{sum_by-append, sum_by-cons}
 use Rattle.dtx_acquire.specs.Agreement.{agrees}
 use Rattle.dtx_acquire.specs.AgreementLaws.{past_end}
@@ -15,8 +14,9 @@ use Rattle.dtx_acquire.specs.Acquired.{last_fields, path_cost, restored, restore
 use Rattle.dtx_acquire.specs.Acquired.{settled_fields}
 use Rattle.dtx_acquire.specs.Acquirer.{Holding, IsSought, Leaves, StandsFor, field_of, where_wanted}
 use Rattle.dtx_acquire.proofs.PlacesLemmas.{least_none}
-use Rattle.dtx_acquire.proofs.AcquiredLemmas.{heard_append, length-restored, restored_append}
-use Rattle.dtx_acquire.proofs.FieldsLemmas.{fields_last, fields_none, fields_short}
+use Rattle.dtx_acquire.proofs.AcquiredLemmas.{heard_append, restored_append, settled_by}
+use Rattle.dtx_acquire.proofs.WholeLemmas.{length-restored, length-segments_from}
+use Rattle.dtx_acquire.proofs.FieldsLemmas.{fields_last, fields_none, wanted_both}
 use Rattle.dtx_acquire.proofs.StepsLemmas.{sought_fields}
 
 -- ---- sums
@@ -54,19 +54,7 @@ cost_one scale field =
     added : (n : ℕ) → n + 0 ≡ n
     added n = omega arith
 
--- ---- lengths
-
-pub length-segments_from : (symbols : List ℤ) (place count : ℕ) → length (segments_from symbols place count) ≡ count
-unfolding segments_from
-length-segments_from symbols place count =
-    length-map-range_with_len (λ i. take 832 (drop (place + 832 * i) symbols)) 0 count
-
 -- ---- fields
-
-wanted_both : (b : Bool) (xs ys : List Field) (zs : List Field)
-    → where_wanted b xs ++ (where_wanted b ys ++ zs) ≡ where_wanted b (xs ++ ys) ++ zs
-wanted_both true xs ys zs = sym (append_assoc xs ys zs)
-wanted_both false xs ys zs = refl
 
 -- more symbols
 pub leaves_more : (old new : Holding) (symbols more : List ℤ) (done : List Field) → Leaves old symbols done
@@ -150,10 +138,7 @@ leaves_settled old new held count given symbols done h same step left counted sc
 
 pub settled_are : (holding : Holding) (symbols : List ℤ) (done : List Field) → Leaves holding symbols done
     → length holding.held < 261248 → settled_fields symbols ≡ done
-settled_are holding symbols done h few =
-    ap (fields_where (λ met. met) true) (sym (append-nil symbols)) ∙ h.fields (λ met. met) []
-    ∙ ap (λ (xs : List ℤ). done ++ fields_where (λ met. met) holding.begins xs) (append-nil holding.held)
-    ∙ ap (λ xs. done ++ xs) (fields_short holding.begins holding.held few) ∙ append-nil done
+settled_are holding symbols done h few = settled_by holding.begins symbols holding.held done h.fields few
 
 pub stands_by : (holding : Holding) (symbols : List ℤ) (done : List Field) → Leaves holding symbols done
     → length holding.held < 261248 → StandsFor holding symbols

@@ -12,6 +12,7 @@ pub mod Levels
 pub mod Each
 pub mod Leaving
 mod Fit
+pub mod WholeLemmas
 pub mod SentLemmas
 pub mod NearLevels
 pub mod NearPaths

@@ -1,19 +1,19 @@
 -- Whole groups whose symbols lie near those of paths: these paths are the least ones, and what is restored is what was
 -- sent.
 use Rattle.std.proofs.Common.{◌≡◌, ℕ, ℤ, pos, zero, suc, ◌+◌, ◌-◌, ◌*◌, ◌/◌, ◌%◌, ◌<◌, ◌≤◌, ◌⊎◌, inl, inr, ◌-ℤ◌}
-use Rattle.std.proofs.Common.{◌*ℤ◌, cond, nat_abs, nat_lt, List, [], ◌∷◌, ◌++◌, length, map, take, drop, get_or}
+use Rattle.std.proofs.Common.{◌*ℤ◌, nat_abs, List, [], ◌∷◌, ◌++◌, length, map, take, drop, get_or}
 use Rattle.std.proofs.Common.{sym, ap, ap₂, ◌∙◌}
 use Rattle.std.proofs.Common.{subst, arith}
 use Rattle.std.proofs.lemmas.Bool.{cases_lt}
 use Rattle.std.proofs.lemmas.Int.{ints}
 use Rattle.std.proofs.lemmas.List.{get_or-map, length-map, map-append, take-append-drop}
-use Rattle.std.proofs.lemmas.List.FromFn.{get_or-map-range_with_len, length-map-range_with_len}
+use Rattle.std.proofs.lemmas.List.FromFn.{get_or-map-range_with_len}
 use Rattle.dtx_trellis.specs.Trellis.{symbol_of}
 use Rattle.dtx_slice.specs.Unrolled.{symbol_place}
 use Rattle.dtx_trellis.specs.Pairs.{coder_at}
 use Rattle.dtx_soft.specs.Coders.{IsSoftened, coder_symbols, data_symbol}
 use Rattle.dtx_soft.specs.Paths.{IsPath, next_state, symbol_at}
-use Rattle.dtx_soft.specs.Softened.{IsOwn, softened, softened_segment, softened_symbol}
+use Rattle.dtx_soft.specs.Softened.{IsOwn, softened}
 use Rattle.dtx_soft.proofs.SoftenedLemmas.{coder_small, length-coder, own_place, softened_found}
 use Rattle.dtx_acquire.specs.Acquired.{behind_groups, in_groups, restored_data, restored_field}
 use Rattle.dtx_acquire.specs.Sent.{IsNear}
@@ -22,6 +22,7 @@ use Rattle.dtx_acquire.proofs.NearPaths.{AreNearest, costs_same}
 use Rattle.dtx_acquire.proofs.NearRows.{AreData, AreNearRows, data_drop, data_take, near_drop, near_take}
 use Rattle.dtx_acquire.proofs.NearRows.{rows_restored}
 use Rattle.dtx_acquire.proofs.SentLemmas.{length_data}
+use Rattle.dtx_acquire.proofs.WholeLemmas.{long_softened}
 
 -- ---- places
 
@@ -138,18 +139,6 @@ softened_near scale sent rows new d some owns h near is l =
     (omega (arith, t, long_own sent (coder_at 0 d) own))))
     (same_near scale (get_or own.levels (d / 12) 0) some small)))
 
--- symbol k of row i
-abbrev softened_entry : ℕ → List (List ℤ) → ℕ → ℕ → ℤ
-softened_entry scale rows i k =
-    cond (nat_lt k 4) (get_or (get_or rows i []) k (pos 0)) (softened_symbol scale rows (828 * i + (k - 4)))
-
-pub softened_row : (scale : ℕ) (rows : List (List ℤ)) (i : ℕ) → i < length rows
-    → length (get_or (softened scale rows) i []) ≡ 832
-unfolding softened softened_segment
-softened_row scale rows i l =
-    ap length (get_or-map-range_with_len (softened_segment scale rows) 0 (length rows) i i [] l (omega arith))
-    ∙ length-map-range_with_len (softened_entry scale rows i) 0 832
-
 softened_rows : (scale : ℕ) (sent rows : List (List ℤ)) → 0 < scale → HasOwn sent → AreData sent
     → AreNearRows scale sent rows → AreNearRows scale sent (softened scale rows)
 unfolding data_symbol
@@ -159,7 +148,8 @@ softened_rows scale sent rows some owns h near =
       long = is.long ∙ near.long;
       each = λ i l. (let m : i < length rows = omega (arith, l, near.long) in
           record {
-            long = softened_row scale rows i m ∙ sym (length_data (get_or sent i []) (h i l));
+            long = long_softened scale rows i (omega (arith, m, is.long))
+                ∙ sym (length_data (get_or sent i []) (h i l));
             near = λ k n. by_place i k l (omega (arith, n, length_data (get_or sent i []) (h i l))) is (cases_lt k 4);
           });
     }

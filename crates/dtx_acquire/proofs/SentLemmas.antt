@@ -13,6 +13,7 @@ use Rattle.dtx_frame.proofs.CountsLemmas.{sum_is, total_ones, total_zeros}
 use Rattle.dtx_frame.proofs.SymbolsLemmas as symbols
 use Rattle.dtx_acquire.specs.Agreement.{are_unlike, is_plus, is_second, sync_sign, unlike, unlike_at}
 use Rattle.dtx_acquire.specs.Sent.{AreInFields, AreLevels, IsData, IsSync}
+use Rattle.dtx_acquire.proofs.WholeLemmas.{AreLong}
 
 -- ---- a field sync's symbols
 
@@ -228,10 +229,6 @@ row_small sent h i k l m = by_place (cases_eq (i % 313) 0)
     by_place : (i % 313 ≡ 0) ⊎ (i % 313 ≢ 0) → nat_abs (get_or (get_or sent i []) k (pos 0)) ≤ 7
     by_place (inl e) = sync_small (get_or sent i []) (h.syncs i l e) k m
     by_place (inr e) = data_small (get_or sent i []) (h.others i l e) k m
-
--- segments of 832 symbols
-abbrev AreLong : List (List ℤ) → Type 0
-AreLong xs = (i : ℕ) → i < length xs → length (get_or xs i []) ≡ 832
 
 length-rows : (xs : List (List ℤ)) → AreLong xs → length (all_symbols xs) ≡ 832 * length xs
 length-rows [] h = refl

@@ -64,6 +64,7 @@ impl Acquirer {
         requires to { scale ≤ MAX_SCALE }
         ensures stands { IfOk result (λ acquirer. StandsFor acquirer []) }
         ensures given { IfOk result (λ acquirer. acquirer.given ≡ []) }
+        ensures held { IfOk result (λ acquirer. acquirer.held ≡ []) }
         ensures scale { IfOk result (λ acquirer. acquirer.scale ≡ scale) }
         ensures symbols { IfOk result (λ acquirer. acquirer.symbols ≡ 0) }
     {

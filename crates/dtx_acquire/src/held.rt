@@ -58,6 +58,7 @@ impl Held {
         ensures within { result ≤ length symbols.now }
         ensures held { self.new ≡ self.old ++ take result symbols.now }
         ensures some { 0 < length symbols.now → length self.old < MOST_HELD → 0 < result }
+        ensures few { length self.new ≤ MOST_HELD }
     {
         let count = append(&mut self.symbols[..], self.filled, symbols);
         self.filled += count;

@@ -1,27 +1,27 @@
 -- What all symbols give that a leveller stands for.
-use Rattle.std.proofs.Common.{◌≡◌, ℕ, ℤ, pos, ◌+◌, ◌-◌, ◌<◌, ◌||◌, Bool, true, false, cond, not}
-use Rattle.std.proofs.Common.{Option, Some, None, List, [], ◌∷◌, ◌++◌, length, map, take, drop, filter, replicate}
-use Rattle.std.proofs.Common.{refl, sym, ap, ap₂, ◌∙◌, subst, arith}
+use Rattle.std.proofs.Common.{◌≡◌, ℕ, ℤ, pos, ◌+◌, ◌-◌, ◌<◌, refl, ap, ◌∙◌, arith, List, map, length, sym, subst}
+use Rattle.std.proofs.Common.{Bool, [], ◌∷◌, ◌++◌, true, false, ◌||◌, cond, take, drop, ap₂, Some, None, filter, not}
+use Rattle.std.proofs.Common.{replicate}
 use Rattle.std.proofs.Math.Seq.{drop-append-add, take-append-add}
-use Rattle.std.proofs.lemmas.Bool.{cond-true, cond-false, lt-leb, false≢true, true≢false}
+use Rattle.std.proofs.lemmas.Bool.{cond-true, cond-false, lt-leb, true≢false, false≢true}
 use Rattle.std.proofs.lemmas.List.{append-nil, map-append, take_all}
-use Rattle.dtx_acquire.specs.Acquired.{is_met}
 use Rattle.dtx_acquire.proofs.PlacesLemmas.{least_none}
-use Rattle.dtx_level.specs.declared.measure.Measure.{Measure}
+use Rattle.dtx_acquire.specs.Acquired.{is_met}
+use Rattle.dtx_level.proofs.MeasuresBehind.{measures_none, measures_last}
+use Rattle.dtx_level.proofs.Steps.{by_closed}
+use Rattle.dtx_level.proofs.StretchesBehind.{levelled_alone, levelled_last}
+use Rattle.dtx_level.proofs.SyncsBehind.{unmet, all_last, no_syncs}
+use Rattle.dtx_level.proofs.Tallies.{last_more, last_some, met_last, tally_after}
+use Rattle.dtx_level.specs.Levelled.{levelled_symbol, levelled_so_far, nothing, By, by_sync, level, last_behind}
+use Rattle.dtx_level.specs.Levelled.{last_of, known, levelled, levelled_behind, levelled_rest, where_some}
+use Rattle.dtx_level.specs.Levelled.{known_behind, stretches}
+use Rattle.dtx_level.specs.Leveller.{Holding, StandsFor, all_given, as_list, where_wanted, IsTally, slip_after}
+use Rattle.dtx_level.specs.Leveller.{Leaves, places_of, shown, are_some, closed, cleared, stretched}
+use Rattle.dtx_level.specs.Measures.{later_by, measure_at, measures_rest, measures_where}
 use Rattle.dtx_level.specs.Shown.{shows}
 use Rattle.dtx_level.specs.ShownLaws.{past_end}
-use Rattle.dtx_level.specs.Syncs.{all_syncs, slips, syncs_where}
-use Rattle.dtx_level.specs.Levelled.{By, by_sync, known, known_behind, last_behind, last_of, level, levelled}
-use Rattle.dtx_level.specs.Levelled.{levelled_behind, levelled_rest, levelled_so_far, levelled_symbol, nothing}
-use Rattle.dtx_level.specs.Levelled.{stretches, where_some}
-use Rattle.dtx_level.specs.Measures.{later_by, measure_at, measures_where}
-use Rattle.dtx_level.specs.Leveller.{Holding, IsClear, IsCleared, IsEnded, IsStretch, IsTally, Leaves, StandsFor}
-use Rattle.dtx_level.specs.Leveller.{are_some, as_list, places_of, shown, where_wanted}
-use Rattle.dtx_level.proofs.Leaving.{leaves_more}
-use Rattle.dtx_level.proofs.StretchesBehind.{levelled_alone, levelled_last}
-use Rattle.dtx_level.proofs.MeasuresBehind.{measures_last, measures_none}
-use Rattle.dtx_level.proofs.SyncsBehind.{all_last, no_syncs, unmet}
-use Rattle.dtx_level.proofs.Tallies.{last_more, last_some, met_last}
+use Rattle.dtx_level.specs.Syncs.{all_syncs, slips_behind, syncs_where, slips}
+use Rattle.dtx_level.specs.declared.measure.Measure.{Measure}
 
 -- ---- the places of syncs
 
@@ -206,101 +206,69 @@ measures_known holding symbols h =
 
 -- ---- the end
 
-pub record IsEndedBy (holding : Holding) (symbols : List ℤ) (zeros syncs slips_ last : ℕ) (given : List ℤ)
-    (measured : Option Measure) : Type 0 where
-  pub zeros_are : zeros ≡ 0
-  pub given_are : given ≡ shown holding (levelled_behind holding.by holding.held)
-  pub measured_is : as_list measured ≡ map (later_by (holding.symbols - length holding.held))
-      (measures_where not holding.held)
-  pub tally : (places : List ℕ) → IsTally holding.syncs holding.slips holding.last places
-      → IsTally syncs slips_ last
-      (places ++ map (λ i. (holding.symbols - length holding.held) + i) (all_syncs holding.held))
+-- What the end of these symbols brings, and the numbers of all their syncs.
+pub record IsEnded (new : Holding) (symbols : List ℤ) : Type 0 where
+  pub given : all_given new ≡ levelled_rest symbols
+  pub measured : as_list new.measured ≡ measures_rest symbols
+  pub syncs_are : new.syncs ≡ length (all_syncs symbols)
+  pub slips_are : new.slips ≡ slips (all_syncs symbols)
 
-pub ended : (holding new : Holding) (symbols : List ℤ) → StandsFor holding symbols
-    → IsEndedBy holding symbols new.zeros new.syncs new.slips new.last new.given new.measured → IsEnded new symbols
-ended holding new symbols h e =
-    let place : holding.symbols - length holding.held ≡ length h.done =
-    omega (arith, h.leaves.symbols_are, h.leaves.long) in
-    let all = syncs_now holding symbols h.done h.told h.leaves
-    ∙ ap (λ k. places_of h.told ++ map (λ i. k + i) (all_syncs holding.held)) (sym place) in
-    let tally = e.tally (places_of h.told) h.leaves.tally in
+-- what a value stands for, with what its held symbols bring at their end
+ended_by : (h new : Holding) (symbols : List ℤ) → StandsFor h symbols
+    → all_given new ≡ shown h (levelled_behind h.by h.held)
+    → as_list new.measured ≡ map (later_by (h.symbols - length h.held)) (measures_rest h.held)
+    → ((places : List ℕ) → IsTally h.syncs h.slips h.last places → IsTally new.syncs new.slips new.last
+    (places ++ map (λ i. (h.symbols - length h.held) + i) (all_syncs h.held)))
+    → IsEnded new symbols
+ended_by h new symbols s given measured tally =
+    let place : h.symbols - length h.held ≡ length s.done =
+    omega (arith, s.leaves.symbols_are, s.leaves.long) in
+    let all = syncs_now h symbols s.done s.told s.leaves
+    ∙ ap (λ k. places_of s.told ++ map (λ i. k + i) (all_syncs h.held)) (sym place) in
+    let t = tally (places_of s.told) s.leaves.tally in
     record {
-      given = ap₂ (λ n (xs : List ℤ). replicate n (pos 0) ++ xs) e.zeros_are e.given_are
-          ∙ sym (known_are holding symbols h).rest;
-      measured = e.measured_is
-          ∙ ap (λ k. map (later_by k) (measures_where not holding.held)) place
-          ∙ sym (measures_now holding symbols h.done h.told h.leaves not);
-      syncs_are = tally.syncs_are ∙ ap length (sym all);
-      slips_are = tally.slips_are ∙ ap slips (sym all);
+      given = given ∙ sym (known_are h symbols s).rest;
+      measured = measured ∙ ap (λ k. map (later_by k) (measures_rest h.held)) place
+          ∙ sym (measures_now h symbols s.done s.told s.leaves not);
+      syncs_are = t.syncs_are ∙ ap length (sym all);
+      slips_are = t.slips_are ∙ ap slips (sym all);
     }
 
--- a sync is in front
-pub ended_on : (holding new : Holding) (symbols : List ℤ) → StandsFor holding symbols → IsClear holding
-    → holding.on ≡ true → IsStretch holding new (length holding.held) → IsEnded new symbols
-ended_on holding new symbols h clear on s =
-    let one = all_last holding.held h.few (h.front on) in
-    let none : (holding.symbols - length holding.held) + 0 ≡ holding.symbols - length holding.held = omega arith in
-    ended holding new symbols h (record {
-      zeros_are = s.zeros ∙ clear.zeros;
-      given_are = s.given
-          ∙ ap (map (level (by_sync holding.held 0))) (take_all (length holding.held) holding.held (omega arith))
-          ∙ sym (levelled_last holding.by holding.held one)
-          ∙ sym (ap (λ b. cond (b || holding.by.begun) (levelled_behind holding.by holding.held) []) on);
-      measured_is = ap as_list s.measured
-          ∙ ap (map (later_by (holding.symbols - length holding.held)))
-          (sym (measures_last not holding.held h.few (h.front on)));
-      tally = λ places t.
-          subst (λ (xs : List ℕ). IsTally new.syncs new.slips new.last (places ++ xs))
-          (ap (λ p. p ∷ []) (sym none)
-          ∙ ap (map (λ i. (holding.symbols - length holding.held) + i)) (sym one))
-          (s.tally places t);
-    })
-
--- none is, and one was before
-pub ended_off : (holding new : Holding) (symbols : List ℤ) → StandsFor holding symbols → IsClear holding
-    → holding.on ≡ false → new.zeros ≡ 0 → new.measured ≡ None → new.syncs ≡ holding.syncs
-    → new.slips ≡ holding.slips → new.last ≡ holding.last
-    → new.given ≡ cond holding.by.begun (map (level holding.by) holding.held) [] → IsEnded new symbols
-ended_off holding new symbols h clear off zeros measured syncs slips_ last given =
-    let none = few_none holding.held (h.off off) in
-    ended holding new symbols h (record {
-      zeros_are = zeros;
-      given_are = given
-          ∙ ap (λ xs. cond holding.by.begun xs []) (sym (levelled_alone holding.by holding.held none))
-          ∙ sym (ap (λ b. cond (b || holding.by.begun) (levelled_behind holding.by holding.held) []) off);
-      measured_is = ap as_list measured
-          ∙ ap (map (later_by (holding.symbols - length holding.held))) (sym (measures_none not holding.held none));
-      tally = λ places t.
-          subst (λ (xs : List ℕ). IsTally new.syncs new.slips new.last xs)
-          (sym (append-nil places)
-          ∙ ap (λ xs. places ++ map (λ i. (holding.symbols - length holding.held) + i) xs) (sym none))
-          (same places t);
-    })
+pub ended : (h : Holding) (symbols : List ℤ) → StandsFor h symbols → IsEnded (closed (cleared h)) symbols
+ended h symbols s =
+    by_closed (λ new. IsEnded new symbols) (cleared h) on
+    (λ e f. off e _ _ (ap (map (level h.by)) (take_all (length h.held) h.held (omega arith))
+    ∙ sym (cond-true h.by.begun _ [] f)))
+    (λ e f. off e _ _ (sym (cond-false h.by.begun _ [] f)))
   where
-    same : (places : List ℕ) → IsTally holding.syncs holding.slips holding.last places
-        → IsTally new.syncs new.slips new.last places
-    same places t =
-        subst (λ x. IsTally x new.slips new.last places) (sym syncs)
-        (subst (λ x. IsTally holding.syncs x new.last places) (sym slips_)
-        (subst (λ x. IsTally holding.syncs holding.slips x places) (sym last) t))
+    k : ℕ
+    k = h.symbols - length h.held
 
--- a value from which what was given is forgotten stands for the same
-pub stands_cleared : (old new : Holding) (symbols : List ℤ) → IsCleared old new → StandsFor old symbols
-    → StandsFor new symbols
-stands_cleared old new symbols c h = record {
-  few = subst (λ (xs : List ℤ). length xs < 261248) (sym c.held) h.few;
-  off = λ e. subst (λ (xs : List ℤ). length xs < 832) (sym c.held) (h.off (sym c.on ∙ e));
-  rest = λ e b. ap length c.held ∙ h.rest (sym c.on ∙ e) (sym (ap (λ (x : By). x.begun) c.by) ∙ b);
-  front = λ e. ap (λ (xs : List ℤ). shows xs 0) c.held ∙ h.front (sym c.on ∙ e);
-  done = h.done;
-  told = h.told;
-  leaves = subst (λ (xs : List ℤ). Leaves new xs h.done h.told) (append-nil symbols)
-      (leaves_more old new symbols [] h.done h.told h.leaves (c.held ∙ sym (append-nil old.held)) c.by
-      (c.symbols ∙ added old.symbols) c.syncs c.slips_ c.last c.on c.silent);
-}
-  where
-    added : (n : ℕ) → n ≡ n + 0
-    added n = omega arith
+    -- a sync is in front
+    on : h.on ≡ true → IsEnded (stretched (cleared h) (record { count = length h.held; on = false })) symbols
+    on e =
+        let one = all_last h.held s.few (s.front e) in
+        let same : k + 0 ≡ k = omega arith in
+        ended_by h _ symbols s
+        (ap (map (level (by_sync h.held 0))) (take_all (length h.held) h.held (omega arith))
+        ∙ sym (levelled_last h.by h.held one)
+        ∙ sym (ap (λ b. cond (b || h.by.begun) (levelled_behind h.by h.held) []) e))
+        (ap (map (later_by k)) (sym (measures_last not h.held s.few (s.front e))))
+        (λ places t. subst (λ (xs : List ℕ). IsTally (h.syncs + 1) (h.slips + slip_after h.syncs h.last k) k
+        (places ++ xs)) (ap (λ p. p ∷ []) (sym same) ∙ ap (map (λ i. k + i)) (sym one))
+        (tally_after h.syncs h.slips h.last k places t))
+
+    -- none is
+    off : h.on ≡ false → (held given : List ℤ) → given ≡ cond h.by.begun (map (level h.by) h.held) []
+        → IsEnded (record h { held = held; given = given; zeros = 0; measured = None }) symbols
+    off e held given g =
+        let open_none = few_none h.held (s.off e) in
+        ended_by h _ symbols s
+        (g ∙ ap (λ xs. cond h.by.begun xs []) (sym (levelled_alone h.by h.held open_none))
+        ∙ sym (ap (λ b. cond (b || h.by.begun) (levelled_behind h.by h.held) []) e))
+        (ap (map (later_by k)) (sym (measures_none not h.held open_none)))
+        (λ places t. subst (IsTally h.syncs h.slips h.last)
+        (sym (append-nil places) ∙ ap (λ xs. places ++ map (λ i. k + i) xs) (sym open_none)) t)
 
 -- by nothing all become 0
 same_level : (by : By) (xs : List ℤ) → by.begun ≡ false → map (level nothing) xs ≡ map (level by) xs
@@ -321,8 +289,9 @@ first_by more by e = same_stretches more (all_syncs more) by e
 
 -- nothing was given
 pub stands_first : (new : Holding) → new.held ≡ [] → new.on ≡ false → new.by.begun ≡ false → new.silent ≡ 0
-    → new.symbols ≡ 0 → IsTally new.syncs new.slips new.last [] → StandsFor new []
-stands_first new held off none silent symbols tally = record {
+    → new.symbols ≡ 0 → new.syncs ≡ 0 → new.slips ≡ 0 → StandsFor new []
+unfolding slips_behind
+stands_first new held off none silent symbols syncs slips = record {
   few = subst (λ (xs : List ℤ). length xs < 261248) (sym held) (omega arith);
   off = λ e. subst (λ (xs : List ℤ). length xs < 832) (sym held) (omega arith);
   rest = λ e b. absurd (true≢false (sym b ∙ none));
@@ -338,7 +307,7 @@ stands_first new held off none silent symbols tally = record {
     symbols_are = symbols;
     long = omega (arith, ap length held);
     begun_is = none;
-    tally = tally;
+    tally = record { syncs_are = syncs; slips_are = slips; last_is = tt };
     silence = λ e f. ap (λ n. replicate n (pos 0)) (sym silent);
   };
 }

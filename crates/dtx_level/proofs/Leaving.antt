@@ -1,22 +1,25 @@
 -- What a leveller holds, step by step.
-use Rattle.std.proofs.Common.{◌≡◌, ℕ, ℤ, pos, ◌+◌, ◌-◌, ◌<◌, ◌≤◌, Bool, true, false, cond}
-use Rattle.std.proofs.Common.{Some, None, option_map, List, [], ◌∷◌, ◌++◌, length, map, take, drop, replicate}
-use Rattle.std.proofs.Common.{append_assoc, refl, sym, ap, ap₂, ◌∙◌, subst, arith, length-append}
-use Rattle.std.proofs.lemmas.Bool.{cond-true, cond-false, le-leb, true≢false}
-use Rattle.std.proofs.lemmas.List.{length-drop, length-map, length-take-le, map-append, take-append-drop}
+use Rattle.std.proofs.Common.{◌≡◌, ℕ, ℤ, pos, ◌+◌, ◌-◌, ◌<◌, ◌≤◌, refl, ap, ◌∙◌, arith, List, map, length, sym, subst}
+use Rattle.std.proofs.Common.{Bool, [], ◌∷◌, ◌++◌, true, false, option_map, cond, take, drop, ap₂, length-append}
+use Rattle.std.proofs.Common.{Option, Some, None, append_assoc, replicate}
+use Rattle.std.proofs.lemmas.Bool.{le-leb, cond-true, cond-false, true≢false}
+use Rattle.std.proofs.lemmas.List.{length-map, length-take-le, take-append-drop, length-drop, map-append}
+use Rattle.dtx_acquire.proofs.PlacesLemmas.{whole_there, least_gives, least_here, least_skip, least_misses}
 use Rattle.dtx_acquire.specs.Acquired.{is_met}
-use Rattle.dtx_acquire.proofs.PlacesLemmas.{least_gives, least_here, least_misses, least_skip, whole_there}
-use Rattle.dtx_level.specs.declared.measure.Measure.{Measure}
+use Rattle.dtx_level.proofs.MeasuresBehind.{measures_skip, by_front, measure_front, measures_next}
+use Rattle.dtx_level.proofs.Shows.{shows_dropped, least_shown_behind, shows_front}
+use Rattle.dtx_level.proofs.Steps.{step_is}
+use Rattle.dtx_level.proofs.StretchesBehind.{levelled_skip, levelled_next}
+use Rattle.dtx_level.proofs.SyncsBehind.{all_next}
+use Rattle.dtx_level.proofs.Tallies.{tally_after}
+use Rattle.dtx_level.specs.Levelled.{By, by_sync, level, levelled_behind}
+use Rattle.dtx_level.specs.Leveller.{Holding, where_wanted, IsTally, slip_after, Leaves, places_of, are_some, cleared}
+use Rattle.dtx_level.specs.Leveller.{fed, step_at, step_to, stretched}
+use Rattle.dtx_level.specs.Measures.{later_by, measure_at, measures_where}
 use Rattle.dtx_level.specs.Shown.{least_shown, shows}
 use Rattle.dtx_level.specs.ShownLaws.{past_end}
 use Rattle.dtx_level.specs.Syncs.{behind}
-use Rattle.dtx_level.specs.Levelled.{By, by_sync, level, levelled_behind, nothing}
-use Rattle.dtx_level.specs.Measures.{later_by, measure_at, measures_where}
-use Rattle.dtx_level.specs.Leveller.{Holding, IsNext, IsSought, IsTally, Leaves, are_some, places_of, where_wanted}
-use Rattle.dtx_level.proofs.Shows.{least_shown_behind, shows_dropped, shows_front}
-use Rattle.dtx_level.proofs.MeasuresBehind.{by_front, measure_front, measures_next, measures_skip}
-use Rattle.dtx_level.proofs.StretchesBehind.{levelled_next, levelled_skip}
-use Rattle.dtx_level.proofs.SyncsBehind.{all_next}
+use Rattle.dtx_level.specs.declared.measure.Measure.{Measure}
 
 -- ---- lists
 
@@ -52,37 +55,24 @@ some_more (y ∷ xs) x = refl
 
 -- ---- more symbols
 
-pub leaves_more : (old new : Holding) (symbols more done : List ℤ) (told : List Measure) → Leaves old symbols done told
-    → new.held ≡ old.held ++ more → new.by ≡ old.by → new.symbols ≡ old.symbols + length more
-    → new.syncs ≡ old.syncs → new.slips ≡ old.slips → new.last ≡ old.last → new.on ≡ old.on → new.silent ≡ old.silent
-    → Leaves new (symbols ++ more) done told
-leaves_more old new symbols more done told h held by count syncs slips last on silent = record {
-  measures = λ wanted rest.
-      ap (measures_where wanted) (append_assoc symbols more rest) ∙ h.measures wanted (more ++ rest)
-      ∙ ap (λ (xs : List ℤ). where_wanted (wanted true) told
-      ++ map (later_by (length done)) (measures_where wanted xs))
-      (sym (append_assoc old.held more rest) ∙ ap (λ xs. xs ++ rest) (sym held));
-  levelled = λ rest.
-      ap (levelled_behind nothing) (append_assoc symbols more rest) ∙ h.levelled (more ++ rest)
-      ∙ ap₂ (λ (x : By) (xs : List ℤ). done ++ levelled_behind x xs) (sym by)
-      (sym (append_assoc old.held more rest) ∙ ap (λ xs. xs ++ rest) (sym held));
-  symbols_are = count ∙ ap (λ n. n + length more) h.symbols_are ∙ sym (length-append symbols more);
-  long = omega (arith, ap length held, length-append old.held more, length-append symbols more, h.long);
-  begun_is = ap (λ (x : By). x.begun) by ∙ h.begun_is;
-  tally = tally_by old new (places_of told) h.tally syncs slips last;
-  silence = λ e f. h.silence (sym on ∙ e) (sym (ap (λ (x : By). x.begun) by) ∙ f)
-      ∙ ap (λ n. replicate n (pos 0)) (sym silent);
+pub leaves_fed : (h : Holding) (symbols more done : List ℤ) (told : List Measure) → Leaves h symbols done told
+    → Leaves (fed (cleared h) more) (symbols ++ more) done told
+leaves_fed h symbols more done told l = record {
+  measures = λ wanted rest. simp append_assoc (l.measures wanted (more ++ rest));
+  levelled = λ rest. simp append_assoc (l.levelled (more ++ rest));
+  symbols_are = ap (λ n. n + length more) l.symbols_are ∙ sym (length-append symbols more);
+  long = omega (arith, length-append h.held more, length-append symbols more, l.long);
+  begun_is = l.begun_is;
+  tally = l.tally;
+  silence = l.silence;
 }
-  where
-    tally_by : (old new : Holding) (places : List ℕ) → IsTally old.syncs old.slips old.last places
-        → new.syncs ≡ old.syncs → new.slips ≡ old.slips → new.last ≡ old.last
-        → IsTally new.syncs new.slips new.last places
-    tally_by old new places t a b c =
-        subst (λ x. IsTally x new.slips new.last places) (sym a)
-        (subst (λ x. IsTally old.syncs x new.last places) (sym b)
-        (subst (λ x. IsTally old.syncs old.slips x places) (sym c) t))
 
 -- ---- symbols at which none begins
+
+-- No place of the first `count` symbols shows a sync, and a segment stands at each.
+pub record IsSought (symbols : List ℤ) (count : ℕ) : Type 0 where
+  pub within : count ≤ length symbols
+  pub none : (place : ℕ) → place < count → (place + 832 ≤ length symbols) × (shows symbols place ≡ false)
 
 sought_none : (h more : List ℤ) (count : ℕ) → IsSought h count
     → (p : ℕ) → p < length (take count h) → shows (take count h ++ (drop count h ++ more)) p ≡ false
@@ -114,37 +104,37 @@ length_more done f count h l = omega (
   length-take-le count h l,
 )
 
-pub leaves_sought : (old new : Holding) (count : ℕ) (symbols done : List ℤ) (told : List Measure)
-    → Leaves old symbols done told → IsSought old.held count → new.held ≡ drop count old.held → new.by ≡ old.by
-    → new.symbols ≡ old.symbols → new.syncs ≡ old.syncs → new.slips ≡ old.slips → new.last ≡ old.last
-    → (new.on ≡ false → new.by.begun ≡ false
-    → done ++ map (level old.by) (take count old.held) ≡ replicate new.silent (pos 0))
-    → Leaves new symbols (done ++ map (level old.by) (take count old.held)) told
-leaves_sought old new count symbols done told h s held by count_is syncs slips last silence =
-    let far = length_more done (level old.by) count old.held s.within in
+pub leaves_sought : (h : Holding) (count : ℕ) (on : Bool) (silent zeros : ℕ) (given symbols done : List ℤ)
+    (told : List Measure) → Leaves h symbols done told → IsSought h.held count
+    → (on ≡ false → h.by.begun ≡ false → done ++ map (level h.by) (take count h.held) ≡ replicate silent (pos 0))
+    → Leaves (record h { held = drop count h.held; on = on; silent = silent; zeros = zeros; given = given }) symbols
+    (done ++ map (level h.by) (take count h.held)) told
+leaves_sought h count on silent zeros given symbols done told l s silence =
+    let far = length_more done (level h.by) count h.held s.within in
     record {
       measures = λ wanted more.
-          h.measures wanted more
+          l.measures wanted more
           ∙ ap (λ xs. where_wanted (wanted true) told ++ xs)
-          (ap (map (later_by (length done))) (measures_sought old.held more count s wanted)
-          ∙ later_twice (length done) count (measures_where wanted (drop count old.held ++ more))
-          ∙ ap₂ (λ n (xs : List ℤ). map (later_by n) (measures_where wanted (xs ++ more))) (sym far) (sym held));
+          (ap (map (later_by (length done))) (measures_sought h.held more count s wanted)
+          ∙ later_twice (length done) count (measures_where wanted (drop count h.held ++ more))
+          ∙ ap (λ n. map (later_by n) (measures_where wanted (drop count h.held ++ more))) (sym far));
       levelled = λ more.
-          h.levelled more ∙ ap (λ xs. done ++ xs) (levelled_sought old.by old.held more count s)
-          ∙ sym (append_assoc done (map (level old.by) (take count old.held))
-          (levelled_behind old.by (drop count old.held ++ more)))
-          ∙ ap₂ (λ (x : By) (xs : List ℤ). (done ++ map (level old.by) (take count old.held))
-          ++ levelled_behind x (xs ++ more)) (sym by) (sym held);
-      symbols_are = count_is ∙ h.symbols_are;
-      long = omega (arith, far, ap length held, length-drop count old.held, s.within, h.long);
-      begun_is = ap (λ (x : By). x.begun) by ∙ h.begun_is;
-      tally = subst (λ x. IsTally x new.slips new.last (places_of told)) (sym syncs)
-          (subst (λ x. IsTally old.syncs x new.last (places_of told)) (sym slips)
-          (subst (λ x. IsTally old.syncs old.slips x (places_of told)) (sym last) h.tally));
+          l.levelled more ∙ ap (λ xs. done ++ xs) (levelled_sought h.by h.held more count s)
+          ∙ sym (append_assoc done _ (levelled_behind h.by (drop count h.held ++ more)));
+      symbols_are = l.symbols_are;
+      long = omega (arith, far, length-drop count h.held, s.within, l.long);
+      begun_is = l.begun_is;
+      tally = l.tally;
       silence = silence;
     }
 
 -- ---- a sync in front
+
+-- The next sync behind the one in front, whatever follows. It is at the least place that shows one once the first
+-- `count` symbols are dropped.
+abbrev pub IsNext : ℕ → List ℤ → Type 0
+IsNext count symbols = (more : List ℤ)
+    → behind (symbols ++ more) 0 ≡ option_map (λ i. count + i) (least_shown (drop count symbols ++ more) 0)
 
 met_full : (h more : List ℤ) → length h ≡ 261248 → is_met (h ++ more) 0 ≡ true
 unfolding is_met
@@ -193,56 +183,6 @@ levelled_settled by h more count s some l next =
     ∙ ap (λ (x : By). map (level x) (take count h) ++ levelled_behind x (drop count h ++ more))
     (ap (λ (xs : List ℤ). by_sync xs 0) (split_at count h more) ∙ by_front h more 0 (omega (arith, there)))
 
-measured_at : (v : List ℤ) (p : ℕ) → (measure_at v p).place ≡ p
-unfolding measure_at
-measured_at v p = refl
-
-pub leaves_settled : (old new : Holding) (count : ℕ) (symbols done : List ℤ) (told : List Measure)
-    → Leaves old symbols done told → length old.held ≡ 261248 → shows old.held 0 ≡ true → 0 < count
-    → count ≤ length old.held → IsNext count old.held → new.held ≡ drop count old.held → new.by ≡ by_sync old.held 0
-    → new.symbols ≡ old.symbols
-    → IsTally new.syncs new.slips new.last (places_of told ++ (old.symbols - length old.held) ∷ [])
-    → Leaves new symbols (done ++ map (level (by_sync old.held 0)) (take count old.held))
-    (told ++ later_by (old.symbols - length old.held) (measure_at old.held 0) ∷ [])
-leaves_settled old new count symbols done told h full s some l next held by count_is tally =
-    let far = length_more done (level (by_sync old.held 0)) count old.held l in
-    let place : old.symbols - length old.held ≡ length done = omega (arith, h.symbols_are, h.long) in
-    record {
-      measures = λ wanted more.
-          h.measures wanted more
-          ∙ ap (λ xs. where_wanted (wanted true) told ++ xs)
-          (ap (map (later_by (length done))) (measures_settled old.held more count full s some l next wanted)
-          ∙ map-append (later_by (length done)) (where_wanted (wanted true) (measure_at old.held 0 ∷ []))
-          (map (later_by count) (measures_where wanted (drop count old.held ++ more)))
-          ∙ ap₂ ◌++◌ (wanted_later (wanted true) (length done) (measure_at old.held 0)
-          ∙ ap (λ n. where_wanted (wanted true) (later_by n (measure_at old.held 0) ∷ [])) (sym place))
-          (later_twice (length done) count (measures_where wanted (drop count old.held ++ more))
-          ∙ ap₂ (λ n (xs : List ℤ). map (later_by n) (measures_where wanted (xs ++ more))) (sym far) (sym held)))
-          ∙ wanted_both (wanted true) told (later_by (old.symbols - length old.held) (measure_at old.held 0) ∷ []) _;
-      levelled = λ more.
-          h.levelled more ∙ ap (λ xs. done ++ xs) (levelled_settled old.by old.held more count s some l next)
-          ∙ sym (append_assoc done (map (level (by_sync old.held 0)) (take count old.held))
-          (levelled_behind (by_sync old.held 0) (drop count old.held ++ more)))
-          ∙ ap₂ (λ (x : By) (xs : List ℤ). (done ++ map (level (by_sync old.held 0)) (take count old.held))
-          ++ levelled_behind x (xs ++ more)) (sym by) (sym held);
-      symbols_are = count_is ∙ h.symbols_are;
-      long = omega (arith, far, ap length held, length-drop count old.held, l, h.long);
-      begun_is = ap (λ (x : By). x.begun) by
-          ∙ sym (some_more told (later_by (old.symbols - length old.held) (measure_at old.held 0)));
-      tally = subst (IsTally new.syncs new.slips new.last)
-          (sym (map-append (λ (x : Measure). x.place) told
-          (later_by (old.symbols - length old.held) (measure_at old.held 0) ∷ []) ∙ at_place))
-          tally;
-      silence = λ e f. absurd (true≢false (sym (ap (λ (x : By). x.begun) by) ∙ f));
-    }
-  where
-    at_place : places_of told ++ ((old.symbols - length old.held) + (measure_at old.held 0).place) ∷ []
-        ≡ places_of told ++ (old.symbols - length old.held) ∷ []
-    at_place =
-        let none : old.symbols - length old.held + 0 ≡ old.symbols - length old.held = omega arith in
-        ap (λ n. places_of told ++ (old.symbols - length old.held + n) ∷ []) (measured_at old.held 0)
-        ∙ ap (λ n. places_of told ++ n ∷ []) none
-
 -- ---- where the next sync is
 
 behind_full : (h more : List ℤ) → length h ≡ 261248
@@ -253,7 +193,7 @@ behind_full h more l =
     (met_full h more l)
 
 -- where it is due
-pub next_due : (h : List ℤ) → length h ≡ 261248 → shows h 260416 ≡ true → IsNext 260416 h
+next_due : (h : List ℤ) → length h ≡ 261248 → shows h 260416 ≡ true → IsNext 260416 h
 next_due h l d more =
     behind_full h more l
     ∙ cond-true (shows (h ++ more) 260416) (Some 260416) (least_shown (h ++ more) 832)
@@ -277,14 +217,71 @@ searched h k l d some most none more =
     ∙ least_shown_behind (take k h) (drop k h ++ more) 0
     ∙ ap (λ n. option_map (λ i. n + i) (least_shown (drop k h ++ more) 0)) long
 
-pub next_found : (h : List ℤ) (k : ℕ) → length h ≡ 261248 → shows h 260416 ≡ false → least_shown h 832 ≡ Some k
+next_found : (h : List ℤ) (k : ℕ) → length h ≡ 261248 → shows h 260416 ≡ false → least_shown h 832 ≡ Some k
     → IsNext k h
 next_found h k l d e =
     let is = least_gives shows h 832 k e in
     let there = whole_there shows past_end h k is.passes in
     searched h k l d (omega (arith, is.least)) (omega (arith, there, l)) (λ i m n. is.before i m n)
 
-pub next_none : (h : List ℤ) → length h ≡ 261248 → shows h 260416 ≡ false → least_shown h 832 ≡ None
+next_none : (h : List ℤ) → length h ≡ 261248 → shows h 260416 ≡ false → least_shown h 832 ≡ None
     → IsNext 260417 h
 next_none h l d e =
     searched h 260417 l d (omega arith) (omega arith) (λ i m n. least_misses shows past_end h 832 i e m)
+
+-- behind the symbols of the step
+next_is : (h : List ℤ) → length h ≡ 261248 → IsNext (step_at h).count h
+unfolding step_at
+next_is h full = by_due (shows h 260416) refl
+  where
+    by_least : shows h 260416 ≡ false → (o : Option ℕ) → least_shown h 832 ≡ o → IsNext (step_to o).count h
+    by_least d None e = next_none h full d e
+    by_least d (Some k) e = next_found h k full d e
+
+    by_due : (d : Bool) → shows h 260416 ≡ d
+        → IsNext (cond d (step_to (Some 260416)) (step_to (least_shown h 832))).count h
+    by_due true d = next_due h full d
+    by_due false d = by_least d (least_shown h 832) refl
+
+-- ---- the sync in front is settled
+
+pub leaves_settled : (h : Holding) (symbols done : List ℤ) (told : List Measure) → Leaves h symbols done told
+    → length h.held ≡ 261248 → shows h.held 0 ≡ true
+    → Leaves (stretched h (step_at h.held)) symbols
+    (done ++ map (level (by_sync h.held 0)) (take (step_at h.held).count h.held))
+    (told ++ later_by (h.symbols - length h.held) (measure_at h.held 0) ∷ [])
+unfolding measure_at
+leaves_settled h symbols done told l full s =
+    let count : ℕ = (step_at h.held).count in
+    let is = step_is h.held full in
+    let some : 0 < count = omega (arith, is.some) in
+    let next = next_is h.held full in
+    let far = length_more done (level (by_sync h.held 0)) count h.held is.most in
+    let place : h.symbols - length h.held ≡ length done = omega (arith, l.symbols_are, l.long) in
+    let none : h.symbols - length h.held + 0 ≡ h.symbols - length h.held = omega arith in
+    record {
+      measures = λ wanted more.
+          l.measures wanted more
+          ∙ ap (λ xs. where_wanted (wanted true) told ++ xs)
+          (ap (map (later_by (length done))) (measures_settled h.held more count full s some is.most next wanted)
+          ∙ map-append (later_by (length done)) (where_wanted (wanted true) (measure_at h.held 0 ∷ []))
+          (map (later_by count) (measures_where wanted (drop count h.held ++ more)))
+          ∙ ap₂ ◌++◌ (wanted_later (wanted true) (length done) (measure_at h.held 0)
+          ∙ ap (λ n. where_wanted (wanted true) (later_by n (measure_at h.held 0) ∷ [])) (sym place))
+          (later_twice (length done) count (measures_where wanted (drop count h.held ++ more))
+          ∙ ap (λ n. map (later_by n) (measures_where wanted (drop count h.held ++ more))) (sym far)))
+          ∙ wanted_both (wanted true) told (later_by (h.symbols - length h.held) (measure_at h.held 0) ∷ []) _;
+      levelled = λ more.
+          l.levelled more ∙ ap (λ xs. done ++ xs) (levelled_settled h.by h.held more count s some is.most next)
+          ∙ sym (append_assoc done _ (levelled_behind (by_sync h.held 0) (drop count h.held ++ more)));
+      symbols_are = l.symbols_are;
+      long = omega (arith, far, length-drop count h.held, is.most, l.long);
+      begun_is = sym (some_more told (later_by (h.symbols - length h.held) (measure_at h.held 0)));
+      tally = subst (IsTally (h.syncs + 1) (h.slips + slip_after h.syncs h.last (h.symbols - length h.held))
+          (h.symbols - length h.held))
+          (sym (map-append (λ (x : Measure). x.place) told
+          (later_by (h.symbols - length h.held) (measure_at h.held 0) ∷ [])
+          ∙ ap (λ n. places_of told ++ n ∷ []) none))
+          (tally_after h.syncs h.slips h.last (h.symbols - length h.held) (places_of told) l.tally);
+      silence = λ e f. absurd (true≢false f);
+    }

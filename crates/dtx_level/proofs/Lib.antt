@@ -6,6 +6,7 @@ pub mod Tallies
 pub mod Sums
 pub mod Each
 pub mod Bounds
+pub mod Steps
 pub mod Leaving
 pub mod Ending
 pub mod Taking

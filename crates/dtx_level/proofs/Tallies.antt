@@ -1,9 +1,11 @@
 -- One sync more.
-use Rattle.std.proofs.Common.{◌≡◌, ℕ, ◌+◌, ◌<◌, Bool, true, false, cond, not, Option, Some, None, IfSome, List, [], ◌∷◌}
-use Rattle.std.proofs.Common.{◌++◌, length, filter, refl, sym, ap, ◌∙◌, subst, arith, length-append}
-use Rattle.dtx_level.specs.Syncs.{slip_behind, slips_behind}
+use Rattle.std.proofs.Common.{◌≡◌, ℕ, ◌+◌, refl, ap, ◌∙◌, arith, List, length, sym, subst, Bool, [], ◌∷◌, ◌++◌, true}
+use Rattle.std.proofs.Common.{false, cond, ap₂, length-append, None, filter, not, Option, Some, IfSome}
+use Rattle.std.proofs.Common.{eqb}
+use Rattle.std.proofs.lemmas.Bool.{cond-false, ne_eqb}
 use Rattle.dtx_level.specs.Levelled.{last_behind, last_of}
-use Rattle.dtx_level.specs.Leveller.{IsTally}
+use Rattle.dtx_level.specs.Leveller.{IsTally, slip_after}
+use Rattle.dtx_level.specs.Syncs.{slip_behind, slips_behind}
 
 slips_more : (o : Option ℕ) (xs : List ℕ) (p : ℕ)
     → slips_behind o (xs ++ p ∷ []) ≡ slips_behind o xs + slip_behind (last_behind o xs) p
@@ -22,15 +24,6 @@ slips_more o (x ∷ xs) p =
 pub last_more : (o : Option ℕ) (xs : List ℕ) (p : ℕ) → last_behind o (xs ++ p ∷ []) ≡ Some p
 last_more o [] p = refl
 last_more o (x ∷ xs) p = last_more (Some x) xs p
-
-pub tally_more : (syncs slips last more p : ℕ) (places : List ℕ) → IsTally syncs slips last places
-    → more ≡ slips + slip_behind (last_of places) p → IsTally (syncs + 1) more p (places ++ p ∷ [])
-unfolding slips_behind
-tally_more syncs slips last more p places h e = record {
-  syncs_are = omega (arith, h.syncs_are, length-append places (p ∷ []));
-  slips_are = e ∙ ap (λ n. n + slip_behind (last_of places) p) h.slips_are ∙ sym (slips_more None places p);
-  last_is = subst (λ (o : Option ℕ). IfSome o (λ place. p ≡ place)) (sym (last_more None places p)) refl;
-}
 
 -- the last of some behind one is none only where they are none
 pub last_some : (x : ℕ) (xs : List ℕ) → (q : ℕ) × (last_behind (Some x) xs ≡ Some q)
@@ -57,13 +50,21 @@ met_last m q [] x f e = ap m (sym (same e)) ∙ (met_here m [] x f).0
 met_last m q (y ∷ ys) x f e = met_last m q ys y (met_here m (y ∷ ys) x f).1 e
 
 -- whether a place is a slip behind the last of some
-pub slip_is : (syncs slips last place r : ℕ) (places : List ℕ) → IsTally syncs slips last places
-    → (0 < syncs → r ≡ slip_behind (Some last) place) → (syncs ≡ 0 → r ≡ 0) → r ≡ slip_behind (last_of places) place
-slip_is syncs slips last place r [] t some none = none t.syncs_are
-slip_is syncs slips last place r (x ∷ xs) t some none =
+slip_is : (syncs last place : ℕ) (places : List ℕ) → syncs ≡ length places
+    → IfSome (last_of places) (λ p. last ≡ p) → slip_after syncs last place ≡ slip_behind (last_of places) place
+slip_is syncs last place [] e h = ap (λ n. slip_after n last place) e
+slip_is syncs last place (x ∷ xs) e h =
     let found = last_some x xs in
-    some (omega (arith, t.syncs_are)) ∙ ap (λ o. slip_behind o place)
-    (ap Some (same found.0 found.1 t.last_is) ∙ sym found.1)
-  where
-    same : (q : ℕ) → last_behind (Some x) xs ≡ Some q → IfSome (last_of (x ∷ xs)) (λ p. last ≡ p) → last ≡ q
-    same q e h = subst (λ (o : Option ℕ). IfSome o (λ p. last ≡ p)) e h
+    cond-false (eqb syncs 0) 0 (slip_behind (Some last) place) (ne_eqb syncs 0 (λ z. omega (arith, e, z)))
+    ∙ ap (λ o. slip_behind o place)
+    (ap Some (subst (λ (o : Option ℕ). IfSome o (λ p. last ≡ p)) found.1 h) ∙ sym found.1)
+
+pub tally_after : (syncs slips last place : ℕ) (places : List ℕ) → IsTally syncs slips last places
+    → IsTally (syncs + 1) (slips + slip_after syncs last place) place (places ++ place ∷ [])
+unfolding slips_behind
+tally_after syncs slips last place places t = record {
+  syncs_are = omega (arith, t.syncs_are, length-append places (place ∷ []));
+  slips_are = ap₂ (λ a b. a + b) t.slips_are (slip_is syncs last place places t.syncs_are t.last_is)
+      ∙ sym (slips_more None places place);
+  last_is = subst (λ (o : Option ℕ). IfSome o (λ p. place ≡ p)) (sym (last_more None places place)) refl;
+}

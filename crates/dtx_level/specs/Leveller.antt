@@ -1,13 +1,12 @@
 -- What a leveller holds of the symbols that were given to it.
-use Rattle.std.specs.Prelude.{ℕ, ℤ, pos, ◌≡◌, ◌+◌, ◌-◌, ◌<◌, ◌≤◌, ◌||◌, Bool, true, false, if◌then◌else◌, Option, Some}
-use Rattle.std.specs.Prelude.{None}
-use Rattle.std.specs.Prelude.{IfSome, option_map, List, [], ◌∷◌, ◌++◌, length, map, take, drop, replicate}
+use Rattle.std.specs.Prelude.{ℕ, ℤ, pos, ◌≡◌, ◌+◌, ◌-◌, ◌<◌, ◌==◌, ◌||◌, Bool, true, false, if◌then◌else◌, Option, Some}
+use Rattle.std.specs.Prelude.{None, IfSome, List, [], ◌∷◌, ◌++◌, length, map, take, drop, replicate}
 use Rattle.dtx_level.specs.declared.measure.Measure.{Measure}
+use Rattle.dtx_level.specs.declared.step.Step.{Step}
 use Rattle.dtx_level.specs.Shown.{least_shown, shows}
-use Rattle.dtx_level.specs.Syncs.{all_syncs, behind, slips}
-use Rattle.dtx_level.specs.Levelled.{By, by_sync, last_of, level, levelled_behind, levelled_rest}
-use Rattle.dtx_level.specs.Levelled.{nothing}
-use Rattle.dtx_level.specs.Measures.{later_by, measure_at, measures_rest, measures_where}
+use Rattle.dtx_level.specs.Syncs.{slip_behind, slips}
+use Rattle.dtx_level.specs.Levelled.{By, by_sync, last_of, level, levelled_behind, nothing}
+use Rattle.dtx_level.specs.Measures.{later_by, measure_at, measures_where}
 
 -- a leveller
 pub record Holding : Type 0 where
@@ -89,69 +88,83 @@ pub record StandsFor (holding : Holding) (symbols : List ℤ) : Type 0 where
   pub told : List Measure
   pub leaves : Leaves holding symbols done told
 
--- No place of the symbols that were let go shows a sync, and a segment stood at each.
-pub record IsSought (old : List ℤ) (count : ℕ) : Type 0 where
-  pub within : count ≤ length old
-  pub none : (place : ℕ) → place < count → (place + 832 ≤ length old) × (shows old place ≡ false)
+-- ---- what each part of a call makes of a leveller
 
--- What a part of a call does. It lets more symbols go, and measures no sync or one. Let earlier calls (`before`) and
--- this one have given all that may be given of `done`. Then the same holds afterwards.
-pub record IsMoved (old new : Holding) (symbols done : List ℤ) (told : List Measure) : Type 0 where
-  pub more : List ℤ
-  pub leaves : Leaves new symbols (done ++ more) (told ++ as_list new.measured)
-  pub given : (before : List ℤ) → shown old done ≡ before ++ all_given old
-      → shown new (done ++ more) ≡ before ++ all_given new
+-- What an earlier call gave is forgotten.
+abbrev pub cleared : Holding → Holding
+cleared h = record h { zeros = 0; given = []; measured = None }
 
--- The first `count` held symbols are levelled by the sync in front of them, and given.
-pub record IsStretch (old new : Holding) (count : ℕ) : Type 0 where
-  pub held : new.held ≡ drop count old.held
-  pub by : new.by ≡ by_sync old.held 0
-  pub given : new.given ≡ map (level (by_sync old.held 0)) (take count old.held)
-  pub measured : new.measured ≡ Some (later_by (old.symbols - length old.held) (measure_at old.held 0))
-  pub zeros : new.zeros ≡ old.zeros
-  pub symbols : new.symbols ≡ old.symbols
-  pub tally : (places : List ℕ) → IsTally old.syncs old.slips old.last places
-      → IsTally new.syncs new.slips new.last (places ++ (old.symbols - length old.held) ∷ [])
+-- More symbols are held.
+abbrev pub fed : Holding → List ℤ → Holding
+fed h more = record h { held = h.held ++ more; symbols = h.symbols + length more }
 
--- The current call has given nothing yet.
-pub record IsClear (holding : Holding) : Type 0 where
-  pub zeros : holding.zeros ≡ 0
-  pub given : holding.given ≡ []
-  pub measured : holding.measured ≡ None
+-- The symbols before a sync are given. Before the first sync they are zeros, and so are those that went earlier.
+abbrev pub found : Holding → ℕ → Holding
+found h place = record h {
+  held = drop place h.held;
+  on = true;
+  zeros = if h.by.begun then 0 else h.silent;
+  given = map (level h.by) (take place h.held);
+}
 
--- What an earlier call gave is forgotten, and all else stays.
-pub record IsCleared (old new : Holding) : Type 0 where
-  pub held : new.held ≡ old.held
-  pub on : new.on ≡ old.on
-  pub by : new.by ≡ old.by
-  pub silent : new.silent ≡ old.silent
-  pub symbols : new.symbols ≡ old.symbols
-  pub syncs : new.syncs ≡ old.syncs
-  pub slips_ : new.slips ≡ old.slips
-  pub last : new.last ≡ old.last
-  pub clear : IsClear new
+-- Symbols go at which no sync begins. They are given if a sync was before them, else counted.
+abbrev pub passed : Holding → ℕ → Holding
+passed h count = record h {
+  held = drop count h.held;
+  silent = if h.by.begun then h.silent else h.silent + count;
+  given = if h.by.begun then map (level h.by) (take count h.held) else h.given;
+}
 
--- The next sync behind the one in front, whatever follows. It is at the least place that shows one once the first
--- `count` symbols are dropped.
-abbrev pub IsNext : ℕ → List ℤ → Type 0
-IsNext count symbols = (more : List ℤ)
-    → behind (symbols ++ more) 0 ≡ option_map (λ i. count + i) (least_shown (drop count symbols ++ more) 0)
+-- The least place that shows a sync is found. Where there is none, all symbols go but the last 831, at which a sync may
+-- begin.
+abbrev pub sought_at : Holding → Option ℕ → Holding
+sought_at h None = passed h (length h.held - 831)
+sought_at h (Some place) = found h place
 
--- The symbols `more` are held too, and all else stays.
-pub record IsFed (old new : Holding) (more : List ℤ) : Type 0 where
-  pub held : new.held ≡ old.held ++ more
-  pub on : new.on ≡ old.on
-  pub by : new.by ≡ old.by
-  pub silent : new.silent ≡ old.silent
-  pub symbols : new.symbols ≡ old.symbols + length more
-  pub syncs : new.syncs ≡ old.syncs
-  pub slips_ : new.slips ≡ old.slips
-  pub last : new.last ≡ old.last
-  pub clear : IsClear new
+-- A sync is sought unless one is in front.
+unfoldable pub sought : Holding → Holding
+sought h = if h.on then h else sought_at h (least_shown h.held 0)
 
--- What the end of these symbols brings, and the numbers of all their syncs.
-pub record IsEnded (holding : Holding) (symbols : List ℤ) : Type 0 where
-  pub given : all_given holding ≡ levelled_rest symbols
-  pub measured : as_list holding.measured ≡ measures_rest symbols
-  pub syncs_are : holding.syncs ≡ length (all_syncs symbols)
-  pub slips_are : holding.slips ≡ slips (all_syncs symbols)
+-- How many symbols a sync levels, and whether the next sync is behind them. That one is at the least place that shows
+-- one. Where there is none, the sync levels all symbols of a field but the last 831.
+abbrev pub step_to : Option ℕ → Step
+step_to None = record { count = 260417; on = false }
+step_to (Some place) = record { count = place; on = true }
+
+-- Where the due place shows a sync, the next one is there. Else it is behind this sync's segment.
+unfoldable pub step_at : List ℤ → Step
+step_at symbols = if shows symbols 260416 then step_to (Some 260416) else step_to (least_shown symbols 832)
+
+-- 1 where a sync at a place is a slip behind `syncs` others of which the last is at place `last`
+abbrev pub slip_after : ℕ → ℕ → ℕ → ℕ
+slip_after syncs last place = if syncs == 0 then 0 else slip_behind (Some last) place
+
+-- The sync in front is measured, and levels the symbols of its step, which are given.
+abbrev pub stretched : Holding → Step → Holding
+stretched h step = record h {
+  held = drop step.count h.held;
+  on = step.on;
+  by = by_sync h.held 0;
+  given = map (level (by_sync h.held 0)) (take step.count h.held);
+  measured = Some (later_by (h.symbols - length h.held) (measure_at h.held 0));
+  syncs = h.syncs + 1;
+  slips = h.slips + slip_after h.syncs h.last (h.symbols - length h.held);
+  last = h.symbols - length h.held;
+}
+
+-- The sync in front levels what is held once its next sync can be looked for.
+unfoldable pub settled : Holding → Holding
+settled h = if h.on then (if length h.held == 261248 then stretched h (step_at h.held) else h) else h
+
+-- What the end of the symbols makes of it.
+unfoldable pub closed : Holding → Holding
+closed h = if h.on then stretched h (record { count = length h.held; on = false })
+    else if h.by.begun then record h {
+      held = drop (length h.held) h.held;
+      given = map (level h.by) (take (length h.held) h.held);
+    }
+    else h
+
+-- What becomes of it where so many more symbols are taken.
+abbrev pub taken : Holding → List ℤ → Holding
+taken h more = settled (sought (fed (cleared h) more))

@@ -1,19 +1,18 @@
 //! Levels a capture as its symbols come.
 
-ghost use Rattle.std.specs.Prelude.{◌≡◌, ℤ, ◌+◌, ◌-◌, ◌*◌, ◌<◌, ◌≤◌, ◌++◌, true, false, None, [], List, IfOk};
+ghost use Rattle.std.specs.Prelude.{◌≡◌, ℤ, ◌+◌, ◌*◌, ◌<◌, ◌≤◌, ◌++◌, true, false, [], List, IfOk};
 ghost use Rattle.std.specs.Prelude.{length, take, drop, if◌then◌else◌};
 ghost use Rattle.dtx_level.specs.Shown.{shows};
 ghost use Rattle.dtx_level.specs.Syncs.{all_syncs, slips};
 ghost use Rattle.dtx_level.specs.Levelled.{levelled_rest, levelled_so_far};
 ghost use Rattle.dtx_level.specs.Measures.{measures_rest, measures_so_far};
-ghost use Rattle.dtx_level.specs.Leveller.{IsClear, IsCleared, IsEnded, IsFed, IsMoved, IsSought, IsStretch};
-ghost use Rattle.dtx_level.specs.Leveller.{Leaves, StandsFor, all_given, as_list};
-ghost use Rattle.dtx_level.specs.declared.measure.Measure.{Measure};
+ghost use Rattle.dtx_level.specs.Leveller.{StandsFor, all_given, as_list, cleared, closed, fed, found, passed, settled};
+ghost use Rattle.dtx_level.specs.Leveller.{sought, stretched};
 
 use crate::giver::Giver;
 use crate::measure::{Measure, measure_of};
 use crate::pattern::Pattern;
-use crate::step::step_of;
+use crate::step::{Step, step_of};
 use crate::tally::Tally;
 use dtx_acquire::{Held, MOST_HELD, search};
 use dtx_sizes::{MOST_SYMBOLS, SEGMENT};
@@ -174,7 +173,7 @@ impl Leveller {
 
     /// Forgets what the last call gave.
     fn clear(&mut self)
-        ensures { IsCleared self.old self.new }
+        ensures { self.new ≡ cleared self.old }
     {
         self.giver.count = 0;
         self.zeros = 0;
@@ -183,31 +182,22 @@ impl Leveller {
 
     /// Holds the first of these symbols too, as many as there is room for. Returns how many they are.
     fn hold(&mut self, symbols: &[i8]) -> usize
-        requires clear { IsClear self.old }
-        requires most { self.old.symbols + length symbols.now ≤ MOST_SYMBOLS }
+        requires { self.old.symbols + length symbols.now ≤ MOST_SYMBOLS }
         ensures within { result ≤ length symbols.now }
         ensures some { 0 < length symbols.now → length self.old.held < MOST_HELD → 0 < result }
-        ensures fed { IsFed self.old self.new (take result symbols.now) }
+        ensures fed { self.new ≡ fed self.old (take result symbols.now) }
+        ensures few { length self.new.held ≤ MOST_HELD }
     {
         let count = self.held.take(symbols);
         self.symbols += count as u64;
+        let _held = self.held.len();
         count
     }
 
     /// Looks for a sync, unless one is in front. Lets the symbols before the sync go. Where there is none, lets all
     /// symbols go at which no sync can begin.
     fn seek(&mut self)
-        requires clear { IsClear self.old }
-        ensures moved { (symbols done : List ℤ) (told : List Measure) → Leaves self.old symbols done told
-            → IsMoved self.old self.new symbols done told }
-        ensures off { self.new.on ≡ false → length self.new.held < SEGMENT }
-        ensures rest { self.new.on ≡ false → 831 ≤ length self.old.held → length self.new.held ≡ 831 }
-        ensures kept { self.new.on ≡ false → (self.old.on ≡ false) × (self.new.by.begun ≡ self.old.by.begun) }
-        ensures zeros { 0 < self.new.zeros → (self.old.on ≡ false) × (self.old.by.begun ≡ false) }
-        ensures whole { length self.new.held ≡ MOST_HELD → self.new.given ≡ [] }
-        ensures measured { self.new.measured ≡ None }
-        ensures room { length self.new.given + length self.new.held ≤ length self.old.held }
-        ensures symbols { self.new.symbols ≡ self.old.symbols }
+        ensures { self.new ≡ sought self.old }
     {
         if self.on {
             return;
@@ -222,19 +212,10 @@ impl Leveller {
     /// Lets the symbols before the sync at `place` go, and gives them. Before the first sync they become zeros, and a
     /// zero is owed for each symbol that was let go earlier.
     fn find(&mut self, place: usize)
-        requires clear { IsClear self.old }
-        requires off { self.old.on ≡ false }
-        requires few { length self.old.held ≤ MOST_HELD }
-        requires sought { IsSought self.old.held place }
+        requires room { place ≤ length self.old.held }
+        requires most { place ≤ MOST_HELD }
         requires front { shows self.old.held place ≡ true }
-        ensures moved { (symbols done : List ℤ) (told : List Measure) → Leaves self.old symbols done told
-            → IsMoved self.old self.new symbols done told }
-        ensures on { self.new.on ≡ true }
-        ensures zeros { 0 < self.new.zeros → self.old.by.begun ≡ false }
-        ensures whole { length self.new.held ≡ MOST_HELD → self.new.given ≡ [] }
-        ensures measured { self.new.measured ≡ None }
-        ensures room { length self.new.given + length self.new.held ≤ length self.old.held }
-        ensures symbols { self.new.symbols ≡ self.old.symbols }
+        ensures { self.new ≡ found self.old place }
     {
         self.zeros = owed(self.giver.levels.begun, self.silent);
         self.giver.give(&mut self.held, place);
@@ -244,19 +225,10 @@ impl Leveller {
     /// Lets the first `count` symbols go, at which no sync begins. Gives them if a sync was found before them, else
     /// counts them.
     fn pass(&mut self, count: usize)
-        requires clear { IsClear self.old }
         requires off { self.old.on ≡ false }
-        requires few { length self.old.held ≤ MOST_HELD }
-        requires sought { IsSought self.old.held count }
-        ensures moved { (symbols done : List ℤ) (told : List Measure) → Leaves self.old symbols done told
-            → IsMoved self.old self.new symbols done told }
-        ensures off { self.new.on ≡ false }
-        ensures zeros { self.new.zeros ≡ 0 }
-        ensures held { self.new.held ≡ drop count self.old.held }
-        ensures by { self.new.by ≡ self.old.by }
-        ensures measured { self.new.measured ≡ None }
-        ensures room { length self.new.given + length self.new.held ≤ length self.old.held }
-        ensures symbols { self.new.symbols ≡ self.old.symbols }
+        requires room { count ≤ length self.old.held }
+        requires most { count ≤ MOST_HELD }
+        ensures { self.new ≡ passed self.old count }
     {
         if self.giver.levels.begun {
             self.giver.give(&mut self.held, count);
@@ -268,56 +240,51 @@ impl Leveller {
 
     /// Gives the symbols that the sync in front levels, once the segment is held at which the next sync is due.
     fn settle(&mut self)
-        requires whole { length self.old.held ≡ MOST_HELD → self.old.given ≡ [] }
-        requires measured { self.old.measured ≡ None }
-        ensures moved { (symbols done : List ℤ) (told : List Measure) → Leaves self.old symbols done told
-            → IsMoved self.old self.new symbols done told }
-        ensures few { (self.old.on ≡ false → length self.old.held < MOST_HELD) → length self.new.held < MOST_HELD }
-        ensures off { (self.old.on ≡ false → length self.old.held < SEGMENT)
-            → self.new.on ≡ false → length self.new.held < SEGMENT }
-        ensures rest { (self.old.on ≡ false → self.old.by.begun ≡ true → length self.old.held ≡ 831)
-            → self.new.on ≡ false → self.new.by.begun ≡ true → length self.new.held ≡ 831 }
-        ensures front { self.new.on ≡ true → shows self.new.held 0 ≡ true }
-        ensures zeros { self.new.zeros ≡ self.old.zeros }
-        ensures lines { SEGMENT * length (as_list self.new.measured) ≤ length self.new.given }
-        ensures room { length self.new.given + length self.new.held ≤ length self.old.given + length self.old.held }
-        ensures symbols { self.new.symbols ≡ self.old.symbols }
+        ensures { self.new ≡ settled self.old }
     {
-        if self.on && self.held.len() == MOST_HELD {
-            let step = step_of(&self.pattern, self.held.all());
-            self.stretch(step.count, step.on);
+        if self.on {
+            self.settle_front();
         }
     }
 
-    /// Measures the sync in front of the held symbols, and gives the first `count` of them, levelled by it. `on` says
-    /// whether another sync is in front of the others.
-    fn stretch(&mut self, count: usize, on: bool)
+    /// The same where a sync is in front.
+    fn settle_front(&mut self)
+        requires { self.old.on ≡ true }
+        ensures { self.new ≡ settled self.old }
+    {
+        if self.held.len() == MOST_HELD {
+            let step = step_of(&self.pattern, self.held.all());
+            self.stretch(step);
+        }
+    }
+
+    /// Measures the sync in front of the held symbols, and gives the symbols of its step, levelled by it.
+    fn stretch(&mut self, step: Step)
         requires front { shows self.old.held 0 ≡ true }
-        requires some { SEGMENT ≤ count }
-        requires room { count ≤ length self.old.held }
-        requires next { on ≡ true → shows (drop count self.old.held) 0 ≡ true }
-        ensures stretch { IsStretch self.old self.new count }
-        ensures on { self.new.on ≡ on }
+        requires some { SEGMENT ≤ step.count }
+        requires room { step.count ≤ length self.old.held }
+        requires next { step.on ≡ true → shows (drop step.count self.old.held) 0 ≡ true }
+        ensures { self.new ≡ stretched self.old step }
     {
         let place = self.symbols - self.held.len() as u64;
         let standing = self.pattern.standing(self.held.all(), 0);
         self.giver.levels.begin(standing.gain, standing.constant);
-        self.giver.give(&mut self.held, count);
+        self.giver.give(&mut self.held, step.count);
         self.tally.count(place);
         self.measured = Some(measure_of(&self.pattern, place, standing, &self.giver.front()));
-        self.on = on;
+        self.on = step.on;
     }
 
     /// Gives what the end brings.
     fn close(&mut self)
-        requires clear { IsClear self.old }
-        ensures ended { (symbols : List ℤ) → StandsFor self.old symbols → IsEnded self.new symbols }
-        ensures room { length self.new.given ≤ length self.old.held }
-        ensures symbols { self.new.symbols ≡ self.old.symbols }
+        ensures { self.new ≡ closed self.old }
     {
         let left = self.held.len();
         if self.on {
-            self.stretch(left, false);
+            self.stretch(Step {
+                count: left,
+                on: false,
+            });
         } else if self.giver.levels.begun {
             self.giver.give(&mut self.held, left);
         }

@@ -1,9 +1,8 @@
 //! Where the next sync is among the held symbols.
 
-ghost use Rattle.std.specs.Prelude.{◌≡◌, ◌≤◌, true, false};
-ghost use Rattle.std.specs.Prelude.{length, drop};
+ghost use Rattle.std.specs.Prelude.{◌≡◌, ◌≤◌, true, length, drop};
 ghost use Rattle.dtx_level.specs.Shown.{shows};
-ghost use Rattle.dtx_level.specs.Leveller.{IsNext};
+ghost use Rattle.dtx_level.specs.Leveller.{step_at};
 
 use crate::pattern::Pattern;
 use dtx_acquire::{MOST_HELD, is_sync_at, search};
@@ -23,13 +22,11 @@ pub(crate) struct Step {
 /// least place behind this sync's segment. Where no next sync is found, this sync levels all symbols but the last 831,
 /// at which a sync may begin.
 pub(crate) fn step_of(pattern: &Pattern, symbols: &[i8]) -> Step
-    requires full { length symbols.now ≡ MOST_HELD }
-    requires front { shows symbols.now 0 ≡ true }
+    requires { length symbols.now ≡ MOST_HELD }
+    ensures step { result ≡ step_at symbols.now }
     ensures most { result.count ≤ MOST_HELD }
     ensures some { SEGMENT ≤ result.count }
     ensures front { result.on ≡ true → shows (drop result.count symbols.now) 0 ≡ true }
-    ensures off { result.on ≡ false → result.count ≡ 260417 }
-    ensures next { IsNext result.count symbols.now }
 {
     if is_sync_at(pattern, symbols, DUE) {
         return Step {

@@ -1,9 +1,7 @@
 //! Counts syncs, and how many of them are slips.
 
-ghost use Rattle.std.specs.Prelude.{◌≡◌, ℕ, ◌+◌, ◌<◌, ◌≤◌, ◌++◌, ◌∷◌, [], List};
-ghost use Rattle.dtx_level.specs.Syncs.{slip_behind};
-ghost use Rattle.dtx_level.specs.Levelled.{last_of};
-ghost use Rattle.dtx_level.specs.Leveller.{IsTally};
+ghost use Rattle.std.specs.Prelude.{◌≡◌, ◌+◌, ◌≤◌};
+ghost use Rattle.dtx_level.specs.Leveller.{slip_after};
 
 use crate::step::DUE;
 
@@ -19,7 +17,6 @@ pub(crate) struct Tally {
 impl Tally {
     /// No sync was measured.
     pub(crate) fn new() -> Tally
-        ensures tally { IsTally result.syncs result.slips result.last [] }
         ensures syncs { result.syncs ≡ 0 }
         ensures slips { result.slips ≡ 0 }
         ensures last { result.last ≡ 0 }
@@ -37,10 +34,9 @@ impl Tally {
         requires few { self.old.syncs ≤ place }
         requires fewer { self.old.slips ≤ self.old.syncs }
         requires most { place ≤ 520832000000 }
-        ensures tally { (places : List ℕ) → IsTally self.old.syncs self.old.slips self.old.last places
-            → IsTally self.new.syncs self.new.slips self.new.last (places ++ place ∷ []) }
         ensures syncs { self.new.syncs ≡ self.old.syncs + 1 }
-        ensures slips { self.new.slips ≤ self.old.slips + 1 }
+        ensures slips { self.new.slips ≡ self.old.slips + slip_after self.old.syncs self.old.last place }
+        ensures fewer { self.new.slips ≤ self.old.slips + 1 }
         ensures last { self.new.last ≡ place }
     {
         self.slips += self.slip(place);
@@ -51,8 +47,7 @@ impl Tally {
     /// 1 where a sync at this place is a slip, else 0. The first sync is none.
     fn slip(&self, place: u64) -> u64
         requires { self.now.last ≤ place }
-        ensures slip { (places : List ℕ) → IsTally self.now.syncs self.now.slips self.now.last places
-            → result ≡ slip_behind (last_of places) place }
+        ensures slip { result ≡ slip_after self.now.syncs self.now.last place }
         ensures small { result ≤ 1 }
     {
         if self.syncs == 0 {

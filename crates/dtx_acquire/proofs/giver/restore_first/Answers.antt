@@ -1,7 +1,7 @@
 use Rattle.std.proofs.Common.{◌≡◌, ◌++◌, ℕ, ℤ, List, length, take, ap, ◌∙◌, arith}
 use Rattle.std.proofs.lemmas.List.{length-take-le, take-append-le, take_all}
-use Rattle.dtx_acquire.proofs.AcquiredLemmas.{length-restored}
-use Rattle.dtx_acquire.proofs.Leaving.{length-segments_from}
+use Rattle.dtx_acquire.proofs.WholeLemmas.{length-restored}
+use Rattle.dtx_acquire.proofs.WholeLemmas.{length-segments_from}
 use Rattle.dtx_acquire.specs.Acquired.{restored, segments_from}
 use Rattle.dtx_acquire.proofs.giver.restore_first.Goals as goal
 

@@ -1,7 +1,7 @@
 use Rattle.std.proofs.Common.{length, ap, ◌∙◌, arith}
 use Rattle.dtx_acquire.specs.Acquired.{path_cost}
 use Rattle.dtx_acquire.specs.Acquirer.{Holding}
-use Rattle.dtx_acquire.proofs.Leaving.{length-segments_from}
+use Rattle.dtx_acquire.proofs.WholeLemmas.{length-segments_from}
 use Rattle.dtx_acquire.proofs.acquirer.Acquirer.field_cost.Goals as goal
 
 pub returns-clause-cost : goal.returns-clause-cost

@@ -5,7 +5,8 @@ use Rattle.dtx_acquire.specs.Acquired.{begun, path_cost, restored, segments_from
 use Rattle.dtx_acquire.specs.Acquirer.{Holding, IsSought, StandsFor, field_of}
 use Rattle.dtx_acquire.specs.Agreement.{agrees}
 use Rattle.dtx_acquire.proofs.Fit.{fit_given}
-use Rattle.dtx_acquire.proofs.Leaving.{IsEnd, ends, length-segments_from}
+use Rattle.dtx_acquire.proofs.Leaving.{IsEnd, ends}
+use Rattle.dtx_acquire.proofs.WholeLemmas.{length-segments_from}
 use Rattle.dtx_acquire.proofs.acquirer.Acquirer.finish.Goals as goal
 
 pub forget-requires : goal.forget-requires

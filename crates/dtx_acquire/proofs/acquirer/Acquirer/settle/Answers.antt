@@ -5,7 +5,8 @@ use Rattle.dtx_acquire.specs.Acquired.{path_cost, restored_of, segments_from}
 use Rattle.dtx_acquire.specs.Acquirer.{Holding, Leaves, field_of}
 use Rattle.dtx_acquire.specs.Agreement.{agrees}
 use Rattle.dtx_acquire.proofs.Fit.{fit_given, none_gone}
-use Rattle.dtx_acquire.proofs.Leaving.{heard_one, leaves_settled, length-segments_from, restored_one}
+use Rattle.dtx_acquire.proofs.Leaving.{heard_one, leaves_settled, restored_one}
+use Rattle.dtx_acquire.proofs.WholeLemmas.{length-segments_from}
 use Rattle.dtx_acquire.proofs.acquirer.Acquirer.settle.Goals as goal
 
 pub step_of-step-requires-clause-full : goal.step_of-step-requires-clause-full

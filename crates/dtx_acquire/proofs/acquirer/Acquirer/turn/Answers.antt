@@ -5,7 +5,8 @@ use Rattle.dtx_acquire.specs.Acquired.{restored_of, segments_from}
 use Rattle.dtx_acquire.specs.Acquirer.{Holding, Leaves}
 use Rattle.dtx_acquire.specs.Agreement.{agrees}
 use Rattle.dtx_acquire.proofs.Fit.{fit_sought, none_given, none_gone, sought_all}
-use Rattle.dtx_acquire.proofs.Leaving.{leaves_sought, length-segments_from}
+use Rattle.dtx_acquire.proofs.Leaving.{leaves_sought}
+use Rattle.dtx_acquire.proofs.WholeLemmas.{length-segments_from}
 use Rattle.dtx_acquire.proofs.acquirer.Acquirer.turn.Goals as goal
 
 pub seek-self-inside-requires : goal.seek-self-inside-requires

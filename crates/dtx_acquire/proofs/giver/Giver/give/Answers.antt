@@ -1,6 +1,6 @@
 use Rattle.std.proofs.Common.{◌+◌, ap}
 use Rattle.dtx_acquire.specs.Acquired.{segments_from}
-use Rattle.dtx_acquire.proofs.Leaving.{length-segments_from}
+use Rattle.dtx_acquire.proofs.WholeLemmas.{length-segments_from}
 use Rattle.dtx_acquire.proofs.giver.Giver.give.Goals as goal
 
 pub returns-clause-runs : goal.returns-clause-runs

@@ -33,5 +33,10 @@ invariant_of-self c =
     c.take-count.result c.self.inside.symbols (length c.args.symbols.now) c.self.inside.on
     c.self.invariant.0 c.self.invariant.2 c.self.invariant.3 c.self.invariant.4 c.self.invariant.5
     c.take-count.ensures.held (length-take-le c.take-count.result c.args.symbols.now c.take-count.ensures.within)
-    (subst (λ (x : Holding). x.symbols + length c.args.symbols.now ≤ 520832000000) (sym c.self.view_is) c.requires.most)
+    (subst (λ (x : Holding). x.symbols + length c.args.symbols.now ≤ 520832000000) (sym c.self.view_is) c.requires)
     c.take-count.ensures.within
+
+pub returns-clause-fed : goal.returns-clause-fed
+returns-clause-fed c =
+    let long = length-take-le c.take-count.result c.args.symbols.now c.take-count.ensures.within in
+    rw (← c.self.view_is) (cc (long, c.take-count.ensures.held))

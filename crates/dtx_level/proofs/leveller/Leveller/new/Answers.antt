@@ -24,4 +24,5 @@ invariant_of-result c =
 
 pub returns-clause-stands : goal.returns-clause-stands
 returns-clause-stands c =
-    stands_first _ c.in_ok-new.ensures refl c.in_ok-new-2.ensures.levels refl refl c.new-4.ensures.tally
+    stands_first _ c.in_ok-new.ensures refl c.in_ok-new-2.ensures.levels refl refl
+    c.new-4.ensures.syncs c.new-4.ensures.slips

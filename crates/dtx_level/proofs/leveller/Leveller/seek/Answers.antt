@@ -1,49 +1,52 @@
-use Rattle.std.proofs.Common.{◌≡◌, ◌≤◌, Some, None, length, sym, ap, ◌∙◌, subst, arith}
-use Rattle.dtx_acquire.proofs.PlacesLemmas.{least_gives, least_misses, whole_there}
+use Rattle.std.proofs.Common.{◌≡◌, ◌-◌, Some, None, true, length, sym, ap, ◌∙◌, arith}
+use Rattle.dtx_acquire.proofs.PlacesLemmas.{least_gives}
+use Rattle.dtx_level.specs.Leveller.{Holding, passed}
 use Rattle.dtx_level.specs.Shown.{least_shown, shows}
-use Rattle.dtx_level.specs.ShownLaws.{past_end}
-use Rattle.dtx_level.specs.Leveller.{Holding, IsSought}
+use Rattle.dtx_level.proofs.Steps.{sought_off, sought_on}
 use Rattle.dtx_level.proofs.leveller.Leveller.seek.Goals as goal
 
-pub find-requires-clause-sought : goal.find-requires-clause-sought
-find-requires-clause-sought c =
-    let held = c.self.inside.held in
-    let e : least_shown held 0 ≡ Some c.in-Some.place =
-    ap (λ s. least_shown s 0) (sym c.all.ensures) ∙ sym c.search.ensures ∙ c.in-Some.is in
-    let is = least_gives shows held 0 c.in-Some.place e in
-    let there = whole_there shows past_end held c.in-Some.place is.passes in
-    subst (λ (x : Holding). IsSought x.held c.in-Some.place) c.self.view_is (record {
-      within = omega (arith, there);
-      none = λ place l. (omega (arith, there, l), is.before place (omega arith) l);
-    })
+pub returns-then-self : goal.returns-then-self
+returns-then-self c =
+    sym (sought_on c.args.self.now (ap (λ (x : Holding). x.on) (sym c.self.view_is) ∙ c.if-self.true))
+
+pub find-requires-clause-room : goal.find-requires-clause-room
+find-requires-clause-room c =
+    let e : least_shown c.args.self.now.held 0 ≡ Some c.in-Some.place =
+    ap (λ (x : Holding). least_shown x.held 0) (sym c.self.view_is) ∙ ap (λ s. least_shown s 0) (sym c.all.ensures)
+    ∙ sym c.search.ensures ∙ c.in-Some.is in
+    let is = least_gives shows c.args.self.now.held 0 c.in-Some.place e in
+    omega (arith, is.within)
+
+pub find-requires-clause-most : goal.find-requires-clause-most
+find-requires-clause-most c =
+    let e : least_shown c.args.self.now.held 0 ≡ Some c.in-Some.place =
+    ap (λ (x : Holding). least_shown x.held 0) (sym c.self.view_is) ∙ ap (λ s. least_shown s 0) (sym c.all.ensures)
+    ∙ sym c.search.ensures ∙ c.in-Some.is in
+    let is = least_gives shows c.args.self.now.held 0 c.in-Some.place e in
+    let long = c.len-left.ensures.long ∙ ap (λ (x : Holding). length x.held) c.self.view_is in
+    omega (arith, is.within, long, c.len-left.ensures.few)
 
 pub find-requires-clause-front : goal.find-requires-clause-front
 find-requires-clause-front c =
-    let held = c.self.inside.held in
-    let e : least_shown held 0 ≡ Some c.in-Some.place =
-    ap (λ s. least_shown s 0) (sym c.all.ensures) ∙ sym c.search.ensures ∙ c.in-Some.is in
-    let is = least_gives shows held 0 c.in-Some.place e in
-    ap (λ (x : Holding). shows x.held c.in-Some.place) (sym c.self.view_is) ∙ is.passes
+    let e : least_shown c.args.self.now.held 0 ≡ Some c.in-Some.place =
+    ap (λ (x : Holding). least_shown x.held 0) (sym c.self.view_is) ∙ ap (λ s. least_shown s 0) (sym c.all.ensures)
+    ∙ sym c.search.ensures ∙ c.in-Some.is in
+    (least_gives shows c.args.self.now.held 0 c.in-Some.place e).passes
 
-pub find-requires-clause-few : goal.find-requires-clause-few
-find-requires-clause-few c =
-    subst (λ (x : Holding). length x.held ≤ 261248) c.self.view_is
-    (omega (arith, c.len-left.ensures.long, c.len-left.ensures.few))
+pub returns-in-Some : goal.returns-in-Some
+returns-in-Some c =
+    let e : least_shown c.args.self.now.held 0 ≡ Some c.in-Some.place =
+    ap (λ (x : Holding). least_shown x.held 0) (sym c.self.view_is) ∙ ap (λ s. least_shown s 0) (sym c.all.ensures)
+    ∙ sym c.search.ensures ∙ c.in-Some.is in
+    c.find.ensures ∙ sym (sought_off c.args.self.now (Some c.in-Some.place)
+    (ap (λ (x : Holding). x.on) (sym c.self.view_is) ∙ c.if-self.false) e)
 
-pub pass-requires-clause-sought : goal.pass-requires-clause-sought
-pass-requires-clause-sought c =
-    let held = c.self.inside.held in
-    let e : least_shown held 0 ≡ None =
-    ap (λ s. least_shown s 0) (sym c.all.ensures) ∙ sym c.search.ensures ∙ c.in-None.is in
-    subst (λ (x : Holding). IsSought x.held c.saturating_sub.result) c.self.view_is (record {
-      within = omega (arith, c.saturating_sub.ensures, c.len-left.ensures.long);
-      none = λ place l. (
-        omega (arith, c.saturating_sub.ensures, c.len-left.ensures.long, l),
-        least_misses shows past_end held 0 place e (omega arith),
-      );
-    })
-
-pub pass-requires-clause-few : goal.pass-requires-clause-few
-pass-requires-clause-few c =
-    subst (λ (x : Holding). length x.held ≤ 261248) c.self.view_is
-    (omega (arith, c.len-left.ensures.long, c.len-left.ensures.few))
+pub returns-in-None : goal.returns-in-None
+returns-in-None c =
+    let e : least_shown c.args.self.now.held 0 ≡ None =
+    ap (λ (x : Holding). least_shown x.held 0) (sym c.self.view_is) ∙ ap (λ s. least_shown s 0) (sym c.all.ensures)
+    ∙ sym c.search.ensures ∙ c.in-None.is in
+    let held = ap (λ (x : Holding). length x.held) c.self.view_is in
+    c.pass.ensures ∙ ap (passed c.args.self.now) (c.saturating_sub.ensures
+    ∙ ap (λ n. n - 831) (c.len-left.ensures.long ∙ held))
+    ∙ sym (sought_off c.args.self.now None (ap (λ (x : Holding). x.on) (sym c.self.view_is) ∙ c.if-self.false) e)
