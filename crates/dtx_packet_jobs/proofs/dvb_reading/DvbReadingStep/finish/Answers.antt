@@ -4,7 +4,7 @@ use Rattle.dtx_dvb.proofs.ReadingLemmas.{length-read}
 use Rattle.dtx_meaning.specs.declared.status.Outcome.{Outcome}
 use Rattle.dtx_meaning.specs.declared.status.Status.TheVariants.{Done}
 use Rattle.dtx_packet_jobs.specs.DvbRead.{whole_blocks}
-use Rattle.dtx_packet_jobs.proofs.dvb_reading.DvbReadingEngine.finish.Goals as goal
+use Rattle.dtx_packet_jobs.proofs.dvb_reading.DvbReadingStep.finish.Goals as goal
 
 -- the answer with these numbers
 done : ℕ → ℕ → ℕ → ℕ → ℕ → Outcome

@@ -2,7 +2,7 @@ use Rattle.std.proofs.Common.{[], arith, ap, subst, sym, refl}
 use Rattle.dtx_dvb.specs.Read.{fixed_in, flagged_in}
 use Rattle.dtx_outer.specs.Inner.{Kept, StandsFor}
 use Rattle.dtx_packet_jobs.specs.DvbReadLaws.{read_none}
-use Rattle.dtx_packet_jobs.proofs.dvb_reading.DvbReadingTransforming.new.Goals as goal
+use Rattle.dtx_packet_jobs.proofs.dvb_reading.DvbReadingStepping.new.Goals as goal
 
 pub returns-clause-given : goal.returns-clause-given
 unfolding fixed_in flagged_in
