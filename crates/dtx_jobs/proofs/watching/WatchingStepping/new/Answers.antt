@@ -2,7 +2,7 @@ use Rattle.std.proofs.Common.{[], ap, subst, sym, ◌∙◌}
 use Rattle.dtx_watch.specs.Kept.{StandsFor}
 use Rattle.dtx_watch.proofs.ToldLemmas.{nothing_told}
 use Rattle.dtx_jobs.specs.Watch.{watch_tally}
-use Rattle.dtx_jobs.proofs.watching.WatchingTransforming.new.Goals as goal
+use Rattle.dtx_jobs.proofs.watching.WatchingStepping.new.Goals as goal
 
 pub returns-clause-given : goal.returns-clause-given
 returns-clause-given c = record {

@@ -13,7 +13,7 @@ use Rattle.dtx_jobs.specs.Watch.{watch_tally, watch_numbers}
 use Rattle.dtx_jobs.specs.Watching.{tally_with}
 use Rattle.dtx_jobs.proofs.WatchLemmas.{has_room, tally_parts, waiting_is}
 use Rattle.dtx_jobs.specs.declared.watch_tally.WatchTally.{WatchTally}
-use Rattle.dtx_jobs.proofs.watching.WatchingEngine.finish.Goals as goal
+use Rattle.dtx_jobs.proofs.watching.WatchingStep.finish.Goals as goal
 
 pub finish-requires : goal.finish-requires
 finish-requires c =
@@ -54,5 +54,5 @@ returns-clause-rest c = λ given stand.
     let ps = packets_of given in
     let notes : List Note = c.finish.new.notes.items in
     let stands = subst (λ w. StandsFor w ps) (sym c.deref_mut.ensures.value) stand.watcher in
-    ap only (c.gather.ensures.lines ∙ ap (λ z. z ++ watch_text notes) c.clear.ensures
+    ap only (c.gather.ensures.lines ∙ ap (λ m. m.first ++ watch_text notes) c.requires.empty
     ∙ waiting_is ps notes (c.finish.ensures ps stands))

@@ -4,7 +4,7 @@ use Rattle.dtx_jobs.proofs.GivingLemmas.{receives_last}
 use Rattle.dtx_jobs.specs.SymbolFile.{file_segments}
 use Rattle.dtx_jobs.proofs.SymbolFileLemmas.{length-segments_of}
 use Rattle.dtx_jobs.specs.declared.tally.Tally.{Tally}
-use Rattle.dtx_jobs.proofs.reception.ReceptionEngine.finish.Goals as goal
+use Rattle.dtx_jobs.proofs.reception.ReceptionStep.finish.Goals as goal
 
 pub end-requires-clause-most : goal.end-requires-clause-most
 end-requires-clause-most g c =
@@ -15,6 +15,9 @@ end-requires-clause-most g c =
 
 pub end-requires-clause-bounded : goal.end-requires-clause-bounded
 end-requires-clause-bounded g c = c.requires.given.2.2.bounded
+
+pub end-requires-clause-empty : goal.end-requires-clause-empty
+end-requires-clause-empty g c = ap (λ m. m.first) c.requires.empty
 
 pub returns-then-self-eq0-clause-rest : goal.returns-then-self-eq0-clause-rest
 returns-then-self-eq0-clause-rest g c = λ given stand.
