@@ -1,5 +1,5 @@
 -- Lemmas of the packets of a file.
-use Rattle.std.proofs.Common.{◌≡◌, ℕ, zero, suc, ◌+◌, ◌-◌, ◌*◌, ◌/◌, ◌<◌, ◌≤◌, List, [], length}
+use Rattle.std.proofs.Common.{◌≡◌, ℕ, zero, suc, ◌+◌, ◌-◌, ◌*◌, ◌/◌, ◌%◌, ◌<◌, ◌≤◌, List, [], ◌∷◌, ◌++◌, length}
 use Rattle.std.proofs.Common.{take, drop, refl, sym, ap, ◌∙◌, arith}
 use Rattle.std.specs.List.{All}
 use Rattle.std.specs.Simd.{first_chunks}
@@ -7,7 +7,7 @@ use Rattle.std.proofs.lemmas.List.{take_at, length-drop, length-take-le}
 use Rattle.std.proofs.lemmas.List.Elements.{All-from_get_or}
 use Rattle.std.proofs.lemmas.List.FromFn.{fill_by_all, get_or-map-range_with_len, length-map-range_with_len}
 use Rattle.dtx_packets.proofs.ChunksLemmas.{get_or-first_chunks}
-use Rattle.dtx_packets.proofs.PacketLemmas.{packets_from-append}
+use Rattle.dtx_packets.proofs.PacketLemmas.{packets_from-append, packets_of-append, packets_of-piece}
 use Rattle.dtx_packets.specs.Packets.{packet_at, packets_from, packets_of, whole_packets}
 
 -- a packet has 188 bytes
@@ -42,3 +42,13 @@ packets_are bytes =
     fill_by_all (packet_at bytes) (first_chunks 188 (whole_packets bytes) bytes) (whole_packets bytes) []
     (length-chunks 188 (whole_packets bytes) bytes)
     (λ k within. get_or-first_chunks 188 (whole_packets bytes) bytes k within)
+
+-- packets that are taken behind whole ones: the first chunks of some bytes
+pub packets_on : (given bytes : List ℕ) (n : ℕ) (chunks : List (List ℕ)) → length given % 188 ≡ 0
+    → chunks ≡ first_chunks 188 (length bytes / 188) bytes → n ≤ whole_packets bytes
+    → packets_of (given ++ take (188 * n) bytes) ≡ packets_of given ++ take n chunks
+packets_on given bytes n chunks whole is within =
+    packets_of-append given (take (188 * n) bytes) whole
+    ∙ ap (λ ps. packets_of given ++ ps)
+    (packets_of-piece bytes 0 n (omega (arith, within)) ∙ sym (front_of bytes n within)
+    ∙ ap (take n) (sym (is ∙ packets_are bytes)))

@@ -10,6 +10,7 @@ mod damaged;
 mod logging;
 mod plan_file;
 mod shapes;
+mod stepping;
 mod transforming;
 mod transmitting;
 
@@ -23,5 +24,6 @@ pub use shapes::{
     CODED_PACKETS, PIECE_BYTES, PIECE_SEGMENTS, coded_packets, packets, segments, single_bytes,
     single_packets,
 };
+pub use stepping::Stepping;
 pub use transforming::{Transforming, transform, transform_dvb};
 pub use transmitting::{Transmitting, transmit};

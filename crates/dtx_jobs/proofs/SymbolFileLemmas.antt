@@ -1,6 +1,6 @@
 -- Lemmas of the segments of a symbol file that is read piece by piece.
-use Rattle.std.proofs.Common.{◌≡◌, ℕ, ◌+◌, ◌-◌, ◌*◌, ◌<◌, ◌≤◌, List, [], ◌∷◌, ◌++◌, length, take, drop, get_or, refl}
-use Rattle.std.proofs.Common.{sym, ap, ◌∙◌, arith}
+use Rattle.std.proofs.Common.{◌≡◌, ℕ, ◌+◌, ◌-◌, ◌*◌, ◌/◌, ◌%◌, ◌<◌, ◌≤◌, List, [], ◌∷◌, ◌++◌, length, take, drop}
+use Rattle.std.proofs.Common.{get_or, refl, sym, ap, ◌∙◌, arith}
 use Rattle.std.specs.Prelude.{ℤ}
 use Rattle.std.specs.Simd.{first_chunks}
 use Rattle.std.proofs.lemmas.List.{append_assoc, ext_get_or, get_or-drop, get_or-map, get_or-take, length-drop}
@@ -9,7 +9,7 @@ use Rattle.std.proofs.lemmas.List.FromFn.{get_or-map-range_with_len, length-map-
 use Rattle.dtx_packets.proofs.ChunksLemmas.{get_or-first_chunks}
 use Rattle.dtx_receiver.specs.Symbols.{symbols_in}
 use Rattle.dtx_recipes.specs.SymbolFile.{symbols, segment_at, segments_from, file_segments, whole_segments}
-use Rattle.dtx_recipes.proofs.SymbolFileLemmas.{segments_from-append, segments_from-piece}
+use Rattle.dtx_recipes.proofs.SymbolFileLemmas.{file_segments-append, segments_from-append, segments_from-piece}
 
 -- how many segments bytes have
 pub length-segments_of : (file : List ℕ) → length (file_segments file) ≡ whole_segments file
@@ -86,3 +86,17 @@ segments_on segments bytes units first n chunks is long fits =
     ∙ segments_of_chunks bytes units first n fits (sym (ap length is) ∙ long))
     ∙ sym (segments_from-append bytes 0 first n
     ∙ ap (λ a. segments_from bytes 0 first ++ segments_from bytes a n) zero))
+
+-- segments that are taken behind whole ones: the first chunks of some bytes
+pub chunks_on : (given bytes : List ℕ) (n : ℕ) (chunks : List (List ℕ)) → length given % 832 ≡ 0
+    → chunks ≡ first_chunks 832 (length bytes / 832) bytes → length chunks ≡ length bytes / 832
+    → n ≤ length bytes / 832
+    → file_segments (given ++ take (832 * n) bytes) ≡ file_segments given ++ symbols_in (take n chunks)
+chunks_on given bytes n chunks whole is long fits =
+    let part = take (832 * n) bytes in
+    let many : whole_segments part ≡ n = omega (arith, length-take-le (832 * n) bytes (omega (arith, fits))) in
+    file_segments-append given part whole
+    ∙ ap (λ z. file_segments given ++ z)
+    (ap (segments_from part 0) many ∙ segments_from-piece bytes 0 n
+    ∙ sym (ap (λ xs. symbols_in (take n xs)) is
+    ∙ segments_of_chunks bytes (length bytes / 832) 0 n (omega (arith, fits)) (sym (ap length is) ∙ long)))

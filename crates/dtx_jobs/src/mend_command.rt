@@ -8,6 +8,7 @@ use dtx_erase::MendReceiver;
 use dtx_forms::transform;
 use dtx_meaning::Outcome;
 use dtx_outside::{Shelf, Word};
+use dtx_steps::Steps;
 use std::alloc::Global;
 
 /// Writes the packets of the symbols IN to OUT as `receive` does, but symbols may be missing (the profile's own; ATSC
@@ -21,5 +22,5 @@ pub fn mend<S: Shelf>(alloc: Global, words: &[Word], shelf: &mut S) -> Outcome
     ensures stages { IsStaged S.foreseen (mend_job.stages words.now) result.status
         (S.files shelf.old) (S.files shelf.new) (S.counts shelf.old) (S.counts shelf.new) }
 {
-    transform::<Reception<MendReceiver>, S>(alloc, words, shelf)
+    transform::<Steps<Reception<MendReceiver>>, S>(alloc, words, shelf)
 }

@@ -8,6 +8,7 @@ use dtx_forms::transform;
 use dtx_meaning::Outcome;
 use dtx_outside::{Shelf, Word};
 use dtx_receiver::Receiver;
+use dtx_steps::Steps;
 use std::alloc::Global;
 
 /// Writes the packets of the symbols IN to OUT (ATSC A/53 Part 2, the way back). It writes the packets of every run of
@@ -20,5 +21,5 @@ pub fn receive<S: Shelf>(alloc: Global, words: &[Word], shelf: &mut S) -> Outcom
     ensures stages { IsStaged S.foreseen (receive_job.stages words.now) result.status
         (S.files shelf.old) (S.files shelf.new) (S.counts shelf.old) (S.counts shelf.new) }
 {
-    transform::<Reception<Receiver>, S>(alloc, words, shelf)
+    transform::<Steps<Reception<Receiver>>, S>(alloc, words, shelf)
 }

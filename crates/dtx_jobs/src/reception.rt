@@ -7,12 +7,13 @@ ghost use Rattle.dtx_recipes.specs.SymbolFile.{file_segments};
 ghost use Rattle.dtx_recipes.specs.Tally.{IsBounded, tally_of};
 
 use crate::segment_receiver::{Receiving, SegmentReceiver};
-use dtx_engine::{Buffer, Engine, Shape};
-use dtx_forms::{PIECE_SEGMENTS, Transforming, segments};
+use dtx_engine::{Buffer, Shape};
+use dtx_forms::{PIECE_SEGMENTS, Stepping, segments};
 use dtx_meaning::{Outcome, Status, ended};
 use dtx_receiver::{Batch, Received};
 use dtx_recipes::Tally;
 use dtx_sizes::{GROUP_PACKETS, MOST_SEGMENTS, PACKET, SEGMENT};
+use dtx_steps::Step;
 use std::alloc::{AllocError, Global};
 
 /// Room for the packets that a piece brings, in bytes.
@@ -28,9 +29,9 @@ pub struct Reception<R> {
 }
 
 impl<R: SegmentReceiver> Reception<R> {
-    /// An engine to which nothing was given. The only error is out of memory.
+    /// A value to which nothing was given. The only error is out of memory.
     pub fn new(alloc: Global) -> Result<Reception<R>, AllocError>
-        ensures { IfOk result (λ r. ⟦<Reception<R> as Engine>⟧.stands r []) }
+        ensures { IfOk result (λ r. ⟦<Reception<R> as Step>⟧.stands r []) }
     {
         Ok(Reception {
             receiver: Box::new(alloc, R::new(alloc)?)?,
@@ -38,29 +39,6 @@ impl<R: SegmentReceiver> Reception<R> {
             tally: Tally::new(),
             packets: Buffer::new(alloc)?,
         })
-    }
-
-    /// Gives the receiver the segments of a file's bytes, and gathers the packets that they bring.
-    fn take_all(&mut self, bytes: &[u8])
-        requires most { self.old.tally.segments + length bytes.now / SEGMENT ≤ MOST_SEGMENTS }
-        requires bounded { IsBounded self.old.tally self.old.tally.segments }
-        requires room { length bytes.now ≤ SEGMENT * PIECE_SEGMENTS }
-        requires empty { self.old.packets ≡ [] }
-        ensures receiving { (before : List (List ℤ))
-            → IsReceiving R.giving (R.stands self.old.receiver.value) self.old.tally before
-            → IsReceiving R.giving (R.stands self.new.receiver.value) self.new.tally
-            (before ++ file_segments bytes.now) }
-        ensures brought { (before : List (List ℤ))
-            → IsReceiving R.giving (R.stands self.old.receiver.value) self.old.tally before
-            → bytes_of (R.giving.so_far (before ++ file_segments bytes.now))
-            ≡ bytes_of (R.giving.so_far before) ++ self.new.packets }
-        ensures bounded { IsBounded self.new.tally self.new.tally.segments }
-    {
-        let (segments, _) = bytes.as_chunks::<SEGMENT>();
-        let mut done = 0;
-        while done < segments.len() {
-            done += self.take_some(&segments[done..]);
-        }
     }
 
     /// Gives the receiver the first of these segments, as many as it takes at once, and gathers the packets that they
@@ -111,11 +89,15 @@ impl<R: SegmentReceiver> Reception<R> {
     }
 }
 
-impl<R: SegmentReceiver> Engine for Reception<R> {
+impl<R: SegmentReceiver> Step for Reception<R> {
+    ghost use Rattle.std.specs.Prelude.{◌≤◌, ◌+◌, ◌*◌, length};
     ghost use Rattle.dtx_engine.specs.Made.{only};
     ghost use Rattle.dtx_recipes.specs.Giving.{receiving_by};
     ghost use Rattle.dtx_recipes.proofs.GivingLemmas.{receives_none, receives_more};
     ghost use Rattle.dtx_jobs.specs.Reception.{WasGiven};
+    ghost use Rattle.dtx_jobs.specs.declared.reception.TheConstants.{RECEIVED_BYTES};
+    ghost use Rattle.dtx_sizes.specs.declared.fields.TheConstants.{GROUP_PACKETS};
+    ghost use Rattle.dtx_sizes.specs.declared.packets.TheConstants.{PACKET};
     ghost use Rattle.dtx_forms.specs.Shapes as shapes;
 
     ghost shape = { shapes.segments };
@@ -124,9 +106,9 @@ impl<R: SegmentReceiver> Engine for Reception<R> {
 
     ghost stands = { λ s. WasGiven R.giving (R.stands s.receiver.value) s.tally };
 
-    ghost gives = { λ s _. only s.packets };
+    ghost holds = { λ s. only s.packets };
 
-    ghost zeros = { λ _. 0 };
+    ghost is_ready = { λ s _ count. length s.packets + PACKET * GROUP_PACKETS * count ≤ RECEIVED_BYTES };
 
     fn sizes(&self) -> Shape {
         segments()
@@ -136,13 +118,16 @@ impl<R: SegmentReceiver> Engine for Reception<R> {
         true
     }
 
-    fn feed(&mut self, _first: u64, bytes: &mut [u8]) {
+    fn clear(&mut self) {
         self.packets.clear();
-        self.take_all(bytes);
+    }
+
+    fn step(&mut self, _first: u64, bytes: &mut [u8]) -> usize {
+        let (segments, _) = bytes.as_chunks::<SEGMENT>();
+        self.take_some(segments)
     }
 
     fn finish(&mut self, loose: usize) -> Outcome {
-        self.packets.clear();
         self.end();
         if self.tally.runs == 0 {
             ended(Status::NoSync)
@@ -155,11 +140,7 @@ impl<R: SegmentReceiver> Engine for Reception<R> {
         }
     }
 
-    fn zeros(&self) -> u64 {
-        0
-    }
-
-    fn made<'a>(&'a self, _bytes: &'a [u8]) -> &'a [u8] {
+    fn made(&self) -> &[u8] {
         self.packets.bytes()
     }
 
@@ -172,7 +153,7 @@ impl<R: SegmentReceiver> Engine for Reception<R> {
     ghost grows = { λ _ a b whole. receives_more R.giving R.gives a b whole };
 }
 
-impl<R: Receiving> Transforming for Reception<R> {
+impl<R: Receiving> Stepping for Reception<R> {
     ghost use Rattle.dtx_recipes.specs.Giving.{receiving_by};
 
     ghost command = { R.command };

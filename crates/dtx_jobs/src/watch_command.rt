@@ -7,6 +7,7 @@ use crate::watching::Watching;
 use dtx_forms::transform;
 use dtx_meaning::Outcome;
 use dtx_outside::{Shelf, Word};
+use dtx_steps::Steps;
 use std::alloc::Global;
 
 /// Watches FEED, whose packets may have any bytes, and writes a line for each note to OUT (the profile's own). There is
@@ -21,5 +22,5 @@ pub fn watch<S: Shelf>(alloc: Global, words: &[Word], shelf: &mut S) -> Outcome
     ensures stages { IsStaged S.foreseen (watch_job.stages words.now) result.status
         (S.files shelf.old) (S.files shelf.new) (S.counts shelf.old) (S.counts shelf.new) }
 {
-    transform::<Watching, S>(alloc, words, shelf)
+    transform::<Steps<Watching>, S>(alloc, words, shelf)
 }

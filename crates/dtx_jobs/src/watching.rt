@@ -1,18 +1,16 @@
 // The engine of `watch`: watches a feed, one piece of packets at a time.
-ghost use Rattle.std.specs.Prelude.{◌≡◌, ◌+◌, ◌*◌, ◌/◌, ◌<◌, ◌≤◌, ◌++◌, ◌∷◌, [], ℕ, List, length};
-ghost use Rattle.dtx_packets.specs.Packets.{packets_of};
+ghost use Rattle.std.specs.Prelude.{◌≡◌, ◌+◌, ◌≤◌, ◌++◌, length};
 ghost use Rattle.dtx_watch.specs.WatchText.{note_text, watch_text};
-ghost use Rattle.dtx_recipes.specs.Watch.{watched_bytes};
 ghost use Rattle.dtx_recipes.specs.WatchTally.{HasRoom, tally_of_one, tally_with};
-ghost use Rattle.dtx_jobs.specs.Watching.{IsWatched};
 
 use arrayvec::{ArrayString, ArrayVec};
-use dtx_engine::{Buffer, Engine, Shape};
-use dtx_forms::{Transforming, single_packets};
+use dtx_engine::{Buffer, Shape};
+use dtx_forms::{Stepping, single_packets};
 use dtx_meaning::{Outcome, Status};
 use dtx_packets::{PIECE_PACKETS, Packet};
 use dtx_recipes::WatchTally;
-use dtx_sizes::{MOST_PACKETS, PACKET};
+use dtx_sizes::PACKET;
+use dtx_steps::Step;
 use dtx_watch::{MOST_NOTES, Note, WATCH_LINE, Watcher, write_note};
 use std::alloc::{AllocError, Global};
 
@@ -35,39 +33,6 @@ pub(crate) struct Watching {
 }
 
 impl Watching {
-    /// Watches the packets of a file's bytes, and gathers the lines that they bring.
-    fn take_all(&mut self, bytes: &[u8])
-        requires some { (before : List (List ℕ)) × IsWatched self.old before
-            × (length before + length bytes.now / PACKET ≤ MOST_PACKETS) }
-        requires room { length bytes.now ≤ PACKET * PIECE_PACKETS }
-        requires empty { self.old.lines ≡ [] }
-        ensures stands { (before : List (List ℕ)) → IsWatched self.old before
-            → IsWatched self.new (before ++ packets_of bytes.now) }
-        ensures lines { (before : List (List ℕ)) → IsWatched self.old before
-            → watched_bytes (before ++ packets_of bytes.now) ≡ watched_bytes before ++ self.new.lines }
-    {
-        let (packets, _) = bytes.as_chunks::<PACKET>();
-        for i in 0..packets.len() {
-            self.take(&Packet(packets[i]));
-        }
-    }
-
-    /// Watches the next packet of the feed, which may have any bytes, and gathers the lines that it brings.
-    fn take(&mut self, packet: &Packet)
-        requires some { (before : List (List ℕ)) × IsWatched self.old before × (length before < MOST_PACKETS) }
-        requires room { length self.old.lines + LINES_BYTES ≤ WATCHED_BYTES }
-        ensures stands { (before : List (List ℕ)) → IsWatched self.old before
-            → IsWatched self.new (before ++ packet.now.0 ∷ []) }
-        ensures lines { (before : List (List ℕ)) (bytes : List ℕ) → IsWatched self.old before
-            → watched_bytes before ≡ bytes ++ self.old.lines
-            → watched_bytes (before ++ packet.now.0 ∷ []) ≡ bytes ++ self.new.lines }
-        ensures long { length self.new.lines ≤ length self.old.lines + LINES_BYTES }
-    {
-        self.watcher.take(packet, &mut self.notes);
-        self.tally.packets += 1;
-        self.gather();
-    }
-
     /// Gathers the lines of the notes, and counts them.
     fn gather(&mut self)
         requires room { length self.old.lines + LINES_BYTES ≤ WATCHED_BYTES }
@@ -99,11 +64,13 @@ impl Watching {
     }
 }
 
-impl Engine for Watching {
+impl Step for Watching {
+    ghost use Rattle.std.specs.Prelude.{◌≤◌, ◌+◌, ◌*◌, length};
     ghost use Rattle.dtx_engine.specs.Made.{only};
     ghost use Rattle.dtx_forms.specs.Shapes as shapes;
     ghost use Rattle.dtx_recipes.specs.Watch.{watching};
     ghost use Rattle.dtx_recipes.proofs.WatchLemmas.{watches_none, watches_more};
+    ghost use Rattle.dtx_jobs.specs.declared.watching.TheConstants.{LINES_BYTES, WATCHED_BYTES};
     ghost use Rattle.dtx_jobs.specs.Watching.{WasWatched};
 
     ghost shape = { shapes.single_packets };
@@ -112,9 +79,9 @@ impl Engine for Watching {
 
     ghost stands = { WasWatched };
 
-    ghost gives = { λ s _. only s.lines };
+    ghost holds = { λ s. only s.lines };
 
-    ghost zeros = { λ _. 0 };
+    ghost is_ready = { λ s _ packets. length s.lines + LINES_BYTES * packets ≤ WATCHED_BYTES };
 
     fn sizes(&self) -> Shape {
         single_packets()
@@ -124,13 +91,20 @@ impl Engine for Watching {
         true
     }
 
-    fn feed(&mut self, _first: u64, bytes: &mut [u8]) {
+    fn clear(&mut self) {
         self.lines.clear();
-        self.take_all(bytes);
+    }
+
+    /// Watches one packet, which may have any bytes, and gathers the lines that it brings.
+    fn step(&mut self, _first: u64, bytes: &mut [u8]) -> usize {
+        let (packets, _) = bytes.as_chunks::<PACKET>();
+        self.watcher.take(&Packet(packets[0]), &mut self.notes);
+        self.tally.packets += 1;
+        self.gather();
+        1
     }
 
     fn finish(&mut self, loose: usize) -> Outcome {
-        self.lines.clear();
         self.watcher.finish(&mut self.notes);
         self.gather();
         Outcome {
@@ -140,11 +114,7 @@ impl Engine for Watching {
         }
     }
 
-    fn zeros(&self) -> u64 {
-        0
-    }
-
-    fn made<'a>(&'a self, _bytes: &'a [u8]) -> &'a [u8] {
+    fn made(&self) -> &[u8] {
         self.lines.bytes()
     }
 
@@ -157,7 +127,7 @@ impl Engine for Watching {
     ghost grows = { λ _ a b whole. watches_more a b whole };
 }
 
-impl Transforming for Watching {
+impl Stepping for Watching {
     ghost use Rattle.dtx_words.specs.declared.rows.Command.TheVariants as command;
     ghost use Rattle.dtx_recipes.proofs.AnswersLemmas.{watch_knows};
     ghost use Rattle.dtx_recipes.specs.Watch.{watching};

@@ -7,6 +7,7 @@ use crate::dvb_coding::DvbCoding;
 use dtx_forms::transform_dvb;
 use dtx_meaning::Outcome;
 use dtx_outside::{Shelf, Word};
+use dtx_steps::Steps;
 use std::alloc::Global;
 
 /// Writes the stream IN to OUT as the outer coding of DVB sends it (EN 300 429). Each packet passes the randomizer,
@@ -18,5 +19,5 @@ pub fn dvb_code<S: Shelf>(alloc: Global, words: &[Word], shelf: &mut S) -> Outco
     ensures stages { IsStaged S.foreseen (dvb_code_job.stages words.now) result.status
         (S.files shelf.old) (S.files shelf.new) (S.counts shelf.old) (S.counts shelf.new) }
 {
-    transform_dvb::<DvbCoding, S>(alloc, words, shelf)
+    transform_dvb::<Steps<DvbCoding>, S>(alloc, words, shelf)
 }

@@ -1,16 +1,16 @@
 // The engine of `dvb code`: sends a stream by the outer coding of DVB, one piece of packets at a time.
 ghost use Rattle.std.specs.Prelude.{◌≡◌, ◌==◌, ◌+◌, ◌*◌, ◌/◌, ◌%◌, ◌<◌, ◌≤◌, ◌++◌, ◌∷◌, [], ℕ, List};
-ghost use Rattle.std.specs.Prelude.{if◌then◌else◌, length};
-ghost use Rattle.dtx_packets.specs.Packets.{packets_of};
+ghost use Rattle.std.specs.Prelude.{if◌then◌else◌, length, take};
 ghost use Rattle.dtx_packet_jobs.specs.DvbCoding.{IsSending};
 
 use crate::dvb_shapes::{BATCH_BYTES, BATCH_PACKETS, DVB_PIECE_PACKETS, dvb_packets};
 use dtx_dvb::{BLOCK, DvbOut, FOUR, PERIOD_PACKETS};
-use dtx_engine::{Buffer, Engine, Shape};
-use dtx_forms::Transforming;
+use dtx_engine::{Buffer, Shape};
+use dtx_forms::Stepping;
 use dtx_meaning::{Outcome, Status};
 use dtx_packets::Packet;
-use dtx_sizes::{MOST_PACKETS, PACKET, SYNC};
+use dtx_sizes::{PACKET, SYNC};
+use dtx_steps::Step;
 use std::alloc::{AllocError, Global};
 
 /// Room for the bytes that are sent for a piece.
@@ -27,35 +27,24 @@ pub(crate) struct DvbCoding {
 }
 
 impl DvbCoding {
-    /// Sends the packets of a piece. The first one is packet `first` of the stream.
-    fn send(&mut self, first: u64, bytes: &[u8])
-        requires room { length self.old.sent + BLOCK * (length bytes.now / PACKET) ≤ SENT_BYTES }
-        requires most { first + length bytes.now / PACKET ≤ MOST_PACKETS }
-        ensures sent { (packets : List (List ℕ)) (before : List ℕ) → length packets ≡ first
-            → IsSending self.old packets before → IsSending self.new (packets ++ packets_of bytes.now) before }
-    {
-        let (packets, _) = bytes.as_chunks::<PACKET>();
-        let fours = in_fours(first, packets.len());
-        self.send_fours(first, &packets[..fours]);
-        self.send_each(first + fours as u64, &packets[fours..]);
-    }
-
-    /// Sends whole fours of packets. The first packet is packet `first` of the stream.
-    fn send_fours(&mut self, first: u64, packets: &[[u8; PACKET]])
-        requires whole { length packets.now % FOUR ≡ 0 }
-        requires aligned { 0 < length packets.now → first % FOUR ≡ 0 }
+    /// Sends the first of these packets, and returns how many: a batch of whole fours, or one where no whole four
+    /// begins with it. The first packet is packet `first` of the stream.
+    fn send(&mut self, first: u64, packets: &[[u8; PACKET]]) -> usize
+        requires some { 0 < length packets.now }
         requires room { length self.old.sent + BLOCK * length packets.now ≤ SENT_BYTES }
-        requires most { first + length packets.now ≤ MOST_PACKETS }
+        ensures some { 0 < result }
+        ensures within { result ≤ length packets.now }
         ensures sent { (given : List (List ℕ)) (before : List ℕ) → length given ≡ first
-            → IsSending self.old given before → IsSending self.new (given ++ packets.now) before }
-        ensures long { length self.new.sent ≡ length self.old.sent + BLOCK * length packets.now }
+            → IsSending self.old given before → IsSending self.new (given ++ take result packets.now) before }
+        ensures long { length self.new.sent ≡ length self.old.sent + BLOCK * result }
     {
-        let mut done = 0;
-        while done < packets.len() {
-            let end = (done + BATCH_PACKETS).min(packets.len());
-            self.send_batch(first + done as u64, &packets[done..end]);
-            done = end;
+        let fours = in_fours(first, packets.len().min(BATCH_PACKETS));
+        if fours == 0 {
+            self.send_one(first, &packets[0]);
+            return 1;
         }
+        self.send_batch(first, &packets[..fours]);
+        fours
     }
 
     /// Sends whole fours of packets together, at most a batch. The first packet is packet `first` of the stream.
@@ -75,19 +64,6 @@ impl DvbCoding {
         self.sent.push(out);
     }
 
-    /// Sends packets one by one. The first one is packet `first` of the stream.
-    fn send_each(&mut self, first: u64, each: &[[u8; PACKET]])
-        requires room { length self.old.sent + BLOCK * length each.now ≤ SENT_BYTES }
-        requires most { first + length each.now ≤ MOST_PACKETS }
-        ensures sent { (packets : List (List ℕ)) (before : List ℕ) → length packets ≡ first
-            → IsSending self.old packets before → IsSending self.new (packets ++ each.now) before }
-        ensures long { length self.new.sent ≡ length self.old.sent + BLOCK * length each.now }
-    {
-        for i in 0..each.len() {
-            self.send_one(first + i as u64, &each[i]);
-        }
-    }
-
     /// Sends packet `number` of the stream.
     fn send_one(&mut self, number: u64, packet: &[u8; PACKET])
         requires room { length self.old.sent + BLOCK ≤ SENT_BYTES }
@@ -102,12 +78,15 @@ impl DvbCoding {
     }
 }
 
-impl Engine for DvbCoding {
+impl Step for DvbCoding {
+    ghost use Rattle.std.specs.Prelude.{◌≤◌, ◌+◌, ◌*◌, length};
     ghost use Rattle.dtx_engine.specs.Made.{only};
     ghost use Rattle.dtx_recipes.specs.DvbCode.{dvb_coding};
     ghost use Rattle.dtx_recipes.proofs.DvbCodeLemmas.{sends_none, sends_more};
     ghost use Rattle.dtx_packet_jobs.specs.DvbCoding.{WasSent};
     ghost use Rattle.dtx_recipes.specs.DvbShapes as shapes;
+    ghost use Rattle.dtx_dvb.specs.declared.sizes.TheConstants.{BLOCK};
+    ghost use Rattle.dtx_packet_jobs.specs.declared.dvb_coding.TheConstants.{SENT_BYTES};
 
     ghost shape = { shapes.dvb_packets };
 
@@ -115,9 +94,9 @@ impl Engine for DvbCoding {
 
     ghost stands = { WasSent };
 
-    ghost gives = { λ s _. only s.sent };
+    ghost holds = { λ s. only s.sent };
 
-    ghost zeros = { λ _. 0 };
+    ghost is_ready = { λ s _ count. length s.sent + BLOCK * count ≤ SENT_BYTES };
 
     fn sizes(&self) -> Shape {
         dvb_packets()
@@ -127,14 +106,18 @@ impl Engine for DvbCoding {
         unit[0] == SYNC
     }
 
-    fn feed(&mut self, first: u64, bytes: &mut [u8]) {
+    fn clear(&mut self) {
         self.sent.clear();
-        self.send(first, bytes);
-        self.packets = first + (bytes.len() / PACKET) as u64;
+    }
+
+    fn step(&mut self, first: u64, bytes: &mut [u8]) -> usize {
+        let (packets, _) = bytes.as_chunks::<PACKET>();
+        let count = self.send(first, packets);
+        self.packets = first + count as u64;
+        count
     }
 
     fn finish(&mut self, loose: usize) -> Outcome {
-        self.sent.clear();
         Outcome {
             status: Status::Done,
             numbers: [self.packets, loose as u64, 0, 0, 0, 0, 0],
@@ -142,11 +125,7 @@ impl Engine for DvbCoding {
         }
     }
 
-    fn zeros(&self) -> u64 {
-        0
-    }
-
-    fn made<'a>(&'a self, _bytes: &'a [u8]) -> &'a [u8] {
+    fn made(&self) -> &[u8] {
         self.sent.bytes()
     }
 
@@ -159,7 +138,7 @@ impl Engine for DvbCoding {
     ghost grows = { λ _ a b whole. sends_more a b whole };
 }
 
-impl Transforming for DvbCoding {
+impl Stepping for DvbCoding {
     ghost use Rattle.dtx_words.specs.declared.rows.Command.TheVariants as command;
     ghost use Rattle.dtx_recipes.proofs.AnswersLemmas.{dvb_code_knows};
     ghost use Rattle.dtx_recipes.specs.DvbCode.{dvb_coding};

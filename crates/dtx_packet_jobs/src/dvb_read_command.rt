@@ -7,6 +7,7 @@ use crate::dvb_reading::DvbReading;
 use dtx_forms::transform_dvb;
 use dtx_meaning::Outcome;
 use dtx_outside::{Shelf, Word};
+use dtx_steps::Steps;
 use std::alloc::Global;
 
 /// Writes the packets of IN to OUT (EN 300 429, the way back). IN has the bytes that the outer coding of DVB sent. Its
@@ -20,5 +21,5 @@ pub fn dvb_read<S: Shelf>(alloc: Global, words: &[Word], shelf: &mut S) -> Outco
     ensures stages { IsStaged S.foreseen (dvb_read_job.stages words.now) result.status
         (S.files shelf.old) (S.files shelf.new) (S.counts shelf.old) (S.counts shelf.new) }
 {
-    transform_dvb::<DvbReading, S>(alloc, words, shelf)
+    transform_dvb::<Steps<DvbReading>, S>(alloc, words, shelf)
 }

@@ -1,6 +1,5 @@
 // The engine of `dvb read`: reads back a stream of the outer coding of DVB, one piece of blocks at a time.
-ghost use Rattle.std.specs.Prelude.{◌≡◌, ◌+◌, ◌*◌, ◌/◌, ◌%◌, ◌<◌, ◌≤◌, ◌++◌, ◌∷◌, [], ℕ, List, length};
-ghost use Rattle.std.specs.List.{flat_map};
+ghost use Rattle.std.specs.Prelude.{◌≡◌, ◌+◌, ◌*◌, ◌/◌, ◌%◌, ◌<◌, ◌≤◌, ◌++◌, ◌∷◌, [], ℕ, List, length, take, drop};
 ghost use Rattle.dtx_dvb.specs.Given.{all_given, given};
 ghost use Rattle.dtx_dvb.specs.Read.{Read, fixed_of, flag_of};
 ghost use Rattle.dtx_dvb.specs.Reading.{read_dvb};
@@ -10,12 +9,13 @@ ghost use Rattle.dtx_packet_jobs.specs.DvbReading.{IsBounded, HasGathered, IsRea
 
 use crate::dvb_shapes::{BATCH_BYTES, BATCH_PACKETS, blocks};
 use dtx_dvb::{BLOCK, DvbIn, FOUR, FOUR_BLOCKS, WAITING};
-use dtx_engine::{Buffer, Engine, Shape};
-use dtx_forms::Transforming;
+use dtx_engine::{Buffer, Shape};
+use dtx_forms::Stepping;
 use dtx_meaning::{Outcome, Status};
 use dtx_outer::Taken;
 use dtx_packets::{PIECE_PACKETS, Packet};
 use dtx_sizes::{MOST_PACKETS, PACKET};
+use dtx_steps::Step;
 use std::alloc::{AllocError, Global};
 
 /// Room for the packets that a piece brings, in bytes.
@@ -53,42 +53,30 @@ struct Gathered {
 }
 
 impl DvbReading {
-    /// Reads the blocks of a piece. Afterwards `bytes` holds other bytes.
-    fn read(&mut self, bytes: &mut [u8])
-        requires whole { length bytes.old % BLOCK ≡ 0 }
+    /// Reads the first of these blocks, and returns how many: a batch of whole fours, or one where there are no four.
+    /// Afterwards their bytes are others.
+    fn read(&mut self, bytes: &mut [u8]) -> usize
+        requires some { 0 < length bytes.old / BLOCK }
         requires room { length self.old.gathered.packets + PACKET * (length bytes.old / BLOCK) ≤ READ_BYTES }
         requires most { self.old.gathered.blocks + length bytes.old / BLOCK ≤ MOST_PACKETS }
         requires bounded { IsBounded self.old.gathered }
+        ensures some { 0 < result }
+        ensures within { result ≤ length bytes.old / BLOCK }
+        ensures rest { drop (BLOCK * result) bytes.new ≡ drop (BLOCK * result) bytes.old }
         ensures read { (given before : List ℕ) → IsReading self.old given before
-            → IsReading self.new (given ++ bytes.old) before }
-        ensures blocks { self.new.gathered.blocks ≡ self.old.gathered.blocks + length bytes.old / BLOCK }
+            → IsReading self.new (given ++ take (BLOCK * result) bytes.old) before }
+        ensures blocks { self.new.gathered.blocks ≡ self.old.gathered.blocks + result }
         ensures bounded { IsBounded self.new.gathered }
+        ensures long { length self.new.gathered.packets ≤ length self.old.gathered.packets + PACKET * result }
     {
-        let (fours, rest) = bytes.split_at_mut(FOUR_BLOCKS * (bytes.len() / FOUR_BLOCKS));
-        self.read_fours(fours);
-        let (each, _) = rest.as_chunks::<BLOCK>();
-        self.read_each(each);
-    }
-
-    /// Reads whole fours of blocks, a batch at a time. Afterwards `bytes` holds other bytes.
-    fn read_fours(&mut self, bytes: &mut [u8])
-        requires whole { length bytes.old % FOUR_BLOCKS ≡ 0 }
-        requires room { length self.old.gathered.packets + PACKET * (length bytes.old / BLOCK) ≤ READ_BYTES }
-        requires most { self.old.gathered.blocks + length bytes.old / BLOCK ≤ MOST_PACKETS }
-        requires bounded { IsBounded self.old.gathered }
-        ensures read { (given before : List ℕ) → IsReading self.old given before
-            → IsReading self.new (given ++ bytes.old) before }
-        ensures blocks { self.new.gathered.blocks ≡ self.old.gathered.blocks + length bytes.old / BLOCK }
-        ensures bounded { IsBounded self.new.gathered }
-        ensures long { length self.new.gathered.packets
-            ≤ length self.old.gathered.packets + PACKET * (length bytes.old / BLOCK) }
-    {
-        let mut done = 0;
-        while done < bytes.len() {
-            let end = (done + BATCH_BYTES).min(bytes.len());
-            self.read_batch(&mut bytes[done..end]);
-            done = end;
+        let fours = (bytes.len() / FOUR_BLOCKS).min(BATCH_FOURS);
+        if fours == 0 {
+            let (blocks, _) = bytes.as_chunks::<BLOCK>();
+            self.read_one(&blocks[0]);
+            return 1;
         }
+        self.read_batch(&mut bytes[..FOUR_BLOCKS * fours]);
+        FOUR * fours
     }
 
     /// Reads whole fours of blocks together, at most a batch. Afterwards `bytes` holds other bytes.
@@ -112,21 +100,6 @@ impl DvbReading {
             &mut self.taken,
             &mut self.gathered,
         );
-    }
-
-    /// Reads blocks one by one.
-    fn read_each(&mut self, each: &[[u8; BLOCK]])
-        requires room { length self.old.gathered.packets + PACKET * length each.now ≤ READ_BYTES }
-        requires most { self.old.gathered.blocks + length each.now ≤ MOST_PACKETS }
-        requires bounded { IsBounded self.old.gathered }
-        ensures read { (given before : List ℕ) → IsReading self.old given before
-            → IsReading self.new (given ++ flat_map (λ block. block) each.now) before }
-        ensures blocks { self.new.gathered.blocks ≡ self.old.gathered.blocks + length each.now }
-        ensures bounded { IsBounded self.new.gathered }
-    {
-        for i in 0..each.len() {
-            self.read_one(&each[i]);
-        }
     }
 
     /// Reads one block.
@@ -183,12 +156,15 @@ impl Gathered {
     }
 }
 
-impl Engine for DvbReading {
+impl Step for DvbReading {
+    ghost use Rattle.std.specs.Prelude.{◌≤◌, ◌+◌, ◌*◌, length};
     ghost use Rattle.dtx_engine.specs.Made.{only};
     ghost use Rattle.dtx_recipes.specs.DvbRead.{dvb_reading};
     ghost use Rattle.dtx_recipes.proofs.DvbReadLemmas.{reads_none, reads_more};
     ghost use Rattle.dtx_packet_jobs.specs.DvbReading.{WasRead};
     ghost use Rattle.dtx_recipes.specs.DvbShapes as shapes;
+    ghost use Rattle.dtx_packet_jobs.specs.declared.dvb_reading.TheConstants.{READ_BYTES};
+    ghost use Rattle.dtx_sizes.specs.declared.packets.TheConstants.{PACKET};
 
     ghost shape = { shapes.blocks };
 
@@ -196,9 +172,9 @@ impl Engine for DvbReading {
 
     ghost stands = { WasRead };
 
-    ghost gives = { λ s _. only s.gathered.packets };
+    ghost holds = { λ s. only s.gathered.packets };
 
-    ghost zeros = { λ _. 0 };
+    ghost is_ready = { λ s _ count. length s.gathered.packets + PACKET * count ≤ READ_BYTES };
 
     fn sizes(&self) -> Shape {
         blocks()
@@ -208,13 +184,15 @@ impl Engine for DvbReading {
         true
     }
 
-    fn feed(&mut self, _first: u64, bytes: &mut [u8]) {
+    fn clear(&mut self) {
         self.gathered.packets.clear();
-        self.read(bytes);
+    }
+
+    fn step(&mut self, _first: u64, bytes: &mut [u8]) -> usize {
+        self.read(bytes)
     }
 
     fn finish(&mut self, loose: usize) -> Outcome {
-        self.gathered.packets.clear();
         let packets = self.gathered.blocks.saturating_sub(WAITING as u64);
         Outcome {
             status: Status::Done,
@@ -231,11 +209,7 @@ impl Engine for DvbReading {
         }
     }
 
-    fn zeros(&self) -> u64 {
-        0
-    }
-
-    fn made<'a>(&'a self, _bytes: &'a [u8]) -> &'a [u8] {
+    fn made(&self) -> &[u8] {
         self.gathered.packets.bytes()
     }
 
@@ -248,7 +222,7 @@ impl Engine for DvbReading {
     ghost grows = { λ _ a b whole. reads_more a b whole };
 }
 
-impl Transforming for DvbReading {
+impl Stepping for DvbReading {
     ghost use Rattle.dtx_words.specs.declared.rows.Command.TheVariants as command;
     ghost use Rattle.dtx_recipes.proofs.AnswersLemmas.{dvb_read_knows};
     ghost use Rattle.dtx_recipes.specs.DvbRead.{dvb_reading};

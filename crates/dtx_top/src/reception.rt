@@ -23,6 +23,7 @@ use dtx_outside::Shelf;
 use dtx_packet_jobs::first_past;
 use dtx_plan::ReceivePlan;
 use dtx_receiver::Receiver;
+use dtx_steps::Steps;
 use dtx_words::{received_name, symbol_name};
 use std::alloc::Global;
 
@@ -68,7 +69,7 @@ fn receive<S: Shelf>(alloc: Global, shelf: &mut S, receiver: &ReceivePlan) -> Ou
                 name: name.as_str(),
                 number: 3,
             };
-            let mut engine = Damaged::new(&receiver.damage, reception);
+            let mut engine = Damaged::new(&receiver.damage, Steps::new(reception));
             carry_to_one(alloc, &mut engine, input, received_name(), shelf)
         }
         Err(cause) => ended(Status::from(cause)),
