@@ -12,8 +12,8 @@ abbrev pub within : ℤ → ℤ → ℤ → ℤ
 within low x high = int_min (int_max x low) high
 
 -- The difference of the squares of two pairs of levels that may follow one state. The shift is twice the midst of their
--- lower levels. Between the limits the nearer levels are a lower and a higher one. The tie is 1 more where the second of
--- equal ones comes first.
+-- lower levels. Between the limits the nearer levels are a lower and a higher one. The tie is 1 more where the second
+-- of equal ones comes first.
 abbrev pub pair_gap : (symbol tie shift low high : ℤ) → ℤ
 pair_gap symbol tie shift low high =
     ((symbol +ℤ symbol) -ℤ shift) -ℤ within low (((symbol +ℤ symbol) +ℤ (symbol +ℤ symbol)) -ℤ tie) high
