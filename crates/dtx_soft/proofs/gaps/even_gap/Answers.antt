@@ -15,7 +15,12 @@ pair_gap-requires-clause-fits g c =
     let w = g.met.T.Width.wide in
     let a = even_small g.T.Width.bounds c.args.units.now.scale (g.T.Width.value c.args.symbol) c.args.tie w
     c.requires.units.scale c.requires.symbol c.requires.from c.requires.to in
-    rw (to_z-of_z w16 c.args.tie (search rules), c.requires.units.two, c.requires.units.twelve_below, c.requires.units.four)
+    rw (
+      to_z-of_z w16 c.args.tie (search rules),
+      c.requires.units.two,
+      c.requires.units.twelve_below,
+      c.requires.units.four,
+    )
     (omega (arith, a, w.sums))
 
 pub returns : goal.returns

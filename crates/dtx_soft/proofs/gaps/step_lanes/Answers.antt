@@ -19,7 +19,8 @@ gap_before-before-requires-clause-bounded g c =
     subst (λ gap. IsBounded g.T.Width.bounds (gap_of g.T.Width.value gap))
     (sym (c.lane-gap.ensures c.lane-gap.result.even))
     (subst (IsBounded g.T.Width.bounds)
-    (sym ((c.loop-n.invariant c.lane-gap.result.even).left c.loop-n.n (omega arith))) (c.requires.bounded c.loop-n.n c.lane-gap.result.even (omega arith)))
+    (sym ((c.loop-n.invariant c.lane-gap.result.even).left c.loop-n.n (omega arith)))
+    (c.requires.bounded c.loop-n.n c.lane-gap.result.even (omega arith)))
 
 pub marks_of-requires-clause-squares : goal.marks_of-requires-clause-squares
 marks_of-requires-clause-squares g c =
@@ -32,7 +33,8 @@ marks_of-requires-clause-bounded g c =
     subst (λ gap. IsBounded g.T.Width.bounds (gap_of g.T.Width.value gap))
     (sym (c.lane-gap.ensures c.lane-gap.result.even))
     (subst (IsBounded g.T.Width.bounds)
-    (sym ((c.loop-n.invariant c.lane-gap.result.even).left c.loop-n.n (omega arith))) (c.requires.bounded c.loop-n.n c.lane-gap.result.even (omega arith)))
+    (sym ((c.loop-n.invariant c.lane-gap.result.even).left c.loop-n.n (omega arith)))
+    (c.requires.bounded c.loop-n.n c.lane-gap.result.even (omega arith)))
 
 pub differ-squares-requires-clause-symbol : goal.differ-squares-requires-clause-symbol
 differ-squares-requires-clause-symbol g c =
