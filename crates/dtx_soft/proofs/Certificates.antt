@@ -5,7 +5,8 @@ use Rattle.std.proofs.lemmas.List.{drop_all, drop_more}
 use Rattle.dtx_soft.specs.Paths.{IsPath, cost, next_state, squared, symbol_at}
 use Rattle.dtx_soft.specs.Least.{ArePotentials, IsLeast, IsPotential, NoneCostsLess}
 use Rattle.dtx_soft.specs.Certificate.{IsCertificate}
-use Rattle.dtx_soft.proofs.Paths.{cost-cons, next_small, nothing_costs}
+use Rattle.dtx_soft.proofs.LeastPathLemmas.{next_small}
+use Rattle.dtx_soft.proofs.MovedLemmas.{cost-cons, nothing_costs}
 
 -- a path from a state that costs so much
 abbrev pub Costs : ℕ → List ℤ → List ℕ → ℕ → Type 0

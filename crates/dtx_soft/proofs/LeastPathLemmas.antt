@@ -7,7 +7,7 @@ use Rattle.std.specs.List.{range_with_len, flat_map, list_all, find, AllByRecurs
 use Rattle.dtx_lists.proofs.Range.{range_cases}
 use Rattle.dtx_soft.specs.Paths.{IsPath, cost, next_state}
 use Rattle.dtx_soft.specs.Least.{AreInOrder, IsLeast}
-use Rattle.dtx_soft.specs.LeastPath.{all_paths, costs_least, least_path, paths_from}
+use Rattle.dtx_soft.specs.LeastPath.{all_paths, costs_least, first_least, least_path, paths_from}
 
 -- ---- elements of a list of lists
 
@@ -69,9 +69,11 @@ tested_at p [] x h i = absurd i
 tested_at p (y ∷ ys) x h (inl e) = ap p e ∙ (and_parts (p y) (list_all p ys) h).0
 tested_at p (y ∷ ys) x h (inr i) = tested_at p ys x (and_parts (p y) (list_all p ys) h).1 i
 
-pub tested_from : (p : List ℕ → Bool) (xs : List (List ℕ)) → AllByRecursion (λ x. p x ≡ true) xs → list_all p xs ≡ true
-tested_from p [] h = refl
-tested_from p (x ∷ xs) h = and_from (p x) (list_all p xs) h.0 (tested_from p xs h.1)
+pub tested_all : (p : List ℕ → Bool) (xs : List (List ℕ)) → ((x : List ℕ) → IsIn x xs → p x ≡ true)
+    → list_all p xs ≡ true
+tested_all p [] h = refl
+tested_all p (x ∷ xs) h =
+    and_from (p x) (list_all p xs) (h x (inl refl)) (tested_all p xs (λ y i. h y (inr i)))
 
 -- ---- all paths
 
@@ -81,6 +83,13 @@ IsAPath n state levels = (length levels ≡ n) × IsPath state levels
 pub next_small : (state z : ℕ) → state < 4 → next_state state z < 4
 unfolding next_state
 next_small state z l = omega arith
+
+-- every level of a path is below 8
+pub path_small : (state : ℕ) (levels : List ℕ) → IsPath state levels → (k : ℕ) → k < length levels
+    → get_or levels k 0 < 8
+path_small state [] path k l = absurd (omega arith)
+path_small state (z ∷ levels) path zero l = path.0
+path_small state (z ∷ levels) path (suc k) l = path_small (next_state state z) levels path.2 k (omega arith)
 
 paths_are : (n state : ℕ) → state < 4 → AllByRecursion (IsAPath n state) (paths_from n state)
 unfolding paths_from
@@ -214,65 +223,7 @@ first_found p (y ∷ ys) x h i t = by_test (p y) refl i (λ behind. first_found 
         let rest = on behind in
         record { within = inr rest.within; passes = rest.passes; before = rest.before }
 
--- ---- the least path
-
-costs_from : (scale : ℕ) (symbols : List ℤ) (start : ℕ) (levels : List ℕ) → IsLeast scale symbols start levels
-    → costs_least scale symbols (start ∷ levels) ≡ true
-unfolding costs_least
-costs_from scale symbols start levels h =
-    tested_from (λ other. nat_le (cost scale symbols levels) (cost scale symbols (drop 1 other)))
-    (all_paths (length symbols)) (each (all_paths (length symbols)) (all_are (length symbols)))
-  where
-    each_one : (other : List ℕ) → IsStarted (length symbols) other
-        → nat_le (cost scale symbols levels) (cost scale symbols (drop 1 other)) ≡ true
-    each_one [] k = absurd k
-    each_one (state ∷ others) k =
-        le-leb (cost scale symbols levels) (cost scale symbols others) (h.least state others k.0 k.1.0 k.1.1)
-
-    each : (xs : List (List ℕ)) → AllByRecursion (IsStarted (length symbols)) xs
-        → AllByRecursion (λ other. nat_le (cost scale symbols levels) (cost scale symbols (drop 1 other)) ≡ true) xs
-    each [] k = tt
-    each (x ∷ xs) k = (each_one x k.0, each xs k.1)
-
-costs_at : (scale : ℕ) (symbols : List ℤ) (path other : List ℕ) → costs_least scale symbols path ≡ true
-    → IsIn other (all_paths (length symbols)) → cost scale symbols (drop 1 path) ≤ cost scale symbols (drop 1 other)
-unfolding costs_least
-costs_at scale symbols path other t i =
-    leb-true (cost scale symbols (drop 1 path)) (cost scale symbols (drop 1 other))
-    (tested_at (λ other. nat_le (cost scale symbols (drop 1 path)) (cost scale symbols (drop 1 other)))
-    (all_paths (length symbols)) other t i)
-
--- what is a least path is the one that the function gives
-pub least_path_is : (scale : ℕ) (symbols : List ℤ) (start : ℕ) (levels : List ℕ)
-    → IsLeast scale symbols start levels → least_path scale symbols ≡ start ∷ levels
-unfolding least_path
-least_path_is scale symbols start levels h =
-    let own = all_have (length symbols) start levels h.begins h.long h.path in
-    let found = first_found (costs_least scale symbols) (all_paths (length symbols)) (start ∷ levels)
-    (all_ordered (length symbols)) own (costs_from scale symbols start levels h) in
-    same (unwrap_or (find (costs_least scale symbols) (all_paths (length symbols))) [])
-    (all_at (IsStarted (length symbols)) (all_paths (length symbols))
-    (unwrap_or (find (costs_least scale symbols) (all_paths (length symbols))) []) (all_are (length symbols))
-    found.within)
-    (costs_at scale symbols (unwrap_or (find (costs_least scale symbols) (all_paths (length symbols))) [])
-    (start ∷ levels) found.passes own)
-    found.before
-  where
-    same : (found : List ℕ) → IsStarted (length symbols) found
-        → cost scale symbols (drop 1 found) ≤ cost scale symbols levels → AreInOrder found (start ∷ levels)
-        → found ≡ start ∷ levels
-    same [] k l before = absurd k
-    same (state ∷ others) k l before =
-        let least = h.least state others k.0 k.1.0 k.1.1 in
-        in_order_both (state ∷ others) (start ∷ levels) before
-        (h.first state others k.0 k.1.0 k.1.1 (omega (arith, least, l)))
-
--- so its levels are
-pub least_levels_are : (scale : ℕ) (symbols : List ℤ) (start : ℕ) (levels : List ℕ)
-    → IsLeast scale symbols start levels → drop 1 (least_path scale symbols) ≡ levels
-least_levels_are scale symbols start levels h = ap (drop 1) (least_path_is scale symbols start levels h)
-
--- ---- there always is one
+-- ---- the least of a list of paths
 
 pub record HasMinimum (f : List ℕ → ℕ) (xs : List (List ℕ)) : Type 0 where
   pub path : List ℕ
@@ -306,6 +257,97 @@ pub minimum_in : (f : List ℕ → ℕ) (xs : List (List ℕ)) (x : List ℕ) �
 minimum_in f [] x i = absurd i
 minimum_in f (y ∷ ys) x i = minimum f y ys
 
+-- the first in order of those that cost least
+pub record IsLeastIn (scale : ℕ) (symbols : List ℤ) (paths : List (List ℕ)) (path : List ℕ) : Type 0 where
+  pub inside : IsIn path paths
+  pub least : (other : List ℕ) → IsIn other paths
+      → cost scale symbols (drop 1 path) ≤ cost scale symbols (drop 1 other)
+  pub first : (other : List ℕ) → IsIn other paths
+      → cost scale symbols (drop 1 other) ≡ cost scale symbols (drop 1 path) → AreInOrder path other
+
+costs_below : (scale : ℕ) (symbols : List ℤ) (paths : List (List ℕ)) (path : List ℕ)
+    → ((other : List ℕ) → IsIn other paths → cost scale symbols (drop 1 path) ≤ cost scale symbols (drop 1 other))
+    → costs_least scale symbols paths path ≡ true
+unfolding costs_least
+costs_below scale symbols paths path h =
+    tested_all (λ other. nat_le (cost scale symbols (drop 1 path)) (cost scale symbols (drop 1 other))) paths
+    (λ other i. le-leb (cost scale symbols (drop 1 path)) (cost scale symbols (drop 1 other)) (h other i))
+
+costs_at : (scale : ℕ) (symbols : List ℤ) (paths : List (List ℕ)) (path other : List ℕ)
+    → costs_least scale symbols paths path ≡ true → IsIn other paths
+    → cost scale symbols (drop 1 path) ≤ cost scale symbols (drop 1 other)
+unfolding costs_least
+costs_at scale symbols paths path other t i =
+    leb-true (cost scale symbols (drop 1 path)) (cost scale symbols (drop 1 other))
+    (tested_at (λ other. nat_le (cost scale symbols (drop 1 path)) (cost scale symbols (drop 1 other))) paths other t i)
+
+-- where there is some path, the function gives it
+pub least_in : (scale : ℕ) (symbols : List ℤ) (paths : List (List ℕ)) (some : List ℕ) → AreOrdered paths
+    → IsIn some paths → IsLeastIn scale symbols paths (first_least scale symbols paths)
+least_in scale symbols paths some ordered i = record {
+  inside = best.within;
+  least = λ other j. costs_at scale symbols paths (first_least scale symbols paths) other best.passes j;
+  first = λ other j e. (found other j (costs_below scale symbols paths other
+      (λ y k. (let most = costs_at scale symbols paths (first_least scale symbols paths) y best.passes k in
+      omega (arith, most, e))))).before;
+}
+  where
+    least : HasMinimum (λ path. cost scale symbols (drop 1 path)) paths
+    least = minimum_in (λ path. cost scale symbols (drop 1 path)) paths some i
+
+    found : (x : List ℕ) → IsIn x paths → costs_least scale symbols paths x ≡ true
+        → IsFirst (costs_least scale symbols paths) paths x (first_least scale symbols paths)
+    found x j t = first_found (costs_least scale symbols paths) paths x ordered j t
+
+    best : IsFirst (costs_least scale symbols paths) paths least.path (first_least scale symbols paths)
+    best = found least.path least.inside (costs_below scale symbols paths least.path least.below)
+
+-- and there is no other one
+pub least_in_is : (scale : ℕ) (symbols : List ℤ) (paths : List (List ℕ)) (path : List ℕ) → AreOrdered paths
+    → IsLeastIn scale symbols paths path → first_least scale symbols paths ≡ path
+least_in_is scale symbols paths path ordered h =
+    let found = least_in scale symbols paths path ordered h.inside in
+    let a = found.least path h.inside in
+    let b = h.least (first_least scale symbols paths) found.inside in
+    in_order_both (first_least scale symbols paths) path (found.first path h.inside (omega (arith, a, b)))
+    (h.first (first_least scale symbols paths) found.inside (omega (arith, a, b)))
+
+-- ---- the least path
+
+is_least_in : (scale : ℕ) (symbols : List ℤ) (start : ℕ) (levels : List ℕ) → IsLeast scale symbols start levels
+    → IsLeastIn scale symbols (all_paths (length symbols)) (start ∷ levels)
+is_least_in scale symbols start levels h = record {
+  inside = all_have (length symbols) start levels h.begins h.long h.path;
+  least = λ other i. least other (started other i);
+  first = λ other i. first other (started other i);
+}
+  where
+    started : (other : List ℕ) → IsIn other (all_paths (length symbols)) → IsStarted (length symbols) other
+    started other = all_at (IsStarted (length symbols)) (all_paths (length symbols)) other (all_are (length symbols))
+
+    least : (other : List ℕ) → IsStarted (length symbols) other
+        → cost scale symbols levels ≤ cost scale symbols (drop 1 other)
+    least [] k = absurd k
+    least (state ∷ others) k = h.least state others k.0 k.1.0 k.1.1
+
+    first : (other : List ℕ) → IsStarted (length symbols) other
+        → cost scale symbols (drop 1 other) ≡ cost scale symbols levels → AreInOrder (start ∷ levels) other
+    first [] k = absurd k
+    first (state ∷ others) k = h.first state others k.0 k.1.0 k.1.1
+
+-- what is a least path is the one that the function gives
+pub least_path_is : (scale : ℕ) (symbols : List ℤ) (start : ℕ) (levels : List ℕ)
+    → IsLeast scale symbols start levels → least_path scale symbols ≡ start ∷ levels
+unfolding least_path
+least_path_is scale symbols start levels h =
+    least_in_is scale symbols (all_paths (length symbols)) (start ∷ levels) (all_ordered (length symbols))
+    (is_least_in scale symbols start levels h)
+
+-- so its levels are
+pub least_levels_are : (scale : ℕ) (symbols : List ℤ) (start : ℕ) (levels : List ℕ)
+    → IsLeast scale symbols start levels → drop 1 (least_path scale symbols) ≡ levels
+least_levels_are scale symbols start levels h = ap (drop 1) (least_path_is scale symbols start levels h)
+
 -- some path of n levels from state 0
 some_path : (n state : ℕ) → state < 4 → (levels : List ℕ) × (length levels ≡ n) × IsPath state levels
 some_path zero state l = ([], refl, tt)
@@ -313,60 +355,30 @@ some_path (suc n) state l =
     let rest = some_path n (next_state state (state / 2)) (next_small state (state / 2) l) in
     ((state / 2) ∷ rest.0, ap suc rest.1, (omega arith, omega arith, rest.2))
 
-pub tested_all : (p : List ℕ → Bool) (xs : List (List ℕ)) → ((x : List ℕ) → IsIn x xs → p x ≡ true)
-    → list_all p xs ≡ true
-tested_all p [] h = refl
-tested_all p (x ∷ xs) h =
-    and_from (p x) (list_all p xs) (h x (inl refl)) (tested_all p xs (λ y i. h y (inr i)))
-
-costs_below : (scale : ℕ) (symbols : List ℤ) (path : List ℕ)
-    → ((other : List ℕ) → IsIn other (all_paths (length symbols))
-    → cost scale symbols (drop 1 path) ≤ cost scale symbols (drop 1 other)) → costs_least scale symbols path ≡ true
-unfolding costs_least
-costs_below scale symbols path h =
-    tested_all (λ other. nat_le (cost scale symbols (drop 1 path)) (cost scale symbols (drop 1 other)))
-    (all_paths (length symbols))
-    (λ other i. le-leb (cost scale symbols (drop 1 path)) (cost scale symbols (drop 1 other)) (h other i))
-
 -- what the function gives is a least path
 pub least_path_found : (scale : ℕ) (symbols : List ℤ)
     → IsLeast scale symbols (get_or (least_path scale symbols) 0 0) (drop 1 (least_path scale symbols))
 unfolding least_path
 least_path_found scale symbols =
-    from_path (unwrap_or (find (costs_least scale symbols) (all_paths (length symbols))) [])
-    (all_at (IsStarted (length symbols)) (all_paths (length symbols))
-    (unwrap_or (find (costs_least scale symbols) (all_paths (length symbols))) []) (all_are (length symbols))
-    (found least.path least.inside passes).within)
-    (found least.path least.inside passes).passes
-    (λ x i t. (found x i t).before)
+    from_path (first_least scale symbols (all_paths (length symbols))) (all_at (IsStarted (length symbols))
+    (all_paths (length symbols)) (first_least scale symbols (all_paths (length symbols))) (all_are (length symbols))
+    found.inside) found
   where
-    least : HasMinimum (λ path. cost scale symbols (drop 1 path)) (all_paths (length symbols))
-    least =
+    found : IsLeastIn scale symbols (all_paths (length symbols))
+        (first_least scale symbols (all_paths (length symbols)))
+    found =
         let some = some_path (length symbols) 0 (omega arith) in
-        minimum_in (λ path. cost scale symbols (drop 1 path)) (all_paths (length symbols)) (0 ∷ some.0)
+        least_in scale symbols (all_paths (length symbols)) (0 ∷ some.0) (all_ordered (length symbols))
         (all_have (length symbols) 0 some.0 (omega arith) some.1 some.2)
 
-    passes : costs_least scale symbols least.path ≡ true
-    passes = costs_below scale symbols least.path least.below
-
-    found : (x : List ℕ) → IsIn x (all_paths (length symbols)) → costs_least scale symbols x ≡ true
-        → IsFirst (costs_least scale symbols) (all_paths (length symbols)) x
-        (unwrap_or (find (costs_least scale symbols) (all_paths (length symbols))) [])
-    found x i t =
-        first_found (costs_least scale symbols) (all_paths (length symbols)) x (all_ordered (length symbols)) i t
-
-    from_path : (path : List ℕ) → IsStarted (length symbols) path → costs_least scale symbols path ≡ true
-        → ((x : List ℕ) → IsIn x (all_paths (length symbols)) → costs_least scale symbols x ≡ true
-        → AreInOrder path x)
+    from_path : (path : List ℕ) → IsStarted (length symbols) path
+        → IsLeastIn scale symbols (all_paths (length symbols)) path
         → IsLeast scale symbols (get_or path 0 0) (drop 1 path)
-    from_path [] h t before = absurd h
-    from_path (start ∷ levels) h t before = record {
-      begins = h.0;
-      long = h.1.0;
-      path = h.1.1;
-      least = λ state others l n path. costs_at scale symbols (start ∷ levels) (state ∷ others) t
-          (all_have (length symbols) state others l n path);
-      first = λ state others l n path e. before (state ∷ others) (all_have (length symbols) state others l n path)
-          (costs_below scale symbols (state ∷ others)
-          (λ other i. (let most = costs_at scale symbols (start ∷ levels) other t i in omega (arith, most, e))));
+    from_path [] k h = absurd k
+    from_path (start ∷ levels) k h = record {
+      begins = k.0;
+      long = k.1.0;
+      path = k.1.1;
+      least = λ state others l n path. h.least (state ∷ others) (all_have (length symbols) state others l n path);
+      first = λ state others l n path. h.first (state ∷ others) (all_have (length symbols) state others l n path);
     }

@@ -21,9 +21,7 @@ pub mod NearerSymbols
 pub mod GapSteps
 pub mod WrapsLemmas
 pub mod SmallSquares
-pub mod BitGaps
-pub mod WordGaps
-pub mod NearGaps
+pub mod GapBounds
 pub mod Rows
 pub mod ColumnsLemmas
 pub mod Starts

@@ -8,13 +8,22 @@ use Rattle.std.proofs.lemmas.List.FromFn.{fill_by_all}
 use Rattle.std.proofs.lemmas.List.Sums.{sum_by-cons}
 use Rattle.dtx_slice.specs.Unrolled.{symbol_place}
 use Rattle.dtx_soft.specs.Coders.{IsSoftened, coder_symbols, coders_distance, data_symbol, segments_distance}
-use Rattle.dtx_soft.specs.Paths.{distance, squared}
+use Rattle.dtx_soft.specs.Paths.{cost, distance, squared, symbol_at}
 use Rattle.dtx_soft.proofs.SumsLemmas.{none_first, over, over_blocks, over_moved, over_none, over_parts, over_same}
 use Rattle.dtx_soft.proofs.SumsLemmas.{over_swap}
 
 pub distance-cons : (x y : ℤ) (xs ys : List ℤ) → distance (x ∷ xs) (y ∷ ys) ≡ squared x y + distance xs ys
 unfolding distance
 distance-cons x y xs ys = sum_by-cons (λ pair. squared pair.0 pair.1) (x, y) (zip xs ys)
+
+pub cost-cons : (scale : ℕ) (v : ℤ) (symbols : List ℤ) (z : ℕ) (levels : List ℕ)
+    → cost scale (v ∷ symbols) (z ∷ levels) ≡ squared v (symbol_at scale z) + cost scale symbols levels
+unfolding cost
+cost-cons scale v symbols z levels = distance-cons v (symbol_at scale z) symbols (map (symbol_at scale) levels)
+
+pub nothing_costs : (scale : ℕ) (others : List ℕ) → cost scale [] others ≡ 0
+unfolding cost distance
+nothing_costs scale others = refl
 
 pub squared_same : (x : ℤ) → squared x x ≡ 0
 unfolding squared

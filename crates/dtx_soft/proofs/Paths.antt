@@ -1,22 +1,12 @@
 -- Least paths and potentials, one more symbol in front (Bellman).
 use Rattle.std.proofs.Common.{◌≡◌, ℕ, zero, suc, ℤ, ◌+◌, ◌<◌, ◌≤◌, ◌⊎◌, inl, inr, List, [], ◌∷◌}
 use Rattle.std.proofs.Common.{length, get_or, map, refl, sym, ap, ◌∙◌, subst, arith}
-use Rattle.std.specs.List.{zip}
-use Rattle.std.proofs.lemmas.List.Sums.{sum_by-cons}
 use Rattle.std.proofs.lemmas.Bool.{cases_lt}
-use Rattle.dtx_soft.specs.Paths.{IsPath, cost, distance, next_state, squared, symbol_at}
+use Rattle.dtx_soft.specs.Paths.{IsPath, cost, next_state, squared, symbol_at}
 use Rattle.dtx_soft.specs.Least.{AreInOrder, IsLeastFrom, IsPotential}
+use Rattle.dtx_soft.proofs.LeastPathLemmas.{next_small}
+use Rattle.dtx_soft.proofs.MovedLemmas.{cost-cons, nothing_costs}
 use Rattle.dtx_soft.proofs.Steps.{IsFirstLeast, onto}
-
-pub cost-cons : (scale : ℕ) (v : ℤ) (symbols : List ℤ) (z : ℕ) (levels : List ℕ)
-    → cost scale (v ∷ symbols) (z ∷ levels) ≡ squared v (symbol_at scale z) + cost scale symbols levels
-unfolding cost distance
-cost-cons scale v symbols z levels =
-    sum_by-cons (λ pair. squared pair.0 pair.1) (v, symbol_at scale z) (zip symbols (map (symbol_at scale) levels))
-
-pub next_small : (state z : ℕ) → state < 4 → next_state state z < 4
-unfolding next_state
-next_small state z l = omega arith
 
 -- the potentials of all states
 abbrev pub ArePotentialsAt : ℕ → List ℤ → List ℕ → Type 0
@@ -116,10 +106,6 @@ potential_more scale v symbols behind state z p l h = record {
         omega (arith, a, b)
 
 -- no symbols
-pub nothing_costs : (scale : ℕ) (others : List ℕ) → cost scale [] others ≡ 0
-unfolding cost distance
-nothing_costs scale others = refl
-
 pub nothing_least : (scale state : ℕ) → IsLeastFrom scale [] state []
 nothing_least scale state = record {
   long = refl;
@@ -133,10 +119,3 @@ nothing_potential scale state = record {
   below = λ levels e path. omega arith;
   met = ([], refl, tt, nothing_costs scale []);
 }
-
--- every level of a path is below 8
-pub path_small : (state : ℕ) (levels : List ℕ) → IsPath state levels → (k : ℕ) → k < length levels
-    → get_or levels k 0 < 8
-path_small state [] path k l = absurd (omega arith)
-path_small state (z ∷ levels) path zero l = path.0
-path_small state (z ∷ levels) path (suc k) l = path_small (next_state state z) levels path.2 k (omega arith)

@@ -7,7 +7,8 @@ use Rattle.dtx_soft.specs.Paths.{next_state}
 use Rattle.dtx_soft.specs.Least.{ArePotentials, HoldPotentials, IsPotential}
 use Rattle.dtx_soft.specs.declared.nearest.Nearest.{Nearest}
 use Rattle.dtx_soft.specs.Nearest.{AreNearest, cheapest}
-use Rattle.dtx_soft.proofs.Paths.{ArePotentialsAt, next_small, nothing_potential, potential_more}
+use Rattle.dtx_soft.proofs.LeastPathLemmas.{next_small}
+use Rattle.dtx_soft.proofs.Paths.{ArePotentialsAt, nothing_potential, potential_more}
 use Rattle.dtx_soft.proofs.Steps.{cheapest_is}
 
 pub potentials_more : (scale : ℕ) (symbols : List ℤ) (t u : ℕ) (row : Nearest) (behind before : List ℕ)

@@ -4,17 +4,33 @@ use Rattle.std.proofs.Common.{get_or, length}
 use Rattle.std.proofs.Common.{sym, ap, ◌∙◌, subst, arith}
 use Rattle.std.specs.Int.{int_min}
 use Rattle.std.proofs.lemmas.Bool.{cases_lt}
-use Rattle.std.proofs.lemmas.Int.{ints, clamps}
+use mir.Syntax.{Width}
+use mir.Val.{SFits}
+use Rattle.std.proofs.lemmas.Int.{ints, clamps, to_z-of_z}
 use Rattle.dtx_soft.specs.declared.gaps.Gap.{Gap}
 use Rattle.dtx_soft.specs.declared.trace.Stand.{Stand}
-use Rattle.dtx_soft.specs.Gaps.{AreLeastGaps, HasGaps, unit}
+use Rattle.dtx_soft.specs.Gaps.{AreLeastGaps, HasGaps, SaysAbove, unit}
 use Rattle.dtx_soft.specs.Least.{AreInOrder, IsLeast, IsLeastFrom}
 use Rattle.dtx_soft.specs.Paths.{IsPath, cost}
 use Rattle.dtx_soft.specs.Trace.{IsStart}
-use Rattle.dtx_soft.proofs.GapSteps.{SaysAbove}
 use Rattle.dtx_soft.proofs.Paths.{least_is}
 use Rattle.dtx_soft.proofs.Units.{less_in_units, same_in_units}
+use Rattle.dtx_soft.proofs.WrapsLemmas.{read, sum_read}
 use Rattle.dtx_soft.proofs.WritesLemmas.{four}
+
+above_alike : {o n p m : ℤ} {bit : ℕ} → o ≡ p → n ≡ m → SaysAbove o n bit → SaysAbove p m bit
+above_alike e f (inl h) = inl ((let l : _ <ℤ _ = h.0 in omega (arith, ints)), h.1)
+above_alike e f (inr h) = inr ((let l : _ ≤ℤ _ = h.0 in omega (arith, ints)), h.1)
+
+-- of numbers that were read
+pub above_read : (w : Width) (o n : ℤ) {bit : ℕ} → SFits w o → SFits w n → SaysAbove (read w o) (read w n) bit
+    → SaysAbove o n bit
+above_read w o n f g = above_alike (to_z-of_z w o f) (to_z-of_z w n g)
+
+pub above_sum : (w : Width) (o x y : ℤ) {bit : ℕ} → SFits w o → SFits w x → SFits w y → SFits w (x +ℤ y)
+    → SaysAbove (read w o) (read w (read w x +ℤ read w y)) bit → SaysAbove o (x +ℤ y) bit
+above_sum w o x y f g h k =
+    above_alike (to_z-of_z w o f) (sum_read w _ _ x y (to_z-of_z w x g) (to_z-of_z w y h) k)
 
 -- what is asked of four costs in units
 abbrev Comes : ℕ → List ℕ → ℕ → Type 0

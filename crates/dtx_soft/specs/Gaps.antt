@@ -1,7 +1,8 @@
 -- Differences of costs, in units, by which the coders are decoded side by side. At one symbol the squares of all levels
 -- differ by multiples of four times the scale.
-use Rattle.std.specs.Prelude.{ℕ, ℤ, pos, ◌≡◌, ◌+◌, ◌*◌, ◌/◌, ◌%◌, ◌^◌, ◌<◌, ◌≤◌, ◌+ℤ◌, ◌≤ℤ◌, max, min, List, []}
-use Rattle.std.specs.Prelude.{◌∷◌, length, map, drop, nat_le, nat_lt, if◌then◌else◌, slice_index, slice_index_or}
+use Rattle.std.specs.Prelude.{ℕ, ℤ, pos, ◌≡◌, ◌⊎◌, ◌+◌, ◌*◌, ◌/◌, ◌%◌, ◌^◌, ◌<◌, ◌≤◌, ◌+ℤ◌, ◌-ℤ◌, ◌≤ℤ◌, ◌<ℤ◌, max, min}
+use Rattle.std.specs.Prelude.{List, [], ◌∷◌, length, map, drop, nat_le, nat_lt, if◌then◌else◌, slice_index}
+use Rattle.std.specs.Prelude.{slice_index_or}
 use Rattle.std.specs.Int.{int_min}
 use Rattle.dtx_soft.specs.declared.nearest.Nearest.{Nearest}
 use Rattle.dtx_soft.specs.declared.gaps.Gap.{Gap}
@@ -29,17 +30,6 @@ pub record AreGaps (unit : ℕ) (costs : List ℕ) (even odd across : ℤ) : Typ
 abbrev pub HasGaps : ℕ → List ℕ → Gap ℤ → Type 0
 HasGaps scale costs gap = AreGaps (unit scale) costs gap.even gap.odd gap.across
 
--- bounds that the differences always keep, since two steps lead from each state to each state
-pub record IsBounded (gap : Gap ℤ) : Type 0 where
-  pub even_from : pos 0 ≤ℤ (gap.even +ℤ pos 2400)
-  pub even_to : gap.even ≤ℤ pos 2400
-  pub odd_from : pos 0 ≤ℤ (gap.odd +ℤ pos 2400)
-  pub odd_to : gap.odd ≤ℤ pos 2400
-  pub across_from : pos 0 ≤ℤ (gap.across +ℤ pos 512)
-  pub across_to : gap.across ≤ℤ pos 512
-  pub beside_from : gap.odd ≤ℤ (gap.even +ℤ gap.across +ℤ pos 512)
-  pub beside_to : (gap.even +ℤ gap.across) ≤ℤ (gap.odd +ℤ pos 512)
-
 -- the nearer of levels z and z + 4, and the square of what the symbol is off it
 abbrev pub nearer_level : ℕ → ℤ → ℕ → ℕ
 nearer_level scale symbol z =
@@ -65,13 +55,29 @@ row_of scale symbol = record {
   filler = 0;
 }
 
--- The terms of the gaps of a symbol's squares and those of the potentials behind it. `a` is the sum of the even gaps,
--- capped at 0, and `b` the lesser of them; `g` and `h` are the same of the odd gaps.
-pub record AreLesser (squares : SquareGaps ℤ) (gap : Gap ℤ) (a b g h : ℤ) : Type 0 where
-  pub first : a ≡ int_min (squares.even +ℤ gap.even) (pos 0)
-  pub second : b ≡ int_min squares.even gap.even
-  pub third : g ≡ int_min (squares.odd +ℤ gap.odd) (pos 0)
-  pub fourth : h ≡ int_min squares.odd gap.odd
+-- the gaps before a symbol, from the gaps of its squares and of the potentials behind it
+pub record AreSums (squares : SquareGaps ℤ) (old new : Gap ℤ) : Type 0 where
+  pub even : new.even ≡ (squares.across +ℤ old.across) +ℤ (int_min (squares.even +ℤ old.even) (pos 0)
+      -ℤ int_min (squares.odd +ℤ old.odd) (pos 0))
+  pub odd : new.odd ≡ (squares.across +ℤ old.across) +ℤ (int_min squares.even old.even
+      -ℤ int_min squares.odd old.odd)
+  pub across : new.across ≡ int_min (squares.odd +ℤ old.odd) (pos 0) -ℤ int_min squares.odd old.odd
+
+-- a bit that is 1 where a number is above another one, and else 0
+abbrev pub SaysAbove : ℤ → ℤ → ℕ → Type 0
+SaysAbove other number bit = ((other <ℤ number) × (bit ≡ 1)) ⊎ ((number ≤ℤ other) × (bit ≡ 0))
+
+-- the bits of the marks of a symbol
+pub record AreSigns (squares : SquareGaps ℤ) (gap : Gap ℤ) (marks : ℕ) : Type 0 where
+  pub first : ℕ
+  pub second : ℕ
+  pub third : ℕ
+  pub fourth : ℕ
+  pub marks_are : marks ≡ first + 2 * second + 4 * third + 8 * fourth
+  pub first_says : SaysAbove (pos 0) (squares.even_tied +ℤ gap.even) first
+  pub second_says : SaysAbove gap.even squares.even_tied second
+  pub third_says : SaysAbove (pos 0) (squares.odd_tied +ℤ gap.odd) third
+  pub fourth_says : SaysAbove gap.odd squares.odd_tied fourth
 
 -- the gaps of the potentials before one more symbol in front
 abbrev pub IsBefore : ℕ → ℤ → Gap ℤ → Gap ℤ → Type 0
@@ -101,6 +107,22 @@ gap_or gaps n other = record {
 
 abbrev pub gap_at : Gaps ℤ → ℕ → Gap ℤ
 gap_at gaps n = gap_or gaps n (pos 0)
+
+-- the same in numbers of some width, by their values
+abbrev pub gap_of : {A : Type 0} → (A → ℤ) → Gap A → Gap ℤ
+gap_of value gap = record { even = value gap.even; odd = value gap.odd; across = value gap.across }
+
+abbrev pub gaps_of : {A : Type 0} → (A → ℤ) → A → Gaps A → ℕ → Gap ℤ
+gaps_of value other gaps n = gap_of value (gap_or gaps n other)
+
+abbrev pub squares_of : {A : Type 0} → (A → ℤ) → SquareGaps A → SquareGaps ℤ
+squares_of value squares = record {
+  even = value squares.even;
+  odd = value squares.odd;
+  across = value squares.across;
+  even_tied = value squares.even_tied;
+  odd_tied = value squares.odd_tied;
+}
 
 -- the symbols of one lane, one in each round
 unfoldable pub column : List (List ℤ) → ℕ → List ℤ

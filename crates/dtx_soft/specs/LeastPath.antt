@@ -17,15 +17,18 @@ paths_from (suc n) state =
 unfoldable pub all_paths : ℕ → List (List ℕ)
 all_paths n = flat_map (λ start. map (λ levels. start ∷ levels) (paths_from n start)) (range_with_len 0 4)
 
--- whether no path costs less than this one, which stands behind its start
-unfoldable pub costs_least : ℕ → List ℤ → List ℕ → Bool
-costs_least scale symbols path =
-    list_all (λ other. nat_le (cost scale symbols (drop 1 path)) (cost scale symbols (drop 1 other)))
-    (all_paths (length symbols))
+-- whether none of these paths costs less than this one; each stands behind its start
+unfoldable pub costs_least : ℕ → List ℤ → List (List ℕ) → List ℕ → Bool
+costs_least scale symbols paths path =
+    list_all (λ other. nat_le (cost scale symbols (drop 1 path)) (cost scale symbols (drop 1 other))) paths
+
+-- the first of them that costs least
+abbrev pub first_least : ℕ → List ℤ → List (List ℕ) → List ℕ
+first_least scale symbols paths = unwrap_or (find (costs_least scale symbols paths) paths) []
 
 -- the start of the least path over symbols, and its levels behind it
 unfoldable pub least_path : ℕ → List ℤ → List ℕ
-least_path scale symbols = unwrap_or (find (costs_least scale symbols) (all_paths (length symbols))) []
+least_path scale symbols = first_least scale symbols (all_paths (length symbols))
 
 -- the start and the levels of the least path
 abbrev pub least_start : ℕ → List ℤ → ℕ

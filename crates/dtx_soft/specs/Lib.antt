@@ -11,3 +11,4 @@ pub mod Gaps
 pub mod Near
 pub mod Squares
 pub mod Trace
+pub mod Bounds

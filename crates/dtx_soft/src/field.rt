@@ -2,11 +2,12 @@
 
 ghost use Rattle.std.specs.Prelude.{◌≡◌, ℕ, ◌+◌, ◌*◌, ◌<◌, ◌≤◌, IfOk, length, map, slice_index, sum};
 ghost use Rattle.std.specs.List.{range_with_len};
-ghost use Rattle.dtx_soft.specs.Gaps.{AreWalked, IsBounded, gap_at};
+ghost use Rattle.dtx_soft.specs.Bounds.{IsBounded, words};
+ghost use Rattle.dtx_soft.specs.Gaps.{AreWalked, gap_at};
 ghost use Rattle.dtx_soft.specs.Coders.{IsSoftened, coders_distance};
 
-use crate::gaps::{self, Gaps, LANES};
-use crate::near::{self, are_near, widened};
+use crate::gaps::{Gaps, LANES, backward};
+use crate::near::{are_near, widened};
 use crate::nearest::MAX_SCALE;
 use crate::rounds::{lay_out, put_back};
 use crate::trace::forward;
@@ -113,18 +114,18 @@ fn soften_rounds(
 fn walk_back(scale: u8, rounds: &[[i8; LANES]], marks: &mut [[u8; LANES]]) -> Gaps<i16>
     requires scale { scale ≤ MAX_SCALE }
     requires room { length marks.old ≡ length rounds.now }
-    ensures bounded { (n : ℕ) → n < LANES → IsBounded (gap_at result n) }
+    ensures bounded { (n : ℕ) → n < LANES → IsBounded words (gap_at result n) }
     ensures walked { AreWalked scale 0 rounds.now (gap_at result) marks.new }
 {
     if are_near(scale, rounds) {
-        widened(&near::backward(scale, rounds, marks))
+        widened(&backward::<i8>(scale, rounds, marks))
     } else {
-        gaps::backward(scale, rounds, marks)
+        backward::<i16>(scale, rounds, marks)
     }
 }
 
 /// The sum of the costs of the twelve coders' paths.
-fn total(costs: &[u32; LANES]) -> u64
+pub fn total(costs: &[u32; LANES]) -> u64
     ensures { result ≡ sum (map (λ e. slice_index costs.now e) (range_with_len 0 CODERS)) }
 {
     let mut total = 0;

@@ -15,9 +15,10 @@ mod table;
 mod trace;
 mod walk;
 mod walker;
+mod width;
 
 pub use certificate::proves;
-pub use field::FieldDecoder;
+pub use field::{FieldDecoder, total};
 pub use gaps::LANES;
 pub use nearest::{MAX_SCALE, MOST_SEGMENT_COST, square, squared_distance, symbol_at};
 pub use rounds::{read_turned, write_turned};

@@ -5,14 +5,16 @@ ghost use Rattle.std.specs.Prelude.{◌≡◌, ◌≢◌, ℕ, ℤ, pos, ◌+◌
 ghost use Rattle.std.specs.Prelude.{◌+ℤ◌, ◌≤ℤ◌, length, ◌==◌, if◌then◌else◌};
 ghost use Rattle.std.specs.Prelude.{slice_index, slice_index_or};
 ghost use Rattle.dtx_soft.specs.Paths.{distance};
-ghost use Rattle.dtx_soft.specs.Gaps.{AreWalked, IsBounded, column, gap_at};
+ghost use Rattle.dtx_soft.specs.Bounds.{IsBounded, words};
+ghost use Rattle.dtx_soft.specs.Gaps.{AreWalked, column, gap_at};
 ghost use Rattle.dtx_soft.specs.Coders.{AreLeast};
 ghost use Rattle.dtx_soft.specs.Trace.{IsMoved, IsNext, IsStand, IsStart, limit_of, low_limit};
 ghost use Rattle.dtx_soft.specs.Trace.{nearer_symbol, pair_of, shift_of, stand_at};
 
-use crate::gaps::{Gap, Gaps, LANES, is_above, lane};
+use crate::gaps::{Gap, Gaps, LANES, lane};
 use crate::nearest::{MAX_SCALE, square};
 use crate::walk::MAX_SYMBOLS;
+use crate::width::Width;
 
 /// A path's state, 2 * q1 + q0, and its cost so far.
 #[derive(Drop)]
@@ -40,7 +42,7 @@ pub(crate) fn forward(
     requires scale { scale ≤ MAX_SCALE }
     requires few { length rounds.old ≤ MAX_SYMBOLS }
     requires room { length marks.now ≡ length rounds.old }
-    requires bounded { (n : ℕ) → n < LANES → IsBounded (gap_at gaps.now n) }
+    requires bounded { (n : ℕ) → n < LANES → IsBounded words (gap_at gaps.now n) }
     requires walked { AreWalked scale 0 rounds.old (gap_at gaps.now) marks.now }
     ensures lanes { (n : ℕ) → n < LANES → AreLeast scale (column rounds.old n) (column rounds.new n) }
     ensures costs { (n : ℕ) → n < LANES
@@ -56,7 +58,7 @@ pub(crate) fn forward(
 
 /// The state in which the least path of each lane begins.
 fn starts(gaps: &Gaps<i16>) -> Stands
-    requires { (n : ℕ) → n < LANES → IsBounded (gap_at gaps.now n) }
+    requires { (n : ℕ) → n < LANES → IsBounded words (gap_at gaps.now n) }
     ensures { (n : ℕ) → n < LANES → IsStart (gap_at gaps.now n) (stand_at result n) }
 {
     let mut stands = Stands {
@@ -72,13 +74,13 @@ fn starts(gaps: &Gaps<i16>) -> Stands
 
 /// The state with the least potential, the first of several.
 fn start_of(gap: Gap<i16>) -> Stand
-    requires { IsBounded gap }
+    requires { IsBounded words gap }
     ensures { IsStart gap result }
 {
     let first = gap.even + gap.across;
-    let low = is_above(first, gap.odd);
-    let high = is_above(gap.across, 0);
-    let q1 = is_above(first.min(gap.odd), gap.across.min(0));
+    let low = first.is_above(gap.odd);
+    let high = gap.across.is_above(0);
+    let q1 = first.min(gap.odd).is_above(gap.across.min(0));
     Stand {
         q1,
         q0: chosen(q1, low, high),

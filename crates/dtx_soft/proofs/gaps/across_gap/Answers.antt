@@ -1,21 +1,49 @@
-use Rattle.std.proofs.Common.{rules}
-use Rattle.dtx_soft.proofs.WordGaps.{across_in_words}
+use Rattle.std.proofs.Common.{pos, ◌≤ℤ◌, arith}
+use Rattle.std.proofs.lemmas.Int.{ints}
+use Rattle.dtx_soft.proofs.GapBounds.{across_small, odd_small}
 use Rattle.dtx_soft.proofs.gaps.across_gap.Goals as goal
 
-pub overflow_sub-result : goal.overflow_sub-result
-overflow_sub-result c =
-    (across_in_words c.args.units.now.scale c.args.symbol c.args.units.now.four_below c.args.units.now.four
-    c.args.odd c.within-near.result (search rules) c.requires.symbol_from c.requires.symbol_to (search rules)
-    (search rules) c.requires.odd c.within-near.ensures).0
+pub plus-twice-requires : goal.plus-twice-requires
+plus-twice-requires g c = let w = g.met.T.Width.wide in omega (arith, ints)
 
-pub overflow_add-result : goal.overflow_add-result
-overflow_add-result c =
-    (across_in_words c.args.units.now.scale c.args.symbol c.args.units.now.four_below c.args.units.now.four
-    c.args.odd c.within-near.result (search rules) c.requires.symbol_from c.requires.symbol_to (search rules)
-    (search rules) c.requires.odd c.within-near.ensures).1
+pub plus-requires : goal.plus-requires
+plus-requires g c = let w = g.met.T.Width.wide in omega (arith, ints)
+
+pub minus-requires : goal.minus-requires
+minus-requires g c =
+    let w = g.met.T.Width.wide in
+    let none : pos 0 ≤ℤ pos 0 = omega (arith, ints) in
+    let one : pos 0 ≤ℤ pos 1 = omega (arith, ints) in
+    let a = odd_small g.T.Width.bounds c.args.units.now.scale (g.T.Width.value c.args.symbol) (pos 0) w
+    c.requires.units.scale c.requires.symbol none one in
+    rw c.requires.odd (omega (arith, ints, a))
+
+pub plus-requires-2 : goal.plus-requires-2
+plus-requires-2 g c =
+    let w = g.met.T.Width.wide in
+    let a = across_small g.T.Width.bounds c.args.units.now.scale (g.T.Width.value c.args.symbol) w
+    c.requires.units.scale c.requires.symbol in
+    rw (
+      c.minus.ensures,
+      c.lesser-near.ensures,
+      c.greater.ensures,
+      c.plus.ensures,
+      c.plus-twice.ensures,
+      c.requires.odd,
+      c.requires.units.four_below,
+      c.requires.units.four,
+    ) (omega (arith, a, w.sums))
 
 pub returns : goal.returns
-returns c =
-    (across_in_words c.args.units.now.scale c.args.symbol c.args.units.now.four_below c.args.units.now.four
-    c.args.odd c.within-near.result (search rules) c.requires.symbol_from c.requires.symbol_to (search rules)
-    (search rules) c.requires.odd c.within-near.ensures).2
+returns g c =
+    rw (
+      c.plus-2.ensures,
+      c.minus.ensures,
+      c.lesser-near.ensures,
+      c.greater.ensures,
+      c.plus.ensures,
+      c.plus-twice.ensures,
+      c.requires.odd,
+      c.requires.units.four_below,
+      c.requires.units.four,
+    )

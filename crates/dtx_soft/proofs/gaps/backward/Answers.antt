@@ -1,32 +1,43 @@
-use Rattle.std.proofs.Common.{◌≡◌, ◌-◌, pos, ◌∙◌, subst, arith}
+use Rattle.std.proofs.Common.{◌≡◌, ℕ, pos, ◌-◌, ◌<◌, [], get_or, replicate, ap, ◌∙◌, subst, w8, arith, rules}
+use mir.Val.{SFits}
 use Rattle.std.proofs.lemmas.List.{get_or-replicate, length-set}
-use Rattle.dtx_soft.specs.Gaps.{AreWalked, gap_at}
+use Rattle.dtx_soft.specs.Bounds.{IsReached}
+use Rattle.dtx_soft.specs.Gaps.{AreWalked, gaps_of}
 use Rattle.dtx_soft.proofs.ColumnsLemmas.{none_walked, one_walked}
-use Rattle.dtx_soft.proofs.NearGaps.{nothing_tight, tight_bounded}
+use Rattle.dtx_soft.proofs.GapBounds.{none_bounded}
 use Rattle.dtx_soft.proofs.gaps.backward.Goals as goal
 
 pub loop-t-init : goal.loop-t-init
-loop-t-init c = record {
+loop-t-init g c = record {
   room = c.requires.room;
-  bounded = λ n l. tight_bounded _ (nothing_tight _ (get_or-replicate 16 n (pos 0) (pos 0) l)
-      (get_or-replicate 16 n (pos 0) (pos 0) l) (get_or-replicate 16 n (pos 0) (pos 0) l));
-  walked = none_walked c.args.scale c.args.rounds.now _ c.args.marks.now
-      (λ n. get_or-replicate 16 n (pos 0) (pos 0)) (λ n. get_or-replicate 16 n (pos 0) (pos 0))
-      (λ n. get_or-replicate 16 n (pos 0) (pos 0));
+  bounded = λ n other l. none_bounded g.T.Width.bounds _ (none n other l) (none n other l) (none n other l);
+  walked = λ other. none_walked c.args.scale c.args.rounds.now _ c.args.marks.now (λ n. none n other)
+      (λ n. none n other) (λ n. none n other);
 }
+  where
+    none : (n : ℕ) (other : g.row.T.Denot) → n < 16
+        → g.T.Width.value (get_or (replicate 16 c.number-none.result) n other) ≡ pos 0
+    none n other l = ap g.T.Width.value (get_or-replicate 16 n c.number-none.result other l) ∙ c.number-none.ensures
+
+pub step_lanes-requires : goal.step_lanes-requires
+step_lanes-requires g c =
+    let symbols : (n : ℕ) → n < 16 → SFits w8 (get_or (get_or c.args.rounds.now (c.loop-t.t - 1) []) n (pos 0))
+    → IsReached g.T.Width.bounds (get_or (get_or c.args.rounds.now (c.loop-t.t - 1) []) n (pos 0)) =
+    λ n l f. c.requires.symbols (c.loop-t.t - 1) n (omega arith) l f in
+    search rules
 
 pub loop-t-preserved : goal.loop-t-preserved
-loop-t-preserved c = record {
+loop-t-preserved g c = record {
   room = length-set c.loop-t.marks (c.loop-t.t - 1) c.step_lanes.result ∙ c.loop-t.invariant.room;
   bounded = c.step_lanes.ensures.bounded;
-  walked = one_walked c.args.scale c.units_of-units.result.scale (c.loop-t.t - 1) c.loop-t.t c.args.rounds.now
-      (gap_at c.loop-t.gaps) (gap_at c.step_lanes.new.gaps) c.loop-t.marks c.step_lanes.result
-      c.units_of-units.ensures c.requires.scale (omega arith) (omega arith) c.loop-t.invariant.room
-      c.step_lanes.ensures.step c.loop-t.invariant.walked;
+  walked = λ other. one_walked c.args.scale c.units_of-units.result.scale (c.loop-t.t - 1) c.loop-t.t c.args.rounds.now
+      (gaps_of g.T.Width.value other c.loop-t.gaps) (gaps_of g.T.Width.value other c.step_lanes.new.gaps) c.loop-t.marks
+      c.step_lanes.result c.units_of-units.ensures.scale c.requires.small (omega arith) (omega arith)
+      c.loop-t.invariant.room (λ n l. c.step_lanes.ensures.step n other l) (c.loop-t.invariant.walked other);
 }
 
 pub returns-clause-walked : goal.returns-clause-walked
-returns-clause-walked c =
+returns-clause-walked g c other =
     let end : c.loop-t.t ≡ 0 = omega arith in
-    subst (λ t. AreWalked c.args.scale t c.args.rounds.now (gap_at c.loop-t.gaps) c.loop-t.marks) end
-    c.loop-t.invariant.walked
+    subst (λ t. AreWalked c.args.scale t c.args.rounds.now (gaps_of g.T.Width.value other c.loop-t.gaps) c.loop-t.marks)
+    end (c.loop-t.invariant.walked other)

@@ -1,15 +1,33 @@
-use Rattle.std.proofs.Common.{rules}
-use Rattle.dtx_soft.proofs.WordGaps.{even_in_words}
+use Rattle.std.proofs.Common.{◌∙◌, arith, rules}
+use mir.Syntax.{w16}
+use Rattle.std.proofs.lemmas.Int.{ints, to_z-of_z}
+use Rattle.dtx_soft.proofs.GapBounds.{even_small}
 use Rattle.dtx_soft.proofs.gaps.even_gap.Goals as goal
 
-pub overflow_sub-result-2 : goal.overflow_sub-result-2
-overflow_sub-result-2 c =
-    (even_in_words c.args.units.now.scale c.args.symbol c.args.tie c.args.units.now.twelve_below c.args.units.now.four
-    c.args.units.now.two c.within-near.result (search rules) c.requires.symbol_from c.requires.symbol_to
-    c.requires.from c.requires.to (search rules) (search rules) (search rules) c.within-near.ensures).0
+pub pair_gap-requires-clause-shifted : goal.pair_gap-requires-clause-shifted
+pair_gap-requires-clause-shifted g c =
+    let w = g.met.T.Width.wide in
+    let u = c.requires.units in
+    omega (arith, ints)
+
+pub pair_gap-requires-clause-fits : goal.pair_gap-requires-clause-fits
+pair_gap-requires-clause-fits g c =
+    let w = g.met.T.Width.wide in
+    let a = even_small g.T.Width.bounds c.args.units.now.scale (g.T.Width.value c.args.symbol) c.args.tie w
+    c.requires.units.scale c.requires.symbol c.requires.from c.requires.to in
+    rw (
+      to_z-of_z w16 c.args.tie (search rules),
+      c.requires.units.two,
+      c.requires.units.twelve_below,
+      c.requires.units.four,
+    )
+    (omega (arith, a, w.sums))
 
 pub returns : goal.returns
-returns c =
-    (even_in_words c.args.units.now.scale c.args.symbol c.args.tie c.args.units.now.twelve_below c.args.units.now.four
-    c.args.units.now.two c.within-near.result (search rules) c.requires.symbol_from c.requires.symbol_to
-    c.requires.from c.requires.to (search rules) (search rules) (search rules) c.within-near.ensures).1
+returns g c =
+    c.pair_gap.ensures ∙ rw (
+      to_z-of_z w16 c.args.tie (search rules),
+      c.requires.units.two,
+      c.requires.units.twelve_below,
+      c.requires.units.four,
+    )

@@ -1,22 +1,75 @@
-use Rattle.std.proofs.Common.{rules}
-use Rattle.dtx_soft.proofs.GapSteps.{bounded_before, right_before, squares_in_units}
+use Rattle.std.proofs.Common.{arith}
+use Rattle.std.proofs.lemmas.Int.{ints, clamps}
+use Rattle.dtx_soft.specs.Gaps.{gap_of, squares_of}
+use Rattle.dtx_soft.proofs.GapBounds.{sums_bounded, sums_of}
 use Rattle.dtx_soft.proofs.gaps.gap_before.Goals as goal
 
-pub returns-clause-bounded : goal.returns-clause-bounded
-returns-clause-bounded c =
-    bounded_before c.args.squares.now c.args.gap c.sums_of.result _ _ _ _ c.requires.small c.requires.bounded
-    c.terms_of-terms.ensures (record {
-      even = c.sums_of.ensures.even;
-      odd = c.sums_of.ensures.odd;
-      across = c.sums_of.ensures.across;
-    })
+pub plus-requires : goal.plus-requires
+plus-requires g c = let w = g.met.T.Width.wide in omega (arith, ints)
 
-pub returns-clause-gaps : goal.returns-clause-gaps
-returns-clause-gaps c =
-    right_before c.args.units.now.scale c.args.symbol c.args.squares.now c.args.gap c.sums_of.result _ _ _ _
-    (squares_in_units c.args.units.now.scale c.args.symbol c.args.squares.now (search rules) c.ranges.symbol
-    c.requires.squares c.requires.small).1 c.terms_of-terms.ensures (record {
-      even = c.sums_of.ensures.even;
-      odd = c.sums_of.ensures.odd;
-      across = c.sums_of.ensures.across;
-    })
+pub plus-requires-2 : goal.plus-requires-2
+plus-requires-2 g c = let w = g.met.T.Width.wide in omega (arith, ints)
+
+pub plus-step-requires : goal.plus-step-requires
+plus-step-requires g c = let w = g.met.T.Width.wide in omega (arith, ints)
+
+pub minus-requires : goal.minus-requires
+minus-requires g c = let w = g.met.T.Width.wide in omega (arith, ints, clamps)
+
+pub minus-requires-2 : goal.minus-requires-2
+minus-requires-2 g c = let w = g.met.T.Width.wide in omega (arith, ints, clamps)
+
+pub minus-requires-3 : goal.minus-requires-3
+minus-requires-3 g c = let w = g.met.T.Width.wide in omega (arith, ints, clamps)
+
+-- the sums are within the bounds of the gaps that they are
+pub plus-requires-3 : goal.plus-requires-3
+plus-requires-3 g c =
+    let w = g.met.T.Width.wide in
+    let a = (sums_bounded g.T.Width.bounds _ _ _ c.requires.squares c.requires.bounded
+    (sums_of (squares_of g.T.Width.value c.args.squares.now) (gap_of g.T.Width.value c.args.gap))).even in
+    rw (
+      c.plus-step.ensures,
+      c.minus.ensures,
+      c.lesser-even_sum.ensures,
+      c.lesser-odd_sum.ensures,
+      c.plus.ensures,
+      c.plus-2.ensures,
+      c.number-none.ensures,
+    ) (omega (arith, a, w.sums))
+
+pub plus-requires-4 : goal.plus-requires-4
+plus-requires-4 g c =
+    let w = g.met.T.Width.wide in
+    let a = (sums_bounded g.T.Width.bounds _ _ _ c.requires.squares c.requires.bounded
+    (sums_of (squares_of g.T.Width.value c.args.squares.now) (gap_of g.T.Width.value c.args.gap))).odd in
+    rw (c.plus-step.ensures, c.minus-2.ensures, c.lesser-even_least.ensures, c.lesser-odd_least.ensures)
+    (omega (arith, a, w.sums))
+
+pub returns : goal.returns
+returns g c = record {
+  even = rw (
+    c.plus-3.ensures,
+    c.plus-step.ensures,
+    c.minus.ensures,
+    c.lesser-even_sum.ensures,
+    c.lesser-odd_sum.ensures,
+    c.plus.ensures,
+    c.plus-2.ensures,
+    c.number-none.ensures,
+  );
+  odd = rw (
+    c.plus-4.ensures,
+    c.plus-step.ensures,
+    c.minus-2.ensures,
+    c.lesser-even_least.ensures,
+    c.lesser-odd_least.ensures,
+  );
+  across = rw (
+    c.minus-3.ensures,
+    c.lesser-odd_sum.ensures,
+    c.lesser-odd_least.ensures,
+    c.plus-2.ensures,
+    c.number-none.ensures,
+  );
+}

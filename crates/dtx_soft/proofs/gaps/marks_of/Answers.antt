@@ -1,34 +1,27 @@
-use Rattle.std.proofs.Common.{pos, rules}
-use mir.Syntax.{w16}
-use Rattle.dtx_soft.proofs.BitGaps.{above_read, above_sum, sum_of_read_fits}
-use Rattle.dtx_soft.proofs.GapSteps.{marks_taken, squares_in_units}
-use Rattle.dtx_soft.proofs.WordGaps.{tied_sums_fit}
+use Rattle.std.proofs.Common.{◌+ℤ◌, refl, subst, arith}
+use Rattle.std.proofs.lemmas.Int.{ints}
+use Rattle.dtx_soft.specs.Gaps.{SaysAbove}
 use Rattle.dtx_soft.proofs.gaps.marks_of.Goals as goal
 
-pub overflow_add-squares : goal.overflow_add-squares
-overflow_add-squares c =
-    sum_of_read_fits w16 c.args.squares.now.even_tied c.args.gap.even (search rules) (search rules)
-    (tied_sums_fit c.args.squares.now c.args.gap c.requires.small c.requires.bounded).0
+pub plus-requires : goal.plus-requires
+plus-requires g c = let w = g.met.T.Width.wide in omega (arith, ints)
 
-pub overflow_add-squares-2 : goal.overflow_add-squares-2
-overflow_add-squares-2 c =
-    sum_of_read_fits w16 c.args.squares.now.odd_tied c.args.gap.odd (search rules) (search rules)
-    (tied_sums_fit c.args.squares.now c.args.gap c.requires.small c.requires.bounded).1
+pub plus-requires-2 : goal.plus-requires-2
+plus-requires-2 g c = let w = g.met.T.Width.wide in omega (arith, ints)
 
 pub returns : goal.returns
-returns c =
-    let units = squares_in_units c.args.units.now.scale c.args.symbol c.args.squares.now (search rules) c.ranges.symbol
-    c.requires.squares c.requires.small in
-    let sums = tied_sums_fit c.args.squares.now c.args.gap c.requires.small c.requires.bounded in
-    marks_taken c.args.units.now.scale c.args.symbol c.args.squares.now c.args.gap
-    c.is_above-first.result c.is_above-second.result c.is_above-third.result c.is_above-fourth.result units.0
-    c.requires.squares units.1 (record {
-      first = above_sum w16 (pos 0) c.args.squares.now.even_tied c.args.gap.even (search rules) (search rules)
-          (search rules) sums.0 c.is_above-first.ensures;
-      second = above_read w16 c.args.gap.even c.args.squares.now.even_tied (search rules) (search rules)
-          c.is_above-second.ensures;
-      third = above_sum w16 (pos 0) c.args.squares.now.odd_tied c.args.gap.odd (search rules) (search rules)
-          (search rules) sums.1 c.is_above-third.ensures;
-      fourth = above_read w16 c.args.gap.odd c.args.squares.now.odd_tied (search rules) (search rules)
-          c.is_above-fourth.ensures;
-    })
+returns g c = record {
+  first = c.is_above-first.result;
+  second = c.is_above-second.result;
+  third = c.is_above-third.result;
+  fourth = c.is_above-fourth.result;
+  marks_are = refl;
+  first_says = subst (λ x. SaysAbove x (g.T.Width.value c.args.squares.now.even_tied +ℤ g.T.Width.value c.args.gap.even)
+      c.is_above-first.result) c.number-none.ensures (subst (λ x. SaysAbove (g.T.Width.value c.number-none.result) x
+      c.is_above-first.result) c.plus.ensures c.is_above-first.ensures);
+  second_says = c.is_above-second.ensures;
+  third_says = subst (λ x. SaysAbove x (g.T.Width.value c.args.squares.now.odd_tied +ℤ g.T.Width.value c.args.gap.odd)
+      c.is_above-third.result) c.number-none.ensures (subst (λ x. SaysAbove (g.T.Width.value c.number-none.result) x
+      c.is_above-third.result) c.plus-2.ensures c.is_above-third.ensures);
+  fourth_says = c.is_above-fourth.ensures;
+}

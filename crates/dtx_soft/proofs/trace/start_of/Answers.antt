@@ -3,8 +3,7 @@ use mir.Syntax.{w16}
 use mir.Val.{SFits}
 use Rattle.std.specs.Int.{int_min}
 use Rattle.std.proofs.lemmas.Int.{ints, to_z-of_z}
-use Rattle.dtx_soft.proofs.BitGaps.{above_read, above_sum}
-use Rattle.dtx_soft.proofs.Starts.{start_is}
+use Rattle.dtx_soft.proofs.Starts.{above_read, above_sum, start_is}
 use Rattle.dtx_soft.proofs.WrapsLemmas.{read, sum_read, unwrapped}
 use Rattle.dtx_soft.proofs.trace.start_of.Goals as goal
 
@@ -22,7 +21,7 @@ returns c =
     c.chosen.ensures refl
   where
     fits : SFits w16 (c.args.gap.even +ℤ c.args.gap.across)
-    fits = omega (arith, ints, c.requires.even_from, c.requires.even_to, c.requires.across_from, c.requires.across_to)
+    fits = omega (arith, ints, c.requires.even, c.requires.across)
 
     first : read w16 (read w16 c.args.gap.even +ℤ read w16 c.args.gap.across)
         ≡ c.args.gap.even +ℤ c.args.gap.across

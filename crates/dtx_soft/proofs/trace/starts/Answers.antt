@@ -1,11 +1,12 @@
 use Rattle.std.proofs.Common.{◌≡◌, ◌≢◌, ◌⊎◌, inl, inr, pos, sym, subst, arith}
 use Rattle.std.proofs.lemmas.Bool.{cases_eq}
-use Rattle.dtx_soft.specs.Gaps.{IsBounded, gap_at}
+use Rattle.dtx_soft.specs.Bounds.{IsBounded, words}
+use Rattle.dtx_soft.specs.Gaps.{gap_at}
 use Rattle.dtx_soft.specs.Trace.{IsStart, stand_at}
 use Rattle.dtx_soft.proofs.trace.starts.Goals as goal
 
 pub start_of-requires : goal.start_of-requires
-start_of-requires c = subst IsBounded (sym (c.lane.ensures (pos 0))) (c.requires c.loop-n.n (omega arith))
+start_of-requires c = subst (IsBounded words) (sym (c.lane.ensures (pos 0))) (c.requires c.loop-n.n (omega arith))
 
 pub loop-n-preserved : goal.loop-n-preserved
 loop-n-preserved c k l = by_lane (cases_eq k c.loop-n.n)

@@ -1,5 +1,5 @@
 use Rattle.std.proofs.Common.{rules}
-use Rattle.dtx_soft.proofs.Paths.{path_small}
+use Rattle.dtx_soft.proofs.LeastPathLemmas.{path_small}
 use Rattle.dtx_soft.proofs.walk.find.Goals as goal
 
 pub returns-clause-least : goal.returns-clause-least
