@@ -1,11 +1,10 @@
 -- Groups that hold placeholders.
-use Rattle.std.proofs.Common.{◌≡◌, ℕ, zero, suc, ◌+◌, ◌-◌, ◌*◌, ◌/◌, ◌<◌, ◌≤◌, Bool, true, false}
-use Rattle.std.proofs.Common.{◌||◌, cond, List, [], ◌∷◌, ◌++◌, length, map, take, drop, refl, sym, ap, ap₂, ◌∙◌, arith}
-use Rattle.std.specs.Prelude.{slice_range}
+use Rattle.std.proofs.Common.{◌≡◌, ℕ, zero, suc, ◌+◌, ◌-◌, ◌*◌, ◌/◌, ◌<◌, ◌≤◌, Bool, true, false, ◌||◌, cond, List, []}
+use Rattle.std.proofs.Common.{◌∷◌, ◌++◌, length, map, take, drop, refl, sym, ap, ap₂, ◌∙◌, arith, slice_range}
+use Rattle.std.proofs.Common.{length-append, length-drop, take_all, map-id}
 use Rattle.std.specs.List.{filter, list_any, range_with_len}
 use Rattle.std.proofs.Math.Bool.{or-false}
-use Rattle.std.proofs.lemmas.List.{length-append, length-drop, take-append-le, take_all, drop_all, drop-append-le}
-use Rattle.std.proofs.lemmas.List.{take-map, drop-map, map-id}
+use Rattle.std.proofs.lemmas.List.{take-append-le, drop_all, drop-append-le, take-map, drop-map}
 use Rattle.std.proofs.lemmas.List.Folds.{list_any-append}
 use Rattle.std.proofs.lemmas.List.FromFn.{filter_of_map_range_with_len_more}
 use Rattle.dtx_adapter.specs.Feed.{is_placeholder, is_filled, filled_groups}

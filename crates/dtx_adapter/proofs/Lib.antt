@@ -6,4 +6,3 @@ pub mod TurnsLemmas
 mod MakingLemmas
 mod Runs
 pub mod ReadingsLemmas
-pub mod Coding

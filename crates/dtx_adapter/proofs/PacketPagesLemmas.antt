@@ -1,8 +1,7 @@
 -- The pages that operations packets carry.
-use Rattle.std.proofs.Common.{◌≡◌, ℕ, ◌/◌, ◌%◌, ◌<◌, ◌≤◌, ◌==◌, cond, Some, None, List, length, sym, subst}
-use Rattle.std.specs.Prelude.{◌↔◌, IsTrue, slice_get}
+use Rattle.std.proofs.Common.{◌≡◌, ℕ, ◌/◌, ◌%◌, ◌<◌, ◌≤◌, ◌==◌, cond, Some, None, List, length, sym, subst, ◌↔◌, IsTrue}
+use Rattle.std.proofs.Common.{slice_get, eq-eqb, eqb-true}
 use Rattle.std.specs.List.{find}
-use Rattle.std.proofs.lemmas.Bool.{eq-eqb, eqb-true}
 use Rattle.std.proofs.lemmas.List.{length-map}
 use Rattle.dtx_ops.specs.declared.paging.Paging.{Paging}
 use Rattle.dtx_ops.specs.declared.paging.Paging.TheVariants.{One, Of}

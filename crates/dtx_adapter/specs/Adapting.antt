@@ -1,8 +1,6 @@
 -- What an adapter keeps of the stream that it was given.
-use Rattle.std.specs.Prelude.{ℕ, ◌≡◌, ◌-◌, ◌*◌, ◌/◌, List, length, take, drop}
-use Rattle.dtx_coder.specs.Batches.{IsAhead}
+use Rattle.std.specs.Prelude.{ℕ, ◌≡◌, ◌-◌, ◌*◌, ◌/◌, List, length, take}
 use Rattle.dtx_coder.specs.Groups as coder
-use Rattle.dtx_coder.specs.Groups.{stream_coding}
 use Rattle.dtx_plan.specs.declared.plan.Plan.{Plan}
 use Rattle.dtx_adapter.specs.declared.adapter.Adapter.{Adapter}
 use Rattle.dtx_adapter.specs.Feed.{feed}
@@ -15,10 +13,3 @@ pub record StandsFor (plan : Plan) (adapter : Adapter) (stream : List (List ℕ)
   pub given : adapter.given ≡ length stream
   -- the coder was given the whole groups of the feed
   pub coder : coder.StandsFor adapter.coder (take (4 * (length stream / 4)) (feed plan stream))
-
--- The groups of a run before `group` are sent, and all its groups are interleaved. So the coder stands for the packets
--- `before` of the feed, but its interleaver has taken `packets` too. Their interleaved bytes stand in the batch from
--- this group on.
-pub record AreInterleaved (adapter : Adapter) (group : ℕ) (before packets : List (List ℕ)) : Type 0 where
-  pub ahead : IsAhead (stream_coding before) (length before) packets
-      (take (207 * length packets) (drop (828 * group) adapter.batch)) adapter.coder

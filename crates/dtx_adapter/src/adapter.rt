@@ -1,26 +1,19 @@
 // An adapter.
-ghost use Rattle.std.specs.Prelude.{◌≡◌, ◌==◌, ◌<◌, ◌≤◌, ◌+◌, ◌*◌, ◌/◌, ◌%◌, ◌++◌, [], ℕ, List, All, IfOk, OnOk};
-ghost use Rattle.std.specs.Prelude.{length, take, drop};
-ghost use Rattle.dtx_coder.specs.Batches.{IsAhead};
+ghost use Rattle.std.specs.Prelude.{◌≡◌, ◌==◌, ◌<◌, ◌≤◌, ◌+◌, ◌%◌, ◌++◌, [], ℕ, List, All, IfOk, OnOk};
+ghost use Rattle.std.specs.Prelude.{length, drop};
 ghost use Rattle.dtx_coder.specs.Groups as groups;
 ghost use Rattle.dtx_ops.specs.Spelling.{IsEntry};
 ghost use Rattle.dtx_plan.specs.Sound.{IsSound};
 ghost use Rattle.dtx_plan.specs.declared.plan.Plan.{Plan};
-ghost use Rattle.dtx_adapter.specs.Adapting.{StandsFor, AreInterleaved};
+ghost use Rattle.dtx_adapter.specs.Adapting.{StandsFor};
 ghost use Rattle.dtx_adapter.specs.Feed.{entry_of, feed, placeholders};
 
 use crate::filler::Filler;
 use crate::run::{make_run, run_packets};
-use dtx_coder::{Air, BATCH_BYTES, BATCH_PACKETS, Coder};
+use dtx_coder::{Air, BATCH_PACKETS, Batch, Coder};
 use dtx_plan::Plan;
-use dtx_sizes::{
-    CODEWORD, FIELD_PACKETS, FieldPlace, GROUP_BYTES, GROUP_PACKETS, MOST_PACKETS, PACKET,
-    field_place,
-};
+use dtx_sizes::{GROUP_PACKETS, MOST_PACKETS, PACKET};
 use std::alloc::{AllocError, Global};
-
-/// The most groups in a run.
-const BATCH_GROUPS: usize = BATCH_PACKETS / GROUP_PACKETS;
 
 /// An adapter. It turns the packets of a stream, given in order, into those of the feed (the profile's own, in the
 /// manner of ATSC A/110).
@@ -32,8 +25,8 @@ pub struct Adapter {
     filler: Filler,
     /// The coder is given the feed, so that its states are known before each run.
     coder: Coder,
-    /// The groups of the last run as they left the interleaver, 828 bytes for each.
-    batch: [u8; BATCH_BYTES],
+    /// The groups of the last run.
+    batch: Batch,
     air: Air,
     /// How many packets were given.
     given: u64,
@@ -52,7 +45,7 @@ impl Adapter {
         Ok(Adapter {
             filler: Filler::new(alloc, plan)?,
             coder: Coder::new(alloc)?,
-            batch: [0; BATCH_BYTES],
+            batch: Batch::new(),
             air: Air::new(),
             given: 0,
         })
@@ -111,7 +104,7 @@ impl Adapter {
         filled
     }
 
-    /// Codes the next groups of the feed. They stand in one sixth of a field.
+    /// Codes the next groups of the feed: only the states behind them matter. They stand in one sixth of a field.
     fn code(&mut self, packets: &[[u8; PACKET]])
         requires open { self.old.given % GROUP_PACKETS ≡ 0 }
         requires whole { length packets.now % GROUP_PACKETS ≡ 0 }
@@ -122,40 +115,10 @@ impl Adapter {
         ensures filler { self.new.filler ≡ self.old.filler }
         ensures given { self.new.given ≡ self.old.given }
     {
-        let place = field_place(self.given).place;
-        interleave_front(&mut self.coder, place, packets, &mut self.batch[..]);
+        self.batch.interleave(&mut self.coder, self.given, packets);
         for i in 0..packets.len() / GROUP_PACKETS {
-            self.send_group(self.given + (GROUP_PACKETS * i) as u64, i);
+            let first = self.given + (GROUP_PACKETS * i) as u64;
+            self.batch.send(&mut self.coder, first, i, &mut self.air);
         }
     }
-
-    /// Sends one group of the batch: only the states behind it matter. Its first packet is packet `first` of the feed.
-    fn send_group(&mut self, first: u64, group: usize)
-        requires grouped { first % GROUP_PACKETS ≡ 0 }
-        requires within { group < BATCH_GROUPS }
-        ensures sent { (before own rest : List (List ℕ)) → length before ≡ first → length own ≡ GROUP_PACKETS
-            → AreInterleaved self.old group before (own ++ rest)
-            → AreInterleaved self.new (group + 1) (before ++ own) rest }
-        ensures filler { self.new.filler ≡ self.old.filler }
-        ensures given { self.new.given ≡ self.old.given }
-    {
-        let FieldPlace { place, second } = field_place(first);
-        let sync = place == 0;
-        let (groups, _) = self.batch.as_chunks::<GROUP_BYTES>();
-        self.coder
-            .send(place, second, &groups[group], None, sync, &mut self.air);
-    }
-}
-
-/// Interleaves packets, the first of which has that place in its field. The bytes that leave the interleaver go to the
-/// front of the batch.
-fn interleave_front(coder: &mut Coder, place: u16, packets: &[[u8; PACKET]], batch: &mut [u8])
-    requires whole { length packets.now % GROUP_PACKETS ≡ 0 }
-    requires in_field { place + length packets.now ≤ FIELD_PACKETS }
-    requires room { CODEWORD * length packets.now ≤ length batch.old }
-    ensures ahead { IsAhead coder.old place packets.now (take (CODEWORD * length packets.now) batch.new) coder.new }
-    ensures long { length batch.new ≡ length batch.old }
-{
-    let len = CODEWORD * packets.len();
-    coder.interleave(place, packets, &mut batch[..len]);
 }

@@ -151,7 +151,7 @@ impl Filler {
 pub(crate) fn is_placeholder(bytes: &[u8; PACKET]) -> bool
     ensures { result ≡ spec.is_placeholder bytes.now }
 {
-    Packet(*bytes).pid() == OPERATIONS_PID
+    u16::from_be_bytes([bytes[1] & 0x1F, bytes[2]]) == OPERATIONS_PID
 }
 
 /// The sync byte of packet `index` of the feed, which `mark` sets.

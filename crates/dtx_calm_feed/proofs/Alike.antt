@@ -1,7 +1,6 @@
 -- Two lists of a feed's own segments of a group, which are as long as each other, are the same.
-use Rattle.std.proofs.Common.{◌≡◌, ◌⊎◌, inl, inr, ℕ, ℤ, ◌-◌, ◌%◌, ◌<◌, ◌==◌, Bool, true, false, cond}
-use Rattle.std.proofs.Common.{List, [], ◌∷◌, ◌++◌, length, drop, get_or, refl, sym, ap, subst, ◌∙◌, arith}
-use Rattle.std.specs.Prelude.{nat_le}
+use Rattle.std.proofs.Common.{◌≡◌, ◌⊎◌, inl, inr, ℕ, ℤ, ◌-◌, ◌%◌, ◌<◌, ◌==◌, Bool, true, false, cond, List, [], ◌∷◌}
+use Rattle.std.proofs.Common.{◌++◌, length, drop, get_or, refl, sym, ap, subst, ◌∙◌, arith, nat_le}
 use Rattle.dtx_frame.specs.Segments.{field_sync}
 use Rattle.dtx_coder.specs.Stream.{four_segments, last_of}
 use Rattle.dtx_exciter.specs.Emission.{segments_since, behind_field_sync}

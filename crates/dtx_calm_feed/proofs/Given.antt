@@ -1,10 +1,9 @@
--- What an exciter gives that is locked to a mark of a feed: nothing, or the feed's own segments.
-use Rattle.std.proofs.Common.{◌≡◌, ◌⊎◌, inl, inr, ℕ, ℤ, ◌+◌, ◌-◌, ◌/◌, ◌%◌, ◌<◌, ◌≤◌, ◌==◌, Bool, true, false}
-use Rattle.std.proofs.Common.{cond, Some, List, [], ◌∷◌, ◌++◌, length, drop, get_or, refl, sym, ap}
-use Rattle.std.proofs.Common.{ap₂, subst, ◌∙◌, arith}
-use Rattle.std.specs.Prelude.{is_ok, nat_le, slice_range}
-use Rattle.std.proofs.lemmas.Bool.{cases_lt, cond-false, cond-true, eqb-true, leb-true}
-use Rattle.std.proofs.lemmas.List.{length-drop, length-take-le}
+-- What an exciter gives that is locked to a mark of a feed, or was locked before it: nothing, or the feed's segments.
+use Rattle.std.proofs.Common.{◌≡◌, ◌⊎◌, inl, inr, ℕ, ℤ, ◌+◌, ◌-◌, ◌/◌, ◌%◌, ◌<◌, ◌≤◌, ◌==◌, Bool, true, false, cond}
+use Rattle.std.proofs.Common.{Some, List, [], ◌∷◌, ◌++◌, length, drop, get_or, refl, sym, ap, ap₂, subst, ◌∙◌, arith}
+use Rattle.std.proofs.Common.{is_ok, nat_le, slice_range, eqb-true, leb-true, length-drop, length-take-le, le-leb}
+use Rattle.std.proofs.Common.{length-append}
+use Rattle.std.proofs.lemmas.Bool.{cases_lt, cond-false, cond-true}
 use Rattle.dtx_frame.specs.Segments.{field_sync}
 use Rattle.dtx_coder.specs.Stream.{last_of}
 use Rattle.dtx_exciter.specs.Emission.{segments_since, sent_by, sent_at, sent_before, behind_field_sync, given_under}
@@ -14,9 +13,12 @@ use Rattle.dtx_exciter.proofs.InLifeLemmas.{counted_same}
 use Rattle.dtx_exciter.specs.Order.{Order, counting_order, orders}
 use Rattle.dtx_exciter.specs.Packets.{readings, under}
 use Rattle.dtx_exciter.specs.Told.{served}
-use Rattle.dtx_calm_feed.specs.Own.{own_data, own_segments}
-use Rattle.dtx_calm_feed.proofs.Since.{segments_part}
-use Rattle.dtx_calm_feed.proofs.Orders.{NeverSlips, own_since}
+use Rattle.dtx_calm_feed.specs.Own.{own_data, own_segments, IsLockedTo}
+use Rattle.dtx_calm_feed.proofs.Since.{segments_part, segments_held}
+use Rattle.dtx_calm_feed.proofs.Orders.{NeverSlips, own_since, IsNotBefore, later}
+use Rattle.dtx_ops.specs.declared.fields.Ops.{Ops}
+
+-- ---- where it is locked to the mark
 
 -- whole groups of a feed's packets l, from its mark x to n
 pub record IsWhole (l : List (List ℕ)) (x n : ℕ) : Type 0 where
@@ -172,3 +174,150 @@ gives_own a d l life x n r m h e =
     by_whole true f =
         subst (GivesOwn l n) (sym (cond-true (length t % 4 == 0) all [] f))
         (by_length (omega (arith, long, eqb-true (length t % 4) 0 f)) (cases_lt (n - x) 4))
+
+-- ---- where it was locked before the mark, in step with the feed: from an order of the feed on
+
+-- packets before the mark, in step with it, and an order of the feed k packets behind it
+record IsOrdered (base l : List (List ℕ)) (x n k : ℕ) (ops : Ops) : Type 0 where
+  pub whole : IsWhole l x n
+  pub in_step : length base % 624 ≡ 0
+  pub counts : counting_order (readings l) (x + k) ≡ Some ops
+  pub flushed : 52 ≤ k
+
+-- what is sent of the group j packets behind the mark
+sent_held : (a d : ℕ) (base l : List (List ℕ)) (x n k j : ℕ) (ops : Ops) → NeverSlips l → IsOrdered base l x n k ops
+    → k ≤ j → j % 4 ≡ 0 → x + j + 4 ≤ n
+    → IsNoneOr (own_data l (x + j)) (sent_at a d (base ++ slice_range l x n) (length base + j))
+unfolding sent_at
+sent_held a d base l x n k j ops r o b w h =
+    by_orders (orders (readings life) i) refl
+    (later life (length base + k) i ops (same k o.flushed (omega (arith, h, b)) ∙ o.counts) (omega (arith, b))
+    (omega (arith, s, w)))
+  where
+    life : List (List ℕ)
+    life = base ++ slice_range l x n
+
+    i : ℕ
+    i = length base + j
+
+    s : length base % 624 ≡ 0
+    s = o.in_step
+
+    m : x % 624 ≡ 0
+    m = o.whole.at_mark
+
+    inside : n ≤ length l
+    inside = o.whole.inside
+
+    same : (y : ℕ) → 52 ≤ y → x + y + 4 ≤ n
+        → counting_order (readings life) (length base + y) ≡ counting_order (readings l) (x + y)
+    same y f g = counted_same base l x (n - x) y m s (omega (arith, inside, g)) (omega (arith, g)) f
+
+    by_service : (order : Order) (older : List Order) (t : Bool) → orders (readings life) i ≡ order ∷ older
+        → length base + k ≤ order.place → is_ok (served a d (order ∷ older)) ≡ t
+        → IsNoneOr (own_data l (x + j)) (sent_by a d life i (order ∷ older))
+    by_service order older false e f g = inl (cond-false (is_ok (served a d (order ∷ older)))
+        (segments_since (order.place / 4) order.ops.states life (i / 4)) [] g)
+    by_service order older true e f g =
+        let st : Stands (readings life) (i + 1) order = force_stands (readings life) i order older e in
+        let behind : IsBehind order.place = counted_behind (readings life) order.place order.ops st.counts in
+        let below = st.below in
+        let four = behind.whole in
+        let far = o.flushed in
+        let y : ℕ = order.place - length base in
+        let at : length base + y ≡ order.place = omega (arith, f) in
+        let flushed : 52 ≤ y = omega (arith, f, far) in
+        let counts : counting_order (readings l) (x + y) ≡ Some order.ops =
+        sym (same y flushed (omega (arith, at, below, h))) ∙ ap (counting_order (readings life)) at ∙ st.counts in
+        inr (cond-true (is_ok (served a d (order ∷ older)))
+        (segments_since (order.place / 4) order.ops.states life (i / 4)) [] g
+        ∙ ap (λ p. segments_since (p / 4) order.ops.states life (i / 4)) (sym at)
+        ∙ segments_held base l x n y j order.ops.states s (record {
+          at_mark = m;
+          inside = inside;
+          whole = o.whole.whole;
+          flushed = flushed;
+          order = omega (arith, at, four, s);
+          later = omega (arith, at, below);
+          group = w;
+          within = h;
+        })
+        ∙ sym (own_since l (x + y) (x + j) order.ops r counts (omega (arith, at, below)) (omega (arith, m, w))
+        (omega (arith, inside, h))))
+
+    by_orders : (os : List Order) → orders (readings life) i ≡ os → IsNotBefore (length base + k) os
+        → IsNoneOr (own_data l (x + j)) (sent_by a d life i os)
+    by_orders [] e f = absurd f
+    by_orders (order ∷ older) e f = by_service order older (is_ok (served a d (order ∷ older))) e f refl
+
+group_held : (a d : ℕ) (base l : List (List ℕ)) (x n k j : ℕ) (ops : Ops) → NeverSlips l → IsOrdered base l x n k ops
+    → k + 4 ≤ j → x + j + 4 ≡ n
+    → GivesOwn l n (behind_field_sync (length base + j)
+    (sent_before a d (base ++ slice_range l x n) (length base + j))
+    (sent_at a d (base ++ slice_range l x n) (length base + j)))
+group_held a d base l x n k j ops r o b e =
+    let life : List (List ℕ) = base ++ slice_range l x n in
+    let w = o.whole.whole in
+    let m = o.whole.at_mark in
+    let s = o.in_step in
+    let at : x + j ≡ n - 4 = omega (arith, e) in
+    let back : x + (j - 4) ≡ n - 4 - 4 = omega (arith, e, b) in
+    let down : length base + (j - 4) ≡ length base + j - 4 = omega (arith, b) in
+    let same : (length base + j) % 624 ≡ (n - 4) % 624 = omega (arith, m, s, e) in
+    let front : List (List ℤ) = sent_before a d life (length base + j) in
+    let own : List (List ℤ) = sent_at a d life (length base + j) in
+    let earlier : IsNoneOr (own_data l (n - 4 - 4)) (sent_at a d life (length base + j - 4)) =
+    subst (λ i. IsNoneOr (own_data l (n - 4 - 4)) (sent_at a d life i)) down
+    (subst (λ i. IsNoneOr (own_data l i) (sent_at a d life (length base + (j - 4)))) back
+    (sent_held a d base l x n k (j - 4) ops r o (omega (arith, b)) (omega (arith, w, e, b)) (omega (arith, e, b)))) in
+    subst (GivesOwn l n) (sym (sync_place (length base + j) (n - 4) front own same))
+    (given_by l (n - 4) front own
+    (subst (IsNoneOr (own_data l (n - 4 - 4))) (sym (cond-true (nat_le 4 (length base + j))
+    (sent_at a d life (length base + j - 4)) [] (le-leb 4 (length base + j) (omega (arith, b))))) earlier)
+    (subst (λ i. IsNoneOr (own_data l i) own) at
+    (sent_held a d base l x n k j ops r o (omega (arith, b)) (omega (arith, w, e)) (omega (arith, e)))))
+
+gives_held : (a d : ℕ) (base l life : List (List ℕ)) (x n k : ℕ) (ops : Ops) → NeverSlips l → x % 624 ≡ 0
+    → n ≤ length l → length base % 624 ≡ 0 → counting_order (readings l) (x + k) ≡ Some ops → 52 ≤ k → x + k + 8 ≤ n
+    → under life ≡ Some (base ++ slice_range l x n) → GivesOwn l n (last_segments a d life)
+unfolding last_segments
+gives_held a d base l life x n k ops r m h s c f b e =
+    subst (λ o. GivesOwn l n (given_under a d o)) (sym e) (by_whole (length t % 4 == 0) refl)
+  where
+    t : List (List ℕ)
+    t = base ++ slice_range l x n
+
+    long : length t ≡ length base + (n - x)
+    long = length-append base (slice_range l x n)
+        ∙ ap (λ i. length base + i) (length-take-le (n - x) (drop x l) (omega (arith, h, length-drop x l)))
+
+    all : List (List ℤ)
+    all = behind_field_sync (length t - 4) (sent_before a d t (length t - 4)) (sent_at a d t (length t - 4))
+
+    by_whole : (z : Bool) → (length t % 4 == 0) ≡ z → GivesOwn l n (given_under a d (Some t))
+    by_whole false g = inl (cond-false (length t % 4 == 0) all [] g)
+    by_whole true g =
+        let four : length t % 4 ≡ 0 = eqb-true (length t % 4) 0 g in
+        let at : length base + (n - x - 4) ≡ length t - 4 = omega (arith, long, b) in
+        subst (GivesOwn l n) (sym (cond-true (length t % 4 == 0) all [] g))
+        (subst (λ i. GivesOwn l n (behind_field_sync i (sent_before a d t i) (sent_at a d t i))) at
+        (group_held a d base l x n k (n - x - 4) ops r (record {
+          whole = record { at_mark = m; inside = h; whole = omega (arith, four, long, s) };
+          in_step = s;
+          counts = c;
+          flushed = f;
+        }) (omega (arith, b)) (omega (arith, b))))
+
+pub locked_gives : (a d : ℕ) (feed life : List (List ℕ)) (n : ℕ) → NeverSlips feed → IsLockedTo feed life n
+    → GivesOwn feed n (last_segments a d life)
+locked_gives a d feed life n r o = by_order o.ordered
+  where
+    by_order : (o.before ≡ []) ⊎ ((k : ℕ) × (ops : Ops) × (counting_order (readings feed) k ≡ Some ops)
+        × (o.mark + 52 ≤ k) × (k + 8 ≤ n)) → GivesOwn feed n (last_segments a d life)
+    by_order (inl e) =
+        gives_own a d feed life o.mark n r o.at_mark o.inside
+        (o.given ∙ ap (λ base. Some (base ++ slice_range feed o.mark n)) e)
+    by_order (inr (k, ops, c, f, b)) =
+        let at : o.mark + (k - o.mark) ≡ k = omega (arith, f) in
+        gives_held a d o.before feed life o.mark n (k - o.mark) ops r o.at_mark o.inside o.in_step
+        (ap (counting_order (readings feed)) at ∙ c) (omega (arith, f)) (omega (arith, f, b)) o.given

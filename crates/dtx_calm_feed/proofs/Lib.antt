@@ -1,7 +1,6 @@
 pub mod Since
 pub mod Orders
 pub mod Given
-pub mod Held
 pub mod Alike
 pub mod Marks
 pub mod Noted

@@ -1,10 +1,9 @@
 -- An anchor of packets from a mark of them on.
 use Rattle.std.proofs.Common.{◌≡◌, inl, ℕ, ◌+◌, ◌-◌, ◌%◌, ◌<◌, ◌≤◌, ◌==◌, ◌&&◌, Bool, true, false, cond, not, Some}
 use Rattle.std.proofs.Common.{None, option_map, List, [], length, take, drop, refl, sym, ap, ap₂, ◌∙◌, arith}
-use Rattle.std.specs.Prelude.{slice_index_or, slice_range}
+use Rattle.std.proofs.Common.{slice_index_or, slice_range, eq-eqb, eqb-true, get_or-drop, length-drop, take_all}
 use Rattle.std.specs.List.{take-map}
-use Rattle.std.proofs.lemmas.Bool.{eq-eqb, eqb-true}
-use Rattle.std.proofs.lemmas.List.{drop-map, get_or-drop, get_or-map, length-drop, take_all}
+use Rattle.std.proofs.lemmas.List.{drop-map, get_or-map}
 use Rattle.dtx_packets.specs.Packet.{sync_of}
 use Rattle.dtx_cadence.specs.Anchor.{anchor, anchor_to, ends_lock, has_mark}
 use Rattle.dtx_cadence.proofs.NextAnchorLemmas.{anchor_below, anchor_is_mark, anchor_take, none_ended, stays}

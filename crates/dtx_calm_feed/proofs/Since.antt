@@ -1,11 +1,10 @@
 -- The states and the segments since a group go on behind a later one.
 use Rattle.std.proofs.Common.{◌≡◌, ℕ, ◌+◌, ◌-◌, ◌*◌, ◌/◌, ◌%◌, ◌<◌, ◌≤◌, List, ◌++◌, length, take, drop, sym, ap, ap₂}
-use Rattle.std.proofs.Common.{◌∙◌, arith}
-use Rattle.std.specs.Prelude.{slice_range}
-use Rattle.std.proofs.lemmas.List.{drop-append-le, length-drop, length-take-le, take-append-drop}
+use Rattle.std.proofs.Common.{◌∙◌, arith, slice_range, length-drop, length-take-le, take-append-drop}
+use Rattle.std.proofs.lemmas.List.{drop-append-le}
 use Rattle.dtx_lists.proofs.Range.{map-range_same}
 use Rattle.dtx_trellis.specs.Groups.{levels_of, states_after}
-use Rattle.dtx_trellis.proofs.JoinsLemmas.{levels_append, states_append}
+use Rattle.dtx_trellis.proofs.JoinsLemmas.{levels_append}
 use Rattle.dtx_trellis.specs.Pairs.{group_place}
 use Rattle.dtx_coder.specs.Along.{levels_since, states_since}
 use Rattle.dtx_coder.proofs.BytesLemmas.{length-whole, whole_append}
@@ -49,15 +48,6 @@ length-between w g h l m =
 place_on : (g h : ℕ) → g ≤ h → group_place (4 * g % 312) (h - g) ≡ 4 * h % 312
 unfolding group_place
 place_on g h l = let e : (4 * g % 312 + 4 * (h - g)) % 312 ≡ 4 * h % 312 = omega (arith, l) in e
-
-pub states_on : (w : List (List ℕ)) (g h : ℕ) (q : List ℕ) → g ≤ h → 4 * h ≤ length w
-    → states_since g q w ≡ states_since h (states_since g q (take (4 * h) w)) w
-unfolding states_since
-states_on w g h q l m =
-    ap (states_after (4 * g % 312) q) (bytes_on w g h l m)
-    ∙ states_append (4 * g % 312) (h - g) q (between w g h) (drop (828 * h) (whole_groups w)) (length-between w g h l m)
-    ∙ ap (λ k. states_after k (states_after (4 * g % 312) q (between w g h)) (drop (828 * h) (whole_groups w)))
-    (place_on g h l)
 
 levels_on : (w : List (List ℕ)) (g h : ℕ) (q : List ℕ) → g ≤ h → 4 * h ≤ length w
     → levels_since g q w

@@ -1,20 +1,27 @@
 -- Packets that are interleaved at once and sent group by group.
-use Rattle.std.proofs.Common.{◌≡◌, ℕ, ◌+◌, ◌*◌, ◌%◌, ℤ, List, [], ◌∷◌, ◌++◌, length, take, drop, refl, sym, ap, ap₂}
-use Rattle.std.proofs.Common.{◌∙◌, subst, arith}
-use Rattle.std.proofs.lemmas.List.{drop_at, take-append-drop, take_at, length-append, length-take-le}
+use Rattle.std.proofs.Common.{◌≡◌, ◌≤◌, ◌↔◌, ◌==◌, nat_le, IsTrue, Bool, true, false, ℕ, ◌+◌, ◌-◌, ◌*◌, ◌%◌, ℤ, List}
+use Rattle.std.proofs.Common.{[], ◌∷◌, ◌++◌, length, take, drop, refl, sym, ap, ap₂, ◌∙◌, subst, arith}
+use Rattle.std.proofs.Math.Seq.{take-add}
+use Rattle.std.proofs.lemmas.Bool.{leb-true, le-leb, eqb-true, eq-eqb}
+use Rattle.std.proofs.lemmas.Grind.{flat_map-append}
+use Rattle.std.proofs.lemmas.List.{drop_at, take-append-drop, take_at, length-append, length-take-le, append_assoc}
+use Rattle.std.proofs.lemmas.List.{append-nil, drop-drop, drop_all, take_all, length-drop}
+use Rattle.std.proofs.lemmas.List.FromFn.{length-map-range_with_len}
 use Rattle.dtx_laws.specs.Branches.{Branching, leaving_all, after_all}
 use Rattle.dtx_laws.proofs.PlacesLemmas.{leaving_append, after_append, length_leaving}
+use Rattle.dtx_sizes.specs.Fields.{field_place}
+use Rattle.dtx_sizes.specs.declared.fields.FieldPlace.{FieldPlace}
 use Rattle.dtx_trellis.specs.Groups.{levels_of, states_after}
 use Rattle.dtx_trellis.specs.Pairs.{group_place}
 use Rattle.dtx_coder.specs.Coded.{coded_from}
-use Rattle.dtx_coder.specs.Stream.{segment, last_of, symbols_of}
-use Rattle.dtx_coder.specs.Groups.{Coding, Group, IsCoded, sent_segments, bytes_of, group_levels, air_segments}
-use Rattle.dtx_coder.specs.Groups.{after_group, stream_coding, IsNextGroup}
-use Rattle.dtx_coder.specs.Batches.{IsSent, IsAhead, interleaved_as, after_bytes, segments_of_bytes}
-use Rattle.dtx_coder.specs.Batches.{segments_by_bytes, after_all_bytes}
+use Rattle.dtx_coder.specs.Stream.{segment, four_segments, last_of, symbols_of, a53, a53_symbols}
+use Rattle.dtx_coder.specs.Groups.{Coding, Group, IsCoded, StandsFor, sent_segments, bytes_of, group_levels}
+use Rattle.dtx_coder.specs.Groups.{air_segments, after_group, stream_coding, IsNextGroup}
+use Rattle.dtx_coder.specs.Batches.{InterleavedGroup, IsSent, IsAhead, AreInterleaved, interleaved_as, after_bytes}
+use Rattle.dtx_coder.specs.Batches.{levels_of_bytes, segments_of_bytes, segments_by_bytes, after_all_bytes}
 use Rattle.dtx_coder.specs.Runs.{AreInTurn, after_groups, segments_of_groups, group_packets}
 use Rattle.dtx_coder.proofs.BytesLemmas.{coded_append, coded_place, length-coded}
-use Rattle.dtx_coder.proofs.NextLemmas.{same_coding, next_stands}
+use Rattle.dtx_coder.proofs.NextLemmas.{same_coding, next_stands, next_segments}
 use Rattle.dtx_coder.proofs.RunsLemmas.{length-bytes_of}
 
 -- ---- a group that was interleaved alone
@@ -255,3 +262,183 @@ stream_on packets rest ahead new g bytes left count sent h n long s =
     (next_stands (stream_coding packets) packets g refl (next_of packets (length packets) _ _ ahead g h n))
     (ahead_on (stream_coding packets) ahead new g rest bytes left count sent
     (at_place packets (g.packets ++ rest) (bytes ++ left) ahead g h n) n.four long s))
+
+-- ---- a batch
+
+second_is : (place : ℕ) → IsTrue (nat_le 312 place) ↔ (312 ≤ place)
+second_is place = (leb-true 312 place, le-leb 312 place)
+
+-- the group behind some packets
+next_group : (packets : List (List ℕ)) (from : List ℕ) (at : FieldPlace) (own : List (List ℕ))
+    → length packets % 4 ≡ 0 → length own ≡ 4 → at ≡ field_place (length packets)
+    → IsNextGroup packets from
+    (record { first = at.place; second = at.second; sync = at.place == 0; from = from; packets = own })
+next_group packets from at own whole four is = record {
+  whole = whole;
+  four = four;
+  place = ap (λ (p : FieldPlace). p.place) is;
+  second = subst (λ (b : Bool). IsTrue b ↔ (312 ≤ length packets % 624))
+      (sym (ap (λ (p : FieldPlace). p.second) is)) (second_is (length packets % 624));
+  sync = (eqb-true at.place 0, eq-eqb at.place 0);
+  states = refl;
+}
+
+-- Group i of the batch is sent as these bytes, by a coder that has sent those before it.
+pub record SendsNext (before packets : List (List ℕ)) (batch : List ℕ) (i : ℕ) (at : FieldPlace) (bytes : List ℕ)
+    (ahead new : Coding) (count : ℕ) (sent : List ℤ) : Type 0 where
+  pub place : at ≡ field_place (length before + 4 * i)
+  pub whole : (length before + 4 * i) % 4 ≡ 0
+  pub within : 4 * i + 4 ≤ length packets
+  pub room : 828 * i + 828 ≤ length batch
+  pub bytes_are : bytes ≡ take 828 (drop (828 * i) batch)
+  pub interleaved : AreInterleaved ahead batch before packets i
+  pub group : IsSent ahead (record {
+    first = at.place;
+    second = at.second;
+    sync = at.place == 0;
+    from = ahead.states;
+    bytes = bytes;
+  }) new count sent
+
+next_four : (i : ℕ) → 4 * i + 4 ≡ 4 * (i + 1)
+next_four i = omega arith
+
+next_bytes : (i : ℕ) → 828 * i + 828 ≡ 828 * (i + 1)
+next_bytes i = omega arith
+
+-- its packets stand behind those before
+four_on : (before packets : List (List ℕ)) (i : ℕ)
+    → (before ++ take (4 * i) packets) ++ take 4 (drop (4 * i) packets) ≡ before ++ take (4 * (i + 1)) packets
+four_on before packets i =
+    append_assoc before (take (4 * i) packets) (take 4 (drop (4 * i) packets))
+    ∙ ap (λ z. before ++ z) (sym (take-add (4 * i) 4 packets) ∙ ap (λ n. take n packets) (next_four i))
+
+four_left : (packets : List (List ℕ)) (i : ℕ)
+    → drop (4 * i) packets ≡ take 4 (drop (4 * i) packets) ++ drop (4 * (i + 1)) packets
+four_left packets i =
+    sym (take-append-drop 4 (drop (4 * i) packets))
+    ∙ ap (λ z. take 4 (drop (4 * i) packets) ++ z) (drop-drop 4 (4 * i) packets
+    ∙ ap (λ n. drop n packets) (next_four i))
+
+-- and its bytes before those of the others
+bytes_left : (batch : List ℕ) (i n : ℕ) → 4 * i + 4 ≤ n → take (207 * (n - 4 * i)) (drop (828 * i) batch)
+    ≡ take 828 (drop (828 * i) batch) ++ take (207 * (n - 4 * (i + 1))) (drop (828 * (i + 1)) batch)
+bytes_left batch i n within =
+    ap (λ m. take m (drop (828 * i) batch))
+    (let e : 207 * (n - 4 * i) ≡ 828 + 207 * (n - 4 * (i + 1)) = omega (arith, within) in e)
+    ∙ take-add 828 (207 * (n - 4 * (i + 1))) (drop (828 * i) batch)
+    ∙ ap (λ y. take 828 (drop (828 * i) batch) ++ take (207 * (n - 4 * (i + 1))) y) (drop-drop 828 (828 * i) batch
+    ∙ ap (λ m. drop m batch) (next_bytes i))
+
+-- What is known of the group before it is sent. `front` is what is sent before.
+record IsNextOf (front own rest : List (List ℕ)) (at : FieldPlace) (bytes left : List ℕ) (ahead : Coding)
+    : Type 0 where
+  pub interleaved : IsAhead (stream_coding front) (length front) (own ++ rest) (bytes ++ left) ahead
+  pub next : IsNextGroup front ahead.states
+      (record { first = at.place; second = at.second; sync = at.place == 0; from = ahead.states; packets = own })
+  pub long : length bytes ≡ 828
+
+next_of_batch : (before packets : List (List ℕ)) (batch : List ℕ) (i : ℕ) (at : FieldPlace) (bytes : List ℕ)
+    (ahead new : Coding) (count : ℕ) (sent : List ℤ)
+    → SendsNext before packets batch i at bytes ahead new count sent
+    → IsNextOf (before ++ take (4 * i) packets) (take 4 (drop (4 * i) packets)) (drop (4 * (i + 1)) packets) at bytes
+    (take (207 * (length packets - 4 * (i + 1))) (drop (828 * (i + 1)) batch)) ahead
+next_of_batch before packets batch i at bytes ahead new count sent s =
+    let within = s.within in
+    let front : List (List ℕ) = before ++ take (4 * i) packets in
+    let many : length front ≡ length before + 4 * i =
+    length-append before (take (4 * i) packets)
+    ∙ ap (λ n. length before + n) (length-take-le (4 * i) packets (omega (arith, within))) in
+    let left : List ℕ = take (207 * (length packets - 4 * (i + 1))) (drop (828 * (i + 1)) batch) in
+    record {
+      interleaved =
+          subst (λ ps. IsAhead (stream_coding front) (length front) ps (bytes ++ left) ahead) (four_left packets i)
+          (subst (λ y. IsAhead (stream_coding front) (length front) (drop (4 * i) packets) y ahead)
+          (bytes_left batch i (length packets) within ∙ ap (λ y. y ++ left) (sym s.bytes_are)) s.interleaved.ahead);
+      next = next_group front ahead.states at (take 4 (drop (4 * i) packets)) (ap (λ n. n % 4) many ∙ s.whole)
+          (length-take-le 4 (drop (4 * i) packets) (omega (arith, within, length-drop (4 * i) packets)))
+          (s.place ∙ ap field_place (sym many));
+      long = ap length s.bytes_are
+          ∙ length-take-le 828 (drop (828 * i) batch)
+          (let room = s.room in omega (arith, room, length-drop (828 * i) batch));
+    }
+
+pub batch_on : (before packets : List (List ℕ)) (batch : List ℕ) (i : ℕ) (at : FieldPlace) (bytes : List ℕ)
+    (ahead new : Coding) (count : ℕ) (sent : List ℤ)
+    → SendsNext before packets batch i at bytes ahead new count sent
+    → AreInterleaved new batch before packets (i + 1)
+batch_on before packets batch i at bytes ahead new count sent s =
+    let n = next_of_batch before packets batch i at bytes ahead new count sent s in
+    record {
+      ahead = subst (λ ps. IsAhead (stream_coding ps) (length ps) (drop (4 * (i + 1)) packets)
+          (take (207 * (length packets - 4 * (i + 1))) (drop (828 * (i + 1)) batch)) new) (four_on before packets i)
+          (stream_on _ _ ahead new _ bytes _ count sent n.interleaved n.next n.long s.group);
+    }
+
+-- the segments of the group are those by which the stream is longer
+pub batch_symbols : (before packets : List (List ℕ)) (batch : List ℕ) (i : ℕ) (at : FieldPlace) (bytes : List ℕ)
+    (ahead new : Coding) (count : ℕ) (sent : List ℤ)
+    → SendsNext before packets batch i at bytes ahead new count sent
+    → a53_symbols (before ++ take (4 * (i + 1)) packets)
+    ≡ a53_symbols (before ++ take (4 * i) packets) ++ take (832 * count) sent
+unfolding a53_symbols
+batch_symbols before packets batch i at bytes ahead new count sent s =
+    let n = next_of_batch before packets batch i at bytes ahead new count sent s in
+    let front : List (List ℕ) = before ++ take (4 * i) packets in
+    let group : Group = record {
+      first = at.place;
+      second = at.second;
+      sync = at.place == 0;
+      from = ahead.states;
+      packets = take 4 (drop (4 * i) packets);
+    } in
+    let is : IsCoded (stream_coding front) group _ count sent =
+    stream_coded front _ ahead new group bytes _ count sent n.interleaved n.next n.long s.group in
+    ap (λ ps. symbols_of (a53 ps)) (sym (four_on before packets i))
+    ∙ ap symbols_of (next_segments (stream_coding front) front group refl
+    (next_of front (length front) _ _ ahead group n.interleaved n.next))
+    ∙ flat_map-append (λ (s : List ℤ). s) (a53 front) (air_segments (stream_coding front) group)
+    ∙ ap (λ z. symbols_of (a53 front) ++ z) (sym is.symbols)
+
+-- the packets of a batch of which nothing is sent yet
+pub batch_begun : (before packets : List (List ℕ)) (bytes rest : List ℕ) (place : ℕ) (old new : Coding)
+    → old ≡ stream_coding before → place ≡ length before % 312 → IsAhead old place packets bytes new
+    → AreInterleaved new (bytes ++ rest) before packets 0
+batch_begun before packets bytes rest place old new stands at h = record {
+  ahead = subst (λ (y : List ℕ). IsAhead (stream_coding (before ++ [])) (length (before ++ [])) packets y new)
+      (sym (take_at bytes rest (207 * (length packets - 4 * 0)) (omega (arith, long))))
+      (subst (λ (ps : List (List ℕ)). IsAhead (stream_coding ps) (length ps) packets bytes new)
+      (sym (append-nil before)) placed);
+}
+  where
+    long : length bytes ≡ 207 * length packets
+    long = ap length h.left ∙ length_leaving 52 old.branches (coded_from place packets) ∙ length-coded place packets
+
+    placed : IsAhead (stream_coding before) (length before) packets bytes new
+    placed =
+        ahead_place (stream_coding before) new place (length before) packets bytes (omega (arith, at))
+        (subst (λ (v : Coding). IsAhead v place packets bytes new) stands h)
+
+-- when all groups are sent, the coder stands for their packets too
+pub batch_sent : (before packets : List (List ℕ)) (batch : List ℕ) (i : ℕ) (coder : Coding) → length packets ≤ 4 * i
+    → AreInterleaved coder batch before packets i → StandsFor coder (before ++ packets)
+batch_sent before packets batch i coder all h =
+    let front : List (List ℕ) = before ++ take (4 * i) packets in
+    let left : List ℕ = take (207 * (length packets - 4 * i)) (drop (828 * i) batch) in
+    ahead_all (stream_coding front) coder (length front) left
+    (subst (λ (ps : List (List ℕ)). IsAhead (stream_coding front) (length front) ps left coder)
+    (drop_all (4 * i) packets all) h.ahead)
+    ∙ ap (λ ps. stream_coding (before ++ ps)) (take_all (4 * i) packets all)
+
+length_segments : (sync : Bool) (last : List ℤ) (second : Bool) (zs : List ℕ)
+    → length (sent_segments last sync second zs) ≤ 5
+unfolding four_segments
+length_segments true last second zs = omega (arith, length-map-range_with_len (segment zs) 0 4)
+length_segments false last second zs = omega (arith, length-map-range_with_len (segment zs) 0 4)
+
+-- a group has at most five segments
+pub few_sent : (coder new : Coding) (group : InterleavedGroup) (count : ℕ) (sent : List ℤ)
+    → IsSent coder group new count sent → count ≤ 5
+unfolding segments_of_bytes
+few_sent coder new group count sent is =
+    omega (arith, is.segments, length_segments group.sync coder.last group.second (levels_of_bytes group))

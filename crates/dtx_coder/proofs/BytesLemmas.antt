@@ -1,9 +1,8 @@
 -- The coded and interleaved bytes of packets that stand behind other packets.
 use Rattle.std.proofs.Common.{◌≡◌, ℕ, ◌+◌, ◌*◌, ◌/◌, ◌%◌, ◌<◌, List, [], ◌∷◌, ◌++◌, length, take, drop, map, get_or}
-use Rattle.std.proofs.Common.{bit_xor, refl, sym, ap, ap₂, ◌∙◌, arith, lit<, zero-add}
+use Rattle.std.proofs.Common.{bit_xor, refl, sym, ap, ap₂, ◌∙◌, arith, lit<, zero-add, append-nil, length-append}
+use Rattle.std.proofs.Common.{length-take-le, take_all, take_at, take-take, take-append-drop}
 use Rattle.std.specs.List.{range_with_len}
-use Rattle.std.proofs.lemmas.List.{append-nil, length-append, length-take-le, take_all, take_at, take-take}
-use Rattle.std.proofs.lemmas.List.{take-append-drop}
 use Rattle.dtx_lists.proofs.Enumerated.{pieces_append, length-pieces, piece_at}
 use Rattle.dtx_laws.specs.Words.{codeword}
 use Rattle.dtx_laws.specs.Branches.{leaving_all, after_all}

@@ -1,10 +1,10 @@
 -- Packets that are interleaved at once, and sent group by group (ATSC A/53 Part 2, interleaving and trellis coding).
-use Rattle.std.specs.Prelude.{ℕ, ℤ, ◌≡◌, ◌*◌, Bool, List, [], ◌∷◌, ◌++◌, length, take, drop}
+use Rattle.std.specs.Prelude.{ℕ, ℤ, ◌≡◌, ◌-◌, ◌*◌, Bool, List, [], ◌∷◌, ◌++◌, length, take, drop}
 use Rattle.dtx_laws.specs.Branches.{leaving_all, after_all}
 use Rattle.dtx_trellis.specs.Groups.{levels_of, states_after}
 use Rattle.dtx_coder.specs.Coded.{coded_from}
 use Rattle.dtx_coder.specs.Stream.{segment, last_of, symbols_of}
-use Rattle.dtx_coder.specs.Groups.{Coding, Group, sent_segments}
+use Rattle.dtx_coder.specs.Groups.{Coding, Group, sent_segments, stream_coding}
 
 -- A group whose packets have left the interleaver as these bytes: the place of its first packet in a field, whether
 -- this is a second field, and whether a field sync stands before the group. Also the states from which it is coded, and
@@ -53,6 +53,13 @@ pub record IsAhead (held : Coding) (first : ℕ) (packets : List (List ℕ)) (by
     : Type 0 where
   pub left : bytes ≡ leaving_all 52 held.branches (coded_from first packets)
   pub coder : ahead ≡ record held { branches = after_all 52 held.branches (coded_from first packets) }
+
+-- A batch: the coder has interleaved packets of a stream at once, those behind `before`, and has sent their groups
+-- before this one. But for its branches it stands for what is sent. The bytes of the other packets stand in the batch
+-- from this group on.
+pub record AreInterleaved (coder : Coding) (batch : List ℕ) (before packets : List (List ℕ)) (group : ℕ) : Type 0 where
+  pub ahead : IsAhead (stream_coding (before ++ take (4 * group) packets)) (length (before ++ take (4 * group) packets))
+      (drop (4 * group) packets) (take (207 * (length packets - 4 * group)) (drop (828 * group) batch)) coder
 
 -- the segments of groups that are sent one after another, 828 bytes each
 unfoldable pub segments_by_bytes : Coding → List Group → List ℕ → List (List ℤ)

@@ -20,20 +20,13 @@ use dtx_trellis::{States, Twelve};
 use std::alloc::{AllocError, Global};
 use std::marker::Model;
 
-/// How many packets are interleaved at once, where speed counts: a sixth of a field. Their codewords are whole turns
-/// over the branches, and long enough that each branch moves its bytes by block copies.
-pub const BATCH_PACKETS: usize = 52;
-
-/// How many bytes their codewords have.
-pub const BATCH_BYTES: usize = CODEWORD * BATCH_PACKETS;
-
 /// Codes the packets of a stream, four at a time, to the symbols of their segments (ATSC A/53 Part 2). Contracts see
 /// the value as the states of its twelve trellis coders, the last twelve symbols that it gave, and the interleaver's
 /// branches.
 ///
 /// `group` does all for one group. It is faster to interleave many packets by one call of `interleave`, and then to
-/// `send` their groups one by one. The result is the same (`laws::batches`). This needs that no group's states depend
-/// on later packets.
+/// `send` their groups one by one, as a [`Batch`](crate::Batch) does. The result is the same (`laws::batches`). This
+/// needs that no group's states depend on later packets.
 #[derive(Drop)]
 pub struct Coder {
     outer: OuterCoding,

@@ -2,6 +2,7 @@
 #![tactic(auto)]
 
 mod air;
+mod batch;
 mod coder;
 pub mod laws;
 mod outer_coding;
@@ -9,5 +10,6 @@ mod sender;
 mod tables;
 
 pub use air::{AIR_SEGMENTS, AIR_SYMBOLS, Air};
-pub use coder::{BATCH_BYTES, BATCH_PACKETS, Coder};
+pub use batch::{BATCH_BYTES, BATCH_PACKETS, Batch};
+pub use coder::Coder;
 pub use tables::Tables;

@@ -1,6 +1,6 @@
 -- Two transmitters in one stretch, and its first line.
 use Rattle.std.proofs.Common.{◌≡◌, ℕ, suc, ◌+◌, ◌-◌, ◌*◌, ◌/◌, ◌%◌, ◌≤◌, Some, List, [], ◌∷◌, ◌++◌, length, map, drop}
-use Rattle.std.proofs.Common.{refl, sym, ap, subst, ◌∙◌, arith}
+use Rattle.std.proofs.Common.{refl, ap, subst, ◌∙◌, arith}
 use Rattle.std.specs.Prelude.{slice_range, ℤ, pos, ◌-ℤ◌, ◌*ℤ◌}
 use Rattle.std.specs.List.{range_with_len, filter_map, cons_option}
 use Rattle.std.proofs.lemmas.List.{drop_at}
@@ -19,7 +19,7 @@ use Rattle.dtx_exciter.proofs.LockstepIsLemmas.{lockstep_is}
 -- ---- segments
 
 -- those from the stretch on
-from_stretch : (a d : ℕ) (z : ℤ) (feed earlier : List (List ℕ)) (mark end k : ℕ) → IsFeed a d z feed
+pub from_stretch : (a d : ℕ) (z : ℤ) (feed earlier : List (List ℕ)) (mark end k : ℕ) → IsFeed a d z feed
     → IsStretch a feed (locked_from earlier mark) mark end k
     → drop (length (before_stretch a d earlier feed mark k)) (emission a d (earlier ++ slice_range feed mark end))
     ≡ stretch feed k end
@@ -27,18 +27,6 @@ from_stretch a d z feed earlier mark end k f s =
     ap (drop (length (before_stretch a d earlier feed mark k))) (lockstep_is a d z feed earlier mark end k f s)
     ∙ drop_at (before_stretch a d earlier feed mark k) (stretch feed k end)
     (length (before_stretch a d earlier feed mark k)) refl
-
-pub segments_same : (a b delay_a delay_b : ℕ) (offset_a offset_b : ℤ) (feed earlier_a earlier_b : List (List ℕ))
-    (mark_a mark_b end k : ℕ) → IsFeed a delay_a offset_a feed → IsFeed b delay_b offset_b feed
-    → IsStretch a feed (locked_from earlier_a mark_a) mark_a end k
-    → IsStretch b feed (locked_from earlier_b mark_b) mark_b end k
-    → drop (length (before_stretch a delay_a earlier_a feed mark_a k))
-    (emission a delay_a (earlier_a ++ slice_range feed mark_a end))
-    ≡ drop (length (before_stretch b delay_b earlier_b feed mark_b k))
-    (emission b delay_b (earlier_b ++ slice_range feed mark_b end))
-segments_same a b delay_a delay_b offset_a offset_b feed earlier_a earlier_b mark_a mark_b end k f g s t =
-    from_stretch a delay_a offset_a feed earlier_a mark_a end k f s
-    ∙ sym (from_stretch b delay_b offset_b feed earlier_b mark_b end k g t)
 
 -- ---- moments
 

@@ -13,7 +13,7 @@ use Rattle.std.proofs.lemmas.List.Sums.{take_while-cons}
 use Rattle.dtx_ops.specs.Paging.{page_of, pages_of}
 use Rattle.dtx_ops.specs.declared.fields.Entry.{Entry}
 use Rattle.dtx_ops.specs.declared.fields.Ops.{Ops}
-use Rattle.dtx_exciter.specs.declared.pages.Held.{Held}
+use Rattle.dtx_exciter.specs.declared.pages.PageEntry.{PageEntry}
 use Rattle.dtx_exciter.specs.declared.pages.Pages.{Pages}
 use Rattle.dtx_exciter.specs.Order.{Order}
 use Rattle.dtx_exciter.specs.Pages.{page, pages, entry_of, of_one_cycle, all_pages_told, is_told, listing}
@@ -29,14 +29,14 @@ pub held_entry : (a : ℕ) (r : List Order) (p : Pages) → HoldsPages a r p
     → option_map (λ h. h.entry) p.held ≡ entry_in_force a r
 unfolding entry_in_force
 held_entry a r p k =
-    ap (option_map (λ (h : Held). h.entry)) k.cycle.held ∙ by_listing (listing a (of_one_cycle r))
+    ap (option_map (λ (h : PageEntry). h.entry)) k.cycle.held ∙ by_listing (listing a (of_one_cycle r))
   where
     by_entry : (n : ℕ) (o : Option Entry)
-        → option_map (λ (h : Held). h.entry) (option_map (λ e. record { page = n; entry = e }) o) ≡ o
+        → option_map (λ (h : PageEntry). h.entry) (option_map (λ e. record { page = n; entry = e }) o) ≡ o
     by_entry n None = refl
     by_entry n (Some e) = refl
 
-    by_listing : (o : Option Order) → option_map (λ (h : Held). h.entry) (option_and_then (held_of a) o)
+    by_listing : (o : Option Order) → option_map (λ (h : PageEntry). h.entry) (option_and_then (held_of a) o)
         ≡ option_and_then (λ x. entry_of a x.ops) o
     by_listing None = refl
     by_listing (Some l) = by_entry (page l) (entry_of a l.ops)
@@ -138,7 +138,7 @@ held_none a k (Some l) = by_entry (entry_of a l.ops) refl
         ap (λ y. held_after k None (option_map (λ z. record { page = page l; entry = z }) y)) e
         ∙ stays x e (k == page l)
 
-held_more : (a : ℕ) (o : Order) (c : List Order) (h : Option Held) → h ≡ option_and_then (held_of a) (listing a c)
+held_more : (a : ℕ) (o : Order) (c : List Order) (h : Option PageEntry) → h ≡ option_and_then (held_of a) (listing a c)
     → held_after (page o) (entry_of a o.ops) h ≡ option_and_then (held_of a) (listing a (o ∷ c))
 held_more a o c h e = by_entry (entry_of a o.ops) refl
   where

@@ -41,7 +41,7 @@ locked_here earlier feed mark m r = record {
 }
 
 -- from the third mark on
-locked_third : (a d : ℕ) (y : ℤ) (earlier feed : List (List ℕ)) (mark : ℕ) → IsFeed a d y feed → mark % 624 ≡ 0
+pub locked_third : (a d : ℕ) (y : ℤ) (earlier feed : List (List ℕ)) (mark : ℕ) → IsFeed a d y feed → mark % 624 ≡ 0
     → mark + 1248 ≤ length feed → IsLocked earlier feed mark (mark + 1248)
 locked_third a d y earlier feed mark f m l = record {
   at_mark = omega (arith, m);

@@ -3,7 +3,6 @@ use Rattle.std.proofs.Common.{◌≡◌, ℕ, ℤ, ◌%◌, ◌<◌, false, Opti
 use Rattle.std.proofs.Common.{take, set, replicate, refl, sym, ap, subst, ◌∙◌, arith}
 use Rattle.std.proofs.lemmas.List.{map-set, take_more_set, length-map}
 use Rattle.dtx_packets.specs.declared.packet.Packet.{Packet}
-use Rattle.dtx_packets.specs.Packet.{sync_of}
 use Rattle.dtx_cadence.specs.declared.anchor.Lock.{Lock}
 use Rattle.dtx_cadence.specs.declared.anchor.Seen.{Seen}
 use Rattle.dtx_cadence.specs.declared.anchor.Seen.TheVariants.{Free, Start, Lost, At}
@@ -26,7 +25,7 @@ use Rattle.dtx_exciter.specs.Kept.{Joins}
 use Rattle.dtx_exciter.specs.declared.pages.Pages.{Pages}
 use Rattle.dtx_exciter.specs.HeldPages.{HoldsPages}
 use Rattle.dtx_exciter.proofs.HeldPagesLemmas.{nothing_holds}
-use Rattle.dtx_exciter.proofs.UnderLemmas.{Goes, goes, syncs_push, under_nothing, syncs_nothing}
+use Rattle.dtx_exciter.proofs.UnderLemmas.{Goes, Sees, goes_seen, under_nothing, syncs_nothing}
 use Rattle.dtx_exciter.proofs.EndsLemmas.{last_single}
 
 -- ---- nothing given
@@ -66,23 +65,6 @@ keeps_single a d e packets packet coder flushed sent pages held some coded state
 
 -- ---- any packet
 
-pub record Sees (a d : ℕ) (old : Exciter) (before : List (List ℕ)) (p : List ℕ) (sync : ℕ) (s : Seen)
-    (anchor : Option Lock) : Type 0 where
-  pub stood : StandsFor a d old before
-  pub is_sync : sync ≡ sync_of p
-  pub saw : s ≡ cadence.seen (syncs before) sync
-  pub stands : cadence.StandsFor anchor (syncs before ++ sync ∷ [])
-
-goes_as : (a d : ℕ) (old : Exciter) (before : List (List ℕ)) (p : List ℕ) (sync : ℕ) (s : Seen) (anchor : Option Lock)
-    → Sees a d old before p sync s anchor → Goes a d before p s
-goes_as a d old before p sync s anchor h =
-    subst (Goes a d before p) (sym (h.saw ∙ ap (cadence.seen (syncs before)) h.is_sync)) (goes a d before p)
-
-anchor_as : (a d : ℕ) (old : Exciter) (before : List (List ℕ)) (p : List ℕ) (sync : ℕ) (s : Seen) (anchor : Option Lock)
-    → Sees a d old before p sync s anchor → cadence.StandsFor anchor (syncs (before ++ p ∷ []))
-anchor_as a d old before p sync s anchor h =
-    subst (cadence.StandsFor anchor) (ap (λ x. syncs before ++ x ∷ []) h.is_sync ∙ sym (syncs_push before p)) h.stands
-
 none_held : (symbols : List ℤ) → Holds [] 0 symbols
 none_held symbols = record { counted = refl; begins = refl }
 
@@ -95,42 +77,39 @@ pub record Makes (a d : ℕ) (now : Option (List (List ℕ))) (e : Exciter) (anc
   pub air : Holds (given_under a d now) count symbols
   pub kept : Keeps a d e now
 
-taken_as : (a d : ℕ) (old : Exciter) (before : List (List ℕ)) (p : List ℕ) (sync : ℕ) (s : Seen) (anchor : Option Lock)
+taken_as : (a d : ℕ) (before : List (List ℕ)) (p : List ℕ) (s : Seen) (anchor : Option Lock)
     (now : Option (List (List ℕ))) (e : Exciter) (answered : Told) (count : ℕ) (symbols : List ℤ)
-    → Sees a d old before p sync s anchor → under (before ++ p ∷ []) ≡ now
-    → answered ≡ last_answer a d (before ++ p ∷ [])
+    → Sees before p s anchor → under (before ++ p ∷ []) ≡ now → answered ≡ last_answer a d (before ++ p ∷ [])
     → Makes a d now e anchor count symbols → IsTaken a d (before ++ p ∷ []) e answered count symbols
 unfolding last_segments
-taken_as a d old before p sync s anchor now e answered count symbols h u t m = record {
+taken_as a d before p s anchor now e answered count symbols h u t m = record {
   answer = t;
   air = subst (λ o. Holds (given_under a d o) count symbols) (sym u) m.air;
   stands = record {
     address = m.address;
     delay = m.delay;
-    anchor = subst (λ x. cadence.StandsFor x (syncs (before ++ p ∷ []))) (sym m.anchored)
-        (anchor_as a d old before p sync s anchor h);
+    anchor = subst (λ x. cadence.StandsFor x (syncs (before ++ p ∷ []))) (sym m.anchored) h.stands;
     kept = subst (Keeps a d e) (sym u) m.kept;
   };
 }
 
 -- where there is no anchor
-pub taken_free : (a d : ℕ) (old : Exciter) (before : List (List ℕ)) (p : List ℕ) (sync : ℕ) (anchor : Option Lock)
-    (symbols : List ℤ) → Sees a d old before p sync Free anchor
+pub taken_free : (a d : ℕ) (old : Exciter) (before : List (List ℕ)) (p : List ℕ) (anchor : Option Lock)
+    (symbols : List ℤ) → StandsFor a d old before → Sees before p Free anchor
     → IsTaken a d (before ++ p ∷ []) (record old { anchor = anchor }) Quiet 0 symbols
-taken_free a d old before p sync anchor symbols h =
-    let g : Goes a d before p Free = goes_as a d old before p sync Free anchor h in
-    taken_as a d old before p sync Free anchor None (record old { anchor = anchor }) Quiet 0 symbols h g.follows
-    (sym g.answer)
-    (record { address = h.stood.address; delay = h.stood.delay; anchored = refl; air = none_held symbols; kept = tt })
+taken_free a d old before p anchor symbols stood h =
+    let g : Goes a d before p Free = goes_seen a d before p Free anchor h in
+    taken_as a d before p Free anchor None (record old { anchor = anchor }) Quiet 0 symbols h g.follows (sym g.answer)
+    (record { address = stood.address; delay = stood.delay; anchored = refl; air = none_held symbols; kept = tt })
 
-pub taken_lost : (a d : ℕ) (old : Exciter) (before : List (List ℕ)) (p : List ℕ) (sync : ℕ) (anchor : Option Lock)
-    (symbols : List ℤ) → Sees a d old before p sync Lost anchor
+pub taken_lost : (a d : ℕ) (old : Exciter) (before : List (List ℕ)) (p : List ℕ) (anchor : Option Lock)
+    (symbols : List ℤ) → StandsFor a d old before → Sees before p Lost anchor
     → IsTaken a d (before ++ p ∷ []) (record old { anchor = anchor }) (Muted Cadence) 0 symbols
-taken_lost a d old before p sync anchor symbols h =
-    let g : Goes a d before p Lost = goes_as a d old before p sync Lost anchor h in
-    taken_as a d old before p sync Lost anchor None (record old { anchor = anchor })
-    (Muted Cadence) 0 symbols h g.follows (sym g.answer)
-    (record { address = h.stood.address; delay = h.stood.delay; anchored = refl; air = none_held symbols; kept = tt })
+taken_lost a d old before p anchor symbols stood h =
+    let g : Goes a d before p Lost = goes_seen a d before p Lost anchor h in
+    taken_as a d before p Lost anchor None (record old { anchor = anchor }) (Muted Cadence) 0 symbols h g.follows
+    (sym g.answer)
+    (record { address = stood.address; delay = stood.delay; anchored = refl; air = none_held symbols; kept = tt })
 
 -- where this packet is the anchor: it is begun with
 begun : (a d : ℕ) (old mid e : Exciter) (before : List (List ℕ)) (p : List ℕ) (anchor : Option Lock) (symbols : List ℤ)
@@ -151,14 +130,13 @@ begun a d old mid e before p anchor symbols h m k same = record {
     delay_old : mid.delay ≡ d
     delay_old = ap (λ (x : Exciter). x.delay) m ∙ h.delay
 
-pub taken_start : (a d : ℕ) (old mid e : Exciter) (before : List (List ℕ)) (p : List ℕ) (sync : ℕ)
-    (anchor : Option Lock) (symbols : List ℤ) → Sees a d old before p sync Start anchor
-    → mid ≡ record old { anchor = anchor }
+pub taken_start : (a d : ℕ) (old mid e : Exciter) (before : List (List ℕ)) (p : List ℕ) (anchor : Option Lock)
+    (symbols : List ℤ) → StandsFor a d old before → Sees before p Start anchor → mid ≡ record old { anchor = anchor }
     → KeepsUnder mid.address mid.delay e (p ∷ []) → IsSame mid e → IsTaken a d (before ++ p ∷ []) e Quiet 0 symbols
-taken_start a d old mid e before p sync anchor symbols h m k same =
-    let g : Goes a d before p Start = goes_as a d old before p sync Start anchor h in
-    taken_as a d old before p sync Start anchor (Some (p ∷ [])) e Quiet 0 symbols h g.follows (sym g.answer)
-    (begun a d old mid e before p anchor symbols h.stood m k same)
+taken_start a d old mid e before p anchor symbols stood h m k same =
+    let g : Goes a d before p Start = goes_seen a d before p Start anchor h in
+    taken_as a d before p Start anchor (Some (p ∷ [])) e Quiet 0 symbols h g.follows (sym g.answer)
+    (begun a d old mid e before p anchor symbols stood m k same)
 
 -- where the anchor holds: it joins those under it
 kept_old : (a d : ℕ) (old : Exciter) (before : List (List ℕ)) (l : List (List ℕ)) → StandsFor a d old before
@@ -185,24 +163,24 @@ joined_as a d mid e p place answered count symbols l x y j k h =
     (j l (subst (λ (n : ℕ). KeepsUnder n mid.delay mid l) (sym x) (subst (λ (n : ℕ). KeepsUnder a n mid l) (sym y) k))
     h))
 
-pub taken_at : (old mid e : Exciter) (before : List (List ℕ)) (p : List ℕ) (sync place : ℕ) (anchor : Option Lock)
-    (answered : Told) (count : ℕ) (symbols : List ℤ) (a d : ℕ) → Sees a d old before p sync (At place) anchor
-    → mid ≡ record old { anchor = anchor }
+pub taken_at : (old mid e : Exciter) (before : List (List ℕ)) (p : List ℕ) (place : ℕ) (anchor : Option Lock)
+    (answered : Told) (count : ℕ) (symbols : List ℤ) (a d : ℕ) → StandsFor a d old before
+    → Sees before p (At place) anchor → mid ≡ record old { anchor = anchor }
     → Joins place p mid e answered count symbols → IsSame mid e
     → IsTaken a d (before ++ p ∷ []) e answered count symbols
-taken_at old mid e before p sync place anchor answered count symbols a d h m j same =
-    by_follow (goes_as a d old before p sync (At place) anchor h)
+taken_at old mid e before p place anchor answered count symbols a d stood h m j same =
+    by_follow (goes_seen a d before p (At place) anchor h)
   where
     of_old : mid.address ≡ a
-    of_old = ap (λ (x : Exciter). x.address) m ∙ h.stood.address
+    of_old = ap (λ (x : Exciter). x.address) m ∙ stood.address
 
     delay_old : mid.delay ≡ d
-    delay_old = ap (λ (x : Exciter). x.delay) m ∙ h.stood.delay
+    delay_old = ap (λ (x : Exciter). x.delay) m ∙ stood.delay
 
     by_join : (l : List (List ℕ)) → under (before ++ p ∷ []) ≡ Some (l ++ p ∷ []) → Goes a d before p (At place)
         → IsJoined a d (l ++ p ∷ []) e answered count symbols → IsTaken a d (before ++ p ∷ []) e answered count symbols
     by_join l u g w =
-        taken_as a d old before p sync (At place) anchor (Some (l ++ p ∷ [])) e answered count symbols h u
+        taken_as a d before p (At place) anchor (Some (l ++ p ∷ [])) e answered count symbols h u
         (w.answer ∙ ap (λ o. told_under a d (option_map readings o)) (sym u) ∙ sym g.answer)
         (record {
           address = same.address ∙ of_old;
@@ -218,4 +196,4 @@ taken_at old mid e before p sync place anchor answered count symbols a d h m j s
         let l : List (List ℕ) = g.follows.0 in
         by_join l g.follows.2 g
         (joined_as a d mid e p place answered count symbols l of_old delay_old j
-        (with_anchor a d old mid anchor l m (kept_old a d old before l h.stood g.follows.1)) g.follows.3)
+        (with_anchor a d old mid anchor l m (kept_old a d old before l stood g.follows.1)) g.follows.3)

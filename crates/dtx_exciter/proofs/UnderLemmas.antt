@@ -4,9 +4,10 @@ use Rattle.std.proofs.Common.{List, [], ◌∷◌, ◌++◌, length, drop, take,
 use Rattle.std.proofs.lemmas.List.{length_push, length-drop, map-append, length-map, drop_at, drop-append-le, drop-map}
 use Rattle.std.proofs.lemmas.List.{take_at}
 use Rattle.dtx_packets.specs.Packet.{sync_of}
+use Rattle.dtx_cadence.specs.declared.anchor.Lock.{Lock}
 use Rattle.dtx_cadence.specs.declared.anchor.Seen.{Seen}
 use Rattle.dtx_cadence.specs.declared.anchor.Seen.TheVariants.{Free, Start, Lost, At}
-use Rattle.dtx_cadence.specs.Anchor.{anchor_to, anchor, seen_by, seen}
+use Rattle.dtx_cadence.specs.Anchor.{StandsFor, anchor_to, anchor, seen_by, seen}
 use Rattle.dtx_cadence.proofs.NextAnchorLemmas.{new_anchor, ends_with, anchor_free, anchor_next, anchor_below}
 use Rattle.dtx_exciter.specs.declared.answers.Why.TheVariants.{Cadence}
 use Rattle.dtx_exciter.specs.declared.answers.Told.{Told}
@@ -199,3 +200,22 @@ goes address delay d p = by_anchor (anchor (syncs d)) refl
         let e : anchor (syncs d ++ sync_of p ∷ []) ≡ cond t None (Some j) = anchor_next (syncs d) (sync_of p) j h in
         subst (Goes address delay d p) (sym (seen_is d p (Some j) (cond t None (Some j)) h e))
         (goes_by_test address delay d p j t (below j h) (anchor_is d (Some j) h) (anchor_with d p ∙ e))
+
+-- ---- what is seen of a packet
+
+-- and the anchor behind it
+pub record Sees (before : List (List ℕ)) (p : List ℕ) (s : Seen) (lock : Option Lock) : Type 0 where
+  pub saw : s ≡ seen (syncs before) (sync_of p)
+  pub stands : StandsFor lock (syncs (before ++ p ∷ []))
+
+pub sees : (before : List (List ℕ)) (p : List ℕ) (sync : ℕ) (s : Seen) (lock : Option Lock) → sync ≡ sync_of p
+    → s ≡ seen (syncs before) sync → StandsFor lock (syncs before ++ sync ∷ []) → Sees before p s lock
+sees before p sync s lock is saw stands = record {
+  saw = saw ∙ ap (seen (syncs before)) is;
+  stands = subst (StandsFor lock) (ap (λ x. syncs before ++ x ∷ []) is ∙ sym (syncs_push before p)) stands;
+}
+
+pub goes_seen : (address delay : ℕ) (before : List (List ℕ)) (p : List ℕ) (s : Seen) (lock : Option Lock)
+    → Sees before p s lock → Goes address delay before p s
+goes_seen address delay before p s lock h =
+    subst (Goes address delay before p) (sym h.saw) (goes address delay before p)

@@ -5,13 +5,13 @@ use Rattle.std.specs.List.{range_with_len, cons_option}
 use Rattle.dtx_ops.specs.Paging.{page_of, pages_of}
 use Rattle.dtx_ops.specs.declared.fields.Entry.{Entry}
 use Rattle.dtx_ops.specs.declared.fields.Ops.{Ops}
-use Rattle.dtx_exciter.specs.declared.pages.Held.{Held}
+use Rattle.dtx_exciter.specs.declared.pages.PageEntry.{PageEntry}
 use Rattle.dtx_exciter.specs.declared.pages.Pages.{Pages}
 use Rattle.dtx_exciter.specs.Order.{Order, placed}
 use Rattle.dtx_exciter.specs.Pages.{page, pages, entry_of, of_one_cycle, is_told, listing}
 
 -- the entry of an address in an order, and its page
-abbrev pub held_of : ℕ → Order → Option Held
+abbrev pub held_of : ℕ → Order → Option PageEntry
 held_of address order =
     option_map (λ e. record { page = page order; entry = e }) (entry_of address order.ops)
 
@@ -26,7 +26,7 @@ begun n p = if p.count == n then p else record { count = n; told = replicate 30 
 
 -- the entry in force after an order of page k, which may have an entry of its own: an older one stays if its page is
 -- another
-abbrev pub held_after : ℕ → Option Entry → Option Held → Option Held
+abbrev pub held_after : ℕ → Option Entry → Option PageEntry → Option PageEntry
 held_after k (Some e) before = Some (record { page = k; entry = e })
 held_after k None None = None
 held_after k None (Some h) = if k == h.page then None else Some h

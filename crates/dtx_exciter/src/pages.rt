@@ -10,7 +10,7 @@ use dtx_sizes::MOST_PAGES;
 
 /// The entry in force, and the page that it stands on.
 #[derive(Clone, Copy)]
-pub(crate) struct Held {
+pub(crate) struct PageEntry {
     pub page: u8,
     pub entry: Entry,
 }
@@ -21,7 +21,7 @@ pub(crate) struct Pages {
     /// The number of pages, or 0 where there was no order.
     pub count: u8,
     pub told: [bool; MOST_PAGES as usize],
-    pub held: Option<Held>,
+    pub held: Option<PageEntry>,
 }
 
 impl Pages {
@@ -90,11 +90,11 @@ impl Pages {
 
 /// The entry in force after an order of page `page`, whose own entry for the transmitter is `entry`. An older entry
 /// stays in force only if its page is another.
-fn held_after(page: u8, entry: Option<Entry>, before: Option<Held>) -> Option<Held>
+fn held_after(page: u8, entry: Option<Entry>, before: Option<PageEntry>) -> Option<PageEntry>
     ensures { result ≡ held_after page entry before }
 {
     match entry {
-        Some(entry) => Some(Held { page, entry }),
+        Some(entry) => Some(PageEntry { page, entry }),
         None => match before {
             Some(held) if page != held.page => Some(held),
             _ => None,

@@ -1,11 +1,9 @@
 -- A transmitter of a network emits exactly.
 use Rattle.std.proofs.Common.{◌≡◌, ◌⊎◌, inl, inr, ℕ, ℤ, suc, ◌+◌, ◌-◌, ◌*◌, ◌/◌, ◌%◌, ◌<◌, ◌≤◌, ◌==◌, ◌&&◌, Bool, All}
 use Rattle.std.proofs.Common.{true, Some, List, ◌∷◌, ◌++◌, length, map, refl, sym, ap, subst, ◌∙◌, arith, pos, ◌-ℤ◌}
-use Rattle.std.proofs.Common.{◌*ℤ◌}
-use Rattle.std.specs.Prelude.{slice_range}
+use Rattle.std.proofs.Common.{◌*ℤ◌, slice_range, eq-eqb, length-append}
 use Rattle.std.specs.List.{range_with_len, filter, Contains}
-use Rattle.std.proofs.lemmas.Bool.{cond-true, and_from, eq-eqb}
-use Rattle.std.proofs.lemmas.List.{length-append}
+use Rattle.std.proofs.lemmas.Bool.{cond-true, and_from}
 use Rattle.std.proofs.lemmas.List.Elements.{All-append, All-weaker, All-contains, Contains-append_cases}
 use Rattle.dtx_clock.specs.Clock.{stamp_of, grains_of, DifferBy}
 use Rattle.dtx_clock.proofs.MomentsLemmas.{moments_differ}
@@ -25,13 +23,10 @@ use Rattle.dtx_exciter.proofs.LockstepIsLemmas.{lockstep_is, lockstep_on, length
 use Rattle.dtx_network.specs.Plans.{IsPlan, IsStream, IsListed, IsInTime}
 use Rattle.dtx_network.specs.Orders.{has_order, has_listing}
 use Rattle.dtx_network.specs.Presets.{orders, moment_at, preset_at, presets}
-use Rattle.dtx_network.specs.Headline.{IsFed, IsFirstListing, stretch_of, segment_of, line_end}
-use Rattle.dtx_network.specs.Headline.{Around, around, Emits}
+use Rattle.dtx_network.specs.Headline.{IsFed, IsFirstListing, stretch_of, segment_of, line_end, Around, around, Emits}
 use Rattle.dtx_network.proofs.Orders.{order_some, order_says}
-use Rattle.dtx_network.proofs.Listings.{lists_is, listing_is, listing_orders}
-use Rattle.dtx_network.proofs.Served.{place_of, feed_locks}
-use Rattle.dtx_network.proofs.Presets.{lines_are}
-use Rattle.dtx_network.proofs.Stretches.{stretch_is}
+use Rattle.dtx_network.proofs.Listings.{lists_is, listing_is, listing_orders, place_of, feed_locks}
+use Rattle.dtx_network.proofs.Stretches.{lines_are, stretch_is}
 use Rattle.dtx_network.proofs.Segs.{life_up, behind_down, restarted_up, restarting_down}
 
 -- ---- a life that is given a stretch of any feed that the exciter locks to

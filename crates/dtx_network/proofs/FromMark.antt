@@ -41,11 +41,9 @@ use Rattle.dtx_network.specs.Orders.{has_order}
 use Rattle.dtx_network.specs.Presets.{presets}
 use Rattle.dtx_network.specs.Headline.{IsFirstListing, HasNoListing, HaveNoMark, IsFedAnew, stretch_of}
 use Rattle.dtx_network.proofs.Orders.{order_none, order_says}
-use Rattle.dtx_network.proofs.Listings.{not_its_page, lists_is, listing_is}
-use Rattle.dtx_network.proofs.Served.{place_of, locks_with}
+use Rattle.dtx_network.proofs.Listings.{not_its_page, lists_is, listing_is, place_of, locks_with}
 use Rattle.dtx_network.proofs.Waiting.{IsOther, none_served, told_waits, sent_waits, All-orders}
-use Rattle.dtx_network.proofs.Presets.{lines_are}
-use Rattle.dtx_network.proofs.Stretches.{stretch_is}
+use Rattle.dtx_network.proofs.Stretches.{lines_are, stretch_is}
 use Rattle.dtx_network.proofs.Emitting.{stretch_from}
 
 -- ---- packets without a mark

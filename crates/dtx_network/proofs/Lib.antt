@@ -1,7 +1,5 @@
 pub mod Orders
 pub mod Listings
-pub mod Served
-pub mod Presets
 pub mod Turns
 pub mod Stretches
 pub mod Segs
@@ -10,11 +8,9 @@ pub mod Waiting
 pub mod FromMark
 pub mod FromStart
 pub mod FeedPackets
-pub mod Back
-pub mod AllBack
 pub mod Whole
 pub mod Meets
-pub mod Undamaged
+pub mod Back
 pub mod TooFew
 pub mod OutOfStep
 pub mod OtherMarks

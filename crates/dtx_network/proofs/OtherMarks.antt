@@ -1,13 +1,12 @@
 -- Marks of a feed that are missing, and stray ones: an exciter that is locked to the feed makes the same of its
 -- packets.
-use Rattle.std.proofs.Common.{◌≡◌, ◌⊎◌, inl, inr, ℕ, ℤ, ◌+◌, ◌-◌, ◌%◌, ◌<◌, ◌≤◌, ◌==◌, true, List, [], ◌++◌}
-use Rattle.std.proofs.Common.{length, get_or, set, take, drop, refl, sym, ap, ap₂, subst, ◌∙◌, arith}
+use Rattle.std.proofs.Common.{◌≡◌, ◌⊎◌, inl, inr, ℕ, ℤ, ◌+◌, ◌-◌, ◌%◌, ◌<◌, ◌≤◌, ◌==◌, true, List, [], ◌++◌, length}
+use Rattle.std.proofs.Common.{get_or, set, take, drop, refl, sym, ap, ap₂, subst, ◌∙◌, arith, slice_range, eq-eqb}
+use Rattle.std.proofs.Common.{length-append, length-drop, length-take-le, take-take, get_or-append-add, get_or-take}
+use Rattle.std.proofs.Common.{get_or-drop}
 use Rattle.std.proofs.Math.Seq.{take-append-add, take-set-lt}
-use Rattle.std.specs.Prelude.{slice_range}
-use Rattle.std.proofs.lemmas.Bool.{cases_lt, eq-eqb}
-use Rattle.std.proofs.lemmas.List.{length-append, length-drop, length-take-le, map-append, take-take}
-use Rattle.std.proofs.lemmas.List.{get_or-append-add, get_or_append_left, get_or-take, get_or-drop, set-append_right}
-use Rattle.std.proofs.lemmas.List.{drop-set-add}
+use Rattle.std.proofs.lemmas.Bool.{cases_lt}
+use Rattle.std.proofs.lemmas.List.{map-append, get_or_append_left, set-append_right, drop-set-add}
 use Rattle.dtx_cadence.specs.Anchor.{has_mark}
 use Rattle.dtx_cadence.specs.Cadence.{HasMarksRound}
 use Rattle.dtx_exciter.proofs.FollowedLemmas.{marked_part, syncs_append}

@@ -1,12 +1,11 @@
 -- A lost anchor mutes; and an anchor is lost by two marks that are due in a row and missing, or where it is out of step
 -- with a feed, before the third mark of it.
 use Rattle.std.proofs.Common.{◌≡◌, ◌⊎◌, inl, inr, ℕ, ℤ, zero, suc, ◌+◌, ◌-◌, ◌%◌, ◌<◌, ◌≤◌, ◌==◌, Bool, true, false}
-use Rattle.std.proofs.Common.{cond, Some, None, option_map, List, [], ◌∷◌, ◌++◌, length, get_or, take, drop, refl}
-use Rattle.std.proofs.Common.{sym, ap, ap₂, subst, ◌∙◌, arith}
-use Rattle.std.specs.Prelude.{slice_range}
+use Rattle.std.proofs.Common.{cond, Some, None, option_map, List, [], ◌∷◌, ◌++◌, length, get_or, take, drop, refl, sym}
+use Rattle.std.proofs.Common.{ap, ap₂, subst, ◌∙◌, arith, slice_range, append-nil, length-append, length-drop}
+use Rattle.std.proofs.Common.{length-take-le, take_at, take_all}
 use Rattle.std.proofs.lemmas.Bool.{cond-true, eqb-false}
-use Rattle.std.proofs.lemmas.List.{append-nil, length-append, length_push, length-drop, length-take-le, take_at}
-use Rattle.std.proofs.lemmas.List.{take_all}
+use Rattle.std.proofs.lemmas.List.{length_push}
 use Rattle.dtx_packets.specs.Packet.{sync_of}
 use Rattle.dtx_cadence.specs.Anchor.{has_mark, anchor}
 use Rattle.dtx_cadence.proofs.AnchoredLemmas.{two_missing, in_step_at_third}

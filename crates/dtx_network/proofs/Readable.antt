@@ -14,7 +14,7 @@ use Rattle.dtx_chain.specs.Damage.{IsNear}
 use Rattle.dtx_chain.proofs.FromSyncLemmas.{IsThere, length-bytes_there, front_near, some_segments}
 use Rattle.dtx_network.specs.Headline.{last_packet, stretch_of}
 use Rattle.dtx_network.specs.GivesBack.{BeginsField, to_field, word_of, CanBeGivenBack}
-use Rattle.dtx_network.proofs.AllBack.{length-stretch_of}
+use Rattle.dtx_network.proofs.Back.{length-stretch_of}
 
 -- ---- places
 

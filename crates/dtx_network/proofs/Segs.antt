@@ -1,10 +1,9 @@
 -- Of which segments the lines of a log speak: those of a life of nothing before the life, nor of anything behind it.
 use Rattle.std.proofs.Common.{◌≡◌, ℕ, ℤ, zero, suc, ◌+◌, ◌-◌, ◌*◌, ◌/◌, ◌%◌, ◌<◌, ◌≤◌, ◌==◌, Bool, true, false, cond}
 use Rattle.std.proofs.Common.{Option, Some, None, option_map, Result, Ok, Err, All, List, [], ◌∷◌, ◌++◌, length, take}
-use Rattle.std.proofs.Common.{drop, get_or, refl, sym, ap, ◌∙◌, arith}
-use Rattle.std.specs.Prelude.{is_ok, nat_le}
+use Rattle.std.proofs.Common.{drop, get_or, refl, sym, ap, ◌∙◌, arith, is_ok, nat_le, length-append, take-append-drop}
 use Rattle.std.specs.List.{range_with_len, flat_map}
-use Rattle.std.proofs.lemmas.List.{length-append, take_more, take-append-drop}
+use Rattle.std.proofs.lemmas.List.{take_more}
 use Rattle.std.proofs.lemmas.List.Elements.{All-nil, All-cons, All-append, All-weaker}
 use Rattle.std.proofs.lemmas.List.FromFn.{length-map-range_with_len}
 use Rattle.dtx_frame.specs.Segments.{field_sync}
@@ -21,8 +20,7 @@ use Rattle.dtx_exciter.specs.Pages.{entry_in_force, offset_of}
 use Rattle.dtx_exciter.specs.Told.{served, told_why, told_by, told_at, told_under, told_from, told_of, was_lost}
 use Rattle.dtx_exciter.specs.Packets.{syncs, readings, anchor_of, under, last_answer}
 use Rattle.dtx_exciter.specs.Emission.{segments_since, sent_by, sent_at, sent_before, behind_field_sync, given_under}
-use Rattle.dtx_exciter.specs.Emission.{last_segments}
-use Rattle.dtx_exciter.specs.Emission.{emission}
+use Rattle.dtx_exciter.specs.Emission.{last_segments, emission}
 use Rattle.dtx_exciter.specs.Log.{preset, mute, restart, line_of, life_lines, restarted_lines, restarting_lines}
 use Rattle.dtx_exciter.specs.Log.{emission_over}
 use Rattle.dtx_exciter.specs.Stretch.{emission_behind, lines_behind}

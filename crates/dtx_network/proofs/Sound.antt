@@ -12,7 +12,7 @@ use Rattle.dtx_adapter.proofs.ReadingsLemmas.{sync_fed, said_states}
 use Rattle.dtx_watch.specs.Sound.{SaysAt, IsSoundAt, IsSoundFeed}
 use Rattle.dtx_network.specs.Plans.{IsPlan, IsStream}
 use Rattle.dtx_network.proofs.Orders.{operations_read, other_stays}
-use Rattle.dtx_network.proofs.Served.{mark_told}
+use Rattle.dtx_network.proofs.Listings.{mark_told}
 
 says : (plan : Plan) (stream : List (List ℕ)) (k : ℕ) → k < 624000000
     → SaysAt plan.start plan.max_delay (feed plan stream) k (ops_at plan stream (take k (feed plan stream)) k)

@@ -1,12 +1,30 @@
--- The stretch as a slice of the feed's own segments.
-use Rattle.std.proofs.Common.{◌≡◌, ℕ, ℤ, ◌+◌, ◌-◌, ◌*◌, ◌/◌, ◌≤◌, List, length, take, drop, sym, ap, ◌∙◌, arith}
-use Rattle.std.specs.List.{range_with_len, flat_map}
+-- The stretch as a slice of the feed's own segments, and its lines.
+use Rattle.std.proofs.Common.{◌≡◌, ℕ, ℤ, ◌+◌, ◌-◌, ◌*◌, ◌/◌, ◌≤◌, List, length, take, drop, sym, ap, ◌∙◌, arith, ◌⊎◌}
+use Rattle.std.proofs.Common.{inl, inr, zero, suc, ◌%◌, ◌<◌, ◌==◌, ◌&&◌, Bool, true, false, cond, Option, Some, None}
+use Rattle.std.proofs.Common.{option_map, ◌∷◌, map, refl, ap₂, eqb-true}
+use Rattle.std.specs.List.{range_with_len, flat_map, filter, filter_map, cons_option}
 use Rattle.std.proofs.lemmas.List.{length-drop, drop-append-le, take_at}
+use Rattle.std.proofs.lemmas.Bool.{cases_Bool, cond-true, cond-false, eqb-false, and_from, and_left, and_right}
 use Rattle.dtx_coder.specs.Stream.{group_segments, a53}
 use Rattle.dtx_coder.proofs.StreamLemmas.{a53_from}
 use Rattle.dtx_exciter.specs.Lockstep.{segment_place, stretch}
 use Rattle.dtx_exciter.proofs.EmittedLemmas.{length-front, stretch_whole}
 use Rattle.dtx_network.specs.Headline.{stretch_of}
+use Rattle.dtx_clock.specs.Clock.{moment_of}
+use Rattle.dtx_ops.specs.declared.fields.Ops.{Ops}
+use Rattle.dtx_plan.specs.declared.plan.Plan.{Plan}
+use Rattle.dtx_adapter.specs.Feed.{feed}
+use Rattle.dtx_exciter.specs.Order.{counting_order, placed}
+use Rattle.dtx_exciter.specs.Packets.{readings}
+use Rattle.dtx_exciter.specs.Log.{Line, preset}
+use Rattle.dtx_exciter.specs.Stretch.{preset_line, orders_in, stretch_lines}
+use Rattle.dtx_exciter.proofs.ForceLemmas.{counted_off}
+use Rattle.dtx_network.specs.Plans.{IsPlan, IsStream}
+use Rattle.dtx_network.specs.Orders.{has_order, IsOrder}
+use Rattle.dtx_network.specs.Presets.{orders, preset_at, presets}
+use Rattle.dtx_network.proofs.Orders.{order_some, order_none, order_says}
+
+-- ---- the stretch as a slice of the feed's own segments
 
 -- behind the last data segment of a group, so many segments stand
 behind_last : (u : ℕ) → 1 ≤ u → segment_place (4 * u - 1) + 1 ≡ 4 * u + (u + 77) / 78
@@ -48,3 +66,76 @@ stretch_is feed k end l m =
     ends : length (drop (segment_place k) front) ≡ segment_place (4 * u - 1) + 1 - segment_place k
     ends = length-drop (segment_place k) front ∙ ap (λ (n : ℕ). n - segment_place k) (long
         ∙ sym (behind_last u (omega (arith, l))))
+
+-- ---- one line
+
+line_is : (plan : Plan) (stream : List (List ℕ)) (offset : ℤ) (s k g : ℕ) (ops : Ops) → IsOrder plan stream g ops
+    → preset_line offset s k (record { place = g; ops = ops }) ≡ preset_at plan offset s k g
+line_is plan stream offset s k g ops o =
+    ap (λ (f : ℕ). line f ops.stamp ops.max_delay) o.frame
+    ∙ ap₂ (λ (x m : ℕ). line (g / 624) x m) o.stamp o.max_delay
+  where
+    line : ℕ → ℕ → ℕ → Line
+    line frame stamp most =
+        preset (s + (segment_place g - segment_place k)) frame (g % 624) (moment_of stamp most offset (g % 624)).tick
+        (moment_of stamp most offset (g % 624)).grain
+
+-- the line of a group, where it orders something
+line_at : (plan : Plan) (stream : List (List ℕ)) (offset : ℤ) (s k g : ℕ) → IsPlan plan → IsStream stream → 52 ≤ g
+    → option_map (preset_line offset s k) (placed g (counting_order (readings (feed plan stream)) g))
+    ≡ cond ((g % 4 == 0) && has_order (feed plan stream) g) (Some (preset_at plan offset s k g)) None
+line_at plan stream offset s k g p u far = by_place (cases_Bool (g % 4 == 0))
+  where
+    test : Bool
+    test = (g % 4 == 0) && has_order (feed plan stream) g
+
+    line : Line
+    line = preset_at plan offset s k g
+
+    by_order : (g % 4 == 0) ≡ true → (has_order (feed plan stream) g ≡ true) ⊎ (has_order (feed plan stream) g ≡ false)
+        → option_map (preset_line offset s k) (placed g (counting_order (readings (feed plan stream)) g))
+        ≡ cond test (Some line) None
+    by_order e (inl h) =
+        let order = order_some plan stream g p u far (eqb-true (g % 4) 0 e) h in
+        ap (λ (o : Option Ops). option_map (preset_line offset s k) (placed g o)) order.1
+        ∙ ap Some (line_is plan stream offset s k g order.0 (order_says plan stream g order.0 p u order.1))
+        ∙ sym (cond-true test (Some line) None (and_from (g % 4 == 0) (has_order (feed plan stream) g) e h))
+    by_order e (inr h) =
+        ap (λ (o : Option Ops). option_map (preset_line offset s k) (placed g o)) (order_none plan stream g p u h)
+        ∙ sym (cond-false test (Some line) None (and_right (g % 4 == 0) (has_order (feed plan stream) g) h))
+
+    by_place : ((g % 4 == 0) ≡ true) ⊎ ((g % 4 == 0) ≡ false)
+        → option_map (preset_line offset s k) (placed g (counting_order (readings (feed plan stream)) g))
+        ≡ cond test (Some line) None
+    by_place (inl e) = by_order e (cases_Bool (has_order (feed plan stream) g))
+    by_place (inr e) =
+        ap (λ (o : Option Ops). option_map (preset_line offset s k) (placed g o))
+        (counted_off (readings (feed plan stream)) g (eqb-false (g % 4) 0 e))
+        ∙ sym (cond-false test (Some line) None (and_left (g % 4 == 0) (has_order (feed plan stream) g) e))
+
+-- ---- all lines
+
+picked : {X Y : Type 0} (f : X → Y) (o : Option X) (b : Bool) (k : ℕ) (g : ℕ → Y) (xs : List X) (ks : List ℕ)
+    → option_map f o ≡ cond b (Some (g k)) None → map f xs ≡ map g ks
+    → map f (cons_option o xs) ≡ map g (cond b (k ∷ ks) ks)
+picked f None true k g xs ks e r = cc
+picked f None false k g xs ks e r = r
+picked f (Some x) true k g xs ks e r = let same : f x ≡ g k = cc in ap₂ ◌∷◌ same r
+picked f (Some x) false k g xs ks e r = cc
+
+picked_over : {X Y : Type 0} (f : X → Y) (h : ℕ → Option X) (g : ℕ → Y) (test : ℕ → Bool) (a n : ℕ)
+    → ((i : ℕ) → a ≤ i → i < a + n → option_map f (h i) ≡ cond (test i) (Some (g i)) None)
+    → map f (filter_map h (range_with_len a n)) ≡ map g (filter test (range_with_len a n))
+picked_over f h g test a zero e = refl
+picked_over f h g test a (suc n) e =
+    picked f (h a) (test a) a g (filter_map h (range_with_len (a + 1) n)) (filter test (range_with_len (a + 1) n))
+    (e a (omega arith) (omega arith))
+    (picked_over f h g test (a + 1) n (λ i l m. e i (omega arith) (omega arith)))
+
+pub lines_are : (plan : Plan) (stream : List (List ℕ)) (offset : ℤ) (s k end : ℕ) → IsPlan plan → IsStream stream
+    → 52 ≤ k → stretch_lines offset s (feed plan stream) k end ≡ presets plan offset s (feed plan stream) k end
+unfolding stretch_lines orders_in presets orders
+lines_are plan stream offset s k end p u far =
+    picked_over (preset_line offset s k) (λ g. placed g (counting_order (readings (feed plan stream)) g))
+    (preset_at plan offset s k) (λ g. (g % 4 == 0) && has_order (feed plan stream) g) k (end - 3 - k)
+    (λ g l m. line_at plan stream offset s k g p u (omega (arith, far, l)))

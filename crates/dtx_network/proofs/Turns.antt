@@ -1,10 +1,9 @@
 -- A listing comes among as many orders as there are pages.
 use Rattle.std.proofs.Common.{◌≡◌, ◌⊎◌, inl, inr, ℕ, zero, suc, ◌+◌, ◌-◌, ◌*◌, ◌/◌, ◌%◌, ◌<◌, ◌≤◌, ◌==◌, ◌&&◌, ◌||◌}
 use Rattle.std.proofs.Common.{Bool, true, false, cond, Some, List, [], ◌∷◌, length, take, drop, get_or, refl, sym, ap}
-use Rattle.std.proofs.Common.{ap₂, subst, ◌∙◌, arith}
-use Rattle.std.specs.Prelude.{slice_get}
+use Rattle.std.proofs.Common.{ap₂, subst, ◌∙◌, arith, slice_get, eq-eqb, eqb-true, ne_eqb}
 use Rattle.std.specs.List.{range_with_len, list_any, filter, Contains}
-use Rattle.std.proofs.lemmas.Bool.{cases_lt, cases_Bool, eq-eqb, eqb-true, eqb-false, ne_eqb, and_from, and_left}
+use Rattle.std.proofs.lemmas.Bool.{cases_lt, cases_Bool, eqb-false, and_from, and_left}
 use Rattle.std.proofs.lemmas.List.Elements.{Contains-append_right, filter_agree}
 use Rattle.std.proofs.lemmas.Option.{slice_get_within}
 use Rattle.dtx_packets.specs.Packet.{pid_of}
@@ -19,8 +18,7 @@ use Rattle.dtx_network.specs.Plans.{IsPlan, IsStream, IsListed}
 use Rattle.dtx_network.specs.Orders.{is_operations, has_order, has_listing, pages_in}
 use Rattle.dtx_network.specs.Presets.{orders}
 use Rattle.dtx_network.proofs.Orders.{no_pid, same_orders}
-use Rattle.dtx_network.proofs.Listings.{listing_is, listing_few}
-use Rattle.dtx_network.proofs.Served.{place_of}
+use Rattle.dtx_network.proofs.Listings.{listing_is, listing_few, place_of}
 
 -- ---- one page
 

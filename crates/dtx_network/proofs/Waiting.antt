@@ -1,10 +1,9 @@
 -- An exciter that waits for its page: no order in force so far lists it.
 use Rattle.std.proofs.Common.{◌≡◌, ◌≢◌, ◌⊎◌, inl, inr, ℕ, zero, suc, ◌+◌, ◌/◌, ◌<◌, ◌≤◌, ◌==◌, Bool, true, false, cond}
 use Rattle.std.proofs.Common.{All, Option, Some, None, Result, Err, List, [], ◌∷◌, refl, sym, ap, ap₂, subst, ◌∙◌}
-use Rattle.std.proofs.Common.{arith}
-use Rattle.std.specs.Prelude.{is_ok, option_and_then, not, find}
+use Rattle.std.proofs.Common.{arith, is_ok, option_and_then, not, find, true≢false, ne_eqb}
 use Rattle.std.specs.List.{range_with_len, take_while, prefix_len, list_all, cons_option}
-use Rattle.std.proofs.lemmas.Bool.{cases_Bool, true≢false, ne_eqb}
+use Rattle.std.proofs.lemmas.Bool.{cases_Bool}
 use Rattle.std.proofs.lemmas.List.Elements.{All-nil, All-cons, All-head, All-tail, All-take, All-weaker}
 use Rattle.std.proofs.lemmas.List.Folds.{list_any_none}
 use Rattle.std.proofs.lemmas.Option.{same_Some}

@@ -1,7 +1,6 @@
 -- The headline as a whole.
-use Rattle.std.proofs.Common.{◌≡◌, ◌⊎◌, inl, inr, ℕ, ℤ, ◌+◌, ◌<◌, ◌≤◌, Some, List, ◌++◌, length, map}
-use Rattle.std.proofs.Common.{get_or, sym, ap, subst, ◌∙◌, arith}
-use Rattle.std.specs.Prelude.{slice_get}
+use Rattle.std.proofs.Common.{◌≡◌, ◌⊎◌, inl, inr, ℕ, ℤ, ◌+◌, ◌<◌, ◌≤◌, Some, List, ◌++◌, length, map, get_or, sym, ap}
+use Rattle.std.proofs.Common.{subst, ◌∙◌, arith, slice_get}
 use Rattle.std.specs.List.{Contains}
 use Rattle.std.proofs.lemmas.Bool.{cases_lt}
 use Rattle.std.proofs.lemmas.List.{length-map, get_or-map}
@@ -22,8 +21,7 @@ use Rattle.dtx_network.specs.Headline.{stretch_of, Around, around, Emits}
 use Rattle.dtx_network.specs.Network.{steps_under, Joined, Follows, Headline}
 use Rattle.dtx_network.proofs.Emitting.{emits, first_is, no_other, apart}
 use Rattle.dtx_network.proofs.FeedPackets.{feed_packets}
-use Rattle.dtx_network.proofs.Back.{back}
-use Rattle.dtx_network.proofs.AllBack.{all_given_back}
+use Rattle.dtx_network.proofs.Back.{back, all_given_back}
 
 -- ---- lists
 

@@ -1,5 +1,4 @@
-use Rattle.std.proofs.Common.{◌≡◌, map, take}
-use Rattle.std.specs.Prelude.{All}
+use Rattle.std.proofs.Common.{◌≡◌, map, take, All}
 use Rattle.dtx_ops.specs.Spelling.{IsEntry}
 use Rattle.dtx_adapter.specs.Feed.{entry_of}
 use Rattle.dtx_adapter.proofs.filler.entries_of.Given as goal

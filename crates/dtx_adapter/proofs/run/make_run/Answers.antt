@@ -1,7 +1,6 @@
 use Rattle.std.proofs.Common.{◌≡◌, ◌⊎◌, ℕ, ◌+◌, ◌-◌, ◌/◌, ◌%◌, ◌≤◌, ◌++◌, List, length, take, drop, refl, ap, sym}
-use Rattle.std.proofs.Common.{subst, ◌∙◌, arith}
+use Rattle.std.proofs.Common.{subst, ◌∙◌, arith, length-append, length-take-le, length-drop, append-nil}
 use Rattle.dtx_coder.specs.Stream.{states}
-use Rattle.std.proofs.lemmas.List.{length-append, length-take-le, length-drop, append-nil}
 use Rattle.std.proofs.lemmas.Slice.{take-put_mid, drop-put_mid}
 use Rattle.dtx_adapter.specs.Feed.{placeholders, feed}
 use Rattle.dtx_adapter.specs.Filling.{Fills}

@@ -1,6 +1,6 @@
 use Rattle.dtx_exciter.specs.Emission.{last_segments}
 use Rattle.dtx_calm_feed.proofs.Alike.{same_data, same_segments}
-use Rattle.dtx_calm_feed.proofs.Held.{locked_gives}
+use Rattle.dtx_calm_feed.proofs.Given.{locked_gives}
 use Rattle.dtx_calm_feed.proofs.Noted.{never_slips}
 use Rattle.dtx_calm_feed.proofs.laws.all_send_the_same.Goals as goal
 

@@ -1,4 +1,4 @@
-use Rattle.dtx_calm_feed.proofs.Held.{locked_gives}
+use Rattle.dtx_calm_feed.proofs.Given.{locked_gives}
 use Rattle.dtx_calm_feed.proofs.Noted.{never_slips}
 use Rattle.dtx_calm_feed.proofs.Orders.{own_first}
 use Rattle.dtx_calm_feed.proofs.laws.each_sends_its_own.Goals as goal

@@ -1,5 +1,4 @@
-use Rattle.std.proofs.Common.{drop, arith}
-use Rattle.std.proofs.lemmas.List.{length-drop, take_all}
+use Rattle.std.proofs.Common.{drop, arith, length-drop, take_all}
 use Rattle.dtx_coder.proofs.outer_coding.data_of.Goals as goal
 
 pub returns-clause-behind : goal.returns-clause-behind

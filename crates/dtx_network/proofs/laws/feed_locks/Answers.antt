@@ -1,4 +1,4 @@
-use Rattle.dtx_network.proofs.Served.{feed_locks}
+use Rattle.dtx_network.proofs.Listings.{feed_locks}
 use Rattle.dtx_network.proofs.laws.feed_locks.Goals as goal
 
 pub returns : goal.returns

@@ -1,5 +1,4 @@
-use Rattle.dtx_network.proofs.Meets.{is_met, met_first, met_in_any_state, met_in_turn, met_in_turn_in_any_state}
-use Rattle.dtx_network.proofs.Meets.{may_be}
+use Rattle.dtx_network.proofs.Meets.{is_met, met_first, met_in_any_state, met_in_turn, met_in_turn_in_any_state, may_be}
 use Rattle.dtx_network.proofs.laws.joined_is_met.Goals as goal
 
 pub returns-clause-met : goal.returns-clause-met

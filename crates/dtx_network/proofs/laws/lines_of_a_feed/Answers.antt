@@ -1,4 +1,4 @@
-use Rattle.dtx_network.proofs.Presets.{lines_are}
+use Rattle.dtx_network.proofs.Stretches.{lines_are}
 use Rattle.dtx_network.proofs.laws.lines_of_a_feed.Goals as goal
 
 pub returns : goal.returns

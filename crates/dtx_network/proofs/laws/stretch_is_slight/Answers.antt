@@ -1,4 +1,4 @@
-use Rattle.dtx_network.proofs.Undamaged.{received_alone}
+use Rattle.dtx_network.proofs.Back.{received_alone}
 use Rattle.dtx_network.proofs.laws.stretch_is_slight.Goals as goal
 
 pub returns : goal.returns

@@ -1,5 +1,4 @@
-use Rattle.std.proofs.Common.{ℕ, ◌+◌, ◌*◌, ◌%◌, ◌<◌, ◌≤◌, length, sym, ap, subst, ◌∙◌, arith}
-use Rattle.std.specs.Prelude.{slice_range}
+use Rattle.std.proofs.Common.{ℕ, ◌+◌, ◌*◌, ◌%◌, ◌<◌, ◌≤◌, length, sym, ap, subst, ◌∙◌, arith, slice_range}
 use Rattle.dtx_ops.specs.declared.paging.Paging.TheVariants.{Of}
 use Rattle.dtx_ops.specs.Paging.{page_of, pages_of, IsPaged}
 use Rattle.dtx_adapter.proofs.PagesLemmas.{paged}

@@ -1,6 +1,5 @@
-use Rattle.std.proofs.Common.{rules, drop, sym, ◌∙◌, []}
+use Rattle.std.proofs.Common.{rules, drop, sym, ◌∙◌, [], take_at}
 use Rattle.std.proofs.lemmas.Bool.{cond-true}
-use Rattle.std.proofs.lemmas.List.{take_at}
 use Rattle.dtx_frame.specs.Segments.{field_sync}
 use Rattle.dtx_coder.proofs.air.Air.begin.Goals as goal
 
