@@ -1,6 +1,6 @@
 -- A byte of a run hangs on the levels of five symbols.
-use Rattle.std.proofs.Common.{◌≡◌, ℕ, ℤ, pos, zero, suc, ◌+◌, ◌-◌, ◌*◌, ◌/◌, ◌%◌, ◌<◌, ◌≤◌, List, []}
-use Rattle.std.proofs.Common.{◌++◌, ◌⊎◌, inl, inr, length, map, drop, get_or, sym, ap, ap₂, ◌∙◌, subst, arith}
+use Rattle.std.proofs.Common.{◌≡◌, ℕ, ℤ, pos, zero, suc, ◌+◌, ◌-◌, ◌*◌, ◌/◌, ◌%◌, ◌<◌, ◌≤◌, List, [], ◌++◌, ◌⊎◌, inl}
+use Rattle.std.proofs.Common.{inr, length, map, drop, get_or, sym, ap, ap₂, ◌∙◌, subst, arith}
 use Rattle.std.specs.List.{range_with_len, flat_map}
 use Rattle.std.proofs.lemmas.List.{get_or_append_left, get_or-append_right, get_or-drop, get_or-map, length-drop}
 use Rattle.std.proofs.lemmas.List.{length-append}
@@ -29,24 +29,15 @@ flat_at f w a (suc n) zero k d long l m =
     ∙ ap (λ (b : ℕ). get_or (f b) k d) (sym z)
 flat_at f w a (suc n) (suc i) k d long l m =
     let z : a + 0 ≡ a = omega arith in
-    let next : w * suc i + k - w ≡ w * i + k = behind w i k in
-    let within : w ≤ w * suc i + k = past w i k in
+    let next : w * suc i + k - w ≡ w * i + k = omega arith in
+    let within : w ≤ w * suc i + k = omega arith in
     let own : length (f a) ≡ w = subst (λ (b : ℕ). length (f b) ≡ w) z (long 0 (omega arith)) in
     get_or-append_right (f a) (flat_map f (range_with_len (a + 1) n)) w (w * suc i + k) d own within
     ∙ ap (λ (x : ℕ). get_or (flat_map f (range_with_len (a + 1) n)) x d) next
     ∙ flat_at f w (a + 1) n i k d
-    (λ j h. subst (λ (b : ℕ). length (f b) ≡ w) (moved a j) (long (suc j) (omega (arith, h))))
+    (λ j h. subst (λ (b : ℕ). length (f b) ≡ w) (omega arith) (long (suc j) (omega (arith, h))))
     (omega (arith, l)) m
-    ∙ ap (λ (b : ℕ). get_or (f b) k d) (sym (moved a i))
-  where
-    moved : (a j : ℕ) → a + suc j ≡ a + 1 + j
-    moved a j = omega arith
-
-    behind : (w i k : ℕ) → w * suc i + k - w ≡ w * i + k
-    behind w i k = omega arith
-
-    past : (w i k : ℕ) → w ≤ w * suc i + k
-    past w i k = omega arith
+    ∙ ap (λ (b : ℕ). get_or (f b) k d) (sym (omega arith))
 
 -- ---- the levels of a run
 
@@ -168,7 +159,7 @@ same_byte : (a b : List (List ℤ)) (y : ℕ) → AreAlike a b → y < 828 * gro
 unfolding byte_back
 same_byte a b y h l s =
     ap₂ (λ x z. 64 * x + 16 * z + 4 * third a + fourth a)
-    (pair (4 * (y / 12)) (omega (arith, l)) (at 0 (omega arith) none) (s.same 1 (omega arith)))
+    (pair (4 * (y / 12)) (omega (arith, l)) (at 0 (omega arith) (omega arith)) (s.same 1 (omega arith)))
     (pair (4 * (y / 12) + 1) (omega (arith, l)) (s.same 1 (omega arith)) (at 2 (omega arith) (more 1)))
     ∙ ap₂ (λ x z. 64 * first b + 16 * second b + 4 * x + z)
     (pair (4 * (y / 12) + 2) (omega (arith, l)) (s.same 2 (omega arith)) (at 3 (omega arith) (more 2)))
@@ -188,9 +179,6 @@ same_byte a b y h l s =
 
     fourth : List (List ℤ) → ℕ
     fourth run = pair_back 0 (first_bits run) (levels_in run) (4 * (y / 12) + 3) (coder_of 0 y)
-
-    none : 4 * (y / 12) + 0 ≡ 4 * (y / 12)
-    none = omega arith
 
     more : (i : ℕ) → 4 * (y / 12) + (i + 1) ≡ 4 * (y / 12) + i + 1
     more i = omega arith
@@ -217,11 +205,8 @@ length-flat f w a (suc n) long =
       length-append (f a) (flat_map f (range_with_len (a + 1) n)),
       subst (λ (b : ℕ). length (f b) ≡ w) z (long 0 (omega arith)),
       length-flat f w (a + 1) n
-          (λ j l. subst (λ (b : ℕ). length (f b) ≡ w) (moved a j) (long (suc j) (omega (arith, l)))),
+          (λ j l. subst (λ (b : ℕ). length (f b) ≡ w) (omega arith) (long (suc j) (omega (arith, l)))),
     )
-  where
-    moved : (a j : ℕ) → a + suc j ≡ a + 1 + j
-    moved a j = omega arith
 
 level_groups_are : (run : List (List ℤ)) → AreWhole run → level_groups (levels_in run) ≡ groups_of run
 unfolding level_groups levels_in levels_from data_at

@@ -1,7 +1,7 @@
 -- A byte of a run is marked where one of five symbols is missing.
 use Rattle.std.proofs.Common.{◌≡◌, ℕ, ℤ, pos, zero, suc, ◌+◌, ◌-◌, ◌*◌, ◌/◌, ◌%◌, ◌<◌, ◌≤◌, ◌==◌, ◌⊎◌, ◌||◌, inl, inr}
-use Rattle.std.proofs.Common.{Bool, true, false, List, [], length, map, drop, get_or, refl, sym, ap, ap₂}
-use Rattle.std.proofs.Common.{◌∙◌, subst, arith}
+use Rattle.std.proofs.Common.{Bool, true, false, List, [], length, map, drop, get_or, refl, sym, ap, ap₂, ◌∙◌, subst}
+use Rattle.std.proofs.Common.{arith}
 use Rattle.std.specs.List.{range_with_len, flat_map}
 use Rattle.std.proofs.lemmas.Bool.{cond-false, ne_eqb}
 use Rattle.std.proofs.lemmas.List.{get_or-drop, get_or-map, length-drop, length-map}
@@ -112,7 +112,7 @@ pub marked_or_not : (run : List (List ℤ)) (y : ℕ) → AreWhole run → 0 < l
 unfolding is_marked
 marked_or_not run y whole some l =
     five (was_missing run r e) (was_missing run (r + 1) e) (was_missing run (r + 2) e) (was_missing run (r + 3) e)
-    (was_missing run (r + 4) e) (missing_before run y) (at 0 (omega arith) start) (at 1 (omega arith) refl)
+    (was_missing run (r + 4) e) (missing_before run y) (at 0 (omega arith) (omega arith)) (at 1 (omega arith) refl)
     (at 2 (omega arith) refl) (at 3 (omega arith) refl) (at 4 (omega arith) refl)
   where
     r : ℕ
@@ -120,9 +120,6 @@ marked_or_not run y whole some l =
 
     e : ℕ
     e = coder_of 0 y
-
-    start : 4 * (y / 12) + 0 ≡ 4 * (y / 12)
-    start = omega arith
 
     at : (i : ℕ) {n : ℕ} → i < 5 → 4 * (y / 12) + i ≡ n → missing_before run y i ≡ was_missing run n (coder_of 0 y)
     at i k z =

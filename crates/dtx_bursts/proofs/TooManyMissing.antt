@@ -1,7 +1,7 @@
 -- One missing symbol more in a row can be too many: a stream's first packet shows it.
-use Rattle.std.proofs.Common.{◌≡◌, ℕ, ℤ, negsuc, ◌+◌, ◌*◌, ◌/◌, ◌<◌, ◌≤◌, ◌⊎◌, cond, nat_le}
-use Rattle.std.proofs.Common.{nat_lt, ◌&&◌, ◌||◌, inl, inr, not, Bool, true, false, List, [], ◌∷◌, length, get_or}
-use Rattle.std.proofs.Common.{refl, sym, ap, ◌∙◌, subst, arith}
+use Rattle.std.proofs.Common.{◌≡◌, ℕ, ℤ, negsuc, ◌+◌, ◌*◌, ◌/◌, ◌<◌, ◌≤◌, ◌⊎◌, cond, nat_le, nat_lt, ◌&&◌, ◌||◌, inl}
+use Rattle.std.proofs.Common.{inr, not, Bool, true, false, List, [], ◌∷◌, length, get_or, refl, sym, ap, ◌∙◌, subst}
+use Rattle.std.proofs.Common.{arith}
 use Rattle.std.proofs.lemmas.Bool.{and_parts, cases_lt, leb-true, ltb-true, or_cases}
 use Rattle.dtx_lists.proofs.Below.{holds_below, at_below}
 use Rattle.dtx_trellis.specs.Trellis.{symbol_of}
