@@ -160,10 +160,10 @@ unfolding byte_back
 same_byte a b y h l s =
     ap₂ (λ x z. 64 * x + 16 * z + 4 * third a + fourth a)
     (pair (4 * (y / 12)) (omega (arith, l)) (at 0 (omega arith) (omega arith)) (s.same 1 (omega arith)))
-    (pair (4 * (y / 12) + 1) (omega (arith, l)) (s.same 1 (omega arith)) (at 2 (omega arith) (more 1)))
+    (pair (4 * (y / 12) + 1) (omega (arith, l)) (s.same 1 (omega arith)) (at 2 (omega arith) (omega arith)))
     ∙ ap₂ (λ x z. 64 * first b + 16 * second b + 4 * x + z)
-    (pair (4 * (y / 12) + 2) (omega (arith, l)) (s.same 2 (omega arith)) (at 3 (omega arith) (more 2)))
-    (pair (4 * (y / 12) + 3) (omega (arith, l)) (s.same 3 (omega arith)) (at 4 (omega arith) (more 3)))
+    (pair (4 * (y / 12) + 2) (omega (arith, l)) (s.same 2 (omega arith)) (at 3 (omega arith) (omega arith)))
+    (pair (4 * (y / 12) + 3) (omega (arith, l)) (s.same 3 (omega arith)) (at 4 (omega arith) (omega arith)))
   where
     e : ℕ
     e = coder_of 0 y
@@ -179,9 +179,6 @@ same_byte a b y h l s =
 
     fourth : List (List ℤ) → ℕ
     fourth run = pair_back 0 (first_bits run) (levels_in run) (4 * (y / 12) + 3) (coder_of 0 y)
-
-    more : (i : ℕ) → 4 * (y / 12) + (i + 1) ≡ 4 * (y / 12) + i + 1
-    more i = omega arith
 
     at : (i : ℕ) {r : ℕ} → i < 5 → 4 * (y / 12) + i ≡ r
         → level_before a r (coder_of 0 y) ≡ level_before b r (coder_of 0 y)
