@@ -1,8 +1,7 @@
 -- The laws of de-interleaving.
 use Rattle.std.proofs.Common.{◌≡◌, ℕ, ◌+◌, ◌-◌, ◌*◌, ◌/◌, ◌%◌, ◌<◌, ◌≤◌, ◌⊎◌, nat_le, cond, inl, inr, List, ◌++◌}
-use Rattle.std.proofs.Common.{length, get_or, take, refl, sym, ap, subst, ◌∙◌, arith, add-mul, mul-add}
+use Rattle.std.proofs.Common.{length, get_or, take, refl, sym, ap, subst, ◌∙◌, arith, add-mul, mul-add, div-add-mod'}
 use Rattle.std.specs.List.{concat}
-use Rattle.std.proofs.Common.{div-add-mod'}
 use Rattle.std.proofs.lemmas.Bool.{cases_lt, cond-true, cond-false, le-leb, lt-leb}
 use Rattle.std.proofs.lemmas.Nat.{mod-mul-add, mod_below}
 use Rattle.std.proofs.lemmas.List.{length-append, get_or_append_left, ext_get_or, length-take-le, get_or-take}
@@ -13,9 +12,9 @@ use Rattle.dtx_laws.specs.Gathering.{gathered_at, gathered, IsGatheredBehind}
 use Rattle.dtx_laws.proofs.PlacesLemmas.{length_leaving}
 use Rattle.dtx_laws.proofs.InterleavingLemmas.{in_turns, come_by, held_by, held_turn_by, come_at, leaving_calls_is}
 use Rattle.dtx_laws.proofs.InterleavingLemmas.{length-interleaved, get_or-interleaved, at_held as spread_held}
-use Rattle.dtx_laws.proofs.InterleavingLemmas.{zeros_give as spread_zeros}
+use Rattle.dtx_laws.proofs.InterleavingLemmas.{zeros_give as spread_zeros, HasWidths-aligned, HasWidths-zeroed}
+use Rattle.dtx_laws.proofs.InterleavingLemmas.{zeros_at, next-zeroed}
 use Rattle.dtx_laws.specs.Interleaving.{interleaved}
-use Rattle.dtx_laws.proofs.InterleavingLemmas.{HasWidths-aligned, HasWidths-zeroed, zeros_at, next-zeroed}
 
 -- ---- the map
 
@@ -42,11 +41,8 @@ gathered-append b m y z =
     ∙ sym (get_or-gathered b m y i (omega (arith, long, l))))
   where
     long : length (take (length y) (gathered b m (y ++ z))) ≡ length y
-    long = length-take-le (length y) (gathered b m (y ++ z)) (omega (
-      arith,
-      length-gathered b m (y ++ z),
-      length-append y z,
-    ))
+    long = length-take-le (length y) (gathered b m (y ++ z))
+        (omega (arith, length-gathered b m (y ++ z), length-append y z))
 
 -- ---- behind an align
 
@@ -120,11 +116,10 @@ delays b m r l = sym (mul-add (b * m) (b - 1 - r) r) ∙ ap (λ x. b * m * x) (o
 
 -- a place moved by whole turns
 pub same_branch : (b n t : ℕ) → 0 < b → t * b ≤ n → (n - t * b) % b ≡ n % b
-same_branch b n t p h = sym (ap (λ i. i % b) back
-    ∙ mod-mul-add ((n - t * b) / b + t) b ((n - t * b) % b) (mod_below (n - t * b) b p))
-  where
-    back : n ≡ ((n - t * b) / b + t) * b + (n - t * b) % b
-    back = omega (arith, h, div-add-mod' (n - t * b) b, add-mul ((n - t * b) / b) t b)
+same_branch b n t p h =
+    let back : n ≡ ((n - t * b) / b + t) * b + (n - t * b) % b =
+    omega (arith, h, div-add-mod' (n - t * b) b, add-mul ((n - t * b) / b) t b) in
+    sym (ap (λ i. i % b) back ∙ mod-mul-add ((n - t * b) / b + t) b ((n - t * b) % b) (mod_below (n - t * b) b p))
 
 pub gathered_back : (b m : ℕ) (s g : Branching) (x : List ℕ) (n : ℕ) → HasWidths b (spreading m) s
     → HasWidths b (gathering b m) g → n < length x → b * m * (b - 1) ≤ n

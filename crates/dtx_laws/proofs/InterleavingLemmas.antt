@@ -1,9 +1,8 @@
 -- The laws of interleaving.
 use Rattle.std.proofs.Common.{◌≡◌, ℕ, ◌+◌, ◌-◌, ◌*◌, ◌/◌, ◌%◌, ◌<◌, ◌≤◌, ◌⊎◌, ◌==◌, nat_le, cond, inl, inr, List, []}
 use Rattle.std.proofs.Common.{◌∷◌, ◌++◌, length, get_or, set, drop, take, replicate, refl, sym, ap, subst, ◌∙◌, arith}
-use Rattle.std.proofs.Common.{add-mul}
+use Rattle.std.proofs.Common.{add-mul, mul-le-mul_right, div-add-mod'}
 use Rattle.std.specs.List.{concat}
-use Rattle.std.proofs.Common.{mul-le-mul_right, div-add-mod'}
 use Rattle.std.proofs.lemmas.Bool.{cases_lt, cases_eq, cond-true, cond-false, le-leb, lt-leb}
 use Rattle.std.proofs.lemmas.Nat.{mod_below}
 use Rattle.std.proofs.lemmas.List.{length-set, length-append, get_or-set_same, get_or-set_other, get_or_append_left}
@@ -42,11 +41,8 @@ interleaved-append b m x z =
     ∙ sym (get_or-interleaved b m x i (omega (arith, long, l))))
   where
     long : length (take (length x) (interleaved b m (x ++ z))) ≡ length x
-    long = length-take-le (length x) (interleaved b m (x ++ z)) (omega (
-      arith,
-      length-interleaved b m (x ++ z),
-      length-append x z,
-    ))
+    long = length-take-le (length x) (interleaved b m (x ++ z))
+        (omega (arith, length-interleaved b m (x ++ z), length-append x z))
 
 -- ---- any cut into calls
 

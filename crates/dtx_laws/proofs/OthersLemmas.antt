@@ -120,11 +120,8 @@ different_others n mark p zero l r = tt
 different_others n mark p (suc b) l r =
     different_step (power_at n b) (others n mark p b) (mark b && not (b == p))
     (all_others (λ z. z ≢ power_at n b) n mark p b
-    (λ q m t. places_differ n q b l (omega arith) (omega arith) (below_differs q b m)))
+    (λ q m t. places_differ n q b l (omega arith) (omega arith) (λ e. omega arith)))
     (different_others n mark p b l (omega arith))
-  where
-    below_differs : (q b : ℕ) → q < b → q ≡ b → ⊥
-    below_differs q b m e = omega arith
 
 -- the highest coefficient first
 abbrev turned : List ℕ → List ℕ

@@ -1,7 +1,7 @@
 use Rattle.std.proofs.Common.{◌≡◌, ℕ, ◌+◌, ◌-◌, ◌*◌, sym, subst, arith}
-use Rattle.dtx_trellis.specs.Lanes.{HoldsBytes, HoldsStates, turn}
-use Rattle.dtx_trellis.proofs.LaneRoundsLemmas.{first_turn, loaded_bytes, lower_pairs, moved_bytes, moved_states}
-use Rattle.dtx_trellis.proofs.LaneRoundsLemmas.{round_place, stands_next, upper_pairs}
+use Rattle.dtx_trellis.specs.Lanes.{HoldsStates, turn}
+use Rattle.dtx_trellis.proofs.LaneRoundsLemmas.{HoldsBytes, first_turn, loaded_bytes, lower_pairs, moved_bytes}
+use Rattle.dtx_trellis.proofs.LaneRoundsLemmas.{moved_states, round_place, stands_next, upper_pairs}
 use Rattle.dtx_trellis.proofs.walk.edge_bytes.Goals as goal
 
 pub next_place-requires-clause-place : goal.next_place-requires-clause-place
