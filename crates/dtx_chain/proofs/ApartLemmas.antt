@@ -218,9 +218,8 @@ gives_other f j p y l b z e =
     let ps : List (List ℕ) = replicate (f + j + 1) q in
     let there : get_or ps (f + j) [] ≡ q = get_or-replicate (f + j + 1) (f + j) q [] (omega arith) in
     let near : distance (word_at 207 52 4 y j) (codeword 207 187 (randomized (f + j) (get_or ps (f + j) []))) ≤ 10 =
-    subst (λ (x : List ℕ). distance x (codeword 207 187 (randomized (f + j) (get_or ps (f + j) []))) ≤ 10) (sym e)
-    (subst (λ (x : List ℕ). distance (between (f + j) p) (codeword 207 187 (randomized (f + j) x)) ≤ 10) (sym there)
-    (near_other (f + j) p)) in
+    rw e
+    (rw there (near_other (f + j) p)) in
     ap (λ (r : Received). r.packet.0) (corrected_back ps y f j
     (others (f + j + 1) q (length-other p l) (bytes_other p b)) z (omega (arith, length-replicate (f + j + 1) q)) near)
     ∙ ap as_received there

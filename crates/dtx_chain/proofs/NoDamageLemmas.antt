@@ -125,7 +125,7 @@ slight_before ps first sent got r p same few = record {
   words = λ j c.
       subst (IsNear ps (packet_behind first + j))
       (ap (λ (xs : List (List ℤ)). word_at 207 52 4 (bytes_in xs) j) (sym same))
-      (own.words j (subst (λ (xs : List (List ℤ)). IsComplete 207 52 4 (828 * groups_of xs) j) same c));
+      (own.words j (rw (← same) c));
 }
   where
     own : IsSlight ps first sent sent

@@ -21,12 +21,12 @@ complete_before count k c = λ j l. by_place j l (cases_lt j 206)
     next = omega arith
 
     at : (i : ℕ) → i < 207 → codeword_byte_place 52 4 (207 * k + 207 + i) < count
-    at i l = subst (λ (n : ℕ). codeword_byte_place 52 4 (n + i) < count) next (c i l)
+    at i l = rw (← next) (c i l)
 
     by_place : (j : ℕ) → j < 207 → (j < 206) ⊎ (206 ≤ j) → codeword_byte_place 52 4 (207 * k + j) < count
     by_place j l (inl m) = four_on (207 * k) j (at (j + 1) (omega arith))
     by_place j l (inr m) = let e : 206 ≡ j = omega arith in
-        subst (λ (i : ℕ). codeword_byte_place 52 4 (207 * k + i) < count) e (omega (arith, at 155 (omega arith)))
+        rw (← e) (omega (arith, at 155 (omega arith)))
 
 complete_up_to : (count k i : ℕ) → IsComplete 207 52 4 count k → i ≤ k → IsComplete 207 52 4 count i
 complete_up_to count zero i c l = let e : 0 ≡ i = omega arith in subst (IsComplete 207 52 4 count) e c
