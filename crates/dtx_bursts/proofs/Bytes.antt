@@ -182,7 +182,7 @@ same_byte a b y h l s =
 
     at : (i : ℕ) {r : ℕ} → i < 5 → 4 * (y / 12) + i ≡ r
         → level_before a r (coder_of 0 y) ≡ level_before b r (coder_of 0 y)
-    at i k m = subst (λ n. level_before a n (coder_of 0 y) ≡ level_before b n (coder_of 0 y)) m (s.same i k)
+    at i k m = rw (← m) (s.same i k)
 
     pair : (r : ℕ) → r < 276 * groups_of a → level_before a r (coder_of 0 y) ≡ level_before b r (coder_of 0 y)
         → level_before a (r + 1) (coder_of 0 y) ≡ level_before b (r + 1) (coder_of 0 y)
@@ -210,8 +210,7 @@ unfolding level_groups levels_in levels_from data_at
 level_groups_are run whole =
     ap (λ n. n / 3312) (length-flat (λ i. sliced_data (get_or run (i + i / 312 + 1) [])) 828 0 (4 * groups_of run)
     (λ j h. let z : j ≡ 0 + j = omega arith in
-    subst (λ n. length (sliced_data (get_or run (n + n / 312 + 1) [])) ≡ 828) z
-    (segment_long (get_or run (j + j / 312 + 1) []) (whole (j + j / 312 + 1) (data_within run j h)))))
+    rw (← z) (segment_long (get_or run (j + j / 312 + 1) []) (whole (j + j / 312 + 1) (data_within run j h)))))
     ∙ back (groups_of run)
   where
     back : (g : ℕ) → 828 * (4 * g) / 3312 ≡ g
@@ -242,7 +241,7 @@ rises_by : (r i e : ℕ) → position_of r e ≤ position_of (r + i) e
 rises_by r zero e = subst (λ n. position_of r e ≤ position_of n e) (let z : r ≡ r + 0 = omega arith in z) (omega arith)
 rises_by r (suc i) e =
     let z : r + i + 1 ≡ r + suc i = omega arith in
-    subst (λ n. position_of r e ≤ position_of n e) z (omega (arith, rises_by r i e, of_rises (r + i) e))
+    rw (← z) (omega (arith, rises_by r i e, of_rises (r + i) e))
 
 position_within : (run : List (List ℤ)) (d : ℕ) → d < 3312 * groups_of run → position d < 832 * length run
 position_within run d l = omega (arith, data_within run (d / 828) (omega (arith, l)))
@@ -252,8 +251,7 @@ of_within : (run : List (List ℤ)) (r e : ℕ) → 0 < length run → r ≤ 276
 of_within run zero e some l = omega (arith, first_position e, some)
 of_within run (suc r) e some l =
     let a : r + 1 ≡ suc r = omega arith in
-    subst (λ n. position_of n e < 832 * length run) a
-    (omega (
+    rw (← a) (omega (
       arith,
       next_position r e,
       position_within run (symbol_place 0 r e) (place_within 0 r e (groups_of run) (omega (arith, l))),
@@ -275,8 +273,7 @@ not_before y i = rises_by (4 * (y / 12)) i (coder_of 0 y)
 pub not_behind : (y i : ℕ) → i < 5 → position_of (4 * (y / 12) + i) (coder_of 0 y) ≤ end_of y
 not_behind y i m =
     let z : 4 * (y / 12) + i + (4 - i) ≡ 4 * (y / 12) + 4 = omega (arith, m) in
-    subst (λ n. position_of (4 * (y / 12) + i) (coder_of 0 y) ≤ position_of n (coder_of 0 y)) z
-    (rises_by (4 * (y / 12) + i) (4 - i) (coder_of 0 y))
+    rw (← z) (rises_by (4 * (y / 12) + i) (4 - i) (coder_of 0 y))
 
 pub off_byte : (a b : List (List ℤ)) (count from y : ℕ) → AreAlike a b → DifferWithin count from a b
     → y < 828 * groups_of a → (end_of y < from) ⊎ (from + count ≤ begin_of y)

@@ -65,7 +65,7 @@ mark_at a b j i h c l =
     (codeword_byte_place 52 4 p) false) (207 * j) 207 i (207 * j + i) false l refl
     ∙ get_or-map-range_with_len (is_marked a) 0 (length (bytes_in a)) (air_place (207 * j + i))
     (air_place (207 * j + i)) false
-    (subst (λ (n : ℕ). air_place (207 * j + i) < n) (sym (length-run a h.first)) (c i l)) (omega arith)
+    (rw (length-run a h.first) (c i l)) (omega arith)
 
 -- whether byte m of the codewords isn't marked
 abbrev unmarked_at : List (List ℤ) → ℕ → Bool

@@ -77,8 +77,7 @@ pub of_rises : (r e : ℕ) → position_of r e ≤ position_of (r + 1) e
 of_rises zero e = omega (arith, first_position e, next_position 0 e)
 of_rises (suc r) e =
     let a : r + 1 ≡ suc r = omega arith in
-    subst (λ n. position_of n e ≤ position_of (n + 1) e) a
-    (omega (
+    rw (← a) (omega (
       arith,
       next_position r e,
       next_position (r + 1) e,

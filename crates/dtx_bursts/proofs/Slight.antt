@@ -80,8 +80,7 @@ near_behind : (ps : List (List ℕ)) (first from j : ℕ) (sent got : List (List
     → IsNear ps (packet_behind first + j) (word_in first got j)
 unfolding word_in from_sync
 near_behind ps first from j sent got r p burst l c =
-    subst (λ (code : List ℕ). distance (word_at 207 52 4 (bytes_in (drop (to_sync first) got)) j) code ≤ 10)
-    (sent_word ps first j sent got r p l c)
+    rw (← sent_word ps first j sent got r p l c)
     (words_near (drop (to_sync first) got) (drop (to_sync first) sent) (from - 832 * to_sync first) j
     (alike_moved ps first (to_sync first) sent got r l)
     (differ_moved (to_sync first) 2022 from sent got r.as_many burst) c)

@@ -130,8 +130,8 @@ other_byte ps y l m (inr (a, b, c)) =
     (level_eight (a53 ps) (position_of (4 * (y / 12) + 0) (coder_of 0 y)))
     (level_eight (a53 ps) (position_of (4 * (y / 12) + 1) (coder_of 0 y)))
     (level_turned ps (position_of (4 * (y / 12) + 0) (coder_of 0 y)) (level_of ps y 0 l m (omega arith))
-    (subst (λ n. 25425 ≤ position_of n (coder_of 0 y)) start a)
-    (subst (λ n. position_of n (coder_of 0 y) < 25425 + 2023) start b))
+    (rw (← start) a)
+    (rw (← start) b))
     (level_left ps (position_of (4 * (y / 12) + 1) (coder_of 0 y)) (level_of ps y 1 l m (omega arith)) (inr c))
   where
     start : 4 * (y / 12) ≡ 4 * (y / 12) + 0
@@ -237,8 +237,7 @@ first_far : (ps : List (List ℕ)) → ArePackets ps → 52 ≤ length ps
     → 11 ≤ distance (word_in 0 (turned ps) 0) (codeword_at ps 0)
 unfolding word_in to_sync from_sync
 first_far ps p l =
-    subst (λ (code : List ℕ). 11 ≤ distance (word_at 207 52 4 (bytes_in (turned ps)) 0) code) (first_word ps p l)
-    (words_far ps l)
+    rw (← first_word ps p l) (words_far ps l)
 
 pub one_more : (ps : List (List ℕ)) → ArePackets ps → 52 ≤ length ps
     → (got : List (List ℤ)) × AreReceived ps 0 (a53 ps) got × AreFound 0 (a53 ps) got

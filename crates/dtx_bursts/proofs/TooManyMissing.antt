@@ -181,8 +181,8 @@ marked ps y l m h =
     by_mark (inr (none, t)) (inr (a, b)) =
         absurd (never_both (is_missing (symbol_at (gapped ps) (position_of (4 * (y / 12) + 0) (coder_of 0 y))))
         (missing_inside ps (position_of (4 * (y / 12) + 0) (coder_of 0 y)) (within 0 (omega arith))
-        (subst (λ n. 19982 ≤ position_of n (coder_of 0 y)) start a)
-        (subst (λ n. position_of n (coder_of 0 y) < 19982 + 4142) start b)) (none 0 (omega arith)))
+        (rw (← start) a)
+        (rw (← start) b)) (none 0 (omega arith)))
 
 -- 1 where byte m of the codewords is marked
 flag_at : List (List ℕ) → ℕ → ℕ

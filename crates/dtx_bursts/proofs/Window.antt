@@ -26,7 +26,7 @@ never_both false t f = cc
 pub byte_there : (given j m : ℕ) → IsComplete 207 52 4 given j → 207 * j ≤ m → m < 207 * j + 207 → air_place m < given
 byte_there given j m c l u =
     let z : 207 * j + (m - 207 * j) ≡ m = omega (arith, l) in
-    subst (λ n. codeword_byte_place 52 4 n < given) z (c (m - 207 * j) (omega (arith, l, u)))
+    rw (← z) (c (m - 207 * j) (omega (arith, l, u)))
 
 -- 1 where the test fails
 abbrev pub failing : (ℕ → Bool) → ℕ → ℕ
