@@ -80,7 +80,7 @@ behind b m v y s z = record {
 pub behind_calls : (b m : ℕ) (v : Branching) (calls : List (List ℕ)) → HasWidths b (gathering b m) v
     → IsGatheredBehind b m v.lists (concat calls) (leaving_calls b (aligned v) calls)
 behind_calls b m v calls s =
-    subst (λ zs. IsGatheredBehind b m v.lists (concat calls) zs) (sym (leaving_calls_is b (aligned v) calls))
+    rw (leaving_calls_is b (aligned v) calls)
     (behind b m (aligned v) (concat calls) (HasWidths-aligned b (gathering b m) v s) refl)
 
 -- ---- from zeros

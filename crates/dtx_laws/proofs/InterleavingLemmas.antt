@@ -74,9 +74,7 @@ HasWidths-byte b w v byte h = record {
     by_cases : (i : ℕ) → i < b → (i ≡ v.next) ⊎ (i ≡ v.next → ⊥)
         → length (get_or (set v.lists v.next (drop 1 (get_or v.lists v.next [] ++ byte ∷ []))) i []) ≡ w i
     by_cases i l (inl e) =
-        subst (λ (k : ℕ). length (get_or (set v.lists v.next (drop 1 (get_or v.lists v.next [] ++ byte ∷ []))) k [])
-        ≡ w k) (sym e)
-        (ap length (get_or-set_same v.lists v.next (drop 1 (get_or v.lists v.next [] ++ byte ∷ [])) []
+        rw e (ap length (get_or-set_same v.lists v.next (drop 1 (get_or v.lists v.next [] ++ byte ∷ [])) []
         (omega (arith, h.next, h.count))) ∙ length_moved (get_or v.lists v.next []) byte ∙ h.long v.next h.next)
     by_cases i l (inr n) =
         ap length (get_or-set_other v.lists v.next i (drop 1 (get_or v.lists v.next [] ++ byte ∷ [])) [] n) ∙ h.long i l
@@ -181,7 +179,7 @@ behind b m v x s z = record {
 pub behind_calls : (b m : ℕ) (v : Branching) (calls : List (List ℕ)) → HasWidths b (spreading m) v
     → IsInterleavedBehind b m v.lists (concat calls) (leaving_calls b (aligned v) calls)
 behind_calls b m v calls s =
-    subst (λ ys. IsInterleavedBehind b m v.lists (concat calls) ys) (sym (leaving_calls_is b (aligned v) calls))
+    rw (leaving_calls_is b (aligned v) calls)
     (behind b m (aligned v) (concat calls) (HasWidths-aligned b (spreading m) v s) refl)
 
 -- ---- from zeros

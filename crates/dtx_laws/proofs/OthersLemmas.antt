@@ -36,8 +36,7 @@ weight_cases : (n : ℕ) (mark : ℕ → Bool) (p q b : ℕ) (ys : List ℕ) →
     → (q < b → weight (power_at n q) ys ≡ 0)
     → weight (power_at n q) (cond (mark b && not (b == p)) (power_at n b ∷ ys) ys) ≡ 0
 weight_cases n mark p q b ys t d (inl e) h =
-    subst (λ (c : ℕ). weight (power_at n q) (cond (mark c && not (c == p)) (power_at n c ∷ ys) ys) ≡ 0) e
-    (weight_own (power_at n q) ys (mark q && not (q == p)) (is_other mark p q t d))
+    rw (← e) (weight_own (power_at n q) ys (mark q && not (q == p)) (is_other mark p q t d))
 weight_cases n mark p q b ys t d (inr m) h = weight_more (power_at n q) (power_at n b) ys (mark b && not (b == p)) (h m)
 
 -- a marked place among them makes the weight 0

@@ -69,8 +69,7 @@ Holds-step b w e q r lists byte h l c = record {
     long_cases : (i : ℕ) → i < b → (i ≡ r) ⊎ (i ≡ r → ⊥)
         → length (get_or (set lists r (drop 1 (get_or lists r [] ++ byte ∷ []))) i []) ≡ w i
     long_cases i p (inl s) =
-        subst (λ (k : ℕ). length (get_or (set lists r (drop 1 (get_or lists r [] ++ byte ∷ []))) k []) ≡ w k) (sym s)
-        (ap length (get_or-set_same lists r (drop 1 (get_or lists r [] ++ byte ∷ [])) [] within)
+        rw s (ap length (get_or-set_same lists r (drop 1 (get_or lists r [] ++ byte ∷ [])) [] within)
         ∙ length_moved (get_or lists r []) byte ∙ h.long r l)
     long_cases i p (inr s) = ap length (get_or-set_other lists r i (drop 1 (get_or lists r [] ++ byte ∷ [])) [] s)
         ∙ h.long i p
@@ -78,9 +77,7 @@ Holds-step b w e q r lists byte h l c = record {
     early_cases : (i j : ℕ) → i < suc r → j < w i → (i ≡ r) ⊎ (i ≡ r → ⊥)
         → get_or (get_or (set lists r (drop 1 (get_or lists r [] ++ byte ∷ []))) i []) j 0 ≡ e i (q + 1 + j)
     early_cases i j p k (inl s) =
-        subst (λ (n : ℕ). get_or (get_or (set lists r (drop 1 (get_or lists r [] ++ byte ∷ []))) n []) j 0
-        ≡ e n (q + 1 + j)) (sym s)
-        (ap (λ (ys : List ℕ). get_or ys j 0) (get_or-set_same lists r
+        rw s (ap (λ (ys : List ℕ). get_or ys j 0) (get_or-set_same lists r
         (drop 1 (get_or lists r [] ++ byte ∷ [])) [] within)
         ∙ moved_is b w e q r j lists byte h l c (subst (λ (n : ℕ). j < w n) s k))
     early_cases i j p k (inr s) =
@@ -140,10 +137,7 @@ Stands-next b w e n v byte p s c =
       ap (λ x. cond (x + 1 == b) 0 (x + 1)) s.0 ∙ sym (ap (λ x. x % b) pl ∙ pq.1),
       subst₂ (λ (x y : ℕ). Holds b w e x y (set v.lists v.next (drop 1 (get_or v.lists v.next [] ++ byte ∷ []))))
           (sym (ap (λ x. x / b) pl ∙ pq.0)) (sym (ap (λ x. x % b) pl ∙ pq.1))
-          (subst (λ (x : ℕ). Holds b w e (cond (n % b + 1 == b) (n / b + 1) (n / b))
-          (cond (n % b + 1 == b) 0 (n % b + 1)) (set v.lists x (drop 1 (get_or v.lists x [] ++ byte ∷ []))))
-          (sym s.0)
-          (Holds-next b w e (n / b) (n % b) _ (n % b + 1 == b) (eqb-true (n % b + 1) b)
+          (rw s.0 (Holds-next b w e (n / b) (n % b) _ (n % b + 1 == b) (eqb-true (n % b + 1) b)
           (Holds-step b w e (n / b) (n % b) v.lists byte s.1 l c))),
     )
 

@@ -23,8 +23,7 @@ pub same_states : (q : State) (a b c d : List ℕ) (t : ℕ) → AreBits q → S
 same_states q a b c d zero h s = after_zero q a b ∙ sym (after_zero q c d)
 same_states q a b c d (suc t) h s =
     let e : suc t ≡ t + 1 = omega arith in
-    subst (λ n. state_after q a b n ≡ state_after q c d n) (sym e)
-    (state_step q a b t h (omega (arith, s.long))
+    rw e (state_step q a b t h (omega (arith, s.long))
     ∙ next_eq (same_states q a b c d t h (record {
       long = omega (arith, s.long);
       longer = omega (arith, s.longer);

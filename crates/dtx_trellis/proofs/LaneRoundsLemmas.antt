@@ -173,8 +173,7 @@ pub second_moved : (s r : ℕ) (states bytes lanes pairs both lower behind : Lis
 second_moved s r states bytes lanes pairs both lower behind h n f m =
     let e : r ≡ r + 1 - 1 = omega arith in
     moved_round s (r + 1) (r + 1) states bytes lower behind (omega arith) m
-    (subst (λ t. HoldsRound s states bytes (r + 1) (turn s t) lower) e
-    (second_round s r (turn s r) states bytes lanes pairs both lower h n f))
+    (rw (← e) (second_round s r (turn s r) states bytes lanes pairs both lower h n f))
 
 -- the pairs of the four rounds of byte group h
 byte_later : (s h r e : ℕ) → r / 4 ≡ h → byte_place s (4 * h) e ≡ byte_place s r e

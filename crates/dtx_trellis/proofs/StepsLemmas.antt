@@ -110,8 +110,7 @@ state_step q a b zero h l =
     ∙ ap (λ s. next_of s (get_or a 0 0) (get_or b 0 0)) (sym (after_zero q a b))
 state_step q a b (suc u) h l =
     let e : suc u ≡ u + 1 = omega arith in
-    subst (λ t. state_after q a b (t + 1) ≡ next_of (state_after q a b t) (get_or a t 0) (get_or b t 0)) (sym e)
-    (after_next q a b (u + 1)
+    rw e (after_next q a b (u + 1)
     ∙ make_eq (z2_next q a u (omega arith) ∙ swapped (z2 q a u) (get_or a (u + 1) 0)) (ap (z0 q b) (omega arith)
     ∙ z0_next q b u) refl
     ∙ ap (λ s. next_of s (get_or a (u + 1) 0) (get_or b (u + 1) 0)) (sym (after_next q a b u)))
@@ -124,8 +123,6 @@ level_step q a b zero h l =
     ∙ ap (λ s. level_of s (get_or a 0 0) (get_or b 0 0)) (sym (after_zero q a b))
 level_step q a b (suc u) h l =
     let e : suc u ≡ u + 1 = omega arith in
-    subst (λ t. 4 * z2 q a t + 2 * get_or b t 0 + z0 q b t
-    ≡ level_of (state_after q a b t) (get_or a t 0) (get_or b t 0)) (sym e)
-    (ap (λ x. 4 * x + 2 * get_or b (u + 1) 0 + z0 q b (u + 1)) (z2_next q a u (omega arith)
+    rw e (ap (λ x. 4 * x + 2 * get_or b (u + 1) 0 + z0 q b (u + 1)) (z2_next q a u (omega arith)
     ∙ swapped (z2 q a u) (get_or a (u + 1) 0))
     ∙ ap (λ s. level_of s (get_or a (u + 1) 0) (get_or b (u + 1) 0)) (sym (after_next q a b u)))
