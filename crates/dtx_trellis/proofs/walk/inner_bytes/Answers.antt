@@ -6,8 +6,8 @@ use Rattle.dtx_trellis.proofs.walk.inner_bytes.Goals as goal
 
 pub two_rounds-middle-requires-clause-place : goal.two_rounds-middle-requires-clause-place
 two_rounds-middle-requires-clause-place c =
-    ap (λ g. 12 * (4 * c.args.byte) + 4 * (g + 1)) (sym (omega
-    (arith, c.requires.segment, c.requires.behind, c.requires.before)))
+    ap (λ g. 12 * (4 * c.args.byte) + 4 * (g + 1))
+    (sym (omega (arith, c.requires.segment, c.requires.behind, c.requires.before)))
     ∙ round_place (4 * c.args.byte)
 
 pub two_rounds-middle-requires-clause-states : goal.two_rounds-middle-requires-clause-states
