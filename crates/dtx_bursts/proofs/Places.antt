@@ -1,6 +1,6 @@
 -- Where the symbols stand on which a byte of a run hangs, and how far apart those of two bytes are.
 use Rattle.std.proofs.Common.{◌≡◌, ℕ, zero, suc, ◌+◌, ◌-◌, ◌*◌, ◌/◌, ◌%◌, ◌<◌, ◌≤◌, ◌==◌, ◌⊎◌, inl, inr, cond, refl}
-use Rattle.std.proofs.Common.{sym, ap, ap₂, ◌∙◌, subst, subst₂, arith}
+use Rattle.std.proofs.Common.{sym, ap, ap₂, ◌∙◌, subst₂, arith}
 use Rattle.std.proofs.lemmas.Bool.{cases_lt, cond-false, ne_eqb}
 use Rattle.dtx_slice.specs.Lanes.{lane_place}
 use Rattle.dtx_slice.proofs.PlacesLemmas.{lane_symbol, lane_byte_coder}

@@ -1,9 +1,8 @@
 -- Where the places of a word that fail a test hang on symbols in a row, they are few.
 use Rattle.std.proofs.Common.{◌≡◌, ℕ, ◌+◌, ◌*◌, ◌<◌, ◌≤◌, ◌⊎◌, cond, inl, inr, Bool, true, false, ap, arith, refl, ◌-◌}
-use Rattle.std.proofs.Common.{subst}
 use Rattle.std.proofs.lemmas.Bool.{cases_lt}
 use Rattle.dtx_frame.proofs.CountsLemmas.{total}
-use Rattle.dtx_outer.specs.Inner.{codeword_byte_place, IsComplete}
+use Rattle.dtx_outer.specs.Inner.{IsComplete}
 use Rattle.dtx_bursts.proofs.Least.{IsLeast, AllPass, least_by}
 use Rattle.dtx_bursts.proofs.Places.{AreTwenty, begin_of, end_of, apart_ten, apart_twenty}
 use Rattle.dtx_bursts.proofs.Spread.{air_place, IsWithin, at_most_ten, at_most_twenty, no_nearer}
