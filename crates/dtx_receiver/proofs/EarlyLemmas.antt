@@ -8,8 +8,7 @@ use Rattle.std.proofs.lemmas.Bool.{cases_eq, cases_lt}
 use Rattle.std.proofs.lemmas.List.{length-append, append-nil, map-append, append_assoc, length-take-le}
 use Rattle.std.proofs.lemmas.List.{take-append-drop, nil_from_length}
 use Rattle.dtx_outer.specs.Inner.{waiting, word_at, IsComplete}
-use Rattle.dtx_outer.specs.Made.{made_in}
-use Rattle.dtx_outer.proofs.MadeLemmas.{next_in, made_more, made_none, made_next}
+use Rattle.dtx_outer.proofs.MadeLemmas.{made_in, next_in, made_more, made_none, made_next}
 use Rattle.dtx_outer.proofs.WordsLemmas.{waiting_air, word_stays}
 use Rattle.dtx_laws.specs.Words.{correction}
 use Rattle.dtx_lists.proofs.Range.{range_with_len-parts, map-range_same}

@@ -6,8 +6,7 @@ use Rattle.dtx_laws.specs.Whitening.{whitened}
 use Rattle.dtx_whiten.specs.Randomizer.{randomizer_bytes}
 use Rattle.dtx_whiten.specs.BytesLaws.{length-randomizer_bytes}
 use Rattle.dtx_outer.specs.Inner.{IsTaken}
-use Rattle.dtx_outer.specs.Made.{IsTold}
-use Rattle.dtx_outer.proofs.MadeLemmas.{made_told}
+use Rattle.dtx_outer.proofs.MadeLemmas.{IsTold, made_told}
 use Rattle.dtx_outer.specs.declared.inner.Taken.{Taken}
 use Rattle.dtx_outer.specs.declared.inner.Taken.TheVariants.{Good, Bad}
 use Rattle.dtx_receiver.specs.declared.batch.Received.{Received}
