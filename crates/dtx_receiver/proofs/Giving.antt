@@ -1,6 +1,6 @@
 -- What a block of a run's bytes gives.
-use Rattle.std.proofs.Common.{◌≡◌, ℕ, ◌*◌, ◌/◌, ◌%◌, Option, List, [], ◌∷◌, ◌++◌, length, take, refl, sym}
-use Rattle.std.proofs.Common.{ap, ◌∙◌, subst, append_assoc, lit<, arith}
+use Rattle.std.proofs.Common.{◌≡◌, ℕ, ◌*◌, ◌/◌, ◌%◌, Option, List, [], ◌∷◌, ◌++◌, length, take, refl, sym, ap, ◌∙◌}
+use Rattle.std.proofs.Common.{subst, append_assoc, lit<, arith}
 use Rattle.dtx_laws.specs.Codeword.{distance}
 use Rattle.dtx_laws.specs.Whitening.{whitened}
 use Rattle.dtx_whiten.specs.Randomizer.{randomizer_bytes}
