@@ -1,9 +1,9 @@
 -- A byte of a run hangs on the levels of five symbols.
-use Rattle.std.proofs.Common.{◌≡◌, ℕ, ℤ, pos, zero, suc, ◌+◌, ◌-◌, ◌*◌, ◌/◌, ◌%◌, ◌<◌, ◌≤◌, List, []}
-use Rattle.std.proofs.Common.{◌++◌, ◌⊎◌, inl, inr, length, map, drop, get_or, sym, ap, ap₂, ◌∙◌, subst, arith}
+use Rattle.std.proofs.Common.{◌≡◌, ℕ, ℤ, pos, zero, suc, ◌+◌, ◌-◌, ◌*◌, ◌/◌, ◌%◌, ◌<◌, ◌≤◌, List, [], ◌++◌, ◌⊎◌, inl}
+use Rattle.std.proofs.Common.{inr, length, map, drop, get_or, sym, ap, ap₂, ◌∙◌, subst, arith}
 use Rattle.std.specs.List.{range_with_len, flat_map}
 use Rattle.std.proofs.lemmas.List.{get_or_append_left, get_or-append_right, get_or-drop, get_or-map, length-drop}
-use Rattle.std.proofs.lemmas.List.{length-append}
+use Rattle.std.proofs.lemmas.List.{length-append, length-map}
 use Rattle.std.proofs.lemmas.List.FromFn.{get_or-map-range_with_len, length-map-range_with_len}
 use Rattle.dtx_slice.specs.Slicing.{sliced, sliced_data, sliced_last}
 use Rattle.dtx_slice.specs.Unrolled.{symbol_place, precoder_bit, pair_from, pair_back, coder_of, byte_back}
@@ -12,7 +12,7 @@ use Rattle.dtx_slice.proofs.PlacesLemmas.{precoder_bit_zero, precoder_bit_next}
 use Rattle.dtx_slice.proofs.InverseLemmas.{place_within, coder_of_small}
 use Rattle.dtx_receiver.specs.Bytes.{data_count, data_at, groups_of, levels_from, levels_in, first_bits, bytes_in}
 use Rattle.dtx_receiver.proofs.SegmentsLemmas.{segment_long}
-use Rattle.dtx_bursts.specs.Burst.{symbol_level}
+use Rattle.dtx_bursts.specs.Burst.{symbol_at, symbol_level}
 use Rattle.dtx_bursts.proofs.Places.{position, position_of, first_position, next_position, of_rises, begin_of, end_of}
 
 -- ---- lists of lists, each as long
@@ -29,24 +29,15 @@ flat_at f w a (suc n) zero k d long l m =
     ∙ ap (λ (b : ℕ). get_or (f b) k d) (sym z)
 flat_at f w a (suc n) (suc i) k d long l m =
     let z : a + 0 ≡ a = omega arith in
-    let next : w * suc i + k - w ≡ w * i + k = behind w i k in
-    let within : w ≤ w * suc i + k = past w i k in
+    let next : w * suc i + k - w ≡ w * i + k = omega arith in
+    let within : w ≤ w * suc i + k = omega arith in
     let own : length (f a) ≡ w = subst (λ (b : ℕ). length (f b) ≡ w) z (long 0 (omega arith)) in
     get_or-append_right (f a) (flat_map f (range_with_len (a + 1) n)) w (w * suc i + k) d own within
     ∙ ap (λ (x : ℕ). get_or (flat_map f (range_with_len (a + 1) n)) x d) next
     ∙ flat_at f w (a + 1) n i k d
-    (λ j h. subst (λ (b : ℕ). length (f b) ≡ w) (moved a j) (long (suc j) (omega (arith, h))))
+    (λ j h. subst (λ (b : ℕ). length (f b) ≡ w) (omega arith) (long (suc j) (omega (arith, h))))
     (omega (arith, l)) m
-    ∙ ap (λ (b : ℕ). get_or (f b) k d) (sym (moved a i))
-  where
-    moved : (a j : ℕ) → a + suc j ≡ a + 1 + j
-    moved a j = omega arith
-
-    behind : (w i k : ℕ) → w * suc i + k - w ≡ w * i + k
-    behind w i k = omega arith
-
-    past : (w i k : ℕ) → w ≤ w * suc i + k
-    past w i k = omega arith
+    ∙ ap (λ (b : ℕ). get_or (f b) k d) (sym (omega arith))
 
 -- ---- the levels of a run
 
@@ -61,38 +52,61 @@ data_within run d l = by_length (length run) l
     by_length : (n : ℕ) → d < 4 * ((n - (n + 312) / 313) / 4) → d + d / 312 + 1 < n
     by_length n l = omega (arith, l)
 
-sliced_at : (x : List ℤ) (k : ℕ) → length x ≡ 832 → k < 828
-    → get_or (sliced_data x) k 0 ≡ sliced (get_or x (4 + k) (pos 0))
-unfolding sliced_data
-sliced_at x k long l =
-    get_or-map sliced (drop 4 x) k (pos 0) 0 (omega (arith, l, long, length-drop 4 x))
-    ∙ ap sliced (get_or-drop 4 x k (pos 0))
+part_at : {X : Type 0} (f : ℤ → X) (n k : ℕ) (x : List ℤ) (z : X) → n + k < length x
+    → get_or (map f (drop n x)) k z ≡ f (get_or x (n + k) (pos 0))
+part_at f n k x z l =
+    get_or-map f (drop n x) k (pos 0) z (omega (arith, l, length-drop n x)) ∙ ap f (get_or-drop n x k (pos 0))
 
-level_is : (run : List (List ℤ)) (d : ℕ) → AreWhole run → d < 3312 * groups_of run
-    → get_or (levels_in run) d 0 ≡ symbol_level run (position d)
-unfolding levels_in levels_from data_at symbol_level
-level_is run d whole l =
+-- data symbol d, as f tells it
+pub data_is : {X : Type 0} (f : ℤ → X) (run : List (List ℤ)) (d : ℕ) (z : X) → AreWhole run
+    → d < 3312 * groups_of run
+    → get_or (flat_map (λ i. map f (drop 4 (data_at run i))) (range_with_len 0 (4 * groups_of run))) d z
+    ≡ f (symbol_at run (position d))
+unfolding data_at
+data_is {X} f run d z whole l =
     let i : ℕ = d / 828 in
     let k : ℕ = d % 828 in
     let parts : d ≡ 828 * i + k = omega arith in
     let in_data : i < 4 * groups_of run = omega (arith, l) in
     let place : i ≡ 0 + i = omega arith in
+    let own : length (get_or run (i + i / 312 + 1) []) ≡ 832 = whole (i + i / 312 + 1) (data_within run i in_data) in
     let segment : (832 * (i + i / 312 + 1) + 4 + k) / 832 ≡ i + i / 312 + 1 = omega arith in
     let symbol : (832 * (i + i / 312 + 1) + 4 + k) % 832 ≡ 4 + k = omega arith in
-    ap (λ n. get_or (flat_map slices (range_with_len 0 (4 * groups_of run))) n 0) parts
-    ∙ flat_at slices 828 0 (4 * groups_of run) i k 0 long in_data (omega arith)
-    ∙ ap (λ n. get_or (slices n) k 0) (sym place)
-    ∙ sliced_at (get_or run (i + i / 312 + 1) []) k (whole (i + i / 312 + 1) (data_within run i in_data)) (omega arith)
-    ∙ ap₂ (λ a b. sliced (get_or (get_or run a []) b (pos 0))) (sym segment) (sym symbol)
+    ap (λ n. get_or (flat_map part (range_with_len 0 (4 * groups_of run))) n z) parts
+    ∙ flat_at part 828 0 (4 * groups_of run) i k z long in_data (omega arith)
+    ∙ ap (λ n. get_or (part n) k z) (sym place)
+    ∙ part_at f 4 k (get_or run (i + i / 312 + 1) []) z (omega (arith, own))
+    ∙ ap₂ (λ a b. f (get_or (get_or run a []) b (pos 0))) (sym segment) (sym symbol)
   where
-    slices : ℕ → List ℕ
-    slices = λ i. sliced_data (get_or run (i + i / 312 + 1) [])
+    part : ℕ → List X
+    part = λ i. map f (drop 4 (get_or run (i + i / 312 + 1) []))
 
-    long : (j : ℕ) → j < 4 * groups_of run → length (slices (0 + j)) ≡ 828
+    long : (j : ℕ) → j < 4 * groups_of run → length (part (0 + j)) ≡ 828
     long j h =
-        let z : j ≡ 0 + j = omega arith in
-        subst (λ n. length (slices n) ≡ 828) z
-        (segment_long (get_or run (j + j / 312 + 1) []) (whole (j + j / 312 + 1) (data_within run j h)))
+        let e : j ≡ 0 + j = omega arith in
+        subst (λ n. length (part n) ≡ 828) e (omega (
+          arith,
+          length-map (drop 4 (get_or run (j + j / 312 + 1) [])) f,
+          length-drop 4 (get_or run (j + j / 312 + 1) []),
+          whole (j + j / 312 + 1) (data_within run j h),
+        ))
+
+-- the symbol of coder e before round 0
+pub early_is : {X : Type 0} (f : ℤ → X) (run : List (List ℤ)) (e : ℕ) (z : X) → AreWhole run → 0 < length run
+    → get_or (map f (drop 820 (get_or run 0 []))) ((e + 4) % 12) z ≡ f (symbol_at run (position_of 0 e))
+early_is f run e z whole some =
+    let q : ℕ = (e + 4) % 12 in
+    let own : length (get_or run 0 []) ≡ 832 = whole 0 some in
+    let segment : 0 ≡ (820 + q) / 832 = omega arith in
+    let symbol : 820 + q ≡ (820 + q) % 832 = omega arith in
+    part_at f 820 q (get_or run 0 []) z (omega (arith, own))
+    ∙ ap₂ (λ a b. f (get_or (get_or run a []) b (pos 0))) segment symbol
+    ∙ ap (λ n. f (symbol_at run n)) (sym (first_position e))
+
+level_is : (run : List (List ℤ)) (d : ℕ) → AreWhole run → d < 3312 * groups_of run
+    → get_or (levels_in run) d 0 ≡ symbol_level run (position d)
+unfolding levels_in levels_from sliced_data symbol_level
+level_is run d whole l = data_is sliced run d 0 whole l
 
 -- ---- a coder's bit and its next symbol
 
@@ -104,16 +118,9 @@ first_bit : (run : List (List ℤ)) (e : ℕ) → AreWhole run → 0 < length ru
     → get_or (first_bits run) e 0 ≡ level_before run 0 e / 4
 unfolding first_bits precoder_bits_of sliced_last symbol_level
 first_bit run e whole some l =
-    let q : ℕ = (e + 4) % 12 in
-    let x : List ℤ = get_or run 0 [] in
-    let long : length x ≡ 832 = whole 0 some in
-    let segment : 0 ≡ (820 + q) / 832 = omega arith in
-    let symbol : 820 + q ≡ (820 + q) % 832 = omega arith in
-    get_or-map-range_with_len (λ e. get_or (map sliced (drop 820 x)) ((e + 4) % 12) 0 / 4) 0 12 e e 0 l (omega arith)
-    ∙ ap (λ n. n / 4) (get_or-map sliced (drop 820 x) q (pos 0) 0 (omega (arith, long, length-drop 820 x))
-    ∙ ap sliced (get_or-drop 820 x q (pos 0))
-    ∙ ap₂ (λ a b. sliced (get_or (get_or run a []) b (pos 0))) segment symbol
-    ∙ ap (symbol_level run) (sym (first_position e)))
+    get_or-map-range_with_len (λ e. get_or (map sliced (drop 820 (get_or run 0 []))) ((e + 4) % 12) 0 / 4) 0 12 e e 0 l
+    (omega arith)
+    ∙ ap (λ n. n / 4) (early_is sliced run e 0 whole some)
 
 bit_is : (run : List (List ℤ)) (r e : ℕ) → AreWhole run → 0 < length run → r ≤ 276 * groups_of run → e < 12
     → precoder_bit 0 (first_bits run) (levels_in run) r e ≡ level_before run r e / 4
@@ -168,11 +175,11 @@ same_byte : (a b : List (List ℤ)) (y : ℕ) → AreAlike a b → y < 828 * gro
 unfolding byte_back
 same_byte a b y h l s =
     ap₂ (λ x z. 64 * x + 16 * z + 4 * third a + fourth a)
-    (pair (4 * (y / 12)) (omega (arith, l)) (at 0 (omega arith) none) (s.same 1 (omega arith)))
-    (pair (4 * (y / 12) + 1) (omega (arith, l)) (s.same 1 (omega arith)) (at 2 (omega arith) (more 1)))
+    (pair (4 * (y / 12)) (omega (arith, l)) (at 0 (omega arith) (omega arith)) (s.same 1 (omega arith)))
+    (pair (4 * (y / 12) + 1) (omega (arith, l)) (s.same 1 (omega arith)) (at 2 (omega arith) (omega arith)))
     ∙ ap₂ (λ x z. 64 * first b + 16 * second b + 4 * x + z)
-    (pair (4 * (y / 12) + 2) (omega (arith, l)) (s.same 2 (omega arith)) (at 3 (omega arith) (more 2)))
-    (pair (4 * (y / 12) + 3) (omega (arith, l)) (s.same 3 (omega arith)) (at 4 (omega arith) (more 3)))
+    (pair (4 * (y / 12) + 2) (omega (arith, l)) (s.same 2 (omega arith)) (at 3 (omega arith) (omega arith)))
+    (pair (4 * (y / 12) + 3) (omega (arith, l)) (s.same 3 (omega arith)) (at 4 (omega arith) (omega arith)))
   where
     e : ℕ
     e = coder_of 0 y
@@ -189,15 +196,9 @@ same_byte a b y h l s =
     fourth : List (List ℤ) → ℕ
     fourth run = pair_back 0 (first_bits run) (levels_in run) (4 * (y / 12) + 3) (coder_of 0 y)
 
-    none : 4 * (y / 12) + 0 ≡ 4 * (y / 12)
-    none = omega arith
-
-    more : (i : ℕ) → 4 * (y / 12) + (i + 1) ≡ 4 * (y / 12) + i + 1
-    more i = omega arith
-
     at : (i : ℕ) {r : ℕ} → i < 5 → 4 * (y / 12) + i ≡ r
         → level_before a r (coder_of 0 y) ≡ level_before b r (coder_of 0 y)
-    at i k m = subst (λ n. level_before a n (coder_of 0 y) ≡ level_before b n (coder_of 0 y)) m (s.same i k)
+    at i k m = rw (← m) (s.same i k)
 
     pair : (r : ℕ) → r < 276 * groups_of a → level_before a r (coder_of 0 y) ≡ level_before b r (coder_of 0 y)
         → level_before a (r + 1) (coder_of 0 y) ≡ level_before b (r + 1) (coder_of 0 y)
@@ -217,19 +218,15 @@ length-flat f w a (suc n) long =
       length-append (f a) (flat_map f (range_with_len (a + 1) n)),
       subst (λ (b : ℕ). length (f b) ≡ w) z (long 0 (omega arith)),
       length-flat f w (a + 1) n
-          (λ j l. subst (λ (b : ℕ). length (f b) ≡ w) (moved a j) (long (suc j) (omega (arith, l)))),
+          (λ j l. subst (λ (b : ℕ). length (f b) ≡ w) (omega arith) (long (suc j) (omega (arith, l)))),
     )
-  where
-    moved : (a j : ℕ) → a + suc j ≡ a + 1 + j
-    moved a j = omega arith
 
 level_groups_are : (run : List (List ℤ)) → AreWhole run → level_groups (levels_in run) ≡ groups_of run
 unfolding level_groups levels_in levels_from data_at
 level_groups_are run whole =
     ap (λ n. n / 3312) (length-flat (λ i. sliced_data (get_or run (i + i / 312 + 1) [])) 828 0 (4 * groups_of run)
     (λ j h. let z : j ≡ 0 + j = omega arith in
-    subst (λ n. length (sliced_data (get_or run (n + n / 312 + 1) [])) ≡ 828) z
-    (segment_long (get_or run (j + j / 312 + 1) []) (whole (j + j / 312 + 1) (data_within run j h)))))
+    rw (← z) (segment_long (get_or run (j + j / 312 + 1) []) (whole (j + j / 312 + 1) (data_within run j h)))))
     ∙ back (groups_of run)
   where
     back : (g : ℕ) → 828 * (4 * g) / 3312 ≡ g
@@ -260,7 +257,7 @@ rises_by : (r i e : ℕ) → position_of r e ≤ position_of (r + i) e
 rises_by r zero e = subst (λ n. position_of r e ≤ position_of n e) (let z : r ≡ r + 0 = omega arith in z) (omega arith)
 rises_by r (suc i) e =
     let z : r + i + 1 ≡ r + suc i = omega arith in
-    subst (λ n. position_of r e ≤ position_of n e) z (omega (arith, rises_by r i e, of_rises (r + i) e))
+    rw (← z) (omega (arith, rises_by r i e, of_rises (r + i) e))
 
 position_within : (run : List (List ℤ)) (d : ℕ) → d < 3312 * groups_of run → position d < 832 * length run
 position_within run d l = omega (arith, data_within run (d / 828) (omega (arith, l)))
@@ -270,8 +267,7 @@ of_within : (run : List (List ℤ)) (r e : ℕ) → 0 < length run → r ≤ 276
 of_within run zero e some l = omega (arith, first_position e, some)
 of_within run (suc r) e some l =
     let a : r + 1 ≡ suc r = omega arith in
-    subst (λ n. position_of n e < 832 * length run) a
-    (omega (
+    rw (← a) (omega (
       arith,
       next_position r e,
       position_within run (symbol_place 0 r e) (place_within 0 r e (groups_of run) (omega (arith, l))),
@@ -293,8 +289,7 @@ not_before y i = rises_by (4 * (y / 12)) i (coder_of 0 y)
 pub not_behind : (y i : ℕ) → i < 5 → position_of (4 * (y / 12) + i) (coder_of 0 y) ≤ end_of y
 not_behind y i m =
     let z : 4 * (y / 12) + i + (4 - i) ≡ 4 * (y / 12) + 4 = omega (arith, m) in
-    subst (λ n. position_of (4 * (y / 12) + i) (coder_of 0 y) ≤ position_of n (coder_of 0 y)) z
-    (rises_by (4 * (y / 12) + i) (4 - i) (coder_of 0 y))
+    rw (← z) (rises_by (4 * (y / 12) + i) (4 - i) (coder_of 0 y))
 
 pub off_byte : (a b : List (List ℤ)) (count from y : ℕ) → AreAlike a b → DifferWithin count from a b
     → y < 828 * groups_of a → (end_of y < from) ⊎ (from + count ≤ begin_of y)

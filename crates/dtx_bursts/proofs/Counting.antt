@@ -1,7 +1,6 @@
 -- A count of places is bounded by a number that rises at each of them.
 use Rattle.std.proofs.Common.{◌≡◌, ℕ, zero, suc, ◌+◌, ◌<◌, ◌≤◌, ◌==◌, ◌||◌, ◌⊎◌, inl, inr, cond, Bool, true, false}
-use Rattle.std.proofs.Common.{List, [], ◌∷◌}
-use Rattle.std.proofs.Common.{length, get_or, refl, sym, ap, subst, subst₂, arith, nat_le, ◌&&◌, ◌-◌}
+use Rattle.std.proofs.Common.{List, [], ◌∷◌, length, get_or, refl, sym, ap, subst, subst₂, arith, nat_le, ◌&&◌, ◌-◌}
 use Rattle.std.proofs.lemmas.Bool.{and_parts, cond-true, eq-eqb, leb-true}
 use Rattle.dtx_laws.specs.Codeword.{distance}
 use Rattle.dtx_erase.specs.Mending.{lost, unmarked_distance}
@@ -71,10 +70,7 @@ skip g a (suc d) n =
     let x : suc a + d ≡ a + suc d = omega arith in
     let y : suc (d + n) ≡ suc d + n = omega arith in
     subst₂ (λ u v. total g u n ≤ total g a v) x y
-    (more (g a) (total g (suc a + d) n) (total g (suc a) (d + n)) (skip g (suc a) d n))
-  where
-    more : (x y z : ℕ) → y ≤ z → y ≤ x + z
-    more x y z l = omega (arith, l)
+    (omega (arith, skip g (suc a) d n))
 
 -- whether these numbers rise from a on below an end, and each passes a test
 abbrev pub rising : (ℕ → Bool) → ℕ → List ℕ → ℕ → Bool

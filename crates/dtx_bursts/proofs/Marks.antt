@@ -1,68 +1,26 @@
 -- A byte of a run is marked where one of five symbols is missing.
-use Rattle.std.proofs.Common.{◌≡◌, ℕ, ℤ, pos, zero, suc, ◌+◌, ◌-◌, ◌*◌, ◌/◌, ◌%◌, ◌<◌, ◌≤◌, ◌==◌, ◌⊎◌, ◌||◌, inl, inr}
-use Rattle.std.proofs.Common.{Bool, true, false, List, [], length, map, drop, get_or, refl, sym, ap, ap₂}
-use Rattle.std.proofs.Common.{◌∙◌, subst, arith}
-use Rattle.std.specs.List.{range_with_len, flat_map}
+use Rattle.std.proofs.Common.{◌≡◌, ℕ, ℤ, zero, suc, ◌+◌, ◌-◌, ◌*◌, ◌/◌, ◌%◌, ◌<◌, ◌≤◌, ◌==◌, ◌⊎◌, ◌||◌, inl, inr}
+use Rattle.std.proofs.Common.{Bool, true, false, List, [], length, map, drop, get_or, refl, sym, ap, ◌∙◌}
+use Rattle.std.proofs.Common.{arith}
 use Rattle.std.proofs.lemmas.Bool.{cond-false, ne_eqb}
-use Rattle.std.proofs.lemmas.List.{get_or-drop, get_or-map, length-drop, length-map}
 use Rattle.dtx_slice.specs.Unrolled.{symbol_place, coder_of}
 use Rattle.dtx_slice.proofs.InverseLemmas.{place_within}
-use Rattle.dtx_receiver.specs.Bytes.{data_at, groups_of}
+use Rattle.dtx_receiver.specs.Bytes.{groups_of}
 use Rattle.dtx_erase.specs.Marks.{is_missing, missing_in, was_missing, is_marked}
 use Rattle.dtx_bursts.specs.Burst.{symbol_at}
-use Rattle.dtx_bursts.proofs.Bytes.{AreWhole, data_within, flat_at}
-use Rattle.dtx_bursts.proofs.Places.{position, position_of, first_position, next_position}
-
-missing_at : (x : List ℤ) (k : ℕ) → length x ≡ 832 → k < 828
-    → get_or (map is_missing (drop 4 x)) k false ≡ is_missing (get_or x (4 + k) (pos 0))
-missing_at x k long l =
-    get_or-map is_missing (drop 4 x) k (pos 0) false (omega (arith, l, long, length-drop 4 x))
-    ∙ ap is_missing (get_or-drop 4 x k (pos 0))
+use Rattle.dtx_bursts.proofs.Bytes.{AreWhole, data_is, early_is}
+use Rattle.dtx_bursts.proofs.Places.{position, position_of, next_position}
 
 missing_is : (run : List (List ℤ)) (d : ℕ) → AreWhole run → d < 3312 * groups_of run
     → get_or (missing_in run) d false ≡ is_missing (symbol_at run (position d))
-unfolding missing_in data_at
-missing_is run d whole l =
-    let i : ℕ = d / 828 in
-    let k : ℕ = d % 828 in
-    let parts : d ≡ 828 * i + k = omega arith in
-    let in_data : i < 4 * groups_of run = omega (arith, l) in
-    let place : i ≡ 0 + i = omega arith in
-    let segment : (832 * (i + i / 312 + 1) + 4 + k) / 832 ≡ i + i / 312 + 1 = omega arith in
-    let symbol : (832 * (i + i / 312 + 1) + 4 + k) % 832 ≡ 4 + k = omega arith in
-    ap (λ n. get_or (flat_map flags (range_with_len 0 (4 * groups_of run))) n false) parts
-    ∙ flat_at flags 828 0 (4 * groups_of run) i k false long in_data (omega arith)
-    ∙ ap (λ n. get_or (flags n) k false) (sym place)
-    ∙ missing_at (get_or run (i + i / 312 + 1) []) k (whole (i + i / 312 + 1) (data_within run i in_data)) (omega arith)
-    ∙ ap₂ (λ a b. is_missing (get_or (get_or run a []) b (pos 0))) (sym segment) (sym symbol)
-  where
-    flags : ℕ → List Bool
-    flags = λ d. map is_missing (drop 4 (get_or run (d + d / 312 + 1) []))
-
-    long : (j : ℕ) → j < 4 * groups_of run → length (flags (0 + j)) ≡ 828
-    long j h =
-        let z : j ≡ 0 + j = omega arith in
-        subst (λ n. length (flags n) ≡ 828) z (omega (
-          arith,
-          length-map (drop 4 (get_or run (j + j / 312 + 1) [])) is_missing,
-          length-drop 4 (get_or run (j + j / 312 + 1) []),
-          whole (j + j / 312 + 1) (data_within run j h),
-        ))
+unfolding missing_in
+missing_is run d whole l = data_is is_missing run d false whole l
 
 -- the symbol of coder e before round r
 was_is : (run : List (List ℤ)) (r e : ℕ) → AreWhole run → 0 < length run → r ≤ 276 * groups_of run
     → was_missing run r e ≡ is_missing (symbol_at run (position_of r e))
 unfolding was_missing
-was_is run zero e whole some l =
-    let q : ℕ = (e + 4) % 12 in
-    let x : List ℤ = get_or run 0 [] in
-    let long : length x ≡ 832 = whole 0 some in
-    let segment : 0 ≡ (820 + q) / 832 = omega arith in
-    let symbol : 820 + q ≡ (820 + q) % 832 = omega arith in
-    get_or-map is_missing (drop 820 x) q (pos 0) false (omega (arith, long, length-drop 820 x))
-    ∙ ap is_missing (get_or-drop 820 x q (pos 0))
-    ∙ ap₂ (λ a b. is_missing (get_or (get_or run a []) b (pos 0))) segment symbol
-    ∙ ap (λ n. is_missing (symbol_at run n)) (sym (first_position e))
+was_is run zero e whole some l = early_is is_missing run e false whole some
 was_is run (suc r) e whole some l =
     let a : suc r ≡ r + 1 = omega arith in
     ap (λ n. was_missing run n e) a ∙ later r (omega (arith, l))
@@ -112,7 +70,7 @@ pub marked_or_not : (run : List (List ℤ)) (y : ℕ) → AreWhole run → 0 < l
 unfolding is_marked
 marked_or_not run y whole some l =
     five (was_missing run r e) (was_missing run (r + 1) e) (was_missing run (r + 2) e) (was_missing run (r + 3) e)
-    (was_missing run (r + 4) e) (missing_before run y) (at 0 (omega arith) start) (at 1 (omega arith) refl)
+    (was_missing run (r + 4) e) (missing_before run y) (at 0 (omega arith) (omega arith)) (at 1 (omega arith) refl)
     (at 2 (omega arith) refl) (at 3 (omega arith) refl) (at 4 (omega arith) refl)
   where
     r : ℕ
@@ -120,9 +78,6 @@ marked_or_not run y whole some l =
 
     e : ℕ
     e = coder_of 0 y
-
-    start : 4 * (y / 12) + 0 ≡ 4 * (y / 12)
-    start = omega arith
 
     at : (i : ℕ) {n : ℕ} → i < 5 → 4 * (y / 12) + i ≡ n → missing_before run y i ≡ was_missing run n (coder_of 0 y)
     at i k z =

@@ -1,6 +1,6 @@
 -- Missing symbols in a row are mended.
 use Rattle.std.proofs.Common.{◌≡◌, ℕ, ℤ, ◌+◌, ◌-◌, ◌*◌, ◌<◌, ◌≤◌, ◌⊎◌, inl, inr, true, List, [], length, map, drop}
-use Rattle.std.proofs.Common.{get_or, ap, ◌∙◌, subst, arith}
+use Rattle.std.proofs.Common.{get_or, ap, ◌∙◌, arith}
 use Rattle.std.specs.List.{flat_map, list_all}
 use Rattle.std.proofs.lemmas.Bool.{cases_lt}
 use Rattle.std.proofs.lemmas.List.{append-nil}
@@ -50,8 +50,7 @@ missing_behind : (ps : List (List ℕ)) (first from j : ℕ) (sent got : List (L
     → IsMissing ps (packet_behind first + j) (from_sync first got) j
 unfolding from_sync
 missing_behind ps first from j sent got r p gap l c = (
-  subst (λ (code : List ℕ). unmarked_distance (marks_at (marks_in run) j) (word_at 207 52 4 (bytes_in run) j) code ≡ 0)
-      (sent_word ps first j sent got r p l c)
+  rw (← sent_word ps first j sent got r p l c)
       (none_wrong run (drop (to_sync first) sent) 4141 (from - 832 * to_sync first) j
       (alike_moved ps first (to_sync first) sent got r l)
       (missing_moved (to_sync first) 4141 from sent got r.as_many gap)

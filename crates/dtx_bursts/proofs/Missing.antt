@@ -1,6 +1,6 @@
 -- Missing symbols in a row mark few bytes of each word, and leave the others as they were.
-use Rattle.std.proofs.Common.{◌≡◌, ℕ, ℤ, ◌+◌, ◌*◌, ◌/◌, ◌<◌, ◌≤◌, ◌⊎◌, cond, not, inl, inr, Bool, true, false}
-use Rattle.std.proofs.Common.{List, length, map, get_or, refl, sym, ap, ◌∙◌, subst, arith}
+use Rattle.std.proofs.Common.{◌≡◌, ℕ, ℤ, ◌+◌, ◌*◌, ◌/◌, ◌<◌, ◌≤◌, ◌⊎◌, cond, not, inl, inr, Bool, true, false, List}
+use Rattle.std.proofs.Common.{length, map, get_or, refl, sym, ap, ◌∙◌, subst, arith}
 use Rattle.std.proofs.lemmas.List.FromFn.{get_or-map-range_with_len}
 use Rattle.std.specs.List.{range_with_len}
 use Rattle.dtx_frame.proofs.CountsLemmas.{total}
@@ -65,7 +65,7 @@ mark_at a b j i h c l =
     (codeword_byte_place 52 4 p) false) (207 * j) 207 i (207 * j + i) false l refl
     ∙ get_or-map-range_with_len (is_marked a) 0 (length (bytes_in a)) (air_place (207 * j + i))
     (air_place (207 * j + i)) false
-    (subst (λ (n : ℕ). air_place (207 * j + i) < n) (sym (length-run a h.first)) (c i l)) (omega arith)
+    (rw (length-run a h.first) (c i l)) (omega arith)
 
 -- whether byte m of the codewords isn't marked
 abbrev unmarked_at : List (List ℤ) → ℕ → Bool

@@ -1,6 +1,6 @@
 -- Where the symbols stand on which a byte of a run hangs, and how far apart those of two bytes are.
-use Rattle.std.proofs.Common.{◌≡◌, ℕ, zero, suc, ◌+◌, ◌-◌, ◌*◌, ◌/◌, ◌%◌, ◌<◌, ◌≤◌, ◌==◌, ◌⊎◌, inl, inr, cond}
-use Rattle.std.proofs.Common.{refl, sym, ap, ap₂, ◌∙◌, subst, subst₂, arith}
+use Rattle.std.proofs.Common.{◌≡◌, ℕ, zero, suc, ◌+◌, ◌-◌, ◌*◌, ◌/◌, ◌%◌, ◌<◌, ◌≤◌, ◌==◌, ◌⊎◌, inl, inr, cond, refl}
+use Rattle.std.proofs.Common.{sym, ap, ap₂, ◌∙◌, subst₂, arith}
 use Rattle.std.proofs.lemmas.Bool.{cases_lt, cond-false, ne_eqb}
 use Rattle.dtx_slice.specs.Lanes.{lane_place}
 use Rattle.dtx_slice.proofs.PlacesLemmas.{lane_symbol, lane_byte_coder}
@@ -77,8 +77,7 @@ pub of_rises : (r e : ℕ) → position_of r e ≤ position_of (r + 1) e
 of_rises zero e = omega (arith, first_position e, next_position 0 e)
 of_rises (suc r) e =
     let a : r + 1 ≡ suc r = omega arith in
-    subst (λ n. position_of n e ≤ position_of (n + 1) e) a
-    (omega (
+    rw (← a) (omega (
       arith,
       next_position r e,
       next_position (r + 1) e,

@@ -1,7 +1,7 @@
 -- Segments of which each symbol is replaced by another.
-use Rattle.std.proofs.Common.{◌≡◌, ℕ, ℤ, pos, negsuc, ◌+◌, ◌-◌, ◌*◌, ◌/◌, ◌%◌, ◌<◌, ◌≤◌, ◌⊎◌, inl, inr, cond}
-use Rattle.std.proofs.Common.{nat_le, nat_lt, ◌&&◌}
-use Rattle.std.proofs.Common.{Bool, true, false, List, [], length, map, get_or, refl, sym, ap, ◌∙◌, subst, arith}
+use Rattle.std.proofs.Common.{◌≡◌, ℕ, ℤ, pos, negsuc, ◌+◌, ◌-◌, ◌*◌, ◌/◌, ◌%◌, ◌<◌, ◌≤◌, ◌⊎◌, inl, inr, cond, nat_le}
+use Rattle.std.proofs.Common.{nat_lt, ◌&&◌, Bool, true, false, List, [], length, map, get_or, refl, sym, ap, ◌∙◌, subst}
+use Rattle.std.proofs.Common.{arith}
 use Rattle.std.specs.List.{range_with_len}
 use Rattle.std.proofs.lemmas.Bool.{and_from, and_left, and_right, cond-true, cond-false, le-leb, le-ltb, leb-true}
 use Rattle.std.proofs.lemmas.Bool.{lt-leb, lt-ltb}

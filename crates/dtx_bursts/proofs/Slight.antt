@@ -1,6 +1,6 @@
 -- A burst is slight damage.
-use Rattle.std.proofs.Common.{◌≡◌, ℕ, ℤ, ◌+◌, ◌-◌, ◌*◌, ◌<◌, ◌≤◌, ◌==◌, ◌⊎◌, cond, inl, inr, Bool, true, List}
-use Rattle.std.proofs.Common.{length, drop, get_or, ap₂, subst, arith}
+use Rattle.std.proofs.Common.{◌≡◌, ℕ, ℤ, ◌+◌, ◌-◌, ◌*◌, ◌<◌, ◌≤◌, ◌==◌, ◌⊎◌, cond, inl, inr, Bool, true, List, length}
+use Rattle.std.proofs.Common.{drop, get_or, ap₂, subst, arith}
 use Rattle.std.proofs.lemmas.Bool.{cases_lt, eq-eqb}
 use Rattle.dtx_laws.specs.Codeword.{distance}
 use Rattle.dtx_frame.proofs.CountsLemmas.{total}
@@ -52,17 +52,12 @@ distance_by a b j =
     (distance_within (failing (same_at a b)) (207 * j) (word_at 207 52 4 (bytes_in a) j)
     (word_at 207 52 4 (bytes_in b) j) each)
   where
-    no_more : (x y : ℕ) → x ≡ y → x ≤ y
-    no_more x y e = omega (arith, e)
-
     each : (i : ℕ) → i < length (word_at 207 52 4 (bytes_in a) j)
         → cond (get_or (word_at 207 52 4 (bytes_in a) j) i 0 == get_or (word_at 207 52 4 (bytes_in b) j) i 0) 0 1
         ≤ failing (same_at a b) (207 * j + i)
     each i l =
         let m : i < 207 = subst (λ (n : ℕ). i < n) (length-word 207 52 4 (bytes_in a) j) l in
-        no_more (differs (get_or (word_at 207 52 4 (bytes_in a) j) i 0) (get_or (word_at 207 52 4 (bytes_in b) j) i 0))
-        (differs (get_or (bytes_in a) (air_place (207 * j + i)) 0) (get_or (bytes_in b) (air_place (207 * j + i)) 0))
-        (ap₂ differs (get_or-word 207 52 4 (bytes_in a) j i m) (get_or-word 207 52 4 (bytes_in b) j i m))
+        omega (arith, ap₂ differs (get_or-word 207 52 4 (bytes_in a) j i m) (get_or-word 207 52 4 (bytes_in b) j i m))
 
 -- the words of two runs
 pub words_near : (a b : List (List ℤ)) (from j : ℕ) → AreAlike a b → DifferWithin 2022 from a b
@@ -85,8 +80,7 @@ near_behind : (ps : List (List ℕ)) (first from j : ℕ) (sent got : List (List
     → IsNear ps (packet_behind first + j) (word_in first got j)
 unfolding word_in from_sync
 near_behind ps first from j sent got r p burst l c =
-    subst (λ (code : List ℕ). distance (word_at 207 52 4 (bytes_in (drop (to_sync first) got)) j) code ≤ 10)
-    (sent_word ps first j sent got r p l c)
+    rw (← sent_word ps first j sent got r p l c)
     (words_near (drop (to_sync first) got) (drop (to_sync first) sent) (from - 832 * to_sync first) j
     (alike_moved ps first (to_sync first) sent got r l)
     (differ_moved (to_sync first) 2022 from sent got r.as_many burst) c)

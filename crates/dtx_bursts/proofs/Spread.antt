@@ -70,8 +70,7 @@ rises w n t m a b l h = by_ramp (m / 52 - t) (omega (arith, a)) (omega (arith, a
     before_ramp u = before_never (ramp_begin w u) (ramp_begin (w + n) u) m
 
     at_ramp : (u : ℕ) → m / 52 ≡ u → 1 + ramp_count w n u m ≤ ramp_count w n u (m + 1)
-    at_ramp u e = subst (λ (u : ℕ). 1 + ramp_count w n u m ≤ ramp_count w n u (m + 1)) e
-        (before_rises (ramp_begin w (m / 52)) (ramp_begin (w + n) (m / 52)) m (in_ramp w n m l h).0
+    at_ramp u e = rw (← e) (before_rises (ramp_begin w (m / 52)) (ramp_begin (w + n) (m / 52)) m (in_ramp w n m l h).0
         (in_ramp w n m l h).1)
 
     by_ramp : (k : ℕ) → m / 52 ≡ t + k → k < 5

@@ -1,7 +1,6 @@
 -- A burst that leaves the field syncs leaves them found.
-use Rattle.std.proofs.Common.{◌≡◌, ℕ, ℤ, pos, ◌+◌, ◌-◌, ◌*◌, ◌/◌, ◌%◌, ◌<◌, ◌≤◌, ◌==◌, ◌⊎◌, inl, inr, cond, min}
-use Rattle.std.proofs.Common.{true, false}
-use Rattle.std.proofs.Common.{Bool, List, [], length, map, sum, get_or, sym, ap, ap₂, ◌∙◌, subst, arith}
+use Rattle.std.proofs.Common.{◌≡◌, ℕ, ℤ, pos, ◌+◌, ◌-◌, ◌*◌, ◌/◌, ◌%◌, ◌<◌, ◌≤◌, ◌==◌, ◌⊎◌, inl, inr, cond, min, true}
+use Rattle.std.proofs.Common.{false, Bool, List, [], length, map, sum, get_or, sym, ap, ap₂, ◌∙◌, subst, arith}
 use Rattle.std.specs.List.{range_with_len}
 use Rattle.std.proofs.lemmas.Bool.{cases_lt, le-leb}
 use Rattle.dtx_slice.specs.Slicing.{sliced}

@@ -1,7 +1,7 @@
 -- One symbol more in a row can be too many: a stream's first packet shows it.
-use Rattle.std.proofs.Common.{◌≡◌, ℕ, ℤ, ◌+◌, ◌-◌, ◌*◌, ◌/◌, ◌%◌, ◌<◌, ◌≤◌, ◌==◌, ◌⊎◌, nat_le, nat_lt}
-use Rattle.std.proofs.Common.{◌&&◌, ◌||◌, inl, inr, Bool, true, List, [], ◌∷◌, length, get_or, refl, sym, ap, ap₂, ◌∙◌}
-use Rattle.std.proofs.Common.{subst, arith, max, min}
+use Rattle.std.proofs.Common.{◌≡◌, ℕ, ℤ, ◌+◌, ◌-◌, ◌*◌, ◌/◌, ◌%◌, ◌<◌, ◌≤◌, ◌==◌, ◌⊎◌, nat_le, nat_lt, ◌&&◌, ◌||◌, inl}
+use Rattle.std.proofs.Common.{inr, Bool, true, List, [], ◌∷◌, length, get_or, refl, sym, ap, ap₂, ◌∙◌, subst, arith}
+use Rattle.std.proofs.Common.{max, min}
 use Rattle.std.proofs.lemmas.Bool.{and_parts, cases_lt, cond-false, leb-true, ltb-true, ne_eqb, or_cases}
 use Rattle.dtx_laws.specs.Codeword.{distance}
 use Rattle.dtx_trellis.specs.Trellis.{symbol_of}
@@ -23,8 +23,7 @@ use Rattle.dtx_bursts.proofs.Bytes.{AreWhole, same_groups, symbol_within}
 use Rattle.dtx_bursts.proofs.Counting.{distance_least, no_fewer, rising}
 use Rattle.dtx_bursts.proofs.Moved.{sent_word}
 use Rattle.dtx_bursts.proofs.Places.{begin_of, end_of, position_of}
-use Rattle.dtx_bursts.proofs.Replaced.{are_replaced, inside, level_eight, outside, replaced, row}
-use Rattle.dtx_bursts.proofs.Replaced.{symbol_replaced}
+use Rattle.dtx_bursts.proofs.Replaced.{are_replaced, inside, level_eight, outside, replaced, row, symbol_replaced}
 use Rattle.dtx_bursts.proofs.Slight.{differs}
 use Rattle.dtx_bursts.proofs.Spread.{air_place}
 use Rattle.dtx_bursts.proofs.Syncs.{burst_found}
@@ -131,8 +130,8 @@ other_byte ps y l m (inr (a, b, c)) =
     (level_eight (a53 ps) (position_of (4 * (y / 12) + 0) (coder_of 0 y)))
     (level_eight (a53 ps) (position_of (4 * (y / 12) + 1) (coder_of 0 y)))
     (level_turned ps (position_of (4 * (y / 12) + 0) (coder_of 0 y)) (level_of ps y 0 l m (omega arith))
-    (subst (λ n. 25425 ≤ position_of n (coder_of 0 y)) start a)
-    (subst (λ n. position_of n (coder_of 0 y) < 25425 + 2023) start b))
+    (rw (← start) a)
+    (rw (← start) b))
     (level_left ps (position_of (4 * (y / 12) + 1) (coder_of 0 y)) (level_of ps y 1 l m (omega arith)) (inr c))
   where
     start : 4 * (y / 12) ≡ 4 * (y / 12) + 0
@@ -216,9 +215,6 @@ words_far ps l = through (total (other_at ps) 0 207) _ (eleven_others ps l) leas
     through : (x y : ℕ) → 11 ≤ x → x ≤ y → 11 ≤ y
     through x y a b = omega (arith, a, b)
 
-    no_more : (x y : ℕ) → x ≡ y → x ≤ y
-    no_more x y e = omega (arith, e)
-
     long : (run : List (List ℤ)) → length (word_at 207 52 4 (bytes_in run) 0) ≡ 207
     long run = length-word 207 52 4 (bytes_in run) 0
 
@@ -235,17 +231,13 @@ words_far ps l = through (total (other_at ps) 0 207) _ (eleven_others ps l) leas
         (distance_least (other_at ps) 0 (word_at 207 52 4 (bytes_in (turned ps)) 0)
         (word_at 207 52 4 (bytes_in (a53 ps)) 0) (long (turned ps) ∙ sym (long (a53 ps)))
         (λ i m. let k : i < 207 = subst (λ (n : ℕ). i < n) (long (turned ps)) m in
-        no_more (other_at ps (0 + i))
-        (differs (get_or (word_at 207 52 4 (bytes_in (turned ps)) 0) i 0)
-        (get_or (word_at 207 52 4 (bytes_in (a53 ps)) 0) i 0))
-        (ap₂ differs (at (turned ps) i k) (at (a53 ps) i k))))
+        omega (arith, ap₂ differs (at (turned ps) i k) (at (a53 ps) i k))))
 
 first_far : (ps : List (List ℕ)) → ArePackets ps → 52 ≤ length ps
     → 11 ≤ distance (word_in 0 (turned ps) 0) (codeword_at ps 0)
 unfolding word_in to_sync from_sync
 first_far ps p l =
-    subst (λ (code : List ℕ). 11 ≤ distance (word_at 207 52 4 (bytes_in (turned ps)) 0) code) (first_word ps p l)
-    (words_far ps l)
+    rw (← first_word ps p l) (words_far ps l)
 
 pub one_more : (ps : List (List ℕ)) → ArePackets ps → 52 ≤ length ps
     → (got : List (List ℤ)) × AreReceived ps 0 (a53 ps) got × AreFound 0 (a53 ps) got

@@ -1,7 +1,7 @@
 -- One missing symbol more in a row can be too many: a stream's first packet shows it.
-use Rattle.std.proofs.Common.{◌≡◌, ℕ, ℤ, negsuc, ◌+◌, ◌*◌, ◌/◌, ◌<◌, ◌≤◌, ◌⊎◌, cond, nat_le}
-use Rattle.std.proofs.Common.{nat_lt, ◌&&◌, ◌||◌, inl, inr, not, Bool, true, false, List, [], ◌∷◌, length, get_or}
-use Rattle.std.proofs.Common.{refl, sym, ap, ◌∙◌, subst, arith}
+use Rattle.std.proofs.Common.{◌≡◌, ℕ, ℤ, negsuc, ◌+◌, ◌*◌, ◌/◌, ◌<◌, ◌≤◌, ◌⊎◌, cond, nat_le, nat_lt, ◌&&◌, ◌||◌, inl}
+use Rattle.std.proofs.Common.{inr, not, Bool, true, false, List, [], ◌∷◌, length, get_or, refl, sym, ap, ◌∙◌, subst}
+use Rattle.std.proofs.Common.{arith}
 use Rattle.std.proofs.lemmas.Bool.{and_parts, cases_lt, leb-true, ltb-true, or_cases}
 use Rattle.dtx_lists.proofs.Below.{holds_below, at_below}
 use Rattle.dtx_trellis.specs.Trellis.{symbol_of}
@@ -181,8 +181,8 @@ marked ps y l m h =
     by_mark (inr (none, t)) (inr (a, b)) =
         absurd (never_both (is_missing (symbol_at (gapped ps) (position_of (4 * (y / 12) + 0) (coder_of 0 y))))
         (missing_inside ps (position_of (4 * (y / 12) + 0) (coder_of 0 y)) (within 0 (omega arith))
-        (subst (λ n. 19982 ≤ position_of n (coder_of 0 y)) start a)
-        (subst (λ n. position_of n (coder_of 0 y) < 19982 + 4142) start b)) (none 0 (omega arith)))
+        (rw (← start) a)
+        (rw (← start) b)) (none 0 (omega arith)))
 
 -- 1 where byte m of the codewords is marked
 flag_at : List (List ℕ) → ℕ → ℕ

@@ -1,9 +1,8 @@
 -- Where the places of a word that fail a test hang on symbols in a row, they are few.
-use Rattle.std.proofs.Common.{◌≡◌, ℕ, ◌+◌, ◌*◌, ◌<◌, ◌≤◌, ◌⊎◌, cond, inl, inr, Bool, true, false, ap, arith, refl}
-use Rattle.std.proofs.Common.{◌-◌, subst}
+use Rattle.std.proofs.Common.{◌≡◌, ℕ, ◌+◌, ◌*◌, ◌<◌, ◌≤◌, ◌⊎◌, cond, inl, inr, Bool, true, false, ap, arith, refl, ◌-◌}
 use Rattle.std.proofs.lemmas.Bool.{cases_lt}
 use Rattle.dtx_frame.proofs.CountsLemmas.{total}
-use Rattle.dtx_outer.specs.Inner.{codeword_byte_place, IsComplete}
+use Rattle.dtx_outer.specs.Inner.{IsComplete}
 use Rattle.dtx_bursts.proofs.Least.{IsLeast, AllPass, least_by}
 use Rattle.dtx_bursts.proofs.Places.{AreTwenty, begin_of, end_of, apart_ten, apart_twenty}
 use Rattle.dtx_bursts.proofs.Spread.{air_place, IsWithin, at_most_ten, at_most_twenty, no_nearer}
@@ -26,7 +25,7 @@ never_both false t f = cc
 pub byte_there : (given j m : ℕ) → IsComplete 207 52 4 given j → 207 * j ≤ m → m < 207 * j + 207 → air_place m < given
 byte_there given j m c l u =
     let z : 207 * j + (m - 207 * j) ≡ m = omega (arith, l) in
-    subst (λ n. codeword_byte_place 52 4 n < given) z (c (m - 207 * j) (omega (arith, l, u)))
+    rw (← z) (c (m - 207 * j) (omega (arith, l, u)))
 
 -- 1 where the test fails
 abbrev pub failing : (ℕ → Bool) → ℕ → ℕ

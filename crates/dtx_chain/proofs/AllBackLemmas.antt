@@ -54,10 +54,7 @@ unfolding bytes_in bytes_back level_groups
 run_bytes run h =
     length-map-range_with_len (byte_back 0 (first_bits run) (levels_in run)) 0
     (828 * (length (levels_in run) / 3312))
-    ∙ ap (λ (n : ℕ). 828 * n) (whole (length (levels_in run)) (groups_of run) (run_levels run h))
-  where
-    whole : (l g : ℕ) → l ≡ 828 * (4 * g) → l / 3312 ≡ g
-    whole l g e = omega arith
+    ∙ ap (λ (n : ℕ). 828 * n) (omega (arith, run_levels run h))
 
 -- ---- the run of the segments
 
@@ -113,7 +110,7 @@ unfolding numbers_in
 run_back ps first sent got at r l h =
     ap (λ n. map at (filter (is_complete n) (range_with_len 0 (n / 207))))
     (run_bytes (from_sync first got) (run_long ps first sent got r))
-    ∙ ap (λ n. map at (filter (is_complete (828 * groups)) (range_with_len 0 n))) (count groups)
+    ∙ ap (λ n. map at (filter (is_complete (828 * groups)) (range_with_len 0 n))) (omega arith)
     ∙ map-filter_same at (λ j. as_corrected ps (packet_behind first + j) (word_in first got j))
     (is_complete (828 * groups)) 0 (4 * groups)
     (λ j _ b t. h j (number_within ps first sent got r l j (omega (arith, b)))
@@ -121,9 +118,6 @@ run_back ps first sent got at r l h =
   where
     groups : ℕ
     groups = groups_of (from_sync first got)
-
-    count : (g : ℕ) → 828 * g / 207 ≡ 4 * g
-    count g = omega arith
 
 from_run : (ps : List (List ℕ)) (first : ℕ) (sent got : List (List ℤ)) → AreReceived ps first sent got
     → to_sync first < length sent → IsSlight ps first sent got → ArePackets ps

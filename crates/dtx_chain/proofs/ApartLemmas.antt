@@ -1,8 +1,7 @@
 -- Two packets that differ in their last byte alone: their codewords differ in 21 bytes, the fewest that two may differ
 -- in. Between them lies a word that has eleven wrong bytes of the one and ten of the other.
-use Rattle.std.proofs.Common.{◌≡◌, ◌≢◌, ◌⊎◌, inl, inr, ℕ, zero, suc, ◌+◌, ◌*◌, ◌%◌, ◌<◌, ◌≤◌, ◌==◌, cond, List, []}
-use Rattle.std.proofs.Common.{◌∷◌, ◌++◌, length, take, drop, replicate, get_or, sym, ap, ap₂, ◌∙◌, subst, arith}
-use Rattle.std.proofs.Common.{◌-◌}
+use Rattle.std.proofs.Common.{◌≡◌, ◌≢◌, ◌⊎◌, inl, inr, ℕ, zero, suc, ◌+◌, ◌*◌, ◌%◌, ◌<◌, ◌≤◌, ◌==◌, cond, List, [], ◌∷◌}
+use Rattle.std.proofs.Common.{◌++◌, length, take, drop, replicate, get_or, sym, ap, ap₂, ◌∙◌, subst, arith, ◌-◌}
 use Rattle.std.specs.Int.RustNames.{bit_xor}
 use Rattle.std.proofs.lemmas.List.{length-append, length-drop, length-take-le, take-append-drop, take_at, ext_get_or}
 use Rattle.std.proofs.lemmas.List.{get_or-take, get_or-drop, get_or_append_left, get_or-append_right, length-replicate}
@@ -219,9 +218,8 @@ gives_other f j p y l b z e =
     let ps : List (List ℕ) = replicate (f + j + 1) q in
     let there : get_or ps (f + j) [] ≡ q = get_or-replicate (f + j + 1) (f + j) q [] (omega arith) in
     let near : distance (word_at 207 52 4 y j) (codeword 207 187 (randomized (f + j) (get_or ps (f + j) []))) ≤ 10 =
-    subst (λ (x : List ℕ). distance x (codeword 207 187 (randomized (f + j) (get_or ps (f + j) []))) ≤ 10) (sym e)
-    (subst (λ (x : List ℕ). distance (between (f + j) p) (codeword 207 187 (randomized (f + j) x)) ≤ 10) (sym there)
-    (near_other (f + j) p)) in
+    rw e
+    (rw there (near_other (f + j) p)) in
     ap (λ (r : Received). r.packet.0) (corrected_back ps y f j
     (others (f + j + 1) q (length-other p l) (bytes_other p b)) z (omega (arith, length-replicate (f + j + 1) q)) near)
     ∙ ap as_received there

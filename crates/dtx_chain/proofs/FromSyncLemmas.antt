@@ -1,6 +1,6 @@
 -- The bytes of undamaged segments in a row that begin with one of a stream's field syncs, and their words.
-use Rattle.std.proofs.Common.{◌≡◌, ℕ, ℤ, zero, suc, ◌+◌, ◌-◌, ◌*◌, ◌/◌, ◌%◌, ◌<◌, ◌≤◌, ◌==◌, nat_le, List, []}
-use Rattle.std.proofs.Common.{◌∷◌, ◌++◌, length, map, take, drop, get_or, refl, sym, ap, ap₂, ◌∙◌, subst, arith}
+use Rattle.std.proofs.Common.{◌≡◌, ℕ, ℤ, zero, suc, ◌+◌, ◌-◌, ◌*◌, ◌/◌, ◌%◌, ◌<◌, ◌≤◌, ◌==◌, nat_le, List, [], ◌∷◌}
+use Rattle.std.proofs.Common.{◌++◌, length, map, take, drop, get_or, refl, sym, ap, ap₂, ◌∙◌, subst, arith}
 use Rattle.std.proofs.lemmas.List.{drop-drop, drop-take, take-append-drop, length-drop, length-take, length-take-le}
 use Rattle.std.proofs.lemmas.List.{get_or-take, get_or-drop, get_or-append_right}
 use Rattle.std.proofs.lemmas.List.FromFn.{length-map-range_with_len}
@@ -240,12 +240,8 @@ bytes_there ps q run p h = record {
         ∙ ap₂ (λ (m n : ℕ). take m (drop n (levels ps))) a b
 
     own_long : length (take (3312 * groups_of run) (drop (3312 * (78 * q)) (levels ps))) ≡ 3312 * groups_of run
-    own_long = length-take-le (3312 * groups_of run) (drop (3312 * (78 * q)) (levels ps)) (omega (
-      arith,
-      groups_within ps q run h,
-      length-levels ps,
-      length-drop (3312 * (78 * q)) (levels ps),
-    ))
+    own_long = length-take-le (3312 * groups_of run) (drop (3312 * (78 * q)) (levels ps))
+        (omega (arith, groups_within ps q run h, length-levels ps, length-drop (3312 * (78 * q)) (levels ps)))
 
 -- ---- its words
 
@@ -255,17 +251,10 @@ word_moved : (q j : ℕ) (x y : List ℕ) → length x ≡ 828 * (78 * q)
 word_moved q j x y e =
     word_by 207 52 4 y j (word_at 207 52 4 (x ++ y) (312 * q + j)) (length-word 207 52 4 (x ++ y) (312 * q + j))
     (λ i l. get_or-word 207 52 4 (x ++ y) (312 * q + j) i l
-    ∙ ap (λ n. get_or (x ++ y) n 0) (place i)
+    ∙ ap (λ n. get_or (x ++ y) n 0) (omega arith)
     ∙ get_or-append_right x y (828 * (78 * q)) (828 * (78 * q) + codeword_byte_place 52 4 (207 * j + i)) 0 e
     (omega arith)
-    ∙ ap (λ n. get_or y n 0) (back (828 * (78 * q)) (codeword_byte_place 52 4 (207 * j + i))))
-  where
-    place : (i : ℕ) → codeword_byte_place 52 4 (207 * (312 * q + j) + i)
-        ≡ 828 * (78 * q) + codeword_byte_place 52 4 (207 * j + i)
-    place i = omega arith
-
-    back : (m n : ℕ) → m + n - m ≡ n
-    back m n = omega arith
+    ∙ ap (λ n. get_or y n 0) (omega arith))
 
 complete_moved : (q j a b : ℕ) → IsComplete 207 52 4 (828 * a) j → 78 * q + a ≤ b
     → IsComplete 207 52 4 (828 * b) (312 * q + j)
@@ -307,12 +296,8 @@ length-levels_there : (ps : List (List ℕ)) (q : ℕ) (run : List (List ℤ)) �
     → length (levels_in run) ≡ 3312 * groups_of run
 length-levels_there ps q run h =
     ap length (levels_there ps q run h)
-    ∙ length-take-le (828 * (4 * groups_of run)) (drop (828 * (312 * q)) (levels ps)) (omega (
-      arith,
-      groups_within ps q run h,
-      length-levels ps,
-      length-drop (828 * (312 * q)) (levels ps),
-    ))
+    ∙ length-take-le (828 * (4 * groups_of run)) (drop (828 * (312 * q)) (levels ps))
+    (omega (arith, groups_within ps q run h, length-levels ps, length-drop (828 * (312 * q)) (levels ps)))
     ∙ groups (groups_of run)
   where
     groups : (g : ℕ) → 828 * (4 * g) ≡ 3312 * g

@@ -69,12 +69,8 @@ segment_back ps d l =
     (level_small ps (828 * d + i) (omega (arith, n, l, length-levels ps))))
   where
     long : length (take 828 (drop (828 * d) (levels ps))) ≡ 828
-    long = length-take-le 828 (drop (828 * d) (levels ps)) (omega (
-      arith,
-      l,
-      length-levels ps,
-      length-drop (828 * d) (levels ps),
-    ))
+    long = length-take-le 828 (drop (828 * d) (levels ps))
+        (omega (arith, l, length-levels ps, length-drop (828 * d) (levels ps)))
 
 count_is : (g l : ℕ) → l ≡ 4 * g + (g + 77) / 78 → l - (l + 312) / 313 ≡ 4 * g
 count_is g l e = omega (arith, e)

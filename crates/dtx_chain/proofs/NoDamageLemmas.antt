@@ -1,6 +1,6 @@
 -- Undamaged segments of a stream are slightly damaged ones.
-use Rattle.std.proofs.Common.{◌≡◌, ◌⊎◌, inl, inr, ℕ, ℤ, pos, zero, suc, ◌+◌, ◌-◌, ◌*◌, ◌/◌, ◌<◌, ◌≤◌, ◌==◌}
-use Rattle.std.proofs.Common.{◌%◌, true, List, [], ◌∷◌, length, take, drop, get_or, refl, sym, ap, subst, ◌∙◌, arith}
+use Rattle.std.proofs.Common.{◌≡◌, ◌⊎◌, inl, inr, ℕ, ℤ, pos, zero, suc, ◌+◌, ◌-◌, ◌*◌, ◌/◌, ◌<◌, ◌≤◌, ◌==◌, ◌%◌, true}
+use Rattle.std.proofs.Common.{List, [], ◌∷◌, length, take, drop, get_or, refl, sym, ap, subst, ◌∙◌, arith}
 use Rattle.std.specs.Prelude.{slice_range}
 use Rattle.std.proofs.lemmas.Bool.{cases_lt, cond-true, eq-eqb}
 use Rattle.std.proofs.lemmas.List.{length-take, length-drop, get_or-take, get_or-drop}
@@ -13,8 +13,7 @@ use Rattle.dtx_coder.proofs.CountsLemmas.{a53_segment}
 use Rattle.dtx_receiver.specs.Bytes.{data_count, groups_of, bytes_in}
 use Rattle.dtx_chain.specs.Undamaged.{ArePackets}
 use Rattle.dtx_chain.specs.Damage.{IsNear, damage_at, damaged_symbols, AreReceived, IsSlight, to_sync, from_sync}
-use Rattle.dtx_chain.specs.Damage.{packet_behind}
-use Rattle.dtx_chain.specs.Damage.{word_in}
+use Rattle.dtx_chain.specs.Damage.{packet_behind, word_in}
 use Rattle.dtx_chain.proofs.PlacesLemmas.{syncs_look}
 use Rattle.dtx_chain.proofs.SlightLemmas.{sent_within, sent_at, sync_first, none_earlier}
 use Rattle.dtx_chain.proofs.FromSyncLemmas.{IsThere, word_there}
@@ -126,7 +125,7 @@ slight_before ps first sent got r p same few = record {
   words = λ j c.
       subst (IsNear ps (packet_behind first + j))
       (ap (λ (xs : List (List ℤ)). word_at 207 52 4 (bytes_in xs) j) (sym same))
-      (own.words j (subst (λ (xs : List (List ℤ)). IsComplete 207 52 4 (828 * groups_of xs) j) same c));
+      (own.words j (rw (← same) c));
 }
   where
     own : IsSlight ps first sent sent

@@ -17,19 +17,16 @@ complete_before count k c = λ j l. by_place j l (cases_lt j 206)
         → n + j + 208 * ((n + j) % 52) < count
     four_on n j h = omega arith
 
-    three_on : (n : ℕ) → n + 207 + 155 + 208 * ((n + 207 + 155) % 52) < count → n + 206 + 208 * ((n + 206) % 52) < count
-    three_on n h = omega arith
-
     next : 207 * suc k ≡ 207 * k + 207
     next = omega arith
 
     at : (i : ℕ) → i < 207 → codeword_byte_place 52 4 (207 * k + 207 + i) < count
-    at i l = subst (λ (n : ℕ). codeword_byte_place 52 4 (n + i) < count) next (c i l)
+    at i l = rw (← next) (c i l)
 
     by_place : (j : ℕ) → j < 207 → (j < 206) ⊎ (206 ≤ j) → codeword_byte_place 52 4 (207 * k + j) < count
     by_place j l (inl m) = four_on (207 * k) j (at (j + 1) (omega arith))
     by_place j l (inr m) = let e : 206 ≡ j = omega arith in
-        subst (λ (i : ℕ). codeword_byte_place 52 4 (207 * k + i) < count) e (three_on (207 * k) (at 155 (omega arith)))
+        rw (← e) (omega (arith, at 155 (omega arith)))
 
 complete_up_to : (count k i : ℕ) → IsComplete 207 52 4 count k → i ≤ k → IsComplete 207 52 4 count i
 complete_up_to count zero i c l = let e : 0 ≡ i = omega arith in subst (IsComplete 207 52 4 count) e c
@@ -59,12 +56,9 @@ filtered_at f p a (suc n) (suc j) d l h =
 pub number_of : (y : List ℕ) (at : ℕ → Received) (j : ℕ) (other : Received) → IsComplete 207 52 4 (length y) j
     → get_or (map at (filter (is_complete (length y)) (range_with_len 0 (length y / 207)))) j other ≡ at j
 number_of y at j other c =
-    filtered_at at (is_complete (length y)) 0 (length y / 207) j other (within (c 206 (omega arith)))
+    filtered_at at (is_complete (length y)) 0 (length y / 207) j other (omega (arith, c 206 (omega arith)))
     (λ i _ m. (complete_told (length y) i).1 (complete_up_to (length y) j i c (omega (arith, m))))
     ∙ ap at (zero-add j)
-  where
-    within : codeword_byte_place 52 4 (207 * j + 206) < length y → j < length y / 207
-    within h = omega (arith, h)
 
 pub number_at : (y : List ℕ) (j : ℕ) (other : Received) → IsComplete 207 52 4 (length y) j
     → get_or (run_packets y) j other ≡ received_at y j

@@ -23,7 +23,7 @@ part_at : {X : Type 0} (f : ℕ → List X) (n u j : ℕ) (d : X) → u < n → 
 part_at {X = X} f n u j d l m =
     ap (λ xs. get_or xs (length before + j) d) parts
     ∙ get_or-append_right before (f u ++ rest) (length before) (length before + j) d refl (omega arith)
-    ∙ ap (λ i. get_or (f u ++ rest) i d) back
+    ∙ ap (λ i. get_or (f u ++ rest) i d) (omega arith)
     ∙ get_or_append_left (f u) rest d j m
   where
     before : List X
@@ -32,20 +32,11 @@ part_at {X = X} f n u j d l m =
     rest : List X
     rest = flat_map f (range_with_len (u + 1) (n - u - 1))
 
-    back : length before + j - length before ≡ j
-    back = omega arith
-
-    whole : n ≡ u + suc (n - u - 1)
-    whole = omega arith
-
-    from : 0 + u ≡ u
-    from = omega arith
-
     parts : flat_map f (range_with_len 0 n) ≡ before ++ (f u ++ rest)
     parts =
-        ap (λ i. flat_map f (range_with_len 0 i)) whole
+        ap (λ i. flat_map f (range_with_len 0 i)) (omega arith)
         ∙ ap (flat_map f) (range_with_len-parts 0 u (suc (n - u - 1))
-        ∙ ap (λ a. range_with_len 0 u ++ range_with_len a (suc (n - u - 1))) from)
+        ∙ ap (λ a. range_with_len 0 u ++ range_with_len a (suc (n - u - 1))) (omega arith))
         ∙ flat_map-append f (range_with_len 0 u) (range_with_len u (suc (n - u - 1)))
 
 -- a field sync stands before a group that begins a field, and before no other
@@ -91,12 +82,9 @@ pub sync_at : (ps : List (List ℕ)) (u : ℕ) → u < length ps / 4 → 4 * u %
     → get_or (a53 ps) (4 * u + (u + 77) / 78) [] ≡ field_sync (nat_le 312 (4 * u % 624)) (last_before ps u)
 unfolding a53 group_segments
 sync_at ps u l z =
-    ap (λ i. get_or (a53 ps) i []) (there (4 * u + (u + 77) / 78) ∙ ap (λ n. n + 0) (sym (length-before ps u)))
+    ap (λ i. get_or (a53 ps) i []) (omega arith ∙ ap (λ n. n + 0) (sym (length-before ps u)))
     ∙ part_at (group_segments ps) (length ps / 4) u 0 [] l (omega (arith, length-group ps u))
     ∙ ap (λ xs. get_or (xs ++ four_segments (levels ps) (4 * u)) 0 []) (sync_there ps u z)
-  where
-    there : (n : ℕ) → n ≡ n + 0
-    there n = omega arith
 
 -- ---- data segments
 
@@ -151,14 +139,11 @@ one_run ps l =
     some : 0 < length (a53 ps)
     some = omega (arith, l, length-a53 ps)
 
-    plus : (n : ℕ) → 0 + n ≡ n
-    plus n = omega arith
-
     run : IsRun (a53 ps) 0 (length (a53 ps))
     run = record {
       some = some;
       within = omega arith;
-      syncs = λ j m z. ap (looks_at (a53 ps)) (plus j) ∙ syncs_look ps j m z;
+      syncs = λ j m z. ap (looks_at (a53 ps)) (omega arith) ∙ syncs_look ps j m z;
       ends = inl (omega arith);
     }
 

@@ -1,6 +1,6 @@
 -- Each packet that is received has 188 bytes, whatever is received.
-use Rattle.std.proofs.Common.{◌≡◌, ℕ, ◌+◌, ◌*◌, ◌/◌, ◌%◌, Option, Some, None, List, [], ◌∷◌, length, map, take}
-use Rattle.std.proofs.Common.{get_or, refl, ◌∙◌, arith}
+use Rattle.std.proofs.Common.{◌≡◌, ℕ, ◌+◌, ◌*◌, ◌/◌, ◌%◌, Option, Some, None, List, [], ◌∷◌, length, map, take, get_or}
+use Rattle.std.proofs.Common.{refl, ◌∙◌, arith}
 use Rattle.std.specs.Prelude.{ℤ}
 use Rattle.std.specs.List.{All, filter, flat_map, range_with_len}
 use Rattle.std.proofs.lemmas.List.{length-set, length-take-le}
@@ -23,11 +23,7 @@ IsWhole r = length r.packet.0 ≡ 188
 
 length-packet_bytes : (from : ℕ) (word : List ℕ) → length word ≡ 207 → length (packet_bytes from word) ≡ 188
 length-packet_bytes from word long =
-    omega (
-      arith,
-      length-whitened randomizer_bytes (take 187 word) from,
-      length-take-le 187 word (omega (arith, long)),
-    )
+    omega (arith, length-whitened randomizer_bytes (take 187 word) from, length-take-le 187 word (omega (arith, long)))
 
 -- that of a word, whatever code of 207 bytes was found for it, or none
 pub by_word : (from : ℕ) (word : List ℕ) (found : Option (List ℕ)) → length word ≡ 207

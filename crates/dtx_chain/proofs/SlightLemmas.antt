@@ -131,14 +131,13 @@ one_run_left ps first sent got r l h =
     within = omega (arith, l, r.as_many)
 
     -- each 313th from there on
-    due : (j : ℕ) → j % 313 ≡ 0 → (first + (to_sync first + j)) % 313 ≡ 0
-    due j z = omega (arith, z, sync_first first)
 
     run : IsRun got (to_sync first) (length got - to_sync first)
     run = record {
       some = omega (arith, l, r.as_many);
       within = omega (arith, within);
-      syncs = λ j m z. h.syncs (to_sync first + j) (omega (arith, m, within, r.as_many)) (due j z);
+      syncs = λ j m z. h.syncs (to_sync first + j) (omega (arith, m, within, r.as_many))
+          (omega (arith, sync_first first));
       ends = inl within;
     }
 

@@ -40,13 +40,10 @@ from_words ps h =
     ap (λ n. map (received_at (whole_groups ps)) (filter (is_complete n) (range_with_len 0 (n / 207))))
     (length-whole ps)
     ∙ ap (λ n. map (received_at (whole_groups ps)) (filter (is_complete (828 * (length ps / 4))) (range_with_len 0 n)))
-    (count (length ps / 4))
+    (omega arith)
     ∙ map-filter_same (received_at (whole_groups ps)) (as_sent ps) (is_complete (828 * (length ps / 4))) 0
     (4 * (length ps / 4))
     (λ k a b t. packet_back ps k h (omega (arith, b)) ((complete_told (828 * (length ps / 4)) k).0 t))
-  where
-    count : (g : ℕ) → 828 * g / 207 ≡ 4 * g
-    count g = omega arith
 
 pub good_packets : (ps : List (List ℕ)) → 4 ≤ length ps → ArePackets ps
     → all_packets (a53 ps) ≡ map (as_sent ps) (whole_words ps)

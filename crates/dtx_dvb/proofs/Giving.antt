@@ -4,8 +4,7 @@ use Rattle.std.proofs.Common.{refl, sym, ap, ◌∙◌, subst, lit<, arith}
 use Rattle.dtx_laws.specs.Codeword.{distance}
 use Rattle.dtx_laws.specs.Whitening.{whitened}
 use Rattle.dtx_outer.specs.Inner.{IsTaken, waiting}
-use Rattle.dtx_outer.specs.Made.{IsTold}
-use Rattle.dtx_outer.proofs.MadeLemmas.{made_told}
+use Rattle.dtx_outer.proofs.MadeLemmas.{IsTold, made_told}
 use Rattle.dtx_outer.specs.declared.inner.Taken.{Taken}
 use Rattle.dtx_outer.specs.declared.inner.Taken.TheVariants.{None, Good, Bad}
 use Rattle.dtx_dvb.specs.Read.{Read}

@@ -5,8 +5,7 @@ use Rattle.std.specs.List.{range_with_len}
 use Rattle.std.proofs.lemmas.List.FromFn.{length-map-range_with_len, get_or-map-range_with_len}
 use Rattle.dtx_laws.specs.Words.{correction}
 use Rattle.dtx_outer.specs.Inner.{waiting, word_at, IsComplete}
-use Rattle.dtx_outer.specs.Made.{made_in}
-use Rattle.dtx_outer.proofs.MadeLemmas.{next_in, made_more, made_loose, made_none, made_next}
+use Rattle.dtx_outer.proofs.MadeLemmas.{made_in, next_in, made_more, made_loose, made_none, made_next}
 use Rattle.dtx_outer.proofs.WordsLemmas.{word_stays, complete_then}
 use Rattle.dtx_dvb.specs.Read.{Read}
 use Rattle.dtx_dvb.specs.Reading.{read_by, read_at, read_dvb}

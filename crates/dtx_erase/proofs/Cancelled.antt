@@ -1,6 +1,6 @@
 -- One turn of the loop that cancels the marked places.
-use Rattle.std.proofs.Common.{◌≡◌, ℕ, suc, ◌+◌, ◌<◌, Bool, true, false, List, ◌∷◌, length}
-use Rattle.std.proofs.Common.{get_or, bit_xor, sym, ap, ap₂, ◌∙◌, arith, add-one}
+use Rattle.std.proofs.Common.{◌≡◌, ℕ, suc, ◌+◌, ◌<◌, Bool, true, false, List, ◌∷◌, length, get_or, bit_xor, sym, ap}
+use Rattle.std.proofs.Common.{ap₂, ◌∙◌, arith, add-one}
 use Rattle.dtx_galois.specs.Field.{mul}
 use Rattle.dtx_laws.specs.Locator.{power_at}
 use Rattle.dtx_laws.specs.ErrorValues.{others, without}

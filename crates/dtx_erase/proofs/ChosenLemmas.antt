@@ -1,7 +1,6 @@
 -- The mending as a function: what it gives is the mending.
-use Rattle.std.proofs.Common.{◌≡◌, ℕ, ◌+◌, ◌-◌, ◌*◌, ◌≤◌, nat_le, Bool, true, ◌&&◌}
-use Rattle.std.proofs.Common.{Option, Some, None, List, length, refl}
-use Rattle.std.proofs.Common.{sym, ap, ◌∙◌}
+use Rattle.std.proofs.Common.{◌≡◌, ℕ, ◌+◌, ◌-◌, ◌*◌, ◌≤◌, nat_le, Bool, true, ◌&&◌, Option, Some, None, List, length}
+use Rattle.std.proofs.Common.{refl, sym, ap, ◌∙◌}
 use Rattle.std.proofs.lemmas.Bool.{and_parts, and_from, le-leb, leb-true, true≢false}
 use Rattle.dtx_galois.specs.Field.{AreBytes}
 use Rattle.dtx_laws.specs.Codeword.{IsCorrection}

@@ -2,50 +2,33 @@
 use Rattle.std.proofs.Common.{◌≡◌, ℕ, zero, suc, ◌+◌, ◌-◌, ◌*◌, ◌%◌, ◌<◌, ◌≤◌, List, [], ◌∷◌, ◌++◌, length, get_or}
 use Rattle.std.proofs.Common.{take, drop, refl, sym, ap, ap₂, ◌∙◌, subst, inl, inr, ◌⊎◌, arith}
 use Rattle.std.proofs.lemmas.List.{length-append, length-drop, length-take-le, take_all, take-take, drop-take}
-use Rattle.std.proofs.lemmas.List.{drop-drop, get_or-take, get_or-drop}
+use Rattle.std.proofs.lemmas.List.{drop-append-le, take-append-le, drop-drop, get_or-take, get_or-drop}
 use Rattle.std.proofs.lemmas.Bool.{cases_lt}
 use Rattle.dtx_laws.specs.Branches.{Branching, HasWidths, gathering, leaving_all, after_all}
 use Rattle.dtx_laws.proofs.PlacesLemmas.{length_leaving, leaving_append, after_append}
-use Rattle.dtx_outer.specs.Inner.{word_at}
+use Rattle.dtx_outer.specs.Inner.{word_at, IsComplete}
 use Rattle.dtx_outer.proofs.WordsLemmas.{word_by, gathers_word, word_stays}
 use Rattle.dtx_receiver.proofs.CompleteLemmas.{complete_all}
-use Rattle.dtx_outer.specs.Inner.{IsComplete}
 use Rattle.dtx_erase.specs.Sides.{AreWords, Gathers}
 
 -- ---- lists
 
-drop_front : (us ls : List ℕ) (b : ℕ) → b ≤ length us → drop b (us ++ ls) ≡ drop b us ++ ls
-drop_front us ls zero h = refl
-drop_front [] ls (suc b) h = absurd (omega (arith, h))
-drop_front (x ∷ us) ls (suc b) h = drop_front us ls b (omega (arith, h))
-
 drop_past : (us ls : List ℕ) (n m : ℕ) → m ≡ length us + n → drop m (us ++ ls) ≡ drop n ls
-drop_past [] ls n m e = ap (λ i. drop i ls) (none e)
-  where
-    none : m ≡ 0 + n → m ≡ n
-    none e = omega (arith, e)
+drop_past [] ls n m e = ap (λ i. drop i ls) (omega arith)
 drop_past (x ∷ us) ls n zero e = absurd (omega (arith, e))
 drop_past (x ∷ us) ls n (suc m) e = drop_past us ls n m (omega (arith, e))
 
 take_front : (us ls : List ℕ) (n m : ℕ) → m ≡ length us + n → take m (us ++ ls) ≡ us ++ take n ls
-take_front [] ls n m e = ap (λ i. take i ls) (none e)
-  where
-    none : m ≡ 0 + n → m ≡ n
-    none e = omega (arith, e)
+take_front [] ls n m e = ap (λ i. take i ls) (omega arith)
 take_front (x ∷ us) ls n zero e = absurd (omega (arith, e))
 take_front (x ∷ us) ls n (suc m) e = ap (λ xs. x ∷ xs) (take_front us ls n m (omega (arith, e)))
-
-take_within : (us ls : List ℕ) (n : ℕ) → n ≤ length us → take n (us ++ ls) ≡ take n us
-take_within us ls zero l = refl
-take_within [] ls (suc n) l = absurd (omega (arith, l))
-take_within (x ∷ us) ls (suc n) l = ap (λ xs. x ∷ xs) (take_within us ls n (omega (arith, l)))
 
 -- what was written behind the first 156
 pub laid_behind : (old ys rest : List ℕ) (r : ℕ) → 156 ≤ length old → r ≤ length ys
     → take r (drop 156 (take 156 old ++ (ys ++ rest))) ≡ take r ys
 laid_behind old ys rest r l m =
     ap (take r) (drop_past (take 156 old) (ys ++ rest) 0 156 (omega (arith, length-take-le 156 old l)))
-    ∙ take_within ys rest r m
+    ∙ take-append-le r ys rest m
 
 -- and then other bytes in place of these
 pub passed_through : (begun old ys rest : List ℕ) (n : ℕ) → length begun ≡ 156 → 156 ≤ length old → length ys ≡ n
@@ -94,7 +77,7 @@ gathers_first held begun y g w a e z = record {
 pub gathers_stay : (held : Branching) (begun : List ℕ) (g h : ℕ) (y z : List ℕ) → g ≡ h → y ≡ z
     → Gathers held begun g y → Gathers held begun h z
 gathers_stay held begun g h y z e f s =
-    subst (λ (n : ℕ). Gathers held begun n z) e (subst (λ (w : List ℕ). Gathers held begun g w) f s)
+    subst (λ (n : ℕ). Gathers held begun n z) e (rw (← f) s)
 
 -- the end of what was gathered, with more bytes behind it
 joined : (held : Branching) (begun : List ℕ) (g : ℕ) (y more : List ℕ) (s : Gathers held begun g y) → 0 < g
@@ -102,7 +85,7 @@ joined : (held : Branching) (begun : List ℕ) (g : ℕ) (y more : List ℕ) (s 
 joined held begun g y more s l =
     ap₂ (λ (us : List ℕ) v. us ++ leaving_all 52 v more) (s.rest l) s.branches
     ∙ sym (ap (drop (828 * g - 156)) (leaving_append 52 s.start y more)
-    ∙ drop_front (leaving_all 52 s.start y) (leaving_all 52 (after_all 52 s.start y) more) (828 * g - 156)
+    ∙ drop-append-le (828 * g - 156) (leaving_all 52 s.start y) (leaving_all 52 (after_all 52 s.start y) more)
     (omega (arith, length_leaving 52 s.start y, s.given)))
 
 -- what is gathered of h groups: their bytes left behind those that begin a word
@@ -119,10 +102,7 @@ ends_begun : (held new : Branching) (begun all ends : List ℕ) (h : ℕ) (more 
     → Passed held new begun all ends h more → ends ≡ drop (828 * h) (begun ++ leaving_all 52 held more)
 ends_begun held new begun all ends h more p =
     p.ends_are ∙ sym (drop-take (828 * h) 156 all)
-    ∙ ap (λ n. drop (828 * h) (take n all)) (turned (828 * h)) ∙ ap (drop (828 * h)) p.gathered
-  where
-    turned : (n : ℕ) → n + 156 ≡ 156 + n
-    turned n = omega arith
+    ∙ ap (λ n. drop (828 * h) (take n all)) (omega arith) ∙ ap (drop (828 * h)) p.gathered
 
 pub gathers_more : (held new : Branching) (begun all ends : List ℕ) (g h : ℕ) (y more : List ℕ)
     → Gathers held begun g y → Passed held new begun all ends h more → Gathers new ends (g + h) (y ++ more)
@@ -151,11 +131,8 @@ gathers_more held new begun all ends g h y more s p = record {
 -- a part of the front
 front : (n a : ℕ) (xs : List ℕ) → a + 207 ≤ n → take 207 (drop a xs) ≡ take 207 (drop a (take n xs))
 front n a xs l =
-    sym (ap (λ i. take 207 (drop a (take i xs))) rest
+    sym (ap (λ i. take 207 (drop a (take i xs))) (omega (arith, l))
     ∙ ap (take 207) (drop-take a (n - a) xs) ∙ take-take 207 (n - a) (drop a xs) (omega (arith, l)))
-  where
-    rest : n ≡ a + (n - a)
-    rest = omega (arith, l)
 
 pub words_more : (held new : Branching) (begun all ends : List ℕ) (g h : ℕ) (y more : List ℕ)
     → Gathers held begun g y → Passed held new begun all ends h more → AreWords all g h (y ++ more)

@@ -1,7 +1,7 @@
 -- Marked places, and how many there are.
-use Rattle.std.proofs.Common.{◌≡◌, ℕ, zero, suc, ◌+◌, ◌<◌, ◌≤◌, ◌⊎◌, inl, inr, ◌==◌, ◌&&◌, ◌||◌, not, cond}
-use Rattle.std.proofs.Common.{Bool, true, false, List, []}
-use Rattle.std.proofs.Common.{◌∷◌, length, get_or, take, add-one, refl, sym, ap, ap₂, ◌∙◌, subst₂, arith}
+use Rattle.std.proofs.Common.{◌≡◌, ℕ, zero, suc, ◌+◌, ◌<◌, ◌≤◌, ◌⊎◌, inl, inr, ◌==◌, ◌&&◌, ◌||◌, not, cond, Bool, true}
+use Rattle.std.proofs.Common.{false, List, [], ◌∷◌, length, get_or, take, add-one, refl, sym, ap, ap₂, ◌∙◌, subst₂}
+use Rattle.std.proofs.Common.{arith}
 use Rattle.std.proofs.lemmas.Bool.{ne_eqb, eq-eqb, eqb-true}
 use Rattle.std.proofs.lemmas.List.{take_all}
 use Rattle.dtx_laws.specs.Locator.{is_marked, power_at}
@@ -22,10 +22,7 @@ lost_more (m ∷ marks) (suc q) l = omega (arith, lost_more marks q (omega arith
 
 -- place n is none of them
 none_left_out : (n q : ℕ) (u : Bool) → q < n → (u && not (q == n)) ≡ u
-none_left_out n q true l = ap not (ne_eqb q n (λ e. before n q l e))
-  where
-    before : (n q : ℕ) → q < n → q ≡ n → ⊥
-    before n q l e = omega arith
+none_left_out n q true l = ap not (ne_eqb q n (λ e. omega arith))
 none_left_out n q false l = refl
 
 length_before : (n q : ℕ) (marks : List Bool) → length marks ≡ n → q ≤ n
@@ -90,11 +87,8 @@ unfolding others
 others_past n p zero mark m l = refl
 others_past n p (suc q) mark m l =
     ap₂ (λ (u : Bool) (ys : List ℕ). cond (mark q && u) (power_at n q ∷ ys) ys)
-    (ap not (ne_eqb q p (λ e. before p q l e)) ∙ sym (not_last n q (omega arith)))
+    (ap not (ne_eqb q p (λ e. omega arith)) ∙ sym (not_last n q (omega arith)))
     (others_past n p q mark m (omega arith))
-  where
-    before : (p q : ℕ) → suc q ≤ p → q ≡ p → ⊥
-    before p q l e = omega arith
 
 -- a marked place's power is one of them, whatever the order: R tells a list from another order of it
 pub others_with : (R : List ℕ → List ℕ → Type 0) → ((ys : List ℕ) → R ys ys)
@@ -108,9 +102,6 @@ others_with R same moved n p (suc q) mark l m t =
   where
     place_order : (p q : ℕ) → p < suc q → (p ≡ q) ⊎ (p < q)
     place_order p q m = grind arith
-
-    before : (p q : ℕ) → p < q → q ≡ p → ⊥
-    before p q r e = omega arith
 
     by_itself : (u v : Bool) → v ≡ true → (u && v) ≡ u
     by_itself true v e = e
@@ -142,7 +133,7 @@ others_with R same moved n p (suc q) mark l m t =
         (ap (λ u. cond u (power_at n q ∷ others n mark n q) (others n mark n q))
         (sym (by_itself (mark q) (not (q == n)) (not_last n q (omega arith)))))
         (ap (λ u. power_at n p ∷ cond u (power_at n q ∷ others n mark p q) (others n mark p q))
-        (sym (by_itself (mark q) (not (q == p)) (ap not (ne_eqb q p (before p q r))))))
+        (sym (by_itself (mark q) (not (q == p)) (ap not (ne_eqb q p (λ e. omega arith))))))
         (by_mark (mark q) (rest r))
 
 pub length_with : (n p : ℕ) (mark : ℕ → Bool) → p < n → mark p ≡ true

@@ -3,6 +3,7 @@ use Rattle.std.proofs.Common.{◌≡◌, ℕ, ℤ, pos, negsuc, ◌+◌, ◌-◌
 use Rattle.std.proofs.Common.{List, [], ◌∷◌, ◌++◌, map, length, drop, get_or, refl, sym, ap, ap₂, ◌∙◌, arith}
 use Rattle.std.specs.List.{range_with_len, flat_map}
 use Rattle.std.proofs.Math.ListN.{get_or-map}
+use Rattle.std.proofs.lemmas.Simd.{map-map}
 use Rattle.std.proofs.lemmas.Bool.{cond-false, ne_eqb}
 use Rattle.std.proofs.lemmas.List.{length-append, length-drop, length-map, drop-map, map-append}
 use Rattle.std.proofs.lemmas.List.FromFn.{get_or-map-range_with_len, length-map-range_with_len}
@@ -16,10 +17,6 @@ use Rattle.dtx_receiver.specs.Bytes.{data_count, data_at, groups_of, levels_from
 use Rattle.dtx_receiver.proofs.CountingLemmas.{bytes_count}
 use Rattle.dtx_erase.specs.Marks.{is_missing, missing_in, was_missing, is_marked, marks_in, shown, shown_run, is_set}
 use Rattle.dtx_erase.specs.Mended.{marks_at}
-
-pub map_over : {X Y : Type 0} (g : X → Y) (f : ℕ → X) (xs : List ℕ) → map g (map f xs) ≡ map (λ i. g (f i)) xs
-map_over g f [] = refl
-map_over g f (x ∷ xs) = ap (λ ys. g (f x) ∷ ys) (map_over g f xs)
 
 map_flat : {X Y : Type 0} (g : X → Y) (f : ℕ → List X) (xs : List ℕ)
     → map g (flat_map f xs) ≡ flat_map (λ i. map g (f i)) xs
@@ -164,14 +161,8 @@ missing_next : (run : List (List ℤ)) (r e : ℕ)
 unfolding was_missing
 missing_next run r e =
     cond-false (r + 1 == 0) (get_or (map is_missing (drop 820 (get_or run 0 []))) ((e + 4) % 12) false)
-    (get_or (missing_in run) (symbol_place 0 (r + 1 - 1) e) false) (ne_eqb (r + 1) 0 (no r))
-    ∙ ap (λ u. get_or (missing_in run) (symbol_place 0 u e) false) (back r)
-  where
-    no : (r : ℕ) → r + 1 ≡ 0 → ⊥
-    no r e = omega arith
-
-    back : (r : ℕ) → r + 1 - 1 ≡ r
-    back r = omega arith
+    (get_or (missing_in run) (symbol_place 0 (r + 1 - 1) e) false) (ne_eqb (r + 1) 0 (λ e. omega arith))
+    ∙ ap (λ u. get_or (missing_in run) (symbol_place 0 u e) false) (omega arith)
 
 abbrev pair_of : Bool → Bool → ℕ
 pair_of a b = pair_from (bit_of a) (level_of b)
@@ -259,7 +250,7 @@ marks_are run = ap (λ n. map (is_marked run) (range_with_len 0 n)) (bytes_long 
         ∙ map-range_same (is_marked run)
         (λ j. is_set (byte_back 0 (first_bits (shown_run run)) (levels_in (shown_run run)) j)) 0 n
         (λ j a b. sym (byte_set run j))
-        ∙ sym (map_over is_set (byte_back 0 (first_bits (shown_run run)) (levels_in (shown_run run)))
+        ∙ sym (map-map is_set (byte_back 0 (first_bits (shown_run run)) (levels_in (shown_run run)))
         (range_with_len 0 n))
 
 -- ---- words
@@ -270,7 +261,7 @@ marks_word flags k =
     map-range_same (λ p. get_or (map is_set flags) (codeword_byte_place 52 4 p) false)
     (λ p. is_set (get_or flags (codeword_byte_place 52 4 p) 0)) (207 * k) 207
     (λ p a b. get_or-map is_set flags (codeword_byte_place 52 4 p) 0)
-    ∙ sym (map_over is_set (λ p. get_or flags (codeword_byte_place 52 4 p) 0) (range_with_len (207 * k) 207))
+    ∙ sym (map-map is_set (λ p. get_or flags (codeword_byte_place 52 4 p) 0) (range_with_len (207 * k) 207))
 
 pub shown_push : (run : List (List ℤ)) (x : List ℤ) → shown_run (run ++ x ∷ []) ≡ shown_run run ++ map shown x ∷ []
 shown_push run x = map-append (map shown) run (x ∷ [])

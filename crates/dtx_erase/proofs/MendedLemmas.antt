@@ -1,6 +1,6 @@
 -- The packets of a run by how many groups it has: those that are given while it is on, and the last one.
-use Rattle.std.proofs.Common.{◌≡◌, ◌≢◌, ℕ, ◌+◌, ◌-◌, ◌*◌, ◌/◌, ◌%◌, ◌<◌, ◌≤◌, ◌⊎◌, List, [], ◌∷◌, ◌++◌}
-use Rattle.std.proofs.Common.{map, length, sym, ap, ap₂, ◌∙◌, subst, arith}
+use Rattle.std.proofs.Common.{◌≡◌, ◌≢◌, ℕ, ◌+◌, ◌-◌, ◌*◌, ◌/◌, ◌%◌, ◌<◌, ◌≤◌, ◌⊎◌, List, [], ◌∷◌, ◌++◌, map, length}
+use Rattle.std.proofs.Common.{sym, ap, ap₂, ◌∙◌, subst, arith}
 use Rattle.std.specs.List.{range_with_len}
 use Rattle.std.proofs.lemmas.List.{length-append}
 use Rattle.dtx_lists.proofs.Range.{map-range_same}
@@ -55,13 +55,10 @@ early_more bytes more flags fore g h e f l =
     (omega (arith, e)) (omega (arith, e, l, length-append bytes more))
     (λ k c. stays bytes more flags fore k g e f c)
     ∙ ap₂ (λ (xs : List Received) (n : ℕ). xs ++ map now (range_with_len (4 * g - 52) n)) (sym (by_flags bytes flags))
-    (count g h)
+    (omega arith)
   where
     now : ℕ → Received
     now = flagged (bytes ++ more) (flags ++ fore)
-
-    count : (g h : ℕ) → 4 * g + 4 * h - 52 - (4 * g - 52) ≡ 4 * (h - (13 - g))
-    count g h = omega arith
 
 -- ---- the end of a run
 

@@ -1,6 +1,6 @@
 -- The packets that groups of a run give, and its end.
-use Rattle.std.proofs.Common.{◌≡◌, ◌≢◌, ℕ, ℤ, ◌+◌, ◌-◌, ◌*◌, ◌%◌, ◌<◌, ◌≤◌, ◌⊎◌, List, [], ◌∷◌, ◌++◌, length, map}
-use Rattle.std.proofs.Common.{refl, sym, ap, ap₂, ◌∙◌, subst, inl, inr, arith}
+use Rattle.std.proofs.Common.{◌≡◌, ◌≢◌, ℕ, ℤ, ◌+◌, ◌-◌, ◌*◌, ◌%◌, ◌<◌, ◌≤◌, ◌⊎◌, List, [], ◌∷◌, ◌++◌, length, map, refl}
+use Rattle.std.proofs.Common.{sym, ap, ap₂, ◌∙◌, subst, inl, inr, arith}
 use Rattle.std.specs.List.{range_with_len}
 use Rattle.std.proofs.lemmas.Bool.{cases_lt}
 use Rattle.std.proofs.lemmas.List.{length-append, map-append}
@@ -55,7 +55,7 @@ early_further kept new h run longer brought b e =
     one i l =
         ap (λ n. mended_word (187 * n) (word_at 207 52 4 (bytes_in run ++ b.bytes.more) (4 * groups_of run - 52 + i))
         (word_at 207 52 4 (bytes_in (shown_run run) ++ b.marks.more) (4 * groups_of run - 52 + i)))
-        (place b.old.place b.old.waits)
+        (omega (arith, b.old.place, b.old.waits))
         ∙ ap₂ (mended_word (187 * ((kept.place + (4 * (13 - groups_of run) + i - 4 * kept.waits)) % 312)))
         (ap (λ y. word_at 207 52 4 y (4 * groups_of run - 52 + i)) (sym b.bytes.bytes)
         ∙ sym (b.bytes.words (4 * groups_of run - 52 + i) (4 * (13 - groups_of run) + i) (omega (arith, l))
@@ -63,11 +63,6 @@ early_further kept new h run longer brought b e =
         (ap (λ y. word_at 207 52 4 y (4 * groups_of run - 52 + i)) (sym b.marks.bytes)
         ∙ sym (b.marks.words (4 * groups_of run - 52 + i) (4 * (13 - groups_of run) + i) (omega (arith, l))
         (omega (arith, l, shown_groups run))))
-      where
-        place : kept.place ≡ (4 * groups_of run - 52) % 312 → kept.waits ≡ 13 - groups_of run
-            → (4 * groups_of run - 52 + i) % 312
-            ≡ (kept.place + (4 * (13 - groups_of run) + i - 4 * kept.waits)) % 312
-        place p w = omega (arith, p, w)
 
 -- ---- the packets of one group more
 
@@ -126,20 +121,13 @@ next_given kept now new j before after g sides waiting given = by_waits (cases_l
         more : 4 * (j + 1 - kept.waits) ≡ 4 * (j - kept.waits) + 4
         more = omega (arith, g.waits, l)
 
-        at : (i : ℕ) → 4 * kept.waits + 4 * (j - kept.waits) + i ≡ 4 * j + (0 + i)
-        at i = omega (arith, g.waits, l)
-
-        place : (i : ℕ) → (kept.place + (4 * kept.waits + 4 * (j - kept.waits) + i - 4 * kept.waits)) % 312
-            ≡ (now.place + (0 + i)) % 312
-        place i = omega (arith, g.place)
-
         one : (i : ℕ) → i < 4 → packet_of kept (4 * kept.waits + 4 * (j - kept.waits) + i) ≡ of_group now j (0 + i)
         one i m =
             ap (λ n. mended_word (187 * n) (word_of kept.bytes.gathered (4 * kept.waits + 4 * (j - kept.waits) + i))
-            (word_of kept.marks.gathered (4 * kept.waits + 4 * (j - kept.waits) + i))) (place i)
+            (word_of kept.marks.gathered (4 * kept.waits + 4 * (j - kept.waits) + i))) (omega (arith, g.place))
             ∙ ap₂ (mended_word (187 * ((now.place + (0 + i)) % 312)))
-            (ap₂ (λ (s : Side) (n : ℕ). word_of s.gathered n) (sym g.bytes) (at i))
-            (ap₂ (λ (s : Side) (n : ℕ). word_of s.gathered n) (sym g.marks) (at i))
+            (ap₂ (λ (s : Side) (n : ℕ). word_of s.gathered n) (sym g.bytes) (omega (arith, g.waits, l)))
+            (ap₂ (λ (s : Side) (n : ℕ). word_of s.gathered n) (sym g.marks) (omega (arith, g.waits, l)))
 
 -- ---- segments, behind a run of which these segments were kept
 
@@ -164,12 +152,9 @@ all_taken xs old kept new kb km b m place h k brought is same from_b from_m byte
     both : Both kept new h run (run ++ xs)
     both = record {
       old = here;
-      bytes = subst (λ (s : Side). IsFurther s h run (run ++ xs)) (sym g.bytes)
-          (bytes run (subst (λ (s : Side). Holds s run) (sym from_b) here.bytes) e);
-      marks = subst (λ (s : Side). IsFurther s h (shown_run run) (shown_run (run ++ xs))) (sym g.marks)
-          (subst (IsFurther m h (shown_run run)) (sym (map-append (map shown) run xs))
-          (subst (λ (n : ℕ). IsFurther m n (shown_run run) (shown_run run ++ shown_run xs)) same
-          (marks (shown_run run) (subst (λ (s : Side). Holds s (shown_run run)) (sym from_m) here.marks)
+      bytes = rw g.bytes (bytes run (subst (λ (s : Side). Holds s run) (sym from_b) here.bytes) e);
+      marks = rw g.marks (subst (IsFurther m h (shown_run run)) (sym (map-append (map shown) run xs))
+          (rw (← same) (marks (shown_run run) (subst (λ (s : Side). Holds s (shown_run run)) (sym from_m) here.marks)
           (shown_due run place e))));
       waits = g.waits;
       place = g.place;

@@ -1,24 +1,21 @@
 -- Marks that are all clear: zeros pass the branches, and after 13 groups of them these hold nothing else.
 use Rattle.std.proofs.Common.{◌≡◌, ◌≢◌, ℕ, ℤ, zero, suc, ◌+◌, ◌-◌, ◌*◌, ◌/◌, ◌%◌, ◌<◌, ◌≤◌, ◌⊎◌, ◌==◌, nat_lt, Bool}
-use Rattle.std.proofs.Common.{pos, negsuc}
-use Rattle.std.proofs.Common.{true, false, not, cond, List, [], ◌∷◌, ◌++◌, map, length, get_or, set, take, drop}
-use Rattle.std.proofs.Common.{replicate}
-use Rattle.std.proofs.Common.{refl, sym, ap, ap₂, ◌∙◌, subst, inl, inr, arith, add-zero, append_assoc}
+use Rattle.std.proofs.Common.{pos, negsuc, true, false, not, cond, List, [], ◌∷◌, ◌++◌, map, length, get_or, set, take}
+use Rattle.std.proofs.Common.{drop, replicate, refl, sym, ap, ap₂, ◌∙◌, subst, inl, inr, arith, add-zero}
+use Rattle.std.proofs.Common.{append_assoc}
 use Rattle.std.specs.Int.{w8, cast_signed}
 use Rattle.std.specs.List.{range_with_len, AllByRecursion}
 use Rattle.std.proofs.lemmas.Bool.{true≢false, cases_lt, cases_eq, eq-eqb, ne_eqb, lt-ltb, le-ltb}
-use Rattle.std.proofs.lemmas.List.{length-replicate, set-get_or, replicate-append-replicate}
-use Rattle.std.proofs.lemmas.List.{take-replicate, drop-replicate, drop-map, get_or-drop, length-drop, append-nil}
-use Rattle.std.proofs.lemmas.List.{length-append, length-map, length_push, get_or-map, get_or_append_left}
-use Rattle.std.proofs.lemmas.List.{get_or-append-add}
+use Rattle.std.proofs.lemmas.List.{length-replicate, set-get_or, replicate-append-replicate, take-replicate}
+use Rattle.std.proofs.lemmas.List.{drop-replicate, drop-map, get_or-drop, length-drop, append-nil, length-append}
+use Rattle.std.proofs.lemmas.List.{length-map, length_push, get_or-map, get_or_append_left, get_or-append-add}
 use Rattle.dtx_laws.specs.Branches.{Branching, HasWidths, gathering, leaving_all, after_all, after_byte}
 use Rattle.dtx_laws.proofs.InterleavingLemmas.{HasWidths-all}
 use Rattle.dtx_laws.proofs.PlacesLemmas.{Holds, Holds-step, Holds-turn, after_append}
-use Rattle.dtx_slice.specs.Unrolled.{symbol_place, precoder_bit, pair_from, pair_back, byte_back, bytes_back}
-use Rattle.dtx_slice.specs.Unrolled.{coder_of, level_groups, precoder_bits_after}
+use Rattle.dtx_slice.specs.Unrolled.{symbol_place, precoder_bit, pair_from, pair_back, byte_back, bytes_back, coder_of}
+use Rattle.dtx_slice.specs.Unrolled.{level_groups, precoder_bits_after}
 use Rattle.dtx_slice.specs.Slicing.{sliced, sliced_data}
-use Rattle.dtx_receiver.specs.Bytes.{data_count}
-use Rattle.dtx_receiver.specs.Bytes.{bytes_in}
+use Rattle.dtx_receiver.specs.Bytes.{data_count, bytes_in}
 use Rattle.dtx_receiver.specs.Receiver.{AreGrouped}
 use Rattle.dtx_receiver.specs.Symbols.{symbols_in, symbols_of}
 use Rattle.dtx_receiver.proofs.GroupedLemmas.{flat, grouping, grouped_data, grouped_group, grouped_none}
@@ -215,17 +212,11 @@ next_is r l = by_end (cases_eq (r + 1) 52)
 pub clear_stays : (n : ℕ) (v : Branching) → AreClear v → v.next < 52
     → after_all 52 v (zeros n) ≡ record { next = (v.next + n) % 52; lists = v.lists }
 unfolding after_all
-clear_stays zero v c l = ap (λ (r : ℕ). record { next = r; lists = v.lists }) (same v.next l)
-  where
-    same : (r : ℕ) → r < 52 → r ≡ (r + 0) % 52
-    same r l = omega (arith, l)
+clear_stays zero v c l = ap (λ (r : ℕ). record { next = r; lists = v.lists }) (omega arith)
 clear_stays (suc n) v c l =
     ap (λ (u : Branching). after_all 52 u (zeros n)) (byte_clear v c l)
     ∙ clear_stays n (record { next = next_of v.next; lists = v.lists }) c (omega (arith, next_is v.next l))
-    ∙ ap (λ (r : ℕ). record { next = r; lists = v.lists }) (further v.next (next_of v.next) n (next_is v.next l))
-  where
-    further : (r s n : ℕ) → s ≡ (r + 1) % 52 → (s + n) % 52 ≡ (r + suc n) % 52
-    further r s n e = omega (arith, e)
+    ∙ ap (λ (r : ℕ). record { next = r; lists = v.lists }) (omega (arith, next_is v.next l))
 
 pub clear_leaves : (n : ℕ) (v : Branching) → AreClear v → v.next < 52 → leaving_all 52 v (zeros n) ≡ zeros n
 unfolding leaving_all
@@ -240,11 +231,8 @@ pub groups_of_zeros : (h : ℕ) (v : Branching) → AreClear v → v.next < 52
     → after_all 52 v (zeros (48 * h % 52)) ≡ after_all 52 v (zeros (828 * h))
 groups_of_zeros h v c l =
     clear_stays (48 * h % 52) v c l
-    ∙ ap (λ (r : ℕ). record { next = r; lists = v.lists }) (turn v.next)
+    ∙ ap (λ (r : ℕ). record { next = r; lists = v.lists }) (omega arith)
     ∙ sym (clear_stays (828 * h) v c l)
-  where
-    turn : (r : ℕ) → (r + 48 * h % 52) % 52 ≡ (r + 828 * h) % 52
-    turn r = omega arith
 
 -- ---- groups of zeros that have come
 
@@ -449,8 +437,7 @@ pub quiet_further : (kept new : Side) (h place : ℕ) (run xs : List (List ℤ))
     → length run % 313 ≡ place + 1 → place + length xs ≤ 312 → length xs ≤ 52 → h ≡ (place % 4 + length xs) / 4
     → new ≡ moved_on kept h → IsFurther new h run (run ++ xs)
 quiet_further kept new h place run xs q z d e l m i f =
-    subst (λ (k : Side). IsFurther k h run (run ++ xs)) (sym f)
-    (further kept (moved_on kept h) h run (run ++ xs) (zeros (828 * h)) d g.levels q.held
+    rw f (further kept (moved_on kept h) h run (run ++ xs) (zeros (828 * h)) d g.levels q.held
     (g.bytes ∙ ap (λ (held : List (List ℕ)). (bytes_in run ++ zeros (828 * ((place % 4 + length xs) / 4))) ++ flat held)
     q.held ∙ append-nil (bytes_in run ++ zeros (828 * ((place % 4 + length xs) / 4)))
     ∙ ap (λ (n : ℕ). bytes_in run ++ zeros (828 * n)) (sym i))
@@ -480,14 +467,11 @@ quiet_still kept new h q f =
       precoder_bits = q.precoder_bits;
       held = q.held;
       below = subst (λ (v : Branching). v.next < 52) (sym (clear_stays (48 * h % 52) kept.branches q.branches q.below))
-          (in_turn (kept.branches.next + 48 * h % 52));
+          (omega arith);
       branches = λ i j l. ap (λ (v : Branching). get_or (get_or v.lists i []) j 0)
           (clear_stays (48 * h % 52) kept.branches q.branches q.below) ∙ q.branches i j l;
       begun = q.begun;
     })
-  where
-    in_turn : (n : ℕ) → n % 52 < 52
-    in_turn n = omega arith
 
 -- ---- what is known
 

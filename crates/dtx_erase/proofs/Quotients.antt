@@ -1,6 +1,6 @@
 -- The product over the suspect places and its quotients: each is the product over the others.
-use Rattle.std.proofs.Common.{◌≡◌, ℕ, zero, suc, ◌+◌, ◌-◌, ◌<◌, ◌≤◌, ◌⊎◌, inl, inr, Bool, true, List, [], ◌∷◌}
-use Rattle.std.proofs.Common.{length, get_or, bit_xor, refl, sym, ap, ap₂, ◌∙◌, arith, add-one}
+use Rattle.std.proofs.Common.{◌≡◌, ℕ, zero, suc, ◌+◌, ◌-◌, ◌<◌, ◌≤◌, ◌⊎◌, inl, inr, Bool, true, List, [], ◌∷◌, length}
+use Rattle.std.proofs.Common.{get_or, bit_xor, refl, sym, ap, ap₂, ◌∙◌, arith, add-one}
 use Rattle.std.specs.Int.Bits.{xor_self, xor_zero_r, xor_comm, xor_assoc, xor_lt}
 use Rattle.dtx_galois.specs.Field.{mul, pow}
 use Rattle.dtx_galois.proofs.LinearLemmas.{mul_right, xor_swap}
@@ -171,12 +171,9 @@ by_quotient x zs c s h b =
     ap₂ (λ (u v : ℕ). mul u (pow v 254))
     (same_coefficients (suc (length zs)) (quotient x c) (connection zs) s (suc (length zs) - 1)
     (λ k l. quotient_is x c zs h k)
-    ∙ ap (discrepancy (suc (length zs)) (connection zs) s) (back (length zs)) ∙ product_sum zs s 0 b)
+    ∙ ap (discrepancy (suc (length zs)) (connection zs) s) (omega arith) ∙ product_sum zs s 0 b)
     (ap (λ cs. low_value cs x) (turned_same (suc (length zs)) (quotient x c) (connection zs) (quotient_is x c zs h))
     ∙ product_value zs x)
-  where
-    back : (w : ℕ) → suc w - 1 ≡ 0 + w
-    back w = omega arith
 
 pub error_by_quotient : (n p l : ℕ) (mark : ℕ → Bool) (c s : ℕ → ℕ) → p < n → mark p ≡ true
     → l ≡ length (others n mark n n) → ((k : ℕ) → c k ≡ connection (others n mark n n) k) → ((j : ℕ) → s j < 256)

@@ -1,8 +1,7 @@
 -- Where a word has a mending, what is patched at the marked places and where a locator of the others vanishes is the
 -- mending.
-use Rattle.std.proofs.Common.{◌≡◌, ◌≢◌, ℕ, zero, suc, ◌+◌, ◌-◌, ◌*◌, ◌<◌, ◌≤◌, ◌==◌, ◌||◌, Bool, true}
-use Rattle.std.proofs.Common.{false, List, length, get_or, take, bit_xor, refl, sym, ap, ◌∙◌, subst, arith}
-use Rattle.std.proofs.Common.{add-one}
+use Rattle.std.proofs.Common.{◌≡◌, ◌≢◌, ℕ, zero, suc, ◌+◌, ◌-◌, ◌*◌, ◌<◌, ◌≤◌, ◌==◌, ◌||◌, Bool, true, false, List}
+use Rattle.std.proofs.Common.{length, get_or, take, bit_xor, refl, sym, ap, ◌∙◌, subst, arith, add-one}
 use Rattle.std.proofs.lemmas.Bool.{eqb-true, eqb-false}
 use Rattle.std.specs.Int.Bits.{xor_zero_r, xor_comm}
 use Rattle.dtx_galois.specs.Field.{mul, pow, value, AreBytes}
@@ -61,10 +60,7 @@ marked n marks = others n (is_marked marks) n n
 weight_zero : (n p : ℕ) (marks : List Bool) → p < n → get_or marks p false ≡ true
     → weight (pow 2 (n - 1 - p)) (marked n marks) ≡ 0
 unfolding power_at
-weight_zero n p marks l t = weight_at_other n (is_marked marks) n p n l t (λ e. apart n p l e)
-  where
-    apart : (n p : ℕ) → p < n → p ≡ n → ⊥
-    apart n p l e = omega arith
+weight_zero n p marks l t = weight_at_other n (is_marked marks) n p n l t (λ e. omega arith)
 
 weight_some : (n p : ℕ) (marks : List Bool) → n ≤ 255 → p < n → is_marked marks p ≡ false
     → weight (pow 2 (n - 1 - p)) (marked n marks) ≢ 0
@@ -113,9 +109,6 @@ pub record IsFound (t l : ℕ) (cs : List ℕ) (r : ℕ → ℕ) : Type 0 where
   pub half : l ≤ t
   pub recurs : IsRecurrence (2 * t) l r (λ i. get_or cs i 0)
 
-small_at : (cs : List ℕ) → AreBytes cs → (k : ℕ) → get_or cs k 0 < 256
-small_at cs b k = byte_at cs k b
-
 vanishing : (n l p : ℕ) (cs : List ℕ) → l + 1 ≤ length cs → AreBytes cs
     → (value (take (l + 1) cs) (power_at n p) == 0) ≡ vanishes_at n (turned (suc l) (λ i. get_or cs i 0)) p
 vanishing n l p cs h b =
@@ -151,7 +144,7 @@ right_elsewhere n k t l marks word code cs s r a f p q lq u =
         (turned (suc l) (λ i. get_or cs i 0)) a.short (back n t (omega (arith, a.few, a.within)))
         (bytes_weighed (marked n marks) word)
         (length_weighed (marked n marks) word ∙ a.long) c (bytes_turned (suc l) (λ i. get_or cs i 0)
-        (small_at cs f.bytes)) (omega (arith, length_turned (suc l) (λ i. get_or cs i 0), f.half))
+        (λ k. byte_at cs k f.bytes)) (omega (arith, length_turned (suc l) (λ i. get_or cs i 0), f.half))
         (λ i m. sym (same_sequence (turned (suc l) (λ i. get_or cs i 0)) r
         (λ j. value (weighed (marked n marks) word) (pow 2 j)) i
         (λ j d. values_of n k t marks word s r a j
@@ -171,13 +164,10 @@ few_zeros n l cs short room bytes highest =
       ap length (others_same n (λ q. value (take (l + 1) cs) (power_at n q) == 0)
           (vanishes_at n (turned (suc l) (λ i. get_or cs i 0))) n n (λ q m. vanishing n l q cs room bytes)),
       few_others n n l (turned (suc l) (λ i. get_or cs i 0)) short
-          (bytes_turned (suc l) (λ i. get_or cs i 0) (small_at cs bytes))
-          (λ z. one_not_zero (sym highest ∙ sym (last_of_turned l (λ i. get_or cs i 0)) ∙ z)),
+          (bytes_turned (suc l) (λ i. get_or cs i 0) (λ k. byte_at cs k bytes))
+          (λ z. omega (arith, sym highest ∙ sym (last_of_turned l (λ i. get_or cs i 0)) ∙ z)),
       length_turned (suc l) (λ i. get_or cs i 0),
     )
-  where
-    one_not_zero : ◌≡◌ {A = ℕ} 1 0 → ⊥
-    one_not_zero e = omega arith
 
 -- few places are suspect
 few_suspects : (n k t l : ℕ) (marks : List Bool) (word cs : List ℕ) (s r : ℕ → ℕ)

@@ -1,6 +1,6 @@
 -- What is kept of one side of a run, with more segments.
-use Rattle.std.proofs.Common.{◌≡◌, ℕ, ℤ, ◌+◌, ◌*◌, ◌%◌, ◌≤◌, List, [], ◌∷◌, ◌++◌, length, take, drop, sym, ap, ap₂}
-use Rattle.std.proofs.Common.{◌∙◌, subst}
+use Rattle.std.proofs.Common.{◌≡◌, ℕ, ℤ, ◌+◌, ◌*◌, ◌%◌, ◌≤◌, List, [], ◌∷◌, ◌++◌, length, take, drop, sym, ap, ap₂, ◌∙◌}
+use Rattle.std.proofs.Common.{subst}
 use Rattle.dtx_laws.specs.Branches.{Branching, HasWidths, gathering, leaving_all, after_all}
 use Rattle.dtx_outer.specs.Inner.{word_at}
 use Rattle.dtx_receiver.specs.Bytes.{groups_of, bytes_in}
@@ -65,7 +65,7 @@ pub further_held : (kept new : Side) (groups : Grouping) (h : ℕ) (run longer :
     → IsFurther new h run longer
 further_held kept new groups h run longer d g e p =
     further kept new h run longer (flat groups.held) d
-    (subst (λ (k : Grouping). AreLevels k.levels k.precoder_bits longer) (sym e) g.levels)
+    (rw e g.levels)
     (ap (λ (k : Grouping). k.held) e) g.bytes p
 
 -- the bytes that were held are laid out, and pass

@@ -78,37 +78,35 @@ as_many_so_far segments =
 
 -- ---- where no symbol is missing
 
-AllFalse : List Bool → Type 0
-AllFalse ms = AllByRecursion (λ m. m ≡ false) ms
+all_both : {X : Type 0} (P : X → Type 0) (xs ys : List X) → AllByRecursion P xs → AllByRecursion P ys
+    → AllByRecursion P (xs ++ ys)
+all_both P [] ys h k = k
+all_both P (x ∷ xs) ys h k = (h.0, all_both P xs ys h.1 k)
+
+abbrev IsClear : Bool → Type 0
+IsClear m = m ≡ false
+
+none_map : (f : ℕ → Bool) (xs : List ℕ) → ((i : ℕ) → IsClear (f i)) → AllByRecursion IsClear (map f xs)
+none_map f [] h = tt
+none_map f (x ∷ xs) h = (h x, none_map f xs h)
+
+abbrev AllFalse : List Bool → Type 0
+AllFalse ms = AllByRecursion IsClear ms
 
 none_at : (ms : List Bool) (i : ℕ) → AllFalse ms → get_or ms i false ≡ false
-unfolding AllFalse
 none_at [] i h = refl
 none_at (m ∷ ms) zero h = h.0
 none_at (m ∷ ms) (suc i) h = none_at ms i h.1
 
-none_both : (ms ns : List Bool) → AllFalse ms → AllFalse ns → AllFalse (ms ++ ns)
-unfolding AllFalse
-none_both [] ns h k = k
-none_both (m ∷ ms) ns h k = (h.0, none_both ms ns h.1 k)
-
-none_map : (f : ℕ → Bool) (xs : List ℕ) → ((i : ℕ) → f i ≡ false) → AllFalse (map f xs)
-unfolding AllFalse
-none_map f [] h = tt
-none_map f (x ∷ xs) h = (h x, none_map f xs h)
-
 none_flat : (f : ℕ → List Bool) (xs : List ℕ) → ((i : ℕ) → AllFalse (f i)) → AllFalse (flat_map f xs)
-unfolding AllFalse
 none_flat f [] h = tt
-none_flat f (x ∷ xs) h = none_both (f x) (flat_map f xs) (h x) (none_flat f xs h)
+none_flat f (x ∷ xs) h = all_both IsClear (f x) (flat_map f xs) (h x) (none_flat f xs h)
 
 lost_none : (ms : List Bool) → AllFalse ms → lost ms ≡ 0
-unfolding AllFalse
 lost_none [] h = refl
 lost_none (m ∷ ms) h = ap₂ (λ (b : Bool) (n : ℕ). cond b 1 0 + n) h.0 (lost_none ms h.1)
 
 none_behind : (n : ℕ) (x : List ℤ) → AreThere x → AllFalse (map is_missing (drop n x))
-unfolding AllFalse
 none_behind zero [] h = tt
 none_behind zero (z ∷ x) h = (h.0, none_behind zero x h.1)
 none_behind (suc n) [] h = tt
@@ -185,17 +183,8 @@ early_same run h =
 
 -- ---- the runs of segments of which no symbol is missing
 
-there_push : (run : List (List ℤ)) (x : List ℤ) → AllThere run → AreThere x → AllThere (run ++ x ∷ [])
-there_push [] x h k = (k, tt)
-there_push (y ∷ run) x h k = (h.0, there_push run x h.1 k)
-
-AllRuns : List (List (List ℤ)) → Type 0
+abbrev AllRuns : List (List (List ℤ)) → Type 0
 AllRuns rs = AllByRecursion (λ r. AllThere r) rs
-
-runs_push : (rs : List (List (List ℤ))) (r : List (List ℤ)) → AllRuns rs → AllThere r → AllRuns (rs ++ r ∷ [])
-unfolding AllRuns
-runs_push [] r h k = (k, tt)
-runs_push (q ∷ rs) r h k = (h.0, runs_push rs r h.1 k)
 
 record Fine (t : Tracked) : Type 0 where
   ended : AllRuns t.ended
@@ -212,9 +201,9 @@ fine_next ended (Some r) x h k l = by_tests (sync_due r) (looks_like x)
   where
     by_tests : (d t : Bool) → Fine (cond d (cond t (record { ended = ended; run = Some (r ++ x ∷ []) })
         (record { ended = ended ++ r ∷ []; run = None })) (record { ended = ended; run = Some (r ++ x ∷ []) }))
-    by_tests true true = record { ended = h; run = there_push r x k l }
-    by_tests true false = record { ended = runs_push ended r h k; run = tt }
-    by_tests false t = record { ended = h; run = there_push r x k l }
+    by_tests true true = record { ended = h; run = all_both AreThere r (x ∷ []) k (l, tt) }
+    by_tests true false = record { ended = all_both AllThere ended (r ∷ []) h (k, tt); run = tt }
+    by_tests false t = record { ended = h; run = all_both AreThere r (x ∷ []) k (l, tt) }
 
 fine_all : (xs : List (List ℤ)) (t : Tracked) → Fine t → AllThere xs
     → Fine (fold (λ (u : Tracked) (x : List ℤ). followed u.ended u.run x) t xs)
@@ -222,31 +211,24 @@ fine_all [] t h k = h
 fine_all (x ∷ xs) t h k = fine_all xs (followed t.ended t.run x) (fine_next t.ended t.run x h.ended h.run k.0) k.1
 
 fine : (segments : List (List ℤ)) → AllThere segments → Fine (tracked segments)
-unfolding tracked AllRuns
+unfolding tracked
 fine segments h = fine_all segments (record { ended = []; run = None }) (record { ended = tt; run = tt }) h
 
 flat_same : (f g : List (List ℤ) → List Received) (rs : List (List (List ℤ))) → AllRuns rs
     → ((r : List (List ℤ)) → AllThere r → f r ≡ g r) → flat_map f rs ≡ flat_map g rs
-unfolding AllRuns
 flat_same f g [] h e = refl
 flat_same f g (r ∷ rs) h e = ap₂ (λ (a b : List Received). a ++ b) (e r h.0) (flat_same f g rs h.1 e)
 
 on_list : (o : Option (List (List ℤ))) → IfSome o (λ r. AllThere r) → AllRuns (option_to_list o)
-unfolding AllRuns
 on_list None h = tt
 on_list (Some r) h = (h, tt)
-
-runs_both : (rs qs : List (List (List ℤ))) → AllRuns rs → AllRuns qs → AllRuns (rs ++ qs)
-unfolding AllRuns
-runs_both [] qs h k = k
-runs_both (r ∷ rs) qs h k = (h.0, runs_both rs qs h.1 k)
 
 pub all_same : (segments : List (List ℤ)) → AllThere segments → all_mended segments ≡ all_packets segments
 unfolding all_mended all_packets runs
 all_same segments h =
     let f : Fine (tracked segments) = fine segments h in
     flat_same mended_run (λ run. run_packets (bytes_in run)) (runs segments)
-    (runs_both (tracked segments).ended (option_to_list (tracked segments).run) f.ended
+    (all_both AllThere (tracked segments).ended (option_to_list (tracked segments).run) f.ended
     (on_list (tracked segments).run f.run))
     run_same
 

@@ -3,7 +3,7 @@
 use Rattle.std.proofs.Common.{◌≡◌, ◌≢◌, ℕ, zero, suc, ◌+◌, ◌-◌, ◌*◌, ◌<◌, ◌≤◌, ◌⊎◌, inl, inr, ◌==◌, ◌||◌, cond, Bool}
 use Rattle.std.proofs.Common.{true, false, List, [], ◌∷◌, map, length, get_or, bit_xor, refl, sym, ap, ap₂, ◌∙◌, subst}
 use Rattle.std.proofs.Common.{arith}
-use Rattle.std.proofs.lemmas.Bool.{eq-eqb, eqb-true}
+use Rattle.std.proofs.lemmas.Bool.{eq-eqb, eqb-true, or_cases}
 use Rattle.std.specs.Int.Bits.{xor_self, xor_lt}
 use Rattle.dtx_galois.specs.Field.{mul, pow, value, AreBytes}
 use Rattle.dtx_galois.proofs.FieldLemmas.{mul_zero, mul_small, xor_zero, no_divisors}
@@ -62,15 +62,9 @@ vanishes_weighed ys code i m h l =
 weighed_at : (ys xs : List ℕ) (p : ℕ) → p < length xs
     → get_or (weighed ys xs) p 0 ≡ mul (get_or xs p 0) (weight (pow 2 (length xs - 1 - p)) ys)
 weighed_at ys [] p l = absurd (omega arith)
-weighed_at ys (x ∷ xs) zero l = ap (λ n. mul x (weight (pow 2 n) ys)) (last (length xs))
-  where
-    last : (n : ℕ) → n ≡ suc n - 1 - 0
-    last n = omega arith
+weighed_at ys (x ∷ xs) zero l = ap (λ n. mul x (weight (pow 2 n) ys)) (omega arith)
 weighed_at ys (x ∷ xs) (suc p) l =
-    weighed_at ys xs p (omega arith) ∙ ap (λ n. mul (get_or xs p 0) (weight (pow 2 n) ys)) (inner (length xs) p)
-  where
-    inner : (n p : ℕ) → n - 1 - p ≡ suc n - 1 - suc p
-    inner n p = omega arith
+    weighed_at ys xs p (omega arith) ∙ ap (λ n. mul (get_or xs p 0) (weight (pow 2 n) ys)) (omega arith)
 
 -- where a place has a weight, a difference stays one
 pub weighed_differ : (n p : ℕ) (ys word code : List ℕ) → length word ≡ n → length code ≡ n → AreBytes word
@@ -104,13 +98,9 @@ cost_by false true h = absurd (no (h refl))
     no e = cc
 cost_by false false h = omega arith
 
-either_true : (u v : Bool) → (u || v) ≡ true → (u ≡ true) ⊎ (v ≡ true)
-either_true true v e = inl refl
-either_true false v e = inr e
-
 weighed_cost : (m : Bool) (x y v : ℕ) → (m ≡ true → v ≡ 0) → cond (mul x v == mul y v) 0 1 ≤ cond (m || x == y) 0 1
 weighed_cost m x y v h =
-    cost_by (mul x v == mul y v) (m || x == y) (λ t. eq-eqb (mul x v) (mul y v) (same (either_true m (x == y) t)))
+    cost_by (mul x v == mul y v) (m || x == y) (λ t. eq-eqb (mul x v) (mul y v) (same (or_cases m (x == y) t)))
   where
     same : (m ≡ true) ⊎ ((x == y) ≡ true) → mul x v ≡ mul y v
     same (inl e) = ap (mul x) (h e) ∙ mul_zero x ∙ sym (ap (mul y) (h e) ∙ mul_zero y)

@@ -34,11 +34,8 @@ pub none_missed : (n q l left : ℕ) (mark : ℕ → Bool) → q < n → left + 
 none_missed n q l left mark m e few = by_cases (left == 0) (mark q) refl refl
   where
     whole : length (others n mark n (q + 1)) ≤ length (others n mark n n)
-    whole = subst (λ j. length (others n mark n (q + 1)) ≤ length (others n mark n j)) (back n q m)
+    whole = subst (λ j. length (others n mark n (q + 1)) ≤ length (others n mark n j)) (omega arith)
         (longer n (q + 1) (n - (q + 1)) mark (omega arith))
-      where
-        back : (n q : ℕ) → q < n → q + 1 + (n - (q + 1)) ≡ n
-        back n q m = omega arith
 
     by_cases : (u v : Bool) → (left == 0) ≡ u → mark q ≡ v → (not (left == 0) && mark q) ≡ mark q
     by_cases true true t h =
@@ -58,12 +55,9 @@ one_more f all q x l e h p m = by_place (place_order p q m)
     place_order : (p q : ℕ) → p < q + 1 → (p ≡ q) ⊎ (p < q)
     place_order p q m = grind arith
 
-    apart : (p q : ℕ) → p < q → p ≡ q → ⊥
-    apart p q r e = omega arith
-
     by_place : (p ≡ q) ⊎ (p < q) → is_marked (set all q x) p ≡ f p
-    by_place (inl s) = subst (λ (j : ℕ). is_marked (set all q x) j ≡ f j) (sym s) (get_or-set_same all q x false l ∙ e)
-    by_place (inr r) = get_or-set_other all q p x false (apart p q r) ∙ h p r
+    by_place (inl s) = rw s (get_or-set_same all q x false l ∙ e)
+    by_place (inr r) = get_or-set_other all q p x false (λ e. omega arith) ∙ h p r
 
 pub left_over : (n q l left next : ℕ) (mark : ℕ → Bool) (u : Bool) → q < n → u ≡ mark q
     → next ≡ left - cond u 1 0 → (u ≡ true → 0 < left)

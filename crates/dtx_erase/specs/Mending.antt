@@ -1,6 +1,6 @@
 -- Codewords near a word with marked places, where nothing was received (the profile's own).
-use Rattle.std.specs.Prelude.{ℕ, ◌≡◌, ◌+◌, ◌-◌, ◌*◌, ◌≤◌, ◌==◌, ◌||◌, Bool, if◌then◌else◌, List, [], ◌∷◌}
-use Rattle.std.specs.Prelude.{Result, MatchResult}
+use Rattle.std.specs.Prelude.{ℕ, ◌≡◌, ◌+◌, ◌-◌, ◌*◌, ◌≤◌, ◌==◌, ◌||◌, Bool, if◌then◌else◌, List, [], ◌∷◌, Result}
+use Rattle.std.specs.Prelude.{MatchResult}
 use Rattle.dtx_laws.specs.Codeword.{IsCodeword, distance}
 
 -- how many places are marked

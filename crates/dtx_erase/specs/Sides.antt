@@ -1,6 +1,6 @@
 -- What a mending receiver keeps, and the segments that it stands for.
-use Rattle.std.specs.Prelude.{ℕ, ℤ, ◌≡◌, ◌+◌, ◌-◌, ◌*◌, ◌<◌, ◌%◌, List, [], ◌++◌}
-use Rattle.std.specs.Prelude.{Bool, true, length, take, drop, map, replicate, slice_index, slice_index_or}
+use Rattle.std.specs.Prelude.{ℕ, ℤ, ◌≡◌, ◌+◌, ◌-◌, ◌*◌, ◌<◌, ◌%◌, List, [], ◌++◌, Bool, true, length, take, drop, map}
+use Rattle.std.specs.Prelude.{replicate, slice_index, slice_index_or}
 use Rattle.std.specs.List.{range_with_len}
 use Rattle.dtx_laws.specs.Branches.{Branching, HasWidths, gathering, leaving_all, after_all}
 use Rattle.dtx_outer.specs.Inner.{word_at}

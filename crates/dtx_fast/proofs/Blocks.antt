@@ -27,10 +27,7 @@ pub moved_more : (g b k c d e : ℕ) → d ≡ mul c (pow (pow g (32 * b)) k) �
 moved_more g b k c d e h m =
     m ∙ ap (λ (v : ℕ). mul v (pow (pow g 32) k)) h ∙ mul_assoc c (pow (pow g (32 * b)) k) (pow (pow g 32) k)
     ∙ ap (mul c) (sym (pow_mul (pow g (32 * b)) (pow g 32) k) ∙ ap (λ (v : ℕ). pow v k) (sym (pow_add g (32 * b) 32)))
-    ∙ ap (λ n. mul c (pow (pow g n) k)) (next b)
-  where
-    next : (b : ℕ) → 32 * b + 32 ≡ 32 * (b + 1)
-    next b = omega arith
+    ∙ ap (λ n. mul c (pow (pow g n) k)) (omega arith)
 
 -- a value in a block
 pub block_value : (w g b r : ℕ) (c d : ℕ → ℕ) → ((k : ℕ) → k < w → d k ≡ mul (c k) (pow (pow g (32 * b)) k))

@@ -26,21 +26,15 @@ value_set [] p v x l = absurd (omega arith)
 value_set (c ∷ cs) zero v x l =
     ap (λ (u : ℕ). bit_xor u (value cs x)) (mul_left c v (pow x (length cs)))
     ∙ swapped (mul c (pow x (length cs))) (mul v (pow x (length cs))) (value cs x)
-    ∙ ap (λ n. bit_xor (bit_xor (mul c (pow x (length cs))) (value cs x)) (mul v (pow x n))) (last (length cs))
+    ∙ ap (λ n. bit_xor (bit_xor (mul c (pow x (length cs))) (value cs x)) (mul v (pow x n))) (omega arith)
   where
     swapped : (a b w : ℕ) → bit_xor (bit_xor a b) w ≡ bit_xor (bit_xor a w) b
     swapped a b w = xor_assoc a b w ∙ ap (bit_xor a) (xor_comm b w) ∙ sym (xor_assoc a w b)
-
-    last : (n : ℕ) → n ≡ suc n - 1 - 0
-    last n = omega arith
 value_set (c ∷ cs) (suc p) v x l =
     ap₂ (λ (n u : ℕ). bit_xor (mul c (pow x n)) u) (length-set cs p (bit_xor (get_or cs p 0) v))
     (value_set cs p v x (omega arith))
     ∙ sym (xor_assoc (mul c (pow x (length cs))) (value cs x) (mul v (pow x (length cs - 1 - p))))
-    ∙ ap (λ n. bit_xor (bit_xor (mul c (pow x (length cs))) (value cs x)) (mul v (pow x n))) (inner (length cs) p)
-  where
-    inner : (n p : ℕ) → n - 1 - p ≡ suc n - 1 - suc p
-    inner n p = omega arith
+    ∙ ap (λ n. bit_xor (bit_xor (mul c (pow x (length cs))) (value cs x)) (mul v (pow x n))) (omega arith)
 
 -- what the error adds to a value
 error_term : (x e i : ℕ) → mul (pow 2 x) (pow (pow 2 i) e) ≡ pow 2 (x + e * i)
@@ -54,11 +48,8 @@ pub value_mended : (x e i : ℕ) (word : List ℕ) → e < length word
     → value (mended x e word) (pow 2 i) ≡ bit_xor (value word (pow 2 i)) (pow 2 (x + e * i))
 value_mended x e i word l =
     value_set word (length word - 1 - e) (pow 2 x) (pow 2 i) (omega arith)
-    ∙ ap (bit_xor (value word (pow 2 i))) (ap (λ n. mul (pow 2 x) (pow (pow 2 i) n)) (back (length word) e l)
+    ∙ ap (bit_xor (value word (pow 2 i))) (ap (λ n. mul (pow 2 x) (pow (pow 2 i) n)) (omega arith)
     ∙ error_term x e i)
-  where
-    back : (n e : ℕ) → e < n → n - 1 - (n - 1 - e) ≡ e
-    back n e l = omega arith
 
 distance_set : (word now : List ℕ) (p x : ℕ) → length now ≡ length word → p < length word
     → get_or now p 0 ≡ get_or word p 0 → get_or word p 0 ≢ x → distance word (set now p x) ≡ distance word now + 1
@@ -128,10 +119,7 @@ other_place : (x e f : ℕ) (word : List ℕ) → e < length word → f < length
     → get_or (mended x e word) (length word - 1 - f) 0 ≡ get_or word (length word - 1 - f) 0
 other_place x e f word l m d =
     get_or-set_other word (length word - 1 - e) (length word - 1 - f)
-    (bit_xor (get_or word (length word - 1 - e) 0) (pow 2 x)) 0 (λ u. d (same_place (length word) e f l m u))
-  where
-    same_place : (n e f : ℕ) → e < n → f < n → n - 1 - f ≡ n - 1 - e → e ≡ f
-    same_place n e f l m u = omega arith
+    (bit_xor (get_or word (length word - 1 - e) 0) (pow 2 x)) 0 (λ u. d (omega arith))
 
 -- the first of two terms is taken away
 one_left : (a b : ℕ) → bit_xor (bit_xor a b) a ≡ b

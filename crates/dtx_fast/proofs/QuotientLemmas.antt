@@ -1,6 +1,6 @@
 -- A recurrence as a locator, its quotients by X - x, and the values that they give.
-use Rattle.std.proofs.Common.{◌≡◌, ◌≢◌, ℕ, zero, suc, ◌+◌, ◌-◌, ◌<◌, ◌≤◌, List, [], ◌∷◌, length, bit_xor}
-use Rattle.std.proofs.Common.{refl, sym, ap, ap₂, ◌∙◌, arith}
+use Rattle.std.proofs.Common.{◌≡◌, ◌≢◌, ℕ, zero, suc, ◌+◌, ◌<◌, ◌≤◌, List, [], ◌∷◌, length, bit_xor, refl, sym, ap}
+use Rattle.std.proofs.Common.{ap₂, ◌∙◌, arith}
 use Rattle.std.specs.List.{AllByRecursion}
 use Rattle.std.specs.Int.Bits.{xor_assoc, xor_self, xor_zero_r, xor_comm, xor_lt}
 use Rattle.dtx_galois.specs.Field.{mul, AreBytes}
@@ -27,20 +27,11 @@ pub combination_turned : (w : ℕ) (c s : ℕ → ℕ) (i : ℕ)
     → combination (turned (suc w) c) s i ≡ discrepancy (suc w) c s (i + w)
 unfolding turned discrepancy
 combination_turned zero c s i =
-    xor_comm (mul (c 0) (s i)) 0 ∙ ap (λ j. bit_xor 0 (mul (c 0) (s j))) (none i)
-  where
-    none : (i : ℕ) → i ≡ i + 0 - 0
-    none i = omega arith
+    xor_comm (mul (c 0) (s i)) 0 ∙ ap (λ j. bit_xor 0 (mul (c 0) (s j))) (omega arith)
 combination_turned (suc w) c s i =
     xor_comm (mul (c (suc w)) (s i)) (combination (turned (suc w) c) s (suc i))
     ∙ ap₂ (λ (x : ℕ) (j : ℕ). bit_xor x (mul (c (suc w)) (s j)))
-    (combination_turned w c s (suc i) ∙ ap (discrepancy (suc w) c s) (later i w)) (back i w)
-  where
-    later : (i w : ℕ) → suc i + w ≡ i + suc w
-    later i w = omega arith
-
-    back : (i w : ℕ) → i ≡ i + suc w - suc w
-    back i w = omega arith
+    (combination_turned w c s (suc i) ∙ ap (discrepancy (suc w) c s) (omega arith)) (omega arith)
 
 -- ---- quotients
 
@@ -124,10 +115,7 @@ pub fewer_zeros : (w : ℕ) (c : ℕ → ℕ) (xs : List ℕ) → c 0 ≡ 1 → 
 unfolding turned quotient
 fewer_zeros w c [] o b bs d h = omega arith
 fewer_zeros zero c (x ∷ xs) o b bs d h =
-    absurd (not_both (c 0) o (sym (ap (bit_xor (c 0)) (mul_zero x) ∙ xor_zero_r (c 0)) ∙ h.0))
-  where
-    not_both : (x : ℕ) → x ≡ 1 → x ≡ 0 → ⊥
-    not_both x p q = omega arith
+    absurd (omega (arith, sym (ap (bit_xor (c 0)) (mul_zero x) ∙ xor_zero_r (c 0)) ∙ h.0))
 fewer_zeros (suc w) c (x ∷ xs) o b bs d h =
     let r : length xs ≤ w = fewer_zeros w (quotient x c) xs o (λ k. quotient_small x c k b) bs.1 d.1
     (all_others (suc w) x c xs b bs.0 bs.1 d.0 h.0 h.1) in

@@ -58,40 +58,22 @@ discrepancy_first : (w : ℕ) (c s : ℕ → ℕ) (n : ℕ)
     → discrepancy (suc w) c s n ≡ bit_xor (mul (c 0) (s n)) (discrepancy w (λ k. c (suc k)) s (n - 1))
 unfolding discrepancy
 discrepancy_first zero c s n =
-    xor_comm 0 (mul (c 0) (s (n - 0))) ∙ ap (λ j. bit_xor (mul (c 0) (s j)) 0) (none n)
-  where
-    none : (n : ℕ) → n - 0 ≡ n
-    none n = omega arith
+    xor_comm 0 (mul (c 0) (s (n - 0))) ∙ ap (λ j. bit_xor (mul (c 0) (s j)) 0) (omega arith)
 discrepancy_first (suc w) c s n =
-    ap₂ (λ (x : ℕ) (j : ℕ). bit_xor x (mul (c (suc w)) (s j))) (discrepancy_first w c s n) (later n w)
+    ap₂ (λ (x : ℕ) (j : ℕ). bit_xor x (mul (c (suc w)) (s j))) (discrepancy_first w c s n) (omega arith)
     ∙ xor_assoc (mul (c 0) (s n)) (discrepancy w (λ k. c (suc k)) s (n - 1)) (mul (c (suc w)) (s (n - 1 - w)))
-  where
-    later : (n w : ℕ) → n - suc w ≡ n - 1 - w
-    later n w = omega arith
 
 -- coefficients y places on meet the terms y places before
 pub discrepancy_moved : (y w : ℕ) (b s : ℕ → ℕ) (n : ℕ)
     → discrepancy (y + w) (moved y b) s n ≡ discrepancy w b s (n - y)
 unfolding moved
-discrepancy_moved zero w b s n = ap₂ (λ v j. discrepancy v (moved 0 b) s j) (start w) (none n)
-  where
-    start : (w : ℕ) → 0 + w ≡ w
-    start w = omega arith
-
-    none : (n : ℕ) → n ≡ n - 0
-    none n = omega arith
+discrepancy_moved zero w b s n = ap₂ (λ v j. discrepancy v (moved 0 b) s j) (omega arith) (omega arith)
 discrepancy_moved (suc y) w b s n =
-    ap (λ v. discrepancy v (moved (suc y) b) s n) (suc_add y w)
+    ap (λ v. discrepancy v (moved (suc y) b) s n) (omega arith)
     ∙ discrepancy_first (y + w) (moved (suc y) b) s n
     ∙ ap (λ x. bit_xor x (discrepancy (y + w) (moved y b) s (n - 1))) (zero_mul (s n))
     ∙ xor_comm 0 (discrepancy (y + w) (moved y b) s (n - 1)) ∙ xor_zero_r (discrepancy (y + w) (moved y b) s (n - 1))
-    ∙ discrepancy_moved y w b s (n - 1) ∙ ap (discrepancy w b s) (later n y)
-  where
-    suc_add : (y w : ℕ) → suc y + w ≡ suc (y + w)
-    suc_add y w = omega arith
-
-    later : (n y : ℕ) → n - 1 - y ≡ n - suc y
-    later n y = omega arith
+    ∙ discrepancy_moved y w b s (n - 1) ∙ ap (discrepancy w b s) (omega arith)
 
 -- coefficients that are 0 add nothing
 pub discrepancy_longer : (w v : ℕ) (c s : ℕ → ℕ) (n : ℕ) → ((k : ℕ) → w ≤ k → k < w + v → c k ≡ 0)
@@ -137,10 +119,7 @@ earlier_terms : (w y : ℕ) (c s : ℕ → ℕ) (n : ℕ) → discrepancy w c (�
 unfolding discrepancy
 earlier_terms zero y c s n = refl
 earlier_terms (suc w) y c s n =
-    ap₂ (λ (x : ℕ) (j : ℕ). bit_xor x (mul (c w) (s j))) (earlier_terms w y c s n) (either n w y)
-  where
-    either : (n w y : ℕ) → n - w - y ≡ n - y - w
-    either n w y = omega arith
+    ap₂ (λ (x : ℕ) (j : ℕ). bit_xor x (mul (c w) (s j))) (earlier_terms w y c s n) (omega arith)
 
 zero_terms : (w : ℕ) (c : ℕ → ℕ) (n : ℕ) → discrepancy w c (λ m. 0) n ≡ 0
 unfolding discrepancy
@@ -163,10 +142,7 @@ only_newest : (k : ℕ) (b r : ℕ → ℕ) (n : ℕ) → b 0 ≡ 1 → k ≤ n 
 unfolding discrepancy
 only_newest zero b r n e l h m =
     xor_comm 0 (mul (b 0) (r (n - 0))) ∙ xor_zero_r (mul (b 0) (r (n - 0)))
-    ∙ ap₂ (λ (x : ℕ) (j : ℕ). mul x (r j)) e (none n) ∙ mul_one (r n) m
-  where
-    none : (n : ℕ) → n - 0 ≡ n
-    none n = omega arith
+    ∙ ap₂ (λ (x : ℕ) (j : ℕ). mul x (r j)) e (omega arith) ∙ mul_one (r n) m
 only_newest (suc k) b r n e l h m =
     ap₂ bit_xor (only_newest k b r n e (omega arith) (λ i p q. h i (omega arith) q) m)
     (ap (mul (b (suc k))) (h (n - suc k) (omega arith) (omega arith)) ∙ mul_zero (b (suc k)))

@@ -112,15 +112,9 @@ all_places P [] ys l h = tt
 all_places P (x ∷ xs) [] l h = tt
 all_places P (x ∷ xs) (y ∷ ys) l h =
     all_by_test P (x == y) (bit_xor x y) (pow 2 (length xs)) (differences xs ys)
-    (λ t. subst (λ n. P (pow 2 n)) (last (length xs)) (h 0 (omega arith) (eqb-false x y t)))
+    (λ t. subst (λ n. P (pow 2 n)) (omega arith) (h 0 (omega arith) (eqb-false x y t)))
     (all_places P xs ys (omega arith)
-    (λ r m d. subst (λ n. P (pow 2 n)) (inner (length xs) r) (h (suc r) (omega arith) d)))
-  where
-    last : (n : ℕ) → suc n - 1 - 0 ≡ n
-    last n = omega arith
-
-    inner : (n r : ℕ) → suc n - 1 - suc r ≡ n - 1 - r
-    inner n r = omega arith
+    (λ r m d. subst (λ n. P (pow 2 n)) (omega arith) (h (suc r) (omega arith) d)))
 
 -- ---- the value at a place
 
@@ -143,14 +137,8 @@ value_by n p m q word code s l lw lc h few z =
 error_from : (d v : ℕ) → d < 256 → v < 256 → (d ≢ 0 → v ≢ 0) → mul (mul d v) (pow v 254) ≡ d
 error_from zero v ld lv h = ap (λ (z : ℕ). mul z (pow v 254)) (zero_mul v) ∙ zero_mul (pow v 254)
 error_from (suc d) v ld lv h =
-    mul_assoc (suc d) v (pow v 254) ∙ ap (mul (suc d)) (mul_inverse v (pos v (h (λ e. no_suc d e))) lv)
+    mul_assoc (suc d) v (pow v 254) ∙ ap (mul (suc d)) (mul_inverse v (omega (arith, h (λ e. omega arith))) lv)
     ∙ mul_comm (suc d) 1 ∙ mul_one (suc d) ld
-  where
-    pos : (v : ℕ) → v ≢ 0 → 0 < v
-    pos v h = omega arith
-
-    no_suc : (d : ℕ) → suc d ≡ 0 → ⊥
-    no_suc d e = omega arith
 
 -- what the lemmas below take: a word with a correction, and a recurrence of its syndromes that isn't longer than there
 -- are wrong places
@@ -217,8 +205,7 @@ own_not_zero n k t l p word code s c f a z d e =
     (different_powers (differences word code) (apart_differences word code (omega (arith, f.long, f.short))))
     (all_places (λ x. low_value (turned (suc l) (quotient (pow 2 (n - 1 - p)) c)) x ≡ 0) word code
     (f.long ∙ sym f.correction.codeword.long)
-    (λ r m u. subst (λ v. low_value (turned (suc l) (quotient (pow 2 (n - 1 - p)) c)) (pow 2 (v - 1 - r)) ≡ 0)
-    (sym f.long)
+    (λ r m u. rw f.long
     (equal_or_not r p (r == p) (low_value (turned (suc l) (quotient (pow 2 (n - 1 - p)) c)) (pow 2 (n - 1 - r)) ≡ 0)
     refl
     (λ same. ap (λ j. low_value (turned (suc l) (quotient (pow 2 (n - 1 - p)) c)) (pow 2 (n - 1 - j))) same ∙ e)
@@ -244,7 +231,7 @@ value_is n k t zero p word code s c f a z =
 value_is n k t (suc l) p word code s c f a z =
     let x : ℕ = pow 2 (n - 1 - p) in
     ap (λ (u : ℕ). mul u (pow (low_value (turned (suc l) (quotient (pow 2 (n - 1 - p)) c)) (pow 2 (n - 1 - p))) 254))
-    (ap (discrepancy (suc l) (quotient (pow 2 (n - 1 - p)) c) s) (back l)
+    (ap (discrepancy (suc l) (quotient (pow 2 (n - 1 - p)) c) s) (omega arith)
     ∙ sym (combination_turned l (quotient (pow 2 (n - 1 - p)) c) s 0)
     ∙ value_by n p (2 * t) (turned (suc l) (quotient (pow 2 (n - 1 - p)) c)) word code s a f.long
     f.correction.codeword.long
@@ -269,9 +256,6 @@ value_is n k t (suc l) p word code s c f a z =
     (λ j. quotient_small (pow 2 (n - 1 - p)) c j f.small))
     (λ u. own_not_zero n k t l p word code s c f a z
     (λ same. u (ap (λ (v : ℕ). bit_xor v (get_or code p 0)) same ∙ xor_self (get_or code p 0))))
-  where
-    back : (l : ℕ) → suc l - 1 ≡ 0 + l
-    back l = omega arith
 
 -- ---- the whole word
 
@@ -345,23 +329,15 @@ patched_more n l e f x c s word now walk long le w z g v done left p lp h = by_p
         → get_or (set now (n - 1 - e) (bit_xor (get_or now (n - 1 - e) 0) x)) p 0 ≡ repaired_at n l c s word p
     by_place (inl r) =
         let back : n - 1 - (n - 1 - e) ≡ e = omega arith in
-        subst (λ (j : ℕ). get_or (set now (n - 1 - e) (bit_xor (get_or now (n - 1 - e) 0) x)) j 0
-        ≡ repaired_at n l c s word j) (sym r)
-        (get_or-set_same now (n - 1 - e) (bit_xor (get_or now (n - 1 - e) 0) x) 0 (omega (arith, long))
+        rw r (get_or-set_same now (n - 1 - e) (bit_xor (get_or now (n - 1 - e) 0) x) 0 (omega (arith, long))
         ∙ ap₂ bit_xor (left (n - 1 - e) (omega arith)) v
         ∙ sym (zero_repaired n l (n - 1 - e) c s word (sym (w (n - 1 - e) (omega arith))
         ∙ ap (λ j. get_or walk j 0) back ∙ z)))
     by_place (inr (inl r)) =
-        get_or-set_other now (n - 1 - e) p (bit_xor (get_or now (n - 1 - e) 0) x) 0 (λ same. behind n e p le r same)
+        get_or-set_other now (n - 1 - e) p (bit_xor (get_or now (n - 1 - e) 0) x) 0 (λ same. omega arith)
         ∙ done p lp r
-      where
-        behind : (n e p : ℕ) → e < n → n ≤ p + e → p ≡ n - 1 - e → ⊥
-        behind n e p a r same = omega arith
     by_place (inr (inr r)) =
-        get_or-set_other now (n - 1 - e) p (bit_xor (get_or now (n - 1 - e) 0) x) 0 (λ same. before n e p r same)
+        get_or-set_other now (n - 1 - e) p (bit_xor (get_or now (n - 1 - e) 0) x) 0 (λ same. omega arith)
         ∙ left p (omega arith)
         ∙ sym (other_repaired n l p c s word (λ u. g (n - 1 - p) (omega arith) (omega arith) (omega arith)
         (w p lp ∙ u)))
-      where
-        before : (n e p : ℕ) → p + e + 1 < n → p ≡ n - 1 - e → ⊥
-        before n e p r same = omega arith

@@ -1,7 +1,6 @@
 -- From one stage of the method of Berlekamp and Massey to the next.
-use Rattle.std.proofs.Common.{◌≡◌, ◌≢◌, ℕ, zero, suc, ◌+◌, ◌-◌, ◌*◌, ◌<◌, ◌≤◌, ◌⊎◌, inl, inr, bit_xor, refl, sym}
-use Rattle.std.proofs.Common.{ap, ap₂}
-use Rattle.std.proofs.Common.{◌∙◌, subst, arith, add-one, get_or, replicate}
+use Rattle.std.proofs.Common.{◌≡◌, ◌≢◌, ℕ, zero, suc, ◌+◌, ◌-◌, ◌*◌, ◌<◌, ◌≤◌, ◌⊎◌, inl, inr, bit_xor, refl, sym, ap}
+use Rattle.std.proofs.Common.{ap₂, ◌∙◌, subst, arith, add-one, get_or, replicate}
 use Rattle.std.specs.Int.Bits.{xor_zero_r, xor_self}
 use Rattle.dtx_galois.specs.Field.{mul}
 use Rattle.dtx_galois.proofs.FieldLemmas.{mul_comm, mul_assoc, mul_one, mul_zero}
@@ -18,15 +17,9 @@ moved_below (suc y) (suc k) b l = moved_below y k b (omega arith)
 
 moved_from : (y k : ℕ) (b : ℕ → ℕ) → y ≤ k → moved y b k ≡ b (k - y)
 unfolding moved
-moved_from zero k b l = ap b (none k)
-  where
-    none : (k : ℕ) → k ≡ k - 0
-    none k = omega arith
+moved_from zero k b l = ap b (omega arith)
 moved_from (suc y) zero b l = absurd (omega arith)
-moved_from (suc y) (suc k) b l = moved_from y k b (omega arith) ∙ ap b (both k y)
-  where
-    both : (k y : ℕ) → k - y ≡ suc k - suc y
-    both k y = omega arith
+moved_from (suc y) (suc k) b l = moved_from y k b (omega arith) ∙ ap b (omega arith)
 
 -- the new coefficients by place
 pub mended_at : (y last f : ℕ) (c d b : ℕ → ℕ) → ((k : ℕ) → k < y → d k ≡ c k)
@@ -50,24 +43,15 @@ mended_at y last f c d b low mid high none k = by_place (places y last k)
 wide : (l : ℕ) (c s : ℕ → ℕ) (n : ℕ) → l < 128 → ((k : ℕ) → l < k → c k ≡ 0)
     → discrepancy 128 c s n ≡ discrepancy (suc l) c s n
 wide l c s n r h =
-    ap (λ u. discrepancy u c s n) (parts l r)
+    ap (λ u. discrepancy u c s n) (omega arith)
     ∙ discrepancy_longer (suc l) (127 - l) c s n (λ k p q. h k (omega arith))
-  where
-    parts : (l : ℕ) → l < 128 → 128 ≡ suc l + (127 - l)
-    parts l r = omega arith
 
 wide_moved : (y : ℕ) (b s : ℕ → ℕ) (n : ℕ) → y ≤ 128 → ((k : ℕ) → 128 - y ≤ k → b k ≡ 0)
     → discrepancy 128 (moved y b) s n ≡ discrepancy 128 b s (n - y)
 wide_moved y b s n r h =
-    ap (λ u. discrepancy u (moved y b) s n) (parts y r) ∙ discrepancy_moved y (128 - y) b s n
+    ap (λ u. discrepancy u (moved y b) s n) (omega arith) ∙ discrepancy_moved y (128 - y) b s n
     ∙ sym (discrepancy_longer (128 - y) y b s (n - y) (λ k p q. h k p))
-    ∙ ap (λ u. discrepancy u b s (n - y)) (back y r)
-  where
-    parts : (y : ℕ) → y ≤ 128 → 128 ≡ y + (128 - y)
-    parts y r = omega arith
-
-    back : (y : ℕ) → y ≤ 128 → 128 - y + y ≡ 128
-    back y r = omega arith
+    ∙ ap (λ u. discrepancy u b s (n - y)) (omega arith)
 
 cancels : (d g e : ℕ) → d < 256 → mul e g ≡ 1 → bit_xor d (mul (mul d g) e) ≡ 0
 cancels d g e l h =
@@ -214,11 +198,8 @@ stage_mended n l gap inverse f s c b d h r t e g =
       within = omega (arith, h.within);
       before_behind = λ k r. h.before_behind k (omega arith);
       before_next = λ i p q. h.before_next i (omega arith) (omega arith);
-      before_fails = λ r. ap (λ j. mul (discrepancy 128 b s j) inverse) (both n gap) ∙ h.before_fails (omega arith);
+      before_fails = λ r. ap (λ j. mul (discrepancy 128 b s j) inverse) (omega arith) ∙ h.before_fails (omega arith);
     }
-  where
-    both : (n gap : ℕ) → n + 1 - (gap + 1) ≡ n - gap
-    both n gap = omega arith
 
 -- a term for which it isn't
 pub stage_raised : (n l gap inverse f again : ℕ) (s c b d : ℕ → ℕ) → IsStage n l gap inverse s c b → 2 * l ≤ n
@@ -242,13 +223,10 @@ stage_raised n l gap inverse f again s c b d h t r o a e g =
       within = omega arith;
       before_behind = λ k q. h.behind k (behind n l k q t);
       before_next = λ i p q. wide l c s i (omega arith) h.behind ∙ h.next i (omega arith) (omega arith);
-      before_fails = λ q. ap (λ j. mul (discrepancy 128 c s j) again) (back n)
+      before_fails = λ q. ap (λ j. mul (discrepancy 128 c s j) again) (omega arith)
           ∙ ap (λ (x : ℕ). mul x again) (wide l c s n (omega arith) h.behind
           ∙ ap (λ w. discrepancy w c s n) (sym (add-one l))) ∙ a;
     }
   where
-    back : (n : ℕ) → n + 1 - 1 ≡ n
-    back n = omega arith
-
     behind : (n l k : ℕ) → n + 1 + 1 < n + 1 - l + 1 + k → 2 * l ≤ n → l < k
     behind n l k q t = omega arith

@@ -1,15 +1,11 @@
 -- The syndromes of a word from the bytes behind its data.
 use Rattle.std.proofs.Common.{◌≡◌, ℕ, ◌-◌, ◌<◌, List, ◌++◌, length, take, drop, refl, sym, ap, ap₂, ◌∙◌, arith}
 use Rattle.std.proofs.Common.{length-drop}
-use Rattle.std.proofs.lemmas.List.{take_all, take_at, drop_at, length-take-le}
+use Rattle.std.proofs.lemmas.List.{take_rest, take_at, drop_at, length-take-le}
 use Rattle.dtx_galois.specs.Field.{pow, value}
 use Rattle.dtx_galois.specs.Word.{sums}
 use Rattle.dtx_laws.specs.Codeword.{IsCodeword}
 use Rattle.dtx_laws.proofs.PartsLemmas.{syndrome_is}
-
--- all that stands behind the data
-pub rest : (k : ℕ) (xs : List ℕ) → take (length xs - k) (drop k xs) ≡ drop k xs
-rest k xs = take_all (length xs - k) (drop k xs) (omega (arith, length-drop k xs))
 
 pub syndromes_are : (k : ℕ) (word parity : List ℕ) (s : ℕ → ℕ) → k < length word
     → IsCodeword (length word) k (take k word ++ parity)
@@ -18,6 +14,7 @@ pub syndromes_are : (k : ℕ) (word parity : List ℕ) (s : ℕ → ℕ) → k <
     → (i : ℕ) → i < length word - k → s i ≡ value word (pow 2 i)
 syndromes_are k word parity s m c h i l =
     let front : length (take k word) ≡ k = length-take-le k word (omega arith) in
-    h i (omega (arith, ap length (rest k word), length-drop k word, l))
-    ∙ ap₂ (λ (xs ys : List ℕ). value (sums xs ys) (pow 2 i)) (rest k word) (sym (drop_at (take k word) parity k front))
+    h i (omega (arith, ap length (take_rest word k), length-drop k word, l))
+    ∙ ap₂ (λ (xs ys : List ℕ). value (sums xs ys) (pow 2 i)) (take_rest word k)
+    (sym (drop_at (take k word) parity k front))
     ∙ syndrome_is (length word) k i word (take k word ++ parity) refl c (take_at (take k word) parity k front) l

@@ -35,7 +35,7 @@ Contains-flat_map b w ws a (suc n) l m h =
     by_place (inl e) f =
         Contains-append_left (map (λ v. a ∷ v) ws) (flat_map (λ c. map (λ v. c ∷ v) ws) (range_with_len (a + 1) n))
         (b ∷ w)
-        (subst (λ (c : ℕ). Contains (map (λ v. c ∷ v) ws) (b ∷ w)) (sym e) (Contains-map b w ws h))
+        (rw e (Contains-map b w ws h))
     by_place (inr p) f =
         Contains-append_right (map (λ v. a ∷ v) ws) (flat_map (λ c. map (λ v. c ∷ v) ws) (range_with_len (a + 1) n))
         (b ∷ w) (f p)

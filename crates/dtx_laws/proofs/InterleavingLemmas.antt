@@ -1,9 +1,8 @@
 -- The laws of interleaving.
 use Rattle.std.proofs.Common.{◌≡◌, ℕ, ◌+◌, ◌-◌, ◌*◌, ◌/◌, ◌%◌, ◌<◌, ◌≤◌, ◌⊎◌, ◌==◌, nat_le, cond, inl, inr, List, []}
-use Rattle.std.proofs.Common.{◌∷◌, ◌++◌, length, get_or, set, drop, take, replicate, refl, sym, ap, subst, ◌∙◌, arith}
-use Rattle.std.proofs.Common.{add-mul}
-use Rattle.std.specs.List.{concat}
-use Rattle.std.proofs.Common.{mul-le-mul_right, div-add-mod'}
+use Rattle.std.proofs.Common.{◌∷◌, ◌++◌, length, get_or, set, drop, take, replicate, refl, sym, ap, ◌∙◌, arith}
+use Rattle.std.proofs.Common.{map, add-mul, mul-le-mul_right, div-add-mod'}
+use Rattle.std.specs.List.{concat, range_with_len}
 use Rattle.std.proofs.lemmas.Bool.{cases_lt, cases_eq, cond-true, cond-false, le-leb, lt-leb}
 use Rattle.std.proofs.lemmas.Nat.{mod_below}
 use Rattle.std.proofs.lemmas.List.{length-set, length-append, get_or-set_same, get_or-set_other, get_or_append_left}
@@ -15,38 +14,56 @@ use Rattle.dtx_laws.specs.Interleaving.{interleaved_at, interleaved, IsInterleav
 use Rattle.dtx_laws.proofs.PlacesLemmas.{aligned_gives, stream_come, stream_held, length_leaving, leaving_append}
 use Rattle.dtx_laws.proofs.PlacesLemmas.{after_append, length_moved}
 
--- ---- the map
+-- ---- the maps
+
+-- Both maps move bytes on by their branches' delays: byte n is that of x from d (n mod b) places before it, or 0.
+abbrev pub moved_at : ℕ → (ℕ → ℕ) → List ℕ → ℕ → ℕ
+moved_at b d x n = cond (nat_le (d (n % b)) n) (get_or x (n - d (n % b)) 0) 0
+
+abbrev pub moved : ℕ → (ℕ → ℕ) → List ℕ → List ℕ
+moved b d x = map (moved_at b d x) (range_with_len 0 (length x))
+
+pub length-moved : (b : ℕ) (d : ℕ → ℕ) (x : List ℕ) → length (moved b d x) ≡ length x
+length-moved b d x = length-map-range_with_len (moved_at b d x) 0 (length x)
+
+pub get_or-moved : (b : ℕ) (d : ℕ → ℕ) (x : List ℕ) (n : ℕ) → n < length x
+    → get_or (moved b d x) n 0 ≡ moved_at b d x n
+get_or-moved b d x n l = get_or-map-range_with_len (moved_at b d x) 0 (length x) n n 0 l (omega arith)
+
+pub moved_come : (b : ℕ) (d : ℕ → ℕ) (x : List ℕ) (n : ℕ) → d (n % b) ≤ n
+    → moved_at b d x n ≡ get_or x (n - d (n % b)) 0
+moved_come b d x n h = cond-true (nat_le (d (n % b)) n) (get_or x (n - d (n % b)) 0) 0 (le-leb (d (n % b)) n h)
+
+pub moved_held : (b : ℕ) (d : ℕ → ℕ) (x : List ℕ) (n : ℕ) → n < d (n % b) → moved_at b d x n ≡ 0
+moved_held b d x n h = cond-false (nat_le (d (n % b)) n) (get_or x (n - d (n % b)) 0) 0 (lt-leb (d (n % b)) n h)
+
+-- later bytes leave the earlier ones alone
+pub moved-append : (b : ℕ) (d : ℕ → ℕ) (x z : List ℕ) → take (length x) (moved b d (x ++ z)) ≡ moved b d x
+moved-append b d x z =
+    ext_get_or 0 (take (length x) (moved b d (x ++ z))) (moved b d x) (long ∙ sym (length-moved b d x))
+    (λ i l. get_or-take (length x) (moved b d (x ++ z)) i 0 (omega (arith, long, l))
+    ∙ get_or-moved b d (x ++ z) i (omega (arith, long, l, length-append x z))
+    ∙ ap (λ y. cond (nat_le (d (i % b)) i) y 0) (get_or_append_left x z 0 (i - d (i % b)) (omega (arith, long, l)))
+    ∙ sym (get_or-moved b d x i (omega (arith, long, l))))
+  where
+    long : length (take (length x) (moved b d (x ++ z))) ≡ length x
+    long = length-take-le (length x) (moved b d (x ++ z)) (omega (arith, length-moved b d (x ++ z), length-append x z))
+
+abbrev pub spread_by : ℕ → ℕ → ℕ → ℕ
+spread_by b m r = b * m * r
 
 pub length-interleaved : (b m : ℕ) (x : List ℕ) → length (interleaved b m x) ≡ length x
 unfolding interleaved
-length-interleaved b m x = length-map-range_with_len (interleaved_at b m x) 0 (length x)
+length-interleaved b m x = length-moved b (spread_by b m) x
 
 pub get_or-interleaved : (b m : ℕ) (x : List ℕ) (n : ℕ) → n < length x
     → get_or (interleaved b m x) n 0 ≡ interleaved_at b m x n
 unfolding interleaved
-get_or-interleaved b m x n l = get_or-map-range_with_len (interleaved_at b m x) 0 (length x) n n 0 l (omega arith)
+get_or-interleaved b m x n l = get_or-moved b (spread_by b m) x n l
 
-interleaved_before : (b m : ℕ) (x z : List ℕ) (n : ℕ) → n < length x
-    → interleaved_at b m (x ++ z) n ≡ interleaved_at b m x n
-interleaved_before b m x z n l =
-    ap (λ y. cond (nat_le (b * m * (n % b)) n) y 0) (get_or_append_left x z 0 (n - b * m * (n % b)) (omega arith))
-
--- later bytes leave the earlier ones alone
 pub interleaved-append : (b m : ℕ) (x z : List ℕ) → take (length x) (interleaved b m (x ++ z)) ≡ interleaved b m x
-interleaved-append b m x z =
-    ext_get_or 0 (take (length x) (interleaved b m (x ++ z))) (interleaved b m x) (long
-    ∙ sym (length-interleaved b m x))
-    (λ i l. get_or-take (length x) (interleaved b m (x ++ z)) i 0 (omega (arith, long, l))
-    ∙ get_or-interleaved b m (x ++ z) i (omega (arith, long, l, length-append x z))
-    ∙ interleaved_before b m x z i (omega (arith, long, l))
-    ∙ sym (get_or-interleaved b m x i (omega (arith, long, l))))
-  where
-    long : length (take (length x) (interleaved b m (x ++ z))) ≡ length x
-    long = length-take-le (length x) (interleaved b m (x ++ z)) (omega (
-      arith,
-      length-interleaved b m (x ++ z),
-      length-append x z,
-    ))
+unfolding interleaved
+interleaved-append b m x z = moved-append b (spread_by b m) x z
 
 -- ---- any cut into calls
 
@@ -78,9 +95,7 @@ HasWidths-byte b w v byte h = record {
     by_cases : (i : ℕ) → i < b → (i ≡ v.next) ⊎ (i ≡ v.next → ⊥)
         → length (get_or (set v.lists v.next (drop 1 (get_or v.lists v.next [] ++ byte ∷ []))) i []) ≡ w i
     by_cases i l (inl e) =
-        subst (λ (k : ℕ). length (get_or (set v.lists v.next (drop 1 (get_or v.lists v.next [] ++ byte ∷ []))) k [])
-        ≡ w k) (sym e)
-        (ap length (get_or-set_same v.lists v.next (drop 1 (get_or v.lists v.next [] ++ byte ∷ [])) []
+        rw e (ap length (get_or-set_same v.lists v.next (drop 1 (get_or v.lists v.next [] ++ byte ∷ [])) []
         (omega (arith, h.next, h.count))) ∙ length_moved (get_or v.lists v.next []) byte ∙ h.long v.next h.next)
     by_cases i l (inr n) =
         ap length (get_or-set_other v.lists v.next i (drop 1 (get_or v.lists v.next [] ++ byte ∷ [])) [] n) ∙ h.long i l
@@ -156,36 +171,27 @@ pub come_at : (b m : ℕ) (v : Branching) (x : List ℕ) (n : ℕ) → HasWidths
     → get_or (leaving_all b v x) n 0 ≡ get_or x (n - b * m * (n % b)) 0
 come_at b m v x n s z l h = come_by b (b * m * (n % b)) (spreading m) v x n s z l (in_turns b m (n % b)) h
 
-held_turn : (b m n : ℕ) → n < b * m * (n % b) → n / b < m * (n % b)
-held_turn b m n h = held_turn_by b (b * m * (n % b)) (spreading m) n (in_turns b m (n % b)) h
-
-held_at : (b m : ℕ) (v : Branching) (x : List ℕ) (n : ℕ) → HasWidths b (spreading m) v → v.next ≡ 0 → n < length x
-    → n < b * m * (n % b)
-    → get_or (leaving_all b v x) n 0 ≡ get_or (get_or v.lists (n % b) []) (n / b) 0
-held_at b m v x n s z l h = held_by b (b * m * (n % b)) (spreading m) v x n s z l (in_turns b m (n % b)) h
-
-at_come : (b m : ℕ) (x : List ℕ) (n : ℕ) → b * m * (n % b) ≤ n
-    → interleaved_at b m x n ≡ get_or x (n - b * m * (n % b)) 0
-at_come b m x n h =
-    cond-true (nat_le (b * m * (n % b)) n) (get_or x (n - b * m * (n % b)) 0) 0 (le-leb (b * m * (n % b)) n h)
-
 pub at_held : (b m : ℕ) (x : List ℕ) (n : ℕ) → n < b * m * (n % b) → interleaved_at b m x n ≡ 0
-at_held b m x n h =
-    cond-false (nat_le (b * m * (n % b)) n) (get_or x (n - b * m * (n % b)) 0) 0 (lt-leb (b * m * (n % b)) n h)
+at_held b m x n h = moved_held b (spread_by b m) x n h
 
 pub behind : (b m : ℕ) (v : Branching) (x : List ℕ) → HasWidths b (spreading m) v → v.next ≡ 0
     → IsInterleavedBehind b m v.lists x (leaving_all b v x)
 behind b m v x s z = record {
   long = length_leaving b v x;
-  come = λ n l h. come_at b m v x n s z l h ∙ sym (get_or-interleaved b m x n l ∙ at_come b m x n h);
-  held = λ n l h. held_at b m v x n s z l h;
-  within = λ n l h. omega (arith, held_turn b m n h, s.long (n % b) (mod_below n b (omega (arith, s.next))));
+  come = λ n l h. come_at b m v x n s z l h
+      ∙ sym (get_or-interleaved b m x n l ∙ moved_come b (spread_by b m) x n h);
+  held = λ n l h. held_by b (b * m * (n % b)) (spreading m) v x n s z l (in_turns b m (n % b)) h;
+  within = λ n l h. omega (
+    arith,
+    held_turn_by b (b * m * (n % b)) (spreading m) n (in_turns b m (n % b)) h,
+    s.long (n % b) (mod_below n b (omega (arith, s.next))),
+  );
 }
 
 pub behind_calls : (b m : ℕ) (v : Branching) (calls : List (List ℕ)) → HasWidths b (spreading m) v
     → IsInterleavedBehind b m v.lists (concat calls) (leaving_calls b (aligned v) calls)
 behind_calls b m v calls s =
-    subst (λ ys. IsInterleavedBehind b m v.lists (concat calls) ys) (sym (leaving_calls_is b (aligned v) calls))
+    rw (leaving_calls_is b (aligned v) calls)
     (behind b m (aligned v) (concat calls) (HasWidths-aligned b (spreading m) v s) refl)
 
 -- ---- from zeros
@@ -200,21 +206,26 @@ pub next-zeroed : (b : ℕ) (w : ℕ → ℕ) → (zeroed b w).next ≡ 0
 unfolding zeroed
 next-zeroed b w = refl
 
-pub zeros_give : (b m : ℕ) (x : List ℕ) → 0 < b → leaving_all b (zeroed b (spreading m)) x ≡ interleaved b m x
-zeros_give b m x p =
-    ext_get_or 0 (leaving_all b (zeroed b (spreading m)) x) (interleaved b m x)
-    (length_leaving b (zeroed b (spreading m)) x ∙ sym (length-interleaved b m x))
-    (λ n l. by_cases n (omega (arith, l, length_leaving b (zeroed b (spreading m)) x)) (cases_lt n (b * m * (n % b))))
+pub zeros_move : (b : ℕ) (w d : ℕ → ℕ) (x : List ℕ) → 0 < b → ((r : ℕ) → d r ≡ w r * b)
+    → leaving_all b (zeroed b w) x ≡ moved b d x
+zeros_move b w d x p t =
+    ext_get_or 0 (leaving_all b (zeroed b w) x) (moved b d x)
+    (length_leaving b (zeroed b w) x ∙ sym (length-moved b d x))
+    (λ n l. by_cases n (omega (arith, l, length_leaving b (zeroed b w) x)) (cases_lt n (d (n % b))))
   where
-    all : IsInterleavedBehind b m (zeroed b (spreading m)).lists x (leaving_all b (zeroed b (spreading m)) x)
-    all = behind b m (zeroed b (spreading m)) x (HasWidths-zeroed b (spreading m) p) (next-zeroed b (spreading m))
-
-    by_cases : (n : ℕ) → n < length x → (n < b * m * (n % b)) ⊎ (b * m * (n % b) ≤ n)
-        → get_or (leaving_all b (zeroed b (spreading m)) x) n 0 ≡ get_or (interleaved b m x) n 0
+    by_cases : (n : ℕ) → n < length x → (n < d (n % b)) ⊎ (d (n % b) ≤ n)
+        → get_or (leaving_all b (zeroed b w) x) n 0 ≡ get_or (moved b d x) n 0
     by_cases n l (inl h) =
-        all.held n l h ∙ zeros_at b (spreading m) (n % b) (n / b) (mod_below n b p) (held_turn b m n h)
-        ∙ sym (get_or-interleaved b m x n l ∙ at_held b m x n h)
-    by_cases n l (inr h) = all.come n l h
+        held_by b (d (n % b)) w (zeroed b w) x n (HasWidths-zeroed b w p) (next-zeroed b w) l (t (n % b)) h
+        ∙ zeros_at b w (n % b) (n / b) (mod_below n b p) (held_turn_by b (d (n % b)) w n (t (n % b)) h)
+        ∙ sym (get_or-moved b d x n l ∙ moved_held b d x n h)
+    by_cases n l (inr h) =
+        come_by b (d (n % b)) w (zeroed b w) x n (HasWidths-zeroed b w p) (next-zeroed b w) l (t (n % b)) h
+        ∙ sym (get_or-moved b d x n l ∙ moved_come b d x n h)
+
+pub zeros_give : (b m : ℕ) (x : List ℕ) → 0 < b → leaving_all b (zeroed b (spreading m)) x ≡ interleaved b m x
+unfolding interleaved
+zeros_give b m x p = zeros_move b (spreading m) (spread_by b m) x p (in_turns b m)
 
 pub zeros_calls : (b m : ℕ) (calls : List (List ℕ)) → 0 < b
     → leaving_calls b (zeroed b (spreading m)) calls ≡ interleaved b m (concat calls)

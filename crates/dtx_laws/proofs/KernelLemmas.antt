@@ -95,22 +95,16 @@ zero_at_place cs (x ∷ xs) (y ∷ ys) b bx by l z zero m h =
     let w : (((x == y) ≡ false → mul (bit_xor x y) (low_value cs (pow 2 (length xs))) ≡ 0)
     × AreZero (weighted cs (differences xs ys))) = zero_by_test (x == y) x y (pow 2 (length xs)) cs
     (differences xs ys) z in
-    ap (λ n. low_value cs (pow 2 n)) (last (length xs))
+    ap (λ n. low_value cs (pow 2 n)) (omega arith)
     ∙ no_divisors (low_value cs (pow 2 (length xs))) (bit_xor x y) (low_value_small cs (pow 2 (length xs)) b)
     (xor_lt 8 x y bx.0 by.0) (λ e. h (xor_zero x y e))
     (mul_comm (low_value cs (pow 2 (length xs))) (bit_xor x y) ∙ w.0 (ne_eqb x y h))
-  where
-    last : (n : ℕ) → suc n - 1 - 0 ≡ n
-    last n = omega arith
 zero_at_place cs (x ∷ xs) (y ∷ ys) b bx by l z (suc p) m h =
     let w : (((x == y) ≡ false → mul (bit_xor x y) (low_value cs (pow 2 (length xs))) ≡ 0)
     × AreZero (weighted cs (differences xs ys))) = zero_by_test (x == y) x y (pow 2 (length xs)) cs
     (differences xs ys) z in
-    ap (λ n. low_value cs (pow 2 n)) (inner (length xs) p)
+    ap (λ n. low_value cs (pow 2 n)) (omega arith)
     ∙ zero_at_place cs xs ys b bx.1 by.1 (omega arith) w.1 p (omega arith) h
-  where
-    inner : (n p : ℕ) → suc n - 1 - suc p ≡ n - 1 - p
-    inner n p = omega arith
 
 -- Where a word has a correction, what annuls its syndromes vanishes at each place where the two differ.
 pub kernel : (n k t : ℕ) (word code locator : List ℕ) → n ≤ 255 → n - k ≡ 2 * t → AreBytes word → length word ≡ n

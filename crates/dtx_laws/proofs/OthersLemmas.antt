@@ -1,6 +1,6 @@
 -- The other marked places: their weight, and that a locator marks few.
 use Rattle.std.proofs.Common.{◌≡◌, ◌≢◌, ℕ, zero, suc, ◌-◌, ◌<◌, ◌≤◌, ◌⊎◌, ◌==◌, ◌&&◌, not, cond, Bool, true, false}
-use Rattle.std.proofs.Common.{List, [], ◌∷◌, ◌++◌, length, get_or, bit_xor, refl, sym, ap, ap₂, ◌∙◌, subst, arith, inl}
+use Rattle.std.proofs.Common.{List, [], ◌∷◌, ◌++◌, length, get_or, bit_xor, refl, sym, ap, ap₂, ◌∙◌, arith, inl}
 use Rattle.std.proofs.Common.{inr, add-one}
 use Rattle.std.proofs.lemmas.List.{length_push}
 use Rattle.std.proofs.lemmas.Bool.{eqb-true, eqb-false, ne_eqb, and_parts, not-true}
@@ -36,8 +36,7 @@ weight_cases : (n : ℕ) (mark : ℕ → Bool) (p q b : ℕ) (ys : List ℕ) →
     → (q < b → weight (power_at n q) ys ≡ 0)
     → weight (power_at n q) (cond (mark b && not (b == p)) (power_at n b ∷ ys) ys) ≡ 0
 weight_cases n mark p q b ys t d (inl e) h =
-    subst (λ (c : ℕ). weight (power_at n q) (cond (mark c && not (c == p)) (power_at n c ∷ ys) ys) ≡ 0) e
-    (weight_own (power_at n q) ys (mark q && not (q == p)) (is_other mark p q t d))
+    rw (← e) (weight_own (power_at n q) ys (mark q && not (q == p)) (is_other mark p q t d))
 weight_cases n mark p q b ys t d (inr m) h = weight_more (power_at n q) (power_at n b) ys (mark b && not (b == p)) (h m)
 
 -- a marked place among them makes the weight 0
@@ -120,11 +119,8 @@ different_others n mark p zero l r = tt
 different_others n mark p (suc b) l r =
     different_step (power_at n b) (others n mark p b) (mark b && not (b == p))
     (all_others (λ z. z ≢ power_at n b) n mark p b
-    (λ q m t. places_differ n q b l (omega arith) (omega arith) (below_differs q b m)))
+    (λ q m t. places_differ n q b l (omega arith) (omega arith) (λ e. omega arith)))
     (different_others n mark p b l (omega arith))
-  where
-    below_differs : (q b : ℕ) → q < b → q ≡ b → ⊥
-    below_differs q b m e = omega arith
 
 -- the highest coefficient first
 abbrev turned : List ℕ → List ℕ

@@ -89,37 +89,19 @@ only f [] cs p l m h = absurd (omega arith)
 only f (x ∷ xs) [] p l m h = absurd (omega arith)
 only f (x ∷ xs) (c ∷ cs) zero l m h =
     ap₂ bit_xor (one_last (bit_xor x c) (f (pow 2 (length xs)))
-    ∙ ap (λ n. mul (bit_xor x c) (f (pow 2 n))) (last (length xs)))
+    ∙ ap (λ n. mul (bit_xor x c) (f (pow 2 n))) (omega arith))
     (moment_zero 0 (by f (pairs xs cs)) (all_none f xs cs (omega arith)
-    (λ q r. ap (λ n. mul (bit_xor (get_or xs q 0) (get_or cs q 0)) (f (pow 2 n))) (inner (length xs) q)
-    ∙ h (suc q) (omega arith) (λ e. no_zero q (sym e)))))
+    (λ q r. ap (λ n. mul (bit_xor (get_or xs q 0) (get_or cs q 0)) (f (pow 2 n))) (omega arith)
+    ∙ h (suc q) (omega arith) (λ e. omega (arith, sym e)))))
     ∙ xor_zero_r (mul (bit_xor x c) (f (pow 2 (suc (length xs) - 1 - 0))))
   where
-    no_zero : (n : ℕ) → 0 ≡ suc n → ⊥
-    no_zero n e = omega arith
-
-    last : (n : ℕ) → n ≡ suc n - 1 - 0
-    last n = omega arith
-
-    inner : (n p : ℕ) → n - 1 - p ≡ suc n - 1 - suc p
-    inner n p = omega arith
-
     one_last : (d v : ℕ) → mul (mul d v) 1 ≡ mul d v
     one_last d v = mul_comm (mul d v) 1 ∙ mul_one (mul d v) (mul_small d v)
 only f (x ∷ xs) (c ∷ cs) (suc p) l m h =
     ap₂ bit_xor
-    (ap (λ (y : ℕ). mul y 1) (ap (λ n. mul (bit_xor x c) (f (pow 2 n))) (last (length xs))
-    ∙ h 0 (omega arith) (λ e. no_zero p e)) ∙ zero_mul 1)
+    (ap (λ (y : ℕ). mul y 1) (ap (λ n. mul (bit_xor x c) (f (pow 2 n))) (omega arith)
+    ∙ h 0 (omega arith) (λ e. omega arith)) ∙ zero_mul 1)
     (only f xs cs p (omega arith) (omega arith)
-    (λ q r d. ap (λ n. mul (bit_xor (get_or xs q 0) (get_or cs q 0)) (f (pow 2 n))) (inner (length xs) q)
+    (λ q r d. ap (λ n. mul (bit_xor (get_or xs q 0) (get_or cs q 0)) (f (pow 2 n))) (omega arith)
     ∙ h (suc q) (omega arith) (λ e. d (omega arith))))
-    ∙ ap (λ n. mul (bit_xor (get_or xs p 0) (get_or cs p 0)) (f (pow 2 n))) (inner (length xs) p)
-  where
-    no_zero : (n : ℕ) → 0 ≡ suc n → ⊥
-    no_zero n e = omega arith
-
-    last : (n : ℕ) → n ≡ suc n - 1 - 0
-    last n = omega arith
-
-    inner : (n p : ℕ) → n - 1 - p ≡ suc n - 1 - suc p
-    inner n p = omega arith
+    ∙ ap (λ n. mul (bit_xor (get_or xs p 0) (get_or cs p 0)) (f (pow 2 n))) (omega arith)

@@ -1,6 +1,6 @@
 -- Where a word has a correction, what is patched at the places where a locator vanishes is the correction.
 use Rattle.std.proofs.Common.{◌≡◌, ◌≢◌, ℕ, zero, suc, ◌-◌, ◌*◌, ◌<◌, ◌≤◌, ◌==◌, ◌&&◌, not, cond, Bool, true, false}
-use Rattle.std.proofs.Common.{List, [], ◌∷◌, length, get_or, bit_xor, refl, sym, ap, ap₂, ◌∙◌, arith}
+use Rattle.std.proofs.Common.{List, ◌∷◌, length, get_or, bit_xor, refl, sym, ap, ap₂, ◌∙◌, arith}
 use Rattle.std.proofs.lemmas.List.{ext_get_or}
 use Rattle.std.proofs.lemmas.Bool.{eqb-true, eqb-false}
 use Rattle.std.specs.Int.Bits.{xor_zero_r, xor_assoc, xor_self, xor_lt}
@@ -12,6 +12,7 @@ use Rattle.dtx_laws.specs.ErrorValues.{others, weight, without, error_at, patche
 use Rattle.dtx_laws.proofs.KernelLemmas.{kernel, same_sequence}
 use Rattle.dtx_laws.proofs.PairsLemmas.{pairs, moment_pairs, without_is, only}
 use Rattle.dtx_laws.proofs.OthersLemmas.{few_others, weight_at_other, weight_small, weight_not_zero}
+use Rattle.dtx_laws.proofs.PartsLemmas.{byte_at}
 
 by_mark : (u : Bool) (w e c : ℕ) → (u ≡ true → e ≡ bit_xor w c) → (u ≡ false → w ≡ c) → cond u (bit_xor w e) w ≡ c
 by_mark true w e c h f = ap (bit_xor w) (h refl) ∙ sym (xor_assoc w w c) ∙ ap (λ (z : ℕ). bit_xor z c) (xor_self w)
@@ -19,16 +20,8 @@ by_mark false w e c h f = f refl
 
 -- what is left of the sequence, through the weight's inverse
 error_from : (d v : ℕ) → d < 256 → v < 256 → v ≢ 0 → mul (mul d v) (pow v 254) ≡ d
-error_from d v ld lv h = mul_assoc d v (pow v 254) ∙ ap (mul d) (mul_inverse v (pos v h) lv) ∙ mul_comm d 1
+error_from d v ld lv h = mul_assoc d v (pow v 254) ∙ ap (mul d) (mul_inverse v (omega arith) lv) ∙ mul_comm d 1
     ∙ mul_one d ld
-  where
-    pos : (v : ℕ) → v ≢ 0 → 0 < v
-    pos v h = omega arith
-
-byte_at : (xs : List ℕ) (k : ℕ) → AreBytes xs → get_or xs k 0 < 256
-byte_at [] k b = omega arith
-byte_at (x ∷ xs) zero b = b.0
-byte_at (x ∷ xs) (suc k) b = byte_at xs k b.1
 
 mark_cases : (u : Bool) (d v : ℕ) → (u ≡ true → v ≡ 0) → (u ≡ false → d ≡ 0) → mul d v ≡ 0
 mark_cases true d v h f = ap (mul d) (h refl) ∙ mul_zero d

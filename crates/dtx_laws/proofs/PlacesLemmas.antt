@@ -1,11 +1,10 @@
 -- What leaves the branches, by its place.
 use Rattle.std.proofs.Common.{◌≡◌, ◌≢◌, ℕ, zero, suc, ◌+◌, ◌-◌, ◌*◌, ◌/◌, ◌%◌, ◌<◌, ◌≤◌, ◌⊎◌, ◌==◌, cond, Bool, true}
 use Rattle.std.proofs.Common.{false, List, [], ◌∷◌, ◌++◌, length, get_or, set, drop, refl, sym, ap, ◌∙◌, subst, arith}
-use Rattle.std.proofs.Common.{inl, inr, add-zero, nat_lt}
+use Rattle.std.proofs.Common.{inl, inr, add-zero, nat_lt, div-add-mod', subst₂}
 use Rattle.std.proofs.lemmas.Bool.{cases_lt, cases_eq, eqb-true, eqb-false, cond-true, cond-false, lt-ltb, le-ltb}
 use Rattle.std.proofs.lemmas.List.{length-set, length-drop, length_push, get_or-set_same, get_or-set_other}
 use Rattle.std.proofs.lemmas.List.{get_or_append_left, get_or_push, get_or-drop}
-use Rattle.std.proofs.Common.{div-add-mod', subst₂}
 use Rattle.std.proofs.lemmas.Nat.{div-mul-add, mod-mul-add, mod_below}
 use Rattle.dtx_laws.specs.Branches.{Branching, HasWidths, leaving, after_byte, leaving_all, after_all}
 
@@ -70,8 +69,7 @@ Holds-step b w e q r lists byte h l c = record {
     long_cases : (i : ℕ) → i < b → (i ≡ r) ⊎ (i ≡ r → ⊥)
         → length (get_or (set lists r (drop 1 (get_or lists r [] ++ byte ∷ []))) i []) ≡ w i
     long_cases i p (inl s) =
-        subst (λ (k : ℕ). length (get_or (set lists r (drop 1 (get_or lists r [] ++ byte ∷ []))) k []) ≡ w k) (sym s)
-        (ap length (get_or-set_same lists r (drop 1 (get_or lists r [] ++ byte ∷ [])) [] within)
+        rw s (ap length (get_or-set_same lists r (drop 1 (get_or lists r [] ++ byte ∷ [])) [] within)
         ∙ length_moved (get_or lists r []) byte ∙ h.long r l)
     long_cases i p (inr s) = ap length (get_or-set_other lists r i (drop 1 (get_or lists r [] ++ byte ∷ [])) [] s)
         ∙ h.long i p
@@ -79,9 +77,7 @@ Holds-step b w e q r lists byte h l c = record {
     early_cases : (i j : ℕ) → i < suc r → j < w i → (i ≡ r) ⊎ (i ≡ r → ⊥)
         → get_or (get_or (set lists r (drop 1 (get_or lists r [] ++ byte ∷ []))) i []) j 0 ≡ e i (q + 1 + j)
     early_cases i j p k (inl s) =
-        subst (λ (n : ℕ). get_or (get_or (set lists r (drop 1 (get_or lists r [] ++ byte ∷ []))) n []) j 0
-        ≡ e n (q + 1 + j)) (sym s)
-        (ap (λ (ys : List ℕ). get_or ys j 0) (get_or-set_same lists r
+        rw s (ap (λ (ys : List ℕ). get_or ys j 0) (get_or-set_same lists r
         (drop 1 (get_or lists r [] ++ byte ∷ [])) [] within)
         ∙ moved_is b w e q r j lists byte h l c (subst (λ (n : ℕ). j < w n) s k))
     early_cases i j p k (inr s) =
@@ -100,40 +96,25 @@ Holds-turn b w e q lists h = record {
 
 Holds-next : (b : ℕ) (w : ℕ → ℕ) (e : ℕ → ℕ → ℕ) (q r : ℕ) (lists : List (List ℕ)) → (t : Bool) → (t ≡ true → r + 1 ≡ b)
     → Holds b w e q (suc r) lists → Holds b w e (cond t (q + 1) q) (cond t 0 (r + 1)) lists
-Holds-next b w e q r lists true f h = Holds-turn b w e q lists (subst (λ (n : ℕ). Holds b w e q n lists) (suc_is r
+Holds-next b w e q r lists true f h = Holds-turn b w e q lists (subst (λ (n : ℕ). Holds b w e q n lists) (omega arith
     ∙ f refl) h)
-  where
-    suc_is : (r : ℕ) → suc r ≡ r + 1
-    suc_is r = omega arith
-Holds-next b w e q r lists false f h = subst (λ (n : ℕ). Holds b w e q n lists) (suc_is r) h
-  where
-    suc_is : (r : ℕ) → suc r ≡ r + 1
-    suc_is r = omega arith
-
-div_is : (b q r : ℕ) → r < b → (q * b + r) / b ≡ q
-div_is b q r l = div-mul-add q b r l
-
-mod_is : (b q r : ℕ) → r < b → (q * b + r) % b ≡ r
-mod_is b q r l = mod-mul-add q b r l
-
-place_is : (b n : ℕ) → n ≡ n / b * b + n % b
-place_is b n = sym (div-add-mod' n b)
+Holds-next b w e q r lists false f h = subst (λ (n : ℕ). Holds b w e q n lists) (omega arith) h
 
 -- the turn and the byte of the next place
 next_place : (b q r : ℕ) → 0 < b → r < b → (t : Bool) → (t ≡ true → r + 1 ≡ b) → (t ≡ false → r + 1 ≡ b → ⊥)
     → ((q * b + r + 1) / b ≡ cond t (q + 1) q) × ((q * b + r + 1) % b ≡ cond t 0 (r + 1))
 next_place b q r p l true f g = (
-  ap (λ n. n / b) (whole f) ∙ div_is b (q + 1) 0 p,
+  ap (λ n. n / b) (whole f) ∙ div-mul-add (q + 1) b 0 p,
   ap (λ n. n % b) (whole f)
-      ∙ mod_is b (q + 1) 0 p,
+      ∙ mod-mul-add (q + 1) b 0 p,
 )
   where
     whole : (true ≡ true → r + 1 ≡ b) → q * b + r + 1 ≡ (q + 1) * b + 0
     whole f = let e : r + 1 ≡ b = f refl in grind arith
 next_place b q r p l false f g = (
-  ap (λ n. n / b) assoc ∙ div_is b q (r + 1) less,
+  ap (λ n. n / b) assoc ∙ div-mul-add q b (r + 1) less,
   ap (λ n. n % b) assoc
-      ∙ mod_is b q (r + 1) less,
+      ∙ mod-mul-add q b (r + 1) less,
 )
   where
     assoc : q * b + r + 1 ≡ q * b + (r + 1)
@@ -152,16 +133,26 @@ Stands-next b w e n v byte p s c =
     let pq : ((n / b * b + n % b + 1) / b ≡ cond (n % b + 1 == b) (n / b + 1) (n / b))
     × ((n / b * b + n % b + 1) % b ≡ cond (n % b + 1 == b) 0 (n % b + 1)) =
     next_place b (n / b) (n % b) p l (n % b + 1 == b) (eqb-true (n % b + 1) b) (eqb-false (n % b + 1) b) in
-    let pl : n + 1 ≡ n / b * b + n % b + 1 = ap (λ x. x + 1) (place_is b n) in (
+    let pl : n + 1 ≡ n / b * b + n % b + 1 = ap (λ x. x + 1) (sym (div-add-mod' n b)) in (
       ap (λ x. cond (x + 1 == b) 0 (x + 1)) s.0 ∙ sym (ap (λ x. x % b) pl ∙ pq.1),
       subst₂ (λ (x y : ℕ). Holds b w e x y (set v.lists v.next (drop 1 (get_or v.lists v.next [] ++ byte ∷ []))))
           (sym (ap (λ x. x / b) pl ∙ pq.0)) (sym (ap (λ x. x % b) pl ∙ pq.1))
-          (subst (λ (x : ℕ). Holds b w e (cond (n % b + 1 == b) (n / b + 1) (n / b))
-          (cond (n % b + 1 == b) 0 (n % b + 1)) (set v.lists x (drop 1 (get_or v.lists x [] ++ byte ∷ []))))
-          (sym s.0)
-          (Holds-next b w e (n / b) (n % b) _ (n % b + 1 == b) (eqb-true (n % b + 1) b)
+          (rw s.0 (Holds-next b w e (n / b) (n % b) _ (n % b + 1 == b) (eqb-true (n % b + 1) b)
           (Holds-step b w e (n / b) (n % b) v.lists byte s.1 l c))),
     )
+
+-- the branches after any bytes
+pub Stands-all : (b : ℕ) (w : ℕ → ℕ) (e : ℕ → ℕ → ℕ) (n : ℕ) (v : Branching) (xs : List ℕ) → 0 < b → Stands b w e n v
+    → ((k : ℕ) → k < length xs → get_or xs k 0 ≡ e ((n + k) % b) ((n + k) / b + w ((n + k) % b)))
+    → Stands b w e (n + length xs) (after_all b v xs)
+unfolding after_all
+Stands-all b w e n v [] p s c = subst (λ (k : ℕ). Stands b w e k v) (sym (add-zero n)) s
+Stands-all b w e n v (x ∷ xs) p s c =
+    let a : x ≡ e (n % b) (n / b + w (n % b)) = c 0 (omega arith)
+    ∙ ap (λ i. e (i % b) (i / b + w (i % b))) (add-zero n) in
+    subst (λ (k : ℕ). Stands b w e k (after_all b (after_byte b v x) xs)) (sym (omega arith))
+    (Stands-all b w e (n + 1) (after_byte b v x) xs p (Stands-next b w e n v x p s a)
+    (λ j m. c (suc j) (omega arith) ∙ ap (λ i. e (i % b) (i / b + w (i % b))) (omega arith)))
 
 -- each byte that leaves
 pub leaving_all_is : (b : ℕ) (w : ℕ → ℕ) (e : ℕ → ℕ → ℕ) (n : ℕ) (v : Branching) (xs : List ℕ) → 0 < b
@@ -180,11 +171,8 @@ leaving_all_is b w e n v (x ∷ xs) p s c (suc k) l =
     let a : x ≡ e (n % b) (n / b + w (n % b)) = c 0 (omega arith)
     ∙ ap (λ i. e (i % b) (i / b + w (i % b))) (add-zero n) in
     leaving_all_is b w e (n + 1) (after_byte b v x) xs p (Stands-next b w e n v x p s a)
-    (λ j m'. c (suc j) (omega arith) ∙ ap (λ i. e (i % b) (i / b + w (i % b))) (further n j)) k (omega arith)
-    ∙ ap (λ i. e (i % b) (i / b)) (sym (further n k))
-  where
-    further : (n j : ℕ) → n + suc j ≡ n + 1 + j
-    further n j = omega arith
+    (λ j m'. c (suc j) (omega arith) ∙ ap (λ i. e (i % b) (i / b + w (i % b))) (omega arith)) k (omega arith)
+    ∙ ap (λ i. e (i % b) (i / b)) (sym (omega arith))
 
 -- ---- from an aligned value
 
@@ -211,13 +199,10 @@ arrives : (b : ℕ) (w : ℕ → ℕ) (v : Branching) (x : List ℕ) (n : ℕ)
     → get_or x n 0 ≡ stream b w v x (n % b) (n / b + w (n % b))
 unfolding stream
 arrives b w v x n =
-    ap (λ i. get_or x i 0) (place_is b n ∙ ap (λ q. q * b + n % b) (back (n / b) (w (n % b))))
+    ap (λ i. get_or x i 0) (sym (div-add-mod' n b) ∙ ap (λ q. q * b + n % b) (omega arith))
     ∙ sym (cond-false (nat_lt (n / b + w (n % b)) (w (n % b)))
     (get_or (get_or v.lists (n % b) []) (n / b + w (n % b)) 0)
     (get_or x ((n / b + w (n % b) - w (n % b)) * b + n % b) 0) (le-ltb (n / b + w (n % b)) (w (n % b)) (omega arith)))
-  where
-    back : (q d : ℕ) → q ≡ q + d - d
-    back q d = omega arith
 
 zero_div : (b : ℕ) → 0 < b → (0 ≡ 0 / b) × (0 ≡ 0 % b)
 zero_div b p = (omega arith, omega arith)
@@ -229,11 +214,8 @@ aligned_gives b w v xs p s a n l =
     let z : (0 ≡ 0 / b) × (0 ≡ 0 % b) = zero_div b p in
     leaving_all_is b w (stream b w v xs) 0 v xs p
     (a ∙ z.1, subst₂ (λ (q r : ℕ). Holds b w (stream b w v xs) q r v.lists) z.0 z.1 (aligned_holds b w v xs s))
-    (λ j i. ap (λ (x : ℕ). get_or xs x 0) (zero_add j) ∙ arrives b w v xs (0 + j)) n l
-    ∙ ap (λ i. stream b w v xs (i % b) (i / b)) (sym (zero_add n))
-  where
-    zero_add : (i : ℕ) → i ≡ 0 + i
-    zero_add i = omega arith
+    (λ j i. ap (λ (x : ℕ). get_or xs x 0) (omega arith) ∙ arrives b w v xs (0 + j)) n l
+    ∙ ap (λ i. stream b w v xs (i % b) (i / b)) (sym (omega arith))
 
 -- where its source has come
 pub stream_come : (b : ℕ) (w : ℕ → ℕ) (v : Branching) (x : List ℕ) (i k : ℕ) → w i ≤ k

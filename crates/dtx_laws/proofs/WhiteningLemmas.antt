@@ -1,11 +1,12 @@
 -- What whitening keeps.
-use Rattle.std.proofs.Common.{◌≡◌, ℕ, zero, suc, ◌+◌, ◌<◌, List, [], ◌∷◌, length, get_or, sym, ap, ◌∙◌, subst, arith}
+use Rattle.std.proofs.Common.{◌≡◌, ℕ, ◌+◌, ◌<◌, List, length, get_or, sym, ap, ◌∙◌, subst, arith}
 use Rattle.std.proofs.Common.{bit_xor}
 use Rattle.std.specs.Int.Bits.{xor_assoc, xor_self, xor_zero_r, xor_lt}
 use Rattle.std.proofs.lemmas.List.FromFn.{fill_by_all, length-map-range_with_len, get_or-map-range_with_len}
 use Rattle.dtx_galois.specs.Field.{AreBytes}
 use Rattle.dtx_galois.proofs.BytesLemmas.{AreBytes-from_places}
 use Rattle.dtx_laws.specs.Whitening.{whitened}
+use Rattle.dtx_laws.proofs.PartsLemmas.{byte_at}
 
 pub length-whitened : (white head : List ℕ) (from : ℕ) → length (whitened white from head) ≡ length head
 unfolding whitened
@@ -26,12 +27,6 @@ pub whitened_by : (white : List ℕ) (from : ℕ) (head new : List ℕ) → leng
 unfolding whitened
 whitened_by white from head new l h =
     fill_by_all (λ j. bit_xor (get_or head j 0) (get_or white (from + j) 0)) new (length head) 0 l h
-
--- a byte of the list, or 0 past its end
-byte_at : (xs : List ℕ) (i : ℕ) → AreBytes xs → get_or xs i 0 < 256
-byte_at [] i b = omega arith
-byte_at (x ∷ xs) zero b = b.0
-byte_at (x ∷ xs) (suc i) b = byte_at xs i b.1
 
 pub bytes_whitened : (white head : List ℕ) (from : ℕ) → AreBytes white → AreBytes head
     → AreBytes (whitened white from head)

@@ -1,7 +1,7 @@
 -- The codeword of given data and the correction of a word, as functions: the first that fits among all lists of bytes.
 -- Nothing computes them: the laws say what they are.
-use Rattle.std.specs.Prelude.{ℕ, ◌-◌, ◌*◌, ◌==◌, nat_le, Bool, ◌&&◌, Option, List, [], ◌∷◌, ◌++◌, map, unwrap_or}
-use Rattle.std.specs.Prelude.{drop, replicate, take}
+use Rattle.std.specs.Prelude.{ℕ, ◌-◌, ◌*◌, ◌==◌, nat_le, Bool, ◌&&◌, Option, List, [], ◌∷◌, ◌++◌, map, unwrap_or, drop}
+use Rattle.std.specs.Prelude.{replicate, take}
 use Rattle.std.proofs.Common.{zero, suc}
 use Rattle.std.specs.List.{range_with_len, flat_map, list_all, find}
 use Rattle.dtx_galois.specs.Field.{pow, value}

@@ -53,8 +53,7 @@ pub none_given : (n k b m : ℕ) (e : Kept) (v : Branching) (y ys : List ℕ) (a
     → StandsFor n k b m (record e { branches = after_all b v (take a ys) }) (y ++ take a ys)
 unfolding after_all
 none_given n k b m e v y ys a z s =
-    subst (λ i. StandsFor n k b m (record e { branches = after_all b v (take i ys) }) (y ++ take i ys)) (sym z)
-    (subst (StandsFor n k b m (record e { branches = v })) (sym (append-nil y)) s)
+    rw z (subst (StandsFor n k b m (record e { branches = v })) (sym (append-nil y)) s)
 
 -- those up to a place have, and then those up to another
 pub more_given : (n k b m : ℕ) (e : Kept) (v : Branching) (y ys : List ℕ) (a c d : ℕ) → a + c ≡ d
@@ -62,9 +61,7 @@ pub more_given : (n k b m : ℕ) (e : Kept) (v : Branching) (y ys : List ℕ) (a
     ((y ++ take a ys) ++ take c (drop a ys))
     → StandsFor n k b m (record e { branches = after_all b v (take d ys) }) (y ++ take d ys)
 more_given n k b m e v y ys a c d p s =
-    subst (λ zs. StandsFor n k b m (record e { branches = after_all b v zs }) (y ++ zs)) more
-    (subst (λ w. StandsFor n k b m (record e { branches = w }) (y ++ (take a ys ++ take c (drop a ys))))
-    (sym (after_append b v (take a ys) (take c (drop a ys))))
+    rw (← more) (rw (after_append b v (take a ys) (take c (drop a ys)))
     (subst (StandsFor n k b m (record e { branches = after_all b (after_all b v (take a ys)) (take c (drop a ys)) }))
     (append_assoc y (take a ys) (take c (drop a ys))) s))
   where
@@ -78,7 +75,7 @@ pub all_given : (n k b m : ℕ) (e : Kept) (v : Branching) (y ys : List ℕ) (a 
     → StandsFor n k b m e (y ++ ys)
 all_given n k b m e v y ys a l eb s =
     caught_up n k b m e (after_all b v ys) (y ++ ys) eb
-    (subst (λ zs. StandsFor n k b m (record e { branches = after_all b v zs }) (y ++ zs)) (take_all a ys l) s)
+    (rw (← take_all a ys l) s)
 
 -- ---- four blocks of more
 
@@ -88,23 +85,16 @@ pub taken_of_four : (n k b m : ℕ) (white y ys old new : List ℕ) (taken : Tak
     (take n (drop (n * p) (take (n * 4) (drop (n * 4 * q) ys)))) old new taken
     → IsTaken n k b m white (y ++ take (n * (4 * q + p)) ys) (take n (drop (n * (4 * q + p)) ys)) old new taken
 taken_of_four n k b m white y ys old new taken q p l t =
-    subst (λ xs. IsTaken n k b m white (y ++ take (n * (4 * q + p)) ys) xs old new taken) block
-    (subst (λ xs. IsTaken n k b m white xs (take n (drop (n * p) (take (n * 4) (drop (n * 4 * q) ys)))) old new taken)
-    before t)
+    rw (← block)
+    (rw (← before) t)
   where
     at : n * (4 * q + p) ≡ n * 4 * q + n * p
     at = grind arith
 
     within : n * p + n ≤ n * 4
     within = let f : n * (p + 1) ≡ n * p + n = grind arith in
-        let g : n * (p + 1) ≤ n * 4 = mul-le-mul_left n upto in
+        let g : n * (p + 1) ≤ n * 4 = mul-le-mul_left n (omega (arith, l)) in
         omega (arith, f, g)
-      where
-        upto : p + 1 ≤ 4
-        upto = omega (arith, l)
-
-    rest : n * 4 ≡ n * p + (n * 4 - n * p)
-    rest = omega (arith, within)
 
     before : (y ++ take (n * 4 * q) ys) ++ take (n * p) (take (n * 4) (drop (n * 4 * q) ys))
         ≡ y ++ take (n * (4 * q + p)) ys
@@ -116,16 +106,7 @@ taken_of_four n k b m white y ys old new taken q p l t =
 
     block : take n (drop (n * p) (take (n * 4) (drop (n * 4 * q) ys))) ≡ take n (drop (n * (4 * q + p)) ys)
     block =
-        ap (λ i. take n (drop (n * p) (take i (drop (n * 4 * q) ys)))) rest
+        ap (λ i. take n (drop (n * p) (take i (drop (n * 4 * q) ys)))) (omega (arith, within))
         ∙ ap (take n) (drop-take (n * p) (n * 4 - n * p) (drop (n * 4 * q) ys))
         ∙ take-take n (n * 4 - n * p) (drop (n * p) (drop (n * 4 * q) ys)) (omega (arith, within))
         ∙ ap (take n) (drop-drop (n * p) (n * 4 * q) ys ∙ ap (λ i. drop i ys) (sym at))
-
--- where the next four stand
-pub four_within : (n q count : ℕ) → q < count → n * 4 * q + n * 4 ≤ n * 4 * count
-four_within n q count l = let f : n * 4 * (q + 1) ≡ n * 4 * q + n * 4 = grind arith in
-    let g : n * 4 * (q + 1) ≤ n * 4 * count = mul-le-mul_left (n * 4) upto in
-    omega (arith, f, g)
-  where
-    upto : q + 1 ≤ count
-    upto = omega (arith, l)

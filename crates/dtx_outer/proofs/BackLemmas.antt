@@ -1,11 +1,11 @@
 -- Words near the codeword of a packet's data.
-use Rattle.std.proofs.Common.{◌≡◌, ℕ, ◌+◌, ◌-◌, ◌*◌, ◌<◌, ◌≤◌, Some, List, length, take, ap, ◌∙◌, sym, subst}
+use Rattle.std.proofs.Common.{◌≡◌, ℕ, ◌+◌, ◌-◌, ◌*◌, ◌<◌, ◌≤◌, Some, List, length, take, ap, ◌∙◌, sym}
 use Rattle.dtx_galois.specs.Field.{AreBytes}
 use Rattle.dtx_laws.specs.Codeword.{IsCodeword, IsCorrection, distance}
 use Rattle.dtx_laws.specs.Whitening.{whitened}
 use Rattle.dtx_laws.specs.Words.{correction}
-use Rattle.dtx_laws.proofs.ChoiceLemmas.{codeword_is, codeword_begins, codeword_length, codeword_only}
-use Rattle.dtx_laws.proofs.ChoiceLemmas.{correction_is, correction_only}
+use Rattle.dtx_laws.proofs.ChoiceLemmas.{codeword_is, codeword_begins, codeword_length, codeword_only, correction_is}
+use Rattle.dtx_laws.proofs.ChoiceLemmas.{correction_only}
 use Rattle.dtx_laws.proofs.WhiteningLemmas.{length-whitened, bytes_whitened, whitened_twice}
 use Rattle.dtx_outer.specs.Outer.{coded}
 
@@ -61,4 +61,4 @@ near_if_corrected n k white from head word code h e back = (own, near)
         (bytes_whitened white head from h.whitener h.bytes) correct.codeword begins
 
     near : 2 * distance word (coded n k white from head) ≤ n - k
-    near = subst (λ (c : List ℕ). 2 * distance word c ≤ n - k) own correct.near
+    near = rw (← own) correct.near

@@ -1,5 +1,5 @@
 -- The outer coding of packets that follow each other.
-use Rattle.std.proofs.Common.{◌≡◌, ℕ, suc, ◌+◌, ◌-◌, ◌*◌, ◌/◌, ◌%◌, ◌<◌, ◌≤◌, List, [], ◌∷◌, ◌++◌, drop, length, get_or}
+use Rattle.std.proofs.Common.{◌≡◌, ℕ, suc, ◌+◌, ◌*◌, ◌/◌, ◌%◌, ◌<◌, ◌≤◌, List, [], ◌∷◌, ◌++◌, drop, length, get_or}
 use Rattle.std.proofs.Common.{map, refl, sym, take, ap, ap₂, ◌∙◌, arith, mul-le-mul_left}
 use Rattle.std.specs.List.{concat, enumerate_from}
 use Rattle.std.proofs.Math.Nat.{mod-eq_of_lt}
@@ -44,11 +44,8 @@ length-joined n k white s (x ∷ xs) m h =
     let rest : length (concat (codewords n k white (s + 1) xs)) ≡ n * length xs =
     length-joined n k white (s + 1) xs m (λ i l. h (suc i) (omega arith)) in
     length-append (coded_as n k white s x) (concat (codewords n k white (s + 1) xs))
-    ∙ ap₂ ◌+◌ (length-coded n k white _ x ∙ whole first) rest ∙ more (length xs)
+    ∙ ap₂ ◌+◌ (length-coded n k white _ x ∙ omega arith) rest ∙ more (length xs)
   where
-    whole : length x ≡ k → length x + (n - k) ≡ n
-    whole e = omega arith
-
     more : (l : ℕ) → n + n * l ≡ n * suc l
     more l = grind arith
 
@@ -83,34 +80,25 @@ after_more b v (x ∷ xs) call = after_more b (after_all b v x) xs call
 -- a packet of the whitener's period
 pub packet_within : (k place period : ℕ) → 0 < k → place < period / k → k * place + k ≤ period
 packet_within k place period some l =
-    let m : k * (place + 1) ≤ k * (period / k) = mul-le-mul_left k (upto l) in
+    let m : k * (place + 1) ≤ k * (period / k) = mul-le-mul_left k (omega arith) in
     let f : k * (place + 1) ≡ k * place + k = grind arith in
     omega (arith, m, f, some)
-  where
-    upto : place < period / k → place + 1 ≤ period / k
-    upto l = omega arith
 
 -- ---- four packets at once
 
 -- word p of four, and its front
 pub front_within : (n k p long : ℕ) → k ≤ n → p < 4 → long ≡ n * 4 → n * p + k ≤ long
 front_within n k p long few l e =
-    let m : n * (p + 1) ≤ n * 4 = mul-le-mul_left n (upto l) in
+    let m : n * (p + 1) ≤ n * 4 = mul-le-mul_left n (omega arith) in
     let f : n * (p + 1) ≡ n * p + n = grind arith in
     omega (arith, e, f, m, few)
-  where
-    upto : p < 4 → p + 1 ≤ 4
-    upto l = omega arith
 
 -- the bytes by which packet p of them is whitened are those of one packet of the period
 pub white_within : (k place period p : ℕ) → k * (place + 4) ≤ period → p < 4 → k * (place + p) + k ≤ period
 white_within k place period p h l =
-    let m : k * (place + p + 1) ≤ k * (place + 4) = mul-le-mul_left k (upto l) in
+    let m : k * (place + p + 1) ≤ k * (place + 4) = mul-le-mul_left k (omega arith) in
     let f : k * (place + p + 1) ≡ k * (place + p) + k = grind arith in
     omega (arith, f, m, h)
-  where
-    upto : p < 4 → place + p + 1 ≤ place + 4
-    upto l = omega arith
 
 pub place_small : (k place period p : ℕ) → 0 < k → k * (place + 4) ≤ period → p < 4 → place + p ≤ period
 place_small k place period p some h l =

@@ -1,16 +1,35 @@
 -- What is made of the words of a run, as more of its bytes come.
-use Rattle.std.proofs.Common.{◌≡◌, ℕ, ◌+◌, ◌-◌, ◌*◌, ◌/◌, ◌%◌, ◌<◌, ◌≤◌, ◌⊎◌, inl, inr, List, [], ◌∷◌, ◌++◌, map}
-use Rattle.std.proofs.Common.{length, sym, ap, ap₂, ◌∙◌, arith, mul-le-mul_left, div-add-mod'}
+use Rattle.std.proofs.Common.{◌≡◌, ℕ, ◌+◌, ◌-◌, ◌*◌, ◌/◌, ◌%◌, ◌<◌, ◌≤◌, ◌⊎◌, inl, inr, List, [], ◌∷◌, ◌++◌, map, Some}
+use Rattle.std.proofs.Common.{None as Absent, take, length, sym, ap, ap₂, ◌∙◌, arith, mul-le-mul_left, div-add-mod'}
 use Rattle.std.specs.List.{range_with_len}
 use Rattle.std.proofs.lemmas.Bool.{cases_lt}
 use Rattle.std.proofs.lemmas.Nat.{div-mul-add}
 use Rattle.std.proofs.lemmas.List.{length-append, append-nil, map-append}
 use Rattle.dtx_lists.proofs.Range.{range_with_len-parts, map-range_same}
+use Rattle.dtx_laws.specs.Codeword.{distance}
+use Rattle.dtx_laws.specs.Whitening.{whitened}
+use Rattle.dtx_laws.specs.Words.{correction}
 use Rattle.dtx_outer.specs.Inner.{waiting, word_at, IsTaken, Gives}
-use Rattle.dtx_outer.specs.Made.{made_in, IsTold}
 use Rattle.dtx_outer.proofs.WordsLemmas.{word_stays, complete_then, length-word, good_data, bad_data}
 use Rattle.dtx_outer.specs.declared.inner.Taken.{Taken}
 use Rattle.dtx_outer.specs.declared.inner.Taken.TheVariants.{None, Good, Bad}
+
+-- What `make` makes of each word of a run, given the word's number. The run has given the bytes y. It has as many words
+-- as blocks of n bytes, less those that give no packet.
+abbrev pub made_in : {X : Type 0} (n b m : ℕ) (make : ℕ → List ℕ → X) (y : List ℕ) → List X
+made_in n b m make y = map (λ k. make k (word_at n b m y k)) (range_with_len 0 (length y / n - waiting n b m))
+
+-- What `make` makes of a word follows from what the word's block gave, by `told`. A block gives the data of the word's
+-- correction, and how many bytes that changes. Where the word has no correction, it gives the word's own data. They are
+-- unwhitened as packet j of a stream.
+pub record IsTold {X : Type 0} (n k : ℕ) (white : List ℕ) (make : ℕ → List ℕ → X) (told : Taken → List ℕ → List X)
+    : Type 0 where
+  pub nothing : (out : List ℕ) → told None out ≡ []
+  pub good : (j : ℕ) (word code : List ℕ) → correction n k word ≡ Some code
+      → told (Good (distance word code)) (whitened white (k * (j % (length white / k))) (take k code))
+      ≡ make j word ∷ []
+  pub bad : (j : ℕ) (word : List ℕ) → correction n k word ≡ Absent
+      → told Bad (whitened white (k * (j % (length white / k))) (take k word)) ≡ make j word ∷ []
 
 -- ---- as more bytes come
 
@@ -46,7 +65,7 @@ pub made_more : {X : Type 0} (n b m : ℕ) (make : ℕ → List ℕ → X) (y z 
     → made_in n b m make (y ++ z) ≡ made_in n b m make y ++ next_in n b m make (y ++ z) s u
 made_more {X} n b m make y z s u p q e f =
     ap (λ i. map each (range_with_len 0 (i - w))) f
-    ∙ ap (λ i. map each (range_with_len 0 i)) whole
+    ∙ ap (λ i. map each (range_with_len 0 i)) (omega arith)
     ∙ ap (map each) (range_with_len-parts 0 (s - w) (s + u - w - (s - w)))
     ∙ map-append each (range_with_len 0 (s - w)) (range_with_len (0 + (s - w)) (s + u - w - (s - w)))
     ∙ ap₂ (λ (xs : List X) (a : ℕ). xs ++ map each (range_with_len a (s + u - w - (s - w))))
@@ -57,9 +76,6 @@ made_more {X} n b m make y z s u p q e f =
 
     each : ℕ → X
     each k = make k (word_at n b m (y ++ z) k)
-
-    whole : s + u - w ≡ s - w + (s + u - w - (s - w))
-    whole = omega arith
 
     from : 0 + (s - w) ≡ s - w
     from = omega arith

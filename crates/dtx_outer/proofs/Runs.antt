@@ -1,8 +1,7 @@
 -- A run, block by block: the word that a block completes, and what is kept.
 use Rattle.std.proofs.Common.{◌≡◌, ℕ, ◌+◌, ◌-◌, ◌*◌, ◌/◌, ◌%◌, ◌<◌, ◌≤◌, ◌⊎◌, ◌==◌, inl, inr, cond, Bool, true, false}
-use Rattle.std.proofs.Common.{List, [], ◌∷◌, ◌++◌, length, get_or, take, drop, refl, sym, ap, ap₂, ◌∙◌, arith}
-use Rattle.std.proofs.Common.{zero, suc, subst}
-use Rattle.std.proofs.Common.{mul-le-mul_left, div-add-mod'}
+use Rattle.std.proofs.Common.{List, [], ◌∷◌, ◌++◌, length, get_or, take, drop, refl, sym, ap, ap₂, ◌∙◌, arith, zero}
+use Rattle.std.proofs.Common.{suc, subst, mul-le-mul_left, div-add-mod'}
 use Rattle.std.proofs.lemmas.Bool.{cases_lt, eqb-true, eqb-false}
 use Rattle.std.proofs.lemmas.Nat.{div-mul-add, mod-mul-add, mod_below}
 use Rattle.std.proofs.lemmas.List.{get_or_append_left, get_or-append_right, get_or-take, get_or-drop, drop_at}
@@ -64,7 +63,8 @@ word_is n b m k g y bs p i s z ly lb =
     (completing n b m) n j first second within l
     ∙ ap (λ zs. get_or zs (n * (waiting n b m + k - 1) + completing n b m + j) 0) (sym (leaving_append b g y bs))
     ∙ ap (λ i. get_or (leaving_all b g (y ++ bs)) i 0) (at j)
-    ∙ gathers_word b m g (y ++ bs) (n * k + j) (omega (arith, s.next)) s z (inside j l))
+    ∙ gathers_word b m g (y ++ bs) (n * k + j) (omega (arith, s.next)) s z
+    (omega (arith, at j, length-append y bs, ly, lb, last, one, within)))
   where
     some : 1 ≤ waiting n b m
     some = waiting_some n b m p i
@@ -104,9 +104,6 @@ word_is n b m k g y bs p i s z ly lb =
     at : (j : ℕ) → n * (waiting n b m + k - 1) + completing n b m + j ≡ n * k + j + b * m * (b - 1)
     at j = omega (arith, split, completing_is n b m p i)
 
-    inside : (j : ℕ) → j < n → n * k + j + b * m * (b - 1) < length (y ++ bs)
-    inside j l = omega (arith, at j, length-append y bs, ly, lb, last, one, within, l)
-
 -- ---- how many blocks have come
 
 blocks_are : (n a c : ℕ) → 0 < n → n * a ≡ n * c → a ≡ c
@@ -116,23 +113,19 @@ blocks_are n a c p e = sym (whole a) ∙ ap (λ i. i / n) e ∙ whole c
     whole i = let f : n * i ≡ i * n + 0 = grind arith in ap (λ j. j / n) f ∙ div-mul-add i n 0 p
 
 less_blocks : (n a c : ℕ) → a < c → 0 < n → n * a < n * c
-less_blocks n a c l p = let h : n * (a + 1) ≤ n * c = mul-le-mul_left n k in let f : n * (a + 1) ≡ n * a + n =
-    grind arith in omega (arith, h, f, p)
-  where
-    k : a + 1 ≤ c
-    k = omega arith
+less_blocks n a c l p =
+    let h : n * (a + 1) ≤ n * c = mul-le-mul_left n (omega arith) in
+    let f : n * (a + 1) ≡ n * a + n = grind arith in
+    omega (arith, h, f, p)
 
 pub none_or_packet : (n k b m : ℕ) (inner : Kept) (y : List ℕ) → 0 < n → StandsFor n k b m inner y
     → (length y < n * waiting n b m) ⊎ ((j : ℕ) × (length y ≡ n * (waiting n b m + j)))
 none_or_packet n k b m inner y p s = by_cases (cases_lt s.blocks (waiting n b m))
   where
-    back : (c q : ℕ) → q ≤ c → c ≡ q + (c - q)
-    back c q h = omega arith
-
     by_cases : (s.blocks < waiting n b m) ⊎ (waiting n b m ≤ s.blocks) → (length y < n * waiting n b m)
         ⊎ ((j : ℕ) × (length y ≡ n * (waiting n b m + j)))
     by_cases (inl l) = inl (omega (arith, s.given, less_blocks n s.blocks (waiting n b m) l p))
-    by_cases (inr l) = inr (s.blocks - waiting n b m, s.given ∙ ap (λ i. n * i) (back s.blocks (waiting n b m) l))
+    by_cases (inr l) = inr (s.blocks - waiting n b m, s.given ∙ ap (λ i. n * i) (omega arith))
 
 -- while blocks are waited for
 pub still_waits : (n k b m j : ℕ) (d : Kept) (y : List ℕ) → 0 < n → StandsFor n k b m d y → 0 < d.waits
@@ -148,11 +141,9 @@ still_waits n k b m j d y p s h e = omega (
 -- and when none is
 pub waits_no_more : (n k b m : ℕ) (d : Kept) (y : List ℕ) → StandsFor n k b m d y → d.waits ≡ 0
     → length y < n * waiting n b m → ⊥
-waits_no_more n k b m d y s h l = let g : n * waiting n b m ≤ n * s.blocks = mul-le-mul_left n k' in
+waits_no_more n k b m d y s h l =
+    let g : n * waiting n b m ≤ n * s.blocks = mul-le-mul_left n (omega (arith, h, s.waits)) in
     omega (arith, g, s.given, l)
-  where
-    k' : waiting n b m ≤ s.blocks
-    k' = omega (arith, h, s.waits)
 
 -- ---- the packet
 
@@ -185,11 +176,8 @@ more_blocks n c y bs e f = length-append y bs ∙ (let h : n * (c + 1) ≡ n * c
 last_gathered : (n b c : ℕ) (g : Branching) (y bs : List ℕ) → length y ≡ n * c
     → leaving_all b (after_all b g y) bs ≡ drop (n * (c + 1 - 1)) (leaving_all b g (y ++ bs))
 last_gathered n b c g y bs e =
-    sym (ap (λ i. drop (n * i) (leaving_all b g (y ++ bs))) (back c) ∙ ap (drop (n * c)) (leaving_append b g y bs)
+    sym (ap (λ i. drop (n * i) (leaving_all b g (y ++ bs))) (omega arith) ∙ ap (drop (n * c)) (leaving_append b g y bs)
     ∙ drop_at (leaving_all b g y) (leaving_all b (after_all b g y) bs) (n * c) (length_leaving b g y ∙ e))
-  where
-    back : (c : ℕ) → c + 1 - 1 ≡ c
-    back c = omega arith
 
 place_next : (x count p : ℕ) → p ≡ x % count → (t : Bool) → (t ≡ true → p + 1 ≡ count) → (t ≡ false → p + 1 ≡ count → ⊥)
     → p < count → cond t 0 (p + 1) ≡ (x + 1) % count
@@ -204,50 +192,6 @@ place_next x count p e false f g l =
     let k : p + 1 ≡ count → ⊥ = g refl in
     let a : x + 1 ≡ x / count * count + (p + 1) = omega (arith, h, e) in
     sym (ap (λ i. i % count) a ∙ mod-mul-add (x / count) count (p + 1) (omega arith))
-
--- a block that gives no packet
-pub stands_waiting : (n k b m : ℕ) (d e : Kept) (y bs : List ℕ) → length bs ≡ n → StandsFor n k b m d y → 0 < d.waits
-    → e.white ≡ d.white → e.branches ≡ after_all b d.branches bs → e.before ≡ leaving_all b d.branches bs
-    → e.waits ≡ d.waits - 1 → e.place ≡ d.place
-    → StandsFor n k b m e (y ++ bs)
-stands_waiting n k b m d e y bs lb s h ew ev eb et ep = record {
-  start = s.start;
-  widths = s.widths;
-  aligned = s.aligned;
-  blocks = s.blocks + 1;
-  given = more_blocks n s.blocks y bs s.given lb;
-  branches = ev ∙ ap (λ v. after_all b v bs) s.branches ∙ sym (after_append b s.start y bs);
-  before = λ _. eb ∙ ap (λ v. leaving_all b v bs) s.branches ∙ last_gathered n b s.blocks s.start y bs s.given;
-  waits = omega (arith, et, s.waits);
-  place = ep ∙ s.place ∙ ap₂ (λ i (w : List ℕ). i % (length w / k)) same (sym ew);
-}
-  where
-    same : s.blocks - waiting n b m ≡ s.blocks + 1 - waiting n b m
-    same = omega (arith, s.waits, h)
-
--- a block that gives a packet
-pub stands_given : (n k b m : ℕ) (d e : Kept) (y bs : List ℕ) → length bs ≡ n → StandsFor n k b m d y → d.waits ≡ 0
-    → d.place < length d.white / k
-    → e.white ≡ d.white → e.branches ≡ after_all b d.branches bs → e.before ≡ leaving_all b d.branches bs
-    → e.waits ≡ d.waits
-    → e.place ≡ cond (d.place + 1 == length d.white / k) 0 (d.place + 1) → StandsFor n k b m e (y ++ bs)
-stands_given n k b m d e y bs lb s h l ew ev eb et ep = record {
-  start = s.start;
-  widths = s.widths;
-  aligned = s.aligned;
-  blocks = s.blocks + 1;
-  given = more_blocks n s.blocks y bs s.given lb;
-  branches = ev ∙ ap (λ v. after_all b v bs) s.branches ∙ sym (after_append b s.start y bs);
-  before = λ _. eb ∙ ap (λ v. leaving_all b v bs) s.branches ∙ last_gathered n b s.blocks s.start y bs s.given;
-  waits = omega (arith, et, s.waits, h);
-  place = ep ∙ place_next (s.blocks - waiting n b m) (length d.white / k) d.place s.place
-      (d.place + 1 == length d.white / k) (eqb-true (d.place + 1) (length d.white / k))
-      (eqb-false (d.place + 1) (length d.white / k)) l
-      ∙ ap₂ (λ i (w : List ℕ). i % (length w / k)) same (sym ew);
-}
-  where
-    same : s.blocks - waiting n b m + 1 ≡ s.blocks + 1 - waiting n b m
-    same = omega (arith, s.waits, h)
 
 -- the place at the start
 pub place_zero : (w count : ℕ) → 0 ≡ (0 - w) % count
@@ -273,7 +217,7 @@ start_stands n k b m d e h ev ew ep = record {
 
 -- one that gives no packet
 pub next_waiting : (k : ℕ) (d old : Kept) → d ≡ old → 0 < d.waits → IsNext k old (record d { waits = d.waits - 1 })
-next_waiting k d old e h = subst (λ (o : Kept). IsNext k o (record d { waits = d.waits - 1 })) e (record {
+next_waiting k d old e h = rw (← e) (record {
   white = refl;
   branches = refl;
   before = refl;
@@ -285,7 +229,7 @@ next_waiting k d old e h = subst (λ (o : Kept). IsNext k o (record d { waits = 
 -- and one that gives a packet
 pub next_given : (k count place : ℕ) (d old : Kept) → d ≡ old → d.waits ≤ 0 → count ≡ length d.white / k
     → place ≡ cond (d.place + 1 == count) 0 (d.place + 1) → IsNext k old (record d { place = place })
-next_given k count place d old e h c p = subst (λ (o : Kept). IsNext k o (record d { place = place })) e (record {
+next_given k count place d old e h c p = rw (← e) (record {
   white = refl;
   branches = refl;
   before = refl;
@@ -316,10 +260,8 @@ taken_next n k b m d y bs gathered old new taken p i lb s w f g = record {
         → Gives n k d.white (k * (j % (length d.white / k))) (word_at n b m (y ++ bs) j) new taken
     packet j e (inl h) = absurd (still_waits n k b m j d y p s h e)
     packet j e (inr h) =
-        subst (λ (x : ℕ). Gives n k d.white (k * x) (word_at n b m (y ++ bs) j) new taken)
-        (place_given n k b m j d y p s e)
-        (subst (λ (word : List ℕ). Gives n k d.white (k * d.place) word new taken)
-        (w ∙ word_given n k b m j d y bs p i lb s e) (g (omega (arith, h))))
+        rw (← place_given n k b m j d y p s e)
+        (rw (← (w ∙ word_given n k b m j d y bs p i lb s e)) (g (omega (arith, h))))
 
 -- a period has packets
 pub whole_packets : (n k b period : ℕ) → 0 < k → IsPeriod n k b period → 0 < period / k
@@ -336,18 +278,32 @@ pub stands_next : (n k b m period : ℕ) (d e : Kept) (y bs : List ℕ) → 0 < 
     → length d.white ≡ period → length bs ≡ n → StandsFor n k b m d y
     → IsNext k (record d { branches = after_all b d.branches bs; before = leaving_all b d.branches bs }) e
     → StandsFor n k b m e (y ++ bs)
-stands_next n k b m period d e y bs p h w lb s x = by_cases (cases_lt 0 d.waits)
+stands_next n k b m period d e y bs p h w lb s x = record {
+  start = s.start;
+  widths = s.widths;
+  aligned = s.aligned;
+  blocks = s.blocks + 1;
+  given = more_blocks n s.blocks y bs s.given lb;
+  branches = x.branches ∙ ap (λ v. after_all b v bs) s.branches ∙ sym (after_append b s.start y bs);
+  before = λ _. x.before ∙ ap (λ v. leaving_all b v bs) s.branches ∙ last_gathered n b s.blocks s.start y bs s.given;
+  waits = omega (arith, x.waits, s.waits);
+  place = place (cases_lt 0 d.waits)
+      ∙ ap (λ (u : List ℕ). (s.blocks + 1 - waiting n b m) % (length u / k)) (sym x.white);
+}
   where
     count : 0 < length d.white / k
     count = omega (arith, ap (λ i. i / k) w, whole_packets n k b period p h)
 
-    within : d.place < length d.white / k
-    within = omega (arith, s.place, mod_below (s.blocks - waiting n b m) (length d.white / k) count)
-
-    by_cases : (0 < d.waits) ⊎ (d.waits ≤ 0) → StandsFor n k b m e (y ++ bs)
-    by_cases (inl l) = stands_waiting n k b m d e y bs lb s l x.white x.branches x.before x.waits (x.waiting l)
-    by_cases (inr l) = let z : d.waits ≡ 0 = omega (arith, l) in
-        stands_given n k b m d e y bs lb s z within x.white x.branches x.before (omega (arith, x.waits, z)) (x.given z)
+    place : (0 < d.waits) ⊎ (d.waits ≤ 0) → e.place ≡ (s.blocks + 1 - waiting n b m) % (length d.white / k)
+    place (inl l) = x.waiting l ∙ s.place ∙ ap (λ i. i % (length d.white / k)) (omega (arith, s.waits, l))
+    place (inr l) =
+        let within : d.place < length d.white / k =
+        omega (arith, s.place, mod_below (s.blocks - waiting n b m) (length d.white / k) count) in
+        x.given (omega (arith, l))
+        ∙ place_next (s.blocks - waiting n b m) (length d.white / k) d.place s.place
+        (d.place + 1 == length d.white / k) (eqb-true (d.place + 1) (length d.white / k))
+        (eqb-false (d.place + 1) (length d.white / k)) within
+        ∙ ap (λ i. i % (length d.white / k)) (omega (arith, s.waits, l))
 
 -- ---- parts of what leaves
 
@@ -484,11 +440,8 @@ between_last n k b m d e y bytes p q l eb ev s = at_last (subst (λ j. StandsFor
 pub block_long : (n p : ℕ) (bytes : List ℕ) → length bytes ≡ n * 4 → p < 4 → length (take n (drop (n * p) bytes)) ≡ n
 block_long n p bytes l h =
     let f : n * (p + 1) ≡ n * p + n = grind arith in
-    let g : n * (p + 1) ≤ n * 4 = mul-le-mul_left n (upto h) in
+    let g : n * (p + 1) ≤ n * 4 = mul-le-mul_left n (omega arith) in
     length-take-le n (drop (n * p) bytes) (omega (arith, length-drop (n * p) bytes, l, f, g))
-  where
-    upto : p < 4 → p + 1 ≤ 4
-    upto h = omega arith
 
 -- one element more of two lists that are set from their fronts on
 pub set_further : {A B : Type 0} (xs : List A) (ys : List B) (i : ℕ) (x d : A) (y e : B) (P : ℕ → A → B → Type 0)
@@ -503,8 +456,7 @@ set_further xs ys i x d y e P lx ly before here j h = by_cases (cases_lt j i)
         (subst (P j (get_or xs j d)) (sym (get_or-set_other ys i j y e other)) (before j k))
     by_cases (inr k) =
         let q : i ≡ j = omega (arith, h, k) in
-        subst (λ r. P r (get_or (set xs i x) r d) (get_or (set ys i y) r e)) q
-        (subst (λ a. P i a (get_or (set ys i y) i e)) (sym (get_or-set_same xs i x d lx))
+        rw (← q) (subst (λ a. P i a (get_or (set ys i y) i e)) (sym (get_or-set_same xs i x d lx))
         (subst (P i x) (sym (get_or-set_same ys i y e ly)) here))
 
 -- four elements that are set one after the other

@@ -113,11 +113,8 @@ waiting_some n b m p h = by_cases (cases_lt 0 (waiting n b m))
         absurd (omega (arith, z, y, delay_some b m h, waiting_covers n b m p))
 
 last_block : (n q : ℕ) → 1 ≤ q → n * q ≡ n * (q - 1) + n
-last_block n q l = ap (λ i. n * i) (back q l) ∙ more (q - 1)
+last_block n q l = ap (λ i. n * i) (omega arith) ∙ more (q - 1)
   where
-    back : (q : ℕ) → 1 ≤ q → q ≡ q - 1 + 1
-    back q l = omega arith
-
     more : (i : ℕ) → n * (i + 1) ≡ n * i + n
     more i = grind arith
 

@@ -1,4 +1,3 @@
 pub mod Outer
 pub mod Coding
 pub mod Inner
-pub mod Made

@@ -187,12 +187,8 @@ same_runs : (s more run new : List (List ℤ)) → (tracked s).run ≡ Some run
 unfolding runs
 same_runs s more run new e f =
     ap (λ (t : Tracked). length (t.ended ++ option_to_list t.run)) f
-    ∙ one_of (tracked s).ended new run
+    ∙ omega (arith, length_push (tracked s).ended new, length_push (tracked s).ended run)
     ∙ ap (λ (o : Option (List (List ℤ))). length ((tracked s).ended ++ option_to_list o) + 0) (sym e)
-  where
-    one_of : (ended : List (List (List ℤ))) (a b : List (List ℤ))
-        → length (ended ++ a ∷ []) ≡ length (ended ++ b ∷ []) + 0
-    one_of ended a b = omega (arith, length_push ended a, length_push ended b)
 
 pub step_all : {D : Type 0} {Holds : D → List (List ℤ) → Type 0} {whole early given all : Packets}
     (w : IsDecoder Holds whole early given all) (s xs : List (List ℤ)) (p q : Option ℕ) (d new : D)
@@ -206,11 +202,8 @@ step_all {D} {Holds} {whole} {early} w s xs p q d new place brought h e z l f k 
     let c : AreCarried Holds early xs new o.run brought = k o.run o.holds o.place_is in
     record {
       stands = stands_some Holds q new (s ++ xs) (o.run ++ xs) (ap (λ (u : Tracked). u.run) t)
-          (f ∙ ap Some (behind (length o.run) (length xs) o.place_is
+          (f ∙ ap Some (omega (arith, o.place_is)
           ∙ ap (λ n. n % 313) (sym (length-append o.run xs)))) c.holds;
       packets = given_further w.packets s (s ++ xs) o.run (o.run ++ xs) brought o.is t c.packets;
       runs = same_runs s (s ++ xs) o.run (o.run ++ xs) o.is t;
     }
-  where
-    behind : (n m : ℕ) → n % 313 ≡ place → (place + m) % 313 ≡ (n + m) % 313
-    behind n m i = omega (arith, i)

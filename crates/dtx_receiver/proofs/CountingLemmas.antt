@@ -1,7 +1,7 @@
 -- Runs and packets with one segment more, and at the end of a list.
-use Rattle.std.proofs.Common.{◌≡◌, ◌≢◌, ℕ, ℤ, ◌+◌, ◌*◌, ◌/◌, ◌%◌, ◌<◌, ◌⊎◌, Bool, true, false, Option, Some}
-use Rattle.std.proofs.Common.{None, List, [], ◌∷◌, ◌++◌, length, map, take, drop, refl, sym, ap, ap₂, ◌∙◌}
-use Rattle.std.proofs.Common.{append_assoc, inl, inr, arith}
+use Rattle.std.proofs.Common.{◌≡◌, ◌≢◌, ℕ, ℤ, ◌+◌, ◌*◌, ◌/◌, ◌%◌, ◌<◌, ◌⊎◌, Bool, true, false, Option, Some, None, List}
+use Rattle.std.proofs.Common.{[], ◌∷◌, ◌++◌, length, map, take, drop, refl, sym, ap, ap₂, ◌∙◌, append_assoc, inl, inr}
+use Rattle.std.proofs.Common.{arith}
 use Rattle.std.specs.Prelude.{option_to_list}
 use Rattle.std.specs.List.{range_with_len}
 use Rattle.std.proofs.lemmas.Bool.{cases_eq}
@@ -125,13 +125,11 @@ bytes_front f y z = (
     long : length front ≡ 3312 * u
     long = length-take-le (3312 * u) y (omega arith)
 
-    short : length rest < 3312
-    short = omega (arith, length-drop (3312 * u) y)
-
     own : bytes_back 0 f y ≡ bytes_back 0 f front
     own =
         ap (bytes_back 0 f) (sym parts) ∙ bytes_append 0 u f front rest long
-        ∙ ap (λ xs. bytes_back 0 f front ++ xs) (none_back (group_place 0 u) new rest short)
+        ∙ ap (λ xs. bytes_back 0 f front ++ xs) (none_back (group_place 0 u) new rest
+        (omega (arith, length-drop (3312 * u) y)))
         ∙ append-nil (bytes_back 0 f front)
 
     there : bytes_back 0 f (y ++ z) ≡ bytes_back 0 f y ++ bytes_back (group_place 0 u) new (rest ++ z)

@@ -1,15 +1,13 @@
 -- The packets of a run by how many data segments are in whole groups: those that are given while it is on, and the last
 -- one.
-use Rattle.std.proofs.Common.{◌≡◌, ◌≢◌, ℕ, ◌+◌, ◌-◌, ◌*◌, ◌/◌, ◌%◌, ◌<◌, ◌≤◌, ◌⊎◌}
-use Rattle.std.proofs.Common.{List, [], ◌∷◌, ◌++◌, map, length, take, drop}
-use Rattle.std.proofs.Common.{refl, sym, ap, ap₂, ◌∙◌, subst, inl, inr, arith, lit<}
+use Rattle.std.proofs.Common.{◌≡◌, ◌≢◌, ℕ, ◌+◌, ◌-◌, ◌*◌, ◌/◌, ◌%◌, ◌<◌, ◌≤◌, ◌⊎◌, List, [], ◌∷◌, ◌++◌, map, length}
+use Rattle.std.proofs.Common.{take, drop, refl, sym, ap, ap₂, ◌∙◌, subst, inl, inr, arith, lit<}
 use Rattle.std.specs.List.{filter, range_with_len}
 use Rattle.std.proofs.lemmas.Bool.{cases_eq, cases_lt}
 use Rattle.std.proofs.lemmas.List.{length-append, append-nil, map-append, append_assoc, length-take-le}
 use Rattle.std.proofs.lemmas.List.{take-append-drop, nil_from_length}
 use Rattle.dtx_outer.specs.Inner.{waiting, word_at, IsComplete}
-use Rattle.dtx_outer.specs.Made.{made_in}
-use Rattle.dtx_outer.proofs.MadeLemmas.{next_in, made_more, made_none, made_next}
+use Rattle.dtx_outer.proofs.MadeLemmas.{made_in, next_in, made_more, made_none, made_next}
 use Rattle.dtx_outer.proofs.WordsLemmas.{waiting_air, word_stays}
 use Rattle.dtx_laws.specs.Words.{correction}
 use Rattle.dtx_lists.proofs.Range.{range_with_len-parts, map-range_same}
@@ -32,18 +30,12 @@ pub early_grown : (at new : ℕ → Received) (c d s n : ℕ) → c ≡ 207 * s 
     → early_by new d ≡ early_by at c ++ map new (range_with_len (s - 52) (s + n - 52 - (s - 52)))
 early_grown at new c d s n e f same =
     early_count new d (s + n) f
-    ∙ ap (λ m. map new (range_with_len 0 m)) (whole s n)
+    ∙ ap (λ m. map new (range_with_len 0 m)) (omega arith)
     ∙ ap (map new) (range_with_len-parts 0 (s - 52) (s + n - 52 - (s - 52)))
     ∙ map-append new (range_with_len 0 (s - 52)) (range_with_len (0 + (s - 52)) (s + n - 52 - (s - 52)))
     ∙ ap₂ (λ (xs : List Received) (a : ℕ). xs ++ map new (range_with_len a (s + n - 52 - (s - 52))))
     (map-range_same new at 0 (s - 52) (λ k a b. same k (complete_all s k (inl (omega (arith, b)))))
-    ∙ sym (early_count at c s e)) (from (s - 52))
-  where
-    whole : (s n : ℕ) → s + n - 52 ≡ s - 52 + (s + n - 52 - (s - 52))
-    whole s n = omega arith
-
-    from : (n : ℕ) → 0 + n ≡ n
-    from n = omega arith
+    ∙ sym (early_count at c s e)) (omega arith)
 
 -- at the end, whatever is left comes behind those
 abbrev pub left_by : (ℕ → Received) → ℕ → List Received

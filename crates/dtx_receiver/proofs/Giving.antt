@@ -1,13 +1,12 @@
 -- What a block of a run's bytes gives.
-use Rattle.std.proofs.Common.{◌≡◌, ℕ, ◌*◌, ◌/◌, ◌%◌, Option, List, [], ◌∷◌, ◌++◌, length, take, refl, sym}
-use Rattle.std.proofs.Common.{ap, ◌∙◌, subst, append_assoc, lit<, arith}
+use Rattle.std.proofs.Common.{◌≡◌, ℕ, ◌*◌, ◌/◌, ◌%◌, Option, List, [], ◌∷◌, ◌++◌, length, take, refl, sym, ap, ◌∙◌}
+use Rattle.std.proofs.Common.{subst, append_assoc, lit<, arith}
 use Rattle.dtx_laws.specs.Codeword.{distance}
 use Rattle.dtx_laws.specs.Whitening.{whitened}
 use Rattle.dtx_whiten.specs.Randomizer.{randomizer_bytes}
 use Rattle.dtx_whiten.specs.BytesLaws.{length-randomizer_bytes}
 use Rattle.dtx_outer.specs.Inner.{IsTaken}
-use Rattle.dtx_outer.specs.Made.{IsTold}
-use Rattle.dtx_outer.proofs.MadeLemmas.{made_told}
+use Rattle.dtx_outer.proofs.MadeLemmas.{IsTold, made_told}
 use Rattle.dtx_outer.specs.declared.inner.Taken.{Taken}
 use Rattle.dtx_outer.specs.declared.inner.Taken.TheVariants.{Good, Bad}
 use Rattle.dtx_receiver.specs.declared.batch.Received.{Received}

@@ -1,16 +1,14 @@
 -- The runs of a list are its intervals: the search, segment by segment, and the one list of intervals that are runs.
 use Rattle.std.proofs.Common.{◌≡◌, ◌≢◌, ℕ, ℤ, zero, suc, ◌+◌, ◌-◌, ◌%◌, ◌<◌, ◌≤◌, ◌⊎◌, ◌↔◌, ◌==◌, Bool, true, false}
-use Rattle.std.proofs.Common.{cond, All, Option, Some, None, List, [], ◌∷◌, ◌++◌, length, map, take}
-use Rattle.std.proofs.Common.{drop, get_or, refl, sym, ap}
-use Rattle.std.proofs.Common.{ap₂, ◌∙◌, subst, inl, inr, arith}
-use Rattle.std.specs.List.{slice_range}
+use Rattle.std.proofs.Common.{cond, All, Option, Some, None, List, [], ◌∷◌, ◌++◌, length, map, take, drop, get_or, refl}
+use Rattle.std.proofs.Common.{sym, ap, ap₂, ◌∙◌, subst, inl, inr, arith}
+use Rattle.std.specs.List.{slice_range, Contains}
 use Rattle.std.specs.Prelude.{option_to_list}
 use Rattle.std.proofs.lemmas.Bool.{cases_eq, cases_lt, cases_order, false≢true}
 use Rattle.std.proofs.lemmas.List.{append-nil, take_more, take_all, length-take-le, length-drop, get_or-drop}
 use Rattle.std.proofs.lemmas.List.{length-map, map_push}
 use Rattle.std.proofs.lemmas.List.Elements.{All-nil, All-cons, All-weaker, All-contains, Contains-push}
 use Rattle.std.proofs.lemmas.List.Elements.{Contains-push_cases}
-use Rattle.std.specs.List.{Contains}
 use Rattle.dtx_frame.specs.Detection.{looks_like}
 use Rattle.dtx_receiver.specs.Runs.{Tracked, tracked, runs, sync_due, tracking_of, tracking}
 use Rattle.dtx_receiver.specs.declared.tracking.Tracking.TheVariants.{Searching, Began, Sync, Data, Ended}
@@ -22,10 +20,7 @@ use Rattle.dtx_receiver.proofs.FollowingLemmas.{searching, began, sync_came, end
 -- the first segment of a run looks like a field sync, so it isn't where none does
 first_looks : (s : List (List ℤ)) (a b : ℕ) (p : ℕ × ℕ) → NoneLooks s a b → a ≤ p.0 → p.0 < b → IsRun s p.0 p.1 → ⊥
 first_looks s a b p h l m r =
-    false≢true (sym (h p.0 l m) ∙ ap (looks_at s) (sym (plus p.0)) ∙ r.syncs 0 r.some refl)
-  where
-    plus : (n : ℕ) → n + 0 ≡ n
-    plus n = omega arith
+    false≢true (sym (h p.0 l m) ∙ ap (looks_at s) (sym (omega arith)) ∙ r.syncs 0 r.some refl)
 
 -- of two runs that begin at one place the one isn't shorter than the other
 not_shorter : (s : List (List ℤ)) (first m n : ℕ) → IsRun s first m → IsRun s first n → m < n → ⊥
@@ -240,45 +235,75 @@ searched s (suc n) l =
 abbrev Intervals : List (List ℤ) → List (List (List ℤ)) → Type 0
 Intervals s rs = (places : List (ℕ × ℕ)) × AreRuns s 0 places × (rs ≡ map (segments_in s) places)
 
-at_end : (s : List (List ℤ)) (t : Tracked) (h : Searched s (length s) t) (o : Option (List (List ℤ))) → t.run ≡ o
-    → At s h.from (length s) o → Intervals s (t.ended ++ option_to_list t.run)
-at_end s t h None e a = (
-  h.places,
-  subst (AreRuns s 0) (append-nil h.places) (closed_all s 0 h.from h.places [] h.closed a.1),
-  ap (λ o. t.ended ++ option_to_list o) e ∙ append-nil t.ended ∙ h.ended,
-)
-at_end s t h (Some run) e a = (
-  h.places ++ (a.first, length s - a.first) ∷ [],
-  closed_all s 0 h.from h.places ((a.first, length s - a.first) ∷ []) h.closed (
-    a.behind,
-    a.none,
-    whole,
-    λ i x y. absurd (omega (arith, back, x, y)),
-  ),
-  ap (λ o. t.ended ++ option_to_list o) e ∙ ap₂ (λ xs x. xs ++ x ∷ []) h.ended (a.is
-      ∙ ap (slice_range s a.first) (sym back)) ∙ sym (map_push (segments_in s) h.places (a.first, length s - a.first)),
-)
-  where
-    back : a.first + (length s - a.first) ≡ length s
-    back = omega (arith, a.some)
-
-    whole : IsRun s a.first (length s - a.first)
-    whole = record {
-      some = omega (arith, a.some);
-      within = omega (arith, back);
-      syncs = λ j m d. a.syncs j (omega (arith, m)) d;
-      ends = inl back;
-    }
-
 all_searched : (s : List (List ℤ)) → Searched s (length s) (tracked s)
 all_searched s =
     subst (λ q. Searched s (length s) (tracked q)) (take_all (length s) s (omega arith))
     (searched s (length s) (omega arith))
 
+closed_up : (s : List (List ℤ)) (from to : ℕ) (ps : List (ℕ × ℕ)) → Closed s from ps to → from ≤ to
+closed_up s from to [] c = omega (arith, c)
+closed_up s from to (p ∷ ps) c = omega (arith, c.0, closed_up s (p.0 + p.1 + 1) to ps c.3)
+
+-- the runs that have ended end before the place from which on the search goes on
+closed_before : (s : List (List ℤ)) (from to : ℕ) (ps : List (ℕ × ℕ)) → Closed s from ps to
+    → All (λ p. p.0 + p.1 < to) ps
+closed_before s from to [] c = All-nil (λ p. p.0 + p.1 < to)
+closed_before s from to (p ∷ ps) c =
+    All-cons (λ p. p.0 + p.1 < to) p ps (omega (arith, closed_up s (p.0 + p.1 + 1) to ps c.3))
+    (closed_before s (p.0 + p.1 + 1) to ps c.3)
+
+-- The run that is on reaches the end of the list, and is the last of the runs there.
+record Lasts (s : List (List ℤ)) (run : List (List ℤ)) : Type 0 where
+  places : List (ℕ × ℕ)
+  first : ℕ
+  n : ℕ
+  are : AreRuns s 0 (places ++ (first, n) ∷ [])
+  all : (tracked s).ended ++ run ∷ [] ≡ map (segments_in s) (places ++ (first, n) ∷ [])
+  ended : All (λ p. p.0 + p.1 < length s) places
+  reaches : first + n ≡ length s
+  long : length run ≡ n
+
+lasts : (s : List (List ℤ)) (run : List (List ℤ)) (h : Searched s (length s) (tracked s))
+    → Going s h.from (length s) run → Lasts s run
+lasts s run h g =
+    let back : g.first + (length s - g.first) ≡ length s = omega (arith, g.some) in
+    record {
+      places = h.places;
+      first = g.first;
+      n = length s - g.first;
+      are = closed_all s 0 h.from h.places ((g.first, length s - g.first) ∷ []) h.closed (
+        g.behind,
+        g.none,
+        record {
+          some = omega (arith, g.some);
+          within = omega (arith, back);
+          syncs = λ j m d. g.syncs j (omega (arith, m)) d;
+          ends = inl back;
+        },
+        λ i x y. absurd (omega (arith, back, x, y)),
+      );
+      all = ap₂ (λ xs x. xs ++ x ∷ []) h.ended (g.is ∙ ap (slice_range s g.first) (sym back))
+          ∙ sym (map_push (segments_in s) h.places (g.first, length s - g.first));
+      ended = All-weaker (λ p. p.0 + p.1 < h.from) (λ p. p.0 + p.1 < length s)
+          (λ p m. omega (arith, m, g.behind, g.some)) h.places (closed_before s 0 h.from h.places h.closed);
+      reaches = back;
+      long = going_long s h.from (length s) run g (omega arith);
+    }
+
 pub are_runs : (s : List (List ℤ)) → Intervals s (runs s)
 unfolding runs
-are_runs s = let h : Searched s (length s) (tracked s) = all_searched s in
-    at_end s (tracked s) h (tracked s).run refl h.at
+are_runs s = let h : Searched s (length s) (tracked s) = all_searched s in by_run h (tracked s).run refl h.at
+  where
+    by_run : (h : Searched s (length s) (tracked s)) (o : Option (List (List ℤ))) → (tracked s).run ≡ o
+        → At s h.from (length s) o → Intervals s ((tracked s).ended ++ option_to_list (tracked s).run)
+    by_run h None e a = (
+      h.places,
+      subst (AreRuns s 0) (append-nil h.places) (closed_all s 0 h.from h.places [] h.closed a.1),
+      ap (λ o. (tracked s).ended ++ option_to_list o) e ∙ append-nil (tracked s).ended ∙ h.ended,
+    )
+    by_run h (Some run) e a =
+        let l : Lasts s run = lasts s run h a in
+        (l.places ++ (l.first, l.n) ∷ [], l.are, ap (λ o. (tracked s).ended ++ option_to_list o) e ∙ l.all)
 
 -- the run that is on has a segment
 pub some_segment : (s : List (List ℤ)) (run : List (List ℤ)) → (tracked s).run ≡ Some run → 0 < length run
@@ -305,53 +330,6 @@ no_runs s = (there, back)
     back h = count ∙ ap length (only_runs s 0 (are_runs s).0 [] (are_runs s).1 h)
 
 -- ---- what the segment behind them is told to be
-
-closed_up : (s : List (List ℤ)) (from to : ℕ) (ps : List (ℕ × ℕ)) → Closed s from ps to → from ≤ to
-closed_up s from to [] c = omega (arith, c)
-closed_up s from to (p ∷ ps) c = omega (arith, c.0, closed_up s (p.0 + p.1 + 1) to ps c.3)
-
--- the runs that have ended end before the place from which on the search goes on
-closed_before : (s : List (List ℤ)) (from to : ℕ) (ps : List (ℕ × ℕ)) → Closed s from ps to
-    → All (λ p. p.0 + p.1 < to) ps
-closed_before s from to [] c = All-nil (λ p. p.0 + p.1 < to)
-closed_before s from to (p ∷ ps) c =
-    All-cons (λ p. p.0 + p.1 < to) p ps (omega (arith, closed_up s (p.0 + p.1 + 1) to ps c.3))
-    (closed_before s (p.0 + p.1 + 1) to ps c.3)
-
--- The run that is on reaches the end of the list, and is the last of the runs there.
-record Lasts (s : List (List ℤ)) (run : List (List ℤ)) : Type 0 where
-  places : List (ℕ × ℕ)
-  first : ℕ
-  n : ℕ
-  are : AreRuns s 0 (places ++ (first, n) ∷ [])
-  ended : All (λ p. p.0 + p.1 < length s) places
-  reaches : first + n ≡ length s
-  long : length run ≡ n
-
-lasts : (s : List (List ℤ)) (run : List (List ℤ)) (h : Searched s (length s) (tracked s))
-    → Going s h.from (length s) run → Lasts s run
-lasts s run h g =
-    let back : g.first + (length s - g.first) ≡ length s = omega (arith, g.some) in
-    record {
-      places = h.places;
-      first = g.first;
-      n = length s - g.first;
-      are = closed_all s 0 h.from h.places ((g.first, length s - g.first) ∷ []) h.closed (
-        g.behind,
-        g.none,
-        record {
-          some = omega (arith, g.some);
-          within = omega (arith, back);
-          syncs = λ j m d. g.syncs j (omega (arith, m)) d;
-          ends = inl back;
-        },
-        λ i x y. absurd (omega (arith, back, x, y)),
-      );
-      ended = All-weaker (λ p. p.0 + p.1 < h.from) (λ p. p.0 + p.1 < length s)
-          (λ p m. omega (arith, m, g.behind, g.some)) h.places (closed_before s 0 h.from h.places h.closed);
-      reaches = back;
-      long = going_long s h.from (length s) run g (omega arith);
-    }
 
 -- where the last of the runs reaches the end of the list, it is on
 on_there : (s : List (List ℤ)) (places : List (ℕ × ℕ)) (first n : ℕ) → AreRuns s 0 (places ++ (first, n) ∷ [])

@@ -1,6 +1,6 @@
 -- The levels that are kept of a run, with one segment more.
-use Rattle.std.proofs.Common.{◌≡◌, ◌≢◌, ℕ, ℤ, ◌+◌, ◌-◌, ◌*◌, ◌/◌, ◌%◌, ◌<◌, ◌≤◌, List, [], ◌∷◌, ◌++◌, length}
-use Rattle.std.proofs.Common.{take, drop, refl, sym, ap, ap₂, ◌∙◌, arith, lit<}
+use Rattle.std.proofs.Common.{◌≡◌, ◌≢◌, ℕ, ℤ, ◌+◌, ◌-◌, ◌*◌, ◌/◌, ◌%◌, ◌<◌, ◌≤◌, List, [], ◌∷◌, ◌++◌, length, take}
+use Rattle.std.proofs.Common.{drop, refl, sym, ap, ap₂, ◌∙◌, arith, lit<}
 use Rattle.std.proofs.lemmas.List.{length_push, length-append, length-take-le, length-drop, take_at, take_all}
 use Rattle.dtx_slice.specs.Slicing.{sliced_data, sliced_last}
 use Rattle.dtx_slice.specs.Unrolled.{bytes_back, precoder_bits_after, precoder_bits_of}
@@ -158,7 +158,7 @@ levels_group x levels precoder_bits run place z w d =
     let g : Grown run (run ++ x ∷ []) z = grown run x z (not_due_now run place w.due) (part_now run place w.due
     ∙ w.last) d.long (whole_levels x levels precoder_bits run place z w d) in
     let n : data_count (run ++ x ∷ []) % 4 ≡ 0 = ap (λ c. c % 4) (more_data run x (not_due_now run place w.due))
-    ∙ next_four (data_count run) (part_now run place w.due ∙ w.last) in
+    ∙ omega (arith, part_now run place w.due ∙ w.last) in
     record {
       levels = record {
         some = omega (arith, length_push run x);
@@ -173,6 +173,3 @@ levels_group x levels precoder_bits run place z w d =
           ∙ ap₂ (λ s f. bytes_in run ++ bytes_back s f z) (group_now run place w.due) (sym d.precoder_bits);
       groups = g.groups;
     }
-  where
-    next_four : (c : ℕ) → c % 4 ≡ 3 → (c + 1) % 4 ≡ 0
-    next_four c e = omega arith

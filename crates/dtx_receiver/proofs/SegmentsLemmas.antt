@@ -1,9 +1,8 @@
 -- The data segments of a run, their groups, levels and bytes, with one segment more.
-use Rattle.std.proofs.Common.{◌≡◌, ◌≢◌, ℕ, ℤ, ◌+◌, ◌-◌, ◌*◌, ◌/◌, ◌%◌, ◌<◌, ◌≤◌, List, [], ◌∷◌, ◌++◌, length}
-use Rattle.std.proofs.Common.{drop, get_or, refl, sym, ap, ap₂, ◌∙◌, arith}
+use Rattle.std.proofs.Common.{◌≡◌, ◌≢◌, ℕ, ℤ, ◌+◌, ◌-◌, ◌*◌, ◌/◌, ◌%◌, ◌<◌, ◌≤◌, List, [], ◌∷◌, ◌++◌, length, drop}
+use Rattle.std.proofs.Common.{get_or, refl, sym, ap, ap₂, ◌∙◌, arith}
 use Rattle.std.specs.List.{range_with_len, flat_map}
-use Rattle.std.proofs.lemmas.List.{length_push, get_or_append_left, get_or_push, length-map, length-drop}
-use Rattle.std.proofs.lemmas.List.{append-nil}
+use Rattle.std.proofs.lemmas.List.{length_push, get_or_append_left, get_or_push, length-map, length-drop, append-nil}
 use Rattle.std.proofs.lemmas.Grind.{flat_map-append}
 use Rattle.std.proofs.lemmas.List.FromFn.{get_or-map-range_with_len}
 use Rattle.dtx_lists.proofs.Range.{range_with_len-parts, map-range_same}
@@ -13,8 +12,7 @@ use Rattle.dtx_slice.specs.Unrolled.{level_groups, precoder_bit, bytes_back, pre
 use Rattle.dtx_slice.proofs.JoinsLemmas.{bytes_append, precoder_bits_append}
 use Rattle.dtx_slice.proofs.PlacesLemmas.{precoder_bit_zero}
 use Rattle.dtx_receiver.specs.Bytes.{data_count, data_at, groups_of, levels_from, levels_in, first_bits}
-use Rattle.dtx_receiver.specs.Bytes.{precoder_bits_in}
-use Rattle.dtx_receiver.specs.Bytes.{bytes_in}
+use Rattle.dtx_receiver.specs.Bytes.{precoder_bits_in, bytes_in}
 use Rattle.dtx_lists.proofs.RangeMoved.{flat_map-range_same}
 
 -- ---- numbers
@@ -160,16 +158,10 @@ pub levels_grown : (run : List (List ℤ)) (x : List ℤ) → length run % 313 �
 unfolding levels_in
 levels_grown run x n p =
     ap (λ g. levels_from (run ++ x ∷ []) 0 (4 * g)) (more_groups run x n p)
-    ∙ ap (levels_from (run ++ x ∷ []) 0) (four (groups_of run))
+    ∙ ap (levels_from (run ++ x ∷ []) 0) (omega arith)
     ∙ levels_parts (run ++ x ∷ []) 0 (4 * groups_of run) 4
     ∙ ap₂ (λ (xs ys : List ℕ). xs ++ ys) (levels_stay run x 0 (4 * groups_of run) (omega (arith, groups_within run)))
-    (ap (λ a. levels_from (run ++ x ∷ []) a 4) (from (groups_of run)) ∙ last_grown run x n p)
-  where
-    four : (g : ℕ) → 4 * (g + 1) ≡ 4 * g + 4
-    four g = omega arith
-
-    from : (g : ℕ) → 0 + 4 * g ≡ 4 * g
-    from g = omega arith
+    (ap (λ a. levels_from (run ++ x ∷ []) a 4) (omega arith) ∙ last_grown run x n p)
 
 pub grown : (run : List (List ℤ)) (x : List ℤ) (z : List ℕ) → length run % 313 ≢ 0 → data_count run % 4 ≡ 3
     → length (levels_in run) ≡ 3312 * groups_of run

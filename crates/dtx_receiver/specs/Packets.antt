@@ -1,6 +1,6 @@
 -- The packets of runs (ATSC A/53 Part 2, Reed-Solomon encoder, interleaving and data randomizer: the way back).
-use Rattle.std.specs.Prelude.{ℕ, ℤ, ◌+◌, ◌-◌, ◌*◌, ◌/◌, ◌%◌, nat_lt, Bool, true, false, Option, Some, None, List}
-use Rattle.std.specs.Prelude.{◌∷◌, ◌++◌, length, map, take, filter, option_to_list}
+use Rattle.std.specs.Prelude.{ℕ, ℤ, ◌+◌, ◌-◌, ◌*◌, ◌/◌, ◌%◌, nat_lt, Bool, true, false, Option, Some, None, List, ◌∷◌}
+use Rattle.std.specs.Prelude.{◌++◌, length, map, take, filter, option_to_list}
 use Rattle.std.specs.List.{range_with_len, list_all, flat_map}
 use Rattle.dtx_laws.specs.Codeword.{distance}
 use Rattle.dtx_laws.specs.Whitening.{whitened}

@@ -1,6 +1,6 @@
 -- What a receiver keeps, and the segments that it stands for.
-use Rattle.std.specs.Prelude.{ℕ, ℤ, ◌≡◌, ◌+◌, ◌*◌, ◌<◌, ◌%◌, Option, option_map, IfSome, List, []}
-use Rattle.std.specs.Prelude.{◌∷◌, ◌++◌, length, take}
+use Rattle.std.specs.Prelude.{ℕ, ℤ, ◌≡◌, ◌+◌, ◌*◌, ◌<◌, ◌%◌, Option, option_map, IfSome, List, [], ◌∷◌, ◌++◌, length}
+use Rattle.std.specs.Prelude.{take}
 use Rattle.std.specs.List.{flat_map}
 use Rattle.dtx_outer.specs.Inner as inner
 use Rattle.dtx_whiten.specs.Randomizer.{randomizer_bytes}

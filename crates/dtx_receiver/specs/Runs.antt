@@ -1,8 +1,8 @@
 -- Runs of segments (the profile's own). A segment is the list of its 832 symbols, and a run is a list of segments. A
 -- run begins with a segment that looks like a field sync. After each field sync 312 data segments follow, whatever they
 -- hold, and then the next field sync is due.
-use Rattle.std.specs.Prelude.{ℕ, ℤ, ◌%◌, ◌==◌, Bool, if◌then◌else◌, Option, Some, None, option_to_list, List, []}
-use Rattle.std.specs.Prelude.{◌∷◌, ◌++◌, length, fold}
+use Rattle.std.specs.Prelude.{ℕ, ℤ, ◌%◌, ◌==◌, Bool, if◌then◌else◌, Option, Some, None, option_to_list, List, [], ◌∷◌}
+use Rattle.std.specs.Prelude.{◌++◌, length, fold}
 use Rattle.dtx_frame.specs.Detection.{looks_like}
 use Rattle.dtx_receiver.specs.declared.tracking.Tracking.{Tracking}
 use Rattle.dtx_receiver.specs.declared.tracking.Tracking.TheVariants.{Searching, Began, Sync, Data, Ended}

@@ -14,8 +14,7 @@ use Rattle.dtx_trellis.proofs.CodersLemmas.{pair_2, pair_3}
 use Rattle.dtx_trellis.proofs.RoundsLemmas.{coder_bits}
 use Rattle.dtx_trellis.proofs.JoinsLemmas.{groups_whole}
 use Rattle.dtx_slice.specs.Unrolled.{symbol_place, precoder_bit, pair_back, byte_back, coder_of, level_groups}
-use Rattle.dtx_slice.specs.Unrolled.{bytes_back}
-use Rattle.dtx_slice.specs.Unrolled.{precoder_bits_after, precoder_bits_in}
+use Rattle.dtx_slice.specs.Unrolled.{bytes_back, precoder_bits_after, precoder_bits_in}
 use Rattle.dtx_slice.proofs.PlacesLemmas.{precoder_bit_zero, precoder_bit_next}
 
 -- whose symbol that is, and in which round
@@ -94,14 +93,8 @@ after_q2 q a b t =
       q2 = z2 q a (suc t - 1);
       q1 = z0 q b (suc t);
       q0 = z0 q b (suc t - 1);
-    }) (ne_eqb (suc t) 0 (no t)))
-    ∙ ap (z2 q a) (back t)
-  where
-    no : (t : ℕ) → suc t ≡ 0 → ⊥
-    no t e = omega arith
-
-    back : (t : ℕ) → suc t - 1 ≡ t
-    back t = omega arith
+    }) (ne_eqb (suc t) 0 (λ e. omega arith)))
+    ∙ ap (z2 q a) (omega arith)
 
 -- the precoder bit is the coder's q2
 pub coded_bit : (s r e : ℕ) (states bytes precoder_bits levels : List ℕ) → Coded s states bytes precoder_bits levels
@@ -112,12 +105,9 @@ coded_bit s zero e states bytes precoder_bits levels h l m =
     precoder_bit_zero s e precoder_bits levels ∙ h.from e m
     ∙ ap (λ (p : State). p.q2) (sym (after_zero (state_of (get_or states e 0)) (higher s bytes e) (lower s bytes e)))
 coded_bit s (suc r) e states bytes precoder_bits levels h l m =
-    ap (λ t. precoder_bit s precoder_bits levels t e) (next r) ∙ precoder_bit_next s r e precoder_bits levels
+    ap (λ t. precoder_bit s precoder_bits levels t e) (omega arith) ∙ precoder_bit_next s r e precoder_bits levels
     ∙ coded_z2 s r e states bytes precoder_bits levels h (omega arith) m
     ∙ sym (after_q2 (state_of (get_or states e 0)) (higher s bytes e) (lower s bytes e) r)
-  where
-    next : (r : ℕ) → suc r ≡ r + 1
-    next r = omega arith
 
 parts : (a b p : ℕ) → p < 4 → a ≡ p / 2 → b ≡ p % 2 → 2 * a + b ≡ p
 parts a b p l e f = omega arith
@@ -144,9 +134,7 @@ z2_back s (suc t) e states bytes l =
     (state_after (state_of (get_or states e 0)) (higher s bytes e) (lower s bytes e) (suc t)).q2
     (higher_bit s (suc t) e bytes l)
     (after_q2 (state_of (get_or states e 0)) (higher s bytes e) (lower s bytes e) t)
-    (subst (λ (u : ℕ). z2 (state_of (get_or states e 0)) (higher s bytes e) u
-    ≡ (z2 (state_of (get_or states e 0)) (higher s bytes e) t + get_or (higher s bytes e) u 0) % 2) (sym n)
-    (z2_next (state_of (get_or states e 0)) (higher s bytes e) t (omega (arith, length_higher s e bytes))))
+    (rw n (z2_next (state_of (get_or states e 0)) (higher s bytes e) t (omega (arith, length_higher s e bytes))))
   where
     first : (q a z y : ℕ) → a < 2 → y ≡ q → z ≡ (q + a) % 2 → (z + y) % 2 ≡ a
     first q a z y l e f = omega arith
@@ -171,10 +159,7 @@ turn_to x k l m = omega arith
 same_turn : (s m : ℕ) → ((s + 4 * (m / 69)) % 312 + 4 * (m % 69) / 69) % 3 ≡ (s + 4 * m / 69) % 3
 same_turn s m =
     let e : 4 * m / 69 ≡ 4 * (m / 69) + 4 * (m % 69) / 69 = omega arith in
-    turned (4 * (m / 69)) (4 * (m % 69) / 69) ∙ ap (λ x. (s + x) % 3) (sym e)
-  where
-    turned : (a b : ℕ) → ((s + a) % 312 + b) % 3 ≡ (s + (a + b)) % 3
-    turned a b = omega arith
+    omega arith ∙ ap (λ x. (s + x) % 3) (sym e)
 
 group_byte : (s j : ℕ)
     → 828 * (j / 12 / 69) + byte_place (group_place s (j / 12 / 69)) (4 * (j / 12 % 69)) (coder_of s j) ≡ j

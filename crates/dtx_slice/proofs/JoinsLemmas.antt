@@ -8,8 +8,7 @@ use Rattle.dtx_lists.proofs.Range.{map-range_same}
 use Rattle.dtx_lists.proofs.RangeParts.{map-range_parts}
 use Rattle.dtx_trellis.specs.Pairs.{group_place}
 use Rattle.dtx_slice.specs.Unrolled.{symbol_place, precoder_bit, pair_from, pair_back, byte_back, coder_of}
-use Rattle.dtx_slice.specs.Unrolled.{level_groups}
-use Rattle.dtx_slice.specs.Unrolled.{bytes_back, precoder_bits_after, precoder_bits_of}
+use Rattle.dtx_slice.specs.Unrolled.{level_groups, bytes_back, precoder_bits_after, precoder_bits_of}
 use Rattle.dtx_slice.proofs.PlacesLemmas.{precoder_bit_zero, precoder_bit_next}
 use Rattle.dtx_slice.proofs.InverseLemmas.{place_within, coder_of_small}
 
@@ -35,12 +34,9 @@ precoder_bit_before : (s u r e : ℕ) (precoder_bits y z : List ℕ) → length 
 precoder_bit_before s u zero e precoder_bits y z h l = precoder_bit_zero s e precoder_bits (y ++ z)
     ∙ sym (precoder_bit_zero s e precoder_bits y)
 precoder_bit_before s u (suc r) e precoder_bits y z h l =
-    ap (λ t. precoder_bit s precoder_bits (y ++ z) t e) (next r) ∙ precoder_bit_next s r e precoder_bits (y ++ z)
+    ap (λ t. precoder_bit s precoder_bits (y ++ z) t e) (omega arith) ∙ precoder_bit_next s r e precoder_bits (y ++ z)
     ∙ ap (λ x. x / 4) (symbol_before s u r e y z h (omega arith))
-    ∙ sym (ap (λ t. precoder_bit s precoder_bits y t e) (next r) ∙ precoder_bit_next s r e precoder_bits y)
-  where
-    next : (r : ℕ) → suc r ≡ r + 1
-    next r = omega arith
+    ∙ sym (ap (λ t. precoder_bit s precoder_bits y t e) (omega arith) ∙ precoder_bit_next s r e precoder_bits y)
 
 pair_before : (s u r e : ℕ) (precoder_bits y z : List ℕ) → length y ≡ 3312 * u → r < 276 * u
     → pair_back s precoder_bits (y ++ z) r e ≡ pair_back s precoder_bits y r e
@@ -78,12 +74,9 @@ unfolding symbol_place group_place
 place_on s u r e =
     let f : (276 * u + r) / 69 ≡ 4 * u + r / 69 = omega arith in
     ap (λ x. 12 * (276 * u + r) + (e + 12 - 4 * ((s + x) % 3)) % 12) f
-    ∙ ap (λ x. 12 * (276 * u + r) + (e + 12 - 4 * x) % 12) (turned (4 * u) (r / 69))
+    ∙ ap (λ x. 12 * (276 * u + r) + (e + 12 - 4 * x) % 12) (omega arith)
     ∙ sum ((e + 12 - 4 * (((s + 4 * u) % 312 + r / 69) % 3)) % 12)
   where
-    turned : (a b : ℕ) → (s + (a + b)) % 3 ≡ ((s + a) % 312 + b) % 3
-    turned a b = omega arith
-
     sum : (x : ℕ) → 12 * (276 * u + r) + x ≡ 3312 * u + (12 * r + x)
     sum x = omega arith
 
@@ -92,37 +85,25 @@ symbol_behind : (s u r e : ℕ) (y z : List ℕ) → length y ≡ 3312 * u
 symbol_behind s u r e y z h =
     ap (λ i. get_or (y ++ z) i 0) (place_on s u r e)
     ∙ get_or-append_right y z (3312 * u) (3312 * u + symbol_place (group_place s u) r e) 0 h (omega arith)
-    ∙ ap (λ i. get_or z i 0) (back (3312 * u) (symbol_place (group_place s u) r e))
-  where
-    back : (a p : ℕ) → a + p - a ≡ p
-    back a p = omega arith
+    ∙ ap (λ i. get_or z i 0) (omega arith)
 
 precoder_bit_behind : (s u r e : ℕ) (precoder_bits y z : List ℕ) → length y ≡ 3312 * u → e < 12
     → precoder_bit s precoder_bits (y ++ z) (276 * u + r) e ≡ precoder_bit (group_place s u)
     (precoder_bits_after s precoder_bits y) z r e
 unfolding precoder_bits_after
 precoder_bit_behind s u zero e precoder_bits y z h l =
-    ap (λ t. precoder_bit s precoder_bits (y ++ z) t e) (none u)
+    ap (λ t. precoder_bit s precoder_bits (y ++ z) t e) (omega arith)
     ∙ precoder_bit_before s u (276 * u) e precoder_bits y z h (omega arith)
     ∙ sym (precoder_bit_zero (group_place s u) e (map (precoder_bit s precoder_bits y (276 * level_groups y))
     (range_with_len 0 12)) z
     ∙ get_or-map-range_with_len (precoder_bit s precoder_bits y (276 * level_groups y)) 0 12 e e 0 l (omega arith)
     ∙ ap (λ g. precoder_bit s precoder_bits y (276 * g) e) (groups_whole u y h))
-  where
-    none : (u : ℕ) → 276 * u + 0 ≡ 276 * u
-    none u = omega arith
 precoder_bit_behind s u (suc r) e precoder_bits y z h l =
-    ap (λ t. precoder_bit s precoder_bits (y ++ z) t e) (next u r)
+    ap (λ t. precoder_bit s precoder_bits (y ++ z) t e) (omega arith)
     ∙ precoder_bit_next s (276 * u + r) e precoder_bits (y ++ z)
     ∙ ap (λ x. x / 4) (symbol_behind s u r e y z h)
-    ∙ sym (ap (λ t. precoder_bit (group_place s u) (precoder_bits_after s precoder_bits y) z t e) (one r)
+    ∙ sym (ap (λ t. precoder_bit (group_place s u) (precoder_bits_after s precoder_bits y) z t e) (omega arith)
     ∙ precoder_bit_next (group_place s u) r e (precoder_bits_after s precoder_bits y) z)
-  where
-    next : (u r : ℕ) → 276 * u + suc r ≡ 276 * u + r + 1
-    next u r = omega arith
-
-    one : (r : ℕ) → suc r ≡ r + 1
-    one r = omega arith
 
 pair_behind : (s u r e : ℕ) (precoder_bits y z : List ℕ) → length y ≡ 3312 * u → e < 12
     → pair_back s precoder_bits (y ++ z) (276 * u + r) e ≡ pair_back (group_place s u)
@@ -137,10 +118,7 @@ coder_on s u j =
     let a : (828 * u + j) % 12 ≡ j % 12 = omega arith in
     let b : 4 * ((828 * u + j) / 12) / 69 ≡ 4 * u + 4 * (j / 12) / 69 = omega arith in
     ap₂ (λ (x y : ℕ). (x + 4 * ((s + y) % 3)) % 12) a b
-    ∙ ap (λ x. (j % 12 + 4 * x) % 12) (turned (4 * u) (4 * (j / 12) / 69))
-  where
-    turned : (a b : ℕ) → (s + (a + b)) % 3 ≡ ((s + a) % 312 + b) % 3
-    turned a b = omega arith
+    ∙ ap (λ x. (j % 12 + 4 * x) % 12) (omega arith)
 
 byte_behind : (s u j : ℕ) (precoder_bits y z : List ℕ) → length y ≡ 3312 * u
     → byte_back s precoder_bits (y ++ z) (828 * u + j) ≡ byte_back (group_place s u)
@@ -158,13 +136,10 @@ byte_behind s u j precoder_bits y z h =
         ≡ pair_back (group_place s u) (precoder_bits_after s precoder_bits y) z r (coder_of (group_place s u) j)
     same r = pair_behind s u r (coder_of (group_place s u) j) precoder_bits y z h (coder_of_small (group_place s u) j)
 
-    sum : (r i : ℕ) → 276 * u + r + i ≡ 276 * u + (r + i)
-    sum r i = omega arith
-
     next : (i : ℕ) → pair_back s precoder_bits (y ++ z) (276 * u + 4 * (j / 12) + i) (coder_of (group_place s u) j)
         ≡ pair_back (group_place s u) (precoder_bits_after s precoder_bits y) z (4 * (j / 12) + i) (coder_of
         (group_place s u) j)
-    next i = ap (λ t. pair_back s precoder_bits (y ++ z) t (coder_of (group_place s u) j)) (sum (4 * (j / 12)) i)
+    next i = ap (λ t. pair_back s precoder_bits (y ++ z) t (coder_of (group_place s u) j)) (omega arith)
         ∙ same (4 * (j / 12) + i)
 
 pub bytes_append : (s u : ℕ) (precoder_bits y z : List ℕ) → length y ≡ 3312 * u
@@ -173,7 +148,7 @@ pub bytes_append : (s u : ℕ) (precoder_bits y z : List ℕ) → length y ≡ 3
 unfolding bytes_back
 bytes_append s u precoder_bits y z h =
     ap (λ n. map (byte_back s precoder_bits (y ++ z)) (range_with_len 0 n)) (ap (λ n. 828 * n) (groups_append u y z h)
-    ∙ sum u (level_groups z))
+    ∙ omega arith)
     ∙ map-range_parts (byte_back s precoder_bits (y ++ z)) (byte_back (group_place s u)
     (precoder_bits_after s precoder_bits y) z)
     (828 * u) (828 * level_groups z) (λ j _. byte_behind s u j precoder_bits y z h)
@@ -182,9 +157,6 @@ bytes_append s u precoder_bits y z h =
     (map-range_same (byte_back s precoder_bits (y ++ z)) (byte_back s precoder_bits y) 0 (828 * u)
     (λ j _ l. byte_before s u j precoder_bits y z h (omega arith))
     ∙ ap (λ n. map (byte_back s precoder_bits y) (range_with_len 0 (828 * n))) (sym (groups_whole u y h)))
-  where
-    sum : (u n : ℕ) → 828 * (u + n) ≡ 828 * u + 828 * n
-    sum u n = omega arith
 
 pub precoder_bits_append : (s u : ℕ) (precoder_bits y z : List ℕ) → length y ≡ 3312 * u
     → precoder_bits_after s precoder_bits (y ++ z) ≡ precoder_bits_after (group_place s u)
@@ -193,13 +165,10 @@ unfolding precoder_bits_after
 precoder_bits_append s u precoder_bits y z h =
     ap (λ n. map (precoder_bit s precoder_bits (y ++ z) n) (range_with_len 0 12)) (ap (λ n. 276 * n)
     (groups_append u y z h)
-    ∙ sum u (level_groups z))
+    ∙ omega arith)
     ∙ map-range_same (precoder_bit s precoder_bits (y ++ z) (276 * u + 276 * level_groups z))
     (precoder_bit (group_place s u) (precoder_bits_after s precoder_bits y) z (276 * level_groups z)) 0 12
     (λ e _ l. precoder_bit_behind s u (276 * level_groups z) e precoder_bits y z h l)
-  where
-    sum : (u n : ℕ) → 276 * (u + n) ≡ 276 * u + 276 * n
-    sum u n = omega arith
 
 -- at a field's end
 end_place : (s u e : ℕ) → 0 < u → group_place s u ≡ 0 → symbol_place s (276 * u - 1) e ≡ 3312 * u - 12 + (e + 4) % 12
@@ -209,10 +178,7 @@ end_place s u e l h =
     let b : (s + (4 * u - 1)) % 3 ≡ 2 = omega arith in
     let c : 12 * (276 * u - 1) ≡ 3312 * u - 12 = omega arith in
     ap (λ x. 12 * (276 * u - 1) + (e + 12 - 4 * ((s + x) % 3)) % 12) a ∙ ap₂ (λ x y. x + (e + 12 - 4 * y) % 12) c b
-    ∙ ap (λ x. 3312 * u - 12 + x) (back e)
-  where
-    back : (e : ℕ) → (e + 12 - 4 * 2) % 12 ≡ (e + 4) % 12
-    back e = omega arith
+    ∙ ap (λ x. 3312 * u - 12 + x) (omega arith)
 
 pub precoder_bits_repeated : (s u : ℕ) (precoder_bits levels : List ℕ) → length levels ≡ 3312 * u → 0 < u
     → group_place s u ≡ 0
@@ -223,10 +189,7 @@ precoder_bits_repeated s u precoder_bits levels h l m =
     (precoder_bit s precoder_bits levels (276 * u)) 0 12
     (λ e _ _. ap (λ x. x / 4) (get_or-drop (3312 * u - 12) levels ((e + 4) % 12) 0
     ∙ ap (λ i. get_or levels i 0) (sym (end_place s u e l m)))
-    ∙ sym (ap (λ t. precoder_bit s precoder_bits levels t e) (last u l)
+    ∙ sym (ap (λ t. precoder_bit s precoder_bits levels t e) (omega arith)
     ∙ precoder_bit_next s (276 * u - 1) e precoder_bits levels))
     ∙ ap (λ g. map (precoder_bit s precoder_bits levels (276 * g)) (range_with_len 0 12)) (sym
     (groups_whole u levels h))
-  where
-    last : (u : ℕ) → 0 < u → 276 * u ≡ 276 * u - 1 + 1
-    last u l = omega arith

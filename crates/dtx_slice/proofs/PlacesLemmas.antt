@@ -17,13 +17,7 @@ pub precoder_bit_next : (s r e : ℕ) (precoder_bits levels : List ℕ)
 unfolding precoder_bit
 precoder_bit_next s r e precoder_bits levels =
     cond-false (r + 1 == 0) (get_or precoder_bits e 0) (get_or levels (symbol_place s (r + 1 - 1) e) 0 / 4)
-    (ne_eqb (r + 1) 0 (no r)) ∙ ap (λ u. get_or levels (symbol_place s u e) 0 / 4) (back r)
-  where
-    no : (r : ℕ) → r + 1 ≡ 0 → ⊥
-    no r e = omega arith
-
-    back : (r : ℕ) → r + 1 - 1 ≡ r
-    back r = omega arith
+    (ne_eqb (r + 1) 0 (λ e. omega arith)) ∙ ap (λ u. get_or levels (symbol_place s u e) 0 / 4) (omega arith)
 
 -- the coder at place p of the first round of byte h
 abbrev pub lane_coder : ℕ → ℕ → ℕ → ℕ
@@ -58,24 +52,18 @@ lane_pair : (s h i p : ℕ) (precoder_bits levels : List ℕ) → i < 3 → p < 
 unfolding pair_back
 lane_pair s h i p precoder_bits levels l m =
     ap₂ (λ x y. pair_from x (get_or levels y 0))
-    (ap (λ r. precoder_bit s precoder_bits levels r (lane_coder s h p)) (sum h i)
+    (ap (λ r. precoder_bit s precoder_bits levels r (lane_coder s h p)) (omega arith)
     ∙ precoder_bit_next s (4 * h + i) (lane_coder s h p) precoder_bits levels
     ∙ ap (λ x. get_or levels x 0 / 4) (lane_symbol s h i p (omega arith) m))
     (lane_symbol s h (i + 1) p (omega arith) m)
-  where
-    sum : (h i : ℕ) → 4 * h + (i + 1) ≡ 4 * h + i + 1
-    sum h i = omega arith
 
 lane_first : (s h p b : ℕ) (precoder_bits levels : List ℕ) → p < 12
     → b ≡ precoder_bit s precoder_bits levels (4 * h) (lane_coder s h p)
     → pair_back s precoder_bits levels (4 * h) (lane_coder s h p) ≡ pair_from b (lane_level levels h 0 p)
 unfolding pair_back
 lane_first s h p b precoder_bits levels l e =
-    ap₂ (λ x y. pair_from x (get_or levels y 0)) (sym e) (ap (λ r. symbol_place s r (lane_coder s h p)) (none h)
+    ap₂ (λ x y. pair_from x (get_or levels y 0)) (sym e) (ap (λ r. symbol_place s r (lane_coder s h p)) (omega arith)
     ∙ lane_symbol s h 0 p (omega arith) l)
-  where
-    none : (h : ℕ) → 4 * h ≡ 4 * h + 0
-    none h = omega arith
 
 -- the lane's byte is the group's
 pub lane_byte_is : (s h p b : ℕ) (precoder_bits levels : List ℕ) → p < 12
@@ -85,43 +73,31 @@ unfolding lane_byte byte_back
 lane_byte_is s h p b precoder_bits levels l e =
     sym (ap₂ (λ (x e : ℕ). 64 * pair_back s precoder_bits levels (4 * x) e + 16 * pair_back s precoder_bits levels
     (4 * x + 1) e + 4 * pair_back s precoder_bits levels (4 * x + 2) e + pair_back s precoder_bits levels (4 * x + 3) e)
-    (divided h p l) (lane_byte_coder s h p l)
+    (omega arith) (lane_byte_coder s h p l)
     ∙ ap₂ (λ x y. 64 * x + 16 * y + 4 * pair_back s precoder_bits levels (4 * h + 2)
     (lane_coder s h p) + pair_back s precoder_bits levels (4 * h + 3) (lane_coder s h p))
     (lane_first s h p b precoder_bits levels l e) (lane_pair s h 0 p precoder_bits levels (omega arith) l)
     ∙ ap₂ (λ x y. 64 * pair_from b (lane_level levels h 0 p) + 16 * pair_from (lane_level levels h 0 p / 4)
     (lane_level levels h 1 p) + 4 * x + y)
     (lane_pair s h 1 p precoder_bits levels (omega arith) l) (lane_pair s h 2 p precoder_bits levels (omega arith) l))
-  where
-    divided : (h p : ℕ) → p < 12 → (12 * h + p) / 12 ≡ h
-    divided h p l = omega arith
 
 -- the place of a coder in its own round
 pub own_place : (s r p : ℕ) → p < 12 → symbol_place s r (coder_turned (turn s r) p) ≡ 12 * r + p
 unfolding symbol_place coder_turned turn
-own_place s r p l = ap (λ x. 12 * r + x) (back ((s + r / 69) % 3) (omega arith))
-  where
-    back : (x : ℕ) → x < 3 → ((p + 4 * x) % 12 + 12 - 4 * x) % 12 ≡ p
-    back x m = omega arith
+own_place s r p l = ap (λ x. 12 * r + x) (omega arith)
 
 -- a lane stands still within a segment, and four places back behind its end
 pub lane_stays : (h i p : ℕ) → i < 4 → p < 12 → 4 * h % 69 + i < 69 → 12 * (4 * h + i) + p ≡ lane_place h i p
 unfolding lane_place
 lane_stays h i p l m n =
     let e : (4 * h + i) / 69 - 4 * h / 69 ≡ 0 = omega arith in
-    ap (λ x. 12 * (4 * h + i) + x) (still p m ∙ ap (λ d. (p + 12 - 4 * d) % 12) (sym e))
-  where
-    still : (p : ℕ) → p < 12 → p ≡ (p + 12 - 4 * 0) % 12
-    still p m = omega arith
+    ap (λ x. 12 * (4 * h + i) + x) (omega arith ∙ ap (λ d. (p + 12 - 4 * d) % 12) (sym e))
 
 pub lane_moves : (h i p : ℕ) → i < 4 → p < 12 → 69 ≤ 4 * h % 69 + i → 12 * (4 * h + i) + (p + 8) % 12 ≡ lane_place h i p
 unfolding lane_place
 lane_moves h i p l m n =
     let e : (4 * h + i) / 69 - 4 * h / 69 ≡ 1 = omega arith in
-    ap (λ x. 12 * (4 * h + i) + x) (moved p m ∙ ap (λ d. (p + 12 - 4 * d) % 12) (sym e))
-  where
-    moved : (p : ℕ) → p < 12 → (p + 8) % 12 ≡ (p + 12 - 4 * 1) % 12
-    moved p m = omega arith
+    ap (λ x. 12 * (4 * h + i) + x) (omega arith ∙ ap (λ d. (p + 12 - 4 * d) % 12) (sym e))
 
 -- Z2 before a group, laid out as bit 2
 pub before_first : (s p x : ℕ) (precoder_bits levels : List ℕ) → get_or precoder_bits ((p + 4 * (s % 3)) % 12) 0 < 2
@@ -141,13 +117,10 @@ pub before_later : (s h p x : ℕ) (precoder_bits levels : List ℕ) → 0 < h �
     → x / 4 % 2 ≡ precoder_bit s precoder_bits levels (4 * h) (lane_coder s h p)
 before_later s h p x precoder_bits levels z l m n e =
     let f : 4 * h - 1 + 1 ≡ 4 * h = omega arith in
-    bit x n ∙ ap (λ y. y / 4) (e ∙ ap (λ i. get_or levels i 0) (sym (own_place s (4 * h - 1) p m))
+    omega arith ∙ ap (λ y. y / 4) (e ∙ ap (λ i. get_or levels i 0) (sym (own_place s (4 * h - 1) p m))
     ∙ ap (λ t. get_or levels (symbol_place s (4 * h - 1) (coder_turned t p)) 0) (sym (first_turn s h l)))
     ∙ sym (precoder_bit_next s (4 * h - 1) (lane_coder s h p) precoder_bits levels)
     ∙ ap (λ r. precoder_bit s precoder_bits levels r (lane_coder s h p)) f
-  where
-    bit : (x : ℕ) → x < 8 → x / 4 % 2 ≡ x / 4
-    bit x n = omega arith
 
 -- and so the lane's byte is the group's
 pub later_byte_is : (s h p : ℕ) (precoder_bits levels : List ℕ) → 0 < h → h < 69 → p < 12
@@ -181,21 +154,15 @@ pub bytes_over : (h n : ℕ) (P : ℕ → Type 0) → ((j : ℕ) → j < 12 * h 
     → ((i p : ℕ) → h ≤ i → i < h + n → p < 12 → P (12 * i + p)) → (j : ℕ) → j < 12 * (h + n) → P j
 bytes_over h n P f g j l = by_cases (cases_lt j (12 * h))
   where
-    back : (j : ℕ) → 12 * (j / 12) + j % 12 ≡ j
-    back j = omega arith
-
     by_cases : (j < 12 * h) ⊎ (12 * h ≤ j) → P j
     by_cases (inl k) = f j k
-    by_cases (inr k) = subst P (back j) (g (j / 12) (j % 12) (omega arith) (omega arith) (omega arith))
+    by_cases (inr k) = subst P (omega arith) (g (j / 12) (j % 12) (omega arith) (omega arith) (omega arith))
 
 -- twelve bytes more
 pub bytes_more : (h : ℕ) (P : ℕ → Type 0) → ((j : ℕ) → j < 12 * h → P j) → ((p : ℕ) → p < 12 → P (12 * h + p)) → (j : ℕ)
     → j < 12 * (h + 1) → P j
 bytes_more h P f g j l = by_cases (cases_lt j (12 * h))
   where
-    back : (j h : ℕ) → 12 * h ≤ j → 12 * h + (j - 12 * h) ≡ j
-    back j h k = omega arith
-
     by_cases : (j < 12 * h) ⊎ (12 * h ≤ j) → P j
     by_cases (inl k) = f j k
-    by_cases (inr k) = subst P (back j h k) (g (j - 12 * h) (omega arith))
+    by_cases (inr k) = subst P (omega arith) (g (j - 12 * h) (omega arith))

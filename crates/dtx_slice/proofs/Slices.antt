@@ -1,8 +1,7 @@
 -- Slicing, by a test of all bytes.
 use Rattle.std.proofs.Common.{◌≡◌, ℕ, ◌+◌, ◌-◌, ◌/◌, ◌%◌, ◌<◌, ◌≤◌, ◌==◌, ◌⊎◌, inl, inr, Bool, true, false, cond}
-use Rattle.std.proofs.Common.{nat_le, ℤ}
-use Rattle.std.proofs.Common.{pos, negsuc, nat_abs, ◌+ℤ◌, List, ◌++◌, map, take, drop, length, get_or, to_z, of_z, w8}
-use Rattle.std.proofs.Common.{refl, sym, ap, ◌∙◌, subst, arith}
+use Rattle.std.proofs.Common.{nat_le, ℤ, pos, negsuc, nat_abs, ◌+ℤ◌, List, ◌++◌, map, take, drop, length, get_or, to_z}
+use Rattle.std.proofs.Common.{of_z, w8, refl, sym, ap, ◌∙◌, subst, arith}
 use mir.Val.{SFits}
 use Rattle.std.specs.Int.{int_max, saturate_signed}
 use Rattle.std.proofs.lemmas.Int.{to_z-of_z}
@@ -57,11 +56,8 @@ sliced_from a n segment levels h l f =
     (λ k m. f k (omega arith) ∙ sym (get_or-map sliced (drop a segment) k (pos 0) 0 (omega (arith, rest))
     ∙ ap sliced (get_or-drop a segment k (pos 0))))
   where
-    left : (a n : ℕ) → a + n - a ≡ n
-    left a n = omega arith
-
     rest : length (drop a segment) ≡ n
-    rest = length-drop a segment ∙ ap (λ x. x - a) h ∙ left a n
+    rest = length-drop a segment ∙ ap (λ x. x - a) h ∙ omega arith
 
 -- all levels of a list are below 8
 abbrev pub AreSmall : List ℕ → Type 0

@@ -15,11 +15,8 @@ loaded n a p xs h k l =
     let whole : take (n - a) (drop a xs) ≡ drop a xs = take_all (n - a) (drop a xs) (omega (arith, length-drop a xs)) in
     ap (λ (ys : List ℕ). get_or (take 16 (drop 0 ys)) p 0) whole
     ∙ get_or-chunk 0 16 (drop a xs) p 0 l
-    ∙ ap (λ i. get_or (drop a xs) i 0) (none p)
+    ∙ ap (λ i. get_or (drop a xs) i 0) (omega arith)
     ∙ get_or-drop a xs p 0
-  where
-    none : (p : ℕ) → 0 + p ≡ p
-    none p = omega arith
 
 pub long_loaded : (n a : ℕ) (xs : List ℕ) → length xs ≡ n → a + 16 ≤ n
     → length (take 16 (drop 0 (take (n - a) (drop a xs)))) ≡ 16
@@ -33,15 +30,12 @@ pub last_loaded : (p : ℕ) (xs : List ℕ) → length xs ≡ 3312 → p < 12
     p 0 ≡ get_or xs (3300 + p) 0
 last_loaded p xs h l = at 3296 (take 16 (drop 3296 xs)) refl refl
   where
-    short : (n a : ℕ) → n ≡ 3312 → a ≡ 3296 → n - a ≡ 16
-    short n a h e = omega arith
-
     at : (a : ℕ) (ys : List ℕ) → a ≡ 3296 → ys ≡ take (3312 - a) (drop a xs)
         → get_or (map (λ k. get_or (chunk 0 16 ys ++ chunk 0 16 ys) k 0) lasts) p 0 ≡ get_or xs (3300 + p) 0
     at a ys e f =
         let whole : take (3312 - a) (drop a xs) ≡ drop a xs =
         take_all (3312 - a) (drop a xs) (omega (arith, length-drop a xs)) in
-        let long : length ys ≡ 16 = ap length (f ∙ whole) ∙ length-drop a xs ∙ short (length xs) a h e in
+        let long : length ys ≡ 16 = ap length (f ∙ whole) ∙ length-drop a xs ∙ omega arith in
         let place : a + (p + 4) ≡ 3300 + p = omega arith in
         last_at (chunk 0 16 ys) p (length-chunk 0 16 ys (omega arith)) l
         ∙ ap (λ (zs : List ℕ). get_or (chunk 0 16 zs) (p + 4) 0) f
@@ -69,14 +63,8 @@ stored n a p xs lanes h k l m =
     let front : length (take a xs) ≡ a = length-take-le a xs (omega arith) in
     let room : length rest ≡ n - a = ap length whole ∙ long ∙ ap (λ n. n - a) h in
     get_or-append_right (take a xs) (put_chunk 0 rest lanes ++ drop (n - a) (drop a xs)) a (a + p) 0 front (omega arith)
-    ∙ ap (λ i. get_or (put_chunk 0 rest lanes ++ drop (n - a) (drop a xs)) i 0) (back a p)
+    ∙ ap (λ i. get_or (put_chunk 0 rest lanes ++ drop (n - a) (drop a xs)) i 0) (omega arith)
     ∙ get_or_append_left (put_chunk 0 rest lanes) (drop (n - a) (drop a xs)) 0 p
     (omega (arith, length-put_chunk 0 rest lanes, room))
-    ∙ ap (λ i. get_or (put_chunk 0 rest lanes) i 0) (none p)
+    ∙ ap (λ i. get_or (put_chunk 0 rest lanes) i 0) (omega arith)
     ∙ get_or-put_chunk_at 0 rest lanes p 0 (omega arith) (omega (arith, room))
-  where
-    back : (a p : ℕ) → a + p - a ≡ p
-    back a p = omega arith
-
-    none : (p : ℕ) → p ≡ 0 + p
-    none p = omega arith

@@ -1,6 +1,6 @@
 -- Slicing: the level of a symbol, which may be any signed byte (ATSC A/53 Part 2, the levels of 8-VSB).
-use Rattle.std.specs.Prelude.{◌≡◌, ℕ, ℤ, pos, negsuc, ◌+◌, ◌-◌, ◌/◌, ◌<◌, nat_le, if◌then◌else◌, List, map}
-use Rattle.std.specs.Prelude.{drop, slice_index, slice_index_or}
+use Rattle.std.specs.Prelude.{◌≡◌, ℕ, ℤ, pos, negsuc, ◌+◌, ◌-◌, ◌/◌, ◌<◌, nat_le, if◌then◌else◌, List, map, drop}
+use Rattle.std.specs.Prelude.{slice_index, slice_index_or}
 
 -- Half of v + 8 where v is from -8 to 7, 0 below and 7 above. So -8 and -7 give level 0, -6 and -5 level 1, .., 6 and 7
 -- level 7.

@@ -71,7 +71,4 @@ pair_of_round s e r bytes h l =
     ap (λ x. pair_in (get_or bytes (828 * x + byte_place ((s + 4 * x) % 312) (r % 276) e) 0) (r % 276)) u
     ∙ ap (λ x. pair_in (get_or bytes (828 * 0 + byte_place ((s + 4 * 0) % 312) x e) 0) x) v
     ∙ ap (λ x. pair_in (get_or bytes (828 * 0 + byte_place x r e) 0) r) w
-    ∙ ap (λ x. pair_in (get_or bytes x 0) r) (none (byte_place s r e))
-  where
-    none : (n : ℕ) → 828 * 0 + n ≡ n
-    none n = omega arith
+    ∙ ap (λ x. pair_in (get_or bytes x 0) r) (omega arith)

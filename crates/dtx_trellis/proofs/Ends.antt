@@ -1,6 +1,6 @@
 -- A group's end: from facts at each place to whole lists.
-use Rattle.std.proofs.Common.{◌≡◌, ℕ, ◌+◌, ◌*◌, ◌/◌, ◌<◌, ℤ, pos, List, map, take, drop, length, length-drop}
-use Rattle.std.proofs.Common.{get_or, sym, ap, ◌∙◌, subst, arith}
+use Rattle.std.proofs.Common.{◌≡◌, ℕ, ◌+◌, ◌*◌, ◌<◌, ℤ, pos, List, map, take, drop, length, length-drop, get_or}
+use Rattle.std.proofs.Common.{sym, ap, ◌∙◌, subst, arith}
 use Rattle.std.specs.List.{range_with_len}
 use Rattle.std.proofs.lemmas.List.{ext_get_or, get_or-drop, get_or-map, get_or-take, length-map, length-take-le}
 use Rattle.std.proofs.lemmas.List.FromFn.{fill_by_all, get_or-map-range_with_len, length-map-range_with_len}
@@ -35,9 +35,6 @@ symbols_end s states bytes symbols h l f k m =
     long : length (take 828 (drop (832 * k + 4) symbols)) ≡ 828
     long = length-take-le 828 (drop (832 * k + 4) symbols) (omega (arith, length-drop (832 * k + 4) symbols))
 
-    place : (i : ℕ) → i < 828 → 832 * k + 4 + i ≡ 828 * k + i + 4 * ((828 * k + i) / 828 + 1)
-    place i n = omega arith
-
     segment : (levels : List ℕ) → length levels ≡ 3312
         → ((d : ℕ) → d < 3312 → get_or levels d 0 ≡ level_at s states bytes d)
         → take 828 (drop (832 * k + 4) symbols) ≡ map symbol_of (take 828 (drop (828 * k) levels))
@@ -50,7 +47,7 @@ symbols_end s states bytes symbols h l f k m =
         (λ i n.
         let j : i < 828 = omega (arith, long) in
         get_or-take 828 (drop (832 * k + 4) symbols) i (pos 0) j ∙ get_or-drop (832 * k + 4) symbols i (pos 0)
-        ∙ ap (λ p. get_or symbols p (pos 0)) (place i j) ∙ f (828 * k + i) (omega arith)
+        ∙ ap (λ p. get_or symbols p (pos 0)) (omega arith) ∙ f (828 * k + i) (omega arith)
         ∙ ap symbol_of (sym (get_or-take 828 (drop (828 * k) levels) i 0 j ∙ get_or-drop (828 * k) levels i 0
         ∙ g (828 * k + i) (omega arith)))
         ∙ sym (get_or-map symbol_of piece i 0 (pos 0) (omega (arith, other))))

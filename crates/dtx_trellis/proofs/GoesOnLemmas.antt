@@ -1,9 +1,8 @@
 -- The sums over more pairs go on from the state after the first ones.
-use Rattle.std.proofs.Common.{◌≡◌, ℕ, zero, suc, ◌+◌, ◌-◌, ◌<◌, ◌≤◌, List, ◌++◌, length, get_or, refl, sym, ap, ◌∙◌}
+use Rattle.std.proofs.Common.{◌≡◌, ℕ, zero, suc, ◌+◌, ◌<◌, ◌≤◌, List, ◌++◌, length, get_or, refl, sym, ap, ◌∙◌}
 use Rattle.std.proofs.Common.{subst, arith}
 use Rattle.std.proofs.lemmas.List.{get_or_append_left, get_or-append_right, length-append}
-use Rattle.dtx_trellis.specs.Trellis.{State, level, state_after, level_of, next_of}
-use Rattle.dtx_trellis.specs.Trellis.{AreBits}
+use Rattle.dtx_trellis.specs.Trellis.{State, level, state_after, level_of, next_of, AreBits}
 use Rattle.dtx_trellis.proofs.StepsLemmas.{state_step, level_step, after_zero}
 
 -- the first t pairs of two sequences are the same
@@ -24,8 +23,7 @@ pub same_states : (q : State) (a b c d : List ℕ) (t : ℕ) → AreBits q → S
 same_states q a b c d zero h s = after_zero q a b ∙ sym (after_zero q c d)
 same_states q a b c d (suc t) h s =
     let e : suc t ≡ t + 1 = omega arith in
-    subst (λ n. state_after q a b n ≡ state_after q c d n) (sym e)
-    (state_step q a b t h (omega (arith, s.long))
+    rw e (state_step q a b t h (omega (arith, s.long))
     ∙ next_eq (same_states q a b c d t h (record {
       long = omega (arith, s.long);
       longer = omega (arith, s.longer);
@@ -48,7 +46,7 @@ same_levels q a b c d t h s =
     (s.lower t (omega arith))
     ∙ sym (level_step q c d t h (omega (arith, s.longer)))
 
-next_bits : (q : State) (x u : ℕ) → AreBits q → AreBits (next_of q x u)
+pub next_bits : (q : State) (x u : ℕ) → AreBits q → AreBits (next_of q x u)
 next_bits q x u h = record { q2 = omega arith; q1 = omega arith; q0 = h.q1 }
 
 pub after_bits : (q : State) (a b : List ℕ) (t : ℕ) → AreBits q → t ≤ length a → AreBits (state_after q a b t)
@@ -61,15 +59,12 @@ after_bits q a b (suc t) h l =
 
 right : (a c : List ℕ) (t : ℕ) → get_or (a ++ c) (length a + t) 0 ≡ get_or c t 0
 right a c t = get_or-append_right a c (length a) (length a + t) 0 refl (omega arith)
-    ∙ ap (λ i. get_or c i 0) (back (length a) t)
-  where
-    back : (n t : ℕ) → n + t - n ≡ t
-    back n t = omega arith
+    ∙ ap (λ i. get_or c i 0) (omega arith)
 
 pub state_goes_on : (q : State) (a b c d : List ℕ) (t : ℕ) → AreBits q → length a ≡ length b → t ≤ length c
     → state_after q (a ++ c) (b ++ d) (length a + t) ≡ state_after (state_after q a b (length a)) c d t
 state_goes_on q a b c d zero h e l =
-    ap (state_after q (a ++ c) (b ++ d)) (none (length a))
+    ap (state_after q (a ++ c) (b ++ d)) (omega arith)
     ∙ same_states q (a ++ c) (b ++ d) a b (length a) h (record {
       long = omega (arith, length-append a c);
       longer = omega arith;
@@ -77,9 +72,6 @@ state_goes_on q a b c d zero h e l =
       lower = λ j k. get_or_append_left b d 0 j (omega (arith, e, k));
     })
     ∙ sym (after_zero (state_after q a b (length a)) c d)
-  where
-    none : (n : ℕ) → n + 0 ≡ n
-    none n = omega arith
 state_goes_on q a b c d (suc t) h e l =
     let f : length a + suc t ≡ length a + t + 1 = omega arith in
     let g : suc t ≡ t + 1 = omega arith in

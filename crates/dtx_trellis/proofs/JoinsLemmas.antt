@@ -1,5 +1,5 @@
 -- The groups of a longer list: the pairs, the states and the levels go on from those of the first groups.
-use Rattle.std.proofs.Common.{◌≡◌, ℕ, ◌+◌, ◌-◌, ◌*◌, ◌/◌, ◌%◌, ◌<◌, ◌≤◌, List, ◌++◌, map, length, get_or, sym, ap, ap₂}
+use Rattle.std.proofs.Common.{◌≡◌, ℕ, ◌+◌, ◌*◌, ◌/◌, ◌%◌, ◌<◌, ◌≤◌, List, ◌++◌, map, length, get_or, sym, ap, ap₂}
 use Rattle.std.proofs.Common.{◌∙◌, arith}
 use Rattle.std.specs.List.{range_with_len}
 use Rattle.std.proofs.lemmas.List.{get_or_append_left, get_or-append_right, length-append}
@@ -50,25 +50,16 @@ pair_behind : (s u e t : ℕ) (y z : List ℕ) → length y ≡ 828 * u
     → pair_at s (y ++ z) e (276 * u + t) ≡ pair_at (group_place s u) z e t
 unfolding pair_at
 pair_behind s u e t y z h =
-    ap₂ (λ (v r : ℕ). pair_in (get_or (y ++ z) (828 * v + byte_place (group_place s v) r e) 0) r) (divided u t)
-    (left u t)
+    ap₂ (λ (v r : ℕ). pair_in (get_or (y ++ z) (828 * v + byte_place (group_place s v) r e) 0) r) (omega arith)
+    (omega arith)
     ∙ ap (λ (q : ℕ). pair_in (get_or (y ++ z) (828 * (u + t / 276) + byte_place q (t % 276) e) 0) (t % 276))
     (place_on s u (t / 276))
     ∙ ap (λ (b : ℕ). pair_in b (t % 276)) (byte (byte_place (group_place (group_place s u) (t / 276)) (t % 276) e)
     (t / 276))
   where
-    divided : (u t : ℕ) → (276 * u + t) / 276 ≡ u + t / 276
-    divided u t = omega arith
-
-    left : (u t : ℕ) → (276 * u + t) % 276 ≡ t % 276
-    left u t = omega arith
-
-    back : (u v p : ℕ) → 828 * (u + v) + p - 828 * u ≡ 828 * v + p
-    back u v p = omega arith
-
     byte : (p v : ℕ) → get_or (y ++ z) (828 * (u + v) + p) 0 ≡ get_or z (828 * v + p) 0
     byte p v = get_or-append_right y z (828 * u) (828 * (u + v) + p) 0 h (omega arith)
-        ∙ ap (λ i. get_or z i 0) (back u v p)
+        ∙ ap (λ i. get_or z i 0) (omega arith)
 
 bits_append : (f : ℕ → ℕ) (s u e : ℕ) (y z : List ℕ) → length y ≡ 828 * u
     → map (λ t. f (pair_at s (y ++ z) e t)) (range_with_len 0 (276 * groups (y ++ z)))
@@ -76,16 +67,13 @@ bits_append : (f : ℕ → ℕ) (s u e : ℕ) (y z : List ℕ) → length y ≡ 
     ++ map (λ t. f (pair_at (group_place s u) z e t)) (range_with_len 0 (276 * groups z))
 bits_append f s u e y z h =
     ap (λ n. map (λ t. f (pair_at s (y ++ z) e t)) (range_with_len 0 n)) (ap (λ n. 276 * n) (groups_append u y z h)
-    ∙ rounds u (groups z))
+    ∙ omega arith)
     ∙ map-range_parts (λ t. f (pair_at s (y ++ z) e t)) (λ t. f (pair_at (group_place s u) z e t)) (276 * u)
     (276 * groups z) (λ k l. ap f (pair_behind s u e k y z h))
     ∙ ap (λ (xs : List ℕ). xs ++ map (λ t. f (pair_at (group_place s u) z e t)) (range_with_len 0 (276 * groups z)))
     (same_below (λ t. f (pair_at s (y ++ z) e t)) (λ t. f (pair_at s y e t)) (276 * u)
     (λ k l. ap f (pair_before s u e k y z h l))
     ∙ ap (λ n. map (λ t. f (pair_at s y e t)) (range_with_len 0 (276 * n))) (sym (groups_whole u y h)))
-  where
-    rounds : (u n : ℕ) → 276 * (u + n) ≡ 276 * u + 276 * n
-    rounds u n = omega arith
 
 pub higher_append : (s u e : ℕ) (y z : List ℕ) → length y ≡ 828 * u
     → higher s (y ++ z) e ≡ higher s y e ++ higher (group_place s u) z e
@@ -139,10 +127,7 @@ states_append s u states y z h =
     same_below (λ e. number_of (coder_after s states (y ++ z) (276 * groups (y ++ z)) e))
     (λ e. number_of (coder_after (group_place s u) (states_after s states y) z (276 * groups z) e)) 12
     (λ e l. ap number_of (ap (λ n. coder_after s states (y ++ z) n e) (ap (λ n. 276 * n) (groups_append u y z h)
-    ∙ rounds u (groups z)) ∙ coder_append s u e (276 * groups z) states y z h l (omega arith)))
-  where
-    rounds : (u n : ℕ) → 276 * (u + n) ≡ 276 * u + 276 * n
-    rounds u n = omega arith
+    ∙ omega arith) ∙ coder_append s u e (276 * groups z) states y z h l (omega arith)))
 
 coder_on : (s u d : ℕ) → coder_at s (3312 * u + d) ≡ coder_at (group_place s u) d
 unfolding coder_at group_place
@@ -181,9 +166,6 @@ level_behind s u d states y z h l =
     (coder_on s u d)
     ∙ at (coder_at (group_place s u) d) (coder_small (group_place s u) d)
   where
-    divided : (u d : ℕ) → (3312 * u + d) / 12 ≡ 276 * u + d / 12
-    divided u d = omega arith
-
     at : (e : ℕ) → e < 12
         → level (state_of (get_or states e 0)) (higher s (y ++ z) e) (lower s (y ++ z) e) ((3312 * u + d) / 12)
         ≡ level (state_of (get_or (states_after s states y) e 0)) (higher (group_place s u) z e)
@@ -193,7 +175,7 @@ level_behind s u d states y z h l =
         let g : 276 * u ≡ length (higher s y e) = sym (length_higher s e y ∙ ap (λ n. 276 * n) (groups_whole u y h)) in
         ap₂ (λ (a b : List ℕ). level q a b ((3312 * u + d) / 12)) (higher_append s u e y z h) (lower_append s u e y z h)
         ∙ ap (level q (higher s y e ++ higher (group_place s u) z e) (lower s y e ++ lower (group_place s u) z e))
-        (divided u d ∙ ap (λ n. n + d / 12) g)
+        (omega arith ∙ ap (λ n. n + d / 12) g)
         ∙ level_goes_on q (higher s y e) (lower s y e) (higher (group_place s u) z e) (lower (group_place s u) z e)
         (d / 12) (bits_of (get_or states e 0)) (length_higher s e y
         ∙ sym (length_lower s e y)) (omega (arith, length_higher (group_place s u) e z))
@@ -205,13 +187,10 @@ pub levels_append : (s u : ℕ) (states y z : List ℕ) → length y ≡ 828 * u
 unfolding levels_of
 levels_append s u states y z h =
     ap (λ n. map (level_at s states (y ++ z)) (range_with_len 0 n)) (ap (λ n. 3312 * n) (groups_append u y z h)
-    ∙ symbols u (groups z))
+    ∙ omega arith)
     ∙ map-range_parts (level_at s states (y ++ z)) (level_at (group_place s u) (states_after s states y) z) (3312 * u)
     (3312 * groups z) (λ d l. level_behind s u d states y z h l)
     ∙ ap (λ (xs : List ℕ). xs ++ map (level_at (group_place s u) (states_after s states y) z)
     (range_with_len 0 (3312 * groups z)))
     (same_below (level_at s states (y ++ z)) (level_at s states y) (3312 * u) (λ d l. level_before s u d states y z h l)
     ∙ ap (λ n. map (level_at s states y) (range_with_len 0 (3312 * n))) (sym (groups_whole u y h)))
-  where
-    symbols : (u n : ℕ) → 3312 * (u + n) ≡ 3312 * u + 3312 * n
-    symbols u n = omega arith

@@ -5,9 +5,8 @@ use Rattle.std.proofs.lemmas.Bool.{cases_lt, cond-true, cond_both, eq-eqb, eqb-t
 use Rattle.dtx_trellis.specs.Trellis.{AreBits, level_of, next_of, number_of, state_of, symbol_of}
 use Rattle.dtx_trellis.specs.Pairs.{byte_place, pair_in, coder_at}
 use Rattle.dtx_trellis.specs.Groups.{AreSent, coder_after, level_at, sent_place}
-use Rattle.dtx_trellis.specs.Lanes.{coder_turned, turn, AreNibbles, HoldsBytes, HoldsPairs, HoldsRound, HoldsStates}
-use Rattle.dtx_trellis.specs.Lanes.{IsMovedOn, StandsAt, behind_both, came_from, lane_behind, level_told, pair_taken}
-use Rattle.dtx_trellis.specs.Lanes.{turned_place}
+use Rattle.dtx_trellis.specs.Lanes.{coder_turned, turn, AreNibbles, HoldsPairs, HoldsRound, HoldsStates, IsMovedOn}
+use Rattle.dtx_trellis.specs.Lanes.{StandsAt, behind_both, came_from, lane_behind, level_told, pair_taken, turned_place}
 use Rattle.dtx_trellis.proofs.CodersLemmas.{coder_is, one_group, pair_0, pair_1, pair_2, pair_3}
 use Rattle.dtx_trellis.proofs.RoundsLemmas.{IsGroup, coder_next, level_next, coder_bits}
 use Rattle.dtx_trellis.proofs.LaneStepsLemmas.{level_behind, lower_both, state_behind, state_eq, turned_small}
@@ -89,18 +88,17 @@ turned_coder s t p e z l =
 
 pub same_turn : (s t : ℕ) → t % 69 ≢ 0 → turn s t ≡ turn s (t - 1)
 unfolding turn
-same_turn s t m = ap (λ i. (s + i) % 3) (inside t m)
-  where
-    inside : (t : ℕ) → t % 69 ≢ 0 → t / 69 ≡ (t - 1) / 69
-    inside t m = omega arith
+same_turn s t m = ap (λ i. (s + i) % 3) (omega arith)
 
 -- the first round of a byte group begins no segment but the first
 pub first_turn : (s h : ℕ) → h < 69 → turn s (4 * h) ≡ turn s (4 * h - 1)
 unfolding turn
-first_turn s h l = ap (λ i. (s + i) % 3) (inside h l)
-  where
-    inside : (h : ℕ) → h < 69 → 4 * h / 69 ≡ (4 * h - 1) / 69
-    inside h l = omega arith
+first_turn s h l = ap (λ i. (s + i) % 3) (omega arith)
+
+-- the bytes on which the coders work in round r
+pub record HoldsBytes (s : ℕ) (bytes : List ℕ) (r x : ℕ) (lanes : List ℕ) : Type 0 where
+  pub long : length lanes ≡ 16
+  pub at : (p : ℕ) → p < 12 → get_or lanes p 0 ≡ get_or bytes (byte_place s r (coder_turned x p)) 0
 
 -- the twelve bytes of byte group h
 pub loaded_bytes : (s h : ℕ) (bytes v : List ℕ) → length v ≡ 16
@@ -111,15 +109,12 @@ loaded_bytes s h bytes v k f = record {
   at = λ p l. f p l ∙ ap (λ i. get_or bytes i 0) (place p l);
 }
   where
-    back : (p x : ℕ) → p < 12 → ((p + 4 * (x % 3)) % 12 + 12 - 4 * (x % 3)) % 12 ≡ p
-    back p x l = omega arith
-
     place : (p : ℕ) → p < 12
         → 12 * h + p ≡ 12 * (4 * h / 4) + ((p + 4 * ((s + 4 * h / 69) % 3)) % 12 + 12 - 4 *
         ((s + 4 * (4 * h / 4) / 69) % 3)) % 12
     place p l =
         let e : 4 * h / 4 ≡ h = omega arith in
-        ap (λ x. 12 * h + x) (sym (back p (s + 4 * h / 69) l))
+        ap (λ x. 12 * h + x) (sym (omega arith))
         ∙ ap (λ x. 12 * x + ((p + 4 * ((s + 4 * h / 69) % 3)) % 12 + 12 - 4 * ((s + 4 * x / 69) % 3)) % 12) (sym e)
 
 -- place p has its coder from place q
@@ -178,17 +173,13 @@ pub second_moved : (s r : ℕ) (states bytes lanes pairs both lower behind : Lis
 second_moved s r states bytes lanes pairs both lower behind h n f m =
     let e : r ≡ r + 1 - 1 = omega arith in
     moved_round s (r + 1) (r + 1) states bytes lower behind (omega arith) m
-    (subst (λ t. HoldsRound s states bytes (r + 1) (turn s t) lower) e
-    (second_round s r (turn s r) states bytes lanes pairs both lower h n f))
+    (rw (← e) (second_round s r (turn s r) states bytes lanes pairs both lower h n f))
 
 -- the pairs of the four rounds of byte group h
 byte_later : (s h r e : ℕ) → r / 4 ≡ h → byte_place s (4 * h) e ≡ byte_place s r e
 unfolding byte_place
 byte_later s h r e f =
-    ap (λ k. 12 * k + (e + 12 - 4 * ((s + 4 * k / 69) % 3)) % 12) (whole h ∙ sym f)
-  where
-    whole : (h : ℕ) → 4 * h / 4 ≡ h
-    whole h = omega arith
+    ap (λ k. 12 * k + (e + 12 - 4 * ((s + 4 * k / 69) % 3)) % 12) (omega arith ∙ sym f)
 
 pub upper_pairs : (s h x : ℕ) (bytes v w : List ℕ) → HoldsBytes s bytes (4 * h) x v
     → AreNibbles w → ((p : ℕ) → p < 16 → get_or w p 0 ≡ get_or v p 0 / 16) → HoldsPairs s bytes (4 * h) x w
@@ -268,22 +259,13 @@ pub sent_more : (s r : ℕ) (states bytes : List ℕ) (before symbols : List ℤ
 unfolding AreSent sent_place
 sent_more s r states bytes before symbols h kept given d l = by_cases (cases_lt d (12 * r))
   where
-    earlier : d < 12 * r → d + 4 * (d / 828 + 1) < 12 * r + 4 * (12 * r / 828 + 1)
-    earlier k = omega arith
-
-    back : 12 * r ≤ d → 12 * r + (d - 12 * r) ≡ d
-    back k = omega arith
-
-    place : 12 * r ≤ d → 12 * r + 4 * (12 * r / 828 + 1) + (d - 12 * r) ≡ d + 4 * (d / 828 + 1)
-    place k = omega arith
-
     by_cases : (d < 12 * r) ⊎ (12 * r ≤ d)
         → get_or symbols (d + 4 * (d / 828 + 1)) (pos 0) ≡ symbol_of (level_at s states bytes d)
-    by_cases (inl k) = kept (d + 4 * (d / 828 + 1)) (earlier k) ∙ h d k
+    by_cases (inl k) = kept (d + 4 * (d / 828 + 1)) (omega arith) ∙ h d k
     by_cases (inr k) =
-        subst (λ i. get_or symbols i (pos 0) ≡ symbol_of (level_at s states bytes d)) (place k)
+        subst (λ i. get_or symbols i (pos 0) ≡ symbol_of (level_at s states bytes d)) (omega arith)
         (subst (λ n. get_or symbols (12 * r + 4 * (12 * r / 828 + 1) + (d - 12 * r)) (pos 0)
-        ≡ symbol_of (level_at s states bytes n)) (back k) (given (d - 12 * r) (omega arith)))
+        ≡ symbol_of (level_at s states bytes n)) (omega arith) (given (d - 12 * r) (omega arith)))
 
 pub none_sent : (s : ℕ) (states bytes : List ℕ) (symbols : List ℤ) → AreSent s states bytes 0 symbols
 unfolding AreSent
@@ -309,10 +291,7 @@ inside h g k l m n o = (omega arith, λ e. omega arith)
 
 pub inside_turn : (s h g k : ℕ) → g < 4 → 17 * g < h → h < 17 * (g + 1) → k < 4 → turn s (4 * h) ≡ turn s (4 * h + k)
 unfolding turn
-inside_turn s h g k l m n o = ap (λ i. (s + i) % 3) (none ∙ sym (inside h g k l m n o).0)
-  where
-    none : 4 * h / 69 ≡ g
-    none = omega arith
+inside_turn s h g k l m n o = ap (λ i. (s + i) % 3) (omega arith ∙ sym (inside h g k l m n o).0)
 
 pub not_both : (b : Bool) {P : Type 0} → b ≡ false → (P → b ≡ true) → P → ⊥
 not_both b f g p = false≢true (sym f ∙ g p)

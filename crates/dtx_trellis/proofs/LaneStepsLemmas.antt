@@ -14,6 +14,7 @@ use Rattle.dtx_trellis.specs.declared.lanes.TheConstants.{BEHIND_PAIRS, BEHIND_L
 use Rattle.dtx_trellis.specs.Trellis.{State, AreBits, level_of, next_of, number_of, state_of, symbol_of}
 use Rattle.dtx_trellis.specs.Lanes.{AreNibbles, behind_both, lane_behind, level_told, turned_place}
 use Rattle.dtx_trellis.proofs.RoundsLemmas.{bits_of}
+use Rattle.dtx_trellis.proofs.GoesOnLemmas.{next_bits}
 
 -- the lanes of the places four further on
 abbrev pub positions : List ℕ
@@ -72,10 +73,7 @@ pub looked_up_at : (table lanes : List ℕ) (p : ℕ) → AreNibbles lanes → p
     → get_or (swz_l w8 16 table 0 lanes) p 0 ≡ get_or table (get_or lanes p 0) 0
 looked_up_at table lanes p h l =
     get_or-swz_l_below w8 16 table 0 lanes p (omega (arith, h.long)) (h.small p l)
-    ∙ ap (λ i. get_or table i 0) (one_block (get_or lanes p 0))
-  where
-    one_block : (j : ℕ) → 16 * ((0 + p) / 16) + j ≡ j
-    one_block j = omega arith
+    ∙ ap (λ i. get_or table i 0) (omega arith)
 
 -- the tables
 both_test : holds_below (λ i. bit_xor (get_or BEHIND_PAIRS (i / 16) 0) (get_or BEHIND_LANES (i % 16) 0)
@@ -135,10 +133,6 @@ sent_at f g doubled p z h l e m all =
     ∙ ap (λ (xs : List ℤ). get_or xs z (pos 0)) all
     ∙ get_or-map-range_with_len symbol_of 0 8 z z (pos 0) m (omega arith)
 
--- what a lane holds behind a pair
-next_bits : (q : State) (x u : ℕ) → AreBits q → AreBits (next_of q x u)
-next_bits q x u h = record { q2 = omega arith; q1 = omega arith; q0 = h.q1 }
-
 pub lane_small : (q : State) (pair : ℕ) → AreBits q → lane_behind q pair < 16
 unfolding lane_behind
 lane_small q pair h = omega (arith, h.q1)
@@ -186,8 +180,5 @@ pub lower_both : (k n : ℕ)
 unfolding behind_both
 lower_both k n =
     let first : ℕ = lane_behind (state_of k) (n / 4) in
-    left first (lane_behind (state_of first) (n % 4)) (lane_small (state_of first) (n % 4) (bits_of first))
+    omega (arith, lane_small (state_of first) (n % 4) (bits_of first))
     ∙ ap (λ q. lane_behind q (n % 4)) (state_behind (state_of k) (n / 4) (bits_of k))
-  where
-    left : (a b : ℕ) → b < 16 → (16 * a + b) % 16 ≡ b
-    left a b l = omega arith

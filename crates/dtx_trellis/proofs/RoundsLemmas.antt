@@ -54,14 +54,11 @@ pub level_next : (s r p : ℕ) (states bytes : List ℕ) → IsGroup s bytes →
 unfolding coder_after level_at
 level_next s r p states bytes g l m = at (coder_at s (12 * r + p))
   where
-    round_is : (12 * r + p) / 12 ≡ r
-    round_is = omega arith
-
     at : (e : ℕ) → level (state_of (get_or states e 0)) (higher s bytes e) (lower s bytes e) ((12 * r + p) / 12)
         ≡ level_of (state_after (state_of (get_or states e 0)) (higher s bytes e) (lower s bytes e) r)
         (pair_in (byte_of s bytes r e) r / 2) (pair_in (byte_of s bytes r e) r % 2)
     at e =
-        ap (level (state_of (get_or states e 0)) (higher s bytes e) (lower s bytes e)) round_is
+        ap (level (state_of (get_or states e 0)) (higher s bytes e) (lower s bytes e)) (omega arith)
         ∙ level_step (state_of (get_or states e 0)) (higher s bytes e) (lower s bytes e) r (bits_of (get_or states e 0))
         (omega (arith, length_higher s e bytes, one_group bytes g.long))
         ∙ ap₂ (level_of (state_after (state_of (get_or states e 0)) (higher s bytes e) (lower s bytes e) r))

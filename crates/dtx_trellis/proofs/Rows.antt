@@ -18,10 +18,7 @@ places = refl
 pub bits : (b : ℕ) → pair_in b 0 ∷ pair_in b 69 ∷ pair_in b 138 ∷ pair_in b 207 ∷ pair_in b 276 ∷ []
     ≡ b / 64 % 4 ∷ b / 16 % 4 ∷ b / 4 % 4 ∷ b % 4 ∷ b / 64 % 4 ∷ []
 unfolding pair_in
-bits b = ap (λ x. b / 64 % 4 ∷ b / 16 % 4 ∷ b / 4 % 4 ∷ x % 4 ∷ b / 64 % 4 ∷ []) (whole b)
-  where
-    whole : (b : ℕ) → b / 1 ≡ b
-    whole b = omega arith
+bits b = ap (λ x. b / 64 % 4 ∷ b / 16 % 4 ∷ b / 4 % 4 ∷ x % 4 ∷ b / 64 % 4 ∷ []) (omega arith)
 
 -- the level and the next state of each state of q1 and q0, for X1 = 0 and for X1 = 1
 pub levels_without : map (λ n. level_of (state_of n) 0 0) (0 ∷ 1 ∷ 2 ∷ 3 ∷ []) ≡ 0 ∷ 0 ∷ 1 ∷ 1 ∷ []

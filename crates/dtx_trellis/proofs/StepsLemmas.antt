@@ -66,12 +66,9 @@ alternate_next b t =
 pub z0_next : (q : State) (b : List ℕ) (t : ℕ) → z0 q b (t + 2) ≡ (get_or b (t + 1) 0 + z0 q b t) % 2
 unfolding z0
 z0_next q b t =
-    ap₂ (λ (x y : ℕ). (cond (x == 0) q.q1 q.q0 + y) % 2) (even t) (alternate_next b t)
+    ap₂ (λ (x y : ℕ). (cond (x == 0) q.q1 q.q0 + y) % 2) (omega arith) (alternate_next b t)
     ∙ mod2 (cond (t % 2 == 0) q.q1 q.q0) (get_or b (t + 1) 0) (alternate b t)
   where
-    even : (t : ℕ) → (t + 2) % 2 ≡ t % 2
-    even t = omega arith
-
     mod2 : (c x y : ℕ) → (c + (x + y)) % 2 ≡ (x + (c + y) % 2) % 2
     mod2 c x y = omega arith
 
@@ -94,14 +91,8 @@ after_next : (q : State) (a b : List ℕ) (u : ℕ)
 unfolding state_after
 after_next q a b u =
     cond-false (u + 1 == 0) q (make (z2 q a (u + 1 - 1)) (z0 q b (u + 1)) (z0 q b (u + 1 - 1)))
-    (ne_eqb (u + 1) 0 (no u))
-    ∙ ap (λ v. make (z2 q a v) (z0 q b (u + 1)) (z0 q b v)) (back u)
-  where
-    no : (u : ℕ) → u + 1 ≡ 0 → ⊥
-    no u e = omega arith
-
-    back : (u : ℕ) → u + 1 - 1 ≡ u
-    back u = omega arith
+    (ne_eqb (u + 1) 0 (λ e. omega arith))
+    ∙ ap (λ v. make (z2 q a v) (z0 q b (u + 1)) (z0 q b v)) (omega arith)
 
 pub after_zero : (q : State) (a b : List ℕ) → state_after q a b 0 ≡ q
 unfolding state_after
@@ -119,14 +110,10 @@ state_step q a b zero h l =
     ∙ ap (λ s. next_of s (get_or a 0 0) (get_or b 0 0)) (sym (after_zero q a b))
 state_step q a b (suc u) h l =
     let e : suc u ≡ u + 1 = omega arith in
-    subst (λ t. state_after q a b (t + 1) ≡ next_of (state_after q a b t) (get_or a t 0) (get_or b t 0)) (sym e)
-    (after_next q a b (u + 1)
-    ∙ make_eq (z2_next q a u (omega arith) ∙ swapped (z2 q a u) (get_or a (u + 1) 0)) (ap (z0 q b) (two u)
+    rw e (after_next q a b (u + 1)
+    ∙ make_eq (z2_next q a u (omega arith) ∙ swapped (z2 q a u) (get_or a (u + 1) 0)) (ap (z0 q b) (omega arith)
     ∙ z0_next q b u) refl
     ∙ ap (λ s. next_of s (get_or a (u + 1) 0) (get_or b (u + 1) 0)) (sym (after_next q a b u)))
-  where
-    two : (u : ℕ) → u + 1 + 1 ≡ u + 2
-    two u = omega arith
 
 pub level_step : (q : State) (a b : List ℕ) (t : ℕ) → AreBits q → t < length a
     → level q a b t ≡ level_of (state_after q a b t) (get_or a t 0) (get_or b t 0)
@@ -136,8 +123,6 @@ level_step q a b zero h l =
     ∙ ap (λ s. level_of s (get_or a 0 0) (get_or b 0 0)) (sym (after_zero q a b))
 level_step q a b (suc u) h l =
     let e : suc u ≡ u + 1 = omega arith in
-    subst (λ t. 4 * z2 q a t + 2 * get_or b t 0 + z0 q b t
-    ≡ level_of (state_after q a b t) (get_or a t 0) (get_or b t 0)) (sym e)
-    (ap (λ x. 4 * x + 2 * get_or b (u + 1) 0 + z0 q b (u + 1)) (z2_next q a u (omega arith)
+    rw e (ap (λ x. 4 * x + 2 * get_or b (u + 1) 0 + z0 q b (u + 1)) (z2_next q a u (omega arith)
     ∙ swapped (z2 q a u) (get_or a (u + 1) 0))
     ∙ ap (λ s. level_of s (get_or a (u + 1) 0) (get_or b (u + 1) 0)) (sym (after_next q a b u)))

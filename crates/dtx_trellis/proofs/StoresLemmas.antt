@@ -22,16 +22,10 @@ stored {X} z a p symbols lanes h k l m =
     let front : length (take a symbols) ≡ a = length-take-le a symbols (omega arith) in
     let room : length rest ≡ 3328 - a = ap length whole ∙ long ∙ ap (λ n. n - a) h in
     get_or-append_right (take a symbols) (put_chunk 0 rest lanes ++ behind) a (a + p) z front (omega arith)
-    ∙ ap (λ i. get_or (put_chunk 0 rest lanes ++ behind) i z) (back a p)
+    ∙ ap (λ i. get_or (put_chunk 0 rest lanes ++ behind) i z) (omega arith)
     ∙ get_or_append_left (put_chunk 0 rest lanes) behind z p (omega (arith, length-put_chunk 0 rest lanes, room))
-    ∙ ap (λ i. get_or (put_chunk 0 rest lanes) i z) (none p)
+    ∙ ap (λ i. get_or (put_chunk 0 rest lanes) i z) (omega arith)
     ∙ get_or-put_chunk_at 0 rest lanes p z (omega arith) (omega (arith, room))
-  where
-    back : (a p : ℕ) → a + p - a ≡ p
-    back a p = omega arith
-
-    none : (p : ℕ) → p ≡ 0 + p
-    none p = omega arith
 
 -- sixteen lanes that are read from place 12 * h on
 pub loaded : (a p : ℕ) (bytes : List ℕ) → length bytes ≡ 828 → a < 813 → p < 16
@@ -67,15 +61,12 @@ pub last_loaded : (p : ℕ) (bytes : List ℕ) → length bytes ≡ 828 → p < 
     lasts) p 0 ≡ get_or bytes (816 + p) 0
 last_loaded p bytes h l = at 812 (take 16 (drop 812 bytes)) refl refl
   where
-    short : (n a : ℕ) → n ≡ 828 → a ≡ 812 → n - a ≡ 16
-    short n a h e = omega arith
-
     at : (a : ℕ) (xs : List ℕ) → a ≡ 812 → xs ≡ take (828 - a) (drop a bytes)
         → get_or (map (λ k. get_or (chunk 0 16 xs ++ chunk 0 16 xs) k 0) lasts) p 0 ≡ get_or bytes (816 + p) 0
     at a xs e f =
         let whole : take (828 - a) (drop a bytes) ≡ drop a bytes =
         take_all (828 - a) (drop a bytes) (omega (arith, length-drop a bytes)) in
-        let long : length xs ≡ 16 = ap length (f ∙ whole) ∙ length-drop a bytes ∙ short (length bytes) a h e in
+        let long : length xs ≡ 16 = ap length (f ∙ whole) ∙ length-drop a bytes ∙ omega arith in
         let place : a + (p + 4) ≡ 816 + p = omega arith in
         last_at (chunk 0 16 xs) p (length-chunk 0 16 xs (omega arith)) l
         ∙ ap (λ (ys : List ℕ). get_or (chunk 0 16 ys) (p + 4) 0) f

@@ -2,8 +2,7 @@
 -- place s of its field (ATSC A/53 Part 2, trellis coding).
 use Rattle.std.specs.Prelude.{ℕ, ◌≡◌, ◌+◌, ◌*◌, ◌/◌, ◌<◌, ℤ, pos, List, map, slice_index, slice_index_or}
 use Rattle.std.specs.List.{range_with_len}
-use Rattle.dtx_sizes.specs.declared.segments.TheConstants.{CODERS, GROUP_LEVELS, ROUNDS, SEGMENT_LEVELS}
-use Rattle.dtx_sizes.specs.declared.segments.TheConstants.{SEGMENT_SYNC}
+use Rattle.dtx_sizes.specs.declared.segments.TheConstants.{CODERS, GROUP_LEVELS, ROUNDS, SEGMENT_LEVELS, SEGMENT_SYNC}
 use Rattle.dtx_trellis.specs.Trellis.{State, level, state_after, state_of, symbol_of, number_of}
 use Rattle.dtx_trellis.specs.Pairs.{groups, higher, lower, coder_at}
 

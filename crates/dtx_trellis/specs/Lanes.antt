@@ -56,11 +56,6 @@ pub record StandsAt (s : ℕ) (states bytes : List ℕ) (h : ℕ) (lanes : List 
   pub held : HoldsStates s states bytes (4 * h) (turn s (4 * h - 1)) lanes
   pub sent : AreSent s states bytes (CODERS * (4 * h)) symbols
 
--- the bytes on which the coders work in round r
-pub record HoldsBytes (s : ℕ) (bytes : List ℕ) (r x : ℕ) (lanes : List ℕ) : Type 0 where
-  pub long : length lanes ≡ LANES
-  pub at : (p : ℕ) → p < CODERS → slice_index lanes p ≡ slice_index bytes (byte_place s r (coder_turned x p))
-
 -- the pairs of rounds r and r + 1, as bits 3 and 2 and bits 1 and 0
 pub record HoldsPairs (s : ℕ) (bytes : List ℕ) (r x : ℕ) (lanes : List ℕ) : Type 0 where
   pub nibbles : AreNibbles lanes

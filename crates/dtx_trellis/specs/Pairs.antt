@@ -3,8 +3,7 @@
 use Rattle.std.specs.Prelude.{ℕ, ◌+◌, ◌*◌, ◌-◌, ◌/◌, ◌%◌, ◌^◌, List, map, length, slice_index}
 use Rattle.std.specs.List.{range_with_len}
 use Rattle.dtx_sizes.specs.declared.fields.TheConstants.{FIELD_PACKETS}
-use Rattle.dtx_sizes.specs.declared.segments.TheConstants.{CODERS, GROUP_BYTES, ROUNDS, SEGMENT_LEVELS}
-use Rattle.dtx_sizes.specs.declared.segments.TheConstants.{SEGMENT_ROUNDS}
+use Rattle.dtx_sizes.specs.declared.segments.TheConstants.{CODERS, GROUP_BYTES, ROUNDS, SEGMENT_LEVELS, SEGMENT_ROUNDS}
 
 -- how many whole groups there are
 unfoldable pub groups : List ℕ → ℕ

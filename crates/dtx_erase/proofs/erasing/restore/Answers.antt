@@ -30,9 +30,7 @@ returns-in-Some c right p =
       half = half;
       recurs = is.2;
     })
-    (subst (λ m. (p : ℕ) → p < m → is_marked c.suspects-suspects.result p
-    ≡ is_suspect m c.args.marks.now c.in-Some.found.coefficients c.in-Some.found.order p) same
-    c.suspects-suspects.ensures.marks)
+    (rw (← same) c.suspects-suspects.ensures.marks)
     c.patch.ensures.patched c.patch.ensures.long p
 
 pub returns-in_default : goal.returns-in_default

@@ -1,5 +1,5 @@
-use Rattle.std.proofs.Common.{◌≡◌, ℕ, ℤ, ◌+◌, ◌-◌, ◌%◌, ◌<◌, ◌≤◌, List, [], ◌∷◌, ◌++◌, length, map, take}
-use Rattle.std.proofs.Common.{get_or, refl, sym, ap, subst, ◌∙◌, arith, append_assoc}
+use Rattle.std.proofs.Common.{◌≡◌, ℕ, ℤ, ◌+◌, ◌-◌, ◌%◌, ◌<◌, ◌≤◌, List, [], ◌∷◌, ◌++◌, length, map, take, get_or, refl}
+use Rattle.std.proofs.Common.{sym, ap, subst, ◌∙◌, arith, append_assoc}
 use Rattle.std.proofs.lemmas.List.{append-nil, length-append, length-map, length-take-le, map-append, take_all}
 use Rattle.std.proofs.lemmas.List.{take_more}
 use Rattle.dtx_slice.specs.Unrolled.{precoder_bits_after}
@@ -36,7 +36,7 @@ pub loop-i-init : goal.loop-i-init
 loop-i-init c = record {
   long = refl;
   rest = refl;
-  grouped = λ run given d e. subst (λ s. AreGrouped c.args.side.now.groups s given) (sym (append-nil run)) d;
+  grouped = λ run given d e. rw (append-nil run) d;
   held = omega (arith, ap length c.requires.none);
   lowest = λ l z e. absurd (omega (arith, l));
 }

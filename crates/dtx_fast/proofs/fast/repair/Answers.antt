@@ -1,9 +1,8 @@
-use Rattle.std.proofs.Common.{◌≡◌, ℕ, ◌<◌, ◌+◌, ◌*◌, ◌/◌, ◌-◌, ◌≤◌, List, length, refl, subst}
-use Rattle.std.proofs.Common.{arith, get_or}
+use Rattle.std.proofs.Common.{◌≡◌, ℕ, ◌<◌, ◌+◌, ◌*◌, ◌/◌, ◌-◌, ◌≤◌, List, length, refl, arith, get_or}
 use Rattle.dtx_galois.specs.Field.{pow, value}
 use Rattle.dtx_laws.specs.Codeword.{distance}
 use Rattle.dtx_fast.proofs.ConnectionLemmas.{least_of_word}
-use Rattle.dtx_fast.specs.Recurrence.{IsRecurrence, inverse_at}
+use Rattle.dtx_fast.specs.Recurrence.{inverse_at}
 use Rattle.dtx_fast.proofs.RepairLemmas.{repaired_right}
 use Rattle.dtx_fast.proofs.fast.repair.Goals as goal
 
@@ -27,7 +26,7 @@ returns-in-Some c right ic =
     let syndromes : (i : ℕ) → i < n - k → s i ≡ value word (pow 2 i) = c.requires.values in
     repaired_right n k t found.order word right c.patch.new.word s cs code.short twice c.requires.bytes refl ic
     is.1 (λ i l. syndromes i (omega (arith, l, twice)))
-    (subst (λ m. IsRecurrence m c.in-Some.found.order s cs) twice is.2)
+    (rw (← twice) is.2)
     (least_of_word n k (n - k) found.order word right s refl ic (omega arith) syndromes is.3)
     c.patch.ensures.long c.patch.ensures.repaired
 

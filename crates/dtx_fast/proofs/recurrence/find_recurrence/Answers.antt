@@ -1,5 +1,5 @@
 use Rattle.std.proofs.Common.{◌≡◌, ℕ, ◌<◌, List, sym, subst, arith, get_or}
-use Rattle.dtx_fast.specs.Recurrence.{IsRecurrence, IsLeast}
+use Rattle.dtx_fast.specs.Recurrence.{IsLeast}
 use Rattle.dtx_fast.proofs.StageLemmas.{stage_recurs}
 use Rattle.dtx_fast.proofs.recurrence.find_recurrence.Goals as goal
 
@@ -24,9 +24,8 @@ returns-clause-some c =
     let order : stage.order ≡ c.new.result.order = sym c.new.ensures.order in (
       omega (arith, c.loop-n.invariant.half, order),
       λ k. subst (λ xs. get_or xs k 0 < 256) (sym c.new.ensures.coefficients) (c.new.ensures.bytes k),
-      subst (λ xs. IsRecurrence c.args.count c.new.result.order s (cs xs)) (sym c.new.ensures.coefficients)
-          (subst (λ l. IsRecurrence c.args.count l s (cs c.loop-n.stage.coefficients)) order
-          (subst (λ m. IsRecurrence m c.loop-n.stage.order s (cs c.loop-n.stage.coefficients)) n
+      rw c.new.ensures.coefficients (rw (← order)
+          (rw (← n)
           (stage_recurs c.loop-n.n stage.order stage.gap stage.inverse.0 s (cs stage.coefficients) (cs stage.before)
           c.loop-n.invariant.stage))),
       subst (λ l. IsLeast c.args.count l s) order

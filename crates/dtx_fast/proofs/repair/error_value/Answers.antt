@@ -1,5 +1,4 @@
-use Rattle.std.proofs.Common.{◌∙◌, ℕ, ◌-◌, refl, sym, ap, ap₂, bit_xor, get_or, add-one}
-use Rattle.std.proofs.Common.{arith, ◌≡◌}
+use Rattle.std.proofs.Common.{◌∙◌, ℕ, ◌-◌, refl, sym, ap, ap₂, bit_xor, get_or, add-one, arith, ◌≡◌}
 use Rattle.dtx_galois.specs.Field.{mul, pow}
 use Rattle.dtx_laws.specs.Locator.{low_value}
 use Rattle.dtx_fast.specs.Recurrence.{discrepancy, quotient, turned, error_value}

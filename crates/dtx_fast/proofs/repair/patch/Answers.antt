@@ -1,4 +1,4 @@
-use Rattle.std.proofs.Common.{◌≡◌, ◌∙◌, ◌+◌, ◌-◌, ◌<◌, ◌≤◌, ℕ, List, length, ap, arith, get_or, bit_xor}
+use Rattle.std.proofs.Common.{◌∙◌, ◌-◌, ℕ, List, length, ap, arith, get_or, bit_xor}
 use Rattle.std.proofs.lemmas.List.{get_or-set_other, length-set}
 use Rattle.dtx_fast.specs.Recurrence.{error_value}
 use Rattle.dtx_fast.proofs.RepairLemmas.{patched_more}
@@ -21,14 +21,11 @@ loop-exponent-preserved c =
           next.passed (c.error_value.ensures ∙ ap (error_value c.args.found.now.order cs s) c.power_at.ensures)
           kept.done kept.left;
       left = λ p l. get_or-set_other now (n - 1 - e) p (bit_xor (get_or now (n - 1 - e) 0) x) 0
-          (λ same. before n e c.next_zero-exponent-in-loop-exponent.result p l next.from same)
+          (λ same. omega (arith, next.from))
           ∙ kept.left p (omega (arith, l, next.from));
       zero = next.zero;
       long = length-set now (n - 1 - e) (bit_xor (get_or now (n - 1 - e) 0) x) ∙ kept.long;
     }
-  where
-    before : (n e f p : ℕ) → p + f < n → e + 1 ≤ f → p ≡ n - 1 - e → ⊥
-    before n e f p l g same = omega arith
 
 pub returns-clause-repaired : goal.returns-clause-repaired
 returns-clause-repaired c = λ p l. c.loop-exponent.invariant.done p l (omega (arith, c.loop-exponent-test.false))

@@ -1,4 +1,4 @@
-use Rattle.std.proofs.Common.{◌∙◌, ℕ, refl, sym, ap, ap₂, bit_xor, get_or, add-one}
+use Rattle.std.proofs.Common.{◌∙◌, refl, sym, ap, ap₂, bit_xor, get_or, add-one}
 use Rattle.dtx_galois.specs.Field.{mul, pow}
 use Rattle.dtx_fast.specs.Recurrence.{walked}
 use Rattle.dtx_fast.proofs.repair.value_at.Goals as goal

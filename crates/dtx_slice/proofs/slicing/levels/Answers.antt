@@ -6,5 +6,4 @@ use Rattle.dtx_slice.proofs.slicing.levels.Goals as goal
 pub returns-clause-small : goal.returns-clause-small
 unfolding sliced_data
 returns-clause-small c =
-    subst (λ (xs : List ℕ). (k : ℕ) → k < length xs → get_or xs k 0 < 8) (sym c.slice_data.ensures)
-    (sliced_all_small 4 c.args.segment.now)
+    rw c.slice_data.ensures (sliced_all_small 4 c.args.segment.now)

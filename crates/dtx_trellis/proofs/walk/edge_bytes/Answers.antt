@@ -1,7 +1,7 @@
 use Rattle.std.proofs.Common.{◌≡◌, ℕ, ◌+◌, ◌-◌, ◌*◌, sym, subst, arith}
-use Rattle.dtx_trellis.specs.Lanes.{HoldsBytes, HoldsStates, turn}
-use Rattle.dtx_trellis.proofs.LaneRoundsLemmas.{first_turn, loaded_bytes, lower_pairs, moved_bytes, moved_states}
-use Rattle.dtx_trellis.proofs.LaneRoundsLemmas.{round_place, stands_next, upper_pairs}
+use Rattle.dtx_trellis.specs.Lanes.{HoldsStates, turn}
+use Rattle.dtx_trellis.proofs.LaneRoundsLemmas.{HoldsBytes, first_turn, loaded_bytes, lower_pairs, moved_bytes}
+use Rattle.dtx_trellis.proofs.LaneRoundsLemmas.{moved_states, round_place, stands_next, upper_pairs}
 use Rattle.dtx_trellis.proofs.walk.edge_bytes.Goals as goal
 
 pub next_place-requires-clause-place : goal.next_place-requires-clause-place
@@ -12,8 +12,7 @@ two_rounds-middle-requires-clause-place c = round_place (4 * c.args.byte)
 
 pub two_rounds-middle-requires-clause-states : goal.two_rounds-middle-requires-clause-states
 two_rounds-middle-requires-clause-states c =
-    subst (λ x. HoldsStates c.args.first c.args.from.now c.args.bytes.now (4 * c.args.byte) x c.args.start)
-    (sym (first_turn c.args.first c.args.byte c.requires.byte)) c.requires.stands.held
+    rw (first_turn c.args.first c.args.byte c.requires.byte) c.requires.stands.held
 
 pub two_rounds-middle-requires-clause-pairs : goal.two_rounds-middle-requires-clause-pairs
 two_rounds-middle-requires-clause-pairs c =
@@ -32,8 +31,7 @@ two_rounds-requires-clause-states c =
     let e : 4 * c.args.byte + 1 ≡ 4 * c.args.byte + 2 - 1 = omega arith in
     moved_states s (4 * h + 2) (4 * h + 2) from bytes c.two_rounds-middle.result c.moved_on-middle.result (omega arith)
     c.moved_on-middle.ensures
-    (subst (λ t. HoldsStates s from bytes (4 * h + 2) (turn s t) c.two_rounds-middle.result) e
-    c.two_rounds-middle.ensures.states)
+    (rw (← e) c.two_rounds-middle.ensures.states)
 
 pub two_rounds-requires-clause-pairs : goal.two_rounds-requires-clause-pairs
 two_rounds-requires-clause-pairs c =
@@ -46,10 +44,8 @@ two_rounds-requires-clause-pairs c =
     let loaded = c.load-loaded.result in
     lower_pairs s h (turn s (4 * h + 2)) bytes c.moved_on-turned.result c.lower-pairs.result
     (moved_bytes s (4 * h + 2) (4 * h) bytes moved c.moved_on-turned.result (omega arith) c.moved_on-turned.ensures
-    (subst (λ t. HoldsBytes s bytes (4 * h) (turn s t) moved) f
-    (moved_bytes s (4 * h + 1) (4 * h) bytes loaded moved (omega arith) c.moved_on.ensures
-    (subst (λ t. HoldsBytes s bytes (4 * h) (turn s t) loaded) e
-    (loaded_bytes s h bytes loaded c.load-loaded.ensures.long c.load-loaded.ensures.bytes)))))
+    (rw (← f) (moved_bytes s (4 * h + 1) (4 * h) bytes loaded moved (omega arith) c.moved_on.ensures
+    (rw (← e) (loaded_bytes s h bytes loaded c.load-loaded.ensures.long c.load-loaded.ensures.bytes)))))
     c.lower-pairs.ensures.nibbles c.lower-pairs.ensures.lanes
 
 pub returns : goal.returns

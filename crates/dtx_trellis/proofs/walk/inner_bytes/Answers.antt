@@ -1,17 +1,14 @@
-use Rattle.std.proofs.Common.{◌≡◌, ℕ, ◌+◌, ◌*◌, ◌/◌, ◌<◌, sym, ap, ◌∙◌, subst, arith}
-use Rattle.dtx_trellis.specs.Lanes.{HoldsBytes, HoldsStates, turn}
-use Rattle.dtx_trellis.proofs.LaneRoundsLemmas.{first_turn, inside, inside_turn, loaded_bytes, lower_pairs, round_place}
-use Rattle.dtx_trellis.proofs.LaneRoundsLemmas.{stands_next, upper_pairs}
+use Rattle.std.proofs.Common.{◌≡◌, ℕ, ◌+◌, ◌*◌, sym, ap, ◌∙◌, subst, arith}
+use Rattle.dtx_trellis.specs.Lanes.{HoldsStates, turn}
+use Rattle.dtx_trellis.proofs.LaneRoundsLemmas.{HoldsBytes, first_turn, inside, inside_turn, loaded_bytes, lower_pairs}
+use Rattle.dtx_trellis.proofs.LaneRoundsLemmas.{round_place, stands_next, upper_pairs}
 use Rattle.dtx_trellis.proofs.walk.inner_bytes.Goals as goal
 
 pub two_rounds-middle-requires-clause-place : goal.two_rounds-middle-requires-clause-place
 two_rounds-middle-requires-clause-place c =
-    ap (λ g. 12 * (4 * c.args.byte) + 4 * (g + 1)) (sym (starts c.args.byte c.args.segment c.requires.segment
-    c.requires.behind c.requires.before))
+    ap (λ g. 12 * (4 * c.args.byte) + 4 * (g + 1))
+    (sym (omega (arith, c.requires.segment, c.requires.behind, c.requires.before)))
     ∙ round_place (4 * c.args.byte)
-  where
-    starts : (h g : ℕ) → g < 4 → 17 * g < h → h < 17 * (g + 1) → 4 * h / 69 ≡ g
-    starts h g l m n = omega arith
 
 pub two_rounds-middle-requires-clause-states : goal.two_rounds-middle-requires-clause-states
 two_rounds-middle-requires-clause-states c =

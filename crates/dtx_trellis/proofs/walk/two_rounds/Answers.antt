@@ -30,9 +30,7 @@ emit-requires-2-clause-held c =
 pub returns-clause-states : goal.returns-clause-states
 returns-clause-states c =
     let e : c.args.round + 1 + 1 ≡ c.args.round + 2 = omega arith in
-    subst (λ t. HoldsStates c.args.first c.args.from.now c.args.bytes.now t (turn c.args.first (c.args.round + 1))
-    c.moved_on-behind.result) e
-    (second_moved c.args.first c.args.round c.args.from.now c.args.bytes.now c.args.lanes c.args.pairs
+    rw (← e) (second_moved c.args.first c.args.round c.args.from.now c.args.bytes.now c.args.lanes c.args.pairs
     c.two_pairs-both.result c.lower.result c.moved_on-behind.result (record {
       group = record { place = c.requires.first; long = c.told-bytes };
       round = c.requires.round;
@@ -44,4 +42,4 @@ returns-clause-states c =
 pub returns-clause-sent : goal.returns-clause-sent
 returns-clause-sent c =
     let e : c.args.round + 1 + 1 ≡ c.args.round + 2 = omega arith in
-    subst (λ r. AreSent c.args.first c.args.from.now c.args.bytes.now (12 * r) c.emit-2.new.symbols) e c.emit-2.ensures
+    rw (← e) c.emit-2.ensures

@@ -7,11 +7,7 @@ use Rattle.dtx_erase.proofs.decoder.MendDecoder.give_group.Goals as goal
 
 pub returns-else-self-gt0-clause-given : goal.returns-else-self-gt0-clause-given
 returns-else-self-gt0-clause-given c z =
-    subst (λ (k : Decoding). (c.self.inside.waits ≡ 0) × ((c.self.inside.place + 4) % 312 ≡ (k.place + 4) % 312)
-    × (c.give_four.new.batch.packets.items ≡ c.args.batch.now.packets.items
-    ++ map (λ p. mended_word (187 * ((k.place + p) % 312)) (word_of k.bytes.gathered (4 * c.args.group + p))
-    (word_of k.marks.gathered (4 * c.args.group + p))) (0 ∷ 1 ∷ 2 ∷ 3 ∷ [])))
-    c.self.view_is (
+    rw (← c.self.view_is) (
       ap (λ (k : Decoding). k.waits) c.self.view_is ∙ z,
       refl,
       c.give_four.ensures

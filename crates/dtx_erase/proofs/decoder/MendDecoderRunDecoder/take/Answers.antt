@@ -5,11 +5,8 @@ use Rattle.dtx_erase.proofs.decoder.MendDecoderRunDecoder.take.Goals as goal
 
 pub returns-clause-stands : goal.returns-clause-stands
 returns-clause-stands c = λ run d e.
-    subst (λ (x : List ℤ). Decodes c.take_all.new.self (run ++ x ∷ [])) c.as_bytes.ensures
-    (c.take_all.ensures.stands run d e)
+    rw (← c.as_bytes.ensures) (c.take_all.ensures.stands run d e)
 
 pub returns-clause-packets : goal.returns-clause-packets
 returns-clause-packets c = λ run d e.
-    subst (λ (x : List ℤ). mended_run_early (run ++ x ∷ []) ≡ mended_run_early run
-    ++ c.take_all.new.batch.packets.items)
-    c.as_bytes.ensures (c.take_all.ensures.packets run d e)
+    rw (← c.as_bytes.ensures) (c.take_all.ensures.packets run d e)

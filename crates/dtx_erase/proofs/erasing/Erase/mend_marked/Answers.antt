@@ -21,7 +21,7 @@ pub returns-else-is_codeword-clause-answer : goal.returns-else-is_codeword-claus
 returns-else-is_codeword-clause-answer g c =
     not_restored g.row.N g.row.K c.args.marks.now c.args.word.now c.restore.new.word
     (λ right p. c.restore.ensures right
-    (subst (λ m. IsMending m g.row.K c.args.marks.now c.args.word.now right) (sym c.told-word) p))
+    (rw c.told-word p))
     (λ h. true≢false (sym (c.is_codeword.ensures.1 h) ∙ c.if-is_codeword.false))
 
 pub accept-requires : goal.accept-requires

@@ -7,4 +7,4 @@ pub invariant_of-self : goal.invariant_of-self
 invariant_of-self c = let d = c.begin.ensures in (known_afresh c.begin.new.self d.none c.known.ensures, omega arith)
 
 pub returns : goal.returns
-returns c = subst (λ (x : List ℤ). Holds c.begin.new.self (x ∷ [])) c.as_marks.ensures c.begin.ensures
+returns c = rw (← c.as_marks.ensures) c.begin.ensures

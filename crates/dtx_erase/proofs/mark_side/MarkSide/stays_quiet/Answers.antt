@@ -6,5 +6,4 @@ use Rattle.dtx_erase.proofs.mark_side.MarkSide.stays_quiet.Goals as goal
 pub returns-then-self-clause-none : goal.returns-then-self-clause-none
 returns-then-self-clause-none c = λ t.
     none_missing c.args.segments.now c.told-segments
-    (subst (λ (xs : List ℕ). (i : ℕ) → i < length xs → cast_signed w8 (get_or xs i 0) ≢ negsuc 127)
-    c.as_flattened.ensures.value (c.any_missing.ensures (none_set c.any_missing.result t)))
+    (rw (← c.as_flattened.ensures.value) (c.any_missing.ensures (none_set c.any_missing.result t)))

@@ -1,5 +1,5 @@
-use Rattle.std.proofs.Common.{rules, ◌*◌, ◌/◌, ap, subst, sym, arith}
-use Rattle.dtx_outer.specs.Inner.{Kept, Gives}
+use Rattle.std.proofs.Common.{rules, ◌/◌, ap, sym, arith}
+use Rattle.dtx_outer.specs.Inner.{Kept}
 use Rattle.dtx_outer.proofs.Coding.{packet_within}
 use Rattle.dtx_outer.proofs.Runs.{next_waiting, next_given}
 use Rattle.dtx_outer.proofs.inner.Inner.give_next.Goals as goal
@@ -44,8 +44,7 @@ returns-clause-waiting g c = λ h.
 
 pub returns-clause-given : goal.returns-clause-given
 returns-clause-given g c = λ _ gathered corrected.
-    subst (λ (d : Kept). Gives g.row.N g.row.K d.white (g.row.K * d.place) gathered c.give.new.out c.give.result)
-    c.self.view_is (c.give.ensures gathered corrected)
+    rw (← c.self.view_is) (c.give.ensures gathered corrected)
 
 pub returns-clause-kept : goal.returns-clause-kept
 returns-clause-kept g c =

@@ -1,5 +1,4 @@
-use Rattle.std.proofs.Common.{subst, length, ◌≡◌}
-use Rattle.dtx_laws.specs.Branches.{HasWidths, gathering}
+use Rattle.std.proofs.Common.{subst}
 use Rattle.dtx_galois.specs.Field.{AreBytes}
 use Rattle.dtx_outer.specs.Inner.{Kept}
 use Rattle.dtx_outer.proofs.inner.Inner.known.Goals as goal
@@ -9,9 +8,7 @@ returns g c = record {
   period = c.self.invariant.0;
   code = c.known.ensures;
   numbers = c.known-2.ensures.numbers;
-  widths = subst (λ (d : Kept). HasWidths g.row.B (gathering g.row.B g.row.M) d.branches) c.self.view_is
-      c.known-2.ensures.widths;
-  long = subst (λ (d : Kept). length d.white ≡ g.W.Whitener.PERIOD) c.self.view_is
-      (g.met.W.Whitener.long c.self.inside.whitener);
+  widths = rw (← c.self.view_is) c.known-2.ensures.widths;
+  long = rw (← c.self.view_is) (g.met.W.Whitener.long c.self.inside.whitener);
   are_bytes = subst (λ (d : Kept). AreBytes d.white) c.self.view_is (g.met.W.Whitener.are_bytes c.self.inside.whitener);
 }

@@ -1,5 +1,5 @@
 use Rattle.std.proofs.Common.{◌*◌, ap, subst, arith}
-use Rattle.dtx_outer.specs.Inner.{Kept, Gives, IsNext}
+use Rattle.dtx_outer.specs.Inner.{Kept, Gives}
 use Rattle.dtx_outer.proofs.Runs.{taken_next, stands_next}
 use Rattle.dtx_outer.proofs.inner.Inner.take.Goals as goal
 
@@ -22,4 +22,4 @@ returns-clause-stands g c = λ y s.
     let v = c.next_word.ensures.kept in
     stands_next g.row.N g.row.K g.row.B g.row.M g.W.Whitener.PERIOD c.args.self.now c.give_next.new.self y
     c.args.bytes.now (omega (arith, code.some)) c.known.ensures.period c.known.ensures.long c.told-bytes s
-    (subst (λ (d : Kept). IsNext g.row.K d c.give_next.new.self) v c.give_next.ensures.kept)
+    (rw (← v) c.give_next.ensures.kept)

@@ -1,4 +1,4 @@
-use Rattle.std.proofs.Common.{◌≡◌, ℕ, ◌+◌, ◌-◌, ◌*◌, ◌<◌, ◌≤◌, [], List, ◌++◌, length, slice_index_or, take, drop, ap}
+use Rattle.std.proofs.Common.{◌≡◌, ℕ, ◌+◌, ◌-◌, ◌*◌, ◌<◌, [], List, ◌++◌, length, slice_index_or, take, drop, ap}
 use Rattle.std.proofs.Common.{◌∙◌, subst, arith, refl, sym}
 use Rattle.std.proofs.lemmas.List.{get_or-set_other, length-set}
 use Rattle.dtx_laws.specs.Branches.{leaving_all, after_all}
@@ -6,8 +6,7 @@ use Rattle.dtx_outer.specs.Inner.{Kept, IsTaken, StandsFor}
 use Rattle.dtx_outer.specs.declared.inner.Taken.{Taken}
 use Rattle.dtx_outer.specs.declared.inner.Taken.TheVariants.{None}
 use Rattle.dtx_outer.proofs.Runs.{set_further}
-use Rattle.dtx_outer.proofs.Ahead.{all_given, four_within, more_given, none_given, part_leaving, taken_of_four}
-use Rattle.dtx_outer.proofs.Ahead.{was_before}
+use Rattle.dtx_outer.proofs.Ahead.{all_given, more_given, none_given, part_leaving, taken_of_four, was_before}
 use Rattle.dtx_outer.proofs.inner.Inner.take_fours.Goals as goal
 
 pub loop-q-init : goal.loop-q-init
@@ -58,10 +57,7 @@ loop-q-preserved g c =
     taken_of_four g.row.N g.row.K g.row.B g.row.M d.white y ys
     (slice_index_or (slice_index_or c.args.outs.now q []) p []) (slice_index_or c.take_gathered.new.outs p [])
     (slice_index_or c.take_gathered.result p None) q p m
-    (subst (λ (w : List ℕ). IsTaken g.row.N g.row.K g.row.B g.row.M w ((y ++ take a ys) ++ take (g.row.N * p) zs)
-    (take g.row.N (drop (g.row.N * p) zs)) (slice_index_or (slice_index_or c.args.outs.now q []) p [])
-    (slice_index_or c.take_gathered.new.outs p []) (slice_index_or c.take_gathered.result p None)) i.white
-    (subst (λ (old : List (List ℕ)). IsTaken g.row.N g.row.K g.row.B g.row.M c.loop-q.self.white
+    (rw (← i.white) (subst (λ (old : List (List ℕ)). IsTaken g.row.N g.row.K g.row.B g.row.M c.loop-q.self.white
     ((y ++ take a ys) ++ take (g.row.N * p) zs) (take g.row.N (drop (g.row.N * p) zs)) (slice_index_or old p [])
     (slice_index_or c.take_gathered.new.outs p []) (slice_index_or c.take_gathered.result p None))
     (i.later q (omega arith))

@@ -1,13 +1,12 @@
-use Rattle.std.proofs.Common.{◌≡◌, ℕ, ◌*◌, ◌<◌, [], List, ◌++◌, length, slice_index_or, take, drop, ap, sym, ◌∙◌}
-use Rattle.std.proofs.Common.{subst, arith, refl, suc}
+use Rattle.std.proofs.Common.{◌≡◌, ℕ, ◌*◌, ◌<◌, [], List, ◌++◌, length, slice_index_or, take, drop, ap, sym, ◌∙◌, subst}
+use Rattle.std.proofs.Common.{arith, refl, suc}
 use Rattle.std.proofs.lemmas.List.{get_or-set_other, length-set}
 use Rattle.dtx_laws.specs.Branches.{Branching, leaving_all, after_all}
 use Rattle.dtx_laws.proofs.PlacesLemmas.{length_leaving}
 use Rattle.dtx_outer.specs.Inner.{Kept, IsTaken, StandsFor, completing, block_behind}
 use Rattle.dtx_outer.specs.declared.inner.Taken.{Taken}
 use Rattle.dtx_outer.specs.declared.inner.Taken.TheVariants.{None}
-use Rattle.dtx_outer.proofs.Runs.{between_first, between_next, between_taken, between_last, block_long}
-use Rattle.dtx_outer.proofs.Runs.{set_further}
+use Rattle.dtx_outer.proofs.Runs.{between_first, between_next, between_taken, between_last, block_long, set_further}
 use Rattle.dtx_outer.proofs.inner.Inner.take_gathered.Goals as goal
 
 pub loop-p-init : goal.loop-p-init
@@ -47,9 +46,7 @@ loop-p-preserved g c =
     → IsTaken g.row.N g.row.K g.row.B g.row.M d.white (y ++ take (g.row.N * p) ys)
     (take g.row.N (drop (g.row.N * p) ys)) (slice_index_or c.args.outs.now p []) c.give_next.new.out
     c.give_next.result =
-    λ v ys y left s. subst (λ (w : List ℕ). IsTaken g.row.N g.row.K g.row.B g.row.M w (y ++ take (g.row.N * p) ys)
-    (take g.row.N (drop (g.row.N * p) ys)) (slice_index_or c.args.outs.now p []) c.give_next.new.out
-    c.give_next.result) i.white
+    λ v ys y left s. rw (← i.white)
     (subst (λ (old : List ℕ). IsTaken g.row.N g.row.K g.row.B g.row.M c.loop-p.self.white
     (y ++ take (g.row.N * p) ys) (take g.row.N (drop (g.row.N * p) ys)) old c.give_next.new.out
     c.give_next.result) (i.later p (omega arith))

@@ -1,6 +1,6 @@
 use Rattle.std.proofs.Common.{◌≡◌, ◌+◌, ◌-◌, ◌%◌, Some, None, refl, sym, ◌∙◌, ap, arith}
-use Rattle.dtx_receiver.proofs.AnswersLemmas.{place_seen, seen, step_searching, step_began, step_sync}
-use Rattle.dtx_receiver.proofs.AnswersLemmas.{step_ended, step_data}
+use Rattle.dtx_receiver.proofs.AnswersLemmas.{place_seen, seen, step_searching, step_began, step_sync, step_ended}
+use Rattle.dtx_receiver.proofs.AnswersLemmas.{step_data}
 use Rattle.dtx_receiver.proofs.receiver.RunReceiver.follow.Goals as goal
 
 pub returns-then-looks-clause-taken : goal.returns-then-looks-clause-taken

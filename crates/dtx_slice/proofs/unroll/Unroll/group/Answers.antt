@@ -5,15 +5,14 @@ use Rattle.dtx_slice.proofs.unroll.Unroll.group.Goals as goal
 
 pub returns-clause-bytes : goal.returns-clause-bytes
 returns-clause-bytes c =
-    subst (λ q. c.walk.new.bytes ≡ bytes_back c.args.first q c.args.levels.now) c.self.view_is
+    rw (← c.self.view_is)
     (bytes_end c.args.first c.self.inside.precoder_bits c.args.levels.now c.walk.new.bytes c.told-levels
     c.walk.array_long
     c.walk.ensures)
 
 pub returns-clause-precoder_bits : goal.returns-clause-precoder_bits
 returns-clause-precoder_bits c =
-    subst (λ q. c.last_precoder_bits-behind.result ≡ precoder_bits_after c.args.first q c.args.levels.now)
-    c.self.view_is
+    rw (← c.self.view_is)
     (precoder_bits_end c.args.first c.self.inside.precoder_bits c.args.levels.now c.last_precoder_bits-behind.result
     c.told-levels
     c.last_precoder_bits-behind.ensures.long (c.last_precoder_bits-behind.ensures.precoder_bits

@@ -6,14 +6,13 @@ use Rattle.dtx_trellis.proofs.twelve.Twelve.group.Goals as goal
 
 pub returns-clause-symbols : goal.returns-clause-symbols
 returns-clause-symbols c =
-    subst (λ q. (k : ℕ) → k < 4 → take 828 (drop (832 * k + 4) c.walk-states.new.symbols)
-    ≡ map symbol_of (take 828 (drop (828 * k) (levels_of c.args.first q c.args.bytes.now)))) c.self.view_is
+    rw (← c.self.view_is)
     (symbols_end c.args.first c.self.inside.states c.args.bytes.now c.walk-states.new.symbols c.told-bytes
     c.walk-states.array_long c.walk-states.ensures.symbols)
 
 pub returns-clause-states : goal.returns-clause-states
 returns-clause-states c =
-    subst (λ q. c.walk-states.result ≡ states_after c.args.first q c.args.bytes.now) c.self.view_is
+    rw (← c.self.view_is)
     (states_end c.args.first c.self.inside.states c.args.bytes.now c.walk-states.result c.told-bytes
     c.walk-states.ensures.long c.walk-states.ensures.states)
 
