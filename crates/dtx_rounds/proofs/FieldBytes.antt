@@ -1,19 +1,21 @@
 -- The bytes of a field of a run, from the levels of its segments and the precoder bits before them.
-use Rattle.std.proofs.Common.{◌≡◌, ℕ, ℤ, zero, suc, ◌+◌, ◌-◌, ◌*◌, ◌/◌, ◌<◌, ◌≤◌, List, [], ◌++◌, length, take}
-use Rattle.std.proofs.Common.{drop}
-use Rattle.std.proofs.Common.{get_or, refl, sym, ap, ap₂, ◌∙◌, arith}
+use Rattle.std.proofs.Common.{◌≡◌, ℕ, ℤ, zero, suc, ◌+◌, ◌-◌, ◌*◌, ◌/◌, ◌<◌, ◌≤◌, List, [], ◌++◌, length, take, drop}
+use Rattle.std.proofs.Common.{get_or, refl, sym, ap, ap₂, ◌∙◌, arith, pos, ◌%◌}
 use Rattle.std.specs.List.{flat_map}
-use Rattle.std.proofs.lemmas.List.{append-nil, drop_at, get_or-drop, length-drop, take_at}
+use Rattle.std.proofs.lemmas.List.{append-nil, drop_at, get_or-drop, length-drop, take_at, get_or-map}
+use Rattle.dtx_lists.proofs.Range.{map-range_same}
 use Rattle.dtx_trellis.specs.Pairs.{group_place}
-use Rattle.dtx_slice.specs.Slicing.{sliced_data}
-use Rattle.dtx_slice.specs.Unrolled.{bytes_back, precoder_bits_after}
-use Rattle.dtx_slice.proofs.JoinsLemmas.{bytes_append}
+use Rattle.dtx_slice.specs.Slicing.{sliced_data, sliced, sliced_last}
+use Rattle.dtx_slice.specs.Unrolled.{bytes_back, precoder_bits_after, level_groups, precoder_bit, precoder_bits_of}
+use Rattle.dtx_slice.specs.Unrolled.{symbol_place}
+use Rattle.dtx_slice.proofs.JoinsLemmas.{bytes_append, groups_whole}
+use Rattle.dtx_slice.proofs.PlacesLemmas.{precoder_bit_next}
 use Rattle.dtx_receiver.specs.Bytes.{bytes_in, data_at, first_bits, groups_of, levels_from, levels_in}
 use Rattle.dtx_receiver.proofs.SegmentsLemmas.{levels_parts}
-use Rattle.dtx_rounds.specs.Fields.{rows_of}
+use Rattle.dtx_rounds.specs.Fields.{rows_of, AreSegments}
 use Rattle.dtx_rounds.proofs.FieldRounds.{length-rows, row_of}
 use Rattle.dtx_rounds.proofs.GroupBytes.{flat_more, length_back}
-use Rattle.dtx_rounds.proofs.RunLevels.{AreLong, length-from}
+use Rattle.dtx_rounds.proofs.RunLevels.{length-from, data_long, level_from}
 
 -- ---- levels
 
@@ -48,7 +50,7 @@ field_place : (f : ℕ) → group_place 0 (78 * f) ≡ 0
 unfolding group_place
 field_place f = omega arith
 
-pub before_long : (run : List (List ℤ)) (f : ℕ) → AreLong run → 312 * f ≤ 4 * groups_of run
+pub before_long : (run : List (List ℤ)) (f : ℕ) → AreSegments run → 312 * f ≤ 4 * groups_of run
     → length (levels_from run 0 (312 * f)) ≡ 3312 * (78 * f)
 before_long run f h l = length-from run 0 (312 * f) h (omega (arith, l)) ∙ omega arith
 
@@ -62,7 +64,7 @@ levels_split run a b c e =
     ∙ ap (λ n. levels_from run 0 a ++ levels_from run n (b + c)) none
     ∙ ap (λ ys. levels_from run 0 a ++ ys) (levels_parts run a b c)
 
-pub bytes_in_field : (run : List (List ℤ)) (f g : ℕ) → AreLong run → 312 * f + 4 * g ≤ 4 * groups_of run
+pub bytes_in_field : (run : List (List ℤ)) (f g : ℕ) → AreSegments run → 312 * f + 4 * g ≤ 4 * groups_of run
     → take (828 * g) (drop (64584 * f) (bytes_in run))
     ≡ bytes_back 0 (field_bits run f) (levels_from run (312 * f) (4 * g))
 unfolding bytes_in
@@ -93,3 +95,44 @@ bytes_in_field run f g h l =
 
     own_long : length own ≡ 3312 * g
     own_long = length-from run (312 * f) (4 * g) h l ∙ omega arith
+
+-- where the last symbol of coder e stands
+last_place : (f e : ℕ) → e < 12
+    → symbol_place 0 (21528 * f + 21527) e ≡ 828 * (312 * f + 311) + (816 + (e + 4) % 12)
+unfolding symbol_place
+last_place f e l = omega arith
+
+-- the level there
+last_level : (segment : List ℤ) (q : ℕ) → length segment ≡ 832 → q < 12
+    → get_or (sliced_last segment) q 0 ≡ sliced (get_or segment (4 + (816 + q)) (pos 0))
+unfolding sliced_last
+last_level segment q long l =
+    let there : 820 + q ≡ 4 + (816 + q) = omega arith in
+    get_or-map sliced (drop 820 segment) q (pos 0) 0 (omega (arith, l, long, length-drop 820 segment))
+    ∙ ap sliced (get_or-drop 820 segment q (pos 0) ∙ ap (λ i. get_or segment i (pos 0)) there)
+
+last_step : (f : ℕ) → 276 * (78 * (f + 1)) ≡ 21528 * f + 21527 + 1
+last_step f = omega arith
+
+-- before field f + 1 they are those of the last segment of field f
+pub last_bits : (run : List (List ℤ)) (f : ℕ) → AreSegments run → 312 * (f + 1) ≤ 4 * groups_of run
+    → precoder_bits_of (sliced_last (data_at run (312 * f + 311))) ≡ field_bits run (f + 1)
+unfolding precoder_bits_of precoder_bits_after
+last_bits run f h l = map-range_same _ _ 0 12 (λ e a b. bit e (omega arith))
+  where
+    levels : List ℕ
+    levels = levels_from run 0 (312 * (f + 1))
+
+    bit : (e : ℕ) → e < 12 → get_or (sliced_last (data_at run (312 * f + 311))) ((e + 4) % 12) 0 / 4
+        ≡ precoder_bit 0 (first_bits run) levels (276 * level_groups levels) e
+    bit e m =
+        let small : (e + 4) % 12 < 12 = omega arith in
+        let there : 312 * f + 311 < 312 * (f + 1) = omega arith in
+        ap (λ x. x / 4) (last_level (data_at run (312 * f + 311)) ((e + 4) % 12)
+        (data_long run (312 * f + 311) h (omega (arith, l, there))) small
+        ∙ sym (ap (λ i. get_or levels i 0) (last_place f e m)
+        ∙ level_from run (312 * (f + 1)) (312 * f + 311) (816 + (e + 4) % 12) h l there (omega (arith, small))))
+        ∙ sym (ap (λ g. precoder_bit 0 (first_bits run) levels (276 * g) e)
+        (groups_whole (78 * (f + 1)) levels (before_long run (f + 1) h l))
+        ∙ ap (λ r. precoder_bit 0 (first_bits run) levels r e) (last_step f)
+        ∙ precoder_bit_next 0 (21528 * f + 21527) e (first_bits run) levels)

@@ -1,11 +1,10 @@
--- A round over a field alone is what the round over the run makes of that field. A field of which no byte more is known
--- stays.
+-- A round over a field alone is what the round over the run makes of that field.
 use Rattle.std.proofs.Common.{◌≡◌, ℕ, ℤ, zero, suc, ◌+◌, ◌-◌, ◌*◌, ◌/◌, ◌%◌, ◌<◌, ◌≤◌, ◌⊎◌, inl, inr, min, nat_le}
-use Rattle.std.proofs.Common.{nat_lt, Bool, true, false, cond, ◌&&◌, Option, None, List, [], ◌++◌, length, map, take}
-use Rattle.std.proofs.Common.{drop, get_or, sum, refl, sym, ap, ap₂, ◌∙◌, arith}
+use Rattle.std.proofs.Common.{nat_lt, cond, ◌&&◌, Option, None, List, [], ◌++◌, length, map, take, drop, get_or, sum}
+use Rattle.std.proofs.Common.{refl, sym, ap, ap₂, ◌∙◌, arith}
 use Rattle.std.specs.List.{range_with_len}
 use Rattle.std.proofs.lemmas.Bool.{cases_lt}
-use Rattle.std.proofs.lemmas.List.{get_or-drop, get_or-take, length-drop, length-take, length-take-le, take_at}
+use Rattle.std.proofs.lemmas.List.{get_or-drop, get_or-take, length-drop, length-take}
 use Rattle.std.proofs.lemmas.List.FromFn.{get_or-map-range_with_len}
 use Rattle.dtx_lists.proofs.Range.{map-range_same}
 use Rattle.dtx_lists.proofs.RangeMoved.{map-range_moved}
@@ -16,25 +15,16 @@ use Rattle.dtx_acquire.specs.Scaled.{decided}
 use Rattle.dtx_pins.specs.Moved.{moved_in, rows_moved}
 use Rattle.dtx_pins.specs.PinnedField.{pinned, pinned_coder_cost}
 use Rattle.dtx_rounds.specs.FieldRound.{field_cost, field_rounded}
+use Rattle.dtx_rounds.specs.Fields.{rows_of}
 use Rattle.dtx_rounds.specs.Known.{known_bytes}
 use Rattle.dtx_rounds.specs.Pins.{byte_at_step, field_pins, known_pin, pin_of}
-use Rattle.dtx_rounds.specs.Rounds.{coder_cost, groups_in, in_whole_group, paths_in, round_segment}
-use Rattle.dtx_rounds.specs.Rounds.{fields_in, rounded}
+use Rattle.dtx_rounds.specs.Rounds.{coder_cost, groups_in, in_whole_group, paths_in, round_segment, fields_in, rounded}
 use Rattle.dtx_rounds.proofs.OwnRounds.{group_row}
-use Rattle.dtx_rounds.proofs.RoundLevels.{after, length-after, length-groups, same_groups}
 use Rattle.dtx_rounds.proofs.RangeSteps.{sum_next}
+use Rattle.dtx_rounds.proofs.RoundLevels.{after, length-after, length-groups}
 use Rattle.dtx_rounds.proofs.RowsRounded.{same_items}
-use Rattle.dtx_rounds.proofs.RunLevels.{AreLong}
 
 -- ---- a field of a run
-
--- the segments of field f
-abbrev pub rows_of : List (List ℤ) → ℕ → List (List ℤ)
-rows_of segments f = take 313 (drop (313 * f) segments)
-
--- Of the bytes of field f the same is known, where field g stands in the other list.
-abbrev pub KnowSame : List (Option ℕ) → ℕ → List (Option ℕ) → ℕ → Type 0
-KnowSame known f other g = (n : ℕ) → n < 64584 → get_or known (64584 * f + n) None ≡ get_or other (64584 * g + n) None
 
 pub length-rows : (segments : List (List ℤ)) (f : ℕ) → length (rows_of segments f) ≡ min 313 (length segments - 313 * f)
 length-rows segments f =
@@ -98,44 +88,42 @@ pub byte_within : (e t : ℕ) → e < 12 → t < 21528 → byte_at_step e t < 64
 unfolding byte_at_step byte_place group_place
 byte_within e t l m = omega arith
 
--- where the same is known of a field, its pins are the same
-same_pins : (known other : List (Option ℕ)) (f g n : ℕ) → KnowSame known f other g → n ≤ 21528
-    → field_pins known f n ≡ field_pins other g n
+-- of the bytes of field f the same is known in a list of its own
+abbrev pub KnowSame : List (Option ℕ) → List (Option ℕ) → ℕ → Type 0
+KnowSame part known f = (n : ℕ) → n < 64584 → get_or part n None ≡ get_or known (64584 * f + n) None
+
+-- then its pins are the same
+same_pins : (part known : List (Option ℕ)) (f n : ℕ) → KnowSame part known f → n ≤ 21528
+    → field_pins part 0 n ≡ field_pins known f n
 unfolding field_pins known_pin
-same_pins known other f g n same few =
-    map-range_same (λ t. map (λ e. known_pin known e (21528 * f + t)) (range_with_len 0 12))
-    (λ t. map (λ e. known_pin other e (21528 * g + t)) (range_with_len 0 12)) 0 n
-    (λ t a l. map-range_same (λ e. known_pin known e (21528 * f + t)) (λ e. known_pin other e (21528 * g + t)) 0 12
+same_pins part known f n same few =
+    map-range_same (λ t. map (λ e. known_pin part e (21528 * 0 + t)) (range_with_len 0 12))
+    (λ t. map (λ e. known_pin known e (21528 * f + t)) (range_with_len 0 12)) 0 n
+    (λ t a l. map-range_same (λ e. known_pin part e (21528 * 0 + t)) (λ e. known_pin known e (21528 * f + t)) 0 12
     (λ e b m. pin t e (omega arith) (omega arith)))
   where
     pin : (t e : ℕ) → t < 21528 → e < 12
-        → pin_of (get_or known (byte_at_step e (21528 * f + t)) None) ((21528 * f + t) % 276)
-        ≡ pin_of (get_or other (byte_at_step e (21528 * g + t)) None) ((21528 * g + t) % 276)
+        → pin_of (get_or part (byte_at_step e (21528 * 0 + t)) None) ((21528 * 0 + t) % 276)
+        ≡ pin_of (get_or known (byte_at_step e (21528 * f + t)) None) ((21528 * f + t) % 276)
     pin t e l m =
-        let round : (21528 * f + t) % 276 ≡ (21528 * g + t) % 276 = omega arith in
-        ap₂ pin_of (ap (λ n. get_or known n None) (byte_in_field e f t l)
-        ∙ same (byte_at_step e t) (byte_within e t m l)
-        ∙ ap (λ n. get_or other n None) (sym (byte_in_field e g t l))) round
+        let first : 21528 * 0 + t ≡ t = omega arith in
+        let round : t % 276 ≡ (21528 * f + t) % 276 = omega arith in
+        ap (λ u. pin_of (get_or part (byte_at_step e u) None) (u % 276)) first
+        ∙ ap₂ pin_of (same (byte_at_step e t) (byte_within e t m l)
+        ∙ ap (λ n. get_or known n None) (sym (byte_in_field e f t l))) round
 
 steps_few : (heard : List (List ℤ)) (f : ℕ) → 69 * length (groups_in heard f) ≤ 21528
 steps_few heard f = omega (arith, length-groups heard f)
 
 -- ---- paths
 
-same_paths : (scale : ℕ) (heard : List (List ℤ)) (known other : List (Option ℕ)) (f : ℕ) → KnowSame known f other f
-    → paths_in scale heard known f ≡ paths_in scale heard other f
-unfolding paths_in
-same_paths scale heard known other f same =
-    ap (λ pins. pinned scale pins (groups_in heard f))
-    (same_pins known other f f (69 * length (groups_in heard f)) same (steps_few heard f))
-
-paths_of_rows : (scale : ℕ) (heard : List (List ℤ)) (known part : List (Option ℕ)) (f : ℕ) → KnowSame part 0 known f
+paths_of_rows : (scale : ℕ) (heard : List (List ℤ)) (known part : List (Option ℕ)) (f : ℕ) → KnowSame part known f
     → paths_in scale (rows_of heard f) part 0 ≡ paths_in scale heard known f
 unfolding paths_in
 paths_of_rows scale heard known part f same =
     ap (λ groups. pinned scale (field_pins part 0 (69 * length groups)) groups) (groups_of_rows heard f)
     ∙ ap (λ pins. pinned scale pins (groups_in heard f))
-    (same_pins part known 0 f (69 * length (groups_in heard f)) same (steps_few heard f))
+    (same_pins part known f (69 * length (groups_in heard f)) same (steps_few heard f))
 
 -- ---- segments
 
@@ -157,7 +145,7 @@ cell_is scale heard given known f i l =
 
 -- segment i of a field after a round over the field alone
 pub field_segment : (scale : ℕ) (heard given : List (List ℤ)) (known part : List (Option ℕ)) (f i : ℕ)
-    → KnowSame part 0 known f → i < 313
+    → KnowSame part known f → i < 313
     → round_segment scale (rows_of heard f) part (rows_of given f) i
     ≡ round_segment scale heard known given (313 * f + i)
 field_segment scale heard given known part f i same l =
@@ -180,7 +168,7 @@ row_after scale heard given known f i l =
 
 -- the field's segments
 pub field_after : (scale : ℕ) (heard given : List (List ℤ)) (known part : List (Option ℕ)) (f : ℕ)
-    → KnowSame part 0 known f
+    → KnowSame part known f
     → field_rounded scale (rows_of heard f) part (rows_of given f) ≡ rows_of (after scale heard known given) f
 unfolding field_rounded
 field_after scale heard given known part f same =
@@ -195,7 +183,7 @@ field_after scale heard given known part f same =
     ∙ sym (row_after scale heard given known f i l))
 
 pub field_of_rounded : (scale : ℕ) (heard given : List (List ℤ)) (part : List (Option ℕ)) (f : ℕ)
-    → KnowSame part 0 (known_bytes (bytes_in given)) f
+    → KnowSame part (known_bytes (bytes_in given)) f
     → field_rounded scale (rows_of heard f) part (rows_of given f) ≡ rows_of (rounded scale heard given) f
 unfolding rounded
 field_of_rounded scale heard given part f same =
@@ -204,14 +192,14 @@ field_of_rounded scale heard given part f same =
 -- ---- cost and what moves
 
 -- the field's cost is that of its coders in the run
-pub field_costs : (scale : ℕ) (heard : List (List ℤ)) (known part : List (Option ℕ)) (f : ℕ) → KnowSame part 0 known f
+pub field_costs : (scale : ℕ) (heard : List (List ℤ)) (known part : List (Option ℕ)) (f : ℕ) → KnowSame part known f
     → field_cost scale (rows_of heard f) part ≡ sum (map (coder_cost scale heard known f) (range_with_len 0 12))
 unfolding field_cost coder_cost
 field_costs scale heard known part f same =
     ap (λ groups. sum (map (pinned_coder_cost scale (field_pins part 0 (69 * length groups)) groups)
     (range_with_len 0 12))) (groups_of_rows heard f)
     ∙ ap (λ pins. sum (map (pinned_coder_cost scale pins (groups_in heard f)) (range_with_len 0 12)))
-    (same_pins part known 0 f (69 * length (groups_in heard f)) same (steps_few heard f))
+    (same_pins part known f (69 * length (groups_in heard f)) same (steps_few heard f))
 
 -- what moves in the field is what moves in its segments of the run
 pub field_moves : (given new : List (List ℤ)) (f : ℕ)
@@ -273,72 +261,3 @@ moves_of_fields given new =
 
     every : (l : ℕ) → min (313 * ((l + 312) / 313)) l ≡ l
     every l = omega arith
-
--- ---- a field of which no byte more is known
-
--- a segment that came from the same paths
-again : (scale j : ℕ) (groups old : List (List ℤ)) (paths : List (List ℤ)) (segment : List ℤ)
-    → length groups ≡ length old → length segment ≡ 832
-    → cell scale j groups paths (cell scale j old paths segment) ≡ cell scale j old paths segment
-again scale j groups old paths segment same long =
-    ap (λ n. cond (nat_lt 0 j && nat_le j n) (take 4 (cell scale j old paths segment) ++ path)
-    (cell scale j old paths segment)) same
-    ∙ by_test (nat_lt 0 j && nat_le j (length old))
-  where
-    path : List ℤ
-    path = map (decided scale) (drop 4 (get_or paths (j - 1) []))
-
-    by_test : (b : Bool)
-        → cond b (take 4 (cond b (take 4 segment ++ path) segment) ++ path) (cond b (take 4 segment ++ path) segment)
-        ≡ cond b (take 4 segment ++ path) segment
-    by_test true =
-        ap (λ xs. xs ++ path) (take_at (take 4 segment) path 4 (length-take-le 4 segment (omega (arith, long))))
-    by_test false = refl
-
--- Let the given segments come from a round by which the same was known of field f. Then a round leaves its segments.
-pub field_stays : (scale : ℕ) (heard old : List (List ℤ)) (known before : List (Option ℕ)) (f : ℕ) → AreLong old
-    → KnowSame known f before f
-    → rows_of (after scale heard known (after scale heard before old)) f ≡ rows_of (after scale heard before old) f
-field_stays scale heard old known before f long same =
-    same_items [] (length (rows_of given f)) (rows_of (after scale heard known given) f) (rows_of given f)
-    (length-rows (after scale heard known given) f
-    ∙ ap (λ n. min 313 (n - 313 * f)) (length-after scale heard given known) ∙ sym (length-rows given f))
-    refl (λ i l. row_after scale heard given known f i l ∙ stays i l ∙ sym (row_of given f i (few i l)))
-  where
-    given : List (List ℤ)
-    given = after scale heard before old
-
-    few : (i : ℕ) → i < length (rows_of given f) → i < 313
-    few i l = omega (arith, l, length-rows given f)
-
-    there : (i : ℕ) → i < length (rows_of given f) → 313 * f + i < length old
-    there i l = omega (arith, l, length-rows given f, length-after scale heard old before)
-
-    was : (i : ℕ) → i < length (rows_of given f)
-        → get_or given (313 * f + i) []
-        ≡ cell scale i (groups_in old f) (paths_in scale heard before f) (get_or old (313 * f + i) [])
-    was i l =
-        get_or-map-range_with_len (round_segment scale heard before old) 0 (length old) (313 * f + i) (313 * f + i) []
-        (there i l) (omega arith)
-        ∙ cell_is scale heard old before f i (few i l)
-
-    stays : (i : ℕ) → i < length (rows_of given f)
-        → round_segment scale heard known given (313 * f + i) ≡ get_or given (313 * f + i) []
-    stays i l =
-        cell_is scale heard given known f i (few i l)
-        ∙ ap₂ (λ paths segment. cell scale i (groups_in given f) paths segment)
-        (same_paths scale heard known before f same) (was i l)
-        ∙ again scale i (groups_in given f) (groups_in old f) (paths_in scale heard before f)
-        (get_or old (313 * f + i) []) (same_groups given old f (length-after scale heard old before))
-        (long (313 * f + i) (there i l))
-        ∙ sym (was i l)
-
--- nor does its cost change
-pub cost_stays : (scale : ℕ) (heard : List (List ℤ)) (known before : List (Option ℕ)) (f : ℕ)
-    → KnowSame known f before f
-    → sum (map (coder_cost scale heard known f) (range_with_len 0 12))
-    ≡ sum (map (coder_cost scale heard before f) (range_with_len 0 12))
-unfolding coder_cost
-cost_stays scale heard known before f same =
-    ap (λ pins. sum (map (pinned_coder_cost scale pins (groups_in heard f)) (range_with_len 0 12)))
-    (same_pins known before f f (69 * length (groups_in heard f)) same (steps_few heard f))

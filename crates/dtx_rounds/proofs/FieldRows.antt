@@ -11,8 +11,8 @@ use Rattle.dtx_acquire.specs.Acquired.{Field, acquired, all_fields, behind_group
 use Rattle.dtx_acquire.specs.Acquired.{restored_field, restored_of, restored_sync}
 use Rattle.dtx_acquire.specs.Sent.{groups_behind}
 use Rattle.dtx_rounds.specs.Rounds.{groups_in, heard_of}
-use Rattle.dtx_rounds.proofs.RefinedLemmas.{length-field, length-restored}
 use Rattle.dtx_rounds.proofs.RoundLevels.{length-groups}
+use Rattle.dtx_rounds.proofs.WholeLemmas.{length-field, length-restored}
 
 -- ---- fields
 

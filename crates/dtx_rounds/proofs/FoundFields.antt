@@ -1,27 +1,25 @@
--- A field of a run and the one behind it, once the words are sought that begin in the first.
-use Rattle.std.proofs.Common.{◌≡◌, ℕ, ℤ, ◌+◌, ◌-◌, ◌*◌, ◌/◌, ◌%◌, ◌<◌, ◌≤◌, ◌⊎◌, inl, inr, ◌||◌, ◌&&◌, not}
-use Rattle.std.proofs.Common.{Bool}
-use Rattle.std.proofs.Common.{true, false, Option, Some, None, is_some, option_map, List, length, get_or}
-use Rattle.std.proofs.Common.{take}
-use Rattle.std.proofs.Common.{refl, sym, ap, ap₂, ◌∙◌, arith}
+-- A field of a run and the one behind it: once the words are sought that begin in the first, and where no more than
+-- bytes was written.
+use Rattle.std.proofs.Common.{◌≡◌, ℕ, ℤ, ◌+◌, ◌-◌, ◌*◌, ◌/◌, ◌%◌, ◌<◌, ◌≤◌, ◌⊎◌, inl, inr, ◌||◌, ◌&&◌, not, Bool, true}
+use Rattle.std.proofs.Common.{false, Option, Some, None, is_some, option_map, List, length, get_or, take, refl, sym, ap}
+use Rattle.std.proofs.Common.{ap₂, ◌∙◌, arith}
 use Rattle.std.proofs.lemmas.Bool.{cases_lt, or_parts, true≢false}
+use Rattle.std.proofs.lemmas.List.{ext_get_or, get_or-append_right, get_or_append_left}
 use Rattle.std.proofs.lemmas.List.FromFn.{fill_by_all}
 use Rattle.dtx_lists.proofs.Range.{map-range_same}
 use Rattle.dtx_receiver.specs.Packets.{is_complete}
 use Rattle.dtx_receiver.proofs.CompleteLemmas.{complete_told}
 use Rattle.dtx_rounds.specs.Decided.{decided_rows, heard_rows}
 use Rattle.dtx_rounds.specs.FieldRound.{field_rounded, field_cost}
-use Rattle.dtx_rounds.specs.Found.{AreFound, IsKept, bytes_with, code_byte, has_code, has_code_behind, new_code}
-use Rattle.dtx_rounds.specs.Found.{or_else}
+use Rattle.dtx_rounds.specs.Found.{AreFound, IsKept, code_byte, has_code, has_code_behind, new_code, or_else}
+use Rattle.dtx_rounds.specs.Found.{IsUnchanged}
 use Rattle.dtx_rounds.specs.Known.{known_word}
 use Rattle.dtx_rounds.specs.RunField.{IsInRun, IsSettled, codes_upto}
 use Rattle.dtx_rounds.specs.declared.field.Field.{Field}
-use Rattle.dtx_rounds.proofs.FoundWords.{any_each, byte_with, bytes_from, code_byte_none, length-words, some_or}
-use Rattle.dtx_rounds.proofs.FoundWords.{word_with}
+use Rattle.dtx_rounds.proofs.FoundWords.{any_each, code_byte_none, some_or}
 use Rattle.dtx_rounds.proofs.LaidWords.{at_place, known_items}
 use Rattle.dtx_rounds.proofs.RunWords.{AreSought, byte_ahead, byte_step, none_behind, sought_word, upto_before}
-use Rattle.dtx_rounds.proofs.RunWords.{upto_now}
-use Rattle.dtx_rounds.proofs.RunWords.{code_byte_at, code_byte_past}
+use Rattle.dtx_rounds.proofs.RunWords.{upto_now, code_byte_at, code_byte_past}
 
 -- ---- where nothing is found
 
@@ -39,11 +37,6 @@ none_found there words long e k = by_place (cases_lt k 312)
         none_is (new_code there words k)
         (any_each (λ k. is_some (new_code there words k)) 0 312 k e (omega arith) (omega (arith, l)))
     by_place (inr l) = none_behind there words k (omega (arith, l, long))
-
-bytes_stay : (codes : ℕ → Option (List ℕ)) (first : ℕ) (known : List (Option ℕ))
-    → ((n : ℕ) → code_byte codes (first + n) ≡ None) → bytes_with codes first known ≡ known
-bytes_stay codes first known none =
-    sym (bytes_from codes first known known refl (λ i l. sym (ap (λ o. or_else o (get_or known i None)) (none i))))
 
 -- a word that ends in its field has no byte behind it
 none_ends_behind : (there : List ℕ) (words : List Bool) → length words ≡ 312
@@ -88,6 +81,26 @@ none_ends_behind there words long e n = by_valid (cases_lt (64584 + n) (208 * ((
     by_valid (inr l) =
         code_byte_at codes (64584 + n) l ∙ by_word l (codes (p / 207)) refl (cases_lt (p / 207) 312)
 
+-- ---- what is known of each of both
+
+front_byte : (codes : ℕ → Option (List ℕ)) (a b p q : Field) (n : ℕ) → AreFound codes a b p q → n < 64584
+    → get_or p.known.items n None ≡ or_else (code_byte codes n) (get_or a.known.items n None)
+front_byte codes a b p q n r l =
+    sym (get_or_append_left p.known.items q.known.items None n (omega (arith, l, known_items p))) ∙ r.known n
+    ∙ ap (or_else (code_byte codes n))
+    (get_or_append_left a.known.items b.known.items None n (omega (arith, l, known_items a)))
+
+behind_byte : (codes : ℕ → Option (List ℕ)) (a b p q : Field) (n : ℕ) → AreFound codes a b p q
+    → get_or q.known.items n None ≡ or_else (code_byte codes (64584 + n)) (get_or b.known.items n None)
+behind_byte codes a b p q n r =
+    let back : 64584 + n - 64584 ≡ n = omega arith in
+    ap (λ i. get_or q.known.items i None) (sym back)
+    ∙ sym (get_or-append_right p.known.items q.known.items 64584 (64584 + n) None (known_items p) (omega arith))
+    ∙ r.known (64584 + n)
+    ∙ ap (or_else (code_byte codes (64584 + n)))
+    (get_or-append_right a.known.items b.known.items 64584 (64584 + n) None (known_items a) (omega arith)
+    ∙ ap (λ i. get_or b.known.items i None) back)
+
 -- ---- what a round needs of a field
 
 heard_same : (field new : Field) → IsKept field new → heard_rows new ≡ heard_rows field
@@ -96,16 +109,16 @@ heard_same field new k = ap₂ (λ n (v : List (List ℤ)). take n v) k.count (a
 decided_same : (field new : Field) → IsKept field new → decided_rows new ≡ decided_rows field
 decided_same field new k = ap₂ (λ n (v : List (List ℤ)). take n v) k.count (ap (λ v. v.items) k.decided)
 
-settled_same : (scale : ℕ) (field new : Field) → IsKept field new
+settled_same : (scale : ℕ) (field new : Field) → heard_rows new ≡ heard_rows field
+    → decided_rows new ≡ decided_rows field → new.cost ≡ field.cost
     → (new.knows_more ≡ false → (field.knows_more ≡ false) × (new.known.items ≡ field.known.items))
     → IsSettled scale field → IsSettled scale new
-settled_same scale field new k same s = record {
+settled_same scale field new heard rows cost same s = record {
   segments = λ e.
-      ap₂ (λ h d. field_rounded scale h new.known.items d) (heard_same field new k) (decided_same field new k)
+      ap₂ (λ h d. field_rounded scale h new.known.items d) heard rows
       ∙ ap (λ known. field_rounded scale (heard_rows field) known (decided_rows field)) (same e).1
-      ∙ s.segments (same e).0 ∙ sym (decided_same field new k);
-  cost = λ e. k.cost ∙ s.cost (same e).0
-      ∙ sym (ap₂ (field_cost scale) (heard_same field new k) (same e).1);
+      ∙ s.segments (same e).0 ∙ sym rows;
+  cost = λ e. cost ∙ s.cost (same e).0 ∙ sym (ap₂ (field_cost scale) heard (same e).1);
 }
 
 -- ---- the field itself, and the one behind it
@@ -120,24 +133,21 @@ found_field scale f heard given before now there a b p q h s r = record {
   decided = decided_same a p r.rest ∙ h.decided;
   known = λ n l. byte n l;
   words = fill_by_all (λ k. is_some (codes_upto before now (312 * (f + 1)) (312 * f + k))) p.words 312 false
-      (ap length r.words ∙ length-words (new_code there a.words) a.words ∙ s.long) word;
-  settled = settled_same scale a p r.rest still h.settled;
+      (r.long ∙ s.long) word;
+  settled = settled_same scale a p (heard_same a p r.rest) (decided_same a p r.rest) r.rest.cost still h.settled;
 }
   where
     byte : (n : ℕ) → n < 64584 → get_or p.known.items n None
         ≡ code_byte (codes_upto before now (312 * (f + 1))) (64584 * f + n)
     byte n l =
-        let none : 0 + n ≡ n = omega arith in
-        ap (λ (ks : List (Option ℕ)). get_or ks n None) r.known
-        ∙ byte_with (new_code there a.words) 0 a.known.items n (omega (arith, l, known_items a))
-        ∙ ap₂ (λ m o. or_else (code_byte (new_code there a.words) m) o) none (h.known n l)
+        front_byte (new_code there a.words) a b p q n r l
+        ∙ ap (or_else (code_byte (new_code there a.words) n)) (h.known n l)
         ∙ byte_step before now there f n a.words s
 
     word : (k : ℕ) → k < 312 → get_or p.words k false
         ≡ is_some (codes_upto before now (312 * (f + 1)) (312 * f + k))
     word k l =
-        ap (λ (ws : List Bool). get_or ws k false) r.words
-        ∙ word_with (new_code there a.words) a.words k (omega (arith, l, s.long))
+        r.words k (omega (arith, l, s.long))
         ∙ ap (λ x. x || is_some (new_code there a.words k)) (s.words_are k l)
         ∙ some_or (new_code there a.words k) (known_word before (312 * f + k))
         ∙ ap is_some (sought_word before now there f k a.words s l
@@ -147,8 +157,10 @@ found_field scale f heard given before now there a b p q h s r = record {
     still e =
         let parts = or_parts a.knows_more (has_code (new_code there a.words) 312) (sym r.more ∙ e) in (
           parts.0,
-          r.known ∙ bytes_stay (new_code there a.words) 0 a.known.items
-              (λ n. code_byte_none (new_code there a.words) (0 + n) (none_found there a.words s.long parts.1)),
+          ext_get_or None p.known.items a.known.items (known_items p ∙ sym (known_items a))
+              (λ n l. front_byte (new_code there a.words) a b p q n r (omega (arith, l, known_items p))
+              ∙ ap (λ o. or_else o (get_or a.known.items n None))
+              (code_byte_none (new_code there a.words) n (none_found there a.words s.long parts.1))),
         )
 
 pub found_behind : (scale f : ℕ) (heard given : List (List ℤ)) (before now there : List ℕ) (a b p q : Field)
@@ -164,15 +176,15 @@ found_behind scale f heard given before now there a b p q h s r = record {
       ∙ map-range_same (λ k. is_some (known_word before (312 * (f + 1) + k)))
       (λ k. is_some (codes_upto before now (312 * (f + 1)) (312 * (f + 1) + k))) 0 312
       (λ k l m. ap is_some (sym (upto_before before now (312 * (f + 1)) (312 * (f + 1) + k) (omega arith))));
-  settled = settled_same scale b q r.next_rest still h.settled;
+  settled = settled_same scale b q (heard_same b q r.next_rest) (decided_same b q r.next_rest) r.next_rest.cost still
+      h.settled;
 }
   where
     byte : (n : ℕ) → n < 64584 → get_or q.known.items n None
         ≡ code_byte (codes_upto before now (312 * (f + 1))) (64584 * (f + 1) + n)
     byte n l =
         let there_is : 64584 * (f + 1) + n ≡ 64584 * f + (64584 + n) = omega arith in
-        ap (λ (ks : List (Option ℕ)). get_or ks n None) r.next_known
-        ∙ byte_with (new_code there a.words) 64584 b.known.items n (omega (arith, l, known_items b))
+        behind_byte (new_code there a.words) a b p q n r
         ∙ ap (or_else (code_byte (new_code there a.words) (64584 + n)))
         (h.known n l ∙ sym (byte_ahead before now f n)
         ∙ ap (code_byte (codes_upto before now (312 * f))) there_is)
@@ -183,6 +195,25 @@ found_behind scale f heard given before now there a b p q h s r = record {
     still e =
         let parts = or_parts b.knows_more (has_code_behind (new_code there a.words) 312) (sym r.next_more ∙ e) in (
           parts.0,
-          r.next_known ∙ bytes_stay (new_code there a.words) 64584 b.known.items
-              (none_ends_behind there a.words s.long parts.1),
+          ext_get_or None q.known.items b.known.items (known_items q ∙ sym (known_items b))
+              (λ n l. behind_byte (new_code there a.words) a b p q n r
+              ∙ ap (λ o. or_else o (get_or b.known.items n None)) (none_ends_behind there a.words s.long parts.1 n)),
         )
+
+pub in_run_unchanged : (scale f : ℕ) (heard given : List (List ℤ)) (codes : ℕ → Option (List ℕ)) (field new : Field)
+    → IsUnchanged field new → IsInRun scale heard given codes f field → IsInRun scale heard given codes f new
+in_run_unchanged scale f heard given codes field new u h = record {
+  count = u.count ∙ h.count;
+  heard_are = received ∙ h.heard_are;
+  decided = rows ∙ h.decided;
+  known = λ n l. ap (λ v. get_or v.items n None) u.known ∙ h.known n l;
+  words = u.words ∙ h.words;
+  settled = settled_same scale field new received rows u.cost
+      (λ e. (sym u.knows_more ∙ e, ap (λ v. v.items) u.known)) h.settled;
+}
+  where
+    received : heard_rows new ≡ heard_rows field
+    received = ap₂ (λ n v. take n v.items) u.count u.heard
+
+    rows : decided_rows new ≡ decided_rows field
+    rows = ap₂ (λ n v. take n v.items) u.count u.decided

@@ -1,13 +1,11 @@
 -- Fields, with what is known by corrections.
-use Rattle.std.proofs.Common.{◌≡◌, ℕ, zero, suc, ◌+◌, ◌-◌, ◌*◌, ◌/◌, ◌%◌, ◌<◌, ◌≤◌, ◌⊎◌, inl, inr}
-use Rattle.std.proofs.Common.{◌&&◌, ◌||◌, not, nat_le, Bool, true, false, cond, Option, Some, None, is_some, option_map}
-use Rattle.std.proofs.Common.{List, length, get_or, refl, sym, ap, ap₂, ◌∙◌, arith}
+use Rattle.std.proofs.Common.{◌≡◌, ℕ, zero, suc, ◌+◌, ◌-◌, ◌*◌, ◌/◌, ◌%◌, ◌<◌, ◌≤◌, ◌⊎◌, inl, inr, ◌&&◌, ◌||◌, not}
+use Rattle.std.proofs.Common.{nat_le, Bool, true, false, cond, Option, Some, None, is_some, option_map, List, get_or}
+use Rattle.std.proofs.Common.{refl, sym, ap, ap₂, ◌∙◌, arith, ◌++◌}
 use Rattle.std.specs.List.{list_any, range_with_len}
 use Rattle.std.proofs.lemmas.Bool.{cases_lt, false_from_ne_true, true≢false}
-use Rattle.std.proofs.lemmas.List.FromFn.{fill_by_all, get_or-map-range_with_len, length-map-range_with_len}
 use Rattle.dtx_receiver.specs.Packets.{is_complete}
-use Rattle.dtx_rounds.specs.Found.{AreFound, IsKept, bytes_with, code_byte, has_code, has_code_behind, or_else}
-use Rattle.dtx_rounds.specs.Found.{words_with}
+use Rattle.dtx_rounds.specs.Found.{AreFound, IsKept, code_byte, has_code, has_code_behind, or_else}
 use Rattle.dtx_rounds.specs.declared.field.Field.{Field}
 
 -- ---- options
@@ -30,6 +28,10 @@ some_or (Some a) (Some b) = refl
 pub or_assoc_bool : (x y z : Bool) → (x || (y || z)) ≡ ((x || y) || z)
 or_assoc_bool true y z = refl
 or_assoc_bool false y z = refl
+
+pub or_false : (x : Bool) → x ≡ (x || false)
+or_false true = refl
+or_false false = refl
 
 -- ---- some number of a range passes
 
@@ -78,27 +80,6 @@ any_or f g h a (suc n) e =
 
 -- ---- bytes
 
-pub length-bytes : (codes : ℕ → Option (List ℕ)) (first : ℕ) (known : List (Option ℕ))
-    → length (bytes_with codes first known) ≡ length known
-unfolding bytes_with
-length-bytes codes first known =
-    length-map-range_with_len (λ i. or_else (code_byte codes (first + i)) (get_or known i None)) 0 (length known)
-
-pub byte_with : (codes : ℕ → Option (List ℕ)) (first : ℕ) (known : List (Option ℕ)) (i : ℕ) → i < length known
-    → get_or (bytes_with codes first known) i None ≡ or_else (code_byte codes (first + i)) (get_or known i None)
-unfolding bytes_with
-byte_with codes first known i l =
-    get_or-map-range_with_len (λ i. or_else (code_byte codes (first + i)) (get_or known i None)) 0 (length known) i i
-    None l (omega arith)
-
-pub bytes_from : (codes : ℕ → Option (List ℕ)) (first : ℕ) (known new : List (Option ℕ)) → length new ≡ length known
-    → ((i : ℕ) → i < length known
-    → get_or new i None ≡ or_else (code_byte codes (first + i)) (get_or known i None))
-    → new ≡ bytes_with codes first known
-unfolding bytes_with
-bytes_from codes first known new e h =
-    fill_by_all (λ i. or_else (code_byte codes (first + i)) (get_or known i None)) new (length known) None e h
-
 pub code_byte_none : (codes : ℕ → Option (List ℕ)) (n : ℕ) → ((k : ℕ) → codes k ≡ None) → code_byte codes n ≡ None
 unfolding code_byte
 code_byte_none codes n none = by_test (nat_le (208 * (n % 52)) n)
@@ -133,71 +114,6 @@ code_byte_or first second both n agree = by_test (nat_le (208 * (n % 52)) n)
         ≡ cond b (option_map part (both word)) None
     by_test true = map_or part (second word) (first word) ∙ ap (option_map part) (agree word)
     by_test false = refl
-
-bytes_or : (first second both : ℕ → Option (List ℕ)) (at : ℕ) (known : List (Option ℕ)) → Agree first second both
-    → bytes_with second at (bytes_with first at known) ≡ bytes_with both at known
-bytes_or first second both at known agree =
-    bytes_from both at known (bytes_with second at (bytes_with first at known))
-    (length-bytes second at (bytes_with first at known) ∙ length-bytes first at known) entry
-  where
-    entry : (i : ℕ) → i < length known → get_or (bytes_with second at (bytes_with first at known)) i None
-        ≡ or_else (code_byte both (at + i)) (get_or known i None)
-    entry i l =
-        byte_with second at (bytes_with first at known) i (omega (arith, l, length-bytes first at known))
-        ∙ ap (or_else (code_byte second (at + i))) (byte_with first at known i l)
-        ∙ or_assoc (code_byte second (at + i)) (code_byte first (at + i)) (get_or known i None)
-        ∙ ap (λ o. or_else o (get_or known i None)) (code_byte_or first second both (at + i) agree)
-
-bytes_none : (codes : ℕ → Option (List ℕ)) (at : ℕ) (known : List (Option ℕ)) → ((k : ℕ) → codes k ≡ None)
-    → known ≡ bytes_with codes at known
-bytes_none codes at known none =
-    bytes_from codes at known known refl
-    (λ i l. sym (ap (λ o. or_else o (get_or known i None)) (code_byte_none codes (at + i) none)))
-
--- ---- words
-
-pub word_with : (codes : ℕ → Option (List ℕ)) (words : List Bool) (k : ℕ) → k < length words
-    → get_or (words_with codes words) k false ≡ (get_or words k false || is_some (codes k))
-unfolding words_with
-word_with codes words k l =
-    get_or-map-range_with_len (λ k. get_or words k false || is_some (codes k)) 0 (length words) k k false l
-    (omega arith)
-
-pub length-words : (codes : ℕ → Option (List ℕ)) (words : List Bool) → length (words_with codes words) ≡ length words
-unfolding words_with
-length-words codes words =
-    length-map-range_with_len (λ k. get_or words k false || is_some (codes k)) 0 (length words)
-
-pub words_from : (codes : ℕ → Option (List ℕ)) (words new : List Bool) → length new ≡ length words
-    → ((k : ℕ) → k < length words → get_or new k false ≡ (get_or words k false || is_some (codes k)))
-    → new ≡ words_with codes words
-unfolding words_with
-words_from codes words new e h =
-    fill_by_all (λ k. get_or words k false || is_some (codes k)) new (length words) false e h
-
-words_or : (first second both : ℕ → Option (List ℕ)) (words : List Bool) → Agree first second both
-    → words_with second (words_with first words) ≡ words_with both words
-words_or first second both words agree =
-    words_from both words (words_with second (words_with first words))
-    (length-words second (words_with first words) ∙ length-words first words) entry
-  where
-    entry : (k : ℕ) → k < length words → get_or (words_with second (words_with first words)) k false
-        ≡ (get_or words k false || is_some (both k))
-    entry k l =
-        word_with second (words_with first words) k (omega (arith, l, length-words first words))
-        ∙ ap (λ x. x || is_some (second k)) (word_with first words k l)
-        ∙ sym (or_assoc_bool (get_or words k false) (is_some (first k)) (is_some (second k)))
-        ∙ ap (λ x. get_or words k false || x) (some_or (second k) (first k) ∙ ap is_some (agree k))
-
-pub or_false : (x : Bool) → x ≡ (x || false)
-or_false true = refl
-or_false false = refl
-
-words_none : (codes : ℕ → Option (List ℕ)) (words : List Bool) → ((k : ℕ) → codes k ≡ None)
-    → words ≡ words_with codes words
-words_none codes words none =
-    words_from codes words words refl
-    (λ k l. or_false (get_or words k false) ∙ ap (λ o. get_or words k false || is_some o) (sym (none k)))
 
 -- ---- whether there is a correction
 
@@ -239,11 +155,13 @@ behind_none codes n none =
 pub found_none : (codes : ℕ → Option (List ℕ)) (field next : Field) → ((k : ℕ) → codes k ≡ None)
     → AreFound codes field next field next
 found_none codes field next none = record {
-  known = bytes_none codes 0 field.known.items none;
-  words = words_none codes field.words none;
+  known = λ n. ap (λ o. or_else o (get_or (field.known.items ++ next.known.items) n None))
+      (sym (code_byte_none codes n none));
+  long = refl;
+  words = λ k l. or_false (get_or field.words k false)
+      ∙ ap (λ o. get_or field.words k false || is_some o) (sym (none k));
   more = or_false field.knows_more ∙ ap (λ x. field.knows_more || x) (sym (has_none codes 312 none));
   rest = record { count = refl; heard = refl; decided = refl; bytes = refl; cost = refl; moved = refl };
-  next_known = bytes_none codes 64584 next.known.items none;
   next_words = refl;
   next_more = or_false next.knows_more ∙ ap (λ x. next.knows_more || x) (sym (behind_none codes 312 none));
   next_rest = record { count = refl; heard = refl; decided = refl; bytes = refl; cost = refl; moved = refl };
@@ -263,14 +181,17 @@ kept_twice a b c h k = record {
 pub found_twice : (first second both : ℕ → Option (List ℕ)) (a b p q x y : Field) → AreFound first a b p q
     → AreFound second p q x y → ((k : ℕ) → or_else (second k) (first k) ≡ both k) → AreFound both a b x y
 found_twice first second both a b p q x y h k agree = record {
-  known = k.known ∙ ap (bytes_with second 0) h.known ∙ bytes_or first second both 0 a.known.items agree;
-  words = k.words ∙ ap (words_with second) h.words ∙ words_or first second both a.words agree;
+  known = λ n. k.known n ∙ ap (or_else (code_byte second n)) (h.known n)
+      ∙ or_assoc (code_byte second n) (code_byte first n) (get_or (a.known.items ++ b.known.items) n None)
+      ∙ ap (λ o. or_else o (get_or (a.known.items ++ b.known.items) n None)) (code_byte_or first second both n agree);
+  long = k.long ∙ h.long;
+  words = λ i l. k.words i (omega (arith, l, h.long)) ∙ ap (λ x. x || is_some (second i)) (h.words i l)
+      ∙ sym (or_assoc_bool (get_or a.words i false) (is_some (first i)) (is_some (second i)))
+      ∙ ap (λ x. get_or a.words i false || x) (some_or (second i) (first i) ∙ ap is_some (agree i));
   more = k.more ∙ ap (λ x. x || has_code second 312) h.more
       ∙ sym (or_assoc_bool a.knows_more (has_code first 312) (has_code second 312))
       ∙ ap (λ x. a.knows_more || x) (sym (has_or first second both 312 agree));
   rest = kept_twice a p x h.rest k.rest;
-  next_known = k.next_known ∙ ap (bytes_with second 64584) h.next_known
-      ∙ bytes_or first second both 64584 b.known.items agree;
   next_words = k.next_words ∙ h.next_words;
   next_more = k.next_more ∙ ap (λ x. x || has_code_behind second 312) h.next_more
       ∙ sym (or_assoc_bool b.knows_more (has_code_behind first 312) (has_code_behind second 312))

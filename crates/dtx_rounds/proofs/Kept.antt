@@ -1,8 +1,8 @@
 -- What is known stays known in the next round: its bytes are pinned, but for the first X2 of a coder in a field, which
--- is a bit of byte 0 of a word.
+-- is a bit of byte 0 of a word. So the pins grow more from round to round, and the least paths cost more.
 use Rattle.std.proofs.Common.{◌≡◌, ℕ, ℤ, suc, ◌+◌, ◌-◌, ◌*◌, ◌/◌, ◌%◌, ◌^◌, ◌<◌, ◌≤◌, ◌==◌, Bool, true, false, cond}
 use Rattle.std.proofs.Common.{Option, Some, None, option_map, unwrap_or, List, [], ◌∷◌, length, map, get_or, sym, ap}
-use Rattle.std.proofs.Common.{ap₂, ◌∙◌, subst, arith}
+use Rattle.std.proofs.Common.{ap₂, ◌∙◌, subst, arith, nat_le, refl}
 use Rattle.std.specs.List.{range_with_len}
 use Rattle.std.proofs.lemmas.List.{ext_get_or, get_or-map}
 use Rattle.std.proofs.lemmas.List.FromFn.{get_or-map-range_with_len, length-map-range_with_len}
@@ -16,18 +16,26 @@ use Rattle.dtx_trellis.specs.Pairs.{pair_in}
 use Rattle.dtx_slice.specs.Unrolled.{byte_back, coder_of, pair_back, pair_from, precoder_bit, symbol_place}
 use Rattle.dtx_slice.proofs.InverseLemmas.{coder_of_small}
 use Rattle.dtx_slice.proofs.PlacesLemmas.{precoder_bit_next}
+use Rattle.dtx_soft.specs.Coders.{coder_symbols}
+use Rattle.dtx_soft.specs.Softened.{least_cost}
+use Rattle.dtx_soft.proofs.LeastPathLemmas.{least_path_found}
 use Rattle.dtx_soft.proofs.SoftenedLemmas.{length-coder}
 use Rattle.dtx_receiver.specs.Bytes.{bytes_in, first_bits, groups_of, levels_in}
 use Rattle.dtx_receiver.specs.Packets.{is_complete}
-use Rattle.dtx_pins.specs.Pins.{TellsPair, coder_pins, pin_at, x1_told, x2_told}
-use Rattle.dtx_rounds.specs.Known.{known_bytes, known_word}
-use Rattle.dtx_rounds.specs.Pins.{field_pins, known_pin}
-use Rattle.dtx_rounds.specs.Rounds.{groups_in, pins_in}
+use Rattle.dtx_pins.specs.LeastPinned.{least_pinned_levels, least_pinned_start}
+use Rattle.dtx_pins.specs.PinnedField.{pinned_coder_cost}
+use Rattle.dtx_pins.specs.Pins.{TellsPair, coder_pins, pin_at, x1_told, x2_told, Agrees}
+use Rattle.dtx_pins.proofs.LeastPinnedLemmas.{fewer_pins_cost_less, least_pinned_found}
+use Rattle.dtx_rounds.specs.Fields.{AreSegments}
+use Rattle.dtx_rounds.specs.Known.{known_bytes, known_word, known_byte, known_code_byte}
+use Rattle.dtx_rounds.specs.Pins.{field_pins, known_pin, byte_at_step}
+use Rattle.dtx_rounds.specs.Rounds.{groups_in, pins_in, coder_cost}
+use Rattle.dtx_rounds.specs.RunField.{StayKnown}
 use Rattle.dtx_rounds.proofs.KnownLemmas.{IsKnown, known_at, known_correction, known_from, known_parts, known_place}
 use Rattle.dtx_rounds.proofs.RoundLevels.{HasPaths, after, after_long, groups_after, level_after, levels_of}
 use Rattle.dtx_rounds.proofs.RoundLevels.{place_in_groups, same_groups}
-use Rattle.dtx_rounds.proofs.RunLevels.{AreLong, byte_in, length-bytes}
-use Rattle.dtx_rounds.proofs.StepPlaces.{field_of_segment, later_step, step_byte, step_pair}
+use Rattle.dtx_rounds.proofs.RunLevels.{byte_in, length-bytes, field_of_segment, later_step, step_byte, step_pair}
+use Rattle.dtx_rounds.proofs.RunWords.{known_entry}
 
 -- ---- pins
 
@@ -79,7 +87,7 @@ step_within n i g l m = omega arith
 record IsRound (scale : ℕ) (heard given : List (List ℤ)) : Type 0 where
   some : 0 < scale
   most : scale < 19
-  long : AreLong given
+  long : AreSegments given
   same : length heard ≡ length given
 
 -- the pair that the levels tell at a step that isn't the first of its field
@@ -104,7 +112,7 @@ pair_told scale heard given known paths bits t e p l is m some pin small =
     next : t ≡ t - 1 + 1
     next = omega arith
 
-    new : AreLong (after scale heard known given)
+    new : AreSegments (after scale heard known given)
     new = after_long scale heard given known is.long is.same
 
     now : get_or levels (symbol_place 0 t e) 0 ≡ get_or own (t % 21528) 0
@@ -190,7 +198,7 @@ few_apart (x ∷ xs) (y ∷ ys) e h =
 
 -- a known word is known in the next round, with the same correction
 pub word_kept : (scale : ℕ) (heard given : List (List ℤ)) (k : ℕ) (code : List ℕ)
-    → HasPaths scale heard (known_bytes (bytes_in given)) → 0 < scale → scale < 19 → AreLong given
+    → HasPaths scale heard (known_bytes (bytes_in given)) → 0 < scale → scale < 19 → AreSegments given
     → length heard ≡ length given → known_word (bytes_in given) k ≡ Some code
     → known_word (bytes_in (after scale heard (known_bytes (bytes_in given)) given)) k ≡ Some code
 word_kept scale heard given k code paths some most long same e =
@@ -212,7 +220,7 @@ word_kept scale heard given k code paths some most long same e =
     correct : IsCorrection 207 187 (word_at 207 52 4 (bytes_in given) k) code
     correct = known_correction (bytes_in given) k code was
 
-    new_long : AreLong (after scale heard known given)
+    new_long : AreSegments (after scale heard known given)
     new_long = after_long scale heard given known long same
 
     lengths : length new ≡ length (bytes_in given)
@@ -240,3 +248,86 @@ word_kept scale heard given k code paths some most long same e =
         few_apart (word_at 207 52 4 new k) code (length-word 207 52 4 new k ∙ sym correct.codeword.long)
         (λ j a b. (let l : j < 207 = omega (arith, b, length-word 207 52 4 new k) in
         get_or-word 207 52 4 new k j l ∙ byte j a l))
+
+pub none_some : {A : Type 0} (x : A) → ◌≡◌ {A = Option A} None (Some x) → ⊥
+none_some x e = cc
+
+code_byte_stays : (old new : List ℕ) (p b : ℕ) → StayKnown old new → known_code_byte old p ≡ Some b
+    → known_code_byte new p ≡ Some b
+unfolding known_code_byte
+code_byte_stays old new p b stays e = by_word (known_word old (p / 207)) refl e
+  where
+    by_word : (o : Option (List ℕ)) → known_word old (p / 207) ≡ o
+        → option_map (λ (code : List ℕ). get_or code (p % 207) 0) o ≡ Some b
+        → option_map (λ (code : List ℕ). get_or code (p % 207) 0) (known_word new (p / 207)) ≡ Some b
+    by_word None h f = absurd (none_some b f)
+    by_word (Some code) h f =
+        ap (option_map (λ (code : List ℕ). get_or code (p % 207) 0)) (stays (p / 207) code h) ∙ f
+
+byte_stays : (old new : List ℕ) (n b : ℕ) → StayKnown old new → known_byte old n ≡ Some b → known_byte new n ≡ Some b
+unfolding known_byte
+byte_stays old new n b stays e = by_test (nat_le (208 * (n % 52)) n) e
+  where
+    by_test : (t : Bool) → cond t (known_code_byte old (n - 208 * (n % 52))) None ≡ Some b
+        → cond t (known_code_byte new (n - 208 * (n % 52))) None ≡ Some b
+    by_test true f = code_byte_stays old new (n - 208 * (n % 52)) b stays f
+    by_test false f = absurd (none_some b f)
+
+entry_stays : (old new : List ℕ) (n b : ℕ) → StayKnown old new → get_or (known_bytes old) n None ≡ Some b
+    → get_or (known_bytes new) n None ≡ Some b
+entry_stays old new n b stays e = known_entry new n ∙ byte_stays old new n b stays (sym (known_entry old n) ∙ e)
+
+pin_stays : (old new : List ℕ) (e t : ℕ) → StayKnown old new
+    → known_pin (known_bytes old) e t < 4 → known_pin (known_bytes new) e t ≡ known_pin (known_bytes old) e t
+unfolding known_pin
+pin_stays old new e t stays l = by_entry (get_or (known_bytes old) (byte_at_step e t) None) refl l
+  where
+    by_entry : (o : Option ℕ) → get_or (known_bytes old) (byte_at_step e t) None ≡ o
+        → unwrap_or (option_map (λ byte. pair_in byte (t % 276)) o) 4 < 4
+        → unwrap_or (option_map (λ byte. pair_in byte (t % 276)) (get_or (known_bytes new) (byte_at_step e t) None)) 4
+        ≡ unwrap_or (option_map (λ byte. pair_in byte (t % 276))
+        (get_or (known_bytes old) (byte_at_step e t) None)) 4
+    by_entry None h m = absurd (omega (arith, m))
+    by_entry (Some b) h m =
+        ap (λ o. unwrap_or (option_map (λ byte. pair_in byte (t % 276)) o) 4)
+        (entry_stays old new (byte_at_step e t) b stays h ∙ sym h)
+
+-- what agrees with more pins agrees with fewer
+agrees_with_fewer : (heard : List (List ℤ)) (old new : List ℕ) (f e : ℕ) (levels : List ℕ) → StayKnown old new
+    → e < 12 → length levels ≡ length (coder_symbols (groups_in heard f) e)
+    → Agrees (coder_pins (pins_in heard (known_bytes new) f) e) levels
+    → Agrees (coder_pins (pins_in heard (known_bytes old) f) e) levels
+agrees_with_fewer heard old new f e levels stays l long h t m p =
+    subst (λ q. TellsPair q levels t) there (h t m (omega (arith, there, p)))
+  where
+    room : t < 69 * length (groups_in heard f)
+    room = omega (arith, m, long, length-coder (groups_in heard f) e)
+
+    small : known_pin (known_bytes old) e (21528 * f + t) < 4
+    small = omega (arith, p, field_pin heard (known_bytes old) f e t l room)
+
+    there : pin_at (coder_pins (pins_in heard (known_bytes new) f) e) t
+        ≡ pin_at (coder_pins (pins_in heard (known_bytes old) f) e) t
+    there =
+        field_pin heard (known_bytes new) f e t l room ∙ pin_stays old new e (21528 * f + t) stays small
+        ∙ sym (field_pin heard (known_bytes old) f e t l room)
+
+pub more_known_costs_more : (scale : ℕ) (heard : List (List ℤ)) (old new : List ℕ) (f e : ℕ) → StayKnown old new
+    → e < 12
+    → coder_cost scale heard (known_bytes old) f e ≤ coder_cost scale heard (known_bytes new) f e
+unfolding coder_cost pinned_coder_cost
+more_known_costs_more scale heard old new f e stays l =
+    fewer_pins_cost_less scale (coder_pins (pins_in heard (known_bytes new) f) e)
+    (coder_pins (pins_in heard (known_bytes old) f) e) (coder_symbols (groups_in heard f) e)
+    (λ levels long h. agrees_with_fewer heard old new f e levels stays l long h)
+
+-- pinned paths cost no less than those without pins
+pub known_costs_more : (scale : ℕ) (heard : List (List ℤ)) (known : List (Option ℕ)) (f e : ℕ)
+    → least_cost scale (groups_in heard f) e ≤ coder_cost scale heard known f e
+unfolding coder_cost pinned_coder_cost least_cost
+known_costs_more scale heard known f e =
+    let symbols : List ℤ = coder_symbols (groups_in heard f) e in
+    let pins : List ℕ = coder_pins (pins_in heard known f) e in
+    let found = least_pinned_found scale pins symbols in
+    (least_path_found scale symbols).least (least_pinned_start scale pins symbols)
+    (least_pinned_levels scale pins symbols) found.begins found.long found.path

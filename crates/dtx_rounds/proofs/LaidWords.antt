@@ -1,25 +1,20 @@
 -- One word of a field, laid back to its places, and the words of a field that are sought one behind the other.
 use Rattle.std.proofs.Common.{◌≡◌, ◌≢◌, ℕ, ◌+◌, ◌-◌, ◌*◌, ◌/◌, ◌%◌, ◌<◌, ◌≤◌, ◌⊎◌, inl, inr, ◌==◌, ◌++◌, ◌||◌, ◌&&◌}
 use Rattle.std.proofs.Common.{not, nat_le, Bool, true, false, cond, Option, Some, None, is_some, option_map, List}
-use Rattle.std.proofs.Common.{length}
-use Rattle.std.proofs.Common.{get_or, set, take, drop, get_or-set_other, get_or-set_same, length-set, refl, sym, ap}
-use Rattle.std.proofs.Common.{ap₂, ◌∙◌}
-use Rattle.std.proofs.Common.{arith}
+use Rattle.std.proofs.Common.{length, get_or, set, take, drop, get_or-set_other, get_or-set_same, length-set, refl, sym}
+use Rattle.std.proofs.Common.{ap, ap₂, ◌∙◌, arith}
 use Rattle.std.specs.List.{list_any, range_with_len}
+use Rattle.std.specs.Prelude.{Vec, vec_len}
+use Rattle.std.specs.Vec.{with_items}
 use Rattle.std.proofs.lemmas.Bool.{cases_eq, cases_lt, cond-true, cond-false, eq-eqb, eqb-true, le-leb, leb-true}
 use Rattle.std.proofs.lemmas.Bool.{false_from_ne_true, true≢false}
-use Rattle.std.proofs.lemmas.List.{get_or_append_left, get_or-append_right, get_or-take, get_or_default, get_or_past}
-use Rattle.std.proofs.lemmas.List.{length-take-le, take_at}
-use Rattle.std.specs.Vec.{with_items}
-use Rattle.std.specs.Prelude.{Vec, vec_len}
+use Rattle.std.proofs.lemmas.List.{get_or-take, get_or_default, get_or_past, length-take-le, take_at}
 use Rattle.dtx_outer.specs.Inner.{codeword_byte_place}
 use Rattle.dtx_receiver.specs.Packets.{is_complete}
-use Rattle.dtx_rounds.specs.Found.{AreFound, IsKept, bytes_with, code_byte, has_code, has_code_behind, new_code}
-use Rattle.dtx_rounds.specs.Found.{only_code, or_else, words_with}
+use Rattle.dtx_rounds.specs.Found.{AreFound, IsKept, code_byte, has_code, has_code_behind, new_code, only_code, or_else}
 use Rattle.dtx_rounds.specs.Known.{known_word}
 use Rattle.dtx_rounds.specs.declared.field.Field.{Field}
-use Rattle.dtx_rounds.proofs.FoundWords.{any_at, any_none, bytes_from, found_same, found_twice, or_false}
-use Rattle.dtx_rounds.proofs.FoundWords.{word_with, words_from}
+use Rattle.dtx_rounds.proofs.FoundWords.{any_at, any_none, found_same, found_twice, or_false}
 use Rattle.dtx_rounds.proofs.KnownLemmas.{byte_source}
 
 -- ---- one word alone
@@ -88,58 +83,23 @@ laid_entry k word old new n laid other = by_test (nat_le (208 * (n % 52)) n) ref
         no : 208 * (n % 52) ≤ n → ⊥
         no l = true≢false (sym (le-leb (208 * (n % 52)) n l) ∙ t)
 
-laid_front : (k : ℕ) (word : List ℕ) (known next new new_next : List (Option ℕ)) → length new ≡ length known
-    → ((n : ℕ) → get_or (new ++ new_next) n None
-    ≡ or_else (code_byte (only_code k (Some word)) n) (get_or (known ++ next) n None))
-    → new ≡ bytes_with (only_code k (Some word)) 0 known
-laid_front k word known next new new_next same entry =
-    bytes_from (only_code k (Some word)) 0 known new same here
-  where
-    here : (i : ℕ) → i < length known
-        → get_or new i None ≡ or_else (code_byte (only_code k (Some word)) (0 + i)) (get_or known i None)
-    here i l =
-        let none : i ≡ 0 + i = omega arith in
-        sym (get_or_append_left new new_next None i (omega (arith, l, same))) ∙ entry i
-        ∙ ap₂ (λ n o. or_else (code_byte (only_code k (Some word)) n) o) none
-        (get_or_append_left known next None i l)
-
-laid_behind : (k first : ℕ) (word : List ℕ) (known next new new_next : List (Option ℕ)) → length known ≡ first
-    → length new ≡ first → length new_next ≡ length next
-    → ((n : ℕ) → get_or (new ++ new_next) n None
-    ≡ or_else (code_byte (only_code k (Some word)) n) (get_or (known ++ next) n None))
-    → new_next ≡ bytes_with (only_code k (Some word)) first next
-laid_behind k first word known next new new_next old now same entry =
-    bytes_from (only_code k (Some word)) first next new_next same here
-  where
-    here : (i : ℕ) → i < length next
-        → get_or new_next i None ≡ or_else (code_byte (only_code k (Some word)) (first + i)) (get_or next i None)
-    here i l =
-        let back : first + i - first ≡ i = omega arith in
-        ap (λ n. get_or new_next n None) (sym back)
-        ∙ sym (get_or-append_right new new_next first (first + i) None now (omega arith)) ∙ entry (first + i)
-        ∙ ap (or_else (code_byte (only_code k (Some word)) (first + i)))
-        (get_or-append_right known next first (first + i) None old (omega arith)
-        ∙ ap (λ n. get_or next n None) back)
-
 -- ---- that it is known
 
-word_set : (k : ℕ) (word : List ℕ) (words : List Bool) → k < length words
-    → set words k true ≡ words_with (only_code k (Some word)) words
-word_set k word words l =
-    words_from (only_code k (Some word)) words (set words k true) (length-set words k true)
-    (λ i m. by_place i m (cases_eq i k))
+word_set : (k : ℕ) (word : List ℕ) (words : List Bool) (i : ℕ) → k < length words
+    → get_or (set words k true) i false ≡ (get_or words i false || is_some (only_code k (Some word) i))
+word_set k word words i l = by_place (cases_eq i k)
   where
     or_true : (x : Bool) → true ≡ (x || true)
     or_true true = refl
     or_true false = refl
 
-    by_place : (i : ℕ) → i < length words → (i ≡ k) ⊎ (i ≢ k) → get_or (set words k true) i false
-        ≡ (get_or words i false || is_some (only_code k (Some word) i))
-    by_place i m (inl e) =
+    by_place : (i ≡ k) ⊎ (i ≢ k)
+        → get_or (set words k true) i false ≡ (get_or words i false || is_some (only_code k (Some word) i))
+    by_place (inl e) =
         ap (λ j. get_or (set words k true) j false) e ∙ get_or-set_same words k true false l
         ∙ or_true (get_or words i false)
         ∙ ap (λ o. get_or words i false || is_some o) (sym (ap (only_code k (Some word)) e ∙ only_same k (Some word)))
-    by_place i m (inr ne) =
+    by_place (inr ne) =
         get_or-set_other words k i true false ne ∙ or_false (get_or words i false)
         ∙ ap (λ o. get_or words i false || is_some o) (sym (only_other k (Some word) i ne))
 
@@ -193,13 +153,12 @@ pub found_one : (k : ℕ) (word : List ℕ) (field next new new_next : Field) �
     → new_next.words ≡ next.words → new_next.knows_more ≡ (next.knows_more || not (is_complete (207 * 312) k))
     → IsKept next new_next → AreFound (only_code k (Some word)) field next new new_next
 found_one k word field next new new_next l long laid others words more rest next_words next_more next_rest = record {
-  known = laid_front k word field.known.items next.known.items new.known.items new_next.known.items
-      (known_items new ∙ sym (known_items field)) entry;
-  words = words ∙ word_set k word field.words (omega (arith, l, long));
+  known = entry;
+  long = ap length words ∙ length-set field.words k true;
+  words = λ i m. ap (λ (ws : List Bool). get_or ws i false) words
+      ∙ word_set k word field.words i (omega (arith, l, long));
   more = more ∙ sym (ap (λ b. field.knows_more || b) (has_one k 312 word l) ∙ or_true field.knows_more);
   rest = rest;
-  next_known = laid_behind k 64584 word field.known.items next.known.items new.known.items new_next.known.items
-      (known_items field) (known_items new) (known_items new_next ∙ sym (known_items next)) entry;
   next_words = next_words;
   next_more = next_more ∙ ap (λ b. next.knows_more || b) (sym (behind_one k 312 word l));
   next_rest = next_rest;
@@ -296,8 +255,7 @@ own_word bytes k a b p q l h =
     get_or_default a.words k true false l ∙ or_false (get_or a.words k false)
     ∙ ap (λ o. get_or a.words k false || is_some o)
     (sym (sought_past bytes a.words k k (omega (arith, l)) (omega arith)))
-    ∙ sym (word_with (new_code bytes (take k a.words)) a.words k l)
-    ∙ ap (λ (ws : List Bool). get_or ws k false) (sym h.words)
+    ∙ sym (h.words k l)
 
 pub found_next : (bytes : List ℕ) (k : ℕ) (a b p q x y : Field) → k < length a.words
     → AreFound (new_code bytes (take k a.words)) a b p q → get_or p.words k false ≡ false

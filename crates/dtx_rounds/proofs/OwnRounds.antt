@@ -1,14 +1,17 @@
--- Where no byte of a known word is put right, the pins are pairs of the paths themselves. So these stay the least ones.
-use Rattle.std.proofs.Common.{◌≡◌, ℕ, ℤ, pos, zero, suc, ◌+◌, ◌-◌, ◌*◌, ◌/◌, ◌%◌, ◌<◌, ◌≤◌, ◌⊎◌, inl, inr, min}
-use Rattle.std.proofs.Common.{nat_le, nat_lt, Bool, true, false, cond, Option, Some, None, option_map, unwrap_or}
-use Rattle.std.proofs.Common.{List, [], ◌++◌, length, map, take, drop, get_or, refl, sym, ap, ap₂, ◌∙◌, subst, arith}
+-- Where no byte of a known word is put right, the pins are pairs of the paths themselves. So these stay the least ones,
+-- and rounds over a capture leave it as it is.
+use Rattle.std.proofs.Common.{◌≡◌, ℕ, ℤ, pos, zero, suc, ◌+◌, ◌-◌, ◌*◌, ◌/◌, ◌%◌, ◌<◌, ◌≤◌, ◌⊎◌, inl, inr, min, nat_le}
+use Rattle.std.proofs.Common.{nat_lt, Bool, true, false, cond, Option, Some, None, option_map, unwrap_or, List, []}
+use Rattle.std.proofs.Common.{◌++◌, length, map, take, drop, get_or, refl, sym, ap, ap₂, ◌∙◌, subst, arith}
 use Rattle.std.proofs.lemmas.Bool.{cases_Bool, cases_lt, cond-false, cond-true, leb-true}
-use Rattle.std.proofs.lemmas.List.{get_or-append_right, get_or-drop, get_or-map, get_or-take, get_or_past}
-use Rattle.std.proofs.lemmas.List.{length-drop, length-take, take_at}
+use Rattle.std.proofs.lemmas.List.{get_or-append_right, get_or-drop, get_or-map, get_or-take, get_or_past, length-drop}
+use Rattle.std.proofs.lemmas.List.{length-take, take_at}
 use Rattle.std.proofs.lemmas.List.FromFn.{fill_by_all, get_or-map-range_with_len, length-map-range_with_len}
 use Rattle.dtx_lists.proofs.Range.{map-range_same}
+use Rattle.dtx_laws.specs.Codeword.{IsCodeword}
+use Rattle.dtx_laws.proofs.WordsLemmas.{one_correction, own_correction}
 use Rattle.dtx_outer.specs.Inner.{word_at}
-use Rattle.dtx_outer.proofs.WordsLemmas.{get_or-word}
+use Rattle.dtx_outer.proofs.WordsLemmas.{get_or-word, length-word}
 use Rattle.dtx_frame.specs.Segments.{segment_sync}
 use Rattle.dtx_trellis.specs.Pairs.{coder_at, pair_in}
 use Rattle.dtx_slice.specs.Unrolled.{byte_back, coder_of, pair_back, pair_from, precoder_bit, symbol_place}
@@ -21,28 +24,34 @@ use Rattle.dtx_soft.specs.Softened.{least_symbols, softened, softened_segment, s
 use Rattle.dtx_soft.proofs.LeastPathLemmas.{least_levels_are, least_path_found}
 use Rattle.dtx_soft.proofs.SoftenedLemmas.{coder_small, length-coder, softened_found}
 use Rattle.dtx_receiver.specs.Bytes.{bytes_in, data_at, data_count, first_bits, groups_of, levels_in}
-use Rattle.dtx_acquire.specs.Acquired.{in_groups, restored_data}
+use Rattle.dtx_receiver.specs.Packets.{is_complete}
+use Rattle.dtx_acquire.specs.Acquired.{in_groups, restored_data, acquired, all_fields}
 use Rattle.dtx_acquire.specs.Scaled.{decided}
 use Rattle.dtx_acquire.specs.Sent.{groups_behind}
 use Rattle.dtx_pins.specs.LeastPinned.{least_pinned_levels}
-use Rattle.dtx_pins.specs.Pins.{Agrees, coder_pins, pin_at, x1_told, x2_told}
 use Rattle.dtx_pins.specs.PinnedField.{pinned, pinned_segment, pinned_symbol, pinned_symbols}
+use Rattle.dtx_pins.specs.Pins.{Agrees, coder_pins, pin_at, x1_told, x2_told}
 use Rattle.dtx_pins.proofs.LeastPinnedLemmas.{least_pinned_is}
+use Rattle.dtx_rounds.specs.Fields.{AreSegments}
 use Rattle.dtx_rounds.specs.Known.{known_byte, known_bytes, known_code_byte, known_word}
 use Rattle.dtx_rounds.specs.Pins.{byte_at_step, known_pin}
-use Rattle.dtx_rounds.specs.Rounds.{groups_in, in_whole_group, paths_in, pins_in, round_segment, rounded}
-use Rattle.dtx_rounds.proofs.Growing.{length-known, none_some}
-use Rattle.dtx_rounds.proofs.Kept.{field_pin, part}
+use Rattle.dtx_rounds.specs.Rounds.{groups_in, in_whole_group, paths_in, pins_in, round_segment, rounded, heard_of}
+use Rattle.dtx_rounds.specs.Rounds.{refined}
+use Rattle.dtx_rounds.proofs.FieldRows.{AreFields, acquired_groups}
+use Rattle.dtx_rounds.proofs.Kept.{none_some, field_pin, part}
+use Rattle.dtx_rounds.proofs.KnownLemmas.{known_correction, known_parts}
+use Rattle.dtx_rounds.proofs.RefinedLemmas.{length-heard, rounds_stay}
 use Rattle.dtx_rounds.proofs.RoundLevels.{in_whole_room, in_whole_some, length-groups, level_by, path_small}
 use Rattle.dtx_rounds.proofs.RoundLevels.{place_in_groups, same_groups, step_there}
-use Rattle.dtx_rounds.proofs.RunLevels.{AreLong, byte_in, length-bytes}
-use Rattle.dtx_rounds.proofs.StepPlaces.{byte_coder, byte_step, field_of_segment, place_in}
+use Rattle.dtx_rounds.proofs.RunLevels.{byte_in, length-bytes, byte_coder, byte_step, field_of_segment, place_in}
+use Rattle.dtx_rounds.proofs.RunWords.{length-known}
+use Rattle.dtx_rounds.proofs.WholeLemmas.{long_acquired}
 
 -- The segments are decided by the least paths over those received, as the acquirer does it.
 pub record AreDecided (scale : ℕ) (heard given : List (List ℤ)) : Type 0 where
   pub some : 0 < scale
   pub most : scale < 19
-  pub long : AreLong given
+  pub long : AreSegments given
   pub same : length heard ≡ length given
   pub groups : (f : ℕ) → groups_in given f ≡ map (restored_data scale) (softened scale (groups_in heard f))
 
@@ -184,33 +193,25 @@ byte_part bits levels n i l = by_part i l
     r : ℕ
     r = 4 * (n / 12)
 
+    four : (a b c d : ℕ) → a < 4 → b < 4 → c < 4 → d < 4
+        → ((64 * a + 16 * b + 4 * c + d) / 64 % 4 ≡ a) × ((64 * a + 16 * b + 4 * c + d) / 16 % 4 ≡ b)
+        × ((64 * a + 16 * b + 4 * c + d) / 4 % 4 ≡ c) × ((64 * a + 16 * b + 4 * c + d) / 1 % 4 ≡ d)
+    four a b c d k l m n = (omega arith, omega arith, omega arith, omega arith)
+
+    all : ((64 * pair r + 16 * pair (r + 1) + 4 * pair (r + 2) + pair (r + 3)) / 64 % 4 ≡ pair r)
+        × ((64 * pair r + 16 * pair (r + 1) + 4 * pair (r + 2) + pair (r + 3)) / 16 % 4 ≡ pair (r + 1))
+        × ((64 * pair r + 16 * pair (r + 1) + 4 * pair (r + 2) + pair (r + 3)) / 4 % 4 ≡ pair (r + 2))
+        × ((64 * pair r + 16 * pair (r + 1) + 4 * pair (r + 2) + pair (r + 3)) / 1 % 4 ≡ pair (r + 3))
+    all =
+        four (pair r) (pair (r + 1)) (pair (r + 2)) (pair (r + 3)) (small r) (small (r + 1)) (small (r + 2))
+        (small (r + 3))
+
     by_part : (i : ℕ) → i < 4
         → part (64 * pair r + 16 * pair (r + 1) + 4 * pair (r + 2) + pair (r + 3)) i ≡ pair (r + i)
-    by_part zero m =
-        let same : r ≡ r + 0 = omega arith in
-        first (pair r) (pair (r + 1)) (pair (r + 2)) (pair (r + 3)) (small r) (small (r + 1)) (small (r + 2))
-        (small (r + 3)) ∙ ap pair same
-      where
-        first : (a b c d : ℕ) → a < 4 → b < 4 → c < 4 → d < 4 → (64 * a + 16 * b + 4 * c + d) / 64 % 4 ≡ a
-        first a b c d k l m n = omega arith
-    by_part (suc zero) m =
-        second (pair r) (pair (r + 1)) (pair (r + 2)) (pair (r + 3)) (small r) (small (r + 1)) (small (r + 2))
-        (small (r + 3))
-      where
-        second : (a b c d : ℕ) → a < 4 → b < 4 → c < 4 → d < 4 → (64 * a + 16 * b + 4 * c + d) / 16 % 4 ≡ b
-        second a b c d k l m n = omega arith
-    by_part (suc (suc zero)) m =
-        third (pair r) (pair (r + 1)) (pair (r + 2)) (pair (r + 3)) (small r) (small (r + 1)) (small (r + 2))
-        (small (r + 3))
-      where
-        third : (a b c d : ℕ) → a < 4 → b < 4 → c < 4 → d < 4 → (64 * a + 16 * b + 4 * c + d) / 4 % 4 ≡ c
-        third a b c d k l m n = omega arith
-    by_part (suc (suc (suc zero))) m =
-        fourth (pair r) (pair (r + 1)) (pair (r + 2)) (pair (r + 3)) (small r) (small (r + 1)) (small (r + 2))
-        (small (r + 3))
-      where
-        fourth : (a b c d : ℕ) → a < 4 → b < 4 → c < 4 → d < 4 → (64 * a + 16 * b + 4 * c + d) / 1 % 4 ≡ d
-        fourth a b c d k l m n = omega arith
+    by_part zero m = (let same : r ≡ r + 0 = omega arith in all.0 ∙ ap pair same)
+    by_part (suc zero) m = all.1
+    by_part (suc (suc zero)) m = all.2
+    by_part (suc (suc (suc zero))) m = all.3
     by_part (suc (suc (suc (suc i)))) m = absurd (omega arith)
 
 -- the byte at a coder's step
@@ -466,3 +467,30 @@ unfolding rounded
 own_round scale heard given is own =
     sym (fill_by_all (round_segment scale heard (known_bytes (bytes_in given)) given) given (length given) [] refl
     (λ i l. sym (own_segment scale heard given i is own)))
+
+-- a codeword is its own correction
+pub own_code : (bytes : List ℕ) (k : ℕ) (code : List ℕ)
+    → (is_complete (length bytes) k ≡ true → IsCodeword 207 187 (word_at 207 52 4 bytes k))
+    → known_word bytes k ≡ Some code → code ≡ word_at 207 52 4 bytes k
+own_code bytes k code words e =
+    let known = known_parts bytes k code e in
+    one_correction 207 187 (word_at 207 52 4 bytes k) code (word_at 207 52 4 bytes k) (omega arith)
+    (length-word 207 52 4 bytes k) (known_correction bytes k code known)
+    (own_correction 207 187 (word_at 207 52 4 bytes k) (words known.complete))
+
+pub are_decided : (scale : ℕ) (symbols : List ℤ) → AreFields (all_fields symbols) → 0 < scale → scale < 19
+    → AreDecided scale (heard_of symbols) (acquired scale symbols)
+are_decided scale symbols fields some most = record {
+  some = some;
+  most = most;
+  long = long_acquired scale symbols;
+  same = length-heard scale symbols;
+  groups = λ f. acquired_groups scale f symbols fields;
+}
+
+pub still : (scale r : ℕ) (symbols : List ℤ) → AreFields (all_fields symbols) → 0 < scale → scale < 19
+    → NoneIsPutRight (bytes_in (acquired scale symbols)) → refined scale symbols r ≡ acquired scale symbols
+unfolding refined
+still scale r symbols fields some most own =
+    rounds_stay scale r (heard_of symbols) (acquired scale symbols)
+    (own_round scale (heard_of symbols) (acquired scale symbols) (are_decided scale symbols fields some most) own)

@@ -1,28 +1,80 @@
--- A field passes through rounds, one behind the other.
-use Rattle.std.proofs.Common.{◌≡◌, ℕ, ℤ, suc, ◌+◌, ◌-◌, ◌*◌, ◌<◌, ◌≤◌, inr, Bool, true, false, cond}
-use Rattle.std.proofs.Common.{List, [], ◌∷◌, length, refl, sym, ap, ◌∙◌, subst, arith}
-use Rattle.std.proofs.lemmas.Bool.{cond-false, cond-true, true≢false}
+-- A field passes through rounds, one behind the other: how they begin, how many of them hold a field, and what they
+-- made of a run.
+use Rattle.std.proofs.Common.{◌≡◌, ℕ, ℤ, suc, ◌+◌, ◌-◌, ◌<◌, ◌≤◌, ◌⊎◌, inl, inr, nat_le, Bool, true, false, cond, List}
+use Rattle.std.proofs.Common.{[], ◌∷◌, length, refl, sym, ap, ◌∙◌, arith, ◌*◌, subst, ◌++◌}
+use Rattle.std.proofs.lemmas.Bool.{cases_lt, cond-false, cond-true, le-leb, lt-leb, true≢false}
 use Rattle.dtx_receiver.specs.Bytes.{bytes_in}
+use Rattle.dtx_rounds.specs.Fields.{AreSegments}
 use Rattle.dtx_rounds.specs.Known.{known_bytes, known_word}
+use Rattle.dtx_rounds.specs.MadeRounds.{AreFinished, AreMade, AreTaken}
 use Rattle.dtx_rounds.specs.Rounds.{rounded, rounds_of}
 use Rattle.dtx_rounds.specs.RunField.{Holds, IsInRun, IsRounded}
-use Rattle.dtx_rounds.specs.RunRounds.{AreAt, IsAt, IsEnded, IsEndedFirst, IsGiven, IsPassed, IsRun, given_by}
-use Rattle.dtx_rounds.specs.RunRounds.{given_count}
+use Rattle.dtx_rounds.specs.RunRounds.{AreAt, given_by, given_count, on_count, IsAt, IsEnded, IsEndedFirst, IsGiven}
+use Rattle.dtx_rounds.specs.RunRounds.{IsPassed, IsRun, AreOff}
 use Rattle.dtx_rounds.specs.declared.field.Field.{Field}
 use Rattle.dtx_rounds.specs.declared.round.Round.{Round}
-use Rattle.dtx_rounds.proofs.RefinedLemmas.{known_stays, length-rounded}
+use Rattle.dtx_rounds.specs.declared.rounds.Rounds.{Rounds}
+use Rattle.dtx_rounds.proofs.BegunFields.{no_word}
+use Rattle.dtx_rounds.proofs.RefinedLemmas.{known_stays, length-rounded, rounds_more}
 use Rattle.dtx_rounds.proofs.RoundLevels.{after_long}
-use Rattle.dtx_rounds.proofs.RoundsLemmas.{rounds_more}
+
+pub few_on : (rounds : List Round) → on_count rounds ≤ length rounds
+few_on [] = omega arith
+few_on (round ∷ rounds) = by_round round.on (few_on rounds)
+  where
+    by_round : (b : Bool) → on_count rounds ≤ length rounds → cond b 1 0 + on_count rounds ≤ suc (length rounds)
+    by_round true l = omega (arith, l)
+    by_round false l = omega (arith, l)
+
+-- of the fields that came to rounds, each was given or is held
+pub given_and_on : (scale : ℕ) (heard given : List (List ℤ)) (before : List ℕ) (t : ℕ) (rounds : List Round)
+    → AreAt scale heard given before t rounds → given_count t rounds + on_count rounds ≡ t
+given_and_on scale heard given before t [] at = omega arith
+given_and_on scale heard given before t (round ∷ rounds) at =
+    by_round round.on (λ e. (at.0.on e).0)
+    (given_and_on scale heard (rounded scale heard given) (bytes_in given) (given_by round t) rounds at.1)
+  where
+    by_round : (b : Bool) → (b ≡ true → 0 < t)
+        → given_count (given_by round t) rounds + on_count rounds ≡ cond b (t - 1) t
+        → given_count (given_by round t) rounds + (cond b 1 0 + on_count rounds) ≡ t
+    by_round true some e = (let l = some refl in omega (arith, l, e))
+    by_round false some e = omega (arith, e)
+
+-- ---- whether each of them holds one
+
+-- two comparisons that come out alike
+pub same_test : (a b c d : ℕ) → (a ≤ b → c ≤ d) → (b < a → d < c) → nat_le a b ≡ nat_le c d
+same_test a b c d h k = by_order (cases_lt b a)
+  where
+    by_order : (b < a) ⊎ (a ≤ b) → nat_le a b ≡ nat_le c d
+    by_order (inl l) = lt-leb a b l ∙ sym (lt-leb c d (k l))
+    by_order (inr l) = le-leb a b l ∙ sym (le-leb c d (h l))
+
+pub none_full : (rounds : List Round) → length rounds ≡ 0 → true ≡ nat_le (length rounds) (on_count rounds)
+none_full rounds e = sym (le-leb (length rounds) (on_count rounds) (omega (arith, e)))
+
+pub full_on : (round : Round) (rest : List Round) → round.on ≡ true
+    → nat_le (length rest) (on_count rest) ≡ nat_le (suc (length rest)) (on_count (round ∷ rest))
+full_on round rest e =
+    let one : on_count (round ∷ rest) ≡ 1 + on_count rest = ap (λ n. n + on_count rest) (cond-true round.on 1 0 e) in
+    same_test (length rest) (on_count rest) (suc (length rest)) (on_count (round ∷ rest)) (λ l. omega (arith, l, one))
+    (λ l. omega (arith, l, one))
+
+pub full_off : (round : Round) (rest : List Round) → round.on ≡ false
+    → false ≡ nat_le (suc (length rest)) (on_count (round ∷ rest))
+full_off round rest e =
+    let none : on_count (round ∷ rest) ≡ 0 + on_count rest = ap (λ n. n + on_count rest) (cond-false round.on 1 0 e) in
+    sym (lt-leb (suc (length rest)) (on_count (round ∷ rest)) (omega (arith, none, few_on rest)))
 
 -- ---- the run of the next round
 
-pub next_run : (scale : ℕ) (heard given : List (List ℤ)) (before : List ℕ) → 0 < scale → scale < 19
+pub next_run : (scale : ℕ) (heard given : List (List ℤ)) (before : List ℕ) → 0 < scale → scale ≤ 18
     → IsRun heard given before → IsRun heard (rounded scale heard given) (bytes_in given)
 unfolding rounded
 next_run scale heard given before some most h = record {
   long = after_long scale heard given (known_bytes (bytes_in given)) h.long h.same;
   same = h.same ∙ sym (length-rounded scale heard given);
-  stays = λ k code e. known_stays scale k heard given code some most h.long h.same e;
+  stays = λ k code e. known_stays scale k heard given code some (omega (arith, most)) h.long h.same e;
 }
 
 rounds_next : (scale n : ℕ) (heard given : List (List ℤ))
@@ -218,3 +270,126 @@ ended_none scale heard given before t [] field e = record {
   all = λ e. refl;
 }
 ended_none scale heard given before t (round ∷ rounds) field e = absurd (omega arith)
+
+-- ---- the beginning
+
+pub off_more : (rounds : List Round) (round : Round) → AreOff rounds → round.on ≡ false
+    → AreOff (rounds ++ (round ∷ []))
+off_more [] round h e = (e, tt)
+off_more (first ∷ rounds) round h e = (h.0, off_more rounds round h.1 e)
+
+is_at_first : (scale : ℕ) (heard given : List (List ℤ)) (before : List ℕ) (round : Round) → round.on ≡ false
+    → IsAt scale heard given before 0 round
+is_at_first scale heard given before round off = record {
+  on = λ e. absurd (true≢false (sym e ∙ off));
+  off = λ e. inl refl;
+}
+
+pub at_first : (scale : ℕ) (heard given : List (List ℤ)) (before : List ℕ) (rounds : List Round) → AreOff rounds
+    → AreAt scale heard given before 0 rounds
+at_first scale heard given before [] h = tt
+at_first scale heard given before (round ∷ rounds) h = (
+  is_at_first scale heard given before round h.0,
+  subst (λ n. AreAt scale heard (rounded scale heard given) (bytes_in given) n rounds) (sym (given_off round 0 h.0))
+      (at_first scale heard (rounded scale heard given) (bytes_in given) rounds h.1),
+)
+
+pub none_given : (rounds : List Round) → AreOff rounds → given_count 0 rounds ≡ 0
+none_given [] h = refl
+none_given (round ∷ rounds) h = ap (λ n. given_count n rounds) (given_off round 0 h.0) ∙ none_given rounds h.1
+
+pub made_first : (scale count : ℕ) (heard given : List (List ℤ)) (rounds : Rounds) → rounds.means.decoder ≡ scale
+    → AreOff rounds.rounds.items → length rounds.rounds.items ≡ count
+    → AreMade scale heard given count 0 0 rounds
+made_first scale count heard given rounds e off long = record {
+  scale_is = e;
+  long = long;
+  at = at_first scale heard given [] rounds.rounds.items off;
+  given_are = none_given rounds.rounds.items off;
+  few = omega arith;
+  held = omega arith;
+}
+
+-- ---- how many fields were given
+
+by_few : (t : ℕ) (round : Round) → given_by round t ≤ t
+by_few t round = by_cases round.on
+  where
+    by_cases : (b : Bool) → cond b (t - 1) t ≤ t
+    by_cases true = omega arith
+    by_cases false = omega arith
+
+few_given : (t : ℕ) (rounds : List Round) → given_count t rounds ≤ t
+few_given t [] = omega arith
+few_given t (round ∷ rounds) = omega (arith, few_given (given_by round t) rounds, by_few t round)
+
+-- each round holds one field at most
+held_few : (scale count t f : ℕ) (heard given : List (List ℤ)) (rounds : List Round) → length rounds ≡ count
+    → AreAt scale heard given [] t rounds → given_count t rounds ≡ f → t ≤ f + count
+held_few scale count t f heard given rounds long at e =
+    omega (arith, long, e, given_and_on scale heard given [] t rounds at, few_on rounds)
+
+-- whether each of them holds one
+is_full : (scale count t f : ℕ) (heard given : List (List ℤ)) (rounds : Rounds)
+    → AreMade scale heard given count t f rounds
+    → nat_le (length rounds.rounds.items) (on_count rounds.rounds.items) ≡ nat_le (f + count) t
+is_full scale count t f heard given rounds m =
+    let held = given_and_on scale heard given [] t rounds.rounds.items m.at in
+    same_test (length rounds.rounds.items) (on_count rounds.rounds.items) (f + count) t
+    (λ l. omega (arith, l, held, m.given_are, m.long)) (λ l. omega (arith, l, held, m.given_are, m.long))
+
+-- ---- a run of which nothing is known before
+
+pub run_of : (heard given : List (List ℤ)) → AreSegments given → length heard ≡ length given → IsRun heard given []
+run_of heard given long same = record { long = long; same = same; stays = λ k code e. absurd (no_word k code e) }
+
+-- ---- a field more
+
+pub taken : (scale count t f : ℕ) (heard given : List (List ℤ)) (old new : Rounds) (answer : Bool) (field : Field)
+    → AreMade scale heard given count t f old → new.means.decoder ≡ old.means.decoder
+    → length new.rounds.items ≡ length old.rounds.items
+    → answer ≡ nat_le (length old.rounds.items) (on_count old.rounds.items)
+    → IsPassed scale heard given [] t old.rounds.items new.rounds.items answer field
+    → AreTaken scale heard given count t f answer new field
+taken scale count t f heard given old new answer field m e long full p = record {
+  made = record {
+    scale_is = e ∙ m.scale_is;
+    long = long ∙ m.long;
+    at = p.at;
+    given_are = count_is;
+    few = omega (arith, sym count_is, few_given (t + 1) new.rounds.items);
+    held = held_few scale count (t + 1) (f + cond answer 1 0) heard given new.rounds.items (long ∙ m.long) p.at
+        count_is;
+  };
+  answer_is = full ∙ is_full scale count t f heard given old m;
+  given_is = λ a. subst (λ n. IsGiven scale heard given [] n f field) m.long
+      (subst (λ n. IsGiven scale heard given [] (length old.rounds.items) n field) m.given_are (p.given_is a));
+}
+  where
+    count_is : given_count (t + 1) new.rounds.items ≡ f + cond answer 1 0
+    count_is = p.count ∙ ap (λ n. n + cond answer 1 0) m.given_are
+
+pub finished : (scale count t f : ℕ) (heard given : List (List ℤ)) (old new : Rounds) (answer : Bool) (field : Field)
+    → AreMade scale heard given count t f old → new.means.decoder ≡ old.means.decoder
+    → length new.rounds.items ≡ length old.rounds.items
+    → IsEnded scale heard given [] t old.rounds.items new.rounds.items answer field
+    → AreFinished scale heard given count t f answer new field
+finished scale count t f heard given old new answer field m e long p = record {
+  made = record {
+    scale_is = e ∙ m.scale_is;
+    long = long ∙ m.long;
+    at = p.at;
+    given_are = count_is;
+    few = omega (arith, sym count_is, few_given t new.rounds.items);
+    held = held_few scale count t (f + cond answer 1 0) heard given new.rounds.items (long ∙ m.long) p.at count_is;
+  };
+  given_is = λ a. subst (λ n. IsGiven scale heard given [] n f field) m.long
+      (subst (λ n. IsGiven scale heard given [] (length old.rounds.items) n field) m.given_are (p.given_is a));
+  all = λ a. last (ap (λ b. f + cond b 1 0) (sym a) ∙ sym count_is ∙ p.all a);
+}
+  where
+    count_is : given_count t new.rounds.items ≡ f + cond answer 1 0
+    count_is = p.count ∙ ap (λ n. n + cond answer 1 0) m.given_are
+
+    last : f + 0 ≡ t → f ≡ t
+    last e = omega (arith, e)

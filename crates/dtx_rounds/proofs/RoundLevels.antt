@@ -1,14 +1,14 @@
 -- The segments after a round: the levels of a coder are those of its path.
-use Rattle.std.proofs.Common.{◌≡◌, ℕ, ℤ, pos, zero, suc, ◌+◌, ◌-◌, ◌*◌, ◌/◌, ◌%◌, ◌<◌, ◌≤◌, ◌⊎◌, inl, inr, min}
-use Rattle.std.proofs.Common.{nat_le, nat_lt, nat_eq, Bool, true, false, cond, Option, List, [], ◌∷◌, ◌++◌, length}
-use Rattle.std.proofs.Common.{map, take, drop, get_or, refl, sym, ap, ap₂, ◌∙◌, subst, arith}
+use Rattle.std.proofs.Common.{◌≡◌, ℕ, ℤ, pos, zero, suc, ◌+◌, ◌-◌, ◌*◌, ◌/◌, ◌%◌, ◌<◌, ◌≤◌, ◌⊎◌, inl, inr, min, nat_le}
+use Rattle.std.proofs.Common.{nat_lt, nat_eq, Bool, true, false, cond, Option, List, [], ◌∷◌, ◌++◌, length, map, take}
+use Rattle.std.proofs.Common.{drop, get_or, refl, sym, ap, ap₂, ◌∙◌, subst, arith}
 use Rattle.std.specs.List.{range_with_len}
 use Rattle.std.specs.Ordering.{int_eq}
 use Rattle.std.proofs.lemmas.Bool.{and_from, and_parts, cases_Bool, cond-false, cond-true, le-leb, leb-true, lt-ltb}
 use Rattle.std.proofs.lemmas.Bool.{ltb-true, eqb-true}
 use Rattle.std.proofs.lemmas.Bool.Decides.{Decides-int_eq}
-use Rattle.std.proofs.lemmas.List.{get_or-append_right, get_or-drop, get_or-map, length-append, length-drop}
-use Rattle.std.proofs.lemmas.List.{length-map, length-take, length-take-le}
+use Rattle.std.proofs.lemmas.List.{get_or-append_right, get_or-drop, get_or-map, length-append, length-drop, length-map}
+use Rattle.std.proofs.lemmas.List.{length-take, length-take-le}
 use Rattle.std.proofs.lemmas.List.FromFn.{get_or-map-range_with_len, length-map-range_with_len}
 use Rattle.dtx_lists.proofs.Below.{at_below, holds_below}
 use Rattle.dtx_trellis.specs.Trellis.{symbol_of}
@@ -22,9 +22,10 @@ use Rattle.dtx_acquire.specs.Acquired.{in_groups}
 use Rattle.dtx_acquire.specs.Scaled.{decided, scaled_level}
 use Rattle.dtx_acquire.specs.Sent.{groups_behind}
 use Rattle.dtx_pins.specs.PinnedField.{IsPinned, pinned, pinned_segment, pinned_symbol}
+use Rattle.dtx_rounds.specs.Fields.{AreSegments}
 use Rattle.dtx_rounds.specs.Rounds.{groups_in, in_whole_group, paths_in, pins_in, round_segment}
-use Rattle.dtx_rounds.proofs.RunLevels.{AreLong, data_long, data_there, level_in}
-use Rattle.dtx_rounds.proofs.StepPlaces.{field_of_segment, place_in, place_in_field, place_segment, segment_in_field}
+use Rattle.dtx_rounds.proofs.RunLevels.{data_long, data_there, level_in, field_of_segment, place_in, place_in_field}
+use Rattle.dtx_rounds.proofs.RunLevels.{place_segment, segment_in_field}
 
 -- ---- groups of a field
 
@@ -114,7 +115,7 @@ row_after scale heard given known d l =
     ∙ ap₂ (λ (f i : ℕ). take 4 (get_or given (d + d / 312 + 1) [])
     ++ map (decided scale) (drop 4 (get_or (paths_in scale heard known f) i []))) (number_field d) place
 
-symbol_after : (scale : ℕ) (heard given : List (List ℤ)) (known : List (Option ℕ)) (d k : ℕ) → AreLong given
+symbol_after : (scale : ℕ) (heard given : List (List ℤ)) (known : List (Option ℕ)) (d k : ℕ) → AreSegments given
     → length heard ≡ length given → d < 4 * groups_of given → k < 828
     → get_or (data_at (after scale heard known given) d) (4 + k) (pos 0)
     ≡ decided scale (get_or (get_or (paths_in scale heard known (d / 312)) (d % 312) []) (4 + k) (pos 0))
@@ -202,8 +203,8 @@ symbol_there paths i k t e a b =
     ap₂ (λ (x y : ℕ). get_or (get_or paths x []) (4 + y) (pos 0)) (sym row) b
 
 -- the level of coder e at step t of a run whose symbols are decided by paths
-pub level_by : (scale : ℕ) (run paths : List (List ℤ)) (own : List ℕ) (t e : ℕ) → 0 < scale → scale < 19 → AreLong run
-    → t < 276 * groups_of run
+pub level_by : (scale : ℕ) (run paths : List (List ℤ)) (own : List ℕ) (t e : ℕ) → 0 < scale → scale < 19
+    → AreSegments run → t < 276 * groups_of run
     → get_or (data_at run (t / 69)) (4 + symbol_place 0 t e % 828) (pos 0)
     ≡ decided scale (get_or (get_or paths (t / 69 % 312) []) (4 + symbol_place 0 t e % 828) (pos 0))
     → data_symbol paths (symbol_place 0 (t % 21528) e) ≡ symbol_at scale (get_or own (t % 21528) 0)
@@ -220,8 +221,8 @@ level_by scale run paths own t e some most long m decision path small =
 
 -- the same after a round
 pub level_after : (scale : ℕ) (heard given : List (List ℤ)) (known : List (Option ℕ))
-    (paths : HasPaths scale heard known) (t e : ℕ) (l : e < 12) → 0 < scale → scale < 19 → AreLong given
-    → AreLong (after scale heard known given) → length heard ≡ length given → t < 276 * groups_of given
+    (paths : HasPaths scale heard known) (t e : ℕ) (l : e < 12) → 0 < scale → scale < 19 → AreSegments given
+    → AreSegments (after scale heard known given) → length heard ≡ length given → t < 276 * groups_of given
     → get_or (levels_in (after scale heard known given)) (symbol_place 0 t e) 0
     ≡ get_or (levels_of scale heard known paths (t / 21528) e l) (t % 21528) 0
 level_after scale heard given known paths t e l some most long new same m =
@@ -254,8 +255,8 @@ in_whole_room given i e =
     leb-true (i % 313) (length (groups_in given (i / 313))) parts.1 in
     omega (arith, some, room)
 
-pub after_long : (scale : ℕ) (heard given : List (List ℤ)) (known : List (Option ℕ)) → AreLong given
-    → length heard ≡ length given → AreLong (after scale heard known given)
+pub after_long : (scale : ℕ) (heard given : List (List ℤ)) (known : List (Option ℕ)) → AreSegments given
+    → length heard ≡ length given → AreSegments (after scale heard known given)
 unfolding round_segment
 after_long scale heard given known long same i l =
     let there : i < length given = omega (arith, l, length-after scale heard given known) in

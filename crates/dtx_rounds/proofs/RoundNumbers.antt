@@ -1,23 +1,40 @@
--- The numbers of a round are the sums of those of its fields.
-use Rattle.std.proofs.Common.{◌≡◌, ℕ, ℤ, zero, suc, ◌+◌, ◌-◌, ◌*◌, ◌/◌, ◌<◌, ◌≤◌, Bool, false, cond, Option}
-use Rattle.std.proofs.Common.{None, Some, is_some, List, length, map, filter, get_or, sum, refl, sym, ap, ◌∙◌, arith}
+-- The numbers of a round: they are the sums of those of its fields, its cost is no less than that of the round before,
+-- and a round that moves no symbol is the last.
+use Rattle.std.proofs.Common.{◌≡◌, ℕ, ℤ, zero, suc, ◌+◌, ◌-◌, ◌*◌, ◌/◌, ◌<◌, ◌≤◌, Bool, false, cond, Option, None, Some}
+use Rattle.std.proofs.Common.{is_some, List, length, map, filter, get_or, sum, refl, sym, ap, ◌∙◌, arith, ◌⊎◌, inl, inr}
+use Rattle.std.proofs.Common.{[], ◌∷◌, ◌++◌, ap₂, subst, pos, true}
 use Rattle.std.specs.List.{range_with_len}
+use Rattle.std.specs.Ordering.{int_eq}
+use Rattle.std.proofs.lemmas.Bool.Decides.{Decides-int_eq}
+use Rattle.std.proofs.lemmas.List.{length-append}
 use Rattle.std.proofs.lemmas.List.FromFn.{get_or-map-range_with_len}
+use Rattle.std.proofs.lemmas.List.Sums.{sum_by-cons}
 use Rattle.dtx_lists.proofs.Range.{map-range_same}
+use Rattle.dtx_lists.proofs.RangeMoved.{map-range_moved}
+use Rattle.dtx_lists.proofs.RangeSums.{over, over_parts}
 use Rattle.dtx_outer.specs.Inner.{codeword_byte_place}
+use Rattle.dtx_soft.specs.Softened.{least_cost, softened_cost}
 use Rattle.dtx_receiver.specs.Bytes.{bytes_in, data_count, groups_of}
 use Rattle.dtx_receiver.proofs.CompleteLemmas.{complete_told}
-use Rattle.dtx_pins.specs.Moved.{rows_moved}
+use Rattle.dtx_acquire.specs.Acquired.{acquired, acquired_cost, all_fields, cost_of, heard_in, in_groups, path_cost}
+use Rattle.dtx_pins.specs.Moved.{rows_moved, moved_in}
 use Rattle.dtx_rounds.specs.FieldRound.{words_known}
-use Rattle.dtx_rounds.specs.Fields.{rows_of}
+use Rattle.dtx_rounds.specs.Fields.{rows_of, AreSegments}
 use Rattle.dtx_rounds.specs.Known.{known_bytes, known_count, known_word}
-use Rattle.dtx_rounds.specs.Rounds.{coder_cost, fields_in, round_cost, round_moved, rounded}
+use Rattle.dtx_rounds.specs.Rounds.{coder_cost, fields_in, round_cost, round_moved, rounded, groups_in, heard_of}
+use Rattle.dtx_rounds.specs.Rounds.{refined}
 use Rattle.dtx_rounds.specs.RunField.{IsRounded}
 use Rattle.dtx_rounds.specs.declared.field.Field.{Field}
 use Rattle.dtx_rounds.proofs.FieldRounds.{moves_of_fields}
+use Rattle.dtx_rounds.proofs.FieldRows.{AreFields, IsAllButLast, groups_first, groups_next}
+use Rattle.dtx_rounds.proofs.Kept.{known_costs_more}
 use Rattle.dtx_rounds.proofs.KnownLemmas.{known_parts}
-use Rattle.dtx_rounds.proofs.RangeSteps.{count_next, sum_next}
-use Rattle.dtx_rounds.proofs.RunLevels.{AreLong, length-bytes}
+use Rattle.dtx_rounds.proofs.RangeSteps.{count_next, sum_next, sums_rise, sum_zero}
+use Rattle.dtx_rounds.proofs.RefinedLemmas.{length-rounded, rounded_long, refined_next, refined_stays}
+use Rattle.dtx_rounds.proofs.RowsRounded.{same_items, still_rows}
+use Rattle.dtx_rounds.proofs.RunLevels.{length-bytes}
+use Rattle.dtx_rounds.proofs.SoFarLemmas.{costs_next, length-refined, refined_long, same_count}
+use Rattle.dtx_acquire.specs.Acquired as acquirers
 
 -- ---- counts
 
@@ -86,7 +103,7 @@ unknown_past bytes k past = by_word (known_word bytes k) refl
 words_in_fields : (n : ℕ) → (828 * ((n - (n + 312) / 313) / 4)) / 207 ≤ 312 * ((n + 312) / 313)
 words_in_fields n = omega arith
 
-known_in_fields : (given : List (List ℤ)) → AreLong given
+known_in_fields : (given : List (List ℤ)) → AreSegments given
     → count (λ k. is_some (known_word (bytes_in given) k)) (312 * fields_in given) ≡ known_count (bytes_in given)
 unfolding known_count groups_of data_count
 known_in_fields given long =
@@ -144,7 +161,7 @@ moves_together scale heard given field h =
     (fields_in given) (λ f a l. (h f (omega (arith, l))).moved))
     ∙ moves_of_fields given (rounded scale heard given)
 
-pub words_together : (scale : ℕ) (heard given : List (List ℤ)) (field : ℕ → Field) → AreLong given
+pub words_together : (scale : ℕ) (heard given : List (List ℤ)) (field : ℕ → Field) → AreSegments given
     → AreRounded scale heard given field
     → sum (map (λ f. words_known (field f).words) (range_with_len 0 (fields_in given))) ≡ known_count (bytes_in given)
 words_together scale heard given field long h =
@@ -153,3 +170,179 @@ words_together scale heard given field long h =
     (fields_in given) (λ f a l. field_words (field f).words (bytes_in given) f (h f (omega (arith, l))).turned.words))
     ∙ count_of_fields (λ k. is_some (known_word (bytes_in given) k)) (fields_in given)
     ∙ known_in_fields given long
+
+-- ---- rounds
+
+fields_same : (xs ys : List (List ℤ)) → length xs ≡ length ys → fields_in xs ≡ fields_in ys
+fields_same xs ys e = ap (λ n. (n + 312) / 313) e
+
+pub costs_whole : (scale r : ℕ) (symbols : List ℤ) → 0 < scale → scale < 19
+    → round_cost scale (heard_of symbols) (refined scale symbols r)
+    ≤ round_cost scale (heard_of symbols) (refined scale symbols (r + 1))
+unfolding round_cost
+costs_whole scale r symbols some most =
+    subst (λ n. over (costs r) 0 (fields_in (refined scale symbols r)) ≤ over (costs (r + 1)) 0 n)
+    (fields_same (refined scale symbols r) (refined scale symbols (r + 1))
+    (length-refined scale r symbols ∙ sym (length-refined scale (r + 1) symbols)))
+    (sums_rise (costs r) (costs (r + 1)) (fields_in (refined scale symbols r))
+    (λ f l. sums_rise (cost r f) (cost (r + 1) f) 12 (λ e m. costs_next scale r f e symbols some most m)))
+  where
+    cost : ℕ → ℕ → ℕ → ℕ
+    cost r f = coder_cost scale (heard_of symbols) (known_bytes (bytes_in (refined scale symbols r))) f
+
+    costs : ℕ → ℕ → ℕ
+    costs r f = sum (map (cost r f) (range_with_len 0 12))
+
+-- ---- what was acquired
+
+-- what the least paths cost of all fields of a run, without pins
+abbrev run_cost : ℕ → List (List ℤ) → ℕ
+run_cost scale heard = over (λ f. softened_cost scale (groups_in heard f)) 0 (fields_in heard)
+
+none_more : (n : ℕ) → n + 0 ≡ n
+none_more n = omega arith
+
+none_before : (n : ℕ) → 0 + n ≡ n
+none_before n = omega arith
+
+one_field : (n : ℕ) → 0 < n → n ≤ 313 → (n + 312) / 313 ≡ 0 + 1
+one_field n l m = omega arith
+
+next_field : (n m : ℕ) → n ≡ 313 → (n + m + 312) / 313 ≡ 1 + (m + 312) / 313
+next_field n m e = omega arith
+
+-- a whole field in front
+cost_next : (scale : ℕ) (sync : List ℤ) (rows rest : List (List ℤ)) → length rows ≡ 312
+    → softened_cost scale (in_groups rows) + run_cost scale rest ≡ run_cost scale ((sync ∷ rows) ++ rest)
+cost_next scale sync rows rest e =
+    sym (ap (over costs 0) count
+    ∙ over_parts costs 0 1 (fields_in rest)
+    ∙ ap₂ (λ (x y : ℕ). x + y) (sum_next costs 0 ∙ first)
+    (ap sum (map-range_moved costs (λ f. softened_cost scale (groups_in rest f)) (0 + 1) 0 (fields_in rest) behind)))
+  where
+    costs : ℕ → ℕ
+    costs f = softened_cost scale (groups_in ((sync ∷ rows) ++ rest) f)
+
+    count : fields_in ((sync ∷ rows) ++ rest) ≡ 1 + fields_in rest
+    count =
+        ap (λ n. (n + 312) / 313) (length-append (sync ∷ rows) rest)
+        ∙ next_field (length (sync ∷ rows)) (length rest) (omega (arith, e))
+
+    first : 0 + costs 0 ≡ softened_cost scale (in_groups rows)
+    first = none_before (costs 0) ∙ ap (softened_cost scale) (groups_first sync rows rest (inl e))
+
+    behind : (j : ℕ) → j < fields_in rest → costs (0 + 1 + j) ≡ softened_cost scale (groups_in rest (0 + j))
+    behind j l =
+        let here : 0 + 1 + j ≡ j + 1 = omega arith in
+        let there : j ≡ 0 + j = omega arith in
+        ap costs here
+        ∙ ap (softened_cost scale) (groups_next (sync ∷ rows) rest j (ap suc e))
+        ∙ ap (λ f. softened_cost scale (groups_in rest f)) there
+
+-- a field that is the last one
+cost_last : (scale : ℕ) (sync : List ℤ) (rows rest : List (List ℤ)) → length rows ≤ 312 → rest ≡ []
+    → softened_cost scale (in_groups rows) ≡ run_cost scale ((sync ∷ rows) ++ rest)
+cost_last scale sync rows rest l e =
+    sym (ap (over (λ f. softened_cost scale (groups_in ((sync ∷ rows) ++ rest) f)) 0)
+    (one_field (length ((sync ∷ rows) ++ rest)) (omega (arith, long, none)) (omega (arith, long, none, l)))
+    ∙ sum_next (λ f. softened_cost scale (groups_in ((sync ∷ rows) ++ rest) f)) 0
+    ∙ none_before (softened_cost scale (groups_in ((sync ∷ rows) ++ rest) 0))
+    ∙ ap (softened_cost scale) (groups_first sync rows rest (inr (l, e))))
+  where
+    none : length rest ≡ 0
+    none = ap length e
+
+    long : length ((sync ∷ rows) ++ rest) ≡ length (sync ∷ rows) + length rest
+    long = length-append (sync ∷ rows) rest
+
+-- fields of no segments cost nothing, and the others are those of the run
+cost_of_fields : (scale : ℕ) (fields : List acquirers.Field) → AreFields fields
+    → cost_of scale fields ≡ run_cost scale (heard_in fields)
+unfolding cost_of
+cost_of_fields scale [] h = refl
+cost_of_fields scale (x ∷ xs) h =
+    sum_by-cons (λ n. n) (path_cost scale x.segments) (map (λ field. path_cost scale field.segments) xs)
+    ∙ by_segments x.segments refl (cost_of_fields scale xs h.2)
+  where
+    by_last : (ys : List acquirers.Field) → xs ≡ ys → IsAllButLast x ys → (n : ℕ) → length x.segments ≡ suc n
+        → (n ≡ 312) ⊎ ((n ≤ 312) × (xs ≡ []))
+    by_last [] e is n l = inr (omega (arith, l, h.0), e)
+    by_last (y ∷ ys) e (inl a) n l = inl (omega (arith, a, l))
+    by_last (y ∷ ys) e (inr a) n l = absurd (omega (arith, a, l))
+
+    by_segments : (segments : List (List ℤ)) → x.segments ≡ segments
+        → cost_of scale xs ≡ run_cost scale (heard_in xs)
+        → path_cost scale segments + cost_of scale xs ≡ run_cost scale (segments ++ heard_in xs)
+    by_segments [] e rest = none_before (cost_of scale xs) ∙ rest
+    by_segments (sync ∷ rows) e rest = by_place (by_last xs refl h.1 (length rows) (ap length e))
+      where
+        by_place : (length rows ≡ 312) ⊎ ((length rows ≤ 312) × (xs ≡ []))
+            → softened_cost scale (in_groups rows) + cost_of scale xs
+            ≡ run_cost scale ((sync ∷ rows) ++ heard_in xs)
+        by_place (inl l) =
+            ap (λ n. softened_cost scale (in_groups rows) + n) rest ∙ cost_next scale sync rows (heard_in xs) l
+        by_place (inr l) =
+            ap (λ n. softened_cost scale (in_groups rows) + n) (ap (cost_of scale) l.1)
+            ∙ none_more (softened_cost scale (in_groups rows))
+            ∙ cost_last scale sync rows (heard_in xs) l.0 (ap heard_in l.1)
+
+pub costs_begin : (scale : ℕ) (symbols : List ℤ) → AreFields (all_fields symbols)
+    → acquired_cost scale symbols ≤ round_cost scale (heard_of symbols) (refined scale symbols 0)
+unfolding acquired_cost round_cost softened_cost heard_of
+costs_begin scale symbols h =
+    subst (λ n. n ≤ over costs 0 (fields_in (refined scale symbols 0)))
+    (sym (cost_of_fields scale (all_fields symbols) h))
+    (subst (λ n. run_cost scale (heard_of symbols) ≤ over costs 0 n)
+    (fields_same (heard_of symbols) (refined scale symbols 0)
+    (same_count scale 0 symbols))
+    (sums_rise (λ f. softened_cost scale (groups_in (heard_of symbols) f)) costs (fields_in (heard_of symbols))
+    (λ f l. sums_rise (least_cost scale (groups_in (heard_of symbols) f)) (coder_cost scale (heard_of symbols) known f)
+    12 (λ e m. known_costs_more scale (heard_of symbols) known f e))))
+  where
+    known : List (Option ℕ)
+    known = known_bytes (bytes_in (refined scale symbols 0))
+
+    costs : ℕ → ℕ
+    costs f = sum (map (coder_cost scale (heard_of symbols) known f) (range_with_len 0 12))
+
+same_symbol : (a b : ℤ) → ◌≡◌ {A = ℕ} (cond (int_eq a b) 0 1) 0 → a ≡ b
+same_symbol a b e = by_test (int_eq a b) refl e
+  where
+    by_test : (t : Bool) → int_eq a b ≡ t → ◌≡◌ {A = ℕ} (cond t 0 1) 0 → a ≡ b
+    by_test true h f = (Decides-int_eq a b).0 h
+    by_test false h f = absurd (omega (arith, f))
+
+-- two segments that differ in no symbol
+same_row : (old new : List ℤ) → length old ≡ 832 → length new ≡ 832 → moved_in old new ≡ 0 → old ≡ new
+unfolding moved_in
+same_row old new long long_too e =
+    same_items (pos 0) 832 old new long long_too
+    (λ k l. same_symbol (get_or old k (pos 0)) (get_or new k (pos 0))
+    (sum_zero (λ k. cond {A = ℕ} (int_eq (get_or old k (pos 0)) (get_or new k (pos 0))) 0 1) 832 e k l))
+
+pub still_round : (scale : ℕ) (heard given : List (List ℤ)) → AreSegments given → length heard ≡ length given
+    → round_moved scale heard given ≡ 0 → rounded scale heard given ≡ given
+unfolding round_moved
+still_round scale heard given long same e =
+    same_items [] (length given) after given (length-rounded scale heard given) refl
+    (λ i l. sym (same_row (get_or given i []) (get_or after i []) (long i l)
+    (rounded_long scale heard given long same i (omega (arith, l, length-rounded scale heard given)))
+    (sum_zero (λ i. moved_in (get_or given i []) (get_or after i [])) (length given) e i l)))
+  where
+    after : List (List ℤ)
+    after = rounded scale heard given
+
+-- the other way round
+pub none_moved : (scale : ℕ) (heard given : List (List ℤ)) → rounded scale heard given ≡ given
+    → round_moved scale heard given ≡ 0
+unfolding round_moved rows_moved
+none_moved scale heard given e = ap (rows_moved given) e ∙ still_rows given
+
+-- a round over a capture that moves nothing is the last one that matters
+pub still_capture : (scale r n : ℕ) (symbols : List ℤ)
+    → round_moved scale (heard_of symbols) (refined scale symbols r) ≡ 0
+    → refined scale symbols (r + n) ≡ refined scale symbols r
+still_capture scale r n symbols e =
+    refined_stays scale r n symbols (refined_next scale r symbols
+    ∙ still_round scale (heard_of symbols) (refined scale symbols r) (refined_long scale r symbols)
+    (same_count scale r symbols) e)

@@ -1,7 +1,7 @@
 -- What is decided of a field's segments in whole groups is a round over the field.
-use Rattle.std.proofs.Common.{◌≡◌, ℕ, ℤ, pos, zero, suc, ◌+◌, ◌-◌, ◌*◌, ◌/◌, ◌%◌, ◌<◌, ◌≤◌, ◌⊎◌, inl, inr}
-use Rattle.std.proofs.Common.{nat_le, nat_lt, true, false, cond, Option, List, [], ◌++◌, length, map, take, drop}
-use Rattle.std.proofs.Common.{get_or, sum, refl, sym, ap, ap₂, ◌∙◌, subst, arith}
+use Rattle.std.proofs.Common.{◌≡◌, ℕ, ℤ, pos, zero, suc, ◌+◌, ◌-◌, ◌*◌, ◌/◌, ◌%◌, ◌<◌, ◌≤◌, ◌⊎◌, inl, inr, nat_le}
+use Rattle.std.proofs.Common.{nat_lt, true, false, cond, Option, List, [], ◌++◌, length, map, take, drop, get_or, sum}
+use Rattle.std.proofs.Common.{refl, sym, ap, ap₂, ◌∙◌, subst, arith}
 use Rattle.std.specs.List.{range_with_len}
 use Rattle.std.specs.Ordering.{int_eq}
 use Rattle.std.proofs.lemmas.Bool.{and_from, and_left, and_right, cases_lt, cond-false, cond-true, le-leb, le-ltb}
@@ -19,13 +19,13 @@ use Rattle.dtx_pins.specs.Moved.{moved_in, rows_moved}
 use Rattle.dtx_pins.specs.PinnedField.{IsPinned, pinned, pinned_coder_cost, pinned_cost}
 use Rattle.dtx_pins.proofs.PinnedFieldLemmas.{pinned_level}
 use Rattle.dtx_rounds.specs.FieldRound.{field_cost, field_rounded}
+use Rattle.dtx_rounds.specs.Fields.{AreSegments}
 use Rattle.dtx_rounds.specs.Pins.{field_pins}
 use Rattle.dtx_rounds.specs.Rounds.{coder_cost, groups_in, in_whole_group, paths_in, round_segment}
 use Rattle.dtx_rounds.proofs.OwnRounds.{group_row}
 use Rattle.dtx_rounds.proofs.PinRows.{mid_at, mid_before}
 use Rattle.dtx_rounds.proofs.RangeSteps.{sum_none}
 use Rattle.dtx_rounds.proofs.RoundLevels.{decided_level, length-groups, path_row}
-use Rattle.dtx_rounds.proofs.RunLevels.{AreLong}
 
 -- ---- lists
 
@@ -226,7 +226,7 @@ pub rounded_field : (scale n c : ℕ) (heard given new : List (List ℤ)) (known
     → cost ≡ pinned_cost scale (field_pins known 0 (69 * length (take c (drop 1 heard)))) (take c (drop 1 heard))
     → IsPinned scale 1 (field_pins known 0 (69 * length (take c (drop 1 heard)))) (take c (drop 1 heard))
     (take c (drop 1 given)) new
-    → moved ≡ rows_moved (take c (drop 1 given)) new → AreLong (take c (drop 1 given)) → AreLong new
+    → moved ≡ rows_moved (take c (drop 1 given)) new → AreSegments (take c (drop 1 given)) → AreSegments new
     → IsRounded scale n heard given known (put_mid 1 c given new) cost moved
 unfolding field_cost field_rounded rows_moved coder_cost pinned_cost
 rounded_field scale n c heard given new known cost moved some most few heard_long given_long e cost_is is moved_is

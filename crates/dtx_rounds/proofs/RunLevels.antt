@@ -1,18 +1,98 @@
--- The levels and the bytes of a run of segments of 832 symbols, one by one.
-use Rattle.std.proofs.Common.{◌≡◌, ℕ, ℤ, pos, zero, suc, ◌+◌, ◌-◌, ◌*◌, ◌/◌, ◌<◌, ◌≤◌, List, [], length, drop, get_or}
-use Rattle.std.proofs.Common.{refl, ap, ap₂, ◌∙◌, arith}
+-- Where the symbols and bytes of coders stand in a run, and the levels and bytes of a run of segments of 832 symbols,
+-- one by one. A field has 312 data segments, so 21528 steps.
+use Rattle.std.proofs.Common.{◌≡◌, ℕ, ◌+◌, ◌-◌, ◌*◌, ◌/◌, ◌%◌, ◌<◌, ◌≤◌, refl, arith, ℤ, pos, zero, suc, List, length}
+use Rattle.std.proofs.Common.{drop, get_or, ap, ap₂, ◌∙◌}
 use Rattle.std.specs.List.{range_with_len, flat_map}
 use Rattle.std.proofs.lemmas.List.{get_or-append_right, get_or-drop, get_or-map, get_or_append_left, length-append}
 use Rattle.std.proofs.lemmas.List.{length-drop}
 use Rattle.std.proofs.lemmas.List.FromFn.{get_or-map-range_with_len, length-map-range_with_len}
+use Rattle.dtx_trellis.specs.Pairs.{byte_place, group_place}
 use Rattle.dtx_slice.specs.Slicing.{sliced, sliced_data}
-use Rattle.dtx_slice.specs.Unrolled.{byte_back, bytes_back, level_groups}
+use Rattle.dtx_slice.specs.Unrolled.{coder_of, symbol_place, byte_back, bytes_back, level_groups}
 use Rattle.dtx_receiver.specs.Bytes.{bytes_in, data_at, data_count, first_bits, groups_of, levels_from, levels_in}
 use Rattle.dtx_receiver.proofs.SegmentsLemmas.{segment_long}
+use Rattle.dtx_rounds.specs.Fields.{AreSegments}
+use Rattle.dtx_rounds.specs.Pins.{byte_at_step}
 
--- segments of 832 symbols
-abbrev pub AreLong : List (List ℤ) → Type 0
-AreLong segments = (i : ℕ) → i < length segments → length (get_or segments i []) ≡ 832
+-- ---- symbols
+
+-- a symbol's data segment, and its place there
+pub place_segment : (t e : ℕ) → symbol_place 0 t e ≡ 828 * (t / 69) + symbol_place 0 t e % 828
+unfolding symbol_place
+place_segment t e = omega arith
+
+pub place_in : (t e : ℕ) → symbol_place 0 t e % 828 < 828
+place_in t e = omega arith
+
+-- the same in its field
+pub place_in_field : (t e : ℕ) → symbol_place 0 t e % 828 ≡ symbol_place 0 (t % 21528) e % 828
+unfolding symbol_place
+place_in_field t e = by_turn ((0 + t / 69) % 3) (omega arith) (omega arith)
+  where
+    by_turn : (x : ℕ) → (0 + t / 69) % 3 ≡ x → (0 + t % 21528 / 69) % 3 ≡ x
+        → (12 * t + (e + 12 - 4 * ((0 + t / 69) % 3)) % 12) % 828
+        ≡ (12 * (t % 21528) + (e + 12 - 4 * ((0 + t % 21528 / 69) % 3)) % 12) % 828
+    by_turn x a b = omega (arith, a, b)
+
+pub segment_in_field : (t : ℕ) → t / 69 % 312 ≡ t % 21528 / 69
+segment_in_field t = omega arith
+
+pub field_of_segment : (t : ℕ) → t / 69 / 312 ≡ t / 21528
+field_of_segment t = omega arith
+
+-- ---- bytes
+
+-- a coder works on a byte in four steps
+pub step_byte : (n i : ℕ) → i < 4 → byte_at_step (coder_of 0 n) (4 * (n / 12) + i) ≡ n
+unfolding byte_at_step byte_place group_place coder_of
+step_byte n i l =
+    by_parts ((4 * (n / 12) + i) / 276) ((4 * (n / 12) + i) % 276 / 4) ((0 + 4 * (n / 12) / 69) % 3) (omega arith)
+    (omega arith) (omega arith)
+    (turn_same ((4 * (n / 12) + i) / 276) ((4 * (n / 12) + i) % 276 / 4) (n / 12) (omega arith))
+  where
+    turn_same : (u h b : ℕ) → b ≡ 69 * u + h → ((0 + 4 * u) % 312 + 4 * h / 69) % 3 ≡ (0 + 4 * b / 69) % 3
+    turn_same u h b e = omega arith
+
+    by_parts : (u h x : ℕ) → n ≡ 828 * u + 12 * h + n % 12 → x < 3 → (0 + 4 * (n / 12) / 69) % 3 ≡ x
+        → ((0 + 4 * u) % 312 + 4 * h / 69) % 3 ≡ (0 + 4 * (n / 12) / 69) % 3
+        → 828 * u
+        + (12 * h + ((n % 12 + 4 * ((0 + 4 * (n / 12) / 69) % 3)) % 12 + 12
+        - 4 * (((0 + 4 * u) % 312 + 4 * h / 69) % 3)) % 12)
+        ≡ n
+    by_parts u h x e m a b = omega (arith, e, m, a, b)
+
+-- which pair of the byte it is
+pub step_pair : (n i : ℕ) → i < 4 → (4 * (n / 12) + i) % 276 % 4 ≡ i
+step_pair n i l = omega arith
+
+-- byte 0 of a word alone may be one whose first step is the first of a field
+pub later_step : (k j i : ℕ) → 0 < j → j < 207 → i < 4
+    → 0 < (4 * ((207 * k + j + 52 * 4 * ((207 * k + j) % 52)) / 12) + i) % 21528
+later_step k j i a b c =
+    by_place (207 * k + j) (207 * k + j + 52 * 4 * ((207 * k + j) % 52)) refl
+    (word_place k j (207 * k + j + 52 * 4 * ((207 * k + j) % 52)) a b refl)
+  where
+    word_place : (k j n : ℕ) → 0 < j → j < 207 → n ≡ 207 * k + j + 52 * 4 * ((207 * k + j) % 52) → 12 ≤ n % 64584
+    word_place k j n a b e = omega arith
+
+    by_place : (m n : ℕ) → n ≡ m + 52 * 4 * (m % 52) → 12 ≤ n % 64584 → 0 < (4 * (n / 12) + i) % 21528
+    by_place m n e l = omega arith
+
+-- the step of a coder's byte, back from the byte
+pub byte_coder : (t e : ℕ) → e < 12 → coder_of 0 (byte_at_step e t) ≡ e
+unfolding byte_at_step byte_place group_place coder_of
+byte_coder t e l =
+    by_turn ((0 + 4 * (t / 276)) % 312) (t / 276) (t % 276 / 4)
+    (((0 + 4 * (t / 276)) % 312 + 4 * (t % 276 / 4) / 69) % 3) refl (omega arith) refl (omega arith)
+  where
+    by_turn : (s u h x : ℕ) → (0 + 4 * u) % 312 ≡ s → h < 69 → (s + 4 * h / 69) % 3 ≡ x → x < 3
+        → ((828 * u + (12 * h + (e + 12 - 4 * ((s + 4 * h / 69) % 3)) % 12)) % 12
+        + 4 * ((0 + 4 * ((828 * u + (12 * h + (e + 12 - 4 * ((s + 4 * h / 69) % 3)) % 12)) / 12) / 69) % 3)) % 12 ≡ e
+    by_turn s u h x a b c m = omega (arith, a, b, c, m, l)
+
+pub byte_step : (t e : ℕ) → 4 * (byte_at_step e t / 12) + t % 4 ≡ t
+unfolding byte_at_step byte_place group_place
+byte_step t e = omega arith
 
 -- ---- rows of 828 numbers
 
@@ -54,16 +134,16 @@ pub data_there : (run : List (List ℤ)) (d : ℕ) → d < 4 * groups_of run →
 unfolding groups_of data_count
 data_there run d l = index_there (length run) d l
 
-pub data_long : (run : List (List ℤ)) (d : ℕ) → AreLong run → d < 4 * groups_of run → length (data_at run d) ≡ 832
+pub data_long : (run : List (List ℤ)) (d : ℕ) → AreSegments run → d < 4 * groups_of run → length (data_at run d) ≡ 832
 unfolding data_at
 data_long run d h l = h (d + d / 312 + 1) (data_there run d l)
 
-rows_are : (run : List (List ℤ)) → AreLong run → (j : ℕ) → 0 ≤ j → j < 0 + 4 * groups_of run
+rows_are : (run : List (List ℤ)) → AreSegments run → (j : ℕ) → 0 ≤ j → j < 0 + 4 * groups_of run
     → length (sliced_data (data_at run j)) ≡ 828
 rows_are run h j a l = segment_long (data_at run j) (data_long run j h (omega arith))
 
 -- the level of data symbol k of data segment d, among those of the first n
-pub level_from : (run : List (List ℤ)) (n d k : ℕ) → AreLong run → n ≤ 4 * groups_of run → d < n → k < 828
+pub level_from : (run : List (List ℤ)) (n d k : ℕ) → AreSegments run → n ≤ 4 * groups_of run → d < n → k < 828
     → get_or (levels_from run 0 n) (828 * d + k) 0 ≡ sliced (get_or (data_at run d) (4 + k) (pos 0))
 unfolding levels_from sliced_data
 level_from run n d k h few l m =
@@ -76,19 +156,19 @@ level_from run n d k h few l m =
     ∙ ap sliced (get_or-drop 4 (data_at run d) k (pos 0))
 
 -- the same among all
-pub level_in : (run : List (List ℤ)) (d k : ℕ) → AreLong run → d < 4 * groups_of run → k < 828
+pub level_in : (run : List (List ℤ)) (d k : ℕ) → AreSegments run → d < 4 * groups_of run → k < 828
     → get_or (levels_in run) (828 * d + k) 0 ≡ sliced (get_or (data_at run d) (4 + k) (pos 0))
 unfolding levels_in
 level_in run d k h l m = level_from run (4 * groups_of run) d k h (omega arith) l m
 
-pub length-from : (run : List (List ℤ)) (a n : ℕ) → AreLong run → a + n ≤ 4 * groups_of run
+pub length-from : (run : List (List ℤ)) (a n : ℕ) → AreSegments run → a + n ≤ 4 * groups_of run
     → length (levels_from run a n) ≡ 828 * n
 unfolding levels_from
 length-from run a n h l =
     rows_long (λ i. sliced_data (data_at run i)) a n
     (λ j b c. segment_long (data_at run j) (data_long run j h (omega (arith, c, l))))
 
-pub length-levels : (run : List (List ℤ)) → AreLong run → length (levels_in run) ≡ 3312 * groups_of run
+pub length-levels : (run : List (List ℤ)) → AreSegments run → length (levels_in run) ≡ 3312 * groups_of run
 unfolding levels_in levels_from
 length-levels run h =
     (let long = rows_long (λ i. sliced_data (data_at run i)) 0 (4 * groups_of run) (rows_are run h) in
@@ -96,17 +176,17 @@ length-levels run h =
 
 -- ---- bytes
 
-pub level_groups_are : (run : List (List ℤ)) → AreLong run → level_groups (levels_in run) ≡ groups_of run
+pub level_groups_are : (run : List (List ℤ)) → AreSegments run → level_groups (levels_in run) ≡ groups_of run
 unfolding level_groups
 level_groups_are run h = (let long = length-levels run h in omega (arith, long))
 
-pub length-bytes : (run : List (List ℤ)) → AreLong run → length (bytes_in run) ≡ 828 * groups_of run
+pub length-bytes : (run : List (List ℤ)) → AreSegments run → length (bytes_in run) ≡ 828 * groups_of run
 unfolding bytes_in bytes_back
 length-bytes run h =
     length-map-range_with_len (byte_back 0 (first_bits run) (levels_in run)) 0 (828 * level_groups (levels_in run))
     ∙ ap (λ g. 828 * g) (level_groups_are run h)
 
-pub byte_in : (run : List (List ℤ)) (n : ℕ) → AreLong run → n < 828 * groups_of run
+pub byte_in : (run : List (List ℤ)) (n : ℕ) → AreSegments run → n < 828 * groups_of run
     → get_or (bytes_in run) n 0 ≡ byte_back 0 (first_bits run) (levels_in run) n
 unfolding bytes_in bytes_back
 byte_in run n h l =

@@ -1,15 +1,134 @@
--- What is known of a run where the words of one field more are sought.
-use Rattle.std.proofs.Common.{◌≡◌, ℕ, ◌+◌, ◌-◌, ◌*◌, ◌/◌, ◌%◌, ◌<◌, ◌≤◌, ◌⊎◌, inl, inr, nat_le, nat_lt, Bool, true}
-use Rattle.std.proofs.Common.{false}
-use Rattle.std.proofs.Common.{cond, Option, Some, None, is_some, option_map, List, length, get_or, refl, sym, ap, ap₂}
-use Rattle.std.proofs.Common.{◌∙◌, arith}
-use Rattle.std.proofs.lemmas.Bool.{cases_lt, cond-false, cond-true, le-leb, le-ltb, lt-leb, lt-ltb}
-use Rattle.std.proofs.lemmas.List.{get_or_default, get_or_past}
+-- The words and bytes that are known of a run, field by field, and what is known where the words of one field more are
+-- sought.
+use Rattle.std.proofs.Common.{◌≡◌, ℕ, ◌-◌, ◌*◌, ◌/◌, ◌%◌, ◌<◌, ◌≤◌, ◌⊎◌, inl, inr, nat_le, Bool, true, false, cond}
+use Rattle.std.proofs.Common.{Option, Some, None, option_map, List, length, get_or, refl, sym, ◌∙◌, arith, ◌+◌, take}
+use Rattle.std.proofs.Common.{drop, ap, nat_lt, is_some, ap₂}
+use Rattle.std.proofs.lemmas.Bool.{cases_lt, leb-true, cond-false, cond-true, true≢false, le-leb, le-ltb, lt-leb}
+use Rattle.std.proofs.lemmas.Bool.{lt-ltb}
+use Rattle.std.proofs.lemmas.List.{get_or_past, get_or-drop, length-drop, get_or_default}
+use Rattle.std.proofs.lemmas.List.FromFn.{get_or-map-range_with_len, length-map-range_with_len}
+use Rattle.dtx_laws.specs.Words.{correction}
+use Rattle.dtx_outer.specs.Inner.{IsComplete, codeword_byte_place, word_at}
+use Rattle.dtx_outer.proofs.WordsLemmas.{get_or-word, length-word, word_by}
+use Rattle.dtx_receiver.specs.Packets.{is_complete}
+use Rattle.dtx_receiver.proofs.CompleteLemmas.{complete_all, complete_only, complete_told}
 use Rattle.dtx_rounds.specs.Found.{code_byte, new_code, or_else}
-use Rattle.dtx_rounds.specs.Known.{known_byte, known_code_byte, known_word}
-use Rattle.dtx_rounds.specs.RunField.{codes_upto}
+use Rattle.dtx_rounds.specs.Known.{known_byte, known_bytes, known_code_byte, known_word}
+use Rattle.dtx_rounds.specs.RunField.{codes_upto, StayKnown}
 use Rattle.dtx_rounds.proofs.FoundWords.{map_or}
-use Rattle.dtx_rounds.proofs.Growing.{Stays}
+use Rattle.dtx_rounds.proofs.KnownLemmas.{known_parts, known_place, known_absent, known_there}
+use Rattle.dtx_rounds.proofs.LaidWords.{at_place}
+
+pub length-known : (bytes : List ℕ) → length (known_bytes bytes) ≡ length bytes
+unfolding known_bytes
+length-known bytes = length-map-range_with_len (known_byte bytes) 0 (length bytes)
+
+-- behind the bytes of a run nothing is known
+known_past : (bytes : List ℕ) (n : ℕ) → length bytes ≤ n → known_byte bytes n ≡ None
+unfolding known_byte known_code_byte
+known_past bytes n l = by_test (nat_le (208 * (n % 52)) n) refl
+  where
+    p : ℕ
+    p = n - 208 * (n % 52)
+
+    by_word : (o : Option (List ℕ)) → known_word bytes (p / 207) ≡ o → 208 * (n % 52) ≤ n
+        → option_map (λ (code : List ℕ). get_or code (p % 207) 0) o ≡ None
+    by_word None e m = refl
+    by_word (Some code) e m =
+        absurd (omega (
+          arith,
+          l,
+          known_place bytes (p / 207) (p % 207) code (known_parts bytes (p / 207) code e)
+              (omega arith),
+          at_place (p / 207) n m refl,
+        ))
+
+    by_test : (b : Bool) → nat_le (208 * (n % 52)) n ≡ b
+        → cond b (option_map (λ (code : List ℕ). get_or code (p % 207) 0) (known_word bytes (p / 207))) None ≡ None
+    by_test true t = by_word (known_word bytes (p / 207)) refl (leb-true (208 * (n % 52)) n t)
+    by_test false t = refl
+
+pub known_entry : (bytes : List ℕ) (n : ℕ) → get_or (known_bytes bytes) n None ≡ known_byte bytes n
+unfolding known_bytes
+known_entry bytes n = by_place (cases_lt n (length bytes))
+  where
+    by_place : (n < length bytes) ⊎ (length bytes ≤ n) → get_or (known_bytes bytes) n None ≡ known_byte bytes n
+    by_place (inl l) = get_or-map-range_with_len (known_byte bytes) 0 (length bytes) n n None l (omega arith)
+    by_place (inr l) =
+        get_or_past (known_bytes bytes) n None (omega (arith, l, length-known bytes)) ∙ sym (known_past bytes n l)
+
+-- Of so many data segments in whole groups, `there` are those of a field and of the one behind it.
+abbrev pub AreThere : (f segments there : ℕ) → Type 0
+AreThere f segments there =
+    ((there ≡ 624) × (312 * f + 624 ≤ segments)) ⊎ (312 * f + there ≡ segments)
+
+complete_in_field : (f s m k : ℕ) → AreThere f s m → k < 312 → IsComplete 207 52 4 (207 * s) (312 * f + k)
+    → IsComplete 207 52 4 (207 * m) k
+complete_in_field f s m k (inl h) l c = complete_all m k (inl (omega (arith, l, h.0)))
+complete_in_field f s m k (inr h) l c = complete_all m k (by_kind (complete_only s (312 * f + k) c))
+  where
+    by_kind : (312 * f + k + 53 ≤ s) ⊎ ((312 * f + k + 52 ≡ s) × ((312 * f + k) % 52 ≡ 0))
+        → (k + 53 ≤ m) ⊎ ((k + 52 ≡ m) × (k % 52 ≡ 0))
+    by_kind (inl a) = inl (omega (arith, a, h))
+    by_kind (inr a) = inr (omega (arith, a.0, h), omega (arith, a.1))
+
+complete_in_run : (f s m k : ℕ) → AreThere f s m → k < 312 → IsComplete 207 52 4 (207 * m) k
+    → IsComplete 207 52 4 (207 * s) (312 * f + k)
+complete_in_run f s m k (inl h) l c = complete_all s (312 * f + k) (inl (omega (arith, l, h.1)))
+complete_in_run f s m k (inr h) l c = complete_all s (312 * f + k) (by_kind (complete_only m k c))
+  where
+    by_kind : (k + 53 ≤ m) ⊎ ((k + 52 ≡ m) × (k % 52 ≡ 0))
+        → (312 * f + k + 53 ≤ s) ⊎ ((312 * f + k + 52 ≡ s) × ((312 * f + k) % 52 ≡ 0))
+    by_kind (inl a) = inl (omega (arith, a, h))
+    by_kind (inr a) = inr (omega (arith, a.0, h), omega (arith, a.1))
+
+place_in_field : (f k j : ℕ) → codeword_byte_place 52 4 (207 * (312 * f + k) + j)
+    ≡ 64584 * f + codeword_byte_place 52 4 (207 * k + j)
+place_in_field f k j = by_byte (207 * k + j)
+  where
+    by_byte : (p : ℕ) → 207 * (312 * f + k) + j + 52 * 4 * ((207 * (312 * f + k) + j) % 52)
+        ≡ 64584 * f + (207 * k + j + 52 * 4 * ((207 * k + j) % 52))
+    by_byte p =
+        let turn : (207 * (312 * f + k) + j) % 52 ≡ (207 * k + j) % 52 = omega arith in
+        let start : 207 * (312 * f + k) + j ≡ 64584 * f + (207 * k + j) = omega arith in
+        omega (arith, turn, start)
+
+word_in_field : (bytes : List ℕ) (f k : ℕ)
+    → word_at 207 52 4 bytes (312 * f + k) ≡ word_at 207 52 4 (drop (64584 * f) bytes) k
+word_in_field bytes f k =
+    word_by 207 52 4 (drop (64584 * f) bytes) k (word_at 207 52 4 bytes (312 * f + k))
+    (length-word 207 52 4 bytes (312 * f + k))
+    (λ j l. get_or-word 207 52 4 bytes (312 * f + k) j l
+    ∙ ap (λ n. get_or bytes n 0) (place_in_field f k j)
+    ∙ sym (get_or-drop (64584 * f) bytes (codeword_byte_place 52 4 (207 * k + j)) 0))
+
+-- a word that begins in a field
+pub known_in_field : (bytes : List ℕ) (f s m k : ℕ) → length bytes ≡ 207 * s → AreThere f s m → k < 312
+    → known_word bytes (312 * f + k) ≡ known_word (take (207 * m) (drop (64584 * f) bytes)) k
+unfolding known_word
+known_in_field bytes f s m k long there l = by_test (is_complete (207 * s) (312 * f + k)) refl
+  where
+    most : 207 * m ≤ length (drop (64584 * f) bytes)
+    most = by_there there
+      where
+        by_there : AreThere f s m → 207 * m ≤ length (drop (64584 * f) bytes)
+        by_there (inl h) = omega (arith, h.0, h.1, long, length-drop (64584 * f) bytes)
+        by_there (inr h) = omega (arith, h, long, length-drop (64584 * f) bytes)
+
+    by_test : (b : Bool) → is_complete (207 * s) (312 * f + k) ≡ b
+        → known_word bytes (312 * f + k) ≡ known_word (take (207 * m) (drop (64584 * f) bytes)) k
+    by_test true t =
+        cond-true (is_complete (length bytes) (312 * f + k)) (correction 207 187 (word_at 207 52 4 bytes (312 * f + k)))
+        None (ap (λ n. is_complete n (312 * f + k)) long ∙ t)
+        ∙ ap (correction 207 187) (word_in_field bytes f k)
+        ∙ sym (known_there (drop (64584 * f) bytes) (207 * m) k most
+        (complete_in_field f s m k there l ((complete_told (207 * s) (312 * f + k)).0 t)))
+    by_test false t =
+        cond-false (is_complete (length bytes) (312 * f + k))
+        (correction 207 187 (word_at 207 52 4 bytes (312 * f + k))) None
+        (ap (λ n. is_complete n (312 * f + k)) long ∙ t)
+        ∙ sym (known_absent (drop (64584 * f) bytes) (207 * m) k most
+        (λ c. true≢false (sym ((complete_told (207 * s) (312 * f + k)).1 (complete_in_run f s m k there l c)) ∙ t)))
 
 -- ---- corrections up to a word
 
@@ -86,7 +205,7 @@ byte_in_field codes f m l =
 
 -- The words of field f are sought: those that are known before aren't, and the others are among the bytes `there`.
 pub record AreSought (before now there : List ℕ) (f : ℕ) (words : List Bool) : Type 0 where
-  pub stays : Stays before now
+  pub stays : StayKnown before now
   pub long : length words ≡ 312
   pub words_are : (k : ℕ) → k < 312 → get_or words k false ≡ is_some (known_word before (312 * f + k))
   pub there_are : (k : ℕ) → k < 312 → known_word there k ≡ known_word now (312 * f + k)

@@ -1,26 +1,44 @@
 -- The segments that are acquired have 832 symbols each at every scale, and settled fields give 313 of them or none.
 use Rattle.std.proofs.Common.{◌≡◌, ℕ, ℤ, pos, zero, suc, ◌+◌, ◌-◌, ◌*◌, ◌/◌, ◌%◌, ◌<◌, ◌≤◌, ◌⊎◌, inl, inr, nat_lt, Bool}
 use Rattle.std.proofs.Common.{true, false, cond, Option, Some, None, List, [], ◌∷◌, ◌++◌, length, map, take, drop}
-use Rattle.std.proofs.Common.{filter, get_or, refl, sym, ap, ◌∙◌, subst, arith}
+use Rattle.std.proofs.Common.{filter, get_or, refl, sym, ap, ◌∙◌, subst, arith, ap₂}
 use Rattle.std.specs.List.{flat_map}
 use Rattle.std.proofs.lemmas.Bool.{cases_lt, cond-false, cond-true, leb-true}
 use Rattle.std.proofs.lemmas.List.{get_or-append_right, get_or-drop, get_or-map, get_or_append_left, length-append}
 use Rattle.std.proofs.lemmas.List.{length-drop, length-map, length-take-le}
 use Rattle.std.proofs.lemmas.List.FromFn.{get_or-map-range_with_len, length-map-range_with_len}
 use Rattle.dtx_frame.specs.Segments.{field_sync, segment_sync, sync_symbols}
-use Rattle.dtx_frame.proofs.SymbolsLemmas as symbols
 use Rattle.dtx_soft.specs.Softened.{softened, softened_segment, softened_symbol}
+use Rattle.dtx_soft.proofs.SoftenedLemmas.{softened_found}
 use Rattle.dtx_acquire.specs.Acquired.{Sync, acquired, acquired_so_far, all_syncs, behind_groups, due, field_at}
 use Rattle.dtx_acquire.specs.Acquired.{fields_where, given_at, in_groups, is_met, restored, restored_data}
 use Rattle.dtx_acquire.specs.Acquired.{restored_field, restored_of, restored_sync, segments_from, unless_lost}
 use Rattle.dtx_acquire.specs.Agreement.{agrees, is_second, least_from}
 use Rattle.dtx_acquire.specs.Scaled.{decided}
-use Rattle.dtx_rounds.proofs.RefinedLemmas.{length-restored}
-use Rattle.dtx_rounds.proofs.RunLevels.{AreLong}
+use Rattle.dtx_rounds.specs.Fields.{AreSegments}
+use Rattle.dtx_frame.proofs.SymbolsLemmas as symbols
+
+-- ---- how many segments are restored
+
+pub length-field : (scale : ℕ) (segments : List (List ℤ)) → length (restored_field scale segments) ≡ length segments
+unfolding restored_field in_groups behind_groups
+length-field scale segments =
+    let n : ℕ = 4 * (length segments / 4) in
+    let front : List (List ℤ) = softened scale (take n segments) in
+    length-map (front ++ drop n segments) (restored_data scale)
+    ∙ length-append front (drop n segments)
+    ∙ ap₂ (λ (a b : ℕ). a + b)
+    ((softened_found scale (take n segments)).long ∙ length-take-le n segments (omega arith))
+    (length-drop n segments)
+    ∙ omega arith
+
+pub length-restored : (scale : ℕ) (segments : List (List ℤ)) → length (restored scale segments) ≡ length segments
+length-restored scale [] = refl
+length-restored scale (sync ∷ segments) = ap suc (length-field scale segments)
 
 -- ---- a field's segments, restored
 
-long_append : (xs ys : List (List ℤ)) → AreLong xs → AreLong ys → AreLong (xs ++ ys)
+long_append : (xs ys : List (List ℤ)) → AreSegments xs → AreSegments ys → AreSegments (xs ++ ys)
 long_append xs ys h k i l = by_place (cases_lt i (length xs))
   where
     by_place : (i < length xs) ⊎ (length xs ≤ i) → length (get_or (xs ++ ys) i []) ≡ 832
@@ -29,7 +47,7 @@ long_append xs ys h k i l = by_place (cases_lt i (length xs))
         ap length (get_or-append_right xs ys (length xs) i [] refl m)
         ∙ k (i - length xs) (omega (arith, l, m, length-append xs ys))
 
-long_softened : (scale : ℕ) (rows : List (List ℤ)) → AreLong (softened scale rows)
+long_softened : (scale : ℕ) (rows : List (List ℤ)) → AreSegments (softened scale rows)
 unfolding softened softened_segment
 long_softened scale rows i l =
     ap length (get_or-map-range_with_len (softened_segment scale rows) 0 (length rows) i i []
@@ -37,7 +55,7 @@ long_softened scale rows i l =
     ∙ length-map-range_with_len (λ k. cond (nat_lt k 4) (get_or (get_or rows i []) k (pos 0))
     (softened_symbol scale rows (828 * i + (k - 4)))) 0 832
 
-long_behind : (rows : List (List ℤ)) → AreLong rows → AreLong (behind_groups rows)
+long_behind : (rows : List (List ℤ)) → AreSegments rows → AreSegments (behind_groups rows)
 unfolding behind_groups
 long_behind rows h i l =
     let n : ℕ = 4 * (length rows / 4) in
@@ -60,7 +78,7 @@ data_long scale row e =
     let back : length rest ≡ 828 = length-map (drop 4 row) (decided scale) ∙ length-drop 4 row ∙ omega (arith, e) in
     length-append segment_sync rest ∙ omega (arith, front, back)
 
-field_long : (scale : ℕ) (rows : List (List ℤ)) → AreLong rows → AreLong (restored_field scale rows)
+field_long : (scale : ℕ) (rows : List (List ℤ)) → AreSegments rows → AreSegments (restored_field scale rows)
 unfolding restored_field
 field_long scale rows h i l =
     let all : List (List ℤ) = softened scale (in_groups rows) ++ behind_groups rows in
@@ -70,7 +88,7 @@ field_long scale rows h i l =
     (long_append (softened scale (in_groups rows)) (behind_groups rows) (long_softened scale (in_groups rows))
     (long_behind rows h) i m)
 
-long_restored : (scale : ℕ) (rows : List (List ℤ)) → AreLong rows → AreLong (restored scale rows)
+long_restored : (scale : ℕ) (rows : List (List ℤ)) → AreSegments rows → AreSegments (restored scale rows)
 long_restored scale [] h i l = absurd (omega arith)
 long_restored scale (row ∷ rows) h zero l = sync_long scale row (h 0 (omega arith))
 long_restored scale (row ∷ rows) h (suc i) l =
@@ -120,7 +138,8 @@ given_room v p i l = by_met (is_met v p) refl
     by_met true e = by_all (met_room v p e) (given_met v p e)
     by_met false e = omega (arith, l, given_unmet v p e)
 
-long_from : (v : List ℤ) (p n : ℕ) → ((i : ℕ) → i < n → p + 832 * i + 832 ≤ length v) → AreLong (segments_from v p n)
+long_from : (v : List ℤ) (p n : ℕ) → ((i : ℕ) → i < n → p + 832 * i + 832 ≤ length v)
+    → AreSegments (segments_from v p n)
 unfolding segments_from
 long_from v p n room i l =
     let m : i < n = omega (arith, l, length-map-range_with_len (λ i. take 832 (drop (p + 832 * i) v)) 0 n) in
@@ -132,13 +151,13 @@ unfolding field_at segments_from
 length-at v s =
     length-map-range_with_len (λ i. take 832 (drop (s.place + 832 * i) v)) 0 (given_at v s.place)
 
-long_at : (v : List ℤ) (s : Sync) → AreLong (field_at v s).segments
+long_at : (v : List ℤ) (s : Sync) → AreSegments (field_at v s).segments
 unfolding field_at
 long_at v s = long_from v s.place (given_at v s.place) (given_room v s.place)
 
 -- ---- all fields
 
-long_fields : (scale : ℕ) (v : List ℤ) (syncs : List Sync) → AreLong (restored_of scale (map (field_at v) syncs))
+long_fields : (scale : ℕ) (v : List ℤ) (syncs : List Sync) → AreSegments (restored_of scale (map (field_at v) syncs))
 unfolding restored_of
 long_fields scale v [] = λ i l. absurd (omega arith)
 long_fields scale v (s ∷ syncs) =
@@ -146,7 +165,7 @@ long_fields scale v (s ∷ syncs) =
     (flat_map (λ field. restored scale field.segments) (map (field_at v) syncs))
     (long_restored scale (field_at v s).segments (long_at v s)) (long_fields scale v syncs)
 
-pub long_acquired : (scale : ℕ) (symbols : List ℤ) → AreLong (acquired scale symbols)
+pub long_acquired : (scale : ℕ) (symbols : List ℤ) → AreSegments (acquired scale symbols)
 unfolding acquired fields_where
 long_acquired scale symbols =
     long_fields scale symbols (filter (λ s. true) (all_syncs true symbols))

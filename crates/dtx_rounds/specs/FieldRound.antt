@@ -13,6 +13,10 @@ field_rounded scale heard known given = map (round_segment scale heard known giv
 unfoldable pub field_cost : ℕ → List (List ℤ) → List (Option ℕ) → ℕ
 field_cost scale heard known = sum (map (coder_cost scale heard known 0) (range_with_len 0 12))
 
+-- what the least paths of a field cost at most, in its 313 segments
+abbrev pub most_field_cost : ℕ
+most_field_cost = 16720224624
+
 -- how many of the words that begin in the field are known
 unfoldable pub words_known : List Bool → ℕ
 words_known words = length (filter (λ k. slice_index_or words k false) (range_with_len 0 312))

@@ -1,8 +1,8 @@
 -- The words that a round puts right of those that begin in one field (ATSC A/53 Part 2, Reed-Solomon encoder and
 -- interleaver). Words and places are counted from the field's beginning, where branch 0 stands. A field has 312 words
 -- and 64584 bytes. Its words reach into the field behind it.
-use Rattle.std.specs.Prelude.{ℕ, ◌≡◌, ◌+◌, ◌-◌, ◌*◌, ◌/◌, ◌%◌, ◌==◌, ◌++◌, ◌&&◌, ◌||◌, nat_le, not, Bool, false, true}
-use Rattle.std.specs.Prelude.{if◌then◌else◌, Option, Some, None, is_some, option_map, List, length, map, take}
+use Rattle.std.specs.Prelude.{ℕ, ◌≡◌, ◌+◌, ◌-◌, ◌*◌, ◌/◌, ◌%◌, ◌<◌, ◌==◌, ◌++◌, ◌&&◌, ◌||◌, nat_le, not, Bool, false}
+use Rattle.std.specs.Prelude.{true, if◌then◌else◌, Option, Some, None, is_some, option_map, List, length, take}
 use Rattle.std.specs.Prelude.{slice_index, slice_index_or}
 use Rattle.std.specs.List.{flat_map, list_any, range_with_len}
 use Rattle.dtx_receiver.specs.Packets.{is_complete}
@@ -48,16 +48,6 @@ abbrev pub or_else : {A : Type 0} → Option A → Option A → Option A
 or_else None y = y
 or_else (Some x) y = Some x
 
--- known bytes from place `first` on, and at their places the bytes of these corrections
-unfoldable pub bytes_with : (ℕ → Option (List ℕ)) → ℕ → List (Option ℕ) → List (Option ℕ)
-bytes_with codes first known =
-    map (λ i. or_else (code_byte codes (first + i)) (slice_index_or known i None)) (range_with_len 0 (length known))
-
--- which words are known, and also those that have one of these corrections
-unfoldable pub words_with : (ℕ → Option (List ℕ)) → List Bool → List Bool
-words_with codes words =
-    map (λ k. slice_index_or words k false || is_some (codes k)) (range_with_len 0 (length words))
-
 -- whether there is such a correction
 unfoldable pub has_code : (ℕ → Option (List ℕ)) → ℕ → Bool
 has_code codes count = list_any (λ k. is_some (codes k)) (range_with_len 0 count)
@@ -87,13 +77,16 @@ pub record IsUnchanged (field new : Field) : Type 0 where
   pub moved : new.moved ≡ field.moved
   pub knows_more : new.knows_more ≡ field.knows_more
 
--- A field and the one behind it, `new` and `new_next`, are as before but for what is known with these corrections.
+-- A field and the one behind it, `new` and `new_next`, are as before but for what is known with these corrections: the
+-- bytes of both, one behind the other, and the words of the first.
 pub record AreFound (codes : ℕ → Option (List ℕ)) (field next new new_next : Field) : Type 0 where
-  pub known : new.known.items ≡ bytes_with codes 0 field.known.items
-  pub words : new.words ≡ words_with codes field.words
+  pub known : (n : ℕ) → slice_index_or (new.known.items ++ new_next.known.items) n None
+      ≡ or_else (code_byte codes n) (slice_index_or (field.known.items ++ next.known.items) n None)
+  pub long : length new.words ≡ length field.words
+  pub words : (k : ℕ) → k < length field.words
+      → slice_index_or new.words k false ≡ (slice_index_or field.words k false || is_some (codes k))
   pub more : new.knows_more ≡ (field.knows_more || has_code codes 312)
   pub rest : IsKept field new
-  pub next_known : new_next.known.items ≡ bytes_with codes 64584 next.known.items
   pub next_words : new_next.words ≡ next.words
   pub next_more : new_next.knows_more ≡ (next.knows_more || has_code_behind codes 312)
   pub next_rest : IsKept next new_next

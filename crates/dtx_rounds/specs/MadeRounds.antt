@@ -7,7 +7,7 @@ use Rattle.dtx_rounds.specs.declared.rounds.Rounds.{Rounds}
 -- So many rounds at a scale took the first t fields of a run, of which nothing was known, and gave the first f of them.
 -- Each round holds one field at most.
 pub record AreMade (scale : ℕ) (heard given : List (List ℤ)) (count t f : ℕ) (rounds : Rounds) : Type 0 where
-  pub scale_is : rounds.means.scale ≡ scale
+  pub scale_is : rounds.means.decoder ≡ scale
   pub long : length rounds.rounds.items ≡ count
   pub at : AreAt scale heard given [] t rounds.rounds.items
   pub given_are : given_count t rounds.rounds.items ≡ f

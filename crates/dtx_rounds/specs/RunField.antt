@@ -1,12 +1,12 @@
 -- A field of a run on its way through a round.
-use Rattle.std.specs.Prelude.{ℕ, ℤ, ◌≡◌, ◌+◌, ◌*◌, ◌<◌, nat_lt, false, if◌then◌else◌, Option, Some, None, is_some, List}
-use Rattle.std.specs.Prelude.{drop, length, map, slice_index_or, sum, take}
+use Rattle.std.specs.Prelude.{ℕ, ℤ, ◌≡◌, ◌+◌, ◌*◌, ◌<◌, ◌≤◌, nat_lt, false, if◌then◌else◌, Option, Some, None, is_some}
+use Rattle.std.specs.Prelude.{List, drop, length, map, slice_index_or, sum, take}
 use Rattle.std.specs.List.{range_with_len}
 use Rattle.dtx_receiver.specs.Bytes.{bytes_in}
 use Rattle.dtx_pins.specs.Moved.{rows_moved}
 use Rattle.dtx_rounds.specs.Decided.{IsDecided, decided_rows, heard_rows}
 use Rattle.dtx_rounds.specs.FieldRound.{field_cost, field_rounded}
-use Rattle.dtx_rounds.specs.Fields.{rows_of}
+use Rattle.dtx_rounds.specs.Fields.{AreSegments, rows_of}
 use Rattle.dtx_rounds.specs.Found.{AreFound, bytes_of, bytes_there, code_byte, new_code, whole_segments}
 use Rattle.dtx_rounds.specs.Known.{known_bytes, known_word}
 use Rattle.dtx_rounds.specs.Rounds.{coder_cost, rounded}
@@ -66,3 +66,21 @@ pub record IsRounded (scale : ℕ) (heard given : List (List ℤ)) (f : ℕ) (fi
   pub done : field.knows_more ≡ false
   pub cost : field.cost ≡ sum (map (coder_cost scale heard (known_bytes (bytes_in given)) f) (range_with_len 0 12))
   pub moved : field.moved ≡ rows_moved (rows_of given f) (rows_of (rounded scale heard given) f)
+
+-- ---- from field to field
+
+-- A round holds a field of a run, and the next field comes. The held one is given after the round over the run, and the
+-- next one is held.
+abbrev pub GoesOn : ℕ → (held next made kept : Field) → Type 0
+GoesOn scale held next made kept =
+    (heard given : List (List ℤ)) (before : List ℕ) (f : ℕ) → AreSegments given → StayKnown before (bytes_in given)
+    → 313 * (f + 1) < length given → Holds scale heard given before f held
+    → IsInRun scale heard given (known_word before) (f + 1) next
+    → IsRounded scale heard given f made × Holds scale heard given before (f + 1) kept
+
+-- A round holds the last field of a run. It is given after the round.
+abbrev pub GivesLast : ℕ → (held made : Field) → Type 0
+GivesLast scale held made =
+    (heard given : List (List ℤ)) (before : List ℕ) (f : ℕ) → AreSegments given → StayKnown before (bytes_in given)
+    → 313 * f < length given → length given ≤ 313 * (f + 1) → Holds scale heard given before f held
+    → IsRounded scale heard given f made

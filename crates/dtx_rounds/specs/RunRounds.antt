@@ -1,12 +1,12 @@
 -- Rounds one behind the other, over the fields of a run. Each holds a field of its own run: that of the first round is
 -- given, and that of each further one is what the round before it gives.
-use Rattle.std.specs.Prelude.{ℕ, ℤ, ◌≡◌, ◌+◌, ◌-◌, ◌*◌, ◌<◌, ◌≤◌, ◌⊎◌, ⊤, Bool, true, false, if◌then◌else◌, List, []}
-use Rattle.std.specs.Prelude.{◌∷◌, length}
+use Rattle.std.specs.Prelude.{ℕ, ℤ, ◌≡◌, ◌+◌, ◌-◌, ◌*◌, ◌/◌, ◌<◌, ◌≤◌, ◌⊎◌, ⊤, Bool, true, false, if◌then◌else◌, List}
+use Rattle.std.specs.Prelude.{[], ◌∷◌, length}
 use Rattle.std.proofs.Common.{zero, suc}
 use Rattle.dtx_receiver.specs.Bytes.{bytes_in}
 use Rattle.dtx_rounds.specs.Fields.{AreSegments}
 use Rattle.dtx_rounds.specs.Known.{known_word}
-use Rattle.dtx_rounds.specs.Rounds.{rounded, rounds_of}
+use Rattle.dtx_rounds.specs.Rounds.{fields_in, rounded, rounds_of}
 use Rattle.dtx_rounds.specs.RunField.{Holds, IsInRun, IsRounded, StayKnown}
 use Rattle.dtx_rounds.specs.declared.field.Field.{Field}
 use Rattle.dtx_rounds.specs.declared.round.Round.{Round}
@@ -80,3 +80,16 @@ pub record IsEndedFirst (scale : ℕ) (heard given : List (List ℤ)) (before : 
   pub long : length new ≡ length old
   pub count : given_count t new ≡ given_count n old + (if answer then 1 else 0)
   pub given_is : answer ≡ true → IsGiven scale heard given before (length old) (given_count n old) field
+
+-- A field comes to rounds, whichever field of a run it is.
+abbrev pub PassesOn : ℕ → (old : List Round) (field : Field) (new : List Round) → Bool → Field → Type 0
+PassesOn scale old field new answer made =
+    (heard given : List (List ℤ)) (before : List ℕ) (t : ℕ) → IsRun heard given before → 313 * t < length given
+    → AreAt scale heard given before t old → IsInRun scale heard given (known_word before) t field
+    → IsPassed scale heard given before t old new answer made
+
+-- No field of a run comes to rounds any more.
+abbrev pub EndsOn : ℕ → (old new : List Round) → Bool → Field → Type 0
+EndsOn scale old new answer made =
+    (heard given : List (List ℤ)) (before : List ℕ) (t : ℕ) → IsRun heard given before → t ≡ fields_in given
+    → AreAt scale heard given before t old → IsEnded scale heard given before t old new answer made

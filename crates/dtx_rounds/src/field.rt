@@ -3,7 +3,7 @@
 ghost use Rattle.std.specs.Prelude.{◌≡◌, ◌+◌, ◌-◌, ◌*◌, ◌/◌, ◌<◌, ◌≤◌, ◌++◌, IfOk, true, false, drop, length, take};
 ghost use Rattle.std.specs.Prelude.{vec_len};
 ghost use Rattle.std.specs.List.{flat_map};
-ghost use Rattle.dtx_rounds.specs.FieldRound.{KnowsNothing, words_known};
+ghost use Rattle.dtx_rounds.specs.FieldRound.{KnowsNothing, most_field_cost, words_known};
 ghost use Rattle.dtx_rounds.specs.Written.{IsWritten};
 
 use crate::group_bytes::empty_bytes;
@@ -53,7 +53,7 @@ pub struct Field {
     /// The bytes that are kept.
     pub(crate) bytes: Vec<[u8; GROUP_BYTES]>,
     ghost few: { count ≤ 313 },
-    ghost cost_small: { cost ≤ 16720224624 },
+    ghost cost_small: { cost ≤ most_field_cost },
     ghost moved_small: { moved ≤ 259584 },
     ghost heard_long: { vec_len heard ≡ 313 },
     ghost decided_long: { vec_len decided ≡ 313 },

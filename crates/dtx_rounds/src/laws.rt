@@ -45,9 +45,7 @@ pub fn what_is_known_stays()
     ensures capture { (scale r n k : ℕ) (symbols : List ℤ) (code : List ℕ) → 0 < scale → scale ≤ MAX_SCALE
         → known_word (bytes_in (refined scale symbols r)) k ≡ Some code
         → known_word (bytes_in (refined scale symbols (r + n))) k ≡ Some code }
-{
-    whole_fields_are_acquired();
-}
+{}
 
 /// If no byte of a known word of the acquired segments is put right, rounds leave these segments as they are. They do
 /// so if all words whose bytes are there are codewords, as those of a stream are, and if no word is known.

@@ -11,16 +11,14 @@ use dtx_soft::MAX_SCALE;
 use std::alloc::{AllocError, Global};
 use std::rc::Rc;
 
-/// The corrector and the decoder that rounds use in turn, and the room for the pins of a field.
+/// The corrector that rounds use in turn, the decoder with its scale, and the room for the pins of a field.
 #[derive(Drop)]
 pub(crate) struct Means {
-    pub(crate) scale: u8,
     pub(crate) corrector: Rc<Corrector>,
     pub(crate) decoder: Pinned,
     pub(crate) pins: Vec<[u16; CODERS]>,
-    ghost some: { 0 < scale },
-    ghost most: { scale ≤ 18 },
-    ghost decoder_scale: { decoder ≡ scale },
+    ghost some: { 0 < decoder },
+    ghost most: { decoder ≤ 18 },
     ghost pins_long: { vec_len pins ≡ 21528 },
 }
 
@@ -29,10 +27,9 @@ impl Means {
     pub(crate) fn new(alloc: Global, scale: u8) -> Result<Means, AllocError>
         requires some { 0 < scale }
         requires most { scale ≤ MAX_SCALE }
-        ensures scale { IfOk result (λ means. means.scale ≡ scale) }
+        ensures scale { IfOk result (λ means. means.decoder ≡ scale) }
     {
         Ok(Means {
-            scale,
             corrector: Rc::new(alloc, Fast::new())?,
             decoder: Pinned::scaled(scale),
             pins: vec![in alloc; [NO_PIN; CODERS]; SEGMENT_ROUNDS * WORDS]?,

@@ -10,8 +10,8 @@ use dtx_sizes::{SEGMENT, SEGMENT_ROUNDS};
 
 /// Decides the symbols of a field anew, where more is known of it than before.
 pub(crate) fn decide(means: &mut Means, field: &mut Field)
-    ensures decided { IsDecided means.old.scale field.old field.new }
-    ensures scale { means.new.scale ≡ means.old.scale }
+    ensures decided { IsDecided means.old.decoder field.old field.new }
+    ensures scale { means.new.decoder ≡ means.old.decoder }
 {
     field.moved = 0;
     if field.knows_more {

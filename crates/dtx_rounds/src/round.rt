@@ -1,10 +1,10 @@
 //! One round, which is a field behind the one before it.
 
-ghost use Rattle.std.specs.Prelude.{◌≡◌, ◌+◌, ◌*◌, ◌<◌, ◌≤◌, ℕ, ℤ, IfOk, true, false, List, length};
-ghost use Rattle.dtx_receiver.specs.Bytes.{bytes_in};
+ghost use Rattle.std.specs.Prelude.{◌≡◌, ◌<◌, ℕ, ℤ, IfOk, true, false, List, length};
 ghost use Rattle.dtx_rounds.specs.Fields.{AreSegments};
+ghost use Rattle.dtx_rounds.specs.Found.{bytes_of};
 ghost use Rattle.dtx_rounds.specs.Known.{known_word};
-ghost use Rattle.dtx_rounds.specs.RunField.{Holds, IsInRun, IsRounded, IsTurned, StayKnown};
+ghost use Rattle.dtx_rounds.specs.RunField.{GivesLast, GoesOn, Holds, IsInRun, IsTurned};
 
 use crate::field::{BYTES, Field, WORDS};
 use crate::group_bytes::write_bytes;
@@ -40,16 +40,12 @@ impl Round {
     pub(crate) fn take(&mut self, means: &mut Means, field: &mut Field) -> bool
         ensures had { result ≡ self.old.on }
         ensures on { self.new.on ≡ true }
-        ensures scale { means.new.scale ≡ means.old.scale }
+        ensures scale { means.new.decoder ≡ means.old.decoder }
         ensures first { self.old.on ≡ false → (scale : ℕ) (heard given : List (List ℤ)) (before : List ℕ)
             → AreSegments given → 0 < length given → IsInRun scale heard given (known_word before) 0 field.old
             → Holds scale heard given before 0 self.new.held }
-        ensures next { self.old.on ≡ true → (heard given : List (List ℤ)) (before : List ℕ) (f : ℕ)
-            → AreSegments given → StayKnown before (bytes_in given) → 313 * (f + 1) < length given
-            → Holds means.old.scale heard given before f self.old.held
-            → IsInRun means.old.scale heard given (known_word before) (f + 1) field.old
-            → IsRounded means.old.scale heard given f field.new
-            × Holds means.old.scale heard given before (f + 1) self.new.held }
+        ensures next { self.old.on ≡ true
+            → GoesOn means.old.decoder self.old.held field.old field.new self.new.held }
     {
         if self.on {
             self.next(means, field);
@@ -76,19 +72,12 @@ impl Round {
     /// Takes the next field, and gives the held one in its place.
     fn next(&mut self, means: &mut Means, field: &mut Field)
         ensures on { self.new.on ≡ self.old.on }
-        ensures scale { means.new.scale ≡ means.old.scale }
-        ensures rounded { (heard given : List (List ℤ)) (before : List ℕ) (f : ℕ) → AreSegments given
-            → StayKnown before (bytes_in given) → 313 * (f + 1) < length given
-            → Holds means.old.scale heard given before f self.old.held
-            → IsInRun means.old.scale heard given (known_word before) (f + 1) field.old
-            → IsRounded means.old.scale heard given f field.new
-            × Holds means.old.scale heard given before (f + 1) self.new.held }
+        ensures scale { means.new.decoder ≡ means.old.decoder }
+        ensures rounded { GoesOn means.old.decoder self.old.held field.old field.new self.new.held }
     {
         // A whole field ends with the last symbols of the twelve coders.
         let last = last_levels(&self.held.decided[WORDS]);
         write_bytes(&last, field);
-        // The bytes of the next field stand behind all those of the held one.
-        prove!(self.held.bytes().len() == BYTES);
         turn(means, &mut self.held, field);
         std::mem::swap(&mut self.held, field);
     }
@@ -97,12 +86,8 @@ impl Round {
     pub(crate) fn finish(&mut self, means: &mut Means, field: &mut Field) -> bool
         ensures had { result ≡ self.old.on }
         ensures on { self.new.on ≡ false }
-        ensures scale { means.new.scale ≡ means.old.scale }
-        ensures last { self.old.on ≡ true → (heard given : List (List ℤ)) (before : List ℕ) (f : ℕ)
-            → AreSegments given → StayKnown before (bytes_in given) → 313 * f < length given
-            → length given ≤ 313 * (f + 1)
-            → Holds means.old.scale heard given before f self.old.held
-            → IsRounded means.old.scale heard given f field.new }
+        ensures scale { means.new.decoder ≡ means.old.decoder }
+        ensures last { self.old.on ≡ true → GivesLast means.old.decoder self.old.held field.new }
     {
         let had = self.on;
         if had {
@@ -114,25 +99,23 @@ impl Round {
     /// Gives the held field, behind which there is none.
     fn end(&mut self, means: &mut Means, field: &mut Field)
         ensures on { self.new.on ≡ false }
-        ensures scale { means.new.scale ≡ means.old.scale }
-        ensures rounded { (heard given : List (List ℤ)) (before : List ℕ) (f : ℕ) → AreSegments given
-            → StayKnown before (bytes_in given) → 313 * f < length given → length given ≤ 313 * (f + 1)
-            → Holds means.old.scale heard given before f self.old.held
-            → IsRounded means.old.scale heard given f field.new }
+        ensures scale { means.new.decoder ≡ means.old.decoder }
+        ensures rounded { GivesLast means.old.decoder self.old.held field.new }
     {
         field.clear();
-        prove!(self.held.bytes().len() == BYTES);
         turn(means, &mut self.held, field);
         self.on = false;
         std::mem::swap(&mut self.held, field);
     }
 }
 
-/// The round of a held field, before the next one.
+/// The round of a held field, before the next one, whose bytes stand behind all those of the held one.
 fn turn(means: &mut Means, held: &mut Field, next: &mut Field)
-    ensures turned { IsTurned means.old.scale held.old next.old held.new next.new }
-    ensures scale { means.new.scale ≡ means.old.scale }
+    ensures turned { IsTurned means.old.decoder held.old next.old held.new next.new }
+    ensures scale { means.new.decoder ≡ means.old.decoder }
+    ensures long { length (bytes_of held.old) ≡ BYTES }
 {
+    prove!(held.bytes().len() == BYTES);
     find_words(&means.corrector, held, next);
     decide(means, held);
 }

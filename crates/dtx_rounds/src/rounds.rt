@@ -7,7 +7,7 @@ ghost use Rattle.dtx_rounds.specs.Known.{known_word};
 ghost use Rattle.dtx_rounds.specs.MadeRounds.{AreFinished, AreMade, AreTaken};
 ghost use Rattle.dtx_rounds.specs.Rounds.{fields_in, rounded};
 ghost use Rattle.dtx_rounds.specs.RunField.{IsInRun, IsRounded};
-ghost use Rattle.dtx_rounds.specs.RunRounds.{AreAt, AreOff, IsAt, IsEnded, IsEndedFirst, IsPassed, IsRun, given_by};
+ghost use Rattle.dtx_rounds.specs.RunRounds.{AreAt, AreOff, EndsOn, IsAt, IsEndedFirst, IsRun, PassesOn, given_by};
 ghost use Rattle.dtx_rounds.specs.RunRounds.{given_count, on_count};
 
 use crate::field::Field;
@@ -75,11 +75,8 @@ fn empty_rounds(alloc: Global, count: usize) -> Result<Vec<Round>, AllocError>
 /// Passes a field through rounds. Where one of them holds none yet, that one keeps it, and the answer is false. Where
 /// all of them hold one, the answer is true.
 fn pass(means: &mut Means, rounds: &mut [Round], field: &mut Field) -> bool
-    ensures scale { means.new.scale ≡ means.old.scale }
-    ensures passed { (heard given : List (List ℤ)) (before : List ℕ) (t : ℕ) → IsRun heard given before
-        → 313 * t < length given → AreAt means.old.scale heard given before t rounds.old
-        → IsInRun means.old.scale heard given (known_word before) t field.old
-        → IsPassed means.old.scale heard given before t rounds.old rounds.new result field.new }
+    ensures scale { means.new.decoder ≡ means.old.decoder }
+    ensures passed { PassesOn means.old.decoder rounds.old field.old rounds.new result field.new }
     ensures still { length rounds.old ≡ 0 → field.new ≡ field.old }
     ensures full { result ≡ nat_le (length rounds.old) (on_count rounds.old) }
 {
@@ -98,11 +95,8 @@ fn pass(means: &mut Means, rounds: &mut [Round], field: &mut Field) -> bool
 /// Gives the next field of those that rounds hold, once no more comes to the first of them. The answer is false where
 /// none is held.
 fn end(means: &mut Means, rounds: &mut [Round], field: &mut Field) -> bool
-    ensures scale { means.new.scale ≡ means.old.scale }
-    ensures ended { (heard given : List (List ℤ)) (before : List ℕ) (t : ℕ) → IsRun heard given before
-        → t ≡ fields_in given
-        → AreAt means.old.scale heard given before t rounds.old
-        → IsEnded means.old.scale heard given before t rounds.old rounds.new result field.new }
+    ensures scale { means.new.decoder ≡ means.old.decoder }
+    ensures ended { EndsOn means.old.decoder rounds.old rounds.new result field.new }
 {
     match rounds.split_first_mut() {
         None => false,
@@ -118,19 +112,19 @@ fn end(means: &mut Means, rounds: &mut [Round], field: &mut Field) -> bool
 
 /// Ends the first of some rounds, and passes the field that it gives through the others.
 fn end_first(means: &mut Means, round: &mut Round, rest: &mut [Round], field: &mut Field) -> bool
-    ensures scale { means.new.scale ≡ means.old.scale }
+    ensures scale { means.new.decoder ≡ means.old.decoder }
     ensures off { round.new.on ≡ false }
     ensures ended { (heard given : List (List ℤ)) (before : List ℕ) (t : ℕ) → IsRun heard given before
         → t ≡ fields_in given
-        → IsAt means.old.scale heard given before t round.old
-        → AreAt means.old.scale heard (rounded means.old.scale heard given) (bytes_in given) (given_by round.old t)
+        → IsAt means.old.decoder heard given before t round.old
+        → AreAt means.old.decoder heard (rounded means.old.decoder heard given) (bytes_in given) (given_by round.old t)
         rest.old
-        → IsEndedFirst means.old.scale heard (rounded means.old.scale heard given) (bytes_in given) t
+        → IsEndedFirst means.old.decoder heard (rounded means.old.decoder heard given) (bytes_in given) t
         (given_by round.old t) rest.old rest.new result field.new }
     ensures last { (heard given : List (List ℤ)) (before : List ℕ) (t : ℕ) → IsRun heard given before
-        → t ≡ fields_in given → IsAt means.old.scale heard given before t round.old → result ≡ true
+        → t ≡ fields_in given → IsAt means.old.decoder heard given before t round.old → result ≡ true
         → length rest.old ≡ 0
-        → IsRounded means.old.scale heard given (given_count (given_by round.old t) rest.old) field.new }
+        → IsRounded means.old.decoder heard given (given_count (given_by round.old t) rest.old) field.new }
 {
     if round.finish(means, field) {
         pass(means, rest, field)

@@ -1,5 +1,5 @@
-use Rattle.dtx_rounds.proofs.MovedRounds.{none_moved, still_capture, still_round}
-use Rattle.dtx_rounds.proofs.RoundsLemmas.{refined_stays, rounds_stay}
+use Rattle.dtx_rounds.proofs.RefinedLemmas.{refined_stays, rounds_stay}
+use Rattle.dtx_rounds.proofs.RoundNumbers.{none_moved, still_capture, still_round}
 use Rattle.dtx_rounds.proofs.laws.a_round_that_moves_nothing_is_the_last.Goals as goal
 
 pub returns-clause-rounds : goal.returns-clause-rounds

@@ -3,10 +3,10 @@ use Rattle.dtx_receiver.specs.Bytes.{bytes_in}
 use Rattle.dtx_acquire.specs.Acquired.{all_fields}
 use Rattle.dtx_rounds.specs.Known.{known_bytes}
 use Rattle.dtx_rounds.specs.Rounds.{heard_of, refined}
-use Rattle.dtx_rounds.proofs.CostSums.{costs_begin, costs_whole}
 use Rattle.dtx_rounds.proofs.FieldRows.{are_fields}
-use Rattle.dtx_rounds.proofs.Growing.{known_costs_more}
-use Rattle.dtx_rounds.proofs.RefinedLemmas.{costs_next}
+use Rattle.dtx_rounds.proofs.Kept.{known_costs_more}
+use Rattle.dtx_rounds.proofs.RoundNumbers.{costs_begin, costs_whole}
+use Rattle.dtx_rounds.proofs.SoFarLemmas.{costs_next}
 use Rattle.dtx_rounds.proofs.laws.costs_rise.Goals as goal
 
 pub returns-clause-first : goal.returns-clause-first
@@ -16,8 +16,7 @@ returns-clause-first c =
 
 pub returns-clause-next : goal.returns-clause-next
 returns-clause-next c =
-    λ scale r f e symbols some most. costs_next scale r f e symbols
-    (c.whole_fields_are_acquired.ensures.segments scale symbols some) some (omega (arith, most))
+    λ scale r f e symbols some most. costs_next scale r f e symbols some (omega (arith, most))
 
 pub returns-clause-begin : goal.returns-clause-begin
 returns-clause-begin c =
@@ -26,5 +25,4 @@ returns-clause-begin c =
 
 pub returns-clause-whole : goal.returns-clause-whole
 returns-clause-whole c =
-    λ scale r symbols some most. costs_whole scale r symbols
-    (c.whole_fields_are_acquired.ensures.segments scale symbols some) some (omega (arith, most))
+    λ scale r symbols some most. costs_whole scale r symbols some (omega (arith, most))

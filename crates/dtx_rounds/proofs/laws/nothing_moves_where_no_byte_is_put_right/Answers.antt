@@ -2,14 +2,13 @@ use Rattle.std.proofs.Common.{arith, sym, ◌∙◌}
 use Rattle.dtx_receiver.specs.Bytes.{bytes_in}
 use Rattle.dtx_acquire.specs.Acquired.{acquired, all_fields}
 use Rattle.dtx_rounds.proofs.FieldRows.{are_fields}
-use Rattle.dtx_rounds.proofs.Growing.{none_some}
-use Rattle.dtx_rounds.proofs.StillLemmas.{own_code, still}
+use Rattle.dtx_rounds.proofs.Kept.{none_some}
+use Rattle.dtx_rounds.proofs.OwnRounds.{own_code, still}
 use Rattle.dtx_rounds.proofs.laws.nothing_moves_where_no_byte_is_put_right.Goals as goal
 
 pub returns-clause-own : goal.returns-clause-own
 returns-clause-own c =
     λ scale r symbols some most own. still scale r symbols
-    (c.whole_fields_are_acquired.ensures.segments scale symbols some)
     (are_fields (all_fields symbols) (c.whole_fields_are_acquired.ensures.most symbols)
     (c.whole_fields_are_acquired.ensures.fields symbols)) some (omega (arith, most)) own
 

@@ -1,5 +1,6 @@
 use Rattle.std.proofs.Common.{arith}
-use Rattle.dtx_rounds.proofs.RefinedLemmas.{known_later, known_stays}
+use Rattle.dtx_rounds.proofs.RefinedLemmas.{known_stays}
+use Rattle.dtx_rounds.proofs.SoFarLemmas.{known_later}
 use Rattle.dtx_rounds.proofs.laws.what_is_known_stays.Goals as goal
 
 pub returns-clause-round : goal.returns-clause-round
@@ -8,5 +9,4 @@ returns-clause-round c =
 
 pub returns-clause-capture : goal.returns-clause-capture
 returns-clause-capture c =
-    λ scale r n k symbols code some most. known_later scale r n k symbols code
-    (c.whole_fields_are_acquired.ensures.segments scale symbols some) some (omega (arith, most))
+    λ scale r n k symbols code some most. known_later scale r n k symbols code some (omega (arith, most))

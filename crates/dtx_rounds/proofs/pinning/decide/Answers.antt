@@ -52,13 +52,13 @@ pub returns-then-field-clause-decided : goal.returns-then-field-clause-decided
 returns-then-field-clause-decided c = record {
   decided = ap (take n) back
       ∙ is.rows
-      ∙ ap₂ (λ received known. field_rounded c.args.means.now.scale (take n received) known (take n given))
+      ∙ ap₂ (λ received known. field_rounded c.args.means.now.decoder (take n received) known (take n given))
       c.deref-then-field.ensures.value c.deref.ensures.value
-      ∙ ap (λ rows. field_rounded c.args.means.now.scale (take n c.args.field.now.heard.items)
+      ∙ ap (λ rows. field_rounded c.args.means.now.decoder (take n c.args.field.now.heard.items)
       c.args.field.now.known.items (take n rows)) c.deref_mut-then-field.ensures.value
       ∙ sym (cond-true c.args.field.now.knows_more _ (take n c.args.field.now.decided.items) c.if-field.true);
   cost = is.cost_is
-      ∙ ap₂ (λ received known. field_cost c.args.means.now.scale (take n received) known)
+      ∙ ap₂ (λ received known. field_cost c.args.means.now.decoder (take n received) known)
       c.deref-then-field.ensures.value
       c.deref.ensures.value
       ∙ sym (cond-true c.args.field.now.knows_more _ c.args.field.now.cost c.if-field.true);
@@ -100,20 +100,17 @@ returns-then-field-clause-decided c = record {
         (omega (arith, c.deref_mut.ensures.len, c.args.means.now.pins_long, c.in_groups-count.ensures.few))
         ∙ omega (arith, c.in_groups-count.ensures.few, heard_long, length-drop 1 heard, length-take k (drop 1 heard)))
 
-    is : IsRounded c.args.means.now.scale n heard given c.deref.result.now made c.field-decision.result.cost
+    is : IsRounded c.args.means.now.decoder n heard given c.deref.result.now made c.field-decision.result.cost
         c.field-decision.result.moved
     is =
-        rounded_field c.args.means.now.scale n k heard given c.field-decision.new.decided c.deref.result.now
+        rounded_field c.args.means.now.decoder n k heard given c.field-decision.new.decided c.deref.result.now
         c.field-decision.result.cost c.field-decision.result.moved c.args.means.now.some
         (omega (arith, c.args.means.now.most)) c.args.field.now.few heard_long
         (c.deref_mut-then-field.ensures.len ∙ c.args.field.now.decided_long)
         (omega (arith, c.in_groups-count.ensures.is))
-        (c.field-decision.ensures.cost
-        ∙ ap₂ (λ scale pins. pinned_cost scale pins rows) c.args.means.now.decoder_scale pins)
-        (subst (λ scale. IsPinned scale 1 (field_pins c.deref.result.now 0 (69 * length rows)) rows
-        (take k (drop 1 given)) c.field-decision.new.decided) c.args.means.now.decoder_scale
+        (c.field-decision.ensures.cost ∙ ap (λ pins. pinned_cost c.args.means.now.decoder pins rows) pins)
         (subst (λ pins. IsPinned c.args.means.now.decoder 1 pins rows (take k (drop 1 given))
-        c.field-decision.new.decided) pins c.field-decision.ensures.segments))
+        c.field-decision.new.decided) pins c.field-decision.ensures.segments)
         c.field-decision.ensures.moved c.known_long.ensures c.known_long-then-field.ensures
 
     back : take c.args.field.now.decided.len (made ++ drop (length made) c.args.field.now.decided.items) ≡ made

@@ -1,20 +1,19 @@
-use Rattle.std.proofs.Common.{◌≡◌, ℕ, ℤ, ◌+◌, ◌-◌, ◌*◌, ◌<◌, ◌≤◌, ◌⊎◌, inl, inr, nat_le, true, false, List, ◌∷◌}
-use Rattle.std.proofs.Common.{length, sym}
-use Rattle.std.proofs.Common.{ap, subst}
-use Rattle.std.proofs.Common.{◌∙◌, arith}
+use Rattle.std.proofs.Common.{◌≡◌, ℕ, ℤ, ◌+◌, ◌-◌, ◌*◌, ◌<◌, ◌≤◌, ◌⊎◌, inl, inr, nat_le, true, false, List, ◌∷◌, length}
+use Rattle.std.proofs.Common.{sym, ap, subst, ◌∙◌, arith}
 use Rattle.dtx_receiver.specs.Bytes.{bytes_in}
 use Rattle.dtx_rounds.specs.Known.{known_word}
 use Rattle.dtx_rounds.specs.Rounds.{rounded}
 use Rattle.dtx_rounds.specs.RunField.{IsInRun}
-use Rattle.dtx_rounds.specs.RunRounds.{AreAt, IsPassed, IsRun, on_count}
-use Rattle.dtx_rounds.proofs.OnRounds.{full_off, full_on, none_full}
-use Rattle.dtx_rounds.proofs.PassedRounds.{given_on, next_run, passed_all, passed_off, passed_on}
+use Rattle.dtx_rounds.specs.RunRounds.{AreAt, IsPassed, on_count, PassesOn}
+use Rattle.dtx_rounds.proofs.PassedRounds.{full_off, full_on, none_full, given_on, next_run, passed_all, passed_off}
+use Rattle.dtx_rounds.proofs.PassedRounds.{passed_on}
 use Rattle.dtx_rounds.proofs.RefinedLemmas.{length-rounded}
 use Rattle.dtx_rounds.proofs.rounds.+pass.Goals as goal
 
 pub returns-in-None-clause-passed : goal.returns-in-None-clause-passed
 returns-in-None-clause-passed m c = λ heard given before t run more at h.
-    passed_all c.args.means.now.scale heard given before t c.args.rounds.now c.args.field.now c.in-None.ensures.cases h
+    passed_all c.args.means.now.decoder heard given before t c.args.rounds.now c.args.field.now
+    c.in-None.ensures.cases h
 
 pub returns-then-take-clause-passed : goal.returns-then-take-clause-passed
 returns-then-take-clause-passed m c = λ heard given before t run more at h.
@@ -26,7 +25,7 @@ returns-then-take-clause-passed m c = λ heard given before t run more at h.
     let room : 313 * (t - 1) < length (rounded scale heard given) =
     omega (arith, more, length-rounded scale heard given) in
     let p = rest heard (rounded scale heard given) (bytes_in given) (t - 1)
-    (next_run scale heard given before some (omega (arith, most)) run) room
+    (next_run scale heard given before c.args.means.now.some c.args.means.now.most run) room
     (subst (λ n. AreAt scale heard (rounded scale heard given) (bytes_in given) n c.in-Some.rest.now)
     (given_on c.in-Some.round.now t on) parts.1) both.0.turned in
     subst (λ rounds. IsPassed scale heard given before t rounds (c.take.new.self ∷ c.pass.new.rounds) c.pass.result
@@ -35,13 +34,7 @@ returns-then-take-clause-passed m c = λ heard given before t run more at h.
     c.pass.result c.take.new.field c.pass.new.field on held.0 c.take.ensures.on both.1 c.pass.ensures.still both.0 p)
   where
     scale : ℕ
-    scale = c.args.means.now.scale
-
-    some : 0 < scale
-    some = c.args.means.now.some
-
-    most : scale ≤ 18
-    most = c.args.means.now.most
+    scale = c.args.means.now.decoder
 
     on : c.in-Some.round.now.on ≡ true
     on = sym c.take.ensures.had ∙ c.if-take.true
@@ -49,15 +42,9 @@ returns-then-take-clause-passed m c = λ heard given before t run more at h.
     split : c.args.rounds.now ≡ c.in-Some.round.now ∷ c.in-Some.rest.now
     split = c.in-Some.ensures.cases.0
 
-    rest : (heard given : List (List ℤ)) (before : List ℕ) (t : ℕ) → IsRun heard given before
-        → 313 * t < length given → AreAt scale heard given before t c.in-Some.rest.now
-        → IsInRun scale heard given (known_word before) t c.take.new.field
-        → IsPassed scale heard given before t c.in-Some.rest.now c.pass.new.rounds c.pass.result c.pass.new.field
+    rest : PassesOn scale c.in-Some.rest.now c.take.new.field c.pass.new.rounds c.pass.result c.pass.new.field
     rest =
-        subst (λ s. (heard given : List (List ℤ)) (before : List ℕ) (t : ℕ) → IsRun heard given before
-        → 313 * t < length given → AreAt s heard given before t c.in-Some.rest.now
-        → IsInRun s heard given (known_word before) t c.take.new.field
-        → IsPassed s heard given before t c.in-Some.rest.now c.pass.new.rounds c.pass.result c.pass.new.field)
+        subst (λ s. PassesOn s c.in-Some.rest.now c.take.new.field c.pass.new.rounds c.pass.result c.pass.new.field)
         c.take.ensures.scale c.pass.ensures.passed
 
 pub returns-else-take-clause-passed : goal.returns-else-take-clause-passed
@@ -72,7 +59,7 @@ returns-else-take-clause-passed m c = λ heard given before t run more at h.
     (subst (λ n. IsInRun scale heard given (known_word before) n c.args.field.now) none h)) parts.1)
   where
     scale : ℕ
-    scale = c.args.means.now.scale
+    scale = c.args.means.now.decoder
 
     off : c.in-Some.round.now.on ≡ false
     off = sym c.take.ensures.had ∙ c.if-take.false

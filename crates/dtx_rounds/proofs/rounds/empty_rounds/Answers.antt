@@ -1,6 +1,6 @@
 use Rattle.std.proofs.Common.{sym, subst, arith}
 use Rattle.dtx_rounds.specs.RunRounds.{AreOff}
-use Rattle.dtx_rounds.proofs.MadeLemmas.{off_more}
+use Rattle.dtx_rounds.proofs.PassedRounds.{off_more}
 use Rattle.dtx_rounds.proofs.rounds.empty_rounds.Goals as goal
 
 pub loop-alloc-preserved : goal.loop-alloc-preserved

@@ -1,10 +1,9 @@
-use Rattle.std.proofs.Common.{◌≡◌, ℕ, ℤ, ◌+◌, ◌-◌, ◌*◌, ◌<◌, ◌≤◌, true, List, length, sym, subst, ◌∙◌, arith}
+use Rattle.std.proofs.Common.{◌≡◌, ℕ, ◌+◌, ◌-◌, true, sym, subst, ◌∙◌, arith}
 use Rattle.std.proofs.lemmas.Bool.{true≢false}
 use Rattle.dtx_receiver.specs.Bytes.{bytes_in}
-use Rattle.dtx_rounds.specs.Known.{known_word}
 use Rattle.dtx_rounds.specs.Rounds.{rounded}
-use Rattle.dtx_rounds.specs.RunField.{IsInRun, IsRounded}
-use Rattle.dtx_rounds.specs.RunRounds.{AreAt, IsEndedFirst, IsPassed, IsRun, given_by, given_count}
+use Rattle.dtx_rounds.specs.RunField.{IsRounded}
+use Rattle.dtx_rounds.specs.RunRounds.{AreAt, IsEndedFirst, given_by, given_count, PassesOn}
 use Rattle.dtx_rounds.proofs.PassedRounds.{first_given, first_off, first_on, given_off, given_on, next_run}
 use Rattle.dtx_rounds.proofs.RefinedLemmas.{length-rounded}
 use Rattle.dtx_rounds.proofs.rounds.end_first.Goals as goal
@@ -17,7 +16,8 @@ returns-then-finish-clause-ended c = λ heard given before t run all is at.
     (omega (arith, all, held.0)) (omega (arith, all, held.0)) held.1).turned in
     let long = length-rounded scale heard given in
     let p = rest heard (rounded scale heard given) (bytes_in given) (t - 1)
-    (next_run scale heard given before first (omega (arith, most)) run) (omega (arith, all, held.0, long))
+    (next_run scale heard given before c.args.means.now.some c.args.means.now.most run)
+    (omega (arith, all, held.0, long))
     (subst (λ n. AreAt scale heard (rounded scale heard given) (bytes_in given) n c.args.rest.now)
     (given_on c.args.round.now t on) at) turned in
     subst (λ n. IsEndedFirst scale heard (rounded scale heard given) (bytes_in given) t n c.args.rest.now
@@ -26,31 +26,19 @@ returns-then-finish-clause-ended c = λ heard given before t run all is at.
     c.pass.result c.pass.new.field back c.pass.auto.rounds p)
   where
     scale : ℕ
-    scale = c.args.means.now.scale
-
-    first : 0 < scale
-    first = c.args.means.now.some
-
-    most : scale ≤ 18
-    most = c.args.means.now.most
+    scale = c.args.means.now.decoder
 
     on : c.args.round.now.on ≡ true
     on = sym c.finish.ensures.had ∙ c.if-finish.true
 
-    rest : (heard given : List (List ℤ)) (before : List ℕ) (t : ℕ) → IsRun heard given before
-        → 313 * t < length given → AreAt scale heard given before t c.args.rest.now
-        → IsInRun scale heard given (known_word before) t c.finish.new.field
-        → IsPassed scale heard given before t c.args.rest.now c.pass.new.rounds c.pass.result c.pass.new.field
+    rest : PassesOn scale c.args.rest.now c.finish.new.field c.pass.new.rounds c.pass.result c.pass.new.field
     rest =
-        subst (λ s. (heard given : List (List ℤ)) (before : List ℕ) (t : ℕ) → IsRun heard given before
-        → 313 * t < length given → AreAt s heard given before t c.args.rest.now
-        → IsInRun s heard given (known_word before) t c.finish.new.field
-        → IsPassed s heard given before t c.args.rest.now c.pass.new.rounds c.pass.result c.pass.new.field)
+        subst (λ s. PassesOn s c.args.rest.now c.finish.new.field c.pass.new.rounds c.pass.result c.pass.new.field)
         c.finish.ensures.scale c.pass.ensures.passed
 
 pub returns-else-finish-clause-ended : goal.returns-else-finish-clause-ended
 returns-else-finish-clause-ended c = λ heard given before t run all is at.
-    first_off c.args.means.now.scale heard (rounded c.args.means.now.scale heard given) (bytes_in given) t
+    first_off c.args.means.now.decoder heard (rounded c.args.means.now.decoder heard given) (bytes_in given) t
     (given_by c.args.round.now t) c.args.rest.now c.finish.new.field
     (given_off c.args.round.now t (sym c.finish.ensures.had ∙ c.if-finish.false)) at
 
@@ -60,9 +48,9 @@ returns-then-finish-clause-last c = λ heard given before t run all is true none
     let held = is.on on in
     let turned = c.finish.ensures.last on heard given before (t - 1) run.long run.stays
     (omega (arith, all, held.0)) (omega (arith, all, held.0)) held.1 in
-    subst (λ n. IsRounded c.args.means.now.scale heard given (given_count n c.args.rest.now) c.pass.new.field)
+    subst (λ n. IsRounded c.args.means.now.decoder heard given (given_count n c.args.rest.now) c.pass.new.field)
     (sym (given_on c.args.round.now t on))
-    (first_given c.args.means.now.scale (t - 1) heard given c.args.rest.now c.finish.new.field c.pass.new.field
+    (first_given c.args.means.now.decoder (t - 1) heard given c.args.rest.now c.finish.new.field c.pass.new.field
     c.pass.ensures.still turned none)
 
 pub returns-else-finish-clause-last : goal.returns-else-finish-clause-last

@@ -4,9 +4,9 @@ use Rattle.dtx_slice.specs.Slicing.{sliced_last}
 use Rattle.dtx_rounds.specs.Known.{known_word}
 use Rattle.dtx_rounds.specs.RunField.{Holds}
 use Rattle.dtx_rounds.specs.Written.{IsWritten}
-use Rattle.dtx_rounds.proofs.HeldRounds.{held_first}
+use Rattle.dtx_rounds.proofs.FoundFields.{in_run_unchanged}
+use Rattle.dtx_rounds.proofs.HeldFields.{held_first}
 use Rattle.dtx_rounds.proofs.LaidWords.{decided_items}
-use Rattle.dtx_rounds.proofs.UnchangedFields.{in_run_unchanged}
 use Rattle.dtx_rounds.proofs.round.Round.begin.Goals as goal
 
 pub returns-clause-holds : goal.returns-clause-holds

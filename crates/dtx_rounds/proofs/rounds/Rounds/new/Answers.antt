@@ -1,5 +1,5 @@
 use Rattle.dtx_rounds.specs.declared.rounds.Rounds.{Rounds}
-use Rattle.dtx_rounds.proofs.MadeLemmas.{made_first}
+use Rattle.dtx_rounds.proofs.PassedRounds.{made_first}
 use Rattle.dtx_rounds.proofs.rounds.Rounds.new.Goals as goal
 
 pub returns : goal.returns
