@@ -1,16 +1,14 @@
 -- What `receive` answers and writes of segments in a row of a stream that are received with slight damage.
-use Rattle.std.proofs.Common.{◌≡◌, ℕ, ℤ, ◌+◌, ◌%◌, ◌<◌, ◌≤◌, List, [], ◌∷◌, length, map, get_or, refl, sym, ap, ap₂}
+use Rattle.std.proofs.Common.{◌≡◌, ℕ, ℤ, ◌+◌, ◌%◌, ◌<◌, ◌≤◌, List, [], ◌∷◌, length, map, get_or, refl, ap, ap₂}
 use Rattle.std.proofs.Common.{◌∙◌, arith}
-use Rattle.std.specs.List.{flat_map, sum_by}
+use Rattle.std.specs.List.{flat_map}
 use Rattle.std.proofs.lemmas.List.{length-map}
 use Rattle.std.proofs.lemmas.List.Folds.{flat_map-map}
-use Rattle.std.proofs.lemmas.List.Sums.{sum_by-cons}
-use Rattle.dtx_laws.specs.Codeword.{distance}
 use Rattle.dtx_receiver.specs.Packets.{all_packets, received}
 use Rattle.dtx_receiver.specs.Runs.{runs}
 use Rattle.dtx_receiver.specs.declared.batch.Received.{Received}
 use Rattle.dtx_chain.proofs.AllBackLemmas.{all_back, all_good}
-use Rattle.dtx_chain.specs.Damage.{AreReceived, IsSlight, as_corrected, codeword_at, from_sync, numbers_in}
+use Rattle.dtx_chain.specs.Damage.{AreReceived, IsSlight, as_corrected, from_sync, numbers_in}
 use Rattle.dtx_chain.specs.Damage.{packet_behind, to_sync, word_in}
 use Rattle.dtx_chain.proofs.SlightLemmas.{one_run_left}
 use Rattle.dtx_chain.specs.Undamaged.{ArePackets, as_received, as_sent}
@@ -26,26 +24,10 @@ use Rattle.dtx_recipes.specs.Receive.{receiving, with_corrections}
 use Rattle.dtx_jobs.proofs.ReceivedLemmas.{all_received}
 use Rattle.dtx_recipes.specs.SymbolFile.{file_segments, whole_segments}
 use Rattle.dtx_jobs.proofs.SymbolFileLemmas.{length-segments_of}
-use Rattle.dtx_recipes.specs.Tally.{fixed_in, flagged_in}
+use Rattle.dtx_symbol_laws.proofs.MendedBackLemmas.{all_fixed, none_flagged}
+use Rattle.dtx_recipes.specs.Tally.{fixed_in}
 
--- how many bytes were put right in packets that come back, and that none is flagged
-pub all_fixed : (stream : List (List ℕ)) (f : ℕ) (word : ℕ → List ℕ) (js : List ℕ)
-    → fixed_in (map (λ j. as_corrected stream (f + j) (word j)) js)
-    ≡ sum_by (λ j. distance (word j) (codeword_at stream (f + j))) js
-unfolding as_corrected
-all_fixed stream f word [] = refl
-all_fixed stream f word (j ∷ js) =
-    sum_by-cons (λ (r : Received). r.fixed) (as_corrected stream (f + j) (word j))
-    (map (λ i. as_corrected stream (f + i) (word i)) js)
-    ∙ ap (λ n. distance (word j) (codeword_at stream (f + j)) + n) (all_fixed stream f word js)
-    ∙ sym (sum_by-cons (λ i. distance (word i) (codeword_at stream (f + i))) j js)
-
-none_flagged : (stream : List (List ℕ)) (f : ℕ) (word : ℕ → List ℕ) (js : List ℕ)
-    → flagged_in (map (λ j. as_corrected stream (f + j) (word j)) js) ≡ 0
-unfolding as_corrected
-none_flagged stream f word [] = refl
-none_flagged stream f word (j ∷ js) = none_flagged stream f word js
-
+-- no byte was put right in packets that were sent
 pub none_fixed : (packets : List (List ℕ)) (ks : List ℕ) → fixed_in (map (as_sent packets) ks) ≡ 0
 unfolding as_sent
 none_fixed packets [] = refl

@@ -25,7 +25,8 @@ use Rattle.dtx_recipes.specs.Symbols.{symbol_bytes}
 use Rattle.dtx_recipes.specs.Tally.{fixed_in}
 use Rattle.dtx_file_laws.specs.Back.{all_back, back_of_all, packets_back}
 use Rattle.dtx_file_laws.proofs.Counted.{bytes_back, numbers_are}
-use Rattle.dtx_file_laws.proofs.Stretches.{all_fixed, all_received_back, none_fixed}
+use Rattle.dtx_symbol_laws.proofs.MendedBackLemmas.{all_fixed}
+use Rattle.dtx_file_laws.proofs.Stretches.{all_received_back, none_fixed}
 
 -- ---- from the first segment on
 

@@ -1,4 +1,4 @@
-mod MendedBackLemmas
+pub mod MendedBackLemmas
 pub mod AcquiredFile
 pub mod AcquiredRun
 pub mod AcquiredStream

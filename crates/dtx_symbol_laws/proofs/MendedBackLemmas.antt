@@ -188,8 +188,8 @@ all_corrected stream first sent got packets received some can =
     (λ j within complete. mendable_back stream (packet_behind first) j run packets (field_begins first) within
     (can.words j complete))
 
--- how many bytes were put right in them, and that none is flagged
-all_fixed : (stream : List (List ℕ)) (f : ℕ) (word : ℕ → List ℕ) (js : List ℕ)
+-- how many bytes were put right in packets that come back, and that none is flagged
+pub all_fixed : (stream : List (List ℕ)) (f : ℕ) (word : ℕ → List ℕ) (js : List ℕ)
     → fixed_in (map (λ j. as_corrected stream (f + j) (word j)) js)
     ≡ sum_by (λ j. distance (word j) (codeword_at stream (f + j))) js
 unfolding as_corrected
@@ -200,7 +200,7 @@ all_fixed stream f word (j ∷ js) =
     ∙ ap (λ n. distance (word j) (codeword_at stream (f + j)) + n) (all_fixed stream f word js)
     ∙ sym (sum_by-cons (λ i. distance (word i) (codeword_at stream (f + i))) j js)
 
-none_flagged : (stream : List (List ℕ)) (f : ℕ) (word : ℕ → List ℕ) (js : List ℕ)
+pub none_flagged : (stream : List (List ℕ)) (f : ℕ) (word : ℕ → List ℕ) (js : List ℕ)
     → flagged_in (map (λ j. as_corrected stream (f + j) (word j)) js) ≡ 0
 unfolding as_corrected
 none_flagged stream f word [] = refl
