@@ -9,8 +9,8 @@ ghost use Rattle.dtx_acquire.specs.Acquirer.{Leaves, StandsFor};
 ghost use Rattle.dtx_acquire.specs.Agreement.{agrees};
 
 use crate::giver::Giver;
-use crate::held::{Held, MOST_HELD};
 use crate::step::{FIELD, seek, step_of};
+use crate::symbol_window::{MOST_HELD, SymbolWindow};
 use dtx_sizes::{FIELD_SEGMENTS, MOST_SYMBOLS, SEGMENT};
 use dtx_soft::{MAX_SCALE, MOST_SEGMENT_COST};
 use std::alloc::{AllocError, Global};
@@ -23,7 +23,7 @@ use std::marker::Model;
 /// field and one segment of them.
 #[derive(Drop)]
 pub struct Acquirer {
-    held: Held,
+    held: SymbolWindow,
     /// How many symbols in front of `held` are dropped before others are taken. Those of the last field that was given
     /// are among them.
     gone: usize,
@@ -69,7 +69,7 @@ impl Acquirer {
         ensures symbols { IfOk result (λ acquirer. acquirer.symbols ≡ 0) }
     {
         Ok(Acquirer {
-            held: Held::new(alloc)?,
+            held: SymbolWindow::new(alloc)?,
             gone: 0,
             on: false,
             begins: true,
@@ -242,7 +242,7 @@ impl Acquirer {
 }
 
 /// Drops the first `gone` symbols.
-fn forget(held: &mut Held, gone: usize)
+fn forget(held: &mut SymbolWindow, gone: usize)
     requires { gone ≤ length held.old }
     ensures { held.new ≡ drop gone held.old }
 {

@@ -4,15 +4,15 @@
 mod acquirer;
 mod deciding;
 mod giver;
-mod held;
 pub mod laws;
 mod restoring;
 mod searching;
 mod signs;
 mod step;
+mod symbol_window;
 mod upright;
 
 pub use acquirer::Acquirer;
-pub use held::{Held, MOST_HELD};
 pub use searching::{MAY_BE_UNLIKE, SyncTest, is_sync_at, search};
 pub use signs::is_second;
+pub use symbol_window::{MOST_HELD, SymbolWindow};

@@ -5,8 +5,8 @@ ghost use Rattle.dtx_acquire.specs.Acquired.{fields_where};
 ghost use Rattle.dtx_acquire.specs.Acquirer.{IsSought, field_of, where_wanted};
 ghost use Rattle.dtx_acquire.specs.Agreement.{agrees};
 
-use crate::held::{Held, MOST_HELD};
 use crate::searching::{is_sync_at, search};
+use crate::symbol_window::{MOST_HELD, SymbolWindow};
 use crate::upright::Upright;
 use dtx_sizes::{FIELD_SEGMENTS, SEGMENT};
 
@@ -18,7 +18,7 @@ const DUE: usize = SEGMENT * FIELD;
 
 /// Looks for a sync if none stands in front of the symbols (`on`). Drops the symbols before the sync. If there is none,
 /// it drops all but the last 831, where a sync may begin. Returns whether a sync stands in front now.
-pub(crate) fn seek(on: bool, held: &mut Held) -> bool
+pub(crate) fn seek(on: bool, held: &mut SymbolWindow) -> bool
     requires { on ≡ true → agrees held.old 0 ≡ true }
     ensures front { result ≡ true → agrees held.new 0 ≡ true }
     ensures sought { IsSought held.old held.new }

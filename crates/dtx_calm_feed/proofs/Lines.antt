@@ -14,7 +14,7 @@ use Rattle.dtx_watch.proofs.AnchorsLemmas.{below}
 use Rattle.dtx_watch.specs.Notes.{lock_note, one_or_none, ops_note, packet_note}
 use Rattle.dtx_watch.specs.Watch.{expected_at, note_under, notes_at, notes_to, reading_note, stamped_before, watch}
 use Rattle.dtx_watch.specs.declared.notes.Note.{Note}
-use Rattle.dtx_watch.specs.declared.notes.What.TheVariants.{Stray, Ops as OpsAt}
+use Rattle.dtx_watch.specs.declared.notes.NoteKind.TheVariants.{Stray, Ops as OpsAt}
 use Rattle.dtx_calm_feed.specs.Said.{IsSaid, IsWhatSaid}
 use Rattle.dtx_calm_feed.proofs.Told.{clock_said, states_said}
 

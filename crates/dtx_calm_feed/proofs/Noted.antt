@@ -22,7 +22,7 @@ use Rattle.dtx_watch.proofs.ToldLemmas.{counts}
 use Rattle.dtx_watch.specs.Watch.{expected_at, expected_by, note_under, notes_at, reading_note, stamped_before}
 use Rattle.dtx_watch.specs.declared.notes.Note.{Note}
 use Rattle.dtx_watch.specs.declared.notes.StatesNote.TheVariants as states_are
-use Rattle.dtx_watch.specs.declared.notes.What.TheVariants.{Stray, Ops as OpsAt}
+use Rattle.dtx_watch.specs.declared.notes.NoteKind.TheVariants.{Stray, Ops as OpsAt}
 use Rattle.dtx_calm_feed.specs.Calm.{IsCalmFeed, IsCalmFrom, IsCalmNote, IsCalmWhat}
 use Rattle.dtx_calm_feed.proofs.Marks.{anchor_again}
 use Rattle.dtx_calm_feed.proofs.Orders.{NeverSlips}

@@ -16,7 +16,7 @@ use Rattle.dtx_watch.specs.Sound.{IsCalm, IsCalmAt, IsSoundFeed}
 use Rattle.dtx_watch.proofs.SoundLemmas.{calm}
 use Rattle.dtx_watch.specs.Watch.{notes_at}
 use Rattle.dtx_watch.specs.declared.notes.Note.{Note}
-use Rattle.dtx_watch.specs.declared.notes.What.TheVariants.{Lock}
+use Rattle.dtx_watch.specs.declared.notes.NoteKind.TheVariants.{Lock}
 use Rattle.dtx_calm_feed.specs.Calm.{IsCalmFeed, IsCalmNote}
 use Rattle.dtx_calm_feed.proofs.Noted.{all_both}
 

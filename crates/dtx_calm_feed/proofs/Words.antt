@@ -9,8 +9,8 @@ use Rattle.dtx_watch.specs.WatchLines.{first_word, lines_with, note_words}
 use Rattle.dtx_watch.proofs.WatchLinesLemmas.{words_of-watch_text}
 use Rattle.dtx_watch.specs.WatchText.{clock_word, states_word, watch_text}
 use Rattle.dtx_watch.specs.declared.notes.Note.{Note}
-use Rattle.dtx_watch.specs.declared.notes.What.{What}
-use Rattle.dtx_watch.specs.declared.notes.What.TheVariants.{Lock, Lost, Unread, Stray, Ops as OpsAt}
+use Rattle.dtx_watch.specs.declared.notes.NoteKind.{NoteKind}
+use Rattle.dtx_watch.specs.declared.notes.NoteKind.TheVariants.{Lock, Lost, Unread, Stray, Ops as OpsAt}
 use Rattle.dtx_calm_feed.specs.Calm.{IsCalmNote, IsCalmText, IsCalmWhat}
 
 -- ---- a count of none
@@ -49,7 +49,7 @@ none_with place word notes e =
 true_false : true ≡ false → ⊥
 true_false e = cc
 
-what_calm : (k : ℕ) (w : What) → bytes_eq (first_word w) (codes "lost") ≡ false
+what_calm : (k : ℕ) (w : NoteKind) → bytes_eq (first_word w) (codes "lost") ≡ false
     → bytes_eq (first_word w) (codes "unread") ≡ false → bytes_eq (first_word w) (codes "stray") ≡ false
     → HasNot 7 (codes "slip") (record { packet = k; what = w })
     → HasNot 8 (codes "jump") (record { packet = k; what = w }) → IsCalmWhat w

@@ -3,8 +3,8 @@ use Rattle.std.specs.Prelude.{◌≡◌, ◌≢◌, ℕ, ◌<◌, ◌≤◌, ⊤
 use Rattle.std.specs.List.{AllByRecursion}
 use Rattle.dtx_exciter.specs.Packets.{anchor_of}
 use Rattle.dtx_watch.specs.declared.notes.Note.{Note}
-use Rattle.dtx_watch.specs.declared.notes.What.{What}
-use Rattle.dtx_watch.specs.declared.notes.What.TheVariants.{Lock, Lost, Unread, Stray, Ops as OpsAt}
+use Rattle.dtx_watch.specs.declared.notes.NoteKind.{NoteKind}
+use Rattle.dtx_watch.specs.declared.notes.NoteKind.TheVariants.{Lock, Lost, Unread, Stray, Ops as OpsAt}
 use Rattle.dtx_watch.specs.declared.notes.StatesNote.TheVariants as states_are
 use Rattle.dtx_watch.specs.declared.notes.ClockNote.TheVariants as clock_is
 use Rattle.dtx_watch.specs.Watch.{notes_at}
@@ -12,7 +12,7 @@ use Rattle.dtx_watch.specs.WatchLines.{lines_with}
 
 -- what a note may say if nothing is wrong: that the packet is an anchor, or an operations packet at its place whose
 -- states don't slip and whose stamp doesn't jump
-abbrev pub IsCalmWhat : What → Type 0
+abbrev pub IsCalmWhat : NoteKind → Type 0
 IsCalmWhat Lock = ⊤
 IsCalmWhat Lost = ⊥
 IsCalmWhat (Unread refusal) = ⊥

@@ -13,8 +13,8 @@ use Rattle.dtx_watch.specs.declared.notes.Note.{Note}
 use Rattle.dtx_watch.specs.declared.notes.OpsNote.{OpsNote}
 use Rattle.dtx_watch.specs.declared.notes.StatesNote.{StatesNote}
 use Rattle.dtx_watch.specs.declared.notes.StatesNote.TheVariants as states_are
-use Rattle.dtx_watch.specs.declared.notes.What.{What}
-use Rattle.dtx_watch.specs.declared.notes.What.TheVariants.{Lock, Lost, Unread, Stray, Ops as OpsAt}
+use Rattle.dtx_watch.specs.declared.notes.NoteKind.{NoteKind}
+use Rattle.dtx_watch.specs.declared.notes.NoteKind.TheVariants.{Lock, Lost, Unread, Stray, Ops as OpsAt}
 use Rattle.dtx_watch.specs.Clock.{frames_between}
 use Rattle.dtx_watch.specs.Watch.{latest}
 
@@ -82,7 +82,7 @@ pub record IsOpsSaid (packets : List (List ℕ)) (k : ℕ) (o : OpsNote) : Type 
   pub clock : (word : ClockNote) → (o.clock ≡ word) ↔ IsClockSaid (drop anchor packets) (k - anchor) ops word
 
 -- what the note says of packet k is true
-abbrev pub IsWhatSaid : List (List ℕ) → ℕ → What → Type 0
+abbrev pub IsWhatSaid : List (List ℕ) → ℕ → NoteKind → Type 0
 IsWhatSaid packets k Lock =
     (anchor : ℕ) × (anchor_of (take k packets) ≡ None) × (anchor_of (take (k + 1) packets) ≡ Some anchor)
 IsWhatSaid packets k Lost =

@@ -68,18 +68,19 @@ pub trait Outlet {
 
 /// One output.
 #[derive(Drop)]
-pub struct One<'a> {
+pub struct OneOutput<'a> {
     name: &'a str,
     output: Output<PIECE>,
 }
 
-impl<'a> One<'a> {
+impl<'a> OneOutput<'a> {
     /// The output of that name, to which nothing was given. It allocates `PIECE` bytes. The only error is out of
     /// memory. (Use `match` on the result: with `?` the proof is not found.)
-    pub fn new(alloc: Global, name: &'a str) -> Result<One<'a>, AllocError>
-        ensures { IfOk result (λ w. ⟦<One<'a> as Outlet>⟧.fresh w × (⟦<One<'a> as Outlet>⟧.names w ≡ name.now ∷ [])) }
+    pub fn new(alloc: Global, name: &'a str) -> Result<OneOutput<'a>, AllocError>
+        ensures { IfOk result (λ w. ⟦<OneOutput<'a> as Outlet>⟧.fresh w
+            × (⟦<OneOutput<'a> as Outlet>⟧.names w ≡ name.now ∷ [])) }
     {
-        Ok(One {
+        Ok(OneOutput {
             name,
             output: Output::new(alloc)?,
         })
@@ -87,7 +88,7 @@ impl<'a> One<'a> {
 }
 
 #[tactic(auto, using(dtx_meaning::proofs::MeaningLemmas::write_is_fault))]
-impl<'a> Outlet for One<'a> {
+impl<'a> Outlet for OneOutput<'a> {
     ghost use Rattle.std.specs.Prelude.{◌≡◌, [], ◌∷◌};
     ghost use Rattle.dtx_outside.specs.Written.{IsGathered};
     ghost use Rattle.dtx_engine.specs.OutletLaws.{part_of_one, some_names};
@@ -130,22 +131,22 @@ const GATHERED: usize = 16_384;
 
 /// Two outputs, under two names.
 #[derive(Drop)]
-pub struct Two<'a> {
+pub struct TwoOutputs<'a> {
     first: &'a str,
     second: &'a str,
     first_output: Output<GATHERED>,
     second_output: Output<GATHERED>,
 }
 
-impl<'a> Two<'a> {
+impl<'a> TwoOutputs<'a> {
     /// The outputs of these names, to which nothing was given. It allocates 16,384 bytes for each. The only error is
     /// out of memory. (Use `match` on the result: with `?` the proof is not found.)
-    pub fn new(alloc: Global, first: &'a str, second: &'a str) -> Result<Two<'a>, AllocError>
+    pub fn new(alloc: Global, first: &'a str, second: &'a str) -> Result<TwoOutputs<'a>, AllocError>
         requires { first.now ≢ second.now }
-        ensures { IfOk result (λ w. ⟦<Two<'a> as Outlet>⟧.fresh w
-            × (⟦<Two<'a> as Outlet>⟧.names w ≡ first.now ∷ second.now ∷ [])) }
+        ensures { IfOk result (λ w. ⟦<TwoOutputs<'a> as Outlet>⟧.fresh w
+            × (⟦<TwoOutputs<'a> as Outlet>⟧.names w ≡ first.now ∷ second.now ∷ [])) }
     {
-        Ok(Two {
+        Ok(TwoOutputs {
             first,
             second,
             first_output: Output::new(alloc)?,
@@ -155,7 +156,7 @@ impl<'a> Two<'a> {
 }
 
 #[tactic(auto, using(dtx_meaning::proofs::MeaningLemmas::write_is_fault))]
-impl<'a> Outlet for Two<'a> {
+impl<'a> Outlet for TwoOutputs<'a> {
     ghost use Rattle.std.specs.Prelude.{◌≡◌, ◌≢◌, [], ◌∷◌};
     ghost use Rattle.dtx_engine.specs.Outlet.{AreBothGathered};
     ghost use Rattle.dtx_engine.specs.OutletLaws.{part_of_two, some_names};

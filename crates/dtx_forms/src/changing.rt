@@ -6,7 +6,7 @@ ghost use Rattle.dtx_words.specs.declared.rows.Command.{Command};
 ghost use Rattle.dtx_forms.specs.Answers.{Knows};
 
 use crate::transforming::Transforming;
-use dtx_engine::{Change, Each};
+use dtx_engine::{Change, EachUnit};
 use std::alloc::{AllocError, Global};
 
 /// What a command of one input does to each unit.
@@ -25,13 +25,13 @@ pub trait Changing: Change + Drop {
         → IsAnswerOf (each_making Self.shape Self.allowed Self.changed Self.answer) status → Knows command status };
 }
 
-impl<C: Changing> Transforming for Each<C> {
+impl<C: Changing> Transforming for EachUnit<C> {
     ghost command = { C.command };
 
     ghost makes = { each_making C.shape C.allowed C.changed C.answer };
 
-    fn new(_alloc: Global) -> Result<Each<C>, AllocError> {
-        Ok(Each::new(C::new()))
+    fn new(_alloc: Global) -> Result<EachUnit<C>, AllocError> {
+        Ok(EachUnit::new(C::new()))
     }
 
     ghost knows = { C.knows };

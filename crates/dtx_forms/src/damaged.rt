@@ -10,24 +10,24 @@ use dtx_plan::Damages;
 
 /// An engine that is given damaged bytes: the damage is laid over each piece first.
 #[derive(Drop)]
-pub struct Damaged<'a, E> {
+pub struct DamagedInput<'a, E> {
     damage: &'a Damages,
     engine: E,
 }
 
-impl<'a, E: Engine> Damaged<'a, E> {
+impl<'a, E: Engine> DamagedInput<'a, E> {
     /// Puts an engine that was given nothing under this damage.
-    pub fn new(damage: &'a Damages, engine: E) -> Damaged<'a, E>
+    pub fn new(damage: &'a Damages, engine: E) -> DamagedInput<'a, E>
         requires in_order { AreInOrder damage.now }
         requires fresh { E.stands engine [] }
-        ensures fresh { ⟦<Damaged<'a, E> as Engine>⟧.stands result [] }
-        ensures recipe { ⟦<Damaged<'a, E> as Engine>⟧.recipe result ≡ damaged_making damage.now (E.recipe engine) }
+        ensures fresh { ⟦<DamagedInput<'a, E> as Engine>⟧.stands result [] }
+        ensures recipe { ⟦<DamagedInput<'a, E> as Engine>⟧.recipe result ≡ damaged_making damage.now (E.recipe engine) }
     {
-        Damaged { damage, engine }
+        DamagedInput { damage, engine }
     }
 }
 
-impl<E: Engine> Engine for Damaged<'_, E> {
+impl<E: Engine> Engine for DamagedInput<'_, E> {
     ghost use Rattle.std.specs.Prelude.{List, ℕ};
     ghost use Rattle.dtx_make.specs.Hurt.{AreInOrder, hurt};
     ghost use Rattle.dtx_forms.specs.DamagedLaws.{hurt_starts, hurt_grows};

@@ -17,7 +17,7 @@ mod transmitting;
 pub use capturing::{Capturing, Setting, transform_in_rounds, transform_scaled};
 pub use changing::Changing;
 pub use combining::{Combining, combine};
-pub use damaged::Damaged;
+pub use damaged::DamagedInput;
 pub use logging::transform_logged;
 pub use plan_file::{changes_in, plan_in};
 pub use shapes::{

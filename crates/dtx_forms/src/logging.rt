@@ -11,7 +11,7 @@ ghost use Rattle.dtx_forms.specs.Logged.{logged, logged_job};
 ghost use Rattle.dtx_forms.specs.Stages.{IsStaged, stages_of};
 
 use crate::Transforming;
-use dtx_engine::{Engine, Input, Two, carry_out};
+use dtx_engine::{Engine, Input, TwoOutputs, carry_out};
 use dtx_meaning::{Outcome, Status, ended};
 use dtx_outside::{Shelf, Word};
 use dtx_words::repeated_name;
@@ -127,7 +127,7 @@ pub(crate) fn make_both<E: Engine, S: Shelf>(
         name: files.input,
         number: 0,
     };
-    match Two::new(alloc, files.output, files.log) {
+    match TwoOutputs::new(alloc, files.output, files.log) {
         Ok(mut outlet) => carry_out(alloc, engine, input, &mut outlet, shelf),
         Err(cause) => ended(Status::from(cause)),
     }

@@ -1,6 +1,6 @@
 // The host's files that were met, which means that this run has read or begun them, each under its name. For a begun
 // file this also holds the length that it must have, and the open file while that is held.
-use crate::found::{FileId, Found, add};
+use crate::found::{FileFacts, FileId, add};
 use dtx_outside::{ReadNo, WriteNo};
 use std::alloc::{AllocError, Global};
 use std::io::Write;
@@ -38,7 +38,7 @@ impl<F: Write + Drop> Met<F> {
     /// Compares the file with what was found under its name, and notes that this was done. It fails where the file was
     /// not begun, is another one, or doesn't have the length of all bytes appended. Then the name was given to another
     /// file, or another program writes to this one.
-    pub(crate) fn note_seen(&mut self, found: &Found) -> Result<(), WriteNo> {
+    pub(crate) fn note_seen(&mut self, found: &FileFacts) -> Result<(), WriteNo> {
         match self.added {
             Some(added) if self.is_as_found(found, added) => {
                 self.seen = added;
@@ -48,7 +48,7 @@ impl<F: Write + Drop> Met<F> {
         }
     }
 
-    fn is_as_found(&self, found: &Found, len: u64) -> bool {
+    fn is_as_found(&self, found: &FileFacts, len: u64) -> bool {
         self.id == found.id && (!found.is_file || found.len == len)
     }
 
@@ -112,7 +112,7 @@ impl<F: Write + Drop> FilesMet<F> {
     pub(crate) fn note_read(
         &mut self,
         name: &str,
-        found: &Found,
+        found: &FileFacts,
         place: u64,
     ) -> Result<(), ReadNo> {
         match self.id_under(name) {
@@ -136,7 +136,7 @@ impl<F: Write + Drop> FilesMet<F> {
 
     /// Whether beginning the file would lose what it holds for this run: it is a regular file that was read or begun
     /// before.
-    pub(crate) fn would_lose(&self, found: &Found) -> bool {
+    pub(crate) fn would_lose(&self, found: &FileFacts) -> bool {
         found.is_file && self.was_met(found.id)
     }
 
@@ -154,7 +154,7 @@ impl<F: Write + Drop> FilesMet<F> {
     pub(crate) fn note_begun(
         &mut self,
         name: String,
-        found: &Found,
+        found: &FileFacts,
         file: F,
     ) -> Result<(), WriteNo> {
         let begun = Met {
@@ -183,7 +183,7 @@ impl<F: Write + Drop> FilesMet<F> {
     pub(crate) fn hold(
         &mut self,
         name: &str,
-        found: &Found,
+        found: &FileFacts,
         file: F,
         bytes: &[u8],
     ) -> Result<(), WriteNo> {
@@ -209,7 +209,7 @@ impl<F: Write + Drop> FilesMet<F> {
     }
 
     /// The file that was begun under that name, where `found` is that file. There is room to hold it open then.
-    fn begun_as(&mut self, name: &str, found: &Found) -> Result<&mut Met<F>, WriteNo> {
+    fn begun_as(&mut self, name: &str, found: &FileFacts) -> Result<&mut Met<F>, WriteNo> {
         if self.held >= MOST_HELD {
             self.let_go();
         }
@@ -282,7 +282,7 @@ impl<F: Write + Drop> FilesMet<F> {
     }
 }
 
-fn is_still_there(id: FileId, found: &Found, place: u64) -> Result<(), ReadNo> {
+fn is_still_there(id: FileId, found: &FileFacts, place: u64) -> Result<(), ReadNo> {
     if id != found.id || (found.is_file && place > found.len) {
         Err(ReadNo::Failed)
     } else {

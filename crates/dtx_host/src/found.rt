@@ -18,7 +18,7 @@ pub(crate) struct FileId {
 
 /// What the host says of a file, found under a name or open.
 #[derive(Clone, Copy)]
-pub(crate) struct Found {
+pub(crate) struct FileFacts {
     pub(crate) id: FileId,
     pub(crate) len: u64,
     pub(crate) is_file: bool,
@@ -28,7 +28,7 @@ pub(crate) struct Found {
 }
 
 /// What the host says of the file of that name.
-pub(crate) fn found_under<R: Files>(rt: &R, name: &str) -> Result<Found, WriteNo> {
+pub(crate) fn found_under<R: Files>(rt: &R, name: &str) -> Result<FileFacts, WriteNo> {
     match fs::metadata(rt, name) {
         Ok(found) => Ok(found_of(&found)),
         Err(e) => Err(write_refusal(&e)),
@@ -36,16 +36,16 @@ pub(crate) fn found_under<R: Files>(rt: &R, name: &str) -> Result<Found, WriteNo
 }
 
 /// What the host says of that open file.
-pub(crate) fn found_open<F: OpenFile>(file: &F) -> Result<Found, ReadNo> {
+pub(crate) fn found_open<F: OpenFile>(file: &F) -> Result<FileFacts, ReadNo> {
     match file.metadata() {
         Ok(found) => Ok(found_of(&found)),
         Err(e) => Err(read_refusal(&e)),
     }
 }
 
-fn found_of(found: &Metadata) -> Found {
+fn found_of(found: &Metadata) -> FileFacts {
     let kind = found.file_type();
-    Found {
+    FileFacts {
         id: FileId {
             device: found.dev(),
             number: found.ino(),

@@ -2,7 +2,7 @@
 ghost use Rattle.std.specs.Prelude.{◌≤◌, IfOk, length};
 
 use crate::files_met::{FilesMet, Met};
-use crate::found::{FileId, Found, empty, found_open, found_under, has_places, open, read_at};
+use crate::found::{FileFacts, FileId, empty, found_open, found_under, has_places, open, read_at};
 use crate::pipe::{Pipe, Pipes};
 use crate::progress::Progress;
 use dtx_outside::{ReadNo, WriteNo};
@@ -190,7 +190,7 @@ impl<'a, R: Files + AllocGlobal + Clock + Eprint + Input> HostFiles<'a, R> {
     }
 
     /// Whether the file may not be begun. If so, `overlap` is true from now on.
-    fn overlaps(&mut self, found: &Found) -> bool {
+    fn overlaps(&mut self, found: &FileFacts) -> bool {
         let overlaps = self.met.would_lose(found)
             || self.pipes.has(found.id)
             || is_printed_to(self.rt, found);
@@ -207,7 +207,7 @@ impl<'a, R: Files + AllocGlobal + Clock + Eprint + Input> HostFiles<'a, R> {
     }
 
     /// Empties the open file. It refuses a disk, where each append would overwrite the one before.
-    fn emptied(&mut self, file: &R::File) -> Result<Found, WriteNo> {
+    fn emptied(&mut self, file: &R::File) -> Result<FileFacts, WriteNo> {
         let Ok(found) = found_open(file) else {
             return Err(WriteNo::Failed);
         };
@@ -308,7 +308,7 @@ fn opened_pipe<F: OpenFile + Seek>(file: &mut F, place: u64) -> Option<FileId> {
 
 /// Whether standard output goes to that file or pipe. Then the line that the program prints would overwrite what is
 /// written there, or follow it.
-fn is_printed_to<R: Files>(rt: &R, found: &Found) -> bool {
+fn is_printed_to<R: Files>(rt: &R, found: &FileFacts) -> bool {
     match found_under(rt, "/dev/stdout") {
         Ok(printed) => (found.is_file || found.is_pipe) && printed.id == found.id,
         Err(_) => false,

@@ -12,8 +12,8 @@ use Rattle.dtx_watch.specs.Watch.{reading_note, notes_at, notes_to, told, waitin
 use Rattle.dtx_watch.proofs.WatchLinesLemmas.{watch_text-append}
 use Rattle.dtx_watch.specs.WatchText.{note_text, watch_text}
 use Rattle.dtx_watch.specs.declared.notes.Note.{Note}
-use Rattle.dtx_watch.specs.declared.notes.What.{What}
-use Rattle.dtx_watch.specs.declared.notes.What.TheVariants.{Lock, Lost, Unread, Stray, Ops}
+use Rattle.dtx_watch.specs.declared.notes.NoteKind.{NoteKind}
+use Rattle.dtx_watch.specs.declared.notes.NoteKind.TheVariants.{Lock, Lost, Unread, Stray, Ops}
 use Rattle.dtx_watch.specs.declared.notes.StatesNote.{StatesNote}
 use Rattle.dtx_watch.specs.declared.notes.StatesNote.TheVariants as states
 use Rattle.dtx_watch.specs.declared.notes.ClockNote.{ClockNote}
@@ -63,7 +63,8 @@ few_notes d (suc n) =
 pub few_told : (d : List (List ℕ)) → length (told d) ≤ 2 * length d
 few_told d = omega (arith, few_notes d (length d - group_part d))
 
-count_few : (one : What → ℕ) → ((w : What) → one w ≤ 1) → (notes : List Note) → count_of one notes ≤ length notes
+count_few : (one : NoteKind → ℕ) → ((w : NoteKind) → one w ≤ 1) → (notes : List Note)
+    → count_of one notes ≤ length notes
 count_few one h [] = omega arith
 count_few one h (note ∷ notes) =
     omega (
@@ -73,7 +74,7 @@ count_few one h (note ∷ notes) =
       sum_by-cons (λ (x : Note). one x.what) note notes,
     )
 
-ops_few : (w : What) → one_ops w ≤ 1
+ops_few : (w : NoteKind) → one_ops w ≤ 1
 ops_few Lock = omega arith
 ops_few Lost = omega arith
 ops_few (Unread refusal) = omega arith
@@ -86,7 +87,7 @@ slip_few states.First = omega arith
 slip_few states.Right = omega arith
 slip_few states.Slip = omega arith
 
-slips_few : (w : What) → slips_of w ≤ 1
+slips_few : (w : NoteKind) → slips_of w ≤ 1
 slips_few Lock = omega arith
 slips_few Lost = omega arith
 slips_few (Unread refusal) = omega arith
@@ -98,21 +99,21 @@ jump_few clock.First = omega arith
 jump_few clock.Right = omega arith
 jump_few clock.Jump = omega arith
 
-jumps_few : (w : What) → jumps_of w ≤ 1
+jumps_few : (w : NoteKind) → jumps_of w ≤ 1
 jumps_few Lock = omega arith
 jumps_few Lost = omega arith
 jumps_few (Unread refusal) = omega arith
 jumps_few (Stray frame index) = omega arith
 jumps_few (Ops o) = jump_few o.clock
 
-unread_few : (w : What) → one_unread w ≤ 1
+unread_few : (w : NoteKind) → one_unread w ≤ 1
 unread_few Lock = omega arith
 unread_few Lost = omega arith
 unread_few (Unread refusal) = omega arith
 unread_few (Stray frame index) = omega arith
 unread_few (Ops o) = omega arith
 
-stray_few : (w : What) → one_stray w ≤ 1
+stray_few : (w : NoteKind) → one_stray w ≤ 1
 stray_few Lock = omega arith
 stray_few Lost = omega arith
 stray_few (Unread refusal) = omega arith
@@ -162,7 +163,7 @@ tally_parts n xs ys =
     (sym (sum_by-append (λ note. one_unread note.what) xs ys))
     (sym (sum_by-append (λ note. one_stray note.what) xs ys))
 
-count_more : (one : What → ℕ) (m : ℕ) (xs ys : List Note)
+count_more : (one : NoteKind → ℕ) (m : ℕ) (xs ys : List Note)
     → m + count_of one xs + count_of one ys ≡ m + count_of one (xs ++ ys)
 count_more one m xs ys = omega (arith, sum_by-append (λ (note : Note). one note.what) xs ys)
 

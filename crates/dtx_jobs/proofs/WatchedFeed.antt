@@ -35,8 +35,8 @@ use Rattle.dtx_watch.specs.declared.notes.Note.{Note}
 use Rattle.dtx_watch.specs.declared.notes.OpsNote.{OpsNote}
 use Rattle.dtx_watch.specs.declared.notes.StatesNote.{StatesNote}
 use Rattle.dtx_watch.specs.declared.notes.StatesNote.TheVariants as states
-use Rattle.dtx_watch.specs.declared.notes.What.{What}
-use Rattle.dtx_watch.specs.declared.notes.What.TheVariants as what
+use Rattle.dtx_watch.specs.declared.notes.NoteKind.{NoteKind}
+use Rattle.dtx_watch.specs.declared.notes.NoteKind.TheVariants as what
 use Rattle.dtx_forms.specs.Shapes.{single_packets}
 use Rattle.dtx_recipes.specs.Watch.{count_of, watch_numbers, watch_tally, watching, one_ops, one_slip, one_jump}
 use Rattle.dtx_recipes.specs.Watch.{slips_of, jumps_of, one_unread, one_stray}
@@ -97,7 +97,7 @@ read_is_ops p ops e false is =
 -- ---- what is told of each packet
 
 -- what the first note of an operations packet at its place says
-abbrev of_first : What → OpsNote → OpsNote
+abbrev of_first : NoteKind → OpsNote → OpsNote
 of_first (what.Ops o) rest = o
 of_first other rest = rest
 
@@ -246,7 +246,7 @@ each_counted said (k ∷ ks) =
       each_counted said ks,
     )
 
-none_counted : (one : What → ℕ) (said : ℕ → OpsNote) (ks : List ℕ) → All (λ k. one (what.Ops (said k)) ≡ 0) ks
+none_counted : (one : NoteKind → ℕ) (said : ℕ → OpsNote) (ks : List ℕ) → All (λ k. one (what.Ops (said k)) ≡ 0) ks
     → count_of one (map (ops_at said) ks) ≡ 0
 none_counted one said [] h = refl
 none_counted one said (k ∷ ks) h =
@@ -269,7 +269,7 @@ no_jump clock.Right h = refl
 no_jump clock.Jump h = absurd (h refl)
 
 -- with the note of the anchor, which isn't counted
-with_lock : (one : What → ℕ) → one what.Lock ≡ 0 → (notes : List Note)
+with_lock : (one : NoteKind → ℕ) → one what.Lock ≡ 0 → (notes : List Note)
     → count_of one ((record { packet = 0; what = what.Lock }) ∷ notes) ≡ count_of one notes
 with_lock one none notes =
     omega (
@@ -290,7 +290,7 @@ tally_calm : (d : List (List ℕ)) (said : ℕ → OpsNote) (n : ℕ) → AreCal
 tally_calm d said n calm =
     let ks : List ℕ = ops_packets d in
     let notes : List Note = map (ops_at said) ks in
-    let each : (one : What → ℕ) → ((k : ℕ) → Contains ks k → one (what.Ops (said k)) ≡ 0) → count_of one notes ≡ 0 =
+    let each : (one : NoteKind → ℕ) → ((k : ℕ) → Contains ks k → one (what.Ops (said k)) ≡ 0) → count_of one notes ≡ 0 =
     λ one none. none_counted one said ks (All-weaker (Contains ks) (λ k. one (what.Ops (said k)) ≡ 0) none ks
     (All-contains_itself ks)) in
     same_numbers n _ _ _ _ _ _ _ _ _ _ (with_lock one_ops refl notes ∙ each_counted said ks)

@@ -17,8 +17,8 @@ use Rattle.dtx_watch.specs.declared.notes.ClockNote.TheVariants as clock
 use Rattle.dtx_watch.specs.declared.notes.Note.{Note}
 use Rattle.dtx_watch.specs.declared.notes.StatesNote.{StatesNote}
 use Rattle.dtx_watch.specs.declared.notes.StatesNote.TheVariants as states
-use Rattle.dtx_watch.specs.declared.notes.What.{What}
-use Rattle.dtx_watch.specs.declared.notes.What.TheVariants as what
+use Rattle.dtx_watch.specs.declared.notes.NoteKind.{NoteKind}
+use Rattle.dtx_watch.specs.declared.notes.NoteKind.TheVariants as what
 use Rattle.dtx_meaning.specs.Meaning.{Meaning}
 use Rattle.dtx_meaning.specs.declared.status.Status.TheVariants.{Done}
 use Rattle.dtx_engine.specs.Made.{only, outputs_of}
@@ -38,21 +38,21 @@ use Rattle.dtx_recipes.specs.declared.watch_tally.WatchTally.{WatchTally}
 abbrev has_word : ℕ → List ℕ → List (List ℕ) → ℕ
 has_word place word words = cond (bytes_eq (get_or words place []) word) 1 0
 
-ops_word : (k : ℕ) (w : What) → has_word 0 (codes "ops") (first_word w ∷ later_words k w) ≡ one_ops w
+ops_word : (k : ℕ) (w : NoteKind) → has_word 0 (codes "ops") (first_word w ∷ later_words k w) ≡ one_ops w
 ops_word k what.Lock = refl
 ops_word k what.Lost = refl
 ops_word k (what.Unread refusal) = refl
 ops_word k (what.Stray frame index) = refl
 ops_word k (what.Ops o) = refl
 
-unread_word : (k : ℕ) (w : What) → has_word 0 (codes "unread") (first_word w ∷ later_words k w) ≡ one_unread w
+unread_word : (k : ℕ) (w : NoteKind) → has_word 0 (codes "unread") (first_word w ∷ later_words k w) ≡ one_unread w
 unread_word k what.Lock = refl
 unread_word k what.Lost = refl
 unread_word k (what.Unread refusal) = refl
 unread_word k (what.Stray frame index) = refl
 unread_word k (what.Ops o) = refl
 
-stray_word : (k : ℕ) (w : What) → has_word 0 (codes "stray") (first_word w ∷ later_words k w) ≡ one_stray w
+stray_word : (k : ℕ) (w : NoteKind) → has_word 0 (codes "stray") (first_word w ∷ later_words k w) ≡ one_stray w
 stray_word k what.Lock = refl
 stray_word k what.Lost = refl
 stray_word k (what.Unread refusal) = refl
@@ -70,14 +70,14 @@ is_jump clock.First = refl
 is_jump clock.Right = refl
 is_jump clock.Jump = refl
 
-slip_word : (k : ℕ) (w : What) → has_word 7 (codes "slip") (first_word w ∷ later_words k w) ≡ slips_of w
+slip_word : (k : ℕ) (w : NoteKind) → has_word 7 (codes "slip") (first_word w ∷ later_words k w) ≡ slips_of w
 slip_word k what.Lock = refl
 slip_word k what.Lost = refl
 slip_word k (what.Unread refusal) = refl
 slip_word k (what.Stray frame index) = refl
 slip_word k (what.Ops o) = is_slip o.states
 
-jump_word : (k : ℕ) (w : What) → has_word 8 (codes "jump") (first_word w ∷ later_words k w) ≡ jumps_of w
+jump_word : (k : ℕ) (w : NoteKind) → has_word 8 (codes "jump") (first_word w ∷ later_words k w) ≡ jumps_of w
 jump_word k what.Lock = refl
 jump_word k what.Lost = refl
 jump_word k (what.Unread refusal) = refl
@@ -85,8 +85,8 @@ jump_word k (what.Stray frame index) = refl
 jump_word k (what.Ops o) = is_jump o.clock
 
 -- notes and their lines
-notes_counted : (f : List (List ℕ) → ℕ) (one : What → ℕ)
-    → ((k : ℕ) (w : What) → f (first_word w ∷ later_words k w) ≡ one w)
+notes_counted : (f : List (List ℕ) → ℕ) (one : NoteKind → ℕ)
+    → ((k : ℕ) (w : NoteKind) → f (first_word w ∷ later_words k w) ≡ one w)
     → (notes : List Note) → sum_by f (map note_words notes) ≡ count_of one notes
 notes_counted f one same [] = refl
 notes_counted f one same (note ∷ notes) =
@@ -94,8 +94,8 @@ notes_counted f one same (note ∷ notes) =
     ∙ ap₂ (λ (m n : ℕ). m + n) (same note.packet note.what) (notes_counted f one same notes)
     ∙ sym (sum_by-cons (λ (x : Note). one x.what) note notes)
 
-lines_counted : (place : ℕ) (word : List ℕ) (one : What → ℕ)
-    → ((k : ℕ) (w : What) → has_word place word (first_word w ∷ later_words k w) ≡ one w)
+lines_counted : (place : ℕ) (word : List ℕ) (one : NoteKind → ℕ)
+    → ((k : ℕ) (w : NoteKind) → has_word place word (first_word w ∷ later_words k w) ≡ one w)
     → has_word place word ([] ∷ []) ≡ 0 → (notes : List Note)
     → count_of one notes ≡ lines_with place word (watch_text notes)
 unfolding lines_with

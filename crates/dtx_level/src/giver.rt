@@ -4,7 +4,7 @@ ghost use Rattle.std.specs.Prelude.{◌≡◌, ◌≤◌, false, IfOk, length, m
 ghost use Rattle.dtx_level.specs.Levelled.{level};
 
 use crate::levels::Levels;
-use dtx_acquire::{Held, MOST_HELD};
+use dtx_acquire::{MOST_HELD, SymbolWindow};
 use dtx_sizes::SEGMENT;
 use std::alloc::{AllocError, Global};
 
@@ -32,7 +32,7 @@ impl Giver {
     }
 
     /// Gives the first `count` of the held symbols, levelled, and lets them go.
-    pub(crate) fn give(&mut self, held: &mut Held, count: usize)
+    pub(crate) fn give(&mut self, held: &mut SymbolWindow, count: usize)
         requires most { count ≤ MOST_HELD }
         requires room { count ≤ length held.old }
         ensures given { take self.new.count self.new.given.items

@@ -14,7 +14,7 @@ use crate::measure::{Measure, measure_of};
 use crate::pattern::Pattern;
 use crate::step::{Step, step_of};
 use crate::tally::Tally;
-use dtx_acquire::{Held, MOST_HELD, search};
+use dtx_acquire::{MOST_HELD, SymbolWindow, search};
 use dtx_sizes::{MOST_SYMBOLS, SEGMENT};
 use std::alloc::{AllocError, Global};
 use std::marker::Model;
@@ -27,7 +27,7 @@ use std::marker::Model;
 #[derive(Drop)]
 pub struct Leveller {
     pattern: Pattern,
-    held: Held,
+    held: SymbolWindow,
     on: bool,
     giver: Giver,
     silent: u64,
@@ -75,7 +75,7 @@ impl Leveller {
     {
         Ok(Leveller {
             pattern: Pattern::new(),
-            held: Held::new(alloc)?,
+            held: SymbolWindow::new(alloc)?,
             on: false,
             giver: Giver::new(alloc)?,
             silent: 0,
@@ -190,7 +190,6 @@ impl Leveller {
     {
         let count = self.held.take(symbols);
         self.symbols += count as u64;
-        let _held = self.held.len();
         count
     }
 

@@ -1,6 +1,6 @@
 -- What is certain of a kind of shelf before any call, and what a read can answer then.
 use Rattle.std.specs.Prelude.{ℕ, ◌+◌, ◌<◌, ◌≤◌, List, Option, Some, None, Result, Ok, Err}
-use Rattle.dtx_outside.specs.declared.filling.Filled.{Filled}
+use Rattle.dtx_outside.specs.declared.filling.ReadExtent.{ReadExtent}
 use Rattle.dtx_outside.specs.declared.shelf.ReadNo.{ReadNo}
 use Rattle.dtx_outside.specs.declared.shelf.ReadNo.TheVariants.{Absent, Failed, Memory}
 
@@ -23,6 +23,6 @@ IsForeseenRead (Some n) place wanted (Err Failed) = n < place + wanted
 IsForeseenRead (Some n) place wanted (Err Memory) = Unit {0}
 
 -- the same of reads that fill a buffer of `wanted` bytes
-abbrev pub IsForeseenFill : Option ℕ → ℕ → ℕ → Result Filled ReadNo → Type 0
+abbrev pub IsForeseenFill : Option ℕ → ℕ → ℕ → Result ReadExtent ReadNo → Type 0
 IsForeseenFill readable place wanted (Ok filled) = IsForeseenRead readable place wanted (Ok filled.count)
 IsForeseenFill readable place wanted (Err cause) = IsForeseenRead readable place wanted (Err cause)

@@ -13,7 +13,7 @@ mod sink;
 mod sink_refusals;
 mod word;
 
-pub use filling::{Filled, fill, fill_least};
+pub use filling::{ReadExtent, fill, fill_least};
 pub use memory_shelf::{Call, MemoryShelf};
 pub use memory_sink::MemorySink;
 pub use output::{FILE_PAGE, Output, PIECE};

@@ -4,7 +4,7 @@ ghost use Rattle.dtx_forms.specs.Job.{IsJobPerformed};
 ghost use Rattle.dtx_recipes.specs.Place.{place_job};
 
 use crate::placing::Placing;
-use dtx_engine::Each;
+use dtx_engine::EachUnit;
 use dtx_forms::transform;
 use dtx_meaning::Outcome;
 use dtx_outside::{Shelf, Word};
@@ -21,5 +21,5 @@ pub fn place<S: Shelf>(alloc: Global, words: &[Word], shelf: &mut S) -> Outcome
     ensures stages { IsStaged S.foreseen (place_job.stages words.now) result.status
         (S.files shelf.old) (S.files shelf.new) (S.counts shelf.old) (S.counts shelf.new) }
 {
-    transform::<Each<Placing>, S>(alloc, words, shelf)
+    transform::<EachUnit<Placing>, S>(alloc, words, shelf)
 }

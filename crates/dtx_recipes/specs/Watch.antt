@@ -9,8 +9,8 @@ use Rattle.dtx_packets.specs.Packets.{packets_of}
 use Rattle.dtx_watch.specs.Watch.{watch, told, waiting}
 use Rattle.dtx_watch.specs.WatchText.{watch_text}
 use Rattle.dtx_watch.specs.declared.notes.Note.{Note}
-use Rattle.dtx_watch.specs.declared.notes.What.{What}
-use Rattle.dtx_watch.specs.declared.notes.What.TheVariants.{Unread, Stray, Ops}
+use Rattle.dtx_watch.specs.declared.notes.NoteKind.{NoteKind}
+use Rattle.dtx_watch.specs.declared.notes.NoteKind.TheVariants.{Unread, Stray, Ops}
 use Rattle.dtx_watch.specs.declared.notes.StatesNote.{StatesNote}
 use Rattle.dtx_watch.specs.declared.notes.StatesNote.TheVariants as states
 use Rattle.dtx_watch.specs.declared.notes.ClockNote.{ClockNote}
@@ -35,7 +35,7 @@ waiting_bytes packets = watch_text (waiting packets)
 
 -- 1 or 0 for a note. The definitions count operations packets at their places, states that slip, stamps that jump,
 -- operations packets that don't read, and operations packets that aren't at their places.
-abbrev pub one_ops : What → ℕ
+abbrev pub one_ops : NoteKind → ℕ
 one_ops (Ops o) = 1
 one_ops other = 0
 
@@ -47,24 +47,24 @@ abbrev pub one_jump : ClockNote → ℕ
 one_jump clock.Jump = 1
 one_jump other = 0
 
-abbrev pub slips_of : What → ℕ
+abbrev pub slips_of : NoteKind → ℕ
 slips_of (Ops o) = one_slip o.states
 slips_of other = 0
 
-abbrev pub jumps_of : What → ℕ
+abbrev pub jumps_of : NoteKind → ℕ
 jumps_of (Ops o) = one_jump o.clock
 jumps_of other = 0
 
-abbrev pub one_unread : What → ℕ
+abbrev pub one_unread : NoteKind → ℕ
 one_unread (Unread refusal) = 1
 one_unread other = 0
 
-abbrev pub one_stray : What → ℕ
+abbrev pub one_stray : NoteKind → ℕ
 one_stray (Stray frame index) = 1
 one_stray other = 0
 
 -- how many notes there are of a kind
-abbrev pub count_of : (What → ℕ) → List Note → ℕ
+abbrev pub count_of : (NoteKind → ℕ) → List Note → ℕ
 count_of one notes = sum_by (λ note. one note.what) notes
 
 -- the numbers of these notes on so many packets

@@ -1,12 +1,12 @@
 -- The numbers of notes, as they are counted (the profile's own).
 use Rattle.std.specs.Prelude.{ℕ, ◌+◌, ◌^◌, ◌<◌, List}
 use Rattle.dtx_watch.specs.declared.notes.Note.{Note}
-use Rattle.dtx_watch.specs.declared.notes.What.{What}
+use Rattle.dtx_watch.specs.declared.notes.NoteKind.{NoteKind}
 use Rattle.dtx_recipes.specs.Watch.{count_of, one_ops, slips_of, jumps_of, one_unread, one_stray}
 use Rattle.dtx_recipes.specs.declared.watch_tally.WatchTally.{WatchTally}
 
 -- the numbers with one note more, and no packet
-abbrev pub tally_of_one : WatchTally → What → WatchTally
+abbrev pub tally_of_one : WatchTally → NoteKind → WatchTally
 tally_of_one tally what = record {
   packets = tally.packets;
   ops = tally.ops + one_ops what;

@@ -14,7 +14,7 @@ use Rattle.dtx_watch.specs.WatchLines.{lines_with}
 use Rattle.dtx_watch.specs.WatchText.{note_text, watch_text}
 use Rattle.dtx_watch.specs.declared.notes.Note.{Note}
 use Rattle.dtx_watch.specs.declared.notes.OpsNote.{OpsNote}
-use Rattle.dtx_watch.specs.declared.notes.What.TheVariants.{Ops as OpsAt}
+use Rattle.dtx_watch.specs.declared.notes.NoteKind.TheVariants.{Ops as OpsAt}
 use Rattle.dtx_recipes.specs.Watch.{watch_numbers}
 use Rattle.dtx_recipes.specs.declared.watch_tally.WatchTally.{WatchTally}
 

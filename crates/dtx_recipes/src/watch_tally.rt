@@ -3,7 +3,7 @@ ghost use Rattle.std.specs.Prelude.{◌≡◌, ◌≤◌, []};
 ghost use Rattle.dtx_recipes.specs.Watch.{watch_tally, watch_numbers, one_slip, one_jump};
 ghost use Rattle.dtx_recipes.specs.WatchTally.{HasRoom, tally_of_one};
 
-use dtx_watch::{ClockNote, Note, StatesNote, What};
+use dtx_watch::{ClockNote, Note, NoteKind, StatesNote};
 
 /// The number of packets watched, and of the notes of each kind: operations packets at their places, states that slip,
 /// stamps that jump, operations packets that don't read, and operations packets that aren't at their places.
@@ -38,10 +38,10 @@ impl WatchTally {
         ensures { self.new ≡ tally_of_one self.old note.now.what }
     {
         match note.what {
-            What::Lock | What::Lost => {}
-            What::Unread(_) => self.unread += 1,
-            What::Stray { .. } => self.stray += 1,
-            What::Ops(ops) => {
+            NoteKind::Lock | NoteKind::Lost => {}
+            NoteKind::Unread(_) => self.unread += 1,
+            NoteKind::Stray { .. } => self.stray += 1,
+            NoteKind::Ops(ops) => {
                 self.ops += 1;
                 self.slips += one_slip(ops.states);
                 self.jumps += one_jump(ops.clock);

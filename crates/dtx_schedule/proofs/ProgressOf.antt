@@ -20,7 +20,7 @@ use Rattle.dtx_schedule.specs.Progress.{IsProgressOf, IsComplete, Progress, begu
 use Rattle.dtx_schedule.proofs.ProgressLemmas.{all_files, all_played, only_begun}
 use Rattle.dtx_schedule.specs.TransmitterFiles.{AreFronts, Contents, files_of, nothing, played}
 use Rattle.dtx_schedule.specs.TransmitterFiles.{played_outputs}
-use Rattle.dtx_schedule.specs.declared.playing.Played.{Played}
+use Rattle.dtx_schedule.specs.declared.playing.PlayedSchedule.{PlayedSchedule}
 use Rattle.dtx_schedule.proofs.Fronts.{front_same, fronts_then, steps_grow}
 
 -- ---- while the files were begun
@@ -129,7 +129,7 @@ progress_played ts steps held now is = (
   is ∙ ap (λ outputs. with_outputs outputs (Some held)) (sym (all_files (played steps) ts)),
 )
 
-pub progress_of : (ts : List Transmitter) (steps : List Step) (held : Files) (result : Result Played Status)
+pub progress_of : (ts : List Transmitter) (steps : List Step) (held : Files) (result : Result PlayedSchedule Status)
     (now : Option Files) → IsPlayOf ts steps held result now → IsProgressOf ts steps held result now
 progress_of ts steps held (Ok done) now is = progress_played ts steps held now is.files
 progress_of ts steps held (Err status) now is = broken_off ts steps held now is.off

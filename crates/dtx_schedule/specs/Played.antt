@@ -12,7 +12,7 @@ use Rattle.dtx_net.specs.Steps.{Step}
 use Rattle.dtx_schedule.specs.TransmitterFiles.{files_of, nothing, played_outputs}
 use Rattle.dtx_schedule.specs.PlayedSoFar.{IsPlayedSoFar, IsUnderWay}
 use Rattle.dtx_schedule.specs.Playout.{IsPlayout}
-use Rattle.dtx_schedule.specs.declared.playing.Played.{Played}
+use Rattle.dtx_schedule.specs.declared.playing.PlayedSchedule.{PlayedSchedule}
 use Rattle.dtx_schedule.specs.declared.playout.Playout.{Playout}
 
 -- each event is one of a transmitter of the plan, and there are at most as many as a plan has
@@ -43,7 +43,7 @@ pub record IsPlayFault (ts : List Transmitter) (steps : List Step) (held : Files
   pub off : IsBrokenOff ts steps held now
 
 -- all steps were done, and the files hold what they write
-pub record ArePlayed (ts : List Transmitter) (steps : List Step) (held : Files) (played : Played)
+pub record ArePlayed (ts : List Transmitter) (steps : List Step) (held : Files) (played : PlayedSchedule)
     (now : Option Files) : Type 0 where
   pub files : now ≡ with_outputs (played_outputs ts steps) (Some held)
   pub playing : IsPlayout ts played.playout steps
@@ -54,6 +54,6 @@ IsRunOf ts steps held (Ok _) playout now = IsPlayedSoFar ts steps held playout n
 IsRunOf ts steps held (Err status) playout now = IsPlayFault ts steps held status now
 
 -- What playing a schedule of these steps answers, and which files it leaves where `held` were there before.
-abbrev pub IsPlayOf : List Transmitter → List Step → Files → Result Played Status → Option Files → Type 0
+abbrev pub IsPlayOf : List Transmitter → List Step → Files → Result PlayedSchedule Status → Option Files → Type 0
 IsPlayOf ts steps held (Ok played) now = ArePlayed ts steps held played now
 IsPlayOf ts steps held (Err status) now = IsPlayFault ts steps held status now

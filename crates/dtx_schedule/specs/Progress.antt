@@ -6,7 +6,7 @@ use Rattle.dtx_meaning.specs.declared.status.Status.{Status}
 use Rattle.dtx_plan.specs.declared.transmitter.Transmitter.{Transmitter}
 use Rattle.dtx_net.specs.Steps.{Step}
 use Rattle.dtx_schedule.specs.TransmitterFiles.{AreFronts, Contents, files_of, nothing, played}
-use Rattle.dtx_schedule.specs.declared.playing.Played.{Played}
+use Rattle.dtx_schedule.specs.declared.playing.PlayedSchedule.{PlayedSchedule}
 
 -- How far a schedule of these steps came, and what stands in the files of the transmitters.
 pub record Progress (ts : List Transmitter) (steps : List Step) : Type 0 where
@@ -36,7 +36,7 @@ pub record IsComplete (ts : List Transmitter) (steps : List Step) (progress : Pr
 
 -- How far playing a schedule came, whatever it answers. It came to the end, or on an error less far. Only the files
 -- that were begun have changed.
-abbrev pub IsProgressOf : List Transmitter → List Step → Files → Result Played Status → Option Files → Type 0
+abbrev pub IsProgressOf : List Transmitter → List Step → Files → Result PlayedSchedule Status → Option Files → Type 0
 IsProgressOf ts steps held (Ok played) now =
     (progress : Progress ts steps) × IsComplete ts steps progress
     × (now ≡ with_outputs (begun_files ts steps progress) (Some held))

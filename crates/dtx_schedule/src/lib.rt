@@ -12,4 +12,4 @@ mod playing;
 mod playout;
 
 pub use inside::first_past_feed;
-pub use playing::{Played, play};
+pub use playing::{PlayedSchedule, play};

@@ -29,11 +29,11 @@ use std::alloc::Global;
 
 /// A schedule that was played to its end: its numbers.
 #[derive(Drop)]
-pub struct Played {
+pub struct PlayedSchedule {
     playout: Playout,
 }
 
-impl Played {
+impl PlayedSchedule {
     /// How many packets were given to transmitters: the number of steps that aren't restarts.
     pub fn steps(&self) -> u64
         ensures { (ts : List Transmitter) (steps : List Step) → IsPlayout ts self.now.playout steps
@@ -75,7 +75,7 @@ pub fn play<S: Shelf>(
     shelf: &mut S,
     transmitters: &[Transmitter],
     events: &Events,
-) -> Result<Played, Status>
+) -> Result<PlayedSchedule, Status>
     requires transmitters { AreTransmitters transmitters.now }
     requires events { AreEvents transmitters.now events.now }
     ensures played { (held : Files) (feed : List ℕ) → S.files shelf.old ≡ Some held
@@ -98,7 +98,7 @@ pub fn play<S: Shelf>(
         Err(_) => return Err(Status::Memory),
     };
     match play_with(alloc, shelf, events, &mut playout) {
-        Ok(()) => Ok(Played { playout }),
+        Ok(()) => Ok(PlayedSchedule { playout }),
         Err(status) => Err(status),
     }
 }

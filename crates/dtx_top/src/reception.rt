@@ -16,7 +16,7 @@ ghost use Rattle.dtx_top.specs.NetAnswers.{IsOfReplay};
 ghost use Rattle.dtx_top.specs.NetMeaning.{received_past};
 
 use dtx_engine::{Input, carry_to_one};
-use dtx_forms::Damaged;
+use dtx_forms::DamagedInput;
 use dtx_jobs::Reception;
 use dtx_meaning::{Outcome, Status, ended};
 use dtx_outside::Shelf;
@@ -69,7 +69,7 @@ fn receive<S: Shelf>(alloc: Global, shelf: &mut S, receiver: &ReceivePlan) -> Ou
                 name: name.as_str(),
                 number: 3,
             };
-            let mut engine = Damaged::new(&receiver.damage, Steps::new(reception));
+            let mut engine = DamagedInput::new(&receiver.damage, Steps::new(reception));
             carry_to_one(alloc, &mut engine, input, received_name(), shelf)
         }
         Err(cause) => ended(Status::from(cause)),

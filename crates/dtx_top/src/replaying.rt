@@ -26,7 +26,7 @@ use dtx_meaning::{Outcome, Status, ended};
 use dtx_outside::Shelf;
 use dtx_packet_jobs::Feeder;
 use dtx_plan::{NetPlan, Plan};
-use dtx_schedule::{Played, first_past_feed, play};
+use dtx_schedule::{PlayedSchedule, first_past_feed, play};
 use dtx_sizes::SEGMENT;
 use dtx_words::feed_name;
 use std::alloc::Global;
@@ -139,7 +139,7 @@ fn receive_played<S: Shelf>(
     network: &NetPlan,
     shelf: &mut S,
     fed: &Outcome,
-    played: &Played,
+    played: &PlayedSchedule,
 ) -> Outcome
     requires { IfSome network.now.receive (λ receiver. AreDamages receiver.damage) }
     ensures carried { (plan : Plan) (held : Files) (stream : List (List ℕ))

@@ -22,7 +22,7 @@ use Rattle.dtx_exciter.proofs.JoinedLemmas.{last_same, settled_same, held_more, 
 use Rattle.dtx_exciter.proofs.JoinedLemmas.{partial_full}
 use Rattle.dtx_exciter.proofs.GroupSentLemmas.{IsGiven, runs_more}
 use Rattle.dtx_watch.specs.declared.notes.Note.{Note}
-use Rattle.dtx_watch.specs.declared.notes.What.TheVariants as what
+use Rattle.dtx_watch.specs.declared.notes.NoteKind.TheVariants as what
 use Rattle.dtx_watch.specs.declared.telling.Expected.{Expected}
 use Rattle.dtx_watch.specs.declared.telling.Expected.TheVariants.{Early, First, These}
 use Rattle.dtx_watch.specs.declared.watcher.Watcher.{Watcher}

@@ -30,7 +30,7 @@ use Rattle.dtx_exciter.proofs.UnderLemmas.{length-syncs, under_nothing}
 use Rattle.dtx_watch.proofs.AnchorsLemmas.{no_anchor}
 use Rattle.dtx_watch.proofs.ToldLemmas.{early, not_whole, counts}
 use Rattle.dtx_watch.specs.declared.notes.Note.{Note}
-use Rattle.dtx_watch.specs.declared.notes.What.TheVariants.{Lock, Ops as OpsAt}
+use Rattle.dtx_watch.specs.declared.notes.NoteKind.TheVariants.{Lock, Ops as OpsAt}
 use Rattle.dtx_watch.specs.declared.notes.StatesNote.{StatesNote}
 use Rattle.dtx_watch.specs.declared.notes.StatesNote.TheVariants as states_are
 use Rattle.dtx_watch.specs.declared.notes.ClockNote.{ClockNote}

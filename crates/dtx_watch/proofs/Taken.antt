@@ -12,7 +12,7 @@ use Rattle.dtx_ops.specs.Reading.{reading}
 use Rattle.dtx_exciter.specs.Packets.{syncs, under, part_of, group_part}
 use Rattle.dtx_exciter.proofs.UnderLemmas.{Goes, goes, syncs_push}
 use Rattle.dtx_watch.specs.declared.notes.Note.{Note}
-use Rattle.dtx_watch.specs.declared.notes.What.TheVariants as what
+use Rattle.dtx_watch.specs.declared.notes.NoteKind.TheVariants as what
 use Rattle.dtx_watch.specs.declared.telling.Expected.TheVariants.{Early}
 use Rattle.dtx_watch.specs.declared.watcher.Watcher.{Watcher}
 use Rattle.dtx_watch.specs.Notes.{packet_note, one_or_none}

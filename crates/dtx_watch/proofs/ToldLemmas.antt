@@ -27,7 +27,7 @@ use Rattle.dtx_exciter.proofs.ForceLemmas.{force_left}
 use Rattle.dtx_exciter.proofs.RangesLemmas.{flat_map-range_moved}
 use Rattle.dtx_exciter.proofs.UnderLemmas.{Follows, goes, said_append, length-said, length-syncs}
 use Rattle.dtx_watch.specs.declared.notes.Note.{Note}
-use Rattle.dtx_watch.specs.declared.notes.What.TheVariants as what
+use Rattle.dtx_watch.specs.declared.notes.NoteKind.TheVariants as what
 use Rattle.dtx_watch.specs.declared.telling.Expected.TheVariants.{Early, These}
 use Rattle.dtx_watch.specs.Notes.{packet_note, lock_note, one_or_none}
 use Rattle.dtx_watch.specs.Clock.{stamp_in}

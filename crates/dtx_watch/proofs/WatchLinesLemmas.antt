@@ -14,8 +14,8 @@ use Rattle.dtx_watch.specs.declared.notes.ClockNote.TheVariants as clock
 use Rattle.dtx_watch.specs.declared.notes.Note.{Note}
 use Rattle.dtx_watch.specs.declared.notes.StatesNote.{StatesNote}
 use Rattle.dtx_watch.specs.declared.notes.StatesNote.TheVariants as states
-use Rattle.dtx_watch.specs.declared.notes.What.{What}
-use Rattle.dtx_watch.specs.declared.notes.What.TheVariants as what
+use Rattle.dtx_watch.specs.declared.notes.NoteKind.{NoteKind}
+use Rattle.dtx_watch.specs.declared.notes.NoteKind.TheVariants as what
 use Rattle.dtx_watch.specs.WatchLines.{words_of_lines, first_word, later_words, note_words}
 use Rattle.dtx_watch.specs.WatchText.{states_word, clock_word, note_head, note_end, note_text, watch_text}
 
@@ -54,7 +54,7 @@ number n = digits_word 64 n [] (All-nil (λ b. 33 ≤ b))
 spelled : (word : List ℕ) → AllByRecursion (λ b. 33 ≤ b) word → IsWord word
 spelled word h = All-from_recursion (λ b. 33 ≤ b) word h
 
-first_is : (w : What) → IsWord (first_word w)
+first_is : (w : NoteKind) → IsWord (first_word w)
 first_is what.Lock =
     spelled (codes "lock") (omega arith, (omega arith, (omega arith, (omega arith, tt))))
 first_is what.Lost =
@@ -85,7 +85,7 @@ clock_is clock.Right =
 clock_is clock.Jump =
     spelled (codes "jump") (omega arith, (omega arith, (omega arith, (omega arith, tt))))
 
-later_are : (k : ℕ) (w : What) → AllByRecursion IsWord (later_words k w)
+later_are : (k : ℕ) (w : NoteKind) → AllByRecursion IsWord (later_words k w)
 later_are k what.Lock = (number k, tt)
 later_are k what.Lost = (number k, tt)
 later_are k (what.Unread refusal) = (number k, (number _, tt))
@@ -136,7 +136,7 @@ one_line word words h k =
     (All-append (λ b. 32 ≤ b) word (spaced words)
     (All-weaker (λ b. 33 ≤ b) (λ b. 32 ≤ b) (λ b l. omega (arith, l)) word h) (spaced_long words k))
 
-line_is : (k : ℕ) (w : What)
+line_is : (k : ℕ) (w : NoteKind)
     → note_head k w ++ note_end w ≡ (first_word w ++ spaced (later_words k w)) ++ 10 ∷ []
 line_is k what.Lock = refl
 line_is k what.Lost = refl

@@ -5,8 +5,8 @@ use Rattle.dtx_ops.specs.declared.fields.Ops.{Ops}
 use Rattle.dtx_ops.specs.declared.refusal.OpsNo.{OpsNo}
 use Rattle.dtx_ops.specs.declared.refusal.OpsNo.TheVariants.{NotOps}
 use Rattle.dtx_watch.specs.declared.notes.Note.{Note}
-use Rattle.dtx_watch.specs.declared.notes.What.{What}
-use Rattle.dtx_watch.specs.declared.notes.What.TheVariants.{Lock, Lost, Unread, Stray, Ops as OpsAt}
+use Rattle.dtx_watch.specs.declared.notes.NoteKind.{NoteKind}
+use Rattle.dtx_watch.specs.declared.notes.NoteKind.TheVariants.{Lock, Lost, Unread, Stray, Ops as OpsAt}
 use Rattle.dtx_watch.specs.declared.notes.OpsNote.{OpsNote}
 use Rattle.dtx_watch.specs.declared.notes.StatesNote.{StatesNote}
 use Rattle.dtx_watch.specs.declared.notes.StatesNote.TheVariants as states
@@ -34,7 +34,7 @@ ops_note expected latest ops = record {
 }
 
 -- what the note says of a packet that reads, at this place of its frame, or at none without an anchor
-abbrev pub read_note : Option ℕ → Expected → Option Stamped → Ops → What
+abbrev pub read_note : Option ℕ → Expected → Option Stamped → Ops → NoteKind
 read_note None expected latest ops = Stray ops.frame ops.index
 read_note (Some place) expected latest ops =
     if ops.index == place then OpsAt (ops_note expected latest ops) else Stray ops.frame ops.index

@@ -9,7 +9,7 @@ use Rattle.dtx_ops.specs.declared.refusal.OpsNo.{OpsNo}
 use Rattle.dtx_ops.specs.declared.refusal.OpsNo.TheVariants.{NotOps}
 use Rattle.dtx_ops.specs.Reading.{reading}
 use Rattle.dtx_watch.specs.declared.notes.Note.{Note}
-use Rattle.dtx_watch.specs.declared.notes.What.TheVariants.{Lock, Ops as OpsAt}
+use Rattle.dtx_watch.specs.declared.notes.NoteKind.TheVariants.{Lock, Ops as OpsAt}
 use Rattle.dtx_watch.specs.declared.notes.OpsNote.{OpsNote}
 use Rattle.dtx_watch.specs.declared.notes.StatesNote.TheVariants as states_are
 use Rattle.dtx_watch.specs.declared.notes.ClockNote.TheVariants as clock_is

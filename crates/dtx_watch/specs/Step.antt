@@ -12,7 +12,7 @@ use Rattle.dtx_exciter.specs.Order.{either, ordered}
 use Rattle.dtx_exciter.specs.Packets.{reads}
 use Rattle.dtx_exciter.specs.Step.{bytes_of}
 use Rattle.dtx_watch.specs.declared.notes.Note.{Note}
-use Rattle.dtx_watch.specs.declared.notes.What.TheVariants.{Lock}
+use Rattle.dtx_watch.specs.declared.notes.NoteKind.TheVariants.{Lock}
 use Rattle.dtx_watch.specs.declared.stamped.Stamped.{Stamped}
 use Rattle.dtx_watch.specs.declared.telling.Expected.{Expected}
 use Rattle.dtx_watch.specs.declared.telling.Expected.TheVariants.{Early, First, These}

@@ -9,7 +9,7 @@ use Rattle.dtx_ops.specs.Reading.{reading}
 use Rattle.dtx_exciter.specs.Order.{Order, either, ordered_at, orders}
 use Rattle.dtx_exciter.specs.Packets.{readings, anchor_of, group_part}
 use Rattle.dtx_watch.specs.declared.notes.Note.{Note}
-use Rattle.dtx_watch.specs.declared.notes.What.TheVariants.{Lock}
+use Rattle.dtx_watch.specs.declared.notes.NoteKind.TheVariants.{Lock}
 use Rattle.dtx_watch.specs.declared.stamped.Stamped.{Stamped}
 use Rattle.dtx_watch.specs.declared.telling.Expected.{Expected}
 use Rattle.dtx_watch.specs.declared.telling.Expected.TheVariants.{Early, First, These}

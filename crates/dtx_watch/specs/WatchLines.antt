@@ -3,8 +3,8 @@ use Rattle.std.specs.Prelude.{ℕ, ◌==◌, List, [], ◌∷◌, codes, decimal
 use Rattle.std.specs.List.{slice_split, count_by}
 use Rattle.std.specs.Str.{bytes_eq}
 use Rattle.dtx_watch.specs.declared.notes.Note.{Note}
-use Rattle.dtx_watch.specs.declared.notes.What.{What}
-use Rattle.dtx_watch.specs.declared.notes.What.TheVariants as what
+use Rattle.dtx_watch.specs.declared.notes.NoteKind.{NoteKind}
+use Rattle.dtx_watch.specs.declared.notes.NoteKind.TheVariants as what
 use Rattle.dtx_watch.specs.WatchText.{rule_number, states_word, clock_word}
 
 -- The words of each line of a text. The text is cut at its line feeds, and each line at its spaces. What stands behind
@@ -18,7 +18,7 @@ lines_with place word text =
     count_by (λ words. bytes_eq (slice_index_or words place []) word) (words_of_lines text)
 
 -- the first word of a note's line, by which it is told from others
-abbrev pub first_word : What → List ℕ
+abbrev pub first_word : NoteKind → List ℕ
 first_word what.Lock = codes "lock"
 first_word what.Lost = codes "lost"
 first_word (what.Unread refusal) = codes "unread"
@@ -26,7 +26,7 @@ first_word (what.Stray frame index) = codes "stray"
 first_word (what.Ops o) = codes "ops"
 
 -- the words behind it, of a note on packet k
-abbrev pub later_words : ℕ → What → List (List ℕ)
+abbrev pub later_words : ℕ → NoteKind → List (List ℕ)
 later_words k what.Lock = decimal k ∷ []
 later_words k what.Lost = decimal k ∷ []
 later_words k (what.Unread refusal) = decimal k ∷ decimal (rule_number refusal) ∷ []

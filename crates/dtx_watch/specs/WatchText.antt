@@ -4,8 +4,8 @@ use Rattle.dtx_ops.specs.declared.refusal.OpsNo.{OpsNo}
 use Rattle.dtx_ops.specs.declared.refusal.OpsNo.TheVariants.{NotOps, Uncorrectable, Kind, Pad, Stamp, Delay, Index}
 use Rattle.dtx_ops.specs.declared.refusal.OpsNo.TheVariants.{Count, Twice, Fill, Page}
 use Rattle.dtx_watch.specs.declared.notes.Note.{Note}
-use Rattle.dtx_watch.specs.declared.notes.What.{What}
-use Rattle.dtx_watch.specs.declared.notes.What.TheVariants as what
+use Rattle.dtx_watch.specs.declared.notes.NoteKind.{NoteKind}
+use Rattle.dtx_watch.specs.declared.notes.NoteKind.TheVariants as what
 use Rattle.dtx_watch.specs.declared.notes.StatesNote.{StatesNote}
 use Rattle.dtx_watch.specs.declared.notes.StatesNote.TheVariants as states
 use Rattle.dtx_watch.specs.declared.notes.ClockNote.{ClockNote}
@@ -43,7 +43,7 @@ abbrev pub numbers_text : List ℕ → List ℕ
 numbers_text numbers = flat_map (λ n. codes " " ++ decimal n) numbers
 
 -- a line's word and its numbers
-abbrev pub note_head : ℕ → What → List ℕ
+abbrev pub note_head : ℕ → NoteKind → List ℕ
 note_head k what.Lock = codes "lock" ++ numbers_text (k ∷ [])
 note_head k what.Lost = codes "lost" ++ numbers_text (k ∷ [])
 note_head k (what.Unread refusal) = codes "unread" ++ numbers_text (k ∷ rule_number refusal ∷ [])
@@ -52,7 +52,7 @@ note_head k (what.Ops o) =
     codes "ops" ++ numbers_text (k ∷ o.frame ∷ o.index ∷ o.stamp ∷ o.max_delay ∷ o.listed ∷ [])
 
 -- the words behind a line's numbers, if any, and a line feed
-abbrev pub note_end : What → List ℕ
+abbrev pub note_end : NoteKind → List ℕ
 note_end (what.Ops o) = codes " " ++ (states_word o.states ++ (codes " " ++ (clock_word o.clock ++ codes "\n")))
 note_end other = codes "\n"
 

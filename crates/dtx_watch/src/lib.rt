@@ -10,6 +10,6 @@ mod telling;
 mod watch_text;
 mod watcher;
 
-pub use notes::{ClockNote, MOST_NOTES, Note, OpsNote, StatesNote, What};
+pub use notes::{ClockNote, MOST_NOTES, Note, NoteKind, OpsNote, StatesNote};
 pub use watch_text::{WATCH_LINE, write_note};
 pub use watcher::Watcher;

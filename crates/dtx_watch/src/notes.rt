@@ -49,7 +49,7 @@ pub struct OpsNote {
 
 /// What a note says of a packet.
 #[derive(Clone, Copy, Default)]
-pub enum What {
+pub enum NoteKind {
     /// It is an anchor, and there was none before it.
     #[default]
     Lock,
@@ -69,5 +69,5 @@ pub struct Note {
     /// The number of the packet, from 0.
     pub packet: u64,
     /// What the note says of it.
-    pub what: What,
+    pub what: NoteKind,
 }

@@ -4,7 +4,7 @@ ghost use Rattle.dtx_ops.specs.Spelling.{IsValid};
 ghost use Rattle.dtx_exciter.specs.Order.{either};
 ghost use Rattle.dtx_watch.specs.Notes.{states_note, ops_note, read_note, packet_note, one_or_none};
 
-use crate::notes::{MOST_NOTES, Note, OpsNote, StatesNote, What};
+use crate::notes::{MOST_NOTES, Note, NoteKind, OpsNote, StatesNote};
 use crate::stamped::{Stamped, clock_note};
 use arrayvec::ArrayVec;
 use dtx_ops::{Ops, OpsNo};
@@ -41,19 +41,24 @@ pub(crate) fn packet_note(
         Err(OpsNo::NotOps) => None,
         Err(refusal) => Some(Note {
             packet: number,
-            what: What::Unread(*refusal),
+            what: NoteKind::Unread(*refusal),
         }),
     }
 }
 
 /// What the note says of a packet that reads.
-fn read_note(place: Option<u16>, expected: &Expected, latest: Option<Stamped>, ops: &Ops) -> What
+fn read_note(
+    place: Option<u16>,
+    expected: &Expected,
+    latest: Option<Stamped>,
+    ops: &Ops,
+) -> NoteKind
     requires { IsValid ops.now }
     ensures { result ≡ read_note place expected.now latest ops.now }
 {
     match place {
-        Some(place) if ops.index == place => What::Ops(ops_note(expected, latest, ops)),
-        _ => What::Stray {
+        Some(place) if ops.index == place => NoteKind::Ops(ops_note(expected, latest, ops)),
+        _ => NoteKind::Stray {
             frame: ops.frame,
             index: ops.index,
         },

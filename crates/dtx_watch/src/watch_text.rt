@@ -2,9 +2,9 @@
 ghost use Rattle.std.specs.Prelude.{◌≡◌, ◌+◌, ◌*◌, ◌≤◌, ◌++◌, length, codes, decimal};
 ghost use Rattle.dtx_watch.specs.WatchText.{rule_number, states_word, clock_word, numbers_text};
 ghost use Rattle.dtx_watch.specs.WatchText.{note_head, note_end, note_text};
-ghost use Rattle.dtx_watch.specs.declared.notes.What.TheVariants.{Ops};
+ghost use Rattle.dtx_watch.specs.declared.notes.NoteKind.TheVariants.{Ops};
 
-use crate::notes::{ClockNote, Note, OpsNote, StatesNote, What};
+use crate::notes::{ClockNote, Note, NoteKind, OpsNote, StatesNote};
 use arrayvec::ArrayString;
 use dtx_ops::OpsNo;
 use itoa::Buffer;
@@ -23,18 +23,18 @@ pub fn write_note(note: &Note, text: &mut ArrayString<WATCH_LINE>)
 }
 
 /// Sets the text to the word and the numbers of a note.
-fn write_front(packet: u64, what: What, text: &mut ArrayString<WATCH_LINE>)
+fn write_front(packet: u64, what: NoteKind, text: &mut ArrayString<WATCH_LINE>)
     ensures text { text.new.bytes ≡ note_head packet what }
     ensures short { length text.new.bytes ≤ 134 }
 {
     match what {
-        What::Lock => write_head("lock", &[packet], text),
-        What::Lost => write_head("lost", &[packet], text),
-        What::Unread(refusal) => write_head("unread", &[packet, rule_number(refusal)], text),
-        What::Stray { frame, index } => {
+        NoteKind::Lock => write_head("lock", &[packet], text),
+        NoteKind::Lost => write_head("lost", &[packet], text),
+        NoteKind::Unread(refusal) => write_head("unread", &[packet, rule_number(refusal)], text),
+        NoteKind::Stray { frame, index } => {
             write_head("stray", &[packet, frame as u64, index as u64], text);
         }
-        What::Ops(ops) => write_ops(packet, &ops, text),
+        NoteKind::Ops(ops) => write_ops(packet, &ops, text),
     }
 }
 
@@ -89,12 +89,12 @@ fn push_number(number: u64, text: &mut ArrayString<WATCH_LINE>)
 }
 
 /// Appends the words that follow a line's numbers, if any, and a line feed to the text.
-fn push_end(what: What, text: &mut ArrayString<WATCH_LINE>)
+fn push_end(what: NoteKind, text: &mut ArrayString<WATCH_LINE>)
     requires { length text.old.bytes ≤ 134 }
     ensures { text.new.bytes ≡ text.old.bytes ++ note_end what }
 {
     match what {
-        What::Ops(ops) => push_words(ops.states, ops.clock, text),
+        NoteKind::Ops(ops) => push_words(ops.states, ops.clock, text),
         _ => text.push_str("\n"),
     }
 }

@@ -15,7 +15,7 @@ ghost use Rattle.dtx_watch.specs.Step.{group_at_hand, order_of, earliest, stampe
 ghost use Rattle.dtx_watch.specs.Step.{expected_of, IsEnded, IsSame};
 ghost use Rattle.dtx_watch.specs.Kept.{StandsFor, KeepsUnder, HasRoom, WasGiven, IsTaken, Joins};
 
-use crate::notes::{MOST_NOTES, Note, What};
+use crate::notes::{MOST_NOTES, Note, NoteKind};
 use crate::stamped::{Stamped, stamp_in};
 use crate::telling::{
     Expected, first_of, is_first_group, is_ordered, packet_note, preset_of, push_some,
@@ -91,7 +91,7 @@ impl Watcher {
             Seen::Lost => {
                 notes.push(Note {
                     packet: number,
-                    what: What::Lost,
+                    what: NoteKind::Lost,
                 });
                 self.tell_free(number, packet, notes);
             }
@@ -232,7 +232,7 @@ impl Watcher {
         if is_first_group(self.first, self.flushed) {
             notes.push(Note {
                 packet: self.count.saturating_sub(self.part as u64),
-                what: What::Lock,
+                what: NoteKind::Lock,
             });
         }
     }

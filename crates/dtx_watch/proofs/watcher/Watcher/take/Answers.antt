@@ -3,7 +3,7 @@ use Rattle.dtx_ops.specs.Reading.{reading}
 use Rattle.dtx_exciter.specs.Packets.{syncs}
 use Rattle.dtx_watch.specs.Notes.{packet_note, one_or_none}
 use Rattle.dtx_watch.specs.declared.telling.Expected.TheVariants.{Early}
-use Rattle.dtx_watch.specs.declared.notes.What.TheVariants as what
+use Rattle.dtx_watch.specs.declared.notes.NoteKind.TheVariants as what
 use Rattle.dtx_watch.proofs.Taken.{taken_free, taken_lost, taken_start, taken_at}
 use Rattle.dtx_watch.proofs.watcher.Watcher.take.Goals as goal
 
