@@ -34,9 +34,9 @@ filled_more n w f rows row ln h k g = record {
 -- and sixteen rows stay of sixteen bytes
 pub long_more : (n i : ℕ) (rows : List (List ℕ)) (row : List ℕ) → n < length rows → length row ≡ 16
     → length (get_or rows i []) ≡ 16 → length (get_or (set rows n row) i []) ≡ 16
-long_more n i rows row l h k = by_cases (cases_eq i n)
-  where
-    by_cases : (i ≡ n) ⊎ (i ≡ n → ⊥) → length (get_or (set rows n row) i []) ≡ 16
-    by_cases (inl p) = ap (λ x. length (get_or (set rows n row) x [])) p
-        ∙ ap length (get_or-set_same rows n row [] l) ∙ h
-    by_cases (inr p) = ap length (get_or-set_other rows n i row [] p) ∙ k
+long_more n i rows row l h k = elim (cases_eq i n) [
+  | inl p ↦
+      ap (λ x. length (get_or (set rows n row) x [])) p
+      ∙ ap length (get_or-set_same rows n row [] l) ∙ h
+  | inr p ↦ ap length (get_or-set_other rows n i row [] p) ∙ k
+]

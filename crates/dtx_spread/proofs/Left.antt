@@ -1,13 +1,13 @@
 -- What leaves, and what stays in the branches, where the bytes at all places have gone through.
-use Rattle.std.proofs.Common.{◌≡◌, ℕ, suc, ◌+◌, ◌-◌, ◌*◌, ◌/◌, ◌%◌, ◌<◌, ◌≤◌, ◌⊎◌, inl, inr, List, [], ◌∷◌}
-use Rattle.std.proofs.Common.{◌++◌, length, get_or, drop, sym, ap, ap₂, subst, subst₂, ◌∙◌, arith, add-zero}
-use Rattle.std.proofs.Common.{◌==◌, set, mod-eq_of_lt, div-add-mod', add-mul}
+use Rattle.std.proofs.Common.{◌≡◌, ℕ, suc, ◌+◌, ◌-◌, ◌*◌, ◌/◌, ◌%◌, ◌<◌, ◌≤◌, ◌⊎◌, inl, inr, List, [], ◌∷◌, ◌++◌}
+use Rattle.std.proofs.Common.{length, get_or, drop, sym, ap, ap₂, subst, subst₂, ◌∙◌, arith, add-zero, ◌==◌, set}
+use Rattle.std.proofs.Common.{mod-eq_of_lt, div-add-mod', add-mul}
 use Rattle.std.proofs.lemmas.Bool.{cases_lt, cases_eq, cond-true, cond-false, eq-eqb, ne_eqb}
 use Rattle.std.proofs.lemmas.Nat.{mod_below, div-mul-add, mod-mul-add}
 use Rattle.std.proofs.lemmas.List.{ext_get_or, length-append, length-drop, get_or-drop, get_or_append_left}
 use Rattle.std.proofs.lemmas.List.{get_or-append_right}
 use Rattle.dtx_laws.specs.Branches.{Branching, HasWidths, after_byte, leaving_all, after_all}
-use Rattle.dtx_laws.proofs.PlacesLemmas.{Holds, Holds-step, Holds-turn, Stands, leaving_all_is, length_leaving}
+use Rattle.dtx_laws.proofs.PlacesLemmas.{Holds, Stands, Stands-all, leaving_all_is, length_leaving}
 use Rattle.dtx_spread.specs.Rings.{branch_at, count_at, column, ArePassed}
 use Rattle.dtx_spread.proofs.Turns.{place_of, later, later_from, later_before, branch_there, place_less, IsTurn, turns}
 use Rattle.dtx_spread.proofs.Turns.{row_counts, from_row, come_early, come_late}
@@ -36,10 +36,7 @@ begin b w v xs h = record {
 
 -- ones that are below b have no turn behind them
 no_turn : (b n : ℕ) → n < b → 0 ≡ n / b
-no_turn b n l = sym (ap (λ x. x / b) (none b n) ∙ div-mul-add 0 b n l)
-  where
-    none : (b n : ℕ) → n ≡ 0 * b + n
-    none b n = omega arith
+no_turn b n l = sym (ap (λ x. x / b) (omega arith) ∙ div-mul-add 0 b n l)
 
 stands : (b : ℕ) (w : ℕ → ℕ) (v : Branching) (xs : List ℕ) → HasWidths b w v → Stands b w (ever b v xs) v.next v
 stands b w v xs h = (
@@ -62,69 +59,9 @@ comes b w v xs h k l =
     sym (ap₂ (λ p n. get_or (get_or v.lists ((v.next + k) % b) [] ++ column b xs p) n 0) t.place e
     ∙ get_or-append_right (get_or v.lists ((v.next + k) % b) []) (column b xs (k % b)) (w ((v.next + k) % b))
     (w ((v.next + k) % b) + k / b) 0 m (omega arith)
-    ∙ ap (λ n. get_or (column b xs (k % b)) n 0) (back (w ((v.next + k) % b)) (k / b))
+    ∙ ap (λ n. get_or (column b xs (k % b)) n 0) (omega arith)
     ∙ column_at b xs (k % b) (k / b) (row_counts b (length xs) k o l)
     ∙ ap (λ n. get_or xs n 0) (from_row b k))
-  where
-    back : (a c : ℕ) → a + c - a ≡ c
-    back a c = omega arith
-
--- one byte further
-one_more : (b : ℕ) (w : ℕ → ℕ) (e : ℕ → ℕ → ℕ) (n : ℕ) (v : Branching) (byte : ℕ) → 0 < b → Stands b w e n v
-    → byte ≡ e (n % b) (n / b + w (n % b)) → Stands b w e (n + 1) (after_byte b v byte)
-one_more b w e n v byte p s c = by_cases (cases_eq (n % b + 1) b)
-  where
-    l : n % b < b
-    l = mod_below n b p
-
-    lists : List (List ℕ)
-    lists = set v.lists v.next (drop 1 (get_or v.lists v.next [] ++ byte ∷ []))
-
-    stepped : Holds b w e (n / b) (n % b + 1) lists
-    stepped =
-        subst (λ (x : ℕ). Holds b w e (n / b) (n % b + 1) (set v.lists x (drop 1 (get_or v.lists x [] ++ byte ∷ []))))
-        (sym s.0)
-        (subst (λ (x : ℕ). Holds b w e (n / b) x
-        (set v.lists (n % b) (drop 1 (get_or v.lists (n % b) [] ++ byte ∷ [])))) (suc_is (n % b))
-        (Holds-step b w e (n / b) (n % b) v.lists byte s.1 l c))
-      where
-        suc_is : (r : ℕ) → suc r ≡ r + 1
-        suc_is r = omega arith
-
-    by_cases : (n % b + 1 ≡ b) ⊎ (n % b + 1 ≡ b → ⊥) → Stands b w e (n + 1) (after_byte b v byte)
-    by_cases (inl f) =
-        let h : n + 1 ≡ (n / b + 1) * b + 0 = omega (arith, div-add-mod' n b, add-mul (n / b) 1 b) in
-        let d : (n + 1) / b ≡ n / b + 1 = ap (λ x. x / b) h ∙ div-mul-add (n / b + 1) b 0 p in
-        let m : (n + 1) % b ≡ 0 = ap (λ x. x % b) h ∙ mod-mul-add (n / b + 1) b 0 p in (
-          cond-true (v.next + 1 == b) 0 (v.next + 1) (eq-eqb (v.next + 1) b (omega (arith, s.0, f))) ∙ sym m,
-          subst₂ (λ (q r : ℕ). Holds b w e q r lists) (sym d) (sym m)
-              (Holds-turn b w e (n / b) lists (subst (λ (k : ℕ). Holds b w e (n / b) k lists) f stepped)),
-        )
-    by_cases (inr f) =
-        let h : n + 1 ≡ n / b * b + (n % b + 1) = omega (arith, div-add-mod' n b) in
-        let k : n % b + 1 < b = omega arith in
-        let d : (n + 1) / b ≡ n / b = ap (λ x. x / b) h ∙ div-mul-add (n / b) b (n % b + 1) k in
-        let m : (n + 1) % b ≡ n % b + 1 = ap (λ x. x % b) h ∙ mod-mul-add (n / b) b (n % b + 1) k in (
-          cond-false (v.next + 1 == b) 0 (v.next + 1) (ne_eqb (v.next + 1) b (λ g. f (omega (arith, s.0, g))))
-              ∙ ap (λ x. x + 1) s.0 ∙ sym m,
-          subst₂ (λ (q r : ℕ). Holds b w e q r lists) (sym d) (sym m) stepped,
-        )
-
--- the branches after any bytes
-stands_all : (b : ℕ) (w : ℕ → ℕ) (e : ℕ → ℕ → ℕ) (n : ℕ) (v : Branching) (xs : List ℕ) → 0 < b → Stands b w e n v
-    → ((k : ℕ) → k < length xs → get_or xs k 0 ≡ e ((n + k) % b) ((n + k) / b + w ((n + k) % b)))
-    → Stands b w e (n + length xs) (after_all b v xs)
-unfolding after_all
-stands_all b w e n v [] p s c = subst (λ (k : ℕ). Stands b w e k v) (sym (add-zero n)) s
-stands_all b w e n v (x ∷ xs) p s c =
-    let a : x ≡ e (n % b) (n / b + w (n % b)) = c 0 (omega arith)
-    ∙ ap (λ i. e (i % b) (i / b + w (i % b))) (add-zero n) in
-    subst (λ (k : ℕ). Stands b w e k (after_all b (after_byte b v x) xs)) (sym (further n (length xs)))
-    (stands_all b w e (n + 1) (after_byte b v x) xs p (one_more b w e n v x p s a)
-    (λ j m. c (suc j) (omega arith) ∙ ap (λ i. e (i % b) (i / b + w (i % b))) (further n j)))
-  where
-    further : (n j : ℕ) → n + suc j ≡ n + 1 + j
-    further n j = omega arith
 
 -- ---- the two clauses of a pass
 
@@ -160,7 +97,7 @@ passed_branches b w v new bytes out h a =
     o = omega (arith, h.next)
 
     s : Stands b w (ever b v bytes) (v.next + length bytes) (after_all b v bytes)
-    s = stands_all b w (ever b v bytes) v.next v bytes o (stands b w v bytes h) (comes b w v bytes h)
+    s = Stands-all b w (ever b v bytes) v.next v bytes o (stands b w v bytes h) (comes b w v bytes h)
 
     all : ℕ → List ℕ
     all i = get_or v.lists i [] ++ column b bytes (place_of b v.next i)

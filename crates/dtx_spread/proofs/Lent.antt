@@ -33,7 +33,7 @@ pub branches_after : (b : ℕ) (w : ℕ → ℕ) (next turn n : ℕ) (rings lent
 branches_after b w next turn n rings lent new bytes out h e k l a t =
     ap₂ branches_of t (lent_whole n rings new k (l ∙ ap length e))
     ∙ passed_branches b w (branches_of next rings) (lists_of new) bytes out h
-    (subst (λ rs. ArePassed b next 0 b (lists_of rs) (lists_of new) bytes out) e a)
+    (rw (← e) a)
 
 pub bytes_after : (b : ℕ) (w : ℕ → ℕ) (next : ℕ) (rings lent new : List (Buffer ℕ)) (bytes out : List ℕ)
     → HasWidths b w (branches_of next rings) → lent ≡ rings
@@ -41,7 +41,7 @@ pub bytes_after : (b : ℕ) (w : ℕ → ℕ) (next : ℕ) (rings lent new : Lis
     → out ≡ leaving_all b (branches_of next rings) bytes
 bytes_after b w next rings lent new bytes out h e a =
     passed_bytes b w (branches_of next rings) (lists_of new) bytes out h
-    (subst (λ rs. ArePassed b next 0 b (lists_of rs) (lists_of new) bytes out) e a)
+    (rw (← e) a)
 
 -- the bytes from place `done` on, replaced by those that leave
 pub passed_more : (b done count : ℕ) (v now : Branching) (old cur part new : List ℕ) → done + count ≤ length old

@@ -1,6 +1,6 @@
 -- Items moved towards the front of their list, sixteen at a time.
-use Rattle.std.proofs.Common.{◌≡◌, ℕ, ◌+◌, ◌-◌, ◌*◌, ◌/◌, ◌<◌, ◌≤◌, ◌⊎◌, inl, inr, List, length, get_or, sym, ap}
-use Rattle.std.proofs.Common.{◌∙◌, subst, arith}
+use Rattle.std.proofs.Common.{◌≡◌, ℕ, ◌+◌, ◌-◌, ◌*◌, ◌/◌, ◌<◌, ◌≤◌, ◌⊎◌, inl, inr, List, length, get_or, sym, ap, ◌∙◌}
+use Rattle.std.proofs.Common.{subst, arith}
 use Rattle.std.proofs.lemmas.Bool.{cases_lt}
 use Rattle.std.proofs.lemmas.Simd.{length-chunk, length-put_chunk, get_or-chunk, get_or-put_chunk_below}
 use Rattle.std.proofs.lemmas.Simd.{get_or-put_chunk_at, get_or-put_chunk_above}
@@ -37,9 +37,7 @@ pub pair_moved : (m t n : ℕ) (items moved : List ℕ) → t ≡ m + 16 + 16 �
     → AreMoved t n items
     (put_chunk (m + 16) (put_chunk m moved (chunk (m + n) 16 moved)) (chunk (m + 16 + n) 16 moved))
 pair_moved m t n items moved e room lm h =
-    subst (λ (x : ℕ). AreMoved x n items
-    (put_chunk (m + 16) (put_chunk m moved (chunk (m + n) 16 moved)) (chunk (m + 16 + n) 16 moved))) (sym e)
-    (moved_more (m + 16) n items (put_chunk m moved (chunk (m + n) 16 moved)) (chunk (m + 16 + n) 16 moved)
+    rw e (moved_more (m + 16) n items (put_chunk m moved (chunk (m + n) 16 moved)) (chunk (m + 16 + n) 16 moved)
     (omega (arith, length-put_chunk m moved (chunk (m + n) 16 moved))) (long (m + 16 + n) (omega arith))
     (λ k l. moved_row m n (m + 16 + n) items moved (omega arith) h k l
     ∙ ap (λ x. get_or items x 0) (omega arith))

@@ -1,6 +1,6 @@
 -- Calls of fewer than sixteen rows: columns of sixteen bytes, one behind the other, and rows of b bytes in sixteen.
-use Rattle.std.proofs.Common.{◌≡◌, ℕ, ◌+◌, ◌-◌, ◌*◌, ◌/◌, ◌%◌, ◌<◌, ◌≤◌, ◌⊎◌, inl, inr, List, [], ◌++◌, length}
-use Rattle.std.proofs.Common.{get_or, take, drop, sym, ap, ◌∙◌, arith, add-mul, mul-le-mul_right}
+use Rattle.std.proofs.Common.{◌≡◌, ℕ, ◌+◌, ◌-◌, ◌*◌, ◌/◌, ◌%◌, ◌<◌, ◌≤◌, ◌⊎◌, inl, inr, List, [], ◌++◌, length, get_or}
+use Rattle.std.proofs.Common.{take, drop, sym, ap, ◌∙◌, arith, add-mul, mul-le-mul_right}
 use Rattle.std.proofs.lemmas.Bool.{cases_lt, cases_eq}
 use Rattle.std.proofs.lemmas.Nat.{mod_below}
 use Rattle.std.proofs.lemmas.List.{length-drop, length-take-le, get_or-take, get_or-drop, get_or_append_left}
@@ -19,17 +19,15 @@ pub flat_more : (n c r : ℕ) (bytes : List ℕ) (tile : List (List ℕ)) → n 
     → ((c r : ℕ) → c < n → r < 16 → get_or bytes (c * 16 + r) 0 ≡ get_or (get_or tile c []) r 0)
     → c < n + 1 → r < 16
     → get_or (put_chunk (n * 16) bytes (get_or tile n [])) (c * 16 + r) 0 ≡ get_or (get_or tile c []) r 0
-flat_more n c r bytes tile l lb lr before k m = by_cases (cases_eq c n)
-  where
-    by_cases : (c ≡ n) ⊎ (c ≡ n → ⊥)
-        → get_or (put_chunk (n * 16) bytes (get_or tile n [])) (c * 16 + r) 0 ≡ get_or (get_or tile c []) r 0
-    by_cases (inl e) =
-        ap (λ x. get_or (put_chunk (n * 16) bytes (get_or tile n [])) (x * 16 + r) 0) e
-        ∙ get_or-put_chunk_at (n * 16) bytes (get_or tile n []) r 0 (omega arith) (omega arith)
-        ∙ ap (λ x. get_or (get_or tile x []) r 0) (sym e)
-    by_cases (inr o) =
-        get_or-put_chunk_below (n * 16) bytes (get_or tile n []) (c * 16 + r) 0 (omega arith)
-        ∙ before c r (omega arith) m
+flat_more n c r bytes tile l lb lr before k m = elim (cases_eq c n) [
+  | inl e ↦
+      ap (λ x. get_or (put_chunk (n * 16) bytes (get_or tile n [])) (x * 16 + r) 0) e
+      ∙ get_or-put_chunk_at (n * 16) bytes (get_or tile n []) r 0 (omega arith) (omega arith)
+      ∙ ap (λ x. get_or (get_or tile x []) r 0) (sym e)
+  | inr o ↦
+      get_or-put_chunk_below (n * 16) bytes (get_or tile n []) (c * 16 + r) 0 (omega arith)
+      ∙ before c r (omega arith) m
+]
 
 -- the columns of sixteen places more are taken
 pub places_taken : (b t p r z : ℕ) (rows old new : List ℕ) → 256 * t ≤ length old → length new ≡ 256
@@ -37,16 +35,14 @@ pub places_taken : (b t p r z : ℕ) (rows old new : List ℕ) → 256 * t ≤ l
     → ((c r : ℕ) → c < 16 → r < 16 → get_or new (c * 16 + r) 0 ≡ get_or rows (16 * t + c + r * b) 0)
     → p < 16 * (t + 1) → r < 16
     → get_or (put_mid (256 * t) z old new) (p * 16 + r) 0 ≡ get_or rows (p + r * b) 0
-places_taken b t p r z rows old new within long before taken l m = by_cases (cases_lt p (16 * t))
-  where
-    by_cases : (p < 16 * t) ⊎ (16 * t ≤ p)
-        → get_or (put_mid (256 * t) z old new) (p * 16 + r) 0 ≡ get_or rows (p + r * b) 0
-    by_cases (inl h) = written_before (256 * t) z (p * 16 + r) old new within (omega arith) ∙ before p r h m
-    by_cases (inr h) =
-        let e : 16 * t + (p - 16 * t) ≡ p = omega arith in
-        ap (λ x. get_or (put_mid (256 * t) z old new) x 0) (omega (arith, e))
-        ∙ written_at (256 * t) z ((p - 16 * t) * 16 + r) old new within (omega arith)
-        ∙ taken (p - 16 * t) r (omega arith) m ∙ ap (λ x. get_or rows (x + r * b) 0) e
+places_taken b t p r z rows old new within long before taken l m = elim (cases_lt p (16 * t)) [
+  | inl h ↦ written_before (256 * t) z (p * 16 + r) old new within (omega arith) ∙ before p r h m
+  | inr h ↦
+      let e : 16 * t + (p - 16 * t) ≡ p = omega arith in
+      ap (λ x. get_or (put_mid (256 * t) z old new) x 0) (omega (arith, e))
+      ∙ written_at (256 * t) z ((p - 16 * t) * 16 + r) old new within (omega arith)
+      ∙ taken (p - 16 * t) r (omega arith) m ∙ ap (λ x. get_or rows (x + r * b) 0) e
+]
 
 -- a byte of sixteen columns
 pub part_byte : (t c r z : ℕ) (columns : List ℕ) → z ≡ 256 → c < 16 → r < 16
@@ -67,32 +63,26 @@ pub over_there : (b n p c k : ℕ) (rows : List ℕ) (tile : List (List ℕ)) �
     → ((c k : ℕ) → c < 16 → p + c < b → k < n → get_or rows (p + c + k * b) 0 ≡ get_or (get_or tile k []) c 0)
     → c < 16 → p + c < b → k < n + 1
     → get_or (put_chunk (p + n * b) rows (get_or tile n [])) (p + c + k * b) 0 ≡ get_or (get_or tile k []) c 0
-over_there b n p c k rows tile lr room before l m o = by_cases (cases_eq k n)
-  where
-    swap : (a d e : ℕ) → a + d + e ≡ a + e + d
-    swap a d e = omega arith
-
-    by_cases : (k ≡ n) ⊎ (k ≡ n → ⊥)
-        → get_or (put_chunk (p + n * b) rows (get_or tile n [])) (p + c + k * b) 0 ≡ get_or (get_or tile k []) c 0
-    by_cases (inl e) =
-        ap (λ x. get_or (put_chunk (p + n * b) rows (get_or tile n [])) x 0)
-        (ap (λ x. p + c + x * b) e ∙ swap p c (n * b))
-        ∙ get_or-put_chunk_at (p + n * b) rows (get_or tile n []) c 0 (omega (arith, l, lr)) (omega (arith, room, lr))
-        ∙ ap (λ x. get_or (get_or tile x []) c 0) (sym e)
-    by_cases (inr f) =
-        get_or-put_chunk_below (p + n * b) rows (get_or tile n []) (p + c + k * b) 0
-        (omega (arith, row_before b (p + c) k n m (omega arith))) ∙ before c k l m (omega arith)
+over_there b n p c k rows tile lr room before l m o = elim (cases_eq k n) [
+  | inl e ↦
+      ap (λ x. get_or (put_chunk (p + n * b) rows (get_or tile n [])) x 0)
+      (ap (λ x. p + c + x * b) e ∙ omega arith)
+      ∙ get_or-put_chunk_at (p + n * b) rows (get_or tile n []) c 0 (omega (arith, l, lr)) (omega (arith, room, lr))
+      ∙ ap (λ x. get_or (get_or tile x []) c 0) (sym e)
+  | inr f ↦
+      get_or-put_chunk_below (p + n * b) rows (get_or tile n []) (p + c + k * b) 0
+      (omega (arith, row_before b (p + c) k n m (omega arith))) ∙ before c k l m (omega arith)
+]
 
 pub over_elsewhere : (b n p q k : ℕ) (rows row : List ℕ) → length row ≡ 16 → p + 16 ≤ q → q < b
     → get_or (put_chunk (p + n * b) rows row) (q + k * b) 0 ≡ get_or rows (q + k * b) 0
-over_elsewhere b n p q k rows row lr l m = by_row (cases_lt k n)
-  where
-    by_row : (k < n) ⊎ (n ≤ k) → get_or (put_chunk (p + n * b) rows row) (q + k * b) 0 ≡ get_or rows (q + k * b) 0
-    by_row (inl h) =
-        get_or-put_chunk_below (p + n * b) rows row (q + k * b) 0 (omega (arith, row_before b q k n m h))
-    by_row (inr h) =
-        let g : n * b ≤ k * b = mul-le-mul_right b h in
-        get_or-put_chunk_above (p + n * b) rows row (q + k * b) 0 (omega (arith, g, lr, l))
+over_elsewhere b n p q k rows row lr l m = elim (cases_lt k n) [
+  | inl h ↦
+      get_or-put_chunk_below (p + n * b) rows row (q + k * b) 0 (omega (arith, row_before b q k n m h))
+  | inr h ↦
+      let g : n * b ≤ k * b = mul-le-mul_right b h in
+      get_or-put_chunk_above (p + n * b) rows row (q + k * b) 0 (omega (arith, g, lr, l))
+]
 
 -- the places from 16 * t on are put
 pub places_put : (b t p r : ℕ) (columns old new : List ℕ)
@@ -101,14 +91,13 @@ pub places_put : (b t p r : ℕ) (columns old new : List ℕ)
     → get_or new (16 * t + c + r * b) 0 ≡ get_or columns ((16 * t + c) * 16 + r) 0)
     → ((p r : ℕ) → 16 * t + 16 ≤ p → p < b → r < 16 → get_or new (p + r * b) 0 ≡ get_or old (p + r * b) 0)
     → 16 * t ≤ p → p < b → r < 16 → get_or new (p + r * b) 0 ≡ get_or columns (p * 16 + r) 0
-places_put b t p r columns old new before put others l m o = by_cases (cases_lt p (16 * t + 16))
-  where
-    by_cases : (p < 16 * t + 16) ⊎ (16 * t + 16 ≤ p) → get_or new (p + r * b) 0 ≡ get_or columns (p * 16 + r) 0
-    by_cases (inl h) =
-        let e : 16 * t + (p - 16 * t) ≡ p = omega arith in
-        ap (λ x. get_or new (x + r * b) 0) (sym e) ∙ put (p - 16 * t) r (omega arith) (omega (arith, e, m)) o
-        ∙ ap (λ x. get_or columns (x * 16 + r) 0) e
-    by_cases (inr h) = others p r h m o ∙ before p r (omega arith) m o
+places_put b t p r columns old new before put others l m o = elim (cases_lt p (16 * t + 16)) [
+  | inl h ↦
+      let e : 16 * t + (p - 16 * t) ≡ p = omega arith in
+      ap (λ x. get_or new (x + r * b) 0) (sym e) ∙ put (p - 16 * t) r (omega arith) (omega (arith, e, m)) o
+      ∙ ap (λ x. get_or columns (x * 16 + r) 0) e
+  | inr h ↦ others p r h m o ∙ before p r (omega arith) m o
+]
 
 -- ---- a short call
 
@@ -136,9 +125,6 @@ few_passed b next old new bytes room first last come gone out o b64 short ef lc 
     few : (q : ℕ) → count_at b (length bytes) q ≤ 16
     few q = counts_fit b (length bytes) q 16 o (omega arith)
 
-    none : (x : ℕ) → x ≡ x - 0
-    none x = omega arith
-
     stretch : (q : ℕ) → q < b → take (count_at b (length bytes) q) (drop ((q - 0) * 16) come) ≡ column b bytes q
     stretch q m =
         fill_by_all (λ k. get_or bytes (q + k * b) 0) (take (count_at b (length bytes) q) (drop ((q - 0) * 16) come))
@@ -147,7 +133,7 @@ few_passed b next old new bytes room first last come gone out o b64 short ef lc 
         (omega (arith, length-drop ((q - 0) * 16) come, lc, few q, m, b64)))
         (λ k s. get_or-take (count_at b (length bytes) q) (drop ((q - 0) * 16) come) k 0 s
         ∙ get_or-drop ((q - 0) * 16) come k 0
-        ∙ ap (λ x. get_or come (x * 16 + k) 0) (sym (none q))
+        ∙ ap (λ x. get_or come (x * 16 + k) 0) (sym (omega arith))
         ∙ taken q k m (omega (arith, s, few q))
         ∙ ap (λ ys. get_or ys (q + k * b) 0) ef
         ∙ get_or_append_left bytes (drop (length bytes) room) 0 (q + k * b) (row_within b (length bytes) q k o m s))
@@ -159,6 +145,6 @@ few_passed b next old new bytes room first last come gone out o b64 short ef lc 
         ap (λ ys. get_or ys i 0) eo ∙ get_or-take (length bytes) last i 0 l
         ∙ ap (λ x. get_or last x 0) (sym (from_row b i))
         ∙ put (i % b) (i / b) m (omega (arith, s, few (i % b)))
-        ∙ ap (λ x. get_or gone (x * 16 + i / b) 0) (none (i % b))
+        ∙ ap (λ x. get_or gone (x * 16 + i / b) 0) (omega arith)
         ∙ h.left (i % b) (i / b) (omega arith) (omega arith) s
         ∙ ap (λ ys. get_or (get_or old (branch_at b next (i % b)) [] ++ ys) (i / b) 0) (stretch (i % b) m)

@@ -1,9 +1,8 @@
 -- Tiles whose rows are taken in turn.
-use Rattle.std.proofs.Common.{◌≡◌, ℕ, ◌+◌, ◌*◌, ◌/◌, ◌%◌, ◌<◌, ◌≤◌, ◌⊎◌, ◌==◌, ◌&&◌, inl, inr, cond}
-use Rattle.std.proofs.Common.{Bool, true, List, [], ◌∷◌, ◌++◌, length, get_or, set, map, refl, sym, ap, ap₂, subst}
-use Rattle.std.proofs.Common.{◌∙◌, arith}
-use Rattle.std.proofs.lemmas.Bool.{cases_eq, agree_below, agree_below_at, and_parts, eqb-true, cond-true}
-use Rattle.std.proofs.lemmas.Bool.{cond-false, eq-eqb, ne_eqb}
+use Rattle.std.proofs.Common.{◌≡◌, ℕ, ◌+◌, ◌*◌, ◌/◌, ◌%◌, ◌<◌, ◌≤◌, ◌⊎◌, ◌==◌, ◌&&◌, inl, inr, cond, Bool, true, List}
+use Rattle.std.proofs.Common.{[], ◌∷◌, ◌++◌, length, get_or, set, map, refl, sym, ap, ap₂, subst, ◌∙◌, arith}
+use Rattle.std.proofs.lemmas.Bool.{cases_eq, agree_below, agree_below_at, and_parts, eqb-true, cond-true, cond-false}
+use Rattle.std.proofs.lemmas.Bool.{eq-eqb, ne_eqb}
 use Rattle.std.proofs.lemmas.List.{get_or_append_left, get_or-append_right, get_or-map}
 use Rattle.dtx_spread.proofs.Filled.{AreFilled, filled_more}
 
@@ -61,29 +60,17 @@ one_row : (n m s : ℕ) (tile rows : List (List ℕ)) (row : List ℕ) → n ≡
 one_row n m s tile rows row e ls ln h k f =
     filled_more n 16 (shuffled_byte tile) rows row ln h k (λ j l.
     f j l ∙ chosen j (cases_eq (j % 2) 0)
-    ∙ ap₂ (λ x y. get_or (get_or tile (x + 8 * (j % 2)) []) (8 * y + j / 2) 0) (sym half) (sym odd))
+    ∙ ap₂ (λ x y. get_or (get_or tile (x + 8 * (j % 2)) []) (8 * y + j / 2) 0) (sym (omega arith)) (sym (omega arith)))
   where
-    half : n / 2 ≡ m
-    half = omega arith
-
-    odd : n % 2 ≡ s
-    odd = omega arith
-
     chosen : (j : ℕ) → (j % 2 ≡ 0) ⊎ (j % 2 ≡ 0 → ⊥)
         → get_or (cond (j % 2 == 0) (get_or tile m []) (get_or tile (m + 8) [])) (8 * s + j / 2) 0
         ≡ get_or (get_or tile (m + 8 * (j % 2)) []) (8 * s + j / 2) 0
     chosen j (inl p) =
         ap (λ ys. get_or ys (8 * s + j / 2) 0) (cond-true (j % 2 == 0) (get_or tile m []) (get_or tile (m + 8) [])
-        (eq-eqb (j % 2) 0 p) ∙ ap (λ x. get_or tile x []) (even m (j % 2) p))
-      where
-        even : (m r : ℕ) → r ≡ 0 → m ≡ m + 8 * r
-        even m r e = omega arith
+        (eq-eqb (j % 2) 0 p) ∙ ap (λ x. get_or tile x []) (omega arith))
     chosen j (inr p) =
         ap (λ ys. get_or ys (8 * s + j / 2) 0) (cond-false (j % 2 == 0) (get_or tile m []) (get_or tile (m + 8) [])
-        (ne_eqb (j % 2) 0 p) ∙ ap (λ x. get_or tile x []) (odds m (j % 2) (omega arith)))
-      where
-        odds : (m r : ℕ) → r ≡ 1 → m + 8 ≡ m + 8 * r
-        odds m r e = omega arith
+        (ne_eqb (j % 2) 0 p) ∙ ap (λ x. get_or tile x []) (omega arith))
 
 pub two_rows : (m : ℕ) (tile rows : List (List ℕ)) (first second : List ℕ) → m < 8
     → AreFilled (2 * m) 16 (shuffled_byte tile) rows → length first ≡ 16 → length second ≡ 16
@@ -93,17 +80,12 @@ pub two_rows : (m : ℕ) (tile rows : List (List ℕ)) (first second : List ℕ)
     → get_or second j 0 ≡ get_or (cond (j % 2 == 0) (get_or tile m []) (get_or tile (m + 8) [])) (8 + j / 2) 0)
     → AreFilled (2 * (m + 1)) 16 (shuffled_byte tile) (set (set rows (2 * m) first) (2 * m + 1) second)
 two_rows m tile rows first second l h k n f g =
-    subst (λ (x : ℕ). AreFilled x 16 (shuffled_byte tile) (set (set rows (2 * m) first) (2 * m + 1) second)) (next m)
+    subst (λ (x : ℕ). AreFilled x 16 (shuffled_byte tile) (set (set rows (2 * m) first) (2 * m + 1) second))
+    (omega arith)
     (one_row (2 * m + 1) m 1 tile (set rows (2 * m) first) second (omega arith) (omega arith) (omega arith)
     (one_row (2 * m) m 0 tile rows first (omega arith) (omega arith) (omega arith) h k
     (λ j q. f j q ∙ ap (λ x. get_or (cond (j % 2 == 0) (get_or tile m []) (get_or tile (m + 8) [])) x 0)
-    (none (j / 2)))) n g)
-  where
-    next : (m : ℕ) → 2 * m + 1 + 1 ≡ 2 * (m + 1)
-    next m = omega arith
-
-    none : (x : ℕ) → x ≡ 8 * 0 + x
-    none x = omega arith
+    (omega arith))) n g)
 
 -- ---- four of them
 

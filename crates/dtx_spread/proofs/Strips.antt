@@ -16,21 +16,18 @@ pub column_there : (n at d r : ℕ) (columns : List ℕ) (tile : List (List ℕ)
     → ((d r : ℕ) → d < n → r < 16 → get_or columns (d * 560 + at + r) 0 ≡ get_or (get_or tile d []) r 0)
     → d < n + 1 → r < 16
     → get_or (put_chunk (n * 560 + at) columns (get_or tile n [])) (d * 560 + at + r) 0 ≡ get_or (get_or tile d []) r 0
-column_there n at d r columns tile room long ln lc before l m = by_cases (cases_eq d n)
+column_there n at d r columns tile room long ln lc before l m = elim (cases_eq d n) [
+  | inl e ↦
+      ap (λ x. get_or (put_chunk (n * 560 + at) columns (get_or tile n [])) (x * 560 + at + r) 0) e
+      ∙ get_or-put_chunk_at (n * 560 + at) columns (get_or tile n []) r 0 (omega arith) (omega arith)
+      ∙ ap (λ x. get_or (get_or tile x []) r 0) (sym e)
+  | inr o ↦
+      get_or-put_chunk_below (n * 560 + at) columns (get_or tile n []) (d * 560 + at + r) 0 (omega arith)
+      ∙ before d r (omega arith) m
+]
   where
     row : length (get_or tile n []) ≡ 16
     row = long n ln
-
-    by_cases : (d ≡ n) ⊎ (d ≡ n → ⊥)
-        → get_or (put_chunk (n * 560 + at) columns (get_or tile n [])) (d * 560 + at + r) 0
-        ≡ get_or (get_or tile d []) r 0
-    by_cases (inl e) =
-        ap (λ x. get_or (put_chunk (n * 560 + at) columns (get_or tile n [])) (x * 560 + at + r) 0) e
-        ∙ get_or-put_chunk_at (n * 560 + at) columns (get_or tile n []) r 0 (omega arith) (omega arith)
-        ∙ ap (λ x. get_or (get_or tile x []) r 0) (sym e)
-    by_cases (inr o) =
-        get_or-put_chunk_below (n * 560 + at) columns (get_or tile n []) (d * 560 + at + r) 0 (omega arith)
-        ∙ before d r (omega arith) m
 
 pub column_elsewhere : (n at d r : ℕ) (columns row : List ℕ) → at + 16 ≤ 560 → length row ≡ 16
     → r < 560 → (r < at) ⊎ (at + 16 ≤ r)
@@ -58,19 +55,17 @@ pub row_there : (b w p n a z c k : ℕ) (tile part : List ℕ) (rows : List (Lis
     → ((c k : ℕ) → c < w → k < n → get_or tile (p + c + k * b) 0 ≡ get_or (get_or rows k []) c 0)
     → length part ≡ w → c < w → k < n + 1
     → get_or (put_mid a z tile part) (p + c + k * b) 0 ≡ get_or (get_or rows k []) c 0
-row_there b w p n a z c k tile part rows room ea within ep wide before long l m = by_cases (cases_eq k n)
-  where
-    by_cases : (k ≡ n) ⊎ (k ≡ n → ⊥)
-        → get_or (put_mid a z tile part) (p + c + k * b) 0 ≡ get_or (get_or rows k []) c 0
-    by_cases (inl e) =
-        ap (λ x. get_or (put_mid a z tile part) x 0) (ap (λ x. p + c + x * b) e ∙ omega (arith, ea))
-        ∙ written_at a z c tile part within (omega arith)
-        ∙ ap (λ ys. get_or ys c 0) ep ∙ get_or-take w (get_or rows n []) c 0 l
-        ∙ ap (λ x. get_or (get_or rows x []) c 0) (sym e)
-    by_cases (inr o) =
-        written_before a z (p + c + k * b) tile part within
-        (omega (arith, ea, before_row b p c k n (omega arith) (omega arith)))
-        ∙ before c k l (omega arith)
+row_there b w p n a z c k tile part rows room ea within ep wide before long l m = elim (cases_eq k n) [
+  | inl e ↦
+      ap (λ x. get_or (put_mid a z tile part) x 0) (ap (λ x. p + c + x * b) e ∙ omega (arith, ea))
+      ∙ written_at a z c tile part within (omega arith)
+      ∙ ap (λ ys. get_or ys c 0) ep ∙ get_or-take w (get_or rows n []) c 0 l
+      ∙ ap (λ x. get_or (get_or rows x []) c 0) (sym e)
+  | inr o ↦
+      written_before a z (p + c + k * b) tile part within
+      (omega (arith, ea, before_row b p c k n (omega arith) (omega arith)))
+      ∙ before c k l (omega arith)
+]
 
 pub row_elsewhere : (b w p n a z i : ℕ) (tile part : List ℕ) → p + w ≤ b → a ≡ p + n * b → a ≤ length tile
     → length part ≡ w → z ≡ w → (i % b < p) ⊎ (p + w ≤ i % b)
@@ -112,17 +107,16 @@ pub tile_taken : (b w p t c k z : ℕ) (bytes old new : List ℕ) → p + w ≤ 
     → ((c r : ℕ) → r < 560 → (r < t * 16) ⊎ (t * 16 + 16 ≤ r) → get_or new (c * 560 + r) 0 ≡ get_or old (c * 560 + r) 0)
     → z ≡ 16 * b → c < w → k < (t + 1) * 16
     → get_or new (c * 560 + k) 0 ≡ get_or bytes (p + c + k * b) 0
-tile_taken b w p t c k z bytes old new room fits before taken others ez l m = by_cases (cases_lt k (t * 16))
-  where
-    by_cases : (k < t * 16) ⊎ (t * 16 ≤ k) → get_or new (c * 560 + k) 0 ≡ get_or bytes (p + c + k * b) 0
-    by_cases (inl h) = others c k (omega arith) (inl h) ∙ before c k l h
-    by_cases (inr h) =
-        let e : t * 16 + (k - t * 16) ≡ k = omega arith in
-        ap (λ n. get_or new n 0) (omega (arith, e))
-        ∙ taken c (k - t * 16) l (omega arith)
-        ∙ ap (λ n. get_or (take n (drop (t * 16 * b) bytes)) (p + c + (k - t * 16) * b) 0) ez
-        ∙ tile_byte b t (p + c) (k - t * 16) bytes (omega arith) (omega arith)
-        ∙ ap (λ n. get_or bytes (p + c + n * b) 0) e
+tile_taken b w p t c k z bytes old new room fits before taken others ez l m = elim (cases_lt k (t * 16)) [
+  | inl h ↦ others c k (omega arith) (inl h) ∙ before c k l h
+  | inr h ↦
+      let e : t * 16 + (k - t * 16) ≡ k = omega arith in
+      ap (λ n. get_or new n 0) (omega (arith, e))
+      ∙ taken c (k - t * 16) l (omega arith)
+      ∙ ap (λ n. get_or (take n (drop (t * 16 * b) bytes)) (p + c + (k - t * 16) * b) 0) ez
+      ∙ tile_byte b t (p + c) (k - t * 16) bytes (omega arith) (omega arith)
+      ∙ ap (λ n. get_or bytes (p + c + n * b) 0) e
+]
 
 -- one more tile is put
 pub tile_put : (b w p t c k z : ℕ) (columns old new : List ℕ) → p + w ≤ b → t * 16 * b ≤ length old
@@ -131,24 +125,22 @@ pub tile_put : (b w p t c k z : ℕ) (columns old new : List ℕ) → p + w ≤ 
     → ((c r : ℕ) → c < w → r < 16 → get_or new (p + c + r * b) 0 ≡ get_or columns (c * 560 + t * 16 + r) 0)
     → c < w → k < (t + 1) * 16
     → get_or (put_mid (t * 16 * b) z old new) (p + c + k * b) 0 ≡ get_or columns (c * 560 + k) 0
-tile_put b w p t c k z columns old new room within long before put l m = by_cases (cases_lt k (t * 16))
+tile_put b w p t c k z columns old new room within long before put l m = elim (cases_lt k (t * 16)) [
+  | inl h ↦
+      let g : (k + 1) * b ≤ t * 16 * b = mul-le-mul_right b (omega arith) in
+      written_before (t * 16 * b) z (p + c + k * b) old new within (omega (arith, add-mul k 1 b))
+      ∙ before c k l h
+  | inr h ↦
+      let e : t * 16 + (k - t * 16) ≡ k = omega arith in
+      ap (λ n. get_or (put_mid (t * 16 * b) z old new) n 0)
+      (ap (λ n. p + c + n * b) (sym e) ∙ sym (in_tile b (p + c) t (k - t * 16)))
+      ∙ written_at (t * 16 * b) z (p + c + (k - t * 16) * b) old new within
+      (omega (arith, small (k - t * 16) (omega arith)))
+      ∙ put c (k - t * 16) l (omega arith) ∙ ap (λ n. get_or columns n 0) (omega (arith, e))
+]
   where
     small : (r : ℕ) → r < 16 → p + c + r * b < 16 * b
     small r h = let g : (r + 1) * b ≤ 16 * b = mul-le-mul_right b (omega arith) in omega (arith, add-mul r 1 b)
-
-    by_cases : (k < t * 16) ⊎ (t * 16 ≤ k)
-        → get_or (put_mid (t * 16 * b) z old new) (p + c + k * b) 0 ≡ get_or columns (c * 560 + k) 0
-    by_cases (inl h) =
-        let g : (k + 1) * b ≤ t * 16 * b = mul-le-mul_right b (omega arith) in
-        written_before (t * 16 * b) z (p + c + k * b) old new within (omega (arith, add-mul k 1 b))
-        ∙ before c k l h
-    by_cases (inr h) =
-        let e : t * 16 + (k - t * 16) ≡ k = omega arith in
-        ap (λ n. get_or (put_mid (t * 16 * b) z old new) n 0)
-        (ap (λ n. p + c + n * b) (sym e) ∙ sym (in_tile b (p + c) t (k - t * 16)))
-        ∙ written_at (t * 16 * b) z (p + c + (k - t * 16) * b) old new within
-        (omega (arith, small (k - t * 16) (omega arith)))
-        ∙ put c (k - t * 16) l (omega arith) ∙ ap (λ n. get_or columns n 0) (omega (arith, e))
 
 -- and leaves the other places as they were
 pub tile_elsewhere : (b w p t z i : ℕ) (old new : List ℕ) → 0 < b → t * 16 * b ≤ length old → length new ≡ z
@@ -158,16 +150,11 @@ tile_elsewhere b w p t z i old new s within long others o =
     by_place (cases_lt i (t * 16 * b)) (cases_lt i (t * 16 * b + z))
   where
     same : t * 16 * b ≤ i → (i - t * 16 * b) % b ≡ i % b
-    same l = sym (ap (λ x. x % b) back
+    same l =
+        let at : i ≡ (t * 16 + (i - t * 16 * b) / b) * b + (i - t * 16 * b) % b =
+        omega (arith, l, div-add-mod' (i - t * 16 * b) b, add-mul (t * 16) ((i - t * 16 * b) / b) b) in
+        sym (ap (λ x. x % b) at
         ∙ mod-mul-add (t * 16 + (i - t * 16 * b) / b) b ((i - t * 16 * b) % b) (mod_below (i - t * 16 * b) b s))
-      where
-        back : i ≡ (t * 16 + (i - t * 16 * b) / b) * b + (i - t * 16 * b) % b
-        back = omega (
-          arith,
-          l,
-          div-add-mod' (i - t * 16 * b) b,
-          add-mul (t * 16) ((i - t * 16 * b) / b) b,
-        )
 
     by_place : (i < t * 16 * b) ⊎ (t * 16 * b ≤ i) → (i < t * 16 * b + z) ⊎ (t * 16 * b + z ≤ i)
         → get_or (put_mid (t * 16 * b) z old new) i 0 ≡ get_or old i 0
@@ -191,7 +178,4 @@ pub row_byte : (b w p n k : ℕ) (tile : List ℕ) → k < w → p + n * b + w �
     → get_or (take (length tile - (p + n * b)) (drop (p + n * b) tile)) k 0 ≡ get_or tile (p + k + n * b) 0
 row_byte b w p n k tile l m =
     get_or-take (length tile - (p + n * b)) (drop (p + n * b) tile) k 0 (omega arith)
-    ∙ get_or-drop (p + n * b) tile k 0 ∙ ap (λ x. get_or tile x 0) (swap p (n * b) k)
-  where
-    swap : (a m k : ℕ) → a + m + k ≡ a + k + m
-    swap a m k = omega arith
+    ∙ get_or-drop (p + n * b) tile k 0 ∙ ap (λ x. get_or tile x 0) (omega arith)

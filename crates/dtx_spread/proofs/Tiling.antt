@@ -4,13 +4,12 @@ use Rattle.std.proofs.Common.{get_or, set, take, drop, refl, sym, ap, ap₂, sub
 use Rattle.std.proofs.Common.{div-add-mod', cond, nat_lt}
 use Rattle.std.proofs.lemmas.Bool.{cases_lt, cases_eq}
 use Rattle.std.proofs.lemmas.Nat.{mod_below, mod-mul-add, div-mul-add}
-use Rattle.std.proofs.lemmas.List.{length-set, length-drop, length-take-le, take-take}
-use Rattle.std.proofs.lemmas.List.{get_or-set_same, get_or-set_other, get_or-take, get_or-drop}
+use Rattle.std.proofs.lemmas.List.{length-set, length-drop, length-take-le, take-take, get_or-set_same}
+use Rattle.std.proofs.lemmas.List.{get_or-set_other, get_or-take, get_or-drop}
 use Rattle.std.proofs.lemmas.List.FromFn.{fill_by_all}
 use Rattle.dtx_spread.specs.Rings.{branch_at, count_of, count_at, column, joined_at, IsEven, AreExchanged, ArePassed}
-use Rattle.dtx_spread.proofs.Turns.{branch_less, branch_other, row_counts, row_within, from_row}
-use Rattle.dtx_spread.proofs.Turns.{count_early, count_late}
-use Rattle.dtx_spread.proofs.Turns.{early_fit, late_fit, count_few}
+use Rattle.dtx_spread.proofs.Turns.{branch_less, branch_other, row_counts, row_within, from_row, count_early}
+use Rattle.dtx_spread.proofs.Turns.{count_late, early_fit, late_fit, count_few}
 use Rattle.dtx_spread.proofs.Written.{written_before, written_at}
 use borrow.Rule.Slice.PartMut.{put_mid}
 
@@ -43,12 +42,7 @@ pub record IsTiled (b len : ℕ) : Type 0 where
 pub is_tiled : (b len : ℕ) → 0 < b → len < 560 * b → IsTiled b len
 is_tiled b len o l = record {
   within = omega (arith, div-add-mod' len (16 * b), wide (len / (16 * b)) b);
-  rest = omega (
-    arith,
-    div-add-mod' len (16 * b),
-    wide (len / (16 * b)) b,
-    mod_below len (16 * b) (omega arith),
-  );
+  rest = omega (arith, div-add-mod' len (16 * b), wide (len / (16 * b)) b, mod_below len (16 * b) (omega arith));
   few = few (cases_lt (len / (16 * b)) 35);
 }
   where
@@ -66,12 +60,7 @@ behind b len = len - tiled b len * b
 
 by_tiles : (b len : ℕ) → IsTiled b len
     → len ≡ (tiled b len + behind b len / b) * b + behind b len % b
-by_tiles b len t = omega (
-  arith,
-  t.within,
-  div-add-mod' (behind b len) b,
-  add-mul (tiled b len) (behind b len / b) b,
-)
+by_tiles b len t = omega (arith, t.within, div-add-mod' (behind b len) b, add-mul (tiled b len) (behind b len / b) b)
 
 same_rest : (b len : ℕ) → 0 < b → IsTiled b len → behind b len % b ≡ len % b
 same_rest b len o t = sym (ap (λ x. x % b) (by_tiles b len t)
@@ -100,12 +89,7 @@ even_room b p w len n l h e = by_count (cases_lt p (len % b)) h
   where
     by_count : (p < len % b) ⊎ (len % b ≤ p) → IsEven b p w len → n * b + p + w ≤ len + b
     by_count (inl k) (inl m) =
-        omega (
-          arith,
-          ap (λ x. x * b) (e ∙ count_early b len p k),
-          add-mul (len / b) 1 b,
-          div-add-mod' len b,
-        )
+        omega (arith, ap (λ x. x * b) (e ∙ count_early b len p k), add-mul (len / b) 1 b, div-add-mod' len b)
     by_count (inl k) (inr m) = absurd (omega arith)
     by_count (inr k) m = omega (arith, ap (λ x. x * b) (e ∙ count_late b len p k), div-add-mod' len b)
 
@@ -116,13 +100,12 @@ even_count b p w len c l (inr h) =
     count_late b len (p + c) (omega arith) ∙ sym (count_late b len p h)
 
 pub counts_fit : (b len p m : ℕ) → 0 < b → len ≤ m * b → count_at b len p ≤ m
-counts_fit b len p m o l = by_cases (cases_lt p (len % b))
-  where
-    by_cases : (p < len % b) ⊎ (len % b ≤ p) → count_at b len p ≤ m
-    by_cases (inl h) =
-        let k : len / b + 1 ≤ m = early_fit b len p m h l in omega (arith, count_early b len p h)
-    by_cases (inr h) =
-        let k : len / b ≤ m = late_fit b len m o l in omega (arith, count_late b len p h)
+counts_fit b len p m o l = elim (cases_lt p (len % b)) [
+  | inl h ↦
+      let k : len / b + 1 ≤ m = early_fit b len p m h l in omega (arith, count_early b len p h)
+  | inr h ↦
+      let k : len / b ≤ m = late_fit b len m o l in omega (arith, count_late b len p h)
+]
 
 pub even_behind : (b p w len : ℕ) (xs : List ℕ) → 0 < b → length xs ≡ len → IsTiled b len → IsEven b p w len
     → IsEven b p w (length (take (length xs - tiled b len * b) (drop (tiled b len * b) xs)))
@@ -145,7 +128,27 @@ pub all_taken : (b w p z c k : ℕ) (bytes mid new rest : List ℕ) → 0 < b �
     → c < w → k < count_at b (length bytes) p
     → get_or new (c * 560 + k) 0 ≡ get_or bytes (p + c + k * b) 0
 all_taken b w p z c k bytes mid new rest o room t even ez er whole taken others l m =
-    by_cases (cases_lt k (tiled b (length bytes)))
+    elim (cases_lt k (tiled b (length bytes))) [
+      | inl h ↦ others c k (omega (arith, t.few)) (inl h) ∙ whole c k l h
+      | inr h ↦
+          let r : k - tiled b (length bytes) < count_at b (length rest) p = omega (arith, split) in
+          let e : tiled b (length bytes) + (k - tiled b (length bytes)) ≡ k = omega arith in
+          let f : p + c + (k - tiled b (length bytes)) * b < length rest =
+          row_within b (length rest) (p + c) (k - tiled b (length bytes)) o (omega arith)
+          (omega (
+            arith,
+            r,
+            even_count b p w (length rest) c l (even_rest b p w (length bytes) (length rest) o t long even),
+          )) in
+          ap (λ x. get_or new x 0) (omega (arith, e))
+          ∙ taken c (k - tiled b (length bytes)) l r
+          ∙ ap (λ ys. get_or ys (p + c + (k - tiled b (length bytes)) * b) 0) er
+          ∙ get_or-take z (drop (tiled b (length bytes) * b) bytes) (p + c + (k - tiled b (length bytes)) * b) 0
+          (omega (arith, f, long, ez))
+          ∙ get_or-drop (tiled b (length bytes) * b) bytes (p + c + (k - tiled b (length bytes)) * b) 0
+          ∙ ap (λ x. get_or bytes x 0)
+          (omega (arith, add-mul (tiled b (length bytes)) (k - tiled b (length bytes)) b, ap (λ x. x * b) e))
+    ]
   where
     long : length rest ≡ behind b (length bytes)
     long = ap length er
@@ -154,28 +157,6 @@ all_taken b w p z c k bytes mid new rest o room t even ez er whole taken others 
 
     split : count_at b (length bytes) p ≡ tiled b (length bytes) + count_at b (length rest) p
     split = count_split b (length bytes) p o t ∙ ap (λ x. tiled b (length bytes) + count_at b x p) (sym long)
-
-    by_cases : (k < tiled b (length bytes)) ⊎ (tiled b (length bytes) ≤ k)
-        → get_or new (c * 560 + k) 0 ≡ get_or bytes (p + c + k * b) 0
-    by_cases (inl h) = others c k (omega (arith, t.few)) (inl h) ∙ whole c k l h
-    by_cases (inr h) =
-        let r : k - tiled b (length bytes) < count_at b (length rest) p = omega (arith, split) in
-        let e : tiled b (length bytes) + (k - tiled b (length bytes)) ≡ k = omega arith in
-        let f : p + c + (k - tiled b (length bytes)) * b < length rest =
-        row_within b (length rest) (p + c) (k - tiled b (length bytes)) o (omega arith)
-        (omega (
-          arith,
-          r,
-          even_count b p w (length rest) c l (even_rest b p w (length bytes) (length rest) o t long even),
-        )) in
-        ap (λ x. get_or new x 0) (omega (arith, e))
-        ∙ taken c (k - tiled b (length bytes)) l r
-        ∙ ap (λ ys. get_or ys (p + c + (k - tiled b (length bytes)) * b) 0) er
-        ∙ get_or-take z (drop (tiled b (length bytes) * b) bytes) (p + c + (k - tiled b (length bytes)) * b) 0
-        (omega (arith, f, long, ez))
-        ∙ get_or-drop (tiled b (length bytes) * b) bytes (p + c + (k - tiled b (length bytes)) * b) 0
-        ∙ ap (λ x. get_or bytes x 0)
-        (omega (arith, add-mul (tiled b (length bytes)) (k - tiled b (length bytes)) b, ap (λ x. x * b) e))
 
 pub all_put : (b w p z c k len : ℕ) (columns mid rest part : List ℕ) → 0 < b → p + w ≤ b → length mid ≡ len
     → IsTiled b len → IsEven b p w len → z ≡ behind b len → rest ≡ take z (drop (tiled b len * b) mid)
@@ -186,7 +167,22 @@ pub all_put : (b w p z c k len : ℕ) (columns mid rest part : List ℕ) → 0 <
     → c < w → k < count_at b len p
     → get_or (put_mid (tiled b len * b) z mid part) (p + c + k * b) 0 ≡ get_or columns (c * 560 + k) 0
 all_put b w p z c k len columns mid rest part o room lm t even ez er lp whole put l m =
-    by_cases (cases_lt k (tiled b len))
+    elim (cases_lt k (tiled b len)) [
+      | inl h ↦
+          let g : (k + 1) * b ≤ tiled b len * b = mul-le-mul_right b (omega arith) in
+          written_before (tiled b len * b) z (p + c + k * b) mid part within (omega (arith, add-mul k 1 b))
+          ∙ whole c k l h
+      | inr h ↦
+          let r : k - tiled b len < count_at b (length rest) p = omega (arith, split) in
+          let e : tiled b len + (k - tiled b len) ≡ k = omega arith in
+          let f : p + c + (k - tiled b len) * b < length rest =
+          row_within b (length rest) (p + c) (k - tiled b len) o (omega arith)
+          (omega (arith, r, even_count b p w (length rest) c l (even_rest b p w len (length rest) o t long even))) in
+          ap (λ x. get_or (put_mid (tiled b len * b) z mid part) x 0)
+          (omega (arith, add-mul (tiled b len) (k - tiled b len) b, ap (λ x. x * b) e))
+          ∙ written_at (tiled b len * b) z (p + c + (k - tiled b len) * b) mid part within (omega (arith, f, lp))
+          ∙ put c (k - tiled b len) l r ∙ ap (λ x. get_or columns x 0) (omega (arith, e))
+    ]
   where
     within : tiled b len * b ≤ length mid
     within = omega (arith, t.within, lm)
@@ -199,33 +195,7 @@ all_put b w p z c k len columns mid rest part o room lm t even ez er lp whole pu
     split : count_at b len p ≡ tiled b len + count_at b (length rest) p
     split = count_split b len p o t ∙ ap (λ x. tiled b len + count_at b x p) (sym long)
 
-    by_cases : (k < tiled b len) ⊎ (tiled b len ≤ k)
-        → get_or (put_mid (tiled b len * b) z mid part) (p + c + k * b) 0 ≡ get_or columns (c * 560 + k) 0
-    by_cases (inl h) =
-        let g : (k + 1) * b ≤ tiled b len * b = mul-le-mul_right b (omega arith) in
-        written_before (tiled b len * b) z (p + c + k * b) mid part within (omega (arith, add-mul k 1 b))
-        ∙ whole c k l h
-    by_cases (inr h) =
-        let r : k - tiled b len < count_at b (length rest) p = omega (arith, split) in
-        let e : tiled b len + (k - tiled b len) ≡ k = omega arith in
-        let f : p + c + (k - tiled b len) * b < length rest =
-        row_within b (length rest) (p + c) (k - tiled b len) o (omega arith)
-        (omega (arith, r, even_count b p w (length rest) c l (even_rest b p w len (length rest) o t long even))) in
-        ap (λ x. get_or (put_mid (tiled b len * b) z mid part) x 0)
-        (omega (arith, add-mul (tiled b len) (k - tiled b len) b, ap (λ x. x * b) e))
-        ∙ written_at (tiled b len * b) z (p + c + (k - tiled b len) * b) mid part within (omega (arith, f, lp))
-        ∙ put c (k - tiled b len) l r ∙ ap (λ x. get_or columns x 0) (omega (arith, e))
-
 -- ---- one column exchanged behind others
-
-pub exchanged_none : (b next from s q r : ℕ) (lists : List (List ℕ)) (come gone : List ℕ)
-    → AreExchanged b next from (from + 0) s q r lists lists come gone
-exchanged_none b next from s q r lists come gone = record {
-  count = refl;
-  kept = λ p l m. absurd (omega arith);
-  others = λ p l m. refl;
-  left = λ p k l m o. absurd (omega arith);
-}
 
 -- an earlier column stands before a later one
 column_before : (s d c k : ℕ) → d < c → k < s → d * s + k < c * s
@@ -257,9 +227,6 @@ exchanged_on b next from c s q r at n start y z old cur new come part gone went 
     out p (inl k) = inl k
     out p (inr k) = inr (omega arith)
 
-    minus : (p : ℕ) → p ≡ from + c → c ≡ p - from
-    minus p e = omega arith
-
     fits : (p : ℕ) → count_of q r p ≤ s
     fits p = omega (arith, count_few q r p)
 
@@ -279,7 +246,7 @@ exchanged_on b next from c s q r at n start y z old cur new come part gone went 
         ≡ get_or old (branch_at b next p) [] ++ take (count_of q r p) (drop ((p - from) * s) come)
     joined_there p e = joined
         ∙ ap₂ (λ x d. get_or old (branch_at b next x) [] ++ take (count_of q r x) (drop (d * s) come)) (sym e)
-        (minus p e)
+        (omega arith)
 
     kept : (p : ℕ) → from ≤ p → p < from + (c + 1) → (p ≡ from + c) ⊎ (p ≡ from + c → ⊥)
         → get_or new (branch_at b next p) []
@@ -297,7 +264,7 @@ exchanged_on b next from c s q r at n start y z old cur new come part gone went 
         ≡ get_or (get_or old (branch_at b next p) [] ++ take (count_of q r p) (drop ((p - from) * s) come)) k 0
     left p k i o t (inl e) =
         let f : k < n = omega (arith, t, en, ap (count_of q r) e) in
-        ap (λ x. get_or (put_mid start z gone went) (x + k) 0) (ap (λ x. x * s) (sym (minus p e)) ∙ sym es)
+        ap (λ x. get_or (put_mid start z gone went) (x + k) 0) (ap (λ x. x * s) (sym (omega arith)) ∙ sym es)
         ∙ written_at start z k gone went room (omega (arith, f, en, fits (from + c), lw))
         ∙ ew k f ∙ ap (λ ys. get_or ys k 0) (joined_there p e)
     left p k i o t (inr f) =
@@ -327,11 +294,8 @@ put_back b w next p old new bytes out come gone o room w16 lo lc short even take
   rest = rest;
 }
   where
-    there : (q : ℕ) → p ≤ q → p + (q - p) ≡ q
-    there q l = omega arith
-
     counts : (q : ℕ) → p ≤ q → q < p + w → count_at b (length bytes) q ≡ count_at b (length bytes) p
-    counts q l m = ap (count_at b (length bytes)) (sym (there q l))
+    counts q l m = ap (count_at b (length bytes)) (sym (omega arith))
         ∙ even_count b p w (length bytes) (q - p) (omega arith) even
 
     few : (q : ℕ) → count_at b (length bytes) q ≤ 560
@@ -347,13 +311,13 @@ put_back b w next p old new bytes out come gone o room w16 lo lc short even take
         (λ k s. get_or-take (count_at b (length bytes) q) (drop ((q - p) * 560) come) k 0 s
         ∙ get_or-drop ((q - p) * 560) come k 0
         ∙ taken (q - p) k (omega arith) (omega (arith, s, counts q l m))
-        ∙ ap (λ x. get_or bytes (x + k * b) 0) (there q l))
+        ∙ ap (λ x. get_or bytes (x + k * b) 0) (omega arith))
 
     left : (i : ℕ) → i < length bytes → p ≤ i % b → i % b < p + w
         → get_or out i 0 ≡ get_or (joined_at b next old bytes (i % b)) (i / b) 0
     left i l m k =
         let s : i / b < count_at b (length bytes) (i % b) = row_counts b (length bytes) i o l in
-        ap (λ x. get_or out x 0) (sym (ap (λ x. x + i / b * b) (there (i % b) m) ∙ from_row b i))
+        ap (λ x. get_or out x 0) (sym (ap (λ x. x + i / b * b) (omega arith) ∙ from_row b i))
         ∙ put (i % b - p) (i / b) (omega arith) (omega (arith, s, counts (i % b) m k))
         ∙ h.left (i % b) (i / b) m k s
         ∙ ap (λ ys. get_or (get_or old (branch_at b next (i % b)) [] ++ ys) (i / b) 0) (stretch (i % b) m k)

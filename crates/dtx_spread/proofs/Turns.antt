@@ -1,6 +1,6 @@
 -- Which byte comes to which branch, and how many come to it.
-use Rattle.std.proofs.Common.{◌≡◌, ◌≢◌, ℕ, ◌+◌, ◌-◌, ◌*◌, ◌/◌, ◌%◌, ◌<◌, ◌≤◌, ◌⊎◌, nat_le, nat_lt, cond, inl, inr}
-use Rattle.std.proofs.Common.{sym, ap, ◌∙◌, arith, add-mul, mul-le-mul_right, div-add-mod'}
+use Rattle.std.proofs.Common.{◌≡◌, ◌≢◌, ℕ, ◌+◌, ◌-◌, ◌*◌, ◌/◌, ◌%◌, ◌<◌, ◌≤◌, ◌⊎◌, nat_le, nat_lt, cond, inl, inr, sym}
+use Rattle.std.proofs.Common.{ap, ◌∙◌, arith, add-mul, mul-le-mul_right, div-add-mod'}
 use Rattle.std.proofs.lemmas.Bool.{cases_lt, cond-true, cond-false, le-leb, lt-leb, lt-ltb, le-ltb}
 use Rattle.std.proofs.lemmas.Nat.{div-mul-add, mod-mul-add, mod_below}
 use Rattle.dtx_spread.specs.Rings.{branch_at, count_of, count_at}
@@ -36,11 +36,10 @@ pub branch_round : (b next p : ℕ) → b ≤ next + p → branch_at b next p �
 branch_round b next p l = cond-false (nat_lt (next + p) b) (next + p) (next + p - b) (le-ltb (next + p) b l)
 
 pub branch_less : (b next p : ℕ) → next < b → p < b → branch_at b next p < b
-branch_less b next p l k = by_cases (cases_lt (next + p) b)
-  where
-    by_cases : (next + p < b) ⊎ (b ≤ next + p) → branch_at b next p < b
-    by_cases (inl h) = omega (arith, branch_on b next p h)
-    by_cases (inr h) = omega (arith, branch_round b next p h)
+branch_less b next p l k = elim (cases_lt (next + p) b) [
+  | inl h ↦ omega (arith, branch_on b next p h)
+  | inr h ↦ omega (arith, branch_round b next p h)
+]
 
 pub branch_other : (b next p q : ℕ) → next < b → p < b → q < b → p ≢ q → branch_at b next p ≢ branch_at b next q
 branch_other b next p q l k m n = λ e. by_cases e (cases_lt (next + p) b) (cases_lt (next + q) b)
@@ -53,21 +52,21 @@ branch_other b next p q l k m n = λ e. by_cases e (cases_lt (next + p) b) (case
     by_cases e (inr f) (inr g) = n (omega (arith, e, branch_round b next p f, branch_round b next q g))
 
 pub place_less : (b next i : ℕ) → next < b → i < b → place_of b next i < b
-place_less b next i l k = by_cases (cases_lt i next)
-  where
-    by_cases : (i < next) ⊎ (next ≤ i) → place_of b next i < b
-    by_cases (inl h) = omega (arith, place_before b next i h)
-    by_cases (inr h) = omega (arith, place_from b next i h)
+place_less b next i l k = elim (cases_lt i next) [
+  | inl h ↦ omega (arith, place_before b next i h)
+  | inr h ↦ omega (arith, place_from b next i h)
+]
 
 -- the branch at the place of branch i is branch i
 pub branch_there : (b next i : ℕ) → next < b → i < b → branch_at b next (place_of b next i) ≡ i
-branch_there b next i l k = by_cases (cases_lt i next)
-  where
-    by_cases : (i < next) ⊎ (next ≤ i) → branch_at b next (place_of b next i) ≡ i
-    by_cases (inl h) = ap (branch_at b next) (place_before b next i h)
-        ∙ branch_round b next (i + b - next) (omega arith) ∙ omega arith
-    by_cases (inr h) = ap (branch_at b next) (place_from b next i h)
-        ∙ branch_on b next (i - next) (omega arith) ∙ omega arith
+branch_there b next i l k = elim (cases_lt i next) [
+  | inl h ↦
+      ap (branch_at b next) (place_before b next i h)
+      ∙ branch_round b next (i + b - next) (omega arith) ∙ omega arith
+  | inr h ↦
+      ap (branch_at b next) (place_from b next i h)
+      ∙ branch_on b next (i - next) (omega arith) ∙ omega arith
+]
 
 -- where byte k goes: its branch, and at which turn of this branch
 pub record IsTurn (b next k : ℕ) : Type 0 where
@@ -76,34 +75,33 @@ pub record IsTurn (b next k : ℕ) : Type 0 where
   pub turn : (next + k) / b ≡ k / b + later next ((next + k) % b)
 
 pub turns : (b next k : ℕ) → next < b → IsTurn b next k
-turns b next k l = by_cases (cases_lt (next + k % b) b)
+turns b next k l = elim (cases_lt (next + k % b) b) [
+  | inl h ↦
+      let e : next + k ≡ k / b * b + (next + k % b) = omega (arith, whole) in
+      let m : (next + k) % b ≡ next + k % b = ap (λ x. x % b) e ∙ mod-mul-add (k / b) b (next + k % b) h in
+      let d : (next + k) / b ≡ k / b = ap (λ x. x / b) e ∙ div-mul-add (k / b) b (next + k % b) h in
+      record {
+        branch = branch_on b next (k % b) h ∙ sym m;
+        place = ap (place_of b next) m ∙ place_from b next (next + k % b) (omega arith) ∙ omega arith;
+        turn = omega (arith, d, ap (later next) m, later_from next (next + k % b) (omega arith));
+      }
+  | inr h ↦
+      let r : k % b < b = mod_below k b (omega arith) in
+      let e : next + k ≡ (k / b + 1) * b + (next + k % b - b) =
+      omega (arith, whole, add-mul (k / b) 1 b) in
+      let m : (next + k) % b ≡ next + k % b - b =
+      ap (λ x. x % b) e ∙ mod-mul-add (k / b + 1) b (next + k % b - b) (omega arith) in
+      let d : (next + k) / b ≡ k / b + 1 =
+      ap (λ x. x / b) e ∙ div-mul-add (k / b + 1) b (next + k % b - b) (omega arith) in
+      record {
+        branch = branch_round b next (k % b) h ∙ sym m;
+        place = ap (place_of b next) m ∙ place_before b next (next + k % b - b) (omega arith) ∙ omega arith;
+        turn = omega (arith, d, ap (later next) m, later_before next (next + k % b - b) (omega arith));
+      }
+]
   where
     whole : k ≡ k / b * b + k % b
     whole = sym (div-add-mod' k b)
-
-    by_cases : (next + k % b < b) ⊎ (b ≤ next + k % b) → IsTurn b next k
-    by_cases (inl h) =
-        let e : next + k ≡ k / b * b + (next + k % b) = omega (arith, whole) in
-        let m : (next + k) % b ≡ next + k % b = ap (λ x. x % b) e ∙ mod-mul-add (k / b) b (next + k % b) h in
-        let d : (next + k) / b ≡ k / b = ap (λ x. x / b) e ∙ div-mul-add (k / b) b (next + k % b) h in
-        record {
-          branch = branch_on b next (k % b) h ∙ sym m;
-          place = ap (place_of b next) m ∙ place_from b next (next + k % b) (omega arith) ∙ omega arith;
-          turn = omega (arith, d, ap (later next) m, later_from next (next + k % b) (omega arith));
-        }
-    by_cases (inr h) =
-        let r : k % b < b = mod_below k b (omega arith) in
-        let e : next + k ≡ (k / b + 1) * b + (next + k % b - b) =
-        omega (arith, whole, add-mul (k / b) 1 b) in
-        let m : (next + k) % b ≡ next + k % b - b =
-        ap (λ x. x % b) e ∙ mod-mul-add (k / b + 1) b (next + k % b - b) (omega arith) in
-        let d : (next + k) / b ≡ k / b + 1 =
-        ap (λ x. x / b) e ∙ div-mul-add (k / b + 1) b (next + k % b - b) (omega arith) in
-        record {
-          branch = branch_round b next (k % b) h ∙ sym m;
-          place = ap (place_of b next) m ∙ place_before b next (next + k % b - b) (omega arith) ∙ omega arith;
-          turn = omega (arith, d, ap (later next) m, later_before next (next + k % b - b) (omega arith));
-        }
 
 -- ---- how many bytes come to a place
 
@@ -115,48 +113,44 @@ count_late b len p l = ap (λ n. len / b + n) (cond-false (nat_lt p (len % b)) 1
     ∙ omega arith
 
 pub count_few : (q r p : ℕ) → count_of q r p ≤ q + 1
-count_few q r p = by_cases (cases_lt p r)
-  where
-    by_cases : (p < r) ⊎ (r ≤ p) → count_of q r p ≤ q + 1
-    by_cases (inl h) =
-        let e : count_of q r p ≡ q + 1 = ap (λ n. q + n) (cond-true (nat_lt p r) 1 0 (lt-ltb p r h)) in
-        omega (arith, e)
-    by_cases (inr h) =
-        let e : count_of q r p ≡ q + 0 = ap (λ n. q + n) (cond-false (nat_lt p r) 1 0 (le-ltb p r h)) in
-        omega (arith, e)
+count_few q r p = elim (cases_lt p r) [
+  | inl h ↦
+      let e : count_of q r p ≡ q + 1 = ap (λ n. q + n) (cond-true (nat_lt p r) 1 0 (lt-ltb p r h)) in
+      omega (arith, e)
+  | inr h ↦
+      let e : count_of q r p ≡ q + 0 = ap (λ n. q + n) (cond-false (nat_lt p r) 1 0 (le-ltb p r h)) in
+      omega (arith, e)
+]
 
 -- a row of one byte more has it at the places before its end
 fewer : (b q r n s : ℕ) → q * b + r < n * b + s → s ≤ b → q ≤ n
-fewer b q r n s h l = by_cases (cases_lt n q)
-  where
-    by_cases : (n < q) ⊎ (q ≤ n) → q ≤ n
-    by_cases (inl k) =
-        let g : (n + 1) * b ≤ q * b = mul-le-mul_right b (omega arith) in
-        absurd (omega (arith, add-mul n 1 b))
-    by_cases (inr k) = k
+fewer b q r n s h l = elim (cases_lt n q) [
+  | inl k ↦
+      let g : (n + 1) * b ≤ q * b = mul-le-mul_right b (omega arith) in
+      absurd (omega (arith, add-mul n 1 b))
+  | inr k ↦ k
+]
 
 fewer_still : (b q r n s : ℕ) → q * b + r < n * b + s → s ≤ r → q < n
-fewer_still b q r n s h l = by_cases (cases_lt q n)
-  where
-    by_cases : (q < n) ⊎ (n ≤ q) → q < n
-    by_cases (inl k) = k
-    by_cases (inr k) = let g : n * b ≤ q * b = mul-le-mul_right b k in absurd (omega arith)
+fewer_still b q r n s h l = elim (cases_lt q n) [
+  | inl k ↦ k
+  | inr k ↦ let g : n * b ≤ q * b = mul-le-mul_right b k in absurd (omega arith)
+]
 
 -- a byte's row is one of its place's
 pub row_counts : (b len k : ℕ) → 0 < b → k < len → k / b < count_at b len (k % b)
-row_counts b len k p l = by_cases (cases_lt (k % b) (len % b))
+row_counts b len k p l = elim (cases_lt (k % b) (len % b)) [
+  | inl h ↦
+      let g : k / b ≤ len / b =
+      fewer b (k / b) (k % b) (len / b) (len % b) both (omega (arith, mod_below len b p)) in
+      omega (arith, count_early b len (k % b) h)
+  | inr h ↦
+      let g : k / b < len / b = fewer_still b (k / b) (k % b) (len / b) (len % b) both h in
+      omega (arith, count_late b len (k % b) h)
+]
   where
     both : k / b * b + k % b < len / b * b + len % b
     both = omega (arith, div-add-mod' k b, div-add-mod' len b)
-
-    by_cases : (k % b < len % b) ⊎ (len % b ≤ k % b) → k / b < count_at b len (k % b)
-    by_cases (inl h) =
-        let g : k / b ≤ len / b =
-        fewer b (k / b) (k % b) (len / b) (len % b) both (omega (arith, mod_below len b p)) in
-        omega (arith, count_early b len (k % b) h)
-    by_cases (inr h) =
-        let g : k / b < len / b = fewer_still b (k / b) (k % b) (len / b) (len % b) both h in
-        omega (arith, count_late b len (k % b) h)
 
 -- and no more rows have a byte at a place than hold all bytes
 pub early_fit : (b len p n : ℕ) → p < len % b → len ≤ n * b → len / b + 1 ≤ n
@@ -170,22 +164,18 @@ late_fit b len n o h =
 
 -- and a row of a place has a byte there
 pub row_within : (b len p k : ℕ) → 0 < b → p < b → k < count_at b len p → p + k * b < len
-row_within b len p k o q l = by_cases (cases_lt p (len % b))
-  where
-    by_cases : (p < len % b) ⊎ (len % b ≤ p) → p + k * b < len
-    by_cases (inl h) =
-        let g : k * b ≤ len / b * b = mul-le-mul_right b (omega (arith, count_early b len p h)) in
-        omega (arith, div-add-mod' len b)
-    by_cases (inr h) =
-        let g : (k + 1) * b ≤ len / b * b = mul-le-mul_right b (omega (arith, count_late b len p h)) in
-        omega (arith, div-add-mod' len b, add-mul k 1 b)
+row_within b len p k o q l = elim (cases_lt p (len % b)) [
+  | inl h ↦
+      let g : k * b ≤ len / b * b = mul-le-mul_right b (omega (arith, count_early b len p h)) in
+      omega (arith, div-add-mod' len b)
+  | inr h ↦
+      let g : (k + 1) * b ≤ len / b * b = mul-le-mul_right b (omega (arith, count_late b len p h)) in
+      omega (arith, div-add-mod' len b, add-mul k 1 b)
+]
 
 -- the place and the row of byte p + k * b
 pub its_place : (b p k : ℕ) → p < b → (p + k * b) % b ≡ p
-its_place b p k l = ap (λ x. x % b) (swap p (k * b)) ∙ mod-mul-add k b p l
-  where
-    swap : (a c : ℕ) → a + c ≡ c + a
-    swap a c = omega arith
+its_place b p k l = ap (λ x. x % b) (omega arith) ∙ mod-mul-add k b p l
 
 pub from_row : (b i : ℕ) → i % b + i / b * b ≡ i
 from_row b i = omega (arith, div-add-mod' i b)
@@ -218,23 +208,18 @@ ordered b next i j l m n h = by_cases (cases_lt i next) (cases_lt j next)
 -- a branch before the next one has had its byte of this turn
 pub come_early : (b next len i : ℕ) → next < b → i < (next + len) % b
     → count_at b len (place_of b next i) + later next i ≡ (next + len) / b + 1
-come_early b next len i l h = by_cases (ordered b next i ((next + len) % b) l (omega arith) m h)
+come_early b next len i l h = elim (ordered b next i ((next + len) % b) l (omega arith) m h) [
+  | inl k ↦
+      omega (arith, k.1, t.turn, count_early b len (place_of b next i) (omega (arith, k.0, t.place)))
+  | inr k ↦
+      omega (arith, k.1, k.2, t.turn, count_late b len (place_of b next i) (omega (arith, k.0, t.place)))
+]
   where
     m : (next + len) % b < b
     m = mod_below (next + len) b (omega arith)
 
     t : IsTurn b next len
     t = turns b next len l
-
-    by_cases : ((place_of b next i < place_of b next ((next + len) % b))
-        × (later next i ≡ later next ((next + len) % b)))
-        ⊎ ((place_of b next ((next + len) % b) ≤ place_of b next i) × (later next i ≡ 1)
-        × (later next ((next + len) % b) ≡ 0))
-        → count_at b len (place_of b next i) + later next i ≡ (next + len) / b + 1
-    by_cases (inl k) =
-        omega (arith, k.1, t.turn, count_early b len (place_of b next i) (omega (arith, k.0, t.place)))
-    by_cases (inr k) =
-        omega (arith, k.1, k.2, t.turn, count_late b len (place_of b next i) (omega (arith, k.0, t.place)))
 
 not_before : (b next i j : ℕ) → next < b → i < b → j < b → j ≤ i
     → ((place_of b next j ≤ place_of b next i) × (later next i ≡ later next j))
@@ -262,20 +247,15 @@ not_before b next i j l m n h = by_cases (cases_lt i next) (cases_lt j next)
 -- and the next one and those behind it have not
 pub come_late : (b next len i : ℕ) → next < b → i < b → (next + len) % b ≤ i
     → count_at b len (place_of b next i) + later next i ≡ (next + len) / b
-come_late b next len i l p h = by_cases (not_before b next i ((next + len) % b) l p m h)
+come_late b next len i l p h = elim (not_before b next i ((next + len) % b) l p m h) [
+  | inl k ↦
+      omega (arith, k.1, t.turn, count_late b len (place_of b next i) (omega (arith, k.0, t.place)))
+  | inr k ↦
+      omega (arith, k.1, k.2, t.turn, count_early b len (place_of b next i) (omega (arith, k.0, t.place)))
+]
   where
     m : (next + len) % b < b
     m = mod_below (next + len) b (omega arith)
 
     t : IsTurn b next len
     t = turns b next len l
-
-    by_cases : ((place_of b next ((next + len) % b) ≤ place_of b next i)
-        × (later next i ≡ later next ((next + len) % b)))
-        ⊎ ((place_of b next i < place_of b next ((next + len) % b)) × (later next i ≡ 0)
-        × (later next ((next + len) % b) ≡ 1))
-        → count_at b len (place_of b next i) + later next i ≡ (next + len) / b
-    by_cases (inl k) =
-        omega (arith, k.1, t.turn, count_late b len (place_of b next i) (omega (arith, k.0, t.place)))
-    by_cases (inr k) =
-        omega (arith, k.1, k.2, t.turn, count_early b len (place_of b next i) (omega (arith, k.0, t.place)))

@@ -1,13 +1,12 @@
 -- A list of which a part was written: its items before the part, in it and behind it.
-use Rattle.std.proofs.Common.{◌≡◌, ℕ, ◌+◌, ◌-◌, ◌<◌, ◌≤◌, ◌⊎◌, inl, inr, List, ◌++◌, length, get_or, take}
-use Rattle.std.proofs.Common.{drop, refl, sym, ap, ◌∙◌, arith}
+use Rattle.std.proofs.Common.{◌≡◌, ℕ, ◌+◌, ◌-◌, ◌<◌, ◌≤◌, ◌⊎◌, inl, inr, List, ◌++◌, length, get_or, take, drop, refl}
+use Rattle.std.proofs.Common.{sym, ap, ◌∙◌, arith}
 use Rattle.std.proofs.lemmas.Bool.{cases_lt}
-use Rattle.std.proofs.lemmas.List.{ext_get_or}
+use Rattle.std.proofs.lemmas.List.{ext_get_or, get_or_append_left, get_or-append_right, get_or-take, get_or-drop}
+use Rattle.std.proofs.lemmas.List.{length-take-le, length-append, length-drop}
 use Rattle.std.proofs.lemmas.Simd.{length-chunk, length-put_chunk, get_or-chunk, get_or-put_chunk_below}
 use Rattle.std.proofs.lemmas.Simd.{get_or-put_chunk_at}
 use lib.Lanes.{chunk, put_chunk}
-use Rattle.std.proofs.lemmas.List.{get_or_append_left, get_or-append_right, get_or-take, get_or-drop, length-take-le}
-use Rattle.std.proofs.lemmas.List.{length-append, length-drop}
 use borrow.Rule.Slice.PartMut.{put_mid, post_of}
 
 pub written_before : (a k i : ℕ) (xs ys : List ℕ) → a ≤ length xs → i < a
@@ -20,10 +19,7 @@ pub written_at : (a k j : ℕ) (xs ys : List ℕ) → a ≤ length xs → j < le
     → get_or (put_mid a k xs ys) (a + j) 0 ≡ get_or ys j 0
 written_at a k j xs ys l m =
     get_or-append_right (take a xs) (ys ++ post_of a k xs) a (a + j) 0 (length-take-le a xs l) (omega arith)
-    ∙ ap (λ n. get_or (ys ++ post_of a k xs) n 0) (back a j) ∙ get_or_append_left ys (post_of a k xs) 0 j m
-  where
-    back : (a j : ℕ) → a + j - a ≡ j
-    back a j = omega arith
+    ∙ ap (λ n. get_or (ys ++ post_of a k xs) n 0) (omega arith) ∙ get_or_append_left ys (post_of a k xs) 0 j m
 
 pub written_behind : (a k i : ℕ) (xs ys : List ℕ) → a ≤ length xs → length ys ≡ k → a + k ≤ i
     → get_or (put_mid a k xs ys) i 0 ≡ get_or xs i 0
@@ -52,15 +48,13 @@ length_written a k xs ys l e =
 -- of a column behind items as many bytes tell as it has
 pub fewer_behind : (n i : ℕ) (items column : List ℕ) → i < length items + n
     → get_or (items ++ column) i 0 ≡ get_or (items ++ take n column) i 0
-fewer_behind n i items column l = by_cases (cases_lt i (length items))
-  where
-    by_cases : (i < length items) ⊎ (length items ≤ i)
-        → get_or (items ++ column) i 0 ≡ get_or (items ++ take n column) i 0
-    by_cases (inl h) = get_or_append_left items column 0 i h ∙ sym (get_or_append_left items (take n column) 0 i h)
-    by_cases (inr h) =
-        get_or-append_right items column (length items) i 0 refl h
-        ∙ sym (get_or-append_right items (take n column) (length items) i 0 refl h
-        ∙ get_or-take n column (i - length items) 0 (omega arith))
+fewer_behind n i items column l = elim (cases_lt i (length items)) [
+  | inl h ↦ get_or_append_left items column 0 i h ∙ sym (get_or_append_left items (take n column) 0 i h)
+  | inr h ↦
+      get_or-append_right items column (length items) i 0 refl h
+      ∙ sym (get_or-append_right items (take n column) (length items) i 0 refl h
+      ∙ get_or-take n column (i - length items) 0 (omega arith))
+]
 
 -- fewer than 32 items, and a column of sixteen bytes put behind them
 abbrev pub short_put : ℕ → List ℕ → List ℕ → List ℕ → List ℕ
@@ -73,50 +67,41 @@ short_joined room items column = short_put (length items) room items column
 length-room : (room items : List ℕ) → length items < 32 → length room ≡ 48
     → length (items ++ drop (length items) room) ≡ 48
 length-room room items l e =
-    omega (
-      arith,
-      length-append items (drop (length items) room),
-      length-drop (length items) room,
-    )
+    omega (arith, length-append items (drop (length items) room), length-drop (length items) room)
 
 pub short_byte : (i : ℕ) (room items column : List ℕ) → length items < 32 → length column ≡ 16 → length room ≡ 48
     → i < length items + 16 → get_or (short_joined room items column) i 0 ≡ get_or (items ++ column) i 0
-short_byte i room items column l lc lr m = by_cases (cases_lt i (length items))
+short_byte i room items column l lc lr m = elim (cases_lt i (length items)) [
+  | inl h ↦
+      written_before (length items) (48 - length items) i (items ++ drop (length items) room)
+      (put_chunk 0 (take (48 - length items) (drop (length items) (items ++ drop (length items) room))) column)
+      (omega (arith, length-room room items l lr)) h
+      ∙ get_or_append_left items (drop (length items) room) 0 i h ∙ sym (get_or_append_left items column 0 i h)
+  | inr h ↦
+      let e : length items + (i - length items) ≡ i = omega arith in
+      ap (λ x. get_or (short_joined room items column) x 0) (sym e)
+      ∙ written_at (length items) (48 - length items) (i - length items) (items ++ drop (length items) room)
+      (put_chunk 0 (take (48 - length items) (drop (length items) (items ++ drop (length items) room))) column)
+      (omega (arith, length-room room items l lr))
+      (omega (
+        arith,
+        m,
+        long,
+        length-put_chunk 0
+            (take (48 - length items) (drop (length items) (items ++ drop (length items) room))) column,
+      ))
+      ∙ ap (λ x. get_or (put_chunk 0
+      (take (48 - length items) (drop (length items) (items ++ drop (length items) room))) column) x 0)
+      (omega arith)
+      ∙ get_or-put_chunk_at 0 (take (48 - length items) (drop (length items) (items ++ drop (length items) room)))
+      column (i - length items) 0 (omega (arith, m, lc)) (omega (arith, long, m))
+      ∙ sym (get_or-append_right items column (length items) i 0 refl h)
+]
   where
     long : length (take (48 - length items) (drop (length items) (items ++ drop (length items) room)))
         ≡ 48 - length items
     long = length-take-le (48 - length items) (drop (length items) (items ++ drop (length items) room))
         (omega (arith, length-drop (length items) (items ++ drop (length items) room), length-room room items l lr))
-
-    by_cases : (i < length items) ⊎ (length items ≤ i)
-        → get_or (short_joined room items column) i 0 ≡ get_or (items ++ column) i 0
-    by_cases (inl h) =
-        written_before (length items) (48 - length items) i (items ++ drop (length items) room)
-        (put_chunk 0 (take (48 - length items) (drop (length items) (items ++ drop (length items) room))) column)
-        (omega (arith, length-room room items l lr)) h
-        ∙ get_or_append_left items (drop (length items) room) 0 i h ∙ sym (get_or_append_left items column 0 i h)
-    by_cases (inr h) =
-        let e : length items + (i - length items) ≡ i = omega arith in
-        ap (λ x. get_or (short_joined room items column) x 0) (sym e)
-        ∙ written_at (length items) (48 - length items) (i - length items) (items ++ drop (length items) room)
-        (put_chunk 0 (take (48 - length items) (drop (length items) (items ++ drop (length items) room))) column)
-        (omega (arith, length-room room items l lr))
-        (omega (
-          arith,
-          m,
-          long,
-          length-put_chunk 0
-              (take (48 - length items) (drop (length items) (items ++ drop (length items) room))) column,
-        ))
-        ∙ ap (λ x. get_or (put_chunk 0
-        (take (48 - length items) (drop (length items) (items ++ drop (length items) room))) column) x 0)
-        (none (i - length items))
-        ∙ get_or-put_chunk_at 0 (take (48 - length items) (drop (length items) (items ++ drop (length items) room)))
-        column (i - length items) 0 (omega (arith, m, lc)) (omega (arith, long, m))
-        ∙ sym (get_or-append_right items column (length items) i 0 refl h)
-      where
-        none : (x : ℕ) → x ≡ 0 + x
-        none x = omega arith
 
 pub short_on : (n : ℕ) (room items column : List ℕ) → n ≤ 16 → length items < 32 → length column ≡ 16
     → length room ≡ 48
@@ -189,27 +174,18 @@ last_two n k room first second lr lf ls few l =
     behind = length-take-le 16 (drop 16 (put_chunk 0 room first))
         (omega (arith, length-drop 16 (put_chunk 0 room first), whole))
 
-    none : (x : ℕ) → x ≡ 0 + x
-    none x = omega arith
-
     by_place : (i : ℕ) → i < 32 → (i < 16) ⊎ (16 ≤ i) → get_or both i 0 ≡ get_or (first ++ second) i 0
     by_place i m (inl h) =
         written_before 16 16 i front rest (omega (arith, whole)) h
-        ∙ ap (λ x. get_or front x 0) (none i)
+        ∙ ap (λ x. get_or front x 0) (omega arith)
         ∙ get_or-put_chunk_at 0 room first i 0 (omega (arith, lf)) (omega (arith, lf, lr))
         ∙ sym (get_or_append_left first second 0 i (omega (arith, lf)))
     by_place i m (inr h) =
         let e : 16 + (i - 16) ≡ i = omega arith in
         ap (λ x. get_or both x 0) (sym e)
         ∙ written_at 16 16 (i - 16) front rest (omega (arith, whole))
-        (omega (
-          arith,
-          m,
-          h,
-          behind,
-          length-put_chunk 0 (take 16 (drop 16 (put_chunk 0 room first))) second,
-        ))
-        ∙ ap (λ x. get_or rest x 0) (none (i - 16))
+        (omega (arith, m, h, behind, length-put_chunk 0 (take 16 (drop 16 (put_chunk 0 room first))) second))
+        ∙ ap (λ x. get_or rest x 0) (omega arith)
         ∙ get_or-put_chunk_at 0 (take 16 (drop 16 (put_chunk 0 room first))) second (i - 16) 0
         (omega (arith, m, h, ls)) (omega (arith, behind, ls))
         ∙ sym (get_or-append_right first second 16 i 0 lf h)

@@ -1,4 +1,4 @@
-use Rattle.std.proofs.Common.{◌≡◌, ℕ, ◌+◌, ◌-◌, List, length, get_or, take, drop, replicate, refl, ap, ◌∙◌, arith}
+use Rattle.std.proofs.Common.{ℕ, ◌+◌, ◌-◌, List, length, get_or, take, drop, replicate, refl, ap, ◌∙◌, arith}
 use Rattle.std.proofs.lemmas.Simd.{get_or-chunk}
 use Rattle.dtx_spread.proofs.Written.{short_put, short_byte, short_on, fewer_behind}
 use Rattle.dtx_spread.proofs.rings.exchange_joined.Goals as goal
@@ -9,7 +9,7 @@ returns-clause-gone c = λ k l.
     let items = c.args.items.now in
     ap (λ ys. get_or (chunk 0 16 (joined ys)) k 0) c.copy_from_slice.ensures.after
     ∙ get_or-chunk 0 16 (joined items) k 0 (omega (arith, l, c.requires.rows))
-    ∙ ap (λ n. get_or (joined items) n 0) (none k)
+    ∙ ap (λ n. get_or (joined items) n 0) (omega arith)
     ∙ short_byte k room items c.args.column c.requires.short c.requires.column refl
     (omega (arith, l, c.requires.rows))
     ∙ fewer_behind c.args.count k items c.args.column (omega (arith, l))
@@ -19,9 +19,6 @@ returns-clause-gone c = λ k l.
 
     joined : List ℕ → List ℕ
     joined ys = short_put (length c.args.items.now) room ys c.args.column
-
-    none : (n : ℕ) → 0 + n ≡ n
-    none n = omega arith
 
 pub returns-clause-items : goal.returns-clause-items
 returns-clause-items c =

@@ -1,4 +1,4 @@
-use Rattle.std.proofs.Common.{◌≡◌, ℕ, ◌+◌, get_or, ap, ◌∙◌, arith}
+use Rattle.std.proofs.Common.{get_or, ap, ◌∙◌, arith}
 use Rattle.std.proofs.lemmas.Simd.{get_or-chunk}
 use Rattle.dtx_spread.proofs.Written.{long_on}
 use Rattle.dtx_spread.proofs.rings.exchange_long.Goals as goal
@@ -6,10 +6,7 @@ use Rattle.dtx_spread.proofs.rings.exchange_long.Goals as goal
 pub returns-clause-gone : goal.returns-clause-gone
 returns-clause-gone c = λ k l.
     get_or-chunk 0 16 c.args.items.now k 0 (omega (arith, l, c.requires.rows))
-    ∙ ap (λ n. get_or c.args.items.now n 0) (none k)
-  where
-    none : (n : ℕ) → 0 + n ≡ n
-    none n = omega arith
+    ∙ ap (λ n. get_or c.args.items.now n 0) (omega arith)
 
 pub returns-clause-items : goal.returns-clause-items
 returns-clause-items c =

@@ -15,8 +15,7 @@ invariant_of-self g c =
     c.deref_mut.result.now t.new.rings c.args.bytes.now t.new.bytes c.self.invariant.1 c.deref_mut.ensures.value
     s.rings.ok.0 t.auto.rings t.ensures.passed is in (
       c.self.invariant.0,
-      subst (λ v. HasWidths g.row.B g.W.Widths.widths v) (sym after)
-          (HasWidths-all g.row.B g.W.Widths.widths (branches_of s.next s.rings.items) c.args.bytes.now
+      rw after (HasWidths-all g.row.B g.W.Widths.widths (branches_of s.next s.rings.items) c.args.bytes.now
           c.self.invariant.1),
     )
 
