@@ -3,4 +3,5 @@ pub mod GoingOnLemmas
 pub mod LivesLemmas
 pub mod MarksLemmas
 pub mod Refilled
+pub mod Stepping
 pub mod SeveralLemmas

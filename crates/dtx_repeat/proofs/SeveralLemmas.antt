@@ -10,23 +10,23 @@ use Rattle.dtx_receiver.specs.Symbols.{symbols_in, symbols_of}
 use Rattle.dtx_receiver.specs.declared.batch.Received.{Received}
 use Rattle.dtx_receiver.specs.declared.tracking.Tracking.{Tracking}
 use Rattle.dtx_receiver.specs.declared.tracking.Tracking.TheVariants.{Searching, Began, Sync, Data, Ended}
-use Rattle.dtx_repeat.specs.GoingOn.{longer, with_begun, with_runs, AreGiven}
-use Rattle.dtx_repeat.proofs.GoingOnLemmas.{GoesOn, Begins, Steps, one_more, nothing_more, longer_none, longer_longer}
+use Rattle.dtx_repeat.specs.GoingOn.{longer, with_begun, with_runs, AreGiven, GoesOn, Begins}
+use Rattle.dtx_repeat.proofs.GoingOnLemmas.{Steps, one_more, nothing_more, longer_none, longer_longer}
 use Rattle.dtx_repeat.proofs.LivesLemmas.{lives_more, given_on, place_by, at_place}
 use Rattle.dtx_repeat.specs.Lives.{packets_in, lives_so_far}
 use Rattle.dtx_repeat.specs.Repeater.{next_place}
 use Rattle.dtx_repeat.specs.Restored.{restored, restored_so_far}
 use Rattle.dtx_repeat.proofs.RestoredLemmas.{restored_none, restored_behind, packets_in-append}
+use Rattle.dtx_repeat.proofs.Stepping.{BeginsNone, goes_on}
 
 -- ---- whether a run begins, by how many do
 
-goes_on : (s : List (List ℤ)) (x : List ℤ) (p : ℕ) (packets : List Received) (t : Tracking) → begun t ≡ 0
-    → Steps s x p packets t → GoesOn s (s ++ x ∷ []) p packets
-goes_on s x p packets Searching e is = is
-goes_on s x p packets Sync e is = is
-goes_on s x p packets Data e is = is
-goes_on s x p packets Ended e is = is
-goes_on s x p packets Began e is = absurd (omega (arith, e))
+begins_none : (t : Tracking) → begun t ≡ 0 → BeginsNone t
+begins_none Searching e = inl refl
+begins_none Sync e = inr (inl refl)
+begins_none Data e = inr (inr (inl refl))
+begins_none Ended e = inr (inr (inr refl))
+begins_none Began e = absurd (omega (arith, e))
 
 begins_one : (t : Tracking) → begun t ≡ 1 → t ≡ Began
 begins_one Searching e = absurd (omega (arith, e))
@@ -134,7 +134,7 @@ goes_on_all (x ∷ xs) s p packets place few h =
     ∙ append_assoc (packets_so_far s) one.0 rest.0) in
     let none : begun (tracking s x) ≡ 0 = none_first xs s x few in
     let first : GoesOn s mid p one.0 =
-    goes_on s x p one.0 (tracking s x) none (one_more s x p one.0 place one.1) in
+    goes_on s x p one.0 (tracking s x) (begins_none (tracking s x) none) (one_more s x p one.0 place one.1) in
     let few_more : length (runs (mid ++ xs)) ≡ length (runs mid) =
     omega (arith, ap (λ z. length (runs z)) all, few, runs_more s x, none) in
     subst (λ z. GoesOn s z p packets) all

@@ -8,6 +8,8 @@ use Rattle.dtx_receiver.specs.Bytes.{bytes_in}
 use Rattle.dtx_receiver.specs.Packets.{early_of}
 use Rattle.dtx_receiver.specs.Receiver as receiver
 use Rattle.dtx_receiver.specs.Runs.{tracked}
+use Rattle.dtx_receiver.specs.declared.tracking.Tracking.{Tracking}
+use Rattle.dtx_receiver.specs.declared.tracking.Tracking.TheVariants.{Began}
 use Rattle.dtx_repeat.specs.Restored.{first_place}
 use Rattle.dtx_repeat.specs.declared.repeater.Repeater.{Repeater}
 
@@ -23,7 +25,12 @@ pub record StandsFor (address delay : ℕ) (repeater : Repeater) (segments : Lis
   pub place : IfSome (tracked segments).run (λ run. repeater.place ≡ next_place run)
   pub exciter : exciter.StandsFor address delay repeater.exciter given
 
--- what the exciter was given, after some segments with which so many runs began: nothing if one did
+-- what the exciter was given, after a segment with this answer: nothing if a run began
+abbrev pub given_behind : Tracking → List (List ℕ) → List (List ℕ)
+given_behind Began given = []
+given_behind tracking given = given
+
+-- the same after some segments with which so many runs began: nothing if one did
 abbrev pub given_with : ℕ → List (List ℕ) → List (List ℕ)
 given_with begins given = if begins == 0 then given else []
 

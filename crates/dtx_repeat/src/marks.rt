@@ -10,7 +10,7 @@ use dtx_receiver::{Received, to_symbols};
 use dtx_sizes::{FIELD_PACKETS, FRAME_PACKETS, SEGMENT};
 
 /// The place in its frame of the packet behind a field sync.
-fn place_behind(sync: &[i8; SEGMENT]) -> u16
+pub(crate) fn place_behind(sync: &[i8; SEGMENT]) -> u16
     ensures { result ≡ place_behind sync.now }
 {
     if is_second(sync) { FIELD_PACKETS } else { 0 }

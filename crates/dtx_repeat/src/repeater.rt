@@ -1,16 +1,16 @@
 //! Receives a main transmitter's segments, and sends their packets again.
 
 ghost use Rattle.std.specs.Prelude.{◌≡◌, ℕ, ℤ, ◌+◌, ◌*◌, ◌<◌, ◌≤◌, ◌++◌, ◌∷◌, [], List, IfOk, length, take};
-ghost use Rattle.dtx_receiver.specs.Runs.{runs};
+ghost use Rattle.dtx_receiver.specs.Runs.{runs, tracking};
 ghost use Rattle.dtx_receiver.specs.Symbols.{symbols_in};
-ghost use Rattle.dtx_repeat.specs.Repeater.{StandsFor, IsSent, given_with};
+ghost use Rattle.dtx_repeat.specs.Repeater.{StandsFor, IsSent, given_behind, given_with};
 ghost use Rattle.dtx_repeat.specs.Restored.{all_restored, restored_so_far};
 
-use crate::marks::{place_behind_bytes, restore};
+use crate::marks::{place_behind, place_behind_bytes, restore};
 use dtx_coder::Air;
 use dtx_exciter::{Exciter, Told};
 use dtx_packets::Packet;
-use dtx_receiver::{Batch, Progress, Receiver};
+use dtx_receiver::{Batch, Progress, Receiver, Tracking};
 use dtx_sizes::{GROUP_PACKETS, SEGMENT};
 use std::alloc::{AllocError, Global};
 
@@ -39,13 +39,39 @@ impl Repeater {
         })
     }
 
+    /// Receives the next segment, and answers what it is. The packets that become whole with it replace those of the
+    /// batch. They are the packets that a `Receiver` gives, but each that begins a first field has the sync byte 0xB8.
+    /// The first field sync of a run shows whether its first field is a first or a second one, and then the fields
+    /// alternate. When a run begins, the exciter is reset. No call takes memory.
+    pub fn take(&mut self, segment: &[i8; SEGMENT], batch: &mut Batch) -> Tracking
+        ensures answer { (address delay : ℕ) (segments : List (List ℤ)) (given : List (List ℕ))
+            → StandsFor address delay self.old segments given → result ≡ tracking segments segment.now }
+        ensures stands { (address delay : ℕ) (segments : List (List ℤ)) (given : List (List ℕ))
+            → StandsFor address delay self.old segments given
+            → StandsFor address delay self.new (segments ++ segment.now ∷ []) (given_behind result given) }
+        ensures packets { (address delay : ℕ) (segments : List (List ℤ)) (given : List (List ℕ))
+            → StandsFor address delay self.old segments given
+            → restored_so_far (segments ++ segment.now ∷ []) ≡ restored_so_far segments ++ batch.new.packets.items }
+        ensures few { length batch.new.packets.items ≤ GROUP_PACKETS }
+    {
+        let tracking = self.receiver.take(segment, batch);
+        match tracking {
+            Tracking::Began => {
+                self.exciter.reset();
+                self.place = place_behind(segment);
+            }
+            Tracking::Searching | Tracking::Sync | Tracking::Data | Tracking::Ended => {
+                self.place = restore(self.place, batch.packets.as_mut_slice());
+            }
+        }
+        tracking
+    }
+
     /// Receives one or more of `segments`, from the first on. It returns how many it took, and how many runs began with
     /// them. Each segment is given as the bytes of its symbols. Data segments are taken together, up to the next place
     /// where a field sync is due, and 52 at most. Any other segment is taken alone, one that begins a run among them.
-    /// The packets that become whole replace those of the batch. They are the packets that a `Receiver` gives, but each
-    /// that begins a first field has the sync byte 0xB8. The first field sync of a run shows whether its first field is
-    /// a first or a second one, and then the fields alternate. When a run begins, the exciter is reset. No call takes
-    /// memory.
+    /// The packets that become whole replace those of the batch. They, and what is kept, are as `take` gives them for
+    /// these segments, one after another. No call takes memory.
     pub fn take_some(&mut self, segments: &[[u8; SEGMENT]], batch: &mut Batch) -> Progress
         requires { 0 < length segments.now }
         ensures some { 0 < result.segments }
