@@ -1,18 +1,17 @@
 -- What the function of least paths under pins gives, and that there is one such path.
-use Rattle.std.proofs.Common.{◌≡◌, ℕ, zero, suc, ℤ, ◌+◌, ◌*◌, ◌/◌, ◌%◌, ◌<◌, ◌≤◌, ◌⊎◌, inl, inr, nat_le, Bool, true}
-use Rattle.std.proofs.Common.{false, cond, List, [], ◌∷◌, length, drop, unwrap_or, refl, get_or, sym, ap, ◌∙◌}
-use Rattle.std.proofs.Common.{arith}
-use Rattle.std.proofs.lemmas.Bool.{le-leb, leb-true, true≢false}
-use Rattle.std.specs.List.{filter, find, AllByRecursion}
+use Rattle.std.proofs.Common.{◌≡◌, ℕ, zero, suc, ℤ, ◌+◌, ◌*◌, ◌/◌, ◌%◌, ◌<◌, ◌≤◌, ◌⊎◌, inl, inr, Bool, true, false}
+use Rattle.std.proofs.Common.{cond, List, [], ◌∷◌, length, drop, refl, get_or, sym, ap, ◌∙◌, arith}
+use Rattle.std.proofs.lemmas.Bool.{true≢false}
+use Rattle.std.specs.List.{filter, AllByRecursion}
 use Rattle.dtx_soft.specs.Paths.{IsPath, cost, next_state}
 use Rattle.dtx_soft.specs.Least.{AreInOrder, IsLeast}
-use Rattle.dtx_soft.specs.LeastPath.{all_paths, least_levels, least_path, least_start}
-use Rattle.dtx_soft.proofs.LeastPathLemmas.{AreOrdered, HasMinimum, IsFirst, IsIn, IsStarted, all_are, all_at, all_have}
-use Rattle.dtx_soft.proofs.LeastPathLemmas.{all_ordered, first_found, in_order_both, minimum_in, next_small, tested_all}
-use Rattle.dtx_soft.proofs.LeastPathLemmas.{least_path_found, least_path_is, tested_at}
+use Rattle.dtx_soft.specs.LeastPath.{all_paths, first_least, least_levels, least_path, least_start}
+use Rattle.dtx_soft.proofs.LeastPathLemmas.{AreOrdered, IsIn, IsLeastIn, IsStarted, all_are, all_at, all_have}
+use Rattle.dtx_soft.proofs.LeastPathLemmas.{all_ordered, least_in, least_in_is, least_path_found, least_path_is}
+use Rattle.dtx_soft.proofs.LeastPathLemmas.{next_small}
 use Rattle.dtx_pins.specs.Pins.{Agrees, AgreesFrom, agrees, pair_of, pin_at}
-use Rattle.dtx_pins.specs.LeastPinned.{IsLeastPinned, costs_least_of, least_pinned_levels, least_pinned_path}
-use Rattle.dtx_pins.specs.LeastPinned.{least_pinned_start, pinned_paths}
+use Rattle.dtx_pins.specs.LeastPinned.{IsLeastPinned, least_pinned_levels, least_pinned_path, least_pinned_start}
+use Rattle.dtx_pins.specs.LeastPinned.{pinned_paths}
 use Rattle.dtx_pins.proofs.Agreements.{agreement_told, agreement_tested, agrees_all}
 
 -- ---- the paths that pass a test
@@ -78,85 +77,45 @@ pinned_ordered : (pins : List ℕ) (n : ℕ) → AreOrdered (pinned_paths pins n
 unfolding pinned_paths
 pinned_ordered pins n = filtered_ordered (passes_of pins) (all_paths n) (all_ordered n)
 
--- ---- the least of a list of paths
-
-below_all : (scale : ℕ) (symbols : List ℤ) (paths : List (List ℕ)) (path : List ℕ)
-    → ((other : List ℕ) → IsIn other paths → cost scale symbols (drop 1 path) ≤ cost scale symbols (drop 1 other))
-    → costs_least_of scale symbols paths path ≡ true
-unfolding costs_least_of
-below_all scale symbols paths path h =
-    tested_all (λ other. nat_le (cost scale symbols (drop 1 path)) (cost scale symbols (drop 1 other))) paths
-    (λ other i. le-leb (cost scale symbols (drop 1 path)) (cost scale symbols (drop 1 other)) (h other i))
-
-below_at : (scale : ℕ) (symbols : List ℤ) (paths : List (List ℕ)) (path other : List ℕ)
-    → costs_least_of scale symbols paths path ≡ true → IsIn other paths
-    → cost scale symbols (drop 1 path) ≤ cost scale symbols (drop 1 other)
-unfolding costs_least_of
-below_at scale symbols paths path other t i =
-    leb-true (cost scale symbols (drop 1 path)) (cost scale symbols (drop 1 other))
-    (tested_at (λ other. nat_le (cost scale symbols (drop 1 path)) (cost scale symbols (drop 1 other))) paths other t i)
+-- ---- the least of them
 
 -- what is known of a path that agrees, behind its start
-record IsAgreed (n : ℕ) (pins : List ℕ) (start : ℕ) (levels : List ℕ) : Type 0 where
-  begins : start < 4
-  long : length levels ≡ n
-  path : IsPath start levels
-  told : Agrees pins levels
+abbrev IsAgreed : ℕ → List ℕ → List ℕ → Type 0
+IsAgreed n pins path = IsStarted n path × Agrees pins (drop 1 path)
 
-agreed_in : (pins : List ℕ) (n start : ℕ) (levels : List ℕ) → IsIn (start ∷ levels) (pinned_paths pins n)
-    → IsAgreed n pins start levels
-agreed_in pins n start levels i =
-    let h = all_at (IsStarted n) (pinned_paths pins n) (start ∷ levels) (pinned_are pins n) i in
-    record {
-      begins = h.0;
-      long = h.1.0;
-      path = h.1.1;
-      told = agreement_told pins levels
-          (all_at (λ path. agrees pins (drop 1 path) ≡ true) (pinned_paths pins n) (start ∷ levels)
-          (pinned_agree pins n) i);
-    }
+agreed_in : (pins : List ℕ) (n : ℕ) (path : List ℕ) → IsIn path (pinned_paths pins n) → IsAgreed n pins path
+agreed_in pins n path i = (
+  all_at (IsStarted n) (pinned_paths pins n) path (pinned_are pins n) i,
+  agreement_told pins (drop 1 path)
+      (all_at (λ path. agrees pins (drop 1 path) ≡ true) (pinned_paths pins n) path (pinned_agree pins n) i),
+)
+
+is_least_in : (scale : ℕ) (pins : List ℕ) (symbols : List ℤ) (start : ℕ) (levels : List ℕ)
+    → IsLeastPinned scale pins symbols start levels
+    → IsLeastIn scale symbols (pinned_paths pins (length symbols)) (start ∷ levels)
+is_least_in scale pins symbols start levels h = record {
+  inside = pinned_have pins (length symbols) start levels h.begins h.long h.path h.agrees;
+  least = λ other i. least other (agreed_in pins (length symbols) other i);
+  first = λ other i. first other (agreed_in pins (length symbols) other i);
+}
+  where
+    least : (other : List ℕ) → IsAgreed (length symbols) pins other
+        → cost scale symbols levels ≤ cost scale symbols (drop 1 other)
+    least [] k = absurd k.0
+    least (state ∷ others) k = h.least state others k.0.0 k.0.1.0 k.0.1.1 k.1
+
+    first : (other : List ℕ) → IsAgreed (length symbols) pins other
+        → cost scale symbols (drop 1 other) ≡ cost scale symbols levels → AreInOrder (start ∷ levels) other
+    first [] k = absurd k.0
+    first (state ∷ others) k = h.first state others k.0.0 k.0.1.0 k.0.1.1 k.1
 
 -- what is a least path under pins is the one that the function gives
 pub least_pinned_is : (scale : ℕ) (pins : List ℕ) (symbols : List ℤ) (start : ℕ) (levels : List ℕ)
     → IsLeastPinned scale pins symbols start levels → least_pinned_path scale pins symbols ≡ start ∷ levels
 unfolding least_pinned_path
 least_pinned_is scale pins symbols start levels h =
-    same (unwrap_or (find (costs_least_of scale symbols (pinned_paths pins (length symbols)))
-    (pinned_paths pins (length symbols))) []) found.within
-    (below_at scale symbols (pinned_paths pins (length symbols))
-    (unwrap_or (find (costs_least_of scale symbols (pinned_paths pins (length symbols)))
-    (pinned_paths pins (length symbols))) []) (start ∷ levels) found.passes own) found.before
-  where
-    own : IsIn (start ∷ levels) (pinned_paths pins (length symbols))
-    own = pinned_have pins (length symbols) start levels h.begins h.long h.path h.agrees
-
-    least : (other : List ℕ) → IsIn other (pinned_paths pins (length symbols))
-        → cost scale symbols levels ≤ cost scale symbols (drop 1 other)
-    least [] i = absurd (all_at (IsStarted (length symbols)) (pinned_paths pins (length symbols)) []
-        (pinned_are pins (length symbols)) i)
-    least (state ∷ others) i =
-        let k = agreed_in pins (length symbols) state others i in
-        h.least state others k.begins k.long k.path k.told
-
-    found : IsFirst (costs_least_of scale symbols (pinned_paths pins (length symbols)))
-        (pinned_paths pins (length symbols)) (start ∷ levels)
-        (unwrap_or (find (costs_least_of scale symbols (pinned_paths pins (length symbols)))
-        (pinned_paths pins (length symbols))) [])
-    found =
-        first_found (costs_least_of scale symbols (pinned_paths pins (length symbols)))
-        (pinned_paths pins (length symbols)) (start ∷ levels) (pinned_ordered pins (length symbols)) own
-        (below_all scale symbols (pinned_paths pins (length symbols)) (start ∷ levels) least)
-
-    same : (path : List ℕ) → IsIn path (pinned_paths pins (length symbols))
-        → cost scale symbols (drop 1 path) ≤ cost scale symbols levels → AreInOrder path (start ∷ levels)
-        → path ≡ start ∷ levels
-    same [] i l before = absurd (all_at (IsStarted (length symbols)) (pinned_paths pins (length symbols)) []
-        (pinned_are pins (length symbols)) i)
-    same (state ∷ others) i l before =
-        let k = agreed_in pins (length symbols) state others i in
-        let m = h.least state others k.begins k.long k.path k.told in
-        in_order_both (state ∷ others) (start ∷ levels) before
-        (h.first state others k.begins k.long k.path k.told (omega (arith, m, l)))
+    least_in_is scale symbols (pinned_paths pins (length symbols)) (start ∷ levels)
+    (pinned_ordered pins (length symbols)) (is_least_in scale pins symbols start levels h)
 
 pub least_pinned_levels_are : (scale : ℕ) (pins : List ℕ) (symbols : List ℤ) (start : ℕ) (levels : List ℕ)
     → IsLeastPinned scale pins symbols start levels → least_pinned_levels scale pins symbols ≡ levels
@@ -189,53 +148,31 @@ pub least_pinned_found : (scale : ℕ) (pins : List ℕ) (symbols : List ℤ)
     → IsLeastPinned scale pins symbols (least_pinned_start scale pins symbols) (least_pinned_levels scale pins symbols)
 unfolding least_pinned_path
 least_pinned_found scale pins symbols =
-    from_path (unwrap_or (find (costs_least_of scale symbols (pinned_paths pins (length symbols)))
-    (pinned_paths pins (length symbols))) []) (found least.path least.inside passes).within
-    (found least.path least.inside passes).passes (λ x i t. (found x i t).before)
+    from_path (first_least scale symbols (pinned_paths pins (length symbols)))
+    (agreed_in pins (length symbols) (first_least scale symbols (pinned_paths pins (length symbols))) found.inside)
+    found
   where
-    least : HasMinimum (λ path. cost scale symbols (drop 1 path)) (pinned_paths pins (length symbols))
-    least =
+    found : IsLeastIn scale symbols (pinned_paths pins (length symbols))
+        (first_least scale symbols (pinned_paths pins (length symbols)))
+    found =
         let some = some_agreed (length symbols) pins 0 0 (omega arith) (omega arith) in
-        minimum_in (λ path. cost scale symbols (drop 1 path)) (pinned_paths pins (length symbols)) (0 ∷ some.0)
+        least_in scale symbols (pinned_paths pins (length symbols)) (0 ∷ some.0) (pinned_ordered pins (length symbols))
         (pinned_have pins (length symbols) 0 some.0 (omega arith) some.1 some.2 (agrees_all 0 pins some.0 some.3))
 
-    passes : costs_least_of scale symbols (pinned_paths pins (length symbols)) least.path ≡ true
-    passes = below_all scale symbols (pinned_paths pins (length symbols)) least.path least.below
-
-    found : (x : List ℕ) → IsIn x (pinned_paths pins (length symbols))
-        → costs_least_of scale symbols (pinned_paths pins (length symbols)) x ≡ true
-        → IsFirst (costs_least_of scale symbols (pinned_paths pins (length symbols)))
-        (pinned_paths pins (length symbols)) x
-        (unwrap_or (find (costs_least_of scale symbols (pinned_paths pins (length symbols)))
-        (pinned_paths pins (length symbols))) [])
-    found x i t =
-        first_found (costs_least_of scale symbols (pinned_paths pins (length symbols)))
-        (pinned_paths pins (length symbols)) x (pinned_ordered pins (length symbols)) i t
-
-    from_path : (path : List ℕ) → IsIn path (pinned_paths pins (length symbols))
-        → costs_least_of scale symbols (pinned_paths pins (length symbols)) path ≡ true
-        → ((x : List ℕ) → IsIn x (pinned_paths pins (length symbols))
-        → costs_least_of scale symbols (pinned_paths pins (length symbols)) x ≡ true → AreInOrder path x)
+    from_path : (path : List ℕ) → IsAgreed (length symbols) pins path
+        → IsLeastIn scale symbols (pinned_paths pins (length symbols)) path
         → IsLeastPinned scale pins symbols (get_or path 0 0) (drop 1 path)
-    from_path [] i t before =
-        absurd (all_at (IsStarted (length symbols)) (pinned_paths pins (length symbols)) []
-        (pinned_are pins (length symbols)) i)
-    from_path (start ∷ levels) i t before = record {
-      begins = own.begins;
-      long = own.long;
-      path = own.path;
-      agrees = own.told;
-      least = λ state others l n path h. below_at scale symbols (pinned_paths pins (length symbols)) (start ∷ levels)
-          (state ∷ others) t (pinned_have pins (length symbols) state others l n path h);
-      first = λ state others l n path h e. before (state ∷ others)
-          (pinned_have pins (length symbols) state others l n path h)
-          (below_all scale symbols (pinned_paths pins (length symbols)) (state ∷ others)
-          (λ other j. (let most = below_at scale symbols (pinned_paths pins (length symbols)) (start ∷ levels) other t j
-          in omega (arith, most, e))));
+    from_path [] k h = absurd k.0
+    from_path (start ∷ levels) k h = record {
+      begins = k.0.0;
+      long = k.0.1.0;
+      path = k.0.1.1;
+      agrees = k.1;
+      least = λ state others l n path told. h.least (state ∷ others)
+          (pinned_have pins (length symbols) state others l n path told);
+      first = λ state others l n path told. h.first (state ∷ others)
+          (pinned_have pins (length symbols) state others l n path told);
     }
-      where
-        own : IsAgreed (length symbols) pins start levels
-        own = agreed_in pins (length symbols) start levels i
 
 -- ---- more and fewer pins
 

@@ -1,11 +1,11 @@
 -- Least paths under pins and their costs, one more symbol in front (Bellman).
 use Rattle.std.proofs.Common.{◌≡◌, ℕ, suc, ℤ, ◌+◌, ◌/◌, ◌%◌, ◌<◌, ◌≤◌, ◌⊎◌, inl, inr, List, [], ◌∷◌}
-use Rattle.std.proofs.Common.{length, map, drop, refl, sym, ap, ◌∙◌, subst, arith}
+use Rattle.std.proofs.Common.{length, drop, refl, sym, ap, ◌∙◌, subst, arith}
 use Rattle.std.proofs.lemmas.Bool.{cases_lt}
-use Rattle.dtx_soft.specs.Paths.{IsPath, cost, distance, next_state, squared, symbol_at}
+use Rattle.dtx_soft.specs.Paths.{IsPath, cost, next_state, squared, symbol_at}
 use Rattle.dtx_soft.specs.Least.{AreInOrder}
 use Rattle.dtx_soft.proofs.LeastPathLemmas.{next_small}
-use Rattle.dtx_soft.proofs.MovedLemmas.{distance-cons}
+use Rattle.dtx_soft.proofs.MovedLemmas.{cost-cons, nothing_costs}
 use Rattle.dtx_pins.specs.Pins.{AgreesFrom, pair_of, pin_at}
 use Rattle.dtx_pins.specs.Steps.{IsBest, cost_at, level_by, square_of, through, told_number}
 use Rattle.dtx_pins.specs.Walks.{AreLeastCosts, IsLeastCost}
@@ -20,11 +20,6 @@ pub record IsLeastFrom (scale : ℕ) (pins : List ℕ) (symbols : List ℤ) (for
       → cost scale symbols levels ≤ cost scale symbols others
   pub first : (others : List ℕ) → length others ≡ length symbols → IsPath state others → AgreesFrom former pins others
       → cost scale symbols others ≡ cost scale symbols levels → AreInOrder levels others
-
-pub cost-cons : (scale : ℕ) (v : ℤ) (symbols : List ℤ) (z : ℕ) (levels : List ℕ)
-    → cost scale (v ∷ symbols) (z ∷ levels) ≡ squared v (symbol_at scale z) + cost scale symbols levels
-unfolding cost
-cost-cons scale v symbols z levels = distance-cons v (symbol_at scale z) symbols (map (symbol_at scale) levels)
 
 -- what level z comes to
 abbrev pub onto : ℕ → ℤ → List (List ℕ) → ℕ → ℕ → ℕ
@@ -179,10 +174,6 @@ cost_more scale v pins symbols behind former state z p l h = record {
         omega (arith, a, b)
 
 -- no symbols
-pub nothing_costs : (scale : ℕ) (others : List ℕ) → cost scale [] others ≡ 0
-unfolding cost distance
-nothing_costs scale others = refl
-
 pub nothing_least : (scale : ℕ) (pins : List ℕ) (former state : ℕ) → IsLeastFrom scale pins [] former state []
 nothing_least scale pins former state = record {
   long = refl;

@@ -112,9 +112,6 @@ start_is pin x2 behind costs state stand named l low each least first former q1 
 pub x2_is : (pin : ℕ) → pin < 4 → x2_of pin ≡ pin / 2
 x2_is pin l = grind (arith, nat_tests)
 
-pub x2_small : (pin : ℕ) → x2_of pin < 2
-x2_small pin = grind (arith, nat_tests)
-
 -- a level that gives a pair from the former Z2 that is its X2 comes before one from the other
 before_other : (pin former other z y : ℕ) → pin < 4 → former ≡ pin / 2 → other < 2 → former ≢ other → z < 8 → y < 8
     → pair_of former z ≡ pin → pair_of other y ≡ pin → z < y

@@ -76,10 +76,10 @@ best_units scale symbol pin costs sums u w p s k l b = record {
     stands k m = through_units scale symbol costs sums u w s k l m
 
 -- eight numbers as the costs from each former Z2 and state
-listed : (ℕ → ℕ → ℕ) → List (List ℕ)
+pub listed : (ℕ → ℕ → ℕ) → List (List ℕ)
 listed f = (f 0 0 ∷ f 0 1 ∷ f 0 2 ∷ f 0 3 ∷ []) ∷ (f 1 0 ∷ f 1 1 ∷ f 1 2 ∷ f 1 3 ∷ []) ∷ []
 
-listed_at : (f : ℕ → ℕ → ℕ) (p s : ℕ) → p < 2 → s < 4 → cost_at (listed f) p s ≡ f p s
+pub listed_at : (f : ℕ → ℕ → ℕ) (p s : ℕ) → p < 2 → s < 4 → cost_at (listed f) p s ≡ f p s
 unfolding listed
 listed_at f zero s l m = four (λ s. cost_at (listed f) 0 s ≡ f 0 s) refl refl refl refl s m
 listed_at f (suc zero) s l m = four (λ s. cost_at (listed f) 1 s ≡ f 1 s) refl refl refl refl s m

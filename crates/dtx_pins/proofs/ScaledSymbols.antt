@@ -1,5 +1,5 @@
 -- The symbols of levels, as they are computed.
-use Rattle.std.proofs.Common.{◌≡◌, ℕ, zero, suc, ℤ, pos, ◌+◌, ◌*◌, ◌<◌, ◌≤◌, ◌+ℤ◌, ◌-ℤ◌, ◌*ℤ◌, ◌≤ℤ◌, FitsSigned, sym}
+use Rattle.std.proofs.Common.{◌≡◌, ℕ, zero, suc, ℤ, pos, ◌*◌, ◌<◌, ◌≤◌, ◌+ℤ◌, ◌-ℤ◌, ◌*ℤ◌, ◌≤ℤ◌, FitsSigned, sym}
 use Rattle.std.proofs.Common.{ap, ap₂, ◌∙◌, subst, to_z, w8, arith}
 use mir.Syntax.{w16}
 use mir.Val.{SFits}

@@ -9,14 +9,10 @@ use Rattle.dtx_soft.specs.Squares.{seen}
 use Rattle.dtx_soft.proofs.WrapsLemmas.{difference_read, read}
 use Rattle.dtx_pins.specs.Weights.{depth, ground}
 
-pub zero_depth : (scale : ℕ) (v : ℤ) → scale ≡ 0 → 127 ≡ depth scale v
-unfolding depth
-zero_depth scale v e = sym (ap (λ s. nat_abs (pos 127 -ℤ seen s v)) e)
-
-pub other_depth : (scale : ℕ) (v : ℤ) → scale ≢ 0 → SFits w8 v
+pub depth_is : (scale : ℕ) (v : ℤ) → scale ≢ 0 → SFits w8 v
     → nat_abs (read w16 (pos 127 -ℤ read w16 (read w8 v))) ≡ depth scale v
 unfolding depth
-other_depth scale v n f = ap nat_abs read_is ∙ ap (λ x. nat_abs (pos 127 -ℤ x)) (sym seen_is)
+depth_is scale v n f = ap nat_abs read_is ∙ ap (λ x. nat_abs (pos 127 -ℤ x)) (sym seen_is)
   where
     read_is : read w16 (pos 127 -ℤ read w16 (read w8 v)) ≡ pos 127 -ℤ v
     read_is = difference_read w16 _ _ (pos 127) v refl (ap (read w16) (to_z-of_z w8 v f)

@@ -1,15 +1,16 @@
 -- The one path from each beginning where all pairs are known.
-use Rattle.std.proofs.Common.{◌≡◌, ℕ, zero, suc, ℤ, pos, ◌+◌, ◌*◌, ◌/◌, ◌%◌, ◌<◌, ◌≤◌, List, [], ◌∷◌, length, drop}
+use Rattle.std.proofs.Common.{◌≡◌, ℕ, zero, suc, ℤ, pos, ◌+◌, ◌/◌, ◌<◌, List, [], ◌∷◌, length, drop}
 use Rattle.std.proofs.Common.{refl, sym, ap, ◌∙◌, subst, get_or, length-drop, arith}
 use Rattle.std.proofs.lemmas.List.{get_or-drop}
 use Rattle.dtx_soft.specs.Paths.{next_state, squared, symbol_at}
 use Rattle.dtx_soft.proofs.LeastPathLemmas.{next_small}
 use Rattle.dtx_soft.proofs.WritesLemmas.{four}
 use Rattle.dtx_pins.specs.Pins.{pin_at}
-use Rattle.dtx_pins.specs.Steps.{IsBest, cost_at, level_by, number_of, square_of, through, told_number}
+use Rattle.dtx_pins.specs.Steps.{IsBest, level_by, number_of, square_of, through, told_number}
 use Rattle.dtx_pins.specs.Told.{told_mark}
 use Rattle.dtx_pins.specs.Walks.{AreLeastCosts, IsLeastCost, IsMark}
 use Rattle.dtx_pins.proofs.PinnedPaths.{best_level, cost_more, nothing_cost}
+use Rattle.dtx_pins.proofs.PinnedUnits.{listed, listed_at}
 
 -- the level behind a former Z2 and a state that gives a pin's pair
 abbrev pub told_level : ℕ → ℕ → ℕ → ℕ
@@ -22,16 +23,6 @@ told_cost scale pins (v ∷ symbols) former state =
     squared v (symbol_at scale (told_level (pin_at pins 0) former state))
     + told_cost scale (drop 1 pins) symbols (told_level (pin_at pins 0) former state / 4)
     (next_state state (told_level (pin_at pins 0) former state))
-
--- eight numbers as the costs from each former Z2 and state
-pub listed : (ℕ → ℕ → ℕ) → List (List ℕ)
-listed f = (f 0 0 ∷ f 0 1 ∷ f 0 2 ∷ f 0 3 ∷ []) ∷ (f 1 0 ∷ f 1 1 ∷ f 1 2 ∷ f 1 3 ∷ []) ∷ []
-
-pub listed_at : (f : ℕ → ℕ → ℕ) (p s : ℕ) → p < 2 → s < 4 → cost_at (listed f) p s ≡ f p s
-unfolding listed
-listed_at f zero s l m = four (λ s. cost_at (listed f) 0 s ≡ f 0 s) refl refl refl refl s m
-listed_at f (suc zero) s l m = four (λ s. cost_at (listed f) 1 s ≡ f 1 s) refl refl refl refl s m
-listed_at f (suc (suc p)) s l m = absurd (omega arith)
 
 -- all pins of the symbols tell a pair
 abbrev pub AreTold : List ℕ → ℕ → Type 0

@@ -1,5 +1,5 @@
 -- What paths from other beginnings weigh, where all pairs are known.
-use Rattle.std.proofs.Common.{◌≡◌, ℕ, zero, suc, ℤ, pos, ◌+◌, ◌*◌, ◌/◌, ◌%◌, ◌<◌, ◌≤◌, ◌-◌, ◌+ℤ◌, ◌-ℤ◌, ◌*ℤ◌, ◌≤ℤ◌}
+use Rattle.std.proofs.Common.{◌≡◌, ℕ, zero, suc, ℤ, pos, ◌+◌, ◌*◌, ◌/◌, ◌%◌, ◌<◌, ◌≤◌, ◌-◌, ◌+ℤ◌, ◌-ℤ◌, ◌*ℤ◌}
 use Rattle.std.proofs.Common.{Bool}
 use Rattle.std.proofs.Common.{true, false, cond, nat_abs, nat_eq, List, [], ◌∷◌, length, drop, refl, sym, ap, ap₂, ◌∙◌}
 use Rattle.std.proofs.Common.{subst}
@@ -9,7 +9,7 @@ use Rattle.std.proofs.lemmas.Bool.Decides.{nat_tests}
 use Rattle.std.proofs.lemmas.Int.{ints}
 use Rattle.std.proofs.Math.Nat.{mul-add}
 use Rattle.dtx_soft.specs.Gaps.{unit}
-use Rattle.dtx_soft.specs.Paths.{next_state, squared, symbol_at}
+use Rattle.dtx_soft.specs.Paths.{next_state}
 use Rattle.dtx_soft.proofs.LeastPathLemmas.{next_small}
 use Rattle.dtx_pins.specs.declared.told.Excess.{Excess}
 use Rattle.dtx_pins.specs.declared.told.Lane.{Lane}
@@ -20,7 +20,8 @@ use Rattle.dtx_pins.specs.Told.{no_excess}
 use Rattle.dtx_pins.specs.Walks.{AreLeastSums}
 use Rattle.dtx_pins.specs.Weights.{depth, ground, weight}
 use Rattle.dtx_pins.proofs.ToldLanes.{eight, each_two}
-use Rattle.dtx_pins.proofs.ToldPaths.{AreTold, listed, listed_at, told_behind, told_cost, told_costs, told_level}
+use Rattle.dtx_pins.proofs.PinnedUnits.{listed, listed_at}
+use Rattle.dtx_pins.proofs.ToldPaths.{AreTold, told_behind, told_cost, told_costs, told_level}
 use Rattle.dtx_pins.proofs.WeightTests.{is_weighed}
 
 -- each symbol is a signed byte

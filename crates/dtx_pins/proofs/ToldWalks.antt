@@ -1,13 +1,14 @@
 -- Walks along the paths of known pairs, in parts.
-use Rattle.std.proofs.Common.{◌≡◌, ℕ, zero, suc, ℤ, pos, ◌+◌, ◌*◌, ◌/◌, ◌%◌, ◌<◌, ◌≤◌, ◌+ℤ◌, ◌≤ℤ◌, List, [], ◌∷◌}
+use Rattle.std.proofs.Common.{◌≡◌, ℕ, zero, suc, ℤ, pos, ◌+◌, ◌*◌, ◌<◌, ◌≤◌, ◌+ℤ◌, ◌≤ℤ◌, List, ◌∷◌}
 use Rattle.std.proofs.Common.{length, drop}
-use Rattle.std.proofs.Common.{refl, sym, ap, ap₂, ◌∙◌, subst, get_or, arith}
+use Rattle.std.proofs.Common.{refl, sym, ap, ap₂, ◌∙◌, get_or, arith}
 use Rattle.std.proofs.lemmas.Int.{ints}
-use Rattle.std.proofs.lemmas.List.{drop_more, drop-drop, get_or-drop}
+use Rattle.std.proofs.lemmas.List.{drop_more}
 use Rattle.dtx_pins.specs.declared.told.Excess.{Excess}
 use Rattle.dtx_pins.specs.declared.told.Lane.{Lane}
-use Rattle.dtx_pins.specs.Pins.{coder_pins, pin_at}
+use Rattle.dtx_pins.specs.Pins.{pin_at}
 use Rattle.dtx_pins.specs.Told.{IsLane, emptied, excess_with, lane_after, lane_behind}
+use Rattle.dtx_pins.proofs.PinnedWalks.{pin_here, pins_behind}
 use Rattle.dtx_pins.proofs.ToldLanes.{same_excess, same_lane}
 use Rattle.dtx_pins.proofs.ToldSums.{lane_at_end}
 
@@ -51,15 +52,9 @@ end_next : (scale : ℕ) (pins : List ℕ) (symbols : List ℤ) (t u : ℕ) (lan
     ≡ lane_at_end scale (drop t pins) (drop t symbols) lane
 end_next scale pins symbols t u lane e l =
     ap₂ (λ rest pin. lane_at_end scale rest (drop u symbols) (lane_after scale pin (get_or symbols t (pos 0)) lane))
-    (sym behind) (sym pin)
+    (sym (pins_behind pins t u e)) (sym (pin_here pins t))
     ∙ ap (λ symbols. lane_at_end scale (drop t pins) symbols lane) (sym opened)
   where
-    behind : drop 1 (drop t pins) ≡ drop u pins
-    behind = drop-drop 1 t pins ∙ ap (λ n. drop n pins) (omega arith)
-
-    pin : pin_at (drop t pins) 0 ≡ pin_at pins t
-    pin = get_or-drop t pins 0 4 ∙ ap (λ n. pin_at pins n) (omega arith)
-
     opened : drop t symbols ≡ get_or symbols t (pos 0) ∷ drop u symbols
     opened = drop_more symbols t (pos 0) l ∙ ap (λ n. get_or symbols t (pos 0) ∷ drop n symbols) (sym e)
 
@@ -130,9 +125,6 @@ behind_whole scale pins symbols (suc r) total lane =
     ∙ after_whole scale (pins r) (symbols r) (turned_by r total) (lane_behind scale pins symbols r lane)
     ∙ ap (whole (turned (turned_by r total))) (sym (behind_next scale pins symbols r lane))
 
-pub turned_segment : (total : Excess ℤ) → turned_by 69 total ≡ turned total
-turned_segment total = refl
-
 -- sums that begin anew
 nothing_more : (x : ℤ) → (x +ℤ pos 0) ≡ x
 nothing_more x = omega (arith, ints)
@@ -171,10 +163,3 @@ segment_more scale pins symbols t u total sum old now new f g e l same heard h s
         ∙ ap (whole (turned total)) (h ∙ behind_alike scale f (λ k. pin_at pins (t + k)) g
         (λ k. get_or symbols (t + k) (pos 0)) 69 old same heard)
         ∙ sym (behind_whole scale (λ k. pin_at pins (t + k)) (λ k. get_or symbols (t + k) (pos 0)) 69 total old)
-
--- the pins of a coder
-pub pin_of_coder : (pins : List (List ℕ)) (e t : ℕ) → pin_at (coder_pins pins e) t ≡ pin_at (get_or pins t []) e
-unfolding coder_pins
-pin_of_coder [] e t = refl
-pin_of_coder (entry ∷ pins) e zero = refl
-pin_of_coder (entry ∷ pins) e (suc t) = pin_of_coder pins e t

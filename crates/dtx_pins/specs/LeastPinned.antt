@@ -1,9 +1,7 @@
 -- Least paths among those that agree with pins.
-use Rattle.std.specs.Prelude.{ℕ, ℤ, ◌≡◌, ◌<◌, ◌≤◌, nat_le, Bool, List, [], ◌∷◌, length, drop, filter, slice_index}
-use Rattle.std.specs.Prelude.{unwrap_or}
-use Rattle.std.specs.List.{list_all, find}
+use Rattle.std.specs.Prelude.{ℕ, ℤ, ◌≡◌, ◌<◌, ◌≤◌, List, ◌∷◌, length, drop, filter, slice_index}
 use Rattle.dtx_soft.specs.Least.{AreInOrder}
-use Rattle.dtx_soft.specs.LeastPath.{all_paths}
+use Rattle.dtx_soft.specs.LeastPath.{all_paths, first_least}
 use Rattle.dtx_soft.specs.Paths.{IsPath, cost}
 use Rattle.dtx_pins.specs.Pins.{Agrees, agrees}
 
@@ -24,17 +22,10 @@ pub record IsLeastPinned (scale : ℕ) (pins : List ℕ) (symbols : List ℤ) (s
 unfoldable pub pinned_paths : List ℕ → ℕ → List (List ℕ)
 pinned_paths pins n = filter (λ path. agrees pins (drop 1 path)) (all_paths n)
 
--- whether none of these paths costs less than this one
-unfoldable pub costs_least_of : ℕ → List ℤ → List (List ℕ) → List ℕ → Bool
-costs_least_of scale symbols paths path =
-    list_all (λ other. nat_le (cost scale symbols (drop 1 path)) (cost scale symbols (drop 1 other))) paths
-
 -- The start of the least path under pins, and its levels behind it, as a function. Nothing computes it: the laws say
 -- what it is.
 unfoldable pub least_pinned_path : ℕ → List ℕ → List ℤ → List ℕ
-least_pinned_path scale pins symbols =
-    unwrap_or (find (costs_least_of scale symbols (pinned_paths pins (length symbols)))
-    (pinned_paths pins (length symbols))) []
+least_pinned_path scale pins symbols = first_least scale symbols (pinned_paths pins (length symbols))
 
 -- the start and the levels of that path
 abbrev pub least_pinned_start : ℕ → List ℕ → List ℤ → ℕ

@@ -1,7 +1,7 @@
 -- Paths all of whose pairs are known: how the one that is followed goes on, and how much more those from the other
 -- beginnings come to.
-use Rattle.std.specs.Prelude.{ℕ, ℤ, pos, ◌≡◌, ◌+◌, ◌*◌, ◌/◌, ◌%◌, ◌<◌, ◌+ℤ◌, ◌-ℤ◌, ◌*ℤ◌, ◌≤ℤ◌, neg_ℤ, zero, suc}
-use Rattle.std.specs.Prelude.{◌==◌, if◌then◌else◌, List, slice_index, slice_index_or}
+use Rattle.std.specs.Prelude.{ℕ, ℤ, pos, ◌+◌, ◌*◌, ◌/◌, ◌%◌, ◌<◌, ◌+ℤ◌, ◌-ℤ◌, ◌*ℤ◌, ◌≤ℤ◌, neg_ℤ, zero, suc}
+use Rattle.std.specs.Prelude.{◌==◌, if◌then◌else◌, slice_index, slice_index_or}
 use Rattle.dtx_pins.specs.declared.told.Excess.{Excess}
 use Rattle.dtx_pins.specs.declared.told.Excesses.{Excesses}
 use Rattle.dtx_pins.specs.declared.told.Lane.{Lane}
@@ -97,33 +97,21 @@ excess_with total more = record {
   other_both = total.both +ℤ more.other_both;
 }
 
+-- sums that are all the same
+abbrev pub alike : {A : Type 0} → A → Excess A
+alike number = record { far = number; near = number; other_near = number; both = number; other_both = number }
+
 -- no sums
 abbrev pub no_excess : Excess ℤ
-no_excess = record {
-  far = pos 0;
-  near = pos 0;
-  other_near = pos 0;
-  both = pos 0;
-  other_both = pos 0;
-}
+no_excess = alike (pos 0)
 
 -- the path at its beginning
 abbrev pub beginning : Lane
-beginning = record {
-  former = 0;
-  q1 = 0;
-  q0 = 0;
-  more = no_excess;
-}
+beginning = record { former = 0; q1 = 0; q0 = 0; more = no_excess }
 
 -- the same path with new sums
 abbrev pub emptied : Lane → Lane
-emptied lane = record {
-  former = lane.former;
-  q1 = lane.q1;
-  q0 = lane.q0;
-  more = no_excess;
-}
+emptied lane = record { former = lane.former; q1 = lane.q1; q0 = lane.q0; more = no_excess }
 
 -- the mark of a pin that tells a pair
 abbrev pub told_mark : ℕ → ℕ

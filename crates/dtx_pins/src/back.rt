@@ -24,8 +24,7 @@ pub(crate) fn backward(
 ) -> [[[u32; 4]; 2]; CODERS]
     requires few { length heard.now ≤ FIELD_PACKETS }
     requires pins { length cells.old ≡ SEGMENT_ROUNDS * length heard.now }
-    ensures walked { AreWalked weights.now.scale 0 cells.old heard.now (λ e. slice_index_or result e []) cells.new }
-    ensures long { length cells.new ≡ length cells.old }
+    ensures { AreWalked weights.now.scale 0 cells.old heard.now (λ e. slice_index_or result e []) cells.new }
 {
     let mut sums = no_sums();
     for i in (0..heard.len()).rev() {
@@ -60,7 +59,6 @@ fn back_segment(
     ensures bounded { (n : ℕ) → ((e : ℕ) → e < CODERS → AreBounded n (sums_of sums.old e))
         → (e : ℕ) → e < CODERS → AreBounded (MAX_WEIGHT * SEGMENT_ROUNDS + n) (sums_of sums.new e) }
     ensures multiples { (e : ℕ) → e < CODERS → AreMultiples (sums_of sums.new e) }
-    ensures long { length cells.new ≡ length cells.old }
 {
     for r in (0..SEGMENT_ROUNDS).rev() {
         cells[r] = step_all(weights, &cells[r], &read_turned(heard, r, turn), sums);

@@ -1,6 +1,6 @@
 //! All twelve coders of a field.
 
-ghost use Rattle.std.specs.Prelude.{◌≡◌, ℕ, ◌*◌, ◌≤◌, [], length, slice_index_or, true};
+ghost use Rattle.std.specs.Prelude.{◌≡◌, ◌↔◌, ℕ, ◌*◌, ◌≤◌, IsTrue, [], length, slice_index_or};
 ghost use Rattle.dtx_pins.specs.Pins.{AreAllTold, pin_at};
 ghost use Rattle.dtx_pins.specs.Moved.{rows_moved};
 ghost use Rattle.dtx_pins.specs.PinnedField.{IsPinned, pinned_cost};
@@ -49,8 +49,7 @@ fn first_pins(pins: &[[u16; CODERS]]) -> [u16; CODERS]
 }
 
 /// Writes the marks in place of the pins, and returns sums that stand for the least costs before the first step. Where
-/// all pairs are known, one way is left from each beginning, and no search is needed. At scale 0 all paths cost the
-/// same, which sums over one path would not show.
+/// all pairs are known, one way is left from each beginning, and no search is needed.
 fn walk_back(
     weights: &Weights,
     cells: &mut [[u16; CODERS]],
@@ -58,10 +57,9 @@ fn walk_back(
 ) -> [[[u32; 4]; 2]; CODERS]
     requires few { length heard.now ≤ FIELD_PACKETS }
     requires pins { length cells.old ≡ SEGMENT_ROUNDS * length heard.now }
-    ensures walked { AreWalked weights.now.scale 0 cells.old heard.now (λ e. slice_index_or result e []) cells.new }
-    ensures long { length cells.new ≡ length cells.old }
+    ensures { AreWalked weights.now.scale 0 cells.old heard.now (λ e. slice_index_or result e []) cells.new }
 {
-    if weights.scale > 0 && are_all_told(cells) {
+    if are_all_told(cells) {
         told_sums(weights.scale, cells, heard)
     } else {
         backward(weights, cells, heard)
@@ -70,7 +68,7 @@ fn walk_back(
 
 /// Whether all pins tell a pair.
 fn are_all_told(pins: &[[u16; CODERS]]) -> bool
-    ensures { result ≡ true → AreAllTold pins.now }
+    ensures { IsTrue result ↔ AreAllTold pins.now }
 {
     let mut highest = 0;
     for row in pins {

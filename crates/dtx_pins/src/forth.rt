@@ -1,9 +1,8 @@
 //! The walk from the beginning of the symbols to their end, for all coders side by side. It follows the marks, and
 //! decides the symbols by the levels of the least paths.
 
-ghost use Rattle.std.specs.Prelude.{◌≡◌, ◌≢◌, ℕ, pos, ◌+◌, ◌*◌, ◌/◌, ◌%◌, ◌<◌, ◌≤◌, length, slice_index};
-ghost use Rattle.std.specs.Prelude.{List, map, sum, [], slice_index_or, if◌then◌else◌};
-ghost use Rattle.std.specs.List.{range_with_len};
+ghost use Rattle.std.specs.Prelude.{◌≡◌, ◌≢◌, ℕ, pos, ◌+◌, ◌-◌, ◌*◌, ◌/◌, ◌%◌, ◌<◌, ◌≤◌, length, slice_index};
+ghost use Rattle.std.specs.Prelude.{List, [], slice_index_or, if◌then◌else◌};
 ghost use Rattle.std.specs.Ordering.{int_eq};
 ghost use Rattle.dtx_pins.specs.Moved.{moved_in, rows_moved};
 ghost use Rattle.dtx_pins.specs.Pins.{coder_pins};
@@ -16,7 +15,9 @@ use crate::lanes::lanes_of;
 use crate::pinned::Decision;
 use crate::start::Stands;
 use dtx_sizes::{CODERS, FIELD_PACKETS, SEGMENT, SEGMENT_ROUNDS, SEGMENT_SYNC};
-use dtx_soft::{LANES, MAX_SCALE, MOST_SEGMENT_COST, read_turned, square, write_turned};
+use dtx_soft::{
+    LANES, MAX_SCALE, MAX_SYMBOLS, MOST_SEGMENT_COST, read_turned, square, total, write_turned,
+};
 
 /// Decides the data symbols of segments by the levels of the least paths over the symbols that were heard. `stands` has
 /// the beginnings of the paths.
@@ -73,7 +74,7 @@ fn trace_turned(
     requires scale { scale ≤ MAX_SCALE }
     requires turn { turn < 3 }
     requires marks { length marks.now ≡ SEGMENT_ROUNDS }
-    requires stands { (e : ℕ) → e < LANES → IsStand 21459 (stand_at stands.old e) }
+    requires stands { (e : ℕ) → e < LANES → IsStand (SEGMENT_ROUNDS * (FIELD_PACKETS - 1)) (stand_at stands.old e) }
     ensures { AreTraced scale turn SEGMENT_ROUNDS marks.now heard.now result stands.old stands.new }
 {
     match turn {
@@ -95,7 +96,7 @@ fn trace_segment(
     requires scale { scale ≤ MAX_SCALE }
     requires turn { turn < 3 }
     requires marks { length marks.now ≡ SEGMENT_ROUNDS }
-    requires stands { (e : ℕ) → e < LANES → IsStand 21459 (stand_at stands.old e) }
+    requires stands { (e : ℕ) → e < LANES → IsStand (SEGMENT_ROUNDS * (FIELD_PACKETS - 1)) (stand_at stands.old e) }
     ensures { AreTraced scale turn SEGMENT_ROUNDS marks.now heard.now result stands.old stands.new }
 {
     let mut path = [0; SEGMENT];
@@ -120,7 +121,7 @@ fn trace_all(
     stands: &mut Stands,
 ) -> [i8; LANES]
     requires scale { scale ≤ MAX_SCALE }
-    requires stands { (e : ℕ) → e < LANES → IsStand 21527 (stand_at stands.old e) }
+    requires stands { (e : ℕ) → e < LANES → IsStand (MAX_SYMBOLS - 1) (stand_at stands.old e) }
     ensures { (e : ℕ) → e < LANES → IsNext scale (slice_index_or symbols.now e (pos 0)) (slice_index marks.now e)
         (stand_at stands.old e) (stand_at stands.new e) (slice_index_or result e (pos 0)) }
 {
@@ -137,7 +138,7 @@ fn trace_all(
 /// Takes one step more, but leaves the costs as they are. Returns the levels.
 #[inline(always)]
 fn move_all(marks: &[u16; LANES], stands: &mut Stands) -> [u16; LANES]
-    requires stands { (e : ℕ) → e < LANES → IsStand 21527 (stand_at stands.old e) }
+    requires stands { (e : ℕ) → e < LANES → IsStand (MAX_SYMBOLS - 1) (stand_at stands.old e) }
     ensures { (e : ℕ) → e < LANES → IsMoved (slice_index marks.now e) (stand_at stands.old e) (stand_at stands.new e)
         (slice_index result e) }
 {
@@ -195,15 +196,4 @@ fn put_symbol(place: &mut i8, symbol: i8) -> u16
     let moved = if *place == symbol { 0 } else { 1 };
     *place = symbol;
     moved
-}
-
-/// The sum of the costs of the twelve coders' paths.
-fn total(costs: &[u32; LANES]) -> u64
-    ensures { result ≡ sum (map (λ e. slice_index costs.now e) (range_with_len 0 CODERS)) }
-{
-    let mut total = 0;
-    for e in 0..CODERS {
-        total += costs[e] as u64;
-    }
-    total
 }

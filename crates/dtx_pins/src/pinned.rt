@@ -1,6 +1,6 @@
 //! The decoder under pins.
 
-ghost use Rattle.std.specs.Prelude.{◌≡◌, ◌*◌, ◌≤◌, length};
+ghost use Rattle.std.specs.Prelude.{◌≡◌, ◌*◌, ◌<◌, ◌≤◌, length};
 ghost use Rattle.dtx_pins.specs.Moved.{rows_moved};
 ghost use Rattle.dtx_pins.specs.PinnedField.{IsPinned, pinned_cost};
 
@@ -42,7 +42,8 @@ impl Model for Pinned {
 impl Pinned {
     /// A decoder of symbols at `scale` times the standard's levels, which are 2 * z - 7 for z from 0 to 7.
     pub fn scaled(scale: u8) -> Pinned
-        requires { scale ≤ MAX_SCALE }
+        requires some { 0 < scale }
+        requires most { scale ≤ MAX_SCALE }
         ensures { result ≡ scale }
     {
         Pinned {
@@ -72,7 +73,6 @@ impl Pinned {
         ensures moved { result.moved ≡ rows_moved decided.old decided.new }
         ensures still { result.moved ≡ 0 → decided.new ≡ decided.old }
         ensures few { result.moved ≤ SEGMENT * length heard.now }
-        ensures long { length pins.new ≡ length pins.old }
     {
         decide_field(&self.weights, pins, heard, decided)
     }

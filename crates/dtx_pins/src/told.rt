@@ -8,8 +8,8 @@ ghost use Rattle.std.specs.Prelude.{FitsSigned, [], length, slice_index, slice_i
 ghost use Rattle.std.specs.Int.{w8};
 ghost use Rattle.dtx_pins.specs.Pins.{AreAllTold, pin_at};
 ghost use Rattle.dtx_pins.specs.Steps.{cost_at};
-ghost use Rattle.dtx_pins.specs.Told.{IsLane, IsWithin, both_by, emptied, excess_at, excess_or, excess_with, far_by};
-ghost use Rattle.dtx_pins.specs.Told.{lane_after, lane_at, lane_behind, less_by, near_by, no_excess, signed, told_mark};
+ghost use Rattle.dtx_pins.specs.Told.{IsLane, IsWithin, alike, both_by, emptied, excess_at, excess_or, excess_with};
+ghost use Rattle.dtx_pins.specs.Told.{far_by, lane_after, lane_at, lane_behind, less_by, near_by, signed, told_mark};
 ghost use Rattle.dtx_pins.specs.Told.{beginning, from_beginning, if_bit, less_beside, less_with_z2};
 ghost use Rattle.dtx_pins.specs.Walks.{AreWalked};
 
@@ -72,11 +72,10 @@ pub(crate) fn told_sums(
     requires few { length heard.now ≤ FIELD_PACKETS }
     requires pins { length cells.old ≡ SEGMENT_ROUNDS * length heard.now }
     requires told { AreAllTold cells.old }
-    ensures walked { AreWalked scale 0 cells.old heard.now (λ e. slice_index_or result e []) cells.new }
-    ensures long { length cells.new ≡ length cells.old }
+    ensures { AreWalked scale 0 cells.old heard.now (λ e. slice_index_or result e []) cells.new }
 {
     let mut told = beginning();
-    let mut totals = no_totals();
+    let mut totals = alike(0);
     for i in 0..heard.len() {
         let at = SEGMENT_ROUNDS * i;
         told_segment(
@@ -99,26 +98,20 @@ fn beginning() -> Told
         former: [0; LANES],
         q1: [0; LANES],
         q0: [0; LANES],
-        more: Excesses {
-            far: [0; LANES],
-            near: [0; LANES],
-            other_near: [0; LANES],
-            both: [0; LANES],
-            other_both: [0; LANES],
-        },
+        more: alike(0),
     }
 }
 
-/// Sums over no steps.
-fn no_totals() -> Excesses<i32>
-    ensures { (e : ℕ) → e < LANES → excess_at result e ≡ no_excess }
+/// Sums that are all the same.
+fn alike<T: Copy>(number: T) -> Excesses<T>
+    ensures { (e : ℕ) (other : T) → e < LANES → excess_or result e other ≡ alike number }
 {
     Excesses {
-        far: [0; LANES],
-        near: [0; LANES],
-        other_near: [0; LANES],
-        both: [0; LANES],
-        other_both: [0; LANES],
+        far: [number; LANES],
+        near: [number; LANES],
+        other_near: [number; LANES],
+        both: [number; LANES],
+        other_both: [number; LANES],
     }
 }
 
@@ -143,7 +136,6 @@ fn told_segment(
     ensures small { (e : ℕ) → e < LANES → IsLane SEGMENT_ROUNDS (lane_at told.new e) }
     ensures marks { (r e : ℕ) → r < SEGMENT_ROUNDS → e < CODERS → slice_index (slice_index_or cells.new r []) e
         ≡ told_mark (pin_at (slice_index_or cells.old r []) e) }
-    ensures long { length cells.new ≡ length cells.old }
     ensures bytes { (r e : ℕ) → r < SEGMENT_ROUNDS → e < CODERS
         → FitsSigned w8 (slice_index_or heard.now (4 + 12 * r + (e + 12 - 4 * turn) % 12) (pos 0)) }
 {
@@ -323,10 +315,10 @@ fn add(told: &mut Told, totals: &mut Excesses<i32>)
     ensures lanes { (e : ℕ) → e < LANES → lane_at told.new e ≡ emptied (lane_at told.old e) }
 {
     for e in 0..LANES {
-        let lane = lane_of(told, e);
-        put_excess(excess_with(excess_of(totals, e), lane.more), e, totals);
-        put_lane(&emptied(&lane), e, told);
+        let more = excess_of(&told.more, e);
+        put_excess(excess_with(excess_of(totals, e), more), e, totals);
     }
+    told.more = alike(0);
 }
 
 /// The sums of a segment, which has an odd number of steps, with those of the steps before them.
@@ -342,25 +334,6 @@ fn excess_with(total: Excess<i32>, more: Excess<i16>) -> Excess<i32>
         other_near: total.near + more.other_near as i32,
         both: total.other_both + more.both as i32,
         other_both: total.both + more.other_both as i32,
-    }
-}
-
-/// The same path without sums.
-#[inline(always)]
-fn emptied(lane: &Lane) -> Lane
-    ensures { result ≡ emptied lane.now }
-{
-    Lane {
-        former: lane.former,
-        q1: lane.q1,
-        q0: lane.q0,
-        more: Excess {
-            far: 0,
-            near: 0,
-            other_near: 0,
-            both: 0,
-            other_both: 0,
-        },
     }
 }
 

@@ -17,6 +17,7 @@ pub(crate) struct Weights {
     pub(crate) scale: u8,
     low: [u32; 4],
     high: [u32; 4],
+    ghost some: { 0 < scale },
     ghost small: { scale ≤ MAX_SCALE },
     ghost low_are: { (i : ℕ) → i < 4 → slice_index low i ≡ ground scale i + i / 2 },
     ghost high_are: { (i : ℕ) → i < 4 → slice_index high i ≡ ground scale (4 + i) + (4 + i) / 2 },
@@ -25,7 +26,8 @@ pub(crate) struct Weights {
 impl Weights {
     /// The weights at a scale.
     pub(crate) fn new(scale: u8) -> Weights
-        requires { scale ≤ MAX_SCALE }
+        requires some { 0 < scale }
+        requires small { scale ≤ MAX_SCALE }
         ensures { result.scale ≡ scale }
     {
         Weights {
@@ -54,12 +56,21 @@ impl Weights {
         ensures low { (i : ℕ) → i < 4 → slice_index result.0 i ≡ fare self.now.scale symbol first second i }
         ensures high { (i : ℕ) → i < 4 → slice_index result.1 i ≡ fare self.now.scale symbol first second (4 + i) }
     {
-        let depth = depth(self.scale, symbol);
+        let depth = self.depth(symbol);
         let slopes = slopes(4 * depth, first, second);
         (
             raised(&self.low, &slopes, 0),
             raised(&self.high, &slopes, 16 * depth),
         )
+    }
+
+    /// How far a symbol is below the greatest one.
+    #[inline(always)]
+    fn depth(&self, symbol: i8) -> u32
+        ensures depth { result ≡ depth self.now.scale symbol }
+        ensures small { result ≤ 255 }
+    {
+        (127 - symbol as i16) as u32
     }
 }
 
@@ -71,19 +82,6 @@ fn grounded(scale: u8, z: u8) -> u32
 {
     let bend = scale as u32 * (z as u32 * (7 - z as u32));
     3584 - 4 * bend - 508 * z as u32 + z as u32 / 2
-}
-
-/// How far a symbol is below the greatest one.
-#[inline(always)]
-fn depth(scale: u8, symbol: i8) -> u32
-    ensures depth { result ≡ depth scale symbol }
-    ensures small { result ≤ 255 }
-{
-    if scale == 0 {
-        127
-    } else {
-        (127 - symbol as i16) as u32
-    }
 }
 
 /// What the first four levels come to with their pens, if each weighs so much more than the one before it.

@@ -10,21 +10,22 @@ use Rattle.dtx_soft.specs.Coders.{coder_symbols}
 use Rattle.dtx_soft.proofs.SoftenedLemmas.{length-coder}
 use Rattle.dtx_pins.specs.Pins.{coder_pins, pin_at}
 use Rattle.dtx_pins.specs.Told.{IsLane, IsWithin, beginning, excess_at, lane_at, told_mark}
+use Rattle.dtx_pins.proofs.PinnedWalks.{pin_in_column}
 use Rattle.dtx_pins.proofs.SegmentRows.{part_row, row_before, row_behind, row_within, symbol_in_segment}
 use Rattle.dtx_pins.proofs.ToldLanes.{beginning_lane, emptied_lane, within_more, within_sum}
 use Rattle.dtx_pins.proofs.ToldPaths.{AreTold, told_mark_is}
 use Rattle.dtx_pins.proofs.ToldSums.{AreBytes, lane_at_end, told_sums_are}
-use Rattle.dtx_pins.proofs.ToldWalks.{pin_of_coder, segment_more, whole, whole_fresh}
+use Rattle.dtx_pins.proofs.ToldWalks.{segment_more, whole, whole_fresh}
 use Rattle.dtx_pins.proofs.told.told_sums.Goals as goal
 
 pub loop-i-init : goal.loop-i-init
 loop-i-init c = record {
   long = c.requires.pins;
   lanes = λ e l. ap₂ (λ total lane. lane_at_end c.args.scale (coder_pins c.args.cells.now e)
-      (coder_symbols c.args.heard.now e) (whole total lane)) (c.no_totals-totals.ensures e (omega arith))
+      (coder_symbols c.args.heard.now e) (whole total lane)) (c.alike-totals.ensures e (pos 0) (omega arith))
       (c.beginning-told.ensures e (omega arith));
   fresh = λ e l. subst (IsLane 0) (sym (c.beginning-told.ensures e l)) beginning_lane;
-  totals = λ e l. subst (IsWithin 0) (sym (c.no_totals-totals.ensures e l)) beginning_lane.small;
+  totals = λ e l. subst (IsWithin 0) (sym (c.alike-totals.ensures e (pos 0) l)) beginning_lane.small;
   marks = λ t e l m. absurd (omega arith);
   left = λ t l. refl;
   bytes = λ i r e l m n. absurd (omega arith);
@@ -45,7 +46,7 @@ loop-i-preserved c = record {
       (λ r. pin_at (get_or (take k (drop at c.loop-i.cells)) r []) e)
       (λ r. get_or (get_or c.args.heard.now c.loop-i.i []) (4 + 12 * r + (e + 12 - 4 * (c.loop-i.i % 3)) % 12) (pos 0))
       (omega arith) (omega (arith, length-coder c.args.heard.now e))
-      (λ r m. row_pin r e m ∙ sym (pin_of_coder c.args.cells.now e (69 * c.loop-i.i + r)))
+      (λ r m. row_pin r e m ∙ sym (pin_in_column c.args.cells.now e (69 * c.loop-i.i + r)))
       (λ r m. sym (symbol_in_segment c.args.heard.now (c.loop-i.i % 3) c.loop-i.i r e (omega arith) m refl))
       (c.told_segment.ensures.lanes e l) (c.add.ensures.totals e (omega arith)) (c.add.ensures.lanes e (omega arith))
       ∙ c.loop-i.invariant.lanes e l;
@@ -101,8 +102,8 @@ loop-i-preserved c = record {
         (sym same) (c.told_segment.ensures.bytes r e m n)
     bytes i r e l m n (inr d) = c.loop-i.invariant.bytes i r e (omega arith) m n
 
-pub returns-clause-walked : goal.returns-clause-walked
-returns-clause-walked c = record {
+pub returns : goal.returns
+returns c = record {
   sums_are = λ e l. told_sums_are c.args.scale (coder_pins c.args.cells.now e) (coder_symbols c.args.heard.now e)
       (length c.args.heard.now) (excess_at c.loop-i.totals e) (get_or c.all_sums.result e []) c.requires.from
       c.requires.to (told e l) (bytes e l) (length-coder c.args.heard.now e) (at_end e l)
@@ -110,7 +111,7 @@ returns-clause-walked c = record {
   marks_are = λ t e l m n. told_mark_is c.args.scale (coder_pins c.args.cells.now e)
       (coder_symbols c.args.heard.now e) t _ (omega (arith, length-coder c.args.heard.now e)) (told e n)
       (c.loop-i.invariant.marks t e (omega (arith, end)) n
-      ∙ ap told_mark (sym (pin_of_coder c.args.cells.now e t)));
+      ∙ ap told_mark (sym (pin_in_column c.args.cells.now e t)));
 }
   where
     end : c.loop-i.i ≡ length c.args.heard.now
@@ -119,7 +120,7 @@ returns-clause-walked c = record {
     told : (e : ℕ) → e < 12
         → AreTold (coder_pins c.args.cells.now e) (length (coder_symbols c.args.heard.now e))
     told e l t m =
-        subst (λ pin. pin < 4) (sym (pin_of_coder c.args.cells.now e t))
+        subst (λ pin. pin < 4) (sym (pin_in_column c.args.cells.now e t))
         (c.requires.told t e (omega (arith, m, length-coder c.args.heard.now e, c.requires.pins)) l)
 
     bytes : (e : ℕ) → e < 12 → AreBytes (coder_symbols c.args.heard.now e)
