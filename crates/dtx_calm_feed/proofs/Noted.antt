@@ -15,8 +15,9 @@ use Rattle.dtx_ops.specs.declared.refusal.OpsNo.TheVariants.{NotOps, Uncorrectab
 use Rattle.dtx_ops.specs.declared.refusal.OpsNo.TheVariants.{Count, Twice, Fill, Page}
 use Rattle.dtx_exciter.proofs.ForceLemmas.{IsBehind, counted_behind}
 use Rattle.dtx_exciter.specs.Order.{Order, either, ordered, ordered_at, order_at, counting_order}
-use Rattle.dtx_exciter.specs.Packets.{anchor_of, read_fields, readings, reads}
+use Rattle.dtx_exciter.specs.Packets.{anchor_of, readings, reads}
 use Rattle.dtx_watch.proofs.AnchorsLemmas.{below, since}
+use Rattle.dtx_watch.proofs.SoundLemmas.{reads_ok}
 use Rattle.dtx_watch.specs.Notes.{lock_note, one_or_none, ops_note, packet_note, states_note}
 use Rattle.dtx_watch.proofs.ToldLemmas.{counts}
 use Rattle.dtx_watch.specs.Watch.{expected_at, expected_by, note_under, notes_at, reading_note, stamped_before}
@@ -34,14 +35,6 @@ pub record IsOrderedAt (l : List (List ℕ)) (k : ℕ) (ops : Ops) : Type 0 wher
   pub inside : k < length l
   pub reads_so : reading (get_or l k []) ≡ Ok ops
   pub at_place : (ops.index == k % 624) ≡ true
-
-reads_ok : (p : List ℕ) (ops : Ops) → reads p ≡ Some ops → reading p ≡ Ok ops
-unfolding reads
-reads_ok p ops e = by_reading (reading p) e
-  where
-    by_reading : (r : Result Ops OpsNo) → read_fields r ≡ Some ops → r ≡ Ok ops
-    by_reading (Ok o) h = let q : o ≡ ops = cc in ap Ok q
-    by_reading (Err w) h = cc
 
 none_some : (ops : Ops) → ◌≡◌ {A = Option Ops} None (Some ops) → ⊥
 none_some ops e = cc

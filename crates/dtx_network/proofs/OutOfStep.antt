@@ -3,16 +3,18 @@
 use Rattle.std.proofs.Common.{◌≡◌, ◌⊎◌, inl, inr, ℕ, ℤ, zero, suc, ◌+◌, ◌-◌, ◌%◌, ◌<◌, ◌≤◌, ◌==◌, Bool, true, false}
 use Rattle.std.proofs.Common.{cond, Some, None, option_map, List, [], ◌∷◌, ◌++◌, length, get_or, take, drop, refl, sym}
 use Rattle.std.proofs.Common.{ap, ap₂, subst, ◌∙◌, arith, slice_range, append-nil, length-append, length-drop}
-use Rattle.std.proofs.Common.{length-take-le, take_at, take_all}
+use Rattle.std.proofs.Common.{length-take-le, take_at}
 use Rattle.std.proofs.lemmas.Bool.{cond-true, eqb-false}
 use Rattle.std.proofs.lemmas.List.{length_push}
 use Rattle.dtx_packets.specs.Packet.{sync_of}
 use Rattle.dtx_cadence.specs.Anchor.{has_mark, anchor}
-use Rattle.dtx_cadence.proofs.AnchoredLemmas.{two_missing, in_step_at_third}
+use Rattle.dtx_cadence.specs.Cadence.{IsInStep}
+use Rattle.dtx_cadence.proofs.AnchoredLemmas.{two_missing}
 use Rattle.dtx_cadence.proofs.NextAnchorLemmas.{anchor_below, anchor_next, ends_with}
 use Rattle.dtx_exciter.specs.declared.answers.Told.TheVariants.{Muted}
 use Rattle.dtx_exciter.specs.declared.answers.Why.TheVariants.{Cadence}
-use Rattle.dtx_exciter.proofs.FollowedLemmas.{marked_part, syncs_append, after, after_more}
+use Rattle.dtx_exciter.proofs.FollowedLemmas.{after, after_more}
+use Rattle.dtx_exciter.proofs.LockedLemmas.{locked_third}
 use Rattle.dtx_exciter.specs.Lockstep.{IsFeed}
 use Rattle.dtx_exciter.specs.Packets.{anchor_of, readings, syncs, last_answer}
 use Rattle.dtx_exciter.specs.Told.{was_lost, told_from, told_of, told_under}
@@ -92,26 +94,18 @@ third_in_step : (a d : ℕ) (y : ℤ) (earlier feed : List (List ℕ)) (mark j :
 unfolding anchor_of
 third_in_step a d y earlier feed mark j f m l h e =
     let below : j < length (syncs earlier) = anchor_below (syncs earlier) j h in
-    let step : (length (syncs earlier ++ take 1248 part) - j) % 624 ≡ 0 =
-    in_step_at_third (syncs earlier) part (marked_part a d y feed mark 1248 f m l) (omega (arith, long)) j
-    (ap anchor (ap (λ x. syncs earlier ++ x) (take_all 1248 part (omega (arith, long)))
-    ∙ sym (syncs_append earlier (take 1248 (drop mark feed)))) ∙ e) in
+    let two_frames : mark + 1248 - mark ≡ 1248 = omega arith in
+    let at = subst (λ (n : ℕ). IsInStep (syncs (after earlier feed mark n))) two_frames
+    (locked_third a d y earlier feed mark f m l).in_step j e in
     omega (
       arith,
-      step,
+      at,
       below,
-      long,
       length-syncs earlier,
-      length-append (syncs earlier) (take 1248 part),
-      length-take-le 1248 part (omega (arith, long)),
+      length-syncs (after earlier feed mark 1248),
+      length-append earlier (take 1248 (drop mark feed)),
+      length-take-le 1248 (drop mark feed) (omega (arith, l, length-drop mark feed)),
     )
-  where
-    part : List ℕ
-    part = syncs (take 1248 (drop mark feed))
-
-    long : length part ≡ 1248
-    long = length-syncs (take 1248 (drop mark feed))
-        ∙ length-take-le 1248 (drop mark feed) (omega (arith, l, length-drop mark feed))
 
 pub lost_before_third : (a d : ℕ) (y : ℤ) (feed earlier : List (List ℕ)) (mark j : ℕ) → IsFeed a d y feed
     → mark % 624 ≡ 0 → mark + 1248 ≤ length feed → anchor_of earlier ≡ Some j

@@ -1,6 +1,5 @@
 -- What a watcher keeps of nothing, and of the anchor's packet.
-use Rattle.std.proofs.Common.{◌≡◌, ◌<◌, false, None, List, [], ◌∷◌, length, take, set, sym, ap, subst, ◌∙◌}
-use Rattle.std.proofs.Common.{arith}
+use Rattle.std.proofs.Common.{◌≡◌, ◌<◌, false, None, List, [], ◌∷◌, length, take, set, sym, ap, subst, ◌∙◌, arith}
 use Rattle.std.proofs.lemmas.List.{map-set, take_more_set, length-map}
 use Rattle.dtx_packets.specs.declared.packet.Packet.{Packet}
 use Rattle.dtx_cadence.specs.Anchor as cadence

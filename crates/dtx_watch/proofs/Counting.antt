@@ -1,7 +1,6 @@
 -- How many notes a group brings.
-use Rattle.std.proofs.Common.{ℕ, ◌+◌, ◌≤◌, ◌==◌, ◌&&◌, Bool, true, false, not, cond, [], ◌∷◌, ◌++◌}
-use Rattle.std.proofs.Common.{length, arith}
-use Rattle.std.proofs.lemmas.List.{length-append}
+use Rattle.std.proofs.Common.{ℕ, ◌+◌, ◌≤◌, ◌==◌, ◌&&◌, Bool, true, false, not, cond, [], ◌∷◌, ◌++◌, length, arith}
+use Rattle.std.proofs.Common.{length-append}
 use Rattle.dtx_watch.specs.declared.notes.Note.{Note}
 use Rattle.dtx_watch.specs.declared.watcher.Watcher.{Watcher}
 use Rattle.dtx_watch.specs.Step.{Group, notes_in, lock_notes}

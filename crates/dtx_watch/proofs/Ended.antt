@@ -1,7 +1,6 @@
 -- What is done with a whole group.
 use Rattle.std.proofs.Common.{◌≡◌, ℕ, ℤ, ◌%◌, ◌||◌, Bool, false, cond, Option, None, option_map, List, ◌++◌, ap, ap₂}
-use Rattle.std.proofs.Common.{◌∙◌}
-use Rattle.std.specs.Prelude.{nat_le, is_some}
+use Rattle.std.proofs.Common.{◌∙◌, nat_le, is_some}
 use Rattle.std.specs.Option.{unwrap_or}
 use Rattle.dtx_coder.specs.Groups.{Coding, IsCoded, after_group}
 use Rattle.dtx_coder.specs.Groups as coder

@@ -1,13 +1,12 @@
 -- A packet joins those under the anchor.
-use Rattle.std.proofs.Common.{◌≡◌, ◌≢◌, ℕ, ◌+◌, ◌-◌, ◌/◌, ◌%◌, ◌<◌, ◌≤◌, ◌⊎◌, ◌==◌, ◌&&◌, ◌||◌, Bool, true, false}
-use Rattle.std.proofs.Common.{not, cond, Option, Some, None, option_map, List, [], ◌∷◌, ◌++◌, length, take, drop, set}
-use Rattle.std.proofs.Common.{get_or, refl, sym, ap, ap₂, subst, ◌∙◌, arith, inl, inr}
-use Rattle.std.specs.Prelude.{nat_le, is_some}
+use Rattle.std.proofs.Common.{◌≡◌, ◌≢◌, ℕ, ◌+◌, ◌-◌, ◌/◌, ◌%◌, ◌<◌, ◌≤◌, ◌⊎◌, ◌==◌, ◌&&◌, ◌||◌, Bool, true, false, not}
+use Rattle.std.proofs.Common.{cond, Option, Some, None, option_map, List, [], ◌∷◌, ◌++◌, length, take, drop, set}
+use Rattle.std.proofs.Common.{get_or, refl, sym, ap, ap₂, subst, ◌∙◌, arith, inl, inr, nat_le, is_some, eq-eqb, ne_eqb}
+use Rattle.std.proofs.Common.{le-leb, take_all, get_or-take, get_or-drop}
 use Rattle.std.specs.List.{range_with_len, flat_map, cons_option}
 use Rattle.std.specs.Option.{unwrap_or}
-use Rattle.std.proofs.lemmas.Bool.{cases_lt, cond-true, cond-false, eq-eqb, ne_eqb, le-leb, lt-leb, and_right}
-use Rattle.std.proofs.lemmas.List.{length_push, drop-append-le, take_all, take-append-le, get_or-take}
-use Rattle.std.proofs.lemmas.List.{get_or-drop, get_or-append_right}
+use Rattle.std.proofs.lemmas.Bool.{cases_lt, cond-true, cond-false, lt-leb, and_right}
+use Rattle.std.proofs.lemmas.List.{length_push, drop-append-le, take-append-le, get_or-append_right}
 use Rattle.dtx_packets.specs.declared.packet.Packet.{Packet}
 use Rattle.dtx_coder.specs.Groups.{Coding, after_group}
 use Rattle.dtx_coder.specs.Along.{states_since}
@@ -28,8 +27,8 @@ use Rattle.dtx_watch.specs.declared.telling.Expected.TheVariants.{Early, First, 
 use Rattle.dtx_watch.specs.declared.watcher.Watcher.{Watcher}
 use Rattle.dtx_watch.specs.Watch.{expected_by, expected_at, stamped_before, note_under, group_notes}
 use Rattle.dtx_watch.specs.Notes.{one_or_none}
-use Rattle.dtx_watch.specs.Step.{group_at_hand, order_of, earliest, notes_in, lock_notes, expected_of}
-use Rattle.dtx_watch.specs.Step.{states_in, group_of, IsEnded}
+use Rattle.dtx_watch.specs.Step.{group_at_hand, order_of, earliest, notes_in, lock_notes, expected_of, states_in}
+use Rattle.dtx_watch.specs.Step.{group_of, IsEnded}
 use Rattle.dtx_watch.specs.Kept.{are_some, KeepsUnder, IsJoined}
 use Rattle.dtx_watch.proofs.GroupsLemmas.{IsAtHand, notes_at_hand, order_at_hand, stamped_at_hand}
 use Rattle.dtx_watch.proofs.ToldLemmas.{stamped_front, not_whole, counts, early}

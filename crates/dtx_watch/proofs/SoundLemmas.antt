@@ -1,15 +1,13 @@
 -- A sound feed, watched from any of its marks on.
 use Rattle.std.proofs.Common.{◌≡◌, ◌≢◌, ◌⊎◌, inl, inr, ℕ, zero, suc, ◌+◌, ◌-◌, ◌*◌, ◌/◌, ◌%◌, ◌<◌, ◌≤◌, ◌==◌, ◌&&◌}
 use Rattle.std.proofs.Common.{Bool, true, false, cond, Option, Some, None, option_map, Result, Ok, Err, List, [], ◌∷◌}
-use Rattle.std.proofs.Common.{◌++◌}
-use Rattle.std.proofs.Common.{length, take, drop, get_or, refl, sym, ap, ap₂, subst, ◌∙◌, arith}
-use Rattle.std.specs.Prelude.{nat_le}
+use Rattle.std.proofs.Common.{◌++◌, length, take, drop, get_or, refl, sym, ap, ap₂, subst, ◌∙◌, arith, nat_le, eq-eqb}
+use Rattle.std.proofs.Common.{ne_eqb, get_or-drop, length-drop, length-take-le, length-append, take-take}
 use Rattle.std.specs.List.{take-map}
 use Rattle.std.specs.Str.{bytes_eq}
 use Rattle.std.proofs.lemmas.Slice.Eq.{bytes_eq-Decides}
-use Rattle.std.proofs.lemmas.Bool.{cases_lt, cond-true, cond-false, eq-eqb, ne_eqb, and_from}
-use Rattle.std.proofs.lemmas.List.{get_or-drop, get_or-map, get_or_past, length-drop, length-take-le, length-map}
-use Rattle.std.proofs.lemmas.List.{length-append, take-take}
+use Rattle.std.proofs.lemmas.Bool.{cases_lt, cond-true, cond-false, and_from}
+use Rattle.std.proofs.lemmas.List.{get_or-map, get_or_past, length-map}
 use Rattle.dtx_clock.specs.Clock.{stamp_of, runs}
 use Rattle.dtx_clock.proofs.StampsLemmas.{stamps_run}
 use Rattle.dtx_coder.specs.Stream.{states}
@@ -91,7 +89,7 @@ no_anchor_yet d = no_anchor [] under_nothing
 
 -- ---- what packets order
 
-reads_ok : (p : List ℕ) (ops : Ops) → reads p ≡ Some ops → reading p ≡ Ok ops
+pub reads_ok : (p : List ℕ) (ops : Ops) → reads p ≡ Some ops → reading p ≡ Ok ops
 unfolding reads
 reads_ok p ops e = by_reading (reading p) e
   where

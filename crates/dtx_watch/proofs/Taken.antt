@@ -3,14 +3,13 @@ use Rattle.std.proofs.Common.{◌≡◌, ℕ, suc, ◌+◌, ◌-◌, ◌%◌, �
 use Rattle.std.proofs.Common.{length, refl, sym, ap, ap₂, subst, ◌∙◌, arith, inl, inr}
 use Rattle.std.proofs.lemmas.Bool.{cases_lt, cond-true, cond-false, eq-eqb, ne_eqb}
 use Rattle.std.proofs.lemmas.List.{length_push}
-use Rattle.dtx_packets.specs.Packet.{sync_of}
 use Rattle.dtx_cadence.specs.declared.anchor.Lock.{Lock}
 use Rattle.dtx_cadence.specs.declared.anchor.Seen.{Seen}
 use Rattle.dtx_cadence.specs.declared.anchor.Seen.TheVariants.{Free, Start, Lost, At}
 use Rattle.dtx_cadence.specs.Anchor as cadence
 use Rattle.dtx_ops.specs.Reading.{reading}
 use Rattle.dtx_exciter.specs.Packets.{syncs, under, part_of, group_part}
-use Rattle.dtx_exciter.proofs.UnderLemmas.{Goes, goes, syncs_push}
+use Rattle.dtx_exciter.proofs.UnderLemmas.{Goes, Sees, goes_seen}
 use Rattle.dtx_watch.specs.declared.notes.Note.{Note}
 use Rattle.dtx_watch.specs.declared.notes.NoteKind.TheVariants as what
 use Rattle.dtx_watch.specs.declared.telling.Expected.TheVariants.{Early}
@@ -23,31 +22,9 @@ use Rattle.dtx_watch.proofs.ToldLemmas.{Stood, stood_before, part_is, part_under
 use Rattle.dtx_watch.proofs.ToldLemmas.{told_start, told_partial, told_group, waiting_none, waiting_some}
 use Rattle.dtx_watch.proofs.Joined.{all_notes, part_at_hand}
 
-pub record Sees (old : Watcher) (before : List (List ℕ)) (p : List ℕ) (sync : ℕ) (s : Seen)
-    (anchor : Option Lock) : Type 0 where
-  pub stood : StandsFor old before
-  pub is_sync : sync ≡ sync_of p
-  pub saw : s ≡ cadence.seen (syncs before) sync
-  pub stands : cadence.StandsFor anchor (syncs before ++ sync ∷ [])
-
-seen_as : (old : Watcher) (before : List (List ℕ)) (p : List ℕ) (sync : ℕ) (s : Seen) (anchor : Option Lock)
-    → Sees old before p sync s anchor → cadence.seen (syncs before) (sync_of p) ≡ s
-seen_as old before p sync s anchor h = sym (h.saw ∙ ap (cadence.seen (syncs before)) h.is_sync)
-
-goes_as : (old : Watcher) (before : List (List ℕ)) (p : List ℕ) (sync : ℕ) (s : Seen) (anchor : Option Lock)
-    → Sees old before p sync s anchor → Goes 0 0 before p s
-goes_as old before p sync s anchor h =
-    subst (Goes 0 0 before p) (seen_as old before p sync s anchor h) (goes 0 0 before p)
-
-stood_as : (old : Watcher) (before : List (List ℕ)) (p : List ℕ) (sync : ℕ) (s : Seen) (anchor : Option Lock)
-    → Sees old before p sync s anchor → Stood s before
-stood_as old before p sync s anchor h =
-    subst (λ x. Stood x before) (seen_as old before p sync s anchor h) (stood_before before p)
-
-anchor_as : (old : Watcher) (before : List (List ℕ)) (p : List ℕ) (sync : ℕ) (s : Seen) (anchor : Option Lock)
-    → Sees old before p sync s anchor → cadence.StandsFor anchor (syncs (before ++ p ∷ []))
-anchor_as old before p sync s anchor h =
-    subst (cadence.StandsFor anchor) (ap (λ x. syncs before ++ x ∷ []) h.is_sync ∙ sym (syncs_push before p)) h.stands
+stood_as : (before : List (List ℕ)) (p : List ℕ) (s : Seen) (anchor : Option Lock) → Sees before p s anchor
+    → Stood s before
+stood_as before p s anchor h = subst (λ x. Stood x before) (sym h.saw) (stood_before before p)
 
 -- by what stands under the anchor with it
 record Makes (before : List (List ℕ)) (now : Option (List (List ℕ))) (w : Watcher) (anchor : Option Lock) : Type 0 where
@@ -56,16 +33,14 @@ record Makes (before : List (List ℕ)) (now : Option (List (List ℕ))) (w : Wa
   part : w.part ≡ part_of now
   kept : Keeps w now
 
-taken_as : (old : Watcher) (before : List (List ℕ)) (p : List ℕ) (sync : ℕ) (s : Seen) (anchor : Option Lock)
-    (now : Option (List (List ℕ))) (w : Watcher) (given : List Note) → Sees old before p sync s anchor
-    → under (before ++ p ∷ []) ≡ now → told (before ++ p ∷ []) ≡ told before ++ given → Makes before now w anchor
-    → IsTaken before p w given
-taken_as old before p sync s anchor now w given h u t m = record {
+taken_as : (before : List (List ℕ)) (p : List ℕ) (s : Seen) (anchor : Option Lock) (now : Option (List (List ℕ)))
+    (w : Watcher) (given : List Note) → Sees before p s anchor → under (before ++ p ∷ []) ≡ now
+    → told (before ++ p ∷ []) ≡ told before ++ given → Makes before now w anchor → IsTaken before p w given
+taken_as before p s anchor now w given h u t m = record {
   notes = t;
   stands = record {
     count = m.count ∙ sym (length_push before p);
-    anchor = subst (λ x. cadence.StandsFor x (syncs (before ++ p ∷ []))) (sym m.anchored)
-        (anchor_as old before p sync s anchor h);
+    anchor = subst (λ x. cadence.StandsFor x (syncs (before ++ p ∷ []))) (sym m.anchored) h.stands;
     part = m.part ∙ sym (part_is (before ++ p ∷ []) now u);
     kept = subst (Keeps w) (sym u) m.kept;
   };
@@ -85,43 +60,42 @@ alone old now before anchor h z e = record {
   kept = tt;
 }
 
-pub taken_free : (old now : Watcher) (before : List (List ℕ)) (p : List ℕ) (sync : ℕ) (anchor : Option Lock)
-    (given : List Note) → Sees old before p sync Free anchor → now ≡ counted old anchor
+pub taken_free : (old now : Watcher) (before : List (List ℕ)) (p : List ℕ) (anchor : Option Lock)
+    (given : List Note) → StandsFor old before → Sees before p Free anchor → now ≡ counted old anchor
     → given ≡ one_or_none (packet_note old.count None Early None (reading p)) → IsTaken before p now given
-taken_free old now before p sync anchor given h e n =
-    let g : Goes 0 0 before p Free = goes_as old before p sync Free anchor h in
-    let was = stood_as old before p sync Free anchor h in
-    taken_as old before p sync Free anchor None now given h g.follows
+taken_free old now before p anchor given stood h e n =
+    let g : Goes 0 0 before p Free = goes_seen 0 0 before p Free anchor h in
+    let was = stood_as before p Free anchor h in
+    taken_as before p Free anchor None now given h g.follows
     (told_free before p was g.follows
     ∙ ap (λ ns. told before ++ ns)
-    (ap (λ k. one_or_none (packet_note k None Early None (reading p))) (sym h.stood.count) ∙ sym n))
-    (alone old now before anchor h.stood (part_free before was) e)
+    (ap (λ k. one_or_none (packet_note k None Early None (reading p))) (sym stood.count) ∙ sym n))
+    (alone old now before anchor stood (part_free before was) e)
 
-pub taken_lost : (old now : Watcher) (before : List (List ℕ)) (p : List ℕ) (sync : ℕ) (anchor : Option Lock)
-    (given : List Note) → Sees old before p sync Lost anchor → now ≡ counted old anchor
+pub taken_lost : (old now : Watcher) (before : List (List ℕ)) (p : List ℕ) (anchor : Option Lock)
+    (given : List Note) → StandsFor old before → Sees before p Lost anchor → now ≡ counted old anchor
     → given ≡ (record { packet = old.count; what = what.Lost })
     ∷ one_or_none (packet_note old.count None Early None (reading p)) → IsTaken before p now given
-taken_lost old now before p sync anchor given h e n =
-    let g : Goes 0 0 before p Lost = goes_as old before p sync Lost anchor h in
-    let was = stood_as old before p sync Lost anchor h in
-    taken_as old before p sync Lost anchor None now given h g.follows
+taken_lost old now before p anchor given stood h e n =
+    let g : Goes 0 0 before p Lost = goes_seen 0 0 before p Lost anchor h in
+    let was = stood_as before p Lost anchor h in
+    taken_as before p Lost anchor None now given h g.follows
     (told_lost before p was g.follows
     ∙ ap (λ ns. told before ++ ns)
     (ap (λ k. (record { packet = k; what = what.Lost }) ∷ one_or_none (packet_note k None Early None (reading p)))
-    (sym h.stood.count) ∙ sym n))
-    (alone old now before anchor h.stood (part_under before was.0 was.1 ∙ was.2) e)
+    (sym stood.count) ∙ sym n))
+    (alone old now before anchor stood (part_under before was.0 was.1 ∙ was.2) e)
 
 -- where it is the anchor
-pub taken_start : (old mid now : Watcher) (before : List (List ℕ)) (p : List ℕ) (sync : ℕ) (anchor : Option Lock)
-    (given : List Note) → Sees old before p sync Start anchor → mid ≡ counted old anchor → KeepsUnder now (p ∷ [])
-    → now.part ≡ 1 → IsSame mid now → given ≡ [] → IsTaken before p now given
-taken_start old mid now before p sync anchor given h e keeps part same n =
-    let g : Goes 0 0 before p Start = goes_as old before p sync Start anchor h in
-    let was = stood_as old before p sync Start anchor h in
-    taken_as old before p sync Start anchor (Some (p ∷ [])) now given h g.follows
-    (told_start before p was g.follows ∙ ap (λ ns. told before ++ ns) (sym n))
+pub taken_start : (old mid now : Watcher) (before : List (List ℕ)) (p : List ℕ) (anchor : Option Lock)
+    (given : List Note) → StandsFor old before → Sees before p Start anchor → mid ≡ counted old anchor
+    → KeepsUnder now (p ∷ []) → now.part ≡ 1 → IsSame mid now → given ≡ [] → IsTaken before p now given
+taken_start old mid now before p anchor given stood h e keeps part same n =
+    let g : Goes 0 0 before p Start = goes_seen 0 0 before p Start anchor h in
+    taken_as before p Start anchor (Some (p ∷ [])) now given h g.follows
+    (told_start before p (stood_as before p Start anchor h) g.follows ∙ ap (λ ns. told before ++ ns) (sym n))
     (record {
-      count = same.count ∙ ap (λ (w : Watcher). w.count) e ∙ ap (λ (n : ℕ). n + 1) h.stood.count;
+      count = same.count ∙ ap (λ (w : Watcher). w.count) e ∙ ap (λ (n : ℕ). n + 1) stood.count;
       anchored = same.anchor ∙ ap (λ (w : Watcher). w.anchor) e;
       part = part;
       kept = keeps;
@@ -164,24 +138,24 @@ told_joined before l p k w given was now j e = by_place (length l % 4) refl
             (ap₂ (λ x y. group_notes (l ++ p ∷ []) (x - 3) y 4) (sym e) from
             ∙ sym (j.notes ∙ cond-true (length (l ++ p ∷ []) % 4 == 0) _ _ (eq-eqb (length (l ++ p ∷ []) % 4) 0 end)))
 
-pub taken_at : (old mid now : Watcher) (before : List (List ℕ)) (p : List ℕ) (sync place : ℕ) (anchor : Option Lock)
-    (given : List Note) → Sees old before p sync (At place) anchor → mid ≡ counted old anchor
+pub taken_at : (old mid now : Watcher) (before : List (List ℕ)) (p : List ℕ) (place : ℕ) (anchor : Option Lock)
+    (given : List Note) → StandsFor old before → Sees before p (At place) anchor → mid ≡ counted old anchor
     → Joins place p mid now given → IsSame mid now → IsTaken before p now given
-taken_at old mid now before p sync place anchor given h e joins same =
-    by_follow (goes_as old before p sync (At place) anchor h)
+taken_at old mid now before p place anchor given stood h e joins same =
+    by_follow (goes_seen 0 0 before p (At place) anchor h)
   where
     by_follow : Goes 0 0 before p (At place) → IsTaken before p now given
     by_follow g =
         let l : List (List ℕ) = g.follows.0 in
-        let keeps : KeepsUnder old l = subst (Keeps old) g.follows.1 h.stood.kept in
+        let keeps : KeepsUnder old l = subst (Keeps old) g.follows.1 stood.kept in
         let j : IsJoined (l ++ p ∷ []) (mid.count - 1) now given =
         joins l (with_count old mid anchor l e keeps) g.follows.3 in
         let at : mid.count - 1 ≡ length before =
-        omega (arith, ap (λ (w : Watcher). w.count) e, h.stood.count) in
-        taken_as old before p sync (At place) anchor (Some (l ++ p ∷ [])) now given h g.follows.2
+        omega (arith, ap (λ (w : Watcher). w.count) e, stood.count) in
+        taken_as before p (At place) anchor (Some (l ++ p ∷ [])) now given h g.follows.2
         (told_joined before l p (mid.count - 1) now given g.follows.1 g.follows.2 j at)
         (record {
-          count = same.count ∙ ap (λ (w : Watcher). w.count) e ∙ ap (λ (n : ℕ). n + 1) h.stood.count;
+          count = same.count ∙ ap (λ (w : Watcher). w.count) e ∙ ap (λ (n : ℕ). n + 1) stood.count;
           anchored = same.anchor ∙ ap (λ (w : Watcher). w.anchor) e;
           part = j.part;
           kept = j.keeps;

@@ -1,12 +1,10 @@
 -- Lemmas of a watcher's text: that of more notes goes on behind, and its words are those of its notes.
-use Rattle.std.proofs.Common.{◌≡◌, ℕ, zero, suc, ◌+◌, ◌/◌, ◌%◌, ◌≤◌, ◌==◌, Bool, true, false, cond, List, [], ◌∷◌}
-use Rattle.std.proofs.Common.{◌++◌, map, refl, sym, ap, ap₂, ◌∙◌, arith}
-use Rattle.std.specs.Prelude.{codes, decimal, nat_lt}
+use Rattle.std.proofs.Common.{◌≡◌, ℕ, zero, suc, ◌+◌, ◌/◌, ◌%◌, ◌≤◌, ◌==◌, Bool, true, false, cond, List, [], ◌∷◌, ◌++◌}
+use Rattle.std.proofs.Common.{map, refl, sym, ap, ap₂, ◌∙◌, arith, codes, decimal, nat_lt, ne_eqb, append-nil}
+use Rattle.std.proofs.Common.{append_assoc}
 use Rattle.std.specs.Fmt.{digits, digits_onto, digit_glyph}
 use Rattle.std.specs.List.{All, AllByRecursion, flat_map, slice_split}
-use Rattle.std.proofs.lemmas.Bool.{ne_eqb}
 use Rattle.std.proofs.lemmas.Grind.{flat_map-append}
-use Rattle.std.proofs.lemmas.List.{append-nil, append_assoc}
 use Rattle.std.proofs.lemmas.List.Elements.{All-append, All-cons, All-from_recursion, All-nil, All-weaker}
 use Rattle.std.proofs.lemmas.List.Splits.{slice_split_at, slice_split_none}
 use Rattle.dtx_watch.specs.declared.notes.ClockNote.{ClockNote}
@@ -27,7 +25,7 @@ watch_text-append xs ys = flat_map-append note_text xs ys
 -- ---- words
 
 -- a word has no space, no line feed, nor any other byte up to a space
-abbrev IsWord : List ℕ → Type 0
+abbrev pub IsWord : List ℕ → Type 0
 IsWord word = All (λ b. 33 ≤ b) word
 
 glyph : (upper : Bool) (d : ℕ) → 33 ≤ cond upper (48 + d) (87 + d)
@@ -47,11 +45,11 @@ digits_word (suc k) n acc h =
     (digits_onto k 10 false (n / 10) (digit_glyph false (n % 10) ∷ acc)) last
     (digits_word k (n / 10) (digit_glyph false (n % 10) ∷ acc) last)
 
-number : (n : ℕ) → IsWord (decimal n)
+pub number : (n : ℕ) → IsWord (decimal n)
 unfolding digits
 number n = digits_word 64 n [] (All-nil (λ b. 33 ≤ b))
 
-spelled : (word : List ℕ) → AllByRecursion (λ b. 33 ≤ b) word → IsWord word
+pub spelled : (word : List ℕ) → AllByRecursion (λ b. 33 ≤ b) word → IsWord word
 spelled word h = All-from_recursion (λ b. 33 ≤ b) word h
 
 first_is : (w : NoteKind) → IsWord (first_word w)
@@ -104,14 +102,14 @@ later_are k (what.Ops o) = (
 -- ---- a line
 
 -- words, each behind a space
-abbrev spaced : List (List ℕ) → List ℕ
+abbrev pub spaced : List (List ℕ) → List ℕ
 spaced words = flat_map (λ word. 32 ∷ word) words
 
 no_space : (word : List ℕ) → IsWord word → All (λ b. (b == 32) ≡ false) word
 no_space word h =
     All-weaker (λ b. 33 ≤ b) (λ b. (b == 32) ≡ false) (λ b l. ne_eqb b 32 (λ e. omega (arith, l, e))) word h
 
-words_cut : (word : List ℕ) (words : List (List ℕ)) → IsWord word → AllByRecursion IsWord words
+pub words_cut : (word : List ℕ) (words : List (List ℕ)) → IsWord word → AllByRecursion IsWord words
     → slice_split (λ b. b == 32) (word ++ spaced words) ≡ word ∷ words
 words_cut word [] h k =
     ap (slice_split (λ b. b == 32)) (append-nil word) ∙ slice_split_none (λ b. b == 32) word (no_space word h)
@@ -128,7 +126,7 @@ spaced_long (word ∷ words) h =
     (All-weaker (λ b. 33 ≤ b) (λ b. 32 ≤ b) (λ b l. omega (arith, l)) word h.0))
     (spaced_long words h.1)
 
-one_line : (word : List ℕ) (words : List (List ℕ)) → IsWord word → AllByRecursion IsWord words
+pub one_line : (word : List ℕ) (words : List (List ℕ)) → IsWord word → AllByRecursion IsWord words
     → All (λ b. (b == 10) ≡ false) (word ++ spaced words)
 one_line word words h k =
     All-weaker (λ b. 32 ≤ b) (λ b. (b == 10) ≡ false) (λ b l. ne_eqb b 10 (λ e. omega (arith, l, e)))

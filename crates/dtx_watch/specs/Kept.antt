@@ -1,7 +1,6 @@
 -- What is kept of the packets that were watched.
-use Rattle.std.specs.Prelude.{ℕ, ◌≡◌, ◌-◌, ◌%◌, ◌<◌, ◌≤◌, ◌==◌, nat_le, if◌then◌else◌, Bool, true, false, Option}
-use Rattle.std.specs.Prelude.{Some, None, List, [], ◌∷◌, ◌++◌, length}
-use Rattle.std.specs.Prelude.{⊤, take, drop}
+use Rattle.std.specs.Prelude.{ℕ, ◌≡◌, ◌-◌, ◌%◌, ◌<◌, ◌≤◌, ◌==◌, nat_le, if◌then◌else◌, Bool, true, false, Option, Some}
+use Rattle.std.specs.Prelude.{None, List, [], ◌∷◌, ◌++◌, length, ⊤, take, drop}
 use Rattle.dtx_cadence.specs.Anchor as cadence
 use Rattle.dtx_exciter.specs.Order.{Order}
 use Rattle.dtx_exciter.specs.Packets.{syncs, under, group_part}
