@@ -10,9 +10,9 @@ use Rattle.dtx_soft.proofs.SoftenedLemmas.{softened_found}
 use Rattle.dtx_acquire.specs.Acquired.{Field, acquired, all_fields, behind_groups, in_groups, restored, restored_data}
 use Rattle.dtx_acquire.specs.Acquired.{restored_field, restored_of, restored_sync}
 use Rattle.dtx_acquire.specs.Sent.{groups_behind}
+use Rattle.dtx_acquire.proofs.WholeLemmas.{length-field, length-restored}
 use Rattle.dtx_rounds.specs.Rounds.{groups_in, heard_of}
 use Rattle.dtx_rounds.proofs.RoundLevels.{length-groups}
-use Rattle.dtx_rounds.proofs.WholeLemmas.{length-field, length-restored}
 
 -- ---- fields
 

@@ -21,5 +21,4 @@ pub mod OwnRounds
 pub mod RangeSteps
 pub mod RowsRounded
 pub mod FieldRounds
-pub mod WholeLemmas
 pub mod SoFarLemmas

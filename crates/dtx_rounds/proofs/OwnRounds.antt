@@ -28,6 +28,7 @@ use Rattle.dtx_receiver.specs.Packets.{is_complete}
 use Rattle.dtx_acquire.specs.Acquired.{in_groups, restored_data, acquired, all_fields}
 use Rattle.dtx_acquire.specs.Scaled.{decided}
 use Rattle.dtx_acquire.specs.Sent.{groups_behind}
+use Rattle.dtx_acquire.proofs.WholeLemmas.{long_acquired}
 use Rattle.dtx_pins.specs.LeastPinned.{least_pinned_levels}
 use Rattle.dtx_pins.specs.PinnedField.{pinned, pinned_segment, pinned_symbol, pinned_symbols}
 use Rattle.dtx_pins.specs.Pins.{Agrees, coder_pins, pin_at, x1_told, x2_told}
@@ -45,7 +46,6 @@ use Rattle.dtx_rounds.proofs.RoundLevels.{in_whole_room, in_whole_some, length-g
 use Rattle.dtx_rounds.proofs.RoundLevels.{place_in_groups, same_groups, step_there}
 use Rattle.dtx_rounds.proofs.RunLevels.{byte_in, length-bytes, byte_coder, byte_step, field_of_segment, place_in}
 use Rattle.dtx_rounds.proofs.RunWords.{length-known}
-use Rattle.dtx_rounds.proofs.WholeLemmas.{long_acquired}
 
 -- The segments are decided by the least paths over those received, as the acquirer does it.
 pub record AreDecided (scale : ℕ) (heard given : List (List ℤ)) : Type 0 where

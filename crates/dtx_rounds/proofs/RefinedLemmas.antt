@@ -1,17 +1,15 @@
 -- Rounds one behind the other, and over a capture: their segments are whole, what is known stays known, and costs rise.
 use Rattle.std.proofs.Common.{◌≡◌, ℕ, zero, suc, ℤ, ◌+◌, List, refl, sym, ap, ◌∙◌, arith, ◌<◌, ◌≤◌, Some, [], ◌∷◌}
-use Rattle.std.proofs.Common.{length, ap₂}
-use Rattle.std.specs.List.{flat_map}
-use Rattle.std.proofs.lemmas.List.{length-append}
+use Rattle.std.proofs.Common.{length}
 use Rattle.dtx_receiver.specs.Bytes.{bytes_in}
-use Rattle.dtx_acquire.specs.Acquired.{acquired, Field, all_fields, restored, restored_of}
+use Rattle.dtx_acquire.specs.Acquired.{acquired, all_fields}
+use Rattle.dtx_acquire.proofs.AcquiredLemmas.{length-heard_in}
 use Rattle.dtx_pins.proofs.PinnedFieldLemmas.{pinned_found}
 use Rattle.dtx_rounds.specs.Fields.{AreSegments}
 use Rattle.dtx_rounds.specs.Known.{known_bytes, known_word}
 use Rattle.dtx_rounds.specs.Rounds.{heard_of, refined, rounded, rounds_of, coder_cost, groups_in, paths_in, pins_in}
 use Rattle.dtx_rounds.proofs.Kept.{more_known_costs_more, word_kept}
 use Rattle.dtx_rounds.proofs.RoundLevels.{HasPaths, after_long, length-after}
-use Rattle.dtx_rounds.proofs.WholeLemmas.{length-restored}
 
 pub rounds_stay : (scale n : ℕ) (heard given : List (List ℤ)) → rounded scale heard given ≡ given
     → rounds_of scale heard given n ≡ given
@@ -75,15 +73,6 @@ costs_rise scale f e heard given some most long same l =
 
 -- ---- the segments of a capture
 
-length-given : (scale : ℕ) (fields : List Field)
-    → length (flat_map (λ field. field.segments) fields) ≡ length (restored_of scale fields)
-unfolding restored_of
-length-given scale [] = refl
-length-given scale (x ∷ xs) =
-    length-append x.segments (flat_map (λ field. field.segments) xs)
-    ∙ ap₂ (λ (a b : ℕ). a + b) (sym (length-restored scale x.segments)) (length-given scale xs)
-    ∙ sym (length-append (restored scale x.segments) (restored_of scale xs))
-
 pub length-heard : (scale : ℕ) (symbols : List ℤ) → length (heard_of symbols) ≡ length (acquired scale symbols)
 unfolding heard_of acquired
-length-heard scale symbols = length-given scale (all_fields symbols)
+length-heard scale symbols = length-heard_in scale (all_fields symbols)

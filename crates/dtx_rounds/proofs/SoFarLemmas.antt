@@ -18,6 +18,7 @@ use Rattle.dtx_receiver.proofs.CompleteLemmas.{complete_told}
 use Rattle.dtx_acquire.specs.Acquired.{acquired, acquired_rest, acquired_so_far, heard_rest, heard_so_far}
 use Rattle.dtx_acquire.proofs.AcquiredLemmas.{all_is_acquired, all_is_heard, heard_grows, length-heard_so_far}
 use Rattle.dtx_acquire.proofs.AcquiredLemmas.{so_far_grows}
+use Rattle.dtx_acquire.proofs.WholeLemmas.{long_acquired, whole_so_far}
 use Rattle.dtx_rounds.specs.FieldRound.{field_rounded}
 use Rattle.dtx_rounds.specs.Fields.{rows_of, AreSegments}
 use Rattle.dtx_rounds.specs.Known.{known_byte, known_bytes, known_word}
@@ -30,7 +31,6 @@ use Rattle.dtx_rounds.proofs.RefinedLemmas.{length-rounded, rounded_long, length
 use Rattle.dtx_rounds.proofs.RefinedLemmas.{refined_next}
 use Rattle.dtx_rounds.proofs.RunLevels.{length-bytes}
 use Rattle.dtx_rounds.proofs.RunWords.{known_entry, code_byte_same, known_byte_same}
-use Rattle.dtx_rounds.proofs.WholeLemmas.{long_acquired, whole_so_far}
 
 -- ---- the front of a run
 

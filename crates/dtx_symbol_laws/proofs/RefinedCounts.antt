@@ -16,7 +16,8 @@ use Rattle.dtx_acquire.specs.Acquired.{acquired}
 use Rattle.dtx_acquire.specs.Sent.{AreInFields}
 use Rattle.dtx_acquire.proofs.SentLemmas.{row_long}
 use Rattle.dtx_rounds.specs.Rounds.{refined}
-use Rattle.dtx_symbol_laws.proofs.RefinedFields.{fields_refined, length-refined, packets_of_run}
+use Rattle.dtx_rounds.proofs.SoFarLemmas.{length-refined}
+use Rattle.dtx_symbol_laws.proofs.RefinedFields.{fields_refined, packets_of_run}
 
 -- lists of the same lengths, one behind the other
 same_lengths : (f g : ℕ → List ℕ) (n : ℕ) → ((i : ℕ) → i < n → length (f i) ≡ length (g i))
@@ -77,5 +78,5 @@ packets_counted scale r symbols some h =
     let fields = fields_refined scale r symbols some h in
     ap length (packets_of_run (refined scale symbols r) fields)
     ∙ same_count (refined scale symbols r) (acquired scale symbols) (row_long (refined scale symbols r) fields)
-    (row_long (acquired scale symbols) h) (length-refined scale r symbols some h)
+    (row_long (acquired scale symbols) h) (length-refined scale r symbols)
     ∙ sym (ap length (packets_of_run (acquired scale symbols) h))

@@ -21,7 +21,8 @@ use Rattle.dtx_acquire.proofs.SentLemmas.{length_data, row_long}
 use Rattle.dtx_rounds.specs.Known.{known_bytes}
 use Rattle.dtx_rounds.specs.Rounds.{groups_in, heard_of, in_whole_group, paths_in, refined, round_segment, rounded}
 use Rattle.dtx_rounds.specs.Rounds.{rounds_of}
-use Rattle.dtx_rounds.proofs.RefinedLemmas.{length-heard, length-rounded, rounded_long}
+use Rattle.dtx_rounds.proofs.RefinedLemmas.{length-rounded, rounded_long}
+use Rattle.dtx_rounds.proofs.SoFarLemmas.{same_count}
 use Rattle.dtx_symbol_laws.proofs.AcquiredRun.{one_run}
 
 -- ---- a data segment
@@ -128,30 +129,13 @@ fields_rounded scale heard given some same h = record {
 
 -- ---- all rounds
 
--- the segments after r rounds, as many as were received
-record AreRefined (scale r : ℕ) (symbols : List ℤ) : Type 0 where
-  fields : AreInFields (refined scale symbols r)
-  same : length (heard_of symbols) ≡ length (refined scale symbols r)
-
-are_refined : (scale r : ℕ) (symbols : List ℤ) → 0 < scale → AreInFields (acquired scale symbols)
-    → AreRefined scale r symbols
-unfolding refined rounds_of
-are_refined scale zero symbols some h = record { fields = h; same = length-heard scale symbols }
-are_refined scale (suc r) symbols some h =
-    let before = are_refined scale r symbols some h in
-    record {
-      fields = fields_rounded scale (heard_of symbols) (refined scale symbols r) some before.same before.fields;
-      same = before.same ∙ sym (length-rounded scale (heard_of symbols) (refined scale symbols r));
-    }
-
 pub fields_refined : (scale r : ℕ) (symbols : List ℤ) → 0 < scale → AreInFields (acquired scale symbols)
     → AreInFields (refined scale symbols r)
-fields_refined scale r symbols some h = (are_refined scale r symbols some h).fields
-
-pub length-refined : (scale r : ℕ) (symbols : List ℤ) → 0 < scale → AreInFields (acquired scale symbols)
-    → length (refined scale symbols r) ≡ length (acquired scale symbols)
-length-refined scale r symbols some h =
-    sym (are_refined scale r symbols some h).same ∙ length-heard scale symbols
+unfolding refined rounds_of
+fields_refined scale zero symbols some h = h
+fields_refined scale (suc r) symbols some h =
+    fields_rounded scale (heard_of symbols) (refined scale symbols r) some (same_count scale r symbols)
+    (fields_refined scale r symbols some h)
 
 -- ---- their packets
 

@@ -1,11 +1,11 @@
 use Rattle.std.proofs.Common.{arith}
 use Rattle.dtx_acquire.specs.Acquired.{acquired, all_fields}
+use Rattle.dtx_acquire.proofs.WholeLemmas.{long_acquired}
 use Rattle.dtx_rounds.specs.Rounds.{heard_of}
 use Rattle.dtx_rounds.proofs.BegunFields.{begun_field}
 use Rattle.dtx_rounds.proofs.FieldRows.{are_fields}
 use Rattle.dtx_rounds.proofs.OwnRounds.{are_decided}
 use Rattle.dtx_rounds.proofs.RefinedLemmas.{length-heard}
-use Rattle.dtx_rounds.proofs.WholeLemmas.{long_acquired}
 use Rattle.dtx_rounds.proofs.laws.a_capture_begins_as_it_was_acquired.Goals as goal
 
 pub returns-clause-long : goal.returns-clause-long

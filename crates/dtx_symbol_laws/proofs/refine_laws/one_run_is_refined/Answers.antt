@@ -1,12 +1,11 @@
 use Rattle.dtx_rounds.specs.Rounds.{refined}
+use Rattle.dtx_rounds.proofs.SoFarLemmas.{length-refined}
 use Rattle.dtx_symbol_laws.proofs.AcquiredRun.{fields_read_back, one_run, sync_looks}
-use Rattle.dtx_symbol_laws.proofs.RefinedFields.{fields_refined, length-refined}
+use Rattle.dtx_symbol_laws.proofs.RefinedFields.{fields_refined}
 use Rattle.dtx_symbol_laws.proofs.refine_laws.one_run_is_refined.Goals as goal
 
 pub returns-clause-count : goal.returns-clause-count
-returns-clause-count c =
-    λ scale r symbols some. length-refined scale r symbols some
-    (c.whole_fields_are_acquired.ensures.segments scale symbols some)
+returns-clause-count c = λ scale r symbols some. length-refined scale r symbols
 
 pub returns-clause-syncs : goal.returns-clause-syncs
 returns-clause-syncs c =

@@ -1,8 +1,8 @@
 use Rattle.std.proofs.Common.{refl, arith}
 use Rattle.dtx_acquire.specs.Acquired.{acquired}
+use Rattle.dtx_acquire.proofs.WholeLemmas.{long_acquired}
 use Rattle.dtx_rounds.specs.Rounds.{fields_in, heard_of}
 use Rattle.dtx_rounds.proofs.RefinedLemmas.{length-heard}
-use Rattle.dtx_rounds.proofs.WholeLemmas.{long_acquired}
 use Rattle.dtx_refine.proofs.Steps.{ended_none, ended_one}
 use Rattle.dtx_refine.proofs.passes.Passes.end.Goals as goal
 

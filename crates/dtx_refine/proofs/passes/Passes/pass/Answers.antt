@@ -1,8 +1,8 @@
 use Rattle.std.proofs.Common.{refl}
 use Rattle.dtx_acquire.specs.Acquired.{acquired}
+use Rattle.dtx_acquire.proofs.WholeLemmas.{long_acquired}
 use Rattle.dtx_rounds.specs.Rounds.{heard_of}
 use Rattle.dtx_rounds.proofs.RefinedLemmas.{length-heard}
-use Rattle.dtx_rounds.proofs.WholeLemmas.{long_acquired}
 use Rattle.dtx_refine.proofs.Steps.{kept, took}
 use Rattle.dtx_refine.proofs.passes.Passes.pass.Goals as goal
 
