@@ -1,6 +1,6 @@
 -- A refiner at the end of the symbols.
-use Rattle.std.proofs.Common.{◌≡◌, ℕ, ℤ, ◌+◌, ◌-◌, ◌*◌, ◌/◌, ◌<◌, ◌≤◌, Bool, true, false, cond, List, []}
-use Rattle.std.proofs.Common.{◌++◌, length, map, sum, take, refl, sym, ap, ◌∙◌, subst, arith, length-append}
+use Rattle.std.proofs.Common.{◌≡◌, ℕ, ℤ, ◌+◌, ◌-◌, ◌*◌, ◌/◌, ◌<◌, ◌≤◌, Bool, true, false, cond, List, [], ◌++◌, length}
+use Rattle.std.proofs.Common.{map, sum, take, refl, sym, ap, ◌∙◌, subst, arith, length-append}
 use Rattle.std.specs.List.{range_with_len}
 use Rattle.std.proofs.lemmas.List.{append-nil, append_assoc, append_cancel_left, take_all}
 use Rattle.dtx_receiver.specs.Bytes.{bytes_in}
@@ -11,17 +11,16 @@ use Rattle.dtx_acquire.proofs.AcquiredLemmas.{all_is_acquired, all_is_heard, len
 use Rattle.dtx_rounds.specs.FieldRound.{words_known}
 use Rattle.dtx_rounds.specs.Fields.{rows_of}
 use Rattle.dtx_rounds.specs.Known.{known_count}
-use Rattle.dtx_rounds.specs.Rounds.{fields_in, heard_of, refined, refined_rest, refined_so_far, round_cost}
-use Rattle.dtx_rounds.specs.Rounds.{round_moved, settled_count}
+use Rattle.dtx_rounds.specs.Rounds.{fields_in, heard_of, refined, refined_rest, refined_so_far, round_cost, round_moved}
+use Rattle.dtx_rounds.specs.Rounds.{settled_count}
 use Rattle.dtx_rounds.specs.RunField.{IsRounded}
 use Rattle.dtx_rounds.specs.declared.field.Field.{Field}
 use Rattle.dtx_rounds.proofs.SoFarLemmas.{all_is_refined, length-refined}
 use Rattle.dtx_refine.specs.Passes.{ArePassed, HasEndedOne, HasTaken, IsField, given_of}
 use Rattle.dtx_refine.specs.Refiner.{HasEnded, HasStepped, IsOver, Refining, StandsFor, refining}
 use Rattle.dtx_refine.specs.declared.passes.Passes.{Passes}
-use Rattle.dtx_refine.proofs.Pieces.{field_last}
+use Rattle.dtx_refine.proofs.Steps.{field_last, given_few, given_next, given_none, given_some}
 use Rattle.dtx_refine.proofs.Takes.{waiting_then}
-use Rattle.dtx_refine.proofs.Steps.{given_few, given_next, given_none, given_some}
 
 -- ---- the last field
 

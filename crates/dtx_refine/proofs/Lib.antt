@@ -1,5 +1,3 @@
-mod Pieces
-mod Counted
 mod Steps
 mod Takes
 mod Ends

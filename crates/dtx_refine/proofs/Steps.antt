@@ -1,23 +1,119 @@
--- One field more that goes through the rounds, and one that they give.
-use Rattle.std.proofs.Common.{◌≡◌, ℕ, ℤ, ◌+◌, ◌-◌, ◌*◌, ◌<◌, ◌≤◌, Bool, true, false, cond, List, [], ◌∷◌}
-use Rattle.std.proofs.Common.{◌++◌, length, take, drop, refl, sym, ap, ◌∙◌, subst, arith}
-use Rattle.std.proofs.lemmas.Bool.{leb-false, leb-true, true≢false}
-use Rattle.std.proofs.lemmas.List.{append-nil, drop-drop, length-drop, length-take}
+-- One field more that goes through the rounds, and one that they give, with the numbers of those that had all rounds.
+use Rattle.std.proofs.Common.{◌≡◌, ℕ, ℤ, ◌+◌, ◌-◌, ◌*◌, ◌<◌, ◌≤◌, Bool, true, false, cond, eqb, List, [], ◌∷◌, ◌++◌}
+use Rattle.std.proofs.Common.{append_assoc, arith, drop, length, map, refl, subst, sum, sym, take, take-add, ap, ◌∙◌}
+use Rattle.std.specs.List.{range_with_len}
+use Rattle.std.proofs.lemmas.Bool.{cond-false, cond-true, eq-eqb, eqb-false, eqb-true, ne_eqb, leb-false, leb-true}
+use Rattle.std.proofs.lemmas.Bool.{true≢false}
+use Rattle.std.proofs.lemmas.List.{append-nil, drop-drop, drop_at, length-drop, length-take, take_all, take_at}
+use Rattle.std.proofs.lemmas.List.FromFn.{sum_by-map-range_with_len_more}
+use Rattle.dtx_lists.proofs.Range.{map-range_same}
+use Rattle.dtx_soft.specs.Softened.{softened_cost}
 use Rattle.dtx_acquire.specs.Acquired.{acquired, in_groups, path_cost}
 use Rattle.dtx_acquire.specs.Sent.{groups_behind}
-use Rattle.dtx_soft.specs.Softened.{softened_cost}
 use Rattle.dtx_rounds.specs.Decided.{decided_rows}
+use Rattle.dtx_rounds.specs.FieldRound.{words_known}
 use Rattle.dtx_rounds.specs.Fields.{rows_of}
 use Rattle.dtx_rounds.specs.MadeRounds.{AreFinished, AreMade, AreTaken}
 use Rattle.dtx_rounds.specs.Rounds.{fields_in, groups_in, heard_of, refined}
 use Rattle.dtx_rounds.specs.RunField.{IsRounded}
 use Rattle.dtx_rounds.specs.RunRounds.{IsGiven}
+use Rattle.dtx_rounds.specs.declared.field.Field.{Field}
 use Rattle.dtx_rounds.proofs.GivenLemmas.{given_last, given_segments}
 use Rattle.dtx_rounds.proofs.SoFarLemmas.{length-refined}
 use Rattle.dtx_refine.specs.Passes.{AreCounted, ArePassed, HasEndedOne, HasGiven, HasTaken, IsAdded, given_of}
+use Rattle.dtx_refine.specs.declared.numbers.Numbers.{Numbers}
 use Rattle.dtx_refine.specs.declared.passes.Passes.{Passes}
-use Rattle.dtx_refine.proofs.Counted.{counted_next, counted_none}
-use Rattle.dtx_refine.proofs.Pieces.{take_two}
+
+-- ---- a field among segments
+
+-- a whole field behind other segments
+pub field_behind : {A : Type 0} (t : ℕ) (front field back : List A) → length front ≡ 313 * t → length field ≡ 313
+    → take 313 (drop (313 * t) ((front ++ field) ++ back)) ≡ field
+field_behind t front field back f l =
+    ap (λ xs. take 313 (drop (313 * t) xs)) (append_assoc front field back)
+    ∙ ap (take 313) (drop_at front (field ++ back) (313 * t) f)
+    ∙ take_at field back 313 l
+
+-- the last field, which may have fewer segments
+pub field_last : {A : Type 0} (t : ℕ) (front field : List A) → length front ≡ 313 * t → length field ≤ 313
+    → take 313 (drop (313 * t) (front ++ field)) ≡ field
+field_last t front field f l =
+    ap (take 313) (drop_at front field (313 * t) f) ∙ take_all 313 field l
+
+-- ---- the numbers of fields
+
+-- the fields with one more at place n
+abbrev with_last : ℕ → Field → (ℕ → Field) → ℕ → Field
+with_last n last fields f = cond (eqb f n) last (fields f)
+
+at_last : (n : ℕ) (last : Field) (fields : ℕ → Field) → with_last n last fields n ≡ last
+at_last n last fields = cond-true (eqb n n) last (fields n) (eq-eqb n n refl)
+
+before_last : (n : ℕ) (last : Field) (fields : ℕ → Field) (f : ℕ) → f < n → with_last n last fields f ≡ fields f
+before_last n last fields f l =
+    cond-false (eqb f n) last (fields f) (ne_eqb f n (λ e. absurd (omega (arith, e, l))))
+
+sum_more : (g : Field → ℕ) (n total : ℕ) (last : Field) (fields : ℕ → Field)
+    → total ≡ sum (map (λ f. g (fields f)) (range_with_len 0 n))
+    → total + g last ≡ sum (map (λ f. g (with_last n last fields f)) (range_with_len 0 (n + 1)))
+sum_more g n total last fields e =
+    sym (sum_by-map-range_with_len_more (λ x. x) (λ f. g (with_last n last fields f)) 0 n n (omega arith)
+    ∙ ap (λ xs. sum xs + g (with_last n last fields n)) (map-range_same (λ f. g (with_last n last fields f))
+    (λ f. g (fields f)) 0 n (λ i a b. ap g (before_last n last fields i (omega (arith, b)))))
+    ∙ ap (λ x. sum (map (λ f. g (fields f)) (range_with_len 0 n)) + g x) (at_last n last fields)
+    ∙ ap (λ x. x + g last) (sym e))
+
+-- no field
+pub counted_none : (scale rounds : ℕ) (symbols : List ℤ) (numbers : Numbers) (field : Field) → numbers.done ≡ 0
+    → numbers.known ≡ 0 → numbers.cost ≡ 0 → numbers.moved ≡ 0 → AreCounted scale rounds symbols numbers
+counted_none scale rounds symbols numbers field done known cost moved = record {
+  field = λ _. field;
+  rounded = λ f l. absurd (omega (arith, l, done));
+  known_are = known ∙ sym (none words);
+  cost_is = cost ∙ sym (none (λ (x : Field). x.cost));
+  moved_are = moved ∙ sym (none (λ (x : Field). x.moved));
+}
+  where
+    words : Field → ℕ
+    words x = words_known x.words
+
+    none : (g : Field → ℕ) → sum (map (λ f. g field) (range_with_len 0 numbers.done)) ≡ 0
+    none g = ap (λ n. sum (map (λ f. g field) (range_with_len 0 n))) done
+
+-- a field more
+pub counted_next : (scale rounds : ℕ) (symbols : List ℤ) (old new : Numbers) (field : Field)
+    → AreCounted scale rounds symbols old
+    → IsRounded scale (heard_of symbols) (refined scale symbols (rounds - 1)) old.done field
+    → IsAdded field old new → AreCounted scale rounds symbols new
+counted_next scale rounds symbols old new field h r a = record {
+  field = fields;
+  rounded = λ f l. by_place f (eqb f old.done) refl (omega (arith, l, a.done_is));
+  known_are = a.known_is ∙ more (λ (x : Field). words_known x.words) old.known h.known_are;
+  cost_is = a.cost_is ∙ more (λ (x : Field). x.cost) old.cost h.cost_is;
+  moved_are = a.moved_is ∙ more (λ (x : Field). x.moved) old.moved h.moved_are;
+}
+  where
+    fields : ℕ → Field
+    fields = with_last old.done field h.field
+
+    more : (g : Field → ℕ) (total : ℕ) → total ≡ sum (map (λ f. g (h.field f)) (range_with_len 0 old.done))
+        → total + g field ≡ sum (map (λ f. g (fields f)) (range_with_len 0 new.done))
+    more g total e =
+        sum_more g old.done total field h.field e
+        ∙ ap (λ n. sum (map (λ f. g (fields f)) (range_with_len 0 n))) (sym a.done_is)
+
+    given : List (List ℤ)
+    given = refined scale symbols (rounds - 1)
+
+    by_place : (f : ℕ) (b : Bool) → eqb f old.done ≡ b → f < old.done + 1
+        → IsRounded scale (heard_of symbols) given f (fields f)
+    by_place f true e l =
+        subst (λ n. IsRounded scale (heard_of symbols) given n (fields n)) (sym (eqb-true f old.done e))
+        (subst (IsRounded scale (heard_of symbols) given old.done) (sym (at_last old.done field h.field)) r)
+    by_place f false e l =
+        let before : f < old.done = omega (arith, l, eqb-false f old.done e) in
+        subst (IsRounded scale (heard_of symbols) given f) (sym (before_last old.done field h.field f before))
+        (h.rounded f before)
 
 -- ---- the cost of a field's paths
 
@@ -222,7 +318,7 @@ given_next scale t symbols old new h = by_answer new.gives refl
     by_answer true e =
         let next : 313 * new.numbers.done ≡ 313 * old.numbers.done + 313 =
         omega (arith, h.done ∙ ap (λ b. old.numbers.done + cond b 1 0) e) in
-        ap (λ n. take n segments) next ∙ take_two (313 * old.numbers.done) 313 segments
+        ap (λ n. take n segments) next ∙ take-add (313 * old.numbers.done) 313 segments
         ∙ ap (λ xs. take (313 * old.numbers.done) segments ++ xs)
         (sym (h.given_are e) ∙ ap (λ b. cond b (decided_rows new.field) []) (sym e))
     by_answer false e =

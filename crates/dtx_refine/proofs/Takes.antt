@@ -1,11 +1,11 @@
 -- A refiner that takes symbols.
-use Rattle.std.proofs.Common.{◌≡◌, ℕ, ℤ, ◌+◌, ◌-◌, ◌*◌, ◌<◌, ◌≤◌, ◌⊎◌, inl, inr, Bool, true, false, cond}
-use Rattle.std.proofs.Common.{List, [], ◌++◌, length, take, refl, sym, ap, ◌∙◌, subst, arith, length-append}
+use Rattle.std.proofs.Common.{◌≡◌, ℕ, ℤ, ◌+◌, ◌-◌, ◌*◌, ◌<◌, ◌≤◌, ◌⊎◌, inl, inr, Bool, true, false, cond, List, []}
+use Rattle.std.proofs.Common.{◌++◌, length, take, refl, sym, ap, ◌∙◌, subst, arith, length-append}
 use Rattle.std.proofs.lemmas.Bool.{cond-false}
 use Rattle.std.proofs.lemmas.List.{append-nil, append_assoc}
 use Rattle.dtx_acquire.specs.Acquired.{acquired, acquired_so_far, heard_so_far}
-use Rattle.dtx_acquire.specs.Acquirer as acquirers
 use Rattle.dtx_acquire.specs.Acquirer.{Holding}
+use Rattle.dtx_acquire.specs.Acquirer as acquirers
 use Rattle.dtx_acquire.proofs.AcquiredLemmas.{length-heard_so_far}
 use Rattle.dtx_rounds.specs.Fields.{rows_of}
 use Rattle.dtx_rounds.specs.Rounds.{fields_in, heard_of, refined, refined_so_far, settled_count}
@@ -13,8 +13,7 @@ use Rattle.dtx_rounds.proofs.SoFarLemmas.{acquired_ahead, heard_ahead}
 use Rattle.dtx_refine.specs.Passes.{ArePassed, HasTaken, IsField, given_of}
 use Rattle.dtx_refine.specs.Refiner.{StandsFor, refining}
 use Rattle.dtx_refine.specs.declared.passes.Passes.{Passes}
-use Rattle.dtx_refine.proofs.Pieces.{field_behind}
-use Rattle.dtx_refine.proofs.Steps.{given_few, given_next, given_none}
+use Rattle.dtx_refine.proofs.Steps.{field_behind, given_few, given_next, given_none}
 
 -- ---- the field that the acquirer gave
 
