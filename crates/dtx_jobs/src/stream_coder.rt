@@ -1,28 +1,22 @@
 // The engine of `code`: codes a stream, one piece of packets at a time.
-ghost use Rattle.std.specs.Prelude.{◌≡◌, ◌+◌, ◌-◌, ◌*◌, ◌/◌, ◌%◌, ◌<◌, ◌≤◌, ◌++◌, [], ℕ, List, length, min, take};
-ghost use Rattle.dtx_coder.specs.Batches.{IsAhead};
+ghost use Rattle.std.specs.Prelude.{◌≡◌, ◌+◌, ◌-◌, ◌*◌, ◌/◌, ◌%◌, ◌≤◌, ◌++◌, [], ℕ, List, length, min};
 ghost use Rattle.dtx_coder.specs.Groups.{StandsFor};
 ghost use Rattle.dtx_coder.specs.Stream.{a53};
 ghost use Rattle.dtx_packets.specs.Packets.{packets_from};
-ghost use Rattle.dtx_jobs.specs.StreamCoder.{AreInterleaved};
 ghost use Rattle.dtx_recipes.specs.Symbols.{symbol_bytes};
 
 use crate::symbol_buffer::SymbolBuffer;
-use dtx_coder::{AIR_SYMBOLS, Air, BATCH_BYTES, BATCH_PACKETS, Coder};
+use dtx_coder::{AIR_SYMBOLS, Air, BATCH_PACKETS, Batch, Coder};
 use dtx_engine::{Engine, Shape};
 use dtx_forms::{CODED_PACKETS, Transforming, coded_packets};
 use dtx_meaning::{Outcome, Status};
 use dtx_sizes::{
-    CODEWORD, FIELD_PACKETS, FieldPlace, GROUP_BYTES, GROUP_PACKETS, MARK, MOST_PACKETS, PACKET,
-    SEGMENT, SYNC, field_place,
+    FIELD_PACKETS, GROUP_PACKETS, MARK, MOST_PACKETS, PACKET, SEGMENT, SYNC, field_place,
 };
 use std::alloc::{AllocError, Global};
 
 /// The number of groups in a field.
 const FIELD_GROUPS: u64 = (FIELD_PACKETS as usize / GROUP_PACKETS) as u64;
-
-/// The most groups in a batch.
-const BATCH_GROUPS: usize = BATCH_PACKETS / GROUP_PACKETS;
 
 /// The bytes of a group's packets.
 const FOUR_PACKETS: usize = PACKET * GROUP_PACKETS;
@@ -36,8 +30,8 @@ const CODED_BYTES: usize = AIR_SYMBOLS * (CODED_PACKETS / GROUP_PACKETS);
 pub(crate) struct StreamCoder {
     coder: Box<Coder>,
     air: Air,
-    /// The last batch as it left the interleaver, 828 bytes for each of its groups.
-    batch: [u8; BATCH_BYTES],
+    /// The last batch as it left the interleaver.
+    batch: Batch,
     /// The symbols that the last piece brought.
     symbols: SymbolBuffer<CODED_BYTES>,
     /// The number of packets given so far.
@@ -88,35 +82,13 @@ impl StreamCoder {
             ≤ length self.old.symbols + AIR_SYMBOLS * (length packets.now / GROUP_PACKETS) }
         ensures packets { self.new.packets ≡ self.old.packets }
     {
-        let place = field_place(first).place;
-        interleave_front(&mut self.coder, place, packets, &mut self.batch[..]);
+        self.batch.interleave(&mut self.coder, first, packets);
         for i in 0..packets.len() / GROUP_PACKETS {
-            self.send_group(first + (GROUP_PACKETS * i) as u64, i);
+            let place = first + (GROUP_PACKETS * i) as u64;
+            self.batch.send(&mut self.coder, place, i, &mut self.air);
+            let count = SEGMENT * self.air.segments as usize;
+            self.symbols.push(&self.air.symbols[..count]);
         }
-    }
-
-    /// Sends one group of the batch. Its first packet is packet `first` of the stream.
-    fn send_group(&mut self, first: u64, group: usize)
-        requires grouped { first % GROUP_PACKETS ≡ 0 }
-        requires within { group < BATCH_GROUPS }
-        requires room { length self.old.symbols + AIR_SYMBOLS ≤ CODED_BYTES }
-        ensures sent { (before own rest : List (List ℕ)) → length before ≡ first → length own ≡ GROUP_PACKETS
-            → AreInterleaved self.old group before (own ++ rest)
-            → AreInterleaved self.new (group + 1) (before ++ own) rest }
-        ensures brought { (before own rest : List (List ℕ)) (bytes : List ℕ) → length before ≡ first
-            → length own ≡ GROUP_PACKETS → AreInterleaved self.old group before (own ++ rest)
-            → symbol_bytes before ≡ bytes ++ self.old.symbols
-            → symbol_bytes (before ++ own) ≡ bytes ++ self.new.symbols }
-        ensures long { length self.new.symbols ≤ length self.old.symbols + AIR_SYMBOLS }
-        ensures packets { self.new.packets ≡ self.old.packets }
-    {
-        let FieldPlace { place, second } = field_place(first);
-        let sync = place == 0;
-        let (groups, _) = self.batch.as_chunks::<GROUP_BYTES>();
-        self.coder
-            .send(place, second, &groups[group], None, sync, &mut self.air);
-        let count = SEGMENT * self.air.segments as usize;
-        self.symbols.push(&self.air.symbols[..count]);
     }
 }
 
@@ -198,26 +170,13 @@ impl Transforming for StreamCoder {
         Ok(StreamCoder {
             coder: Box::new(alloc, Coder::new(alloc)?)?,
             air: Air::new(),
-            batch: [0; BATCH_BYTES],
+            batch: Batch::new(),
             symbols: SymbolBuffer::new(alloc)?,
             packets: 0,
         })
     }
 
     ghost knows = { code_knows };
-}
-
-/// Interleaves packets, the first of which has that place in its field. The bytes that leave the interleaver go to the
-/// front of the batch.
-fn interleave_front(coder: &mut Coder, place: u16, packets: &[[u8; PACKET]], batch: &mut [u8])
-    requires whole { length packets.now % GROUP_PACKETS ≡ 0 }
-    requires in_field { place + length packets.now ≤ FIELD_PACKETS }
-    requires room { CODEWORD * length packets.now ≤ length batch.old }
-    ensures ahead { IsAhead coder.old place packets.now (take (CODEWORD * length packets.now) batch.new) coder.new }
-    ensures long { length batch.new ≡ length batch.old }
-{
-    let len = CODEWORD * packets.len();
-    coder.interleave(place, packets, &mut batch[..len]);
 }
 
 /// How many of the `left` packets are interleaved at once: at most a batch, and none of the next field. The first one

@@ -1,65 +1,57 @@
-use Rattle.std.proofs.Common.{◌≡◌, ◌≤◌, ◌%◌, ℕ, ◌+◌, ◌*◌, ◌++◌, [], List, length, take, drop, ap}
-use Rattle.std.proofs.Common.{refl, sym, ◌∙◌, arith, subst}
-use Rattle.std.proofs.lemmas.List.{length-append, length-drop, length-take-le, drop_all, take_all, append-nil}
-use Rattle.dtx_coder.proofs.BatchesLemmas.{ahead_all, ahead_place}
-use Rattle.dtx_coder.specs.Batches.{IsAhead}
-use Rattle.dtx_coder.specs.Groups.{Coding, StandsFor, stream_coding}
-use Rattle.dtx_sizes.specs.declared.fields.FieldPlace.{FieldPlace}
-use Rattle.dtx_jobs.specs.StreamCoder.{AreInterleaved}
+use Rattle.std.proofs.Common.{◌≡◌, ◌≤◌, ◌*◌, ◌++◌, ℕ, ℤ, List, length, map, take, ap, refl}
+use Rattle.std.proofs.Common.{sym, ◌∙◌, arith, append_assoc, subst}
+use Rattle.std.proofs.lemmas.List.{map-append, take_all, append-nil}
+use Rattle.std.proofs.lemmas.List.{length-append, length-map, length-take}
+use Rattle.dtx_coder.proofs.BatchesLemmas.{batch_sent}
+use Rattle.dtx_coder.specs.Batches.{AreInterleaved}
+use Rattle.dtx_coder.specs.Groups.{StandsFor}
+use Rattle.dtx_coder.specs.Stream.{a53_symbols}
+use Rattle.dtx_files.specs.Symbols.{byte_of_symbol}
 use Rattle.dtx_recipes.specs.Symbols.{symbol_bytes}
-use Rattle.dtx_jobs.proofs.StreamSymbols.{four_on, four_left}
 use Rattle.dtx_jobs.proofs.stream_coder.StreamCoder.code_batch.Goals as goal
 
 pub loop-i-init : goal.loop-i-init
-loop-i-init c =
-    let place = c.field_place-place.result.place in
-    let packets = c.args.packets.now in
-    let batch = c.interleave_front.new.batch in
-    let new = c.interleave_front.new.coder in
-    let at : place ≡ c.args.first % 312 = ap (λ (p : FieldPlace). p.place) c.field_place-place.ensures in
-    record {
-      sent = λ before long stands. record {
-        ahead = subst (λ (ps : List (List ℕ)). IsAhead (stream_coding ps) (length ps) packets
-            (take (207 * length packets) batch) new) (sym (append-nil before))
-            (ahead_place (stream_coding before) new place (length before) packets (take (207 * length packets) batch)
-            (omega (arith, at, long))
-            (subst (λ (v : Coding). IsAhead v place packets (take (207 * length packets) batch) new)
-            (c.deref_mut.ensures.value ∙ stands) c.interleave_front.ensures.ahead));
-      };
-      brought = λ before bytes long stands is. ap symbol_bytes (append-nil before) ∙ is;
-      room = omega arith;
-      packets = refl;
-    }
+loop-i-init c = record {
+  sent = λ before long stands. c.interleave.ensures before long (c.deref_mut.ensures.value ∙ stands);
+  brought = λ before bytes long stands is. ap symbol_bytes (append-nil before) ∙ is;
+  room = omega arith;
+  packets = refl;
+}
 
 pub loop-i-preserved : goal.loop-i-preserved
 loop-i-preserved c =
     let i = c.loop-i.i in
     let packets = c.args.packets.now in
-    let here : 4 * i + 4 ≤ length packets = omega (arith, c.loop-i-test.true) in
-    let own : List (List ℕ) = take 4 (drop (4 * i) packets) in
-    let rest : List (List ℕ) = drop (4 * (i + 1)) packets in
-    let four : length own ≡ 4 =
-    length-take-le 4 (drop (4 * i) packets) (omega (arith, here, length-drop (4 * i) packets)) in
-    let long_front : (before : List (List ℕ)) → length before ≡ c.args.first
-    → length (before ++ take (4 * i) packets) ≡ c.args.first + 4 * i =
-    λ before long. length-append before (take (4 * i) packets)
-    ∙ omega (arith, long, length-take-le (4 * i) packets (omega (arith, here))) in
+    let symbols : List ℤ = take (832 * c.send.new.air.segments) c.send.new.air.symbols in
+    let sent : List ℕ = map byte_of_symbol symbols in
+    let coder = c.deref_mut-in-loop-i.result.now in
+    let batch = c.loop-i.self.batch.bytes in
     let was : (before : List (List ℕ)) → length before ≡ c.args.first → StandsFor c.args.self.now.coder.value before
-    → AreInterleaved c.loop-i.self i (before ++ take (4 * i) packets) (own ++ rest) =
+    → AreInterleaved coder batch before packets i =
     λ before long stands.
-    subst (λ ps. AreInterleaved c.loop-i.self i (before ++ take (4 * i) packets) ps) (four_left packets i)
+    subst (λ v. AreInterleaved v batch before packets i) (sym c.deref_mut-in-loop-i.ensures.value)
     (c.loop-i.invariant.sent before long stands) in
     record {
       sent = λ before long stands.
-          subst (λ ps. AreInterleaved c.send_group.new.self (i + 1) ps rest) (four_on before packets i)
-          (c.send_group.ensures.sent (before ++ take (4 * i) packets) own rest (long_front before long) four
-          (was before long stands));
+          c.send.ensures.coder before packets (omega (arith, long)) (omega (arith, c.loop-i-test.true))
+          (was before long stands);
       brought = λ before bytes long stands is.
-          ap symbol_bytes (sym (four_on before packets i))
-          ∙ c.send_group.ensures.brought (before ++ take (4 * i) packets) own rest bytes (long_front before long) four
-          (was before long stands) (c.loop-i.invariant.brought before bytes long stands is);
-      room = omega (arith, c.send_group.ensures.long, c.loop-i.invariant.room);
-      packets = c.send_group.ensures.packets ∙ c.loop-i.invariant.packets;
+          ap (map byte_of_symbol)
+          (c.send.ensures.symbols before packets (omega (arith, long)) (omega (arith, c.loop-i-test.true))
+          (was before long stands))
+          ∙ map-append byte_of_symbol (a53_symbols (before ++ take (4 * i) packets)) symbols
+          ∙ ap (λ z. z ++ sent) (c.loop-i.invariant.brought before bytes long stands is)
+          ∙ append_assoc bytes c.loop-i.self.symbols sent ∙ ap (λ z. bytes ++ z) (sym c.push.ensures);
+      room = omega (
+        arith,
+        c.loop-i.invariant.room,
+        c.send.ensures.few,
+        ap length c.push.ensures,
+        length-append c.loop-i.self.symbols sent,
+        length-map symbols byte_of_symbol,
+        length-take (832 * c.send.new.air.segments) c.send.new.air.symbols,
+      );
+      packets = c.loop-i.invariant.packets;
     }
 
 pub returns : goal.returns
@@ -67,17 +59,13 @@ returns c =
     let packets = c.args.packets.now in
     let whole = c.requires.whole in
     let all : length packets ≤ 4 * c.loop-i.i = omega (arith, whole, c.loop-i-test.false) in
-    let taken : take (4 * c.loop-i.i) packets ≡ packets = take_all (4 * c.loop-i.i) packets all in
     record {
       coder = λ before long stands.
-          let sent : AreInterleaved c.loop-i.self c.loop-i.i (before ++ packets) [] =
-          subst (λ ps. AreInterleaved c.loop-i.self c.loop-i.i (before ++ packets) ps)
-          (drop_all (4 * c.loop-i.i) packets all)
-          (subst (λ ps. AreInterleaved c.loop-i.self c.loop-i.i (before ++ ps) (drop (4 * c.loop-i.i) packets)) taken
-          (c.loop-i.invariant.sent before long stands)) in
-          ahead_all (stream_coding (before ++ packets)) c.loop-i.self.coder.value _ _ sent.ahead;
+          batch_sent before packets c.loop-i.self.batch.bytes c.loop-i.i c.loop-i.self.coder.value all
+          (c.loop-i.invariant.sent before long stands);
       brought = λ before bytes long stands is.
-          ap (λ ps. symbol_bytes (before ++ ps)) (sym taken) ∙ c.loop-i.invariant.brought before bytes long stands is;
+          ap (λ ps. symbol_bytes (before ++ ps)) (sym (take_all (4 * c.loop-i.i) packets all))
+          ∙ c.loop-i.invariant.brought before bytes long stands is;
       long = omega (arith, whole, c.loop-i.invariant.room, c.loop-i-test.false, c.loop-i.auto.i-end);
       packets = c.loop-i.invariant.packets;
     }
