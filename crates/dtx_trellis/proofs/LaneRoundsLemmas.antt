@@ -1,16 +1,24 @@
 -- A round of the coders side by side, by the definitions.
-use Rattle.std.proofs.Common.{◌≡◌, ◌≢◌, Bool, true, false, ◌⊎◌, inl, inr, ℕ, ◌-◌, ◌+◌, ◌*◌, ◌/◌, ◌%◌, ◌<◌, ◌≤◌, ◌==◌}
-use Rattle.std.proofs.Common.{ltb, ℤ, pos, List, length, get_or, sym, ap, ap₂, ◌∙◌, subst, arith}
-use Rattle.std.proofs.lemmas.Bool.{cases_lt, cond-true, cond_both, eq-eqb, eqb-true, false≢true, lt-ltb}
+use Rattle.std.proofs.Common.{◌≡◌, ◌≢◌, Bool, ◌⊎◌, inl, inr, ℕ, ◌-◌, ◌+◌, ◌*◌, ◌/◌, ◌%◌, ◌<◌, ◌≤◌}
+use Rattle.std.proofs.Common.{◌↔◌, IsTrue, ltb, ℤ, pos, List, length, get_or, sym, ap, ap₂, ◌∙◌, subst, arith}
+use Rattle.std.proofs.lemmas.Bool.{cases_lt, cond-true, cond_both, false≢true, lt-ltb}
 use Rattle.dtx_trellis.specs.Trellis.{AreBits, level_of, next_of, number_of, state_of, symbol_of}
 use Rattle.dtx_trellis.specs.Pairs.{byte_place, pair_in, coder_at}
 use Rattle.dtx_trellis.specs.Groups.{AreSent, coder_after, level_at, sent_place}
-use Rattle.dtx_trellis.specs.Lanes.{coder_turned, turn, AreNibbles, HoldsPairs, HoldsRound, HoldsStates, IsMovedOn}
-use Rattle.dtx_trellis.specs.Lanes.{StandsAt, behind_both, came_from, lane_behind, level_told, pair_taken, turned_place}
+use Rattle.dtx_trellis.specs.Lanes.{coder_turned, turn, AreNibbles, AreReady, HoldsPairs, HoldsStates, IsMovedOn}
+use Rattle.dtx_trellis.specs.Lanes.{StandsAt, behind_both, came_from, lane_behind, level_told, pair_taken, place_behind}
+use Rattle.dtx_trellis.specs.Lanes.{turned_place}
 use Rattle.dtx_trellis.proofs.CodersLemmas.{coder_is, one_group, pair_0, pair_1, pair_2, pair_3}
 use Rattle.dtx_trellis.proofs.RoundsLemmas.{IsGroup, coder_next, level_next, coder_bits}
 use Rattle.dtx_trellis.proofs.LaneStepsLemmas.{level_behind, lower_both, state_behind, state_eq, turned_small}
 use Rattle.dtx_trellis.proofs.LaneStepsLemmas.{upper_both}
+
+-- the states behind round r, and the levels given in it
+pub record HoldsRound (s : ℕ) (states bytes : List ℕ) (r x : ℕ) (lanes : List ℕ) : Type 0 where
+  pub behind : HoldsStates s states bytes (r + 1) x lanes
+  pub levels : (p : ℕ) → p < 12 → level_told (get_or lanes p 0)
+      ≡ level_of (coder_after s states bytes r (coder_turned x p)) (pair_taken s bytes r (coder_turned x p) / 2)
+      (pair_taken s bytes r (coder_turned x p) % 2)
 
 pub place_coder : (s r p : ℕ) → p < 12 → coder_turned (turn s r) p ≡ coder_at s (12 * r + p)
 unfolding coder_turned turn
@@ -37,6 +45,16 @@ behind_round s r x states bytes lanes g l n f = record {
   where
     bits : (p : ℕ) → AreBits (coder_after s states bytes r (coder_turned x p))
     bits p = bits_after s r (coder_turned x p) states bytes g l
+
+-- nibbles of which each is this one
+abbrev pub IsHalf : List ℕ → (ℕ → ℕ) → Type 0
+IsHalf lanes half = AreNibbles lanes × ((p : ℕ) → p < 16 → get_or lanes p 0 ≡ half p)
+
+-- the levels of lanes stand from `place` on, and before it all is as it was
+abbrev pub IsStored : ℕ → List ℕ → List ℤ → List ℤ → Type 0
+IsStored place lanes before symbols =
+    ((p : ℕ) → p < 12 → get_or symbols (place + p) (pos 0) ≡ symbol_of (level_told (get_or lanes p 0)))
+    × ((i : ℕ) → i < place → get_or symbols i (pos 0) ≡ get_or before i (pos 0))
 
 -- what two rounds take, and what two look-ups give
 pub record TwoRounds (s r x : ℕ) (states bytes lanes pairs both : List ℕ) : Type 0 where
@@ -117,62 +135,69 @@ loaded_bytes s h bytes v k f = record {
         ap (λ x. 12 * h + x) (sym (omega arith))
         ∙ ap (λ x. 12 * x + ((p + 4 * ((s + 4 * h / 69) % 3)) % 12 + 12 - 4 * ((s + 4 * x / 69) % 3)) % 12) (sym e)
 
+-- round t isn't the first, and `b` says whether it begins a segment
+abbrev pub Begins : ℕ → Bool → Type 0
+Begins t b = (0 < t) × (IsTrue b ↔ (t % 69 ≡ 0))
+
 -- place p has its coder from place q
 abbrev Comes : ℕ → ℕ → ℕ → ℕ → Type 0
 Comes s t p q = (q < 12) × (coder_turned (turn s t) p ≡ coder_turned (turn s (t - 1)) q)
 
--- lanes that are moved on: each place has the lane of its coder
-came_small : (t p : ℕ) → p < 16 → came_from t p < 16
-came_small t p l = cond_both (t % 69 == 0) (turned_place p) p (λ y. y < 16) (λ _. turned_small p l) (λ _. l)
+-- lanes that are moved on before round t: each place has the lane of its coder
+came_small : (b : Bool) (p : ℕ) → p < 16 → came_from b p < 16
+came_small b p l = cond_both b (turned_place p) p (λ y. y < 16) (λ _. turned_small p l) (λ _. l)
 
-came_coder : (s t p : ℕ) → 0 < t → p < 12
-    → (came_from t p < 12) × (coder_turned (turn s t) p ≡ coder_turned (turn s (t - 1)) (came_from t p))
-came_coder s t p z l =
-    cond_both (t % 69 == 0) (turned_place p) p (Comes s t p)
+came_coder : (s t p : ℕ) (b : Bool) → Begins t b → p < 12
+    → (came_from b p < 12) × (coder_turned (turn s t) p ≡ coder_turned (turn s (t - 1)) (came_from b p))
+came_coder s t p b z l =
+    cond_both b (turned_place p) p (Comes s t p)
     (λ e. subst (Comes s t p) (sym (cond-true (ltb p 12) ((p + 4) % 12) p (lt-ltb p 12 l)))
-    (omega arith, turned_coder s t p (eqb-true (t % 69) 0 e) z l))
-    (λ e. (l, ap (λ x. coder_turned x p) (same_turn s t (λ m. false≢true (sym e ∙ eq-eqb (t % 69) 0 m)))))
+    (omega arith, turned_coder s t p (z.1.0 e) z.0 l))
+    (λ e. (l, ap (λ x. coder_turned x p) (same_turn s t (λ m. false≢true (sym e ∙ z.1.1 m)))))
 
-pub moved_states : (s t u : ℕ) (states bytes v w : List ℕ) → 0 < t → IsMovedOn t v w
-    → HoldsStates s states bytes u (turn s (t - 1)) v → HoldsStates s states bytes u (turn s t) w
-moved_states s t u states bytes v w z m h = record {
-  nibbles = record {
-    long = m.long;
-    small = λ p l. subst (λ y. y < 16) (sym (m.at p l)) (h.nibbles.small (came_from t p) (came_small t p l));
-  };
-  at = λ p l.
-      let c = came_coder s t p z l in
-      ap state_of (m.at p (omega arith)) ∙ h.at (came_from t p) c.0 ∙ ap (coder_after s states bytes u) (sym c.1);
+pub moved_nibbles : (b : Bool) (v w : List ℕ) → IsMovedOn b v w → AreNibbles v → AreNibbles w
+moved_nibbles b v w m n = record {
+  long = m.long;
+  small = λ p l. subst (λ y. y < 16) (sym (m.at p l)) (n.small (came_from b p) (came_small b p l));
 }
 
-pub moved_round : (s t r : ℕ) (states bytes v w : List ℕ) → 0 < t → IsMovedOn t v w
+pub moved_states : (s t u : ℕ) (states bytes v w : List ℕ) (b : Bool) → Begins t b → IsMovedOn b v w
+    → HoldsStates s states bytes u (turn s (t - 1)) v → HoldsStates s states bytes u (turn s t) w
+moved_states s t u states bytes v w b z m h = record {
+  nibbles = moved_nibbles b v w m h.nibbles;
+  at = λ p l.
+      let c = came_coder s t p b z l in
+      ap state_of (m.at p (omega arith)) ∙ h.at (came_from b p) c.0 ∙ ap (coder_after s states bytes u) (sym c.1);
+}
+
+moved_round : (s t r : ℕ) (states bytes v w : List ℕ) (b : Bool) → Begins t b → IsMovedOn b v w
     → HoldsRound s states bytes r (turn s (t - 1)) v → HoldsRound s states bytes r (turn s t) w
-moved_round s t r states bytes v w z m h = record {
-  behind = moved_states s t (r + 1) states bytes v w z m h.behind;
+moved_round s t r states bytes v w b z m h = record {
+  behind = moved_states s t (r + 1) states bytes v w b z m h.behind;
   levels = λ p l.
-      let c = came_coder s t p z l in
-      ap level_told (m.at p (omega arith)) ∙ h.levels (came_from t p) c.0
+      let c = came_coder s t p b z l in
+      ap level_told (m.at p (omega arith)) ∙ h.levels (came_from b p) c.0
       ∙ ap (λ e. level_of (coder_after s states bytes r e) (pair_taken s bytes r e / 2) (pair_taken s bytes r e % 2))
       (sym c.1);
 }
 
-pub moved_bytes : (s t r : ℕ) (bytes v w : List ℕ) → 0 < t → IsMovedOn t v w
+pub moved_bytes : (s t r : ℕ) (bytes v w : List ℕ) (b : Bool) → Begins t b → IsMovedOn b v w
     → HoldsBytes s bytes r (turn s (t - 1)) v → HoldsBytes s bytes r (turn s t) w
-moved_bytes s t r bytes v w z m h = record {
+moved_bytes s t r bytes v w b z m h = record {
   long = m.long;
   at = λ p l.
-      let c = came_coder s t p z l in
-      m.at p (omega arith) ∙ h.at (came_from t p) c.0 ∙ ap (λ e. get_or bytes (byte_place s r e) 0) (sym c.1);
+      let c = came_coder s t p b z l in
+      m.at p (omega arith) ∙ h.at (came_from b p) c.0 ∙ ap (λ e. get_or bytes (byte_place s r e) 0) (sym c.1);
 }
 
 -- the second of two rounds, which may begin a segment
-pub second_moved : (s r : ℕ) (states bytes lanes pairs both lower behind : List ℕ)
+second_moved : (s r : ℕ) (states bytes lanes pairs both lower behind : List ℕ) (b : Bool)
     → TwoRounds s r (turn s r) states bytes lanes pairs both → AreNibbles lower
-    → ((p : ℕ) → p < 16 → get_or lower p 0 ≡ get_or both p 0 % 16) → IsMovedOn (r + 1) lower behind
-    → HoldsRound s states bytes (r + 1) (turn s (r + 1)) behind
-second_moved s r states bytes lanes pairs both lower behind h n f m =
+    → ((p : ℕ) → p < 16 → get_or lower p 0 ≡ get_or both p 0 % 16) → (IsTrue b ↔ ((r + 1) % 69 ≡ 0))
+    → IsMovedOn b lower behind → HoldsRound s states bytes (r + 1) (turn s (r + 1)) behind
+second_moved s r states bytes lanes pairs both lower behind b h n f between m =
     let e : r ≡ r + 1 - 1 = omega arith in
-    moved_round s (r + 1) (r + 1) states bytes lower behind (omega arith) m
+    moved_round s (r + 1) (r + 1) states bytes lower behind b (omega arith, between) m
     (rw (← e) (second_round s r (turn s r) states bytes lanes pairs both lower h n f))
 
 -- the pairs of the four rounds of byte group h
@@ -271,17 +296,62 @@ pub none_sent : (s : ℕ) (states bytes : List ℕ) (symbols : List ℤ) → Are
 unfolding AreSent
 none_sent s states bytes symbols d l = absurd (omega arith)
 
+-- where the next round is sent
+pub next_sent : (r place : ℕ) (b : Bool) → (IsTrue b ↔ ((r + 1) % 69 ≡ 0)) → place ≡ sent_place (12 * r)
+    → place_behind place b ≡ sent_place (12 * (r + 1))
+unfolding sent_place
+next_sent r place b z e =
+    cond_both b 4 0 (λ n. place + 12 + n ≡ 12 * (r + 1) + 4 * (12 * (r + 1) / 828 + 1))
+    (λ t. let m : (r + 1) % 69 ≡ 0 = z.0 t in omega (arith, e))
+    (λ f. let m : (r + 1) % 69 ≢ 0 = λ n. false≢true (sym f ∙ z.1 n) in omega (arith, e))
+
+-- the symbols of a round have room
+pub round_within : (r : ℕ) → r < 276 → sent_place (12 * r) + 12 ≤ 3328
+unfolding sent_place
+round_within r l = omega arith
+
+-- the symbols of one more round, from `place` on
+sent_next : (s r place : ℕ) (states bytes lanes : List ℕ) (before symbols : List ℤ) → IsGroup s bytes → r < 276
+    → HoldsRound s states bytes r (turn s r) lanes → place ≡ sent_place (12 * r)
+    → AreSent s states bytes (12 * r) before → IsStored place lanes before symbols
+    → AreSent s states bytes (12 * (r + 1)) symbols
+sent_next s r place states bytes lanes before symbols g l held e sent stored =
+    sent_more s r states bytes before symbols sent (λ i m. stored.1 i (subst (λ n. i < n) (sym e) m))
+    (λ p m. ap (λ n. get_or symbols (n + p) (pos 0)) (sym e) ∙ stored.0 p m
+    ∙ ap symbol_of (round_level s r p states bytes lanes g l m held))
+
+-- what two rounds make
+pub rounds_coded : (s r place later : ℕ) (b : Bool) (states bytes lanes pairs both upper lower behind : List ℕ)
+    (before between symbols : List ℤ) → AreReady s states bytes r b place lanes pairs before
+    → ((p : ℕ) → p < 16 → get_or both p 0 ≡ behind_both (get_or lanes p 0) (get_or pairs p 0))
+    → IsHalf upper (λ p. get_or both p 0 / 16) → IsHalf lower (λ p. get_or both p 0 % 16) → IsMovedOn b lower behind
+    → IsStored place upper before between → later ≡ place_behind place b → IsStored later behind between symbols
+    → HoldsStates s states bytes (r + 2) (turn s (r + 1)) behind × AreSent s states bytes (12 * (r + 2)) symbols
+rounds_coded s r place later b states bytes lanes pairs both upper lower behind before between symbols h give up low m
+    one e two =
+    let group : IsGroup s bytes = record { place = h.first; long = h.long } in
+    let rounds : TwoRounds s r (turn s r) states bytes lanes pairs both =
+    record { group = group; round = h.round; held = h.held; taken = h.taken; give = give } in
+    let first = first_round s r (turn s r) states bytes lanes pairs both upper rounds up.0 up.1 in
+    let second = second_moved s r states bytes lanes pairs both lower behind b rounds low.0 low.1 h.between m in
+    let sent = sent_next s r place states bytes upper before between group (omega (arith, h.round)) first h.at h.sent
+    one in
+    let last = sent_next s (r + 1) later states bytes behind between symbols group h.round second
+    (e ∙ next_sent r place b h.between h.at) sent two in
+    let f : r + 1 + 1 ≡ r + 2 = omega arith in
+    (rw (← f) second.behind, rw (← f) last)
+
 -- behind the four rounds of byte h
 pub stands_next : (s h : ℕ) (states bytes lanes : List ℕ) (symbols : List ℤ)
     → HoldsStates s states bytes (4 * h + 2 + 2) (turn s (4 * h + 2 + 1)) lanes
-    → AreSent s states bytes (12 * (4 * h + 2 + 2)) symbols → StandsAt s states bytes (h + 1) lanes symbols
-stands_next s h states bytes lanes symbols held sent =
+    × AreSent s states bytes (12 * (4 * h + 2 + 2)) symbols → StandsAt s states bytes (h + 1) lanes symbols
+stands_next s h states bytes lanes symbols coded =
     let e : 4 * h + 2 + 2 ≡ 4 * (h + 1) = omega arith in
     let f : 4 * h + 2 + 1 ≡ 4 * (h + 1) - 1 = omega arith in
     record {
       held = subst (λ t. HoldsStates s states bytes t (turn s (4 * (h + 1) - 1)) lanes) e
-          (subst (λ t. HoldsStates s states bytes (4 * h + 2 + 2) (turn s t) lanes) f held);
-      sent = subst (λ t. AreSent s states bytes (12 * t) symbols) e sent;
+          (subst (λ t. HoldsStates s states bytes (4 * h + 2 + 2) (turn s t) lanes) f coded.0);
+      sent = subst (λ t. AreSent s states bytes (12 * t) symbols) e coded.1;
     }
 
 -- the rounds of byte h of each coder, where it stands within segment g and doesn't begin it
@@ -292,6 +362,3 @@ inside h g k l m n o = (omega arith, λ e. omega arith)
 pub inside_turn : (s h g k : ℕ) → g < 4 → 17 * g < h → h < 17 * (g + 1) → k < 4 → turn s (4 * h) ≡ turn s (4 * h + k)
 unfolding turn
 inside_turn s h g k l m n o = ap (λ i. (s + i) % 3) (omega arith ∙ sym (inside h g k l m n o).0)
-
-pub not_both : (b : Bool) {P : Type 0} → b ≡ false → (P → b ≡ true) → P → ⊥
-not_both b f g p = false≢true (sym f ∙ g p)

@@ -1,12 +1,13 @@
 -- Twelve coders side by side: lane p is of the coder at place p of a round. The segment has moved the coders on by 4 *
 -- x. A lane has four bits, which give its coder after a pair.
-use Rattle.std.specs.Prelude.{ℕ, ℤ, ◌≡◌, ◌<◌, ◌+◌, ◌-◌, ◌*◌, ◌/◌, ◌%◌, ◌==◌, if◌then◌else◌, ltb, List, length}
-use Rattle.std.specs.Prelude.{slice_index}
-use Rattle.dtx_sizes.specs.declared.segments.TheConstants.{CODERS, SEGMENT_ROUNDS}
+use Rattle.std.specs.Prelude.{ℕ, ℤ, ◌≡◌, ◌↔◌, ◌<◌, ◌+◌, ◌-◌, ◌*◌, ◌/◌, ◌%◌, if◌then◌else◌, ltb, Bool, IsTrue, List}
+use Rattle.std.specs.Prelude.{length, slice_index}
+use Rattle.dtx_sizes.specs.declared.fields.TheConstants.{FIELD_PACKETS}
+use Rattle.dtx_sizes.specs.declared.segments.TheConstants.{CODERS, GROUP_BYTES, ROUNDS, SEGMENT_ROUNDS, SEGMENT_SYNC}
 use Rattle.dtx_trellis.specs.declared.lanes.TheConstants.{LANES}
-use Rattle.dtx_trellis.specs.Trellis.{State, level_of, next_of, number_of, state_of}
+use Rattle.dtx_trellis.specs.Trellis.{State, next_of, number_of, state_of}
 use Rattle.dtx_trellis.specs.Pairs.{byte_place, pair_in}
-use Rattle.dtx_trellis.specs.Groups.{AreSent, coder_after}
+use Rattle.dtx_trellis.specs.Groups.{AreSent, coder_after, sent_place}
 
 -- the coder at place p
 unfoldable pub coder_turned : ℕ → ℕ → ℕ
@@ -44,13 +45,6 @@ pub record HoldsStates (s : ℕ) (states bytes : List ℕ) (t x : ℕ) (lanes : 
   pub nibbles : AreNibbles lanes
   pub at : (p : ℕ) → p < CODERS → state_of (slice_index lanes p) ≡ coder_after s states bytes t (coder_turned x p)
 
--- the states behind round r, and the levels given in it
-pub record HoldsRound (s : ℕ) (states bytes : List ℕ) (r x : ℕ) (lanes : List ℕ) : Type 0 where
-  pub behind : HoldsStates s states bytes (r + 1) x lanes
-  pub levels : (p : ℕ) → p < CODERS → level_told (slice_index lanes p)
-      ≡ level_of (coder_after s states bytes r (coder_turned x p)) (pair_taken s bytes r (coder_turned x p) / 2)
-      (pair_taken s bytes r (coder_turned x p) % 2)
-
 -- before byte h of each coder: the states, and the symbols that are sent
 pub record StandsAt (s : ℕ) (states bytes : List ℕ) (h : ℕ) (lanes : List ℕ) (symbols : List ℤ) : Type 0 where
   pub held : HoldsStates s states bytes (4 * h) (turn s (4 * h - 1)) lanes
@@ -66,11 +60,27 @@ pub record HoldsPairs (s : ℕ) (bytes : List ℕ) (r x : ℕ) (lanes : List ℕ
 abbrev pub turned_place : ℕ → ℕ
 turned_place p = if ltb p CODERS then (p + 4) % CODERS else p
 
--- the place from which place p gets its coder: if round r begins a segment, coders move on by four places
-abbrev pub came_from : ℕ → ℕ → ℕ
-came_from r p = if r % SEGMENT_ROUNDS == 0 then turned_place p else p
+-- the place from which place p gets its coder: where a segment begins, coders move on by four places
+abbrev pub came_from : Bool → ℕ → ℕ
+came_from begins p = if begins then turned_place p else p
 
--- the lanes of round r, from those of the round before it
-pub record IsMovedOn (r : ℕ) (before lanes : List ℕ) : Type 0 where
+-- the lanes of a round, which may begin a segment, from those of the round before it
+pub record IsMovedOn (begins : Bool) (before lanes : List ℕ) : Type 0 where
   pub long : length lanes ≡ LANES
-  pub at : (p : ℕ) → p < LANES → slice_index lanes p ≡ slice_index before (came_from r p)
+  pub at : (p : ℕ) → p < LANES → slice_index lanes p ≡ slice_index before (came_from begins p)
+
+-- where the symbols of the next round begin: behind those from `place` on, and behind a sync where a segment begins
+abbrev pub place_behind : ℕ → Bool → ℕ
+place_behind place begins = place + CODERS + (if begins then SEGMENT_SYNC else 0)
+
+-- Rounds r and r + 1 can be coded. Symbols of the first begin at `place`, and a segment may begin between the two.
+pub record AreReady (s : ℕ) (states bytes : List ℕ) (r : ℕ) (begins : Bool) (place : ℕ) (lanes pairs : List ℕ)
+    (symbols : List ℤ) : Type 0 where
+  pub first : s < FIELD_PACKETS
+  pub long : length bytes ≡ GROUP_BYTES
+  pub round : r + 1 < ROUNDS
+  pub between : IsTrue begins ↔ ((r + 1) % SEGMENT_ROUNDS ≡ 0)
+  pub at : place ≡ sent_place (CODERS * r)
+  pub held : HoldsStates s states bytes r (turn s r) lanes
+  pub taken : HoldsPairs s bytes r (turn s r) pairs
+  pub sent : AreSent s states bytes (CODERS * r) symbols

@@ -1,9 +1,8 @@
 //! The twelve coders side by side, each in the lane of its place in the round. They take two pairs at a time.
 
-ghost use Rattle.std.specs.Prelude.{◌≡◌, ◌↔◌, ℕ, ◌*◌, ◌/◌, ◌%◌, ◌<◌, IsTrue, length, slice_index};
+ghost use Rattle.std.specs.Prelude.{◌≡◌, ℕ, ◌*◌, ◌/◌, ◌%◌, ◌<◌, length, slice_index};
 ghost use Rattle.dtx_trellis.specs.Lanes.{AreNibbles, IsMovedOn, behind_both, level_told, turned_place};
 
-use dtx_sizes::SEGMENT_ROUNDS;
 use std::simd::prelude::*;
 
 /// The number of lanes of a vector. Lane p is of the coder at place p of a round, and lanes 12 to 15 are unused. Bit 3
@@ -65,12 +64,11 @@ pub(crate) fn lower(v: u8x16) -> u8x16
     v & u8x16::splat(15)
 }
 
-/// The lanes for round `round`, from those of the round before it. If the round begins a segment, each place gets the
-/// coder of the place four further on. Only clauses use `round`.
+/// The lanes for a round, from those of the round before it. If the round begins a segment, each place gets the coder
+/// of the place four further on.
 #[inline(always)]
-pub(crate) fn moved_on(v: u8x16, begins_segment: bool, round: usize) -> u8x16
-    requires begins { IsTrue begins_segment ↔ (round % SEGMENT_ROUNDS ≡ 0) }
-    ensures { IsMovedOn round v result }
+pub(crate) fn moved_on(v: u8x16, begins_segment: bool) -> u8x16
+    ensures { IsMovedOn begins_segment v result }
 {
     if begins_segment { turned(v) } else { v }
 }

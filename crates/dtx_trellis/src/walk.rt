@@ -1,10 +1,10 @@
 //! Codes the bytes of a group, with the coders side by side.
 
-ghost use Rattle.std.specs.Prelude.{◌≡◌, ◌↔◌, ℕ, ◌+◌, ◌-◌, ◌*◌, ◌/◌, ◌%◌, ◌<◌, ◌≤◌, IsTrue, length, pos, slice_index};
+ghost use Rattle.std.specs.Prelude.{◌≡◌, ℕ, ◌+◌, ◌-◌, ◌*◌, ◌/◌, ◌<◌, ◌≤◌, List, length, pos, slice_index};
 ghost use Rattle.std.specs.Prelude.{slice_index_or};
 ghost use Rattle.dtx_trellis.specs.Trellis.{number_of, symbol_of};
-ghost use Rattle.dtx_trellis.specs.Groups.{AreSent, coder_after, sent_place};
-ghost use Rattle.dtx_trellis.specs.Lanes.{AreNibbles, HoldsPairs, HoldsRound, HoldsStates, StandsAt, level_told, turn};
+ghost use Rattle.dtx_trellis.specs.Groups.{AreSent, coder_after};
+ghost use Rattle.dtx_trellis.specs.Lanes.{AreNibbles, AreReady, HoldsStates, StandsAt, level_told, place_behind, turn};
 
 use crate::lanes::{LANES, doubled, lower, moved_on, two_pairs, upper};
 use dtx_sizes::{
@@ -36,12 +36,12 @@ pub(crate) fn walk(
     ensures states { (e : ℕ) → e < CODERS
         → slice_index result e ≡ number_of (coder_after first from.now bytes.now ROUNDS e) }
 {
-    let mut lanes = laid_out(from, first, bytes);
+    let mut lanes = laid_out(from, first);
     for segment in 0..GROUP_PACKETS {
-        lanes = stretch(lanes, segment, first, from, bytes, symbols);
+        lanes = stretch(lanes, segment, bytes, symbols);
     }
-    let last = edge_bytes(lanes, LAST_BYTE, first, from, bytes, symbols);
-    numbers(last, first, from, bytes)
+    let last = edge_bytes(lanes, LAST_BYTE, bytes, symbols);
+    numbers(last, first)
 }
 
 /// Codes the bytes from the one in which segment `segment` begins to the one in which the next begins.
@@ -49,19 +49,19 @@ pub(crate) fn walk(
 fn stretch(
     start: u8x16,
     segment: usize,
-    first: usize,
-    from: &[u8; CODERS],
     bytes: &[u8; GROUP_BYTES],
     symbols: &mut [i8; GROUP_SYMBOLS],
 ) -> u8x16
-    requires first { first < FIELD_PACKETS }
     requires segment { segment < GROUP_PACKETS }
-    requires stands { StandsAt first from.now bytes.now (STRETCH * segment) start symbols.old }
-    ensures { StandsAt first from.now bytes.now (STRETCH * (segment + 1)) result symbols.new }
+    requires nibbles { AreNibbles start }
+    ensures nibbles { AreNibbles result }
+    ensures stands { (s : ℕ) (states : List ℕ) → s < FIELD_PACKETS
+        → StandsAt s states bytes.now (STRETCH * segment) start symbols.old
+        → StandsAt s states bytes.now (STRETCH * (segment + 1)) result symbols.new }
 {
-    let mut lanes = edge_bytes(start, STRETCH * segment, first, from, bytes, symbols);
+    let mut lanes = edge_bytes(start, STRETCH * segment, bytes, symbols);
     for byte in STRETCH * segment + 1..STRETCH * (segment + 1) {
-        lanes = inner_bytes(lanes, byte, segment, first, from, bytes, symbols);
+        lanes = inner_bytes(lanes, byte, segment, bytes, symbols);
     }
     lanes
 }
@@ -72,53 +72,38 @@ fn inner_bytes(
     start: u8x16,
     byte: usize,
     segment: usize,
-    first: usize,
-    from: &[u8; CODERS],
     bytes: &[u8; GROUP_BYTES],
     symbols: &mut [i8; GROUP_SYMBOLS],
 ) -> u8x16
-    requires first { first < FIELD_PACKETS }
     requires segment { segment < GROUP_PACKETS }
     requires behind { STRETCH * segment < byte }
     requires before { byte < STRETCH * (segment + 1) }
-    requires stands { StandsAt first from.now bytes.now byte start symbols.old }
-    ensures { StandsAt first from.now bytes.now (byte + 1) result symbols.new }
+    requires nibbles { AreNibbles start }
+    ensures nibbles { AreNibbles result }
+    ensures stands { (s : ℕ) (states : List ℕ) → s < FIELD_PACKETS
+        → StandsAt s states bytes.now byte start symbols.old
+        → StandsAt s states bytes.now (byte + 1) result symbols.new }
 {
-    let round = 4 * byte;
-    let place = CODERS * round + SEGMENT_SYNC * (segment + 1);
+    let place = CODERS * (4 * byte) + SEGMENT_SYNC * (segment + 1);
     let later = place + 2 * CODERS;
     let loaded = load(bytes, byte);
-    let pairs = upper(loaded);
-    let middle = two_rounds(
-        start, pairs, false, place, first, from, bytes, round, symbols,
-    );
-    let pairs = lower(loaded);
-    two_rounds(
-        middle,
-        pairs,
-        false,
-        later,
-        first,
-        from,
-        bytes,
-        round + 2,
-        symbols,
-    )
+    let middle = two_rounds(start, upper(loaded), false, place, symbols);
+    two_rounds(middle, lower(loaded), false, later, symbols)
 }
 
 /// Codes byte number `byte` of each coder, in four rounds. A segment may begin with one of them.
 fn edge_bytes(
     start: u8x16,
     byte: usize,
-    first: usize,
-    from: &[u8; CODERS],
     bytes: &[u8; GROUP_BYTES],
     symbols: &mut [i8; GROUP_SYMBOLS],
 ) -> u8x16
-    requires first { first < FIELD_PACKETS }
     requires byte { byte < CODER_BYTES }
-    requires stands { StandsAt first from.now bytes.now byte start symbols.old }
-    ensures { StandsAt first from.now bytes.now (byte + 1) result symbols.new }
+    requires nibbles { AreNibbles start }
+    ensures nibbles { AreNibbles result }
+    ensures stands { (s : ℕ) (states : List ℕ) → s < FIELD_PACKETS
+        → StandsAt s states bytes.now byte start symbols.old
+        → StandsAt s states bytes.now (byte + 1) result symbols.new }
 {
     // Of the rounds in which a segment begins, one is the second of its byte, one the third and one the fourth.
     let round = 4 * byte;
@@ -126,89 +111,47 @@ fn edge_bytes(
     let third = round + 2 == 2 * SEGMENT_ROUNDS;
     let fourth = round + 3 == 3 * SEGMENT_ROUNDS;
     let place = CODERS * round + SEGMENT_SYNC * (round / SEGMENT_ROUNDS + 1);
-    let later = next_place(next_place(place, second, round), third, round + 1);
+    let later = next_place(next_place(place, second), third);
     let loaded = load(bytes, byte);
     let pairs = upper(loaded);
-    let middle = two_rounds(
-        start, pairs, second, place, first, from, bytes, round, symbols,
-    );
-    let turned = moved_on(moved_on(loaded, second, round + 1), third, round + 2);
+    let middle = two_rounds(start, pairs, second, place, symbols);
+    let middle = moved_on(middle, third);
+    let turned = moved_on(moved_on(loaded, second), third);
     let pairs = lower(turned);
-    let middle = moved_on(middle, third, round + 2);
-    two_rounds(
-        middle,
-        pairs,
-        fourth,
-        later,
-        first,
-        from,
-        bytes,
-        round + 2,
-        symbols,
-    )
+    two_rounds(middle, pairs, fourth, later, symbols)
 }
 
 /// Writes the symbols of two rounds, the first from `place` on, and returns the lanes after them. A segment may begin
-/// between the two. Only clauses use `first`, `from`, `bytes` and `round`.
+/// between the two.
 #[inline(always)]
 fn two_rounds(
     lanes: u8x16,
     pairs: u8x16,
     begins_segment: bool,
     place: usize,
-    first: usize,
-    from: &[u8; CODERS],
-    bytes: &[u8; GROUP_BYTES],
-    round: usize,
     symbols: &mut [i8; GROUP_SYMBOLS],
 ) -> u8x16
-    requires first { first < FIELD_PACKETS }
-    requires round { round + 1 < ROUNDS }
-    requires begins { IsTrue begins_segment ↔ ((round + 1) % SEGMENT_ROUNDS ≡ 0) }
-    requires place { place ≡ sent_place (CODERS * round) }
-    requires states { HoldsStates first from.now bytes.now round (turn first round) lanes }
-    requires pairs { HoldsPairs first bytes.now round (turn first round) pairs }
-    requires sent { AreSent first from.now bytes.now (CODERS * round) symbols.old }
-    ensures states { HoldsStates first from.now bytes.now (round + 2) (turn first (round + 1)) result }
-    ensures sent { AreSent first from.now bytes.now (CODERS * (round + 2)) symbols.new }
+    requires lanes { AreNibbles lanes }
+    requires pairs { AreNibbles pairs }
+    requires place { place_behind place begins_segment + CODERS ≤ GROUP_SYMBOLS }
+    ensures nibbles { AreNibbles result }
+    ensures coded { (s r : ℕ) (states bytes : List ℕ)
+        → AreReady s states bytes r begins_segment place lanes pairs symbols.old
+        → HoldsStates s states bytes (r + 2) (turn s (r + 1)) result
+        × AreSent s states bytes (CODERS * (r + 2)) symbols.new }
 {
     let both = two_pairs(lanes, pairs);
-    emit(upper(both), place, first, from, bytes, round, symbols);
-    let behind = moved_on(lower(both), begins_segment, round + 1);
-    let next = next_place(place, begins_segment, round);
-    emit(behind, next, first, from, bytes, round + 1, symbols);
+    store(symbols, place, upper(both));
+    let behind = moved_on(lower(both), begins_segment);
+    store(symbols, next_place(place, begins_segment), behind);
     behind
 }
 
-/// Writes the symbols of a round. Only clauses use `first`, `from`, `bytes` and `round`.
+/// Where the symbols of the next round begin. If that round begins a segment, a sync stands in between.
 #[inline(always)]
-fn emit(
-    lanes: u8x16,
-    place: usize,
-    first: usize,
-    from: &[u8; CODERS],
-    bytes: &[u8; GROUP_BYTES],
-    round: usize,
-    symbols: &mut [i8; GROUP_SYMBOLS],
-)
-    requires first { first < FIELD_PACKETS }
-    requires round { round < ROUNDS }
-    requires place { place ≡ sent_place (CODERS * round) }
-    requires held { HoldsRound first from.now bytes.now round (turn first round) lanes }
-    requires sent { AreSent first from.now bytes.now (CODERS * round) symbols.old }
-    ensures { AreSent first from.now bytes.now (CODERS * (round + 1)) symbols.new }
-{
-    store(symbols, place, lanes);
-}
-
-/// Where the symbols of the round after round `round` begin. If that round begins a segment, a sync stands in between.
-/// Only clauses use `round`.
-#[inline(always)]
-fn next_place(place: usize, begins_segment: bool, round: usize) -> usize
-    requires round { round < ROUNDS }
-    requires begins { IsTrue begins_segment ↔ ((round + 1) % SEGMENT_ROUNDS ≡ 0) }
-    requires place { place ≡ sent_place (CODERS * round) }
-    ensures { result ≡ sent_place (CODERS * (round + 1)) }
+fn next_place(place: usize, begins_segment: bool) -> usize
+    requires { place < GROUP_SYMBOLS }
+    ensures { result ≡ place_behind place begins_segment }
 {
     if begins_segment {
         place + CODERS + SEGMENT_SYNC
@@ -276,9 +219,9 @@ fn store_last(symbols: &mut [i8; GROUP_SYMBOLS], place: usize, doubled: u8x16)
 }
 
 /// The coders' states, each in the lane of its place in the first round.
-fn laid_out(from: &[u8; CODERS], first: usize, bytes: &[u8; GROUP_BYTES]) -> u8x16
+fn laid_out(from: &[u8; CODERS], first: usize) -> u8x16
     requires { first < FIELD_PACKETS }
-    ensures { HoldsStates first from.now bytes.now 0 (turn first 0) result }
+    ensures { (bytes : List ℕ) → HoldsStates first from.now bytes 0 (turn first 0) result }
 {
     let mut lanes = [0u8; LANES];
     for p in 0..CODERS {
@@ -289,17 +232,12 @@ fn laid_out(from: &[u8; CODERS], first: usize, bytes: &[u8; GROUP_BYTES]) -> u8x
 }
 
 /// The states' numbers by coder, after the last round.
-fn numbers(
-    lanes: u8x16,
-    first: usize,
-    from: &[u8; CODERS],
-    bytes: &[u8; GROUP_BYTES],
-) -> [u8; CODERS]
+fn numbers(lanes: u8x16, first: usize) -> [u8; CODERS]
     requires first { first < FIELD_PACKETS }
-    requires states { HoldsStates first from.now bytes.now ROUNDS (turn first LAST_ROUND) lanes }
+    requires lanes { length lanes ≡ LANES }
     ensures long { length result ≡ CODERS }
-    ensures numbers { (e : ℕ) → e < CODERS
-        → slice_index result e ≡ number_of (coder_after first from.now bytes.now ROUNDS e) }
+    ensures numbers { (states bytes : List ℕ) → HoldsStates first states bytes ROUNDS (turn first LAST_ROUND) lanes
+        → (e : ℕ) → e < CODERS → slice_index result e ≡ number_of (coder_after first states bytes ROUNDS e) }
 {
     let last = lanes.to_array();
     let mut numbers = [0u8; CODERS];

@@ -10,10 +10,10 @@ returns c =
     let s = c.args.first in
     let from = c.args.from.now in
     let inv = c.loop-p.invariant in
-    record {
+    λ bytes. record {
       nibbles = record { long = inv.long; small = inv.small };
       at = λ p l. ap state_of (inv.done p (omega (arith, c.loop-p-test.false)))
           ∙ state_low (get_or from ((p + 4 * (s % 3)) % 12) 0)
           ∙ ap (λ e. state_of (get_or from e 0)) (sym (first_coder s p))
-          ∙ first_state s (coder_turned (turn s 0) p) from c.args.bytes.now;
+          ∙ first_state s (coder_turned (turn s 0) p) from bytes;
     }

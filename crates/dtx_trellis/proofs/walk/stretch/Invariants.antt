@@ -1,9 +1,12 @@
-use Rattle.std.proofs.Common.{◌≡◌, length}
-use Rattle.dtx_trellis.specs.Lanes.{StandsAt}
+use Rattle.std.proofs.Common.{◌≡◌, ◌*◌, ◌<◌, ℕ, List, length}
+use Rattle.dtx_trellis.specs.Lanes.{AreNibbles, StandsAt}
 use Rattle.dtx_trellis.proofs.walk.stretch.Given as goal
 
 abbrev pub invariant-loop-byte : goal.invariant-loop-byte
 invariant-loop-byte l = record {
   long : length l.symbols ≡ 3328;
-  stands : StandsAt l.first l.from l.bytes l.byte l.lanes l.symbols;
+  nibbles : AreNibbles l.lanes;
+  stands : (s : ℕ) (states : List ℕ) → s < 312
+      → StandsAt s states l.bytes (17 * l.segment) l.fn.start l.fn.symbols
+      → StandsAt s states l.bytes l.byte l.lanes l.symbols;
 }

@@ -1,45 +1,16 @@
-use Rattle.std.proofs.Common.{◌≡◌, ◌+◌, ◌*◌, subst, arith}
-use Rattle.dtx_trellis.specs.Groups.{AreSent}
-use Rattle.dtx_trellis.specs.Lanes.{HoldsStates, turn}
-use Rattle.dtx_trellis.proofs.LaneRoundsLemmas.{first_round, second_moved}
+use Rattle.dtx_trellis.proofs.LaneRoundsLemmas.{moved_nibbles, rounds_coded}
 use Rattle.dtx_trellis.proofs.walk.two_rounds.Goals as goal
 
-pub emit-requires-clause-held : goal.emit-requires-clause-held
-emit-requires-clause-held c =
-    let s = c.args.first in
-    first_round s c.args.round (turn s c.args.round) c.args.from.now c.args.bytes.now c.args.lanes c.args.pairs
-    c.two_pairs-both.result c.upper.result (record {
-      group = record { place = c.requires.first; long = c.told-bytes };
-      round = c.requires.round;
-      held = c.requires.states;
-      taken = c.requires.pairs;
-      give = c.two_pairs-both.ensures.lanes;
-    }) c.upper.ensures.nibbles c.upper.ensures.lanes
+pub store-requires-2-clause-lanes : goal.store-requires-2-clause-lanes
+store-requires-2-clause-lanes c = moved_nibbles _ _ _ c.moved_on-behind.ensures c.lower.ensures.nibbles
 
-pub emit-requires-2-clause-held : goal.emit-requires-2-clause-held
-emit-requires-2-clause-held c =
-    second_moved c.args.first c.args.round c.args.from.now c.args.bytes.now c.args.lanes c.args.pairs
-    c.two_pairs-both.result c.lower.result c.moved_on-behind.result (record {
-      group = record { place = c.requires.first; long = c.told-bytes };
-      round = c.requires.round;
-      held = c.requires.states;
-      taken = c.requires.pairs;
-      give = c.two_pairs-both.ensures.lanes;
-    }) c.lower.ensures.nibbles c.lower.ensures.lanes c.moved_on-behind.ensures
+pub returns-clause-nibbles : goal.returns-clause-nibbles
+returns-clause-nibbles c = moved_nibbles _ _ _ c.moved_on-behind.ensures c.lower.ensures.nibbles
 
-pub returns-clause-states : goal.returns-clause-states
-returns-clause-states c =
-    let e : c.args.round + 1 + 1 ≡ c.args.round + 2 = omega arith in
-    rw (← e) (second_moved c.args.first c.args.round c.args.from.now c.args.bytes.now c.args.lanes c.args.pairs
-    c.two_pairs-both.result c.lower.result c.moved_on-behind.result (record {
-      group = record { place = c.requires.first; long = c.told-bytes };
-      round = c.requires.round;
-      held = c.requires.states;
-      taken = c.requires.pairs;
-      give = c.two_pairs-both.ensures.lanes;
-    }) c.lower.ensures.nibbles c.lower.ensures.lanes c.moved_on-behind.ensures).behind
-
-pub returns-clause-sent : goal.returns-clause-sent
-returns-clause-sent c =
-    let e : c.args.round + 1 + 1 ≡ c.args.round + 2 = omega arith in
-    rw (← e) c.emit-2.ensures
+pub returns-clause-coded : goal.returns-clause-coded
+returns-clause-coded c = λ s r states bytes ready.
+    rounds_coded s r c.args.place c.next_place.result c.args.begins_segment states bytes c.args.lanes c.args.pairs c.two_pairs-both.result
+    c.upper.result c.lower.result c.moved_on-behind.result c.args.symbols.now c.store.new.symbols c.store-2.new.symbols
+    ready c.two_pairs-both.ensures.lanes (c.upper.ensures.nibbles, c.upper.ensures.lanes)
+    (c.lower.ensures.nibbles, c.lower.ensures.lanes) c.moved_on-behind.ensures
+    (c.store.ensures.symbols, c.store.ensures.before) c.next_place.ensures (c.store-2.ensures.symbols, c.store-2.ensures.before)

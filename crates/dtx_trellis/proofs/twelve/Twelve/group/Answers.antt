@@ -1,6 +1,4 @@
-use Rattle.std.proofs.Common.{◌≡◌, ℕ, ◌+◌, ◌*◌, ◌<◌, map, take, drop, get_or, subst, arith}
-use Rattle.dtx_trellis.specs.Trellis.{symbol_of}
-use Rattle.dtx_trellis.specs.Groups.{levels_of, states_after}
+use Rattle.std.proofs.Common.{◌<◌, get_or, arith}
 use Rattle.dtx_trellis.proofs.Ends.{symbols_end, states_end, state_small}
 use Rattle.dtx_trellis.proofs.twelve.Twelve.group.Goals as goal
 
