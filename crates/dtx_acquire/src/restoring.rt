@@ -1,8 +1,7 @@
 //! Restores a field: its sync, and its symbols, which are decided.
 
-ghost use Rattle.std.specs.Prelude.{◌≡◌, ℕ, ◌+◌, ◌*◌, ◌%◌, ◌<◌, ◌≤◌, [], length, map, nat_abs, pos};
+ghost use Rattle.std.specs.Prelude.{◌≡◌, ℕ, ◌*◌, ◌%◌, ◌<◌, ◌≤◌, [], length, map};
 ghost use Rattle.std.specs.Prelude.{slice_index_or};
-ghost use Rattle.dtx_soft.specs.Signed.{AreSigned};
 ghost use Rattle.dtx_soft.specs.Softened.{softened, softened_cost};
 ghost use Rattle.dtx_acquire.specs.Acquired.{in_groups, path_cost, restored, restored_data, restored_field};
 ghost use Rattle.dtx_acquire.specs.Acquired.{restored_sync};
@@ -71,7 +70,6 @@ fn soften(decoder: &mut FieldDecoder, segments: &mut [[i8; SEGMENT]]) -> u64
     ensures most { result ≤ MOST_SEGMENT_COST * length segments.old }
     ensures scale { decoder.new ≡ decoder.old }
 {
-    signed(segments);
     let cost = decoder.field(segments);
     known(segments);
     cost
@@ -98,30 +96,4 @@ fn restore_data(decisions: &Decisions, segment: &mut [i8; SEGMENT])
 /// Each segment has 832 symbols.
 fn known(segments: &[[i8; SEGMENT]])
     ensures { (i : ℕ) → i < length segments.now → length (slice_index_or segments.now i []) ≡ SEGMENT }
-{}
-
-/// The symbols of segments are signed bytes.
-#[inline(always)]
-fn signed(segments: &[[i8; SEGMENT]])
-    ensures { AreSigned segments.now }
-{
-    for i in 0..segments.len() {
-        signed_segment(&segments[i]);
-    }
-}
-
-/// The symbols of a segment are signed bytes.
-#[inline(always)]
-fn signed_segment(segment: &[i8; SEGMENT])
-    ensures { (k : ℕ) → nat_abs (slice_index_or segment.now k (pos 0)) ≤ 128 }
-{
-    for k in 0..SEGMENT {
-        signed_symbol(segment[k]);
-    }
-}
-
-/// A symbol is a signed byte.
-#[inline(always)]
-fn signed_symbol(symbol: i8)
-    ensures { nat_abs symbol ≤ 128 }
 {}

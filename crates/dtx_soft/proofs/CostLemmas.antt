@@ -1,5 +1,5 @@
 -- What the least paths of a field cost at most, where its symbols are signed bytes.
-use Rattle.std.proofs.Common.{◌≡◌, ℕ, zero, suc, ℤ, pos, ◌+◌, ◌*◌, ◌<◌, ◌≤◌, ◌-ℤ◌, nat_abs, List, [], ◌∷◌, length, map}
+use Rattle.std.proofs.Common.{◌≡◌, ℕ, zero, suc, ℤ, pos, ◌+◌, ◌*◌, ◌<◌, ◌≤◌, ◌-ℤ◌, nat_abs, List, [], ◌∷◌, length, map, sum}
 use Rattle.std.proofs.Common.{sym, ap, ◌∙◌, subst, arith}
 use Rattle.std.specs.List.{range_with_len, zip, AllByRecursion}
 use Rattle.std.proofs.lemmas.Int.{ints}
@@ -77,28 +77,27 @@ coder_small scale old e new h least =
     (path_small scale least.start least.levels least.least.path)) in
     subst (λ n. distance (coder_symbols old e) new ≤ most_square scale * n) long most
 
-first_costs : (scale : ℕ) (old new : List (List ℤ)) (n : ℕ) → n < 13 → AreSigned old → IsSoftened scale old new
-    → coders_distance old new n ≤ n * (most_square scale * (69 * length old))
-unfolding coders_distance
-first_costs scale old new zero l h soft = omega arith
-first_costs scale old new (suc n) l h soft =
-    let before = first_costs scale old new n (omega arith) h soft in
-    let one = coder_small scale old n (coder_symbols new n) h (soft.coders n (omega arith)) in
-    let more = sum_by-map-range_with_len_more (λ x. x) (λ e. distance (coder_symbols old e) (coder_symbols new e)) 0 n n
-    (omega arith) in
+-- a sum of n numbers, each at most `most`
+pub sums_small : (f : ℕ → ℕ) (most n : ℕ) → ((e : ℕ) → e < n → f e ≤ most)
+    → sum (map f (range_with_len 0 n)) ≤ n * most
+sums_small f most zero h = omega arith
+sums_small f most (suc n) h =
     let next : suc n ≡ n + 1 = omega arith in
-    next_costs (coders_distance old new (suc n)) (coders_distance old new n)
-    (distance (coder_symbols old n) (coder_symbols new n)) n (most_square scale * (69 * length old))
-    (ap (coders_distance old new) next ∙ more) before one
+    next_sum (sum (map f (range_with_len 0 (suc n)))) (sum (map f (range_with_len 0 n))) (f n)
+    (ap (λ m. sum (map f (range_with_len 0 m))) next
+    ∙ sum_by-map-range_with_len_more (λ x. x) f 0 n n (omega arith))
+    (sums_small f most n (λ e l. h e (omega arith))) (h n (omega arith))
   where
-    next_costs : (all front last n most : ℕ) → all ≡ front + last → front ≤ n * most → last ≤ most
-        → all ≤ suc n * most
-    next_costs all front last n most e a b = grind arith
+    next_sum : (all front last : ℕ) → all ≡ front + last → front ≤ n * most → last ≤ most → all ≤ suc n * most
+    next_sum all front last e a b = grind arith
 
 -- the costs of all twelve coders
 pub scaled_costs_small : (scale : ℕ) (old new : List (List ℤ)) → AreSigned old → IsSoftened scale old new
     → coders_distance old new 12 ≤ 12 * (most_square scale * (69 * length old))
-scaled_costs_small scale old new h soft = first_costs scale old new 12 (omega arith) h soft
+unfolding coders_distance
+scaled_costs_small scale old new h soft =
+    sums_small (λ e. distance (coder_symbols old e) (coder_symbols new e)) (most_square scale * (69 * length old)) 12
+    (λ e l. coder_small scale old e (coder_symbols new e) h (soft.coders e l))
 
 -- those of a field at the standard's levels
 pub costs_small : (old new : List (List ℤ)) → length old ≤ 312 → AreSigned old → IsSoftened 1 old new

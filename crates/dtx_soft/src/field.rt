@@ -8,7 +8,7 @@ ghost use Rattle.dtx_soft.specs.Coders.{IsSoftened, coders_distance};
 
 use crate::gaps::{Gaps, LANES, backward};
 use crate::near::{are_near, widened};
-use crate::nearest::MAX_SCALE;
+use crate::nearest::{MAX_SCALE, MOST_SEGMENT_COST};
 use crate::rounds::{lay_out, put_back};
 use crate::trace::forward;
 use crate::walk::MAX_SYMBOLS;
@@ -58,6 +58,7 @@ impl FieldDecoder {
         requires few { length segments.old ≤ FIELD_PACKETS }
         ensures segments { IsSoftened self.old segments.old segments.new }
         ensures cost { result ≡ coders_distance segments.old segments.new CODERS }
+        ensures most { result ≤ MOST_SEGMENT_COST * length segments.old }
         ensures scale { self.new ≡ self.old }
     {
         soften(
@@ -83,6 +84,7 @@ fn soften(
     requires marks { length marks.old ≡ MAX_SYMBOLS }
     ensures segments { IsSoftened scale segments.old segments.new }
     ensures cost { result ≡ coders_distance segments.old segments.new CODERS }
+    ensures most { result ≤ MOST_SEGMENT_COST * length segments.old }
 {
     let count = SEGMENT_ROUNDS * segments.len();
     soften_rounds(scale, &mut rounds[..count], &mut marks[..count], segments)
@@ -101,6 +103,7 @@ fn soften_rounds(
     requires marks { length marks.old ≡ SEGMENT_ROUNDS * length segments.old }
     ensures segments { IsSoftened scale segments.old segments.new }
     ensures cost { result ≡ coders_distance segments.old segments.new CODERS }
+    ensures most { result ≤ MOST_SEGMENT_COST * length segments.old }
 {
     lay_out(segments, rounds);
     let gaps = walk_back(scale, rounds, marks);

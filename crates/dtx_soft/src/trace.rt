@@ -12,7 +12,7 @@ ghost use Rattle.dtx_soft.specs.Trace.{IsMoved, IsNext, IsStand, IsStart, limit_
 ghost use Rattle.dtx_soft.specs.Trace.{nearer_symbol, pair_of, shift_of, stand_at};
 
 use crate::gaps::{Gap, Gaps, LANES, lane};
-use crate::nearest::{MAX_SCALE, square};
+use crate::nearest::{MAX_SCALE, MAX_SQUARE, square};
 use crate::walk::MAX_SYMBOLS;
 use crate::width::Width;
 
@@ -47,6 +47,7 @@ pub(crate) fn forward(
     ensures lanes { (n : ℕ) → n < LANES → AreLeast scale (column rounds.old n) (column rounds.new n) }
     ensures costs { (n : ℕ) → n < LANES
         → slice_index result n ≡ distance (column rounds.old n) (column rounds.new n) }
+    ensures small { (n : ℕ) → n < LANES → slice_index result n ≤ MAX_SQUARE * length rounds.old }
 {
     let mut stands = starts(gaps);
     for t in 0..rounds.len() {

@@ -70,3 +70,8 @@ returns-clause-costs c n l =
     (omega (arith, length-column c.args.rounds.now n, c.loop-t.invariant.long))
     (length-column c.loop-t.rounds n ∙ c.loop-t.invariant.long ∙ sym (length-column c.args.rounds.now n))
     (c.loop-t.invariant.under_way n l)).1
+
+pub returns-clause-small : goal.returns-clause-small
+returns-clause-small c n l =
+    let small = (c.loop-t.invariant.under_way n l).small in
+    omega (arith, small, c.loop-t.invariant.long, c.loop-t-test.false)
