@@ -22,17 +22,11 @@ const KEYS: &[&str] = &["at", "count", "put"];
 pub(crate) fn damages(alloc: Global, entry: &Table) -> Result<Damages, PlanFault>
     ensures { IsAnswer (damage_of (table_view entry.now)) result }
 {
-    let values = match Row::new(entry, "damage", PlanKey::Damage, 0).array_or_none(MOST_DAMAGES) {
-        Ok(values) => values,
-        Err(refusal) => return Err(PlanFault::No(refusal)),
-    };
+    let values = Row::new(entry, "damage", PlanKey::Damage, 0).array_or_none(MOST_DAMAGES)?;
     let mut all = Vec::new(alloc);
     let mut end = 0;
     for value in values {
-        let next = match damage(end, all.len() as u32, value) {
-            Ok(next) => next,
-            Err(refusal) => return Err(PlanFault::No(refusal)),
-        };
+        let next = damage(end, all.len() as u32, value)?;
         end = next.at + next.count;
         all.push(next)?;
     }
@@ -44,29 +38,14 @@ pub(crate) fn damages(alloc: Global, entry: &Table) -> Result<Damages, PlanFault
 fn damage(end: u64, item: u32, value: &Value) -> Result<Damage, PlanNo>
     ensures { result ≡ spec.damage_from end item (view value.now) }
 {
-    let entry = match table(value, PlanKey::Damage, item) {
-        Ok(entry) => entry,
-        Err(refusal) => return Err(refusal),
-    };
-    match known(entry, KEYS, PlanKey::Damage, item) {
-        Ok(()) => {}
-        Err(refusal) => return Err(refusal),
-    }
-    let at = match Row::new(entry, "at", PlanKey::DamageAt, item).whole(0, LAST_SYMBOL) {
-        Ok(at) => at,
-        Err(refusal) => return Err(refusal),
-    };
+    let entry = table(value, PlanKey::Damage, item)?;
+    known(entry, KEYS, PlanKey::Damage, item)?;
+    let at = Row::new(entry, "at", PlanKey::DamageAt, item).whole(0, LAST_SYMBOL)?;
     if at < end {
         return Err(PlanNo::new(PlanKey::DamageAt, item, PlanRule::Order));
     }
     let row = Row::new(entry, "count", PlanKey::DamageCount, item);
-    let count = match row.whole_or(1, 1, MOST_SYMBOLS) {
-        Ok(count) => count,
-        Err(refusal) => return Err(refusal),
-    };
-    let put = match Row::new(entry, "put", PlanKey::DamagePut, item).signed(-128, 127) {
-        Ok(put) => put as i8,
-        Err(refusal) => return Err(refusal),
-    };
+    let count = row.whole_or(1, 1, MOST_SYMBOLS)?;
+    let put = Row::new(entry, "put", PlanKey::DamagePut, item).signed(-128, 127)? as i8;
     Ok(Damage { at, count, put })
 }

@@ -25,16 +25,10 @@ pub(crate) fn events(
 ) -> Result<Events, PlanFault>
     ensures { IsAnswer (events_of transmitters.now (table_view net.now)) result }
 {
-    let values = match Row::new(net, "event", PlanKey::Event, 0).array_or_none(MOST_EVENTS) {
-        Ok(values) => values,
-        Err(refusal) => return Err(PlanFault::No(refusal)),
-    };
+    let values = Row::new(net, "event", PlanKey::Event, 0).array_or_none(MOST_EVENTS)?;
     let mut all = Vec::new(alloc);
     for value in values {
-        let next = match event(transmitters, all.len() as u32, value) {
-            Ok(next) => next,
-            Err(refusal) => return Err(PlanFault::No(refusal)),
-        };
+        let next = event(transmitters, all.len() as u32, value)?;
         all.push(next)?;
     }
     Ok(Events { all })
@@ -45,22 +39,10 @@ pub(crate) fn events(
 fn event(transmitters: &Transmitters, item: u32, value: &Value) -> Result<Event, PlanNo>
     ensures { result ≡ spec.event_at transmitters.now item (view value.now) }
 {
-    let entry = match table(value, PlanKey::Event, item) {
-        Ok(entry) => entry,
-        Err(refusal) => return Err(refusal),
-    };
-    let kind = match kind(entry, item) {
-        Ok(kind) => kind,
-        Err(refusal) => return Err(refusal),
-    };
-    match known_keys(kind, entry, item) {
-        Ok(()) => {}
-        Err(refusal) => return Err(refusal),
-    }
-    let to = match Row::new(entry, "to", PlanKey::To, item).whole(0, 65535) {
-        Ok(to) => to as u16,
-        Err(refusal) => return Err(refusal),
-    };
+    let entry = table(value, PlanKey::Event, item)?;
+    let kind = kind(entry, item)?;
+    known_keys(kind, entry, item)?;
+    let to = Row::new(entry, "to", PlanKey::To, item).whole(0, 65535)? as u16;
     if !transmitters.has(to) {
         return Err(PlanNo::new(PlanKey::To, item, PlanRule::Stranger));
     }
@@ -71,10 +53,7 @@ fn event(transmitters: &Transmitters, item: u32, value: &Value) -> Result<Event,
 fn kind(entry: &Table, item: u32) -> Result<EventKind, PlanNo>
     ensures { result ≡ spec.kind (table_view entry.now) item }
 {
-    let word = match Row::new(entry, "do", PlanKey::Do, item).text() {
-        Ok(word) => word,
-        Err(refusal) => return Err(refusal),
-    };
+    let word = Row::new(entry, "do", PlanKey::Do, item).text()?;
     match word {
         "send" => Ok(EventKind::Send),
         "foreign" => Ok(EventKind::Foreign),
@@ -127,14 +106,9 @@ fn event_of(kind: EventKind, to: u16, entry: &Table, item: u32) -> Result<Event,
 fn send(to: u16, entry: &Table, item: u32) -> Result<Event, PlanNo>
     ensures { result ≡ spec.send to (table_view entry.now) item }
 {
-    let from = match Row::new(entry, "from", PlanKey::From, item).whole(0, LAST_PACKET) {
-        Ok(from) => from,
-        Err(refusal) => return Err(refusal),
-    };
-    match Row::new(entry, "count", PlanKey::Count, item).whole(1, MOST_PACKETS - from) {
-        Ok(count) => Ok(Event::Send { to, from, count }),
-        Err(refusal) => Err(refusal),
-    }
+    let from = Row::new(entry, "from", PlanKey::From, item).whole(0, LAST_PACKET)?;
+    let count = Row::new(entry, "count", PlanKey::Count, item).whole(1, MOST_PACKETS - from)?;
+    Ok(Event::Send { to, from, count })
 }
 
 /// Reads the keys of `foreign`, which gives packets that are not of the feed.
@@ -142,18 +116,9 @@ fn send(to: u16, entry: &Table, item: u32) -> Result<Event, PlanNo>
 fn foreign(to: u16, entry: &Table, item: u32) -> Result<Event, PlanNo>
     ensures { result ≡ spec.foreign to (table_view entry.now) item }
 {
-    let seed = match Row::new(entry, "seed", PlanKey::Seed, item).whole(0, LAST_SEED) {
-        Ok(seed) => seed,
-        Err(refusal) => return Err(refusal),
-    };
-    let from = match Row::new(entry, "from", PlanKey::From, item).whole(0, LAST_PACKET) {
-        Ok(from) => from,
-        Err(refusal) => return Err(refusal),
-    };
-    let count = match Row::new(entry, "count", PlanKey::Count, item).whole(1, MOST_PACKETS - from) {
-        Ok(count) => count,
-        Err(refusal) => return Err(refusal),
-    };
+    let seed = Row::new(entry, "seed", PlanKey::Seed, item).whole(0, LAST_SEED)?;
+    let from = Row::new(entry, "from", PlanKey::From, item).whole(0, LAST_PACKET)?;
+    let count = Row::new(entry, "count", PlanKey::Count, item).whole(1, MOST_PACKETS - from)?;
     Ok(Event::Foreign {
         to,
         seed,
@@ -167,18 +132,9 @@ fn foreign(to: u16, entry: &Table, item: u32) -> Result<Event, PlanNo>
 fn flip(to: u16, entry: &Table, item: u32) -> Result<Event, PlanNo>
     ensures { result ≡ spec.flip to (table_view entry.now) item }
 {
-    let from = match Row::new(entry, "from", PlanKey::From, item).whole(0, LAST_PACKET) {
-        Ok(from) => from,
-        Err(refusal) => return Err(refusal),
-    };
-    let at = match Row::new(entry, "at", PlanKey::At, item).whole(0, LAST_BYTE) {
-        Ok(at) => at as u8,
-        Err(refusal) => return Err(refusal),
-    };
-    let with = match Row::new(entry, "with", PlanKey::With, item).whole(1, 255) {
-        Ok(with) => with as u8,
-        Err(refusal) => return Err(refusal),
-    };
+    let from = Row::new(entry, "from", PlanKey::From, item).whole(0, LAST_PACKET)?;
+    let at = Row::new(entry, "at", PlanKey::At, item).whole(0, LAST_BYTE)? as u8;
+    let with = Row::new(entry, "with", PlanKey::With, item).whole(1, 255)? as u8;
     Ok(Event::Flip { to, from, at, with })
 }
 
@@ -187,24 +143,17 @@ fn flip(to: u16, entry: &Table, item: u32) -> Result<Event, PlanNo>
 fn lie(to: u16, entry: &Table, item: u32) -> Result<Event, PlanNo>
     ensures { result ≡ spec.lie to (table_view entry.now) item }
 {
-    let from = match Row::new(entry, "from", PlanKey::From, item).whole(0, LAST_PACKET) {
-        Ok(from) => from,
-        Err(refusal) => return Err(refusal),
-    };
-    match states(entry, item) {
-        Ok(states) => Ok(Event::Lie { to, from, states }),
-        Err(refusal) => Err(refusal),
-    }
+    let from = Row::new(entry, "from", PlanKey::From, item).whole(0, LAST_PACKET)?;
+    let states = states(entry, item)?;
+    Ok(Event::Lie { to, from, states })
 }
 
 /// Reads `states`, which are the false states.
 fn states(entry: &Table, item: u32) -> Result<States, PlanNo>
     ensures { result ≡ spec.states (table_view entry.now) item }
 {
-    match Row::new(entry, "states", PlanKey::States, item).text() {
-        Ok(digits) => states_of(digits.as_bytes(), item),
-        Err(refusal) => Err(refusal),
-    }
+    let digits = Row::new(entry, "states", PlanKey::States, item).text()?;
+    states_of(digits.as_bytes(), item)
 }
 
 /// The states of the twelve coders, spelled as twelve digits from 0 to 7.

@@ -31,26 +31,11 @@ pub(crate) fn net(
     let Some(value) = member(root, "net") else {
         return Ok(None);
     };
-    let entry = match table(value, PlanKey::Net, 0) {
-        Ok(entry) => entry,
-        Err(refusal) => return Err(PlanFault::No(refusal)),
-    };
-    match known(entry, KEYS, PlanKey::Net, 0) {
-        Ok(()) => {}
-        Err(refusal) => return Err(PlanFault::No(refusal)),
-    }
-    let stream = match stream(alloc, entry) {
-        Ok(stream) => stream,
-        Err(fault) => return Err(fault),
-    };
-    let events = match events(alloc, transmitters, entry) {
-        Ok(events) => events,
-        Err(fault) => return Err(fault),
-    };
-    let receive = match receive(alloc, transmitters, entry) {
-        Ok(receive) => receive,
-        Err(fault) => return Err(fault),
-    };
+    let entry = table(value, PlanKey::Net, 0)?;
+    known(entry, KEYS, PlanKey::Net, 0)?;
+    let stream = stream(alloc, entry)?;
+    let events = events(alloc, transmitters, entry)?;
+    let receive = receive(alloc, transmitters, entry)?;
     Ok(Some(NetPlan {
         stream,
         events,
@@ -62,10 +47,7 @@ pub(crate) fn net(
 fn stream(alloc: Global, entry: &Table) -> Result<Word, PlanFault>
     ensures { IsAnswer (spec.stream (table_view entry.now)) result }
 {
-    let name = match Row::new(entry, "stream", PlanKey::Stream, 0).text() {
-        Ok(name) => name,
-        Err(refusal) => return Err(PlanFault::No(refusal)),
-    };
+    let name = Row::new(entry, "stream", PlanKey::Stream, 0).text()?;
     if name.is_empty() || name.len() > 255 {
         return Err(PlanFault::No(PlanNo::new(PlanKey::Stream, 0, PlanRule::Range)));
     }

@@ -27,10 +27,8 @@ pub fn read_plan(alloc: Global, bytes: &[u8]) -> Result<Plan, PlanFault>
     ensures sound { IfOk result IsSound }
     ensures net { IfOk result HasSoundNet }
 {
-    match root(alloc, bytes) {
-        Ok(root) => plan(alloc, &root),
-        Err(fault) => Err(fault),
-    }
+    let root = root(alloc, bytes)?;
+    plan(alloc, &root)
 }
 
 /// Reads damage from the bytes of a file of changes (the profile's own format). Such a file is one array `damage`, as a
@@ -39,10 +37,8 @@ pub fn read_changes(alloc: Global, bytes: &[u8]) -> Result<Damages, PlanFault>
     ensures walk { IsAnswer (spec.changes_of bytes.now) result }
     ensures sound { IfOk result AreDamages }
 {
-    match root(alloc, bytes) {
-        Ok(root) => changes(alloc, &root),
-        Err(fault) => Err(fault),
-    }
+    let root = root(alloc, bytes)?;
+    changes(alloc, &root)
 }
 
 /// Reads the bytes as a TOML table.

@@ -29,24 +29,12 @@ pub(crate) fn receive(
     let Some(value) = member(net, "receive") else {
         return Ok(None);
     };
-    let entry = match table(value, PlanKey::Receive, 0) {
-        Ok(entry) => entry,
-        Err(refusal) => return Err(PlanFault::No(refusal)),
-    };
-    match known(entry, KEYS, PlanKey::Receive, 0) {
-        Ok(()) => {}
-        Err(refusal) => return Err(PlanFault::No(refusal)),
-    }
-    let from = match Row::new(entry, "from", PlanKey::ReceiveFrom, 0).whole(0, 65535) {
-        Ok(from) => from as u16,
-        Err(refusal) => return Err(PlanFault::No(refusal)),
-    };
+    let entry = table(value, PlanKey::Receive, 0)?;
+    known(entry, KEYS, PlanKey::Receive, 0)?;
+    let from = Row::new(entry, "from", PlanKey::ReceiveFrom, 0).whole(0, 65535)? as u16;
     if !transmitters.has(from) {
         return Err(PlanFault::No(PlanNo::new(PlanKey::ReceiveFrom, 0, PlanRule::Stranger)));
     }
-    let damage = match damages(alloc, entry) {
-        Ok(damage) => damage,
-        Err(fault) => return Err(fault),
-    };
+    let damage = damages(alloc, entry)?;
     Ok(Some(ReceivePlan { from, damage }))
 }

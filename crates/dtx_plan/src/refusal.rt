@@ -1,6 +1,6 @@
 // Why a plan is refused: the key, the entry and the rule, or out of memory.
 ghost use Rattle.std.specs.Prelude.{◌≡◌};
-ghost use Rattle.dtx_plan.specs.declared.refusal.PlanFault.TheVariants.{Memory};
+ghost use Rattle.dtx_plan.specs.declared.refusal.PlanFault.TheVariants.{No, Memory};
 
 use crate::key::PlanKey;
 use crate::rule::PlanRule;
@@ -31,6 +31,14 @@ pub enum PlanFault {
     No(PlanNo),
     /// Out of memory.
     Memory,
+}
+
+impl From<PlanNo> for PlanFault {
+    ghost from_gives = { λ refusal fault. fault ≡ No refusal };
+
+    fn from(refusal: PlanNo) -> PlanFault {
+        PlanFault::No(refusal)
+    }
 }
 
 impl From<AllocError> for PlanFault {

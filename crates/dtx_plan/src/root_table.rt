@@ -24,31 +24,13 @@ const KEYS: &[&str] = &["start", "max_delay", "transmitter", "net"];
 pub(crate) fn plan(alloc: Global, root: &Table) -> Result<Plan, PlanFault>
     ensures { IsAnswer (spec.plan (table_view root.now)) result }
 {
-    match known(root, KEYS, PlanKey::Whole, 0) {
-        Ok(()) => {}
-        Err(refusal) => return Err(PlanFault::No(refusal)),
-    }
-    let start = match Row::new(root, "start", PlanKey::Start, 0).whole(0, LAST_TICK) {
-        Ok(start) => start as u32,
-        Err(refusal) => return Err(PlanFault::No(refusal)),
-    };
-    let max_delay = match Row::new(root, "max_delay", PlanKey::MaxDelay, 0).whole(0, LAST_TICK) {
-        Ok(max_delay) => max_delay as u32,
-        Err(refusal) => return Err(PlanFault::No(refusal)),
-    };
+    known(root, KEYS, PlanKey::Whole, 0)?;
+    let start = Row::new(root, "start", PlanKey::Start, 0).whole(0, LAST_TICK)? as u32;
+    let max_delay = Row::new(root, "max_delay", PlanKey::MaxDelay, 0).whole(0, LAST_TICK)? as u32;
     let row = Row::new(root, "transmitter", PlanKey::Transmitter, 0);
-    let items = match row.array(1, MOST_TRANSMITTERS) {
-        Ok(items) => items,
-        Err(refusal) => return Err(PlanFault::No(refusal)),
-    };
-    let transmitters = match transmitters(alloc, items) {
-        Ok(transmitters) => transmitters,
-        Err(fault) => return Err(fault),
-    };
-    let net = match net(alloc, &transmitters, root) {
-        Ok(net) => net,
-        Err(fault) => return Err(fault),
-    };
+    let items = row.array(1, MOST_TRANSMITTERS)?;
+    let transmitters = transmitters(alloc, items)?;
+    let net = net(alloc, &transmitters, root)?;
     Ok(Plan {
         start,
         max_delay,
@@ -62,9 +44,6 @@ pub(crate) fn plan(alloc: Global, root: &Table) -> Result<Plan, PlanFault>
 pub(crate) fn changes(alloc: Global, root: &Table) -> Result<Damages, PlanFault>
     ensures { IsAnswer (spec.changes (table_view root.now)) result }
 {
-    match known(root, &["damage"], PlanKey::Whole, 0) {
-        Ok(()) => {}
-        Err(refusal) => return Err(PlanFault::No(refusal)),
-    }
+    known(root, &["damage"], PlanKey::Whole, 0)?;
     damages(alloc, root)
 }

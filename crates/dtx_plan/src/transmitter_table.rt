@@ -24,10 +24,7 @@ pub(crate) fn transmitters(alloc: Global, values: &[Value]) -> Result<Transmitte
 {
     let mut found = Transmitters::none(alloc);
     for value in values {
-        let next = match transmitter(&found, value) {
-            Ok(next) => next,
-            Err(refusal) => return Err(PlanFault::No(refusal)),
-        };
+        let next = transmitter(&found, value)?;
         found.push(next)?;
     }
     Ok(found)
@@ -40,29 +37,14 @@ fn transmitter(earlier: &Transmitters, value: &Value) -> Result<Transmitter, Pla
     ensures { result ≡ spec.transmitter earlier.now (view value.now) }
 {
     let item = earlier.len() as u32;
-    let entry = match table(value, PlanKey::Transmitter, item) {
-        Ok(entry) => entry,
-        Err(refusal) => return Err(refusal),
-    };
-    match known(entry, KEYS, PlanKey::Transmitter, item) {
-        Ok(()) => {}
-        Err(refusal) => return Err(refusal),
-    }
-    let address = match Row::new(entry, "address", PlanKey::Address, item).whole(0, 65535) {
-        Ok(address) => address as u16,
-        Err(refusal) => return Err(refusal),
-    };
+    let entry = table(value, PlanKey::Transmitter, item)?;
+    known(entry, KEYS, PlanKey::Transmitter, item)?;
+    let address = Row::new(entry, "address", PlanKey::Address, item).whole(0, 65535)? as u16;
     if earlier.has(address) {
         return Err(PlanNo::new(PlanKey::Address, item, PlanRule::Twice));
     }
-    let offset = match Row::new(entry, "offset", PlanKey::Offset, item).signed(-32768, 32767) {
-        Ok(offset) => offset as i16,
-        Err(refusal) => return Err(refusal),
-    };
-    let delay = match Row::new(entry, "delay", PlanKey::Delay, item).whole_or(0, 0, 4294967295) {
-        Ok(delay) => delay as u32,
-        Err(refusal) => return Err(refusal),
-    };
+    let offset = Row::new(entry, "offset", PlanKey::Offset, item).signed(-32768, 32767)? as i16;
+    let delay = Row::new(entry, "delay", PlanKey::Delay, item).whole_or(0, 0, 4294967295)? as u32;
     Ok(Transmitter {
         address,
         offset,

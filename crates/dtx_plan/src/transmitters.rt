@@ -47,10 +47,7 @@ impl Transmitters {
     {
         let mut all = Transmitters::none(alloc);
         for transmitter in transmitters {
-            match all.push(*transmitter) {
-                Ok(()) => {}
-                Err(no) => return Err(no),
-            }
+            all.push(*transmitter)?;
         }
         Ok(all)
     }
