@@ -20,7 +20,6 @@ pub mod BytesOf
 pub mod LevelledFiles
 pub mod LifeOn
 pub mod LivesOn
-pub mod StreamSymbols
 pub mod Tallied
 pub mod WatchedFeed
 pub mod WatchedText
