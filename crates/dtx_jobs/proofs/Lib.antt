@@ -9,7 +9,6 @@ pub mod ReceiveLemmas
 pub mod ReceivedLemmas
 pub mod RepeatLemmas
 pub mod SoftLemmas
-mod SoftRowsLemmas
 mod SofteningLemmas
 pub mod SplicedSymbolsLemmas
 pub mod StreamBackLemmas

@@ -9,7 +9,7 @@ use Rattle.dtx_jobs.proofs.SoftLemmas.{no_cost}
 use Rattle.dtx_jobs.proofs.SofteningLemmas.{field_sum_all, rest_of}
 use Rattle.dtx_recipes.specs.SymbolFile.{file_segments}
 use Rattle.dtx_jobs.proofs.SymbolFileLemmas.{length-segments_of}
-use Rattle.dtx_jobs.proofs.softening.SofteningEngine.finish.Goals as goal
+use Rattle.dtx_jobs.proofs.softening.SofteningStep.finish.Goals as goal
 
 pub flush-requires-clause-fields : goal.flush-requires-clause-fields
 flush-requires-clause-fields c =
@@ -32,10 +32,10 @@ returns-clause-outcome c = λ given stand.
     let outcome : ℕ → ℕ → ℕ → Outcome =
     λ segments fields cost.
     record { status = Done; numbers = segments ∷ fields ∷ cost ∷ c.args.loose ∷ 0 ∷ 0 ∷ 0 ∷ []; shown = 4 } in
-    let rows = c.rows_of-rows.ensures.rows in
-    let fields = field_sum_all has_group old s c.rows_of-rows.result old.fields c.flush.new.self.fields refl
+    let rows = c.unwrap_or-rows.ensures in
+    let fields = field_sum_all has_group old s c.unwrap_or-rows.result old.fields c.flush.new.self.fields refl
     stand.softening rows stand.softening.fields c.flush.ensures.fields in
-    let cost = field_sum_all (softened_cost 1) old s c.rows_of-rows.result old.cost c.flush.new.self.cost no_cost
+    let cost = field_sum_all (softened_cost 1) old s c.unwrap_or-rows.result old.cost c.flush.new.self.cost no_cost
     stand.softening rows stand.softening.cost c.flush.ensures.cost in
     ap₂ (λ n m. outcome n m c.flush.new.self.cost) (c.flush.ensures.count ∙ stand.softening.count) fields
     ∙ ap (λ n. outcome (length s) (field_sum has_group s (length s)) n) cost
@@ -45,5 +45,5 @@ returns-clause-rest c = λ given stand.
     let s = file_segments given in
     let old = c.args.self.now in
     ap only (c.flush.ensures.symbols
-    ∙ ap (λ z. z ++ segment_bytes (flushed (take c.rows_of-rows.result old.field.items))) c.clear.ensures
-    ∙ rest_of old s c.rows_of-rows.result stand.softening c.rows_of-rows.ensures.rows)
+    ∙ ap (λ m. m.first ++ segment_bytes (flushed (take c.unwrap_or-rows.result old.field.items))) c.requires.empty
+    ∙ rest_of old s c.unwrap_or-rows.result stand.softening c.unwrap_or-rows.ensures)
