@@ -16,7 +16,7 @@ use Rattle.dtx_jobs.proofs.SoftLemmas.{count_copied, count_full, count_kept, cou
 use Rattle.dtx_recipes.proofs.SoftLemmas.{pending_copied, pending_is, so_far_copied, so_far_full, so_far_kept}
 use Rattle.dtx_jobs.proofs.SoftLemmas.{rest_is}
 use Rattle.dtx_recipes.proofs.SoftPlacesLemmas.{place_copied, place_ends, place_first, place_on}
-use Rattle.dtx_jobs.specs.Softening.{IsGathering, IsSigned, IsSoftening}
+use Rattle.dtx_jobs.specs.Softening.{IsGathering, IsKept, IsSigned, IsSoftening}
 
 looked : (b : Bool) → then_some {T = ℕ} b 0 ≡ cond b (Some 0) None
 looked true = refl
@@ -66,9 +66,7 @@ module _ (old new : Softening) (s : List (List ℤ)) (x : List ℤ) (front : Lis
   rows_more p e l =
       let held = pending_is s (Some p) e in
       let front : ahead s ≡ length s - p = omega (arith, held) in
-      take_more_set old.field.items p x l
-      ∙ ap (λ rows. rows ++ x ∷ [])
-      (ap (λ n. take n old.field.items) (sym held) ∙ was.field ∙ ap (λ n. drop n s) front)
+      cc (take_more_set old.field.items p x l, held, was.field, front)
 
   -- a segment that is kept
   pub kept : (p : ℕ) → old.place ≡ Some p → p + 1 < 312 → p < length old.field.items → new.place ≡ Some (p + 1)
@@ -82,8 +80,7 @@ module _ (old new : Softening) (s : List (List ℤ)) (x : List ℤ) (front : Lis
       record {
         softening = record {
           place = place ∙ sym on;
-          field = ap₂ take held field ∙ rows_more p here m
-              ∙ sym (ap (λ n. drop n (s ++ x ∷ [])) first ∙ drop-append-le (length s - p) s (x ∷ []) (omega arith));
+          field = cc (held, field, rows_more p here m, first, drop-append-le (length s - p) s (x ∷ []) (omega arith));
           count = counted;
           fields = fields ∙ was.fields ∙ sym (count_kept has_group s x p here l);
           cost = cost ∙ was.cost ∙ sym (count_kept (softened_cost 1) s x p here l);
@@ -108,10 +105,8 @@ module _ (old new : Softening) (s : List (List ℤ)) (x : List ℤ) (front : Lis
           place = place ∙ sym on;
           field = no_rows (pending_is (s ++ x ∷ []) None on);
           count = counted;
-          fields = fields ∙ ap₂ (λ a b. a + has_group (groups_in b)) was.fields all
-              ∙ sym (count_full has_group s x here refl);
-          cost = cost ∙ ap₂ (λ a b. a + softened_cost 1 (groups_in b)) was.cost all
-              ∙ sym (count_full (softened_cost 1) s x here no_cost);
+          fields = cc (fields, was.fields, all, count_full has_group s x here refl);
+          cost = cc (cost, was.cost, all, count_full (softened_cost 1) s x here no_cost);
         };
         bytes = ap segment_bytes (so_far_full s x here)
             ∙ segment_bytes-append (soft_so_far s) (flushed (drop (ahead s) s ++ x ∷ []))
@@ -127,10 +122,13 @@ signed_push [] x h k (suc i) n = omega arith
 signed_push (row ∷ rows) x h k zero n = h zero n
 signed_push (row ∷ rows) x h k (suc i) n = signed_push rows x (λ i. h (suc i)) k i n
 
--- with one more of them
-pub signed_more : (rows : List (List ℤ)) (x : List ℤ) (p : ℕ) → p < length rows → AreSigned (take p rows) → IsSigned x
-    → AreSigned (take (p + 1) (slice_set rows p x))
-signed_more rows x p l h k = subst AreSigned (sym (take_more_set rows p x l)) (signed_push (take p rows) x h k)
+-- the rows that are kept, with one more
+pub signed_rows : (old : Softening) (p : ℕ) (x : List ℤ) → IsKept old → old.place ≡ Some p → IsSigned x
+    → AreSigned (take (p + 1) (slice_set old.field.items p x))
+signed_rows old p x h is signed =
+    let rows : unwrap_or old.place 0 ≡ p = ap (λ (o : Option ℕ). unwrap_or o 0) is in
+    subst AreSigned (sym (take_more_set old.field.items p x (omega (arith, rows, h.small, h.room))))
+    (signed_push (take p old.field.items) x (subst (λ n. AreSigned (take n old.field.items)) rows h.signed) signed)
 
 -- the first of them
 pub signed_take : (n : ℕ) (rows : List (List ℤ)) → AreSigned rows → AreSigned (take n rows)
@@ -141,21 +139,17 @@ signed_take (suc n) (row ∷ rows) h (suc i) k = signed_take n rows (λ i. h (su
 
 -- ---- the end
 
-kept_field : (old : Softening) (s : List (List ℤ)) (rows : ℕ) → IsSoftening old s → rows ≡ unwrap_or old.place 0
-    → take rows old.field.items ≡ drop (ahead s) s
-kept_field old s rows h e =
-    ap (λ n. take n old.field.items) (e ∙ ap (λ (o : Option ℕ). unwrap_or o 0) h.place) ∙ h.field
+module _ (old : Softening) (s : List (List ℤ)) (rows : ℕ) (h : IsSoftening old s) (e : rows ≡ unwrap_or old.place 0) where
+  kept_field : take rows old.field.items ≡ drop (ahead s) s
+  kept_field = ap (λ n. take n old.field.items) (e ∙ ap (λ (o : Option ℕ). unwrap_or o 0) h.place) ∙ h.field
 
-pub rest_of : (old : Softening) (s : List (List ℤ)) (rows : ℕ) → IsSoftening old s → rows ≡ unwrap_or old.place 0
-    → segment_bytes (flushed (take rows old.field.items)) ≡ segment_bytes (soft_rest s)
-rest_of old s rows h e =
-    ap (λ part. segment_bytes (flushed part)) (kept_field old s rows h e) ∙ ap segment_bytes (sym (rest_is s))
+  pub rest_of : segment_bytes (flushed (take rows old.field.items)) ≡ segment_bytes (soft_rest s)
+  rest_of = ap (λ part. segment_bytes (flushed part)) kept_field ∙ ap segment_bytes (sym (rest_is s))
 
-pub field_sum_all : (count : List (List ℤ) → ℕ) (old : Softening) (s : List (List ℤ)) (rows n all : ℕ)
-    → count [] ≡ 0 → IsSoftening old s → rows ≡ unwrap_or old.place 0 → n ≡ field_sum count s (ahead s)
-    → all ≡ n + count (groups_in (take rows old.field.items)) → all ≡ field_sum count s (length s)
-field_sum_all count old s rows n all none h e is sum =
-    sum ∙ ap₂ (λ a b. a + count (groups_in b)) is (kept_field old s rows h e) ∙ sym (count_rest count s none)
+  pub field_sum_all : (count : List (List ℤ) → ℕ) (n all : ℕ) → count [] ≡ 0 → n ≡ field_sum count s (ahead s)
+      → all ≡ n + count (groups_in (take rows old.field.items)) → all ≡ field_sum count s (length s)
+  field_sum_all count n all none is sum =
+      sum ∙ ap₂ (λ a b. a + count (groups_in b)) is kept_field ∙ sym (count_rest count s none)
 
 -- ---- what is made
 

@@ -3,20 +3,17 @@ use Rattle.std.proofs.Common.{arith, rules}
 use Rattle.std.specs.Bool.{then_some}
 use Rattle.dtx_soft.specs.Signed.{AreSigned}
 use Rattle.dtx_jobs.specs.Softening.{kept_rows}
-use Rattle.dtx_jobs.proofs.SofteningLemmas.{copied, full, kept, signed_more}
+use Rattle.dtx_jobs.proofs.SofteningLemmas.{copied, full, kept, signed_rows}
 use Rattle.dtx_jobs.proofs.softening.Softening.take.Goals as goal
 
 pub flush-requires-clause-signed : goal.flush-requires-clause-signed
 flush-requires-clause-signed c =
     let p = c.in-Some.place in
     let old = c.args.self.now in
-    let x = c.to_symbols.new.brought in
     let rows : kept_rows old ≡ p = ap (λ (o : Option ℕ). unwrap_or o 0) c.in-Some.is in
     let last : p + 1 ≡ 312 = omega (arith, rows, c.requires.is_kept.small, c.if-place-lt-FIELD_PACKETS.false) in
-    let within : p < length old.field.items = omega (arith, last, c.requires.is_kept.room) in
-    subst (λ n. AreSigned (take n (slice_set old.field.items p x))) last
-    (signed_more old.field.items x p within
-    (subst (λ n. AreSigned (take n old.field.items)) rows c.requires.is_kept.signed) c.to_symbols.ensures.signed)
+    subst (λ n. AreSigned (take n (slice_set old.field.items p c.to_symbols.new.brought))) last
+    (signed_rows old p c.to_symbols.new.brought c.requires.is_kept c.in-Some.is c.to_symbols.ensures.signed)
 
 pub returns-in-None-clause-gathered : goal.returns-in-None-clause-gathered
 returns-in-None-clause-gathered c = λ before front is.

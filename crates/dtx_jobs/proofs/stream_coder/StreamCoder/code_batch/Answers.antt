@@ -62,7 +62,6 @@ returns c =
           batch_sent before packets c.loop-i.self.batch.bytes c.loop-i.i c.loop-i.self.coder.value all
           (c.loop-i.invariant.sent before long stands);
       brought = λ before bytes long stands is.
-          ap (λ ps. symbol_bytes (before ++ ps)) (sym (take_all (4 * c.loop-i.i) packets all))
-          ∙ c.loop-i.invariant.brought before bytes long stands is;
+          cc (take_all (4 * c.loop-i.i) packets all, c.loop-i.invariant.brought before bytes long stands is);
       long = omega (arith, whole, c.loop-i.invariant.room, c.loop-i-test.false, c.loop-i.auto.i-end);
     }
