@@ -3,7 +3,7 @@
 use Rattle.std.proofs.Common.{◌≡◌, ◌≢◌, ◌↔◌, ℕ, ◌*◌, ◌/◌, ◌%◌, ◌<◌, ◌≤◌, List, [], length, take, drop, sym, ap}
 use Rattle.std.proofs.Common.{ap₂, ◌∙◌, subst, arith}
 use Rattle.std.specs.Prelude.{ℤ, min, None}
-use Rattle.std.specs.List.{flat_map, range_with_len}
+use Rattle.std.specs.List.{range_with_len}
 use Rattle.std.proofs.lemmas.Bool.{cond-false, cond-true, eq-eqb, ne_eqb}
 use Rattle.std.proofs.lemmas.List.{take_at, take-append-drop, length-take-le}
 use Rattle.dtx_plan.specs.declared.damage.Damage.{Damage}
@@ -15,7 +15,7 @@ use Rattle.dtx_receiver.specs.Runs.{runs}
 use Rattle.dtx_meaning.specs.Meaning.{Meaning}
 use Rattle.dtx_meaning.specs.Status.{ended}
 use Rattle.dtx_meaning.specs.declared.status.Outcome.{Outcome}
-use Rattle.dtx_meaning.specs.declared.status.Status.TheVariants.{Done, NoSync, TooLong}
+use Rattle.dtx_meaning.specs.declared.status.Status.TheVariants.{Done, NoSync}
 use Rattle.dtx_engine.specs.Made.{Made, only, outputs_of}
 use Rattle.dtx_engine.specs.Recipe.{first_refused, meaning_at}
 use Rattle.dtx_engine.specs.Recipe.{meaning_of_file, whole_units}
@@ -51,8 +51,7 @@ given_front giving is names file loose =
     let means : List (List ℤ) → Made → Meaning =
     λ list made. record { outcome = answer_of giving list loose; outputs = outputs_of names made } in
     let whole = file_segments-whole file in
-    ap₂ means whole (receives_whole giving is (take (832 * whole_segments file) file)
-    ∙ ap (λ list. only (flat_map (λ p. p) (giving.packets list))) whole)
+    ap₂ means whole (cc (receives_whole giving is (take (832 * whole_segments file) file), whole))
 
 -- a symbol file with no more segments than are received
 pub all_given : (giving : Giving) → IsGiving giving → (names : List (List ℕ)) (file : List ℕ)
@@ -66,11 +65,7 @@ all_given giving is names file few =
 pub first_given : (giving : Giving) (names : List (List ℕ)) (file : List ℕ) → 626000000 < whole_segments file
     → meaning_of_file segments (receiving_by giving) names file ≡ given_until giving names file
 first_given giving names file many =
-    first_read segments (receiving_by giving) names file (all_allowed giving file) many
-    ∙ ap (λ (list : List (List ℤ)). record {
-      outcome = ended TooLong;
-      outputs = outputs_of names (only (bytes_of (giving.so_far list)));
-    }) (first_segments file 626000000 (omega (arith, many)))
+    cc (first_read segments (receiving_by giving) names file (all_allowed giving file) many, first_segments file 626000000 (omega (arith, many)))
 
 -- the first bytes of a damaged file are the damaged first bytes
 hurt_front : (damage : List Damage) (file : List ℕ) (n : ℕ) → n ≤ length file

@@ -27,9 +27,7 @@ front_given giving is segments n =
     let on = given_on giving is (take n segments) (drop n segments) in
     let end = is.end segments in (
       on.0 ++ end.0,
-      end.1
-          ∙ ap (λ list. list ++ end.0) (ap giving.so_far (sym (take-append-drop n segments)) ∙ on.1)
-          ∙ append_assoc (giving.so_far (take n segments)) on.0 end.0,
+      cc (end.1, take-append-drop n segments, on.1, append_assoc (giving.so_far (take n segments)) on.0 end.0),
     )
 
 -- ---- what is made

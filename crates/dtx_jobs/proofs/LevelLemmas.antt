@@ -1,6 +1,6 @@
 -- Lemmas of what a piece of a capture brings, levelled.
 use Rattle.std.proofs.Common.{◌≡◌, ℕ, ℤ, zero, suc, pos, ◌+◌, ◌<◌, List, [], ◌∷◌, ◌++◌, length, map, replicate, refl}
-use Rattle.std.proofs.Common.{sym, ap, ap₂, ◌∙◌, arith, append_assoc, length-append}
+use Rattle.std.proofs.Common.{ap, arith, append_assoc, length-append}
 use Rattle.std.proofs.lemmas.List.{length-replicate, map-append}
 use Rattle.dtx_files.specs.Symbols.{byte_of_symbol}
 
@@ -28,17 +28,11 @@ brought_more : (count more : ℕ) (bytes : List ℕ) (given : List ℤ) → (0 <
     ≡ (replicate count 0 ++ bytes) ++ map byte_of_symbol (replicate more (pos 0) ++ given)
 brought_more count zero bytes given first =
     let same : count + 0 ≡ count = omega arith in
-    ap (λ (n : ℕ). replicate n 0 ++ (bytes ++ map byte_of_symbol given)) same
-    ∙ sym (append_assoc (replicate count 0) bytes (map byte_of_symbol given))
+    cc (same, append_assoc (replicate count 0) bytes (map byte_of_symbol given))
 brought_more count (suc more) bytes given first =
     let none = first (omega arith) in
     let same : 0 + suc more ≡ suc more = omega arith in
-    ap₂ (λ (n : ℕ) (b : List ℕ). replicate (n + suc more) 0 ++ (b ++ map byte_of_symbol given)) none.0 none.1
-    ∙ ap (λ (n : ℕ). replicate n 0 ++ map byte_of_symbol given) same
-    ∙ ap (λ (b : List ℕ). b ++ map byte_of_symbol given) (sym (zero_bytes (suc more)))
-    ∙ sym (map-append byte_of_symbol (replicate (suc more) (pos 0)) given)
-    ∙ ap₂ (λ (n : ℕ) (b : List ℕ). (replicate n 0 ++ b)
-    ++ map byte_of_symbol (replicate (suc more) (pos 0) ++ given)) (sym none.0) (sym none.1)
+    cc (none.0, none.1, same, zero_bytes (suc more), map-append byte_of_symbol (replicate (suc more) (pos 0)) given)
 
 -- so it is of what a call of the leveller brought
 pub brought_with : (count more : ℕ) (bytes : List ℕ) (given : List ℤ) (brought : List ℤ) (called : ℕ) (now : List ℕ)
@@ -46,6 +40,4 @@ pub brought_with : (count more : ℕ) (bytes : List ℕ) (given : List ℤ) (bro
     → now ≡ bytes ++ map byte_of_symbol brought → replicate (count + called) 0 ++ now
     ≡ (replicate count 0 ++ bytes) ++ map byte_of_symbol (replicate more (pos 0) ++ given)
 brought_with count more bytes given brought called now first called_is brought_is now_is =
-    ap₂ (λ (n : ℕ) (b : List ℕ). replicate (count + n) 0 ++ b) called_is
-    (now_is ∙ ap (λ (xs : List ℤ). bytes ++ map byte_of_symbol xs) brought_is)
-    ∙ brought_more count more bytes given first
+    cc (called_is, now_is, brought_is, brought_more count more bytes given first)

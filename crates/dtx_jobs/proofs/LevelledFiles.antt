@@ -1,24 +1,21 @@
 -- What `level` answers and writes of all bytes of a file, and of the first of too many.
-use Rattle.std.proofs.Common.{◌≡◌, ℕ, ℤ, ◌*◌, ◌/◌, ◌%◌, ◌<◌, ◌≤◌, List, length, map, take, sym, ap, ap₂, ◌∙◌, arith}
+use Rattle.std.proofs.Common.{◌≡◌, ℕ, ◌*◌, ◌/◌, ◌<◌, ◌≤◌, List, length, take, sym, ap, ap₂, ◌∙◌, arith}
 use Rattle.std.specs.Prelude.{min, None}
 use Rattle.std.specs.List.{range_with_len}
 use Rattle.std.proofs.lemmas.Grind.{flat_map-append}
 use Rattle.std.proofs.lemmas.List.{map-append, take_all, take-map}
-use Rattle.dtx_engine.specs.Made.{Made, both, joined, outputs_of}
-use Rattle.dtx_engine.specs.Recipe.{first_refused, meaning_at, meaning_of_file, whole_units}
-use Rattle.dtx_engine.specs.declared.piece.Ending.TheVariants.{Whole}
+use Rattle.dtx_engine.specs.Made.{both, joined}
+use Rattle.dtx_engine.specs.Recipe.{first_refused, meaning_of_file, whole_units}
 use Rattle.dtx_files.specs.Symbols.{byte_of_symbol}
 use Rattle.dtx_forms.proofs.AllowedFileLemmas.{all_read, first_read, none_found}
 use Rattle.dtx_forms.specs.Shapes.{single_bytes}
-use Rattle.dtx_recipes.specs.Level.{level_answer, levelled_files, levelling}
+use Rattle.dtx_recipes.specs.Level.{levelled_files, levelling}
 use Rattle.dtx_recipes.specs.LevelledFile.{levelled_of, levelled_until}
 use Rattle.dtx_recipes.specs.SymbolFile.{symbol_of_byte, symbols}
 use Rattle.dtx_level.proofs.LevelledLemmas.{all_are_levelled, all_are_measured}
 use Rattle.dtx_level.specs.Levelled.{levelled, levelled_rest, levelled_so_far}
 use Rattle.dtx_level.specs.MeasureText.{measure_text, measures_text}
 use Rattle.dtx_level.specs.Measures.{measures, measures_rest, measures_so_far}
-use Rattle.dtx_meaning.specs.Status.{ended}
-use Rattle.dtx_meaning.specs.declared.status.Status.TheVariants.{TooLong}
 
 -- what is made of bytes, and what their end adds, are all that is levelled and measured
 all_made : (bytes : List ℕ) → joined (levelling.made bytes) (levelling.rest bytes)
@@ -26,8 +23,7 @@ all_made : (bytes : List ℕ) → joined (levelling.made bytes) (levelling.rest 
 all_made bytes =
     let s = symbols bytes in
     ap₂ both
-    (sym (map-append byte_of_symbol (levelled_so_far s) (levelled_rest s))
-    ∙ ap (map byte_of_symbol) (all_are_levelled s))
+    (cc (map-append byte_of_symbol (levelled_so_far s) (levelled_rest s), all_are_levelled s))
     (sym (flat_map-append measure_text (measures_so_far s) (measures_rest s)) ∙ ap measures_text (all_are_measured s))
 
 all_allowed : (file : List ℕ) → first_refused single_bytes levelling file ≡ None
@@ -38,16 +34,9 @@ pub all_levelled : (names : List (List ℕ)) (file : List ℕ) → length file �
     → meaning_of_file single_bytes levelling names file ≡ levelled_of names file
 all_levelled names file few =
     let whole : take (1 * (length file / 1)) file ≡ file = take_all (1 * (length file / 1)) file (omega arith) in
-    all_read single_bytes levelling names file (all_allowed file) (omega (arith, few))
-    ∙ ap (λ (given : List ℕ). meaning_at levelling names given (Whole (length file % 1))) whole
-    ∙ ap (λ (made : Made). record { outcome = level_answer (symbols file); outputs = outputs_of names made })
-    (all_made file)
+    cc (all_read single_bytes levelling names file (all_allowed file) (omega (arith, few)), whole, all_made file)
 
 pub first_levelled : (names : List (List ℕ)) (file : List ℕ) → 520832000000 < length file
     → meaning_of_file single_bytes levelling names file ≡ levelled_until names file
 first_levelled names file many =
-    first_read single_bytes levelling names file (all_allowed file) (omega (arith, many))
-    ∙ ap (λ (given : List ℤ). record {
-      outcome = ended TooLong;
-      outputs = outputs_of names (levelled_files (levelled_so_far given) (measures_so_far given));
-    }) (sym (take-map symbol_of_byte 520832000000 file))
+    cc (first_read single_bytes levelling names file (all_allowed file) (omega (arith, many)), take-map symbol_of_byte 520832000000 file)

@@ -9,7 +9,6 @@ pub mod ReceiveLemmas
 pub mod ReceivedLemmas
 pub mod RepeatLemmas
 pub mod SoftLemmas
-mod SoftRowsLemmas
 mod SofteningLemmas
 pub mod SplicedSymbolsLemmas
 pub mod StreamBackLemmas
@@ -20,7 +19,6 @@ pub mod BytesOf
 pub mod LevelledFiles
 pub mod LifeOn
 pub mod LivesOn
-pub mod StreamSymbols
 pub mod Tallied
 pub mod WatchedFeed
 pub mod WatchedText

@@ -1,6 +1,6 @@
 -- Lemmas of what `mend` makes of symbols: where none is missing the same as where each word is corrected.
 use Rattle.std.proofs.Common.{◌≡◌, ◌≢◌, ℕ, ℤ, pos, negsuc, zero, suc, ◌+◌, ◌-◌, ◌*◌, Bool, true, false, cond, List, []}
-use Rattle.std.proofs.Common.{◌∷◌, ◌++◌, take, drop, refl, sym, ap, ◌∙◌, subst, arith}
+use Rattle.std.proofs.Common.{◌∷◌, ◌++◌, take, drop, refl, ap, subst, arith}
 use Rattle.std.specs.Prelude.{if◌then◌else◌, nat_lt, Option, Some, None}
 use Rattle.std.specs.FinMap.{get}
 use Rattle.std.specs.List.{All}
@@ -12,7 +12,7 @@ use Rattle.dtx_erase.proofs.UnmarkedLemmas.{all_same, bytes_same, so_far_same}
 use Rattle.dtx_outside.specs.Shelf.{Files}
 use Rattle.dtx_meaning.specs.Meaning.{Meaning, refused}
 use Rattle.dtx_meaning.specs.declared.status.Status.TheVariants.{Same}
-use Rattle.dtx_engine.specs.Recipe.{Course, course_from, first_units, meaning, meaning_at, meaning_of_file}
+use Rattle.dtx_engine.specs.Recipe.{Course, course_from, meaning, meaning_at, meaning_of_file}
 use Rattle.dtx_engine.specs.declared.piece.Ending.{Ending}
 use Rattle.dtx_engine.specs.declared.piece.Ending.TheVariants.{Whole, Refused}
 use Rattle.dtx_forms.specs.Shapes.{segments}
@@ -73,13 +73,7 @@ same_file names file h =
     let c : Course = course_from segments file None in
     let n : ℕ = 832 * c.taken in
     let cut = segments_cut file n in
-    ap (λ found. meaning_at mending_symbols names (first_units segments file (course_from segments file found).taken)
-    (course_from segments file found).ending) (all_allowed with_mendings file)
-    ∙ same_ending names (take n file) c.ending
-    (front_there (file_segments (take n file)) cut.0
-    (subst (λ (list : List (List ℤ)). AllThere list) cut.1 (file_there file h)))
-    ∙ sym (ap (λ found. meaning_at receiving names (first_units segments file (course_from segments file found).taken)
-    (course_from segments file found).ending) (all_allowed with_corrections file))
+    cc (all_allowed with_mendings file, same_ending names (take n file) c.ending (front_there (file_segments (take n file)) cut.0 (subst (λ (list : List (List ℤ)). AllThere list) cut.1 (file_there file h))), all_allowed with_corrections file)
 
 -- what the words mean, where the input is such a file
 same_found : (input output : List ℕ) (held : Files) (found : Option (List ℕ))

@@ -58,8 +58,7 @@ field_counts count s first zero h none =
     empty (x ∷ xs) e = absurd (omega arith)
 field_counts count s first (suc n) h none =
     let here : count_at count s first ≡ count (groups_in (drop first s)) =
-    ap (λ i. count_from count s first (next_place (take i s))) (sym (same first))
-    ∙ ap (count_from count s first) (h.places 0 (omega arith)) ∙ ap count (groups_are s first (suc n) h) in
+    cc (same first, h.places 0 (omega arith), groups_are s first (suc n) h) in
     let rest : sum (map (count_at count s) (range_with_len (first + 1) n)) ≡ 0 =
     none_counts (count_at count s) (first + 1) n (λ i l m. behind i (i - first - 1) (omega arith) (omega arith)) in
     let both : sum (count_at count s first ∷ map (count_at count s) (range_with_len (first + 1) n))
@@ -72,8 +71,7 @@ field_counts count s first (suc n) h none =
 
     behind : (i j : ℕ) → first + suc j ≡ i → suc j < suc n → count_at count s i ≡ 0
     behind i j e l =
-        ap (λ k. count_from count s i (next_place (take k s))) (sym e)
-        ∙ ap (count_from count s i) (h.places (suc j) l)
+        cc (e, h.places (suc j) l)
 
 -- ---- the pieces
 
@@ -134,8 +132,7 @@ pub count_kept : (count : List (List ℤ) → ℕ) (s : List (List ℤ)) (x : Li
 count_kept count s x p e l =
     let h = ahead_kept s x p e l in
     let all : ahead (s ++ x ∷ []) ≡ length s - p = omega (arith, h.all) in
-    ap (field_sum count (s ++ x ∷ [])) all ∙ field_sum_stays count s (x ∷ []) p h.followed
-    ∙ ap (field_sum count s) h.own
+    cc (all, field_sum_stays count s (x ∷ []) p h.followed, h.own)
 
 pub count_full : (count : List (List ℤ) → ℕ) (s : List (List ℤ)) (x : List ℤ) → next_place s ≡ Some 311
     → count [] ≡ 0

@@ -1,189 +1,155 @@
 -- Lemmas of what is kept while symbols are softened: one segment more.
-use Rattle.std.proofs.Common.{◌≡◌, ℕ, ℤ, pos, suc, ◌+◌, ◌-◌, ◌<◌, ◌≤◌, ◌⊎◌, inl, inr, cond, Option, Some, None, List}
-use Rattle.std.proofs.Common.{[], ◌∷◌, ◌++◌, length, map, take, drop, get_or, nat_abs, slice_set, unwrap_or, refl, sym}
+use Rattle.std.proofs.Common.{◌≡◌, ℕ, ℤ, zero, suc, ◌+◌, ◌-◌, ◌<◌, ◌≤◌, cond, Bool, true, false, Option, Some, None, List}
+use Rattle.std.proofs.Common.{[], ◌∷◌, ◌++◌, length, map, take, drop, slice_set, unwrap_or, refl, sym}
 use Rattle.std.proofs.Common.{ap, ap₂, ◌∙◌, subst, arith}
-use Rattle.std.proofs.lemmas.Bool.{cases_lt}
-use Rattle.std.proofs.lemmas.List.{append_assoc, append-nil, drop_all, drop-append-le, length_push, get_or_append_left}
-use Rattle.std.proofs.lemmas.List.{get_or_past, length-take-le}
-use Rattle.std.proofs.Math.Seq.{get_or-append_seam, take-suc-set}
+use Rattle.std.specs.Bool.{then_some}
+use Rattle.std.proofs.lemmas.List.{append_assoc, append-nil, drop_all, drop-append-le, length_push, take_more_set}
 use Rattle.dtx_files.proofs.AppendedLemmas.{segment_bytes-append}
 use Rattle.dtx_files.specs.Symbols.{byte_of_symbol, segment_bytes}
 use Rattle.dtx_frame.specs.Detection.{looks_like}
 use Rattle.dtx_soft.specs.Signed.{AreSigned}
 use Rattle.dtx_soft.specs.Softened.{softened_cost}
 use Rattle.dtx_jobs.specs.declared.softening.Softening.{Softening}
-use Rattle.dtx_recipes.specs.Soft.{field_sum, flushed, groups_in, has_group, next_place, ahead, soft_rest}
+use Rattle.dtx_recipes.specs.Soft.{field_sum, flushed, groups_in, has_group, next_place, pending, ahead, soft_rest}
 use Rattle.dtx_recipes.specs.Soft.{soft_so_far}
 use Rattle.dtx_jobs.proofs.SoftLemmas.{count_copied, count_full, count_kept, count_rest, no_cost, field_sum_none}
 use Rattle.dtx_recipes.proofs.SoftLemmas.{pending_copied, pending_is, so_far_copied, so_far_full, so_far_kept}
 use Rattle.dtx_jobs.proofs.SoftLemmas.{rest_is}
 use Rattle.dtx_recipes.proofs.SoftPlacesLemmas.{place_copied, place_ends, place_first, place_on}
-use Rattle.dtx_jobs.specs.Softening.{IsSigned, IsSoftening}
+use Rattle.dtx_jobs.specs.Softening.{IsGathering, IsKept, IsSigned, IsSoftening}
 
-place_of : (old : Softening) (s : List (List ℤ)) (o : Option ℕ) → IsSoftening old s → old.place ≡ o → next_place s ≡ o
-place_of old s o h e = sym h.place ∙ e
+looked : (b : Bool) → then_some {T = ℕ} b 0 ≡ cond b (Some 0) None
+looked true = refl
+looked false = refl
 
--- a segment that is copied
-pub stands_copied : (old new : Softening) (s : List (List ℤ)) (x : List ℤ) → IsSoftening old s → old.place ≡ None
-    → new.place ≡ cond (looks_like x) (Some 0) None → new.segments ≡ old.segments + 1 → new.fields ≡ old.fields
-    → new.cost ≡ old.cost → IsSoftening new (s ++ x ∷ [])
-stands_copied old new s x h e place count fields cost =
-    let here = place_of old s None h e in
-    let none = pending_copied s x here in
-    let all : ahead (s ++ x ∷ []) ≡ length (s ++ x ∷ []) = omega (arith, none) in
-    record {
-      place = place ∙ sym (place_copied s x here);
-      field = ap (λ n. take n new.field.items) none ∙ sym (ap (λ n. drop n (s ++ x ∷ [])) all
-          ∙ drop_all (length (s ++ x ∷ [])) (s ++ x ∷ []) (omega arith));
-      count = count ∙ ap (λ n. n + 1) h.count ∙ sym (length_push s x);
-      fields = fields ∙ h.fields ∙ sym (count_copied has_group s x here);
-      cost = cost ∙ h.cost ∙ sym (count_copied (softened_cost 1) s x here);
-    }
+-- ---- one segment more
 
-pub brought_copied : (old : Softening) (s : List (List ℤ)) (x : List ℤ) (front symbols more : List ℕ)
-    → IsSoftening old s → old.place ≡ None → segment_bytes (soft_so_far s) ≡ front ++ symbols
-    → more ≡ symbols ++ map byte_of_symbol x → segment_bytes (soft_so_far (s ++ x ∷ [])) ≡ front ++ more
-brought_copied old s x front symbols more h e is new =
-    ap segment_bytes (so_far_copied s x (place_of old s None h e))
-    ∙ segment_bytes-append (soft_so_far s) (x ∷ [])
-    ∙ ap₂ (λ a b. a ++ map byte_of_symbol b) is (append-nil x)
-    ∙ append_assoc front symbols (map byte_of_symbol x) ∙ ap (λ z. front ++ z) (sym new)
+module _ (old new : Softening) (s : List (List ℤ)) (x : List ℤ) (front : List ℕ) (h : IsGathering old s front)
+    (count : new.segments ≡ old.segments + 1) where
+  was : IsSoftening old s
+  was = h.softening
 
--- one more of the field's
-rows_more : (old : Softening) (s : List (List ℤ)) (x : List ℤ) (p : ℕ) → IsSoftening old s → next_place s ≡ Some p
-    → p < length old.field.items
-    → take (p + 1) (slice_set old.field.items p x) ≡ drop (length s - p) s ++ x ∷ []
-rows_more old s x p h e l =
-    let next : p + 1 ≡ suc p = omega arith in
-    let held = pending_is s (Some p) e in
-    let front : ahead s ≡ length s - p = omega (arith, held) in
-    ap (λ n. take n (slice_set old.field.items p x)) next ∙ take-suc-set old.field.items p x l
-    ∙ ap (λ rows. rows ++ x ∷ []) (ap (λ n. take n old.field.items) (sym held) ∙ h.field ∙ ap (λ n. drop n s) front)
+  place_of : (o : Option ℕ) → old.place ≡ o → next_place s ≡ o
+  place_of o e = sym was.place ∙ e
 
--- a segment that is kept
-pub stands_kept : (old new : Softening) (s : List (List ℤ)) (x : List ℤ) (p : ℕ) → IsSoftening old s
-    → old.place ≡ Some p → p + 1 < 312 → p < length old.field.items → new.place ≡ Some (p + 1)
-    → new.field.items ≡ slice_set old.field.items p x → new.segments ≡ old.segments + 1 → new.fields ≡ old.fields
-    → new.cost ≡ old.cost → IsSoftening new (s ++ x ∷ [])
-stands_kept old new s x p h e l m place field count fields cost =
-    let here = place_of old s (Some p) h e in
-    let on = place_on s x p here l in
-    let held = pending_is (s ++ x ∷ []) (Some (p + 1)) on in
-    let front : ahead (s ++ x ∷ []) ≡ length s - p = omega (arith, held, length_push s x) in
-    record {
-      place = place ∙ sym on;
-      field = ap₂ take held field ∙ rows_more old s x p h here m
-          ∙ sym (ap (λ n. drop n (s ++ x ∷ [])) front ∙ drop-append-le (length s - p) s (x ∷ []) (omega arith));
-      count = count ∙ ap (λ n. n + 1) h.count ∙ sym (length_push s x);
-      fields = fields ∙ h.fields ∙ sym (count_kept has_group s x p here l);
-      cost = cost ∙ h.cost ∙ sym (count_kept (softened_cost 1) s x p here l);
-    }
+  counted : new.segments ≡ length (s ++ x ∷ [])
+  counted = count ∙ ap (λ n. n + 1) was.count ∙ sym (length_push s x)
 
-pub brought_kept : (old : Softening) (s : List (List ℤ)) (x : List ℤ) (p : ℕ) (front symbols more : List ℕ)
-    → IsSoftening old s → old.place ≡ Some p → p + 1 < 312 → segment_bytes (soft_so_far s) ≡ front ++ symbols
-    → more ≡ symbols → segment_bytes (soft_so_far (s ++ x ∷ [])) ≡ front ++ more
-brought_kept old s x p front symbols more h e l is new =
-    ap segment_bytes (so_far_kept s x p (place_of old s (Some p) h e) l) ∙ is ∙ ap (λ z. front ++ z) (sym new)
+  -- nothing is kept
+  no_rows : pending (s ++ x ∷ []) ≡ 0
+      → take (pending (s ++ x ∷ [])) new.field.items ≡ drop (ahead (s ++ x ∷ [])) (s ++ x ∷ [])
+  no_rows none =
+      let all : length (s ++ x ∷ []) ≤ ahead (s ++ x ∷ []) = omega (arith, none) in
+      ap (λ n. take n new.field.items) none ∙ sym (drop_all (ahead (s ++ x ∷ [])) (s ++ x ∷ []) all)
 
--- the last one of a field
-rows_all : (old : Softening) (s : List (List ℤ)) (x : List ℤ) → IsSoftening old s → next_place s ≡ Some 311
-    → 311 < length old.field.items
-    → take 312 (slice_set old.field.items 311 x) ≡ drop (ahead s) s ++ x ∷ []
-rows_all old s x h e l =
-    let front : length s - 311 ≡ ahead s = omega (arith, pending_is s (Some 311) e) in
-    rows_more old s x 311 h e l ∙ ap (λ n. drop n s ++ x ∷ []) front
+  -- a segment that is copied
+  pub copied : old.place ≡ None → new.place ≡ then_some {T = ℕ} (looks_like x) 0 → new.fields ≡ old.fields
+      → new.cost ≡ old.cost → new.symbols ≡ old.symbols ++ map byte_of_symbol x → IsGathering new (s ++ x ∷ []) front
+  copied e place fields cost symbols =
+      let here = place_of None e in
+      record {
+        softening = record {
+          place = place ∙ looked (looks_like x) ∙ sym (place_copied s x here);
+          field = no_rows (pending_copied s x here);
+          count = counted;
+          fields = fields ∙ was.fields ∙ sym (count_copied has_group s x here);
+          cost = cost ∙ was.cost ∙ sym (count_copied (softened_cost 1) s x here);
+        };
+        bytes = ap segment_bytes (so_far_copied s x here) ∙ segment_bytes-append (soft_so_far s) (x ∷ [])
+            ∙ ap₂ (λ a b. a ++ map byte_of_symbol b) h.bytes (append-nil x)
+            ∙ append_assoc front old.symbols (map byte_of_symbol x) ∙ ap (λ z. front ++ z) (sym symbols);
+      }
 
-pub stands_full : (old new : Softening) (s : List (List ℤ)) (x : List ℤ) → IsSoftening old s
-    → old.place ≡ Some 311 → 311 < length old.field.items → new.place ≡ None → new.segments ≡ old.segments + 1
-    → new.fields ≡ old.fields + has_group (groups_in (take 312 (slice_set old.field.items 311 x)))
-    → new.cost ≡ old.cost + softened_cost 1 (groups_in (take 312 (slice_set old.field.items 311 x)))
-    → IsSoftening new (s ++ x ∷ [])
-stands_full old new s x h e m place count fields cost =
-    let here = place_of old s (Some 311) h e in
-    let on = place_ends s x here in
-    let none = pending_is (s ++ x ∷ []) None on in
-    let all : ahead (s ++ x ∷ []) ≡ length (s ++ x ∷ []) = omega (arith, none) in
-    let rows = rows_all old s x h here m in
-    record {
-      place = place ∙ sym on;
-      field = ap (λ n. take n new.field.items) none ∙ sym (ap (λ n. drop n (s ++ x ∷ [])) all
-          ∙ drop_all (length (s ++ x ∷ [])) (s ++ x ∷ []) (omega arith));
-      count = count ∙ ap (λ n. n + 1) h.count ∙ sym (length_push s x);
-      fields = fields ∙ ap₂ (λ a b. a + has_group (groups_in b)) h.fields rows
-          ∙ sym (count_full has_group s x here refl);
-      cost = cost ∙ ap₂ (λ a b. a + softened_cost 1 (groups_in b)) h.cost rows
-          ∙ sym (count_full (softened_cost 1) s x here no_cost);
-    }
+  -- one more of the field's
+  rows_more : (p : ℕ) → next_place s ≡ Some p → p < length old.field.items
+      → take (p + 1) (slice_set old.field.items p x) ≡ drop (length s - p) s ++ x ∷ []
+  rows_more p e l =
+      let held = pending_is s (Some p) e in
+      let front : ahead s ≡ length s - p = omega (arith, held) in
+      cc (take_more_set old.field.items p x l, held, was.field, front)
 
-pub brought_full : (old : Softening) (s : List (List ℤ)) (x : List ℤ) (front symbols more : List ℕ)
-    → IsSoftening old s → old.place ≡ Some 311 → 311 < length old.field.items
-    → segment_bytes (soft_so_far s) ≡ front ++ symbols
-    → more ≡ symbols ++ segment_bytes (flushed (take 312 (slice_set old.field.items 311 x)))
-    → segment_bytes (soft_so_far (s ++ x ∷ [])) ≡ front ++ more
-brought_full old s x front symbols more h e m is new =
-    let here = place_of old s (Some 311) h e in
-    let rows = rows_all old s x h here m in
-    ap segment_bytes (so_far_full s x here)
-    ∙ segment_bytes-append (soft_so_far s) (flushed (drop (ahead s) s ++ x ∷ []))
-    ∙ ap₂ (λ a b. a ++ segment_bytes (flushed b)) is (sym rows)
-    ∙ append_assoc front symbols (segment_bytes (flushed (take 312 (slice_set old.field.items 311 x))))
-    ∙ ap (λ z. front ++ z) (sym new)
+  -- a segment that is kept
+  pub kept : (p : ℕ) → old.place ≡ Some p → p + 1 < 312 → p < length old.field.items → new.place ≡ Some (p + 1)
+      → new.field.items ≡ slice_set old.field.items p x → new.fields ≡ old.fields → new.cost ≡ old.cost
+      → new.symbols ≡ old.symbols → IsGathering new (s ++ x ∷ []) front
+  kept p e l m place field fields cost symbols =
+      let here = place_of (Some p) e in
+      let on = place_on s x p here l in
+      let held = pending_is (s ++ x ∷ []) (Some (p + 1)) on in
+      let first : ahead (s ++ x ∷ []) ≡ length s - p = omega (arith, held, length_push s x) in
+      record {
+        softening = record {
+          place = place ∙ sym on;
+          field = cc (held, field, rows_more p here m, first, drop-append-le (length s - p) s (x ∷ []) (omega arith));
+          count = counted;
+          fields = fields ∙ was.fields ∙ sym (count_kept has_group s x p here l);
+          cost = cost ∙ was.cost ∙ sym (count_kept (softened_cost 1) s x p here l);
+        };
+        bytes = ap segment_bytes (so_far_kept s x p here l) ∙ h.bytes ∙ ap (λ z. front ++ z) (sym symbols);
+      }
 
--- the rows that are kept are signed bytes with one more
-pub signed_more : (rows : List (List ℤ)) (x : List ℤ) (p : ℕ) → p < length rows → AreSigned (take p rows) → IsSigned x
-    → AreSigned (take (p + 1) (slice_set rows p x))
-signed_more rows x p l h k i n = by_place (cases_lt i p)
-  where
-    next : p + 1 ≡ suc p
-    next = omega arith
+  -- the last one of a field, whose rows are these
+  pub full : (rows : List (List ℤ)) → old.place ≡ Some 311 → 311 < length old.field.items
+      → rows ≡ take 312 (slice_set old.field.items 311 x) → new.place ≡ None
+      → new.fields ≡ old.fields + has_group (groups_in rows)
+      → new.cost ≡ old.cost + softened_cost 1 (groups_in rows)
+      → new.symbols ≡ old.symbols ++ segment_bytes (flushed rows) → IsGathering new (s ++ x ∷ []) front
+  full rows e m are place fields cost symbols =
+      let here = place_of (Some 311) e in
+      let on = place_ends s x here in
+      let first : length s - 311 ≡ ahead s = omega (arith, pending_is s (Some 311) here) in
+      let all : rows ≡ drop (ahead s) s ++ x ∷ [] =
+      are ∙ rows_more 311 here m ∙ ap (λ n. drop n s ++ x ∷ []) first in
+      record {
+        softening = record {
+          place = place ∙ sym on;
+          field = no_rows (pending_is (s ++ x ∷ []) None on);
+          count = counted;
+          fields = cc (fields, was.fields, all, count_full has_group s x here refl);
+          cost = cc (cost, was.cost, all, count_full (softened_cost 1) s x here no_cost);
+        };
+        bytes = ap segment_bytes (so_far_full s x here)
+            ∙ segment_bytes-append (soft_so_far s) (flushed (drop (ahead s) s ++ x ∷ []))
+            ∙ ap₂ (λ a b. a ++ segment_bytes (flushed b)) h.bytes (sym all)
+            ∙ append_assoc front old.symbols (segment_bytes (flushed rows)) ∙ ap (λ z. front ++ z) (sym symbols);
+      }
 
-    is : take (p + 1) (slice_set rows p x) ≡ take p rows ++ x ∷ []
-    is = ap (λ n. take n (slice_set rows p x)) next ∙ take-suc-set rows p x l
+-- ---- rows of signed bytes
 
-    long : length (take p rows) ≡ p
-    long = length-take-le p rows (omega arith)
+signed_push : (rows : List (List ℤ)) (x : List ℤ) → AreSigned rows → IsSigned x → AreSigned (rows ++ x ∷ [])
+signed_push [] x h k zero n = k n
+signed_push [] x h k (suc i) n = omega arith
+signed_push (row ∷ rows) x h k zero n = h zero n
+signed_push (row ∷ rows) x h k (suc i) n = signed_push rows x (λ i. h (suc i)) k i n
 
-    row : (y : List ℤ) → get_or (take (p + 1) (slice_set rows p x)) i [] ≡ y → IsSigned y
-        → nat_abs (get_or (get_or (take (p + 1) (slice_set rows p x)) i []) n (pos 0)) ≤ 128
-    row y e s = subst (λ (y : List ℤ). nat_abs (get_or y n (pos 0)) ≤ 128) (sym e) (s n)
+-- the rows that are kept, with one more
+pub signed_rows : (old : Softening) (p : ℕ) (x : List ℤ) → IsKept old → old.place ≡ Some p → IsSigned x
+    → AreSigned (take (p + 1) (slice_set old.field.items p x))
+signed_rows old p x h is signed =
+    let rows : unwrap_or old.place 0 ≡ p = ap (λ (o : Option ℕ). unwrap_or o 0) is in
+    subst AreSigned (sym (take_more_set old.field.items p x (omega (arith, rows, h.small, h.room))))
+    (signed_push (take p old.field.items) x (subst (λ n. AreSigned (take n old.field.items)) rows h.signed) signed)
 
-    none : IsSigned []
-    none n = omega arith
-
-    by_end : (i ≡ p) ⊎ (p + 1 ≤ i) → nat_abs (get_or (get_or (take (p + 1) (slice_set rows p x)) i []) n (pos 0)) ≤ 128
-    by_end (inl e) =
-        row x (ap (λ rows. get_or rows i []) is ∙ ap (λ j. get_or (take p rows ++ x ∷ []) j []) (e ∙ sym long)
-        ∙ get_or-append_seam (take p rows) x [] []) k
-    by_end (inr m) =
-        row [] (ap (λ rows. get_or rows i []) is
-        ∙ get_or_past (take p rows ++ x ∷ []) i [] (omega (arith, length_push (take p rows) x, long, m))) none
-
-    by_place : (i < p) ⊎ (p ≤ i) → nat_abs (get_or (get_or (take (p + 1) (slice_set rows p x)) i []) n (pos 0)) ≤ 128
-    by_place (inl m) =
-        row (get_or (take p rows) i []) (ap (λ rows. get_or rows i []) is
-        ∙ get_or_append_left (take p rows) (x ∷ []) [] i (omega (arith, long, m))) (h i)
-    by_place (inr m) = by_end (range_cases_at i m)
-      where
-        range_cases_at : (i : ℕ) → p ≤ i → (i ≡ p) ⊎ (p + 1 ≤ i)
-        range_cases_at i m = grind arith
+-- the first of them
+pub signed_take : (n : ℕ) (rows : List (List ℤ)) → AreSigned rows → AreSigned (take n rows)
+signed_take zero rows h i k = omega arith
+signed_take (suc n) [] h i k = omega arith
+signed_take (suc n) (row ∷ rows) h zero k = h zero k
+signed_take (suc n) (row ∷ rows) h (suc i) k = signed_take n rows (λ i. h (suc i)) i k
 
 -- ---- the end
 
-kept_field : (old : Softening) (s : List (List ℤ)) (rows : ℕ) → IsSoftening old s → rows ≡ unwrap_or old.place 0
-    → take rows old.field.items ≡ drop (ahead s) s
-kept_field old s rows h e =
-    ap (λ n. take n old.field.items) (e ∙ ap (λ (o : Option ℕ). unwrap_or o 0) h.place) ∙ h.field
+module _ (old : Softening) (s : List (List ℤ)) (rows : ℕ) (h : IsSoftening old s) (e : rows ≡ unwrap_or old.place 0) where
+  kept_field : take rows old.field.items ≡ drop (ahead s) s
+  kept_field = ap (λ n. take n old.field.items) (e ∙ ap (λ (o : Option ℕ). unwrap_or o 0) h.place) ∙ h.field
 
-pub rest_of : (old : Softening) (s : List (List ℤ)) (rows : ℕ) → IsSoftening old s → rows ≡ unwrap_or old.place 0
-    → segment_bytes (flushed (take rows old.field.items)) ≡ segment_bytes (soft_rest s)
-rest_of old s rows h e =
-    ap (λ part. segment_bytes (flushed part)) (kept_field old s rows h e) ∙ ap segment_bytes (sym (rest_is s))
+  pub rest_of : segment_bytes (flushed (take rows old.field.items)) ≡ segment_bytes (soft_rest s)
+  rest_of = ap (λ part. segment_bytes (flushed part)) kept_field ∙ ap segment_bytes (sym (rest_is s))
 
-pub field_sum_all : (count : List (List ℤ) → ℕ) (old : Softening) (s : List (List ℤ)) (rows n all : ℕ)
-    → count [] ≡ 0 → IsSoftening old s → rows ≡ unwrap_or old.place 0 → n ≡ field_sum count s (ahead s)
-    → all ≡ n + count (groups_in (take rows old.field.items)) → all ≡ field_sum count s (length s)
-field_sum_all count old s rows n all none h e is sum =
-    sum ∙ ap₂ (λ a b. a + count (groups_in b)) is (kept_field old s rows h e) ∙ sym (count_rest count s none)
+  pub field_sum_all : (count : List (List ℤ) → ℕ) (n all : ℕ) → count [] ≡ 0 → n ≡ field_sum count s (ahead s)
+      → all ≡ n + count (groups_in (take rows old.field.items)) → all ≡ field_sum count s (length s)
+  field_sum_all count n all none is sum =
+      sum ∙ ap₂ (λ a b. a + count (groups_in b)) is kept_field ∙ sym (count_rest count s none)
 
 -- ---- what is made
 

@@ -38,11 +38,9 @@ segments_cut file n =
     let long : length (take m front) ≡ m = length-take-le m front (omega arith) in
     let rest : List ℕ = drop m front ++ drop n file in
     let parts : take m front ++ rest ≡ file =
-    sym (append_assoc (take m front) (drop m front) (drop n file))
-    ∙ ap (λ z. z ++ drop n file) (take-append-drop m front) ∙ take-append-drop n file in (
+    cc (append_assoc (take m front) (drop m front) (drop n file), take-append-drop m front, take-append-drop n file) in (
       file_segments rest,
-      ap file_segments (sym parts) ∙ file_segments-append (take m front) rest (omega (arith, long))
-          ∙ ap (λ z. z ++ file_segments rest) (file_segments-whole front),
+      cc (parts, file_segments-append (take m front) rest (omega (arith, long)), file_segments-whole front),
     )
 
 pub cut_bytes : (file : List ℕ) (n : ℕ) → (rest : List ℕ) × (received_bytes file ≡ received_bytes (take n file) ++ rest)
@@ -50,8 +48,7 @@ cut_bytes file n =
     let more = segments_cut file n in
     let brought = more_received (file_segments (take n file)) more.0 in (
       flat_map (λ (p : List ℕ). p) brought.0,
-      ap (λ s. flat_map (λ (p : List ℕ). p) (received s)) more.1 ∙ ap (flat_map (λ (p : List ℕ). p)) brought.1
-          ∙ bytes-append (received (file_segments (take n file))) brought.0,
+      cc (more.1, brought.1, bytes-append (received (file_segments (take n file))) brought.0),
     )
 
 fewer : (file : List ℕ) (n : ℕ) → whole_segments file ≤ 626000000 → whole_segments (take n file) ≤ 626000000

@@ -1,11 +1,11 @@
 -- Lemmas of the segments of a symbol file that is read piece by piece.
-use Rattle.std.proofs.Common.{◌≡◌, ℕ, ◌+◌, ◌-◌, ◌*◌, ◌/◌, ◌%◌, ◌<◌, ◌≤◌, List, [], ◌∷◌, ◌++◌, length, take, drop}
+use Rattle.std.proofs.Common.{◌≡◌, ℕ, ◌+◌, ◌-◌, ◌*◌, ◌/◌, ◌%◌, ◌<◌, ◌≤◌, List, [], ◌++◌, length, take, drop}
 use Rattle.std.proofs.Common.{get_or, refl, sym, ap, ◌∙◌, arith}
 use Rattle.std.specs.Prelude.{ℤ}
 use Rattle.std.specs.Simd.{first_chunks}
 use Rattle.std.proofs.lemmas.List.{append_assoc, ext_get_or, get_or-drop, get_or-map, get_or-take, length-drop}
 use Rattle.std.proofs.lemmas.List.{length-map, length-take-le, take_all, take_at}
-use Rattle.std.proofs.lemmas.List.FromFn.{get_or-map-range_with_len, length-map-range_with_len, map-range_with_len_more}
+use Rattle.std.proofs.lemmas.List.FromFn.{get_or-map-range_with_len, length-map-range_with_len}
 use Rattle.dtx_packets.proofs.ChunksLemmas.{get_or-first_chunks}
 use Rattle.dtx_receiver.specs.Symbols.{symbols_in}
 use Rattle.dtx_recipes.specs.SymbolFile.{symbols, segment_at, segments_from, file_segments, whole_segments}
@@ -35,15 +35,6 @@ first_segments file n within =
     ∙ ap (take n) (segments_from-append file 0 n (whole_segments file - n))
     ∙ take_at (segments_from file 0 n) (segments_from file (0 + n) (whole_segments file - n)) n
     (length-map-range_with_len (segment_at file) 0 n))
-
--- one segment more of a piece, behind those before
-pub segment_on : (segments : List (List ℤ)) (bytes : List ℕ) (i : ℕ) (chunk : List ℕ)
-    → chunk ≡ take 832 (drop (832 * i) bytes)
-    → (segments ++ segments_from bytes 0 i) ++ symbols chunk ∷ [] ≡ segments ++ segments_from bytes 0 (i + 1)
-segment_on segments bytes i chunk is =
-    append_assoc segments (segments_from bytes 0 i) (symbols chunk ∷ [])
-    ∙ ap (λ z. segments ++ z) (ap (λ x. segments_from bytes 0 i ++ symbols x ∷ []) is
-    ∙ sym (map-range_with_len_more (segment_at bytes) 0 i i (omega arith)))
 
 -- some of a piece's chunks
 pub segments_of_chunks : (bytes : List ℕ) (chunks first n : ℕ) → first + n ≤ chunks

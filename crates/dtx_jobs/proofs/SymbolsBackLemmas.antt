@@ -110,8 +110,7 @@ from_back bs n [] long back here = refl
 from_back bs n (s ∷ ss) long back here =
     ap₂ ◌∷◌ (ap (λ xs. symbols (take 832 xs)) here ∙ ap symbols (first_back s ss long.0) ∙ symbols_back s back.0)
     (from_back bs (n + 1) ss long.1 back.1
-    (ap (λ k. drop k bs) (more n) ∙ sym (drop-drop 832 (832 * n) bs) ∙ ap (λ xs. drop 832 xs) here
-    ∙ behind s ss long.0))
+    (cc (more n, drop-drop 832 (832 * n) bs, here, behind s ss long.0)))
   where
     more : (n : ℕ) → 832 * (n + 1) ≡ 832 * n + 832
     more n = omega arith
@@ -134,5 +133,4 @@ whole_segments_back ss long =
 pub segments_read_back : (ss : List (List ℤ)) → AreSegments ss → EachBack ss
     → file_segments (segment_bytes ss) ≡ ss
 segments_read_back ss long back =
-    ap (segments_from (segment_bytes ss) 0) (whole_segments_back ss long)
-    ∙ from_back (segment_bytes ss) 0 ss long back refl
+    cc (whole_segments_back ss long, from_back (segment_bytes ss) 0 ss long back refl)

@@ -151,9 +151,7 @@ pub same_numbers : (p o s j u t a b c d e : ℕ) → o ≡ a → s ≡ b → j �
     → ◌≡◌ {A = WatchTally} (record { packets = p; ops = o; slips = s; jumps = j; unread = u; stray = t })
     (record { packets = p; ops = a; slips = b; jumps = c; unread = d; stray = e })
 same_numbers p o s j u t a b c d e h1 h2 h3 h4 h5 =
-    ap₂ (λ (x y : ℕ). record { packets = p; ops = x; slips = y; jumps = j; unread = u; stray = t }) h1 h2
-    ∙ ap₂ (λ (x y : ℕ). record { packets = p; ops = a; slips = b; jumps = x; unread = y; stray = t }) h3 h4
-    ∙ ap (λ (x : ℕ). record { packets = p; ops = a; slips = b; jumps = c; unread = d; stray = x }) h5
+    cc (h1, h2, h3, h4, h5)
 
 -- the notes that are counted first, and then others
 pub tally_parts : (n : ℕ) (xs ys : List Note) → tally_with (watch_tally n xs) ys ≡ watch_tally n (xs ++ ys)

@@ -158,9 +158,7 @@ one start most m k f d h at = by_reading (reading (get_or d k [])) refl
         let other = ops_read (get_or d k []) (e ∙ ap Err none) in
         record {
           is =
-              at.2
-              ∙ ap (λ ns. lock_at k ++ ns) so
-              ∙ ap (λ b. lock_at k ++ cond b (ops_at (said_of d) k ∷ []) []) (sym other);
+              cc (at.2, so, other);
           calm = λ t. absurd (never_both _ t other);
         }
 
@@ -196,16 +194,7 @@ notes_are d some ones = by_length (length d) refl
     by_length zero e = absurd (omega (arith, some, e))
     by_length (suc n) e =
         let p : ℕ → Bool = λ k. pid_of (get_or d k []) == 0x1FFA in
-        ap (λ m. flat_map (notes_at d) (range_with_len 0 m)) e
-        ∙ flat_map-range_same (notes_at d) (λ k. lock_at k ++ line_at d k) 0 (suc n)
-        (λ k l m. let o = ones k (omega (arith, m, e)) in o.is)
-        ∙ ap (λ ns. (record { packet = 0; what = what.Lock }) ∷ (line_at d 0 ++ ns))
-        (flat_map-range_same (λ k. lock_at k ++ line_at d k) (line_at d) 1 n
-        (λ k l m. ap (λ ls. ls ++ line_at d k) (no_lock k l)))
-        ∙ ap (λ ns. (record { packet = 0; what = what.Lock }) ∷ ns)
-        (kept p (ops_at (said_of d)) (range_with_len 0 (suc n)))
-        ∙ ap (λ m. (record { packet = 0; what = what.Lock })
-        ∷ map (ops_at (said_of d)) (filter p (range_with_len 0 m))) (sym e)
+        cc (e, flat_map-range_same (notes_at d) (λ k. lock_at k ++ line_at d k) 0 (suc n) (λ k l m. let o = ones k (omega (arith, m, e)) in o.is), flat_map-range_same (λ k. lock_at k ++ line_at d k) (line_at d) 1 n (λ k l m. ap (λ ls. ls ++ line_at d k) (no_lock k l)), kept p (ops_at (said_of d)) (range_with_len 0 (suc n)))
 
 below_all : (n : ℕ) → All (λ k. k < n) (range_with_len 0 n)
 below_all n = All-from_get_or (λ k. k < n) (range_with_len 0 n) 0 (λ i l.

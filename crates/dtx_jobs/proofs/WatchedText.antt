@@ -142,9 +142,7 @@ notes_watched names file few =
     } in
     let n : ℕ = whole_packets file in
     let front : packets_of (take (188 * n) file) ≡ packets_of file = packets_of-piece file 0 n (omega arith) in
-    all_read single_packets watching names file (all_allowed file) few
-    ∙ ap (λ packets. means packets (watched_bytes packets ++ waiting_bytes packets)) front
-    ∙ ap (means (packets_of file)) (all_lines (packets_of file))
+    cc (all_read single_packets watching names file (all_allowed file) few, front, all_lines (packets_of file))
 
 pub all_watched : (names : List (List ℕ)) (file : List ℕ) → whole_packets file ≤ 624000000
     → meaning_of_file single_packets watching names file ≡ watched_of names file
@@ -154,6 +152,4 @@ all_watched names file few =
       outcome = record { status = Done; numbers = watch_numbers tally (length file % 188); shown = 7 };
       outputs = outputs_of names (only (watch_text notes));
     } in
-    notes_watched names file few
-    ∙ ap (λ n. means (watch_tally n notes)) (length-packets_of file)
-    ∙ ap means (tally_told (whole_packets file) notes)
+    cc (notes_watched names file few, length-packets_of file, tally_told (whole_packets file) notes)

@@ -7,6 +7,7 @@ use crate::stream_coder::StreamCoder;
 use dtx_forms::transform;
 use dtx_meaning::Outcome;
 use dtx_outside::{Shelf, Word};
+use dtx_steps::Steps;
 use std::alloc::Global;
 
 /// Writes the symbols of the stream or feed IN to OUT, one signed byte each in two's complement. The whole groups of
@@ -19,5 +20,5 @@ pub fn code<S: Shelf>(alloc: Global, words: &[Word], shelf: &mut S) -> Outcome
     ensures stages { IsStaged S.foreseen (code_job.stages words.now) result.status
         (S.files shelf.old) (S.files shelf.new) (S.counts shelf.old) (S.counts shelf.new) }
 {
-    transform::<StreamCoder, S>(alloc, words, shelf)
+    transform::<Steps<StreamCoder>, S>(alloc, words, shelf)
 }

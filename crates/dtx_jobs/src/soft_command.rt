@@ -7,6 +7,7 @@ use crate::softening::Softening;
 use dtx_forms::transform;
 use dtx_meaning::Outcome;
 use dtx_outside::{Shelf, Word};
+use dtx_steps::Steps;
 use std::alloc::Global;
 
 /// Writes the symbols IN to OUT, softened (ATSC A/53 Part 2, trellis coding). In each field of a run, the data segments
@@ -19,5 +20,5 @@ pub fn soft<S: Shelf>(alloc: Global, words: &[Word], shelf: &mut S) -> Outcome
     ensures stages { IsStaged S.foreseen (soft_job.stages words.now) result.status
         (S.files shelf.old) (S.files shelf.new) (S.counts shelf.old) (S.counts shelf.new) }
 {
-    transform::<Softening, S>(alloc, words, shelf)
+    transform::<Steps<Softening>, S>(alloc, words, shelf)
 }

@@ -1,24 +1,22 @@
 // The engine of `soft`: softens symbols, one piece of their file at a time.
-ghost use Rattle.std.specs.Prelude.{◌≡◌, ◌+◌, ◌*◌, ◌/◌, ◌<◌, ◌≤◌, ◌++◌, ◌∷◌, [], ℕ, ℤ, List};
-ghost use Rattle.std.specs.Prelude.{Some, None, length, take};
+ghost use Rattle.std.specs.Prelude.{◌≡◌, ◌+◌, ◌*◌, ◌<◌, ◌≤◌, ◌++◌, ◌∷◌, [], ℕ, ℤ, List, length, slice_index_or, take};
 ghost use Rattle.std.specs.Prelude.{vec_len};
-ghost use Rattle.std.specs.Prelude.{slice_index_or, IfSome, unwrap_or, if◌then◌else◌};
 ghost use Rattle.dtx_files.specs.Symbols.{segment_bytes};
-ghost use Rattle.dtx_frame.specs.Detection.{looks_like};
 ghost use Rattle.dtx_soft.specs.Signed.{AreSigned};
 ghost use Rattle.dtx_soft.specs.Softened.{softened_cost};
-ghost use Rattle.dtx_recipes.specs.Soft.{flushed, groups_in, has_group, soft_rest, soft_so_far};
-ghost use Rattle.dtx_jobs.specs.Softening.{IsKept, IsSigned, IsSoftening, kept_rows};
-ghost use Rattle.dtx_recipes.specs.SymbolFile.{file_segments, symbols};
+ghost use Rattle.dtx_recipes.specs.Soft.{flushed, groups_in, has_group};
+ghost use Rattle.dtx_recipes.specs.SymbolFile.{symbols};
+ghost use Rattle.dtx_jobs.specs.Softening.{IsGathering, IsKept, kept_rows};
 
 use crate::signed::to_symbols;
 use crate::symbol_buffer::SymbolBuffer;
-use dtx_engine::{Engine, Shape};
-use dtx_forms::{PIECE_SEGMENTS, Transforming, segments};
+use dtx_engine::Shape;
+use dtx_forms::{PIECE_SEGMENTS, Stepping, segments};
 use dtx_frame::looks;
 use dtx_meaning::{Outcome, Status};
 use dtx_sizes::{FIELD_PACKETS, GROUP_PACKETS, MOST_SEGMENTS, SEGMENT};
 use dtx_soft::FieldDecoder;
+use dtx_steps::Step;
 use std::alloc::{AllocError, Global};
 
 /// How many data segments a field has.
@@ -46,93 +44,35 @@ pub(crate) struct Softening {
 }
 
 impl Softening {
-    /// Takes the segments of a file's bytes, and gathers the symbols that they bring.
-    fn take_all(&mut self, bytes: &[u8])
-        requires most { self.old.segments + length bytes.now / SEGMENT ≤ MOST_SEGMENTS }
-        requires is_kept { IsKept self.old }
-        requires room { length bytes.now ≤ SEGMENT * PIECE_SEGMENTS }
-        requires empty { self.old.symbols ≡ [] }
-        ensures softening { (before : List (List ℤ)) → IsSoftening self.old before
-            → IsSoftening self.new (before ++ file_segments bytes.now) }
-        ensures brought { (before : List (List ℤ)) → IsSoftening self.old before
-            → segment_bytes (soft_so_far (before ++ file_segments bytes.now))
-            ≡ segment_bytes (soft_so_far before) ++ self.new.symbols }
-        ensures is_kept { IsKept self.new }
-    {
-        let (segments, _) = bytes.as_chunks::<SEGMENT>();
-        for i in 0..segments.len() {
-            self.take(&segments[i]);
-        }
-    }
-
-    /// Takes the next segment, and gathers the symbols that it brings.
+    /// Takes the next segment, and gathers the symbols that it brings. A data segment of a run is kept until its field
+    /// ends, and any other one is copied.
     fn take(&mut self, bytes: &[u8; SEGMENT])
         requires most { self.old.segments < MOST_SEGMENTS }
         requires is_kept { IsKept self.old }
         requires room { length self.old.symbols + SEGMENT * (1 + kept_rows self.old) ≤ SOFT_BYTES }
-        ensures softening { (before : List (List ℤ)) → IsSoftening self.old before
-            → IsSoftening self.new (before ++ symbols bytes.now ∷ []) }
-        ensures brought { (before : List (List ℤ)) (front : List ℕ) → IsSoftening self.old before
-            → segment_bytes (soft_so_far before) ≡ front ++ self.old.symbols
-            → segment_bytes (soft_so_far (before ++ symbols bytes.now ∷ [])) ≡ front ++ self.new.symbols }
+        ensures gathered { (before : List (List ℤ)) (front : List ℕ) → IsGathering self.old before front
+            → IsGathering self.new (before ++ symbols bytes.now ∷ []) front }
         ensures is_kept { IsKept self.new }
-        ensures count { self.new.segments ≡ self.old.segments + 1 }
         ensures long { length self.new.symbols + SEGMENT * kept_rows self.new
             ≡ length self.old.symbols + SEGMENT * (1 + kept_rows self.old) }
     {
         to_symbols(bytes, &mut self.segment);
+        self.segments += 1;
         match self.place {
-            None => self.copy(),
-            Some(place) => self.keep(place),
+            None => {
+                self.symbols.push(&self.segment);
+                self.place = looks(&self.segment).then_some(0);
+            }
+            Some(place) => {
+                self.field[place as usize] = self.segment;
+                if place + 1 < FIELD_PACKETS {
+                    self.place = Some(place + 1);
+                } else {
+                    self.flush(FIELD_ROWS);
+                    self.place = None;
+                }
+            }
         }
-    }
-
-    /// Gathers the segment unchanged, since it is no data segment of a run.
-    fn copy(&mut self)
-        requires most { self.old.segments < MOST_SEGMENTS }
-        requires is_kept { IsKept self.old }
-        requires none { self.old.place ≡ None }
-        requires room { length self.old.symbols + SEGMENT ≤ SOFT_BYTES }
-        ensures softening { (before : List (List ℤ)) → IsSoftening self.old before
-            → IsSoftening self.new (before ++ self.old.segment ∷ []) }
-        ensures brought { (before : List (List ℤ)) (front : List ℕ) → IsSoftening self.old before
-            → segment_bytes (soft_so_far before) ≡ front ++ self.old.symbols
-            → segment_bytes (soft_so_far (before ++ self.old.segment ∷ [])) ≡ front ++ self.new.symbols }
-        ensures is_kept { IsKept self.new }
-        ensures count { self.new.segments ≡ self.old.segments + 1 }
-        ensures rows { kept_rows self.new ≡ 0 }
-        ensures long { length self.new.symbols ≡ length self.old.symbols + SEGMENT }
-    {
-        self.symbols.push(&self.segment);
-        self.segments += 1;
-        self.place = place_behind(&self.segment);
-    }
-
-    /// Keeps the segment, which is the data segment at `place` of its field. The last one of a field ends the field.
-    fn keep(&mut self, place: u16)
-        requires most { self.old.segments < MOST_SEGMENTS }
-        requires is_kept { IsKept self.old }
-        requires is { self.old.place ≡ Some place }
-        requires signed { IsSigned self.old.segment }
-        requires room { length self.old.symbols + SEGMENT * (1 + place) ≤ SOFT_BYTES }
-        ensures softening { (before : List (List ℤ)) → IsSoftening self.old before
-            → IsSoftening self.new (before ++ self.old.segment ∷ []) }
-        ensures brought { (before : List (List ℤ)) (front : List ℕ) → IsSoftening self.old before
-            → segment_bytes (soft_so_far before) ≡ front ++ self.old.symbols
-            → segment_bytes (soft_so_far (before ++ self.old.segment ∷ [])) ≡ front ++ self.new.symbols }
-        ensures is_kept { IsKept self.new }
-        ensures count { self.new.segments ≡ self.old.segments + 1 }
-        ensures long { length self.new.symbols + SEGMENT * kept_rows self.new
-            ≡ length self.old.symbols + SEGMENT * (1 + place) }
-    {
-        self.field[place as usize] = self.segment;
-        self.segments += 1;
-        if place + 1 < FIELD_PACKETS {
-            self.place = Some(place + 1);
-            return;
-        }
-        self.flush(FIELD_ROWS);
-        self.place = None;
     }
 
     /// Gathers the symbols of the first `count` data segments of the field. Those in whole groups are softened.
@@ -155,17 +95,19 @@ impl Softening {
         ensures kept { vec_len self.new.field ≡ FIELD_ROWS }
     {
         self.fields += (count / GROUP_PACKETS).min(1) as u64;
-        let cost = flush_field(&mut self.decoder, &mut self.field, count, &mut self.symbols);
-        self.cost += cost;
+        self.cost += flush_field(&mut self.decoder, &mut self.field, count, &mut self.symbols);
     }
 }
 
-impl Engine for Softening {
+impl Step for Softening {
+    ghost use Rattle.std.specs.Prelude.{◌≤◌, ◌+◌, ◌*◌, length};
     ghost use Rattle.dtx_engine.specs.Made.{only};
     ghost use Rattle.dtx_forms.specs.Shapes as shapes;
     ghost use Rattle.dtx_recipes.specs.Soft.{softening};
-    ghost use Rattle.dtx_jobs.specs.Softening.{WasSoftened};
     ghost use Rattle.dtx_recipes.proofs.SofteningLemmas.{softens_more, softens_none};
+    ghost use Rattle.dtx_sizes.specs.declared.segments.TheConstants.{SEGMENT};
+    ghost use Rattle.dtx_jobs.specs.Softening.{WasSoftened, kept_rows};
+    ghost use Rattle.dtx_jobs.specs.declared.softening.TheConstants.{SOFT_BYTES};
 
     ghost shape = { shapes.segments };
 
@@ -173,9 +115,9 @@ impl Engine for Softening {
 
     ghost stands = { WasSoftened };
 
-    ghost gives = { λ s _. only s.symbols };
+    ghost holds = { λ s. only s.symbols };
 
-    ghost zeros = { λ _. 0 };
+    ghost is_ready = { λ s _ count. length s.symbols + SEGMENT * (count + kept_rows s) ≤ SOFT_BYTES };
 
     fn sizes(&self) -> Shape {
         segments()
@@ -185,15 +127,19 @@ impl Engine for Softening {
         true
     }
 
-    fn feed(&mut self, _first: u64, bytes: &mut [u8]) {
+    fn clear(&mut self) {
         self.symbols.clear();
-        self.take_all(bytes);
+    }
+
+    fn step(&mut self, _first: u64, bytes: &mut [u8]) -> usize {
+        let (segments, _) = bytes.as_chunks::<SEGMENT>();
+        self.take(&segments[0]);
+        1
     }
 
     fn finish(&mut self, loose: usize) -> Outcome {
-        self.symbols.clear();
-        let rows = rows_of(self.place);
-        self.flush(rows);
+        let rows = self.place.unwrap_or(0);
+        self.flush(rows as usize);
         Outcome {
             status: Status::Done,
             numbers: [self.segments, self.fields, self.cost, loose as u64, 0, 0, 0],
@@ -201,11 +147,7 @@ impl Engine for Softening {
         }
     }
 
-    fn zeros(&self) -> u64 {
-        0
-    }
-
-    fn made<'a>(&'a self, _bytes: &'a [u8]) -> &'a [u8] {
+    fn made(&self) -> &[u8] {
         self.symbols.bytes()
     }
 
@@ -218,7 +160,7 @@ impl Engine for Softening {
     ghost grows = { λ _ a b whole. softens_more a b whole };
 }
 
-impl Transforming for Softening {
+impl Stepping for Softening {
     ghost use Rattle.dtx_words.specs.declared.rows.Command.TheVariants as command;
     ghost use Rattle.dtx_recipes.proofs.AnswersLemmas.{soft_knows};
     ghost use Rattle.dtx_recipes.specs.Soft.{softening};
@@ -241,18 +183,6 @@ impl Transforming for Softening {
     }
 
     ghost knows = { soft_knows };
-}
-
-/// The number of the field's data segments before the place: 0 where there is none.
-fn rows_of(place: Option<u16>) -> usize
-    requires { IfSome place (λ place. place < FIELD_ROWS) }
-    ensures rows { result ≡ unwrap_or place 0 }
-    ensures few { result ≤ FIELD_ROWS }
-{
-    match place {
-        Some(place) => place as usize,
-        None => 0,
-    }
 }
 
 /// Gathers the symbols of the first `count` data segments of the field. Those in whole groups are softened. Returns
@@ -279,14 +209,6 @@ fn flush_field(
     let cost = soften(decoder, rows);
     symbols.push_all(rows);
     cost
-}
-
-/// The place of the segment behind this one, where no run is on or a sync is due. It is data segment 0 where this
-/// segment looks like a field sync.
-fn place_behind(segment: &[i8; SEGMENT]) -> Option<u16>
-    ensures { result ≡ (if looks_like segment.now then Some 0 else None) }
-{
-    if looks(segment) { Some(0) } else { None }
 }
 
 /// Softens those of a field's first data segments that stand in whole groups. Returns what their least paths cost.

@@ -1,25 +1,22 @@
 // The engine of `code`: codes a stream, one piece of packets at a time.
-ghost use Rattle.std.specs.Prelude.{◌≡◌, ◌+◌, ◌-◌, ◌*◌, ◌/◌, ◌%◌, ◌≤◌, ◌++◌, [], ℕ, List, length, min};
+ghost use Rattle.std.specs.Prelude.{◌≡◌, ◌+◌, ◌-◌, ◌*◌, ◌/◌, ◌%◌, ◌≤◌, ◌++◌, ℕ, List, length, min};
 ghost use Rattle.dtx_coder.specs.Groups.{StandsFor};
 ghost use Rattle.dtx_coder.specs.Stream.{a53};
-ghost use Rattle.dtx_packets.specs.Packets.{packets_from};
 ghost use Rattle.dtx_recipes.specs.Symbols.{symbol_bytes};
 
 use crate::symbol_buffer::SymbolBuffer;
 use dtx_coder::{AIR_SYMBOLS, Air, BATCH_PACKETS, Batch, Coder};
-use dtx_engine::{Engine, Shape};
-use dtx_forms::{CODED_PACKETS, Transforming, coded_packets};
+use dtx_engine::Shape;
+use dtx_forms::{CODED_PACKETS, Stepping, coded_packets};
 use dtx_meaning::{Outcome, Status};
 use dtx_sizes::{
     FIELD_PACKETS, GROUP_PACKETS, MARK, MOST_PACKETS, PACKET, SEGMENT, SYNC, field_place,
 };
+use dtx_steps::Step;
 use std::alloc::{AllocError, Global};
 
 /// The number of groups in a field.
 const FIELD_GROUPS: u64 = (FIELD_PACKETS as usize / GROUP_PACKETS) as u64;
-
-/// The bytes of a group's packets.
-const FOUR_PACKETS: usize = PACKET * GROUP_PACKETS;
 
 /// Room for the symbols of a piece's groups.
 const CODED_BYTES: usize = AIR_SYMBOLS * (CODED_PACKETS / GROUP_PACKETS);
@@ -39,31 +36,6 @@ pub(crate) struct StreamCoder {
 }
 
 impl StreamCoder {
-    /// Codes the whole groups of a piece. Its first packet is packet `first` of the stream.
-    fn code_groups(&mut self, first: u64, bytes: &[u8])
-        requires grouped { first % GROUP_PACKETS ≡ 0 }
-        requires room { length bytes.now ≤ PACKET * CODED_PACKETS }
-        requires most { first + length bytes.now / PACKET ≤ MOST_PACKETS }
-        requires empty { self.old.symbols ≡ [] }
-        ensures coder { (before : List (List ℕ)) → length before ≡ first → StandsFor self.old.coder.value before
-            → StandsFor self.new.coder.value
-            (before ++ packets_from bytes.now 0 (GROUP_PACKETS * (length bytes.now / FOUR_PACKETS))) }
-        ensures brought { (before : List (List ℕ)) → length before ≡ first → StandsFor self.old.coder.value before
-            → symbol_bytes (before ++ packets_from bytes.now 0 (GROUP_PACKETS * (length bytes.now / FOUR_PACKETS)))
-            ≡ symbol_bytes before ++ self.new.symbols }
-        ensures packets { self.new.packets ≡ self.old.packets }
-    {
-        let (packets, _) = bytes.as_chunks::<PACKET>();
-        let grouped = packets.len() - packets.len() % GROUP_PACKETS;
-        let mut done = 0;
-        while done < grouped {
-            let place = first + done as u64;
-            let end = done + batch_packets(place, grouped - done);
-            self.code_batch(place, &packets[done..end]);
-            done = end;
-        }
-    }
-
     /// Codes whole groups of one field, at most a batch. Their first packet is packet `first` of the stream.
     fn code_batch(&mut self, first: u64, packets: &[[u8; PACKET]])
         requires grouped { first % GROUP_PACKETS ≡ 0 }
@@ -80,7 +52,6 @@ impl StreamCoder {
             → symbol_bytes (before ++ packets.now) ≡ bytes ++ self.new.symbols }
         ensures long { length self.new.symbols
             ≤ length self.old.symbols + AIR_SYMBOLS * (length packets.now / GROUP_PACKETS) }
-        ensures packets { self.new.packets ≡ self.old.packets }
     {
         self.batch.interleave(&mut self.coder, first, packets);
         for i in 0..packets.len() / GROUP_PACKETS {
@@ -92,12 +63,12 @@ impl StreamCoder {
     }
 }
 
-impl Engine for StreamCoder {
+impl Step for StreamCoder {
     ghost use Rattle.dtx_engine.specs.Made.{only};
     ghost use Rattle.dtx_forms.specs.Shapes as shapes;
     ghost use Rattle.dtx_recipes.specs.Code.{coding};
     ghost use Rattle.dtx_recipes.proofs.CodeLemmas.{codes_none, codes_more};
-    ghost use Rattle.dtx_jobs.specs.StreamCoder.{WasCoded};
+    ghost use Rattle.dtx_jobs.specs.StreamCoder.{IsReadyFor, WasCoded};
 
     ghost shape = { shapes.coded_packets };
 
@@ -105,9 +76,9 @@ impl Engine for StreamCoder {
 
     ghost stands = { WasCoded };
 
-    ghost gives = { λ s _. only s.symbols };
+    ghost holds = { λ s. only s.symbols };
 
-    ghost zeros = { λ _. 0 };
+    ghost is_ready = { IsReadyFor };
 
     fn sizes(&self) -> Shape {
         coded_packets()
@@ -117,14 +88,20 @@ impl Engine for StreamCoder {
         unit[0] == SYNC || unit[0] == MARK
     }
 
-    fn feed(&mut self, first: u64, bytes: &mut [u8]) {
+    fn clear(&mut self) {
         self.symbols.clear();
-        self.code_groups(first, bytes);
-        self.packets = first + (bytes.len() / PACKET) as u64;
+    }
+
+    /// Codes the whole groups of a batch. Packets behind the stream's last whole group are counted alone.
+    fn step(&mut self, first: u64, bytes: &mut [u8]) -> usize {
+        let (packets, _) = bytes.as_chunks::<PACKET>();
+        let count = batch_packets(first, packets.len());
+        self.code_batch(first, &packets[..count - count % GROUP_PACKETS]);
+        self.packets = first + count as u64;
+        count
     }
 
     fn finish(&mut self, loose: usize) -> Outcome {
-        self.symbols.clear();
         Outcome {
             status: Status::Done,
             numbers: [
@@ -140,11 +117,7 @@ impl Engine for StreamCoder {
         }
     }
 
-    fn zeros(&self) -> u64 {
-        0
-    }
-
-    fn made<'a>(&'a self, _bytes: &'a [u8]) -> &'a [u8] {
+    fn made(&self) -> &[u8] {
         self.symbols.bytes()
     }
 
@@ -157,7 +130,7 @@ impl Engine for StreamCoder {
     ghost grows = { λ _ a b whole. codes_more a b whole };
 }
 
-impl Transforming for StreamCoder {
+impl Stepping for StreamCoder {
     ghost use Rattle.dtx_words.specs.declared.rows.Command.TheVariants as command;
     ghost use Rattle.dtx_recipes.proofs.AnswersLemmas.{code_knows};
     ghost use Rattle.dtx_recipes.specs.Code.{coding};

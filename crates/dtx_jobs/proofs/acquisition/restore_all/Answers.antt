@@ -40,9 +40,7 @@ loop-done-init g c =
       within = omega arith;
       stands = λ before is. subst (g.R.Restorer.stands c.args.restorer.now) (sym (append-nil before)) is;
       made = λ before is.
-          ap (λ (s : List ℤ). segment_bytes (made.so_far s)) (append-nil before)
-          ∙ sym (append-nil (segment_bytes (made.so_far before)))
-          ∙ ap (λ z. segment_bytes (made.so_far before) ++ z) (sym c.requires.empty);
+          cc (append-nil before, append-nil (segment_bytes (made.so_far before)), c.requires.empty);
       kept = refl;
       room = omega (arith, ap length c.requires.empty);
     }
@@ -133,6 +131,5 @@ returns-clause-restored g c =
           subst (λ (xs : List ℤ). g.R.Restorer.stands c.loop-done.restorer (before ++ xs)) all
           (c.loop-done.invariant.stands before is);
       made = λ before is.
-          ap (λ (xs : List ℤ). segment_bytes (made.so_far (before ++ xs))) (sym all)
-          ∙ c.loop-done.invariant.made before is;
+          cc (all, c.loop-done.invariant.made before is);
     }

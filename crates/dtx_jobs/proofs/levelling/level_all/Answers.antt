@@ -94,9 +94,7 @@ returns c =
           subst (λ (xs : List ℤ). StandsFor c.loop-done.leveller (before ++ xs)) all
           (c.loop-done.invariant.stands before h);
       symbols_are = λ before h.
-          ap (λ (xs : List ℤ). map byte_of_symbol (levelled_so_far (before ++ xs))) (sym all)
-          ∙ c.loop-done.invariant.symbols_are before h;
+          cc (all, c.loop-done.invariant.symbols_are before h);
       lines = λ before h.
-          ap (λ (xs : List ℤ). measures_text (measures_so_far (before ++ xs))) (sym all)
-          ∙ c.loop-done.invariant.lines before h;
+          cc (all, c.loop-done.invariant.lines before h);
     }

@@ -1,4 +1,4 @@
-use Rattle.std.proofs.Common.{◌≡◌, ◌++◌, ◌⊎◌, ℕ, ℤ, List, [], length, inl, inr, ap, sym, refl, ◌∙◌, arith}
+use Rattle.std.proofs.Common.{◌≡◌, ◌++◌, ◌⊎◌, ℕ, ℤ, List, [], length, inl, inr, ap, refl, ◌∙◌, arith}
 use Rattle.dtx_files.proofs.AppendedLemmas.{segment_bytes-append}
 use Rattle.dtx_files.specs.Symbols.{segment_bytes}
 use Rattle.dtx_refine.specs.Refiner.{IsEnding, Refining, StandsFor}
@@ -39,10 +39,7 @@ loop-gathered-preserved c =
           inr (
             are.0 ++ given,
             c.finish.ensures.more symbols are.0 are.1,
-            c.push_all.ensures.bytes
-                ∙ ap (λ z. z ++ segment_bytes c.given.result.now) are.2
-                ∙ ap (λ s. segment_bytes are.0 ++ segment_bytes s) c.given.ensures
-                ∙ sym (segment_bytes-append are.0 given),
+            cc (c.push_all.ensures.bytes, are.2, c.given.ensures, segment_bytes-append are.0 given),
           );
       scale = c.finish.ensures.scale ∙ inv.scale;
       rounds = c.finish.ensures.rounds ∙ inv.rounds;

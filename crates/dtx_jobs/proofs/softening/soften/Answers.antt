@@ -4,7 +4,7 @@ use Rattle.dtx_soft.specs.Coders.{IsSoftened}
 use Rattle.dtx_soft.proofs.CostLemmas.{costs_small}
 use Rattle.dtx_soft.proofs.SoftenedLemmas.{cost_is, softened_is}
 use Rattle.dtx_recipes.specs.Soft.{flushed, groups_in}
-use Rattle.dtx_jobs.proofs.SoftRowsLemmas.{signed_take}
+use Rattle.dtx_jobs.proofs.SofteningLemmas.{signed_take}
 use Rattle.dtx_jobs.proofs.softening.soften.Goals as goal
 
 at_one : (scale : ℕ) (old new : List (List ℤ)) → scale ≡ 1 → IsSoftened scale old new → IsSoftened 1 old new

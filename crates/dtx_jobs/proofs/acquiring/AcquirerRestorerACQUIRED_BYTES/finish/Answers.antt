@@ -1,6 +1,5 @@
-use Rattle.std.proofs.Common.{◌++◌, ap, length, ◌∙◌, arith}
+use Rattle.std.proofs.Common.{ap, length, ◌∙◌, arith}
 use Rattle.dtx_acquire.specs.Acquired.{acquired, acquired_runs}
-use Rattle.dtx_files.specs.Symbols.{segment_bytes}
 use Rattle.dtx_recipes.specs.Acquire.{acquired_answer, with_acquirer}
 use Rattle.dtx_jobs.proofs.acquiring.AcquirerRestorerACQUIRED_BYTES.finish.Goals as goal
 
@@ -16,9 +15,7 @@ push_all-requires c =
 
 pub returns-clause-rest : goal.returns-clause-rest
 returns-clause-rest c = λ symbols is.
-    c.push_all.ensures.bytes
-    ∙ ap (λ z. z ++ segment_bytes c.given.result.now) c.requires.empty
-    ∙ ap segment_bytes (c.given.ensures ∙ c.finish.ensures.given symbols is)
+    cc (c.push_all.ensures.bytes, c.requires.empty, c.given.ensures, c.finish.ensures.given symbols is)
 
 pub returns-clause-answer : goal.returns-clause-answer
 returns-clause-answer c = λ symbols is.

@@ -1,7 +1,5 @@
-use Rattle.std.proofs.Common.{ℤ, List, ap, sym, subst, ◌∙◌, arith}
+use Rattle.std.proofs.Common.{ap, sym, subst, arith}
 use Rattle.std.proofs.lemmas.List.{length-map, map-append}
-use Rattle.dtx_engine.specs.Made.{only}
-use Rattle.dtx_files.specs.Symbols.{segment_bytes}
 use Rattle.dtx_recipes.specs.Restoring.{restoring_by}
 use Rattle.dtx_recipes.specs.SymbolFile.{symbol_of_byte, symbols}
 use Rattle.dtx_jobs.proofs.acquisition.AcquisitionEngine.feed.Goals as goal
@@ -31,6 +29,5 @@ returns-clause-fed g c = λ before long stand.
             (restored.stands (symbols before) stand.given);
       };
       made =
-          ap (λ (s : List ℤ). only (segment_bytes (made.so_far s))) all
-          ∙ ap only (restored.made (symbols before) stand.given);
+          cc (all, restored.made (symbols before) stand.given);
     }

@@ -1,11 +1,7 @@
-use Rattle.std.proofs.Common.{ℤ, List, ap, ap₂, map, sym, subst, ◌∙◌}
+use Rattle.std.proofs.Common.{ap₂, sym, subst}
 use Rattle.std.proofs.lemmas.List.{map-append}
 use Rattle.dtx_engine.specs.Made.{both}
-use Rattle.dtx_files.specs.Symbols.{byte_of_symbol}
-use Rattle.dtx_level.specs.Levelled.{levelled_so_far}
 use Rattle.dtx_level.specs.Leveller.{StandsFor}
-use Rattle.dtx_level.specs.MeasureText.{measures_text}
-use Rattle.dtx_level.specs.Measures.{measures_so_far}
 use Rattle.dtx_recipes.specs.SymbolFile.{symbol_of_byte, symbols}
 use Rattle.dtx_jobs.proofs.levelling.LevellingEngine.feed.Goals as goal
 
@@ -20,8 +16,6 @@ returns-clause-fed c = λ before long stand.
             (levelled.stands (symbols before) stand.stands);
       };
       made = ap₂ both
-          (ap (λ (s : List ℤ). map byte_of_symbol (levelled_so_far s)) all
-          ∙ levelled.symbols_are (symbols before) stand.stands)
-          (ap (λ (s : List ℤ). measures_text (measures_so_far s)) all
-          ∙ levelled.lines (symbols before) stand.stands);
+          (cc (all, levelled.symbols_are (symbols before) stand.stands))
+          (cc (all, levelled.lines (symbols before) stand.stands));
     }

@@ -1,4 +1,4 @@
-use Rattle.std.proofs.Common.{take, ap, ℕ, ◌+◌, arith}
+use Rattle.std.proofs.Common.{take, arith}
 use Rattle.std.proofs.lemmas.List.{length-take}
 use Rattle.dtx_recipes.proofs.SoftLemmas.{length-groups}
 use Rattle.dtx_jobs.proofs.softening.Softening.flush.Goals as goal
@@ -9,6 +9,3 @@ returns-clause-fields c =
     let long = length-take c.args.count c.args.self.now.field.items in
     let groups = length-groups rows in
     omega (arith, long, groups, c.requires.few, c.requires.room)
-
-pub returns-clause-cost : goal.returns-clause-cost
-returns-clause-cost c = ap (λ (n : ℕ). c.args.self.now.cost + n) c.flush_field-cost.ensures.cost

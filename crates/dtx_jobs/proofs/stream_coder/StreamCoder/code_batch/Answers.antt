@@ -1,4 +1,4 @@
-use Rattle.std.proofs.Common.{◌≡◌, ◌≤◌, ◌*◌, ◌++◌, ℕ, ℤ, List, length, map, take, ap, refl}
+use Rattle.std.proofs.Common.{◌≡◌, ◌≤◌, ◌*◌, ◌++◌, ℕ, ℤ, List, length, map, take, ap}
 use Rattle.std.proofs.Common.{sym, ◌∙◌, arith, append_assoc, subst}
 use Rattle.std.proofs.lemmas.List.{map-append, take_all, append-nil}
 use Rattle.std.proofs.lemmas.List.{length-append, length-map, length-take}
@@ -15,7 +15,6 @@ loop-i-init c = record {
   sent = λ before long stands. c.interleave.ensures before long (c.deref_mut.ensures.value ∙ stands);
   brought = λ before bytes long stands is. ap symbol_bytes (append-nil before) ∙ is;
   room = omega arith;
-  packets = refl;
 }
 
 pub loop-i-preserved : goal.loop-i-preserved
@@ -51,7 +50,6 @@ loop-i-preserved c =
         length-map symbols byte_of_symbol,
         length-take (832 * c.send.new.air.segments) c.send.new.air.symbols,
       );
-      packets = c.loop-i.invariant.packets;
     }
 
 pub returns : goal.returns
@@ -64,8 +62,6 @@ returns c =
           batch_sent before packets c.loop-i.self.batch.bytes c.loop-i.i c.loop-i.self.coder.value all
           (c.loop-i.invariant.sent before long stands);
       brought = λ before bytes long stands is.
-          ap (λ ps. symbol_bytes (before ++ ps)) (sym (take_all (4 * c.loop-i.i) packets all))
-          ∙ c.loop-i.invariant.brought before bytes long stands is;
+          cc (take_all (4 * c.loop-i.i) packets all, c.loop-i.invariant.brought before bytes long stands is);
       long = omega (arith, whole, c.loop-i.invariant.room, c.loop-i-test.false, c.loop-i.auto.i-end);
-      packets = c.loop-i.invariant.packets;
     }

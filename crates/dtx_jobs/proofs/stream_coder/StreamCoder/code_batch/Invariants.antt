@@ -12,5 +12,4 @@ invariant-loop-i l = record {
       → StandsFor l.fn.self.coder.value before → symbol_bytes before ≡ bytes ++ l.fn.self.symbols
       → symbol_bytes (before ++ take (4 * l.i) l.packets) ≡ bytes ++ l.self.symbols;
   room : length l.self.symbols ≤ length l.fn.self.symbols + 4160 * l.i;
-  packets : l.self.packets ≡ l.fn.self.packets;
 }

@@ -3,7 +3,7 @@ use Rattle.dtx_meaning.specs.declared.status.Outcome.{Outcome}
 use Rattle.dtx_meaning.specs.declared.status.Status.TheVariants.{Done}
 use Rattle.dtx_packets.specs.Packets.{packets_of}
 use Rattle.dtx_forms.proofs.FilePacketsLemmas.{length-packets_of}
-use Rattle.dtx_jobs.proofs.stream_coder.StreamCoderEngine.finish.Goals as goal
+use Rattle.dtx_jobs.proofs.stream_coder.StreamCoderStep.finish.Goals as goal
 
 pub returns-clause-outcome : goal.returns-clause-outcome
 returns-clause-outcome c = λ given stand.

@@ -9,41 +9,38 @@ use Rattle.dtx_jobs.proofs.SoftLemmas.{no_cost}
 use Rattle.dtx_jobs.proofs.SofteningLemmas.{field_sum_all, rest_of}
 use Rattle.dtx_recipes.specs.SymbolFile.{file_segments}
 use Rattle.dtx_jobs.proofs.SymbolFileLemmas.{length-segments_of}
-use Rattle.dtx_jobs.proofs.softening.SofteningEngine.finish.Goals as goal
+use Rattle.dtx_jobs.proofs.softening.SofteningStep.finish.Goals as goal
 
 pub flush-requires-clause-fields : goal.flush-requires-clause-fields
 flush-requires-clause-fields c =
-    let units = c.requires.given in
-    let some = units.2 in
-    let was = some.2.is_kept in
-    omega (arith, was.fields, some.2.softening.count, some.1, units.1, length-segments_of some.0)
+    let given = c.requires.given in
+    let was = given.2.2 in
+    omega (arith, was.is_kept.fields, was.softening.count, given.2.1, given.1, length-segments_of given.2.0)
 
 pub flush-requires-clause-cost : goal.flush-requires-clause-cost
 flush-requires-clause-cost c =
-    let units = c.requires.given in
-    let some = units.2 in
-    let was = some.2.is_kept in
-    omega (arith, was.cost, some.2.softening.count, some.1, units.1, length-segments_of some.0)
+    let given = c.requires.given in
+    let was = given.2.2 in
+    omega (arith, was.is_kept.cost, was.softening.count, given.2.1, given.1, length-segments_of given.2.0)
 
 pub returns-clause-outcome : goal.returns-clause-outcome
 returns-clause-outcome c = λ given stand.
     let s = file_segments given in
     let old = c.args.self.now in
+    let was = stand.softening in
     let outcome : ℕ → ℕ → ℕ → Outcome =
     λ segments fields cost.
     record { status = Done; numbers = segments ∷ fields ∷ cost ∷ c.args.loose ∷ 0 ∷ 0 ∷ 0 ∷ []; shown = 4 } in
-    let rows = c.rows_of-rows.ensures.rows in
-    let fields = field_sum_all has_group old s c.rows_of-rows.result old.fields c.flush.new.self.fields refl
-    stand.softening rows stand.softening.fields c.flush.ensures.fields in
-    let cost = field_sum_all (softened_cost 1) old s c.rows_of-rows.result old.cost c.flush.new.self.cost no_cost
-    stand.softening rows stand.softening.cost c.flush.ensures.cost in
-    ap₂ (λ n m. outcome n m c.flush.new.self.cost) (c.flush.ensures.count ∙ stand.softening.count) fields
-    ∙ ap (λ n. outcome (length s) (field_sum has_group s (length s)) n) cost
+    let sums = field_sum_all old s c.unwrap_or-rows.result was c.unwrap_or-rows.ensures in
+    ap₂ (λ n m. outcome n m c.flush.new.self.cost) (c.flush.ensures.count ∙ was.count)
+    (sums has_group old.fields c.flush.new.self.fields refl was.fields c.flush.ensures.fields)
+    ∙ ap (λ n. outcome (length s) (field_sum has_group s (length s)) n)
+    (sums (softened_cost 1) old.cost c.flush.new.self.cost no_cost was.cost c.flush.ensures.cost)
 
 pub returns-clause-rest : goal.returns-clause-rest
 returns-clause-rest c = λ given stand.
-    let s = file_segments given in
     let old = c.args.self.now in
+    let rows = c.unwrap_or-rows.result in
     ap only (c.flush.ensures.symbols
-    ∙ ap (λ z. z ++ segment_bytes (flushed (take c.rows_of-rows.result old.field.items))) c.clear.ensures
-    ∙ rest_of old s c.rows_of-rows.result stand.softening c.rows_of-rows.ensures.rows)
+    ∙ ap (λ m. m.first ++ segment_bytes (flushed (take rows old.field.items))) c.requires.empty
+    ∙ rest_of old (file_segments given) rows stand.softening c.unwrap_or-rows.ensures)
