@@ -13,14 +13,14 @@ ghost use Rattle.dtx_forms.specs.Stages.{IsStaged, stages_of};
 ghost use Rattle.dtx_forms.specs.Transmit.{transmit_job, transmit_with};
 
 use crate::logging::{LoggedFiles, make_both};
-use dtx_engine::Engine;
 use dtx_meaning::{Outcome, Status, ended};
 use dtx_outside::{Shelf, Word};
+use dtx_steps::{Step, Steps};
 use dtx_words::{number_up_to, repeated_name};
 use std::alloc::{AllocError, Global};
 
-/// An engine that makes the symbols that a transmitter sends, and its log.
-pub trait Transmitting: Engine + Drop {
+/// What a transmitter does at each step: it makes the symbols that it sends, and its log.
+pub trait Transmitting: Step + Drop {
     ghost use Rattle.dtx_meaning.specs.declared.status.Status.{Status};
 
     /// The command that it carries out.
@@ -29,20 +29,20 @@ pub trait Transmitting: Engine + Drop {
     /// Its recipe for an address and a delay.
     ghost sends: { ℕ → ℕ → Recipe };
 
-    /// The engine of the transmitter with this address. The feed takes `delay` ticks of 100 ns to it. The engine was
-    /// given nothing. The only error is out of memory.
+    /// The transmitter with this address, which was given nothing. The feed takes `delay` ticks of 100 ns to it. The
+    /// only error is out of memory.
     fn new(alloc: Global, address: u16, delay: u32) -> Result<Self, AllocError>
-        ensures given { IfOk result (λ engine. Self.stands engine []) }
-        ensures sends { IfOk result (λ engine. Self.recipe engine ≡ sends address delay) };
+        ensures given { IfOk result (λ step. Self.stands step []) }
+        ensures sends { IfOk result (λ step. Self.recipe step ≡ sends address delay) };
 
     /// Each answer that can come is one that the command may give.
     ghost knows: { (address delay : ℕ) (status : Status) → IsAnswerOf (sends address delay) status
         → Knows command status };
 }
 
-/// Gives the units of IN to the engine of one transmitter. Its symbols go to OUT, and its log to LOG. ADDRESS is that
-/// of the transmitter, 0 to 65,535. DELAY is how many ticks of 100 ns the feed takes to it, 0 to 4,294,967,295. Both
-/// are decimal digits without sign, and without a leading zero unless the number is `0`.
+/// Gives the units of IN to one transmitter. Its symbols go to OUT, and its log to LOG. ADDRESS is that of the
+/// transmitter, 0 to 65,535. DELAY is how many ticks of 100 ns the feed takes to it, 0 to 4,294,967,295. Both are
+/// decimal digits without sign, and without a leading zero unless the number is `0`.
 #[tactic(auto, using(crate::proofs::StagesLemmas::ended_staged))]
 pub fn transmit<E: Transmitting, S: Shelf>(alloc: Global, words: &[Word], shelf: &mut S) -> Outcome
     ensures performed { IsJobPerformed (transmit_job E.command E.shape E.sends) words.now result
@@ -64,7 +64,7 @@ pub fn transmit<E: Transmitting, S: Shelf>(alloc: Global, words: &[Word], shelf:
     }
 }
 
-/// Reads the address and the delay, and gives the units of the input to the engine of that transmitter.
+/// Reads the address and the delay, and gives the units of the input to that transmitter.
 #[tactic(auto, using(crate::proofs::StagesLemmas::ended_staged))]
 fn transmit_read<E: Transmitting, S: Shelf>(
     alloc: Global,
@@ -96,7 +96,7 @@ fn transmit_read<E: Transmitting, S: Shelf>(
     }
 }
 
-/// Gives the units of the input to the engine of that transmitter. It refuses equal names.
+/// Gives the units of the input to that transmitter. It refuses equal names.
 #[tactic(auto, using(crate::proofs::StagesLemmas::ended_staged))]
 fn transmit_files<E: Transmitting, S: Shelf>(
     alloc: Global,
@@ -121,7 +121,7 @@ fn transmit_files<E: Transmitting, S: Shelf>(
     }
 }
 
-/// Gives the units of the input to the engine of that transmitter, where the names differ.
+/// Gives the units of the input to that transmitter, where the names differ.
 #[inline(never)]
 #[tactic(auto, using(crate::proofs::StagesLemmas::ended_staged))]
 fn transmit_apart<E: Transmitting, S: Shelf>(
@@ -145,7 +145,7 @@ fn transmit_apart<E: Transmitting, S: Shelf>(
         result.status (S.files shelf.old) (S.files shelf.new) (S.counts shelf.old) (S.counts shelf.new) }
 {
     match E::new(alloc, address, delay) {
-        Ok(mut engine) => make_both(alloc, &mut engine, files, shelf),
+        Ok(step) => make_both(alloc, &mut Steps::new(step), files, shelf),
         Err(cause) => ended(Status::from(cause)),
     }
 }

@@ -1,12 +1,17 @@
 -- What the engine of `repeat` keeps.
-use Rattle.std.specs.Prelude.{◌≡◌, ◌*◌, ◌≤◌, ℕ, ℤ, List, ◌++◌, length}
+use Rattle.std.specs.Prelude.{◌≡◌, ◌+◌, ◌*◌, ◌≤◌, ℕ, ℤ, List, ◌++◌, length}
+use Rattle.dtx_coder.specs.declared.air.TheConstants.{AIR_SYMBOLS}
+use Rattle.dtx_exciter.specs.Packets.{group_part}
+use Rattle.dtx_files.specs.declared.log_text.TheConstants.{LOG_LINE}
 use Rattle.dtx_receiver.specs.Runs.{runs}
 use Rattle.dtx_repeat.specs.GoingOn.{last_life}
 use Rattle.dtx_repeat.specs.Lives.{lives_so_far}
 use Rattle.dtx_repeat.specs.Repeater.{StandsFor}
 use Rattle.dtx_recipes.specs.Lives.{sent_over, logged_over, lives_tally}
 use Rattle.dtx_recipes.specs.SymbolFile.{file_segments}
+use Rattle.dtx_sizes.specs.declared.fields.TheConstants.{GROUP_PACKETS}
 use Rattle.dtx_jobs.specs.declared.repetition.Repetition.{Repetition}
+use Rattle.dtx_jobs.specs.declared.repetition.TheConstants.{LOGGED_BYTES, SENT_BYTES}
 
 -- These segments were received, and the exciter was given the packets of these lives. The repeater stands for the
 -- segments and for the last life. The numbers of what was sent are the lives'.
@@ -39,3 +44,12 @@ pub record IsRepeating (state : Repetition) (received : List (List ℤ)) : Type 
 pub record WasRepeated (state : Repetition) (bytes : List ℕ) : Type 0 where
   pub repeating : IsRepeating state (file_segments bytes)
   pub few : AreFew state
+
+-- There is room for what so many segments more bring: a group of packets each, and a restart. The room for symbols is
+-- counted in packets, each a fourth of a group.
+abbrev pub HasRoomFor : Repetition → ℕ → Type 0
+HasRoomFor state segments =
+    (received : List (List ℤ)) × IsRepeating state received
+    × (4 * length state.sending.symbols
+    + AIR_SYMBOLS * (group_part (last_life (lives_so_far received)) + GROUP_PACKETS * segments + 6) ≤ 4 * SENT_BYTES)
+    × (length state.sending.lines + LOG_LINE * ((GROUP_PACKETS + 1) * segments) ≤ LOGGED_BYTES)

@@ -1,20 +1,15 @@
-// The engine of `excite`: gives a feed to an exciter, one piece of packets at a time.
-ghost use Rattle.std.specs.Prelude.{◌≡◌, ◌+◌, ◌*◌, ◌/◌, ◌<◌, ◌≤◌, ◌++◌, ◌∷◌, [], ℕ, List, length, map, take};
-ghost use Rattle.dtx_exciter.specs.Packets.{group_part};
-ghost use Rattle.dtx_packets.specs.Packets.{packets_of};
-ghost use Rattle.dtx_jobs.specs.Excitation.{IsLife};
-ghost use Rattle.dtx_recipes.specs.Life.{sent_bytes, logged_bytes};
-
+// The engine of `excite`: gives a feed to an exciter, a packet at a time.
 use crate::sending::Sending;
 use dtx_coder::AIR_SYMBOLS;
-use dtx_engine::{Engine, Shape};
+use dtx_engine::Shape;
 use dtx_exciter::Exciter;
 use dtx_exciter::laws::groups_are_spaced;
 use dtx_files::LOG_LINE;
 use dtx_forms::{CODED_PACKETS, Transmitting, coded_packets};
 use dtx_meaning::{Outcome, Status};
 use dtx_packets::Packet;
-use dtx_sizes::{GROUP_PACKETS, MOST_PACKETS, PACKET};
+use dtx_sizes::{GROUP_PACKETS, PACKET};
+use dtx_steps::Step;
 use std::alloc::{AllocError, Global};
 
 /// Room for the symbols that an exciter sends for the packets of a piece. They are the symbols of the piece's whole
@@ -33,65 +28,9 @@ pub(crate) struct Excitation {
     sending: Sending<SENT_BYTES, LOGGED_BYTES>,
 }
 
-impl Excitation {
-    /// Gives the exciter the packets of a file's bytes, and gathers the symbols and lines that they bring.
-    fn take_all(&mut self, bytes: &[u8])
-        requires some { (before : List (List ℕ)) × IsLife self.old before }
-        requires most { self.old.sending.tally.packets + length bytes.now / PACKET ≤ MOST_PACKETS }
-        requires room { length bytes.now ≤ PACKET * CODED_PACKETS }
-        requires no_symbols { self.old.sending.symbols ≡ [] }
-        requires no_lines { self.old.sending.lines ≡ [] }
-        ensures address { self.new.address ≡ self.old.address }
-        ensures delay { self.new.delay ≡ self.old.delay }
-        ensures life { (before : List (List ℕ)) → IsLife self.old before
-            → IsLife self.new (before ++ packets_of bytes.now) }
-        ensures sent { (before : List (List ℕ)) → IsLife self.old before
-            → sent_bytes self.old.address self.old.delay (before ++ packets_of bytes.now)
-            ≡ sent_bytes self.old.address self.old.delay before ++ self.new.sending.symbols }
-        ensures logged { (before : List (List ℕ)) → IsLife self.old before
-            → logged_bytes self.old.address self.old.delay (before ++ packets_of bytes.now)
-            ≡ logged_bytes self.old.address self.old.delay before ++ self.new.sending.lines }
-    {
-        groups_are_spaced();
-        let (packets, _) = bytes.as_chunks::<PACKET>();
-        for i in 0..packets.len() {
-            self.take(&Packet(packets[i]));
-        }
-    }
-
-    /// Gives the exciter the next packet of the feed, which may have any bytes, and gathers what it brings.
-    fn take(&mut self, packet: &Packet)
-        requires some { (before : List (List ℕ)) × IsLife self.old before }
-        requires most { self.old.sending.tally.packets < MOST_PACKETS }
-        requires symbols { length self.old.sending.symbols + AIR_SYMBOLS ≤ SENT_BYTES }
-        requires lines { length self.old.sending.lines + LOG_LINE ≤ LOGGED_BYTES }
-        ensures address { self.new.address ≡ self.old.address }
-        ensures delay { self.new.delay ≡ self.old.delay }
-        ensures life { (before : List (List ℕ)) → IsLife self.old before
-            → IsLife self.new (before ++ packet.now.0 ∷ []) }
-        ensures sent { (before : List (List ℕ)) (bytes : List ℕ) → IsLife self.old before
-            → sent_bytes self.old.address self.old.delay before ≡ bytes ++ self.old.sending.symbols
-            → sent_bytes self.old.address self.old.delay (before ++ packet.now.0 ∷ [])
-            ≡ bytes ++ self.new.sending.symbols }
-        ensures logged { (before : List (List ℕ)) (bytes : List ℕ) → IsLife self.old before
-            → logged_bytes self.old.address self.old.delay before ≡ bytes ++ self.old.sending.lines
-            → logged_bytes self.old.address self.old.delay (before ++ packet.now.0 ∷ [])
-            ≡ bytes ++ self.new.sending.lines }
-        ensures spaced { (before : List (List ℕ)) → IsLife self.old before
-            → 4 * length self.new.sending.symbols + AIR_SYMBOLS * group_part (before ++ packet.now.0 ∷ [])
-            ≤ 4 * length self.old.sending.symbols + AIR_SYMBOLS * (group_part before + 1) }
-        ensures more_lines { length self.new.sending.lines ≤ length self.old.sending.lines + LOG_LINE }
-        ensures packets { self.new.sending.tally.packets ≡ self.old.sending.tally.packets + 1 }
-    {
-        groups_are_spaced();
-        let told = self.exciter.take(packet, &mut self.sending.air);
-        self.sending.add(told);
-    }
-}
-
-impl Engine for Excitation {
-    ghost use Rattle.dtx_engine.specs.Made.{Made};
-    ghost use Rattle.dtx_jobs.specs.Excitation.{WasExcited};
+impl Step for Excitation {
+    ghost use Rattle.dtx_engine.specs.Made.{both};
+    ghost use Rattle.dtx_jobs.specs.Excitation.{HasRoomFor, WasExcited};
     ghost use Rattle.dtx_recipes.specs.Excite.{exciting};
     ghost use Rattle.dtx_recipes.proofs.ExciteLemmas.{excites_none, excites_more};
     ghost use Rattle.dtx_forms.specs.Shapes as shapes;
@@ -102,9 +41,9 @@ impl Engine for Excitation {
 
     ghost stands = { WasExcited };
 
-    ghost gives = { λ s _. record { first = s.sending.symbols; second = s.sending.lines } };
+    ghost holds = { λ s. both s.sending.symbols s.sending.lines };
 
-    ghost zeros = { λ _. 0 };
+    ghost is_ready = { λ s _ packets. HasRoomFor s packets };
 
     fn sizes(&self) -> Shape {
         coded_packets()
@@ -114,13 +53,23 @@ impl Engine for Excitation {
         true
     }
 
-    fn feed(&mut self, _first: u64, bytes: &mut [u8]) {
+    fn clear(&mut self) {
+        groups_are_spaced();
         self.sending.clear();
-        self.take_all(bytes);
+    }
+
+    /// Gives the exciter one packet, which may have any bytes, and gathers what it brings.
+    fn step(&mut self, _first: u64, bytes: &mut [u8]) -> usize {
+        groups_are_spaced();
+        let (packets, _) = bytes.as_chunks::<PACKET>();
+        let told = self
+            .exciter
+            .take(&Packet(packets[0]), &mut self.sending.air);
+        self.sending.add(told);
+        1
     }
 
     fn finish(&mut self, loose: usize) -> Outcome {
-        self.sending.clear();
         Outcome {
             status: Status::Done,
             numbers: self.sending.tally.numbers(loose),
@@ -128,11 +77,7 @@ impl Engine for Excitation {
         }
     }
 
-    fn zeros(&self) -> u64 {
-        0
-    }
-
-    fn made<'a>(&'a self, _bytes: &'a [u8]) -> &'a [u8] {
+    fn made(&self) -> &[u8] {
         self.sending.symbols.bytes()
     }
 

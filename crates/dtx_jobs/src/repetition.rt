@@ -1,19 +1,16 @@
-// The engine of `repeat`: receives symbols and sends their packets again, one piece of the file at a time.
-ghost use Rattle.std.specs.Prelude.{◌≡◌, ◌+◌, ◌*◌, ◌/◌, ◌<◌, ◌≤◌, ◌++◌, ◌∷◌, [], ℕ, ℤ, List, length, take};
+// The engine of `repeat`: receives symbols and sends their packets again, some segments at a time.
+ghost use Rattle.std.specs.Prelude.{◌≡◌, ◌+◌, ◌*◌, ◌<◌, ◌≤◌, ◌++◌, ◌∷◌, [], ℕ, ℤ, List, length};
 ghost use Rattle.dtx_exciter.specs.Packets.{group_part};
 ghost use Rattle.dtx_files.specs.LogText.{log_text};
-ghost use Rattle.dtx_receiver.specs.Symbols.{symbols_in};
 ghost use Rattle.dtx_repeat.specs.GoingOn.{last_life, longer};
 ghost use Rattle.dtx_repeat.specs.Lives.{lives, lives_so_far, packets_in};
-ghost use Rattle.dtx_recipes.specs.Lives.{lives_tally, logged_over, sent_over};
 ghost use Rattle.dtx_recipes.specs.Repeat.{repeated_numbers};
-ghost use Rattle.dtx_jobs.specs.Repetition.{AreFew, IsRepeating, IsSending, IsSentOn};
+ghost use Rattle.dtx_jobs.specs.Repetition.{IsRepeating, IsSending, IsSentOn};
 ghost use Rattle.dtx_recipes.specs.Restarts.{restart_with};
-ghost use Rattle.dtx_recipes.specs.SymbolFile.{file_segments};
 
 use crate::sending::Sending;
 use dtx_coder::AIR_SYMBOLS;
-use dtx_engine::{Engine, Shape};
+use dtx_engine::Shape;
 use dtx_exciter::laws::groups_are_spaced;
 use dtx_files::LOG_LINE;
 use dtx_forms::{PIECE_SEGMENTS, Transmitting, segments};
@@ -22,6 +19,7 @@ use dtx_packets::Packet;
 use dtx_receiver::{Batch, Progress};
 use dtx_repeat::Repeater;
 use dtx_sizes::{GROUP_PACKETS, MOST_SEGMENTS, SEGMENT};
+use dtx_steps::Step;
 use std::alloc::{AllocError, Global};
 
 /// Room for the packets that the segments of a piece, and the end behind them, bring. Each segment, and the end, brings
@@ -51,69 +49,6 @@ pub(crate) struct Repetition {
 }
 
 impl Repetition {
-    /// Receives the segments of a file's bytes, and gathers the symbols and lines that they bring.
-    fn take_all(&mut self, bytes: &[u8])
-        requires most { self.old.segments + length bytes.now / SEGMENT ≤ MOST_SEGMENTS }
-        requires some { (s : List (List ℤ)) × IsRepeating self.old s }
-        requires few { AreFew self.old }
-        requires room { length bytes.now ≤ SEGMENT * PIECE_SEGMENTS }
-        requires no_symbols { self.old.sending.symbols ≡ [] }
-        requires no_lines { self.old.sending.lines ≡ [] }
-        ensures address { self.new.address ≡ self.old.address }
-        ensures delay { self.new.delay ≡ self.old.delay }
-        ensures repeating { (s : List (List ℤ)) → IsRepeating self.old s
-            → IsRepeating self.new (s ++ file_segments bytes.now) }
-        ensures sent { (s : List (List ℤ)) → IsRepeating self.old s
-            → sent_over self.old.address self.old.delay (lives_so_far (s ++ file_segments bytes.now))
-            ≡ sent_over self.old.address self.old.delay (lives_so_far s) ++ self.new.sending.symbols }
-        ensures logged { (s : List (List ℤ)) → IsRepeating self.old s
-            → logged_over self.old.address self.old.delay (lives_so_far (s ++ file_segments bytes.now))
-            ≡ logged_over self.old.address self.old.delay (lives_so_far s) ++ self.new.sending.lines }
-        ensures few { AreFew self.new }
-    {
-        groups_are_spaced();
-        let (segments, _) = bytes.as_chunks::<SEGMENT>();
-        let mut done = 0;
-        while done < segments.len() {
-            done += self.take_some(&segments[done..]);
-        }
-    }
-
-    /// Receives the first of these segments, as many as the repeater takes at once, and gathers what they bring.
-    /// Returns how many segments it took.
-    fn take_some(&mut self, segments: &[[u8; SEGMENT]]) -> usize
-        requires some_segments { 0 < length segments.now }
-        requires most { self.old.segments + length segments.now ≤ MOST_SEGMENTS }
-        requires some { (s : List (List ℤ)) × IsRepeating self.old s }
-        requires few { AreFew self.old }
-        requires symbols { length self.old.sending.symbols + AIR_SYMBOLS * (length segments.now + 2) ≤ SENT_BYTES }
-        requires lines { length self.old.sending.lines
-            + LOG_LINE * ((GROUP_PACKETS + 1) * length segments.now) ≤ LOGGED_BYTES }
-        ensures some { 0 < result }
-        ensures within { result ≤ length segments.now }
-        ensures address { self.new.address ≡ self.old.address }
-        ensures delay { self.new.delay ≡ self.old.delay }
-        ensures repeating { (s : List (List ℤ)) → IsRepeating self.old s
-            → IsRepeating self.new (s ++ symbols_in (take result segments.now)) }
-        ensures sent { (s : List (List ℤ)) → IsRepeating self.old s
-            → IsSentOn self.old self.new (s ++ symbols_in (take result segments.now)) (lives_so_far s)
-            (lives_so_far (s ++ symbols_in (take result segments.now))) }
-        ensures spaced { (s : List (List ℤ)) → IsRepeating self.old s
-            → 4 * length self.new.sending.symbols
-            + AIR_SYMBOLS * group_part (last_life (lives_so_far (s ++ symbols_in (take result segments.now))))
-            ≤ 4 * length self.old.sending.symbols
-            + AIR_SYMBOLS * (group_part (last_life (lives_so_far s)) + GROUP_PACKETS * result) }
-        ensures short { length self.new.sending.lines ≤ length self.old.sending.lines
-            + LOG_LINE * ((GROUP_PACKETS + 1) * result) }
-        ensures few { AreFew self.new }
-        ensures count { self.new.segments ≡ self.old.segments + result }
-    {
-        let progress = self.repeater.take_some(segments, &mut self.batch);
-        self.count(progress);
-        self.send_all();
-        progress.segments
-    }
-
     /// Counts what the repeater took. Where a run other than the first began with it, gathers the line of a restart.
     fn count(&mut self, progress: Progress)
         requires most { self.old.segments + progress.segments ≤ MOST_SEGMENTS }
@@ -237,11 +172,11 @@ impl Repetition {
     }
 }
 
-impl Engine for Repetition {
-    ghost use Rattle.dtx_engine.specs.Made.{Made};
+impl Step for Repetition {
+    ghost use Rattle.dtx_engine.specs.Made.{both};
     ghost use Rattle.dtx_recipes.specs.Repeat.{repeating};
     ghost use Rattle.dtx_recipes.proofs.RepeatLemmas.{repeats_none, repeats_more};
-    ghost use Rattle.dtx_jobs.specs.Repetition.{WasRepeated};
+    ghost use Rattle.dtx_jobs.specs.Repetition.{HasRoomFor, WasRepeated};
     ghost use Rattle.dtx_forms.specs.Shapes as shapes;
 
     ghost shape = { shapes.segments };
@@ -250,9 +185,9 @@ impl Engine for Repetition {
 
     ghost stands = { WasRepeated };
 
-    ghost gives = { λ s _. record { first = s.sending.symbols; second = s.sending.lines } };
+    ghost holds = { λ s. both s.sending.symbols s.sending.lines };
 
-    ghost zeros = { λ _. 0 };
+    ghost is_ready = { λ s _ segments. HasRoomFor s segments };
 
     fn sizes(&self) -> Shape {
         segments()
@@ -262,13 +197,21 @@ impl Engine for Repetition {
         true
     }
 
-    fn feed(&mut self, _first: u64, bytes: &mut [u8]) {
+    fn clear(&mut self) {
+        groups_are_spaced();
         self.sending.clear();
-        self.take_all(bytes);
+    }
+
+    /// Receives the first of the segments, as many as the repeater takes at once, and gathers what they bring.
+    fn step(&mut self, _first: u64, bytes: &mut [u8]) -> usize {
+        let (segments, _) = bytes.as_chunks::<SEGMENT>();
+        let progress = self.repeater.take_some(segments, &mut self.batch);
+        self.count(progress);
+        self.send_all();
+        progress.segments
     }
 
     fn finish(&mut self, loose: usize) -> Outcome {
-        self.sending.clear();
         self.end();
         if self.runs == 0 {
             ended(Status::NoSync)
@@ -281,11 +224,7 @@ impl Engine for Repetition {
         }
     }
 
-    fn zeros(&self) -> u64 {
-        0
-    }
-
-    fn made<'a>(&'a self, _bytes: &'a [u8]) -> &'a [u8] {
+    fn made(&self) -> &[u8] {
         self.sending.symbols.bytes()
     }
 

@@ -7,7 +7,7 @@ use Rattle.dtx_forms.proofs.transmitting.transmit.Goals as goal
 
 pub returns-in-len6 : goal.returns-in-len6
 returns-in-len6 g c =
-    let job = transmit_job g.E.Transmitting.command g.E.Engine.shape g.E.Transmitting.sends in
+    let job = transmit_job g.E.Transmitting.command g.E.Step.shape g.E.Transmitting.sends in
     let told = g.S.Shelf.files c.args.shelf.now in
     let now = g.S.Shelf.files c.transmit_read.new.shelf in
     let before = g.S.Shelf.counts c.args.shelf.now in

@@ -11,7 +11,7 @@ returns-in-Some-clause-performed g c =
     let f = c.args.files in
     let names : List (List ℕ) = f.input.now ∷ f.output.now ∷ f.log.now ∷ [] in
     let means = λ (held : Files).
-    meaning g.E.Engine.shape (g.E.Transmitting.sends c.args.address c.args.delay) 0 (f.output.now ∷ f.log.now ∷ [])
+    meaning g.E.Step.shape (g.E.Transmitting.sends c.args.address c.args.delay) 0 (f.output.now ∷ f.log.now ∷ [])
     (get held f.input.now) in
     refused_same g.E.Transmitting.command names _ means 1 c.ended.result (g.S.Shelf.files c.args.shelf.now)
     (g.S.Shelf.counts c.args.shelf.now) c.in-Some.ensures c.ended.ensures
@@ -27,7 +27,7 @@ returns-in-None-clause-performed g c =
     let f = c.args.files in
     let names : List (List ℕ) = f.input.now ∷ f.output.now ∷ f.log.now ∷ [] in
     let means = λ (held : Files).
-    meaning g.E.Engine.shape (g.E.Transmitting.sends c.args.address c.args.delay) 0 (f.output.now ∷ f.log.now ∷ [])
+    meaning g.E.Step.shape (g.E.Transmitting.sends c.args.address c.args.delay) 0 (f.output.now ∷ f.log.now ∷ [])
     (get held f.input.now) in
     apart_performed g.E.Transmitting.command names means 1 c.transmit_apart.result (g.S.Shelf.files c.args.shelf.now) _
     (g.S.Shelf.counts c.args.shelf.now) _ c.in-None.ensures
