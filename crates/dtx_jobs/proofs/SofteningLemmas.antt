@@ -7,7 +7,6 @@ use Rattle.std.proofs.lemmas.List.{append_assoc, append-nil, drop_all, drop-appe
 use Rattle.dtx_files.proofs.AppendedLemmas.{segment_bytes-append}
 use Rattle.dtx_files.specs.Symbols.{byte_of_symbol, segment_bytes}
 use Rattle.dtx_frame.specs.Detection.{looks_like}
-use Rattle.dtx_soft.specs.Signed.{AreSigned}
 use Rattle.dtx_soft.specs.Softened.{softened_cost}
 use Rattle.dtx_jobs.specs.declared.softening.Softening.{Softening}
 use Rattle.dtx_recipes.specs.Soft.{field_sum, flushed, groups_in, has_group, next_place, pending, ahead, soft_rest}
@@ -16,7 +15,7 @@ use Rattle.dtx_jobs.proofs.SoftLemmas.{count_copied, count_full, count_kept, cou
 use Rattle.dtx_recipes.proofs.SoftLemmas.{pending_copied, pending_is, so_far_copied, so_far_full, so_far_kept}
 use Rattle.dtx_jobs.proofs.SoftLemmas.{rest_is}
 use Rattle.dtx_recipes.proofs.SoftPlacesLemmas.{place_copied, place_ends, place_first, place_on}
-use Rattle.dtx_jobs.specs.Softening.{IsGathering, IsKept, IsSigned, IsSoftening}
+use Rattle.dtx_jobs.specs.Softening.{IsGathering, IsSoftening}
 
 looked : (b : Bool) → then_some {T = ℕ} b 0 ≡ cond b (Some 0) None
 looked true = refl
@@ -113,29 +112,6 @@ module _ (old new : Softening) (s : List (List ℤ)) (x : List ℤ) (front : Lis
             ∙ ap₂ (λ a b. a ++ segment_bytes (flushed b)) h.bytes (sym all)
             ∙ append_assoc front old.symbols (segment_bytes (flushed rows)) ∙ ap (λ z. front ++ z) (sym symbols);
       }
-
--- ---- rows of signed bytes
-
-signed_push : (rows : List (List ℤ)) (x : List ℤ) → AreSigned rows → IsSigned x → AreSigned (rows ++ x ∷ [])
-signed_push [] x h k zero n = k n
-signed_push [] x h k (suc i) n = omega arith
-signed_push (row ∷ rows) x h k zero n = h zero n
-signed_push (row ∷ rows) x h k (suc i) n = signed_push rows x (λ i. h (suc i)) k i n
-
--- the rows that are kept, with one more
-pub signed_rows : (old : Softening) (p : ℕ) (x : List ℤ) → IsKept old → old.place ≡ Some p → IsSigned x
-    → AreSigned (take (p + 1) (slice_set old.field.items p x))
-signed_rows old p x h is signed =
-    let rows : unwrap_or old.place 0 ≡ p = ap (λ (o : Option ℕ). unwrap_or o 0) is in
-    subst AreSigned (sym (take_more_set old.field.items p x (omega (arith, rows, h.small, h.room))))
-    (signed_push (take p old.field.items) x (subst (λ n. AreSigned (take n old.field.items)) rows h.signed) signed)
-
--- the first of them
-pub signed_take : (n : ℕ) (rows : List (List ℤ)) → AreSigned rows → AreSigned (take n rows)
-signed_take zero rows h i k = omega arith
-signed_take (suc n) [] h i k = omega arith
-signed_take (suc n) (row ∷ rows) h zero k = h zero k
-signed_take (suc n) (row ∷ rows) h (suc i) k = signed_take n rows (λ i. h (suc i)) i k
 
 -- ---- the end
 

@@ -2,16 +2,11 @@
 use Rattle.std.specs.Prelude.{◌≡◌, ℕ, ℤ, pos, ◌*◌, ◌<◌, ◌≤◌, nat_abs, List, ◌++◌, length, take, drop, slice_index_or}
 use Rattle.std.specs.Prelude.{unwrap_or, vec_len}
 use Rattle.dtx_files.specs.Symbols.{segment_bytes}
-use Rattle.dtx_soft.specs.Signed.{AreSigned}
 use Rattle.dtx_soft.specs.Softened.{softened_cost}
 use Rattle.dtx_jobs.specs.declared.softening.Softening.{Softening}
 use Rattle.dtx_jobs.specs.declared.softening.TheConstants.{MOST_COST}
 use Rattle.dtx_recipes.specs.Soft.{field_sum, has_group, next_place, pending, ahead, soft_so_far}
 use Rattle.dtx_recipes.specs.SymbolFile.{file_segments}
-
--- each symbol of a segment is a signed byte
-abbrev pub IsSigned : List ℤ → Type 0
-IsSigned segment = (k : ℕ) → nat_abs (slice_index_or segment k (pos 0)) ≤ 128
 
 -- how many data segments of the current field are kept
 abbrev pub kept_rows : Softening → ℕ
@@ -31,12 +26,11 @@ pub record IsGathering (kept : Softening) (segments : List (List ℤ)) (front : 
   pub softening : IsSoftening kept segments
   pub bytes : segment_bytes (soft_so_far segments) ≡ front ++ kept.symbols
 
--- There is room for a field, and the symbols that are kept are signed bytes. The decoder has the standard's levels. The
--- numbers are within the bounds for as many segments.
+-- There is room for a field, and the decoder has the standard's levels. The numbers are within the bounds for as many
+-- segments.
 pub record IsKept (kept : Softening) : Type 0 where
   pub room : vec_len kept.field ≡ 312
   pub small : kept_rows kept < 312
-  pub signed : AreSigned (take (kept_rows kept) kept.field.items)
   pub scale : kept.decoder ≡ 1
   pub fields : kept.fields ≤ kept.segments
   pub cost : kept.cost ≤ MOST_COST * kept.segments

@@ -4,11 +4,11 @@ ghost use Rattle.dtx_jobs.specs.Restorer.{WereRestored};
 ghost use Rattle.dtx_recipes.specs.SymbolFile.{symbols};
 
 use crate::restorer::Restorer;
-use crate::signed::to_symbols;
 use crate::symbol_buffer::SymbolBuffer;
 use dtx_engine::{Engine, Shape};
 use dtx_forms::{Capturing, PIECE_BYTES, Setting, single_bytes};
 use dtx_meaning::Outcome;
+use dtx_receiver::to_symbols;
 use dtx_sizes::MOST_SYMBOLS;
 use std::alloc::{AllocError, Global};
 

@@ -9,13 +9,13 @@ ghost use Rattle.dtx_recipes.specs.Level.{levelled_answer};
 ghost use Rattle.dtx_jobs.specs.Levelling.{IsEmpty, WereLevelled, bytes_brought};
 ghost use Rattle.dtx_recipes.specs.SymbolFile.{symbols};
 
-use crate::signed::to_symbols;
 use crate::symbol_buffer::SymbolBuffer;
 use arrayvec::ArrayString;
 use dtx_engine::{Buffer, Engine, Shape};
 use dtx_forms::{PIECE_BYTES, Transforming, single_bytes};
 use dtx_level::{Leveller, MEASURE_LINE, write_measure};
 use dtx_meaning::{Outcome, Status, ended};
+use dtx_receiver::to_symbols;
 use dtx_sizes::{FIELD_SEGMENTS, MOST_SYMBOLS, SEGMENT};
 use std::alloc::{AllocError, Global};
 

@@ -21,7 +21,6 @@ mod repetition;
 mod restorer;
 mod segment_receiver;
 mod sending;
-mod signed;
 mod soft_command;
 mod softening;
 mod stream_coder;

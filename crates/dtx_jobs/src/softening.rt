@@ -2,20 +2,19 @@
 ghost use Rattle.std.specs.Prelude.{◌≡◌, ◌+◌, ◌*◌, ◌<◌, ◌≤◌, ◌++◌, ◌∷◌, [], ℕ, ℤ, List, length, slice_index_or, take};
 ghost use Rattle.std.specs.Prelude.{vec_len};
 ghost use Rattle.dtx_files.specs.Symbols.{segment_bytes};
-ghost use Rattle.dtx_soft.specs.Signed.{AreSigned};
 ghost use Rattle.dtx_soft.specs.Softened.{softened_cost};
 ghost use Rattle.dtx_recipes.specs.Soft.{flushed, groups_in, has_group};
 ghost use Rattle.dtx_recipes.specs.SymbolFile.{symbols};
 ghost use Rattle.dtx_jobs.specs.Softening.{IsGathering, IsKept, kept_rows};
 
-use crate::signed::to_symbols;
 use crate::symbol_buffer::SymbolBuffer;
 use dtx_engine::Shape;
 use dtx_forms::{PIECE_SEGMENTS, Stepping, segments};
 use dtx_frame::looks;
 use dtx_meaning::{Outcome, Status};
+use dtx_receiver::to_symbols;
 use dtx_sizes::{FIELD_PACKETS, GROUP_PACKETS, MOST_SEGMENTS, SEGMENT};
-use dtx_soft::FieldDecoder;
+use dtx_soft::{FieldDecoder, MOST_SEGMENT_COST};
 use dtx_steps::Step;
 use std::alloc::{AllocError, Global};
 
@@ -25,9 +24,8 @@ const FIELD_ROWS: usize = FIELD_PACKETS as usize;
 /// The most symbols that a piece brings: its own, and those of a field that began before it.
 const SOFT_BYTES: usize = SEGMENT * (PIECE_SEGMENTS + FIELD_ROWS);
 
-/// The most that the least paths of a field cost. A field has 258,336 data symbols, and each differs from its level's
-/// symbol by at most 135.
-pub(crate) const MOST_COST: u64 = 258_336 * 18_225;
+/// The most that the least paths of a field cost.
+pub(crate) const MOST_COST: u64 = MOST_SEGMENT_COST * FIELD_PACKETS as u64;
 
 /// The data segments of the current field, the symbols that the last piece brought, and the numbers of all segments.
 #[derive(Drop)]
@@ -79,7 +77,6 @@ impl Softening {
     fn flush(&mut self, count: usize)
         requires few { count ≤ FIELD_ROWS }
         requires room { vec_len self.old.field ≡ FIELD_ROWS }
-        requires signed { AreSigned (take count self.old.field.items) }
         requires scale { self.old.decoder ≡ 1 }
         requires fields { self.old.fields ≤ MOST_SEGMENTS }
         requires cost { self.old.cost ≤ MOST_COST * MOST_SEGMENTS }
@@ -196,7 +193,6 @@ fn flush_field(
     requires room { vec_len field.old ≡ FIELD_ROWS }
     requires few { count ≤ FIELD_ROWS }
     requires scale { decoder.old ≡ 1 }
-    requires signed { AreSigned (take count field.old.items) }
     requires fits { length symbols.old + SEGMENT * count ≤ SOFT_BYTES }
     ensures symbols { symbols.new ≡ symbols.old ++ segment_bytes (flushed (take count field.old.items)) }
     ensures long { length symbols.new ≡ length symbols.old + SEGMENT * count }
@@ -215,7 +211,6 @@ fn flush_field(
 fn soften(decoder: &mut FieldDecoder, rows: &mut [[i8; SEGMENT]]) -> u64
     requires scale { decoder.old ≡ 1 }
     requires few { length rows.old ≤ FIELD_PACKETS }
-    requires signed { AreSigned rows.old }
     ensures rows { rows.new ≡ flushed rows.old }
     ensures cost { result ≡ softened_cost 1 (groups_in rows.old) }
     ensures most { result ≤ MOST_COST }

@@ -98,8 +98,3 @@ unfolding coders_distance
 scaled_costs_small scale old new h soft =
     sums_small (λ e. distance (coder_symbols old e) (coder_symbols new e)) (most_square scale * (69 * length old)) 12
     (λ e l. coder_small scale old e (coder_symbols new e) h (soft.coders e l))
-
--- those of a field at the standard's levels
-pub costs_small : (old new : List (List ℤ)) → length old ≤ 312 → AreSigned old → IsSoftened 1 old new
-    → coders_distance old new 12 ≤ 4708173600
-costs_small old new l h soft = (let most = scaled_costs_small 1 old new h soft in omega (arith, most, l))

@@ -23,12 +23,3 @@ returns-clause-cost c =
     c.field-cost.ensures.cost
     ∙ cost_is 1 (take (4 * (length c.args.rows.now / 4)) c.args.rows.now) c.field-cost.new.segments
     (at_one c.args.decoder.now _ _ c.requires.scale c.field-cost.ensures.segments)
-
-pub returns-clause-most : goal.returns-clause-most
-returns-clause-most c =
-    let whole = 4 * (length c.args.rows.now / 4) in
-    let most = costs_small (take whole c.args.rows.now) c.field-cost.new.segments
-    (omega (arith, length-take whole c.args.rows.now, c.requires.few))
-    (signed_take whole c.args.rows.now c.requires.signed)
-    (at_one c.args.decoder.now _ _ c.requires.scale c.field-cost.ensures.segments) in
-    omega (arith, most, c.field-cost.ensures.cost)

@@ -8,7 +8,6 @@ returns-clause-given c = record {
   is_kept = record {
     room = c.in_ok-vec.ensures.len;
     small = omega arith;
-    signed = λ i k. omega arith;
     scale = c.in_ok-scaled.ensures;
     fields = omega arith;
     cost = omega arith;
