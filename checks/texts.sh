@@ -100,20 +100,7 @@ foreign_proofs() {
 
 # A declaration without a word before it that says what it is, as `abbrev` or `record`, is a lemma.
 proved_specs() {
-    files 'crates/*/specs/*' | grep -vE '^crates/dtx_lists/|/[A-Za-z]*Laws\.antt$' |
-        xargs -r grep -nE '^(pub )?[^ ]+ : '
-}
-
-# specs/NAMELaws.antt has laws that an impl of the crate gives its trait, or what those of another such file need.
-laws_of_no_impl() {
-    local file crate name
-    files 'crates/*/specs/*Laws.antt' | while IFS= read -r file; do
-        crate=${file#crates/}
-        crate=${crate%%/*}
-        name=$(basename "$file" .antt)
-        grep -rqE "use Rattle\.$crate\.specs\.$name\.\{" "crates/$crate/src" "crates/$crate"/specs/*Laws.antt ||
-            echo "$file"
-    done
+    files 'crates/*/specs/*' | xargs -r grep -nE '^(pub )?[^ ]+ : '
 }
 
 handles() {
@@ -204,7 +191,6 @@ rule 'a file longer than 600 lines' "$(long_files)"
 rule 'a line longer than 120 columns' "$(long_lines)"
 rule "a file that names another crate's proofs" "$(foreign_proofs)"
 rule 'a lemma in specs/' "$(proved_specs)"
-rule 'laws in specs/ that no impl has' "$(laws_of_no_impl)"
 rule 'HANDLES' "$(handles)"
 rule 'a README of more than 90 lines' "$(awk 'END { if (NR > 90) print "README.md: " NR " lines" }' README.md)"
 rule 'the gate' "$(gate)"

@@ -6,7 +6,7 @@ use Rattle.std.proofs.Math.Seq.{drop-append-add}
 use Rattle.std.proofs.lemmas.Bool.{cond-true, cond-false, cases_lt, lt-leb, lt-ltb, le-ltb}
 use Rattle.dtx_lists.proofs.Range.{map-range_same}
 use Rattle.dtx_acquire.specs.Agreement.{agrees, least_from}
-use Rattle.dtx_acquire.specs.AgreementLaws.{past_end}
+use Rattle.dtx_acquire.proofs.AgreementLemmas.{past_end}
 use Rattle.dtx_acquire.specs.Acquired.{Field, Sync, all_syncs, behind, due, field_at, fields_where, given_at}
 use Rattle.dtx_acquire.specs.Acquired.{is_met, segments_from, syncs_from, unless_lost}
 use Rattle.dtx_acquire.specs.Acquirer.{where_wanted}

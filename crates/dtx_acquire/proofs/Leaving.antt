@@ -6,7 +6,7 @@ use Rattle.std.proofs.Common.{arith, length-append}
 use Rattle.std.proofs.lemmas.List.{append-nil, length-drop, map-append}
 use Rattle.std.proofs.lemmas.List.Sums.{sum_by-append, sum_by-cons}
 use Rattle.dtx_acquire.specs.Agreement.{agrees}
-use Rattle.dtx_acquire.specs.AgreementLaws.{past_end}
+use Rattle.dtx_acquire.proofs.AgreementLemmas.{past_end}
 use Rattle.dtx_acquire.specs.Acquired.{Field, acquired, acquired_cost, acquired_rest, acquired_runs}
 use Rattle.dtx_acquire.specs.Acquired.{acquired_so_far, begun}
 use Rattle.dtx_acquire.specs.Acquired.{all_fields, cost_of, fields_where, heard_in, heard_rest, heard_so_far}

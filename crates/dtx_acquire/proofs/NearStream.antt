@@ -12,7 +12,7 @@ use Rattle.dtx_soft.specs.Softened.{IsOwn}
 use Rattle.dtx_acquire.specs.Acquired.{Field, acquired, fields_where, in_groups, restored, restored_of, segments_from}
 use Rattle.dtx_acquire.specs.Acquirer.{field_of}
 use Rattle.dtx_acquire.specs.Agreement.{agrees}
-use Rattle.dtx_acquire.specs.AgreementLaws.{past_end}
+use Rattle.dtx_acquire.proofs.AgreementLemmas.{past_end}
 use Rattle.dtx_acquire.proofs.PlacesLemmas.{least_none}
 use Rattle.dtx_acquire.proofs.FieldsLemmas.{fields_last, fields_none}
 use Rattle.dtx_acquire.specs.Sent.{AreNear, AreInFields, AreSent, IsData, IsNear, IsSync, groups_behind}

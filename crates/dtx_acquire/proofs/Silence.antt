@@ -10,7 +10,7 @@ use Rattle.dtx_frame.proofs.CountsLemmas.{sum_is, total}
 use Rattle.dtx_frame.proofs.SymbolsLemmas.{first_is, length_front}
 use Rattle.dtx_frame.specs.Segments.{sync_symbols}
 use Rattle.dtx_acquire.specs.Agreement.{agrees, are_unlike, is_plus, sync_sign, unlike, unlike_at}
-use Rattle.dtx_acquire.specs.AgreementLaws.{past_end}
+use Rattle.dtx_acquire.proofs.AgreementLemmas.{past_end}
 use Rattle.dtx_acquire.specs.Sent.{AreInFields, AreNear, IsNear}
 use Rattle.dtx_acquire.proofs.AgreementLemmas.{agrees_by}
 use Rattle.dtx_acquire.proofs.NearLevels.{sign_near}

@@ -1,6 +1,5 @@
 pub mod Places
 pub mod Agreement
-pub mod AgreementLaws
 pub mod Signs
 pub mod Scaled
 pub mod Acquired

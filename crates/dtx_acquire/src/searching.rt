@@ -23,9 +23,6 @@ pub trait SyncTest {
         requires room { place + SEGMENT ≤ length symbols.now }
         requires count { count ≡ unlike symbols.now place 0 515 }
         ensures { result ≡ passes symbols.now place };
-
-    /// A place passes only where a whole segment stands.
-    ghost whole: { NeedsSegment passes };
 }
 
 /// Whether a place passes the test.
@@ -40,7 +37,8 @@ pub fn is_sync_at<T: SyncTest>(test: &T, symbols: &[i8], place: usize) -> bool
 /// The least place from `from` on that passes the test.
 #[inline]
 pub fn search<T: SyncTest>(test: &T, symbols: &[i8], from: usize) -> Option<usize>
-    requires { from ≤ length symbols.now }
+    requires within { from ≤ length symbols.now }
+    requires whole { NeedsSegment T.passes }
     ensures { result ≡ first_place T.passes symbols.now from }
 {
     if symbols.len() - from < SEGMENT {

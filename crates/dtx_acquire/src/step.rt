@@ -18,6 +18,7 @@ const DUE: usize = SEGMENT * FIELD;
 
 /// Looks for a sync if none stands in front of the symbols (`on`). Drops the symbols before the sync. If there is none,
 /// it drops all but the last 831, where a sync may begin. Returns whether a sync stands in front now.
+#[tactic(auto, using(crate::proofs::AgreementLemmas::past_end))]
 pub(crate) fn seek(on: bool, held: &mut SymbolWindow) -> bool
     requires { on ≡ true → agrees held.old 0 ≡ true }
     ensures front { result ≡ true → agrees held.new 0 ≡ true }
@@ -52,6 +53,7 @@ pub(crate) struct Step {
 
 /// The step of a field in front of the symbols. The run goes on if a sync stands where the next one is due. If one
 /// stands earlier instead, symbols were lost, and the field isn't given.
+#[tactic(auto, using(crate::proofs::AgreementLemmas::past_end))]
 pub(crate) fn step_of(symbols: &[i8]) -> Step
     requires full { length symbols.now ≡ MOST_HELD }
     requires front { agrees symbols.now 0 ≡ true }

@@ -1,7 +1,6 @@
 //! The test of field syncs in a capture that isn't turned.
 
 ghost use Rattle.dtx_acquire.specs.Agreement.{agrees};
-ghost use Rattle.dtx_acquire.specs.AgreementLaws.{past_end};
 
 use crate::searching::{MAY_BE_UNLIKE, SyncTest};
 
@@ -15,6 +14,4 @@ impl SyncTest for Upright {
     fn passes(&self, symbols: &[i8], place: usize, count: u32) -> bool {
         count <= MAY_BE_UNLIKE
     }
-
-    ghost whole = { past_end };
 }

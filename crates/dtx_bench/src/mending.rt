@@ -3,7 +3,7 @@
 use crate::correcting::{CODEWORDS, Correction, WORDS, codewords, print_corrected};
 use crate::times::{Line, Work, print_least};
 use crate::work::{DATA, WORD};
-use dtx_erase::{Erase, Mend};
+use dtx_erase::Erase;
 use dtx_fast::Fast;
 use std::io;
 use std::rt::Clock;

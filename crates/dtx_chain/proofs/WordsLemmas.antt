@@ -14,7 +14,7 @@ use Rattle.dtx_laws.specs.Words.{codeword, correction}
 use Rattle.dtx_laws.proofs.WordsLemmas.{distance_self}
 use Rattle.dtx_whiten.specs.Randomizer.{randomizer_bytes}
 use Rattle.dtx_whiten.specs.Randomized.{randomized}
-use Rattle.dtx_whiten.specs.BytesLaws.{bytes_randomizer_bytes}
+use Rattle.dtx_whiten.proofs.BytesLemmas.{bytes_randomizer_bytes}
 use Rattle.dtx_whiten.proofs.PacketsLemmas.{randomized_whitened}
 use Rattle.dtx_outer.proofs.BackLemmas.{AreData, coded_is, coded_back, near_corrected, near_if_corrected}
 use Rattle.dtx_outer.specs.Inner.{word_at, IsComplete}

@@ -14,7 +14,7 @@ use Rattle.dtx_outer.proofs.CodingLemmas.{four_made, written_behind}
 use Rattle.dtx_outer.specs.Outer.{Held}
 use Rattle.dtx_whiten.specs.Randomizer.{randomizer_bytes}
 use Rattle.dtx_whiten.specs.Randomized.{randomized}
-use Rattle.dtx_whiten.specs.BytesLaws.{length-randomizer_bytes}
+use Rattle.dtx_whiten.proofs.BytesLemmas.{length-randomizer_bytes}
 use Rattle.dtx_whiten.proofs.PacketsLemmas.{randomized_whitened}
 use Rattle.dtx_coder.specs.Coded.{coded_from}
 use Rattle.dtx_coder.specs.Groups.{IsAtsc, zero_branches}

@@ -16,7 +16,7 @@ use dtx_sizes::{
 pub const BATCH_PACKETS: usize = 52;
 
 /// How many bytes their codewords have.
-pub const BATCH_BYTES: usize = CODEWORD * BATCH_PACKETS;
+const BATCH_BYTES: usize = CODEWORD * BATCH_PACKETS;
 
 /// The most groups in a batch.
 const BATCH_GROUPS: usize = BATCH_PACKETS / GROUP_PACKETS;

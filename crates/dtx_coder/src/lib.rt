@@ -10,6 +10,6 @@ mod sender;
 mod tables;
 
 pub use air::{AIR_SEGMENTS, AIR_SYMBOLS, Air};
-pub use batch::{BATCH_BYTES, BATCH_PACKETS, Batch};
+pub use batch::{BATCH_PACKETS, Batch};
 pub use coder::Coder;
 pub use tables::Tables;

@@ -19,7 +19,7 @@ use Rattle.dtx_outer.proofs.WordsLemmas.{length-word, word_back}
 use Rattle.dtx_outer.specs.declared.inner.Taken.TheVariants.{Good}
 use Rattle.dtx_dvb.specs.Read.{Read, fixed_of, flag_of, fixed_in, flagged_in}
 use Rattle.dtx_dvb.specs.Randomizer.{randomizer_bytes}
-use Rattle.dtx_dvb.specs.RandomizerLaws.{bytes_randomizer_bytes}
+use Rattle.dtx_dvb.proofs.RandomizerLemmas.{bytes_randomizer_bytes}
 use Rattle.dtx_dvb.specs.Stream.{randomized, block_of, blocks, dvb}
 use Rattle.dtx_dvb.proofs.StreamLemmas.{length-randomized, randomized_whitened, length-blocks, block_at, length-dvb}
 use Rattle.dtx_dvb.specs.Reading.{with_sync, read_by, read_at, read_dvb}

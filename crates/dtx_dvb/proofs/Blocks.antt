@@ -11,7 +11,7 @@ use Rattle.dtx_outer.specs.Coding.{coded_as, codewords}
 use Rattle.dtx_outer.proofs.CodingLemmas.{four_made, written_behind}
 use Rattle.dtx_outer.specs.Outer.{coded}
 use Rattle.dtx_dvb.specs.Randomizer.{randomizer_bytes}
-use Rattle.dtx_dvb.specs.RandomizerLaws.{length-randomizer_bytes}
+use Rattle.dtx_dvb.proofs.RandomizerLemmas.{length-randomizer_bytes}
 use Rattle.dtx_dvb.specs.Stream.{block_of, blocks_from}
 use Rattle.dtx_dvb.proofs.StreamLemmas.{randomized_whitened, blocks_append, length-blocks}
 

@@ -9,7 +9,7 @@ use Rattle.dtx_outer.specs.declared.inner.Taken.{Taken}
 use Rattle.dtx_outer.specs.declared.inner.Taken.TheVariants.{None, Good, Bad}
 use Rattle.dtx_dvb.specs.Read.{Read}
 use Rattle.dtx_dvb.specs.Randomizer.{randomizer_bytes}
-use Rattle.dtx_dvb.specs.RandomizerLaws.{length-randomizer_bytes}
+use Rattle.dtx_dvb.proofs.RandomizerLemmas.{length-randomizer_bytes}
 use Rattle.dtx_dvb.specs.Reading.{read_by, read_dvb}
 use Rattle.dtx_dvb.proofs.ReadingLemmas.{waiting_dvb, read_word, read_made}
 use Rattle.dtx_dvb.specs.Given.{given, finished}

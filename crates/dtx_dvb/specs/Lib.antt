@@ -1,5 +1,4 @@
 pub mod Randomizer
-pub mod RandomizerLaws
 pub mod Stream
 pub mod Sending
 pub mod Read

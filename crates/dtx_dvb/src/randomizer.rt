@@ -1,9 +1,10 @@
 //! The randomizer's bytes, made once (EN 300 429, 7.1).
 
-ghost use Rattle.std.specs.Prelude.{◌≡◌, ℕ, ◌+◌, ◌*◌, ◌<◌, ◌≤◌, EachIndex, IfOk, length, slice_index, vec_len};
+ghost use Rattle.std.specs.Prelude.{◌≡◌, ℕ, ◌+◌, ◌*◌, ◌<◌, ◌≤◌, EachIndex, IfOk, length, slice_index};
+ghost use Rattle.std.proofs.Common.{lit<};
+ghost use Rattle.dtx_galois.proofs.BytesLemmas.{AreBytes-from_places};
 ghost use Rattle.dtx_dvb.specs.declared.sizes.TheConstants.{PERIOD};
 ghost use Rattle.dtx_dvb.specs.Randomizer.{loaded, sequence, eight_bits, randomizer_byte, randomizer_bytes};
-ghost use Rattle.dtx_dvb.specs.RandomizerLaws.{all_long, all_are_bytes, period_fits};
 
 use crate::sizes::PERIOD;
 use dtx_laws::Whitener;
@@ -20,8 +21,9 @@ const PERIOD_BITS: usize = 8 * (PERIOD - 1);
 #[derive(Drop)]
 pub struct Dvb {
     bytes: Vec<u8>,
-    ghost long: { vec_len bytes ≡ PERIOD },
+    ghost long: { length bytes.items ≡ PERIOD },
     ghost all: { bytes.items ≡ randomizer_bytes },
+    ghost small: { EachIndex bytes.items (λ i. slice_index bytes.items i < 256) },
 }
 
 impl Whitener for Dvb {
@@ -35,11 +37,11 @@ impl Whitener for Dvb {
         self.bytes[at]
     }
 
-    ghost long = { λ dvb. all_long dvb.bytes.items dvb.all };
+    ghost long = { λ dvb. dvb.long };
 
-    ghost are_bytes = { λ dvb. all_are_bytes dvb.bytes.items dvb.all };
+    ghost are_bytes = { λ dvb. AreBytes-from_places dvb.bytes.items dvb.small };
 
-    ghost fits = { period_fits };
+    ghost fits = { lit< tt };
 }
 
 impl Dvb {

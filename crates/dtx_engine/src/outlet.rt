@@ -89,9 +89,8 @@ impl<'a> OneOutput<'a> {
 
 #[tactic(auto, using(dtx_meaning::proofs::MeaningLemmas::write_is_fault))]
 impl<'a> Outlet for OneOutput<'a> {
-    ghost use Rattle.std.specs.Prelude.{◌≡◌, [], ◌∷◌};
+    ghost use Rattle.std.proofs.Common.{◌≡◌, [], ◌∷◌, inr};
     ghost use Rattle.dtx_outside.specs.Written.{IsGathered};
-    ghost use Rattle.dtx_engine.specs.OutletLaws.{part_of_one, some_names};
 
     ghost names = { λ w. w.name.now ∷ [] };
 
@@ -120,9 +119,9 @@ impl<'a> Outlet for OneOutput<'a> {
         Ok(())
     }
 
-    ghost some = { λ w. some_names w.name.now [] };
+    ghost some = { λ w none. cc };
 
-    ghost part = { λ w start made now is. part_of_one w.name.now start made w.output now is };
+    ghost part = { λ w start made now is. inr (is.front, (w.output, is.whole), is.file) };
 }
 
 /// How many bytes are gathered at most for each of two outputs. Few are enough: the whole pages of a large piece go
@@ -157,9 +156,8 @@ impl<'a> TwoOutputs<'a> {
 
 #[tactic(auto, using(dtx_meaning::proofs::MeaningLemmas::write_is_fault))]
 impl<'a> Outlet for TwoOutputs<'a> {
-    ghost use Rattle.std.specs.Prelude.{◌≡◌, ◌≢◌, [], ◌∷◌};
+    ghost use Rattle.std.proofs.Common.{◌≡◌, ◌≢◌, [], ◌∷◌, inr};
     ghost use Rattle.dtx_engine.specs.Outlet.{AreBothGathered};
-    ghost use Rattle.dtx_engine.specs.OutletLaws.{part_of_two, some_names};
 
     ghost names = { λ w. w.first.now ∷ w.second.now ∷ [] };
 
@@ -193,8 +191,15 @@ impl<'a> Outlet for TwoOutputs<'a> {
         Ok(())
     }
 
-    ghost some = { λ w. some_names w.first.now (w.second.now ∷ []) };
+    ghost some = { λ w none. cc };
 
-    ghost part = { λ w start made now is. part_of_two w.first.now w.second.now start made w.first_output
-        w.second_output now is.1 };
+    ghost part = { λ w start made now is. inr (
+      is.1.one_front,
+      (w.first_output, is.1.first),
+      inr (
+        is.1.other_front,
+        (w.second_output, is.1.second),
+        is.1.files,
+      ),
+    ) };
 }

@@ -8,14 +8,13 @@ ghost use Rattle.dtx_laws.specs.Syndromes.{AreSyndromes};
 ghost use Rattle.dtx_erase.specs.Mending.{IsAnswered, IsDeclined, IsMended, IsMending, lost, unmarked_distance};
 
 use crate::marks::{first_left, lost, suspects, unmarked_distance};
-use crate::mender::Mend;
 use crate::values::patch;
 use dtx_fast::{Fast, find_recurrence};
 use dtx_laws::correcting::{ROOM, distance, encoded_again};
 use dtx_laws::{Correct, TooMany};
 
-/// Mends words of the code with words of `N` bytes and `K` bytes of data. The value holds 45 kB of tables, so make one
-/// and keep it.
+/// Mends words of `N` bytes, `K` of them data. A word with e wrong bytes and f missing ones is mended where `2 * e + f`
+/// is at most `N - K`. The caller marks the missing bytes. The value holds 45 kB of tables, so make one and keep it.
 #[derive(Drop)]
 pub struct Erase<const N: usize, const K: usize> {
     corrector: Fast<N, K>,
@@ -37,6 +36,26 @@ impl<const N: usize, const K: usize> Erase<N, K> {
         ensures { AreCorrected N K words.old words.new result }
     {
         self.corrector.correct_four(words)
+    }
+
+    /// Sets `word` to its mending, and returns how many bytes that changed, marked or not. `marks` has `true` at the
+    /// places where nothing was received, whatever byte stands there. Where there is no mending, the answer is
+    /// `TooMany`, and the word stays. By `laws::one_answer` there is at most one answer.
+    pub fn mend(&self, word: &mut [u8; N], marks: &[bool; N]) -> Result<u8, TooMany>
+        ensures answer { IsAnswered N K marks.now word.old word.new result }
+        ensures long { length word.new ≡ N }
+    {
+        let missing = lost(&marks[..]);
+        if missing == 0 {
+            return self.corrector.correct(word);
+        }
+        if missing > N - K {
+            return Err(TooMany);
+        }
+        if let Ok(changed) = self.mend_by_correction(word, marks, missing) {
+            return Ok(changed);
+        }
+        self.mend_marked(word, marks)
     }
 
     /// Replaces a word by its correction, if this is also its mending. Else the word stays, and the answer is
@@ -83,24 +102,6 @@ impl<const N: usize, const K: usize> Erase<N, K> {
         ensures { IsTrue result ↔ IsCodeword N K word.now }
     {
         encoded_again(self.corrector.encoder(), word) == *word
-    }
-}
-
-impl<const N: usize, const K: usize> Mend<N, K> for Erase<N, K> {
-    fn known(&self) {}
-
-    fn mend(&self, word: &mut [u8; N], marks: &[bool; N]) -> Result<u8, TooMany> {
-        let missing = lost(&marks[..]);
-        if missing == 0 {
-            return self.corrector.correct(word);
-        }
-        if missing > N - K {
-            return Err(TooMany);
-        }
-        if let Ok(changed) = self.mend_by_correction(word, marks, missing) {
-            return Ok(changed);
-        }
-        self.mend_marked(word, marks)
     }
 }
 

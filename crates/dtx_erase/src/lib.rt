@@ -7,11 +7,9 @@ mod erasing;
 pub mod laws;
 mod mark_side;
 mod marks;
-mod mender;
 mod side;
 mod values;
 mod words;
 
 pub use decoder::{MendDecoder, MendReceiver};
 pub use erasing::Erase;
-pub use mender::Mend;

@@ -12,7 +12,6 @@ ghost use Rattle.dtx_erase.specs.Mending.{IsAnswered};
 ghost use Rattle.dtx_erase.specs.Sides.{mended_word};
 
 use crate::erasing::Erase;
-use crate::mender::Mend;
 use dtx_laws::{TooMany, Whitener};
 use dtx_outer::whiten;
 use dtx_receiver::{Batch, MOST_RECEIVED, Received};

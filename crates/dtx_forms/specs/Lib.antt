@@ -2,7 +2,6 @@ pub mod Answers
 pub mod Capture
 pub mod Combine
 pub mod Damaged
-pub mod DamagedLaws
 pub mod Job
 pub mod Logged
 pub mod OfWords

@@ -28,9 +28,10 @@ impl<'a, E: Engine> DamagedInput<'a, E> {
 }
 
 impl<E: Engine> Engine for DamagedInput<'_, E> {
-    ghost use Rattle.std.specs.Prelude.{List, ℕ};
-    ghost use Rattle.dtx_make.specs.Hurt.{AreInOrder, hurt};
-    ghost use Rattle.dtx_forms.specs.DamagedLaws.{hurt_starts, hurt_grows};
+    ghost use Rattle.std.proofs.Common.{List, ℕ, ◌%◌, length, sym, ap, subst, ◌∙◌};
+    ghost use Rattle.dtx_make.specs.Hurt.{AreInOrder, damaged_bytes, hurt};
+    ghost use Rattle.dtx_make.proofs.LaidLemmas.{hurt-append, hurt_none, length-hurt};
+    ghost use Rattle.dtx_engine.specs.Made.{AreFrontsOf};
 
     ghost shape = { E.shape };
 
@@ -72,7 +73,10 @@ impl<E: Engine> Engine for DamagedInput<'_, E> {
         self.engine.log()
     }
 
-    ghost starts = { λ s. hurt_starts s.damage.now (E.recipe s.engine) (E.starts s.engine) };
+    ghost starts = { λ s. ap (E.recipe s.engine).made (hurt_none s.damage.now) ∙ E.starts s.engine };
 
-    ghost grows = { λ s. hurt_grows s.damage.now (E.recipe s.engine) E.shape.unit (E.grows s.engine) };
+    ghost grows = { λ s a b whole. subst (λ (z : List ℕ). AreFrontsOf ((E.recipe s.engine).made (hurt s.damage.now a))
+        ((E.recipe s.engine).made z)) (sym (hurt-append s.damage.now a b))
+        (E.grows s.engine (hurt s.damage.now a) (damaged_bytes s.damage.now (length a) b)
+        (ap (λ n. n % E.shape.unit) (length-hurt s.damage.now a) ∙ whole)) };
 }

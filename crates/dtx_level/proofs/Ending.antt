@@ -19,7 +19,7 @@ use Rattle.dtx_level.specs.Leveller.{Holding, StandsFor, all_given, as_list, whe
 use Rattle.dtx_level.specs.Leveller.{Leaves, places_of, shown, are_some, closed, cleared, stretched}
 use Rattle.dtx_level.specs.Measures.{later_by, measure_at, measures_rest, measures_where}
 use Rattle.dtx_level.specs.Shown.{shows}
-use Rattle.dtx_level.specs.ShownLaws.{past_end}
+use Rattle.dtx_level.proofs.Shows.{past_end}
 use Rattle.dtx_level.specs.Syncs.{all_syncs, slips_behind, syncs_where, slips}
 use Rattle.dtx_level.specs.declared.measure.Measure.{Measure}
 

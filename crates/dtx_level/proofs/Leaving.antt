@@ -17,7 +17,7 @@ use Rattle.dtx_level.specs.Leveller.{Holding, where_wanted, IsTally, slip_after,
 use Rattle.dtx_level.specs.Leveller.{fed, step_at, step_to, stretched}
 use Rattle.dtx_level.specs.Measures.{later_by, measure_at, measures_where}
 use Rattle.dtx_level.specs.Shown.{least_shown, shows}
-use Rattle.dtx_level.specs.ShownLaws.{past_end}
+use Rattle.dtx_level.proofs.Shows.{past_end}
 use Rattle.dtx_level.specs.Syncs.{behind}
 use Rattle.dtx_level.specs.declared.measure.Measure.{Measure}
 

@@ -7,10 +7,10 @@ use Rattle.std.proofs.lemmas.Bool.{le-leb, lt-leb, true≢false}
 use Rattle.std.proofs.lemmas.List.{get_or_append_left, length-take-le, take-append-drop}
 use Rattle.dtx_lists.proofs.Range.{map-range_same}
 use Rattle.dtx_acquire.specs.Agreement.{are_unlike, is_plus, sync_sign, unlike, unlike_at}
+use Rattle.dtx_acquire.specs.Places.{NeedsSegment}
 use Rattle.dtx_acquire.proofs.PlacesLemmas.{least_behind, whole_there}
 use Rattle.dtx_acquire.proofs.SyncsLemmas.{order_behind, symbol_behind, unlike_behind}
 use Rattle.dtx_level.specs.Shown.{are_shown, constant, counted_at, gain, least_shown, shows, sum_where, total}
-use Rattle.dtx_level.specs.ShownLaws.{past_end}
 
 -- ---- a place and the segment there
 
@@ -21,6 +21,12 @@ shows_by symbols place n g l e f =
     ap₂ are_shown e f
     ∙ sym (ap (λ b. b && are_shown (unlike symbols place 0 515) (gain symbols place))
     (le-leb (place + 832) (length symbols) l))
+
+-- no place shows a sync at which there is no segment
+pub past_end : NeedsSegment shows
+unfolding shows
+past_end symbols place l =
+    ap (λ b. b && are_shown (unlike symbols place 0 515) (gain symbols place)) (lt-leb (place + 832) (length symbols) l)
 
 -- ---- in front of more
 

@@ -7,7 +7,7 @@ use Rattle.dtx_acquire.specs.Acquired.{due, is_met}
 use Rattle.dtx_acquire.proofs.PlacesLemmas.{least_gives, least_here, least_skip, whole_there}
 use Rattle.dtx_acquire.proofs.SyncsLemmas.{met_behind}
 use Rattle.dtx_level.specs.Shown.{least_shown, shows}
-use Rattle.dtx_level.specs.ShownLaws.{past_end}
+use Rattle.dtx_level.proofs.Shows.{past_end}
 use Rattle.dtx_level.specs.Syncs.{all_syncs, behind, syncs_from, syncs_where}
 use Rattle.dtx_level.proofs.Shows.{least_shown_behind, shows_behind}
 

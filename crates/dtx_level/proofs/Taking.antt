@@ -14,7 +14,7 @@ use Rattle.dtx_level.specs.Leveller.{Holding, StandsFor, all_given, as_list, tak
 use Rattle.dtx_level.specs.Leveller.{fed, found, passed, settled, sought, sought_at, step_at}
 use Rattle.dtx_level.specs.Measures.{measures_so_far}
 use Rattle.dtx_level.specs.Shown.{least_shown, shows}
-use Rattle.dtx_level.specs.ShownLaws.{past_end}
+use Rattle.dtx_level.proofs.Shows.{past_end}
 use Rattle.dtx_level.specs.declared.measure.Measure.{Measure}
 
 -- What a part of a call does. It lets more symbols go, and measures no sync or one. Let earlier calls (`before`) and

@@ -14,7 +14,7 @@ use Rattle.dtx_acquire.proofs.SentLemmas.{sent_front, symbol_there, symbols_smal
 use Rattle.dtx_acquire.proofs.PlacesLemmas.{least_here}
 use Rattle.dtx_level.specs.declared.measure.Measure.{Measure}
 use Rattle.dtx_level.specs.Shown.{least_shown, shows}
-use Rattle.dtx_level.specs.ShownLaws.{past_end}
+use Rattle.dtx_level.proofs.Shows.{past_end}
 use Rattle.dtx_level.specs.Syncs.{all_syncs, behind, slips, slips_behind, syncs_from, syncs_where}
 use Rattle.dtx_level.specs.Levelled.{By, by_sync, level, levelled, levelled_behind, nothing, stretches, where_some}
 use Rattle.dtx_level.specs.Measures.{constant_in_hundredths, gain_in_hundredths, levelled_sync, measure_at}

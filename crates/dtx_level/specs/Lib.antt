@@ -1,5 +1,4 @@
 pub mod Shown
-pub mod ShownLaws
 pub mod Syncs
 pub mod Levelled
 pub mod Measures

@@ -1,6 +1,7 @@
 //! Levels symbols and gives them out.
 
 ghost use Rattle.std.specs.Prelude.{◌≡◌, ◌≤◌, false, IfOk, length, map, take, drop, vec_len};
+ghost use Rattle.dtx_acquire.specs.declared.symbol_window.TheConstants.{MOST_HELD};
 ghost use Rattle.dtx_level.specs.Levelled.{level};
 
 use crate::levels::Levels;
@@ -14,8 +15,8 @@ pub(crate) struct Giver {
     pub(crate) levels: Levels,
     pub(crate) given: Vec<i8>,
     pub(crate) count: usize,
-    ghost long: { vec_len given ≡ 261248 },
-    ghost few: { count ≤ 261248 },
+    ghost long: { vec_len given ≡ MOST_HELD },
+    ghost few: { count ≤ MOST_HELD },
 }
 
 impl Giver {

@@ -39,6 +39,8 @@ pub struct Leveller {
 
 impl Model for Leveller {
     ghost use Rattle.std.specs.Prelude.{◌≡◌, ◌+◌, ◌*◌, ◌≤◌, true, length, take};
+    ghost use Rattle.dtx_sizes.specs.declared.limits.TheConstants.{MOST_SYMBOLS};
+    ghost use Rattle.dtx_sizes.specs.declared.segments.TheConstants.{SEGMENT};
     ghost use Rattle.dtx_level.specs.Shown.{shows};
     ghost use Rattle.dtx_level.specs.Leveller.{Holding};
 
@@ -62,7 +64,7 @@ impl Model for Leveller {
       last = a.tally.last;
     } };
 
-    ghost invariant = { λ a. (832 * a.tally.syncs + length a.held ≤ a.symbols) × (a.symbols ≤ 520832000000)
+    ghost invariant = { λ a. (SEGMENT * a.tally.syncs + length a.held ≤ a.symbols) × (a.symbols ≤ MOST_SYMBOLS)
         × (a.tally.slips ≤ a.tally.syncs) × (a.tally.last + length a.held ≤ a.symbols)
         × (a.silent + length a.held ≤ a.symbols) × (a.on ≡ true → shows a.held 0 ≡ true) };
 }
@@ -195,6 +197,7 @@ impl Leveller {
 
     /// Looks for a sync, unless one is in front. Lets the symbols before the sync go. Where there is none, lets all
     /// symbols go at which no sync can begin.
+    #[tactic(auto, using(crate::proofs::Shows::past_end))]
     fn seek(&mut self)
         ensures { self.new ≡ sought self.old }
     {

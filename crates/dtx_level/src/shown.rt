@@ -2,7 +2,6 @@
 
 ghost use Rattle.std.specs.Prelude.{◌≡◌};
 ghost use Rattle.dtx_level.specs.Shown.{are_shown, shows};
-ghost use Rattle.dtx_level.specs.ShownLaws.{past_end};
 
 use crate::pattern::Pattern;
 use dtx_acquire::{MAY_BE_UNLIKE, SyncTest};
@@ -21,8 +20,6 @@ impl SyncTest for Pattern {
         }
         are_shown(count, self.standing(symbols, place).gain)
     }
-
-    ghost whole = { past_end };
 }
 
 /// Whether `count` other signs among 515 show a sync at this gain: few where the gain is above 0, or most where it is

@@ -21,6 +21,7 @@ pub(crate) struct Step {
 /// The step of the sync in front of the symbols. The next sync is where it is due, if one is there. Else it is at the
 /// least place behind this sync's segment. Where no next sync is found, this sync levels all symbols but the last 831,
 /// at which a sync may begin.
+#[tactic(auto, using(crate::proofs::Shows::past_end))]
 pub(crate) fn step_of(pattern: &Pattern, symbols: &[i8]) -> Step
     requires { length symbols.now ≡ MOST_HELD }
     ensures step { result ≡ step_at symbols.now }

@@ -4,6 +4,7 @@ ghost use Rattle.std.specs.Prelude.{◌≡◌, ◌+◌, ◌≤◌};
 ghost use Rattle.dtx_level.specs.Leveller.{slip_after};
 
 use crate::step::DUE;
+use dtx_sizes::MOST_SYMBOLS;
 
 /// How many syncs were measured, how many of them don't lie a multiple of 313 segments behind the one before, and the
 /// place of the last.
@@ -33,7 +34,7 @@ impl Tally {
         requires behind { self.old.last ≤ place }
         requires few { self.old.syncs ≤ place }
         requires fewer { self.old.slips ≤ self.old.syncs }
-        requires most { place ≤ 520832000000 }
+        requires most { place ≤ MOST_SYMBOLS }
         ensures syncs { self.new.syncs ≡ self.old.syncs + 1 }
         ensures slips { self.new.slips ≡ self.old.slips + slip_after self.old.syncs self.old.last place }
         ensures fewer { self.new.slips ≤ self.old.slips + 1 }

@@ -8,5 +8,4 @@ pub mod Feeding
 pub mod PlacedBytes
 pub mod PlacedCounts
 pub mod PlacedPackets
-pub mod PlacedTally
 pub mod Recipe

@@ -1,24 +1,34 @@
--- How many placeholders are put, and how many fields are left without one, as the packets come.
-use Rattle.std.proofs.Common.{◌≡◌, ◌≢◌, ℕ, ◌+◌, ◌*◌, ◌/◌, ◌%◌, ◌≤◌, Bool, true, false, not}
-use Rattle.std.proofs.Common.{List, [], ◌∷◌, ◌++◌, length, map, refl, ap, ◌∙◌, arith}
+-- What is counted while placeholders are put, a packet at a time.
+use Rattle.std.proofs.Common.{◌≡◌, ℕ, zero, suc, ◌+◌, ◌*◌, ◌/◌, ◌%◌, ◌≤◌, Bool, true, false, not, ◌&&◌, ◌||◌, ◌==◌, ◌<◌, ◌^◌}
+use Rattle.std.proofs.Common.{Fits, w64, List, [], ◌∷◌, ◌++◌, length, map, refl, sym, ap, ap₂, ◌∙◌, arith, nat_le, inl, inr}
 use Rattle.std.specs.Prelude.{if◌then◌else◌, count_by}
+use mir.Val.{bool_byte}
 use Rattle.std.specs.List.{list_any, range_with_len}
+use Rattle.std.proofs.lemmas.Bool.{cases_lt, cases_eq, eq-eqb, ne_eqb, le-leb, lt-leb}
 use Rattle.std.proofs.lemmas.List.{length-append}
-use Rattle.std.proofs.lemmas.List.FromFn.{length-map-range_with_len, sum_by-map-range_with_len_more}
+use Rattle.std.proofs.lemmas.List.FromFn.{sum_by-map-range_with_len_more}
 use Rattle.std.proofs.lemmas.List.Sums.{count_by-le-length, sum_by-append}
-use Rattle.dtx_lists.proofs.Range.{map-range_same}
 use Rattle.dtx_adapter.specs.Feed.{is_placeholder}
-use Rattle.dtx_recipes.specs.Place.{bare_fields, becomes, becoming, behind, fields, placed_count}
-use Rattle.dtx_packet_jobs.proofs.PlacedPackets.{behind_same, length-scanned}
-use Rattle.dtx_packet_jobs.proofs.PlacedPackets.{scanned-next}
+use Rattle.dtx_packet_jobs.specs.declared.placing.Placing.{Placing}
+use Rattle.dtx_packet_jobs.specs.Placing.{IsCounted, closed_fields}
+use Rattle.dtx_recipes.specs.Place.{bare_fields, becomes, becoming, behind, fields, is_null, is_open, placed}
+use Rattle.dtx_recipes.specs.Place.{placed_count}
+use Rattle.dtx_packets.specs.Packet.{pid_of}
+use Rattle.dtx_packet_jobs.proofs.PlacedPackets.{any_more, any_same, behind_none, behind_same, length-placed}
+use Rattle.dtx_packet_jobs.proofs.PlacedPackets.{length-scanned, scanned-next}
 
 -- ---- placeholders
 
 abbrev pub one_if : Bool → ℕ
 one_if test = if test then 1 else 0
 
-abbrev pub one_unless : Bool → ℕ
-one_unless test = if test then 0 else 1
+pub one_if_is : (test : Bool) → bool_byte test ≡ one_if test
+one_if_is true = refl
+one_if_is false = refl
+
+pub fits_with : (n : ℕ) (test : Bool) → n + 1 < 2 ^ 64 → Fits w64 (n + bool_byte test)
+fits_with n true small = omega (arith, small)
+fits_with n false small = omega (arith, small)
 
 pub placed_count-next : (packets : List (List ℕ)) (packet : List ℕ)
     → placed_count (packets ++ packet ∷ []) ≡ placed_count packets + (if becomes packets packet then 1 else 0)
@@ -36,69 +46,132 @@ unfolding placed_count
 placed_count-most packets =
     omega (arith, count_by-le-length (λ (c : Bool). c) (becoming packets), length-scanned becomes [] packets)
 
--- ---- bare fields
+-- ---- fields without one
 
--- how many of the first fields are bare
-abbrev pub bare_first : List (List ℕ) → ℕ → ℕ
-bare_first packets count =
-    count_by (λ rest. not (list_any is_placeholder rest)) (map (behind packets) (range_with_len 0 count))
+closed_fields-same : (packets : List (List ℕ)) (packet : List ℕ) (count : ℕ) → 312 * count ≤ length packets
+    → closed_fields (packets ++ packet ∷ []) count ≡ closed_fields packets count
+closed_fields-same packets packet zero ended = refl
+closed_fields-same packets packet (suc f) ended =
+    ap₂ (λ (k : ℕ) (rest : List (List ℕ)). k + one_if (not (list_any is_open rest)))
+    (closed_fields-same packets packet f (omega (arith, ended))) (behind_same packets packet f (omega (arith, ended)))
 
-bare_first-more : (packets : List (List ℕ)) (f : ℕ)
-    → bare_first packets (f + 1) ≡ bare_first packets f + (if list_any is_placeholder (behind packets f) then 0 else 1)
-bare_first-more packets f =
-    sum_by-map-range_with_len_more (λ (rest : List (List ℕ)). if not (list_any is_placeholder rest) then 1 else 0)
-    (behind packets) 0 f f (omega arith)
-    ∙ ap (λ (k : ℕ). bare_first packets f + k) (turned (list_any is_placeholder (behind packets f)))
+pub closed_fields-most : (packets : List (List ℕ)) (count : ℕ) → closed_fields packets count ≤ count
+closed_fields-most packets zero = omega arith
+closed_fields-most packets (suc f) =
+    omega (arith, closed_fields-most packets f, one_most (not (list_any is_open (behind packets f))))
   where
-    turned : (t : Bool) → one_if (not t) ≡ one_unless t
-    turned true = refl
-    turned false = refl
+    one_most : (t : Bool) → one_if t ≤ 1
+    one_most true = omega arith
+    one_most false = omega arith
 
-bare_first-same : (packets : List (List ℕ)) (packet : List ℕ) (count : ℕ) → 312 * count ≤ length packets
-    → bare_first (packets ++ packet ∷ []) count ≡ bare_first packets count
-bare_first-same packets packet count ended =
-    ap (count_by (λ (rest : List (List ℕ)). not (list_any is_placeholder rest)))
-    (map-range_same (behind (packets ++ packet ∷ [])) (behind packets) 0 count
-    (λ f _ within. behind_same packets packet f (omega (arith, within, ended))))
+-- they are left without a placeholder
+closed_fields-bare : (packets : List (List ℕ)) (count : ℕ)
+    → count_by (λ rest. not (list_any is_placeholder rest)) (map (behind (placed packets)) (range_with_len 0 count))
+    ≡ closed_fields packets count
+closed_fields-bare packets zero = refl
+closed_fields-bare packets (suc f) =
+    let more : suc f ≡ f + 1 = omega arith in
+    ap (λ (n : ℕ). count_by (λ rest. not (list_any is_placeholder rest))
+    (map (behind (placed packets)) (range_with_len 0 n))) more
+    ∙ sum_by-map-range_with_len_more (λ (rest : List (List ℕ)). one_if (not (list_any is_placeholder rest)))
+    (behind (placed packets)) 0 f f (omega arith)
+    ∙ ap₂ (λ (k : ℕ) (t : Bool). k + one_if (not t)) (closed_fields-bare packets f) (any_same packets f)
 
-pub bare_fields-most : (packets : List (List ℕ)) → bare_fields packets ≤ length packets
+-- what is counted, and the field that is under way
+pub bare_is : (s : Placing) (packets : List (List ℕ)) (units : ℕ) → IsCounted s packets → units ≡ length packets
+    → s.bare + bool_byte (not (units % 312 == 0) && not s.found) ≡ bare_fields (placed packets)
 unfolding bare_fields
-bare_fields-most packets =
-    omega (
-      arith,
-      count_by-le-length (λ rest. not (list_any is_placeholder rest))
-          (map (behind packets) (range_with_len 0 (fields packets))),
-      length-map-range_with_len (behind packets) 0 (fields packets),
-    )
-
--- where a field is under way
-pub bare_fields_going : (packets : List (List ℕ)) → length packets % 312 ≢ 0
-    → bare_fields packets ≡ bare_first packets (length packets / 312)
-    + (if list_any is_placeholder (behind packets (length packets / 312)) then 0 else 1)
-unfolding bare_fields
-bare_fields_going packets some =
+bare_is s packets units counted all =
     let f = length packets / 312 in
-    let count : fields packets ≡ f + 1 = omega (arith, some) in
-    ap (bare_first packets) count ∙ bare_first-more packets f
+    elim (cases_eq (units % 312) 0) [
+      | inl none ↦
+          let count : fields (placed packets) ≡ f = omega (arith, length-placed packets, all, none) in
+          ap (λ (b : Bool). s.bare + bool_byte (not b && not s.found)) (eq-eqb (units % 312) 0 none)
+          ∙ (let e : s.bare + 0 ≡ s.bare = omega arith in e) ∙ counted.without
+          ∙ sym (ap bare_first count ∙ closed_fields-bare packets f)
+      | inr some ↦
+          let count : fields (placed packets) ≡ suc f = omega (arith, length-placed packets, all, some) in
+          ap (λ (b : Bool). s.bare + bool_byte (not b && not s.found)) (ne_eqb (units % 312) 0 some)
+          ∙ ap (λ (m : ℕ). s.bare + m) (one_if_is (not s.found))
+          ∙ ap₂ (λ (k : ℕ) (b : Bool). k + one_if (not b)) counted.without counted.field
+          ∙ sym (ap bare_first count ∙ closed_fields-bare packets (suc f))
+    ]
+  where
+    bare_first : ℕ → ℕ
+    bare_first count = count_by (λ rest. not (list_any is_placeholder rest))
+        (map (behind (placed packets)) (range_with_len 0 count))
 
--- where none is
-pub bare_fields_between : (packets : List (List ℕ)) → length packets % 312 ≡ 0
-    → bare_fields packets ≡ bare_first packets (length packets / 312)
-unfolding bare_fields
-bare_fields_between packets none =
-    let count : fields packets ≡ length packets / 312 = omega (arith, none) in
-    ap (bare_first packets) count
+-- ---- one packet more, at this place of its field
 
--- one packet more
-pub bare_fields-next : (packets : List (List ℕ)) (packet : List ℕ)
-    → bare_fields (packets ++ packet ∷ []) ≡ bare_first packets (length packets / 312)
-    + (if list_any is_placeholder (behind (packets ++ packet ∷ []) (length packets / 312)) then 0 else 1)
-unfolding bare_fields
-bare_fields-next packets packet =
-    let n = length packets in
-    let f = n / 312 in
+-- whether the field has one in whose place a placeholder may stand
+found_next : (packets : List (List ℕ)) (packet : List ℕ) (place : ℕ) → place ≡ length packets % 312
+    → list_any is_open (behind (packets ++ packet ∷ []) (length packets / 312))
+    ≡ (list_any is_open (behind packets (length packets / 312)) || (nat_le 52 place && is_open packet))
+found_next packets packet place at =
+    let f = length packets / 312 in
+    let any = list_any is_open (behind packets f) in
+    elim (cases_lt place 52) [
+      | inl early ↦
+          ap (list_any is_open) (behind_none (packets ++ packet ∷ []) f
+          (omega (arith, length-append packets (packet ∷ []), at, early)))
+          ∙ sym (ap (λ (b : Bool). any || (b && is_open packet)) (lt-leb 52 place early)
+          ∙ ap (λ (rest : List (List ℕ)). list_any is_open rest || false)
+          (behind_none packets f (omega (arith, at, early))))
+      | inr late ↦
+          any_more is_open packets packet f (omega (arith, at, late)) (omega arith)
+          ∙ sym (ap (λ (b : Bool). any || (b && is_open packet)) (le-leb 52 place late))
+    ]
+
+-- whether it becomes a placeholder
+pub becomes_is : (s : Placing) (packets : List (List ℕ)) (packet : List ℕ) (place pid : ℕ) → IsCounted s packets
+    → place ≡ length packets % 312 → pid ≡ pid_of packet
+    → becomes packets packet ≡ ((pid == 0x1FFF) && (nat_le 52 place && not s.found))
+unfolding becomes
+becomes_is s packets packet place pid counted at is =
+    sym (ap₂ (λ (q p : ℕ). (q == 0x1FFF) && (nat_le 52 p && not s.found)) is at
+    ∙ ap (λ (b : Bool). is_null packet && (nat_le 52 (length packets % 312) && not b)) counted.field)
+
+-- it is counted; the last one of a field ends it
+pub counted-next : (s t : Placing) (packets : List (List ℕ)) (packet : List ℕ) (place : ℕ) (found : Bool)
+    → IsCounted s packets → place ≡ length packets % 312
+    → found ≡ (s.found || (nat_le 52 place && is_open packet))
+    → t.placed ≡ s.placed + bool_byte (becomes packets packet)
+    → t.bare ≡ s.bare + bool_byte ((place == 311) && not found)
+    → t.found ≡ (not (place == 311) && found) → IsCounted t (packets ++ packet ∷ [])
+counted-next s t packets packet place found counted at is placed_is bare_is found_is =
+    let f = length packets / 312 in
     let all = packets ++ packet ∷ [] in
-    let count : fields all ≡ f + 1 = omega (arith, length-append packets (packet ∷ [])) in
-    ap (bare_first all) count ∙ bare_first-more all f
-    ∙ ap (λ (k : ℕ). k + (if list_any is_placeholder (behind all f) then 0 else 1))
-    (bare_first-same packets packet f (omega arith))
+    let more : length all ≡ length packets + 1 = length-append packets (packet ∷ []) in
+    let changed : t.placed ≡ placed_count all = placed_is
+    ∙ ap₂ (λ (k m : ℕ). k + m) counted.changed (one_if_is (becomes packets packet))
+    ∙ sym (placed_count-next packets packet) in
+    let any : found ≡ list_any is_open (behind all f) = is
+    ∙ ap (λ (b : Bool). b || (nat_le 52 place && is_open packet)) counted.field
+    ∙ sym (found_next packets packet place at) in
+    let before : s.bare ≡ closed_fields all f = counted.without
+    ∙ sym (closed_fields-same packets packet f (omega arith)) in
+    elim (cases_eq place 311) [
+      | inl ends ↦
+          let field : length all / 312 ≡ suc f = omega (arith, more, at, ends) in
+          record {
+            changed = changed;
+            without = bare_is
+                ∙ ap (λ (b : Bool). s.bare + bool_byte (b && not found)) (eq-eqb place 311 ends)
+                ∙ ap (λ (m : ℕ). s.bare + m) (one_if_is (not found))
+                ∙ ap₂ (λ (k : ℕ) (b : Bool). k + one_if (not b)) before any
+                ∙ sym (ap (closed_fields all) field);
+            field = found_is ∙ ap (λ (b : Bool). not b && found) (eq-eqb place 311 ends)
+                ∙ sym (ap (list_any is_open) (behind_none all (length all / 312) (omega (arith, more, at, ends))));
+          }
+      | inr going ↦
+          let field : length all / 312 ≡ f = omega (arith, more, at, going) in
+          record {
+            changed = changed;
+            without = bare_is
+                ∙ ap (λ (b : Bool). s.bare + bool_byte (b && not found)) (ne_eqb place 311 going)
+                ∙ (let e : s.bare + 0 ≡ s.bare = omega arith in e) ∙ before
+                ∙ sym (ap (closed_fields all) field);
+            field = found_is ∙ ap (λ (b : Bool). not b && found) (ne_eqb place 311 going) ∙ any
+                ∙ sym (ap (λ (g : ℕ). list_any is_open (behind all g)) field);
+          }
+    ]

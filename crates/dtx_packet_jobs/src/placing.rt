@@ -1,9 +1,6 @@
 // The engine of `place`: turns null packets into placeholders, at most one in each field.
-ghost use Rattle.std.specs.Prelude.{◌≡◌, ◌≢◌, ◌+◌, ◌-◌, ◌<◌, ◌^◌, ◌==◌, ◌&&◌, ◌||◌, not, nat_le};
-ghost use Rattle.std.specs.Prelude.{false, if◌then◌else◌, length};
-ghost use Rattle.dtx_adapter.specs.Feed.{is_placeholder};
+ghost use Rattle.std.specs.Prelude.{◌≡◌, ◌<◌, true, if◌then◌else◌, length};
 ghost use Rattle.dtx_packets.specs.Packet.{pid_of};
-ghost use Rattle.dtx_recipes.specs.Place as place;
 ghost use Rattle.dtx_recipes.specs.Place.{as_placeholder};
 
 use dtx_engine::{Change, Shape};
@@ -14,40 +11,18 @@ use dtx_sizes::{FIELD_PACKETS, FLUSHING_PACKETS, NULL_PID, OPERATIONS_PID, SYNC}
 /// The first place of a field at which a placeholder is put, counted in packets from the field's first.
 const FIRST_PLACE: u64 = FLUSHING_PACKETS as u64;
 
+/// The last place of a field.
+const LAST_PLACE: u64 = FIELD_PACKETS as u64 - 1;
+
 /// Turns null packets into placeholders, and counts them.
 #[derive(Clone, Copy)]
 pub(crate) struct Placing {
     /// The number of packets that became placeholders.
     placed: u64,
-    /// The number of fields begun that have no placeholder so far.
+    /// The number of whole fields that have no placeholder.
     bare: u64,
-    /// Whether the current field has one already.
+    /// Whether the field that is under way has a packet, from place 52 on, in whose place a placeholder may stand.
     found: bool,
-}
-
-impl Placing {
-    /// Counts the packet at this place of its field. Returns whether it is the field's first packet, from place 52 on,
-    /// in whose place a placeholder may stand.
-    fn meets(&mut self, place: u64, vacant: bool) -> bool
-        requires room { self.old.bare < 2 ^ 64 - 1 }
-        requires some { place ≢ 0 → self.old.found ≡ false → 0 < self.old.bare }
-        ensures first { result ≡ (nat_le FIRST_PLACE place && (vacant && not self.old.found)) }
-        ensures found { self.new.found
-            ≡ ((not (place == 0) && self.old.found) || (nat_le FIRST_PLACE place && vacant)) }
-        ensures bare { self.new.bare + (if result then 1 else 0) ≡ self.old.bare + (if place == 0 then 1 else 0) }
-        ensures placed { self.new.placed ≡ self.old.placed }
-    {
-        if place == 0 {
-            self.bare += 1;
-            self.found = false;
-        }
-        let first = place >= FIRST_PLACE && vacant && !self.found;
-        if first {
-            self.bare -= 1;
-            self.found = true;
-        }
-        first
-    }
 }
 
 impl Change for Placing {
@@ -75,19 +50,25 @@ impl Change for Placing {
     }
 
     fn change(&mut self, index: u64, unit: &mut [u8]) {
-        let null = is_null(unit);
-        let first = self.meets(index % FIELD_PACKETS as u64, is_open(unit));
-        let becomes = first & null;
-        if becomes {
-            become_placeholder(unit);
-            self.placed += 1;
-        }
+        let place = index % FIELD_PACKETS as u64;
+        let pid = pid(unit);
+        let null = pid == NULL_PID;
+        let late = place >= FIRST_PLACE;
+        let becomes = null & (late & !self.found);
+        let found = self.found | (late & (null | (pid == OPERATIONS_PID)));
+        let ends = place == LAST_PLACE;
+        self.bare += (ends & !found) as u64;
+        self.found = !ends & found;
+        self.placed += becomes as u64;
+        become_placeholder(becomes, unit);
     }
 
     fn finish(&self, units: u64, loose: usize) -> Outcome {
+        let going = units % FIELD_PACKETS as u64 != 0;
+        let bare = self.bare + (going & !self.found) as u64;
         Outcome {
             status: Status::Done,
-            numbers: [units, self.placed, self.bare, loose as u64, 0, 0, 0],
+            numbers: [units, self.placed, bare, loose as u64, 0, 0, 0],
             shown: 4,
         }
     }
@@ -110,22 +91,6 @@ impl Changing for Placing {
     ghost knows = { place_knows };
 }
 
-/// Whether a placeholder may stand in the place of a packet: it is a null packet, or a placeholder already.
-fn is_open(packet: &[u8]) -> bool
-    requires { 2 < length packet.now }
-    ensures { result ≡ place.is_open packet.now }
-{
-    is_null(packet) | (pid(packet) == OPERATIONS_PID)
-}
-
-/// Whether the packet is a null packet.
-fn is_null(packet: &[u8]) -> bool
-    requires { 2 < length packet.now }
-    ensures { result ≡ place.is_null packet.now }
-{
-    pid(packet) == NULL_PID
-}
-
 /// The packet identifier of a packet.
 fn pid(packet: &[u8]) -> u16
     requires { 2 < length packet.now }
@@ -134,12 +99,14 @@ fn pid(packet: &[u8]) -> u16
     u16::from_be_bytes([packet[1] & 0x1F, packet[2]])
 }
 
-/// Gives a null packet the packet identifier of a placeholder.
+/// Gives a null packet the packet identifier of a placeholder, if it `becomes` one.
 #[tactic(auto, unfolding(dtx_recipes::specs::Place::as_placeholder))]
-fn become_placeholder(packet: &mut [u8])
-    requires null { pid_of packet.old ≡ NULL_PID }
+fn become_placeholder(becomes: bool, packet: &mut [u8])
+    requires null { becomes ≡ true → pid_of packet.old ≡ NULL_PID }
     requires long { 2 < length packet.old }
-    ensures { packet.new ≡ as_placeholder packet.old }
+    ensures { packet.new ≡ (if becomes then as_placeholder packet.old else packet.old) }
 {
-    packet[2] -= (NULL_PID - OPERATIONS_PID) as u8;
+    if becomes {
+        packet[2] -= (NULL_PID - OPERATIONS_PID) as u8;
+    }
 }

@@ -1,7 +1,7 @@
 //! Worked words, and words damaged at marked and unmarked places.
 
 use crate::expect::expect_none;
-use dtx_erase::{Erase, Mend};
+use dtx_erase::Erase;
 use dtx_laws::TooMany;
 
 /// The code of the air.

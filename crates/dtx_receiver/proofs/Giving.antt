@@ -4,7 +4,7 @@ use Rattle.std.proofs.Common.{subst, append_assoc, lit<, arith}
 use Rattle.dtx_laws.specs.Codeword.{distance}
 use Rattle.dtx_laws.specs.Whitening.{whitened}
 use Rattle.dtx_whiten.specs.Randomizer.{randomizer_bytes}
-use Rattle.dtx_whiten.specs.BytesLaws.{length-randomizer_bytes}
+use Rattle.dtx_whiten.proofs.BytesLemmas.{length-randomizer_bytes}
 use Rattle.dtx_outer.specs.Inner.{IsTaken}
 use Rattle.dtx_outer.proofs.MadeLemmas.{IsTold, made_told}
 use Rattle.dtx_outer.specs.declared.inner.Taken.{Taken}

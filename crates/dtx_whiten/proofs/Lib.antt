@@ -1,4 +1,4 @@
 pub mod PacketsLemmas
 pub mod Division
 pub mod Shifts
-pub mod Bytes
+pub mod BytesLemmas

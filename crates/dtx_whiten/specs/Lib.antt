@@ -1,3 +1,2 @@
 pub mod Randomizer
 pub mod Randomized
-pub mod BytesLaws

@@ -1,10 +1,11 @@
 //! The randomizer's bytes, made once.
 
-ghost use Rattle.std.specs.Prelude.{◌≡◌, ◌*◌, IfOk, vec_len};
+ghost use Rattle.std.specs.Prelude.{◌≡◌, ◌*◌, ◌<◌, EachIndex, IfOk, length, slice_index};
+ghost use Rattle.std.proofs.Common.{lit<};
+ghost use Rattle.dtx_galois.proofs.BytesLemmas.{AreBytes-from_places};
 ghost use Rattle.dtx_sizes.specs.declared.fields.TheConstants.{FIELD_PACKETS};
 ghost use Rattle.dtx_sizes.specs.declared.packets.TheConstants.{PACKET_DATA};
 ghost use Rattle.dtx_whiten.specs.Randomizer.{randomizer_bytes};
-ghost use Rattle.dtx_whiten.specs.BytesLaws.{all_long, all_are_bytes, period_fits};
 
 use crate::register::{PRELOAD, shifted, tapped};
 use dtx_laws::Whitener;
@@ -15,8 +16,9 @@ use std::alloc::{AllocError, Global};
 #[derive(Drop)]
 pub struct Atsc {
     bytes: Vec<u8>,
-    ghost long: { vec_len bytes ≡ PACKET_DATA * FIELD_PACKETS },
+    ghost long: { length bytes.items ≡ PACKET_DATA * FIELD_PACKETS },
     ghost all: { bytes.items ≡ randomizer_bytes },
+    ghost small: { EachIndex bytes.items (λ i. slice_index bytes.items i < 256) },
 }
 
 impl Whitener for Atsc {
@@ -30,11 +32,11 @@ impl Whitener for Atsc {
         self.bytes[at]
     }
 
-    ghost long = { λ atsc. all_long atsc.bytes.items atsc.all };
+    ghost long = { λ atsc. atsc.long };
 
-    ghost are_bytes = { λ atsc. all_are_bytes atsc.bytes.items atsc.all };
+    ghost are_bytes = { λ atsc. AreBytes-from_places atsc.bytes.items atsc.small };
 
-    ghost fits = { period_fits };
+    ghost fits = { lit< tt };
 }
 
 impl Atsc {

@@ -6,8 +6,8 @@ use Rattle.dtx_acquire.proofs.searching.search.Goals as goal
 
 pub returns-then-symbols-from-lt-SEGMENT : goal.returns-then-symbols-from-lt-SEGMENT
 returns-then-symbols-from-lt-SEGMENT g c =
-    sym (least_none g.T.SyncTest.passes g.met.T.SyncTest.whole c.args.symbols.now c.args.from
-    (λ i l m. absurd (omega (arith, c.if-symbols-from-lt-SEGMENT.true, c.requires))))
+    sym (least_none g.T.SyncTest.passes c.requires.whole c.args.symbols.now c.args.from
+    (λ i l m. absurd (omega (arith, c.if-symbols-from-lt-SEGMENT.true, c.requires.within))))
 
 pub loop-k-preserved : goal.loop-k-preserved
 loop-k-preserved g c = λ i l m n. by_place i l m n (cases_lt i (c.args.from + 64 * c.loop-k.k))
@@ -22,7 +22,7 @@ loop-k-preserved g c = λ i l m n. by_place i l m n (cases_lt i (c.args.from + 6
 
 pub returns-in-Some : goal.returns-in-Some
 returns-in-Some g c =
-    sym (least_found g.T.SyncTest.passes g.met.T.SyncTest.whole c.args.symbols.now c.args.from
+    sym (least_found g.T.SyncTest.passes c.requires.whole c.args.symbols.now c.args.from
     (c.args.from + 64 * c.loop-k.k) c.min.result c.in-Some.place (omega arith)
     (λ i l m. by_end i l m (cases_lt (i + 831) (length c.args.symbols.now)))
     (sym c.search_word.ensures ∙ c.in-Some.is))
@@ -31,9 +31,9 @@ returns-in-Some g c =
         → (i + 831 < length c.args.symbols.now) ⊎ (length c.args.symbols.now ≤ i + 831)
         → g.T.SyncTest.passes c.args.symbols.now i ≡ false
     by_end i l m (inl n) = c.loop-k.invariant i l m n
-    by_end i l m (inr n) = g.met.T.SyncTest.whole c.args.symbols.now i (omega arith)
+    by_end i l m (inr n) = c.requires.whole c.args.symbols.now i (omega arith)
 
 pub returns : goal.returns
 returns g c =
-    sym (least_none g.T.SyncTest.passes g.met.T.SyncTest.whole c.args.symbols.now c.args.from
+    sym (least_none g.T.SyncTest.passes c.requires.whole c.args.symbols.now c.args.from
     (λ i l m. c.loop-k.invariant i l (omega (arith, c.div_ceil-k-end.ensures)) m))

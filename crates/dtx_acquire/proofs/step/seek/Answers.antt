@@ -1,6 +1,6 @@
 use Rattle.std.proofs.Common.{◌≡◌, ◌+◌, ◌-◌, Some, None, drop, length, sym, ap, ◌∙◌, arith}
 use Rattle.dtx_acquire.specs.Agreement.{agrees, least_from}
-use Rattle.dtx_acquire.specs.AgreementLaws.{past_end}
+use Rattle.dtx_acquire.proofs.AgreementLemmas.{past_end}
 use Rattle.dtx_acquire.proofs.PlacesLemmas.{least_gives, least_misses, whole_there}
 use Rattle.dtx_acquire.proofs.StepsLemmas.{agrees_dropped}
 use Rattle.dtx_acquire.proofs.step.seek.Goals as goal

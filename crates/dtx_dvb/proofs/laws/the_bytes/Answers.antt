@@ -1,4 +1,4 @@
-use Rattle.dtx_dvb.specs.RandomizerLaws.{length-randomizer_bytes, get_or-randomizer_bytes, bytes_randomizer_bytes}
+use Rattle.dtx_dvb.proofs.RandomizerLemmas.{length-randomizer_bytes, get_or-randomizer_bytes, bytes_randomizer_bytes}
 use Rattle.dtx_dvb.proofs.laws.the_bytes.Goals as goal
 
 pub returns-clause-long : goal.returns-clause-long

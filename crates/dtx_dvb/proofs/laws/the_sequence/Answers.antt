@@ -1,4 +1,4 @@
-use Rattle.dtx_dvb.specs.RandomizerLaws.{length-sequence}
+use Rattle.dtx_dvb.proofs.RandomizerLemmas.{length-sequence}
 use Rattle.dtx_dvb.proofs.RandomizerLemmas.{loaded_in, sequence_rule, bit_in}
 use Rattle.dtx_dvb.proofs.laws.the_sequence.Goals as goal
 

@@ -1,7 +1,7 @@
 use Rattle.std.proofs.Common.{◌≡◌, ℕ, ◌+◌, ◌-◌, ◌*◌, ◌<◌, List, length, get_or, sym, ap, ◌∙◌, subst, arith}
 use Rattle.dtx_dvb.specs.Randomizer.{sequence, eight_bits}
 use Rattle.dtx_dvb.proofs.RandomizerLemmas.{byte_first, byte_sync, byte_else}
-use Rattle.dtx_dvb.specs.RandomizerLaws.{length-sequence, small_bits}
+use Rattle.dtx_dvb.proofs.RandomizerLemmas.{length-sequence, small_bits}
 use Rattle.dtx_dvb.proofs.randomizer.byte_at.Goals as goal
 
 pub returns-then-t-eq0 : goal.returns-then-t-eq0

@@ -2,7 +2,7 @@ use Rattle.std.proofs.Common.{◌≡◌, ℕ, ◌+◌, ◌++◌, [], ◌∷◌, 
 use Rattle.std.proofs.Common.{arith, add-one}
 use Rattle.std.proofs.lemmas.List.{get_or_default}
 use Rattle.dtx_dvb.specs.Randomizer.{loaded, sequence}
-use Rattle.dtx_dvb.specs.RandomizerLaws.{length-sequence}
+use Rattle.dtx_dvb.proofs.RandomizerLemmas.{length-sequence}
 use Rattle.dtx_dvb.proofs.RandomizerLemmas.{sequence_next}
 use Rattle.dtx_dvb.proofs.randomizer.period_bits.Goals as goal
 

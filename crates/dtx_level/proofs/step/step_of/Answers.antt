@@ -1,6 +1,5 @@
-use Rattle.std.proofs.Common.{◌≡◌, Some, None, true, sym, ap, ◌∙◌, subst, arith}
+use Rattle.std.proofs.Common.{◌≡◌, Some, sym, ap, ◌∙◌, subst, arith}
 use Rattle.std.proofs.lemmas.Bool.{cond-true, cond-false}
-use Rattle.dtx_level.specs.declared.step.Step.{Step}
 use Rattle.dtx_level.specs.Leveller.{step_at, step_to}
 use Rattle.dtx_level.specs.Shown.{shows}
 use Rattle.dtx_level.proofs.Steps.{IsStep, step_is}

@@ -1,4 +1,4 @@
-use Rattle.dtx_whiten.specs.BytesLaws.{get_or-randomizer_bytes}
+use Rattle.dtx_whiten.proofs.BytesLemmas.{get_or-randomizer_bytes}
 use Rattle.dtx_whiten.proofs.laws.bytes.Goals as goal
 
 pub returns : goal.returns

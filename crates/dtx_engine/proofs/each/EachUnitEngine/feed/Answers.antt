@@ -1,7 +1,7 @@
 use Rattle.std.proofs.Common.{◌≡◌, ◌<◌, ◌+◌, ◌*◌, ◌/◌, ◌++◌, ◌∙◌, ℕ, List, [], length, sym, ap, subst, refl}
-use Rattle.dtx_engine.specs.Each.{each}
+use Rattle.dtx_meaning.specs.Each.{each}
 use Rattle.dtx_engine.specs.Made.{only}
-use Rattle.dtx_engine.specs.EachLaws.{made_on}
+use Rattle.dtx_meaning.proofs.EachLemmas.{each_on}
 use Rattle.dtx_engine.specs.declared.engine.Shape.{Shape}
 use Rattle.dtx_engine.proofs.Units.{units_most, whole_units_of, long_on}
 use Rattle.dtx_engine.proofs.each.EachUnitEngine.feed.Goals as goal
@@ -36,7 +36,7 @@ returns-clause-fed g c = λ given long stands.
             (long_on u c.args.first n given c.args.bytes.now long refl c.requires.whole),
         c.change_all.ensures.tallied given (rw same long) stands.1,
       );
-      made = ap only (made_on u f c.args.first given c.args.bytes.now some long
+      made = ap only (each_on u f c.args.first given c.args.bytes.now some long
           ∙ ap (λ (b : List ℕ). each u f [] (length given / u) given ++ b) (sym changed));
     }
 

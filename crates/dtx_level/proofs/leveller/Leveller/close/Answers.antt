@@ -2,7 +2,7 @@ use Rattle.std.proofs.Common.{length, sym, ap, ◌∙◌, arith}
 use Rattle.dtx_acquire.proofs.PlacesLemmas.{whole_there}
 use Rattle.dtx_level.specs.Leveller.{Holding, closed}
 use Rattle.dtx_level.specs.Shown.{shows}
-use Rattle.dtx_level.specs.ShownLaws.{past_end}
+use Rattle.dtx_level.proofs.Shows.{past_end}
 use Rattle.dtx_level.proofs.Steps.{closed_begun, closed_none, closed_on}
 use Rattle.dtx_level.proofs.leveller.Leveller.close.Goals as goal
 

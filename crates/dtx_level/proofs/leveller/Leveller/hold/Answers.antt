@@ -3,7 +3,7 @@ use Rattle.std.proofs.Common.{arith, sym, subst}
 use Rattle.std.proofs.lemmas.List.{length-take-le}
 use Rattle.dtx_acquire.proofs.PlacesLemmas.{whole_there}
 use Rattle.dtx_level.specs.Shown.{shows}
-use Rattle.dtx_level.specs.ShownLaws.{past_end}
+use Rattle.dtx_level.proofs.Shows.{past_end}
 use Rattle.dtx_level.specs.Leveller.{Holding}
 use Rattle.dtx_level.proofs.Shows.{shows_front}
 use Rattle.dtx_level.proofs.leveller.Leveller.hold.Goals as goal

@@ -1,7 +1,6 @@
-use Rattle.std.proofs.Common.{◌+◌, map, take, sym, ap, ◌∙◌}
+use Rattle.std.proofs.Common.{◌+◌, map, take}
 use Rattle.std.proofs.lemmas.Bool.{cond-true}
 use Rattle.dtx_level.specs.Levelled.{By, level}
-use Rattle.dtx_level.specs.Leveller.{passed}
 use Rattle.dtx_level.proofs.leveller.Leveller.pass.Goals as goal
 
 pub returns-then-self : goal.returns-then-self

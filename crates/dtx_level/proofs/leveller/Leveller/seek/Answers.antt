@@ -1,4 +1,4 @@
-use Rattle.std.proofs.Common.{◌≡◌, ◌-◌, Some, None, true, length, sym, ap, ◌∙◌, arith}
+use Rattle.std.proofs.Common.{◌≡◌, ◌-◌, Some, None, length, sym, ap, ◌∙◌, arith}
 use Rattle.dtx_acquire.proofs.PlacesLemmas.{least_gives}
 use Rattle.dtx_level.specs.Leveller.{Holding, passed}
 use Rattle.dtx_level.specs.Shown.{least_shown, shows}

@@ -1,9 +1,10 @@
-use Rattle.std.proofs.Common.{◌≡◌, ℕ, [], ◌∷◌, length, ap, ◌∙◌, arith}
+use Rattle.std.proofs.Common.{◌≡◌, ℕ, ◌*◌, ◌/◌, List, [], ◌∷◌, length, ap, ap₂, ◌∙◌, arith}
 use Rattle.dtx_meaning.specs.declared.status.Outcome.{Outcome}
 use Rattle.dtx_meaning.specs.declared.status.Status.TheVariants.{Done}
 use Rattle.dtx_packets.specs.Packets.{packets_of}
-use Rattle.dtx_recipes.specs.Place.{placed_count}
+use Rattle.dtx_recipes.specs.Place.{bare_fields, placed, placed_count}
 use Rattle.dtx_forms.proofs.FilePacketsLemmas.{length-packets_of}
+use Rattle.dtx_packet_jobs.proofs.PlacedCounts.{bare_is, closed_fields-most, fits_with}
 use Rattle.dtx_packet_jobs.proofs.placing.PlacingChange.finish.Goals as goal
 
 -- the answer with these numbers
@@ -14,10 +15,26 @@ done packets placed bare loose = record {
   shown = 4;
 }
 
+-- how many packets were given
+units_are : (units : ℕ) (given : List ℕ) → length given ≡ 188 * units → units ≡ length (packets_of given)
+units_are units given long = omega (arith, length-packets_of given, long)
+
+pub overflow_add-bare : goal.overflow_add-bare
+overflow_add-bare c =
+    let some = c.requires.given in
+    fits_with c.args.self.now.bare _ (omega (
+      arith,
+      units_are c.args.units some.0 some.1,
+      some.2.without,
+      closed_fields-most (packets_of some.0) (length (packets_of some.0) / 312),
+      c.ranges.units.fits,
+    ))
+
 pub returns-clause-answer : goal.returns-clause-answer
 unfolding done
 returns-clause-answer c = λ given long counted.
-    let units : c.args.units ≡ length (packets_of given) = omega (arith, length-packets_of given, long) in
-    ap (λ (n : ℕ). done n c.args.self.now.placed c.args.self.now.bare c.args.loose) units
-    ∙ ap (λ (n : ℕ). done (length (packets_of given)) n c.args.self.now.bare c.args.loose) counted.changed
-    ∙ ap (λ (n : ℕ). done (length (packets_of given)) (placed_count (packets_of given)) n c.args.loose) counted.without
+    let packets = packets_of given in
+    let units : c.args.units ≡ length packets = units_are c.args.units given long in
+    ap₂ (λ (placed bare : ℕ). done c.args.units placed bare c.args.loose) counted.changed
+    (bare_is c.args.self.now packets c.args.units counted units)
+    ∙ ap (λ (n : ℕ). done n (placed_count packets) (bare_fields (placed packets)) c.args.loose) units

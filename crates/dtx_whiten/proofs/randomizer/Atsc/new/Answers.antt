@@ -1,8 +1,8 @@
-use Rattle.std.proofs.Common.{vec_len, ◌≡◌, ℕ, ◌*◌, ◌<◌, ◌^◌, sym, ap, ◌∙◌, arith, subst, rules, below_more, get_or}
+use Rattle.std.proofs.Common.{length, ◌≡◌, ℕ, ◌*◌, ◌<◌, ◌^◌, sym, ap, ◌∙◌, arith, subst, rules, below_more, get_or}
 use Rattle.std.proofs.lemmas.List.{get_or_push, get_or_append_left}
 use Rattle.dtx_galois.specs.BitPolynomial.{remainder}
 use Rattle.dtx_whiten.specs.Randomizer.{polynomial, tapped, randomizer_byte}
-use Rattle.dtx_whiten.proofs.Bytes.{randomizer_bytes_by}
+use Rattle.dtx_whiten.proofs.BytesLemmas.{byte_small, randomizer_bytes_by}
 use Rattle.dtx_whiten.proofs.Shifts.{register_next, register_small, register_zero}
 use Rattle.dtx_whiten.proofs.randomizer.Atsc.new.Goals as goal
 
@@ -41,10 +41,17 @@ loop-shifts-preserved c = record {
 
 pub invariant_of-result : goal.invariant_of-result
 invariant_of-result c =
-    let l : vec_len c.loop-shifts.bytes ≡ 187 * 312 =
-    omega (arith, c.loop-shifts.invariant.long, c.loop-shifts-test.false, c.loop-shifts.auto._shifts-end) in
+    let long : length c.loop-shifts.bytes.items ≡ 187 * 312 =
+    omega (
+      arith,
+      c.loop-shifts.invariant.long,
+      c.loop-shifts-test.false,
+      c.loop-shifts.auto._shifts-end,
+      c.loop-shifts.bytes.ok.0,
+    ) in
+    let each = λ (at : ℕ) (l : at < 187 * 312). c.loop-shifts.invariant.each at (omega (arith, l, long)) in
     record {
-      long = l;
-      all = randomizer_bytes_by c.loop-shifts.bytes.items (omega (arith, l, c.loop-shifts.bytes.ok.0))
-          (λ at h. c.loop-shifts.invariant.each at (omega (arith, h, c.loop-shifts-test.false)));
+      long = long;
+      all = randomizer_bytes_by c.loop-shifts.bytes.items long each;
+      small = λ at l. subst (λ (x : ℕ). x < 256) (sym (each at (omega (arith, l, long)))) (byte_small at);
     }

@@ -1,7 +1,6 @@
--- What is known of the list of the randomizer's bytes. It stands in specs/, since the ghost members of an impl, the
--- trait's laws, can cite lemmas from there only.
-use Rattle.std.proofs.Common.{◌≡◌, ℕ, ◌+◌, ◌*◌, ◌<◌, ◌^◌, List, length, get_or, sym, ap, ◌∙◌, subst, arith, lit<}
-use Rattle.std.proofs.lemmas.List.FromFn.{length-map-range_with_len, get_or-map-range_with_len}
+-- The list of the randomizer's bytes.
+use Rattle.std.proofs.Common.{◌≡◌, ℕ, ◌+◌, ◌*◌, ◌<◌, List, length, get_or, sym, subst, arith}
+use Rattle.std.proofs.lemmas.List.FromFn.{fill_by_all, length-map-range_with_len, get_or-map-range_with_len}
 use Rattle.std.proofs.lemmas.Nat.Bits.{bit_at-lt}
 use Rattle.dtx_galois.specs.Field.{AreBytes}
 use Rattle.dtx_galois.proofs.BytesLemmas.{AreBytes-from_places}
@@ -31,7 +30,7 @@ tapped_small p =
       bit_at-lt p 13,
     )
 
-byte_small : (t : ℕ) → randomizer_byte t < 256
+pub byte_small : (t : ℕ) → randomizer_byte t < 256
 unfolding randomizer_byte
 byte_small t = tapped_small (register t)
 
@@ -41,11 +40,7 @@ bytes_randomizer_bytes =
     (λ at l. subst (λ (x : ℕ). x < 256)
     (sym (get_or-randomizer_bytes at (subst (λ (x : ℕ). at < x) length-randomizer_bytes l))) (byte_small at))
 
-pub all_long : (bytes : List ℕ) → bytes ≡ randomizer_bytes → length bytes ≡ 187 * 312
-all_long bytes e = ap length e ∙ length-randomizer_bytes
-
-pub all_are_bytes : (bytes : List ℕ) → bytes ≡ randomizer_bytes → AreBytes bytes
-all_are_bytes bytes e = subst AreBytes (sym e) bytes_randomizer_bytes
-
-pub period_fits : 187 * 312 < 2 ^ 64
-period_fits = lit< tt
+pub randomizer_bytes_by : (bytes : List ℕ) → length bytes ≡ 187 * 312
+    → ((at : ℕ) → at < 187 * 312 → get_or bytes at 0 ≡ randomizer_byte at) → bytes ≡ randomizer_bytes
+unfolding randomizer_bytes
+randomizer_bytes_by bytes l h = fill_by_all randomizer_byte bytes (187 * 312) 0 l h

@@ -1,6 +1,6 @@
 use Rattle.std.proofs.Common.{◌∙◌, sym}
 use Rattle.dtx_erase.proofs.Outcomes.{corrected_answer}
-use Rattle.dtx_erase.proofs.erasing.EraseMend.mend.Goals as goal
+use Rattle.dtx_erase.proofs.erasing.Erase.mend.Goals as goal
 
 pub returns-then-missing-eq0-clause-answer : goal.returns-then-missing-eq0-clause-answer
 returns-then-missing-eq0-clause-answer g c =
