@@ -70,8 +70,9 @@ fn put_numbered<O: Sink>(labels: &[&str], numbers: &[u64], out: &mut O) -> Resul
         (O.written out.new) }
     ensures gone { IsCounted (O.counts out.old) result (O.counts out.new) }
 {
-    for (label, number) in labels.iter().zip(numbers) {
-        put_number(label, *number, out)?;
+    let count = labels.len().min(numbers.len());
+    for i in 0..count {
+        put_number(labels[i], numbers[i], out)?;
     }
     Ok(())
 }
