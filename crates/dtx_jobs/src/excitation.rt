@@ -12,7 +12,7 @@ use dtx_exciter::Exciter;
 use dtx_exciter::laws::groups_are_spaced;
 use dtx_files::LOG_LINE;
 use dtx_forms::{CODED_PACKETS, Transmitting, coded_packets};
-use dtx_meaning::{Outcome, Status};
+use dtx_meaning::{Outcome, done};
 use dtx_packets::Packet;
 use dtx_sizes::{GROUP_PACKETS, MOST_PACKETS, PACKET};
 use std::alloc::{AllocError, Global};
@@ -121,11 +121,7 @@ impl Engine for Excitation {
 
     fn finish(&mut self, loose: usize) -> Outcome {
         self.sending.clear();
-        Outcome {
-            status: Status::Done,
-            numbers: self.sending.tally.numbers(loose),
-            shown: 5,
-        }
+        done(&self.sending.tally.numbers(loose))
     }
 
     fn zeros(&self) -> u64 {

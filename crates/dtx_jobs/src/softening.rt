@@ -16,7 +16,7 @@ use crate::symbol_buffer::SymbolBuffer;
 use dtx_engine::{Engine, Shape};
 use dtx_forms::{PIECE_SEGMENTS, Transforming, segments};
 use dtx_frame::looks;
-use dtx_meaning::{Outcome, Status};
+use dtx_meaning::{Outcome, done};
 use dtx_sizes::{FIELD_PACKETS, GROUP_PACKETS, MOST_SEGMENTS, SEGMENT};
 use dtx_soft::FieldDecoder;
 use std::alloc::{AllocError, Global};
@@ -194,11 +194,7 @@ impl Engine for Softening {
         self.symbols.clear();
         let rows = rows_of(self.place);
         self.flush(rows);
-        Outcome {
-            status: Status::Done,
-            numbers: [self.segments, self.fields, self.cost, loose as u64, 0, 0, 0],
-            shown: 4,
-        }
+        done(&[self.segments, self.fields, self.cost, loose as u64])
     }
 
     fn zeros(&self) -> u64 {

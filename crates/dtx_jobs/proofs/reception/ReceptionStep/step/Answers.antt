@@ -1,4 +1,4 @@
-use Rattle.std.proofs.Common.{◌≡◌, ◌++◌, List, take, ap, ap₂, sym, subst, ◌∙◌, append_assoc, arith}
+use Rattle.std.proofs.Common.{◌++◌, ap, ap₂, sym, subst, ◌∙◌, append_assoc, arith}
 use Rattle.dtx_engine.specs.Made.{both}
 use Rattle.dtx_recipes.specs.Giving.{bytes_of}
 use Rattle.dtx_recipes.proofs.GivingLemmas.{bytes_of-append}

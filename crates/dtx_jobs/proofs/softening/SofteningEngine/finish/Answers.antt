@@ -1,8 +1,8 @@
 use Rattle.std.proofs.Common.{ℕ, [], ◌∷◌, ◌++◌, ap, ap₂, ◌∙◌, arith, length, refl, take}
 use Rattle.dtx_files.specs.Symbols.{segment_bytes}
 use Rattle.dtx_engine.specs.Made.{only}
+use Rattle.dtx_meaning.specs.Status.{done}
 use Rattle.dtx_meaning.specs.declared.status.Outcome.{Outcome}
-use Rattle.dtx_meaning.specs.declared.status.Status.TheVariants.{Done}
 use Rattle.dtx_soft.specs.Softened.{softened_cost}
 use Rattle.dtx_recipes.specs.Soft.{field_sum, flushed, has_group}
 use Rattle.dtx_jobs.proofs.SoftLemmas.{no_cost}
@@ -30,14 +30,14 @@ returns-clause-outcome c = λ given stand.
     let s = file_segments given in
     let old = c.args.self.now in
     let outcome : ℕ → ℕ → ℕ → Outcome =
-    λ segments fields cost.
-    record { status = Done; numbers = segments ∷ fields ∷ cost ∷ c.args.loose ∷ 0 ∷ 0 ∷ 0 ∷ []; shown = 4 } in
+    λ segments fields cost. done (segments ∷ fields ∷ cost ∷ c.args.loose ∷ []) in
     let rows = c.rows_of-rows.ensures.rows in
     let fields = field_sum_all has_group old s c.rows_of-rows.result old.fields c.flush.new.self.fields refl
     stand.softening rows stand.softening.fields c.flush.ensures.fields in
     let cost = field_sum_all (softened_cost 1) old s c.rows_of-rows.result old.cost c.flush.new.self.cost no_cost
     stand.softening rows stand.softening.cost c.flush.ensures.cost in
-    ap₂ (λ n m. outcome n m c.flush.new.self.cost) (c.flush.ensures.count ∙ stand.softening.count) fields
+    c.done.ensures
+    ∙ ap₂ (λ n m. outcome n m c.flush.new.self.cost) (c.flush.ensures.count ∙ stand.softening.count) fields
     ∙ ap (λ n. outcome (length s) (field_sum has_group s (length s)) n) cost
 
 pub returns-clause-rest : goal.returns-clause-rest
