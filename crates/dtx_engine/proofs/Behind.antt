@@ -3,15 +3,15 @@ use Rattle.std.proofs.Common.{ℕ, List, Bool, true, false, Option, Some, None, 
 use Rattle.std.specs.Prelude.{if◌then◌else◌}
 use Rattle.dtx_outside.specs.Counts.{Counts, HasGone}
 use Rattle.dtx_meaning.proofs.MeaningLemmas.{fault_behind, fault_of_input, fault_present, gone_over, one_behind}
-use Rattle.dtx_meaning.specs.Status.{IsFault, IsOfInput, blame_of}
+use Rattle.dtx_meaning.specs.Status.{IsFault, IsOfInput, blame_of, ended}
 use Rattle.dtx_meaning.specs.declared.status.Status.{Status}
-use Rattle.dtx_engine.specs.Course.{IsEndOfInput, IsEndingOf, IsFaultEnding, IsNext, IsPresentEnding, blame_of_ending}
+use Rattle.dtx_engine.specs.Course.{IsEndOfInput, IsFaultEnding, IsNext, IsPresentEnding, blame_of_ending}
 use Rattle.dtx_engine.specs.Course.{status_behind}
 use Rattle.dtx_engine.specs.Recipe.{Course, IsAnswerOf, Recipe, course_from, first_refused, whole_units}
 use Rattle.dtx_engine.specs.declared.engine.Shape.{Shape}
 use Rattle.dtx_engine.specs.declared.piece.Ending.{Ending}
 use Rattle.dtx_engine.specs.declared.piece.Ending.TheVariants.{Whole, Refused}
-use Rattle.dtx_engine.proofs.AnswersLemmas.{fault_answers}
+use Rattle.dtx_engine.proofs.AnswersLemmas.{behind_answers, fault_answers}
 use Rattle.dtx_engine.proofs.Gone.{gone_behind}
 
 -- it is an answer of the input
@@ -24,13 +24,11 @@ input_behind number (Some (Whole loose)) refusal was fault = fault_of_input numb
 input_behind number None refusal was fault = fault_of_input number refusal fault
 
 -- and one of what is made of it
-pub answer_behind : (recipe : Recipe) (last : Option Ending) (refusal : Status) → IsEndingOf recipe last
-    → IsFault refusal → IsAnswerOf recipe (status_behind last refusal)
-answer_behind recipe (Some (Refused first)) refusal was fault =
-    let P : Status → Type 0 = λ s. IsAnswerOf recipe s in
-    one_behind P first refusal was (fault_answers recipe refusal fault)
-answer_behind recipe (Some (Whole loose)) refusal was fault = fault_answers recipe refusal fault
-answer_behind recipe None refusal was fault = fault_answers recipe refusal fault
+pub answer_behind : (recipe : Recipe) (last : Option Ending) (refusal : Status) → IsFault refusal
+    → IsAnswerOf recipe (ended (status_behind last refusal))
+answer_behind recipe (Some (Refused first)) refusal fault = behind_answers recipe first refusal fault
+answer_behind recipe (Some (Whole loose)) refusal fault = fault_answers recipe refusal fault
+answer_behind recipe None refusal fault = fault_answers recipe refusal fault
 
 -- the counts have gone with it
 pub gone_behind_piece : (last : Option Ending) (refusal : Status) (before between now : Counts) → IsFault refusal

@@ -24,20 +24,24 @@ pub record Recipe : Type 0 where
   pub rest : List ℕ → Made
   pub answer : List ℕ → ℕ → Outcome
 
--- at the end of some input the recipe answers with this status
-abbrev pub IsEndOf : Recipe → Status → Type 0
-IsEndOf recipe status = (given : List ℕ) × (loose : ℕ) × (status ≡ (recipe.answer given loose).status)
+-- this is the recipe's answer at the end of some input
+abbrev pub IsEndOf : Recipe → Outcome → Type 0
+IsEndOf recipe outcome = (given : List ℕ) × (loose : ℕ) × (outcome ≡ recipe.answer given loose)
+
+-- the outcome, with this status, is one that the recipe allows
+abbrev pub IsAnswerAt : Recipe → Status → Outcome → Type 0
+IsAnswerAt recipe (Packet k) outcome = ((unit : List ℕ) × (recipe.allows k unit ≡ false)) ⊎ IsEndOf recipe outcome
+IsAnswerAt recipe TooLong outcome = Unit {0}
+IsAnswerAt recipe (Absent input) outcome = Unit {0}
+IsAnswerAt recipe ReadFault outcome = Unit {0}
+IsAnswerAt recipe WriteFault outcome = Unit {0}
+IsAnswerAt recipe Memory outcome = Unit {0}
+IsAnswerAt recipe status outcome = IsEndOf recipe outcome
 
 -- The answers that a recipe allows, whatever the input holds. A unit isn't allowed, there are too many units, or the
--- input isn't there. Or the recipe answers so at the end, or there was an I/O error or out of memory.
-abbrev pub IsAnswerOf : Recipe → Status → Type 0
-IsAnswerOf recipe (Packet k) = ((unit : List ℕ) × (recipe.allows k unit ≡ false)) ⊎ IsEndOf recipe (Packet k)
-IsAnswerOf recipe TooLong = Unit {0}
-IsAnswerOf recipe (Absent input) = Unit {0}
-IsAnswerOf recipe ReadFault = Unit {0}
-IsAnswerOf recipe WriteFault = Unit {0}
-IsAnswerOf recipe Memory = Unit {0}
-IsAnswerOf recipe status = IsEndOf recipe status
+-- input isn't there. Or it is the recipe's own answer at the end, or there was an I/O error or out of memory.
+abbrev pub IsAnswerOf : Recipe → Outcome → Type 0
+IsAnswerOf recipe outcome = IsAnswerAt recipe outcome.status outcome
 
 -- A shape in which an input can be read. A unit, a piece and a group aren't empty, and a piece is whole groups. A piece
 -- has at most 2^24 bytes, and an input at most 2^62.

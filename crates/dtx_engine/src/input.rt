@@ -2,7 +2,7 @@
 ghost use Rattle.std.specs.Prelude.{◌≡◌, IfErr, IfSome};
 ghost use Rattle.std.specs.FinMap as files;
 ghost use Rattle.dtx_outside.specs.Counts.{HasGone};
-ghost use Rattle.dtx_meaning.specs.Status.{IsOfInput, blame_of_answer};
+ghost use Rattle.dtx_meaning.specs.Status.{IsOfInput, blame_of_answer, ended};
 ghost use Rattle.dtx_engine.specs.Course.{IsAsked};
 ghost use Rattle.dtx_engine.specs.Recipe.{IsAnswerOf, Recipe};
 ghost use Rattle.dtx_engine.specs.Stages.{IsForeseenAsk};
@@ -25,7 +25,7 @@ pub struct Input<'a> {
 pub fn ask_for<S: Shelf>(shelf: &mut S, which: u8, input: &str) -> Result<(), Status>
     ensures told { IfSome (S.files shelf.old) (λ held. IsAsked (files.get held input.now) which result) }
     ensures input { IfErr result (IsOfInput which) }
-    ensures answer { (recipe : Recipe) → IfErr result (IsAnswerOf recipe) }
+    ensures answer { (recipe : Recipe) → IfErr result (λ status. IsAnswerOf recipe (ended status)) }
     ensures kept { S.files shelf.new ≡ S.files shelf.old }
     ensures gone { HasGone (S.counts shelf.old) (S.counts shelf.new) (blame_of_answer result) }
     ensures foreseen { IsForeseenAsk (S.foreseen.readable input.now) result }

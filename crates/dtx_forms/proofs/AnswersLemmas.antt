@@ -1,62 +1,64 @@
 -- Which refusals a command knows: of how its making answers, of equal names, and of a plan that is not read.
 use Rattle.std.specs.Prelude.{◌≡◌, ◌⊎◌, ℕ, false, true, List}
-use Rattle.std.proofs.Common.{inl, inr, sym, subst}
-use Rattle.dtx_engine.specs.Recipe.{IsAnswerOf, Recipe}
+use Rattle.std.proofs.Common.{inl, inr, refl, sym, subst}
+use Rattle.dtx_engine.specs.Recipe.{IsAnswerAt, IsAnswerOf, IsEndOf, Recipe}
+use Rattle.dtx_meaning.specs.Status.{ended}
+use Rattle.dtx_meaning.specs.declared.status.Outcome.{Outcome}
 use Rattle.dtx_meaning.specs.declared.status.Status.{Status}
 use Rattle.dtx_meaning.specs.declared.status.Status.TheVariants.{Done, Usage, Same, Absent, Plan, Packet, TooLong}
 use Rattle.dtx_meaning.specs.declared.status.Status.TheVariants.{OutOfFeed, OutOfAir, NoSync, ReadFault, WriteFault}
 use Rattle.dtx_meaning.specs.declared.status.Status.TheVariants.{Memory}
 use Rattle.dtx_words.specs.declared.rows.Command.{Command}
-use Rattle.dtx_forms.specs.Answers.{Knows}
+use Rattle.dtx_forms.specs.Answers.{IsKnown, IsKnownAt, Knows}
 use Rattle.dtx_forms.specs.PlanFile.{IsPlanRefusal}
 
 -- A command that may be answered that its input is too long, that a unit is refused where one can be, and what its
 -- making answers at the end, knows all answers of that making.
 pub knows_by : (recipe : Recipe) (command : Command) → Knows command TooLong
     → ((k : ℕ) → (unit : List ℕ) × (recipe.allows k unit ≡ false) → Knows command (Packet k))
-    → ((given : List ℕ) (loose : ℕ) → Knows command (recipe.answer given loose).status)
-    → (status : Status) → IsAnswerOf recipe status → Knows command status
-knows_by recipe command long refused ends status is = by_status status is
+    → ((given : List ℕ) (loose : ℕ) → IsKnown command (recipe.answer given loose))
+    → (outcome : Outcome) → IsAnswerOf recipe outcome → IsKnown command outcome
+knows_by recipe command long refused ends outcome is = by_status outcome.status refl is
   where
-    at_end : (s : Status) → (given : List ℕ) × (loose : ℕ) × (s ≡ (recipe.answer given loose).status)
-        → Knows command s
-    at_end s (given, loose, same) =
-        let P : Status → Type 0 = λ s. Knows command s in subst P (sym same) (ends given loose)
+    at_end : (s : Status) → outcome.status ≡ s → IsEndOf recipe outcome → IsKnownAt command s outcome.numbers
+    at_end s same (given, loose, end) =
+        subst (λ (s : Status). IsKnownAt command s outcome.numbers) same
+        (subst (λ (o : Outcome). IsKnown command o) (sym end) (ends given loose))
 
-    by_status : (s : Status) → IsAnswerOf recipe s → Knows command s
-    by_status Done is = tt
-    by_status Usage is = tt
-    by_status Same is = tt
-    by_status (Absent input) is = tt
-    by_status (Plan refusal) is = at_end (Plan refusal) is
-    by_status (Packet k) is = elim is [
+    by_status : (s : Status) → outcome.status ≡ s → IsAnswerAt recipe s outcome → IsKnownAt command s outcome.numbers
+    by_status Done same is = at_end Done same is
+    by_status Usage same is = tt
+    by_status Same same is = tt
+    by_status (Absent input) same is = tt
+    by_status (Plan refusal) same is = at_end (Plan refusal) same is
+    by_status (Packet k) same is = elim is [
       | inl unit ↦ refused k unit
-      | inr end ↦ at_end (Packet k) end
+      | inr end ↦ at_end (Packet k) same end
     ]
-    by_status TooLong is = long
-    by_status (OutOfFeed event) is = at_end (OutOfFeed event) is
-    by_status (OutOfAir entry) is = at_end (OutOfAir entry) is
-    by_status NoSync is = at_end NoSync is
-    by_status ReadFault is = tt
-    by_status WriteFault is = tt
-    by_status Memory is = tt
+    by_status TooLong same is = long
+    by_status (OutOfFeed event) same is = at_end (OutOfFeed event) same is
+    by_status (OutOfAir entry) same is = at_end (OutOfAir entry) same is
+    by_status NoSync same is = at_end NoSync same is
+    by_status ReadFault same is = tt
+    by_status WriteFault same is = tt
+    by_status Memory same is = tt
 
 -- no unit is refused
 pub none_refused : {Known : Type 0} → (unit : List ℕ) × (true ≡ false) → Known
 none_refused (unit, refused) = let e : true ≡ false = refused in cc
 
 -- a command of one input and one output, whose names may be equal
-pub transformed_knows : (recipe : Recipe) (command : Command) (status : Status)
-    → ((s : Status) → IsAnswerOf recipe s → Knows command s) → (status ≡ Same) ⊎ IsAnswerOf recipe status
-    → Knows command status
-transformed_knows recipe command status knows is = elim is [
-  | inl same ↦ let P : Status → Type 0 = λ s. Knows command s in subst P (sym same) tt
-  | inr answer ↦ knows status answer
+pub transformed_knows : (recipe : Recipe) (command : Command) (outcome : Outcome)
+    → ((o : Outcome) → IsAnswerOf recipe o → IsKnown command o) → (outcome.status ≡ Same) ⊎ IsAnswerOf recipe outcome
+    → IsKnown command outcome
+transformed_knows recipe command outcome knows is = elim is [
+  | inl same ↦ subst (λ (s : Status). IsKnownAt command s outcome.numbers) (sym same) tt
+  | inr answer ↦ knows outcome answer
 ]
 
 -- a plan, or changes, that are not read
 pub plan_refusal_known : (command : Command) (number : ℕ) → ((refusal : _) → Knows command (Plan refusal))
-    → (status : Status) → IsPlanRefusal number status → Knows command status
+    → (status : Status) → IsPlanRefusal number status → IsKnown command (ended status)
 plan_refusal_known command number known (Plan refusal) is = known refusal
 plan_refusal_known command number known (Absent input) is = tt
 plan_refusal_known command number known ReadFault is = tt

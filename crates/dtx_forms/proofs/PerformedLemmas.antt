@@ -14,7 +14,7 @@ use Rattle.dtx_outside.specs.Shelf.{Files}
 use Rattle.dtx_plan.specs.declared.refusal.PlanNo.{PlanNo}
 use Rattle.dtx_words.specs.Names.{repeated}
 use Rattle.dtx_words.specs.declared.rows.Command.{Command}
-use Rattle.dtx_forms.specs.Answers.{Knows}
+use Rattle.dtx_forms.specs.Answers.{IsKnown, Knows}
 use Rattle.dtx_forms.proofs.AnswersLemmas.{plan_refusal_known}
 use Rattle.dtx_forms.specs.Job.{IsPerformed, unless_same}
 use Rattle.dtx_forms.proofs.OfWordsLemmas.{refusal_of_input}
@@ -42,7 +42,7 @@ refused_same command names name means inputs outcome told counts twice is =
       carried = refused_told (λ held. unless_same (Some name) (means held)) told told Same outcome (λ held told. refl)
           refl is;
       words = subst (λ (o : Outcome). IsOfInputs true inputs o.status) (sym is) refl;
-      answers = subst (λ (o : Outcome). Knows command o.status) (sym is) tt;
+      answers = subst (λ (o : Outcome). IsKnown command o) (sym is) tt;
       gone = subst (λ (o : Outcome). HasGone counts counts (blame_of o.status)) (sym is) (stands counts);
     })
 
@@ -91,7 +91,7 @@ unread_performed command said number name status means inputs outcome told now b
       carried = unread_told said number name status means told now outcome unread kept is;
       words = subst (λ (o : Outcome). IsOfInputs false inputs o.status) (sym is)
           (of_inputs false number inputs status refl within (refusal_of_input number status refusal));
-      answers = subst (λ (o : Outcome). Knows command o.status) (sym is)
+      answers = subst (λ (o : Outcome). IsKnown command o) (sym is)
           (plan_refusal_known command number known status refusal);
       gone = subst (λ (o : Outcome). HasGone before after (blame_of o.status)) (sym is) gone;
     }

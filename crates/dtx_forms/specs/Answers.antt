@@ -1,8 +1,10 @@
--- Which answers a command can give (`Knows`): it refuses only what its row says.
-use Rattle.std.specs.Prelude.{Bool, true, false}
+-- Which answers a command can give (`IsKnown`): it refuses only what its row says, and its line is whole.
+use Rattle.std.specs.Prelude.{◌≡◌, ℕ, Bool, true, false, List, length}
 use Rattle.std.specs.List.{list_any}
+use Rattle.dtx_meaning.specs.declared.status.Outcome.{Outcome}
 use Rattle.dtx_meaning.specs.declared.status.Status.{Status}
-use Rattle.dtx_meaning.specs.declared.status.Status.TheVariants.{Plan, Packet, TooLong, OutOfFeed, OutOfAir, NoSync}
+use Rattle.dtx_meaning.specs.declared.status.Status.TheVariants.{Done, Plan, Packet, TooLong, OutOfFeed, OutOfAir}
+use Rattle.dtx_meaning.specs.declared.status.Status.TheVariants.{NoSync}
 use Rattle.dtx_words.specs.Rows.{Refusal, plan, packet, too_long, out_of_feed, out_of_air, no_sync, row_of}
 use Rattle.dtx_words.specs.declared.rows.Command.{Command}
 
@@ -35,3 +37,12 @@ Knows command (OutOfFeed event) = MayRefuse command out_of_feed
 Knows command (OutOfAir entry) = MayRefuse command out_of_air
 Knows command NoSync = MayRefuse command no_sync
 Knows command status = Unit {0}
+
+-- the same with these numbers
+abbrev pub IsKnownAt : Command → Status → List ℕ → Type 0
+IsKnownAt command Done numbers = length numbers ≡ length (row_of command).labels
+IsKnownAt command status numbers = Knows command status
+
+-- The command can give this answer. If it is done, each label of its line has a number.
+abbrev pub IsKnown : Command → Outcome → Type 0
+IsKnown command outcome = IsKnownAt command outcome.status outcome.numbers

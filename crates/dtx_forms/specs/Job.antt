@@ -8,7 +8,7 @@ use Rattle.dtx_outside.specs.Counts.{Counts, HasGone}
 use Rattle.dtx_outside.specs.Shelf.{Files}
 use Rattle.dtx_words.specs.declared.rows.Command.{Command}
 use Rattle.dtx_words.specs.declared.rows.Field.{Field}
-use Rattle.dtx_forms.specs.Answers.{Knows}
+use Rattle.dtx_forms.specs.Answers.{IsKnown}
 use Rattle.dtx_forms.specs.OfWords.{IsOfWords, same_in}
 use Rattle.dtx_forms.specs.Stages.{Stages}
 
@@ -29,7 +29,7 @@ pub record IsPerformed (command : Command) (means : Files → Meaning) (same : O
     (outcome : Outcome) (told now : Option Files) (before after : Counts) : Type 0 where
   pub carried : IfSome told (λ held. IsCarriedOut (means held) (Some held) outcome now)
   pub words : IsOfWords same inputs outcome.status
-  pub answers : Knows command outcome.status
+  pub answers : IsKnown command outcome
   pub gone : HasGone before after (blame_of outcome.status)
 
 -- the job was performed with these words

@@ -4,7 +4,7 @@ ghost use Rattle.std.specs.Option.{option_and};
 ghost use Rattle.dtx_engine.specs.Recipe.{IsAnswerOf, Recipe};
 ghost use Rattle.dtx_words.specs.Names.{repeated};
 ghost use Rattle.dtx_words.specs.declared.rows.Command.{Command};
-ghost use Rattle.dtx_forms.specs.Answers.{Knows};
+ghost use Rattle.dtx_forms.specs.Answers.{IsKnown};
 ghost use Rattle.dtx_forms.specs.Capture.{IsRounds, IsScale, IsSetting, captured, rounds_job, scaled_job, setting_of};
 ghost use Rattle.dtx_forms.specs.Job.{IsPerformed, IsJobPerformed, task_meaning, task_stages};
 ghost use Rattle.dtx_forms.specs.Stages.{IsStaged};
@@ -24,7 +24,7 @@ pub struct Setting {
 
 /// An engine that makes what a command writes from its one input, a capture.
 pub trait Capturing: Engine + Drop {
-    ghost use Rattle.dtx_meaning.specs.declared.status.Status.{Status};
+    ghost use Rattle.dtx_meaning.specs.declared.status.Outcome.{Outcome};
 
     /// The command that it carries out.
     ghost command: { Command };
@@ -39,8 +39,8 @@ pub trait Capturing: Engine + Drop {
         ensures makes { IfOk result (λ engine. Self.recipe engine ≡ makes setting.scale setting.rounds) };
 
     /// Each answer that can come is one that the command may give.
-    ghost knows: { (scale rounds : ℕ) (status : Status) → IsAnswerOf (makes scale rounds) status
-        → Knows command status };
+    ghost knows: { (scale rounds : ℕ) (outcome : Outcome) → IsAnswerOf (makes scale rounds) outcome
+        → IsKnown command outcome };
 }
 
 /// Makes OUT from the capture IN, of which SCALE steps make a unit. SCALE is 1 to 18, in decimal digits without sign

@@ -3,7 +3,7 @@ ghost use Rattle.std.specs.Prelude.{[]};
 ghost use Rattle.dtx_engine.specs.Each.{each_making};
 ghost use Rattle.dtx_engine.specs.Recipe.{IsAnswerOf};
 ghost use Rattle.dtx_words.specs.declared.rows.Command.{Command};
-ghost use Rattle.dtx_forms.specs.Answers.{Knows};
+ghost use Rattle.dtx_forms.specs.Answers.{IsKnown};
 
 use crate::transforming::Transforming;
 use dtx_engine::{Change, EachUnit};
@@ -11,7 +11,7 @@ use std::alloc::{AllocError, Global};
 
 /// What a command of one input does to each unit.
 pub trait Changing: Change + Drop {
-    ghost use Rattle.dtx_meaning.specs.declared.status.Status.{Status};
+    ghost use Rattle.dtx_meaning.specs.declared.status.Outcome.{Outcome};
 
     /// The command that it carries out.
     ghost command: { Command };
@@ -21,8 +21,8 @@ pub trait Changing: Change + Drop {
         ensures { Self.tallies result [] };
 
     /// Each answer that can come is one that the command may give.
-    ghost knows: { (status : Status)
-        → IsAnswerOf (each_making Self.shape Self.allowed Self.changed Self.answer) status → Knows command status };
+    ghost knows: { (outcome : Outcome)
+        → IsAnswerOf (each_making Self.shape Self.allowed Self.changed Self.answer) outcome → IsKnown command outcome };
 }
 
 impl<C: Changing> Transforming for EachUnit<C> {

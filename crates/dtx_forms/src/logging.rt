@@ -116,7 +116,7 @@ pub(crate) fn make_both<E: Engine, S: Shelf>(
         (held_at.get held files.entry.input.now))
         (Some held) result (S.files shelf.new)) }
     ensures input { IsOfInput 0 result.status }
-    ensures answer { IsAnswerOf (E.recipe engine.old) result.status }
+    ensures answer { IsAnswerOf (E.recipe engine.old) result }
     ensures gone { HasGone (S.counts shelf.old) (S.counts shelf.new) (blame_of result.status) }
     ensures stages { IsStaged S.foreseen
         (Some (stages_of E.shape (E.recipe engine.old) files.entry.input.now

@@ -2,7 +2,7 @@
 ghost use Rattle.std.specs.Prelude.{◌≡◌, [], IfOk};
 ghost use Rattle.dtx_engine.specs.Recipe.{IsAnswerOf, Recipe};
 ghost use Rattle.dtx_words.specs.declared.rows.Command.{Command};
-ghost use Rattle.dtx_forms.specs.Answers.{Knows};
+ghost use Rattle.dtx_forms.specs.Answers.{IsKnown};
 
 use crate::transforming::Transforming;
 use dtx_steps::{Step, Steps};
@@ -10,7 +10,7 @@ use std::alloc::{AllocError, Global};
 
 /// What a command of one input does at each step.
 pub trait Stepping: Step + Drop {
-    ghost use Rattle.dtx_meaning.specs.declared.status.Status.{Status};
+    ghost use Rattle.dtx_meaning.specs.declared.status.Outcome.{Outcome};
 
     /// The command that it carries out.
     ghost command: { Command };
@@ -24,7 +24,7 @@ pub trait Stepping: Step + Drop {
         ensures makes { IfOk result (λ step. Self.recipe step ≡ makes) };
 
     /// Each answer that can come is one that the command may give.
-    ghost knows: { (status : Status) → IsAnswerOf makes status → Knows command status };
+    ghost knows: { (outcome : Outcome) → IsAnswerOf makes outcome → IsKnown command outcome };
 }
 
 impl<S: Stepping> Transforming for Steps<S> {

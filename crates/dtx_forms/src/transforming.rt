@@ -3,7 +3,7 @@ ghost use Rattle.std.specs.Prelude.{◌≡◌, is_some, [], ◌∷◌, Some, IfO
 ghost use Rattle.dtx_engine.specs.Recipe.{IsAnswerOf, Recipe, transformed};
 ghost use Rattle.dtx_words.specs.Names.{repeated};
 ghost use Rattle.dtx_words.specs.declared.rows.Command.{Command};
-ghost use Rattle.dtx_forms.specs.Answers.{Knows};
+ghost use Rattle.dtx_forms.specs.Answers.{IsKnown};
 ghost use Rattle.dtx_forms.specs.Job.{IsPerformed, IsJobPerformed};
 ghost use Rattle.dtx_forms.specs.Stages.{IsStaged, stages_of};
 ghost use Rattle.dtx_forms.specs.Transform.{dvb_job, transform_job};
@@ -15,7 +15,7 @@ use std::alloc::{AllocError, Global};
 
 /// An engine that makes what a command writes from its one input: one output, or an output and a log.
 pub trait Transforming: Engine + Drop {
-    ghost use Rattle.dtx_meaning.specs.declared.status.Status.{Status};
+    ghost use Rattle.dtx_meaning.specs.declared.status.Outcome.{Outcome};
 
     /// The command that it carries out.
     ghost command: { Command };
@@ -29,7 +29,7 @@ pub trait Transforming: Engine + Drop {
         ensures makes { IfOk result (λ engine. Self.recipe engine ≡ makes) };
 
     /// Each answer that can come is one that the command may give.
-    ghost knows: { (status : Status) → IsAnswerOf makes status → Knows command status };
+    ghost knows: { (outcome : Outcome) → IsAnswerOf makes outcome → IsKnown command outcome };
 }
 
 /// Makes OUT from IN: gives the units of IN to an engine, and writes what it makes.

@@ -6,7 +6,7 @@ ghost use Rattle.dtx_engine.specs.Recipe.{IsAnswerOf, Recipe, meaning};
 ghost use Rattle.dtx_words.specs.Names.{repeated};
 ghost use Rattle.dtx_words.specs.Number.{number_in};
 ghost use Rattle.dtx_words.specs.declared.rows.Command.{Command};
-ghost use Rattle.dtx_forms.specs.Answers.{Knows};
+ghost use Rattle.dtx_forms.specs.Answers.{IsKnown};
 ghost use Rattle.dtx_forms.specs.Job.{IsPerformed, IsJobPerformed, task_meaning, task_stages};
 ghost use Rattle.dtx_forms.specs.Logged.{logged};
 ghost use Rattle.dtx_forms.specs.Stages.{IsStaged, stages_of};
@@ -21,7 +21,7 @@ use std::alloc::{AllocError, Global};
 
 /// What a transmitter does at each step: it makes the symbols that it sends, and its log.
 pub trait Transmitting: Step + Drop {
-    ghost use Rattle.dtx_meaning.specs.declared.status.Status.{Status};
+    ghost use Rattle.dtx_meaning.specs.declared.status.Outcome.{Outcome};
 
     /// The command that it carries out.
     ghost command: { Command };
@@ -36,8 +36,8 @@ pub trait Transmitting: Step + Drop {
         ensures sends { IfOk result (λ step. Self.recipe step ≡ sends address delay) };
 
     /// Each answer that can come is one that the command may give.
-    ghost knows: { (address delay : ℕ) (status : Status) → IsAnswerOf (sends address delay) status
-        → Knows command status };
+    ghost knows: { (address delay : ℕ) (outcome : Outcome) → IsAnswerOf (sends address delay) outcome
+        → IsKnown command outcome };
 }
 
 /// Gives the units of IN to one transmitter. Its symbols go to OUT, and its log to LOG. ADDRESS is that of the

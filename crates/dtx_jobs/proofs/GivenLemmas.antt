@@ -13,7 +13,7 @@ use Rattle.dtx_receiver.specs.Intervals.{NoneLooks}
 use Rattle.dtx_receiver.proofs.IntervalsLemmas.{no_runs}
 use Rattle.dtx_receiver.specs.Runs.{runs}
 use Rattle.dtx_meaning.specs.Meaning.{Meaning}
-use Rattle.dtx_meaning.specs.Status.{ended}
+use Rattle.dtx_meaning.specs.Status.{done, ended}
 use Rattle.dtx_meaning.specs.declared.status.Outcome.{Outcome}
 use Rattle.dtx_meaning.specs.declared.status.Status.TheVariants.{Done, NoSync}
 use Rattle.dtx_engine.specs.Made.{Made, only, outputs_of}
@@ -101,7 +101,7 @@ no_run_in file =
     (length-segments_of file) (no_runs (file_segments file))
 
 pub sync_answered : (giving : Giving) (list : List (List ℤ)) (loose : ℕ) → length (runs list) ≢ 0
-    → answer_of giving list loose ≡ record { status = Done; numbers = given_numbers giving list loose; shown = 6 }
+    → answer_of giving list loose ≡ done (given_numbers giving list loose)
 sync_answered giving list loose some = cond-false _ _ _ (ne_eqb (length (runs list)) 0 some)
 
 -- there is no packet

@@ -16,7 +16,7 @@ use Rattle.dtx_lists.proofs.RangeMoved.{flat_map-range_same}
 use Rattle.dtx_engine.specs.Made.{only, outputs_of}
 use Rattle.dtx_engine.specs.Recipe.{meaning_of_file}
 use Rattle.dtx_meaning.specs.Meaning.{Meaning}
-use Rattle.dtx_meaning.specs.declared.status.Status.TheVariants.{Done}
+use Rattle.dtx_meaning.specs.Status.{done}
 use Rattle.dtx_ops.specs.Reading.{reading, unless}
 use Rattle.dtx_ops.proofs.RefusingLemmas.{reading_other}
 use Rattle.dtx_ops.specs.Rules.{first, rules, data_rules, head_rules}
@@ -302,7 +302,7 @@ watched_calmly names file start most mark feed sound z inside same few =
     let ones : (k : ℕ) → k < length d → IsOne d k = λ k l. one start most mark k feed d (says k l)
     (calm start most feed d mark k (record { sound = sound; mark = z; inside = inside; are = refl }) l) in
     let means : List ℕ → List ℕ → Meaning = λ numbers text. record {
-      outcome = record { status = Done; numbers = numbers; shown = 7 };
+      outcome = done numbers;
       outputs = outputs_of names (only text);
     } in
     let of_notes : List Note → Meaning = λ notes.

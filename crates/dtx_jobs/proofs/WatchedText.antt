@@ -20,7 +20,7 @@ use Rattle.dtx_watch.specs.declared.notes.StatesNote.TheVariants as states
 use Rattle.dtx_watch.specs.declared.notes.NoteKind.{NoteKind}
 use Rattle.dtx_watch.specs.declared.notes.NoteKind.TheVariants as what
 use Rattle.dtx_meaning.specs.Meaning.{Meaning}
-use Rattle.dtx_meaning.specs.declared.status.Status.TheVariants.{Done}
+use Rattle.dtx_meaning.specs.Status.{done}
 use Rattle.dtx_engine.specs.Made.{only, outputs_of}
 use Rattle.dtx_engine.specs.Recipe.{first_refused, meaning_of_file}
 use Rattle.dtx_forms.proofs.AllowedFileLemmas.{all_read, none_found}
@@ -149,7 +149,7 @@ pub all_watched : (names : List (List ℕ)) (file : List ℕ) → whole_packets 
 all_watched names file few =
     let notes : List Note = watch (packets_of file) in
     let means : WatchTally → Meaning = λ tally. record {
-      outcome = record { status = Done; numbers = watch_numbers tally (length file % 188); shown = 7 };
+      outcome = done (watch_numbers tally (length file % 188));
       outputs = outputs_of names (only (watch_text notes));
     } in
     cc (notes_watched names file few, length-packets_of file, tally_told (whole_packets file) notes)

@@ -8,7 +8,7 @@ use crate::restorer::Restorer;
 use crate::symbol_buffer::SymbolBuffer;
 use dtx_acquire::{Acquirer, MOST_HELD};
 use dtx_forms::{PIECE_BYTES, Setting};
-use dtx_meaning::{Outcome, Status, ended};
+use dtx_meaning::{Outcome, Status, done, ended};
 use dtx_sizes::SEGMENT;
 use std::alloc::{AllocError, Global};
 
@@ -70,17 +70,11 @@ fn answer(acquirer: &Acquirer) -> Outcome
     if runs == 0 {
         return ended(Status::NoSync);
     }
-    Outcome {
-        status: Status::Done,
-        numbers: [
-            acquirer.symbols(),
-            runs,
-            acquirer.segments(),
-            acquirer.cost(),
-            acquirer.loose(),
-            0,
-            0,
-        ],
-        shown: 5,
-    }
+    done(&[
+        acquirer.symbols(),
+        runs,
+        acquirer.segments(),
+        acquirer.cost(),
+        acquirer.loose(),
+    ])
 }

@@ -6,7 +6,7 @@ use dtx_exciter::Exciter;
 use dtx_exciter::laws::groups_are_spaced;
 use dtx_files::LOG_LINE;
 use dtx_forms::{CODED_PACKETS, Transmitting, coded_packets};
-use dtx_meaning::{Outcome, Status};
+use dtx_meaning::{Outcome, done};
 use dtx_packets::Packet;
 use dtx_sizes::{GROUP_PACKETS, PACKET};
 use dtx_steps::Step;
@@ -70,11 +70,7 @@ impl Step for Excitation {
     }
 
     fn finish(&mut self, loose: usize) -> Outcome {
-        Outcome {
-            status: Status::Done,
-            numbers: self.sending.tally.numbers(loose),
-            shown: 5,
-        }
+        done(&self.sending.tally.numbers(loose))
     }
 
     fn made(&self) -> &[u8] {

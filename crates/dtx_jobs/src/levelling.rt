@@ -14,7 +14,7 @@ use arrayvec::ArrayString;
 use dtx_engine::{Buffer, Engine, Shape};
 use dtx_forms::{PIECE_BYTES, Transforming, single_bytes};
 use dtx_level::{Leveller, MEASURE_LINE, write_measure};
-use dtx_meaning::{Outcome, Status, ended};
+use dtx_meaning::{Outcome, Status, done, ended};
 use dtx_receiver::to_symbols;
 use dtx_sizes::{FIELD_SEGMENTS, MOST_SYMBOLS, SEGMENT};
 use std::alloc::{AllocError, Global};
@@ -202,9 +202,5 @@ fn answer(leveller: &Leveller) -> Outcome
     if syncs == 0 {
         return ended(Status::NoSync);
     }
-    Outcome {
-        status: Status::Done,
-        numbers: [leveller.symbols(), syncs, leveller.slips(), 0, 0, 0, 0],
-        shown: 3,
-    }
+    done(&[leveller.symbols(), syncs, leveller.slips()])
 }

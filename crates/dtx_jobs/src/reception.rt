@@ -9,7 +9,7 @@ ghost use Rattle.dtx_recipes.specs.Tally.{IsBounded, tally_of};
 use crate::segment_receiver::{Receiving, SegmentReceiver};
 use dtx_engine::{Buffer, Shape};
 use dtx_forms::{PIECE_SEGMENTS, Stepping, segments};
-use dtx_meaning::{Outcome, Status, ended};
+use dtx_meaning::{Outcome, Status, done, ended};
 use dtx_receiver::{Batch, Received};
 use dtx_recipes::Tally;
 use dtx_sizes::{GROUP_PACKETS, MOST_SEGMENTS, PACKET, SEGMENT};
@@ -132,11 +132,7 @@ impl<R: SegmentReceiver> Step for Reception<R> {
         if self.tally.runs == 0 {
             ended(Status::NoSync)
         } else {
-            Outcome {
-                status: Status::Done,
-                numbers: self.tally.numbers(loose),
-                shown: 6,
-            }
+            done(&self.tally.numbers(loose))
         }
     }
 

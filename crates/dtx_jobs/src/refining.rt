@@ -8,7 +8,7 @@ ghost use Rattle.dtx_recipes.specs.Refine.{refined_answer};
 use crate::restorer::Restorer;
 use crate::symbol_buffer::SymbolBuffer;
 use dtx_forms::Setting;
-use dtx_meaning::{Outcome, Status, ended};
+use dtx_meaning::{Outcome, Status, done, ended};
 use dtx_refine::{MOST_ROUNDS, Refiner};
 use dtx_sizes::{FIELD_SEGMENTS, SEGMENT};
 use std::alloc::{AllocError, Global};
@@ -87,17 +87,13 @@ fn answer(refiner: &Refiner) -> Outcome
     if runs == 0 {
         return ended(Status::NoSync);
     }
-    Outcome {
-        status: Status::Done,
-        numbers: [
-            refiner.symbols(),
-            runs,
-            refiner.segments(),
-            refiner.cost(),
-            refiner.known(),
-            refiner.moved(),
-            refiner.loose(),
-        ],
-        shown: 7,
-    }
+    done(&[
+        refiner.symbols(),
+        runs,
+        refiner.segments(),
+        refiner.cost(),
+        refiner.known(),
+        refiner.moved(),
+        refiner.loose(),
+    ])
 }

@@ -14,7 +14,7 @@ use dtx_engine::Shape;
 use dtx_exciter::laws::groups_are_spaced;
 use dtx_files::LOG_LINE;
 use dtx_forms::{PIECE_SEGMENTS, Transmitting, segments};
-use dtx_meaning::{Outcome, Status, ended};
+use dtx_meaning::{Outcome, Status, done, ended};
 use dtx_packets::Packet;
 use dtx_receiver::{Batch, Progress};
 use dtx_repeat::Repeater;
@@ -216,11 +216,7 @@ impl Step for Repetition {
         if self.runs == 0 {
             ended(Status::NoSync)
         } else {
-            Outcome {
-                status: Status::Done,
-                numbers: self.numbers(loose),
-                shown: 7,
-            }
+            done(&self.numbers(loose))
         }
     }
 

@@ -16,9 +16,9 @@ use std::alloc::{AllocError, Global};
 /// Makes whole segments of a capture's symbols as they come. A piece brings at most `N` symbols, and so does the end.
 pub(crate) trait Restorer<const N: usize>: Drop {
     ghost use Rattle.dtx_engine.specs.Recipe.{IsAnswerOf};
-    ghost use Rattle.dtx_meaning.specs.declared.status.Status.{Status};
+    ghost use Rattle.dtx_meaning.specs.declared.status.Outcome.{Outcome};
     ghost use Rattle.dtx_words.specs.declared.rows.Command.{Command};
-    ghost use Rattle.dtx_forms.specs.Answers.{Knows};
+    ghost use Rattle.dtx_forms.specs.Answers.{IsKnown};
 
     /// The command.
     ghost command: { Command };
@@ -83,6 +83,6 @@ pub(crate) trait Restorer<const N: usize>: Drop {
     ghost restores: { (s : Self) → IsRestoring (restoring s) };
 
     /// Each answer that can come is one that the command may give.
-    ghost knows: { (scale rounds : ℕ) (status : Status) → IsAnswerOf (restoring_by (makes scale rounds)) status
-        → Knows command status };
+    ghost knows: { (scale rounds : ℕ) (outcome : Outcome) → IsAnswerOf (restoring_by (makes scale rounds)) outcome
+        → IsKnown command outcome };
 }

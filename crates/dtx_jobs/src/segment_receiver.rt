@@ -52,16 +52,16 @@ pub trait SegmentReceiver: Drop {
 /// A receiver whose packets a command writes.
 pub(crate) trait Receiving: SegmentReceiver {
     ghost use Rattle.dtx_engine.specs.Recipe.{IsAnswerOf};
-    ghost use Rattle.dtx_meaning.specs.declared.status.Status.{Status};
+    ghost use Rattle.dtx_meaning.specs.declared.status.Outcome.{Outcome};
     ghost use Rattle.dtx_words.specs.declared.rows.Command.{Command};
-    ghost use Rattle.dtx_forms.specs.Answers.{Knows};
+    ghost use Rattle.dtx_forms.specs.Answers.{IsKnown};
     ghost use Rattle.dtx_recipes.specs.Giving.{receiving_by};
 
     /// The command.
     ghost command: { Command };
 
     /// Every answer of the recipe is one that the command may give.
-    ghost knows: { (status : Status) → IsAnswerOf (receiving_by Self.giving) status → Knows command status };
+    ghost knows: { (outcome : Outcome) → IsAnswerOf (receiving_by Self.giving) outcome → IsKnown command outcome };
 }
 
 impl SegmentReceiver for Receiver {

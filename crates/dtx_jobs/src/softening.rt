@@ -11,7 +11,7 @@ use crate::symbol_buffer::SymbolBuffer;
 use dtx_engine::Shape;
 use dtx_forms::{PIECE_SEGMENTS, Stepping, segments};
 use dtx_frame::looks;
-use dtx_meaning::{Outcome, Status};
+use dtx_meaning::{Outcome, done};
 use dtx_receiver::to_symbols;
 use dtx_sizes::{FIELD_PACKETS, GROUP_PACKETS, MOST_SEGMENTS, SEGMENT};
 use dtx_soft::{FieldDecoder, MOST_SEGMENT_COST};
@@ -137,11 +137,7 @@ impl Step for Softening {
     fn finish(&mut self, loose: usize) -> Outcome {
         let rows = self.place.unwrap_or(0);
         self.flush(rows as usize);
-        Outcome {
-            status: Status::Done,
-            numbers: [self.segments, self.fields, self.cost, loose as u64, 0, 0, 0],
-            shown: 4,
-        }
+        done(&[self.segments, self.fields, self.cost, loose as u64])
     }
 
     fn made(&self) -> &[u8] {

@@ -8,7 +8,7 @@ use crate::symbol_buffer::SymbolBuffer;
 use dtx_coder::{AIR_SYMBOLS, Air, BATCH_PACKETS, Batch, Coder};
 use dtx_engine::Shape;
 use dtx_forms::{CODED_PACKETS, Stepping, coded_packets};
-use dtx_meaning::{Outcome, Status};
+use dtx_meaning::{Outcome, done};
 use dtx_sizes::{
     FIELD_PACKETS, GROUP_PACKETS, MARK, MOST_PACKETS, PACKET, SEGMENT, SYNC, field_place,
 };
@@ -102,19 +102,7 @@ impl Step for StreamCoder {
     }
 
     fn finish(&mut self, loose: usize) -> Outcome {
-        Outcome {
-            status: Status::Done,
-            numbers: [
-                self.packets,
-                segments_of(self.packets),
-                loose as u64,
-                0,
-                0,
-                0,
-                0,
-            ],
-            shown: 3,
-        }
+        done(&[self.packets, segments_of(self.packets), loose as u64])
     }
 
     fn made(&self) -> &[u8] {

@@ -6,7 +6,7 @@ ghost use Rattle.dtx_recipes.specs.WatchTally.{HasRoom, tally_of_one, tally_with
 use arrayvec::{ArrayString, ArrayVec};
 use dtx_engine::{Buffer, Shape};
 use dtx_forms::{Stepping, single_packets};
-use dtx_meaning::{Outcome, Status};
+use dtx_meaning::{Outcome, done};
 use dtx_packets::{PIECE_PACKETS, Packet};
 use dtx_recipes::WatchTally;
 use dtx_sizes::PACKET;
@@ -107,11 +107,7 @@ impl Step for Watching {
     fn finish(&mut self, loose: usize) -> Outcome {
         self.watcher.finish(&mut self.notes);
         self.gather();
-        Outcome {
-            status: Status::Done,
-            numbers: self.tally.numbers(loose),
-            shown: 7,
-        }
+        done(&self.tally.numbers(loose))
     }
 
     fn made(&self) -> &[u8] {

@@ -1,5 +1,5 @@
 -- The codes of the statuses, which count each is blamed on, and the statuses of errors from other crates.
-use Rattle.std.specs.Prelude.{◌≡◌, ℕ, ◌<◌, Bool, true, false, [], ◌∷◌, Result, Ok, Err}
+use Rattle.std.specs.Prelude.{◌≡◌, ℕ, ◌<◌, Bool, true, false, List, [], Result, Ok, Err}
 use Rattle.dtx_outside.specs.Counts.{Blame, Nothing, Missing, Reading, Writing}
 use Rattle.dtx_outside.specs.declared.shelf.ReadNo.{ReadNo}
 use Rattle.dtx_outside.specs.declared.shelf.ReadNo.TheVariants as read
@@ -113,9 +113,13 @@ IsOfInputs same inputs _ = same ≡ false
 
 -- ---- outcomes
 
--- the outcome with this status, with zeros as its numbers
+-- all was done, and the line has these numbers
+abbrev pub done : List ℕ → Outcome
+done numbers = record { status = Done; numbers = numbers }
+
+-- the outcome with this status, without numbers
 abbrev pub ended : Status → Outcome
-ended status = record { status = status; numbers = 0 ∷ 0 ∷ 0 ∷ 0 ∷ 0 ∷ 0 ∷ 0 ∷ []; shown = 0 }
+ended status = record { status = status; numbers = [] }
 
 -- the outcome of a result: the one that it has, or one with its status
 abbrev pub outcome_of : Result Outcome Status → Outcome

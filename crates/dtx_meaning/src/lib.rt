@@ -3,6 +3,8 @@
 #![tactic(auto)]
 
 pub mod laws;
+mod numbers;
 mod status;
 
-pub use status::{Outcome, Status, ended, of_plan, of_read, refused_behind};
+pub use numbers::{MOST_NUMBERS, Numbers};
+pub use status::{Outcome, Status, done, ended, of_plan, of_read, refused_behind};

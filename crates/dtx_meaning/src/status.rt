@@ -1,7 +1,9 @@
 // How a call of the program ends, as a status and the numbers of its line.
-ghost use Rattle.std.specs.Prelude.{◌≡◌};
-ghost use Rattle.dtx_meaning.specs.Status.{IsOfInput, code_of, ended, of_plan, of_read, refused_behind};
+ghost use Rattle.std.specs.Prelude.{◌≡◌, ◌≤◌, length};
+ghost use Rattle.dtx_meaning.specs.Status.{IsOfInput, code_of, done, ended, of_plan, of_read, refused_behind};
+ghost use Rattle.dtx_meaning.specs.declared.numbers.TheConstants.{MOST_NUMBERS};
 
+use crate::Numbers;
 use dtx_outside::{ReadNo, WriteNo};
 use dtx_plan::{PlanFault, PlanNo};
 use std::alloc::AllocError;
@@ -62,24 +64,32 @@ impl Status {
 }
 
 /// How a command ended, and the numbers of its line.
-#[derive(Clone, Copy, PartialEq, Eq)]
+#[derive(Clone, Copy)]
 pub struct Outcome {
     /// How it ended.
     pub status: Status,
-    /// If it is done, the numbers of its line in their order, and then zeros.
-    pub numbers: [u64; 7],
-    /// How many of the numbers its line shows.
-    pub shown: usize,
+    /// If it is done, the numbers of its line.
+    pub numbers: Numbers,
 }
 
-/// The outcome with this status, with zeros as its numbers.
+/// All was done, and the line has these numbers.
+pub fn done(numbers: &[u64]) -> Outcome
+    requires { length numbers.now ≤ MOST_NUMBERS }
+    ensures { result ≡ done numbers.now }
+{
+    Outcome {
+        status: Status::Done,
+        numbers: Numbers::new(numbers),
+    }
+}
+
+/// The outcome with this status, without numbers.
 pub fn ended(status: Status) -> Outcome
     ensures { result ≡ ended status }
 {
     Outcome {
         status,
-        numbers: [0; 7],
-        shown: 0,
+        numbers: Numbers::new(&[]),
     }
 }
 

@@ -15,9 +15,9 @@ use Rattle.dtx_dvb.specs.Reading.{read_dvb}
 use Rattle.dtx_dvb.proofs.ReadingLemmas.{length-read, next_of, read_loose, read_more}
 use Rattle.dtx_dvb.specs.Stream.{dvb}
 use Rattle.dtx_meaning.specs.Meaning.{Meaning}
-use Rattle.dtx_meaning.specs.Status.{ended}
+use Rattle.dtx_meaning.specs.Status.{done, ended}
 use Rattle.dtx_meaning.specs.declared.status.Status.{Status}
-use Rattle.dtx_meaning.specs.declared.status.Status.TheVariants.{Done, Packet, TooLong}
+use Rattle.dtx_meaning.specs.declared.status.Status.TheVariants.{Packet, TooLong}
 use Rattle.dtx_engine.specs.Made.{only, outputs_of}
 use Rattle.dtx_engine.specs.Recipe.{Course, course, course_from, first_refused, meaning_at, meaning_of_file}
 use Rattle.dtx_engine.specs.declared.piece.Ending.TheVariants.{Refused}
@@ -58,7 +58,7 @@ pub all_sent : (names : List (List ℕ)) (stream : List ℕ) → whole_packets s
 all_sent names stream few syncs =
     let n : ℕ = whole_packets stream in
     let means : ℕ → List ℕ → Meaning = λ packets sent. record {
-      outcome = record { status = Done; numbers = packets ∷ length stream % 188 ∷ 0 ∷ 0 ∷ 0 ∷ 0 ∷ 0 ∷ []; shown = 2 };
+      outcome = done (packets ∷ length stream % 188 ∷ []);
       outputs = outputs_of names (only sent);
     } in
     let long : length (take (188 * n) stream) ≡ 188 * n = length-take-le (188 * n) stream (omega arith) in
@@ -119,11 +119,7 @@ blocks_all_read names bytes few =
     let long : length front ≡ 204 * s = length-take-le (204 * s) bytes (omega arith) in
     let many : whole_blocks front ≡ s = omega (arith, long) in
     let means : ℕ → List Read → Meaning = λ n reads. record {
-      outcome = record {
-        status = Done;
-        numbers = n ∷ length reads ∷ fixed_in reads ∷ flagged_in reads ∷ length bytes % 204 ∷ 0 ∷ 0 ∷ [];
-        shown = 5;
-      };
+      outcome = done (n ∷ length reads ∷ fixed_in reads ∷ flagged_in reads ∷ length bytes % 204 ∷ []);
       outputs = outputs_of names (only (bytes_of_reads reads));
     } in
     all_read blocks dvb_reading names bytes (all_allowed bytes) few
@@ -190,7 +186,7 @@ comes_back names stream bytes few packets slight =
     ∙ ap (λ (m : ℕ). take (m - 11) ps) many)
     ∙ first_bytes stream (n - 11) (omega arith) in
     let means : ℕ → ℕ → ℕ → ℕ → ℕ → List ℕ → Meaning = λ b p f g l made. record {
-      outcome = record { status = Done; numbers = b ∷ p ∷ f ∷ g ∷ l ∷ 0 ∷ 0 ∷ []; shown = 5 };
+      outcome = done (b ∷ p ∷ f ∷ g ∷ l ∷ []);
       outputs = outputs_of names (only made);
     } in
     blocks_all_read names bytes (omega (arith, count, few))

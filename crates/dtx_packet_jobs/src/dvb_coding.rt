@@ -7,7 +7,7 @@ use crate::dvb_shapes::{BATCH_BYTES, BATCH_PACKETS, DVB_PIECE_PACKETS, dvb_packe
 use dtx_dvb::{BLOCK, DvbOut, FOUR, PERIOD_PACKETS};
 use dtx_engine::{Buffer, Shape};
 use dtx_forms::Stepping;
-use dtx_meaning::{Outcome, Status};
+use dtx_meaning::{Outcome, done};
 use dtx_packets::Packet;
 use dtx_sizes::{PACKET, SYNC};
 use dtx_steps::Step;
@@ -118,11 +118,7 @@ impl Step for DvbCoding {
     }
 
     fn finish(&mut self, loose: usize) -> Outcome {
-        Outcome {
-            status: Status::Done,
-            numbers: [self.packets, loose as u64, 0, 0, 0, 0, 0],
-            shown: 2,
-        }
+        done(&[self.packets, loose as u64])
     }
 
     fn made(&self) -> &[u8] {

@@ -11,7 +11,7 @@ use crate::dvb_shapes::{BATCH_BYTES, BATCH_PACKETS, blocks};
 use dtx_dvb::{BLOCK, DvbIn, FOUR, FOUR_BLOCKS, WAITING};
 use dtx_engine::{Buffer, Shape};
 use dtx_forms::Stepping;
-use dtx_meaning::{Outcome, Status};
+use dtx_meaning::{Outcome, done};
 use dtx_outer::Taken;
 use dtx_packets::{PIECE_PACKETS, Packet};
 use dtx_sizes::{MOST_PACKETS, PACKET};
@@ -194,19 +194,13 @@ impl Step for DvbReading {
 
     fn finish(&mut self, loose: usize) -> Outcome {
         let packets = self.gathered.blocks.saturating_sub(WAITING as u64);
-        Outcome {
-            status: Status::Done,
-            numbers: [
-                self.gathered.blocks,
-                packets,
-                self.gathered.fixed,
-                self.gathered.flagged,
-                loose as u64,
-                0,
-                0,
-            ],
-            shown: 5,
-        }
+        done(&[
+            self.gathered.blocks,
+            packets,
+            self.gathered.fixed,
+            self.gathered.flagged,
+            loose as u64,
+        ])
     }
 
     fn made(&self) -> &[u8] {

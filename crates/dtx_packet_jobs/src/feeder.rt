@@ -15,7 +15,7 @@ use dtx_adapter::Adapter;
 use dtx_adapter::laws::goes_on;
 use dtx_engine::{Engine, Shape};
 use dtx_forms::packets;
-use dtx_meaning::{Outcome, Status};
+use dtx_meaning::{Outcome, done};
 use dtx_plan::Plan;
 use dtx_sizes::{FIELD_PACKETS, GROUP_PACKETS, MOST_PACKETS, PACKET, SYNC};
 use std::alloc::{AllocError, Global};
@@ -131,11 +131,7 @@ impl Engine for Feeder<'_> {
     }
 
     fn finish(&mut self, loose: usize) -> Outcome {
-        Outcome {
-            status: Status::Done,
-            numbers: [self.count, self.filled, loose as u64, 0, 0, 0, 0],
-            shown: 3,
-        }
+        done(&[self.count, self.filled, loose as u64])
     }
 
     fn zeros(&self) -> u64 {

@@ -8,7 +8,7 @@ use dtx_engine::{Engine, Shape};
 use dtx_forms::single_bytes;
 use dtx_make::laws::{counted_in_pieces, laid_in_pieces};
 use dtx_make::{damaged_in, lay};
-use dtx_meaning::{Outcome, Status, ended};
+use dtx_meaning::{Outcome, Status, done, ended};
 use dtx_plan::Damages;
 
 /// Lays damage over the bytes of a file, in place.
@@ -74,11 +74,7 @@ impl Engine for Laying<'_> {
     fn finish(&mut self, _loose: usize) -> Outcome {
         match first_past(self.damage, self.count) {
             Some(entry) => ended(Status::OutOfAir(entry)),
-            None => Outcome {
-                status: Status::Done,
-                numbers: [self.count, self.damaged, 0, 0, 0, 0, 0],
-                shown: 2,
-            },
+            None => done(&[self.count, self.damaged]),
         }
     }
 

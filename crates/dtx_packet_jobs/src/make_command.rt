@@ -8,12 +8,12 @@ ghost use Rattle.dtx_make.specs.Made.{made_stream};
 ghost use Rattle.dtx_meaning.specs.Meaning.{IsCarriedOut};
 ghost use Rattle.dtx_meaning.specs.Status.{IsOfInputs, blame_of};
 ghost use Rattle.dtx_words.specs.declared.rows.Command.TheVariants as command;
-ghost use Rattle.dtx_forms.specs.Answers.{Knows};
+ghost use Rattle.dtx_forms.specs.Answers.{IsKnown};
 ghost use Rattle.dtx_forms.specs.Job.{IsPerformed, IsJobPerformed};
 ghost use Rattle.dtx_recipes.specs.Make.{made_file, made_of, make_job};
 
 use dtx_make::packet;
-use dtx_meaning::{Outcome, Status, ended};
+use dtx_meaning::{Outcome, Status, done, ended};
 use dtx_outside::{Output, PIECE, Shelf, Word, WriteNo};
 use dtx_sizes::MOST_PACKETS;
 use dtx_words::number_up_to;
@@ -65,7 +65,7 @@ pub fn make_stream<S: Shelf>(
 ) -> Outcome
     ensures carried { IsCarriedOut (made_file seed count output.now) (S.files shelf.old) result (S.files shelf.new) }
     ensures words { IsOfInputs false 0 result.status }
-    ensures answers { Knows command.Make result.status }
+    ensures answers { IsKnown command.Make result }
     ensures gone { HasGone (S.counts shelf.old) (S.counts shelf.new) (blame_of result.status) }
 {
     match Output::new(alloc) {
@@ -86,7 +86,7 @@ fn make_file<S: Shelf>(
     requires { made.old ≡ [] }
     ensures carried { IsCarriedOut (made_file seed count output.now) (S.files shelf.old) result (S.files shelf.new) }
     ensures words { IsOfInputs false 0 result.status }
-    ensures answers { Knows command.Make result.status }
+    ensures answers { IsKnown command.Make result }
     ensures gone { HasGone (S.counts shelf.old) (S.counts shelf.new) (blame_of result.status) }
 {
     match shelf.begin(output) {
@@ -108,15 +108,11 @@ fn fill_file<S: Shelf>(
     ensures carried { (start : Option Files) → IsWritten start output.now [] (S.files shelf.old)
         → IsCarriedOut (made_file seed count output.now) start result (S.files shelf.new) }
     ensures words { IsOfInputs false 0 result.status }
-    ensures answers { Knows command.Make result.status }
+    ensures answers { IsKnown command.Make result }
     ensures gone { HasGone (S.counts shelf.old) (S.counts shelf.new) (blame_of result.status) }
 {
     match write_made(seed, count, output, made, shelf) {
-        Ok(()) => Outcome {
-            status: Status::Done,
-            numbers: [count, 0, 0, 0, 0, 0, 0],
-            shown: 1,
-        },
+        Ok(()) => done(&[count]),
         Err(no) => ended(Status::from(no)),
     }
 }

@@ -5,7 +5,7 @@ ghost use Rattle.dtx_recipes.specs.Place.{as_placeholder};
 
 use dtx_engine::{Change, Shape};
 use dtx_forms::{Changing, single_packets};
-use dtx_meaning::{Outcome, Status};
+use dtx_meaning::{Outcome, done};
 use dtx_sizes::{FIELD_PACKETS, FLUSHING_PACKETS, NULL_PID, OPERATIONS_PID, SYNC};
 
 /// The first place of a field at which a placeholder is put, counted in packets from the field's first.
@@ -66,11 +66,7 @@ impl Change for Placing {
     fn finish(&self, units: u64, loose: usize) -> Outcome {
         let going = units % FIELD_PACKETS as u64 != 0;
         let bare = self.bare + (going & !self.found) as u64;
-        Outcome {
-            status: Status::Done,
-            numbers: [units, self.placed, bare, loose as u64, 0, 0, 0],
-            shown: 4,
-        }
+        done(&[units, self.placed, bare, loose as u64])
     }
 }
 

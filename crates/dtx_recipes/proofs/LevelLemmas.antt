@@ -1,12 +1,12 @@
 -- Laws of what `level` makes.
-use Rattle.std.proofs.Common.{◌≡◌, ℕ, List, [], ◌++◌, map, sym, ap, ap₂, ◌∙◌}
+use Rattle.std.proofs.Common.{refl, ◌≡◌, ℕ, List, [], ◌++◌, map, sym, ap, ap₂, ◌∙◌}
 use Rattle.std.proofs.lemmas.Grind.{flat_map-append}
 use Rattle.std.proofs.lemmas.List.{map-append}
 use Rattle.dtx_engine.specs.Made.{AreFrontsOf, only}
 use Rattle.dtx_engine.specs.Recipe.{IsAnswerOf}
 use Rattle.dtx_files.specs.Symbols.{byte_of_symbol}
 use Rattle.dtx_forms.proofs.AnswersLemmas.{knows_by, none_refused}
-use Rattle.dtx_forms.specs.Answers.{Knows}
+use Rattle.dtx_forms.specs.Answers.{IsKnown}
 use Rattle.dtx_recipes.proofs.AnswersLemmas.{synced_known}
 use Rattle.dtx_recipes.specs.Level.{levelled_files, levelling}
 use Rattle.dtx_recipes.specs.SymbolFile.{symbol_of_byte, symbols}
@@ -14,7 +14,7 @@ use Rattle.dtx_level.proofs.LevelledLemmas.{none_so_far, so_far_grows}
 use Rattle.dtx_level.specs.Levelled.{levelled_so_far}
 use Rattle.dtx_level.specs.MeasureText.{measure_text, measures_text}
 use Rattle.dtx_level.specs.Measures.{measures_so_far}
-use Rattle.dtx_meaning.specs.declared.status.Status.{Status}
+use Rattle.dtx_meaning.specs.declared.status.Outcome.{Outcome}
 use Rattle.dtx_words.specs.declared.rows.Command.TheVariants.{Level}
 
 -- ---- what is made
@@ -40,7 +40,7 @@ levels_more a b =
 
 -- ---- what is answered
 
-pub level_knows : (status : Status) → IsAnswerOf levelling status → Knows Level status
+pub level_knows : (outcome : Outcome) → IsAnswerOf levelling outcome → IsKnown Level outcome
 level_knows =
     knows_by levelling Level tt (λ k unit. none_refused unit)
-    (λ given loose. synced_known Level _ _ 3 tt)
+    (λ given loose. synced_known Level _ _ tt refl)

@@ -15,11 +15,11 @@ use Rattle.dtx_recipes.specs.Synced.{synced}
 -- bytes in no segment
 abbrev pub acquired_numbers : ℕ → ℕ → ℕ → ℕ → List ℕ
 acquired_numbers symbols runs segments cost =
-    symbols ∷ runs ∷ segments ∷ cost ∷ (symbols - 832 * segments) ∷ 0 ∷ 0 ∷ []
+    symbols ∷ runs ∷ segments ∷ cost ∷ (symbols - 832 * segments) ∷ []
 
 -- the answer: `NoSync` where there is no run
 abbrev pub acquired_answer : ℕ → ℕ → ℕ → ℕ → Outcome
-acquired_answer symbols runs segments cost = synced runs (acquired_numbers symbols runs segments cost) 5
+acquired_answer symbols runs segments cost = synced runs (acquired_numbers symbols runs segments cost)
 
 abbrev pub acquire_answer : ℕ → List ℤ → Outcome
 acquire_answer scale symbols =

@@ -8,8 +8,8 @@ use Rattle.dtx_plan.specs.Plan.{plan_of}
 use Rattle.dtx_plan.specs.declared.plan.Plan.{Plan}
 use Rattle.dtx_adapter.specs.Feed.{placeholders}
 use Rattle.dtx_meaning.specs.Meaning.{Meaning}
+use Rattle.dtx_meaning.specs.Status.{done}
 use Rattle.dtx_meaning.specs.declared.status.Outcome.{Outcome}
-use Rattle.dtx_meaning.specs.declared.status.Status.TheVariants.{Done}
 use Rattle.dtx_engine.specs.Made.{only}
 use Rattle.dtx_engine.specs.Recipe.{Recipe, meaning}
 use Rattle.dtx_words.specs.declared.rows.Command.TheVariants.{Adapt}
@@ -22,11 +22,7 @@ use Rattle.dtx_recipes.specs.Feed.{feed_bytes}
 
 -- the answer: the number of packets, of placeholders filled, and of bytes behind the last whole packet
 abbrev pub fed_outcome : List ℕ → ℕ → Outcome
-fed_outcome stream loose = record {
-  status = Done;
-  numbers = whole_packets stream ∷ placeholders (packets_of stream) ∷ loose ∷ 0 ∷ 0 ∷ 0 ∷ 0 ∷ [];
-  shown = 3;
-}
+fed_outcome stream loose = done (whole_packets stream ∷ placeholders (packets_of stream) ∷ loose ∷ [])
 
 -- The recipe: packets that begin with the sync byte 0x47 are allowed (ISO/IEC 13818-1, 2.4.3.2), and become those of
 -- the feed.

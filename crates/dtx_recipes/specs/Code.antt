@@ -3,8 +3,8 @@ use Rattle.std.specs.Prelude.{ℕ, ◌==◌, ◌||◌, Bool, List, [], ◌∷◌
 use Rattle.dtx_packets.specs.Packet.{sync_of}
 use Rattle.dtx_packets.specs.Packets.{packets_of, whole_packets}
 use Rattle.dtx_coder.specs.Stream.{a53}
+use Rattle.dtx_meaning.specs.Status.{done}
 use Rattle.dtx_meaning.specs.declared.status.Outcome.{Outcome}
-use Rattle.dtx_meaning.specs.declared.status.Status.TheVariants.{Done}
 use Rattle.dtx_engine.specs.Made.{only}
 use Rattle.dtx_engine.specs.Recipe.{Recipe}
 use Rattle.dtx_words.specs.declared.rows.Command.TheVariants.{Code}
@@ -19,11 +19,7 @@ may_be_coded packet = sync_of packet == 0x47 || sync_of packet == 0xB8
 
 -- the answer: the number of packets, of the segments of their whole groups, and of loose bytes
 abbrev pub code_answer : List ℕ → ℕ → Outcome
-code_answer bytes loose = record {
-  status = Done;
-  numbers = whole_packets bytes ∷ length (a53 (packets_of bytes)) ∷ loose ∷ 0 ∷ 0 ∷ 0 ∷ 0 ∷ [];
-  shown = 3;
-}
+code_answer bytes loose = done (whole_packets bytes ∷ length (a53 (packets_of bytes)) ∷ loose ∷ [])
 
 -- the recipe
 abbrev pub coding : Recipe

@@ -6,9 +6,9 @@ use Rattle.dtx_dvb.specs.Reading.{read_dvb}
 use Rattle.dtx_dvb.specs.Stream.{dvb}
 use Rattle.dtx_engine.specs.Made.{only, outputs_of}
 use Rattle.dtx_meaning.specs.Meaning.{Meaning}
-use Rattle.dtx_meaning.specs.Status.{ended}
+use Rattle.dtx_meaning.specs.Status.{done, ended}
 use Rattle.dtx_meaning.specs.declared.status.Status.{Status}
-use Rattle.dtx_meaning.specs.declared.status.Status.TheVariants.{Done, TooLong}
+use Rattle.dtx_meaning.specs.declared.status.Status.TheVariants.{TooLong}
 use Rattle.dtx_packets.specs.Packets.{packet_at, packets_of, whole_packets}
 use Rattle.dtx_sizes.specs.declared.limits.TheConstants.{MOST_PACKETS}
 use Rattle.dtx_recipes.specs.DvbCode.{dvb_code_answer}
@@ -52,11 +52,7 @@ read_until names bytes = record {
 -- flagged
 abbrev pub back_of : List (List ℕ) → List ℕ → ℕ → Meaning
 back_of names stream fixed = record {
-  outcome = record {
-    status = Done;
-    numbers = whole_packets stream ∷ (whole_packets stream - 11) ∷ fixed ∷ 0 ∷ 0 ∷ 0 ∷ 0 ∷ [];
-    shown = 5;
-  };
+  outcome = done (whole_packets stream ∷ (whole_packets stream - 11) ∷ fixed ∷ 0 ∷ 0 ∷ []);
   outputs = outputs_of names (only (take (188 * (whole_packets stream - 11)) stream));
 }
 

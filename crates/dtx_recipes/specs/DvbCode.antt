@@ -2,8 +2,8 @@
 use Rattle.std.specs.Prelude.{ℕ, List, [], ◌∷◌}
 use Rattle.dtx_packets.specs.Packets.{packets_of, whole_packets}
 use Rattle.dtx_dvb.specs.Stream.{dvb}
+use Rattle.dtx_meaning.specs.Status.{done}
 use Rattle.dtx_meaning.specs.declared.status.Outcome.{Outcome}
-use Rattle.dtx_meaning.specs.declared.status.Status.TheVariants.{Done}
 use Rattle.dtx_engine.specs.Made.{only}
 use Rattle.dtx_engine.specs.Recipe.{Recipe}
 use Rattle.dtx_words.specs.declared.rows.Command.TheVariants.{DvbCode}
@@ -14,11 +14,7 @@ use Rattle.dtx_recipes.specs.DvbShapes.{dvb_packets}
 
 -- the answer: the number of packets, and of loose bytes
 abbrev pub dvb_code_answer : List ℕ → ℕ → Outcome
-dvb_code_answer bytes loose = record {
-  status = Done;
-  numbers = whole_packets bytes ∷ loose ∷ 0 ∷ 0 ∷ 0 ∷ 0 ∷ 0 ∷ [];
-  shown = 2;
-}
+dvb_code_answer bytes loose = done (whole_packets bytes ∷ loose ∷ [])
 
 -- the recipe: packets that begin with 0x47 are allowed, and are sent as one stream
 abbrev pub dvb_coding : Recipe

@@ -3,8 +3,8 @@
 use Rattle.std.specs.Prelude.{ℕ, ◌/◌, true, List, [], ◌∷◌, length, flat_map}
 use Rattle.dtx_dvb.specs.Read.{Read, fixed_in, flagged_in}
 use Rattle.dtx_dvb.specs.Reading.{read_dvb}
+use Rattle.dtx_meaning.specs.Status.{done}
 use Rattle.dtx_meaning.specs.declared.status.Outcome.{Outcome}
-use Rattle.dtx_meaning.specs.declared.status.Status.TheVariants.{Done}
 use Rattle.dtx_engine.specs.Made.{only}
 use Rattle.dtx_engine.specs.Recipe.{Recipe}
 use Rattle.dtx_words.specs.declared.rows.Command.TheVariants.{DvbRead}
@@ -22,13 +22,9 @@ whole_blocks bytes = length bytes / 204
 
 -- the answer: the number of blocks, of packets, of bytes put right, of packets that are flagged, and of loose bytes
 abbrev pub dvb_read_answer : List ℕ → ℕ → Outcome
-dvb_read_answer bytes loose = record {
-  status = Done;
-  numbers =
-      whole_blocks bytes ∷ length (read_dvb bytes) ∷ fixed_in (read_dvb bytes) ∷ flagged_in (read_dvb bytes) ∷ loose
-      ∷ 0 ∷ 0 ∷ [];
-  shown = 5;
-}
+dvb_read_answer bytes loose =
+    done (whole_blocks bytes ∷ length (read_dvb bytes) ∷ fixed_in (read_dvb bytes) ∷ flagged_in (read_dvb bytes)
+    ∷ loose ∷ [])
 
 -- the recipe
 abbrev pub dvb_reading : Recipe

@@ -2,8 +2,8 @@
 use Rattle.std.specs.Prelude.{ℕ, true, List, []}
 use Rattle.dtx_engine.specs.Made.{Made, only}
 use Rattle.dtx_engine.specs.Recipe.{Recipe}
+use Rattle.dtx_meaning.specs.Status.{done}
 use Rattle.dtx_meaning.specs.declared.status.Outcome.{Outcome}
-use Rattle.dtx_meaning.specs.declared.status.Status.TheVariants.{Done}
 use Rattle.dtx_packets.specs.Packets.{packets_of}
 use Rattle.dtx_recipes.specs.Life.{life_numbers, life_tally, logged_bytes, sent_bytes}
 use Rattle.dtx_words.specs.declared.rows.Command.TheVariants.{Excite}
@@ -21,7 +21,7 @@ excited address delay packets = record {
 -- the answer: the numbers of the exciter's one life, and of the loose bytes
 abbrev pub excite_answer : ℕ → ℕ → List (List ℕ) → ℕ → Outcome
 excite_answer address delay packets loose =
-    record { status = Done; numbers = life_numbers (life_tally address delay packets) loose; shown = 5 }
+    done (life_numbers (life_tally address delay packets) loose)
 
 -- the recipe: packets of any bytes are allowed
 abbrev pub exciting : ℕ → ℕ → Recipe

@@ -55,7 +55,7 @@ given_numbers giving list loose = numbers_in (tally_of list (giving.all list)) l
 
 -- the answer: `NoSync` where there is no run, since no segment looks like a field sync
 abbrev pub answer_of : Giving → List (List ℤ) → ℕ → Outcome
-answer_of giving list loose = synced (length (runs list)) (given_numbers giving list loose) 6
+answer_of giving list loose = synced (length (runs list)) (given_numbers giving list loose)
 
 -- the recipe
 abbrev pub receiving_by : Giving → Recipe

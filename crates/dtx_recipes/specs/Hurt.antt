@@ -6,9 +6,9 @@ use Rattle.dtx_plan.specs.Plan.{changes_of}
 use Rattle.dtx_plan.specs.declared.damage.Damage.{Damage}
 use Rattle.dtx_make.specs.Hurt.{hurt, damaged_places}
 use Rattle.dtx_meaning.specs.Meaning.{Meaning}
-use Rattle.dtx_meaning.specs.Status.{ended}
+use Rattle.dtx_meaning.specs.Status.{done, ended}
 use Rattle.dtx_meaning.specs.declared.status.Outcome.{Outcome}
-use Rattle.dtx_meaning.specs.declared.status.Status.TheVariants.{Done, OutOfAir}
+use Rattle.dtx_meaning.specs.declared.status.Status.TheVariants.{OutOfAir}
 use Rattle.dtx_engine.specs.Made.{only}
 use Rattle.dtx_engine.specs.Recipe.{Recipe, meaning}
 use Rattle.dtx_words.specs.declared.rows.Command.TheVariants.{Hurt}
@@ -24,7 +24,7 @@ use Rattle.dtx_recipes.specs.PastEnd.{first_past}
 abbrev pub hurt_end : List Damage → ℕ → Option ℕ → Outcome
 hurt_end damage bytes (Some entry) = ended (OutOfAir entry)
 hurt_end damage bytes None =
-    record { status = Done; numbers = bytes ∷ damaged_places damage bytes ∷ 0 ∷ 0 ∷ 0 ∷ 0 ∷ 0 ∷ []; shown = 2 }
+    done (bytes ∷ damaged_places damage bytes ∷ [])
 
 abbrev pub hurt_outcome : List Damage → ℕ → Outcome
 hurt_outcome damage bytes = hurt_end damage bytes (first_past damage bytes)

@@ -25,7 +25,7 @@ levelled_files symbols measures =
 -- The answer: `NoSync` where there is no sync. Else the numbers are the symbols, the syncs, and the syncs that don't
 -- lie a multiple of 313 segments behind the one before.
 abbrev pub levelled_answer : ℕ → ℕ → ℕ → Outcome
-levelled_answer symbols syncs slips = synced syncs (symbols ∷ syncs ∷ slips ∷ 0 ∷ 0 ∷ 0 ∷ 0 ∷ []) 3
+levelled_answer symbols syncs slips = synced syncs (symbols ∷ syncs ∷ slips ∷ [])
 
 abbrev pub level_answer : List ℤ → Outcome
 level_answer symbols = levelled_answer (length symbols) (length (all_syncs symbols)) (slips (all_syncs symbols))

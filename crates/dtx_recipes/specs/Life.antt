@@ -51,9 +51,9 @@ tally_with tally segments lines = record {
   mutes = tally.mutes + mutes_in lines;
 }
 
--- the numbers of the command's line, and then zeros
+-- the numbers of the command's line
 abbrev pub life_numbers : LifeTally → ℕ → List ℕ
-life_numbers tally loose = tally.packets ∷ tally.segments ∷ tally.presets ∷ tally.mutes ∷ loose ∷ 0 ∷ 0 ∷ []
+life_numbers tally loose = tally.packets ∷ tally.segments ∷ tally.presets ∷ tally.mutes ∷ loose ∷ []
 
 -- no number overflows when one packet, `given` segments, one preset and one mute are counted more
 pub record HasRoom (tally : LifeTally) (given : ℕ) : Type 0 where

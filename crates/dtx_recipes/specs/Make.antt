@@ -3,7 +3,8 @@ use Rattle.std.specs.Prelude.{ℕ, ◌-◌, ◌^◌, List, [], ◌∷◌, Option
 use Rattle.dtx_outside.specs.Shelf.{Files}
 use Rattle.dtx_make.specs.Made.{made_stream}
 use Rattle.dtx_meaning.specs.Meaning.{Meaning, refused}
-use Rattle.dtx_meaning.specs.declared.status.Status.TheVariants.{Done, Usage}
+use Rattle.dtx_meaning.specs.Status.{done}
+use Rattle.dtx_meaning.specs.declared.status.Status.TheVariants.{Usage}
 use Rattle.dtx_packets.specs.Packets.{most_packets}
 use Rattle.dtx_words.specs.Number.{number_in}
 use Rattle.dtx_words.specs.declared.rows.Command.TheVariants.{Make}
@@ -13,7 +14,7 @@ use Rattle.dtx_forms.specs.Job.{Job}
 -- the packets 0 to `count - 1` of a seed are written to a file of that name
 abbrev pub made_file : ℕ → ℕ → List ℕ → Meaning
 made_file seed count output = record {
-  outcome = record { status = Done; numbers = count ∷ 0 ∷ 0 ∷ 0 ∷ 0 ∷ 0 ∷ 0 ∷ []; shown = 1 };
+  outcome = done (count ∷ []);
   outputs = (output, made_stream seed count) ∷ [];
 }
 

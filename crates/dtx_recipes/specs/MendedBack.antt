@@ -11,7 +11,7 @@ use Rattle.dtx_erase.specs.Mended.{all_mended, marks_at, mended_run}
 use Rattle.dtx_erase.specs.Mending.{lost, unmarked_distance}
 use Rattle.dtx_laws.specs.Codeword.{distance}
 use Rattle.dtx_meaning.specs.Meaning.{Meaning}
-use Rattle.dtx_meaning.specs.declared.status.Status.TheVariants.{Done}
+use Rattle.dtx_meaning.specs.Status.{done}
 use Rattle.dtx_outer.specs.Inner.{IsComplete, word_at}
 use Rattle.dtx_packets.specs.Packets.{packets_of}
 use Rattle.dtx_receiver.specs.Bytes.{bytes_in, groups_of}
@@ -88,12 +88,8 @@ put_right stream first got = sum_by (λ j. distance (word_in first got j) (codew
 -- as their sync bytes. None is flagged.
 abbrev pub all_back_of : List (List ℕ) → List (List ℕ) → ℕ → List ℕ → Meaning
 all_back_of names stream first file = record {
-  outcome = record {
-    status = Done;
-    numbers = whole_segments file ∷ 1 ∷ length (numbers_in (from_sync first (file_segments file)))
-        ∷ put_right stream first (file_segments file) ∷ 0 ∷ (length file % 832) ∷ 0 ∷ [];
-    shown = 6;
-  };
+  outcome = done (whole_segments file ∷ 1 ∷ length (numbers_in (from_sync first (file_segments file)))
+      ∷ put_right stream first (file_segments file) ∷ 0 ∷ (length file % 832) ∷ []);
   outputs = outputs_of names (only (flat_map (λ j. as_received (slice_index_or stream (packet_behind first + j) []))
       (numbers_in (from_sync first (file_segments file)))));
 }

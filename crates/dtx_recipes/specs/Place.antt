@@ -6,8 +6,8 @@ use Rattle.std.specs.List.{list_any, range_with_len}
 use Rattle.dtx_adapter.specs.Feed.{is_placeholder}
 use Rattle.dtx_engine.specs.Each.{each_making}
 use Rattle.dtx_engine.specs.Recipe.{Recipe}
+use Rattle.dtx_meaning.specs.Status.{done}
 use Rattle.dtx_meaning.specs.declared.status.Outcome.{Outcome}
-use Rattle.dtx_meaning.specs.declared.status.Status.TheVariants.{Done}
 use Rattle.dtx_packets.specs.Packet.{pid_of, sync_of}
 use Rattle.dtx_packets.specs.Packets.{packets_of}
 use Rattle.dtx_words.specs.declared.rows.Command.TheVariants.{Place}
@@ -67,11 +67,7 @@ bare_fields packets =
 -- the answer: the number of packets, of those that became placeholders, of fields left without a placeholder at place
 -- 52 or behind, and of loose bytes
 abbrev pub place_answer : List (List ℕ) → ℕ → Outcome
-place_answer packets loose = record {
-  status = Done;
-  numbers = length packets ∷ placed_count packets ∷ bare_fields (placed packets) ∷ loose ∷ 0 ∷ 0 ∷ 0 ∷ [];
-  shown = 4;
-}
+place_answer packets loose = done (length packets ∷ placed_count packets ∷ bare_fields (placed packets) ∷ loose ∷ [])
 
 -- ---- the meaning
 

@@ -23,7 +23,7 @@ refined_numbers symbols runs segments cost known moved =
 -- the answer: `NoSync` where there is no run
 abbrev pub refined_answer : ℕ → ℕ → ℕ → ℕ → ℕ → ℕ → Outcome
 refined_answer symbols runs segments cost known moved =
-    synced runs (refined_numbers symbols runs segments cost known moved) 7
+    synced runs (refined_numbers symbols runs segments cost known moved)
 
 -- what the last round was given
 abbrev pub before_last : ℕ → ℕ → List ℤ → List (List ℤ)

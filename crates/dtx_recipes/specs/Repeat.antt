@@ -44,7 +44,7 @@ repeated_numbers segments runs tally loose =
 -- the answer: `NoSync` where there is no run, since no segment looks like a field sync
 abbrev pub repeat_answer : ℕ → ℕ → List (List ℤ) → ℕ → Outcome
 repeat_answer address delay list loose = synced (length (runs list))
-    (repeated_numbers (length list) (length (runs list)) (lives_tally address delay (lives list)) loose) 7
+    (repeated_numbers (length list) (length (runs list)) (lives_tally address delay (lives list)) loose)
 
 -- the recipe
 abbrev pub repeating : ℕ → ℕ → Recipe

@@ -6,7 +6,7 @@ use Rattle.std.proofs.Common.{zero, suc}
 use Rattle.std.specs.List.{range_with_len}
 use Rattle.dtx_receiver.specs.Runs.{sync_due, tracked}
 use Rattle.dtx_soft.specs.Softened.{softened, softened_cost}
-use Rattle.dtx_meaning.specs.declared.status.Status.TheVariants.{Done}
+use Rattle.dtx_meaning.specs.Status.{done}
 use Rattle.dtx_engine.specs.Made.{only}
 use Rattle.dtx_engine.specs.Recipe.{Recipe}
 use Rattle.dtx_words.specs.declared.rows.Command.TheVariants.{Soft}
@@ -73,7 +73,7 @@ has_group groups = min 1 (length groups)
 abbrev pub soft_numbers : List (List ℤ) → ℕ → List ℕ
 soft_numbers segments loose =
     length segments ∷ field_sum has_group segments (length segments)
-    ∷ field_sum (softened_cost 1) segments (length segments) ∷ loose ∷ 0 ∷ 0 ∷ 0 ∷ []
+    ∷ field_sum (softened_cost 1) segments (length segments) ∷ loose ∷ []
 
 -- ---- piece by piece
 
@@ -96,7 +96,7 @@ softening = record {
   allows = λ _ _. true;
   made = λ bytes. only (segment_bytes (soft_so_far (file_segments bytes)));
   rest = λ bytes. only (segment_bytes (soft_rest (file_segments bytes)));
-  answer = λ bytes loose. record { status = Done; numbers = soft_numbers (file_segments bytes) loose; shown = 4 };
+  answer = λ bytes loose. done (soft_numbers (file_segments bytes) loose);
 }
 
 -- the command `soft IN OUT`

@@ -31,10 +31,10 @@ tally_with tally packets = record tally {
   flagged = tally.flagged + flagged_in packets;
 }
 
--- the numbers of the command's line, and then a zero
+-- the numbers of the command's line
 abbrev pub numbers_in : Tally → ℕ → List ℕ
 numbers_in tally loose =
-    tally.segments ∷ tally.runs ∷ tally.packets ∷ tally.fixed ∷ tally.flagged ∷ loose ∷ 0 ∷ []
+    tally.segments ∷ tally.runs ∷ tally.packets ∷ tally.fixed ∷ tally.flagged ∷ loose ∷ []
 
 -- bounds of the numbers: so many segments give no more
 pub record IsBounded (tally : Tally) (segments : ℕ) : Type 0 where

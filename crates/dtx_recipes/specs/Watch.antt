@@ -3,8 +3,8 @@ use Rattle.std.specs.Prelude.{ℕ, true, List, [], ◌∷◌, length}
 use Rattle.std.specs.List.{sum_by}
 use Rattle.dtx_engine.specs.Made.{only}
 use Rattle.dtx_engine.specs.Recipe.{Recipe}
+use Rattle.dtx_meaning.specs.Status.{done}
 use Rattle.dtx_meaning.specs.declared.status.Outcome.{Outcome}
-use Rattle.dtx_meaning.specs.declared.status.Status.TheVariants.{Done}
 use Rattle.dtx_packets.specs.Packets.{packets_of}
 use Rattle.dtx_watch.specs.Watch.{watch, told, waiting}
 use Rattle.dtx_watch.specs.WatchText.{watch_text}
@@ -88,7 +88,7 @@ watch_numbers tally loose =
 -- the answer: the packets, the lines of each kind that is counted, and the loose bytes
 abbrev pub watch_answer : List (List ℕ) → ℕ → Outcome
 watch_answer packets loose =
-    record { status = Done; numbers = watch_numbers (watch_tally (length packets) (watch packets)) loose; shown = 7 }
+    done (watch_numbers (watch_tally (length packets) (watch packets)) loose)
 
 -- the recipe: packets of any bytes are allowed, and each note gives a line, in their order
 abbrev pub watching : Recipe

@@ -3,7 +3,7 @@ use Rattle.std.specs.Prelude.{◌≡◌, ℕ, ◌%◌, ◌==◌, Ok, List, [], �
 use Rattle.std.specs.List.{Contains, filter, flat_map, range_with_len}
 use Rattle.dtx_engine.specs.Made.{only, outputs_of}
 use Rattle.dtx_meaning.specs.Meaning.{Meaning}
-use Rattle.dtx_meaning.specs.declared.status.Status.TheVariants.{Done}
+use Rattle.dtx_meaning.specs.Status.{done}
 use Rattle.dtx_ops.specs.Reading.{reading}
 use Rattle.dtx_ops.specs.declared.fields.Ops.{Ops}
 use Rattle.dtx_packets.specs.Packet.{pid_of}
@@ -35,7 +35,7 @@ tally_of_text packets text = record {
 -- the answer and the output where `text` is that of all notes and `loose` bytes are behind the packets
 abbrev pub told_by : List (List ℕ) → ℕ → ℕ → List ℕ → Meaning
 told_by names packets loose text = record {
-  outcome = record { status = Done; numbers = watch_numbers (tally_of_text packets text) loose; shown = 7 };
+  outcome = done (watch_numbers (tally_of_text packets text) loose);
   outputs = outputs_of names (only text);
 }
 
@@ -68,11 +68,7 @@ pub record IsWatchedCalmly (names packets : List (List ℕ)) (loose : ℕ) (mean
   pub said : ℕ → OpsNote
   pub calm : AreCalm packets said
   pub is : meaning ≡ record {
-    outcome = record {
-      status = Done;
-      numbers = length packets ∷ length (ops_packets packets) ∷ 0 ∷ 0 ∷ 0 ∷ 0 ∷ loose ∷ [];
-      shown = 7;
-    };
+    outcome = done (length packets ∷ length (ops_packets packets) ∷ 0 ∷ 0 ∷ 0 ∷ 0 ∷ loose ∷ []);
     outputs = outputs_of names
         (only (codes "lock 0\n" ++ flat_map (λ k. note_text (ops_at said k)) (ops_packets packets)));
   }

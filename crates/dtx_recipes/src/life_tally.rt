@@ -42,7 +42,7 @@ impl LifeTally {
     }
 
     /// The numbers of the command's line, in their order. `loose` bytes are behind the last whole packet.
-    pub fn numbers(&self, loose: usize) -> [u64; 7]
+    pub fn numbers(&self, loose: usize) -> [u64; 5]
         ensures { result ≡ life_numbers self.now loose }
     {
         [
@@ -51,8 +51,6 @@ impl LifeTally {
             self.presets,
             self.mutes,
             loose as u64,
-            0,
-            0,
         ]
     }
 }

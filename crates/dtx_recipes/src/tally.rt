@@ -53,7 +53,7 @@ impl Tally {
     }
 
     /// The numbers of the command's line, in their order. `loose` bytes are behind the last whole segment.
-    pub fn numbers(&self, loose: usize) -> [u64; 7]
+    pub fn numbers(&self, loose: usize) -> [u64; 6]
         ensures { result ≡ numbers_in self.now loose }
     {
         [
@@ -63,7 +63,6 @@ impl Tally {
             self.fixed,
             self.flagged,
             loose as u64,
-            0,
         ]
     }
 }

@@ -1,9 +1,9 @@
 -- The pieces of a line, as far as a loop has come.
-use Rattle.std.proofs.Common.{◌≡◌, ℕ, ◌+◌, ◌≤◌, ◌<◌, suc, List, ◌++◌, length, map, take, drop, get_or}
+use Rattle.std.proofs.Common.{◌≡◌, ℕ, ◌+◌, ◌≤◌, ◌<◌, ◌⊎◌, arith, inl, inr, suc, List, [], ◌∷◌, ◌++◌, length, map, drop, get_or}
 use Rattle.std.proofs.Common.{refl, sym, ap, ◌∙◌, add-one, append_assoc}
 use Rattle.std.specs.Prelude.{codes, decimal, min}
 use Rattle.std.specs.Borrow.{Bor}
-use Rattle.std.proofs.lemmas.List.{take_min, take-map}
+use Rattle.std.proofs.lemmas.Bool.{cases_lt}
 use Rattle.std.proofs.Math.Seq.{drop-cons}
 use Rattle.std.proofs.Math.ListN.{drop_of_length-le}
 use Rattle.dtx_words.specs.declared.rows.Command.{Command}
@@ -27,6 +27,21 @@ numbered_next labels numbers i d first second =
     rw (add-one, drop-cons labels i d first, drop-cons numbers i 0 second)
     (sym (append_assoc (get_or labels i d).now (decimal (get_or numbers i 0)) (numbered_from labels numbers (suc i))))
 
+numbered_none : (labels : List (List ℕ)) → numbered labels [] ≡ []
+numbered_none [] = refl
+numbered_none (label ∷ labels) = refl
+
+-- behind the last label, or the last number
+pub numbered_end : (labels : List (Bor (List ℕ))) (numbers : List ℕ) (i : ℕ)
+    → min (length labels) (length numbers) ≤ i → numbered_from labels numbers i ≡ []
+numbered_end labels numbers i past = by_cases (cases_lt i (length labels))
+  where
+    by_cases : (i < length labels) ⊎ (length labels ≤ i) → numbered_from labels numbers i ≡ []
+    by_cases (inl some) =
+        rw (drop_of_length-le numbers {i = i} (omega (arith, past, some)))
+        (numbered_none (labels_behind (drop i labels)))
+    by_cases (inr none) = rw (drop_of_length-le labels {i = i} none) refl
+
 -- the words from a place on
 abbrev pub verbs_from : List ℕ → List Command → ℕ → List ℕ
 verbs_from before all i = verbs_behind before (drop i all)
@@ -44,10 +59,3 @@ verbs_next before all i d within =
 pub verbs_end : (before : List ℕ) (all : List Command) (i : ℕ) → length all ≤ i
     → verbs_from before all i ++ codes "\n" ≡ codes "\n"
 verbs_end before all i past = rw (drop_of_length-le all {i = i} past) refl
-
--- the labels of a line, taken behind references
-pub labels_taken : (labels : List (Bor (List ℕ))) (n k : ℕ) → k ≡ min n (length labels)
-    → labels_behind (take k labels) ≡ take n (labels_behind labels)
-labels_taken labels n k is =
-    ap (λ m. labels_behind (take m labels)) is ∙ ap labels_behind (take_min n labels)
-    ∙ sym (take-map (λ label. label.now) n labels)

@@ -1,5 +1,5 @@
 -- The lines that are printed at the end.
-use Rattle.std.specs.Prelude.{ℕ, max, List, [], ◌∷◌, ◌++◌, take, codes, decimal, Option, Some, None, Result, Ok, Err}
+use Rattle.std.specs.Prelude.{ℕ, List, [], ◌∷◌, ◌++◌, codes, decimal, Option, Some, None, Result, Ok, Err}
 use Rattle.dtx_outside.specs.declared.sink.SinkNo.{SinkNo}
 use Rattle.dtx_outside.specs.declared.sink.SinkNo.TheVariants as sink
 use Rattle.dtx_plan.specs.Words.{key_word, rule_word}
@@ -10,19 +10,17 @@ use Rattle.dtx_meaning.specs.declared.status.Status.TheVariants.{OutOfFeed, OutO
 use Rattle.dtx_meaning.specs.declared.status.Status.TheVariants.{Memory}
 use Rattle.dtx_words.specs.Rows.{row_of, first_words}
 use Rattle.dtx_words.specs.declared.rows.Command.{Command}
-use Rattle.dtx_words.specs.declared.rows.Command.TheVariants.{Net}
 
--- each label, followed by its number
+-- each label that has a number, followed by that
 abbrev pub numbered : List (List ℕ) → List ℕ → List ℕ
 numbered [] numbers = []
 numbered (label ∷ labels) [] = []
 numbered (label ∷ labels) (number ∷ numbers) = label ++ (decimal number ++ numbered labels numbers)
 
--- the labels of a line: all of its row, but of `net` as many as it shows numbers, and three at least
-abbrev pub labels_of : Option Command → ℕ → List (List ℕ)
-labels_of None shown = []
-labels_of (Some Net) shown = take (max shown 3) (row_of Net).labels
-labels_of (Some command) shown = (row_of command).labels
+-- the labels of a command's row
+abbrev pub labels_of : Option Command → List (List ℕ)
+labels_of None = []
+labels_of (Some command) = (row_of command).labels
 
 -- the first words of some commands, with `before` in front and a bar between them
 abbrev pub verbs_behind : List ℕ → List Command → List ℕ
@@ -35,7 +33,7 @@ usage_line = verbs_behind (codes "usage: dtx ") first_words ++ codes "\n"
 
 -- the line of a command that is done: its labels with their numbers
 abbrev pub done_line : Option Command → Outcome → List ℕ
-done_line command outcome = numbered (labels_of command outcome.shown) outcome.numbers ++ codes "\n"
+done_line command outcome = numbered (labels_of command) outcome.numbers ++ codes "\n"
 
 -- the line of a refusal that has neither a name nor a number
 abbrev pub bare_line : Status → List ℕ

@@ -15,9 +15,9 @@ use dtx_outside::{Sink, SinkNo};
 use dtx_plan::PlanNo;
 use itoa::Buffer;
 
-/// Prints the line of an outcome. For `Done` it has the labels of the command's row, each with its number: of `net` as
-/// many as the outcome shows, and at least three. For any other status it is the line of the refusal, which ends with
-/// `name` for `Same` and `Absent`. After an error a prefix of the line was printed.
+/// Prints the line of an outcome. For `Done` it has the labels of the command's row, each with its number: as many as
+/// the outcome has. For any other status it is the line of the refusal, which ends with `name` for `Same` and `Absent`.
+/// After an error a prefix of the line was printed.
 pub fn line<O: Sink>(
     command: Option<Command>,
     outcome: &Outcome,
@@ -50,34 +50,29 @@ fn put_done<O: Sink>(command: Option<Command>, outcome: &Outcome, out: &mut O) -
     ensures written { IsPut (done_line command outcome.now) (O.written out.old) result (O.written out.new) }
     ensures gone { IsCounted (O.counts out.old) result (O.counts out.new) }
 {
-    put_numbered(labels(command, outcome.shown), &outcome.numbers, out)?;
+    put_numbered(labels(command), outcome.numbers.as_slice(), out)?;
     put_all(out, &["\n"])
 }
 
-/// The labels of a line: all of the command's row, but of `net` as many as it shows numbers, and three at least.
-fn labels(command: Option<Command>, shown: usize) -> &'static [&'static str]
-    ensures labels { map (λ label. label.now) result.now ≡ labels_of command shown }
-    ensures few { length result.now ≤ 7 }
+/// The labels of the command's row.
+fn labels(command: Option<Command>) -> &'static [&'static str]
+    ensures { map (λ label. label.now) result.now ≡ labels_of command }
 {
     match command {
-        Some(Command::Net) => {
-            let row = row(Command::Net);
-            &row.labels[..shown.max(3).min(row.labels.len())]
-        }
         Some(command) => row(command).labels,
         None => &[],
     }
 }
 
-/// Prints each label, followed by its number.
+/// Prints each label that has a number, followed by that.
 fn put_numbered<O: Sink>(labels: &[&str], numbers: &[u64], out: &mut O) -> Result<(), SinkNo>
-    requires { length labels.now ≤ length numbers.now }
     ensures written { IsPut (numbered (map (λ label. label.now) labels.now) numbers.now) (O.written out.old) result
         (O.written out.new) }
     ensures gone { IsCounted (O.counts out.old) result (O.counts out.new) }
 {
-    for (i, label) in labels.iter().enumerate() {
-        put_number(label, numbers[i], out)?;
+    let count = labels.len().min(numbers.len());
+    for i in 0..count {
+        put_number(labels[i], numbers[i], out)?;
     }
     Ok(())
 }

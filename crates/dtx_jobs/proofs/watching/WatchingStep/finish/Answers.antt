@@ -1,12 +1,11 @@
-use Rattle.std.proofs.Common.{◌≡◌, ◌++◌, ℕ, List, length, ap, sym, subst, ◌∙◌, arith}
+use Rattle.std.proofs.Common.{◌≡◌, ◌++◌, List, length, ap, sym, subst, ◌∙◌, arith}
 use Rattle.dtx_packets.specs.Packets.{packets_of}
 use Rattle.dtx_watch.specs.Kept.{StandsFor}
 use Rattle.dtx_watch.proofs.ToldLemmas.{all_told}
 use Rattle.dtx_watch.specs.Watch.{told, waiting}
 use Rattle.dtx_watch.specs.WatchText.{watch_text}
 use Rattle.dtx_watch.specs.declared.notes.Note.{Note}
-use Rattle.dtx_meaning.specs.declared.status.Outcome.{Outcome}
-use Rattle.dtx_meaning.specs.declared.status.Status.TheVariants.{Done}
+use Rattle.dtx_meaning.specs.Status.{done}
 use Rattle.dtx_engine.specs.Made.{only}
 use Rattle.dtx_forms.proofs.FilePacketsLemmas.{length-packets_of}
 use Rattle.dtx_recipes.specs.Watch.{watch_tally, watch_numbers}
@@ -41,8 +40,8 @@ returns-clause-outcome c = λ given stand.
     let notes : List Note = c.finish.new.notes.items in
     let stands = subst (λ w. StandsFor w ps) (sym c.deref_mut.ensures.value) stand.watcher in
     let waits : notes ≡ waiting ps = c.finish.ensures ps stands in
-    let outcome : List ℕ → Outcome = λ numbers. record { status = Done; numbers = numbers; shown = 7 } in
-    ap outcome
+    c.done.ensures
+    ∙ ap done
     (c.numbers.ensures
     ∙ ap (λ (t : WatchTally). watch_numbers t c.args.loose)
     (c.gather.ensures.tally ∙ ap (λ (t : WatchTally). tally_with t notes) stand.tally

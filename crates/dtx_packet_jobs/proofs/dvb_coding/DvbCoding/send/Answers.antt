@@ -1,4 +1,4 @@
-use Rattle.std.proofs.Common.{◌++◌, sym, subst, length, take, ◌<◌}
+use Rattle.std.proofs.Common.{◌++◌, sym, subst}
 use Rattle.std.proofs.lemmas.List.{take_more}
 use Rattle.dtx_packet_jobs.specs.DvbCoding.{IsSending}
 use Rattle.dtx_packet_jobs.proofs.dvb_coding.DvbCoding.send.Goals as goal

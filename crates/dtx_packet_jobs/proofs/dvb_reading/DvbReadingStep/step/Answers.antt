@@ -1,4 +1,4 @@
-use Rattle.std.proofs.Common.{◌≡◌, ◌*◌, ◌++◌, length, take, ap, ap₂, arith}
+use Rattle.std.proofs.Common.{◌*◌, take, ap, ap₂, arith}
 use Rattle.std.proofs.lemmas.List.{length-append, length-take-le}
 use Rattle.dtx_engine.specs.Made.{both}
 use Rattle.dtx_packet_jobs.proofs.dvb_reading.DvbReadingStep.step.Goals as goal

@@ -1,6 +1,6 @@
 use Rattle.std.proofs.Common.{◌≡◌, ℕ, ◌*◌, ◌/◌, List, [], ◌∷◌, length, ap, ap₂, ◌∙◌, arith}
+use Rattle.dtx_meaning.specs.Status.{done}
 use Rattle.dtx_meaning.specs.declared.status.Outcome.{Outcome}
-use Rattle.dtx_meaning.specs.declared.status.Status.TheVariants.{Done}
 use Rattle.dtx_packets.specs.Packets.{packets_of}
 use Rattle.dtx_recipes.specs.Place.{bare_fields, placed, placed_count}
 use Rattle.dtx_forms.proofs.FilePacketsLemmas.{length-packets_of}
@@ -8,12 +8,8 @@ use Rattle.dtx_packet_jobs.proofs.PlacedCounts.{bare_is, closed_fields-most, fit
 use Rattle.dtx_packet_jobs.proofs.placing.PlacingChange.finish.Goals as goal
 
 -- the answer with these numbers
-done : ℕ → ℕ → ℕ → ℕ → Outcome
-done packets placed bare loose = record {
-  status = Done;
-  numbers = packets ∷ placed ∷ bare ∷ loose ∷ 0 ∷ 0 ∷ 0 ∷ [];
-  shown = 4;
-}
+answer : ℕ → ℕ → ℕ → ℕ → Outcome
+answer packets placed bare loose = done (packets ∷ placed ∷ bare ∷ loose ∷ [])
 
 -- how many packets were given
 units_are : (units : ℕ) (given : List ℕ) → length given ≡ 188 * units → units ≡ length (packets_of given)
@@ -31,10 +27,11 @@ overflow_add-bare c =
     ))
 
 pub returns-clause-answer : goal.returns-clause-answer
-unfolding done
+unfolding answer
 returns-clause-answer c = λ given long counted.
     let packets = packets_of given in
     let units : c.args.units ≡ length packets = units_are c.args.units given long in
-    ap₂ (λ (placed bare : ℕ). done c.args.units placed bare c.args.loose) counted.changed
+    c.done.ensures
+    ∙ ap₂ (λ (placed bare : ℕ). answer c.args.units placed bare c.args.loose) counted.changed
     (bare_is c.args.self.now packets c.args.units counted units)
-    ∙ ap (λ (n : ℕ). done n (placed_count packets) (bare_fields (placed packets)) c.args.loose) units
+    ∙ ap (λ (n : ℕ). answer n (placed_count packets) (bare_fields (placed packets)) c.args.loose) units
