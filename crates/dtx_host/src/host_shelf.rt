@@ -72,6 +72,8 @@ impl<R: Files + AllocGlobal + Clock + Eprint + Input> Shelf for HostShelf<'_, R>
 
     ghost foreseen = { nothing_foreseen };
 
+    fn known(&self) {}
+
     fn read(&mut self, name: &str, place: u64, into: &mut [u8]) -> Result<usize, ReadNo>
         requires wanted { 0 < length into.old }
         requires room { place + length into.old < 2 ^ 64 }

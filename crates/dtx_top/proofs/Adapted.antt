@@ -9,6 +9,7 @@ use Rattle.dtx_engine.specs.Recipe.{Course, Recipe, course_from, first_refused, 
 use Rattle.dtx_engine.specs.Recipe.{meaning_of_file, whole_units}
 use Rattle.dtx_engine.specs.declared.engine.Shape.{Shape}
 use Rattle.dtx_engine.specs.declared.piece.Ending.TheVariants.{Whole, Refused}
+use Rattle.dtx_recipes.specs.Adapt.{feeding}
 use Rattle.dtx_recipes.specs.Feed.{feed_bytes}
 use Rattle.dtx_forms.proofs.FilePacketsLemmas.{length-packets_of, long-packets_of}
 use Rattle.dtx_forms.specs.Shapes.{packets}
@@ -26,7 +27,7 @@ use Rattle.dtx_packets.specs.Packets.{packets_of, whole_packets}
 use Rattle.dtx_plan.specs.declared.plan.NetPlan.{NetPlan}
 use Rattle.dtx_plan.specs.declared.plan.Plan.{Plan}
 use Rattle.dtx_words.specs.NetworkNames.{feed_name}
-use Rattle.dtx_top.specs.NetMeaning.{adapting, fed_meaning, is_done, network_meaning}
+use Rattle.dtx_top.specs.NetMeaning.{fed_meaning, is_done, network_meaning}
 use Rattle.dtx_top.specs.NetProgress.{HasPlayProgress, HasNetProgress, HasStreamProgress, feed_outputs}
 use Rattle.dtx_top.specs.NetProgress.{reception_outputs}
 use Rattle.dtx_top.specs.Replaying.{IsFeedWritten}
@@ -79,11 +80,11 @@ given_of file = first_units packets file (whole_units packets file)
 pub packets_given_of : (file : List ℕ) → packets_of (given_of file) ≡ packets_of file
 packets_given_of file = packets_of-piece file 0 (whole_packets file) (omega arith)
 
-written : (plan : Plan) (file : List ℕ) (held mid : Files) (fed : Outcome) → AreAllTaken packets (adapting plan) file
-    → IsWhole (meaning_of_file packets (adapting plan) (feed_name ∷ []) file) (Some held) fed (Some mid)
+written : (plan : Plan) (file : List ℕ) (held mid : Files) (fed : Outcome) → AreAllTaken packets (feeding plan) file
+    → IsWhole (meaning_of_file packets (feeding plan) (feed_name ∷ []) file) (Some held) fed (Some mid)
     → IsFeedWritten plan (packets_of file) fed mid
 written plan file held mid fed all whole =
-    let means = taken_means packets (adapting plan) (feed_name ∷ []) file all in
+    let means = taken_means packets (feeding plan) (feed_name ∷ []) file all in
     let given : List ℕ = given_of file in
     let bytes : List ℕ = feed_bytes plan (packets_of given) ++ [] in
     let answer = whole.answer ∙ ap (λ (m : Meaning). m.outcome) means in
@@ -111,7 +112,7 @@ pub record IsAdapted (plan : Plan) (file : List ℕ) (held : Files) (fed : Outco
 
 pub adapted_whole : (plan : Plan) (file : List ℕ) (held : Files) (fed : Outcome) (mid : Option Files)
     → fed.status ≡ Done
-    → IsWhole (meaning_of_file packets (adapting plan) (feed_name ∷ []) file) (Some held) fed mid
+    → IsWhole (meaning_of_file packets (feeding plan) (feed_name ∷ []) file) (Some held) fed mid
     → IsAdapted plan file held fed mid
 adapted_whole plan file held fed mid done whole = record {
   between = between;
@@ -121,8 +122,8 @@ adapted_whole plan file held fed mid done whole = record {
       (record { answer = whole.answer; files = sym told ∙ whole.files });
 }
   where
-    all : AreAllTaken packets (adapting plan) file
-    all = all_taken packets (adapting plan) (feed_name ∷ []) file
+    all : AreAllTaken packets (feeding plan) file
+    all = all_taken packets (feeding plan) (feed_name ∷ []) file
         (sym (ap (λ (o : Outcome). o.status) whole.answer) ∙ done)
 
     between : Files
@@ -131,7 +132,7 @@ adapted_whole plan file held fed mid done whole = record {
     told : mid ≡ Some between
     told = whole.files
         ∙ ap (λ (m : Meaning). with_outputs m.outputs (Some held))
-        (taken_means packets (adapting plan) (feed_name ∷ []) file all)
+        (taken_means packets (feeding plan) (feed_name ∷ []) file all)
 
 -- ---- what follows of it
 
@@ -140,7 +141,7 @@ not_fault status done fault = subst IsFault done fault
 
 pub fed_then : (plan : Plan) (network : NetPlan) (held : Files) (found : Option (List ℕ)) (mid now : Option Files)
     (fed result : Outcome) → fed.status ≡ Done
-    → IsCarriedOut (meaning packets (adapting plan) 1 (feed_name ∷ []) found) (Some held) fed mid
+    → IsCarriedOut (meaning packets (feeding plan) 1 (feed_name ∷ []) found) (Some held) fed mid
     → ((told : Files) (stream : List (List ℕ)) → mid ≡ Some told → IsFeedWritten plan stream fed told
     → IsCarriedOut (fed_meaning plan network stream) (Some told) result now)
     → IsCarriedOut (network_meaning plan network found) (Some held) result now
@@ -152,7 +153,7 @@ fed_then plan network held (Some file) mid now fed result done (inl whole) next 
     at_done (is_done first.outcome.status) refl
   where
     first : Meaning
-    first = meaning_of_file packets (adapting plan) (feed_name ∷ []) file
+    first = meaning_of_file packets (feeding plan) (feed_name ∷ []) file
 
     first_done : first.outcome.status ≡ Done
     first_done = sym (ap (λ (o : Outcome). o.status) whole.answer) ∙ done
@@ -172,13 +173,13 @@ fed_then plan network held (Some file) mid now fed result done (inl whole) next 
 
 pub fed_alone : (plan : Plan) (network : NetPlan) (held : Files) (found : Option (List ℕ)) (now : Option Files)
     (fed : Outcome) → (fed.status ≡ Done → ⊥)
-    → IsCarriedOut (meaning packets (adapting plan) 1 (feed_name ∷ []) found) (Some held) fed now
+    → IsCarriedOut (meaning packets (feeding plan) 1 (feed_name ∷ []) found) (Some held) fed now
     → IsCarriedOut (network_meaning plan network found) (Some held) fed now
 fed_alone plan network held None now fed not_done carried = carried
 fed_alone plan network held (Some file) now fed not_done carried = at_done (is_done first.outcome.status) refl carried
   where
     first : Meaning
-    first = meaning_of_file packets (adapting plan) (feed_name ∷ []) file
+    first = meaning_of_file packets (feeding plan) (feed_name ∷ []) file
 
     next : Meaning
     next = fed_meaning plan network (packets_of file)
@@ -194,7 +195,7 @@ fed_alone plan network held (Some file) now fed not_done carried = at_done (is_d
 
 pub fed_then_told : (plan : Plan) (network : NetPlan) (told mid now : Option Files) (fed result : Outcome)
     → fed.status ≡ Done
-    → IfSome told (λ held. IsCarriedOut (meaning packets (adapting plan) 1 (feed_name ∷ []) (get held network.stream))
+    → IfSome told (λ held. IsCarriedOut (meaning packets (feeding plan) 1 (feed_name ∷ []) (get held network.stream))
     (Some held) fed mid)
     → ((held : Files) (stream : List (List ℕ)) → mid ≡ Some held → IsFeedWritten plan stream fed held
     → IsCarriedOut (fed_meaning plan network stream) (Some held) result now)
@@ -205,7 +206,7 @@ fed_then_told plan network (Some held) mid now fed result done carried next =
 
 pub fed_alone_told : (plan : Plan) (network : NetPlan) (told now : Option Files) (fed : Outcome)
     → (fed.status ≡ Done → ⊥)
-    → IfSome told (λ held. IsCarriedOut (meaning packets (adapting plan) 1 (feed_name ∷ []) (get held network.stream))
+    → IfSome told (λ held. IsCarriedOut (meaning packets (feeding plan) 1 (feed_name ∷ []) (get held network.stream))
     (Some held) fed now)
     → IfSome told (λ held. IsCarriedOut (network_meaning plan network (get held network.stream)) (Some held) fed now)
 fed_alone_told plan network None now fed not_done carried = tt
@@ -217,7 +218,7 @@ fed_alone_told plan network (Some held) now fed not_done carried =
 -- the feed is whole
 fed_then_come : (plan : Plan) (network : NetPlan) (held : Files) (found : Option (List ℕ)) (mid now : Option Files)
     (fed : Outcome) (status : Status) → fed.status ≡ Done
-    → IsCarriedOut (meaning packets (adapting plan) 1 (feed_name ∷ []) found) (Some held) fed mid
+    → IsCarriedOut (meaning packets (feeding plan) 1 (feed_name ∷ []) found) (Some held) fed mid
     → ((told : Files) (stream : List (List ℕ)) → mid ≡ Some told → IsFeedWritten plan stream fed told
     → HasPlayProgress plan network stream status told now)
     → IfSome found (λ file. HasNetProgress plan network file status held now)
@@ -232,7 +233,7 @@ fed_then_come plan network held (Some file) mid now fed status done (inl whole) 
 
 pub fed_then_progress : (plan : Plan) (network : NetPlan) (told mid now : Option Files) (fed : Outcome)
     (status : Status) → fed.status ≡ Done
-    → IfSome told (λ held. IsCarriedOut (meaning packets (adapting plan) 1 (feed_name ∷ []) (get held network.stream))
+    → IfSome told (λ held. IsCarriedOut (meaning packets (feeding plan) 1 (feed_name ∷ []) (get held network.stream))
     (Some held) fed mid)
     → ((held : Files) (stream : List (List ℕ)) → mid ≡ Some held → IsFeedWritten plan stream fed held
     → HasPlayProgress plan network stream status held now)
@@ -243,16 +244,16 @@ fed_then_progress plan network (Some held) mid now fed status done carried next 
 
 -- the feed isn't whole
 fed_alone_come : (plan : Plan) (network : NetPlan) (held : Files) (found : Option (List ℕ)) (now : Option Files)
-    (fed : Outcome) → IsCarriedOut (meaning packets (adapting plan) 1 (feed_name ∷ []) found) (Some held) fed now
+    (fed : Outcome) → IsCarriedOut (meaning packets (feeding plan) 1 (feed_name ∷ []) found) (Some held) fed now
     → IfSome found (λ file. HasNetProgress plan network file fed.status held now)
 fed_alone_come plan network held None now fed carried = tt
 fed_alone_come plan network held (Some file) now fed carried =
     only_fed (feed_outputs plan file) plan.transmitters (steps_under plan (packets_of file) network.events)
     (reception_outputs plan network (packets_of file) network.receive) fed.status held now
-    (part_of_carried (meaning_of_file packets (adapting plan) (feed_name ∷ []) file) (Some held) now fed carried)
+    (part_of_carried (meaning_of_file packets (feeding plan) (feed_name ∷ []) file) (Some held) now fed carried)
 
 pub fed_alone_progress : (plan : Plan) (network : NetPlan) (told now : Option Files) (fed : Outcome)
-    → IfSome told (λ held. IsCarriedOut (meaning packets (adapting plan) 1 (feed_name ∷ []) (get held network.stream))
+    → IfSome told (λ held. IsCarriedOut (meaning packets (feeding plan) 1 (feed_name ∷ []) (get held network.stream))
     (Some held) fed now)
     → IfSome told (λ held. HasStreamProgress plan network fed.status held now)
 fed_alone_progress plan network None now fed carried = tt

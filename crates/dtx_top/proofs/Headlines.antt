@@ -1,16 +1,18 @@
 -- The headline, of a network whose meaning was carried out and is done.
-use Rattle.std.proofs.Common.{◌≡◌, ℕ, ◌*◌, ◌/◌, ◌<◌, ◌^◌, Bool, true, false, cond, List, [], ◌∷◌, ◌++◌, length, refl}
-use Rattle.std.proofs.Common.{sym, ap, subst, ◌∙◌, arith}
+use Rattle.std.proofs.Common.{◌≡◌, ℕ, ◌*◌, ◌/◌, ◌<◌, ◌≤◌, ◌^◌, Bool, true, false, cond, List, [], ◌∷◌, ◌++◌, length}
+use Rattle.std.proofs.Common.{refl, sym, ap, subst, ◌∙◌, arith}
 use Rattle.std.specs.Prelude.{Option, Some, None, Result, Ok, Err, IfSome, IsSomeAnd, ℤ, is_some, slice_get}
 use Rattle.std.specs.Prelude.{slice_index}
 use Rattle.std.specs.FinMap.{get}
 use Rattle.std.specs.Option.{option_map_or}
 use Rattle.std.specs.Result.{IsOkAnd}
+use Rattle.std.proofs.lemmas.Bool.{ltb-false}
 use Rattle.std.proofs.lemmas.List.{append-nil, take_all}
 use Rattle.std.proofs.lemmas.List.Elements.{All-get_or}
 use Rattle.std.proofs.lemmas.Option.{slice_get_within, get_or_from_slice_get}
-use Rattle.dtx_outside.specs.Shelf.{Files}
-use Rattle.dtx_packets.specs.Packets.{packets_of}
+use Rattle.dtx_galois.specs.Field.{AreBytes}
+use Rattle.dtx_outside.specs.Shelf.{ConsistOfBytes, Files}
+use Rattle.dtx_packets.specs.Packets.{packets_of, whole_packets}
 use Rattle.dtx_plan.proofs.WalksLemmas.{plan_sound, plan_transmitters}
 use Rattle.dtx_plan.specs.Plan.{plan_of}
 use Rattle.dtx_plan.specs.Sound.{IsTransmitter}
@@ -38,6 +40,7 @@ use Rattle.dtx_words.specs.NetworkNames.{feed_name, received_name}
 use Rattle.dtx_forms.specs.PlanFile.{under_plan, under_said}
 use Rattle.dtx_forms.specs.Shapes.{packets, segments}
 use Rattle.dtx_forms.specs.Damaged.{damaged_making}
+use Rattle.dtx_recipes.specs.Adapt.{feeding}
 use Rattle.dtx_recipes.specs.Feed.{feed_bytes}
 use Rattle.dtx_packet_jobs.proofs.PacketFileLemmas.{packets_of-bytes}
 use Rattle.dtx_recipes.specs.PastEnd.{first_past}
@@ -48,7 +51,7 @@ use Rattle.dtx_schedule.specs.Inside.{first_past_feed}
 use Rattle.dtx_schedule.proofs.FilesLemmas.{AreApart, apart_of, files_with, with_outputs-told}
 use Rattle.dtx_schedule.specs.TransmitterFiles.{played_outputs, symbol_file}
 use Rattle.dtx_top.specs.HeadlineOfFiles.{HeadlineOfFiles}
-use Rattle.dtx_top.specs.NetMeaning.{adapting, events_past, fed_meaning, is_done, network_meaning, planned_meaning}
+use Rattle.dtx_top.specs.NetMeaning.{events_past, fed_meaning, is_done, network_meaning, planned_meaning}
 use Rattle.dtx_top.specs.NetMeaning.{played_and_received, received_of, received_past, with_received}
 use Rattle.dtx_top.specs.Networks.{OfNetwork, AreWholeFiles, damaged_file, network_names, packets_received}
 use Rattle.dtx_top.specs.Networks.{sent_file}
@@ -58,7 +61,7 @@ use Rattle.dtx_top.proofs.HeadlineLaw.{HeadlineLaw}
 use Rattle.dtx_top.proofs.NetFiles.{network_files, network_outputs, received_outputs}
 use Rattle.dtx_top.proofs.SegmentsBack.{segments_of_file}
 use Rattle.dtx_top.proofs.SegmentsSent.{length-symbol_file}
-use Rattle.dtx_top.proofs.Streams.{is_stream}
+use Rattle.dtx_top.proofs.StreamsLemmas.{is_stream}
 
 -- ---- what was received
 
@@ -157,7 +160,7 @@ by_events plan network stream (Some event) done = cc
 by_events plan network stream None done = by_receiver plan network stream network.receive done
 
 record IsDone (plan : Plan) (network : NetPlan) (file : List ℕ) : Type 0 where
-  all : AreAllTaken packets (adapting plan) file
+  all : AreAllTaken packets (feeding plan) file
   outputs : (network_meaning plan network (Some file)).outputs
       ≡ network_outputs plan network (packets_of file) (packets_received plan network (packets_of file))
 
@@ -166,7 +169,7 @@ done_outputs : (plan : Plan) (network : NetPlan) (file : List ℕ)
 done_outputs plan network file done = at_first (is_done first.outcome.status) refl done
   where
     first : Meaning
-    first = meaning_of_file packets (adapting plan) (feed_name ∷ []) file
+    first = meaning_of_file packets (feeding plan) (feed_name ∷ []) file
 
     next : Meaning
     next = fed_meaning plan network (packets_of file)
@@ -175,12 +178,12 @@ done_outputs plan network file done = at_first (is_done first.outcome.status) re
         → (cond b (and_then first next) first).outcome.status ≡ Done → IsDone plan network file
     at_first false e done = let t : is_done first.outcome.status ≡ true = ap is_done done in cc
     at_first true e done =
-        let all = all_taken packets (adapting plan) (feed_name ∷ []) file (is_done_is first.outcome.status e) in
+        let all = all_taken packets (feeding plan) (feed_name ∷ []) file (is_done_is first.outcome.status e) in
         record {
           all = all;
           outputs = ap (λ (b : Bool). (cond b (and_then first next) first).outputs) e
               ∙ ap (λ (o : Outputs). o ++ next.outputs)
-              (ap (λ (m : Meaning). m.outputs) (taken_means packets (adapting plan) (feed_name ∷ []) file all)
+              (ap (λ (m : Meaning). m.outputs) (taken_means packets (feeding plan) (feed_name ∷ []) file all)
               ∙ ap (λ (bytes : List ℕ). (feed_name, bytes) ∷ []) (append-nil _
               ∙ ap (feed_bytes plan) (packets_given_of file)))
               ∙ ap (λ (o : Outputs). (feed_name, feed_bytes plan (packets_of file)) ∷ o)
@@ -232,74 +235,67 @@ apart_plan plan is = apart_of plan.transmitters is.sound.transmitters (small pla
 -- the files and the headline, of a network whose plan is read
 pub stream_done : HeadlineLaw
     → (plan : Plan) (network : NetPlan) (held : Files) (now : Option Files) (found : Option (List ℕ))
-    → IsPlan plan
+    → IfSome found AreBytes → IsPlan plan
     → (network_meaning plan network found).outcome.status ≡ Done
     → now ≡ with_outputs (network_meaning plan network found).outputs (Some held)
     → IsSomeAnd found (λ file. IsSomeAnd now (HeadlineOfFiles plan network (packets_of file) held))
-stream_done law plan network held now None is done files = cc
-stream_done law plan network held now (Some file) is done files =
+stream_done law plan network held now None bytes is done files = cc
+stream_done law plan network held now (Some file) bytes is done files =
     let whole = done_outputs plan network file done in
     let stream : List (List ℕ) = packets_of file in
     let outputs : Outputs = network_outputs plan network stream (packets_received plan network stream) in
     let told : now ≡ Some (files_with outputs held) =
     files ∙ ap (λ (o : Outputs). with_outputs o (Some held)) whole.outputs ∙ with_outputs-told outputs held in
     let apart = apart_plan plan is in
+    let few : whole_packets file ≤ 624000000 = ltb-false 624000000 (whole_packets file) whole.all.few in
     subst (λ (o : Option Files). IsSomeAnd o (HeadlineOfFiles plan network stream held)) (sym told)
-    (headline_of law plan network stream held (files_with outputs held) is (is_stream plan file whole.all)
+    (headline_of law plan network stream held (files_with outputs held) is (is_stream file bytes few)
     (network_files plan network stream (packets_received plan network stream) held
     (files_with outputs held) apart refl))
 
-abbrev Claims : Files → Option Files → Plan → NetPlan → Type 0
-Claims held now plan network =
-    IsSomeAnd (get held network.stream) (λ file. IsSomeAnd now (HeadlineOfFiles plan network (packets_of file) held))
+module _ (law : HeadlineLaw) (name : List ℕ) (held : Files) (bytes : ConsistOfBytes held) (now : Option Files) where
+  abbrev Claims : Plan → NetPlan → Type 0
+  Claims plan network = IsSomeAnd (get held network.stream) (λ file.
+      IsSomeAnd now (HeadlineOfFiles plan network (packets_of file) held))
 
-named_done : HeadlineLaw
-    → (name : List ℕ) (plan : Plan) (network : NetPlan) (held : Files) (now : Option Files) (b : Bool)
-    → IsPlan plan
-    → (cond b (refused Same) (network_meaning plan network (get held network.stream))).outcome.status ≡ Done
-    → now ≡ with_outputs (cond b (refused Same) (network_meaning plan network (get held network.stream))).outputs
-    (Some held) → Claims held now plan network
-named_done law name plan network held now true is done files = cc
-named_done law name plan network held now false is done files =
-    stream_done law plan network held now (get held network.stream) is done files
+  named_done : (plan : Plan) (network : NetPlan) (b : Bool) → IsPlan plan
+      → (cond b (refused Same) (network_meaning plan network (get held network.stream))).outcome.status ≡ Done
+      → now ≡ with_outputs (cond b (refused Same) (network_meaning plan network (get held network.stream))).outputs
+      (Some held) → Claims plan network
+  named_done plan network true is done files = cc
+  named_done plan network false is done files =
+      stream_done law plan network held now (get held network.stream) (bytes network.stream) is done files
 
-planned_done : HeadlineLaw
-    → (name : List ℕ) (plan : Plan) (n : Option NetPlan) (held : Files) (now : Option Files) → IsPlan plan
-    → (planned_meaning name held plan n).outcome.status ≡ Done
-    → now ≡ with_outputs (planned_meaning name held plan n).outputs (Some held)
-    → IsSomeAnd n (Claims held now plan)
-planned_done law name plan None held now is done files = cc
-planned_done law name plan (Some network) held now is done files =
-    named_done law name plan network held now (is_some (repeated (network_names name plan network))) is done files
+  planned_done : (plan : Plan) (n : Option NetPlan) → IsPlan plan
+      → (planned_meaning name held plan n).outcome.status ≡ Done
+      → now ≡ with_outputs (planned_meaning name held plan n).outputs (Some held) → IsSomeAnd n (Claims plan)
+  planned_done plan None is done files = cc
+  planned_done plan (Some network) is done files =
+      named_done plan network (is_some (repeated (network_names name plan network))) is done files
 
--- what is meant under a plan of this name
-abbrev Under : List ℕ → Files → Plan → Meaning
-Under name held said = planned_meaning name held said said.net
+  -- what is meant under a plan of this name
+  abbrev under : Plan → Meaning
+  under said = planned_meaning name held said said.net
 
-said_done : HeadlineLaw
-    → (name bytes : List ℕ) (r : Result Plan PlanNo) (held : Files) (now : Option Files) → plan_of bytes ≡ r
-    → (under_said (Under name held) r).outcome.status ≡ Done
-    → now ≡ with_outputs (under_said (Under name held) r).outputs (Some held)
-    → IsOkAnd r (λ plan. IsSomeAnd plan.net (Claims held now plan))
-said_done law name bytes (Err refusal) held now is done files = cc
-said_done law name bytes (Ok plan) held now is done files =
-    planned_done law name plan plan.net held now (record {
-      sound = plan_sound bytes plan is;
-      transmitters = plan_transmitters bytes plan is;
-    }) done files
+  said_done : (file : List ℕ) (r : Result Plan PlanNo) → plan_of file ≡ r → (under_said under r).outcome.status ≡ Done
+      → now ≡ with_outputs (under_said under r).outputs (Some held)
+      → IsOkAnd r (λ plan. IsSomeAnd plan.net (Claims plan))
+  said_done file (Err refusal) is done files = cc
+  said_done file (Ok plan) is done files = planned_done plan plan.net (record {
+    sound = plan_sound file plan is;
+    transmitters = plan_transmitters file plan is;
+  }) done files
 
-file_done : HeadlineLaw → (name : List ℕ) (found : Option (List ℕ)) (held : Files) (now : Option Files)
-    → (under_plan 0 found (Under name held)).outcome.status ≡ Done
-    → now ≡ with_outputs (under_plan 0 found (Under name held)).outputs (Some held)
-    → IsSomeAnd found (λ bytes. IsOkAnd (plan_of bytes) (λ plan. IsSomeAnd plan.net (Claims held now plan)))
-file_done law name None held now done files = cc
-file_done law name (Some bytes) held now done files = said_done law name bytes (plan_of bytes) held now refl done files
+  file_done : (found : Option (List ℕ)) → (under_plan 0 found under).outcome.status ≡ Done
+      → now ≡ with_outputs (under_plan 0 found under).outputs (Some held)
+      → IsSomeAnd found (λ file. IsOkAnd (plan_of file) (λ plan. IsSomeAnd plan.net (Claims plan)))
+  file_done None done files = cc
+  file_done (Some file) done files = said_done file (plan_of file) refl done files
 
-pub headline_done : HeadlineLaw → (name : List ℕ) (held : Files) (now : Option Files) (outcome : Outcome)
-    → IsCarriedOut (under_plan 0 (get held name) (λ said. planned_meaning name held said said.net))
-    (Some held) outcome now → outcome.status ≡ Done
-    → OfNetwork name held (λ plan network file. IsSomeAnd now (HeadlineOfFiles plan network (packets_of file) held))
-headline_done law name held now outcome carried done =
-    let is = whole_of_carried (under_plan 0 (get held name) (Under name held)) (Some held) now outcome carried
-    (λ fault. subst IsFault done fault) in
-    file_done law name (get held name) held now (sym (ap (λ (o : Outcome). o.status) is.answer) ∙ done) is.files
+  pub headline_done : (outcome : Outcome)
+      → IsCarriedOut (under_plan 0 (get held name) under) (Some held) outcome now → outcome.status ≡ Done
+      → OfNetwork name held (λ plan network file. IsSomeAnd now (HeadlineOfFiles plan network (packets_of file) held))
+  headline_done outcome carried done =
+      let is = whole_of_carried (under_plan 0 (get held name) under) (Some held) now outcome carried
+      (λ fault. subst IsFault done fault) in
+      file_done (get held name) (sym (ap (λ (o : Outcome). o.status) is.answer) ∙ done) is.files

@@ -17,7 +17,7 @@ pub mod Played
 pub mod SegmentsBack
 pub mod SegmentsSent
 pub mod Stages
-pub mod Streams
+pub mod StreamsLemmas
 pub mod SymbolsBack
 pub mod SymbolsSent
 pub mod TrialAnswers

@@ -21,7 +21,7 @@ use Rattle.dtx_recipes.proofs.AnswersLemmas.{receive_knows}
 use Rattle.dtx_recipes.specs.Receive.{receiving}
 use Rattle.dtx_schedule.specs.PlayedSoFar.{IsOfFeed}
 use Rattle.dtx_top.specs.NetAnswers.{IsOfNetwork, IsOfReplay}
-use Rattle.dtx_top.specs.NetMeaning.{adapting}
+use Rattle.dtx_recipes.specs.Adapt.{feeding}
 
 -- an answer of one of the inputs
 pub of_network : (number : ℕ) (status : Status) → number < 4 → IsOfInput number status → IsOfNetwork status
@@ -83,7 +83,7 @@ feed_not_done status is done = let P : Status → Type 0 = λ s. IsOfFeed s in s
 
 -- the answer of the stream that is adapted
 pub stream_of_replay : (plan : plans.Plan) (receive : Option ReceivePlan) (status : Status) → IsOfInput 1 status
-    → IsAnswerOf (adapting plan) status → IsOfReplay receive status
+    → IsAnswerOf (feeding plan) status → IsOfReplay receive status
 stream_of_replay plan receive Usage is answer = is
 stream_of_replay plan receive Same is answer = is
 stream_of_replay plan receive (Absent input) is answer = (omega (arith, is), omega (arith, is))

@@ -2,11 +2,12 @@
 use Rattle.std.proofs.Common.{◌≡◌, ℕ, zero, suc, ◌+◌, ◌%◌, ◌<◌, ◌≤◌, ◌==◌, Bool, true, false, cond, not, List, [], ◌∷◌}
 use Rattle.std.proofs.Common.{◌++◌, length, get_or, refl, sym, ap, subst, ◌∙◌, arith}
 use Rattle.std.specs.Prelude.{None, min, nat_lt, position, replicate}
-use Rattle.std.specs.List.{AllByRecursion, find, position_or_len, range_with_len}
-use Rattle.std.proofs.lemmas.Bool.{and_from, cond-false, cond-true, eq-eqb, le-ltb, lt-ltb}
+use Rattle.std.specs.List.{AllByRecursion, find, flat_map, position_or_len, range_with_len}
+use Rattle.std.proofs.lemmas.Bool.{cond-false, cond-true, eq-eqb, le-ltb}
 use Rattle.std.proofs.lemmas.List.Folds.{flat_map-map}
 use Rattle.std.proofs.lemmas.List.FromFn.{get_or-map-range_with_len}
 use Rattle.dtx_engine.specs.Recipe.{first_refused, meaning_of_file, unit_at, whole_units}
+use Rattle.dtx_galois.proofs.BytesLemmas.{bytes_append}
 use Rattle.dtx_galois.specs.Field.{AreBytes}
 use Rattle.dtx_packet_jobs.proofs.PacketFileLemmas.{packets_of-bytes}
 use Rattle.dtx_forms.specs.Shapes.{packets}
@@ -17,9 +18,9 @@ use Rattle.dtx_packets.specs.Packet.{sync_of}
 use Rattle.dtx_packets.specs.Packets.{packet_at, packets_of, whole_packets}
 use Rattle.dtx_plan.specs.declared.plan.Plan.{Plan}
 use Rattle.dtx_schedule.specs.Inside.{first_past_feed, reads_past}
+use Rattle.dtx_recipes.specs.Adapt.{feeding}
 use Rattle.dtx_words.specs.NetworkNames.{feed_name}
-use Rattle.dtx_top.specs.NetMeaning.{adapting, is_done}
-use Rattle.dtx_top.specs.OfBytes.{are_bytes}
+use Rattle.dtx_top.specs.NetMeaning.{is_done}
 use Rattle.dtx_top.specs.Trial.{trial_events}
 use Rattle.dtx_top.specs.WorkedNetwork.{made_packets}
 use Rattle.dtx_top.proofs.Adapted.{AreAllTaken, taken_means}
@@ -43,6 +44,16 @@ packet_there seed count k most within =
     ∙ ap (λ (ps : List (List ℕ)). get_or ps k []) (trial_packets seed count most)
     ∙ packet_in seed count k within
 
+-- ---- it consists of bytes
+
+packets_bytes : (seed : ℕ) (ks : List ℕ) → AreBytes (flat_map (made_packet seed) ks)
+packets_bytes seed [] = tt
+packets_bytes seed (k ∷ ks) = bytes_append (made_packet seed k) _ (packet_bytes seed k) (packets_bytes seed ks)
+
+pub stream_bytes : (seed count : ℕ) → AreBytes (made_stream seed count)
+unfolding made_stream
+stream_bytes seed count = packets_bytes seed (range_with_len 0 count)
+
 -- ---- each is allowed
 
 pub begins : (seed index : ℕ) → sync_of (made_packet seed index) ≡ 0x47
@@ -54,14 +65,8 @@ begins seed index = choose (index % 312 == 100)
     choose true = refl
     choose false = refl
 
-bytes_pass : (xs : List ℕ) → AreBytes xs → are_bytes xs ≡ true
-bytes_pass [] are = refl
-bytes_pass (x ∷ xs) are = and_from _ _ (lt-ltb x 256 are.0) (bytes_pass xs are.1)
-
-allowed : (plan : Plan) (seed k : ℕ) → (adapting plan).allows k (made_packet seed k) ≡ true
-allowed plan seed k =
-    and_from _ _ (eq-eqb (sync_of (made_packet seed k)) 0x47 (begins seed k))
-    (bytes_pass (made_packet seed k) (packet_bytes seed k))
+allowed : (plan : Plan) (seed k : ℕ) → (feeding plan).allows k (made_packet seed k) ≡ true
+allowed plan seed k = eq-eqb (sync_of (made_packet seed k)) 0x47 (begins seed k)
 
 none_found : (p : ℕ → Bool) (a n : ℕ) → ((i : ℕ) → a ≤ i → i < a + n → p i ≡ false)
     → find p (range_with_len a n) ≡ None
@@ -71,19 +76,19 @@ none_found p a (suc n) fails =
     ∙ none_found p (a + 1) n (λ i l m. fails i (omega arith) (omega arith))
 
 none_refused : (plan : Plan) (seed count : ℕ) → count ≤ 624000000
-    → first_refused packets (adapting plan) (made_stream seed count) ≡ None
+    → first_refused packets (feeding plan) (made_stream seed count) ≡ None
 unfolding first_refused
 none_refused plan seed count most =
     let file : List ℕ = made_stream seed count in
-    none_found (λ k. not ((adapting plan).allows k (unit_at packets file k))) 0
+    none_found (λ k. not ((feeding plan).allows k (unit_at packets file k))) 0
     (min (whole_units packets file) 624000000) (λ k l m.
-    ap not (subst (λ (unit : List ℕ). (adapting plan).allows k unit ≡ true)
+    ap not (subst (λ (unit : List ℕ). (feeding plan).allows k unit ≡ true)
     (sym (packet_there seed count k most (omega (arith, m, length-made_stream seed count)))) (allowed plan seed k)))
 
 -- ---- so its feed is made
 
 all_taken : (plan : Plan) (seed count : ℕ) → count ≤ 624000000
-    → AreAllTaken packets (adapting plan) (made_stream seed count)
+    → AreAllTaken packets (feeding plan) (made_stream seed count)
 all_taken plan seed count most = record {
   none = none_refused plan seed count most;
   few = le-ltb 624000000 (whole_packets (made_stream seed count))
@@ -91,10 +96,10 @@ all_taken plan seed count most = record {
 }
 
 pub fed_done : (plan : Plan) (seed count : ℕ) → count ≤ 624000000
-    → is_done (meaning_of_file packets (adapting plan) (feed_name ∷ []) (made_stream seed count)).outcome.status ≡ true
+    → is_done (meaning_of_file packets (feeding plan) (feed_name ∷ []) (made_stream seed count)).outcome.status ≡ true
 fed_done plan seed count most =
     ap (λ (m : Meaning). is_done m.outcome.status)
-    (taken_means packets (adapting plan) (feed_name ∷ []) (made_stream seed count) (all_taken plan seed count most))
+    (taken_means packets (feeding plan) (feed_name ∷ []) (made_stream seed count) (all_taken plan seed count most))
 
 -- ---- the events are within it
 

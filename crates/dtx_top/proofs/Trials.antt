@@ -46,6 +46,7 @@ use Rattle.dtx_top.proofs.HeadlineLaw.{HeadlineLaw}
 use Rattle.dtx_top.proofs.Headlines.{stream_done}
 use Rattle.dtx_top.proofs.NetFiles.{letter}
 use Rattle.dtx_top.proofs.NetProgresses.{answered_so}
+use Rattle.dtx_top.proofs.TrialFed.{stream_bytes}
 
 -- ---- the plan
 
@@ -371,7 +372,7 @@ trial_headline law seed count held now outcome carried done =
     sym (ap (λ (o : Outcome). o.status) whole.answer) ∙ done in
     done_files seed count held now
     (stream_done law plan network (with_trial seed count held) now (Some (made_stream seed count))
-    (is_plan seed count) (done_of_trial _ answered) whole.files)
+    (stream_bytes seed count) (is_plan seed count) (done_of_trial _ answered) whole.files)
 
 pub headline_told : HeadlineLaw → (seed count : ℕ) (told now : Option Files) (outcome : Outcome)
     → IfSome told (λ held. IsCarriedOut (trial_made seed count) (Some held) outcome now)

@@ -9,7 +9,6 @@ pub mod NetMeaning
 pub mod NetNames
 pub mod NetProgress
 pub mod Networks
-pub mod OfBytes
 pub mod Replaying
 pub mod Stages
 pub mod Trial

@@ -16,7 +16,7 @@ use Rattle.dtx_meaning.specs.Meaning.{Meaning, and_then, refused}
 use Rattle.dtx_meaning.specs.declared.status.Outcome.{Outcome}
 use Rattle.dtx_meaning.specs.declared.status.Status.{Status}
 use Rattle.dtx_meaning.specs.declared.status.Status.TheVariants.{Done, Usage, Same, Absent, Plan, OutOfFeed, OutOfAir}
-use Rattle.dtx_engine.specs.Recipe.{Recipe, meaning_of_file}
+use Rattle.dtx_engine.specs.Recipe.{meaning_of_file}
 use Rattle.dtx_words.specs.Names.{repeated}
 use Rattle.dtx_words.specs.NetworkNames.{feed_name, received_name}
 use Rattle.dtx_forms.specs.PlanFile.{under_plan}
@@ -29,7 +29,6 @@ use Rattle.dtx_schedule.specs.Inside.{first_past_feed}
 use Rattle.dtx_schedule.specs.Playout.{packets_given}
 use Rattle.dtx_schedule.specs.TransmitterFiles.{played_outputs}
 use Rattle.dtx_top.specs.Networks.{network_names, sent_file}
-use Rattle.dtx_top.specs.OfBytes.{of_bytes}
 
 -- ---- one meaning after another
 
@@ -107,15 +106,11 @@ fed_meaning plan network stream = events_past (first_past_feed network.events (l
 
 -- ---- the stream is adapted
 
--- the recipe that makes the feed of a stream
-abbrev pub adapting : whole.Plan → Recipe
-adapting plan = of_bytes (feeding plan)
-
 -- what a network means over the file of its stream, which may not be there
 abbrev pub network_meaning : whole.Plan → NetPlan → Option (List ℕ) → Meaning
 network_meaning plan network None = refused (Absent 1)
 network_meaning plan network (Some file) =
-    where_done (meaning_of_file packets (adapting plan) (feed_name ∷ []) file)
+    where_done (meaning_of_file packets (feeding plan) (feed_name ∷ []) file)
     (fed_meaning plan network (packets_of file))
 
 -- ---- in order

@@ -16,10 +16,11 @@ use Rattle.dtx_plan.specs.declared.plan.NetPlan.{NetPlan}
 use Rattle.dtx_plan.specs.declared.plan.Plan as whole
 use Rattle.dtx_plan.specs.declared.plan.ReceivePlan.{ReceivePlan}
 use Rattle.dtx_plan.specs.declared.transmitter.Transmitter.{Transmitter}
+use Rattle.dtx_recipes.specs.Adapt.{feeding}
 use Rattle.dtx_schedule.specs.Progress.{IsComplete, Progress, begun_files}
 use Rattle.dtx_schedule.specs.TransmitterFiles.{log_file, symbol_file}
 use Rattle.dtx_words.specs.NetworkNames.{feed_name, log_name, symbol_name}
-use Rattle.dtx_top.specs.NetMeaning.{adapting, received_of}
+use Rattle.dtx_top.specs.NetMeaning.{received_of}
 
 -- these are some of the first outputs, each with a prefix of its bytes
 abbrev pub AreFirstParts : Outputs → Outputs → Type 0
@@ -64,7 +65,7 @@ pub record AreUnderWay (ts : List Transmitter) (steps : List Step) (done : ℕ) 
 
 -- the feed of the stream in this file, as far as its packets are allowed, as an output
 abbrev pub feed_outputs : whole.Plan → List ℕ → Outputs
-feed_outputs plan file = (meaning_of_file packets (adapting plan) (feed_name ∷ []) file).outputs
+feed_outputs plan file = (meaning_of_file packets (feeding plan) (feed_name ∷ []) file).outputs
 
 -- the packets received of the network over a stream, as an output, if the plan asks for a receiver
 abbrev pub reception_outputs : whole.Plan → NetPlan → List (List ℕ) → Option ReceivePlan → Outputs

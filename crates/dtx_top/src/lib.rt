@@ -4,7 +4,6 @@
 pub mod laws;
 mod net_command;
 mod network_names;
-mod of_bytes;
 mod performing;
 mod reception;
 mod replaying;

@@ -76,6 +76,7 @@ pub fn net<S: Shelf>(alloc: Global, words: &[Word], shelf: &mut S) -> NetOutcome
         → HasHeadline words.now held (S.files shelf.new)) }
 {
     headline();
+    shelf.known();
     match words {
         [_, plan] => net_file(alloc, plan.as_str(), shelf),
         _ => nameless(ended(Status::Usage)),

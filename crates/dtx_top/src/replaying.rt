@@ -10,6 +10,7 @@ ghost use Rattle.dtx_outside.specs.Counts.{HasGone};
 ghost use Rattle.dtx_outside.specs.Shelf.{Files};
 ghost use Rattle.dtx_plan.specs.declared.plan.Plan.{Plan};
 ghost use Rattle.dtx_plan.specs.Sound.{AreDamages, IsNet, IsSound};
+ghost use Rattle.dtx_recipes.specs.Adapt.{feeding};
 ghost use Rattle.dtx_schedule.specs.Inside as inside;
 ghost use Rattle.dtx_schedule.specs.Playout.{IsPlayout};
 ghost use Rattle.dtx_schedule.specs.TransmitterFiles.{played_outputs};
@@ -19,7 +20,6 @@ ghost use Rattle.dtx_top.specs.NetMeaning as means;
 ghost use Rattle.dtx_top.specs.NetProgress.{HasPlayProgress, HasStreamProgress};
 ghost use Rattle.dtx_top.specs.Replaying.{HasNumbers, IsFeedWritten};
 
-use crate::of_bytes::OfBytes;
 use crate::reception::receive_sent;
 use dtx_engine::{Input, carry_to_one};
 use dtx_meaning::{Outcome, Status, ended};
@@ -63,18 +63,18 @@ fn feed_stream<S: Shelf>(alloc: Global, plan: &Plan, network: &NetPlan, shelf: &
     requires sound { IsSound plan.now }
     requires differ { network.now.stream ≢ feed_name }
     ensures carried { IfSome (S.files shelf.old) (λ held. IsCarriedOut
-        (meaning shapes.packets (means.adapting plan.now) 1 (feed_name ∷ []) (files.get held network.now.stream))
+        (meaning shapes.packets (feeding plan.now) 1 (feed_name ∷ []) (files.get held network.now.stream))
         (Some held) result (S.files shelf.new)) }
     ensures network { IsOfReplay network.now.receive result.status }
     ensures gone { HasGone (S.counts shelf.old) (S.counts shelf.new) (blame_of result.status) }
 {
     match Feeder::new(alloc, plan) {
-        Ok(feeder) => {
+        Ok(mut feeder) => {
             let stream = Input {
                 name: network.stream.as_str(),
                 number: 1,
             };
-            carry_to_one(alloc, &mut OfBytes::new(feeder), stream, feed_name(), shelf)
+            carry_to_one(alloc, &mut feeder, stream, feed_name(), shelf)
         }
         Err(cause) => ended(Status::from(cause)),
     }

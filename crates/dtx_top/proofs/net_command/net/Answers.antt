@@ -5,7 +5,7 @@ use Rattle.dtx_forms.specs.PlanFile.{under_plan}
 use Rattle.dtx_meaning.specs.Meaning.{IsCarriedOut}
 use Rattle.dtx_meaning.specs.declared.status.Outcome.{Outcome}
 use Rattle.dtx_meaning.specs.declared.status.Status.TheVariants.{Done}
-use Rattle.dtx_outside.specs.Shelf.{Files}
+use Rattle.dtx_outside.specs.Shelf.{ConsistOfBytes, Files}
 use Rattle.dtx_top.specs.HeadlineOfFiles.{HasHeadline}
 use Rattle.dtx_top.specs.NetMeaning.{net_meaning, planned_meaning}
 use Rattle.dtx_top.proofs.HeadlineLaw.{HeadlineLaw}
@@ -25,11 +25,11 @@ CarriedUnder told now outcome name =
     IfSome told (λ held. IsCarriedOut (under_plan 0 (get held name) (λ said. planned_meaning name held said said.net))
     (Some held) outcome now)
 
-headlines : HeadlineLaw
-    → (told now : Option Files) (outcome : Outcome) (verb name : List ℕ) → CarriedUnder told now outcome name
+headlines : HeadlineLaw → (told now : Option Files) (outcome : Outcome) (verb name : List ℕ)
+    → IfSome told ConsistOfBytes → CarriedUnder told now outcome name
     → IfSome told (λ held. outcome.status ≡ Done → HasHeadline (verb ∷ name ∷ []) held now)
-headlines law None now outcome verb name carried = tt
-headlines law (Some held) now outcome verb name carried = λ done. headline_done law name held now outcome carried done
+headlines law None now outcome verb name bytes carried = tt
+headlines law (Some held) now outcome verb name bytes carried = headline_done law name held bytes now outcome carried
 
 pub returns-in-len2-clause-carried : goal.returns-in-len2-clause-carried
 returns-in-len2-clause-carried g c =
@@ -48,5 +48,5 @@ returns-in-len2-clause-headline g c =
     let outcome = c.net_file.result.outcome in
     let two = two_words c.args.words.now c.plan-item.result c.in-len2.len_at_least c.in-len2.len_below c.plan-item.is in
     subst (λ (ws : List (List ℕ)). IfSome told (λ held. outcome.status ≡ Done → HasHeadline ws held now)) (sym two.1)
-    (headlines c.headline.ensures told now outcome two.0 c.plan-item.result
+    (headlines c.headline.ensures told now outcome two.0 c.plan-item.result c.known.ensures
     (subst (CarriedUnder told now outcome) c.as_str.ensures c.net_file.ensures.carried))

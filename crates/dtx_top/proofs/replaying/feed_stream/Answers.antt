@@ -1,9 +1,8 @@
-use Rattle.std.proofs.Common.{ap, subst, ◌∙◌}
+use Rattle.std.proofs.Common.{subst}
 use Rattle.dtx_engine.specs.Recipe.{IsAnswerOf, Recipe}
 use Rattle.dtx_forms.specs.Shapes.{packets}
+use Rattle.dtx_recipes.specs.Adapt.{feeding}
 use Rattle.dtx_words.specs.NetworkNames.{feed_name}
-use Rattle.dtx_top.specs.NetMeaning.{adapting}
-use Rattle.dtx_top.specs.OfBytes.{of_bytes}
 use Rattle.dtx_top.proofs.Carrying.{carried_by}
 use Rattle.dtx_top.proofs.NetAnswers.{stream_of_replay}
 use Rattle.dtx_top.proofs.replaying.feed_stream.Goals as goal
@@ -12,8 +11,8 @@ pub returns-in-Ok-clause-carried : goal.returns-in-Ok-clause-carried
 returns-in-Ok-clause-carried g c =
     carried_by (g.S.Shelf.files c.args.shelf.now) (g.S.Shelf.files c.carry_to_one.new.shelf) c.carry_to_one.result
     packets _
-    (adapting c.args.plan.now) 1 c.feed_name.result.now feed_name c.as_str.result.now c.args.network.now.stream
-    (c.new-in-Ok.ensures.recipe ∙ ap of_bytes c.in-Ok.ensures.recipe) c.feed_name.ensures c.as_str.ensures
+    (feeding c.args.plan.now) 1 c.feed_name.result.now feed_name c.as_str.result.now c.args.network.now.stream
+    c.in-Ok.ensures.recipe c.feed_name.ensures c.as_str.ensures
     c.carry_to_one.ensures.carried
 
 pub returns-in-Ok-clause-network : goal.returns-in-Ok-clause-network
@@ -21,4 +20,4 @@ returns-in-Ok-clause-network g c =
     stream_of_replay c.args.plan.now c.args.network.now.receive c.carry_to_one.result.status
     c.carry_to_one.ensures.input
     (subst (λ (r : Recipe). IsAnswerOf r c.carry_to_one.result.status)
-    (c.new-in-Ok.ensures.recipe ∙ ap of_bytes c.in-Ok.ensures.recipe) c.carry_to_one.ensures.answer)
+    c.in-Ok.ensures.recipe c.carry_to_one.ensures.answer)
