@@ -1,7 +1,7 @@
 //! The values of the errors at the suspect places. They are those that `dtx_laws::correcting::patch` gives. The number
 //! of products grows with the square of the number of suspect places, and there with its cube.
 
-ghost use Rattle.std.specs.Prelude.{◌≡◌, ℕ, ◌+◌, ◌<◌, ◌≤◌, [], true, length, slice_index};
+ghost use Rattle.std.specs.Prelude.{◌≡◌, ℕ, ◌+◌, ◌<◌, ◌≤◌, Bool, [], true, length, slice_index};
 ghost use Rattle.std.specs.Int.RustNames.{bit_xor};
 ghost use Rattle.dtx_galois.specs.Field.{mul};
 ghost use Rattle.dtx_laws.specs.ErrorValues.{error_at, others, patched_at};
@@ -24,7 +24,7 @@ pub fn patch(word: &mut [u8], suspects: &[bool; ROOM], syndromes: &[u8; ROOM])
     let product = product_of(suspects, len);
     for place in 0..len {
         if suspects[place] {
-            word[place] ^= error_at(&product, suspects, syndromes, len, place).0;
+            word[place] ^= error_at(&product, syndromes, len, place).0;
         }
     }
 }
@@ -84,21 +84,14 @@ fn multiply(coefficients: &mut [u8; ROOM], degree: usize, power: Gf)
     }
 }
 
-/// The value of the error at a suspect place.
-fn error_at(
-    product: &Product,
-    suspects: &[bool; ROOM],
-    syndromes: &[u8; ROOM],
-    len: usize,
-    place: usize,
-) -> Gf
+/// The value of the error at a suspect place. `product` is that of all suspect places.
+fn error_at(product: &Product, syndromes: &[u8; ROOM], len: usize, place: usize) -> Gf
     requires few { len ≤ 255 }
     requires some { place < len }
-    requires suspect { is_marked suspects.now place ≡ true }
-    requires degree { product.now.degree ≡ length (others len (is_marked suspects.now) len len) }
-    requires product { (k : ℕ)
-        → slice_index product.now.coefficients k ≡ connection (others len (is_marked suspects.now) len len) k }
-    ensures { result.0 ≡ error_at len (is_marked suspects.now) (slice_index syndromes.now) place }
+    ensures { (suspect : ℕ → Bool) → suspect place ≡ true
+        → product.now.degree ≡ length (others len suspect len len)
+        → ((k : ℕ) → slice_index product.now.coefficients k ≡ connection (others len suspect len len) k)
+        → result.0 ≡ error_at len suspect (slice_index syndromes.now) place }
 {
     let power = power_at(len, place);
     error_value(&product.coefficients[..], product.degree, syndromes, power)

@@ -163,7 +163,7 @@ pub(crate) fn exchange_columns(
     for c in 0..places.width {
         let place = places.first + c;
         let branch = branch_at(branches, places.next, place);
-        let at = column_start(c, places.width, rows.stride, come.len());
+        let at = c * rows.stride;
         exchange_at(
             &mut rings[branch],
             count_of(rows, place),
@@ -171,17 +171,6 @@ pub(crate) fn exchange_columns(
             &mut gone[at..at + rows.stride],
         );
     }
-}
-
-/// Where column `c` of `width` starts.
-#[inline(always)]
-fn column_start(c: usize, width: usize, stride: usize, room: usize) -> usize
-    requires below { c < width }
-    requires room { width * stride ≤ room }
-    ensures is { result ≡ c * stride }
-    ensures within { result + stride ≤ width * stride }
-{
-    c * stride
 }
 
 /// How many bytes come to a place.

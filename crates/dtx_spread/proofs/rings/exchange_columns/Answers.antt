@@ -1,4 +1,5 @@
-use Rattle.std.proofs.Common.{◌≡◌, ◌+◌, ◌-◌, ◌≤◌, [], ◌++◌, length, get_or, set, take, drop, refl, sym, ap, ◌∙◌, arith}
+use Rattle.std.proofs.Common.{◌≡◌, suc, ◌+◌, ◌-◌, ◌*◌, ◌≤◌, [], ◌++◌, length, get_or, set, take, drop, refl, sym, ap, ◌∙◌, arith}
+use Rattle.std.proofs.Math.Nat.{mul-le-mul_right, suc-mul}
 use Rattle.std.proofs.lemmas.List.{map-set, get_or-map, length-map, length-set, length-take-le, length-drop}
 use Rattle.dtx_spread.specs.Rings.{lists_of}
 use Rattle.dtx_spread.proofs.Tiling.{exchanged_on}
@@ -11,15 +12,15 @@ loop-c-preserved c =
     let h = c.loop-c.invariant in
     let rings = c.loop-c.rings in
     let at = c.branch_at-branch.result in
-    let start = c.column_start-at.result in
     let s = c.args.rows.stride in
+    let start = n * s in
     let count = c.count_of.result in
     let e = c.exchange_at in
     let z = start + s - start in
     let part = take z (drop start c.args.come.now) in
     let exact : z ≡ s = omega arith in
-    let room : start + s ≤ length c.loop-c.gone =
-    omega (arith, h.room, c.column_start-at.ensures.within, c.requires.gone) in
+    let within : suc n * s ≤ c.args.places.width * s = mul-le-mul_right s (omega (arith, c.loop-c-test.true)) in
+    let room : start + s ≤ length c.loop-c.gone = omega (arith, h.room, within, suc-mul n s, c.requires.gone) in
     let went : length e.new.gone ≡ z =
     e.auto.gone
     ∙ length-take-le z (drop start c.loop-c.gone) (omega (arith, room, exact, length-drop start c.loop-c.gone)) in
@@ -31,7 +32,7 @@ loop-c-preserved c =
           c.args.rows.rest at count start z z (lists_of c.args.rings.now) (lists_of rings)
           (lists_of (set rings at e.new.ring)) c.args.come.now part c.loop-c.gone e.new.gone c.requires.places.0
           (omega (arith, c.loop-c-test.true, c.requires.places.1)) (length-map rings (λ r. r.items) ∙ h.count)
-          c.column_start-at.ensures.is (omega (arith, room)) c.count_of.ensures.is c.requires.rows.1 exact
+          refl (omega (arith, room)) c.count_of.ensures.is c.requires.rows.1 exact
           (went ∙ exact) c.branch_at-branch.ensures.is refl
           (map-set (λ r. r.items) rings at e.new.ring
           ∙ ap (set (lists_of rings) at) (e.ensures.items
