@@ -1,6 +1,6 @@
 -- The answer at a whole group, from its own order and whether the group before it was sent.
-use Rattle.std.proofs.Common.{◌≡◌, ℕ, ℤ, ◌%◌, ◌==◌, Bool, true, false, cond, Option, Some, None, option_map, Result}
-use Rattle.std.proofs.Common.{Ok, Err, List, [], ◌∷◌, refl, sym, ap, ap₂, ◌∙◌, arith}
+use Rattle.std.proofs.Common.{◌≡◌, ℕ, ℤ, ◌%◌, ◌==◌, Bool, false, cond, Option, Some, None, option_map, Result, Ok, Err}
+use Rattle.std.proofs.Common.{List, [], ◌∷◌, refl, sym, ap, ap₂, ◌∙◌, arith}
 use Rattle.std.specs.Prelude.{is_ok}
 use Rattle.std.specs.List.{cons_option}
 use Rattle.std.proofs.lemmas.Bool.{cond-true, cond-false, eq-eqb, ne_eqb}
@@ -10,7 +10,7 @@ use Rattle.dtx_exciter.specs.declared.answers.Told.TheVariants.{Quiet, Sent}
 use Rattle.dtx_exciter.specs.declared.pages.Pages.{Pages}
 use Rattle.dtx_exciter.specs.Order.{Order, placed}
 use Rattle.dtx_exciter.specs.Pages.{entry_in_force, offset_of}
-use Rattle.dtx_exciter.specs.Told.{served, preset_of, told_why, told_by, told_at, is_sent}
+use Rattle.dtx_exciter.specs.Told.{served, told_why, told_by, told_at, is_sent}
 use Rattle.dtx_exciter.specs.HeldPages.{HoldsPages}
 use Rattle.dtx_exciter.proofs.HeldPagesLemmas.{held_entry, held_served}
 use Rattle.dtx_exciter.specs.Step.{served_by, told_own, told_group}
@@ -19,19 +19,13 @@ use Rattle.dtx_exciter.proofs.EndsLemmas.{IsOlder}
 
 pub own_told : (i j : ℕ) (ops : Ops) (z : ℤ) (r : Result ℕ (Option Why)) → j ≡ i % 624
     → told_own j ops z r ≡ told_by i (record { place = i; ops = ops }) z r
-own_told i j ops z (Ok hold) e =
-    ap (λ k. Sent (Some (preset_of ops z k hold))) e
-    ∙ ap Sent (sym (cond-true (i == i) (Some (preset_of ops z (i % 624) hold)) None (eq-eqb i i refl)))
+own_told i j ops z (Ok hold) e = grind (arith, cond-true, eq-eqb)
 own_told i j ops z (Err why) e = sym (cond-true (i == i) (told_why why) Quiet (eq-eqb i i refl))
 
 old_told : (i : ℕ) (order : Order) (z : ℤ) (r : Result ℕ (Option Why)) → IsOlder i order
     → cond (is_ok r) (Sent None) Quiet ≡ told_by i order z r
-old_told i order z (Ok hold) o =
-    ap Sent (sym (cond-false (order.place == i) (Some (preset_of order.ops z (i % 624) hold)) None
-    (ne_eqb order.place i (λ e. let b = o.before in omega (arith, b, e)))))
-old_told i order z (Err why) o =
-    sym (cond-false (order.place == i) (told_why why) Quiet (ne_eqb order.place i (λ e. let b = o.before in
-    omega (arith, b, e))))
+old_told i order z (Ok hold) o = grind (arith, cond-false, ne_eqb)
+old_told i order z (Err why) o = grind (arith, cond-false, ne_eqb)
 
 -- with what is kept of the pages
 own_group : (address delay i j : ℕ) (ops : Ops) (r : List Order) (p : Pages) → j ≡ i % 624
@@ -45,14 +39,12 @@ own_group address delay i j ops r p e k =
     (served address delay (record { place = i; ops = ops } ∷ r)) e
 
 pub told_group_is : (address delay i j : ℕ) (own : Option Ops) (r : List Order) (p : Pages) (sent : Bool) → j ≡ i % 624
-    → HoldsPages address (cons_option (placed i own) r) p
-    → sent ≡ is_served address delay r
+    → HoldsPages address (cons_option (placed i own) r) p → sent ≡ is_served address delay r
     → ((order : Order) (older : List Order) → r ≡ order ∷ older → IsOlder i order)
     → told_group delay j own p sent ≡ told_at address delay i (cons_option (placed i own) r)
 told_group_is address delay i j (Some ops) r p sent e k s h = own_group address delay i j ops r p e k
 told_group_is address delay i j None [] p sent e k s h = ap (λ b. cond b (Sent None) Quiet) s
-told_group_is address delay i j None (order ∷ older) p sent e k s h =
-    ap (λ b. cond b (Sent None) Quiet) s
+told_group_is address delay i j None (order ∷ older) p sent e k s h = ap (λ b. cond b (Sent None) Quiet) s
     ∙ old_told i order (offset_of (entry_in_force address (order ∷ older))) (served address delay (order ∷ older))
     (h order older refl)
 
@@ -62,15 +54,10 @@ not_sent (Some why) = refl
 
 sent_by_result : (i : ℕ) (order : Order) (z : ℤ) (r : Result ℕ (Option Why)) → is_sent (told_by i order z r) ≡ is_ok r
 sent_by_result i order z (Ok hold) = refl
-sent_by_result i order z (Err why) = muted (order.place == i)
-  where
-    muted : (t : Bool) → is_sent (cond t (told_why why) Quiet) ≡ false
-    muted true = not_sent why
-    muted false = refl
+sent_by_result i order z (Err why) = grind (arith, not_sent)
 
 -- a group is sent exactly where the order in force serves
 pub sent_is_served : (address delay i : ℕ) (r : List Order)
     → is_sent (told_at address delay i r) ≡ is_served address delay r
 sent_is_served address delay i [] = refl
-sent_is_served address delay i (order ∷ older) =
-    sent_by_result i order (offset_of (entry_in_force address (order ∷ older))) (served address delay (order ∷ older))
+sent_is_served address delay i (order ∷ older) = grind (arith, sent_by_result)

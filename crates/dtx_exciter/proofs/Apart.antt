@@ -1,16 +1,15 @@
 -- Two transmitters in one stretch, and its first line.
-use Rattle.std.proofs.Common.{◌≡◌, ℕ, suc, ◌+◌, ◌-◌, ◌*◌, ◌/◌, ◌%◌, ◌≤◌, Some, List, [], ◌∷◌, ◌++◌, length, map, drop}
-use Rattle.std.proofs.Common.{refl, ap, subst, ◌∙◌, arith}
+use Rattle.std.proofs.Common.{◌≡◌, ℕ, ◌+◌, ◌-◌, ◌*◌, ◌/◌, ◌%◌, ◌≤◌, Some, List, [], ◌∷◌, ◌++◌, length, map, drop, refl}
+use Rattle.std.proofs.Common.{ap, subst, ◌∙◌, arith}
 use Rattle.std.specs.Prelude.{slice_range, ℤ, pos, ◌-ℤ◌, ◌*ℤ◌}
-use Rattle.std.specs.List.{range_with_len, filter_map, cons_option}
 use Rattle.std.proofs.lemmas.List.{drop_at}
 use Rattle.dtx_clock.specs.Clock.{grains_of, DifferBy}
 use Rattle.dtx_clock.proofs.MomentsLemmas.{moments_differ}
 use Rattle.dtx_ops.specs.declared.fields.Ops.{Ops}
-use Rattle.dtx_exciter.specs.Order.{Order, counting_order, placed}
+use Rattle.dtx_exciter.specs.Order.{Order, counting_order}
 use Rattle.dtx_exciter.specs.Packets.{readings}
 use Rattle.dtx_exciter.specs.Emission.{emission}
-use Rattle.dtx_exciter.specs.Lockstep.{IsFeed, locked_from, IsStretch, segment_place, stretch}
+use Rattle.dtx_exciter.specs.Lockstep.{IsFeed, locked_from, IsStretch, stretch}
 use Rattle.dtx_exciter.specs.Log.{preset}
 use Rattle.dtx_exciter.specs.Stretch.{before_stretch, order_moment, preset_line, orders_in, stretch_lines}
 use Rattle.dtx_exciter.specs.Stretch.{IsApart, AreApart}
@@ -41,8 +40,7 @@ line_apart y z s r k order =
       refl,
       refl,
       subst (λ (i : ℕ). DifferBy i (n / 1539 * 1539 + n % 1539) ((y -ℤ z) *ℤ pos 1539)) (whole_grains m)
-          (subst (λ (i : ℕ). DifferBy m i ((y -ℤ z) *ℤ pos 1539)) (whole_grains n)
-          (moments_differ order.ops.stamp order.ops.max_delay (order.place % 624) y z)),
+          (subst (λ (i : ℕ). DifferBy m i ((y -ℤ z) *ℤ pos 1539)) (whole_grains n) (grind (arith, moments_differ))),
     )
 
 all_apart : (y z : ℤ) (s r k : ℕ) (orders : List Order)
@@ -58,19 +56,8 @@ lines_apart y z s r feed end k = all_apart y z s r k (orders_in feed k end)
 -- ---- the first line
 
 pub first_is : (z : ℤ) (s : ℕ) (feed : List (List ℕ)) (end k : ℕ) (ops : Ops) → k + 4 ≤ end
-    → counting_order (readings feed) k ≡ Some ops
-    → stretch_lines z s feed k end
+    → counting_order (readings feed) k ≡ Some ops → stretch_lines z s feed k end
     ≡ preset s ops.frame (k % 624) (order_moment z (record { place = k; ops = ops })).tick
     (order_moment z (record { place = k; ops = ops })).grain ∷ map (preset_line z s k) (orders_in feed (k + 1) end)
 unfolding stretch_lines orders_in
-first_is z s feed end k ops l h =
-    let c : end - 3 - k ≡ suc (end - 3 - (k + 1)) = omega (arith, l) in
-    let order : Order = record { place = k; ops = ops } in
-    let pick = λ (g : ℕ). placed g (counting_order (readings feed) g) in
-    let seg : s + (segment_place k - segment_place k) ≡ s = omega arith in
-    ap (λ n. map (preset_line z s k) (filter_map pick (range_with_len k n))) c
-    ∙ ap (λ o. map (preset_line z s k) (cons_option (placed k o)
-    (filter_map pick (range_with_len (k + 1) (end - 3 - (k + 1)))))) h
-    ∙ ap (λ n. preset n ops.frame (k % 624) (order_moment z order).tick (order_moment z order).grain ∷ map
-    (preset_line z s k)
-    (filter_map pick (range_with_len (k + 1) (end - 3 - (k + 1))))) seg
+first_is z s feed end k ops l h = grind arith

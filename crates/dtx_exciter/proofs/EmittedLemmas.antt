@@ -1,7 +1,6 @@
 -- All that packets give, one packet further, and the stretch of a feed's segments, one group further.
-use Rattle.std.proofs.Common.{◌≡◌, ℕ, ℤ, ◌+◌, ◌-◌, ◌*◌, ◌/◌, ◌%◌, ◌<◌, ◌≤◌, ◌⊎◌, ◌==◌, cond, List, [], ◌∷◌, ◌++◌}
-use Rattle.std.proofs.Common.{length, take, drop, sym, ap, ap₂, ◌∙◌, arith, inl, inr}
-use Rattle.std.specs.Prelude.{nat_le}
+use Rattle.std.proofs.Common.{◌≡◌, ℕ, ℤ, ◌+◌, ◌-◌, ◌*◌, ◌/◌, ◌≤◌, List, [], ◌∷◌, ◌++◌, length, take, drop, sym, ap, ap₂}
+use Rattle.std.proofs.Common.{◌∙◌, arith}
 use Rattle.std.specs.List.{range_with_len, flat_map}
 use Rattle.std.proofs.lemmas.Bool.{cases_lt, cond-true, cond-false, eq-eqb, ne_eqb}
 use Rattle.std.proofs.lemmas.List.{append-nil, append_assoc, length-append, length-drop, length_push, length-take-le}
@@ -9,8 +8,7 @@ use Rattle.std.proofs.lemmas.List.{take-append-le, take_all, take-take, drop_at,
 use Rattle.std.proofs.lemmas.Grind.{flat_map-append}
 use Rattle.std.proofs.Math.Seq.{take-append-add}
 use Rattle.dtx_lists.proofs.Range.{range_with_len-parts}
-use Rattle.dtx_frame.specs.Segments.{field_sync}
-use Rattle.dtx_coder.specs.Stream.{levels, four_segments, last_before, sync_before, group_segments, a53}
+use Rattle.dtx_coder.specs.Stream.{levels, four_segments, sync_before, group_segments, a53}
 use Rattle.dtx_coder.proofs.CountsLemmas.{length-a53}
 use Rattle.dtx_lists.proofs.RangeMoved.{flat_map-range_same}
 use Rattle.dtx_coder.proofs.StreamLemmas.{a53_from, a53_whole}
@@ -29,9 +27,7 @@ take_behind l r i n e = ap (λ k. take k (l ++ r)) e ∙ take-append-add l r i
 front_same : (a d : ℕ) (l r : List (List ℕ)) (n : ℕ) → n ≤ length l
     → flat_map (λ i. last_segments a d (take (i + 1) (l ++ r))) (range_with_len 0 n)
     ≡ flat_map (λ i. last_segments a d (take (i + 1) l)) (range_with_len 0 n)
-front_same a d l r n h =
-    flat_map-range_same (λ i. last_segments a d (take (i + 1) (l ++ r))) (λ i. last_segments a d (take (i + 1) l)) 0 n
-    (λ i x y. ap (last_segments a d) (take-append-le (i + 1) l r (omega (arith, y, h))))
+front_same a d l r n h = grind (arith, flat_map-range_same, take-append-le)
 
 pub emission_more : (a d : ℕ) (l r : List (List ℕ)) → emission a d (l ++ r) ≡ emission a d l ++ emission_behind a d l r
 unfolding emission emission_behind
@@ -40,21 +36,16 @@ emission_more a d l r =
     ap (λ n. flat_map f (range_with_len 0 n)) (length-append l r)
     ∙ ap (flat_map f) (range_with_len-parts 0 (length l) (length r))
     ∙ flat_map-append f (range_with_len 0 (length l)) (range_with_len (0 + length l) (length r))
-    ∙ ap₂ ◌++◌ (front_same a d l r (length l) (omega arith))
-    (flat_map-range_moved f (λ i. last_segments a d (l ++ take (i + 1) r)) (0 + length l) 0 (length r)
-    (λ i h. ap (last_segments a d) (take_behind l r (0 + i + 1) (0 + length l + i + 1) (omega arith))))
+    ∙ ap₂ ◌++◌ (front_same a d l r (length l) (omega arith)) (grind (arith, flat_map-range_moved, take_behind))
 
 pub emission_push : (a d : ℕ) (l : List (List ℕ)) (p : List ℕ)
     → emission a d (l ++ p ∷ []) ≡ emission a d l ++ last_segments a d (l ++ p ∷ [])
 unfolding emission
 emission_push a d l p =
     let f : ℕ → List (List ℤ) = λ i. last_segments a d (take (i + 1) (l ++ p ∷ [])) in
-    ap (λ n. flat_map f (range_with_len 0 n)) (length_push l p)
-    ∙ ap (flat_map f) (range_with_len-parts 0 (length l) 1)
+    ap (λ n. flat_map f (range_with_len 0 n)) (length_push l p) ∙ ap (flat_map f) (range_with_len-parts 0 (length l) 1)
     ∙ flat_map-append f (range_with_len 0 (length l)) (range_with_len (0 + length l) 1)
-    ∙ ap₂ ◌++◌ (front_same a d l (p ∷ []) (length l) (omega arith))
-    (append-nil (f (0 + length l))
-    ∙ ap (last_segments a d) (take_all (0 + length l + 1) (l ++ p ∷ []) (omega (arith, length_push l p))))
+    ∙ ap₂ ◌++◌ (front_same a d l (p ∷ []) (length l) (omega arith)) (grind (arith, append-nil, take_all, length_push))
 
 -- ---- the stretch
 
@@ -71,19 +62,7 @@ a53_step f v l =
 
 length-sync : (f : List (List ℕ)) (v : ℕ) → length (sync_before f v) + (v + 77) / 78 ≡ v / 78 + 1
 unfolding sync_before
-length-sync f v = by_cases (cases_lt 0 (4 * v % 312))
-  where
-    sync : List (List ℤ)
-    sync = field_sync (nat_le 312 (4 * v % 624)) (last_before f v) ∷ []
-
-    by_cases : (0 < 4 * v % 312) ⊎ (4 * v % 312 ≤ 0)
-        → length (cond (4 * v % 312 == 0) sync []) + (v + 77) / 78 ≡ v / 78 + 1
-    by_cases (inl p) =
-        ap (λ (s : List (List ℤ)). length s + (v + 77) / 78)
-        (cond-false (4 * v % 312 == 0) sync [] (ne_eqb (4 * v % 312) 0 (λ z. omega (arith, p, z)))) ∙ omega (arith, p)
-    by_cases (inr z) =
-        ap (λ (s : List (List ℤ)). length s + (v + 77) / 78)
-        (cond-true (4 * v % 312 == 0) sync [] (eq-eqb (4 * v % 312) 0 (omega (arith, z)))) ∙ omega (arith, z)
+length-sync f v = grind (arith, cases_lt, cond-false, ne_eqb, cond-true, eq-eqb)
 
 pub length-front : (f : List (List ℕ)) (v : ℕ) → 4 * v ≤ length f
     → length (a53 (take (4 * v) f)) ≡ 4 * v + (v + 77) / 78
@@ -98,29 +77,19 @@ stretch_first f v l =
     let sync : List (List ℤ) = sync_before (take (4 * v + 4) f) v in
     let four : List (List ℤ) = four_segments (levels (take (4 * v + 4) f)) (4 * v) in
     ap (drop (segment_place (4 * v))) (a53_step f v l ∙ sym (append_assoc front sync four))
-    ∙ drop_at (front ++ sync) four (segment_place (4 * v)) (omega (
-      arith,
-      length-append front sync,
-      length-front f v (omega (arith, l)),
-      length-sync (take (4 * v + 4) f) v,
-    ))
+    ∙ drop_at (front ++ sync) four (segment_place (4 * v)) (grind (arith, length-append, length-front, length-sync))
 
 -- one group more
 pub stretch_next : (f : List (List ℕ)) (k v : ℕ) → 4 * v + 4 ≤ length f → k + 4 ≤ 4 * v
     → stretch f k (4 * v + 4) ≡ stretch f k (4 * v) ++ group_segments (take (4 * v + 4) f) v
 unfolding stretch
-stretch_next f k v l h =
-    ap (drop (segment_place k)) (a53_step f v l)
-    ∙ drop-append-le (segment_place k) (a53 (take (4 * v) f)) (group_segments (take (4 * v + 4) f) v)
-    (omega (arith, h, length-front f v (omega (arith, l))))
+stretch_next f k v l h = grind (arith, a53_step, drop-append-le, length-front)
 
 -- how many segments up to a group's last one
 pub length-stretch : (f : List (List ℕ)) (k v : ℕ) → 4 * v + 4 ≤ length f
     → length (stretch f k (4 * v + 4)) ≡ segment_place (4 * v) + 4 - segment_place k
 unfolding stretch
-length-stretch f k v l =
-    let e : 4 * v + 4 ≡ 4 * (v + 1) = omega arith in
-    ap (λ n. length (drop (segment_place k) (a53 (take n f)))) e
+length-stretch f k v l = ap (λ n. length (drop (segment_place k) (a53 (take n f)))) (omega arith)
     ∙ length-drop (segment_place k) (a53 (take (4 * (v + 1)) f))
     ∙ ap (λ (n : ℕ). n - segment_place k) (length-front f (v + 1) (omega (arith, l)) ∙ omega arith)
 
@@ -128,8 +97,4 @@ length-stretch f k v l =
 pub stretch_whole : (f : List (List ℕ)) (k end w : ℕ) → end ≤ length f → w ≡ 4 * (end / 4)
     → stretch f k w ≡ stretch f k end
 unfolding stretch
-stretch_whole f k end w l e =
-    ap (drop (segment_place k))
-    (sym (a53_whole (take end f)
-    ∙ ap a53 (ap (λ n. take (4 * (n / 4)) (take end f)) (length-take-le end f l)
-    ∙ take-take (4 * (end / 4)) end f (omega arith) ∙ ap (λ n. take n f) (sym e))))
+stretch_whole f k end w l e = grind (arith, a53_whole, length-take-le, take-take)

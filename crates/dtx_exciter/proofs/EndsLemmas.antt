@@ -1,6 +1,6 @@
 -- A packet that ends a group: the group's packets, its own order, and the order in force.
-use Rattle.std.proofs.Common.{◌≡◌, ℕ, ◌+◌, ◌-◌, ◌%◌, ◌<◌, ◌≤◌, ◌⊎◌, ◌==◌, ◌&&◌, cond, None, List, [], ◌∷◌}
-use Rattle.std.proofs.Common.{◌++◌, length, get_or, drop, take, refl, sym, ap, ap₂, ◌∙◌, arith, inl, inr}
+use Rattle.std.proofs.Common.{◌≡◌, ℕ, ◌+◌, ◌-◌, ◌%◌, ◌<◌, ◌≤◌, ◌⊎◌, None, List, [], ◌∷◌, ◌++◌, length, get_or, drop}
+use Rattle.std.proofs.Common.{take, refl, sym, ap, ap₂, ◌∙◌, arith, inl, inr}
 use Rattle.std.specs.Prelude.{nat_le}
 use Rattle.std.specs.List.{cons_option}
 use Rattle.std.proofs.lemmas.Bool.{cases_lt, eq-eqb, le-leb, lt-leb}
@@ -49,10 +49,8 @@ whole-all l i p e = let a = e.long in let b = e.whole in omega (arith, a, b, len
 said_at : (l : List (List ℕ)) (i m : ℕ) (p : List ℕ) → Ends l i → m < 4
     → get_or (readings (l ++ p ∷ [])) (i + m) None ≡ reads (get_or (group l i p) m [])
 unfolding readings
-said_at l i m p e k =
-    get_or-map reads (l ++ p ∷ []) (i + m) [] None (omega (arith, k, length-all l i p e))
-    ∙ ap reads
-    (ap (λ x. get_or x (i + m) []) (sym (parts l i p))
+said_at l i m p e k = get_or-map reads (l ++ p ∷ []) (i + m) [] None (omega (arith, k, length-all l i p e))
+    ∙ ap reads (ap (λ x. get_or x (i + m) []) (sym (parts l i p))
     ∙ get_or-append_right (front l i) (group l i p) i (i + m) [] (length-front l i e) (omega arith)
     ∙ ap (λ x. get_or (group l i p) x []) (less i m))
   where
@@ -62,11 +60,7 @@ said_at l i m p e k =
 pub order_is : (l : List (List ℕ)) (i j : ℕ) (p : List ℕ) → Ends l i → j ≡ i % 624
     → order_in j (group l i p) ≡ order_at (readings (l ++ p ∷ [])) i
 unfolding order_in order_at
-order_is l i j p e h =
-    ap₂ either (same 0 j i (let w = e.whole in omega (arith, h, w)) (omega arith) (omega arith))
-    (ap₂ either (same 1 (j + 1) (i + 1) (let w = e.whole in omega (arith, h, w)) (omega arith) (omega arith))
-    (ap₂ either (same 2 (j + 2) (i + 2) (let w = e.whole in omega (arith, h, w)) (omega arith) (omega arith))
-    (same 3 (j + 3) (i + 3) (let w = e.whole in omega (arith, h, w)) (omega arith) (omega arith))))
+order_is l i j p e h = ap₂ either (same 0 j i (grind arith) (omega arith) (omega arith)) (grind (arith, same))
   where
     same : (m x k : ℕ) → x ≡ k % 624 → k ≡ i + m → m < 4
         → ordered x (reads (get_or (group l i p) m [])) ≡ ordered (k % 624) (get_or (readings (l ++ p ∷ [])) k None)
@@ -75,13 +69,7 @@ order_is l i j p e h =
 pub own_is : (l : List (List ℕ)) (i j : ℕ) (p : List ℕ) → Ends l i → j ≡ i % 624
     → own_order (nat_le 52 (length l)) j (group l i p) ≡ counting_order (readings (l ++ p ∷ [])) i
 unfolding counting_order
-own_is l i j p e h = ap₂ (λ b o. cond b o None) (test (length l) (cases_lt (length l) 52) e.long) (order_is l i j p e h)
-  where
-    test : (n : ℕ) → (n < 52) ⊎ (52 ≤ n) → n ≡ i + 3 → nat_le 52 n ≡ (nat_le 52 i && (i % 4 == 0))
-    test n (inl m) k = lt-leb 52 n m ∙ sym (ap (λ b. b && (i % 4 == 0)) (lt-leb 52 i (omega (arith, m, k))))
-    test n (inr m) k =
-        le-leb 52 n m
-        ∙ sym (ap₂ (λ b t. b && t) (le-leb 52 i (let w = e.whole in omega (arith, m, k, w))) (eq-eqb (i % 4) 0 e.whole))
+own_is l i j p e h = grind (arith, cases_lt, order_is, lt-leb, le-leb, eq-eqb)
 
 -- ---- the order in force
 
@@ -100,40 +88,24 @@ last_is l i k e h = ap (orders (readings l)) (ap (λ (n : ℕ). n - 4) (whole-fr
 pub last_none : (l : List (List ℕ)) (i : ℕ) → Ends l i → i ≡ 0 → last_orders l ≡ []
 last_none l i e z = last_is l i 0 e (omega (arith, z)) ∙ force_first (readings l)
 
-pub force_is : (l : List (List ℕ)) (i : ℕ) (p : List ℕ) → Ends l i
-    → orders (readings (l ++ p ∷ [])) i
+pub force_is : (l : List (List ℕ)) (i : ℕ) (p : List ℕ) → Ends l i → orders (readings (l ++ p ∷ [])) i
     ≡ cons_option (placed i (counting_order (readings (l ++ p ∷ [])) i)) (last_orders l)
 force_is l i p e = by_place (zero_or i e.whole)
   where
-    by_place : (i ≡ 0) ⊎ (4 ≤ i)
-        → orders (readings (l ++ p ∷ [])) i
+    by_place : (i ≡ 0) ⊎ (4 ≤ i) → orders (readings (l ++ p ∷ [])) i
         ≡ cons_option (placed i (counting_order (readings (l ++ p ∷ [])) i)) (last_orders l)
-    by_place (inl z) =
-        ap (orders (readings (l ++ p ∷ []))) z ∙ force_first (readings (l ++ p ∷ []))
-        ∙ sym (ap₂ (λ o r. cons_option (placed i o) r) (counted_early (readings (l ++ p ∷ [])) i (omega (arith, z)))
-        (last_none l i e z))
-    by_place (inr m) =
-        force_more (readings (l ++ p ∷ [])) i e.whole m
-        ∙ ap (cons_option (placed i (counting_order (readings (l ++ p ∷ [])) i)))
-        (ap (λ s. orders s (i - 4)) (said_append l (p ∷ []))
-        ∙ force_left (readings l) (readings (p ∷ [])) (i - 4) (let a = e.long in omega (arith, m, a, length-said l))
-        ∙ sym (last_is l i (i - 4) e refl))
+    by_place (inl z) = grind (arith, force_first, counted_early, last_none)
+    by_place (inr m) = grind (arith, force_more, said_append, force_left, length-said, last_is)
 
 -- the order in force before the group
 pub before_is : (l : List (List ℕ)) (i : ℕ) (p : List ℕ) → Ends l i → 4 ≤ i
     → orders (readings (l ++ p ∷ [])) (i - 4) ≡ last_orders l
-before_is l i p e m =
-    ap (λ s. orders s (i - 4)) (said_append l (p ∷ []))
-    ∙ force_left (readings l) (readings (p ∷ [])) (i - 4) (let a = e.long in omega (arith, m, a, length-said l))
-    ∙ sym (last_is l i (i - 4) e refl)
+before_is l i p e m = grind (arith, said_append, force_left, length-said, last_is)
 
 pub last_all : (l : List (List ℕ)) (i : ℕ) (p : List ℕ) → Ends l i
     → last_orders (l ++ p ∷ []) ≡ orders (readings (l ++ p ∷ [])) i
 unfolding last_orders
-last_all l i p e = ap (orders (readings (l ++ p ∷ []))) (ap (λ (n : ℕ). n - 4) (whole-all l i p e) ∙ less i)
-  where
-    less : (i : ℕ) → i + 4 - 4 ≡ i
-    less i = omega arith
+last_all l i p e = grind (arith, whole-all)
 
 -- it stands before the group, 52 or more packets behind the anchor
 pub record IsOlder (i : ℕ) (order : Order) : Type 0 where
@@ -143,17 +115,16 @@ pub record IsOlder (i : ℕ) (order : Order) : Type 0 where
 
 pub last_older : (l : List (List ℕ)) (i : ℕ) (order : Order) (older : List Order) → Ends l i
     → last_orders l ≡ order ∷ older → IsOlder i order
-last_older l i order older e h = by_place (zero_or i e.whole)
-  where
-    by_place : (i ≡ 0) ⊎ (4 ≤ i) → IsOlder i order
-    by_place (inl z) = absurd (omega (arith, ap (λ (x : List Order). length x) (sym (last_none l i e z) ∙ h)))
-    by_place (inr m) =
-        let s : Stands (readings l) (i - 4 + 1) order =
-        force_stands (readings l) (i - 4) order older (sym (last_is l i (i - 4) e refl) ∙ h) in
-        let b : IsBehind order.place = counted_behind (readings l) order.place order.ops s.counts in
-        record {
-          flushed = b.flushed;
-          whole = b.whole;
-          before = let x = s.below in let y = b.whole in let z = e.whole in
-              omega (arith, x, y, z, m);
-        }
+last_older l i order older e h = elim (zero_or i e.whole) [
+  | inl z ↦ absurd (omega (arith, ap (λ (x : List Order). length x) (sym (last_none l i e z) ∙ h)))
+  | inr m ↦
+      let s : Stands (readings l) (i - 4 + 1) order =
+      force_stands (readings l) (i - 4) order older (sym (last_is l i (i - 4) e refl) ∙ h) in
+      let b : IsBehind order.place = counted_behind (readings l) order.place order.ops s.counts in
+      record {
+        flushed = b.flushed;
+        whole = b.whole;
+        before = let x = s.below in let y = b.whole in let z = e.whole in
+            omega (arith, x, y, z, m);
+      }
+]

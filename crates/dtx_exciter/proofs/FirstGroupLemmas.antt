@@ -1,19 +1,15 @@
 -- What the first group of a stretch gives: its data segments, behind a field sync where the group before it was sent.
-use Rattle.std.proofs.Common.{◌≡◌, ℕ, ℤ, ◌+◌, ◌-◌, ◌*◌, ◌/◌, ◌%◌, ◌<◌, ◌≤◌, ◌==◌, Bool, true, false, cond, Some}
-use Rattle.std.proofs.Common.{List, [], ◌∷◌, ◌++◌, length, take, drop, get_or, refl, sym, ap, ap₂, ◌∙◌, arith}
-use Rattle.std.specs.Prelude.{nat_le, is_ok}
+use Rattle.std.proofs.Common.{◌≡◌, ℕ, ℤ, ◌+◌, ◌-◌, ◌*◌, ◌%◌, ◌≤◌, Some, List, [], ◌∷◌, ◌++◌, length, take, drop, refl}
+use Rattle.std.proofs.Common.{sym, ap, ap₂, ◌∙◌, arith}
+use Rattle.std.specs.Prelude.{nat_le}
 use Rattle.std.proofs.lemmas.Bool.{cond-true, le-leb}
 use Rattle.std.proofs.lemmas.List.{append_assoc}
 use Rattle.dtx_lists.proofs.Range.{map-range_same}
-use Rattle.dtx_frame.specs.Segments.{field_sync}
 use Rattle.dtx_coder.specs.Along.{levels_since}
-use Rattle.dtx_coder.specs.Stream.{levels, segment, four_segments, last_of}
-use Rattle.dtx_exciter.specs.Order.{Order, orders}
-use Rattle.dtx_exciter.specs.Told.{served}
-use Rattle.dtx_exciter.specs.Packets.{readings}
-use Rattle.dtx_exciter.specs.Emission.{segments_since, sent_by, sent_at, sent_before, behind_field_sync, given_under}
+use Rattle.dtx_coder.specs.Stream.{levels, segment, four_segments}
+use Rattle.dtx_exciter.specs.Emission.{segments_since, sent_at, sent_before, behind_field_sync, given_under}
 use Rattle.dtx_exciter.specs.Stretch.{sync_behind}
-use Rattle.dtx_exciter.proofs.ForceLemmas.{Stands, force_left, force_stands}
+use Rattle.dtx_exciter.proofs.ForceLemmas.{force_left, force_stands}
 use Rattle.dtx_exciter.proofs.GroupSentLemmas.{since_front}
 use Rattle.dtx_exciter.proofs.InLifeLemmas.{life, length-life, Marks, IsGroup, upto, given_last, place_of, sent_same}
 use Rattle.dtx_exciter.proofs.SinceMarkLemmas.{take_parts}
@@ -31,21 +27,13 @@ sync_first i (s ∷ ss) zs k = refl
 -- at another place of the same kind
 sync_place : (b : List (List ℤ)) (i k : ℕ) → i % 624 ≡ k % 624 → sync_behind b i ≡ sync_behind b k
 sync_place [] i k e = refl
-sync_place (s ∷ ss) i k e =
-    let c : i % 312 ≡ k % 312 = omega (arith, e) in
-    ap₂ (λ x y. cond (x == 0) (field_sync (nat_le 312 y) (last_of (get_or (s ∷ ss) (length ss) [])) ∷ []) []) c e
+sync_place (s ∷ ss) i k e = grind arith
 
 -- a field sync that stands in front of the group before changes nothing
 sync_over : (j k : ℕ) (b ss : List (List ℤ)) → sync_behind (behind_field_sync j b ss) k ≡ sync_behind ss k
 sync_over j k b [] = refl
 sync_over j k [] (s ∷ ss) = refl
-sync_over j k (c ∷ cs) (s ∷ ss) = by_test (j % 312 == 0)
-  where
-    by_test : (t : Bool)
-        → sync_behind (cond t (field_sync (nat_le 312 (j % 624)) (last_of (get_or (c ∷ cs) (length cs) [])) ∷ []) []
-        ++ s ∷ ss) k ≡ sync_behind (s ∷ ss) k
-    by_test true = refl
-    by_test false = refl
+sync_over j k (c ∷ cs) (s ∷ ss) = grind arith
 
 -- ---- the group before it
 
@@ -60,38 +48,23 @@ segments_front l r u g q e h =
 sent_front : (a d : ℕ) (l r : List (List ℕ)) (i : ℕ) → length l ≡ i + 4 → i % 4 ≡ 0
     → sent_at a d (l ++ r) i ≡ sent_at a d l i
 unfolding sent_at
-sent_front a d l r i e w =
-    ap (sent_by a d (l ++ r) i) (ap (λ s. orders s i) (said_append l r)
-    ∙ force_left (readings l) (readings r) i (omega (arith, e, length-said l)))
-    ∙ by_order (orders (readings l) i) refl
-  where
-    by_order : (o : List Order) → orders (readings l) i ≡ o → sent_by a d (l ++ r) i o ≡ sent_by a d l i o
-    by_order [] h = refl
-    by_order (order ∷ older) h =
-        let s : Stands (readings l) (i + 1) order = force_stands (readings l) i order older h in
-        let p : order.place < i + 1 = s.below in
-        ap (λ x. cond (is_ok (served a d (order ∷ older))) x [])
-        (segments_front l r (i / 4) (order.place / 4) order.ops.states (omega (arith, e, w)) (omega (arith, p)))
+sent_front a d l r i e w = grind (arith, said_append, force_left, length-said, force_stands, segments_front)
 
 -- ---- the first group
 
 pub given_first : (a d : ℕ) (z : ℤ) (base feed : List (List ℕ)) (mark n first : ℕ) → Marks a d z base feed mark n
-    → IsGroup a feed mark n first first
-    → given_under a d (Some (life base feed mark (first + 4)))
+    → IsGroup a feed mark n first first → given_under a d (Some (life base feed mark (first + 4)))
     ≡ sync_behind (given_under a d (Some (life base feed mark first))) (mark + first)
     ++ four_segments (levels (upto feed mark (first + 4))) (mark + first)
-given_first a d z base feed mark n first m g =
-    given_last a d base feed mark first inside g.group m.at_other
-    ∙ ap₂ (behind_field_sync (length base + first)) before
-    (sent_same a d z base feed mark n (first + 4) first first m
+given_first a d z base feed mark n first m g = given_last a d base feed mark first inside g.group m.at_other
+    ∙ ap₂ (behind_field_sync (length base + first)) before (sent_same a d z base feed mark n (first + 4) first first m
     (place_of a feed mark n first first first g (omega arith) g.group (omega arith)))
     ∙ sync_first (length base + first) (sent_at a d (life base feed mark first) (length base + (first - 4)))
     (levels (upto feed mark (first + 4))) (mark + first)
     ∙ ap (λ x. x ++ four_segments (levels (upto feed mark (first + 4))) (mark + first))
     (sync_place (sent_at a d (life base feed mark first) (length base + (first - 4))) (length base + first)
     (mark + first) (let m1 = m.at_mark in let m2 = m.at_other in omega (arith, m1, m2))
-    ∙ sym (ap (λ x. sync_behind x (mark + first)) earlier
-    ∙ sync_over (length base + (first - 4)) (mark + first)
+    ∙ sym (ap (λ x. sync_behind x (mark + first)) earlier ∙ sync_over (length base + (first - 4)) (mark + first)
     (sent_before a d (life base feed mark first) (length base + (first - 4)))
     (sent_at a d (life base feed mark first) (length base + (first - 4)))))
   where
@@ -116,8 +89,7 @@ given_first a d z base feed mark n first m g =
 
     before : sent_before a d (life base feed mark (first + 4)) (length base + first)
         ≡ sent_at a d (life base feed mark first) (length base + (first - 4))
-    before =
-        cond-true (nat_le 4 (length base + first)) _ _ (le-leb 4 (length base + first) (omega (arith, far)))
+    before = cond-true (nat_le 4 (length base + first)) _ _ (le-leb 4 (length base + first) (omega (arith, far)))
         ∙ ap₂ (sent_at a d) longer at
         ∙ sent_front a d (life base feed mark first) (take 4 (drop first (drop mark feed)))
         (length base + (first - 4)) long (let w = g.whole in let m2 = m.at_other in omega (arith, w, m2, far))
@@ -125,10 +97,4 @@ given_first a d z base feed mark n first m g =
     earlier : given_under a d (Some (life base feed mark first))
         ≡ behind_field_sync (length base + (first - 4)) (sent_before a d (life base feed mark first)
         (length base + (first - 4))) (sent_at a d (life base feed mark first) (length base + (first - 4)))
-    earlier =
-        ap (λ k. given_under a d (Some (life base feed mark k))) (sym four)
-        ∙ given_last a d base feed mark (first - 4) (omega (arith, inside)) (let w = g.whole in
-        omega (arith, w, far)) m.at_other
-        ∙ ap (λ k. behind_field_sync (length base + (first - 4))
-        (sent_before a d (life base feed mark k) (length base + (first - 4)))
-        (sent_at a d (life base feed mark k) (length base + (first - 4)))) four
+    earlier = grind (arith, life, given_last)

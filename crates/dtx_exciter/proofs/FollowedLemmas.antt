@@ -1,7 +1,6 @@
 -- An exciter behind a feed's mark: the packets under its anchor, what it gives, and what it answers.
 use Rattle.std.proofs.Common.{◌≡◌, ◌≢◌, ℕ, ℤ, ◌+◌, ◌-◌, ◌%◌, ◌<◌, ◌≤◌, ◌==◌, Some, option_map, List, [], ◌∷◌, ◌++◌}
-use Rattle.std.proofs.Common.{length}
-use Rattle.std.proofs.Common.{take, drop, map, get_or, sym, ap, ◌∙◌, arith}
+use Rattle.std.proofs.Common.{length, take, drop, map, get_or, sym, ap, ◌∙◌, arith}
 use Rattle.std.proofs.lemmas.Bool.{cond-false, ne_eqb}
 use Rattle.std.proofs.lemmas.List.{append_assoc, get_or-drop, get_or-map, get_or-take, length-append, length-drop}
 use Rattle.std.proofs.lemmas.List.{length-map, length-take-le, drop-append-le, take-map, take-take, take_more}
@@ -21,21 +20,12 @@ use Rattle.dtx_exciter.proofs.InLifeLemmas.{life, length-life}
 -- ---- the anchor
 
 pub marked_part : (a d : ℕ) (z : ℤ) (feed : List (List ℕ)) (mark n : ℕ) → IsFeed a d z feed → mark % 624 ≡ 0
-    → mark + n ≤ length feed
-    → IsMarked (syncs (take n (drop mark feed)))
+    → mark + n ≤ length feed → IsMarked (syncs (take n (drop mark feed)))
 unfolding syncs
 marked_part a d z feed mark n f m l = λ i h.
-    let small : i < n = omega (
-      arith,
-      h,
-      length-map (take n (drop mark feed)) sync_of,
-      length-take-le n (drop mark feed) (omega (arith, l, length-drop mark feed)),
-    ) in
+    let small : i < n = grind (arith, length-map, length-take-le, length-drop) in
     let e : (mark + i) % 624 ≡ i % 624 = omega (arith, m) in
-    ap (λ x. x == 0xB8)
-    (get_or-map sync_of (take n (drop mark feed)) i [] 0
-    (omega (arith, h, length-map (take n (drop mark feed)) sync_of))
-    ∙ ap sync_of (get_or-take n (drop mark feed) i [] small ∙ get_or-drop mark feed i []))
+    ap (λ x. x == 0xB8) (grind (arith, get_or-map, length-map, get_or-take, get_or-drop))
     ∙ f.marks (mark + i) (omega (arith, l, small)) ∙ ap (λ (k : ℕ). k == 0) e
 
 pub syncs_append : (xs ys : List (List ℕ)) → syncs (xs ++ ys) ≡ syncs xs ++ syncs ys
@@ -52,9 +42,7 @@ after earlier feed mark j = earlier ++ take j (drop mark feed)
 
 pub after_more : (earlier feed : List (List ℕ)) (mark j : ℕ) → mark + j < length feed
     → after earlier feed mark (j + 1) ≡ after earlier feed mark j ++ get_or (drop mark feed) j [] ∷ []
-after_more earlier feed mark j l =
-    ap (λ x. earlier ++ x) (take_more (drop mark feed) j [] (omega (arith, l, length-drop mark feed)))
-    ∙ sym (append_assoc earlier (take j (drop mark feed)) (get_or (drop mark feed) j [] ∷ []))
+after_more earlier feed mark j l = grind (arith, take_more, length-drop, append_assoc)
 
 -- the packets under the anchor from the feed's mark on, where nothing was locked before it or a lock in step
 pub record Follows (earlier feed : List (List ℕ)) (mark n : ℕ) : Type 0 where
@@ -69,9 +57,7 @@ pub record Follows (earlier feed : List (List ℕ)) (mark n : ℕ) : Type 0 wher
 pub follows : (a d : ℕ) (z : ℤ) (earlier feed : List (List ℕ)) (mark n : ℕ) → IsFeed a d z feed → mark % 624 ≡ 0
     → mark + n ≤ length feed → 0 < n → IsInStep (syncs earlier) → Follows earlier feed mark n
 unfolding under anchor_of
-follows a d z earlier feed mark n f m l s t =
-    by_anchor (anchored (syncs earlier) (syncs (take n (drop mark feed))) (marked_part a d z feed mark n f m l)
-    (omega (arith, s, long)) t)
+follows a d z earlier feed mark n f m l s t = by_anchor (grind (arith, anchored, marked_part, long))
   where
     long : length (syncs (take n (drop mark feed))) ≡ n
     long = length-syncs (take n (drop mark feed))
@@ -81,11 +67,8 @@ follows a d z earlier feed mark n f m l s t =
     by_anchor w =
         let within : w.place ≤ length earlier = let x = w.within in omega (arith, x, length-syncs earlier) in
         let steps = w.steps in
-        let anchors : (j : ℕ) → j < n → anchor (syncs (after earlier feed mark (j + 1))) ≡ Some w.place =
-        λ j h.
-        ap anchor (syncs_append earlier (take (j + 1) (drop mark feed))
-        ∙ ap (λ x. syncs earlier ++ x) (sym (syncs_take (j + 1) n (drop mark feed) (omega (arith, h)))))
-        ∙ w.holds j (omega arith) (omega (arith, h, long)) in
+        let anchors : (j : ℕ) → j < n → anchor (syncs (after earlier feed mark (j + 1))) ≡ Some w.place = λ j h.
+        ap anchor (grind (arith, syncs_append, syncs_take)) ∙ w.holds j (omega arith) (omega (arith, h, long)) in
         record {
           base = drop w.place earlier;
           in_step = omega (arith, steps, length-drop w.place earlier, length-syncs earlier);
@@ -109,10 +92,8 @@ pub given_none : (a d : ℕ) (earlier feed : List (List ℕ)) (mark n j : ℕ) �
     → mark + n ≤ length feed → j < n → j % 4 ≢ 3 → last_segments a d (earlier ++ take (j + 1) (drop mark feed)) ≡ []
 given_none a d earlier feed mark n j w h l m =
     let s = w.in_step in
-    given_is a d earlier feed mark n j w l
-    ∙ cond-false (length (life w.base feed mark (j + 1)) % 4 == 0) _ _
-    (ne_eqb (length (life w.base feed mark (j + 1)) % 4) 0
-    (λ z. m (omega (arith, z, s, length-life w.base feed mark (j + 1) (omega (arith, h, l))))))
+    given_is a d earlier feed mark n j w l ∙ cond-false (length (life w.base feed mark (j + 1)) % 4 == 0) _ _
+    (ne_eqb (length (life w.base feed mark (j + 1)) % 4) 0 (λ z. m (grind (arith, length-life))))
 
 -- ---- the answer
 
@@ -125,21 +106,10 @@ told_is a d earlier feed mark n j w h s l =
     let e : j - 1 + 1 ≡ j = omega arith in
     let more = after_more earlier feed mark j (omega (arith, h, l)) in
     let b = w.before in
-    let now : anchor_of (after earlier feed mark j ++ get_or (drop mark feed) j [] ∷ []) ≡ Some w.place =
-    ap anchor_of (sym more) ∙ w.anchors j l in
     let before : anchor_of (after earlier feed mark j) ≡ Some w.place =
     ap (λ k. anchor_of (after earlier feed mark k)) (sym e) ∙ w.anchors (j - 1) (omega (arith, s, l)) in
-    ap (last_answer a d) more
-    ∙ (goes_on a d (after earlier feed mark j) (get_or (drop mark feed) j []) w.place
-    (omega (
-      arith,
-      b,
-      s,
-      h,
-      l,
-      length-append earlier (take j (drop mark feed)),
-      length-take-le j (drop mark feed) (omega (arith, h, l, length-drop mark feed)),
-    )) before now).answer
+    ap (last_answer a d) more ∙ (goes_on a d (after earlier feed mark j) (get_or (drop mark feed) j []) w.place
+    (grind (arith, length-append, length-take-le, length-drop)) before (ap anchor_of (sym more) ∙ w.anchors j l)).answer
     ∙ ap (λ x. told_under a d (option_map readings (under x))) (sym more)
     ∙ ap (λ x. told_under a d (option_map readings x)) (w.holds j l)
 
@@ -150,11 +120,4 @@ told_none a d earlier feed mark n j w h s l m =
     let b = w.in_step in
     told_is a d earlier feed mark n j w h s l
     ∙ cond-false (length (readings (life w.base feed mark (j + 1))) % 4 == 0) _ _
-    (ne_eqb (length (readings (life w.base feed mark (j + 1))) % 4) 0
-    (λ z. m (omega (
-      arith,
-      z,
-      b,
-      length-said (life w.base feed mark (j + 1)),
-      length-life w.base feed mark (j + 1) (omega (arith, h, l)),
-    ))))
+    (grind (arith, ne_eqb, life, length-said, length-life))

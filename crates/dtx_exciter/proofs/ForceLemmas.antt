@@ -1,14 +1,12 @@
 -- The orders so far, over one packet more.
 use Rattle.std.proofs.Common.{◌≡◌, ◌≢◌, ℕ, zero, suc, ◌+◌, ◌-◌, ◌%◌, ◌<◌, ◌≤◌, ◌==◌, ◌&&◌, Bool, true, false, cond}
-use Rattle.std.proofs.Common.{Option, Some, None, List, [], ◌∷◌, ◌++◌, length, get_or, refl, sym, ap, ap₂, subst, ◌∙◌}
-use Rattle.std.proofs.Common.{arith}
+use Rattle.std.proofs.Common.{Option, Some, None, List, [], ◌∷◌, ◌++◌, length, refl, ap, ap₂, subst, ◌∙◌, arith}
 use Rattle.std.specs.Prelude.{nat_le}
 use Rattle.std.specs.List.{cons_option}
 use Rattle.std.proofs.lemmas.Bool.{cond-false, eqb-true, ne_eqb, and_left, and_right, and_parts, lt-leb, leb-true}
 use Rattle.std.proofs.lemmas.List.{get_or_append_left}
 use Rattle.dtx_ops.specs.declared.fields.Ops.{Ops}
-use Rattle.dtx_exciter.specs.Order.{Order, either, latest_first, ordered, ordered_at, order_at, counting_order, placed}
-use Rattle.dtx_exciter.specs.Order.{orders}
+use Rattle.dtx_exciter.specs.Order.{Order, latest_first, order_at, counting_order, placed, orders}
 
 -- ---- the values, the latest first
 
@@ -21,20 +19,14 @@ pub latest_more : {A : Type 0} (f : ℕ → Option A) (n : ℕ)
     → latest_first f (n + 1) ≡ cons_option (f n) (latest_first f n)
 latest_more f n = let e : n + 1 ≡ suc n = omega arith in ap (latest_first f) e
 
-latest_skip : {A : Type 0} (f : ℕ → Option A) (n m : ℕ) → m ≡ n + 1 → f n ≡ None
-    → latest_first f m ≡ latest_first f n
+latest_skip : {A : Type 0} (f : ℕ → Option A) (n m : ℕ) → m ≡ n + 1 → f n ≡ None → latest_first f m ≡ latest_first f n
 latest_skip f n m e h = ap (latest_first f) e ∙ latest_more f n ∙ ap (λ o. cons_option o (latest_first f n)) h
 
 -- ---- what is ordered stays where a packet is added
 
 order_left : (l rest : List (Option Ops)) (g : ℕ) → g + 4 ≤ length l → order_at (l ++ rest) g ≡ order_at l g
 unfolding order_at
-order_left l rest g h =
-    ap₂ either (same g (omega arith)) (ap₂ either (same (g + 1) (omega arith))
-    (ap₂ either (same (g + 2) (omega arith)) (same (g + 3) (omega arith))))
-  where
-    same : (k : ℕ) → k < length l → ordered_at (l ++ rest) k ≡ ordered_at l k
-    same k m = ap (ordered (k % 624)) (get_or_append_left l rest None k m)
+order_left l rest g h = grind (arith, get_or_append_left)
 
 pub counted_left : (l rest : List (Option Ops)) (g : ℕ) → g + 4 ≤ length l
     → counting_order (l ++ rest) g ≡ counting_order l g
@@ -43,32 +35,25 @@ counted_left l rest g h = ap (λ o. cond (nat_le 52 g && (g % 4 == 0)) o None) (
 
 pub force_left : (l rest : List (Option Ops)) (i : ℕ) → i + 4 ≤ length l → orders (l ++ rest) i ≡ orders l i
 unfolding orders
-force_left l rest i h =
-    latest_same (λ g. placed g (counting_order (l ++ rest) g)) (λ g. placed g (counting_order l g)) (i + 1)
-    (λ k m. ap (placed k) (counted_left l rest k (omega arith)))
+force_left l rest i h = grind (arith, latest_same, counted_left)
 
 -- ---- a group further
 
 pub counted_off : (l : List (Option Ops)) (g : ℕ) → g % 4 ≢ 0 → counting_order l g ≡ None
 unfolding counting_order
-counted_off l g h =
-    cond-false (nat_le 52 g && (g % 4 == 0)) (order_at l g) None
-    (and_right (nat_le 52 g) (g % 4 == 0) (ne_eqb (g % 4) 0 h))
+counted_off l g h = grind (arith, cond-false, and_right, ne_eqb)
 
 pub counted_early : (l : List (Option Ops)) (g : ℕ) → g < 52 → counting_order l g ≡ None
 unfolding counting_order
-counted_early l g h =
-    cond-false (nat_le 52 g && (g % 4 == 0)) (order_at l g) None (and_left (nat_le 52 g) (g % 4 == 0) (lt-leb 52 g h))
+counted_early l g h = grind (arith, cond-false, and_left, lt-leb)
 
 pub force_more : (l : List (Option Ops)) (i : ℕ) → i % 4 ≡ 0 → 4 ≤ i
     → orders l i ≡ cons_option (placed i (counting_order l i)) (orders l (i - 4))
 unfolding orders
 force_more l i h m =
-    latest_more f i
-    ∙ ap (cons_option (f i))
-    (latest_skip f (i - 1) i (omega arith) (off (i - 1) (omega arith))
+    latest_more f i ∙ ap (cons_option (f i)) (latest_skip f (i - 1) i (omega arith) (off (i - 1) (omega arith))
     ∙ latest_skip f (i - 2) (i - 1) (omega arith) (off (i - 2) (omega arith))
-    ∙ latest_skip f (i - 3) (i - 2) (omega arith) (off (i - 3) (omega arith)) ∙ ap (latest_first f) end)
+    ∙ latest_skip f (i - 3) (i - 2) (omega arith) (off (i - 3) (omega arith)) ∙ ap (latest_first f) (omega arith))
   where
     f : ℕ → Option Order
     f g = placed g (counting_order l g)
@@ -76,19 +61,11 @@ force_more l i h m =
     off : (g : ℕ) → g % 4 ≢ 0 → f g ≡ None
     off g n = ap (placed g) (counted_off l g n)
 
-    end : i - 3 ≡ i - 4 + 1
-    end = omega arith
-
 -- one number further
 pub force_next : (l : List (Option Ops)) (i k : ℕ) → k ≡ i + 1
     → orders l k ≡ cons_option (placed k (counting_order l k)) (orders l i)
 unfolding orders
-force_next l i k e =
-    ap (λ n. latest_first f (n + 1)) e ∙ latest_more f (i + 1)
-    ∙ ap (λ n. cons_option (f n) (latest_first f (i + 1))) (sym e)
-  where
-    f : ℕ → Option Order
-    f g = placed g (counting_order l g)
+force_next l i k e = grind (arith, latest_more)
 
 pub force_first : (l : List (Option Ops)) → orders l 0 ≡ []
 unfolding orders
@@ -108,20 +85,13 @@ stands_here : (l : List (Option Ops)) (g : ℕ) (o : Option Ops) (r : List Order
     → counting_order l g ≡ o
     → cons_option (placed g o) r ≡ order ∷ older → (r ≡ order ∷ older → Stands l g order) → Stands l (g + 1) order
 stands_here l g None r order older e h f = stands_further l g order (f h)
-stands_here l g (Some ops) r order older e h f =
-    let here : record { place = g; ops = ops } ≡ order = ap (λ x. get_or x 0 order) h in
-    record {
-      below = let p : g ≡ order.place = ap (λ (o : Order). o.place) here in omega (arith, p);
-      counts = ap (counting_order l) (sym (ap (λ (o : Order). o.place) here)) ∙ e ∙ ap (λ (o : Order). Some o.ops) here;
-    }
+stands_here l g (Some ops) r order older e h f = grind arith
 
 latest_stands : (l : List (Option Ops)) (n : ℕ) (order : Order) (older : List Order)
-    → latest_first (λ g. placed g (counting_order l g)) n ≡ order ∷ older
-    → Stands l n order
+    → latest_first (λ g. placed g (counting_order l g)) n ≡ order ∷ older → Stands l n order
 latest_stands l zero order older e = absurd (omega (arith, ap (λ (x : List Order). length x) e))
 latest_stands l (suc n) order older e =
-    let next : n + 1 ≡ suc n = omega arith in
-    subst (λ (k : ℕ). Stands l k order) next (stands_here l n (counting_order l n)
+    subst (λ (k : ℕ). Stands l k order) (omega arith) (stands_here l n (counting_order l n)
     (latest_first (λ g. placed g (counting_order l g)) n) order older refl e (latest_stands l n order older))
 
 pub force_stands : (l : List (Option Ops)) (i : ℕ) (order : Order) (older : List Order) → orders l i ≡ order ∷ older
@@ -134,18 +104,11 @@ counted_test : (l : List (Option Ops)) (g : ℕ) (ops : Ops) (t : Bool) → (nat
     → counting_order l g ≡ Some ops → (nat_le 52 g && (g % 4 == 0)) ≡ true
 unfolding counting_order
 counted_test l g ops true e h = e
-counted_test l g ops false e h =
-    absurd (none_some ops (sym (cond-false (nat_le 52 g && (g % 4 == 0)) (order_at l g) None e) ∙ h))
-  where
-    none_some : (ops : Ops) → ◌≡◌ {A = Option Ops} None (Some ops) → ⊥
-    none_some ops e = cc
+counted_test l g ops false e h = grind (arith, cond-false)
 
 pub record IsBehind (g : ℕ) : Type 0 where
   pub flushed : 52 ≤ g
   pub whole : g % 4 ≡ 0
 
 pub counted_behind : (l : List (Option Ops)) (g : ℕ) (ops : Ops) → counting_order l g ≡ Some ops → IsBehind g
-counted_behind l g ops h =
-    let t : (nat_le 52 g ≡ true) × ((g % 4 == 0) ≡ true) =
-    and_parts (nat_le 52 g) (g % 4 == 0) (counted_test l g ops (nat_le 52 g && (g % 4 == 0)) refl h) in
-    record { flushed = leb-true 52 g t.0; whole = eqb-true (g % 4) 0 t.1 }
+counted_behind l g ops h = grind (arith, and_parts, counted_test, leb-true, eqb-true)

@@ -35,18 +35,10 @@ unfolding levels_since
 since_front w qs u g k q e l m =
     let bytes : List ℕ = drop (828 * g) (whole_groups w) in
     let more : List ℕ = drop (828 * u) (whole_groups (w ++ qs)) in
-    let long : length bytes ≡ 828 * (u - g) = omega (
-      arith,
-      l,
-      e,
-      length-drop (828 * g) (whole_groups w),
-      length-whole w,
-    ) in
-    ap (λ y. segment (levels_of (4 * g % 312) q y) k)
-    (ap (drop (828 * g)) (whole_append w qs u e)
+    let long : length bytes ≡ 828 * (u - g) = grind (arith, length-drop, length-whole) in
+    ap (λ y. segment (levels_of (4 * g % 312) q y) k) (ap (drop (828 * g)) (whole_append w qs u e)
     ∙ drop-append-le (828 * g) (whole_groups w) more (omega (arith, l, e, length-whole w)))
-    ∙ ap (λ zs. segment zs k) (levels_append (4 * g % 312) (u - g) q bytes more long)
-    ∙ segment_front (levels_of (4 * g % 312) q bytes)
+    ∙ ap (λ zs. segment zs k) (grind (arith, levels_append)) ∙ segment_front (levels_of (4 * g % 312) q bytes)
     (levels_of (group_place (4 * g % 312) (u - g)) (states_after (4 * g % 312) q bytes) more) k
     (omega (arith, m, length-levels_of (4 * g % 312) q bytes (u - g) long))
 
@@ -72,8 +64,7 @@ since w [] coder h = record { group = 0; states = h.0; runs = h.1 }
 since w (order ∷ older) coder h = record { group = order.place / 4; states = order.ops.states; runs = h }
 
 pub runs_more : (w q : List (List ℕ)) (i : ℕ) (own : Option Ops) (r : List Order) (coder : Coding) (g : Group)
-    → IsGiven w q i own r coder g
-    → RunsUnder (w ++ q) (cons_option (placed i own) r) (after_group coder g)
+    → IsGiven w q i own r coder g → RunsUnder (w ++ q) (cons_option (placed i own) r) (after_group coder g)
 runs_more w q i (Some ops) r coder g n =
     let s : RunsSince w coder = since w r coder n.runs in
     subst (λ k. RunsAlong (w ++ q) k ops.states (after_group coder g)) (ap (λ (k : ℕ). k / 4) n.long)
@@ -101,14 +92,9 @@ data_own : (address delay : ℕ) (w q : List (List ℕ)) (i : ℕ) (ops : Ops) (
 unfolding segments_since
 data_own address delay w q i ops r coder g n l s =
     let x : RunsSince w coder = since w r coder n.runs in
-    let e : length w / 4 ≡ i / 4 = ap (λ (k : ℕ). k / 4) n.long in
     let z : 0 ≡ 4 * (i / 4 - i / 4) = omega arith in
     sent_preset w x.group x.states ops.states coder g x.runs (subst (λ (k : ℕ). 52 ≤ k) (sym n.long) l) n.next
-    ∙ ap (λ ss. sync_of_group coder g ++ ss)
-    (ap₂ (λ k x. four_segments (levels_since k ops.states (w ++ x)) 0) e n.packets
-    ∙ ap (four_segments (levels_since (i / 4) ops.states (w ++ q))) z
-    ∙ sym (cond-true (is_ok (served address delay (record { place = i; ops = ops } ∷ r)))
-    (four_segments (levels_since (i / 4) ops.states (w ++ q)) (4 * (i / 4 - i / 4))) [] s))
+    ∙ ap (λ ss. sync_of_group coder g ++ ss) (grind (arith, cond-true))
 
 data_old : (address delay : ℕ) (w q : List (List ℕ)) (i : ℕ) (order : Order) (older : List Order) (coder : Coding)
     (g : Group)
@@ -119,15 +105,11 @@ data_old address delay w q i order older coder g n o s =
     let a : 52 ≤ 4 * (order.place / 4) = let x = o.flushed in let y = o.whole in omega (arith, x, y) in
     let e : length w - 4 * (order.place / 4) ≡ 4 * (i / 4 - order.place / 4) = let x = n.long in let y = n.whole in
     let z = o.before in omega (arith, x, y, z) in
-    sent_group w (order.place / 4) order.ops.states coder g n.runs a n.next
-    ∙ ap (λ ss. sync_of_group coder g ++ ss)
-    (ap₂ (λ x k. four_segments (levels_since (order.place / 4) order.ops.states (w ++ x)) k) n.packets e
-    ∙ sym (cond-true (is_ok (served address delay (order ∷ older)))
-    (four_segments (levels_since (order.place / 4) order.ops.states (w ++ q)) (4 * (i / 4 - order.place / 4))) [] s))
+    sent_group w (order.place / 4) order.ops.states coder g n.runs a n.next ∙ ap (λ ss. sync_of_group coder g ++ ss)
+    (grind (arith, cond-true))
 
 data_is : (address delay : ℕ) (w q : List (List ℕ)) (i : ℕ) (own : Option Ops) (r : List Order) (coder : Coding)
-    (g : Group) → IsGiven w q i own r coder g
-    → ((ops : Ops) → own ≡ Some ops → 52 ≤ i)
+    (g : Group) → IsGiven w q i own r coder g → ((ops : Ops) → own ≡ Some ops → 52 ≤ i)
     → ((order : Order) (older : List Order) → r ≡ order ∷ older → IsOlder i order)
     → is_served address delay (cons_option (placed i own) r) ≡ true
     → air_segments coder g ≡ sync_of_group coder g ++ sent_by address delay (w ++ q) i (cons_option (placed i own) r)
@@ -146,10 +128,7 @@ pub some_before : (i n m : ℕ) (ys zs : List ℕ) → behind_field_sync i (four
     ≡ cond (i % 312 == 0) (field_sync (nat_le 312 (i % 624)) (last_of (segment ys (n + 3))) ∷ []) []
     ++ four_segments zs m
 unfolding four_segments
-some_before i n m ys zs =
-    let e : n + 1 + 1 + 1 ≡ n + 3 = omega arith in
-    ap (λ k. cond (i % 312 == 0) (field_sync (nat_le 312 (i % 624)) (last_of (segment ys k)) ∷ []) []
-    ++ (segment zs m ∷ segment zs (m + 1) ∷ segment zs (m + 1 + 1) ∷ segment zs (m + 1 + 1 + 1) ∷ [])) e
+some_before i n m ys zs = grind arith
 
 -- what a served order sends is four segments
 pub record AreFour (ss : List (List ℤ)) : Type 0 where
@@ -161,19 +140,12 @@ four_by : (address delay : ℕ) (packets : List (List ℕ)) (i : ℕ) (r : List 
     → AreFour (sent_by address delay packets i r)
 unfolding segments_since
 four_by address delay packets i [] s = cc
-four_by address delay packets i (order ∷ older) s = record {
-  zs = levels_since (order.place / 4) order.ops.states packets;
-  n = 4 * (i / 4 - order.place / 4);
-  are = cond-true (is_ok (served address delay (order ∷ older)))
-      (four_segments (levels_since (order.place / 4) order.ops.states packets) (4 * (i / 4 - order.place / 4))) [] s;
-}
+four_by address delay packets i (order ∷ older) s = grind (arith, cond-true)
 
 pub none_by : (address delay : ℕ) (packets : List (List ℕ)) (i : ℕ) (r : List Order)
     → is_served address delay r ≡ false → sent_by address delay packets i r ≡ []
 none_by address delay packets i [] s = refl
-none_by address delay packets i (order ∷ older) s =
-    cond-false (is_ok (served address delay (order ∷ older)))
-    (segments_since (order.place / 4) order.ops.states packets (i / 4)) [] s
+none_by address delay packets i (order ∷ older) s = grind (arith, cond-false)
 
 -- the last twelve symbols that were sent are those that the coder holds
 last_held : (w q : List (List ℕ)) (i : ℕ) (order : Order) (coder : Coding) (n : ℕ) → length w ≡ i → i % 4 ≡ 0
@@ -181,15 +153,12 @@ last_held : (w q : List (List ℕ)) (i : ℕ) (order : Order) (coder : Coding) (
     → n ≡ 4 * ((i - 4) / 4 - order.place / 4) + 3
     → coder.last ≡ last_of (segment (levels_since (order.place / 4) order.ops.states (w ++ q)) n)
 last_held w q i order coder n long whole runs o e =
-    let x : 52 ≤ order.place = o.flushed in
-    let y : order.place % 4 ≡ 0 = o.whole in
     let z : order.place + 4 ≤ i = o.before in
-    let k : length w - 4 * (order.place / 4) - 1 ≡ n = omega (arith, long, whole, y, z, e) in
-    last_along w (order.place / 4) order.ops.states coder runs (omega (arith, x, y)) (omega (arith, long, y, z))
-    ∙ ap last_of
-    (ap (segment (levels_since (order.place / 4) order.ops.states w)) k
+    let k : length w - 4 * (order.place / 4) - 1 ≡ n = omega (arith, long, whole, z, e) in
+    last_along w (order.place / 4) order.ops.states coder runs (omega arith) (omega (arith, long, z))
+    ∙ ap last_of (ap (segment (levels_since (order.place / 4) order.ops.states w)) k
     ∙ sym (since_front w q (i / 4) (order.place / 4) n order.ops.states (omega (arith, long, whole)) (omega (arith, z))
-    (omega (arith, whole, y, z, e))))
+    (omega (arith, whole, z, e))))
 
 -- whether a field sync stands before the group
 pub record HasSync (i : ℕ) (before : Bool) (g : Group) : Type 0 where
@@ -207,15 +176,11 @@ unfolding segments_since
 sync_old address delay w q i order older coder g ss long whole runs o h s four =
     let zs : List ℕ = levels_since (order.place / 4) order.ops.states (w ++ q) in
     let n : ℕ = 4 * ((i - 4) / 4 - order.place / 4) in
-    ap (λ x. sync_of_group coder g ++ x) four.are
-    ∙ ap (λ x. x ++ four_segments four.zs four.n)
+    ap (λ x. sync_of_group coder g ++ x) four.are ∙ ap (λ x. x ++ four_segments four.zs four.n)
     (ap (λ t. cond t (field_sync g.second coder.last ∷ []) []) h.sync
     ∙ ap₂ (λ second last. cond (i % 312 == 0) (field_sync second last ∷ []) []) h.second
-    (last_held w q i order coder (n + 3) long whole runs o refl))
-    ∙ sym (some_before i n four.n zs four.zs)
-    ∙ ap₂ (behind_field_sync i)
-    (sym (cond-true (is_ok (served address delay (order ∷ older))) (four_segments zs n) [] s))
-    (sym four.are)
+    (last_held w q i order coder (n + 3) long whole runs o refl)) ∙ sym (some_before i n four.n zs four.zs)
+    ∙ ap₂ (behind_field_sync i) (sym (grind (arith, cond-true))) (sym four.are)
 
 sync_by_service : (address delay : ℕ) (w q : List (List ℕ)) (i : ℕ) (order : Order) (older : List Order)
     (coder : Coding) (g : Group) (ss : List (List ℤ)) (before t : Bool) → length w ≡ i → i % 4 ≡ 0
@@ -225,34 +190,26 @@ sync_by_service : (address delay : ℕ) (w q : List (List ℕ)) (i : ℕ) (order
 sync_by_service address delay w q i order older coder g ss before true long whole runs o h b s four =
     sync_old address delay w q i order older coder g ss long whole runs o (subst (λ x. HasSync i x g) b h) s four
 sync_by_service address delay w q i order older coder g ss before false long whole runs o h b s four =
-    ap (λ x. x ++ ss) (no_sync coder g (i % 312 == 0) (h.sync ∙ ap (λ x. x && (i % 312 == 0)) b))
-    ∙ sym (none_before i ss)
-    ∙ ap (λ x. behind_field_sync i x ss) (sym (none_by address delay (w ++ q) (i - 4) (order ∷ older) s))
+    grind (arith, no_sync, none_before, none_by)
 
 sync_is : (address delay : ℕ) (w q : List (List ℕ)) (i : ℕ) (own : Option Ops) (r : List Order) (coder : Coding)
     (g : Group) (ss : List (List ℤ)) (before : Bool) → IsGiven w q i own r coder g
     → ((order : Order) (older : List Order) → r ≡ order ∷ older → IsOlder i order) → HasSync i before g
-    → before ≡ is_served address delay r
-    → AreFour ss
+    → before ≡ is_served address delay r → AreFour ss
     → sync_of_group coder g ++ ss ≡ behind_field_sync i (sent_by address delay (w ++ q) (i - 4) r) ss
-sync_is address delay w q i own [] coder g ss before n h y b four =
-    ap (λ x. x ++ ss) (no_sync coder g (i % 312 == 0) (y.sync ∙ ap (λ x. x && (i % 312 == 0)) b))
-    ∙ sym (none_before i ss)
+sync_is address delay w q i own [] coder g ss before n h y b four = grind (arith, no_sync, none_before)
 sync_is address delay w q i own (order ∷ older) coder g ss before n h y b four =
     sync_by_service address delay w q i order older coder g ss before
     (is_ok (served address delay (order ∷ older))) n.long n.whole n.runs (h order older refl) y b refl four
 
 -- ---- the group's segments, where it is sent
 pub group_sent : (address delay : ℕ) (w q : List (List ℕ)) (i : ℕ) (own : Option Ops) (r : List Order)
-    (coder : Coding) (g : Group) (before : Bool) → IsGiven w q i own r coder g
-    → ((ops : Ops) → own ≡ Some ops → 52 ≤ i)
+    (coder : Coding) (g : Group) (before : Bool) → IsGiven w q i own r coder g → ((ops : Ops) → own ≡ Some ops → 52 ≤ i)
     → ((order : Order) (older : List Order) → r ≡ order ∷ older → IsOlder i order)
     → HasSync i before g → before ≡ is_served address delay r
     → is_served address delay (cons_option (placed i own) r) ≡ true
     → air_segments coder g ≡ behind_field_sync i (sent_by address delay (w ++ q) (i - 4) r)
     (sent_by address delay (w ++ q) i (cons_option (placed i own) r))
-group_sent address delay w q i own r coder g before n f h y b s =
-    data_is address delay w q i own r coder g n f h s
+group_sent address delay w q i own r coder g before n f h y b s = data_is address delay w q i own r coder g n f h s
     ∙ sync_is address delay w q i own r coder g
-    (sent_by address delay (w ++ q) i (cons_option (placed i own) r)) before n h
-    y b (four_by address delay (w ++ q) i (cons_option (placed i own) r) s)
+    (sent_by address delay (w ++ q) i (cons_option (placed i own) r)) before n h y b (grind (arith, four_by))

@@ -2,7 +2,7 @@
 use Rattle.std.proofs.Common.{◌≡◌, ◌≢◌, ℕ, ◌<◌, ◌≤◌, ◌⊎◌, ◌==◌, ◌||◌, Bool, true, false, cond, Option, Some}
 use Rattle.std.proofs.Common.{None, option_map, List, [], ◌∷◌, length, map, get_or, set, take, replicate, refl, sym, ap}
 use Rattle.std.proofs.Common.{ap₂, subst, ◌∙◌, arith, inl, inr, zero-add}
-use Rattle.std.specs.Prelude.{option_and_then, is_some}
+use Rattle.std.specs.Prelude.{option_and_then}
 use Rattle.std.specs.List.{range_with_len, take_while, list_all}
 use Rattle.std.proofs.lemmas.Bool.{cases_eq, cond-true, cond-false, eq-eqb, ne_eqb}
 use Rattle.std.proofs.lemmas.List.{length-set, get_or-set_same, get_or-set_other}
@@ -11,7 +11,6 @@ use Rattle.std.proofs.lemmas.List.FromFn.{fill_by_all, get_or-map-range_with_len
 use Rattle.std.proofs.lemmas.List.FromFn.{take-map-range_with_len}
 use Rattle.std.proofs.lemmas.List.Sums.{take_while-cons}
 use Rattle.dtx_ops.specs.Paging.{page_of, pages_of}
-use Rattle.dtx_ops.specs.declared.fields.Entry.{Entry}
 use Rattle.dtx_ops.specs.declared.fields.Ops.{Ops}
 use Rattle.dtx_exciter.specs.declared.pages.PageEntry.{PageEntry}
 use Rattle.dtx_exciter.specs.declared.pages.Pages.{Pages}
@@ -28,23 +27,11 @@ use Rattle.dtx_exciter.specs.Step.{served_by}
 pub held_entry : (a : ℕ) (r : List Order) (p : Pages) → HoldsPages a r p
     → option_map (λ h. h.entry) p.held ≡ entry_in_force a r
 unfolding entry_in_force
-held_entry a r p k =
-    ap (option_map (λ (h : PageEntry). h.entry)) k.cycle.held ∙ by_listing (listing a (of_one_cycle r))
-  where
-    by_entry : (n : ℕ) (o : Option Entry)
-        → option_map (λ (h : PageEntry). h.entry) (option_map (λ e. record { page = n; entry = e }) o) ≡ o
-    by_entry n None = refl
-    by_entry n (Some e) = refl
-
-    by_listing : (o : Option Order) → option_map (λ (h : PageEntry). h.entry) (option_and_then (held_of a) o)
-        ≡ option_and_then (λ x. entry_of a x.ops) o
-    by_listing None = refl
-    by_listing (Some l) = by_entry (page l) (entry_of a l.ops)
+held_entry a r p k = grind arith
 
 held_all : (a : ℕ) (o : Order) (r : List Order) (p : Pages) → HoldsPages a (o ∷ r) p
     → list_all (λ t. t) (take p.count p.told) ≡ all_pages_told (of_one_cycle (o ∷ r))
-held_all a o r p k =
-    ap₂ (λ n ts. list_all (λ t. t) (take n ts)) k.count k.cycle.told
+held_all a o r p k = ap₂ (λ n ts. list_all (λ t. t) (take n ts)) k.count k.cycle.told
     ∙ ap (list_all (λ t. t)) (take-map-range_with_len (is_told (of_one_cycle (o ∷ r))) 0 30 (pages o) k.few)
     ∙ list_all-map (λ t. t) (is_told (of_one_cycle (o ∷ r))) (range_with_len 0 (pages o))
 
@@ -66,35 +53,26 @@ begun_holds : (a n : ℕ) (r : List Order) (p : Pages) → HoldsPages a r p
     → HoldsCycle a (take_while (λ x. pages x == n) r) (begun n p)
 begun_holds a n [] p k = by_count (p.count == n)
   where
-    by_count : (t : Bool)
-        → HoldsCycle a [] (cond t p (record { count = n; told = replicate 30 false; held = None }))
+    by_count : (t : Bool) → HoldsCycle a [] (cond t p (record { count = n; told = replicate 30 false; held = None }))
     by_count true = k.cycle
     by_count false = cleared_holds a n
-begun_holds a n (l ∷ r) p k = by_count (cases_eq (pages l) n)
-  where
-    by_count : (pages l ≡ n) ⊎ (pages l ≢ n) → HoldsCycle a (take_while (λ x. pages x == n) (l ∷ r)) (begun n p)
-    by_count (inl e) =
-        subst (HoldsCycle a (take_while (λ x. pages x == n) (l ∷ r)))
-        (sym (cond-true (p.count == n) p (record { count = n; told = replicate 30 false; held = None })
-        (eq-eqb p.count n (k.count ∙ e))))
-        (subst (λ c. HoldsCycle a c p)
-        (ap (λ (m : ℕ). l ∷ take_while (λ x. pages x == m) r) e
-        ∙ sym (take_while-cons (λ x. pages x == n) l r
-        ∙ cond-true (pages l == n) (l ∷ take_while (λ x. pages x == n) r) [] (eq-eqb (pages l) n e)))
-        k.cycle)
-    by_count (inr h) =
-        subst (HoldsCycle a (take_while (λ x. pages x == n) (l ∷ r)))
-        (sym (cond-false (p.count == n) p (record { count = n; told = replicate 30 false; held = None })
-        (ne_eqb p.count n (λ e. h (sym k.count ∙ e)))))
-        (subst (λ c. HoldsCycle a c (record { count = n; told = replicate 30 false; held = None }))
-        (sym (take_while-cons (λ x. pages x == n) l r
-        ∙ cond-false (pages l == n) (l ∷ take_while (λ x. pages x == n) r) [] (ne_eqb (pages l) n h)))
-        (cleared_holds a n))
+begun_holds a n (l ∷ r) p k = elim (cases_eq (pages l) n) [
+  | inl e ↦ subst (HoldsCycle a (take_while (λ x. pages x == n) (l ∷ r)))
+      (sym (cond-true (p.count == n) p (record { count = n; told = replicate 30 false; held = None })
+      (eq-eqb p.count n (k.count ∙ e)))) (subst (λ c. HoldsCycle a c p)
+      (ap (λ (m : ℕ). l ∷ take_while (λ x. pages x == m) r) e ∙ sym (take_while-cons (λ x. pages x == n) l r
+      ∙ cond-true (pages l == n) (l ∷ take_while (λ x. pages x == n) r) [] (eq-eqb (pages l) n e))) k.cycle)
+  | inr h ↦ subst (HoldsCycle a (take_while (λ x. pages x == n) (l ∷ r)))
+      (sym (cond-false (p.count == n) p (record { count = n; told = replicate 30 false; held = None })
+      (ne_eqb p.count n (λ e. h (sym k.count ∙ e)))))
+      (subst (λ c. HoldsCycle a c (record { count = n; told = replicate 30 false; held = None }))
+      (sym (take_while-cons (λ x. pages x == n) l r
+      ∙ cond-false (pages l == n) (l ∷ take_while (λ x. pages x == n) r) [] (ne_eqb (pages l) n h))) (cleared_holds a n))
+]
 
 -- ---- one order more
 
-told_more : (o : Order) (c : List Order) (ts : List Bool) → page o < 30
-    → ts ≡ map (is_told c) (range_with_len 0 30)
+told_more : (o : Order) (c : List Order) (ts : List Bool) → page o < 30 → ts ≡ map (is_told c) (range_with_len 0 30)
     → set ts (page o) true ≡ map (is_told (o ∷ c)) (range_with_len 0 30)
 told_more o c ts l e =
     fill_by_all (is_told (o ∷ c)) (set ts (page o) true) 30 false (length-set ts (page o) true ∙ long)
@@ -105,52 +83,19 @@ told_more o c ts l e =
 
     by_page : (k : ℕ) → k < 30 → (k ≡ page o) ⊎ (k ≢ page o)
         → get_or (set ts (page o) true) k false ≡ ((page o == k) || is_told c k)
-    by_page k m (inl s) =
-        ap (λ (n : ℕ). get_or (set ts (page o) true) n false) s
-        ∙ get_or-set_same ts (page o) true false (omega (arith, l, long))
-        ∙ sym (ap (λ b. b || is_told c k) (eq-eqb (page o) k (sym s)))
-    by_page k m (inr s) =
-        get_or-set_other ts (page o) k true false s
-        ∙ ap (λ x. get_or x k false) e
+    by_page k m (inl s) = grind (arith, get_or-set_same, eq-eqb)
+    by_page k m (inr s) = get_or-set_other ts (page o) k true false s ∙ ap (λ x. get_or x k false) e
         ∙ get_or-map-range_with_len (is_told c) 0 30 k k false m (zero-add k)
         ∙ sym (ap (λ b. b || is_told c k) (ne_eqb (page o) k (λ q. s (sym q))))
 
 held_none : (a k : ℕ) (o : Option Order)
     → held_after k None (option_and_then (held_of a) o) ≡ option_and_then (held_of a) (forgotten k o)
 held_none a k None = refl
-held_none a k (Some l) = by_entry (entry_of a l.ops) refl
-  where
-    gone : entry_of a l.ops ≡ None → (t : Bool) → None ≡ option_and_then (held_of a) (cond t None (Some l))
-    gone e true = refl
-    gone e false = sym (ap (option_map (λ x. record { page = page l; entry = x })) e)
-
-    stays : (x : Entry) → entry_of a l.ops ≡ Some x → (t : Bool)
-        → cond t None (Some (record { page = page l; entry = x })) ≡ option_and_then (held_of a) (cond t None (Some l))
-    stays x e true = refl
-    stays x e false = sym (ap (option_map (λ y. record { page = page l; entry = y })) e)
-
-    by_entry : (x : Option Entry) → entry_of a l.ops ≡ x
-        → held_after k None (held_of a l) ≡ option_and_then (held_of a) (cond (k == page l) None (Some l))
-    by_entry None e =
-        ap (λ x. held_after k None (option_map (λ y. record { page = page l; entry = y }) x)) e
-        ∙ gone e (k == page l)
-    by_entry (Some x) e =
-        ap (λ y. held_after k None (option_map (λ z. record { page = page l; entry = z }) y)) e
-        ∙ stays x e (k == page l)
+held_none a k (Some l) = grind arith
 
 held_more : (a : ℕ) (o : Order) (c : List Order) (h : Option PageEntry) → h ≡ option_and_then (held_of a) (listing a c)
     → held_after (page o) (entry_of a o.ops) h ≡ option_and_then (held_of a) (listing a (o ∷ c))
-held_more a o c h e = by_entry (entry_of a o.ops) refl
-  where
-    by_entry : (x : Option Entry) → entry_of a o.ops ≡ x
-        → held_after (page o) (entry_of a o.ops) h ≡ option_and_then (held_of a) (listing a (o ∷ c))
-    by_entry None n =
-        ap₂ (held_after (page o)) n e ∙ held_none a (page o) (listing a c)
-        ∙ ap (option_and_then (held_of a)) (sym (listing_other a o c (ap is_some n)))
-    by_entry (Some x) n =
-        ap (λ y. held_after (page o) y h) n
-        ∙ sym (ap (option_and_then (held_of a)) (listing_here a o c (ap is_some n))
-        ∙ ap (option_map (λ y. record { page = page o; entry = y })) n)
+held_more a o c h e = grind (arith, held_none, listing_other, listing_here)
 
 pub order_holds : (a i : ℕ) (ops : Ops) (r : List Order) (p : Pages) → page_of ops.paging < pages_of ops.paging
     → pages_of ops.paging ≤ 30 → HoldsPages a r p

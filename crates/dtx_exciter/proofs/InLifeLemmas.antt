@@ -1,18 +1,16 @@
 -- An exciter's packets behind a mark of a feed: the same packets, the same orders, and the feed's own segments.
-use Rattle.std.proofs.Common.{◌≡◌, ℕ, ℤ, zero, suc, ◌+◌, ◌-◌, ◌*◌, ◌/◌, ◌%◌, ◌<◌, ◌≤◌, ◌==◌, ◌&&◌, cond, Option, Some}
-use Rattle.std.proofs.Common.{None, true, List, [], ◌∷◌, ◌++◌, length, take, drop, get_or, refl, sym, ap, ap₂, ◌∙◌}
-use Rattle.std.proofs.Common.{arith}
+use Rattle.std.proofs.Common.{◌≡◌, ℕ, ℤ, zero, suc, ◌+◌, ◌-◌, ◌*◌, ◌/◌, ◌%◌, ◌<◌, ◌≤◌, ◌==◌, cond, Option, Some, None}
+use Rattle.std.proofs.Common.{true, List, [], ◌∷◌, ◌++◌, length, take, drop, get_or, refl, sym, ap, ap₂, ◌∙◌, arith}
 use Rattle.std.specs.Prelude.{nat_le, is_ok}
 use Rattle.std.specs.List.{cons_option}
 use Rattle.std.proofs.lemmas.Bool.{cond-true, cond-false, eq-eqb, ne_eqb, le-leb}
 use Rattle.std.proofs.lemmas.List.{get_or-append_right, get_or-drop, get_or-take, get_or-map, length-append}
 use Rattle.std.proofs.lemmas.List.{length-drop, length-take-le, take-take}
 use Rattle.dtx_frame.specs.Segments.{field_sync}
-use Rattle.dtx_coder.specs.Stream.{levels, states, segment, four_segments, last_of, no_last, last_before, sync_before}
+use Rattle.dtx_coder.specs.Stream.{levels, states, segment, four_segments, last_of, last_before, sync_before}
 use Rattle.dtx_coder.specs.Stream.{group_segments}
 use Rattle.dtx_ops.specs.declared.fields.Ops.{Ops}
-use Rattle.dtx_exciter.specs.Order.{Order, either, latest_first, ordered, ordered_at, order_at, counting_order, placed}
-use Rattle.dtx_exciter.specs.Order.{orders}
+use Rattle.dtx_exciter.specs.Order.{Order, either, latest_first, ordered_at, order_at, counting_order, placed, orders}
 use Rattle.dtx_exciter.specs.Pages.{lists}
 use Rattle.dtx_exciter.specs.Told.{served}
 use Rattle.dtx_exciter.specs.Packets.{reads, readings}
@@ -41,23 +39,16 @@ length-part feed mark j l = length-take-le j (drop mark feed) (omega (arith, l, 
 
 pub length-life : (base feed : List (List ℕ)) (mark j : ℕ) → mark + j ≤ length feed
     → length (life base feed mark j) ≡ length base + j
-length-life base feed mark j l = length-append base (take j (drop mark feed))
-    ∙ ap (λ n. length base + n) (length-part feed mark j l)
+length-life base feed mark j l = grind (arith, length-append, length-part)
 
 packet_same : (base feed : List (List ℕ)) (mark j i k : ℕ) → i < j → k ≡ length base + i
     → get_or (life base feed mark j) k [] ≡ get_or feed (mark + i) []
-packet_same base feed mark j i k l e =
-    let far : length base ≤ k = omega (arith, e) in
-    let less : k - length base ≡ i = omega (arith, e) in
-    get_or-append_right base (take j (drop mark feed)) (length base) k [] refl far
-    ∙ ap (λ x. get_or (take j (drop mark feed)) x []) less ∙ get_or-take j (drop mark feed) i [] l
-    ∙ get_or-drop mark feed i []
+packet_same base feed mark j i k l e = grind (arith, get_or-append_right, get_or-take, get_or-drop)
 
 said_same : (base feed : List (List ℕ)) (mark j i k : ℕ) → mark + j ≤ length feed → i < j → k ≡ length base + i
     → get_or (readings (life base feed mark j)) k None ≡ get_or (readings feed) (mark + i) None
 unfolding readings
-said_same base feed mark j i k h l e =
-    get_or-map reads (life base feed mark j) k [] None (omega (arith, l, e, length-life base feed mark j h))
+said_same base feed mark j i k h l e = get_or-map reads (life base feed mark j) k [] None (grind (arith, length-life))
     ∙ ap reads (packet_same base feed mark j i k l e)
     ∙ sym (get_or-map reads feed (mark + i) [] None (omega (arith, l, h)))
 
@@ -75,20 +66,13 @@ order_same base feed mark j x m b h l =
   where
     same : (i y z : ℕ) → y ≡ length base + (x + i) → z ≡ mark + (x + i) → x + i < j
         → ordered_at (readings (life base feed mark j)) y ≡ ordered_at (readings feed) z
-    same i y z p q s =
-        let r : y % 624 ≡ z % 624 = omega (arith, m, b, p, q) in
-        ap₂ ordered r (said_same base feed mark j (x + i) y h s p ∙ ap (λ k. get_or (readings feed) k None) (sym q))
+    same i y z p q s = grind (arith, said_same)
 
 pub counted_same : (base feed : List (List ℕ)) (mark j x : ℕ) → mark % 624 ≡ 0 → length base % 624 ≡ 0
     → mark + j ≤ length feed → x + 4 ≤ j → 52 ≤ x
     → counting_order (readings (life base feed mark j)) (length base + x) ≡ counting_order (readings feed) (mark + x)
 unfolding counting_order
-counted_same base feed mark j x m b h l s =
-    let r : (length base + x) % 4 ≡ (mark + x) % 4 = omega (arith, m, b) in
-    ap₂ (λ t o. cond t o None)
-    (ap₂ (λ p q. p && q) (le-leb 52 (length base + x) (omega (arith, s))
-    ∙ sym (le-leb 52 (mark + x) (omega (arith, s)))) (ap (λ k. k == 0) r))
-    (order_same base feed mark j x m b h l)
+counted_same base feed mark j x m b h l s = grind (arith, le-leb, order_same)
 
 -- the orders so far: the latest is that of a group of the feed, and lists the transmitter or leaves it listed
 pub record InStep (a : ℕ) (base feed : List (List ℕ)) (mark j first x : ℕ) : Type 0 where
@@ -108,8 +92,7 @@ pub record InStep (a : ℕ) (base feed : List (List ℕ)) (mark j first x : ℕ)
 force_here : (readings : List (Option Ops)) (i : ℕ) (ops : Ops) → counting_order readings i ≡ Some ops
     → orders readings i ≡ record { place = i; ops = ops } ∷ latest_first (λ g. placed g (counting_order readings g)) i
 unfolding orders
-force_here readings i ops h = latest_more (λ g. placed g (counting_order readings g)) i
-    ∙ ap (λ y. cons_option (placed i y) (latest_first (λ g. placed g (counting_order readings g)) i)) h
+force_here readings i ops h = grind (arith, latest_more)
 
 pub in_step : (a d : ℕ) (z : ℤ) (base feed : List (List ℕ)) (mark n j first s x : ℕ) (ops : Ops)
     → Marks a d z base feed mark n → j ≤ n → 52 ≤ first → x ≡ first + s → x + 4 ≤ j
@@ -150,8 +133,7 @@ in_step a d z base feed mark n j first (suc s) x ops m l f e k h listed =
     none_some y q = cc
 
     by_order : (o : Option Ops) → counting_order (readings feed) (mark + x) ≡ o
-        → InStep a base feed mark j first (first + s)
-        → InStep a base feed mark j first x
+        → InStep a base feed mark j first (first + s) → InStep a base feed mark j first x
     by_order (Some y) g w =
         let latest : Order = record { place = length base + w.group; ops = w.ops } in
         record {
@@ -160,8 +142,7 @@ in_step a d z base feed mark n j first (suc s) x ops m l f e k h listed =
           older = latest ∷ w.older;
           behind = omega (arith, e);
           until = omega arith;
-          in_life =
-              force_next (readings (life base feed mark j)) (length base + (first + s)) (length base + x) next
+          in_life = force_next (readings (life base feed mark j)) (length base + (first + s)) (length base + x) next
               ∙ ap₂ (λ o r. cons_option (placed (length base + x) o) r) (agrees ∙ g) w.in_life;
           its_own = g;
           listed = listed_next a d z feed (mark + x) (mark + w.group)
@@ -174,8 +155,7 @@ in_step a d z base feed mark n j first (suc s) x ops m l f e k h listed =
       older = w.older;
       behind = w.behind;
       until = let u = w.until in omega (arith, u, e);
-      in_life =
-          force_next (readings (life base feed mark j)) (length base + (first + s)) (length base + x) next
+      in_life = force_next (readings (life base feed mark j)) (length base + (first + s)) (length base + x) next
           ∙ ap₂ (λ o r. cons_option (placed (length base + x) o) r) (agrees ∙ g) w.in_life;
       its_own = w.its_own;
       listed = w.listed;
@@ -206,8 +186,7 @@ sent_same a d z base feed mark n j first x m p =
     by_step (in_step a d z base feed mark n j first (x - first) x p.order.0 m p.few p.flushed (let l = p.later in
     omega (arith, l)) p.within p.order.1 p.order.2)
   where
-    by_step : InStep a base feed mark j first x
-        → sent_by a d (life base feed mark j) (length base + x)
+    by_step : InStep a base feed mark j first x → sent_by a d (life base feed mark j) (length base + x)
         (orders (readings (life base feed mark j)) (length base + x))
         ≡ four_segments (levels (upto feed mark j)) (mark + x)
     by_step w =
@@ -217,20 +196,10 @@ sent_same a d z base feed mark n j first x m p =
         let part : length (take j (drop mark feed)) ≡ j = length-part feed mark j inside in
         let m1 = m.at_mark in let p1 = p.flushed in let p2 = p.within in let p3 = p.whole in let w1 = w.behind in
         let w2 = w.until in let o1 = own.whole in
-        let same : AreSame base (take mark feed) (take j (drop mark feed)) x w.group = record {
-          first = m.at_other;
-          second = omega (arith, long, m1);
-          groups = omega (arith, part, p3);
-          flushed = omega (arith, p1, w1);
-          order = omega (arith, o1, m1);
-          later = w2;
-          group = p.group;
-          inside = omega (arith, part, p2);
-        } in
+        let same : AreSame base (take mark feed) (take j (drop mark feed)) x w.group = grind arith in
         let parts : take mark feed ++ take j (drop mark feed) ≡ upto feed mark j = sym (take_parts mark j feed) in
         let front : take (length (take mark feed) + w.group) (take mark feed ++ take j (drop mark feed))
-        ≡ take (mark + w.group) feed =
-        ap₂ take (ap (λ (k : ℕ). k + w.group) long) parts
+        ≡ take (mark + w.group) feed = ap₂ take (ap (λ (k : ℕ). k + w.group) long) parts
         ∙ take-take (mark + w.group) (mark + j) feed (omega (arith, w2, p2)) in
         ap (sent_by a d (life base feed mark j) (length base + x)) w.in_life
         ∙ cond-true (is_ok (served a d (record { place = length base + w.group; ops = w.ops } ∷ w.older))) _ _
@@ -245,34 +214,19 @@ sync_same : (f : List (List ℕ)) (i v : ℕ) → 0 < v → i % 624 ≡ 4 * v % 
     → cond (i % 312 == 0) (field_sync (nat_le 312 (i % 624)) (last_of (segment (levels f) (4 * v - 4 + 3))) ∷ []) []
     ≡ sync_before f v
 unfolding sync_before last_before
-sync_same f i v h e =
-    let c : i % 312 ≡ 4 * v % 312 = omega (arith, e) in
-    let k : 4 * v - 4 + 3 ≡ 4 * v - 1 = omega (arith, h) in
-    ap₂ (λ x y. cond (x == 0) (field_sync (nat_le 312 y) (last_of (segment (levels f) (4 * v - 4 + 3))) ∷ []) []) c e
-    ∙ ap (λ t. cond (4 * v % 312 == 0) (field_sync (nat_le 312 (4 * v % 624)) t ∷ []) [])
-    (ap (λ y. last_of (segment (levels f) y)) k
-    ∙ sym (cond-false (v == 0) no_last (last_of (segment (levels f) (4 * v - 1)))
-    (ne_eqb v 0 (λ z. omega (arith, h, z)))))
+sync_same f i v h e = grind (arith, cond-false, ne_eqb)
 
 with_sync_same : (f : List (List ℕ)) (i v : ℕ) → 0 < v → i % 624 ≡ 4 * v % 624
     → behind_field_sync i (four_segments (levels f) (4 * v - 4)) (four_segments (levels f) (4 * v)) ≡ group_segments f v
 unfolding group_segments
-with_sync_same f i v h e = some_before i (4 * v - 4) (4 * v) (levels f) (levels f)
-    ∙ ap (λ s. s ++ four_segments (levels f) (4 * v)) (sync_same f i v h e)
+with_sync_same f i v h e = grind (arith, some_before, sync_same)
 
 -- what the group's last packet gives
 pub given_last : (a d : ℕ) (base feed : List (List ℕ)) (mark x : ℕ) → mark + (x + 4) ≤ length feed → x % 4 ≡ 0
-    → length base % 624 ≡ 0
-    → given_under a d (Some (life base feed mark (x + 4)))
+    → length base % 624 ≡ 0 → given_under a d (Some (life base feed mark (x + 4)))
     ≡ behind_field_sync (length base + x) (sent_before a d (life base feed mark (x + 4)) (length base + x))
     (sent_at a d (life base feed mark (x + 4)) (length base + x))
-given_last a d base feed mark x l y b =
-    let n : length (life base feed mark (x + 4)) ≡ length base + (x + 4) = length-life base feed mark (x + 4) l in
-    let s : length (life base feed mark (x + 4)) - 4 ≡ length base + x = omega (arith, n) in
-    cond-true (length (life base feed mark (x + 4)) % 4 == 0) _ _
-    (eq-eqb (length (life base feed mark (x + 4)) % 4) 0 (omega (arith, n, y, b)))
-    ∙ ap (λ k. behind_field_sync k (sent_before a d (life base feed mark (x + 4)) k)
-    (sent_at a d (life base feed mark (x + 4)) k)) s
+given_last a d base feed mark x l y b = grind (arith, length-life, cond-true, eq-eqb)
 
 pub record IsGroup (a : ℕ) (feed : List (List ℕ)) (mark n first x : ℕ) : Type 0 where
   pub order : (ops : Ops) × (counting_order (readings feed) (mark + first) ≡ Some ops) × (lists a ops ≡ true)
@@ -283,17 +237,8 @@ pub record IsGroup (a : ℕ) (feed : List (List ℕ)) (mark n first x : ℕ) : T
   pub within : x + 4 ≤ n
 
 pub place_of : (a : ℕ) (feed : List (List ℕ)) (mark n first x y : ℕ) → IsGroup a feed mark n first x → first ≤ y
-    → y % 4 ≡ 0
-    → y ≤ x → IsPlace a feed mark n (x + 4) first y
-place_of a feed mark n first x y g l w h = record {
-  order = g.order;
-  flushed = g.flushed;
-  later = l;
-  group = w;
-  within = omega (arith, h);
-  whole = let v = g.group in omega (arith, v);
-  few = g.within;
-}
+    → y % 4 ≡ 0 → y ≤ x → IsPlace a feed mark n (x + 4) first y
+place_of a feed mark n first x y g l w h = grind arith
 
 pub given_next : (a d : ℕ) (z : ℤ) (base feed : List (List ℕ)) (mark n first x : ℕ) → Marks a d z base feed mark n
     → IsGroup a feed mark n first x → first + 4 ≤ x
@@ -304,19 +249,15 @@ given_next a d z base feed mark n first x m g l =
     let v : mark + x ≡ 4 * ((mark + x) / 4) = omega (arith, m1, g1) in
     let u : mark + (x - 4) ≡ 4 * ((mark + x) / 4) - 4 = omega (arith, m1, g1, l) in
     let k : length base + x - 4 ≡ length base + (x - 4) = omega (arith, l) in
-    let before : sent_before a d (life base feed mark (x + 4)) (length base + x)
-    ≡ four_segments (levels (upto feed mark (x + 4))) (4 * ((mark + x) / 4) - 4) =
-    cond-true (nat_le 4 (length base + x)) _ _ (le-leb 4 (length base + x) (omega (arith, l)))
-    ∙ ap (sent_at a d (life base feed mark (x + 4))) k
-    ∙ sent_same a d z base feed mark n (x + 4) first (x - 4) m
-    (place_of a feed mark n first x (x - 4) g (omega (arith, l)) (omega (arith, g1)) (omega arith))
-    ∙ ap (four_segments (levels (upto feed mark (x + 4)))) u in
     let here : sent_at a d (life base feed mark (x + 4)) (length base + x)
     ≡ four_segments (levels (upto feed mark (x + 4))) (4 * ((mark + x) / 4)) =
     sent_same a d z base feed mark n (x + 4) first x m
     (place_of a feed mark n first x x g g.later g.group (omega arith))
     ∙ ap (four_segments (levels (upto feed mark (x + 4)))) v in
-    given_last a d base feed mark x inside g.group m.at_other
-    ∙ ap₂ (behind_field_sync (length base + x)) before here
+    given_last a d base feed mark x inside g.group m.at_other ∙ ap₂ (behind_field_sync (length base + x))
+    (cond-true (nat_le 4 (length base + x)) _ _ (le-leb 4 (length base + x) (omega (arith, l)))
+    ∙ ap (sent_at a d (life base feed mark (x + 4))) k ∙ sent_same a d z base feed mark n (x + 4) first (x - 4) m
+    (place_of a feed mark n first x (x - 4) g (omega (arith, l)) (omega (arith, g1)) (omega arith))
+    ∙ ap (four_segments (levels (upto feed mark (x + 4)))) u) here
     ∙ with_sync_same (upto feed mark (x + 4)) (length base + x) ((mark + x) / 4) (omega (arith, l))
     (omega (arith, m1, m2, g1))

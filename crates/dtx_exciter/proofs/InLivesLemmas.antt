@@ -23,8 +23,7 @@ log_first : (a d n : ℕ) (life : List (List ℕ)) (ys : List (List (List ℕ)))
     → log a d n (life ∷ ys) ≡ life_lines a d n life ++ restarting_lines a d (n + length (emission a d life)) ys
 unfolding log restarting_lines
 log_first a d n life [] = sym (append-nil (life_lines a d n life))
-log_first a d n life (next ∷ more) =
-    ap (λ x. life_lines a d n life ++ restart (n + length (emission a d life)) ∷ x)
+log_first a d n life (next ∷ more) = ap (λ x. life_lines a d n life ++ restart (n + length (emission a d life)) ∷ x)
     (log_first a d (n + length (emission a d life)) next more)
 
 -- a life that another one follows
@@ -35,24 +34,17 @@ unfolding log
 log_next a d n x life [] ys = refl
 log_next a d n x life (z ∷ zs) ys = refl
 
-pub lines_in : (a d n : ℕ) (xs ys : List (List (List ℕ))) (life : List (List ℕ))
-    → log a d n (xs ++ life ∷ ys)
-    ≡ restarted_lines a d n xs
-    ++ (life_lines a d (n + length (emission_over a d xs)) life
+pub lines_in : (a d n : ℕ) (xs ys : List (List (List ℕ))) (life : List (List ℕ)) → log a d n (xs ++ life ∷ ys)
+    ≡ restarted_lines a d n xs ++ (life_lines a d (n + length (emission_over a d xs)) life
     ++ restarting_lines a d (n + length (emission_over a d xs) + length (emission a d life)) ys)
 unfolding restarted_lines
-lines_in a d n [] ys life =
-    log_first a d n life ys
+lines_in a d n [] ys life = log_first a d n life ys
     ∙ ap (λ m. life_lines a d m life ++ restarting_lines a d (m + length (emission a d life)) ys) (sym (add-zero n))
 lines_in a d n (x ∷ xs) ys life =
     let m : ℕ = n + length (emission a d x) in
     let sum : m + length (emission_over a d xs) ≡ n + length (emission_over a d (x ∷ xs)) =
     omega (arith, length-append (emission a d x) (emission_over a d xs)) in
-    log_next a d n x life xs ys
-    ∙ ap (λ y. life_lines a d n x ++ restart m ∷ y)
-    (lines_in a d m xs ys life
-    ∙ ap (λ (k : ℕ). restarted_lines a d m xs
-    ++ (life_lines a d k life ++ restarting_lines a d (k + length (emission a d life)) ys)) sum)
+    log_next a d n x life xs ys ∙ ap (λ y. life_lines a d n x ++ restart m ∷ y) (rw (lines_in a d m xs ys life, sum))
     ∙ sym (append_assoc (life_lines a d n x) (restart m ∷ restarted_lines a d m xs)
     (life_lines a d (n + length (emission_over a d (x ∷ xs))) life
     ++ restarting_lines a d (n + length (emission_over a d (x ∷ xs)) + length (emission a d life)) ys))
@@ -60,8 +52,7 @@ lines_in a d n (x ∷ xs) ys life =
 -- ---- a stretch in one of the lives
 
 pub stretch_segments : (a d : ℕ) (z : ℤ) (feed earlier later : List (List ℕ)) (xs ys : List (List (List ℕ)))
-    (mark end k : ℕ)
-    → IsFeed a d z feed → IsStretch a feed (locked_from earlier mark) mark end k
+    (mark end k : ℕ) → IsFeed a d z feed → IsStretch a feed (locked_from earlier mark) mark end k
     → emission_over a d (xs ++ (earlier ++ (slice_range feed mark end ++ later)) ∷ ys)
     ≡ (emission_over a d xs ++ before_stretch a d earlier feed mark k)
     ++ (stretch feed k end ++ (emission_behind a d (earlier ++ slice_range feed mark end) later
@@ -69,8 +60,7 @@ pub stretch_segments : (a d : ℕ) (z : ℤ) (feed earlier later : List (List �
 stretch_segments a d z feed earlier later xs ys mark end k f s =
     let before : List (List ℤ) = before_stretch a d earlier feed mark k in
     let after : List (List ℤ) = emission_behind a d (earlier ++ slice_range feed mark end) later in
-    segments_in a d xs ys (earlier ++ (slice_range feed mark end ++ later))
-    ∙ ap (λ x. emission_over a d xs ++ x)
+    segments_in a d xs ys (earlier ++ (slice_range feed mark end ++ later)) ∙ ap (λ x. emission_over a d xs ++ x)
     (ap (λ x. x ++ emission_over a d ys) (lockstep_on a d z feed earlier later mark end k f s)
     ∙ append_assoc before (stretch feed k end ++ after) (emission_over a d ys)
     ∙ ap (λ x. before ++ x) (append_assoc (stretch feed k end) after (emission_over a d ys)))
@@ -100,13 +90,11 @@ stretch_by a d n s z feed earlier later xs ys mark end k f t e =
     ∙ sym (append_assoc (restarted_lines a d n xs) before (own ++ (after ++ others)))
 
 pub stretch_log : (a d n : ℕ) (z : ℤ) (feed earlier later : List (List ℕ)) (xs ys : List (List (List ℕ)))
-    (mark end k : ℕ)
-    → IsFeed a d z feed → IsStretch a feed (locked_from earlier mark) mark end k
+    (mark end k : ℕ) → IsFeed a d z feed → IsStretch a feed (locked_from earlier mark) mark end k
     → let s : ℕ = n + length (emission_over a d xs) in
     log a d n (xs ++ (earlier ++ (slice_range feed mark end ++ later)) ∷ ys)
     ≡ (restarted_lines a d n xs ++ life_lines a d s (earlier ++ slice_range feed mark (k + 3)))
     ++ (stretch_lines z (s + length (before_stretch a d earlier feed mark k)) feed k end
     ++ (lines_behind a d s (earlier ++ slice_range feed mark end) later
     ++ restarting_lines a d (s + length (emission a d (earlier ++ (slice_range feed mark end ++ later)))) ys))
-stretch_log a d n z feed earlier later xs ys mark end k f t =
-    stretch_by a d n (n + length (emission_over a d xs)) z feed earlier later xs ys mark end k f t refl
+stretch_log a d n z feed earlier later xs ys mark end k f t = grind (arith, stretch_by)

@@ -1,20 +1,19 @@
 -- A packet joins those under the anchor.
-use Rattle.std.proofs.Common.{◌≡◌, ◌≢◌, ℕ, ℤ, ◌+◌, ◌-◌, ◌*◌, ◌%◌, ◌<◌, ◌≤◌, ◌⊎◌, ◌==◌, ◌&&◌, ◌||◌, Bool, true, false}
-use Rattle.std.proofs.Common.{cond, Option, Some, option_map, List, [], ◌∷◌, ◌++◌, length, take, drop, set, refl, sym}
-use Rattle.std.proofs.Common.{ap, ap₂, subst, ◌∙◌, arith, inl, inr}
+use Rattle.std.proofs.Common.{◌≡◌, ◌≢◌, ℕ, ℤ, ◌+◌, ◌-◌, ◌*◌, ◌%◌, ◌≤◌, ◌==◌, ◌||◌, Bool, true, false, cond, Option}
+use Rattle.std.proofs.Common.{Some, option_map, List, [], ◌∷◌, ◌++◌, length, take, drop, set, sym, ap, ap₂, subst, ◌∙◌}
+use Rattle.std.proofs.Common.{arith, inl, inr}
 use Rattle.std.specs.Prelude.{nat_le}
 use Rattle.std.specs.List.{cons_option}
 use Rattle.std.specs.Option.{unwrap_or}
 use Rattle.std.proofs.lemmas.Bool.{cases_lt, cond-true, cond-false, eq-eqb, ne_eqb, le-leb, lt-leb}
-use Rattle.std.proofs.lemmas.List.{length_push, drop-append-le}
-use Rattle.std.proofs.lemmas.List.{take_all}
+use Rattle.std.proofs.lemmas.List.{length_push, drop-append-le, take_all}
 use Rattle.dtx_packets.specs.declared.packet.Packet.{Packet}
 use Rattle.dtx_coder.specs.Groups.{Coding, air_segments, after_group}
 use Rattle.dtx_ops.specs.declared.fields.Ops.{Ops}
 use Rattle.dtx_exciter.specs.declared.exciter.Exciter.{Exciter}
 use Rattle.dtx_exciter.specs.declared.answers.Told.{Told}
 use Rattle.dtx_exciter.specs.declared.answers.Told.TheVariants.{Quiet}
-use Rattle.dtx_exciter.specs.Order.{Order, counting_order, placed, orders}
+use Rattle.dtx_exciter.specs.Order.{Order, counting_order, placed}
 use Rattle.dtx_exciter.specs.declared.pages.Pages.{Pages}
 use Rattle.dtx_exciter.specs.HeldPages.{HoldsPages, HoldsMore}
 use Rattle.dtx_exciter.specs.Told.{told_at, told_under, is_sent}
@@ -37,14 +36,10 @@ length-with l p = length-said (l ++ p ∷ []) ∙ length_push l p
 
 quiet_told : (a d : ℕ) (l : List (List ℕ)) (p : List ℕ) → length l % 4 ≢ 3
     → Quiet ≡ told_under a d (Some (readings (l ++ p ∷ [])))
-quiet_told a d l p h =
-    sym (cond-false (length (readings (l ++ p ∷ [])) % 4 == 0) _ _
-    (ne_eqb (length (readings (l ++ p ∷ [])) % 4) 0 (λ e. h (omega (arith, e, length-with l p)))))
+quiet_told a d l p h = grind (arith, cond-false, ne_eqb, length-with)
 
 quiet_given : (a d : ℕ) (l : List (List ℕ)) (p : List ℕ) → length l % 4 ≢ 3 → given_under a d (Some (l ++ p ∷ [])) ≡ []
-quiet_given a d l p h =
-    cond-false (length (l ++ p ∷ []) % 4 == 0) _ _
-    (ne_eqb (length (l ++ p ∷ []) % 4) 0 (λ e. h (omega (arith, e, length_push l p))))
+quiet_given a d l p h = grind (arith, cond-false, ne_eqb, length_push)
 
 none_held : (count : ℕ) (symbols : List ℤ) → count ≡ 0 → Holds [] count symbols
 none_held count symbols e = record { counted = e; begins = ap (λ (n : ℕ). take (832 * n) symbols) e }
@@ -55,8 +50,7 @@ pub joined_partial : (a d : ℕ) (l : List (List ℕ)) (old : Exciter) (place : 
     → IsJoined a d (l ++ packet.0 ∷ []) (record old { packets = set old.packets (place % 4) packet }) Quiet count
     symbols
 joined_partial a d l old place packet count symbols k e h four z =
-    let m : place % 4 ≡ length l % 4 = omega (arith, e) in
-    let n : length l % 4 ≢ 3 = λ x. h (m ∙ x) in
+    let n : length l % 4 ≢ 3 = λ x. h ((omega (arith, e)) ∙ x) in
     let w : whole (l ++ packet.0 ∷ []) ≡ whole l = omega (arith, n, length_push l packet.0) in
     let s : length (l ++ packet.0 ∷ []) % 4 ≡ length l % 4 + 1 = omega (arith, n, length_push l packet.0) in
     record {
@@ -65,12 +59,9 @@ joined_partial a d l old place packet count symbols k e h four z =
       keeps = record {
         flushed = k.flushed ∙ settled_same (length l) n (cases_lt (length l) 52)
             ∙ ap (nat_le 52) (sym (length_push l packet.0));
-        partial =
-            ap₂ (λ (x y : ℕ). take x (bytes_of (set old.packets y packet))) s m
-            ∙ held_more old.packets packet (length l % 4) (omega (arith, four))
-            ∙ ap (λ x. x ++ packet.0 ∷ []) k.partial
-            ∙ sym (ap (λ (y : ℕ). drop y (l ++ packet.0 ∷ [])) w
-            ∙ drop-append-le (whole l) l (packet.0 ∷ []) (omega arith));
+        partial = ap₂ (λ (x y : ℕ). take x (bytes_of (set old.packets y packet))) s (omega (arith, e))
+            ∙ held_more old.packets packet (length l % 4) (omega (arith, four)) ∙ ap (λ x. x ++ packet.0 ∷ []) k.partial
+            ∙ sym (ap (λ (y : ℕ). drop y (l ++ packet.0 ∷ [])) w ∙ drop-append-le (whole l) l (packet.0 ∷ []) (omega arith));
         sent = k.sent ∙ ap (is_served a d) (sym (last_same l packet.0 n));
         pages = subst (λ r. HoldsPages a r old.pages) (sym (last_same l packet.0 n)) k.pages;
         coder = subst (λ x. RunsUnder x (last_orders (l ++ packet.0 ∷ [])) old.coder) (sym (front_same l packet.0 n))
@@ -100,8 +91,7 @@ bytes_full a d l old packet i j c = group_bytes l old.packets packet i c.ends c.
 own_full : (a d : ℕ) (l : List (List ℕ)) (old : Exciter) (packet : Packet) (i j : ℕ) → Joining a d l old packet i j
     → own_of (full old packet) j ≡ counting_order (readings (l ++ packet.0 ∷ [])) i
 unfolding own_of
-own_full a d l old packet i j c =
-    ap₂ (λ s x. own_order s j x) c.keeps.flushed (bytes_full a d l old packet i j c)
+own_full a d l old packet i j c = ap₂ (λ s x. own_order s j x) c.keeps.flushed (bytes_full a d l old packet i j c)
     ∙ Ends.own_is l i j packet.0 c.ends c.place
 
 -- what is kept of the pages with the group's order, if it has one
@@ -115,40 +105,30 @@ pages_full a d l old packet i j pages c h =
 told_full : (a d : ℕ) (l : List (List ℕ)) (old : Exciter) (packet : Packet) (i j : ℕ) (pages : Pages)
     → Joining a d l old packet i j → HoldsPages a (orders_now l i packet.0) pages
     → told_group d j (own_of (full old packet) j) pages old.sent ≡ told_at a d i (orders_now l i packet.0)
-told_full a d l old packet i j pages c h =
-    ap (λ o. told_group d j o pages old.sent) (own_full a d l old packet i j c)
+told_full a d l old packet i j pages c h = ap (λ o. told_group d j o pages old.sent) (own_full a d l old packet i j c)
     ∙ told_group_is a d i j (counting_order (readings (l ++ packet.0 ∷ [])) i)
-    (last_orders l) pages old.sent c.place h c.keeps.sent
-    (λ order older e. Ends.last_older l i order older c.ends e)
+    (last_orders l) pages old.sent c.place h c.keeps.sent (λ order older e. Ends.last_older l i order older c.ends e)
 
 told_now : (a d : ℕ) (l : List (List ℕ)) (p : List ℕ) (i : ℕ) → Ends.Ends l i
     → told_at a d i (orders_now l i p) ≡ told_under a d (Some (readings (l ++ p ∷ [])))
 told_now a d l p i e =
     let n : length (readings (l ++ p ∷ [])) ≡ i + 4 = length-said (l ++ p ∷ []) ∙ Ends.length-all l i p e in
-    let s : length (readings (l ++ p ∷ [])) - 4 ≡ i = omega (arith, n) in
     let w = e.whole in
-    ap (told_at a d i) (sym (Ends.force_is l i p e))
-    ∙ sym (cond-true (length (readings (l ++ p ∷ [])) % 4 == 0) _ _
-    (eq-eqb (length (readings (l ++ p ∷ [])) % 4) 0 (omega (arith, n, w)))
-    ∙ ap (λ k. told_at a d k (orders (readings (l ++ p ∷ [])) k)) s)
+    ap (told_at a d i) (sym (Ends.force_is l i p e)) ∙ sym (grind (arith, cond-true, eq-eqb))
 
 -- ---- what is given
 
 before_now : (a d : ℕ) (l : List (List ℕ)) (p : List ℕ) (i : ℕ) → Ends.Ends l i
     → sent_before a d (l ++ p ∷ []) i ≡ sent_by a d (l ++ p ∷ []) (i - 4) (last_orders l)
 unfolding sent_at
-before_now a d l p i e = by_place (cases_lt i 4)
-  where
-    by_place : (i < 4) ⊎ (4 ≤ i)
-        → cond (nat_le 4 i) (sent_by a d (l ++ p ∷ []) (i - 4) (orders (readings (l ++ p ∷ [])) (i - 4))) []
-        ≡ sent_by a d (l ++ p ∷ []) (i - 4) (last_orders l)
-    by_place (inl m) =
-        let w = e.whole in
-        let z : i ≡ 0 = omega (arith, m, w) in
-        cond-false (nat_le 4 i) _ _ (lt-leb 4 i m)
-        ∙ sym (ap (sent_by a d (l ++ p ∷ []) (i - 4)) (Ends.last_none l i e z))
-    by_place (inr m) = cond-true (nat_le 4 i) _ _ (le-leb 4 i m)
-        ∙ ap (sent_by a d (l ++ p ∷ []) (i - 4)) (Ends.before_is l i p e m)
+before_now a d l p i e = elim (cases_lt i 4) [
+  | inl m ↦
+      let w = e.whole in
+      let z : i ≡ 0 = omega (arith, m, w) in
+      cond-false (nat_le 4 i) _ _ (lt-leb 4 i m) ∙ sym (ap (sent_by a d (l ++ p ∷ []) (i - 4)) (Ends.last_none l i e z))
+  | inr m ↦ cond-true (nat_le 4 i) _ _ (le-leb 4 i m)
+      ∙ ap (sent_by a d (l ++ p ∷ []) (i - 4)) (Ends.before_is l i p e m)
+]
 
 sent_now : (a d : ℕ) (l : List (List ℕ)) (p : List ℕ) (i : ℕ) → Ends.Ends l i
     → sent_at a d (l ++ p ∷ []) i ≡ sent_by a d (l ++ p ∷ []) i (orders_now l i p)
@@ -160,10 +140,9 @@ given_now : (a d : ℕ) (l : List (List ℕ)) (p : List ℕ) (i : ℕ) → Ends.
     (sent_by a d (l ++ p ∷ []) i (orders_now l i p))
 given_now a d l p i e =
     let n : length (l ++ p ∷ []) ≡ i + 4 = Ends.length-all l i p e in
-    let s : length (l ++ p ∷ []) - 4 ≡ i = omega (arith, n) in
     let w = e.whole in
     cond-true (length (l ++ p ∷ []) % 4 == 0) _ _ (eq-eqb (length (l ++ p ∷ []) % 4) 0 (omega (arith, n, w)))
-    ∙ ap (λ k. behind_field_sync k (sent_before a d (l ++ p ∷ []) k) (sent_at a d (l ++ p ∷ []) k)) s
+    ∙ ap (λ k. behind_field_sync k (sent_before a d (l ++ p ∷ []) k) (sent_at a d (l ++ p ∷ []) k)) (omega (arith, n))
     ∙ ap₂ (behind_field_sync i) (before_now a d l p i e) (sent_now a d l p i e)
 
 -- ---- the coder
@@ -191,12 +170,7 @@ sync_full : (a d : ℕ) (l : List (List ℕ)) (old : Exciter) (packet : Packet) 
     → Joining a d l old packet i j → is_sent answered ≡ true
     → HasSync i old.sent (group_of (full old packet) j answered)
 unfolding group_of
-sync_full a d l old packet i j answered c s = record {
-  sync =
-      let x = c.place in let e : j % 312 ≡ i % 312 = omega (arith, x) in
-      ap₂ (λ t (k : ℕ). t && old.sent && (k == 0)) s e;
-  second = ap (nat_le 312) c.place;
-}
+sync_full a d l old packet i j answered c s = grind arith
 
 served_now : (a d : ℕ) (l : List (List ℕ)) (p : List ℕ) (i : ℕ) (answered : Told)
     → answered ≡ told_at a d i (orders_now l i p) → is_sent answered ≡ is_served a d (orders_now l i p)
@@ -216,10 +190,8 @@ segments_full a d l old packet i j answered c h true s =
     (λ order older e. Ends.last_older l i order older c.ends e)
     (sync_full a d l old packet i j answered c s) c.keeps.sent (sym (served_now a d l packet.0 i answered h) ∙ s)
     ∙ ap (λ x. behind_field_sync i (sent_by a d x (i - 4) (last_orders l)) (sent_by a d x i (orders_now l i packet.0)))
-    (Ends.parts l i packet.0)
-    ∙ sym (given_now a d l packet.0 i c.ends)
-segments_full a d l old packet i j answered c h false s =
-    sym (given_now a d l packet.0 i c.ends
+    (Ends.parts l i packet.0) ∙ sym (given_now a d l packet.0 i c.ends)
+segments_full a d l old packet i j answered c h false s = sym (given_now a d l packet.0 i c.ends
     ∙ ap (behind_field_sync i (sent_by a d (l ++ packet.0 ∷ []) (i - 4) (last_orders l)))
     (none_by a d (l ++ packet.0 ∷ []) i (orders_now l i packet.0) (sym (served_now a d l packet.0 i answered h) ∙ s)))
 
@@ -245,24 +217,18 @@ keeps_full : (a d : ℕ) (l : List (List ℕ)) (old made e : Exciter) (packet : 
       sent = is_sent answered;
       pages = made.pages;
       coder = after_group old.coder (group_of (full old packet) j answered);
-    }
-    → HoldsPages a (orders_now l i packet.0) made.pages
+    } → HoldsPages a (orders_now l i packet.0) made.pages
     → e.flushed ≡ (made.flushed || (place == 51)) → e.sent ≡ made.sent → e.pages ≡ made.pages → e.coder ≡ made.coder
     → KeepsUnder a d e (l ++ packet.0 ∷ [])
 keeps_full a d l old made e packet i j place answered c p h m holds flushed sent pages coder = record {
-  flushed =
-      flushed ∙ ap (λ (x : Exciter). x.flushed || (place == 51)) m ∙ ap (λ b. b || (place == 51)) c.keeps.flushed
+  flushed = flushed ∙ ap (λ (x : Exciter). x.flushed || (place == 51)) m ∙ ap (λ b. b || (place == 51)) c.keeps.flushed
       ∙ settled_more (length l) place p (cases_lt (length l) 52) ∙ ap (nat_le 52) (sym (length_push l packet.0));
   partial = partial_full l packet.0 i (bytes_of e.packets) c.ends;
-  sent =
-      sent ∙ ap (λ (x : Exciter). x.sent) m ∙ served_now a d l packet.0 i answered h
+  sent = sent ∙ ap (λ (x : Exciter). x.sent) m ∙ served_now a d l packet.0 i answered h
       ∙ ap (is_served a d) (sym (Ends.last_all l i packet.0 c.ends ∙ Ends.force_is l i packet.0 c.ends));
-  pages =
-      subst (HoldsPages a (last_orders (l ++ packet.0 ∷ []))) (sym pages)
-      (subst (λ r. HoldsPages a r made.pages)
+  pages = subst (HoldsPages a (last_orders (l ++ packet.0 ∷ []))) (sym pages) (subst (λ r. HoldsPages a r made.pages)
       (sym (Ends.last_all l i packet.0 c.ends ∙ Ends.force_is l i packet.0 c.ends)) holds);
-  coder =
-      subst (λ x. RunsUnder (take (whole (l ++ packet.0 ∷ [])) (l ++ packet.0 ∷ []))
+  coder = subst (λ x. RunsUnder (take (whole (l ++ packet.0 ∷ [])) (l ++ packet.0 ∷ []))
       (last_orders (l ++ packet.0 ∷ [])) x)
       (sym (coder ∙ ap (λ (x : Exciter). x.coder) m)) (coder_full a d l old packet i j answered c);
 }
@@ -273,15 +239,11 @@ pub joined_full : (a d : ℕ) (l : List (List ℕ)) (old made e : Exciter) (pack
     → e.flushed ≡ (made.flushed || (place == 51)) → e.sent ≡ made.sent → e.pages ≡ made.pages → e.coder ≡ made.coder
     → IsJoined a d (l ++ packet.0 ∷ []) e answered count symbols
 joined_full a d l old made e packet i j place answered count symbols c p x y s flushed sent pages coder =
-    let holds : HoldsPages a (orders_now l i packet.0) made.pages =
-    pages_full a d l old packet i j made.pages c
+    let holds : HoldsPages a (orders_now l i packet.0) made.pages = pages_full a d l old packet i j made.pages c
     (subst (λ (u : ℕ). HoldsMore u (own_of (full old packet) j) old.pages made.pages) x s.pages) in
-    let h : answered ≡ told_at a d i (orders_now l i packet.0) =
-    s.answer ∙ ap (λ (v : ℕ). told_group v j (own_of (full old packet) j) made.pages old.sent) y
-    ∙ told_full a d l old packet i j made.pages c holds in
+    let h : answered ≡ told_at a d i (orders_now l i packet.0) = grind (arith, told_full) in
     record {
       answer = h ∙ told_now a d l packet.0 i c.ends;
-      air = subst (λ ss. Holds ss count symbols) (segments_full a d l old packet i j answered c h
-          (is_sent answered) refl) s.air;
+      air = subst (λ ss. Holds ss count symbols) (grind (arith, segments_full)) s.air;
       keeps = keeps_full a d l old made e packet i j place answered c p h s.new holds flushed sent pages coder;
     }

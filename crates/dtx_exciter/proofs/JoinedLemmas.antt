@@ -19,17 +19,13 @@ use Rattle.dtx_exciter.proofs.EndsLemmas as Ends
 
 pub last_same : (l : List (List ℕ)) (p : List ℕ) → length l % 4 ≢ 3 → last_orders (l ++ p ∷ []) ≡ last_orders l
 unfolding last_orders
-last_same l p h = ap₂ orders (said_append l (p ∷ [])) same ∙ by_place (cases_lt (whole l) 4)
+last_same l p h =
+    let same : whole (l ++ p ∷ []) - 4 ≡ whole l - 4 = omega (arith, h, length_push l p) in
+    ap₂ orders (said_append l (p ∷ [])) same ∙ by_place (cases_lt (whole l) 4)
   where
-    same : whole (l ++ p ∷ []) - 4 ≡ whole l - 4
-    same = omega (arith, h, length_push l p)
-
     by_place : (whole l < 4) ⊎ (4 ≤ whole l) → orders (readings l ++ readings (p ∷ [])) (whole l - 4)
         ≡ orders (readings l) (whole l - 4)
-    by_place (inl m) =
-        let z : whole l - 4 ≡ 0 = omega (arith, m) in
-        ap (orders (readings l ++ readings (p ∷ []))) z ∙ force_first (readings l ++ readings (p ∷ []))
-        ∙ sym (ap (orders (readings l)) z ∙ force_first (readings l))
+    by_place (inl m) = grind (arith, force_first)
     by_place (inr m) = force_left (readings l) (readings (p ∷ [])) (whole l - 4) (omega (arith, m, length-said l))
 
 pub settled_same : (n : ℕ) → n % 4 ≢ 3 → (n < 52) ⊎ (52 ≤ n) → nat_le 52 n ≡ nat_le 52 (n + 1)
@@ -39,55 +35,31 @@ settled_same n h (inr m) = le-leb 52 n m ∙ sym (le-leb 52 (n + 1) (omega (arit
 -- the packets of the group so far
 pub held_more : (packets : List Packet) (packet : Packet) (k : ℕ) → k < length packets
     → take (k + 1) (bytes_of (set packets k packet)) ≡ take k (bytes_of packets) ++ packet.0 ∷ []
-held_more packets packet k l =
-    ap (take (k + 1)) (map-set (λ p. p.0) packets k packet)
-    ∙ take_more_set (bytes_of packets) k packet.0 (let n : length (bytes_of packets)
-    ≡ length packets = length-map packets (λ p. p.0) in omega (arith, n, l))
+held_more packets packet k l = grind (arith, map-set, take_more_set, length-map)
 
 pub front_same : (l : List (List ℕ)) (p : List ℕ) → length l % 4 ≢ 3
     → take (whole (l ++ p ∷ [])) (l ++ p ∷ []) ≡ take (whole l) l
-front_same l p h =
-    let e : whole (l ++ p ∷ []) ≡ whole l = omega (arith, h, length_push l p) in
-    ap (λ (n : ℕ). take n (l ++ p ∷ [])) e ∙ take-append-le (whole l) l (p ∷ []) (omega arith)
+front_same l p h = grind (arith, length_push, take-append-le)
 
 -- ---- a packet that ends a group
 
 -- the group's packets
 pub group_bytes : (l : List (List ℕ)) (packets : List Packet) (packet : Packet) (i : ℕ) → Ends.Ends l i
-    → length packets ≡ 4
-    → take (length l % 4) (bytes_of packets) ≡ drop (whole l) l
+    → length packets ≡ 4 → take (length l % 4) (bytes_of packets) ≡ drop (whole l) l
     → bytes_of (set packets 3 packet) ≡ Ends.group l i packet.0
 group_bytes l packets packet i e four partial =
     let m : length l % 4 ≡ 3 = let x = e.long in let y = e.whole in omega (arith, x, y) in
-    sym (take_all 4 (bytes_of (set packets 3 packet)) (omega (
-      arith,
-      four,
-      length-map (set packets 3 packet) (λ p. p.0),
-      length-set packets 3 packet,
-    )))
-    ∙ held_more packets packet 3 (omega (arith, four))
-    ∙ ap (λ x. x ++ packet.0 ∷ [])
-    (ap (λ (n : ℕ). take n (bytes_of packets)) (sym m) ∙ partial ∙ ap (λ (n : ℕ). drop n l) (Ends.whole-front l i e))
+    sym (take_all 4 (bytes_of (set packets 3 packet)) (grind (arith, length-map, length-set)))
+    ∙ held_more packets packet 3 (omega (arith, four)) ∙ ap (λ x. x ++ packet.0 ∷ []) (grind arith)
 
 pub settled_more : (n place : ℕ) → place ≡ n % 624 → (n < 52) ⊎ (52 ≤ n)
     → (nat_le 52 n || (place == 51)) ≡ nat_le 52 (n + 1)
-settled_more n place e (inr m) = ap (λ b. b || (place == 51)) (le-leb 52 n m)
-    ∙ sym (le-leb 52 (n + 1) (omega (arith, m)))
-settled_more n place e (inl m) = ap (λ b. b || (place == 51)) (lt-leb 52 n m) ∙ last (cases_lt (n + 1) 52)
-  where
-    last : (n + 1 < 52) ⊎ (52 ≤ n + 1) → (place == 51) ≡ nat_le 52 (n + 1)
-    last (inl k) = ne_eqb place 51 (λ x. omega (arith, x, e, k)) ∙ sym (lt-leb 52 (n + 1) k)
-    last (inr k) = eq-eqb place 51 (omega (arith, e, k, m)) ∙ sym (le-leb 52 (n + 1) k)
+settled_more n place e (inr m) = grind (arith, le-leb)
+settled_more n place e (inl m) = grind (arith, lt-leb, cases_lt, ne_eqb, eq-eqb, le-leb)
 
 pub partial_full : (l : List (List ℕ)) (p : List ℕ) (i : ℕ) (xs : List (List ℕ)) → Ends.Ends l i
     → take (length (l ++ p ∷ []) % 4) xs ≡ drop (whole (l ++ p ∷ [])) (l ++ p ∷ [])
 partial_full l p i xs e =
     let w = e.whole in
     let z : length (l ++ p ∷ []) % 4 ≡ 0 = omega (arith, w, Ends.length-all l i p e) in
-    ap (λ (n : ℕ). take n xs) z
-    ∙ sym (drop_all (whole (l ++ p ∷ [])) (l ++ p ∷ []) (omega (
-      arith,
-      w,
-      Ends.whole-all l i p e,
-      Ends.length-all l i p e,
-    )))
+    ap (λ (n : ℕ). take n xs) z ∙ sym (drop_all (whole (l ++ p ∷ [])) (l ++ p ∷ []) (grind arith))

@@ -4,7 +4,6 @@ use Rattle.std.proofs.Common.{option_map, Result, Ok, Err, List, [], ◌∷◌, 
 use Rattle.std.proofs.Common.{ap₂, ◌∙◌, arith, inl, inr}
 use Rattle.std.specs.Prelude.{is_ok, slice_range}
 use Rattle.std.specs.List.{range_with_len, flat_map, filter_map}
-use Rattle.std.specs.Option.{unwrap_or}
 use Rattle.std.proofs.lemmas.Bool.{cond-true, cond-false, eq-eqb, ne_eqb, cases_eq}
 use Rattle.std.proofs.lemmas.Grind.{flat_map-append}
 use Rattle.std.proofs.lemmas.List.{append_assoc, length-append, length-drop, length-take-le, take-append-le, take-take}
@@ -12,11 +11,10 @@ use Rattle.dtx_lists.proofs.Range.{range_with_len-parts}
 use Rattle.dtx_lists.proofs.RangeMoved.{flat_map-range_same}
 use Rattle.dtx_ops.specs.declared.fields.Ops.{Ops}
 use Rattle.dtx_exciter.specs.declared.answers.Why.{Why}
-use Rattle.dtx_exciter.specs.declared.answers.Told.TheVariants.{Sent}
 use Rattle.dtx_exciter.specs.Order.{Order, counting_order, placed, orders}
 use Rattle.dtx_clock.specs.Clock.{moment_of}
 use Rattle.dtx_exciter.specs.Pages.{entry_in_force, offset_of}
-use Rattle.dtx_exciter.specs.Told.{served, preset_of, told_by, told_at}
+use Rattle.dtx_exciter.specs.Told.{served, told_by, told_at}
 use Rattle.dtx_cadence.specs.Cadence.{IsInStep}
 use Rattle.dtx_exciter.specs.Packets.{syncs, readings, last_answer}
 use Rattle.dtx_exciter.specs.Emission.{last_segments, emission}
@@ -49,14 +47,10 @@ lines_more a d n l r =
     let f : ℕ → List Line = λ i. line_between a d n (take i (l ++ r)) (take (i + 1) (l ++ r)) in
     ap (λ k. flat_map f (range_with_len 0 k)) (length-append l r)
     ∙ ap (flat_map f) (range_with_len-parts 0 (length l) (length r))
-    ∙ flat_map-append f (range_with_len 0 (length l)) (range_with_len (0 + length l) (length r))
-    ∙ ap₂ ◌++◌
+    ∙ flat_map-append f (range_with_len 0 (length l)) (range_with_len (0 + length l) (length r)) ∙ ap₂ ◌++◌
     (flat_map-range_same f (λ i. line_between a d n (take i l) (take (i + 1) l)) 0 (length l)
     (λ i x y. ap₂ (line_between a d n) (take-append-le i l r (omega (arith, y)))
-    (take-append-le (i + 1) l r (omega (arith, y)))))
-    (flat_map-range_moved f (λ i. line_between a d n (l ++ take i r) (l ++ take (i + 1) r)) (0 + length l) 0 (length r)
-    (λ i h. ap₂ (line_between a d n) (take_behind l r (0 + i) (0 + length l + i) (omega arith))
-    (take_behind l r (0 + i + 1) (0 + length l + i + 1) (omega arith))))
+    (take-append-le (i + 1) l r (omega (arith, y))))) (grind (arith, flat_map-range_moved, take_behind))
 
 -- ---- the line at a group
 
@@ -65,32 +59,26 @@ told_own : (z : ℤ) (i n m : ℕ) (order : Order) (r : Result ℕ (Option Why))
     → line_of n m (told_by i order z r)
     ≡ preset (n + m - 4) order.ops.frame (i % 624) (moment_of order.ops.stamp order.ops.max_delay z (i % 624)).tick
     (moment_of order.ops.stamp order.ops.max_delay z (i % 624)).grain ∷ []
-told_own z i n m order (Ok hold) e s =
-    ap (λ o. line_of n m (Sent o)) (cond-true (order.place == i) (Some (preset_of order.ops z (i % 624) hold)) None
-    (eq-eqb order.place i e))
+told_own z i n m order (Ok hold) e s = grind (arith, cond-true, eq-eqb)
 told_own z i n m order (Err why) e s = cc
 
 -- under an older one
 told_old : (z : ℤ) (i n m : ℕ) (order : Order) (r : Result ℕ (Option Why)) → order.place ≢ i
     → line_of n m (told_by i order z r) ≡ []
-told_old z i n m order (Ok hold) h =
-    ap (λ o. line_of n m (Sent o)) (cond-false (order.place == i) _ _ (ne_eqb order.place i h))
+told_old z i n m order (Ok hold) h = grind (arith, cond-false, ne_eqb)
 told_old z i n m order (Err why) h = ap (line_of n m) (cond-false (order.place == i) _ _ (ne_eqb order.place i h))
 
 -- the answer to the last packet of group x behind the mark
 told_last : (a d : ℕ) (earlier feed : List (List ℕ)) (mark n x : ℕ) → (w : Follows earlier feed mark n)
-    → mark + n ≤ length feed → x + 4 ≤ n → x % 4 ≡ 0
-    → last_answer a d (after earlier feed mark (x + 3 + 1))
+    → mark + n ≤ length feed → x + 4 ≤ n → x % 4 ≡ 0 → last_answer a d (after earlier feed mark (x + 3 + 1))
     ≡ told_at a d (length w.base + x) (orders (readings (life w.base feed mark (x + 3 + 1))) (length w.base + x))
 told_last a d earlier feed mark n x w h l g =
     let b = w.in_step in
     let long : length (readings (life w.base feed mark (x + 3 + 1))) ≡ length w.base + (x + 3 + 1) =
-    length-said (life w.base feed mark (x + 3 + 1))
-    ∙ length-life w.base feed mark (x + 3 + 1) (omega (arith, h, l)) in
+    length-said (life w.base feed mark (x + 3 + 1)) ∙ length-life w.base feed mark (x + 3 + 1) (omega (arith, h, l)) in
     let at : length (readings (life w.base feed mark (x + 3 + 1))) - 4 ≡ length w.base + x = omega (arith, long) in
     told_is a d earlier feed mark n (x + 3) w h (omega arith) (omega (arith, l))
-    ∙ cond-true (length (readings (life w.base feed mark (x + 3 + 1))) % 4 == 0) _ _
-    (eq-eqb (length (readings (life w.base feed mark (x + 3 + 1))) % 4) 0 (omega (arith, long, b, g)))
+    ∙ cond-true (length (readings (life w.base feed mark (x + 3 + 1))) % 4 == 0) _ _ (grind (arith, eq-eqb, life))
     ∙ ap (λ k. told_at a d k (orders (readings (life w.base feed mark (x + 3 + 1))) k)) at
 
 -- the order's line, or none
@@ -98,8 +86,7 @@ line_here : (a d : ℕ) (z : ℤ) (s m : ℕ) (base feed : List (List ℕ)) (mar
     → IsGroup a feed mark n first first → first ≤ x → x + 4 ≤ n → (o : Option Ops)
     → counting_order (readings feed) (mark + x) ≡ o
     → line_of s m (told_at a d (length base + x) (orders (readings (life base feed mark (x + 3 + 1)))
-    (length base + x)))
-    ≡ listed (option_map (λ (order : Order). preset (s + m - 4) order.ops.frame (order.place % 624)
+    (length base + x))) ≡ listed (option_map (λ (order : Order). preset (s + m - 4) order.ops.frame (order.place % 624)
     (order_moment z order).tick (order_moment z order).grain) (placed (mark + x) o))
 line_here a d z s m base feed mark n first x k g l h o e =
     by_step o e (in_step a d z base feed mark n (x + 3 + 1) first (x - first) x g.order.0 k (omega (arith, h)) g.flushed
@@ -119,33 +106,21 @@ line_here a d z s m base feed mark n first x k g l h o e =
         → line_of s m (told_at a d (length base + x) (record { place = length base + w.group; ops = w.ops } ∷ w.older))
         ≡ preset (s + m - 4) ops.frame ((mark + x) % 624) (moment_of ops.stamp ops.max_delay z ((mark + x) % 624)).tick
         (moment_of ops.stamp ops.max_delay z ((mark + x) % 624)).grain ∷ []
-    by_own ops e w v =
-        let latest : Order = record { place = length base + w.group; ops = w.ops } in
-        let here : w.group ≡ x = w.own ops e in
-        let same : ◌≡◌ {A = Option Ops} (Some w.ops) (Some ops) =
-        sym w.its_own ∙ ap (λ (y : ℕ). counting_order (readings feed) (mark + y)) here ∙ e in
-        ap (λ y. line_of s m (told_by (length base + x) latest y (served a d (latest ∷ w.older))))
-        (ap offset_of v.is ∙ v.offset)
-        ∙ told_own z (length base + x) s m latest (served a d (latest ∷ w.older)) (omega (arith, here)) v.ok
-        ∙ ap₂ (λ (y : Ops) (j : ℕ). preset (s + m - 4) y.frame j (moment_of y.stamp y.max_delay z j).tick
-        (moment_of y.stamp y.max_delay z j).grain ∷ []) (ap (λ y. unwrap_or y ops) same) same_place
+    by_own ops e w v = grind (arith, told_own)
 
     by_step : (o : Option Ops) → counting_order (readings feed) (mark + x) ≡ o
-        → InStep a base feed mark (x + 3 + 1) first x
-        → line_of s m (told_at a d (length base + x)
+        → InStep a base feed mark (x + 3 + 1) first x → line_of s m (told_at a d (length base + x)
         (orders (readings (life base feed mark (x + 3 + 1))) (length base + x)))
         ≡ listed (option_map (λ (order : Order). preset (s + m - 4) order.ops.frame (order.place % 624)
         (order_moment z order).tick (order_moment z order).grain) (placed (mark + x) o))
-    by_step (Some ops) e w =
-        ap (λ r. line_of s m (told_at a d (length base + x) r)) w.in_life
+    by_step (Some ops) e w = ap (λ r. line_of s m (told_at a d (length base + x) r)) w.in_life
         ∙ by_own ops e w (served_by_feed a d z feed (mark + w.group)
         (record { place = length base + w.group; ops = w.ops }) w.older k.feed_is w.its_own w.listed)
     by_step None e w =
         let latest : Order = record { place = length base + w.group; ops = w.ops } in
         ap (λ r. line_of s m (told_at a d (length base + x) r)) w.in_life
         ∙ told_old (offset_of (entry_in_force a (latest ∷ w.older))) (length base + x) s m latest
-        (served a d (latest ∷ w.older))
-        (λ q. let same : mark + x ≡ mark + w.group = omega (arith, q) in
+        (served a d (latest ∷ w.older)) (λ q. let same : mark + x ≡ mark + w.group = omega (arith, q) in
         none_some w.ops (sym e ∙ ap (counting_order (readings feed)) same ∙ w.its_own))
 
 -- ---- the line of each packet of the stretch
@@ -166,8 +141,7 @@ seg_is a d n z earlier feed mark m first x w k g l h y =
     let v : mark + (first + 4 + 4 * ((x - first) / 4)) ≡ 4 * ((mark + x) / 4) + 4 = omega (arith, l, y, g1, k1) in
     let u : 4 * ((mark + x) / 4) ≡ mark + x = omega (arith, y, k1) in
     let all : length (emission a d (after earlier feed mark (x + 3))) + length
-    (last_segments a d (after earlier feed mark (x + 3 + 1)))
-    ≡ length (before_first a d earlier feed mark first) +
+    (last_segments a d (after earlier feed mark (x + 3 + 1))) ≡ length (before_first a d earlier feed mark first) +
     (segment_place (mark + x) + 4 - segment_place (mark + first)) =
     sym (length-append (emission a d (after earlier feed mark (x + 3)))
     (last_segments a d (after earlier feed mark (x + 3 + 1))))
@@ -176,10 +150,7 @@ seg_is a d n z earlier feed mark m first x w k g l h y =
     ∙ emits a d z earlier feed mark m first ((x - first) / 4) w k g (omega (arith, l, h)))
     ∙ length-append (before_first a d earlier feed mark first)
     (stretch feed (mark + first) (mark + (first + 4 + 4 * ((x - first) / 4))))
-    ∙ ap (λ (j : ℕ). length (before_first a d earlier feed mark first) + j)
-    (ap (λ j. length (stretch feed (mark + first) j)) v
-    ∙ length-stretch feed (mark + first) ((mark + x) / 4) (omega (arith, i, h, u))
-    ∙ ap (λ j. segment_place j + 4 - segment_place (mark + first)) u) in
+    ∙ ap (λ (j : ℕ). length (before_first a d earlier feed mark first) + j) (grind (arith, length-stretch)) in
     let more : segment_place (mark + first) ≤ segment_place (mark + x) = omega (arith, l) in
     seg (segment_place (mark + x)) (segment_place (mark + first)) n _ _ _ more all
   where
@@ -207,8 +178,7 @@ line_is a d n z earlier feed mark m first i w k g l = by_place (cases_eq (i % 4)
     t : ℕ
     t = length (last_segments a d (after earlier feed mark (first + i + 3 + 1)))
 
-    by_order : (o : Option Ops)
-        → s + t - 4 ≡ n + length (before_first a d earlier feed mark first) +
+    by_order : (o : Option Ops) → s + t - 4 ≡ n + length (before_first a d earlier feed mark first) +
         (segment_place (mark + (first + i)) - segment_place (mark + first))
         → listed (option_map (λ (order : Order). preset (s + t - 4) order.ops.frame (order.place % 624)
         (order_moment z order).tick (order_moment z order).grain) (placed (mark + (first + i)) o))
@@ -223,40 +193,29 @@ line_is a d n z earlier feed mark m first i w k g l = by_place (cases_eq (i % 4)
     by_place : (i % 4 ≡ 0) ⊎ (i % 4 ≢ 0)
         → line_between a d n (after earlier feed mark (first + i + 3)) (after earlier feed mark (first + i + 3 + 1))
         ≡ line_due z (n + length (before_first a d earlier feed mark first)) (mark + first) feed (mark + (first + i))
-    by_place (inl q) =
-        ap (line_of s t) (told_last a d earlier feed mark m (first + i) w inside (omega (arith, l))
+    by_place (inl q) = ap (line_of s t) (told_last a d earlier feed mark m (first + i) w inside (omega (arith, l))
         (omega (arith, whole, q)))
         ∙ line_here a d z s t w.base feed mark m first (first + i) k g (omega arith) (omega (arith, l))
         (counting_order (readings feed) (mark + (first + i))) refl
         ∙ by_order (counting_order (readings feed) (mark + (first + i)))
         (seg_is a d n z earlier feed mark m first (first + i) w k g (omega arith) (omega (arith, l))
         (omega (arith, whole, q)))
-    by_place (inr q) =
-        ap (line_of s t) (told_none a d earlier feed mark m (first + i + 3) w inside (omega arith) (omega (arith, l))
-        (λ e. q (omega (arith, e, whole))))
-        ∙ ap (λ o. listed (option_map (preset_line z (n + length (before_first a d earlier feed mark first))
-        (mark + first)) (placed (mark + (first + i)) o)))
-        (sym (counted_off (readings feed) (mark + (first + i)) (λ e. q (omega (arith, e, whole, at_mark)))))
+    by_place (inr q) = grind (arith, told_none, listed, before_first, counted_off)
 
 -- ---- all of them
 
 lines_from : (a d n : ℕ) (z : ℤ) (earlier feed : List (List ℕ)) (mark m first : ℕ) → (w : Follows earlier feed mark m)
-    → Marks a d z w.base feed mark m → IsGroup a feed mark m first first
-    → life_lines a d n (after earlier feed mark m)
+    → Marks a d z w.base feed mark m → IsGroup a feed mark m first first → life_lines a d n (after earlier feed mark m)
     ≡ life_lines a d n (after earlier feed mark (first + 3))
     ++ map (preset_line z (n + length (before_first a d earlier feed mark first)) (mark + first))
     (filter_map (λ g. placed g (counting_order (readings feed) g)) (range_with_len (mark + first) (m - (first + 3))))
 unfolding lines_behind
-lines_from a d n z earlier feed mark m first w k g =
-    ap (life_lines a d n) parts
-    ∙ lines_more a d n l r
+lines_from a d n z earlier feed mark m first w k g = ap (life_lines a d n) parts ∙ lines_more a d n l r
     ∙ ap (λ x. life_lines a d n l ++ x)
     (ap (λ c. flat_map (λ i. line_between a d n (l ++ take i r) (l ++ take (i + 1) r)) (range_with_len 0 c)) long
     ∙ flat_map-range_picked (λ i. line_between a d n (l ++ take i r) (l ++ take (i + 1) r))
     (λ g. placed g (counting_order (readings feed) g)) (preset_line z (n + length
-    (before_first a d earlier feed mark first))
-    (mark + first)) 0 (mark + first) (m - (first + 3))
-    (λ i h.
+    (before_first a d earlier feed mark first)) (mark + first)) 0 (mark + first) (m - (first + 3)) (λ i h.
     ap₂ (line_between a d n) (joined (0 + i) (first + i + 3) (omega arith) (omega (arith, h)))
     (joined (0 + i + 1) (first + i + 3 + 1) (omega arith) (omega (arith, h)))
     ∙ line_is a d n z earlier feed mark m first i w k g (omega (arith, h))
@@ -289,12 +248,7 @@ lines_from a d n z earlier feed mark m first w k g =
         (omega (arith, inside, within, length-drop (first + 3) (drop mark feed), length-drop mark feed))
 
     joined : (i j : ℕ) → j ≡ first + 3 + i → i ≤ m - (first + 3) → l ++ take i r ≡ after earlier feed mark j
-    joined i j e h =
-        append_assoc earlier (take (first + 3) (drop mark feed)) (take i r)
-        ∙ ap (λ x. earlier ++ x)
-        (ap (λ x. take (first + 3) (drop mark feed)
-        ++ x) (take-take i (m - (first + 3)) (drop (first + 3) (drop mark feed)) h)
-        ∙ sym (take_parts (first + 3) i (drop mark feed)) ∙ ap (λ j. take j (drop mark feed)) (sym e))
+    joined i j e h = grind (arith, append_assoc, take-take, take_parts)
 
 -- where nothing was locked before the mark or a lock in step
 lines_at : (a d n : ℕ) (z : ℤ) (feed earlier : List (List ℕ)) (mark end k : ℕ) → IsFeed a d z feed
@@ -310,17 +264,11 @@ lines_at a d n z feed earlier mark end k f s r =
     let e : k - mark + 3 ≡ k + 3 - mark = omega (arith, y) in
     let c : end - mark - (k - mark + 3) ≡ end - 3 - k = omega (arith, y, t) in
     lines_from a d n z earlier feed mark (end - mark) (k - mark) w.follows w.marks w.group
-    ∙ ap₂ (λ x y. life_lines a d n (after earlier feed mark x) ++ y) e
-    (ap₂ (λ x y. map (preset_line z (n + length (before_first a d earlier feed mark (k - mark))) x)
-    (filter_map (λ g. placed g (counting_order (readings feed) g)) (range_with_len x y))) at c
-    ∙ ap (λ x. map (preset_line z (n + length x) k)
-    (filter_map (λ g. placed g (counting_order (readings feed) g)) (range_with_len k (end - 3 - k))))
-    (before_is a d earlier feed mark k (omega (arith, y))))
+    ∙ ap₂ (λ x y. life_lines a d n (after earlier feed mark x) ++ y) e (grind (arith, before_first, before_is))
 
 -- whatever was given before
 pub lines_is : (a d n : ℕ) (z : ℤ) (feed earlier : List (List ℕ)) (mark end k : ℕ) → IsFeed a d z feed
-    → IsStretch a feed (locked_from earlier mark) mark end k
-    → life_lines a d n (earlier ++ slice_range feed mark end)
+    → IsStretch a feed (locked_from earlier mark) mark end k → life_lines a d n (earlier ++ slice_range feed mark end)
     ≡ life_lines a d n (earlier ++ slice_range feed mark (k + 3))
     ++ stretch_lines z (n + length (before_stretch a d earlier feed mark k)) feed k end
 lines_is a d n z feed earlier mark end k f s =
@@ -329,8 +277,7 @@ lines_is a d n z feed earlier mark end k f s =
     ap (life_lines a d n) (locked_parts earlier feed mark (locked_from earlier mark) end b (omega (arith, y, t)))
     ∙ lines_at a d n z feed (locked_life earlier feed mark (locked_from earlier mark)) (locked_from earlier mark) end k
     f (stretch_locked a feed earlier mark (locked_from earlier mark) end k s w) w.in_step
-    ∙ ap₂ (λ x y. life_lines a d n x ++ stretch_lines z (n + length y) feed k end)
-    (sym (locked_parts earlier feed mark (locked_from earlier mark) (k + 3) b (omega (arith, y))))
+    ∙ ap₂ (λ x y. life_lines a d n x ++ stretch_lines z (n + length y) feed k end) (sym (grind (arith, locked_parts)))
     (before_locked a d earlier feed mark (locked_from earlier mark) k b (omega (arith, y)))
 
 -- whatever is given then
@@ -340,8 +287,7 @@ pub lines_on : (a d n : ℕ) (z : ℤ) (feed earlier later : List (List ℕ)) (m
     ≡ life_lines a d n (earlier ++ slice_range feed mark (k + 3))
     ++ (stretch_lines z (n + length (before_stretch a d earlier feed mark k)) feed k end
     ++ lines_behind a d n (earlier ++ slice_range feed mark end) later)
-lines_on a d n z feed earlier later mark end k f s =
-    ap (life_lines a d n) (sym (append_assoc earlier (slice_range feed mark end) later))
+lines_on a d n z feed earlier later mark end k f s = ap (life_lines a d n) (sym (grind (arith, append_assoc)))
     ∙ lines_more a d n (earlier ++ slice_range feed mark end) later
     ∙ ap (λ x. x ++ lines_behind a d n (earlier ++ slice_range feed mark end) later)
     (lines_is a d n z feed earlier mark end k f s)

@@ -1,8 +1,6 @@
 -- Under the orders of a feed, from one on that lists a transmitter, the transmitter is served.
-use Rattle.std.proofs.Common.{◌≡◌, ℕ, ℤ, ◌==◌, Bool, true, false, Option, Some, None, List, ◌∷◌, refl, sym, ap, ◌∙◌}
-use Rattle.std.proofs.Common.{arith}
+use Rattle.std.proofs.Common.{◌≡◌, ℕ, ℤ, ◌==◌, Bool, true, false, Option, Some, None, List, ◌∷◌, refl, ap, ◌∙◌, arith}
 use Rattle.std.specs.Prelude.{is_ok, is_some, option_and_then, pos, negsuc, ◌+ℤ◌, ◌-ℤ◌, ◌≤ℤ◌}
-use Rattle.std.specs.List.{take_while}
 use Rattle.std.proofs.lemmas.Bool.{cond-false, ne_eqb, false≢true}
 use Rattle.std.proofs.lemmas.Int.{ints}
 use Rattle.dtx_ops.specs.declared.fields.Entry.{Entry}
@@ -23,13 +21,7 @@ pub record IsListed (a : ℕ) (feed : List (List ℕ)) (r : List Order) : Type 0
 
 pub listed_here : (a : ℕ) (feed : List (List ℕ)) (g : ℕ) (o : Order) (r : List Order)
     → counting_order (readings feed) g ≡ Some o.ops → lists a o.ops ≡ true → IsListed a feed (o ∷ r)
-listed_here a feed g o r c h = record {
-  latest = o;
-  group = g;
-  is = listing_here a o (take_while (λ x. pages x == pages o) r) h;
-  its_own = c;
-  listed = h;
-}
+listed_here a feed g o r c h = grind (arith, listing_here)
 
 pub listed_next : (a d : ℕ) (z : ℤ) (feed : List (List ℕ)) (g h : ℕ) (o l : Order) (r : List Order)
     → IsFeed a d z feed → counting_order (readings feed) g ≡ Some o.ops → counting_order (readings feed) h ≡ Some l.ops
@@ -41,13 +33,9 @@ listed_next a d z feed g h o l r f c e w = by_test (lists a o.ops) refl
     by_test false t = record {
       latest = w.latest;
       group = w.group;
-      is =
-          ap (listing a) (cycle_same o l r (f.pages g h o.ops l.ops c e))
-          ∙ listing_other a o (of_one_cycle (l ∷ r)) t
-          ∙ ap (forgotten (page o)) w.is
-          ∙ cond-false (page o == page w.latest) None (Some w.latest)
-          (ne_eqb (page o) (page w.latest)
-          (λ s. false≢true (sym t ∙ f.same g w.group o.ops w.latest.ops c w.its_own s ∙ w.listed)));
+      is = ap (listing a) (cycle_same o l r (f.pages g h o.ops l.ops c e))
+          ∙ listing_other a o (of_one_cycle (l ∷ r)) t ∙ ap (forgotten (page o)) w.is
+          ∙ cond-false (page o == page w.latest) None (Some w.latest) (grind (arith, ne_eqb, false≢true));
       its_own = w.its_own;
       listed = w.listed;
     }
@@ -73,16 +61,14 @@ pub served_by_feed : (a d : ℕ) (z : ℤ) (feed : List (List ℕ)) (g : ℕ) (l
 unfolding entry_in_force served
 served_by_feed a d z feed g l r f c w =
     let e = some_of (entry_of a w.latest.ops) w.listed in
-    let is : entry_in_force a (l ∷ r) ≡ Some e.0 =
-    ap (option_and_then (λ o. entry_of a o.ops)) w.is ∙ e.1 in
+    let is : entry_in_force a (l ∷ r) ≡ Some e.0 = ap (option_and_then (λ o. entry_of a o.ops)) w.is ∙ e.1 in
     let offset : e.0.offset ≡ z = f.entry w.group w.latest.ops e.0 w.its_own e.1 in
     let most = f.serves g l.ops c in
     record {
       entry = e.0;
       is = is;
       offset = offset;
-      ok =
-          ap (λ x. is_ok (hold_by d l.ops.max_delay x (all_pages_told (of_one_cycle (l ∷ r))))) is
+      ok = ap (λ x. is_ok (hold_by d l.ops.max_delay x (all_pages_told (of_one_cycle (l ∷ r))))) is
           ∙ ap (λ (x : ℤ). is_ok (left_of (pos l.ops.max_delay +ℤ x -ℤ pos d))) offset
           ∙ left_ok (pos l.ops.max_delay +ℤ z -ℤ pos d) (omega (arith, ints, most));
     }

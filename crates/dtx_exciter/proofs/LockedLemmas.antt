@@ -1,6 +1,6 @@
 -- From which packet of a feed on an exciter is locked to it, and what it was given up to there.
 use Rattle.std.proofs.Common.{◌≡◌, ℕ, ℤ, ◌+◌, ◌-◌, ◌%◌, ◌<◌, ◌≤◌, ◌==◌, Bool, true, false, cond, Option, Some, None}
-use Rattle.std.proofs.Common.{List, [], ◌++◌, length, take, drop, refl, sym, ap, ap₂, subst, ◌∙◌, arith}
+use Rattle.std.proofs.Common.{List, [], ◌++◌, length, take, drop, refl, sym, ap, subst, ◌∙◌, arith}
 use Rattle.std.specs.Prelude.{slice_range}
 use Rattle.std.proofs.lemmas.Bool.{eqb-true}
 use Rattle.std.proofs.lemmas.List.{append-nil, append_assoc, drop-drop, length-append, length-drop}
@@ -8,12 +8,11 @@ use Rattle.std.proofs.lemmas.List.{length-take-le, take_all}
 use Rattle.dtx_cadence.specs.Anchor.{anchor, anchor_to}
 use Rattle.dtx_cadence.proofs.AnchoredLemmas.{in_step_at_third}
 use Rattle.dtx_cadence.specs.Cadence.{IsInStep}
-use Rattle.dtx_exciter.specs.Emission.{last_segments, emission}
 use Rattle.dtx_exciter.proofs.FollowedLemmas.{marked_part, syncs_append, Follows, follows}
 use Rattle.dtx_exciter.specs.Lockstep.{IsFeed, locked_by, locked_from, HasLock, IsStretch}
 use Rattle.dtx_exciter.specs.Packets.{syncs, anchor_of}
 use Rattle.dtx_exciter.proofs.SinceMarkLemmas.{take_parts}
-use Rattle.dtx_exciter.specs.Stretch.{sync_behind, before_stretch}
+use Rattle.dtx_exciter.specs.Stretch.{before_stretch}
 use Rattle.dtx_exciter.proofs.UnderLemmas.{length-syncs}
 
 -- all that was given up to packet z of the feed
@@ -27,18 +26,12 @@ pub record IsLocked (earlier feed : List (List ℕ)) (mark z : ℕ) : Type 0 whe
   pub in_step : IsInStep (syncs (locked_life earlier feed mark z))
 
 none_given : (earlier feed : List (List ℕ)) (mark : ℕ) → earlier ≡ locked_life earlier feed mark mark
-none_given earlier feed mark =
-    let e : 0 ≡ mark - mark = omega arith in
-    sym (append-nil earlier) ∙ ap (λ (n : ℕ). earlier ++ take n (drop mark feed)) e
+none_given earlier feed mark = grind (arith, append-nil)
 
 -- from the mark on
 locked_here : (earlier feed : List (List ℕ)) (mark : ℕ) → mark % 624 ≡ 0 → IsInStep (syncs earlier)
     → IsLocked earlier feed mark mark
-locked_here earlier feed mark m r = record {
-  at_mark = m;
-  behind = omega arith;
-  in_step = subst (λ x. IsInStep (syncs x)) (none_given earlier feed mark) r;
-}
+locked_here earlier feed mark m r = grind (arith, none_given)
 
 -- from the third mark on
 pub locked_third : (a d : ℕ) (y : ℤ) (earlier feed : List (List ℕ)) (mark : ℕ) → IsFeed a d y feed → mark % 624 ≡ 0
@@ -54,14 +47,12 @@ locked_third a d y earlier feed mark f m l = record {
     part = syncs (take 1248 (drop mark feed))
 
     long : length part ≡ 1248
-    long = length-syncs (take 1248 (drop mark feed))
-        ∙ length-take-le 1248 (drop mark feed) (omega (arith, l, length-drop mark feed))
+    long = length-syncs (take 1248 (drop mark feed)) ∙ length-take-le 1248 (drop mark feed) (grind (arith, length-drop))
 
     whole : syncs earlier ++ take 1248 part ≡ syncs (locked_life earlier feed mark (mark + 1248))
     whole =
         let e : 1248 ≡ mark + 1248 - mark = omega arith in
-        ap (λ x. syncs earlier ++ x) (take_all 1248 part (omega (arith, long)))
-        ∙ sym (syncs_append earlier (take 1248 (drop mark feed)))
+        ap (λ x. syncs earlier ++ x) (take_all 1248 part (omega (arith, long))) ∙ sym (grind (arith, syncs_append))
         ∙ ap (λ n. syncs (earlier ++ take n (drop mark feed))) e
 
 -- whatever was given before
@@ -78,8 +69,7 @@ locked a d y earlier feed mark f m l = by_anchor (anchor (syncs earlier)) refl l
 
     by_test : (j : ℕ) → anchor (syncs earlier) ≡ Some j → (t : Bool) → ((length earlier - j) % 624 == 0) ≡ t
         → cond t mark (mark + 1248) ≤ length feed → IsLocked earlier feed mark (cond t mark (mark + 1248))
-    by_test j h true e k = locked_here earlier feed mark m (λ i g. let q : j ≡ i = some_some j i (sym h ∙ g) in
-        ap₂ (λ n o. (n - o) % 624) (length-syncs earlier) (sym q) ∙ eqb-true ((length earlier - j) % 624) 0 e)
+    by_test j h true e k = locked_here earlier feed mark m (λ i g. grind (arith, some_some, length-syncs, eqb-true))
     by_test j h false e k = locked_third a d y earlier feed mark f m k
 
     by_anchor : (o : Option ℕ) → anchor (syncs earlier) ≡ o → locked_by o (length earlier) mark ≤ length feed
@@ -97,33 +87,20 @@ locked_stretch a d y feed earlier mark end k f s =
 
 pub stretch_locked : (a : ℕ) (feed earlier : List (List ℕ)) (mark z end k : ℕ) → IsStretch a feed z mark end k
     → IsLocked earlier feed mark z → IsStretch a feed z z end k
-stretch_locked a feed earlier mark z end k s w = record {
-  is_mark = w.at_mark;
-  inside = s.inside;
-  behind = s.behind;
-  whole = s.whole;
-  order = s.order;
-}
+stretch_locked a feed earlier mark z end k s w = grind arith
 
 -- what was given, with the feed from there on
 pub locked_parts : (earlier feed : List (List ℕ)) (mark z end : ℕ) → mark ≤ z → z ≤ end
     → earlier ++ slice_range feed mark end ≡ locked_life earlier feed mark z ++ slice_range feed z end
 locked_parts earlier feed mark z end l h =
     let n : end - mark ≡ z - mark + (end - z) = omega (arith, l, h) in
-    let at : mark + (z - mark) ≡ z = omega (arith, l) in
-    ap (λ x. earlier ++ x)
-    (ap (λ k. take k (drop mark feed)) n ∙ take_parts (z - mark) (end - z) (drop mark feed)
-    ∙ ap (λ x. take (z - mark) (drop mark feed) ++ take (end - z) x) (drop-drop (z - mark) mark feed
-    ∙ ap (λ k. drop k feed) at))
+    ap (λ x. earlier ++ x) (grind (arith, take_parts, drop-drop))
     ∙ sym (append_assoc earlier (slice_range feed mark z) (slice_range feed z end))
 
 pub before_locked : (a d : ℕ) (earlier feed : List (List ℕ)) (mark z k : ℕ) → mark ≤ z → z ≤ k
     → before_stretch a d (locked_life earlier feed mark z) feed z k ≡ before_stretch a d earlier feed mark k
 unfolding before_stretch
-before_locked a d earlier feed mark z k l h =
-    ap₂ (λ x y. emission a d x ++ sync_behind (last_segments a d y) k)
-    (sym (locked_parts earlier feed mark z (k + 3) l (omega (arith, h))))
-    (sym (locked_parts earlier feed mark z k l h))
+before_locked a d earlier feed mark z k l h = grind (arith, locked_parts)
 
 -- ---- where it is locked
 
@@ -134,27 +111,14 @@ locked_nothing mark = refl
 pub locked_soon : (earlier : List (List ℕ)) (mark : ℕ)
     → (mark ≤ locked_from earlier mark) × (locked_from earlier mark ≤ mark + 1248)
 unfolding locked_from
-locked_soon earlier mark = by_anchor (anchor_of earlier)
-  where
-    by_test : (t : Bool) → (mark ≤ cond t mark (mark + 1248)) × (cond t mark (mark + 1248) ≤ mark + 1248)
-    by_test true = (omega arith, omega arith)
-    by_test false = (omega arith, omega arith)
-
-    by_anchor : (o : Option ℕ)
-        → (mark ≤ locked_by o (length earlier) mark) × (locked_by o (length earlier) mark ≤ mark + 1248)
-    by_anchor None = (omega arith, omega arith)
-    by_anchor (Some j) = by_test ((length earlier - j) % 624 == 0)
+locked_soon earlier mark = grind arith
 
 lock_of : (a d : ℕ) (y : ℤ) (earlier feed : List (List ℕ)) (mark z : ℕ) → IsFeed a d y feed → z < length feed
     → IsLocked earlier feed mark z → HasLock earlier feed mark z
-lock_of a d y earlier feed mark z f l w =
-    by_follow (follows a d y (locked_life earlier feed mark z) feed z (length feed - z) f w.at_mark (omega (arith, l))
-    (omega (arith, l)) w.in_step)
+lock_of a d y earlier feed mark z f l w = by_follow (grind (arith, follows))
   where
     long : length (locked_life earlier feed mark z) ≡ length earlier + (z - mark)
-    long =
-        length-append earlier (slice_range feed mark z)
-        ∙ ap (λ (n : ℕ). length earlier + n)
+    long = length-append earlier (slice_range feed mark z) ∙ ap (λ (n : ℕ). length earlier + n)
         (length-take-le (z - mark) (drop mark feed) (omega (arith, l, length-drop mark feed)))
 
     by_follow : Follows (locked_life earlier feed mark z) feed z (length feed - z) → HasLock earlier feed mark z
@@ -166,13 +130,9 @@ lock_of a d y earlier feed mark z f l w =
           steps = ap (λ (n : ℕ). (n - v.place) % 624) (sym long) ∙ s;
           holds = λ n g h.
               let e : n - z ≡ n - z - 1 + 1 = omega (arith, g) in
-              ap anchor_of (locked_parts earlier feed mark z n w.behind (omega (arith, g))
-              ∙ ap (λ k. locked_life earlier feed mark z ++ take k (drop z feed)) e)
-              ∙ v.anchors (n - z - 1) (omega (arith, g, h));
+              ap anchor_of (grind (arith, locked_parts)) ∙ v.anchors (n - z - 1) (omega (arith, g, h));
         }
 
 pub has_lock : (a d : ℕ) (y : ℤ) (feed earlier : List (List ℕ)) (mark : ℕ) → IsFeed a d y feed → mark % 624 ≡ 0
     → locked_from earlier mark < length feed → HasLock earlier feed mark (locked_from earlier mark)
-has_lock a d y feed earlier mark f m l =
-    lock_of a d y earlier feed mark (locked_from earlier mark) f l
-    (locked a d y earlier feed mark f m (omega (arith, l)))
+has_lock a d y feed earlier mark f m l = grind (arith, lock_of, locked)

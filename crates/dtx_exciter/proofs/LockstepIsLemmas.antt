@@ -1,11 +1,9 @@
 -- The exciter in lockstep with a feed.
-use Rattle.std.proofs.Common.{◌≡◌, ◌≢◌, ℕ, ℤ, zero, suc, ◌+◌, ◌-◌, ◌*◌, ◌/◌, ◌%◌, ◌<◌, ◌≤◌, ◌==◌, Bool, true, false}
-use Rattle.std.proofs.Common.{cond, Some, List, [], ◌∷◌, ◌++◌, length, take, drop, get_or, refl, sym, ap, ap₂, ◌∙◌}
-use Rattle.std.proofs.Common.{arith}
-use Rattle.std.specs.Prelude.{nat_le, slice_range}
+use Rattle.std.proofs.Common.{◌≡◌, ◌≢◌, ℕ, ℤ, zero, suc, ◌+◌, ◌-◌, ◌*◌, ◌/◌, ◌%◌, ◌<◌, ◌≤◌, Some, List, [], ◌∷◌, ◌++◌}
+use Rattle.std.proofs.Common.{length, take, refl, sym, ap, ap₂, ◌∙◌, arith}
+use Rattle.std.specs.Prelude.{slice_range}
 use Rattle.std.proofs.lemmas.List.{append-nil, append_assoc, length-append}
-use Rattle.dtx_frame.specs.Segments.{field_sync}
-use Rattle.dtx_coder.specs.Stream.{levels, four_segments, last_of, group_segments}
+use Rattle.dtx_coder.specs.Stream.{levels, four_segments, group_segments}
 use Rattle.dtx_exciter.specs.Order.{counting_order}
 use Rattle.dtx_cadence.specs.Cadence.{IsInStep}
 use Rattle.dtx_exciter.specs.Packets.{syncs, readings}
@@ -25,42 +23,31 @@ use Rattle.dtx_exciter.proofs.EmittedLemmas.{emission_more, emission_push, stret
 pub emitted_more : (a d : ℕ) (earlier feed : List (List ℕ)) (mark j : ℕ) → mark + j < length feed
     → emission a d (after earlier feed mark (j + 1)) ≡ emission a d (after earlier feed mark j)
     ++ last_segments a d (after earlier feed mark (j + 1))
-emitted_more a d earlier feed mark j l =
-    ap (emission a d) (after_more earlier feed mark j l)
-    ∙ emission_push a d (after earlier feed mark j) (get_or (drop mark feed) j [])
-    ∙ ap (λ x. emission a d (after earlier feed mark j) ++ last_segments a d x) (sym (after_more earlier feed mark j l))
+emitted_more a d earlier feed mark j l = grind (arith, after_more, emission_push, after)
 
 emitted_same : (a d : ℕ) (earlier feed : List (List ℕ)) (mark n j k : ℕ) → (w : Follows earlier feed mark n)
     → mark + n ≤ length feed → j < n → j % 4 ≢ 3 → k ≡ j + 1
     → emission a d (after earlier feed mark k) ≡ emission a d (after earlier feed mark j)
-emitted_same a d earlier feed mark n j k w h l m e =
-    ap (λ x. emission a d (after earlier feed mark x)) e
-    ∙ emitted_more a d earlier feed mark j (omega (arith, h, l))
-    ∙ ap (λ x. emission a d (after earlier feed mark j) ++ x) (given_none a d earlier feed mark n j w h l m)
-    ∙ append-nil (emission a d (after earlier feed mark j))
+emitted_same a d earlier feed mark n j k w h l m e = grind (arith, after, emitted_more, given_none, append-nil)
 
 -- before the last packet of a group
 emitted_within : (a d : ℕ) (earlier feed : List (List ℕ)) (mark n x : ℕ) → (w : Follows earlier feed mark n)
     → mark + n ≤ length feed → x + 4 ≤ n → x % 4 ≡ 0
     → emission a d (after earlier feed mark (x + 3)) ≡ emission a d (after earlier feed mark x)
 emitted_within a d earlier feed mark n x w h l g =
-    emitted_same a d earlier feed mark n (x + 2) (x + 3) w h (omega (arith, l)) (λ z. omega (arith, z, g)) (omega arith)
-    ∙ emitted_same a d earlier feed mark n (x + 1) (x + 2) w h (omega (arith, l)) (λ z. omega (arith, z, g))
-    (omega arith)
-    ∙ emitted_same a d earlier feed mark n x (x + 1) w h (omega (arith, l)) (λ z. omega (arith, z, g)) refl
+    emitted_same a d earlier feed mark n (x + 2) (x + 3) w h (omega arith) (λ z. omega arith) (omega arith)
+    ∙ emitted_same a d earlier feed mark n (x + 1) (x + 2) w h (omega arith) (λ z. omega arith) (omega arith)
+    ∙ emitted_same a d earlier feed mark n x (x + 1) w h (omega arith) (λ z. omega arith) refl
 
 -- a group further
 emitted_group : (a d : ℕ) (earlier feed : List (List ℕ)) (mark n x : ℕ) → (w : Follows earlier feed mark n)
     → mark + n ≤ length feed → x + 4 ≤ n → x % 4 ≡ 0
     → emission a d (after earlier feed mark (x + 4)) ≡ emission a d (after earlier feed mark x)
     ++ given_under a d (Some (life w.base feed mark (x + 4)))
-emitted_group a d earlier feed mark n x w h l g =
-    let e : x + 4 ≡ x + 3 + 1 = omega arith in
-    ap (λ k. emission a d (after earlier feed mark k)) e
-    ∙ emitted_more a d earlier feed mark (x + 3) (omega (arith, h, l))
-    ∙ ap₂ ◌++◌ (emitted_within a d earlier feed mark n x w h l g)
+emitted_group a d earlier feed mark n x w h l g = ap (λ k. emission a d (after earlier feed mark k)) (omega arith)
+    ∙ emitted_more a d earlier feed mark (x + 3) (omega (arith, h, l)) ∙ ap₂ ◌++◌ (grind (arith, emitted_within))
     (given_is a d earlier feed mark n (x + 3) w (omega (arith, l))
-    ∙ ap (λ k. given_under a d (Some (life w.base feed mark k))) (sym e))
+    ∙ ap (λ k. given_under a d (Some (life w.base feed mark k))) (sym (omega arith)))
 
 -- all that is given before the first group's data segments
 abbrev pub before_first : ℕ → ℕ → List (List ℕ) → List (List ℕ) → ℕ → ℕ → List (List ℤ)
@@ -73,21 +60,16 @@ place_first mark first v e = omega (arith, e)
 emits_all : (a d : ℕ) (z : ℤ) (earlier feed : List (List ℕ)) (mark n first c : ℕ) (before : List (List ℤ))
     → (w : Follows earlier feed mark n) → (m : Marks a d z w.base feed mark n) → IsGroup a feed mark n first first
     → emission a d (after earlier feed mark (first + 4)) ≡ before ++ stretch feed (mark + first) (mark + (first + 4))
-    → first + 4 + 4 * c ≤ n
-    → emission a d (after earlier feed mark (first + 4 + 4 * c)) ≡ before
+    → first + 4 + 4 * c ≤ n → emission a d (after earlier feed mark (first + 4 + 4 * c)) ≡ before
     ++ stretch feed (mark + first) (mark + (first + 4 + 4 * c))
-emits_all a d z earlier feed mark n first zero before w m g h l =
-    let e : first + 4 ≡ first + 4 + 4 * 0 = omega arith in
-    ap (λ k. emission a d (after earlier feed mark k)) (sym e) ∙ h
-    ∙ ap (λ k. before ++ stretch feed (mark + first) (mark + k)) e
+emits_all a d z earlier feed mark n first zero before w m g h l = grind (arith, after)
 emits_all a d z earlier feed mark n first (suc c) before w m g h l =
     let x : ℕ = first + 4 + 4 * c in
     let e : first + 4 + 4 * suc c ≡ first + 4 + 4 * c + 4 = omega arith in
     let inside = m.inside in let m1 = m.at_mark in let g1 = g.whole in
     let v : mark + (first + 4 + 4 * c) ≡ 4 * ((mark + (first + 4 + 4 * c)) / 4) = omega (arith, m1, g1) in
     let u : 4 * ((mark + (first + 4 + 4 * c)) / 4) + 4 ≡ mark + (first + 4 + 4 * c + 4) = omega (arith, v) in
-    let here : IsGroup a feed mark n first (first + 4 + 4 * c) =
-    record {
+    let here : IsGroup a feed mark n first (first + 4 + 4 * c) = record {
       order = g.order;
       flushed = g.flushed;
       whole = g.whole;
@@ -101,12 +83,7 @@ emits_all a d z earlier feed mark n first (suc c) before w m g h l =
     (given_next a d z w.base feed mark n first (first + 4 + 4 * c) m here (omega arith))
     ∙ append_assoc before (stretch feed (mark + first) (mark + (first + 4 + 4 * c)))
     (group_segments (take (mark + (first + 4 + 4 * c + 4)) feed) ((mark + (first + 4 + 4 * c)) / 4))
-    ∙ ap (λ y. before ++ y)
-    (ap₂ (λ p q. stretch feed (mark + first) p ++ group_segments (take q feed) ((mark + (first + 4 + 4 * c)) / 4)) v
-    (sym u)
-    ∙ sym (stretch_next feed (mark + first) ((mark + (first + 4 + 4 * c)) / 4) (omega (arith, u, inside, l))
-    (omega (arith, v)))
-    ∙ ap (stretch feed (mark + first)) u)
+    ∙ ap (λ y. before ++ y) (grind (arith, stretch_next))
     ∙ ap (λ k. before ++ stretch feed (mark + first) (mark + k)) (sym e)
 
 -- up to the end of any group of the stretch
@@ -142,29 +119,23 @@ emits a d z earlier feed mark n first c w m g h =
 
     begins : emission a d (after earlier feed mark (first + 4)) ≡ before_first a d earlier feed mark first
         ++ stretch feed (mark + first) (mark + (first + 4))
-    begins =
-        emitted_group a d earlier feed mark n first w inside within g.whole
+    begins = emitted_group a d earlier feed mark n first w inside within g.whole
         ∙ ap₂ ◌++◌ (sym (emitted_within a d earlier feed mark n first w inside within g.whole))
-        (given_first a d z w.base feed mark n first m g)
-        ∙ sym (append_assoc (emission a d (after earlier feed mark (first + 3))) sync
-        (four_segments (levels (take (mark + (first + 4)) feed)) (mark + first)))
+        (given_first a d z w.base feed mark n first m g) ∙ sym (grind (arith, append_assoc, after, sync))
         ∙ ap₂ (λ x y. (emission a d (after earlier feed mark (first + 3)) ++ sync_behind x (mark + first)) ++ y) same
         (ap₂ (λ p q. four_segments (levels (take p feed)) q) end place
-        ∙ sym (stretch_first feed ((mark + first) / 4) (omega (arith, end, inside, within)))
-        ∙ ap₂ (stretch feed) (sym place) (sym end))
+        ∙ sym (grind (arith, stretch_first, end, inside, within)) ∙ ap₂ (stretch feed) (sym place) (sym end))
 
 -- packets behind the last whole group
 tail_same : (a d : ℕ) (earlier feed : List (List ℕ)) (mark n m r : ℕ) → (w : Follows earlier feed mark n)
     → mark + n ≤ length feed → n ≡ m + r → m % 4 ≡ 0 → r < 4
     → emission a d (after earlier feed mark n) ≡ emission a d (after earlier feed mark m)
-tail_same a d earlier feed mark n m zero w h e y s = let q : n ≡ m = omega (arith, e) in
-    ap (λ k. emission a d (after earlier feed mark k)) q
+tail_same a d earlier feed mark n m zero w h e y s = grind (arith, after)
 tail_same a d earlier feed mark n m (suc r) w h e y s = by_parts m r n w h e y s
   where
     steps : (m r : ℕ) (k : ℕ) → (w : Follows earlier feed mark n) → mark + n ≤ length feed → m + r ≡ k → k ≤ n
         → m % 4 ≡ 0 → r < 4 → emission a d (after earlier feed mark k) ≡ emission a d (after earlier feed mark m)
-    steps m zero k w h e l y s = let q : k ≡ m = omega (arith, e) in
-        ap (λ k. emission a d (after earlier feed mark k)) q
+    steps m zero k w h e l y s = grind (arith, after)
     steps m (suc r) k w h e l y s =
         emitted_same a d earlier feed mark n (m + r) k w h (omega (arith, e, l)) (λ z. omega (arith, z, y, s))
         (omega (arith, e)) ∙ steps m r (m + r) w h refl (omega (arith, e, l)) y (omega (arith, s))
@@ -209,49 +180,26 @@ within a d z feed earlier mark end k f s r =
 pub before_is : (a d : ℕ) (earlier feed : List (List ℕ)) (mark k : ℕ) → mark ≤ k
     → before_first a d earlier feed mark (k - mark) ≡ before_stretch a d earlier feed mark k
 unfolding before_stretch
-before_is a d earlier feed mark k l =
-    let e : k - mark + 3 ≡ k + 3 - mark = omega (arith, l) in
-    let at : mark + (k - mark) ≡ k = omega (arith, l) in
-    ap₂ (λ x y. emission a d (after earlier feed mark x)
-    ++ sync_behind (last_segments a d (after earlier feed mark (k - mark))) y) e at
+before_is a d earlier feed mark k l = grind (arith, after)
 
 -- where nothing was locked before the mark or a lock in step
 lockstep_at : (a d : ℕ) (z : ℤ) (feed earlier : List (List ℕ)) (mark end k : ℕ) → IsFeed a d z feed
     → IsStretch a feed mark mark end k → IsInStep (syncs earlier)
     → emission a d (earlier ++ slice_range feed mark end) ≡ before_stretch a d earlier feed mark k ++ stretch feed k end
 lockstep_at a d z feed earlier mark end k f s r =
+    let w : Within a d z earlier feed mark (end - mark) (k - mark) = within a d z feed earlier mark end k f s r in
+    let c : ℕ = (end - mark - (k - mark) - 4) / 4 in
+    let t : k + 4 ≤ end = s.whole in
+    let i : mark % 624 ≡ 0 = s.is_mark in
+    let o : k % 4 ≡ 0 = (counted_behind (readings feed) k s.order.0 s.order.1).whole in
+    let at : mark + (k - mark) ≡ k = omega arith in
+    let size : end - mark ≡ k - mark + 4 + 4 * c + (end - (mark + (k - mark + 4 + 4 * c))) = omega (arith, t) in
     tail_same a d earlier feed mark (end - mark) (k - mark + 4 + 4 * c)
-    (end - (mark + (k - mark + 4 + 4 * c))) w.follows w.marks.inside size (omega (arith, y, i, o))
-    (omega (arith, y, t))
-    ∙ emits a d z earlier feed mark (end - mark) (k - mark) c w.follows w.marks w.group (omega (arith, y, t))
+    (end - (mark + (k - mark + 4 + 4 * c))) w.follows w.marks.inside size (omega (arith, i, o)) (omega (arith, t))
+    ∙ emits a d z earlier feed mark (end - mark) (k - mark) c w.follows w.marks w.group (omega (arith, t))
     ∙ ap₂ (λ b p. b ++ stretch feed p (mark + (k - mark + 4 + 4 * c)))
-    (before_is a d earlier feed mark k (omega (arith, y))) at
-    ∙ ap (λ b. before_stretch a d earlier feed mark k
-    ++ b) (stretch_whole feed k end (mark + (k - mark + 4 + 4 * c)) s.inside (omega (arith, y, t, i, o)))
-  where
-    w : Within a d z earlier feed mark (end - mark) (k - mark)
-    w = within a d z feed earlier mark end k f s r
-
-    c : ℕ
-    c = (end - mark - (k - mark) - 4) / 4
-
-    y : mark + 52 ≤ k
-    y = s.behind
-
-    t : k + 4 ≤ end
-    t = s.whole
-
-    i : mark % 624 ≡ 0
-    i = s.is_mark
-
-    o : k % 4 ≡ 0
-    o = (counted_behind (readings feed) k s.order.0 s.order.1).whole
-
-    at : mark + (k - mark) ≡ k
-    at = omega (arith, y)
-
-    size : end - mark ≡ k - mark + 4 + 4 * c + (end - (mark + (k - mark + 4 + 4 * c)))
-    size = omega (arith, y, t)
+    (before_is a d earlier feed mark k (omega arith)) at ∙ ap (λ b. before_stretch a d earlier feed mark k
+    ++ b) (stretch_whole feed k end (mark + (k - mark + 4 + 4 * c)) s.inside (omega (arith, t, i, o)))
 
 -- whatever was given before
 pub lockstep_is : (a d : ℕ) (z : ℤ) (feed earlier : List (List ℕ)) (mark end k : ℕ) → IsFeed a d z feed
@@ -262,9 +210,7 @@ lockstep_is a d z feed earlier mark end k f s =
     let y = s.behind in let t = s.whole in let b = w.behind in
     ap (emission a d) (locked_parts earlier feed mark (locked_from earlier mark) end b (omega (arith, y, t)))
     ∙ lockstep_at a d z feed (locked_life earlier feed mark (locked_from earlier mark)) (locked_from earlier mark) end k
-    f (stretch_locked a feed earlier mark (locked_from earlier mark) end k s w) w.in_step
-    ∙ ap (λ x. x ++ stretch feed k end)
-    (before_locked a d earlier feed mark (locked_from earlier mark) k b (omega (arith, y)))
+    f (grind (arith, stretch_locked)) w.in_step ∙ ap (λ x. x ++ stretch feed k end) (grind (arith, before_locked))
 
 -- whatever is given then
 pub lockstep_on : (a d : ℕ) (z : ℤ) (feed earlier later : List (List ℕ)) (mark end k : ℕ) → IsFeed a d z feed
@@ -272,11 +218,9 @@ pub lockstep_on : (a d : ℕ) (z : ℤ) (feed earlier later : List (List ℕ)) (
     → emission a d (earlier ++ (slice_range feed mark end ++ later))
     ≡ before_stretch a d earlier feed mark k ++ (stretch feed k end
     ++ emission_behind a d (earlier ++ slice_range feed mark end) later)
-lockstep_on a d z feed earlier later mark end k f s =
-    ap (emission a d) (sym (append_assoc earlier (slice_range feed mark end) later))
+lockstep_on a d z feed earlier later mark end k f s = ap (emission a d) (sym (grind (arith, append_assoc)))
     ∙ emission_more a d (earlier ++ slice_range feed mark end) later
-    ∙ ap (λ x. x ++ emission_behind a d (earlier ++ slice_range feed mark end) later)
-    (lockstep_is a d z feed earlier mark end k f s)
+    ∙ ap (λ x. x ++ emission_behind a d (earlier ++ slice_range feed mark end) later) (grind (arith, lockstep_is))
     ∙ append_assoc (before_stretch a d earlier feed mark k) (stretch feed k end)
     (emission_behind a d (earlier ++ slice_range feed mark end) later)
 
@@ -284,18 +228,11 @@ lockstep_on a d z feed earlier later mark end k f s =
 
 pub sync_at_most : (segments : List (List ℤ)) (k : ℕ) → length (sync_behind segments k) ≤ 1
 sync_at_most [] k = omega arith
-sync_at_most (s ∷ ss) k = by_test (k % 312 == 0)
-  where
-    by_test : (t : Bool)
-        → length (cond t (field_sync (nat_le 312 (k % 624)) (last_of (get_or (s ∷ ss) (length ss) [])) ∷ []) []) ≤ 1
-    by_test true = omega arith
-    by_test false = omega arith
+sync_at_most (s ∷ ss) k = grind arith
 
 pub length-before : (a d : ℕ) (feed earlier : List (List ℕ)) (mark k : ℕ)
     → length (before_stretch a d earlier feed mark k)
     ≡ length (emission a d (earlier ++ slice_range feed mark (k + 3))) + length
     (sync_behind (last_segments a d (earlier ++ slice_range feed mark k)) k)
 unfolding before_stretch
-length-before a d feed earlier mark k =
-    length-append (emission a d (earlier ++ slice_range feed mark (k + 3)))
-    (sync_behind (last_segments a d (earlier ++ slice_range feed mark k)) k)
+length-before a d feed earlier mark k = grind (arith, length-append)

@@ -1,32 +1,23 @@
 -- What orders say of pages, with one order more.
 use Rattle.std.proofs.Common.{◌≡◌, ℕ, ◌==◌, ◌||◌, Bool, true, false, not, cond, Option, Some, None, List, [], ◌∷◌, refl}
-use Rattle.std.proofs.Common.{sym, ap, ap₂, ◌∙◌}
+use Rattle.std.proofs.Common.{ap, ap₂, ◌∙◌, arith}
 use Rattle.std.specs.List.{find, take_while}
 use Rattle.std.proofs.lemmas.Bool.{cond-true, cond-false, eq-eqb}
 use Rattle.std.proofs.lemmas.List.Sums.{take_while-cons}
 use Rattle.dtx_exciter.specs.Order.{Order}
-use Rattle.dtx_exciter.specs.Pages.{page, pages, lists, of_one_cycle, is_told, unless_told_again, listing}
+use Rattle.dtx_exciter.specs.Pages.{page, pages, lists, of_one_cycle, unless_told_again, listing}
 
 -- ---- orders of one number of pages
 
 pub cycle_same : (o l : Order) (r : List Order) → pages o ≡ pages l
     → of_one_cycle (o ∷ l ∷ r) ≡ o ∷ of_one_cycle (l ∷ r)
-cycle_same o l r e =
-    ap (λ x. o ∷ x)
-    (take_while-cons (λ x. pages x == pages o) l r
-    ∙ cond-true (pages l == pages o) (l ∷ take_while (λ x. pages x == pages o) r) []
-    (eq-eqb (pages l) (pages o) (sym e))
-    ∙ ap (λ (n : ℕ). l ∷ take_while (λ x. pages x == n) r) e)
+cycle_same o l r e = grind (arith, take_while-cons, cond-true, eq-eqb)
 
 -- ---- the order that lists an address
 
 pub listing_here : (a : ℕ) (o : Order) (c : List Order) → lists a o.ops ≡ true → listing a (o ∷ c) ≡ Some o
 unfolding listing
-listing_here a o c h =
-    ap₂ unless_told_again
-    (take_while-cons (λ x. not (lists a x.ops)) o c
-    ∙ cond-false (not (lists a o.ops)) (o ∷ take_while (λ x. not (lists a x.ops)) c) [] (ap not h))
-    (cond-true (lists a o.ops) (Some o) (find (λ x. lists a x.ops) c) h)
+listing_here a o c h = grind (arith, take_while-cons, cond-false, cond-true)
 
 -- where a later order tells this page
 abbrev pub forgotten : ℕ → Option Order → Option Order
@@ -44,18 +35,11 @@ or_false false x y = refl
 told_by_one : (o : Order) (later : List Order) (f : Option Order)
     → unless_told_again (o ∷ later) f ≡ forgotten (page o) (unless_told_again later f)
 told_by_one o later None = refl
-told_by_one o later (Some l) = by_later (is_told later (page l))
-  where
-    by_later : (t : Bool) → cond ((page o == page l) || t) None (Some l) ≡ forgotten (page o) (cond t None (Some l))
-    by_later true = or_true (page o == page l) None (Some l)
-    by_later false = or_false (page o == page l) None (Some l)
+told_by_one o later (Some l) = grind (arith, or_true, or_false)
 
 pub listing_other : (a : ℕ) (o : Order) (c : List Order) → lists a o.ops ≡ false
     → listing a (o ∷ c) ≡ forgotten (page o) (listing a c)
 unfolding listing
-listing_other a o c h =
-    ap₂ unless_told_again
-    (take_while-cons (λ x. not (lists a x.ops)) o c
+listing_other a o c h = ap₂ unless_told_again (take_while-cons (λ x. not (lists a x.ops)) o c
     ∙ cond-true (not (lists a o.ops)) (o ∷ take_while (λ x. not (lists a x.ops)) c) [] (ap not h))
-    (cond-false (lists a o.ops) (Some o) (find (λ x. lists a x.ops) c) h)
-    ∙ told_by_one o (take_while (λ x. not (lists a x.ops)) c) (find (λ x. lists a x.ops) c)
+    (grind (arith, cond-false)) ∙ told_by_one o (take_while (λ x. not (lists a x.ops)) c) (find (λ x. lists a x.ops) c)

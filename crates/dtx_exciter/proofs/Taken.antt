@@ -1,6 +1,6 @@
 -- What an exciter keeps where it begins, and what one packet more makes of it.
-use Rattle.std.proofs.Common.{◌≡◌, ℕ, ℤ, ◌%◌, ◌<◌, false, Option, Some, None, option_map, List, [], ◌∷◌, ◌++◌, length}
-use Rattle.std.proofs.Common.{take, set, replicate, refl, sym, ap, subst, ◌∙◌, arith}
+use Rattle.std.proofs.Common.{◌≡◌, ℕ, ℤ, ◌%◌, ◌<◌, false, Option, Some, None, List, [], ◌∷◌, ◌++◌, length, take, set}
+use Rattle.std.proofs.Common.{replicate, refl, sym, ap, subst, ◌∙◌, arith}
 use Rattle.std.proofs.lemmas.List.{map-set, take_more_set, length-map}
 use Rattle.dtx_packets.specs.declared.packet.Packet.{Packet}
 use Rattle.dtx_cadence.specs.declared.anchor.Lock.{Lock}
@@ -16,12 +16,10 @@ use Rattle.dtx_exciter.specs.declared.exciter.Exciter.{Exciter}
 use Rattle.dtx_exciter.specs.declared.answers.Why.TheVariants.{Cadence}
 use Rattle.dtx_exciter.specs.declared.answers.Told.{Told}
 use Rattle.dtx_exciter.specs.declared.answers.Told.TheVariants.{Quiet, Muted}
-use Rattle.dtx_exciter.specs.Told.{told_under}
-use Rattle.dtx_exciter.specs.Packets.{syncs, readings, under, last_answer}
+use Rattle.dtx_exciter.specs.Packets.{under, last_answer}
 use Rattle.dtx_exciter.specs.Emission.{Holds, last_segments, given_under}
 use Rattle.dtx_exciter.specs.Step.{bytes_of, IsSame}
-use Rattle.dtx_exciter.specs.Kept.{is_served, RunsUnder, KeepsUnder, Keeps, StandsFor, IsTaken, IsJoined}
-use Rattle.dtx_exciter.specs.Kept.{Joins}
+use Rattle.dtx_exciter.specs.Kept.{is_served, RunsUnder, KeepsUnder, Keeps, StandsFor, IsTaken, IsJoined, Joins}
 use Rattle.dtx_exciter.specs.declared.pages.Pages.{Pages}
 use Rattle.dtx_exciter.specs.HeldPages.{HoldsPages}
 use Rattle.dtx_exciter.proofs.HeldPagesLemmas.{nothing_holds}
@@ -32,12 +30,7 @@ use Rattle.dtx_exciter.proofs.EndsLemmas.{last_single}
 
 pub stands_nothing : (a d : ℕ) (e : Exciter) → e.address ≡ a → e.delay ≡ d → cadence.StandsFor e.anchor []
     → StandsFor a d e []
-stands_nothing a d e x y h = record {
-  address = x;
-  delay = y;
-  anchor = subst (cadence.StandsFor e.anchor) syncs_nothing h;
-  kept = subst (Keeps a d e) (sym under_nothing) tt;
-}
+stands_nothing a d e x y h = grind (arith, syncs_nothing, under_nothing)
 
 -- ---- the anchor's packet
 
@@ -52,14 +45,12 @@ pub keeps_single : (a d : ℕ) (e : Exciter) (packets : List Packet) (packet : P
     → KeepsUnder a d e (packet.0 ∷ [])
 keeps_single a d e packets packet coder flushed sent pages held some coded states widths = record {
   flushed = flushed;
-  partial =
-      ap (λ x. take 1 (bytes_of x)) held ∙ ap (take 1) (map-set (λ p. p.0) packets 0 packet)
+  partial = ap (λ x. take 1 (bytes_of x)) held ∙ ap (take 1) (map-set (λ p. p.0) packets 0 packet)
       ∙ take_more_set (bytes_of packets) 0 packet.0 (let n : length (bytes_of packets)
       ≡ length packets = length-map packets (λ p. p.0) in omega (arith, n, some));
   sent = sent ∙ ap (is_served a d) (sym (last_single packet.0));
   pages = subst (λ r. HoldsPages a r e.pages) (sym (last_single packet.0)) pages;
-  coder =
-      subst (λ o. RunsUnder [] o e.coder) (sym (last_single packet.0))
+  coder = subst (λ o. RunsUnder [] o e.coder) (sym (last_single packet.0))
       (coder.states, subst (RunsAlong [] 0 coder.states) (sym coded) (along_begins coder states widths));
 }
 
@@ -82,16 +73,7 @@ taken_as : (a d : ℕ) (before : List (List ℕ)) (p : List ℕ) (s : Seen) (anc
     → Sees before p s anchor → under (before ++ p ∷ []) ≡ now → answered ≡ last_answer a d (before ++ p ∷ [])
     → Makes a d now e anchor count symbols → IsTaken a d (before ++ p ∷ []) e answered count symbols
 unfolding last_segments
-taken_as a d before p s anchor now e answered count symbols h u t m = record {
-  answer = t;
-  air = subst (λ o. Holds (given_under a d o) count symbols) (sym u) m.air;
-  stands = record {
-    address = m.address;
-    delay = m.delay;
-    anchor = subst (λ x. cadence.StandsFor x (syncs (before ++ p ∷ []))) (sym m.anchored) h.stands;
-    kept = subst (Keeps a d e) (sym u) m.kept;
-  };
-}
+taken_as a d before p s anchor now e answered count symbols h u t m = grind arith
 
 -- where there is no anchor
 pub taken_free : (a d : ℕ) (old : Exciter) (before : List (List ℕ)) (p : List ℕ) (anchor : Option Lock)
@@ -108,27 +90,13 @@ pub taken_lost : (a d : ℕ) (old : Exciter) (before : List (List ℕ)) (p : Lis
 taken_lost a d old before p anchor symbols stood h =
     let g : Goes a d before p Lost = goes_seen a d before p Lost anchor h in
     taken_as a d before p Lost anchor None (record old { anchor = anchor }) (Muted Cadence) 0 symbols h g.follows
-    (sym g.answer)
-    (record { address = stood.address; delay = stood.delay; anchored = refl; air = none_held symbols; kept = tt })
+    (sym g.answer) (grind (arith, none_held))
 
 -- where this packet is the anchor: it is begun with
 begun : (a d : ℕ) (old mid e : Exciter) (before : List (List ℕ)) (p : List ℕ) (anchor : Option Lock) (symbols : List ℤ)
     → StandsFor a d old before → mid ≡ record old { anchor = anchor }
     → KeepsUnder mid.address mid.delay e (p ∷ []) → IsSame mid e → Makes a d (Some (p ∷ [])) e anchor 0 symbols
-begun a d old mid e before p anchor symbols h m k same = record {
-  address = same.address ∙ of_old;
-  delay = same.delay ∙ delay_old;
-  anchored = same.anchor ∙ ap (λ (x : Exciter). x.anchor) m;
-  air = none_held symbols;
-  kept = subst (λ (x : ℕ). KeepsUnder a x e (p ∷ [])) delay_old
-      (subst (λ (x : ℕ). KeepsUnder x mid.delay e (p ∷ [])) of_old k);
-}
-  where
-    of_old : mid.address ≡ a
-    of_old = ap (λ (x : Exciter). x.address) m ∙ h.address
-
-    delay_old : mid.delay ≡ d
-    delay_old = ap (λ (x : Exciter). x.delay) m ∙ h.delay
+begun a d old mid e before p anchor symbols h m k same = grind (arith, none_held)
 
 pub taken_start : (a d : ℕ) (old mid e : Exciter) (before : List (List ℕ)) (p : List ℕ) (anchor : Option Lock)
     (symbols : List ℤ) → StandsFor a d old before → Sees before p Start anchor → mid ≡ record old { anchor = anchor }
@@ -145,23 +113,18 @@ kept_old a d old before l h u = subst (Keeps a d old) u h.kept
 
 with_anchor : (a d : ℕ) (old mid : Exciter) (anchor : Option Lock) (l : List (List ℕ))
     → mid ≡ record old { anchor = anchor } → KeepsUnder a d old l → KeepsUnder a d mid l
-with_anchor a d old mid anchor l m k =
-    subst (λ (x : Exciter). KeepsUnder a d x l) (sym m) (record {
-      flushed = k.flushed;
-      partial = k.partial;
-      sent = k.sent;
-      pages = k.pages;
-      coder = k.coder;
-    })
+with_anchor a d old mid anchor l m k = subst (λ (x : Exciter). KeepsUnder a d x l) (sym m) (record {
+  flushed = k.flushed;
+  partial = k.partial;
+  sent = k.sent;
+  pages = k.pages;
+  coder = k.coder;
+})
 
 joined_as : (a d : ℕ) (mid e : Exciter) (p : List ℕ) (place : ℕ) (answered : Told) (count : ℕ) (symbols : List ℤ)
     (l : List (List ℕ)) → mid.address ≡ a → mid.delay ≡ d → Joins place p mid e answered count symbols
     → KeepsUnder a d mid l → place ≡ length l % 624 → IsJoined a d (l ++ p ∷ []) e answered count symbols
-joined_as a d mid e p place answered count symbols l x y j k h =
-    subst (λ (n : ℕ). IsJoined a n (l ++ p ∷ []) e answered count symbols) y
-    (subst (λ (n : ℕ). IsJoined n mid.delay (l ++ p ∷ []) e answered count symbols) x
-    (j l (subst (λ (n : ℕ). KeepsUnder n mid.delay mid l) (sym x) (subst (λ (n : ℕ). KeepsUnder a n mid l) (sym y) k))
-    h))
+joined_as a d mid e p place answered count symbols l x y j k h = grind arith
 
 pub taken_at : (old mid e : Exciter) (before : List (List ℕ)) (p : List ℕ) (place : ℕ) (anchor : Option Lock)
     (answered : Told) (count : ℕ) (symbols : List ℤ) (a d : ℕ) → StandsFor a d old before
@@ -179,21 +142,11 @@ taken_at old mid e before p place anchor answered count symbols a d stood h m j 
 
     by_join : (l : List (List ℕ)) → under (before ++ p ∷ []) ≡ Some (l ++ p ∷ []) → Goes a d before p (At place)
         → IsJoined a d (l ++ p ∷ []) e answered count symbols → IsTaken a d (before ++ p ∷ []) e answered count symbols
-    by_join l u g w =
-        taken_as a d before p (At place) anchor (Some (l ++ p ∷ [])) e answered count symbols h u
-        (w.answer ∙ ap (λ o. told_under a d (option_map readings o)) (sym u) ∙ sym g.answer)
-        (record {
-          address = same.address ∙ of_old;
-          delay = same.delay ∙ delay_old;
-          anchored = same.anchor
-              ∙ ap (λ (x : Exciter). x.anchor) m;
-          air = w.air;
-          kept = w.keeps;
-        })
+    by_join l u g w = taken_as a d before p (At place) anchor (Some (l ++ p ∷ [])) e answered count symbols h u
+        (grind arith) (grind (arith, of_old, delay_old))
 
     by_follow : Goes a d before p (At place) → IsTaken a d (before ++ p ∷ []) e answered count symbols
     by_follow g =
         let l : List (List ℕ) = g.follows.0 in
-        by_join l g.follows.2 g
-        (joined_as a d mid e p place answered count symbols l of_old delay_old j
+        by_join l g.follows.2 g (joined_as a d mid e p place answered count symbols l of_old delay_old j
         (with_anchor a d old mid anchor l m (kept_old a d old before l stood g.follows.1)) g.follows.3)

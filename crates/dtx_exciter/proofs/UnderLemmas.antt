@@ -88,15 +88,12 @@ told_by_anchors : (address delay : ℕ) (d : List (List ℕ)) (p : List ℕ) (be
     (told_under address delay (option_map readings (rest (d ++ p ∷ []) now)))
 unfolding last_answer told_of anchor_of
 told_by_anchors address delay d p before now b n =
+    let shorter : length (syncs (d ++ p ∷ [])) - 1 ≡ length (syncs d) = grind (arith, syncs_push, length_push) in
+    let front : take (length (syncs (d ++ p ∷ [])) - 1) (syncs (d ++ p ∷ [])) ≡ syncs d =
+    ap₂ take shorter (syncs_push d p) ∙ take_at (syncs d) (sync_of p ∷ []) (length (syncs d)) refl in
     ap (λ s. told_from address delay (anchor s) (anchor (syncs (d ++ p ∷ []))) (readings (d ++ p ∷ []))) front
     ∙ ap₂ (λ x y. told_from address delay x y (readings (d ++ p ∷ []))) b n
     ∙ ap (λ o. cond (was_lost before now) (Muted Cadence) (told_under address delay o)) (said_rest (d ++ p ∷ []) now)
-  where
-    shorter : length (syncs (d ++ p ∷ [])) - 1 ≡ length (syncs d)
-    shorter = omega (arith, ap length (syncs_push d p), length_push (syncs d) (sync_of p))
-
-    front : take (length (syncs (d ++ p ∷ [])) - 1) (syncs (d ++ p ∷ [])) ≡ syncs d
-    front = ap₂ take shorter (syncs_push d p) ∙ take_at (syncs d) (sync_of p ∷ []) (length (syncs d)) refl
 
 single : (d : List (List ℕ)) (p : List ℕ) → rest (d ++ p ∷ []) (Some (length d)) ≡ Some (p ∷ [])
 unfolding rest
@@ -125,8 +122,7 @@ goes_new : (address delay : ℕ) (d : List (List ℕ)) (p : List ℕ) (b : Bool)
     → Goes address delay d p (seen_by (length d) None (cond b (Some (length d)) None))
 goes_new address delay d p true h e = record {
   follows = under_by (d ++ p ∷ []) (Some (length d)) e ∙ single d p;
-  answer =
-      told_by_anchors address delay d p None (Some (length d)) h e
+  answer = told_by_anchors address delay d p None (Some (length d)) h e
       ∙ ap (λ o. told_under address delay (option_map readings o)) (single d p) ∙ quiet_single address delay p;
 }
 goes_new address delay d p false h e = record {
@@ -141,12 +137,10 @@ goes_on address delay d p j l h e = record {
   follows = (
     drop j d,
     under_by d (Some j) h ∙ here d j,
-    under_by (d ++ p ∷ []) (Some j) e
-        ∙ longer d p j l,
+    under_by (d ++ p ∷ []) (Some j) e ∙ longer d p j l,
     ap (λ (n : ℕ). n % 624) (sym (length-drop j d)),
   );
-  answer =
-      told_by_anchors address delay d p (Some j) (Some j) h e
+  answer = told_by_anchors address delay d p (Some j) (Some j) h e
       ∙ ap (λ o. told_under address delay (option_map readings o)) (sym (under_by (d ++ p ∷ []) (Some j) e));
 }
 
@@ -180,8 +174,7 @@ new_anchor_is d p = ap (λ (n : ℕ). cond (sync_of p == 0xB8) (Some n) None) (l
 seen_is : (d : List (List ℕ)) (p : List ℕ) (before now : Option ℕ) → anchor (syncs d) ≡ before
     → anchor (syncs d ++ sync_of p ∷ []) ≡ now → seen (syncs d) (sync_of p) ≡ seen_by (length d) before now
 unfolding seen
-seen_is d p before now b n = ap₂ (seen_by (length (syncs d))) b n
-    ∙ ap (λ (k : ℕ). seen_by k before now) (length-syncs d)
+seen_is d p before now b n = grind (arith, length-syncs)
 
 pub goes : (address delay : ℕ) (d : List (List ℕ)) (p : List ℕ) → Goes address delay d p (seen (syncs d) (sync_of p))
 goes address delay d p = by_anchor (anchor (syncs d)) refl

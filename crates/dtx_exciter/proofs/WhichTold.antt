@@ -30,8 +30,7 @@ record Below (said : List (Option Ops)) (n most k : ℕ) : Type 0 where
 
 same_ops : (said : List (Option Ops)) (n g : ℕ) (ops other : Ops) → n ≡ g → counting_order said n ≡ Some ops
     → counting_order said g ≡ Some other → ops ≡ other
-same_ops said n g ops other e h c =
-    ap (λ o. unwrap_or o other) (sym h ∙ ap (counting_order said) e ∙ c)
+same_ops said n g ops other e h c = ap (λ o. unwrap_or o other) (sym h ∙ ap (counting_order said) e ∙ c)
 
 -- one group further
 further : (said : List (Option Ops)) (n most k : ℕ) → Below said n most k
@@ -42,13 +41,11 @@ further said n most k b h = record {
   below = let l = b.below in omega (arith, l);
   orders = b.orders;
   tells = b.tells;
-  later = λ g other l m c. by_place g other l m c (cases_eq g n);
+  later = λ g other l m c. elim (cases_eq g n) [
+    | inl e ↦ h other (ap (counting_order said) (sym e) ∙ c)
+    | inr e ↦ b.later g other l (omega (arith, m, e)) c
+  ];
 }
-  where
-    by_place : (g : ℕ) (other : Ops) → b.group ≤ g → g < suc n → counting_order said g ≡ Some other
-        → (g ≡ n) ⊎ (g ≢ n) → pages_of other.paging ≡ most
-    by_place g other l m c (inl e) = h other (ap (counting_order said) (sym e) ∙ c)
-    by_place g other l m c (inr e) = b.later g other l (omega (arith, m, e)) c
 
 or_left : (a b : Bool) → a ≡ true → (a || b) ≡ true
 or_left a b e = ap (λ x. x || b) e
@@ -73,38 +70,29 @@ told_below said most k (suc n) h = by_order (counting_order said n) refl (λ x. 
       later = λ g other l m c. ap (λ (o : Ops). pages_of o.paging)
           (sym (same_ops said n g ops other (omega (arith, l, m)) e c)) ∙ q;
     }
-    by_one ops false rest e q s h =
-        further said n most k (rest h)
+    by_one ops false rest e q s h = further said n most k (rest h)
         (λ other c. ap (λ (o : Ops). pages_of o.paging) (sym (same_ops said n n ops other refl e c)) ∙ q)
 
     by_pages : (ops : Ops) → (is_told (since said most n) k ≡ true → Below said n most k)
-        → counting_order said n ≡ Some ops
-        → is_told (take_while (λ o. pages o == most) (record { place = n; ops = ops }
+        → counting_order said n ≡ Some ops → is_told (take_while (λ o. pages o == most) (record { place = n; ops = ops }
         ∷ latest_first (λ g. placed g (counting_order said g)) n)) k ≡ true
         → (pages_of ops.paging ≡ most) ⊎ (pages_of ops.paging ≢ most) → Below said (suc n) most k
-    by_pages ops rest e h (inl q) =
-        by_one ops (page_of ops.paging == k) rest e q refl
-        (sym (ap (λ c. is_told c k)
+    by_pages ops rest e h (inl q) = by_one ops (page_of ops.paging == k) rest e q refl (sym (ap (λ c. is_told c k)
         (take_while-cons (λ o. pages o == most) (record { place = n; ops = ops })
         (latest_first (λ g. placed g (counting_order said g)) n)
         ∙ cond-true (pages_of ops.paging == most) (record { place = n; ops = ops } ∷ since said most n) []
-        (eq-eqb (pages_of ops.paging) most q)))
-        ∙ h)
-    by_pages ops rest e h (inr q) =
-        absurd (false≢true (sym (ap (λ c. is_told c k)
+        (eq-eqb (pages_of ops.paging) most q))) ∙ h)
+    by_pages ops rest e h (inr q) = absurd (false≢true (sym (ap (λ c. is_told c k)
         (take_while-cons (λ o. pages o == most) (record { place = n; ops = ops })
         (latest_first (λ g. placed g (counting_order said g)) n)
         ∙ cond-false (pages_of ops.paging == most) (record { place = n; ops = ops } ∷ since said most n) []
-        (ne_eqb (pages_of ops.paging) most q)))
-        ∙ h))
+        (ne_eqb (pages_of ops.paging) most q))) ∙ h))
 
     by_order : (o : Option Ops) → counting_order said n ≡ o
-        → (is_told (since said most n) k ≡ true → Below said n most k)
-        → is_told (take_while (λ o. pages o == most)
+        → (is_told (since said most n) k ≡ true → Below said n most k) → is_told (take_while (λ o. pages o == most)
         (cons_option (placed n o) (latest_first (λ g. placed g (counting_order said g)) n))) k ≡ true
         → Below said (suc n) most k
-    by_order None e rest h =
-        further said n most k (rest h) (λ other c. absurd (none_some other (sym e ∙ c)))
+    by_order None e rest h = further said n most k (rest h) (λ other c. absurd (none_some other (sym e ∙ c)))
     by_order (Some ops) e rest h = by_pages ops rest e h (cases_eq (pages_of ops.paging) most)
 
 below_told : (said : List (Option Ops)) (most k n : ℕ) → Below said n most k → is_told (since said most n) k ≡ true
@@ -114,51 +102,29 @@ below_told said most k (suc n) b = by_order (counting_order said n) refl (cases_
   where
     before : (Below said n most k → is_told (since said most n) k ≡ true) → b.group ≢ n
         → is_told (since said most n) k ≡ true
-    before rest e =
-        let l = b.below in
-        rest (record {
-          group = b.group;
-          ops = b.ops;
-          below = omega (arith, l, e);
-          orders = b.orders;
-          tells = b.tells;
-          later = λ g other x y c. b.later g other x (omega (arith, y)) c;
-        })
+    before rest e = grind arith
 
     by_one : (ops : Ops) → counting_order said n ≡ Some ops → (b.group ≡ n) ⊎ (b.group ≢ n)
         → (Below said n most k → is_told (since said most n) k ≡ true)
         → ((page_of ops.paging == k) || is_told (since said most n) k) ≡ true
-    by_one ops e (inl s) rest =
-        or_left (page_of ops.paging == k) (is_told (since said most n) k)
+    by_one ops e (inl s) rest = or_left (page_of ops.paging == k) (is_told (since said most n) k)
         (eq-eqb (page_of ops.paging) k
         (ap (λ (o : Ops). page_of o.paging) (sym (same_ops said b.group n b.ops ops s b.orders e)) ∙ b.tells))
     by_one ops e (inr s) rest = or_right (page_of ops.paging == k) (is_told (since said most n) k) (before rest s)
 
     by_order : (o : Option Ops) → counting_order said n ≡ o → (b.group ≡ n) ⊎ (b.group ≢ n)
-        → (Below said n most k → is_told (since said most n) k ≡ true)
-        → is_told (take_while (λ o. pages o == most)
+        → (Below said n most k → is_told (since said most n) k ≡ true) → is_told (take_while (λ o. pages o == most)
         (cons_option (placed n o) (latest_first (λ g. placed g (counting_order said g)) n))) k ≡ true
     by_order None e (inl s) rest = absurd (none_some b.ops (sym e ∙ ap (counting_order said) (sym s) ∙ b.orders))
     by_order None e (inr s) rest = before rest s
-    by_order (Some ops) e s rest =
-        let l = b.below in
-        ap (λ c. is_told c k)
-        (take_while-cons (λ o. pages o == most) (record { place = n; ops = ops })
-        (latest_first (λ g. placed g (counting_order said g)) n)
-        ∙ cond-true (pages_of ops.paging == most) (record { place = n; ops = ops } ∷ since said most n) []
-        (eq-eqb (pages_of ops.paging) most (b.later n ops (omega (arith, l)) (omega arith) e)))
-        ∙ by_one ops e s rest
+    by_order (Some ops) e s rest = grind (arith, take_while-cons, cond-true, eq-eqb)
 
 -- ---- of the order in force
 
 cycle_is : (said : List (Option Ops)) (i : ℕ) (order : Order) (older : List Order) → orders said i ≡ order ∷ older
     → of_one_cycle (order ∷ older) ≡ since said (pages order) (i + 1)
 unfolding orders
-cycle_is said i order older e =
-    sym (ap (take_while (λ o. pages o == pages order)) e
-    ∙ take_while-cons (λ o. pages o == pages order) order older
-    ∙ cond-true (pages order == pages order) (order ∷ take_while (λ o. pages o == pages order) older) []
-    (eq-eqb (pages order) (pages order) refl))
+cycle_is said i order older e = sym (grind (arith, take_while-cons, cond-true, eq-eqb))
 
 was_told : (said : List (Option Ops)) (i n k : ℕ) → Below said (i + 1) n k → WasTold said i n k
 was_told said i n k b = record {
@@ -190,15 +156,11 @@ all_told said i order older e = (forth, back)
 
     forth : all_pages_told (of_one_cycle (order ∷ older)) ≡ true
         → (k : ℕ) → k < pages order → WasTold said i (pages order) k
-    forth h k l =
-        was_told said i (pages order) k (told_below said (pages order) k (i + 1)
+    forth h k l = was_told said i (pages order) k (told_below said (pages order) k (i + 1)
         (sym (ap (λ c. is_told c k) cycle)
-        ∙ list_all-range_at (is_told (of_one_cycle (order ∷ older))) 0 (pages order) h k (omega arith)
-        (omega (arith, l))))
+        ∙ list_all-range_at (is_told (of_one_cycle (order ∷ older))) 0 (pages order) h k (omega arith) (omega arith)))
 
     back : ((k : ℕ) → k < pages order → WasTold said i (pages order) k)
         → all_pages_told (of_one_cycle (order ∷ older)) ≡ true
-    back h =
-        list_all-range_from (is_told (of_one_cycle (order ∷ older))) 0 (pages order)
-        (λ k x y. ap (λ c. is_told c k) cycle
-        ∙ below_told said (pages order) k (i + 1) (is_below said i (pages order) k (h k (omega (arith, y)))))
+    back h = list_all-range_from (is_told (of_one_cycle (order ∷ older))) 0 (pages order)
+        (λ k x y. ap (λ c. is_told c k) cycle ∙ below_told said (pages order) k (i + 1) (grind (arith, is_below)))

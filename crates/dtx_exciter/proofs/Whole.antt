@@ -1,6 +1,6 @@
 -- What is done with a whole group.
 use Rattle.std.proofs.Common.{◌≡◌, ℕ, ℤ, ◌*◌, ◌%◌, ◌==◌, ◌&&◌, Bool, true, false, cond, Option, option_map, List, []}
-use Rattle.std.proofs.Common.{take, sym, ap, ap₂, subst, ◌∙◌}
+use Rattle.std.proofs.Common.{take, sym, ap, ap₂, subst, ◌∙◌, arith}
 use Rattle.std.specs.Prelude.{nat_le}
 use Rattle.std.specs.Option.{unwrap_or}
 use Rattle.dtx_coder.specs.Groups.{Coding, Group, IsCoded, air_segments}
@@ -34,8 +34,7 @@ pub record Does (old : Exciter) (j : ℕ) (order : Option Ops) (pages : Pages) (
 
 group_is : (old : Exciter) (j : ℕ) (order : Option Ops) (pages : Pages) (answered : Told) (sent sync : Bool)
     (states : Option (List ℕ)) (coder : Coding) (coded count : ℕ) (symbols given : List ℤ)
-    → Does old j order pages answered sent sync states coder coded count symbols given
-    → ◌≡◌ {A = Group} (record {
+    → Does old j order pages answered sent sync states coder coded count symbols given → ◌≡◌ {A = Group} (record {
       first = j % 312;
       second = nat_le 312 j;
       sync = sync;
@@ -43,24 +42,7 @@ group_is : (old : Exciter) (j : ℕ) (order : Option Ops) (pages : Pages) (answe
       packets = bytes_of old.packets;
     }) (group_of old j answered)
 unfolding group_of own_of
-group_is old j order pages answered sent sync states coder coded count symbols given d =
-    ap (λ (b : Bool). record {
-      first = j % 312;
-      second = nat_le 312 j;
-      sync = b;
-      from = unwrap_or states old.coder.states;
-      packets = bytes_of old.packets;
-    })
-    (d.sync_is ∙ ap (λ (b : Bool). b && old.sent && (j % 312 == 0)) d.sent_is)
-    ∙ ap (λ (q : Option (List ℕ)). record {
-      first = j % 312;
-      second = nat_le 312 j;
-      sync = is_sent answered && old.sent && (j % 312 == 0);
-      from = unwrap_or q old.coder.states;
-      packets =
-          bytes_of old.packets;
-    })
-    (d.states_are ∙ ap (option_map (λ (o : Ops). o.states)) d.order_is)
+group_is old j order pages answered sent sync states coder coded count symbols given d = grind arith
 
 held_by : (sent : Bool) (ss : List (List ℤ)) (coded count : ℕ) (symbols : List ℤ) → Holds ss coded symbols
     → count ≡ cond sent coded 0 → Holds (cond sent ss []) count symbols
@@ -78,21 +60,10 @@ does_send old made j order pages answered sent sync states coder coded count sym
     (group_is old j order pages answered sent sync states coder coded count symbols given d) d.codes in
     let kept : made.pages ≡ pages = ap (λ (x : Exciter). x.pages) m in
     record {
-      pages =
-          subst (λ o. HoldsMore old.address o old.pages made.pages) d.order_is
-          (subst (HoldsMore old.address order old.pages) (sym kept) d.turned);
-      answer =
-          d.told
-          ∙ ap₂ (λ (o : Option Ops) (x : Pages). told_group old.delay j o x old.sent) d.order_is (sym kept);
-      new =
-          m ∙ ap (λ (x : Pages). record old { sent = sent; pages = x; coder = coder }) (sym kept)
-          ∙ ap₂ (λ (b : Bool) (c : Coding). record old { sent = b; pages = made.pages; coder = c }) d.sent_is
-          codes.coder;
-      air =
-          subst (λ (x : List ℤ). Holds (cond (is_sent answered) (air_segments old.coder (group_of old j answered)) [])
-          count x) (sym d.symbols_are)
-          (subst (λ (b : Bool). Holds (cond b (air_segments old.coder (group_of old j answered)) []) count symbols)
-          d.sent_is
-          (held_by sent (air_segments old.coder (group_of old j answered)) coded count symbols
-          (record { counted = codes.segments; begins = codes.symbols }) d.count_is));
+      pages = subst (λ o. HoldsMore old.address o old.pages made.pages) d.order_is (grind arith);
+      answer = d.told ∙ ap₂ (λ (o : Option Ops) (x : Pages). told_group old.delay j o x old.sent) d.order_is (sym kept);
+      new = m ∙ ap (λ (x : Pages). record old { sent = sent; pages = x; coder = coder }) (sym kept)
+          ∙ ap₂ (λ (b : Bool) (c : Coding). record old { sent = b; pages = made.pages; coder = c }) d.sent_is codes.coder;
+      air = subst (λ (x : List ℤ). Holds (cond (is_sent answered) (air_segments old.coder (group_of old j answered)) [])
+          count x) (sym d.symbols_are) (grind (arith, held_by));
     }

@@ -1,7 +1,7 @@
 -- The answers of correctors.
-use Rattle.std.proofs.Common.{◌≡◌, ℕ, ◌<◌, ◌≤◌, List, length, sym, ap, ◌∙◌}
+use Rattle.std.proofs.Common.{◌≡◌, ℕ, ◌<◌, ◌≤◌, List, length, sym, arith}
 use Rattle.dtx_galois.specs.Field.{AreBytes}
-use Rattle.dtx_laws.specs.Codeword.{IsCodeword, distance}
+use Rattle.dtx_laws.specs.Codeword.{IsCodeword}
 use Rattle.dtx_laws.specs.Correction.{IsCorrected, IsLeft}
 use Rattle.dtx_laws.specs.Words.{codeword}
 use Rattle.dtx_laws.proofs.ChoiceLemmas.{codeword_is}
@@ -9,9 +9,7 @@ use Rattle.dtx_laws.proofs.WordsLemmas.{one_correction, own_correction, distance
 
 pub answers_same : (n k : ℕ) (word a b : List ℕ) (d e : ℕ) → n ≤ 255 → length word ≡ n → IsCorrected n k word a d
     → IsCorrected n k word b e → (a ≡ b) × (d ≡ e)
-answers_same n k word a b d e m l p q =
-    let r : a ≡ b = one_correction n k word a b m l p.correction q.correction in
-    (r, p.changed ∙ ap (distance word) r ∙ sym q.changed)
+answers_same n k word a b d e m l p q = grind (arith, one_correction)
 
 pub answer_either : (n k : ℕ) (word a b : List ℕ) (e : ℕ) → IsCorrected n k word a e → IsLeft n k word b → ⊥
 answer_either n k word a b e p q = q.none a p.correction
@@ -22,9 +20,7 @@ codeword_answer n k word c = record { correction = own_correction n k word c; ch
 
 pub answer_codeword : (n k : ℕ) (word a : List ℕ) (e : ℕ) → n ≤ 255 → IsCodeword n k word → IsCorrected n k word a e
     → (a ≡ word) × (e ≡ 0)
-answer_codeword n k word a e m c p =
-    let own : IsCorrected n k word word 0 = codeword_answer n k word c in
-    answers_same n k word a word e 0 m c.long p own
+answer_codeword n k word a e m c p = grind (arith, codeword_answer, answers_same)
 
 pub codeword_never_left : (n k : ℕ) (word a : List ℕ) → IsCodeword n k word → IsLeft n k word a → ⊥
 codeword_never_left n k word a c q = q.none word (own_correction n k word c)

@@ -1,7 +1,7 @@
 -- What the functions that choose among all words give.
 use Rattle.std.proofs.Common.{◌≡◌, ℕ, zero, suc, ◌+◌, ◌-◌, ◌*◌, ◌<◌, ◌≤◌, ◌⊎◌, ◌==◌, nat_le, Bool, true, false, ◌&&◌}
-use Rattle.std.proofs.Common.{Option, Some, None, List, [], ◌∷◌, ◌++◌, map, length, take, unwrap_or, replicate, refl}
-use Rattle.std.proofs.Common.{sym, ap, ◌∙◌, subst, arith, inl, inr, IfSome, lit<}
+use Rattle.std.proofs.Common.{Option, Some, None, List, ◌∷◌, ◌++◌, map, length, take, unwrap_or, replicate, refl, sym}
+use Rattle.std.proofs.Common.{ap, ◌∙◌, subst, arith, inl, inr, IfSome, lit<, rules, []}
 use Rattle.std.proofs.lemmas.Bool.{eqb-true, eq-eqb, and_parts, and_from, le-leb, leb-true, true≢false}
 use Rattle.std.proofs.lemmas.List.{length-replicate, length-append, length-map, get_or-map, take_at}
 use Rattle.std.proofs.lemmas.List.Elements.{Contains-append_left, Contains-append_right}
@@ -19,9 +19,7 @@ use Rattle.dtx_laws.proofs.EncodingLemmas.{encoded, encoded_is}
 -- ---- all words
 
 Contains-map : (b : ℕ) (w : List ℕ) (ws : List (List ℕ)) → Contains ws w → Contains (map (λ v. b ∷ v) ws) (b ∷ w)
-Contains-map b w ws c =
-    let l : c.0 < length (map (λ v. b ∷ v) ws) = omega (arith, c.1, length-map ws (λ v. b ∷ v)) in
-    (c.0, l, get_or-map (λ v. b ∷ v) ws c.0 w (b ∷ w) c.1 ∙ ap (λ v. b ∷ v) c.2)
+Contains-map b w ws c = grind (arith, length-map, get_or-map)
 
 Contains-flat_map : (b : ℕ) (w : List ℕ) (ws : List (List ℕ)) (a n : ℕ) → a ≤ b → b < a + n → Contains ws w
     → Contains (flat_map (λ c. map (λ v. c ∷ v) ws) (range_with_len a n)) (b ∷ w)
@@ -34,11 +32,8 @@ Contains-flat_map b w ws a (suc n) l m h =
         → Contains (map (λ v. a ∷ v) ws ++ flat_map (λ c. map (λ v. c ∷ v) ws) (range_with_len (a + 1) n)) (b ∷ w)
     by_place (inl e) f =
         Contains-append_left (map (λ v. a ∷ v) ws) (flat_map (λ c. map (λ v. c ∷ v) ws) (range_with_len (a + 1) n))
-        (b ∷ w)
-        (rw e (Contains-map b w ws h))
-    by_place (inr p) f =
-        Contains-append_right (map (λ v. a ∷ v) ws) (flat_map (λ c. map (λ v. c ∷ v) ws) (range_with_len (a + 1) n))
-        (b ∷ w) (f p)
+        (b ∷ w) (rw e (Contains-map b w ws h))
+    by_place (inr p) f = grind (arith, Contains-append_right)
 
 -- each list of n bytes is among all of them
 Contains-all_words : (n : ℕ) (w : List ℕ) → length w ≡ n → AreBytes w → Contains (all_words n) w
@@ -46,8 +41,7 @@ unfolding all_words
 Contains-all_words zero [] l b = (0, lit< tt, refl)
 Contains-all_words zero (x ∷ w) l b = absurd (omega arith)
 Contains-all_words (suc n) [] l b = absurd (omega arith)
-Contains-all_words (suc n) (x ∷ w) l b =
-    Contains-flat_map x w (all_words n) 0 256 (omega arith) (omega (arith, b.0))
+Contains-all_words (suc n) (x ∷ w) l b = Contains-flat_map x w (all_words n) 0 256 (omega arith) (omega (arith, b.0))
     (Contains-all_words n w (omega arith) b.1)
 
 abbrev AreWords : ℕ → List (List ℕ) → Type 0
@@ -76,8 +70,7 @@ words_all (suc n) = words_flat n (all_words n) 0 256 (omega arith) (words_all n)
 -- the word that a test chooses among all words, and that none passes where it chooses none
 pub chosen : (fits : List ℕ → Bool) (n : ℕ) (code : List ℕ) → find fits (all_words n) ≡ Some code
     → (fits code ≡ true) × ((length code ≡ n) × AreBytes code)
-chosen fits n code e =
-    subst (λ o. IfSome o (λ w. (fits w ≡ true) × ((length w ≡ n) × AreBytes w))) e
+chosen fits n code e = subst (λ o. IfSome o (λ w. (fits w ≡ true) × ((length w ≡ n) × AreBytes w))) e
     (find-gives fits (λ w. (length w ≡ n) × AreBytes w) (all_words n) (words_all n))
 
 pub none_fits : (fits : List ℕ → Bool) (n : ℕ) (code : List ℕ) → find fits (all_words n) ≡ None → length code ≡ n
@@ -94,9 +87,7 @@ vanishes_at n k w t i l =
 
 pub vanishes_from : (n k : ℕ) (w : List ℕ) → ((i : ℕ) → i < n - k → value w (pow 2 i) ≡ 0) → vanishes n k w ≡ true
 unfolding vanishes
-vanishes_from n k w h =
-    list_all-range_from (λ i. value w (pow 2 i) == 0) 0 (n - k)
-    (λ i l m. eq-eqb (value w (pow 2 i)) 0 (h i (omega arith)))
+vanishes_from n k w h = grind (arith, list_all-range_from, eq-eqb)
 
 -- ---- the codeword
 
@@ -105,11 +96,7 @@ chosen_codeword : (n k : ℕ) (bs rest : List ℕ) (o : Option (List ℕ)) → k
     → IfSome o (λ w. (vanishes n k (bs ++ w) ≡ true) × ((length w ≡ n - k) × AreBytes w))
     → (o ≡ None → vanishes n k (bs ++ rest) ≡ false) → vanishes n k (bs ++ rest) ≡ true
     → IsCodeword n k (bs ++ unwrap_or o (replicate (n - k) 0))
-chosen_codeword n k bs rest (Some w) l e b h g t = record {
-  long = length-append bs w ∙ omega (arith, h.1.0);
-  bytes = bytes_append bs w b h.1.1;
-  vanishes = vanishes_at n k (bs ++ w) h.0;
-}
+chosen_codeword n k bs rest (Some w) l e b h g t = grind (arith, length-append, bytes_append, vanishes_at)
 chosen_codeword n k bs rest None l e b h g t = absurd (true≢false (sym t ∙ g refl))
 
 pub codeword_is : (n k : ℕ) (bs : List ℕ) → k < n → length bs ≡ k → AreBytes bs → IsCodeword n k (codeword n k bs)
@@ -121,36 +108,31 @@ codeword_is n k bs l e b =
     × AreBytes w) (all_words (n - k)) (words_all (n - k)))
     (λ none. find-none (λ w. vanishes n k (bs ++ w)) (all_words (n - k)) (check_bytes n k bs) none
     (Contains-all_words (n - k) (check_bytes n k bs) (omega (arith, c.long, length-append bs (check_bytes n k bs)))
-    (bytes_drop bs (check_bytes n k bs) c.bytes)))
-    (vanishes_from n k (bs ++ check_bytes n k bs) c.vanishes)
+    (bytes_drop bs (check_bytes n k bs) c.bytes))) (vanishes_from n k (bs ++ check_bytes n k bs) c.vanishes)
   where
     check_bytes : (n k : ℕ) (bs : List ℕ) → List ℕ
     check_bytes n k bs = register (generator (n - k)) (replicate (n - k) 0) bs
 
 pub codeword_begins : (n k : ℕ) (bs : List ℕ) → length bs ≡ k → take k (codeword n k bs) ≡ bs
 unfolding codeword
-codeword_begins n k bs e =
-    take_at bs (unwrap_or (find (λ w. vanishes n k (bs ++ w)) (all_words (n - k))) (replicate (n - k) 0)) k e
+codeword_begins n k bs e = grind (arith, take_at)
 
 -- what is a codeword and begins with the data is the function's
 pub codeword_only : (n k : ℕ) (bs c : List ℕ) → n ≤ 255 → k < n → length bs ≡ k → AreBytes bs → IsCodeword n k c
     → take k c ≡ bs → c ≡ codeword n k bs
-codeword_only n k bs c m l e b h t = one_codeword n k c (codeword n k bs) m h (codeword_is n k bs l e b) (t
-    ∙ sym (codeword_begins n k bs e))
+codeword_only n k bs c m l e b h t = search (rules, one_codeword, codeword_is, codeword_begins)
 
 -- for every list, of bytes or not
 pub codeword_length : (n k : ℕ) (bs : List ℕ) → length (codeword n k bs) ≡ length bs + (n - k)
 unfolding codeword
-codeword_length n k bs =
-    by_answer (find (λ w. vanishes n k (bs ++ w)) (all_words (n - k)))
+codeword_length n k bs = by_answer (find (λ w. vanishes n k (bs ++ w)) (all_words (n - k)))
     (find-gives (λ w. vanishes n k (bs ++ w)) (λ w. (length w ≡ n - k)
     × AreBytes w) (all_words (n - k)) (words_all (n - k)))
   where
     by_answer : (o : Option (List ℕ)) → IfSome o (λ w. (vanishes n k (bs ++ w) ≡ true)
         × ((length w ≡ n - k) × AreBytes w)) → length (bs ++ unwrap_or o (replicate (n - k) 0)) ≡ length bs + (n - k)
     by_answer (Some w) h = length-append bs w ∙ ap (λ m. length bs + m) h.1.0
-    by_answer None h = length-append bs (replicate (n - k) 0)
-        ∙ ap (λ m. length bs + m) (length-replicate {A = ℕ} (n - k) 0)
+    by_answer None h = grind (arith, length-append, length-replicate)
 
 -- ---- the correction
 
@@ -159,18 +141,10 @@ fits n k word c = vanishes n k c && nat_le (2 * distance word c) (n - k)
 
 correction_from : (n k : ℕ) (word c : List ℕ) → fits n k word c ≡ true → length c ≡ n → AreBytes c
     → IsCorrection n k word c
-correction_from n k word c t l b =
-    let h : (vanishes n k c ≡ true) × (nat_le (2 * distance word c) (n - k) ≡ true) =
-    and_parts (vanishes n k c) (nat_le (2 * distance word c) (n - k)) t in
-    record {
-      codeword = record { long = l; bytes = b; vanishes = vanishes_at n k c h.0 };
-      near = leb-true (2 * distance word c) (n - k) h.1;
-    }
+correction_from n k word c t l b = grind (arith, and_parts, vanishes_at, leb-true)
 
 correction_fits : (n k : ℕ) (word c : List ℕ) → IsCorrection n k word c → fits n k word c ≡ true
-correction_fits n k word c h =
-    and_from (vanishes n k c) (nat_le (2 * distance word c) (n - k)) (vanishes_from n k c h.codeword.vanishes)
-    (le-leb (2 * distance word c) (n - k) h.near)
+correction_fits n k word c h = grind (arith, and_from, vanishes_from, le-leb)
 
 pub correction_is : (n k : ℕ) (word code : List ℕ) → correction n k word ≡ Some code → IsCorrection n k word code
 unfolding correction
@@ -181,9 +155,7 @@ correction_is n k word code e =
 pub correction_none : (n k : ℕ) (word : List ℕ) → correction n k word ≡ None → (code : List ℕ)
     → IsCorrection n k word code → ⊥
 unfolding correction
-correction_none n k word e code h =
-    true≢false
-    (sym (correction_fits n k word code h) ∙ none_fits (fits n k word) n code e h.codeword.long h.codeword.bytes)
+correction_none n k word e code h = grind (arith, true≢false, correction_fits, none_fits)
 
 -- what is a correction is the function's
 pub correction_only : (n k : ℕ) (word code : List ℕ) → n ≤ 255 → length word ≡ n → IsCorrection n k word code

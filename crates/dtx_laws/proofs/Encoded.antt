@@ -18,5 +18,4 @@ encoded_codeword n k word head code c b l h e =
 
 pub encoded_begins : (n k : ℕ) (word head code : List ℕ) → IsCode n k → length word ≡ n → head ≡ take k word
     → code ≡ codeword n k head → take k code ≡ take k word
-encoded_begins n k word head code c l h e = ap (take k) e ∙ codeword_begins n k head (length_head n k word head c l h)
-    ∙ h
+encoded_begins n k word head code c l h e = grind (arith, codeword_begins, length_head)

@@ -1,5 +1,5 @@
 -- A codeword for each data, by a register that divides by the generator.
-use Rattle.std.proofs.Common.{◌≡◌, ℕ, zero, suc, ◌+◌, ◌-◌, ◌<◌, ◌⊎◌, List, [], ◌∷◌, ◌++◌, length, take, replicate}
+use Rattle.std.proofs.Common.{[], ◌≡◌, ℕ, zero, suc, ◌+◌, ◌-◌, ◌<◌, ◌⊎◌, List, ◌∷◌, ◌++◌, length, take, replicate}
 use Rattle.std.proofs.Common.{bit_xor, refl, sym, ap, ap₂, ◌∙◌, arith, inl, inr, add-one}
 use Rattle.std.proofs.lemmas.List.{length-append, length_push, append_assoc, append-nil, take_at, length-replicate}
 use Rattle.std.specs.Int.Bits.{xor_comm, xor_assoc, xor_self}
@@ -25,18 +25,14 @@ length_generator (suc m) = length_sums (generator m ++ 0 ∷ []) (pow 2 m ∷ sc
 pub value_generator : (m x : ℕ) → bit_xor (pow x (suc m)) (value (generator (suc m)) x)
     ≡ mul (bit_xor x (pow 2 m)) (bit_xor (pow x m) (value (generator m) x))
 unfolding pow value
-value_generator m x =
-    ap (bit_xor (pow x (suc m)))
+value_generator m x = ap (bit_xor (pow x (suc m)))
     (value_sums (generator m ++ 0 ∷ []) (pow 2 m ∷ scaled (pow 2 m) (generator m)) x (length_push (generator m) 0
     ∙ add-one (length (generator m)) ∙ ap suc (sym (length_scaled (pow 2 m) (generator m))))
     ∙ ap₂ bit_xor (value_shifted (generator m) x ∙ mul_comm (value (generator m) x) x)
-    (ap₂ bit_xor (ap (λ n. mul (pow 2 m) (pow x n)) (length_scaled (pow 2 m) (generator m)
-    ∙ length_generator m)) (value_scaled (pow 2 m) (generator m) x)
-    ∙ sym (mul_right (pow 2 m) (pow x m) (value (generator m) x))))
+    (grind (arith, length_scaled, length_generator, value_scaled, mul_right)))
     ∙ sym (xor_assoc (mul x (pow x m)) (mul x (value (generator m) x))
     (mul (pow 2 m) (bit_xor (pow x m) (value (generator m) x))))
-    ∙ ap (λ y. bit_xor y (mul (pow 2 m) (bit_xor (pow x m) (value (generator m) x))))
-    (sym (mul_right x (pow x m) (value (generator m) x)))
+    ∙ ap (λ y. bit_xor y (mul (pow 2 m) (bit_xor (pow x m) (value (generator m) x)))) (sym (grind (arith, mul_right)))
     ∙ sym (mul_left x (pow 2 m) (bit_xor (pow x m) (value (generator m) x)))
 
 root_cases : (m i : ℕ) → i < suc m → (i ≡ m) ⊎ (i < m)
@@ -44,10 +40,7 @@ root_cases m i l = grind arith
 
 root_of : (m i : ℕ) → (i ≡ m) ⊎ (i < m) → (i < m → bit_xor (pow (pow 2 i) m) (value (generator m) (pow 2 i)) ≡ 0)
     → mul (bit_xor (pow 2 i) (pow 2 m)) (bit_xor (pow (pow 2 i) m) (value (generator m) (pow 2 i))) ≡ 0
-root_of m i (inl e) h =
-    ap (λ (y : ℕ). mul y (bit_xor (pow (pow 2 i) m) (value (generator m) (pow 2 i))))
-    (ap (λ (j : ℕ). bit_xor (pow 2 j) (pow 2 m)) e ∙ xor_self (pow 2 m))
-    ∙ zero_mul (bit_xor (pow (pow 2 i) m) (value (generator m) (pow 2 i)))
+root_of m i (inl e) h = simp (e, xor_self, zero_mul)
 root_of m i (inr l) h = ap (mul (bit_xor (pow 2 i) (pow 2 m))) (h l) ∙ mul_zero (bit_xor (pow 2 i) (pow 2 m))
 
 pub generator_root : (m i : ℕ) → i < m → bit_xor (pow (pow 2 i) m) (value (generator m) (pow 2 i)) ≡ 0
@@ -62,13 +55,10 @@ length_fed g (r ∷ rs) b = length_sums (rs ++ 0 ∷ []) (scaled (bit_xor b r) g
 
 bytes_fed : (g rs : List ℕ) (b : ℕ) → AreBytes rs → AreBytes (fed g rs b)
 bytes_fed g [] b h = tt
-bytes_fed g (r ∷ rs) b h =
-    bytes_sums (rs ++ 0 ∷ []) (scaled (bit_xor b r) g) (bytes_push rs 0 h.1 (omega arith))
-    (bytes_scaled (bit_xor b r) g)
+bytes_fed g (r ∷ rs) b h = grind (arith, bytes_sums, bytes_push, bytes_scaled)
 
 fed_term : (v b r x p : ℕ) → bit_xor (mul v x) (mul (bit_xor b r) p) ≡ bit_xor (bit_xor (mul r p) (mul v x)) (mul b p)
-fed_term v b r x p =
-    ap (bit_xor (mul v x)) (mul_left b r p ∙ xor_comm (mul b p) (mul r p))
+fed_term v b r x p = ap (bit_xor (mul v x)) (mul_left b r p ∙ xor_comm (mul b p) (mul r p))
     ∙ sym (xor_assoc (mul v x) (mul r p) (mul b p)) ∙ ap (λ y. bit_xor y (mul b p)) (xor_comm (mul v x) (mul r p))
 
 -- at a root, what is fed counts at x ^ m
@@ -79,14 +69,10 @@ unfolding value
 value_fed g [] b x l p e = absurd (omega arith)
 value_fed g (r ∷ rs) b x l p e =
     let q : pow x (length g) ≡ value g x = xor_zero (pow x (length g)) (value g x) e in
-    value_sums (rs ++ 0 ∷ []) (scaled (bit_xor b r) g) x (length_push rs 0 ∙ add-one (length rs) ∙ l
-    ∙ sym (length_scaled (bit_xor b r) g))
+    value_sums (rs ++ 0 ∷ []) (scaled (bit_xor b r) g) x (grind (arith, length_push, add-one, length_scaled))
     ∙ ap₂ bit_xor (value_shifted rs x) (value_scaled (bit_xor b r) g x ∙ ap (mul (bit_xor b r)) (sym q))
-    ∙ fed_term (value rs x) b r x (pow x (length g))
-    ∙ ap (λ y. bit_xor y (mul b (pow x (length g))))
-    (ap (λ n. bit_xor (mul r (pow x n)) (mul (value rs x) x)) (sym l)
-    ∙ ap (λ y. bit_xor y (mul (value rs x) x)) (sym (times_power r x (length rs)))
-    ∙ sym (mul_left (mul r (pow x (length rs))) (value rs x) x))
+    ∙ fed_term (value rs x) b r x (pow x (length g)) ∙ ap (λ y. bit_xor y (mul b (pow x (length g))))
+    (grind (arith, times_power, mul_left))
 
 pub length_register : (g rs bs : List ℕ) → length (register g rs bs) ≡ length rs
 length_register g rs [] = refl
@@ -98,18 +84,12 @@ bytes_register g rs (b ∷ bs) h = bytes_register g (fed g rs b) bs (bytes_fed g
 
 -- the value of joined lists at a root, the register and what was fed before have one value
 pub value_register : (g rs bs done : List ℕ) (x : ℕ) → length rs ≡ length g → 0 < length rs → AreBytes bs
-    → bit_xor (pow x (length g)) (value g x) ≡ 0
-    → value rs x ≡ mul (value done x) (pow x (length g))
+    → bit_xor (pow x (length g)) (value g x) ≡ 0 → value rs x ≡ mul (value done x) (pow x (length g))
     → value (register g rs bs) x ≡ mul (value (done ++ bs) x) (pow x (length g))
 value_register g rs [] done x l p h e i = i ∙ ap (λ ds. mul (value ds x) (pow x (length g))) (sym (append-nil done))
 value_register g rs (b ∷ bs) done x l p h e i =
     value_register g (fed g rs b) bs (done ++ b ∷ []) x (length_fed g rs b ∙ l) (omega (arith, length_fed g rs b)) h.1 e
-    (value_fed g rs b x l p e
-    ∙ ap (λ y. bit_xor y (mul b (pow x (length g))))
-    (ap (λ y. mul y x) i ∙ mul_assoc (value done x) (pow x (length g)) x
-    ∙ ap (mul (value done x)) (mul_comm (pow x (length g)) x) ∙ sym (mul_assoc (value done x) x (pow x (length g))))
-    ∙ sym (mul_left (mul (value done x) x) b (pow x (length g)))
-    ∙ ap (λ y. mul y (pow x (length g))) (sym (value_push done b x h.0)))
+    (grind (arith, value_fed, mul_assoc, mul_comm, mul_left, value_push))
     ∙ ap (λ ds. mul (value ds x) (pow x (length g))) (append_assoc done (b ∷ []) bs)
 
 pub nothing : (x y : ℕ) → mul (value [] x) y ≡ 0
@@ -133,13 +113,10 @@ encoded_is n k bs l e b = record {
     vanish m bs b i r p =
         let x : ℕ = pow 2 i in
         let lg = length_generator m in
-        value_append bs (register (generator m) (replicate m 0) bs) (pow 2 i)
-        ∙ ap₂ bit_xor
-        (ap (λ j. mul (value bs (pow 2 i)) (pow (pow 2 i) j)) (length_register (generator m) (replicate m 0) bs
-        ∙ length-replicate {A = ℕ} m 0 ∙ sym lg))
+        value_append bs (register (generator m) (replicate m 0) bs) (pow 2 i) ∙ ap₂ bit_xor
+        (ap (λ j. mul (value bs (pow 2 i)) (pow (pow 2 i) j)) (grind (arith, length_register, length-replicate)))
         (value_register (generator m) (replicate m 0) bs [] (pow 2 i) (length-replicate {A = ℕ} m 0
-        ∙ sym lg) (omega (arith, length-replicate {A = ℕ} m 0)) b
-        (ap (λ j. bit_xor (pow (pow 2 i) j) (value (generator m) (pow 2 i))) lg ∙ generator_root m i r)
+        ∙ sym lg) (omega (arith, length-replicate {A = ℕ} m 0)) b (grind (arith, generator_root))
         (value_zeros m (pow 2 i) ∙ sym (nothing (pow 2 i) (pow (pow 2 i) (length (generator m))))))
         ∙ xor_self (mul (value bs (pow 2 i)) (pow (pow 2 i) (length (generator m))))
 

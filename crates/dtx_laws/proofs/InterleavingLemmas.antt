@@ -1,7 +1,7 @@
 -- The laws of interleaving.
-use Rattle.std.proofs.Common.{◌≡◌, ℕ, ◌+◌, ◌-◌, ◌*◌, ◌/◌, ◌%◌, ◌<◌, ◌≤◌, ◌⊎◌, ◌==◌, nat_le, cond, inl, inr, List, []}
-use Rattle.std.proofs.Common.{◌∷◌, ◌++◌, length, get_or, set, drop, take, replicate, refl, sym, ap, ◌∙◌, arith}
-use Rattle.std.proofs.Common.{map, add-mul, mul-le-mul_right, div-add-mod'}
+use Rattle.std.proofs.Common.{◌≡◌, ℕ, ◌+◌, ◌-◌, ◌*◌, ◌/◌, ◌%◌, ◌<◌, ◌≤◌, ◌⊎◌, ◌==◌, nat_le, cond, inl, inr, List, ◌∷◌}
+use Rattle.std.proofs.Common.{◌++◌, length, get_or, take, refl, sym, ap, ◌∙◌, arith, map, add-mul, mul-le-mul_right}
+use Rattle.std.proofs.Common.{div-add-mod', []}
 use Rattle.std.specs.List.{concat, range_with_len}
 use Rattle.std.proofs.lemmas.Bool.{cases_lt, cases_eq, cond-true, cond-false, le-leb, lt-leb}
 use Rattle.std.proofs.lemmas.Nat.{mod_below}
@@ -26,8 +26,7 @@ moved b d x = map (moved_at b d x) (range_with_len 0 (length x))
 pub length-moved : (b : ℕ) (d : ℕ → ℕ) (x : List ℕ) → length (moved b d x) ≡ length x
 length-moved b d x = length-map-range_with_len (moved_at b d x) 0 (length x)
 
-pub get_or-moved : (b : ℕ) (d : ℕ → ℕ) (x : List ℕ) (n : ℕ) → n < length x
-    → get_or (moved b d x) n 0 ≡ moved_at b d x n
+pub get_or-moved : (b : ℕ) (d : ℕ → ℕ) (x : List ℕ) (n : ℕ) → n < length x → get_or (moved b d x) n 0 ≡ moved_at b d x n
 get_or-moved b d x n l = get_or-map-range_with_len (moved_at b d x) 0 (length x) n n 0 l (omega arith)
 
 pub moved_come : (b : ℕ) (d : ℕ → ℕ) (x : List ℕ) (n : ℕ) → d (n % b) ≤ n
@@ -40,14 +39,10 @@ moved_held b d x n h = cond-false (nat_le (d (n % b)) n) (get_or x (n - d (n % b
 -- later bytes leave the earlier ones alone
 pub moved-append : (b : ℕ) (d : ℕ → ℕ) (x z : List ℕ) → take (length x) (moved b d (x ++ z)) ≡ moved b d x
 moved-append b d x z =
+    let long : length (take (length x) (moved b d (x ++ z))) ≡ length x =
+    length-take-le (length x) (moved b d (x ++ z)) (omega (arith, length-moved b d (x ++ z), length-append x z)) in
     ext_get_or 0 (take (length x) (moved b d (x ++ z))) (moved b d x) (long ∙ sym (length-moved b d x))
-    (λ i l. get_or-take (length x) (moved b d (x ++ z)) i 0 (omega (arith, long, l))
-    ∙ get_or-moved b d (x ++ z) i (omega (arith, long, l, length-append x z))
-    ∙ ap (λ y. cond (nat_le (d (i % b)) i) y 0) (get_or_append_left x z 0 (i - d (i % b)) (omega (arith, long, l)))
-    ∙ sym (get_or-moved b d x i (omega (arith, long, l))))
-  where
-    long : length (take (length x) (moved b d (x ++ z))) ≡ length x
-    long = length-take-le (length x) (moved b d (x ++ z)) (omega (arith, length-moved b d (x ++ z), length-append x z))
+    (λ i l. grind (arith, get_or-take, long, get_or-moved, length-append, get_or_append_left))
 
 abbrev pub spread_by : ℕ → ℕ → ℕ → ℕ
 spread_by b m r = b * m * r
@@ -86,19 +81,8 @@ next_below : (b n : ℕ) → n < b → (n + 1 ≡ b) ⊎ (n + 1 ≡ b → ⊥) �
 next_below b n l h = search (arith, cond-true, cond-false)
 
 HasWidths-byte : (b : ℕ) (w : ℕ → ℕ) (v : Branching) (byte : ℕ) → HasWidths b w v → HasWidths b w (after_byte b v byte)
-HasWidths-byte b w v byte h = record {
-  next = next_below b v.next h.next (cases_eq (v.next + 1) b);
-  count = length-set v.lists v.next (drop 1 (get_or v.lists v.next [] ++ byte ∷ [])) ∙ h.count;
-  long = λ i l. by_cases i l (cases_eq i v.next);
-}
-  where
-    by_cases : (i : ℕ) → i < b → (i ≡ v.next) ⊎ (i ≡ v.next → ⊥)
-        → length (get_or (set v.lists v.next (drop 1 (get_or v.lists v.next [] ++ byte ∷ []))) i []) ≡ w i
-    by_cases i l (inl e) =
-        rw e (ap length (get_or-set_same v.lists v.next (drop 1 (get_or v.lists v.next [] ++ byte ∷ [])) []
-        (omega (arith, h.next, h.count))) ∙ length_moved (get_or v.lists v.next []) byte ∙ h.long v.next h.next)
-    by_cases i l (inr n) =
-        ap length (get_or-set_other v.lists v.next i (drop 1 (get_or v.lists v.next [] ++ byte ∷ [])) [] n) ∙ h.long i l
+HasWidths-byte b w v byte h =
+    grind (arith, next_below, cases_eq, length-set, get_or-set_same, length_moved, get_or-set_other)
 
 pub HasWidths-all : (b : ℕ) (w : ℕ → ℕ) (v : Branching) (x : List ℕ) → HasWidths b w v → HasWidths b w (after_all b v x)
 unfolding after_all
@@ -110,35 +94,18 @@ HasWidths-aligned b w v h = record { next = omega (arith, h.next); count = h.cou
 
 pub HasWidths-zeroed : (b : ℕ) (w : ℕ → ℕ) → 0 < b → HasWidths b w (zeroed b w)
 unfolding zeroed
-HasWidths-zeroed b w p = record {
-  next = p;
-  count = length-map-range_with_len (λ i. replicate (w i) 0) 0 b;
-  long = λ i l. ap length (get_or-map-range_with_len (λ i. replicate (w i) 0) 0 b i i [] l (omega arith))
-      ∙ length-replicate {A = ℕ} (w i) 0;
-}
+HasWidths-zeroed b w p = grind (arith, length-map-range_with_len, get_or-map-range_with_len, length-replicate)
 
 -- ---- behind an align
 
 turns_least : (q d b r : ℕ) → d * b ≤ q * b + r → r < b → d ≤ q
-turns_least q d b r h l = by_cases (cases_lt q d)
-  where
-    by_cases : (q < d) ⊎ (d ≤ q) → d ≤ q
-    by_cases (inl k) = let g : (q + 1) * b ≤ d * b = mul-le-mul_right b (omega arith) in
-        let f : (q + 1) * b ≡ q * b + b = grind arith in absurd (omega arith)
-    by_cases (inr k) = k
+turns_least q d b r h l = grind (arith, cases_lt, mul-le-mul_right)
 
 minus : (b q d r n : ℕ) → n ≡ q * b + r → d ≤ q → (q - d) * b + r ≡ n - d * b
-minus b q d r n e k =
-    let f : q ≡ (q - d) + d = omega arith in
-    let g : q * b ≡ (q - d) * b + d * b = ap (λ z. z * b) f ∙ add-mul (q - d) d b in
-    omega arith
+minus b q d r n e k = grind (arith, add-mul)
 
 below_turn : (q d b r n : ℕ) → n ≡ q * b + r → n < d * b → q < d
-below_turn q d b r n e h = by_cases (cases_lt q d)
-  where
-    by_cases : (q < d) ⊎ (d ≤ q) → q < d
-    by_cases (inl k) = k
-    by_cases (inr k) = let g : d * b ≤ q * b = mul-le-mul_right b k in absurd (omega arith)
+below_turn q d b r n e h = grind (arith, cases_lt, mul-le-mul_right)
 
 -- the delay of a byte, in turns: its branch's width
 pub in_turns : (b m r : ℕ) → b * m * r ≡ m * r * b
@@ -146,29 +113,24 @@ in_turns b m r = grind arith
 
 -- whatever the widths are: the byte whose source has come
 pub come_by : (b d : ℕ) (w : ℕ → ℕ) (v : Branching) (x : List ℕ) (n : ℕ) → HasWidths b w v → v.next ≡ 0 → n < length x
-    → d ≡ w (n % b) * b → d ≤ n
-    → get_or (leaving_all b v x) n 0 ≡ get_or x (n - d) 0
+    → d ≡ w (n % b) * b → d ≤ n → get_or (leaving_all b v x) n 0 ≡ get_or x (n - d) 0
 come_by b d w v x n s z l t h =
     let p : 0 < b = omega (arith, s.next) in
-    let e : n ≡ n / b * b + n % b = sym (div-add-mod' n b) in
-    let k : w (n % b) ≤ n / b = turns_least (n / b) (w (n % b)) b (n % b) (omega (arith, h, t, e)) (mod_below n b p) in
-    aligned_gives b w v x p s z n l ∙ stream_come b w v x (n % b) (n / b) k
-    ∙ ap (λ i. get_or x i 0) (minus b (n / b) (w (n % b)) (n % b) n e k ∙ ap (λ i. n - i) (sym t))
+    let k : w (n % b) ≤ n / b = turns_least (n / b) (w (n % b)) b (n % b) (omega (arith, h, t)) (mod_below n b p) in
+    aligned_gives b w v x p s z n l ∙ stream_come b w v x (n % b) (n / b) k ∙ ap (λ i. get_or x i 0)
+    (minus b (n / b) (w (n % b)) (n % b) n (sym (div-add-mod' n b)) k ∙ ap (λ i. n - i) (sym t))
 
 pub held_turn_by : (b d : ℕ) (w : ℕ → ℕ) (n : ℕ) → d ≡ w (n % b) * b → n < d → n / b < w (n % b)
 held_turn_by b d w n t h = below_turn (n / b) (w (n % b)) b (n % b) n (sym (div-add-mod' n b)) (omega (arith, h, t))
 
 -- and the byte that a branch held
 pub held_by : (b d : ℕ) (w : ℕ → ℕ) (v : Branching) (x : List ℕ) (n : ℕ) → HasWidths b w v → v.next ≡ 0 → n < length x
-    → d ≡ w (n % b) * b → n < d
-    → get_or (leaving_all b v x) n 0 ≡ get_or (get_or v.lists (n % b) []) (n / b) 0
-held_by b d w v x n s z l t h =
-    aligned_gives b w v x (omega (arith, s.next)) s z n l
+    → d ≡ w (n % b) * b → n < d → get_or (leaving_all b v x) n 0 ≡ get_or (get_or v.lists (n % b) []) (n / b) 0
+held_by b d w v x n s z l t h = aligned_gives b w v x (omega (arith, s.next)) s z n l
     ∙ stream_held b w v x (n % b) (n / b) (held_turn_by b d w n t h)
 
 pub come_at : (b m : ℕ) (v : Branching) (x : List ℕ) (n : ℕ) → HasWidths b (spreading m) v → v.next ≡ 0 → n < length x
-    → b * m * (n % b) ≤ n
-    → get_or (leaving_all b v x) n 0 ≡ get_or x (n - b * m * (n % b)) 0
+    → b * m * (n % b) ≤ n → get_or (leaving_all b v x) n 0 ≡ get_or x (n - b * m * (n % b)) 0
 come_at b m v x n s z l h = come_by b (b * m * (n % b)) (spreading m) v x n s z l (in_turns b m (n % b)) h
 
 pub at_held : (b m : ℕ) (x : List ℕ) (n : ℕ) → n < b * m * (n % b) → interleaved_at b m x n ≡ 0
@@ -190,17 +152,14 @@ behind b m v x s z = record {
 
 pub behind_calls : (b m : ℕ) (v : Branching) (calls : List (List ℕ)) → HasWidths b (spreading m) v
     → IsInterleavedBehind b m v.lists (concat calls) (leaving_calls b (aligned v) calls)
-behind_calls b m v calls s =
-    rw (leaving_calls_is b (aligned v) calls)
+behind_calls b m v calls s = rw (leaving_calls_is b (aligned v) calls)
     (behind b m (aligned v) (concat calls) (HasWidths-aligned b (spreading m) v s) refl)
 
 -- ---- from zeros
 
 pub zeros_at : (b : ℕ) (w : ℕ → ℕ) (i k : ℕ) → i < b → k < w i → get_or (get_or (zeroed b w).lists i []) k 0 ≡ 0
 unfolding zeroed
-zeros_at b w i k l h =
-    ap (λ ys. get_or ys k 0) (get_or-map-range_with_len (λ i. replicate (w i) 0) 0 b i i [] l (omega arith))
-    ∙ get_or-replicate {A = ℕ} (w i) k 0 0 h
+zeros_at b w i k l h = grind (arith, get_or-map-range_with_len, get_or-replicate)
 
 pub next-zeroed : (b : ℕ) (w : ℕ → ℕ) → (zeroed b w).next ≡ 0
 unfolding zeroed
@@ -208,8 +167,7 @@ next-zeroed b w = refl
 
 pub zeros_move : (b : ℕ) (w d : ℕ → ℕ) (x : List ℕ) → 0 < b → ((r : ℕ) → d r ≡ w r * b)
     → leaving_all b (zeroed b w) x ≡ moved b d x
-zeros_move b w d x p t =
-    ext_get_or 0 (leaving_all b (zeroed b w) x) (moved b d x)
+zeros_move b w d x p t = ext_get_or 0 (leaving_all b (zeroed b w) x) (moved b d x)
     (length_leaving b (zeroed b w) x ∙ sym (length-moved b d x))
     (λ n l. by_cases n (omega (arith, l, length_leaving b (zeroed b w) x)) (cases_lt n (d (n % b))))
   where

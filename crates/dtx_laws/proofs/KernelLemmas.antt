@@ -1,6 +1,6 @@
 -- Whatever annuls the syndromes vanishes at each place of an error.
-use Rattle.std.proofs.Common.{◌≡◌, ◌≢◌, ℕ, zero, suc, ◌+◌, ◌-◌, ◌*◌, ◌<◌, ◌≤◌, ◌==◌, cond, Bool, true, false, List, []}
-use Rattle.std.proofs.Common.{◌∷◌, map, length, get_or, bit_xor, refl, sym, ap, ap₂, ◌∙◌, arith}
+use Rattle.std.proofs.Common.{◌≡◌, ◌≢◌, ℕ, zero, suc, ◌+◌, ◌-◌, ◌*◌, ◌<◌, ◌≤◌, ◌==◌, cond, Bool, true, false, List, ◌∷◌}
+use Rattle.std.proofs.Common.{map, length, get_or, bit_xor, refl, sym, ap, ap₂, ◌∙◌, arith, []}
 use Rattle.std.proofs.lemmas.Bool.{ne_eqb}
 use Rattle.std.specs.Int.Bits.{xor_zero_r, xor_lt}
 use Rattle.dtx_galois.specs.Field.{mul, pow, value, AreBytes}
@@ -23,28 +23,20 @@ zero_weighted (p ∷ ps) = (mul_zero p.0, zero_weighted ps)
 term : (d c x v i : ℕ) → mul (mul d (bit_xor c (mul x v))) (pow x i)
     ≡ bit_xor (mul c (mul d (pow x i))) (mul (mul d v) (pow x (suc i)))
 unfolding pow
-term d c x v i =
-    ap (λ (y : ℕ). mul y (pow x i)) (mul_right d c (mul x v)) ∙ mul_left (mul d c) (mul d (mul x v)) (pow x i)
-    ∙ ap₂ bit_xor
-    (mul_assoc d c (pow x i) ∙ mul_swap d c (pow x i))
-    (ap (λ (y : ℕ). mul y (pow x i)) (ap (mul d) (mul_comm x v) ∙ sym (mul_assoc d v x))
-    ∙ mul_assoc (mul d v) x (pow x i))
+term d c x v i = grind (arith, mul_right, mul_left, mul_assoc, mul_swap, mul_comm)
 
 moment_weighted : (c : ℕ) (cs : List ℕ) (i : ℕ) (ps : List (ℕ × ℕ))
     → moment i (weighted (c ∷ cs) ps) ≡ bit_xor (mul c (moment i ps)) (moment (suc i) (weighted cs ps))
 moment_weighted c cs i [] = sym (ap (λ (y : ℕ). bit_xor y 0) (mul_zero c))
-moment_weighted c cs i (p ∷ ps) =
-    ap₂ bit_xor (term p.0 c p.1 (low_value cs p.1) i) (moment_weighted c cs i ps)
+moment_weighted c cs i (p ∷ ps) = ap₂ bit_xor (term p.0 c p.1 (low_value cs p.1) i) (moment_weighted c cs i ps)
     ∙ xor_swap (mul c (mul p.0 (pow p.1 i))) (mul (mul p.0 (low_value cs p.1)) (pow p.1 (suc i))) (mul c (moment i ps))
-    (moment (suc i) (weighted cs ps))
-    ∙ ap (λ (y : ℕ). bit_xor y (moment (suc i) (weighted (cs) (p ∷ ps))))
+    (moment (suc i) (weighted cs ps)) ∙ ap (λ (y : ℕ). bit_xor y (moment (suc i) (weighted (cs) (p ∷ ps))))
     (sym (mul_right c (mul p.0 (pow p.1 i)) (moment i ps)))
 
 pub combination_is : (cs : List ℕ) (i : ℕ) (ps : List (ℕ × ℕ))
     → combination cs (λ j. moment j ps) i ≡ moment i (weighted cs ps)
 combination_is [] i ps = sym (moment_zero i (weighted [] ps) (zero_weighted ps))
-combination_is (c ∷ cs) i ps = ap (bit_xor (mul c (moment i ps))) (combination_is cs (suc i) ps)
-    ∙ sym (moment_weighted c cs i ps)
+combination_is (c ∷ cs) i ps = rw (combination_is cs (suc i) ps, ← moment_weighted c cs i ps)
 
 length_weighted : (cs : List ℕ) (ps : List (ℕ × ℕ)) → length (weighted cs ps) ≡ length ps
 length_weighted cs [] = refl
@@ -91,20 +83,13 @@ zero_at_place : (cs xs ys : List ℕ) → AreBytes cs → AreBytes xs → AreByt
     → (p : ℕ) → p < length xs → get_or xs p 0 ≢ get_or ys p 0 → low_value cs (pow 2 (length xs - 1 - p)) ≡ 0
 zero_at_place cs [] ys b bx by l z p m h = absurd (omega arith)
 zero_at_place cs (x ∷ xs) [] b bx by l z p m h = absurd (omega arith)
-zero_at_place cs (x ∷ xs) (y ∷ ys) b bx by l z zero m h =
-    let w : (((x == y) ≡ false → mul (bit_xor x y) (low_value cs (pow 2 (length xs))) ≡ 0)
-    × AreZero (weighted cs (differences xs ys))) = zero_by_test (x == y) x y (pow 2 (length xs)) cs
-    (differences xs ys) z in
-    ap (λ n. low_value cs (pow 2 n)) (omega arith)
+zero_at_place cs (x ∷ xs) (y ∷ ys) b bx by l z zero m h = ap (λ n. low_value cs (pow 2 n)) (omega arith)
     ∙ no_divisors (low_value cs (pow 2 (length xs))) (bit_xor x y) (low_value_small cs (pow 2 (length xs)) b)
-    (xor_lt 8 x y bx.0 by.0) (λ e. h (xor_zero x y e))
-    (mul_comm (low_value cs (pow 2 (length xs))) (bit_xor x y) ∙ w.0 (ne_eqb x y h))
-zero_at_place cs (x ∷ xs) (y ∷ ys) b bx by l z (suc p) m h =
-    let w : (((x == y) ≡ false → mul (bit_xor x y) (low_value cs (pow 2 (length xs))) ≡ 0)
-    × AreZero (weighted cs (differences xs ys))) = zero_by_test (x == y) x y (pow 2 (length xs)) cs
-    (differences xs ys) z in
-    ap (λ n. low_value cs (pow 2 n)) (omega arith)
-    ∙ zero_at_place cs xs ys b bx.1 by.1 (omega arith) w.1 p (omega arith) h
+    (xor_lt 8 x y bx.0 by.0) (λ e. h (xor_zero x y e)) (mul_comm (low_value cs (pow 2 (length xs))) (bit_xor x y)
+    ∙ (zero_by_test (x == y) x y (pow 2 (length xs)) cs (differences xs ys) z).0 (ne_eqb x y h))
+zero_at_place cs (x ∷ xs) (y ∷ ys) b bx by l z (suc p) m h = ap (λ n. low_value cs (pow 2 n)) (omega arith)
+    ∙ zero_at_place cs xs ys b bx.1 by.1 (omega arith)
+    (zero_by_test (x == y) x y (pow 2 (length xs)) cs (differences xs ys) z).1 p (omega arith) h
 
 -- Where a word has a correction, what annuls its syndromes vanishes at each place where the two differ.
 pub kernel : (n k t : ℕ) (word code locator : List ℕ) → n ≤ 255 → n - k ≡ 2 * t → AreBytes word → length word ≡ n

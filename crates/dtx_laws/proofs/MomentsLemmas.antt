@@ -1,6 +1,6 @@
 -- Sums of d * x ^ i over pairs (d, x), and that they tell the d's.
-use Rattle.std.proofs.Common.{◌≡◌, ◌≢◌, ℕ, zero, suc, ◌<◌, ◌≤◌, List, [], ◌∷◌, map, length, bit_xor, refl, sym, ap, ap₂}
-use Rattle.std.proofs.Common.{◌∙◌, arith}
+use Rattle.std.proofs.Common.{◌≡◌, ◌≢◌, ℕ, zero, suc, ◌<◌, ◌≤◌, List, ◌∷◌, map, length, bit_xor, refl, sym, ap, ap₂}
+use Rattle.std.proofs.Common.{◌∙◌, arith, []}
 use Rattle.std.specs.List.{AllByRecursion}
 use Rattle.std.specs.Int.Bits.{xor_self, xor_zero_r, xor_lt}
 use Rattle.dtx_galois.specs.Field.{mul, pow}
@@ -21,19 +21,14 @@ cancelled y ps = map (λ p. (mul p.0 (bit_xor p.1 y), p.1)) ps
 cancelled_term : (d x y i : ℕ)
     → mul (mul d (bit_xor x y)) (pow x i) ≡ bit_xor (mul d (pow x (suc i))) (mul y (mul d (pow x i)))
 unfolding pow
-cancelled_term d x y i =
-    mul_assoc d (bit_xor x y) (pow x i) ∙ ap (mul d) (mul_left x y (pow x i))
-    ∙ mul_right d (mul x (pow x i)) (mul y (pow x i))
-    ∙ ap (bit_xor (mul d (mul x (pow x i)))) (mul_swap d y (pow x i))
+cancelled_term d x y i = grind (arith, mul_assoc, mul_left, mul_right, mul_swap)
 
 pub moment_cancelled : (y i : ℕ) (ps : List (ℕ × ℕ))
     → moment i (cancelled y ps) ≡ bit_xor (moment (suc i) ps) (mul y (moment i ps))
 moment_cancelled y i [] = sym (mul_zero y)
-moment_cancelled y i (p ∷ ps) =
-    ap₂ bit_xor (cancelled_term p.0 p.1 y i) (moment_cancelled y i ps)
+moment_cancelled y i (p ∷ ps) = ap₂ bit_xor (cancelled_term p.0 p.1 y i) (moment_cancelled y i ps)
     ∙ xor_swap (mul p.0 (pow p.1 (suc i))) (mul y (mul p.0 (pow p.1 i))) (moment (suc i) ps) (mul y (moment i ps))
-    ∙ ap (bit_xor (bit_xor (mul p.0 (pow p.1 (suc i))) (moment (suc i) ps)))
-    (sym (mul_right y (mul p.0 (pow p.1 i)) (moment i ps)))
+    ∙ ap (bit_xor (bit_xor (mul p.0 (pow p.1 (suc i))) (moment (suc i) ps))) (sym (grind (arith, mul_right)))
 
 -- the pairs are of bytes, with different x's
 abbrev pub ArePairs : List (ℕ × ℕ) → Type 0
@@ -80,19 +75,16 @@ zero_from_cancelled y (p ∷ ps) l b h z = (
 
 -- the first pair's own term is cancelled
 own_term : (d x i : ℕ) → mul (mul d (bit_xor x x)) (pow x i) ≡ 0
-own_term d x i = ap (λ (y : ℕ). mul (mul d y) (pow x i)) (xor_self x) ∙ ap (λ (y : ℕ). mul y (pow x i)) (mul_zero d)
-    ∙ zero_mul (pow x i)
+own_term d x i = rw (xor_self x, mul_zero d, zero_mul (pow x i))
 
 rest_moment : (p : ℕ × ℕ) (ps : List (ℕ × ℕ)) (i : ℕ) → moment (suc i) (p ∷ ps) ≡ 0 → moment i (p ∷ ps) ≡ 0
     → moment i (cancelled p.1 ps) ≡ 0
-rest_moment p ps i e f =
-    sym (ap (λ (x : ℕ). bit_xor x (moment i (cancelled p.1 ps))) (own_term p.0 p.1 i))
+rest_moment p ps i e f = sym (ap (λ (x : ℕ). bit_xor x (moment i (cancelled p.1 ps))) (own_term p.0 p.1 i))
     ∙ moment_cancelled p.1 i (p ∷ ps) ∙ ap₂ bit_xor e (ap (mul p.1) f ∙ mul_zero p.1)
 
 first_zero : (p : ℕ × ℕ) (ps : List (ℕ × ℕ)) → p.0 < 256 → AreZero ps → moment 0 (p ∷ ps) ≡ 0 → p.0 ≡ 0
 unfolding pow
-first_zero p ps l z e =
-    sym (mul_comm p.0 1 ∙ mul_one p.0 l) ∙ sym (xor_zero_r (mul p.0 1))
+first_zero p ps l z e = sym (mul_comm p.0 1 ∙ mul_one p.0 l) ∙ sym (xor_zero_r (mul p.0 1))
     ∙ ap (bit_xor (mul p.0 1)) (sym (moment_zero 0 ps z)) ∙ e
 
 -- Where the first n sums of n pairs with different x's are 0, so is each d.
@@ -101,9 +93,7 @@ pub all_zero : (n : ℕ) (ps : List (ℕ × ℕ)) → length ps ≤ n → ArePai
 all_zero n [] l b a m = tt
 all_zero zero (p ∷ ps) l b a m = absurd (omega arith)
 all_zero (suc n) (p ∷ ps) l b a m =
-    let rest : AreZero ps =
-    zero_from_cancelled p.1 ps b.0.1 b.1 a.0
+    let rest : AreZero ps = zero_from_cancelled p.1 ps b.0.1 b.1 a.0
     (all_zero n (cancelled p.1 ps) (omega (arith, length_cancelled p.1 ps)) (pairs_cancelled p.1 ps b.1)
-    (apart_cancelled p.1 ps a.1)
-    (λ i k. rest_moment p ps i (m (suc i) (omega arith)) (m i (omega arith)))) in
+    (apart_cancelled p.1 ps a.1) (λ i k. rest_moment p ps i (m (suc i) (omega arith)) (m i (omega arith)))) in
     (first_zero p ps b.0.0 rest (m 0 (omega arith)), rest)

@@ -1,7 +1,7 @@
 -- The other marked places: their weight, and that a locator marks few.
 use Rattle.std.proofs.Common.{◌≡◌, ◌≢◌, ℕ, zero, suc, ◌-◌, ◌<◌, ◌≤◌, ◌⊎◌, ◌==◌, ◌&&◌, not, cond, Bool, true, false}
-use Rattle.std.proofs.Common.{List, [], ◌∷◌, ◌++◌, length, get_or, bit_xor, refl, sym, ap, ap₂, ◌∙◌, arith, inl}
-use Rattle.std.proofs.Common.{inr, add-one}
+use Rattle.std.proofs.Common.{List, ◌∷◌, ◌++◌, length, get_or, bit_xor, refl, sym, ap, ap₂, ◌∙◌, arith, inl, inr}
+use Rattle.std.proofs.Common.{add-one, []}
 use Rattle.std.proofs.lemmas.List.{length_push}
 use Rattle.std.proofs.lemmas.Bool.{eqb-true, eqb-false, ne_eqb, and_parts, not-true}
 use Rattle.std.specs.List.{AllByRecursion}
@@ -35,8 +35,7 @@ is_other mark p q t d = ap₂ (λ u v. u && not v) t (ne_eqb q p d)
 weight_cases : (n : ℕ) (mark : ℕ → Bool) (p q b : ℕ) (ys : List ℕ) → mark q ≡ true → (q ≡ p → ⊥) → (q ≡ b) ⊎ (q < b)
     → (q < b → weight (power_at n q) ys ≡ 0)
     → weight (power_at n q) (cond (mark b && not (b == p)) (power_at n b ∷ ys) ys) ≡ 0
-weight_cases n mark p q b ys t d (inl e) h =
-    rw (← e) (weight_own (power_at n q) ys (mark q && not (q == p)) (is_other mark p q t d))
+weight_cases n mark p q b ys t d (inl e) h = grind (arith, weight_own, is_other)
 weight_cases n mark p q b ys t d (inr m) h = weight_more (power_at n q) (power_at n b) ys (mark b && not (b == p)) (h m)
 
 -- a marked place among them makes the weight 0
@@ -56,9 +55,7 @@ differ_by i j l m (inr r) = λ e. powers_differ j i r l (sym e)
 
 places_differ : (n p q : ℕ) → n ≤ 255 → p < n → q < n → (p ≡ q → ⊥) → power_at n p ≢ power_at n q
 unfolding power_at
-places_differ n p q l a b d =
-    differ_by (n - 1 - p) (n - 1 - q) (omega arith) (omega arith)
-    (place_cases (n - 1 - p) (n - 1 - q) (λ e. d (omega arith)))
+places_differ n p q l a b d = grind (arith, differ_by, place_cases)
 
 power_small : (n p : ℕ) → power_at n p < 256
 unfolding power_at
@@ -89,8 +86,7 @@ weight_not_zero n mark p zero l a r = unfold weight in λ e. one_not_zero e
     one_not_zero e = omega arith
 weight_not_zero n mark p (suc b) l a r =
     weight_step (power_at n p) (power_at n b) (others n mark p b) (mark b && not (b == p)) (power_small n p)
-    (power_small n b)
-    (λ t. places_differ n p b l a (omega arith) (not_same mark p b t)) (weight_not_zero n mark p b l a (omega arith))
+    (power_small n b) (λ t. grind (arith, places_differ, not_same)) (weight_not_zero n mark p b l a (omega arith))
 
 -- ---- there are few of them
 
@@ -103,10 +99,8 @@ all_others : (P : ℕ → Type 0) (n : ℕ) (mark : ℕ → Bool) (p b : ℕ) �
     → AllByRecursion P (others n mark p b)
 unfolding others
 all_others P n mark p zero h = tt
-all_others P n mark p (suc b) h =
-    all_step P (power_at n b) (others n mark p b) (mark b && not (b == p))
-    (λ t. h b (omega arith) (and_parts (mark b) (not (b == p)) t).0)
-    (all_others P n mark p b (λ q l t. h q (omega arith) t))
+all_others P n mark p (suc b) h = all_step P (power_at n b) (others n mark p b) (mark b && not (b == p))
+    (λ t. grind (arith, and_parts)) (all_others P n mark p b (λ q l t. h q (omega arith) t))
 
 different_step : (x : ℕ) (xs : List ℕ) (u : Bool) → AllByRecursion (λ z. z ≢ x) xs → AreDifferent xs
     → AreDifferent (cond u (x ∷ xs) xs)
@@ -116,10 +110,8 @@ different_step x xs false h r = r
 different_others : (n : ℕ) (mark : ℕ → Bool) (p b : ℕ) → n ≤ 255 → b ≤ n → AreDifferent (others n mark p b)
 unfolding others
 different_others n mark p zero l r = tt
-different_others n mark p (suc b) l r =
-    different_step (power_at n b) (others n mark p b) (mark b && not (b == p))
-    (all_others (λ z. z ≢ power_at n b) n mark p b
-    (λ q m t. places_differ n q b l (omega arith) (omega arith) (λ e. omega arith)))
+different_others n mark p (suc b) l r = different_step (power_at n b) (others n mark p b) (mark b && not (b == p))
+    (all_others (λ z. z ≢ power_at n b) n mark p b (λ q m t. grind (arith, places_differ)))
     (different_others n mark p b l (omega arith))
 
 -- the highest coefficient first
@@ -155,14 +147,11 @@ zero_turned (c ∷ cs) (suc k) z = zero_turned cs k (all_parts (λ y. y ≡ 0) (
 -- a locator that isn't 0 vanishes at fewer places than it has coefficients
 pub few_others : (n p j : ℕ) (locator : List ℕ) → n ≤ 255 → AreBytes locator → get_or locator j 0 ≢ 0
     → length (others n (vanishes_at n locator) p n) < length locator
-few_others n p j locator l b h =
-    omega (
-      arith,
-      length_turned locator,
-      fewer_roots (turned locator) (others n (vanishes_at n locator) p n) (bytes_turned locator b)
-          (all_others (λ z. z < 256) n (vanishes_at n locator) p n (λ q r t. power_small n q))
-          (different_others n (vanishes_at n locator) p n l (omega arith))
-          (all_others (λ z. value (turned locator) z ≡ 0) n (vanishes_at n locator) p n
-          (λ q r t. sym (low_value_is locator (power_at n q) b) ∙ eqb-true (low_value locator (power_at n q)) 0 t))
-          (λ z. h (zero_turned locator j z)),
-    )
+few_others n p j locator l b h = omega (
+  arith,
+  length_turned locator,
+  fewer_roots (turned locator) (others n (vanishes_at n locator) p n) (bytes_turned locator b)
+      (all_others (λ z. z < 256) n (vanishes_at n locator) p n (λ q r t. power_small n q))
+      (grind (arith, different_others)) (all_others (λ z. value (turned locator) z ≡ 0) n (vanishes_at n locator) p n
+      (λ q r t. grind (arith, low_value_is, eqb-true))) (λ z. h (zero_turned locator j z)),
+)

@@ -1,7 +1,7 @@
 -- Two words as pairs of the difference at each place and the power of α there, and the sums that single one of them
 -- out.
-use Rattle.std.proofs.Common.{◌≡◌, ℕ, zero, suc, ◌+◌, ◌-◌, ◌<◌, List, [], ◌∷◌, map, length, get_or, bit_xor, refl, sym}
-use Rattle.std.proofs.Common.{ap, ap₂, ◌∙◌, arith}
+use Rattle.std.proofs.Common.{◌≡◌, ℕ, zero, suc, ◌+◌, ◌-◌, ◌<◌, List, ◌∷◌, map, length, get_or, bit_xor, refl, sym, ap}
+use Rattle.std.proofs.Common.{ap₂, ◌∙◌, arith, []}
 use Rattle.std.specs.Int.Bits.{xor_zero_r}
 use Rattle.dtx_galois.specs.Field.{mul, pow, value}
 use Rattle.dtx_galois.proofs.LinearLemmas.{mul_left, xor_swap}
@@ -23,11 +23,7 @@ moment_pairs i [] [] l = refl
 moment_pairs i [] (y ∷ ys) l = absurd (omega arith)
 moment_pairs i (x ∷ xs) [] l = absurd (omega arith)
 moment_pairs i (x ∷ xs) (y ∷ ys) l =
-    let m : length xs ≡ length ys = omega arith in
-    ap₂ bit_xor
-    (ap (mul (bit_xor x y)) (pow_swap 2 (length xs) i) ∙ mul_left x y (pow (pow 2 i) (length xs))
-    ∙ ap (λ n. bit_xor (mul x (pow (pow 2 i) (length xs))) (mul y (pow (pow 2 i) n))) m)
-    (moment_pairs i xs ys m)
+    ap₂ bit_xor (grind (arith, pow_swap, mul_left)) (moment_pairs i xs ys (omega arith))
     ∙ xor_swap (mul x (pow (pow 2 i) (length xs))) (mul y (pow (pow 2 i) (length ys))) (value xs (pow 2 i))
     (value ys (pow 2 i))
 
@@ -54,8 +50,7 @@ pub without_is : (ys : List ℕ) (s : ℕ → ℕ) (i m : ℕ) (ps : List (ℕ �
     → i + length ys < m → without ys s i ≡ moment i (weighed ys ps)
 unfolding without
 without_is [] s i m ps h l = h i (omega arith) ∙ sym (moment_weighed_none i ps (λ p. 0))
-without_is (y ∷ ys) s i m ps h l =
-    ap₂ (λ (a b : ℕ). bit_xor a (mul y b)) (without_is ys s (suc i) m ps h (omega arith))
+without_is (y ∷ ys) s i m ps h l = ap₂ (λ (a b : ℕ). bit_xor a (mul y b)) (without_is ys s (suc i) m ps h (omega arith))
     (without_is ys s i m ps h (omega arith))
     ∙ sym (moment_cancelled y i (weighed ys ps)) ∙ ap (moment i) (weighed_more y ys ps)
 
@@ -70,8 +65,7 @@ all_none f [] cs l h = tt
 all_none f (x ∷ xs) [] l h = tt
 all_none f (x ∷ xs) (c ∷ cs) l h = (
   ap (λ n. mul (bit_xor x c) (f (pow 2 n))) (last (length xs)) ∙ h 0 (omega arith),
-  all_none f xs cs (omega arith) (λ q r. ap (λ n. mul (bit_xor (get_or xs q 0) (get_or cs q 0)) (f (pow 2 n)))
-      (inner (length xs) q) ∙ h (suc q) (omega arith)),
+  all_none f xs cs (omega arith) (λ q r. grind (arith, inner)),
 )
   where
     last : (n : ℕ) → n ≡ suc n - 1 - 0
@@ -87,9 +81,7 @@ pub only : (f : ℕ → ℕ) (xs cs : List ℕ) (p : ℕ) → length xs ≡ leng
 unfolding pow
 only f [] cs p l m h = absurd (omega arith)
 only f (x ∷ xs) [] p l m h = absurd (omega arith)
-only f (x ∷ xs) (c ∷ cs) zero l m h =
-    ap₂ bit_xor (one_last (bit_xor x c) (f (pow 2 (length xs)))
-    ∙ ap (λ n. mul (bit_xor x c) (f (pow 2 n))) (omega arith))
+only f (x ∷ xs) (c ∷ cs) zero l m h = ap₂ bit_xor (grind (arith, one_last))
     (moment_zero 0 (by f (pairs xs cs)) (all_none f xs cs (omega arith)
     (λ q r. ap (λ n. mul (bit_xor (get_or xs q 0) (get_or cs q 0)) (f (pow 2 n))) (omega arith)
     ∙ h (suc q) (omega arith) (λ e. omega (arith, sym e)))))
@@ -97,11 +89,9 @@ only f (x ∷ xs) (c ∷ cs) zero l m h =
   where
     one_last : (d v : ℕ) → mul (mul d v) 1 ≡ mul d v
     one_last d v = mul_comm (mul d v) 1 ∙ mul_one (mul d v) (mul_small d v)
-only f (x ∷ xs) (c ∷ cs) (suc p) l m h =
-    ap₂ bit_xor
+only f (x ∷ xs) (c ∷ cs) (suc p) l m h = ap₂ bit_xor
     (ap (λ (y : ℕ). mul y 1) (ap (λ n. mul (bit_xor x c) (f (pow 2 n))) (omega arith)
-    ∙ h 0 (omega arith) (λ e. omega arith)) ∙ zero_mul 1)
-    (only f xs cs p (omega arith) (omega arith)
+    ∙ h 0 (omega arith) (λ e. omega arith)) ∙ zero_mul 1) (only f xs cs p (omega arith) (omega arith)
     (λ q r d. ap (λ n. mul (bit_xor (get_or xs q 0) (get_or cs q 0)) (f (pow 2 n))) (omega arith)
     ∙ h (suc q) (omega arith) (λ e. d (omega arith))))
     ∙ ap (λ n. mul (bit_xor (get_or xs p 0) (get_or cs p 0)) (f (pow 2 n))) (omega arith)

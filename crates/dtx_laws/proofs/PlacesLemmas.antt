@@ -1,6 +1,6 @@
 -- What leaves the branches, by its place.
-use Rattle.std.proofs.Common.{◌≡◌, ◌≢◌, ℕ, zero, suc, ◌+◌, ◌-◌, ◌*◌, ◌/◌, ◌%◌, ◌<◌, ◌≤◌, ◌⊎◌, ◌==◌, cond, Bool, true}
-use Rattle.std.proofs.Common.{false, List, [], ◌∷◌, ◌++◌, length, get_or, set, drop, refl, sym, ap, ◌∙◌, subst, arith}
+use Rattle.std.proofs.Common.{[], ◌≡◌, ◌≢◌, ℕ, zero, suc, ◌+◌, ◌-◌, ◌*◌, ◌/◌, ◌%◌, ◌<◌, ◌≤◌, ◌⊎◌, ◌==◌, cond, Bool}
+use Rattle.std.proofs.Common.{true, false, List, ◌∷◌, ◌++◌, length, get_or, set, drop, refl, sym, ap, ◌∙◌, subst, arith}
 use Rattle.std.proofs.Common.{inl, inr, add-zero, nat_lt, div-add-mod', subst₂}
 use Rattle.std.proofs.lemmas.Bool.{cases_lt, cases_eq, eqb-true, eqb-false, cond-true, cond-false, lt-ltb, le-ltb}
 use Rattle.std.proofs.lemmas.List.{length-set, length-drop, length_push, get_or-set_same, get_or-set_other}
@@ -21,28 +21,18 @@ cases_zero n = grind arith
 
 -- the byte that leaves
 pub leaving_is : (b : ℕ) (w : ℕ → ℕ) (e : ℕ → ℕ → ℕ) (q r : ℕ) (lists : List (List ℕ)) (byte : ℕ)
-    → Holds b w e q r lists → r < b → byte ≡ e r (q + w r)
-    → get_or (get_or lists r [] ++ byte ∷ []) 0 0 ≡ e r q
-leaving_is b w e q r lists byte h l c = by_cases (cases_zero (w r))
-  where
-    by_cases : (w r ≡ 0) ⊎ (0 < w r) → get_or (get_or lists r [] ++ byte ∷ []) 0 0 ≡ e r q
-    by_cases (inl z) = get_or_push (get_or lists r []) byte 0 0 (h.long r l ∙ z) ∙ c
-        ∙ ap (e r) (ap (λ n. q + n) z ∙ add-zero q)
-    by_cases (inr p) = get_or_append_left (get_or lists r []) (byte ∷ []) 0 0 (omega (arith, h.long r l))
-        ∙ h.late r 0 (omega arith) l p ∙ ap (e r) (add-zero q)
+    → Holds b w e q r lists → r < b → byte ≡ e r (q + w r) → get_or (get_or lists r [] ++ byte ∷ []) 0 0 ≡ e r q
+leaving_is b w e q r lists byte h l c = grind (arith, cases_zero, get_or_push, add-zero, get_or_append_left)
 
 -- byte j of the list that has moved on
 moved_is : (b : ℕ) (w : ℕ → ℕ) (e : ℕ → ℕ → ℕ) (q r j : ℕ) (lists : List (List ℕ)) (byte : ℕ) → Holds b w e q r lists
-    → r < b → byte ≡ e r (q + w r) → j < w r
-    → get_or (drop 1 (get_or lists r [] ++ byte ∷ [])) j 0 ≡ e r (q + 1 + j)
+    → r < b → byte ≡ e r (q + w r) → j < w r → get_or (drop 1 (get_or lists r [] ++ byte ∷ [])) j 0 ≡ e r (q + 1 + j)
 moved_is b w e q r j lists byte h l c k = get_or-drop 1 (get_or lists r [] ++ byte ∷ []) j 0
     ∙ by_cases (cases_lt (1 + j) (w r))
   where
     by_cases : (1 + j < w r) ⊎ (w r ≤ 1 + j) → get_or (get_or lists r [] ++ byte ∷ []) (1 + j) 0 ≡ e r (q + 1 + j)
-    by_cases (inl p) = get_or_append_left (get_or lists r []) (byte ∷ []) 0 (1 + j) (omega (arith, h.long r l))
-        ∙ h.late r (1 + j) (omega arith) l p ∙ ap (e r) (omega arith)
-    by_cases (inr p) = get_or_push (get_or lists r []) byte 0 (1 + j) (omega (arith, h.long r l)) ∙ c
-        ∙ ap (e r) (omega arith)
+    by_cases (inl p) = grind (arith, get_or_append_left)
+    by_cases (inr p) = grind (arith, get_or_push)
 
 pub length_moved : (xs : List ℕ) (y : ℕ) → length (drop 1 (xs ++ y ∷ [])) ≡ length xs
 length_moved xs y = length-drop 1 (xs ++ y ∷ []) ∙ omega (arith, length_push xs y)
@@ -53,7 +43,11 @@ pub Holds-step : (b : ℕ) (w : ℕ → ℕ) (e : ℕ → ℕ → ℕ) (q r : �
     → Holds b w e q (suc r) (set lists r (drop 1 (get_or lists r [] ++ byte ∷ [])))
 Holds-step b w e q r lists byte h l c = record {
   count = length-set lists r (drop 1 (get_or lists r [] ++ byte ∷ [])) ∙ h.count;
-  long = λ i p. long_cases i p (cases_eq i r);
+  long = λ i p. elim (cases_eq i r) [
+    | inl s ↦ rw s (ap length (get_or-set_same lists r (drop 1 (get_or lists r [] ++ byte ∷ [])) [] within)
+        ∙ length_moved (get_or lists r []) byte ∙ h.long r l)
+    | inr s ↦ ap length (get_or-set_other lists r i (drop 1 (get_or lists r [] ++ byte ∷ [])) [] s) ∙ h.long i p
+  ];
   early = λ i j p k. early_cases i j p k (cases_eq i r);
   late = λ i j p o k. ap (λ (ys : List ℕ). get_or ys j 0)
       (get_or-set_other lists r i (drop 1 (get_or lists r [] ++ byte ∷ [])) [] (other i p))
@@ -66,23 +60,12 @@ Holds-step b w e q r lists byte h l c = record {
     other : (i : ℕ) → suc r ≤ i → i ≢ r
     other i p = omega arith
 
-    long_cases : (i : ℕ) → i < b → (i ≡ r) ⊎ (i ≡ r → ⊥)
-        → length (get_or (set lists r (drop 1 (get_or lists r [] ++ byte ∷ []))) i []) ≡ w i
-    long_cases i p (inl s) =
-        rw s (ap length (get_or-set_same lists r (drop 1 (get_or lists r [] ++ byte ∷ [])) [] within)
-        ∙ length_moved (get_or lists r []) byte ∙ h.long r l)
-    long_cases i p (inr s) = ap length (get_or-set_other lists r i (drop 1 (get_or lists r [] ++ byte ∷ [])) [] s)
-        ∙ h.long i p
-
     early_cases : (i j : ℕ) → i < suc r → j < w i → (i ≡ r) ⊎ (i ≡ r → ⊥)
         → get_or (get_or (set lists r (drop 1 (get_or lists r [] ++ byte ∷ []))) i []) j 0 ≡ e i (q + 1 + j)
-    early_cases i j p k (inl s) =
-        rw s (ap (λ (ys : List ℕ). get_or ys j 0) (get_or-set_same lists r
+    early_cases i j p k (inl s) = rw s (ap (λ (ys : List ℕ). get_or ys j 0) (get_or-set_same lists r
         (drop 1 (get_or lists r [] ++ byte ∷ [])) [] within)
         ∙ moved_is b w e q r j lists byte h l c (subst (λ (n : ℕ). j < w n) s k))
-    early_cases i j p k (inr s) =
-        ap (λ (ys : List ℕ). get_or ys j 0) (get_or-set_other lists r i (drop 1 (get_or lists r [] ++ byte ∷ [])) [] s)
-        ∙ h.early i j (omega arith) k
+    early_cases i j p k (inr s) = grind (arith, get_or-set_other)
 
 -- after a whole turn
 pub Holds-turn : (b : ℕ) (w : ℕ → ℕ) (e : ℕ → ℕ → ℕ) (q : ℕ) (lists : List (List ℕ)) → Holds b w e q b lists
@@ -103,25 +86,16 @@ Holds-next b w e q r lists false f h = subst (λ (n : ℕ). Holds b w e q n list
 -- the turn and the byte of the next place
 next_place : (b q r : ℕ) → 0 < b → r < b → (t : Bool) → (t ≡ true → r + 1 ≡ b) → (t ≡ false → r + 1 ≡ b → ⊥)
     → ((q * b + r + 1) / b ≡ cond t (q + 1) q) × ((q * b + r + 1) % b ≡ cond t 0 (r + 1))
-next_place b q r p l true f g = (
-  ap (λ n. n / b) (whole f) ∙ div-mul-add (q + 1) b 0 p,
-  ap (λ n. n % b) (whole f)
-      ∙ mod-mul-add (q + 1) b 0 p,
-)
+next_place b q r p l true f g = (grind (arith, whole, div-mul-add, mod-mul-add))
   where
     whole : (true ≡ true → r + 1 ≡ b) → q * b + r + 1 ≡ (q + 1) * b + 0
     whole f = let e : r + 1 ≡ b = f refl in grind arith
-next_place b q r p l false f g = (
-  ap (λ n. n / b) assoc ∙ div-mul-add q b (r + 1) less,
-  ap (λ n. n % b) assoc
-      ∙ mod-mul-add q b (r + 1) less,
-)
-  where
-    assoc : q * b + r + 1 ≡ q * b + (r + 1)
-    assoc = omega arith
-
-    less : r + 1 < b
-    less = let h : r + 1 ≡ b → ⊥ = g refl in omega arith
+next_place b q r p l false f g =
+    let assoc : q * b + r + 1 ≡ q * b + (r + 1) = omega arith in
+    let less : r + 1 < b = let h : r + 1 ≡ b → ⊥ = g refl in omega arith in (
+      ap (λ n. n / b) assoc ∙ div-mul-add q b (r + 1) less,
+      ap (λ n. n % b) assoc ∙ mod-mul-add q b (r + 1) less,
+    )
 
 abbrev pub Stands : ℕ → (ℕ → ℕ) → (ℕ → ℕ → ℕ) → ℕ → Branching → Type 0
 Stands b w e n v = (v.next ≡ n % b) × Holds b w e (n / b) (n % b) v.lists
@@ -148,29 +122,22 @@ pub Stands-all : (b : ℕ) (w : ℕ → ℕ) (e : ℕ → ℕ → ℕ) (n : ℕ)
 unfolding after_all
 Stands-all b w e n v [] p s c = subst (λ (k : ℕ). Stands b w e k v) (sym (add-zero n)) s
 Stands-all b w e n v (x ∷ xs) p s c =
-    let a : x ≡ e (n % b) (n / b + w (n % b)) = c 0 (omega arith)
-    ∙ ap (λ i. e (i % b) (i / b + w (i % b))) (add-zero n) in
     subst (λ (k : ℕ). Stands b w e k (after_all b (after_byte b v x) xs)) (sym (omega arith))
-    (Stands-all b w e (n + 1) (after_byte b v x) xs p (Stands-next b w e n v x p s a)
+    (Stands-all b w e (n + 1) (after_byte b v x) xs p (Stands-next b w e n v x p s (rw (c 0 (omega arith), add-zero n)))
     (λ j m. c (suc j) (omega arith) ∙ ap (λ i. e (i % b) (i / b + w (i % b))) (omega arith)))
 
 -- each byte that leaves
 pub leaving_all_is : (b : ℕ) (w : ℕ → ℕ) (e : ℕ → ℕ → ℕ) (n : ℕ) (v : Branching) (xs : List ℕ) → 0 < b
-    → Stands b w e n v
-    → ((k : ℕ) → k < length xs → get_or xs k 0 ≡ e ((n + k) % b) ((n + k) / b + w ((n + k) % b)))
+    → Stands b w e n v → ((k : ℕ) → k < length xs → get_or xs k 0 ≡ e ((n + k) % b) ((n + k) / b + w ((n + k) % b)))
     → (k : ℕ) → k < length xs → get_or (leaving_all b v xs) k 0 ≡ e ((n + k) % b) ((n + k) / b)
 unfolding leaving_all
 leaving_all_is b w e n v [] p s c k l = absurd (omega arith)
-leaving_all_is b w e n v (x ∷ xs) p s c zero l =
-    let a : x ≡ e (n % b) (n / b + w (n % b)) = c 0 (omega arith)
-    ∙ ap (λ i. e (i % b) (i / b + w (i % b))) (add-zero n) in
-    ap (λ i. get_or (get_or v.lists i [] ++ x ∷ []) 0 0) s.0
-    ∙ leaving_is b w e (n / b) (n % b) v.lists x s.1 (mod_below n b p) a
+leaving_all_is b w e n v (x ∷ xs) p s c zero l = ap (λ i. get_or (get_or v.lists i [] ++ x ∷ []) 0 0) s.0
+    ∙ leaving_is b w e (n / b) (n % b) v.lists x s.1 (mod_below n b p)
+    (c 0 (omega arith) ∙ ap (λ i. e (i % b) (i / b + w (i % b))) (add-zero n))
     ∙ ap (λ i. e (i % b) (i / b)) (sym (add-zero n))
-leaving_all_is b w e n v (x ∷ xs) p s c (suc k) l =
-    let a : x ≡ e (n % b) (n / b + w (n % b)) = c 0 (omega arith)
-    ∙ ap (λ i. e (i % b) (i / b + w (i % b))) (add-zero n) in
-    leaving_all_is b w e (n + 1) (after_byte b v x) xs p (Stands-next b w e n v x p s a)
+leaving_all_is b w e n v (x ∷ xs) p s c (suc k) l = leaving_all_is b w e (n + 1) (after_byte b v x) xs p
+    (Stands-next b w e n v x p s (c 0 (omega arith) ∙ ap (λ i. e (i % b) (i / b + w (i % b))) (add-zero n)))
     (λ j m'. c (suc j) (omega arith) ∙ ap (λ i. e (i % b) (i / b + w (i % b))) (omega arith)) k (omega arith)
     ∙ ap (λ i. e (i % b) (i / b)) (sym (omega arith))
 
@@ -198,11 +165,7 @@ aligned_holds b w v x s = record {
 arrives : (b : ℕ) (w : ℕ → ℕ) (v : Branching) (x : List ℕ) (n : ℕ)
     → get_or x n 0 ≡ stream b w v x (n % b) (n / b + w (n % b))
 unfolding stream
-arrives b w v x n =
-    ap (λ i. get_or x i 0) (sym (div-add-mod' n b) ∙ ap (λ q. q * b + n % b) (omega arith))
-    ∙ sym (cond-false (nat_lt (n / b + w (n % b)) (w (n % b)))
-    (get_or (get_or v.lists (n % b) []) (n / b + w (n % b)) 0)
-    (get_or x ((n / b + w (n % b) - w (n % b)) * b + n % b) 0) (le-ltb (n / b + w (n % b)) (w (n % b)) (omega arith)))
+arrives b w v x n = grind (arith, div-add-mod', cond-false, le-ltb)
 
 zero_div : (b : ℕ) → 0 < b → (0 ≡ 0 / b) × (0 ≡ 0 % b)
 zero_div b p = (omega arith, omega arith)
@@ -210,26 +173,23 @@ zero_div b p = (omega arith, omega arith)
 -- from an aligned value, whatever it held
 pub aligned_gives : (b : ℕ) (w : ℕ → ℕ) (v : Branching) (xs : List ℕ) → 0 < b → HasWidths b w v → v.next ≡ 0
     → (n : ℕ) → n < length xs → get_or (leaving_all b v xs) n 0 ≡ stream b w v xs (n % b) (n / b)
-aligned_gives b w v xs p s a n l =
-    let z : (0 ≡ 0 / b) × (0 ≡ 0 % b) = zero_div b p in
-    leaving_all_is b w (stream b w v xs) 0 v xs p
-    (a ∙ z.1, subst₂ (λ (q r : ℕ). Holds b w (stream b w v xs) q r v.lists) z.0 z.1 (aligned_holds b w v xs s))
-    (λ j i. ap (λ (x : ℕ). get_or xs x 0) (omega arith) ∙ arrives b w v xs (0 + j)) n l
-    ∙ ap (λ i. stream b w v xs (i % b) (i / b)) (sym (omega arith))
+aligned_gives b w v xs p s a n l = leaving_all_is b w (stream b w v xs) 0 v xs p (
+  a ∙ (zero_div b p).1,
+  subst₂ (λ (q r : ℕ). Holds b w (stream b w v xs) q r v.lists) (zero_div b p).0
+      (zero_div b p).1 (aligned_holds b w v xs s),
+) (λ j i. grind (arith, arrives)) n l ∙ ap (λ i. stream b w v xs (i % b) (i / b)) (sym (omega arith))
 
 -- where its source has come
 pub stream_come : (b : ℕ) (w : ℕ → ℕ) (v : Branching) (x : List ℕ) (i k : ℕ) → w i ≤ k
     → stream b w v x i k ≡ get_or x ((k - w i) * b + i) 0
 unfolding stream
-stream_come b w v x i k l =
-    cond-false (nat_lt k (w i)) (get_or (get_or v.lists i []) k 0) (get_or x ((k - w i) * b + i) 0) (le-ltb k (w i) l)
+stream_come b w v x i k l = grind (arith, cond-false, le-ltb)
 
 -- and where it has not
 pub stream_held : (b : ℕ) (w : ℕ → ℕ) (v : Branching) (x : List ℕ) (i k : ℕ) → k < w i
     → stream b w v x i k ≡ get_or (get_or v.lists i []) k 0
 unfolding stream
-stream_held b w v x i k l =
-    cond-true (nat_lt k (w i)) (get_or (get_or v.lists i []) k 0) (get_or x ((k - w i) * b + i) 0) (lt-ltb k (w i) l)
+stream_held b w v x i k l = grind (arith, cond-true, lt-ltb)
 
 pub length_leaving : (b : ℕ) (v : Branching) (xs : List ℕ) → length (leaving_all b v xs) ≡ length xs
 unfolding leaving_all

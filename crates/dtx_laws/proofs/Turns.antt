@@ -1,6 +1,6 @@
 -- One turn of the loop that cancels the other marked places.
-use Rattle.std.proofs.Common.{◌≡◌, ℕ, suc, ◌+◌, ◌<◌, ◌==◌, ◌&&◌, not, cond, Bool, true, false, List, ◌∷◌, length}
-use Rattle.std.proofs.Common.{get_or, bit_xor, sym, ap, ap₂, ◌∙◌, arith, add-one}
+use Rattle.std.proofs.Common.{◌≡◌, ℕ, ◌+◌, ◌<◌, ◌==◌, ◌&&◌, not, Bool, true, false, List, ◌∷◌, length, get_or, bit_xor}
+use Rattle.std.proofs.Common.{sym, ap, ◌∙◌, arith, add-one}
 use Rattle.dtx_galois.specs.Field.{mul, pow}
 use Rattle.dtx_laws.specs.Locator.{power_at}
 use Rattle.dtx_laws.specs.ErrorValues.{others, weight, without, error_at}
@@ -8,14 +8,12 @@ use Rattle.dtx_laws.specs.ErrorValues.{others, weight, without, error_at}
 others_yes : (n : ℕ) (mark : ℕ → Bool) (p q : ℕ) → (mark q && not (q == p)) ≡ true
     → others n mark p (q + 1) ≡ power_at n q ∷ others n mark p q
 unfolding others
-others_yes n mark p q t = ap (others n mark p) (add-one q)
-    ∙ ap (λ u. cond u (power_at n q ∷ others n mark p q) (others n mark p q)) t
+others_yes n mark p q t = grind (arith, add-one)
 
 others_no : (n : ℕ) (mark : ℕ → Bool) (p q : ℕ) → (mark q && not (q == p)) ≡ false
     → others n mark p (q + 1) ≡ others n mark p q
 unfolding others
-others_no n mark p q t = ap (others n mark p) (add-one q)
-    ∙ ap (λ u. cond u (power_at n q ∷ others n mark p q) (others n mark p q)) t
+others_no n mark p q t = grind (arith, add-one)
 
 pub rest_yes : (n p q m y : ℕ) (mark : ℕ → Bool) (s : ℕ → ℕ) (new old : List ℕ) → (mark q && not (q == p)) ≡ true
     → y ≡ power_at n q
@@ -23,28 +21,17 @@ pub rest_yes : (n p q m y : ℕ) (mark : ℕ → Bool) (s : ℕ → ℕ) (new ol
     → ((i : ℕ) → i + 1 < m → get_or new i 0 ≡ bit_xor (get_or old (i + 1) 0) (mul y (get_or old i 0)))
     → (i : ℕ) → i + length (others n mark p (q + 1)) < m → get_or new i 0 ≡ without (others n mark p (q + 1)) s i
 unfolding without
-rest_yes n p q m y mark s new old t e h c i l =
-    let o : others n mark p (q + 1) ≡ power_at n q ∷ others n mark p q = others_yes n mark p q t in
-    let r : length (others n mark p (q + 1)) ≡ suc (length (others n mark p q)) = ap length o in
-    let a : get_or old (i + 1) 0 ≡ without (others n mark p q) s (suc i) =
-    h (i + 1) (omega arith) ∙ ap (without (others n mark p q) s) (add-one i) in
-    c i (omega arith)
-    ∙ ap₂ (λ (v w : ℕ). bit_xor v w) a (ap₂ mul e (h i (omega arith)))
-    ∙ sym (ap (λ ys. without ys s i) o)
+rest_yes n p q m y mark s new old t e h c i l = grind (arith, others_yes, add-one)
 
 pub rest_no : (n p q m : ℕ) (mark : ℕ → Bool) (s : ℕ → ℕ) (old : List ℕ) → (mark q && not (q == p)) ≡ false
     → ((i : ℕ) → i + length (others n mark p q) < m → get_or old i 0 ≡ without (others n mark p q) s i)
     → (i : ℕ) → i + length (others n mark p (q + 1)) < m → get_or old i 0 ≡ without (others n mark p (q + 1)) s i
-rest_no n p q m mark s old t h i l =
-    let o : others n mark p (q + 1) ≡ others n mark p q = others_no n mark p q t in
-    let r : length (others n mark p (q + 1)) ≡ length (others n mark p q) = ap length o in
-    h i (omega arith) ∙ sym (ap (λ ys. without ys s i) o)
+rest_no n p q m mark s old t h i l = grind (arith, others_no)
 
 pub product_yes : (n p q v : ℕ) (mark : ℕ → Bool) (x y : ℕ) → (mark q && not (q == p)) ≡ true → y ≡ power_at n q
     → v ≡ weight x (others n mark p q) → mul (bit_xor x y) v ≡ weight x (others n mark p (q + 1))
 unfolding weight
-product_yes n p q v mark x y t e h = ap₂ (λ (a b : ℕ). mul (bit_xor x a) b) e h
-    ∙ sym (ap (weight x) (others_yes n mark p q t))
+product_yes n p q v mark x y t e h = grind (arith, others_yes)
 
 pub product_no : (n p q v : ℕ) (mark : ℕ → Bool) (x : ℕ) → (mark q && not (q == p)) ≡ false
     → v ≡ weight x (others n mark p q) → v ≡ weight x (others n mark p (q + 1))
@@ -55,7 +42,4 @@ pub error_made : (n p q m : ℕ) (mark : ℕ → Bool) (s : ℕ → ℕ) (rest :
     → v ≡ weight (power_at n p) (others n mark p q) → length (others n mark p n) < m
     → mul (get_or rest 0 0) (pow v 254) ≡ error_at n mark s p
 unfolding error_at
-error_made n p q m mark s rest v e h w l =
-    let le : length (others n mark p q) ≡ length (others n mark p n) = ap (λ b. length (others n mark p b)) e in
-    ap₂ (λ (a b : ℕ). mul a (pow b 254)) (h 0 (omega arith)) w
-    ∙ ap (λ b. mul (without (others n mark p b) s 0) (pow (weight (power_at n p) (others n mark p b)) 254)) e
+error_made n p q m mark s rest v e h w l = grind arith

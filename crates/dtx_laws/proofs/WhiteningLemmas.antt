@@ -1,6 +1,5 @@
 -- What whitening keeps.
-use Rattle.std.proofs.Common.{◌≡◌, ℕ, ◌+◌, ◌<◌, List, length, get_or, sym, ap, ◌∙◌, subst, arith}
-use Rattle.std.proofs.Common.{bit_xor}
+use Rattle.std.proofs.Common.{◌≡◌, ℕ, ◌+◌, ◌<◌, List, length, get_or, sym, subst, arith, bit_xor}
 use Rattle.std.specs.Int.Bits.{xor_assoc, xor_self, xor_zero_r, xor_lt}
 use Rattle.std.proofs.lemmas.List.FromFn.{fill_by_all, length-map-range_with_len, get_or-map-range_with_len}
 use Rattle.dtx_galois.specs.Field.{AreBytes}
@@ -10,15 +9,12 @@ use Rattle.dtx_laws.proofs.PartsLemmas.{byte_at}
 
 pub length-whitened : (white head : List ℕ) (from : ℕ) → length (whitened white from head) ≡ length head
 unfolding whitened
-length-whitened white head from =
-    length-map-range_with_len (λ j. bit_xor (get_or head j 0) (get_or white (from + j) 0)) 0 (length head)
+length-whitened white head from = grind (arith, length-map-range_with_len)
 
 pub get_or-whitened : (white head : List ℕ) (from j : ℕ) → j < length head
     → get_or (whitened white from head) j 0 ≡ bit_xor (get_or head j 0) (get_or white (from + j) 0)
 unfolding whitened
-get_or-whitened white head from j l =
-    get_or-map-range_with_len (λ j. bit_xor (get_or head j 0) (get_or white (from + j) 0)) 0 (length head) j j 0 l
-    (let e : 0 + j ≡ j = omega arith in e)
+get_or-whitened white head from j l = grind (arith, get_or-map-range_with_len)
 
 -- known place by place
 pub whitened_by : (white : List ℕ) (from : ℕ) (head new : List ℕ) → length new ≡ length head
@@ -30,20 +26,13 @@ whitened_by white from head new l h =
 
 pub bytes_whitened : (white head : List ℕ) (from : ℕ) → AreBytes white → AreBytes head
     → AreBytes (whitened white from head)
-bytes_whitened white head from b c =
-    AreBytes-from_places (whitened white from head)
-    (λ j l. subst (λ (x : ℕ). x < 256)
+bytes_whitened white head from b c = AreBytes-from_places (whitened white from head) (λ j l. subst (λ (x : ℕ). x < 256)
     (sym (get_or-whitened white head from j (omega (arith, l, length-whitened white head from))))
     (xor_lt 8 (get_or head j 0) (get_or white (from + j) 0) (byte_at head j c) (byte_at white (from + j) b)))
 
 pub whitened_twice : (white head : List ℕ) (from : ℕ) → whitened white from (whitened white from head) ≡ head
-whitened_twice white head from =
-    sym (whitened_by white from (whitened white from head) head (sym (length-whitened white head from))
-    (λ j l. sym (at j (omega (arith, l, length-whitened white head from)))))
+whitened_twice white head from = sym (grind (arith, whitened_by, length-whitened, at))
   where
     at : (j : ℕ) → j < length head → bit_xor (get_or (whitened white from head) j 0) (get_or white (from + j) 0)
         ≡ get_or head j 0
-    at j l =
-        ap (λ x. bit_xor x (get_or white (from + j) 0)) (get_or-whitened white head from j l)
-        ∙ xor_assoc (get_or head j 0) (get_or white (from + j) 0) (get_or white (from + j) 0)
-        ∙ ap (bit_xor (get_or head j 0)) (xor_self (get_or white (from + j) 0)) ∙ xor_zero_r (get_or head j 0)
+    at j l = simp (get_or-whitened, xor_assoc, xor_self, xor_zero_r)

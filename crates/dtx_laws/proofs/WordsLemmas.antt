@@ -1,6 +1,6 @@
 -- Words as pairs of a byte and the power of 2 at its place.
-use Rattle.std.proofs.Common.{◌≡◌, ◌≢◌, ℕ, zero, suc, ◌+◌, ◌-◌, ◌<◌, ◌≤◌, ◌⊎◌, ◌==◌, cond, Bool, true, false, List, []}
-use Rattle.std.proofs.Common.{◌∷◌, take, length, bit_xor, refl, sym, ap, ap₂, ◌∙◌, subst, arith, inl, inr}
+use Rattle.std.proofs.Common.{◌≡◌, ◌≢◌, ℕ, zero, suc, ◌+◌, ◌-◌, ◌<◌, ◌≤◌, ◌⊎◌, ◌==◌, cond, Bool, true, false, List, ◌∷◌}
+use Rattle.std.proofs.Common.{take, length, bit_xor, refl, sym, ap, ap₂, ◌∙◌, subst, arith, []}
 use Rattle.std.proofs.lemmas.Bool.{cases_lt, eqb-true, eqb-false, eq-eqb}
 use Rattle.std.proofs.lemmas.Bool.Decides.{nat_tests}
 use Rattle.std.specs.Int.Bits.{xor_self, xor_lt}
@@ -31,9 +31,8 @@ length_differences (x ∷ xs) (y ∷ ys) =
 
 moment_by_test : (t : Bool) (i x y q : ℕ) (ps : List (ℕ × ℕ)) → (t ≡ true → x ≡ y)
     → moment i (cond t ps ((bit_xor x y, q) ∷ ps)) ≡ bit_xor (mul (bit_xor x y) (pow q i)) (moment i ps)
-moment_by_test true i x y q ps e =
-    sym (ap (λ (z : ℕ). bit_xor z (moment i ps)) (ap (λ (z : ℕ). mul z (pow q i)) (ap (λ (z : ℕ). bit_xor z y) (e refl)
-    ∙ xor_self y) ∙ zero_mul (pow q i)))
+moment_by_test true i x y q ps e = sym (ap (λ (z : ℕ). bit_xor z (moment i ps)) (ap (λ (z : ℕ). mul z (pow q i))
+    (rw (e refl, xor_self y)) ∙ zero_mul (pow q i)))
 moment_by_test false i x y q ps e = refl
 
 -- the sum of the differences is that of the values
@@ -44,12 +43,8 @@ moment_differences i [] [] l = refl
 moment_differences i [] (y ∷ ys) l = absurd (omega arith)
 moment_differences i (x ∷ xs) [] l = absurd (omega arith)
 moment_differences i (x ∷ xs) (y ∷ ys) l =
-    let m : length xs ≡ length ys = omega arith in
-    moment_by_test (x == y) i x y (pow 2 (length xs)) (differences xs ys) (eqb-true x y)
-    ∙ ap₂ bit_xor
-    (ap (mul (bit_xor x y)) (pow_swap 2 (length xs) i) ∙ mul_left x y (pow (pow 2 i) (length xs))
-    ∙ ap (λ n. bit_xor (mul x (pow (pow 2 i) (length xs))) (mul y (pow (pow 2 i) n))) m)
-    (moment_differences i xs ys m)
+    moment_by_test (x == y) i x y (pow 2 (length xs)) (differences xs ys) (eqb-true x y) ∙ ap₂ bit_xor
+    (grind (arith, pow_swap, mul_left)) (moment_differences i xs ys (omega arith))
     ∙ xor_swap (mul x (pow (pow 2 i) (length xs))) (mul y (pow (pow 2 i) (length ys))) (value xs (pow 2 i))
     (value ys (pow 2 i))
 
@@ -61,12 +56,10 @@ lacks_by_test false q p ps h r = (h, r)
 lacks_earlier : (n : ℕ) (xs ys : List ℕ) → length xs ≤ n → n < 255 → Lacks (pow 2 n) (differences xs ys)
 lacks_earlier n [] ys l m = tt
 lacks_earlier n (x ∷ xs) [] l m = tt
-lacks_earlier n (x ∷ xs) (y ∷ ys) l m =
-    lacks_by_test (x == y) (pow 2 n) (
-      bit_xor x y,
-      pow 2 (length xs),
-    ) (differences xs ys) (powers_differ (length xs) n (omega arith) m)
-    (lacks_earlier n xs ys (omega arith) m)
+lacks_earlier n (x ∷ xs) (y ∷ ys) l m = lacks_by_test (x == y) (pow 2 n) (
+  bit_xor x y,
+  pow 2 (length xs),
+) (differences xs ys) (powers_differ (length xs) n (omega arith) m) (lacks_earlier n xs ys (omega arith) m)
 
 apart_by_test : (t : Bool) (p : ℕ × ℕ) (ps : List (ℕ × ℕ)) → Lacks p.1 ps → AreApart ps → AreApart (cond t ps (p ∷ ps))
 apart_by_test true p ps h r = r
@@ -75,8 +68,7 @@ apart_by_test false p ps h r = (h, r)
 pub apart_differences : (xs ys : List ℕ) → length xs ≤ 255 → AreApart (differences xs ys)
 apart_differences [] ys l = tt
 apart_differences (x ∷ xs) [] l = tt
-apart_differences (x ∷ xs) (y ∷ ys) l =
-    apart_by_test (x == y) (bit_xor x y, pow 2 (length xs)) (differences xs ys)
+apart_differences (x ∷ xs) (y ∷ ys) l = apart_by_test (x == y) (bit_xor x y, pow 2 (length xs)) (differences xs ys)
     (lacks_earlier (length xs) xs ys (omega arith) (omega arith)) (apart_differences xs ys (omega arith))
 
 pairs_by_test : (t : Bool) (p : ℕ × ℕ) (ps : List (ℕ × ℕ)) → p.0 < 256 → p.1 < 256 → ArePairs ps
@@ -108,19 +100,12 @@ same_from_zero (x ∷ xs) (y ∷ ys) l z =
 -- two codewords that differ in few places are one
 pub same_codewords : (n k : ℕ) (a b : List ℕ) → n ≤ 255 → IsCodeword n k a → IsCodeword n k b → distance a b ≤ n - k
     → a ≡ b
-same_codewords n k a b l ca cb d =
-    same_from_zero a b (ca.long ∙ sym cb.long)
-    (all_zero (n - k) (differences a b) (omega (arith, length_differences a b))
-    (pairs_differences a b ca.bytes cb.bytes) (apart_differences a b (omega (arith, ca.long)))
-    (λ i m. moment_differences i a b (ca.long ∙ sym cb.long) ∙ ap₂ bit_xor (ca.vanishes i m) (cb.vanishes i m)))
+same_codewords n k a b l ca cb d = same_from_zero a b (ca.long ∙ sym cb.long)
+    (grind (arith, all_zero, length_differences, pairs_differences, apart_differences, moment_differences))
 
 pub codewords_apart : (n k : ℕ) (a b : List ℕ) → n ≤ 255 → IsCodeword n k a → IsCodeword n k b
     → (a ≡ b) ⊎ (n - k + 1 ≤ distance a b)
-codewords_apart n k a b l ca cb = by_cases (cases_lt (n - k) (distance a b))
-  where
-    by_cases : (n - k < distance a b) ⊎ (distance a b ≤ n - k) → (a ≡ b) ⊎ (n - k + 1 ≤ distance a b)
-    by_cases (inl h) = inr (omega arith)
-    by_cases (inr h) = inl (same_codewords n k a b l ca cb h)
+codewords_apart n k a b l ca cb = grind (arith, cases_lt, same_codewords)
 
 -- distances
 cost_self : (x : ℕ) → ◌≡◌ {A = ℕ} (cond (x == x) 0 1) 0
@@ -141,8 +126,7 @@ distance_from_front zero (x ∷ xs) (y ∷ ys) e = omega (arith, le_length (x �
     le_length (x ∷ xs) (y ∷ ys) = omega (arith, cost_le (x == y), le_length xs ys)
 distance_from_front (suc k) (x ∷ xs) (y ∷ ys) e =
     let h : x ≡ y = cc in
-    let t : take k xs ≡ take k ys = cc in
-    omega (arith, distance_from_front k xs ys t, subst (λ (z : ℕ). ◌≡◌ {A = ℕ} (cond (x == z) 0 1) 0) h (cost_self x))
+    omega (arith, distance_from_front k xs ys cc, subst (λ (z : ℕ). ◌≡◌ {A = ℕ} (cond (x == z) 0 1) 0) h (cost_self x))
 
 pub distance_comm : (a b : List ℕ) → distance a b ≡ distance b a
 distance_comm [] [] = refl
@@ -171,15 +155,7 @@ one_codeword n k a b l ca cb e = same_codewords n k a b l ca cb (omega (arith, d
 
 pub one_correction : (n k : ℕ) (word a b : List ℕ) → n ≤ 255 → length word ≡ n → IsCorrection n k word a
     → IsCorrection n k word b → a ≡ b
-one_correction n k word a b l e ca cb =
-    same_codewords n k a b l ca.codeword cb.codeword
-    (omega (
-      arith,
-      distance_through a word b (ca.codeword.long ∙ sym e) (e ∙ sym cb.codeword.long),
-      distance_comm a word,
-      ca.near,
-      cb.near,
-    ))
+one_correction n k word a b l e ca cb = grind (arith, same_codewords, distance_through, distance_comm)
 
 pub distance_self : (a : List ℕ) → distance a a ≡ 0
 distance_self [] = refl

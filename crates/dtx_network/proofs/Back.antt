@@ -1,7 +1,6 @@
 -- What is given back of a stretch of a feed.
-use Rattle.std.proofs.Common.{ℕ, List, ◌+◌, refl, ◌≡◌, ℤ, ◌*◌, ◌/◌, ◌%◌, ◌<◌, ◌≤◌, Some, ◌∷◌, ◌++◌, length, ap, ◌∙◌}
-use Rattle.std.proofs.Common.{arith, option_map, slice_get, ◌-◌, [], map, take, drop, get_or, sym, ap₂, subst}
-use Rattle.std.proofs.Common.{length-drop, length-take-le}
+use Rattle.std.proofs.Common.{ℕ, List, ◌+◌, ◌≡◌, ℤ, ◌*◌, ◌/◌, ◌%◌, ◌<◌, ◌≤◌, Some, ◌∷◌, ◌++◌, length, ap, ◌∙◌, arith}
+use Rattle.std.proofs.Common.{slice_get, ◌-◌, [], map, take, drop, get_or, sym, ap₂, length-drop, length-take-le}
 use Rattle.std.proofs.lemmas.Option.{slice_get-map}
 use Rattle.dtx_exciter.specs.Lockstep.{segment_place}
 use Rattle.dtx_chain.specs.Undamaged.{ArePackets, as_received}
@@ -27,14 +26,7 @@ use Rattle.dtx_chain.proofs.AllBackLemmas.{all_back, none_flagged}
 pub received_alone : (feed : List (List ℕ)) (k end : ℕ) → ArePackets feed
     → IsReceivedAlone feed k end (stretch_of feed k end)
 unfolding stretch_of
-received_alone feed k end p =
-    let r : AreReceived feed (segment_place k) (stretch_of feed k end) (stretch_of feed k end) =
-    part_received feed (segment_place k) (segment_place (last_packet end) + 1) in
-    record {
-      as_many = refl;
-      long = r.long;
-      slight = is_slight feed (segment_place k) (stretch_of feed k end) r p;
-    }
+received_alone feed k end p = grind (arith, part_received, is_slight)
 
 -- ---- runs
 
@@ -55,9 +47,7 @@ packet_inside end f j l = omega (arith, l)
 bytes_at : (got : List (List ℤ)) (place : ℕ) (r : Received) → slice_get (all_packets got) place ≡ Some r
     → slice_get (received got) place ≡ Some r.packet.0
 unfolding received
-bytes_at got place r here =
-    slice_get-map (λ (x : Received). x.packet.0) (all_packets got) place
-    ∙ ap (option_map (λ (x : Received). x.packet.0)) here
+bytes_at got place r here = grind (arith, slice_get-map)
 
 pub back : (feed : List (List ℕ)) (k end s : ℕ) (got : List (List ℤ)) → ArePackets feed → end ≤ length feed
     → GivesBack feed k end s got
@@ -88,50 +78,23 @@ back feed k end s got packets inside = λ f n j earlier later begins are readabl
 
 -- as a slice
 stretch_ends : (g u : ℕ) → 1 ≤ u → u ≤ g / 4 → segment_place (4 * u - 1) + 1 ≤ 4 * (g / 4) + (g / 4 + 77) / 78
-stretch_ends g u one l = by_groups (g / 4) u one l
-  where
-    by_groups : (v u : ℕ) → 1 ≤ u → u ≤ v → 4 * u - 1 + (4 * u - 1) / 312 + 1 + 1 ≤ 4 * v + (v + 77) / 78
-    by_groups v u one l = omega (arith, one, l)
+stretch_ends g u one l = grind arith
 
 pub length-stretch_of : (feed : List (List ℕ)) (k end : ℕ) → 4 ≤ end → end ≤ length feed
     → length (stretch_of feed k end) ≡ segment_place (last_packet end) + 1 - segment_place k
 unfolding stretch_of
-length-stretch_of feed k end some inside =
-    length-take-le (segment_place (last_packet end) + 1 - segment_place k) (drop (segment_place k) (a53 feed))
-    (omega (
-      arith,
-      length-drop (segment_place k) (a53 feed),
-      length-a53 feed,
-      stretch_ends (length feed) (end / 4) (omega (arith, some)) (omega (arith, inside)),
-    ))
+length-stretch_of feed k end some inside = grind (arith, length-take-le, length-drop, length-a53, stretch_ends)
 
 in_a_row : (feed : List (List ℕ)) (k end : ℕ) → 4 ≤ end → end ≤ length feed
     → stretch_of feed k end ≡ take (segment_place k + length (stretch_of feed k end) - segment_place k)
     (drop (segment_place k) (a53 feed))
 unfolding stretch_of
-in_a_row feed k end some inside =
-    ap (λ (n : ℕ). take n (drop (segment_place k) (a53 feed)))
-    (back_off (segment_place k) (segment_place (last_packet end) + 1 - segment_place k)
-    ∙ ap (λ (n : ℕ). segment_place k + n - segment_place k) (sym (length-stretch_of feed k end some inside)))
-  where
-    back_off : (a b : ℕ) → b ≡ a + b - a
-    back_off a b = omega arith
+in_a_row feed k end some inside = grind (arith, length-stretch_of)
 
 -- ---- its first field sync
 
 sync_of_turns : (q r : ℕ) → r < 312 → (313 - (312 * q + r + (312 * q + r) / 312 + 1) % 313) % 313 ≡ 312 - r
-sync_of_turns q r l = let d : (312 * q + r) / 312 ≡ q = omega (arith, l) in let m : (313 * q + (r + 1)) % 313 ≡ r + 1 =
-    omega (arith, l) in
-    ap (λ (n : ℕ). (313 - (312 * q + r + n + 1) % 313) % 313) d
-    ∙ ap (λ (n : ℕ). (313 - n % 313) % 313) (same q r)
-    ∙ ap (λ (n : ℕ). (313 - n) % 313) m
-    ∙ last r l
-  where
-    same : (q r : ℕ) → 312 * q + r + q + 1 ≡ 313 * q + (r + 1)
-    same q r = omega arith
-
-    last : (r : ℕ) → r < 312 → (313 - (r + 1)) % 313 ≡ 312 - r
-    last r l = omega (arith, l)
+sync_of_turns q r l = grind arith
 
 turns : (k : ℕ) → k ≡ 312 * (k / 312) + k % 312
 turns k = omega arith
@@ -141,9 +104,7 @@ below k = omega arith
 
 to_sync_is : (k : ℕ) → to_sync (segment_place k) ≡ 312 - k % 312
 unfolding to_sync
-to_sync_is k =
-    subst (λ (n : ℕ). (313 - (n + n / 312 + 1) % 313) % 313 ≡ 312 - k % 312) (sym (turns k))
-    (sync_of_turns (k / 312) (k % 312) (below k))
+to_sync_is k = grind (arith, turns, sync_of_turns, below)
 
 field_at : (q : ℕ) → 312 * (q + 1) / 312 ≡ q + 1
 field_at q = omega arith
@@ -152,27 +113,14 @@ field_from : (q r : ℕ) → r < 312 → 312 * (q + 1) + (q + 1) + 1 - 1 - (312 
 field_from q r l = omega (arith, l)
 
 to_field_is : (k : ℕ) → to_field k (next_field k) ≡ 312 - k % 312
-to_field_is k =
-    ap (λ (n : ℕ). 312 * (k / 312 + 1) + n + 1 - 1 - (k + k / 312 + 1)) (field_at (k / 312))
-    ∙ ap (λ (n : ℕ). 312 * (k / 312 + 1) + (k / 312 + 1) + 1 - 1 - (n + k / 312 + 1)) (turns k)
-    ∙ field_from (k / 312) (k % 312) (below k)
+to_field_is k = grind (arith, field_at, turns, field_from, below)
 
 same_sync : (k : ℕ) → to_sync (segment_place k) ≡ to_field k (next_field k)
 same_sync k = to_sync_is k ∙ sym (to_field_is k)
 
 same_packet : (k : ℕ) → packet_behind (segment_place k) ≡ next_field k
 unfolding packet_behind
-same_packet k =
-    ap (λ (n : ℕ). 312 * ((segment_place k + n) / 313)) (to_sync_is k)
-    ∙ ap (λ (n : ℕ). 312 * (n / 313)) (ap (λ (n : ℕ). n + k / 312 + 1 + (312 - k % 312)) (turns k)
-    ∙ all (k / 312) (k % 312) (below k))
-    ∙ ap (λ (n : ℕ). 312 * n) (whole (k / 312))
-  where
-    all : (q r : ℕ) → r < 312 → 312 * q + r + q + 1 + (312 - r) ≡ 313 * (q + 1)
-    all q r l = omega (arith, l)
-
-    whole : (q : ℕ) → 313 * (q + 1) / 313 ≡ q + 1
-    whole q = omega arith
+same_packet k = grind (arith, to_sync_is, turns, below)
 
 -- ---- what is received
 
@@ -180,14 +128,7 @@ some_packets : (k end : ℕ) → BeginsField k end (next_field k) → 4 ≤ end
 some_packets k end b = let l = b.inside in omega (arith, l)
 
 sync_within : (k m : ℕ) → next_field k ≤ m → 312 - k % 312 < segment_place m + 1 - segment_place k
-sync_within k m l = within (k / 312) (k % 312) (m / 312) k m (turns k) (below k) (fields (k / 312) m l) l
-  where
-    fields : (q m : ℕ) → 312 * (q + 1) ≤ m → q + 1 ≤ m / 312
-    fields q m l = omega (arith, l)
-
-    within : (q r t k m : ℕ) → k ≡ 312 * q + r → r < 312 → q + 1 ≤ t → 312 * (q + 1) ≤ m
-        → 312 - r < m + t + 1 + 1 - (k + q + 1)
-    within q r t k m e l n h = omega (arith, e, l, n, h)
+sync_within k m l = grind (arith, turns, below)
 
 pub all_given_back : (feed : List (List ℕ)) (k end : ℕ) (got : List (List ℤ)) → ArePackets feed → end ≤ length feed
     → GivesAllBack feed k end got
@@ -197,12 +138,7 @@ all_given_back feed k end got packets inside = λ begins alone.
     let r : AreReceived feed (segment_place k) (stretch_of feed k end) got =
     record { in_a_row = in_a_row feed k end some inside; as_many = alone.as_many; long = alone.long } in
     let l : to_sync (segment_place k) < length (stretch_of feed k end) =
-    omega (
-      arith,
-      to_sync_is k,
-      length-stretch_of feed k end some inside,
-      sync_within k (last_packet end) begins.inside,
-    ) in
+    grind (arith, to_sync_is, length-stretch_of, sync_within) in
     record {
       run = one_run_left feed (segment_place k) (stretch_of feed k end) got r l alone.slight.found
           ∙ ap (λ (n : ℕ). drop n got ∷ []) (same_sync k);

@@ -1,8 +1,8 @@
 -- A transmitter of a network emits exactly.
-use Rattle.std.proofs.Common.{◌≡◌, ◌⊎◌, inl, inr, ℕ, ℤ, suc, ◌+◌, ◌-◌, ◌*◌, ◌/◌, ◌%◌, ◌<◌, ◌≤◌, ◌==◌, ◌&&◌, Bool, All}
-use Rattle.std.proofs.Common.{true, Some, List, ◌∷◌, ◌++◌, length, map, refl, sym, ap, subst, ◌∙◌, arith, pos, ◌-ℤ◌}
-use Rattle.std.proofs.Common.{◌*ℤ◌, slice_range, eq-eqb, length-append}
-use Rattle.std.specs.List.{range_with_len, filter, Contains}
+use Rattle.std.proofs.Common.{◌≡◌, ◌⊎◌, inl, inr, ℕ, ℤ, ◌+◌, ◌-◌, ◌*◌, ◌/◌, ◌%◌, ◌<◌, ◌≤◌, ◌&&◌, Bool, All, true, Some}
+use Rattle.std.proofs.Common.{List, ◌∷◌, ◌++◌, length, map, refl, sym, ap, subst, ◌∙◌, arith, pos, ◌-ℤ◌, ◌*ℤ◌}
+use Rattle.std.proofs.Common.{slice_range, eq-eqb, length-append}
+use Rattle.std.specs.List.{Contains}
 use Rattle.std.proofs.lemmas.Bool.{cond-true, and_from}
 use Rattle.std.proofs.lemmas.List.Elements.{All-append, All-weaker, All-contains, Contains-append_cases}
 use Rattle.dtx_clock.specs.Clock.{stamp_of, grains_of, DifferBy}
@@ -15,7 +15,7 @@ use Rattle.dtx_exciter.specs.Order.{counting_order}
 use Rattle.dtx_exciter.specs.Pages.{lists}
 use Rattle.dtx_exciter.specs.Packets.{readings}
 use Rattle.dtx_exciter.specs.Emission.{emission}
-use Rattle.dtx_exciter.specs.Lockstep.{IsFeed, IsStretch, locked_from, segment_place, stretch}
+use Rattle.dtx_exciter.specs.Lockstep.{IsFeed, IsStretch, locked_from, stretch}
 use Rattle.dtx_exciter.specs.Log.{Line, preset, life_lines, log, restarted_lines, restarting_lines, emission_over}
 use Rattle.dtx_exciter.specs.Stretch.{emission_behind, lines_behind, before_stretch, stretch_lines, IsApart}
 use Rattle.dtx_exciter.proofs.InLivesLemmas.{stretch_segments, stretch_log}
@@ -57,13 +57,9 @@ earlier_lines a d earlier feed xs mark k =
     length-append (emission_over a d xs) (before_stretch a d earlier feed mark k) in
     let own = length-before a d feed earlier mark k in
     All-append (λ line. line_end line ≤ length (all_before a d earlier feed xs mark k)) (restarted_lines a d 0 xs)
-    (life_lines a d n life)
-    (All-weaker (λ line. line_end line ≤ 0 + length (emission_over a d xs))
+    (life_lines a d n life) (All-weaker (λ line. line_end line ≤ 0 + length (emission_over a d xs))
     (λ line. line_end line ≤ length (all_before a d earlier feed xs mark k)) (λ line h. omega (arith, h, all))
-    (restarted_lines a d 0 xs) (restarted_up a d 0 xs))
-    (All-weaker (λ line. line_end line ≤ n + length (emission a d life))
-    (λ line. line_end line ≤ length (all_before a d earlier feed xs mark k)) (λ line h. omega (arith, h, all, own))
-    (life_lines a d n life) (life_up a d n life))
+    (restarted_lines a d 0 xs) (restarted_up a d 0 xs)) (grind (arith, All-weaker, life_up))
 
 later_lines : (a d : ℕ) (z : ℤ) (earlier feed later : List (List ℕ)) (xs ys : List (List (List ℕ))) (mark end k : ℕ)
     → IsFeed a d z feed → IsStretch a feed (locked_from earlier mark) mark end k
@@ -87,12 +83,8 @@ later_lines a d z earlier feed later xs ys mark end k f s =
     ∙ ap (λ (m : ℕ). length (before_stretch a d earlier feed mark k) + m)
     (length-append (stretch feed k end) (emission_behind a d front later)) in
     All-append (λ line. length (all_before a d earlier feed xs mark k) + length (stretch feed k end) ≤ segment_of line)
-    (lines_behind a d n front later)
-    (restarting_lines a d (n + length (emission a d life)) ys)
-    (All-weaker (λ line. n + length (emission a d front) ≤ segment_of line)
-    (λ line. length (all_before a d earlier feed xs mark k) + length (stretch feed k end) ≤ segment_of line)
-    (λ line h. omega (arith, h, all, given_front)) (lines_behind a d n front later) (behind_down a d n front later))
-    (All-weaker (λ line. n + length (emission a d life) ≤ segment_of line)
+    (lines_behind a d n front later) (restarting_lines a d (n + length (emission a d life)) ys)
+    (grind (arith, All-weaker, behind_down)) (All-weaker (λ line. n + length (emission a d life) ≤ segment_of line)
     (λ line. length (all_before a d earlier feed xs mark k) + length (stretch feed k end) ≤ segment_of line)
     (λ line h. omega (arith, h, all, given_all)) (restarting_lines a d (n + length (emission a d life)) ys)
     (restarting_down a d (n + length (emission a d life)) ys))
@@ -109,24 +101,14 @@ listing_order plan stream t k p u listed far group listing =
     let order = order_some plan stream k p u far group orders in
     let own : is_listed (paging_at plan stream (k / 4)) place.0 ≡ true =
     sym (ap (λ (b : Bool). b && is_listed (paging_at plan stream (k / 4)) place.0) orders)
-    ∙ sym (listing_is plan stream t place.0 k p u place.1 group) ∙ listing in (
-      order.0,
-      order.1,
-      lists_is plan stream t place.0 k order.0 p place.1 (order_says plan stream k order.0 p u order.1) ∙ own,
-    )
+    ∙ sym (listing_is plan stream t place.0 k p u place.1 group) ∙ listing in
+    (grind (arith, lists_is, order_says))
 
 pub stretch_from : (plan : Plan) (stream : List (List ℕ)) (t : Transmitter) (earlier : List (List ℕ)) (mark end k : ℕ)
     → IsPlan plan → IsStream stream → IsListed plan t → mark % 624 ≡ 0 → end ≤ length (feed plan stream)
     → IsFirstListing t.address (feed plan stream) (locked_from earlier mark) end k
     → IsStretch t.address (feed plan stream) (locked_from earlier mark) mark end k
-stretch_from plan stream t earlier mark end k p u listed m l first = record {
-  is_mark = m;
-  inside = l;
-  behind = first.behind;
-  whole = first.whole;
-  order = let far = first.behind in
-      listing_order plan stream t k p u listed (omega (arith, far)) first.group first.listing;
-}
+stretch_from plan stream t earlier mark end k p u listed m l first = grind (arith, listing_order)
 
 emits_at : (plan : Plan) (stream : List (List ℕ)) (t : Transmitter) (earlier later : List (List ℕ))
     (xs ys : List (List (List ℕ))) (mark n k : ℕ)
@@ -176,8 +158,7 @@ emits_at plan stream t earlier later xs ys mark n k p u listed time m l first =
           ∙ ap (λ x. lines_before a d earlier fed xs mark k
           ++ (x ++ lines_after a d earlier fed later xs ys mark end)) presets_are;
       up_to = earlier_lines a d earlier fed xs mark k;
-      behind =
-          subst (λ x. All (λ line. length before + length x ≤ segment_of line)
+      behind = subst (λ x. All (λ line. length before + length x ≤ segment_of line)
           (lines_after a d earlier fed later xs ys mark end)) (sym same)
           (later_lines a d t.offset earlier fed later xs ys mark end k locks s);
     }
@@ -202,19 +183,7 @@ pub first_is : (plan : Plan) (offset : ℤ) (s address : ℕ) (feed : List (List
     ≡ preset s (k / 624) (k % 624) (moment_at plan offset k).tick (moment_at plan offset k).grain ∷ map
     (preset_at plan offset s k) (orders feed (k + 1) end)
 unfolding presets orders
-first_is plan offset s address feed z end k first =
-    let l = first.whole in
-    let test : ℕ → Bool = λ g. (g % 4 == 0) && has_order feed g in
-    let c : end - 3 - k ≡ suc (end - 3 - (k + 1)) = omega (arith, l) in
-    let seg : s + (segment_place k - segment_place k) ≡ s = omega arith in
-    ap (λ m. map (preset_at plan offset s k) (filter test (range_with_len k m))) c
-    ∙ ap (map (preset_at plan offset s k))
-    (cond-true (test k) (k ∷ filter test (range_with_len (k + 1) (end - 3 - (k + 1))))
-    (filter test (range_with_len (k + 1) (end - 3 - (k + 1))))
-    (and_from (k % 4 == 0) (has_order feed k) (eq-eqb (k % 4) 0 first.group)
-    (listing_orders address feed k first.listing)))
-    ∙ ap (λ m. preset m (k / 624) (k % 624) (moment_at plan offset k).tick (moment_at plan offset k).grain ∷ map
-    (preset_at plan offset s k) (filter test (range_with_len (k + 1) (end - 3 - (k + 1))))) seg
+first_is plan offset s address feed z end k first = grind (arith, cond-true, and_from, eq-eqb, listing_orders)
 
 -- no other line speaks of anything within it
 pub no_other : (plan : Plan) (t : Transmitter) (feed : List (List ℕ)) (mark k end : ℕ) (a : Around)
@@ -230,9 +199,7 @@ no_other plan t feed mark k end a segments lines line e c low high =
 
     by_own : Contains own line ⊎ Contains e.later line → Contains own line
     by_own (inl c) = c
-    by_own (inr c) = let h =
-        All-contains (λ x. length e.before + length (stretch_of feed k end) ≤ segment_of x) e.later line e.behind c in
-        absurd (omega (arith, h, high))
+    by_own (inr c) = grind (arith, All-contains)
 
     by_part : Contains e.earlier line ⊎ Contains (own ++ e.later) line → Contains own line
     by_part (inl c) = let h = All-contains (λ x. line_end x ≤ length e.before) e.earlier line e.up_to c in

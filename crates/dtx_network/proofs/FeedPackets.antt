@@ -1,6 +1,6 @@
 -- The packets of a feed have 188 bytes, and each of them is a byte.
-use Rattle.std.proofs.Common.{◌≡◌, ◌⊎◌, inl, inr, ℕ, suc, ◌+◌, ◌%◌, ◌<◌, ◌==◌, Bool, true, false, cond, List, [], ◌∷◌}
-use Rattle.std.proofs.Common.{length, take, get_or, sym, subst, arith}
+use Rattle.std.proofs.Common.{◌≡◌, inl, inr, ℕ, suc, ◌+◌, ◌<◌, true, List, [], ◌∷◌, length, take, get_or, sym, subst}
+use Rattle.std.proofs.Common.{arith}
 use Rattle.std.specs.List.{AllByRecursion}
 use Rattle.std.proofs.lemmas.Bool.{cases_Bool, cond-true, cond-false, eqb-true}
 use Rattle.dtx_galois.specs.Field.{AreBytes}
@@ -31,11 +31,7 @@ all_from_places P (x ∷ xs) d h = (h 0 (omega arith), all_from_places P xs d (�
 -- ---- a packet of the feed
 
 small_sync : (k : ℕ) → sync_at k < 256
-small_sync k = small (k % 624 == 0)
-  where
-    small : (b : Bool) → cond b 0xB8 0x47 < 256
-    small true = omega arith
-    small false = omega arith
+small_sync k = grind arith
 
 packet_marked : (k : ℕ) (p : List ℕ) → IsPacket p → IsPacket (marked k p)
 packet_marked k [] h = h
@@ -45,10 +41,7 @@ packet_spelled : (ops : Ops) (counter k : ℕ) → IsValid ops → counter < 16 
 unfolding spelling
 packet_spelled ops counter k valid l = (
   omega (arith, codeword_length 184 164 (data_of ops), length-data_of ops valid),
-  bytes_append (sync_at k ∷ 0x1F ∷ 0xFA ∷ (0x10 + counter) ∷ []) _ (
-    small_sync k,
-    (omega arith, (omega arith, (omega (arith, l), tt))),
-  )
+  bytes_append (sync_at k ∷ 0x1F ∷ 0xFA ∷ (0x10 + counter) ∷ []) _ (grind (arith, small_sync))
       (codeword_is 184 164 (data_of ops) (omega arith) (length-data_of ops valid) (AreBytes-data_of ops valid)).bytes,
 )
 
@@ -59,15 +52,12 @@ pid_true p t = eqb-true (pid_of p) 0x1FFA t
 packet_made : (ops : Ops) (counter k : ℕ) (p : List ℕ) → IsPacket p → counter < 16 → (pid_of p ≡ 0x1FFA → IsValid ops)
     → IsPacket (as_feed_packet ops counter k p)
 unfolding as_feed_packet
-packet_made ops counter k p h l valid = by_cases (cases_Bool (is_placeholder p))
-  where
-    by_cases : (is_placeholder p ≡ true) ⊎ (is_placeholder p ≡ false) → IsPacket (as_feed_packet ops counter k p)
-    by_cases (inl t) =
-        subst IsPacket (sym (cond-true (is_placeholder p) (spelling ops counter (sync_at k)) (marked k p) t))
-        (packet_spelled ops counter k (valid (pid_true p t)) l)
-    by_cases (inr f) =
-        subst IsPacket (sym (cond-false (is_placeholder p) (spelling ops counter (sync_at k)) (marked k p) f))
-        (packet_marked k p h)
+packet_made ops counter k p h l valid = elim (cases_Bool (is_placeholder p)) [
+  | inl t ↦ subst IsPacket (sym (cond-true (is_placeholder p) (spelling ops counter (sync_at k)) (marked k p) t))
+      (packet_spelled ops counter k (valid (pid_true p t)) l)
+  | inr f ↦ subst IsPacket (sym (cond-false (is_placeholder p) (spelling ops counter (sync_at k)) (marked k p) f))
+      (packet_marked k p h)
+]
 
 -- ---- all of them
 
@@ -78,8 +68,7 @@ small_counter stream k = omega arith
 packet_fed : (plan : Plan) (stream : List (List ℕ)) (k : ℕ) → IsPlan plan → IsStream stream → k < length stream
     → IsPacket (get_or (feed plan stream) k [])
 unfolding fed_packet
-packet_fed plan stream k p s l =
-    subst IsPacket (sym (feed_packet plan stream k l))
+packet_fed plan stream k p s l = subst IsPacket (sym (feed_packet plan stream k l))
     (packet_made (ops_at plan stream (take k (feed plan stream)) k) (counter_at stream k) k (get_or stream k [])
     (s.long k [] l, s.bytes k [] l) (small_counter stream k)
     (λ e. (read_as (get_or (feed plan stream) k []) (ops_at plan stream (take k (feed plan stream)) k)
@@ -87,6 +76,5 @@ packet_fed plan stream k p s l =
 
 pub feed_packets : (plan : Plan) (stream : List (List ℕ)) → IsPlan plan → IsStream stream
     → ArePackets (feed plan stream)
-feed_packets plan stream p s =
-    all_from_places IsPacket (feed plan stream) []
+feed_packets plan stream p s = all_from_places IsPacket (feed plan stream) []
     (λ k l. packet_fed plan stream k p s (omega (arith, l, length-feed plan stream)))

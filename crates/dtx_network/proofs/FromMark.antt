@@ -1,8 +1,8 @@
 -- An exciter that is given a feed from one of its marks on, behind packets without a mark: nothing before its first
 -- listing, and from there on the feed's own segments.
-use Rattle.std.proofs.Common.{◌≡◌, ◌⊎◌, inl, inr, ℕ, ℤ, zero, suc, ◌+◌, ◌-◌, ◌/◌, ◌%◌, ◌<◌, ◌≤◌, ◌==◌, ◌&&◌, Bool}
-use Rattle.std.proofs.Common.{true, false, cond, Option, Some, None, option_map, List, [], ◌∷◌, ◌++◌, length, take}
-use Rattle.std.proofs.Common.{drop, get_or, map, refl, sym, ap, ap₂, subst, ◌∙◌, arith}
+use Rattle.std.proofs.Common.{◌≡◌, inl, inr, ℕ, ℤ, zero, suc, ◌+◌, ◌-◌, ◌/◌, ◌%◌, ◌<◌, ◌≤◌, ◌==◌, true, false, Option}
+use Rattle.std.proofs.Common.{Some, None, option_map, List, [], ◌∷◌, ◌++◌, length, take, drop, get_or, map, refl, sym}
+use Rattle.std.proofs.Common.{ap, ap₂, subst, ◌∙◌, arith}
 use Rattle.std.specs.Prelude.{Err, slice_get, slice_range}
 use Rattle.std.specs.List.{range_with_len, flat_map}
 use Rattle.std.proofs.lemmas.Bool.{cases_Bool, cases_lt, eqb-true, true≢false}
@@ -19,18 +19,16 @@ use Rattle.dtx_adapter.specs.Feed.{paging_at, is_listed, filled_groups, feed}
 use Rattle.dtx_ops.specs.declared.fields.Ops.{Ops}
 use Rattle.dtx_ops.specs.declared.paging.Paging.{Paging}
 use Rattle.dtx_ops.specs.Paging.{page_of, pages_of}
-use Rattle.dtx_exciter.specs.declared.answers.Told.{Told}
 use Rattle.dtx_exciter.specs.declared.answers.Told.TheVariants.{Quiet}
-use Rattle.dtx_exciter.specs.Order.{Order, counting_order, orders}
-use Rattle.dtx_exciter.specs.Told.{served, told_at, told_under}
+use Rattle.dtx_exciter.specs.Order.{counting_order, orders}
+use Rattle.dtx_exciter.specs.Told.{served, told_under}
 use Rattle.dtx_exciter.specs.Packets.{syncs, readings, anchor_of, under, last_answer}
-use Rattle.dtx_exciter.specs.Emission.{sent_by, sent_at, sent_before, behind_field_sync, given_under, last_segments}
-use Rattle.dtx_exciter.specs.Emission.{emission}
+use Rattle.dtx_exciter.specs.Emission.{sent_at, given_under, last_segments, emission}
 use Rattle.dtx_exciter.specs.Lockstep.{IsFeed, IsStretch, locked_by, locked_from, stretch}
 use Rattle.dtx_exciter.specs.Log.{line_of, life_lines}
 use Rattle.dtx_exciter.specs.Stretch.{emission_behind, lines_behind, sync_behind, before_stretch, stretch_lines}
 use Rattle.dtx_exciter.proofs.EmittedLemmas.{emission_more}
-use Rattle.dtx_exciter.proofs.ForceLemmas.{IsBehind, counted_behind}
+use Rattle.dtx_exciter.proofs.ForceLemmas.{counted_behind}
 use Rattle.dtx_exciter.proofs.InLifeLemmas.{counted_same}
 use Rattle.dtx_exciter.proofs.UnderLemmas.{length-syncs, length-said, told_seen, goes}
 use Rattle.dtx_exciter.proofs.FollowedLemmas.{Follows, follows, after, after_more, syncs_append, told_is}
@@ -56,8 +54,7 @@ no_anchor ds h = by_anchor (anchor (syncs ds)) refl
     by_anchor None e = e
     by_anchor (Some j) e =
         let b : j < length (syncs ds) = anchor_below (syncs ds) j e in
-        absurd (true≢false (sym (anchor_is_mark (syncs ds) (length (syncs ds)) j e)
-        ∙ h j (omega (arith, b, length-syncs ds))))
+        absurd (true≢false (sym (grind (arith, anchor_is_mark)) ∙ h j (omega (arith, b, length-syncs ds))))
 
 none_locked : (ds : List (List ℕ)) → HaveNoMark ds → anchor_of ds ≡ None
 unfolding anchor_of
@@ -79,12 +76,7 @@ quiet_free a d n (Some j) now = refl
 
 told_free : (a d : ℕ) (ds : List (List ℕ)) (p : List ℕ) → HaveNoMark ds → last_answer a d (ds ++ p ∷ []) ≡ Quiet
 unfolding seen
-told_free a d ds p h =
-    let n : ℕ = length (syncs ds) in
-    let q : Option ℕ = anchor (syncs ds ++ sync_of p ∷ []) in
-    (goes a d ds p).answer
-    ∙ ap (λ o. told_seen a d (seen_by n o q) (under (ds ++ p ∷ []))) (no_anchor ds h)
-    ∙ quiet_free a d n q (under (ds ++ p ∷ []))
+told_free a d ds p h = grind (arith, goes, told_seen, no_anchor, quiet_free)
 
 given_free : (a d : ℕ) (ds : List (List ℕ)) → HaveNoMark ds → last_segments a d ds ≡ []
 unfolding last_segments under
@@ -99,16 +91,14 @@ flat_nothing f a (suc n) h = ap₂ ◌++◌ (h a (omega arith)) (flat_nothing f 
 
 sends_free : (a d : ℕ) (ds : List (List ℕ)) → HaveNoMark ds → emission a d ds ≡ []
 unfolding emission
-sends_free a d ds h =
-    flat_nothing (λ i. last_segments a d (take (i + 1) ds)) 0 (length ds)
+sends_free a d ds h = flat_nothing (λ i. last_segments a d (take (i + 1) ds)) 0 (length ds)
     (λ i m. given_free a d (take (i + 1) ds) (front_unmarked ds (i + 1) h))
 
 logs_free : (a d s : ℕ) (ds : List (List ℕ)) → HaveNoMark ds → life_lines a d s ds ≡ []
 unfolding life_lines
 logs_free a d s ds h =
     flat_nothing (λ i. line_of (s + length (emission a d (take i ds))) (length (last_segments a d (take (i + 1) ds)))
-    (last_answer a d (take (i + 1) ds))) 0 (length ds)
-    (λ i m.
+    (last_answer a d (take (i + 1) ds))) 0 (length ds) (λ i m.
     ap (line_of (s + length (emission a d (take i ds))) (length (last_segments a d (take (i + 1) ds))))
     (ap (last_answer a d) (take_more ds i [] (omega (arith, m)))
     ∙ told_free a d (take i ds) (get_or ds i []) (front_unmarked ds i h)))
@@ -143,17 +133,14 @@ at_place a own g h ops w = record { unlisted = w.unlisted; other = w.other; belo
 counted_there : (feed : List (List ℕ)) (mark j g : ℕ) → mark % 624 ≡ 0 → mark + j ≤ length feed → g + 4 ≤ j → 52 ≤ g
     → counting_order (readings (part feed mark j)) g ≡ counting_order (readings feed) (mark + g)
 counted_there feed mark j g m l h s =
-    let e : g ≡ 0 + g = omega arith in
-    ap (counting_order (readings (part feed mark j))) e ∙ counted_same [] feed mark j g m refl l h s
+    ap (counting_order (readings (part feed mark j))) (omega arith) ∙ counted_same [] feed mark j g m refl l h s
 
 serves_none : (a d own : ℕ) (z : ℤ) (earlier feed : List (List ℕ)) (mark n m i : ℕ)
     → Waits a d own z earlier feed mark n → m ≤ n → i + 4 ≤ m
     → served a d (orders (readings (part feed mark m)) i) ≡ Err None
-serves_none a d own z earlier feed mark n m i w l h =
-    none_served a d own (orders (readings (part feed mark m)) i)
+serves_none a d own z earlier feed mark n m i w l h = none_served a d own (orders (readings (part feed mark m)) i)
     (All-orders (IsOther a own) (readings (part feed mark m)) i (λ g ops s e.
-    let b : IsBehind g = counted_behind (readings (part feed mark m)) g ops e in
-    let far = b.flushed in
+    let far = (counted_behind (readings (part feed mark m)) g ops e).flushed in
     let inside = w.inside in
     at_place a own (mark + g) g ops (w.none (mark + g) ops (omega (arith, far)) (omega (arith, s, h, l))
     (sym (counted_there feed mark m g w.at_mark (omega (arith, inside, l)) (omega (arith, s, h)) far) ∙ e))))
@@ -165,31 +152,28 @@ nothing_in_step ds h = λ j e. absurd (none-some j (sym (no_anchor ds h) ∙ e))
 
 follow : (a d own : ℕ) (z : ℤ) (earlier feed : List (List ℕ)) (mark n : ℕ) → Waits a d own z earlier feed mark n
     → 0 < n → Follows earlier feed mark n
-follow a d own z earlier feed mark n w s =
-    follows a d z earlier feed mark n w.locks w.at_mark w.inside s (nothing_in_step earlier w.unmarked)
+follow a d own z earlier feed mark n w s = grind (arith, follows, nothing_in_step)
 
 -- the anchor is the mark
 anchor_there : (earlier feed : List (List ℕ)) (mark n : ℕ) → HaveNoMark earlier → (w : Follows earlier feed mark n)
     → 0 < n → w.place ≡ length earlier
 unfolding anchor_of anchor
-anchor_there earlier feed mark n h w s = by_place (cases_lt w.place (length earlier))
-  where
-    by_place : (w.place < length earlier) ⊎ (length earlier ≤ w.place) → w.place ≡ length earlier
-    by_place (inr l) = let b = w.before in omega (arith, l, b)
-    by_place (inl l) =
-        let one : List (List ℕ) = take (0 + 1) (drop mark feed) in
-        let marked : has_mark (syncs (earlier ++ one)) w.place ≡ true =
-        anchor_is_mark (syncs (earlier ++ one)) (length (syncs (earlier ++ one))) w.place (w.anchors 0 s) in
-        let same : has_mark (syncs (earlier ++ one)) w.place ≡ has_mark (syncs earlier) w.place =
-        ap (λ x. x == 0xB8) (ap (λ (xs : List ℕ). get_or xs w.place 0) (syncs_append earlier one)
-        ∙ get_or_append_left (syncs earlier) (syncs one) 0 w.place (omega (arith, l, length-syncs earlier))) in
-        absurd (true≢false (sym marked ∙ same ∙ h w.place l))
+anchor_there earlier feed mark n h w s = elim (cases_lt w.place (length earlier)) [
+  | inr l ↦ let b = w.before in omega (arith, l, b)
+  | inl l ↦
+      let one : List (List ℕ) = take (0 + 1) (drop mark feed) in
+      let marked : has_mark (syncs (earlier ++ one)) w.place ≡ true =
+      anchor_is_mark (syncs (earlier ++ one)) (length (syncs (earlier ++ one))) w.place (w.anchors 0 s) in
+      let same : has_mark (syncs (earlier ++ one)) w.place ≡ has_mark (syncs earlier) w.place =
+      ap (λ x. x == 0xB8) (ap (λ (xs : List ℕ). get_or xs w.place 0) (syncs_append earlier one)
+      ∙ get_or_append_left (syncs earlier) (syncs one) 0 w.place (omega (arith, l, length-syncs earlier))) in
+      absurd (true≢false (sym marked ∙ same ∙ h w.place l))
+]
 
 under_part : (earlier feed : List (List ℕ)) (mark n j : ℕ) → HaveNoMark earlier → Follows earlier feed mark n → j < n
     → under (after earlier feed mark (j + 1)) ≡ Some (part feed mark (j + 1))
 unfolding under
-under_part earlier feed mark n j h w l =
-    ap (option_map (λ k. drop k (after earlier feed mark (j + 1))))
+under_part earlier feed mark n j h w l = ap (option_map (λ k. drop k (after earlier feed mark (j + 1))))
     (w.anchors j l ∙ ap Some (anchor_there earlier feed mark n h w (omega (arith, l))))
     ∙ ap Some (drop_at earlier (part feed mark (j + 1)) (length earlier) refl)
 
@@ -198,39 +182,12 @@ given_no : (a d : ℕ) (l : List (List ℕ))
     → (4 ≤ length l → served a d (orders (readings l) (length l - 4)) ≡ Err None) → 0 < length l
     → given_under a d (Some l) ≡ []
 unfolding sent_at
-given_no a d l h s = by_test (cases_Bool (length l % 4 == 0))
-  where
-    sent : List (List ℤ)
-    sent = sent_before a d l (length l - 4)
-
-    own : List Order
-    own = orders (readings l) (length l - 4)
-
-    by_test : ((length l % 4 == 0) ≡ true) ⊎ ((length l % 4 == 0) ≡ false) → given_under a d (Some l) ≡ []
-    by_test (inl t) =
-        let w : length l % 4 ≡ 0 = eqb-true (length l % 4) 0 t in
-        ap₂ (λ (b : Bool) (x : List (List ℤ)). cond b (behind_field_sync (length l - 4) sent x) []) t
-        (sent_waits a d l (length l - 4) own (h (omega (arith, w, s))))
-    by_test (inr t) =
-        ap (λ (b : Bool). cond b (behind_field_sync (length l - 4) sent (sent_by a d l (length l - 4) own)) []) t
+given_no a d l h s = grind (arith, cases_Bool, eqb-true, sent_waits)
 
 told_no : (a d : ℕ) (l : List (List ℕ))
     → (4 ≤ length l → served a d (orders (readings l) (length l - 4)) ≡ Err None) → 0 < length l
     → told_under a d (Some (readings l)) ≡ Quiet
-told_no a d l h s =
-    ap (λ (n : ℕ). cond (n % 4 == 0) (told_at a d (n - 4) (orders (readings l) (n - 4))) Quiet) (length-said l)
-    ∙ by_test (cases_Bool (length l % 4 == 0))
-  where
-    own : List Order
-    own = orders (readings l) (length l - 4)
-
-    by_test : ((length l % 4 == 0) ≡ true) ⊎ ((length l % 4 == 0) ≡ false)
-        → cond (length l % 4 == 0) (told_at a d (length l - 4) own) Quiet ≡ Quiet
-    by_test (inl t) =
-        let w : length l % 4 ≡ 0 = eqb-true (length l % 4) 0 t in
-        ap₂ (λ (b : Bool) (x : Told). cond b x Quiet) t
-        (told_waits a d (length l - 4) own (h (omega (arith, w, s))))
-    by_test (inr t) = ap (λ (b : Bool). cond b (told_at a d (length l - 4) own) Quiet) t
+told_no a d l h s = grind (arith, length-said, cases_Bool, eqb-true, told_waits)
 
 waits_front : (a d own : ℕ) (z : ℤ) (earlier feed : List (List ℕ)) (mark n j : ℕ)
     → Waits a d own z earlier feed mark n → j < n → 4 ≤ length (part feed mark (j + 1))
@@ -247,8 +204,7 @@ some_front feed mark n j l s = omega (arith, length-part feed mark (j + 1) (omeg
 given_nothing : (a d own : ℕ) (z : ℤ) (earlier feed : List (List ℕ)) (mark n j : ℕ)
     → Waits a d own z earlier feed mark n → j < n → last_segments a d (after earlier feed mark (j + 1)) ≡ []
 unfolding last_segments
-given_nothing a d own z earlier feed mark n j w s =
-    ap (given_under a d) (under_part earlier feed mark n j w.unmarked
+given_nothing a d own z earlier feed mark n j w s = ap (given_under a d) (under_part earlier feed mark n j w.unmarked
     (follow a d own z earlier feed mark n w (omega (arith, s))) s)
     ∙ given_no a d (part feed mark (j + 1)) (waits_front a d own z earlier feed mark n j w s)
     (some_front feed mark n j w.inside s)
@@ -257,8 +213,7 @@ told_nothing : (a d own : ℕ) (z : ℤ) (earlier feed : List (List ℕ)) (mark 
     → Waits a d own z earlier feed mark n → j < n → last_answer a d (after earlier feed mark (j + 1)) ≡ Quiet
 told_nothing a d own z earlier feed mark n zero w s =
     let inside = w.inside in
-    ap (last_answer a d) (after_more earlier feed mark 0 (omega (arith, s, inside))
-    ∙ ap (λ x. x ++ get_or (drop mark feed) 0 [] ∷ []) (append-nil earlier))
+    ap (last_answer a d) (rw (after_more earlier feed mark 0 (omega (arith, s, inside)), append-nil earlier))
     ∙ told_free a d earlier (get_or (drop mark feed) 0 []) w.unmarked
 told_nothing a d own z earlier feed mark n (suc j) w s =
     let v : Follows earlier feed mark n = follow a d own z earlier feed mark n w (omega (arith, s)) in
@@ -280,8 +235,7 @@ sends_behind a d own z earlier feed mark n w =
 
 emits_nothing : (a d own : ℕ) (z : ℤ) (earlier feed : List (List ℕ)) (mark n : ℕ)
     → Waits a d own z earlier feed mark n → emission a d (after earlier feed mark n) ≡ []
-emits_nothing a d own z earlier feed mark n w =
-    emission_more a d earlier (part feed mark n)
+emits_nothing a d own z earlier feed mark n w = emission_more a d earlier (part feed mark n)
     ∙ ap₂ ◌++◌ (sends_free a d earlier w.unmarked) (sends_behind a d own z earlier feed mark n w)
 
 logs_behind : (a d own s : ℕ) (z : ℤ) (earlier feed : List (List ℕ)) (mark n : ℕ)
@@ -290,8 +244,7 @@ unfolding lines_behind
 logs_behind a d own s z earlier feed mark n w =
     flat_nothing (λ i. line_of (s + length (emission a d (earlier ++ take i (part feed mark n))))
     (length (last_segments a d (earlier ++ take (i + 1) (part feed mark n))))
-    (last_answer a d (earlier ++ take (i + 1) (part feed mark n)))) 0 (length (part feed mark n))
-    (λ i m.
+    (last_answer a d (earlier ++ take (i + 1) (part feed mark n)))) 0 (length (part feed mark n)) (λ i m.
     let h : i < n = omega (arith, m, length-part feed mark n w.inside) in
     ap (line_of (s + length (emission a d (earlier ++ take i (part feed mark n))))
     (length (last_segments a d (earlier ++ take (i + 1) (part feed mark n)))))
@@ -300,30 +253,22 @@ logs_behind a d own s z earlier feed mark n w =
 
 logs_nothing : (a d own s : ℕ) (z : ℤ) (earlier feed : List (List ℕ)) (mark n : ℕ)
     → Waits a d own z earlier feed mark n → life_lines a d s (after earlier feed mark n) ≡ []
-logs_nothing a d own s z earlier feed mark n w =
-    lines_more a d s earlier (part feed mark n)
+logs_nothing a d own s z earlier feed mark n w = lines_more a d s earlier (part feed mark n)
     ∙ ap₂ ◌++◌ (logs_free a d s earlier w.unmarked) (logs_behind a d own s z earlier feed mark n w)
 
 -- ---- the feed of a plan
 
 some_order : (plan : Plan) (stream : List (List ℕ)) (g : ℕ) (ops : Ops) → IsPlan plan → IsStream stream
     → counting_order (readings (feed plan stream)) g ≡ Some ops → has_order (feed plan stream) g ≡ true
-some_order plan stream g ops p u h = by_cases (cases_Bool (has_order (feed plan stream) g))
-  where
-    by_cases : (has_order (feed plan stream) g ≡ true) ⊎ (has_order (feed plan stream) g ≡ false)
-        → has_order (feed plan stream) g ≡ true
-    by_cases (inl t) = t
-    by_cases (inr f) = absurd (none-some ops (sym (order_none plan stream g p u f) ∙ h))
+some_order plan stream g ops p u h = grind (arith, cases_Bool, none-some, order_none)
 
 none_lists : (plan : Plan) (stream : List (List ℕ)) (t : Transmitter) (who mark end : ℕ) → IsPlan plan
-    → IsStream stream → slice_get plan.transmitters who ≡ Some t
-    → HasNoListing t.address (feed plan stream) mark end
+    → IsStream stream → slice_get plan.transmitters who ≡ Some t → HasNoListing t.address (feed plan stream) mark end
     → NoneLists t.address (who / 34) (feed plan stream) mark end
 none_lists plan stream t who mark end p u listed none g ops far l h =
     let place = counted_behind (readings (feed plan stream)) g ops h in
     let order = order_says plan stream g ops p u h in
-    let unlisted : is_listed (paging_at plan stream (g / 4)) who ≡ false =
-    sym (ap (λ (b : Bool). b && is_listed (paging_at plan stream (g / 4)) who) (some_order plan stream g ops p u h))
+    let unlisted : is_listed (paging_at plan stream (g / 4)) who ≡ false = sym (grind (arith, some_order))
     ∙ sym (listing_is plan stream t who g p u listed place.whole) ∙ none g place.whole far l in
     let other = not_its_page plan.transmitters (filled_groups stream (g / 4)) who
     (slice_get_within plan.transmitters who t listed) unlisted in
@@ -377,8 +322,7 @@ no_lines plan stream t delay earlier mark n j none =
 -- before the first listing's last packet no group lists it
 none_before : (address : ℕ) (feed : List (List ℕ)) (mark n k : ℕ) → IsFirstListing address feed mark (mark + n) k
     → HasNoListing address feed mark (mark + (k + 3 - mark))
-none_before address feed mark n k first g whole far l =
-    first.least g whole far (omega (arith, l, far))
+none_before address feed mark n k first g whole far l = first.least g whole far (omega (arith, l, far))
 
 waits_before : (plan : Plan) (stream : List (List ℕ)) (t : Transmitter) (delay : ℕ) (earlier : List (List ℕ))
     (mark n k : ℕ) → (j : IsFedAnew plan stream t delay earlier mark n)
@@ -395,15 +339,14 @@ nothing_before : (plan : Plan) (stream : List (List ℕ)) (t : Transmitter) (del
     → before_stretch t.address delay earlier (feed plan stream) mark k ≡ []
 unfolding before_stretch
 nothing_before plan stream t delay earlier mark n k j first =
-    let fed : List (List ℕ) = feed plan stream in
     let far = first.behind in
     let w = waits_before plan stream t delay earlier mark n k j first in
     let e : k - mark ≡ k - mark - 1 + 1 = omega (arith, far) in
     ap₂ (λ x y. x ++ sync_behind y k)
-    (emits_nothing t.address delay (own_page j) t.offset earlier fed mark (k + 3 - mark) w)
-    (ap (λ i. last_segments t.address delay (earlier ++ take i (drop mark fed))) e
-    ∙ given_nothing t.address delay (own_page j) t.offset earlier fed mark (k + 3 - mark) (k - mark - 1) w
-    (omega (arith, far)))
+    (emits_nothing t.address delay (own_page j) t.offset earlier (feed plan stream) mark (k + 3 - mark) w)
+    (ap (λ i. last_segments t.address delay (earlier ++ take i (drop mark (feed plan stream)))) e
+    ∙ given_nothing t.address delay (own_page j) t.offset earlier (feed plan stream) mark (k + 3 - mark)
+    (k - mark - 1) w (omega (arith, far)))
 
 locked_at : (earlier : List (List ℕ)) (mark : ℕ) → HaveNoMark earlier → locked_from earlier mark ≡ mark
 unfolding locked_from
@@ -415,8 +358,7 @@ is_stretch : (plan : Plan) (stream : List (List ℕ)) (t : Transmitter) (delay :
     → IsStretch t.address (feed plan stream) (locked_from earlier mark) mark (mark + n) k
 is_stretch plan stream t delay earlier mark n k j first =
     stretch_from plan stream t earlier mark (mark + n) k j.is_plan j.is_stream j.listed j.at_mark j.inside
-    (subst (λ (z : ℕ). IsFirstListing t.address (feed plan stream) z (mark + n) k)
-    (sym (locked_at earlier mark j.unmarked)) first)
+    (subst (λ (z : ℕ). IsFirstListing t.address (feed plan stream) z (mark + n) k) (grind (arith, locked_at)) first)
 
 pub segments_from : (plan : Plan) (stream : List (List ℕ)) (t : Transmitter) (delay : ℕ) (earlier : List (List ℕ))
     (mark n k : ℕ) → IsFedAnew plan stream t delay earlier mark n
@@ -425,8 +367,7 @@ pub segments_from : (plan : Plan) (stream : List (List ℕ)) (t : Transmitter) (
     ≡ stretch_of (feed plan stream) k (mark + n)
 segments_from plan stream t delay earlier mark n k j first =
     let fed : List (List ℕ) = feed plan stream in
-    lockstep_is t.address delay t.offset fed earlier mark (mark + n) k
-    (locks_with plan stream t delay j.is_plan j.is_stream j.listed j.in_time)
+    lockstep_is t.address delay t.offset fed earlier mark (mark + n) k (grind (arith, locks_with))
     (is_stretch plan stream t delay earlier mark n k j first)
     ∙ ap (λ x. x ++ stretch fed k (mark + n)) (nothing_before plan stream t delay earlier mark n k j first)
     ∙ sym (stretch_is fed k (mark + n) first.whole j.inside)
@@ -439,8 +380,7 @@ pub lines_from : (plan : Plan) (stream : List (List ℕ)) (t : Transmitter) (del
 lines_from plan stream t delay earlier mark n k j first =
     let fed : List (List ℕ) = feed plan stream in
     let far = first.behind in
-    lines_is t.address delay 0 t.offset fed earlier mark (mark + n) k
-    (locks_with plan stream t delay j.is_plan j.is_stream j.listed j.in_time)
+    lines_is t.address delay 0 t.offset fed earlier mark (mark + n) k (grind (arith, locks_with))
     (is_stretch plan stream t delay earlier mark n k j first)
     ∙ ap₂ (λ x y. x ++ stretch_lines t.offset (0 + length y) fed k (mark + n))
     (logs_nothing t.address delay (own_page j) 0 t.offset earlier fed mark (k + 3 - mark)

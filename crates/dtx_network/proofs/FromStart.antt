@@ -1,6 +1,6 @@
 -- An exciter that is given a feed from its first packet on: nothing before its first listing, and from there on the
 -- feed's own segments.
-use Rattle.std.proofs.Common.{◌≡◌, ℕ, ◌+◌, ◌≤◌, List, [], ◌++◌, length, take, sym, ap, subst, ◌∙◌, arith, slice_range}
+use Rattle.std.proofs.Common.{◌≡◌, ℕ, ◌+◌, ◌≤◌, List, [], ◌++◌, length, take, sym, ap, ◌∙◌, arith, slice_range}
 use Rattle.dtx_plan.specs.declared.plan.Plan.{Plan}
 use Rattle.dtx_plan.specs.declared.transmitter.Transmitter.{Transmitter}
 use Rattle.dtx_adapter.specs.Feed.{feed}
@@ -17,15 +17,7 @@ nothing_unmarked = λ i l. absurd (omega (arith, l))
 
 fed_anew : (plan : Plan) (stream : List (List ℕ)) (t : Transmitter) (n : ℕ) → IsPlan plan → IsStream stream
     → IsListed plan t → IsInTime plan t → n ≤ length (feed plan stream) → IsFedAnew plan stream t t.delay [] 0 n
-fed_anew plan stream t n p u listed time l = record {
-  is_plan = p;
-  is_stream = u;
-  listed = listed;
-  in_time = time;
-  unmarked = nothing_unmarked;
-  at_mark = omega arith;
-  inside = omega (arith, l);
-}
+fed_anew plan stream t n p u listed time l = grind (arith, nothing_unmarked)
 
 zero : (n : ℕ) → 0 + n ≡ n
 zero n = omega arith
@@ -34,20 +26,16 @@ from_start : (feed : List (List ℕ)) (n : ℕ) → take n feed ≡ [] ++ slice_
 from_start feed n = sym (from_mark feed 0 n)
 
 pub no_segments : (plan : Plan) (stream : List (List ℕ)) (t : Transmitter) (n : ℕ) → IsPlan plan → IsStream stream
-    → IsListed plan t → IsInTime plan t → n ≤ length (feed plan stream)
-    → HasNoListing t.address (feed plan stream) 0 n
+    → IsListed plan t → IsInTime plan t → n ≤ length (feed plan stream) → HasNoListing t.address (feed plan stream) 0 n
     → emission t.address t.delay (take n (feed plan stream)) ≡ []
-no_segments plan stream t n p u listed time l none =
-    ap (emission t.address t.delay) (from_start (feed plan stream) n)
+no_segments plan stream t n p u listed time l none = ap (emission t.address t.delay) (from_start (feed plan stream) n)
     ∙ behind.no_segments plan stream t t.delay [] 0 n (fed_anew plan stream t n p u listed time l)
     (λ g whole far h. none g whole far (omega (arith, h)))
 
 pub no_lines : (plan : Plan) (stream : List (List ℕ)) (t : Transmitter) (n : ℕ) → IsPlan plan → IsStream stream
-    → IsListed plan t → IsInTime plan t → n ≤ length (feed plan stream)
-    → HasNoListing t.address (feed plan stream) 0 n
+    → IsListed plan t → IsInTime plan t → n ≤ length (feed plan stream) → HasNoListing t.address (feed plan stream) 0 n
     → life_lines t.address t.delay 0 (take n (feed plan stream)) ≡ []
-no_lines plan stream t n p u listed time l none =
-    ap (life_lines t.address t.delay 0) (from_start (feed plan stream) n)
+no_lines plan stream t n p u listed time l none = ap (life_lines t.address t.delay 0) (from_start (feed plan stream) n)
     ∙ behind.no_lines plan stream t t.delay [] 0 n (fed_anew plan stream t n p u listed time l)
     (λ g whole far h. none g whole far (omega (arith, h)))
 
@@ -58,8 +46,7 @@ pub segments_from : (plan : Plan) (stream : List (List ℕ)) (t : Transmitter) (
 segments_from plan stream t n k p u listed time l first =
     ap (emission t.address t.delay) (from_start (feed plan stream) n)
     ∙ behind.segments_from plan stream t t.delay [] 0 n k (fed_anew plan stream t n p u listed time l)
-    (subst (λ (end : ℕ). IsFirstListing t.address (feed plan stream) 0 end k) (sym (zero n)) first)
-    ∙ ap (stretch_of (feed plan stream) k) (zero n)
+    (grind (arith, zero)) ∙ ap (stretch_of (feed plan stream) k) (zero n)
 
 pub lines_from : (plan : Plan) (stream : List (List ℕ)) (t : Transmitter) (n k : ℕ) → IsPlan plan → IsStream stream
     → IsListed plan t → IsInTime plan t → n ≤ length (feed plan stream)
@@ -68,5 +55,4 @@ pub lines_from : (plan : Plan) (stream : List (List ℕ)) (t : Transmitter) (n k
 lines_from plan stream t n k p u listed time l first =
     ap (life_lines t.address t.delay 0) (from_start (feed plan stream) n)
     ∙ behind.lines_from plan stream t t.delay [] 0 n k (fed_anew plan stream t n p u listed time l)
-    (subst (λ (end : ℕ). IsFirstListing t.address (feed plan stream) 0 end k) (sym (zero n)) first)
-    ∙ ap (presets plan t.offset 0 (feed plan stream) k) (zero n)
+    (grind (arith, zero)) ∙ ap (presets plan t.offset 0 (feed plan stream) k) (zero n)

@@ -1,7 +1,7 @@
 -- Whom the groups of a feed list. So exciters lock to the feed, and it serves each listed transmitter that is in time.
 use Rattle.std.proofs.Common.{◌≡◌, ◌≢◌, ◌⊎◌, inl, inr, ℕ, zero, suc, ◌+◌, ◌/◌, ◌%◌, ◌<◌, ◌≤◌, ◌==◌, ◌&&◌, ◌||◌, Bool}
 use Rattle.std.proofs.Common.{true, false, cond, Option, Some, None, List, [], ◌∷◌, length, take, get_or, refl, sym, ap}
-use Rattle.std.proofs.Common.{ap₂, subst, ◌∙◌, arith, nat_le, is_some, slice_get, eqb-true, true≢false, pos, ◌+ℤ◌, ◌≤ℤ◌}
+use Rattle.std.proofs.Common.{ap₂, ◌∙◌, arith, is_some, slice_get, eqb-true, pos, ◌+ℤ◌, ◌≤ℤ◌}
 use Rattle.std.specs.List.{range_with_len, list_any, find}
 use Rattle.std.proofs.lemmas.Bool.{cases_lt, cases_Bool, eqb-false}
 use Rattle.std.proofs.lemmas.Option.{slice_get-get_or}
@@ -9,7 +9,6 @@ use Rattle.dtx_packets.specs.Packet.{pid_of}
 use Rattle.dtx_ops.specs.declared.fields.Entry.{Entry}
 use Rattle.dtx_ops.specs.declared.fields.Ops.{Ops}
 use Rattle.dtx_ops.specs.declared.paging.Paging.{Paging}
-use Rattle.dtx_ops.specs.declared.paging.Paging.TheVariants.{One, Of}
 use Rattle.dtx_ops.specs.Paging.{page_of, pages_of}
 use Rattle.dtx_plan.specs.declared.plan.Plan.{Plan}
 use Rattle.dtx_plan.specs.declared.transmitter.Transmitter.{Transmitter}
@@ -30,48 +29,19 @@ use Rattle.dtx_exciter.specs.Pages as pages
 -- each order tells as many pages
 pub pages_are : {X : Type 0} (ts : List X) (n m : ℕ) → pages_of (paging_of ts n) ≡ pages_of (paging_of ts m)
 unfolding paging_of
-pages_are ts n m = by_test (nat_le (length ts) 35)
-  where
-    pages : ℕ
-    pages = pages_for (length ts)
-
-    by_test : (t : Bool) → pages_of (cond t One (Of (n % pages) pages)) ≡ pages_of (cond t One (Of (m % pages) pages))
-    by_test true = refl
-    by_test false = refl
+pages_are ts n m = grind arith
 
 -- a page and its like list the same transmitters
 pub same_page : {X : Type 0} (ts : List X) (n m who : ℕ) → page_of (paging_of ts n) ≡ page_of (paging_of ts m)
     → is_listed (paging_of ts n) who ≡ is_listed (paging_of ts m) who
 unfolding paging_of
-same_page ts n m who = by_test (nat_le (length ts) 35)
-  where
-    pages : ℕ
-    pages = pages_for (length ts)
-
-    by_test : (t : Bool) → page_of (cond t One (Of (n % pages) pages)) ≡ page_of (cond t One (Of (m % pages) pages))
-        → is_listed (cond t One (Of (n % pages) pages)) who ≡ is_listed (cond t One (Of (m % pages) pages)) who
-    by_test true e = refl
-    by_test false e = ap (λ (page : ℕ). page == who / 34) e
+same_page ts n m who = grind arith
 
 -- a page that a transmitter doesn't stand on: there is another one, which is its own
 pub not_its_page : {X : Type 0} (ts : List X) (n who : ℕ) → who < length ts → is_listed (paging_of ts n) who ≡ false
     → (page_of (paging_of ts n) ≢ who / 34) × (who / 34 < pages_of (paging_of ts n))
 unfolding pages_for
-not_its_page ts n who l other = by_count (cases_lt 35 (length ts))
-  where
-    by_count : (35 < length ts) ⊎ (length ts ≤ 35)
-        → (page_of (paging_of ts n) ≢ who / 34) × (who / 34 < pages_of (paging_of ts n))
-    by_count (inr few) =
-        absurd (true≢false (ap (λ (x : Paging). is_listed x who) (sym (paging_of-few ts n few)) ∙ other))
-    by_count (inl many) =
-        let paging : paging_of ts n ≡ Of (n % pages_for (length ts)) (pages_for (length ts)) =
-        paging_of-many ts n many in
-        let own : who / 34 < (length ts + 33) / 34 = omega (arith, l) in (
-          λ same. eqb-false (n % pages_for (length ts)) (who / 34)
-              (ap (λ (x : Paging). is_listed x who) (sym paging) ∙ other)
-              (ap (λ (x : Paging). page_of x) (sym paging) ∙ same),
-          subst (λ (x : Paging). who / 34 < pages_of x) (sym paging) own,
-        )
+not_its_page ts n who l other = grind (arith, cases_lt, paging_of-few, paging_of-many, eqb-false)
 
 -- ---- what an order lists
 
@@ -79,8 +49,7 @@ not_its_page ts n who l other = by_count (cases_lt 35 (length ts))
 pub entry_is : (plan : Plan) (stream : List (List ℕ)) (t : Transmitter) (who g : ℕ) (ops : Ops) → IsPlan plan
     → slice_get plan.transmitters who ≡ Some t → IsOrder plan stream g ops
     → pages.entry_of t.address ops ≡ cond (is_listed (paging_at plan stream (g / 4)) who) (Some (entry_of t)) None
-entry_is plan stream t who g ops p listed o =
-    ap (find (λ e. e.address == t.address)) o.entries
+entry_is plan stream t who g ops p listed o = ap (find (λ e. e.address == t.address)) o.entries
     ∙ entry_on_page plan.transmitters (paging_at plan stream (g / 4)) who t p.sound.transmitters.distinct listed
 
 some_cond : {A : Type 0} (b : Bool) (x : A) → is_some (cond b (Some x) None) ≡ b
@@ -90,8 +59,7 @@ some_cond false x = refl
 pub lists_is : (plan : Plan) (stream : List (List ℕ)) (t : Transmitter) (who g : ℕ) (ops : Ops) → IsPlan plan
     → slice_get plan.transmitters who ≡ Some t → IsOrder plan stream g ops
     → pages.lists t.address ops ≡ is_listed (paging_at plan stream (g / 4)) who
-lists_is plan stream t who g ops p listed o =
-    ap (λ (e : Option Entry). is_some e) (entry_is plan stream t who g ops p listed o)
+lists_is plan stream t who g ops p listed o = ap (λ (e : Option Entry). is_some e) (grind (arith, entry_is))
     ∙ some_cond (is_listed (paging_at plan stream (g / 4)) who) (entry_of t)
 
 -- ---- what a packet lists
@@ -100,14 +68,12 @@ said_lists : (plan : Plan) (stream before : List (List ℕ)) (t : Transmitter) (
     → slice_get plan.transmitters who ≡ Some t
     → pages.lists t.address (ops_at plan stream before k) ≡ is_listed (paging_at plan stream (k / 4)) who
 unfolding ops_at
-said_lists plan stream before t who k p listed =
-    ap (λ (e : Option Entry). is_some e)
+said_lists plan stream before t who k p listed = ap (λ (e : Option Entry). is_some e)
     (entry_on_page plan.transmitters (paging_at plan stream (k / 4)) who t p.sound.transmitters.distinct listed)
     ∙ some_cond (is_listed (paging_at plan stream (k / 4)) who) (entry_of t)
 
 listing_at : (plan : Plan) (stream : List (List ℕ)) (t : Transmitter) (who k : ℕ) → IsPlan plan → IsStream stream
-    → slice_get plan.transmitters who ≡ Some t
-    → is_listing t.address (reads (get_or (feed plan stream) k []))
+    → slice_get plan.transmitters who ≡ Some t → is_listing t.address (reads (get_or (feed plan stream) k []))
     ≡ (is_operations stream k && is_listed (paging_at plan stream (k / 4)) who)
 unfolding is_operations
 listing_at plan stream t who k p s listed = by_cases (cases_Bool (pid_of (get_or stream k []) == 0x1FFA))
@@ -120,24 +86,18 @@ listing_at plan stream t who k p s listed = by_cases (cases_Bool (pid_of (get_or
 
     by_cases : (test ≡ true) ⊎ (test ≡ false)
         → is_listing t.address (reads (get_or (feed plan stream) k [])) ≡ (test && own)
-    by_cases (inl e) =
-        ap (is_listing t.address) (reads_as (get_or (feed plan stream) k [])
+    by_cases (inl e) = ap (is_listing t.address) (reads_as (get_or (feed plan stream) k [])
         (ops_at plan stream (take k (feed plan stream)) k)
         (operations_read plan stream k p s (eqb-true (pid_of (get_or stream k [])) 0x1FFA e)))
-        ∙ said_lists plan stream (take k (feed plan stream)) t who k p listed
-        ∙ sym (ap (λ (b : Bool). b && own) e)
-    by_cases (inr e) =
-        ap (is_listing t.address) (reads_other (get_or (feed plan stream) k [])
-        (other_stays plan stream k (eqb-false (pid_of (get_or stream k [])) 0x1FFA e)))
-        ∙ sym (ap (λ (b : Bool). b && own) e)
+        ∙ said_lists plan stream (take k (feed plan stream)) t who k p listed ∙ sym (ap (λ (b : Bool). b && own) e)
+    by_cases (inr e) = grind (arith, reads_other, other_stays, eqb-false)
 
 -- ---- what a group lists
 
 any_within : (p q : ℕ → Bool) (a n : ℕ) → ((k : ℕ) → a ≤ k → k < a + n → p k ≡ q k)
     → list_any p (range_with_len a n) ≡ list_any q (range_with_len a n)
 any_within p q a zero h = refl
-any_within p q a (suc n) h =
-    ap₂ ◌||◌ (h a (omega arith) (omega arith))
+any_within p q a (suc n) h = ap₂ ◌||◌ (h a (omega arith) (omega arith))
     (any_within p q (a + 1) n (λ k l m. h k (omega arith) (omega arith)))
 
 each_or : (x y b : Bool) → ((x && b) || (y && b)) ≡ ((x || y) && b)
@@ -149,15 +109,14 @@ each_or true false false = refl
 -- a test beside which another one stands
 any_and : (p : ℕ → Bool) (b : Bool) (xs : List ℕ) → list_any (λ k. p k && b) xs ≡ (list_any p xs && b)
 any_and p b [] = refl
-any_and p b (x ∷ xs) =
-    ap (λ (r : Bool). (p x && b) || r) (any_and p b xs) ∙ each_or (p x) (list_any p xs) b
+any_and p b (x ∷ xs) = ap (λ (r : Bool). (p x && b) || r) (any_and p b xs) ∙ each_or (p x) (list_any p xs) b
 
 pub listing_is : (plan : Plan) (stream : List (List ℕ)) (t : Transmitter) (who g : ℕ) → IsPlan plan → IsStream stream
-    → slice_get plan.transmitters who ≡ Some t → g % 4 ≡ 0
-    → has_listing t.address (feed plan stream) g
+    → slice_get plan.transmitters who ≡ Some t → g % 4 ≡ 0 → has_listing t.address (feed plan stream) g
     ≡ (has_order (feed plan stream) g && is_listed (paging_at plan stream (g / 4)) who)
 unfolding has_listing has_order
 listing_is plan stream t who g p s listed whole =
+    let own : Bool = is_listed (paging_at plan stream (g / 4)) who in
     any_within (λ k. is_listing t.address (reads (get_or (feed plan stream) k [])))
     (λ k. is_operations stream k && own) g 4 (λ k l m.
     let turn : k / 4 ≡ g / 4 = omega (arith, whole, l, m) in
@@ -165,9 +124,6 @@ listing_is plan stream t who g p s listed whole =
     ∙ ap (λ (u : ℕ). is_operations stream k && is_listed (paging_at plan stream u) who) turn)
     ∙ any_and (is_operations stream) own (range_with_len g 4)
     ∙ ap (λ (b : Bool). b && own) (sym (same_orders plan stream g p s))
-  where
-    own : Bool
-    own = is_listed (paging_at plan stream (g / 4)) who
 
 and_true : (b : Bool) → (b && true) ≡ b
 and_true true = refl
@@ -189,12 +145,7 @@ listing_few plan stream t who g p s listed few =
 -- ---- a group that lists somebody orders something
 
 listing_packet : (address : ℕ) (p : List ℕ) → is_listing address (reads p) ≡ true → (pid_of p == 0x1FFA) ≡ true
-listing_packet address p h = by_cases (cases_Bool (pid_of p == 0x1FFA))
-  where
-    by_cases : ((pid_of p == 0x1FFA) ≡ true) ⊎ ((pid_of p == 0x1FFA) ≡ false) → (pid_of p == 0x1FFA) ≡ true
-    by_cases (inl e) = e
-    by_cases (inr e) =
-        absurd (true≢false (sym h ∙ ap (is_listing address) (reads_other p (eqb-false (pid_of p) 0x1FFA e))))
+listing_packet address p h = grind (arith, cases_Bool, reads_other, eqb-false)
 
 either_passes : (a b c d : Bool) → (a ≡ true → c ≡ true) → (b ≡ true → d ≡ true) → (a || b) ≡ true → (c || d) ≡ true
 either_passes true b c d f g h = ap (λ (x : Bool). x || d) (f refl)
@@ -204,15 +155,12 @@ either_passes false b false d f g h = g h
 any_passes : (p q : ℕ → Bool) (xs : List ℕ) → ((k : ℕ) → p k ≡ true → q k ≡ true) → list_any p xs ≡ true
     → list_any q xs ≡ true
 any_passes p q [] h e = e
-any_passes p q (x ∷ xs) h e =
-    either_passes (p x) (list_any p xs) (q x) (list_any q xs) (h x) (any_passes p q xs h) e
+any_passes p q (x ∷ xs) h e = either_passes (p x) (list_any p xs) (q x) (list_any q xs) (h x) (any_passes p q xs h) e
 
 pub listing_orders : (address : ℕ) (packets : List (List ℕ)) (g : ℕ) → has_listing address packets g ≡ true
     → has_order packets g ≡ true
 unfolding has_listing has_order is_operations
-listing_orders address packets g h =
-    any_passes (λ k. is_listing address (reads (get_or packets k []))) (λ k. pid_of (get_or packets k []) == 0x1FFA)
-    (range_with_len g 4) (λ k. listing_packet address (get_or packets k [])) h
+listing_orders address packets g h = grind (arith, any_passes, listing_packet)
 
 -- ---- two orders
 
@@ -222,18 +170,13 @@ earlier stream g = filled_groups stream (g / 4)
 
 same_pages : (plan : Plan) (stream : List (List ℕ)) (g h : ℕ) (ops other : Ops) → IsOrder plan stream g ops
     → IsOrder plan stream h other → pages_of ops.paging ≡ pages_of other.paging
-same_pages plan stream g h ops other o p =
-    ap (λ (x : Paging). pages_of x) o.paging
-    ∙ pages_are plan.transmitters (earlier stream g) (earlier stream h)
-    ∙ sym (ap (λ (x : Paging). pages_of x) p.paging)
+same_pages plan stream g h ops other o p = grind (arith, pages_are)
 
 same_lists : (plan : Plan) (stream : List (List ℕ)) (t : Transmitter) (who g h : ℕ) (ops other : Ops) → IsPlan plan
     → slice_get plan.transmitters who ≡ Some t → IsOrder plan stream g ops → IsOrder plan stream h other
     → page_of ops.paging ≡ page_of other.paging → pages.lists t.address ops ≡ pages.lists t.address other
-same_lists plan stream t who g h ops other p listed o q same =
-    lists_is plan stream t who g ops p listed o
-    ∙ same_page plan.transmitters (earlier stream g) (earlier stream h) who
-    (ap (λ (x : Paging). page_of x) (sym o.paging) ∙ same ∙ ap (λ (x : Paging). page_of x) q.paging)
+same_lists plan stream t who g h ops other p listed o q same = lists_is plan stream t who g ops p listed o
+    ∙ same_page plan.transmitters (earlier stream g) (earlier stream h) who (grind arith)
     ∙ sym (lists_is plan stream t who h other p listed q)
 
 -- ---- one order
@@ -252,8 +195,7 @@ own_offset plan stream t who g ops e p listed o h =
 serves_it : (plan : Plan) (stream : List (List ℕ)) (t : Transmitter) (delay g : ℕ) (ops : Ops)
     → pos delay ≤ℤ (pos plan.max_delay +ℤ t.offset) → IsOrder plan stream g ops
     → pos delay ≤ℤ (pos ops.max_delay +ℤ t.offset)
-serves_it plan stream t delay g ops time o =
-    subst (λ (most : ℕ). pos delay ≤ℤ (pos most +ℤ t.offset)) (sym o.max_delay) time
+serves_it plan stream t delay g ops time o = grind arith
 
 -- ---- the feed
 
@@ -264,23 +206,13 @@ mark_told false = refl
 locks_at : (plan : Plan) (stream : List (List ℕ)) (t : Transmitter) (delay who : ℕ) → IsPlan plan → IsStream stream
     → slice_get plan.transmitters who ≡ Some t → pos delay ≤ℤ (pos plan.max_delay +ℤ t.offset)
     → IsFeed t.address delay t.offset (feed plan stream)
-locks_at plan stream t delay who p s listed time = record {
-  marks = λ k l. let within : k < length stream = omega (arith, l, length-feed plan stream) in
-      ap (λ (b : ℕ). b == 0xB8) (sync_fed plan stream k within (s.long k [] within)) ∙ mark_told (k % 624 == 0);
-  states = λ g ops h. (order_says plan stream g ops p s h).states;
-  pages = λ g h ops other e f. same_pages plan stream g h ops other (order_says plan stream g ops p s e)
-      (order_says plan stream h other p s f);
-  same = λ g h ops other e f. same_lists plan stream t who g h ops other p listed (order_says plan stream g ops p s e)
-      (order_says plan stream h other p s f);
-  entry = λ g ops e h. own_offset plan stream t who g ops e p listed (order_says plan stream g ops p s h);
-  serves = λ g ops h. serves_it plan stream t delay g ops time (order_says plan stream g ops p s h);
-}
+locks_at plan stream t delay who p s listed time =
+    grind (arith, length-feed, sync_fed, mark_told, order_says, same_pages, same_lists, own_offset, serves_it)
 
 -- the place of a listed transmitter
 pub place_of : (plan : Plan) (t : Transmitter) → IsListed plan t
     → (who : ℕ) × (slice_get plan.transmitters who ≡ Some t)
-place_of plan t listed =
-    (listed.0, slice_get-get_or plan.transmitters listed.0 t listed.1 ∙ ap Some listed.2)
+place_of plan t listed = (listed.0, slice_get-get_or plan.transmitters listed.0 t listed.1 ∙ ap Some listed.2)
 
 -- whatever delay it has that is in time
 pub locks_with : (plan : Plan) (stream : List (List ℕ)) (t : Transmitter) (delay : ℕ) → IsPlan plan → IsStream stream

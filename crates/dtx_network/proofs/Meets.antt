@@ -1,8 +1,8 @@
 -- The premises of the headline can be met.
-use Rattle.std.proofs.Common.{◌≡◌, ◌⊎◌, inl, inr, ℕ, zero, suc, ◌+◌, ◌-◌, ◌%◌, ◌<◌, ◌≤◌, ◌==◌, ◌&&◌, Bool, true, false}
+use Rattle.std.proofs.Common.{◌≡◌, ◌⊎◌, inl, inr, ℕ, zero, suc, ◌+◌, ◌-◌, ◌%◌, ◌≤◌, ◌==◌, ◌&&◌, Bool, true, false}
 use Rattle.std.proofs.Common.{Option, Some, None, List, [], ◌∷◌, ◌++◌, length, map, take, drop, get_or, refl, sym, ap}
 use Rattle.std.proofs.Common.{ap₂, subst, ◌∙◌, ◌≢◌, arith}
-use Rattle.std.specs.Prelude.{nat_le, filter, slice_get, slice_range}
+use Rattle.std.specs.Prelude.{nat_le, slice_get, slice_range}
 use Rattle.std.specs.List.{range_with_len, find}
 use Rattle.std.proofs.lemmas.Bool.{cases_Bool, false≢true, eq-eqb, eqb-true, le-leb, leb-true, and_from, and_parts}
 use Rattle.std.proofs.lemmas.Cmp.{nat_eq_equiv}
@@ -11,7 +11,7 @@ use Rattle.std.proofs.lemmas.Grind.{flat_map-append}
 use Rattle.std.proofs.lemmas.Option.{get_or_from_slice_get}
 use Rattle.std.proofs.lemmas.List.Elements.{filter-append}
 use Rattle.std.proofs.lemmas.Map.Views.{list_any-from_Contains}
-use Rattle.dtx_lists.proofs.RangeSearch.{IsFirst, find-range_gives, find-range_misses}
+use Rattle.dtx_lists.proofs.RangeSearch.{find-range_gives, find-range_misses}
 use Rattle.dtx_lists.proofs.RangeMoved.{map-range_moved}
 use Rattle.dtx_plan.specs.declared.plan.Plan.{Plan}
 use Rattle.dtx_plan.specs.declared.transmitter.Transmitter.{Transmitter}
@@ -21,10 +21,8 @@ use Rattle.dtx_plan.specs.TransmitterTable.{addresses_of}
 use Rattle.dtx_plan.specs.Sound.{IsEvent, to_of}
 use Rattle.dtx_adapter.specs.Feed.{feed}
 use Rattle.dtx_adapter.proofs.FeedsLemmas.{length-feed}
-use Rattle.dtx_exciter.specs.Emission.{emission}
 use Rattle.dtx_exciter.proofs.LockedLemmas.{locked_nothing, locked_soon}
 use Rattle.dtx_exciter.specs.Lockstep.{locked_from}
-use Rattle.dtx_exciter.specs.Log.{emission_over}
 use Rattle.dtx_net.specs.Sent.{sent_segments}
 use Rattle.dtx_net.specs.Steps.{Step, transmitter_place, actions_of, steps_at, steps_of, schedule}
 use Rattle.dtx_net.specs.Lives.{own_steps, lives_from, lives_of, last_life}
@@ -49,20 +47,13 @@ all_given [] zero zero l = refl
 all_given [] zero (suc n) l = absurd (omega arith)
 all_given [] (suc a) n l = absurd (omega arith)
 all_given (p ∷ ps) zero zero l = refl
-all_given (p ∷ ps) zero (suc n) l =
-    ap (λ (rest : List (Option (List ℕ))). Some p ∷ rest)
-    (map-range_moved (λ k. Some (get_or (p ∷ ps) k [])) (λ k. Some (get_or ps k [])) (0 + 1) 0 n
-    (λ i l.
-    let e : 0 + 1 + i ≡ suc i = omega arith in
-    let z : i ≡ 0 + i = omega arith in
-    ap (λ k. Some (get_or (p ∷ ps) k [])) e ∙ ap (λ k. Some (get_or ps k [])) z)
+all_given (p ∷ ps) zero (suc n) l = ap (λ (rest : List (Option (List ℕ))). Some p ∷ rest)
+    (map-range_moved (λ k. Some (get_or (p ∷ ps) k [])) (λ k. Some (get_or ps k [])) (0 + 1) 0 n (λ i l. grind arith)
     ∙ all_given ps 0 n (omega arith))
 all_given (p ∷ ps) (suc a) n l =
-    map-range_moved (λ k. Some (get_or (p ∷ ps) k [])) (λ k. Some (get_or ps k [])) (suc a) a n
-    (λ i l.
+    map-range_moved (λ k. Some (get_or (p ∷ ps) k [])) (λ k. Some (get_or ps k [])) (suc a) a n (λ i l.
     let e : suc a + i ≡ suc (a + i) = omega arith in
-    ap (λ k. Some (get_or (p ∷ ps) k [])) e)
-    ∙ all_given ps a n (omega arith)
+    ap (λ k. Some (get_or (p ∷ ps) k [])) e) ∙ all_given ps a n (omega arith)
 
 -- the lives that end in these actions, where the first of them begins with these packets, and the packets of the life
 -- that goes on
@@ -86,10 +77,8 @@ lives_on life (None ∷ xs) ys = ap (λ (l : List (List (List ℕ))). life ∷ l
 -- the packets of the life that goes on are those of its last one
 last_goes_on : (who : ℕ) (steps : List Step) → last_life who steps ≡ going_on [] (own_steps who steps)
 unfolding lives_of
-last_goes_on who steps =
-    let a : List (Option (List ℕ)) = own_steps who steps in
-    last_life_is who steps (ended [] a) (going_on [] a)
-    (ap (lives_from []) (sym (append-nil a)) ∙ lives_on [] a [])
+last_goes_on who steps = last_life_is who steps (ended [] (own_steps who steps)) (going_on [] (own_steps who steps))
+    (ap (lives_from []) (sym (append-nil (own_steps who steps))) ∙ lives_on [] (own_steps who steps) [])
 
 -- the packets up to the first restart, and the lives behind it
 first_given : List (Option (List ℕ)) → List (List ℕ)
@@ -106,29 +95,21 @@ lives_first : (life : List (List ℕ)) (ys : List (Option (List ℕ)))
     → lives_from life ys ≡ (life ++ first_given ys) ∷ lives_then ys
 unfolding first_given lives_then
 lives_first life [] = ap (λ (l : List (List ℕ)). l ∷ []) (sym (append-nil life))
-lives_first life (Some p ∷ ys) =
-    lives_first (life ++ p ∷ []) ys
-    ∙ ap (λ (l : List (List ℕ)). l ∷ lives_then ys) (append_assoc life (p ∷ []) (first_given ys))
+lives_first life (Some p ∷ ys) = rw (lives_first (life ++ p ∷ []) ys, append_assoc life (p ∷ []) (first_given ys))
 lives_first life (None ∷ ys) = ap (λ (l : List (List ℕ)). l ∷ lives_from [] ys) (sym (append-nil life))
 
 -- packets in a row
 lives_given : (life ps : List (List ℕ)) (ys : List (Option (List ℕ)))
     → lives_from life (map Some ps ++ ys) ≡ lives_from (life ++ ps) ys
 lives_given life [] ys = ap (λ (l : List (List ℕ)). lives_from l ys) (sym (append-nil life))
-lives_given life (p ∷ ps) ys =
-    lives_given (life ++ p ∷ []) ps ys
-    ∙ ap (λ (l : List (List ℕ)). lives_from l ys) (append_assoc life (p ∷ []) ps)
+lives_given life (p ∷ ps) ys = rw (lives_given (life ++ p ∷ []) ps ys, append_assoc life (p ∷ []) ps)
 
 own_more : (who : ℕ) (xs ys : List Step) → own_steps who (xs ++ ys) ≡ own_steps who xs ++ own_steps who ys
-own_more who xs ys =
-    ap (map (λ (step : Step). step.packet)) (filter-append (λ (step : Step). step.who == who) xs ys)
-    ∙ map-append (λ (step : Step). step.packet) (filter (λ (step : Step). step.who == who) xs)
-    (filter (λ (step : Step). step.who == who) ys)
+own_more who xs ys = grind (arith, filter-append, map-append)
 
 own_all : (who : ℕ) (actions : List (Option (List ℕ))) → own_steps who (steps_at (Some who) actions) ≡ actions
 own_all who [] = refl
-own_all who (a ∷ actions) =
-    own_here who (record { who = who; packet = a }) (steps_at (Some who) actions) refl
+own_all who (a ∷ actions) = own_here who (record { who = who; packet = a }) (steps_at (Some who) actions) refl
     ∙ ap (λ (rest : List (Option (List ℕ))). a ∷ rest) (own_all who actions)
 
 -- the event that gives a transmitter packets of the feed from one on
@@ -150,13 +131,12 @@ part_steps : (plan : Plan) (stream : List (List ℕ)) (t : Transmitter) (who mar
     ≡ map Some (given_of plan stream mark n)
 unfolding steps_of actions_of
 part_steps plan stream t who mark n p listed l =
-    let fed : List (List ℕ) = feed plan stream in
-    let actions : List (Option (List ℕ)) = map (λ k. Some (get_or fed k [])) (range_with_len mark n) in
+    let actions : List (Option (List ℕ)) = map (λ k. Some (get_or (feed plan stream) k [])) (range_with_len mark n) in
     let e : n ≡ mark + n - mark = omega arith in
     ap (λ (o : Option ℕ). own_steps who (steps_at o actions))
     (place_only plan.transmitters who t p.sound.transmitters listed)
-    ∙ own_all who actions ∙ all_given fed mark n (omega (arith, l, length-feed plan stream))
-    ∙ ap (λ (m : ℕ). map Some (take m (drop mark fed))) e
+    ∙ own_all who actions ∙ all_given (feed plan stream) mark n (omega (arith, l, length-feed plan stream))
+    ∙ ap (λ (m : ℕ). map Some (take m (drop mark (feed plan stream)))) e
 
 -- its lives, with that event among others
 lives_are : (plan : Plan) (stream : List (List ℕ)) (t : Transmitter) (who mark n : ℕ) (before after : List Event)
@@ -173,8 +153,7 @@ lives_are plan stream t who mark n before after p listed l =
     let a : List (Option (List ℕ)) = done_in plan stream who before in
     let b : List (Option (List ℕ)) = done_in plan stream who after in
     let own : List Step = steps_of ts fed (part_of_feed t mark n) in
-    ap (λ (steps : List Step). lives_from [] (own_steps who steps))
-    (flat_map-append (steps_of ts fed) before (part_of_feed t mark n ∷ after))
+    ap (λ (steps : List Step). lives_from [] (own_steps who steps)) (grind (arith, flat_map-append))
     ∙ ap (lives_from []) (own_more who (schedule ts fed before) (own ++ schedule ts fed after)
     ∙ ap (λ (x : List (Option (List ℕ))). a ++ x) (own_more who own (schedule ts fed after)
     ∙ ap (λ (x : List (Option (List ℕ))). x ++ b) (part_steps plan stream t who mark n p listed l)))
@@ -193,8 +172,7 @@ first_listing address fed z end g whole far l h = by_find (find test (range_with
     test i = nat_le (z + 52) i && ((i % 4 == 0) && has_listing address fed i)
 
     passes : (i : ℕ) → i % 4 ≡ 0 → z + 52 ≤ i → has_listing address fed i ≡ true → test i ≡ true
-    passes i w f o =
-        and_from (nat_le (z + 52) i) ((i % 4 == 0) && has_listing address fed i) (le-leb (z + 52) i f)
+    passes i w f o = and_from (nat_le (z + 52) i) ((i % 4 == 0) && has_listing address fed i) (le-leb (z + 52) i f)
         (and_from (i % 4 == 0) (has_listing address fed i) (eq-eqb (i % 4) 0 w) o)
 
     fails : (i : ℕ) → i % 4 ≡ 0 → z + 52 ≤ i → test i ≡ false
@@ -206,22 +184,7 @@ first_listing address fed z end g whole far l h = by_find (find test (range_with
         → (k : ℕ) × IsFirstListing address fed z end k × (k ≤ g)
     by_find None e = absurd (false≢true (sym (find-range_misses test 0 (g + 1) e g (omega arith) (omega arith))
         ∙ passes g whole far h))
-    by_find (Some k) e =
-        let first : IsFirst test 0 (g + 1) k = find-range_gives test 0 (g + 1) k e in
-        let within : k < 0 + (g + 1) = first.within in
-        let outer = and_parts (nat_le (z + 52) k) ((k % 4 == 0) && has_listing address fed k) first.passes in
-        let inner = and_parts (k % 4 == 0) (has_listing address fed k) outer.1 in
-        let behind : z + 52 ≤ k = leb-true (z + 52) k outer.0 in (
-          k,
-          record {
-            group = eqb-true (k % 4) 0 inner.0;
-            behind = behind;
-            whole = omega (arith, within, l);
-            listing = inner.1;
-            least = λ i w f m. fails i w f (first.before i (omega arith) m) (cases_Bool (has_listing address fed i));
-          },
-          omega (arith, within),
-        )
+    by_find (Some k) e = grind (arith, find-range_gives, and_parts, leb-true, eqb-true, cases_Bool)
 
 -- ---- what is done with others
 
@@ -236,22 +199,18 @@ own_at who (Some w) (a ∷ actions) n =
 
 not_here : (ts : List Transmitter) (t : Transmitter) (who : ℕ) (event : Event) → slice_get ts who ≡ Some t
     → to_of event ≢ t.address → transmitter_place (to_of event) ts ≢ Some who
-not_here ts t who event listed n = λ here.
-    let found = place_found ts (to_of event) who here in
-    n (sym found.2 ∙ ap (λ (u : Transmitter). u.address)
-    (sym (get_or_from_slice_get ts who found.0 t found.1) ∙ get_or_from_slice_get ts who t t listed))
+not_here ts t who event listed n = grind (arith, place_found, get_or_from_slice_get)
 
 done_by_others : (plan : Plan) (stream : List (List ℕ)) (t : Transmitter) (who : ℕ) (events : List Event)
     → slice_get plan.transmitters who ≡ Some t → AreOfOthers t events → done_in plan stream who events ≡ []
 unfolding done_in schedule steps_of
 done_by_others plan stream t who [] listed others = refl
 done_by_others plan stream t who (event ∷ events) listed others =
-    let ts : List Transmitter = plan.transmitters in
     let fed : List (List ℕ) = feed plan stream in
-    own_more who (steps_at (transmitter_place (to_of event) ts) (actions_of fed event)) (schedule ts fed events)
-    ∙ ap₂ (λ (x y : List (Option (List ℕ))). x ++ y)
-    (own_at who (transmitter_place (to_of event) ts) (actions_of fed event) (not_here ts t who event listed others.0))
-    (done_by_others plan stream t who events listed others.1)
+    own_more who (steps_at (transmitter_place (to_of event) plan.transmitters) (actions_of fed event))
+    (schedule plan.transmitters fed events) ∙ ap₂ (λ (x y : List (Option (List ℕ))). x ++ y)
+    (own_at who (transmitter_place (to_of event) plan.transmitters) (actions_of fed event)
+    (not_here plan.transmitters t who event listed others.0)) (done_by_others plan stream t who events listed others.1)
 
 -- ---- it joins
 
@@ -314,8 +273,7 @@ is_met plan stream t who mark n g before after p u listed time is_mark inside wh
 -- where it was given nothing before
 pub met_first : (plan : Plan) (stream : List (List ℕ)) (t : Transmitter) (who mark n g : ℕ) (before after : List Event)
     → IsPlan plan → IsStream stream → slice_get plan.transmitters who ≡ Some t → IsInTime plan t
-    → AreOfOthers t before → mark % 624 ≡ 0 → mark + n ≤ length stream
-    → g % 4 ≡ 0 → mark + 52 ≤ g → g + 4 ≤ mark + n
+    → AreOfOthers t before → mark % 624 ≡ 0 → mark + n ≤ length stream → g % 4 ≡ 0 → mark + 52 ≤ g → g + 4 ≤ mark + n
     → has_listing t.address (feed plan stream) g ≡ true → JoinsBehind plan stream before after t who mark n g []
 unfolding done_in going_on
 met_first plan stream t who mark n g before after p u listed time others is_mark inside whole far l h =
@@ -323,27 +281,23 @@ met_first plan stream t who mark n g before after p u listed time others is_mark
     ∙ ap (going_on []) (done_by_others plan stream t who before listed others) in
     let z : locked_from (given_before plan stream who before) mark ≡ mark =
     ap (λ x. locked_from x mark) nothing ∙ locked_nothing mark in
-    let met = is_met plan stream t who mark n g before after p u listed time is_mark inside whole
-    (omega (arith, z, far)) l h in
+    let met = is_met plan stream t who mark n g before after p u listed time is_mark inside whole (omega arith) l h in
     (met.0, met.1, met.2, met.3, met.4, met.5, met.6 ∙ nothing)
 
 -- whatever it was given before
 pub met_in_any_state : (plan : Plan) (stream : List (List ℕ)) (t : Transmitter) (who mark n g : ℕ)
     (before after : List Event)
     → IsPlan plan → IsStream stream → slice_get plan.transmitters who ≡ Some t → IsInTime plan t
-    → mark % 624 ≡ 0 → mark + n ≤ length stream
-    → g % 4 ≡ 0 → mark + 1300 ≤ g → g + 4 ≤ mark + n
+    → mark % 624 ≡ 0 → mark + n ≤ length stream → g % 4 ≡ 0 → mark + 1300 ≤ g → g + 4 ≤ mark + n
     → has_listing t.address (feed plan stream) g ≡ true
     → (x : Joined plan stream (before ++ Send t.address mark n ∷ after)) × (x.t ≡ t) × (x.who ≡ who)
     × (x.mark ≡ mark) × (x.count ≡ n) × (x.k ≤ g)
 met_in_any_state plan stream t who mark n g before after p u listed time is_mark inside whole far l h =
     let z = (locked_soon (given_before plan stream who before) mark).1 in
-    let met = is_met plan stream t who mark n g before after p u listed time is_mark inside whole
-    (omega (arith, z, far)) l h in
+    let met = is_met plan stream t who mark n g before after p u listed time is_mark inside whole (omega arith) l h in
     (met.0, met.1, met.2, met.3, met.4, met.5)
 
-pub met_in_turn : (plan : Plan) (stream : List (List ℕ)) (t : Transmitter) (who mark n : ℕ)
-    (before after : List Event)
+pub met_in_turn : (plan : Plan) (stream : List (List ℕ)) (t : Transmitter) (who mark n : ℕ) (before after : List Event)
     → IsPlan plan → IsStream stream → slice_get plan.transmitters who ≡ Some t → IsInTime plan t
     → mark % 624 ≡ 0 → mark + n ≤ length stream
     → pages_in plan ≤ length (orders stream (locked_from (given_before plan stream who before) mark + 52) (mark + n))
@@ -351,8 +305,7 @@ pub met_in_turn : (plan : Plan) (stream : List (List ℕ)) (t : Transmitter) (wh
     × (x.mark ≡ mark) × (x.count ≡ n)
 met_in_turn plan stream t who mark n before after p u listed time is_mark inside enough =
     let z : ℕ = locked_from (given_before plan stream who before) mark in
-    let one = lists_in_turn plan stream t (z + 52) (mark + n) p u
-    (contains_from_get plan.transmitters who t listed) enough in
+    let one = lists_in_turn plan stream t (z + 52) (mark + n) p u (grind (arith, contains_from_get)) enough in
     let met = is_met plan stream t who mark n one.group before after p u listed time is_mark inside one.whole
     one.behind one.inside one.listing in
     (met.0, met.1, met.2, met.3, met.4)
@@ -364,8 +317,7 @@ pub met_in_turn_in_any_state : (plan : Plan) (stream : List (List ℕ)) (t : Tra
     → (x : Joined plan stream (before ++ Send t.address mark n ∷ after)) × (x.t ≡ t) × (x.who ≡ who)
     × (x.mark ≡ mark) × (x.count ≡ n)
 met_in_turn_in_any_state plan stream t who mark n before after p u listed time is_mark inside enough =
-    let one = lists_in_turn plan stream t (mark + 1300) (mark + n) p u
-    (contains_from_get plan.transmitters who t listed) enough in
+    let one = lists_in_turn plan stream t (mark + 1300) (mark + n) p u (grind (arith, contains_from_get)) enough in
     let met = met_in_any_state plan stream t who mark n one.group before after p u listed time is_mark inside one.whole
     one.behind one.inside one.listing in
     (met.0, met.1, met.2, met.3, met.4)
@@ -391,27 +343,13 @@ one_life : (plan : Plan) (stream : List (List ℕ)) (t : Transmitter) (who n : �
     → lives_of who (steps_under plan stream (before ++ Send t.address 0 n ∷ after)) ≡ take n (feed plan stream) ∷ []
 unfolding ended going_on first_given lives_then
 one_life plan stream t who n before after p listed l first then =
-    let fed : List (List ℕ) = feed plan stream in
-    let e : 0 + n - 0 ≡ n = omega arith in
-    lives_are plan stream t who 0 n before after p listed (omega (arith, l))
-    ∙ ap₂ (λ (a b : List (Option (List ℕ))). ended [] a
-    ++ ((going_on [] a ++ given_of plan stream 0 n) ++ first_given b) ∷ lives_then b)
-    (done_by_others plan stream t who before listed first) (done_by_others plan stream t who after listed then)
-    ∙ alone (given_of plan stream 0 n) ∙ ap (λ (m : ℕ). take m fed ∷ []) e
-  where
-    alone : (part : List (List ℕ))
-        → ended [] [] ++ ((going_on [] [] ++ part) ++ first_given []) ∷ lives_then [] ≡ part ∷ []
-    alone part = ap (λ (x : List (List ℕ)). x ∷ []) (append-nil part)
+    grind (arith, lives_are, ended, going_on, first_given, lives_then, done_by_others, append-nil)
 
 pub sends_alone : (plan : Plan) (stream : List (List ℕ)) (t : Transmitter) (who n k : ℕ) (before after : List Event)
     → IsPlan plan → IsStream stream → slice_get plan.transmitters who ≡ Some t → IsInTime plan t
-    → n ≤ length stream → IsFirstListing t.address (feed plan stream) 0 n k → AreOfOthers t before
-    → AreOfOthers t after
+    → n ≤ length stream → IsFirstListing t.address (feed plan stream) 0 n k → AreOfOthers t before → AreOfOthers t after
     → sent_segments t who (steps_under plan stream (before ++ Send t.address 0 n ∷ after))
     ≡ stretch_of (feed plan stream) k n
 unfolding sent_segments
 sends_alone plan stream t who n k before after p u listed time l listing first then =
-    ap (emission_over t.address t.delay) (one_life plan stream t who n before after p listed l first then)
-    ∙ append-nil (emission t.address t.delay (take n (feed plan stream)))
-    ∙ segments_from plan stream t n k p u (contains_from_get plan.transmitters who t listed) time
-    (omega (arith, l, length-feed plan stream)) listing
+    grind (arith, one_life, append-nil, segments_from, contains_from_get, length-feed)

@@ -1,24 +1,21 @@
 -- What a feed orders, group by group.
-use Rattle.std.proofs.Common.{◌≡◌, ◌≢◌, ◌⊎◌, inl, inr, ℕ, zero, suc, ◌+◌, ◌*◌, ◌/◌, ◌%◌, ◌<◌, ◌≤◌, ◌==◌, ◌&&◌, ◌||◌}
-use Rattle.std.proofs.Common.{Bool, true, false, cond, Option, Some, None, option_map, All, List, [], ◌∷◌, length, map}
-use Rattle.std.proofs.Common.{take, get_or, refl, sym, ap, ap₂, subst, ◌∙◌, arith, nat_le, is_some, Ok, eqb-true}
-use Rattle.std.proofs.Common.{eq-eqb, ne_eqb, le-leb}
+use Rattle.std.proofs.Common.{◌≡◌, ◌≢◌, inl, inr, ℕ, zero, suc, ◌+◌, ◌%◌, ◌<◌, ◌≤◌, ◌==◌, ◌&&◌, ◌||◌, Bool, true, false}
+use Rattle.std.proofs.Common.{cond, Option, Some, None, option_map, All, List, [], ◌∷◌, length, take, get_or, refl, sym}
+use Rattle.std.proofs.Common.{ap, ap₂, subst, ◌∙◌, arith, nat_le, is_some, Ok, eqb-true, eq-eqb, ne_eqb, le-leb}
 use Rattle.std.specs.List.{range_with_len, list_any, find}
 use Rattle.std.proofs.lemmas.Bool.{cases_lt, cases_Bool, cond-true, cond-false, eqb-false, and_parts, and_from}
 use Rattle.std.proofs.lemmas.List.{get_or_past}
 use Rattle.std.proofs.lemmas.List.Elements.{All-weaker}
 use Rattle.std.proofs.Math.ListN.{get_or-map}
-use Rattle.dtx_lists.proofs.RangeSearch.{IsFirst, find-range_gives}
+use Rattle.dtx_lists.proofs.RangeSearch.{find-range_gives}
 use Rattle.dtx_packets.specs.Packet.{pid_of}
-use Rattle.dtx_coder.specs.Stream.{states}
 use Rattle.dtx_ops.specs.declared.fields.Ops.{Ops}
 use Rattle.dtx_ops.specs.Spelling.{IsEntry}
 use Rattle.dtx_ops.specs.Reading.{reading}
 use Rattle.dtx_ops.proofs.ReadingsLemmas.{read_as}
 use Rattle.dtx_ops.proofs.RefusingLemmas.{reading_other}
 use Rattle.dtx_plan.specs.declared.plan.Plan.{Plan}
-use Rattle.dtx_plan.specs.Sound.{IsTransmitter}
-use Rattle.dtx_adapter.specs.Feed.{entry_of, paging_at, listed, ops_at, feed}
+use Rattle.dtx_adapter.specs.Feed.{entry_of, ops_at, feed}
 use Rattle.dtx_adapter.proofs.FeedsLemmas.{length-feed}
 use Rattle.dtx_adapter.proofs.ReadingsLemmas.{placeholder_reads, others_stay, said_states}
 use Rattle.dtx_exciter.specs.Order.{either, ordered, ordered_at, order_at, counting_order}
@@ -41,60 +38,39 @@ no_pid = λ e. omega (arith, e)
 
 said_at : (ps : List (List ℕ)) (k : ℕ) → get_or (readings ps) k None ≡ reads (get_or ps k [])
 unfolding readings
-said_at ps k = ap (λ (d : Option Ops). get_or (map reads ps) k d) (sym (reads_other [] no_pid))
-    ∙ get_or-map reads ps k []
+said_at ps k = rw (← reads_other [] no_pid, get_or-map reads ps k [])
 
 -- ---- operations packets of a feed
 
 -- there is none behind a list's last packet
 within : (ps : List (List ℕ)) (k : ℕ) → pid_of (get_or ps k []) ≡ 0x1FFA → k < length ps
-within ps k e = by_cases (cases_lt k (length ps))
-  where
-    by_cases : (k < length ps) ⊎ (length ps ≤ k) → k < length ps
-    by_cases (inl l) = l
-    by_cases (inr g) = absurd (no_pid (ap pid_of (sym (get_or_past ps k [] g)) ∙ e))
+within ps k e = grind (arith, cases_lt, no_pid, get_or_past)
 
 pub other_stays : (plan : Plan) (stream : List (List ℕ)) (k : ℕ) → pid_of (get_or stream k []) ≢ 0x1FFA
     → pid_of (get_or (feed plan stream) k []) ≢ 0x1FFA
-other_stays plan stream k other = by_cases (cases_lt k (length stream))
-  where
-    by_cases : (k < length stream) ⊎ (length stream ≤ k) → pid_of (get_or (feed plan stream) k []) ≢ 0x1FFA
-    by_cases (inl l) = others_stay plan stream k l other
-    by_cases (inr g) =
-        λ e. no_pid (ap pid_of (sym (get_or_past (feed plan stream) k [] (omega (arith, g, length-feed plan stream))))
-        ∙ e)
+other_stays plan stream k other = grind (arith, cases_lt, others_stay, no_pid, get_or_past, length-feed)
 
 -- the plan's transmitters are entries of an operations packet
 are_entries : (plan : Plan) → IsPlan plan → All (λ t. IsEntry (entry_of t)) plan.transmitters
-are_entries plan p =
-    All-weaker IsTransmitter (λ t. IsEntry (entry_of t)) (λ t h. record {
-      address = h.address;
-      offset = h.offset;
-    }) plan.transmitters p.transmitters
+are_entries plan p = grind (arith, All-weaker)
 
 -- each of them reads as what is said at its place
 pub operations_read : (plan : Plan) (stream : List (List ℕ)) (k : ℕ) → IsPlan plan → IsStream stream
     → pid_of (get_or stream k []) ≡ 0x1FFA
     → reading (get_or (feed plan stream) k []) ≡ Ok (ops_at plan stream (take k (feed plan stream)) k)
-operations_read plan stream k p s e =
-    placeholder_reads plan stream k p.sound (are_entries plan p) s.most (within stream k e) e
+operations_read plan stream k p s e = grind (arith, placeholder_reads, are_entries, within)
 
 -- they stand where the stream's placeholders stand
 pub same_operations : (plan : Plan) (stream : List (List ℕ)) (k : ℕ) → IsPlan plan → IsStream stream
     → is_operations (feed plan stream) k ≡ is_operations stream k
 unfolding is_operations
-same_operations plan stream k p s = by_cases (cases_Bool (pid_of (get_or stream k []) == 0x1FFA))
-  where
-    by_cases : ((pid_of (get_or stream k []) == 0x1FFA) ≡ true) ⊎ ((pid_of (get_or stream k []) == 0x1FFA) ≡ false)
-        → (pid_of (get_or (feed plan stream) k []) == 0x1FFA) ≡ (pid_of (get_or stream k []) == 0x1FFA)
-    by_cases (inl t) =
-        eq-eqb (pid_of (get_or (feed plan stream) k [])) 0x1FFA
-        (read_as (get_or (feed plan stream) k []) (ops_at plan stream (take k (feed plan stream)) k)
-        (operations_read plan stream k p s (eqb-true (pid_of (get_or stream k [])) 0x1FFA t))).pid
-        ∙ sym t
-    by_cases (inr f) =
-        ne_eqb (pid_of (get_or (feed plan stream) k [])) 0x1FFA
-        (other_stays plan stream k (eqb-false (pid_of (get_or stream k [])) 0x1FFA f)) ∙ sym f
+same_operations plan stream k p s = elim (cases_Bool (pid_of (get_or stream k []) == 0x1FFA)) [
+  | inl t ↦ eq-eqb (pid_of (get_or (feed plan stream) k [])) 0x1FFA
+      (read_as (get_or (feed plan stream) k []) (ops_at plan stream (take k (feed plan stream)) k)
+      (operations_read plan stream k p s (eqb-true (pid_of (get_or stream k [])) 0x1FFA t))).pid ∙ sym t
+  | inr f ↦ ne_eqb (pid_of (get_or (feed plan stream) k [])) 0x1FFA
+      (other_stays plan stream k (eqb-false (pid_of (get_or stream k [])) 0x1FFA f)) ∙ sym f
+]
 
 any_same : (p q : ℕ → Bool) (a n : ℕ) → ((k : ℕ) → p k ≡ q k)
     → list_any p (range_with_len a n) ≡ list_any q (range_with_len a n)
@@ -104,8 +80,7 @@ any_same p q a (suc n) h = ap₂ ◌||◌ (h a) (any_same p q (a + 1) n h)
 pub same_orders : (plan : Plan) (stream : List (List ℕ)) (g : ℕ) → IsPlan plan → IsStream stream
     → has_order (feed plan stream) g ≡ has_order stream g
 unfolding has_order
-same_orders plan stream g p s =
-    any_same (is_operations (feed plan stream)) (is_operations stream) g 4 (λ k. same_operations plan stream k p s)
+same_orders plan stream g p s = grind (arith, any_same, same_operations)
 
 -- ---- what a group orders
 
@@ -117,25 +92,19 @@ ordered_is : (plan : Plan) (stream : List (List ℕ)) (k : ℕ) → IsPlan plan 
     → ordered_at (readings (feed plan stream)) k ≡ cond (is_operations stream k)
     (Some (ops_at plan stream (take k (feed plan stream)) k)) None
 unfolding is_operations
-ordered_is plan stream k p s = by_cases (cases_Bool (is_operations stream k))
+ordered_is plan stream k p s = elim (cases_Bool (is_operations stream k)) [
+  | inl t ↦ ap (ordered (k % 624)) (said_at (feed plan stream) k ∙ reads_as (get_or (feed plan stream) k []) ops
+      (operations_read plan stream k p s (eqb-true (pid_of (get_or stream k [])) 0x1FFA t)))
+      ∙ cond-true (ops.index == k % 624) (Some ops) None
+      (eq-eqb ops.index (k % 624) (index_is plan stream (take k (feed plan stream)) k))
+      ∙ sym (cond-true (is_operations stream k) (Some ops) None t)
+  | inr f ↦ ap (ordered (k % 624)) (said_at (feed plan stream) k ∙ reads_other (get_or (feed plan stream) k [])
+      (other_stays plan stream k (eqb-false (pid_of (get_or stream k [])) 0x1FFA f)))
+      ∙ sym (cond-false (is_operations stream k) (Some ops) None f)
+]
   where
     ops : Ops
     ops = ops_at plan stream (take k (feed plan stream)) k
-
-    by_cases : (is_operations stream k ≡ true) ⊎ (is_operations stream k ≡ false)
-        → ordered_at (readings (feed plan stream)) k ≡ cond (is_operations stream k) (Some ops) None
-    by_cases (inl t) =
-        ap (ordered (k % 624)) (said_at (feed plan stream) k
-        ∙ reads_as (get_or (feed plan stream) k []) ops
-        (operations_read plan stream k p s (eqb-true (pid_of (get_or stream k [])) 0x1FFA t)))
-        ∙ cond-true (ops.index == k % 624) (Some ops) None
-        (eq-eqb ops.index (k % 624) (index_is plan stream (take k (feed plan stream)) k))
-        ∙ sym (cond-true (is_operations stream k) (Some ops) None t)
-    by_cases (inr f) =
-        ap (ordered (k % 624)) (said_at (feed plan stream) k
-        ∙ reads_other (get_or (feed plan stream) k [])
-        (other_stays plan stream k (eqb-false (pid_of (get_or stream k [])) 0x1FFA f)))
-        ∙ sym (cond-false (is_operations stream k) (Some ops) None f)
 
 -- the first of two, where a test picks it
 either_picked : {A : Type 0} (b : Bool) (pick : ℕ → A) (k : ℕ) (o : Option A) (rest : Option ℕ)
@@ -151,22 +120,12 @@ last_picked false pick k = refl
 first_picked : {A : Type 0} (f : ℕ → Option A) (p : ℕ → Bool) (pick : ℕ → A) (g : ℕ)
     → ((k : ℕ) → f k ≡ cond (p k) (Some (pick k)) None)
     → either (f g) (either (f (g + 1)) (either (f (g + 2)) (f (g + 3)))) ≡ option_map pick (find p (range_with_len g 4))
-first_picked {A} f p pick g h =
-    let two : g + 2 ≡ g + 1 + 1 = omega arith in
-    let three : g + 3 ≡ g + 1 + 1 + 1 = omega arith in
-    ap₂ either (h g) (ap₂ either (h (g + 1)) (ap₂ either (ap f two ∙ h (g + 1 + 1)) (ap f three ∙ h (g + 1 + 1 + 1)
-    ∙ last_picked (p (g + 1 + 1 + 1)) pick (g + 1 + 1 + 1))
-    ∙ either_picked (p (g + 1 + 1)) pick (g + 1 + 1) _ _ refl)
-    ∙ either_picked (p (g + 1)) pick (g + 1) _ _ refl)
-    ∙ either_picked (p g) pick g _ _ refl
+first_picked {A} f p pick g h = grind (arith, last_picked, either_picked)
 
 pub order_is : (plan : Plan) (stream : List (List ℕ)) (g : ℕ) → IsPlan plan → IsStream stream
     → counting_order (readings (feed plan stream)) g ≡ order_of plan stream g
 unfolding counting_order order_of order_at first_operations
-order_is plan stream g p s =
-    ap (λ (o : Option Ops). cond (nat_le 52 g && (g % 4 == 0)) o None)
-    (first_picked (ordered_at (readings (feed plan stream))) (is_operations stream)
-    (λ k. ops_at plan stream (take k (feed plan stream)) k) g (λ k. ordered_is plan stream k p s))
+order_is plan stream g p s = grind (arith, first_picked, ordered_is)
 
 -- ---- what its fields are
 
@@ -182,18 +141,7 @@ map_some (Some j) f x e = (j, refl, cc)
 fields_at : (plan : Plan) (stream : List (List ℕ)) (g j : ℕ) → g % 4 ≡ 0 → g ≤ j → j < g + 4
     → IsOrder plan stream g (ops_at plan stream (take j (feed plan stream)) j)
 unfolding ops_at
-fields_at plan stream g j w l m =
-    let frame : j / 624 ≡ g / 624 = omega (arith, w, l, m) in
-    let group : 4 * (j / 4) ≡ g = omega (arith, w, l, m) in
-    let turn : j / 4 ≡ g / 4 = omega (arith, w, l, m) in
-    record {
-      states = said_states plan stream j ∙ ap (λ n. states (take n (feed plan stream))) group;
-      stamp = ap (λ (f : ℕ). (plan.start * 1539 + f * 744789760) / 1539 % 10000000) frame;
-      max_delay = refl;
-      frame = frame;
-      paging = ap (paging_at plan stream) turn;
-      entries = ap (λ (u : ℕ). map entry_of (listed plan.transmitters (paging_at plan stream u))) turn;
-    }
+fields_at plan stream g j w l m = grind (arith, said_states)
 
 pub order_says : (plan : Plan) (stream : List (List ℕ)) (g : ℕ) (ops : Ops) → IsPlan plan → IsStream stream
     → counting_order (readings (feed plan stream)) g ≡ Some ops → IsOrder plan stream g ops
@@ -205,10 +153,9 @@ order_says plan stream g ops p s h =
     let place = and_parts (nat_le 52 g) (g % 4 == 0) counts.0 in
     let found = map_some (first_operations stream g) (λ k. ops_at plan stream (take k (feed plan stream)) k) ops
     counts.1 in
-    let first : IsFirst (is_operations stream) g 4 found.0 =
-    find-range_gives (is_operations stream) g 4 found.0 found.1 in
     subst (IsOrder plan stream g) found.2 (fields_at plan stream g found.0
-    (eqb-true (g % 4) 0 place.1) first.least first.within)
+    (eqb-true (g % 4) 0 place.1) (find-range_gives (is_operations stream) g 4 found.0 found.1).least
+    (find-range_gives (is_operations stream) g 4 found.0 found.1).within)
 
 -- ---- which groups order something
 
@@ -229,15 +176,12 @@ none_of None e = refl
 none_of (Some j) e = cc
 
 pub order_some : (plan : Plan) (stream : List (List ℕ)) (g : ℕ) → IsPlan plan → IsStream stream → 52 ≤ g → g % 4 ≡ 0
-    → has_order (feed plan stream) g ≡ true
-    → (ops : Ops) × (counting_order (readings (feed plan stream)) g ≡ Some ops)
+    → has_order (feed plan stream) g ≡ true → (ops : Ops) × (counting_order (readings (feed plan stream)) g ≡ Some ops)
 unfolding order_of first_operations has_order
 order_some plan stream g p s far whole h =
-    let found = some_of (find (is_operations stream) (range_with_len g 4))
-    (sym (any_found (is_operations stream) (range_with_len g 4)) ∙ sym (same_orders plan stream g p s) ∙ h) in (
+    let found = some_of (find (is_operations stream) (range_with_len g 4)) (grind (arith, any_found, same_orders)) in (
       ops_at plan stream (take found.0 (feed plan stream)) found.0,
-      order_is plan stream g p s
-          ∙ cond-true (nat_le 52 g && (g % 4 == 0))
+      order_is plan stream g p s ∙ cond-true (nat_le 52 g && (g % 4 == 0))
           (option_map (λ k. ops_at plan stream (take k (feed plan stream)) k)
           (find (is_operations stream) (range_with_len g 4))) None
           (and_from (nat_le 52 g) (g % 4 == 0) (le-leb 52 g far) (eq-eqb (g % 4) 0 whole))
@@ -251,10 +195,4 @@ cond_none false o e = refl
 pub order_none : (plan : Plan) (stream : List (List ℕ)) (g : ℕ) → IsPlan plan → IsStream stream
     → has_order (feed plan stream) g ≡ false → counting_order (readings (feed plan stream)) g ≡ None
 unfolding order_of first_operations has_order
-order_none plan stream g p s h =
-    order_is plan stream g p s
-    ∙ cond_none (nat_le 52 g && (g % 4 == 0)) (option_map (λ k. ops_at plan stream (take k (feed plan stream)) k)
-    (find (is_operations stream) (range_with_len g 4)))
-    (ap (option_map (λ k. ops_at plan stream (take k (feed plan stream)) k))
-    (none_of (find (is_operations stream) (range_with_len g 4))
-    (sym (any_found (is_operations stream) (range_with_len g 4)) ∙ sym (same_orders plan stream g p s) ∙ h)))
+order_none plan stream g p s h = grind (arith, order_is, cond_none, none_of, any_found, same_orders)

@@ -1,7 +1,7 @@
 -- Marks of a feed that are missing, and stray ones: an exciter that is locked to the feed makes the same of its
 -- packets.
 use Rattle.std.proofs.Common.{◌≡◌, ◌⊎◌, inl, inr, ℕ, ℤ, ◌+◌, ◌-◌, ◌%◌, ◌<◌, ◌≤◌, ◌==◌, true, List, [], ◌++◌, length}
-use Rattle.std.proofs.Common.{get_or, set, take, drop, refl, sym, ap, ap₂, subst, ◌∙◌, arith, slice_range, eq-eqb}
+use Rattle.std.proofs.Common.{get_or, set, take, drop, refl, sym, ap, subst, ◌∙◌, arith, slice_range, eq-eqb}
 use Rattle.std.proofs.Common.{length-append, length-drop, length-take-le, take-take, get_or-append-add, get_or-take}
 use Rattle.std.proofs.Common.{get_or-drop}
 use Rattle.std.proofs.Math.Seq.{take-append-add, take-set-lt}
@@ -24,29 +24,17 @@ part_is feed mark n = let e : mark + n - mark ≡ n = omega arith in ap (λ k. t
 
 mark_early : (earlier given : List (List ℕ)) (i : ℕ) → i < length earlier
     → has_mark (syncs (earlier ++ given)) i ≡ has_mark (syncs earlier) i
-mark_early earlier given i l =
-    ap (λ x. has_mark x i) (syncs_append earlier given)
-    ∙ ap (λ x. x == 0xB8)
-    (get_or_append_left (syncs earlier) (syncs given) 0 i (omega (arith, l, length-syncs earlier)))
+mark_early earlier given i l = grind (arith, syncs_append, get_or_append_left, length-syncs)
 
 mark_given : (earlier given : List (List ℕ)) (m : ℕ)
     → has_mark (syncs (earlier ++ given)) (length earlier + m) ≡ has_mark (syncs given) m
-mark_given earlier given m =
-    ap₂ has_mark (syncs_append earlier given) (ap (λ (n : ℕ). n + m) (sym (length-syncs earlier)))
-    ∙ ap (λ x. x == 0xB8) (get_or-append-add (syncs earlier) (syncs given) m 0)
+mark_given earlier given m = grind (arith, syncs_append, length-syncs, get_or-append-add)
 
 mark_own : (a d : ℕ) (y : ℤ) (earlier feed : List (List ℕ)) (mark n m : ℕ) → IsFeed a d y feed → mark % 624 ≡ 0
     → mark + n ≤ length feed → m < n
     → has_mark (syncs (earlier ++ take n (drop mark feed))) (length earlier + m) ≡ (m % 624 == 0)
 mark_own a d y earlier feed mark n m f e l h =
-    mark_given earlier (take n (drop mark feed)) m
-    ∙ marked_part a d y feed mark n f e l m (omega (
-      arith,
-      h,
-      l,
-      length-syncs (take n (drop mark feed)),
-      length-take-le n (drop mark feed) (omega (arith, l, length-drop mark feed)),
-    ))
+    grind (arith, mark_given, marked_part, length-syncs, length-take-le, length-drop)
 
 -- ---- one is missing
 
@@ -58,8 +46,7 @@ other_packet earlier feed mark n m packet h =
     let e : length earlier + m - length earlier ≡ m = omega arith in
     set-append_right earlier (take n (drop mark feed)) (length earlier) (length earlier + m) packet refl (omega arith)
     ∙ ap (λ k. earlier ++ set (take n (drop mark feed)) k packet) e
-    ∙ ap (λ x. earlier ++ x) (sym (take-set-lt n (drop mark feed) m packet h)
-    ∙ ap (take n) (sym (drop-set-add mark feed m packet)))
+    ∙ ap (λ x. earlier ++ x) (sym (grind (arith, take-set-lt)) ∙ ap (take n) (sym (drop-set-add mark feed m packet)))
 
 marks_round : (a d : ℕ) (y : ℤ) (earlier feed : List (List ℕ)) (mark n m : ℕ) → IsFeed a d y feed → mark % 624 ≡ 0
     → mark + n ≤ length feed → m < n → m % 624 ≡ 0 → 624 ≤ m
@@ -72,15 +59,8 @@ marks_round a d y earlier feed mark n m f e l h g far =
       before = ap (has_mark (syncs life)) low ∙ mark_own a d y earlier feed mark n (m - 624) f e l (omega (arith, h))
           ∙ eq-eqb ((m - 624) % 624) 0 (omega (arith, g, far));
       behind = λ k.
-          ap (has_mark (syncs life)) high
-          ∙ mark_own a d y earlier feed mark n (m + 624) f e l (omega (
-            arith,
-            k,
-            l,
-            length-syncs life,
-            length-append earlier (take n (drop mark feed)),
-            length-take-le n (drop mark feed) (omega (arith, l, length-drop mark feed)),
-          ))
+          ap (has_mark (syncs life)) high ∙ mark_own a d y earlier feed mark n (m + 624) f e l
+          (grind (arith, length-syncs, length-append, length-take-le, length-drop))
           ∙ eq-eqb ((m + 624) % 624) 0 (omega (arith, g));
     }
 
@@ -99,26 +79,17 @@ one_mark_missing a d y feed earlier mark n i packet f e l g h b c =
     let small : i - mark < n = omega (arith, late, h, b) in
     let part : List (List ℕ) = take n (drop mark feed) in
     let front : take (length earlier + m) (earlier ++ part) ≡ earlier ++ slice_range feed mark i =
-    take-append-add earlier part m
-    ∙ ap (λ x. earlier ++ x) (take-take m n (drop mark feed) (omega (arith, small))) in
+    take-append-add earlier part m ∙ ap (λ x. earlier ++ x) (take-take m n (drop mark feed) (omega (arith, small))) in
     let body : get_or (earlier ++ part) (length earlier + m) [] ≡ get_or feed i [] =
     get_or-append-add earlier part m [] ∙ get_or-take n (drop mark feed) m [] small ∙ get_or-drop mark feed m []
     ∙ ap (λ x. get_or feed x []) at in
     subst (λ x. AreSentAlike (earlier ++ x) (earlier ++ slice_range (set feed i packet) mark (mark + n)))
-    (sym (part_is feed mark n))
-    (subst (AreSentAlike (earlier ++ part))
-    (other_packet earlier feed mark n m packet small
+    (sym (part_is feed mark n)) (subst (AreSentAlike (earlier ++ part)) (other_packet earlier feed mark n m packet small
     ∙ ap (λ x. earlier ++ take n (drop mark (set feed x packet))) at
     ∙ ap (λ x. earlier ++ x) (sym (part_is (set feed i packet) mark n)))
     (one_missing (earlier ++ part) packet (length earlier + m) w.place
     (ap anchor_of front ∙ w.holds i (omega (arith, h)) (omega (arith, b, l)))
-    (omega (
-      arith,
-      small,
-      l,
-      length-append earlier part,
-      length-take-le n (drop mark feed) (omega (arith, l, length-drop mark feed)),
-    ))
+    (grind (arith, length-append, length-take-le, length-drop))
     (marks_round a d y earlier feed mark n m f e l small (omega (arith, e, g, late, h)) (omega (arith, late, h)))
     (c ∙ ap (drop 1) (sym body))))
 
@@ -145,8 +116,18 @@ stray_marks_pass a d y feed earlier other mark n f e l h b up_to due =
     (bodies_more earlier part ∙ ap (λ x. bodies earlier ++ x) (sym (b ∙ ap bodies (part_is feed mark n)))
     ∙ sym (bodies_more earlier other))
     (ap (λ x. anchor_of (earlier ++ x)) (sym (part_is feed mark n)) ∙ w.holds (mark + n) h l)
-    (λ i low. by_first i low (cases_lt i (length earlier)))
-    (λ i high low step. by_due i high low step (cases_lt i (length earlier))))
+    (λ i low. by_first i low (cases_lt i (length earlier))) (λ i high low step. elim (cases_lt i (length earlier)) [
+      | inl before ↦ early i before
+      | inr behind ↦
+          let at : i ≡ length earlier + (i - length earlier) = omega (arith, behind) in
+          let small : i - length earlier < n = omega (arith, low, size, behind) in
+          let whole = k.at_mark in
+          let there : (i - length earlier) % 624 ≡ 0 =
+          due_there (length earlier) (locked_from earlier mark - mark) w.place (i - length earlier) w.within w.steps
+          (omega (arith, whole, e, late)) (omega (arith, high, behind))
+          (ap (λ (x : ℕ). (x - w.place) % 624) (sym at) ∙ step) in
+          given i behind small (due (i - length earlier) small there ∙ sym (eq-eqb ((i - length earlier) % 624) 0 there))
+    ]))
   where
     z : ℕ
     z = locked_from earlier mark
@@ -164,13 +145,10 @@ stray_marks_pass a d y feed earlier other mark n f e l h b up_to due =
     w = has_lock a d y feed earlier mark f e (omega (arith, h, l))
 
     size : length (syncs (earlier ++ part)) ≡ length earlier + n
-    size =
-        length-syncs (earlier ++ part) ∙ length-append earlier part
-        ∙ ap (λ (x : ℕ). length earlier + x)
+    size = length-syncs (earlier ++ part) ∙ length-append earlier part ∙ ap (λ (x : ℕ). length earlier + x)
         (length-take-le n (drop mark feed) (omega (arith, l, length-drop mark feed)))
 
-    early : (i : ℕ) → i < length earlier
-        → has_mark (syncs (earlier ++ part)) i ≡ has_mark (syncs (earlier ++ other)) i
+    early : (i : ℕ) → i < length earlier → has_mark (syncs (earlier ++ part)) i ≡ has_mark (syncs (earlier ++ other)) i
     early i low = mark_early earlier part i low ∙ sym (mark_early earlier other i low)
 
     given : (i : ℕ) → length earlier ≤ i → i - length earlier < n
@@ -180,8 +158,7 @@ stray_marks_pass a d y feed earlier other mark n f e l h b up_to due =
         let at : i ≡ length earlier + (i - length earlier) = omega (arith, high) in
         ap (has_mark (syncs (earlier ++ part))) at
         ∙ mark_own a d y earlier feed mark n (i - length earlier) f e l low ∙ sym own
-        ∙ sym (mark_given earlier other (i - length earlier))
-        ∙ ap (has_mark (syncs (earlier ++ other))) (sym at)
+        ∙ sym (mark_given earlier other (i - length earlier)) ∙ ap (has_mark (syncs (earlier ++ other))) (sym at)
 
     by_first : (i : ℕ) → i < w.place + 1 → (i < length earlier) ⊎ (length earlier ≤ i)
         → has_mark (syncs (earlier ++ part)) i ≡ has_mark (syncs (earlier ++ other)) i
@@ -190,17 +167,3 @@ stray_marks_pass a d y feed earlier other mark n f e l h b up_to due =
         let within = w.within in
         given i behind (omega (arith, within, low, behind, late, h))
         (up_to (i - length earlier) (omega (arith, within, low, behind, late)))
-
-    by_due : (i : ℕ) → w.place < i → i < length (syncs (earlier ++ part)) → (i - w.place) % 624 ≡ 0
-        → (i < length earlier) ⊎ (length earlier ≤ i)
-        → has_mark (syncs (earlier ++ part)) i ≡ has_mark (syncs (earlier ++ other)) i
-    by_due i high low step (inl before) = early i before
-    by_due i high low step (inr behind) =
-        let at : i ≡ length earlier + (i - length earlier) = omega (arith, behind) in
-        let small : i - length earlier < n = omega (arith, low, size, behind) in
-        let whole = k.at_mark in
-        let there : (i - length earlier) % 624 ≡ 0 =
-        due_there (length earlier) (locked_from earlier mark - mark) w.place (i - length earlier) w.within w.steps
-        (omega (arith, whole, e, late)) (omega (arith, high, behind))
-        (ap (λ (x : ℕ). (x - w.place) % 624) (sym at) ∙ step) in
-        given i behind small (due (i - length earlier) small there ∙ sym (eq-eqb ((i - length earlier) % 624) 0 there))

@@ -27,53 +27,27 @@ field_turn f z = omega (arith, z)
 
 -- the segment of that field sync
 sync_place : (k f : ℕ) → k < f → f % 312 ≡ 0 → segment_place k + to_field k f ≡ 313 * (f / 312)
-sync_place k f l z = by_turns (f / 312) (k / 312) (earlier k f l) (field_turn f z)
-  where
-    earlier : (k f : ℕ) → k < f → k / 312 ≤ f / 312
-    earlier k f l = omega (arith, l)
-
-    by_turns : (q r : ℕ) → r ≤ q → 312 * q ≡ f → k + r + 1 + (f + q + 1 - 1 - (k + r + 1)) ≡ 313 * q
-    by_turns q r m e = omega (arith, l, m, e)
+sync_place k f l z = grind (arith, field_turn)
 
 -- ---- the stretch's part of the run
 
 stretch_at : (feed : List (List ℕ)) (k end i : ℕ) → i < length (stretch_of feed k end)
     → get_or (stretch_of feed k end) i [] ≡ get_or (a53 feed) (segment_place k + i) []
 unfolding stretch_of
-stretch_at feed k end i l =
-    get_or-take (segment_place (last_packet end) + 1 - segment_place k) (drop (segment_place k) (a53 feed)) i []
-    (omega (
-      arith,
-      l,
-      length-take (segment_place (last_packet end) + 1 - segment_place k) (drop (segment_place k) (a53 feed)),
-    ))
-    ∙ get_or-drop (segment_place k) (a53 feed) i []
+stretch_at feed k end i l = grind (arith, get_or-take, length-take, get_or-drop)
 
 stretch_within : (feed : List (List ℕ)) (k end : ℕ) → 0 < length (stretch_of feed k end)
     → segment_place k + length (stretch_of feed k end) ≤ length (a53 feed)
 unfolding stretch_of
-stretch_within feed k end l =
-    omega (
-      arith,
-      l,
-      length-take (segment_place (last_packet end) + 1 - segment_place k) (drop (segment_place k) (a53 feed)),
-      length-drop (segment_place k) (a53 feed),
-    )
+stretch_within feed k end l = grind (arith, length-take, length-drop)
 
 -- a segment of the run, by what stands before it
 run_at : (before rest : List (List ℤ)) (a n i : ℕ) → i < n
     → get_or (segments_in (before ++ rest) (length before + a, n)) i [] ≡ get_or rest (a + i) []
-run_at before rest a n i l =
-    let e : length before + a + i ≡ length before + (a + i) = omega arith in
-    get_or-take (length before + a + n - (length before + a)) (drop (length before + a) (before ++ rest)) i []
-    (omega (arith, l))
-    ∙ get_or-drop (length before + a) (before ++ rest) i []
-    ∙ ap (λ (m : ℕ). get_or (before ++ rest) m []) e
-    ∙ get_or-append-add before rest (a + i) []
+run_at before rest a n i l = grind (arith, get_or-take, get_or-drop, get_or-append-add)
 
 length-run : (segments : List (List ℤ)) (p n : ℕ) → length (segments_in segments (p, n)) ≤ n
-length-run segments p n =
-    omega (arith, length-take (p + n - p) (drop p segments))
+length-run segments p n = omega (arith, length-take (p + n - p) (drop p segments))
 
 -- the stretch's part stands in the feed's own segments
 part_there : (feed : List (List ℕ)) (k end f n : ℕ) (before after : List (List ℤ)) → BeginsField k end f
@@ -83,13 +57,12 @@ part_there : (feed : List (List ℕ)) (k end f n : ℕ) (before after : List (Li
     → IsThere feed (f / 312) (take (left_from feed k end f) run)
 unfolding left_from
 part_there feed k end f n before after begins some inside =
-    let sent : List (List ℤ) = stretch_of feed k end in
     let t : ℕ = to_field k f in
     let m : ℕ = length (stretch_of feed k end) - to_field k f in
-    let run : List (List ℤ) = segments_in (before ++ (sent ++ after)) (length before + t, n) in
+    let run : List (List ℤ) = segments_in (before ++ ((stretch_of feed k end) ++ after)) (length before + t, n) in
     let at : segment_place k + t ≡ 313 * (f / 312) = sync_place k f begins.behind begins.begins in
     let less = length-take m run in
-    let most = length-run (before ++ (sent ++ after)) (length before + t) n in
+    let most = length-run (before ++ ((stretch_of feed k end) ++ after)) (length before + t) n in
     record {
       some = omega (arith, some, less, inside);
       within = omega (arith, less, at, inside, stretch_within feed k end (omega (arith, inside)));
@@ -97,11 +70,9 @@ part_there feed k end f n before after begins some inside =
           let here : i < m = omega (arith, l, less) in
           let here_run : i < n = omega (arith, l, less, most) in
           let e : segment_place k + (t + i) ≡ 313 * (f / 312) + i = omega (arith, at) in
-          get_or-take m run i [] here
-          ∙ run_at before (sent ++ after) t n i here_run
-          ∙ get_or_append_left sent after [] (t + i) (omega (arith, here, inside))
-          ∙ stretch_at feed k end (t + i) (omega (arith, here, inside))
-          ∙ ap (λ (j : ℕ). get_or (a53 feed) j []) e;
+          get_or-take m run i [] here ∙ run_at before ((stretch_of feed k end) ++ after) t n i here_run
+          ∙ get_or_append_left (stretch_of feed k end) after [] (t + i) (omega (arith, here, inside))
+          ∙ stretch_at feed k end (t + i) (omega (arith, here, inside)) ∙ ap (λ (j : ℕ). get_or (a53 feed) j []) e;
     }
 
 -- ---- the words that lie in it
@@ -109,43 +80,17 @@ part_there feed k end f n before after begins some inside =
 -- it has the groups up to the stretch's last one
 groups_left : (q v a : ℕ) → 312 * q + 4 * a + 3 ≤ 4 * v - 1
     → let m : ℕ = 4 * v - 1 + (4 * v - 1) / 312 + 2 - 313 * q in a < (m - (m + 312) / 313) / 4
-groups_left q v a l = by_rest (4 * v - 1 - 312 * q) (omega (arith, l))
-  where
-    by_rest : (d : ℕ) → 312 * q + d ≡ 4 * v - 1
-        → let m : ℕ = 4 * v - 1 + (4 * v - 1) / 312 + 2 - 313 * q in a < (m - (m + 312) / 313) / 4
-    by_rest d e =
-        let turns : (4 * v - 1) / 312 ≡ q + d / 312 = omega (arith, e) in
-        let count : 4 * v - 1 + (4 * v - 1) / 312 + 2 - 313 * q ≡ d + d / 312 + 2 = omega (arith, e, turns) in
-        let all : d + d / 312 + 2 - (d + d / 312 + 2 + 312) / 313 ≡ d + 1 = omega arith in
-        subst (λ (m : ℕ). a < (m - (m + 312) / 313) / 4) (sym count) (omega (arith, all, l, e))
+groups_left q v a l = grind arith
 
 length-left : (feed : List (List ℕ)) (k end f : ℕ) → end ≤ length feed → BeginsField k end f
     → left_from feed k end f ≡ 4 * (end / 4) - 1 + (4 * (end / 4) - 1) / 312 + 2 - 313 * (f / 312)
 unfolding left_from
-length-left feed k end f inside begins =
-    let at : segment_place k + to_field k f ≡ 313 * (f / 312) = sync_place k f begins.behind begins.begins in
-    omega (
-      arith,
-      at,
-      length-stretch_of feed k end (omega (arith, begins.behind, begins.inside)) inside,
-      begins.inside,
-      begins.behind,
-    )
+length-left feed k end f inside begins = grind (arith, sync_place, length-stretch_of)
 
 -- the stretch holds the field sync
 field_within : (feed : List (List ℕ)) (k end f : ℕ) → end ≤ length feed → BeginsField k end f
     → to_field k f < length (stretch_of feed k end)
-field_within feed k end f inside begins =
-    omega (
-      arith,
-      length-stretch_of feed k end (omega (arith, begins.behind, begins.inside)) inside,
-      begins.behind,
-      begins.inside,
-      turns f (4 * (end / 4) - 1) begins.inside,
-    )
-  where
-    turns : (f l : ℕ) → f ≤ l → f / 312 ≤ l / 312
-    turns f l m = omega (arith, m)
+field_within feed k end f inside begins = grind (arith, length-stretch_of)
 
 -- the run ends within the stretch, or holds all of it from there on
 complete_in : (feed : List (List ℕ)) (k end f j : ℕ) (run : List (List ℤ)) → ArePackets feed → end ≤ length feed
@@ -156,21 +101,11 @@ complete_in : (feed : List (List ℕ)) (k end f j : ℕ) (run : List (List ℤ))
     → IsComplete 207 52 4 (828 * groups_of (take (left_from feed k end f) run)) j
 unfolding groups_of data_count
 complete_in feed k end f j run p inside begins there given lies (inl l) =
-    let all : take (left_from feed k end f) run ≡ run =
-    take_all (left_from feed k end f) run (omega (arith, l)) in
-    subst (λ (n : ℕ). IsComplete 207 52 4 n j)
-    (ap (λ (r : List (List ℤ)). length (bytes_in r)) (sym all)
-    ∙ length-bytes_there feed (f / 312) (take (left_from feed k end f) run) p there)
-    given
-complete_in feed k end f j run p inside begins there given lies (inr l) = λ i m.
-    let long : length (take (left_from feed k end f) run)
-    ≡ 4 * (end / 4) - 1 + (4 * (end / 4) - 1) / 312 + 2 - 313 * (f / 312) =
-    omega (arith, l, length-take (left_from feed k end f) run) ∙ length-left feed k end f inside begins in
-    let turn = field_turn f begins.begins in
-    let a : ℕ = codeword_byte_place 52 4 (207 * j + i) / 828 in
-    let fewer = groups_left (f / 312) (end / 4) a (omega (arith, lies i m, turn)) in
-    subst (λ (n : ℕ). codeword_byte_place 52 4 (207 * j + i) < 828 * ((n - (n + 312) / 313) / 4)) (sym long)
-    (omega (arith, fewer))
+    let all : take (left_from feed k end f) run ≡ run = take_all (left_from feed k end f) run (omega (arith, l)) in
+    subst (λ (n : ℕ). IsComplete 207 52 4 n j) (ap (λ (r : List (List ℤ)). length (bytes_in r)) (sym all)
+    ∙ length-bytes_there feed (f / 312) (take (left_from feed k end f) run) p there) given
+complete_in feed k end f j run p inside begins there given lies (inr l) =
+    grind (arith, left_from, length-take, length-left, field_turn, groups_left)
 
 -- ---- the stretch is readable
 

@@ -1,27 +1,23 @@
 -- Of which segments the lines of a log speak: those of a life of nothing before the life, nor of anything behind it.
-use Rattle.std.proofs.Common.{◌≡◌, ℕ, ℤ, zero, suc, ◌+◌, ◌-◌, ◌*◌, ◌/◌, ◌%◌, ◌<◌, ◌≤◌, ◌==◌, Bool, true, false, cond}
-use Rattle.std.proofs.Common.{Option, Some, None, option_map, Result, Ok, Err, All, List, [], ◌∷◌, ◌++◌, length, take}
-use Rattle.std.proofs.Common.{drop, get_or, refl, sym, ap, ◌∙◌, arith, is_ok, nat_le, length-append, take-append-drop}
+use Rattle.std.proofs.Common.{◌≡◌, ℕ, ℤ, zero, suc, ◌+◌, ◌-◌, ◌*◌, ◌<◌, ◌≤◌, Bool, true, false, cond, Option, Some}
+use Rattle.std.proofs.Common.{None, All, List, [], ◌∷◌, ◌++◌, length, take, drop, get_or, refl, sym, ap, ◌∙◌, arith}
+use Rattle.std.proofs.Common.{length-append, take-append-drop}
 use Rattle.std.specs.List.{range_with_len, flat_map}
 use Rattle.std.proofs.lemmas.List.{take_more}
 use Rattle.std.proofs.lemmas.List.Elements.{All-nil, All-cons, All-append, All-weaker}
 use Rattle.std.proofs.lemmas.List.FromFn.{length-map-range_with_len}
-use Rattle.dtx_frame.specs.Segments.{field_sync}
-use Rattle.dtx_cadence.specs.Anchor.{anchor}
-use Rattle.dtx_coder.specs.Stream.{segment, four_segments, last_of}
+use Rattle.dtx_coder.specs.Stream.{segment, four_segments}
 use Rattle.dtx_coder.specs.Along.{levels_since}
 use Rattle.dtx_exciter.specs.declared.answers.Why.{Why}
-use Rattle.dtx_exciter.specs.declared.answers.Why.TheVariants.{Cadence}
 use Rattle.dtx_exciter.specs.declared.answers.Preset.{Preset}
 use Rattle.dtx_exciter.specs.declared.answers.Told.{Told}
 use Rattle.dtx_exciter.specs.declared.answers.Told.TheVariants.{Quiet, Sent, Muted}
-use Rattle.dtx_exciter.specs.Order.{Order, orders}
-use Rattle.dtx_exciter.specs.Pages.{entry_in_force, offset_of}
-use Rattle.dtx_exciter.specs.Told.{served, told_why, told_by, told_at, told_under, told_from, told_of, was_lost}
-use Rattle.dtx_exciter.specs.Packets.{syncs, readings, anchor_of, under, last_answer}
-use Rattle.dtx_exciter.specs.Emission.{segments_since, sent_by, sent_at, sent_before, behind_field_sync, given_under}
-use Rattle.dtx_exciter.specs.Emission.{last_segments, emission}
-use Rattle.dtx_exciter.specs.Log.{preset, mute, restart, line_of, life_lines, restarted_lines, restarting_lines}
+use Rattle.dtx_exciter.specs.Order.{Order}
+use Rattle.dtx_exciter.specs.Told.{told_why, told_at, told_under, told_of}
+use Rattle.dtx_exciter.specs.Packets.{readings, anchor_of, under, last_answer}
+use Rattle.dtx_exciter.specs.Emission.{segments_since, sent_by, sent_at, behind_field_sync, given_under, last_segments}
+use Rattle.dtx_exciter.specs.Emission.{emission}
+use Rattle.dtx_exciter.specs.Log.{preset, restart, line_of, life_lines, restarted_lines, restarting_lines}
 use Rattle.dtx_exciter.specs.Log.{emission_over}
 use Rattle.dtx_exciter.specs.Stretch.{emission_behind, lines_behind}
 use Rattle.dtx_exciter.proofs.EmittedLemmas.{emission_more, emission_push}
@@ -37,10 +33,7 @@ length-since g q packets u = length-map-range_with_len (segment (levels_since g 
 with_sync_long : (i : ℕ) (before after : List (List ℤ)) → length after ≤ length (behind_field_sync i before after)
 with_sync_long i before [] = omega arith
 with_sync_long i [] (s ∷ ss) = omega arith
-with_sync_long i (b ∷ bs) (s ∷ ss) =
-    let sync : List (List ℤ) =
-    cond (i % 312 == 0) (field_sync (nat_le 312 (i % 624)) (last_of (get_or (b ∷ bs) (length bs) [])) ∷ []) [] in
-    omega (arith, length-append sync (s ∷ ss))
+with_sync_long i (b ∷ bs) (s ∷ ss) = grind (arith, length-append)
 
 not_sent : (t : Bool) (why : Option Why) (p : Preset) → cond t (told_why why) Quiet ≡ Sent (Some p) → ⊥
 not_sent true None p e = cc
@@ -50,56 +43,17 @@ not_sent false why p e = cc
 sent_long : (a d : ℕ) (packets : List (List ℕ)) (i : ℕ) (r : List Order) (p : Preset)
     → told_at a d i r ≡ Sent (Some p) → 4 ≤ length (sent_by a d packets i r)
 sent_long a d packets i [] p e = cc
-sent_long a d packets i (order ∷ older) p e = by_result (served a d (order ∷ older)) e
-  where
-    offset : ℤ
-    offset = offset_of (entry_in_force a (order ∷ older))
-
-    by_result : (r : Result ℕ (Option Why)) → told_by i order offset r ≡ Sent (Some p)
-        → 4 ≤ length (cond (is_ok r) (segments_since (order.place / 4) order.ops.states packets (i / 4)) [])
-    by_result (Ok hold) e = omega (arith, length-since (order.place / 4) order.ops.states packets (i / 4))
-    by_result (Err why) e = absurd (not_sent (order.place == i) why p e)
+sent_long a d packets i (order ∷ older) p e = grind (arith, length-since, not_sent)
 
 given_at : (a d : ℕ) (l : List (List ℕ)) (p : Preset) → told_under a d (Some (readings l)) ≡ Sent (Some p)
     → 4 ≤ length (given_under a d (Some l))
 unfolding sent_at
-given_at a d l p e =
-    by_test (length l % 4 == 0)
-    (sym (ap (λ (n : ℕ). cond (n % 4 == 0) (told_at a d (n - 4) (orders (readings l) (n - 4))) Quiet) (length-said l))
-    ∙ e)
-  where
-    by_test : (t : Bool) → cond t (told_at a d (length l - 4) (orders (readings l) (length l - 4))) Quiet
-        ≡ Sent (Some p)
-        → 4 ≤ length (cond t (behind_field_sync (length l - 4) (sent_before a d l (length l - 4))
-        (sent_at a d l (length l - 4))) [])
-    by_test true e =
-        omega (
-          arith,
-          sent_long a d l (length l - 4) (orders (readings l) (length l - 4)) p e,
-          with_sync_long (length l - 4) (sent_before a d l (length l - 4)) (sent_at a d l (length l - 4)),
-        )
-    by_test false e = cc
+given_at a d l p e = grind (arith, length-said, sent_long, with_sync_long)
 
 given_long : (a d : ℕ) (packets : List (List ℕ)) (p : Preset) → last_answer a d packets ≡ Sent (Some p)
     → 4 ≤ length (last_segments a d packets)
 unfolding last_answer told_of last_segments under anchor_of
-given_long a d packets p e =
-    by_anchor (anchor (take (length (syncs packets) - 1) (syncs packets))) (anchor (syncs packets)) e
-  where
-    by_lost : (t : Bool) (x : Told) → cond t (Muted Cadence) x ≡ Sent (Some p) → x ≡ Sent (Some p)
-    by_lost true x e = cc
-    by_lost false x e = e
-
-    by_anchor : (before now : Option ℕ) → told_from a d before now (readings packets) ≡ Sent (Some p)
-        → 4 ≤ length (given_under a d (option_map (λ a. drop a packets) now))
-    by_anchor before None e = absurd (quiet (by_lost (was_lost before None) Quiet e))
-      where
-        quiet : ◌≡◌ {A = Told} Quiet (Sent (Some p)) → ⊥
-        quiet e = cc
-    by_anchor before (Some j) e =
-        given_at a d (drop j packets) p
-        (ap (λ s. told_under a d (Some s)) (sym (said_drop j packets))
-        ∙ by_lost (was_lost before (Some j)) (told_under a d (Some (drop j (readings packets)))) e)
+given_long a d packets p e = grind (arith, given_at, said_drop)
 
 -- ---- one line
 
@@ -111,8 +65,7 @@ line_up n m (Sent (Some p)) h =
     let few : 4 ≤ m = h p refl in
     All-cons (λ line. line_end line ≤ n + m) (preset (n + m - 4) p.frame p.packet p.moment.tick p.moment.grain) []
     (omega (arith, few)) (All-nil (λ line. line_end line ≤ n + m))
-line_up n m (Muted why) h =
-    All-cons (λ line. line_end line ≤ n + m) (mute n why) [] (omega arith) (All-nil (λ line. line_end line ≤ n + m))
+line_up n m (Muted why) h = grind (arith, All-cons, All-nil)
 
 line_down : (n m : ℕ) (t : Told) → ((p : Preset) → t ≡ Sent (Some p) → 4 ≤ m)
     → All (λ line. n ≤ segment_of line) (line_of n m t)
@@ -122,14 +75,12 @@ line_down n m (Sent (Some p)) h =
     let few : 4 ≤ m = h p refl in
     All-cons (λ line. n ≤ segment_of line) (preset (n + m - 4) p.frame p.packet p.moment.tick p.moment.grain) []
     (omega (arith, few)) (All-nil (λ line. n ≤ segment_of line))
-line_down n m (Muted why) h =
-    All-cons (λ line. n ≤ segment_of line) (mute n why) [] (omega arith) (All-nil (λ line. n ≤ segment_of line))
+line_down n m (Muted why) h = grind (arith, All-cons, All-nil)
 
 all_flat : {X : Type 0} (P : X → Type 0) (f : ℕ → List X) (a n : ℕ) → ((i : ℕ) → a ≤ i → i < a + n → All P (f i))
     → All P (flat_map f (range_with_len a n))
 all_flat P f a zero h = All-nil P
-all_flat P f a (suc n) h =
-    All-append P (f a) (flat_map f (range_with_len (a + 1) n)) (h a (omega arith) (omega arith))
+all_flat P f a (suc n) h = All-append P (f a) (flat_map f (range_with_len (a + 1) n)) (h a (omega arith) (omega arith))
     (all_flat P f (a + 1) n (λ i l m. h i (omega arith) (omega arith)))
 
 -- ---- the lines of a life
@@ -142,14 +93,11 @@ emission_up a d life i l =
     let here : emission a d (take (i + 1) life) ≡ emission a d (take i life) ++ last_segments a d (take (i + 1) life) =
     ap (emission a d) more ∙ emission_push a d (take i life) (get_or life i [])
     ∙ ap (λ x. emission a d (take i life) ++ last_segments a d x) (sym more) in
-    let all : emission a d life ≡ emission a d (take (i + 1) life)
-    ++ emission_behind a d (take (i + 1) life) (drop (i + 1) life) =
-    ap (emission a d) (sym (take-append-drop (i + 1) life))
-    ∙ emission_more a d (take (i + 1) life) (drop (i + 1) life) in
     omega (
       arith,
       ap (λ (x : List (List ℤ)). length x) here,
-      ap (λ (x : List (List ℤ)). length x) all,
+      ap (λ (x : List (List ℤ)). length x) (ap (emission a d) (sym (take-append-drop (i + 1) life))
+          ∙ emission_more a d (take (i + 1) life) (drop (i + 1) life)),
       length-append (emission a d (take i life)) (last_segments a d (take (i + 1) life)),
       length-append (emission a d (take (i + 1) life)) (emission_behind a d (take (i + 1) life) (drop (i + 1) life)),
     )
@@ -157,57 +105,26 @@ emission_up a d life i l =
 pub life_up : (a d n : ℕ) (life : List (List ℕ))
     → All (λ line. line_end line ≤ n + length (emission a d life)) (life_lines a d n life)
 unfolding life_lines
-life_up a d n life =
-    all_flat (λ line. line_end line ≤ n + length (emission a d life))
+life_up a d n life = all_flat (λ line. line_end line ≤ n + length (emission a d life))
     (λ i. line_of (n + length (emission a d (take i life))) (length (last_segments a d (take (i + 1) life)))
     (last_answer a d (take (i + 1) life))) 0 (length life)
-    (λ i l m.
-    let most : length (emission a d (take i life)) + length (last_segments a d (take (i + 1) life)) ≤ length
-    (emission a d life) = emission_up a d life i (omega (arith, m)) in
-    All-weaker (λ line. line_end line ≤ n + length (emission a d (take i life)) + length (last_segments a d (take
-    (i + 1) life)))
-    (λ line. line_end line ≤ n + length (emission a d life)) (λ line h. omega (arith, h, most))
-    (line_of (n + length (emission a d (take i life))) (length (last_segments a d (take (i + 1) life)))
-    (last_answer a d (take (i + 1) life)))
-    (line_up (n + length (emission a d (take i life))) (length (last_segments a d (take (i + 1) life)))
-    (last_answer a d (take (i + 1) life)) (given_long a d (take (i + 1) life))))
+    (λ i l m. grind (arith, emission_up, All-weaker, line_up, given_long))
 
 pub life_down : (a d n : ℕ) (life : List (List ℕ)) → All (λ line. n ≤ segment_of line) (life_lines a d n life)
 unfolding life_lines
-life_down a d n life =
-    all_flat (λ line. n ≤ segment_of line)
+life_down a d n life = all_flat (λ line. n ≤ segment_of line)
     (λ i. line_of (n + length (emission a d (take i life))) (length (last_segments a d (take (i + 1) life)))
-    (last_answer a d (take (i + 1) life))) 0 (length life)
-    (λ i l m.
-    All-weaker (λ line. n + length (emission a d (take i life)) ≤ segment_of line) (λ line. n ≤ segment_of line)
-    (λ line h. omega (arith, h))
-    (line_of (n + length (emission a d (take i life))) (length (last_segments a d (take (i + 1) life)))
-    (last_answer a d (take (i + 1) life)))
-    (line_down (n + length (emission a d (take i life))) (length (last_segments a d (take (i + 1) life)))
-    (last_answer a d (take (i + 1) life)) (given_long a d (take (i + 1) life))))
+    (last_answer a d (take (i + 1) life))) 0 (length life) (λ i l m. grind (arith, All-weaker, line_down, given_long))
 
 -- the lines of further packets
 pub behind_down : (a d n : ℕ) (packets more : List (List ℕ))
     → All (λ line. n + length (emission a d packets) ≤ segment_of line) (lines_behind a d n packets more)
 unfolding lines_behind
-behind_down a d n packets more =
-    all_flat (λ line. n + length (emission a d packets) ≤ segment_of line)
+behind_down a d n packets more = all_flat (λ line. n + length (emission a d packets) ≤ segment_of line)
     (λ i. line_of (n + length (emission a d (packets ++ take i more)))
     (length (last_segments a d (packets ++ take (i + 1) more))) (last_answer a d (packets
     ++ take (i + 1) more))) 0 (length more)
-    (λ i l m.
-    let grows : length (emission a d (packets ++ take i more))
-    ≡ length (emission a d packets) + length (emission_behind a d packets (take i more)) =
-    ap (λ (x : List (List ℤ)). length x) (emission_more a d packets (take i more))
-    ∙ length-append (emission a d packets) (emission_behind a d packets (take i more)) in
-    All-weaker (λ line. n + length (emission a d (packets ++ take i more)) ≤ segment_of line)
-    (λ line. n + length (emission a d packets) ≤ segment_of line) (λ line h. omega (arith, h, grows))
-    (line_of (n + length (emission a d (packets ++ take i more))) (length (last_segments a d (packets
-    ++ take (i + 1) more)))
-    (last_answer a d (packets ++ take (i + 1) more)))
-    (line_down (n + length (emission a d (packets ++ take i more))) (length (last_segments a d (packets
-    ++ take (i + 1) more)))
-    (last_answer a d (packets ++ take (i + 1) more)) (given_long a d (packets ++ take (i + 1) more))))
+    (λ i l m. grind (arith, emission_more, length-append, All-weaker, line_down, given_long))
 
 -- ---- the lines of other lives
 
@@ -220,16 +137,11 @@ restarted_up a d n (x ∷ xs) =
     let sum : length (emission_over a d (x ∷ xs)) ≡ length (emission a d x) + length (emission_over a d xs) =
     length-append (emission a d x) (emission_over a d xs) in
     All-append (λ line. line_end line ≤ n + length (emission_over a d (x ∷ xs))) (life_lines a d n x)
-    (restart m ∷ restarted_lines a d m xs)
-    (All-weaker (λ line. line_end line ≤ n + length (emission a d x))
-    (λ line. line_end line ≤ n + length (emission_over a d (x ∷ xs))) (λ line h. omega (arith, h, sum))
-    (life_lines a d n x) (life_up a d n x))
+    (restart m ∷ restarted_lines a d m xs) (grind (arith, All-weaker, life_up))
     (All-cons (λ line. line_end line ≤ n + length (emission_over a d (x ∷ xs))) (restart m) (restarted_lines a d m xs)
-    (omega (arith, sum))
-    (All-weaker (λ line. line_end line ≤ m + length (emission_over a d xs))
+    (omega (arith, sum)) (All-weaker (λ line. line_end line ≤ m + length (emission_over a d xs))
     (λ line. line_end line ≤ n + length (emission_over a d (x ∷ xs))) (λ line h. omega (arith, h, sum))
-    (restarted_lines a d m xs)
-    (restarted_up a d m xs)))
+    (restarted_lines a d m xs) (restarted_up a d m xs)))
 
 pub restarting_down : (a d n : ℕ) (xs : List (List (List ℕ)))
     → All (λ line. n ≤ segment_of line) (restarting_lines a d n xs)

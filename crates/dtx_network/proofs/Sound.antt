@@ -1,8 +1,6 @@
 -- The feed of a plan and a stream is sound.
-use Rattle.std.proofs.Common.{◌≡◌, ◌⊎◌, inl, inr, ℕ, ◌%◌, ◌<◌, ◌==◌, true, false, List, []}
-use Rattle.std.proofs.Common.{length, take, get_or, refl, sym, ap, subst, ◌∙◌, arith}
+use Rattle.std.proofs.Common.{ℕ, ◌<◌, List, [], length, take, get_or, refl, arith}
 use Rattle.std.proofs.lemmas.Bool.{cases_Bool, eqb-true, eqb-false}
-use Rattle.dtx_packets.specs.Packet.{pid_of}
 use Rattle.dtx_ops.proofs.RefusingLemmas.{reading_other}
 use Rattle.dtx_ops.specs.Reading.{reading}
 use Rattle.dtx_plan.specs.declared.plan.Plan.{Plan}
@@ -28,25 +26,9 @@ says plan stream k l = record {
 
 sound_at : (plan : Plan) (stream : List (List ℕ)) (k : ℕ) → IsPlan plan → IsStream stream → k < length stream
     → IsSoundAt plan.start plan.max_delay (feed plan stream) k (reading (get_or (feed plan stream) k []))
-sound_at plan stream k p s l = by_cases (cases_Bool (pid_of (get_or stream k []) == 0x1FFA))
-  where
-    by_cases : ((pid_of (get_or stream k []) == 0x1FFA) ≡ true) ⊎ ((pid_of (get_or stream k []) == 0x1FFA) ≡ false)
-        → IsSoundAt plan.start plan.max_delay (feed plan stream) k (reading (get_or (feed plan stream) k []))
-    by_cases (inl t) =
-        let most = s.most in
-        subst (IsSoundAt plan.start plan.max_delay (feed plan stream) k)
-        (sym (operations_read plan stream k p s (eqb-true (pid_of (get_or stream k [])) 0x1FFA t)))
-        (says plan stream k (omega (arith, l, most)))
-    by_cases (inr f) =
-        subst (IsSoundAt plan.start plan.max_delay (feed plan stream) k)
-        (sym (reading_other (get_or (feed plan stream) k [])
-        (other_stays plan stream k (eqb-false (pid_of (get_or stream k [])) 0x1FFA f)))) refl
+sound_at plan stream k p s l =
+    grind (arith, cases_Bool, operations_read, eqb-true, says, reading_other, other_stays, eqb-false)
 
 pub sound : (plan : Plan) (stream : List (List ℕ)) → IsPlan plan → IsStream stream
     → IsSoundFeed plan.start plan.max_delay (feed plan stream)
-sound plan stream p s = record {
-  marks = λ k l.
-      let within : k < length stream = omega (arith, l, length-feed plan stream) in
-      ap (λ (b : ℕ). b == 0xB8) (sync_fed plan stream k within (s.long k [] within)) ∙ mark_told (k % 624 == 0);
-  says = λ k l. sound_at plan stream k p s (omega (arith, l, length-feed plan stream));
-}
+sound plan stream p s = grind (arith, length-feed, sync_fed, mark_told, says, sound_at)

@@ -10,13 +10,12 @@ use Rattle.dtx_coder.proofs.StreamLemmas.{a53_from}
 use Rattle.dtx_exciter.specs.Lockstep.{segment_place, stretch}
 use Rattle.dtx_exciter.proofs.EmittedLemmas.{length-front, stretch_whole}
 use Rattle.dtx_network.specs.Headline.{stretch_of}
-use Rattle.dtx_clock.specs.Clock.{moment_of}
 use Rattle.dtx_ops.specs.declared.fields.Ops.{Ops}
 use Rattle.dtx_plan.specs.declared.plan.Plan.{Plan}
 use Rattle.dtx_adapter.specs.Feed.{feed}
 use Rattle.dtx_exciter.specs.Order.{counting_order, placed}
 use Rattle.dtx_exciter.specs.Packets.{readings}
-use Rattle.dtx_exciter.specs.Log.{Line, preset}
+use Rattle.dtx_exciter.specs.Log.{Line}
 use Rattle.dtx_exciter.specs.Stretch.{preset_line, orders_in, stretch_lines}
 use Rattle.dtx_exciter.proofs.ForceLemmas.{counted_off}
 use Rattle.dtx_network.specs.Plans.{IsPlan, IsStream}
@@ -64,27 +63,24 @@ stretch_is feed k end l m =
     starts = let h = before_first u k (omega (arith, l)) in omega (arith, h, long)
 
     ends : length (drop (segment_place k) front) ≡ segment_place (4 * u - 1) + 1 - segment_place k
-    ends = length-drop (segment_place k) front ∙ ap (λ (n : ℕ). n - segment_place k) (long
-        ∙ sym (behind_last u (omega (arith, l))))
+    ends = rw (length-drop (segment_place k) front, long, ← behind_last u (omega (arith, l)))
 
 -- ---- one line
 
 line_is : (plan : Plan) (stream : List (List ℕ)) (offset : ℤ) (s k g : ℕ) (ops : Ops) → IsOrder plan stream g ops
     → preset_line offset s k (record { place = g; ops = ops }) ≡ preset_at plan offset s k g
-line_is plan stream offset s k g ops o =
-    ap (λ (f : ℕ). line f ops.stamp ops.max_delay) o.frame
-    ∙ ap₂ (λ (x m : ℕ). line (g / 624) x m) o.stamp o.max_delay
-  where
-    line : ℕ → ℕ → ℕ → Line
-    line frame stamp most =
-        preset (s + (segment_place g - segment_place k)) frame (g % 624) (moment_of stamp most offset (g % 624)).tick
-        (moment_of stamp most offset (g % 624)).grain
+line_is plan stream offset s k g ops o = grind arith
 
 -- the line of a group, where it orders something
 line_at : (plan : Plan) (stream : List (List ℕ)) (offset : ℤ) (s k g : ℕ) → IsPlan plan → IsStream stream → 52 ≤ g
     → option_map (preset_line offset s k) (placed g (counting_order (readings (feed plan stream)) g))
     ≡ cond ((g % 4 == 0) && has_order (feed plan stream) g) (Some (preset_at plan offset s k g)) None
-line_at plan stream offset s k g p u far = by_place (cases_Bool (g % 4 == 0))
+line_at plan stream offset s k g p u far = elim (cases_Bool (g % 4 == 0)) [
+  | inl e ↦ by_order e (cases_Bool (has_order (feed plan stream) g))
+  | inr e ↦ ap (λ (o : Option Ops). option_map (preset_line offset s k) (placed g o))
+      (counted_off (readings (feed plan stream)) g (eqb-false (g % 4) 0 e))
+      ∙ sym (cond-false test (Some line) None (and_left (g % 4 == 0) (has_order (feed plan stream) g) e))
+]
   where
     test : Bool
     test = (g % 4 == 0) && has_order (feed plan stream) g
@@ -104,15 +100,6 @@ line_at plan stream offset s k g p u far = by_place (cases_Bool (g % 4 == 0))
         ap (λ (o : Option Ops). option_map (preset_line offset s k) (placed g o)) (order_none plan stream g p u h)
         ∙ sym (cond-false test (Some line) None (and_right (g % 4 == 0) (has_order (feed plan stream) g) h))
 
-    by_place : ((g % 4 == 0) ≡ true) ⊎ ((g % 4 == 0) ≡ false)
-        → option_map (preset_line offset s k) (placed g (counting_order (readings (feed plan stream)) g))
-        ≡ cond test (Some line) None
-    by_place (inl e) = by_order e (cases_Bool (has_order (feed plan stream) g))
-    by_place (inr e) =
-        ap (λ (o : Option Ops). option_map (preset_line offset s k) (placed g o))
-        (counted_off (readings (feed plan stream)) g (eqb-false (g % 4) 0 e))
-        ∙ sym (cond-false test (Some line) None (and_left (g % 4 == 0) (has_order (feed plan stream) g) e))
-
 -- ---- all lines
 
 picked : {X Y : Type 0} (f : X → Y) (o : Option X) (b : Bool) (k : ℕ) (g : ℕ → Y) (xs : List X) (ks : List ℕ)
@@ -129,13 +116,9 @@ picked_over : {X Y : Type 0} (f : X → Y) (h : ℕ → Option X) (g : ℕ → Y
 picked_over f h g test a zero e = refl
 picked_over f h g test a (suc n) e =
     picked f (h a) (test a) a g (filter_map h (range_with_len (a + 1) n)) (filter test (range_with_len (a + 1) n))
-    (e a (omega arith) (omega arith))
-    (picked_over f h g test (a + 1) n (λ i l m. e i (omega arith) (omega arith)))
+    (e a (omega arith) (omega arith)) (picked_over f h g test (a + 1) n (λ i l m. e i (omega arith) (omega arith)))
 
 pub lines_are : (plan : Plan) (stream : List (List ℕ)) (offset : ℤ) (s k end : ℕ) → IsPlan plan → IsStream stream
     → 52 ≤ k → stretch_lines offset s (feed plan stream) k end ≡ presets plan offset s (feed plan stream) k end
 unfolding stretch_lines orders_in presets orders
-lines_are plan stream offset s k end p u far =
-    picked_over (preset_line offset s k) (λ g. placed g (counting_order (readings (feed plan stream)) g))
-    (preset_at plan offset s k) (λ g. (g % 4 == 0) && has_order (feed plan stream) g) k (end - 3 - k)
-    (λ g l m. line_at plan stream offset s k g p u (omega (arith, far, l)))
+lines_are plan stream offset s k end p u far = grind (arith, picked_over, line_at)

@@ -18,36 +18,30 @@ unfolding spread interleaved coded_from
 late_is front packets p z l =
     let all : List (List ℕ) = front ++ p ∷ packets in
     let n : ℕ = 207 * (length front + 52) + 50 in
-    let turn : n % 52 ≡ 51 = omega (arith, z) in
-    let far : 208 * (n % 52) ≤ n = omega (arith, turn) in
-    let back : n - 208 * (n % 52) ≡ 207 * length front + 206 = omega (arith, turn) in
+    let far : 208 * (n % 52) ≤ n = omega arith in
+    let back : n - 208 * (n % 52) ≡ 207 * length front + 206 = omega arith in
     let own : ℕ → List ℕ = λ k. code_of k p in
-    let within : n < length (coded all) =
-    omega (arith, l, length-coded 0 all, length-append front (p ∷ packets)) in
+    let within : n < length (coded all) = omega (arith, l, length-coded 0 all, length-append front (p ∷ packets)) in
     get_or-map-range_with_len (interleaved_at 52 4 (coded all)) 0 (length (coded all)) n n 0 within (omega arith)
     ∙ cond-true (nat_le (208 * (n % 52)) n) (get_or (coded all) (n - 208 * (n % 52)) 0) 0
-    (le-leb (208 * (n % 52)) n far)
-    ∙ ap (λ i. get_or (coded all) i 0) back
+    (le-leb (208 * (n % 52)) n far) ∙ ap (λ i. get_or (coded all) i 0) back
     ∙ ap (λ (x : List ℕ). get_or x (207 * length front + 206) 0) (coded_append 0 front (p ∷ packets))
     ∙ get_or-append_right (coded front) (coded_from (0 + length front) (p ∷ packets)) (207 * length front)
     (207 * length front + 206) 0 (length-coded 0 front) (omega arith)
     ∙ ap (λ i. get_or (coded_from (0 + length front) (p ∷ packets)) i 0) (there (207 * length front))
     ∙ get_or_append_left (own (0 + length front)) (coded_from (0 + length front + 1) packets) 0 206
-    (omega (arith, length-code (0 + length front) p))
-    ∙ ap (λ k. get_or (own k) 206 0) (zero-add (length front))
+    (omega (arith, length-code (0 + length front) p)) ∙ ap (λ k. get_or (own k) 206 0) (zero-add (length front))
   where
     there : (m : ℕ) → m + 206 - m ≡ 206
     there m = omega arith
 
 pub another_before : (front packets : List (List ℕ)) (p : List ℕ) → (length front + 1) % 624 ≡ 0 → length p ≡ 188
-    → AreBytes p → 52 ≤ length packets
-    → (q : List ℕ) × (length q ≡ 188) × AreBytes q
+    → AreBytes p → 52 ≤ length packets → (q : List ℕ) × (length q ≡ 188) × AreBytes q
     × (get_or (spread (front ++ q ∷ packets)) (207 * (length front + 52) + 50) 0
     ≢ get_or (spread (front ++ p ∷ packets)) (207 * (length front + 52) + 50) 0)
 another_before front packets p z l b m = (
   other_last p,
   length-other p l,
   bytes_other p b,
-  λ e. last_differs (length front) p l b
-      (sym (late_is front packets (other_last p) z m) ∙ e ∙ late_is front packets p z m),
+  λ e. last_differs (length front) p l b (sym (grind (arith, late_is, other_last)) ∙ e ∙ late_is front packets p z m),
 )

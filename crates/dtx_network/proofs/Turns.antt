@@ -1,7 +1,7 @@
 -- A listing comes among as many orders as there are pages.
 use Rattle.std.proofs.Common.{◌≡◌, ◌⊎◌, inl, inr, ℕ, zero, suc, ◌+◌, ◌-◌, ◌*◌, ◌/◌, ◌%◌, ◌<◌, ◌≤◌, ◌==◌, ◌&&◌, ◌||◌}
 use Rattle.std.proofs.Common.{Bool, true, false, cond, Some, List, [], ◌∷◌, length, take, drop, get_or, refl, sym, ap}
-use Rattle.std.proofs.Common.{ap₂, subst, ◌∙◌, arith, slice_get, eq-eqb, eqb-true, ne_eqb}
+use Rattle.std.proofs.Common.{ap₂, ◌∙◌, arith, slice_get, eq-eqb, eqb-true, ne_eqb}
 use Rattle.std.specs.List.{range_with_len, list_any, filter, Contains}
 use Rattle.std.proofs.lemmas.Bool.{cases_lt, cases_Bool, eqb-false, and_from, and_left}
 use Rattle.std.proofs.lemmas.List.Elements.{Contains-append_right, filter_agree}
@@ -38,9 +38,7 @@ no_packets (suc a) (suc n) = refl
 
 one_on : (p : List ℕ → Bool) → p [] ≡ false → (ps : List (List ℕ)) (a n : ℕ)
     → list_any p (take (suc n) (drop a ps)) ≡ (p (get_or ps a []) || list_any p (take n (drop (suc a) ps)))
-one_on p none [] a n =
-    ap (list_any p) (no_packets a (suc n))
-    ∙ sym (ap₂ ◌||◌ none (ap (list_any p) (no_packets (suc a) n)))
+one_on p none [] a n = rw (no_packets a (suc n), ← ap₂ ◌||◌ none (ap (list_any p) (no_packets (suc a) n)))
 one_on p none (x ∷ ps) zero n = refl
 one_on p none (x ∷ ps) (suc a) n = one_on p none ps a n
 
@@ -50,9 +48,7 @@ any_slice : (p : List ℕ → Bool) → p [] ≡ false → (ps : List (List ℕ)
 any_slice p none ps a zero = refl
 any_slice p none ps a (suc n) =
     let next : a + 1 ≡ suc a = omega arith in
-    ap (λ (b : Bool). p (get_or ps a []) || b) (any_slice p none ps (a + 1) n
-    ∙ ap (λ (m : ℕ). list_any p (take n (drop m ps))) next)
-    ∙ sym (one_on p none ps a n)
+    ap (λ (b : Bool). p (get_or ps a []) || b) (rw (any_slice p none ps (a + 1) n, next)) ∙ sym (one_on p none ps a n)
 
 filled_is : (stream : List (List ℕ)) (u : ℕ) → has_order stream (4 * u) ≡ is_filled stream u
 unfolding has_order is_operations is_filled is_placeholder
@@ -72,10 +68,8 @@ length-kept true x xs = omega arith
 length-kept false x xs = omega arith
 
 test_whole : (stream : List (List ℕ)) (k : ℕ) → k % 4 ≡ 0 → orders_at stream k ≡ is_filled stream (k / 4)
-test_whole stream k whole =
-    let group : k ≡ 4 * (k / 4) = omega (arith, whole) in
-    ap (λ (b : Bool). b && has_order stream k) (eq-eqb (k % 4) 0 whole)
-    ∙ ap (has_order stream) group ∙ filled_is stream (k / 4)
+test_whole stream k whole = ap (λ (b : Bool). b && has_order stream k) (eq-eqb (k % 4) 0 whole)
+    ∙ ap (has_order stream) (omega (arith, whole)) ∙ filled_is stream (k / 4)
 
 -- those from packet k on, where those behind it are counted
 one_counted : (stream : List (List ℕ)) (k n : ℕ)
@@ -99,8 +93,7 @@ one_counted stream k n further = by_place (cases_Bool (k % 4 == 0))
         let here : (k + 3) / 4 ≡ k / 4 = omega (arith, whole) in
         let next : (k + 1 + 3) / 4 ≡ k / 4 + 1 = omega (arith, whole) in
         let kept : length (filter (orders_at stream) (k ∷ range_with_len (k + 1) n))
-        ≡ cond (is_filled stream (k / 4)) 1 0 + length rest =
-        length-kept (orders_at stream k) k rest
+        ≡ cond (is_filled stream (k / 4)) 1 0 + length rest = length-kept (orders_at stream k) k rest
         ∙ ap (λ (b : Bool). cond b 1 0 + length rest) (test_whole stream k whole) in
         omega (
           arith,
@@ -111,19 +104,12 @@ one_counted stream k n further = by_place (cases_Bool (k % 4 == 0))
           ap (filled_groups stream) ends,
           further,
         )
-    by_place (inr f) =
-        let other : (k + 3) / 4 ≡ (k + 1 + 3) / 4 = omega (arith, eqb-false (k % 4) 0 f) in
-        ap₂ (λ (u : ℕ) (xs : List ℕ). filled_groups stream u + length xs) other
-        (filter-lost (orders_at stream) k (range_with_len (k + 1) n) (and_left (k % 4 == 0) (has_order stream k) f))
-        ∙ further ∙ ap (filled_groups stream) ends
+    by_place (inr f) = grind (arith, eqb-false, filter-lost, and_left)
 
 orders_counted : (stream : List (List ℕ)) (k n : ℕ)
     → filled_groups stream ((k + 3) / 4) + length (filter (orders_at stream) (range_with_len k n))
     ≡ filled_groups stream ((k + n + 3) / 4)
-orders_counted stream k zero =
-    let same : (k + 3) / 4 ≡ (k + 0 + 3) / 4 = omega arith in
-    let none : filled_groups stream ((k + 3) / 4) + 0 ≡ filled_groups stream ((k + 3) / 4) = omega arith in
-    none ∙ ap (filled_groups stream) same
+orders_counted stream k zero = grind arith
 orders_counted stream k (suc n) = one_counted stream k n (orders_counted stream (k + 1) n)
 
 -- ---- one of them lists the transmitter
@@ -143,17 +129,12 @@ kept_in p a (suc n) g from to passes = by_place (λ l. kept_in p (a + 1) n g (om
 
     by_place : (a < g → Contains rest g) → (a < g) ⊎ (g ≤ a) → Contains (filter p (a ∷ range_with_len (a + 1) n)) g
     by_place h (inl l) = kept_behind (p a) a g rest (h l)
-    by_place h (inr l) =
-        let here : a ≡ g = omega (arith, from, l) in
-        subst (λ xs. Contains xs g)
-        (sym (filter-kept p a (range_with_len (a + 1) n) (ap p here ∙ passes))) (0, omega arith, here)
+    by_place h (inr l) = grind (arith, filter-kept)
 
 pub orders_same : (plan : Plan) (stream : List (List ℕ)) (k end : ℕ) → IsPlan plan → IsStream stream
     → orders (feed plan stream) k end ≡ orders stream k end
 unfolding orders
-orders_same plan stream k end p s =
-    filter_agree (orders_at (feed plan stream)) (orders_at stream)
-    (λ g. ap (λ (b : Bool). (g % 4 == 0) && b) (same_orders plan stream g p s)) (range_with_len k (end - 3 - k))
+orders_same plan stream k end p s = grind (arith, filter_agree, same_orders)
 
 -- a group of these that lists it
 pub record ListsAmong (address : ℕ) (packets : List (List ℕ)) (k end : ℕ) : Type 0 where
@@ -171,8 +152,7 @@ order_filled plan stream u p s h = same_orders plan stream (4 * u) p s ∙ fille
 listing_own : (plan : Plan) (stream : List (List ℕ)) (t : Transmitter) (who g : ℕ) → IsPlan plan → IsStream stream
     → slice_get plan.transmitters who ≡ Some t → g % 4 ≡ 0 → has_order (feed plan stream) g ≡ true
     → is_listed (paging_at plan stream (g / 4)) who ≡ true → has_listing t.address (feed plan stream) g ≡ true
-listing_own plan stream t who g p s listed whole order own =
-    listing_is plan stream t who g p s listed whole
+listing_own plan stream t who g p s listed whole order own = listing_is plan stream t who g p s listed whole
     ∙ and_from (has_order (feed plan stream) g) (is_listed (paging_at plan stream (g / 4)) who) order own
 
 listed_among : (plan : Plan) (stream : List (List ℕ)) (t : Transmitter) (who k end : ℕ) → IsPlan plan
@@ -193,8 +173,7 @@ listed_among plan stream t who k end p s listed enough =
     let within = turn.within in
     let whole : g % 4 ≡ 0 = omega arith in
     let place : g / 4 ≡ u = omega arith in
-    let order : has_order (feed plan stream) g ≡ true =
-    order_filled plan stream u p s turn.filled in
+    let order : has_order (feed plan stream) g ≡ true = order_filled plan stream u p s turn.filled in
     let own : is_listed (paging_at plan stream (g / 4)) who ≡ true =
     ap (λ (v : ℕ). is_listed (paging_at plan stream v) who) place ∙ turn.listed in
     record {
@@ -216,9 +195,7 @@ lists_in_turn plan stream t k end p s listed enough =
 
 pub in_turn_listed : (plan : Plan) (stream : List (List ℕ)) (t : Transmitter) (k end : ℕ) → IsPlan plan
     → IsStream stream → IsListed plan t → pages_in plan ≤ length (orders (feed plan stream) k end)
-    → (g : ℕ) × Contains (orders (feed plan stream) k end) g
-    × (has_listing t.address (feed plan stream) g ≡ true)
+    → (g : ℕ) × Contains (orders (feed plan stream) k end) g × (has_listing t.address (feed plan stream) g ≡ true)
 in_turn_listed plan stream t k end p s listed enough =
-    let one = lists_in_turn plan stream t k end p s listed
-    (subst (λ (xs : List ℕ). pages_in plan ≤ length xs) (orders_same plan stream k end p s) enough) in
+    let one = lists_in_turn plan stream t k end p s listed (grind (arith, orders_same)) in
     (one.group, one.among, one.listing)

@@ -36,8 +36,7 @@ contains_map f xs x c = (c.0, omega (arith, c.1, length-map xs f), get_or-map f 
 abbrev EmitsOf : (plan : Plan) (stream : List (List ℕ)) (events : List Event) → Joined plan stream events → Type 0
 EmitsOf plan stream events x =
     Emits plan x.t (feed plan stream) x.mark x.k (x.mark + x.count) (around x.lives_before x.fed x.lives_behind)
-    (sent_segments x.t x.who (steps_under plan stream events))
-    (lines_of x.t x.who (steps_under plan stream events))
+    (sent_segments x.t x.who (steps_under plan stream events)) (lines_of x.t x.who (steps_under plan stream events))
 
 it_emits : (plan : Plan) (stream : List (List ℕ)) (events : List Event) → IsPlan plan → IsStream stream
     → (x : Joined plan stream events) → EmitsOf plan stream events x
@@ -63,8 +62,7 @@ presets_no_mute : (plan : Plan) (t : Transmitter) (s : ℕ) (fed : List (List �
 unfolding presets
 presets_no_mute plan t s fed k end n why c =
     preset_no_mute (preset_at plan t.offset s k (get_or (orders fed k end) c.0 0)) n why tt
-    (sym (get_or-map (preset_at plan t.offset s k) (orders fed k end) c.0 0 (mute n why)
-    (omega (arith, c.1, length-map (orders fed k end) (preset_at plan t.offset s k)))) ∙ c.2)
+    (sym (grind (arith, get_or-map, length-map)) ∙ c.2)
 
 no_mute : (plan : Plan) (t : Transmitter) (fed : List (List ℕ)) (mark k end : ℕ) (a : Around)
     (segments : List (List ℤ)) (lines : List Line) (e : Emits plan t fed mark k end a segments lines) (n : ℕ)
@@ -78,25 +76,22 @@ no_mute plan t fed mark k end a segments lines e n why c =
         → (n ≤ length e.before) ⊎ (length e.before + length (stretch_of fed k end) ≤ n)
     by_low (inr l) h = inl l
     by_low (inl l) (inr h) = inr h
-    by_low (inl l) (inl h) =
-        absurd (presets_no_mute plan t (length e.before) fed k end n why
-        (no_other plan t fed mark k end a segments lines (mute n why) e c l h))
+    by_low (inl l) (inl h) = absurd (presets_no_mute plan t (length e.before) fed k end n why (grind (arith, no_other)))
 
 follows : (plan : Plan) (stream : List (List ℕ)) (events : List Event) → IsPlan plan → IsStream stream
     → (x : Joined plan stream events) → Follows plan stream events x
 follows plan stream events p s x =
-    let fed : List (List ℕ) = feed plan stream in
     let e : EmitsOf plan stream events x = it_emits plan stream events p s x in
-    let packets : ArePackets fed = feed_packets plan stream p s in
+    let packets : ArePackets (feed plan stream) = feed_packets plan stream p s in
     record {
       emits = e;
-      named = first_is plan x.t.offset (length e.before) x.t.address fed (locked_from x.fed.earlier x.mark)
+      named = first_is plan x.t.offset (length e.before) x.t.address (feed plan stream) (locked_from x.fed.earlier x.mark)
           (x.mark + x.count) x.k x.listing;
-      unmuted = no_mute plan x.t fed x.mark x.k (x.mark + x.count)
+      unmuted = no_mute plan x.t (feed plan stream) x.mark x.k (x.mark + x.count)
           (around x.lives_before x.fed x.lives_behind) (sent_segments x.t x.who (steps_under plan stream events))
           (lines_of x.t x.who (steps_under plan stream events)) e;
-      gives_back = λ got. back fed x.k (x.mark + x.count) (length e.before) got packets x.fed.inside;
-      gives_all_back = λ got. all_given_back fed x.k (x.mark + x.count) got packets x.fed.inside;
+      gives_back = λ got. back (feed plan stream) x.k (x.mark + x.count) (length e.before) got packets x.fed.inside;
+      gives_all_back = λ got. all_given_back (feed plan stream) x.k (x.mark + x.count) got packets x.fed.inside;
     }
 
 -- ---- two transmitters
@@ -109,8 +104,7 @@ unfolding presets
 preset_logged plan t fed mark k end a segments lines e g c =
     let own : List Line = map (preset_at plan t.offset (length e.before) k) (orders fed k end) in
     let line : Line = preset_at plan t.offset (length e.before) k g in
-    subst (λ ls. Contains ls line) (sym e.log)
-    (Contains-append_right e.earlier (own ++ e.later) line
+    subst (λ ls. Contains ls line) (sym e.log) (Contains-append_right e.earlier (own ++ e.later) line
     (Contains-append_left own e.later line (contains_map (preset_at plan t.offset (length e.before) k)
     (orders fed k end) g c)))
 
@@ -129,9 +123,4 @@ headline plan stream events p s = record {
     logged : (x : Joined plan stream events) (g : ℕ) → Contains (orders (feed plan stream) x.k (x.mark + x.count)) g
         → Contains (lines_of x.t x.who (steps_under plan stream events))
         (preset_at plan x.t.offset (length (follows plan stream events p s x).emits.before) x.k g)
-    logged x g c =
-        preset_logged plan x.t (feed plan stream) x.mark x.k (x.mark + x.count)
-        (around x.lives_before x.fed x.lives_behind)
-        (sent_segments x.t x.who (steps_under plan stream events))
-        (lines_of x.t x.who (steps_under plan stream events))
-        (follows plan stream events p s x).emits g c
+    logged x g c = grind (arith, preset_logged, follows)
