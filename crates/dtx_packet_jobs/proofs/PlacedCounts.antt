@@ -1,6 +1,7 @@
 -- What is counted while placeholders are put, a packet at a time.
-use Rattle.std.proofs.Common.{◌≡◌, ℕ, zero, suc, ◌+◌, ◌*◌, ◌/◌, ◌%◌, ◌≤◌, Bool, true, false, not, ◌&&◌, ◌||◌, ◌==◌, ◌<◌, ◌^◌}
-use Rattle.std.proofs.Common.{Fits, w64, List, [], ◌∷◌, ◌++◌, length, map, refl, sym, ap, ap₂, ◌∙◌, arith, nat_le, inl, inr}
+use Rattle.std.proofs.Common.{◌≡◌, ℕ, zero, suc, ◌+◌, ◌*◌, ◌/◌, ◌%◌, ◌≤◌, Bool, true, false, not, ◌&&◌, ◌||◌, ◌==◌, ◌<◌}
+use Rattle.std.proofs.Common.{◌^◌, Fits, w64, List, [], ◌∷◌, ◌++◌, length, map, refl, sym, ap, ap₂, ◌∙◌, arith, nat_le}
+use Rattle.std.proofs.Common.{inl, inr}
 use Rattle.std.specs.Prelude.{if◌then◌else◌, count_by}
 use mir.Val.{bool_byte}
 use Rattle.std.specs.List.{list_any, range_with_len}

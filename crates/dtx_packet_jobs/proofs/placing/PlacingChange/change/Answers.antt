@@ -1,5 +1,5 @@
-use Rattle.std.proofs.Common.{◌≡◌, ◌*◌, ◌%◌, ◌&&◌, ◌||◌, ◌==◌, nat_le, not, ℕ, Bool, List, length, sym, ap, subst}
-use Rattle.std.proofs.Common.{◌∙◌, ◌+◌, ◌/◌, arith, refl}
+use Rattle.std.proofs.Common.{◌≡◌, ◌*◌, ◌%◌, ◌&&◌, ◌||◌, ◌==◌, nat_le, not, ℕ, Bool, List, length, sym, ap, subst, ◌∙◌}
+use Rattle.std.proofs.Common.{◌+◌, ◌/◌, arith, refl}
 use mir.Val.{bool_byte}
 use Rattle.std.specs.Prelude.{if◌then◌else◌}
 use Rattle.dtx_adapter.specs.Feed.{is_placeholder}
@@ -8,7 +8,8 @@ use Rattle.dtx_packet_jobs.specs.Placing.{IsCounted}
 use Rattle.dtx_recipes.specs.Place.{as_placeholder, becomes, is_open}
 use Rattle.dtx_forms.proofs.FilePacketsLemmas.{length-packets_of}
 use Rattle.dtx_packet_jobs.proofs.PlacedBytes.{packets_of-next}
-use Rattle.dtx_packet_jobs.proofs.PlacedCounts.{becomes_is, closed_fields-most, counted-next, fits_with, placed_count-most}
+use Rattle.dtx_packet_jobs.proofs.PlacedCounts.{becomes_is, closed_fields-most, counted-next, fits_with}
+use Rattle.dtx_packet_jobs.proofs.PlacedCounts.{placed_count-most}
 use Rattle.dtx_packet_jobs.proofs.placing.PlacingChange.change.Goals as goal
 use Rattle.dtx_packet_jobs.proofs.placing.PlacingChange.change.Goals.{After-pid-pid}
 
