@@ -36,7 +36,7 @@ abbrev dvb_labels : List (List ℕ)
 dvb_labels = codes "blocks " ∷ codes " packets " ∷ codes " fixed " ∷ codes " flagged " ∷ codes " loose " ∷ []
 
 spelled : (s p f : ℕ)
-    → onto labels (s ∷ 1 ∷ p ∷ f ∷ 0 ∷ 0 ∷ 0 ∷ []) (codes "\n")
+    → onto labels (s ∷ 1 ∷ p ∷ f ∷ 0 ∷ 0 ∷ []) (codes "\n")
     ≡ codes "segments " ++ (decimal s ++ (codes " runs 1 packets " ++ (decimal p ++ (codes " fixed " ++ (decimal f
     ++ codes " flagged 0 loose 0\n")))))
 spelled s p f =
@@ -46,7 +46,7 @@ spelled s p f =
     ap₂ text (decimal_digit 1 (omega arith)) (decimal_digit 0 (omega arith))
 
 dvb_spelled : (b p f : ℕ)
-    → onto dvb_labels (b ∷ p ∷ f ∷ 0 ∷ 0 ∷ 0 ∷ 0 ∷ []) (codes "\n")
+    → onto dvb_labels (b ∷ p ∷ f ∷ 0 ∷ 0 ∷ []) (codes "\n")
     ≡ codes "blocks " ++ (decimal b ++ (codes " packets " ++ (decimal p ++ (codes " fixed " ++ (decimal f
     ++ codes " flagged 0 loose 0\n")))))
 dvb_spelled b p f =
@@ -59,7 +59,7 @@ dvb_spelled b p f =
 pub received_line : (names packets : List (List ℕ)) (fixed : ℕ)
     → done_line (Some Receive) (all_back names packets fixed).outcome ≡ line_back (length packets) fixed
 received_line names packets fixed =
-    numbered-append labels (length (a53 packets) ∷ 1 ∷ back_of_all (length packets) ∷ fixed ∷ 0 ∷ 0 ∷ 0 ∷ [])
+    numbered-append labels (length (a53 packets) ∷ 1 ∷ back_of_all (length packets) ∷ fixed ∷ 0 ∷ 0 ∷ [])
     (codes "\n")
     ∙ spelled (length (a53 packets)) (back_of_all (length packets)) fixed
     ∙ ap (λ s. codes "segments " ++ (decimal s ++ (codes " runs 1 packets " ++ (decimal (back_of_all (length packets))
@@ -72,7 +72,7 @@ mended_line = received_line
 pub read_line : (names : List (List ℕ)) (stream : List ℕ) (fixed : ℕ)
     → done_line (Some DvbRead) (back_of names stream fixed).outcome ≡ dvb_line_back (whole_packets stream) fixed
 read_line names stream fixed =
-    numbered-append dvb_labels (whole_packets stream ∷ (whole_packets stream - 11) ∷ fixed ∷ 0 ∷ 0 ∷ 0 ∷ 0 ∷ [])
+    numbered-append dvb_labels (whole_packets stream ∷ (whole_packets stream - 11) ∷ fixed ∷ 0 ∷ 0 ∷ [])
     (codes "\n")
     ∙ dvb_spelled (whole_packets stream) (whole_packets stream - 11) fixed
 

@@ -14,7 +14,7 @@ use Rattle.dtx_engine.specs.Made.{only, outputs_of}
 use Rattle.dtx_engine.specs.Recipe.{meaning_of_file}
 use Rattle.dtx_forms.specs.Shapes.{segments}
 use Rattle.dtx_meaning.specs.Meaning.{Meaning}
-use Rattle.dtx_meaning.specs.declared.status.Status.TheVariants.{Done}
+use Rattle.dtx_meaning.specs.Status.{done}
 use Rattle.dtx_receiver.specs.Packets.{all_packets}
 use Rattle.dtx_recipes.specs.MendedBack.{all_back_of, put_right}
 use Rattle.dtx_recipes.specs.Receive.{receiving}
@@ -105,7 +105,7 @@ of_all names packets file some long =
     let fixed : ℕ = put_right packets 0 got in
     let many : length got ≡ length (a53 packets) = length-segments_of file ∙ count_segments packets file long in
     let means : ℕ → ℕ → ℕ → List ℕ → Meaning = λ s p l bytes. record {
-      outcome = record { status = Done; numbers = s ∷ 1 ∷ p ∷ fixed ∷ 0 ∷ l ∷ 0 ∷ []; shown = 6 };
+      outcome = done (s ∷ 1 ∷ p ∷ fixed ∷ 0 ∷ l ∷ []);
       outputs = outputs_of names (only bytes);
     } in
     let back : length (numbers_in (from_sync 0 got)) ≡ back_of_all (length packets) =

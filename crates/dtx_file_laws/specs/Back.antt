@@ -7,7 +7,7 @@ use Rattle.dtx_chain.specs.Undamaged.{as_received}
 use Rattle.dtx_coder.specs.Stream.{a53}
 use Rattle.dtx_engine.specs.Made.{only, outputs_of}
 use Rattle.dtx_meaning.specs.Meaning.{Meaning}
-use Rattle.dtx_meaning.specs.declared.status.Status.TheVariants.{Done}
+use Rattle.dtx_meaning.specs.Status.{done}
 use Rattle.dtx_outside.specs.Shelf.{Files}
 use Rattle.dtx_packets.specs.Packets.{packet_at, packets_of, whole_packets}
 use Rattle.dtx_recipes.specs.Code.{may_be_coded}
@@ -56,11 +56,7 @@ dvb_line_back count fixed =
 -- the bytes put right. None is flagged, and nothing is loose.
 abbrev pub all_back : List (List ℕ) → List (List ℕ) → ℕ → Meaning
 all_back names packets fixed = record {
-  outcome = record {
-    status = Done;
-    numbers = length (a53 packets) ∷ 1 ∷ back_of_all (length packets) ∷ fixed ∷ 0 ∷ 0 ∷ 0 ∷ [];
-    shown = 6;
-  };
+  outcome = done (length (a53 packets) ∷ 1 ∷ back_of_all (length packets) ∷ fixed ∷ 0 ∷ 0 ∷ []);
   outputs = outputs_of names (only (packets_back packets));
 }
 

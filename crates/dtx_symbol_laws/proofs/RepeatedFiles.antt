@@ -9,9 +9,9 @@ use Rattle.dtx_receiver.specs.Runs.{runs}
 use Rattle.dtx_exciter.specs.Log.{log}
 use Rattle.dtx_repeat.specs.Lives.{life_of, lives, lives_so_far}
 use Rattle.dtx_meaning.specs.Meaning.{Meaning}
-use Rattle.dtx_meaning.specs.Status.{ended}
+use Rattle.dtx_meaning.specs.Status.{done, ended}
 use Rattle.dtx_meaning.specs.declared.status.Outcome.{Outcome}
-use Rattle.dtx_meaning.specs.declared.status.Status.TheVariants.{Done, NoSync, TooLong}
+use Rattle.dtx_meaning.specs.declared.status.Status.TheVariants.{NoSync, TooLong}
 use Rattle.dtx_engine.specs.Made.{Made, only, outputs_of}
 use Rattle.dtx_engine.specs.Recipe.{first_refused, meaning_at, meaning_of_file}
 use Rattle.dtx_engine.specs.declared.piece.Ending.TheVariants.{Whole}
@@ -59,16 +59,13 @@ pub all_repeated : (a d : ℕ) (names : List (List ℕ)) (file : List ℕ) → w
     → meaning_of_file segments (repeating a d) names file ≡ repeated_of a d names file
 all_repeated a d names file few some =
     let list : List (List ℤ) = file_segments file in
-    let done : ℕ → Outcome = λ count. record {
-      status = Done;
-      numbers = repeated_numbers count (length (runs list)) (lives_tally a d (lives list)) (length file % 832);
-      shown = 7;
-    } in
+    let answer : ℕ → Outcome = λ count.
+    done (repeated_numbers count (length (runs list)) (lives_tally a d (lives list)) (length file % 832)) in
     answered a d names file few
     ∙ ap (λ (outcome : Outcome). record { outcome = outcome; outputs = outputs_of names (repeated_outputs a d list) })
-    (cond-false _ (ended NoSync) (done (length list)) (ne_eqb (length (runs list)) 0
+    (cond-false _ (ended NoSync) (answer (length list)) (ne_eqb (length (runs list)) 0
     (λ e. some ((no_run_in file).0 e)))
-    ∙ ap done (length-segments_of file))
+    ∙ ap answer (length-segments_of file))
 
 -- ---- no run
 

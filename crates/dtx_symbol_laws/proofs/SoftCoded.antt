@@ -7,7 +7,7 @@ use Rattle.dtx_coder.specs.Stream.{a53, a53_symbols}
 use Rattle.dtx_soft.specs.Softened.{softened_cost}
 use Rattle.dtx_soft.proofs.SumsLemmas.{over, over_more}
 use Rattle.dtx_meaning.specs.Meaning.{Meaning}
-use Rattle.dtx_meaning.specs.declared.status.Status.TheVariants.{Done}
+use Rattle.dtx_meaning.specs.Status.{done}
 use Rattle.dtx_engine.specs.Made.{only, outputs_of}
 use Rattle.dtx_engine.specs.Recipe.{meaning_of_file}
 use Rattle.dtx_files.specs.Symbols.{segment_bytes}
@@ -93,11 +93,7 @@ stream_file_stays takes keeps names stream most =
     let file : List ℕ = symbol_bytes ps in
     let count : length ps ≡ whole_packets stream = length-packets_of stream in
     let means : List (List ℤ) → ℕ → ℕ → ℕ → List (List ℤ) → Meaning = λ given fields cost loose written. record {
-      outcome = record {
-        status = Done;
-        numbers = length given ∷ fields ∷ cost ∷ loose ∷ 0 ∷ 0 ∷ 0 ∷ [];
-        shown = 4;
-      };
+      outcome = done (length given ∷ fields ∷ cost ∷ loose ∷ []);
       outputs = outputs_of names (only (segment_bytes written));
     } in
     all_softened names file (few_segments ps (omega (arith, count, most)))

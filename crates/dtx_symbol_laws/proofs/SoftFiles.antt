@@ -14,8 +14,8 @@ use Rattle.dtx_coder.specs.Stream.{symbols_of}
 use Rattle.dtx_receiver.specs.Intervals.{NoneLooks}
 use Rattle.dtx_soft.specs.Softened.{softened_cost}
 use Rattle.dtx_meaning.specs.Meaning.{Meaning}
-use Rattle.dtx_meaning.specs.Status.{ended}
-use Rattle.dtx_meaning.specs.declared.status.Status.TheVariants.{Done, TooLong}
+use Rattle.dtx_meaning.specs.Status.{done, ended}
+use Rattle.dtx_meaning.specs.declared.status.Status.TheVariants.{TooLong}
 use Rattle.dtx_engine.specs.Made.{only, outputs_of}
 use Rattle.dtx_engine.specs.Recipe.{first_refused, meaning_of_file, whole_units}
 use Rattle.dtx_files.proofs.AppendedLemmas.{segment_bytes-append}
@@ -43,7 +43,7 @@ pub all_softened : (names : List (List ℕ)) (file : List ℕ) → whole_segment
 all_softened names file few =
     let front : List ℕ = take (832 * whole_segments file) file in
     let means : List (List ℤ) → List ℕ → Meaning = λ list bytes. record {
-      outcome = record { status = Done; numbers = soft_numbers list (length file % 832); shown = 4 };
+      outcome = done (soft_numbers list (length file % 832));
       outputs = outputs_of names (only bytes);
     } in
     all_read segments softening names file (all_allowed file) few
@@ -120,11 +120,7 @@ copied_whole names file bytes few none =
     let count : length s ≡ whole_segments file = length-segments_of file in
     let nothing : NoneLooks s 0 (length s) = subst (NoneLooks s 0) (sym count) none in
     let means : ℕ → ℕ → ℕ → List ℕ → Meaning = λ n fields cost written. record {
-      outcome = record {
-        status = Done;
-        numbers = n ∷ fields ∷ cost ∷ (length file % 832) ∷ 0 ∷ 0 ∷ 0 ∷ [];
-        shown = 4;
-      };
+      outcome = done (n ∷ fields ∷ cost ∷ (length file % 832) ∷ []);
       outputs = outputs_of names (only written);
     } in
     all_softened names file few

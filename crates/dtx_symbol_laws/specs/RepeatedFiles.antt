@@ -5,8 +5,8 @@ use Rattle.dtx_engine.specs.Made.{Made, outputs_of}
 use Rattle.dtx_files.specs.LogText.{log_text}
 use Rattle.dtx_files.specs.Symbols.{segment_bytes}
 use Rattle.dtx_meaning.specs.Meaning.{Meaning}
-use Rattle.dtx_meaning.specs.Status.{ended}
-use Rattle.dtx_meaning.specs.declared.status.Status.TheVariants.{Done, TooLong}
+use Rattle.dtx_meaning.specs.Status.{done, ended}
+use Rattle.dtx_meaning.specs.declared.status.Status.TheVariants.{TooLong}
 use Rattle.dtx_receiver.specs.Runs.{runs}
 use Rattle.dtx_repeat.specs.Lives.{lives, lives_so_far, repeated, repeated_log}
 use Rattle.dtx_sizes.specs.declared.limits.TheConstants.{MOST_SEGMENTS}
@@ -24,12 +24,8 @@ repeated_outputs address delay list = record {
 -- the answer and the outputs for a file in which a segment looks like a field sync
 abbrev pub repeated_of : ℕ → ℕ → List (List ℕ) → List ℕ → Meaning
 repeated_of address delay names file = record {
-  outcome = record {
-    status = Done;
-    numbers = repeated_numbers (whole_segments file) (length (runs (file_segments file)))
-        (lives_tally address delay (lives (file_segments file))) (length file % 832);
-    shown = 7;
-  };
+  outcome = done (repeated_numbers (whole_segments file) (length (runs (file_segments file)))
+      (lives_tally address delay (lives (file_segments file))) (length file % 832));
   outputs = outputs_of names (repeated_outputs address delay (file_segments file));
 }
 

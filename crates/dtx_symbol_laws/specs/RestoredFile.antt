@@ -7,9 +7,9 @@ use Rattle.dtx_rounds.specs.Rounds.{heard_of, refined, round_cost, round_moved}
 use Rattle.dtx_engine.specs.Made.{only, outputs_of}
 use Rattle.dtx_files.specs.Symbols.{segment_bytes}
 use Rattle.dtx_meaning.specs.Meaning.{Meaning}
-use Rattle.dtx_meaning.specs.Status.{ended}
+use Rattle.dtx_meaning.specs.Status.{done, ended}
 use Rattle.dtx_meaning.specs.declared.status.Outcome.{Outcome}
-use Rattle.dtx_meaning.specs.declared.status.Status.TheVariants.{Done, TooLong}
+use Rattle.dtx_meaning.specs.declared.status.Status.TheVariants.{TooLong}
 use Rattle.dtx_sizes.specs.declared.limits.TheConstants.{MOST_SYMBOLS}
 use Rattle.dtx_recipes.specs.Acquire.{acquired_numbers}
 use Rattle.dtx_recipes.specs.Refine.{before_last, refined_numbers}
@@ -40,12 +40,8 @@ file_acquired scale file = acquired scale (symbols file)
 -- what `acquire` answers and writes for a file of which something is acquired
 abbrev pub acquired_of : ℕ → List (List ℕ) → List ℕ → Meaning
 acquired_of scale names file =
-    restored_with names (record {
-      status = Done;
-      numbers = acquired_numbers (length file) (acquired_runs (symbols file)) (length (file_acquired scale file))
-          (acquired_cost scale (symbols file));
-      shown = 5;
-    }) (file_acquired scale file)
+    restored_with names (done (acquired_numbers (length file) (acquired_runs (symbols file))
+    (length (file_acquired scale file)) (acquired_cost scale (symbols file)))) (file_acquired scale file)
 
 -- ---- `refine`
 
@@ -57,11 +53,9 @@ file_refined scale rounds file = refined scale (symbols file) rounds
 -- symbols moved are those of the last round, over what it was given.
 abbrev pub refined_of : ℕ → ℕ → List (List ℕ) → List ℕ → Meaning
 refined_of scale rounds names file =
-    restored_with names (record {
-      status = Done;
-      numbers = refined_numbers (length file) (acquired_runs (symbols file)) (length (file_refined scale rounds file))
-          (round_cost scale (heard_of (symbols file)) (before_last scale rounds (symbols file)))
-          (known_count (bytes_in (before_last scale rounds (symbols file))))
-          (round_moved scale (heard_of (symbols file)) (before_last scale rounds (symbols file)));
-      shown = 7;
-    }) (file_refined scale rounds file)
+    restored_with names (done (refined_numbers (length file) (acquired_runs (symbols file))
+    (length (file_refined scale rounds file))
+    (round_cost scale (heard_of (symbols file)) (before_last scale rounds (symbols file)))
+    (known_count (bytes_in (before_last scale rounds (symbols file))))
+    (round_moved scale (heard_of (symbols file)) (before_last scale rounds (symbols file)))))
+    (file_refined scale rounds file)

@@ -6,8 +6,8 @@ use Rattle.dtx_coder.specs.Stream.{a53}
 use Rattle.dtx_engine.specs.Made.{only, outputs_of}
 use Rattle.dtx_files.specs.Symbols.{segment_bytes}
 use Rattle.dtx_meaning.specs.Meaning.{Meaning}
-use Rattle.dtx_meaning.specs.Status.{ended}
-use Rattle.dtx_meaning.specs.declared.status.Status.TheVariants.{Done, TooLong}
+use Rattle.dtx_meaning.specs.Status.{done, ended}
+use Rattle.dtx_meaning.specs.declared.status.Status.TheVariants.{TooLong}
 use Rattle.dtx_packets.specs.Packets.{packets_of, whole_packets}
 use Rattle.dtx_receiver.specs.Runs.{runs}
 use Rattle.dtx_sizes.specs.declared.limits.TheConstants.{MOST_SEGMENTS}
@@ -40,7 +40,7 @@ fields_of segments = flat_map fields_in (runs segments)
 -- what `soft` answers and writes for all segments of a file
 abbrev pub softened_of : List (List ℕ) → List ℕ → Meaning
 softened_of names file = record {
-  outcome = record { status = Done; numbers = soft_numbers (file_segments file) (length file % 832); shown = 4 };
+  outcome = done (soft_numbers (file_segments file) (length file % 832));
   outputs = outputs_of names (only (segment_bytes (soft_symbols (file_segments file))));
 }
 
@@ -55,11 +55,7 @@ softened_until names file = record {
 -- the same where the whole segments are copied
 abbrev pub copied_of : List (List ℕ) → List ℕ → Meaning
 copied_of names file = record {
-  outcome = record {
-    status = Done;
-    numbers = whole_segments file ∷ 0 ∷ 0 ∷ (length file % 832) ∷ 0 ∷ 0 ∷ 0 ∷ [];
-    shown = 4;
-  };
+  outcome = done (whole_segments file ∷ 0 ∷ 0 ∷ (length file % 832) ∷ []);
   outputs = outputs_of names (only (take (832 * whole_segments file) file));
 }
 
@@ -67,10 +63,6 @@ copied_of names file = record {
 -- of four packets that are begun.
 abbrev pub kept_of : List (List ℕ) → List ℕ → Meaning
 kept_of names stream = record {
-  outcome = record {
-    status = Done;
-    numbers = length (a53 (packets_of stream)) ∷ ((whole_packets stream / 4 + 77) / 78) ∷ 0 ∷ 0 ∷ 0 ∷ 0 ∷ 0 ∷ [];
-    shown = 4;
-  };
+  outcome = done (length (a53 (packets_of stream)) ∷ ((whole_packets stream / 4 + 77) / 78) ∷ 0 ∷ 0 ∷ []);
   outputs = outputs_of names (only (symbol_bytes (packets_of stream)));
 }

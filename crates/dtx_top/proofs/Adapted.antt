@@ -30,7 +30,7 @@ use Rattle.dtx_words.specs.NetworkNames.{feed_name}
 use Rattle.dtx_top.specs.NetMeaning.{fed_meaning, is_done, network_meaning}
 use Rattle.dtx_top.specs.NetProgress.{HasPlayProgress, HasNetProgress, HasStreamProgress, feed_outputs}
 use Rattle.dtx_top.specs.NetProgress.{reception_outputs}
-use Rattle.dtx_top.specs.Replaying.{IsFeedWritten}
+use Rattle.dtx_top.specs.Replaying.{IsFeedWritten, fed_of}
 use Rattle.dtx_top.proofs.Carrying.{is_done_is}
 use Rattle.dtx_top.proofs.NetProgresses.{fed_on, only_fed}
 
@@ -82,7 +82,7 @@ packets_given_of file = packets_of-piece file 0 (whole_packets file) (omega arit
 
 written : (plan : Plan) (file : List ℕ) (held mid : Files) (fed : Outcome) → AreAllTaken packets (feeding plan) file
     → IsWhole (meaning_of_file packets (feeding plan) (feed_name ∷ []) file) (Some held) fed (Some mid)
-    → IsFeedWritten plan (packets_of file) fed mid
+    → IsFeedWritten plan (packets_of file) (fed_of fed) mid
 written plan file held mid fed all whole =
     let means = taken_means packets (feeding plan) (feed_name ∷ []) file all in
     let given : List ℕ = given_of file in
@@ -108,7 +108,7 @@ pub record IsAdapted (plan : Plan) (file : List ℕ) (held : Files) (fed : Outco
   pub between : Files
   pub told : mid ≡ Some between
   pub whole : Some between ≡ with_outputs (feed_outputs plan file) (Some held)
-  pub written : IsFeedWritten plan (packets_of file) fed between
+  pub written : IsFeedWritten plan (packets_of file) (fed_of fed) between
 
 pub adapted_whole : (plan : Plan) (file : List ℕ) (held : Files) (fed : Outcome) (mid : Option Files)
     → fed.status ≡ Done
@@ -142,7 +142,7 @@ not_fault status done fault = subst IsFault done fault
 pub fed_then : (plan : Plan) (network : NetPlan) (held : Files) (found : Option (List ℕ)) (mid now : Option Files)
     (fed result : Outcome) → fed.status ≡ Done
     → IsCarriedOut (meaning packets (feeding plan) 1 (feed_name ∷ []) found) (Some held) fed mid
-    → ((told : Files) (stream : List (List ℕ)) → mid ≡ Some told → IsFeedWritten plan stream fed told
+    → ((told : Files) (stream : List (List ℕ)) → mid ≡ Some told → IsFeedWritten plan stream (fed_of fed) told
     → IsCarriedOut (fed_meaning plan network stream) (Some told) result now)
     → IsCarriedOut (network_meaning plan network found) (Some held) result now
 fed_then plan network held found mid now fed result done (inr broken) next =
@@ -197,7 +197,7 @@ pub fed_then_told : (plan : Plan) (network : NetPlan) (told mid now : Option Fil
     → fed.status ≡ Done
     → IfSome told (λ held. IsCarriedOut (meaning packets (feeding plan) 1 (feed_name ∷ []) (get held network.stream))
     (Some held) fed mid)
-    → ((held : Files) (stream : List (List ℕ)) → mid ≡ Some held → IsFeedWritten plan stream fed held
+    → ((held : Files) (stream : List (List ℕ)) → mid ≡ Some held → IsFeedWritten plan stream (fed_of fed) held
     → IsCarriedOut (fed_meaning plan network stream) (Some held) result now)
     → IfSome told (λ held. IsCarriedOut (network_meaning plan network (get held network.stream)) (Some held) result now)
 fed_then_told plan network None mid now fed result done carried next = tt
@@ -219,7 +219,7 @@ fed_alone_told plan network (Some held) now fed not_done carried =
 fed_then_come : (plan : Plan) (network : NetPlan) (held : Files) (found : Option (List ℕ)) (mid now : Option Files)
     (fed : Outcome) (status : Status) → fed.status ≡ Done
     → IsCarriedOut (meaning packets (feeding plan) 1 (feed_name ∷ []) found) (Some held) fed mid
-    → ((told : Files) (stream : List (List ℕ)) → mid ≡ Some told → IsFeedWritten plan stream fed told
+    → ((told : Files) (stream : List (List ℕ)) → mid ≡ Some told → IsFeedWritten plan stream (fed_of fed) told
     → HasPlayProgress plan network stream status told now)
     → IfSome found (λ file. HasNetProgress plan network file status held now)
 fed_then_come plan network held None mid now fed status done carried next = tt
@@ -235,7 +235,7 @@ pub fed_then_progress : (plan : Plan) (network : NetPlan) (told mid now : Option
     (status : Status) → fed.status ≡ Done
     → IfSome told (λ held. IsCarriedOut (meaning packets (feeding plan) 1 (feed_name ∷ []) (get held network.stream))
     (Some held) fed mid)
-    → ((held : Files) (stream : List (List ℕ)) → mid ≡ Some held → IsFeedWritten plan stream fed held
+    → ((held : Files) (stream : List (List ℕ)) → mid ≡ Some held → IsFeedWritten plan stream (fed_of fed) held
     → HasPlayProgress plan network stream status held now)
     → IfSome told (λ held. HasStreamProgress plan network status held now)
 fed_then_progress plan network None mid now fed status done carried next = tt

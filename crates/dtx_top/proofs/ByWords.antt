@@ -8,6 +8,7 @@ use Rattle.std.proofs.lemmas.List.{append-nil, append_assoc}
 use Rattle.dtx_outside.specs.declared.sink.SinkNo.{SinkNo}
 use Rattle.dtx_outside.specs.declared.sink.SinkNo.TheVariants as sink
 use Rattle.dtx_meaning.specs.Status.{IsOfInputs}
+use Rattle.dtx_meaning.specs.declared.status.Outcome.{Outcome}
 use Rattle.dtx_meaning.specs.declared.status.Status.{Status}
 use Rattle.dtx_meaning.specs.declared.status.Status.TheVariants.{Usage, Memory}
 use Rattle.dtx_forms.specs.Answers.{Knows}
@@ -24,6 +25,7 @@ use Rattle.dtx_words.specs.declared.rows.Field.TheVariants.{Number, Within, Seco
 use Rattle.dtx_top.specs.Ends.{IsByWords, IsOfCommand}
 use Rattle.dtx_top.specs.NetAnswers.{IsOfNetWords, IsOfNetwork}
 use Rattle.dtx_top.proofs.Ending.{finished_failed}
+use Rattle.dtx_top.proofs.Known.{known_status}
 
 -- ---- words that fit
 
@@ -68,14 +70,18 @@ no_names (seed ∷ []) = refl
 no_names (seed ∷ count ∷ words) = refl
 
 -- words that fit a command
-fitted_told : (command : Command) (words : List (List ℕ)) (status : Status) → fits command words ≡ true
-    → IsOfCommand (Some command) words status → IsByWords (Some command) words status
-fitted_told command [] status fit is = let e : false ≡ true = fit in cc
-fitted_told Net (verb ∷ words) status fit is = net_told verb words status (and_parts _ _ fit).1 is
-fitted_told Trial (verb ∷ words) status fit is =
-    (names_told [] [] (row_of Trial).fields words 3 status (no_names words) (and_parts _ _ fit).1 is.0, is.1)
-fitted_told command (verb ∷ words) status fit is =
-    (names_told [] _ (row_of command).fields words _ status refl (and_parts _ _ fit).1 is.0, is.1)
+fitted_told : (command : Command) (words : List (List ℕ)) (outcome : Outcome) → fits command words ≡ true
+    → IsOfCommand (Some command) words outcome → IsByWords (Some command) words outcome.status
+fitted_told command [] outcome fit is = let e : false ≡ true = fit in cc
+fitted_told Net (verb ∷ words) outcome fit is = net_told verb words outcome.status (and_parts _ _ fit).1 is
+fitted_told Trial (verb ∷ words) outcome fit is = (
+  names_told [] [] (row_of Trial).fields words 3 outcome.status (no_names words) (and_parts _ _ fit).1 is.0,
+  known_status Trial outcome is.1,
+)
+fitted_told command (verb ∷ words) outcome fit is = (
+  names_told [] _ (row_of command).fields words _ outcome.status refl (and_parts _ _ fit).1 is.0,
+  known_status command outcome is.1,
+)
 
 -- ---- behind the line
 
@@ -125,9 +131,9 @@ by_words_finished command words status line is =
     (inputs_finished _ _ status line is.0, knows_finished command status line is.1)
 
 -- the command that the words fit, behind its line
-pub words_told : (command : Option Command) (words : List (List ℕ)) (status : Status)
-    (line : Result (Unit {0}) SinkNo) → command_of words ≡ command → IsOfCommand command words status
-    → IsByWords command words (finished status line)
-words_told None words status line is answer = usage_finished status line answer
-words_told (Some command) words status line is answer = by_words_finished command words status line
-    (fitted_told command words status (command_fits words command is) answer)
+pub words_told : (command : Option Command) (words : List (List ℕ)) (outcome : Outcome)
+    (line : Result (Unit {0}) SinkNo) → command_of words ≡ command → IsOfCommand command words outcome
+    → IsByWords command words (finished outcome.status line)
+words_told None words outcome line is answer = usage_finished outcome.status line answer
+words_told (Some command) words outcome line is answer = by_words_finished command words outcome.status line
+    (fitted_told command words outcome (command_fits words command is) answer)

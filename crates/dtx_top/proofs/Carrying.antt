@@ -12,7 +12,7 @@ use Rattle.dtx_recipes.specs.Receive.{receiving}
 use Rattle.dtx_forms.specs.Shapes.{segments}
 use Rattle.dtx_meaning.proofs.MeaningLemmas.{carried_refused}
 use Rattle.dtx_meaning.specs.Meaning.{Meaning, IsCarriedOut}
-use Rattle.dtx_meaning.specs.Status.{IsFault, ended}
+use Rattle.dtx_meaning.specs.Status.{IsFault, done, ended}
 use Rattle.dtx_meaning.specs.declared.status.Outcome.{Outcome}
 use Rattle.dtx_meaning.specs.declared.status.Status.{Status}
 use Rattle.dtx_meaning.specs.declared.status.Status.TheVariants.{Done, ReadFault, WriteFault, Memory, OutOfAir}
@@ -85,12 +85,9 @@ fault_stays : (fed filled steps : ℕ) (outcome : Outcome) → IsFault outcome.s
 fault_stays fed filled steps outcome fault = at_test (is_done outcome.status) (fault_not_done outcome.status fault)
   where
     reported : Outcome
-    reported = record {
-      status = Done;
-      numbers = fed ∷ filled ∷ steps ∷ slice_index outcome.numbers 2 ∷ slice_index outcome.numbers 3 ∷ slice_index
-          outcome.numbers 4 ∷ 0 ∷ [];
-      shown = 6;
-    }
+    reported =
+        done (fed ∷ filled ∷ steps ∷ slice_index outcome.numbers 2 ∷ slice_index outcome.numbers 3
+        ∷ slice_index outcome.numbers 4 ∷ [])
 
     at_test : (b : Bool) → b ≡ false → IsFault (cond b reported outcome).status
     at_test true e = cc
@@ -99,12 +96,8 @@ fault_stays fed filled steps outcome fault = at_test (is_done outcome.status) (f
 status_stays : (fed filled steps : ℕ) (outcome : Outcome) → is_done outcome.status ≡ false
     → (with_received fed filled steps outcome).status ≡ outcome.status
 status_stays fed filled steps outcome none = ap (λ (o : Outcome). o.status)
-    (cond-false (is_done outcome.status) (record {
-      status = Done;
-      numbers = fed ∷ filled ∷ steps ∷ slice_index outcome.numbers 2 ∷ slice_index outcome.numbers 3 ∷ slice_index
-          outcome.numbers 4 ∷ 0 ∷ [];
-      shown = 6;
-    }) outcome none)
+    (cond-false (is_done outcome.status) (done (fed ∷ filled ∷ steps ∷ slice_index outcome.numbers 2
+    ∷ slice_index outcome.numbers 3 ∷ slice_index outcome.numbers 4 ∷ [])) outcome none)
 
 pub answered_carried : (m : Meaning) (fed filled steps : ℕ) (start now : Option Files) (outcome : Outcome)
     → IsCarriedOut m start outcome now

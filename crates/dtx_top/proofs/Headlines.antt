@@ -30,7 +30,7 @@ use Rattle.dtx_network.specs.Network.{steps_under}
 use Rattle.dtx_network.specs.Plans.{IsPlan, IsStream}
 use Rattle.dtx_meaning.proofs.MeaningLemmas.{whole_of_carried}
 use Rattle.dtx_meaning.specs.Meaning.{Meaning, Outputs, IsCarriedOut, and_then, refused, with_outputs}
-use Rattle.dtx_meaning.specs.Status.{IsFault}
+use Rattle.dtx_meaning.specs.Status.{IsFault, done}
 use Rattle.dtx_meaning.specs.declared.status.Outcome.{Outcome}
 use Rattle.dtx_meaning.specs.declared.status.Status.TheVariants.{Done, Same}
 use Rattle.dtx_engine.specs.Made.{Made, outputs_of}
@@ -92,15 +92,12 @@ all_given file n long = take_all (832 * (length file / 832)) file (omega (arith,
 
 done_back : (fed filled steps : ℕ) (outcome : Outcome) → (with_received fed filled steps outcome).status ≡ Done
     → outcome.status ≡ Done
-done_back fed filled steps outcome done = by_test (is_done outcome.status) refl done
+done_back fed filled steps outcome is = by_test (is_done outcome.status) refl is
   where
     reported : Outcome
-    reported = record {
-      status = Done;
-      numbers = fed ∷ filled ∷ steps ∷ slice_index outcome.numbers 2 ∷ slice_index outcome.numbers 3 ∷ slice_index
-          outcome.numbers 4 ∷ 0 ∷ [];
-      shown = 6;
-    }
+    reported =
+        done (fed ∷ filled ∷ steps ∷ slice_index outcome.numbers 2 ∷ slice_index outcome.numbers 3
+        ∷ slice_index outcome.numbers 4 ∷ [])
 
     by_test : (b : Bool) → is_done outcome.status ≡ b → (cond b reported outcome).status ≡ Done → outcome.status ≡ Done
     by_test true e done = is_done_is outcome.status e

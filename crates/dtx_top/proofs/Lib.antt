@@ -5,6 +5,7 @@ pub mod Ending
 pub mod FileNames
 pub mod HeadlineLaw
 pub mod Headlines
+pub mod Known
 pub mod LateOrders
 pub mod LineLeft
 pub mod NetAnswers

@@ -1,5 +1,5 @@
 -- The line that a call leaves behind, of how its printing ended.
-use Rattle.std.specs.Prelude.{◌≡◌, ℕ, List, length, Option, Some, None, Result, Ok, Err, IfSome, refl}
+use Rattle.std.specs.Prelude.{◌≡◌, ℕ, List, Option, Some, None, Result, Ok, Err, IfSome, refl}
 use Rattle.std.proofs.Common.{sym, ap, ◌∙◌, subst, inl, inr}
 use Rattle.dtx_outside.specs.Shelf.{Files}
 use Rattle.dtx_outside.specs.Counts.{Rose}
@@ -18,10 +18,12 @@ use Rattle.dtx_words.specs.Names.{line_name}
 use Rattle.dtx_words.specs.Printed.{printed, IsPut}
 use Rattle.dtx_words.specs.declared.rows.Command.{Command}
 use Rattle.dtx_words.specs.declared.rows.Command.TheVariants.{Net}
+use Rattle.dtx_top.specs.Ends.{IsOfCommand}
 use Rattle.dtx_top.specs.Lines.{name_kept, names_told, HasLine, HasPartLine, IsSomeCount, IsSomeLine, IsSomeName}
 use Rattle.dtx_top.specs.Lines.{IsToldLine}
 use Rattle.dtx_top.specs.NetAnswers.{ShowsNetwork}
 use Rattle.dtx_top.specs.Means.{means_of}
+use Rattle.dtx_top.proofs.Known.{known_numbers}
 
 -- ---- how much of it
 
@@ -126,27 +128,26 @@ some_name (Some command) words status kept is = refl
 some_name None words status kept is = refl
 
 -- how many numbers stand in a line, whatever the files are
-some_count : (command : Option Command) (outcome : Outcome) → (command ≡ None → outcome.status ≡ Usage)
-    → (command ≡ Some Net → ShowsNetwork outcome.status outcome) → IsSomeCount command outcome.status outcome
-some_count (Some Net) outcome none is = is refl
-some_count (Some command) outcome none is = tt
-some_count None outcome none is = λ done. let e : Usage ≡ Done = sym (none refl) ∙ done in cc
+some_count : (command : Option Command) (words : List (List ℕ)) (outcome : Outcome)
+    → IsOfCommand command words outcome → (command ≡ Some Net → ShowsNetwork outcome.status outcome)
+    → IsSomeCount command outcome.status outcome
+some_count (Some Net) words outcome answer is = is refl
+some_count (Some command) words outcome answer is = known_numbers command outcome answer.1
+some_count None words outcome answer is = λ done. let e : Usage ≡ Done = sym answer ∙ done in cc
 
 -- the line that is left, whatever the files are
 pub line_untold : (command : Option Command) (words : List (List ℕ)) (outcome : Outcome) (kept : List ℕ)
     (line : Result (Unit {0}) SinkNo) (first last : SinkCounts) (old new : Option (List ℕ))
     → (command ≡ Some Net → IsSomeName command words outcome.status (name_kept command words outcome.status kept))
-    → (command ≡ None → outcome.status ≡ Usage) → (command ≡ Some Net → ShowsNetwork outcome.status outcome)
-    → length outcome.numbers ≡ 7
+    → IsOfCommand command words outcome → (command ≡ Some Net → ShowsNetwork outcome.status outcome)
     → IsPut (line_of command outcome (name_kept command words outcome.status kept)) old line new
     → IsCounted first line last
     → HasLine (IsSomeLine command words) (finished outcome.status line) first last old new
-line_untold command words outcome kept line first last old new named usage shown seven put counted =
+line_untold command words outcome kept line first last old new named answer shown put counted =
     line_left (IsSomeLine command words) outcome.status _ line first last old new (record {
       outcome = outcome;
       name = name_kept command words outcome.status kept;
       named = some_name command words outcome.status kept named;
-      count = some_count command outcome usage shown;
-      seven = seven;
+      count = some_count command words outcome answer shown;
       line = refl;
     }) put counted

@@ -1,18 +1,19 @@
 -- What an answer of one input says of a network.
-use Rattle.std.specs.Prelude.{◌≡◌, ◌≢◌, ℕ, ◌<◌, List, [], Option, Some, None, position}
-use Rattle.std.proofs.Common.{arith, subst, sym, ap, ◌∙◌}
+use Rattle.std.specs.Prelude.{◌≡◌, ◌≢◌, ℕ, ◌<◌, List, [], length, Option, Some, None, position}
+use Rattle.std.proofs.Common.{arith, inl, inr, refl, subst, sym, ap, ◌∙◌}
 use Rattle.dtx_plan.specs.declared.damage.Damage.{Damage}
 use Rattle.dtx_plan.specs.declared.plan.Plan as plans
 use Rattle.dtx_plan.specs.declared.plan.ReceivePlan.{ReceivePlan}
 use Rattle.dtx_make.specs.Hurt.{hurt}
 use Rattle.dtx_meaning.specs.Status.{IsOfInput}
+use Rattle.dtx_meaning.specs.declared.status.Outcome.{Outcome}
 use Rattle.dtx_meaning.specs.declared.status.Status.{Status}
 use Rattle.dtx_meaning.specs.declared.status.Status.TheVariants.{Done, Usage, Same, Absent, Plan, Packet, TooLong}
 use Rattle.dtx_meaning.specs.declared.status.Status.TheVariants.{OutOfFeed, OutOfAir, NoSync, ReadFault, WriteFault}
 use Rattle.dtx_meaning.specs.declared.status.Status.TheVariants.{Memory}
-use Rattle.dtx_engine.specs.Recipe.{IsAnswerOf}
+use Rattle.dtx_engine.specs.Recipe.{IsAnswerAt, IsAnswerOf, IsEndOf}
 use Rattle.dtx_words.specs.declared.rows.Command.TheVariants.{Receive}
-use Rattle.dtx_forms.specs.Answers.{Knows}
+use Rattle.dtx_forms.specs.Answers.{IsKnownAt}
 use Rattle.dtx_forms.proofs.OfWordsLemmas.{refusal_of_input}
 use Rattle.dtx_forms.specs.PlanFile.{IsPlanRefusal}
 use Rattle.dtx_forms.specs.Damaged.{damaged_making}
@@ -20,7 +21,7 @@ use Rattle.dtx_recipes.specs.PastEnd.{ends_past, first_past}
 use Rattle.dtx_recipes.proofs.AnswersLemmas.{receive_knows}
 use Rattle.dtx_recipes.specs.Receive.{receiving}
 use Rattle.dtx_schedule.specs.PlayedSoFar.{IsOfFeed}
-use Rattle.dtx_top.specs.NetAnswers.{IsOfNetwork, IsOfReplay}
+use Rattle.dtx_top.specs.NetAnswers.{HasCount, IsOfNetwork, IsOfReplay, ShowsNetwork, count_of}
 use Rattle.dtx_recipes.specs.Adapt.{feeding}
 
 -- an answer of one of the inputs
@@ -82,43 +83,80 @@ pub feed_not_done : (status : Status) → IsOfFeed status → status ≡ Done �
 feed_not_done status is done = let P : Status → Type 0 = λ s. IsOfFeed s in subst P done is
 
 -- the answer of the stream that is adapted
-pub stream_of_replay : (plan : plans.Plan) (receive : Option ReceivePlan) (status : Status) → IsOfInput 1 status
-    → IsAnswerOf (feeding plan) status → IsOfReplay receive status
-stream_of_replay plan receive Usage is answer = is
-stream_of_replay plan receive Same is answer = is
-stream_of_replay plan receive (Absent input) is answer = (omega (arith, is), omega (arith, is))
-stream_of_replay plan receive Done is answer = tt
-stream_of_replay plan receive (Plan refusal) is (given, loose, ends) = let e : Plan refusal ≡ Done = ends in cc
-stream_of_replay plan receive (Packet k) is answer = tt
-stream_of_replay plan receive TooLong is answer = tt
-stream_of_replay plan receive (OutOfFeed event) is answer = tt
-stream_of_replay plan receive (OutOfAir entry) is (given, loose, ends) = let e : OutOfAir entry ≡ Done = ends in cc
-stream_of_replay plan receive NoSync is answer = tt
-stream_of_replay plan receive ReadFault is answer = tt
-stream_of_replay plan receive WriteFault is answer = tt
-stream_of_replay plan receive Memory is answer = tt
+pub stream_of_replay : (plan : plans.Plan) (receive : Option ReceivePlan) (outcome : Outcome)
+    → IsOfInput 1 outcome.status → IsAnswerOf (feeding plan) outcome → IsOfReplay receive outcome.status
+stream_of_replay plan receive outcome is answer = by_status outcome.status refl is answer
+  where
+    by_status : (s : Status) → outcome.status ≡ s → IsOfInput 1 s → IsAnswerAt (feeding plan) s outcome
+        → IsOfReplay receive s
+    by_status Usage same is answer = is
+    by_status Same same is answer = is
+    by_status (Absent input) same is answer = (omega (arith, is), omega (arith, is))
+    by_status Done same is answer = tt
+    by_status (Plan refusal) same is (given, loose, ends) =
+        let e : Plan refusal ≡ Done = sym same ∙ ap (λ (o : Outcome). o.status) ends in cc
+    by_status (Packet k) same is answer = tt
+    by_status TooLong same is answer = tt
+    by_status (OutOfFeed event) same is answer = tt
+    by_status (OutOfAir entry) same is (given, loose, ends) =
+        let e : OutOfAir entry ≡ Done = sym same ∙ ap (λ (o : Outcome). o.status) ends in cc
+    by_status NoSync same is answer = tt
+    by_status ReadFault same is answer = tt
+    by_status WriteFault same is answer = tt
+    by_status Memory same is answer = tt
+
+-- and how many numbers it has
+pub stream_count : (plan : plans.Plan) (outcome : Outcome) → IsAnswerOf (feeding plan) outcome → HasCount 3 outcome
+stream_count plan outcome answer done =
+    by_end (subst (λ (s : Status). IsAnswerAt (feeding plan) s outcome) done answer)
+  where
+    by_end : IsEndOf (feeding plan) outcome → length outcome.numbers ≡ 3
+    by_end (given, loose, ends) = ap (λ (o : Outcome). length o.numbers) ends
+
+-- where the receiver ends with an answer, `receive` knows it
+received_known : (damage : List Damage) (outcome : Outcome) (s : Status) → outcome.status ≡ s
+    → (IsEndOf receiving outcome → IsAnswerAt receiving s outcome) → IsEndOf (damaged_making damage receiving) outcome
+    → IsKnownAt Receive s outcome.numbers
+received_known damage outcome s same at (given, loose, ends) =
+    subst (λ (s : Status). IsKnownAt Receive s outcome.numbers) same
+    (receive_knows outcome (subst (λ (s : Status). IsAnswerAt receiving s outcome) (sym same)
+    (at (hurt damage given, loose, ends))))
 
 -- the answer of the symbols that are received
-pub symbols_of_replay : (receiver : ReceivePlan) (status : Status) → IsOfInput 3 status
-    → IsAnswerOf (damaged_making receiver.damage receiving) status → IsOfReplay (Some receiver) status
-symbols_of_replay receiver Usage is answer = is
-symbols_of_replay receiver Same is answer = is
-symbols_of_replay receiver (Absent input) is answer = (omega (arith, is), omega (arith, is))
-symbols_of_replay receiver Done is answer = tt
-symbols_of_replay receiver (Plan refusal) is (given, loose, ends) =
-    let known : Knows Receive (Plan refusal) = receive_knows (Plan refusal) (hurt receiver.damage given, loose, ends) in
-    known
-symbols_of_replay receiver (Packet k) is answer = tt
-symbols_of_replay receiver TooLong is answer = tt
-symbols_of_replay receiver (OutOfFeed event) is answer = tt
-symbols_of_replay receiver (OutOfAir entry) is (given, loose, ends) =
-    let known : Knows Receive (OutOfAir entry) =
-    receive_knows (OutOfAir entry) (hurt receiver.damage given, loose, ends) in
-    absurd known
-symbols_of_replay receiver NoSync is answer = tt
-symbols_of_replay receiver ReadFault is answer = tt
-symbols_of_replay receiver WriteFault is answer = tt
-symbols_of_replay receiver Memory is answer = tt
+pub symbols_of_replay : (receiver : ReceivePlan) (outcome : Outcome) → IsOfInput 3 outcome.status
+    → IsAnswerOf (damaged_making receiver.damage receiving) outcome → IsOfReplay (Some receiver) outcome.status
+symbols_of_replay receiver outcome is answer = by_status outcome.status refl is answer
+  where
+    by_status : (s : Status) → outcome.status ≡ s → IsOfInput 3 s
+        → IsAnswerAt (damaged_making receiver.damage receiving) s outcome → IsOfReplay (Some receiver) s
+    by_status Usage same is answer = is
+    by_status Same same is answer = is
+    by_status (Absent input) same is answer = (omega (arith, is), omega (arith, is))
+    by_status Done same is answer = tt
+    by_status (Plan refusal) same is end =
+        received_known receiver.damage outcome (Plan refusal) same (λ is. is) end
+    by_status (Packet k) same is answer = tt
+    by_status TooLong same is answer = tt
+    by_status (OutOfFeed event) same is answer = tt
+    by_status (OutOfAir entry) same is end =
+        absurd (received_known receiver.damage outcome (OutOfAir entry) same (λ is. is) end)
+    by_status NoSync same is answer = tt
+    by_status ReadFault same is answer = tt
+    by_status WriteFault same is answer = tt
+    by_status Memory same is answer = tt
+
+-- and how many numbers it has
+pub symbols_count : (damage : List Damage) (outcome : Outcome)
+    → IsAnswerOf (damaged_making damage receiving) outcome → HasCount 6 outcome
+symbols_count damage outcome answer done =
+    received_known damage outcome Done done (λ is. is)
+    (subst (λ (s : Status). IsAnswerAt (damaged_making damage receiving) s outcome) done answer)
+
+-- a network has three numbers or six
+pub shows_network : (receive : Option ReceivePlan) (outcome : Outcome) → HasCount (count_of receive) outcome
+    → ShowsNetwork outcome.status outcome
+shows_network None outcome count = λ done. inl (count done)
+shows_network (Some receiver) outcome count = λ done. inr (count done)
 
 -- an entry of damage ends behind the symbols only where there is one
 pub damage_of_replay : (damage : List Damage) (symbols entry : ℕ) → first_past damage symbols ≡ Some entry

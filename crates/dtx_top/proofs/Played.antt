@@ -1,6 +1,6 @@
 -- The events of a network, played over the feed of its stream, and what is received of them.
 use Rattle.std.proofs.Common.{◌≡◌, ◌≢◌, ℕ, ◌*◌, ◌-◌, ◌^◌, ◌≤◌, List, [], ◌∷◌, length, sym, ap, subst, ◌∙◌, arith}
-use Rattle.std.specs.Prelude.{Option, Some, None, IfSome, min, slice_index}
+use Rattle.std.specs.Prelude.{Option, Some, None, IfSome, min}
 use Rattle.std.specs.FinMap.{get}
 use Rattle.dtx_adapter.specs.Feed.{feed, placeholders}
 use Rattle.dtx_recipes.specs.Feed.{feed_bytes}
@@ -32,6 +32,7 @@ use Rattle.dtx_top.specs.NetMeaning.{with_received}
 use Rattle.dtx_top.specs.NetProgress.{NetProgress, reception_outputs}
 use Rattle.dtx_top.specs.Networks.{sent_file}
 use Rattle.dtx_top.specs.Replaying.{HasNumbers, IsFeedWritten}
+use Rattle.dtx_top.specs.declared.replaying.Fed.{Fed}
 use Rattle.dtx_top.proofs.Carrying.{answered_carried}
 use Rattle.dtx_top.proofs.NetProgresses.{received_on}
 use Rattle.dtx_top.proofs.SymbolsSent.{IsPlace, counted_serves, place_there, sent_file_is}
@@ -50,7 +51,7 @@ PlaysFeed Says ts network told =
     → Says ts (schedule ts (packets_of bytes) network.events) held
 
 pub played_over : (Says : List Transmitter → List Step → Files → Type 0) (plan : Plan) (network : NetPlan)
-    (stream : List (List ℕ)) (ts : List Transmitter) (fed : Outcome) (held : Files) (told : Option Files)
+    (stream : List (List ℕ)) (ts : List Transmitter) (fed : Fed) (held : Files) (told : Option Files)
     → IsSound plan → ts ≡ plan.transmitters → told ≡ Some held
     → IsFeedWritten plan stream fed held
     → first_past_feed network.events (length stream) ≡ None → PlaysFeed Says ts network told
@@ -149,10 +150,10 @@ received_told plan network stream receiver held told now received playout segmen
         (has_pair ts who t (played steps) held (apart_of ts playing.transmitters playing.names.small) place.here).sent
 
 pub received_behind : (plan : Plan) (network : NetPlan) (receiver : ReceivePlan) (stream : List (List ℕ))
-    (held : Files) (now : Option Files) (fed : Outcome) (steps : ℕ) (received result : Outcome)
+    (held : Files) (now : Option Files) (fed : Fed) (steps : ℕ) (received result : Outcome)
     → HasNumbers stream fed → steps ≡ packets_given (steps_under plan stream network.events)
     → AreReceived plan network stream receiver held received now
-    → result ≡ with_received (slice_index fed.numbers 0) (slice_index fed.numbers 1) steps received
+    → result ≡ with_received fed.packets fed.filled steps received
     → IsCarriedOut (played_and_received plan network stream (Some receiver)) (Some held) result now
 received_behind plan network receiver stream held now fed steps received result numbers counted sent is =
     let m : Meaning =
@@ -161,7 +162,7 @@ received_behind plan network receiver stream held now fed steps received result 
     (sent_file plan network stream receiver.from) in
     let same : result ≡ with_received (length stream) (placeholders stream)
     (packets_given (steps_under plan stream network.events)) received =
-    is ∙ ap (λ n. with_received n (slice_index fed.numbers 1) steps received) numbers.packets
+    is ∙ ap (λ n. with_received n fed.filled steps received) numbers.packets
     ∙ ap (λ n. with_received (length stream) n steps received) numbers.filled
     ∙ ap (λ n. with_received (length stream) (placeholders stream) n received) counted in
     carried_then (playing plan network stream) (received_of plan network stream receiver) (Some held)

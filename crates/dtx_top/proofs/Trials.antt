@@ -9,7 +9,7 @@ use Rattle.std.specs.List.{Contains, IsDistinct}
 use Rattle.std.proofs.lemmas.Int.{fits_signed_from_abs}
 use Rattle.std.proofs.lemmas.List.Elements.{All-cons, All-nil}
 use Rattle.std.proofs.lemmas.Option.{same_Some}
-use Rattle.dtx_forms.specs.Answers.{Knows}
+use Rattle.dtx_forms.specs.Answers.{IsKnown, IsKnownAt}
 use Rattle.dtx_recipes.specs.Make.{made_file}
 use Rattle.dtx_make.specs.Made.{made_stream}
 use Rattle.dtx_meaning.proofs.MeaningLemmas.{carried_before, carried_then, part_of_carried, part_of_none}
@@ -34,7 +34,7 @@ use Rattle.dtx_words.specs.NetworkNames.{feed_name, trial_name}
 use Rattle.dtx_words.specs.Number.{number_in, number_within}
 use Rattle.dtx_words.specs.declared.rows.Command.TheVariants.{Make, Trial}
 use Rattle.dtx_top.specs.HeadlineOfFiles.{HeadlineOfFiles}
-use Rattle.dtx_top.specs.NetAnswers.{IsOfReplay}
+use Rattle.dtx_top.specs.NetAnswers.{HasCount, IsOfReplay, count_of}
 use Rattle.dtx_top.specs.NetMeaning.{answered, network_meaning}
 use Rattle.dtx_top.specs.NetProgress.{HasNetProgress, HasStreamProgress, feed_outputs, reception_outputs}
 use Rattle.dtx_top.specs.Networks.{written_names}
@@ -169,43 +169,54 @@ blame_of_trial (Absent input) = refl
 blame_of_trial status = refl
 
 -- what the words alone say of it
-abbrev pub IsOfTrial : Status → Type 0
-IsOfTrial status = IsOfInputs false 3 status × Knows Trial status
+abbrev pub IsOfTrial : Outcome → Type 0
+IsOfTrial outcome = IsOfInputs false 3 outcome.status × IsKnown Trial outcome
 
-pub replay_of_trial : (network : NetPlan) (status : Status) → IsOfReplay network.receive status
-    → (seed : ℕ) → (count : ℕ) → trial_network seed count ≡ network → IsOfTrial (of_trial status)
-replay_of_trial network status is seed count same =
-    let P : NetPlan → Type 0 = λ n. IsOfReplay n.receive status in by_status status (subst P (sym same) is)
+pub replay_of_trial : (network : NetPlan) (outcome : Outcome) → IsOfReplay network.receive outcome.status
+    → HasCount (count_of network.receive) outcome
+    → (seed : ℕ) → (count : ℕ) → trial_network seed count ≡ network → IsOfTrial (trial_outcome outcome)
+replay_of_trial network outcome is counted seed count same =
+    by_status outcome.status refl (subst (λ (n : NetPlan). IsOfReplay n.receive outcome.status) (sym same) is)
   where
-    by_status : (status : Status) → IsOfReplay (trial_network seed count).receive status → IsOfTrial (of_trial status)
-    by_status Usage is = absurd is
-    by_status Same is = absurd is
-    by_status (Absent input) is = ((refl, omega (arith, is.0, is.1)), tt)
-    by_status Done is = (refl, tt)
-    by_status (Plan refusal) is = absurd is
-    by_status (Packet k) is = (refl, tt)
-    by_status TooLong is = (refl, tt)
-    by_status (OutOfFeed event) is = (refl, tt)
-    by_status (OutOfAir entry) is = absurd (is refl)
-    by_status NoSync is = (refl, tt)
-    by_status ReadFault is = (refl, tt)
-    by_status WriteFault is = (refl, tt)
-    by_status Memory is = (tt, tt)
+    all : HasCount 6 outcome
+    all = subst (λ (n : NetPlan). HasCount (count_of n.receive) outcome) (sym same) counted
 
-pub make_of_trial : (status : Status) → IsOfInputs false 0 status → Knows Make status → IsOfTrial status
-make_of_trial Usage is known = absurd is
-make_of_trial Same is known = cc
-make_of_trial (Absent input) is known = absurd (omega (arith, is.1))
-make_of_trial Done is known = (refl, tt)
-make_of_trial (Plan refusal) is known = absurd known
-make_of_trial (Packet k) is known = absurd known
-make_of_trial TooLong is known = absurd known
-make_of_trial (OutOfFeed event) is known = absurd known
-make_of_trial (OutOfAir entry) is known = absurd known
-make_of_trial NoSync is known = absurd known
-make_of_trial ReadFault is known = (refl, tt)
-make_of_trial WriteFault is known = (refl, tt)
-make_of_trial Memory is known = (tt, tt)
+    by_status : (s : Status) → outcome.status ≡ s → IsOfReplay (trial_network seed count).receive s
+        → IsOfInputs false 3 (of_trial s) × IsKnownAt Trial (of_trial s) outcome.numbers
+    by_status Usage e is = absurd is
+    by_status Same e is = absurd is
+    by_status (Absent input) e is = ((refl, omega (arith, is.0, is.1)), tt)
+    by_status Done e is = (refl, all e)
+    by_status (Plan refusal) e is = absurd is
+    by_status (Packet k) e is = (refl, tt)
+    by_status TooLong e is = (refl, tt)
+    by_status (OutOfFeed event) e is = (refl, tt)
+    by_status (OutOfAir entry) e is = absurd (is refl)
+    by_status NoSync e is = (refl, tt)
+    by_status ReadFault e is = (refl, tt)
+    by_status WriteFault e is = (refl, tt)
+    by_status Memory e is = (tt, tt)
+
+-- a stream that isn't made
+pub make_of_trial : (outcome : Outcome) → outcome.status ≢ Done → IsOfInputs false 0 outcome.status
+    → IsKnown Make outcome → IsOfTrial outcome
+make_of_trial outcome other is known = by_status outcome.status other is known
+  where
+    by_status : (s : Status) → s ≢ Done → IsOfInputs false 0 s → IsKnownAt Make s outcome.numbers
+        → IsOfInputs false 3 s × IsKnownAt Trial s outcome.numbers
+    by_status Usage other is known = absurd is
+    by_status Same other is known = cc
+    by_status (Absent input) other is known = absurd (omega (arith, is.1))
+    by_status Done other is known = absurd (other refl)
+    by_status (Plan refusal) other is known = absurd known
+    by_status (Packet k) other is known = absurd known
+    by_status TooLong other is known = absurd known
+    by_status (OutOfFeed event) other is known = absurd known
+    by_status (OutOfAir entry) other is known = absurd known
+    by_status NoSync other is known = absurd known
+    by_status ReadFault other is known = (refl, tt)
+    by_status WriteFault other is known = (refl, tt)
+    by_status Memory other is known = (tt, tt)
 
 -- ---- the network over the stream
 

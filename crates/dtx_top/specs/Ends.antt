@@ -9,7 +9,7 @@ use Rattle.dtx_meaning.specs.Status.{IsOfInputs, blame_of}
 use Rattle.dtx_meaning.specs.declared.status.Outcome.{Outcome}
 use Rattle.dtx_meaning.specs.declared.status.Status.{Status}
 use Rattle.dtx_meaning.specs.declared.status.Status.TheVariants.{Done, Usage, Absent, ReadFault, WriteFault, Memory}
-use Rattle.dtx_forms.specs.Answers.{Knows}
+use Rattle.dtx_forms.specs.Answers.{IsKnown, Knows}
 use Rattle.dtx_forms.specs.Job.{Job}
 use Rattle.dtx_forms.specs.OfWords.{IsOfWords, same_in}
 use Rattle.dtx_words.specs.Names.{line_name, names_of, repeated}
@@ -95,14 +95,15 @@ IsByWords (Some command) words status =
     × Knows command status
 
 -- what the words alone say of the answer of a job, and of `net`, which has no job
-abbrev pub IsOfJob : Option Job → List (List ℕ) → Status → Type 0
-IsOfJob (Some job) words status = IsOfWords (same_in job.fields words) job.inputs status × Knows job.command status
-IsOfJob None words status = IsOfNetWords words status
+abbrev pub IsOfJob : Option Job → List (List ℕ) → Outcome → Type 0
+IsOfJob (Some job) words outcome =
+    IsOfWords (same_in job.fields words) job.inputs outcome.status × IsKnown job.command outcome
+IsOfJob None words outcome = IsOfNetWords words outcome.status
 
 -- the same of a command, before its line is printed
-abbrev pub IsOfCommand : Option Command → List (List ℕ) → Status → Type 0
-IsOfCommand None words status = status ≡ Usage
-IsOfCommand (Some command) words status = IsOfJob (job_of command) words status
+abbrev pub IsOfCommand : Option Command → List (List ℕ) → Outcome → Type 0
+IsOfCommand None words outcome = outcome.status ≡ Usage
+IsOfCommand (Some command) words outcome = IsOfJob (job_of command) words outcome
 
 -- ---- a command, but for its line
 
@@ -114,7 +115,7 @@ pub record IsCommandPerformed (command : Option Command) (words : List (List ℕ
     (told now : Option Files) (before after : Counts) : Type 0 where
   pub carried : IfSome told (λ held. IsCarriedOut (means_of command words held) (Some held) outcome now)
   pub gone : HasGone before after (blame_of outcome.status)
-  pub answer : IsOfCommand command words outcome.status
+  pub answer : IsOfCommand command words outcome
   pub name : command ≡ Some Net → IfSome told (λ held. name_kept command words outcome.status kept
       ≡ line_name outcome.status (names_told outcome.status command words held))
   pub untold_name : command ≡ Some Net → IsSomeName command words outcome.status

@@ -9,6 +9,7 @@ use Rattle.dtx_meaning.specs.declared.status.Status.TheVariants.{Done, WriteFaul
 use Rattle.dtx_words.specs.Line.{line_at}
 use Rattle.dtx_words.specs.Names.{line_name, names_of}
 use Rattle.dtx_words.specs.Printed.{printed}
+use Rattle.dtx_words.specs.Rows.{row_of}
 use Rattle.dtx_words.specs.declared.rows.Command.{Command}
 use Rattle.dtx_words.specs.declared.rows.Command.TheVariants.{Net, Trial}
 use Rattle.dtx_top.specs.Means.{means_of}
@@ -46,22 +47,20 @@ IsSomeName (Some Net) words status name = IsUntoldName (plan_word words) status 
 IsSomeName (Some Trial) words status name = name ≡ line_name status trial_names
 IsSomeName command words status name = name ≡ line_name status (names_of command words)
 
--- How many numbers the line may have: three or six where `net` is done. Of other commands nothing is said here, since
--- their lines have all labels of their rows. Words that fit no command are never done.
+-- How many numbers the line may have: three or six where `net` is done. Of other commands it has one for each label of
+-- their rows. Words that fit no command are never done.
 abbrev pub IsSomeCount : Option Command → Status → Outcome → Type 0
 IsSomeCount None status outcome = status ≢ Done
 IsSomeCount (Some Net) status outcome = ShowsNetwork status outcome
-IsSomeCount (Some command) status outcome = Unit {0}
+IsSomeCount (Some command) status outcome = status ≡ Done → length outcome.numbers ≡ length (row_of command).labels
 
--- The text is a line of this status for these words, whatever the files are. Its numbers are the first ones of seven,
--- whose values are left open.
+-- The text is a line of this status for these words, whatever the files are. The values of its numbers are left open.
 pub record IsSomeLine (command : Option Command) (words : List (List ℕ)) (status : Status)
     (text : List ℕ) : Type 0 where
   pub outcome : Outcome
   pub name : List ℕ
   pub named : IsSomeName command words status name
   pub count : IsSomeCount command status outcome
-  pub seven : length outcome.numbers ≡ 7
   pub line : text ≡ line_at command status outcome name
 
 -- ---- how much of it

@@ -1,5 +1,5 @@
 -- What the answer of `net`, and of the network of `trial`, can be, whether or not the files are told.
-use Rattle.std.specs.Prelude.{◌≡◌, ◌≢◌, ◌⊎◌, ℕ, ◌<◌, ◌≤◌, List, [], ◌∷◌, Option, Some, None}
+use Rattle.std.specs.Prelude.{◌≡◌, ◌≢◌, ◌⊎◌, ℕ, ◌<◌, ◌≤◌, List, [], ◌∷◌, length, Option, Some, None}
 use Rattle.dtx_meaning.specs.declared.status.Outcome.{Outcome}
 use Rattle.dtx_meaning.specs.declared.status.Status.{Status}
 use Rattle.dtx_meaning.specs.declared.status.Status.TheVariants.{Done, Usage, Same, Absent, Plan}
@@ -35,4 +35,13 @@ IsOfNetWords words status = status ≡ Usage
 
 -- The line of a network that is done shows three numbers or six. If the files are told, the meaning says which.
 abbrev pub ShowsNetwork : Status → Outcome → Type 0
-ShowsNetwork status outcome = status ≡ Done → (outcome.shown ≡ 3) ⊎ (outcome.shown ≡ 6)
+ShowsNetwork status outcome = status ≡ Done → (length outcome.numbers ≡ 3) ⊎ (length outcome.numbers ≡ 6)
+
+-- if it is done, it has so many numbers
+abbrev pub HasCount : ℕ → Outcome → Type 0
+HasCount count outcome = outcome.status ≡ Done → length outcome.numbers ≡ count
+
+-- how many numbers a network has, where it is done
+abbrev pub count_of : Option ReceivePlan → ℕ
+count_of None = 3
+count_of (Some receiver) = 6

@@ -13,6 +13,7 @@ use Rattle.dtx_plan.specs.declared.rule.PlanRule.TheVariants.{Missing}
 use Rattle.dtx_adapter.specs.Feed.{placeholders}
 use Rattle.dtx_network.specs.Network.{steps_under}
 use Rattle.dtx_meaning.specs.Meaning.{Meaning, and_then, refused}
+use Rattle.dtx_meaning.specs.Status.{done}
 use Rattle.dtx_meaning.specs.declared.status.Outcome.{Outcome}
 use Rattle.dtx_meaning.specs.declared.status.Status.{Status}
 use Rattle.dtx_meaning.specs.declared.status.Status.TheVariants.{Done, Usage, Same, Absent, Plan, OutOfFeed, OutOfAir}
@@ -45,12 +46,9 @@ where_done first next = if is_done first.outcome.status then and_then first next
 -- The numbers of the line once packets were received. The first three are those of the network without a receiver. Then
 -- come the packets received, the bytes put right and the packets flagged.
 abbrev pub with_received : ℕ → ℕ → ℕ → Outcome → Outcome
-with_received fed filled steps outcome = if is_done outcome.status then record {
-  status = Done;
-  numbers = fed ∷ filled ∷ steps ∷ slice_index outcome.numbers 2 ∷ slice_index outcome.numbers 3 ∷ slice_index
-      outcome.numbers 4 ∷ 0 ∷ [];
-  shown = 6;
-} else outcome
+with_received fed filled steps outcome =
+    if is_done outcome.status then done (fed ∷ filled ∷ steps ∷ slice_index outcome.numbers 2
+    ∷ slice_index outcome.numbers 3 ∷ slice_index outcome.numbers 4 ∷ []) else outcome
 
 -- the meaning with its answer changed by `other`
 abbrev pub answered : (Outcome → Outcome) → Meaning → Meaning
@@ -68,11 +66,7 @@ received_past None damage symbols = meaning_of_file segments (damaged_making dam
 -- the numbers of a network without a receiver: the packets of the feed, the placeholders filled, the packets given to
 -- exciters
 abbrev pub played_outcome : ℕ → ℕ → ℕ → Outcome
-played_outcome fed filled steps = record {
-  status = Done;
-  numbers = fed ∷ filled ∷ steps ∷ 0 ∷ 0 ∷ 0 ∷ 0 ∷ [];
-  shown = 3;
-}
+played_outcome fed filled steps = done (fed ∷ filled ∷ steps ∷ [])
 
 -- what the events write over a stream, and the numbers of the line
 abbrev pub playing : whole.Plan → NetPlan → List (List ℕ) → Meaning

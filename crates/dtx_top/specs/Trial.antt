@@ -74,8 +74,7 @@ of_trial (Absent input) = Absent (input - 1)
 of_trial status = status
 
 abbrev pub trial_outcome : Outcome → Outcome
-trial_outcome outcome =
-    record { status = of_trial outcome.status; numbers = outcome.numbers; shown = outcome.shown }
+trial_outcome outcome = record { status = of_trial outcome.status; numbers = outcome.numbers }
 
 -- the names of these inputs, in this order
 abbrev pub trial_names : List (List ℕ)

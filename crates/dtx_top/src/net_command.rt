@@ -177,7 +177,7 @@ fn net_apart<S: Shelf>(
 }
 
 /// Does what `net` does once no two names are equal.
-#[tactic(auto, using(crate::proofs::NetAnswers::network_of_replay))]
+#[tactic(auto, using(crate::proofs::NetAnswers::network_of_replay, crate::proofs::NetAnswers::shows_network))]
 fn net_replayed<S: Shelf>(
     alloc: Global,
     plan: &Plan,

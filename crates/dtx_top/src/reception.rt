@@ -1,5 +1,5 @@
 // The symbols of a transmitter, received with damage laid over them.
-ghost use Rattle.std.specs.Prelude.{◌≡◌, [], ◌∷◌, ℕ, List, Some, IfSome, length, slice_index};
+ghost use Rattle.std.specs.Prelude.{◌≡◌, [], ◌∷◌, ℕ, List, Some, IfSome, length};
 ghost use Rattle.std.specs.FinMap as files;
 ghost use Rattle.dtx_engine.specs.Recipe.{meaning};
 ghost use Rattle.dtx_forms.specs.Damaged.{damaged_making};
@@ -12,7 +12,7 @@ ghost use Rattle.dtx_outside.specs.Counts.{HasGone};
 ghost use Rattle.dtx_outside.specs.Shelf.{Files};
 ghost use Rattle.dtx_plan.specs.Sound.{AreDamages};
 ghost use Rattle.dtx_words.specs.NetworkNames.{received_name, symbol_name};
-ghost use Rattle.dtx_top.specs.NetAnswers.{IsOfReplay};
+ghost use Rattle.dtx_top.specs.NetAnswers.{HasCount, IsOfReplay};
 ghost use Rattle.dtx_top.specs.NetMeaning.{received_past};
 
 use dtx_engine::{Input, carry_to_one};
@@ -43,6 +43,7 @@ pub(crate) fn receive_sent<S: Shelf>(
         (Some held)
         result (S.files shelf.new) }
     ensures network { IsOfReplay (Some receiver.now) result.status }
+    ensures count { HasCount 6 result }
     ensures gone { HasGone (S.counts shelf.old) (S.counts shelf.new) (blame_of result.status) }
 {
     match first_past(&receiver.damage, symbols) {
@@ -60,6 +61,7 @@ fn receive<S: Shelf>(alloc: Global, shelf: &mut S, receiver: &ReceivePlan) -> Ou
         (files.get held (symbol_name receiver.now.from)))
         (Some held) result (S.files shelf.new)) }
     ensures network { IsOfReplay (Some receiver.now) result.status }
+    ensures count { HasCount 6 result }
     ensures gone { HasGone (S.counts shelf.old) (S.counts shelf.new) (blame_of result.status) }
 {
     match Reception::<Receiver>::new(alloc) {

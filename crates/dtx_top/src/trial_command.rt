@@ -2,7 +2,7 @@
 ghost use Rattle.std.specs.Prelude.{◌≡◌, ◌≤◌, ℕ, IfSome, Some, false};
 ghost use Rattle.std.specs.FinMap as files;
 ghost use Rattle.std.specs.Option.{option_and};
-ghost use Rattle.dtx_forms.specs.Answers.{Knows};
+ghost use Rattle.dtx_forms.specs.Answers.{IsKnown};
 ghost use Rattle.dtx_forms.specs.OfWords.{IsOfWords, same_in};
 ghost use Rattle.dtx_make.specs.Made.{made_stream};
 ghost use Rattle.dtx_meaning.specs.Meaning.{IsCarriedOut};
@@ -37,7 +37,7 @@ pub fn trial<S: Shelf>(alloc: Global, words: &[Word], shelf: &mut S) -> Outcome
 
     // Told or not: what the words alone say of the answer.
     ensures words { IsOfWords (same_in trial_job.fields words.now) 3 result.status }
-    ensures answers { Knows command.Trial result.status }
+    ensures answers { IsKnown command.Trial result }
 
     // How far it came, whatever it answers.
     ensures progress { IfSome (S.files shelf.old) (λ held.
@@ -69,7 +69,7 @@ fn trial_ordered<S: Shelf>(
         IsCarriedOut (trial_of seed count) (Some held) result (S.files shelf.new)) }
     ensures gone { HasGone (S.counts shelf.old) (S.counts shelf.new) (blame_of result.status) }
     ensures words { IsOfWords (option_and seed (option_and count (Some false))) 3 result.status }
-    ensures answers { Knows command.Trial result.status }
+    ensures answers { IsKnown command.Trial result }
     ensures progress { IfSome (S.files shelf.old) (λ held.
         HasNumbersProgress seed count result.status held (S.files shelf.new)) }
     ensures headline { IfSome (S.files shelf.old) (λ held. result.status ≡ Status.Done
@@ -90,7 +90,7 @@ fn trial_made<S: Shelf>(alloc: Global, seed: u64, count: u64, shelf: &mut S) -> 
         IsCarriedOut (trials.trial_made seed count) (Some held) result (S.files shelf.new)) }
     ensures gone { HasGone (S.counts shelf.old) (S.counts shelf.new) (blame_of result.status) }
     ensures words { IsOfInputs false 3 result.status }
-    ensures answers { Knows command.Trial result.status }
+    ensures answers { IsKnown command.Trial result }
     ensures progress { IfSome (S.files shelf.old) (λ held.
         HasMadeProgress seed count result.status held (S.files shelf.new)) }
 {
@@ -115,7 +115,7 @@ fn trial_under<S: Shelf>(
         IsCarriedOut (trials.trial_made seed count) (Some held) result (S.files shelf.new)) }
     ensures gone { HasGone (S.counts shelf.old) (S.counts shelf.new) (blame_of result.status) }
     ensures words { IsOfInputs false 3 result.status }
-    ensures answers { Knows command.Trial result.status }
+    ensures answers { IsKnown command.Trial result }
     ensures progress { IfSome (S.files shelf.old) (λ held.
         HasMadeProgress seed count result.status held (S.files shelf.new)) }
 {
@@ -134,7 +134,7 @@ fn trial_played<S: Shelf>(alloc: Global, plan: &Plan, shelf: &mut S) -> Outcome
         → IsCarriedOut (trials.trial_played seed count) (Some held) result (S.files shelf.new) }
     ensures gone { HasGone (S.counts shelf.old) (S.counts shelf.new) (blame_of result.status) }
     ensures words { IsOfInputs false 3 result.status }
-    ensures answers { Knows command.Trial result.status }
+    ensures answers { IsKnown command.Trial result }
     ensures progress { (seed count : ℕ) (held : Files) → plan.now ≡ trials.trial_plan seed count
         → S.files shelf.old ≡ Some held → files.get held trial_name ≡ Some (made_stream seed count)
         → HasNetProgress (trials.trial_plan seed count) (trials.trial_network seed count) (made_stream seed count)

@@ -1,6 +1,6 @@
 -- The pieces of a line, as far as a loop has come.
-use Rattle.std.proofs.Common.{◌≡◌, ℕ, ◌+◌, ◌≤◌, ◌<◌, ◌⊎◌, arith, inl, inr, suc, List, [], ◌∷◌, ◌++◌, length, map, drop, get_or}
-use Rattle.std.proofs.Common.{refl, sym, ap, ◌∙◌, add-one, append_assoc}
+use Rattle.std.proofs.Common.{◌≡◌, ℕ, ◌+◌, ◌≤◌, ◌<◌, ◌⊎◌, suc, List, [], ◌∷◌, ◌++◌, length, map, drop, get_or}
+use Rattle.std.proofs.Common.{arith, inl, inr, refl, sym, ap, ◌∙◌, add-one, append_assoc}
 use Rattle.std.specs.Prelude.{codes, decimal, min}
 use Rattle.std.specs.Borrow.{Bor}
 use Rattle.std.proofs.lemmas.Bool.{cases_lt}

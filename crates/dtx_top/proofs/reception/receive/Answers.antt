@@ -5,7 +5,7 @@ use Rattle.dtx_recipes.specs.Receive.{receiving}
 use Rattle.dtx_forms.specs.Shapes.{segments}
 use Rattle.dtx_words.specs.NetworkNames.{received_name, symbol_name}
 use Rattle.dtx_top.proofs.Carrying.{carried_by}
-use Rattle.dtx_top.proofs.NetAnswers.{symbols_of_replay}
+use Rattle.dtx_top.proofs.NetAnswers.{symbols_count, symbols_of_replay}
 use Rattle.dtx_top.proofs.reception.receive.Goals as goal
 
 pub returns-in-Ok-clause-carried : goal.returns-in-Ok-clause-carried
@@ -19,6 +19,12 @@ returns-in-Ok-clause-carried g c =
 
 pub returns-in-Ok-clause-network : goal.returns-in-Ok-clause-network
 returns-in-Ok-clause-network g c =
-    symbols_of_replay c.args.receiver.now c.carry_to_one.result.status c.carry_to_one.ensures.input
-    (subst (λ (r : Recipe). IsAnswerOf r c.carry_to_one.result.status) c.new-engine.ensures.recipe
+    symbols_of_replay c.args.receiver.now c.carry_to_one.result c.carry_to_one.ensures.input
+    (subst (λ (r : Recipe). IsAnswerOf r c.carry_to_one.result) c.new-engine.ensures.recipe
+    c.carry_to_one.ensures.answer)
+
+pub returns-in-Ok-clause-count : goal.returns-in-Ok-clause-count
+returns-in-Ok-clause-count g c =
+    symbols_count c.args.receiver.now.damage c.carry_to_one.result
+    (subst (λ (r : Recipe). IsAnswerOf r c.carry_to_one.result) c.new-engine.ensures.recipe
     c.carry_to_one.ensures.answer)

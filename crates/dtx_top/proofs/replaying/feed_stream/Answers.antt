@@ -4,7 +4,7 @@ use Rattle.dtx_forms.specs.Shapes.{packets}
 use Rattle.dtx_recipes.specs.Adapt.{feeding}
 use Rattle.dtx_words.specs.NetworkNames.{feed_name}
 use Rattle.dtx_top.proofs.Carrying.{carried_by}
-use Rattle.dtx_top.proofs.NetAnswers.{stream_of_replay}
+use Rattle.dtx_top.proofs.NetAnswers.{stream_count, stream_of_replay}
 use Rattle.dtx_top.proofs.replaying.feed_stream.Goals as goal
 
 pub returns-in-Ok-clause-carried : goal.returns-in-Ok-clause-carried
@@ -17,7 +17,13 @@ returns-in-Ok-clause-carried g c =
 
 pub returns-in-Ok-clause-network : goal.returns-in-Ok-clause-network
 returns-in-Ok-clause-network g c =
-    stream_of_replay c.args.plan.now c.args.network.now.receive c.carry_to_one.result.status
+    stream_of_replay c.args.plan.now c.args.network.now.receive c.carry_to_one.result
     c.carry_to_one.ensures.input
-    (subst (λ (r : Recipe). IsAnswerOf r c.carry_to_one.result.status)
+    (subst (λ (r : Recipe). IsAnswerOf r c.carry_to_one.result)
+    c.in-Ok.ensures.recipe c.carry_to_one.ensures.answer)
+
+pub returns-in-Ok-clause-count : goal.returns-in-Ok-clause-count
+returns-in-Ok-clause-count g c =
+    stream_count c.args.plan.now c.carry_to_one.result
+    (subst (λ (r : Recipe). IsAnswerOf r c.carry_to_one.result)
     c.in-Ok.ensures.recipe c.carry_to_one.ensures.answer)

@@ -17,7 +17,7 @@ receive_played-requires g c =
 pub returns-in-Ok-clause-carried : goal.returns-in-Ok-clause-carried
 returns-in-Ok-clause-carried g c = λ held stream is written inside.
     let over = played_over (λ ts steps held. IsPlayOf ts steps held (Ok c.in-Ok.played)
-    (g.S.Shelf.files c.play.new.shelf)) c.args.plan.now c.args.network.now stream c.as_slice.result.now c.args.fed.now
+    (g.S.Shelf.files c.play.new.shelf)) c.args.plan.now c.args.network.now stream c.as_slice.result.now c.args.fed
     held (g.S.Shelf.files c.args.shelf.now) c.requires.sound c.as_slice.ensures is written inside
     c.in-Ok.ensures.played in
     c.receive_played.ensures.carried c.args.plan.now held stream c.requires.network written.numbers over.playing
@@ -26,7 +26,7 @@ returns-in-Ok-clause-carried g c = λ held stream is written inside.
 pub returns-in-Ok-clause-progress : goal.returns-in-Ok-clause-progress
 returns-in-Ok-clause-progress g c = λ held stream is written inside.
     let over = played_over (λ ts steps held. IsPlayOf ts steps held (Ok c.in-Ok.played)
-    (g.S.Shelf.files c.play.new.shelf)) c.args.plan.now c.args.network.now stream c.as_slice.result.now c.args.fed.now
+    (g.S.Shelf.files c.play.new.shelf)) c.args.plan.now c.args.network.now stream c.as_slice.result.now c.args.fed
     held (g.S.Shelf.files c.args.shelf.now) c.requires.sound c.as_slice.ensures is written inside
     c.in-Ok.ensures.played in
     c.receive_played.ensures.progress c.args.plan.now held stream c.requires.network over.playing over.files
@@ -34,7 +34,7 @@ returns-in-Ok-clause-progress g c = λ held stream is written inside.
 pub returns-in-Err-clause-carried : goal.returns-in-Err-clause-carried
 returns-in-Err-clause-carried g c = λ held stream is written inside.
     let over = played_over (λ ts steps held. IsPlayOf ts steps held (Err c.in-Err.status)
-    (g.S.Shelf.files c.play.new.shelf)) c.args.plan.now c.args.network.now stream c.as_slice.result.now c.args.fed.now
+    (g.S.Shelf.files c.play.new.shelf)) c.args.plan.now c.args.network.now stream c.as_slice.result.now c.args.fed
     held (g.S.Shelf.files c.args.shelf.now) c.requires.sound c.as_slice.ensures is written inside
     c.in-Err.ensures.played in
     play_fault c.args.plan.now c.args.network.now stream c.args.network.now.receive held c.in-Err.status c.ended.result
@@ -47,10 +47,10 @@ returns-in-Err-clause-progress g c = λ held stream is written inside.
     let network = c.args.network.now in
     let now = g.S.Shelf.files c.play.new.shelf in
     let fault = (played_over (λ ts steps held. IsPlayOf ts steps held (Err c.in-Err.status) now) plan network stream
-    c.as_slice.result.now c.args.fed.now held (g.S.Shelf.files c.args.shelf.now) c.requires.sound c.as_slice.ensures is
+    c.as_slice.result.now c.args.fed held (g.S.Shelf.files c.args.shelf.now) c.requires.sound c.as_slice.ensures is
     written inside c.in-Err.ensures.played).fault in
     let progress = played_over (λ ts steps held. IsProgressOf ts steps held (Err c.in-Err.status) now) plan network
-    stream c.as_slice.result.now c.args.fed.now held (g.S.Shelf.files c.args.shelf.now) c.requires.sound
+    stream c.as_slice.result.now c.args.fed held (g.S.Shelf.files c.args.shelf.now) c.requires.sound
     c.as_slice.ensures is written inside c.in-Err.ensures.progress in
     broken_off plan.transmitters (steps_under plan stream network.events)
     (reception_outputs plan network stream network.receive) c.in-Err.status c.ended.result held now progress.0 fault

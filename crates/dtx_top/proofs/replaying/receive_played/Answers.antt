@@ -7,7 +7,7 @@ use Rattle.dtx_network.specs.Network.{steps_under}
 use Rattle.dtx_plan.specs.Sound.{IsReceived}
 use Rattle.dtx_plan.specs.declared.plan.ReceivePlan.{ReceivePlan}
 use Rattle.dtx_plan.specs.declared.transmitter.Transmitter.{Transmitter}
-use Rattle.dtx_top.specs.NetAnswers.{IsOfReplay}
+use Rattle.dtx_top.specs.NetAnswers.{HasCount, IsOfReplay, count_of}
 use Rattle.dtx_top.specs.NetMeaning.{played_and_received}
 use Rattle.dtx_top.specs.NetProgress.{reception_outputs}
 use Rattle.dtx_top.proofs.NetProgresses.{received_on}
@@ -32,7 +32,7 @@ returns-in-Some-clause-carried g c = λ plan held stream net numbers playing is.
     c.saturating_mul-symbols.ensures is c.receive_sent-received.ensures.carried in
     subst (λ (o : Option ReceivePlan). IsCarriedOut (played_and_received plan network stream o)
     (Some held) c.with_received.result now) (sym c.in-Some.is)
-    (received_behind plan network receiver stream held now c.args.fed.now c.steps.result
+    (received_behind plan network receiver stream held now c.args.fed c.steps.result
     c.receive_sent-received.result c.with_received.result numbers (c.steps.ensures ts steps playing) sent
     c.with_received.ensures.outcome)
 
@@ -63,3 +63,8 @@ returns-in-None-clause-progress g c = λ plan held stream net playing is.
     let got = reception_outputs plan network stream network.receive in
     received_on plan.transmitters (steps_under plan stream network.events) got _ held now now is
     (part_of_none got now now refl)
+
+pub returns-in-Some-clause-shown : goal.returns-in-Some-clause-shown
+returns-in-Some-clause-shown g c =
+    subst (λ (o : Option ReceivePlan). HasCount (count_of o) c.with_received.result) (sym c.in-Some.is)
+    c.with_received.ensures.shown

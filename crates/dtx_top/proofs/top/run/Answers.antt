@@ -1,5 +1,5 @@
-use Rattle.std.proofs.Common.{sym, subst, rules}
-use Rattle.dtx_top.specs.Ends.{HasHeadlineOf, IsOfCommand}
+use Rattle.std.proofs.Common.{sym}
+use Rattle.dtx_top.specs.Ends.{HasHeadlineOf}
 use Rattle.dtx_top.specs.Means.{means_of}
 use Rattle.dtx_top.proofs.ByWords.{words_told}
 use Rattle.dtx_top.proofs.Ending.{all_done_then, done_told, ended_of, unprinted_told}
@@ -25,9 +25,7 @@ pub returns-clause-untold_line : goal.returns-clause-untold_line
 returns-clause-untold_line g c = rw (c.finish.ensures, ← c.command-command.ensures)
     (line_untold c.command-command.result c.args.words.now c.perform-performed.result.outcome
     c.perform-performed.result.name.bytes _ _ _ _ _ c.perform-performed.ensures.performed.untold_name
-    (λ none. subst (λ command. IsOfCommand command c.args.words.now c.perform-performed.result.outcome.status) none
-    c.perform-performed.ensures.performed.answer) c.perform-performed.ensures.performed.shown
-    (search rules)
+    c.perform-performed.ensures.performed.answer c.perform-performed.ensures.performed.shown
     (rw (← c.name_of-name.ensures) c.line-printed.ensures.written) c.line-printed.ensures.gone)
 
 pub returns-clause-headline : goal.returns-clause-headline

@@ -25,12 +25,14 @@ returns-clause-progress g c = λ seed count held is tells there. rw c.trial_outc
 
 pub returns-clause-words : goal.returns-clause-words
 returns-clause-words g c = rw c.trial_outcome.ensures
-    (replay_of_trial c.in-Some.network c.replay.result.status c.replay.ensures.network c.requires.seed c.requires.count
+    (replay_of_trial c.in-Some.network c.replay.result c.replay.ensures.network c.replay.ensures.shown c.requires.seed
+    c.requires.count
     (its_network c.args.plan.now c.requires.seed c.requires.count c.in-Some.network c.requires.is c.in-Some.is)).0
 
 pub returns-clause-answers : goal.returns-clause-answers
 returns-clause-answers g c = rw c.trial_outcome.ensures
-    (replay_of_trial c.in-Some.network c.replay.result.status c.replay.ensures.network c.requires.seed c.requires.count
+    (replay_of_trial c.in-Some.network c.replay.result c.replay.ensures.network c.replay.ensures.shown c.requires.seed
+    c.requires.count
     (its_network c.args.plan.now c.requires.seed c.requires.count c.in-Some.network c.requires.is c.in-Some.is)).1
 
 pub returns-clause-gone : goal.returns-clause-gone

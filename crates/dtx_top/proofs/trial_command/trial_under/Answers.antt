@@ -54,10 +54,10 @@ returns-in_default-clause-progress g c =
 
 pub returns-in_default-clause-words : goal.returns-in_default-clause-words
 returns-in_default-clause-words g c =
-    (make_of_trial c.make_stream-made.result.status c.make_stream-made.ensures.words
+    (make_of_trial c.make_stream-made.result c.in_default.not-Done c.make_stream-made.ensures.words
     c.make_stream-made.ensures.answers).0
 
 pub returns-in_default-clause-answers : goal.returns-in_default-clause-answers
 returns-in_default-clause-answers g c =
-    (make_of_trial c.make_stream-made.result.status c.make_stream-made.ensures.words
+    (make_of_trial c.make_stream-made.result c.in_default.not-Done c.make_stream-made.ensures.words
     c.make_stream-made.ensures.answers).1

@@ -16,7 +16,8 @@ returns-in_err-put_numbered-clause-written g c =
 pub returns-clause-written : goal.returns-clause-written
 returns-clause-written g c =
     so_far_last _ _ _ _ _ _
-    (so_far_then _ _ _ (codes "\n") _ _ _ (ap₂ (λ (labels : List (List ℕ)) (numbers : List ℕ). numbered labels numbers ++ codes "\n")
+    (so_far_then _ _ _ (codes "\n") _ _ _
+    (ap₂ (λ (labels : List (List ℕ)) (numbers : List ℕ). numbered labels numbers ++ codes "\n")
     (sym c.labels.ensures) (sym c.as_slice.ensures))
     (so_far_none _ _) c.in_ok-put_numbered.ensures.written)
     c.put_all.ensures.written
