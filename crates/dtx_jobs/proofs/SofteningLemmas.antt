@@ -1,6 +1,6 @@
 -- Lemmas of what is kept while symbols are softened: one segment more.
-use Rattle.std.proofs.Common.{◌≡◌, ℕ, ℤ, zero, suc, ◌+◌, ◌-◌, ◌<◌, ◌≤◌, cond, Bool, true, false, Option, Some, None, List}
-use Rattle.std.proofs.Common.{[], ◌∷◌, ◌++◌, length, map, take, drop, slice_set, unwrap_or, refl, sym}
+use Rattle.std.proofs.Common.{◌≡◌, ℕ, ℤ, zero, suc, ◌+◌, ◌-◌, ◌<◌, ◌≤◌, cond, Bool, true, false, Option, Some, None}
+use Rattle.std.proofs.Common.{List, [], ◌∷◌, ◌++◌, length, map, take, drop, slice_set, unwrap_or, refl, sym}
 use Rattle.std.proofs.Common.{ap, ap₂, ◌∙◌, subst, arith}
 use Rattle.std.specs.Bool.{then_some}
 use Rattle.std.proofs.lemmas.List.{append_assoc, append-nil, drop_all, drop-append-le, length_push, take_more_set}
@@ -139,7 +139,8 @@ signed_take (suc n) (row ∷ rows) h (suc i) k = signed_take n rows (λ i. h (su
 
 -- ---- the end
 
-module _ (old : Softening) (s : List (List ℤ)) (rows : ℕ) (h : IsSoftening old s) (e : rows ≡ unwrap_or old.place 0) where
+module _ (old : Softening) (s : List (List ℤ)) (rows : ℕ) (h : IsSoftening old s)
+    (e : rows ≡ unwrap_or old.place 0) where
   kept_field : take rows old.field.items ≡ drop (ahead s) s
   kept_field = ap (λ n. take n old.field.items) (e ∙ ap (λ (o : Option ℕ). unwrap_or o 0) h.place) ∙ h.field
 
