@@ -160,8 +160,7 @@ pub softening_none : (new : Softening) → new.place ≡ None → new.segments �
 softening_none new place count fields cost =
     record {
       place = place ∙ sym place_first;
-      field = ap (λ n. take n new.field.items) (pending_is [] None place_first)
-          ∙ sym (drop_all (ahead []) [] (omega arith));
+      field = cc (pending_is [] None place_first, drop_all {X = List ℤ} (ahead []) [] (omega arith));
       count = count;
       fields = fields ∙ sym (field_sum_none has_group);
       cost = cost ∙ sym (field_sum_none (softened_cost 1));
