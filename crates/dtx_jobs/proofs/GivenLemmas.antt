@@ -65,7 +65,10 @@ all_given giving is names file few =
 pub first_given : (giving : Giving) (names : List (List ℕ)) (file : List ℕ) → 626000000 < whole_segments file
     → meaning_of_file segments (receiving_by giving) names file ≡ given_until giving names file
 first_given giving names file many =
-    cc (first_read segments (receiving_by giving) names file (all_allowed giving file) many, first_segments file 626000000 (omega (arith, many)))
+    cc (
+      first_read segments (receiving_by giving) names file (all_allowed giving file) many,
+      first_segments file 626000000 (omega (arith, many)),
+    )
 
 -- the first bytes of a damaged file are the damaged first bytes
 hurt_front : (damage : List Damage) (file : List ℕ) (n : ℕ) → n ≤ length file

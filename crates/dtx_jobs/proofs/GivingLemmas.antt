@@ -46,5 +46,4 @@ receives_whole giving is file =
     let end = is.end (file_segments file) in
     let brought : bytes_of (giving.all (file_segments file)) ≡ early_bytes giving file ++ bytes_of end.0 =
     ap bytes_of end.1 ∙ bytes_of-append (giving.so_far (file_segments file)) end.0 in
-    ap only (ap (λ z. early_bytes giving file ++ z) (sym (receives_last giving is file (bytes_of end.0) brought))
-    ∙ sym brought ∙ sym (bytes_of-all giving is (file_segments file)))
+    cc (receives_last giving is file (bytes_of end.0) brought, bytes_of-all giving is (file_segments file))

@@ -39,4 +39,7 @@ all_levelled names file few =
 pub first_levelled : (names : List (List ℕ)) (file : List ℕ) → 520832000000 < length file
     → meaning_of_file single_bytes levelling names file ≡ levelled_until names file
 first_levelled names file many =
-    cc (first_read single_bytes levelling names file (all_allowed file) (omega (arith, many)), take-map symbol_of_byte 520832000000 file)
+    cc (
+      first_read single_bytes levelling names file (all_allowed file) (omega (arith, many)),
+      take-map symbol_of_byte 520832000000 file,
+    )

@@ -73,7 +73,12 @@ same_file names file h =
     let c : Course = course_from segments file None in
     let n : ℕ = 832 * c.taken in
     let cut = segments_cut file n in
-    cc (all_allowed with_mendings file, same_ending names (take n file) c.ending (front_there (file_segments (take n file)) cut.0 (subst (λ (list : List (List ℤ)). AllThere list) cut.1 (file_there file h))), all_allowed with_corrections file)
+    cc (
+      all_allowed with_mendings file,
+      same_ending names (take n file) c.ending (front_there (file_segments (take n file)) cut.0
+          (subst (λ (list : List (List ℤ)). AllThere list) cut.1 (file_there file h))),
+      all_allowed with_corrections file,
+    )
 
 -- what the words mean, where the input is such a file
 same_found : (input output : List ℕ) (held : Files) (found : Option (List ℕ))

@@ -92,11 +92,10 @@ all_is s =
     let f = follows s in
     let parts : ahead s + pending s ≡ length s = omega (arith, f.within) in
     let zero_on : 0 + ahead s ≡ ahead s = omega arith in
-    sym (ap (λ n. map (soft_at s) (range_with_len 0 n)) (sym parts)
-    ∙ ap (map (soft_at s)) (range_with_len-parts 0 (ahead s) (pending s))
-    ∙ map-append (soft_at s) (range_with_len 0 (ahead s)) (range_with_len (0 + ahead s) (pending s))
-    ∙ ap (λ n. map (soft_at s) (range_with_len 0 (ahead s))
-    ++ map (soft_at s) (range_with_len n (pending s))) zero_on)
+    cc (
+      range_with_len-parts 0 (ahead s) (pending s),
+      map-append (soft_at s) (range_with_len 0 (ahead s)) (range_with_len (0 + ahead s) (pending s)),
+    )
 
 -- ---- numbers
 

@@ -1,6 +1,6 @@
 -- Lemmas of what is kept while symbols are softened: one segment more.
-use Rattle.std.proofs.Common.{◌≡◌, ℕ, ℤ, zero, suc, ◌+◌, ◌-◌, ◌<◌, ◌≤◌, cond, Bool, true, false, Option, Some, None, List}
-use Rattle.std.proofs.Common.{[], ◌∷◌, ◌++◌, length, map, take, drop, slice_set, unwrap_or, refl, sym}
+use Rattle.std.proofs.Common.{◌≡◌, ℕ, ℤ, zero, suc, ◌+◌, ◌-◌, ◌<◌, ◌≤◌, cond, Bool, true, false, Option, Some, None}
+use Rattle.std.proofs.Common.{List, [], ◌∷◌, ◌++◌, length, map, take, drop, slice_set, unwrap_or, refl, sym}
 use Rattle.std.proofs.Common.{ap, ap₂, ◌∙◌, subst, arith}
 use Rattle.std.specs.Bool.{then_some}
 use Rattle.std.proofs.lemmas.List.{append_assoc, append-nil, drop_all, drop-append-le, length_push, take_more_set}
@@ -115,7 +115,8 @@ module _ (old new : Softening) (s : List (List ℤ)) (x : List ℤ) (front : Lis
 
 -- ---- the end
 
-module _ (old : Softening) (s : List (List ℤ)) (rows : ℕ) (h : IsSoftening old s) (e : rows ≡ unwrap_or old.place 0) where
+module _ (old : Softening) (s : List (List ℤ)) (rows : ℕ) (h : IsSoftening old s)
+    (e : rows ≡ unwrap_or old.place 0) where
   kept_field : take rows old.field.items ≡ drop (ahead s) s
   kept_field = ap (λ n. take n old.field.items) (e ∙ ap (λ (o : Option ℕ). unwrap_or o 0) h.place) ∙ h.field
 
@@ -135,8 +136,7 @@ pub softening_none : (new : Softening) → new.place ≡ None → new.segments �
 softening_none new place count fields cost =
     record {
       place = place ∙ sym place_first;
-      field = ap (λ n. take n new.field.items) (pending_is [] None place_first)
-          ∙ sym (drop_all (ahead []) [] (omega arith));
+      field = cc (pending_is [] None place_first, drop_all {X = List ℤ} (ahead []) [] (omega arith));
       count = count;
       fields = fields ∙ sym (field_sum_none has_group);
       cost = cost ∙ sym (field_sum_none (softened_cost 1));

@@ -38,7 +38,8 @@ segments_cut file n =
     let long : length (take m front) ≡ m = length-take-le m front (omega arith) in
     let rest : List ℕ = drop m front ++ drop n file in
     let parts : take m front ++ rest ≡ file =
-    cc (append_assoc (take m front) (drop m front) (drop n file), take-append-drop m front, take-append-drop n file) in (
+    cc (append_assoc (take m front) (drop m front) (drop n file), take-append-drop m front, take-append-drop n file)
+    in (
       file_segments rest,
       cc (parts, file_segments-append (take m front) rest (omega (arith, long)), file_segments-whole front),
     )

@@ -70,13 +70,11 @@ segments_on segments bytes units first n chunks is long fits =
     let all : take (length chunks - first) (drop first chunks) ≡ drop first chunks =
     take_all (length chunks - first) (drop first chunks) (omega (arith, length-drop first chunks)) in
     let zero : 0 + first ≡ first = omega arith in
-    ap (λ xs. (segments ++ segments_from bytes 0 first) ++ symbols_in (take n xs)) all
-    ∙ append_assoc segments (segments_from bytes 0 first) (symbols_in (take n (drop first chunks)))
-    ∙ ap (λ z. segments ++ z)
-    (ap (λ z. segments_from bytes 0 first ++ z) (ap (λ xs. symbols_in (take n (drop first xs))) is
-    ∙ segments_of_chunks bytes units first n fits (sym (ap length is) ∙ long))
-    ∙ sym (segments_from-append bytes 0 first n
-    ∙ ap (λ a. segments_from bytes 0 first ++ segments_from bytes a n) zero))
+    cc (
+      append_assoc segments (segments_from bytes 0 first) (symbols_in (take n (drop first chunks))),
+      segments_of_chunks bytes units first n fits (sym (ap length is) ∙ long),
+      segments_from-append bytes 0 first n,
+    )
 
 -- segments that are taken behind whole ones: the first chunks of some bytes
 pub chunks_on : (given bytes : List ℕ) (n : ℕ) (chunks : List (List ℕ)) → length given % 832 ≡ 0

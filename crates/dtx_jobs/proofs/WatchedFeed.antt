@@ -194,7 +194,14 @@ notes_are d some ones = by_length (length d) refl
     by_length zero e = absurd (omega (arith, some, e))
     by_length (suc n) e =
         let p : ℕ → Bool = λ k. pid_of (get_or d k []) == 0x1FFA in
-        cc (e, flat_map-range_same (notes_at d) (λ k. lock_at k ++ line_at d k) 0 (suc n) (λ k l m. let o = ones k (omega (arith, m, e)) in o.is), flat_map-range_same (λ k. lock_at k ++ line_at d k) (line_at d) 1 n (λ k l m. ap (λ ls. ls ++ line_at d k) (no_lock k l)), kept p (ops_at (said_of d)) (range_with_len 0 (suc n)))
+        cc (
+          e,
+          flat_map-range_same (notes_at d) (λ k. lock_at k ++ line_at d k) 0 (suc n)
+              (λ k l m. let o = ones k (omega (arith, m, e)) in o.is),
+          flat_map-range_same (λ k. lock_at k ++ line_at d k) (line_at d) 1 n
+              (λ k l m. ap (λ ls. ls ++ line_at d k) (no_lock k l)),
+          kept p (ops_at (said_of d)) (range_with_len 0 (suc n)),
+        )
 
 below_all : (n : ℕ) → All (λ k. k < n) (range_with_len 0 n)
 below_all n = All-from_get_or (λ k. k < n) (range_with_len 0 n) 0 (λ i l.

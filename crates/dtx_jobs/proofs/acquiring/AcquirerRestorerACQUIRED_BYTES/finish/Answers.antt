@@ -1,6 +1,5 @@
-use Rattle.std.proofs.Common.{ap, length, ◌∙◌, arith}
-use Rattle.dtx_acquire.specs.Acquired.{acquired, acquired_runs}
-use Rattle.dtx_recipes.specs.Acquire.{acquired_answer, with_acquirer}
+use Rattle.std.proofs.Common.{ap, length, arith}
+use Rattle.dtx_recipes.specs.Acquire.{with_acquirer}
 use Rattle.dtx_jobs.proofs.acquiring.AcquirerRestorerACQUIRED_BYTES.finish.Goals as goal
 
 pub push_all-requires : goal.push_all-requires
@@ -21,14 +20,7 @@ pub returns-clause-answer : goal.returns-clause-answer
 returns-clause-answer c = λ symbols is.
     let new = c.finish.new.self in
     let scale = c.args.self.now.scale in
-    c.answer.ensures.outcome
-    ∙ ap (λ n. acquired_answer n new.runs new.segments new.cost)
-    (c.finish.ensures.symbols ∙ is.leaves.symbols_are)
-    ∙ ap (λ n. acquired_answer (length symbols) n new.segments new.cost) (c.finish.ensures.runs symbols is)
-    ∙ ap (λ n. acquired_answer (length symbols) (acquired_runs symbols) n new.cost)
-    (c.finish.ensures.segments symbols is)
-    ∙ ap (λ n. acquired_answer (length symbols) (acquired_runs symbols) (length (acquired scale symbols)) n)
-    (c.finish.ensures.cost symbols is)
+    cc (c.finish.ensures.runs symbols is, c.finish.ensures.segments symbols is, c.finish.ensures.cost symbols is)
 
 pub returns-clause-kept : goal.returns-clause-kept
 returns-clause-kept c = ap with_acquirer c.finish.ensures.scale
