@@ -1,10 +1,10 @@
 -- What `acquire` answers and writes of all bytes of a file, and of the first of too many.
-use Rattle.std.proofs.Common.{◌≡◌, ◌↔◌, ℕ, ℤ, List, [], length, refl, ap}
+use Rattle.std.proofs.Common.{◌≡◌, ◌↔◌, ℕ, ℤ, List, [], length, arith}
 use Rattle.std.proofs.lemmas.List.{length-map}
 use Rattle.dtx_acquire.specs.Acquired.{acquired, acquired_cost, acquired_runs}
 use Rattle.dtx_acquire.proofs.AcquiredLemmas.{all_is_acquired}
 use Rattle.dtx_meaning.specs.declared.status.Status.TheVariants.{Done}
-use Rattle.dtx_recipes.specs.Acquire.{acquired_answer, acquired_numbers, with_acquirer}
+use Rattle.dtx_recipes.specs.Acquire.{acquired_numbers, with_acquirer}
 use Rattle.dtx_recipes.specs.SymbolFile.{symbol_of_byte, symbols}
 use Rattle.dtx_symbol_laws.specs.RestoredFile.{acquired_of}
 use Rattle.dtx_symbol_laws.proofs.RestoredFile.{IsRestored}
@@ -18,13 +18,7 @@ pub symbols_acquired : (scale n : ℕ) (symbols : List ℤ) → length symbols �
           (acquired_cost scale symbols);
       shown = 5;
     })
-symbols_acquired scale n symbols long none = record {
-  parts = all_is_acquired scale symbols;
-  none = none;
-  answer = ap (λ count. acquired_answer count (acquired_runs symbols) (length (acquired scale symbols))
-      (acquired_cost scale symbols)) long;
-  done = refl;
-}
+symbols_acquired scale n symbols long none = grind (arith, all_is_acquired)
 
 -- of a file, these are its bytes
 pub file_acquires : (scale : ℕ) (names : List (List ℕ)) (file : List ℕ)

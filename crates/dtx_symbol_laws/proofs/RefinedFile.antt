@@ -1,5 +1,5 @@
 -- What `refine` answers and writes of all bytes of a file, and of the first of too many.
-use Rattle.std.proofs.Common.{◌≡◌, ◌↔◌, ℕ, ℤ, List, [], length, refl, sym, ap, ap₂, arith}
+use Rattle.std.proofs.Common.{◌≡◌, ◌↔◌, ℕ, ℤ, List, [], length, ap, arith}
 use Rattle.std.proofs.lemmas.List.{length-map, nil_from_length}
 use Rattle.dtx_receiver.specs.Bytes.{bytes_in}
 use Rattle.dtx_acquire.specs.Acquired.{acquired, acquired_runs}
@@ -7,14 +7,13 @@ use Rattle.dtx_rounds.specs.Known.{known_count}
 use Rattle.dtx_rounds.specs.Rounds.{heard_of, refined, round_cost, round_moved}
 use Rattle.dtx_rounds.proofs.SoFarLemmas.{all_is_refined, length-refined}
 use Rattle.dtx_meaning.specs.declared.status.Status.TheVariants.{Done}
-use Rattle.dtx_recipes.specs.Refine.{before_last, refined_answer, refined_numbers, with_refiner}
+use Rattle.dtx_recipes.specs.Refine.{before_last, refined_numbers, with_refiner}
 use Rattle.dtx_recipes.specs.SymbolFile.{symbol_of_byte, symbols}
 use Rattle.dtx_symbol_laws.specs.RestoredFile.{refined_of}
 use Rattle.dtx_symbol_laws.proofs.RestoredFile.{IsRestored}
 
 -- nothing is refined where nothing is acquired
-none_refined : (scale rounds : ℕ) (symbols : List ℤ)
-    → (acquired_runs symbols ≡ 0) ↔ (acquired scale symbols ≡ [])
+none_refined : (scale rounds : ℕ) (symbols : List ℤ) → (acquired_runs symbols ≡ 0) ↔ (acquired scale symbols ≡ [])
     → (acquired_runs symbols ≡ 0) ↔ (refined scale symbols rounds ≡ [])
 none_refined scale rounds symbols none =
     let same = length-refined scale rounds symbols in (
@@ -33,16 +32,7 @@ pub symbols_refined : (scale rounds n : ℕ) (symbols : List ℤ) → length sym
           (round_moved scale (heard_of symbols) (before_last scale rounds symbols));
       shown = 7;
     })
-symbols_refined scale rounds n symbols long none = record {
-  parts = all_is_refined scale rounds symbols;
-  none = none_refined scale rounds symbols none;
-  answer = ap₂ (λ count segments. refined_answer count (acquired_runs symbols) segments
-      (round_cost scale (heard_of symbols) (before_last scale rounds symbols))
-      (known_count (bytes_in (before_last scale rounds symbols)))
-      (round_moved scale (heard_of symbols) (before_last scale rounds symbols)))
-      long (sym (length-refined scale rounds symbols));
-  done = refl;
-}
+symbols_refined scale rounds n symbols long none = grind (arith, all_is_refined, none_refined, length-refined)
 
 -- of a file, these are its bytes
 pub file_refines : (scale rounds : ℕ) (names : List (List ℕ)) (file : List ℕ)
