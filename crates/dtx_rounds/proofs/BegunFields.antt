@@ -1,11 +1,10 @@
 -- A field of a capture before the first round: its segments and their cost are those that were acquired, and nothing is
 -- known of it.
-use Rattle.std.proofs.Common.{◌≡◌, ℕ, ℤ, ◌+◌, ◌-◌, ◌*◌, ◌/◌, ◌%◌, ◌<◌, ◌≤◌, min, Option, None, List, [], length, map}
-use Rattle.std.proofs.Common.{drop, get_or, sum, refl, sym, ap, ◌∙◌, subst, arith, Bool, true, false, Some, is_some}
+use Rattle.std.proofs.Common.{◌≡◌, ℕ, ℤ, ◌+◌, ◌-◌, ◌*◌, ◌<◌, ◌≤◌, min, Option, None, List, [], length, map, get_or, sum}
+use Rattle.std.proofs.Common.{refl, sym, ap, ◌∙◌, arith, Bool, true, false, Some, is_some}
 use Rattle.std.specs.List.{range_with_len}
 use Rattle.std.proofs.lemmas.List.FromFn.{get_or-map-range_with_len, length-map-range_with_len}
 use Rattle.dtx_lists.proofs.Range.{map-range_same}
-use Rattle.dtx_outer.specs.Inner.{codeword_byte_place}
 use Rattle.dtx_soft.specs.Coders.{coder_symbols}
 use Rattle.dtx_soft.specs.LeastPath.{least_levels}
 use Rattle.dtx_soft.specs.Paths.{cost}
@@ -20,7 +19,7 @@ use Rattle.dtx_rounds.specs.Decided.{decided_rows, heard_rows}
 use Rattle.dtx_rounds.specs.FieldRound.{KnowsNothing, field_cost, field_rounded}
 use Rattle.dtx_rounds.specs.Fields.{rows_of}
 use Rattle.dtx_rounds.specs.Known.{known_word}
-use Rattle.dtx_rounds.specs.Pins.{byte_at_step, known_pin, pin_of}
+use Rattle.dtx_rounds.specs.Pins.{known_pin}
 use Rattle.dtx_rounds.specs.Rounds.{coder_cost, groups_in, paths_in, pins_in, round_segment}
 use Rattle.dtx_rounds.specs.RunField.{IsInRun}
 use Rattle.dtx_rounds.specs.declared.field.Field.{Field}
@@ -41,31 +40,21 @@ KnowsNoByte known f = (n : ℕ) → n < 64584 → get_or known (64584 * f + n) N
 no_pin : (heard : List (List ℤ)) (known : List (Option ℕ)) (f e t : ℕ) → KnowsNoByte known f → e < 12
     → t < 69 * length (groups_in heard f) → 4 ≤ pin_at (coder_pins (pins_in heard known f) e) t
 unfolding known_pin
-no_pin heard known f e t none l m =
-    let few : t < 21528 = omega (arith, m, length-groups heard f) in
-    let pin : pin_at (coder_pins (pins_in heard known f) e) t ≡ 4 =
-    field_pin heard known f e t l m
-    ∙ ap (λ o. pin_of o ((21528 * f + t) % 276)) (ap (λ n. get_or known n None) (byte_in_field e f t few)
-    ∙ none (byte_at_step e t) (byte_within e t l few)) in
-    omega (arith, pin)
+no_pin heard known f e t none l m = grind (arith, length-groups, field_pin, byte_in_field, byte_within)
 
 least_again : (scale : ℕ) (heard : List (List ℤ)) (known : List (Option ℕ)) (f e : ℕ) → KnowsNoByte known f → e < 12
     → least_pinned_levels scale (coder_pins (pins_in heard known f) e) (coder_symbols (groups_in heard f) e)
     ≡ least_levels scale (coder_symbols (groups_in heard f) e)
-least_again scale heard known f e none l =
-    ap (drop 1) (without_pins_is scale (coder_pins (pins_in heard known f) e) (coder_symbols (groups_in heard f) e)
-    (λ t m. no_pin heard known f e t none l (omega (arith, m, length-coder (groups_in heard f) e))))
+least_again scale heard known f e none l = grind (arith, without_pins_is, no_pin, length-coder)
 
 unknown_paths : (scale : ℕ) (heard : List (List ℤ)) (known : List (Option ℕ)) (f : ℕ) → KnowsNoByte known f
     → paths_in scale heard known f ≡ softened scale (groups_in heard f)
 unfolding paths_in
-unknown_paths scale heard known f none =
-    as_softened scale (pins_in heard known f) (groups_in heard f) (λ e l. least_again scale heard known f e none l)
+unknown_paths scale heard known f none = grind (arith, as_softened, least_again)
 
 -- its segments
 pub unknown_stays : (scale : ℕ) (heard given : List (List ℤ)) (known : List (Option ℕ)) (f : ℕ)
-    → AreDecided scale heard given → KnowsNoByte known f
-    → rows_of (after scale heard known given) f ≡ rows_of given f
+    → AreDecided scale heard given → KnowsNoByte known f → rows_of (after scale heard known given) f ≡ rows_of given f
 unknown_stays scale heard given known f is none =
     same_items [] (length (rows_of given f)) (rows_of (after scale heard known given) f) (rows_of given f)
     (length-rows (after scale heard known given) f
@@ -75,22 +64,14 @@ unknown_stays scale heard given known f is none =
     few : (i : ℕ) → i < length (rows_of given f) → i < 313
     few i l = omega (arith, l, length-rows given f)
 
-    stays : (i : ℕ) → i < 313
-        → round_segment scale heard known given (313 * f + i) ≡ get_or given (313 * f + i) []
-    stays i l =
-        let field : f ≡ (313 * f + i) / 313 = omega arith in
-        decided_segment scale heard given known (313 * f + i) is
-        (subst (λ g. paths_in scale heard known g ≡ softened scale (groups_in heard g)) field
-        (unknown_paths scale heard known f none))
+    stays : (i : ℕ) → i < 313 → round_segment scale heard known given (313 * f + i) ≡ get_or given (313 * f + i) []
+    stays i l = grind (arith, decided_segment, unknown_paths)
 
 -- its cost
 pub unknown_cost : (scale : ℕ) (heard : List (List ℤ)) (known : List (Option ℕ)) (f : ℕ) → KnowsNoByte known f
     → sum (map (coder_cost scale heard known f) (range_with_len 0 12)) ≡ softened_cost scale (groups_in heard f)
 unfolding coder_cost pinned_coder_cost softened_cost least_cost
-unknown_cost scale heard known f none =
-    ap sum (map-range_same (coder_cost scale heard known f) (least_cost scale (groups_in heard f)) 0 12
-    (λ e a l. ap (cost scale (coder_symbols (groups_in heard f) e))
-    (least_again scale heard known f e none (omega arith))))
+unknown_cost scale heard known f none = grind (arith, map-range_same, least_again)
 
 -- ---- no bytes, no words
 
@@ -98,16 +79,10 @@ none_below : (n : ℕ) → n < 0 → ⊥
 none_below n l = omega (arith, l)
 
 pub no_word : (k : ℕ) (code : List ℕ) → known_word [] k ≡ Some code → ⊥
-no_word k code e =
-    none_below (codeword_byte_place 52 4 (207 * k + 0))
-    ((complete_told 0 k).0 (known_parts [] k code e).complete 0 (omega arith))
+no_word k code e = grind (arith, none_below, complete_told, known_parts)
 
 pub known_none : (k : ℕ) → known_word [] k ≡ None
-known_none k = by_word (known_word [] k) refl
-  where
-    by_word : (o : Option (List ℕ)) → known_word [] k ≡ o → o ≡ None
-    by_word None e = refl
-    by_word (Some code) e = absurd (no_word k code e)
+known_none k = grind (arith, no_word)
 
 -- ---- the field
 
@@ -128,25 +103,23 @@ pub begun_field : (scale f : ℕ) (heard given : List (List ℤ)) (field : Field
     → decided_rows field ≡ rows_of given f → field.cost ≡ softened_cost scale (groups_in heard f)
     → KnowsNothing field.known.items field.words field.knows_more field.moved
     → IsInRun scale heard given (known_word []) f field
-begun_field scale f heard given field is long count heard_are decided cost none = record {
-  count = count;
-  heard_are = heard_are;
-  decided = decided;
-  known = λ n l. none.bytes n l ∙ sym (code_byte_none (known_word []) (64584 * f + n) known_none);
-  words = words_are field.words f long none.words;
-  settled = record {
-    segments = λ _.
-        ap (λ rows. field_rounded scale rows field.known.items (decided_rows field)) heard_are
-        ∙ ap (field_rounded scale (rows_of heard f) field.known.items) decided
-        ∙ field_after scale heard given [] field.known.items f same
-        ∙ unknown_stays scale heard given [] f is (nothing_is f)
-        ∙ sym decided;
-    cost = λ _.
-        cost ∙ sym (unknown_cost scale heard [] f (nothing_is f))
-        ∙ sym (field_costs scale heard [] field.known.items f same)
-        ∙ sym (ap (λ rows. field_cost scale rows field.known.items) heard_are);
-  };
-}
-  where
-    same : KnowSame field.known.items [] f
-    same = none.bytes
+begun_field scale f heard given field is long count heard_are decided cost none =
+    let same : KnowSame field.known.items [] f = none.bytes in
+    record {
+      count = count;
+      heard_are = heard_are;
+      decided = decided;
+      known = λ n l. none.bytes n l ∙ sym (code_byte_none (known_word []) (64584 * f + n) known_none);
+      words = words_are field.words f long none.words;
+      settled = record {
+        segments = λ _.
+            ap (λ rows. field_rounded scale rows field.known.items (decided_rows field)) heard_are
+            ∙ ap (field_rounded scale (rows_of heard f) field.known.items) decided
+            ∙ field_after scale heard given [] field.known.items f same ∙ unknown_stays scale heard given [] f is (nothing_is f)
+            ∙ sym decided;
+        cost = λ _.
+            cost ∙ sym (unknown_cost scale heard [] f (nothing_is f))
+            ∙ sym (field_costs scale heard [] field.known.items f same)
+            ∙ sym (ap (λ rows. field_cost scale rows field.known.items) heard_are);
+      };
+    }

@@ -22,9 +22,7 @@ use Rattle.dtx_rounds.proofs.RunLevels.{length-from, data_long, level_from}
 data_in_field : (run : List (List ℤ)) (f i : ℕ) → i < 312
     → data_at run (312 * f + i) ≡ get_or (drop 1 (rows_of run f)) i []
 unfolding data_at
-data_in_field run f i l =
-    let there : 312 * f + i + (312 * f + i) / 312 + 1 ≡ 313 * f + (1 + i) = omega arith in
-    ap (λ n. get_or run n []) there
+data_in_field run f i l = ap (λ n. get_or run n []) (omega arith)
     ∙ sym (get_or-drop 1 (rows_of run f) i [] ∙ row_of run f (1 + i) (omega arith))
 
 pub levels_rows : (run : List (List ℤ)) (f n : ℕ) → n ≤ length (drop 1 (rows_of run f))
@@ -35,8 +33,7 @@ levels_rows run f (suc n) l =
     let more : suc n ≡ n + 1 = omega arith in
     let small : n < 312 = omega (arith, l, length-drop 1 (rows_of run f), length-rows run f) in
     ap (levels_from run (312 * f)) more ∙ levels_parts run (312 * f) n 1
-    ∙ ap₂ (λ (xs ys : List ℕ). xs ++ ys) (levels_rows run f n (omega arith))
-    (append-nil (sliced_data (data_at run (312 * f + n))) ∙ ap sliced_data (data_in_field run f n small))
+    ∙ ap₂ (λ (xs ys : List ℕ). xs ++ ys) (levels_rows run f n (omega arith)) (grind (arith, append-nil, data_in_field))
     ∙ sym (ap (λ m. flat_map sliced_data (take m (drop 1 (rows_of run f)))) more
     ∙ flat_more sliced_data (drop 1 (rows_of run f)) n (omega arith))
 
@@ -58,20 +55,20 @@ before_long run f h l = length-from run 0 (312 * f) h (omega (arith, l)) ∙ ome
 levels_split : (run : List (List ℤ)) (a b c : ℕ) → a + (b + c) ≡ 4 * groups_of run
     → levels_in run ≡ levels_from run 0 a ++ (levels_from run a b ++ levels_from run (a + b) c)
 unfolding levels_in
-levels_split run a b c e =
-    let none : 0 + a ≡ a = omega arith in
-    ap (levels_from run 0) (sym e) ∙ levels_parts run 0 a (b + c)
-    ∙ ap (λ n. levels_from run 0 a ++ levels_from run n (b + c)) none
-    ∙ ap (λ ys. levels_from run 0 a ++ ys) (levels_parts run a b c)
+levels_split run a b c e = grind (arith, levels_parts)
 
 pub bytes_in_field : (run : List (List ℤ)) (f g : ℕ) → AreSegments run → 312 * f + 4 * g ≤ 4 * groups_of run
     → take (828 * g) (drop (64584 * f) (bytes_in run))
     ≡ bytes_back 0 (field_bits run f) (levels_from run (312 * f) (4 * g))
 unfolding bytes_in
 bytes_in_field run f g h l =
+    let rest : ℕ = 4 * groups_of run - (312 * f + 4 * g) in
+    let before : List ℕ = levels_from run 0 (312 * f) in
+    let own : List ℕ = levels_from run (312 * f) (4 * g) in
+    let behind : List ℕ = levels_from run (312 * f + 4 * g) rest in
+    let own_long : length own ≡ 3312 * g = length-from run (312 * f) (4 * g) h l ∙ omega arith in
     ap (λ ys. take (828 * g) (drop (64584 * f) (bytes_back 0 (first_bits run) ys))) (levels_split run (312 * f) (4 * g)
-    rest (omega (arith, l)))
-    ∙ ap (λ ys. take (828 * g) (drop (64584 * f) ys))
+    rest (omega (arith, l))) ∙ ap (λ ys. take (828 * g) (drop (64584 * f) ys))
     (bytes_append 0 (78 * f) (first_bits run) before (own ++ behind) (before_long run f h (omega (arith, l))))
     ∙ ap (take (828 * g)) (drop_at (bytes_back 0 (first_bits run) before)
     (bytes_back (group_place 0 (78 * f)) (field_bits run f) (own ++ behind)) (64584 * f)
@@ -80,25 +77,9 @@ bytes_in_field run f g h l =
     ∙ ap (take (828 * g)) (bytes_append 0 g (field_bits run f) own behind own_long)
     ∙ take_at (bytes_back 0 (field_bits run f) own) (bytes_back (group_place 0 g)
     (precoder_bits_after 0 (field_bits run f) own) behind) (828 * g) (length_back 0 g (field_bits run f) own own_long)
-  where
-    rest : ℕ
-    rest = 4 * groups_of run - (312 * f + 4 * g)
-
-    before : List ℕ
-    before = levels_from run 0 (312 * f)
-
-    own : List ℕ
-    own = levels_from run (312 * f) (4 * g)
-
-    behind : List ℕ
-    behind = levels_from run (312 * f + 4 * g) rest
-
-    own_long : length own ≡ 3312 * g
-    own_long = length-from run (312 * f) (4 * g) h l ∙ omega arith
 
 -- where the last symbol of coder e stands
-last_place : (f e : ℕ) → e < 12
-    → symbol_place 0 (21528 * f + 21527) e ≡ 828 * (312 * f + 311) + (816 + (e + 4) % 12)
+last_place : (f e : ℕ) → e < 12 → symbol_place 0 (21528 * f + 21527) e ≡ 828 * (312 * f + 311) + (816 + (e + 4) % 12)
 unfolding symbol_place
 last_place f e l = omega arith
 
@@ -107,9 +88,8 @@ last_level : (segment : List ℤ) (q : ℕ) → length segment ≡ 832 → q < 1
     → get_or (sliced_last segment) q 0 ≡ sliced (get_or segment (4 + (816 + q)) (pos 0))
 unfolding sliced_last
 last_level segment q long l =
-    let there : 820 + q ≡ 4 + (816 + q) = omega arith in
     get_or-map sliced (drop 820 segment) q (pos 0) 0 (omega (arith, l, long, length-drop 820 segment))
-    ∙ ap sliced (get_or-drop 820 segment q (pos 0) ∙ ap (λ i. get_or segment i (pos 0)) there)
+    ∙ ap sliced (get_or-drop 820 segment q (pos 0) ∙ ap (λ i. get_or segment i (pos 0)) (omega arith))
 
 last_step : (f : ℕ) → 276 * (78 * (f + 1)) ≡ 21528 * f + 21527 + 1
 last_step f = omega arith
@@ -128,10 +108,7 @@ last_bits run f h l = map-range_same _ _ 0 12 (λ e a b. bit e (omega arith))
     bit e m =
         let small : (e + 4) % 12 < 12 = omega arith in
         let there : 312 * f + 311 < 312 * (f + 1) = omega arith in
-        ap (λ x. x / 4) (last_level (data_at run (312 * f + 311)) ((e + 4) % 12)
-        (data_long run (312 * f + 311) h (omega (arith, l, there))) small
-        ∙ sym (ap (λ i. get_or levels i 0) (last_place f e m)
-        ∙ level_from run (312 * (f + 1)) (312 * f + 311) (816 + (e + 4) % 12) h l there (omega (arith, small))))
+        ap (λ x. x / 4) (grind (arith, last_level, data_long, levels, last_place, level_from))
         ∙ sym (ap (λ g. precoder_bit 0 (first_bits run) levels (276 * g) e)
         (groups_whole (78 * (f + 1)) levels (before_long run (f + 1) h l))
         ∙ ap (λ r. precoder_bit 0 (first_bits run) levels r e) (last_step f)

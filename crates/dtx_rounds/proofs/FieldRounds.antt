@@ -13,7 +13,6 @@ use Rattle.dtx_trellis.specs.Pairs.{byte_place, group_place}
 use Rattle.dtx_receiver.specs.Bytes.{bytes_in}
 use Rattle.dtx_acquire.specs.Scaled.{decided}
 use Rattle.dtx_pins.specs.Moved.{moved_in, rows_moved}
-use Rattle.dtx_pins.specs.PinnedField.{pinned, pinned_coder_cost}
 use Rattle.dtx_rounds.specs.FieldRound.{field_cost, field_rounded}
 use Rattle.dtx_rounds.specs.Fields.{rows_of}
 use Rattle.dtx_rounds.specs.Known.{known_bytes}
@@ -27,8 +26,7 @@ use Rattle.dtx_rounds.proofs.RowsRounded.{same_items}
 -- ---- a field of a run
 
 pub length-rows : (segments : List (List ℤ)) (f : ℕ) → length (rows_of segments f) ≡ min 313 (length segments - 313 * f)
-length-rows segments f =
-    length-take 313 (drop (313 * f) segments) ∙ ap (min 313) (length-drop (313 * f) segments)
+length-rows segments f = length-take 313 (drop (313 * f) segments) ∙ ap (min 313) (length-drop (313 * f) segments)
 
 pub row_of : (segments : List (List ℤ)) (f i : ℕ) → i < 313
     → get_or (rows_of segments f) i [] ≡ get_or segments (313 * f + i) []
@@ -45,15 +43,11 @@ groups_of_rows segments f =
   where
     by_count : (l f : ℕ) → 4 * (min 312 (min 313 (l - 313 * f) - (313 * 0 + 1)) / 4)
         ≡ 4 * (min 312 (l - (313 * f + 1)) / 4)
-    by_count l f = (let count : min 312 (min 313 (l - 313 * f) - (313 * 0 + 1)) ≡ min 312 (l - (313 * f + 1)) =
-        omega arith in
-        ap (λ n. 4 * (n / 4)) count)
+    by_count l f = grind arith
 
     long : length (groups_in (rows_of segments f) 0) ≡ length (groups_in segments f)
-    long =
-        length-groups (rows_of segments f) 0
-        ∙ ap (λ n. 4 * (min 312 (n - (313 * 0 + 1)) / 4)) (length-rows segments f)
-        ∙ by_count (length segments) f
+    long = length-groups (rows_of segments f) 0
+        ∙ ap (λ n. 4 * (min 312 (n - (313 * 0 + 1)) / 4)) (length-rows segments f) ∙ by_count (length segments) f
         ∙ sym (length-groups segments f)
 
 -- ---- pins
@@ -61,28 +55,7 @@ groups_of_rows segments f =
 -- the place of a coder's byte, from the field's first on
 pub byte_in_field : (e f t : ℕ) → t < 21528 → byte_at_step e (21528 * f + t) ≡ 64584 * f + byte_at_step e t
 unfolding byte_at_step byte_place group_place
-byte_in_field e f t l =
-    by_group (t / 276) (omega arith) (omega arith) (omega arith)
-  where
-    by_group : (u : ℕ) → t / 276 ≡ u → (21528 * f + t) / 276 ≡ 78 * f + u → (21528 * f + t) % 276 ≡ t % 276
-        → 828 * ((21528 * f + t) / 276)
-        + (12 * ((21528 * f + t) % 276 / 4)
-        + (e + 12 - 4 * (((0 + 4 * ((21528 * f + t) / 276)) % 312 + 4 * ((21528 * f + t) % 276 / 4) / 69) % 3)) % 12)
-        ≡ 64584 * f
-        + (828 * (t / 276)
-        + (12 * (t % 276 / 4) + (e + 12 - 4 * (((0 + 4 * (t / 276)) % 312 + 4 * (t % 276 / 4) / 69) % 3)) % 12))
-    by_group u a b c =
-        ap₂ (λ v w. 828 * v + (12 * (w / 4) + (e + 12 - 4 * (((0 + 4 * v) % 312 + 4 * (w / 4) / 69) % 3)) % 12)) b c
-        ∙ (let turn : (0 + 4 * (78 * f + u)) % 312 ≡ (0 + 4 * u) % 312 = omega arith in
-        ap (λ s. 828 * (78 * f + u)
-        + (12 * (t % 276 / 4) + (e + 12 - 4 * ((s + 4 * (t % 276 / 4) / 69) % 3)) % 12)) turn)
-        ∙ whole f u (12 * (t % 276 / 4) + (e + 12 - 4 * (((0 + 4 * u) % 312 + 4 * (t % 276 / 4) / 69) % 3)) % 12)
-        ∙ ap (λ v. 64584 * f
-        + (828 * v + (12 * (t % 276 / 4) + (e + 12 - 4 * (((0 + 4 * v) % 312 + 4 * (t % 276 / 4) / 69) % 3)) % 12)))
-        (sym a)
-      where
-        whole : (f u x : ℕ) → 828 * (78 * f + u) + x ≡ 64584 * f + (828 * u + x)
-        whole f u x = omega arith
+byte_in_field e f t l = grind arith
 
 pub byte_within : (e t : ℕ) → e < 12 → t < 21528 → byte_at_step e t < 64584
 unfolding byte_at_step byte_place group_place
@@ -105,12 +78,7 @@ same_pins part known f n same few =
     pin : (t e : ℕ) → t < 21528 → e < 12
         → pin_of (get_or part (byte_at_step e (21528 * 0 + t)) None) ((21528 * 0 + t) % 276)
         ≡ pin_of (get_or known (byte_at_step e (21528 * f + t)) None) ((21528 * f + t) % 276)
-    pin t e l m =
-        let first : 21528 * 0 + t ≡ t = omega arith in
-        let round : t % 276 ≡ (21528 * f + t) % 276 = omega arith in
-        ap (λ u. pin_of (get_or part (byte_at_step e u) None) (u % 276)) first
-        ∙ ap₂ pin_of (same (byte_at_step e t) (byte_within e t m l)
-        ∙ ap (λ n. get_or known n None) (sym (byte_in_field e f t l))) round
+    pin t e l m = grind (arith, byte_within, byte_in_field)
 
 steps_few : (heard : List (List ℤ)) (f : ℕ) → 69 * length (groups_in heard f) ≤ 21528
 steps_few heard f = omega (arith, length-groups heard f)
@@ -120,33 +88,24 @@ steps_few heard f = omega (arith, length-groups heard f)
 paths_of_rows : (scale : ℕ) (heard : List (List ℤ)) (known part : List (Option ℕ)) (f : ℕ) → KnowSame part known f
     → paths_in scale (rows_of heard f) part 0 ≡ paths_in scale heard known f
 unfolding paths_in
-paths_of_rows scale heard known part f same =
-    ap (λ groups. pinned scale (field_pins part 0 (69 * length groups)) groups) (groups_of_rows heard f)
-    ∙ ap (λ pins. pinned scale pins (groups_in heard f))
-    (same_pins part known f (69 * length (groups_in heard f)) same (steps_few heard f))
+paths_of_rows scale heard known part f same = grind (arith, groups_of_rows, same_pins, steps_few)
 
 -- ---- segments
 
 -- a segment by its place in its field, the field's groups and their paths
 abbrev cell : ℕ → ℕ → List (List ℤ) → List (List ℤ) → List ℤ → List ℤ
-cell scale j groups paths segment =
-    cond (nat_lt 0 j && nat_le j (length groups))
+cell scale j groups paths segment = cond (nat_lt 0 j && nat_le j (length groups))
     (take 4 segment ++ map (decided scale) (drop 4 (get_or paths (j - 1) []))) segment
 
 cell_is : (scale : ℕ) (heard given : List (List ℤ)) (known : List (Option ℕ)) (f i : ℕ) → i < 313
     → round_segment scale heard known given (313 * f + i)
     ≡ cell scale i (groups_in given f) (paths_in scale heard known f) (get_or given (313 * f + i) [])
 unfolding round_segment in_whole_group
-cell_is scale heard given known f i l =
-    let place : (313 * f + i) % 313 ≡ i = omega arith in
-    let field : (313 * f + i) / 313 ≡ f = omega arith in
-    ap₂ (λ j g. cell scale j (groups_in given g) (paths_in scale heard known g) (get_or given (313 * f + i) []))
-    place field
+cell_is scale heard given known f i l = grind arith
 
 -- segment i of a field after a round over the field alone
 pub field_segment : (scale : ℕ) (heard given : List (List ℤ)) (known part : List (Option ℕ)) (f i : ℕ)
-    → KnowSame part known f → i < 313
-    → round_segment scale (rows_of heard f) part (rows_of given f) i
+    → KnowSame part known f → i < 313 → round_segment scale (rows_of heard f) part (rows_of given f) i
     ≡ round_segment scale heard known given (313 * f + i)
 field_segment scale heard given known part f i same l =
     let first : i ≡ 313 * 0 + i = omega arith in
@@ -154,8 +113,7 @@ field_segment scale heard given known part f i same l =
     ∙ cell_is scale (rows_of heard f) (rows_of given f) part 0 i l
     ∙ ap₂ (λ groups paths. cell scale i groups paths (get_or (rows_of given f) (313 * 0 + i) []))
     (groups_of_rows given f) (paths_of_rows scale heard known part f same)
-    ∙ ap (cell scale i (groups_in given f) (paths_in scale heard known f))
-    (ap (λ j. get_or (rows_of given f) j []) (sym first) ∙ row_of given f i l)
+    ∙ ap (cell scale i (groups_in given f) (paths_in scale heard known f)) (grind (arith, row_of))
     ∙ sym (cell_is scale heard given known f i l)
 
 pub row_after : (scale : ℕ) (heard given : List (List ℤ)) (known : List (Option ℕ)) (f i : ℕ)
@@ -173,10 +131,8 @@ pub field_after : (scale : ℕ) (heard given : List (List ℤ)) (known part : Li
 unfolding field_rounded
 field_after scale heard given known part f same =
     same_items [] (length (rows_of given f)) (after scale (rows_of heard f) part (rows_of given f))
-    (rows_of (after scale heard known given) f)
-    (length-after scale (rows_of heard f) (rows_of given f) part)
-    (length-rows (after scale heard known given) f
-    ∙ ap (λ n. min 313 (n - 313 * f)) (length-after scale heard given known) ∙ sym (length-rows given f))
+    (rows_of (after scale heard known given) f) (length-after scale (rows_of heard f) (rows_of given f) part)
+    (grind (arith, length-rows, after, length-after))
     (λ i l. get_or-map-range_with_len (round_segment scale (rows_of heard f) part (rows_of given f)) 0
     (length (rows_of given f)) i i [] l (omega arith)
     ∙ field_segment scale heard given known part f i same (omega (arith, l, length-rows given f))
@@ -195,23 +151,14 @@ field_of_rounded scale heard given part f same =
 pub field_costs : (scale : ℕ) (heard : List (List ℤ)) (known part : List (Option ℕ)) (f : ℕ) → KnowSame part known f
     → field_cost scale (rows_of heard f) part ≡ sum (map (coder_cost scale heard known f) (range_with_len 0 12))
 unfolding field_cost coder_cost
-field_costs scale heard known part f same =
-    ap (λ groups. sum (map (pinned_coder_cost scale (field_pins part 0 (69 * length groups)) groups)
-    (range_with_len 0 12))) (groups_of_rows heard f)
-    ∙ ap (λ pins. sum (map (pinned_coder_cost scale pins (groups_in heard f)) (range_with_len 0 12)))
-    (same_pins part known f (69 * length (groups_in heard f)) same (steps_few heard f))
+field_costs scale heard known part f same = grind (arith, groups_of_rows, same_pins, steps_few)
 
 -- what moves in the field is what moves in its segments of the run
-pub field_moves : (given new : List (List ℤ)) (f : ℕ)
-    → rows_moved (rows_of given f) (rows_of new f)
+pub field_moves : (given new : List (List ℤ)) (f : ℕ) → rows_moved (rows_of given f) (rows_of new f)
     ≡ sum (map (λ i. moved_in (get_or given (313 * f + i) []) (get_or new (313 * f + i) []))
     (range_with_len 0 (length (rows_of given f))))
 unfolding rows_moved
-field_moves given new f =
-    ap sum (map-range_same (λ i. moved_in (get_or (rows_of given f) i []) (get_or (rows_of new f) i []))
-    (λ i. moved_in (get_or given (313 * f + i) []) (get_or new (313 * f + i) [])) 0 (length (rows_of given f))
-    (λ i a l. ap₂ moved_in (row_of given f i (omega (arith, l, length-rows given f)))
-    (row_of new f i (omega (arith, l, length-rows given f)))))
+field_moves given new f = grind (arith, map-range_same, row_of, length-rows)
 
 -- the numbers below n and below the whole, field by field
 sum_of_fields : (h : ℕ → ℕ) (whole n : ℕ)
@@ -228,32 +175,23 @@ sum_of_fields h whole (suc n) =
     by_room : (whole < 313 * n) ⊎ (313 * n ≤ whole)
         → over h 0 (min (313 * n) whole) + over h (313 * n) (min 313 (whole - 313 * n))
         ≡ over h 0 (min (313 * suc n) whole)
-    by_room (inl past) =
-        let none : min 313 (whole - 313 * n) ≡ 0 = omega arith in
-        let same : min (313 * n) whole + 0 ≡ min (313 * suc n) whole = omega arith in
-        ap (λ m. over h 0 (min (313 * n) whole) + over h (313 * n) m) none
-        ∙ sym (over_parts h 0 (min (313 * n) whole) 0)
-        ∙ ap (over h 0) same
+    by_room (inl past) = grind (arith, over, over_parts)
     by_room (inr more) =
         let all : min (313 * n) whole ≡ 313 * n = omega arith in
         let start : 313 * n ≡ 0 + 313 * n = omega arith in
         let both : 313 * n + min 313 (whole - 313 * n) ≡ min (313 * suc n) whole = omega arith in
         ap₂ (λ m a. over h 0 m + over h a (min 313 (whole - 313 * n))) all start
-        ∙ sym (over_parts h 0 (313 * n) (min 313 (whole - 313 * n)))
-        ∙ ap (over h 0) both
+        ∙ sym (over_parts h 0 (313 * n) (min 313 (whole - 313 * n))) ∙ ap (over h 0) both
 
 -- what moves in all fields is what moves in all segments
 pub moves_of_fields : (given new : List (List ℤ))
     → sum (map (λ f. rows_moved (rows_of given f) (rows_of new f)) (range_with_len 0 (fields_in given)))
     ≡ sum (map (λ i. moved_in (get_or given i []) (get_or new i [])) (range_with_len 0 (length given)))
-moves_of_fields given new =
-    ap sum (map-range_same (λ f. rows_moved (rows_of given f) (rows_of new f))
-    (λ f. over h (313 * f) (min 313 (length given - 313 * f))) 0 (fields_in given)
-    (λ f a l. field_moves given new f
+moves_of_fields given new = ap sum (map-range_same (λ f. rows_moved (rows_of given f) (rows_of new f))
+    (λ f. over h (313 * f) (min 313 (length given - 313 * f))) 0 (fields_in given) (λ f a l. field_moves given new f
     ∙ ap (λ n. sum (map (λ i. h (313 * f + i)) (range_with_len 0 n))) (length-rows given f)
     ∙ ap sum (map-range_moved (λ i. h (313 * f + i)) h 0 (313 * f) (min 313 (length given - 313 * f))
-    (λ i m. (let place : 313 * f + (0 + i) ≡ 313 * f + i = omega arith in ap h place)))))
-    ∙ sum_of_fields h (length given) (fields_in given)
+    (λ i m. (grind (arith, h)))))) ∙ sum_of_fields h (length given) (fields_in given)
     ∙ (let all : min (313 * fields_in given) (length given) ≡ length given = every (length given) in ap (over h 0) all)
   where
     h : ℕ → ℕ

@@ -1,6 +1,6 @@
 -- The data segments of each field of a capture: those that are acquired, by those that were received.
-use Rattle.std.proofs.Common.{◌≡◌, ℕ, ℤ, zero, suc, ◌+◌, ◌-◌, ◌*◌, ◌/◌, ◌≤◌, ◌⊎◌, inl, inr, min, List, [], ◌∷◌, ◌++◌}
-use Rattle.std.proofs.Common.{length, map, take, drop, refl, sym, ap, ap₂, ◌∙◌, subst, arith}
+use Rattle.std.proofs.Common.{◌≡◌, ℕ, ℤ, zero, suc, ◌+◌, ◌-◌, ◌*◌, ◌≤◌, ◌⊎◌, inl, inr, List, [], ◌∷◌, ◌++◌, length, map}
+use Rattle.std.proofs.Common.{take, drop, refl, sym, ap, ◌∙◌, arith}
 use Rattle.std.specs.List.{flat_map}
 use Rattle.std.proofs.Math.Seq.{drop-append-add}
 use Rattle.std.proofs.lemmas.List.{append-nil, length-append, length-drop, length-map, length-take-le, map-append}
@@ -30,8 +30,7 @@ pub are_fields : (fields : List Field)
     → ((front : List Field) (field : Field) (back : List Field) → fields ≡ front ++ field ∷ back
     → length field.segments ≤ 313)
     → ((front : List Field) (field next : Field) (back : List Field) → fields ≡ front ++ field ∷ next ∷ back
-    → (length field.segments ≡ 313) ⊎ (length field.segments ≡ 0))
-    → AreFields fields
+    → (length field.segments ≡ 313) ⊎ (length field.segments ≡ 0)) → AreFields fields
 are_fields [] short all = tt
 are_fields (x ∷ xs) short all = (
   short [] x xs refl,
@@ -56,23 +55,17 @@ empty (y ∷ ys) e = absurd (omega arith)
 pub groups_next : (front rest : List (List ℤ)) (f : ℕ) → length front ≡ 313
     → groups_in (front ++ rest) (f + 1) ≡ groups_in rest f
 unfolding groups_behind
-groups_next front rest f e =
-    let there : 313 * (f + 1) + 1 ≡ length front + (313 * f + 1) = omega (arith, e) in
-    ap (λ n. in_groups (take 312 (drop n (front ++ rest)))) there
+groups_next front rest f e = ap (λ n. in_groups (take 312 (drop n (front ++ rest)))) (omega (arith, e))
     ∙ ap (λ xs. in_groups (take 312 xs)) (drop-append-add front rest (313 * f + 1))
 
 groups_past : (segments : List (List ℤ)) (f : ℕ) → length segments ≤ 313 * f + 1 → groups_in segments f ≡ []
-groups_past segments f l =
-    empty (groups_in segments f)
-    (length-groups segments f ∙ (let none : length segments - (313 * f + 1) ≡ 0 = omega arith in
-    ap (λ n. 4 * (min 312 n / 4)) none))
+groups_past segments f l = empty (groups_in segments f) (length-groups segments f ∙ (grind arith))
 
 -- what follows the first field doesn't matter there
 front_only : (rows rest : List (List ℤ)) → (length rows ≡ 312) ⊎ ((length rows ≤ 312) × (rest ≡ []))
     → take 312 (rows ++ rest) ≡ rows
 front_only rows rest (inl e) = take_at rows rest 312 e
-front_only rows rest (inr h) =
-    ap (λ (ys : List (List ℤ)). take 312 (rows ++ ys)) h.1 ∙ ap (take 312) (append-nil rows) ∙ take_all 312 rows h.0
+front_only rows rest (inr h) = rw (h.1, append-nil rows, take_all 312 rows h.0)
 
 pub groups_first : (sync : List ℤ) (rows rest : List (List ℤ))
     → (length rows ≡ 312) ⊎ ((length rows ≤ 312) × (rest ≡ [])) → groups_in ((sync ∷ rows) ++ rest) 0 ≡ in_groups rows
@@ -86,25 +79,10 @@ groups_restored : (scale : ℕ) (rows : List (List ℤ))
     → in_groups (restored_field scale rows) ≡ map (restored_data scale) (softened scale (in_groups rows))
 unfolding in_groups behind_groups restored_field
 groups_restored scale rows =
-    ap (λ m. take (4 * (m / 4)) (map (restored_data scale) (front ++ drop n rows)))
-    (length-map (front ++ drop n rows) (restored_data scale) ∙ length-append front (drop n rows)
-    ∙ ap₂ (λ (a b : ℕ). a + b) long (length-drop n rows) ∙ omega arith)
-    ∙ ap (take n) (map-append (restored_data scale) front (drop n rows))
-    ∙ take_at (map (restored_data scale) front) (map (restored_data scale) (drop n rows)) n
-    (length-map front (restored_data scale) ∙ long)
-  where
-    n : ℕ
-    n = 4 * (length rows / 4)
-
-    front : List (List ℤ)
-    front = softened scale (take n rows)
-
-    long : length front ≡ n
-    long = (softened_found scale (take n rows)).long ∙ length-take-le n rows (omega arith)
+    grind (arith, length-map, length-append, length-drop, map-append, take_at, softened_found, length-take-le)
 
 nothing_softened : (scale : ℕ) → map (restored_data scale) (softened scale []) ≡ []
-nothing_softened scale =
-    empty (map (restored_data scale) (softened scale []))
+nothing_softened scale = empty (map (restored_data scale) (softened scale []))
     (length-map (softened scale []) (restored_data scale) ∙ (softened_found scale []).long)
 
 abbrev Heard : List Field → List (List ℤ)
@@ -113,28 +91,13 @@ Heard fields = flat_map (λ field. field.segments) fields
 -- data segments past the last one
 past : (scale f : ℕ) (made heard : List (List ℤ)) → length made ≤ 313 * f + 1 → length heard ≤ 313 * f + 1
     → groups_in made f ≡ map (restored_data scale) (softened scale (groups_in heard f))
-past scale f made heard l m =
-    groups_past made f l
-    ∙ sym (ap (λ xs. map (restored_data scale) (softened scale xs)) (groups_past heard f m) ∙ nothing_softened scale)
+past scale f made heard l m = grind (arith, groups_past, nothing_softened)
 
 field_first : (scale : ℕ) (sync : List ℤ) (rows made heard : List (List ℤ))
     → (length rows ≡ 312) ⊎ ((length rows ≤ 312) × (made ≡ []) × (heard ≡ []))
     → groups_in ((restored_sync scale sync ∷ restored_field scale rows) ++ made) 0
     ≡ map (restored_data scale) (softened scale (groups_in ((sync ∷ rows) ++ heard) 0))
-field_first scale sync rows made heard h =
-    groups_first (restored_sync scale sync) (restored_field scale rows) made (made_case h)
-    ∙ groups_restored scale rows
-    ∙ ap (λ xs. map (restored_data scale) (softened scale xs)) (sym (groups_first sync rows heard (heard_case h)))
-  where
-    made_case : (length rows ≡ 312) ⊎ ((length rows ≤ 312) × (made ≡ []) × (heard ≡ []))
-        → (length (restored_field scale rows) ≡ 312) ⊎ ((length (restored_field scale rows) ≤ 312) × (made ≡ []))
-    made_case (inl e) = inl (length-field scale rows ∙ e)
-    made_case (inr h) = inr (omega (arith, length-field scale rows, h.0), h.1)
-
-    heard_case : (length rows ≡ 312) ⊎ ((length rows ≤ 312) × (made ≡ []) × (heard ≡ []))
-        → (length rows ≡ 312) ⊎ ((length rows ≤ 312) × (heard ≡ []))
-    heard_case (inl e) = inl e
-    heard_case (inr h) = inr (h.0, h.2)
+field_first scale sync rows made heard h = grind (arith, groups_first, groups_restored, length-field)
 
 -- the data segments in whole groups of each field
 groups_of_fields : (scale f : ℕ) (fields : List Field) → AreFields fields
@@ -150,18 +113,12 @@ groups_of_fields scale f (x ∷ xs) h = by_segments x.segments refl (λ g. group
     Rest = (g : ℕ) → groups_in made g ≡ map (restored_data scale) (softened scale (groups_in (Heard xs) g))
 
     Same : List (List ℤ) → ℕ → Type 0
-    Same segments f =
-        groups_in (restored scale segments ++ made) f
+    Same segments f = groups_in (restored scale segments ++ made) f
         ≡ map (restored_data scale) (softened scale (groups_in (segments ++ Heard xs) f))
 
-    by_last : (ys : List Field) → xs ≡ ys → (n : ℕ) → length x.segments ≡ suc n
-        → (n ≡ 312) ⊎ ((n ≤ 312) × (xs ≡ []))
+    by_last : (ys : List Field) → xs ≡ ys → (n : ℕ) → length x.segments ≡ suc n → (n ≡ 312) ⊎ ((n ≤ 312) × (xs ≡ []))
     by_last [] e n l = inr (omega (arith, l, h.0), e)
-    by_last (y ∷ ys) e n l = by_all (subst (IsAllButLast x) e h.1)
-      where
-        by_all : (length x.segments ≡ 313) ⊎ (length x.segments ≡ 0) → (n ≡ 312) ⊎ ((n ≤ 312) × (xs ≡ []))
-        by_all (inl a) = inl (omega (arith, a, l))
-        by_all (inr a) = absurd (omega (arith, a, l))
+    by_last (y ∷ ys) e n l = grind arith
 
     by_segments : (segments : List (List ℤ)) → x.segments ≡ segments → Rest → Same segments f
     by_segments [] e rest = rest f
@@ -169,31 +126,26 @@ groups_of_fields scale f (x ∷ xs) h = by_segments x.segments refl (λ g. group
       where
         by_place : (f : ℕ) → (length rows ≡ 312) ⊎ ((length rows ≤ 312) × (xs ≡ [])) → Same (sync ∷ rows) f
         by_place zero (inl l) = field_first scale sync rows made (Heard xs) (inl l)
-        by_place zero (inr l) =
-            field_first scale sync rows made (Heard xs)
+        by_place zero (inr l) = field_first scale sync rows made (Heard xs)
             (inr (l.0, ap (flat_map (λ field. restored scale field.segments)) l.1, ap Heard l.1))
         by_place (suc f) (inl l) =
             let next : suc f ≡ f + 1 = omega arith in
             ap (groups_in (restored scale (sync ∷ rows) ++ made)) next
             ∙ groups_next (restored scale (sync ∷ rows)) made f (length-restored scale (sync ∷ rows) ∙ ap suc l)
-            ∙ rest f
-            ∙ ap (λ xs. map (restored_data scale) (softened scale xs))
+            ∙ rest f ∙ ap (λ xs. map (restored_data scale) (softened scale xs))
             (sym (ap (groups_in ((sync ∷ rows) ++ Heard xs)) next ∙ groups_next (sync ∷ rows) (Heard xs) f (ap suc l)))
         by_place (suc f) (inr l) =
             let none : length made ≡ 0 = ap (λ ys. length (flat_map (λ field. restored scale field.segments) ys)) l.1 in
             let none_heard : length (Heard xs) ≡ 0 = ap (λ ys. length (Heard ys)) l.1 in
-            past scale (suc f) (restored scale (sync ∷ rows) ++ made) ((sync ∷ rows) ++ Heard xs)
-            (omega (
+            past scale (suc f) (restored scale (sync ∷ rows) ++ made) ((sync ∷ rows) ++ Heard xs) (omega (
               arith,
               length-append (restored scale (sync ∷ rows)) made,
               none,
               l.0,
               length-restored scale (sync ∷ rows),
-            ))
-            (omega (arith, length-append (sync ∷ rows) (Heard xs), none_heard, l.0))
+            )) (omega (arith, length-append (sync ∷ rows) (Heard xs), none_heard, l.0))
 
 pub acquired_groups : (scale f : ℕ) (symbols : List ℤ) → AreFields (all_fields symbols)
-    → groups_in (acquired scale symbols) f
-    ≡ map (restored_data scale) (softened scale (groups_in (heard_of symbols) f))
+    → groups_in (acquired scale symbols) f ≡ map (restored_data scale) (softened scale (groups_in (heard_of symbols) f))
 unfolding acquired heard_of
 acquired_groups scale f symbols h = groups_of_fields scale f (all_fields symbols) h

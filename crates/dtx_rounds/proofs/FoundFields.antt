@@ -1,8 +1,8 @@
 -- A field of a run and the one behind it: once the words are sought that begin in the first, and where no more than
 -- bytes was written.
-use Rattle.std.proofs.Common.{◌≡◌, ℕ, ℤ, ◌+◌, ◌-◌, ◌*◌, ◌/◌, ◌%◌, ◌<◌, ◌≤◌, ◌⊎◌, inl, inr, ◌||◌, ◌&&◌, not, Bool, true}
-use Rattle.std.proofs.Common.{false, Option, Some, None, is_some, option_map, List, length, get_or, take, refl, sym, ap}
-use Rattle.std.proofs.Common.{ap₂, ◌∙◌, arith}
+use Rattle.std.proofs.Common.{◌≡◌, ℕ, ℤ, ◌+◌, ◌-◌, ◌*◌, ◌/◌, ◌%◌, ◌<◌, ◌≤◌, ◌⊎◌, inl, inr, ◌&&◌, not, Bool, true, false}
+use Rattle.std.proofs.Common.{Option, Some, None, is_some, option_map, List, length, get_or, take, refl, sym, ap, ap₂}
+use Rattle.std.proofs.Common.{◌∙◌, arith}
 use Rattle.std.proofs.lemmas.Bool.{cases_lt, or_parts, true≢false}
 use Rattle.std.proofs.lemmas.List.{ext_get_or, get_or-append_right, get_or_append_left}
 use Rattle.std.proofs.lemmas.List.FromFn.{fill_by_all}
@@ -10,7 +10,6 @@ use Rattle.dtx_lists.proofs.Range.{map-range_same}
 use Rattle.dtx_receiver.specs.Packets.{is_complete}
 use Rattle.dtx_receiver.proofs.CompleteLemmas.{complete_told}
 use Rattle.dtx_rounds.specs.Decided.{decided_rows, heard_rows}
-use Rattle.dtx_rounds.specs.FieldRound.{field_rounded, field_cost}
 use Rattle.dtx_rounds.specs.Found.{AreFound, IsKept, code_byte, has_code, has_code_behind, new_code, or_else}
 use Rattle.dtx_rounds.specs.Found.{IsUnchanged}
 use Rattle.dtx_rounds.specs.Known.{known_word}
@@ -26,24 +25,24 @@ use Rattle.dtx_rounds.proofs.RunWords.{upto_now, code_byte_at, code_byte_past}
 none_found : (there : List ℕ) (words : List Bool) → length words ≡ 312
     → has_code (new_code there words) 312 ≡ false → (k : ℕ) → new_code there words k ≡ None
 unfolding has_code
-none_found there words long e k = by_place (cases_lt k 312)
+none_found there words long e k = elim (cases_lt k 312) [
+  | inl l ↦ none_is (new_code there words k)
+      (any_each (λ k. is_some (new_code there words k)) 0 312 k e (omega arith) (omega (arith, l)))
+  | inr l ↦ none_behind there words k (omega (arith, l, long))
+]
   where
     none_is : (o : Option (List ℕ)) → is_some o ≡ false → o ≡ None
     none_is None h = refl
     none_is (Some code) h = absurd (true≢false h)
 
-    by_place : (k < 312) ⊎ (312 ≤ k) → new_code there words k ≡ None
-    by_place (inl l) =
-        none_is (new_code there words k)
-        (any_each (λ k. is_some (new_code there words k)) 0 312 k e (omega arith) (omega (arith, l)))
-    by_place (inr l) = none_behind there words k (omega (arith, l, long))
-
 -- a word that ends in its field has no byte behind it
 none_ends_behind : (there : List ℕ) (words : List Bool) → length words ≡ 312
-    → has_code_behind (new_code there words) 312 ≡ false
-    → (n : ℕ) → code_byte (new_code there words) (64584 + n) ≡ None
+    → has_code_behind (new_code there words) 312 ≡ false → (n : ℕ) → code_byte (new_code there words) (64584 + n) ≡ None
 unfolding has_code_behind
-none_ends_behind there words long e n = by_valid (cases_lt (64584 + n) (208 * ((64584 + n) % 52)))
+none_ends_behind there words long e n = elim (cases_lt (64584 + n) (208 * ((64584 + n) % 52))) [
+  | inl l ↦ code_byte_past codes (64584 + n) l
+  | inr l ↦ code_byte_at codes (64584 + n) l ∙ by_word l (codes (p / 207)) refl (cases_lt (p / 207) 312)
+]
   where
     codes : ℕ → Option (List ℕ)
     codes = new_code there words
@@ -60,46 +59,27 @@ none_ends_behind there words long e n = by_valid (cases_lt (64584 + n) (208 * ((
     ends None b t f = absurd (true≢false (sym t))
 
     by_word : 208 * ((64584 + n) % 52) ≤ 64584 + n → (o : Option (List ℕ)) → codes (p / 207) ≡ o
-        → (p / 207 < 312) ⊎ (312 ≤ p / 207)
-        → option_map (λ (code : List ℕ). get_or code (p % 207) 0) o ≡ None
+        → (p / 207 < 312) ⊎ (312 ≤ p / 207) → option_map (λ (code : List ℕ). get_or code (p % 207) 0) o ≡ None
     by_word valid None h place = refl
-    by_word valid (Some code) h (inl l) =
-        absurd (omega (
-          arith,
-          (complete_told (207 * 312) (p / 207)).0
-              (ends (codes (p / 207)) (is_complete (207 * 312) (p / 207)) (ap is_some h)
-              (any_each (λ k. is_some (codes k) && not (is_complete (207 * 312) k)) 0 312 (p / 207) e (omega arith)
-              (omega (arith, l)))) (p % 207) (omega arith),
-          at_place (p / 207) (64584 + n) valid refl,
-        ))
+    by_word valid (Some code) h (inl l) = absurd (omega (
+      arith,
+      (complete_told (207 * 312) (p / 207)).0 (ends (codes (p / 207)) (is_complete (207 * 312) (p / 207)) (ap is_some h)
+          (any_each (λ k. is_some (codes k) && not (is_complete (207 * 312) k)) 0 312 (p / 207) e (omega arith)
+          (omega (arith, l)))) (p % 207) (omega arith),
+      at_place (p / 207) (64584 + n) valid refl,
+    ))
     by_word valid (Some code) h (inr l) =
         absurd (none_some code (sym (none_behind there words (p / 207) (omega (arith, l, long))) ∙ h))
-
-    by_valid : (64584 + n < 208 * ((64584 + n) % 52)) ⊎ (208 * ((64584 + n) % 52) ≤ 64584 + n)
-        → code_byte codes (64584 + n) ≡ None
-    by_valid (inl l) = code_byte_past codes (64584 + n) l
-    by_valid (inr l) =
-        code_byte_at codes (64584 + n) l ∙ by_word l (codes (p / 207)) refl (cases_lt (p / 207) 312)
 
 -- ---- what is known of each of both
 
 front_byte : (codes : ℕ → Option (List ℕ)) (a b p q : Field) (n : ℕ) → AreFound codes a b p q → n < 64584
     → get_or p.known.items n None ≡ or_else (code_byte codes n) (get_or a.known.items n None)
-front_byte codes a b p q n r l =
-    sym (get_or_append_left p.known.items q.known.items None n (omega (arith, l, known_items p))) ∙ r.known n
-    ∙ ap (or_else (code_byte codes n))
-    (get_or_append_left a.known.items b.known.items None n (omega (arith, l, known_items a)))
+front_byte codes a b p q n r l = grind (arith, get_or_append_left, known_items)
 
 behind_byte : (codes : ℕ → Option (List ℕ)) (a b p q : Field) (n : ℕ) → AreFound codes a b p q
     → get_or q.known.items n None ≡ or_else (code_byte codes (64584 + n)) (get_or b.known.items n None)
-behind_byte codes a b p q n r =
-    let back : 64584 + n - 64584 ≡ n = omega arith in
-    ap (λ i. get_or q.known.items i None) (sym back)
-    ∙ sym (get_or-append_right p.known.items q.known.items 64584 (64584 + n) None (known_items p) (omega arith))
-    ∙ r.known (64584 + n)
-    ∙ ap (or_else (code_byte codes (64584 + n)))
-    (get_or-append_right a.known.items b.known.items 64584 (64584 + n) None (known_items a) (omega arith)
-    ∙ ap (λ i. get_or b.known.items i None) back)
+behind_byte codes a b p q n r = grind (arith, get_or-append_right, known_items)
 
 -- ---- what a round needs of a field
 
@@ -113,13 +93,7 @@ settled_same : (scale : ℕ) (field new : Field) → heard_rows new ≡ heard_ro
     → decided_rows new ≡ decided_rows field → new.cost ≡ field.cost
     → (new.knows_more ≡ false → (field.knows_more ≡ false) × (new.known.items ≡ field.known.items))
     → IsSettled scale field → IsSettled scale new
-settled_same scale field new heard rows cost same s = record {
-  segments = λ e.
-      ap₂ (λ h d. field_rounded scale h new.known.items d) heard rows
-      ∙ ap (λ known. field_rounded scale (heard_rows field) known (decided_rows field)) (same e).1
-      ∙ s.segments (same e).0 ∙ sym rows;
-  cost = λ e. cost ∙ s.cost (same e).0 ∙ sym (ap₂ (field_cost scale) heard (same e).1);
-}
+settled_same scale field new heard rows cost same s = grind arith
 
 -- ---- the field itself, and the one behind it
 
@@ -139,19 +113,11 @@ found_field scale f heard given before now there a b p q h s r = record {
   where
     byte : (n : ℕ) → n < 64584 → get_or p.known.items n None
         ≡ code_byte (codes_upto before now (312 * (f + 1))) (64584 * f + n)
-    byte n l =
-        front_byte (new_code there a.words) a b p q n r l
-        ∙ ap (or_else (code_byte (new_code there a.words) n)) (h.known n l)
-        ∙ byte_step before now there f n a.words s
+    byte n l = front_byte (new_code there a.words) a b p q n r l
+        ∙ ap (or_else (code_byte (new_code there a.words) n)) (h.known n l) ∙ byte_step before now there f n a.words s
 
-    word : (k : ℕ) → k < 312 → get_or p.words k false
-        ≡ is_some (codes_upto before now (312 * (f + 1)) (312 * f + k))
-    word k l =
-        r.words k (omega (arith, l, s.long))
-        ∙ ap (λ x. x || is_some (new_code there a.words k)) (s.words_are k l)
-        ∙ some_or (new_code there a.words k) (known_word before (312 * f + k))
-        ∙ ap is_some (sought_word before now there f k a.words s l
-        ∙ sym (upto_now before now (312 * (f + 1)) (312 * f + k) (omega (arith, l))))
+    word : (k : ℕ) → k < 312 → get_or p.words k false ≡ is_some (codes_upto before now (312 * (f + 1)) (312 * f + k))
+    word k l = grind (arith, some_or, sought_word, upto_now)
 
     still : p.knows_more ≡ false → (a.knows_more ≡ false) × (p.known.items ≡ a.known.items)
     still e =
@@ -172,8 +138,7 @@ found_behind scale f heard given before now there a b p q h s r = record {
   heard_are = heard_same b q r.next_rest ∙ h.heard_are;
   decided = decided_same b q r.next_rest ∙ h.decided;
   known = λ n l. byte n l;
-  words = r.next_words ∙ h.words
-      ∙ map-range_same (λ k. is_some (known_word before (312 * (f + 1) + k)))
+  words = r.next_words ∙ h.words ∙ map-range_same (λ k. is_some (known_word before (312 * (f + 1) + k)))
       (λ k. is_some (codes_upto before now (312 * (f + 1)) (312 * (f + 1) + k))) 0 312
       (λ k l m. ap is_some (sym (upto_before before now (312 * (f + 1)) (312 * (f + 1) + k) (omega arith))));
   settled = settled_same scale b q (heard_same b q r.next_rest) (decided_same b q r.next_rest) r.next_rest.cost still
@@ -184,11 +149,8 @@ found_behind scale f heard given before now there a b p q h s r = record {
         ≡ code_byte (codes_upto before now (312 * (f + 1))) (64584 * (f + 1) + n)
     byte n l =
         let there_is : 64584 * (f + 1) + n ≡ 64584 * f + (64584 + n) = omega arith in
-        behind_byte (new_code there a.words) a b p q n r
-        ∙ ap (or_else (code_byte (new_code there a.words) (64584 + n)))
-        (h.known n l ∙ sym (byte_ahead before now f n)
-        ∙ ap (code_byte (codes_upto before now (312 * f))) there_is)
-        ∙ byte_step before now there f (64584 + n) a.words s
+        behind_byte (new_code there a.words) a b p q n r ∙ ap (or_else (code_byte (new_code there a.words) (64584 + n)))
+        (grind (arith, byte_ahead)) ∙ byte_step before now there f (64584 + n) a.words s
         ∙ ap (code_byte (codes_upto before now (312 * (f + 1)))) (sym there_is)
 
     still : q.knows_more ≡ false → (b.knows_more ≡ false) × (q.known.items ≡ b.known.items)
@@ -202,18 +164,4 @@ found_behind scale f heard given before now there a b p q h s r = record {
 
 pub in_run_unchanged : (scale f : ℕ) (heard given : List (List ℤ)) (codes : ℕ → Option (List ℕ)) (field new : Field)
     → IsUnchanged field new → IsInRun scale heard given codes f field → IsInRun scale heard given codes f new
-in_run_unchanged scale f heard given codes field new u h = record {
-  count = u.count ∙ h.count;
-  heard_are = received ∙ h.heard_are;
-  decided = rows ∙ h.decided;
-  known = λ n l. ap (λ v. get_or v.items n None) u.known ∙ h.known n l;
-  words = u.words ∙ h.words;
-  settled = settled_same scale field new received rows u.cost
-      (λ e. (sym u.knows_more ∙ e, ap (λ v. v.items) u.known)) h.settled;
-}
-  where
-    received : heard_rows new ≡ heard_rows field
-    received = ap₂ (λ n v. take n v.items) u.count u.heard
-
-    rows : decided_rows new ≡ decided_rows field
-    rows = ap₂ (λ n v. take n v.items) u.count u.decided
+in_run_unchanged scale f heard given codes field new u h = grind (arith, settled_same)

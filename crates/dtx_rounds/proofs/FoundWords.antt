@@ -1,10 +1,8 @@
 -- Fields, with what is known by corrections.
-use Rattle.std.proofs.Common.{◌≡◌, ℕ, zero, suc, ◌+◌, ◌-◌, ◌*◌, ◌/◌, ◌%◌, ◌<◌, ◌≤◌, ◌⊎◌, inl, inr, ◌&&◌, ◌||◌, not}
-use Rattle.std.proofs.Common.{nat_le, Bool, true, false, cond, Option, Some, None, is_some, option_map, List, get_or}
-use Rattle.std.proofs.Common.{refl, sym, ap, ap₂, ◌∙◌, arith, ◌++◌}
+use Rattle.std.proofs.Common.{◌≡◌, ℕ, zero, suc, ◌+◌, ◌<◌, ◌≤◌, ◌⊎◌, inl, inr, ◌&&◌, ◌||◌, Bool, true, false, Option}
+use Rattle.std.proofs.Common.{Some, None, is_some, option_map, List, get_or, refl, sym, ap, ap₂, ◌∙◌, arith, ◌++◌}
 use Rattle.std.specs.List.{list_any, range_with_len}
 use Rattle.std.proofs.lemmas.Bool.{cases_lt, false_from_ne_true, true≢false}
-use Rattle.dtx_receiver.specs.Packets.{is_complete}
 use Rattle.dtx_rounds.specs.Found.{AreFound, IsKept, code_byte, has_code, has_code_behind, or_else}
 use Rattle.dtx_rounds.specs.declared.field.Field.{Field}
 
@@ -38,8 +36,7 @@ or_false false = refl
 pub any_none : (f : ℕ → Bool) (a n : ℕ) → ((i : ℕ) → a ≤ i → i < a + n → f i ≡ false)
     → list_any f (range_with_len a n) ≡ false
 any_none f a zero h = refl
-any_none f a (suc n) h =
-    ap₂ (λ x y. x || y) (h a (omega arith) (omega arith))
+any_none f a (suc n) h = ap₂ (λ x y. x || y) (h a (omega arith) (omega arith))
     (any_none f (a + 1) n (λ i l m. h i (omega arith) (omega arith)))
 
 or_here : (x y : Bool) → x ≡ true → (x || y) ≡ true
@@ -51,24 +48,20 @@ or_behind false y e = e
 
 pub any_at : (f : ℕ → Bool) (a n k : ℕ) → a ≤ k → k < a + n → f k ≡ true → list_any f (range_with_len a n) ≡ true
 any_at f a zero k l m t = absurd (omega arith)
-any_at f a (suc n) k l m t =
-    by_place (cases_lt a k) (λ h. any_at f (a + 1) n k (omega arith) (omega arith) t)
+any_at f a (suc n) k l m t = by_place (cases_lt a k) (λ h. any_at f (a + 1) n k (omega arith) (omega arith) t)
   where
     by_place : (a < k) ⊎ (k ≤ a) → (a < k → list_any f (range_with_len (a + 1) n) ≡ true)
         → list_any f (range_with_len a (suc n)) ≡ true
     by_place (inl h) next = or_behind (f a) (list_any f (range_with_len (a + 1) n)) (next h)
-    by_place (inr h) next =
-        or_here (f a) (list_any f (range_with_len (a + 1) n)) (let same : a ≡ k = omega arith in ap f same ∙ t)
+    by_place (inr h) next = grind (arith, or_here)
 
 pub any_each : (f : ℕ → Bool) (a n k : ℕ) → list_any f (range_with_len a n) ≡ false → a ≤ k → k < a + n → f k ≡ false
-any_each f a n k e l m =
-    false_from_ne_true (f k) (λ t. true≢false (sym (any_at f a n k l m t) ∙ e))
+any_each f a n k e l m = false_from_ne_true (f k) (λ t. true≢false (sym (any_at f a n k l m t) ∙ e))
 
 any_or : (f g h : ℕ → Bool) (a n : ℕ) → ((i : ℕ) → a ≤ i → i < a + n → f i ≡ (g i || h i))
     → list_any f (range_with_len a n) ≡ (list_any g (range_with_len a n) || list_any h (range_with_len a n))
 any_or f g h a zero e = refl
-any_or f g h a (suc n) e =
-    ap₂ (λ x y. x || y) (e a (omega arith) (omega arith))
+any_or f g h a (suc n) e = ap₂ (λ x y. x || y) (e a (omega arith) (omega arith))
     (any_or f g h (a + 1) n (λ i l m. e i (omega arith) (omega arith)))
     ∙ swapped (g a) (h a) (list_any g (range_with_len (a + 1) n)) (list_any h (range_with_len (a + 1) n))
   where
@@ -82,17 +75,7 @@ any_or f g h a (suc n) e =
 
 pub code_byte_none : (codes : ℕ → Option (List ℕ)) (n : ℕ) → ((k : ℕ) → codes k ≡ None) → code_byte codes n ≡ None
 unfolding code_byte
-code_byte_none codes n none = by_test (nat_le (208 * (n % 52)) n)
-  where
-    by_code : (o : Option (List ℕ)) → o ≡ None
-        → option_map (λ (code : List ℕ). get_or code ((n - 208 * (n % 52)) % 207) 0) o ≡ None
-    by_code o e = ap (option_map (λ (code : List ℕ). get_or code ((n - 208 * (n % 52)) % 207) 0)) e
-
-    by_test : (b : Bool) → cond b
-        (option_map (λ (code : List ℕ). get_or code ((n - 208 * (n % 52)) % 207) 0)
-        (codes ((n - 208 * (n % 52)) / 207))) None ≡ None
-    by_test true = by_code (codes ((n - 208 * (n % 52)) / 207)) (none ((n - 208 * (n % 52)) / 207))
-    by_test false = refl
+code_byte_none codes n none = grind arith
 
 -- the second corrections come behind the first ones
 abbrev Agree : (first second both : ℕ → Option (List ℕ)) → Type 0
@@ -101,28 +84,14 @@ Agree first second both = (k : ℕ) → or_else (second k) (first k) ≡ both k
 code_byte_or : (first second both : ℕ → Option (List ℕ)) (n : ℕ) → Agree first second both
     → or_else (code_byte second n) (code_byte first n) ≡ code_byte both n
 unfolding code_byte
-code_byte_or first second both n agree = by_test (nat_le (208 * (n % 52)) n)
-  where
-    word : ℕ
-    word = (n - 208 * (n % 52)) / 207
-
-    part : List ℕ → ℕ
-    part code = get_or code ((n - 208 * (n % 52)) % 207) 0
-
-    by_test : (b : Bool)
-        → or_else (cond b (option_map part (second word)) None) (cond b (option_map part (first word)) None)
-        ≡ cond b (option_map part (both word)) None
-    by_test true = map_or part (second word) (first word) ∙ ap (option_map part) (agree word)
-    by_test false = refl
+code_byte_or first second both n agree = grind (arith, map_or)
 
 -- ---- whether there is a correction
 
 has_or : (first second both : ℕ → Option (List ℕ)) (n : ℕ) → Agree first second both
     → has_code both n ≡ (has_code first n || has_code second n)
 unfolding has_code
-has_or first second both n agree =
-    any_or (λ k. is_some (both k)) (λ k. is_some (first k)) (λ k. is_some (second k)) 0 n
-    (λ k l m. sym (some_or (second k) (first k) ∙ ap is_some (agree k)))
+has_or first second both n agree = grind (arith, any_or, some_or)
 
 and_or : (x y z : Bool) → ((x || y) && z) ≡ ((x && z) || (y && z))
 and_or true y true = refl
@@ -133,12 +102,7 @@ and_or false y z = refl
 behind_or : (first second both : ℕ → Option (List ℕ)) (n : ℕ) → Agree first second both
     → has_code_behind both n ≡ (has_code_behind first n || has_code_behind second n)
 unfolding has_code_behind
-behind_or first second both n agree =
-    any_or (λ k. is_some (both k) && not (is_complete (207 * 312) k))
-    (λ k. is_some (first k) && not (is_complete (207 * 312) k))
-    (λ k. is_some (second k) && not (is_complete (207 * 312) k)) 0 n
-    (λ k l m. ap (λ x. x && not (is_complete (207 * 312) k)) (sym (some_or (second k) (first k) ∙ ap is_some (agree k)))
-    ∙ and_or (is_some (first k)) (is_some (second k)) (not (is_complete (207 * 312) k)))
+behind_or first second both n agree = grind (arith, any_or, some_or, and_or)
 
 has_none : (codes : ℕ → Option (List ℕ)) (n : ℕ) → ((k : ℕ) → codes k ≡ None) → has_code codes n ≡ false
 unfolding has_code
@@ -146,36 +110,16 @@ has_none codes n none = any_none (λ k. is_some (codes k)) 0 n (λ k l m. ap is_
 
 behind_none : (codes : ℕ → Option (List ℕ)) (n : ℕ) → ((k : ℕ) → codes k ≡ None) → has_code_behind codes n ≡ false
 unfolding has_code_behind
-behind_none codes n none =
-    any_none (λ k. is_some (codes k) && not (is_complete (207 * 312) k)) 0 n
-    (λ k l m. ap (λ o. is_some o && not (is_complete (207 * 312) k)) (none k))
+behind_none codes n none = grind (arith, any_none)
 
 -- ---- fields
 
 pub found_none : (codes : ℕ → Option (List ℕ)) (field next : Field) → ((k : ℕ) → codes k ≡ None)
     → AreFound codes field next field next
-found_none codes field next none = record {
-  known = λ n. ap (λ o. or_else o (get_or (field.known.items ++ next.known.items) n None))
-      (sym (code_byte_none codes n none));
-  long = refl;
-  words = λ k l. or_false (get_or field.words k false)
-      ∙ ap (λ o. get_or field.words k false || is_some o) (sym (none k));
-  more = or_false field.knows_more ∙ ap (λ x. field.knows_more || x) (sym (has_none codes 312 none));
-  rest = record { count = refl; heard = refl; decided = refl; bytes = refl; cost = refl; moved = refl };
-  next_words = refl;
-  next_more = or_false next.knows_more ∙ ap (λ x. next.knows_more || x) (sym (behind_none codes 312 none));
-  next_rest = record { count = refl; heard = refl; decided = refl; bytes = refl; cost = refl; moved = refl };
-}
+found_none codes field next none = grind (arith, code_byte_none, or_false, has_none, behind_none)
 
 kept_twice : (a b c : Field) → IsKept a b → IsKept b c → IsKept a c
-kept_twice a b c h k = record {
-  count = k.count ∙ h.count;
-  heard = k.heard ∙ h.heard;
-  decided = k.decided ∙ h.decided;
-  bytes = k.bytes ∙ h.bytes;
-  cost = k.cost ∙ h.cost;
-  moved = k.moved ∙ h.moved;
-}
+kept_twice a b c h k = grind arith
 
 -- one after the other
 pub found_twice : (first second both : ℕ → Option (List ℕ)) (a b p q x y : Field) → AreFound first a b p q
@@ -188,8 +132,7 @@ found_twice first second both a b p q x y h k agree = record {
   words = λ i l. k.words i (omega (arith, l, h.long)) ∙ ap (λ x. x || is_some (second i)) (h.words i l)
       ∙ sym (or_assoc_bool (get_or a.words i false) (is_some (first i)) (is_some (second i)))
       ∙ ap (λ x. get_or a.words i false || x) (some_or (second i) (first i) ∙ ap is_some (agree i));
-  more = k.more ∙ ap (λ x. x || has_code second 312) h.more
-      ∙ sym (or_assoc_bool a.knows_more (has_code first 312) (has_code second 312))
+  more = k.more ∙ ap (λ x. x || has_code second 312) h.more ∙ sym (grind (arith, or_assoc_bool))
       ∙ ap (λ x. a.knows_more || x) (sym (has_or first second both 312 agree));
   rest = kept_twice a p x h.rest k.rest;
   next_words = k.next_words ∙ h.next_words;
@@ -202,5 +145,4 @@ found_twice first second both a b p q x y h k agree = record {
 -- other corrections that are the same
 pub found_same : (codes same : ℕ → Option (List ℕ)) (a b x y : Field) → AreFound codes a b x y
     → ((k : ℕ) → codes k ≡ same k) → AreFound same a b x y
-found_same codes same a b x y h e =
-    found_twice codes (λ _. None) same a b x y x y h (found_none (λ _. None) x y (λ _. refl)) e
+found_same codes same a b x y h e = grind (arith, found_twice, found_none)

@@ -1,5 +1,5 @@
 -- What rounds over a capture give is the refined capture, field by field.
-use Rattle.std.proofs.Common.{◌≡◌, ℕ, ℤ, zero, suc, ◌+◌, List, [], subst, arith}
+use Rattle.std.proofs.Common.{◌≡◌, ℕ, ℤ, zero, suc, ◌+◌, List, [], arith}
 use Rattle.dtx_acquire.specs.Acquired.{acquired}
 use Rattle.dtx_rounds.specs.Decided.{decided_rows}
 use Rattle.dtx_rounds.specs.Fields.{rows_of}
@@ -19,6 +19,4 @@ pub given_last : (scale r f : ℕ) (symbols : List ℤ) (field : Field)
     → IsGiven scale (heard_of symbols) (acquired scale symbols) [] (r + 1) f field
     → IsRounded scale (heard_of symbols) (refined scale symbols r) f field
 unfolding refined
-given_last scale r f symbols field h =
-    let next : r + 1 ≡ suc r = omega arith in
-    subst (λ n. IsGiven scale (heard_of symbols) (acquired scale symbols) [] n f field) next h
+given_last scale r f symbols field h = grind arith

@@ -1,6 +1,6 @@
 -- The levels and the bytes of a field's groups, one behind the other.
-use Rattle.std.proofs.Common.{◌≡◌, ℕ, ℤ, ◌+◌, ◌*◌, ◌<◌, ◌≤◌, List, [], ◌∷◌, ◌++◌, length, take, drop, get_or, set}
-use Rattle.std.proofs.Common.{refl, sym, ap, ap₂, ◌∙◌, arith}
+use Rattle.std.proofs.Common.{◌≡◌, ℕ, ℤ, ◌+◌, ◌*◌, ◌<◌, List, [], ◌∷◌, ◌++◌, length, take, drop, get_or, set, sym, ap}
+use Rattle.std.proofs.Common.{ap₂, ◌∙◌, arith}
 use Rattle.std.specs.List.{flat_map}
 use Rattle.std.proofs.lemmas.Grind.{flat_map-append}
 use Rattle.std.proofs.lemmas.List.{append-nil, length-append, length-set, length-take-le, take-append-drop, take_at}
@@ -24,12 +24,7 @@ flat_more f segments i l =
 pub levels_put : (n : ℕ) (old new more before : List ℕ) → length old ≡ 3312 → n < 4 → length more ≡ 828
     → new ≡ take (828 * n) old ++ more ++ drop (828 * n + 828) old → take (828 * n) old ≡ before
     → take (828 * (n + 1)) new ≡ before ++ more
-levels_put n old new more before l small m e f =
-    let fits : 828 * n ≤ length old = omega (arith, l, small) in
-    let long : length (take (828 * n) old ++ more) ≡ 828 * (n + 1) = length-append (take (828 * n) old) more
-    ∙ omega (arith, length-take-le (828 * n) old fits, m) in
-    ap (take (828 * (n + 1))) e ∙ take_at (take (828 * n) old ++ more) (drop (828 * n + 828) old) (828 * (n + 1)) long
-    ∙ ap (λ xs. xs ++ more) f
+levels_put n old new more before l small m e f = grind (arith, length-append, length-take-le, take_at)
 
 -- ---- groups
 
@@ -37,8 +32,7 @@ levels_put n old new more before l small m e f =
 pub length_back : (s g : ℕ) (bits levels : List ℕ) → length levels ≡ 3312 * g
     → length (bytes_back s bits levels) ≡ 828 * g
 unfolding bytes_back
-length_back s g bits levels e =
-    length-map-range_with_len (byte_back s bits levels) 0 (828 * level_groups levels)
+length_back s g bits levels e = length-map-range_with_len (byte_back s bits levels) 0 (828 * level_groups levels)
     ∙ ap (λ n. 828 * n) (groups_whole g levels e)
 
 -- the bytes of groups, one behind the other
@@ -68,13 +62,7 @@ bits_none from coders =
 pub written_none : (rows : List (List ℤ)) (from : List ℕ) (groups : List (List ℕ)) → length groups ≡ 78
     → length from ≡ 12 → AreWritten rows from 0 from groups
 unfolding bytes_back level_groups
-written_none rows from groups room coders = record {
-  room = room;
-  coders = coders;
-  long = refl;
-  bytes = refl;
-  precoder_bits = bits_none from coders;
-}
+written_none rows from groups room coders = grind (arith, bits_none)
 
 in_field : (g : ℕ) → g < 78 → group_place 0 g ≡ 4 * g
 unfolding group_place
@@ -104,9 +92,7 @@ written_next rows segments from g bits new group groups h l part bytes precoder 
 }
   where
     levels : levels_of rows (g + 1) ≡ levels_of rows g ++ flat_map sliced_data segments
-    levels =
-        let more : 4 * (g + 1) ≡ 4 * g + 4 = omega arith in
-        ap (λ n. flat_map sliced_data (take n rows)) more
+    levels = ap (λ n. flat_map sliced_data (take n rows)) (omega arith)
         ∙ ap (flat_map sliced_data) (take-add (4 * g) 4 rows ∙ ap (λ xs. take (4 * g) rows ++ xs) part)
         ∙ flat_map-append sliced_data (take (4 * g) rows) segments
 
@@ -114,13 +100,10 @@ written_next rows segments from g bits new group groups h l part bytes precoder 
 pub written_all : (rows : List (List ℤ)) (from : List ℕ) (g : ℕ) (bits : List ℕ) (groups : List (List ℕ))
     → AreWritten rows from g bits groups → length rows ≡ 4 * g
     → take (207 * length rows) (flat_map (λ group. group) groups) ≡ bytes_back 0 from (flat_map sliced_data rows)
-written_all rows from g bits groups h e =
-    ap (take (207 * length rows)) (ap flat (sym (take-append-drop g groups))
+written_all rows from g bits groups h e = ap (take (207 * length rows)) (ap flat (sym (take-append-drop g groups))
     ∙ flat_map-append (λ (xs : List ℕ). xs) (take g groups) (drop g groups))
     ∙ take_at (flat (take g groups)) (flat (drop g groups)) (207 * length rows) long
     ∙ h.bytes ∙ ap (λ xs. bytes_back 0 from (flat_map sliced_data xs)) (take_all (4 * g) rows (omega (arith, e)))
   where
     long : length (flat (take g groups)) ≡ 207 * length rows
-    long =
-        let whole : 828 * g ≡ 207 * length rows = omega (arith, e) in
-        ap length h.bytes ∙ length_back 0 g from (levels_of rows g) h.long ∙ whole
+    long = ap length h.bytes ∙ length_back 0 g from (levels_of rows g) h.long ∙ (omega (arith, e))

@@ -1,9 +1,9 @@
 -- A round over the fields of a run: the round of a field that is held, its words and its bytes, and how it goes from
 -- the first field to each next one and ends with the last.
-use Rattle.std.proofs.Common.{◌≡◌, ℕ, ℤ, ◌+◌, ◌-◌, ◌*◌, ◌/◌, ◌%◌, ◌<◌, ◌&&◌, nat_le, nat_lt, Bool, true, false, cond}
-use Rattle.std.proofs.Common.{Option, None, is_some, List, [], ◌++◌, length, map, get_or, take, drop, refl, sym, ap}
-use Rattle.std.proofs.Common.{ap₂, ◌∙◌, arith, zero, suc, ◌≤◌, ◌⊎◌, inl, inr, min, subst, ◌∷◌}
-use Rattle.std.specs.List.{range_with_len, flat_map}
+use Rattle.std.proofs.Common.{◌≡◌, ℕ, ℤ, ◌+◌, ◌-◌, ◌*◌, ◌/◌, ◌%◌, ◌<◌, ◌&&◌, nat_le, nat_lt, Bool, false, Option, None}
+use Rattle.std.proofs.Common.{is_some, List, [], ◌++◌, length, get_or, take, drop, refl, sym, ap, ap₂, ◌∙◌, arith, zero}
+use Rattle.std.proofs.Common.{suc, ◌≤◌, inr, min, subst, ◌∷◌}
+use Rattle.std.specs.List.{flat_map}
 use Rattle.std.proofs.Math.Seq.{take-add}
 use Rattle.std.proofs.lemmas.Bool.{cases_lt}
 use Rattle.std.proofs.lemmas.List.{length-take-le, take_at, length-drop, take-take, drop-drop, drop_at, get_or-take}
@@ -20,7 +20,7 @@ use Rattle.dtx_rounds.specs.FieldRound.{field_cost, field_rounded}
 use Rattle.dtx_rounds.specs.Fields.{rows_of, AreSegments}
 use Rattle.dtx_rounds.specs.Found.{bytes_of, bytes_there, whole_segments}
 use Rattle.dtx_rounds.specs.Known.{known_byte, known_bytes, known_word}
-use Rattle.dtx_rounds.specs.Rounds.{in_whole_group, paths_in, round_segment, rounded}
+use Rattle.dtx_rounds.specs.Rounds.{in_whole_group, round_segment, rounded}
 use Rattle.dtx_rounds.specs.RunField.{IsInRun, IsSettled, codes_upto, IsRounded, IsTurned, StayKnown, whole_in, Holds}
 use Rattle.dtx_rounds.specs.Written.{IsWritten}
 use Rattle.dtx_rounds.specs.declared.field.Field.{Field}
@@ -38,40 +38,18 @@ use Rattle.dtx_rounds.proofs.RunWords.{AreSought, upto_before, code_byte_same}
 whole_same : (one other : List (List ℤ)) (i : ℕ) → length one ≡ length other
     → in_whole_group one i ≡ in_whole_group other i
 unfolding in_whole_group
-whole_same one other i e =
-    ap (λ n. nat_lt 0 (i % 313) && nat_le (i % 313) n) (same_groups one other (i / 313) e)
+whole_same one other i e = ap (λ n. nat_lt 0 (i % 313) && nat_le (i % 313) n) (same_groups one other (i / 313) e)
 
 segment_twice : (scale : ℕ) (heard given : List (List ℤ)) (known : List (Option ℕ)) (i : ℕ) → AreSegments given
     → i < length given
     → round_segment scale heard known (after scale heard known given) i ≡ round_segment scale heard known given i
 unfolding round_segment
 segment_twice scale heard given known i long l =
-    ap₂ (λ b (r : List ℤ). cond b (take 4 r ++ path) r)
-    (whole_same (after scale heard known given) given i (length-after scale heard given known))
-    (get_or-map-range_with_len (round_segment scale heard known given) 0 (length given) i i [] l (omega arith))
-    ∙ by_test (in_whole_group given i)
-  where
-    row : List ℤ
-    row = get_or given i []
-
-    path : List ℤ
-    path = map (decided scale) (drop 4 (get_or (paths_in scale heard known (i / 313)) (i % 313 - 1) []))
-
-    by_test : (b : Bool) → cond b (take 4 (cond b (take 4 row ++ path) row) ++ path) (cond b (take 4 row ++ path) row)
-        ≡ cond b (take 4 row ++ path) row
-    by_test true =
-        ap (λ (r : List ℤ). r ++ path)
-        (take_at (take 4 row) path 4 (length-take-le 4 row (omega (arith, long i l))))
-    by_test false = refl
+    grind (arith, whole_same, after, length-after, get_or-map-range_with_len, take_at, length-take-le)
 
 pub after_twice : (scale : ℕ) (heard given : List (List ℤ)) (known : List (Option ℕ)) → AreSegments given
     → after scale heard known (after scale heard known given) ≡ after scale heard known given
-after_twice scale heard given known long =
-    ap (λ n. map (round_segment scale heard known (after scale heard known given)) (range_with_len 0 n))
-    (length-after scale heard given known)
-    ∙ map-range_same (round_segment scale heard known (after scale heard known given))
-    (round_segment scale heard known given) 0 (length given)
-    (λ i a l. segment_twice scale heard given known i long (omega arith))
+after_twice scale heard given known long = grind (arith, after, length-after, map-range_same, segment_twice)
 
 rows_long : (given : List (List ℤ)) (f : ℕ) → AreSegments given → AreSegments (rows_of given f)
 rows_long given f long i l =
@@ -83,24 +61,11 @@ rows_long given f long i l =
 -- Whether or not its paths are sought again, the field has the segments of a round over it.
 pub decided_all : (scale : ℕ) (old new : Field) → IsSettled scale old → IsDecided scale old new
     → decided_rows new ≡ field_rounded scale (heard_rows old) old.known.items (decided_rows old)
-decided_all scale old new s d = by_more old.knows_more refl d.decided
-  where
-    by_more : (b : Bool) → old.knows_more ≡ b
-        → decided_rows new
-        ≡ cond b (field_rounded scale (heard_rows old) old.known.items (decided_rows old)) (decided_rows old)
-        → decided_rows new ≡ field_rounded scale (heard_rows old) old.known.items (decided_rows old)
-    by_more true e h = h
-    by_more false e h = h ∙ sym (s.segments e)
+decided_all scale old new s d = grind arith
 
 pub cost_all : (scale : ℕ) (old new : Field) → IsSettled scale old → IsDecided scale old new
     → new.cost ≡ field_cost scale (heard_rows old) old.known.items
-cost_all scale old new s d = by_more old.knows_more refl d.cost
-  where
-    by_more : (b : Bool) → old.knows_more ≡ b
-        → new.cost ≡ cond b (field_cost scale (heard_rows old) old.known.items) old.cost
-        → new.cost ≡ field_cost scale (heard_rows old) old.known.items
-    by_more true e h = h
-    by_more false e h = h ∙ s.cost e
+cost_all scale old new s d = grind arith
 
 heard_decided : (scale : ℕ) (old new : Field) → IsDecided scale old new → heard_rows new ≡ heard_rows old
 heard_decided scale old new d = ap₂ (λ n (rows : List (List ℤ)). take n rows) d.count d.heard
@@ -108,44 +73,37 @@ heard_decided scale old new d = ap₂ (λ n (rows : List (List ℤ)). take n row
 -- The field after its round is a field of the run after the round.
 pub turned_field : (scale f : ℕ) (heard given : List (List ℤ)) (before now : List ℕ) (old new : Field)
     → AreSegments given → IsInRun scale heard given (codes_upto before now (312 * (f + 1))) f old
-    → IsDecided scale old new
-    → IsInRun scale heard (after scale heard (known_bytes now) given) (known_word now) f new
+    → IsDecided scale old new → IsInRun scale heard (after scale heard (known_bytes now) given) (known_word now) f new
 unfolding field_rounded
-turned_field scale f heard given before now old new long h d = record {
-  count = d.count ∙ h.count
-      ∙ sym (ap length rounded ∙ length-after scale (rows_of heard f) (rows_of given f) old.known.items);
-  heard_are = heard_decided scale old new d ∙ h.heard_are;
-  decided = here ∙ sym rounded;
-  known = λ n l. ap (λ (ks : List (Option ℕ)). get_or ks n None) d.known ∙ byte n l
-      ∙ sym (known_byte_same now (64584 * f + n));
-  words = d.words ∙ h.words
-      ∙ map-range_same (λ k. is_some (codes_upto before now (312 * (f + 1)) (312 * f + k)))
-      (λ k. is_some (known_word now (312 * f + k))) 0 312
-      (λ k a l. ap is_some (upto_now before now (312 * (f + 1)) (312 * f + k) (omega (arith, l))));
-  settled = record {
-    segments = λ e.
-        ap₂ (λ hs ks. after scale hs ks (decided_rows new)) (heard_decided scale old new d ∙ h.heard_are) d.known
-        ∙ ap (after scale (rows_of heard f) old.known.items) here
-        ∙ after_twice scale (rows_of heard f) (rows_of given f) old.known.items (rows_long given f long)
-        ∙ sym here;
-    cost = λ e. cost_all scale old new h.settled d
-        ∙ sym (ap₂ (field_cost scale) (heard_decided scale old new d) d.known);
-  };
-}
+turned_field scale f heard given before now old new long h d =
+    let here : decided_rows new ≡ after scale (rows_of heard f) old.known.items (rows_of given f) =
+    decided_all scale old new h.settled d ∙ ap₂ (λ hs gs. after scale hs old.known.items gs) h.heard_are h.decided in
+    let rounded : rows_of (after scale heard (known_bytes now) given) f ≡ after scale
+    (rows_of heard f) old.known.items (rows_of given f) =
+    sym (field_after scale heard given (known_bytes now) old.known.items f
+    (λ n l. byte n l ∙ sym (known_entry now (64584 * f + n)))) in
+    record {
+      count = d.count ∙ h.count
+          ∙ sym (ap length rounded ∙ length-after scale (rows_of heard f) (rows_of given f) old.known.items);
+      heard_are = heard_decided scale old new d ∙ h.heard_are;
+      decided = here ∙ sym rounded;
+      known = λ n l. ap (λ (ks : List (Option ℕ)). get_or ks n None) d.known ∙ byte n l
+          ∙ sym (known_byte_same now (64584 * f + n));
+      words = d.words ∙ h.words ∙ map-range_same (λ k. is_some (codes_upto before now (312 * (f + 1)) (312 * f + k)))
+          (λ k. is_some (known_word now (312 * f + k))) 0 312
+          (λ k a l. ap is_some (upto_now before now (312 * (f + 1)) (312 * f + k) (omega (arith, l))));
+      settled = record {
+        segments = λ e.
+            ap₂ (λ hs ks. after scale hs ks (decided_rows new)) (heard_decided scale old new d ∙ h.heard_are) d.known
+            ∙ ap (after scale (rows_of heard f) old.known.items) here
+            ∙ after_twice scale (rows_of heard f) (rows_of given f) old.known.items (rows_long given f long) ∙ sym here;
+        cost = λ e. cost_all scale old new h.settled d
+            ∙ sym (ap₂ (field_cost scale) (heard_decided scale old new d) d.known);
+      };
+    }
   where
     byte : (n : ℕ) → n < 64584 → get_or old.known.items n None ≡ known_byte now (64584 * f + n)
     byte n l = h.known n l ∙ byte_settled before now f n l
-
-    here : decided_rows new ≡ after scale (rows_of heard f) old.known.items (rows_of given f)
-    here =
-        decided_all scale old new h.settled d
-        ∙ ap₂ (λ hs gs. after scale hs old.known.items gs) h.heard_are h.decided
-
-    rounded : rows_of (after scale heard (known_bytes now) given) f
-        ≡ after scale (rows_of heard f) old.known.items (rows_of given f)
-    rounded =
-        sym (field_after scale heard given (known_bytes now) old.known.items f
-        (λ n l. byte n l ∙ sym (known_entry now (64584 * f + n))))
 
 -- ---- the round of a field
 
@@ -155,32 +113,29 @@ pub rounded_from : (scale f : ℕ) (heard given : List (List ℤ)) (before : Lis
     → AreSought before (bytes_in given) (bytes_there held next) f held.words
     → IsTurned scale held next new new_next → IsRounded scale heard given f new
 unfolding rounded
-rounded_from scale f heard given before held next new new_next long h s t = record {
-  turned = turned;
-  done = t.decided.knows_more;
-  cost = cost_all scale t.between new found.settled t.decided
-      ∙ ap (λ rows. field_cost scale rows t.between.known.items) found.heard_are
-      ∙ field_costs scale heard (known_bytes (bytes_in given)) t.between.known.items f
-      (λ n l. found.known n l ∙ byte_settled before (bytes_in given) f n l
-      ∙ sym (known_entry (bytes_in given) (64584 * f + n)));
-  moved = t.decided.moved ∙ ap₂ rows_moved found.decided turned.decided;
-}
-  where
-    found : IsInRun scale heard given (codes_upto before (bytes_in given) (312 * (f + 1))) f t.between
-    found =
-        found_field scale f heard given before (bytes_in given) (bytes_there held next) held next
-        t.between new_next h s t.words
-
-    turned : IsInRun scale heard (rounded scale heard given) (known_word (bytes_in given)) f new
-    turned = turned_field scale f heard given before (bytes_in given) t.between new long found t.decided
+rounded_from scale f heard given before held next new new_next long h s t =
+    let found : IsInRun scale heard given (codes_upto before (bytes_in given) (312 * (f + 1))) f t.between =
+    found_field scale f heard given before (bytes_in given) (bytes_there held next) held next
+    t.between new_next h s t.words in
+    let turned : IsInRun scale heard (rounded scale heard given) (known_word (bytes_in given)) f new =
+    turned_field scale f heard given before (bytes_in given) t.between new long found t.decided in
+    record {
+      turned = turned;
+      done = t.decided.knows_more;
+      cost = cost_all scale t.between new found.settled t.decided
+          ∙ ap (λ rows. field_cost scale rows t.between.known.items) found.heard_are
+          ∙ field_costs scale heard (known_bytes (bytes_in given)) t.between.known.items f
+          (λ n l. found.known n l ∙ byte_settled before (bytes_in given) f n l
+          ∙ sym (known_entry (bytes_in given) (64584 * f + n)));
+      moved = t.decided.moved ∙ ap₂ rows_moved found.decided turned.decided;
+    }
 
 -- ---- its words
 
 pub sought_from : (scale f segments : ℕ) (heard given : List (List ℤ)) (before there : List ℕ) (held : Field)
     → AreSegments given → StayKnown before (bytes_in given)
     → IsInRun scale heard given (codes_upto before (bytes_in given) (312 * f)) f held
-    → AreThere f (4 * groups_of given) segments
-    → there ≡ take (207 * segments) (drop (64584 * f) (bytes_in given))
+    → AreThere f (4 * groups_of given) segments → there ≡ take (207 * segments) (drop (64584 * f) (bytes_in given))
     → AreSought before (bytes_in given) there f held.words
 sought_from scale f segments heard given before there held long stays h are e = record {
   stays = stays;
@@ -188,8 +143,7 @@ sought_from scale f segments heard given before there held long stays h are e = 
       ∙ length-map-range_with_len (λ k. is_some (codes_upto before (bytes_in given) (312 * f) (312 * f + k))) 0 312;
   words_are = λ k l. ap (λ (ws : List Bool). get_or ws k false) h.words
       ∙ get_or-map-range_with_len (λ k. is_some (codes_upto before (bytes_in given) (312 * f) (312 * f + k))) 0 312 k k
-      false l (omega arith)
-      ∙ ap is_some (upto_before before (bytes_in given) (312 * f) (312 * f + k) (omega arith));
+      false l (omega arith) ∙ ap is_some (upto_before before (bytes_in given) (312 * f) (312 * f + k) (omega arith));
   there_are = λ k l. ap (λ bytes. known_word bytes k) e
       ∙ sym (known_in_field (bytes_in given) f (4 * groups_of given) segments k
       (length-bytes given long ∙ whole (groups_of given)) are l);
@@ -200,16 +154,9 @@ sought_from scale f segments heard given before there held long stays h are e = 
 
 -- ---- which segments are there
 
-pub there_next : (n f : ℕ) → 313 * (f + 1) < n
-    → AreThere f (4 * ((n - (n + 312) / 313) / 4))
+pub there_next : (n f : ℕ) → 313 * (f + 1) < n → AreThere f (4 * ((n - (n + 312) / 313) / 4))
     ((min 313 (n - 313 * f) - 1) / 4 * 4 + (min 313 (n - 313 * (f + 1)) - 1) / 4 * 4)
-there_next n f l = by_place (cases_lt n (313 * (f + 2)))
-  where
-    by_place : (n < 313 * (f + 2)) ⊎ (313 * (f + 2) ≤ n)
-        → AreThere f (4 * ((n - (n + 312) / 313) / 4))
-        ((min 313 (n - 313 * f) - 1) / 4 * 4 + (min 313 (n - 313 * (f + 1)) - 1) / 4 * 4)
-    by_place (inl h) = inr (omega (arith, l, h))
-    by_place (inr h) = inl (omega (arith, h), omega (arith, h))
+there_next n f l = grind (arith, cases_lt)
 
 pub there_last : (n f : ℕ) → 313 * f < n → n ≤ 313 * (f + 1)
     → AreThere f (4 * ((n - (n + 312) / 313) / 4)) ((min 313 (n - 313 * f) - 1) / 4 * 4 + (0 - 1) / 4 * 4)
@@ -224,11 +171,8 @@ drop_one n (x ∷ xs) = refl
 
 front_rows : (n count : ℕ) (rows : List (List ℤ)) → n ≤ count - 1
     → take n (drop 1 (take count rows)) ≡ take n (drop 1 rows)
-front_rows n zero rows l =
-    let none : n ≡ 0 = omega arith in
-    ap (λ m. take m (drop 1 (take 0 rows))) none ∙ sym (ap (λ m. take m (drop 1 rows)) none)
-front_rows n (suc count) rows l =
-    ap (take n) (drop_one count rows) ∙ take-take n count (drop 1 rows) (omega arith)
+front_rows n zero rows l = grind arith
+front_rows n (suc count) rows l = ap (take n) (drop_one count rows) ∙ take-take n count (drop 1 rows) (omega arith)
 
 whole_few : (count : ℕ) → (count - 1) / 4 * 4 ≤ count - 1
 whole_few count = omega arith
@@ -237,31 +181,19 @@ levels_are : (given : List (List ℤ)) (f : ℕ) (field : Field) → field.count
     → decided_rows field ≡ rows_of given f
     → flat_map sliced_data (take (whole_segments field.count) (drop 1 field.decided.items))
     ≡ levels_from given (312 * f) (whole_in given f)
-levels_are given f field count rows =
-    sym (ap (flat_map sliced_data) (front_rows (whole_segments field.count) field.count field.decided.items
-    (whole_few field.count)))
-    ∙ ap₂ (λ n (xs : List (List ℤ)). flat_map sliced_data (take (whole_segments n) (drop 1 xs))) count rows
-    ∙ sym (levels_rows given f (whole_in given f) (omega (
-      arith,
-      whole_few (length (rows_of given f)),
-      length-drop 1 (rows_of given f),
-    )))
+levels_are given f field count rows = grind (arith, front_rows, whole_few, levels_rows, length-drop)
 
-room_in_run : (n f : ℕ) → 313 * f < n
-    → 312 * f + (min 313 (n - 313 * f) - 1) / 4 * 4 ≤ 4 * ((n - (n + 312) / 313) / 4)
+room_in_run : (n f : ℕ) → 313 * f < n → 312 * f + (min 313 (n - 313 * f) - 1) / 4 * 4 ≤ 4 * ((n - (n + 312) / 313) / 4)
 room_in_run n f l = omega (arith, l)
 
 room : (given : List (List ℤ)) (f : ℕ) → 313 * f < length given → 312 * f + whole_in given f ≤ 4 * groups_of given
 unfolding groups_of data_count
-room given f l =
-    subst (λ c. 312 * f + whole_segments c ≤ 4 * ((length given - (length given + 312) / 313) / 4))
-    (sym (length-rows given f)) (room_in_run (length given) f l)
+room given f l = grind (arith, length-rows, room_in_run)
 
 pub written_bytes : (given : List (List ℤ)) (f : ℕ) (field : Field) (last : List ℕ) → AreSegments given
     → 313 * f < length given → field.count ≡ length (rows_of given f)
     → decided_rows field ≡ rows_of given f → precoder_bits_of last ≡ field_bits given f
-    → IsWritten field.count field.decided.items last field.bytes.items
-    → take (207 * whole_in given f) (bytes_of field)
+    → IsWritten field.count field.decided.items last field.bytes.items → take (207 * whole_in given f) (bytes_of field)
     ≡ take (207 * whole_in given f) (drop (64584 * f) (bytes_in given))
 written_bytes given f field last long l count rows before written =
     ap (λ n. take (207 * whole_segments n) (bytes_of field)) (sym count) ∙ written.bytes
@@ -275,29 +207,25 @@ written_bytes given f field last long l count rows before written =
         let segments : n ≡ 4 * g = omega (arith, e) in
         let bytes : 828 * g ≡ 207 * n = omega (arith, e) in
         ap (λ k. bytes_back 0 (field_bits given f) (levels_from given (312 * f) k)) segments
-        ∙ sym (bytes_in_field given f g long (omega (arith, e, m)))
-        ∙ ap (λ k. take k (drop (64584 * f) (bytes_in given))) bytes
+        ∙ sym (grind (arith, bytes_in_field)) ∙ ap (λ k. take k (drop (64584 * f) (bytes_in given))) bytes
 
 -- ---- the first field
 
 same_codes : (scale f : ℕ) (heard given : List (List ℤ)) (codes same : ℕ → Option (List ℕ)) (field : Field)
-    → ((k : ℕ) → codes k ≡ same k) → IsInRun scale heard given codes f field
-    → IsInRun scale heard given same f field
+    → ((k : ℕ) → codes k ≡ same k) → IsInRun scale heard given codes f field → IsInRun scale heard given same f field
 same_codes scale f heard given codes same field e h = record {
   count = h.count;
   heard_are = h.heard_are;
   decided = h.decided;
   known = λ n l. h.known n l ∙ code_byte_same codes same (64584 * f + n) (λ valid. e _);
-  words = h.words
-      ∙ map-range_same (λ k. is_some (codes (312 * f + k))) (λ k. is_some (same (312 * f + k))) 0 312
+  words = h.words ∙ map-range_same (λ k. is_some (codes (312 * f + k))) (λ k. is_some (same (312 * f + k))) 0 312
       (λ k a b. ap is_some (e (312 * f + k)));
   settled = h.settled;
 }
 
 length-first : (given : List (List ℤ)) → length (first_bits given) ≡ 12
 unfolding first_bits precoder_bits_of
-length-first given =
-    length-map-range_with_len (λ e. get_or (sliced_last (get_or given 0 [])) ((e + 4) % 12) 0 / 4) 0 12
+length-first given = length-map-range_with_len (λ e. get_or (sliced_last (get_or given 0 [])) ((e + 4) % 12) 0 / 4) 0 12
 
 bits_first : (given : List (List ℤ)) → first_bits given ≡ field_bits given 0
 unfolding levels_from
@@ -306,8 +234,7 @@ bits_first given = bits_none (first_bits given) (length-first given)
 -- the first segment of a run is that of its first field
 sync_is : (given : List (List ℤ)) (field : Field) → 0 < length given → field.count ≡ length (rows_of given 0)
     → decided_rows field ≡ rows_of given 0 → get_or field.decided.items 0 [] ≡ get_or given 0 []
-sync_is given field some count rows =
-    sym (get_or-take field.count field.decided.items 0 [] (omega (arith, count, length-rows given 0, some)))
+sync_is given field some count rows = sym (grind (arith, get_or-take, length-rows))
     ∙ ap (λ (xs : List (List ℤ)). get_or xs 0 []) rows ∙ row_of given 0 0 (omega arith)
 
 pub held_first : (scale : ℕ) (heard given : List (List ℤ)) (before : List ℕ) (field : Field) → AreSegments given
@@ -323,9 +250,7 @@ held_first scale heard given before field long some h written = record {
 }
   where
     here : precoder_bits_of (sliced_last (get_or field.decided.items 0 [])) ≡ field_bits given 0
-    here =
-        ap (λ s. precoder_bits_of (sliced_last s)) (sync_is given field some h.count h.decided)
-        ∙ bits_first given
+    here = ap (λ s. precoder_bits_of (sliced_last s)) (sync_is given field some h.count h.decided) ∙ bits_first given
 
 -- ---- from a field to the next one
 
@@ -341,10 +266,9 @@ last_is : (given : List (List ℤ)) (f : ℕ) (field : Field) → 313 * (f + 1) 
     → get_or field.decided.items 312 [] ≡ data_at given (312 * f + 311)
 unfolding data_at
 last_is given f field more count rows =
-    let there : 313 * f + 312 ≡ 312 * f + 311 + (312 * f + 311) / 312 + 1 = omega arith in
     sym (get_or-take field.count field.decided.items 312 [] (omega (arith, count, length-rows given f, more)))
     ∙ ap (λ (xs : List (List ℤ)). get_or xs 312 []) rows ∙ row_of given f 312 (omega arith)
-    ∙ ap (λ n. get_or given n []) there
+    ∙ ap (λ n. get_or given n []) (omega arith)
 
 full_before : (n f : ℕ) → 313 * (f + 1) < n → 312 * (f + 1) ≤ 4 * ((n - (n + 312) / 313) / 4)
 full_before n f l = omega (arith, l)
@@ -355,8 +279,7 @@ bits_behind : (given : List (List ℤ)) (f : ℕ) (field : Field) → AreSegment
     → precoder_bits_of (sliced_last (get_or field.decided.items 312 [])) ≡ field_bits given (f + 1)
 unfolding groups_of data_count
 bits_behind given f field long more count rows =
-    ap (λ s. precoder_bits_of (sliced_last s)) (last_is given f field more count rows)
-    ∙ last_bits given f long (full_before (length given) f more)
+    rw (last_is given f field more count rows, last_bits given f long (full_before (length given) f more))
 
 -- the bytes of both fields
 join : (own behind all : List ℕ) (f n : ℕ) → length own ≡ 64584
@@ -369,10 +292,8 @@ join own behind all f n long e h =
     ap (λ m. take m (own ++ behind)) parts ∙ take-add (207 * 312) (207 * n) (own ++ behind)
     ∙ ap₂ (λ (xs ys : List ℕ). xs ++ ys)
     (take_at own behind (207 * 312) long ∙ sym (take_all (207 * 312) own (omega (arith, long))) ∙ e)
-    (ap (take (207 * n)) (drop_at own behind (207 * 312) long) ∙ h
-    ∙ ap (take (207 * n)) (sym (drop-drop (207 * 312) (64584 * f) all ∙ ap (λ m. drop m all) next)))
-    ∙ sym (ap (λ m. take m (drop (64584 * f) all)) parts
-    ∙ take-add (207 * 312) (207 * n) (drop (64584 * f) all))
+    (rw (drop_at own behind (207 * 312) long, h, ← next, ← drop-drop (207 * 312) (64584 * f) all))
+    ∙ sym (ap (λ m. take m (drop (64584 * f) all)) parts ∙ take-add (207 * 312) (207 * n) (drop (64584 * f) all))
 
 pub held_next : (scale f : ℕ) (heard given : List (List ℤ)) (before : List ℕ) (held field new new_next : Field)
     → AreSegments given → StayKnown before (bytes_in given) → 313 * (f + 1) < length given
@@ -382,48 +303,36 @@ pub held_next : (scale f : ℕ) (heard given : List (List ℤ)) (before : List �
     → IsTurned scale held field new new_next
     → IsRounded scale heard given f new × Holds scale heard given before (f + 1) new_next
 unfolding bytes_there groups_of data_count
-held_next scale f heard given before held field new new_next long stays more h k full written t = (
-  rounded_from scale f heard given before held field new new_next long h.held sought t,
-  record {
-    held = found_behind scale f heard given before (bytes_in given) (bytes_there held field) held field t.between
-        new_next k sought t.words;
-    bytes = ap (λ v. take (207 * whole_in given (f + 1)) (flat_map (λ (group : List ℕ). group) v.items))
-        t.words.next_rest.bytes ∙ next;
-  },
-)
-  where
-    all : whole_in given f ≡ 312
-    all = whole_before given f more
-
-    next : take (207 * whole_in given (f + 1)) (bytes_of field)
-        ≡ take (207 * whole_in given (f + 1)) (drop (64584 * (f + 1)) (bytes_in given))
-    next =
-        written_bytes given (f + 1) field (sliced_last (get_or held.decided.items 312 [])) long more k.count
-        k.decided (bits_behind given f held long more h.held.count h.held.decided) written
-
-    there_are : bytes_there held field
-        ≡ take (207 * (whole_in given f + whole_in given (f + 1))) (drop (64584 * f) (bytes_in given))
-    there_are =
-        ap₂ (λ m n. take (207 * (whole_segments m + whole_segments n)) (bytes_of held ++ bytes_of field))
-        h.held.count k.count
-        ∙ ap (λ m. take (207 * (m + whole_in given (f + 1))) (bytes_of held ++ bytes_of field)) all
-        ∙ join (bytes_of held) (bytes_of field) (bytes_in given) f (whole_in given (f + 1)) full
-        (ap (λ m. take (207 * m) (bytes_of held)) (sym all) ∙ h.bytes
-        ∙ ap (λ m. take (207 * m) (drop (64584 * f) (bytes_in given))) all) next
-        ∙ ap (λ m. take (207 * (m + whole_in given (f + 1))) (drop (64584 * f) (bytes_in given))) (sym all)
-
-    segments : AreThere f (4 * groups_of given) (whole_in given f + whole_in given (f + 1))
-    segments =
-        subst (λ m. AreThere f (4 * groups_of given) (whole_segments m + whole_in given (f + 1)))
-        (sym (length-rows given f))
-        (subst (λ m. AreThere f (4 * groups_of given)
-        (whole_segments (min 313 (length given - 313 * f)) + whole_segments m))
-        (sym (length-rows given (f + 1))) (there_next (length given) f more))
-
-    sought : AreSought before (bytes_in given) (bytes_there held field) f held.words
-    sought =
-        sought_from scale f (whole_in given f + whole_in given (f + 1)) heard given before (bytes_there held field)
-        held long stays h.held segments there_are
+held_next scale f heard given before held field new new_next long stays more h k full written t =
+    let all : whole_in given f ≡ 312 = whole_before given f more in
+    let next : take (207 * whole_in given (f + 1)) (bytes_of field) ≡ take (207 * whole_in given (f + 1))
+    (drop (64584 * (f + 1)) (bytes_in given)) =
+    written_bytes given (f + 1) field (sliced_last (get_or held.decided.items 312 [])) long more k.count
+    k.decided (bits_behind given f held long more h.held.count h.held.decided) written in
+    let there_are : bytes_there held field ≡ take (207 * (whole_in given f + whole_in given (f + 1)))
+    (drop (64584 * f) (bytes_in given)) =
+    ap₂ (λ m n. take (207 * (whole_segments m + whole_segments n)) (bytes_of held ++ bytes_of field))
+    h.held.count k.count ∙ ap (λ m. take (207 * (m + whole_in given (f + 1))) (bytes_of held ++ bytes_of field)) all
+    ∙ join (bytes_of held) (bytes_of field) (bytes_in given) f (whole_in given (f + 1)) full
+    (ap (λ m. take (207 * m) (bytes_of held)) (sym all) ∙ h.bytes
+    ∙ ap (λ m. take (207 * m) (drop (64584 * f) (bytes_in given))) all) next
+    ∙ ap (λ m. take (207 * (m + whole_in given (f + 1))) (drop (64584 * f) (bytes_in given))) (sym all) in
+    let segments : AreThere f (4 * groups_of given) (whole_in given f + whole_in given (f + 1)) =
+    subst (λ m. AreThere f (4 * groups_of given) (whole_segments m + whole_in given (f + 1)))
+    (sym (length-rows given f)) (subst (λ m. AreThere f (4 * groups_of given)
+    (whole_segments (min 313 (length given - 313 * f)) + whole_segments m))
+    (sym (length-rows given (f + 1))) (there_next (length given) f more)) in
+    let sought : AreSought before (bytes_in given) (bytes_there held field) f held.words =
+    sought_from scale f (whole_in given f + whole_in given (f + 1)) heard given before (bytes_there held field)
+    held long stays h.held segments there_are in (
+      rounded_from scale f heard given before held field new new_next long h.held sought t,
+      record {
+        held = found_behind scale f heard given before (bytes_in given) (bytes_there held field) held field t.between
+            new_next k sought t.words;
+        bytes = ap (λ v. take (207 * whole_in given (f + 1)) (flat_map (λ (group : List ℕ). group) v.items))
+            t.words.next_rest.bytes ∙ next;
+      },
+    )
 
 -- ---- the last field
 
@@ -442,16 +351,8 @@ held_last scale f heard given before held field new new_next long stays some mos
 
     there_are : bytes_there held field
         ≡ take (207 * (whole_in given f + whole_segments 0)) (drop (64584 * f) (bytes_in given))
-    there_are =
-        let alone : whole_in given f + 0 ≡ whole_in given f = omega arith in
-        ap₂ (λ m n. take (207 * (whole_segments m + whole_segments n)) (bytes_of held ++ bytes_of field))
-        h.held.count none
-        ∙ take-append-le (207 * (whole_in given f + 0)) (bytes_of held) (bytes_of field)
-        (omega (arith, full, few (whole_in given f) refl))
-        ∙ ap (λ m. take (207 * m) (bytes_of held)) alone ∙ h.bytes
-        ∙ ap (λ m. take (207 * m) (drop (64584 * f) (bytes_in given))) (sym alone)
+    there_are = grind (arith, take-append-le)
 
     segments : AreThere f (4 * groups_of given) (whole_in given f + whole_segments 0)
-    segments =
-        subst (λ m. AreThere f (4 * groups_of given) (whole_segments m + whole_segments 0))
+    segments = subst (λ m. AreThere f (4 * groups_of given) (whole_segments m + whole_segments 0))
         (sym (length-rows given f)) (there_last (length given) f some most)

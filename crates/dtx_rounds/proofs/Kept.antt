@@ -1,8 +1,7 @@
 -- What is known stays known in the next round: its bytes are pinned, but for the first X2 of a coder in a field, which
 -- is a bit of byte 0 of a word. So the pins grow more from round to round, and the least paths cost more.
 use Rattle.std.proofs.Common.{◌≡◌, ℕ, ℤ, suc, ◌+◌, ◌-◌, ◌*◌, ◌/◌, ◌%◌, ◌^◌, ◌<◌, ◌≤◌, ◌==◌, Bool, true, false, cond}
-use Rattle.std.proofs.Common.{Option, Some, None, option_map, unwrap_or, List, [], ◌∷◌, length, map, get_or, sym, ap}
-use Rattle.std.proofs.Common.{ap₂, ◌∙◌, subst, arith, nat_le, refl}
+use Rattle.std.proofs.Common.{Option, Some, None, List, [], ◌∷◌, length, map, get_or, sym, ap, ap₂, ◌∙◌, subst, arith}
 use Rattle.std.specs.List.{range_with_len}
 use Rattle.std.proofs.lemmas.List.{ext_get_or, get_or-map}
 use Rattle.std.proofs.lemmas.List.FromFn.{get_or-map-range_with_len, length-map-range_with_len}
@@ -21,14 +20,13 @@ use Rattle.dtx_soft.specs.Softened.{least_cost}
 use Rattle.dtx_soft.proofs.LeastPathLemmas.{least_path_found}
 use Rattle.dtx_soft.proofs.SoftenedLemmas.{length-coder}
 use Rattle.dtx_receiver.specs.Bytes.{bytes_in, first_bits, groups_of, levels_in}
-use Rattle.dtx_receiver.specs.Packets.{is_complete}
 use Rattle.dtx_pins.specs.LeastPinned.{least_pinned_levels, least_pinned_start}
 use Rattle.dtx_pins.specs.PinnedField.{pinned_coder_cost}
 use Rattle.dtx_pins.specs.Pins.{TellsPair, coder_pins, pin_at, x1_told, x2_told, Agrees}
 use Rattle.dtx_pins.proofs.LeastPinnedLemmas.{fewer_pins_cost_less, least_pinned_found}
 use Rattle.dtx_rounds.specs.Fields.{AreSegments}
 use Rattle.dtx_rounds.specs.Known.{known_bytes, known_word, known_byte, known_code_byte}
-use Rattle.dtx_rounds.specs.Pins.{field_pins, known_pin, byte_at_step}
+use Rattle.dtx_rounds.specs.Pins.{field_pins, known_pin}
 use Rattle.dtx_rounds.specs.Rounds.{groups_in, pins_in, coder_cost}
 use Rattle.dtx_rounds.specs.RunField.{StayKnown}
 use Rattle.dtx_rounds.proofs.KnownLemmas.{IsKnown, known_at, known_correction, known_from, known_parts, known_place}
@@ -46,24 +44,15 @@ part b i = b / 4 ^ (3 - i) % 4
 pub pin_is : (known : List (Option ℕ)) (n i b : ℕ) → i < 4 → get_or known n None ≡ Some b
     → known_pin known (coder_of 0 n) (4 * (n / 12) + i) ≡ part b i
 unfolding known_pin pair_in
-pin_is known n i b l e =
-    ap (λ m. unwrap_or (option_map (λ byte. byte / 4 ^ (3 - (4 * (n / 12) + i) % 276 % 4) % 4) (get_or known m None)) 4)
-    (step_byte n i l)
-    ∙ ap (λ o. unwrap_or (option_map (λ byte. byte / 4 ^ (3 - (4 * (n / 12) + i) % 276 % 4) % 4) o) 4) e
-    ∙ ap (part b) (step_pair n i l)
+pin_is known n i b l e = grind (arith, step_byte, step_pair)
 
 -- the pin of coder e at step t of a field
 pub field_pin : (heard : List (List ℤ)) (known : List (Option ℕ)) (f e t : ℕ) → e < 12
     → t < 69 * length (groups_in heard f)
     → pin_at (coder_pins (pins_in heard known f) e) t ≡ known_pin known e (21528 * f + t)
 unfolding coder_pins field_pins
-field_pin heard known f e t l m =
-    get_or-map (λ entry. pin_at entry e) (pins_in heard known f) t [] 4 (omega (
-      arith,
-      m,
-      length-map-range_with_len row 0 (69 * length (groups_in heard f)),
-    ))
-    ∙ ap (λ (entry : List ℕ). get_or entry e 4)
+field_pin heard known f e t l m = get_or-map (λ entry. pin_at entry e) (pins_in heard known f) t [] 4
+    (grind (arith, length-map-range_with_len, row)) ∙ ap (λ (entry : List ℕ). get_or entry e 4)
     (get_or-map-range_with_len row 0 (69 * length (groups_in heard f)) t t [] m (omega arith))
     ∙ get_or-map-range_with_len (λ e. known_pin known e (21528 * f + t)) 0 12 e e 4 l (omega arith)
   where
@@ -93,15 +82,11 @@ record IsRound (scale : ℕ) (heard given : List (List ℤ)) : Type 0 where
 -- the pair that the levels tell at a step that isn't the first of its field
 pair_told : (scale : ℕ) (heard given : List (List ℤ)) (known : List (Option ℕ)) (paths : HasPaths scale heard known)
     (bits : List ℕ) (t e p : ℕ) (l : e < 12) → IsRound scale heard given → t < 276 * groups_of given → 0 < t % 21528
-    → known_pin known e t ≡ p → p < 4
-    → pair_back 0 bits (levels_in (after scale heard known given)) t e ≡ p
+    → known_pin known e t ≡ p → p < 4 → pair_back 0 bits (levels_in (after scale heard known given)) t e ≡ p
 unfolding pair_back x1_told x2_told
-pair_told scale heard given known paths bits t e p l is m some pin small =
-    ap₂ (λ (x y : ℕ). pair_from x y)
-    (ap (λ u. precoder_bit 0 bits levels u e) next ∙ precoder_bit_next 0 (t - 1) e bits levels
-    ∙ ap (λ x. x / 4) before)
-    now
-    ∙ told
+pair_told scale heard given known paths bits t e p l is m some pin small = ap₂ (λ (x y : ℕ). pair_from x y)
+    (ap (λ u. precoder_bit 0 bits levels u e) next ∙ precoder_bit_next 0 (t - 1) e bits levels ∙ ap (λ x. x / 4) before)
+    now ∙ told
   where
     levels : List ℕ
     levels = levels_in (after scale heard known given)
@@ -135,35 +120,27 @@ pair_told scale heard given known paths bits t e p l is m some pin small =
         omega (arith, room_here)
 
     pinned : pin_at (coder_pins (pins_in heard known (t / 21528)) e) (t % 21528) ≡ p
-    pinned =
-        let whole : 21528 * (t / 21528) + t % 21528 ≡ t = omega arith in
-        field_pin heard known (t / 21528) e (t % 21528) l step_there ∙ ap (known_pin known e) whole ∙ pin
+    pinned = field_pin heard known (t / 21528) e (t % 21528) l step_there ∙ ap (known_pin known e) (omega arith) ∙ pin
 
     tells : TellsPair p own (t % 21528)
     tells =
         let one = (paths (t / 21528)).coders e l in
-        subst (λ q. TellsPair q own (t % 21528)) pinned
-        (one.least.agrees (t % 21528)
+        subst (λ q. TellsPair q own (t % 21528)) pinned (one.least.agrees (t % 21528)
         (omega (arith, step_there, one.least.long, length-coder (groups_in heard (t / 21528)) e))
         (omega (arith, pinned, small)))
 
     told : pair_from (get_or own (t % 21528 - 1) 0 / 4) (get_or own (t % 21528) 0) ≡ p
-    told =
-        ap₂ (λ (x y : ℕ). 2 * x + y) (tells.x2 some) tells.x1 ∙ pair_halves p
+    told = ap₂ (λ (x y : ℕ). 2 * x + y) (tells.x2 some) tells.x1 ∙ pair_halves p
 
 byte_kept : (scale : ℕ) (heard given : List (List ℤ)) (known : List (Option ℕ)) (paths : HasPaths scale heard known)
     (bits : List ℕ) (n b : ℕ) → IsRound scale heard given → n < 828 * groups_of given
     → 0 < 4 * (n / 12) % 21528 → get_or known n None ≡ Some b → b < 256
     → byte_back 0 bits (levels_in (after scale heard known given)) n ≡ b
 unfolding byte_back
-byte_kept scale heard given known paths bits n b is l some e small =
-    ap₂ (λ (x y : ℕ). x + y)
-    (ap₂ (λ (x y : ℕ). x + y)
+byte_kept scale heard given known paths bits n b is l some e small = ap₂ (λ (x y : ℕ). x + y) (ap₂ (λ (x y : ℕ). x + y)
     (ap₂ (λ (x y : ℕ). 64 * x + 16 * y)
     (ap (λ t. pair_back 0 bits levels t (coder_of 0 n)) first ∙ pair 0 (omega arith)) (pair 1 (omega arith)))
-    (ap (λ x. 4 * x) (pair 2 (omega arith))))
-    (pair 3 (omega arith))
-    ∙ pairs_join b small
+    (ap (λ x. 4 * x) (pair 2 (omega arith)))) (pair 3 (omega arith)) ∙ pairs_join b small
   where
     levels : List ℕ
     levels = levels_in (after scale heard known given)
@@ -175,10 +152,7 @@ byte_kept scale heard given known paths bits n b is l some e small =
     part_small i = omega arith
 
     pair : (i : ℕ) → i < 4 → pair_back 0 bits levels (4 * (n / 12) + i) (coder_of 0 n) ≡ part b i
-    pair i m =
-        pair_told scale heard given known paths bits (4 * (n / 12) + i) (coder_of 0 n) (part b i)
-        (coder_of_small 0 n) is (step_within n i (groups_of given) m l) (later_in_field n i m some)
-        (pin_is known n i b m e) (part_small i)
+    pair i m = grind (arith, pair_told, coder_of_small, step_within, later_in_field, pin_is)
 
 -- ---- words
 
@@ -187,8 +161,7 @@ few_apart : (xs ys : List ℕ) → length xs ≡ length ys
 few_apart [] ys e h = omega arith
 few_apart (x ∷ xs) [] e h = absurd (omega arith)
 few_apart (x ∷ xs) (y ∷ ys) e h =
-    let rest : xs ≡ ys =
-    ext_get_or 0 xs ys (omega (arith, e)) (λ j l. h (suc j) (omega arith) (omega arith)) in
+    let rest : xs ≡ ys = ext_get_or 0 xs ys (omega (arith, e)) (λ j l. h (suc j) (omega arith) (omega arith)) in
     let none : distance xs ys ≡ 0 = ap (distance xs) (sym rest) ∙ distance_self xs in
     omega (arith, none, first (x == y))
   where
@@ -201,12 +174,8 @@ pub word_kept : (scale : ℕ) (heard given : List (List ℤ)) (k : ℕ) (code : 
     → HasPaths scale heard (known_bytes (bytes_in given)) → 0 < scale → scale < 19 → AreSegments given
     → length heard ≡ length given → known_word (bytes_in given) k ≡ Some code
     → known_word (bytes_in (after scale heard (known_bytes (bytes_in given)) given)) k ≡ Some code
-word_kept scale heard given k code paths some most long same e =
-    known_from new k code (record {
-      complete = subst (λ n. is_complete n k ≡ true) (sym lengths) was.complete;
-      corrected = correction_only 207 187 (word_at 207 52 4 new k) code (omega arith) (length-word 207 52 4 new k)
-          (record { codeword = correct.codeword; near = omega (arith, near) });
-    })
+word_kept scale heard given k code paths some most long same e = known_from new k code
+    (grind (arith, lengths, was, correction_only, new, length-word, correct, near))
   where
     known : List (Option ℕ)
     known = known_bytes (bytes_in given)
@@ -244,8 +213,7 @@ word_kept scale heard given k code paths some most long same e =
         (later k j a b) (known_at (bytes_in given) k j code e b) (byte_at code j correct.codeword.bytes)
 
     near : distance (word_at 207 52 4 new k) code ≤ 1
-    near =
-        few_apart (word_at 207 52 4 new k) code (length-word 207 52 4 new k ∙ sym correct.codeword.long)
+    near = few_apart (word_at 207 52 4 new k) code (length-word 207 52 4 new k ∙ sym correct.codeword.long)
         (λ j a b. (let l : j < 207 = omega (arith, b, length-word 207 52 4 new k) in
         get_or-word 207 52 4 new k j l ∙ byte j a l))
 
@@ -255,23 +223,11 @@ none_some x e = cc
 code_byte_stays : (old new : List ℕ) (p b : ℕ) → StayKnown old new → known_code_byte old p ≡ Some b
     → known_code_byte new p ≡ Some b
 unfolding known_code_byte
-code_byte_stays old new p b stays e = by_word (known_word old (p / 207)) refl e
-  where
-    by_word : (o : Option (List ℕ)) → known_word old (p / 207) ≡ o
-        → option_map (λ (code : List ℕ). get_or code (p % 207) 0) o ≡ Some b
-        → option_map (λ (code : List ℕ). get_or code (p % 207) 0) (known_word new (p / 207)) ≡ Some b
-    by_word None h f = absurd (none_some b f)
-    by_word (Some code) h f =
-        ap (option_map (λ (code : List ℕ). get_or code (p % 207) 0)) (stays (p / 207) code h) ∙ f
+code_byte_stays old new p b stays e = grind (arith, none_some)
 
 byte_stays : (old new : List ℕ) (n b : ℕ) → StayKnown old new → known_byte old n ≡ Some b → known_byte new n ≡ Some b
 unfolding known_byte
-byte_stays old new n b stays e = by_test (nat_le (208 * (n % 52)) n) e
-  where
-    by_test : (t : Bool) → cond t (known_code_byte old (n - 208 * (n % 52))) None ≡ Some b
-        → cond t (known_code_byte new (n - 208 * (n % 52))) None ≡ Some b
-    by_test true f = code_byte_stays old new (n - 208 * (n % 52)) b stays f
-    by_test false f = absurd (none_some b f)
+byte_stays old new n b stays e = grind (arith, code_byte_stays, none_some)
 
 entry_stays : (old new : List ℕ) (n b : ℕ) → StayKnown old new → get_or (known_bytes old) n None ≡ Some b
     → get_or (known_bytes new) n None ≡ Some b
@@ -280,41 +236,17 @@ entry_stays old new n b stays e = known_entry new n ∙ byte_stays old new n b s
 pin_stays : (old new : List ℕ) (e t : ℕ) → StayKnown old new
     → known_pin (known_bytes old) e t < 4 → known_pin (known_bytes new) e t ≡ known_pin (known_bytes old) e t
 unfolding known_pin
-pin_stays old new e t stays l = by_entry (get_or (known_bytes old) (byte_at_step e t) None) refl l
-  where
-    by_entry : (o : Option ℕ) → get_or (known_bytes old) (byte_at_step e t) None ≡ o
-        → unwrap_or (option_map (λ byte. pair_in byte (t % 276)) o) 4 < 4
-        → unwrap_or (option_map (λ byte. pair_in byte (t % 276)) (get_or (known_bytes new) (byte_at_step e t) None)) 4
-        ≡ unwrap_or (option_map (λ byte. pair_in byte (t % 276))
-        (get_or (known_bytes old) (byte_at_step e t) None)) 4
-    by_entry None h m = absurd (omega (arith, m))
-    by_entry (Some b) h m =
-        ap (λ o. unwrap_or (option_map (λ byte. pair_in byte (t % 276)) o) 4)
-        (entry_stays old new (byte_at_step e t) b stays h ∙ sym h)
+pin_stays old new e t stays l = grind (arith, entry_stays)
 
 -- what agrees with more pins agrees with fewer
 agrees_with_fewer : (heard : List (List ℤ)) (old new : List ℕ) (f e : ℕ) (levels : List ℕ) → StayKnown old new
     → e < 12 → length levels ≡ length (coder_symbols (groups_in heard f) e)
     → Agrees (coder_pins (pins_in heard (known_bytes new) f) e) levels
     → Agrees (coder_pins (pins_in heard (known_bytes old) f) e) levels
-agrees_with_fewer heard old new f e levels stays l long h t m p =
-    subst (λ q. TellsPair q levels t) there (h t m (omega (arith, there, p)))
-  where
-    room : t < 69 * length (groups_in heard f)
-    room = omega (arith, m, long, length-coder (groups_in heard f) e)
-
-    small : known_pin (known_bytes old) e (21528 * f + t) < 4
-    small = omega (arith, p, field_pin heard (known_bytes old) f e t l room)
-
-    there : pin_at (coder_pins (pins_in heard (known_bytes new) f) e) t
-        ≡ pin_at (coder_pins (pins_in heard (known_bytes old) f) e) t
-    there =
-        field_pin heard (known_bytes new) f e t l room ∙ pin_stays old new e (21528 * f + t) stays small
-        ∙ sym (field_pin heard (known_bytes old) f e t l room)
+agrees_with_fewer heard old new f e levels stays l long h t m p = grind (arith, length-coder, field_pin, pin_stays)
 
 pub more_known_costs_more : (scale : ℕ) (heard : List (List ℤ)) (old new : List ℕ) (f e : ℕ) → StayKnown old new
-    → e < 12
-    → coder_cost scale heard (known_bytes old) f e ≤ coder_cost scale heard (known_bytes new) f e
+    → e < 12 → coder_cost scale heard (known_bytes old) f e ≤ coder_cost scale heard (known_bytes new) f e
 unfolding coder_cost pinned_coder_cost
 more_known_costs_more scale heard old new f e stays l =
     fewer_pins_cost_less scale (coder_pins (pins_in heard (known_bytes new) f) e)
@@ -327,7 +259,6 @@ pub known_costs_more : (scale : ℕ) (heard : List (List ℤ)) (known : List (Op
 unfolding coder_cost pinned_coder_cost least_cost
 known_costs_more scale heard known f e =
     let symbols : List ℤ = coder_symbols (groups_in heard f) e in
-    let pins : List ℕ = coder_pins (pins_in heard known f) e in
-    let found = least_pinned_found scale pins symbols in
-    (least_path_found scale symbols).least (least_pinned_start scale pins symbols)
-    (least_pinned_levels scale pins symbols) found.begins found.long found.path
+    let found = least_pinned_found scale (coder_pins (pins_in heard known f) e) symbols in
+    (least_path_found scale symbols).least (least_pinned_start scale (coder_pins (pins_in heard known f) e) symbols)
+    (least_pinned_levels scale (coder_pins (pins_in heard known f) e) symbols) found.begins found.long found.path

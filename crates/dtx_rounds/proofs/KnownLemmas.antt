@@ -1,6 +1,6 @@
 -- Which words and bytes of a run are known.
-use Rattle.std.proofs.Common.{◌≡◌, ℕ, ◌+◌, ◌-◌, ◌*◌, ◌/◌, ◌%◌, ◌<◌, ◌≤◌, ◌↔◌, nat_le, Bool, true, false, cond, Option}
-use Rattle.std.proofs.Common.{Some, None, option_map, List, length, get_or, take, refl, sym, ap, ap₂, ◌∙◌, arith}
+use Rattle.std.proofs.Common.{◌≡◌, ℕ, ◌+◌, ◌-◌, ◌*◌, ◌%◌, ◌<◌, ◌≤◌, ◌↔◌, Bool, true, Some, None, List, length, get_or}
+use Rattle.std.proofs.Common.{take, refl, ap, ◌∙◌, arith}
 use Rattle.std.proofs.lemmas.Bool.{cond-false, cond-true, false_from_ne_true, le-leb}
 use Rattle.std.proofs.lemmas.List.{get_or-take, length-take-le}
 use Rattle.std.proofs.lemmas.List.FromFn.{get_or-map-range_with_len}
@@ -20,21 +20,11 @@ pub record IsKnown (bytes : List ℕ) (k : ℕ) (code : List ℕ) : Type 0 where
 
 pub known_parts : (bytes : List ℕ) (k : ℕ) (code : List ℕ) → known_word bytes k ≡ Some code → IsKnown bytes k code
 unfolding known_word
-known_parts bytes k code e = by_test (is_complete (length bytes) k) refl e
-  where
-    none_some : ◌≡◌ {A = Option (List ℕ)} None (Some code) → ⊥
-    none_some e = cc
-
-    by_test : (b : Bool) → is_complete (length bytes) k ≡ b
-        → cond b (correction 207 187 (word_at 207 52 4 bytes k)) None ≡ Some code → IsKnown bytes k code
-    by_test true c h = record { complete = c; corrected = h }
-    by_test false c h = absurd (none_some h)
+known_parts bytes k code e = grind arith
 
 pub known_from : (bytes : List ℕ) (k : ℕ) (code : List ℕ) → IsKnown bytes k code → known_word bytes k ≡ Some code
 unfolding known_word
-known_from bytes k code h =
-    cond-true (is_complete (length bytes) k) (correction 207 187 (word_at 207 52 4 bytes k)) None h.complete
-    ∙ h.corrected
+known_from bytes k code h = grind (arith, cond-true)
 
 pub known_correction : (bytes : List ℕ) (k : ℕ) (code : List ℕ) → IsKnown bytes k code
     → IsCorrection 207 187 (word_at 207 52 4 bytes k) code
@@ -52,17 +42,12 @@ known_there bytes n k l c =
   where
     same : (j : ℕ) → j < 207 → get_or (word_at 207 52 4 (take n bytes) k) j 0
         ≡ get_or bytes (codeword_byte_place 52 4 (207 * k + j)) 0
-    same j m =
-        get_or-word 207 52 4 (take n bytes) k j m
-        ∙ get_or-take n bytes (codeword_byte_place 52 4 (207 * k + j)) 0 (c j m)
+    same j m = grind (arith, get_or-word, get_or-take)
 
 pub known_absent : (bytes : List ℕ) (n k : ℕ) → n ≤ length bytes → (IsComplete 207 52 4 n k → ⊥)
     → known_word (take n bytes) k ≡ None
 unfolding known_word
-known_absent bytes n k l none =
-    cond-false (is_complete (length (take n bytes)) k) (correction 207 187 (word_at 207 52 4 (take n bytes) k)) None
-    (ap (λ m. is_complete m k) (length-take-le n bytes l)
-    ∙ false_from_ne_true (is_complete n k) (λ t. none ((complete_told n k).0 t)))
+known_absent bytes n k l none = grind (arith, cond-false, length-take-le, false_from_ne_true, complete_told)
 
 -- all bytes of a known word are there
 pub known_place : (bytes : List ℕ) (k j : ℕ) (code : List ℕ) → IsKnown bytes k code → j < 207
@@ -71,13 +56,7 @@ known_place bytes k j code h l = (complete_told (length bytes) k).0 h.complete j
 
 -- a test that tells which words are complete
 pub complete_by : (b : Bool) (n k : ℕ) → ((b ≡ true) ↔ IsComplete 207 52 4 n k) → b ≡ is_complete n k
-complete_by b n k h =
-    same b (is_complete n k) (λ t. (complete_told n k).1 (h.0 t)) (λ t. h.1 ((complete_told n k).0 t))
-  where
-    same : (x y : Bool) → (x ≡ true → y ≡ true) → (y ≡ true → x ≡ true) → x ≡ y
-    same true y there back = sym (there refl)
-    same false true there back = back refl
-    same false false there back = refl
+complete_by b n k h = grind (arith, complete_told)
 
 -- ---- bytes
 
@@ -92,20 +71,12 @@ byte_source n p e = (omega arith, omega arith)
 pub known_byte_is : (bytes : List ℕ) (n p : ℕ) → n ≡ codeword_byte_place 52 4 p
     → known_byte bytes n ≡ known_code_byte bytes p
 unfolding known_byte
-known_byte_is bytes n p e =
-    let there = byte_source n p e in
-    cond-true (nat_le (208 * (n % 52)) n) (known_code_byte bytes (n - 208 * (n % 52))) None
-    (le-leb (208 * (n % 52)) n there.0)
-    ∙ ap (known_code_byte bytes) there.1
+known_byte_is bytes n p e = grind (arith, byte_source, cond-true, le-leb)
 
 pub known_code_is : (bytes : List ℕ) (k j : ℕ) (code : List ℕ) → known_word bytes k ≡ Some code → j < 207
     → known_code_byte bytes (207 * k + j) ≡ Some (get_or code j 0)
 unfolding known_code_byte
-known_code_is bytes k j code h l =
-    let at : (207 * k + j) % 207 ≡ j = omega arith in
-    let word : (207 * k + j) / 207 ≡ k = omega arith in
-    ap₂ (λ (i w : ℕ). option_map (λ (code : List ℕ). get_or code i 0) (known_word bytes w)) at word
-    ∙ ap (option_map (λ (code : List ℕ). get_or code j 0)) h
+known_code_is bytes k j code h l = grind arith
 
 -- byte j of a known word is known at its place
 pub known_at : (bytes : List ℕ) (k j : ℕ) (code : List ℕ) → known_word bytes k ≡ Some code → j < 207

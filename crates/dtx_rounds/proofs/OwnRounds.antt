@@ -1,8 +1,8 @@
 -- Where no byte of a known word is put right, the pins are pairs of the paths themselves. So these stay the least ones,
 -- and rounds over a capture leave it as it is.
-use Rattle.std.proofs.Common.{◌≡◌, ℕ, ℤ, pos, zero, suc, ◌+◌, ◌-◌, ◌*◌, ◌/◌, ◌%◌, ◌<◌, ◌≤◌, ◌⊎◌, inl, inr, min, nat_le}
-use Rattle.std.proofs.Common.{nat_lt, Bool, true, false, cond, Option, Some, None, option_map, unwrap_or, List, []}
-use Rattle.std.proofs.Common.{◌++◌, length, map, take, drop, get_or, refl, sym, ap, ap₂, ◌∙◌, subst, arith}
+use Rattle.std.proofs.Common.{◌≡◌, ℕ, ℤ, pos, ◌+◌, ◌-◌, ◌*◌, ◌/◌, ◌%◌, ◌<◌, ◌⊎◌, inl, inr, min, nat_lt, true, false}
+use Rattle.std.proofs.Common.{cond, Option, Some, List, [], ◌++◌, length, map, take, drop, get_or, refl, sym, ap, ap₂}
+use Rattle.std.proofs.Common.{◌∙◌, subst, arith}
 use Rattle.std.proofs.lemmas.Bool.{cases_Bool, cases_lt, cond-false, cond-true, leb-true}
 use Rattle.std.proofs.lemmas.List.{get_or-append_right, get_or-drop, get_or-map, get_or-take, get_or_past, length-drop}
 use Rattle.std.proofs.lemmas.List.{length-take, take_at}
@@ -13,7 +13,7 @@ use Rattle.dtx_laws.proofs.WordsLemmas.{one_correction, own_correction}
 use Rattle.dtx_outer.specs.Inner.{word_at}
 use Rattle.dtx_outer.proofs.WordsLemmas.{get_or-word, length-word}
 use Rattle.dtx_frame.specs.Segments.{segment_sync}
-use Rattle.dtx_trellis.specs.Pairs.{coder_at, pair_in}
+use Rattle.dtx_trellis.specs.Pairs.{pair_in}
 use Rattle.dtx_slice.specs.Unrolled.{byte_back, coder_of, pair_back, pair_from, precoder_bit, symbol_place}
 use Rattle.dtx_slice.proofs.PlacesLemmas.{precoder_bit_next}
 use Rattle.dtx_soft.specs.Coders.{coder_symbols, data_symbol}
@@ -69,23 +69,17 @@ pub group_row : (segments : List (List ℤ)) (f i : ℕ) → i < length (groups_
     → get_or (groups_in segments f) i [] ≡ get_or segments (313 * f + 1 + i) []
 unfolding groups_behind in_groups
 group_row segments f i l =
+    let rest : List (List ℤ) = take 312 (drop (313 * f + 1) segments) in
+    let long : length rest ≡ min 312 (length segments - (313 * f + 1)) =
+    length-take 312 (drop (313 * f + 1) segments) ∙ ap (min 312) (length-drop (313 * f + 1) segments) in
     get_or-take (4 * (length rest / 4)) rest i [] (omega (arith, l, length-groups segments f, long))
     ∙ get_or-take 312 (drop (313 * f + 1) segments) i [] (omega (arith, l, length-groups segments f))
     ∙ get_or-drop (313 * f + 1) segments i []
-  where
-    rest : List (List ℤ)
-    rest = take 312 (drop (313 * f + 1) segments)
-
-    long : length rest ≡ min 312 (length segments - (313 * f + 1))
-    long = length-take 312 (drop (313 * f + 1) segments) ∙ ap (min 312) (length-drop (313 * f + 1) segments)
 
 softened_row : (scale : ℕ) (rows : List (List ℤ)) (i : ℕ) → i < length rows
     → length (get_or (softened scale rows) i []) ≡ 832
 unfolding softened softened_segment
-softened_row scale rows i l =
-    ap length (get_or-map-range_with_len (softened_segment scale rows) 0 (length rows) i i [] l (omega arith))
-    ∙ length-map-range_with_len (λ k. cond (nat_lt k 4) (get_or (get_or rows i []) k (pos 0))
-    (softened_symbol scale rows (828 * i + (k - 4)))) 0 832
+softened_row scale rows i l = grind (arith, get_or-map-range_with_len, length-map-range_with_len)
 
 sync_long : length segment_sync ≡ 4
 unfolding segment_sync
@@ -95,9 +89,8 @@ restored_symbol : (scale : ℕ) (row : List ℤ) (k : ℕ) → length row ≡ 83
     → get_or (restored_data scale row) (4 + k) (pos 0) ≡ decided scale (get_or row (4 + k) (pos 0))
 unfolding restored_data
 restored_symbol scale row k long l =
-    let back : 4 + k - 4 ≡ k = omega arith in
     get_or-append_right segment_sync (map (decided scale) (drop 4 row)) 4 (4 + k) (pos 0) sync_long (omega arith)
-    ∙ ap (λ i. get_or (map (decided scale) (drop 4 row)) i (pos 0)) back
+    ∙ ap (λ i. get_or (map (decided scale) (drop 4 row)) i (pos 0)) (omega arith)
     ∙ get_or-map (decided scale) (drop 4 row) k (pos 0) (pos 0) (omega (arith, l, long, length-drop 4 row))
     ∙ ap (decided scale) (get_or-drop 4 row k (pos 0))
 
@@ -114,9 +107,7 @@ own_symbol scale rows e t l m =
     let is = softened_found scale rows in
     let one = is.coders e l in
     let many : length one.levels ≡ 69 * length rows = one.least.long ∙ length-coder rows e in
-    sym (get_or-map-range_with_len (λ t. data_symbol (softened scale rows) (symbol_place 0 t e)) 0
-    (69 * length (softened scale rows)) t t (pos 0) (omega (arith, m, is.long)) (omega arith))
-    ∙ ap (λ (xs : List ℤ). get_or xs t (pos 0)) one.symbols
+    sym (grind (arith, get_or-map-range_with_len)) ∙ ap (λ (xs : List ℤ). get_or xs t (pos 0)) one.symbols
     ∙ get_or-map (symbol_at scale) one.levels t 0 (pos 0) (omega (arith, m, many))
     ∙ ap (λ (xs : List ℕ). symbol_at scale (get_or xs t 0))
     (sym (least_levels_are scale (coder_symbols rows e) one.start one.levels one.least))
@@ -126,6 +117,26 @@ own_level : (scale : ℕ) (heard given : List (List ℤ)) (t e : ℕ) → e < 12
     → get_or (levels_in given) (symbol_place 0 t e) 0 ≡ get_or (own_levels scale heard (t / 21528) e) (t % 21528) 0
 unfolding own_levels data_at
 own_level scale heard given t e l is m =
+    let found : IsLeast scale (coder_symbols (groups_in heard (t / 21528)) e)
+    (least_start scale (coder_symbols (groups_in heard (t / 21528)) e))
+    (least_levels scale (coder_symbols (groups_in heard (t / 21528)) e)) =
+    least_path_found scale (coder_symbols (groups_in heard (t / 21528)) e) in
+    let path : List ℤ = get_or (softened scale (groups_in heard (t / 21528))) (t / 69 % 312) [] in
+    let row : t / 69 < 4 * groups_of given = omega arith in
+    let given_room : t / 69 % 312 < length (groups_in given (t / 21528)) =
+    subst (λ f. t / 69 % 312 < length (groups_in given f)) (field_of_segment t) (place_in_groups given (t / 69) row) in
+    let room : t / 69 % 312 < length (groups_in heard (t / 21528)) =
+    omega (arith, given_room, same_groups heard given (t / 21528) is.same) in
+    let step : t % 21528 < 69 * length (groups_in heard (t / 21528)) =
+    step_there t (length (groups_in heard (t / 21528))) room in
+    let full : length path ≡ 832 = softened_row scale (groups_in heard (t / 21528)) (t / 69 % 312) room in
+    let data_row : get_or given (t / 69 + t / 69 / 312 + 1) [] ≡ restored_data scale path =
+    ap (λ i. get_or given i []) (sym (row_place (t / 69)))
+    ∙ ap (λ f. get_or given (313 * f + 1 + t / 69 % 312) []) (field_of_segment t)
+    ∙ sym (group_row given (t / 21528) (t / 69 % 312) given_room)
+    ∙ ap (λ (rows : List (List ℤ)). get_or rows (t / 69 % 312) []) (is.groups (t / 21528))
+    ∙ get_or-map (restored_data scale) (softened scale (groups_in heard (t / 21528))) (t / 69 % 312) [] []
+    (omega (arith, room, (softened_found scale (groups_in heard (t / 21528))).long)) in
     level_by scale given (softened scale (groups_in heard (t / 21528)))
     (least_levels scale (coder_symbols (groups_in heard (t / 21528)) e)) t e is.some is.most is.long m
     (ap (λ (row : List ℤ). get_or row (4 + symbol_place 0 t e % 828) (pos 0)) data_row
@@ -134,39 +145,6 @@ own_level scale heard given t e l is m =
     (path_small (least_levels scale (coder_symbols (groups_in heard (t / 21528)) e))
     (least_start scale (coder_symbols (groups_in heard (t / 21528)) e)) (t % 21528) found.path
     (omega (arith, step, found.long, length-coder (groups_in heard (t / 21528)) e)))
-  where
-    found : IsLeast scale (coder_symbols (groups_in heard (t / 21528)) e)
-        (least_start scale (coder_symbols (groups_in heard (t / 21528)) e))
-        (least_levels scale (coder_symbols (groups_in heard (t / 21528)) e))
-    found = least_path_found scale (coder_symbols (groups_in heard (t / 21528)) e)
-
-    path : List ℤ
-    path = get_or (softened scale (groups_in heard (t / 21528))) (t / 69 % 312) []
-
-    row : t / 69 < 4 * groups_of given
-    row = omega arith
-
-    given_room : t / 69 % 312 < length (groups_in given (t / 21528))
-    given_room =
-        subst (λ f. t / 69 % 312 < length (groups_in given f)) (field_of_segment t) (place_in_groups given (t / 69) row)
-
-    room : t / 69 % 312 < length (groups_in heard (t / 21528))
-    room = omega (arith, given_room, same_groups heard given (t / 21528) is.same)
-
-    step : t % 21528 < 69 * length (groups_in heard (t / 21528))
-    step = step_there t (length (groups_in heard (t / 21528))) room
-
-    full : length path ≡ 832
-    full = softened_row scale (groups_in heard (t / 21528)) (t / 69 % 312) room
-
-    data_row : get_or given (t / 69 + t / 69 / 312 + 1) [] ≡ restored_data scale path
-    data_row =
-        ap (λ i. get_or given i []) (sym (row_place (t / 69)))
-        ∙ ap (λ f. get_or given (313 * f + 1 + t / 69 % 312) []) (field_of_segment t)
-        ∙ sym (group_row given (t / 21528) (t / 69 % 312) given_room)
-        ∙ ap (λ (rows : List (List ℤ)). get_or rows (t / 69 % 312) []) (is.groups (t / 21528))
-        ∙ get_or-map (restored_data scale) (softened scale (groups_in heard (t / 21528))) (t / 69 % 312) [] []
-        (omega (arith, room, (softened_found scale (groups_in heard (t / 21528))).long))
 
 -- ---- bytes
 
@@ -175,90 +153,26 @@ pair_small x y = omega arith
 
 back_small : (bits levels : List ℕ) (t e : ℕ) → pair_back 0 bits levels t e < 4
 unfolding pair_back
-back_small bits levels t e =
-    pair_small (precoder_bit 0 bits levels t e) (get_or levels (symbol_place 0 t e) 0)
+back_small bits levels t e = pair_small (precoder_bit 0 bits levels t e) (get_or levels (symbol_place 0 t e) 0)
 
 -- a byte's parts are the pairs that it was made of
 byte_part : (bits levels : List ℕ) (n i : ℕ) → i < 4
     → part (byte_back 0 bits levels n) i ≡ pair_back 0 bits levels (4 * (n / 12) + i) (coder_of 0 n)
 unfolding byte_back
-byte_part bits levels n i l = by_part i l
-  where
-    pair : ℕ → ℕ
-    pair t = pair_back 0 bits levels t (coder_of 0 n)
-
-    small : (t : ℕ) → pair t < 4
-    small t = back_small bits levels t (coder_of 0 n)
-
-    r : ℕ
-    r = 4 * (n / 12)
-
-    four : (a b c d : ℕ) → a < 4 → b < 4 → c < 4 → d < 4
-        → ((64 * a + 16 * b + 4 * c + d) / 64 % 4 ≡ a) × ((64 * a + 16 * b + 4 * c + d) / 16 % 4 ≡ b)
-        × ((64 * a + 16 * b + 4 * c + d) / 4 % 4 ≡ c) × ((64 * a + 16 * b + 4 * c + d) / 1 % 4 ≡ d)
-    four a b c d k l m n = (omega arith, omega arith, omega arith, omega arith)
-
-    all : ((64 * pair r + 16 * pair (r + 1) + 4 * pair (r + 2) + pair (r + 3)) / 64 % 4 ≡ pair r)
-        × ((64 * pair r + 16 * pair (r + 1) + 4 * pair (r + 2) + pair (r + 3)) / 16 % 4 ≡ pair (r + 1))
-        × ((64 * pair r + 16 * pair (r + 1) + 4 * pair (r + 2) + pair (r + 3)) / 4 % 4 ≡ pair (r + 2))
-        × ((64 * pair r + 16 * pair (r + 1) + 4 * pair (r + 2) + pair (r + 3)) / 1 % 4 ≡ pair (r + 3))
-    all =
-        four (pair r) (pair (r + 1)) (pair (r + 2)) (pair (r + 3)) (small r) (small (r + 1)) (small (r + 2))
-        (small (r + 3))
-
-    by_part : (i : ℕ) → i < 4
-        → part (64 * pair r + 16 * pair (r + 1) + 4 * pair (r + 2) + pair (r + 3)) i ≡ pair (r + i)
-    by_part zero m = (let same : r ≡ r + 0 = omega arith in all.0 ∙ ap pair same)
-    by_part (suc zero) m = all.1
-    by_part (suc (suc zero)) m = all.2
-    by_part (suc (suc (suc zero))) m = all.3
-    by_part (suc (suc (suc (suc i)))) m = absurd (omega arith)
+byte_part bits levels n i l = grind (arith, back_small, part)
 
 -- the byte at a coder's step
 step_part : (bits levels : List ℕ) (t e : ℕ) → e < 12
     → pair_in (byte_back 0 bits levels (byte_at_step e t)) (t % 276) ≡ pair_back 0 bits levels t e
 unfolding pair_in
-step_part bits levels t e l =
-    let part_is : t % 276 % 4 ≡ t % 4 = omega arith in
-    ap (part (byte_back 0 bits levels (byte_at_step e t))) part_is
-    ∙ byte_part bits levels (byte_at_step e t) (t % 4) (omega arith)
-    ∙ ap₂ (λ (x y : ℕ). pair_back 0 bits levels x y) (byte_step t e) (byte_coder t e l)
+step_part bits levels t e l = grind (arith, part, byte_part, byte_step, byte_coder)
 
 -- ---- what is known
 
 -- a known byte is that of the run
 own_byte : (bytes : List ℕ) (n b : ℕ) → NoneIsPutRight bytes → known_byte bytes n ≡ Some b → b ≡ get_or bytes n 0
 unfolding known_byte known_code_byte
-own_byte bytes n b own e = by_test (nat_le (208 * (n % 52)) n) refl e
-  where
-    p : ℕ
-    p = n - 208 * (n % 52)
-
-    some_same : (x y : ℕ) → ◌≡◌ {A = Option ℕ} (Some x) (Some y) → x ≡ y
-    some_same x y e = cc
-
-    place : 208 * (n % 52) ≤ n → 207 * (p / 207) + p % 207 + 52 * 4 * ((207 * (p / 207) + p % 207) % 52) ≡ n
-    place l = (let whole : 207 * (p / 207) + p % 207 ≡ p = omega arith in
-        ap (λ x. x + 52 * 4 * (x % 52)) whole ∙ back n l)
-      where
-        back : (n : ℕ) → 208 * (n % 52) ≤ n
-            → n - 208 * (n % 52) + 52 * 4 * ((n - 208 * (n % 52)) % 52) ≡ n
-        back n l = omega arith
-
-    by_word : (o : Option (List ℕ)) → 208 * (n % 52) ≤ n → known_word bytes (p / 207) ≡ o
-        → option_map (λ (code : List ℕ). get_or code (p % 207) 0) o ≡ Some b → b ≡ get_or bytes n 0
-    by_word None l h f = absurd (none_some b f)
-    by_word (Some code) l h f =
-        sym (some_same (get_or code (p % 207) 0) b f)
-        ∙ ap (λ (xs : List ℕ). get_or xs (p % 207) 0) (own (p / 207) code h)
-        ∙ get_or-word 207 52 4 bytes (p / 207) (p % 207) (omega arith)
-        ∙ ap (λ i. get_or bytes i 0) (place l)
-
-    by_test : (t : Bool) → nat_le (208 * (n % 52)) n ≡ t
-        → cond t (option_map (λ (code : List ℕ). get_or code (p % 207) 0) (known_word bytes (p / 207))) None ≡ Some b
-        → b ≡ get_or bytes n 0
-    by_test true t f = by_word (known_word bytes (p / 207)) (leb-true (208 * (n % 52)) n t) refl f
-    by_test false t f = absurd (none_some b f)
+own_byte bytes n b own e = grind (arith, none_some, get_or-word, leb-true)
 
 -- the byte of a pin
 record HasByte (bytes : List ℕ) (e t : ℕ) : Type 0 where
@@ -269,23 +183,7 @@ record HasByte (bytes : List ℕ) (e t : ℕ) : Type 0 where
 
 has_byte : (bytes : List ℕ) (e t : ℕ) → known_pin (known_bytes bytes) e t < 4 → HasByte bytes e t
 unfolding known_pin known_bytes
-has_byte bytes e t l = by_entry (get_or (known_bytes bytes) n None) refl (cases_lt n (length bytes)) l
-  where
-    n : ℕ
-    n = byte_at_step e t
-
-    by_entry : (o : Option ℕ) → get_or (known_bytes bytes) n None ≡ o → (n < length bytes) ⊎ (length bytes ≤ n)
-        → unwrap_or (option_map (λ byte. pair_in byte (t % 276)) o) 4 < 4 → HasByte bytes e t
-    by_entry None h place m = absurd (omega (arith, m))
-    by_entry (Some b) h (inl place) m = record {
-      byte = b;
-      there = place;
-      known = sym (get_or-map-range_with_len (known_byte bytes) 0 (length bytes) n n None place (omega arith)) ∙ h;
-      pair = ap (λ o. unwrap_or (option_map (λ byte. pair_in byte (t % 276)) o) 4) h;
-    }
-    by_entry (Some b) h (inr place) m =
-        absurd (none_some b
-        (sym (get_or_past (known_bytes bytes) n None (omega (arith, place, length-known bytes))) ∙ h))
+has_byte bytes e t l = grind (arith, cases_lt, get_or-map-range_with_len, none_some, get_or_past, length-known)
 
 -- ---- the paths stay the least ones
 
@@ -320,9 +218,7 @@ own_agrees scale heard given f e l is own t m p = record {
     room = omega (arith, m, found.long, length-coder (groups_in heard f) e)
 
     step : T < 276 * groups_of given
-    step =
-        steps_within (length given) f t
-        (omega (arith, room, same_groups heard given f is.same, length-groups given f))
+    step = steps_within (length given) f t (grind (arith, room, same_groups, length-groups))
 
     pin_there : pin_at (coder_pins (pins_in heard (known_bytes (bytes_in given)) f) e) t
         ≡ known_pin (known_bytes (bytes_in given)) e T
@@ -333,8 +229,7 @@ own_agrees scale heard given f e l is own t m p = record {
 
     pair_is : pin_at (coder_pins (pins_in heard (known_bytes (bytes_in given)) f) e) t
         ≡ pair_from (precoder_bit 0 bits (levels_in given) T e) (get_or (levels_in given) (symbol_place 0 T e) 0)
-    pair_is =
-        pin_there ∙ known.pair
+    pair_is = pin_there ∙ known.pair
         ∙ ap (λ b. pair_in b (T % 276)) (own_byte (bytes_in given) (byte_at_step e T) known.byte own known.known
         ∙ byte_in given (byte_at_step e T) is.long (omega (arith, known.there, length-bytes given is.long)))
         ∙ step_part bits (levels_in given) T e l
@@ -354,22 +249,23 @@ own_agrees scale heard given f e l is own t m p = record {
         let next : T ≡ T - 1 + 1 = omega (arith, some) in
         let field : (T - 1) / 21528 ≡ f = omega (arith, few, some) in
         let place : (T - 1) % 21528 ≡ t - 1 = omega (arith, few, some) in
-        ap (λ u. precoder_bit 0 bits (levels_in given) u e) next
-        ∙ precoder_bit_next 0 (T - 1) e bits (levels_in given)
+        ap (λ u. precoder_bit 0 bits (levels_in given) u e) next ∙ precoder_bit_next 0 (T - 1) e bits (levels_in given)
         ∙ ap (λ x. x / 4) (own_level scale heard given (T - 1) e l is (omega (arith, step))
         ∙ ap₂ (λ (g u : ℕ). get_or (least_levels scale (coder_symbols (groups_in heard g) e)) u 0) field place)
 
 own_least : (scale : ℕ) (heard given : List (List ℤ)) (f e : ℕ) → e < 12 → AreDecided scale heard given
     → NoneIsPutRight (bytes_in given)
     → least_pinned_levels scale (coder_pins (pins_in heard (known_bytes (bytes_in given)) f) e)
-    (coder_symbols (groups_in heard f) e)
-    ≡ least_levels scale (coder_symbols (groups_in heard f) e)
+    (coder_symbols (groups_in heard f) e) ≡ least_levels scale (coder_symbols (groups_in heard f) e)
 unfolding own_levels
 own_least scale heard given f e l is own =
+    let found : IsLeast scale (coder_symbols (groups_in heard f) e)
+    (least_start scale (coder_symbols (groups_in heard f) e))
+    (least_levels scale (coder_symbols (groups_in heard f) e)) =
+    least_path_found scale (coder_symbols (groups_in heard f) e) in
     ap (drop 1) (least_pinned_is scale (coder_pins (pins_in heard (known_bytes (bytes_in given)) f) e)
     (coder_symbols (groups_in heard f) e) (least_start scale (coder_symbols (groups_in heard f) e))
-    (least_levels scale (coder_symbols (groups_in heard f) e))
-    (record {
+    (least_levels scale (coder_symbols (groups_in heard f) e)) (record {
       begins = found.begins;
       long = found.long;
       path = found.path;
@@ -377,38 +273,27 @@ own_least scale heard given f e l is own =
       least = λ state others a b c d. found.least state others a b c;
       first = λ state others a b c d. found.first state others a b c;
     }))
-  where
-    found : IsLeast scale (coder_symbols (groups_in heard f) e)
-        (least_start scale (coder_symbols (groups_in heard f) e))
-        (least_levels scale (coder_symbols (groups_in heard f) e))
-    found = least_path_found scale (coder_symbols (groups_in heard f) e)
 
 -- where the least path of each coder under its pins is its least path
 pub as_softened : (scale : ℕ) (pins : List (List ℕ)) (rows : List (List ℤ))
     → ((e : ℕ) → e < 12 → least_pinned_levels scale (coder_pins pins e) (coder_symbols rows e)
-    ≡ least_levels scale (coder_symbols rows e))
-    → pinned scale pins rows ≡ softened scale rows
+    ≡ least_levels scale (coder_symbols rows e)) → pinned scale pins rows ≡ softened scale rows
 unfolding pinned pinned_segment pinned_symbol pinned_symbols softened softened_segment softened_symbol least_symbols
 as_softened scale pins rows same =
     map-range_same (pinned_segment scale pins rows) (softened_segment scale rows) 0 (length rows)
     (λ i a b. map-range_same (λ k. cond (nat_lt k 4) (get_or (get_or rows i []) k (pos 0))
-    (pinned_symbol scale pins rows (828 * i + (k - 4))))
-    (λ k. cond (nat_lt k 4) (get_or (get_or rows i []) k (pos 0))
+    (pinned_symbol scale pins rows (828 * i + (k - 4)))) (λ k. cond (nat_lt k 4) (get_or (get_or rows i []) k (pos 0))
     (softened_symbol scale rows (828 * i + (k - 4)))) 0 832
     (λ k c d. ap (cond (nat_lt k 4) (get_or (get_or rows i []) k (pos 0))) (symbol (828 * i + (k - 4)))))
   where
     symbol : (d : ℕ) → pinned_symbol scale pins rows d ≡ softened_symbol scale rows d
-    symbol d =
-        ap (λ (levels : List ℕ). get_or (map (symbol_at scale) levels) (d / 12) (pos 0))
-        (same (coder_at 0 d) (coder_small d))
+    symbol d = grind (arith, coder_small)
 
 own_paths : (scale : ℕ) (heard given : List (List ℤ)) (f : ℕ) → AreDecided scale heard given
     → NoneIsPutRight (bytes_in given)
     → paths_in scale heard (known_bytes (bytes_in given)) f ≡ softened scale (groups_in heard f)
 unfolding paths_in
-own_paths scale heard given f is own =
-    as_softened scale (pins_in heard (known_bytes (bytes_in given)) f) (groups_in heard f)
-    (λ e l. own_least scale heard given f e l is own)
+own_paths scale heard given f is own = grind (arith, as_softened, own_least)
 
 -- ---- the round
 
@@ -417,8 +302,7 @@ whole_place i l = omega arith
 
 -- a segment that was decided by the paths of the round
 pub decided_segment : (scale : ℕ) (heard given : List (List ℤ)) (known : List (Option ℕ)) (i : ℕ)
-    → AreDecided scale heard given
-    → paths_in scale heard known (i / 313) ≡ softened scale (groups_in heard (i / 313))
+    → AreDecided scale heard given → paths_in scale heard known (i / 313) ≡ softened scale (groups_in heard (i / 313))
     → round_segment scale heard known given i ≡ get_or given i []
 unfolding round_segment restored_data in_whole_group
 decided_segment scale heard given known i is paths = by_test (cases_Bool (in_whole_group given i))
@@ -431,34 +315,22 @@ decided_segment scale heard given known i is paths = by_test (cases_Bool (in_who
 
     row_is : in_whole_group given i ≡ true → get_or given i [] ≡ segment_sync ++ map (decided scale) (drop 4 path)
     row_is e =
-        let room = in_whole_room given i e in
-        let some : 0 < i % 313 = in_whole_some given i e in
-        ap (λ j. get_or given j []) (sym (whole_place i some))
-        ∙ sym (group_row given f (i % 313 - 1) room)
-        ∙ ap (λ (rows : List (List ℤ)). get_or rows (i % 313 - 1) []) (is.groups f)
-        ∙ get_or-map (restored_data scale) (softened scale (groups_in heard f)) (i % 313 - 1) [] []
-        (omega (arith, room, same_groups heard given f is.same, (softened_found scale (groups_in heard f)).long))
+        grind (arith, in_whole_room, in_whole_some, whole_place, group_row, get_or-map, same_groups, softened_found)
 
-    by_test : (in_whole_group given i ≡ true) ⊎ (in_whole_group given i ≡ false)
-        → cond (in_whole_group given i)
+    by_test : (in_whole_group given i ≡ true) ⊎ (in_whole_group given i ≡ false) → cond (in_whole_group given i)
         (take 4 (get_or given i []) ++ map (decided scale)
-        (drop 4 (get_or (paths_in scale heard known f) (i % 313 - 1) [])))
-        (get_or given i [])
-        ≡ get_or given i []
-    by_test (inl e) =
-        cond-true (in_whole_group given i) _ (get_or given i []) e
+        (drop 4 (get_or (paths_in scale heard known f) (i % 313 - 1) []))) (get_or given i []) ≡ get_or given i []
+    by_test (inl e) = cond-true (in_whole_group given i) _ (get_or given i []) e
         ∙ ap₂ (λ (xs : List ℤ) (rows : List (List ℤ)). take 4 xs ++ map (decided scale)
         (drop 4 (get_or rows (i % 313 - 1) []))) (row_is e) paths
         ∙ ap (λ (xs : List ℤ). xs ++ map (decided scale) (drop 4 path))
-        (take_at segment_sync (map (decided scale) (drop 4 path)) 4 sync_long)
-        ∙ sym (row_is e)
+        (take_at segment_sync (map (decided scale) (drop 4 path)) 4 sync_long) ∙ sym (row_is e)
     by_test (inr e) = cond-false (in_whole_group given i) _ (get_or given i []) e
 
 own_segment : (scale : ℕ) (heard given : List (List ℤ)) (i : ℕ) → AreDecided scale heard given
     → NoneIsPutRight (bytes_in given)
     → round_segment scale heard (known_bytes (bytes_in given)) given i ≡ get_or given i []
-own_segment scale heard given i is own =
-    decided_segment scale heard given (known_bytes (bytes_in given)) i is (own_paths scale heard given (i / 313) is own)
+own_segment scale heard given i is own = grind (arith, decided_segment, own_paths)
 
 -- where nothing is put right, nothing moves
 pub own_round : (scale : ℕ) (heard given : List (List ℤ)) → AreDecided scale heard given
@@ -480,17 +352,9 @@ own_code bytes k code words e =
 
 pub are_decided : (scale : ℕ) (symbols : List ℤ) → AreFields (all_fields symbols) → 0 < scale → scale < 19
     → AreDecided scale (heard_of symbols) (acquired scale symbols)
-are_decided scale symbols fields some most = record {
-  some = some;
-  most = most;
-  long = long_acquired scale symbols;
-  same = length-heard scale symbols;
-  groups = λ f. acquired_groups scale f symbols fields;
-}
+are_decided scale symbols fields some most = grind (arith, long_acquired, length-heard, acquired_groups)
 
 pub still : (scale r : ℕ) (symbols : List ℤ) → AreFields (all_fields symbols) → 0 < scale → scale < 19
     → NoneIsPutRight (bytes_in (acquired scale symbols)) → refined scale symbols r ≡ acquired scale symbols
 unfolding refined
-still scale r symbols fields some most own =
-    rounds_stay scale r (heard_of symbols) (acquired scale symbols)
-    (own_round scale (heard_of symbols) (acquired scale symbols) (are_decided scale symbols fields some most) own)
+still scale r symbols fields some most own = grind (arith, rounds_stay, own_round, are_decided)

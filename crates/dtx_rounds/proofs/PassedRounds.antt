@@ -1,11 +1,11 @@
 -- A field passes through rounds, one behind the other: how they begin, how many of them hold a field, and what they
 -- made of a run.
-use Rattle.std.proofs.Common.{◌≡◌, ℕ, ℤ, suc, ◌+◌, ◌-◌, ◌<◌, ◌≤◌, ◌⊎◌, inl, inr, nat_le, Bool, true, false, cond, List}
-use Rattle.std.proofs.Common.{[], ◌∷◌, length, refl, sym, ap, ◌∙◌, arith, ◌*◌, subst, ◌++◌}
+use Rattle.std.proofs.Common.{◌≡◌, ℕ, ℤ, suc, ◌+◌, ◌-◌, ◌<◌, ◌≤◌, nat_le, Bool, true, false, cond, List, [], ◌∷◌}
+use Rattle.std.proofs.Common.{length, refl, sym, ap, ◌∙◌, arith, ◌*◌, subst, ◌++◌}
 use Rattle.std.proofs.lemmas.Bool.{cases_lt, cond-false, cond-true, le-leb, lt-leb, true≢false}
 use Rattle.dtx_receiver.specs.Bytes.{bytes_in}
 use Rattle.dtx_rounds.specs.Fields.{AreSegments}
-use Rattle.dtx_rounds.specs.Known.{known_bytes, known_word}
+use Rattle.dtx_rounds.specs.Known.{known_word}
 use Rattle.dtx_rounds.specs.MadeRounds.{AreFinished, AreMade, AreTaken}
 use Rattle.dtx_rounds.specs.Rounds.{rounded, rounds_of}
 use Rattle.dtx_rounds.specs.RunField.{Holds, IsInRun, IsRounded}
@@ -30,8 +30,7 @@ few_on (round ∷ rounds) = by_round round.on (few_on rounds)
 pub given_and_on : (scale : ℕ) (heard given : List (List ℤ)) (before : List ℕ) (t : ℕ) (rounds : List Round)
     → AreAt scale heard given before t rounds → given_count t rounds + on_count rounds ≡ t
 given_and_on scale heard given before t [] at = omega arith
-given_and_on scale heard given before t (round ∷ rounds) at =
-    by_round round.on (λ e. (at.0.on e).0)
+given_and_on scale heard given before t (round ∷ rounds) at = by_round round.on (λ e. (at.0.on e).0)
     (given_and_on scale heard (rounded scale heard given) (bytes_in given) (given_by round t) rounds at.1)
   where
     by_round : (b : Bool) → (b ≡ true → 0 < t)
@@ -44,38 +43,25 @@ given_and_on scale heard given before t (round ∷ rounds) at =
 
 -- two comparisons that come out alike
 pub same_test : (a b c d : ℕ) → (a ≤ b → c ≤ d) → (b < a → d < c) → nat_le a b ≡ nat_le c d
-same_test a b c d h k = by_order (cases_lt b a)
-  where
-    by_order : (b < a) ⊎ (a ≤ b) → nat_le a b ≡ nat_le c d
-    by_order (inl l) = lt-leb a b l ∙ sym (lt-leb c d (k l))
-    by_order (inr l) = le-leb a b l ∙ sym (le-leb c d (h l))
+same_test a b c d h k = grind (arith, cases_lt, lt-leb, le-leb)
 
 pub none_full : (rounds : List Round) → length rounds ≡ 0 → true ≡ nat_le (length rounds) (on_count rounds)
 none_full rounds e = sym (le-leb (length rounds) (on_count rounds) (omega (arith, e)))
 
 pub full_on : (round : Round) (rest : List Round) → round.on ≡ true
     → nat_le (length rest) (on_count rest) ≡ nat_le (suc (length rest)) (on_count (round ∷ rest))
-full_on round rest e =
-    let one : on_count (round ∷ rest) ≡ 1 + on_count rest = ap (λ n. n + on_count rest) (cond-true round.on 1 0 e) in
-    same_test (length rest) (on_count rest) (suc (length rest)) (on_count (round ∷ rest)) (λ l. omega (arith, l, one))
-    (λ l. omega (arith, l, one))
+full_on round rest e = grind (arith, cond-true, same_test)
 
 pub full_off : (round : Round) (rest : List Round) → round.on ≡ false
     → false ≡ nat_le (suc (length rest)) (on_count (round ∷ rest))
-full_off round rest e =
-    let none : on_count (round ∷ rest) ≡ 0 + on_count rest = ap (λ n. n + on_count rest) (cond-false round.on 1 0 e) in
-    sym (lt-leb (suc (length rest)) (on_count (round ∷ rest)) (omega (arith, none, few_on rest)))
+full_off round rest e = grind (arith, cond-false, lt-leb, few_on)
 
 -- ---- the run of the next round
 
 pub next_run : (scale : ℕ) (heard given : List (List ℤ)) (before : List ℕ) → 0 < scale → scale ≤ 18
     → IsRun heard given before → IsRun heard (rounded scale heard given) (bytes_in given)
 unfolding rounded
-next_run scale heard given before some most h = record {
-  long = after_long scale heard given (known_bytes (bytes_in given)) h.long h.same;
-  same = h.same ∙ sym (length-rounded scale heard given);
-  stays = λ k code e. known_stays scale k heard given code some (omega (arith, most)) h.long h.same e;
-}
+next_run scale heard given before some most h = grind (arith, after_long, length-rounded, known_stays)
 
 rounds_next : (scale n : ℕ) (heard given : List (List ℤ))
     → rounds_of scale heard (rounded scale heard given) n ≡ rounds_of scale heard given (suc n)
@@ -88,8 +74,7 @@ rounds_next scale n heard given =
 pub first_given : (scale t : ℕ) (heard given : List (List ℤ)) (rest : List Round) (taken field : Field)
     → (length rest ≡ 0 → field ≡ taken) → IsRounded scale heard given t taken → length rest ≡ 0
     → IsRounded scale heard given (given_count t rest) field
-first_given scale t heard given [] taken field same h e =
-    subst (IsRounded scale heard given t) (sym (same refl)) h
+first_given scale t heard given [] taken field same h e = subst (IsRounded scale heard given t) (sym (same refl)) h
 first_given scale t heard given (round ∷ rest) taken field same h e = absurd (omega (arith, e))
 
 given_next : (scale f : ℕ) (heard given : List (List ℤ)) (before : List ℕ) (rest : List Round) (field : Field)
@@ -98,8 +83,7 @@ given_next : (scale f : ℕ) (heard given : List (List ℤ)) (before : List ℕ)
     → IsGiven scale heard given before (suc (length rest)) f field
 unfolding rounds_of
 given_next scale f heard given before [] field first h = first refl
-given_next scale f heard given before (round ∷ rest) field first h =
-    subst (λ run. IsRounded scale heard run f field) (rounds_next scale (length rest) heard given) h
+given_next scale f heard given before (round ∷ rest) field first h = grind (arith, rounds_next)
 
 -- ---- one round more
 
@@ -121,16 +105,7 @@ pub passed_on : (scale : ℕ) (heard given : List (List ℤ)) (before : List ℕ
     → IsPassed scale heard (rounded scale heard given) (bytes_in given) (t - 1) rest after answer field
     → IsPassed scale heard given before t (round ∷ rest) (new ∷ after) answer field
 passed_on scale heard given before t round new rest after answer taken field on some new_on held stays r p = record {
-  at = (
-    record {
-      on = λ _. (
-        omega arith,
-        subst (λ n. Holds scale heard given before n new.held) same held,
-      );
-      off = λ e. absurd (true≢false (sym new_on ∙ e));
-    },
-    subst (λ n. AreAt scale heard (rounded scale heard given) (bytes_in given) n after) (sym now) p.at,
-  );
+  at = (grind (arith, same, true≢false, now));
   count = ap (λ n. given_count n after) now ∙ p.count
       ∙ ap (λ n. given_count n rest + cond answer 1 0) (sym (given_on round t on));
   given_is = λ e. subst (λ f. IsGiven scale heard given before (suc (length rest)) f field)
@@ -151,27 +126,8 @@ pub passed_off : (scale : ℕ) (heard given : List (List ℤ)) (before : List �
     → Holds scale heard given before 0 new.held
     → AreAt scale heard (rounded scale heard given) (bytes_in given) (given_by round t) rest
     → IsPassed scale heard given before t (round ∷ rest) (new ∷ rest) false field
-passed_off scale heard given before t round new rest field off none new_on held h = record {
-  at = (
-    record {
-      on = λ _. (
-        omega arith,
-        subst (λ n. Holds scale heard given before n new.held) first held,
-      );
-      off = λ e. absurd (true≢false (sym new_on ∙ e));
-    },
-    subst (λ n. AreAt scale heard (rounded scale heard given) (bytes_in given) n rest) same h,
-  );
-  count = ap (λ n. given_count n rest) (sym same) ∙ (let whole : given_count (given_by round t) rest
-      ≡ given_count (given_by round t) rest + 0 = omega arith in whole);
-  given_is = λ e. absurd (true≢false (sym e));
-}
-  where
-    first : 0 ≡ t + 1 - 1
-    first = omega (arith, none)
-
-    same : given_by round t ≡ given_by new (t + 1)
-    same = (let back : t ≡ t + 1 - 1 = omega arith in given_off round t off ∙ back ∙ sym (given_on new (t + 1) new_on))
+passed_off scale heard given before t round new rest field off none new_on held h =
+    grind (arith, true≢false, given_off, given_on)
 
 pub passed_all : (scale : ℕ) (heard given : List (List ℤ)) (before : List ℕ) (t : ℕ) (rounds : List Round)
     (field : Field) → length rounds ≡ 0 → IsInRun scale heard given (known_word before) t field
@@ -186,31 +142,17 @@ pub first_on : (scale : ℕ) (heard given : List (List ℤ)) (before : List ℕ)
     (answer : Bool) (field : Field) → n + 1 ≡ t → length new ≡ length old
     → IsPassed scale heard given before n old new answer field
     → IsEndedFirst scale heard given before t n old new answer field
-first_on scale heard given before t n old new answer field e long p = record {
-  at = subst (λ m. AreAt scale heard given before m new) e p.at;
-  long = long;
-  count = ap (λ m. given_count m new) (sym e) ∙ p.count;
-  given_is = p.given_is;
-}
+first_on scale heard given before t n old new answer field e long p = grind arith
 
 -- a round that holds none is passed over
 pub first_off : (scale : ℕ) (heard given : List (List ℤ)) (before : List ℕ) (t n : ℕ) (rest : List Round)
     (field : Field) → n ≡ t → AreAt scale heard given before n rest
     → IsEndedFirst scale heard given before t n rest rest false field
-first_off scale heard given before t n rest field e h = record {
-  at = subst (λ m. AreAt scale heard given before m rest) e h;
-  long = refl;
-  count = (let same : given_count n rest ≡ given_count n rest + 0 = omega arith in
-      ap (λ m. given_count m rest) (sym e) ∙ same);
-  given_is = λ t. absurd (true≢false (sym t));
-}
+first_off scale heard given before t n rest field e h = grind (arith, true≢false)
 
 past_end : (scale : ℕ) (heard given : List (List ℤ)) (before : List ℕ) (t : ℕ) (new : Round) → new.on ≡ false
     → length given ≤ 313 * t → IsAt scale heard given before t new
-past_end scale heard given before t new off l = record {
-  on = λ e. absurd (true≢false (sym e ∙ off));
-  off = λ e. inr l;
-}
+past_end scale heard given before t new off l = grind (arith, true≢false)
 
 -- a field came out of the rounds behind the first
 pub ended_given : (scale : ℕ) (heard given : List (List ℤ)) (before : List ℕ) (t : ℕ) (round new : Round)
@@ -219,11 +161,7 @@ pub ended_given : (scale : ℕ) (heard given : List (List ℤ)) (before : List �
     → IsEndedFirst scale heard (rounded scale heard given) (bytes_in given) t (given_by round t) rest after true field
     → IsEnded scale heard given before t (round ∷ rest) (new ∷ after) true field
 ended_given scale heard given before t round new rest after field off l first p = record {
-  at = (
-    past_end scale heard given before t new off l,
-    subst (λ n. AreAt scale heard (rounded scale heard given) (bytes_in given) n after)
-        (sym (given_off new t off)) p.at,
-  );
+  at = (grind (arith, past_end, given_off));
   count = ap (λ n. given_count n after) (given_off new t off) ∙ p.count;
   given_is = λ e. given_next scale (given_count (given_by round t) rest) heard given before rest field first
       (p.given_is e);
@@ -235,15 +173,10 @@ ended_given scale heard given before t round new rest after field off l first p 
 pub ended_next : (scale : ℕ) (heard given : List (List ℤ)) (before : List ℕ) (t : ℕ) (round new : Round)
     (rest between after : List Round) (answer : Bool) (first field : Field) → new.on ≡ false → length given ≤ 313 * t
     → IsEndedFirst scale heard (rounded scale heard given) (bytes_in given) t (given_by round t) rest between false
-    first
-    → IsEnded scale heard (rounded scale heard given) (bytes_in given) t between after answer field
+    first → IsEnded scale heard (rounded scale heard given) (bytes_in given) t between after answer field
     → IsEnded scale heard given before t (round ∷ rest) (new ∷ after) answer field
 ended_next scale heard given before t round new rest between after answer first field off l p q = record {
-  at = (
-    past_end scale heard given before t new off l,
-    subst (λ n. AreAt scale heard (rounded scale heard given) (bytes_in given) n after)
-        (sym (given_off new t off)) q.at,
-  );
+  at = (grind (arith, past_end, given_off));
   count = ap (λ n. given_count n after) (given_off new t off) ∙ q.count ∙ ap (λ n. n + cond answer 1 0) same;
   given_is = λ e. given_next scale (given_count (given_by round t) rest) heard given before rest field
       (λ none. absurd (omega (arith, none, p.long, q.some e)))
@@ -262,13 +195,7 @@ ended_next scale heard given before t round new rest between after answer first 
 
 pub ended_none : (scale : ℕ) (heard given : List (List ℤ)) (before : List ℕ) (t : ℕ) (rounds : List Round)
     (field : Field) → length rounds ≡ 0 → IsEnded scale heard given before t rounds rounds false field
-ended_none scale heard given before t [] field e = record {
-  at = tt;
-  count = (let same : t ≡ t + 0 = omega arith in same);
-  given_is = λ e. absurd (true≢false (sym e));
-  some = λ e. absurd (true≢false (sym e));
-  all = λ e. refl;
-}
+ended_none scale heard given before t [] field e = grind (arith, true≢false)
 ended_none scale heard given before t (round ∷ rounds) field e = absurd (omega arith)
 
 -- ---- the beginning
@@ -280,10 +207,7 @@ off_more (first ∷ rounds) round h e = (h.0, off_more rounds round h.1 e)
 
 is_at_first : (scale : ℕ) (heard given : List (List ℤ)) (before : List ℕ) (round : Round) → round.on ≡ false
     → IsAt scale heard given before 0 round
-is_at_first scale heard given before round off = record {
-  on = λ e. absurd (true≢false (sym e ∙ off));
-  off = λ e. inl refl;
-}
+is_at_first scale heard given before round off = grind (arith, true≢false)
 
 pub at_first : (scale : ℕ) (heard given : List (List ℤ)) (before : List ℕ) (rounds : List Round) → AreOff rounds
     → AreAt scale heard given before 0 rounds
@@ -299,25 +223,13 @@ none_given [] h = refl
 none_given (round ∷ rounds) h = ap (λ n. given_count n rounds) (given_off round 0 h.0) ∙ none_given rounds h.1
 
 pub made_first : (scale count : ℕ) (heard given : List (List ℤ)) (rounds : Rounds) → rounds.means.decoder ≡ scale
-    → AreOff rounds.rounds.items → length rounds.rounds.items ≡ count
-    → AreMade scale heard given count 0 0 rounds
-made_first scale count heard given rounds e off long = record {
-  scale_is = e;
-  long = long;
-  at = at_first scale heard given [] rounds.rounds.items off;
-  given_are = none_given rounds.rounds.items off;
-  few = omega arith;
-  held = omega arith;
-}
+    → AreOff rounds.rounds.items → length rounds.rounds.items ≡ count → AreMade scale heard given count 0 0 rounds
+made_first scale count heard given rounds e off long = grind (arith, at_first, none_given)
 
 -- ---- how many fields were given
 
 by_few : (t : ℕ) (round : Round) → given_by round t ≤ t
-by_few t round = by_cases round.on
-  where
-    by_cases : (b : Bool) → cond b (t - 1) t ≤ t
-    by_cases true = omega arith
-    by_cases false = omega arith
+by_few t round = grind arith
 
 few_given : (t : ℕ) (rounds : List Round) → given_count t rounds ≤ t
 few_given t [] = omega arith
@@ -326,17 +238,13 @@ few_given t (round ∷ rounds) = omega (arith, few_given (given_by round t) roun
 -- each round holds one field at most
 held_few : (scale count t f : ℕ) (heard given : List (List ℤ)) (rounds : List Round) → length rounds ≡ count
     → AreAt scale heard given [] t rounds → given_count t rounds ≡ f → t ≤ f + count
-held_few scale count t f heard given rounds long at e =
-    omega (arith, long, e, given_and_on scale heard given [] t rounds at, few_on rounds)
+held_few scale count t f heard given rounds long at e = grind (arith, given_and_on, few_on)
 
 -- whether each of them holds one
 is_full : (scale count t f : ℕ) (heard given : List (List ℤ)) (rounds : Rounds)
     → AreMade scale heard given count t f rounds
     → nat_le (length rounds.rounds.items) (on_count rounds.rounds.items) ≡ nat_le (f + count) t
-is_full scale count t f heard given rounds m =
-    let held = given_and_on scale heard given [] t rounds.rounds.items m.at in
-    same_test (length rounds.rounds.items) (on_count rounds.rounds.items) (f + count) t
-    (λ l. omega (arith, l, held, m.given_are, m.long)) (λ l. omega (arith, l, held, m.given_are, m.long))
+is_full scale count t f heard given rounds m = grind (arith, given_and_on, same_test)
 
 -- ---- a run of which nothing is known before
 
@@ -351,45 +259,11 @@ pub taken : (scale count t f : ℕ) (heard given : List (List ℤ)) (old new : R
     → answer ≡ nat_le (length old.rounds.items) (on_count old.rounds.items)
     → IsPassed scale heard given [] t old.rounds.items new.rounds.items answer field
     → AreTaken scale heard given count t f answer new field
-taken scale count t f heard given old new answer field m e long full p = record {
-  made = record {
-    scale_is = e ∙ m.scale_is;
-    long = long ∙ m.long;
-    at = p.at;
-    given_are = count_is;
-    few = omega (arith, sym count_is, few_given (t + 1) new.rounds.items);
-    held = held_few scale count (t + 1) (f + cond answer 1 0) heard given new.rounds.items (long ∙ m.long) p.at
-        count_is;
-  };
-  answer_is = full ∙ is_full scale count t f heard given old m;
-  given_is = λ a. subst (λ n. IsGiven scale heard given [] n f field) m.long
-      (subst (λ n. IsGiven scale heard given [] (length old.rounds.items) n field) m.given_are (p.given_is a));
-}
-  where
-    count_is : given_count (t + 1) new.rounds.items ≡ f + cond answer 1 0
-    count_is = p.count ∙ ap (λ n. n + cond answer 1 0) m.given_are
+taken scale count t f heard given old new answer field m e long full p = grind (arith, few_given, held_few, is_full)
 
 pub finished : (scale count t f : ℕ) (heard given : List (List ℤ)) (old new : Rounds) (answer : Bool) (field : Field)
     → AreMade scale heard given count t f old → new.means.decoder ≡ old.means.decoder
     → length new.rounds.items ≡ length old.rounds.items
     → IsEnded scale heard given [] t old.rounds.items new.rounds.items answer field
     → AreFinished scale heard given count t f answer new field
-finished scale count t f heard given old new answer field m e long p = record {
-  made = record {
-    scale_is = e ∙ m.scale_is;
-    long = long ∙ m.long;
-    at = p.at;
-    given_are = count_is;
-    few = omega (arith, sym count_is, few_given t new.rounds.items);
-    held = held_few scale count t (f + cond answer 1 0) heard given new.rounds.items (long ∙ m.long) p.at count_is;
-  };
-  given_is = λ a. subst (λ n. IsGiven scale heard given [] n f field) m.long
-      (subst (λ n. IsGiven scale heard given [] (length old.rounds.items) n field) m.given_are (p.given_is a));
-  all = λ a. last (ap (λ b. f + cond b 1 0) (sym a) ∙ sym count_is ∙ p.all a);
-}
-  where
-    count_is : given_count t new.rounds.items ≡ f + cond answer 1 0
-    count_is = p.count ∙ ap (λ n. n + cond answer 1 0) m.given_are
-
-    last : f + 0 ≡ t → f ≡ t
-    last e = omega (arith, e)
+finished scale count t f heard given old new answer field m e long p = grind (arith, few_given, held_few)

@@ -1,11 +1,10 @@
 -- The pins of twelve bytes, one of each coder, and where they stand among those of a field.
-use Rattle.std.proofs.Common.{◌≡◌, ℕ, zero, suc, ◌+◌, ◌-◌, ◌*◌, ◌/◌, ◌%◌}
-use Rattle.std.proofs.Common.{◌^◌, ◌<◌, ◌≤◌, Option, Some, None, List, [], ◌∷◌, ◌++◌}
-use Rattle.std.proofs.Common.{length, map, option_map, unwrap_or, set, take, drop, get_or, refl, ap, ◌∙◌, arith}
+use Rattle.std.proofs.Common.{◌≡◌, ℕ, zero, suc, ◌+◌, ◌-◌, ◌*◌, ◌/◌, ◌%◌, ◌^◌, ◌<◌, ◌≤◌, Option, Some, None, List, []}
+use Rattle.std.proofs.Common.{◌∷◌, length, map, option_map, unwrap_or, set, take, drop, get_or, refl, ap, ◌∙◌, arith}
 use Rattle.std.specs.List.{range_with_len}
 use Rattle.std.proofs.lemmas.List.{get_or-append_right, get_or-drop, get_or-take, get_or_append_left, length-take-le}
 use Rattle.std.proofs.lemmas.List.FromFn.{fill_by_all}
-use borrow.Rule.Slice.PartMut.{post_of, put_mid}
+use borrow.Rule.Slice.PartMut.{put_mid}
 use Rattle.dtx_trellis.specs.Pairs.{byte_place, group_place, pair_in}
 use Rattle.dtx_rounds.specs.Pins.{byte_at_step, field_pins, known_pin, pin_of}
 
@@ -13,24 +12,17 @@ use Rattle.dtx_rounds.specs.Pins.{byte_at_step, field_pins, known_pin, pin_of}
 
 pub mid_before : {X : Type 0} (a k i : ℕ) (xs ys : List (List X)) → i < a → a ≤ length xs
     → get_or (put_mid a k xs ys) i [] ≡ get_or xs i []
-mid_before a k i xs ys l m =
-    get_or_append_left (take a xs) (ys ++ post_of a k xs) [] i (omega (arith, l, length-take-le a xs m))
-    ∙ get_or-take a xs i [] l
+mid_before a k i xs ys l m = grind (arith, get_or_append_left, length-take-le, get_or-take)
 
 pub mid_at : {X : Type 0} (a k i : ℕ) (xs ys : List (List X)) → i < length ys → a ≤ length xs
     → get_or (put_mid a k xs ys) (a + i) [] ≡ get_or ys i []
-mid_at a k i xs ys l m =
-    let back : a + i - a ≡ i = omega arith in
-    get_or-append_right (take a xs) (ys ++ post_of a k xs) a (a + i) [] (length-take-le a xs m) (omega arith)
-    ∙ ap (λ j. get_or (ys ++ post_of a k xs) j []) back
-    ∙ get_or_append_left ys (post_of a k xs) [] i l
+mid_at a k i xs ys l m = grind (arith, get_or-append_right, length-take-le, get_or_append_left)
 
 pub part_entry : (a k x : ℕ) (known : List (Option ℕ)) → x < k
     → get_or (take k (drop a known)) x None ≡ get_or known (a + x) None
 part_entry a k x known l = get_or-take k (drop a known) x None l ∙ get_or-drop a known x None
 
-pub part_byte : (a k x : ℕ) (bytes : List ℕ) → x < k
-    → get_or (take k (drop a bytes)) x 0 ≡ get_or bytes (a + x) 0
+pub part_byte : (a k x : ℕ) (bytes : List ℕ) → x < k → get_or (take k (drop a bytes)) x 0 ≡ get_or bytes (a + x) 0
 part_byte a k x bytes l = get_or-take k (drop a bytes) x 0 l ∙ get_or-drop a bytes x 0
 
 -- ---- pins
@@ -40,36 +32,15 @@ unfolding pair_in
 same_pair None r i e = refl
 same_pair (Some b) r i e = ap (λ x. b / 4 ^ (3 - x) % 4) e
 
-row_byte : (b i e : ℕ) → i < 4 → e < 12
-    → byte_at_step e (4 * b + i) ≡ 12 * b + (e + 12 - 4 * (4 * b / 69 % 3)) % 12
+row_byte : (b i e : ℕ) → i < 4 → e < 12 → byte_at_step e (4 * b + i) ≡ 12 * b + (e + 12 - 4 * (4 * b / 69 % 3)) % 12
 unfolding byte_at_step byte_place group_place
-row_byte b i e l m =
-    by_turn ((4 * b + i) / 276) ((4 * b + i) % 276 / 4) (omega arith)
-    (turn_same ((4 * b + i) / 276) ((4 * b + i) % 276 / 4) b (omega arith))
-  where
-    turn_same : (u h b : ℕ) → b ≡ 69 * u + h → ((0 + 4 * u) % 312 + 4 * h / 69) % 3 ≡ 4 * b / 69 % 3
-    turn_same u h b e = omega arith
-
-    by_turn : (u h : ℕ) → b ≡ 69 * u + h → ((0 + 4 * u) % 312 + 4 * h / 69) % 3 ≡ 4 * b / 69 % 3
-        → 828 * u + (12 * h + (e + 12 - 4 * (((0 + 4 * u) % 312 + 4 * h / 69) % 3)) % 12)
-        ≡ 12 * b + (e + 12 - 4 * (4 * b / 69 % 3)) % 12
-    by_turn u h f t =
-        let first : 828 * u + 12 * h ≡ 12 * b = omega arith in
-        by_sum (828 * u) (12 * h) (12 * b) first
-        (ap (λ x. (e + 12 - 4 * x) % 12) t)
-      where
-        by_sum : (a c d : ℕ) → a + c ≡ d → {x y : ℕ} → x ≡ y → a + (c + x) ≡ d + y
-        by_sum a c d g {x} {y} h = omega (arith, g, h)
+row_byte b i e l m = grind arith
 
 -- the pin of coder e in step i of the four of byte row b
-pub row_pin : (known : List (Option ℕ)) (b i e : ℕ) → i < 4 → e < 12
-    → known_pin known e (4 * b + i)
+pub row_pin : (known : List (Option ℕ)) (b i e : ℕ) → i < 4 → e < 12 → known_pin known e (4 * b + i)
     ≡ pin_of (get_or known (12 * b + (e + 12 - 4 * (4 * b / 69 % 3)) % 12) None) i
 unfolding known_pin
-row_pin known b i e l m =
-    let step : (4 * b + i) % 276 % 4 ≡ i % 4 = omega arith in
-    ap (λ n. pin_of (get_or known n None) ((4 * b + i) % 276)) (row_byte b i e l m)
-    ∙ same_pair (get_or known (12 * b + (e + 12 - 4 * (4 * b / 69 % 3)) % 12) None) ((4 * b + i) % 276) i step
+row_pin known b i e l m = grind (arith, row_byte, same_pair)
 
 no_pair : (i : ℕ) → i < 4 → pair_in 0 i ≡ 0
 unfolding pair_in
@@ -98,8 +69,7 @@ four_rows (x ∷ y ∷ z ∷ w ∷ v ∷ more) a b c d l = absurd (omega arith)
 -- all pins of a field
 pub all_pins : (known : List (Option ℕ)) (n : ℕ) (pins : List (List ℕ)) → length pins ≡ n
     → ((t : ℕ) → t < n → length (get_or pins t []) ≡ 12)
-    → ((t e : ℕ) → t < n → e < 12 → get_or (get_or pins t []) e 0 ≡ known_pin known e t)
-    → pins ≡ field_pins known 0 n
+    → ((t e : ℕ) → t < n → e < 12 → get_or (get_or pins t []) e 0 ≡ known_pin known e t) → pins ≡ field_pins known 0 n
 unfolding field_pins
 all_pins known n pins long rows each =
     fill_by_all (λ t. map (λ e. known_pin known e (21528 * 0 + t)) (range_with_len 0 12)) pins n [] long

@@ -1,6 +1,6 @@
 -- Sums and counts over a range, one number further.
-use Rattle.std.proofs.Common.{◌≡◌, ℕ, zero, suc, ◌+◌, ◌<◌, ◌≤◌, ◌⊎◌, inl, inr, Bool, true, false, cond, [], ◌∷◌, ◌++◌}
-use Rattle.std.proofs.Common.{length, map, filter, sum, refl, sym, ap, ◌∙◌, subst, arith}
+use Rattle.std.proofs.Common.{◌≡◌, ℕ, zero, suc, ◌+◌, ◌<◌, ◌≤◌, ◌⊎◌, inl, inr, Bool, true, false, cond, [], ◌∷◌, length}
+use Rattle.std.proofs.Common.{map, filter, sum, refl, sym, ap, ◌∙◌, subst, arith}
 use Rattle.std.specs.List.{range_with_len}
 use Rattle.std.proofs.lemmas.Bool.{cases_lt}
 use Rattle.std.proofs.lemmas.List.{length-append}
@@ -26,8 +26,7 @@ sum_zero f zero e i l = absurd (omega (arith, l))
 sum_zero f (suc n) e i l = by_place (λ before. sum_zero f n before i) (cases_lt i n)
   where
     both : sum (map f (range_with_len 0 n)) + f n ≡ 0
-    both =
-        sym (let next : suc n ≡ n + 1 = omega arith in
+    both = sym (let next : suc n ≡ n + 1 = omega arith in
         ap (λ m. sum (map f (range_with_len 0 m))) next ∙ sum_next f n) ∙ e
 
     by_place : (sum (map f (range_with_len 0 n)) ≡ 0 → i < n → f i ≡ 0) → (i < n) ⊎ (n ≤ i) → f i ≡ 0
@@ -49,10 +48,4 @@ one p k false e = simp e
 
 pub count_next : (p : ℕ → Bool) (k : ℕ)
     → length (filter p (range_with_len 0 (k + 1))) ≡ length (filter p (range_with_len 0 k)) + cond (p k) 1 0
-count_next p k =
-    ap (λ xs. length (filter p xs)) (range_with_len-parts 0 k 1)
-    ∙ (let none : 0 + k ≡ k = omega arith in
-    ap (λ n. length (filter p (range_with_len 0 k ++ n ∷ []))) none)
-    ∙ ap length (filter-append p (range_with_len 0 k) (k ∷ []))
-    ∙ length-append (filter p (range_with_len 0 k)) (filter p (k ∷ []))
-    ∙ ap (λ n. length (filter p (range_with_len 0 k)) + n) (one p k (p k) refl)
+count_next p k = grind (arith, range_with_len-parts, filter-append, length-append, one)

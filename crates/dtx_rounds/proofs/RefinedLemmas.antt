@@ -1,6 +1,5 @@
 -- Rounds one behind the other, and over a capture: their segments are whole, what is known stays known, and costs rise.
-use Rattle.std.proofs.Common.{◌≡◌, ℕ, zero, suc, ℤ, ◌+◌, List, refl, sym, ap, ◌∙◌, arith, ◌<◌, ◌≤◌, Some, [], ◌∷◌}
-use Rattle.std.proofs.Common.{length}
+use Rattle.std.proofs.Common.{◌≡◌, ℕ, zero, suc, ℤ, ◌+◌, List, refl, ap, ◌∙◌, arith, ◌<◌, ◌≤◌, Some, length}
 use Rattle.dtx_receiver.specs.Bytes.{bytes_in}
 use Rattle.dtx_acquire.specs.Acquired.{acquired, all_fields}
 use Rattle.dtx_acquire.proofs.AcquiredLemmas.{length-heard_in}
@@ -29,21 +28,17 @@ rounds_more scale r (suc n) heard given =
 pub refined_next : (scale r : ℕ) (symbols : List ℤ)
     → refined scale symbols (r + 1) ≡ rounded scale (heard_of symbols) (refined scale symbols r)
 unfolding refined rounds_of
-refined_next scale r symbols =
-    let next : r + 1 ≡ suc r = omega arith in ap (rounds_of scale (heard_of symbols) (acquired scale symbols)) next
+refined_next scale r symbols = grind arith
 
 pub refined_stays : (scale r n : ℕ) (symbols : List ℤ) → refined scale symbols (r + 1) ≡ refined scale symbols r
     → refined scale symbols (r + n) ≡ refined scale symbols r
 unfolding refined
-refined_stays scale r n symbols e =
-    rounds_more scale r n (heard_of symbols) (acquired scale symbols)
-    ∙ rounds_stay scale n (heard_of symbols) (refined scale symbols r) (sym (refined_next scale r symbols) ∙ e)
+refined_stays scale r n symbols e = grind (arith, rounds_more, rounds_stay, refined_next)
 
 has_paths : (scale : ℕ) (heard : List (List ℤ)) (given : List (List ℤ))
     → HasPaths scale heard (known_bytes (bytes_in given))
 unfolding paths_in
-has_paths scale heard given f =
-    pinned_found scale (pins_in heard (known_bytes (bytes_in given)) f) (groups_in heard f)
+has_paths scale heard given f = pinned_found scale (pins_in heard (known_bytes (bytes_in given)) f) (groups_in heard f)
 
 -- ---- one round
 
@@ -64,12 +59,9 @@ known_stays scale k heard given code some most long same e =
     word_kept scale heard given k code (has_paths scale heard given) some most long same e
 
 pub costs_rise : (scale f e : ℕ) (heard given : List (List ℤ)) → 0 < scale → scale < 19 → AreSegments given
-    → length heard ≡ length given → e < 12
-    → coder_cost scale heard (known_bytes (bytes_in given)) f e
+    → length heard ≡ length given → e < 12 → coder_cost scale heard (known_bytes (bytes_in given)) f e
     ≤ coder_cost scale heard (known_bytes (bytes_in (rounded scale heard given))) f e
-costs_rise scale f e heard given some most long same l =
-    more_known_costs_more scale heard (bytes_in given) (bytes_in (rounded scale heard given)) f e
-    (λ k code known. known_stays scale k heard given code some most long same known) l
+costs_rise scale f e heard given some most long same l = grind (arith, more_known_costs_more, known_stays)
 
 -- ---- the segments of a capture
 

@@ -1,7 +1,7 @@
 -- The segments after a round: the levels of a coder are those of its path.
-use Rattle.std.proofs.Common.{◌≡◌, ℕ, ℤ, pos, zero, suc, ◌+◌, ◌-◌, ◌*◌, ◌/◌, ◌%◌, ◌<◌, ◌≤◌, ◌⊎◌, inl, inr, min, nat_le}
-use Rattle.std.proofs.Common.{nat_lt, nat_eq, Bool, true, false, cond, Option, List, [], ◌∷◌, ◌++◌, length, map, take}
-use Rattle.std.proofs.Common.{drop, get_or, refl, sym, ap, ap₂, ◌∙◌, subst, arith}
+use Rattle.std.proofs.Common.{◌≡◌, ℕ, ℤ, pos, zero, suc, ◌+◌, ◌-◌, ◌*◌, ◌/◌, ◌%◌, ◌<◌, ◌≤◌, ◌⊎◌, inl, inr, min, nat_eq}
+use Rattle.std.proofs.Common.{Bool, true, false, cond, Option, List, [], ◌∷◌, ◌++◌, length, map, take, drop, get_or}
+use Rattle.std.proofs.Common.{refl, sym, ap, ap₂, ◌∙◌, subst, arith}
 use Rattle.std.specs.List.{range_with_len}
 use Rattle.std.specs.Ordering.{int_eq}
 use Rattle.std.proofs.lemmas.Bool.{and_from, and_parts, cases_Bool, cond-false, cond-true, le-leb, leb-true, lt-ltb}
@@ -21,7 +21,7 @@ use Rattle.dtx_receiver.specs.Bytes.{data_at, data_count, groups_of, levels_in}
 use Rattle.dtx_acquire.specs.Acquired.{in_groups}
 use Rattle.dtx_acquire.specs.Scaled.{decided, scaled_level}
 use Rattle.dtx_acquire.specs.Sent.{groups_behind}
-use Rattle.dtx_pins.specs.PinnedField.{IsPinned, pinned, pinned_segment, pinned_symbol}
+use Rattle.dtx_pins.specs.PinnedField.{IsPinned, pinned, pinned_segment}
 use Rattle.dtx_rounds.specs.Fields.{AreSegments}
 use Rattle.dtx_rounds.specs.Rounds.{groups_in, in_whole_group, paths_in, pins_in, round_segment}
 use Rattle.dtx_rounds.proofs.RunLevels.{data_long, data_there, level_in, field_of_segment, place_in, place_in_field}
@@ -33,17 +33,14 @@ pub length-groups : (segments : List (List ℤ)) (f : ℕ)
     → length (groups_in segments f) ≡ 4 * (min 312 (length segments - (313 * f + 1)) / 4)
 unfolding groups_behind in_groups
 length-groups segments f =
+    let rest : List (List ℤ) = take 312 (drop (313 * f + 1) segments) in
     length-take-le (4 * (length rest / 4)) rest (omega arith)
     ∙ ap (λ n. 4 * (n / 4)) (length-take 312 (drop (313 * f + 1) segments)
     ∙ ap (min 312) (length-drop (313 * f + 1) segments))
-  where
-    rest : List (List ℤ)
-    rest = take 312 (drop (313 * f + 1) segments)
 
 pub same_groups : (heard given : List (List ℤ)) (f : ℕ) → length heard ≡ length given
     → length (groups_in heard f) ≡ length (groups_in given f)
-same_groups heard given f e =
-    length-groups heard f ∙ ap (λ n. 4 * (min 312 (n - (313 * f + 1)) / 4)) e ∙ sym (length-groups given f)
+same_groups heard given f e = grind (arith, length-groups)
 
 number_field : (d : ℕ) → (d + d / 312 + 1) / 313 ≡ d / 312
 number_field d = omega arith
@@ -59,19 +56,11 @@ number_room l d h = omega arith
 pub place_in_groups : (given : List (List ℤ)) (d : ℕ) → d < 4 * groups_of given
     → d % 312 < length (groups_in given (d / 312))
 unfolding groups_of data_count
-place_in_groups given d l =
-    (let room = number_room (length given) d l in omega (arith, room, length-groups given (d / 312)))
+place_in_groups given d l = grind (arith, number_room, length-groups)
 
-whole_in : (given : List (List ℤ)) (d : ℕ) → d < 4 * groups_of given
-    → in_whole_group given (d + d / 312 + 1) ≡ true
+whole_in : (given : List (List ℤ)) (d : ℕ) → d < 4 * groups_of given → in_whole_group given (d + d / 312 + 1) ≡ true
 unfolding in_whole_group
-whole_in given d l =
-    and_from (nat_lt 0 ((d + d / 312 + 1) % 313))
-    (nat_le ((d + d / 312 + 1) % 313) (length (groups_in given ((d + d / 312 + 1) / 313))))
-    (lt-ltb 0 ((d + d / 312 + 1) % 313) (omega (arith, number_place d)))
-    (le-leb ((d + d / 312 + 1) % 313) (length (groups_in given ((d + d / 312 + 1) / 313)))
-    (subst (λ f. (d + d / 312 + 1) % 313 ≤ length (groups_in given f)) (sym (number_field d))
-    (omega (arith, number_place d, place_in_groups given d l))))
+whole_in given d l = grind (arith, and_from, lt-ltb, number_place, le-leb, number_field, place_in_groups)
 
 -- ---- rows
 
@@ -81,8 +70,7 @@ after scale heard known given = map (round_segment scale heard known given) (ran
 
 pub length-after : (scale : ℕ) (heard given : List (List ℤ)) (known : List (Option ℕ))
     → length (after scale heard known given) ≡ length given
-length-after scale heard given known =
-    length-map-range_with_len (round_segment scale heard known given) 0 (length given)
+length-after scale heard given known = grind (arith, length-map-range_with_len)
 
 pub groups_after : (scale : ℕ) (heard given : List (List ℤ)) (known : List (Option ℕ))
     → groups_of (after scale heard known given) ≡ groups_of given
@@ -92,10 +80,7 @@ groups_after scale heard given known = ap (λ n. (n - (n + 312) / 313) / 4) (len
 pub path_row : (scale : ℕ) (pins : List (List ℕ)) (rows : List (List ℤ)) (i : ℕ) → i < length rows
     → length (get_or (pinned scale pins rows) i []) ≡ 832
 unfolding pinned pinned_segment
-path_row scale pins rows i l =
-    ap length (get_or-map-range_with_len (pinned_segment scale pins rows) 0 (length rows) i i [] l (omega arith))
-    ∙ length-map-range_with_len (λ k. cond (nat_lt k 4) (get_or (get_or rows i []) k (pos 0))
-    (pinned_symbol scale pins rows (828 * i + (k - 4)))) 0 832
+path_row scale pins rows i l = grind (arith, get_or-map-range_with_len, length-map-range_with_len)
 
 pub path_long : (scale : ℕ) (heard : List (List ℤ)) (known : List (Option ℕ)) (f i : ℕ)
     → i < length (groups_in heard f) → length (get_or (paths_in scale heard known f) i []) ≡ 832
@@ -103,17 +88,11 @@ unfolding paths_in
 path_long scale heard known f i l = path_row scale (pins_in heard known f) (groups_in heard f) i l
 
 row_after : (scale : ℕ) (heard given : List (List ℤ)) (known : List (Option ℕ)) (d : ℕ) → d < 4 * groups_of given
-    → data_at (after scale heard known given) d
-    ≡ take 4 (data_at given d)
+    → data_at (after scale heard known given) d ≡ take 4 (data_at given d)
     ++ map (decided scale) (drop 4 (get_or (paths_in scale heard known (d / 312)) (d % 312) []))
 unfolding data_at round_segment
 row_after scale heard given known d l =
-    let place : (d + d / 312 + 1) % 313 - 1 ≡ d % 312 = omega (arith, number_place d) in
-    get_or-map-range_with_len (round_segment scale heard known given) 0 (length given) (d + d / 312 + 1)
-    (d + d / 312 + 1) [] (data_there given d l) (omega arith)
-    ∙ cond-true (in_whole_group given (d + d / 312 + 1)) _ (get_or given (d + d / 312 + 1) []) (whole_in given d l)
-    ∙ ap₂ (λ (f i : ℕ). take 4 (get_or given (d + d / 312 + 1) [])
-    ++ map (decided scale) (drop 4 (get_or (paths_in scale heard known f) i []))) (number_field d) place
+    grind (arith, number_place, get_or-map-range_with_len, data_there, cond-true, whole_in, number_field)
 
 symbol_after : (scale : ℕ) (heard given : List (List ℤ)) (known : List (Option ℕ)) (d k : ℕ) → AreSegments given
     → length heard ≡ length given → d < 4 * groups_of given → k < 828
@@ -124,13 +103,11 @@ symbol_after scale heard given known d k long same l m =
     let there : d % 312 < length (groups_in heard (d / 312)) =
     omega (arith, place_in_groups given d l, same_groups heard given (d / 312) same) in
     let full : length path ≡ 832 = path_long scale heard known (d / 312) (d % 312) there in
-    let front : length (take 4 (data_at given d)) ≡ 4 =
-    length-take-le 4 (data_at given d) (omega (arith, data_long given d long l)) in
+    let front : length (take 4 (data_at given d)) ≡ 4 = length-take-le 4 (data_at given d) (grind (arith, data_long)) in
     let back : 4 + k - 4 ≡ k = omega arith in
     ap (λ (row : List ℤ). get_or row (4 + k) (pos 0)) (row_after scale heard given known d l)
     ∙ get_or-append_right (take 4 (data_at given d)) (map (decided scale) (drop 4 path)) 4 (4 + k) (pos 0) front
-    (omega arith)
-    ∙ ap (λ i. get_or (map (decided scale) (drop 4 path)) i (pos 0)) back
+    (omega arith) ∙ ap (λ i. get_or (map (decided scale) (drop 4 path)) i (pos 0)) back
     ∙ get_or-map (decided scale) (drop 4 path) k (pos 0) (pos 0) (omega (arith, m, full, length-drop 4 path))
     ∙ ap (decided scale) (get_or-drop 4 path k (pos 0))
 
@@ -149,12 +126,10 @@ all_are_decided : holds_below is_decided 144 ≡ true
 unfolding scaled_level symbol_at symbol_of
 all_are_decided = refl
 
-pub decided_level : (scale z : ℕ) → 0 < scale → scale < 19 → z < 8
-    → decided scale (symbol_at scale z) ≡ symbol_at 1 z
+pub decided_level : (scale z : ℕ) → 0 < scale → scale < 19 → z < 8 → decided scale (symbol_at scale z) ≡ symbol_at 1 z
 decided_level scale z some most small =
-    let first : (8 * (scale - 1) + z) / 8 + 1 ≡ scale = omega arith in
     let second : (8 * (scale - 1) + z) % 8 ≡ z = omega arith in
-    sym (ap₂ (λ (c y : ℕ). decided c (symbol_at c y)) first second)
+    sym (ap₂ (λ (c y : ℕ). decided c (symbol_at c y)) (omega arith) second)
     ∙ (Decides-int_eq _ _).0 (at_below is_decided 144 (8 * (scale - 1) + z) all_are_decided (omega arith))
     ∙ ap (symbol_at 1) second
 
@@ -163,8 +138,7 @@ unfolding sliced symbol_at
 sliced_level z small = eqb-true _ _ (at_below (λ y. nat_eq (sliced (symbol_at 1 y)) y) 8 z refl small)
 
 level_back : (scale z : ℕ) → 0 < scale → scale < 19 → z < 8 → sliced (decided scale (symbol_at scale z)) ≡ z
-level_back scale z some most small =
-    ap sliced (decided_level scale z some most small) ∙ sliced_level z small
+level_back scale z some most small = ap sliced (decided_level scale z some most small) ∙ sliced_level z small
 
 -- the symbol of a coder's path
 path_symbol : (scale : ℕ) (pins : List (List ℕ)) (rows paths : List (List ℤ)) (e t : ℕ) (l : e < 12)
@@ -174,9 +148,7 @@ unfolding coder_symbols
 path_symbol scale pins rows paths e t l is m =
     let one = is.coders e l in
     let many : length one.levels ≡ 69 * length rows = one.least.long ∙ length-coder rows e in
-    sym (get_or-map-range_with_len (λ t. data_symbol paths (symbol_place 0 t e)) 0 (69 * length paths) t t (pos 0)
-    (omega (arith, m, is.long)) (omega arith))
-    ∙ ap (λ (xs : List ℤ). get_or xs t (pos 0)) one.symbols
+    sym (grind (arith, get_or-map-range_with_len)) ∙ ap (λ (xs : List ℤ). get_or xs t (pos 0)) one.symbols
     ∙ get_or-map (symbol_at scale) one.levels t 0 (pos 0) (omega (arith, m, many))
 
 -- what a round's paths are
@@ -196,28 +168,16 @@ step_there t n l = omega arith
 symbol_there : (paths : List (List ℤ)) (i k t e : ℕ) → i ≡ t / 69 → k ≡ symbol_place 0 t e % 828
     → get_or (get_or paths i []) (4 + k) (pos 0) ≡ data_symbol paths (symbol_place 0 t e)
 unfolding data_symbol
-symbol_there paths i k t e a b =
-    let whole = place_segment t e in
-    let inside = place_in t e in
-    let row : symbol_place 0 t e / 828 ≡ i = omega (arith, whole, inside, a) in
-    ap₂ (λ (x y : ℕ). get_or (get_or paths x []) (4 + y) (pos 0)) (sym row) b
+symbol_there paths i k t e a b = grind (arith, place_segment, place_in)
 
 -- the level of coder e at step t of a run whose symbols are decided by paths
 pub level_by : (scale : ℕ) (run paths : List (List ℤ)) (own : List ℕ) (t e : ℕ) → 0 < scale → scale < 19
-    → AreSegments run → t < 276 * groups_of run
-    → get_or (data_at run (t / 69)) (4 + symbol_place 0 t e % 828) (pos 0)
+    → AreSegments run → t < 276 * groups_of run → get_or (data_at run (t / 69)) (4 + symbol_place 0 t e % 828) (pos 0)
     ≡ decided scale (get_or (get_or paths (t / 69 % 312) []) (4 + symbol_place 0 t e % 828) (pos 0))
     → data_symbol paths (symbol_place 0 (t % 21528) e) ≡ symbol_at scale (get_or own (t % 21528) 0)
-    → get_or own (t % 21528) 0 < 8
-    → get_or (levels_in run) (symbol_place 0 t e) 0 ≡ get_or own (t % 21528) 0
+    → get_or own (t % 21528) 0 < 8 → get_or (levels_in run) (symbol_place 0 t e) 0 ≡ get_or own (t % 21528) 0
 level_by scale run paths own t e some most long m decision path small =
-    ap (λ x. get_or (levels_in run) x 0) (place_segment t e)
-    ∙ level_in run (t / 69) (symbol_place 0 t e % 828) long (omega arith) (place_in t e)
-    ∙ ap sliced (decision
-    ∙ ap (decided scale) (symbol_there paths (t / 69 % 312) (symbol_place 0 t e % 828) (t % 21528) e
-    (segment_in_field t) (place_in_field t e)
-    ∙ path))
-    ∙ level_back scale (get_or own (t % 21528) 0) some most small
+    grind (arith, place_segment, level_in, place_in, symbol_there, segment_in_field, place_in_field, level_back)
 
 -- the same after a round
 pub level_after : (scale : ℕ) (heard given : List (List ℤ)) (known : List (Option ℕ))
@@ -234,10 +194,7 @@ level_after scale heard given known paths t e l some most long new same m =
     step_there t (length (groups_in heard (t / 21528)))
     (subst (λ f. t / 69 % 312 < length (groups_in heard f)) (field_of_segment t) room) in
     level_by scale (after scale heard known given) (paths_in scale heard known (t / 21528)) one.levels t e some most new
-    (omega (arith, m, groups_after scale heard given known))
-    (symbol_after scale heard given known (t / 69) (symbol_place 0 t e % 828) long same row (place_in t e)
-    ∙ ap (λ f. decided scale (get_or (get_or (paths_in scale heard known f) (t / 69 % 312) [])
-    (4 + symbol_place 0 t e % 828) (pos 0))) (field_of_segment t))
+    (omega (arith, m, groups_after scale heard given known)) (grind (arith, symbol_after, place_in, field_of_segment))
     (path_symbol scale (pins_in heard known (t / 21528)) (groups_in heard (t / 21528))
     (paths_in scale heard known (t / 21528)) e (t % 21528) l (paths (t / 21528)) step)
     (path_small one.levels one.start (t % 21528) one.least.path
@@ -248,21 +205,14 @@ level_after scale heard given known paths t e l some most long new same m =
 pub in_whole_room : (given : List (List ℤ)) (i : ℕ) → in_whole_group given i ≡ true
     → i % 313 - 1 < length (groups_in given (i / 313))
 unfolding in_whole_group
-in_whole_room given i e =
-    let parts = and_parts (nat_lt 0 (i % 313)) (nat_le (i % 313) (length (groups_in given (i / 313)))) e in
-    let some : 0 < i % 313 = ltb-true 0 (i % 313) parts.0 in
-    let room : i % 313 ≤ length (groups_in given (i / 313)) =
-    leb-true (i % 313) (length (groups_in given (i / 313))) parts.1 in
-    omega (arith, some, room)
+in_whole_room given i e = grind (arith, and_parts, ltb-true, leb-true)
 
 pub after_long : (scale : ℕ) (heard given : List (List ℤ)) (known : List (Option ℕ)) → AreSegments given
     → length heard ≡ length given → AreSegments (after scale heard known given)
 unfolding round_segment
 after_long scale heard given known long same i l =
     let there : i < length given = omega (arith, l, length-after scale heard given known) in
-    ap length (get_or-map-range_with_len (round_segment scale heard known given) 0 (length given) i i [] there
-    (omega arith))
-    ∙ by_test there (cases_Bool (in_whole_group given i))
+    ap length (grind (arith, get_or-map-range_with_len)) ∙ by_test there (cases_Bool (in_whole_group given i))
   where
     row : List ℤ
     row = get_or (paths_in scale heard known (i / 313)) (i % 313 - 1) []
@@ -283,6 +233,4 @@ after_long scale heard given known long same i l =
 
 pub in_whole_some : (given : List (List ℤ)) (i : ℕ) → in_whole_group given i ≡ true → 0 < i % 313
 unfolding in_whole_group
-in_whole_some given i e =
-    ltb-true 0 (i % 313)
-    (and_parts (nat_lt 0 (i % 313)) (nat_le (i % 313) (length (groups_in given (i / 313)))) e).0
+in_whole_some given i e = grind (arith, ltb-true, and_parts)

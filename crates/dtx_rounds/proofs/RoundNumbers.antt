@@ -2,7 +2,7 @@
 -- and a round that moves no symbol is the last.
 use Rattle.std.proofs.Common.{◌≡◌, ℕ, ℤ, zero, suc, ◌+◌, ◌-◌, ◌*◌, ◌/◌, ◌<◌, ◌≤◌, Bool, false, cond, Option, None, Some}
 use Rattle.std.proofs.Common.{is_some, List, length, map, filter, get_or, sum, refl, sym, ap, ◌∙◌, arith, ◌⊎◌, inl, inr}
-use Rattle.std.proofs.Common.{[], ◌∷◌, ◌++◌, ap₂, subst, pos, true}
+use Rattle.std.proofs.Common.{[], ◌∷◌, ◌++◌, ap₂, pos}
 use Rattle.std.specs.List.{range_with_len}
 use Rattle.std.specs.Ordering.{int_eq}
 use Rattle.std.proofs.lemmas.Bool.Decides.{Decides-int_eq}
@@ -13,16 +13,15 @@ use Rattle.dtx_lists.proofs.Range.{map-range_same}
 use Rattle.dtx_lists.proofs.RangeMoved.{map-range_moved}
 use Rattle.dtx_lists.proofs.RangeSums.{over, over_parts}
 use Rattle.dtx_outer.specs.Inner.{codeword_byte_place}
-use Rattle.dtx_soft.specs.Softened.{least_cost, softened_cost}
+use Rattle.dtx_soft.specs.Softened.{softened_cost}
 use Rattle.dtx_receiver.specs.Bytes.{bytes_in, data_count, groups_of}
 use Rattle.dtx_receiver.proofs.CompleteLemmas.{complete_told}
-use Rattle.dtx_acquire.specs.Acquired.{acquired, acquired_cost, all_fields, cost_of, heard_in, in_groups, path_cost}
+use Rattle.dtx_acquire.specs.Acquired.{acquired_cost, all_fields, cost_of, heard_in, in_groups, path_cost}
 use Rattle.dtx_pins.specs.Moved.{rows_moved, moved_in}
 use Rattle.dtx_rounds.specs.FieldRound.{words_known}
 use Rattle.dtx_rounds.specs.Fields.{rows_of, AreSegments}
-use Rattle.dtx_rounds.specs.Known.{known_bytes, known_count, known_word}
-use Rattle.dtx_rounds.specs.Rounds.{coder_cost, fields_in, round_cost, round_moved, rounded, groups_in, heard_of}
-use Rattle.dtx_rounds.specs.Rounds.{refined}
+use Rattle.dtx_rounds.specs.Known.{known_count, known_word}
+use Rattle.dtx_rounds.specs.Rounds.{fields_in, round_cost, round_moved, rounded, groups_in, heard_of, refined}
 use Rattle.dtx_rounds.specs.RunField.{IsRounded}
 use Rattle.dtx_rounds.specs.declared.field.Field.{Field}
 use Rattle.dtx_rounds.proofs.FieldRounds.{moves_of_fields}
@@ -50,10 +49,8 @@ add_none x = omega arith
 count_parts : (p : ℕ → Bool) (a m : ℕ) → count p (a + m) ≡ count p a + count (λ k. p (a + k)) m
 count_parts p a zero = (let same : a + 0 ≡ a = omega arith in ap (count p) same ∙ add_none (count p a))
 count_parts p a (suc m) =
-    let next : a + suc m ≡ a + m + 1 = omega arith in
     let one : suc m ≡ m + 1 = omega arith in
-    ap (count p) next ∙ count_next p (a + m)
-    ∙ ap (λ n. n + cond (p (a + m)) 1 0) (count_parts p a m)
+    ap (count p) (omega arith) ∙ count_next p (a + m) ∙ ap (λ n. n + cond (p (a + m)) 1 0) (count_parts p a m)
     ∙ add_three (count p a) (count (λ k. p (a + k)) m) (cond (p (a + m)) 1 0)
     ∙ ap (λ n. count p a + n) (sym (ap (count (λ k. p (a + k))) one ∙ count_next (λ k. p (a + k)) m))
 
@@ -78,12 +75,10 @@ count_of_fields : (p : ℕ → Bool) (n : ℕ)
 count_of_fields p zero = (let none : 0 ≡ 312 * 0 = omega arith in ap (count p) none)
 count_of_fields p (suc n) =
     let next : suc n ≡ n + 1 = omega arith in
-    let both : 312 * n + 312 ≡ 312 * suc n = omega arith in
     ap (λ m. sum (map (λ f. count (λ k. p (312 * f + k)) 312) (range_with_len 0 m))) next
     ∙ sum_next (λ f. count (λ k. p (312 * f + k)) 312) n
-    ∙ ap (λ x. x + count (λ k. p (312 * n + k)) 312) (count_of_fields p n)
-    ∙ sym (count_parts p (312 * n) 312)
-    ∙ ap (count p) both
+    ∙ ap (λ x. x + count (λ k. p (312 * n + k)) 312) (count_of_fields p n) ∙ sym (count_parts p (312 * n) 312)
+    ∙ ap (count p) (omega arith)
 
 -- ---- words
 
@@ -107,30 +102,23 @@ known_in_fields : (given : List (List ℤ)) → AreSegments given
     → count (λ k. is_some (known_word (bytes_in given) k)) (312 * fields_in given) ≡ known_count (bytes_in given)
 unfolding known_count groups_of data_count
 known_in_fields given long =
+    let n : ℕ = length (bytes_in given) / 207 in
+    let few : n ≤ 312 * fields_in given =
+    omega (arith, ap (λ l. l / 207) (length-bytes given long), words_in_fields (length given)) in
+    let whole : n + (312 * fields_in given - n) ≡ 312 * fields_in given = omega (arith, few) in
     ap (count p) (sym whole) ∙ count_parts p n (312 * fields_in given - n)
     ∙ ap (λ m. count p n + m) (no_count (λ k. p (n + k)) (312 * fields_in given - n)
-    (λ k. unknown_past (bytes_in given) (n + k) (omega arith)))
-    ∙ sym (add_none (count p n))
+    (λ k. unknown_past (bytes_in given) (n + k) (omega arith))) ∙ sym (add_none (count p n))
   where
     p : ℕ → Bool
     p k = is_some (known_word (bytes_in given) k)
-
-    n : ℕ
-    n = length (bytes_in given) / 207
-
-    few : n ≤ 312 * fields_in given
-    few = omega (arith, ap (λ l. l / 207) (length-bytes given long), words_in_fields (length given))
-
-    whole : n + (312 * fields_in given - n) ≡ 312 * fields_in given
-    whole = omega (arith, few)
 
 -- the words that are known of a field
 field_words : (words : List Bool) (bytes : List ℕ) (f : ℕ)
     → words ≡ map (λ k. is_some (known_word bytes (312 * f + k))) (range_with_len 0 312)
     → words_known words ≡ count (λ k. is_some (known_word bytes (312 * f + k))) 312
 unfolding words_known
-field_words words bytes f e =
-    count_same (λ k. get_or words k false) q 312
+field_words words bytes f e = count_same (λ k. get_or words k false) q 312
     (λ k l. ap (λ xs. get_or xs k false) e ∙ get_or-map-range_with_len q 0 312 k k false l (omega arith))
   where
     q : ℕ → Bool
@@ -142,34 +130,25 @@ field_words words bytes f e =
 abbrev pub AreRounded : ℕ → List (List ℤ) → List (List ℤ) → (ℕ → Field) → Type 0
 AreRounded scale heard given field = (f : ℕ) → f < fields_in given → IsRounded scale heard given f (field f)
 
-pub costs_together : (scale : ℕ) (heard given : List (List ℤ)) (field : ℕ → Field)
-    → AreRounded scale heard given field
+pub costs_together : (scale : ℕ) (heard given : List (List ℤ)) (field : ℕ → Field) → AreRounded scale heard given field
     → sum (map (λ f. (field f).cost) (range_with_len 0 (fields_in given))) ≡ round_cost scale heard given
 unfolding round_cost
-costs_together scale heard given field h =
-    ap sum (map-range_same (λ f. (field f).cost)
-    (λ f. sum (map (coder_cost scale heard (known_bytes (bytes_in given)) f) (range_with_len 0 12))) 0
-    (fields_in given) (λ f a l. (h f (omega (arith, l))).cost))
+costs_together scale heard given field h = grind (arith, map-range_same)
 
-pub moves_together : (scale : ℕ) (heard given : List (List ℤ)) (field : ℕ → Field)
-    → AreRounded scale heard given field
+pub moves_together : (scale : ℕ) (heard given : List (List ℤ)) (field : ℕ → Field) → AreRounded scale heard given field
     → sum (map (λ f. (field f).moved) (range_with_len 0 (fields_in given))) ≡ round_moved scale heard given
 unfolding round_moved
-moves_together scale heard given field h =
-    ap sum (map-range_same (λ f. (field f).moved)
+moves_together scale heard given field h = ap sum (map-range_same (λ f. (field f).moved)
     (λ f. rows_moved (rows_of given f) (rows_of (rounded scale heard given) f)) 0
-    (fields_in given) (λ f a l. (h f (omega (arith, l))).moved))
-    ∙ moves_of_fields given (rounded scale heard given)
+    (fields_in given) (λ f a l. (h f (omega (arith, l))).moved)) ∙ moves_of_fields given (rounded scale heard given)
 
 pub words_together : (scale : ℕ) (heard given : List (List ℤ)) (field : ℕ → Field) → AreSegments given
     → AreRounded scale heard given field
     → sum (map (λ f. words_known (field f).words) (range_with_len 0 (fields_in given))) ≡ known_count (bytes_in given)
-words_together scale heard given field long h =
-    ap sum (map-range_same (λ f. words_known (field f).words)
+words_together scale heard given field long h = ap sum (map-range_same (λ f. words_known (field f).words)
     (λ f. count (λ k. is_some (known_word (bytes_in given) (312 * f + k))) 312) 0
     (fields_in given) (λ f a l. field_words (field f).words (bytes_in given) f (h f (omega (arith, l))).turned.words))
-    ∙ count_of_fields (λ k. is_some (known_word (bytes_in given) k)) (fields_in given)
-    ∙ known_in_fields given long
+    ∙ count_of_fields (λ k. is_some (known_word (bytes_in given) k)) (fields_in given) ∙ known_in_fields given long
 
 -- ---- rounds
 
@@ -180,18 +159,7 @@ pub costs_whole : (scale r : ℕ) (symbols : List ℤ) → 0 < scale → scale <
     → round_cost scale (heard_of symbols) (refined scale symbols r)
     ≤ round_cost scale (heard_of symbols) (refined scale symbols (r + 1))
 unfolding round_cost
-costs_whole scale r symbols some most =
-    subst (λ n. over (costs r) 0 (fields_in (refined scale symbols r)) ≤ over (costs (r + 1)) 0 n)
-    (fields_same (refined scale symbols r) (refined scale symbols (r + 1))
-    (length-refined scale r symbols ∙ sym (length-refined scale (r + 1) symbols)))
-    (sums_rise (costs r) (costs (r + 1)) (fields_in (refined scale symbols r))
-    (λ f l. sums_rise (cost r f) (cost (r + 1) f) 12 (λ e m. costs_next scale r f e symbols some most m)))
-  where
-    cost : ℕ → ℕ → ℕ → ℕ
-    cost r f = coder_cost scale (heard_of symbols) (known_bytes (bytes_in (refined scale symbols r))) f
-
-    costs : ℕ → ℕ → ℕ
-    costs r f = sum (map (cost r f) (range_with_len 0 12))
+costs_whole scale r symbols some most = grind (arith, over, fields_same, length-refined, sums_rise, costs_next)
 
 -- ---- what was acquired
 
@@ -214,9 +182,7 @@ next_field n m e = omega arith
 -- a whole field in front
 cost_next : (scale : ℕ) (sync : List ℤ) (rows rest : List (List ℤ)) → length rows ≡ 312
     → softened_cost scale (in_groups rows) + run_cost scale rest ≡ run_cost scale ((sync ∷ rows) ++ rest)
-cost_next scale sync rows rest e =
-    sym (ap (over costs 0) count
-    ∙ over_parts costs 0 1 (fields_in rest)
+cost_next scale sync rows rest e = sym (ap (over costs 0) count ∙ over_parts costs 0 1 (fields_in rest)
     ∙ ap₂ (λ (x y : ℕ). x + y) (sum_next costs 0 ∙ first)
     (ap sum (map-range_moved costs (λ f. softened_cost scale (groups_in rest f)) (0 + 1) 0 (fields_in rest) behind)))
   where
@@ -224,9 +190,7 @@ cost_next scale sync rows rest e =
     costs f = softened_cost scale (groups_in ((sync ∷ rows) ++ rest) f)
 
     count : fields_in ((sync ∷ rows) ++ rest) ≡ 1 + fields_in rest
-    count =
-        ap (λ n. (n + 312) / 313) (length-append (sync ∷ rows) rest)
-        ∙ next_field (length (sync ∷ rows)) (length rest) (omega (arith, e))
+    count = grind (arith, length-append, next_field)
 
     first : 0 + costs 0 ≡ softened_cost scale (in_groups rows)
     first = none_before (costs 0) ∙ ap (softened_cost scale) (groups_first sync rows rest (inl e))
@@ -235,25 +199,13 @@ cost_next scale sync rows rest e =
     behind j l =
         let here : 0 + 1 + j ≡ j + 1 = omega arith in
         let there : j ≡ 0 + j = omega arith in
-        ap costs here
-        ∙ ap (softened_cost scale) (groups_next (sync ∷ rows) rest j (ap suc e))
+        ap costs here ∙ ap (softened_cost scale) (groups_next (sync ∷ rows) rest j (ap suc e))
         ∙ ap (λ f. softened_cost scale (groups_in rest f)) there
 
 -- a field that is the last one
 cost_last : (scale : ℕ) (sync : List ℤ) (rows rest : List (List ℤ)) → length rows ≤ 312 → rest ≡ []
     → softened_cost scale (in_groups rows) ≡ run_cost scale ((sync ∷ rows) ++ rest)
-cost_last scale sync rows rest l e =
-    sym (ap (over (λ f. softened_cost scale (groups_in ((sync ∷ rows) ++ rest) f)) 0)
-    (one_field (length ((sync ∷ rows) ++ rest)) (omega (arith, long, none)) (omega (arith, long, none, l)))
-    ∙ sum_next (λ f. softened_cost scale (groups_in ((sync ∷ rows) ++ rest) f)) 0
-    ∙ none_before (softened_cost scale (groups_in ((sync ∷ rows) ++ rest) 0))
-    ∙ ap (softened_cost scale) (groups_first sync rows rest (inr (l, e))))
-  where
-    none : length rest ≡ 0
-    none = ap length e
-
-    long : length ((sync ∷ rows) ++ rest) ≡ length (sync ∷ rows) + length rest
-    long = length-append (sync ∷ rows) rest
+cost_last scale sync rows rest l e = grind (arith, over, one_field, sum_next, none_before, groups_first, length-append)
 
 -- fields of no segments cost nothing, and the others are those of the run
 cost_of_fields : (scale : ℕ) (fields : List acquirers.Field) → AreFields fields
@@ -270,53 +222,23 @@ cost_of_fields scale (x ∷ xs) h =
     by_last (y ∷ ys) e (inl a) n l = inl (omega (arith, a, l))
     by_last (y ∷ ys) e (inr a) n l = absurd (omega (arith, a, l))
 
-    by_segments : (segments : List (List ℤ)) → x.segments ≡ segments
-        → cost_of scale xs ≡ run_cost scale (heard_in xs)
+    by_segments : (segments : List (List ℤ)) → x.segments ≡ segments → cost_of scale xs ≡ run_cost scale (heard_in xs)
         → path_cost scale segments + cost_of scale xs ≡ run_cost scale (segments ++ heard_in xs)
     by_segments [] e rest = none_before (cost_of scale xs) ∙ rest
-    by_segments (sync ∷ rows) e rest = by_place (by_last xs refl h.1 (length rows) (ap length e))
-      where
-        by_place : (length rows ≡ 312) ⊎ ((length rows ≤ 312) × (xs ≡ []))
-            → softened_cost scale (in_groups rows) + cost_of scale xs
-            ≡ run_cost scale ((sync ∷ rows) ++ heard_in xs)
-        by_place (inl l) =
-            ap (λ n. softened_cost scale (in_groups rows) + n) rest ∙ cost_next scale sync rows (heard_in xs) l
-        by_place (inr l) =
-            ap (λ n. softened_cost scale (in_groups rows) + n) (ap (cost_of scale) l.1)
-            ∙ none_more (softened_cost scale (in_groups rows))
-            ∙ cost_last scale sync rows (heard_in xs) l.0 (ap heard_in l.1)
+    by_segments (sync ∷ rows) e rest = grind (arith, cost_next, none_more, cost_last)
 
 pub costs_begin : (scale : ℕ) (symbols : List ℤ) → AreFields (all_fields symbols)
     → acquired_cost scale symbols ≤ round_cost scale (heard_of symbols) (refined scale symbols 0)
 unfolding acquired_cost round_cost softened_cost heard_of
-costs_begin scale symbols h =
-    subst (λ n. n ≤ over costs 0 (fields_in (refined scale symbols 0)))
-    (sym (cost_of_fields scale (all_fields symbols) h))
-    (subst (λ n. run_cost scale (heard_of symbols) ≤ over costs 0 n)
-    (fields_same (heard_of symbols) (refined scale symbols 0)
-    (same_count scale 0 symbols))
-    (sums_rise (λ f. softened_cost scale (groups_in (heard_of symbols) f)) costs (fields_in (heard_of symbols))
-    (λ f l. sums_rise (least_cost scale (groups_in (heard_of symbols) f)) (coder_cost scale (heard_of symbols) known f)
-    12 (λ e m. known_costs_more scale (heard_of symbols) known f e))))
-  where
-    known : List (Option ℕ)
-    known = known_bytes (bytes_in (refined scale symbols 0))
-
-    costs : ℕ → ℕ
-    costs f = sum (map (coder_cost scale (heard_of symbols) known f) (range_with_len 0 12))
+costs_begin scale symbols h = grind (arith, over, cost_of_fields, fields_same, same_count, sums_rise, known_costs_more)
 
 same_symbol : (a b : ℤ) → ◌≡◌ {A = ℕ} (cond (int_eq a b) 0 1) 0 → a ≡ b
-same_symbol a b e = by_test (int_eq a b) refl e
-  where
-    by_test : (t : Bool) → int_eq a b ≡ t → ◌≡◌ {A = ℕ} (cond t 0 1) 0 → a ≡ b
-    by_test true h f = (Decides-int_eq a b).0 h
-    by_test false h f = absurd (omega (arith, f))
+same_symbol a b e = grind (arith, Decides-int_eq)
 
 -- two segments that differ in no symbol
 same_row : (old new : List ℤ) → length old ≡ 832 → length new ≡ 832 → moved_in old new ≡ 0 → old ≡ new
 unfolding moved_in
-same_row old new long long_too e =
-    same_items (pos 0) 832 old new long long_too
+same_row old new long long_too e = same_items (pos 0) 832 old new long long_too
     (λ k l. same_symbol (get_or old k (pos 0)) (get_or new k (pos 0))
     (sum_zero (λ k. cond {A = ℕ} (int_eq (get_or old k (pos 0)) (get_or new k (pos 0))) 0 1) 832 e k l))
 
@@ -324,13 +246,11 @@ pub still_round : (scale : ℕ) (heard given : List (List ℤ)) → AreSegments 
     → round_moved scale heard given ≡ 0 → rounded scale heard given ≡ given
 unfolding round_moved
 still_round scale heard given long same e =
+    let after : List (List ℤ) = rounded scale heard given in
     same_items [] (length given) after given (length-rounded scale heard given) refl
     (λ i l. sym (same_row (get_or given i []) (get_or after i []) (long i l)
     (rounded_long scale heard given long same i (omega (arith, l, length-rounded scale heard given)))
     (sum_zero (λ i. moved_in (get_or given i []) (get_or after i [])) (length given) e i l)))
-  where
-    after : List (List ℤ)
-    after = rounded scale heard given
 
 -- the other way round
 pub none_moved : (scale : ℕ) (heard given : List (List ℤ)) → rounded scale heard given ≡ given
@@ -342,7 +262,4 @@ none_moved scale heard given e = ap (rows_moved given) e ∙ still_rows given
 pub still_capture : (scale r n : ℕ) (symbols : List ℤ)
     → round_moved scale (heard_of symbols) (refined scale symbols r) ≡ 0
     → refined scale symbols (r + n) ≡ refined scale symbols r
-still_capture scale r n symbols e =
-    refined_stays scale r n symbols (refined_next scale r symbols
-    ∙ still_round scale (heard_of symbols) (refined scale symbols r) (refined_long scale r symbols)
-    (same_count scale r symbols) e)
+still_capture scale r n symbols e = grind (arith, refined_stays, refined_next, still_round, refined_long, same_count)

@@ -27,12 +27,7 @@ place_in t e = omega arith
 -- the same in its field
 pub place_in_field : (t e : ℕ) → symbol_place 0 t e % 828 ≡ symbol_place 0 (t % 21528) e % 828
 unfolding symbol_place
-place_in_field t e = by_turn ((0 + t / 69) % 3) (omega arith) (omega arith)
-  where
-    by_turn : (x : ℕ) → (0 + t / 69) % 3 ≡ x → (0 + t % 21528 / 69) % 3 ≡ x
-        → (12 * t + (e + 12 - 4 * ((0 + t / 69) % 3)) % 12) % 828
-        ≡ (12 * (t % 21528) + (e + 12 - 4 * ((0 + t % 21528 / 69) % 3)) % 12) % 828
-    by_turn x a b = omega (arith, a, b)
+place_in_field t e = grind arith
 
 pub segment_in_field : (t : ℕ) → t / 69 % 312 ≡ t % 21528 / 69
 segment_in_field t = omega arith
@@ -45,21 +40,7 @@ field_of_segment t = omega arith
 -- a coder works on a byte in four steps
 pub step_byte : (n i : ℕ) → i < 4 → byte_at_step (coder_of 0 n) (4 * (n / 12) + i) ≡ n
 unfolding byte_at_step byte_place group_place coder_of
-step_byte n i l =
-    by_parts ((4 * (n / 12) + i) / 276) ((4 * (n / 12) + i) % 276 / 4) ((0 + 4 * (n / 12) / 69) % 3) (omega arith)
-    (omega arith) (omega arith)
-    (turn_same ((4 * (n / 12) + i) / 276) ((4 * (n / 12) + i) % 276 / 4) (n / 12) (omega arith))
-  where
-    turn_same : (u h b : ℕ) → b ≡ 69 * u + h → ((0 + 4 * u) % 312 + 4 * h / 69) % 3 ≡ (0 + 4 * b / 69) % 3
-    turn_same u h b e = omega arith
-
-    by_parts : (u h x : ℕ) → n ≡ 828 * u + 12 * h + n % 12 → x < 3 → (0 + 4 * (n / 12) / 69) % 3 ≡ x
-        → ((0 + 4 * u) % 312 + 4 * h / 69) % 3 ≡ (0 + 4 * (n / 12) / 69) % 3
-        → 828 * u
-        + (12 * h + ((n % 12 + 4 * ((0 + 4 * (n / 12) / 69) % 3)) % 12 + 12
-        - 4 * (((0 + 4 * u) % 312 + 4 * h / 69) % 3)) % 12)
-        ≡ n
-    by_parts u h x e m a b = omega (arith, e, m, a, b)
+step_byte n i l = grind arith
 
 -- which pair of the byte it is
 pub step_pair : (n i : ℕ) → i < 4 → (4 * (n / 12) + i) % 276 % 4 ≡ i
@@ -68,27 +49,12 @@ step_pair n i l = omega arith
 -- byte 0 of a word alone may be one whose first step is the first of a field
 pub later_step : (k j i : ℕ) → 0 < j → j < 207 → i < 4
     → 0 < (4 * ((207 * k + j + 52 * 4 * ((207 * k + j) % 52)) / 12) + i) % 21528
-later_step k j i a b c =
-    by_place (207 * k + j) (207 * k + j + 52 * 4 * ((207 * k + j) % 52)) refl
-    (word_place k j (207 * k + j + 52 * 4 * ((207 * k + j) % 52)) a b refl)
-  where
-    word_place : (k j n : ℕ) → 0 < j → j < 207 → n ≡ 207 * k + j + 52 * 4 * ((207 * k + j) % 52) → 12 ≤ n % 64584
-    word_place k j n a b e = omega arith
-
-    by_place : (m n : ℕ) → n ≡ m + 52 * 4 * (m % 52) → 12 ≤ n % 64584 → 0 < (4 * (n / 12) + i) % 21528
-    by_place m n e l = omega arith
+later_step k j i a b c = grind arith
 
 -- the step of a coder's byte, back from the byte
 pub byte_coder : (t e : ℕ) → e < 12 → coder_of 0 (byte_at_step e t) ≡ e
 unfolding byte_at_step byte_place group_place coder_of
-byte_coder t e l =
-    by_turn ((0 + 4 * (t / 276)) % 312) (t / 276) (t % 276 / 4)
-    (((0 + 4 * (t / 276)) % 312 + 4 * (t % 276 / 4) / 69) % 3) refl (omega arith) refl (omega arith)
-  where
-    by_turn : (s u h x : ℕ) → (0 + 4 * u) % 312 ≡ s → h < 69 → (s + 4 * h / 69) % 3 ≡ x → x < 3
-        → ((828 * u + (12 * h + (e + 12 - 4 * ((s + 4 * h / 69) % 3)) % 12)) % 12
-        + 4 * ((0 + 4 * ((828 * u + (12 * h + (e + 12 - 4 * ((s + 4 * h / 69) % 3)) % 12)) / 12) / 69) % 3)) % 12 ≡ e
-    by_turn s u h x a b c m = omega (arith, a, b, c, m, l)
+byte_coder t e l = grind arith
 
 pub byte_step : (t e : ℕ) → 4 * (byte_at_step e t / 12) + t % 4 ≡ t
 unfolding byte_at_step byte_place group_place
@@ -102,10 +68,7 @@ same_place a b k f x e h = ap₂ (λ i j. get_or (f i) j 0) e h
 row_at : (f : ℕ → List ℕ) (a n i k : ℕ) → ((j : ℕ) → a ≤ j → j < a + n → length (f j) ≡ 828) → i < n → k < 828
     → get_or (flat_map f (range_with_len a n)) (828 * i + k) 0 ≡ get_or (f (a + i)) k 0
 row_at f a zero i k h l m = absurd (omega arith)
-row_at f a (suc n) zero k h l m =
-    let first : length (f a) ≡ 828 = h a (omega arith) (omega arith) in
-    get_or_append_left (f a) (flat_map f (range_with_len (a + 1) n)) 0 (828 * 0 + k) (omega (arith, first, m))
-    ∙ same_place a (a + 0) k f (828 * 0 + k) (omega arith) (omega arith)
+row_at f a (suc n) zero k h l m = grind (arith, get_or_append_left, same_place)
 row_at f a (suc n) (suc i) k h l m =
     let first : length (f a) ≡ 828 = h a (omega arith) (omega arith) in
     let there : 828 * suc i + k - 828 ≡ 828 * i + k = omega arith in
@@ -119,10 +82,9 @@ rows_long : (f : ℕ → List ℕ) (a n : ℕ) → ((j : ℕ) → a ≤ j → j 
     → length (flat_map f (range_with_len a n)) ≡ 828 * n
 rows_long f a zero h = refl
 rows_long f a (suc n) h =
-    let first : length (f a) ≡ 828 = h a (omega arith) (omega arith) in
     let rest = rows_long f (a + 1) n (λ j b c. h j (omega arith) (omega arith)) in
     let both = length-append (f a) (flat_map f (range_with_len (a + 1) n)) in
-    omega (arith, first, rest, both)
+    omega (arith, rest, both)
 
 -- ---- levels
 
@@ -147,13 +109,11 @@ pub level_from : (run : List (List ℤ)) (n d k : ℕ) → AreSegments run → n
     → get_or (levels_from run 0 n) (828 * d + k) 0 ≡ sliced (get_or (data_at run d) (4 + k) (pos 0))
 unfolding levels_from sliced_data
 level_from run n d k h few l m =
-    let none : 0 + d ≡ d = omega arith in
     let rest : k < length (drop 4 (data_at run d)) =
     omega (arith, m, length-drop 4 (data_at run d), data_long run d h (omega (arith, l, few))) in
     row_at (λ i. sliced_data (data_at run i)) 0 n d k (λ j a b. rows_are run h j a (omega (arith, b, few))) l m
-    ∙ ap (λ i. get_or (sliced_data (data_at run i)) k 0) none
-    ∙ get_or-map sliced (drop 4 (data_at run d)) k (pos 0) 0 rest
-    ∙ ap sliced (get_or-drop 4 (data_at run d) k (pos 0))
+    ∙ ap (λ i. get_or (sliced_data (data_at run i)) k 0) (omega arith)
+    ∙ get_or-map sliced (drop 4 (data_at run d)) k (pos 0) 0 rest ∙ ap sliced (get_or-drop 4 (data_at run d) k (pos 0))
 
 -- the same among all
 pub level_in : (run : List (List ℤ)) (d k : ℕ) → AreSegments run → d < 4 * groups_of run → k < 828
@@ -164,15 +124,11 @@ level_in run d k h l m = level_from run (4 * groups_of run) d k h (omega arith) 
 pub length-from : (run : List (List ℤ)) (a n : ℕ) → AreSegments run → a + n ≤ 4 * groups_of run
     → length (levels_from run a n) ≡ 828 * n
 unfolding levels_from
-length-from run a n h l =
-    rows_long (λ i. sliced_data (data_at run i)) a n
-    (λ j b c. segment_long (data_at run j) (data_long run j h (omega (arith, c, l))))
+length-from run a n h l = grind (arith, rows_long, segment_long, data_long)
 
 pub length-levels : (run : List (List ℤ)) → AreSegments run → length (levels_in run) ≡ 3312 * groups_of run
 unfolding levels_in levels_from
-length-levels run h =
-    (let long = rows_long (λ i. sliced_data (data_at run i)) 0 (4 * groups_of run) (rows_are run h) in
-    omega (arith, long))
+length-levels run h = grind (arith, rows_long, rows_are)
 
 -- ---- bytes
 
@@ -182,13 +138,9 @@ level_groups_are run h = (let long = length-levels run h in omega (arith, long))
 
 pub length-bytes : (run : List (List ℤ)) → AreSegments run → length (bytes_in run) ≡ 828 * groups_of run
 unfolding bytes_in bytes_back
-length-bytes run h =
-    length-map-range_with_len (byte_back 0 (first_bits run) (levels_in run)) 0 (828 * level_groups (levels_in run))
-    ∙ ap (λ g. 828 * g) (level_groups_are run h)
+length-bytes run h = grind (arith, length-map-range_with_len, level_groups_are)
 
 pub byte_in : (run : List (List ℤ)) (n : ℕ) → AreSegments run → n < 828 * groups_of run
     → get_or (bytes_in run) n 0 ≡ byte_back 0 (first_bits run) (levels_in run) n
 unfolding bytes_in bytes_back
-byte_in run n h l =
-    get_or-map-range_with_len (byte_back 0 (first_bits run) (levels_in run)) 0 (828 * level_groups (levels_in run)) n n
-    0 (omega (arith, l, level_groups_are run h)) (omega arith)
+byte_in run n h l = grind (arith, get_or-map-range_with_len, level_groups_are)

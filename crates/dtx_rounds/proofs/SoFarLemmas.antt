@@ -2,18 +2,15 @@
 -- of its front alone. The front has one field more, since a word that begins in a field ends in the next one at the
 -- latest.
 use Rattle.std.proofs.Common.{◌≡◌, ℕ, ℤ, zero, suc, ◌+◌, ◌-◌, ◌*◌, ◌/◌, ◌%◌, ◌<◌, ◌≤◌, Option, None, List, [], ◌++◌}
-use Rattle.std.proofs.Common.{length, take, drop, get_or, refl, sym, ap, ap₂, ◌∙◌, subst, arith, take-add, ◌⊎◌, inl}
-use Rattle.std.proofs.Common.{inr, append_assoc, take-append-drop, Some}
+use Rattle.std.proofs.Common.{length, take, drop, refl, sym, ap, ap₂, ◌∙◌, subst, arith, take-add, ◌⊎◌, inl, inr}
+use Rattle.std.proofs.Common.{append_assoc, take-append-drop, Some}
 use Rattle.std.proofs.lemmas.Bool.{cond-true, cases_lt}
 use Rattle.std.proofs.lemmas.List.{drop-take, get_or-drop, get_or-take, length-take-le, take-take, take_all, append-nil}
 use Rattle.std.proofs.lemmas.List.{length-append, take_at}
 use Rattle.dtx_lists.proofs.RangeMoved.{flat_map-range_same}
-use Rattle.dtx_laws.specs.Words.{correction}
-use Rattle.dtx_outer.specs.Inner.{IsComplete, codeword_byte_place, word_at}
-use Rattle.dtx_slice.specs.Slicing.{sliced_data, sliced_last}
-use Rattle.dtx_slice.specs.Unrolled.{bytes_back, precoder_bits_after, precoder_bits_of}
+use Rattle.dtx_outer.specs.Inner.{IsComplete, codeword_byte_place}
+use Rattle.dtx_slice.specs.Unrolled.{bytes_back, precoder_bits_after}
 use Rattle.dtx_receiver.specs.Bytes.{bytes_in, data_at, data_count, first_bits, groups_of, levels_from}
-use Rattle.dtx_receiver.specs.Packets.{is_complete}
 use Rattle.dtx_receiver.proofs.CompleteLemmas.{complete_told}
 use Rattle.dtx_acquire.specs.Acquired.{acquired, acquired_rest, acquired_so_far, heard_rest, heard_so_far}
 use Rattle.dtx_acquire.proofs.AcquiredLemmas.{all_is_acquired, all_is_heard, heard_grows, length-heard_so_far}
@@ -39,17 +36,14 @@ abbrev pub front : ℕ → List (List ℤ) → List (List ℤ)
 front t run = take (313 * (t + 1)) run
 
 front_long : (t : ℕ) (run : List (List ℤ)) → AreSegments run → 313 * (t + 1) ≤ length run → AreSegments (front t run)
-front_long t run long room i l =
-    let there : i < 313 * (t + 1) = omega (arith, l, length-take-le (313 * (t + 1)) run room) in
-    ap length (get_or-take (313 * (t + 1)) run i [] there) ∙ long i (omega (arith, there, room))
+front_long t run long room i l = grind (arith, length-take-le, get_or-take)
 
 whole_groups : (n : ℕ) → (313 * n - (313 * n + 312) / 313) / 4 ≡ 78 * n
 whole_groups n = omega arith
 
 front_groups : (t : ℕ) (run : List (List ℤ)) → 313 * (t + 1) ≤ length run → groups_of (front t run) ≡ 78 * (t + 1)
 unfolding groups_of data_count
-front_groups t run room =
-    ap (λ n. (n - (n + 312) / 313) / 4) (length-take-le (313 * (t + 1)) run room) ∙ whole_groups (t + 1)
+front_groups t run room = grind (arith, length-take-le, whole_groups)
 
 groups_room : (n l : ℕ) → 313 * n ≤ l → 78 * n ≤ (l - (l + 312) / 313) / 4
 groups_room n l h = omega arith
@@ -62,38 +56,28 @@ run_groups t run room = groups_room (t + 1) (length run) room
 
 front_bits : (t : ℕ) (run : List (List ℤ)) → first_bits (front t run) ≡ first_bits run
 unfolding first_bits
-front_bits t run =
-    ap (λ segment. precoder_bits_of (sliced_last segment)) (get_or-take (313 * (t + 1)) run 0 [] (omega arith))
+front_bits t run = grind (arith, get_or-take)
 
-front_levels : (t n : ℕ) (run : List (List ℤ)) → n ≤ 312 * (t + 1)
-    → levels_from (front t run) 0 n ≡ levels_from run 0 n
+front_levels : (t n : ℕ) (run : List (List ℤ)) → n ≤ 312 * (t + 1) → levels_from (front t run) 0 n ≡ levels_from run 0 n
 unfolding levels_from data_at
-front_levels t n run l =
-    flat_map-range_same (λ i. sliced_data (get_or (front t run) (i + i / 312 + 1) []))
-    (λ i. sliced_data (get_or run (i + i / 312 + 1) [])) 0 n
-    (λ i a b. ap sliced_data (get_or-take (313 * (t + 1)) run (i + i / 312 + 1) [] (omega (arith, b, l))))
+front_levels t n run l = grind (arith, flat_map-range_same, get_or-take)
 
 -- the bytes of a run's first fields
 first_bytes : (t : ℕ) (run : List (List ℤ)) → AreSegments run → 78 * (t + 1) ≤ groups_of run
     → take (64584 * (t + 1)) (bytes_in run)
     ≡ bytes_back 0 (precoder_bits_after 0 (first_bits run) (levels_from run 0 0)) (levels_from run 0 (312 * (t + 1)))
 first_bytes t run long room =
-    let size : 64584 * (t + 1) ≡ 828 * (78 * (t + 1)) = omega arith in
     let count : 4 * (78 * (t + 1)) ≡ 312 * (t + 1) = omega arith in
-    ap (λ n. take n (bytes_in run)) size
-    ∙ bytes_in_field run 0 (78 * (t + 1)) long (omega (arith, room))
+    ap (λ n. take n (bytes_in run)) (omega arith) ∙ bytes_in_field run 0 (78 * (t + 1)) long (omega (arith, room))
     ∙ ap (λ n. bytes_back 0 (field_bits run 0) (levels_from run 0 n)) count
 
 front_bytes : (t : ℕ) (run : List (List ℤ)) → AreSegments run → 313 * (t + 1) ≤ length run
     → bytes_in (front t run) ≡ take (64584 * (t + 1)) (bytes_in run)
-front_bytes t run long room =
-    sym (take_all (64584 * (t + 1)) (bytes_in (front t run))
-    (omega (arith, length-bytes (front t run) (front_long t run long room), front_groups t run room)))
+front_bytes t run long room = sym (grind (arith, take_all, length-bytes, front_long, front_groups))
     ∙ first_bytes t (front t run) (front_long t run long room) (omega (arith, front_groups t run room))
     ∙ ap₂ (λ bits levels. bytes_back 0 bits levels)
     (ap₂ (λ bits levels. precoder_bits_after 0 bits levels) (front_bits t run) (front_levels t 0 run (omega arith)))
-    (front_levels t (312 * (t + 1)) run (omega arith))
-    ∙ sym (first_bytes t run long (run_groups t run room))
+    (front_levels t (312 * (t + 1)) run (omega arith)) ∙ sym (first_bytes t run long (run_groups t run room))
 
 -- ---- what is known of them
 
@@ -101,10 +85,7 @@ front_bytes t run long room =
 word_front : (bytes : List ℕ) (n k : ℕ) → n ≤ length bytes → IsComplete 207 52 4 n k
     → known_word (take n bytes) k ≡ known_word bytes k
 unfolding known_word
-word_front bytes n k l c =
-    known_there bytes n k l c
-    ∙ sym (cond-true (is_complete (length bytes) k) (correction 207 187 (word_at 207 52 4 bytes k)) None
-    ((complete_told (length bytes) k).1 (λ j m. omega (arith, c j m, l))))
+word_front bytes n k l c = grind (arith, known_there, cond-true, complete_told)
 
 -- the word of a byte ends in the field behind the byte's at the latest
 word_ends : (t n j : ℕ) → n < 64584 * t → 208 * (n % 52) ≤ n → j < 207
@@ -113,26 +94,20 @@ word_ends t n j l m s = omega arith
 
 byte_front : (bytes : List ℕ) (t n : ℕ) → 64584 * (t + 1) ≤ length bytes → n < 64584 * t
     → known_byte (take (64584 * (t + 1)) bytes) n ≡ known_byte bytes n
-byte_front bytes t n room l =
-    sym (known_byte_same (take (64584 * (t + 1)) bytes) n)
+byte_front bytes t n room l = sym (known_byte_same (take (64584 * (t + 1)) bytes) n)
     ∙ code_byte_same (known_word (take (64584 * (t + 1)) bytes)) (known_word bytes) n
-    (λ valid. word_front bytes (64584 * (t + 1)) ((n - 208 * (n % 52)) / 207) room
-    (λ j s. word_ends t n j l valid s))
-    ∙ known_byte_same bytes n
+    (λ valid. grind (arith, word_front, word_ends)) ∙ known_byte_same bytes n
 
 -- all that is known of the bytes of a run's first t fields is known of its front
 pub known_front : (t n : ℕ) (run : List (List ℤ)) → AreSegments run → 313 * (t + 1) ≤ length run → n < 64584 * t
     → known_byte (bytes_in (front t run)) n ≡ known_byte (bytes_in run) n
-known_front t n run long room l =
-    ap (λ bytes. known_byte bytes n) (front_bytes t run long room)
+known_front t n run long room l = ap (λ bytes. known_byte bytes n) (front_bytes t run long room)
     ∙ byte_front (bytes_in run) t n (omega (arith, length-bytes run long, run_groups t run room)) l
 
 -- ---- a round
 
 rows_front : (t f : ℕ) (run : List (List ℤ)) → f < t → rows_of (front t run) f ≡ rows_of run f
-rows_front t f run l =
-    let parts : 313 * (t + 1) ≡ 313 * f + 313 * (t + 1 - f) = omega (arith, l) in
-    ap (λ n. take 313 (drop (313 * f) (take n run))) parts
+rows_front t f run l = ap (λ n. take 313 (drop (313 * f) (take n run))) (omega (arith, l))
     ∙ ap (take 313) (drop-take (313 * f) (313 * (t + 1 - f)) run)
     ∙ take-take 313 (313 * (t + 1 - f)) (drop (313 * f) run) (omega (arith, l))
 
@@ -140,13 +115,9 @@ rows_front t f run l =
 fields_same : (t : ℕ) (one other : List (List ℤ)) → ((f : ℕ) → f < t → rows_of one f ≡ rows_of other f)
     → take (313 * t) one ≡ take (313 * t) other
 fields_same zero one other h = refl
-fields_same (suc t) one other h =
-    let next : 313 * suc t ≡ 313 * t + 313 = omega arith in
-    ap (λ n. take n one) next
-    ∙ take-add (313 * t) 313 one
+fields_same (suc t) one other h = ap (λ n. take n one) (omega arith) ∙ take-add (313 * t) 313 one
     ∙ ap₂ (λ (xs ys : List (List ℤ)). xs ++ ys) (fields_same t one other (λ f l. h f (omega (arith, l))))
-    (h t (omega arith))
-    ∙ sym (ap (λ n. take n other) next ∙ take-add (313 * t) 313 other)
+    (h t (omega arith)) ∙ sym (ap (λ n. take n other) (omega arith) ∙ take-add (313 * t) 313 other)
 
 -- a run as it was received and as it is given, of n segments or more
 pub record IsRun (n : ℕ) (heard given : List (List ℤ)) : Type 0 where
@@ -166,16 +137,13 @@ round_front scale t heard given h =
     own f n l = get_or-drop (64584 * f) known n None
 
     ahead : (f : ℕ) → f < t → KnowSame (drop (64584 * f) known) (known_bytes (bytes_in (front t given))) f
-    ahead f l n m =
-        own f n m
-        ∙ known_entry (bytes_in given) (64584 * f + n)
+    ahead f l n m = own f n m ∙ known_entry (bytes_in given) (64584 * f + n)
         ∙ sym (known_front t (64584 * f + n) given h.long h.room (omega (arith, l, m)))
         ∙ sym (known_entry (bytes_in (front t given)) (64584 * f + n))
 
     by_field : (f : ℕ) → f < t
         → rows_of (rounded scale heard given) f ≡ rows_of (rounded scale (front t heard) (front t given)) f
-    by_field f l =
-        sym (field_of_rounded scale heard given (drop (64584 * f) known) f (own f))
+    by_field f l = sym (field_of_rounded scale heard given (drop (64584 * f) known) f (own f))
         ∙ ap₂ (λ a b. field_rounded scale a (drop (64584 * f) known) b) (sym (rows_front t f heard l))
         (sym (rows_front t f given l))
         ∙ field_of_rounded scale (front t heard) (front t given) (drop (64584 * f) known) f (ahead f l)
@@ -210,9 +178,7 @@ pub rounds_alike : (scale t r : ℕ) (heard given heard_too given_too : List (Li
     → AreAlike (313 * (t + r)) heard given heard_too given_too
     → take (313 * t) (rounds_of scale heard given r) ≡ take (313 * t) (rounds_of scale heard_too given_too r)
 unfolding rounds_of
-rounds_alike scale t zero heard given heard_too given_too h =
-    let all : 313 * (t + 0) ≡ 313 * t = omega arith in
-    subst (λ n. take n given ≡ take n given_too) all h.given_same
+rounds_alike scale t zero heard given heard_too given_too h = grind arith
 rounds_alike scale t (suc r) heard given heard_too given_too h =
     let count : 313 * (t + suc r) ≡ 313 * (t + 1 + r) = omega arith in
     let alike = subst (λ n. AreAlike n heard given heard_too given_too) count h in
@@ -220,10 +186,8 @@ rounds_alike scale t (suc r) heard given heard_too given_too h =
     let few : 313 * (t + 1) ≤ 313 * (t + 1 + r) = omega arith in
     round_front scale t heard (rounds_of scale heard given r)
     (is_shorter (313 * (t + 1)) (313 * (t + 1 + r)) heard (rounds_of scale heard given r) few
-    (run_rounded scale (313 * (t + 1 + r)) r heard given alike.one))
-    ∙ ap₂ (λ a b. take (313 * t) (rounded scale a b))
-    (sym (take-take (313 * (t + 1)) (313 * (t + 1 + r)) heard few)
-    ∙ ap (take (313 * (t + 1))) alike.heard_same
+    (run_rounded scale (313 * (t + 1 + r)) r heard given alike.one)) ∙ ap₂ (λ a b. take (313 * t) (rounded scale a b))
+    (sym (take-take (313 * (t + 1)) (313 * (t + 1 + r)) heard few) ∙ ap (take (313 * (t + 1))) alike.heard_same
     ∙ take-take (313 * (t + 1)) (313 * (t + 1 + r)) heard_too few) before
     ∙ sym (round_front scale t heard_too (rounds_of scale heard_too given_too r)
     (is_shorter (313 * (t + 1)) (313 * (t + 1 + r)) heard_too (rounds_of scale heard_too given_too r) few
@@ -277,8 +241,7 @@ so_far_room scale symbols more =
     let so_far = so_far_grows scale symbols more in
     omega (arith, ap length so_far.1, length-append (acquired_so_far scale symbols) so_far.0)
 
-pub all_room : (scale : ℕ) (symbols : List ℤ)
-    → length (acquired_so_far scale symbols) ≤ length (acquired scale symbols)
+pub all_room : (scale : ℕ) (symbols : List ℤ) → length (acquired_so_far scale symbols) ≤ length (acquired scale symbols)
 all_room scale symbols =
     let all = length-append (acquired_so_far scale symbols) (acquired_rest scale symbols) in
     omega (arith, ap length (all_is_acquired scale symbols), all)
@@ -296,12 +259,8 @@ length-refined scale (suc r) symbols =
 -- each of them has 832 symbols
 pub refined_long : (scale r : ℕ) (symbols : List ℤ) → AreSegments (refined scale symbols r)
 unfolding refined
-refined_long scale r symbols =
-    (run_rounded scale 0 r (heard_of symbols) (acquired scale symbols) (record {
-      long = long_acquired scale symbols;
-      same = length-heard scale symbols;
-      room = omega arith;
-    })).long
+refined_long scale r symbols = (run_rounded scale 0 r (heard_of symbols) (acquired scale symbols)
+    (grind (arith, long_acquired, length-heard))).long
 
 is_run : (scale : ℕ) (symbols more : List ℤ)
     → IsRun (length (acquired_so_far scale symbols)) (heard_of (symbols ++ more)) (acquired scale (symbols ++ more))
@@ -315,12 +274,7 @@ is_run scale symbols more = record {
 are_alike : (scale n : ℕ) (symbols more other : List ℤ) → n ≡ length (acquired_so_far scale symbols)
     → AreAlike n (heard_of (symbols ++ more)) (acquired scale (symbols ++ more)) (heard_of (symbols ++ other))
     (acquired scale (symbols ++ other))
-are_alike scale n symbols more other e = rw e (record {
-  one = is_run scale symbols more;
-  other = is_run scale symbols other;
-  heard_same = heard_front scale symbols more ∙ sym (heard_front scale symbols other);
-  given_same = acquired_front scale symbols more ∙ sym (acquired_front scale symbols other);
-})
+are_alike scale n symbols more other e = grind (arith, is_run, heard_front, acquired_front)
 
 refined_alike : (scale r : ℕ) (symbols more other : List ℤ)
     → take (length (acquired_so_far scale symbols) - 313 * r) (refined scale (symbols ++ more) r)
@@ -334,13 +288,9 @@ refined_alike scale r symbols more other = by_room (cases_lt fields r)
     fields : ℕ
     fields = count / 313
 
-    by_room : (fields < r) ⊎ (r ≤ fields)
-        → take (count - 313 * r) (refined scale (symbols ++ more) r)
+    by_room : (fields < r) ⊎ (r ≤ fields) → take (count - 313 * r) (refined scale (symbols ++ more) r)
         ≡ take (count - 313 * r) (refined scale (symbols ++ other) r)
-    by_room (inl l) =
-        let none : count - 313 * r ≡ 0 = omega (arith, l) in
-        ap (λ n. take n (refined scale (symbols ++ more) r)) none
-        ∙ sym (ap (λ n. take n (refined scale (symbols ++ other) r)) none)
+    by_room (inl l) = grind arith
     by_room (inr l) =
         let few : count - 313 * r ≡ 313 * (fields - r) = omega (arith, l, whole_so_far scale symbols) in
         let all : 313 * (fields - r + r) ≡ count = omega (arith, l, whole_so_far scale symbols) in
@@ -351,8 +301,7 @@ refined_alike scale r symbols more other = by_room (cases_lt fields r)
         ∙ sym (ap (λ n. take n (refined scale (symbols ++ other) r)) few)
 
 -- What is refined of first symbols, whatever follows, is a prefix of all that is refined of them and more.
-pub refined_front : (scale r : ℕ) (symbols more : List ℤ)
-    → refined_so_far scale symbols r
+pub refined_front : (scale r : ℕ) (symbols more : List ℤ) → refined_so_far scale symbols r
     ≡ take (length (acquired_so_far scale symbols) - 313 * r) (refined scale (symbols ++ more) r)
 unfolding refined_so_far settled_count
 refined_front scale r symbols more =
@@ -360,28 +309,18 @@ refined_front scale r symbols more =
     ∙ refined_alike scale r symbols [] more
 
 -- So it is a prefix of what is refined of more, whatever follows.
-pub refined_grows : (scale r : ℕ) (symbols more : List ℤ)
-    → (others : List (List ℤ))
+pub refined_grows : (scale r : ℕ) (symbols more : List ℤ) → (others : List (List ℤ))
     × (refined_so_far scale (symbols ++ more) r ≡ refined_so_far scale symbols r ++ others)
 unfolding refined_so_far settled_count
-refined_grows scale r symbols more = (
-  take (later - first) (drop first all),
-  ap (λ n. take n all) parts
-      ∙ take-add first (later - first) all
-      ∙ ap (λ xs. xs ++ take (later - first) (drop first all)) (sym (refined_front scale r symbols more)),
-)
-  where
-    first : ℕ
-    first = length (acquired_so_far scale symbols) - 313 * r
-
-    later : ℕ
-    later = length (acquired_so_far scale (symbols ++ more)) - 313 * r
-
-    all : List (List ℤ)
-    all = refined scale (symbols ++ more) r
-
-    parts : later ≡ first + (later - first)
-    parts = omega (arith, so_far_room scale symbols more)
+refined_grows scale r symbols more =
+    let first : ℕ = length (acquired_so_far scale symbols) - 313 * r in
+    let later : ℕ = length (acquired_so_far scale (symbols ++ more)) - 313 * r in
+    let all : List (List ℤ) = refined scale (symbols ++ more) r in
+    let parts : later ≡ first + (later - first) = omega (arith, so_far_room scale symbols more) in (
+      take (later - first) (drop first all),
+      ap (λ n. take n all) parts ∙ take-add first (later - first) all
+          ∙ ap (λ xs. xs ++ take (later - first) (drop first all)) (sym (refined_front scale r symbols more)),
+    )
 
 -- All that is refined is in two parts: what is refined whatever follows, and what the end adds.
 pub all_is_refined : (scale r : ℕ) (symbols : List ℤ)
@@ -397,18 +336,13 @@ same_count scale r symbols = length-heard scale symbols ∙ sym (length-refined 
 known_next : (scale r k : ℕ) (symbols : List ℤ) (code : List ℕ) → 0 < scale → scale < 19
     → known_word (bytes_in (refined scale symbols r)) k ≡ Some code
     → known_word (bytes_in (refined scale symbols (r + 1))) k ≡ Some code
-known_next scale r k symbols code some most e =
-    ap (λ segments. known_word (bytes_in segments) k) (refined_next scale r symbols)
-    ∙ known_stays scale k (heard_of symbols) (refined scale symbols r) code some most (refined_long scale r symbols)
-    (same_count scale r symbols) e
+known_next scale r k symbols code some most e = grind (arith, refined_next, known_stays, refined_long, same_count)
 
 -- what is known after some rounds is known after all further ones
 pub known_later : (scale r n k : ℕ) (symbols : List ℤ) (code : List ℕ) → 0 < scale → scale < 19
     → known_word (bytes_in (refined scale symbols r)) k ≡ Some code
     → known_word (bytes_in (refined scale symbols (r + n))) k ≡ Some code
-known_later scale r zero k symbols code some most e =
-    (let same : r + 0 ≡ r = omega arith in
-    ap (λ m. known_word (bytes_in (refined scale symbols m)) k) same ∙ e)
+known_later scale r zero k symbols code some most e = grind arith
 known_later scale r (suc n) k symbols code some most e =
     let next : r + suc n ≡ r + n + 1 = omega arith in
     ap (λ m. known_word (bytes_in (refined scale symbols m)) k) next
@@ -417,8 +351,4 @@ known_later scale r (suc n) k symbols code some most e =
 pub costs_next : (scale r f e : ℕ) (symbols : List ℤ) → 0 < scale → scale < 19 → e < 12
     → coder_cost scale (heard_of symbols) (known_bytes (bytes_in (refined scale symbols r))) f e
     ≤ coder_cost scale (heard_of symbols) (known_bytes (bytes_in (refined scale symbols (r + 1)))) f e
-costs_next scale r f e symbols some most l =
-    subst (λ segments. coder_cost scale (heard_of symbols) (known_bytes (bytes_in (refined scale symbols r))) f e
-    ≤ coder_cost scale (heard_of symbols) (known_bytes (bytes_in segments)) f e) (sym (refined_next scale r symbols))
-    (costs_rise scale f e (heard_of symbols) (refined scale symbols r) some most (refined_long scale r symbols)
-    (same_count scale r symbols) l)
+costs_next scale r f e symbols some most l = grind (arith, refined_next, costs_rise, refined_long, same_count)

@@ -1,12 +1,10 @@
 -- What is acquired is received as one run, and read back from its file.
-use Rattle.std.proofs.Common.{◌≡◌, ◌≢◌, ℕ, ℤ, suc, ◌+◌, ◌-◌, ◌%◌, ◌<◌, ◌⊎◌, inl, inr, ◌==◌, Bool, true}
-use Rattle.std.proofs.Common.{false, List, [], ◌∷◌, length, map, get_or, pos, negsuc, cond, refl, sym, ap}
-use Rattle.std.proofs.Common.{ap₂, ◌∙◌, subst, arith}
+use Rattle.std.proofs.Common.{◌≡◌, ◌≢◌, ℕ, ℤ, suc, ◌+◌, ◌-◌, ◌%◌, ◌<◌, inl, inr, Bool, true, List, [], ◌∷◌, length, map}
+use Rattle.std.proofs.Common.{get_or, refl, sym, ap, ap₂, ◌∙◌, subst, arith}
 use Rattle.std.proofs.lemmas.Bool.{cases_eq}
 use Rattle.std.proofs.lemmas.List.{length-append, length-map, take_all}
 use Rattle.dtx_trellis.specs.Trellis.{symbol_of}
 use Rattle.dtx_frame.proofs.AlikeLemmas.{looks_alike}
-use Rattle.dtx_frame.specs.Detection.{looks_like}
 use Rattle.dtx_frame.specs.Segments.{bit_symbol, data_segment, field_sync, segment_sync, sync_symbols}
 use Rattle.dtx_frame.proofs.SymbolsLemmas as lengths
 use Rattle.dtx_coder.proofs.CountsLemmas.{AreSegments}
@@ -21,13 +19,19 @@ use Rattle.dtx_jobs.proofs.SymbolsBackLemmas.{AreBack, EachBack, IsBack, each_ap
 -- ---- the run
 
 pub sync_looks : (s : List (List ℤ)) (i : ℕ) → AreInFields s → i < length s → i % 313 ≡ 0 → looks_at s i ≡ true
-sync_looks s i h l e =
-    (let sync = h.syncs i l e in ap looks_like sync.is ∙ looks_alike sync.second (map symbol_of sync.last))
+sync_looks s i h l e = grind (arith, looks_alike)
 
 pub one_run : (s : List (List ℤ)) → AreInFields s → s ≢ [] → runs s ≡ s ∷ []
 one_run s h some =
-    (are_runs s).2
-    ∙ ap (map (segments_in s)) (only_runs s 0 (are_runs s).0 ((0, length s) ∷ []) (are_runs s).1 mine)
+    let run : IsRun s 0 (length s) = record {
+      some = not_empty s some;
+      within = omega arith;
+      syncs = λ j m z. ap (looks_at s) (plus j) ∙ sync_looks s j h m z;
+      ends = inl (omega arith);
+    } in
+    let mine : AreRuns s 0 ((0, length s) ∷ []) =
+    (omega arith, λ i a b. absurd (omega (arith, b)), run, λ i a b. absurd (omega (arith, a, b))) in
+    (are_runs s).2 ∙ ap (map (segments_in s)) (only_runs s 0 (are_runs s).0 ((0, length s) ∷ []) (are_runs s).1 mine)
     ∙ ap (λ xs. xs ∷ []) (take_all (0 + length s - 0) s (omega arith))
   where
     plus : (n : ℕ) → 0 + n ≡ n
@@ -36,17 +40,6 @@ one_run s h some =
     not_empty : (s : List (List ℤ)) → s ≢ [] → 0 < length s
     not_empty [] e = absurd (e refl)
     not_empty (x ∷ s) e = omega arith
-
-    run : IsRun s 0 (length s)
-    run = record {
-      some = not_empty s some;
-      within = omega arith;
-      syncs = λ j m z. ap (looks_at s) (plus j) ∙ sync_looks s j h m z;
-      ends = inl (omega arith);
-    }
-
-    mine : AreRuns s 0 ((0, length s) ∷ [])
-    mine = (omega arith, λ i a b. absurd (omega (arith, b)), run, λ i a b. absurd (omega (arith, a, b)))
 
 -- ---- the file
 
@@ -57,14 +50,9 @@ bits_back [] = tt
 bits_back (b ∷ bits) = (one b, bits_back bits)
   where
     one : (b : ℕ) → IsBack (bit_symbol b)
-    one b = by_bit (b == 1)
-      where
-        by_bit : (c : Bool) → IsBack (cond c (pos 5) (negsuc 4))
-        by_bit true = refl
-        by_bit false = refl
+    one b = grind arith
 
-levels_back : (levels : List ℕ) → ((d : ℕ) → d < length levels → get_or levels d 0 < 8)
-    → AreBack (map symbol_of levels)
+levels_back : (levels : List ℕ) → ((d : ℕ) → d < length levels → get_or levels d 0 < 8) → AreBack (map symbol_of levels)
 levels_back [] h = tt
 levels_back (z ∷ levels) h = (level_back z (h 0 (omega arith)), levels_back levels (λ d l. h (suc d) (omega arith)))
 
@@ -76,8 +64,7 @@ unfolding data_segment segment_sync
 data_back row h = (
   ap length h.is ∙ length-append segment_sync (map symbol_of h.levels)
       ∙ ap₂ (λ (a b : ℕ). a + b) lengths.length_sync (length-map h.levels symbol_of ∙ h.are.long),
-  subst AreBack (sym h.is) (each_append IsBack segment_sync (map symbol_of h.levels)
-      (bits_back (1 ∷ 0 ∷ 0 ∷ 1 ∷ []))
+  subst AreBack (sym h.is) (each_append IsBack segment_sync (map symbol_of h.levels) (bits_back (1 ∷ 0 ∷ 0 ∷ 1 ∷ []))
       (levels_back h.levels (small_levels 828 h.levels h.are))),
 )
 
@@ -86,8 +73,7 @@ unfolding field_sync sync_symbols segment_sync
 sync_back row h = (
   ap length h.is ∙ length-append (sync_symbols h.second) (map symbol_of h.last)
       ∙ ap₂ (λ (a b : ℕ). a + b) (lengths.length_front h.second) (length-map h.last symbol_of ∙ h.are.long),
-  subst AreBack (sym h.is) (each_append IsBack (sync_symbols h.second) (map symbol_of h.last) (front h.second)
-      (levels_back h.last (small_levels 12 h.last h.are))),
+  subst AreBack (sym h.is) (grind (arith, each_append, front, levels_back, small_levels)),
 )
   where
     front : (second : Bool) → AreBack (sync_symbols second)
@@ -95,11 +81,10 @@ sync_back row h = (
 
 row_back : (s : List (List ℤ)) → AreInFields s → (i : ℕ) → i < length s
     → (length (get_or s i []) ≡ 832) × AreBack (get_or s i [])
-row_back s h i l = by_place (cases_eq (i % 313) 0)
-  where
-    by_place : (i % 313 ≡ 0) ⊎ (i % 313 ≢ 0) → (length (get_or s i []) ≡ 832) × AreBack (get_or s i [])
-    by_place (inl e) = sync_back (get_or s i []) (h.syncs i l e)
-    by_place (inr e) = data_back (get_or s i []) (h.others i l e)
+row_back s h i l = elim (cases_eq (i % 313) 0) [
+  | inl e ↦ sync_back (get_or s i []) (h.syncs i l e)
+  | inr e ↦ data_back (get_or s i []) (h.others i l e)
+]
 
 all_long : (s : List (List ℤ)) → ((i : ℕ) → i < length s → (length (get_or s i []) ≡ 832) × AreBack (get_or s i []))
     → AreSegments s

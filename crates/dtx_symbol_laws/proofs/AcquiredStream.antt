@@ -1,7 +1,7 @@
 -- The segments of a stream are acquired of symbols that lie near its own.
-use Rattle.std.proofs.Common.{◌≡◌, ◌≢◌, ℕ, ℤ, zero, suc, ◌+◌, ◌-◌, ◌*◌, ◌/◌, ◌%◌, ◌<◌, ◌==◌, nat_le}
-use Rattle.std.proofs.Common.{nat_lt, true, List, [], ◌++◌, length, map, take, drop, get_or, min, replicate, flat_map}
-use Rattle.std.proofs.Common.{pos, refl, sym, ap, ◌∙◌, subst, arith}
+use Rattle.std.proofs.Common.{◌≡◌, ◌≢◌, ℕ, ℤ, zero, suc, ◌+◌, ◌-◌, ◌*◌, ◌/◌, ◌%◌, ◌<◌, ◌==◌, nat_le, nat_lt, true, List}
+use Rattle.std.proofs.Common.{[], ◌++◌, length, map, take, drop, get_or, replicate, flat_map, pos, refl, sym, ap, ◌∙◌}
+use Rattle.std.proofs.Common.{subst, arith}
 use Rattle.std.proofs.Math.Seq.{drop-append-add}
 use Rattle.std.proofs.lemmas.Bool.{cond-false, ltb-true, ne_eqb}
 use Rattle.std.proofs.lemmas.List.{drop-map, get_or-drop, get_or-take, length-drop, length-take, length-take-le}
@@ -31,18 +31,11 @@ part_levels ps k l = record {
   long = long;
   small = λ d m.
       subst (λ z. z < 8) (sym (get_or-take 828 (drop (828 * k) (levels ps)) d 0 m
-      ∙ get_or-drop (828 * k) (levels ps) d 0))
-      (level_small ps (828 * k + d) (omega (arith, m, l, length-levels ps)));
+      ∙ get_or-drop (828 * k) (levels ps) d 0)) (level_small ps (828 * k + d) (omega (arith, m, l, length-levels ps)));
 }
   where
     long : length (take 828 (drop (828 * k) (levels ps))) ≡ 828
-    long =
-        length-take-le 828 (drop (828 * k) (levels ps)) (omega (
-          arith,
-          l,
-          length-levels ps,
-          length-drop (828 * k) (levels ps),
-        ))
+    long = length-take-le 828 (drop (828 * k) (levels ps)) (grind (arith, length-levels, length-drop))
 
 data_is : (ps : List (List ℕ)) (i : ℕ) → i < length (a53 ps) → i % 313 ≢ 0 → IsData (get_or (a53 ps) i [])
 data_is ps i l e = at_place (312 * (i / 313) + (i % 313 - 1)) (place (i % 313) refl e) within
@@ -60,19 +53,14 @@ data_is ps i l e = at_place (312 * (i / 313) + (i % 313 - 1)) (place (i % 313) r
     within = (let more = some (i % 313) refl e in omega (arith, l, length-a53 ps, more))
 
     at_place : (k : ℕ) → k + k / 312 + 1 ≡ i → k < 4 * (length ps / 4) → IsData (get_or (a53 ps) i [])
-    at_place k f m = record {
-      levels = take 828 (drop (828 * k) (levels ps));
-      are = part_levels ps k m;
-      is = ap (λ j. get_or (a53 ps) j []) (sym f) ∙ data_at_place ps k m ∙ segment_is (levels ps) k;
-    }
+    at_place k f m = grind (arith, part_levels, data_at_place, segment_is)
 
 -- ---- field syncs
 
 -- the last symbols of a data segment
 data_last : (zs : List ℕ) → drop 820 (data_segment zs) ≡ map symbol_of (drop 816 zs)
 unfolding data_segment
-data_last zs =
-    ap (λ n. drop (n + 816) (segment_sync ++ map symbol_of zs)) (sym length_sync)
+data_last zs = ap (λ n. drop (n + 816) (segment_sync ++ map symbol_of zs)) (sym length_sync)
     ∙ drop-append-add segment_sync (map symbol_of zs) 816 ∙ drop-map symbol_of 816 zs
 
 zeros_test : holds_below (λ d. nat_lt (get_or (replicate 12 0) d 0) 8) 12 ≡ true
@@ -89,8 +77,7 @@ last_levels ps zero l = record {
   last = replicate 12 0;
   are = record {
     long = refl;
-    small = λ d m. ltb-true (get_or (replicate 12 0) d 0) 8
-        (at_below (λ d. nat_lt (get_or (replicate 12 0) d 0) 8) 12 d zeros_test m);
+    small = λ d m. ltb-true (get_or (replicate 12 0) d 0) 8 (grind (arith, at_below, zeros_test));
   };
   same = refl;
 }
@@ -107,8 +94,7 @@ last_levels ps (suc u) l = by_segment (4 * suc u - 1) (omega arith) refl
                 subst (λ z. z < 8) (sym (get_or-drop 816 (take 828 (drop (828 * k) (levels ps))) d 0))
                 (are.small (816 + d) (omega arith));
           };
-          same =
-              cond-false (suc u == 0) no_last (drop 820 (segment (levels ps) (4 * suc u - 1)))
+          same = cond-false (suc u == 0) no_last (drop 820 (segment (levels ps) (4 * suc u - 1)))
               (ne_eqb (suc u) 0 (λ z. omega (arith, z)))
               ∙ ap (λ n. drop 820 (segment (levels ps) n)) e ∙ ap (drop 820) (segment_is (levels ps) k)
               ∙ data_last (take 828 (drop (828 * k) (levels ps)));
@@ -116,30 +102,23 @@ last_levels ps (suc u) l = by_segment (4 * suc u - 1) (omega arith) refl
 
 sync_is : (ps : List (List ℕ)) (n : ℕ) → n < length (a53 ps) → n % 313 ≡ 0 → IsSync (get_or (a53 ps) n [])
 sync_is ps n l z =
+    let there : n ≡ 4 * (78 * (n / 313)) + (78 * (n / 313) + 77) / 78 = omega (arith, z) in
+    let within : 78 * (n / 313) < length ps / 4 = omega (arith, z, l, length-a53 ps) in
     let last = last_levels ps (78 * (n / 313)) within in
     record {
       second = nat_le 312 (4 * (78 * (n / 313)) % 624);
       last = last.last;
       are = last.are;
-      is =
-          ap (λ i. get_or (a53 ps) i []) there ∙ sync_at ps (78 * (n / 313)) within (omega arith)
+      is = ap (λ i. get_or (a53 ps) i []) there ∙ sync_at ps (78 * (n / 313)) within (omega arith)
           ∙ ap (field_sync (nat_le 312 (4 * (78 * (n / 313)) % 624))) last.same;
     }
-  where
-    there : n ≡ 4 * (78 * (n / 313)) + (78 * (n / 313) + 77) / 78
-    there = omega (arith, z)
-
-    within : 78 * (n / 313) < length ps / 4
-    within = omega (arith, z, l, length-a53 ps)
 
 -- ---- all of them
 
 groups_same : (s : List (List ℤ)) (n : ℕ) → in_groups s (n + 1) ≡ groups_behind s n
 unfolding in_groups groups_behind acquired.in_groups
-groups_same s n =
-    let long : min 312 (length s - (n + 1)) ≡ length (take 312 (drop (n + 1) s)) = omega
-    (arith, length-take 312 (drop (n + 1) s), length-drop (n + 1) s) in
-    ap (λ k. take (4 * (k / 4)) (drop (n + 1) s)) long
+groups_same s n = ap (λ k. take (4 * (k / 4)) (drop (n + 1) s))
+    (omega (arith, length-take 312 (drop (n + 1) s), length-drop (n + 1) s))
     ∙ sym (take-take (4 * (length (take 312 (drop (n + 1) s)) / 4)) 312 (drop (n + 1) s)
     (omega (arith, length-take 312 (drop (n + 1) s))))
 

@@ -1,8 +1,6 @@
 -- A stream that stands at a gain and with a constant: it is levelled, and then its segments are acquired.
-use Rattle.std.proofs.Common.{◌≡◌, ℕ, ℤ, pos, zero, suc, ◌+◌, ◌*◌, ◌/◌, ◌%◌, ◌<◌, ◌≤◌, ◌-ℤ◌, ◌*ℤ◌, ◌==◌, ◌↔◌}
-use Rattle.std.proofs.Common.{nat_abs, nat_le, List, [], ◌∷◌, ◌++◌, length, map, replicate, get_or}
-use Rattle.std.proofs.Common.{refl, sym, ap, ap₂, ◌∙◌, subst, arith}
-use Rattle.std.specs.List.{range_with_len}
+use Rattle.std.proofs.Common.{◌≡◌, ℕ, ℤ, pos, zero, suc, ◌+◌, ◌*◌, ◌/◌, ◌%◌, ◌<◌, ◌≤◌, ◌-ℤ◌, ◌*ℤ◌, ◌==◌, ◌↔◌, nat_abs}
+use Rattle.std.proofs.Common.{nat_le, List, [], ◌++◌, length, map, replicate, get_or, refl, sym, ap, ◌∙◌, subst, arith}
 use Rattle.std.proofs.lemmas.Int.{ints}
 use Rattle.std.proofs.lemmas.List.{get_or-map, length-map}
 use Rattle.dtx_lists.proofs.Range.{map-range_same}
@@ -15,7 +13,7 @@ use Rattle.dtx_acquire.specs.Sent.{AreInFields, AreNear}
 use Rattle.dtx_acquire.proofs.SentLemmas.{all_symbols, second_sent}
 use Rattle.dtx_level.specs.declared.measure.Measure.{Measure}
 use Rattle.dtx_level.specs.Syncs.{all_syncs}
-use Rattle.dtx_level.specs.Levelled.{levelled, levelled_behind, nothing, where_some}
+use Rattle.dtx_level.specs.Levelled.{levelled, where_some}
 use Rattle.dtx_level.specs.Measures.{IsLater, later_by}
 use Rattle.dtx_level.specs.Standing.{AreLevelled, eightfold, exact_measure, standing, standing_measure}
 use Rattle.dtx_level.specs.Standing.{standing_measures}
@@ -26,18 +24,14 @@ use Rattle.dtx_symbol_laws.proofs.AcquiredStream.{fields_sent}
 
 -- every second field is a second one
 is_odd : (f n : ℕ) → f % 2 ≡ n → nat_le 312 (4 * (78 * f) % 624) ≡ (f % 2 == 1)
-is_odd f zero e =
-    let first : 4 * (78 * f) % 624 ≡ 0 = omega (arith, e) in
-    ap (λ k. nat_le 312 k) first ∙ sym (ap (λ k. k == 1) e)
+is_odd f zero e = grind arith
 is_odd f (suc zero) e =
     let second : 4 * (78 * f) % 624 ≡ 312 = omega (arith, e) in
     ap (λ k. nat_le 312 k) second ∙ sym (ap (λ k. k == 1) e)
 is_odd f (suc (suc n)) e = absurd (omega (arith, e))
 
 second_at : (ps : List (List ℕ)) (f : ℕ) → f < fields_begun ps → is_second (get_or (a53 ps) (313 * f) []) ≡ (f % 2 == 1)
-second_at ps f l =
-    let there : 313 * f ≡ 4 * (78 * f) + (78 * f + 77) / 78 = omega arith in
-    ap (λ n. is_second (get_or (a53 ps) n [])) there
+second_at ps f l = ap (λ n. is_second (get_or (a53 ps) n [])) (omega arith)
     ∙ ap is_second (sync_at ps (78 * f) (omega arith) (omega arith))
     ∙ second_sent (nat_le 312 (4 * (78 * f) % 624)) (last_before ps (78 * f)) ∙ is_odd f (f % 2) refl
 
@@ -52,18 +46,11 @@ measured gain constant ps f l = ap (exact_measure gain constant (260416 * f)) (s
 all_measured : (gain constant : ℤ) (ps : List (List ℕ))
     → standing_measures gain constant (a53 ps) ≡ stream_measures gain constant ps
 unfolding standing_measures stream_measures
-all_measured gain constant ps =
-    ap (λ n. map (standing_measure gain constant (a53 ps)) (range_with_len 0 n)) (begun_same ps)
-    ∙ map-range_same (standing_measure gain constant (a53 ps)) (field_measure gain constant) 0 (fields_begun ps)
-    (λ f l m. measured gain constant ps f (omega arith))
+all_measured gain constant ps = grind (arith, begun_same, map-range_same, measured)
 
 -- which places these are
-pub begun_below : (ps : List (List ℕ)) (f : ℕ)
-    → (f < fields_begun ps) ↔ (260416 * f < length (a53_symbols ps))
-begun_below ps f = (
-  λ l. omega (arith, l, length-a53_symbols ps, length-a53 ps),
-  λ l. omega (arith, l, length-a53_symbols ps, length-a53 ps),
-)
+pub begun_below : (ps : List (List ℕ)) (f : ℕ) → (f < fields_begun ps) ↔ (260416 * f < length (a53_symbols ps))
+begun_below ps f = grind (arith, length-a53_symbols, length-a53)
 
 pub whole_sync : (ps : List (List ℕ)) (f : ℕ) → f < fields_begun ps → 260416 * f + 832 ≤ length (a53_symbols ps)
 whole_sync ps f l = omega (arith, l, length-a53_symbols ps, length-a53 ps)
@@ -91,12 +78,7 @@ near_itself x = omega (arith, ints)
 
 eightfold_near : (xs : List ℤ) → AreNear 8 xs (eightfold xs)
 unfolding eightfold
-eightfold_near xs = record {
-  long = length-map xs (λ s. pos 8 *ℤ s);
-  near = λ i l.
-      subst (λ y. nat_abs (y -ℤ (pos 8 *ℤ get_or xs i (pos 0))) < 8)
-      (sym (get_or-map (λ s. pos 8 *ℤ s) xs i (pos 0) (pos 0) l)) (near_itself (get_or xs i (pos 0)));
-}
+eightfold_near xs = grind (arith, length-map, get_or-map, near_itself)
 
 -- that a stream's segments are acquired of symbols near its own, behind zeros
 abbrev pub AcquiresNear : Type 0
@@ -106,32 +88,19 @@ AcquiresNear = (scale zeros : ℕ) (ps : List (List ℕ)) (symbols : List ℤ) �
 pub levelled_acquired : AcquiresNear → (zeros : ℕ) (ps : List (List ℕ)) (symbols : List ℤ) (told : List Measure)
     → AreLevelled symbols (replicate zeros (pos 0) ++ eightfold (a53_symbols ps)) told
     → acquired.acquired 8 (levelled symbols) ≡ a53 ps
-levelled_acquired acquires zeros ps symbols told h =
-    ap (acquired.acquired 8) h.levelled_is
-    ∙ acquires 8 zeros ps (eightfold (a53_symbols ps)) (omega arith) (eightfold_near (a53_symbols ps))
+levelled_acquired acquires zeros ps symbols told h = grind (arith, eightfold_near)
 
 -- ---- behind a front
 
 some_syncs : (symbols out xs : List ℤ) → levelled symbols ≡ out → 0 < length out
     → where_some (all_syncs symbols) xs ≡ xs
 unfolding levelled
-some_syncs symbols out xs e l = by_places (all_syncs symbols) e
-  where
-    by_places : (places : List ℕ) → where_some places (levelled_behind nothing symbols) ≡ out
-        → where_some places xs ≡ xs
-    by_places [] f = absurd (omega (arith, ap length f))
-    by_places (p ∷ places) f = refl
+some_syncs symbols out xs e l = grind arith
 
 pub front_levelled : (front symbols out : List ℤ) (told : List Measure) → IsLater front symbols
     → AreLevelled symbols out told → 0 < length out
     → AreLevelled (front ++ symbols) (replicate (length front) (pos 0) ++ out) (map (later_by (length front)) told)
-front_levelled front symbols out told later h l = record {
-  levelled_is =
-      later.levelled_is
-      ∙ ap₂ ◌++◌ (some_syncs symbols out (replicate (length front) (pos 0)) h.levelled_is l) h.levelled_is;
-  measures_are = later.measures_are ∙ ap (map (later_by (length front))) h.measures_are;
-  no_slip = later.slips_are ∙ h.no_slip;
-}
+front_levelled front symbols out told later h l = grind (arith, some_syncs)
 
 pub length-eightfold : (xs : List ℤ) → length (eightfold xs) ≡ length xs
 unfolding eightfold

@@ -1,8 +1,7 @@
 -- The segments after rounds: field syncs stay, and data segments are data segments. So they are one run.
-use Rattle.std.proofs.Common.{◌≡◌, ℕ, ℤ, pos, negsuc, zero, suc, ◌+◌, ◌-◌, ◌*◌, ◌/◌, ◌%◌, ◌<◌, ◌⊎◌, inl, inr}
-use Rattle.std.proofs.Common.{◌&&◌, nat_le, nat_lt, min, true, false, List, [], ◌∷◌, ◌++◌, length, map, take, drop}
-use Rattle.std.proofs.Common.{get_or, refl, sym, ap, ap₂, ◌∙◌, subst, arith}
-use Rattle.std.specs.List.{flat_map}
+use Rattle.std.proofs.Common.{◌≡◌, ℕ, ℤ, pos, negsuc, zero, suc, ◌+◌, ◌-◌, ◌*◌, ◌/◌, ◌%◌, ◌<◌, inl, inr, ◌&&◌, nat_le}
+use Rattle.std.proofs.Common.{nat_lt, false, List, [], ◌∷◌, ◌++◌, length, map, take, drop, get_or, refl, sym, ap, ap₂}
+use Rattle.std.proofs.Common.{◌∙◌, subst, arith}
 use Rattle.std.proofs.Math.Nat.{div-lt_iff_lt-mul}
 use Rattle.std.proofs.lemmas.Bool.{cases_Bool, cond-false, cond-true}
 use Rattle.std.proofs.lemmas.List.{append-nil, get_or-map, length-append, length-map, length-take-le}
@@ -16,7 +15,7 @@ use Rattle.dtx_receiver.specs.Packets.{all_packets, run_packets}
 use Rattle.dtx_receiver.specs.Runs.{runs, tracked}
 use Rattle.dtx_acquire.specs.Acquired.{acquired}
 use Rattle.dtx_acquire.specs.Scaled.{decided, scaled_level}
-use Rattle.dtx_acquire.specs.Sent.{AreInFields, AreLevels, IsData, IsSync}
+use Rattle.dtx_acquire.specs.Sent.{AreInFields, AreLevels, IsData}
 use Rattle.dtx_acquire.proofs.SentLemmas.{length_data, row_long}
 use Rattle.dtx_rounds.specs.Known.{known_bytes}
 use Rattle.dtx_rounds.specs.Rounds.{groups_in, heard_of, in_whole_group, paths_in, refined, round_segment, rounded}
@@ -29,18 +28,14 @@ use Rattle.dtx_symbol_laws.proofs.AcquiredRun.{one_run}
 
 level_small : (c : ℕ) (x : ℤ) → 0 < c → scaled_level c x < 8
 unfolding scaled_level
-level_small c (pos n) l = least ((8 * c + n) / (2 * c))
-  where
-    least : (y : ℕ) → min 7 y < 8
-    least y = omega arith
+level_small c (pos n) l = grind arith
 level_small c (negsuc n) l = (div-lt_iff_lt-mul {k = 2 * c} {x = 8 * c - suc n} {y = 8} (omega arith)).1 (omega arith)
 
 are_levels : (scale : ℕ) (row : List ℤ) → 0 < scale → length row ≡ 828 → AreLevels 828 (map (scaled_level scale) row)
 are_levels scale row some e = record {
   long = length-map row (scaled_level scale) ∙ e;
   small = λ d l.
-      subst (λ z. z < 8) (sym (get_or-map (scaled_level scale) row d (pos 0) 0 (omega (arith, l, e))))
-      (level_small scale (get_or row d (pos 0)) some);
+      subst (λ z. z < 8) (sym (grind (arith, get_or-map))) (level_small scale (get_or row d (pos 0)) some);
 }
 
 sync_front : (row : List ℤ) → IsData row → take 4 row ≡ segment_sync
@@ -63,22 +58,14 @@ data_decided scale row path some h long = record {
     front = length-take-le 4 row (omega (arith, length_data row h))
 
     rest : length (drop 4 path) ≡ 828
-    rest = omega (
-      arith,
-      long,
-      front,
-      length-append (take 4 row) (map (decided scale) (drop 4 path)),
-      length-map (drop 4 path) (decided scale),
-    )
+    rest = grind (arith, length-append, length-map)
 
 -- ---- one round
 
 segment_after : (scale : ℕ) (heard given : List (List ℤ)) (i : ℕ) → i < length given
     → get_or (rounded scale heard given) i [] ≡ round_segment scale heard (known_bytes (bytes_in given)) given i
 unfolding rounded
-segment_after scale heard given i l =
-    get_or-map-range_with_len (round_segment scale heard (known_bytes (bytes_in given)) given) 0 (length given) i i [] l
-    (omega arith)
+segment_after scale heard given i l = grind (arith, get_or-map-range_with_len)
 
 sync_in_none : (given : List (List ℤ)) (i : ℕ) → i % 313 ≡ 0 → in_whole_group given i ≡ false
 unfolding in_whole_group
@@ -87,15 +74,20 @@ sync_in_none given i z = ap (λ n. nat_lt 0 n && nat_le n (length (groups_in giv
 sync_stays : (scale : ℕ) (heard given : List (List ℤ)) (i : ℕ) → i < length given → i % 313 ≡ 0
     → get_or (rounded scale heard given) i [] ≡ get_or given i []
 unfolding round_segment
-sync_stays scale heard given i l z =
-    segment_after scale heard given i l
-    ∙ cond-false (in_whole_group given i) _ (get_or given i []) (sync_in_none given i z)
+sync_stays scale heard given i l z = grind (arith, segment_after, cond-false, sync_in_none)
 
 data_after : (scale : ℕ) (heard given : List (List ℤ)) (i : ℕ) → 0 < scale → i < length given
     → IsData (get_or given i []) → length (get_or (rounded scale heard given) i []) ≡ 832
     → IsData (get_or (rounded scale heard given) i [])
 unfolding round_segment
-data_after scale heard given i some l h long = by_test (cases_Bool (in_whole_group given i))
+data_after scale heard given i some l h long = elim (cases_Bool (in_whole_group given i)) [
+  | inl e ↦
+      let is : get_or (rounded scale heard given) i [] ≡ on_path =
+      segment_after scale heard given i l ∙ cond-true (in_whole_group given i) on_path (get_or given i []) e in
+      subst IsData (sym is) (data_decided scale (get_or given i []) path some h (sym (ap length is) ∙ long))
+  | inr e ↦ subst IsData (sym (segment_after scale heard given i l
+      ∙ cond-false (in_whole_group given i) on_path (get_or given i []) e)) h
+]
   where
     path : List ℤ
     path = get_or (paths_in scale heard (known_bytes (bytes_in given)) (i / 313)) (i % 313 - 1) []
@@ -103,29 +95,10 @@ data_after scale heard given i some l h long = by_test (cases_Bool (in_whole_gro
     on_path : List ℤ
     on_path = take 4 (get_or given i []) ++ map (decided scale) (drop 4 path)
 
-    by_test : (in_whole_group given i ≡ true) ⊎ (in_whole_group given i ≡ false)
-        → IsData (get_or (rounded scale heard given) i [])
-    by_test (inl e) =
-        let is : get_or (rounded scale heard given) i [] ≡ on_path =
-        segment_after scale heard given i l ∙ cond-true (in_whole_group given i) on_path (get_or given i []) e in
-        subst IsData (sym is)
-        (data_decided scale (get_or given i []) path some h (sym (ap length is) ∙ long))
-    by_test (inr e) =
-        subst IsData (sym (segment_after scale heard given i l
-        ∙ cond-false (in_whole_group given i) on_path (get_or given i []) e)) h
-
 fields_rounded : (scale : ℕ) (heard given : List (List ℤ)) → 0 < scale → length heard ≡ length given
     → AreInFields given → AreInFields (rounded scale heard given)
-fields_rounded scale heard given some same h = record {
-  syncs = λ i l z.
-      subst IsSync (sym (sync_stays scale heard given i (within i l) z)) (h.syncs i (within i l) z);
-  others = λ i l z.
-      data_after scale heard given i some (within i l) (h.others i (within i l) z)
-      (rounded_long scale heard given (row_long given h) same i l);
-}
-  where
-    within : (i : ℕ) → i < length (rounded scale heard given) → i < length given
-    within i l = omega (arith, l, length-rounded scale heard given)
+fields_rounded scale heard given some same h =
+    grind (arith, sync_stays, data_after, rounded_long, row_long, length-rounded)
 
 -- ---- all rounds
 
@@ -151,6 +124,4 @@ none_given = ap run_packets (sym no_bytes)
 pub packets_of_run : (s : List (List ℤ)) → AreInFields s → all_packets s ≡ run_packets (bytes_in s)
 unfolding all_packets
 packets_of_run [] h = none_given
-packets_of_run (x ∷ s) h =
-    ap (flat_map (λ run. run_packets (bytes_in run))) (one_run (x ∷ s) h (λ e. absurd (omega (arith, ap length e))))
-    ∙ append-nil (run_packets (bytes_in (x ∷ s)))
+packets_of_run (x ∷ s) h = grind (arith, one_run, append-nil)

@@ -1,7 +1,6 @@
 -- The packets of the segments after rounds: those whose words are known stay.
-use Rattle.std.proofs.Common.{◌≡◌, ◌≢◌, ℕ, ℤ, ◌+◌, ◌-◌, ◌*◌, ◌/◌, ◌%◌, ◌<◌, ◌≤◌, ◌⊎◌, inl, inr, true, Option}
-use Rattle.std.proofs.Common.{Some, None, List, [], ◌∷◌, ◌++◌, length, map, refl, sym, ap, ap₂, ◌∙◌, subst, arith}
-use Rattle.std.proofs.Common.{zero-add}
+use Rattle.std.proofs.Common.{◌≡◌, ◌≢◌, ℕ, ℤ, ◌+◌, ◌-◌, ◌*◌, ◌/◌, ◌%◌, ◌<◌, ◌≤◌, ◌⊎◌, inl, inr, true, Option, Some}
+use Rattle.std.proofs.Common.{None, List, [], ◌∷◌, ◌++◌, length, map, refl, sym, ap, ◌∙◌, subst, arith, zero-add}
 use Rattle.std.specs.Prelude.{slice_get}
 use Rattle.std.specs.List.{filter, range_with_len}
 use Rattle.std.proofs.lemmas.Bool.{cases_eq, cases_lt}
@@ -38,11 +37,7 @@ counted s k l = by_turn (cases_lt s 52) (cases_eq (s % 52) 0)
     front = range_with_len 0 (s - 52)
 
     none : (s < 52) ⊎ (s % 52 ≢ 0) → (k + 53 ≤ s) ⊎ ((k + 52 ≡ s) × (k % 52 ≡ 0))
-    none h =
-        let all : length (filter (is_complete (207 * s)) (range_with_len 0 s)) ≡ s - 52 =
-        ap length (complete_parts s ∙ ap (λ (xs : List ℕ). front ++ xs) (complete_none s h) ∙ append-nil front)
-        ∙ length-range_with_len 0 (s - 52) in
-        inl (omega (arith, l, all))
+    none h = grind (arith, complete_parts, complete_none, append-nil, length-range_with_len)
 
     by_last : s % 52 ≡ 0 → k < s - 52 + 1 → 52 ≤ s → (k < s - 52) ⊎ (s - 52 ≤ k)
         → (k + 53 ≤ s) ⊎ ((k + 52 ≡ s) × (k % 52 ≡ 0))
@@ -70,14 +65,12 @@ given_there bytes s k e l =
 
     all : length (map (received_at bytes) (filter (is_complete (length bytes)) (range_with_len 0 (length bytes / 207))))
         ≡ length (filter (is_complete (207 * s)) (range_with_len 0 s))
-    all = length-map (filter (is_complete (length bytes)) (range_with_len 0 (length bytes / 207))) (received_at bytes)
-        ∙ ap₂ (λ n m. length (filter (is_complete n) (range_with_len 0 m))) e (ap (λ n. n / 207) e ∙ whole s)
+    all = grind (arith, length-map)
 
 -- and each word that is there gives one
 there_given : (bytes : List ℕ) (k : ℕ) → IsComplete 207 52 4 (length bytes) k
     → slice_get (run_packets bytes) k ≡ Some (received_at bytes k)
-there_given bytes k c =
-    sym (ap₂ (λ (xs : List Received) (i : ℕ). slice_get xs i) (append-nil (run_packets bytes)) (zero-add k))
+there_given bytes k c = sym (grind (arith, append-nil, zero-add))
     ∙ middle_at [] (run_packets bytes) [] k (received_at bytes k) (λ other. number_at bytes k other c)
 
 -- ---- a known word
@@ -100,23 +93,19 @@ by_found from word (Some code) good = (code, refl)
 good_known : (bytes : List ℕ) (s k : ℕ) (old : Received) → length bytes ≡ 207 * s
     → slice_get (run_packets bytes) k ≡ Some old → old.good ≡ true → (code : List ℕ) × (known_word bytes k ≡ Some code)
 unfolding received_at
-good_known bytes s k old e at good = (
-  found.0,
-  known_from bytes k found.0 (record {
-    complete = (complete_told (length bytes) k).1 there;
-    corrected = found.1;
-  }),
-)
-  where
-    there : IsComplete 207 52 4 (length bytes) k
-    there = given_there bytes s k e (slice_get_within (run_packets bytes) k old at)
-
-    same : received_at bytes k ≡ old
-    same = same_Some (received_at bytes k) old (sym (there_given bytes k there) ∙ at)
-
-    found : (code : List ℕ) × (correction 207 187 (word_at 207 52 4 bytes k) ≡ Some code)
-    found = by_found (187 * (k % 312)) (word_at 207 52 4 bytes k) (correction 207 187 (word_at 207 52 4 bytes k))
-        (ap (λ (r : Received). r.good) same ∙ good)
+good_known bytes s k old e at good =
+    let there : IsComplete 207 52 4 (length bytes) k =
+    given_there bytes s k e (slice_get_within (run_packets bytes) k old at) in
+    let same : received_at bytes k ≡ old = same_Some (received_at bytes k) old (sym (there_given bytes k there) ∙ at) in
+    let found : (code : List ℕ) × (correction 207 187 (word_at 207 52 4 bytes k) ≡ Some code) =
+    by_found (187 * (k % 312)) (word_at 207 52 4 bytes k) (correction 207 187 (word_at 207 52 4 bytes k))
+    (ap (λ (r : Received). r.good) same ∙ good) in (
+      found.0,
+      known_from bytes k found.0 (record {
+        complete = (complete_told (length bytes) k).1 there;
+        corrected = found.1;
+      }),
+    )
 
 -- ---- rounds
 
@@ -128,39 +117,28 @@ WordsStay = (scale r n k : ℕ) (symbols : List ℤ) (code : List ℕ) → 0 < s
 
 refined_packets : (scale r : ℕ) (symbols : List ℤ) → 0 < scale → AreInFields (acquired scale symbols)
     → all_packets (refined scale symbols r) ≡ run_packets (bytes_in (refined scale symbols r))
-refined_packets scale r symbols some h =
-    packets_of_run (refined scale symbols r) (fields_refined scale r symbols some h)
+refined_packets scale r symbols some h = grind (arith, packets_of_run, fields_refined)
 
 pub known_received : WordsStay → (scale r n k : ℕ) (symbols : List ℤ) (code : List ℕ) → 0 < scale → scale ≤ 18
     → AreInFields (acquired scale symbols) → known_word (bytes_in (refined scale symbols r)) k ≡ Some code
     → slice_get (all_packets (refined scale symbols (r + n))) k
     ≡ Some (received_as (bytes_in (refined scale symbols (r + n))) k code)
-known_received stay scale r n k symbols code some most h e =
-    ap (λ (xs : List Received). slice_get xs k) (refined_packets scale (r + n) symbols some h)
-    ∙ known_given (bytes_in (refined scale symbols (r + n))) k code (stay scale r n k symbols code some most e)
+known_received stay scale r n k symbols code some most h e = grind (arith, refined_packets, known_given)
 
 pub good_stay : WordsStay → (scale r n : ℕ) (symbols : List ℤ) → 0 < scale → scale ≤ 18
     → AreInFields (acquired scale symbols)
     → StayGood (all_packets (refined scale symbols r)) (all_packets (refined scale symbols (r + n)))
 good_stay stay scale r n symbols some most h k old at good =
+    let before : List ℕ = bytes_in (refined scale symbols r) in
+    let own : slice_get (run_packets before) k ≡ Some old =
+    sym (ap (λ (xs : List Received). slice_get xs k) (refined_packets scale r symbols some h)) ∙ at in
+    let known : (code : List ℕ) × (known_word before k ≡ Some code) =
+    good_known before (4 * level_groups (levels_in (refined scale symbols r))) k old
+    (bytes_count (refined scale symbols r)) own good in
+    let new : Received = received_as (bytes_in (refined scale symbols (r + n))) k known.0 in
+    let same : new.packet ≡ old.packet = ap (λ (r : Received). r.packet)
+    (same_Some (received_as before k known.0) old (sym (known_given before k known.0 known.1) ∙ own)) in
     (new, known_received stay scale r n k symbols known.0 some most h known.1, refl, same)
-  where
-    before : List ℕ
-    before = bytes_in (refined scale symbols r)
-
-    own : slice_get (run_packets before) k ≡ Some old
-    own = sym (ap (λ (xs : List Received). slice_get xs k) (refined_packets scale r symbols some h)) ∙ at
-
-    known : (code : List ℕ) × (known_word before k ≡ Some code)
-    known = good_known before (4 * level_groups (levels_in (refined scale symbols r))) k old
-        (bytes_count (refined scale symbols r)) own good
-
-    new : Received
-    new = received_as (bytes_in (refined scale symbols (r + n))) k known.0
-
-    same : new.packet ≡ old.packet
-    same = ap (λ (r : Received). r.packet)
-        (same_Some (received_as before k known.0) old (sym (known_given before k known.0 known.1) ∙ own))
 
 -- those of the acquired segments, which are the ones before the first round
 pub acquired_stay : WordsStay → (scale r : ℕ) (symbols : List ℤ) → 0 < scale → scale ≤ 18

@@ -1,17 +1,15 @@
 -- What a command that restores segments answers and writes of all bytes of a file, and of the first of too many.
-use Rattle.std.proofs.Common.{◌≡◌, ◌≢◌, ◌↔◌, ℕ, ℤ, ◌*◌, ◌/◌, ◌%◌, ◌<◌, ◌≤◌, ◌⊎◌, inl, inr, List, [], ◌++◌, length}
-use Rattle.std.proofs.Common.{take, drop, cond, sym, ap, ap₂, ◌∙◌, arith}
+use Rattle.std.proofs.Common.{◌≡◌, ◌≢◌, ◌↔◌, ℕ, ℤ, ◌<◌, ◌≤◌, List, [], ◌++◌, length, take, drop, cond, sym, ap, ◌∙◌}
+use Rattle.std.proofs.Common.{arith}
 use Rattle.std.specs.Prelude.{min, ◌==◌, None}
 use Rattle.std.specs.List.{range_with_len}
 use Rattle.std.proofs.lemmas.Bool.{cases_eq, cond-false, cond-true, eq-eqb, ne_eqb}
 use Rattle.std.proofs.lemmas.List.{append_assoc, take_all, take-append-drop, take-map}
 use Rattle.dtx_meaning.specs.Status.{ended}
 use Rattle.dtx_meaning.specs.declared.status.Outcome.{Outcome}
-use Rattle.dtx_meaning.specs.declared.status.Status.{Status}
 use Rattle.dtx_meaning.specs.declared.status.Status.TheVariants.{Done, NoSync, TooLong}
-use Rattle.dtx_engine.specs.Made.{Made, joined, only, outputs_of}
-use Rattle.dtx_engine.specs.Recipe.{first_refused, meaning_at, meaning_of_file, whole_units}
-use Rattle.dtx_engine.specs.declared.piece.Ending.TheVariants.{Whole}
+use Rattle.dtx_engine.specs.Made.{joined, only}
+use Rattle.dtx_engine.specs.Recipe.{first_refused, meaning_of_file, whole_units}
 use Rattle.dtx_files.proofs.AppendedLemmas.{segment_bytes-append}
 use Rattle.dtx_files.specs.Symbols.{segment_bytes}
 use Rattle.dtx_forms.proofs.AllowedFileLemmas.{all_read, first_read, none_found}
@@ -40,13 +38,8 @@ pub first_restored : (restoring : Restoring) → IsRestoring restoring → (symb
     → restoring.so_far symbols ++ restoring.rest symbols ≡ all
     → (rest : List (List ℤ)) × (all ≡ restoring.so_far (take n symbols) ++ rest)
 first_restored restoring is symbols all n parts =
-    let on = is.grows (take n symbols) (drop n symbols) in (
-      on.0 ++ restoring.rest symbols,
-      sym parts
-          ∙ ap (λ list. list ++ restoring.rest symbols)
-          (ap restoring.so_far (sym (take-append-drop n symbols)) ∙ on.1)
-          ∙ append_assoc (restoring.so_far (take n symbols)) on.0 (restoring.rest symbols),
-    )
+    let on = is.grows (take n symbols) (drop n symbols) in
+    (grind (arith, take-append-drop, append_assoc))
 
 -- ---- the answer
 
@@ -57,31 +50,16 @@ none_answered : (runs : ℕ) (some : Outcome) → runs ≡ 0 → by_runs runs so
 none_answered runs some e = cond-true (runs == 0) (ended NoSync) some (eq-eqb runs 0 e)
 
 status_is : (runs : ℕ) (some : Outcome) → some.status ≡ Done → ((by_runs runs some).status ≡ NoSync) ↔ (runs ≡ 0)
-status_is runs some done = (
-  λ e. by_count e (cases_eq runs 0),
-  λ e. ap (λ (o : Outcome). o.status) (none_answered runs some e),
-)
-  where
-    done_none : ◌≡◌ {A = Status} Done NoSync → ⊥
-    done_none e = cc
-
-    by_count : (by_runs runs some).status ≡ NoSync → (runs ≡ 0) ⊎ (runs ≢ 0) → runs ≡ 0
-    by_count e (inl z) = z
-    by_count e (inr z) =
-        absurd (done_none (sym (ap (λ (o : Outcome). o.status) (some_answered runs some z) ∙ done) ∙ e))
+status_is runs some done = grind (arith, cases_eq, none_answered, some_answered)
 
 -- the answer is `NoSync` where nothing is restored
 pub no_sync : (restoring : Restoring) (symbols : List ℤ) (all : List (List ℤ)) (runs : ℕ) (some : Outcome)
     → IsRestored restoring symbols all runs some → ((restoring.answer symbols).status ≡ NoSync) ↔ (all ≡ [])
-no_sync restoring symbols all runs some is =
-    let told = status_is runs some is.done in
-    let same = ap (λ (o : Outcome). o.status) is.answer in
-    (λ e. is.none.0 (told.0 (sym same ∙ e)), λ e. same ∙ told.1 (is.none.1 e))
+no_sync restoring symbols all runs some is = grind (arith, status_is)
 
 -- ---- the file
 
-all_allowed : (restoring : Restoring) (file : List ℕ)
-    → first_refused single_bytes (restoring_by restoring) file ≡ None
+all_allowed : (restoring : Restoring) (file : List ℕ) → first_refused single_bytes (restoring_by restoring) file ≡ None
 unfolding first_refused
 all_allowed restoring file = none_found (range_with_len 0 (min (whole_units single_bytes file) single_bytes.limit))
 
@@ -89,41 +67,26 @@ all_allowed restoring file = none_found (range_with_len 0 (min (whole_units sing
 all_made : (restoring : Restoring) (file : List ℕ) (all : List (List ℤ))
     → restoring.so_far (symbols file) ++ restoring.rest (symbols file) ≡ all
     → joined ((restoring_by restoring).made file) ((restoring_by restoring).rest file) ≡ only (segment_bytes all)
-all_made restoring file all parts =
-    ap only (sym (segment_bytes-append (restoring.so_far (symbols file)) (restoring.rest (symbols file)))
-    ∙ ap segment_bytes parts)
+all_made restoring file all parts = grind (arith, segment_bytes-append)
 
 -- what is answered of all bytes, and what is written
 bytes_restored : (restoring : Restoring) (names : List (List ℕ)) (file : List ℕ) (all : List (List ℤ))
     → restoring.so_far (symbols file) ++ restoring.rest (symbols file) ≡ all → length file ≤ 520832000000
     → meaning_of_file single_bytes (restoring_by restoring) names file
     ≡ restored_with names (restoring.answer (symbols file)) all
-bytes_restored restoring names file all parts few =
-    let whole : take (1 * (length file / 1)) file ≡ file = take_all (1 * (length file / 1)) file (omega arith) in
-    all_read single_bytes (restoring_by restoring) names file (all_allowed restoring file) (omega (arith, few))
-    ∙ ap (λ given. meaning_at (restoring_by restoring) names given (Whole (length file % 1))) whole
-    ∙ ap (λ (made : Made). record {
-      outcome = restoring.answer (symbols file);
-      outputs = outputs_of names made;
-    }) (all_made restoring file all parts)
+bytes_restored restoring names file all parts few = grind (arith, take_all, all_read, all_allowed, all_made)
 
 -- where something is restored
 pub some_restored : (restoring : Restoring) (names : List (List ℕ)) (file : List ℕ) (all : List (List ℤ)) (runs : ℕ)
     (some : Outcome) → IsRestored restoring (symbols file) all runs some → length file ≤ 520832000000 → all ≢ []
     → meaning_of_file single_bytes (restoring_by restoring) names file ≡ restored_with names some all
-some_restored restoring names file all runs some is few there =
-    bytes_restored restoring names file all is.parts few
-    ∙ ap (λ outcome. restored_with names outcome all)
-    (is.answer ∙ some_answered runs some (λ e. there (is.none.0 e)))
+some_restored restoring names file all runs some is few there = grind (arith, bytes_restored, some_answered)
 
 -- where nothing is
 pub none_restored : (restoring : Restoring) (names : List (List ℕ)) (file : List ℕ) (all : List (List ℤ)) (runs : ℕ)
     (some : Outcome) → IsRestored restoring (symbols file) all runs some → length file ≤ 520832000000 → all ≡ []
     → meaning_of_file single_bytes (restoring_by restoring) names file ≡ no_sync_in names
-none_restored restoring names file all runs some is few nothing =
-    bytes_restored restoring names file all is.parts few
-    ∙ ap₂ (λ outcome segments. restored_with names outcome segments)
-    (is.answer ∙ none_answered runs some (is.none.1 nothing)) nothing
+none_restored restoring names file all runs some is few nothing = grind (arith, bytes_restored, none_answered)
 
 -- and where there are too many bytes
 pub until_restored : (restoring : Restoring) (names : List (List ℕ)) (file : List ℕ) → 520832000000 < length file

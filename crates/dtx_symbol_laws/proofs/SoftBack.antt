@@ -1,7 +1,6 @@
 -- What `soft` writes is read back as its segments.
-use Rattle.std.proofs.Common.{◌≡◌, ℕ, ℤ, pos, ◌+◌, ◌-◌, ◌*◌, ◌/◌, ◌<◌, ◌-ℤ◌, nat_lt, cond, All, Bool, true, false}
-use Rattle.std.proofs.Common.{Option, Some, None, List, [], ◌∷◌, length, map, take, drop, get_or, min, refl, ap, subst}
-use Rattle.std.proofs.Common.{arith}
+use Rattle.std.proofs.Common.{◌≡◌, ℕ, ℤ, pos, ◌+◌, ◌-◌, ◌*◌, ◌/◌, ◌<◌, nat_lt, cond, All, Bool, true, false, Option}
+use Rattle.std.proofs.Common.{Some, None, List, [], ◌∷◌, length, map, take, drop, get_or, refl, ap, arith}
 use Rattle.std.proofs.lemmas.List.Elements.{All-get_or}
 use Rattle.dtx_trellis.specs.Trellis.{symbol_of}
 use Rattle.dtx_trellis.specs.Pairs.{coder_at}
@@ -21,9 +20,7 @@ use Rattle.dtx_symbol_laws.proofs.SoftMoved.{HasRows, file_rows, softened_row}
 
 path_level : (z : ℕ) → z < 8 → IsBack (symbol_at 1 z)
 unfolding symbol_at symbol_of
-path_level z l =
-    let same : 2 * z ≡ 1 * (2 * z) = omega arith in
-    subst (λ n. IsBack (pos n -ℤ pos 7)) same (level_back z l)
+path_level z l = grind (arith, level_back)
 
 path_back : (state : ℕ) (levels : List ℕ) → IsPath state levels → AreBack (map (symbol_at 1) levels)
 path_back state [] h = tt
@@ -31,8 +28,7 @@ path_back state (z ∷ levels) h = (path_level z h.0, path_back (next_state stat
 
 softened_back : (g : List (List ℤ)) → EachBack g → EachBack (softened 1 g)
 unfolding softened softened_segment softened_symbol least_symbols
-softened_back g back =
-    each_range AreBack (softened_segment 1 g) 0 (length g) (λ i a b.
+softened_back g back = each_range AreBack (softened_segment 1 g) 0 (length g) (λ i a b.
     each_range IsBack (λ k. cond (nat_lt k 4) (get_or (get_or g i []) k (pos 0))
     (softened_symbol 1 g (828 * i + (k - 4)))) 0 832 (λ k c d. symbol i k (nat_lt k 4)))
   where
@@ -52,39 +48,20 @@ soft_back s back = each_range AreBack (soft_at s) 0 (length s) (λ i a b. at i (
   where
     at : (i : ℕ) (o : Option ℕ) → AreBack (soft_from s i o)
     at i None = each_at AreBack s i [] back tt
-    at i (Some place) =
-        each_at AreBack (softened 1 (in_groups s (i - place))) place (get_or s i [])
-        (softened_back (in_groups s (i - place))
-        (each_take AreBack (4 * (min 312 (length s - (i - place)) / 4)) (drop (i - place) s)
-        (each_drop AreBack (i - place) s back)))
-        (each_at AreBack s i [] back tt)
+    at i (Some place) = grind (arith, each_at, softened_back, each_take, each_drop)
 
 soft_long : (s : List (List ℤ)) → HasRows s → AreSegments (soft_symbols s)
 unfolding soft_symbols soft_at softened
-soft_long s rows = segments_map (soft_at s) 0 (length s) (λ i a b. at i (omega arith) (place_at s i))
-  where
-    at : (i : ℕ) → i < length s → (o : Option ℕ) → length (soft_from s i o) ≡ 832
-    at i l None = rows i l
-    at i l (Some place) = by_part (in_groups s (i - place)) place
-      where
-        by_part : (g : List (List ℤ)) (p : ℕ) → length (get_or (softened 1 g) p (get_or s i [])) ≡ 832
-        by_part g p =
-            each_at (λ row. length row ≡ 832) (softened 1 g) p (get_or s i [])
-            (each_range (λ row. length row ≡ 832) (softened_segment 1 g) 0 (length g) (λ k a b. softened_row g k))
-            (rows i l)
+soft_long s rows = grind (arith, segments_map, each_at, each_range, softened_row)
 
 -- the symbols of bytes
 file_back : (file : List ℕ) → All (λ b. b < 256) file → EachBack (file_segments file)
-file_back file h =
-    each_range AreBack (segment_at file) 0 (whole_segments file) (λ i a b.
+file_back file h = each_range AreBack (segment_at file) 0 (whole_segments file) (λ i a b.
     each_map (λ b. b < 256) IsBack symbol_of_byte (take 832 (drop (832 * i) file))
-    (λ b l. ap symbol_of_byte (byte_back b l))
-    (each_take (λ b. b < 256) 832 (drop (832 * i) file)
+    (λ b l. ap symbol_of_byte (byte_back b l)) (each_take (λ b. b < 256) 832 (drop (832 * i) file)
     (each_drop (λ b. b < 256) (832 * i) file
     (each_of (λ b. b < 256) file 0 (λ k l. All-get_or (λ b. b < 256) file k 0 l h)))))
 
 pub soft_read_back : (file : List ℕ) → All (λ b. b < 256) file
     → file_segments (segment_bytes (soft_symbols (file_segments file))) ≡ soft_symbols (file_segments file)
-soft_read_back file h =
-    segments_read_back (soft_symbols (file_segments file)) (soft_long (file_segments file) (file_rows file))
-    (soft_back (file_segments file) (file_back file h))
+soft_read_back file h = grind (arith, segments_read_back, soft_long, file_rows, soft_back, file_back)

@@ -26,33 +26,22 @@ use Rattle.dtx_symbol_laws.proofs.SoftStream.{TakesPaths, length-field}
 -- ---- fields
 
 place_of : (ps : List (List ℕ)) (i : ℕ) → i < length (a53 ps) → place_at (a53 ps) (0 + i) ≡ place_behind (i % 313)
-place_of ps i l =
-    let here : 0 + i ≡ i = omega arith in
-    ap (λ k. place_at (a53 ps) k) here ∙ in_step (a53 ps) (stream_in_step ps) i (omega arith)
+place_of ps i l = grind (arith, in_step, stream_in_step)
 
 -- a field that is begun has a whole group
 some_group : (g f n : ℕ) → n ≡ 4 * g + (g + 77) / 78 → 313 * f + 1 < n
     → min 1 (4 * (min 312 (n - (313 * f + 1)) / 4)) ≡ 1
 some_group g f n e l = omega arith
 
-one_field : (ps : List (List ℕ)) (i : ℕ) → i < length (a53 ps) → i % 313 ≡ 1
-    → count_at has_group (a53 ps) (0 + i) ≡ 1
+one_field : (ps : List (List ℕ)) (i : ℕ) → i < length (a53 ps) → i % 313 ≡ 1 → count_at has_group (a53 ps) (0 + i) ≡ 1
 one_field ps i l e =
     let f : ℕ = i / 313 in
-    let first : 0 + i ≡ 313 * f + 1 = omega (arith, e) in
     ap (count_from has_group (a53 ps) (0 + i)) (place_of ps i l ∙ ap place_behind e)
-    ∙ ap (λ n. has_group (in_groups (a53 ps) n)) first
-    ∙ ap (min 1) (length-field ps f (omega (arith, l, first)))
-    ∙ some_group (length ps / 4) f (length (a53 ps)) (length-a53 ps) (omega (arith, l, first))
+    ∙ ap (λ n. has_group (in_groups (a53 ps) n)) (omega (arith, e)) ∙ ap (min 1) (length-field ps f (omega (arith, l)))
+    ∙ some_group (length ps / 4) f (length (a53 ps)) (length-a53 ps) (omega (arith, l))
 
-no_field : (ps : List (List ℕ)) (i : ℕ) → i < length (a53 ps) → i % 313 ≢ 1
-    → count_at has_group (a53 ps) (0 + i) ≡ 0
-no_field ps i l e = ap (count_from has_group (a53 ps) (0 + i)) (place_of ps i l) ∙ by_place (i % 313) e
-  where
-    by_place : (n : ℕ) → n ≢ 1 → count_from has_group (a53 ps) (0 + i) (place_behind n) ≡ 0
-    by_place zero e = refl
-    by_place (suc zero) e = absurd (e refl)
-    by_place (suc (suc p)) e = refl
+no_field : (ps : List (List ℕ)) (i : ℕ) → i < length (a53 ps) → i % 313 ≢ 1 → count_at has_group (a53 ps) (0 + i) ≡ 0
+no_field ps i l e = grind (arith, place_of)
 
 ones : (n : ℕ) → over (λ _. 1) 0 n ≡ n
 ones zero = refl
@@ -64,11 +53,9 @@ begun : (g n : ℕ) → n ≡ 4 * g + (g + 77) / 78 → (n + 311) / 313 ≡ (g +
 begun g n e = omega arith
 
 -- there is one for each 78 groups that are begun
-pub stream_fields : (ps : List (List ℕ))
-    → field_sum has_group (a53 ps) (length (a53 ps)) ≡ (length ps / 4 + 77) / 78
+pub stream_fields : (ps : List (List ℕ)) → field_sum has_group (a53 ps) (length (a53 ps)) ≡ (length ps / 4 + 77) / 78
 unfolding field_sum
-stream_fields ps =
-    each_field (count_at has_group (a53 ps)) (λ _. 1) 0 (length (a53 ps)) (λ i l e. one_field ps i l e)
+stream_fields ps = each_field (count_at has_group (a53 ps)) (λ _. 1) 0 (length (a53 ps)) (λ i l e. one_field ps i l e)
     (λ i l e. no_field ps i l e)
     ∙ ones ((length (a53 ps) + 311) / 313) ∙ begun (length ps / 4) (length (a53 ps)) (length-a53 ps)
 
@@ -78,8 +65,7 @@ few : (g n p : ℕ) → n ≡ 4 * g + (g + 77) / 78 → g ≡ p / 4 → p ≤ 62
 few g n p e d l = omega arith
 
 few_segments : (ps : List (List ℕ)) → length ps ≤ 624000000 → whole_segments (symbol_bytes ps) ≤ 626000000
-few_segments ps l =
-    omega (arith, length-symbol_bytes ps, few (length ps / 4) (length (a53 ps)) (length ps) (length-a53 ps) refl l)
+few_segments ps l = grind (arith, length-symbol_bytes, few, length-a53)
 
 none_loose : (ps : List (List ℕ)) → length (symbol_bytes ps) % 832 ≡ 0
 none_loose ps = omega (arith, length-symbol_bytes ps)
@@ -90,16 +76,15 @@ pub stream_file_stays : TakesPaths → KeepsOwn → (names : List (List ℕ)) (s
 unfolding a53_symbols
 stream_file_stays takes keeps names stream most =
     let ps : List (List ℕ) = packets_of stream in
-    let file : List ℕ = symbol_bytes ps in
     let count : length ps ≡ whole_packets stream = length-packets_of stream in
     let means : List (List ℤ) → ℕ → ℕ → ℕ → List (List ℤ) → Meaning = λ given fields cost loose written. record {
       outcome = done (length given ∷ fields ∷ cost ∷ loose ∷ []);
       outputs = outputs_of names (only (segment_bytes written));
     } in
-    all_softened names file (few_segments ps (omega (arith, count, most)))
+    all_softened names (symbol_bytes ps) (few_segments ps (omega (arith, count, most)))
     ∙ ap (λ s. means s (field_sum has_group s (length s)) (field_sum (softened_cost 1) s (length s))
-    (length file % 832) (soft_symbols s)) (stream_read_back ps)
-    ∙ ap₂ (λ fields cost. means (a53 ps) fields cost (length file % 832) (soft_symbols (a53 ps)))
+    (length (symbol_bytes ps) % 832) (soft_symbols s)) (stream_read_back ps)
+    ∙ ap₂ (λ fields cost. means (a53 ps) fields cost (length (symbol_bytes ps) % 832) (soft_symbols (a53 ps)))
     (stream_fields ps ∙ ap (λ n. (n / 4 + 77) / 78) count) (stream_costs_nothing takes keeps ps)
     ∙ ap₂ (λ loose written. means (a53 ps) ((whole_packets stream / 4 + 77) / 78) 0 loose written) (none_loose ps)
     (stream_stays takes keeps ps)

@@ -1,8 +1,7 @@
 -- The fields of the runs: what is field_sum in them, and what they become.
-use Rattle.std.proofs.Common.{◌≡◌, ℕ, ℤ, zero, suc, ◌+◌, ◌-◌, ◌*◌, ◌/◌, ◌%◌, ◌<◌, ◌≤◌, ◌≢◌, ◌⊎◌, inl, inr, Option}
-use Rattle.std.proofs.Common.{Some, None, List, [], ◌∷◌, ◌++◌, length, map, take, drop, get_or, min, refl, sym, ap, ap₂}
-use Rattle.std.proofs.Common.{◌∙◌, arith}
-use Rattle.std.specs.Prelude.{IfSome, false}
+use Rattle.std.proofs.Common.{◌≡◌, ℕ, ℤ, zero, suc, ◌+◌, ◌-◌, ◌*◌, ◌/◌, ◌%◌, ◌<◌, ◌≤◌, ◌≢◌, ◌⊎◌, inl, inr, None, List}
+use Rattle.std.proofs.Common.{[], ◌∷◌, ◌++◌, length, map, take, drop, get_or, min, refl, sym, ap, ap₂, ◌∙◌, arith}
+use Rattle.std.specs.Prelude.{IfSome}
 use Rattle.std.specs.List.{range_with_len, flat_map, sum_by}
 use Rattle.std.proofs.lemmas.Bool.{cases_eq, cases_lt}
 use Rattle.std.proofs.lemmas.Simd.{map-map}
@@ -12,7 +11,7 @@ use Rattle.std.proofs.lemmas.List.Folds.{flat_map-map}
 use Rattle.std.proofs.lemmas.List.FromFn.{fill_by_all, get_or-map-range_with_len, length-map-range_with_len}
 use Rattle.std.proofs.lemmas.List.Sums.{sum_by-append, sum_by-cons}
 use Rattle.dtx_lists.proofs.Range.{map-range_same}
-use Rattle.dtx_receiver.specs.Intervals.{AreRuns, IsRun, NoneLooks, looks_at, segments_in}
+use Rattle.dtx_receiver.specs.Intervals.{AreRuns, IsRun, NoneLooks, segments_in}
 use Rattle.dtx_receiver.proofs.IntervalsLemmas.{are_runs, only_runs}
 use Rattle.dtx_soft.specs.Softened.{softened, softened_segment}
 use Rattle.dtx_soft.proofs.SumsLemmas.{none_first, over, over_more, over_none, over_one, over_parts, over_same}
@@ -20,23 +19,20 @@ use Rattle.dtx_recipes.specs.Soft.{count_from, field_sum, groups_in, in_groups, 
 use Rattle.dtx_recipes.specs.Soft.{soft_symbols}
 use Rattle.dtx_symbol_laws.specs.SoftFields.{field_groups, fields_in, fields_of, place_behind}
 use Rattle.dtx_symbol_laws.proofs.SoftPlaces.{Begins, begins_first, none_from, places_stay, run_begins, run_behind}
-use Rattle.dtx_symbol_laws.proofs.SoftPlaces.{run_ends}
-use Rattle.dtx_symbol_laws.proofs.SoftPlaces.{run_place}
+use Rattle.dtx_symbol_laws.proofs.SoftPlaces.{run_ends, run_place}
 use Rattle.dtx_symbol_laws.proofs.SoftRuns.{soft_entry, soft_length}
 
 -- ---- sums over a run
 
 -- where what is field_sum stands one behind each multiple of 313
-pub each_field : (f g : ℕ → ℕ) (first n : ℕ)
-    → ((j : ℕ) → j < n → j % 313 ≡ 1 → f (first + j) ≡ g (j / 313))
+pub each_field : (f g : ℕ → ℕ) (first n : ℕ) → ((j : ℕ) → j < n → j % 313 ≡ 1 → f (first + j) ≡ g (j / 313))
     → ((j : ℕ) → j < n → j % 313 ≢ 1 → f (first + j) ≡ 0) → over f first n ≡ over g 0 ((n + 311) / 313)
 each_field f g first zero one other = refl
 each_field f g first (suc n) one other =
     let next : suc n ≡ n + 1 = omega arith in
     ap (over f first) next ∙ over_more f first n
     ∙ ap (λ k. k + f (first + n)) (each_field f g first n (λ j l e. one j (omega arith) e)
-    (λ j l e. other j (omega arith) e))
-    ∙ by_place (cases_eq (n % 313) 1)
+    (λ j l e. other j (omega arith) e)) ∙ by_place (cases_eq (n % 313) 1)
   where
     by_place : (n % 313 ≡ 1) ⊎ (n % 313 ≢ 1)
         → over g 0 ((n + 311) / 313) + f (first + n) ≡ over g 0 ((suc n + 311) / 313)
@@ -45,11 +41,7 @@ each_field f g first (suc n) one other =
         let place : n / 313 ≡ 0 + (n + 311) / 313 = omega (arith, e) in
         ap (λ k. over g 0 ((n + 311) / 313) + k) (one n (omega arith) e ∙ ap g place)
         ∙ sym (ap (over g 0) more ∙ over_more g 0 ((n + 311) / 313))
-    by_place (inr e) =
-        let same : (suc n + 311) / 313 ≡ (n + 311) / 313 = omega (arith, e) in
-        let none = other n (omega arith) e in
-        let sums : over g 0 ((n + 311) / 313) + f (first + n) ≡ over g 0 ((n + 311) / 313) = omega (arith, none) in
-        sums ∙ sym (ap (over g 0) same)
+    by_place (inr e) = grind (arith, over)
 
 -- ---- the groups of a field
 
@@ -60,38 +52,15 @@ pub record IsField (s : List (List ℤ)) (p : ℕ × ℕ) (f : ℕ) : Type 0 whe
   pub ends : (p.0 + p.1 ≡ length s) ⊎ (p.1 % 313 ≡ 0)
 
 pub field_of : (s : List (List ℤ)) (p : ℕ × ℕ) (f : ℕ) → IsRun s p.0 p.1 → f < (p.1 + 311) / 313 → IsField s p f
-field_of s p f r l = record { within = r.within; some = omega (arith, l); ends = by_end r.ends }
-  where
-    by_end : (p.0 + p.1 ≡ length s)
-        ⊎ ((p.0 + p.1 < length s) × (p.1 % 313 ≡ 0) × (looks_at s (p.0 + p.1) ≡ false))
-        → (p.0 + p.1 ≡ length s) ⊎ (p.1 % 313 ≡ 0)
-    by_end (inl e) = inl e
-    by_end (inr e) = inr e.1
+field_of s p f r l = grind arith
 
 -- how many segments they are
 pub count_is : (s : List (List ℤ)) (p : ℕ × ℕ) (f : ℕ) → IsField s p f
     → min 312 (length s - (p.0 + (313 * f + 1))) ≡ min 312 (p.1 - (313 * f + 1))
-count_is s p f h = by_end h.ends
-  where
-    within : p.0 + p.1 ≤ length s
-    within = h.within
-
-    some : 313 * f + 1 < p.1
-    some = h.some
-
-    by_end : (p.0 + p.1 ≡ length s) ⊎ (p.1 % 313 ≡ 0)
-        → min 312 (length s - (p.0 + (313 * f + 1))) ≡ min 312 (p.1 - (313 * f + 1))
-    by_end (inl e) = ap (min 312) (omega arith)
-    by_end (inr e) =
-        let front : min 312 (length s - (p.0 + (313 * f + 1))) ≡ 312 = omega arith in
-        let back : min 312 (p.1 - (313 * f + 1)) ≡ 312 = omega arith in
-        front ∙ sym back
+count_is s p f h = grind arith
 
 length-in : (s : List (List ℤ)) (p : ℕ × ℕ) → p.0 + p.1 ≤ length s → length (segments_in s p) ≡ p.1
-length-in s p l =
-    let n : p.0 + p.1 - p.0 ≡ p.1 = omega arith in
-    ap (λ n. length (take n (drop p.0 s))) n
-    ∙ length-take-le p.1 (drop p.0 s) (omega (arith, length-drop p.0 s))
+length-in s p l = grind (arith, length-take-le, length-drop)
 
 rows_are : (s : List (List ℤ)) (p : ℕ × ℕ) (f : ℕ) → IsField s p f
     → drop (313 * f + 1) (segments_in s p) ≡ take (p.1 - (313 * f + 1)) (drop (p.0 + (313 * f + 1)) s)
@@ -120,15 +89,7 @@ groups_same s p f h =
     ∙ ap (λ n. take (4 * (n / 4)) rest) (sym (count_is s p f h))
   where
     twice : (m n : ℕ) (xs : List (List ℤ)) → take m (take n xs) ≡ take (min m n) xs
-    twice m n xs = by_less (cases_lt m n)
-      where
-        by_less : (m < n) ⊎ (n ≤ m) → take m (take n xs) ≡ take (min m n) xs
-        by_less (inl l) =
-            let least : min m n ≡ m = omega arith in
-            take-take m n xs (omega arith) ∙ ap (λ k. take k xs) (sym least)
-        by_less (inr l) =
-            let least : min m n ≡ n = omega arith in
-            take_all m (take n xs) (omega (arith, length-take n xs)) ∙ ap (λ k. take k xs) (sym least)
+    twice m n xs = grind (arith, cases_lt, take-take, take_all, length-take)
 
 -- ---- what is field_sum
 
@@ -138,39 +99,17 @@ count_at count s i = count_from count s i (place_at s i)
 over_counts : (count : List (List ℤ) → ℕ) (h : ℕ → List (List ℤ)) (a n : ℕ)
     → over (λ f. count (h f)) a n ≡ sum_by count (map h (range_with_len a n))
 over_counts count h a zero = refl
-over_counts count h a (suc n) =
-    sum_by-cons (λ x. x) (count (h a)) (map (λ f. count (h f)) (range_with_len (a + 1) n))
-    ∙ ap (λ k. count (h a) + k) (over_counts count h (a + 1) n)
-    ∙ sym (sum_by-cons count (h a) (map h (range_with_len (a + 1) n)))
+over_counts count h a (suc n) = sum_by-cons (λ x. x) (count (h a)) (map (λ f. count (h f)) (range_with_len (a + 1) n))
+    ∙ ap (λ k. count (h a) + k) (over_counts count h (a + 1) n) ∙ sym (grind (arith, sum_by-cons))
 
-pub run_fields : (count : List (List ℤ) → ℕ) (s : List (List ℤ)) (p : ℕ × ℕ) → IsRun s p.0 p.1
-    → place_at s p.0 ≡ None
-    → over (count_at count s) p.0 p.1
-    ≡ over (λ f. count (in_groups s (p.0 + (313 * f + 1)))) 0 ((p.1 + 311) / 313)
-run_fields count s p r here =
-    each_field (count_at count s) (λ f. count (in_groups s (p.0 + (313 * f + 1)))) p.0 p.1 one other
-  where
-    one : (j : ℕ) → j < p.1 → j % 313 ≡ 1
-        → count_at count s (p.0 + j) ≡ count (in_groups s (p.0 + (313 * (j / 313) + 1)))
-    one j l e =
-        let same : j ≡ 313 * (j / 313) + 1 = omega (arith, e) in
-        ap (count_from count s (p.0 + j)) (run_place s p j r here (omega arith) ∙ ap place_behind e)
-        ∙ ap (λ n. count (in_groups s (p.0 + n))) same
-
-    by_number : (j m : ℕ) → m ≢ 1 → count_from count s (p.0 + j) (place_behind m) ≡ 0
-    by_number j zero n = refl
-    by_number j (suc zero) n = absurd (n refl)
-    by_number j (suc (suc m)) n = refl
-
-    other : (j : ℕ) → j < p.1 → j % 313 ≢ 1 → count_at count s (p.0 + j) ≡ 0
-    other j l n =
-        ap (count_from count s (p.0 + j)) (run_place s p j r here (omega arith)) ∙ by_number j (j % 313) n
+pub run_fields : (count : List (List ℤ) → ℕ) (s : List (List ℤ)) (p : ℕ × ℕ) → IsRun s p.0 p.1 → place_at s p.0 ≡ None
+    → over (count_at count s) p.0 p.1 ≡ over (λ f. count (in_groups s (p.0 + (313 * f + 1)))) 0 ((p.1 + 311) / 313)
+run_fields count s p r here = grind (arith, each_field, run_place)
 
 run_counts : (count : List (List ℤ) → ℕ) (s : List (List ℤ)) (p : ℕ × ℕ) → IsRun s p.0 p.1
     → place_at s p.0 ≡ None → over (count_at count s) p.0 p.1 ≡ sum_by count (fields_in (segments_in s p))
 unfolding fields_in
-run_counts count s p r here =
-    run_fields count s p r here
+run_counts count s p r here = run_fields count s p r here
     ∙ over_same (λ f. count (in_groups s (p.0 + (313 * f + 1))))
     (λ f. count (field_groups (segments_in s p) f)) 0 ((p.1 + 311) / 313)
     (λ f a b. ap count (sym (groups_same s p f (field_of s p f r (omega arith)))))
@@ -181,12 +120,9 @@ run_counts count s p r here =
 -- nothing is added where no segment looks like a field sync
 none_there : (f : ℕ → ℕ) (s : List (List ℤ)) (a b : ℕ) → ((i : ℕ) → i < length s → place_at s i ≡ None → f i ≡ 0)
     → NoneLooks s a b → b ≤ length s → (a ≤ b → place_at s a ≡ None) → over f a (b - a) ≡ 0
-none_there f s a b none h l here =
-    over_none f a (b - a) (λ i k m.
+none_there f s a b none h l here = over_none f a (b - a) (λ i k m.
     let there : i ≡ a + (i - a) = omega arith in
-    none i (omega arith)
-    (ap (λ i. place_at s i) there
-    ∙ none_from s a b (i - a) h l (here (omega arith)) (omega arith)))
+    none i (omega arith) (rw (there, none_from s a b (i - a) h l (here (omega arith)) (omega arith))))
 
 -- What is added of segments that are data alone is added run by run.
 runs_sum : (f : ℕ → ℕ) (in_run : ℕ × ℕ → ℕ) (s : List (List ℤ)) (from : ℕ) (ps : List (ℕ × ℕ)) → AreRuns s from ps
@@ -205,24 +141,17 @@ runs_sum f in_run s from (p ∷ ps) h here none each =
     ap (over f from) parts ∙ over_parts f from (p.0 - from) (p.1 + (length s - (p.0 + p.1)))
     ∙ ap₂ (λ (n m : ℕ). n + m) before
     (ap (λ a. over f a (p.1 + (length s - (p.0 + p.1)))) start ∙ over_parts f p.0 p.1 (length s - (p.0 + p.1))
-    ∙ ap₂ (λ (n m : ℕ). n + m) (each p h.2 first)
-    (behind (cases_lt (p.0 + p.1) (length s)) (run_ends s p h.2 first)
+    ∙ ap₂ (λ (n m : ℕ). n + m) (each p h.2 first) (behind (cases_lt (p.0 + p.1) (length s)) (run_ends s p h.2 first)
     ∙ runs_sum f in_run s (p.0 + p.1 + 1) ps h.3 (run_behind s p h.2 first) none each))
     ∙ none_first _ ∙ sym (sum_by-cons in_run p ps)
   where
-    behind : (p.0 + p.1 < length s) ⊎ (length s ≤ p.0 + p.1)
-        → (p.0 + p.1 < length s → place_at s (p.0 + p.1) ≡ None)
-        → over f (p.0 + p.1) (length s - (p.0 + p.1))
-        ≡ over f (p.0 + p.1 + 1) (length s - (p.0 + p.1 + 1))
+    behind : (p.0 + p.1 < length s) ⊎ (length s ≤ p.0 + p.1) → (p.0 + p.1 < length s → place_at s (p.0 + p.1) ≡ None)
+        → over f (p.0 + p.1) (length s - (p.0 + p.1)) ≡ over f (p.0 + p.1 + 1) (length s - (p.0 + p.1 + 1))
     behind (inl l) ends =
         let one : length s - (p.0 + p.1) ≡ 1 + (length s - (p.0 + p.1 + 1)) = omega arith in
         ap (over f (p.0 + p.1)) one ∙ over_one f (p.0 + p.1) (length s - (p.0 + p.1 + 1))
-        ∙ ap (λ n. n + over f (p.0 + p.1 + 1) (length s - (p.0 + p.1 + 1))) (none (p.0 + p.1) l (ends l))
-        ∙ none_first _
-    behind (inr l) ends =
-        let none : length s - (p.0 + p.1) ≡ 0 = omega arith in
-        let no : length s - (p.0 + p.1 + 1) ≡ 0 = omega arith in
-        ap (over f (p.0 + p.1)) none ∙ sym (ap (over f (p.0 + p.1 + 1)) no)
+        ∙ ap (λ n. n + over f (p.0 + p.1 + 1) (length s - (p.0 + p.1 + 1))) (none (p.0 + p.1) l (ends l)) ∙ none_first _
+    behind (inr l) ends = grind (arith, over)
 
 -- of all segments
 pub all_sum : (f : ℕ → ℕ) (in_run : ℕ × ℕ → ℕ) (s : List (List ℤ))
@@ -236,19 +165,15 @@ all_sum f in_run s none each =
 flat_counts : {X : Type 0} (count : List (List ℤ) → ℕ) (fields : X → List (List (List ℤ))) (ps : List X)
     → sum_by (λ p. sum_by count (fields p)) ps ≡ sum_by count (flat_map fields ps)
 flat_counts count fields [] = refl
-flat_counts count fields (p ∷ ps) =
-    sum_by-cons (λ p. sum_by count (fields p)) p ps
-    ∙ ap (λ n. sum_by count (fields p) + n) (flat_counts count fields ps)
-    ∙ sym (sum_by-append count (fields p) (flat_map fields ps))
+flat_counts count fields (p ∷ ps) = sum_by-cons (λ p. sum_by count (fields p)) p ps
+    ∙ ap (λ n. sum_by count (fields p) + n) (flat_counts count fields ps) ∙ sym (grind (arith, sum_by-append))
 
 -- what is field_sum of all segments is that of the fields
 pub fields_count : (count : List (List ℤ) → ℕ) (s : List (List ℤ))
     → field_sum count s (length s) ≡ sum_by count (fields_of s)
 unfolding field_sum fields_of
-fields_count count s =
-    all_sum (count_at count s) (λ p. sum_by count (fields_in (segments_in s p))) s
-    (λ i l none. ap (count_from count s i) none) (run_counts count s)
-    ∙ flat_counts count (λ p. fields_in (segments_in s p)) (are_runs s).0
+fields_count count s = all_sum (count_at count s) (λ p. sum_by count (fields_in (segments_in s p))) s
+    (λ i l none. grind arith) (run_counts count s) ∙ flat_counts count (λ p. fields_in (segments_in s p)) (are_runs s).0
     ∙ ap (sum_by count) (sym (ap (flat_map fields_in) (are_runs s).2
     ∙ flat_map-map fields_in (segments_in s) (are_runs s).0))
 
@@ -266,9 +191,7 @@ groups_become s p f r here h =
     ap (λ n. 4 * (min 312 (n - first) / 4)) (soft_length s) in
     ap (λ n. take n (drop first (soft_symbols s))) same
     ∙ fill_by_all (softened_segment 1 g) (take m (drop first (soft_symbols s))) (length g) []
-    (length-take-le m (drop first (soft_symbols s))
-    (omega (arith, length-drop first (soft_symbols s), soft_length s)) ∙ sym long)
-    (λ t l. entry t (omega (arith, l, long)))
+    (grind (arith, length-take-le, length-drop, soft_length)) (λ t l. entry t (omega (arith, l, long)))
   where
     entry : (t : ℕ) → t < 4 * (min 312 (length s - (p.0 + (313 * f + 1))) / 4)
         → get_or (take (4 * (min 312 (length s - (p.0 + (313 * f + 1))) / 4))
@@ -286,11 +209,9 @@ groups_become s p f r here h =
         let turn : (313 * f + 1 + t) % 313 ≡ suc t = omega (arith, l) in
         let back : first + t - t ≡ first = omega arith in
         get_or-take m (drop first (soft_symbols s)) t [] l ∙ get_or-drop first (soft_symbols s) t []
-        ∙ soft_entry s (first + t) (omega (arith, l))
-        ∙ ap (soft_from s (first + t))
+        ∙ soft_entry s (first + t) (omega (arith, l)) ∙ ap (soft_from s (first + t))
         (ap (λ i. place_at s i) at ∙ run_place s p (313 * f + 1 + t) r here (omega (arith, l, count))
-        ∙ ap place_behind turn)
-        ∙ ap (λ n. get_or (softened 1 (in_groups s n)) t (get_or s (first + t) [])) back
+        ∙ ap place_behind turn) ∙ ap (λ n. get_or (softened 1 (in_groups s n)) t (get_or s (first + t) [])) back
         ∙ get_or-map-range_with_len (softened_segment 1 g) 0 (length g) t t (get_or s (first + t) [])
         (omega (arith, l, long)) (omega arith)
 
@@ -306,24 +227,14 @@ run_becomes s p r here =
     (λ f. softened 1 (field_groups (segments_in s p) f)) 0 ((p.1 + 311) / 313)
     (λ f a b. field f (field_of s p f r (omega arith)))
     ∙ sym (map-map (softened 1) (field_groups (segments_in s p)) (range_with_len 0 ((p.1 + 311) / 313)))
-    ∙ ap (λ n. map (softened 1) (map (field_groups (segments_in s p)) (range_with_len 0 ((n + 311) / 313))))
-    (sym long)
+    ∙ ap (λ n. map (softened 1) (map (field_groups (segments_in s p)) (range_with_len 0 ((n + 311) / 313)))) (sym long)
   where
     of_output : (f : ℕ) → IsField s p f → IsField (soft_symbols s) p f
-    of_output f h = record {
-      within = omega (arith, h.within, soft_length s);
-      some = h.some;
-      ends = by_end h.ends;
-    }
-      where
-        by_end : (p.0 + p.1 ≡ length s) ⊎ (p.1 % 313 ≡ 0) → (p.0 + p.1 ≡ length (soft_symbols s)) ⊎ (p.1 % 313 ≡ 0)
-        by_end (inl e) = inl (e ∙ sym (soft_length s))
-        by_end (inr e) = inr e
+    of_output f h = grind (arith, soft_length)
 
     field : (f : ℕ) → IsField s p f
         → field_groups (segments_in (soft_symbols s) p) f ≡ softened 1 (field_groups (segments_in s p) f)
-    field f h =
-        groups_same (soft_symbols s) p f (of_output f h) ∙ groups_become s p f r here h
+    field f h = groups_same (soft_symbols s) p f (of_output f h) ∙ groups_become s p f r here h
         ∙ ap (softened 1) (sym (groups_same s p f h))
 
 runs_become : (s : List (List ℤ)) (from : ℕ) (ps : List (ℕ × ℕ)) → AreRuns s from ps → Begins s from
@@ -333,16 +244,14 @@ runs_become s from [] h here = refl
 runs_become s from (p ∷ ps) h here =
     let first = run_begins s from p here h.0 h.1 h.2 in
     ap₂ (λ (xs ys : List (List (List ℤ))). xs ++ ys) (run_becomes s p h.2 first)
-    (runs_become s (p.0 + p.1 + 1) ps h.3 (run_behind s p h.2 first))
-    ∙ sym (map-append (softened 1) (fields_in (segments_in s p)) (flat_map (λ p. fields_in (segments_in s p)) ps))
+    (runs_become s (p.0 + p.1 + 1) ps h.3 (run_behind s p h.2 first)) ∙ sym (grind (arith, map-append))
 
 pub fields_become : (s : List (List ℤ)) → fields_of (soft_symbols s) ≡ map (softened 1) (fields_of s)
 unfolding fields_of
 fields_become s =
     let all = are_runs s in
     let after = are_runs (soft_symbols s) in
-    let same : after.0 ≡ all.0 =
-    only_runs (soft_symbols s) 0 after.0 all.0 after.1 (places_stay s all.0 all.1) in
+    let same : after.0 ≡ all.0 = only_runs (soft_symbols s) 0 after.0 all.0 after.1 (places_stay s all.0 all.1) in
     ap (flat_map fields_in) (after.2 ∙ ap (map (segments_in (soft_symbols s))) same)
     ∙ flat_map-map fields_in (segments_in (soft_symbols s)) all.0
     ∙ runs_become s 0 all.0 all.1 (begins_first s)
@@ -354,28 +263,14 @@ pub others_stay : (s : List (List ℤ)) (i : ℕ) → i < length s
     → IfSome (place_at s i) (λ place. length (in_groups s (i - place)) ≤ place)
     → get_or (soft_symbols s) i [] ≡ get_or s i []
 unfolding soft_at softened
-others_stay s i l h = soft_entry s i l ∙ by_place (place_at s i) h
-  where
-    by_place : (o : Option ℕ) → IfSome o (λ place. length (in_groups s (i - place)) ≤ place)
-        → soft_from s i o ≡ get_or s i []
-    by_place None k = refl
-    by_place (Some place) k =
-        get_or_past (softened 1 (in_groups s (i - place))) place (get_or s i [])
-        (omega (
-          arith,
-          k,
-          length-map-range_with_len (softened_segment 1 (in_groups s (i - place))) 0
-              (length (in_groups s (i - place))),
-        ))
+others_stay s i l h = grind (arith, soft_entry, get_or_past, length-map-range_with_len)
 
 -- where no segment looks like a field sync all stay, and nothing is field_sum
 pub none_stay : (s : List (List ℤ)) → NoneLooks s 0 (length s) → soft_symbols s ≡ s
 unfolding soft_symbols soft_at
-none_stay s h =
-    sym (fill_by_all (soft_at s) s (length s) [] refl (λ i l.
+none_stay s h = sym (fill_by_all (soft_at s) s (length s) [] refl (λ i l.
     let there : i ≡ 0 + i = omega arith in
-    sym (ap (soft_from s i) (ap (λ i. place_at s i) there
-    ∙ none_from s 0 (length s) i h (omega arith) (begins_first s (omega arith)) (omega arith)))))
+    sym (grind (arith, none_from, begins_first))))
 
 pub nothing_counted : (count : List (List ℤ) → ℕ) (s : List (List ℤ)) → NoneLooks s 0 (length s)
     → field_sum count s (length s) ≡ 0
@@ -383,5 +278,4 @@ unfolding field_sum
 nothing_counted count s h =
     let whole : length s ≡ length s - 0 = omega arith in
     ap (over (count_at count s) 0) whole
-    ∙ none_there (count_at count s) s 0 (length s) (λ i l none. ap (count_from count s i) none) h (omega arith)
-    (begins_first s)
+    ∙ none_there (count_at count s) s 0 (length s) (λ i l none. grind arith) h (omega arith) (begins_first s)

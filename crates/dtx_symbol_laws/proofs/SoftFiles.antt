@@ -1,18 +1,15 @@
 -- What `soft` means over whole files.
-use Rattle.std.proofs.Common.{◌≡◌, ℕ, ℤ, zero, suc, ◌+◌, ◌*◌, ◌%◌, ◌<◌, ◌≤◌, ◌==◌, All, List, []}
-use Rattle.std.proofs.Common.{◌∷◌, ◌++◌, length, map, take, drop, get_or, min, refl, sym, ap, ap₂, ◌∙◌, subst}
-use Rattle.std.proofs.Common.{arith}
+use Rattle.std.proofs.Common.{◌≡◌, ℕ, ℤ, zero, suc, ◌+◌, ◌*◌, ◌%◌, ◌<◌, ◌≤◌, All, List, [], ◌∷◌, ◌++◌, length, map}
+use Rattle.std.proofs.Common.{take, drop, get_or, min, refl, sym, ap, ap₂, ◌∙◌, arith}
 use Rattle.std.specs.Prelude.{None}
 use Rattle.std.specs.List.{range_with_len}
 use Rattle.std.proofs.Math.Seq.{take-add}
 use Rattle.std.proofs.lemmas.Bool.{eqb-true}
-use Rattle.std.proofs.lemmas.List.{append_assoc, drop-drop, get_or-take, length-take-le, map-append}
-use Rattle.std.proofs.lemmas.List.{take-append-drop}
+use Rattle.std.proofs.lemmas.List.{append_assoc, drop-drop, get_or-take, length-take-le, map-append, take-append-drop}
 use Rattle.std.proofs.lemmas.List.Elements.{All-get_or}
 use Rattle.dtx_lists.proofs.Below.{at_below}
 use Rattle.dtx_coder.specs.Stream.{symbols_of}
 use Rattle.dtx_receiver.specs.Intervals.{NoneLooks}
-use Rattle.dtx_soft.specs.Softened.{softened_cost}
 use Rattle.dtx_meaning.specs.Meaning.{Meaning}
 use Rattle.dtx_meaning.specs.Status.{done, ended}
 use Rattle.dtx_meaning.specs.declared.status.Status.TheVariants.{TooLong}
@@ -22,8 +19,7 @@ use Rattle.dtx_files.proofs.AppendedLemmas.{segment_bytes-append}
 use Rattle.dtx_files.specs.Symbols.{byte_of_symbol, segment_bytes}
 use Rattle.dtx_forms.proofs.AllowedFileLemmas.{all_read, first_read, none_found}
 use Rattle.dtx_forms.specs.Shapes.{segments}
-use Rattle.dtx_recipes.specs.Soft.{field_sum, has_group, soft_numbers, soft_rest, soft_so_far, soft_symbols}
-use Rattle.dtx_recipes.specs.Soft.{softening}
+use Rattle.dtx_recipes.specs.Soft.{soft_numbers, soft_rest, soft_so_far, soft_symbols, softening}
 use Rattle.dtx_jobs.proofs.SoftLemmas.{all_is}
 use Rattle.dtx_recipes.proofs.SoftLemmas.{so_far_on}
 use Rattle.dtx_recipes.specs.SymbolFile.{file_segments, segment_at, segments_from, symbol_of_byte, symbols}
@@ -46,16 +42,13 @@ all_softened names file few =
       outcome = done (soft_numbers list (length file % 832));
       outputs = outputs_of names (only bytes);
     } in
-    all_read segments softening names file (all_allowed file) few
-    ∙ ap (means (file_segments front))
-    (sym (segment_bytes-append (soft_so_far (file_segments front)) (soft_rest (file_segments front)))
-    ∙ ap segment_bytes (all_is (file_segments front)))
+    all_read segments softening names file (all_allowed file) few ∙ ap (means (file_segments front))
+    (sym (grind (arith, segment_bytes-append)) ∙ ap segment_bytes (all_is (file_segments front)))
     ∙ ap (λ list. means list (segment_bytes (soft_symbols list))) (file_segments-whole file)
 
 pub too_many_segments : (names : List (List ℕ)) (file : List ℕ) → 626000000 < whole_segments file
     → meaning_of_file segments softening names file ≡ softened_until names file
-too_many_segments names file many =
-    first_read segments softening names file (all_allowed file) many
+too_many_segments names file many = first_read segments softening names file (all_allowed file) many
     ∙ ap (λ (list : List (List ℤ)). record {
       outcome = ended TooLong;
       outputs = outputs_of names (only (segment_bytes (soft_so_far list)));
@@ -81,50 +74,27 @@ symbols_from file first (suc n) =
     let rest = drop (832 * first) file in
     let next : 832 * (first + 1) ≡ 832 * first + 832 = omega arith in
     let more : 832 * suc n ≡ 832 + 832 * n = omega arith in
-    ap (λ xs. segment_at file first ++ xs) (symbols_from file (first + 1) n
-    ∙ ap (λ m. symbols (take (832 * n) (drop m file))) next
-    ∙ ap (λ xs. symbols (take (832 * n) xs)) (sym (drop-drop 832 (832 * first) file)))
+    ap (λ xs. segment_at file first ++ xs)
+    (rw (symbols_from file (first + 1) n, next, ← drop-drop 832 (832 * first) file))
     ∙ sym (map-append symbol_of_byte (take 832 rest) (take (832 * n) (drop 832 rest)))
-    ∙ ap symbols (sym (take-add 832 (832 * n) rest))
-    ∙ ap (λ m. symbols (take m rest)) (sym more)
+    ∙ ap symbols (sym (take-add 832 (832 * n) rest)) ∙ ap (λ m. symbols (take m rest)) (sym more)
 
 pub byte_back : (b : ℕ) → b < 256 → byte_of_symbol (symbol_of_byte b) ≡ b
-byte_back b l =
-    eqb-true (byte_of_symbol (symbol_of_byte b)) b
-    (at_below (λ b. byte_of_symbol (symbol_of_byte b) == b) 256 b refl l)
+byte_back b l = grind (arith, eqb-true, at_below)
 
 bytes_back : (bytes : List ℕ) → ((k : ℕ) → k < length bytes → get_or bytes k 0 < 256)
     → map byte_of_symbol (symbols bytes) ≡ bytes
 bytes_back [] h = refl
-bytes_back (b ∷ bytes) h =
-    ap₂ (λ (x : ℕ) (xs : List ℕ). x ∷ xs) (byte_back b (h 0 (omega arith)))
+bytes_back (b ∷ bytes) h = ap₂ (λ (x : ℕ) (xs : List ℕ). x ∷ xs) (byte_back b (h 0 (omega arith)))
     (bytes_back bytes (λ k l. h (suc k) (omega (arith, l))))
 
 -- of bytes the symbols as bytes are those of all whole segments
 segments_back : (file : List ℕ) → All (λ b. b < 256) file
     → segment_bytes (file_segments file) ≡ take (832 * whole_segments file) file
-segments_back file h =
-    let n : ℕ = 832 * whole_segments file in
-    let none : 832 * 0 ≡ 0 = omega arith in
-    let long : length (take n file) ≡ n = length-take-le n file (omega arith) in
-    ap (map byte_of_symbol) (symbols_from file 0 (whole_segments file) ∙ ap (λ m. symbols (take n (drop m file))) none)
-    ∙ bytes_back (take n file) (λ k l.
-    subst (λ b. b < 256) (sym (get_or-take n file k 0 (omega (arith, l, long))))
-    (All-get_or (λ b. b < 256) file k 0 (omega (arith, l, long)) h))
+segments_back file h = grind (arith, length-take-le, symbols_from, bytes_back, get_or-take, All-get_or)
 
 pub copied_whole : (names : List (List ℕ)) (file : List ℕ) → All (λ b. b < 256) file
     → whole_segments file ≤ 626000000 → NoneLooks (file_segments file) 0 (whole_segments file)
     → meaning_of_file segments softening names file ≡ copied_of names file
 copied_whole names file bytes few none =
-    let s : List (List ℤ) = file_segments file in
-    let count : length s ≡ whole_segments file = length-segments_of file in
-    let nothing : NoneLooks s 0 (length s) = subst (NoneLooks s 0) (sym count) none in
-    let means : ℕ → ℕ → ℕ → List ℕ → Meaning = λ n fields cost written. record {
-      outcome = done (n ∷ fields ∷ cost ∷ (length file % 832) ∷ []);
-      outputs = outputs_of names (only written);
-    } in
-    all_softened names file few
-    ∙ ap₂ (λ n written. means n (field_sum has_group s (length s)) (field_sum (softened_cost 1) s (length s)) written)
-    count (ap segment_bytes (none_stay s nothing) ∙ segments_back file bytes)
-    ∙ ap₂ (λ fields cost. means (whole_segments file) fields cost (take (832 * whole_segments file) file))
-    (nothing_counted has_group s nothing) (nothing_counted (softened_cost 1) s nothing)
+    grind (arith, length-segments_of, all_softened, none_stay, segments_back, nothing_counted)

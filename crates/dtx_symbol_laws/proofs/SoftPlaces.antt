@@ -1,7 +1,6 @@
 -- The places of a run's segments in their fields, and that the intervals of the runs stay.
-use Rattle.std.proofs.Common.{◌≡◌, ℕ, ℤ, zero, suc, ◌+◌, ◌-◌, ◌%◌, ◌<◌, ◌≤◌, ◌⊎◌, inl, inr, Bool, true, false}
-use Rattle.std.proofs.Common.{cond, All}
-use Rattle.std.proofs.Common.{Some, None, List, [], ◌∷◌, length, take, get_or, refl, sym, ap, ◌∙◌, arith}
+use Rattle.std.proofs.Common.{◌≡◌, ℕ, ℤ, zero, suc, ◌+◌, ◌-◌, ◌%◌, ◌<◌, ◌≤◌, ◌⊎◌, inl, inr, Bool, true, cond, All, Some}
+use Rattle.std.proofs.Common.{None, List, [], ◌∷◌, length, take, get_or, refl, sym, ap, ◌∙◌, arith}
 use Rattle.std.proofs.lemmas.Bool.{cases_lt, cases_order}
 use Rattle.std.proofs.lemmas.List.{take_more}
 use Rattle.std.proofs.lemmas.List.Elements.{All-nil, All-cons, All-contains}
@@ -30,9 +29,8 @@ ends_on s i l h = ap next_place (take_more s i [] l) ∙ place_ends (take i s) (
 pub none_from : (s : List (List ℤ)) (a b d : ℕ) → NoneLooks s a b → b ≤ length s → place_at s a ≡ None → a + d ≤ b
     → place_at s (a + d) ≡ None
 none_from s a b zero h l here k = (let same : a + 0 ≡ a = omega arith in ap (λ i. place_at s i) same ∙ here)
-none_from s a b (suc d) h l here k =
-    let next : a + suc d ≡ a + d + 1 = omega arith in
-    ap (λ i. place_at s i) next ∙ copied_on s (a + d) (omega arith) (none_from s a b d h l here (omega arith))
+none_from s a b (suc d) h l here k = ap (λ i. place_at s i) (omega arith)
+    ∙ copied_on s (a + d) (omega arith) (none_from s a b d h l here (omega arith))
     ∙ ap (λ (b : Bool). cond b (Some 0) None) (h (a + d) (omega arith) (omega arith))
 
 -- ---- in a run
@@ -55,10 +53,7 @@ in_run s first n (suc j) l h here k =
     by_end p e before (inl m) =
         let further : suc j % 313 ≡ suc (p + 1) = omega (arith, e) in
         data_on s (first + j) p (omega arith) before m ∙ ap place_behind (sym further)
-    by_end p e before (inr m) =
-        let last : p ≡ 311 = omega (arith, e) in
-        let around : suc j % 313 ≡ 0 = omega (arith, e) in
-        ends_on s (first + j) (omega arith) (before ∙ ap Some last) ∙ ap place_behind (sym around)
+    by_end p e before (inr m) = grind (arith, ends_on)
 
     by_place : (n : ℕ) → j % 313 ≡ n → place_at s (first + j) ≡ place_behind (j % 313)
         → place_at s (first + j + 1) ≡ place_behind (suc j % 313)
@@ -81,8 +76,7 @@ pub run_begins : (s : List (List ℤ)) (from : ℕ) (p : ℕ × ℕ) → Begins 
     → IsRun s p.0 p.1 → place_at s p.0 ≡ None
 run_begins s from p here l h r =
     let within = r.within in
-    let there : from + (p.0 - from) ≡ p.0 = omega arith in
-    ap (λ i. place_at s i) (sym there)
+    ap (λ i. place_at s i) (sym (omega arith))
     ∙ none_from s from p.0 (p.0 - from) h (omega arith) (here (omega arith)) (omega arith)
 
 pub run_place : (s : List (List ℤ)) (p : ℕ × ℕ) (j : ℕ) → IsRun s p.0 p.1 → place_at s p.0 ≡ None → j ≤ p.1
@@ -92,24 +86,13 @@ run_place s p j r here l = in_run s p.0 p.1 j r.within r.syncs here l
 -- the segment that ended a run
 pub run_ends : (s : List (List ℤ)) (p : ℕ × ℕ) → IsRun s p.0 p.1 → place_at s p.0 ≡ None → p.0 + p.1 < length s
     → place_at s (p.0 + p.1) ≡ None
-run_ends s p r here l = by_end r.ends
-  where
-    by_end : (p.0 + p.1 ≡ length s)
-        ⊎ ((p.0 + p.1 < length s) × (p.1 % 313 ≡ 0) × (looks_at s (p.0 + p.1) ≡ false))
-        → place_at s (p.0 + p.1) ≡ None
-    by_end (inl e) = absurd (omega arith)
-    by_end (inr e) = run_place s p p.1 r here (omega arith) ∙ ap place_behind e.1
+run_ends s p r here l = grind (arith, run_place)
 
-pub run_behind : (s : List (List ℤ)) (p : ℕ × ℕ) → IsRun s p.0 p.1 → place_at s p.0 ≡ None
-    → Begins s (p.0 + p.1 + 1)
-run_behind s p r here l = by_end r.ends
-  where
-    by_end : (p.0 + p.1 ≡ length s)
-        ⊎ ((p.0 + p.1 < length s) × (p.1 % 313 ≡ 0) × (looks_at s (p.0 + p.1) ≡ false))
-        → place_at s (p.0 + p.1 + 1) ≡ None
-    by_end (inl e) = absurd (omega arith)
-    by_end (inr e) =
-        copied_on s (p.0 + p.1) e.0 (run_ends s p r here e.0) ∙ ap (λ (b : Bool). cond b (Some 0) None) e.2
+pub run_behind : (s : List (List ℤ)) (p : ℕ × ℕ) → IsRun s p.0 p.1 → place_at s p.0 ≡ None → Begins s (p.0 + p.1 + 1)
+run_behind s p r here l = elim r.ends [
+  | inl e ↦ absurd (omega arith)
+  | inr e ↦ copied_on s (p.0 + p.1) e.0 (run_ends s p r here e.0) ∙ ap (λ (b : Bool). cond b (Some 0) None) e.2
+]
 
 -- the places in a run
 abbrev HasPlaces : List (List ℤ) → (ℕ × ℕ) → Type 0
@@ -132,9 +115,7 @@ IsOutside i p = (i < p.0) ⊎ (p.0 + p.1 ≤ i)
 
 outside_from : (s : List (List ℤ)) (from : ℕ) (ps : List (ℕ × ℕ)) (i : ℕ) → AreRuns s from ps → Begins s from
     → from ≤ i → i < length s → ((p : ℕ × ℕ) → Contains ps p → IsOutside i p) → place_at s i ≡ None
-outside_from s from [] i h here l m out =
-    let there : from + (i - from) ≡ i = omega arith in
-    ap (λ i. place_at s i) (sym there)
+outside_from s from [] i h here l m out = ap (λ i. place_at s i) (sym (omega arith))
     ∙ none_from s from (length s) (i - from) h (omega arith) (here (omega arith)) (omega arith)
 outside_from s from (p ∷ ps) i h here l m out =
     let first = run_begins s from p here h.0 h.1 h.2 in
@@ -148,8 +129,7 @@ outside_from s from (p ∷ ps) i h here l m out =
     by_end first (inr (inl j)) k rest = rest (omega arith)
     by_end first (inr (inr j)) k rest = absurd (omega arith)
 
-    by_place : place_at s p.0 ≡ None → IsOutside i p → (p.0 + p.1 + 1 ≤ i → place_at s i ≡ None)
-        → place_at s i ≡ None
+    by_place : place_at s p.0 ≡ None → IsOutside i p → (p.0 + p.1 + 1 ≤ i → place_at s i ≡ None) → place_at s i ≡ None
     by_place first (inl k) rest =
         let there : from + (i - from) ≡ i = omega arith in
         let within = h.2.within in
@@ -159,13 +139,11 @@ outside_from s from (p ∷ ps) i h here l m out =
 
 pub no_place : (s : List (List ℤ)) (ps : List (ℕ × ℕ)) (i : ℕ) → AreRuns s 0 ps → i < length s
     → All (IsOutside i) ps → place_at s i ≡ None
-no_place s ps i h l out =
-    outside_from s 0 ps i h (begins_first s) (omega arith) l (λ p c. All-contains (IsOutside i) ps p out c)
+no_place s ps i h l out = grind (arith, outside_from, begins_first, All-contains)
 
 -- ---- the intervals stay
 
-stays_at : (s : List (List ℤ)) (i : ℕ) → i < length s → place_at s i ≡ None
-    → looks_at (soft_symbols s) i ≡ looks_at s i
+stays_at : (s : List (List ℤ)) (i : ℕ) → i < length s → place_at s i ≡ None → looks_at (soft_symbols s) i ≡ looks_at s i
 unfolding next_place
 stays_at s i l h = ap looks_like (copied s i l h)
 
@@ -173,30 +151,10 @@ none_stays : (s : List (List ℤ)) (a b : ℕ) → NoneLooks s a b → b ≤ len
     → NoneLooks (soft_symbols s) a b
 none_stays s a b h l here i k m =
     let there : a + (i - a) ≡ i = omega arith in
-    stays_at s i (omega arith)
-    (ap (λ i. place_at s i) (sym there) ∙ none_from s a b (i - a) h l (here (omega arith)) (omega arith))
-    ∙ h i k m
+    stays_at s i (omega arith) (rw (← there, none_from s a b (i - a) h l (here (omega arith)) (omega arith))) ∙ h i k m
 
-run_stays : (s : List (List ℤ)) (p : ℕ × ℕ) → IsRun s p.0 p.1 → place_at s p.0 ≡ None
-    → IsRun (soft_symbols s) p.0 p.1
-run_stays s p r here = record {
-  some = r.some;
-  within = omega (arith, r.within, soft_length s);
-  syncs = λ j l e. stays_at s (p.0 + j) (omega (arith, r.within))
-      (run_place s p j r here (omega arith) ∙ ap place_behind e) ∙ r.syncs j l e;
-  ends = by_end r.ends;
-}
-  where
-    by_end : (p.0 + p.1 ≡ length s)
-        ⊎ ((p.0 + p.1 < length s) × (p.1 % 313 ≡ 0) × (looks_at s (p.0 + p.1) ≡ false))
-        → (p.0 + p.1 ≡ length (soft_symbols s)) ⊎ ((p.0 + p.1 < length (soft_symbols s)) × (p.1 % 313 ≡ 0)
-        × (looks_at (soft_symbols s) (p.0 + p.1) ≡ false))
-    by_end (inl e) = inl (e ∙ sym (soft_length s))
-    by_end (inr e) = inr (
-      omega (arith, e.0, soft_length s),
-      e.1,
-      stays_at s (p.0 + p.1) e.0 (run_ends s p r here e.0) ∙ e.2,
-    )
+run_stays : (s : List (List ℤ)) (p : ℕ × ℕ) → IsRun s p.0 p.1 → place_at s p.0 ≡ None → IsRun (soft_symbols s) p.0 p.1
+run_stays s p r here = grind (arith, soft_length, stays_at, run_place, run_ends)
 
 runs_stay_from : (s : List (List ℤ)) (from : ℕ) (ps : List (ℕ × ℕ)) → AreRuns s from ps → Begins s from
     → AreRuns (soft_symbols s) from ps

@@ -1,12 +1,11 @@
 -- The runs of what `soft` makes are those of its segments: it copies each segment that may begin or end a run.
-use Rattle.std.proofs.Common.{◌≡◌, ℕ, ℤ, zero, suc, ◌+◌, ◌%◌, ◌<◌, ◌≤◌, ◌==◌, Bool, true, false, cond}
-use Rattle.std.proofs.Common.{Option, Some, None, option_map, List, [], ◌∷◌, ◌++◌, length, map, take, get_or, refl, sym}
-use Rattle.std.proofs.Common.{ap, ap₂, ◌∙◌, ◌-◌, subst₂, arith}
-use Rattle.std.specs.Prelude.{option_to_list}
+use Rattle.std.proofs.Common.{◌≡◌, ℕ, ℤ, zero, suc, ◌+◌, ◌%◌, ◌<◌, ◌≤◌, ◌==◌, Bool, true, false, cond, Option, Some}
+use Rattle.std.proofs.Common.{None, option_map, List, [], ◌∷◌, ◌++◌, length, map, take, get_or, refl, sym, ap, ◌∙◌, ◌-◌}
+use Rattle.std.proofs.Common.{subst₂, arith}
 use Rattle.std.proofs.lemmas.List.{length_push, map-append, take_more, take_all}
 use Rattle.std.proofs.lemmas.List.FromFn.{get_or-map-range_with_len, length-map-range_with_len}
 use Rattle.dtx_frame.specs.Detection.{looks_like}
-use Rattle.dtx_receiver.specs.declared.tracking.Tracking.TheVariants.{Searching, Began, Sync, Data, Ended}
+use Rattle.dtx_receiver.specs.declared.tracking.Tracking.TheVariants.{Searching, Began}
 use Rattle.dtx_receiver.proofs.FollowingLemmas.{tracked_push}
 use Rattle.dtx_receiver.specs.Runs.{followed, runs, sync_due, Tracked, tracked, tracking, tracking_of}
 use Rattle.dtx_recipes.specs.Soft.{next_place, place_in, soft_at, soft_from, soft_symbols}
@@ -31,49 +30,19 @@ where_due q true e h = ap (λ (b : Bool). cond b None (Some (length q % 313 - 1)
 where_due q false e h = cc
 
 abbrev outcome : Bool → Bool → List (List (List ℤ)) → List (List ℤ) → List ℤ → Tracked
-outcome due looks ended run x =
-    cond due
-    (cond looks (record { ended = ended; run = Some (run ++ x ∷ []) })
-    (record { ended = ended ++ run ∷ []; run = None }))
-    (record { ended = ended; run = Some (run ++ x ∷ []) })
+outcome due looks ended run x = cond due (cond looks (record { ended = ended; run = Some (run ++ x ∷ []) })
+    (record { ended = ended ++ run ∷ []; run = None })) (record { ended = ended; run = Some (run ++ x ∷ []) })
 
 -- one segment further
 on_run : (e f : List (List (List ℤ))) (r q : List (List ℤ)) (x y : List ℤ) → map length e ≡ map length f
     → length r ≡ length q
     → (d c l k : Bool) → d ≡ c → (c ≡ true → l ≡ k) → AreAlike (outcome d l e r x) (outcome c k f q y)
-on_run e f r q x y a b d c l k same syncs = by_tests d c l k same syncs
-  where
-    on : AreAlike (record { ended = e; run = Some (r ++ x ∷ []) }) (record { ended = f; run = Some (q ++ y ∷ []) })
-    on = record { ended = a; run = ap Some (omega (arith, length_push r x, length_push q y, b)) }
-
-    off : AreAlike (record { ended = e ++ r ∷ []; run = None }) (record { ended = f ++ q ∷ []; run = None })
-    off = record {
-      ended = map-append length e (r ∷ []) ∙ ap₂ (λ (xs : List ℕ) (n : ℕ). xs ++ n ∷ []) a b
-          ∙ sym (map-append length f (q ∷ []));
-      run = refl;
-    }
-
-    by_tests : (d c l k : Bool) → d ≡ c → (c ≡ true → l ≡ k) → AreAlike (outcome d l e r x) (outcome c k f q y)
-    by_tests true true true true same syncs = on
-    by_tests true true false false same syncs = off
-    by_tests true true true false same syncs = (let h = syncs refl in cc)
-    by_tests true true false true same syncs = (let h = syncs refl in cc)
-    by_tests false false l k same syncs = on
-    by_tests true false l k same syncs = cc
-    by_tests false true l k same syncs = cc
+on_run e f r q x y a b d c l k same syncs = grind (arith, length_push, map-append)
 
 further : (e f : List (List (List ℤ))) (o p : Option (List (List ℤ))) (x y : List ℤ) → map length e ≡ map length f
     → option_map length o ≡ option_map length p → CopiesSyncs p (looks_like x) (looks_like y)
     → AreAlike (followed e o x) (followed f p y)
-further e f None None x y a b syncs = by_looks (looks_like x) (looks_like y) (syncs refl)
-  where
-    by_looks : (l k : Bool) → l ≡ k
-        → AreAlike (record { ended = e; run = cond l (Some (x ∷ [])) None })
-        (record { ended = f; run = cond k (Some (y ∷ [])) None })
-    by_looks true true h = record { ended = a; run = refl }
-    by_looks false false h = record { ended = a; run = refl }
-    by_looks true false h = cc
-    by_looks false true h = cc
+further e f None None x y a b syncs = grind arith
 further e f None (Some q) x y a b syncs = cc
 further e f (Some r) None x y a b syncs = cc
 further e f (Some r) (Some q) x y a b syncs =
@@ -86,14 +55,7 @@ told : (o p : Option (List (List ℤ))) (l k : Bool) → option_map length o ≡
 told None None l k b syncs = ap (λ (l : Bool). cond l Began Searching) (syncs refl)
 told None (Some q) l k b syncs = cc
 told (Some r) None l k b syncs = cc
-told (Some r) (Some q) l k b syncs =
-    by_due (sync_due r) (sync_due q) refl (same_due r q (same_length r q b))
-  where
-    by_due : (d c : Bool) → sync_due q ≡ c → d ≡ c → cond d (cond l Sync Ended) Data ≡ cond c (cond k Sync Ended) Data
-    by_due true true e same = ap (λ (l : Bool). cond l Sync Ended) (syncs (where_due q true e refl))
-    by_due false false e same = refl
-    by_due true false e same = cc
-    by_due false true e same = cc
+told (Some r) (Some q) l k b syncs = grind (arith, same_due, same_length, where_due)
 
 -- ---- all segments
 
@@ -120,51 +82,25 @@ alike s (suc i) l =
     let h = alike s i (omega arith) in
     let next : suc i ≡ i + 1 = omega arith in
     subst₂ (λ (t u : Tracked). AreAlike t u) (sym (pushed (soft_symbols s) (omega (arith, soft_length s))))
-    (sym (pushed s (omega arith)))
-    (further (tracked (take i (soft_symbols s))).ended (tracked (take i s)).ended
-    (tracked (take i (soft_symbols s))).run (tracked (take i s)).run
-    (get_or (soft_symbols s) i []) (get_or s i []) h.ended h.run (looks_same s i (omega arith)))
+    (sym (pushed s (omega arith))) (grind (arith, further, looks_same))
   where
     pushed : (t : List (List ℤ)) → i < length t
         → tracked (take (suc i) t) ≡ followed (tracked (take i t)).ended (tracked (take i t)).run (get_or t i [])
     pushed t m =
         let next : suc i ≡ i + 1 = omega arith in
-        ap (λ n. tracked (take n t)) next ∙ ap tracked (take_more t i [] m)
-        ∙ tracked_push (take i t) (get_or t i [])
+        ap (λ n. tracked (take n t)) next ∙ ap tracked (take_more t i [] m) ∙ tracked_push (take i t) (get_or t i [])
 
 all_alike : (s : List (List ℤ)) → AreAlike (tracked (soft_symbols s)) (tracked s)
-all_alike s =
-    subst₂ (λ t u. AreAlike (tracked t) (tracked u))
-    (take_all (length s) (soft_symbols s) (omega (arith, soft_length s)))
+all_alike s = subst₂ (λ t u. AreAlike (tracked t) (tracked u)) (grind (arith, take_all, soft_length))
     (take_all (length s) s (omega arith)) (alike s (length s) (omega arith))
 
 -- as many runs, of the same lengths
 pub soft_runs : (s : List (List ℤ)) → map length (runs (soft_symbols s)) ≡ map length (runs s)
 unfolding runs
-soft_runs s =
-    let h = all_alike s in
-    of_both (tracked (soft_symbols s)).ended (tracked s).ended (tracked (soft_symbols s)).run (tracked s).run h.ended
-    h.run
-  where
-    last_too : (o p : Option (List (List ℤ))) → option_map length o ≡ option_map length p
-        → map length (option_to_list o) ≡ map length (option_to_list p)
-    last_too None None h = refl
-    last_too None (Some q) h = cc
-    last_too (Some r) None h = cc
-    last_too (Some r) (Some q) h = ap (λ (n : ℕ). n ∷ []) (same_length r q h)
-
-    of_both : (e f : List (List (List ℤ))) (o p : Option (List (List ℤ))) → map length e ≡ map length f
-        → option_map length o ≡ option_map length p
-        → map length (e ++ option_to_list o) ≡ map length (f ++ option_to_list p)
-    of_both e f o p a b =
-        map-append length e (option_to_list o) ∙ ap₂ ◌++◌ a (last_too o p b)
-        ∙ sym (map-append length f (option_to_list p))
+soft_runs s = grind (arith, all_alike, same_length, map-append)
 
 -- each segment is told to be what it was
 pub soft_tracking : (s : List (List ℤ)) (i : ℕ) → i < length s
     → tracking (take i (soft_symbols s)) (get_or (soft_symbols s) i []) ≡ tracking (take i s) (get_or s i [])
 unfolding tracking
-soft_tracking s i l =
-    let h = alike s i (omega arith) in
-    told (tracked (take i (soft_symbols s))).run (tracked (take i s)).run
-    (looks_like (get_or (soft_symbols s) i [])) (looks_like (get_or s i [])) h.run (looks_same s i l)
+soft_tracking s i l = grind (arith, alike, told, looks_same)

@@ -1,7 +1,6 @@
 -- `soft` leaves the segments of a stream as they are.
-use Rattle.std.proofs.Common.{◌≡◌, ℕ, ℤ, zero, suc, ◌+◌, ◌-◌, ◌*◌, ◌/◌, ◌%◌, ◌<◌, ◌≤◌, ◌⊎◌, inl, inr, true}
-use Rattle.std.proofs.Common.{List, [], length, take, drop, get_or, min, refl, sym, ap}
-use Rattle.std.proofs.Common.{◌∙◌, arith}
+use Rattle.std.proofs.Common.{◌≡◌, ℕ, ℤ, zero, suc, ◌+◌, ◌-◌, ◌*◌, ◌/◌, ◌%◌, ◌<◌, ◌≤◌, true, List, [], length, take}
+use Rattle.std.proofs.Common.{drop, get_or, min, refl, sym, ap, ◌∙◌, arith}
 use Rattle.std.proofs.lemmas.Bool.{cases_lt}
 use Rattle.std.proofs.lemmas.List.{get_or-drop, get_or-take, get_or_default, get_or_past, length-take}
 use Rattle.std.proofs.lemmas.List.FromFn.{fill_by_all}
@@ -26,9 +25,7 @@ abbrev pub IsInStep : List (List ℤ) → Type 0
 IsInStep s = (i : ℕ) → i < length s → i % 313 ≡ 0 → looks_like (get_or s i []) ≡ true
 
 pub in_step : (s : List (List ℤ)) → IsInStep s → (i : ℕ) → i ≤ length s → place_at s i ≡ place_behind (i % 313)
-in_step s h i l =
-    let here : i ≡ 0 + i = omega arith in
-    ap (λ k. place_at s k) here ∙ in_run s 0 (length s) i (omega arith) at place_first l
+in_step s h i l = ap (λ k. place_at s k) (omega arith) ∙ in_run s 0 (length s) i (omega arith) at place_first l
   where
     at : (j : ℕ) → j < length s → j % 313 ≡ 0 → looks_like (get_or s (0 + j) []) ≡ true
     at j k e = (let same : 0 + j ≡ j = omega arith in ap (λ n. looks_like (get_or s n [])) same ∙ h j k e)
@@ -48,24 +45,12 @@ KeepsOwn = (scale : ℕ) (segments : List (List ℤ))
 field_stays : TakesPaths → KeepsOwn → (ps : List (List ℕ)) (f : ℕ) → 313 * f + 1 ≤ length (a53 ps)
     → (softened 1 (in_groups (a53 ps) (313 * f + 1)) ≡ in_groups (a53 ps) (313 * f + 1))
     × (softened_cost 1 (in_groups (a53 ps) (313 * f + 1)) ≡ 0)
-field_stays takes keeps ps f l =
-    keeps 1 (in_groups (a53 ps) (313 * f + 1)) (λ i m. row i (omega (arith, m, length-field ps f l)))
-    (λ e m. field_own takes ps f e l m)
-  where
-    row : (i : ℕ) → i < count ps f → length (get_or (in_groups (a53 ps) (313 * f + 1)) i []) ≡ 832
-    row i m = ap length (field_at ps f i m) ∙ a53_segment ps (313 * f + 1 + i) (omega (arith, m))
+field_stays takes keeps ps f l = grind (arith, length-field, field_own, count, field_at, a53_segment)
 
 -- an entry of a part, with that of the whole where the part has none
 kept : {X : Type 0} (n first p i : ℕ) (xs : List X) (d : X) → first + p ≡ i → i < length xs
     → get_or (take n (drop first xs)) p (get_or xs i d) ≡ get_or xs i d
-kept n first p i xs d e l = by_place (cases_lt p n)
-  where
-    by_place : (p < n) ⊎ (n ≤ p) → get_or (take n (drop first xs)) p (get_or xs i d) ≡ get_or xs i d
-    by_place (inl m) =
-        get_or-take n (drop first xs) p (get_or xs i d) m ∙ get_or-drop first xs p (get_or xs i d)
-        ∙ ap (λ k. get_or xs k (get_or xs i d)) e ∙ get_or_default xs i (get_or xs i d) d l
-    by_place (inr m) =
-        get_or_past (take n (drop first xs)) p (get_or xs i d) (omega (arith, m, length-take n (drop first xs)))
+kept n first p i xs d e l = grind (arith, cases_lt, get_or-take, get_or-drop, get_or_default, get_or_past, length-take)
 
 kept_groups : (s : List (List ℤ)) (first p i : ℕ) → first + p ≡ i → i < length s
     → get_or (in_groups s first) p (get_or s i []) ≡ get_or s i []
@@ -77,8 +62,7 @@ kept_groups s first p i e l = kept (4 * (min 312 (length s - first) / 4)) first 
 stays_at : TakesPaths → KeepsOwn → (ps : List (List ℕ)) (i : ℕ) → i < length (a53 ps)
     → soft_at (a53 ps) i ≡ get_or (a53 ps) i []
 unfolding soft_at
-stays_at takes keeps ps i l =
-    ap (soft_from (a53 ps) i) (in_step (a53 ps) (stream_in_step ps) i (omega arith)) ∙ by_place (i % 313) refl
+stays_at takes keeps ps i l = rw (in_step (a53 ps) (stream_in_step ps) i (omega arith), by_place (i % 313) refl)
   where
     by_place : (n : ℕ) → i % 313 ≡ n → soft_from (a53 ps) i (place_behind n) ≡ get_or (a53 ps) i []
     by_place zero e = refl
@@ -92,8 +76,7 @@ stays_at takes keeps ps i l =
 
 pub stream_stays : TakesPaths → KeepsOwn → (ps : List (List ℕ)) → soft_symbols (a53 ps) ≡ a53 ps
 unfolding soft_symbols
-stream_stays takes keeps ps =
-    sym (fill_by_all (soft_at (a53 ps)) (a53 ps) (length (a53 ps)) [] refl
+stream_stays takes keeps ps = sym (fill_by_all (soft_at (a53 ps)) (a53 ps) (length (a53 ps)) [] refl
     (λ i l. sym (stays_at takes keeps ps i l)))
 
 costs_nothing_at : TakesPaths → KeepsOwn → (ps : List (List ℕ)) (i : ℕ) → i < length (a53 ps)
@@ -104,15 +87,10 @@ costs_nothing_at takes keeps ps i l =
   where
     by_place : (n : ℕ) → i % 313 ≡ n → count_from (softened_cost 1) (a53 ps) i (place_behind n) ≡ 0
     by_place zero e = refl
-    by_place (suc zero) e =
-        let first : i ≡ 313 * (i / 313) + 1 = omega (arith, e) in
-        ap (λ n. softened_cost 1 (in_groups (a53 ps) n)) first
-        ∙ (field_stays takes keeps ps (i / 313) (omega (arith, first, l))).1
+    by_place (suc zero) e = grind (arith, field_stays)
     by_place (suc (suc p)) e = refl
 
 pub stream_costs_nothing : TakesPaths → KeepsOwn → (ps : List (List ℕ))
     → field_sum (softened_cost 1) (a53 ps) (length (a53 ps)) ≡ 0
 unfolding field_sum
-stream_costs_nothing takes keeps ps =
-    none_counts (λ i. count_from (softened_cost 1) (a53 ps) i (place_at (a53 ps) i)) 0 (length (a53 ps))
-    (λ i l m. costs_nothing_at takes keeps ps i (omega (arith, m)))
+stream_costs_nothing takes keeps ps = grind (arith, none_counts, costs_nothing_at)

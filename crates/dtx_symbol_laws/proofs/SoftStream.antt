@@ -1,6 +1,6 @@
 -- What `soft` makes of the segments of a stream: each coder's symbols in a field are those of a path's own levels.
-use Rattle.std.proofs.Common.{◌≡◌, ℕ, ℤ, pos, ◌+◌, ◌-◌, ◌*◌, ◌/◌, ◌%◌, ◌<◌, ◌≤◌, ◌-ℤ◌, List}
-use Rattle.std.proofs.Common.{[], ◌++◌, length, map, take, drop, get_or, min, sym, ap, ap₂, ◌∙◌, subst, arith}
+use Rattle.std.proofs.Common.{◌≡◌, ℕ, ℤ, pos, ◌+◌, ◌-◌, ◌*◌, ◌/◌, ◌<◌, ◌≤◌, ◌-ℤ◌, List, [], ◌++◌, length, map, take}
+use Rattle.std.proofs.Common.{drop, get_or, min, sym, ap, ap₂, ◌∙◌, subst, arith}
 use Rattle.std.specs.List.{range_with_len}
 use Rattle.std.proofs.Math.Seq.{take-add}
 use Rattle.std.proofs.lemmas.Simd.{map-map}
@@ -50,14 +50,8 @@ length-part r n xs l = length-take-le n (drop r xs) (omega (arith, length-drop r
 -- its levels from pair r on are those of the state that it is in then
 part_level : (q : State) (a b : List ℕ) (r n t : ℕ) → AreBits q → length a ≡ length b → r + n ≤ length a → t < n
     → level q a b (r + t) ≡ level (state_after q (take r a) (take r b) r) (part r n a) (part r n b) t
-part_level q a b r n t h e l m =
-    same_levels q a b (take (r + n) a) (take (r + n) b) (r + t) h (record {
-      long = omega arith;
-      longer = omega (arith, length-take-le (r + n) a l);
-      higher = λ j k. sym (get_or-take (r + n) a j 0 (omega (arith, k)));
-      lower = λ j k. sym (get_or-take (r + n) b j 0 (omega (arith, k)));
-    })
-    ∙ ap₂ (λ x y. level q x y (r + t)) (take-add r n a) (take-add r n b)
+part_level q a b r n t h e l m = same_levels q a b (take (r + n) a) (take (r + n) b) (r + t) h
+    (grind (arith, length-take-le, get_or-take)) ∙ ap₂ (λ x y. level q x y (r + t)) (take-add r n a) (take-add r n b)
     ∙ ap (λ k. level q (take r a ++ part r n a) (take r b ++ part r n b) (k + t)) (sym front)
     ∙ level_goes_on q (take r a) (take r b) (part r n a) (part r n b) t h
     (front ∙ sym (length-take-le r b (omega (arith, e)))) (omega (arith, length-part r n a l))
@@ -69,8 +63,7 @@ part_level q a b r n t h e l m =
 -- symbols that are those of a part of its levels are a path's own
 part_own : TakesPaths → (q : State) (a b : List ℕ) (r n : ℕ) (symbols : List ℤ) → AreBits q → length a ≡ length b
     → r + n ≤ length a → ((t : ℕ) → t < length a → get_or b t 0 < 2) → length symbols ≡ n
-    → ((t : ℕ) → t < n → get_or symbols t (pos 0) ≡ symbol_at 1 (level q a b (r + t)))
-    → IsOwn 1 symbols
+    → ((t : ℕ) → t < n → get_or symbols t (pos 0) ≡ symbol_at 1 (level q a b (r + t))) → IsOwn 1 symbols
 part_own takes q a b r n symbols h e l small long same = record {
   start = 2 * own.q1 + own.q0;
   levels = map (level own (part r n a) (part r n b)) (range_with_len 0 (length (part r n a)));
@@ -93,9 +86,7 @@ part_own takes q a b r n symbols h e l small long same = record {
         (range_with_len 0 (length (part r n a))))
     by_symbol =
         fill_by_all (λ t. symbol_at 1 (level own (part r n a) (part r n b) t)) symbols (length (part r n a)) (pos 0)
-        (long ∙ sym (length-part r n a l))
-        (λ t m. let k : t < n = omega (arith, m, length-part r n a l) in
-        same t k ∙ ap (symbol_at 1) (part_level q a b r n t h e l k))
+        (long ∙ sym (length-part r n a l)) (λ t m. grind (arith, length-part, part_level))
         ∙ sym (map-map (symbol_at 1) (level own (part r n a) (part r n b)) (range_with_len 0 (length (part r n a))))
 
 -- ---- the symbols of a field
@@ -103,13 +94,7 @@ part_own takes q a b r n symbols h e l small long same = record {
 -- a field's first pairs stand behind 312 segments of each field before it
 place_further : (f t e : ℕ) → symbol_place 0 (21528 * f + t) e ≡ 828 * (312 * f) + symbol_place 0 t e
 unfolding symbol_place
-place_further f t e =
-    let same : (0 + (21528 * f + t) / 69) % 3 ≡ (0 + t / 69) % 3 = omega arith in
-    ap (λ x. 12 * (21528 * f + t) + (e + 12 - 4 * x) % 12) same
-    ∙ more ((e + 12 - 4 * ((0 + t / 69) % 3)) % 12)
-  where
-    more : (x : ℕ) → 12 * (21528 * f + t) + x ≡ 828 * (312 * f) + (12 * t + x)
-    more x = omega arith
+place_further f t e = grind arith
 
 place_small : (t e n : ℕ) → t < 69 * n → symbol_place 0 t e < 828 * n
 unfolding symbol_place
@@ -133,12 +118,9 @@ stream_level ps e r l m =
 data_in : (zs : List ℕ) (k j : ℕ) → j < 828 → 828 * k + 828 ≤ length zs
     → get_or (segment zs k) (4 + j) (pos 0) ≡ symbol_at 1 (get_or zs (828 * k + j) 0)
 unfolding data_segment symbol_of symbol_at
-data_in zs k j l m =
-    let back : 4 + j - 4 ≡ j = omega arith in
-    ap (λ (x : List ℤ). get_or x (4 + j) (pos 0)) (segment_is zs k)
+data_in zs k j l m = ap (λ (x : List ℤ). get_or x (4 + j) (pos 0)) (segment_is zs k)
     ∙ get_or-append_right segment_sync (map symbol_of (part (828 * k) 828 zs)) 4 (4 + j) (pos 0) length_sync
-    (omega arith)
-    ∙ ap (λ i. get_or (map symbol_of (part (828 * k) 828 zs)) i (pos 0)) back
+    (omega arith) ∙ ap (λ i. get_or (map symbol_of (part (828 * k) 828 zs)) i (pos 0)) (omega arith)
     ∙ get_or-map symbol_of (part (828 * k) 828 zs) j 0 (pos 0) (omega (arith, length-part (828 * k) 828 zs m))
     ∙ ap symbol_of (part_at (828 * k) 828 j zs 0 l) ∙ at_one (get_or zs (828 * k + j) 0)
   where
@@ -153,8 +135,7 @@ fits : (g f l : ℕ) → l ≡ 4 * g + (g + 77) / 78 → 313 * f + 1 ≤ l
     → 312 * f + 4 * (min 312 (l - (313 * f + 1)) / 4) ≤ 4 * g
 fits g f l e m = omega arith
 
-field_fits : (ps : List (List ℕ)) (f : ℕ) → 313 * f + 1 ≤ length (a53 ps)
-    → 312 * f + count ps f ≤ 4 * (length ps / 4)
+field_fits : (ps : List (List ℕ)) (f : ℕ) → 313 * f + 1 ≤ length (a53 ps) → 312 * f + count ps f ≤ 4 * (length ps / 4)
 field_fits ps f l = fits (length ps / 4) f (length (a53 ps)) (length-a53 ps) l
 
 pub length-field : (ps : List (List ℕ)) (f : ℕ) → 313 * f + 1 ≤ length (a53 ps)
@@ -172,19 +153,12 @@ field_data : (ps : List (List ℕ)) (f i : ℕ) → 313 * f + 1 ≤ length (a53 
     → get_or (in_groups (a53 ps) (313 * f + 1)) i [] ≡ segment (levels ps) (312 * f + i)
 field_data ps f i l m =
     let fit = field_fits ps f l in
-    let there : 313 * f + 1 + i ≡ 312 * f + i + (312 * f + i) / 312 + 1 = omega arith in
-    field_at ps f i m ∙ ap (λ n. get_or (a53 ps) n []) there ∙ data_at_place ps (312 * f + i) (omega arith)
+    field_at ps f i m ∙ ap (λ n. get_or (a53 ps) n []) (omega arith) ∙ data_at_place ps (312 * f + i) (omega arith)
 
 field_symbol : (ps : List (List ℕ)) (f d : ℕ) → 313 * f + 1 ≤ length (a53 ps) → d < 828 * count ps f
     → data_symbol (in_groups (a53 ps) (313 * f + 1)) d ≡ symbol_at 1 (get_or (levels ps) (828 * (312 * f) + d) 0)
 unfolding data_symbol
-field_symbol ps f d l m =
-    let fit = field_fits ps f l in
-    let i : d / 828 < count ps f = omega arith in
-    let there : 828 * (312 * f + d / 828) + d % 828 ≡ 828 * (312 * f) + d = omega arith in
-    ap (λ (x : List ℤ). get_or x (4 + d % 828) (pos 0)) (field_data ps f (d / 828) l i)
-    ∙ data_in (levels ps) (312 * f + d / 828) (d % 828) (omega arith) (omega (arith, length-levels ps))
-    ∙ ap (λ n. symbol_at 1 (get_or (levels ps) n 0)) there
+field_symbol ps f d l m = grind (arith, field_fits, field_data, data_in, length-levels)
 
 -- each coder's symbols in whole groups of field f
 pub field_own : TakesPaths → (ps : List (List ℕ)) (f e : ℕ) → 313 * f + 1 ≤ length (a53 ps) → e < 12
@@ -196,9 +170,7 @@ field_own takes ps f e l m =
     (bits_of (get_or zero_states e 0)) (length_higher 0 e (whole_groups ps) ∙ sym (length_lower 0 e (whole_groups ps)))
     (omega (arith, fit, long, length_higher 0 e (whole_groups ps), groups_are ps))
     (λ t k. lower_bit 0 t e (whole_groups ps) (omega (arith, k, length_higher 0 e (whole_groups ps))))
-    (length-map-range_with_len (λ t. data_symbol (in_groups (a53 ps) (313 * f + 1)) (symbol_place 0 t e)) 0
-    (69 * length (in_groups (a53 ps) (313 * f + 1))))
-    by_pair
+    (grind (arith, length-map-range_with_len)) by_pair
   where
     fit : 312 * f + count ps f ≤ 4 * (length ps / 4)
     fit = field_fits ps f l
@@ -210,8 +182,7 @@ field_own takes ps f e l m =
         → get_or (coder_symbols (in_groups (a53 ps) (313 * f + 1)) e) t (pos 0)
         ≡ symbol_at 1 (level (state_of (get_or zero_states e 0)) (higher 0 (whole_groups ps) e)
         (lower 0 (whole_groups ps) e) (21528 * f + t))
-    by_pair t k =
-        get_or-map-range_with_len (λ t. data_symbol (in_groups (a53 ps) (313 * f + 1)) (symbol_place 0 t e)) 0
+    by_pair t k = get_or-map-range_with_len (λ t. data_symbol (in_groups (a53 ps) (313 * f + 1)) (symbol_place 0 t e)) 0
         (69 * length (in_groups (a53 ps) (313 * f + 1))) t t (pos 0) k (omega arith)
         ∙ field_symbol ps f (symbol_place 0 t e) l (place_small t e (count ps f) (omega (arith, k, long)))
         ∙ ap (symbol_at 1) (ap (λ n. get_or (levels ps) n 0) (sym (place_further f t e))

@@ -1,6 +1,6 @@
 -- The anchor behind the first of some packets.
-use Rattle.std.proofs.Common.{◌≡◌, ℕ, suc, ◌+◌, ◌-◌, ◌<◌, ◌≤◌, Bool, true, false, cond, Option, Some, None}
-use Rattle.std.proofs.Common.{option_map, List, length, take, drop, refl, sym, ap, ◌∙◌, arith}
+use Rattle.std.proofs.Common.{◌≡◌, ℕ, suc, ◌+◌, ◌-◌, ◌<◌, ◌≤◌, Bool, true, false, cond, Option, Some, None, List}
+use Rattle.std.proofs.Common.{length, take, drop, refl, sym, ap, ◌∙◌, arith}
 use Rattle.std.specs.List.{take-map}
 use Rattle.dtx_packets.specs.Packet.{sync_of}
 use Rattle.dtx_cadence.specs.Anchor.{ends_lock, anchor_at, anchor_to, anchor}
@@ -23,27 +23,21 @@ unfolding anchor_of
 below d a h = let l : a < length (syncs d) = anchor_below (syncs d) a h in omega (arith, l, length-syncs d)
 
 -- an anchor was the anchor from its own packet on
-pub since : (d : List (List ℕ)) (a k : ℕ) → anchor_of d ≡ Some a → a < k → k ≤ length d
-    → anchor_of (take k d) ≡ Some a
-since d a k h l m =
-    let e : k + (length d - k) ≡ length d = omega (arith, m) in
-    to_front d k m
-    ∙ stood (syncs d) a k (length d - k) l (ap (anchor_to (syncs d)) e ∙ sym (to_all d) ∙ h)
+pub since : (d : List (List ℕ)) (a k : ℕ) → anchor_of d ≡ Some a → a < k → k ≤ length d → anchor_of (take k d) ≡ Some a
+since d a k h l m = to_front d k m
+    ∙ stood (syncs d) a k (length d - k) l (ap (anchor_to (syncs d)) (omega (arith, m)) ∙ sym (to_all d) ∙ h)
 
 -- and before that there was none
 pub none_before : (d : List (List ℕ)) (a : ℕ) → anchor_of d ≡ Some a → anchor_of (take a d) ≡ None
 unfolding anchor_to
 none_before d a h =
+    let one : a + 1 ≡ suc a = omega arith in
+    let now : anchor_to (syncs d) (suc a) ≡ Some a =
+    ap (anchor_to (syncs d)) (sym one) ∙ sym (to_front d (a + 1) (omega (arith, below d a h)))
+    ∙ since d a (a + 1) h (omega arith) (omega (arith, below d a h)) in
     to_front d a (omega (arith, below d a h))
     ∙ by_before (anchor_to (syncs d) a) (λ j e. anchor_to_below (syncs d) a j e) now
   where
-    one : a + 1 ≡ suc a
-    one = omega arith
-
-    now : anchor_to (syncs d) (suc a) ≡ Some a
-    now = ap (anchor_to (syncs d)) (sym one) ∙ sym (to_front d (a + 1) (omega (arith, below d a h)))
-        ∙ since d a (a + 1) h (omega arith) (omega (arith, below d a h))
-
     by_old : (j : ℕ) (b : Bool) → j < a → cond b None (Some j) ≡ Some a → ◌≡◌ {A = Option ℕ} (Some j) None
     by_old j true l e = cc
     by_old j false l e = let q : j ≡ a = cc in absurd (omega (arith, l, q))
@@ -61,16 +55,8 @@ pub record IsUnder (d l : List (List ℕ)) : Type 0 where
 
 pub is_under : (d l : List (List ℕ)) → under d ≡ Some l → IsUnder d l
 unfolding under
-is_under d l h = by_anchor (anchor_of d) refl h
-  where
-    by_anchor : (o : Option ℕ) → anchor_of d ≡ o → option_map (λ a. drop a d) o ≡ Some l → IsUnder d l
-    by_anchor None e f = cc
-    by_anchor (Some a) e f = record { anchor = a; is = e; are = let q : drop a d ≡ l = cc in q; inside = below d a e }
+is_under d l h = grind (arith, below)
 
 pub no_anchor : (d : List (List ℕ)) → under d ≡ None → anchor_of d ≡ None
 unfolding under
-no_anchor d h = by_anchor (anchor_of d) h
-  where
-    by_anchor : (o : Option ℕ) → option_map (λ a. drop a d) o ≡ None → o ≡ None
-    by_anchor None f = refl
-    by_anchor (Some a) f = cc
+no_anchor d h = grind arith

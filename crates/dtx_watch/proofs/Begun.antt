@@ -14,16 +14,11 @@ use Rattle.dtx_exciter.proofs.UnderLemmas.{under_nothing, syncs_nothing}
 use Rattle.dtx_exciter.proofs.EndsLemmas.{last_single}
 use Rattle.dtx_watch.specs.declared.watcher.Watcher.{Watcher}
 use Rattle.dtx_watch.specs.Watch.{stamped_before}
-use Rattle.dtx_watch.specs.Kept.{are_some, KeepsUnder, Keeps, StandsFor}
+use Rattle.dtx_watch.specs.Kept.{are_some, KeepsUnder, StandsFor}
 use Rattle.dtx_watch.proofs.ToldLemmas.{part_is}
 
 pub stands_nothing : (w : Watcher) → w.count ≡ 0 → w.part ≡ 0 → cadence.StandsFor w.anchor [] → StandsFor w []
-stands_nothing w count part h = record {
-  count = count;
-  anchor = subst (cadence.StandsFor w.anchor) syncs_nothing h;
-  part = part ∙ sym (part_is [] None under_nothing);
-  kept = subst (Keeps w) (sym under_nothing) tt;
-}
+stands_nothing w count part h = grind (arith, syncs_nothing, part_is, under_nothing)
 
 pub keeps_single : (w : Watcher) (packets : List Packet) (packet : Packet) (coder : Coding) → w.first ≡ 0
     → w.flushed ≡ false → w.ordered ≡ false → w.latest ≡ None → w.packets ≡ set packets 0 packet
@@ -33,13 +28,11 @@ unfolding stamped_before
 keeps_single w packets packet coder first flushed ordered latest held some coded states widths = record {
   first = λ _. first;
   flushed = flushed;
-  partial =
-      ap (λ x. take 1 (bytes_of x)) held ∙ ap (take 1) (map-set (λ p. p.0) packets 0 packet)
+  partial = ap (λ x. take 1 (bytes_of x)) held ∙ ap (take 1) (map-set (λ p. p.0) packets 0 packet)
       ∙ take_more_set (bytes_of packets) 0 packet.0 (let n : length (bytes_of packets)
       ≡ length packets = length-map packets (λ p. p.0) in omega (arith, n, some));
   ordered = ordered ∙ ap are_some (sym (last_single packet.0));
   latest = latest;
-  coder =
-      subst (λ o. RunsUnder [] o w.coder) (sym (last_single packet.0))
+  coder = subst (λ o. RunsUnder [] o w.coder) (sym (last_single packet.0))
       (coder.states, subst (RunsAlong [] 0 coder.states) (sym coded) (along_begins coder states widths));
 }

@@ -1,11 +1,10 @@
 -- What is done with a whole group.
-use Rattle.std.proofs.Common.{◌≡◌, ℕ, ℤ, ◌%◌, ◌||◌, Bool, false, cond, Option, None, option_map, List, ◌++◌, ap, ap₂}
-use Rattle.std.proofs.Common.{◌∙◌, nat_le, is_some}
+use Rattle.std.proofs.Common.{◌≡◌, ℕ, ℤ, ◌%◌, ◌||◌, Bool, false, cond, Option, None, option_map, List, ◌++◌, nat_le}
+use Rattle.std.proofs.Common.{is_some, arith}
 use Rattle.std.specs.Option.{unwrap_or}
-use Rattle.dtx_coder.specs.Groups.{Coding, IsCoded, after_group}
+use Rattle.dtx_coder.specs.Groups.{Coding, IsCoded}
 use Rattle.dtx_coder.specs.Groups as coder
 use Rattle.dtx_coder.specs.declared.air.Air.{Air}
-use Rattle.dtx_ops.specs.declared.fields.Ops.{Ops}
 use Rattle.dtx_exciter.specs.Step.{bytes_of}
 use Rattle.dtx_watch.specs.declared.notes.Note.{Note}
 use Rattle.dtx_watch.specs.declared.telling.Expected.{Expected}
@@ -39,49 +38,4 @@ pub does_end : (old mid : Watcher) (expected : Expected) (states preset : Option
     → Does old mid expected states preset ordered made count symbols given
     → IsEnded old (record mid { ordered = ordered; coder = made; air = air }) given
 unfolding states_in group_of
-does_end old mid expected states preset ordered made count symbols given air d =
-    let latest : mid ≡ with_latest old (expected_of old) 4 =
-    d.latest ∙ ap₂ (with_latest old) d.expects d.four in
-    let own : preset ≡ states_in old =
-    d.presets
-    ∙ ap₂ (λ (b : Bool) (o : Option (List ℕ)). cond b o None) (ap (λ (w : Watcher). w.flushed) latest)
-    (d.orders
-    ∙ ap₂ (λ (e : Expected) (n : ℕ). option_map (λ (o : Ops). o.states) (earliest (order_of (group_at_hand old e)) n))
-    d.expects d.four) in
-    let group : ◌≡◌ {A = coder.Group} (record {
-      first = mid.first % 312;
-      second = nat_le 312 mid.first;
-      sync = false;
-      from = unwrap_or preset mid.coder.states;
-      packets = bytes_of mid.packets;
-    }) (group_of old) =
-    ap₂ (λ (w : Watcher) (q : Option (List ℕ)). record {
-      first = w.first % 312;
-      second = nat_le 312 w.first;
-      sync = false;
-      from = unwrap_or q w.coder.states;
-      packets = bytes_of w.packets;
-    }) latest own in
-    record {
-      notes =
-          d.told
-          ∙ ap₂ (λ (e : Expected) (n : ℕ). lock_notes old ++ notes_in (group_at_hand old e) n) d.expects d.four;
-      made =
-          ap (λ (w : Watcher). record w { ordered = ordered; coder = made; air = air }) latest
-          ∙ ap (λ (b : Bool). record old {
-            latest = stamped_in (group_at_hand old (expected_of old)) 4;
-            ordered = b;
-            coder = made;
-            air = air;
-          })
-          (d.ordered_is
-          ∙ ap₂ (λ (b : Bool) (q : Option (List ℕ)). b || is_some q) (ap (λ (w : Watcher). w.ordered) latest) own)
-          ∙ ap (λ (c : Coding). record old {
-            latest = stamped_in (group_at_hand old (expected_of old)) 4;
-            ordered = old.ordered || is_some (states_in old);
-            coder = c;
-            air = air;
-          })
-          (d.codes.coder
-          ∙ ap₂ after_group (ap (λ (w : Watcher). w.coder) latest) group);
-    }
+does_end old mid expected states preset ordered made count symbols given air d = grind arith

@@ -1,15 +1,14 @@
 -- A packet joins those under the anchor.
-use Rattle.std.proofs.Common.{◌≡◌, ◌≢◌, ℕ, ◌+◌, ◌-◌, ◌/◌, ◌%◌, ◌<◌, ◌≤◌, ◌⊎◌, ◌==◌, ◌&&◌, ◌||◌, Bool, true, false, not}
-use Rattle.std.proofs.Common.{cond, Option, Some, None, option_map, List, [], ◌∷◌, ◌++◌, length, take, drop, set}
-use Rattle.std.proofs.Common.{get_or, refl, sym, ap, ap₂, subst, ◌∙◌, arith, inl, inr, nat_le, is_some, eq-eqb, ne_eqb}
-use Rattle.std.proofs.Common.{le-leb, take_all, get_or-take, get_or-drop}
-use Rattle.std.specs.List.{range_with_len, flat_map, cons_option}
+use Rattle.std.proofs.Common.{◌≡◌, ◌≢◌, ℕ, ◌+◌, ◌-◌, ◌%◌, ◌<◌, ◌≤◌, ◌⊎◌, ◌==◌, ◌&&◌, ◌||◌, Bool, true, false, not, cond}
+use Rattle.std.proofs.Common.{Option, Some, None, option_map, List, [], ◌∷◌, ◌++◌, length, take, drop, set, get_or}
+use Rattle.std.proofs.Common.{refl, sym, ap, ap₂, subst, ◌∙◌, arith, inl, inr, nat_le, is_some, eq-eqb, le-leb}
+use Rattle.std.proofs.Common.{take_all, get_or-take, get_or-drop}
+use Rattle.std.specs.List.{cons_option}
 use Rattle.std.specs.Option.{unwrap_or}
 use Rattle.std.proofs.lemmas.Bool.{cases_lt, cond-true, cond-false, lt-leb, and_right}
 use Rattle.std.proofs.lemmas.List.{length_push, drop-append-le, take-append-le, get_or-append_right}
 use Rattle.dtx_packets.specs.declared.packet.Packet.{Packet}
 use Rattle.dtx_coder.specs.Groups.{Coding, after_group}
-use Rattle.dtx_coder.specs.Along.{states_since}
 use Rattle.dtx_coder.proofs.AlongLemmas.{states_along}
 use Rattle.dtx_ops.specs.declared.fields.Ops.{Ops}
 use Rattle.dtx_exciter.specs.Order.{Order, counting_order, placed, orders}
@@ -25,8 +24,7 @@ use Rattle.dtx_watch.specs.declared.notes.NoteKind.TheVariants as what
 use Rattle.dtx_watch.specs.declared.telling.Expected.{Expected}
 use Rattle.dtx_watch.specs.declared.telling.Expected.TheVariants.{Early, First, These}
 use Rattle.dtx_watch.specs.declared.watcher.Watcher.{Watcher}
-use Rattle.dtx_watch.specs.Watch.{expected_by, expected_at, stamped_before, note_under, group_notes}
-use Rattle.dtx_watch.specs.Notes.{one_or_none}
+use Rattle.dtx_watch.specs.Watch.{expected_by, expected_at, stamped_before, group_notes}
 use Rattle.dtx_watch.specs.Step.{group_at_hand, order_of, earliest, notes_in, lock_notes, expected_of, states_in}
 use Rattle.dtx_watch.specs.Step.{group_of, IsEnded}
 use Rattle.dtx_watch.specs.Kept.{are_some, KeepsUnder, IsJoined}
@@ -37,9 +35,7 @@ use Rattle.dtx_watch.proofs.ToldLemmas.{stamped_front, not_whole, counts, early}
 
 stamped_same : (l : List (List ℕ)) (p : List ℕ) → length l % 4 ≢ 3
     → stamped_before (l ++ p ∷ []) (whole (l ++ p ∷ [])) ≡ stamped_before l (whole l)
-stamped_same l p h =
-    let w : whole (l ++ p ∷ []) ≡ whole l = omega (arith, h, length_push l p) in
-    ap (stamped_before (l ++ p ∷ [])) w ∙ stamped_front l (p ∷ []) (whole l) (omega arith)
+stamped_same l p h = grind (arith, length_push, stamped_front)
 
 -- the watcher with one packet more of the group at hand
 abbrev pub with_packet : Watcher → ℕ → Packet → Watcher
@@ -58,19 +54,15 @@ joined_partial l old place packet k given keeps e h four none =
     let w : whole (l ++ packet.0 ∷ []) ≡ whole l = omega (arith, n, length_push l packet.0) in
     let s : length (l ++ packet.0 ∷ []) % 4 ≡ length l % 4 + 1 = omega (arith, n, length_push l packet.0) in
     record {
-      notes = none ∙ sym (cond-false (length (l ++ packet.0 ∷ []) % 4 == 0) _ _
-          (ne_eqb (length (l ++ packet.0 ∷ []) % 4) 0 (λ z. omega (arith, s, z))));
+      notes = none ∙ sym (cond-false (length (l ++ packet.0 ∷ []) % 4 == 0) _ _ (grind arith));
       part = omega (arith, m, s);
       keeps = record {
         first = λ _. omega (arith, e, w);
         flushed = keeps.flushed ∙ settled_same (length l) n (cases_lt (length l) 52)
             ∙ ap (nat_le 52) (sym (length_push l packet.0));
-        partial =
-            ap₂ (λ (x y : ℕ). take x (bytes_of (set old.packets y packet))) s m
-            ∙ held_more old.packets packet (length l % 4) (omega (arith, four))
-            ∙ ap (λ x. x ++ packet.0 ∷ []) keeps.partial
-            ∙ sym (ap (λ (y : ℕ). drop y (l ++ packet.0 ∷ [])) w
-            ∙ drop-append-le (whole l) l (packet.0 ∷ []) (omega arith));
+        partial = ap₂ (λ (x y : ℕ). take x (bytes_of (set old.packets y packet))) s m
+            ∙ held_more old.packets packet (length l % 4) (omega (arith, four)) ∙ ap (λ x. x ++ packet.0 ∷ []) keeps.partial
+            ∙ sym (ap (λ (y : ℕ). drop y (l ++ packet.0 ∷ [])) w ∙ drop-append-le (whole l) l (packet.0 ∷ []) (omega arith));
         ordered = keeps.ordered ∙ ap are_some (sym (last_same l packet.0 n));
         latest = keeps.latest ∙ sym (stamped_same l packet.0 n);
         coder = subst (λ x. RunsUnder x (last_orders (l ++ packet.0 ∷ [])) old.coder) (sym (front_same l packet.0 n))
@@ -82,19 +74,7 @@ joined_partial l old place packet k given keeps e h four none =
 
 lock_test : (i n first : ℕ) (flushed : Bool) → i % 4 ≡ 0 → n < 4 → first ≡ i % 624 → flushed ≡ nat_le 52 (i + n)
     → ((first == 0) && not flushed) ≡ (i == 0)
-lock_test i n first flushed w few e f = by_place (cases_lt i 52) (cases_lt 0 i)
-  where
-    none : (0 < first) → ((first == 0) && not flushed) ≡ false
-    none h = ap (λ b. b && not flushed) (ne_eqb first 0 (λ z. omega (arith, h, z)))
-
-    by_place : (i < 52) ⊎ (52 ≤ i) → (0 < i) ⊎ (i ≤ 0) → ((first == 0) && not flushed) ≡ (i == 0)
-    by_place (inl m) (inl s) = none (omega (arith, e, m, s)) ∙ sym (ne_eqb i 0 (λ z. omega (arith, z, s)))
-    by_place (inl m) (inr z) =
-        ap₂ (λ a b. a && not b) (eq-eqb first 0 (omega (arith, e, z))) (f ∙ lt-leb 52 (i + n) (omega (arith, z, few)))
-        ∙ sym (eq-eqb i 0 (omega (arith, z)))
-    by_place (inr m) s =
-        ap (λ b. (first == 0) && not b) (f ∙ le-leb 52 (i + n) (omega (arith, m)))
-        ∙ and_right (first == 0) false refl ∙ sym (ne_eqb i 0 (λ z. omega (arith, z, m)))
+lock_test i n first flushed w few e f = grind (arith, cases_lt, eq-eqb, lt-leb, le-leb, and_right)
 
 -- the group at hand of a watcher is that of these packets from i on, of which n are given, and packet i is packet k of
 -- all
@@ -106,11 +86,9 @@ pub record Holds (w : Watcher) (l : List (List ℕ)) (i n k : ℕ) (expected : E
 pub all_notes : (w : Watcher) (l : List (List ℕ)) (i n k : ℕ) (expected : Expected) → Holds w l i n k expected
     → lock_notes w ++ notes_in (group_at_hand w expected) n ≡ group_notes l k i n
 unfolding group_notes
-all_notes w l i n k expected h =
-    ap₂ ◌++◌
+all_notes w l i n k expected h = ap₂ ◌++◌
     (ap₂ (λ b x. cond b ((record { packet = x; what = what.Lock }) ∷ []) []) h.lock h.number)
-    (notes_at_hand (group_at_hand w expected) l i n h.at_hand
-    ∙ ap (λ x. flat_map (λ m. one_or_none (note_under l (x + m) (i + m))) (range_with_len 0 n)) h.number)
+    (rw (notes_at_hand (group_at_hand w expected) l i n h.at_hand, h.number))
 
 -- the part of a group, where no more packets come
 pub part_at_hand : (w : Watcher) (l : List (List ℕ)) (i n : ℕ) → KeepsUnder w l → length l ≡ i + n → i % 4 ≡ 0
@@ -150,8 +128,7 @@ pub record IsFull (w : Watcher) (l : List (List ℕ)) (p : List ℕ) (i : ℕ) :
   pub coder : RunsUnder (Ends.front l i) (last_orders l) w.coder
 
 expected_orders : (w : Watcher) (l : List (List ℕ)) (p : List ℕ) (i : ℕ) (os : List Order) → IsFull w l p i
-    → last_orders l ≡ os
-    → 52 ≤ i → cond (not w.ordered) First (These w.coder.states) ≡ expected_by (l ++ p ∷ []) i os
+    → last_orders l ≡ os → 52 ≤ i → cond (not w.ordered) First (These w.coder.states) ≡ expected_by (l ++ p ∷ []) i os
 expected_orders w l p i [] h e m = ap (λ b. cond (not b) First (These w.coder.states)) (h.ordered ∙ ap are_some e)
 expected_orders w l p i (order ∷ older) h e m =
     let o : Ends.IsOlder i order = Ends.last_older l i order older h.ends e in
@@ -160,21 +137,15 @@ expected_orders w l p i (order ∷ older) h e m =
     let runs : RunsUnder (Ends.front l i) (order ∷ older) w.coder =
     subst (λ r. RunsUnder (Ends.front l i) r w.coder) e h.coder in
     let long = h.ends.long in
-    ap (λ b. cond (not b) First (These w.coder.states)) (h.ordered ∙ ap are_some e)
-    ∙ ap These
-    (states_along (Ends.front l i) (order.place / 4) order.ops.states w.coder runs (omega (arith, x, y))
-    ∙ ap (states_since (order.place / 4) order.ops.states) (sym (take-append-le i l (p ∷ []) (omega (arith, long)))))
+    ap (λ b. cond (not b) First (These w.coder.states)) (h.ordered ∙ ap are_some e) ∙ ap These
+    (grind (arith, states_along, take-append-le))
 
 expected_full : (w : Watcher) (l : List (List ℕ)) (p : List ℕ) (i : ℕ) → IsFull w l p i
     → expected_of w ≡ expected_at (l ++ p ∷ []) i
 expected_full w l p i h = by_place (cases_lt i 52)
   where
     by_place : (i < 52) ⊎ (52 ≤ i) → expected_of w ≡ expected_at (l ++ p ∷ []) i
-    by_place (inl m) =
-        let a = h.ends.long in let b = h.ends.whole in
-        ap (λ b. cond (not b) Early (cond (not w.ordered) First (These w.coder.states)))
-        (h.flushed ∙ lt-leb 52 (length l) (omega (arith, a, b, m)))
-        ∙ sym (early (l ++ p ∷ []) i m)
+    by_place (inl m) = grind (arith, lt-leb, early)
     by_place (inr m) =
         let a = h.ends.long in
         ap (λ b. cond (not b) Early (cond (not w.ordered) First (These w.coder.states)))
@@ -193,12 +164,9 @@ full_at_hand w l p i h =
       expected = expected_full w l p i h;
       before = h.latest ∙ sym (stamped_front l (p ∷ []) i (omega (arith, long)));
       packets = λ m k.
-          let at : i + m - i ≡ m = omega arith in
-          ap (λ x. get_or x m []) h.packets
-          ∙ sym (ap (λ x. get_or x (i + m) []) (sym (Ends.parts l i p))
-          ∙ get_or-append_right (Ends.front l i) (Ends.group l i p) i (i + m) [] (Ends.length-front l i h.ends)
-          (omega arith)
-          ∙ ap (λ x. get_or (Ends.group l i p) x []) at);
+          ap (λ x. get_or x m []) h.packets ∙ sym (ap (λ x. get_or x (i + m) []) (sym (Ends.parts l i p))
+          ∙ get_or-append_right (Ends.front l i) (Ends.group l i p) i (i + m) [] (Ends.length-front l i h.ends) (omega arith)
+          ∙ ap (λ x. get_or (Ends.group l i p) x []) (omega arith));
       inside = omega (arith, Ends.length-all l i p h.ends);
       few = omega arith;
     }
@@ -222,8 +190,7 @@ states_full : (w : Watcher) (l : List (List ℕ)) (p : List ℕ) (i : ℕ) → I
 unfolding states_in
 states_full w l p i h =
     map_cond (λ (o : Ops). o.states) w.flushed (earliest (order_of (group_at_hand w (expected_of w))) 4)
-    ∙ ap (option_map (λ (o : Ops). o.states))
-    (ap₂ (λ b o. cond b o None) h.flushed
+    ∙ ap (option_map (λ (o : Ops). o.states)) (ap₂ (λ b o. cond b o None) h.flushed
     (order_at_hand (group_at_hand w (expected_of w)) (l ++ p ∷ []) i (full_at_hand w l p i h)
     ∙ sym (Ends.order_is l i (i % 624) p h.ends refl))
     ∙ Ends.own_is l i (i % 624) p h.ends refl)
@@ -235,8 +202,7 @@ unfolding group_of
 given_full w l p i h = record {
   runs = h.coder;
   next = record {
-    place = let x = h.first in let e : w.first % 312 ≡ i % 312 = omega (arith, x) in
-        e ∙ ap (λ (n : ℕ). n % 312) (sym (Ends.length-front l i h.ends));
+    place = let x = h.first in (omega (arith, x)) ∙ ap (λ (n : ℕ). n % 312) (sym (Ends.length-front l i h.ends));
     four = ap (λ (x : List (List ℕ)). length x) h.packets ∙ Ends.length-group l i p h.ends;
     states = ap (λ q. unwrap_or q w.coder.states) (states_full w l p i h);
   };
@@ -272,16 +238,14 @@ some_more i (Some ops) (order ∷ older) = refl
 
 ordered_full : (w : Watcher) (l : List (List ℕ)) (p : List ℕ) (i : ℕ) → IsFull w l p i
     → (w.ordered || is_some (states_in w)) ≡ are_some (last_orders (l ++ p ∷ []))
-ordered_full w l p i h =
-    ap₂ (λ b q. b || is_some q) h.ordered (states_full w l p i h)
+ordered_full w l p i h = ap₂ (λ b q. b || is_some q) h.ordered (states_full w l p i h)
     ∙ some_more i (counting_order (readings (l ++ p ∷ [])) i) (last_orders l)
     ∙ ap are_some (sym (orders_now l p i h.ends))
 
 -- what is kept behind it
 pub joined_full : (l : List (List ℕ)) (w made now : Watcher) (p : List ℕ) (i place k : ℕ) (given : List Note)
     → IsFull w l p i → IsEnded w made given → place ≡ length l % 624 → k ≡ w.count - 1
-    → now ≡ record made { part = 0; flushed = made.flushed || (place == 51) }
-    → IsJoined (l ++ p ∷ []) k now given
+    → now ≡ record made { part = 0; flushed = made.flushed || (place == 51) } → IsJoined (l ++ p ∷ []) k now given
 joined_full l w made now p i place k given h e at last is =
     let all : List (List ℕ) = l ++ p ∷ [] in
     let z = h.ends.whole in
@@ -291,25 +255,20 @@ joined_full l w made now p i place k given h e at last is =
     let number : w.count - 4 ≡ k - 3 = omega (arith, last) in
     let four : i + 4 ≡ whole all = omega (arith, Ends.whole-all l i p h.ends) in
     record {
-      notes =
-          e.notes ∙ all_notes w all i 4 (w.count - 4) (expected_of w) (full_holds w l p i h)
-          ∙ ap₂ (λ x y. group_notes all x y 4) number (sym from)
-          ∙ sym (cond-true (length all % 4 == 0) _ _ (eq-eqb (length all % 4) 0 end));
+      notes = e.notes ∙ all_notes w all i 4 (w.count - 4) (expected_of w) (full_holds w l p i h)
+          ∙ ap₂ (λ x y. group_notes all x y 4) number (sym from) ∙ sym (grind (arith, cond-true, eq-eqb));
       part = ap (λ (x : Watcher). x.part) is ∙ sym end;
       keeps = record {
         first = λ some. absurd (omega (arith, some, end));
-        flushed =
-            ap (λ (x : Watcher). x.flushed) is ∙ ap (λ (x : Watcher). x.flushed || (place == 51)) e.made
+        flushed = ap (λ (x : Watcher). x.flushed) is ∙ ap (λ (x : Watcher). x.flushed || (place == 51)) e.made
             ∙ ap (λ b. b || (place == 51)) h.flushed
             ∙ settled_more (length l) place at (cases_lt (length l) 52) ∙ ap (nat_le 52) (sym (length_push l p));
         partial = partial_full l p i (bytes_of now.packets) h.ends;
         ordered = ap (λ (x : Watcher). x.ordered) is ∙ ap (λ (x : Watcher). x.ordered) e.made ∙ ordered_full w l p i h;
-        latest =
-            ap (λ (x : Watcher). x.latest) is ∙ ap (λ (x : Watcher). x.latest) e.made
+        latest = ap (λ (x : Watcher). x.latest) is ∙ ap (λ (x : Watcher). x.latest) e.made
             ∙ stamped_at_hand (group_at_hand w (expected_of w)) all i 4 4 (full_at_hand w l p i h) (omega arith)
             ∙ ap (stamped_before all) four;
-        coder =
-            subst (λ x. RunsUnder (take (whole all) all) (last_orders all) x)
+        coder = subst (λ x. RunsUnder (take (whole all) all) (last_orders all) x)
             (sym (ap (λ (x : Watcher). x.coder) is ∙ ap (λ (x : Watcher). x.coder) e.made)) (coder_full w l p i h);
       };
     }
@@ -318,18 +277,4 @@ joined_full l w made now p i place k given h e at last is =
 pub is_full : (l : List (List ℕ)) (old : Watcher) (place : ℕ) (packet : Packet) (i : ℕ) → KeepsUnder old l
     → place ≡ length l % 624 → place % 4 ≡ 3 → length old.packets ≡ 4 → length l ≡ i + 3
     → IsFull (with_packet old place packet) l packet.0 i
-is_full l old place packet i keeps e last four long =
-    let w : i % 4 ≡ 0 = omega (arith, e, last, long) in
-    let ends : Ends.Ends l i = record { long = long; whole = w } in
-    let at : whole l ≡ i = Ends.whole-front l i ends in
-    record {
-      ends = ends;
-      first = omega (arith, e, last, long);
-      part = omega (arith, last);
-      flushed = keeps.flushed;
-      packets = ap (λ n. bytes_of (set old.packets n packet)) last
-          ∙ group_bytes l old.packets packet i ends four keeps.partial;
-      ordered = keeps.ordered;
-      latest = keeps.latest ∙ ap (stamped_before l) at;
-      coder = subst (λ (n : ℕ). RunsUnder (take n l) (last_orders l) old.coder) at keeps.coder;
-    }
+is_full l old place packet i keeps e last four long = grind (arith, group_bytes)

@@ -8,7 +8,6 @@ use Rattle.std.specs.Str.{bytes_eq}
 use Rattle.std.proofs.lemmas.Slice.Eq.{bytes_eq-Decides}
 use Rattle.std.proofs.lemmas.Bool.{cases_lt, cond-true, cond-false, and_from}
 use Rattle.std.proofs.lemmas.List.{get_or-map, get_or_past, length-map}
-use Rattle.dtx_clock.specs.Clock.{stamp_of, runs}
 use Rattle.dtx_clock.proofs.StampsLemmas.{stamps_run}
 use Rattle.dtx_coder.specs.Stream.{states}
 use Rattle.dtx_coder.specs.Along.{states_since}
@@ -21,7 +20,7 @@ use Rattle.dtx_ops.specs.declared.refusal.OpsNo.{OpsNo}
 use Rattle.dtx_ops.specs.declared.refusal.OpsNo.TheVariants.{NotOps}
 use Rattle.dtx_ops.specs.Reading.{reading}
 use Rattle.dtx_exciter.specs.Order.{Order, either, ordered, ordered_at, order_at, counting_order, orders}
-use Rattle.dtx_exciter.specs.Packets.{read_fields, reads, readings, syncs, anchor_of}
+use Rattle.dtx_exciter.specs.Packets.{reads, readings, syncs, anchor_of}
 use Rattle.dtx_exciter.proofs.ForceLemmas.{Stands, force_stands, IsBehind, counted_behind}
 use Rattle.dtx_exciter.proofs.SinceMarkLemmas.{states_mark, states_from_group, take_parts}
 use Rattle.dtx_exciter.proofs.UnderLemmas.{length-syncs, under_nothing}
@@ -33,7 +32,7 @@ use Rattle.dtx_watch.specs.declared.notes.StatesNote.{StatesNote}
 use Rattle.dtx_watch.specs.declared.notes.StatesNote.TheVariants as states_are
 use Rattle.dtx_watch.specs.declared.notes.ClockNote.{ClockNote}
 use Rattle.dtx_watch.specs.declared.notes.ClockNote.TheVariants as clock_is
-use Rattle.dtx_watch.specs.Clock.{stamp_in, frames_between, clock_note}
+use Rattle.dtx_watch.specs.Clock.{stamp_in, clock_note}
 use Rattle.dtx_watch.specs.Notes.{states_note, ops_note, packet_note, lock_note, one_or_none}
 use Rattle.dtx_watch.specs.Watch.{latest, expected_by, expected_at, stamped_before, note_under, reading_note, notes_at}
 use Rattle.dtx_watch.specs.Sound.{SaysAt, IsSoundAt, IsSoundFeed, IsCalm, IsCalmAt}
@@ -56,8 +55,7 @@ long_from start most f d m h = ap (λ (x : List (List ℕ)). length x) h.are ∙
 
 says_from : (start most : ℕ) (f d : List (List ℕ)) (m k : ℕ) → IsFrom start most f d m → k < length d
     → IsSoundAt start most f (m + k) (reading (get_or d k []))
-says_from start most f d m k h l =
-    subst (λ p. IsSoundAt start most f (m + k) (reading p)) (sym (packet_from start most f d m k h))
+says_from start most f d m k h l = subst (λ p. IsSoundAt start most f (m + k) (reading p)) (grind (arith, packet_from))
     (h.sound.says (m + k) (let i = h.inside in omega (arith, l, i, long_from start most f d m h)))
 
 -- ---- the anchor
@@ -77,8 +75,7 @@ anchor_from : (start most : ℕ) (f d : List (List ℕ)) (m k : ℕ) → IsFrom 
 unfolding anchor_of syncs
 anchor_from start most f d m k h l =
     let none : (j : ℕ) → anchor [] ≡ Some j → (length {A = ℕ} [] - j) % 624 ≡ 0 = λ j e. omega arith in
-    let a : IsAnchored [] (syncs d) 0 =
-    anchored [] (syncs d) (marked_from start most f d m h) (omega (arith, l, length-syncs d)) none in
+    let a : IsAnchored [] (syncs d) 0 = grind (arith, anchored, marked_from, length-syncs) in
     let w = a.within in
     let z : a.place ≡ 0 = omega (arith, w) in
     ap anchor (sym (take-map sync_of (k + 1) d)) ∙ a.holds k (omega arith) (omega (arith, l, length-syncs d))
@@ -91,11 +88,7 @@ no_anchor_yet d = no_anchor [] under_nothing
 
 pub reads_ok : (p : List ℕ) (ops : Ops) → reads p ≡ Some ops → reading p ≡ Ok ops
 unfolding reads
-reads_ok p ops e = by_reading (reading p) e
-  where
-    by_reading : (r : Result Ops OpsNo) → read_fields r ≡ Some ops → r ≡ Ok ops
-    by_reading (Ok o) h = let q : o ≡ ops = cc in ap Ok q
-    by_reading (Err w) h = cc
+reads_ok p ops e = grind arith
 
 picked : (b : Bool) (x ops : Ops) → cond b (Some x) None ≡ Some ops → x ≡ ops
 picked true x ops e = cc
@@ -138,7 +131,10 @@ pub record ReadsIn (d : List (List ℕ)) (g : ℕ) (ops : Ops) : Type 0 where
 
 order_reads : (d : List (List ℕ)) (g : ℕ) (ops : Ops) → order_at (readings d) g ≡ Some ops → ReadsIn d g ops
 unfolding order_at
-order_reads d g ops e = by_first (either_some (f g) _ ops e)
+order_reads d g ops e = elim (either_some (f g) _ ops e) [
+  | inl h ↦ at g (omega arith) (omega arith) h
+  | inr h ↦ by_second (either_some (f (g + 1)) (either (f (g + 2)) (f (g + 3))) ops h)
+]
   where
     f : ℕ → Option Ops
     f n = ordered_at (readings d) n
@@ -153,10 +149,6 @@ order_reads d g ops e = by_first (either_some (f g) _ ops e)
     by_second : (f (g + 1) ≡ Some ops) ⊎ (either (f (g + 2)) (f (g + 3)) ≡ Some ops) → ReadsIn d g ops
     by_second (inl h) = at (g + 1) (omega arith) (omega arith) h
     by_second (inr h) = by_third (either_some (f (g + 2)) (f (g + 3)) ops h)
-
-    by_first : (f g ≡ Some ops) ⊎ (either (f (g + 1)) (either (f (g + 2)) (f (g + 3))) ≡ Some ops) → ReadsIn d g ops
-    by_first (inl h) = at g (omega arith) (omega arith) h
-    by_first (inr h) = by_second (either_some (f (g + 1)) (either (f (g + 2)) (f (g + 3))) ops h)
 
 some_counted : (b : Bool) (o : Option Ops) (ops : Ops) → cond b o None ≡ Some ops → o ≡ Some ops
 some_counted true o ops e = e
@@ -176,8 +168,7 @@ says_so start most f d m n ops h r =
 
 -- those that the coders have from an order on are the feed's own
 states_right : (start most : ℕ) (f d : List (List ℕ)) (m i : ℕ) (order : Order) (older : List Order)
-    → IsFrom start most f d m
-    → i % 4 ≡ 0 → i + 4 ≤ length d → 52 ≤ i → orders (readings d) (i - 4) ≡ order ∷ older
+    → IsFrom start most f d m → i % 4 ≡ 0 → i + 4 ≤ length d → 52 ≤ i → orders (readings d) (i - 4) ≡ order ∷ older
     → states (take (m + i) f) ≡ states_since (order.place / 4) order.ops.states (take i d)
 states_right start most f d m i order older h w l far e =
     let st : Stands (readings d) (i - 4 + 1) order = force_stands (readings d) (i - 4) order older e in
@@ -196,12 +187,8 @@ states_right start most f d m i order older h w l far e =
     let at : 4 * g ≡ m + x = omega (arith, z, x2) in
     let place : 4 * ((m + r.packet) / 4) ≡ 4 * g = omega (arith, z, x2, r1, r2) in
     let all : take (m + i) f ≡ a ++ s = take_parts m i f ∙ ap (λ y. a ++ take i y) (sym h.are) in
-    let own : order.ops.states ≡ states (take (4 * g) (a ++ s)) =
-    says.states_are ∙ ap (λ n. states (take n f)) place
-    ∙ ap states (sym (take-take (4 * g) (m + i) f (omega (arith, at, x3, far)))) ∙ ap (λ y. states (take (4 * g) y))
-    all in
-    ap states all
-    ∙ states_from_group (a ++ s) g (omega (arith, at, x3, far, la, ls, length-append a s))
+    let own : order.ops.states ≡ states (take (4 * g) (a ++ s)) = grind (arith, take-take) in
+    ap states all ∙ states_from_group (a ++ s) g (omega (arith, at, x3, far, la, ls, length-append a s))
     ∙ ap (λ q. states_since g q (a ++ s)) (sym own)
     ∙ states_mark a s x g order.ops.states (omega (arith, la, z)) (omega (arith, ls, w)) x1 x2 (omega (arith, at, la))
 
@@ -219,8 +206,7 @@ right_calm e = cc
 
 states_calm : (start most : ℕ) (f d : List (List ℕ)) (m k : ℕ) (ops : Ops) → IsFrom start most f d m → Reads d k ops
     → states_note (expected_at d (4 * (k / 4))) ops ≢ states_are.Slip
-states_calm start most f d m k ops h r =
-    by_place (cases_lt (4 * (k / 4)) 52) (cases_lt (length d) (4 * (k / 4) + 4))
+states_calm start most f d m k ops h r = by_place (cases_lt (4 * (k / 4)) 52) (cases_lt (length d) (4 * (k / 4) + 4))
   where
     i : ℕ
     i = 4 * (k / 4)
@@ -240,8 +226,7 @@ states_calm start most f d m k ops h r =
     by_orders far l (order ∷ older) e =
         let q : List ℕ = states_since (order.place / 4) order.ops.states (take i d) in
         let same : ops.states ≡ q = own ∙ states_right start most f d m i order older h (omega arith) l far e in
-        λ slip. right_calm (sym (cond-true (bytes_eq ops.states q) states_are.Right states_are.Slip
-        (bytes_same ops.states q same)) ∙ slip)
+        λ slip. right_calm (sym (grind (arith, cond-true, bytes_same)) ∙ slip)
 
     by_place : (i < 52) ⊎ (52 ≤ i) → (length d < i + 4) ⊎ (i + 4 ≤ length d)
         → states_note (expected_at d i) ops ≢ states_are.Slip
@@ -265,10 +250,7 @@ latest_is g (suc n) ops e = by_last (either_some (g n) (latest g n) ops e) (λ h
     by_last : (g n ≡ Some ops) ⊎ (latest g n ≡ Some ops) → (latest g n ≡ Some ops → IsLatest g n ops)
         → IsLatest g (suc n) ops
     by_last (inl h) rest = record { number = n; below = omega arith; is = h }
-    by_last (inr h) rest =
-        let r : IsLatest g n ops = rest h in
-        let b = r.below in
-        record { number = r.number; below = omega (arith, b); is = r.is }
+    by_last (inr h) rest = grind arith
 
 first_runs : ◌≡◌ {A = ClockNote} clock_is.First clock_is.Jump → ⊥
 first_runs e = cc
@@ -281,22 +263,7 @@ between x y l h = omega (arith, l, h)
 
 clock_right : (start most : ℕ) (f : List (List ℕ)) (j k : ℕ) (before ops : Ops) → SaysAt start most f j before
     → SaysAt start most f k ops → j ≤ k → clock_note (Some (stamp_in before)) ops ≡ clock_is.Right
-clock_right start most f j k before ops b o l =
-    let few = o.few in
-    let x : ℕ = j / 624 in
-    let y : ℕ = k / 624 in
-    let le : x ≤ y = omega (arith, l) in
-    let n : frames_between before.frame ops.frame ≡ y - x =
-    ap₂ frames_between b.frame o.frame ∙ between x y le few in
-    let sum : x + (y - x) ≡ y = omega (arith, le) in
-    let run : runs before.stamp ops.stamp (frames_between before.frame ops.frame) ≡ true =
-    ap₂ (λ s t. runs s t (frames_between before.frame ops.frame)) b.stamp o.stamp
-    ∙ ap (runs (stamp_of start x) (stamp_of start y)) n
-    ∙ ap (λ t. runs (stamp_of start x) (stamp_of start t) (y - x)) (sym sum) ∙ stamps_run start x (y - x) in
-    cond-true
-    (runs before.stamp ops.stamp (frames_between before.frame ops.frame) && (ops.max_delay == before.max_delay))
-    clock_is.Right clock_is.Jump
-    (and_from _ _ run (eq-eqb ops.max_delay before.max_delay (o.max_delay ∙ sym b.max_delay)))
+clock_right start most f j k before ops b o l = grind (arith, between, stamps_run, cond-true, and_from, eq-eqb)
 
 clock_calm : (start most : ℕ) (f d : List (List ℕ)) (m k : ℕ) (ops : Ops) → IsFrom start most f d m → Reads d k ops
     → clock_note (stamped_before d k) ops ≢ clock_is.Jump
@@ -326,8 +293,7 @@ calm start most f d m k h l = by_reading (reading (get_or d k [])) refl
     place = let z = h.mark in omega (arith, z)
 
     locked : (j : ℕ) → k ≡ j → one_or_none (lock_note k (anchor_of (take k d)) (Some 0)) ≡ lock
-    locked zero e =
-        ap (λ n. one_or_none (lock_note k (anchor_of (take n d)) (Some 0))) e
+    locked zero e = ap (λ n. one_or_none (lock_note k (anchor_of (take n d)) (Some 0))) e
         ∙ ap (λ o. one_or_none (lock_note k o (Some 0))) (no_anchor_yet d)
         ∙ ap (λ n. (record { packet = n; what = Lock }) ∷ []) e
         ∙ sym (cond-true (k == 0) ((record { packet = 0; what = Lock }) ∷ []) [] (eq-eqb k 0 e))
@@ -345,8 +311,7 @@ calm start most f d m k h l = by_reading (reading (get_or d k [])) refl
     all r e =
         let less : k - 0 ≡ k = omega arith in
         ap (λ o. one_or_none (lock_note k (anchor_of (take k d)) o) ++ one_or_none (reading_note d k o))
-        (anchor_from start most f d m k h l)
-        ∙ ap₂ (λ xs n. xs ++ one_or_none (note_under d k n)) (locked k refl) less
+        (anchor_from start most f d m k h l) ∙ ap₂ (λ xs n. xs ++ one_or_none (note_under d k n)) (locked k refl) less
         ∙ ap (λ x. lock ++ rest x) e
 
     by_reading : (r : Result Ops OpsNo) → reading (get_or d k []) ≡ r → IsCalmAt d k
@@ -359,18 +324,7 @@ calm start most f d m k h l = by_reading (reading (get_or d k [])) refl
         ap (λ w. (record { packet = k; what = w }) ∷ []) (cond-true (ops.index == k % 624) (OpsAt o) _
         (eq-eqb ops.index (k % 624) index)) in (
           rest (Ok ops),
-          subst (λ x. IsCalm k x (rest (Ok ops))) (sym e) (
-            o,
-            record {
-              frame = refl;
-              index = refl;
-              stamp = refl;
-              max_delay = refl;
-              states = states_calm start most f d m k ops h r;
-              clock = clock_calm start most f d m k ops h r;
-            },
-            note,
-          ),
+          subst (λ x. IsCalm k x (rest (Ok ops))) (sym e) (grind (arith, states_calm, clock_calm)),
           all (Ok ops) e,
         )
     by_reading (Err refusal) e =

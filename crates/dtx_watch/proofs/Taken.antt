@@ -1,6 +1,6 @@
 -- What one packet more makes of a watcher.
-use Rattle.std.proofs.Common.{◌≡◌, ℕ, suc, ◌+◌, ◌-◌, ◌%◌, ◌<◌, ◌≤◌, ◌⊎◌, ◌==◌, Option, Some, None, List, [], ◌∷◌, ◌++◌}
-use Rattle.std.proofs.Common.{length, refl, sym, ap, ap₂, subst, ◌∙◌, arith, inl, inr}
+use Rattle.std.proofs.Common.{◌≡◌, ℕ, suc, ◌+◌, ◌-◌, ◌%◌, ◌<◌, Option, Some, None, List, [], ◌∷◌, ◌++◌, length, refl}
+use Rattle.std.proofs.Common.{sym, ap, subst, ◌∙◌, arith}
 use Rattle.std.proofs.lemmas.Bool.{cases_lt, cond-true, cond-false, eq-eqb, ne_eqb}
 use Rattle.std.proofs.lemmas.List.{length_push}
 use Rattle.dtx_cadence.specs.declared.anchor.Lock.{Lock}
@@ -8,7 +8,7 @@ use Rattle.dtx_cadence.specs.declared.anchor.Seen.{Seen}
 use Rattle.dtx_cadence.specs.declared.anchor.Seen.TheVariants.{Free, Start, Lost, At}
 use Rattle.dtx_cadence.specs.Anchor as cadence
 use Rattle.dtx_ops.specs.Reading.{reading}
-use Rattle.dtx_exciter.specs.Packets.{syncs, under, part_of, group_part}
+use Rattle.dtx_exciter.specs.Packets.{under, part_of, group_part}
 use Rattle.dtx_exciter.proofs.UnderLemmas.{Goes, Sees, goes_seen}
 use Rattle.dtx_watch.specs.declared.notes.Note.{Note}
 use Rattle.dtx_watch.specs.declared.notes.NoteKind.TheVariants as what
@@ -36,15 +36,7 @@ record Makes (before : List (List ℕ)) (now : Option (List (List ℕ))) (w : Wa
 taken_as : (before : List (List ℕ)) (p : List ℕ) (s : Seen) (anchor : Option Lock) (now : Option (List (List ℕ)))
     (w : Watcher) (given : List Note) → Sees before p s anchor → under (before ++ p ∷ []) ≡ now
     → told (before ++ p ∷ []) ≡ told before ++ given → Makes before now w anchor → IsTaken before p w given
-taken_as before p s anchor now w given h u t m = record {
-  notes = t;
-  stands = record {
-    count = m.count ∙ sym (length_push before p);
-    anchor = subst (λ x. cadence.StandsFor x (syncs (before ++ p ∷ []))) (sym m.anchored) h.stands;
-    part = m.part ∙ sym (part_is (before ++ p ∷ []) now u);
-    kept = subst (Keeps w) (sym u) m.kept;
-  };
-}
+taken_as before p s anchor now w given h u t m = grind (arith, length_push, part_is)
 
 -- the watcher as it was, but for the count and the anchor
 abbrev pub counted : Watcher → Option Lock → Watcher
@@ -53,12 +45,7 @@ counted old anchor = record old { count = old.count + 1; anchor = anchor }
 -- where there is no anchor
 alone : (old now : Watcher) (before : List (List ℕ)) (anchor : Option Lock) → StandsFor old before
     → group_part before ≡ 0 → now ≡ counted old anchor → Makes before None now anchor
-alone old now before anchor h z e = record {
-  count = ap (λ (w : Watcher). w.count) e ∙ ap (λ (n : ℕ). n + 1) h.count;
-  anchored = ap (λ (w : Watcher). w.anchor) e;
-  part = ap (λ (w : Watcher). w.part) e ∙ h.part ∙ z;
-  kept = tt;
-}
+alone old now before anchor h z e = grind arith
 
 pub taken_free : (old now : Watcher) (before : List (List ℕ)) (p : List ℕ) (anchor : Option Lock)
     (given : List Note) → StandsFor old before → Sees before p Free anchor → now ≡ counted old anchor
@@ -66,11 +53,8 @@ pub taken_free : (old now : Watcher) (before : List (List ℕ)) (p : List ℕ) (
 taken_free old now before p anchor given stood h e n =
     let g : Goes 0 0 before p Free = goes_seen 0 0 before p Free anchor h in
     let was = stood_as before p Free anchor h in
-    taken_as before p Free anchor None now given h g.follows
-    (told_free before p was g.follows
-    ∙ ap (λ ns. told before ++ ns)
-    (ap (λ k. one_or_none (packet_note k None Early None (reading p))) (sym stood.count) ∙ sym n))
-    (alone old now before anchor stood (part_free before was) e)
+    taken_as before p Free anchor None now given h g.follows (told_free before p was g.follows
+    ∙ ap (λ ns. told before ++ ns) (grind arith)) (alone old now before anchor stood (part_free before was) e)
 
 pub taken_lost : (old now : Watcher) (before : List (List ℕ)) (p : List ℕ) (anchor : Option Lock)
     (given : List Note) → StandsFor old before → Sees before p Lost anchor → now ≡ counted old anchor
@@ -79,11 +63,7 @@ pub taken_lost : (old now : Watcher) (before : List (List ℕ)) (p : List ℕ) (
 taken_lost old now before p anchor given stood h e n =
     let g : Goes 0 0 before p Lost = goes_seen 0 0 before p Lost anchor h in
     let was = stood_as before p Lost anchor h in
-    taken_as before p Lost anchor None now given h g.follows
-    (told_lost before p was g.follows
-    ∙ ap (λ ns. told before ++ ns)
-    (ap (λ k. (record { packet = k; what = what.Lost }) ∷ one_or_none (packet_note k None Early None (reading p)))
-    (sym stood.count) ∙ sym n))
+    taken_as before p Lost anchor None now given h g.follows (grind (arith, told_lost))
     (alone old now before anchor stood (part_under before was.0 was.1 ∙ was.2) e)
 
 -- where it is the anchor
@@ -94,49 +74,25 @@ taken_start old mid now before p anchor given stood h e keeps part same n =
     let g : Goes 0 0 before p Start = goes_seen 0 0 before p Start anchor h in
     taken_as before p Start anchor (Some (p ∷ [])) now given h g.follows
     (told_start before p (stood_as before p Start anchor h) g.follows ∙ ap (λ ns. told before ++ ns) (sym n))
-    (record {
-      count = same.count ∙ ap (λ (w : Watcher). w.count) e ∙ ap (λ (n : ℕ). n + 1) stood.count;
-      anchored = same.anchor ∙ ap (λ (w : Watcher). w.anchor) e;
-      part = part;
-      kept = keeps;
-    })
+    (grind arith)
 
 -- where it joins those under the anchor
 with_count : (old mid : Watcher) (anchor : Option Lock) (l : List (List ℕ)) → mid ≡ counted old anchor
     → KeepsUnder old l → KeepsUnder mid l
-with_count old mid anchor l e k =
-    subst (λ (x : Watcher). KeepsUnder x l) (sym e) (record {
-      first = k.first;
-      flushed = k.flushed;
-      partial = k.partial;
-      ordered = k.ordered;
-      latest = k.latest;
-      coder = k.coder;
-    })
+with_count old mid anchor l e k = subst (λ (x : Watcher). KeepsUnder x l) (sym e) (record {
+  first = k.first;
+  flushed = k.flushed;
+  partial = k.partial;
+  ordered = k.ordered;
+  latest = k.latest;
+  coder = k.coder;
+})
 
 told_joined : (before l : List (List ℕ)) (p : List ℕ) (k : ℕ) (w : Watcher) (given : List Note)
     → under before ≡ Some l → under (before ++ p ∷ []) ≡ Some (l ++ p ∷ []) → IsJoined (l ++ p ∷ []) k w given
     → k ≡ length before → told (before ++ p ∷ []) ≡ told before ++ given
-told_joined before l p k w given was now j e = by_place (length l % 4) refl
-  where
-    by_place : (m : ℕ) → length l % 4 ≡ m → told (before ++ p ∷ []) ≡ told before ++ given
-    by_place m h = by_last (cases_lt m 3)
-      where
-        by_last : (m < 3) ⊎ (3 ≤ m) → told (before ++ p ∷ []) ≡ told before ++ given
-        by_last (inl s) =
-            let one = length_push l p in
-            told_partial before p l was now (λ x. omega (arith, x, h, s))
-            ∙ ap (λ ns. told before ++ ns)
-            (sym (j.notes ∙ cond-false (length (l ++ p ∷ []) % 4 == 0) _ _
-            (ne_eqb (length (l ++ p ∷ []) % 4) 0 (λ z. omega (arith, z, one, h, s)))))
-        by_last (inr s) =
-            let one = length_push l p in
-            let end : length (l ++ p ∷ []) % 4 ≡ 0 = omega (arith, one, h, s) in
-            let from : length l - 3 ≡ length (l ++ p ∷ []) - 4 = omega (arith, one) in
-            told_group before p l (length l - 3) was now (omega (arith, h, s)) (omega (arith, h, s))
-            ∙ ap (λ ns. told before ++ ns)
-            (ap₂ (λ x y. group_notes (l ++ p ∷ []) (x - 3) y 4) (sym e) from
-            ∙ sym (j.notes ∙ cond-true (length (l ++ p ∷ []) % 4 == 0) _ _ (eq-eqb (length (l ++ p ∷ []) % 4) 0 end)))
+told_joined before l p k w given was now j e =
+    grind (arith, cases_lt, length_push, told_partial, cond-false, ne_eqb, told_group, cond-true, eq-eqb)
 
 pub taken_at : (old mid now : Watcher) (before : List (List ℕ)) (p : List ℕ) (place : ℕ) (anchor : Option Lock)
     (given : List Note) → StandsFor old before → Sees before p (At place) anchor → mid ≡ counted old anchor
@@ -148,13 +104,10 @@ taken_at old mid now before p place anchor given stood h e joins same =
     by_follow g =
         let l : List (List ℕ) = g.follows.0 in
         let keeps : KeepsUnder old l = subst (Keeps old) g.follows.1 stood.kept in
-        let j : IsJoined (l ++ p ∷ []) (mid.count - 1) now given =
-        joins l (with_count old mid anchor l e keeps) g.follows.3 in
-        let at : mid.count - 1 ≡ length before =
-        omega (arith, ap (λ (w : Watcher). w.count) e, stood.count) in
+        let j : IsJoined (l ++ p ∷ []) (mid.count - 1) now given = grind (arith, with_count) in
+        let at : mid.count - 1 ≡ length before = omega (arith, ap (λ (w : Watcher). w.count) e, stood.count) in
         taken_as before p (At place) anchor (Some (l ++ p ∷ [])) now given h g.follows.2
-        (told_joined before l p (mid.count - 1) now given g.follows.1 g.follows.2 j at)
-        (record {
+        (told_joined before l p (mid.count - 1) now given g.follows.1 g.follows.2 j at) (record {
           count = same.count ∙ ap (λ (w : Watcher). w.count) e ∙ ap (λ (n : ℕ). n + 1) stood.count;
           anchored = same.anchor ∙ ap (λ (w : Watcher). w.anchor) e;
           part = j.part;
@@ -174,16 +127,14 @@ some_wait w d given h some n = by_under (under d) refl
     by_size : (l : List (List ℕ)) → under d ≡ Some l → (m : ℕ) → w.part ≡ suc m → given ≡ waiting d
     by_size l e m s =
         let part : length l % 4 ≡ suc m = sym (part_under d l e) ∙ sym h.part ∙ s in
-        let keeps : KeepsUnder w l = subst (Keeps w) e h.kept in
         let i : ℕ = length l - suc m in
         let size : length l ≡ i + suc m = omega (arith, part) in
         let whole : i % 4 ≡ 0 = omega (arith, part) in
         let number : w.count - suc m ≡ length d - suc m = ap (λ (x : ℕ). x - suc m) h.count in
         n ∙ ap (λ x. lock_notes w ++ notes_in (group_at_hand w Early) x) s
         ∙ all_notes w l i (suc m) (w.count - suc m) Early
-        (part_at_hand w l i (suc m) keeps size whole (omega arith) (omega (arith, part)) s)
-        ∙ ap (λ x. group_notes l x i (suc m)) number
-        ∙ sym (waiting_some d l i m e size whole (omega (arith, part)))
+        (part_at_hand w l i (suc m) (subst (Keeps w) e h.kept) size whole (omega arith) (omega (arith, part)) s)
+        ∙ ap (λ x. group_notes l x i (suc m)) number ∙ sym (waiting_some d l i m e size whole (omega (arith, part)))
 
     by_under : (o : Option (List (List ℕ))) → under d ≡ o → given ≡ waiting d
     by_under None e = let z = part_free d e in let q = h.part in absurd (omega (arith, z, q, some))
@@ -192,20 +143,7 @@ some_wait w d given h some n = by_under (under d) refl
 -- ---- what is known of a watcher's numbers
 
 pub few_in_part : (w : Watcher) (d : List (List ℕ)) → StandsFor w d → w.part < 4
-few_in_part w d h = by_under (under d) refl
-  where
-    by_under : (o : Option (List (List ℕ))) → under d ≡ o → w.part < 4
-    by_under None e = let z = part_free d e in let q = h.part in omega (arith, z, q)
-    by_under (Some l) e = let z = part_under d l e in let q = h.part in omega (arith, z, q)
+few_in_part w d h = grind (arith, part_free, part_under)
 
 pub place_of_part : (w : Watcher) (d : List (List ℕ)) → StandsFor w d → 0 < w.part → w.first < 624
-place_of_part w d h some = by_under (under d) refl
-  where
-    by_under : (o : Option (List (List ℕ))) → under d ≡ o → w.first < 624
-    by_under None e = let z = part_free d e in let q = h.part in absurd (omega (arith, z, q, some))
-    by_under (Some l) e =
-        let z = part_under d l e in
-        let q = h.part in
-        let keeps : KeepsUnder w l = subst (Keeps w) e h.kept in
-        let f = keeps.first (omega (arith, z, q, some)) in
-        omega (arith, f)
+place_of_part w d h some = grind (arith, part_free, part_under)

@@ -17,17 +17,15 @@ use Rattle.dtx_cadence.specs.declared.anchor.Seen.TheVariants.{Free, Start, Lost
 use Rattle.dtx_cadence.specs.Anchor.{has_mark, anchor, seen_by, seen}
 use Rattle.dtx_cadence.proofs.NextAnchorLemmas.{anchor_next}
 use Rattle.dtx_ops.specs.Reading.{reading}
-use Rattle.dtx_coder.specs.Along.{states_since}
-use Rattle.dtx_exciter.specs.Order.{Order, ordered, ordered_at, orders}
+use Rattle.dtx_exciter.specs.Order.{Order, orders}
 use Rattle.dtx_exciter.specs.Packets.{syncs, readings, anchor_of, under, part_of, group_part}
 use Rattle.dtx_exciter.proofs.ForceLemmas.{force_left}
 use Rattle.dtx_exciter.proofs.RangesLemmas.{flat_map-range_moved}
 use Rattle.dtx_exciter.proofs.UnderLemmas.{Follows, goes, said_append, length-said, length-syncs}
 use Rattle.dtx_watch.specs.declared.notes.Note.{Note}
 use Rattle.dtx_watch.specs.declared.notes.NoteKind.TheVariants as what
-use Rattle.dtx_watch.specs.declared.telling.Expected.TheVariants.{Early, These}
+use Rattle.dtx_watch.specs.declared.telling.Expected.TheVariants.{Early}
 use Rattle.dtx_watch.specs.Notes.{packet_note, lock_note, one_or_none}
-use Rattle.dtx_watch.specs.Clock.{stamp_in}
 use Rattle.dtx_watch.specs.Watch.{expected_by, expected_at, stamped_before, note_under, group_notes, reading_note}
 use Rattle.dtx_watch.specs.Watch.{notes_at, notes_to, told, waiting, watch}
 use Rattle.dtx_watch.proofs.AnchorsLemmas.{IsUnder, is_under, since, none_before, no_anchor, below}
@@ -37,23 +35,12 @@ use Rattle.dtx_watch.proofs.GroupsLemmas.{latest_same}
 
 pub stamped_front : (l r : List (List ℕ)) (m : ℕ) → m ≤ length l → stamped_before (l ++ r) m ≡ stamped_before l m
 unfolding stamped_before
-stamped_front l r m h =
-    ap (option_map stamp_in)
-    (latest_same (ordered_at (readings (l ++ r))) (ordered_at (readings l)) m
-    (λ k b. ap (λ said. ordered (k % 624) (get_or said k None)) (said_append l r)
-    ∙ ap (ordered (k % 624)) (get_or_append_left (readings l) (readings r) None k (omega (
-      arith,
-      b,
-      h,
-      length-said
-          l,
-    )))))
+stamped_front l r m h = grind (arith, latest_same, said_append, get_or_append_left, length-said)
 
 by_front : (l r : List (List ℕ)) (i : ℕ) (os : List Order) → i ≤ length l → expected_by (l ++ r) i os ≡ expected_by l
     i os
 by_front l r i [] h = refl
-by_front l r i (order ∷ older) h =
-    ap (λ front. These (states_since (order.place / 4) order.ops.states front)) (take-append-le i l r h)
+by_front l r i (order ∷ older) h = grind (arith, take-append-le)
 
 -- where the group doesn't count
 pub early : (l : List (List ℕ)) (i : ℕ) → i < 52 → expected_at l i ≡ Early
@@ -62,38 +49,22 @@ early l i m = cond-false (nat_le 52 i && nat_le (i + 4) (length l)) _ _ (and_lef
 
 pub not_whole : (l : List (List ℕ)) (i : ℕ) → length l < i + 4 → expected_at l i ≡ Early
 unfolding expected_at
-not_whole l i m =
-    cond-false (nat_le 52 i && nat_le (i + 4) (length l)) _ _ (and_right (nat_le 52 i) _ (lt-leb (i + 4) (length l) m))
+not_whole l i m = grind (arith, cond-false, and_right, lt-leb)
 
 -- where it does
 pub counts : (l : List (List ℕ)) (i : ℕ) → 52 ≤ i → i + 4 ≤ length l
     → expected_at l i ≡ expected_by l i (orders (readings l) (i - 4))
 unfolding expected_at
-counts l i m h =
-    cond-true (nat_le 52 i && nat_le (i + 4) (length l)) _ _
-    (and_from (nat_le 52 i) (nat_le (i + 4) (length l)) (le-leb 52 i m) (le-leb (i + 4) (length l) h))
+counts l i m h = grind (arith, cond-true, and_from, le-leb)
 
 expected_front : (l r : List (List ℕ)) (i : ℕ) → i + 4 ≤ length l → expected_at (l ++ r) i ≡ expected_at l i
-expected_front l r i h = by_place (cases_lt i 52)
-  where
-    by_place : (i < 52) ⊎ (52 ≤ i) → expected_at (l ++ r) i ≡ expected_at l i
-    by_place (inl m) = early (l ++ r) i m ∙ sym (early l i m)
-    by_place (inr m) =
-        counts (l ++ r) i m (omega (arith, h, length-append l r))
-        ∙ by_front l r i (orders (readings (l ++ r)) (i - 4)) (omega (arith, h))
-        ∙ ap (expected_by l i)
-        (ap (λ said. orders said (i - 4)) (said_append l r)
-        ∙ force_left (readings l) (readings r) (i - 4) (omega (arith, h, m, length-said l)))
-        ∙ sym (counts l i m h)
+expected_front l r i h =
+    grind (arith, cases_lt, early, counts, length-append, by_front, said_append, force_left, length-said)
 
 pub note_front : (l r : List (List ℕ)) (k m : ℕ) → 4 * (m / 4) + 4 ≤ length l → note_under (l ++ r) k m ≡ note_under l
     k m
 unfolding note_under
-note_front l r k m h =
-    ap (λ e. packet_note k (Some (m % 624)) e (stamped_before (l ++ r) m) (reading (get_or (l ++ r) m [])))
-    (expected_front l r (4 * (m / 4)) h)
-    ∙ ap₂ (λ s p. packet_note k (Some (m % 624)) (expected_at l (4 * (m / 4))) s (reading p))
-    (stamped_front l r m (omega (arith, h))) (get_or_append_left l r [] m (omega (arith, h)))
+note_front l r k m h = grind (arith, expected_front, stamped_front, get_or_append_left)
 
 -- ---- what is told of a packet stays
 
@@ -104,29 +75,12 @@ IsSettled d k = (a : ℕ) → anchor_of (take (k + 1) d) ≡ Some a → a + 4 * 
 pub notes_stay : (d r : List (List ℕ)) (k : ℕ) → k < length d → IsSettled d k → notes_at (d ++ r) k ≡ notes_at d k
 unfolding notes_at
 notes_stay d r k l s =
-    let here : take k (d ++ r) ≡ take k d = take-append-le k d r (omega (arith, l)) in
-    let next : take (k + 1) (d ++ r) ≡ take (k + 1) d = take-append-le (k + 1) d r (omega (arith, l)) in
-    ap₂ (λ x y. one_or_none (lock_note k (anchor_of x) (anchor_of y)) ++ one_or_none (reading_note (d ++ r) k
-    (anchor_of y)))
-    here next
-    ∙ ap (λ o. one_or_none (lock_note k (anchor_of (take k d)) (anchor_of (take (k + 1) d))) ++ one_or_none o)
-    (by_anchor (anchor_of (take (k + 1) d)) refl)
-  where
-    by_anchor : (o : Option ℕ) → anchor_of (take (k + 1) d) ≡ o → reading_note (d ++ r) k o ≡ reading_note d k o
-    by_anchor None e = ap (λ p. packet_note k None Early None (reading p)) (get_or_append_left d r [] k l)
-    by_anchor (Some a) e =
-        let long : length (take (k + 1) d) ≡ k + 1 = length-take-le (k + 1) d (omega (arith, l)) in
-        let at : a < length (take (k + 1) d) = below (take (k + 1) d) a e in
-        let whole = s a e in
-        ap (λ x. note_under x k (k - a)) (drop-append-le a d r (omega (arith, l, long, at)))
-        ∙ note_front (drop a d) r k (k - a) (omega (arith, whole, length-drop a d))
+    grind (arith, take-append-le, get_or_append_left, length-take-le, below, drop-append-le, note_front, length-drop)
 
 to_stay : (d r : List (List ℕ)) (n : ℕ) → n ≤ length d → ((k : ℕ) → k < n → IsSettled d k)
     → notes_to (d ++ r) n ≡ notes_to d n
 unfolding notes_to
-to_stay d r n l s =
-    flat_map-range_same (notes_at (d ++ r)) (notes_at d) 0 n
-    (λ k x y. notes_stay d r k (omega (arith, l, y)) (s k (omega (arith, y))))
+to_stay d r n l s = grind (arith, flat_map-range_same, notes_stay)
 
 -- ---- how the anchor stood before a packet
 
@@ -174,28 +128,19 @@ part_free d h = part_is d None h
 pub to_parts : (x : List (List ℕ)) (m n : ℕ)
     → notes_to x (m + n) ≡ notes_to x m ++ flat_map (notes_at x) (range_with_len m n)
 unfolding notes_to
-to_parts x m n =
-    let z : 0 + m ≡ m = omega arith in
-    ap (flat_map (notes_at x)) (range_with_len-parts 0 m n)
-    ∙ flat_map-append (notes_at x) (range_with_len 0 m) (range_with_len (0 + m) n)
-    ∙ ap (λ k. flat_map (notes_at x) (range_with_len 0 m) ++ flat_map (notes_at x) (range_with_len k n)) z
+to_parts x m n = grind (arith, range_with_len-parts, flat_map-append)
 
 -- of so many more packets
 told_by : (d : List (List ℕ)) (p : List ℕ) (n : ℕ)
     → length (d ++ p ∷ []) - group_part (d ++ p ∷ []) ≡ (length d - group_part d) + n
     → ((k : ℕ) → k < length d - group_part d → IsSettled d k)
     → told (d ++ p ∷ []) ≡ told d ++ flat_map (notes_at (d ++ p ∷ [])) (range_with_len (length d - group_part d) n)
-told_by d p n e s =
-    let f : ℕ → List Note = notes_at (d ++ p ∷ []) in
-    let m : ℕ = length d - group_part d in
-    ap (notes_to (d ++ p ∷ [])) e ∙ to_parts (d ++ p ∷ []) m n
-    ∙ ap (λ ys. ys ++ flat_map f (range_with_len m n)) (to_stay d (p ∷ []) m (omega arith) s)
+told_by d p n e s = grind (arith, to_parts, to_stay)
 
 -- ---- what is told of the last group under the anchor
 
 -- of its first packet, the anchor is told too where it is the first of all
-first_at : (d l : List (List ℕ)) (u : IsUnder d l) (i : ℕ) → u.anchor + i < length d
-    → notes_at d (u.anchor + i)
+first_at : (d l : List (List ℕ)) (u : IsUnder d l) (i : ℕ) → u.anchor + i < length d → notes_at d (u.anchor + i)
     ≡ cond (i == 0) ((record { packet = u.anchor + i; what = what.Lock }) ∷ []) [] ++ one_or_none (note_under l
     (u.anchor + i) i)
 unfolding notes_at
@@ -206,29 +151,21 @@ first_at d l u i h =
     let less : k - u.anchor ≡ i = omega arith in
     ap (λ o. one_or_none (lock_note k (anchor_of (take k d)) o) ++ one_or_none (reading_note d k o)) now
     ∙ ap₂ (λ x m. one_or_none (lock_note k (anchor_of (take k d)) (Some u.anchor)) ++ one_or_none (note_under x k m))
-    u.are less
-    ∙ ap (λ ns. ns ++ one_or_none (note_under l k i)) (by_place i refl h)
+    u.are less ∙ ap (λ ns. ns ++ one_or_none (note_under l k i)) (by_place i refl h)
   where
     by_place : (j : ℕ) → i ≡ j → u.anchor + i < length d
         → one_or_none (lock_note (u.anchor + i) (anchor_of (take (u.anchor + i) d)) (Some u.anchor))
         ≡ cond (j == 0) ((record { packet = u.anchor + i; what = what.Lock }) ∷ []) []
-    by_place zero e b =
-        let at : u.anchor + i ≡ u.anchor = omega (arith, e) in
-        ap (λ o. one_or_none (lock_note (u.anchor + i) o (Some u.anchor)))
-        (ap (λ n. anchor_of (take n d)) at ∙ none_before d u.anchor u.is)
-    by_place (suc j) e b =
-        ap (λ o. one_or_none (lock_note (u.anchor + i) o (Some u.anchor)))
+    by_place zero e b = grind (arith, none_before)
+    by_place (suc j) e b = ap (λ o. one_or_none (lock_note (u.anchor + i) o (Some u.anchor)))
         (since d u.anchor (u.anchor + i) u.is (omega (arith, e)) (omega (arith, b)))
         ∙ sym (cond-false (suc j == 0) ((record { packet = u.anchor + i; what = what.Lock }) ∷ []) []
         (ne_eqb (suc j) 0 (λ z. omega (arith, z))))
 
 later_at : (d l : List (List ℕ)) (u : IsUnder d l) (i : ℕ) → u.anchor + i < length d → 0 < i
     → notes_at d (u.anchor + i) ≡ one_or_none (note_under l (u.anchor + i) i)
-later_at d l u i h some =
-    first_at d l u i h
-    ∙ ap (λ ns. ns ++ one_or_none (note_under l (u.anchor + i) i))
-    (cond-false (i == 0) ((record { packet = u.anchor + i; what = what.Lock }) ∷ []) []
-    (ne_eqb i 0 (λ z. omega (arith, some, z))))
+later_at d l u i h some = first_at d l u i h ∙ ap (λ ns. ns ++ one_or_none (note_under l (u.anchor + i) i))
+    (cond-false (i == 0) ((record { packet = u.anchor + i; what = what.Lock }) ∷ []) [] (grind arith))
 
 pub group_at_end : (d l : List (List ℕ)) (u : IsUnder d l) (i n : ℕ) → length l ≡ i + suc n
     → flat_map (notes_at d) (range_with_len (u.anchor + i) (suc n)) ≡ group_notes l (u.anchor + i) i (suc n)
@@ -236,13 +173,7 @@ unfolding group_notes
 group_at_end d l u i n e =
     let k : ℕ = u.anchor + i in
     let inside = u.inside in
-    let long : length d ≡ k + suc n = omega (
-      arith,
-      e,
-      inside,
-      ap (λ (x : List (List ℕ)). length x) u.are,
-      length-drop u.anchor d,
-    ) in
+    let long : length d ≡ k + suc n = grind (arith, length-drop) in
     let g : ℕ → List Note = λ m. one_or_none (note_under l (k + m) (i + m)) in
     let k0 : k + 0 ≡ k = omega arith in
     let i0 : i + 0 ≡ i = omega arith in
@@ -291,29 +222,26 @@ settled_more d p s k h = λ a e. by_seen (seen (syncs d) (sync_of p)) (stood_bef
 
     at : (a : ℕ) (l : List (List ℕ)) → anchor_of (take (k + 1) all) ≡ Some a → under d ≡ Some l
         → under all ≡ Some (l ++ p ∷ []) → a + 4 * ((k - a) / 4) + 4 ≤ length all
-    at a l e was now = by_place (cases_lt k (length d - group_part d))
+    at a l e was now = elim (cases_lt k (length d - group_part d)) [
+      | inl m ↦ old a e m
+      | inr m ↦
+          let inside = u.inside in
+          let size : length (l ++ p ∷ []) ≡ length all - u.anchor =
+          ap (λ (x : List (List ℕ)). length x) (sym u.are) ∙ length-drop u.anchor all in
+          let one = length_push l p in
+          let x = part_under d l was in
+          let y = part_under all (l ++ p ∷ []) now in
+          let same : anchor_of (take (k + 1) all) ≡ Some u.anchor =
+          since all u.anchor (k + 1) u.is (omega (arith, m, h, inside, size, one, x, y, long)) (omega (arith, h)) in
+          let q : u.anchor ≡ a = some_same (sym same ∙ e) in
+          omega (arith, m, h, inside, size, one, x, y, long, q)
+    ]
       where
         some_same : {x y : ℕ} → ◌≡◌ {A = Option ℕ} (Some x) (Some y) → x ≡ y
         some_same e = cc
 
         u : IsUnder all (l ++ p ∷ [])
         u = is_under all (l ++ p ∷ []) now
-
-        by_place : (k < length d - group_part d) ⊎ (length d - group_part d ≤ k)
-            → a + 4 * ((k - a) / 4) + 4 ≤ length all
-        by_place (inl m) = old a e m
-        by_place (inr m) =
-            let inside = u.inside in
-            let size : length (l ++ p ∷ []) ≡ length all - u.anchor =
-            ap (λ (x : List (List ℕ)). length x) (sym u.are) ∙ length-drop u.anchor all in
-            let one = length_push l p in
-            let x = part_under d l was in
-            let y = part_under all (l ++ p ∷ []) now in
-            let same : anchor_of (take (k + 1) all) ≡ Some u.anchor =
-            since all u.anchor (k + 1) u.is (omega (arith, m, h, inside, size, one, x, y, long))
-            (omega (arith, h)) in
-            let q : u.anchor ≡ a = some_same (sym same ∙ e) in
-            omega (arith, m, h, inside, size, one, x, y, long, q)
 
     by_seen : (s : Seen) → Stood s d → Follows s p (under d) (under all) → (a : ℕ)
         → anchor_of (take (k + 1) all) ≡ Some a → a + 4 * ((k - a) / 4) + 4 ≤ length all
@@ -332,19 +260,14 @@ settled_to d (suc n) k h = by_place (cases_lt n (length d)) (settled_to d n) h
         → k < length (take (suc n) d) - group_part (take (suc n) d) → IsSettled (take (suc n) d) k
     by_place (inl l) before b =
         let e : take (suc n) d ≡ take n d ++ get_or d n [] ∷ [] = take-suc d n [] l in
-        subst (λ x. IsSettled x k) (sym e)
-        (settled_more (take n d) (get_or d n []) before k
-        (subst (λ (x : List (List ℕ)). k < length x - group_part x) e b))
+        subst (λ x. IsSettled x k) (sym e) (settled_more (take n d) (get_or d n []) before k (grind arith))
     by_place (inr l) before b =
         let e : take (suc n) d ≡ take n d = take_all (suc n) d (omega (arith, l)) ∙ sym (take_all n d l) in
-        subst (λ x. IsSettled x k) (sym e)
-        (before k (subst (λ (x : List (List ℕ)). k < length x - group_part x) e b))
+        subst (λ x. IsSettled x k) (sym e) (before k (subst (λ (x : List (List ℕ)). k < length x - group_part x) e b))
 
 pub settled : (d : List (List ℕ)) (k : ℕ) → k < length d - group_part d → IsSettled d k
-settled d k h =
-    let e : take (length d) d ≡ d = take_all (length d) d (omega arith) in
-    subst (λ x. IsSettled x k) e
-    (settled_to d (length d) k (subst (λ (x : List (List ℕ)). k < length x - group_part x) (sym e) h))
+settled d k h = subst (λ x. IsSettled x k) (take_all (length d) d (omega arith)) (settled_to d (length d) k
+    (subst (λ (x : List (List ℕ)). k < length x - group_part x) (sym (take_all (length d) d (omega arith))) h))
 
 -- ---- one packet more
 
@@ -354,14 +277,13 @@ alone_at : (d : List (List ℕ)) (p : List ℕ) → anchor_of (d ++ p ∷ []) �
     ++ one_or_none (packet_note (length d) None Early None (reading p))
 unfolding notes_at
 alone_at d p none =
-    let all : List (List ℕ) = d ++ p ∷ [] in
     let k : ℕ = length d in
-    let here : take k all ≡ d = take-append-le k d (p ∷ []) (omega arith) ∙ take_all k d (omega arith) in
-    let next : take (k + 1) all ≡ all = take_all (k + 1) all (omega (arith, length_push d p)) in
-    ap₂ (λ x o. one_or_none (lock_note k (anchor_of x) o) ++ one_or_none (reading_note all k o)) here
-    (ap anchor_of next ∙ none)
-    ∙ ap (λ q. one_or_none (lock_note k (anchor_of d) None) ++ one_or_none (packet_note k None Early None (reading q)))
-    (get_or_push d p [] k refl)
+    let here : take k (d ++ p ∷ []) ≡ d = take-append-le k d (p ∷ []) (omega arith) ∙ take_all k d (omega arith) in
+    let next : take (k + 1) (d ++ p ∷ []) ≡ (d ++ p ∷ []) = take_all (k + 1) (d ++ p ∷ [])
+    (omega (arith, length_push d p)) in
+    ap₂ (λ x o. one_or_none (lock_note k (anchor_of x) o) ++ one_or_none (reading_note (d ++ p ∷ []) k o)) here
+    (ap anchor_of next ∙ none) ∙ ap (λ q. one_or_none (lock_note k (anchor_of d) None) ++ one_or_none
+    (packet_note k None Early None (reading q))) (get_or_push d p [] k refl)
 
 -- where there is no anchor with it
 told_alone : (d : List (List ℕ)) (p : List ℕ) → under (d ++ p ∷ []) ≡ None → group_part d ≡ 0
@@ -378,19 +300,14 @@ told_alone d p now z =
 
 pub told_free : (d : List (List ℕ)) (p : List ℕ) → under d ≡ None → under (d ++ p ∷ []) ≡ None
     → told (d ++ p ∷ []) ≡ told d ++ one_or_none (packet_note (length d) None Early None (reading p))
-told_free d p was now =
-    told_alone d p now (part_free d was)
-    ∙ ap (λ o. told d ++ (one_or_none (lock_note (length d) o None)
-    ++ one_or_none (packet_note (length d) None Early None (reading p)))) (no_anchor d was)
+told_free d p was now = grind (arith, told_alone, part_free, no_anchor)
 
 pub told_lost : (d : List (List ℕ)) (p : List ℕ) → Stood Lost d → under (d ++ p ∷ []) ≡ None
     → told (d ++ p ∷ []) ≡ told d ++ ((record { packet = length d; what = what.Lost })
     ∷ one_or_none (packet_note (length d) None Early None (reading p)))
-told_lost d p was now =
-    let u : IsUnder d was.0 = is_under d was.0 was.1 in
-    told_alone d p now (part_under d was.0 was.1 ∙ was.2)
+told_lost d p was now = told_alone d p now (part_under d was.0 was.1 ∙ was.2)
     ∙ ap (λ o. told d ++ (one_or_none (lock_note (length d) o None)
-    ++ one_or_none (packet_note (length d) None Early None (reading p)))) u.is
+    ++ one_or_none (packet_note (length d) None Early None (reading p)))) (is_under d was.0 was.1).is
 
 -- where it is the anchor, or ends no group under it
 told_within : (d : List (List ℕ)) (p : List ℕ) → group_part (d ++ p ∷ []) ≡ group_part d + 1
@@ -425,11 +342,8 @@ told_group d p l i was now e w =
     let y = part_under all (l ++ p ∷ []) now in
     let at : length d - group_part d ≡ u.anchor + i = omega (arith, inside, long, one, size, x, e, w) in
     let k : u.anchor + i ≡ length d - 3 = omega (arith, inside, long, one, size, e) in
-    told_by d p 4 (omega (arith, long, x, y, one, e, w)) (settled d)
-    ∙ ap (λ ys. told d ++ ys)
-    (ap (λ n. flat_map (notes_at all) (range_with_len n 4)) at
-    ∙ group_at_end all (l ++ p ∷ []) u i 3 (omega (arith, one, e))
-    ∙ ap (λ n. group_notes (l ++ p ∷ []) n i 4) k)
+    told_by d p 4 (omega (arith, long, x, y, one, e, w)) (settled d) ∙ ap (λ ys. told d ++ ys)
+    (rw (at, group_at_end all (l ++ p ∷ []) u i 3 (omega (arith, one, e)), k))
 
 -- ---- the end
 
@@ -445,8 +359,7 @@ pub waiting_some : (d l : List (List ℕ)) (i n : ℕ) → under d ≡ Some l �
 waiting_some d l i n now e w few =
     let u : IsUnder d l = is_under d l now in
     let inside = u.inside in
-    let size : length l ≡ length d - u.anchor =
-    ap (λ (x : List (List ℕ)). length x) (sym u.are) ∙ length-drop u.anchor d in
+    let size : length l ≡ length d - u.anchor = grind (arith, length-drop) in
     let part : group_part d ≡ suc n = let x = part_under d l now in omega (arith, x, e, w, few) in
     let at : length d - group_part d ≡ u.anchor + i = omega (arith, inside, size, e, part) in
     let k : u.anchor + i ≡ length d - suc n = omega (arith, inside, size, e) in
@@ -456,9 +369,7 @@ waiting_some d l i n now e w few =
 -- all that is told is told before the end or at it
 pub all_told : (d : List (List ℕ)) → watch d ≡ told d ++ waiting d
 unfolding group_part
-all_told d =
-    let e : length d ≡ (length d - group_part d) + group_part d = by_under (under d) refl in
-    ap (notes_to d) e ∙ to_parts d (length d - group_part d) (group_part d)
+all_told d = ap (notes_to d) (by_under (under d) refl) ∙ to_parts d (length d - group_part d) (group_part d)
   where
     by_under : (o : Option (List (List ℕ))) → under d ≡ o → length d ≡ (length d - group_part d) + group_part d
     by_under None h = let x = part_free d h in omega (arith, x)
@@ -487,13 +398,10 @@ few_more d p = by_seen (seen (syncs d) (sync_of p)) (goes 0 0 d p).follows
 pub told_further : (d r : List (List ℕ)) → (more : List Note) × (told (d ++ r) ≡ told d ++ more)
 told_further d [] = ([], ap told (append-nil d) ∙ sym (append-nil (told d)))
 told_further d (p ∷ r) =
-    let all : List (List ℕ) = d ++ p ∷ [] in
-    let n : ℕ = length all - group_part all - (length d - group_part d) in
-    let rest = told_further all r in
-    let one : List Note = flat_map (notes_at all) (range_with_len (length d - group_part d) n) in (
+    let n : ℕ = length (d ++ p ∷ []) - group_part (d ++ p ∷ []) - (length d - group_part d) in
+    let rest = told_further (d ++ p ∷ []) r in
+    let one : List Note = flat_map (notes_at (d ++ p ∷ [])) (range_with_len (length d - group_part d) n) in (
       one ++ rest.0,
-      ap told (sym (append_assoc d (p ∷ []) r)) ∙ rest.1
-          ∙ ap (λ ns. ns ++ rest.0)
-          (told_by d p n (omega (arith, few_more d p, length_push d p)) (settled d))
-          ∙ append_assoc (told d) one rest.0,
+      ap told (sym (append_assoc d (p ∷ []) r)) ∙ rest.1 ∙ ap (λ ns. ns ++ rest.0)
+          (told_by d p n (omega (arith, few_more d p, length_push d p)) (settled d)) ∙ append_assoc (told d) one rest.0,
     )

@@ -1,7 +1,6 @@
 -- Lemmas of a watcher's text: that of more notes goes on behind, and its words are those of its notes.
 use Rattle.std.proofs.Common.{◌≡◌, ℕ, zero, suc, ◌+◌, ◌/◌, ◌%◌, ◌≤◌, ◌==◌, Bool, true, false, cond, List, [], ◌∷◌, ◌++◌}
-use Rattle.std.proofs.Common.{map, refl, sym, ap, ap₂, ◌∙◌, arith, codes, decimal, nat_lt, ne_eqb, append-nil}
-use Rattle.std.proofs.Common.{append_assoc}
+use Rattle.std.proofs.Common.{map, refl, sym, ap, ap₂, ◌∙◌, arith, codes, decimal, append-nil, append_assoc}
 use Rattle.std.specs.Fmt.{digits, digits_onto, digit_glyph}
 use Rattle.std.specs.List.{All, AllByRecursion, flat_map, slice_split}
 use Rattle.std.proofs.lemmas.Grind.{flat_map-append}
@@ -39,8 +38,7 @@ either_word false xs ys h k = k
 digits_word : (k n : ℕ) (acc : List ℕ) → IsWord acc → IsWord (digits_onto k 10 false n acc)
 digits_word zero n acc h = h
 digits_word (suc k) n acc h =
-    let last : IsWord (digit_glyph false (n % 10) ∷ acc) =
-    All-cons (λ b. 33 ≤ b) (digit_glyph false (n % 10)) acc (glyph (nat_lt (n % 10) 10) (n % 10)) h in
+    let last : IsWord (digit_glyph false (n % 10) ∷ acc) = grind (arith, All-cons, glyph) in
     either_word (n / 10 == 0) (digit_glyph false (n % 10) ∷ acc)
     (digits_onto k 10 false (n / 10) (digit_glyph false (n % 10) ∷ acc)) last
     (digits_word k (n / 10) (digit_glyph false (n % 10) ∷ acc) last)
@@ -53,51 +51,33 @@ pub spelled : (word : List ℕ) → AllByRecursion (λ b. 33 ≤ b) word → IsW
 spelled word h = All-from_recursion (λ b. 33 ≤ b) word h
 
 first_is : (w : NoteKind) → IsWord (first_word w)
-first_is what.Lock =
-    spelled (codes "lock") (omega arith, (omega arith, (omega arith, (omega arith, tt))))
-first_is what.Lost =
-    spelled (codes "lost") (omega arith, (omega arith, (omega arith, (omega arith, tt))))
-first_is (what.Unread refusal) =
-    spelled (codes "unread")
-    (omega arith, (omega arith, (omega arith, (omega arith, (omega arith, (omega arith, tt))))))
+first_is what.Lock = spelled (codes "lock") (omega arith, (omega arith, (omega arith, (omega arith, tt))))
+first_is what.Lost = spelled (codes "lost") (omega arith, (omega arith, (omega arith, (omega arith, tt))))
+first_is (what.Unread refusal) = grind (arith, spelled)
 first_is (what.Stray frame index) =
     spelled (codes "stray") (omega arith, (omega arith, (omega arith, (omega arith, (omega arith, tt)))))
-first_is (what.Ops o) =
-    spelled (codes "ops") (omega arith, (omega arith, (omega arith, tt)))
+first_is (what.Ops o) = spelled (codes "ops") (omega arith, (omega arith, (omega arith, tt)))
 
 states_is : (s : StatesNote) → IsWord (states_word s)
-states_is states.Early =
-    spelled (codes "early") (omega arith, (omega arith, (omega arith, (omega arith, (omega arith, tt)))))
+states_is states.Early = grind (arith, spelled)
 states_is states.First =
     spelled (codes "first") (omega arith, (omega arith, (omega arith, (omega arith, (omega arith, tt)))))
 states_is states.Right =
     spelled (codes "right") (omega arith, (omega arith, (omega arith, (omega arith, (omega arith, tt)))))
-states_is states.Slip =
-    spelled (codes "slip") (omega arith, (omega arith, (omega arith, (omega arith, tt))))
+states_is states.Slip = spelled (codes "slip") (omega arith, (omega arith, (omega arith, (omega arith, tt))))
 
 clock_is : (c : ClockNote) → IsWord (clock_word c)
-clock_is clock.First =
-    spelled (codes "first") (omega arith, (omega arith, (omega arith, (omega arith, (omega arith, tt)))))
+clock_is clock.First = grind (arith, spelled)
 clock_is clock.Right =
     spelled (codes "right") (omega arith, (omega arith, (omega arith, (omega arith, (omega arith, tt)))))
-clock_is clock.Jump =
-    spelled (codes "jump") (omega arith, (omega arith, (omega arith, (omega arith, tt))))
+clock_is clock.Jump = spelled (codes "jump") (omega arith, (omega arith, (omega arith, (omega arith, tt))))
 
 later_are : (k : ℕ) (w : NoteKind) → AllByRecursion IsWord (later_words k w)
 later_are k what.Lock = (number k, tt)
 later_are k what.Lost = (number k, tt)
 later_are k (what.Unread refusal) = (number k, (number _, tt))
 later_are k (what.Stray frame index) = (number k, (number frame, (number index, tt)))
-later_are k (what.Ops o) = (
-  number k,
-  (
-    number o.frame,
-    (
-      number o.index,
-      (number o.stamp, (number o.max_delay, (number o.listed, (states_is o.states, (clock_is o.clock, tt))))),
-    ),
-  ),
-)
+later_are k (what.Ops o) = grind (arith, number, states_is, clock_is)
 
 -- ---- a line
 
@@ -106,36 +86,27 @@ abbrev pub spaced : List (List ℕ) → List ℕ
 spaced words = flat_map (λ word. 32 ∷ word) words
 
 no_space : (word : List ℕ) → IsWord word → All (λ b. (b == 32) ≡ false) word
-no_space word h =
-    All-weaker (λ b. 33 ≤ b) (λ b. (b == 32) ≡ false) (λ b l. ne_eqb b 32 (λ e. omega (arith, l, e))) word h
+no_space word h = grind (arith, All-weaker)
 
 pub words_cut : (word : List ℕ) (words : List (List ℕ)) → IsWord word → AllByRecursion IsWord words
     → slice_split (λ b. b == 32) (word ++ spaced words) ≡ word ∷ words
-words_cut word [] h k =
-    ap (slice_split (λ b. b == 32)) (append-nil word) ∙ slice_split_none (λ b. b == 32) word (no_space word h)
-words_cut word (next ∷ words) h k =
-    slice_split_at (λ b. b == 32) word 32 (next ++ spaced words) (no_space word h) refl
+words_cut word [] h k = grind (arith, append-nil, slice_split_none, no_space)
+words_cut word (next ∷ words) h k = slice_split_at (λ b. b == 32) word 32 (next ++ spaced words) (no_space word h) refl
     ∙ ap (λ rest. word ∷ rest) (words_cut next words k.0 k.1)
 
 -- no line feed is in it
 spaced_long : (words : List (List ℕ)) → AllByRecursion IsWord words → All (λ b. 32 ≤ b) (spaced words)
 spaced_long [] h = All-nil (λ b. 32 ≤ b)
-spaced_long (word ∷ words) h =
-    All-append (λ b. 32 ≤ b) (32 ∷ word) (spaced words)
-    (All-cons (λ b. 32 ≤ b) 32 word (omega arith)
-    (All-weaker (λ b. 33 ≤ b) (λ b. 32 ≤ b) (λ b l. omega (arith, l)) word h.0))
-    (spaced_long words h.1)
+spaced_long (word ∷ words) h = All-append (λ b. 32 ≤ b) (32 ∷ word) (spaced words)
+    (All-cons (λ b. 32 ≤ b) 32 word (omega arith) (grind (arith, All-weaker))) (spaced_long words h.1)
 
 pub one_line : (word : List ℕ) (words : List (List ℕ)) → IsWord word → AllByRecursion IsWord words
     → All (λ b. (b == 10) ≡ false) (word ++ spaced words)
-one_line word words h k =
-    All-weaker (λ b. 32 ≤ b) (λ b. (b == 10) ≡ false) (λ b l. ne_eqb b 10 (λ e. omega (arith, l, e)))
-    (word ++ spaced words)
+one_line word words h k = All-weaker (λ b. 32 ≤ b) (λ b. (b == 10) ≡ false) (λ b l. grind arith) (word ++ spaced words)
     (All-append (λ b. 32 ≤ b) word (spaced words)
     (All-weaker (λ b. 33 ≤ b) (λ b. 32 ≤ b) (λ b l. omega (arith, l)) word h) (spaced_long words k))
 
-line_is : (k : ℕ) (w : NoteKind)
-    → note_head k w ++ note_end w ≡ (first_word w ++ spaced (later_words k w)) ++ 10 ∷ []
+line_is : (k : ℕ) (w : NoteKind) → note_head k w ++ note_end w ≡ (first_word w ++ spaced (later_words k w)) ++ 10 ∷ []
 line_is k what.Lock = refl
 line_is k what.Lost = refl
 line_is k (what.Unread refusal) = refl
@@ -144,9 +115,7 @@ line_is k (what.Ops o) =
     let numbers : List (List ℕ) =
     decimal k ∷ decimal o.frame ∷ decimal o.index ∷ decimal o.stamp ∷ decimal o.max_delay ∷ decimal o.listed ∷ [] in
     let ends : List (List ℕ) = states_word o.states ∷ clock_word o.clock ∷ [] in
-    ap (λ z. (codes "ops" ++ spaced numbers) ++ 32 ∷ z)
-    (sym (append_assoc (states_word o.states) (32 ∷ (clock_word o.clock ++ [])) (10 ∷ [])
-    ∙ ap (λ z. states_word o.states ++ 32 ∷ z) (ap (λ z. z ++ 10 ∷ []) (append-nil (clock_word o.clock)))))
+    ap (λ z. (codes "ops" ++ spaced numbers) ++ 32 ∷ z) (grind (arith, append-nil))
     ∙ sym (append_assoc (codes "ops" ++ spaced numbers) (spaced ends) (10 ∷ []))
     ∙ ap (λ z. z ++ 10 ∷ []) (append_assoc (codes "ops") (spaced numbers) (spaced ends)
     ∙ ap (λ z. codes "ops" ++ z) (sym (flat_map-append (λ word. 32 ∷ word) numbers ends)))
@@ -164,9 +133,6 @@ words_of-watch_text (note ∷ notes) =
     let rest : List ℕ = watch_text notes in
     let text : watch_text (note ∷ notes) ≡ line ++ 10 ∷ rest =
     ap (λ z. z ++ rest) (line_is note.packet note.what) ∙ append_assoc line (10 ∷ []) rest in
-    ap words_of_lines text
-    ∙ ap (map (slice_split (λ b. b == 32)))
-    (slice_split_at (λ b. b == 10) line 10 rest
+    ap words_of_lines text ∙ ap (map (slice_split (λ b. b == 32))) (slice_split_at (λ b. b == 10) line 10 rest
     (one_line word words (first_is note.what) (later_are note.packet note.what)) refl)
-    ∙ ap₂ (λ ws more. ws ∷ more) (words_cut word words (first_is note.what) (later_are note.packet note.what))
-    (words_of-watch_text notes)
+    ∙ ap₂ (λ ws more. ws ∷ more) (grind (arith, words_cut, first_is, later_are)) (words_of-watch_text notes)
