@@ -1,6 +1,5 @@
 -- What symbols become is a signed byte.
-use Rattle.std.proofs.Common.{◌≡◌, ◌≤◌, ℤ, pos, negsuc, ◌-ℤ◌, ◌*ℤ◌, nat_abs, Bool, true, false, cond, arith, to_z, of_z}
-use Rattle.std.proofs.Common.{w8}
+use Rattle.std.proofs.Common.{◌≡◌, ◌≤◌, ℤ, pos, negsuc, ◌-ℤ◌, ◌*ℤ◌, nat_abs, arith, to_z, of_z, w8}
 use Rattle.std.specs.Int.{int_max, int_min}
 use Rattle.std.proofs.lemmas.Int.{clamps, ints}
 use Rattle.dtx_level.specs.Levelled.{By, level, levelled_symbol, nearest}
@@ -13,11 +12,7 @@ unfolding levelled_symbol
 symbol_small g o x = bounds_small (nearest (pos 40 *ℤ (pos 132612 *ℤ x -ℤ o)) g)
 
 pub level_small : (by : By) (x : ℤ) → nat_abs (level by x) ≤ 127
-level_small by x = by_begun by.begun
-  where
-    by_begun : (b : Bool) → nat_abs (cond b (levelled_symbol by.gain by.constant x) (pos 0)) ≤ 127
-    by_begun true = symbol_small by.gain by.constant x
-    by_begun false = omega arith
+level_small by x = grind (arith, symbol_small)
 
 pub same_byte : (z : ℤ) → nat_abs z ≤ 127 → to_z w8 (of_z w8 z) ≡ z
 same_byte z l = omega (arith, ints, l)

@@ -1,7 +1,6 @@
 -- What all symbols give that a leveller stands for.
-use Rattle.std.proofs.Common.{◌≡◌, ℕ, ℤ, pos, ◌+◌, ◌-◌, ◌<◌, refl, ap, ◌∙◌, arith, List, map, length, sym, subst}
-use Rattle.std.proofs.Common.{Bool, [], ◌∷◌, ◌++◌, true, false, ◌||◌, cond, take, drop, ap₂, Some, None, filter, not}
-use Rattle.std.proofs.Common.{replicate}
+use Rattle.std.proofs.Common.{◌≡◌, ℕ, ℤ, pos, ◌+◌, ◌-◌, ◌<◌, refl, ap, ◌∙◌, arith, List, map, length, sym, subst, Bool}
+use Rattle.std.proofs.Common.{[], ◌∷◌, ◌++◌, true, false, ◌||◌, cond, ap₂, Some, None, filter, not, replicate}
 use Rattle.std.proofs.Math.Seq.{drop-append-add, take-append-add}
 use Rattle.std.proofs.lemmas.Bool.{cond-true, cond-false, lt-leb, true≢false, false≢true}
 use Rattle.std.proofs.lemmas.List.{append-nil, map-append, take_all}
@@ -12,9 +11,8 @@ use Rattle.dtx_level.proofs.Steps.{by_closed}
 use Rattle.dtx_level.proofs.StretchesBehind.{levelled_alone, levelled_last}
 use Rattle.dtx_level.proofs.SyncsBehind.{unmet, all_last, no_syncs}
 use Rattle.dtx_level.proofs.Tallies.{last_more, last_some, met_last, tally_after}
-use Rattle.dtx_level.specs.Levelled.{levelled_symbol, levelled_so_far, nothing, By, by_sync, level, last_behind}
-use Rattle.dtx_level.specs.Levelled.{last_of, known, levelled, levelled_behind, levelled_rest, where_some}
-use Rattle.dtx_level.specs.Levelled.{known_behind, stretches}
+use Rattle.dtx_level.specs.Levelled.{levelled_so_far, nothing, By, level, last_behind, known, levelled, levelled_behind}
+use Rattle.dtx_level.specs.Levelled.{levelled_rest, stretches}
 use Rattle.dtx_level.specs.Leveller.{Holding, StandsFor, all_given, as_list, where_wanted, IsTally, slip_after}
 use Rattle.dtx_level.specs.Leveller.{Leaves, places_of, shown, are_some, closed, cleared, stretched}
 use Rattle.dtx_level.specs.Measures.{later_by, measure_at, measures_rest, measures_where}
@@ -55,15 +53,11 @@ pub measures_now : (holding : Holding) (symbols done : List ℤ) (told : List Me
     → (wanted : Bool → Bool) → measures_where wanted symbols
     ≡ where_wanted (wanted true) told ++ map (later_by (length done)) (measures_where wanted holding.held)
 measures_now holding symbols done told h wanted =
-    ap (measures_where wanted) (sym (append-nil symbols)) ∙ h.measures wanted []
-    ∙ ap (λ (xs : List ℤ). where_wanted (wanted true) told ++ map (later_by (length done)) (measures_where wanted xs))
-    (append-nil holding.held)
+    rw (← append-nil symbols, h.measures wanted [], append-nil holding.held)
 
 levelled_now : (holding : Holding) (symbols done : List ℤ) (told : List Measure) → Leaves holding symbols done told
     → levelled_behind nothing symbols ≡ done ++ levelled_behind holding.by holding.held
-levelled_now holding symbols done told h =
-    ap (levelled_behind nothing) (sym (append-nil symbols)) ∙ h.levelled []
-    ∙ ap (λ (xs : List ℤ). done ++ levelled_behind holding.by xs) (append-nil holding.held)
+levelled_now holding symbols done told h = rw (← append-nil symbols, h.levelled [], append-nil holding.held)
 
 syncs_now : (holding : Holding) (symbols done : List ℤ) (told : List Measure) → Leaves holding symbols done told
     → all_syncs symbols ≡ places_of told ++ map (λ i. length done + i) (all_syncs holding.held)
@@ -71,8 +65,7 @@ syncs_now holding symbols done told h =
     sym (places_all symbols) ∙ ap places_of (measures_now holding symbols done told h (λ met. true))
     ∙ map-append (λ (x : Measure). x.place) told
     (map (later_by (length done)) (measures_where (λ met. true) holding.held))
-    ∙ ap (λ xs. places_of told ++ xs) (places_later (length done) (measures_where (λ met. true) holding.held)
-    ∙ ap (map (λ i. length done + i)) (places_all holding.held))
+    ∙ ap (λ xs. places_of told ++ xs) (grind (arith, places_later, places_all))
 
 pub few_none : (v : List ℤ) → length v < 832 → all_syncs v ≡ []
 few_none v l = no_syncs v (least_none shows past_end v 0 (λ i m n. absurd (omega arith)))
@@ -85,36 +78,23 @@ known_some : (symbols done rest : List ℤ) → levelled_behind nothing symbols 
     → (levelled_so_far symbols ≡ done) × (levelled_rest symbols ≡ rest)
 unfolding levelled_so_far levelled_rest levelled
 known_some symbols done rest e k xs x s =
-    let all : where_some (all_syncs symbols) (levelled_behind nothing symbols) ≡ done ++ rest =
-    ap (λ ys. where_some ys (levelled_behind nothing symbols)) s ∙ e in
-    let none : length done ≡ length done + 0 = omega arith in (
-      ap₂ take k all ∙ ap (λ n. take n (done ++ rest)) none ∙ take-append-add done rest 0 ∙ append-nil done,
-      ap₂ drop k all ∙ ap (λ n. drop n (done ++ rest)) none ∙ drop-append-add done rest 0,
-    )
+    let none : length done ≡ length done + 0 = omega arith in
+    (grind (arith, take-append-add, append-nil, drop-append-add))
 
 pub known_none : (symbols : List ℤ) → all_syncs symbols ≡ []
     → (levelled_so_far symbols ≡ []) × (levelled_rest symbols ≡ [])
 unfolding levelled_so_far levelled_rest levelled known
-known_none symbols e =
-    let k : known_behind symbols (last_of (all_syncs symbols)) ≡ 0 =
-    ap (λ (xs : List ℕ). known_behind symbols (last_of xs)) e in
-    let all : where_some (all_syncs symbols) (levelled_behind nothing symbols) ≡ [] =
-    ap (λ xs. where_some xs (levelled_behind nothing symbols)) e in
-    (ap₂ take k all, ap₂ drop k all)
+known_none symbols e = grind arith
 
 known_at : (symbols : List ℤ) (places : List ℕ) (p : ℕ) → all_syncs symbols ≡ places ++ p ∷ []
     → is_met symbols p ≡ false → known symbols ≡ p
 unfolding known
-known_at symbols places p e m =
-    ap (λ (xs : List ℕ). known_behind symbols (last_of xs)) e ∙ ap (known_behind symbols) (last_more None places p)
-    ∙ cond-false (is_met symbols p) (length symbols - 831) p m
+known_at symbols places p e m = grind (arith, last_more, cond-false)
 
 known_past : (symbols : List ℤ) (places : List ℕ) (x q : ℕ) → all_syncs symbols ≡ x ∷ places
     → last_behind (Some x) places ≡ Some q → is_met symbols q ≡ true → known symbols ≡ length symbols - 831
 unfolding known
-known_past symbols places x q e l m =
-    ap (λ (xs : List ℕ). known_behind symbols (last_of xs)) e ∙ ap (known_behind symbols) l
-    ∙ cond-true (is_met symbols q) (length symbols - 831) q m
+known_past symbols places x q e l m = grind (arith, cond-true)
 
 not_met : (symbols : List ℤ) (k n p : ℕ) → k + n ≡ length symbols → n < 261248 → p ≡ k + 0 → is_met symbols p ≡ false
 unfolding is_met
@@ -127,13 +107,11 @@ pub record IsKnown (holding : Holding) (symbols done : List ℤ) : Type 0 where
   pub rest : levelled_rest symbols ≡ shown holding (levelled_behind holding.by holding.held)
 
 known_by : (holding : Holding) (symbols : List ℤ) (h : StandsFor holding symbols) (on begun : Bool)
-    → holding.on ≡ on → holding.by.begun ≡ begun
-    → (levelled_so_far symbols ≡ cond (on || begun) h.done [])
+    → holding.on ≡ on → holding.by.begun ≡ begun → (levelled_so_far symbols ≡ cond (on || begun) h.done [])
     × (levelled_rest symbols ≡ cond (on || begun) (levelled_behind holding.by holding.held) [])
 known_by holding symbols h true begun e f =
     let one : all_syncs symbols ≡ places_of h.told ++ (length h.done + 0) ∷ [] =
-    syncs_now holding symbols h.done h.told h.leaves
-    ∙ ap (λ xs. places_of h.told ++ map (λ i. length h.done + i) xs) (all_last holding.held h.few (h.front e)) in
+    rw (syncs_now holding symbols h.done h.told h.leaves, all_last holding.held h.few (h.front e)) in
     let k : known symbols ≡ length h.done + 0 = known_at symbols (places_of h.told) (length h.done + 0) one
     (not_met symbols (length h.done) (length holding.held) (length h.done + 0) h.leaves.long h.few refl) in
     by_places (places_of h.told) one (k ∙ zero_more (length h.done))
@@ -154,8 +132,7 @@ known_by holding symbols h false true e f =
     ∙ append-nil (places_of h.told))
   where
     none_open : syncs_where not symbols ≡ []
-    none_open =
-        sym (places_where not symbols) ∙ ap places_of (measures_now holding symbols h.done h.told h.leaves not
+    none_open = sym (places_where not symbols) ∙ ap places_of (measures_now holding symbols h.done h.told h.leaves not
         ∙ ap (map (later_by (length h.done))) (measures_none not holding.held (few_none holding.held (h.off e))))
 
     by_told : (told : List Measure) → are_some told ≡ true → all_syncs symbols ≡ places_of told
@@ -166,9 +143,7 @@ known_by holding symbols h false true e f =
         let met : is_met symbols last.0 ≡ true = met_last (is_met symbols) last.0 (places_of told) x.place
         (sym (ap (filter (λ p. not (is_met symbols p))) s) ∙ open_none symbols none_open) last.1 in
         known_some symbols h.done (levelled_behind holding.by holding.held)
-        (levelled_now holding symbols h.done h.told h.leaves)
-        (known_past symbols (places_of told) x.place last.0 s last.1 met
-        ∙ omega (arith, h.leaves.long, h.rest e f)) (places_of told) x.place s
+        (levelled_now holding symbols h.done h.told h.leaves) (grind (arith, known_past)) (places_of told) x.place s
 known_by holding symbols h false false e f =
     by_told h.told (sym h.leaves.begun_is ∙ f) (syncs_now holding symbols h.done h.told h.leaves
     ∙ ap (λ xs. places_of h.told ++ map (λ i. length h.done + i) xs) (few_none holding.held (h.off e))
@@ -179,8 +154,7 @@ known_by holding symbols h false false e f =
     by_told [] a s = known_none symbols s
     by_told (x ∷ told) a s = absurd (false≢true (sym a))
 
-pub known_are : (holding : Holding) (symbols : List ℤ) (h : StandsFor holding symbols)
-    → IsKnown holding symbols h.done
+pub known_are : (holding : Holding) (symbols : List ℤ) (h : StandsFor holding symbols) → IsKnown holding symbols h.done
 known_are holding symbols h =
     let is = known_by holding symbols h holding.on holding.by.begun refl refl in
     record { so_far = is.0; rest = is.1 }
@@ -192,15 +166,11 @@ measures_short v l = none (all_syncs v)
   where
     none : (xs : List ℕ) → map (measure_at v) (filter (λ p. is_met v p) xs) ≡ []
     none [] = refl
-    none (p ∷ xs) =
-        ap (map (measure_at v)) (cond-false (is_met v p) (p ∷ filter (λ q. is_met v q) xs) (filter (λ q. is_met v q) xs)
-        (unmet v p l))
-        ∙ none xs
+    none (p ∷ xs) = ap (map (measure_at v)) (grind (arith, cond-false, unmet)) ∙ none xs
 
 pub measures_known : (holding : Holding) (symbols : List ℤ) (h : StandsFor holding symbols)
     → measures_where (λ met. met) symbols ≡ h.told
-measures_known holding symbols h =
-    measures_now holding symbols h.done h.told h.leaves (λ met. met)
+measures_known holding symbols h = measures_now holding symbols h.done h.told h.leaves (λ met. met)
     ∙ ap (λ xs. h.told ++ map (later_by (length h.done)) xs) (measures_short holding.held h.few)
     ∙ append-nil h.told
 
@@ -218,11 +188,9 @@ ended_by : (h new : Holding) (symbols : List ℤ) → StandsFor h symbols
     → all_given new ≡ shown h (levelled_behind h.by h.held)
     → as_list new.measured ≡ map (later_by (h.symbols - length h.held)) (measures_rest h.held)
     → ((places : List ℕ) → IsTally h.syncs h.slips h.last places → IsTally new.syncs new.slips new.last
-    (places ++ map (λ i. (h.symbols - length h.held) + i) (all_syncs h.held)))
-    → IsEnded new symbols
+    (places ++ map (λ i. (h.symbols - length h.held) + i) (all_syncs h.held))) → IsEnded new symbols
 ended_by h new symbols s given measured tally =
-    let place : h.symbols - length h.held ≡ length s.done =
-    omega (arith, s.leaves.symbols_are, s.leaves.long) in
+    let place : h.symbols - length h.held ≡ length s.done = omega (arith, s.leaves.symbols_are, s.leaves.long) in
     let all = syncs_now h symbols s.done s.told s.leaves
     ∙ ap (λ k. places_of s.told ++ map (λ i. k + i) (all_syncs h.held)) (sym place) in
     let t = tally (places_of s.told) s.leaves.tally in
@@ -235,11 +203,8 @@ ended_by h new symbols s given measured tally =
     }
 
 pub ended : (h : Holding) (symbols : List ℤ) → StandsFor h symbols → IsEnded (closed (cleared h)) symbols
-ended h symbols s =
-    by_closed (λ new. IsEnded new symbols) (cleared h) on
-    (λ e f. off e _ _ (ap (map (level h.by)) (take_all (length h.held) h.held (omega arith))
-    ∙ sym (cond-true h.by.begun _ [] f)))
-    (λ e f. off e _ _ (sym (cond-false h.by.begun _ [] f)))
+ended h symbols s = by_closed (λ new. IsEnded new symbols) (cleared h) on (λ e f. off e _ _
+    (grind (arith, take_all, cond-true))) (λ e f. off e _ _ (sym (cond-false h.by.begun _ [] f)))
   where
     k : ℕ
     k = h.symbols - length h.held
@@ -249,10 +214,7 @@ ended h symbols s =
     on e =
         let one = all_last h.held s.few (s.front e) in
         let same : k + 0 ≡ k = omega arith in
-        ended_by h _ symbols s
-        (ap (map (level (by_sync h.held 0))) (take_all (length h.held) h.held (omega arith))
-        ∙ sym (levelled_last h.by h.held one)
-        ∙ sym (ap (λ b. cond (b || h.by.begun) (levelled_behind h.by h.held) []) e))
+        ended_by h _ symbols s (grind (arith, take_all, levelled_last))
         (ap (map (later_by k)) (sym (measures_last not h.held s.few (s.front e))))
         (λ places t. subst (λ (xs : List ℕ). IsTally (h.syncs + 1) (h.slips + slip_after h.syncs h.last k) k
         (places ++ xs)) (ap (λ p. p ∷ []) (sym same) ∙ ap (map (λ i. k + i)) (sym one))
@@ -263,8 +225,7 @@ ended h symbols s =
         → IsEnded (record h { held = held; given = given; zeros = 0; measured = None }) symbols
     off e held given g =
         let open_none = few_none h.held (s.off e) in
-        ended_by h _ symbols s
-        (g ∙ ap (λ xs. cond h.by.begun xs []) (sym (levelled_alone h.by h.held open_none))
+        ended_by h _ symbols s (g ∙ ap (λ xs. cond h.by.begun xs []) (sym (levelled_alone h.by h.held open_none))
         ∙ sym (ap (λ b. cond (b || h.by.begun) (levelled_behind h.by h.held) []) e))
         (ap (map (later_by k)) (sym (measures_none not h.held open_none)))
         (λ places t. subst (IsTally h.syncs h.slips h.last)
@@ -273,15 +234,13 @@ ended h symbols s =
 -- by nothing all become 0
 same_level : (by : By) (xs : List ℤ) → by.begun ≡ false → map (level nothing) xs ≡ map (level by) xs
 same_level by [] e = refl
-same_level by (x ∷ xs) e =
-    ap₂ ◌∷◌ (sym (ap (λ b. cond b (levelled_symbol by.gain by.constant x) (pos 0)) e)) (same_level by xs e)
+same_level by (x ∷ xs) e = ap₂ ◌∷◌ (sym (grind arith)) (same_level by xs e)
 
 same_stretches : (v : List ℤ) (places : List ℕ) (by : By) → by.begun ≡ false
     → stretches nothing v 0 places ≡ stretches by v 0 places
 unfolding stretches
 same_stretches v [] by e = same_level by v e
-same_stretches v (p ∷ places) by e =
-    ap (λ xs. xs ++ stretches (by_sync v p) v p places) (same_level by (take (p - 0) v) e)
+same_stretches v (p ∷ places) by e = grind (arith, same_level)
 
 first_by : (more : List ℤ) (by : By) → by.begun ≡ false → levelled_behind nothing more ≡ levelled_behind by more
 unfolding levelled_behind
@@ -314,15 +273,7 @@ stands_first new held off none silent symbols syncs slips = record {
   where
     later_none : (xs : List Measure) → map (later_by 0) xs ≡ xs
     later_none [] = refl
-    later_none (x ∷ xs) =
-        let there : 0 + x.place ≡ x.place = omega arith in
-        ap₂ ◌∷◌ (ap (λ n. record {
-          place = n;
-          second = x.second;
-          gain = x.gain;
-          constant = x.constant;
-          noise = x.noise;
-        }) there) (later_none xs)
+    later_none (x ∷ xs) = ap₂ ◌∷◌ (grind arith) (later_none xs)
 
     empty : (b : Bool) (xs : List Measure) → xs ≡ where_wanted b [] ++ xs
     empty true xs = refl

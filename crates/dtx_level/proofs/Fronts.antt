@@ -1,7 +1,6 @@
 -- Symbols in front of which no place shows a sync.
-use Rattle.std.proofs.Common.{◌≡◌, ℕ, ℤ, pos, ◌+◌, ◌-◌, ◌%◌, ◌<◌, true, false, cond, eqb, Option, Some, None}
-use Rattle.std.proofs.Common.{option_map, List}
-use Rattle.std.proofs.Common.{[], ◌∷◌, ◌++◌, length, map, replicate, refl, ap, ap₂, ◌∙◌, arith}
+use Rattle.std.proofs.Common.{◌≡◌, ℕ, ℤ, pos, ◌+◌, ◌<◌, true, false, Option, Some, None, option_map, List, [], ◌∷◌}
+use Rattle.std.proofs.Common.{◌++◌, length, map, replicate, refl, ap, ap₂, ◌∙◌, arith}
 use Rattle.dtx_level.specs.Shown.{shows}
 use Rattle.dtx_level.specs.Syncs.{all_syncs, slip_behind, slips_behind}
 use Rattle.dtx_level.specs.Levelled.{levelled, levelled_behind, nothing, where_some}
@@ -13,9 +12,7 @@ use Rattle.dtx_level.proofs.Taking.{silent_level}
 
 slip_later : (k : ℕ) (o : Option ℕ) (p : ℕ) → slip_behind (option_map (λ i. k + i) o) (k + p) ≡ slip_behind o p
 slip_later k None p = refl
-slip_later k (Some q) p =
-    let far : k + p - (k + q) ≡ p - q = omega arith in
-    ap (λ n. cond (eqb (n % 260416) 0) 0 1) far
+slip_later k (Some q) p = grind arith
 
 slips_later : (k : ℕ) (o : Option ℕ) (places : List ℕ)
     → slips_behind (option_map (λ i. k + i) o) (map (λ i. k + i) places) ≡ slips_behind o places
@@ -33,11 +30,8 @@ levelled_later front v (p ∷ places) e = e
 pub later_is : (front v : List ℤ) → ((p : ℕ) → p < length front → shows (front ++ v) p ≡ false) → IsLater front v
 unfolding levelled
 later_is front v h = record {
-  levelled_is =
-      ap (λ xs. where_some xs (levelled_behind nothing (front ++ v))) (all_skip front v h)
-      ∙ levelled_later front v (all_syncs v)
-      (levelled_skip nothing front v h
-      ∙ ap (λ xs. xs ++ levelled_behind nothing v) (silent_level nothing front refl));
+  levelled_is = ap (λ xs. where_some xs (levelled_behind nothing (front ++ v))) (all_skip front v h)
+      ∙ levelled_later front v (all_syncs v) (grind (arith, levelled_skip, silent_level));
   measures_are = measures_skip (λ met. true) front v h;
   slips_are = ap (slips_behind None) (all_skip front v h) ∙ slips_later (length front) None (all_syncs v);
 }

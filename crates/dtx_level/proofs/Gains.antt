@@ -1,7 +1,6 @@
 -- A gain and a constant undone, symbol by symbol.
-use Rattle.std.proofs.Common.{◌≡◌, ◌≢◌, ℕ, ℤ, pos, negsuc, neg_ℤ, zero, suc, ◌+◌, ◌-◌, ◌*◌, ◌/◌, ◌<◌, ◌≤◌, ◌+ℤ◌, ◌-ℤ◌}
-use Rattle.std.proofs.Common.{◌*ℤ◌, nat_abs, refl, ap, ◌∙◌, arith}
-use Rattle.std.specs.Prelude.{int_lt}
+use Rattle.std.proofs.Common.{◌≡◌, ◌≢◌, ℕ, ℤ, pos, negsuc, neg_ℤ, zero, suc, ◌+◌, ◌-◌, ◌*◌, ◌<◌, ◌≤◌, ◌+ℤ◌, ◌-ℤ◌, ◌*ℤ◌}
+use Rattle.std.proofs.Common.{nat_abs, refl, ap, ◌∙◌, arith}
 use Rattle.std.specs.Int.{int_div_euclid, int_max, int_min}
 use Rattle.std.proofs.lemmas.Bool.{cond-true, cond-false, le-ltb}
 use Rattle.std.proofs.lemmas.Int.{clamps, ints}
@@ -14,19 +13,12 @@ use Rattle.dtx_level.specs.Measures.{constant_in_hundredths, gain_in_hundredths}
 -- of a multiple
 next_up : (k g : ℕ) → 0 < g → next_whole (pos (k * g)) (pos g) ≡ pos k
 unfolding next_whole
-next_up k g l =
-    let two : 2 * (k * g) ≡ k * (2 * g) = omega arith in
-    ap (λ x. pos ((x + g) / (2 * g))) two ∙ ap pos (div-mul-add k (2 * g) g (omega arith))
+next_up k g l = grind (arith, div-mul-add)
 
 -- of a multiple below 0
 next_down : (j g m : ℕ) → 0 < g → suc m ≡ suc j * g → next_whole (negsuc m) (pos g) ≡ negsuc j
 unfolding next_whole
-next_down j g m l e =
-    let long : m + 1 ≡ j * g + g = omega (arith, e) in
-    let double : pos 2 *ℤ negsuc m +ℤ pos g ≡ negsuc (2 * (j * g) + (g - 1)) = omega (arith, ints, long, l) in
-    let two : 2 * (j * g) ≡ j * (2 * g) = omega arith in
-    ap (λ x. int_div_euclid x (pos (2 * g))) double
-    ∙ ap (λ x. negsuc ((x + (g - 1)) / (2 * g))) two ∙ ap negsuc (div-mul-add j (2 * g) (g - 1) (omega arith))
+next_down j g m l e = grind (arith, ints, div-mul-add)
 
 -- what is divided
 abbrev number : ℤ → ℤ → ℤ → ℤ
@@ -34,15 +26,11 @@ number a b s = pos 40 *ℤ (pos 132612 *ℤ (a *ℤ s +ℤ b) -ℤ pos 132612 *�
 
 nearest_above : (n : ℤ) (g : ℕ) → nearest n (pos g) ≡ next_whole n (pos g)
 unfolding nearest
-nearest_above n g =
-    cond-false (int_lt (pos g) (pos 0)) (next_whole (neg_ℤ n) (neg_ℤ (pos g))) (next_whole n (pos g))
-    (le-ltb g 0 (omega arith))
+nearest_above n g = grind (arith, cond-false, le-ltb)
 
 nearest_below : (n g : ℤ) (m h : ℕ) → g ≡ negsuc m → neg_ℤ g ≡ pos h → nearest n g ≡ next_whole (neg_ℤ n) (pos h)
 unfolding nearest
-nearest_below n g m h e f =
-    cond-true (int_lt g (pos 0)) (next_whole (neg_ℤ n) (neg_ℤ g)) (next_whole n g) (ap (λ x. int_lt x (pos 0)) e)
-    ∙ ap (next_whole (neg_ℤ n)) f
+nearest_below n g m h e f = grind (arith, cond-true)
 
 -- ---- a symbol
 
@@ -50,28 +38,24 @@ undone : (a b s : ℤ) → a ≢ pos 0 → nearest (number a b s) (pos 663060 *�
 undone (pos zero) b s n = absurd (n refl)
 undone (pos (suc a)) b (pos s) n =
     let g = 663060 * suc a in
-    let is : number (pos (suc a)) b (pos s) ≡ pos (8 * s * g) = omega (arith, ints) in
-    nearest_above (number (pos (suc a)) b (pos s)) g ∙ ap (λ x. next_whole x (pos g)) is
+    nearest_above (number (pos (suc a)) b (pos s)) g ∙ ap (λ x. next_whole x (pos g)) (omega (arith, ints))
     ∙ next_up (8 * s) g (omega arith)
 undone (pos (suc a)) b (negsuc s) n =
     let g = 663060 * suc a in
-    let is : number (pos (suc a)) b (negsuc s) ≡ negsuc (suc (8 * s + 7) * g - 1) = omega (arith, ints) in
     let eight : negsuc (8 * s + 7) ≡ pos 8 *ℤ negsuc s = omega (arith, ints) in
-    nearest_above (number (pos (suc a)) b (negsuc s)) g ∙ ap (λ x. next_whole x (pos g)) is
+    nearest_above (number (pos (suc a)) b (negsuc s)) g ∙ ap (λ x. next_whole x (pos g)) (omega (arith, ints))
     ∙ next_down (8 * s + 7) g (suc (8 * s + 7) * g - 1) (omega arith) (omega arith) ∙ eight
 undone (negsuc a) b (pos s) n =
     let g = 663060 * suc a in
     let is : neg_ℤ (number (negsuc a) b (pos s)) ≡ pos (8 * s * g) = omega (arith, ints) in
     nearest_below (number (negsuc a) b (pos s)) (pos 663060 *ℤ negsuc a) (g - 1) g (omega (arith, ints))
-    (omega (arith, ints))
-    ∙ ap (λ x. next_whole x (pos g)) is ∙ next_up (8 * s) g (omega arith)
+    (omega (arith, ints)) ∙ ap (λ x. next_whole x (pos g)) is ∙ next_up (8 * s) g (omega arith)
 undone (negsuc a) b (negsuc s) n =
     let g = 663060 * suc a in
     let is : neg_ℤ (number (negsuc a) b (negsuc s)) ≡ negsuc (suc (8 * s + 7) * g - 1) = omega (arith, ints) in
     let eight : negsuc (8 * s + 7) ≡ pos 8 *ℤ negsuc s = omega (arith, ints) in
     nearest_below (number (negsuc a) b (negsuc s)) (pos 663060 *ℤ negsuc a) (g - 1) g (omega (arith, ints))
-    (omega (arith, ints))
-    ∙ ap (λ x. next_whole x (pos g)) is
+    (omega (arith, ints)) ∙ ap (λ x. next_whole x (pos g)) is
     ∙ next_down (8 * s + 7) g (suc (8 * s + 7) * g - 1) (omega arith) (omega arith) ∙ eight
 
 within_bounds : (y : ℤ) → nat_abs y ≤ 127 → int_max (negsuc 126) (int_min y (pos 127)) ≡ y
@@ -80,22 +64,13 @@ within_bounds y l = omega (arith, ints, clamps, l)
 pub symbol_undone : (a b s : ℤ) → a ≢ pos 0 → nat_abs s ≤ 15
     → levelled_symbol (pos 663060 *ℤ a) (pos 132612 *ℤ b) (a *ℤ s +ℤ b) ≡ pos 8 *ℤ s
 unfolding levelled_symbol
-symbol_undone a b s n l =
-    ap (λ y. int_max (negsuc 126) (int_min y (pos 127))) (undone a b s n)
-    ∙ within_bounds (pos 8 *ℤ s) (omega (arith, ints, l))
+symbol_undone a b s n l = grind (arith, undone, within_bounds, ints)
 
 -- ---- hundredths
 
 hundredths_is : (x c : ℤ) → x ≡ pos 13261200 *ℤ c → int_div_euclid (x +ℤ pos 66306) (pos 132612) ≡ pos 100 *ℤ c
-hundredths_is x (pos c) e =
-    let is : x +ℤ pos 66306 ≡ pos (13261200 * c + 66306) = omega (arith, ints, e) in
-    let div : (13261200 * c + 66306) / 132612 ≡ 100 * c = omega arith in
-    ap (λ y. int_div_euclid y (pos 132612)) is ∙ ap pos div
-hundredths_is x (negsuc c) e =
-    let is : x +ℤ pos 66306 ≡ negsuc (13261200 * c + 13194893) = omega (arith, ints, e) in
-    let div : (13261200 * c + 13194893) / 132612 ≡ 100 * c + 99 = omega arith in
-    let hundred : negsuc (100 * c + 99) ≡ pos 100 *ℤ negsuc c = omega (arith, ints) in
-    ap (λ y. int_div_euclid y (pos 132612)) is ∙ ap negsuc div ∙ hundred
+hundredths_is x (pos c) e = grind (arith, ints)
+hundredths_is x (negsuc c) e = grind (arith, ints)
 
 pub gain_undone : (a : ℤ) → gain_in_hundredths (pos 663060 *ℤ a) ≡ pos 100 *ℤ a
 unfolding gain_in_hundredths

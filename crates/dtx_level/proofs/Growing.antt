@@ -90,8 +90,7 @@ wanted_all (p ∷ places) = ap (λ xs. p ∷ xs) (wanted_all places)
 
 unmet_measured : (v : List ℤ) → length v < 261248 → measures_where not v ≡ measures v
 unfolding measures_where syncs_where
-unmet_measured v few =
-    ap (map (measure_at v)) (unmet_all v (all_syncs v) few ∙ sym (wanted_all (all_syncs v)))
+unmet_measured v few = ap (map (measure_at v)) (unmet_all v (all_syncs v) few ∙ sym (wanted_all (all_syncs v)))
 
 -- the syncs behind which the next is looked for, and the last one behind which it isn't, are all
 pub measured_in_parts : (symbols : List ℤ) → measures_so_far symbols ++ measures_rest symbols ≡ measures symbols

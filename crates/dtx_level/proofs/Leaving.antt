@@ -24,20 +24,11 @@ use Rattle.dtx_level.specs.declared.measure.Measure.{Measure}
 -- ---- lists
 
 split_at : (k : ℕ) (h more : List ℤ) → take k h ++ (drop k h ++ more) ≡ h ++ more
-split_at k h more =
-    sym (append_assoc (take k h) (drop k h) more) ∙ ap (λ xs. xs ++ more) (take-append-drop k h)
+split_at k h more = sym (append_assoc (take k h) (drop k h) more) ∙ ap (λ xs. xs ++ more) (take-append-drop k h)
 
 later_twice : (a b : ℕ) (xs : List Measure) → map (later_by a) (map (later_by b) xs) ≡ map (later_by (a + b)) xs
 later_twice a b [] = refl
-later_twice a b (x ∷ xs) =
-    let there : a + (b + x.place) ≡ a + b + x.place = omega arith in
-    ap₂ ◌∷◌ (ap (λ n. record {
-      place = n;
-      second = x.second;
-      gain = x.gain;
-      constant = x.constant;
-      noise = x.noise;
-    }) there) (later_twice a b xs)
+later_twice a b (x ∷ xs) = ap₂ ◌∷◌ (grind arith) (later_twice a b xs)
 
 wanted_both : (b : Bool) (xs ys zs : List Measure)
     → where_wanted b xs ++ (where_wanted b ys ++ zs) ≡ where_wanted b (xs ++ ys) ++ zs
@@ -76,33 +67,22 @@ pub record IsSought (symbols : List ℤ) (count : ℕ) : Type 0 where
 
 sought_none : (h more : List ℤ) (count : ℕ) → IsSought h count
     → (p : ℕ) → p < length (take count h) → shows (take count h ++ (drop count h ++ more)) p ≡ false
-sought_none h more count s p l =
-    let long : length (take count h) ≡ count = length-take-le count h s.within in
-    let w = s.none p (omega (arith, long)) in
-    ap (λ (xs : List ℤ). shows xs p) (split_at count h more) ∙ shows_front h more p w.0 ∙ w.1
+sought_none h more count s p l = grind (arith, length-take-le, split_at, shows_front)
 
 measures_sought : (h more : List ℤ) (count : ℕ) → IsSought h count → (wanted : Bool → Bool)
     → measures_where wanted (h ++ more) ≡ map (later_by count) (measures_where wanted (drop count h ++ more))
-measures_sought h more count s wanted =
-    ap (measures_where wanted) (sym (split_at count h more))
+measures_sought h more count s wanted = ap (measures_where wanted) (sym (split_at count h more))
     ∙ measures_skip wanted (take count h) (drop count h ++ more) (sought_none h more count s)
     ∙ ap (λ n. map (later_by n) (measures_where wanted (drop count h ++ more))) (length-take-le count h s.within)
 
 levelled_sought : (by : By) (h more : List ℤ) (count : ℕ) → IsSought h count
     → levelled_behind by (h ++ more) ≡ map (level by) (take count h) ++ levelled_behind by (drop count h ++ more)
-levelled_sought by h more count s =
-    ap (levelled_behind by) (sym (split_at count h more))
-    ∙ levelled_skip by (take count h) (drop count h ++ more) (sought_none h more count s)
+levelled_sought by h more count s = grind (arith, split_at, levelled_skip, sought_none)
 
 -- how long it is then
 length_more : (done : List ℤ) (f : ℤ → ℤ) (count : ℕ) (h : List ℤ) → count ≤ length h
     → length (done ++ map f (take count h)) ≡ length done + count
-length_more done f count h l = omega (
-  arith,
-  length-append done (map f (take count h)),
-  length-map (take count h) f,
-  length-take-le count h l,
-)
+length_more done f count h l = grind (arith, length-append, length-map, length-take-le)
 
 pub leaves_sought : (h : Holding) (count : ℕ) (on : Bool) (silent zeros : ℕ) (given symbols done : List ℤ)
     (told : List Measure) → Leaves h symbols done told → IsSought h.held count
@@ -143,19 +123,13 @@ met_full h more l = le-leb 261248 (length (h ++ more)) (omega (arith, length-app
 next_split : (count : ℕ) (h more : List ℤ) → count ≤ length h → IsNext count h
     → behind (take count h ++ (drop count h ++ more)) 0
     ≡ option_map (λ i. length (take count h) + i) (least_shown (drop count h ++ more) 0)
-next_split count h more l next =
-    ap (λ (xs : List ℤ). behind xs 0) (split_at count h more) ∙ next more
-    ∙ ap (λ n. option_map (λ i. n + i) (least_shown (drop count h ++ more) 0)) (sym (length-take-le count h l))
+next_split count h more l next = grind (arith, split_at, length-take-le)
 
-shows_split : (count : ℕ) (h more : List ℤ) → shows h 0 ≡ true
-    → shows (take count h ++ (drop count h ++ more)) 0 ≡ true
-shows_split count h more s =
-    ap (λ (xs : List ℤ). shows xs 0) (split_at count h more)
-    ∙ shows_front h more 0 (whole_there shows past_end h 0 s) ∙ s
+shows_split : (count : ℕ) (h more : List ℤ) → shows h 0 ≡ true → shows (take count h ++ (drop count h ++ more)) 0 ≡ true
+shows_split count h more s = rw (split_at count h more, shows_front h more 0 (whole_there shows past_end h 0 s), s)
 
 measures_settled : (h more : List ℤ) (count : ℕ) → length h ≡ 261248 → shows h 0 ≡ true → 0 < count
-    → count ≤ length h → IsNext count h → (wanted : Bool → Bool)
-    → measures_where wanted (h ++ more)
+    → count ≤ length h → IsNext count h → (wanted : Bool → Bool) → measures_where wanted (h ++ more)
     ≡ where_wanted (wanted true) (measure_at h 0 ∷ [])
     ++ map (later_by count) (measures_where wanted (drop count h ++ more))
 measures_settled h more count full s some l next wanted =
@@ -163,23 +137,18 @@ measures_settled h more count full s some l next wanted =
     ap (measures_where wanted) (sym (split_at count h more))
     ∙ measures_next wanted (take count h) (drop count h ++ more) (shows_split count h more s)
     (ap (λ (xs : List ℤ). is_met xs 0) (split_at count h more) ∙ met_full h more full)
-    (omega (arith, long)) (next_split count h more l next)
-    ∙ ap₂ (λ (x : Measure) n. where_wanted (wanted true) (x ∷ [])
+    (omega (arith, long)) (next_split count h more l next) ∙ ap₂ (λ (x : Measure) n. where_wanted (wanted true) (x ∷ [])
     ++ map (later_by n) (measures_where wanted (drop count h ++ more)))
-    (ap (λ (xs : List ℤ). measure_at xs 0) (split_at count h more)
-    ∙ measure_front h more 0 (whole_there shows past_end h 0 s)) long
+    (grind (arith, split_at, measure_front, whole_there)) long
 
 levelled_settled : (by : By) (h more : List ℤ) (count : ℕ) → shows h 0 ≡ true → 0 < count → count ≤ length h
-    → IsNext count h
-    → levelled_behind by (h ++ more)
+    → IsNext count h → levelled_behind by (h ++ more)
     ≡ map (level (by_sync h 0)) (take count h) ++ levelled_behind (by_sync h 0) (drop count h ++ more)
 levelled_settled by h more count s some l next =
     let long = length-take-le count h l in
     let there = whole_there shows past_end h 0 s in
-    ap (levelled_behind by) (sym (split_at count h more))
-    ∙ levelled_next by (take count h) (drop count h ++ more)
-    (all_next (take count h) (drop count h ++ more) (shows_split count h more s) (omega (arith, long))
-    (next_split count h more l next))
+    ap (levelled_behind by) (sym (split_at count h more)) ∙ levelled_next by (take count h) (drop count h ++ more)
+    (grind (arith, all_next, shows_split, next_split))
     ∙ ap (λ (x : By). map (level x) (take count h) ++ levelled_behind x (drop count h ++ more))
     (ap (λ (xs : List ℤ). by_sync xs 0) (split_at count h more) ∙ by_front h more 0 (omega (arith, there)))
 
@@ -188,16 +157,12 @@ levelled_settled by h more count s some l next =
 behind_full : (h more : List ℤ) → length h ≡ 261248
     → behind (h ++ more) 0 ≡ cond (shows (h ++ more) 260416) (Some 260416) (least_shown (h ++ more) 832)
 unfolding behind
-behind_full h more l =
-    cond-true (is_met (h ++ more) 0) (cond (shows (h ++ more) 260416) (Some 260416) (least_shown (h ++ more) 832)) None
-    (met_full h more l)
+behind_full h more l = grind (arith, cond-true, met_full)
 
 -- where it is due
 next_due : (h : List ℤ) → length h ≡ 261248 → shows h 260416 ≡ true → IsNext 260416 h
-next_due h l d more =
-    behind_full h more l
-    ∙ cond-true (shows (h ++ more) 260416) (Some 260416) (least_shown (h ++ more) 832)
-    (shows_front h more 260416 (omega (arith, l)) ∙ d)
+next_due h l d more = behind_full h more l
+    ∙ cond-true (shows (h ++ more) 260416) (Some 260416) (least_shown (h ++ more) 832) (grind (arith, shows_front))
     ∙ ap (option_map (λ i. 260416 + i)) (sym (least_here shows past_end (drop 260416 h ++ more) 0
     (shows_front (drop 260416 h) more 0 (omega (arith, length-drop 260416 h, l))
     ∙ shows_dropped h 260416 0 (omega (arith, l)) ∙ d)))
@@ -217,17 +182,14 @@ searched h k l d some most none more =
     ∙ least_shown_behind (take k h) (drop k h ++ more) 0
     ∙ ap (λ n. option_map (λ i. n + i) (least_shown (drop k h ++ more) 0)) long
 
-next_found : (h : List ℤ) (k : ℕ) → length h ≡ 261248 → shows h 260416 ≡ false → least_shown h 832 ≡ Some k
-    → IsNext k h
+next_found : (h : List ℤ) (k : ℕ) → length h ≡ 261248 → shows h 260416 ≡ false → least_shown h 832 ≡ Some k → IsNext k h
 next_found h k l d e =
     let is = least_gives shows h 832 k e in
     let there = whole_there shows past_end h k is.passes in
     searched h k l d (omega (arith, is.least)) (omega (arith, there, l)) (λ i m n. is.before i m n)
 
-next_none : (h : List ℤ) → length h ≡ 261248 → shows h 260416 ≡ false → least_shown h 832 ≡ None
-    → IsNext 260417 h
-next_none h l d e =
-    searched h 260417 l d (omega arith) (omega arith) (λ i m n. least_misses shows past_end h 832 i e m)
+next_none : (h : List ℤ) → length h ≡ 261248 → shows h 260416 ≡ false → least_shown h 832 ≡ None → IsNext 260417 h
+next_none h l d e = searched h 260417 l d (omega arith) (omega arith) (λ i m n. least_misses shows past_end h 832 i e m)
 
 -- behind the symbols of the step
 next_is : (h : List ℤ) → length h ≡ 261248 → IsNext (step_at h).count h
@@ -246,8 +208,7 @@ next_is h full = by_due (shows h 260416) refl
 -- ---- the sync in front is settled
 
 pub leaves_settled : (h : Holding) (symbols done : List ℤ) (told : List Measure) → Leaves h symbols done told
-    → length h.held ≡ 261248 → shows h.held 0 ≡ true
-    → Leaves (stretched h (step_at h.held)) symbols
+    → length h.held ≡ 261248 → shows h.held 0 ≡ true → Leaves (stretched h (step_at h.held)) symbols
     (done ++ map (level (by_sync h.held 0)) (take (step_at h.held).count h.held))
     (told ++ later_by (h.symbols - length h.held) (measure_at h.held 0) ∷ [])
 unfolding measure_at
@@ -278,8 +239,7 @@ leaves_settled h symbols done told l full s =
       long = omega (arith, far, length-drop count h.held, is.most, l.long);
       begun_is = sym (some_more told (later_by (h.symbols - length h.held) (measure_at h.held 0)));
       tally = subst (IsTally (h.syncs + 1) (h.slips + slip_after h.syncs h.last (h.symbols - length h.held))
-          (h.symbols - length h.held))
-          (sym (map-append (λ (x : Measure). x.place) told
+          (h.symbols - length h.held)) (sym (map-append (λ (x : Measure). x.place) told
           (later_by (h.symbols - length h.held) (measure_at h.held 0) ∷ [])
           ∙ ap (λ n. places_of told ++ n ∷ []) none))
           (tally_after h.syncs h.slips h.last (h.symbols - length h.held) (places_of told) l.tally);

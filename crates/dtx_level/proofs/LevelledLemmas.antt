@@ -1,9 +1,8 @@
 -- What is levelled and measured of a capture, piece by piece and whole.
-use Rattle.std.proofs.Common.{◌≡◌, ℕ, ℤ, List, [], ◌++◌, true, ap, arith}
+use Rattle.std.proofs.Common.{◌≡◌, ℤ, List, [], ◌++◌, arith}
 use Rattle.std.proofs.lemmas.List.{take-append-drop}
 use Rattle.dtx_level.specs.Syncs.{all_syncs}
-use Rattle.dtx_level.specs.Levelled.{known, levelled, levelled_behind, levelled_rest, levelled_so_far, nothing}
-use Rattle.dtx_level.specs.Levelled.{where_some}
+use Rattle.dtx_level.specs.Levelled.{known, levelled, levelled_rest, levelled_so_far}
 use Rattle.dtx_level.specs.Measures.{IsGrown, measures, measures_rest, measures_so_far}
 use Rattle.dtx_level.proofs.Ending.{few_none, known_none}
 use Rattle.dtx_level.proofs.Growing.{grows, measured_in_parts}
@@ -11,8 +10,7 @@ use Rattle.dtx_level.proofs.MeasuresBehind.{measures_none}
 
 -- of no symbols
 pub none_so_far : (levelled_so_far [] ≡ []) × (measures_so_far [] ≡ [])
-none_so_far =
-    ((known_none [] (few_none [] (omega arith))).0, measures_none (λ met. met) [] (few_none [] (omega arith)))
+none_so_far = ((known_none [] (few_none [] (omega arith))).0, measures_none (λ met. met) [] (few_none [] (omega arith)))
 
 -- of more symbols
 pub so_far_grows : (symbols more : List ℤ) → IsGrown symbols more
@@ -29,7 +27,4 @@ all_are_measured = measured_in_parts
 -- where there is no sync
 pub none_levelled : (symbols : List ℤ) → all_syncs symbols ≡ [] → (levelled symbols ≡ []) × (measures symbols ≡ [])
 unfolding levelled
-none_levelled symbols none = (
-  ap (λ (places : List ℕ). where_some places (levelled_behind nothing symbols)) none,
-  measures_none (λ met. true) symbols none,
-)
+none_levelled symbols none = grind (arith, measures_none)

@@ -7,7 +7,7 @@ use Rattle.dtx_acquire.specs.Agreement.{is_second}
 use Rattle.dtx_acquire.specs.Acquired.{is_met}
 use Rattle.dtx_level.specs.declared.measure.Measure.{Measure}
 use Rattle.dtx_level.specs.Shown.{least_shown, shows}
-use Rattle.dtx_level.specs.Syncs.{all_syncs, behind, syncs_where}
+use Rattle.dtx_level.specs.Syncs.{all_syncs, behind}
 use Rattle.dtx_level.specs.Levelled.{By, by_sync, level}
 use Rattle.dtx_level.specs.Measures.{constant_in_hundredths, gain_in_hundredths, later_by, levelled_sync, measure_at}
 use Rattle.dtx_level.specs.Measures.{measures_where, noise}
@@ -18,26 +18,19 @@ use Rattle.dtx_level.proofs.SyncsBehind.{places_where, where_last, where_next, w
 -- ---- one sync
 
 pub by_behind : (front v : List ℤ) (t : ℕ) → by_sync (front ++ v) (length front + t) ≡ by_sync v t
-by_behind front v t =
-    ap₂ (λ (g o : ℤ). record { begun = true; gain = g; constant = o }) (gain_behind front v t)
-    (constant_behind front v t)
+by_behind front v t = grind (arith, gain_behind, constant_behind)
 
 pub by_front : (h more : List ℤ) (t : ℕ) → t + 515 ≤ length h → by_sync (h ++ more) t ≡ by_sync h t
-by_front h more t l =
-    ap₂ (λ (g o : ℤ). record { begun = true; gain = g; constant = o }) (gain_front h more t l)
-    (constant_front h more t l)
+by_front h more t l = grind (arith, gain_front, constant_front)
 
 sync_behind : (front v : List ℤ) (t : ℕ) → levelled_sync (front ++ v) (length front + t) ≡ levelled_sync v t
 unfolding levelled_sync
-sync_behind front v t =
-    ap₂ (λ (by : By) (xs : List ℤ). map (level by) (take 832 xs)) (by_behind front v t) (drop-append-add front v t)
+sync_behind front v t = grind (arith, by_behind, drop-append-add)
 
 sync_front : (h more : List ℤ) (t : ℕ) → t + 832 ≤ length h → levelled_sync (h ++ more) t ≡ levelled_sync h t
 unfolding levelled_sync
-sync_front h more t l =
-    ap₂ (λ (by : By) (xs : List ℤ). map (level by) xs) (by_front h more t (omega arith))
-    (ap (take 832) (drop-append-le t h more (omega arith))
-    ∙ take-append-le 832 (drop t h) more (omega (arith, length-drop t h)))
+sync_front h more t l = ap₂ (λ (by : By) (xs : List ℤ). map (level by) xs) (by_front h more t (omega arith))
+    (rw (drop-append-le t h more (omega arith), take-append-le 832 (drop t h) more (omega (arith, length-drop t h))))
 
 -- how a sync stands by what it is levelled, and so levelled
 abbrev pub measured : ℕ → By → List ℤ → Measure
@@ -53,24 +46,13 @@ measured place by segment = record {
 pub measure_is : (m : Measure) (place : ℕ) (by : By) (segment : List ℤ) → m.place ≡ place
     → m.second ≡ is_second segment → m.gain ≡ gain_in_hundredths by.gain
     → m.constant ≡ constant_in_hundredths by.constant → m.noise ≡ noise segment 515 → m ≡ measured place by segment
-measure_is m place by segment p s g o n =
-    ap₂ (λ x y. record { place = x; second = y; gain = m.gain; constant = m.constant; noise = m.noise }) p s
-    ∙ ap₂ (λ x y. record { place = place; second = is_second segment; gain = x; constant = y; noise = m.noise }) g o
-    ∙ ap (λ x. record {
-      place = place;
-      second = is_second segment;
-      gain = gain_in_hundredths by.gain;
-      constant = constant_in_hundredths by.constant;
-      noise = x;
-    }) n
+measure_is m place by segment p s g o n = grind arith
 
 -- the first of some symbols, levelled by a sync in front
 pub front_levelled : (held : List ℤ) (count : ℕ) → 832 ≤ count
     → take 832 (map (level (by_sync held 0)) (take count held)) ≡ levelled_sync held 0
 unfolding levelled_sync
-front_levelled held count l =
-    take-map (level (by_sync held 0)) 832 (take count held)
-    ∙ ap (map (level (by_sync held 0))) (take-take 832 count held l)
+front_levelled held count l = rw (take-map (level (by_sync held 0)) 832 (take count held), take-take 832 count held l)
 
 pub later_measured : (held : List ℤ) (k : ℕ)
     → later_by k (measure_at held 0) ≡ measured (k + 0) (by_sync held 0) (levelled_sync held 0)
@@ -88,8 +70,7 @@ measure_front h more t l = ap₂ (measured t) (by_front h more t (omega arith)) 
 
 -- ---- all
 
-mapped : (front v : List ℤ) (places : List ℕ)
-    → map (measure_at (front ++ v)) (map (λ i. length front + i) places)
+mapped : (front v : List ℤ) (places : List ℕ) → map (measure_at (front ++ v)) (map (λ i. length front + i) places)
     ≡ map (later_by (length front)) (map (measure_at v) places)
 mapped front v [] = refl
 mapped front v (p ∷ places) = ap₂ ◌∷◌ (measure_behind front v p) (mapped front v places)
@@ -98,8 +79,7 @@ pub measures_skip : (wanted : Bool → Bool) (front v : List ℤ)
     → ((p : ℕ) → p < length front → shows (front ++ v) p ≡ false)
     → measures_where wanted (front ++ v) ≡ map (later_by (length front)) (measures_where wanted v)
 unfolding measures_where
-measures_skip wanted front v h =
-    ap (map (measure_at (front ++ v))) (where_skip wanted front v h) ∙ mapped front v (syncs_where wanted v)
+measures_skip wanted front v h = grind (arith, where_skip, mapped)
 
 one_where : (b : Bool) (f : ℕ → Measure) → map f (places_where b (0 ∷ [])) ≡ where_wanted b (f 0 ∷ [])
 one_where true f = refl
@@ -107,22 +87,16 @@ one_where false f = refl
 
 pub measures_next : (wanted : Bool → Bool) (front v : List ℤ) → shows (front ++ v) 0 ≡ true
     → is_met (front ++ v) 0 ≡ true → 0 < length front
-    → behind (front ++ v) 0 ≡ option_map (λ i. length front + i) (least_shown v 0)
-    → measures_where wanted (front ++ v)
+    → behind (front ++ v) 0 ≡ option_map (λ i. length front + i) (least_shown v 0) → measures_where wanted (front ++ v)
     ≡ where_wanted (wanted true) (measure_at (front ++ v) 0 ∷ [])
     ++ map (later_by (length front)) (measures_where wanted v)
 unfolding measures_where
-measures_next wanted front v h met some e =
-    ap (map (measure_at (front ++ v))) (where_next wanted front v h met some e)
-    ∙ map-append (measure_at (front ++ v)) (places_where (wanted true) (0 ∷ []))
-    (map (λ i. length front + i) (syncs_where wanted v))
-    ∙ ap₂ ◌++◌ (one_where (wanted true) (measure_at (front ++ v))) (mapped front v (syncs_where wanted v))
+measures_next wanted front v h met some e = grind (arith, where_next, map-append, places_where, one_where, mapped)
 
 pub measures_last : (wanted : Bool → Bool) (v : List ℤ) → length v < 261248 → shows v 0 ≡ true
     → measures_where wanted v ≡ where_wanted (wanted false) (measure_at v 0 ∷ [])
 unfolding measures_where
-measures_last wanted v l h =
-    ap (map (measure_at v)) (where_last wanted v l h) ∙ one_where (wanted false) (measure_at v)
+measures_last wanted v l h = ap (map (measure_at v)) (where_last wanted v l h) ∙ one_where (wanted false) (measure_at v)
 
 pub measures_none : (wanted : Bool → Bool) (v : List ℤ) → all_syncs v ≡ [] → measures_where wanted v ≡ []
 unfolding measures_where

@@ -1,8 +1,6 @@
 -- What places show of symbols behind others, and in front of others.
-use Rattle.std.proofs.Common.{◌≡◌, ℕ, ℤ, pos, ◌+◌, ◌*ℤ◌, ◌+ℤ◌, ◌-ℤ◌, ◌<◌, ◌≤◌, Bool, true, false, ◌&&◌}
-use Rattle.std.proofs.Common.{◌||◌, option_map}
-use Rattle.std.proofs.Common.{cond, leb, List, ◌++◌, length, sum, take, drop, get_or, sym, ap, ap₂, ◌∙◌, arith}
-use Rattle.std.proofs.Common.{length-append}
+use Rattle.std.proofs.Common.{◌≡◌, ℕ, ℤ, pos, ◌+◌, ◌<◌, ◌≤◌, Bool, true, false, option_map, List, ◌++◌, length, sum}
+use Rattle.std.proofs.Common.{take, drop, sym, ap, ap₂, ◌∙◌, arith, length-append}
 use Rattle.std.proofs.lemmas.Bool.{le-leb, lt-leb, true≢false}
 use Rattle.std.proofs.lemmas.List.{get_or_append_left, length-take-le, take-append-drop}
 use Rattle.dtx_lists.proofs.Range.{map-range_same}
@@ -17,10 +15,7 @@ use Rattle.dtx_level.specs.Shown.{are_shown, constant, counted_at, gain, least_s
 pub shows_by : (symbols : List ℤ) (place n : ℕ) (g : ℤ) → place + 832 ≤ length symbols → n ≡ unlike symbols place 0 515
     → g ≡ gain symbols place → are_shown n g ≡ shows symbols place
 unfolding shows
-shows_by symbols place n g l e f =
-    ap₂ are_shown e f
-    ∙ sym (ap (λ b. b && are_shown (unlike symbols place 0 515) (gain symbols place))
-    (le-leb (place + 832) (length symbols) l))
+shows_by symbols place n g l e f = grind (arith, le-leb)
 
 -- no place shows a sync at which there is no segment
 pub past_end : NeedsSegment shows
@@ -32,85 +27,65 @@ past_end symbols place l =
 
 unlike_at_front : (h more : List ℤ) (p i : ℕ) → p + i < length h → unlike_at (h ++ more) p i ≡ unlike_at h p i
 unfolding unlike_at
-unlike_at_front h more p i l =
-    ap (λ x. cond (are_unlike (is_plus x) (sync_sign i)) 1 0) (get_or_append_left h more (pos 0) (p + i) l)
+unlike_at_front h more p i l = grind (arith, get_or_append_left)
 
 unlike_front : (h more : List ℤ) (p : ℕ) → p + 515 ≤ length h → unlike (h ++ more) p 0 515 ≡ unlike h p 0 515
 unfolding unlike
-unlike_front h more p l =
-    ap sum (map-range_same (unlike_at (h ++ more) p) (unlike_at h p) 0 515
+unlike_front h more p l = ap sum (map-range_same (unlike_at (h ++ more) p) (unlike_at h p) 0 515
     (λ i a b. unlike_at_front h more p i (omega arith)))
 
 counted_front : (plus : Bool) (h more : List ℤ) (p i : ℕ) → p + i < length h
     → counted_at plus (h ++ more) p i ≡ counted_at plus h p i
 unfolding counted_at
-counted_front plus h more p i l =
-    ap (λ x. cond (are_unlike (sync_sign i) plus) (pos 0) x) (get_or_append_left h more (pos 0) (p + i) l)
+counted_front plus h more p i l = grind (arith, get_or_append_left)
 
 sum_front : (plus : Bool) (h more : List ℤ) (p n : ℕ) → p + n ≤ length h
     → sum_where plus (h ++ more) p n ≡ sum_where plus h p n
 unfolding sum_where
-sum_front plus h more p n l =
-    ap total (map-range_same (counted_at plus (h ++ more) p) (counted_at plus h p) 0 n
-    (λ i a b. counted_front plus h more p i (omega arith)))
+sum_front plus h more p n l = grind (arith, map-range_same, counted_front)
 
 pub gain_front : (h more : List ℤ) (p : ℕ) → p + 515 ≤ length h → gain (h ++ more) p ≡ gain h p
 unfolding gain
-gain_front h more p l =
-    ap₂ (λ a b. pos 257 *ℤ a -ℤ pos 258 *ℤ b) (sum_front true h more p 515 l) (sum_front false h more p 515 l)
+gain_front h more p l = grind (arith, sum_front)
 
 pub constant_front : (h more : List ℤ) (p : ℕ) → p + 515 ≤ length h → constant (h ++ more) p ≡ constant h p
 unfolding constant
-constant_front h more p l =
-    ap₂ (λ a b. pos 257 *ℤ a +ℤ pos 258 *ℤ b) (sum_front true h more p 515 l) (sum_front false h more p 515 l)
+constant_front h more p l = grind (arith, sum_front)
 
 pub shows_front : (h more : List ℤ) (p : ℕ) → p + 832 ≤ length h → shows (h ++ more) p ≡ shows h p
 unfolding shows
-shows_front h more p l =
-    ap₂ ◌&&◌
-    (le-leb (p + 832) (length (h ++ more)) (omega (arith, length-append h more)) ∙ sym (le-leb (p + 832) (length h) l))
-    (ap₂ are_shown (unlike_front h more p (omega arith)) (gain_front h more p (omega arith)))
+shows_front h more p l = grind (arith, le-leb, length-append, unlike_front, gain_front)
 
 -- ---- behind others
 
 counted_behind : (plus : Bool) (front v : List ℤ) (p i : ℕ)
     → counted_at plus (front ++ v) (length front + p) i ≡ counted_at plus v p i
 unfolding counted_at
-counted_behind plus front v p i =
-    let there : length front + p + i ≡ length front + (p + i) = omega arith in
-    ap (λ x. cond (are_unlike (sync_sign i) plus) (pos 0) x)
-    (ap (λ k. get_or (front ++ v) k (pos 0)) there ∙ symbol_behind front v (p + i))
+counted_behind plus front v p i = grind (arith, symbol_behind)
 
 sum_behind : (plus : Bool) (front v : List ℤ) (p n : ℕ)
     → sum_where plus (front ++ v) (length front + p) n ≡ sum_where plus v p n
 unfolding sum_where
-sum_behind plus front v p n =
-    ap total (map-range_same (counted_at plus (front ++ v) (length front + p)) (counted_at plus v p) 0 n
-    (λ i a b. counted_behind plus front v p i))
+sum_behind plus front v p n = grind (arith, map-range_same, counted_behind)
 
 pub gain_behind : (front v : List ℤ) (p : ℕ) → gain (front ++ v) (length front + p) ≡ gain v p
 unfolding gain
-gain_behind front v p =
-    ap₂ (λ a b. pos 257 *ℤ a -ℤ pos 258 *ℤ b) (sum_behind true front v p 515) (sum_behind false front v p 515)
+gain_behind front v p = grind (arith, sum_behind)
 
 pub constant_behind : (front v : List ℤ) (p : ℕ) → constant (front ++ v) (length front + p) ≡ constant v p
 unfolding constant
-constant_behind front v p =
-    ap₂ (λ a b. pos 257 *ℤ a +ℤ pos 258 *ℤ b) (sum_behind true front v p 515) (sum_behind false front v p 515)
+constant_behind front v p = grind (arith, sum_behind)
 
 pub shows_behind : (front v : List ℤ) (p : ℕ) → shows (front ++ v) (length front + p) ≡ shows v p
 unfolding shows
-shows_behind front v p =
-    ap₂ ◌&&◌ (order_behind (length front) p 832 (length v) (length (front ++ v)) (length-append front v))
-    (ap₂ are_shown (unlike_behind front v p 0 515) (gain_behind front v p))
+shows_behind front v p = grind (arith, order_behind, length-append, unlike_behind, gain_behind)
 
 pub least_shown_behind : (front v : List ℤ) (p : ℕ)
     → least_shown (front ++ v) (length front + p) ≡ option_map (λ i. length front + i) (least_shown v p)
 least_shown_behind front v p = least_behind shows front v p (shows_behind front v)
 
 pub shows_dropped : (h : List ℤ) (k p : ℕ) → k ≤ length h → shows (drop k h) p ≡ shows h (k + p)
-shows_dropped h k p l =
-    sym (shows_behind (take k h) (drop k h) p)
+shows_dropped h k p l = sym (shows_behind (take k h) (drop k h) p)
     ∙ ap₂ shows (take-append-drop k h) (ap (λ n. n + p) (length-take-le k h l))
 
 -- between the bounds none is shown
@@ -119,18 +94,8 @@ between n g l m = grind (arith, lt-leb n 128 l, lt-leb 387 n m)
 
 -- where a sync is shown its gain isn't 0
 some_shown : (n : ℕ) (g : ℤ) → are_shown n g ≡ true → g ≡ pos 0 → ⊥
-some_shown n g h e = by_tests (leb n 128) (leb 387 n) (sym (ap (are_shown n) e) ∙ h)
-  where
-    by_tests : (a b : Bool) → (a && false || b && false) ≡ true → ⊥
-    by_tests true true f = true≢false (sym f)
-    by_tests true false f = true≢false (sym f)
-    by_tests false true f = true≢false (sym f)
-    by_tests false false f = true≢false (sym f)
+some_shown n g h e = grind (arith, true≢false)
 
 pub gain_some : (symbols : List ℤ) (place : ℕ) → shows symbols place ≡ true → gain symbols place ≡ pos 0 → ⊥
 unfolding shows
-gain_some symbols place h e =
-    let there = whole_there shows past_end symbols place h in
-    some_shown (unlike symbols place 0 515) (gain symbols place)
-    (sym (ap (λ b. b && are_shown (unlike symbols place 0 515) (gain symbols place))
-    (le-leb (place + 832) (length symbols) there)) ∙ h) e
+gain_some symbols place h e = grind (arith, whole_there, some_shown, le-leb)

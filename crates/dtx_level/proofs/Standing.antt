@@ -35,8 +35,7 @@ pub record IsSyncAt (a b : ℤ) (v : List ℤ) (place : ℕ) : Type 0 where
 total_counted : (p : ℕ → Bool) (x : ℤ) (ns : List ℕ)
     → total (map (λ i. cond (p i) x (pos 0)) ns) ≡ pos (sum (map (λ i. cond (p i) 1 0) ns)) *ℤ x
 total_counted p x [] = omega (arith, ints)
-total_counted p x (n ∷ ns) =
-    ap (λ s. cond (p n) x (pos 0) +ℤ s) (total_counted p x ns)
+total_counted p x (n ∷ ns) = ap (λ s. cond (p n) x (pos 0) +ℤ s) (total_counted p x ns)
     ∙ by_sign (p n) (sum (map (λ i. cond (p i) 1 0) ns))
     ∙ ap (λ k. pos k *ℤ x) (sym (sum_by-cons (λ y. y) (cond (p n) 1 0) (map (λ i. cond (p i) 1 0) ns)))
   where
@@ -74,14 +73,12 @@ sum_minus a b v place h =
 
 pub gain_at : (a b : ℤ) (v : List ℤ) (place : ℕ) → IsSyncAt a b v place → gain v place ≡ pos 663060 *ℤ a
 unfolding gain
-gain_at a b v place h =
-    ap₂ (λ x y. pos 257 *ℤ x -ℤ pos 258 *ℤ y) (sum_plus a b v place h) (sum_minus a b v place h)
+gain_at a b v place h = ap₂ (λ x y. pos 257 *ℤ x -ℤ pos 258 *ℤ y) (sum_plus a b v place h) (sum_minus a b v place h)
     ∙ omega (arith, ints)
 
 pub constant_at : (a b : ℤ) (v : List ℤ) (place : ℕ) → IsSyncAt a b v place → constant v place ≡ pos 132612 *ℤ b
 unfolding constant
-constant_at a b v place h =
-    ap₂ (λ x y. pos 257 *ℤ x +ℤ pos 258 *ℤ y) (sum_plus a b v place h) (sum_minus a b v place h)
+constant_at a b v place h = ap₂ (λ x y. pos 257 *ℤ x +ℤ pos 258 *ℤ y) (sum_plus a b v place h) (sum_minus a b v place h)
     ∙ omega (arith, ints)
 
 -- ---- its signs
@@ -115,22 +112,19 @@ unlike_is c false e = ap (λ x. cond (are_unlike x false) 1 0) e
 unlike_kept : (n : ℕ) (b : ℤ) (v : List ℤ) (place : ℕ) → nat_abs b < 5 * suc n → IsSyncAt (pos (suc n)) b v place
     → 0 ≡ unlike v place 0 515
 unfolding unlike unlike_at
-unlike_kept n b v place l h =
-    sym (sum_is (unlike_at v place) 0 515 ∙ total_zeros (unlike_at v place) 0 515
+unlike_kept n b v place l h = sym (sum_is (unlike_at v place) 0 515 ∙ total_zeros (unlike_at v place) 0 515
     (λ i k m. like_is (is_plus (get_or v (place + i) (pos 0))) (sync_sign i)
     (ap is_plus (h.front i (omega arith)) ∙ kept_sign n b (sync_sign i) l)))
 
 unlike_turned : (n : ℕ) (b : ℤ) (v : List ℤ) (place : ℕ) → nat_abs b < 5 * suc n → IsSyncAt (negsuc n) b v place
     → 515 ≡ unlike v place 0 515
 unfolding unlike unlike_at
-unlike_turned n b v place l h =
-    sym (sum_is (unlike_at v place) 0 515 ∙ total_ones (unlike_at v place) 0 515
+unlike_turned n b v place l h = sym (sum_is (unlike_at v place) 0 515 ∙ total_ones (unlike_at v place) 0 515
     (λ i k m. unlike_is (is_plus (get_or v (place + i) (pos 0))) (sync_sign i)
     (ap is_plus (h.front i (omega arith)) ∙ turned_sign n b (sync_sign i) l)))
 
 shown_kept : (n : ℕ) → are_shown 0 (pos 663060 *ℤ pos (suc n)) ≡ true
-shown_kept n =
-    ap (λ c. c || (leb 387 0 && int_lt (pos 663060 *ℤ pos (suc n)) (pos 0)))
+shown_kept n = ap (λ c. c || (leb 387 0 && int_lt (pos 663060 *ℤ pos (suc n)) (pos 0)))
     (lt-ltb 0 (663060 * suc n) (omega arith))
 
 shown_turned : (n m : ℕ) → pos 663060 *ℤ negsuc n ≡ negsuc m → are_shown 515 (pos 663060 *ℤ negsuc n) ≡ true
@@ -154,8 +148,7 @@ abbrev pub by_gain : ℤ → ℤ → By
 by_gain a b = record { begun = true; gain = pos 663060 *ℤ a; constant = pos 132612 *ℤ b }
 
 pub by_at : (a b : ℤ) (v : List ℤ) (place : ℕ) → IsSyncAt a b v place → by_sync v place ≡ by_gain a b
-by_at a b v place h =
-    ap₂ (λ (g o : ℤ). record { begun = true; gain = g; constant = o }) (gain_at a b v place h)
+by_at a b v place h = ap₂ (λ (g o : ℤ). record { begun = true; gain = g; constant = o }) (gain_at a b v place h)
     (constant_at a b v place h)
 
 -- none is beyond 7 or -7
@@ -168,8 +161,7 @@ some_gain a b l e = omega (arith, l, ap nat_abs e)
 pub standing_undone : (a b : ℤ) (xs : List ℤ) → nat_abs b < 5 * nat_abs a → AreSmall xs
     → map (level (by_gain a b)) (standing a b xs) ≡ eightfold xs
 unfolding standing eightfold
-standing_undone a b xs l small =
-    each_is (λ s. pos 8 *ℤ s) xs (map (level (by_gain a b)) (map (λ s. a *ℤ s +ℤ b) xs))
+standing_undone a b xs l small = each_is (λ s. pos 8 *ℤ s) xs (map (level (by_gain a b)) (map (λ s. a *ℤ s +ℤ b) xs))
     (length-map (map (λ s. a *ℤ s +ℤ b) xs) (level (by_gain a b)) ∙ length-map xs (λ s. a *ℤ s +ℤ b))
     (λ k m. get_or-map (level (by_gain a b)) (map (λ s. a *ℤ s +ℤ b) xs) k (pos 0) (pos 0)
     (omega (arith, m, length-map xs (λ s. a *ℤ s +ℤ b)))
@@ -216,8 +208,6 @@ pub noise_eight : (segment : List ℤ) → length segment ≡ 832
     → ((i : ℕ) → i < 515 → get_or segment i (pos 0) ≡ get_or (sync_symbols false) i (pos 0))
     → noise (eightfold segment) 515 ≡ 0
 unfolding noise
-noise_eight segment long front =
-    sum_is (square_at (eightfold segment)) 0 515
-    ∙ total_zeros (square_at (eightfold segment)) 0 515
-    (λ i l m. none_at (eightfold segment) i
+noise_eight segment long front = sum_is (square_at (eightfold segment)) 0 515
+    ∙ total_zeros (square_at (eightfold segment)) 0 515 (λ i l m. none_at (eightfold segment) i
     (eight_at segment i (omega (arith, long)) ∙ ap (λ x. pos 8 *ℤ x) (front i (omega arith))))

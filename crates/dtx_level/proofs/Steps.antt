@@ -1,13 +1,12 @@
 -- What each part of a call makes of a leveller, case by case.
-use Rattle.std.proofs.Common.{◌≡◌, ℕ, ℤ, ◌+◌, ◌-◌, ◌*◌, ◌≤◌, refl, ap, ◌∙◌, arith, List, map, length, sym, subst}
-use Rattle.std.proofs.Common.{Bool, [], true, false, cond, take, drop, None, Option, Some, ◌⊎◌, inl, inr, eqb}
+use Rattle.std.proofs.Common.{◌≡◌, ℕ, ℤ, ◌+◌, ◌-◌, ◌*◌, ◌≤◌, refl, ap, ◌∙◌, arith, List, map, length, sym, subst, Bool}
+use Rattle.std.proofs.Common.{[], true, false, cond, take, drop, None, Option, Some, ◌⊎◌, inl, inr}
 use Rattle.std.proofs.lemmas.Bool.{cond-true, cond-false, true≢false, cases_eq, false≢true, eq-eqb, ne_eqb}
 use Rattle.std.proofs.lemmas.List.{length-map, length-take-le, length-drop, length-take}
 use Rattle.dtx_acquire.proofs.PlacesLemmas.{least_gives}
 use Rattle.dtx_level.proofs.Shows.{shows_dropped}
 use Rattle.dtx_level.specs.Levelled.{By, by_sync, level}
 use Rattle.dtx_level.specs.Leveller.{Holding, as_list, stretched, settled, sought, sought_at, step_at, closed}
-use Rattle.dtx_level.specs.Leveller.{step_to}
 use Rattle.dtx_level.specs.Shown.{least_shown, shows}
 use Rattle.dtx_level.specs.declared.step.Step.{Step}
 
@@ -44,36 +43,7 @@ pub record IsStep (symbols : List ℤ) (step : Step) : Type 0 where
 
 pub step_is : (symbols : List ℤ) → length symbols ≡ 261248 → IsStep symbols (step_at symbols)
 unfolding step_at
-step_is symbols full = by_due (shows symbols 260416) refl
-  where
-    shown : (k : ℕ) → k ≤ length symbols → shows symbols k ≡ true → shows (drop k symbols) 0 ≡ true
-    shown k l e = (let all : k + 0 ≡ k = omega arith in shows_dropped symbols k 0 l ∙ ap (shows symbols) all ∙ e)
-
-    by_least : (o : Option ℕ) → least_shown symbols 832 ≡ o → IsStep symbols (step_to o)
-    by_least None e = record {
-      some = omega arith;
-      most = omega (arith, full);
-      next = λ f. absurd (false≢true f);
-      off = λ f. refl;
-    }
-    by_least (Some k) e =
-        let is = least_gives shows symbols 832 k e in
-        record {
-          some = is.least;
-          most = omega (arith, is.least, is.within);
-          next = λ f. shown k (omega (arith, is.least, is.within)) is.passes;
-          off = λ f. absurd (true≢false f);
-        }
-
-    by_due : (d : Bool) → shows symbols 260416 ≡ d
-        → IsStep symbols (cond d (step_to (Some 260416)) (step_to (least_shown symbols 832)))
-    by_due true d = record {
-      some = omega arith;
-      most = omega (arith, full);
-      next = λ f. shown 260416 (omega (arith, full)) d;
-      off = λ f. absurd (true≢false f);
-    }
-    by_due false d = by_least (least_shown symbols 832) refl
+step_is symbols full = grind (arith, shows_dropped, false≢true, least_gives, true≢false)
 
 -- ---- the sync in front is settled
 
@@ -83,17 +53,11 @@ settled_off h e = cond-false h.on _ _ e
 
 pub settled_short : (h : Holding) → (length h.held ≡ 261248 → ⊥) → settled h ≡ h
 unfolding settled
-settled_short h short = by_on h.on
-  where
-    by_on : (b : Bool)
-        → ◌≡◌ {A = Holding} (cond b (cond (eqb (length h.held) 261248) (stretched h (step_at h.held)) h) h) h
-    by_on true = cond-false (eqb (length h.held) 261248) _ _ (ne_eqb (length h.held) 261248 short)
-    by_on false = refl
+settled_short h short = grind (arith, cond-false, ne_eqb)
 
 pub settled_full : (h : Holding) → h.on ≡ true → length h.held ≡ 261248 → settled h ≡ stretched h (step_at h.held)
 unfolding settled
-settled_full h e full =
-    cond-true h.on _ _ e ∙ cond-true (eqb (length h.held) 261248) _ _ (eq-eqb (length h.held) 261248 full)
+settled_full h e full = grind (arith, cond-true, eq-eqb)
 
 -- either nothing changes, or the sync in front levels its symbols
 pub by_settled : (P : Holding → Type 0) (h : Holding) → ((h.on ≡ true → length h.held ≡ 261248 → ⊥) → P h)
@@ -125,8 +89,7 @@ pub by_closed : (P : Holding → Type 0) (h : Holding)
     → (h.on ≡ false → h.by.begun ≡ true → P (record h {
       held = drop (length h.held) h.held;
       given = map (level h.by) (take (length h.held) h.held);
-    }))
-    → (h.on ≡ false → h.by.begun ≡ false → P h) → P (closed h)
+    })) → (h.on ≡ false → h.by.begun ≡ false → P h) → P (closed h)
 by_closed P h on begun none = by_on h.on h.by.begun refl refl
   where
     by_on : (a b : Bool) → h.on ≡ a → h.by.begun ≡ b → P (closed h)
@@ -155,16 +118,14 @@ sought_room h none =
 
 -- the rest stays
 pub sought_same : (h : Holding) → ((sought h).measured ≡ h.measured) × ((sought h).symbols ≡ h.symbols)
-sought_same h =
-    by_sought (λ new. (new.measured ≡ h.measured) × (new.symbols ≡ h.symbols)) h (λ e. (refl, refl))
+sought_same h = by_sought (λ new. (new.measured ≡ h.measured) × (new.symbols ≡ h.symbols)) h (λ e. (refl, refl))
     (λ e o g. by_least o)
   where
     by_least : (o : Option ℕ) → ((sought_at h o).measured ≡ h.measured) × ((sought_at h o).symbols ≡ h.symbols)
     by_least None = (refl, refl)
     by_least (Some p) = (refl, refl)
 
-pub settled_room : (h : Holding)
-    → length (settled h).given + length (settled h).held ≤ length h.given + length h.held
+pub settled_room : (h : Holding) → length (settled h).given + length (settled h).held ≤ length h.given + length h.held
 settled_room h =
     by_settled (λ new. length new.given + length new.held ≤ length h.given + length h.held) h (λ n. omega arith)
     (λ e full. omega (arith, parted (level (by_sync h.held 0)) (step_at h.held).count h.held))
@@ -172,27 +133,14 @@ settled_room h =
 -- of a sync that is measured as many symbols are given as a segment has
 pub settled_lines : (h : Holding) → h.measured ≡ None
     → 832 * length (as_list (settled h).measured) ≤ length (settled h).given
-settled_lines h none =
-    by_settled (λ new. 832 * length (as_list new.measured) ≤ length new.given) h
-    (λ n. omega (arith, ap (λ o. length (as_list o)) none))
-    (λ e full. (let is = step_is h.held full in
-    omega (
-      arith,
-      is.some,
-      is.most,
-      length-map (take (step_at h.held).count h.held) (level (by_sync h.held 0)),
-      length-take-le (step_at h.held).count h.held is.most,
-    )))
+settled_lines h none = by_settled (λ new. 832 * length (as_list new.measured) ≤ length new.given) h (λ n. grind arith)
+    (λ e full. (grind (arith, step_is, length-map, length-take-le)))
 
 pub settled_same : (h : Holding) → ((settled h).zeros ≡ h.zeros) × ((settled h).symbols ≡ h.symbols)
-settled_same h =
-    by_settled (λ new. (new.zeros ≡ h.zeros) × (new.symbols ≡ h.symbols)) h (λ n. (refl, refl))
+settled_same h = by_settled (λ new. (new.zeros ≡ h.zeros) × (new.symbols ≡ h.symbols)) h (λ n. (refl, refl))
     (λ e full. (refl, refl))
 
 pub closed_room : (h : Holding) → h.given ≡ [] → (length (closed h).given ≤ length h.held)
     × ((closed h).symbols ≡ h.symbols)
-closed_room h none =
-    by_closed (λ new. (length new.given ≤ length h.held) × (new.symbols ≡ h.symbols)) h
-    (λ e. (omega (arith, parted (level (by_sync h.held 0)) (length h.held) h.held), refl))
-    (λ e f. (omega (arith, parted (level h.by) (length h.held) h.held), refl))
-    (λ e f. (omega (arith, ap length none), refl))
+closed_room h none = by_closed (λ new. (length new.given ≤ length h.held) × (new.symbols ≡ h.symbols)) h
+    (λ e. (grind (arith, parted))) (λ e f. (grind (arith, parted))) (λ e f. (omega (arith, ap length none), refl))

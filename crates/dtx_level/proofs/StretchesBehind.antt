@@ -1,6 +1,6 @@
 -- What symbols become that stand behind others.
-use Rattle.std.proofs.Common.{◌≡◌, ℕ, ℤ, ◌+◌, ◌-◌, ◌<◌, false, List, [], ◌∷◌, ◌++◌, length, map, take, append_assoc}
-use Rattle.std.proofs.Common.{sym, ap, ap₂, ◌∙◌, arith}
+use Rattle.std.proofs.Common.{◌≡◌, ℕ, ℤ, ◌+◌, ◌-◌, ◌<◌, false, List, [], ◌∷◌, ◌++◌, length, map, take, append_assoc, ap}
+use Rattle.std.proofs.Common.{ap₂, ◌∙◌, arith}
 use Rattle.std.proofs.Math.Seq.{drop-append-add, take-append-add}
 use Rattle.std.proofs.lemmas.List.{map-append}
 use Rattle.dtx_level.specs.Shown.{shows}
@@ -16,20 +16,15 @@ stretches_behind by front v from [] = ap (map (level by)) (drop-append-add front
 stretches_behind by front v from (p ∷ places) =
     let far : length front + p - (length front + from) ≡ p - from = omega arith in
     ap₂ ◌++◌ (ap₂ (λ n (xs : List ℤ). map (level by) (take n xs)) far (drop-append-add front v from))
-    (ap (λ (x : By). stretches x (front ++ v) (length front + p) (map (λ i. length front + i) places))
-    (by_behind front v p) ∙ stretches_behind (by_sync v p) front v p places)
+    (rw (by_behind front v p, stretches_behind (by_sync v p) front v p places))
 
 front_stretch : (by : By) (front v : List ℤ) (places : List ℕ)
-    → stretches by (front ++ v) 0 (map (λ i. length front + i) places)
-    ≡ map (level by) front ++ stretches by v 0 places
+    → stretches by (front ++ v) 0 (map (λ i. length front + i) places) ≡ map (level by) front ++ stretches by v 0 places
 unfolding stretches
 front_stretch by front v [] = map-append (level by) front v
 front_stretch by front v (p ∷ places) =
     let far : length front + p - 0 ≡ length front + p = omega arith in
-    let near : p - 0 ≡ p = omega arith in
-    ap₂ ◌++◌
-    (ap (λ n. map (level by) (take n (front ++ v))) far ∙ ap (map (level by)) (take-append-add front v p)
-    ∙ map-append (level by) front (take p v) ∙ ap (λ n. map (level by) front ++ map (level by) (take n v)) (sym near))
+    ap₂ ◌++◌ (grind (arith, take-append-add, map-append))
     (ap (λ (x : By). stretches x (front ++ v) (length front + p) (map (λ i. length front + i) places))
     (by_behind front v p) ∙ stretches_behind (by_sync v p) front v p places)
     ∙ append_assoc (map (level by) front) (map (level by) (take (p - 0) v)) (stretches (by_sync v p) v p places)
@@ -37,16 +32,13 @@ front_stretch by front v (p ∷ places) =
 pub levelled_skip : (by : By) (front v : List ℤ) → ((p : ℕ) → p < length front → shows (front ++ v) p ≡ false)
     → levelled_behind by (front ++ v) ≡ map (level by) front ++ levelled_behind by v
 unfolding levelled_behind
-levelled_skip by front v h =
-    ap (stretches by (front ++ v) 0) (all_skip front v h) ∙ front_stretch by front v (all_syncs v)
+levelled_skip by front v h = grind (arith, all_skip, front_stretch)
 
 pub levelled_next : (by : By) (front v : List ℤ)
-    → all_syncs (front ++ v) ≡ 0 ∷ map (λ i. length front + i) (all_syncs v)
-    → levelled_behind by (front ++ v)
+    → all_syncs (front ++ v) ≡ 0 ∷ map (λ i. length front + i) (all_syncs v) → levelled_behind by (front ++ v)
     ≡ map (level (by_sync (front ++ v) 0)) front ++ levelled_behind (by_sync (front ++ v) 0) v
 unfolding levelled_behind stretches
-levelled_next by front v e =
-    ap (stretches by (front ++ v) 0) e ∙ front_stretch (by_sync (front ++ v) 0) front v (all_syncs v)
+levelled_next by front v e = grind (arith, front_stretch)
 
 -- all where no sync is
 pub levelled_alone : (by : By) (v : List ℤ) → all_syncs v ≡ [] → levelled_behind by v ≡ map (level by) v

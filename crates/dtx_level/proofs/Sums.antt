@@ -1,10 +1,8 @@
 -- Sums over the first symbols of a sync, one more at a time.
-use Rattle.std.proofs.Common.{◌≡◌, ℕ, ℤ, ◌+◌, ◌+ℤ◌, Bool, List, [], ◌∷◌, ◌++◌, map, ap}
-use Rattle.std.proofs.Common.{◌∙◌, arith}
+use Rattle.std.proofs.Common.{◌≡◌, ℕ, ℤ, ◌+◌, ◌+ℤ◌, Bool, List, [], ◌∷◌, ◌++◌, map, ap, ◌∙◌, arith}
 use Rattle.std.specs.List.{range_with_len}
 use Rattle.std.proofs.lemmas.Int.{ints}
-use Rattle.std.proofs.lemmas.List.FromFn.{map-range_with_len_more}
-use Rattle.std.proofs.lemmas.List.FromFn.{sum_by-map-range_with_len_more}
+use Rattle.std.proofs.lemmas.List.FromFn.{map-range_with_len_more, sum_by-map-range_with_len_more}
 use Rattle.dtx_level.specs.Shown.{counted_at, sum_where, total}
 use Rattle.dtx_level.specs.Measures.{noise, square_at}
 
@@ -21,8 +19,7 @@ total_more (y ∷ xs) x = ap (λ s. y +ℤ s) (total_more xs x) ∙ turned y (to
 pub sum_more : (plus : Bool) (symbols : List ℤ) (place i : ℕ)
     → sum_where plus symbols place (i + 1) ≡ sum_where plus symbols place i +ℤ counted_at plus symbols place i
 unfolding sum_where
-sum_more plus symbols place i =
-    ap total (map-range_with_len_more (counted_at plus symbols place) 0 i i (zero_add i))
+sum_more plus symbols place i = ap total (map-range_with_len_more (counted_at plus symbols place) 0 i i (zero_add i))
     ∙ total_more (map (counted_at plus symbols place) (range_with_len 0 i)) (counted_at plus symbols place i)
 
 pub noise_more : (segment : List ℤ) (i : ℕ) → noise segment (i + 1) ≡ noise segment i + square_at segment i

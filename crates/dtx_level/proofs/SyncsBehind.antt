@@ -1,7 +1,6 @@
 -- The syncs of symbols behind others.
-use Rattle.std.proofs.Common.{◌≡◌, ℕ, ℤ, zero, suc, ◌+◌, ◌<◌, ◌≤◌, Bool, true, false, cond}
-use Rattle.std.proofs.Common.{Option, Some, None, option_map, List, [], ◌∷◌, ◌++◌, length, map, filter, refl}
-use Rattle.std.proofs.Common.{ap, ap₂, ◌∙◌, arith, length-append}
+use Rattle.std.proofs.Common.{◌≡◌, ℕ, ℤ, zero, suc, ◌+◌, ◌<◌, ◌≤◌, Bool, true, false, cond, Option, Some, None}
+use Rattle.std.proofs.Common.{option_map, List, [], ◌∷◌, ◌++◌, length, map, filter, refl, ap, ◌∙◌, arith, length-append}
 use Rattle.std.proofs.lemmas.Bool.{cond-true, cond-false, lt-leb, leb-true}
 use Rattle.dtx_acquire.specs.Acquired.{due, is_met}
 use Rattle.dtx_acquire.proofs.PlacesLemmas.{least_gives, least_here, least_skip, whole_there}
@@ -16,23 +15,17 @@ use Rattle.dtx_level.proofs.Shows.{least_shown_behind, shows_behind}
 behind_behind : (front v : List ℤ) (p : ℕ)
     → behind (front ++ v) (length front + p) ≡ option_map (λ i. length front + i) (behind v p)
 unfolding behind
-behind_behind front v p =
-    let there : length front + p + 260416 ≡ length front + (p + 260416) = omega arith in
-    let next : length front + p + 832 ≡ length front + (p + 832) = omega arith in
-    pushed (is_met v p) (is_met (front ++ v) (length front + p)) (shows v (due p))
+behind_behind front v p = pushed (is_met v p) (is_met (front ++ v) (length front + p)) (shows v (due p))
     (shows (front ++ v) (due (length front + p))) (Some (due p)) (Some (due (length front + p)))
     (least_shown v (p + 832)) (least_shown (front ++ v) (length front + p + 832)) (met_behind front v p)
-    (ap (shows (front ++ v)) there ∙ shows_behind front v (p + 260416))
-    (ap (λ k. Some k) there)
-    (ap (least_shown (front ++ v)) next ∙ least_shown_behind front v (p + 832))
+    (ap (shows (front ++ v)) (omega arith) ∙ shows_behind front v (p + 260416)) (ap (λ k. Some k) (omega arith))
+    (ap (least_shown (front ++ v)) (omega arith) ∙ least_shown_behind front v (p + 832))
   where
     pushed : (m m1 g g1 : Bool) (s s1 : Option ℕ) (l l1 : Option ℕ) → m1 ≡ m → g1 ≡ g
         → s1 ≡ option_map (λ i. length front + i) s → l1 ≡ option_map (λ i. length front + i) l
         → cond m1 (cond g1 s1 l1) None ≡ option_map (λ i. length front + i) (cond m (cond g s l) None)
-    pushed true m1 true g1 s s1 l l1 e f h i =
-        cond-true m1 (cond g1 s1 l1) None e ∙ cond-true g1 s1 l1 f ∙ h
-    pushed true m1 false g1 s s1 l l1 e f h i =
-        cond-true m1 (cond g1 s1 l1) None e ∙ cond-false g1 s1 l1 f ∙ i
+    pushed true m1 true g1 s s1 l l1 e f h i = cond-true m1 (cond g1 s1 l1) None e ∙ cond-true g1 s1 l1 f ∙ h
+    pushed true m1 false g1 s s1 l l1 e f h i = cond-true m1 (cond g1 s1 l1) None e ∙ cond-false g1 s1 l1 f ∙ i
     pushed false m1 g g1 s s1 l l1 e f h i = cond-false m1 (cond g1 s1 l1) None e
 
 syncs_behind : (front v : List ℤ) (n : ℕ) (o : Option ℕ)
@@ -40,31 +33,13 @@ syncs_behind : (front v : List ℤ) (n : ℕ) (o : Option ℕ)
 unfolding syncs_from
 syncs_behind front v zero o = refl
 syncs_behind front v (suc n) None = refl
-syncs_behind front v (suc n) (Some s) =
-    ap (λ xs. (length front + s) ∷ xs)
+syncs_behind front v (suc n) (Some s) = ap (λ xs. (length front + s) ∷ xs)
     (ap (syncs_from (front ++ v) n) (behind_behind front v s) ∙ syncs_behind front v n (behind v s))
 
 -- each sync is behind the one before
 later : (v : List ℤ) (p s : ℕ) → behind v p ≡ Some s → (p < s) × (s < length v)
 unfolding behind is_met
-later v p s e = by_tests (is_met v p) (shows v (due p)) refl refl e
-  where
-    none_some : ◌≡◌ {A = Option ℕ} None (Some s) → ⊥
-    none_some e = cc
-
-    same : (a : ℕ) → ◌≡◌ {A = Option ℕ} (Some a) (Some s) → a ≡ s
-    same a e = cc
-
-    by_tests : (m g : Bool) → is_met v p ≡ m → shows v (due p) ≡ g
-        → cond m (cond g (Some (due p)) (least_shown v (p + 832))) None ≡ Some s → (p < s) × (s < length v)
-    by_tests true true e f h =
-        let at = same (p + 260416) h in
-        let room : p + 260416 + 832 ≤ length v = leb-true (p + 260416 + 832) (length v) e in
-        (omega (arith, at), omega (arith, at, room))
-    by_tests true false e f h =
-        let is = least_gives shows v (p + 832) s h in
-        (omega (arith, is.least), omega (arith, is.least, is.within))
-    by_tests false g e f h = absurd (none_some h)
+later v p s e = grind (arith, leb-true, least_gives)
 
 -- that there are enough steps for all
 abbrev IsEnough : List ℤ → ℕ → Option ℕ → Type 0
@@ -79,15 +54,12 @@ syncs_enough v zero (suc m) (Some s) h k = absurd (let w = h s refl in omega (ar
 syncs_enough v (suc n) zero None h k = refl
 syncs_enough v (suc n) zero (Some s) h k = absurd (let w = k s refl in omega (arith, w.0, w.1))
 syncs_enough v (suc n) (suc m) None h k = refl
-syncs_enough v (suc n) (suc m) (Some s) h k =
-    ap (λ xs. s ∷ xs) (syncs_enough v n m (behind v s)
+syncs_enough v (suc n) (suc m) (Some s) h k = ap (λ xs. s ∷ xs) (syncs_enough v n m (behind v s)
     (λ t e. (let w = later v s t e in let a = h s refl in (w.1, omega (arith, w.0, a.1))))
     (λ t e. (let w = later v s t e in let a = k s refl in (w.1, omega (arith, w.0, a.1)))))
 
 enough_first : (v : List ℤ) (n : ℕ) → length v ≤ n → IsEnough v n (least_shown v 0)
-enough_first v n l s e =
-    let is = least_gives shows v 0 s e in
-    (omega (arith, is.within), omega arith)
+enough_first v n l s e = grind (arith, least_gives)
 
 -- ---- all
 
@@ -95,19 +67,13 @@ enough_first v n l s e =
 pub all_skip : (front v : List ℤ) → ((p : ℕ) → p < length front → shows (front ++ v) p ≡ false)
     → all_syncs (front ++ v) ≡ map (λ i. length front + i) (all_syncs v)
 unfolding all_syncs
-all_skip front v h =
-    ap (syncs_from (front ++ v) (length (front ++ v))) least
-    ∙ syncs_behind front v (length (front ++ v)) (least_shown v 0)
-    ∙ ap (map (λ i. length front + i))
-    (syncs_enough v (length (front ++ v)) (length v) (least_shown v 0)
-    (enough_first v (length (front ++ v)) (omega (arith, length-append front v)))
-    (enough_first v (length v) (omega arith)))
+all_skip front v h = ap (syncs_from (front ++ v) (length (front ++ v))) least
+    ∙ syncs_behind front v (length (front ++ v)) (least_shown v 0) ∙ ap (map (λ i. length front + i))
+    (grind (arith, syncs_enough, enough_first, length-append))
   where
     least : least_shown (front ++ v) 0 ≡ option_map (λ i. length front + i) (least_shown v 0)
-    least =
-        let none : length front ≡ length front + 0 = omega arith in
-        least_skip shows past_end (front ++ v) 0 (length front) (omega arith) (λ i l m. h i m)
-        ∙ ap (least_shown (front ++ v)) none ∙ least_shown_behind front v 0
+    least = least_skip shows past_end (front ++ v) 0 (length front) (omega arith) (λ i l m. h i m)
+        ∙ ap (least_shown (front ++ v)) (omega arith) ∙ least_shown_behind front v 0
 
 -- where a sync is in front, and the next one is behind a front
 pub all_next : (front v : List ℤ) → shows (front ++ v) 0 ≡ true → 0 < length front
@@ -115,27 +81,18 @@ pub all_next : (front v : List ℤ) → shows (front ++ v) 0 ≡ true → 0 < le
     → all_syncs (front ++ v) ≡ 0 ∷ map (λ i. length front + i) (all_syncs v)
 unfolding all_syncs syncs_from
 all_next front v h some e =
-    ap (syncs_from (front ++ v) (length (front ++ v))) (least_here shows past_end (front ++ v) 0 h)
-    ∙ all_from (length (front ++ v)) (length-append front v)
+    rw (least_here shows past_end (front ++ v) 0 h, all_from (length (front ++ v)) (length-append front v))
   where
-    all_from : (n : ℕ) → n ≡ length front + length v
-        → syncs_from (front ++ v) n (Some 0)
+    all_from : (n : ℕ) → n ≡ length front + length v → syncs_from (front ++ v) n (Some 0)
         ≡ 0 ∷ map (λ i. length front + i) (syncs_from v (length v) (least_shown v 0))
     all_from zero l = absurd (omega arith)
-    all_from (suc n) l =
-        ap (λ xs. 0 ∷ xs)
-        (ap (syncs_from (front ++ v) n) e ∙ syncs_behind front v n (least_shown v 0)
+    all_from (suc n) l = ap (λ xs. 0 ∷ xs) (ap (syncs_from (front ++ v) n) e ∙ syncs_behind front v n (least_shown v 0)
         ∙ ap (map (λ i. length front + i))
-        (syncs_enough v n (length v) (least_shown v 0) (enough_first v n (omega arith))
-        (enough_first v (length v) (omega arith))))
+        (syncs_enough v n (length v) (least_shown v 0) (enough_first v n (omega arith)) (grind (arith, enough_first))))
 
 pub no_syncs : (v : List ℤ) → least_shown v 0 ≡ None → all_syncs v ≡ []
 unfolding all_syncs syncs_from
-no_syncs v e = ap (syncs_from v (length v)) e ∙ none (length v)
-  where
-    none : (n : ℕ) → syncs_from v n None ≡ []
-    none zero = refl
-    none (suc n) = refl
+no_syncs v e = grind arith
 
 pub unmet : (v : List ℤ) (p : ℕ) → length v < 261248 → is_met v p ≡ false
 unfolding is_met
@@ -162,8 +119,7 @@ filtered : (wanted : Bool → Bool) (front v : List ℤ) (places : List ℕ)
     → filter (λ p. wanted (is_met (front ++ v) p)) (map (λ i. length front + i) places)
     ≡ map (λ i. length front + i) (filter (λ p. wanted (is_met v p)) places)
 filtered wanted front v [] = refl
-filtered wanted front v (p ∷ places) =
-    kept (wanted (is_met v p)) (wanted (is_met (front ++ v) (length front + p)))
+filtered wanted front v (p ∷ places) = kept (wanted (is_met v p)) (wanted (is_met (front ++ v) (length front + p)))
     (filter (λ p. wanted (is_met (front ++ v) p)) (map (λ i. length front + i) places))
     (filter (λ p. wanted (is_met v p)) places) (ap wanted (met_behind front v p)) (filtered wanted front v places)
   where
@@ -176,12 +132,10 @@ filtered wanted front v (p ∷ places) =
 abbrev pub places_where : Bool → List ℕ → List ℕ
 places_where wanted places = cond wanted places []
 
-pub where_skip : (wanted : Bool → Bool) (front v : List ℤ)
-    → ((p : ℕ) → p < length front → shows (front ++ v) p ≡ false)
+pub where_skip : (wanted : Bool → Bool) (front v : List ℤ) → ((p : ℕ) → p < length front → shows (front ++ v) p ≡ false)
     → syncs_where wanted (front ++ v) ≡ map (λ i. length front + i) (syncs_where wanted v)
 unfolding syncs_where
-where_skip wanted front v h =
-    ap (filter (λ p. wanted (is_met (front ++ v) p))) (all_skip front v h) ∙ filtered wanted front v (all_syncs v)
+where_skip wanted front v h = grind (arith, all_skip, filtered)
 
 first_wanted : (b : Bool) (xs : List ℕ) → cond b (0 ∷ xs) xs ≡ places_where b (0 ∷ []) ++ xs
 first_wanted true xs = refl
@@ -192,17 +146,12 @@ pub where_next : (wanted : Bool → Bool) (front v : List ℤ) → shows (front 
     → syncs_where wanted (front ++ v)
     ≡ places_where (wanted true) (0 ∷ []) ++ map (λ i. length front + i) (syncs_where wanted v)
 unfolding syncs_where
-where_next wanted front v h met some e =
-    ap (filter (λ p. wanted (is_met (front ++ v) p))) (all_next front v h some e)
-    ∙ first_wanted (wanted (is_met (front ++ v) 0)) _
-    ∙ ap₂ (λ b (xs : List ℕ). places_where (wanted b) (0 ∷ []) ++ xs) met (filtered wanted front v (all_syncs v))
+where_next wanted front v h met some e = grind (arith, all_next, first_wanted, filtered)
 
 pub where_last : (wanted : Bool → Bool) (v : List ℤ) → length v < 261248 → shows v 0 ≡ true
     → syncs_where wanted v ≡ places_where (wanted false) (0 ∷ [])
 unfolding syncs_where
-where_last wanted v l h =
-    ap (filter (λ p. wanted (is_met v p))) (all_last v l h)
-    ∙ ap (λ b. places_where (wanted b) (0 ∷ [])) (unmet v 0 l)
+where_last wanted v l h = grind (arith, all_last, unmet)
 
 pub where_none : (wanted : Bool → Bool) (v : List ℤ) → all_syncs v ≡ [] → syncs_where wanted v ≡ []
 unfolding syncs_where

@@ -1,7 +1,7 @@
 -- What a leveller gives of the symbols that it takes.
-use Rattle.std.proofs.Common.{◌≡◌, ℕ, ℤ, pos, ◌+◌, ◌-◌, ◌<◌, ◌≤◌, refl, ap, ◌∙◌, arith, List, map, length, sym}
-use Rattle.std.proofs.Common.{subst, Bool, [], ◌∷◌, ◌++◌, true, false, ◌||◌, cond, take, drop, ap₂, length-append}
-use Rattle.std.proofs.Common.{Option, Some, None, append_assoc, replicate, ◌⊎◌, inl, inr}
+use Rattle.std.proofs.Common.{◌≡◌, ℕ, ℤ, pos, ◌+◌, ◌-◌, ◌<◌, ◌≤◌, refl, ap, ◌∙◌, arith, List, map, length, sym, subst}
+use Rattle.std.proofs.Common.{Bool, [], ◌∷◌, ◌++◌, true, false, ◌||◌, cond, take, drop, ap₂, length-append, Option}
+use Rattle.std.proofs.Common.{Some, None, append_assoc, replicate}
 use Rattle.std.proofs.lemmas.Bool.{cond-false, true≢false, cases_eq}
 use Rattle.std.proofs.lemmas.List.{length-take-le, append-nil, length-drop, replicate-append-replicate}
 use Rattle.dtx_acquire.proofs.PlacesLemmas.{whole_there, least_gives, least_misses}
@@ -9,7 +9,7 @@ use Rattle.dtx_level.proofs.Ending.{measures_known, known_are}
 use Rattle.dtx_level.proofs.Leaving.{IsSought, leaves_settled, leaves_sought, leaves_fed}
 use Rattle.dtx_level.proofs.Shows.{shows_dropped, shows_front}
 use Rattle.dtx_level.proofs.Steps.{step_is, settled_same, sought_same, by_sought, by_settled}
-use Rattle.dtx_level.specs.Levelled.{levelled_symbol, levelled_so_far, By, by_sync, level}
+use Rattle.dtx_level.specs.Levelled.{levelled_so_far, By, by_sync, level}
 use Rattle.dtx_level.specs.Leveller.{Holding, StandsFor, all_given, as_list, taken, Leaves, shown, cleared, stretched}
 use Rattle.dtx_level.specs.Leveller.{fed, found, passed, settled, sought, sought_at, step_at}
 use Rattle.dtx_level.specs.Measures.{measures_so_far}
@@ -45,8 +45,7 @@ told_more new symbols done told e h =
 
 pub silent_level : (by : By) (xs : List ℤ) → by.begun ≡ false → map (level by) xs ≡ replicate (length xs) (pos 0)
 silent_level by [] e = refl
-silent_level by (x ∷ xs) e =
-    ap₂ ◌∷◌ (ap (λ b. cond b (levelled_symbol by.gain by.constant x) (pos 0)) e) (silent_level by xs e)
+silent_level by (x ∷ xs) e = ap₂ ◌∷◌ (grind arith) (silent_level by xs e)
 
 -- ---- a sync is found
 
@@ -64,9 +63,7 @@ find_moves h count clear off s symbols done told l = record {
         → done ++ map (level h.by) (take count h.held)
         ≡ before ++ (replicate (cond b 0 h.silent) (pos 0) ++ map (level h.by) (take count h.held))
     by_begun before true f e = ap (λ xs. xs ++ map (level h.by) (take count h.held)) e
-    by_begun before false f e =
-        ap (λ xs. xs ++ map (level h.by) (take count h.held)) (l.silence off f)
-        ∙ ap (λ xs. xs ++ (replicate h.silent (pos 0) ++ map (level h.by) (take count h.held))) e
+    by_begun before false f e = grind arith
 
 -- ---- none is found
 
@@ -113,8 +110,7 @@ record Seeks (old new : Holding) : Type 0 where
   most : length new.held ≤ 261248
   whole : length new.held ≡ 261248 → new.given ≡ []
 
-seeks : (h : Holding) → IsClear h → length h.held ≤ 261248 → (h.on ≡ true → shows h.held 0 ≡ true)
-    → Seeks h (sought h)
+seeks : (h : Holding) → IsClear h → length h.held ≤ 261248 → (h.on ≡ true → shows h.held 0 ≡ true) → Seeks h (sought h)
 seeks h clear most front = by_sought (Seeks h) h on by_least
   where
     on : h.on ≡ true → Seeks h h
@@ -203,11 +199,7 @@ settles : (h : Holding) → h.measured ≡ None → length h.held ≤ 261248 →
 settles h none most off whole front = by_settled (Settles h) h stays steps
   where
     few : (b : Bool) → h.on ≡ b → (h.on ≡ true → length h.held ≡ 261248 → ⊥) → length h.held < 261248
-    few true e short = by_length (cases_eq (length h.held) 261248)
-      where
-        by_length : (length h.held ≡ 261248) ⊎ (length h.held ≡ 261248 → ⊥) → length h.held < 261248
-        by_length (inl full) = absurd (short e full)
-        by_length (inr less) = omega (arith, less, most)
+    few true e short = grind (arith, cases_eq)
     few false e short = omega (arith, off e)
 
     stays : (h.on ≡ true → length h.held ≡ 261248 → ⊥) → Settles h h
@@ -253,23 +245,12 @@ taken_is h symbols more st most =
     let m1 = a.moves (symbols ++ more) st.done st.told (leaves_fed h symbols more st.done st.told st.leaves) in
     let m2 = b.moves (symbols ++ more) (st.done ++ m1.more) (st.told ++ as_list s.measured) m1.leaves in
     let before = known_are h symbols st in
-    let stands : StandsFor t (symbols ++ more) = record {
-      few = b.few;
-      off = b.off;
-      rest = b.rest (λ e g. (let was = a.kept e in let one = st.rest was.0 (sym was.1 ∙ g) in
-          a.rest e (omega (arith, one, length-append h.held more))));
-      front = b.front;
-      done = (st.done ++ m1.more) ++ m2.more;
-      told = (st.told ++ as_list s.measured) ++ as_list t.measured;
-      leaves = m2.leaves;
-    } in
+    let stands : StandsFor t (symbols ++ more) = grind (arith, length-append) in
     record {
       stands = stands;
-      given = (known_are t (symbols ++ more) stands).so_far
-          ∙ m2.given (shown h st.done) (m1.given (shown h st.done) (sym (append-nil (shown h st.done))))
+      given = (known_are t (symbols ++ more) stands).so_far ∙ m2.given (shown h st.done) (grind (arith, append-nil))
           ∙ ap (λ xs. xs ++ all_given t) (sym before.so_far);
-      measured = measures_known t (symbols ++ more) stands
-          ∙ ap (λ o. (st.told ++ as_list o) ++ as_list t.measured) none
+      measured = measures_known t (symbols ++ more) stands ∙ ap (λ o. (st.told ++ as_list o) ++ as_list t.measured) none
           ∙ ap (λ xs. xs ++ as_list t.measured) (append-nil st.told ∙ sym (measures_known h symbols st));
       zeros = λ some. (let off = a.zeros (subst (λ (n : ℕ). 0 < n) (settled_same s).0 some) in
           before.so_far ∙ ap₂ (λ x y. cond (x || y) st.done []) off.0 off.1);

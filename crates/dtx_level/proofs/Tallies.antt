@@ -1,7 +1,6 @@
 -- One sync more.
 use Rattle.std.proofs.Common.{◌≡◌, ℕ, ◌+◌, refl, ap, ◌∙◌, arith, List, length, sym, subst, Bool, [], ◌∷◌, ◌++◌, true}
-use Rattle.std.proofs.Common.{false, cond, ap₂, length-append, None, filter, not, Option, Some, IfSome}
-use Rattle.std.proofs.Common.{eqb}
+use Rattle.std.proofs.Common.{length-append, filter, not, Option, Some, IfSome, eqb}
 use Rattle.std.proofs.lemmas.Bool.{cond-false, ne_eqb}
 use Rattle.dtx_level.specs.Levelled.{last_behind, last_of}
 use Rattle.dtx_level.specs.Leveller.{IsTally, slip_after}
@@ -10,12 +9,8 @@ use Rattle.dtx_level.specs.Syncs.{slip_behind, slips_behind}
 slips_more : (o : Option ℕ) (xs : List ℕ) (p : ℕ)
     → slips_behind o (xs ++ p ∷ []) ≡ slips_behind o xs + slip_behind (last_behind o xs) p
 unfolding slips_behind
-slips_more o [] p = added (slip_behind o p)
-  where
-    added : (n : ℕ) → n + 0 ≡ 0 + n
-    added n = omega arith
-slips_more o (x ∷ xs) p =
-    ap (λ n. slip_behind o x + n) (slips_more (Some x) xs p)
+slips_more o [] p = grind arith
+slips_more o (x ∷ xs) p = ap (λ n. slip_behind o x + n) (slips_more (Some x) xs p)
     ∙ added (slip_behind o x) (slips_behind (Some x) xs) (slip_behind (last_behind (Some x) xs) p)
   where
     added : (a b c : ℕ) → a + (b + c) ≡ a + b + c
@@ -32,21 +27,12 @@ last_some x (y ∷ xs) = last_some y xs
 
 met_here : (m : ℕ → Bool) (xs : List ℕ) (x : ℕ) → filter (λ p. not (m p)) (x ∷ xs) ≡ []
     → (m x ≡ true) × (filter (λ p. not (m p)) xs ≡ [])
-met_here m xs x f = by_test (m x) refl f
-  where
-    by_test : (b : Bool) → m x ≡ b
-        → cond (not b) (x ∷ filter (λ p. not (m p)) xs) (filter (λ p. not (m p)) xs) ≡ []
-        → (m x ≡ true) × (filter (λ p. not (m p)) xs ≡ [])
-    by_test true t g = (t, g)
-    by_test false t g = absurd (omega (arith, ap length g))
+met_here m xs x f = grind arith
 
 -- where none fails, the last doesn't
 pub met_last : (m : ℕ → Bool) (q : ℕ) (xs : List ℕ) (x : ℕ) → filter (λ p. not (m p)) (x ∷ xs) ≡ []
     → last_behind (Some x) xs ≡ Some q → m q ≡ true
-met_last m q [] x f e = ap m (sym (same e)) ∙ (met_here m [] x f).0
-  where
-    same : ◌≡◌ {A = Option ℕ} (Some x) (Some q) → x ≡ q
-    same e = cc
+met_last m q [] x f e = grind (arith, met_here)
 met_last m q (y ∷ ys) x f e = met_last m q ys y (met_here m (y ∷ ys) x f).1 e
 
 -- whether a place is a slip behind the last of some
@@ -55,16 +41,10 @@ slip_is : (syncs last place : ℕ) (places : List ℕ) → syncs ≡ length plac
 slip_is syncs last place [] e h = ap (λ n. slip_after n last place) e
 slip_is syncs last place (x ∷ xs) e h =
     let found = last_some x xs in
-    cond-false (eqb syncs 0) 0 (slip_behind (Some last) place) (ne_eqb syncs 0 (λ z. omega (arith, e, z)))
-    ∙ ap (λ o. slip_behind o place)
+    cond-false (eqb syncs 0) 0 (slip_behind (Some last) place) (grind (arith, ne_eqb)) ∙ ap (λ o. slip_behind o place)
     (ap Some (subst (λ (o : Option ℕ). IfSome o (λ p. last ≡ p)) found.1 h) ∙ sym found.1)
 
 pub tally_after : (syncs slips last place : ℕ) (places : List ℕ) → IsTally syncs slips last places
     → IsTally (syncs + 1) (slips + slip_after syncs last place) place (places ++ place ∷ [])
 unfolding slips_behind
-tally_after syncs slips last place places t = record {
-  syncs_are = omega (arith, t.syncs_are, length-append places (place ∷ []));
-  slips_are = ap₂ (λ a b. a + b) t.slips_are (slip_is syncs last place places t.syncs_are t.last_is)
-      ∙ sym (slips_more None places place);
-  last_is = subst (λ (o : Option ℕ). IfSome o (λ p. place ≡ p)) (sym (last_more None places place)) refl;
-}
+tally_after syncs slips last place places t = grind (arith, length-append, slip_is, slips_more, last_more)

@@ -24,8 +24,7 @@ use Rattle.dtx_level.specs.Standing.{standing_measures}
 use Rattle.dtx_level.proofs.Ending.{all_wanted, few_none}
 use Rattle.dtx_level.proofs.Gains.{constant_undone, gain_undone}
 use Rattle.dtx_level.proofs.MeasuresBehind.{measured}
-use Rattle.dtx_level.proofs.Standing.{IsSyncAt, by_at, by_gain, noise_eight, second_eight, shows_at}
-use Rattle.dtx_level.proofs.Standing.{standing_undone}
+use Rattle.dtx_level.proofs.Standing.{IsSyncAt, by_at, by_gain, noise_eight, second_eight, shows_at, standing_undone}
 
 -- ---- syncs a field apart
 
@@ -39,8 +38,7 @@ next_place f = omega arith
 behind_due : (v : List ℤ) (f : ℕ) → field_place (f + 1) + 832 ≤ length v → shows v (field_place (f + 1)) ≡ true
     → behind v (field_place f) ≡ Some (field_place (f + 1))
 unfolding behind is_met
-behind_due v f room h =
-    cond-true (is_met v (field_place f)) _ None
+behind_due v f room h = cond-true (is_met v (field_place f)) _ None
     (le-leb (field_place f + 260416 + 832) (length v) (omega arith))
     ∙ cond-true (shows v (due (field_place f))) (Some (due (field_place f)))
     (least_shown v (field_place f + 832)) (ap (shows v) (next_place f) ∙ h)
@@ -62,13 +60,11 @@ places_from : (v : List ℤ) (n k f : ℕ) → k < n
     → syncs_from v n (Some (field_place f)) ≡ map field_place (range_with_len f (suc k))
 unfolding syncs_from
 places_from v zero k f l each ends = absurd (omega arith)
-places_from v (suc n) zero f l each ends =
-    ap (λ xs. field_place f ∷ xs)
+places_from v (suc n) zero f l each ends = ap (λ xs. field_place f ∷ xs)
     (ap (syncs_from v n) (behind_last v f (omega (arith, ends))) ∙ ended v n)
 places_from v (suc n) (suc k) f l each ends =
     let is = each (f + 1) (omega arith) (omega arith) in
-    ap (λ xs. field_place f ∷ xs)
-    (ap (syncs_from v n) (behind_due v f is.0 is.1)
+    ap (λ xs. field_place f ∷ xs) (ap (syncs_from v n) (behind_due v f is.0 is.1)
     ∙ places_from v n k (f + 1) (omega arith) (λ j a b. each j (omega arith) (omega arith)) (omega (arith, ends)))
 
 -- a sync that stands so begins each of so many fields, and no more are begun
@@ -123,8 +119,7 @@ unfolding levelled levelled_behind stretches
 levelled_by a b v k l h =
     ap (λ (places : List ℕ). where_some places (stretches nothing v 0 places)) (all_places a b v (suc k) l h)
     ∙ ap (λ (x : By). stretches x v 0 (map field_place (range_with_len 1 k))) (by_at a b v 0 (h.each 0 (omega arith)))
-    ∙ stretched (by_gain a b) v k 1 0 (omega arith)
-    (λ j m n. by_at a b v (field_place j) (h.each j (omega arith)))
+    ∙ stretched (by_gain a b) v k 1 0 (omega arith) (λ j m n. by_at a b v (field_place j) (h.each j (omega arith)))
 
 -- ---- how each sync is told
 
@@ -133,8 +128,7 @@ told_at : (a b : ℤ) (v : List ℤ) (place : ℕ) (segment : List ℤ) → IsSy
     → ((i : ℕ) → i < 515 → get_or segment i (pos 0) ≡ get_or (sync_symbols false) i (pos 0))
     → measure_at v place ≡ exact_measure a b place (is_second segment)
 unfolding measure_at
-told_at a b v place segment h is long front =
-    ap₂ (measured place) (by_at a b v place h) is
+told_at a b v place segment h is long front = ap₂ (measured place) (by_at a b v place h) is
     ∙ ap₂ (λ s n. record {
       place = place;
       second = s;
@@ -174,14 +168,12 @@ length-standing a b xs = length-map xs (λ s. a *ℤ s +ℤ b)
 standing_at : (a b : ℤ) (xs : List ℤ) (k : ℕ) (s : ℤ) → k < length xs → get_or xs k (pos 0) ≡ s
     → get_or (standing a b xs) k (pos 0) ≡ a *ℤ s +ℤ b
 unfolding standing
-standing_at a b xs k s l e =
-    get_or-map (λ s. a *ℤ s +ℤ b) xs k (pos 0) (pos 0) l ∙ ap (λ s. a *ℤ s +ℤ b) e
+standing_at a b xs k s l e = get_or-map (λ s. a *ℤ s +ℤ b) xs k (pos 0) (pos 0) l ∙ ap (λ s. a *ℤ s +ℤ b) e
 
 standing_part : (a b : ℤ) (xs : List ℤ) (p : ℕ)
     → take 832 (drop p (standing a b xs)) ≡ standing a b (take 832 (drop p xs))
 unfolding standing
-standing_part a b xs p =
-    ap (take 832) (drop-map (λ s. a *ℤ s +ℤ b) p xs) ∙ take-map (λ s. a *ℤ s +ℤ b) 832 (drop p xs)
+standing_part a b xs p = ap (take 832) (drop-map (λ s. a *ℤ s +ℤ b) p xs) ∙ take-map (λ s. a *ℤ s +ℤ b) 832 (drop p xs)
 
 sync_stands : (a b : ℤ) (sent : List (List ℤ)) (f : ℕ) → AreInFields sent → 313 * f < length sent
     → IsSyncAt a b (standing a b (all_symbols sent)) (field_place f)
@@ -200,8 +192,7 @@ sync_levelled : (a b : ℤ) (sent : List (List ℤ)) (f : ℕ) → nat_abs b < 5
     → 313 * f < length sent
     → levelled_sync (standing a b (all_symbols sent)) (field_place f) ≡ eightfold (get_or sent (313 * f) [])
 unfolding levelled_sync
-sync_levelled a b sent f some h l =
-    ap₂ (λ (by : By) (xs : List ℤ). map (level by) xs)
+sync_levelled a b sent f some h l = ap₂ (λ (by : By) (xs : List ℤ). map (level by) xs)
     (by_at a b (standing a b (all_symbols sent)) (field_place f) (sync_stands a b sent f h l))
     (standing_part a b (all_symbols sent) (field_place f)
     ∙ ap (standing a b) (ap (λ p. take 832 (drop p (all_symbols sent))) (sym (field_segment f))
@@ -228,8 +219,7 @@ told_sent a b sent f some h l =
 all_told : (a b : ℤ) (sent : List (List ℤ)) → nat_abs b < 5 * nat_abs a → AreInFields sent
     → measures_where (λ met. true) (standing a b (all_symbols sent)) ≡ standing_measures a b sent
 unfolding measures_where syncs_where standing_measures
-all_told a b sent some h =
-    ap (map (measure_at (standing a b (all_symbols sent))))
+all_told a b sent some h = ap (map (measure_at (standing a b (all_symbols sent))))
     (all_wanted (λ p. true) (all_syncs (standing a b (all_symbols sent)))
     ∙ all_places a b (standing a b (all_symbols sent)) (begun sent) some (syncs_stand a b sent h))
     ∙ told_from (standing a b (all_symbols sent)) (standing_measure a b sent) (begun sent) 0
@@ -248,8 +238,7 @@ all_undone a b sent some h = by_count sent h (begun sent) refl
     by_count : (sent : List (List ℤ)) → AreInFields sent → (n : ℕ) → begun sent ≡ n
         → levelled (standing a b (all_symbols sent)) ≡ eightfold (all_symbols sent)
     by_count sent h zero e = none_undone a b (all_symbols sent) (omega (arith, e, length_sent sent h))
-    by_count sent h (suc k) e =
-        levelled_by a b (standing a b (all_symbols sent)) k some
+    by_count sent h (suc k) e = levelled_by a b (standing a b (all_symbols sent)) k some
         (subst (AreSyncsAt a b (standing a b (all_symbols sent))) e (syncs_stand a b sent h))
         ∙ standing_undone a b (all_symbols sent) some (symbols_small sent h)
 
@@ -258,7 +247,6 @@ pub whole_fields : (a b : ℤ) (sent : List (List ℤ)) → nat_abs b < 5 * nat_
 whole_fields a b sent some h = record {
   levelled_is = all_undone a b sent some h;
   measures_are = all_told a b sent some h;
-  no_slip =
-      ap slips (all_places a b (standing a b (all_symbols sent)) (begun sent) some (syncs_stand a b sent h))
+  no_slip = ap slips (all_places a b (standing a b (all_symbols sent)) (begun sent) some (syncs_stand a b sent h))
       ∙ no_slips (begun sent);
 }
