@@ -16,7 +16,7 @@ use Rattle.dtx_meaning.specs.Status.{IsFault}
 use Rattle.dtx_meaning.specs.declared.status.Status.{Status}
 use Rattle.dtx_meaning.specs.declared.status.Status.TheVariants.{Done, NoSync}
 use Rattle.dtx_outside.proofs.FilesLemmas.{get-insert_other}
-use Rattle.dtx_outside.specs.Shelf.{Files}
+use Rattle.dtx_outside.specs.Shelf.{ConsistOfBytes, Files}
 use Rattle.dtx_packets.specs.Packets.{packet_at, packets_of, whole_packets}
 use Rattle.dtx_forms.proofs.FilePacketsLemmas.{length-packets_of}
 use Rattle.dtx_recipes.specs.Code.{coding}
@@ -24,10 +24,11 @@ use Rattle.dtx_jobs.proofs.GivenLemmas.{nothing_received}
 use Rattle.dtx_recipes.specs.Giving.{Giving, IsGiving, receiving_by}
 use Rattle.dtx_recipes.specs.SymbolFile.{whole_segments}
 use Rattle.dtx_recipes.specs.Symbols.{symbol_bytes}
-use Rattle.dtx_jobs.proofs.SymbolsBackLemmas.{each_drop, each_range, each_take}
+use Rattle.dtx_jobs.proofs.SymbolsBackLemmas.{each_range}
 use Rattle.dtx_words.specs.Line.{done_line}
 use Rattle.dtx_words.specs.Printed.{printed}
 use Rattle.dtx_words.specs.declared.rows.Command.{Command}
+use Rattle.dtx_top.proofs.StreamsLemmas.{AreBytes-packet_at}
 use Rattle.dtx_file_laws.specs.Back.{IsGivenBack, all_back, line_back, packets_back}
 use Rattle.dtx_file_laws.specs.Told.{Holds}
 use Rattle.dtx_file_laws.proofs.Answered.{one_holds, read_whole}
@@ -41,6 +42,13 @@ use Rattle.dtx_file_laws.proofs.Whole.{count_segments}
 pub holds_one : (now : Option Files) (name a b : List ℕ) → Holds now name a → Holds now name b → a ≡ b
 holds_one None name a b h g = elim h [ ]
 holds_one (Some held) name a b h g = let e : Some a ≡ Some b = sym h ∙ g in cc
+
+-- a file consists of bytes
+pub holds_bytes : (now : Option Files) (name file : List ℕ) → IfSome now ConsistOfBytes → Holds now name file
+    → AreBytes file
+holds_bytes None name file known there = elim there [ ]
+holds_bytes (Some held) name file known there =
+    subst (λ (o : Option (List ℕ)). IfSome o AreBytes) there (known name)
 
 -- what follows of a call over files that are told
 pub told_so : (start : Option Files) (name bytes : List ℕ) (P : Files → Type 0) (Q : Type 0) → Holds start name bytes
@@ -60,7 +68,7 @@ pub are_packets : (file : List ℕ) → AreBytes file → ArePackets (packets_of
 are_packets file are =
     each_range (λ p. (length p ≡ 188) × AreBytes p) (packet_at file) 0 (whole_packets file) (λ k l m. (
       length-take-le 188 (drop (188 * k) file) (omega (arith, m, length-drop (188 * k) file)),
-      each_take (λ b. b < 256) 188 (drop (188 * k) file) (each_drop (λ b. b < 256) (188 * k) file are),
+      AreBytes-packet_at file are k,
     ))
 
 -- ---- what is sent

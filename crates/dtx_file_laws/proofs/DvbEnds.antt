@@ -1,5 +1,5 @@
 -- What `dvb code` sends at one end, and `dvb read` gives back at the other, where both calls are done.
-use Rattle.std.proofs.Common.{◌≡◌, ℕ, ◌-◌, ◌*◌, ◌<◌, ◌≤◌, Bool, true, false, not, List, [], ◌∷◌, length, take, drop}
+use Rattle.std.proofs.Common.{◌≡◌, ℕ, ◌-◌, ◌*◌, ◌≤◌, Bool, true, false, not, List, [], ◌∷◌, length, take, drop}
 use Rattle.std.proofs.Common.{refl, sym, ap, ◌∙◌, arith}
 use Rattle.std.specs.Prelude.{Option, Some, None, IfSome, min}
 use Rattle.std.specs.FinMap.{get}
@@ -21,10 +21,11 @@ use Rattle.dtx_recipes.specs.DvbCode.{dvb_coding}
 use Rattle.dtx_recipes.specs.DvbRead.{dvb_reading}
 use Rattle.dtx_recipes.specs.DvbShapes.{blocks, dvb_packets}
 use Rattle.dtx_recipes.specs.Place.{has_sync}
-use Rattle.dtx_jobs.proofs.SymbolsBackLemmas.{each_drop, each_range, each_take}
+use Rattle.dtx_jobs.proofs.SymbolsBackLemmas.{each_range}
 use Rattle.dtx_words.specs.Line.{done_line}
 use Rattle.dtx_words.specs.Printed.{printed}
 use Rattle.dtx_words.specs.declared.rows.Command.TheVariants.{DvbRead}
+use Rattle.dtx_top.proofs.StreamsLemmas.{AreBytes-packet_at}
 use Rattle.dtx_file_laws.specs.Back.{IsReadBack, dvb_line_back}
 use Rattle.dtx_file_laws.specs.Told.{Holds}
 use Rattle.dtx_file_laws.proofs.Answered.{one_holds, read_whole}
@@ -51,7 +52,7 @@ are_packets stream are syncs =
     each_range (λ p. (length p ≡ 188) × AreBytes p × (sync_of p ≡ 0x47)) (packet_at stream) 0 (whole_packets stream)
     (λ k l m. (
       length-take-le 188 (drop (188 * k) stream) (omega (arith, m, length-drop (188 * k) stream)),
-      each_take (λ b. b < 256) 188 (drop (188 * k) stream) (each_drop (λ b. b < 256) (188 * k) stream are),
+      AreBytes-packet_at stream are k,
       eqb-true (sync_of (packet_at stream k)) 0x47 (syncs k (omega (arith, m))),
     ))
 

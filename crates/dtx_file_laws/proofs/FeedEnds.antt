@@ -1,13 +1,12 @@
 -- What `adapt` leaves at one end, and what two transmitters send of it at others, where all calls are done.
-use Rattle.std.proofs.Common.{◌≡◌, ◌≢◌, ℕ, ◌+◌, ◌-◌, ◌*◌, ◌%◌, ◌<◌, ◌≤◌, ◌==◌, ◌&&◌, Bool}
-use Rattle.std.proofs.Common.{true, false, List, [], ◌∷◌, ◌++◌, length, take, drop, refl, sym, ap, ◌∙◌, subst, arith}
+use Rattle.std.proofs.Common.{◌≡◌, ◌≢◌, ℕ, ◌+◌, ◌-◌, ◌*◌, ◌%◌, ◌≤◌, ◌==◌, ◌&&◌, Bool}
+use Rattle.std.proofs.Common.{true, false, List, [], ◌∷◌, ◌++◌, length, take, refl, sym, ap, ◌∙◌, subst, arith}
 use Rattle.std.specs.Prelude.{Option, Some, None, Ok, IfSome, slice_range}
 use Rattle.std.specs.FinMap.{get}
 use Rattle.std.specs.List.{All, find, range_with_len}
 use Rattle.std.proofs.lemmas.Bool.{and_parts, eq-eqb, eqb-true}
 use Rattle.std.proofs.lemmas.List.{append-nil, take_all}
-use Rattle.std.proofs.lemmas.List.Elements.{All-contains, All-from_get_or}
-use Rattle.std.proofs.lemmas.List.FromFn.{get_or-map-range_with_len}
+use Rattle.std.proofs.lemmas.List.Elements.{All-contains}
 use Rattle.dtx_lists.proofs.RangeSearch.{IsFirst, find-range_gives, find-range_misses}
 use Rattle.dtx_galois.specs.Field.{AreBytes}
 use Rattle.dtx_adapter.specs.Feed.{feed}
@@ -25,37 +24,20 @@ use Rattle.dtx_network.specs.Orders.{has_listing, has_order}
 use Rattle.dtx_network.specs.Plans.{IsInTime, IsListed, IsPlan, IsStream}
 use Rattle.dtx_network.specs.Presets.{presets}
 use Rattle.dtx_outside.specs.Shelf.{Files}
-use Rattle.dtx_packets.specs.Packets.{packet_at, packets_of, whole_packets}
+use Rattle.dtx_packets.specs.Packets.{packets_of, whole_packets}
 use Rattle.dtx_recipes.specs.Adapt.{feeding}
 use Rattle.dtx_recipes.specs.Feed.{feed_bytes}
-use Rattle.dtx_forms.proofs.FilePacketsLemmas.{length-packets_of, long-packets_of}
 use Rattle.dtx_plan.specs.Plan.{plan_of}
 use Rattle.dtx_plan.specs.Sound.{IsSound, IsTransmitter}
 use Rattle.dtx_plan.specs.declared.plan.Plan.{Plan}
 use Rattle.dtx_plan.specs.declared.transmitter.Transmitter.{Transmitter}
 use Rattle.dtx_recipes.specs.Excite.{exciting}
-use Rattle.dtx_jobs.proofs.SymbolsBackLemmas.{each_drop, each_take}
 use Rattle.dtx_repeated_feed.specs.DoneWith.{IsDoneWith}
+use Rattle.dtx_top.proofs.StreamsLemmas.{is_stream}
 use Rattle.dtx_file_laws.specs.Told.{Holds}
 use Rattle.dtx_file_laws.proofs.Answered.{one_holds, read_whole}
 use Rattle.dtx_file_laws.proofs.BothEnds.{holds_one, told_so}
 use Rattle.dtx_file_laws.proofs.Excited.{few_read, two_hold, whole_read}
-
--- ---- the stream
-
-byte_packet : (stream : List ℕ) → AreBytes stream → (k : ℕ) → AreBytes (packet_at stream k)
-byte_packet stream are k =
-    each_take (λ b. b < 256) 188 (drop (188 * k) stream) (each_drop (λ b. b < 256) (188 * k) stream are)
-
-pub is_stream : (stream : List ℕ) → AreBytes stream → whole_packets stream ≤ 624000000 → IsStream (packets_of stream)
-is_stream stream are few = record {
-  most = omega (arith, few, length-packets_of stream);
-  long = long-packets_of stream;
-  bytes = All-from_get_or AreBytes (packets_of stream) [] (λ k l.
-      subst AreBytes (sym (get_or-map-range_with_len (packet_at stream) 0 (whole_packets stream) k k []
-      (omega (arith, l, length-packets_of stream)) (omega arith)))
-      (byte_packet stream are k));
-}
 
 -- ---- the feed
 

@@ -29,7 +29,8 @@ use Rattle.dtx_file_laws.specs.Orders.{IsFirstOrder}
 use Rattle.dtx_file_laws.specs.Told.{Holds}
 use Rattle.dtx_file_laws.proofs.BothEnds.{IsCoded, code_keeps, coded_is, holds_one}
 use Rattle.dtx_file_laws.proofs.Captured.{stream_bytes}
-use Rattle.dtx_file_laws.proofs.FeedEnds.{IsExcited, IsFeedOf, IsOfPlan, Laws, fed_anew, is_stream, sends}
+use Rattle.dtx_top.proofs.StreamsLemmas.{is_stream}
+use Rattle.dtx_file_laws.proofs.FeedEnds.{IsExcited, IsFeedOf, IsOfPlan, Laws, fed_anew, sends}
 
 -- ---- symbols
 

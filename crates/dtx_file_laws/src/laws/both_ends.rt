@@ -2,7 +2,6 @@
 //! no meaning of a command. Between the two runs the file is carried from one shelf to another, and may be damaged.
 
 ghost use Rattle.std.specs.Prelude.{◌≡◌, ◌≢◌, ◌⊎◌, ◌<◌, ◌≤◌, ◌∷◌, [], ℕ, List, codes, decimal, length};
-ghost use Rattle.dtx_galois.specs.Field.{AreBytes};
 ghost use Rattle.dtx_meaning.specs.Status.{IsFault};
 ghost use Rattle.dtx_packets.specs.Packets.{whole_packets};
 ghost use Rattle.dtx_file_laws.specs.Back.{CanBeCoded, IsGivenBack, IsReadBack};
@@ -28,7 +27,7 @@ use std::alloc::Global;
 /// that come back, with 0x47 as their sync bytes, and no other. No byte is put right, and no packet is flagged. Let IN
 /// have at least four packets and at most `MOST_PACKETS`, which begin with 0x47 or with the mark 0xB8. Let the names be
 /// different and not empty. Then `code` answers `Done`, an I/O error or out of memory. If it is done, the same holds of
-/// `receive`. IN is a list of bytes here and below.
+/// `receive`.
 pub fn run_there_and_back<S: Shelf, O: Sink>(
     alloc: Global,
     words: &(&[Word], &[Word]),
@@ -36,7 +35,7 @@ pub fn run_there_and_back<S: Shelf, O: Sink>(
     out: &mut O,
 ) -> (Status, Status)
     ensures back { (input sent output stream : List ℕ) → words.now.0.now ≡ codes "code" ∷ input ∷ sent ∷ []
-        → words.now.1.now ≡ codes "receive" ∷ sent ∷ output ∷ [] → AreBytes stream
+        → words.now.1.now ≡ codes "receive" ∷ sent ∷ output ∷ []
         → Holds (S.files shelf.old) input stream → result.0 ≡ Status.Done → result.1 ≡ Status.Done
         → IsGivenBack stream 0 output (S.files shelf.new) (O.written out.new) }
     ensures first { (input sent stream : List ℕ) → words.now.0.now ≡ codes "code" ∷ input ∷ sent ∷ []
@@ -44,12 +43,13 @@ pub fn run_there_and_back<S: Shelf, O: Sink>(
         → Holds (S.files shelf.old) input stream → (result.0 ≡ Status.Done) ⊎ IsFault result.0 }
     ensures second { (input sent output stream : List ℕ) → words.now.0.now ≡ codes "code" ∷ input ∷ sent ∷ []
         → words.now.1.now ≡ codes "receive" ∷ sent ∷ output ∷ []
-        → sent ≢ [] → output ≢ [] → sent ≢ output → GROUP_PACKETS ≤ whole_packets stream → AreBytes stream
+        → sent ≢ [] → output ≢ [] → sent ≢ output → GROUP_PACKETS ≤ whole_packets stream
         → Holds (S.files shelf.old) input stream → result.0 ≡ Status.Done
         → (result.1 ≡ Status.Done) ⊎ IsFault result.1 }
 {
     a_stream_is_coded();
     what_was_coded_is_received();
+    shelf.known();
     let sent = run_of_code(alloc, words.0, shelf, out);
     let received = run_of_receive(alloc, words.1, shelf, out);
     (sent, received)
@@ -67,13 +67,13 @@ pub fn run_of_code_and_receive<S: Shelf, R: Shelf, O: Sink>(
 ) -> (Status, Status)
     ensures undamaged { (input sent got output stream symbols : List ℕ)
         → words.now.0.now ≡ codes "code" ∷ input ∷ sent ∷ [] → words.now.1.now ≡ codes "receive" ∷ got ∷ output ∷ []
-        → AreBytes stream → Holds (S.files sender.old) input stream → result.0 ≡ Status.Done
+        → Holds (S.files sender.old) input stream → result.0 ≡ Status.Done
         → Holds (S.files sender.new) sent symbols
         → Holds (R.files receiver.old) got symbols → result.1 ≡ Status.Done
         → IsGivenBack stream 0 output (R.files receiver.new) (O.written out.new) }
     ensures burst { (input sent got output stream symbols file : List ℕ) (count from : ℕ)
         → words.now.0.now ≡ codes "code" ∷ input ∷ sent ∷ [] → words.now.1.now ≡ codes "receive" ∷ got ∷ output ∷ []
-        → AreBytes stream → Holds (S.files sender.old) input stream → result.0 ≡ Status.Done
+        → Holds (S.files sender.old) input stream → result.0 ≡ Status.Done
         → Holds (S.files sender.new) sent symbols
         → count ≤ 2022 → IsBurst count from symbols file → SparesSyncs count from (length file)
         → Holds (R.files receiver.old) got file → result.1 ≡ Status.Done
@@ -81,6 +81,7 @@ pub fn run_of_code_and_receive<S: Shelf, R: Shelf, O: Sink>(
 {
     what_was_coded_is_received();
     bursts_come_back();
+    sender.known();
     let sent = run_of_code(alloc, words.0, sender, out);
     let received = run_of_receive(alloc, words.1, receiver, out);
     (sent, received)
@@ -98,13 +99,14 @@ pub fn run_of_code_and_mend<S: Shelf, R: Shelf, O: Sink>(
 ) -> (Status, Status)
     ensures { (input sent got output stream symbols file : List ℕ) (count from : ℕ)
         → words.now.0.now ≡ codes "code" ∷ input ∷ sent ∷ [] → words.now.1.now ≡ codes "mend" ∷ got ∷ output ∷ []
-        → AreBytes stream → Holds (S.files sender.old) input stream → result.0 ≡ Status.Done
+        → Holds (S.files sender.old) input stream → result.0 ≡ Status.Done
         → Holds (S.files sender.new) sent symbols
         → count ≤ 4141 → IsGap count from symbols file → SparesSyncs count from (length file)
         → Holds (R.files receiver.old) got file → result.1 ≡ Status.Done
         → (fixed : ℕ) × IsGivenBack stream fixed output (R.files receiver.new) (O.written out.new) }
 {
     bursts_come_back();
+    sender.known();
     let sent = run_of_code(alloc, words.0, sender, out);
     let mended = run_of_mend(alloc, words.1, receiver, out);
     (sent, mended)
@@ -148,7 +150,7 @@ pub fn run_of_code_and_refine<S: Shelf, R: Shelf, O: Sink>(
     ensures { (input sent got output stream symbols file : List ℕ) (scale rounds : ℕ)
         → words.now.0.now ≡ codes "code" ∷ input ∷ sent ∷ []
         → words.now.1.now ≡ codes "refine" ∷ decimal scale ∷ decimal rounds ∷ got ∷ output ∷ []
-        → 0 < scale → scale ≤ 18 → 0 < rounds → rounds ≤ 32 → AreBytes stream
+        → 0 < scale → scale ≤ 18 → 0 < rounds → rounds ≤ 32
         → Holds (S.files sender.old) input stream → result.0 ≡ Status.Done → Holds (S.files sender.new) sent symbols
         → IsNoisy scale symbols file → Holds (R.files receiver.old) got file → result.1 ≡ Status.Done
         → Holds (R.files receiver.new) output symbols }
@@ -156,6 +158,7 @@ pub fn run_of_code_and_refine<S: Shelf, R: Shelf, O: Sink>(
     a_noisy_capture_is_refined();
     a_stream_is_refined();
     all_is_refined_of_a_file();
+    sender.known();
     let sent = run_of_code(alloc, words.0, sender, out);
     let refined = run_of_refine(alloc, words.1, receiver, out);
     (sent, refined)
@@ -172,13 +175,14 @@ pub fn run_of_dvb_code_and_read<S: Shelf, R: Shelf, O: Sink>(
 ) -> (Status, Status)
     ensures { (input sent got output stream bytes file : List ℕ) (from : ℕ)
         → words.now.0.now ≡ codes "dvb" ∷ codes "code" ∷ input ∷ sent ∷ []
-        → words.now.1.now ≡ codes "dvb" ∷ codes "read" ∷ got ∷ output ∷ [] → AreBytes stream
+        → words.now.1.now ≡ codes "dvb" ∷ codes "read" ∷ got ∷ output ∷ []
         → Holds (S.files sender.old) input stream → result.0 ≡ Status.Done → Holds (S.files sender.new) sent bytes
         → IsBurst 96 from bytes file → Holds (R.files receiver.old) got file → result.1 ≡ Status.Done
         → (fixed : ℕ) × IsReadBack stream fixed output (R.files receiver.new) (O.written out.new) }
 {
     all_is_sent();
     a_burst_is_read();
+    sender.known();
     let sent = run_of_dvb_code(alloc, words.0, sender, out);
     let read = run_of_dvb_read(alloc, words.1, receiver, out);
     (sent, read)

@@ -2,7 +2,6 @@
 //! manner of ATSC A/110).
 
 ghost use Rattle.std.specs.Prelude.{◌≡◌, ◌≢◌, ◌+◌, ◌*◌, ◌/◌, ◌≤◌, ◌∷◌, [], ℕ, List, Ok, codes, decimal, drop, length};
-ghost use Rattle.dtx_galois.specs.Field.{AreBytes};
 ghost use Rattle.dtx_network.specs.Plans.{IsInTime, IsListed};
 ghost use Rattle.dtx_packets.specs.Packets.{packets_of};
 ghost use Rattle.dtx_plan.specs.Plan.{plan_of};
@@ -37,7 +36,7 @@ pub fn run_of_a_transmitter<S: Shelf, R: Shelf, O: Sink>(
         → words.now.1.now ≡ codes "code" ∷ feed ∷ sent ∷ []
         → words.now.2.now ≡ codes "excite" ∷ copy ∷ decimal t.address ∷ decimal t.delay ∷ output ∷ log ∷ []
         → feed ≢ sent → output ≢ log → plan_of plan_bytes ≡ Ok plan → length plan.transmitters ≤ 35
-        → IsListed plan t → IsInTime plan t → AreBytes stream → IsFirstOrder (packets_of stream) k
+        → IsListed plan t → IsInTime plan t → IsFirstOrder (packets_of stream) k
         → Holds (S.files shelves.old.0) plan_name plan_bytes → Holds (S.files shelves.old.0) input stream
         → result.0 ≡ Status.Done → result.1 ≡ Status.Done
         → Holds (S.files shelves.new.0) feed fed → Holds (S.files shelves.new.0) sent symbols
@@ -49,6 +48,7 @@ pub fn run_of_a_transmitter<S: Shelf, R: Shelf, O: Sink>(
     listings_of_a_feed();
     orders_of_a_feed();
     a_feed_is_sent();
+    shelves.0.known();
     let adapted = run_of_adapt(alloc, words.0, &mut shelves.0, out);
     let coded = run_of_code(alloc, words.1, &mut shelves.0, out);
     let excited = run_of_excite(alloc, words.2, &mut shelves.1, out);
@@ -72,7 +72,7 @@ pub fn run_of_two_transmitters<S: Shelf, R: Shelf, T: Shelf, O: Sink>(
         → words.now.1.now ≡ codes "excite" ∷ feed_1 ∷ decimal t.address ∷ decimal t.delay ∷ out_1 ∷ log_1 ∷ []
         → words.now.2.now ≡ codes "excite" ∷ feed_2 ∷ decimal u.address ∷ decimal u.delay ∷ out_2 ∷ log_2 ∷ []
         → out_1 ≢ log_1 → out_2 ≢ log_2 → plan_of plan_bytes ≡ Ok plan → length plan.transmitters ≤ 35
-        → IsListed plan t → IsInTime plan t → IsListed plan u → IsInTime plan u → AreBytes stream
+        → IsListed plan t → IsInTime plan t → IsListed plan u → IsInTime plan u
         → Holds (S.files shelves.old.0) plan_name plan_bytes → Holds (S.files shelves.old.0) input stream
         → result.0 ≡ Status.Done → Holds (S.files shelves.new.0) feed fed
         → Holds (R.files shelves.old.1) feed_1 fed → result.1 ≡ Status.Done
@@ -84,6 +84,7 @@ pub fn run_of_two_transmitters<S: Shelf, R: Shelf, T: Shelf, O: Sink>(
     feed_read_back();
     listings_of_a_feed();
     a_feed_is_sent();
+    shelves.0.known();
     let adapted = run_of_adapt(alloc, words.0, &mut shelves.0, out);
     let first = run_of_excite(alloc, words.1, &mut shelves.1, out);
     let second = run_of_excite(alloc, words.2, &mut shelves.2, out);

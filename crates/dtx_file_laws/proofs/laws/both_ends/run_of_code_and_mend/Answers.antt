@@ -4,13 +4,14 @@ use Rattle.dtx_recipes.proofs.MendLemmas.{mendings_given}
 use Rattle.dtx_packets.specs.Packets.{packets_of}
 use Rattle.dtx_words.specs.declared.rows.Command.TheVariants.{Mend}
 use Rattle.dtx_file_laws.specs.Damaged.{IsGap}
-use Rattle.dtx_file_laws.proofs.BothEnds.{are_packets, back_through}
+use Rattle.dtx_file_laws.proofs.BothEnds.{are_packets, back_through, holds_bytes}
 use Rattle.dtx_file_laws.proofs.Lines.{mended_line}
 use Rattle.dtx_file_laws.proofs.laws.both_ends.run_of_code_and_mend.Goals as goal
 
 pub returns : goal.returns
-returns g c = λ input sent got output stream symbols file count from code mend are there coded left short gap
+returns g c = λ input sent got output stream symbols file count from code mend there coded left short gap
     spares here done.
+    let are = holds_bytes (g.S.Shelf.files c.args.sender.now) input stream c.known.ensures there in
     let all = back_through with_mendings mendings_given Mend mended_line (λ _. Unit {0}) input sent got output stream
     symbols file _ _ (g.S.Shelf.files c.args.sender.now) (g.S.Shelf.files c.run_of_code-sent.new.shelf)
     (g.R.Shelf.files c.args.receiver.now) (g.R.Shelf.files c.run_of_mend-mended.new.shelf)

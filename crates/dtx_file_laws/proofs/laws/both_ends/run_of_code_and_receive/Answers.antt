@@ -7,12 +7,13 @@ use Rattle.dtx_packets.specs.Packets.{packets_of}
 use Rattle.dtx_words.specs.declared.rows.Command.TheVariants.{Receive}
 use Rattle.dtx_file_laws.specs.Back.{IsGivenBack}
 use Rattle.dtx_file_laws.specs.Damaged.{IsBurst}
-use Rattle.dtx_file_laws.proofs.BothEnds.{are_packets, back_through}
+use Rattle.dtx_file_laws.proofs.BothEnds.{are_packets, back_through, holds_bytes}
 use Rattle.dtx_file_laws.proofs.Lines.{received_line}
 use Rattle.dtx_file_laws.proofs.laws.both_ends.run_of_code_and_receive.Goals as goal
 
 pub returns-clause-undamaged : goal.returns-clause-undamaged
-returns-clause-undamaged g c = λ input sent got output stream symbols code receive are there coded left here done.
+returns-clause-undamaged g c = λ input sent got output stream symbols code receive there coded left here done.
+    let are = holds_bytes (g.S.Shelf.files c.args.sender.now) input stream c.known.ensures there in
     let all = back_through with_corrections corrections_given Receive received_line (λ n. n ≡ 0) input sent got output
     stream symbols symbols _ _ (g.S.Shelf.files c.args.sender.now) (g.S.Shelf.files c.run_of_code-sent.new.shelf)
     (g.R.Shelf.files c.args.receiver.now) (g.R.Shelf.files c.run_of_receive-received.new.shelf)
@@ -38,8 +39,9 @@ returns-clause-undamaged g c = λ input sent got output stream symbols code rece
     (g.O.Sink.written c.run_of_receive-received.new.out)) all.1 all.2
 
 pub returns-clause-burst : goal.returns-clause-burst
-returns-clause-burst g c = λ input sent got output stream symbols file count from code receive are there coded left
+returns-clause-burst g c = λ input sent got output stream symbols file count from code receive there coded left
     short burst spares here done.
+    let are = holds_bytes (g.S.Shelf.files c.args.sender.now) input stream c.known.ensures there in
     let all = back_through with_corrections corrections_given Receive received_line (λ _. Unit {0}) input sent got
     output stream symbols file _ _ (g.S.Shelf.files c.args.sender.now) (g.S.Shelf.files c.run_of_code-sent.new.shelf)
     (g.R.Shelf.files c.args.receiver.now) (g.R.Shelf.files c.run_of_receive-received.new.shelf)

@@ -6,13 +6,14 @@ use Rattle.dtx_recipes.specs.Symbols.{symbol_bytes}
 use Rattle.dtx_packets.specs.Packets.{packets_of}
 use Rattle.dtx_words.specs.declared.rows.Command.TheVariants.{Receive}
 use Rattle.dtx_file_laws.specs.Back.{IsGivenBack}
-use Rattle.dtx_file_laws.proofs.BothEnds.{are_packets, back_through, coded_is, enough_packets, few_packets, meant_done}
-use Rattle.dtx_file_laws.proofs.BothEnds.{told_so}
+use Rattle.dtx_file_laws.proofs.BothEnds.{are_packets, back_through, coded_is, enough_packets, few_packets}
+use Rattle.dtx_file_laws.proofs.BothEnds.{holds_bytes, meant_done, told_so}
 use Rattle.dtx_file_laws.proofs.Lines.{received_line}
 use Rattle.dtx_file_laws.proofs.laws.both_ends.run_there_and_back.Goals as goal
 
 pub returns-clause-back : goal.returns-clause-back
-returns-clause-back g c = λ input sent output stream code receive are there coded done.
+returns-clause-back g c = λ input sent output stream code receive there coded done.
+    let are = holds_bytes (g.S.Shelf.files c.args.shelf.now) input stream c.known.ensures there in
     let symbols = symbol_bytes (packets_of stream) in
     let before = g.S.Shelf.files c.args.shelf.now in
     let between = g.S.Shelf.files c.run_of_code-sent.new.shelf in
@@ -47,7 +48,8 @@ returns-clause-first g c = λ input sent stream code some other apart few can th
     (λ held _ here of. meant_done _ _ (of here) (c.a_stream_is_coded.ensures (sent ∷ []) stream few can).done)
 
 pub returns-clause-second : goal.returns-clause-second
-returns-clause-second g c = λ input sent output stream code receive some other apart enough are there coded.
+returns-clause-second g c = λ input sent output stream code receive some other apart enough there coded.
+    let are = holds_bytes (g.S.Shelf.files c.args.shelf.now) input stream c.known.ensures there in
     let symbols = symbol_bytes (packets_of stream) in
     let between = g.S.Shelf.files c.run_of_code-sent.new.shelf in
     let left = coded_is input sent stream _ (g.S.Shelf.files c.args.shelf.now) between (record {

@@ -1,12 +1,14 @@
 use Rattle.dtx_recipes.specs.Feed.{feed_bytes}
 use Rattle.dtx_packets.specs.Packets.{packets_of}
+use Rattle.dtx_file_laws.proofs.BothEnds.{holds_bytes}
 use Rattle.dtx_file_laws.proofs.FeedEnds.{feed_is, numbers_of}
 use Rattle.dtx_file_laws.proofs.OwnSymbols.{sends_own, studio}
 use Rattle.dtx_file_laws.proofs.laws.single_frequency.run_of_a_transmitter.Goals as goal
 
 pub returns : goal.returns
 returns g c = λ plan_name input feed sent plan_bytes stream fed symbols plan t copy output log k adapt code excite
-    feed_apart apart says few listed in_time are first planned there adapted coded left_feed left_symbols here done.
+    feed_apart apart says few listed in_time first planned there adapted coded left_feed left_symbols here done.
+    let are = holds_bytes (g.S.Shelf.files c.args.shelves.now.0) input stream c.known.ensures there in
     let is_plan = c.plans_that_are_read.ensures plan_bytes plan says in
     let numbers = numbers_of plan t is_plan listed in
     let file = feed_bytes plan (packets_of stream) in

@@ -1,10 +1,12 @@
+use Rattle.dtx_file_laws.proofs.BothEnds.{holds_bytes}
 use Rattle.dtx_file_laws.proofs.FeedEnds.{feed_is, numbers_of, same_sent}
 use Rattle.dtx_file_laws.proofs.laws.single_frequency.run_of_two_transmitters.Goals as goal
 
 pub returns : goal.returns
 returns g c = λ plan_name input feed plan_bytes stream fed plan t u feed_1 out_1 log_1 feed_2 out_2 log_2 adapt excite
-    other apart apart_2 says few t_listed t_in_time u_listed u_in_time are planned there adapted left here done here_2
+    other apart apart_2 says few t_listed t_in_time u_listed u_in_time planned there adapted left here done here_2
     done_2.
+    let are = holds_bytes (g.S.Shelf.files c.args.shelves.now.0) input stream c.known.ensures there in
     let is_plan = c.plans_that_are_read.ensures plan_bytes plan says in
     let of_t = numbers_of plan t is_plan t_listed in
     let of_u = numbers_of plan u is_plan u_listed in
