@@ -23,10 +23,12 @@ use Rattle.dtx_packet_jobs.proofs.PlacedPackets.{length-scanned, scanned-next}
 abbrev pub one_if : Bool → ℕ
 one_if test = if test then 1 else 0
 
+-- what the cast of a test gives
 pub one_if_is : (test : Bool) → bool_byte test ≡ one_if test
 one_if_is true = refl
 one_if_is false = refl
 
+-- where one more fits, it fits with a test
 pub fits_with : (n : ℕ) (test : Bool) → n + 1 < 2 ^ 64 → Fits w64 (n + bool_byte test)
 fits_with n true small = omega (arith, small)
 fits_with n false small = omega (arith, small)
