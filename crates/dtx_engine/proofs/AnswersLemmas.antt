@@ -6,8 +6,8 @@ use Rattle.dtx_outside.specs.declared.shelf.ReadNo.TheVariants as read
 use Rattle.dtx_meaning.specs.Status.{IsFault, ended, of_read, refused_behind}
 use Rattle.dtx_meaning.specs.declared.status.Outcome.{Outcome}
 use Rattle.dtx_meaning.specs.declared.status.Status.{Status}
-use Rattle.dtx_meaning.specs.declared.status.Status.TheVariants.{Done, Usage, Same, Absent, Plan, Packet, TooLong}
-use Rattle.dtx_meaning.specs.declared.status.Status.TheVariants.{OutOfFeed, OutOfAir, NoSync, ReadFault, WriteFault}
+use Rattle.dtx_meaning.specs.declared.status.Status.TheVariants.{Absent, Packet, TooLong}
+use Rattle.dtx_meaning.specs.declared.status.Status.TheVariants.{ReadFault, WriteFault}
 use Rattle.dtx_meaning.specs.declared.status.Status.TheVariants.{Memory}
 use Rattle.dtx_engine.specs.Recipe.{IsAnswerAt, IsAnswerOf, Recipe}
 
@@ -44,10 +44,4 @@ end_answers recipe given loose outcome is = by_status outcome.status
     by_status ReadFault = tt
     by_status WriteFault = tt
     by_status Memory = tt
-    by_status Done = (given, loose, is)
-    by_status Usage = (given, loose, is)
-    by_status Same = (given, loose, is)
-    by_status (Plan refusal) = (given, loose, is)
-    by_status (OutOfFeed event) = (given, loose, is)
-    by_status (OutOfAir entry) = (given, loose, is)
-    by_status NoSync = (given, loose, is)
+    by_status status = (given, loose, is)

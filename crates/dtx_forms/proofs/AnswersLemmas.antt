@@ -27,9 +27,6 @@ knows_by recipe command long refused ends outcome is = by_status outcome.status 
 
     by_status : (s : Status) → outcome.status ≡ s → IsAnswerAt recipe s outcome → IsKnownAt command s outcome.numbers
     by_status Done same is = at_end Done same is
-    by_status Usage same is = tt
-    by_status Same same is = tt
-    by_status (Absent input) same is = tt
     by_status (Plan refusal) same is = at_end (Plan refusal) same is
     by_status (Packet k) same is = elim is [
       | inl unit ↦ refused k unit
@@ -39,9 +36,7 @@ knows_by recipe command long refused ends outcome is = by_status outcome.status 
     by_status (OutOfFeed event) same is = at_end (OutOfFeed event) same is
     by_status (OutOfAir entry) same is = at_end (OutOfAir entry) same is
     by_status NoSync same is = at_end NoSync same is
-    by_status ReadFault same is = tt
-    by_status WriteFault same is = tt
-    by_status Memory same is = tt
+    by_status s same is = tt
 
 -- no unit is refused
 pub none_refused : {Known : Type 0} → (unit : List ℕ) × (true ≡ false) → Known

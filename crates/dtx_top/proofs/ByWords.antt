@@ -1,6 +1,6 @@
 -- What the words alone say of the answer: of the command that they fit, and behind its line.
-use Rattle.std.specs.Prelude.{◌≡◌, ◌⊎◌, ℕ, Bool, true, false, is_some, List, [], ◌∷◌, ◌++◌, Option, Some, None, Result}
-use Rattle.std.specs.Prelude.{Ok, Err, refl}
+use Rattle.std.specs.Prelude.{◌≡◌, ◌⊎◌, ℕ, Bool, true, false, is_some, List, [], ◌∷◌, ◌++◌, length, Option, Some, None}
+use Rattle.std.specs.Prelude.{Result, Ok, Err, refl}
 use Rattle.std.specs.Option.{option_and}
 use Rattle.std.proofs.Common.{sym, ap, subst, ◌∙◌, inl, inr}
 use Rattle.std.proofs.lemmas.Bool.{and_parts}
@@ -10,8 +10,8 @@ use Rattle.dtx_outside.specs.declared.sink.SinkNo.TheVariants as sink
 use Rattle.dtx_meaning.specs.Status.{IsOfInputs}
 use Rattle.dtx_meaning.specs.declared.status.Outcome.{Outcome}
 use Rattle.dtx_meaning.specs.declared.status.Status.{Status}
-use Rattle.dtx_meaning.specs.declared.status.Status.TheVariants.{Usage, Memory}
-use Rattle.dtx_forms.specs.Answers.{Knows}
+use Rattle.dtx_meaning.specs.declared.status.Status.TheVariants.{Done, Usage, Memory}
+use Rattle.dtx_forms.specs.Answers.{IsKnown, IsKnownAt, Knows}
 use Rattle.dtx_forms.specs.OfWords.{IsOfWords, same_behind}
 use Rattle.dtx_words.specs.Fitting.{command_of, fit_fields, fits, is_name}
 use Rattle.dtx_words.proofs.FittingLemmas.{command_fits}
@@ -25,7 +25,22 @@ use Rattle.dtx_words.specs.declared.rows.Field.TheVariants.{Number, Within, Seco
 use Rattle.dtx_top.specs.Ends.{IsByWords, IsOfCommand}
 use Rattle.dtx_top.specs.NetAnswers.{IsOfNetWords, IsOfNetwork}
 use Rattle.dtx_top.proofs.Ending.{finished_failed}
-use Rattle.dtx_top.proofs.Known.{known_status}
+
+-- ---- what a command knows
+
+-- each label of its line has a number
+pub known_numbers : (command : Command) (outcome : Outcome) → IsKnown command outcome → outcome.status ≡ Done
+    → length outcome.numbers ≡ length (row_of command).labels
+known_numbers command outcome is done = subst (λ (s : Status). IsKnownAt command s outcome.numbers) done is
+
+known_at : (command : Command) (status : Status) (numbers : List ℕ) → IsKnownAt command status numbers
+    → Knows command status
+known_at command Done numbers is = tt
+known_at command status numbers is = is
+
+-- its status is known
+pub known_status : (command : Command) (outcome : Outcome) → IsKnown command outcome → Knows command outcome.status
+known_status command outcome is = known_at command outcome.status outcome.numbers is
 
 -- ---- words that fit
 

@@ -5,7 +5,6 @@ pub mod Ending
 pub mod FileNames
 pub mod HeadlineLaw
 pub mod Headlines
-pub mod Known
 pub mod LateOrders
 pub mod LineLeft
 pub mod NetAnswers

@@ -23,7 +23,7 @@ use Rattle.dtx_top.specs.Lines.{name_kept, names_told, HasLine, HasPartLine, IsS
 use Rattle.dtx_top.specs.Lines.{IsToldLine}
 use Rattle.dtx_top.specs.NetAnswers.{ShowsNetwork}
 use Rattle.dtx_top.specs.Means.{means_of}
-use Rattle.dtx_top.proofs.Known.{known_numbers}
+use Rattle.dtx_top.proofs.ByWords.{known_numbers}
 
 -- ---- how much of it
 

@@ -1,28 +1,31 @@
 -- What an answer of one input says of a network.
-use Rattle.std.specs.Prelude.{◌≡◌, ◌≢◌, ℕ, ◌<◌, List, [], length, Option, Some, None, position}
+use Rattle.std.specs.Prelude.{◌≡◌, ◌≢◌, ℕ, ◌<◌, ◌≤◌, List, [], Option, Some, None, position}
 use Rattle.std.proofs.Common.{arith, inl, inr, refl, subst, sym, ap, ◌∙◌}
 use Rattle.dtx_plan.specs.declared.damage.Damage.{Damage}
 use Rattle.dtx_plan.specs.declared.plan.Plan as plans
 use Rattle.dtx_plan.specs.declared.plan.ReceivePlan.{ReceivePlan}
-use Rattle.dtx_make.specs.Hurt.{hurt}
 use Rattle.dtx_meaning.specs.Status.{IsOfInput}
 use Rattle.dtx_meaning.specs.declared.status.Outcome.{Outcome}
 use Rattle.dtx_meaning.specs.declared.status.Status.{Status}
 use Rattle.dtx_meaning.specs.declared.status.Status.TheVariants.{Done, Usage, Same, Absent, Plan, Packet, TooLong}
 use Rattle.dtx_meaning.specs.declared.status.Status.TheVariants.{OutOfFeed, OutOfAir, NoSync, ReadFault, WriteFault}
 use Rattle.dtx_meaning.specs.declared.status.Status.TheVariants.{Memory}
-use Rattle.dtx_engine.specs.Recipe.{IsAnswerAt, IsAnswerOf, IsEndOf}
-use Rattle.dtx_words.specs.declared.rows.Command.TheVariants.{Receive}
-use Rattle.dtx_forms.specs.Answers.{IsKnownAt}
+use Rattle.dtx_engine.specs.Recipe.{IsAnswerOf}
+use Rattle.dtx_words.specs.Rows as rows
+use Rattle.dtx_words.specs.declared.rows.Command.{Command}
+use Rattle.dtx_words.specs.declared.rows.Command.TheVariants.{Code, Receive}
+use Rattle.dtx_forms.specs.Answers.{IsKnown, Knows, MayRefuse}
+use Rattle.dtx_forms.proofs.AnswersLemmas.{knows_by, none_refused}
 use Rattle.dtx_forms.proofs.OfWordsLemmas.{refusal_of_input}
 use Rattle.dtx_forms.specs.PlanFile.{IsPlanRefusal}
 use Rattle.dtx_forms.specs.Damaged.{damaged_making}
 use Rattle.dtx_recipes.specs.PastEnd.{ends_past, first_past}
-use Rattle.dtx_recipes.proofs.AnswersLemmas.{receive_knows}
+use Rattle.dtx_recipes.proofs.AnswersLemmas.{synced_known}
 use Rattle.dtx_recipes.specs.Receive.{receiving}
 use Rattle.dtx_schedule.specs.PlayedSoFar.{IsOfFeed}
 use Rattle.dtx_top.specs.NetAnswers.{HasCount, IsOfNetwork, IsOfReplay, ShowsNetwork, count_of}
 use Rattle.dtx_recipes.specs.Adapt.{feeding}
+use Rattle.dtx_top.proofs.ByWords.{known_status}
 
 -- an answer of one of the inputs
 pub of_network : (number : ℕ) (status : Status) → number < 4 → IsOfInput number status → IsOfNetwork status
@@ -82,75 +85,40 @@ feed_of_replay receive Memory is = tt
 pub feed_not_done : (status : Status) → IsOfFeed status → status ≡ Done → ⊥
 feed_not_done status is done = let P : Status → Type 0 = λ s. IsOfFeed s in subst P done is
 
--- the answer of the stream that is adapted
+-- an answer of one input, by an engine that refuses neither a plan nor damage
+of_replay : (command : Command) (receive : Option ReceivePlan) (number : ℕ) (status : Status) → 1 ≤ number → number < 4
+    → (MayRefuse command rows.plan → ⊥) → (MayRefuse command rows.out_of_air → ⊥) → IsOfInput number status
+    → Knows command status → IsOfReplay receive status
+of_replay command receive number (Absent input) least most no_plan no_air is known =
+    (omega (arith, is, least), omega (arith, is, most))
+of_replay command receive number (Plan refusal) least most no_plan no_air is known = absurd (no_plan known)
+of_replay command receive number (OutOfAir entry) least most no_plan no_air is known = absurd (no_air known)
+of_replay command receive number Usage least most no_plan no_air is known = is
+of_replay command receive number Same least most no_plan no_air is known = is
+of_replay command receive number status least most no_plan no_air is known = tt
+
+-- the answer of the stream that is adapted: such a stream is refused as `code` refuses one
+pub stream_knows : (plan : plans.Plan) (outcome : Outcome) → IsAnswerOf (feeding plan) outcome → IsKnown Code outcome
+stream_knows plan = knows_by (feeding plan) Code tt (λ k unit. tt) (λ given loose. refl)
+
 pub stream_of_replay : (plan : plans.Plan) (receive : Option ReceivePlan) (outcome : Outcome)
     → IsOfInput 1 outcome.status → IsAnswerOf (feeding plan) outcome → IsOfReplay receive outcome.status
-stream_of_replay plan receive outcome is answer = by_status outcome.status refl is answer
-  where
-    by_status : (s : Status) → outcome.status ≡ s → IsOfInput 1 s → IsAnswerAt (feeding plan) s outcome
-        → IsOfReplay receive s
-    by_status Usage same is answer = is
-    by_status Same same is answer = is
-    by_status (Absent input) same is answer = (omega (arith, is), omega (arith, is))
-    by_status Done same is answer = tt
-    by_status (Plan refusal) same is (given, loose, ends) =
-        let e : Plan refusal ≡ Done = sym same ∙ ap (λ (o : Outcome). o.status) ends in cc
-    by_status (Packet k) same is answer = tt
-    by_status TooLong same is answer = tt
-    by_status (OutOfFeed event) same is answer = tt
-    by_status (OutOfAir entry) same is (given, loose, ends) =
-        let e : OutOfAir entry ≡ Done = sym same ∙ ap (λ (o : Outcome). o.status) ends in cc
-    by_status NoSync same is answer = tt
-    by_status ReadFault same is answer = tt
-    by_status WriteFault same is answer = tt
-    by_status Memory same is answer = tt
-
--- and how many numbers it has
-pub stream_count : (plan : plans.Plan) (outcome : Outcome) → IsAnswerOf (feeding plan) outcome → HasCount 3 outcome
-stream_count plan outcome answer done =
-    by_end (subst (λ (s : Status). IsAnswerAt (feeding plan) s outcome) done answer)
-  where
-    by_end : IsEndOf (feeding plan) outcome → length outcome.numbers ≡ 3
-    by_end (given, loose, ends) = ap (λ (o : Outcome). length o.numbers) ends
-
--- where the receiver ends with an answer, `receive` knows it
-received_known : (damage : List Damage) (outcome : Outcome) (s : Status) → outcome.status ≡ s
-    → (IsEndOf receiving outcome → IsAnswerAt receiving s outcome) → IsEndOf (damaged_making damage receiving) outcome
-    → IsKnownAt Receive s outcome.numbers
-received_known damage outcome s same at (given, loose, ends) =
-    subst (λ (s : Status). IsKnownAt Receive s outcome.numbers) same
-    (receive_knows outcome (subst (λ (s : Status). IsAnswerAt receiving s outcome) (sym same)
-    (at (hurt damage given, loose, ends))))
+stream_of_replay plan receive outcome is answer =
+    of_replay Code receive 1 outcome.status (omega arith) (omega arith) (λ no. no) (λ no. no) is
+    (known_status Code outcome (stream_knows plan outcome answer))
 
 -- the answer of the symbols that are received
+pub symbols_know : (damage : List Damage) (outcome : Outcome) → IsAnswerOf (damaged_making damage receiving) outcome
+    → IsKnown Receive outcome
+symbols_know damage =
+    knows_by (damaged_making damage receiving) Receive tt (λ k unit. none_refused unit)
+    (λ given loose. synced_known Receive _ _ tt refl)
+
 pub symbols_of_replay : (receiver : ReceivePlan) (outcome : Outcome) → IsOfInput 3 outcome.status
     → IsAnswerOf (damaged_making receiver.damage receiving) outcome → IsOfReplay (Some receiver) outcome.status
-symbols_of_replay receiver outcome is answer = by_status outcome.status refl is answer
-  where
-    by_status : (s : Status) → outcome.status ≡ s → IsOfInput 3 s
-        → IsAnswerAt (damaged_making receiver.damage receiving) s outcome → IsOfReplay (Some receiver) s
-    by_status Usage same is answer = is
-    by_status Same same is answer = is
-    by_status (Absent input) same is answer = (omega (arith, is), omega (arith, is))
-    by_status Done same is answer = tt
-    by_status (Plan refusal) same is end =
-        received_known receiver.damage outcome (Plan refusal) same (λ is. is) end
-    by_status (Packet k) same is answer = tt
-    by_status TooLong same is answer = tt
-    by_status (OutOfFeed event) same is answer = tt
-    by_status (OutOfAir entry) same is end =
-        absurd (received_known receiver.damage outcome (OutOfAir entry) same (λ is. is) end)
-    by_status NoSync same is answer = tt
-    by_status ReadFault same is answer = tt
-    by_status WriteFault same is answer = tt
-    by_status Memory same is answer = tt
-
--- and how many numbers it has
-pub symbols_count : (damage : List Damage) (outcome : Outcome)
-    → IsAnswerOf (damaged_making damage receiving) outcome → HasCount 6 outcome
-symbols_count damage outcome answer done =
-    received_known damage outcome Done done (λ is. is)
-    (subst (λ (s : Status). IsAnswerAt (damaged_making damage receiving) s outcome) done answer)
+symbols_of_replay receiver outcome is answer =
+    of_replay Receive (Some receiver) 3 outcome.status (omega arith) (omega arith) (λ no. no) (λ no. no) is
+    (known_status Receive outcome (symbols_know receiver.damage outcome answer))
 
 -- a network has three numbers or six
 pub shows_network : (receive : Option ReceivePlan) (outcome : Outcome) → HasCount (count_of receive) outcome

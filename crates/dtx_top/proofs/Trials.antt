@@ -18,8 +18,8 @@ use Rattle.dtx_meaning.specs.Meaning.{Meaning, IsCarriedOut}
 use Rattle.dtx_meaning.specs.Status.{IsFault, IsOfInputs, blame_of}
 use Rattle.dtx_meaning.specs.declared.status.Outcome.{Outcome}
 use Rattle.dtx_meaning.specs.declared.status.Status.{Status}
-use Rattle.dtx_meaning.specs.declared.status.Status.TheVariants.{Done, Usage, Same, Absent, Plan, Packet, TooLong}
-use Rattle.dtx_meaning.specs.declared.status.Status.TheVariants.{OutOfFeed, OutOfAir, NoSync, ReadFault, WriteFault}
+use Rattle.dtx_meaning.specs.declared.status.Status.TheVariants.{Done, Usage, Same, Absent, Plan}
+use Rattle.dtx_meaning.specs.declared.status.Status.TheVariants.{OutOfAir, ReadFault, WriteFault}
 use Rattle.dtx_meaning.specs.declared.status.Status.TheVariants.{Memory}
 use Rattle.dtx_network.specs.Network.{steps_under}
 use Rattle.dtx_network.specs.Plans.{IsPlan}
@@ -188,14 +188,9 @@ replay_of_trial network outcome is counted seed count same =
     by_status (Absent input) e is = ((refl, omega (arith, is.0, is.1)), tt)
     by_status Done e is = (refl, all e)
     by_status (Plan refusal) e is = absurd is
-    by_status (Packet k) e is = (refl, tt)
-    by_status TooLong e is = (refl, tt)
-    by_status (OutOfFeed event) e is = (refl, tt)
     by_status (OutOfAir entry) e is = absurd (is refl)
-    by_status NoSync e is = (refl, tt)
-    by_status ReadFault e is = (refl, tt)
-    by_status WriteFault e is = (refl, tt)
     by_status Memory e is = (tt, tt)
+    by_status s e is = (refl, tt)
 
 -- a stream that isn't made
 pub make_of_trial : (outcome : Outcome) → outcome.status ≢ Done → IsOfInputs false 0 outcome.status
@@ -208,15 +203,10 @@ make_of_trial outcome other is known = by_status outcome.status other is known
     by_status Same other is known = cc
     by_status (Absent input) other is known = absurd (omega (arith, is.1))
     by_status Done other is known = absurd (other refl)
-    by_status (Plan refusal) other is known = absurd known
-    by_status (Packet k) other is known = absurd known
-    by_status TooLong other is known = absurd known
-    by_status (OutOfFeed event) other is known = absurd known
-    by_status (OutOfAir entry) other is known = absurd known
-    by_status NoSync other is known = absurd known
     by_status ReadFault other is known = (refl, tt)
     by_status WriteFault other is known = (refl, tt)
     by_status Memory other is known = (tt, tt)
+    by_status s other is known = absurd known
 
 -- ---- the network over the stream
 

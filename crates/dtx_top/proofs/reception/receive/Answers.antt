@@ -4,8 +4,10 @@ use Rattle.dtx_forms.specs.Damaged.{damaged_making}
 use Rattle.dtx_recipes.specs.Receive.{receiving}
 use Rattle.dtx_forms.specs.Shapes.{segments}
 use Rattle.dtx_words.specs.NetworkNames.{received_name, symbol_name}
+use Rattle.dtx_words.specs.declared.rows.Command.TheVariants.{Receive}
 use Rattle.dtx_top.proofs.Carrying.{carried_by}
-use Rattle.dtx_top.proofs.NetAnswers.{symbols_count, symbols_of_replay}
+use Rattle.dtx_top.proofs.ByWords.{known_numbers}
+use Rattle.dtx_top.proofs.NetAnswers.{symbols_know, symbols_of_replay}
 use Rattle.dtx_top.proofs.reception.receive.Goals as goal
 
 pub returns-in-Ok-clause-carried : goal.returns-in-Ok-clause-carried
@@ -25,6 +27,6 @@ returns-in-Ok-clause-network g c =
 
 pub returns-in-Ok-clause-count : goal.returns-in-Ok-clause-count
 returns-in-Ok-clause-count g c =
-    symbols_count c.args.receiver.now.damage c.carry_to_one.result
+    known_numbers Receive c.carry_to_one.result (symbols_know c.args.receiver.now.damage c.carry_to_one.result
     (subst (λ (r : Recipe). IsAnswerOf r c.carry_to_one.result) c.new-engine.ensures.recipe
-    c.carry_to_one.ensures.answer)
+    c.carry_to_one.ensures.answer))

@@ -3,8 +3,10 @@ use Rattle.dtx_engine.specs.Recipe.{IsAnswerOf, Recipe}
 use Rattle.dtx_forms.specs.Shapes.{packets}
 use Rattle.dtx_recipes.specs.Adapt.{feeding}
 use Rattle.dtx_words.specs.NetworkNames.{feed_name}
+use Rattle.dtx_words.specs.declared.rows.Command.TheVariants.{Code}
 use Rattle.dtx_top.proofs.Carrying.{carried_by}
-use Rattle.dtx_top.proofs.NetAnswers.{stream_count, stream_of_replay}
+use Rattle.dtx_top.proofs.ByWords.{known_numbers}
+use Rattle.dtx_top.proofs.NetAnswers.{stream_knows, stream_of_replay}
 use Rattle.dtx_top.proofs.replaying.feed_stream.Goals as goal
 
 pub returns-in-Ok-clause-carried : goal.returns-in-Ok-clause-carried
@@ -24,6 +26,6 @@ returns-in-Ok-clause-network g c =
 
 pub returns-in-Ok-clause-count : goal.returns-in-Ok-clause-count
 returns-in-Ok-clause-count g c =
-    stream_count c.args.plan.now c.carry_to_one.result
+    known_numbers Code c.carry_to_one.result (stream_knows c.args.plan.now c.carry_to_one.result
     (subst (λ (r : Recipe). IsAnswerOf r c.carry_to_one.result)
-    c.in-Ok.ensures.recipe c.carry_to_one.ensures.answer)
+    c.in-Ok.ensures.recipe c.carry_to_one.ensures.answer))
