@@ -1,9 +1,8 @@
 use Rattle.std.proofs.Common.{◌≡◌, ◌+◌, ◌<◌, ℕ, Option, Some, length, slice_set, take, unwrap_or, refl, ap, ◌∙◌, subst}
 use Rattle.std.proofs.Common.{arith, rules}
 use Rattle.std.specs.Bool.{then_some}
-use Rattle.dtx_soft.specs.Signed.{AreSigned}
 use Rattle.dtx_jobs.specs.Softening.{kept_rows}
-use Rattle.dtx_jobs.proofs.SofteningLemmas.{copied, full, kept, signed_rows}
+use Rattle.dtx_jobs.proofs.SofteningLemmas.{copied, full, kept}
 use Rattle.dtx_jobs.proofs.softening.Softening.take.Goals as goal
 
 pub returns-in-None-clause-gathered : goal.returns-in-None-clause-gathered
