@@ -1,11 +1,9 @@
 -- Whether places agree, as it is searched.
-use Rattle.std.proofs.Common.{◌≡◌, ℕ, ℤ, ◌+◌, ◌≤◌, ◌&&◌, leb, List, length, sym, ap, ◌∙◌}
+use Rattle.std.proofs.Common.{◌≡◌, ℕ, ℤ, ◌+◌, ◌≤◌, leb, List, length, arith}
 use Rattle.std.proofs.lemmas.Bool.{le-leb}
 use Rattle.dtx_acquire.specs.Agreement.{agrees, unlike}
 
 pub agrees_by : (symbols : List ℤ) (place n : ℕ) → place + 832 ≤ length symbols → n ≡ unlike symbols place 0 515
     → leb n 128 ≡ agrees symbols place
 unfolding agrees
-agrees_by symbols place n l e =
-    ap (λ k. leb k 128) e ∙ sym (ap (λ b. b && leb (unlike symbols place 0 515) 128)
-    (le-leb (place + 832) (length symbols) l))
+agrees_by symbols place n l e = grind (arith, le-leb)
