@@ -67,7 +67,8 @@ begun_holds a n (l ∷ r) p k = elim (cases_eq (pages l) n) [
       (ne_eqb p.count n (λ e. h (sym k.count ∙ e)))))
       (subst (λ c. HoldsCycle a c (record { count = n; told = replicate 30 false; held = None }))
       (sym (take_while-cons (λ x. pages x == n) l r
-      ∙ cond-false (pages l == n) (l ∷ take_while (λ x. pages x == n) r) [] (ne_eqb (pages l) n h))) (cleared_holds a n))
+      ∙ cond-false (pages l == n) (l ∷ take_while (λ x. pages x == n) r) [] (ne_eqb (pages l) n h)))
+      (cleared_holds a n))
 ]
 
 -- ---- one order more

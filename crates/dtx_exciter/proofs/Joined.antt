@@ -61,7 +61,8 @@ joined_partial a d l old place packet count symbols k e h four z =
             ∙ ap (nat_le 52) (sym (length_push l packet.0));
         partial = ap₂ (λ (x y : ℕ). take x (bytes_of (set old.packets y packet))) s (omega (arith, e))
             ∙ held_more old.packets packet (length l % 4) (omega (arith, four)) ∙ ap (λ x. x ++ packet.0 ∷ []) k.partial
-            ∙ sym (ap (λ (y : ℕ). drop y (l ++ packet.0 ∷ [])) w ∙ drop-append-le (whole l) l (packet.0 ∷ []) (omega arith));
+            ∙ sym (ap (λ (y : ℕ). drop y (l ++ packet.0 ∷ [])) w
+            ∙ drop-append-le (whole l) l (packet.0 ∷ []) (omega arith));
         sent = k.sent ∙ ap (is_served a d) (sym (last_same l packet.0 n));
         pages = subst (λ r. HoldsPages a r old.pages) (sym (last_same l packet.0 n)) k.pages;
         coder = subst (λ x. RunsUnder x (last_orders (l ++ packet.0 ∷ [])) old.coder) (sym (front_same l packet.0 n))

@@ -151,7 +151,8 @@ pub one_missing : (packets : List (List ℕ)) (packet : List ℕ) (i j : ℕ) �
 unfolding anchor_of syncs bodies
 one_missing packets packet i j h l m e = record {
   bodies = sym (set-get_or (map (drop 1) packets) i []) ∙ ap (set (map (drop 1) packets) i)
-      (get_or-map (drop 1) packets i [] [] (grind (arith, length-map)) ∙ sym e) ∙ sym (map-set (drop 1) packets i packet);
+      (get_or-map (drop 1) packets i [] [] (grind (arith, length-map)) ∙ sym e)
+      ∙ sym (map-set (drop 1) packets i packet);
   anchors = λ n b.
       missing_mark (map sync_of packets) i j (sync_of packet) (ap anchor (take-map sync_of i packets) ∙ h)
       (grind (arith, length-map)) m n b ∙ ap (λ x. anchor (take n x)) (sym (map-set sync_of packets i packet));
