@@ -126,7 +126,8 @@ stray_marks_pass a d y feed earlier other mark n f e l h b up_to due =
           due_there (length earlier) (locked_from earlier mark - mark) w.place (i - length earlier) w.within w.steps
           (omega (arith, whole, e, late)) (omega (arith, high, behind))
           (ap (λ (x : ℕ). (x - w.place) % 624) (sym at) ∙ step) in
-          given i behind small (due (i - length earlier) small there ∙ sym (eq-eqb ((i - length earlier) % 624) 0 there))
+          given i behind small
+          (due (i - length earlier) small there ∙ sym (eq-eqb ((i - length earlier) % 624) 0 there))
     ]))
   where
     z : ℕ
