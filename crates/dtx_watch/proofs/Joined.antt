@@ -61,8 +61,10 @@ joined_partial l old place packet k given keeps e h four none =
         flushed = keeps.flushed ∙ settled_same (length l) n (cases_lt (length l) 52)
             ∙ ap (nat_le 52) (sym (length_push l packet.0));
         partial = ap₂ (λ (x y : ℕ). take x (bytes_of (set old.packets y packet))) s m
-            ∙ held_more old.packets packet (length l % 4) (omega (arith, four)) ∙ ap (λ x. x ++ packet.0 ∷ []) keeps.partial
-            ∙ sym (ap (λ (y : ℕ). drop y (l ++ packet.0 ∷ [])) w ∙ drop-append-le (whole l) l (packet.0 ∷ []) (omega arith));
+            ∙ held_more old.packets packet (length l % 4) (omega (arith, four))
+            ∙ ap (λ x. x ++ packet.0 ∷ []) keeps.partial
+            ∙ sym (ap (λ (y : ℕ). drop y (l ++ packet.0 ∷ [])) w
+            ∙ drop-append-le (whole l) l (packet.0 ∷ []) (omega arith));
         ordered = keeps.ordered ∙ ap are_some (sym (last_same l packet.0 n));
         latest = keeps.latest ∙ sym (stamped_same l packet.0 n);
         coder = subst (λ x. RunsUnder x (last_orders (l ++ packet.0 ∷ [])) old.coder) (sym (front_same l packet.0 n))
@@ -165,7 +167,8 @@ full_at_hand w l p i h =
       before = h.latest ∙ sym (stamped_front l (p ∷ []) i (omega (arith, long)));
       packets = λ m k.
           ap (λ x. get_or x m []) h.packets ∙ sym (ap (λ x. get_or x (i + m) []) (sym (Ends.parts l i p))
-          ∙ get_or-append_right (Ends.front l i) (Ends.group l i p) i (i + m) [] (Ends.length-front l i h.ends) (omega arith)
+          ∙ get_or-append_right (Ends.front l i) (Ends.group l i p) i (i + m) [] (Ends.length-front l i h.ends)
+          (omega arith)
           ∙ ap (λ x. get_or (Ends.group l i p) x []) (omega arith));
       inside = omega (arith, Ends.length-all l i p h.ends);
       few = omega arith;
