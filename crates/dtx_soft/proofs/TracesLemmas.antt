@@ -73,7 +73,8 @@ goes_further scale symbols now t marks old new written small l n m next u = reco
   small = (let a = u.small in let b = next.cost in let d = next.small in omega arith);
   long = length-append u.levels (level ∷ []) ∙ ap (λ n. n + 1) u.long;
   goes_on = λ rest h. subst (IsLeastFrom scale symbols u.start) (sym (append_assoc u.levels (level ∷ []) rest))
-      (u.goes_on (level ∷ rest) (longer rest (subst (λ s. IsLeastFrom scale (drop (t + 1) symbols) s rest) state_is h)));
+      (u.goes_on (level ∷ rest)
+      (longer rest (subst (λ s. IsLeastFrom scale (drop (t + 1) symbols) s rest) state_is h)));
   written = take_more_set now t written (omega (arith, n)) ∙ ap₂ (λ (xs ys : List ℤ). xs ++ ys) u.written
       (grind (arith, nearer_is_symbol, v, pair)) ∙ sym (map-append (symbol_at scale) u.levels (level ∷ []));
   cost = next.cost ∙ ap (λ n. n + squared v written) u.cost
