@@ -16,6 +16,5 @@ acquires scale = record { starts = none_so_far scale; grows = so_far_grows scale
 
 -- each answer is one that the command may give
 pub acquire_knows : (scale : ℕ) (status : Status) → IsAnswerOf (acquiring scale) status → Knows Acquire status
-acquire_knows scale =
-    knows_by (acquiring scale) Acquire tt (λ k unit. none_refused unit)
+acquire_knows scale = knows_by (acquiring scale) Acquire tt (λ k unit. none_refused unit)
     (λ given loose. synced_known Acquire _ _ 5 tt)

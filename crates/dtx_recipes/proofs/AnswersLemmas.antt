@@ -40,8 +40,7 @@ synced_known command false numbers shown missing = tt
 -- `receive` and `mend`: any receiver
 pub given_knows : (giving : Giving) (command : Command) → Knows command TooLong → Knows command NoSync
     → (status : Status) → IsAnswerOf (receiving_by giving) status → Knows command status
-given_knows giving command long missing =
-    knows_by (receiving_by giving) command long (λ k unit. none_refused unit)
+given_knows giving command long missing = knows_by (receiving_by giving) command long (λ k unit. none_refused unit)
     (λ given loose. synced_known command _ _ 6 missing)
 
 pub receive_knows : (status : Status) → IsAnswerOf receiving status → Knows Receive status
@@ -53,8 +52,7 @@ mend_knows = given_knows with_mendings Mend tt tt
 -- `repeat`
 pub repeat_knows : (address delay : ℕ) (status : Status) → IsAnswerOf (repeating address delay) status
     → Knows Repeat status
-repeat_knows address delay =
-    knows_by (repeating address delay) Repeat tt (λ k unit. none_refused unit)
+repeat_knows address delay = knows_by (repeating address delay) Repeat tt (λ k unit. none_refused unit)
     (λ given loose. synced_known Repeat _ _ 7 tt)
 
 -- `soft`

@@ -1,9 +1,7 @@
 -- Laws of what `refine` makes.
-use Rattle.std.proofs.Common.{◌≡◌, ◌-◌, ◌*◌, ℕ, [], length, take, ap, arith}
-use Rattle.dtx_acquire.specs.Acquired.{acquired_so_far}
+use Rattle.std.proofs.Common.{◌≡◌, ℕ, [], arith}
 use Rattle.dtx_acquire.proofs.AcquiredLemmas.{none_so_far}
-use Rattle.dtx_rounds.specs.Rounds.{refined, refined_so_far}
-use Rattle.dtx_rounds.specs.Rounds.{settled_count}
+use Rattle.dtx_rounds.specs.Rounds.{refined_so_far, settled_count}
 use Rattle.dtx_rounds.proofs.SoFarLemmas.{refined_grows}
 use Rattle.dtx_engine.specs.Recipe.{IsAnswerOf}
 use Rattle.dtx_meaning.specs.declared.status.Status.{Status}
@@ -16,9 +14,7 @@ use Rattle.dtx_recipes.specs.Restoring.{IsRestoring}
 
 none_refined : (scale rounds : ℕ) → refined_so_far scale [] rounds ≡ []
 unfolding refined_so_far settled_count
-none_refined scale rounds =
-    let none : length (acquired_so_far scale []) - 313 * rounds ≡ 0 = omega (arith, ap length (none_so_far scale)) in
-    ap (λ n. take n (refined scale [] rounds)) none
+none_refined scale rounds = grind (arith, none_so_far)
 
 -- what is made grows
 pub refines : (scale rounds : ℕ) → IsRestoring (with_refiner scale rounds)
@@ -27,6 +23,5 @@ refines scale rounds = record { starts = none_refined scale rounds; grows = refi
 -- each answer is one that the command may give
 pub refine_knows : (scale rounds : ℕ) (status : Status) → IsAnswerOf (refining scale rounds) status
     → Knows Refine status
-refine_knows scale rounds =
-    knows_by (refining scale rounds) Refine tt (λ k unit. none_refused unit)
+refine_knows scale rounds = knows_by (refining scale rounds) Refine tt (λ k unit. none_refused unit)
     (λ given loose. synced_known Refine _ _ 7 tt)
