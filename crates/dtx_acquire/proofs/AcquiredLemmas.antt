@@ -1,18 +1,14 @@
 -- Lemmas of what is acquired: of first symbols, of more behind them, and of their end.
 use Rattle.std.proofs.Common.{◌≡◌, ℕ, ℤ, zero, suc, ◌+◌, ◌<◌, ◌≤◌, ◌⊎◌, inl, inr, Bool, true, false, not, Option, Some}
-use Rattle.std.proofs.Common.{None, List, [], ◌∷◌, ◌++◌, length, map, take, drop, filter, append_assoc, refl}
-use Rattle.std.proofs.Common.{sym, ap, ap₂}
-use Rattle.std.proofs.Common.{◌∙◌, arith, length-append}
+use Rattle.std.proofs.Common.{None, List, [], ◌∷◌, ◌++◌, length, take, drop, append_assoc, refl, sym, ap, ap₂, ◌∙◌}
+use Rattle.std.proofs.Common.{arith, length-append}
 use Rattle.std.proofs.lemmas.Bool.{cond-true, cases_lt}
 use Rattle.std.proofs.lemmas.List.{append-nil, length-drop, length-take-le, take-append-drop}
 use Rattle.std.proofs.lemmas.Grind.{flat_map-append}
 use Rattle.dtx_acquire.specs.Agreement.{agrees, least_from}
-use Rattle.dtx_acquire.specs.Acquired.{Field, Sync, acquired, acquired_cost, acquired_rest, acquired_runs}
-use Rattle.dtx_acquire.specs.Acquired.{acquired_so_far, all_syncs, field_at, fields_where}
-use Rattle.dtx_acquire.specs.Acquired.{is_met, restored, restored_of, runs_of, cost_of}
-use Rattle.dtx_acquire.specs.Acquired.{IsSame, all_fields, heard_in}
-use Rattle.dtx_acquire.specs.Acquired.{heard_rest, heard_so_far, last_fields}
-use Rattle.dtx_acquire.specs.Acquired.{settled_fields}
+use Rattle.dtx_acquire.specs.Acquired.{Field, acquired, acquired_cost, acquired_rest, acquired_runs, acquired_so_far}
+use Rattle.dtx_acquire.specs.Acquired.{fields_where, restored, restored_of, IsSame, all_fields, heard_in, heard_rest}
+use Rattle.dtx_acquire.specs.Acquired.{heard_so_far, last_fields, settled_fields}
 use Rattle.dtx_acquire.specs.Acquirer.{field_of, where_wanted}
 use Rattle.dtx_acquire.proofs.PlacesLemmas.{least_gives}
 use Rattle.dtx_acquire.proofs.FieldsLemmas.{fields_short, fields_skip, unmet, wanted_both}
@@ -33,8 +29,7 @@ heard_append xs ys = flat_map-append (λ (field : Field). field.segments) xs ys
 pub length-heard_in : (scale : ℕ) (fields : List Field) → length (heard_in fields) ≡ length (restored_of scale fields)
 unfolding restored_of
 length-heard_in scale [] = refl
-length-heard_in scale (x ∷ xs) =
-    length-append x.segments (heard_in xs)
+length-heard_in scale (x ∷ xs) = length-append x.segments (heard_in xs)
     ∙ ap₂ (λ a b. a + b) (sym (length-restored scale x.segments)) (length-heard_in scale xs)
     ∙ sym (length-append (restored scale x.segments) (restored_of scale xs))
 
@@ -48,13 +43,7 @@ length-heard_so_far scale symbols = length-heard_in scale (settled_fields symbol
 pub same_behind : (scale : ℕ) (front symbols : List ℤ)
     → ((p : ℕ) → p < length front → agrees (front ++ symbols) p ≡ false) → IsSame scale (front ++ symbols) symbols
 unfolding acquired acquired_runs acquired_cost
-same_behind scale front symbols h =
-    let same = fields_skip (λ met. true) true front symbols h in
-    record {
-      segments = ap (restored_of scale) same;
-      runs = ap runs_of same;
-      costs = ap (cost_of scale) same;
-    }
+same_behind scale front symbols h = grind (arith, fields_skip)
 
 -- ---- first symbols
 
@@ -68,14 +57,11 @@ AreSettled begins symbols done next held = (wanted : Bool → Bool) (more : List
 fields_now : (begins next : Bool) (symbols held : List ℤ) (done : List Field)
     → AreSettled begins symbols done next held → (wanted : Bool → Bool)
     → fields_where wanted begins symbols ≡ where_wanted (wanted true) done ++ fields_where wanted next held
-fields_now begins next symbols held done h wanted =
-    ap (fields_where wanted begins) (sym (append-nil symbols)) ∙ h wanted []
-    ∙ ap (λ (xs : List ℤ). where_wanted (wanted true) done ++ fields_where wanted next xs) (append-nil held)
+fields_now begins next symbols held done h wanted = rw (← append-nil symbols, h wanted [], append-nil held)
 
 pub settled_by : (next : Bool) (symbols held : List ℤ) (done : List Field) → AreSettled true symbols done next held
     → length held < 261248 → settled_fields symbols ≡ done
-settled_by next symbols held done h few =
-    fields_now true next symbols held done h (λ met. met)
+settled_by next symbols held done h few = fields_now true next symbols held done h (λ met. met)
     ∙ ap (λ xs. done ++ xs) (fields_short next held few) ∙ append-nil done
 
 -- settled fields, and fewer than so many symbols behind them
@@ -107,14 +93,12 @@ first_parted begins h v full = by_front (agrees h 0) refl
 
     by_least : agrees h 0 ≡ true → agrees h 260416 ≡ false → (o : Option ℕ) → least_from h 1 ≡ o
         → Parting begins (h ++ v) (length (h ++ v))
-    by_least a d None e =
-        field true 260417 313 (omega arith) (λ wanted more. step_kept wanted begins h more full a d e)
+    by_least a d None e = field true 260417 313 (omega arith) (λ wanted more. step_kept wanted begins h more full a d e)
     by_least a d (Some r) e =
         field true r 0 (least_gives agrees h 1 r e).least (λ wanted more. step_lost wanted begins r h more full a d e)
 
     by_due : agrees h 0 ≡ true → (d : Bool) → agrees h 260416 ≡ d → Parting begins (h ++ v) (length (h ++ v))
-    by_due a true d =
-        field false 260416 313 (omega arith) (λ wanted more. step_due wanted begins h more full a d)
+    by_due a true d = field false 260416 313 (omega arith) (λ wanted more. step_due wanted begins h more full a d)
     by_due a false d = by_least a d (least_from h 1) refl
 
     by_front : (a : Bool) → agrees h 0 ≡ a → Parting begins (h ++ v) (length (h ++ v))
@@ -171,12 +155,7 @@ all_parted symbols =
 few_unmet : (begins : Bool) (v : List ℤ) → length v < 261248
     → fields_where (λ met. true) begins v ≡ fields_where not begins v
 unfolding fields_where
-few_unmet begins v few = ap (map (field_at v)) (same (all_syncs begins v))
-  where
-    same : (xs : List Sync) → filter (λ s. true) xs ≡ filter (λ s. not (is_met v s.place)) xs
-    same [] = refl
-    same (s ∷ xs) =
-        ap (λ ys. s ∷ ys) (same xs) ∙ sym (cond-true (not (is_met v s.place)) _ _ (ap not (unmet v s.place few)))
+few_unmet begins v few = grind (arith, cond-true, unmet)
 
 parted_fields : (symbols : List ℤ) → all_fields symbols ≡ settled_fields symbols ++ last_fields symbols
 parted_fields symbols =
@@ -189,15 +168,12 @@ parted_fields symbols =
 pub all_is_acquired : (scale : ℕ) (symbols : List ℤ)
     → acquired_so_far scale symbols ++ acquired_rest scale symbols ≡ acquired scale symbols
 unfolding acquired acquired_so_far acquired_rest
-all_is_acquired scale symbols =
-    sym (ap (restored_of scale) (parted_fields symbols)
-    ∙ restored_append scale (settled_fields symbols) (last_fields symbols))
+all_is_acquired scale symbols = grind (arith, parted_fields, restored_append)
 
 -- The same is true of the segments as they were received.
 pub all_is_heard : (symbols : List ℤ) → heard_so_far symbols ++ heard_rest symbols ≡ heard_in (all_fields symbols)
 unfolding heard_so_far heard_rest
-all_is_heard symbols =
-    sym (ap heard_in (parted_fields symbols) ∙ heard_append (settled_fields symbols) (last_fields symbols))
+all_is_heard symbols = grind (arith, parted_fields, heard_append)
 
 -- ---- more symbols
 

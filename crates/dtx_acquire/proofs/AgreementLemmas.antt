@@ -1,5 +1,5 @@
 -- Whether places agree, as it is searched.
-use Rattle.std.proofs.Common.{◌≡◌, ℕ, ℤ, ◌+◌, ◌≤◌, ◌&&◌, leb, List, length, sym, ap, ◌∙◌}
+use Rattle.std.proofs.Common.{◌≡◌, ℕ, ℤ, ◌+◌, ◌≤◌, ◌&&◌, leb, List, length, sym, ap, ◌∙◌, arith}
 use Rattle.std.proofs.lemmas.Bool.{le-leb, lt-leb}
 use Rattle.dtx_acquire.specs.Agreement.{agrees, unlike}
 use Rattle.dtx_acquire.specs.Places.{NeedsSegment}

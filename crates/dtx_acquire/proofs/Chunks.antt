@@ -12,8 +12,7 @@ length-chunks n (suc k) xs = ap (λ (m : ℕ). suc m) (length-chunks n k (drop n
 
 chunk_at : (n k : ℕ) (xs : List ℤ) (i : ℕ) → i < k → get_or (first_chunks n k xs) i [] ≡ take n (drop (n * i) xs)
 chunk_at n zero xs i within = absurd (omega arith)
-chunk_at n (suc k) xs zero within =
-    let start : 0 ≡ n * 0 = omega arith in ap (λ m. take n (drop m xs)) start
+chunk_at n (suc k) xs zero within = grind arith
 chunk_at n (suc k) xs (suc i) within =
     let place : n + n * i ≡ n * suc i = omega arith in
     chunk_at n k (drop n xs) i (omega arith) ∙ ap (take n) (drop-drop (n * i) n xs ∙ ap (λ m. drop m xs) place)
@@ -26,6 +25,4 @@ chunks_are symbols count k within =
     let all = length-chunks 832 k symbols in
     fill_by_all (λ i. take 832 (drop (0 + 832 * i) symbols)) (take count (first_chunks 832 k symbols)) count []
     (length-take-le count (first_chunks 832 k symbols) (omega (arith, all, within)))
-    (λ i l. (let start : 832 * i ≡ 0 + 832 * i = omega arith in
-    get_or-take count (first_chunks 832 k symbols) i [] l ∙ chunk_at 832 k symbols i (omega arith)
-    ∙ ap (λ m. take 832 (drop m symbols)) start))
+    (λ i l. (grind (arith, get_or-take, chunk_at)))

@@ -1,7 +1,7 @@
 -- Fields of symbols behind others.
-use Rattle.std.proofs.Common.{◌≡◌, ℕ, ℤ, zero, suc, ◌+◌, ◌-◌, ◌*◌, ◌/◌, ◌<◌, ◌≤◌, ◌⊎◌, inl, inr, Bool, true, false}
-use Rattle.std.proofs.Common.{cond, ltb, Option, Some, None, option_map, List, [], ◌∷◌, ◌++◌, length, map, take, drop}
-use Rattle.std.proofs.Common.{filter, append_assoc, refl, sym, ap, ap₂, ◌∙◌, arith, length-append}
+use Rattle.std.proofs.Common.{◌≡◌, ℕ, ℤ, zero, suc, ◌+◌, ◌-◌, ◌*◌, ◌/◌, ◌<◌, ◌≤◌, Bool, true, false, cond, Option, Some}
+use Rattle.std.proofs.Common.{None, option_map, List, [], ◌∷◌, ◌++◌, length, map, take, drop, filter, append_assoc}
+use Rattle.std.proofs.Common.{refl, sym, ap, ap₂, ◌∙◌, arith, length-append}
 use Rattle.std.proofs.Math.Seq.{drop-append-add}
 use Rattle.std.proofs.lemmas.Bool.{cond-true, cond-false, cases_lt, lt-leb, lt-ltb, le-ltb}
 use Rattle.dtx_lists.proofs.Range.{map-range_same}
@@ -18,24 +18,15 @@ use Rattle.dtx_acquire.proofs.SyncsLemmas.{sync_of, syncs_behind, syncs_enough}
 
 segments_behind : (front v : List ℤ) (p n : ℕ) → segments_from (front ++ v) (length front + p) n ≡ segments_from v p n
 unfolding segments_from
-segments_behind front v p n =
-    map-range_same (λ i. take 832 (drop (length front + p + 832 * i) (front ++ v)))
-    (λ i. take 832 (drop (p + 832 * i) v)) 0 n
-    (λ i a b. ap (take 832) (ap (λ k. drop k (front ++ v)) (there i) ∙ drop-append-add front v (p + 832 * i)))
+segments_behind front v p n = map-range_same (λ i. take 832 (drop (length front + p + 832 * i) (front ++ v)))
+    (λ i. take 832 (drop (p + 832 * i) v)) 0 n (λ i a b. ap (take 832) (grind (arith, there, drop-append-add)))
   where
     there : (i : ℕ) → length front + p + 832 * i ≡ length front + (p + 832 * i)
     there i = omega arith
 
 lost_behind : (k p : ℕ) (o : Option ℕ) → unless_lost (k + p) (option_map (λ i. k + i) o) ≡ unless_lost p o
 lost_behind k p None = refl
-lost_behind k p (Some r) = by_order (cases_lt r (p + 260416))
-  where
-    by_order : (r < p + 260416) ⊎ (p + 260416 ≤ r)
-        → ◌≡◌ {A = ℕ} (cond (ltb (k + r) (k + p + 260416)) 0 313) (cond (ltb r (p + 260416)) 0 313)
-    by_order (inl l) =
-        ap (λ b. cond b 0 313) (lt-ltb (k + r) (k + p + 260416) (omega arith) ∙ sym (lt-ltb r (p + 260416) l))
-    by_order (inr l) =
-        ap (λ b. cond b 0 313) (le-ltb (k + r) (k + p + 260416) (omega arith) ∙ sym (le-ltb r (p + 260416) l))
+lost_behind k p (Some r) = grind (arith, cases_lt, lt-ltb, le-ltb)
 
 given_behind : (front v : List ℤ) (p : ℕ) → given_at (front ++ v) (length front + p) ≡ given_at v p
 unfolding given_at
@@ -47,17 +38,11 @@ given_behind front v p =
     ((length (front ++ v) - (length front + p)) / 832))
     (met_behind front v p) (ap (agrees (front ++ v)) there ∙ agrees_behind front v (p + 260416))
     ∙ ap₂ (λ l x. cond (is_met v p) (cond (agrees v (due p)) 313 l) (x / 832))
-    (ap (λ k. unless_lost (length front + p) (least_from (front ++ v) k)) next
-    ∙ ap (unless_lost (length front + p)) (least_from_behind front v (p + 1))
-    ∙ lost_behind (length front) p (least_from v (p + 1)))
-    left
+    (grind (arith, least_from_behind, lost_behind)) left
 
 field_behind : (front v : List ℤ) (s : Sync) → field_at (front ++ v) (later_by (length front) s) ≡ field_at v s
 unfolding field_at
-field_behind front v s =
-    ap (λ (xs : List (List ℤ)). record { begins = s.begins; segments = xs })
-    (ap (segments_from (front ++ v) (length front + s.place)) (given_behind front v s.place)
-    ∙ segments_behind front v s.place (given_at v s.place))
+field_behind front v s = grind (arith, given_behind, segments_behind)
 
 -- ---- all fields of syncs
 
@@ -76,9 +61,7 @@ fields_later wanted front v (s ∷ syncs) =
     kept : (b c : Bool) (xs ys : List Sync) → c ≡ b → map (field_at (front ++ v)) xs ≡ map (field_at v) ys
         → map (field_at (front ++ v)) (cond c (later_by (length front) s ∷ xs) xs)
         ≡ map (field_at v) (cond b (s ∷ ys) ys)
-    kept true c xs ys e f =
-        ap (map (field_at (front ++ v))) (cond-true c (later_by (length front) s ∷ xs) xs e)
-        ∙ ap₂ ◌∷◌ (field_behind front v s) f
+    kept true c xs ys e f = grind (arith, cond-true, later_by, field_behind)
     kept false c xs ys e f = ap (map (field_at (front ++ v))) (cond-false c (later_by (length front) s ∷ xs) xs e) ∙ f
 
 -- the first of some syncs
@@ -86,24 +69,9 @@ abbrev pub first_of : Bool → List ℤ → Option Sync
 first_of begins v = option_map (sync_of begins) (least_from v 0)
 
 pub enough_first : (begins : Bool) (v : List ℤ) (n : ℕ) → length v ≤ n → IsEnough v n (first_of begins v)
-enough_first begins v n l s e = by_least (least_from v 0) refl e
-  where
-    none_some : ◌≡◌ {A = Option Sync} None (Some s) → ⊥
-    none_some e = cc
+enough_first begins v n l s e = grind (arith, sync_of, least_gives)
 
-    by_least : (o : Option ℕ) → least_from v 0 ≡ o → option_map (sync_of begins) o ≡ Some s
-        → (s.place < length v) × (length v ≤ n + s.place)
-    by_least None f e = absurd (none_some e)
-    by_least (Some r) f e =
-        let is = least_gives agrees v 0 r f in
-        let same : r ≡ s.place = ap (λ (t : Sync). t.place) (found e) in
-        (omega (arith, is.within), omega arith)
-      where
-        found : ◌≡◌ {A = Option Sync} (Some (sync_of begins r)) (Some s) → sync_of begins r ≡ s
-        found e = cc
-
-later_first : (begins : Bool) (k : ℕ) (o : Option ℕ)
-    → option_map (sync_of begins) (option_map (λ i. k + i) o)
+later_first : (begins : Bool) (k : ℕ) (o : Option ℕ) → option_map (sync_of begins) (option_map (λ i. k + i) o)
     ≡ option_map (later_by k) (option_map (sync_of begins) o)
 later_first begins k None = refl
 later_first begins k (Some p) = refl
@@ -120,15 +88,11 @@ pub fields_skip : (wanted : Bool → Bool) (begins : Bool) (front v : List ℤ)
     → ((p : ℕ) → p < length front → agrees (front ++ v) p ≡ false)
     → fields_where wanted begins (front ++ v) ≡ fields_where wanted begins v
 unfolding fields_where all_syncs
-fields_skip wanted begins front v h =
-    ap (fields_of wanted (front ++ v))
+fields_skip wanted begins front v h = ap (fields_of wanted (front ++ v))
     (ap (λ o. syncs_from (front ++ v) (length (front ++ v)) (option_map (sync_of begins) o)) least
     ∙ ap (syncs_from (front ++ v) (length (front ++ v))) (later_first begins (length front) (least_from v 0))
-    ∙ syncs_behind front v (length (front ++ v)) (first_of begins v)
-    ∙ ap (map (later_by (length front)))
-    (syncs_enough v (length (front ++ v)) (length v) (first_of begins v)
-    (enough_first begins v (length (front ++ v)) (omega (arith, length-append front v)))
-    (enough_first begins v (length v) (omega arith))))
+    ∙ syncs_behind front v (length (front ++ v)) (first_of begins v) ∙ ap (map (later_by (length front)))
+    (grind (arith, syncs_enough, enough_first, length-append)))
     ∙ fields_later wanted front v (syncs_from v (length v) (first_of begins v))
   where
     least : least_from (front ++ v) 0 ≡ option_map (λ i. length front + i) (least_from v 0)
@@ -150,23 +114,15 @@ pub fields_next : (wanted : Bool → Bool) (begins next : Bool) (front v : List 
     → fields_where wanted begins (front ++ v)
     ≡ where_wanted (wanted true) (field_at (front ++ v) (sync_of begins 0) ∷ []) ++ fields_where wanted next v
 unfolding fields_where all_syncs syncs_from
-fields_next wanted begins next front v h met some e =
-    ap (fields_of wanted (front ++ v))
+fields_next wanted begins next front v h met some e = ap (fields_of wanted (front ++ v))
     (ap (λ o. syncs_from (front ++ v) (length (front ++ v)) (option_map (sync_of begins) o))
-    (least_here agrees past_end (front ++ v) 0 h)
-    ∙ all_from (length (front ++ v)) (length-append front v))
-    ∙ wanted_first (wanted (is_met (front ++ v) 0)) (sync_of begins 0)
-    (filter (λ s. wanted (is_met (front ++ v) s.place))
-    (map (later_by (length front)) (syncs_from v (length v) (first_of next v)))) (front ++ v)
-    ∙ ap₂ (λ b (xs : List Field). where_wanted (wanted b) (field_at (front ++ v) (sync_of begins 0) ∷ []) ++ xs) met
-    (fields_later wanted front v (syncs_from v (length v) (first_of next v)))
+    (least_here agrees past_end (front ++ v) 0 h) ∙ all_from (length (front ++ v)) (length-append front v))
+    ∙ grind (arith, wanted_first, sync_of, later_by, fields_later)
   where
-    all_from : (n : ℕ) → n ≡ length front + length v
-        → syncs_from (front ++ v) n (Some (sync_of begins 0))
+    all_from : (n : ℕ) → n ≡ length front + length v → syncs_from (front ++ v) n (Some (sync_of begins 0))
         ≡ sync_of begins 0 ∷ map (later_by (length front)) (syncs_from v (length v) (first_of next v))
     all_from zero l = absurd (omega arith)
-    all_from (suc n) l =
-        ap (λ xs. sync_of begins 0 ∷ xs)
+    all_from (suc n) l = ap (λ xs. sync_of begins 0 ∷ xs)
         (ap (syncs_from (front ++ v) n) e ∙ syncs_behind front v n (first_of next v)
         ∙ ap (map (later_by (length front)))
         (syncs_enough v n (length v) (first_of next v) (enough_first next v n (omega arith))
@@ -185,10 +141,7 @@ fields_short begins v l = none (all_syncs begins v)
   where
     none : (xs : List Sync) → fields_of (λ met. met) v xs ≡ []
     none [] = refl
-    none (s ∷ xs) =
-        ap (map (field_at v)) (cond-false (is_met v s.place) (s ∷ filter (λ t. is_met v t.place) xs)
-        (filter (λ t. is_met v t.place) xs) (unmet v s.place l))
-        ∙ none xs
+    none (s ∷ xs) = ap (map (field_at v)) (grind (arith, cond-false, unmet)) ∙ none xs
 
 no_syncs : (v : List ℤ) (n : ℕ) → syncs_from v n None ≡ []
 unfolding syncs_from
@@ -198,9 +151,7 @@ no_syncs v (suc n) = refl
 pub fields_none : (wanted : Bool → Bool) (begins : Bool) (v : List ℤ) → least_from v 0 ≡ None
     → fields_where wanted begins v ≡ []
 unfolding fields_where all_syncs
-fields_none wanted begins v e =
-    ap (fields_of wanted v) (ap (λ o. syncs_from v (length v) (option_map (sync_of begins) o)) e
-    ∙ no_syncs v (length v))
+fields_none wanted begins v e = grind (arith, sync_of, no_syncs)
 
 -- the last field
 pub fields_last : (wanted : Bool → Bool) (begins : Bool) (v : List ℤ) → length v < 261248 → agrees v 0 ≡ true
@@ -211,8 +162,7 @@ fields_last wanted begins v l h =
     let there = whole_there agrees past_end v 0 h in
     ap (fields_of wanted v)
     (ap (λ o. syncs_from v (length v) (option_map (sync_of begins) o)) (least_here agrees past_end v 0 h)
-    ∙ one_from (length v) (omega arith))
-    ∙ wanted_first (wanted (is_met v 0)) (sync_of begins 0) [] v
+    ∙ one_from (length v) (omega arith)) ∙ wanted_first (wanted (is_met v 0)) (sync_of begins 0) [] v
     ∙ last_wanted (wanted (is_met v 0)) (wanted false) (ap wanted (unmet v 0 l))
   where
     one_from : (n : ℕ) → 0 < n → syncs_from v n (Some (sync_of begins 0)) ≡ sync_of begins 0 ∷ []
@@ -222,10 +172,7 @@ fields_last wanted begins v l h =
         ∙ no_syncs v n)
 
     field : field_at v (sync_of begins 0) ≡ record { begins = begins; segments = segments_from v 0 (length v / 832) }
-    field =
-        let all : length v - 0 ≡ length v = omega arith in
-        ap (λ n. record { begins = begins; segments = segments_from v 0 n })
-        (cond-false (is_met v 0) _ ((length v - 0) / 832) (unmet v 0 l) ∙ ap (λ n. n / 832) all)
+    field = grind (arith, cond-false, unmet)
 
     last_wanted : (b c : Bool) → b ≡ c → where_wanted b (field_at v (sync_of begins 0) ∷ []) ++ []
         ≡ where_wanted c (record { begins = begins; segments = segments_from v 0 (length v / 832) } ∷ [])

@@ -26,24 +26,12 @@ sought_all {held} {new} kept sought = subst (λ n. IsSought (drop n held) (drop 
 pub fit_first : {held : List ℤ} {total scale count cost : ℕ} → held ≡ [] → total ≡ 0 → count ≡ 0 → cost ≡ 0
     → IsFit held 0 false 0 total scale count cost
 unfolding segments_from
-fit_first {held} {total} {scale} e counted none free = record {
-  room = omega (arith, ap length e, counted);
-  most = omega arith;
-  front = λ on. absurd (unlike_tests on);
-  few = omega (arith, ap length e);
-  within = omega arith;
-  whole = omega (arith, none);
-  costs = free ∙ sym (ap (λ n. path_cost scale (segments_from held 0 n)) none);
-}
-  where
-    unlike_tests : ◌≡◌ {A = Bool} false true → ⊥
-    unlike_tests e = cc
+fit_first {held} {total} {scale} e counted none free = grind arith
 
 -- more symbols, once those that are gone are dropped
 pub fit_more : {held taken : List ℤ} {gone : ℕ} {on : Bool} {symbols total scale count cost n : ℕ} (more : List ℤ)
     (all : ℕ) → IsFit held gone on symbols total scale count cost → taken ≡ drop gone held ++ more → length more ≡ n
-    → symbols + all ≤ 520832000000 → n ≤ all → length taken ≤ 261248
-    → IsFit taken 0 on (symbols + n) total scale 0 0
+    → symbols + all ≤ 520832000000 → n ≤ all → length taken ≤ 261248 → IsFit taken 0 on (symbols + n) total scale 0 0
 unfolding segments_from
 fit_more {held} {taken} {gone} more all h e long most part few = record {
   room = omega (arith, h.room, ap length e, long, length-append (drop gone held) more);
@@ -63,26 +51,13 @@ pub fit_sought : {held new : List ℤ} {gone : ℕ} {on found : Bool} {symbols t
     → IsFit held gone on symbols total scale count cost → gone ≡ 0 → count ≡ 0 → IsSought held new
     → (found ≡ true → agrees new 0 ≡ true) → IsFit new gone found symbols total scale count cost
 unfolding segments_from
-fit_sought {held} {new} {gone} {scale = scale} h kept none sought front =
-    let short = ap length sought.left ∙ length-drop sought.count held in
-    record {
-      room = omega (arith, h.room, kept, short, length-drop gone held, length-drop gone new);
-      most = h.most;
-      front = λ is. ap (λ n. agrees (drop n new) 0) kept ∙ front is;
-      few = omega (arith, h.few, short);
-      within = omega (arith, kept);
-      whole = omega (arith, none);
-      costs =
-          h.costs ∙ ap (λ n. path_cost scale (segments_from held 0 n)) none
-          ∙ sym (ap (λ n. path_cost scale (segments_from new 0 n)) none);
-    }
+fit_sought {held} {new} {gone} {scale = scale} h kept none sought front = grind (arith, length-drop)
 
 -- segments in front were given
 pub fit_given : {held : List ℤ} {gone : ℕ} {on : Bool} {symbols total scale was count given cost : ℕ} (before : ℕ)
     → 832 * before + length held ≤ symbols → symbols ≤ 520832000000 → length held ≤ 261248
     → (on ≡ true → agrees (drop gone held) 0 ≡ true) → gone ≤ length held → 832 * given ≤ gone
-    → total ≡ before + given → scale ≡ was → count ≡ given
-    → cost ≡ path_cost was (segments_from held 0 given)
+    → total ≡ before + given → scale ≡ was → count ≡ given → cost ≡ path_cost was (segments_from held 0 given)
     → IsFit held gone on symbols total scale count cost
 fit_given {held} {gone} {was = was} {count = count} before room most few front within whole counted same many
     costs = record {
@@ -92,7 +67,6 @@ fit_given {held} {gone} {was = was} {count = count} before room most few front w
       few = few;
       within = within;
       whole = omega (arith, whole, within, many);
-      costs =
-          costs ∙ ap (λ n. path_cost was (segments_from held 0 n)) (sym many)
+      costs = costs ∙ ap (λ n. path_cost was (segments_from held 0 n)) (sym many)
           ∙ ap (λ n. path_cost n (segments_from held 0 count)) (sym same);
     }

@@ -1,14 +1,14 @@
 -- How many segments fields give: each but the last 313 or none.
-use Rattle.std.proofs.Common.{◌≡◌, ℕ, ℤ, zero, suc, ◌+◌, ◌-◌, ◌/◌, ◌%◌, ◌<◌, ◌≤◌, ◌⊎◌, inl, inr, Bool, true, false}
-use Rattle.std.proofs.Common.{◌&&◌, cond, nat_lt, ◌↔◌, Option, Some, None, option_map, List, [], ◌∷◌, ◌++◌, length, map}
-use Rattle.std.proofs.Common.{filter, refl, sym, ap, ap₂, ◌∙◌, subst, arith}
+use Rattle.std.proofs.Common.{◌≡◌, ℕ, ℤ, zero, suc, ◌+◌, ◌-◌, ◌%◌, ◌<◌, ◌≤◌, ◌⊎◌, inl, inr, Bool, true, false, ◌&&◌}
+use Rattle.std.proofs.Common.{cond, nat_lt, ◌↔◌, Option, Some, None, option_map, List, [], ◌∷◌, ◌++◌, length, map}
+use Rattle.std.proofs.Common.{filter, refl, sym, ap, ◌∙◌, subst, arith}
 use Rattle.std.proofs.lemmas.Bool.{lt-ltb}
 use Rattle.std.proofs.lemmas.List.{append-nil, length-append}
 use Rattle.std.proofs.lemmas.List.Sums.{sum_by-cons}
-use Rattle.dtx_acquire.specs.Agreement.{agrees, least_from}
-use Rattle.dtx_acquire.specs.Acquired.{Field, Sync, acquired, acquired_runs, all_fields, all_syncs, begun, begun_at}
-use Rattle.dtx_acquire.specs.Acquired.{behind, due, field_at, fields_where, given_at, is_met, restored, restored_of}
-use Rattle.dtx_acquire.specs.Acquired.{runs_of, syncs_from, unless_lost}
+use Rattle.dtx_acquire.specs.Agreement.{least_from}
+use Rattle.dtx_acquire.specs.Acquired.{Field, Sync, acquired, acquired_runs, all_fields, all_syncs, begun, behind}
+use Rattle.dtx_acquire.specs.Acquired.{field_at, fields_where, given_at, is_met, restored, restored_of, runs_of}
+use Rattle.dtx_acquire.specs.Acquired.{syncs_from}
 use Rattle.dtx_acquire.proofs.FieldsLemmas.{fields_of, first_of}
 use Rattle.dtx_acquire.specs.Sent.{AreInFields}
 use Rattle.dtx_acquire.proofs.SyncsLemmas.{sync_of}
@@ -19,16 +19,7 @@ use Rattle.dtx_acquire.proofs.WholeLemmas.{IsAll, given_met, given_room, length-
 
 behind_met : (v : List ℤ) (p : ℕ) (s : Sync) → behind v p ≡ Some s → is_met v p ≡ true
 unfolding behind
-behind_met v p s e = by_met (is_met v p) refl e
-  where
-    none_some : ◌≡◌ {A = Option Sync} None (Some s) → ⊥
-    none_some e = cc
-
-    by_met : (m : Bool) → is_met v p ≡ m
-        → cond m (cond (agrees v (due p)) (Some (record { place = due p; begins = false }))
-        (begun_at (least_from v (p + 1)))) None ≡ Some s → is_met v p ≡ true
-    by_met true f h = f
-    by_met false f h = absurd (none_some h)
+behind_met v p s e = grind arith
 
 -- ---- all fields
 
@@ -42,17 +33,14 @@ AreGiven scale [] = Unit {0}
 AreGiven scale (x ∷ xs) = AreInFields (restored scale x.segments) × IsWhole x xs × AreGiven scale xs
 
 field_segments : (scale : ℕ) (v : List ℤ) (s : Sync) → 0 < scale → AreInFields (restored scale (field_at v s).segments)
-field_segments scale v s some =
-    restored_given scale (field_at v s).segments some (long_at v s)
-    (omega (arith, (given_room v s.place).few, length-field_at v s))
+field_segments scale v s some = grind (arith, restored_given, long_at, given_room, length-field_at)
 
 whole_next : (v : List ℤ) (s : Sync) (n : ℕ) (o : Option Sync) → behind v s.place ≡ o
     → IsWhole (field_at v s) (fields_of (λ met. true) v (syncs_from v n o))
 unfolding syncs_from
 whole_next v s zero o e = tt
 whole_next v s (suc n) None e = tt
-whole_next v s (suc n) (Some t) e =
-    subst IsAll (sym (length-field_at v s)) (given_met v s.place (behind_met v s.place t e))
+whole_next v s (suc n) (Some t) e = grind (arith, length-field_at, given_met, behind_met)
 
 given_from : (scale : ℕ) (v : List ℤ) (n : ℕ) (o : Option Sync) → 0 < scale
     → AreGiven scale (fields_of (λ met. true) v (syncs_from v n o))
@@ -71,10 +59,7 @@ all_given scale v some = given_from scale v (length v) (first_of true v) some
 
 restored_segments : (scale : ℕ) (fields : List Field) → AreGiven scale fields → AreInFields (restored_of scale fields)
 unfolding restored_of
-restored_segments scale [] h = record {
-  syncs = λ i l e. absurd (omega arith);
-  others = λ i l e. absurd (omega arith);
-}
+restored_segments scale [] h = grind arith
 restored_segments scale (x ∷ []) h = subst AreInFields (sym (append-nil (restored scale x.segments))) h.0
 restored_segments scale (x ∷ (y ∷ ys)) h =
     segments_append (restored scale x.segments) (restored_of scale (y ∷ ys)) (by_all h.1) h.0
@@ -86,8 +71,7 @@ restored_segments scale (x ∷ (y ∷ ys)) h =
 
 pub acquired_segments : (scale : ℕ) (symbols : List ℤ) → 0 < scale → AreInFields (acquired scale symbols)
 unfolding acquired
-acquired_segments scale symbols some =
-    restored_segments scale (all_fields symbols) (all_given scale symbols some)
+acquired_segments scale symbols some = restored_segments scale (all_fields symbols) (all_given scale symbols some)
 
 field_before : (scale : ℕ) (fields front : List Field) (x y : Field) (back : List Field) → AreGiven scale fields
     → fields ≡ front ++ x ∷ y ∷ back → IsAll (length x.segments)
@@ -97,10 +81,8 @@ field_before scale fields (z ∷ front) x y back h e =
 
 -- each field but the last
 pub field_gives : (symbols : List ℤ) (front : List Field) (field next : Field) (back : List Field)
-    → all_fields symbols ≡ front ++ field ∷ next ∷ back
-    → (length field.segments ≡ 313) ⊎ (length field.segments ≡ 0)
-field_gives symbols front field next back e =
-    field_before 1 (all_fields symbols) front field next back (all_given 1 symbols (omega arith)) e
+    → all_fields symbols ≡ front ++ field ∷ next ∷ back → (length field.segments ≡ 313) ⊎ (length field.segments ≡ 0)
+field_gives symbols front field next back e = grind (arith, field_before, all_given)
 
 -- ---- no field has more segments than a sync and 312 data segments
 
@@ -134,40 +116,14 @@ GiveNone (x ∷ xs) = (length x.segments ≡ 0) × GiveNone xs
 -- a run begins behind a field that gives nothing
 behind_none : (v : List ℤ) (p : ℕ) (s : Sync) → behind v p ≡ Some s → given_at v p ≡ 0 → s.begins ≡ true
 unfolding behind given_at
-behind_none v p s e z = by_tests (is_met v p) (agrees v (due p)) e z
-  where
-    none_some : ◌≡◌ {A = Option Sync} None (Some s) → ⊥
-    none_some e = cc
-
-    by_least : (o : Option ℕ) → begun_at o ≡ Some s → s.begins ≡ true
-    by_least None e = absurd (none_some e)
-    by_least (Some r) e = sym (ap (λ (t : Sync). t.begins) (found e))
-      where
-        found : ◌≡◌ {A = Option Sync} (Some (record { place = r; begins = true })) (Some s)
-            → record { place = r; begins = true } ≡ s
-        found e = cc
-
-    by_tests : (m g : Bool)
-        → cond m (cond g (Some (record { place = due p; begins = false })) (begun_at (least_from v (p + 1)))) None
-        ≡ Some s
-        → cond m (cond g 313 (unless_lost p (least_from v (p + 1)))) ((length v - p) / 832) ≡ 0 → s.begins ≡ true
-    by_tests true true e z = absurd (omega (arith, z))
-    by_tests true false e z = by_least (least_from v (p + 1)) e
-    by_tests false g e z = absurd (none_some e)
+behind_none v p s e z = grind arith
 
 runs-cons : (x : Field) (xs : List Field) → runs_of (x ∷ xs) ≡ begun x + runs_of xs
 unfolding runs_of
 runs-cons x xs = sum_by-cons (λ n. n) (begun x) (map begun xs)
 
 not_begun : (x : Field) → x.begins ≡ true → begun x ≡ 0 → length x.segments ≡ 0
-not_begun x b z = by_length (length x.segments) refl
-  where
-    by_length : (n : ℕ) → length x.segments ≡ n → n ≡ 0
-    by_length zero e = refl
-    by_length (suc n) e =
-        let some : nat_lt 0 (length x.segments) ≡ true = lt-ltb 0 (length x.segments) (omega (arith, e)) in
-        let one : begun x ≡ 1 = ap₂ (λ c d. cond (c && d) 1 0) b some in
-        absurd (omega (arith, one, z))
+not_begun x b z = grind (arith, lt-ltb)
 
 none_from : (v : List ℤ) (n : ℕ) (s : Sync) → s.begins ≡ true
     → runs_of (fields_of (λ met. true) v (syncs_from v n (Some s))) ≡ 0
@@ -176,10 +132,9 @@ unfolding syncs_from field_at
 none_from v zero s b z = tt
 none_from v (suc n) s b z =
     let all = runs-cons (field_at v s) (fields_of (λ met. true) v (syncs_from v n (behind v s.place))) in
-    let none = not_begun (field_at v s) b (omega (arith, all, z)) in (
+    let none = not_begun (field_at v s) b (omega arith) in (
       none,
-      by_next n (behind v s.place) refl (sym (length-field_at v s) ∙ none) (omega (arith, all, z))
-          (λ t c y. none_from v n t c y),
+      by_next n (behind v s.place) refl (sym (length-field_at v s) ∙ none) (omega arith) (λ t c y. none_from v n t c y),
     )
   where
     by_next : (n : ℕ) (o : Option Sync) → behind v s.place ≡ o → given_at v s.place ≡ 0
@@ -206,8 +161,7 @@ none_restored : (scale : ℕ) (fields : List Field) → GiveNone fields → rest
 unfolding restored_of
 none_restored scale [] h = refl
 none_restored scale (x ∷ xs) h =
-    ap (λ ys. ys ++ restored_of scale xs) (empty (restored scale x.segments) (length-restored scale x.segments ∙ h.0))
-    ∙ none_restored scale xs h.1
+    rw (empty (restored scale x.segments) (length-restored scale x.segments ∙ h.0), none_restored scale xs h.1)
   where
     empty : (ys : List (List ℤ)) → length ys ≡ 0 → ys ≡ []
     empty [] e = refl

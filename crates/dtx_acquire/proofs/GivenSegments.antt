@@ -1,7 +1,6 @@
 -- What is restored of a field: a field sync, and data segments behind it.
-use Rattle.std.proofs.Common.{◌≡◌, ◌≢◌, ℕ, ℤ, pos, negsuc, zero, suc, ◌+◌, ◌-◌, ◌*◌, ◌/◌, ◌%◌, ◌<◌, ◌≤◌, ◌⊎◌, inl, inr}
-use Rattle.std.proofs.Common.{min, List, [], ◌∷◌, ◌++◌, length, map, drop, get_or}
-use Rattle.std.proofs.Common.{refl, sym, ap, ◌∙◌, subst, arith}
+use Rattle.std.proofs.Common.{◌≡◌, ◌≢◌, ℕ, ℤ, pos, negsuc, zero, suc, ◌+◌, ◌-◌, ◌*◌, ◌%◌, ◌<◌, ◌≤◌, List, [], ◌∷◌, ◌++◌}
+use Rattle.std.proofs.Common.{length, map, drop, get_or, refl, sym, ap, ◌∙◌, subst, arith}
 use Rattle.std.proofs.Math.Nat.{div-lt_iff_lt-mul}
 use Rattle.std.proofs.lemmas.Bool.{cases_lt}
 use Rattle.std.proofs.lemmas.List.{get_or-append_right, get_or-map, get_or_append_left}
@@ -20,19 +19,14 @@ use Rattle.dtx_acquire.proofs.WholeLemmas.{AreLong, length-restored, long_decide
 
 level_small : (c : ℕ) (x : ℤ) → 0 < c → scaled_level c x < 8
 unfolding scaled_level
-level_small c (pos n) l = least ((8 * c + n) / (2 * c))
-  where
-    least : (y : ℕ) → min 7 y < 8
-    least y = omega arith
+level_small c (pos n) l = grind arith
 level_small c (negsuc n) l = (div-lt_iff_lt-mul {k = 2 * c} {x = 8 * c - suc n} {y = 8} (omega arith)).1 (omega arith)
 
-levels_from : (c a n : ℕ) (row : List ℤ) → 0 < c → length row ≡ a + n
-    → AreLevels n (map (scaled_level c) (drop a row))
+levels_from : (c a n : ℕ) (row : List ℤ) → 0 < c → length row ≡ a + n → AreLevels n (map (scaled_level c) (drop a row))
 levels_from c a n row l e = record {
   long = long;
   small = λ d m.
-      subst (λ z. z < 8) (sym (get_or-map (scaled_level c) (drop a row) d (pos 0) 0
-      (omega (arith, m, length-drop a row, e))))
+      subst (λ z. z < 8) (sym (grind (arith, get_or-map, length-drop)))
       (level_small c (get_or (drop a row) d (pos 0)) l);
 }
   where
@@ -64,15 +58,11 @@ unfolding restored_field
 field_given scale rows i some h l =
     let all : List (List ℤ) = softened scale (in_groups rows) ++ behind_groups rows in
     let m : i < length all = omega (arith, l, length-map all (restored_data scale)) in
-    subst IsData (sym (get_or-map (restored_data scale) all i [] [] m))
-    (data_given scale (get_or all i []) some (long_decided scale rows h i m))
+    subst IsData (grind (arith, get_or-map)) (data_given scale (get_or all i []) some (long_decided scale rows h i m))
 
 pub restored_given : (scale : ℕ) (rows : List (List ℤ)) → 0 < scale → AreLong rows → length rows ≤ 313
     → AreInFields (restored scale rows)
-restored_given scale [] some h few = record {
-  syncs = λ i l e. absurd (omega arith);
-  others = λ i l e. absurd (omega arith);
-}
+restored_given scale [] some h few = grind arith
 restored_given scale (r ∷ rows) some h few = record {
   syncs = λ i l e. sync_at i (omega (arith, l, length-restored scale (r ∷ rows))) e;
   others = data_at;
@@ -91,21 +81,4 @@ restored_given scale (r ∷ rows) some h few = record {
 
 pub segments_append : (xs ys : List (List ℤ)) → length xs % 313 ≡ 0 → AreInFields xs → AreInFields ys
     → AreInFields (xs ++ ys)
-segments_append xs ys e h k = record {
-  syncs = λ i l z. sync_at i l z (cases_lt i (length xs));
-  others = λ i l z. data_at i l z (cases_lt i (length xs));
-}
-  where
-    sync_at : (i : ℕ) → i < length (xs ++ ys) → i % 313 ≡ 0 → (i < length xs) ⊎ (length xs ≤ i)
-        → IsSync (get_or (xs ++ ys) i [])
-    sync_at i l z (inl m) = subst IsSync (sym (get_or_append_left xs ys [] i m)) (h.syncs i m z)
-    sync_at i l z (inr m) =
-        subst IsSync (sym (get_or-append_right xs ys (length xs) i [] refl m))
-        (k.syncs (i - length xs) (omega (arith, l, m, length-append xs ys)) (omega (arith, z, m, e)))
-
-    data_at : (i : ℕ) → i < length (xs ++ ys) → i % 313 ≢ 0 → (i < length xs) ⊎ (length xs ≤ i)
-        → IsData (get_or (xs ++ ys) i [])
-    data_at i l z (inl m) = subst IsData (sym (get_or_append_left xs ys [] i m)) (h.others i m z)
-    data_at i l z (inr m) =
-        subst IsData (sym (get_or-append_right xs ys (length xs) i [] refl m))
-        (k.others (i - length xs) (omega (arith, l, m, length-append xs ys)) (λ y. z (omega (arith, y, m, e))))
+segments_append xs ys e h k = grind (arith, cases_lt, get_or_append_left, get_or-append_right, length-append)

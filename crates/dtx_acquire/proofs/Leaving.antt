@@ -1,15 +1,14 @@
 -- What an acquirer holds, step by step.
-use Rattle.std.proofs.Common.{◌≡◌, ℕ, ℤ, ◌+◌, ◌/◌, ◌<◌, ◌⊎◌, inl, inr, Bool, true, false, not}
-use Rattle.std.proofs.Common.{List, [], ◌∷◌, ◌++◌, length, map, sum, drop, append_assoc, refl, sym, ap}
-use Rattle.std.proofs.Common.{ap₂, ◌∙◌, subst}
-use Rattle.std.proofs.Common.{arith, length-append}
+use Rattle.std.proofs.Common.{◌≡◌, ℕ, ℤ, ◌+◌, ◌/◌, ◌<◌, ◌⊎◌, inl, inr, Bool, true, false, not, List, [], ◌∷◌, ◌++◌}
+use Rattle.std.proofs.Common.{length, map, sum, drop, append_assoc, refl, sym, ap, ap₂, ◌∙◌, subst, arith}
+use Rattle.std.proofs.Common.{length-append}
 use Rattle.std.proofs.lemmas.List.{append-nil, length-drop, map-append}
 use Rattle.std.proofs.lemmas.List.Sums.{sum_by-append, sum_by-cons}
 use Rattle.dtx_acquire.specs.Agreement.{agrees}
 use Rattle.dtx_acquire.proofs.AgreementLemmas.{past_end}
-use Rattle.dtx_acquire.specs.Acquired.{Field, acquired, acquired_cost, acquired_rest, acquired_runs}
-use Rattle.dtx_acquire.specs.Acquired.{acquired_so_far, begun}
-use Rattle.dtx_acquire.specs.Acquired.{all_fields, cost_of, fields_where, heard_in, heard_rest, heard_so_far}
+use Rattle.dtx_acquire.specs.Acquired.{Field, acquired, acquired_cost, acquired_rest, acquired_runs, acquired_so_far}
+use Rattle.dtx_acquire.specs.Acquired.{begun, all_fields, cost_of, fields_where, heard_in, heard_rest, heard_so_far}
+use Rattle.dtx_acquire.specs.AgreementLaws.{past_end}
 use Rattle.dtx_acquire.specs.Acquired.{last_fields, path_cost, restored, restored_of, runs_of, segments_from}
 use Rattle.dtx_acquire.specs.Acquired.{settled_fields}
 use Rattle.dtx_acquire.specs.Acquirer.{Holding, IsSought, Leaves, StandsFor, field_of, where_wanted}
@@ -27,10 +26,7 @@ runs_append xs ys = ap sum (map-append begun xs ys) ∙ sum_by-append (λ x. x) 
 
 cost_append : (scale : ℕ) (xs ys : List Field) → cost_of scale (xs ++ ys) ≡ cost_of scale xs + cost_of scale ys
 unfolding cost_of
-cost_append scale xs ys =
-    ap sum (map-append (λ (field : Field). path_cost scale field.segments) xs ys)
-    ∙ sum_by-append (λ x. x) (map (λ (field : Field). path_cost scale field.segments) xs)
-    (map (λ (field : Field). path_cost scale field.segments) ys)
+cost_append scale xs ys = grind (arith, map-append, sum_by-append)
 
 pub heard_one : (field : Field) → heard_in (field ∷ []) ≡ field.segments
 heard_one field = append-nil field.segments
@@ -41,18 +37,11 @@ restored_one scale field = append-nil (restored scale field.segments)
 
 runs_one : (field : Field) → runs_of (field ∷ []) ≡ begun field
 unfolding runs_of
-runs_one field = sum_by-cons (λ x. x) (begun field) [] ∙ added (begun field)
-  where
-    added : (n : ℕ) → n + 0 ≡ n
-    added n = omega arith
+runs_one field = grind (arith, sum_by-cons)
 
 cost_one : (scale : ℕ) (field : Field) → cost_of scale (field ∷ []) ≡ path_cost scale field.segments
 unfolding cost_of
-cost_one scale field =
-    sum_by-cons (λ x. x) (path_cost scale field.segments) [] ∙ added (path_cost scale field.segments)
-  where
-    added : (n : ℕ) → n + 0 ≡ n
-    added n = omega arith
+cost_one scale field = grind (arith, sum_by-cons)
 
 -- ---- fields
 
@@ -85,13 +74,11 @@ leaves_step old new symbols done fields h step count scale runs segments cost = 
       ∙ wanted_both (wanted true) done fields (fields_where wanted new.begins (new.held ++ more));
   symbols_are = count ∙ h.symbols_are;
   runs_are = runs ∙ ap (λ n. n + runs_of fields) h.runs_are ∙ sym (runs_append done fields);
-  segments_are =
-      segments ∙ ap (λ n. n + length (restored_of old.scale fields)) h.segments_are
+  segments_are = segments ∙ ap (λ n. n + length (restored_of old.scale fields)) h.segments_are
       ∙ sym (length-append (restored_of old.scale done) (restored_of old.scale fields))
       ∙ ap length (sym (restored_append old.scale done fields))
       ∙ ap (λ s. length (restored_of s (done ++ fields))) (sym scale);
-  cost_is =
-      cost ∙ ap (λ n. n + cost_of old.scale fields) h.cost_is ∙ sym (cost_append old.scale done fields)
+  cost_is = cost ∙ ap (λ n. n + cost_of old.scale fields) h.cost_is ∙ sym (cost_append old.scale done fields)
       ∙ ap (λ s. cost_of s (done ++ fields)) (sym scale);
 }
 
@@ -115,8 +102,7 @@ pub leaves_settled : (old new : Holding) (held : List ℤ) (count given : ℕ) (
     → Leaves old symbols done → held ≡ old.held
     → ((wanted : Bool → Bool) (begins : Bool) (more : List ℤ) → fields_where wanted begins (held ++ more)
     ≡ where_wanted (wanted true) (field_of given begins held ∷ []) ++ fields_where wanted new.begins
-    (drop count held ++ more))
-    → new.held ≡ drop count held → new.symbols ≡ old.symbols → new.scale ≡ old.scale
+    (drop count held ++ more)) → new.held ≡ drop count held → new.symbols ≡ old.symbols → new.scale ≡ old.scale
     → new.runs ≡ old.runs + begun (field_of given old.begins held) → new.segments ≡ old.segments + given
     → new.cost ≡ old.cost + path_cost old.scale (segments_from held 0 given)
     → Leaves new symbols (done ++ field_of given old.begins held ∷ [])
@@ -126,13 +112,10 @@ leaves_settled old new held count given symbols done h same step left counted sc
     (λ wanted more. ap (λ (xs : List ℤ). fields_where wanted old.begins (xs ++ more)) (sym same)
     ∙ step wanted old.begins more
     ∙ ap (λ (xs : List ℤ). where_wanted (wanted true) (field ∷ []) ++ fields_where wanted new.begins (xs ++ more))
-    (sym left))
-    counted scale
-    (runs ∙ ap (λ n. old.runs + n) (sym (runs_one field)))
+    (sym left)) counted scale (runs ∙ ap (λ n. old.runs + n) (sym (runs_one field)))
     (segments ∙ ap (λ n. old.segments + n) (sym (length-segments_from held 0 given)
     ∙ sym (length-restored old.scale (segments_from held 0 given))
-    ∙ ap length (sym (restored_one old.scale field))))
-    (cost ∙ ap (λ n. old.cost + n) (sym (cost_one old.scale field)))
+    ∙ ap length (sym (restored_one old.scale field)))) (cost ∙ ap (λ n. old.cost + n) (sym (cost_one old.scale field)))
 
 -- ---- all that it stands for
 
@@ -142,40 +125,26 @@ settled_are holding symbols done h few = settled_by holding.begins symbols holdi
 
 pub stands_by : (holding : Holding) (symbols : List ℤ) (done : List Field) → Leaves holding symbols done
     → length holding.held < 261248 → StandsFor holding symbols
-stands_by holding symbols done h few = record {
-  few = few;
-  leaves = subst (Leaves holding symbols) (sym (settled_are holding symbols done h few)) h;
-}
+stands_by holding symbols done h few = grind (arith, settled_are)
 
 pub so_far_by : (holding : Holding) (before symbols : List ℤ) (fields : List Field) (scale : ℕ)
     → Leaves holding symbols (settled_fields before ++ fields) → length holding.held < 261248
     → acquired_so_far scale symbols ≡ acquired_so_far scale before ++ restored_of scale fields
 unfolding acquired_so_far
-so_far_by holding before symbols fields scale h few =
-    ap (restored_of scale) (settled_are holding symbols (settled_fields before ++ fields) h few)
-    ∙ restored_append scale (settled_fields before) fields
+so_far_by holding before symbols fields scale h few = grind (arith, settled_are, restored_append)
 
 pub heard_by : (holding : Holding) (before symbols : List ℤ) (fields : List Field)
     → Leaves holding symbols (settled_fields before ++ fields) → length holding.held < 261248
     → heard_so_far symbols ≡ heard_so_far before ++ heard_in fields
 unfolding heard_so_far
-heard_by holding before symbols fields h few =
-    ap heard_in (settled_are holding symbols (settled_fields before ++ fields) h few)
-    ∙ heard_append (settled_fields before) fields
+heard_by holding before symbols fields h few = grind (arith, settled_are, heard_append)
 
 -- nothing was given
 pub stands_first : (holding : Holding) → holding.held ≡ [] → holding.begins ≡ true → holding.symbols ≡ 0
     → holding.runs ≡ 0 → holding.segments ≡ 0 → holding.cost ≡ 0 → StandsFor holding []
 unfolding runs_of restored_of cost_of
-stands_first holding held begins count runs segments cost =
-    stands_by holding [] [] (record {
-      fields = λ wanted more.
-          ap₂ (λ b (xs : List ℤ). fields_where wanted b (xs ++ more)) (sym begins) (sym held) ∙ none (wanted true) _;
-      symbols_are = count;
-      runs_are = runs;
-      segments_are = segments;
-      cost_is = cost;
-    }) (subst (λ (xs : List ℤ). length xs < 261248) (sym held) (omega arith))
+stands_first holding held begins count runs segments cost = stands_by holding [] []
+    (grind (arith, none)) (subst (λ (xs : List ℤ). length xs < 261248) (sym held) (omega arith))
   where
     none : (b : Bool) (xs : List Field) → xs ≡ where_wanted b [] ++ xs
     none true xs = refl
@@ -212,8 +181,7 @@ last_is false begins held count few front short whole none = (
   [],
   record {
     fields = λ wanted.
-        fields_none wanted begins held
-        (least_none agrees past_end held 0 (λ i l m. absurd (by_short short i m)))
+        fields_none wanted begins held (least_none agrees past_end held 0 (λ i l m. absurd (by_short short i m)))
         ∙ empty (wanted false);
     gives = λ scale. ap (λ n. restored scale (segments_from held 0 n)) (sym (none refl));
     hears = ap (segments_from held 0) (sym (none refl));
@@ -223,10 +191,7 @@ last_is false begins held count few front short whole none = (
 )
   where
     by_short : (false ≡ true) ⊎ (length held < 832) → (i : ℕ) → i + 831 < length held → ⊥
-    by_short (inl e) i m = absurd (unlike_tests e)
-      where
-        unlike_tests : ◌≡◌ {A = Bool} false true → ⊥
-        unlike_tests e = cc
+    by_short (inl e) i m = grind arith
     by_short (inr l) i m = omega arith
 
     empty : (b : Bool) → ◌≡◌ {A = List Field} [] (where_wanted b [])
@@ -252,11 +217,9 @@ all_are holding symbols left on count last h sought is = record {
   where
     each : (wanted : Bool → Bool) → fields_where wanted true symbols
         ≡ where_wanted (wanted true) (settled_fields symbols) ++ where_wanted (wanted false) last
-    each wanted =
-        ap (fields_where wanted true) (sym (append-nil symbols)) ∙ h.leaves.fields wanted []
+    each wanted = ap (fields_where wanted true) (sym (append-nil symbols)) ∙ h.leaves.fields wanted []
         ∙ ap (λ xs. where_wanted (wanted true) (settled_fields symbols) ++ xs)
-        (sought_fields holding.held left sought wanted holding.begins []
-        ∙ ap (fields_where wanted holding.begins) (append-nil left) ∙ is.fields wanted)
+        (rw (sought_fields holding.held left sought wanted holding.begins [], append-nil left, is.fields wanted))
 
 pub record IsEnd (symbols : List ℤ) (scale : ℕ) (given heard : List (List ℤ)) (runs segments cost : ℕ) : Type 0 where
   pub gives : given ≡ acquired_rest scale symbols
@@ -282,22 +245,18 @@ ends holding symbols left on count runs segments cost given heard h sought front
     let is = last.1 in
     let are = all_are holding symbols left on count last.0 h sought is in
     record {
-      gives =
-          gives ∙ sym (is.gives holding.scale) ∙ ap (restored_of holding.scale) (sym are.rest);
+      gives = gives ∙ sym (is.gives holding.scale) ∙ ap (restored_of holding.scale) (sym are.rest);
       hears = hears ∙ sym is.hears ∙ ap heard_in (sym are.rest);
-      runs_are =
-          begun_are
+      runs_are = begun_are
           ∙ ap₂ (λ a b. a + b) h.leaves.runs_are (sym is.runs)
           ∙ sym (runs_append (settled_fields symbols) last.0) ∙ ap runs_of (sym are.all);
-      segments_are =
-          counted
+      segments_are = counted
           ∙ ap₂ (λ a b. a + b) h.leaves.segments_are (sym (length-segments_from left 0 count)
           ∙ sym (length-restored holding.scale (segments_from left 0 count)) ∙ ap length (sym (is.gives holding.scale)))
           ∙ sym (length-append (restored_of holding.scale (settled_fields symbols)) (restored_of holding.scale last.0))
           ∙ ap length (sym (restored_append holding.scale (settled_fields symbols) last.0)
           ∙ ap (restored_of holding.scale) (sym are.all));
-      cost_is =
-          costs
+      cost_is = costs
           ∙ ap₂ (λ a b. a + b) h.leaves.cost_is (sym (is.costs holding.scale))
           ∙ sym (cost_append holding.scale (settled_fields symbols) last.0)
           ∙ ap (cost_of holding.scale) (sym are.all);

@@ -1,5 +1,5 @@
 -- Symbols that were moved to the front.
-use Rattle.std.proofs.Common.{◌≡◌, ℕ, ℤ, pos, ◌+◌, ◌-◌, ◌<◌, ◌≤◌, List, length, take, drop, get_or, sym, ap, ◌∙◌, arith}
+use Rattle.std.proofs.Common.{◌≡◌, ℕ, ℤ, pos, ◌-◌, ◌<◌, ◌≤◌, List, length, take, drop, get_or, sym, ap, ◌∙◌, arith}
 use Rattle.std.specs.List.{CopiedTo}
 use Rattle.std.proofs.lemmas.List.{ext_get_or, get_or-drop, get_or-take, length-drop, length-take-le}
 
@@ -17,10 +17,4 @@ moved_is old new filled count l m e h =
 
     at : (k : ℕ) → k < filled - count
         → get_or (take (filled - count) new) k (pos 0) ≡ get_or (drop count (take filled old)) k (pos 0)
-    at k n =
-        let same : count + (k - 0) ≡ count + k = omega arith in
-        get_or-take (filled - count) new k (pos 0) n
-        ∙ h k (pos 0) (omega arith) (omega arith)
-        ∙ ap (λ i. get_or old i (pos 0)) same
-        ∙ sym (get_or-take filled old (count + k) (pos 0) (omega arith))
-        ∙ sym (get_or-drop count (take filled old) k (pos 0))
+    at k n = grind (arith, get_or-take, get_or-drop)

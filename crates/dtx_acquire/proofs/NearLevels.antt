@@ -1,6 +1,6 @@
 -- Symbols that lie near those that were sent: their levels and their signs.
-use Rattle.std.proofs.Common.{◌≡◌, ℕ, ℤ, pos, negsuc, zero, suc, ◌+◌, ◌-◌, ◌*◌, ◌/◌, ◌<◌, ◌≤◌, ◌-ℤ◌, ◌*ℤ◌, nat_abs}
-use Rattle.std.proofs.Common.{min, true, false, sym, ap, ◌∙◌, subst, refl, arith}
+use Rattle.std.proofs.Common.{◌≡◌, ℕ, ℤ, pos, negsuc, zero, suc, ◌+◌, ◌-◌, ◌*◌, ◌/◌, ◌<◌, ◌≤◌, ◌-ℤ◌, ◌*ℤ◌, nat_abs, min}
+use Rattle.std.proofs.Common.{true, false, ap, subst, refl, arith}
 use Rattle.std.proofs.lemmas.Bool.{lt-ltb}
 use Rattle.std.proofs.lemmas.Int.{ints}
 use Rattle.std.proofs.lemmas.Nat.{div-mul-add}
@@ -25,17 +25,14 @@ times_symbol c (suc (suc (suc (suc (suc (suc (suc (suc z)))))))) l = absurd (ome
 
 -- a quotient by its bounds
 quotient : (a w q : ℕ) → q * w ≤ a → a < q * w + w → a / w ≡ q
-quotient a w q l m =
-    let e : a ≡ q * w + (a - q * w) = omega arith in
-    ap (λ n. n / w) e ∙ div-mul-add q w (a - q * w) (omega arith)
+quotient a w q l m = grind (arith, div-mul-add)
 
 -- the symbol lies between the middles
 level_near : (c z : ℕ) (x : ℤ) → z < 8 → nat_abs (x -ℤ symbol_at c z) < c → scaled_level c x ≡ z
 unfolding scaled_level symbol_at
 level_near c z (pos n) l h =
-    let low : z * (2 * c) ≤ 8 * c + n = omega (arith, ints) in
     let high : 8 * c + n < z * (2 * c) + 2 * c = omega (arith, ints) in
-    least ((8 * c + n) / (2 * c)) (quotient (8 * c + n) (2 * c) z low high)
+    least ((8 * c + n) / (2 * c)) (quotient (8 * c + n) (2 * c) z (omega (arith, ints)) high)
   where
     least : (y : ℕ) → y ≡ z → min 7 y ≡ z
     least y e = omega arith
@@ -45,8 +42,7 @@ level_near c z (negsuc n) l h =
     quotient (8 * c - suc n) (2 * c) z low high
 
 pub decided_near : (c z : ℕ) (x : ℤ) → z < 8 → IsNear c (symbol_of z) x → decided c x ≡ symbol_of z
-decided_near c z x l h =
-    ap symbol_of (level_near c z x l (subst (λ y. nat_abs (x -ℤ y) < c) (times_symbol c z l) h))
+decided_near c z x l h = ap symbol_of (level_near c z x l (subst (λ y. nat_abs (x -ℤ y) < c) (times_symbol c z l) h))
 
 plus_near : (c : ℕ) (x : ℤ) → IsNear c (pos 5) x → is_plus x ≡ true
 plus_near c (pos zero) h = absurd (omega (arith, ints))
@@ -60,9 +56,7 @@ minus_near c (negsuc n) h = refl
 
 -- a symbol of a sync keeps its sign
 pub sign_near : (c : ℕ) (sent x : ℤ) → nat_abs sent ≡ 5 → IsNear c sent x → is_plus x ≡ is_plus sent
-sign_near c (pos n) x e h =
-    let five : n ≡ 5 = omega arith in
-    plus_near c x (subst (λ k. IsNear c (pos k) x) five h) ∙ sym (ap (λ k. is_plus (pos k)) five)
+sign_near c (pos n) x e h = grind (arith, plus_near)
 sign_near c (negsuc n) x e h =
     let four : n ≡ 4 = omega arith in
     minus_near c x (subst (λ k. IsNear c (negsuc k) x) four h)

@@ -1,6 +1,6 @@
 -- What paths cost over symbols that lie near those of one: it alone costs least.
-use Rattle.std.proofs.Common.{◌≡◌, ℕ, ℤ, suc, ◌+◌, ◌-◌, ◌*◌, ◌<◌, ◌≤◌, ◌-ℤ◌, ◌⊎◌, inl, inr, nat_abs, List, []}
-use Rattle.std.proofs.Common.{◌∷◌, length, map, sym, ap, ap₂, subst, refl, arith}
+use Rattle.std.proofs.Common.{◌≡◌, ℕ, ℤ, suc, ◌+◌, ◌-◌, ◌*◌, ◌<◌, ◌≤◌, ◌-ℤ◌, ◌⊎◌, inl, inr, nat_abs, List, [], ◌∷◌}
+use Rattle.std.proofs.Common.{length, map, subst, refl, arith}
 use Rattle.std.proofs.lemmas.Bool.{cases_lt}
 use Rattle.std.proofs.lemmas.Int.{ints}
 use Rattle.dtx_soft.proofs.MovedLemmas.{distance-cons}
@@ -23,11 +23,7 @@ unfolding symbol_at
 nearer c y k x h = omega (arith, ints)
 
 squares_rise : (a b : ℕ) → a < b → a * a < b * b
-squares_rise a b l =
-    (let e : b ≡ a + suc (b - suc a) = omega arith in subst (λ n. a * a < n * n) (sym e) (more (b - suc a)))
-  where
-    more : (k : ℕ) → a * a < (a + suc k) * (a + suc k)
-    more k = omega arith
+squares_rise a b l = grind arith
 
 -- any other level costs more
 closest : (c y z : ℕ) (x : ℤ) → nat_abs (x -ℤ symbol_at c y) < c
@@ -35,8 +31,7 @@ closest : (c y z : ℕ) (x : ℤ) → nat_abs (x -ℤ symbol_at c y) < c
 unfolding squared
 closest c y z x h = by_order (cases_lt y z) (cases_lt z y)
   where
-    by_order : (y < z) ⊎ (z ≤ y) → (z < y) ⊎ (y ≤ z)
-        → (nat_abs (x -ℤ symbol_at c y) * nat_abs (x -ℤ symbol_at c y)
+    by_order : (y < z) ⊎ (z ≤ y) → (z < y) ⊎ (y ≤ z) → (nat_abs (x -ℤ symbol_at c y) * nat_abs (x -ℤ symbol_at c y)
         < nat_abs (x -ℤ symbol_at c z) * nat_abs (x -ℤ symbol_at c z)) ⊎ (z ≡ y)
     by_order (inl l) m =
         let e : y + suc (z - suc y) ≡ z = omega arith in
@@ -44,9 +39,7 @@ closest c y z x h = by_order (cases_lt y z) (cases_lt z y)
         (subst (λ n. nat_abs (x -ℤ symbol_at c y) < nat_abs (x -ℤ symbol_at c n)) e (further c y (z - suc y) x h)))
     by_order (inr l) (inl m) =
         let e : z + suc (y - suc z) ≡ y = omega arith in
-        inl (squares_rise (nat_abs (x -ℤ symbol_at c y)) (nat_abs (x -ℤ symbol_at c z))
-        (subst (λ n. nat_abs (x -ℤ symbol_at c n) < nat_abs (x -ℤ symbol_at c z)) e
-        (nearer c z (y - suc z) x (subst (λ n. nat_abs (x -ℤ symbol_at c n) < c) (sym e) h))))
+        inl (squares_rise (nat_abs (x -ℤ symbol_at c y)) (nat_abs (x -ℤ symbol_at c z)) (grind (arith, nearer)))
     by_order (inr l) (inr m) = inr (omega arith)
 
 cost-cons : (c z : ℕ) (x : ℤ) (xs : List ℤ) (levels : List ℕ)
@@ -68,14 +61,12 @@ costs_least c (x ∷ xs) (z ∷ levels) (y ∷ others) l m h =
     let b = cost-cons c y x xs others in
     by_level (closest c z y x h.0) rest a b
   where
-    by_level : (squared x (symbol_at c z) < squared x (symbol_at c y)) ⊎ (y ≡ z)
-        → cost c xs levels ≤ cost c xs others
+    by_level : (squared x (symbol_at c z) < squared x (symbol_at c y)) ⊎ (y ≡ z) → cost c xs levels ≤ cost c xs others
         → cost c (x ∷ xs) (z ∷ levels) ≡ squared x (symbol_at c z) + cost c xs levels
         → cost c (x ∷ xs) (y ∷ others) ≡ squared x (symbol_at c y) + cost c xs others
         → cost c (x ∷ xs) (z ∷ levels) ≤ cost c (x ∷ xs) (y ∷ others)
     by_level (inl k) rest a b = omega (arith, k, rest, a, b)
-    by_level (inr e) rest a b =
-        let same = ap (λ n. squared x (symbol_at c n)) e in omega (arith, same, rest, a, b)
+    by_level (inr e) rest a b = grind arith
 
 -- and those that cost no more are the same
 pub costs_same : (c : ℕ) (xs : List ℤ) (levels others : List ℕ) → length levels ≡ length xs
@@ -91,11 +82,9 @@ costs_same c (x ∷ xs) (z ∷ levels) (y ∷ others) l m h k =
     let b = cost-cons c y x xs others in
     by_level (closest c z y x h.0) rest a b (λ n. costs_same c xs levels others (omega arith) (omega arith) h.1 n)
   where
-    by_level : (squared x (symbol_at c z) < squared x (symbol_at c y)) ⊎ (y ≡ z)
-        → cost c xs levels ≤ cost c xs others
+    by_level : (squared x (symbol_at c z) < squared x (symbol_at c y)) ⊎ (y ≡ z) → cost c xs levels ≤ cost c xs others
         → cost c (x ∷ xs) (z ∷ levels) ≡ squared x (symbol_at c z) + cost c xs levels
         → cost c (x ∷ xs) (y ∷ others) ≡ squared x (symbol_at c y) + cost c xs others
         → (cost c xs others ≤ cost c xs levels → others ≡ levels) → y ∷ others ≡ z ∷ levels
     by_level (inl n) rest a b on = absurd (omega (arith, n, rest, a, b, k))
-    by_level (inr e) rest a b on =
-        let same = ap (λ n. squared x (symbol_at c n)) e in ap₂ ◌∷◌ e (on (omega (arith, same, a, b, k)))
+    by_level (inr e) rest a b on = grind arith

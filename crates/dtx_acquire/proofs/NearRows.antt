@@ -1,13 +1,13 @@
 -- Segments whose symbols lie near those that were sent: what is restored of each is what was sent.
-use Rattle.std.proofs.Common.{◌≡◌, ℕ, ℤ, pos, ◌+◌, ◌-◌, ◌<◌, ◌≤◌, List, [], ◌++◌, length}
-use Rattle.std.proofs.Common.{map, take, drop, get_or, sym, ap, ap₂, ◌∙◌, subst, arith}
+use Rattle.std.proofs.Common.{◌≡◌, ℕ, ℤ, pos, ◌+◌, ◌-◌, ◌<◌, ◌≤◌, List, [], ◌++◌, length, map, take, drop, get_or, sym}
+use Rattle.std.proofs.Common.{ap, ap₂, ◌∙◌, arith}
 use Rattle.std.proofs.lemmas.List.{ext_get_or, get_or-drop, get_or-map, get_or-take}
 use Rattle.std.proofs.lemmas.List.{length-drop, length-map, length-take-le}
 use Rattle.dtx_trellis.specs.Trellis.{symbol_of}
 use Rattle.dtx_frame.specs.Segments.{data_segment, field_sync, segment_sync}
 use Rattle.dtx_acquire.specs.Acquired.{restored_data, restored_sync}
 use Rattle.dtx_acquire.specs.Scaled.{decided}
-use Rattle.dtx_acquire.specs.Sent.{AreLevels, AreNear, IsData, IsNear, IsSync}
+use Rattle.dtx_acquire.specs.Sent.{AreLevels, AreNear, IsData, IsSync}
 use Rattle.dtx_acquire.proofs.Each.{each_from}
 use Rattle.dtx_acquire.proofs.NearLevels.{decided_near}
 use Rattle.dtx_acquire.proofs.NearSyncs.{second_near}
@@ -21,11 +21,7 @@ decided_from : (scale a n : ℕ) (levels : List ℕ) (sent row : List ℤ) → l
     → map (decided scale) (drop a row) ≡ map symbol_of levels
 decided_from scale a n levels sent row long h at near =
     sym (each_from (decided scale) (pos 0) a n row (map symbol_of levels) (near.long ∙ long)
-    (length-map levels symbol_of ∙ h.long)
-    (λ k l. get_or-map symbol_of levels k 0 (pos 0) (omega (arith, h.long, l))
-    ∙ sym (decided_near scale (get_or levels k 0) (get_or row (a + k) (pos 0)) (h.small k l)
-    (subst (λ x. IsNear scale x (get_or row (a + k) (pos 0))) (at k l)
-    (near.near (a + k) (omega (arith, long, l)))))))
+    (length-map levels symbol_of ∙ h.long) (λ k l. grind (arith, get_or-map, decided_near)))
 
 pub data_restored : (scale : ℕ) (sent row : List ℤ) → IsData sent → AreNear scale sent row
     → restored_data scale row ≡ sent
@@ -40,14 +36,9 @@ pub sync_restored : (scale : ℕ) (sent row : List ℤ) → IsSync sent → AreN
 unfolding restored_sync
 sync_restored scale sent row h near =
     let long : length sent ≡ 820 + 12 = ap length h.is ∙ length_sync h.second h.last h.are in
-    ap₂ field_sync (second_near scale row h.second (map symbol_of h.last)
-    (λ k l. (let there : k ≡ 0 + k = omega arith in
-    subst (λ (xs : List ℤ). IsNear scale (get_or xs k (pos 0)) (get_or row (0 + k) (pos 0))) h.is
-    (subst (λ n. IsNear scale (get_or sent k (pos 0)) (get_or row n (pos 0))) there
-    (near.near k (omega (arith, long, l)))))))
+    ap₂ field_sync (second_near scale row h.second (map symbol_of h.last) (λ k l. (grind arith)))
     (decided_from scale 820 12 h.last sent row long h.are
-    (λ q l. ap (λ (xs : List ℤ). get_or xs (820 + q) (pos 0)) h.is ∙ last_at h.second h.last q h.are l) near)
-    ∙ sym h.is
+    (λ q l. ap (λ (xs : List ℤ). get_or xs (820 + q) (pos 0)) h.is ∙ last_at h.second h.last q h.are l) near) ∙ sym h.is
 
 -- ---- segments
 
@@ -62,35 +53,18 @@ pub rows_restored : (scale : ℕ) (sent rows : List (List ℤ)) → AreData sent
     → map (restored_data scale) rows ≡ sent
 rows_restored scale sent rows h near =
     ext_get_or [] (map (restored_data scale) rows) sent (length-map rows (restored_data scale) ∙ near.long)
-    (λ i l. (let m : i < length sent = omega (arith, l, near.long, length-map rows (restored_data scale)) in
-    get_or-map (restored_data scale) rows i [] [] (omega (arith, near.long, m))
-    ∙ data_restored scale (get_or sent i []) (get_or rows i []) (h i m) (near.each i m)))
+    (λ i l. (grind (arith, length-map, get_or-map, data_restored)))
 
 pub near_take : (scale n : ℕ) (sent rows : List (List ℤ)) → n ≤ length sent → AreNearRows scale sent rows
     → AreNearRows scale (take n sent) (take n rows)
-near_take scale n sent rows l near = record {
-  long = length-take-le n rows (omega (arith, l, near.long)) ∙ sym (length-take-le n sent l);
-  each = λ i m. (let k : i < n = omega (arith, m, length-take-le n sent l) in
-      subst (λ (s : List ℤ). AreNear scale s (get_or (take n rows) i [])) (sym (get_or-take n sent i [] k))
-      (subst (AreNear scale (get_or sent i [])) (sym (get_or-take n rows i [] k))
-      (near.each i (omega (arith, k, l)))));
-}
+near_take scale n sent rows l near = grind (arith, length-take-le, get_or-take)
 
 pub near_drop : (scale n : ℕ) (sent rows : List (List ℤ)) → AreNearRows scale sent rows
     → AreNearRows scale (drop n sent) (drop n rows)
-near_drop scale n sent rows near = record {
-  long = length-drop n rows ∙ ap (λ k. k - n) near.long ∙ sym (length-drop n sent);
-  each = λ i m.
-      subst (λ (s : List ℤ). AreNear scale s (get_or (drop n rows) i [])) (sym (get_or-drop n sent i []))
-      (subst (AreNear scale (get_or sent (n + i) [])) (sym (get_or-drop n rows i []))
-      (near.each (n + i) (omega (arith, m, length-drop n sent))));
-}
+near_drop scale n sent rows near = grind (arith, length-drop, get_or-drop)
 
 pub data_take : (n : ℕ) (rows : List (List ℤ)) → n ≤ length rows → AreData rows → AreData (take n rows)
-data_take n rows l h = λ i m.
-    let k : i < n = omega (arith, m, length-take-le n rows l) in
-    subst IsData (sym (get_or-take n rows i [] k)) (h i (omega (arith, k, l)))
+data_take n rows l h = grind (arith, length-take-le, get_or-take)
 
 pub data_drop : (n : ℕ) (rows : List (List ℤ)) → AreData rows → AreData (drop n rows)
-data_drop n rows h = λ i m.
-    subst IsData (sym (get_or-drop n rows i [])) (h (n + i) (omega (arith, m, length-drop n rows)))
+data_drop n rows h = grind (arith, get_or-drop, length-drop)

@@ -1,8 +1,7 @@
 -- Symbols that lie near those of a stream, field by field: what is acquired is what was sent.
-use Rattle.std.proofs.Common.{◌≡◌, ℕ, ℤ, pos, zero, suc, ◌+◌, ◌*◌, ◌/◌, ◌%◌, ◌<◌, ◌≤◌, ◌⊎◌, inl, inr, Bool}
-use Rattle.std.proofs.Common.{true, false, min, List, [], ◌∷◌, ◌++◌, length, map, take, drop, get_or, refl}
-use Rattle.std.proofs.Common.{sym, ap, ap₂, ◌∙◌, subst, arith}
-use Rattle.std.specs.List.{range_with_len}
+use Rattle.std.proofs.Common.{◌≡◌, ℕ, ℤ, pos, zero, suc, ◌+◌, ◌*◌, ◌/◌, ◌%◌, ◌<◌, ◌≤◌, ◌⊎◌, inl, inr, Bool, true, false}
+use Rattle.std.proofs.Common.{min, List, [], ◌∷◌, ◌++◌, length, take, drop, get_or, refl, sym, ap, ap₂, ◌∙◌, subst}
+use Rattle.std.proofs.Common.{arith}
 use Rattle.std.proofs.lemmas.Bool.{cases_lt}
 use Rattle.std.proofs.lemmas.List.{append-nil, drop-drop, drop-take, get_or-drop, get_or-take}
 use Rattle.std.proofs.lemmas.List.{length-drop, length-take-le, take-append-drop, take-take, take_all}
@@ -32,12 +31,7 @@ record AreReceived (scale : ℕ) (sent : List (List ℤ)) (symbols : List ℤ) :
 
 received_by : (scale : ℕ) (sent : List (List ℤ)) (symbols : List ℤ) → AreInFields sent
     → AreNear scale (all_symbols sent) symbols → AreReceived scale sent symbols
-received_by scale sent symbols h near = record {
-  long = near.long ∙ length_sent sent h;
-  near = λ i k l m.
-      subst (λ x. IsNear scale x (get_or symbols (832 * i + k) (pos 0))) (symbol_there sent h i k l m)
-      (near.near (832 * i + k) (omega (arith, l, m, length_sent sent h)));
-}
+received_by scale sent symbols h near = grind (arith, length_sent, symbol_there)
 
 -- ---- without the first field
 
@@ -50,14 +44,12 @@ sent_behind sent h = record {
         (h.segments_are.syncs (313 + i) (omega (arith, l, length-drop 313 sent)) (omega (arith, e)));
     others = λ i l e.
         subst IsData (sym (get_or-drop 313 sent i []))
-        (h.segments_are.others (313 + i) (omega (arith, l, length-drop 313 sent))
-        (λ z. e (omega (arith, z))));
+        (h.segments_are.others (313 + i) (omega (arith, l, length-drop 313 sent)) (λ z. e (omega (arith, z))));
   };
   paths = λ f e l m.
       let there : 313 + (313 * f + 1) ≡ 313 * (f + 1) + 1 = omega arith in
       subst (λ (s : List (List ℤ)). IsOwn 1 (coder_symbols (in_groups (take 312 s)) e))
-      (ap (λ n. drop n sent) (sym there) ∙ sym (drop-drop (313 * f + 1) 313 sent))
-      (h.paths (f + 1) e (omega (arith, l, length-drop 313 sent)) m);
+      (rw (← there, ← drop-drop (313 * f + 1) 313 sent)) (h.paths (f + 1) e (omega (arith, l, length-drop 313 sent)) m);
 }
 
 received_behind : (scale : ℕ) (sent : List (List ℤ)) (symbols : List ℤ) → AreReceived scale sent symbols
@@ -65,44 +57,25 @@ received_behind : (scale : ℕ) (sent : List (List ℤ)) (symbols : List ℤ) �
 received_behind scale sent symbols h = record {
   long = length-drop 260416 symbols ∙ omega (arith, h.long, length-drop 313 sent);
   near = λ i k l m.
-      let there : 832 * (313 + i) + k ≡ 260416 + (832 * i + k) = omega arith in
       subst (λ (s : List ℤ). IsNear scale (get_or s k (pos 0)) (get_or (drop 260416 symbols) (832 * i + k) (pos 0)))
-      (sym (get_or-drop 313 sent i []))
-      (subst (IsNear scale (get_or (get_or sent (313 + i) []) k (pos 0)))
-      (ap (λ n. get_or symbols n (pos 0)) there ∙ sym (get_or-drop 260416 symbols (832 * i + k) (pos 0)))
+      (sym (get_or-drop 313 sent i [])) (subst (IsNear scale (get_or (get_or sent (313 + i) []) k (pos 0)))
+      (ap (λ n. get_or symbols n (pos 0)) (omega arith) ∙ sym (get_or-drop 260416 symbols (832 * i + k) (pos 0)))
       (h.near (313 + i) k (omega (arith, l, length-drop 313 sent)) m));
 }
 
 -- the first symbols, as far as a segment behind the first field
 received_front : (scale n : ℕ) (sent : List (List ℤ)) (symbols : List ℤ) → n ≤ length sent
     → AreReceived scale sent symbols → AreReceived scale (take n sent) (take (832 * n) symbols)
-received_front scale n sent symbols l h = record {
-  long = length-take-le (832 * n) symbols (omega (arith, h.long, l))
-      ∙ ap (λ k. 832 * k) (sym (length-take-le n sent l));
-  near = λ i k m o.
-      let p : i < n = omega (arith, m, length-take-le n sent l) in
-      subst (λ (s : List ℤ). IsNear scale (get_or s k (pos 0)) (get_or (take (832 * n) symbols) (832 * i + k) (pos 0)))
-      (sym (get_or-take n sent i [] p))
-      (subst (IsNear scale (get_or (get_or sent i []) k (pos 0)))
-      (sym (get_or-take (832 * n) symbols (832 * i + k) (pos 0) (omega arith)))
-      (h.near i k (omega arith) o));
-}
+received_front scale n sent symbols l h = grind (arith, length-take-le, get_or-take)
 
 -- ---- a field
 
 rows_near : (scale : ℕ) (sent : List (List ℤ)) (symbols : List ℤ) (n : ℕ) → AreInFields sent
-    → AreReceived scale sent symbols → n ≤ length sent
-    → AreNearRows scale (take n sent) (segments_from symbols 0 n)
+    → AreReceived scale sent symbols → n ≤ length sent → AreNearRows scale (take n sent) (segments_from symbols 0 n)
 unfolding segments_from
 rows_near scale sent symbols n h near l = record {
   long = length-map-range_with_len (λ i. take 832 (drop (0 + 832 * i) symbols)) 0 n ∙ sym (length-take-le n sent l);
-  each = λ i m. (let p : i < n = omega (arith, m, length-take-le n sent l) in
-      subst (λ (s : List ℤ). AreNear scale s
-      (get_or (map (λ i. take 832 (drop (0 + 832 * i) symbols)) (range_with_len 0 n)) i []))
-      (sym (get_or-take n sent i [] p))
-      (subst (AreNear scale (get_or sent i []))
-      (sym (get_or-map-range_with_len (λ i. take 832 (drop (0 + 832 * i) symbols)) 0 n i i [] p (omega arith)))
-      (row i (omega (arith, p, l)))));
+  each = λ i m. (grind (arith, length-take-le, get_or-take, get_or-map-range_with_len, row));
 }
   where
     there : (i k : ℕ) → 0 + 832 * i + k ≡ 832 * i + k
@@ -120,8 +93,7 @@ rows_near scale sent symbols n h near l = record {
           let q : k < 832 = omega (arith, o, row_long sent h i m) in
           subst (IsNear scale (get_or (get_or sent i []) k (pos 0)))
           (sym (get_or-take 832 (drop (0 + 832 * i) symbols) k (pos 0) q ∙ get_or-drop (0 + 832 * i) symbols k (pos 0)
-          ∙ ap (λ n. get_or symbols n (pos 0)) (there i k)))
-          (near.near i k m q);
+          ∙ ap (λ n. get_or symbols n (pos 0)) (there i k))) (near.near i k m q);
     }
 
 field_near : (scale : ℕ) (sent rows : List (List ℤ)) → 0 < scale → 0 < length sent → IsSync (get_or sent 0 [])
@@ -146,17 +118,14 @@ first_near scale sent symbols n some l h e rows near =
     (λ i m k. subst IsData (sym (get_or-take n sent i [] (omega (arith, k, long))))
     (h.segments_are.others i (omega (arith, k, long)) (λ z. omega (arith, z, m, k, long, e))))
     (λ c m. subst (λ (s : List (List ℤ)). IsOwn 1 (coder_symbols (in_groups s) c)) (sym (groups_are n e))
-    (h.paths 0 c l m))
-    near
+    (h.paths 0 c l m)) near
   where
     groups_are : (n : ℕ) → n ≡ min 313 (length sent) → drop 1 (take n sent) ≡ take 312 (drop 1 sent)
     groups_are n e = by_length (cases_lt 313 (length sent))
       where
         by_length : (313 < length sent) ⊎ (length sent ≤ 313) → drop 1 (take n sent) ≡ take 312 (drop 1 sent)
-        by_length (inl k) =
-            let all : n ≡ 1 + 312 = omega arith in ap (λ i. drop 1 (take i sent)) all ∙ drop-take 1 312 sent
-        by_length (inr k) =
-            ap (drop 1) (take_all n sent (omega arith))
+        by_length (inl k) = grind (arith, drop-take)
+        by_length (inr k) = ap (drop 1) (take_all n sent (omega arith))
             ∙ sym (take_all 312 (drop 1 sent) (omega (arith, length-drop 1 sent)))
 
 -- ---- all fields
@@ -177,21 +146,20 @@ last_near : (scale : ℕ) (begins : Bool) (sent : List (List ℤ)) (symbols : Li
     → restored_of scale (fields_where (λ met. true) begins symbols) ≡ sent
 unfolding restored_of
 last_near scale begins sent symbols some l few h near =
-    let count : length symbols / 832 ≡ length sent = omega (arith, near.long) in
     let all : take (length sent) sent ≡ sent = take_all (length sent) sent (omega arith) in
     ap (restored_of scale) (fields_last (λ met. true) begins symbols (omega (arith, near.long, few))
     (sync_agrees scale sent symbols 0 h.segments_are near l refl))
     ∙ append-nil (restored scale (segments_from symbols 0 (length symbols / 832)))
-    ∙ ap (λ n. restored scale (segments_from symbols 0 n)) count
+    ∙ ap (λ n. restored scale (segments_from symbols 0 n)) (omega (arith, near.long))
     ∙ first_near scale sent symbols (length sent) some l h (omega arith) (segments_from symbols 0 (length sent))
-    (rows_near scale sent symbols (length sent) h.segments_are near (omega arith))
-    ∙ all
+    (rows_near scale sent symbols (length sent) h.segments_are near (omega arith)) ∙ all
 
 next_near : (scale : ℕ) (begins : Bool) (sent : List (List ℤ)) (symbols : List ℤ) → 0 < scale → 313 < length sent
     → AreSent sent → AreReceived scale sent symbols
     → restored_of scale (fields_where (λ met. true) false (drop 260416 symbols)) ≡ drop 313 sent
     → restored_of scale (fields_where (λ met. true) begins symbols) ≡ sent
 next_near scale begins sent symbols some l h near rest =
+    let first : take 313 (take 314 sent) ≡ take 313 sent = take-take 313 314 sent (omega arith) in
     let n : length (take 261248 symbols) ≡ 261248 = length-take-le 261248 symbols (omega (arith, near.long, l)) in
     let front = received_front scale 314 sent symbols l near in
     let segments : AreInFields (take 314 sent) = front_segments in
@@ -219,25 +187,19 @@ next_near scale begins sent symbols some l h near rest =
           subst IsData (sym (get_or-take 314 sent i [] k)) (h.segments_are.others i (omega arith) e));
     }
 
-    first : take 313 (take 314 sent) ≡ take 313 sent
-    first = take-take 313 314 sent (omega arith)
-
     behind : drop 260416 (take 261248 symbols) ++ drop 261248 symbols ≡ drop 260416 symbols
-    behind =
-        ap₂ ◌++◌ (drop-take 260416 832 symbols) (sym (drop-drop 832 260416 symbols))
+    behind = ap₂ ◌++◌ (drop-take 260416 832 symbols) (sym (drop-drop 832 260416 symbols))
         ∙ take-append-drop 832 (drop 260416 symbols)
 
 fields_near : (fuel scale : ℕ) (begins : Bool) (sent : List (List ℤ)) (symbols : List ℤ) → length sent ≤ fuel
     → 0 < scale → 0 < length sent → AreSent sent → AreReceived scale sent symbols
     → restored_of scale (fields_where (λ met. true) begins symbols) ≡ sent
 fields_near zero scale begins sent symbols few some l h near = absurd (omega arith)
-fields_near (suc fuel) scale begins sent symbols few some l h near =
-    by_length (cases_lt 313 (length sent))
+fields_near (suc fuel) scale begins sent symbols few some l h near = by_length (cases_lt 313 (length sent))
     (λ m. fields_near fuel scale false (drop 313 sent) (drop 260416 symbols) (omega (arith, length-drop 313 sent)) some
     (omega (arith, length-drop 313 sent, m)) (sent_behind sent h) (received_behind scale sent symbols near))
   where
-    by_length : (313 < length sent) ⊎ (length sent ≤ 313)
-        → (313 < length sent
+    by_length : (313 < length sent) ⊎ (length sent ≤ 313) → (313 < length sent
         → restored_of scale (fields_where (λ met. true) false (drop 260416 symbols)) ≡ drop 313 sent)
         → restored_of scale (fields_where (λ met. true) begins symbols) ≡ sent
     by_length (inl m) on = next_near scale begins sent symbols some m h near (on m)

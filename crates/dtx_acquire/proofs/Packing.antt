@@ -27,10 +27,7 @@ packed_small (x ∷ xs) =
 
 -- the first n, and the others behind them
 packed_split : (xs : List ℤ) (n : ℕ) → packed xs ≡ packed (drop n xs) * 2 ^ n + packed (take n xs)
-packed_split xs zero = all (packed xs)
-  where
-    all : (x : ℕ) → x ≡ x * 1 + 0
-    all x = omega arith
+packed_split xs zero = grind arith
 packed_split [] (suc n) = none (2 ^ suc n)
   where
     none : (x : ℕ) → 0 ≡ 0 * x + 0
@@ -51,16 +48,13 @@ take_small [] (suc n) = positive (2 ^ n) (2 ^ suc n) (pow-suc 2 n) (take_small [
 take_small (x ∷ xs) (suc n) =
     let rest = take_small xs n in
     let one = bit_small (is_plus x) in
-    let more : 2 ^ suc n ≡ 2 ^ n * 2 = pow-suc 2 n in
     omega arith
 
 pub packed_take : (xs : List ℤ) (n : ℕ) → packed xs % 2 ^ n ≡ packed (take n xs)
-packed_take xs n =
-    ap (λ x. x % 2 ^ n) (packed_split xs n) ∙ mod_low (packed (drop n xs)) n (packed (take n xs)) (take_small xs n)
+packed_take xs n = rw (packed_split xs n, mod_low (packed (drop n xs)) n (packed (take n xs)) (take_small xs n))
 
 pub packed_drop : (xs : List ℤ) (n : ℕ) → packed xs / 2 ^ n ≡ packed (drop n xs)
-packed_drop xs n =
-    ap (λ x. x / 2 ^ n) (packed_split xs n) ∙ shr_high (packed (drop n xs)) n (packed (take n xs)) (take_small xs n)
+packed_drop xs n = rw (packed_split xs n, shr_high (packed (drop n xs)) n (packed (take n xs)) (take_small xs n))
 
 -- two words side by side
 pub packed_two : (xs : List ℤ) (m n : ℕ)
@@ -77,22 +71,17 @@ xor_bits a b m n = by_bits a b
     turned x y = omega arith
 
     by_bits : (a b : Bool) → bit_xor (bit a + 2 * m) (bit b + 2 * n) ≡ bit (are_unlike a b) + 2 * bit_xor m n
-    by_bits true true =
-        ap₂ bit_xor (turned 1 m) (turned 1 n) ∙ xor_block 1 m n 1 1 (omega arith) (omega arith)
+    by_bits true true = ap₂ bit_xor (turned 1 m) (turned 1 n) ∙ xor_block 1 m n 1 1 (omega arith) (omega arith)
         ∙ sym (turned 0 (bit_xor m n))
-    by_bits true false =
-        ap₂ bit_xor (turned 1 m) (turned 0 n) ∙ xor_block 1 m n 1 0 (omega arith) (omega arith)
+    by_bits true false = ap₂ bit_xor (turned 1 m) (turned 0 n) ∙ xor_block 1 m n 1 0 (omega arith) (omega arith)
         ∙ sym (turned 1 (bit_xor m n))
-    by_bits false true =
-        ap₂ bit_xor (turned 0 m) (turned 1 n) ∙ xor_block 1 m n 0 1 (omega arith) (omega arith)
+    by_bits false true = ap₂ bit_xor (turned 0 m) (turned 1 n) ∙ xor_block 1 m n 0 1 (omega arith) (omega arith)
         ∙ sym (turned 1 (bit_xor m n))
-    by_bits false false =
-        ap₂ bit_xor (turned 0 m) (turned 0 n) ∙ xor_block 1 m n 0 0 (omega arith) (omega arith)
+    by_bits false false = ap₂ bit_xor (turned 0 m) (turned 0 n) ∙ xor_block 1 m n 0 0 (omega arith) (omega arith)
         ∙ sym (turned 0 (bit_xor m n))
 
 ones_bits : (b : Bool) (n : ℕ) → count_ones (bit b + 2 * n) ≡ bit b + count_ones n
-ones_bits b n =
-    ones_step (bit b + 2 * n)
+ones_bits b n = ones_step (bit b + 2 * n)
     ∙ ap₂ (λ x y. x + count_ones y) (low (bit b) (bit_small b)) (high (bit b) (bit_small b))
   where
     low : (x : ℕ) → x < 2 → (x + 2 * n) % 2 ≡ x
@@ -115,7 +104,6 @@ ones_unlike [] [] e = none (count_ones (bit_xor 0 0)) (ones-le 0 0 (omega arith)
     none n l = omega arith
 ones_unlike [] (y ∷ ys) e = absurd (omega arith)
 ones_unlike (x ∷ xs) [] e = absurd (omega arith)
-ones_unlike (x ∷ xs) (y ∷ ys) e =
-    ap count_ones (xor_bits (is_plus x) (is_plus y) (packed xs) (packed ys))
+ones_unlike (x ∷ xs) (y ∷ ys) e = ap count_ones (xor_bits (is_plus x) (is_plus y) (packed xs) (packed ys))
     ∙ ones_bits (are_unlike (is_plus x) (is_plus y)) (bit_xor (packed xs) (packed ys))
     ∙ ap (λ n. cond (are_unlike (is_plus x) (is_plus y)) 1 0 + n) (ones_unlike xs ys (omega arith))

@@ -20,20 +20,16 @@ none_found p a (suc n) h =
 -- nothing passes of what is counted from a place on
 pub from_first : (p : ℕ → Bool) (first k : ℕ) → ((i : ℕ) → i < k → p (first + i) ≡ false) → (i : ℕ) → first ≤ i
     → i < first + k → p i ≡ false
-from_first p first k h i l m =
-    let back : first + (i - first) ≡ i = omega arith in
-    subst (λ n. p n ≡ false) back (h (i - first) (omega arith))
+from_first p first k h i l m = subst (λ n. p n ≡ false) (omega arith) (h (i - first) (omega arith))
 
 find_behind : (p q : ℕ → Bool) (k a n : ℕ) → ((i : ℕ) → p (k + i) ≡ q i)
     → find p (range_with_len (k + a) n) ≡ option_map (λ i. k + i) (find q (range_with_len a n))
 find_behind p q k a zero h = refl
 find_behind p q k a (suc n) h =
+    let next : k + a + 1 ≡ k + (a + 1) = omega arith in
     joined (q a) (p (k + a)) (find p (range_with_len (k + a + 1) n)) (find q (range_with_len (a + 1) n)) (h a)
     (ap (λ x. find p (range_with_len x n)) next ∙ find_behind p q k (a + 1) n h)
   where
-    next : k + a + 1 ≡ k + (a + 1)
-    next = omega arith
-
     joined : (c b : Bool) (r s : Option ℕ) → b ≡ c → r ≡ option_map (λ i. k + i) s
         → cond b (Some (k + a)) r ≡ option_map (λ i. k + i) (cond c (Some a) s)
     joined true b r s e f = cond-true b (Some (k + a)) r e
@@ -44,11 +40,7 @@ find_behind p q k a (suc n) h =
 -- one that passes has a segment
 pub whole_there : (test : List ℤ → ℕ → Bool) (needs : NeedsSegment test) (symbols : List ℤ) (place : ℕ)
     → test symbols place ≡ true → place + 832 ≤ length symbols
-whole_there test needs symbols place h = by_place (cases_lt (length symbols) (place + 832))
-  where
-    by_place : (length symbols < place + 832) ⊎ (place + 832 ≤ length symbols) → place + 832 ≤ length symbols
-    by_place (inl l) = absurd (true≢false (sym h ∙ needs symbols place l))
-    by_place (inr l) = l
+whole_there test needs symbols place h = grind (arith, cases_lt, true≢false)
 
 -- a place that is found among some is the least from one before on, where none passes between
 pub least_found : (test : List ℤ → ℕ → Bool) (needs : NeedsSegment test) (symbols : List ℤ)
@@ -67,16 +59,9 @@ least_found test needs symbols from first count place l before h =
     by_place i m n (inr k) is = is.before i k n
 
 pub least_none : (test : List ℤ → ℕ → Bool) (needs : NeedsSegment test) (symbols : List ℤ) (from : ℕ)
-    → ((i : ℕ) → from ≤ i → i + 831 < length symbols → test symbols i ≡ false)
-    → first_place test symbols from ≡ None
+    → ((i : ℕ) → from ≤ i → i + 831 < length symbols → test symbols i ≡ false) → first_place test symbols from ≡ None
 unfolding first_place
-least_none test needs symbols from h =
-    none_found (test symbols) from (length symbols - from)
-    (λ i l m. by_place i l (cases_lt (i + 831) (length symbols)))
-  where
-    by_place : (i : ℕ) → from ≤ i → (i + 831 < length symbols) ⊎ (length symbols ≤ i + 831) → test symbols i ≡ false
-    by_place i l (inl k) = h i l k
-    by_place i l (inr k) = needs symbols i (omega arith)
+least_none test needs symbols from h = grind (arith, none_found, cases_lt)
 
 -- what is found is the least
 pub least_gives : (test : List ℤ → ℕ → Bool) (symbols : List ℤ) (from place : ℕ)
@@ -87,35 +72,30 @@ least_gives test symbols from place h = find-range_gives (test symbols) from (le
 pub least_misses : (test : List ℤ → ℕ → Bool) (needs : NeedsSegment test) (symbols : List ℤ) (from i : ℕ)
     → first_place test symbols from ≡ None → from ≤ i → test symbols i ≡ false
 unfolding first_place
-least_misses test needs symbols from i h l = by_place (cases_lt i (from + (length symbols - from)))
-  where
-    by_place : (i < from + (length symbols - from)) ⊎ (from + (length symbols - from) ≤ i) → test symbols i ≡ false
-    by_place (inl k) = find-range_misses (test symbols) from (length symbols - from) h i l k
-    by_place (inr k) = needs symbols i (omega arith)
+least_misses test needs symbols from i h l = elim (cases_lt i (from + (length symbols - from))) [
+  | inl k ↦ find-range_misses (test symbols) from (length symbols - from) h i l k
+  | inr k ↦ needs symbols i (omega arith)
+]
 
 pub least_behind : (test : List ℤ → ℕ → Bool) (front v : List ℤ) (p : ℕ)
     → ((i : ℕ) → test (front ++ v) (length front + i) ≡ test v i)
     → first_place test (front ++ v) (length front + p) ≡ option_map (λ i. length front + i) (first_place test v p)
 unfolding first_place
 least_behind test front v p same =
-    let e : length (front ++ v) - (length front + p) ≡ length v - p = omega (arith, length-append front v) in
-    ap (λ n. find (test (front ++ v)) (range_with_len (length front + p) n)) e
+    ap (λ n. find (test (front ++ v)) (range_with_len (length front + p) n)) (omega (arith, length-append front v))
     ∙ find_behind (test (front ++ v)) (test v) (length front) p (length v - p) same
 
 -- where none passes before a place, the search may begin there
 pub least_skip : (test : List ℤ → ℕ → Bool) (needs : NeedsSegment test) (symbols : List ℤ) (from k : ℕ) → from ≤ k
-    → ((i : ℕ) → from ≤ i → i < k → test symbols i ≡ false)
-    → first_place test symbols from ≡ first_place test symbols k
+    → ((i : ℕ) → from ≤ i → i < k → test symbols i ≡ false) → first_place test symbols from ≡ first_place test symbols k
 unfolding first_place
 least_skip test needs symbols from k l h = by_found (first_place test symbols k) refl
   where
     by_found : (o : Option ℕ) → first_place test symbols k ≡ o
         → first_place test symbols from ≡ first_place test symbols k
-    by_found None e =
-        least_none test needs symbols from (λ i m n. by_place i m (cases_lt i k) e) ∙ sym e
+    by_found None e = least_none test needs symbols from (λ i m n. by_place i m (cases_lt i k) e) ∙ sym e
       where
-        by_place : (i : ℕ) → from ≤ i → (i < k) ⊎ (k ≤ i) → first_place test symbols k ≡ None
-            → test symbols i ≡ false
+        by_place : (i : ℕ) → from ≤ i → (i < k) ⊎ (k ≤ i) → first_place test symbols k ≡ None → test symbols i ≡ false
         by_place i m (inl n) e = h i m n
         by_place i m (inr n) e = least_misses test needs symbols k i e n
     by_found (Some r) e = least_found test needs symbols from k (length symbols - k) r l h e ∙ sym e
@@ -123,7 +103,4 @@ least_skip test needs symbols from k l h = by_found (first_place test symbols k)
 pub least_here : (test : List ℤ → ℕ → Bool) (needs : NeedsSegment test) (symbols : List ℤ) (place : ℕ)
     → test symbols place ≡ true → first_place test symbols place ≡ Some place
 unfolding first_place
-least_here test needs symbols place h =
-    let there = whole_there test needs symbols place h in
-    find-range_first (test symbols) place (length symbols - place) place (omega arith) (omega (arith, there)) h
-    (λ i l m. absurd (omega arith))
+least_here test needs symbols place h = grind (arith, whole_there, find-range_first)

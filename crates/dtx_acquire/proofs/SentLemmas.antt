@@ -1,7 +1,7 @@
 -- Segments as they are sent: their symbols, and where these stand one behind the other.
-use Rattle.std.proofs.Common.{◌≡◌, ◌≢◌, ℕ, ℤ, pos, suc, zero, ◌+◌, ◌-◌, ◌*◌, ◌/◌, ◌%◌, ◌<◌, ◌≤◌, ◌⊎◌, inl, inr, Bool}
-use Rattle.std.proofs.Common.{true, false, cond, not, leb, List, [], ◌∷◌, ◌++◌, length, map, take, drop, replicate}
-use Rattle.std.proofs.Common.{negsuc, get_or, nat_abs, flat_map, refl, sym, ap, ap₂, ◌∙◌, subst, arith}
+use Rattle.std.proofs.Common.{◌≡◌, ℕ, ℤ, pos, suc, zero, ◌+◌, ◌-◌, ◌*◌, ◌/◌, ◌%◌, ◌<◌, ◌≤◌, ◌⊎◌, inl, inr, Bool, true}
+use Rattle.std.proofs.Common.{false, cond, not, leb, List, [], ◌∷◌, length, map, take, drop, replicate, negsuc, get_or}
+use Rattle.std.proofs.Common.{nat_abs, flat_map, refl, sym, ap, ap₂, ◌∙◌, subst, arith}
 use Rattle.std.proofs.Math.Seq.{drop-append-add}
 use Rattle.std.proofs.lemmas.Bool.{cases_eq, cases_lt}
 use Rattle.std.proofs.lemmas.Int.{ints}
@@ -56,14 +56,12 @@ first_like i = never_unlike (is_plus (get_or (sync_symbols false) i (pos 0))) _ 
 -- what is made of the symbols of a part
 pub part_at : (f : ℤ → Bool) (a n i : ℕ) (second : Bool) → i < n → a + n ≤ 820
     → get_or (map f (take n (drop a (sync_symbols second)))) i false ≡ f (get_or (sync_symbols second) (a + i) (pos 0))
-part_at f a n i second l m =
-    get_or-map f (take n (drop a (sync_symbols second))) i (pos 0) false
-    (omega (
-      arith,
-      l,
-      length-take-le n (drop a (sync_symbols second))
-          (omega (arith, m, length-drop a (sync_symbols second), symbols.length_front second)),
-    ))
+part_at f a n i second l m = get_or-map f (take n (drop a (sync_symbols second))) i (pos 0) false (omega (
+  arith,
+  l,
+  length-take-le n (drop a (sync_symbols second))
+      (omega (arith, m, length-drop a (sync_symbols second), symbols.length_front second)),
+))
     ∙ ap f (get_or-take n (drop a (sync_symbols second)) i (pos 0) l ∙ get_or-drop a (sync_symbols second) i (pos 0))
 
 -- the first 515 are the same in each field
@@ -75,13 +73,11 @@ front_is second i l =
 
 pub front_like : (second : Bool) (i : ℕ) → i < 515 → unlike_sign second i ≡ 0
 unfolding sync_sign
-front_like second i l =
-    never_unlike (is_plus (get_or (sync_symbols second) i (pos 0))) _ (ap is_plus (front_is second i l))
+front_like second i l = grind (arith, never_unlike, front_is)
 
 middle_unlike : (i : ℕ) → i < 63 → unlike_sign true (578 + i) ≡ 1
 unfolding sync_sign
-middle_unlike i l =
-    ever_unlike (is_plus (get_or (sync_symbols true) (578 + i) (pos 0)))
+middle_unlike i l = ever_unlike (is_plus (get_or (sync_symbols true) (578 + i) (pos 0)))
     (is_plus (get_or (sync_symbols false) (578 + i) (pos 0)))
     (sym (part_at (λ x. not (is_plus x)) 578 63 i true l (omega arith)) ∙ ap (λ bs. get_or bs i false) middle_signs
     ∙ part_at is_plus 578 63 i false l (omega arith))
@@ -96,57 +92,42 @@ sync_at second last i l =
 pub last_at : (second : Bool) (last : List ℕ) (q : ℕ) → AreLevels 12 last → q < 12
     → get_or (field_sync second (map symbol_of last)) (820 + q) (pos 0) ≡ symbol_of (get_or last q 0)
 unfolding field_sync
-last_at second last q h l =
-    let back : 820 + q - 820 ≡ q = omega arith in
-    get_or-append_right (sync_symbols second) (map symbol_of last) 820 (820 + q) (pos 0) (symbols.length_front second)
-    (omega arith)
-    ∙ ap (λ i. get_or (map symbol_of last) i (pos 0)) back
+last_at second last q h l = get_or-append_right (sync_symbols second) (map symbol_of last) 820 (820 + q) (pos 0)
+    (symbols.length_front second) (omega arith) ∙ ap (λ i. get_or (map symbol_of last) i (pos 0)) (omega arith)
     ∙ get_or-map symbol_of last q 0 (pos 0) (omega (arith, h.long))
 
 pub length_sync : (second : Bool) (last : List ℕ) → AreLevels 12 last
     → length (field_sync second (map symbol_of last)) ≡ 832
 unfolding field_sync
-length_sync second last h =
-    length-append (sync_symbols second) (map symbol_of last)
+length_sync second last h = length-append (sync_symbols second) (map symbol_of last)
     ∙ ap₂ (λ a b. a + b) (symbols.length_front second) (length-map last symbol_of ∙ h.long)
 
 -- +5 or -5, by its sign
 five_by_sign : (x : ℤ) → nat_abs x ≡ 5 → x ≡ cond (is_plus x) (pos 5) (negsuc 4)
-five_by_sign (pos n) e =
-    let five : n ≡ 5 = omega arith in ap pos five ∙ sym (ap (λ k. cond (is_plus (pos k)) (pos 5) (negsuc 4)) five)
+five_by_sign (pos n) e = grind arith
 five_by_sign (negsuc n) e = let four : n ≡ 4 = omega arith in ap negsuc four
 
-pub front_five : (i : ℕ) → i < 820
-    → get_or (sync_symbols false) i (pos 0) ≡ cond (sync_sign i) (pos 5) (negsuc 4)
+pub front_five : (i : ℕ) → i < 820 → get_or (sync_symbols false) i (pos 0) ≡ cond (sync_sign i) (pos 5) (negsuc 4)
 unfolding sync_sign
 front_five i l = five_by_sign (get_or (sync_symbols false) i (pos 0)) (fives false i l)
 
 -- those of any sync
 pub sent_front : (segment : List ℤ) → IsSync segment → (i : ℕ) → i < 515
     → get_or segment i (pos 0) ≡ get_or (sync_symbols false) i (pos 0)
-sent_front segment h i l =
-    ap (λ (s : List ℤ). get_or s i (pos 0)) h.is ∙ sync_at h.second (map symbol_of h.last) i (omega arith)
-    ∙ front_is h.second i l
+sent_front segment h i l = grind (arith, sync_at, front_is)
 
 -- by its first symbols' signs which field's it is
 pub unlike_sent : (second : Bool) (last : List ℤ) (i : ℕ) → i < 820
     → unlike_at (field_sync second last) 0 i ≡ unlike_sign second i
 unfolding unlike_at
-unlike_sent second last i l =
-    let there : 0 + i ≡ i = omega arith in
-    ap (λ x. cond (are_unlike (is_plus x) (sync_sign i)) 1 0)
-    (ap (λ k. get_or (field_sync second last) k (pos 0)) there ∙ sync_at second last i l)
+unlike_sent second last i l = grind (arith, sync_at)
 
 pub second_sent : (second : Bool) (last : List ℤ) → is_second (field_sync second last) ≡ second
 unfolding is_second unlike
-second_sent false last =
-    ap (λ n. leb 32 n) (sum_is (unlike_at (field_sync false last) 0) 578 63
-    ∙ total_zeros (unlike_at (field_sync false last) 0) 578 63
-    (λ i a b. unlike_sent false last i (omega arith) ∙ first_like i))
-second_sent true last =
-    ap (λ n. leb 32 n) (sum_is (unlike_at (field_sync true last) 0) 578 63
-    ∙ total_ones (unlike_at (field_sync true last) 0) 578 63
-    (λ i a b. (let there : 578 + (i - 578) ≡ i = omega arith in
+second_sent false last = ap (λ n. leb 32 n) (sum_is (unlike_at (field_sync false last) 0) 578 63
+    ∙ total_zeros (unlike_at (field_sync false last) 0) 578 63 (λ i a b. grind (arith, unlike_sent, first_like)))
+second_sent true last = ap (λ n. leb 32 n) (sum_is (unlike_at (field_sync true last) 0) 578 63
+    ∙ total_ones (unlike_at (field_sync true last) 0) 578 63 (λ i a b. (let there : 578 + (i - 578) ≡ i = omega arith in
     unlike_sent true last i (omega arith) ∙ ap (unlike_sign true) (sym there) ∙ middle_unlike (i - 578) (omega arith))))
 
 -- ---- a data segment's symbols
@@ -155,15 +136,13 @@ pub data_at : (levels : List ℕ) (k : ℕ) → AreLevels 828 levels → k < 828
     → get_or (data_segment levels) (4 + k) (pos 0) ≡ symbol_of (get_or levels k 0)
 unfolding data_segment
 data_at levels k h l =
-    let back : 4 + k - 4 ≡ k = omega arith in
     get_or-append_right segment_sync (map symbol_of levels) 4 (4 + k) (pos 0) symbols.length_sync (omega arith)
-    ∙ ap (λ i. get_or (map symbol_of levels) i (pos 0)) back
+    ∙ ap (λ i. get_or (map symbol_of levels) i (pos 0)) (omega arith)
     ∙ get_or-map symbol_of levels k 0 (pos 0) (omega (arith, h.long))
 
 pub length_data : (segment : List ℤ) → IsData segment → length segment ≡ 832
 unfolding data_segment
-length_data segment h =
-    ap length h.is ∙ length-append segment_sync (map symbol_of h.levels)
+length_data segment h = ap length h.is ∙ length-append segment_sync (map symbol_of h.levels)
     ∙ ap₂ (λ a b. a + b) symbols.length_sync (length-map h.levels symbol_of ∙ h.are.long)
 
 -- ---- none is beyond 7 or -7
@@ -173,17 +152,15 @@ unfolding symbol_of
 symbol_small z l = omega (arith, ints, l)
 
 sync_small : (segment : List ℤ) → IsSync segment → (k : ℕ) → k < 832 → nat_abs (get_or segment k (pos 0)) ≤ 7
-sync_small segment h k l =
-    subst (λ (s : List ℤ). nat_abs (get_or s k (pos 0)) ≤ 7) (sym h.is) (by_place (cases_lt k 820))
-  where
-    by_place : (k < 820) ⊎ (820 ≤ k) → nat_abs (get_or (field_sync h.second (map symbol_of h.last)) k (pos 0)) ≤ 7
-    by_place (inl m) =
-        let five = ap nat_abs (sync_at h.second (map symbol_of h.last) k m) ∙ fives h.second k m in omega (arith, five)
-    by_place (inr m) =
-        let there : 820 + (k - 820) ≡ k = omega arith in
-        subst (λ i. nat_abs (get_or (field_sync h.second (map symbol_of h.last)) i (pos 0)) ≤ 7) there
-        (subst (λ x. nat_abs x ≤ 7) (sym (last_at h.second h.last (k - 820) h.are (omega arith)))
-        (symbol_small (get_or h.last (k - 820) 0) (h.are.small (k - 820) (omega arith))))
+sync_small segment h k l = subst (λ (s : List ℤ). nat_abs (get_or s k (pos 0)) ≤ 7) (sym h.is) (elim (cases_lt k 820) [
+  | inl m ↦
+      let five = ap nat_abs (sync_at h.second (map symbol_of h.last) k m) ∙ fives h.second k m in omega (arith, five)
+  | inr m ↦
+      let there : 820 + (k - 820) ≡ k = omega arith in
+      subst (λ i. nat_abs (get_or (field_sync h.second (map symbol_of h.last)) i (pos 0)) ≤ 7) there
+      (subst (λ x. nat_abs x ≤ 7) (sym (last_at h.second h.last (k - 820) h.are (omega arith)))
+      (symbol_small (get_or h.last (k - 820) 0) (h.are.small (k - 820) (omega arith))))
+])
 
 bits_are : map nat_abs segment_sync ≡ replicate 4 5
 unfolding segment_sync bit_symbol
@@ -193,47 +170,32 @@ data_front : (levels : List ℕ) (k : ℕ) → k < 4 → nat_abs (get_or (data_s
 unfolding data_segment
 data_front levels k l =
     let there : k < length segment_sync = omega (arith, l, symbols.length_sync) in
-    ap nat_abs (get_or_append_left segment_sync (map symbol_of levels) (pos 0) k there)
-    ∙ sym (get_or-map nat_abs segment_sync k (pos 0) 0 there) ∙ ap (λ xs. get_or xs k 0) bits_are
-    ∙ get_or-replicate 4 k 5 0 l
+    grind (arith, get_or_append_left, get_or-map) ∙ ap (λ xs. get_or xs k 0) bits_are ∙ get_or-replicate 4 k 5 0 l
 
 data_small : (segment : List ℤ) → IsData segment → (k : ℕ) → k < 832 → nat_abs (get_or segment k (pos 0)) ≤ 7
-data_small segment h k l =
-    subst (λ (s : List ℤ). nat_abs (get_or s k (pos 0)) ≤ 7) (sym h.is) (by_place (cases_lt k 4))
+data_small segment h k l = subst (λ (s : List ℤ). nat_abs (get_or s k (pos 0)) ≤ 7) (sym h.is) (by_place (cases_lt k 4))
   where
     by_place : (k < 4) ⊎ (4 ≤ k) → nat_abs (get_or (data_segment h.levels) k (pos 0)) ≤ 7
     by_place (inl m) = omega (arith, data_front h.levels k m)
     by_place (inr m) =
         let there : 4 + (k - 4) ≡ k = omega arith in
-        subst (λ i. nat_abs (get_or (data_segment h.levels) i (pos 0)) ≤ 7) there
-        (subst (λ x. nat_abs x ≤ 7) (sym (data_at h.levels (k - 4) h.are (omega arith)))
-        (symbol_small (get_or h.levels (k - 4) 0) (h.are.small (k - 4) (omega arith))))
+        subst (λ i. nat_abs (get_or (data_segment h.levels) i (pos 0)) ≤ 7) there (grind (arith, data_at, symbol_small))
 
 -- ---- all of them, one behind the other
 
 abbrev pub all_symbols : List (List ℤ) → List ℤ
 all_symbols sent = flat_map (λ (s : List ℤ). s) sent
 
-pub row_long : (sent : List (List ℤ)) → AreInFields sent → (i : ℕ) → i < length sent
-    → length (get_or sent i []) ≡ 832
-row_long sent h i l = by_place (cases_eq (i % 313) 0)
-  where
-    by_place : (i % 313 ≡ 0) ⊎ (i % 313 ≢ 0) → length (get_or sent i []) ≡ 832
-    by_place (inl e) = (let s = h.syncs i l e in ap length s.is ∙ length_sync s.second s.last s.are)
-    by_place (inr e) = length_data (get_or sent i []) (h.others i l e)
+pub row_long : (sent : List (List ℤ)) → AreInFields sent → (i : ℕ) → i < length sent → length (get_or sent i []) ≡ 832
+row_long sent h i l = grind (arith, cases_eq, length_sync, length_data)
 
 pub row_small : (sent : List (List ℤ)) → AreInFields sent → (i k : ℕ) → i < length sent → k < 832
     → nat_abs (get_or (get_or sent i []) k (pos 0)) ≤ 7
-row_small sent h i k l m = by_place (cases_eq (i % 313) 0)
-  where
-    by_place : (i % 313 ≡ 0) ⊎ (i % 313 ≢ 0) → nat_abs (get_or (get_or sent i []) k (pos 0)) ≤ 7
-    by_place (inl e) = sync_small (get_or sent i []) (h.syncs i l e) k m
-    by_place (inr e) = data_small (get_or sent i []) (h.others i l e) k m
+row_small sent h i k l m = grind (arith, cases_eq, sync_small, data_small)
 
 length-rows : (xs : List (List ℤ)) → AreLong xs → length (all_symbols xs) ≡ 832 * length xs
 length-rows [] h = refl
-length-rows (x ∷ xs) h =
-    length-append x (all_symbols xs)
+length-rows (x ∷ xs) h = length-append x (all_symbols xs)
     ∙ ap₂ (λ a b. a + b) (h 0 (omega arith)) (length-rows xs (λ i l. h (suc i) (omega arith)))
     ∙ omega arith
 
@@ -244,9 +206,7 @@ rows_at (x ∷ xs) h zero l = take_at x (all_symbols xs) 832 (h 0 (omega arith))
 rows_at (x ∷ xs) h (suc i) l =
     let first : length x ≡ 832 = h 0 (omega arith) in
     let far : 832 * suc i ≡ length x + 832 * i = omega (arith, first) in
-    ap (λ n. take 832 (drop n (x ++ all_symbols xs))) far
-    ∙ ap (take 832) (drop-append-add x (all_symbols xs) (832 * i))
-    ∙ rows_at xs (λ j m. h (suc j) (omega arith)) i (omega arith)
+    grind (arith, drop-append-add) ∙ rows_at xs (λ j m. h (suc j) (omega arith)) i (omega arith)
 
 pub length_sent : (sent : List (List ℤ)) → AreInFields sent → length (all_symbols sent) ≡ 832 * length sent
 length_sent sent h = length-rows sent (row_long sent h)
@@ -258,8 +218,7 @@ segment_there sent h i l = rows_at sent (row_long sent h) i l
 
 pub symbol_there : (sent : List (List ℤ)) → AreInFields sent → (i k : ℕ) → i < length sent → k < 832
     → get_or (all_symbols sent) (832 * i + k) (pos 0) ≡ get_or (get_or sent i []) k (pos 0)
-symbol_there sent h i k l m =
-    sym (get_or-drop (832 * i) (all_symbols sent) k (pos 0))
+symbol_there sent h i k l m = sym (get_or-drop (832 * i) (all_symbols sent) k (pos 0))
     ∙ sym (get_or-take 832 (drop (832 * i) (all_symbols sent)) k (pos 0) m)
     ∙ ap (λ (s : List ℤ). get_or s k (pos 0)) (segment_there sent h i l)
 
@@ -268,6 +227,4 @@ pub symbols_small : (sent : List (List ℤ)) → AreInFields sent → (n : ℕ) 
 symbols_small sent h n l =
     let there : 832 * (n / 832) + n % 832 ≡ n = omega arith in
     let row : n / 832 < length sent = omega (arith, l, length_sent sent h) in
-    subst (λ i. nat_abs (get_or (all_symbols sent) i (pos 0)) ≤ 7) there
-    (subst (λ x. nat_abs x ≤ 7) (sym (symbol_there sent h (n / 832) (n % 832) row (omega arith)))
-    (row_small sent h (n / 832) (n % 832) row (omega arith)))
+    subst (λ i. nat_abs (get_or (all_symbols sent) i (pos 0)) ≤ 7) there (grind (arith, symbol_there, row_small))

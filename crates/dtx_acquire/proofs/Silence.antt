@@ -34,8 +34,7 @@ differing_is f a (x ∷ xs) [] l h = refl
 differing_is f a [] (y ∷ ys) l h = absurd (omega arith)
 differing_is f a (x ∷ xs) (y ∷ ys) l h =
     let here : a ≡ a + 0 = omega arith in
-    ap₂ (λ m n. m + n) (ap f here ∙ h 0 (omega arith))
-    (differing_is f (suc a) xs ys (omega arith)
+    ap₂ (λ m n. m + n) (ap f here ∙ h 0 (omega arith)) (differing_is f (suc a) xs ys (omega arith)
     (λ i m. (let next : suc a + i ≡ a + suc i = omega arith in ap f next ∙ h (suc i) (omega arith))))
 
 -- the signs of the first symbols of a field sync
@@ -56,8 +55,7 @@ all_far = sym (ap (λ xs. are_far (front_signs xs)) first_is) ∙ refl
 far_at : (d : ℕ) → 0 < d → d ≤ 515 → 128 < differing (replicate d false ++ signs) signs
 unfolding are_far
 far_at zero l m = absurd (omega arith)
-far_at (suc d) l m =
-    ltb-true 128 (differing (replicate (suc d) false ++ signs) signs)
+far_at (suc d) l m = ltb-true 128 (differing (replicate (suc d) false ++ signs) signs)
     (at_below (λ d. nat_lt 128 (differing (replicate (suc d) false ++ signs) signs)) 515 d all_far (omega arith))
 
 sign_at : (i : ℕ) → i < 515 → get_or signs i false ≡ sync_sign i
@@ -67,8 +65,7 @@ sign_at i l =
     part_at is_plus 0 515 i false l (omega arith) ∙ ap (λ k. is_plus (get_or (sync_symbols false) k (pos 0))) there
 
 length-signs : length signs ≡ 515
-length-signs =
-    length-map (take 515 (sync_symbols false)) is_plus
+length-signs = length-map (take 515 (sync_symbols false)) is_plus
     ∙ length-take-le 515 (sync_symbols false) (omega (arith, length_front false))
 
 -- ---- places
@@ -76,8 +73,7 @@ length-signs =
 unlike_is : (w : List ℤ) (p i j : ℕ) (x y : Bool) → j ≡ i → is_plus (get_or w (p + i) (pos 0)) ≡ x → sync_sign i ≡ y
     → unlike_at w p j ≡ cond (are_unlike x y) 1 0
 unfolding unlike_at
-unlike_is w p i j x y e f g =
-    ap (λ k. cond (are_unlike (is_plus (get_or w (p + k) (pos 0))) (sync_sign k)) 1 0) e
+unlike_is w p i j x y e f g = ap (λ k. cond (are_unlike (is_plus (get_or w (p + k) (pos 0))) (sync_sign k)) 1 0) e
     ∙ ap₂ (λ (x y : Bool). cond (are_unlike x y) 1 0) f g
 
 -- where the symbols behind the zeros have a sync's signs, as far as 515 from the place on reach
@@ -85,8 +81,7 @@ zeros_differ : (zeros p : ℕ) (symbols : List ℤ) → p < zeros
     → ((k : ℕ) → zeros + k < p + 515 → is_plus (get_or symbols k (pos 0)) ≡ sync_sign k)
     → 128 < unlike (replicate zeros (pos 0) ++ symbols) p 0 515
 unfolding unlike
-zeros_differ zeros p symbols l h =
-    subst (λ n. 128 < n)
+zeros_differ zeros p symbols l h = subst (λ n. 128 < n)
     (sym (sum_is (unlike_at w p) 0 515 ∙ ap (total (unlike_at w p) 0) (sym length-signs)
     ∙ differing_is (unlike_at w p) 0 (replicate d false ++ signs) signs
     (omega (arith, length-append (replicate d false) signs)) (λ i m. at i (omega (arith, m, length-signs)))))
@@ -144,13 +139,11 @@ none_agrees scale zeros sent symbols h near p l = by_room (cases_lt (length w) (
     w = replicate zeros (pos 0) ++ symbols
 
     long : length w ≡ zeros + length symbols
-    long =
-        length-append (replicate zeros (pos 0)) symbols
+    long = length-append (replicate zeros (pos 0)) symbols
         ∙ ap (λ n. n + length symbols) (length-replicate zeros (pos 0))
 
     by_room : (length w < p + 832) ⊎ (p + 832 ≤ length w) → agrees w p ≡ false
     by_room (inl m) = past_end w p m
-    by_room (inr m) =
-        sym (agrees_by w p (unlike w p 0 515) m refl)
+    by_room (inr m) = sym (agrees_by w p (unlike w p 0 515) m refl)
         ∙ lt-leb (unlike w p 0 515) 128 (zeros_differ zeros p symbols l
         (λ k n. sign_there scale sent symbols h near k (omega arith) (omega (arith, long))))

@@ -1,8 +1,7 @@
 -- How many segments fields give, and that each is whole. Settled fields give 313 or none, and a segment has 832
 -- symbols.
-use Rattle.std.proofs.Common.{◌≡◌, ℕ, ℤ, zero, suc, ◌+◌, ◌-◌, ◌*◌, ◌/◌, ◌%◌, ◌<◌, ◌≤◌, ◌⊎◌, inl, inr, nat_lt, Bool}
-use Rattle.std.proofs.Common.{pos, true, false, cond, Option, Some, None, List, [], ◌∷◌, ◌++◌, length, map, take, drop}
-use Rattle.std.proofs.Common.{filter, get_or, refl, sym, ap, ◌∙◌, subst, arith}
+use Rattle.std.proofs.Common.{◌≡◌, ℕ, ℤ, zero, suc, ◌+◌, ◌-◌, ◌*◌, ◌%◌, ◌<◌, ◌≤◌, ◌⊎◌, Bool, true, false, cond, List}
+use Rattle.std.proofs.Common.{[], ◌∷◌, ◌++◌, length, map, take, drop, filter, get_or, refl, ap, ◌∙◌, arith}
 use Rattle.std.specs.List.{flat_map}
 use Rattle.std.proofs.lemmas.Bool.{cases_lt, cond-false, cond-true, leb-false, leb-true}
 use Rattle.std.proofs.lemmas.List.{get_or-append_right, get_or-drop, get_or-map, get_or_append_left, length-append}
@@ -10,26 +9,22 @@ use Rattle.std.proofs.lemmas.List.{length-drop, length-map, length-take-le}
 use Rattle.std.proofs.lemmas.List.FromFn.{get_or-map-range_with_len, length-map-range_with_len}
 use Rattle.dtx_frame.specs.Segments.{field_sync}
 use Rattle.dtx_frame.proofs.SymbolsLemmas as symbols
-use Rattle.dtx_soft.specs.Softened.{softened, softened_segment, softened_symbol}
+use Rattle.dtx_soft.specs.Softened.{softened, softened_segment}
 use Rattle.dtx_soft.proofs.SoftenedLemmas.{softened_found}
-use Rattle.dtx_acquire.specs.Agreement.{agrees, is_second, least_from}
-use Rattle.dtx_acquire.specs.Acquired.{Sync, acquired, acquired_so_far, all_syncs, behind_groups, due, field_at}
+use Rattle.dtx_acquire.specs.Agreement.{is_second}
+use Rattle.dtx_acquire.specs.Acquired.{Sync, acquired, acquired_so_far, all_syncs, behind_groups, field_at}
 use Rattle.dtx_acquire.specs.Acquired.{fields_where, given_at, in_groups, is_met, restored, restored_data}
-use Rattle.dtx_acquire.specs.Acquired.{restored_field, restored_of, restored_sync, segments_from, unless_lost}
+use Rattle.dtx_acquire.specs.Acquired.{restored_field, restored_of, restored_sync, segments_from}
 
 -- ---- how many
 
 pub length-segments_from : (symbols : List ℤ) (place count : ℕ) → length (segments_from symbols place count) ≡ count
 unfolding segments_from
-length-segments_from symbols place count =
-    length-map-range_with_len (λ i. take 832 (drop (place + 832 * i) symbols)) 0 count
+length-segments_from symbols place count = grind (arith, length-map-range_with_len)
 
 pub length-field : (scale : ℕ) (segments : List (List ℤ)) → length (restored_field scale segments) ≡ length segments
 unfolding restored_field in_groups behind_groups
-length-field scale segments =
-    let n : ℕ = 4 * (length segments / 4) in
-    simp (length-map, length-append, length-drop) (omega
-    (arith, (softened_found scale (take n segments)).long, length-take-le n segments (omega arith)))
+length-field scale segments = grind (arith, length-map, length-append, length-drop, softened_found, length-take-le)
 
 -- As many segments are restored as were received.
 pub length-restored : (scale : ℕ) (segments : List (List ℤ)) → length (restored scale segments) ≡ length segments
@@ -47,36 +42,22 @@ abbrev pub AreLong : List (List ℤ) → Type 0
 AreLong rows = (i : ℕ) → i < length rows → length (get_or rows i []) ≡ 832
 
 pub long_append : (xs ys : List (List ℤ)) → AreLong xs → AreLong ys → AreLong (xs ++ ys)
-long_append xs ys h k i l = by_place (cases_lt i (length xs))
-  where
-    by_place : (i < length xs) ⊎ (length xs ≤ i) → length (get_or (xs ++ ys) i []) ≡ 832
-    by_place (inl m) = ap length (get_or_append_left xs ys [] i m) ∙ h i m
-    by_place (inr m) =
-        ap length (get_or-append_right xs ys (length xs) i [] refl m)
-        ∙ k (i - length xs) (omega (arith, l, m, length-append xs ys))
+long_append xs ys h k i l = grind (arith, cases_lt, get_or_append_left, get_or-append_right, length-append)
 
 pub long_softened : (scale : ℕ) (rows : List (List ℤ)) → AreLong (softened scale rows)
 unfolding softened softened_segment
-long_softened scale rows i l =
-    ap length (get_or-map-range_with_len (softened_segment scale rows) 0 (length rows) i i []
-    (omega (arith, l, length-map-range_with_len (softened_segment scale rows) 0 (length rows))) (omega arith))
-    ∙ length-map-range_with_len (λ k. cond (nat_lt k 4) (get_or (get_or rows i []) k (pos 0))
-    (softened_symbol scale rows (828 * i + (k - 4)))) 0 832
+long_softened scale rows i l = grind (arith, get_or-map-range_with_len, length-map-range_with_len)
 
 -- what is decided of a field: the whole groups are softened before
 pub long_decided : (scale : ℕ) (rows : List (List ℤ)) → AreLong rows
     → AreLong (softened scale (in_groups rows) ++ behind_groups rows)
 unfolding behind_groups
-long_decided scale rows h =
-    let n : ℕ = 4 * (length rows / 4) in
-    long_append (softened scale (in_groups rows)) (drop n rows) (long_softened scale (in_groups rows))
-    (λ i l. ap length (get_or-drop n rows i []) ∙ h (n + i) (omega (arith, l, length-drop n rows)))
+long_decided scale rows h = grind (arith, long_append, long_softened, get_or-drop, length-drop)
 
 long_restored : (scale : ℕ) (rows : List (List ℤ)) → AreLong rows → AreLong (restored scale rows)
 unfolding restored_sync field_sync restored_field restored_data
 long_restored scale [] h i l = absurd (omega arith)
-long_restored scale (row ∷ rows) h zero l =
-    simp (length-append, length-map, length-drop)
+long_restored scale (row ∷ rows) h zero l = simp (length-append, length-map, length-drop)
     (omega (arith, h 0 (omega arith), symbols.length_front (is_second row)))
 long_restored scale (row ∷ rows) h (suc i) l =
     let all : List (List ℤ) = softened scale (in_groups rows) ++ behind_groups rows in
@@ -93,20 +74,7 @@ IsAll n = (n ≡ 313) ⊎ (n ≡ 0)
 
 pub given_met : (v : List ℤ) (p : ℕ) → is_met v p ≡ true → IsAll (given_at v p)
 unfolding given_at
-given_met v p m =
-    subst IsAll (sym (cond-true (is_met v p) _ ((length v - p) / 832) m)) (by_due (agrees v (due p)))
-  where
-    by_order : (b : Bool) → IsAll (cond b 0 313)
-    by_order true = inr refl
-    by_order false = inl refl
-
-    unless_all : (o : Option ℕ) → IsAll (unless_lost p o)
-    unless_all None = inl refl
-    unless_all (Some r) = by_order (nat_lt r (due p))
-
-    by_due : (g : Bool) → IsAll (cond g 313 (unless_lost p (least_from v (p + 1))))
-    by_due true = inl refl
-    by_due false = unless_all (least_from v (p + 1))
+given_met v p m = grind (arith, cond-true)
 
 -- each segment that is given is there, and they are no more than a field has
 pub record HasRoom (v : List ℤ) (p : ℕ) : Type 0 where
@@ -115,18 +83,7 @@ pub record HasRoom (v : List ℤ) (p : ℕ) : Type 0 where
 
 pub given_room : (v : List ℤ) (p : ℕ) → HasRoom v p
 unfolding given_at is_met
-given_room v p = by_met (is_met v p) refl
-  where
-    by_all : p + 260416 + 832 ≤ length v → IsAll (given_at v p) → HasRoom v p
-    by_all room (inl e) = record { within = λ i l. omega (arith, l, room, e); few = omega (arith, e) }
-    by_all room (inr e) = record { within = λ i l. omega (arith, l, room, e); few = omega (arith, e) }
-
-    by_met : (m : Bool) → is_met v p ≡ m → HasRoom v p
-    by_met true e = by_all (leb-true (p + 260416 + 832) (length v) e) (given_met v p e)
-    by_met false e =
-        let short : length v < p + 260416 + 832 = leb-false (p + 260416 + 832) (length v) e in
-        let is : given_at v p ≡ (length v - p) / 832 = cond-false (is_met v p) _ ((length v - p) / 832) e in
-        record { within = λ i l. omega (arith, l, is); few = omega (arith, short, is) }
+given_room v p = grind (arith, leb-true, given_met, leb-false, cond-false)
 
 pub long_at : (v : List ℤ) (s : Sync) → AreLong (field_at v s).segments
 unfolding field_at segments_from
@@ -142,8 +99,7 @@ long_at v s i l =
 long_fields : (scale : ℕ) (v : List ℤ) (syncs : List Sync) → AreLong (restored_of scale (map (field_at v) syncs))
 unfolding restored_of
 long_fields scale v [] = λ i l. absurd (omega arith)
-long_fields scale v (s ∷ syncs) =
-    long_append (restored scale (field_at v s).segments)
+long_fields scale v (s ∷ syncs) = long_append (restored scale (field_at v s).segments)
     (flat_map (λ field. restored scale field.segments) (map (field_at v) syncs))
     (long_restored scale (field_at v s).segments (long_at v s)) (long_fields scale v syncs)
 
@@ -164,17 +120,7 @@ whole_fields scale v (s ∷ syncs) = by_met (is_met v s.place) refl (whole_field
     count syncs = length (flat_map (λ field. restored scale field.segments) (map (field_at v) syncs))
 
     by_all : IsAll (given_at v s.place) → count rest % 313 ≡ 0 → count (s ∷ rest) % 313 ≡ 0
-    by_all all h = by_count all
-      where
-        both : count (s ∷ rest) ≡ given_at v s.place + count rest
-        both =
-            length-append (restored scale (field_at v s).segments)
-            (flat_map (λ field. restored scale field.segments) (map (field_at v) rest))
-            ∙ ap (λ n. n + count rest) (length-restored scale (field_at v s).segments ∙ length-field_at v s)
-
-        by_count : IsAll (given_at v s.place) → count (s ∷ rest) % 313 ≡ 0
-        by_count (inl e) = omega (arith, e, h, both)
-        by_count (inr e) = omega (arith, e, h, both)
+    by_all all h = grind (arith, length-append, length-restored, length-field_at)
 
     by_met : (m : Bool) → is_met v s.place ≡ m → count rest % 313 ≡ 0
         → count (cond (is_met v s.place) (s ∷ rest) rest) % 313 ≡ 0

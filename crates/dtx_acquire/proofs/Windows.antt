@@ -1,11 +1,9 @@
 -- How many signs of the symbols behind a place are unlike those of a field sync, word by word.
-use Rattle.std.proofs.Common.{◌≡◌, ℕ, zero, suc, ℤ, pos, ◌+◌, ◌*◌, ◌-◌, ◌/◌, ◌%◌, ◌^◌, ◌<◌, ◌≤◌}
-use Rattle.std.proofs.Common.{false, cond, List}
-use Rattle.std.proofs.Common.{length, map, sum, take, drop, get_or, bit_xor, count_ones, refl, sym, ap, ap₂, ◌∙◌}
-use Rattle.std.proofs.Common.{subst, arith, drop-cons, length-drop}
+use Rattle.std.proofs.Common.{◌≡◌, ℕ, zero, suc, ℤ, pos, ◌+◌, ◌*◌, ◌-◌, ◌/◌, ◌%◌, ◌^◌, ◌<◌, ◌≤◌, false, cond, List}
+use Rattle.std.proofs.Common.{length, map, take, drop, get_or, bit_xor, count_ones, refl, sym, ap, ap₂, ◌∙◌, arith}
+use Rattle.std.proofs.Common.{drop-cons, length-drop}
 use Rattle.std.specs.List.{range_with_len}
-use Rattle.std.proofs.lemmas.List.{length-take-le, map-append, take-take, drop-take}
-use Rattle.std.proofs.lemmas.List.{drop-drop}
+use Rattle.std.proofs.lemmas.List.{length-take-le, map-append, take-take, drop-take, drop-drop}
 use Rattle.std.proofs.lemmas.List.Sums.{sum_by-append, sum_by-cons}
 use Rattle.dtx_frame.specs.Segments.{sync_symbols}
 use Rattle.dtx_frame.proofs.SymbolsLemmas.{first_is, length_front}
@@ -15,8 +13,7 @@ use Rattle.dtx_lists.proofs.Range.{range_with_len-parts}
 use Rattle.dtx_acquire.specs.Agreement.{is_plus, sync_sign, unlike, unlike_at}
 use Rattle.dtx_acquire.specs.Signs.{ArePacked, packed}
 use Rattle.dtx_acquire.specs.declared.signs.TheConstants.{MIDDLE, SIGNS}
-use Rattle.dtx_acquire.proofs.Packing.{ones_unlike, packed_drop, packed_small, packed_take, packed_two}
-use Rattle.dtx_acquire.proofs.Packing.{unlike_signs}
+use Rattle.dtx_acquire.proofs.Packing.{ones_unlike, packed_drop, packed_small, packed_take, packed_two, unlike_signs}
 
 -- ---- the words of the sync
 
@@ -43,11 +40,7 @@ middle_word : MIDDLE ≡ packed (sync_part 578 63)
 middle_word = refl ∙ ap (λ xs. packed (take 63 (drop 578 xs))) first_is
 
 length_sync : (i n : ℕ) → i + n ≤ 820 → length (sync_part i n) ≡ n
-length_sync i n l = length-take-le n (drop i (sync_symbols false)) (omega (
-  arith,
-  length-drop i (sync_symbols false),
-  length_front false,
-))
+length_sync i n l = grind (arith, length-take-le, length-drop, length_front)
 
 -- ---- the signs behind a place
 
@@ -82,13 +75,7 @@ unlike_is symbols place i (suc n) l m =
 pub unlike_parts : (symbols : List ℤ) (place i m n j : ℕ) → i + m ≡ j
     → unlike symbols place i (m + n) ≡ unlike symbols place i m + unlike symbols place j n
 unfolding unlike
-unlike_parts symbols place i m n j e =
-    ap (λ xs. sum (map (unlike_at symbols place) xs)) (range_with_len-parts i m n)
-    ∙ ap sum (map-append (unlike_at symbols place) (range_with_len i m) (range_with_len (i + m) n))
-    ∙ sum_by-append (λ x. x) (map (unlike_at symbols place) (range_with_len i m))
-    (map (unlike_at symbols place) (range_with_len (i + m) n))
-    ∙ ap (λ k. sum (map (unlike_at symbols place) (range_with_len i m))
-    + sum (map (unlike_at symbols place) (range_with_len k n))) e
+unlike_parts symbols place i m n j e = grind (arith, range_with_len-parts, map-append, sum_by-append)
 
 -- ---- words
 
@@ -96,10 +83,8 @@ unlike_parts symbols place i m n j e =
 shifted_is : (symbols : List ℤ) (place from first second : ℕ) → from < 64 → place + 128 ≤ length symbols
     → first ≡ packed (part symbols place 64) → second ≡ packed (part symbols (place + 64) 64)
     → (second * 2 ^ 64 + first) / 2 ^ from % 2 ^ 64 ≡ packed (part symbols (place + from) 64)
-shifted_is symbols place from first second l m e f =
-    ap₂ (λ a b. (a * 2 ^ 64 + b) / 2 ^ from % 2 ^ 64)
-    (f ∙ ap (λ xs. packed (take 64 xs)) (sym (drop-drop 64 place symbols)))
-    e
+shifted_is symbols place from first second l m e f = ap₂ (λ a b. (a * 2 ^ 64 + b) / 2 ^ from % 2 ^ 64)
+    (f ∙ ap (λ xs. packed (take 64 xs)) (sym (drop-drop 64 place symbols))) e
     ∙ ap (λ x. x / 2 ^ from % 2 ^ 64) (packed_two (drop place symbols) 64 64)
     ∙ ap (λ x. x % 2 ^ 64) (packed_drop (take 128 (drop place symbols)) from)
     ∙ packed_take (drop from (take 128 (drop place symbols))) 64
@@ -107,11 +92,7 @@ shifted_is symbols place from first second l m e f =
   where
     inner : (rest : ℕ) → 128 ≡ from + rest → 64 ≤ rest
         → take 64 (drop from (take 128 (drop place symbols))) ≡ part symbols (place + from) 64
-    inner rest g k =
-        ap (λ n. take 64 (drop from (take n (drop place symbols)))) g
-        ∙ ap (take 64) (drop-take from rest (drop place symbols))
-        ∙ take-take 64 rest (drop from (drop place symbols)) k
-        ∙ ap (take 64) (drop-drop from place symbols)
+    inner rest g k = simp (g, drop-take, take-take, drop-drop)
 
 -- word k from a place on
 pub word_unlike : (words : List ℕ) (symbols : List ℤ) (place from k word : ℕ) → from < 64 → k < 8
@@ -130,19 +111,16 @@ word_unlike words symbols place from k word l m n h e =
         let next : place + 64 * (k + 1) ≡ place + 64 * k + 64 = omega arith in
         let turn : place + 64 * k + from ≡ place + from + 64 * k = omega arith in
         shifted_is symbols (place + 64 * k) from (get_or words k 0) (get_or words (k + 1) 0) l (omega arith)
-        (h k (omega arith)) (h (k + 1) (omega arith) ∙ ap (λ p. packed (part symbols p 64)) next)
-        ∙ ap (λ p. packed (part symbols p 64)) turn
+        (h k (omega arith)) (grind arith) ∙ ap (λ p. packed (part symbols p 64)) turn
 
 -- the last three symbols
 pub last_unlike : (words : List ℕ) (symbols : List ℤ) (place from word : ℕ) → from < 64
     → place + 640 ≤ length symbols → ArePacked words symbols place
     → word ≡ (get_or words 9 0 * 2 ^ 64 + get_or words 8 0) / 2 ^ from % 2 ^ 64
     → count_ones (bit_xor (word % 8) (get_or SIGNS 8 0)) ≡ unlike symbols (place + from) 512 3
-last_unlike words symbols place from word l n h e =
-    ap₂ (λ a b. count_ones (bit_xor a b))
+last_unlike words symbols place from word l n h e = ap₂ (λ a b. count_ones (bit_xor a b))
     (ap (λ x. x % 8) (e ∙ own) ∙ packed_take (part symbols (place + from + 512) 64) 3
-    ∙ ap packed (take-take 3 64 (drop (place + from + 512) symbols) (omega arith)))
-    last_word
+    ∙ ap packed (take-take 3 64 (drop (place + from + 512) symbols) (omega arith))) last_word
     ∙ ones_unlike (part symbols (place + from + 512) 3) (sync_part 512 3)
     (length_part symbols (place + from + 512) 3 (omega arith) ∙ sym (length_sync 512 3 (omega arith)))
     ∙ unlike_is symbols (place + from) 512 3 (omega arith) (omega arith)
@@ -153,17 +131,13 @@ last_unlike words symbols place from word l n h e =
         let next : place + 64 * 9 ≡ place + 512 + 64 = omega arith in
         let turn : place + 512 + from ≡ place + from + 512 = omega arith in
         shifted_is symbols (place + 512) from (get_or words 8 0) (get_or words 9 0) l (omega arith)
-        (h 8 (omega arith)) (h 9 (omega arith) ∙ ap (λ p. packed (part symbols p 64)) next)
-        ∙ ap (λ p. packed (part symbols p 64)) turn
+        (h 8 (omega arith)) (grind arith) ∙ ap (λ p. packed (part symbols p 64)) turn
 
 -- the middle short sequence
 pub middle_unlike : (segment : List ℤ) (word : ℕ) → length segment ≡ 832 → word ≡ packed (part segment 578 64)
     → count_ones (bit_xor (word % 2 ^ 63) MIDDLE) ≡ unlike segment 0 578 63
-middle_unlike segment word e f =
-    ap₂ (λ a b. count_ones (bit_xor a b))
-    (ap (λ x. x % 2 ^ 63) f ∙ packed_take (part segment 578 64) 63
-    ∙ ap packed (take-take 63 64 (drop 578 segment) (omega arith)))
-    middle_word
+middle_unlike segment word e f = ap₂ (λ a b. count_ones (bit_xor a b))
+    (rw (f, packed_take (part segment 578 64) 63, take-take 63 64 (drop 578 segment) (omega arith))) middle_word
     ∙ ones_unlike (part segment 578 63) (sync_part 578 63)
     (length_part segment 578 63 (omega arith) ∙ sym (length_sync 578 63 (omega arith)))
     ∙ unlike_is segment 0 578 63 (omega arith) (omega arith)
@@ -175,10 +149,7 @@ pub packed_more : (symbols : List ℤ) (place n word : ℕ) → n < 64 → place
 packed_more symbols place n word l m e =
     let next : suc (place + n) ≡ place + (n + 1) = omega arith in
     let more : 64 - n ≡ suc (64 - (n + 1)) = omega arith in
-    turned word (cond (is_plus (get_or symbols (place + n) (pos 0))) 1 0)
-    ∙ ap (λ w. cond (is_plus (get_or symbols (place + n) (pos 0))) 1 0 + 2 * w)
-    (e ∙ ap (λ p. packed (part symbols p (64 - (n + 1)))) (sym next))
-    ∙ ap packed (sym (ap₂ take more (drop-cons symbols (place + n) (pos 0) (omega arith))))
+    turned word (cond (is_plus (get_or symbols (place + n) (pos 0))) 1 0) ∙ grind (arith, drop-cons)
   where
     turned : (w b : ℕ) → 2 * w + b ≡ b + 2 * w
     turned w b = omega arith
@@ -188,15 +159,11 @@ pub packed_room : (symbols : List ℤ) (place n word : ℕ) → n < 64 → place
 packed_room symbols place n word l m e =
     let small = packed_small (part symbols (place + (n + 1)) (64 - (n + 1))) in
     let long = length_part symbols (place + (n + 1)) (64 - (n + 1)) (omega arith) in
-    let bound : 2 ^ length (part symbols (place + (n + 1)) (64 - (n + 1))) ≤ 2 ^ 63 =
-    pow_mono {j = 63} (omega (arith, long)) in
-    omega (arith, small, bound, e)
+    let bound : 2 ^ length (part symbols (place + (n + 1)) (64 - (n + 1))) ≤ 2 ^ 63 = pow_mono {j = 63} (omega arith) in
+    omega arith
 
 pub word_ones : (word k : ℕ) → word < 2 ^ 64 → k < 8 → count_ones (bit_xor word (get_or SIGNS k 0)) ≤ 64
 word_ones word k l m = ones-le 64 (bit_xor word (get_or SIGNS k 0)) (xor_lt 64 word (get_or SIGNS k 0) l small)
   where
     small : get_or SIGNS k 0 < 2 ^ 64
-    small =
-        subst (λ n. get_or SIGNS k 0 < 2 ^ n) (length_sync (64 * k) 64 (omega arith))
-        (subst (λ x. x < 2 ^ length (sync_part (64 * k) 64)) (sym (whole_words k m))
-        (packed_small (sync_part (64 * k) 64)))
+    small = grind (arith, length_sync, whole_words, packed_small)

@@ -1,8 +1,7 @@
 -- Two lists of a feed's own segments of a group, which are as long as each other, are the same.
-use Rattle.std.proofs.Common.{◌≡◌, ◌⊎◌, inl, inr, ℕ, ℤ, ◌-◌, ◌%◌, ◌<◌, ◌==◌, Bool, true, false, cond, List, [], ◌∷◌}
-use Rattle.std.proofs.Common.{◌++◌, length, drop, get_or, refl, sym, ap, subst, ◌∙◌, arith, nat_le}
-use Rattle.dtx_frame.specs.Segments.{field_sync}
-use Rattle.dtx_coder.specs.Stream.{four_segments, last_of}
+use Rattle.std.proofs.Common.{◌≡◌, ◌⊎◌, inl, inr, ℕ, ℤ, ◌-◌, ◌<◌, Bool, true, false, List, [], ◌∷◌, length, drop, refl}
+use Rattle.std.proofs.Common.{sym, ap, subst, ◌∙◌, arith}
+use Rattle.dtx_coder.specs.Stream.{four_segments}
 use Rattle.dtx_exciter.specs.Emission.{segments_since, behind_field_sync}
 use Rattle.dtx_exciter.specs.Order.{Order, orders}
 use Rattle.dtx_exciter.specs.Packets.{readings}
@@ -19,15 +18,7 @@ sync_or_none : (i : ℕ) (before own : List (List ℤ))
     → behind_field_sync i before own ≡ behind_field_sync i [] own
 sync_or_none i before [] e = refl
 sync_or_none i [] (s ∷ ss) e = refl
-sync_or_none i (b ∷ bs) (s ∷ ss) e = by_test (i % 312 == 0) e
-  where
-    by_test : (t : Bool)
-        → length (cond t (field_sync (nat_le 312 (i % 624)) (last_of (get_or (b ∷ bs) (length bs) [])) ∷ []) []
-        ++ s ∷ ss) ≡ length (s ∷ ss)
-        → cond t (field_sync (nat_le 312 (i % 624)) (last_of (get_or (b ∷ bs) (length bs) [])) ∷ []) [] ++ s ∷ ss
-        ≡ s ∷ ss
-    by_test true f = absurd (omega (arith, f))
-    by_test false f = refl
+sync_or_none i (b ∷ bs) (s ∷ ss) e = grind arith
 
 own_alike : (l : List (List ℕ)) (i : ℕ) (b c : Bool)
     → length (own_segments b l i) ≡ length (own_segments c l i) → own_segments b l i ≡ own_segments c l i
@@ -45,10 +36,7 @@ same_segments l n x y (inl e) g h =
 same_segments l n x y (inr (b, e)) (inl f) h =
     let z : length y ≡ 0 = ap (λ (ss : List (List ℤ)). length ss) f in
     none_of x (h ∙ z) ∙ sym f
-same_segments l n x y (inr (b, e)) (inr (c, f)) h =
-    let k : length (own_segments b l (n - 4)) ≡ length (own_segments c l (n - 4)) =
-    ap (λ (ss : List (List ℤ)). length ss) (sym e) ∙ h ∙ ap (λ (ss : List (List ℤ)). length ss) f in
-    e ∙ own_alike l (n - 4) b c k ∙ sym f
+same_segments l n x y (inr (b, e)) (inr (c, f)) h = grind (arith, own_alike)
 
 -- ---- the data segments
 
@@ -71,18 +59,7 @@ data_behind i before [] e = absurd (omega (arith, e))
 data_behind i [] (s ∷ ss) e =
     let z : length (s ∷ ss) - 4 ≡ 0 = omega (arith, e) in
     ap (λ k. drop k (s ∷ ss)) z
-data_behind i (b ∷ bs) (s ∷ ss) e = by_test (i % 312 == 0)
-  where
-    by_test : (t : Bool)
-        → data_of (cond t (field_sync (nat_le 312 (i % 624)) (last_of (get_or (b ∷ bs) (length bs) [])) ∷ []) []
-        ++ s ∷ ss) ≡ s ∷ ss
-    by_test true =
-        let sync : List ℤ = field_sync (nat_le 312 (i % 624)) (last_of (get_or (b ∷ bs) (length bs) [])) in
-        let z : length (sync ∷ s ∷ ss) - 4 ≡ 1 = omega (arith, e) in
-        ap (λ k. drop k (sync ∷ s ∷ ss)) z
-    by_test false =
-        let z : length (s ∷ ss) - 4 ≡ 0 = omega (arith, e) in
-        ap (λ k. drop k (s ∷ ss)) z
+data_behind i (b ∷ bs) (s ∷ ss) e = grind arith
 
 none_behind : (i : ℕ) (before own : List (List ℤ)) → own ≡ [] → behind_field_sync i before own ≡ []
 none_behind i before own e = ap (behind_field_sync i before) e
@@ -90,20 +67,11 @@ none_behind i before own e = ap (behind_field_sync i before) e
 data_own : (l : List (List ℕ)) (i : ℕ) (b : Bool) → 0 < length (own_segments b l i)
     → data_of (own_segments b l i) ≡ own_data l i
 unfolding own_segments
-data_own l i b h = by_data (four_own l i)
-  where
-    by_data : AreNoneOrFour (own_data l i) → data_of (own_segments b l i) ≡ own_data l i
-    by_data (inl e) =
-        let z : length (own_segments b l i) ≡ 0 = ap (λ (ss : List (List ℤ)). length ss)
-        (none_behind i (cond b (own_data l (i - 4)) []) (own_data l i) e) in
-        absurd (omega (arith, z, h))
-    by_data (inr e) = data_behind i (cond b (own_data l (i - 4)) []) (own_data l i) e
+data_own l i b h = grind (arith, four_own, none_behind, data_behind)
 
 data_given : (l : List (List ℕ)) (n : ℕ) (x : List (List ℤ)) → GivesOwn l n x → 0 < length x
     → data_of x ≡ own_data l (n - 4)
-data_given l n x (inl e) h =
-    let z : length x ≡ 0 = ap (λ (ss : List (List ℤ)). length ss) e in
-    absurd (omega (arith, z, h))
+data_given l n x (inl e) h = grind arith
 data_given l n x (inr (b, e)) h =
     ap data_of e ∙ data_own l (n - 4) b (subst (λ (ss : List (List ℤ)). 0 < length ss) e h)
 

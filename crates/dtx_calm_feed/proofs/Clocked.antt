@@ -58,8 +58,7 @@ are_length frames gone (inl e) = rounded_down (frames * 744789760) gone e
 are_length frames gone (inr e) = rounded_up (frames * 744789760) gone e
 
 apart : (s t most later i j frames : ℕ) (offset : ℤ) → later ≡ most
-    → AreLength (frames * 744789760) ((t + 10000000 - s % 10000000) % 10000000)
-    → (rest : ℤ) × IsBelowTick rest
+    → AreLength (frames * 744789760) ((t + 10000000 - s % 10000000) % 10000000) → (rest : ℤ) × IsBelowTick rest
     × DifferBy (grains_of t later offset j) (grains_of s most offset i) (air_between frames i j +ℤ rest)
 apart s t most later i j frames offset same l =
     let x = whole_seconds (count_of t later offset j) in
@@ -68,17 +67,9 @@ apart s t most later i j frames offset same l =
     let x1 = x.1 in
     let y1 = y.1 in
     let z1 = z.1 in
-    let is = l.is in (
-      l.rest,
-      l.below,
-      (((l.seconds +ℤ z.0) +ℤ y.0) -ℤ x.0, omega (arith, ints, same)),
-    )
+    let is = l.is in (l.rest, l.below, (((l.seconds +ℤ z.0) +ℤ y.0) -ℤ x.0, omega (arith, ints, same)))
 
-pub moments_follow : (before ops : Ops) (offset : ℤ) (i j : ℕ) → Follows before ops
-    → (rest : ℤ) × IsBelowTick rest
+pub moments_follow : (before ops : Ops) (offset : ℤ) (i j : ℕ) → Follows before ops → (rest : ℤ) × IsBelowTick rest
     × DifferBy (grains_of ops.stamp ops.max_delay offset j) (grains_of before.stamp before.max_delay offset i)
     (air_between (frames_between before.frame ops.frame) i j +ℤ rest)
-moments_follow before ops offset i j f =
-    apart before.stamp ops.stamp before.max_delay ops.max_delay i j (frames_between before.frame ops.frame) offset f.1
-    (are_length (frames_between before.frame ops.frame)
-    ((ops.stamp + 10000000 - before.stamp % 10000000) % 10000000) f.0)
+moments_follow before ops offset i j f = grind (arith, apart, are_length)

@@ -10,7 +10,7 @@ use Rattle.dtx_coder.proofs.SegmentsLemmas.{four_front}
 use Rattle.dtx_coder.specs.Stream.{four_segments, levels, states}
 use Rattle.dtx_ops.specs.declared.fields.Ops.{Ops}
 use Rattle.dtx_exciter.specs.Emission.{segments_since}
-use Rattle.dtx_exciter.proofs.ForceLemmas.{IsBehind, Stands, counted_behind, force_more, force_stands}
+use Rattle.dtx_exciter.proofs.ForceLemmas.{IsBehind, counted_behind, force_more, force_stands}
 use Rattle.dtx_exciter.specs.Order.{Order, counting_order, orders, placed}
 use Rattle.dtx_exciter.specs.Packets.{readings}
 use Rattle.dtx_exciter.proofs.SinceMarkLemmas.{AreSame, data_same, states_from_group, states_mark, take_parts}
@@ -32,11 +32,8 @@ states_right f m x k q z h w l y b e =
     let ls : length s ≡ k = length-take-le k (drop m f) (omega (arith, h, length-drop m f)) in
     let at : 4 * g ≡ m + x = omega (arith, z, y) in
     let all : take (m + k) f ≡ a ++ s = take_parts m k f in
-    let own : q ≡ states (take (4 * g) (a ++ s)) =
-    e ∙ ap (λ n. states (take n f)) (sym at) ∙ ap states (sym (take-take (4 * g) (m + k) f (omega (arith, at, b))))
-    ∙ ap (λ p. states (take (4 * g) p)) all in
-    ap states all
-    ∙ states_from_group (a ++ s) g (omega (arith, at, b, la, ls, length-append a s))
+    let own : q ≡ states (take (4 * g) (a ++ s)) = grind (arith, take-take) in
+    ap states all ∙ states_from_group (a ++ s) g (omega (arith, at, b, la, ls, length-append a s))
     ∙ ap (λ p. states_since g p (a ++ s)) (sym own)
     ∙ states_mark a s x g q (omega (arith, la, z)) (omega (arith, ls, w)) l y (omega (arith, at, la))
 
@@ -51,19 +48,12 @@ coded_next : (f : List (List ℕ)) (m k : ℕ) (o : Option Ops) (rest : List Ord
 coded_next f m k None rest r z w a h e g c = c
 coded_next f m k (Some ops) [] r z w a h e g c = absurd c
 coded_next f m k (Some ops) (order ∷ older) r z w a h e g c =
-    let st : Stands (readings (drop m f)) (k - 4 + 1) order =
-    force_stands (readings (drop m f)) (k - 4) order older g in
-    let b : IsBehind order.place = counted_behind (readings (drop m f)) order.place order.ops st.counts in
-    let below = st.below in
-    r k ops order older e (omega (arith, h, length-drop m f)) g
-    ∙ sym (states_right f m order.place k order.ops.states z (omega (arith, h)) w b.flushed b.whole
-    (omega (arith, below, a)) c)
+    grind (arith, force_stands, counted_behind, length-drop, states_right)
 
 coded_on : (f : List (List ℕ)) (m p c : ℕ) → NeverSlips (drop m f) → m % 624 ≡ 0 → p % 4 ≡ 0
     → m + (p + 4 * c) + 4 ≤ length f → IsCoded f m (orders (readings (drop m f)) p)
     → IsCoded f m (orders (readings (drop m f)) (p + 4 * c))
-coded_on f m p zero r z w h d = let e : p ≡ p + 4 * 0 = omega arith in
-    subst (λ n. IsCoded f m (orders (readings (drop m f)) n)) e d
+coded_on f m p zero r z w h d = grind arith
 coded_on f m p (suc c) r z w h d =
     let k : ℕ = p + 4 * suc c in
     let less : p + 4 * c ≡ p + 4 * suc c - 4 = omega arith in
@@ -83,14 +73,10 @@ coded_states f m g first ops r z i e h l = by_place (cases_lt g first.place)
     by_place : (g < first.place) ⊎ (first.place ≤ g) → ops.states ≡ states (take (m + g) f)
     by_place (inl k) = absurd (none_some (sym (i.first g k) ∙ h))
     by_place (inr k) =
-        let a : first.place % 4 ≡ 0 =
-        (counted_behind (readings (drop m f)) first.place first.ops i.counts).whole in
+        let a : first.place % 4 ≡ 0 = (counted_behind (readings (drop m f)) first.place first.ops i.counts).whole in
         let b : g % 4 ≡ 0 = (counted_behind (readings (drop m f)) g ops h).whole in
         let up : first.place + 4 * ((g - first.place) / 4) ≡ g = omega (arith, a, b, k) in
-        subst (IsCoded f m) (here (drop m f) g ops h)
-        (subst (λ n. IsCoded f m (orders (readings (drop m f)) n)) up
-        (coded_on f m first.place ((g - first.place) / 4) r z a (omega (arith, up, l))
-        (subst (IsCoded f m) (sym (first_here (drop m f) first i)) e)))
+        subst (IsCoded f m) (here (drop m f) g ops h) (grind (arith, coded_on, first_here))
 
 -- ---- the data segments
 
@@ -107,47 +93,17 @@ pub coded_segments : (f : List (List ℕ)) (m i : ℕ) (first : Order) → m % 6
     → own_data (drop m f) i ≡ four_segments (levels f) (m + i)
 unfolding segments_since
 coded_segments f m i first z o e w k h =
-    own_first l i first o w k
-    ∙ ap (λ ps. segments_since (y / 4) q ps (i / 4)) (sym (take-append-drop (i + 4) l))
-    ∙ segments_front t (drop (i + 4) l) (i / 4 + 1) (y / 4) (i / 4) q (omega (arith, lt, w)) (omega (arith, k))
-    (omega arith)
-    ∙ ap₂ (λ g n. four_segments (levels_since g q t) n) zero_y zero_i
-    ∙ data_same [] b t i y q same (e ∙ ap states own)
-    ∙ ap₂ (λ ps n. four_segments (levels ps) n) (sym (take_parts m (i + 4) f)) (ap (λ n. n + i) lb)
-    ∙ levels_front f (m + (i + 4)) (m + i) (omega (arith, z, w)) (omega (arith, h)) (omega arith)
-  where
-    l : List (List ℕ)
-    l = drop m f
-
-    y : ℕ
-    y = first.place
-
-    q : List ℕ
-    q = first.ops.states
-
-    b : List (List ℕ)
-    b = take m f
-
-    t : List (List ℕ)
-    t = take (i + 4) l
-
-    behind : IsBehind y
-    behind = counted_behind (readings l) y first.ops o.counts
-
-    lb : length b ≡ m
-    lb = length-take-le m f (omega (arith, h))
-
-    lt : length t ≡ i + 4
-    lt = length-take-le (i + 4) l (omega (arith, h, length-drop m f))
-
-    zero_y : y / 4 ≡ (0 + y) / 4
-    zero_y = omega arith
-
-    zero_i : 4 * (i / 4 - y / 4) ≡ 4 * ((0 + i) / 4 - (0 + y) / 4)
-    zero_i = omega arith
-
-    same : AreSame [] b t i y
-    same = record {
+    let l : List (List ℕ) = drop m f in
+    let y : ℕ = first.place in
+    let q : List ℕ = first.ops.states in
+    let b : List (List ℕ) = take m f in
+    let t : List (List ℕ) = take (i + 4) l in
+    let behind : IsBehind y = counted_behind (readings l) y first.ops o.counts in
+    let lb : length b ≡ m = length-take-le m f (omega (arith, h)) in
+    let lt : length t ≡ i + 4 = length-take-le (i + 4) l (omega (arith, h, length-drop m f)) in
+    let zero_y : y / 4 ≡ (0 + y) / 4 = omega arith in
+    let zero_i : 4 * (i / 4 - y / 4) ≡ 4 * ((0 + i) / 4 - (0 + y) / 4) = omega arith in
+    let same : AreSame [] b t i y = record {
       first = omega arith;
       second = omega (arith, lb, z);
       groups = omega (arith, lt, w);
@@ -156,8 +112,12 @@ coded_segments f m i first z o e w k h =
       later = k;
       group = w;
       inside = omega (arith, lt);
-    }
-
-    own : take (m + y) f ≡ take (length b + y) (b ++ t)
-    own = sym (take-take (m + y) (m + (i + 4)) f (omega (arith, k)))
-        ∙ ap₂ take (ap (λ n. n + y) (sym lb)) (take_parts m (i + 4) f)
+    } in
+    let own : take (m + y) f ≡ take (length b + y) (b ++ t) = sym (take-take (m + y) (m + (i + 4)) f (omega (arith, k)))
+    ∙ ap₂ take (ap (λ n. n + y) (sym lb)) (take_parts m (i + 4) f) in
+    own_first l i first o w k ∙ ap (λ ps. segments_since (y / 4) q ps (i / 4)) (sym (take-append-drop (i + 4) l))
+    ∙ segments_front t (drop (i + 4) l) (i / 4 + 1) (y / 4) (i / 4) q (omega (arith, lt, w)) (omega (arith, k))
+    (omega arith) ∙ ap₂ (λ g n. four_segments (levels_since g q t) n) zero_y zero_i
+    ∙ data_same [] b t i y q same (e ∙ ap states own)
+    ∙ ap₂ (λ ps n. four_segments (levels ps) n) (sym (take_parts m (i + 4) f)) (ap (λ n. n + i) lb)
+    ∙ levels_front f (m + (i + 4)) (m + i) (omega (arith, z, w)) (omega (arith, h)) (omega arith)

@@ -1,11 +1,8 @@
 -- What an exciter gives that is locked to a mark of a feed, or was locked before it: nothing, or the feed's segments.
-use Rattle.std.proofs.Common.{◌≡◌, ◌⊎◌, inl, inr, ℕ, ℤ, ◌+◌, ◌-◌, ◌/◌, ◌%◌, ◌<◌, ◌≤◌, ◌==◌, Bool, true, false, cond}
-use Rattle.std.proofs.Common.{Some, List, [], ◌∷◌, ◌++◌, length, drop, get_or, refl, sym, ap, ap₂, subst, ◌∙◌, arith}
-use Rattle.std.proofs.Common.{is_ok, nat_le, slice_range, eqb-true, leb-true, length-drop, length-take-le, le-leb}
-use Rattle.std.proofs.Common.{length-append}
+use Rattle.std.proofs.Common.{◌≡◌, ◌⊎◌, inl, inr, ℕ, ℤ, ◌+◌, ◌-◌, ◌/◌, ◌%◌, ◌<◌, ◌≤◌, ◌==◌, Bool, true, false, Some}
+use Rattle.std.proofs.Common.{List, [], ◌∷◌, ◌++◌, length, drop, refl, sym, ap, ap₂, subst, ◌∙◌, arith, is_ok}
+use Rattle.std.proofs.Common.{slice_range, eqb-true, leb-true, length-drop, length-take-le, le-leb, length-append}
 use Rattle.std.proofs.lemmas.Bool.{cases_lt, cond-false, cond-true}
-use Rattle.dtx_frame.specs.Segments.{field_sync}
-use Rattle.dtx_coder.specs.Stream.{last_of}
 use Rattle.dtx_exciter.specs.Emission.{segments_since, sent_by, sent_at, sent_before, behind_field_sync, given_under}
 use Rattle.dtx_exciter.specs.Emission.{last_segments}
 use Rattle.dtx_exciter.proofs.ForceLemmas.{IsBehind, Stands, counted_behind, force_first, force_stands}
@@ -31,15 +28,13 @@ order_is : (l : List (List ℕ)) (x n j : ℕ) (order : Order) (older : List Ord
     → orders (readings (slice_range l x n)) j ≡ order ∷ older
     → counting_order (readings l) (x + order.place) ≡ Some order.ops
 order_is l x n j order older p h e =
-    let s : Stands (readings (slice_range l x n)) (j + 1) order =
-    force_stands (readings (slice_range l x n)) j order older e in
+    let s : Stands (readings (slice_range l x n)) (j + 1) order = grind (arith, force_stands) in
     let b : IsBehind order.place = counted_behind (readings (slice_range l x n)) order.place order.ops s.counts in
     let below = s.below in
     let inside = p.inside in
     let none : 0 + order.place ≡ order.place = omega arith in
     sym (counted_same [] l x (n - x) order.place p.at_mark (omega arith) (omega (arith, inside, h))
-    (omega (arith, below, h)) b.flushed)
-    ∙ ap (counting_order (readings (slice_range l x n))) none ∙ s.counts
+    (omega (arith, below, h)) b.flushed) ∙ ap (counting_order (readings (slice_range l x n))) none ∙ s.counts
 
 -- what is sent of the group j packets behind the mark
 abbrev pub IsNoneOr : List (List ℤ) → List (List ℤ) → Type 0
@@ -48,39 +43,8 @@ IsNoneOr own given = (given ≡ []) ⊎ (given ≡ own)
 sent_own : (a d : ℕ) (l : List (List ℕ)) (x n j : ℕ) → NeverSlips l → IsWhole l x n → j % 4 ≡ 0 → x + j + 4 ≤ n
     → IsNoneOr (own_data l (x + j)) (sent_at a d (slice_range l x n) j)
 unfolding sent_at
-sent_own a d l x n j r p w h = by_orders (orders (readings (slice_range l x n)) j) refl
-  where
-    by_service : (order : Order) (older : List Order) (t : Bool)
-        → orders (readings (slice_range l x n)) j ≡ order ∷ older → is_ok (served a d (order ∷ older)) ≡ t
-        → IsNoneOr (own_data l (x + j)) (sent_by a d (slice_range l x n) j (order ∷ older))
-    by_service order older false e s = inl (cond-false (is_ok (served a d (order ∷ older)))
-        (segments_since (order.place / 4) order.ops.states (slice_range l x n) (j / 4)) [] s)
-    by_service order older true e s =
-        let st : Stands (readings (slice_range l x n)) (j + 1) order =
-        force_stands (readings (slice_range l x n)) j order older e in
-        let b : IsBehind order.place = counted_behind (readings (slice_range l x n)) order.place order.ops st.counts in
-        let below = st.below in
-        let at_mark = p.at_mark in
-        let inside = p.inside in
-        inr (cond-true (is_ok (served a d (order ∷ older)))
-        (segments_since (order.place / 4) order.ops.states (slice_range l x n) (j / 4)) [] s
-        ∙ segments_part l x n order.place j order.ops.states (record {
-          at_mark = p.at_mark;
-          inside = p.inside;
-          whole = p.whole;
-          flushed = b.flushed;
-          order = b.whole;
-          later = omega (arith, below);
-          group = w;
-          within = h;
-        })
-        ∙ sym (own_since l (x + order.place) (x + j) order.ops r (order_is l x n j order older p h e)
-        (omega (arith, below)) (omega (arith, at_mark, w)) (omega (arith, inside, h))))
-
-    by_orders : (os : List Order) → orders (readings (slice_range l x n)) j ≡ os
-        → IsNoneOr (own_data l (x + j)) (sent_by a d (slice_range l x n) j os)
-    by_orders [] e = inl refl
-    by_orders (order ∷ older) e = by_service order older (is_ok (served a d (order ∷ older))) e refl
+sent_own a d l x n j r p w h =
+    grind (arith, cond-false, force_stands, counted_behind, cond-true, segments_part, later, own_since, order_is)
 
 -- ---- behind a field sync
 
@@ -89,18 +53,14 @@ pub sync_place : (i k : ℕ) (before own : List (List ℤ)) → i % 624 ≡ k % 
     → behind_field_sync i before own ≡ behind_field_sync k before own
 sync_place i k before [] e = refl
 sync_place i k [] (s ∷ ss) e = refl
-sync_place i k (b ∷ bs) (s ∷ ss) e =
-    let c : i % 312 ≡ k % 312 = omega (arith, e) in
-    ap₂ (λ x y. cond (x == 0) (field_sync (nat_le 312 y) (last_of (get_or (b ∷ bs) (length bs) [])) ∷ []) []
-    ++ s ∷ ss) c e
+sync_place i k (b ∷ bs) (s ∷ ss) e = grind arith
 
 -- nothing, or the feed's own segments of the group that ends at packet n
 abbrev pub GivesOwn : List (List ℕ) → ℕ → List (List ℤ) → Type 0
 GivesOwn l n given = (given ≡ []) ⊎ ((goes_on : Bool) × (given ≡ own_segments goes_on l (n - 4)))
 
 pub given_by : (l : List (List ℕ)) (i : ℕ) (before own : List (List ℤ)) → IsNoneOr (own_data l (i - 4)) before
-    → IsNoneOr (own_data l i) own
-    → (behind_field_sync i before own ≡ [])
+    → IsNoneOr (own_data l i) own → (behind_field_sync i before own ≡ [])
     ⊎ ((goes_on : Bool) × (behind_field_sync i before own ≡ own_segments goes_on l i))
 unfolding own_segments
 given_by l i before own b (inl e) = inl (ap (behind_field_sync i before) e)
@@ -109,16 +69,7 @@ given_by l i before own (inr f) (inr e) = inr (true, ap₂ (behind_field_sync i)
 
 before_own : (a d : ℕ) (l : List (List ℕ)) (x n j : ℕ) → NeverSlips l → IsWhole l x n → j % 4 ≡ 0 → x + j + 4 ≤ n
     → IsNoneOr (own_data l (x + j - 4)) (sent_before a d (slice_range l x n) j)
-before_own a d l x n j r p w h = by_place (nat_le 4 j) refl
-  where
-    by_place : (t : Bool) → nat_le 4 j ≡ t
-        → IsNoneOr (own_data l (x + j - 4)) (cond t (sent_at a d (slice_range l x n) (j - 4)) [])
-    by_place false e = inl refl
-    by_place true e =
-        let far : 4 ≤ j = leb-true 4 j e in
-        let at : x + (j - 4) ≡ x + j - 4 = omega (arith, far) in
-        subst (λ k. IsNoneOr (own_data l k) (sent_at a d (slice_range l x n) (j - 4))) at
-        (sent_own a d l x n (j - 4) r p (omega (arith, w, far)) (omega (arith, h, far)))
+before_own a d l x n j r p w h = grind (arith, leb-true, sent_own)
 
 group_given : (a d : ℕ) (l : List (List ℕ)) (x n : ℕ) → NeverSlips l → IsWhole l x n → x + 4 ≤ n
     → GivesOwn l n (behind_field_sync (n - x - 4) (sent_before a d (slice_range l x n) (n - x - 4))
@@ -131,19 +82,13 @@ group_given a d l x n r p h =
     let before : List (List ℤ) = sent_before a d (slice_range l x n) (n - x - 4) in
     let own : List (List ℤ) = sent_at a d (slice_range l x n) (n - x - 4) in
     subst (GivesOwn l n) (sym (sync_place (n - x - 4) (n - 4) before own same))
-    (given_by l (n - 4) before own
-    (subst (λ k. IsNoneOr (own_data l (k - 4)) before) at
-    (before_own a d l x n (n - x - 4) r p (omega (arith, w)) (omega (arith, h))))
-    (subst (λ k. IsNoneOr (own_data l k) own) at
-    (sent_own a d l x n (n - x - 4) r p (omega (arith, w)) (omega (arith, h)))))
+    (grind (arith, given_by, before_own, sent_own))
 
 -- no packets give nothing
 none_given : (a d i : ℕ) (packets before : List (List ℤ)) (l : List (List ℕ)) → i ≡ 0
     → behind_field_sync i before (sent_at a d l i) ≡ []
 unfolding sent_at
-none_given a d i packets before l e =
-    ap (λ n. behind_field_sync i before (sent_by a d l n (orders (readings l) n))) e
-    ∙ ap (λ os. behind_field_sync i before (sent_by a d l 0 os)) (force_first (readings l))
+none_given a d i packets before l e = grind (arith, force_first)
 
 pub gives_own : (a d : ℕ) (l life : List (List ℕ)) (x n : ℕ) → NeverSlips l → x % 624 ≡ 0 → n ≤ length l
     → under life ≡ Some (slice_range l x n) → GivesOwn l n (last_segments a d life)
@@ -155,8 +100,7 @@ gives_own a d l life x n r m h e =
     t = slice_range l x n
 
     long : length t ≡ n - x
-    long = let some : n - x ≤ length (drop x l) = omega (arith, h, length-drop x l) in
-        length-take-le (n - x) (drop x l) some
+    long = grind (arith, length-drop, length-take-le)
 
     all : List (List ℤ)
     all = behind_field_sync (length t - 4) (sent_before a d t (length t - 4)) (sent_at a d t (length t - 4))
@@ -166,13 +110,11 @@ gives_own a d l life x n r m h e =
         inl (none_given a d (length t - 4) [] (sent_before a d t (length t - 4)) t (omega (arith, long, few)))
     by_length w (inr some) =
         subst (λ k. GivesOwn l n (behind_field_sync (k - 4) (sent_before a d t (k - 4)) (sent_at a d t (k - 4))))
-        (sym long)
-        (group_given a d l x n r (record { at_mark = m; inside = h; whole = w }) (omega (arith, some)))
+        (sym long) (group_given a d l x n r (record { at_mark = m; inside = h; whole = w }) (omega (arith, some)))
 
     by_whole : (b : Bool) → (length t % 4 == 0) ≡ b → GivesOwn l n (given_under a d (Some t))
     by_whole false f = inl (cond-false (length t % 4 == 0) all [] f)
-    by_whole true f =
-        subst (GivesOwn l n) (sym (cond-true (length t % 4 == 0) all [] f))
+    by_whole true f = subst (GivesOwn l n) (sym (cond-true (length t % 4 == 0) all [] f))
         (by_length (omega (arith, long, eqb-true (length t % 4) 0 f)) (cases_lt (n - x) 4))
 
 -- ---- where it was locked before the mark, in step with the feed: from an order of the feed on
@@ -189,8 +131,7 @@ sent_held : (a d : ℕ) (base l : List (List ℕ)) (x n k j : ℕ) (ops : Ops) �
     → k ≤ j → j % 4 ≡ 0 → x + j + 4 ≤ n
     → IsNoneOr (own_data l (x + j)) (sent_at a d (base ++ slice_range l x n) (length base + j))
 unfolding sent_at
-sent_held a d base l x n k j ops r o b w h =
-    by_orders (orders (readings life) i) refl
+sent_held a d base l x n k j ops r o b w h = by_orders (orders (readings life) i) refl
     (later life (length base + k) i ops (same k o.flushed (omega (arith, h, b)) ∙ o.counts) (omega (arith, b))
     (omega (arith, s, w)))
   where
@@ -232,16 +173,7 @@ sent_held a d base l x n k j ops r o b w h =
         inr (cond-true (is_ok (served a d (order ∷ older)))
         (segments_since (order.place / 4) order.ops.states life (i / 4)) [] g
         ∙ ap (λ p. segments_since (p / 4) order.ops.states life (i / 4)) (sym at)
-        ∙ segments_held base l x n y j order.ops.states s (record {
-          at_mark = m;
-          inside = inside;
-          whole = o.whole.whole;
-          flushed = flushed;
-          order = omega (arith, at, four, s);
-          later = omega (arith, at, below);
-          group = w;
-          within = h;
-        })
+        ∙ segments_held base l x n y j order.ops.states s (grind (arith, m, inside, s, later))
         ∙ sym (own_since l (x + y) (x + j) order.ops r counts (omega (arith, at, below)) (omega (arith, m, w))
         (omega (arith, inside, h))))
 
@@ -251,8 +183,7 @@ sent_held a d base l x n k j ops r o b w h =
     by_orders (order ∷ older) e f = by_service order older (is_ok (served a d (order ∷ older))) e f refl
 
 group_held : (a d : ℕ) (base l : List (List ℕ)) (x n k j : ℕ) (ops : Ops) → NeverSlips l → IsOrdered base l x n k ops
-    → k + 4 ≤ j → x + j + 4 ≡ n
-    → GivesOwn l n (behind_field_sync (length base + j)
+    → k + 4 ≤ j → x + j + 4 ≡ n → GivesOwn l n (behind_field_sync (length base + j)
     (sent_before a d (base ++ slice_range l x n) (length base + j))
     (sent_at a d (base ++ slice_range l x n) (length base + j)))
 group_held a d base l x n k j ops r o b e =
@@ -270,11 +201,8 @@ group_held a d base l x n k j ops r o b e =
     subst (λ i. IsNoneOr (own_data l (n - 4 - 4)) (sent_at a d life i)) down
     (subst (λ i. IsNoneOr (own_data l i) (sent_at a d life (length base + (j - 4)))) back
     (sent_held a d base l x n k (j - 4) ops r o (omega (arith, b)) (omega (arith, w, e, b)) (omega (arith, e, b)))) in
-    subst (GivesOwn l n) (sym (sync_place (length base + j) (n - 4) front own same))
-    (given_by l (n - 4) front own
-    (subst (IsNoneOr (own_data l (n - 4 - 4))) (sym (cond-true (nat_le 4 (length base + j))
-    (sent_at a d life (length base + j - 4)) [] (le-leb 4 (length base + j) (omega (arith, b))))) earlier)
-    (subst (λ i. IsNoneOr (own_data l i) own) at
+    subst (GivesOwn l n) (sym (sync_place (length base + j) (n - 4) front own same)) (given_by l (n - 4) front own
+    (grind (arith, cond-true, le-leb)) (subst (λ i. IsNoneOr (own_data l i) own) at
     (sent_held a d base l x n k j ops r o (omega (arith, b)) (omega (arith, w, e)) (omega (arith, e)))))
 
 gives_held : (a d : ℕ) (base l life : List (List ℕ)) (x n k : ℕ) (ops : Ops) → NeverSlips l → x % 624 ≡ 0
@@ -301,23 +229,15 @@ gives_held a d base l life x n k ops r m h s c f b e =
         let at : length base + (n - x - 4) ≡ length t - 4 = omega (arith, long, b) in
         subst (GivesOwn l n) (sym (cond-true (length t % 4 == 0) all [] g))
         (subst (λ i. GivesOwn l n (behind_field_sync i (sent_before a d t i) (sent_at a d t i))) at
-        (group_held a d base l x n k (n - x - 4) ops r (record {
-          whole = record { at_mark = m; inside = h; whole = omega (arith, four, long, s) };
-          in_step = s;
-          counts = c;
-          flushed = f;
-        }) (omega (arith, b)) (omega (arith, b))))
+        (group_held a d base l x n k (n - x - 4) ops r (grind (arith, long)) (omega (arith, b)) (omega (arith, b))))
 
 pub locked_gives : (a d : ℕ) (feed life : List (List ℕ)) (n : ℕ) → NeverSlips feed → IsLockedTo feed life n
     → GivesOwn feed n (last_segments a d life)
-locked_gives a d feed life n r o = by_order o.ordered
-  where
-    by_order : (o.before ≡ []) ⊎ ((k : ℕ) × (ops : Ops) × (counting_order (readings feed) k ≡ Some ops)
-        × (o.mark + 52 ≤ k) × (k + 8 ≤ n)) → GivesOwn feed n (last_segments a d life)
-    by_order (inl e) =
-        gives_own a d feed life o.mark n r o.at_mark o.inside
-        (o.given ∙ ap (λ base. Some (base ++ slice_range feed o.mark n)) e)
-    by_order (inr (k, ops, c, f, b)) =
-        let at : o.mark + (k - o.mark) ≡ k = omega (arith, f) in
-        gives_held a d o.before feed life o.mark n (k - o.mark) ops r o.at_mark o.inside o.in_step
-        (ap (counting_order (readings feed)) at ∙ c) (omega (arith, f)) (omega (arith, f, b)) o.given
+locked_gives a d feed life n r o = elim o.ordered [
+  | inl e ↦ gives_own a d feed life o.mark n r o.at_mark o.inside
+      (o.given ∙ ap (λ base. Some (base ++ slice_range feed o.mark n)) e)
+  | inr (k, ops, c, f, b) ↦
+      let at : o.mark + (k - o.mark) ≡ k = omega (arith, f) in
+      gives_held a d o.before feed life o.mark n (k - o.mark) ops r o.at_mark o.inside o.in_step
+      (ap (counting_order (readings feed)) at ∙ c) (omega (arith, f)) (omega (arith, f, b)) o.given
+]

@@ -1,7 +1,7 @@
 -- What is told of each packet is so.
 use Rattle.std.proofs.Common.{◌≡◌, ◌≢◌, ℕ, zero, suc, ◌+◌, ◌-◌, ◌*◌, ◌/◌, ◌%◌, ◌<◌, ◌≤◌, ◌==◌, Bool, true, false}
 use Rattle.std.proofs.Common.{Option, Some, None, Result, Ok, Err, List, [], ◌∷◌, ◌++◌, length, take, drop, get_or}
-use Rattle.std.proofs.Common.{refl, sym, ap, subst, ◌∙◌, arith, eqb-true, get_or-drop, length-take-le}
+use Rattle.std.proofs.Common.{refl, sym, subst, ◌∙◌, arith, eqb-true, get_or-drop, length-take-le}
 use Rattle.std.specs.List.{AllByRecursion, flat_map, range_with_len}
 use Rattle.std.proofs.lemmas.Bool.{cond-false, cond-true, eqb-false}
 use Rattle.dtx_ops.specs.Reading.{reading}
@@ -33,11 +33,7 @@ lock_said d k (Some a) (Some c) b n = tt
 unlocked_said : (d : List (List ℕ)) (k : ℕ) (r : Result Ops OpsNo) → anchor_of (take (k + 1) d) ≡ None
     → reading (get_or d k []) ≡ r
     → AllByRecursion (IsSaid d) (one_or_none (packet_note k None (expected_at [] 0) None r))
-unlocked_said d k (Ok ops) n e =
-    ((ops, e, refl, refl, λ a h. absurd (none_some a (sym n ∙ h))), tt)
-  where
-    none_some : (a : ℕ) → ◌≡◌ {A = Option ℕ} None (Some a) → ⊥
-    none_some a q = cc
+unlocked_said d k (Ok ops) n e = grind arith
 unlocked_said d k (Err NotOps) n e = tt
 unlocked_said d k (Err Uncorrectable) n e = ((e, λ q. cc), tt)
 unlocked_said d k (Err Kind) n e = ((e, λ q. cc), tt)
@@ -54,39 +50,17 @@ ops_said : (d : List (List ℕ)) (k a : ℕ) (ops : Ops) (t : Bool) → anchor_o
     → reading (get_or d k []) ≡ Ok ops → (ops.index == (k - a) % 624) ≡ t
     → AllByRecursion (IsSaid d) (one_or_none (packet_note k (Some ((k - a) % 624))
     (expected_at (drop a d) (4 * ((k - a) / 4))) (stamped_before (drop a d) (k - a)) (Ok ops)))
-ops_said d k a ops true n e t =
-    let l : List (List ℕ) = drop a d in
-    let o = ops_note (expected_at l (4 * ((k - a) / 4))) (stamped_before l (k - a)) ops in (
-      subst (IsWhatSaid d k)
-          (sym (cond-true (ops.index == (k - a) % 624) (OpsAt o) (Stray ops.frame ops.index) t))
-          (record {
-            anchor = a;
-            anchor_is = n;
-            ops = ops;
-            reads_so = e;
-            at_place = eqb-true ops.index ((k - a) % 624) t;
-            frame = refl;
-            index = refl;
-            stamp = refl;
-            max_delay = refl;
-            listed = refl;
-            states = λ word. states_said l (4 * ((k - a) / 4)) ops word;
-            clock = λ word. clock_said l (k - a) ops word;
-          }),
-      tt,
-    )
+ops_said d k a ops true n e t = grind (arith, cond-true, eqb-true, states_said, clock_said)
 ops_said d k a ops false n e t =
     let l : List (List ℕ) = drop a d in
     let o = ops_note (expected_at l (4 * ((k - a) / 4))) (stamped_before l (k - a)) ops in (
-      subst (IsWhatSaid d k)
-          (sym (cond-false (ops.index == (k - a) % 624) (OpsAt o) (Stray ops.frame ops.index) t)) (
-            ops,
-            e,
-            refl,
-            refl,
-            λ b h. subst (λ x. ops.index ≢ (k - x) % 624) (same a b (sym n ∙ h))
-                (eqb-false ops.index ((k - a) % 624) t),
-          ),
+      subst (IsWhatSaid d k) (sym (cond-false (ops.index == (k - a) % 624) (OpsAt o) (Stray ops.frame ops.index) t)) (
+        ops,
+        e,
+        refl,
+        refl,
+        λ b h. subst (λ x. ops.index ≢ (k - x) % 624) (same a b (sym n ∙ h)) (eqb-false ops.index ((k - a) % 624) t),
+      ),
       tt,
     )
   where
@@ -95,8 +69,7 @@ ops_said d k a ops false n e t =
 
 -- under an anchor
 locked_said : (d : List (List ℕ)) (k a : ℕ) (r : Result Ops OpsNo) → anchor_of (take (k + 1) d) ≡ Some a
-    → reading (get_or d k []) ≡ r
-    → AllByRecursion (IsSaid d) (one_or_none (packet_note k (Some ((k - a) % 624))
+    → reading (get_or d k []) ≡ r → AllByRecursion (IsSaid d) (one_or_none (packet_note k (Some ((k - a) % 624))
     (expected_at (drop a d) (4 * ((k - a) / 4))) (stamped_before (drop a d) (k - a)) r))
 locked_said d k a (Ok ops) n e = ops_said d k a ops (ops.index == (k - a) % 624) n e refl
 locked_said d k a (Err NotOps) n e = tt
@@ -115,12 +88,7 @@ reading_said : (d : List (List ℕ)) (k : ℕ) (now : Option ℕ) → k < length
     → AllByRecursion (IsSaid d) (one_or_none (reading_note d k now))
 unfolding note_under expected_at
 reading_said d k None l n = unlocked_said d k (reading (get_or d k [])) n refl
-reading_said d k (Some a) l n =
-    let long : length (take (k + 1) d) ≡ k + 1 = length-take-le (k + 1) d (omega (arith, l)) in
-    let at : a < length (take (k + 1) d) = below (take (k + 1) d) a n in
-    let up : a + (k - a) ≡ k = omega (arith, at, long) in
-    locked_said d k a (reading (get_or (drop a d) (k - a) [])) n
-    (ap reading (ap (λ i. get_or d i []) (sym up) ∙ sym (get_or-drop a d (k - a) [])))
+reading_said d k (Some a) l n = grind (arith, length-take-le, below, locked_said, get_or-drop)
 
 -- ---- all packets
 
@@ -130,17 +98,12 @@ both P (x ∷ xs) ys h k = (h.0, both P xs ys h.1 k)
 
 packet_said : (d : List (List ℕ)) (k : ℕ) → k < length d → AllByRecursion (IsSaid d) (notes_at d k)
 unfolding notes_at
-packet_said d k l =
-    both (IsSaid d) (one_or_none (lock_note k (anchor_of (take k d)) (anchor_of (take (k + 1) d))))
-    (one_or_none (reading_note d k (anchor_of (take (k + 1) d))))
-    (lock_said d k (anchor_of (take k d)) (anchor_of (take (k + 1) d)) refl refl)
-    (reading_said d k (anchor_of (take (k + 1) d)) l refl)
+packet_said d k l = grind (arith, both, lock_said, reading_said)
 
 range_said : (P : Note → Type 0) (f : ℕ → List Note) (a n : ℕ)
     → ((k : ℕ) → a ≤ k → k < a + n → AllByRecursion P (f k)) → AllByRecursion P (flat_map f (range_with_len a n))
 range_said P f a zero h = tt
-range_said P f a (suc n) h =
-    both P (f a) (flat_map f (range_with_len (a + 1) n)) (h a (omega arith) (omega arith))
+range_said P f a (suc n) h = both P (f a) (flat_map f (range_with_len (a + 1) n)) (h a (omega arith) (omega arith))
     (range_said P f (a + 1) n (λ k l m. h k (omega arith) (omega arith)))
 
 pub all_said : (d : List (List ℕ)) → AllByRecursion (IsSaid d) (watch d)

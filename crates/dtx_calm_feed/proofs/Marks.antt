@@ -1,7 +1,7 @@
 -- An anchor of packets from a mark of them on.
 use Rattle.std.proofs.Common.{◌≡◌, inl, ℕ, ◌+◌, ◌-◌, ◌%◌, ◌<◌, ◌≤◌, ◌==◌, ◌&&◌, Bool, true, false, cond, not, Some}
-use Rattle.std.proofs.Common.{None, option_map, List, [], length, take, drop, refl, sym, ap, ap₂, ◌∙◌, arith}
-use Rattle.std.proofs.Common.{slice_index_or, slice_range, eq-eqb, eqb-true, get_or-drop, length-drop, take_all}
+use Rattle.std.proofs.Common.{None, option_map, List, [], length, take, drop, refl, sym, ap, ◌∙◌, arith, slice_index_or}
+use Rattle.std.proofs.Common.{slice_range, eq-eqb, eqb-true, get_or-drop, length-drop, take_all}
 use Rattle.std.specs.List.{take-map}
 use Rattle.std.proofs.lemmas.List.{drop-map, get_or-map}
 use Rattle.dtx_packets.specs.Packet.{sync_of}
@@ -41,18 +41,13 @@ goes_on s a x i h p l = by_due ((i - 0) % 624 == 0) refl
     idle false c = refl
 
     by_due : (t : Bool) → ((i - 0) % 624 == 0) ≡ t → ends_lock (drop x s) i 0 ≡ false
-    by_due false e =
-        ap rest e ∙ idle (not (has_mark (drop x s) i)) (not (has_mark (drop x s) (i - 624)))
+    by_due false e = ap rest e ∙ idle (not (has_mark (drop x s) i)) (not (has_mark (drop x s) (i - 624)))
     by_due true e =
         let due : i % 624 ≡ 0 = omega (arith, eqb-true ((i - 0) % 624) 0 e) in
         let at : x + (i - 624) ≡ x + i - 624 = omega (arith, due, p) in
         let same : (i - 0) % 624 ≡ (x + i - a) % 624 = omega (arith, due, steps, behind) in
         let all : a + 1 + (length s - (a + 1)) ≡ length s = omega (arith, below) in
-        ap rest (ap (λ (k : ℕ). k == 0) same)
-        ∙ ap₂ (λ y z. ((x + i - a) % 624 == 0) && not y && not z) (ap (λ (k : ℕ). k == 0xB8) (get_or-drop x s i 0))
-        (ap (λ (k : ℕ). k == 0xB8) (get_or-drop x s (i - 624) 0) ∙ ap (has_mark s) at)
-        ∙ none_ended s a (a + 1) (length s - (a + 1)) (omega arith) (ap (anchor_to s) all ∙ h.anchor_is) (x + i)
-        (omega (arith, behind, p)) (omega (arith, all, l))
+        ap rest (ap (λ (k : ℕ). k == 0) same) ∙ grind (arith, get_or-drop, none_ended, behind)
 
 from_mark : (s : List ℕ) (a x j : ℕ) → HasMarkAt s a x → 0 < j → x + j ≤ length s → anchor_to (drop x s) j ≡ Some 0
 unfolding anchor_to
@@ -62,8 +57,7 @@ from_mark s a x j h p l =
     let begins : has_mark (drop x s) 0 ≡ true =
     ap (λ (k : ℕ). k == 0xB8) (get_or-drop x s 0 0) ∙ ap (has_mark s) none ∙ h.marked in
     let first : anchor_to (drop x s) 1 ≡ Some 0 = ap (λ t. cond t (Some 0) None) begins in
-    ap (anchor_to (drop x s)) (sym e)
-    ∙ stays (drop x s) 0 1 (j - 1) first (λ i f g. goes_on s a x i h (omega (arith, f)) (omega (arith, g, l, e)))
+    ap (anchor_to (drop x s)) (sym e) ∙ stays (drop x s) 0 1 (j - 1) first (λ i f g. grind (arith, goes_on))
 
 -- ---- packets
 
@@ -72,13 +66,10 @@ pub anchor_from : (d : List (List ℕ)) (a x n : ℕ) → anchor_of d ≡ Some a
 unfolding anchor_of syncs
 anchor_from d a x n h b m k f l =
     let long : length (syncs d) ≡ length d = length-syncs d in
-    let at : has_mark (syncs d) x ≡ true =
-    ap (λ (y : ℕ). y == 0xB8) (get_or-map sync_of d x [] 0 (omega (arith, f, l)))
+    let at : has_mark (syncs d) x ≡ true = ap (λ (y : ℕ). y == 0xB8) (get_or-map sync_of d x [] 0 (omega (arith, f, l)))
     ∙ eq-eqb (sync_of (slice_index_or d x [])) 0xB8 k in
     ap anchor (sym (take-map sync_of (n - x) (drop x d)) ∙ ap (take (n - x)) (sym (drop-map sync_of x d)))
-    ∙ anchor_take (drop x (syncs d)) (n - x) (omega (arith, l, long, length-drop x (syncs d)))
-    ∙ from_mark (syncs d) a x (n - x) (record { anchor_is = h; behind = b; in_step = m; marked = at })
-    (omega (arith, f)) (omega (arith, f, l, long))
+    ∙ grind (arith, anchor_take, length-drop, from_mark)
 
 pub locked : (feed : List (List ℕ)) (m n : ℕ) → anchor_of feed ≡ Some 0 → IsMarkOf feed m → m < n → n ≤ length feed
     → IsLockedTo feed (slice_range feed m n) n
@@ -99,11 +90,9 @@ locked feed m n h k f l =
 -- an anchor is a mark
 mark_at : (d : List (List ℕ)) (a : ℕ) → anchor_of d ≡ Some a → a < length d → sync_of (slice_index_or d a []) ≡ 0xB8
 unfolding anchor_of syncs anchor
-mark_at d a h l =
-    sym (get_or-map sync_of d a [] 0 l)
+mark_at d a h l = sym (get_or-map sync_of d a [] 0 l)
     ∙ eqb-true (slice_index_or (syncs d) a 0) 0xB8 (anchor_is_mark (syncs d) (length (syncs d)) a h)
 
 pub anchor_again : (d : List (List ℕ)) (a : ℕ) → anchor_of d ≡ Some a → a < length d → anchor_of (drop a d) ≡ Some 0
-anchor_again d a h l =
-    ap anchor_of (sym (take_all (length d - a) (drop a d) (omega (arith, length-drop a d))))
+anchor_again d a h l = ap anchor_of (sym (take_all (length d - a) (drop a d) (omega (arith, length-drop a d))))
     ∙ anchor_from d a a (length d) h (omega arith) (omega arith) (mark_at d a h l) l (omega arith)

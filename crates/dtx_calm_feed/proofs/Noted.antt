@@ -1,9 +1,8 @@
 -- The notes of calm packets, and the orders of calm feeds.
-use Rattle.std.proofs.Common.{◌≡◌, ◌≢◌, ◌⊎◌, inl, inr, ℕ, ◌+◌, ◌-◌, ◌*◌, ◌/◌, ◌%◌, ◌<◌, ◌≤◌, ◌==◌, ◌&&◌, Bool, true}
-use Rattle.std.proofs.Common.{false, cond, Option, Some, None, Result, Ok, Err, List, [], ◌∷◌, ◌++◌, length, take, drop}
-use Rattle.std.proofs.Common.{get_or, refl, sym, ap, subst, ◌∙◌, arith, nat_le, length-drop}
+use Rattle.std.proofs.Common.{◌≡◌, ◌≢◌, ◌⊎◌, inl, inr, ℕ, ◌+◌, ◌-◌, ◌*◌, ◌/◌, ◌%◌, ◌<◌, ◌≤◌, ◌==◌, true, Option, Some}
+use Rattle.std.proofs.Common.{None, Result, Ok, Err, List, [], ◌∷◌, ◌++◌, length, take, drop, get_or, sym, ap, subst}
+use Rattle.std.proofs.Common.{◌∙◌, arith, length-drop}
 use Rattle.std.specs.List.{AllByRecursion}
-use Rattle.std.specs.Str.{bytes_eq}
 use Rattle.std.proofs.lemmas.Bool.{cases_lt, cond-false, cond-true}
 use Rattle.std.proofs.lemmas.List.{get_or-map, get_or_past, length-map}
 use Rattle.std.proofs.lemmas.Slice.Eq.{bytes_eq-Decides}
@@ -14,8 +13,8 @@ use Rattle.dtx_ops.specs.declared.refusal.OpsNo.{OpsNo}
 use Rattle.dtx_ops.specs.declared.refusal.OpsNo.TheVariants.{NotOps, Uncorrectable, Kind, Pad, Stamp, Delay, Index}
 use Rattle.dtx_ops.specs.declared.refusal.OpsNo.TheVariants.{Count, Twice, Fill, Page}
 use Rattle.dtx_exciter.proofs.ForceLemmas.{IsBehind, counted_behind}
-use Rattle.dtx_exciter.specs.Order.{Order, either, ordered, ordered_at, order_at, counting_order}
-use Rattle.dtx_exciter.specs.Packets.{anchor_of, readings, reads}
+use Rattle.dtx_exciter.specs.Order.{Order, either, ordered_at, order_at, counting_order}
+use Rattle.dtx_exciter.specs.Packets.{anchor_of, readings}
 use Rattle.dtx_watch.proofs.AnchorsLemmas.{below, since}
 use Rattle.dtx_watch.proofs.SoundLemmas.{reads_ok}
 use Rattle.dtx_watch.specs.Notes.{lock_note, one_or_none, ops_note, packet_note, states_note}
@@ -23,7 +22,7 @@ use Rattle.dtx_watch.proofs.ToldLemmas.{counts}
 use Rattle.dtx_watch.specs.Watch.{expected_at, expected_by, note_under, notes_at, reading_note, stamped_before}
 use Rattle.dtx_watch.specs.declared.notes.Note.{Note}
 use Rattle.dtx_watch.specs.declared.notes.StatesNote.TheVariants as states_are
-use Rattle.dtx_watch.specs.declared.notes.NoteKind.TheVariants.{Stray, Ops as OpsAt}
+use Rattle.dtx_watch.specs.declared.notes.NoteKind.TheVariants.{Ops as OpsAt}
 use Rattle.dtx_calm_feed.specs.Calm.{IsCalmFeed, IsCalmFrom, IsCalmNote, IsCalmWhat}
 use Rattle.dtx_calm_feed.proofs.Marks.{anchor_again}
 use Rattle.dtx_calm_feed.proofs.Orders.{NeverSlips}
@@ -44,29 +43,7 @@ some_same x ops e = cc
 
 pub ordered_is : (l : List (List ℕ)) (k : ℕ) (ops : Ops) → ordered_at (readings l) k ≡ Some ops → IsOrderedAt l k ops
 unfolding readings
-ordered_is l k ops e = by_place (cases_lt k (length l))
-  where
-    by_test : (x : Ops) (t : Bool) → k < length l → reads (get_or l k []) ≡ Some x → (x.index == k % 624) ≡ t
-        → cond t (Some x) None ≡ Some ops → IsOrderedAt l k ops
-    by_test x true m r t f =
-        let same : x ≡ ops = some_same x ops f in
-        record {
-          inside = m;
-          reads_so = reads_ok (get_or l k []) ops (r ∙ ap Some same);
-          at_place = ap (λ (o : Ops). o.index == k % 624) (sym same) ∙ t;
-        }
-    by_test x false m r t f = absurd (none_some ops f)
-
-    by_reading : (o : Option Ops) → k < length l → reads (get_or l k []) ≡ o → ordered (k % 624) o ≡ Some ops
-        → IsOrderedAt l k ops
-    by_reading None m r f = absurd (none_some ops f)
-    by_reading (Some x) m r f = by_test x (x.index == k % 624) m r refl f
-
-    by_place : (k < length l) ⊎ (length l ≤ k) → IsOrderedAt l k ops
-    by_place (inl m) =
-        by_reading (reads (get_or l k [])) m refl (ap (ordered (k % 624)) (sym (get_or-map reads l k [] None m)) ∙ e)
-    by_place (inr m) = absurd (none_some ops (ap (ordered (k % 624)) (sym (get_or_past (readings l) k None
-        (omega (arith, m, length-map l reads)))) ∙ e))
+ordered_is l k ops e = grind (arith, cases_lt, some_same, reads_ok, none_some, get_or-map, get_or_past, length-map)
 
 either_is : (x y : Option Ops) (ops : Ops) → either x y ≡ Some ops → (x ≡ Some ops) ⊎ (y ≡ Some ops)
 either_is None y ops e = inr e
@@ -81,33 +58,11 @@ record IsIn (l : List (List ℕ)) (i : ℕ) (ops : Ops) : Type 0 where
 
 order_in : (l : List (List ℕ)) (i : ℕ) (ops : Ops) → order_at (readings l) i ≡ Some ops → IsIn l i ops
 unfolding order_at
-order_in l i ops e = by_first (either_is (f i) _ ops e)
-  where
-    f : ℕ → Option Ops
-    f n = ordered_at (readings l) n
-
-    at : (n : ℕ) → i ≤ n → n < i + 4 → f n ≡ Some ops → IsIn l i ops
-    at n a b h = record { packet = n; from = a; within = b; is = h }
-
-    by_third : (f (i + 2) ≡ Some ops) ⊎ (f (i + 3) ≡ Some ops) → IsIn l i ops
-    by_third (inl h) = at (i + 2) (omega arith) (omega arith) h
-    by_third (inr h) = at (i + 3) (omega arith) (omega arith) h
-
-    by_second : (f (i + 1) ≡ Some ops) ⊎ (either (f (i + 2)) (f (i + 3)) ≡ Some ops) → IsIn l i ops
-    by_second (inl h) = at (i + 1) (omega arith) (omega arith) h
-    by_second (inr h) = by_third (either_is (f (i + 2)) (f (i + 3)) ops h)
-
-    by_first : (f i ≡ Some ops) ⊎ (either (f (i + 1)) (either (f (i + 2)) (f (i + 3))) ≡ Some ops) → IsIn l i ops
-    by_first (inl h) = at i (omega arith) (omega arith) h
-    by_first (inr h) = by_second (either_is (f (i + 1)) (either (f (i + 2)) (f (i + 3))) ops h)
+order_in l i ops e = grind (arith, either_is)
 
 counted_in : (l : List (List ℕ)) (i : ℕ) (ops : Ops) → counting_order (readings l) i ≡ Some ops → IsIn l i ops
 unfolding counting_order
-counted_in l i ops e = order_in l i ops (by_test (nat_le 52 i && (i % 4 == 0)) e)
-  where
-    by_test : (t : Bool) → cond t (order_at (readings l) i) None ≡ Some ops → order_at (readings l) i ≡ Some ops
-    by_test true f = f
-    by_test false f = absurd (none_some ops f)
+counted_in l i ops e = grind (arith, order_in, none_some)
 
 -- ---- calm notes
 
@@ -122,8 +77,7 @@ all_both (x ∷ xs) ys h k = (h.0, all_both xs ys h.1 k)
 
 -- what is told of packet k under the anchor, as packet j of all, where it reads so
 abbrev note_of : List (List ℕ) → ℕ → ℕ → Result Ops OpsNo → List Note
-note_of l j k r =
-    one_or_none (packet_note j (Some (k % 624)) (expected_at l (4 * (k / 4))) (stamped_before l k) r)
+note_of l j k r = one_or_none (packet_note j (Some (k % 624)) (expected_at l (4 * (k / 4))) (stamped_before l k) r)
 
 -- it is as calm as packet i of all
 by_number : (l : List (List ℕ)) (j i k : ℕ) (r : Result Ops OpsNo)
@@ -151,11 +105,7 @@ calm_under : (d : List (List ℕ)) (a k : ℕ) → anchor_of d ≡ Some a → a 
     → AllByRecursion IsCalmNote (notes_at d k)
     → AllByRecursion IsCalmNote (one_or_none (note_under (drop a d) k (k - a)))
 unfolding notes_at
-calm_under d a k h l m n =
-    subst (λ o. AllByRecursion IsCalmNote (one_or_none (reading_note d k o)))
-    (since d a (k + 1) h (omega (arith, l)) (omega (arith, m)))
-    (all_right (one_or_none (lock_note k (anchor_of (take k d)) (anchor_of (take (k + 1) d))))
-    (one_or_none (reading_note d k (anchor_of (take (k + 1) d)))) n)
+calm_under d a k h l m n = grind (arith, since, all_right)
 
 lock_calm : (k a : ℕ) (before : Option ℕ) → AllByRecursion IsCalmNote (one_or_none (lock_note k before (Some a)))
 lock_calm k a None = (tt, tt)
@@ -181,13 +131,9 @@ calm_again d a c = record {
         let now : anchor_of (take (k + 1) feed) ≡ Some 0 =
         since feed 0 (k + 1) (anchor_again d a c.anchor_is inside) (omega arith) (omega (arith, l)) in
         let own : AllByRecursion IsCalmNote (one_or_none (note_under feed k (k - 0))) =
-        number_free feed (a + k) k (k - 0) (subst (λ n. AllByRecursion IsCalmNote (one_or_none
-        (note_under feed (a + k) n))) at (calm_under d a (a + k) c.anchor_is (omega arith) m
-        (c.calm (a + k) (omega arith) m))) in
-        subst
-        (λ o. AllByRecursion IsCalmNote (one_or_none (lock_note k (anchor_of (take k feed)) o)
-        ++ one_or_none (reading_note feed k o)))
-        (sym now)
+        number_free feed (a + k) k (k - 0) (grind (arith, feed, calm_under)) in
+        subst (λ o. AllByRecursion IsCalmNote (one_or_none (lock_note k (anchor_of (take k feed)) o)
+        ++ one_or_none (reading_note feed k o))) (sym now)
         (all_both (one_or_none (lock_note k (anchor_of (take k feed)) (Some 0)))
         (one_or_none (note_under feed k (k - 0))) (lock_calm k 0 (anchor_of (take k feed))) own)
 
@@ -196,10 +142,7 @@ ops_calm : (l : List (List ℕ)) (k : ℕ) (ops : Ops) → IsOrderedAt l k ops
     → AllByRecursion IsCalmNote (one_or_none (note_under l k k))
     → IsCalmWhat (OpsAt (ops_note (expected_at l (4 * (k / 4))) (stamped_before l k) ops))
 unfolding note_under
-ops_calm l k ops o h =
-    subst IsCalmWhat (cond-true (ops.index == k % 624)
-    (OpsAt (ops_note (expected_at l (4 * (k / 4))) (stamped_before l k) ops)) (Stray ops.frame ops.index) o.at_place)
-    (subst (λ r. AllByRecursion IsCalmNote (note_of l k k r)) o.reads_so h).0
+ops_calm l k ops o h = grind (arith, cond-true)
 
 -- the states that the coders have before the group from i on, from this order on
 abbrev states_from : List (List ℕ) → ℕ → Order → List ℕ
@@ -207,14 +150,7 @@ states_from l i order = states_since (order.place / 4) order.ops.states (take i 
 
 states_right : (l : List (List ℕ)) (i : ℕ) (order : Order) (older : List Order) (ops : Ops)
     → states_note (expected_by l i (order ∷ older)) ops ≢ states_are.Slip → ops.states ≡ states_from l i order
-states_right l i order older ops h = by_test (bytes_eq ops.states q) refl
-  where
-    q : List ℕ
-    q = states_from l i order
-
-    by_test : (t : Bool) → bytes_eq ops.states q ≡ t → ops.states ≡ q
-    by_test true e = let d = bytes_eq-Decides ops.states q in d.0 e
-    by_test false e = absurd (h (cond-false (bytes_eq ops.states q) states_are.Right states_are.Slip e))
+states_right l i order older ops h = grind (arith, bytes_eq-Decides, cond-false)
 
 -- what is told of an operations packet of a calm feed at its place
 pub ordered_calm : (feed : List (List ℕ)) (k : ℕ) (ops : Ops) → IsCalmFeed feed
@@ -222,8 +158,7 @@ pub ordered_calm : (feed : List (List ℕ)) (k : ℕ) (ops : Ops) → IsCalmFeed
     → IsCalmWhat (OpsAt (ops_note (expected_at feed (4 * (k / 4))) (stamped_before feed k) ops))
 ordered_calm feed k ops c e =
     let o : IsOrderedAt feed k ops = ordered_is feed k ops e in
-    let less : k - 0 ≡ k = omega arith in
-    ops_calm feed k ops o (subst (λ n. AllByRecursion IsCalmNote (one_or_none (note_under feed k n))) less
+    ops_calm feed k ops o (subst (λ n. AllByRecursion IsCalmNote (one_or_none (note_under feed k n))) (omega arith)
     (calm_under feed 0 k c.anchor_is (omega arith) o.inside (c.calm k o.inside)))
 
 pub never_slips : (feed : List (List ℕ)) → IsCalmFeed feed → NeverSlips feed
@@ -235,7 +170,6 @@ never_slips feed c = λ i ops order older e l f.
     let within = x.within in
     let whole = b.whole in
     let group : 4 * (k / 4) ≡ i = omega (arith, from, within, whole) in
-    states_right feed i order older ops
-    (subst (λ z. states_note z ops ≢ states_are.Slip)
+    states_right feed i order older ops (subst (λ z. states_note z ops ≢ states_are.Slip)
     (ap (expected_at feed) group ∙ counts feed i b.flushed l ∙ ap (expected_by feed i) f)
     (ordered_calm feed k ops c x.is).0)

@@ -7,8 +7,7 @@ use Rattle.std.specs.List.{cons_option}
 use Rattle.dtx_coder.specs.Along.{states_since}
 use Rattle.dtx_ops.specs.declared.fields.Ops.{Ops}
 use Rattle.dtx_exciter.specs.Emission.{segments_since}
-use Rattle.dtx_exciter.proofs.ForceLemmas.{IsBehind, Stands, counted_behind, force_first, force_more, force_next}
-use Rattle.dtx_exciter.proofs.ForceLemmas.{force_stands}
+use Rattle.dtx_exciter.proofs.ForceLemmas.{Stands, counted_behind, force_first, force_more, force_next, force_stands}
 use Rattle.dtx_exciter.specs.Order.{Order, counting_order, orders, placed}
 use Rattle.dtx_exciter.specs.Packets.{readings}
 use Rattle.dtx_calm_feed.specs.Own.{IsFirstOrder, own_by, own_data}
@@ -23,8 +22,7 @@ NeverSlips l = (i : ℕ) (ops : Ops) (order : Order) (older : List Order) → co
 -- the feed's own data segments of the group from i on are those under the latest of these orders
 abbrev IsOwn : List (List ℕ) → ℕ → List Order → Type 0
 IsOwn l i [] = ⊤
-IsOwn l i (order ∷ older) =
-    own_by l i (order ∷ older) ≡ segments_since (order.place / 4) order.ops.states l (i / 4)
+IsOwn l i (order ∷ older) = own_by l i (order ∷ older) ≡ segments_since (order.place / 4) order.ops.states l (i / 4)
 
 own_next : (l : List (List ℕ)) (i k : ℕ) (o : Option Ops) (rest : List Order) → NeverSlips l → k % 4 ≡ 0 → 4 ≤ k
     → k ≤ i → i % 4 ≡ 0 → i + 4 ≤ length l → counting_order (readings l) k ≡ o → orders (readings l) (k - 4) ≡ rest
@@ -35,12 +33,7 @@ own_next l i k (Some ops) (order ∷ older) r w f a b c e g h =
     let s : Stands (readings l) (k - 4 + 1) order = force_stands (readings l) (k - 4) order older g in
     let below = s.below in
     let at : 4 * (k / 4) ≡ k = omega (arith, w) in
-    h
-    ∙ segments_on l (order.place / 4) (k / 4) (i / 4) order.ops.states (omega (arith, below, f)) (omega (arith, a))
-    (omega (arith, at, a, c))
-    ∙ ap (λ q. segments_since (k / 4) q l (i / 4))
-    (ap (λ n. states_since (order.place / 4) order.ops.states (take n l)) at
-    ∙ sym (r k ops order older e (omega (arith, a, c)) g))
+    h ∙ grind (arith, segments_on)
 
 own_so_far : (l : List (List ℕ)) (i c : ℕ) → NeverSlips l → 4 * c ≤ i → i % 4 ≡ 0 → i + 4 ≤ length l
     → IsOwn l i (orders (readings l) (4 * c))
@@ -50,8 +43,7 @@ own_so_far l i (suc c) r a b h =
     let less : 4 * suc c - 4 ≡ 4 * c = omega arith in
     subst (IsOwn l i) (sym (force_more (readings l) k (omega arith) (omega arith)))
     (own_next l i k (counting_order (readings l) k) (orders (readings l) (k - 4)) r (omega arith) (omega arith) a b h
-    refl refl
-    (subst (λ n. IsOwn l i (orders (readings l) n)) (sym less) (own_so_far l i c r (omega (arith, a)) b h)))
+    refl refl (subst (λ n. IsOwn l i (orders (readings l) n)) (sym less) (own_so_far l i c r (omega (arith, a)) b h)))
 
 -- ---- more orders
 
@@ -68,8 +60,7 @@ first_next l i k own (Some ops) (order ∷ older) h = h
 
 first_stays : (l : List (List ℕ)) (i p c : ℕ) (own : List (List ℤ)) → p % 4 ≡ 0
     → HasFirst l i own (orders (readings l) p) → HasFirst l i own (orders (readings l) (p + 4 * c))
-first_stays l i p zero own w h = let e : p ≡ p + 4 * 0 = omega arith in
-    subst (λ n. HasFirst l i own (orders (readings l) n)) e h
+first_stays l i p zero own w h = grind arith
 first_stays l i p (suc c) own w h =
     let k : ℕ = p + 4 * suc c in
     let less : p + 4 * c ≡ p + 4 * suc c - 4 = omega arith in
@@ -84,11 +75,7 @@ is_own l i own (order ∷ older) h = h
 -- the orders up to that of the group at p
 pub here : (l : List (List ℕ)) (p : ℕ) (ops : Ops) → counting_order (readings l) p ≡ Some ops
     → orders (readings l) p ≡ record { place = p; ops = ops } ∷ orders (readings l) (p - 4)
-here l p ops e =
-    let b : IsBehind p = counted_behind (readings l) p ops e in
-    let far = b.flushed in
-    force_more (readings l) p b.whole (omega (arith, far))
-    ∙ ap (λ o. cons_option (placed p o) (orders (readings l) (p - 4))) e
+here l p ops e = grind (arith, counted_behind, force_more)
 
 -- the feed's own data segments are those under any of its orders
 pub own_since : (l : List (List ℕ)) (p i : ℕ) (ops : Ops) → NeverSlips l → counting_order (readings l) p ≡ Some ops
@@ -101,8 +88,7 @@ own_since l p i ops r e a b h =
     let these : IsOwn l i (orders (readings l) p) =
     subst (λ n. IsOwn l i (orders (readings l) n)) at (own_so_far l i (p / 4) r (omega (arith, at, a)) b h) in
     let own : HasFirst l i (segments_since (p / 4) ops.states l (i / 4)) (orders (readings l) p) =
-    subst (HasFirst l i (segments_since (p / 4) ops.states l (i / 4))) (sym (here l p ops e))
-    (subst (IsOwn l i) (here l p ops e) these) in
+    subst (HasFirst l i (segments_since (p / 4) ops.states l (i / 4))) (sym (here l p ops e)) (grind (arith, here)) in
     ap (λ n. own_by l i (orders (readings l) n)) (sym up)
     ∙ is_own l i (segments_since (p / 4) ops.states l (i / 4)) (orders (readings l) (p + 4 * ((i - p) / 4)))
     (first_stays l i p ((i - p) / 4) (segments_since (p / 4) ops.states l (i / 4)) w own)
@@ -112,18 +98,13 @@ own_since l p i ops r e a b h =
 none_so_far : (l : List (List ℕ)) (n : ℕ) → ((g : ℕ) → g ≤ n → counting_order (readings l) g ≡ None)
     → orders (readings l) n ≡ []
 none_so_far l zero h = force_first (readings l)
-none_so_far l (suc n) h =
-    force_next (readings l) n (suc n) (omega arith)
+none_so_far l (suc n) h = force_next (readings l) n (suc n) (omega arith)
     ∙ ap₂ (λ o rest. cons_option (placed (suc n) o) rest) (h (suc n) (omega arith))
     (none_so_far l n (λ g m. h g (omega (arith, m))))
 
 pub first_here : (l : List (List ℕ)) (first : Order) → IsFirstOrder l first
     → orders (readings l) first.place ≡ first ∷ []
-first_here l first f =
-    let b : IsBehind first.place = counted_behind (readings l) first.place first.ops f.counts in
-    let far = b.flushed in
-    here l first.place first.ops f.counts
-    ∙ ap (λ rest. first ∷ rest) (none_so_far l (first.place - 4) (λ g m. f.first g (omega (arith, m, far))))
+first_here l first f = grind (arith, counted_behind, here, none_so_far)
 
 -- the feed's own data segments are those from its first order on
 pub own_first : (l : List (List ℕ)) (i : ℕ) (first : Order) → IsFirstOrder l first → i % 4 ≡ 0 → first.place ≤ i
@@ -135,8 +116,7 @@ own_first l i first f a m =
     let own : List (List ℤ) = segments_since (first.place / 4) first.ops.states l (i / 4) in
     ap (λ n. own_by l i (orders (readings l) n)) (sym up)
     ∙ is_own l i own (orders (readings l) (first.place + 4 * ((i - first.place) / 4)))
-    (first_stays l i first.place ((i - first.place) / 4) own w
-    (subst (HasFirst l i own) (sym (first_here l first f)) refl))
+    (first_stays l i first.place ((i - first.place) / 4) own w (grind (arith, first_here)))
 
 -- ---- the latest order
 
@@ -155,10 +135,9 @@ later_on : (l : List (List ℕ)) (p c : ℕ) → p % 4 ≡ 0 → IsNotBefore p (
 later_on l p zero w h = let e : p ≡ p + 4 * 0 = omega arith in subst (λ n. IsNotBefore p (orders (readings l) n)) e h
 later_on l p (suc c) w h =
     let k : ℕ = p + 4 * suc c in
-    let less : p + 4 * c ≡ p + 4 * suc c - 4 = omega arith in
     subst (IsNotBefore p) (sym (force_more (readings l) k (omega (arith, w)) (omega arith)))
     (later_next p k (counting_order (readings l) k) (orders (readings l) (k - 4)) (omega arith)
-    (subst (λ n. IsNotBefore p (orders (readings l) n)) less (later_on l p c w h)))
+    (subst (λ n. IsNotBefore p (orders (readings l) n)) (omega arith) (later_on l p c w h)))
 
 -- behind an order the latest one is that or a later one
 pub later : (l : List (List ℕ)) (p i : ℕ) (ops : Ops) → counting_order (readings l) p ≡ Some ops → p ≤ i → i % 4 ≡ 0
@@ -167,5 +146,4 @@ later l p i ops e m a =
     let w : p % 4 ≡ 0 = (counted_behind (readings l) p ops e).whole in
     let up : p + 4 * ((i - p) / 4) ≡ i = omega (arith, w, a, m) in
     let same : p ≤ p = omega arith in
-    subst (λ n. IsNotBefore p (orders (readings l) n)) up
-    (later_on l p ((i - p) / 4) w (subst (IsNotBefore p) (sym (here l p ops e)) same))
+    subst (λ n. IsNotBefore p (orders (readings l) n)) up (later_on l p ((i - p) / 4) w (grind (arith, here)))

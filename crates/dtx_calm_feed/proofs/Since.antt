@@ -28,43 +28,28 @@ bytes_on w g h l m =
     let front : List (List ℕ) = take (4 * h) w in
     let long : length front ≡ 4 * h = length-take-le (4 * h) w m in
     let same : front ++ drop (4 * h) w ≡ w = take-append-drop (4 * h) w in
-    ap (λ x. drop (828 * g) (whole_groups x)) (sym same)
-    ∙ ap (drop (828 * g)) (whole_append front (drop (4 * h) w) h long
-    ∙ ap (λ x. whole_groups front ++ drop (828 * h) (whole_groups x)) same)
-    ∙ drop-append-le (828 * g) (whole_groups front) (drop (828 * h) (whole_groups w))
+    grind (arith, whole_append) ∙ drop-append-le (828 * g) (whole_groups front) (drop (828 * h) (whole_groups w))
     (omega (arith, l, long, length-whole front))
 
 length-between : (w : List (List ℕ)) (g h : ℕ) → g ≤ h → 4 * h ≤ length w → length (between w g h) ≡ 828 * (h - g)
-length-between w g h l m =
-    let front : List (List ℕ) = take (4 * h) w in
-    omega (
-      arith,
-      l,
-      length-take-le (4 * h) w m,
-      length-whole front,
-      length-drop (828 * g) (whole_groups front),
-    )
+length-between w g h l m = grind (arith, length-take-le, length-whole, length-drop)
 
 place_on : (g h : ℕ) → g ≤ h → group_place (4 * g % 312) (h - g) ≡ 4 * h % 312
 unfolding group_place
 place_on g h l = let e : (4 * g % 312 + 4 * (h - g)) % 312 ≡ 4 * h % 312 = omega (arith, l) in e
 
-levels_on : (w : List (List ℕ)) (g h : ℕ) (q : List ℕ) → g ≤ h → 4 * h ≤ length w
-    → levels_since g q w
+levels_on : (w : List (List ℕ)) (g h : ℕ) (q : List ℕ) → g ≤ h → 4 * h ≤ length w → levels_since g q w
     ≡ levels_since g q (take (4 * h) w) ++ levels_since h (states_since g q (take (4 * h) w)) w
 unfolding levels_since states_since
-levels_on w g h q l m =
-    let s : ℕ = 4 * g % 312 in
-    ap (levels_of s q) (bytes_on w g h l m)
-    ∙ levels_append s (h - g) q (between w g h) (drop (828 * h) (whole_groups w)) (length-between w g h l m)
-    ∙ ap (λ k. levels_of s q (between w g h)
-    ++ levels_of k (states_after s q (between w g h)) (drop (828 * h) (whole_groups w))) (place_on g h l)
+levels_on w g h q l m = ap (levels_of (4 * g % 312) q) (bytes_on w g h l m)
+    ∙ levels_append (4 * g % 312) (h - g) q (between w g h) (drop (828 * h) (whole_groups w)) (length-between w g h l m)
+    ∙ ap (λ k. levels_of (4 * g % 312) q (between w g h)
+    ++ levels_of k (states_after (4 * g % 312) q (between w g h)) (drop (828 * h) (whole_groups w))) (place_on g h l)
 
 length-levels_between : (w : List (List ℕ)) (g h : ℕ) (q : List ℕ) → g ≤ h → 4 * h ≤ length w
     → length (levels_since g q (take (4 * h) w)) ≡ 828 * (4 * (h - g))
 unfolding levels_since
-length-levels_between w g h q l m =
-    length-levels_of (4 * g % 312) q (between w g h) (h - g) (length-between w g h l m)
+length-levels_between w g h q l m = length-levels_of (4 * g % 312) q (between w g h) (h - g) (length-between w g h l m)
     ∙ (let e : 3312 * (h - g) ≡ 828 * (4 * (h - g)) = omega arith in e)
 
 -- the data segments of group u, where the coders are preset with the states that they have
@@ -72,9 +57,8 @@ pub segments_on : (w : List (List ℕ)) (g h u : ℕ) (q : List ℕ) → g ≤ h
     → segments_since g q w u ≡ segments_since h (states_since g q (take (4 * h) w)) w u
 unfolding segments_since
 segments_on w g h u q l k m =
-    let e : 4 * (u - g) ≡ 4 * (h - g) + 4 * (u - h) = omega (arith, l, k) in
     let front : List (List ℕ) = take (4 * h) w in
-    ap₂ four_segments (levels_on w g h q l m) e
+    ap₂ four_segments (levels_on w g h q l m) (omega (arith, l, k))
     ∙ four_behind (levels_since g q front) (levels_since h (states_since g q front) w) (4 * (h - g)) (4 * (u - h))
     (length-levels_between w g h q l m)
 
@@ -91,10 +75,7 @@ segments_mark : (a s : List (List ℕ)) (y j : ℕ) (q : List ℕ) → length a 
     → y % 4 ≡ 0 → y ≤ j → j % 4 ≡ 0
     → segments_since ((length a + y) / 4) q (a ++ s) ((length a + j) / 4) ≡ segments_since (y / 4) q s (j / 4)
 unfolding segments_since
-segments_mark a s y j q m w l e k f =
-    let n : 4 * ((length a + j) / 4 - (length a + y) / 4) ≡ 4 * (j / 4 - y / 4) = omega (arith, m, e, k, f) in
-    let g : 4 * ((length a + y) / 4) ≡ length a + y = omega (arith, m, e) in
-    ap₂ four_segments (levels_mark a s y ((length a + y) / 4) q m w l e g) n
+segments_mark a s y j q m w l e k f = grind (arith, levels_mark)
 
 -- whole groups of a feed's packets l, from its mark x to n, where an order stands y packets behind the mark and a group
 -- at j or further behind it
@@ -112,6 +93,7 @@ pub record IsPart (l : List (List ℕ)) (x n y j : ℕ) : Type 0 where
 pub segments_part : (l : List (List ℕ)) (x n y j : ℕ) (q : List ℕ) → IsPart l x n y j
     → segments_since (y / 4) q (slice_range l x n) (j / 4) ≡ segments_since ((x + y) / 4) q l ((x + j) / 4)
 segments_part l x n y j q p =
+    let a : List (List ℕ) = take x l in
     sym (ap (λ (k : ℕ). segments_since ((k + y) / 4) q (a ++ s) ((k + j) / 4)) (sym la)
     ∙ segments_mark a s y j q (omega (arith, la, p1)) (omega (arith, ls, p3)) p.flushed p.order p.later p.group)
     ∙ ap (λ z. segments_since ((x + y) / 4) q z ((x + j) / 4)) parts
@@ -119,9 +101,6 @@ segments_part l x n y j q p =
     (omega (arith, p6)) (omega (arith, p1, p3, p7, p8)))
     ∙ ap (λ z. segments_since ((x + y) / 4) q z ((x + j) / 4)) (take-append-drop n l)
   where
-    a : List (List ℕ)
-    a = take x l
-
     s : List (List ℕ)
     s = slice_range l x n
 
@@ -160,10 +139,4 @@ segments_part l x n y j q p =
 pub segments_held : (base l : List (List ℕ)) (x n y j : ℕ) (q : List ℕ) → length base % 624 ≡ 0 → IsPart l x n y j
     → segments_since ((length base + y) / 4) q (base ++ slice_range l x n) ((length base + j) / 4)
     ≡ segments_since ((x + y) / 4) q l ((x + j) / 4)
-segments_held base l x n y j q m p =
-    let w = p.whole in
-    let h = p.inside in
-    let long : length (slice_range l x n) ≡ n - x =
-    length-take-le (n - x) (drop x l) (omega (arith, h, length-drop x l)) in
-    segments_mark base (slice_range l x n) y j q m (omega (arith, long, w)) p.flushed p.order p.later p.group
-    ∙ segments_part l x n y j q p
+segments_held base l x n y j q m p = grind (arith, length-take-le, length-drop, segments_mark, segments_part)

@@ -1,13 +1,12 @@
 -- A sound feed, from any of its marks on, is a calm one.
 use Rattle.std.proofs.Common.{◌≡◌, ℕ, ◌+◌, ◌-◌, ◌%◌, ◌<◌, ◌==◌, Bool, true, false, cond, Some, Result, Ok, Err, List}
-use Rattle.std.proofs.Common.{[], ◌∷◌, length, drop, get_or, refl, sym, ap, subst, ◌∙◌, arith}
+use Rattle.std.proofs.Common.{[], ◌∷◌, length, drop, refl, sym, ap, subst, ◌∙◌, arith}
 use Rattle.std.specs.List.{AllByRecursion}
 use Rattle.std.proofs.lemmas.List.{get_or-drop, get_or-map, length-drop, take_all}
 use Rattle.dtx_packets.specs.Packet.{sync_of}
 use Rattle.dtx_cadence.specs.Anchor.{anchor}
 use Rattle.dtx_cadence.proofs.AnchoredLemmas.{anchored}
 use Rattle.dtx_cadence.specs.Cadence.{IsAnchored, IsMarked}
-use Rattle.dtx_ops.specs.Reading.{reading}
 use Rattle.dtx_ops.specs.declared.fields.Ops.{Ops}
 use Rattle.dtx_ops.specs.declared.refusal.OpsNo.{OpsNo}
 use Rattle.dtx_exciter.specs.Packets.{anchor_of, syncs}
@@ -24,10 +23,9 @@ marked : (start most mark : ℕ) (f : List (List ℕ)) → IsSoundFeed start mos
     → IsMarked (syncs (drop mark f))
 unfolding syncs
 marked start most mark f s z = λ k l.
-    let d : List (List ℕ) = drop mark f in
-    let w : k < length d = omega (arith, l, length-syncs d) in
+    let w : k < length (drop mark f) = omega (arith, l, length-syncs (drop mark f)) in
     let same : (mark + k) % 624 ≡ k % 624 = omega (arith, z) in
-    ap (λ (b : ℕ). b == 0xB8) (get_or-map sync_of d k [] 0 w ∙ ap sync_of (get_or-drop mark f k []))
+    ap (λ (b : ℕ). b == 0xB8) (get_or-map sync_of (drop mark f) k [] 0 w ∙ ap sync_of (get_or-drop mark f k []))
     ∙ s.marks (mark + k) (omega (arith, w, length-drop mark f)) ∙ ap (λ (n : ℕ). n == 0) same
 
 anchor_is : (start most mark : ℕ) (f : List (List ℕ)) → IsSoundFeed start most f → mark % 624 ≡ 0 → mark < length f
@@ -40,8 +38,7 @@ anchor_is start most mark f s z l =
     let a : IsAnchored [] e 0 = anchored [] e (marked start most mark f s z) (omega (arith, l, long)) none in
     let w = a.within in
     let first : a.place ≡ 0 = omega (arith, w) in
-    ap anchor (sym (take_all (length e - 1 + 1) e (omega (arith, l, long))))
-    ∙ a.holds (length e - 1) (omega arith) (omega (arith, l, long)) ∙ ap Some first
+    ap anchor (grind (arith, take_all)) ∙ a.holds (length e - 1) (omega arith) (omega (arith, l, long)) ∙ ap Some first
 
 lock_calm : (t : Bool) → AllByRecursion IsCalmNote (cond t ((record { packet = 0; what = Lock }) ∷ []) [])
 lock_calm true = (tt, tt)
@@ -64,7 +61,4 @@ sound_is_calm start most mark f s z l = record {
 }
   where
     calm_at : (k : ℕ) → IsCalmAt (drop mark f) k → AllByRecursion IsCalmNote (notes_at (drop mark f) k)
-    calm_at k c =
-        let lock : List Note = cond (k == 0) ((record { packet = 0; what = Lock }) ∷ []) [] in
-        subst (AllByRecursion IsCalmNote) (sym c.2)
-        (all_both lock c.0 (lock_calm (k == 0)) (notes_calm k (reading (get_or (drop mark f) k [])) c.0 c.1))
+    calm_at k c = grind (arith, all_both, lock_calm, notes_calm)

@@ -7,7 +7,7 @@ use Rattle.std.proofs.lemmas.List.Sums.{sum_by-cons}
 use Rattle.dtx_watch.specs.Watch.{notes_at, notes_to, watch}
 use Rattle.dtx_watch.specs.WatchLines.{first_word, lines_with, note_words}
 use Rattle.dtx_watch.proofs.WatchLinesLemmas.{words_of-watch_text}
-use Rattle.dtx_watch.specs.WatchText.{clock_word, states_word, watch_text}
+use Rattle.dtx_watch.specs.WatchText.{watch_text}
 use Rattle.dtx_watch.specs.declared.notes.Note.{Note}
 use Rattle.dtx_watch.specs.declared.notes.NoteKind.{NoteKind}
 use Rattle.dtx_watch.specs.declared.notes.NoteKind.TheVariants.{Lock, Lost, Unread, Stray, Ops as OpsAt}
@@ -28,8 +28,7 @@ none_here p note notes false e f more = (e, more (omega (arith, f)))
 none_counted : (p : List (List ℕ) → Bool) (notes : List Note) → count_by p (map note_words notes ++ ends) ≡ 0
     → AllByRecursion (λ n. p (note_words n) ≡ false) notes
 none_counted p [] e = tt
-none_counted p (note ∷ notes) e =
-    none_here p note notes (p (note_words note)) refl
+none_counted p (note ∷ notes) e = none_here p note notes (p (note_words note)) refl
     (sym (sum_by-cons (λ ws. cond (p ws) 1 0) (note_words note) (map note_words notes ++ ends)) ∙ e)
     (λ f. none_counted p notes f)
 
@@ -40,8 +39,7 @@ HasNot place word note = bytes_eq (slice_index_or (note_words note) place []) wo
 none_with : (place : ℕ) (word : List ℕ) (notes : List Note) → lines_with place word (watch_text notes) ≡ 0
     → AllByRecursion (HasNot place word) notes
 unfolding lines_with
-none_with place word notes e =
-    none_counted (λ words. bytes_eq (slice_index_or words place []) word) notes
+none_with place word notes e = none_counted (λ words. bytes_eq (slice_index_or words place []) word) notes
     (ap (count_by (λ words. bytes_eq (slice_index_or words place []) word)) (sym (words_of-watch_text notes)) ∙ e)
 
 -- ---- one note
@@ -57,10 +55,7 @@ what_calm k Lock a b c d e = tt
 what_calm k Lost a b c d e = true_false a
 what_calm k (Unread refusal) a b c d e = true_false b
 what_calm k (Stray frame index) a b c d e = true_false c
-what_calm k (OpsAt o) a b c d e = (
-  λ slip. true_false (ap (λ s. bytes_eq (states_word s) (codes "slip")) (sym slip) ∙ d),
-  λ jump. true_false (ap (λ s. bytes_eq (clock_word s) (codes "jump")) (sym jump) ∙ e),
-)
+what_calm k (OpsAt o) a b c d e = grind (arith, true_false)
 
 all_calm : (notes : List Note) → AllByRecursion (HasNot 0 (codes "lost")) notes
     → AllByRecursion (HasNot 0 (codes "unread")) notes → AllByRecursion (HasNot 0 (codes "stray")) notes
@@ -91,16 +86,11 @@ all_next P f a k rest h more (inr g) = more (right P (f a) rest h) g
 pub all_at : (P : Note → Type 0) (f : ℕ → List Note) (a n k : ℕ)
     → AllByRecursion P (flat_map f (range_with_len a n)) → a ≤ k → k < a + n → AllByRecursion P (f k)
 all_at P f a zero k h l m = absurd (omega (arith, l, m))
-all_at P f a (suc n) k h l m =
-    all_next P f a k (flat_map f (range_with_len (a + 1) n)) h
+all_at P f a (suc n) k h l m = all_next P f a k (flat_map f (range_with_len (a + 1) n)) h
     (λ rest g. all_at P f (a + 1) n k rest g (omega (arith, m))) (first_or a k l)
 
 pub text_calm : (packets : List (List ℕ)) (k : ℕ) → IsCalmText (watch_text (watch packets)) → k < length packets
     → AllByRecursion IsCalmNote (notes_at packets k)
 unfolding notes_to
-text_calm packets k t l =
-    all_at IsCalmNote (notes_at packets) 0 (length packets) k
-    (all_calm (watch packets) (none_with 0 (codes "lost") (watch packets) t.lost)
-    (none_with 0 (codes "unread") (watch packets) t.unread) (none_with 0 (codes "stray") (watch packets) t.stray)
-    (none_with 7 (codes "slip") (watch packets) t.slips) (none_with 8 (codes "jump") (watch packets) t.jumps))
+text_calm packets k t l = all_at IsCalmNote (notes_at packets) 0 (length packets) k (grind (arith, all_calm, none_with))
     (omega arith) (omega (arith, l))

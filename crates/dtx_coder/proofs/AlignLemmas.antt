@@ -18,8 +18,6 @@ in_turn coder (g ∷ gs) =
 pub behind_groups : (coder : Coding) (groups : List Group) → HasWidths 52 (spreading 4) coder.branches
     → IsInterleavedBehind 52 4 coder.branches.lists (coded_groups groups)
     (bytes_of_groups (aligned_coding coder) groups)
-behind_groups coder groups w =
-    subst (λ ys. IsInterleavedBehind 52 4 coder.branches.lists (coded_groups groups) ys)
-    (sym (in_turn (aligned_coding coder) groups))
-    (behind 52 4 (aligned coder.branches) (coded_groups groups)
+behind_groups coder groups w = subst (λ ys. IsInterleavedBehind 52 4 coder.branches.lists (coded_groups groups) ys)
+    (sym (in_turn (aligned_coding coder) groups)) (behind 52 4 (aligned coder.branches) (coded_groups groups)
     (HasWidths-aligned 52 (spreading 4) coder.branches w) refl)

@@ -1,6 +1,6 @@
 -- A coder that runs along with a stream from an align.
 use Rattle.std.proofs.Common.{◌≡◌, ℕ, ◌+◌, ◌-◌, ◌*◌, ◌/◌, ◌%◌, ◌<◌, ◌≤◌, cond, List, [], ◌∷◌, ◌++◌, length, drop}
-use Rattle.std.proofs.Common.{get_or, refl, sym, ap, ap₂, subst, ◌∙◌, arith, zero-add}
+use Rattle.std.proofs.Common.{get_or, refl, sym, ap, ap₂, ◌∙◌, arith, zero-add}
 use Rattle.std.proofs.lemmas.List.{drop-append-le, drop_all, length-append, length-drop}
 use Rattle.std.proofs.lemmas.List.FromFn.{fill_by_all}
 use Rattle.dtx_laws.specs.Branches.{Branching, HasWidths, spreading, aligned, leaving_all, after_all}
@@ -27,25 +27,16 @@ use Rattle.dtx_coder.proofs.RunsLemmas.{levels_at, states_at, last_after}
 length-left : (held : Branching) (g : ℕ) (packets : List (List ℕ))
     → length (left_since held g packets) ≡ 207 * length packets - 828 * g
 unfolding left_since
-length-left held g packets =
-    length-drop (828 * g) (leaving_all 52 (aligned held) (coded packets))
-    ∙ ap (λ (n : ℕ). n - 828 * g) (length_leaving 52 (aligned held) (coded packets) ∙ length-coded 0 packets)
+length-left held g packets = grind (arith, length-drop, length_leaving, length-coded)
 
 coded_more : (packets qs : List (List ℕ)) → coded (packets ++ qs) ≡ coded packets ++ coded_from (length packets) qs
-coded_more packets qs = coded_append 0 packets qs
-    ∙ ap (λ k. coded packets ++ coded_from k qs) (zero-add (length packets))
+coded_more packets qs = grind (arith, coded_append, zero-add)
 
 left_more : (held : Branching) (g : ℕ) (packets qs : List (List ℕ)) → 828 * g ≤ 207 * length packets
     → left_since held g (packets ++ qs) ≡ left_since held g packets
     ++ leaving_all 52 (after_all 52 (aligned held) (coded packets)) (coded_from (length packets) qs)
 unfolding left_since
-left_more held g packets qs l =
-    ap (drop (828 * g))
-    (ap (leaving_all 52 (aligned held)) (coded_more packets qs)
-    ∙ leaving_append 52 (aligned held) (coded packets) (coded_from (length packets) qs))
-    ∙ drop-append-le (828 * g) (leaving_all 52 (aligned held) (coded packets))
-    (leaving_all 52 (after_all 52 (aligned held) (coded packets)) (coded_from (length packets) qs))
-    (omega (arith, l, length_leaving 52 (aligned held) (coded packets), length-coded 0 packets))
+left_more held g packets qs l = grind (arith, coded_more, leaving_append, drop-append-le, length_leaving, length-coded)
 
 interleaved_whole : (packets : List (List ℕ)) (u : ℕ) → length packets ≡ 4 * u
     → interleaved 52 4 (coded packets) ≡ whole_groups packets
@@ -53,8 +44,7 @@ unfolding spread
 interleaved_whole packets u e = sym (whole_is packets u e)
 
 left_settled : (held : Branching) (g u : ℕ) (packets : List (List ℕ)) → HasWidths 52 (spreading 4) held → 52 ≤ 4 * g
-    → length packets ≡ 4 * u
-    → left_since held g packets ≡ drop (828 * g) (whole_groups packets)
+    → length packets ≡ 4 * u → left_since held g packets ≡ drop (828 * g) (whole_groups packets)
 unfolding left_since
 left_settled held g u packets w l e = drop_settled held (coded packets) (828 * g) w (omega (arith, l))
     ∙ ap (drop (828 * g)) (interleaved_whole packets u e)
@@ -99,15 +89,13 @@ record Step (packets : List (List ℕ)) (g u v : ℕ) (q p : List ℕ) (coder : 
 codewords_next : (packets : List (List ℕ)) (g u v : ℕ) (q p : List ℕ) (coder : Coding) (group : Group)
     (held : Branching) → Step packets g u v q p coder group held
     → coded_from group.first group.packets ≡ coded_from (length packets) group.packets
-codewords_next packets g u v q p coder group held s =
-    coded_place group.first (length packets) group.packets (let a = s.next.place in omega (arith, a))
+codewords_next packets g u v q p coder group held s = grind (arith, coded_place)
 
 bytes_next : (packets : List (List ℕ)) (g u v : ℕ) (q p : List ℕ) (coder : Coding) (group : Group) (held : Branching)
     → Step packets g u v q p coder group held
     → left_since held g (packets ++ group.packets) ≡ left_since held g packets ++ bytes_of coder group
 unfolding bytes_of
-bytes_next packets g u v q p coder group held s =
-    left_more held g packets group.packets (let a = s.whole in let b = s.since in omega (arith, a, b))
+bytes_next packets g u v q p coder group held s = left_more held g packets group.packets (grind arith)
     ∙ ap (λ z. left_since held g packets ++ z) (ap₂ (leaving_all 52) (sym s.branches)
     (sym (codewords_next packets g u v q p coder group held s)))
 
@@ -116,28 +104,23 @@ place_next : (packets : List (List ℕ)) (g u v : ℕ) (q p : List ℕ) (coder :
 place_next packets g u v q p coder group held s = s.next.place ∙ ap (λ (k : ℕ). k % 312) s.whole
 
 levels_next : (packets : List (List ℕ)) (g u v : ℕ) (q p : List ℕ) (coder : Coding) (group : Group) (held : Branching)
-    → Step packets g u v q p coder group held
-    → levels_of (4 * g % 312) q (left_since held g packets)
+    → Step packets g u v q p coder group held → levels_of (4 * g % 312) q (left_since held g packets)
     ++ group_levels coder group ≡ levels_of (4 * g % 312) q (left_since held g (packets ++ group.packets))
-levels_next packets g u v q p coder group held s =
-    ap (λ z. levels_of (4 * g % 312) q (left_since held g packets)
-    ++ z) (levels_at coder group (4 * u % 312) p (place_next packets g u v q p coder group held s) s.next.states)
-    ∙ sym (s.carries.levels (bytes_of coder group))
+levels_next packets g u v q p coder group held s = ap (λ z. levels_of (4 * g % 312) q (left_since held g packets)
+    ++ z) (grind (arith, levels_at, place_next)) ∙ sym (s.carries.levels (bytes_of coder group))
     ∙ ap (levels_of (4 * g % 312) q) (sym (bytes_next packets g u v q p coder group held s))
 
 length-levels_before : (packets : List (List ℕ)) (g u v : ℕ) (q p : List ℕ) (coder : Coding) (group : Group)
     (held : Branching) → Step packets g u v q p coder group held
     → length (levels_of (4 * g % 312) q (left_since held g packets)) ≡ 828 * (4 * v)
 length-levels_before packets g u v q p coder group held s =
-    length-levels_of (4 * g % 312) q (left_since held g packets) v (let a = s.whole in let b = s.since in
-    omega (arith, a, b, length-left held g packets)) ∙ sizes v
+    length-levels_of (4 * g % 312) q (left_since held g packets) v (grind (arith, length-left)) ∙ sizes v
   where
     sizes : (v : ℕ) → 3312 * v ≡ 828 * (4 * v)
     sizes v = omega arith
 
 last_next : (packets : List (List ℕ)) (g u v : ℕ) (q p : List ℕ) (coder : Coding) (group : Group) (held : Branching)
-    → Step packets g u v q p coder group held
-    → (after_group coder group).last
+    → Step packets g u v q p coder group held → (after_group coder group).last
     ≡ last_of (segment (levels_of (4 * g % 312) q (left_since held g (packets ++ group.packets)))
     (length (packets ++ group.packets) - 4 * g - 1))
 last_next packets g u v q p coder group held s =
@@ -156,20 +139,17 @@ branches_next : (packets : List (List ℕ)) (g u v : ℕ) (q p : List ℕ) (code
 unfolding after_group
 branches_next packets g u v q p coder group held s =
     ap₂ (after_all 52) s.branches (codewords_next packets g u v q p coder group held s)
-    ∙ sym (after_append 52 (aligned held) (coded packets) (coded_from (length packets) group.packets))
-    ∙ ap (after_all 52 (aligned held)) (sym (coded_more packets group.packets))
+    ∙ sym (grind (arith, after_append)) ∙ ap (after_all 52 (aligned held)) (sym (coded_more packets group.packets))
 
 step_along : (packets : List (List ℕ)) (g u v : ℕ) (q p : List ℕ) (coder : Coding) (group : Group) (held : Branching)
-    → Step packets g u v q p coder group held
-    → RunsAlong (packets ++ group.packets) g q (after_group coder group)
+    → Step packets g u v q p coder group held → RunsAlong (packets ++ group.packets) g q (after_group coder group)
 step_along packets g u v q p coder group held s = record {
   held = held;
   widths = s.widths;
   whole = let a = s.whole in let c = s.next.four in omega (arith, a, c, length-append packets group.packets);
   begun = let a = s.whole in let b = s.since in omega (arith, a, b, length-append packets group.packets);
   branches = branches_next packets g u v q p coder group held s;
-  states =
-      states_at coder group (4 * u % 312) p (place_next packets g u v q p coder group held s) s.next.states
+  states = states_at coder group (4 * u % 312) p (place_next packets g u v q p coder group held s) s.next.states
       ∙ s.carries.states (bytes_of coder group)
       ∙ ap (states_after (4 * g % 312) q) (sym (bytes_next packets g u v q p coder group held s));
   last = λ _. last_next packets g u v q p coder group held s;
@@ -183,12 +163,9 @@ unfolding air_segments levels_since
 step_sent packets g u v q p coder group held s l =
     ap (λ ss. cond group.sync (field_sync group.second coder.last ∷ []) [] ++ ss)
     (sym (four_back (levels_of (4 * g % 312) q (left_since held g packets)) (group_levels coder group) (4 * v)
-    (length-levels_before packets g u v q p coder group held s))
-    ∙ ap (λ zs. four_segments zs (4 * v))
-    (levels_next packets g u v q p coder group held s
-    ∙ ap (levels_of (4 * g % 312) q)
-    (left_settled held g (u + 1) (packets ++ group.packets) s.widths l (let a = s.whole in let c = s.next.four in
-    omega (arith, a, c, length-append packets group.packets)))))
+    (length-levels_before packets g u v q p coder group held s)) ∙ ap (λ zs. four_segments zs (4 * v))
+    (levels_next packets g u v q p coder group held s ∙ ap (levels_of (4 * g % 312) q)
+    (left_settled held g (u + 1) (packets ++ group.packets) s.widths l (grind (arith, length-append)))))
 
 -- ---- with the states that the coder has
 
@@ -202,18 +179,15 @@ goes_on_step : (packets : List (List ℕ)) (g : ℕ) (q : List ℕ) (coder : Cod
 goes_on_step packets g q coder group r n =
     let whole : length packets % 4 ≡ 0 = r.whole in
     let begun : 4 * g ≤ length packets = r.begun in
-    let place : (4 * g % 312 + 4 * (length packets / 4 - g)) % 312 ≡ 4 * (length packets / 4) % 312 =
-    omega (arith, whole, begun) in
+    let place : (4 * g % 312 + 4 * (length packets / 4 - g)) % 312 ≡ 4 * (length packets / 4) % 312 = omega arith in
     record {
-      whole = omega (arith, whole);
-      since = omega (arith, whole, begun);
+      whole = omega arith;
+      since = omega arith;
       widths = r.widths;
       branches = r.branches;
       next = n;
-      carries =
-          carries_on (4 * g % 312) (length packets / 4 - g) (4 * (length packets / 4) % 312) q
-          (left_since r.held g packets) coder.states
-          (omega (arith, whole, begun, length-left r.held g packets))
+      carries = carries_on (4 * g % 312) (length packets / 4 - g) (4 * (length packets / 4) % 312) q
+          (left_since r.held g packets) coder.states (omega (arith, length-left r.held g packets))
           (place_is (4 * g % 312) (length packets / 4 - g) (4 * (length packets / 4) % 312) place) r.states;
     }
 
@@ -230,20 +204,15 @@ pub sent_group : (packets : List (List ℕ)) (g : ℕ) (q : List ℕ) (coder : C
     ++ four_segments (levels_since g q (packets ++ group.packets)) (length packets - 4 * g)
 sent_group packets g q coder group r l n =
     step_sent packets g (length packets / 4) (length packets / 4 - g) q coder.states coder group r.held
-    (goes_on_step packets g q coder group r n) l
-    ∙ ap (λ k. cond group.sync (field_sync group.second coder.last ∷ []) []
-    ++ four_segments (levels_since g q (packets ++ group.packets)) k)
-    (let whole : length packets % 4 ≡ 0 = r.whole in
-    let e : 4 * (length packets / 4 - g) ≡ length packets - 4 * g = omega (arith, whole) in e)
+    (goes_on_step packets g q coder group r n) l ∙ ap (λ k. cond group.sync (field_sync group.second coder.last ∷ []) []
+    ++ four_segments (levels_since g q (packets ++ group.packets)) k) (grind arith)
 
 -- ---- with preset states
 
 none_left : (held : Branching) (u : ℕ) (packets : List (List ℕ)) → length packets ≡ 4 * u
     → left_since held u packets ≡ []
 unfolding left_since
-none_left held u packets e =
-    drop_all (828 * u) (leaving_all 52 (aligned held) (coded packets))
-    (omega (arith, e, length_leaving 52 (aligned held) (coded packets), length-coded 0 packets))
+none_left held u packets e = grind (arith, drop_all, length_leaving, length-coded)
 
 preset_step : (packets : List (List ℕ)) (g : ℕ) (q p : List ℕ) (coder : Coding) (group : Group)
     (r : RunsAlong packets g q coder) → IsNext packets p group
@@ -273,8 +242,7 @@ pub sent_preset : (packets : List (List ℕ)) (g : ℕ) (q p : List ℕ) (coder 
     ++ four_segments (levels_since (length packets / 4) p (packets ++ group.packets)) 0
 sent_preset packets g q p coder group r l n =
     step_sent packets (length packets / 4) (length packets / 4) 0 p p coder group r.held
-    (preset_step packets g q p coder group r n) (let whole : length packets % 4 ≡ 0 = r.whole in
-    omega (arith, l, whole))
+    (preset_step packets g q p coder group r n) (grind arith)
 
 -- ---- what the coder holds
 
@@ -289,11 +257,9 @@ pub last_along : (packets : List (List ℕ)) (g : ℕ) (q : List ℕ) (coder : C
     → 52 ≤ 4 * g → 4 * g < length packets
     → coder.last ≡ last_of (segment (levels_since g q packets) (length packets - 4 * g - 1))
 unfolding levels_since
-last_along packets g q coder r l m =
-    r.last m
+last_along packets g q coder r l m = r.last m
     ∙ ap (λ y. last_of (segment (levels_of (4 * g % 312) q y) (length packets - 4 * g - 1)))
-    (left_settled r.held g (length packets / 4) packets r.widths l (let whole : length packets % 4 ≡ 0 = r.whole in
-    omega (arith, whole)))
+    (left_settled r.held g (length packets / 4) packets r.widths l (grind arith))
 
 -- ---- at the align
 
@@ -316,10 +282,8 @@ state_stays s states e = refl
 
 states_stay : (s : ℕ) (states : List ℕ) → AreStates states → states ≡ states_after s states []
 unfolding states_after
-states_stay s states h =
-    fill_by_all (λ e. number_of (coder_after s states [] (276 * groups []) e)) states 12 0 h.twelve
-    (λ e l. number_again (get_or states e 0) (h.small e (subst (λ (n : ℕ). e < n) (sym h.twelve) l))
-    ∙ ap number_of (sym (state_stays s states e)))
+states_stay s states h = fill_by_all (λ e. number_of (coder_after s states [] (276 * groups []) e)) states 12 0 h.twelve
+    (λ e l. number_again (get_or states e 0) (h.small e (grind arith)) ∙ ap number_of (sym (state_stays s states e)))
 
 pub along_begins : (coder : Coding) → AreStates coder.states → HasWidths 52 (spreading 4) coder.branches
     → RunsAlong [] 0 coder.states (aligned_coding coder)

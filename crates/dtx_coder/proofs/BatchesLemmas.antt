@@ -14,11 +14,11 @@ use Rattle.dtx_sizes.specs.declared.fields.FieldPlace.{FieldPlace}
 use Rattle.dtx_trellis.specs.Groups.{levels_of, states_after}
 use Rattle.dtx_trellis.specs.Pairs.{group_place}
 use Rattle.dtx_coder.specs.Coded.{coded_from}
-use Rattle.dtx_coder.specs.Stream.{segment, four_segments, last_of, symbols_of, a53, a53_symbols}
+use Rattle.dtx_coder.specs.Stream.{segment, four_segments, symbols_of, a53, a53_symbols}
 use Rattle.dtx_coder.specs.Groups.{Coding, Group, IsCoded, StandsFor, sent_segments, bytes_of, group_levels}
 use Rattle.dtx_coder.specs.Groups.{air_segments, after_group, stream_coding, IsNextGroup}
 use Rattle.dtx_coder.specs.Batches.{InterleavedGroup, IsSent, IsAhead, AreInterleaved, interleaved_as, after_bytes}
-use Rattle.dtx_coder.specs.Batches.{levels_of_bytes, segments_of_bytes, segments_by_bytes, after_all_bytes}
+use Rattle.dtx_coder.specs.Batches.{segments_of_bytes, segments_by_bytes, after_all_bytes}
 use Rattle.dtx_coder.specs.Runs.{AreInTurn, after_groups, segments_of_groups, group_packets}
 use Rattle.dtx_coder.proofs.BytesLemmas.{coded_append, coded_place, length-coded}
 use Rattle.dtx_coder.proofs.NextLemmas.{same_coding, next_stands, next_segments}
@@ -31,31 +31,20 @@ pub sent_coded : (old : Coding) (g : Group) (bytes : List ℕ) (branches : Branc
     → IsSent (record { states = old.states; last = old.last; branches = branches }) (interleaved_as bytes g) new count
     sent → IsCoded old g new count sent
 unfolding after_group air_segments group_levels after_bytes segments_of_bytes
-sent_coded old g bytes branches new count sent e f s = record {
-  coder = s.coder
-      ∙ same_coding _ _ _ _ branches _ (ap (states_after g.first g.from) e)
-      (ap (λ y. last_of (segment (levels_of g.first g.from y) 3)) e) f;
-  segments = s.segments
-      ∙ ap (λ y. length (sent_segments old.last g.sync g.second (levels_of g.first g.from y))) e;
-  symbols = s.symbols
-      ∙ ap (λ y. symbols_of (sent_segments old.last g.sync g.second (levels_of g.first g.from y))) e;
-}
+sent_coded old g bytes branches new count sent e f s = grind (arith, same_coding)
 
 -- ---- the first group of those that were interleaved
 
 joined : (g : Group) (rest : List (List ℕ)) → length g.packets ≡ 4
     → coded_from g.first (g.packets ++ rest) ≡ coded_from g.first g.packets ++ coded_from (g.first + 4) rest
-joined g rest four =
-    coded_append g.first g.packets rest ∙ ap (λ n. coded_from g.first g.packets ++ coded_from (g.first + n) rest) four
+joined g rest four = grind (arith, coded_append)
 
 -- what left is what leaves for the first group, and then for the others
 parts : (held ahead : Coding) (g : Group) (rest : List (List ℕ)) (all : List ℕ)
     → IsAhead held g.first (g.packets ++ rest) all ahead → length g.packets ≡ 4
     → all ≡ bytes_of held g ++ leaving_all 52 (after_group held g).branches (coded_from (g.first + 4) rest)
 unfolding bytes_of after_group
-parts held ahead g rest all h four =
-    h.left ∙ ap (leaving_all 52 held.branches) (joined g rest four)
-    ∙ leaving_append 52 held.branches (coded_from g.first g.packets) (coded_from (g.first + 4) rest)
+parts held ahead g rest all h four = grind (arith, joined, leaving_append)
 
 own_bytes : (held ahead : Coding) (g : Group) (rest : List (List ℕ)) (bytes left : List ℕ)
     → IsAhead held g.first (g.packets ++ rest) (bytes ++ left) ahead → length g.packets ≡ 4 → length bytes ≡ 828
@@ -77,10 +66,7 @@ branches_on : (held ahead : Coding) (g : Group) (rest : List (List ℕ)) (all : 
     → IsAhead held g.first (g.packets ++ rest) all ahead → length g.packets ≡ 4
     → ahead.branches ≡ after_all 52 (after_group held g).branches (coded_from (g.first + 4) rest)
 unfolding after_group
-branches_on held ahead g rest all h four =
-    ap (λ (c : Coding). c.branches) h.coder
-    ∙ ap (after_all 52 held.branches) (joined g rest four)
-    ∙ after_append 52 held.branches (coded_from g.first g.packets) (coded_from (g.first + 4) rest)
+branches_on held ahead g rest all h four = grind (arith, joined, after_append)
 
 last_same : (held ahead : Coding) (first : ℕ) (packets : List (List ℕ)) (bytes : List ℕ)
     → IsAhead held first packets bytes ahead → ahead.last ≡ held.last
@@ -91,22 +77,14 @@ segments_same : (held ahead : Coding) (g : Group) (rest : List (List ℕ)) (byte
     → segments_of_bytes ahead.last (interleaved_as bytes g) ≡ air_segments held g
 unfolding air_segments group_levels segments_of_bytes
 segments_same held ahead g rest bytes left h four long =
-    ap₂ (λ l y. sent_segments l g.sync g.second (levels_of g.first g.from y))
-    (last_same held ahead g.first (g.packets ++ rest) (bytes ++ left) h)
+    ap₂ (λ l y. sent_segments l g.sync g.second (levels_of g.first g.from y)) (grind (arith, last_same))
     (own_bytes held ahead g rest bytes left h four long)
 
 pub ahead_coded : (held ahead new : Coding) (g : Group) (rest : List (List ℕ)) (bytes left : List ℕ) (count : ℕ)
     (sent : List ℤ) → IsAhead held g.first (g.packets ++ rest) (bytes ++ left) ahead
     → length g.packets ≡ 4 → length bytes ≡ 828 → IsSent ahead (interleaved_as bytes g) new count sent
     → IsCoded held g (after_group held g) count sent
-ahead_coded held ahead new g rest bytes left count sent h four long s =
-    let same : segments_of_bytes ahead.last (interleaved_as bytes g) ≡ air_segments held g =
-    segments_same held ahead g rest bytes left h four long in
-    record {
-      coder = refl;
-      segments = s.segments ∙ ap length same;
-      symbols = s.symbols ∙ ap symbols_of same;
-    }
+ahead_coded held ahead new g rest bytes left count sent h four long s = grind (arith, segments_same)
 
 coder_on : (held ahead : Coding) (g : Group) (rest : List (List ℕ)) (bytes left : List ℕ)
     → IsAhead held g.first (g.packets ++ rest) (bytes ++ left) ahead → length g.packets ≡ 4 → length bytes ≡ 828
@@ -118,8 +96,7 @@ coder_on : (held ahead : Coding) (g : Group) (rest : List (List ℕ)) (bytes lef
 unfolding after_group group_levels after_bytes
 coder_on held ahead g rest bytes left h four long =
     let own : bytes ≡ bytes_of held g = own_bytes held ahead g rest bytes left h four long in
-    same_coding _ _ _ _ ahead.branches _ (ap (states_after g.first g.from) own)
-    (ap (λ y. last_of (segment (levels_of g.first g.from y) 3)) own)
+    same_coding _ _ _ _ ahead.branches _ (ap (states_after g.first g.from) own) (grind arith)
     (branches_on held ahead g rest (bytes ++ left) h four)
 
 after_ahead : (held ahead : Coding) (g : Group) (rest : List (List ℕ)) (bytes left : List ℕ)
@@ -145,24 +122,17 @@ none first v = refl
 
 -- when all are sent
 pub ahead_all : (held ahead : Coding) (first : ℕ) (bytes : List ℕ) → IsAhead held first [] bytes ahead → ahead ≡ held
-ahead_all held ahead first bytes h =
-    h.coder ∙ same_coding held.states held.states held.last held.last _ held.branches refl refl
-    (none first held.branches)
+ahead_all held ahead first bytes h = grind (arith, same_coding, none)
 
 pub ahead_place : (held ahead : Coding) (j k : ℕ) (packets : List (List ℕ)) (bytes : List ℕ) → j % 312 ≡ k % 312
     → IsAhead held j packets bytes ahead → IsAhead held k packets bytes ahead
-ahead_place held ahead j k packets bytes e h = record {
-  left = h.left ∙ ap (leaving_all 52 held.branches) (coded_place j k packets e);
-  coder = h.coder
-      ∙ ap (λ x. record held { branches = after_all 52 held.branches x }) (coded_place j k packets e);
-}
+ahead_place held ahead j k packets bytes e h = grind (arith, coded_place)
 
 -- ---- all groups of those that were interleaved
 
 first_ahead : (held ahead : Coding) (g : Group) (s : ℕ) (rest : List (List ℕ)) (bytes : List ℕ) → g.first ≡ s
     → IsAhead held s (g.packets ++ rest) bytes ahead → IsAhead held g.first (g.packets ++ rest) bytes ahead
-first_ahead held ahead g s rest bytes e h =
-    subst (λ (k : ℕ). IsAhead held k (g.packets ++ rest) bytes ahead) (sym e) h
+first_ahead held ahead g s rest bytes e h = subst (λ (k : ℕ). IsAhead held k (g.packets ++ rest) bytes ahead) (sym e) h
 
 whole : (held ahead : Coding) (g : Group) (rest : List (List ℕ)) (bytes : List ℕ)
     → IsAhead held g.first (g.packets ++ rest) bytes ahead
@@ -173,16 +143,8 @@ whole held ahead g rest bytes h =
 -- the bytes of the first one
 own_long : (held ahead : Coding) (g : Group) (rest : List (List ℕ)) (bytes : List ℕ)
     → IsAhead held g.first (g.packets ++ rest) bytes ahead → length g.packets ≡ 4 → length (take 828 bytes) ≡ 828
-own_long held ahead g rest bytes h four =
-    length-take-le 828 bytes
-    (omega (
-      arith,
-      ap length h.left,
-      length_leaving 52 held.branches (coded_from g.first (g.packets ++ rest)),
-      length-coded g.first (g.packets ++ rest),
-      length-append g.packets rest,
-      four,
-    ))
+own_long held ahead g rest bytes h four = length-take-le 828 bytes
+    (grind (arith, length_leaving, length-coded, length-append))
 
 -- the others, at their place of the field
 rest_ahead : (held ahead : Coding) (g : Group) (s : ℕ) (rest : List (List ℕ)) (bytes : List ℕ) → g.first ≡ s
@@ -191,30 +153,26 @@ rest_ahead : (held ahead : Coding) (g : Group) (s : ℕ) (rest : List (List ℕ)
     (after_bytes ahead (interleaved_as (take 828 bytes) g))
 unfolding group_place
 rest_ahead held ahead g s rest bytes e four h =
-    let here : IsAhead held g.first (g.packets ++ rest) (take 828 bytes ++ drop 828 bytes) ahead =
-    whole held ahead g rest bytes (first_ahead held ahead g s rest bytes e h) in
     ahead_place (after_group held g) (after_bytes ahead (interleaved_as (take 828 bytes) g)) (g.first + 4)
     ((s + 4 * 1) % 312) rest (drop 828 bytes) (omega (arith, e))
-    (after_ahead held ahead g rest (take 828 bytes) (drop 828 bytes) here four
+    (after_ahead held ahead g rest (take 828 bytes) (drop 828 bytes)
+    (whole held ahead g rest bytes (first_ahead held ahead g s rest bytes e h)) four
     (own_long held ahead g rest bytes (first_ahead held ahead g s rest bytes e h) four))
 
 pub segments_all : (held ahead : Coding) (s : ℕ) (gs : List Group) (bytes : List ℕ) → AreInTurn s gs
-    → IsAhead held s (group_packets gs) bytes ahead
-    → segments_by_bytes ahead gs bytes ≡ segments_of_groups held gs
+    → IsAhead held s (group_packets gs) bytes ahead → segments_by_bytes ahead gs bytes ≡ segments_of_groups held gs
 unfolding AreInTurn segments_by_bytes segments_of_groups
 segments_all held ahead s [] bytes t h = refl
 segments_all held ahead s (g ∷ gs) bytes t h =
-    let rest : List (List ℕ) = group_packets gs in
-    let first : IsAhead held g.first (g.packets ++ rest) bytes ahead = first_ahead held ahead g s rest bytes t.0 h in
-    ap₂ ◌++◌
-    (segments_same held ahead g rest (take 828 bytes) (drop 828 bytes) (whole held ahead g rest bytes first) t.1
-    (own_long held ahead g rest bytes first t.1))
+    let first : IsAhead held g.first (g.packets ++ (group_packets gs)) bytes ahead = first_ahead held ahead g s
+    (group_packets gs) bytes t.0 h in
+    ap₂ ◌++◌ (segments_same held ahead g (group_packets gs) (take 828 bytes) (drop 828 bytes)
+    (whole held ahead g (group_packets gs) bytes first) t.1 (own_long held ahead g (group_packets gs) bytes first t.1))
     (segments_all (after_group held g) (after_bytes ahead (interleaved_as (take 828 bytes) g)) (group_place s 1) gs
-    (drop 828 bytes) t.2 (rest_ahead held ahead g s rest bytes t.0 t.1 h))
+    (drop 828 bytes) t.2 (rest_ahead held ahead g s (group_packets gs) bytes t.0 t.1 h))
 
 pub coder_all : (held ahead : Coding) (s : ℕ) (gs : List Group) (bytes : List ℕ) → AreInTurn s gs
-    → IsAhead held s (group_packets gs) bytes ahead
-    → after_all_bytes ahead gs bytes ≡ after_groups held gs
+    → IsAhead held s (group_packets gs) bytes ahead → after_all_bytes ahead gs bytes ≡ after_groups held gs
 unfolding AreInTurn after_all_bytes after_groups
 coder_all held ahead s [] bytes t h = ahead_all held ahead s bytes h
 coder_all held ahead s (g ∷ gs) bytes t h =
@@ -227,8 +185,7 @@ coder_all held ahead s (g ∷ gs) bytes t h =
 next_of : (packets : List (List ℕ)) (first : ℕ) (all : List (List ℕ)) (bytes : List ℕ) (ahead : Coding) (g : Group)
     → IsAhead (stream_coding packets) first all bytes ahead → IsNextGroup packets ahead.states g
     → IsNextGroup packets (stream_coding packets).states g
-next_of packets first all bytes ahead g h n =
-    subst (λ (q : List ℕ). IsNextGroup packets q g) (ap (λ (c : Coding). c.states) h.coder) n
+next_of packets first all bytes ahead g h n = grind arith
 
 -- at the group's place of its field
 at_place : (packets : List (List ℕ)) (all : List (List ℕ)) (bytes : List ℕ) (ahead : Coding) (g : Group)
@@ -243,8 +200,7 @@ pub stream_coded : (packets rest : List (List ℕ)) (ahead new : Coding) (g : Gr
     → IsNextGroup packets ahead.states g → length bytes ≡ 828 → IsSent ahead (interleaved_as bytes g) new count sent
     → IsCoded (stream_coding packets) g (stream_coding (packets ++ g.packets)) count sent
 stream_coded packets rest ahead new g bytes left count sent h n long s =
-    subst (λ (c : Coding). IsCoded (stream_coding packets) g c count sent)
-    (next_stands (stream_coding packets) packets g refl (next_of packets (length packets) _ _ ahead g h n))
+    subst (λ (c : Coding). IsCoded (stream_coding packets) g c count sent) (grind (arith, next_stands, next_of))
     (ahead_coded (stream_coding packets) ahead new g rest bytes left count sent
     (at_place packets (g.packets ++ rest) (bytes ++ left) ahead g h n) n.four long s)
 
@@ -257,10 +213,8 @@ stream_on packets rest ahead new g bytes left count sent h n long s =
     let four = n.four in
     let all = length-append packets g.packets in
     ahead_place (stream_coding (packets ++ g.packets)) new (g.first + 4) (length (packets ++ g.packets)) rest left
-    (omega (arith, place, four, all))
-    (subst (λ (c : Coding). IsAhead c (g.first + 4) rest left new)
-    (next_stands (stream_coding packets) packets g refl (next_of packets (length packets) _ _ ahead g h n))
-    (ahead_on (stream_coding packets) ahead new g rest bytes left count sent
+    (omega (arith, place, four, all)) (subst (λ (c : Coding). IsAhead c (g.first + 4) rest left new)
+    (grind (arith, next_stands, next_of)) (ahead_on (stream_coding packets) ahead new g rest bytes left count sent
     (at_place packets (g.packets ++ rest) (bytes ++ left) ahead g h n) n.four long s))
 
 -- ---- a batch
@@ -270,18 +224,9 @@ second_is place = (leb-true 312 place, le-leb 312 place)
 
 -- the group behind some packets
 next_group : (packets : List (List ℕ)) (from : List ℕ) (at : FieldPlace) (own : List (List ℕ))
-    → length packets % 4 ≡ 0 → length own ≡ 4 → at ≡ field_place (length packets)
-    → IsNextGroup packets from
+    → length packets % 4 ≡ 0 → length own ≡ 4 → at ≡ field_place (length packets) → IsNextGroup packets from
     (record { first = at.place; second = at.second; sync = at.place == 0; from = from; packets = own })
-next_group packets from at own whole four is = record {
-  whole = whole;
-  four = four;
-  place = ap (λ (p : FieldPlace). p.place) is;
-  second = subst (λ (b : Bool). IsTrue b ↔ (312 ≤ length packets % 624))
-      (sym (ap (λ (p : FieldPlace). p.second) is)) (second_is (length packets % 624));
-  sync = (eqb-true at.place 0, eq-eqb at.place 0);
-  states = refl;
-}
+next_group packets from at own whole four is = grind (arith, whole, second_is, eqb-true, eq-eqb)
 
 -- Group i of the batch is sent as these bytes, by a coder that has sent those before it.
 pub record SendsNext (before packets : List (List ℕ)) (batch : List ℕ) (i : ℕ) (at : FieldPlace) (bytes : List ℕ)
@@ -309,23 +254,17 @@ next_bytes i = omega arith
 -- its packets stand behind those before
 four_on : (before packets : List (List ℕ)) (i : ℕ)
     → (before ++ take (4 * i) packets) ++ take 4 (drop (4 * i) packets) ≡ before ++ take (4 * (i + 1)) packets
-four_on before packets i =
-    append_assoc before (take (4 * i) packets) (take 4 (drop (4 * i) packets))
-    ∙ ap (λ z. before ++ z) (sym (take-add (4 * i) 4 packets) ∙ ap (λ n. take n packets) (next_four i))
+four_on before packets i = simp (append_assoc, ← take-add, next_four)
 
 four_left : (packets : List (List ℕ)) (i : ℕ)
     → drop (4 * i) packets ≡ take 4 (drop (4 * i) packets) ++ drop (4 * (i + 1)) packets
-four_left packets i =
-    sym (take-append-drop 4 (drop (4 * i) packets))
-    ∙ ap (λ z. take 4 (drop (4 * i) packets) ++ z) (drop-drop 4 (4 * i) packets
-    ∙ ap (λ n. drop n packets) (next_four i))
+four_left packets i = sym (take-append-drop 4 (drop (4 * i) packets))
+    ∙ ap (λ z. take 4 (drop (4 * i) packets) ++ z) (rw (drop-drop 4 (4 * i) packets, next_four i))
 
 -- and its bytes before those of the others
 bytes_left : (batch : List ℕ) (i n : ℕ) → 4 * i + 4 ≤ n → take (207 * (n - 4 * i)) (drop (828 * i) batch)
     ≡ take 828 (drop (828 * i) batch) ++ take (207 * (n - 4 * (i + 1))) (drop (828 * (i + 1)) batch)
-bytes_left batch i n within =
-    ap (λ m. take m (drop (828 * i) batch))
-    (let e : 207 * (n - 4 * i) ≡ 828 + 207 * (n - 4 * (i + 1)) = omega (arith, within) in e)
+bytes_left batch i n within = ap (λ m. take m (drop (828 * i) batch)) (grind arith)
     ∙ take-add 828 (207 * (n - 4 * (i + 1))) (drop (828 * i) batch)
     ∙ ap (λ y. take 828 (drop (828 * i) batch) ++ take (207 * (n - 4 * (i + 1))) y) (drop-drop 828 (828 * i) batch
     ∙ ap (λ m. drop m batch) (next_bytes i))
@@ -339,33 +278,26 @@ record IsNextOf (front own rest : List (List ℕ)) (at : FieldPlace) (bytes left
   pub long : length bytes ≡ 828
 
 next_of_batch : (before packets : List (List ℕ)) (batch : List ℕ) (i : ℕ) (at : FieldPlace) (bytes : List ℕ)
-    (ahead new : Coding) (count : ℕ) (sent : List ℤ)
-    → SendsNext before packets batch i at bytes ahead new count sent
+    (ahead new : Coding) (count : ℕ) (sent : List ℤ) → SendsNext before packets batch i at bytes ahead new count sent
     → IsNextOf (before ++ take (4 * i) packets) (take 4 (drop (4 * i) packets)) (drop (4 * (i + 1)) packets) at bytes
     (take (207 * (length packets - 4 * (i + 1))) (drop (828 * (i + 1)) batch)) ahead
 next_of_batch before packets batch i at bytes ahead new count sent s =
     let within = s.within in
     let front : List (List ℕ) = before ++ take (4 * i) packets in
-    let many : length front ≡ length before + 4 * i =
-    length-append before (take (4 * i) packets)
+    let many : length front ≡ length before + 4 * i = length-append before (take (4 * i) packets)
     ∙ ap (λ n. length before + n) (length-take-le (4 * i) packets (omega (arith, within))) in
     let left : List ℕ = take (207 * (length packets - 4 * (i + 1))) (drop (828 * (i + 1)) batch) in
     record {
-      interleaved =
-          subst (λ ps. IsAhead (stream_coding front) (length front) ps (bytes ++ left) ahead) (four_left packets i)
-          (subst (λ y. IsAhead (stream_coding front) (length front) (drop (4 * i) packets) y ahead)
-          (bytes_left batch i (length packets) within ∙ ap (λ y. y ++ left) (sym s.bytes_are)) s.interleaved.ahead);
+      interleaved = grind (arith, four_left, bytes_left);
       next = next_group front ahead.states at (take 4 (drop (4 * i) packets)) (ap (λ n. n % 4) many ∙ s.whole)
           (length-take-le 4 (drop (4 * i) packets) (omega (arith, within, length-drop (4 * i) packets)))
           (s.place ∙ ap field_place (sym many));
-      long = ap length s.bytes_are
-          ∙ length-take-le 828 (drop (828 * i) batch)
+      long = ap length s.bytes_are ∙ length-take-le 828 (drop (828 * i) batch)
           (let room = s.room in omega (arith, room, length-drop (828 * i) batch));
     }
 
 pub batch_on : (before packets : List (List ℕ)) (batch : List ℕ) (i : ℕ) (at : FieldPlace) (bytes : List ℕ)
-    (ahead new : Coding) (count : ℕ) (sent : List ℤ)
-    → SendsNext before packets batch i at bytes ahead new count sent
+    (ahead new : Coding) (count : ℕ) (sent : List ℤ) → SendsNext before packets batch i at bytes ahead new count sent
     → AreInterleaved new batch before packets (i + 1)
 batch_on before packets batch i at bytes ahead new count sent s =
     let n = next_of_batch before packets batch i at bytes ahead new count sent s in
@@ -377,8 +309,7 @@ batch_on before packets batch i at bytes ahead new count sent s =
 
 -- the segments of the group are those by which the stream is longer
 pub batch_symbols : (before packets : List (List ℕ)) (batch : List ℕ) (i : ℕ) (at : FieldPlace) (bytes : List ℕ)
-    (ahead new : Coding) (count : ℕ) (sent : List ℤ)
-    → SendsNext before packets batch i at bytes ahead new count sent
+    (ahead new : Coding) (count : ℕ) (sent : List ℤ) → SendsNext before packets batch i at bytes ahead new count sent
     → a53_symbols (before ++ take (4 * (i + 1)) packets)
     ≡ a53_symbols (before ++ take (4 * i) packets) ++ take (832 * count) sent
 unfolding a53_symbols
@@ -396,27 +327,21 @@ batch_symbols before packets batch i at bytes ahead new count sent s =
     stream_coded front _ ahead new group bytes _ count sent n.interleaved n.next n.long s.group in
     ap (λ ps. symbols_of (a53 ps)) (sym (four_on before packets i))
     ∙ ap symbols_of (next_segments (stream_coding front) front group refl
-    (next_of front (length front) _ _ ahead group n.interleaved n.next))
-    ∙ flat_map-append (λ (s : List ℤ). s) (a53 front) (air_segments (stream_coding front) group)
-    ∙ ap (λ z. symbols_of (a53 front) ++ z) (sym is.symbols)
+    (next_of front (length front) _ _ ahead group n.interleaved n.next)) ∙ grind (arith, flat_map-append)
 
 -- the packets of a batch of which nothing is sent yet
 pub batch_begun : (before packets : List (List ℕ)) (bytes rest : List ℕ) (place : ℕ) (old new : Coding)
     → old ≡ stream_coding before → place ≡ length before % 312 → IsAhead old place packets bytes new
     → AreInterleaved new (bytes ++ rest) before packets 0
 batch_begun before packets bytes rest place old new stands at h = record {
-  ahead = subst (λ (y : List ℕ). IsAhead (stream_coding (before ++ [])) (length (before ++ [])) packets y new)
-      (sym (take_at bytes rest (207 * (length packets - 4 * 0)) (omega (arith, long))))
-      (subst (λ (ps : List (List ℕ)). IsAhead (stream_coding ps) (length ps) packets bytes new)
-      (sym (append-nil before)) placed);
+  ahead = grind (arith, take_at, long, append-nil, placed);
 }
   where
     long : length bytes ≡ 207 * length packets
     long = ap length h.left ∙ length_leaving 52 old.branches (coded_from place packets) ∙ length-coded place packets
 
     placed : IsAhead (stream_coding before) (length before) packets bytes new
-    placed =
-        ahead_place (stream_coding before) new place (length before) packets bytes (omega (arith, at))
+    placed = ahead_place (stream_coding before) new place (length before) packets bytes (omega (arith, at))
         (subst (λ (v : Coding). IsAhead v place packets bytes new) stands h)
 
 -- when all groups are sent, the coder stands for their packets too
@@ -425,9 +350,7 @@ pub batch_sent : (before packets : List (List ℕ)) (batch : List ℕ) (i : ℕ)
 batch_sent before packets batch i coder all h =
     let front : List (List ℕ) = before ++ take (4 * i) packets in
     let left : List ℕ = take (207 * (length packets - 4 * i)) (drop (828 * i) batch) in
-    ahead_all (stream_coding front) coder (length front) left
-    (subst (λ (ps : List (List ℕ)). IsAhead (stream_coding front) (length front) ps left coder)
-    (drop_all (4 * i) packets all) h.ahead)
+    ahead_all (stream_coding front) coder (length front) left (grind (arith, drop_all))
     ∙ ap (λ ps. stream_coding (before ++ ps)) (take_all (4 * i) packets all)
 
 length_segments : (sync : Bool) (last : List ℤ) (second : Bool) (zs : List ℕ)
@@ -440,5 +363,4 @@ length_segments false last second zs = omega (arith, length-map-range_with_len (
 pub few_sent : (coder new : Coding) (group : InterleavedGroup) (count : ℕ) (sent : List ℤ)
     → IsSent coder group new count sent → count ≤ 5
 unfolding segments_of_bytes
-few_sent coder new group count sent is =
-    omega (arith, is.segments, length_segments group.sync coder.last group.second (levels_of_bytes group))
+few_sent coder new group count sent is = grind (arith, length_segments)

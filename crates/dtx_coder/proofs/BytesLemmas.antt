@@ -1,8 +1,7 @@
 -- The coded and interleaved bytes of packets that stand behind other packets.
-use Rattle.std.proofs.Common.{◌≡◌, ℕ, ◌+◌, ◌*◌, ◌/◌, ◌%◌, ◌<◌, List, [], ◌∷◌, ◌++◌, length, take, drop, map, get_or}
-use Rattle.std.proofs.Common.{bit_xor, refl, sym, ap, ap₂, ◌∙◌, arith, lit<, zero-add, append-nil, length-append}
-use Rattle.std.proofs.Common.{length-take-le, take_all, take_at, take-take, take-append-drop}
-use Rattle.std.specs.List.{range_with_len}
+use Rattle.std.proofs.Common.{◌≡◌, ℕ, ◌+◌, ◌*◌, ◌/◌, ◌%◌, ◌<◌, List, [], ◌∷◌, ◌++◌, length, take, drop, get_or, refl}
+use Rattle.std.proofs.Common.{sym, ap, ap₂, ◌∙◌, arith, lit<, zero-add, append-nil, length-append, length-take-le}
+use Rattle.std.proofs.Common.{take_all, take_at, take-take, take-append-drop}
 use Rattle.dtx_lists.proofs.Enumerated.{pieces_append, length-pieces, piece_at}
 use Rattle.dtx_laws.specs.Words.{codeword}
 use Rattle.dtx_laws.specs.Branches.{leaving_all, after_all}
@@ -10,7 +9,6 @@ use Rattle.dtx_laws.specs.Interleaving.{interleaved}
 use Rattle.dtx_laws.proofs.ChoiceLemmas.{codeword_length}
 use Rattle.dtx_laws.proofs.PlacesLemmas.{leaving_append, after_append}
 use Rattle.dtx_laws.proofs.InterleavingLemmas.{length-interleaved, leaving_calls_is, zeros_calls}
-use Rattle.dtx_whiten.specs.Randomizer.{randomizer_byte}
 use Rattle.dtx_whiten.specs.Randomized.{randomized}
 use Rattle.dtx_whiten.proofs.PacketsLemmas.{length-randomized}
 use Rattle.dtx_coder.specs.Coded.{coded_from, coded, spread, whole_groups}
@@ -29,11 +27,7 @@ coded_append k ps qs = pieces_append code k ps qs
 pub coded_place : (j k : ℕ) (ps : List (List ℕ)) → j % 312 ≡ k % 312 → coded_from j ps ≡ coded_from k ps
 unfolding coded_from randomized
 coded_place j k [] e = refl
-coded_place j k (p ∷ ps) e =
-    ap₂ ◌++◌
-    (ap (λ m. codeword 207 187 (map (λ i. bit_xor (get_or p (1 + i) 0) (randomizer_byte (187 * m + i)))
-    (range_with_len 0 187))) e)
-    (coded_place (j + 1) (k + 1) ps (omega arith))
+coded_place j k (p ∷ ps) e = ap₂ ◌++◌ (grind arith) (coded_place (j + 1) (k + 1) ps (omega arith))
 
 length-codeword : (k : ℕ) (p : List ℕ) → length (codeword 207 187 (randomized k p)) ≡ 207
 length-codeword k p = codeword_length 207 187 (randomized k p) ∙ ap (λ n. n + 20) (length-randomized k p)
@@ -51,10 +45,7 @@ coded_at s ps k l = piece_at code 207 s ps k [] length-codeword l
 -- from zeros in every branch what leaves is the map of places
 leaving_zeros : (x : List ℕ) → leaving_all 52 zero_branches x ≡ interleaved 52 4 x
 leaving_zeros x =
-    ap (leaving_all 52 zero_branches) (sym (append-nil x))
-    ∙ sym (leaving_calls_is 52 zero_branches (x ∷ []))
-    ∙ zeros_calls 52 4 (x ∷ []) (lit< tt)
-    ∙ ap (interleaved 52 4) (append-nil x)
+    rw (← append-nil x, ← leaving_calls_is 52 zero_branches (x ∷ []), zeros_calls 52 4 (x ∷ []) (lit< tt), append-nil x)
 
 -- the bytes of the packets behind ps
 abbrev pub bytes_behind : List (List ℕ) → List (List ℕ) → List ℕ
@@ -62,18 +53,11 @@ bytes_behind ps qs = leaving_all 52 (after_all 52 zero_branches (coded ps)) (cod
 
 pub spread_append : (ps qs : List (List ℕ)) → spread (ps ++ qs) ≡ spread ps ++ bytes_behind ps qs
 unfolding spread
-spread_append ps qs =
-    ap (interleaved 52 4) (coded_append 0 ps qs ∙ ap (λ k. coded ps ++ coded_from k qs) (zero-add (length ps)))
-    ∙ sym (leaving_zeros (coded ps ++ coded_from (length ps) qs))
-    ∙ leaving_append 52 zero_branches (coded ps) (coded_from (length ps) qs)
-    ∙ ap (λ xs. xs ++ bytes_behind ps qs) (leaving_zeros (coded ps))
+spread_append ps qs = rw (coded_append, zero-add, ← leaving_zeros, leaving_append, leaving_zeros)
 
 pub branches_append : (ps qs : List (List ℕ)) → after_all 52 zero_branches (coded (ps ++ qs))
     ≡ after_all 52 (after_all 52 zero_branches (coded ps)) (coded_from (length ps) qs)
-branches_append ps qs =
-    ap (after_all 52 zero_branches) (coded_append 0 ps qs
-    ∙ ap (λ k. coded ps ++ coded_from k qs) (zero-add (length ps)))
-    ∙ after_append 52 zero_branches (coded ps) (coded_from (length ps) qs)
+branches_append ps qs = grind (arith, coded_append, zero-add, after_append)
 
 pub length-spread : (ps : List (List ℕ)) → length (spread ps) ≡ 207 * length ps
 unfolding spread
@@ -100,14 +84,12 @@ take_front ps qs u e =
 -- the bytes of a longer stream go on behind those of its first groups
 pub whole_append : (ps qs : List (List ℕ)) (u : ℕ) → length ps ≡ 4 * u
     → whole_groups (ps ++ qs) ≡ whole_groups ps ++ drop (828 * u) (whole_groups (ps ++ qs))
-whole_append ps qs u e =
-    sym (take-append-drop (828 * u) (whole_groups (ps ++ qs)))
+whole_append ps qs u e = sym (take-append-drop (828 * u) (whole_groups (ps ++ qs)))
     ∙ ap (λ xs. xs ++ drop (828 * u) (whole_groups (ps ++ qs))) (take_front ps qs u e)
 
 -- the next group's bytes
 pub whole_next : (ps qs : List (List ℕ)) (u : ℕ) → length ps ≡ 4 * u → length qs ≡ 4
     → whole_groups (ps ++ qs) ≡ whole_groups ps ++ bytes_behind ps qs
-whole_next ps qs u e f =
-    whole_is (ps ++ qs) (u + 1) (omega (arith, e, f, length-append ps qs))
+whole_next ps qs u e f = whole_is (ps ++ qs) (u + 1) (omega (arith, e, f, length-append ps qs))
     ∙ spread_append ps qs
     ∙ ap (λ xs. xs ++ bytes_behind ps qs) (sym (whole_is ps u e))

@@ -1,13 +1,13 @@
 -- How many segments and symbols a stream has.
-use Rattle.std.proofs.Common.{◌≡◌, ℕ, zero, suc, ◌+◌, ◌-◌, ◌*◌, ◌/◌, ◌%◌, ◌<◌, ◌≤◌, ◌⊎◌, ◌==◌, nat_le, cond, inl, inr}
-use Rattle.std.proofs.Common.{Bool, true, false, ℤ, List, [], ◌∷◌, ◌++◌, length, map, get_or, drop, refl, ap, ap₂, ◌∙◌}
-use Rattle.std.proofs.Common.{arith, zero-add, eq-eqb, ne_eqb, append-nil, length-append, length-drop}
+use Rattle.std.proofs.Common.{◌≡◌, ℕ, zero, suc, ◌+◌, ◌-◌, ◌*◌, ◌/◌, ◌<◌, ◌≤◌, ◌⊎◌, ◌==◌, cond, inl, inr, ℤ, List, []}
+use Rattle.std.proofs.Common.{◌∷◌, ◌++◌, length, map, get_or, drop, refl, ap, ap₂, ◌∙◌, arith, zero-add, eq-eqb, ne_eqb}
+use Rattle.std.proofs.Common.{append-nil, length-append, length-drop}
 use Rattle.std.specs.List.{range_with_len, flat_map, AllByRecursion}
 use Rattle.std.proofs.lemmas.Bool.{cases_lt, cond-true, cond-false}
 use Rattle.std.proofs.lemmas.List.FromFn.{length-map-range_with_len}
 use Rattle.std.proofs.lemmas.Grind.{flat_map-append}
 use Rattle.dtx_lists.proofs.Range.{range_with_len-parts}
-use Rattle.dtx_frame.specs.Segments.{field_sync, sync_symbols}
+use Rattle.dtx_frame.specs.Segments.{field_sync}
 use Rattle.dtx_frame.proofs.SymbolsLemmas.{length_front}
 use Rattle.dtx_coder.specs.Stream.{levels, segment, four_segments, last_of, no_last, last_before, sync_before}
 use Rattle.dtx_coder.specs.Stream.{group_segments, a53, symbols_of, a53_symbols}
@@ -19,33 +19,18 @@ use Rattle.dtx_coder.proofs.SegmentsLemmas.{length-segment}
 -- a field sync for each 78 groups that are begun
 length-sync : (ps : List (List ℕ)) (v : ℕ) → length (sync_before ps v) + (v + 77) / 78 ≡ (v + 78) / 78
 unfolding sync_before
-length-sync ps v = by_cases (cases_lt 0 (4 * v % 312))
-  where
-    sync : List (List ℤ)
-    sync = field_sync (nat_le 312 (4 * v % 624)) (last_before ps v) ∷ []
-
-    by_cases : (0 < 4 * v % 312) ⊎ (4 * v % 312 ≤ 0)
-        → length (cond (4 * v % 312 == 0) sync []) + (v + 77) / 78 ≡ (v + 78) / 78
-    by_cases (inl p) =
-        ap (λ (s : List (List ℤ)). length s + (v + 77) / 78)
-        (cond-false (4 * v % 312 == 0) sync [] (ne_eqb (4 * v % 312) 0 (λ z. omega (arith, p, z)))) ∙ omega (arith, p)
-    by_cases (inr z) =
-        ap (λ (s : List (List ℤ)). length s + (v + 77) / 78)
-        (cond-true (4 * v % 312 == 0) sync [] (eq-eqb (4 * v % 312) 0 (omega arith))) ∙ omega (arith, z)
+length-sync ps v = grind (arith, cases_lt, cond-false, cond-true, eq-eqb)
 
 length-group : (ps : List (List ℕ)) (v : ℕ) → length (group_segments ps v) ≡ length (sync_before ps v) + 4
 unfolding group_segments four_segments
-length-group ps v =
-    length-append (sync_before ps v) (map (segment (levels ps)) (range_with_len (4 * v) 4))
-    ∙ ap (λ n. length (sync_before ps v) + n) (length-map-range_with_len (segment (levels ps)) (4 * v) 4)
+length-group ps v = grind (arith, length-append, length-map-range_with_len)
 
 length-groups : (ps : List (List ℕ)) (m : ℕ) → length (flat_map (group_segments ps) (range_with_len 0 m))
     ≡ 4 * m + (m + 77) / 78
 length-groups ps zero = refl
 length-groups ps (suc m) =
     ap (λ n. length (flat_map (group_segments ps) (range_with_len 0 n))) (let e : suc m ≡ m + 1 = omega arith in e)
-    ∙ ap (λ ns. length (flat_map (group_segments ps) ns)) (range_with_len-parts 0 m 1
-    ∙ ap (λ a. range_with_len 0 m ++ range_with_len a 1) (zero-add m))
+    ∙ ap (λ ns. length (flat_map (group_segments ps) ns)) (grind (arith, range_with_len-parts, zero-add))
     ∙ ap length (flat_map-append (group_segments ps) (range_with_len 0 m) (m ∷ []))
     ∙ length-append (flat_map (group_segments ps) (range_with_len 0 m)) (group_segments ps m ++ [])
     ∙ ap₂ (λ (x y : ℕ). x + y) (length-groups ps m) (ap length (append-nil (group_segments ps m)) ∙ length-group ps m)
@@ -69,8 +54,7 @@ segments_append (x ∷ xs) ys h g = (h.0, segments_append xs ys h.1 g)
 pub segments_map : (f : ℕ → List ℤ) (a n : ℕ) → ((v : ℕ) → a ≤ v → v < a + n → length (f v) ≡ 832)
     → AreSegments (map f (range_with_len a n))
 segments_map f a zero h = tt
-segments_map f a (suc n) h =
-    (h a (omega arith) (omega arith), segments_map f (a + 1) n (λ v l m. h v (omega arith) (omega arith)))
+segments_map f a (suc n) h = (h a (omega arith) (omega arith), segments_map f (a + 1) n (λ v l m. grind arith))
 
 segments_flat : (f : ℕ → List (List ℤ)) (a n : ℕ) → ((v : ℕ) → a ≤ v → v < a + n → AreSegments (f v))
     → AreSegments (flat_map f (range_with_len a n))
@@ -84,40 +68,22 @@ unfolding last_before last_of no_last
 length-last ps v l = by_cases (cases_lt 0 v)
   where
     by_cases : (0 < v) ⊎ (v ≤ 0) → length (cond (v == 0) no_last (drop 820 (segment (levels ps) (4 * v - 1)))) ≡ 12
-    by_cases (inl p) =
-        ap length (cond-false (v == 0) no_last (drop 820 (segment (levels ps) (4 * v - 1)))
-        (ne_eqb v 0 (λ z. omega (arith, p, z))))
-        ∙ length-drop 820 (segment (levels ps) (4 * v - 1))
+    by_cases (inl p) = ap length (cond-false (v == 0) no_last (drop 820 (segment (levels ps) (4 * v - 1)))
+        (ne_eqb v 0 (λ z. omega (arith, p, z)))) ∙ length-drop 820 (segment (levels ps) (4 * v - 1))
         ∙ ap (λ (n : ℕ). n - 820) (length-segment (levels ps) (4 * v - 1) (omega (arith, l, p, length-levels ps)))
-    by_cases (inr z) =
-        ap length (cond-true (v == 0) no_last (drop 820 (segment (levels ps) (4 * v - 1))) (eq-eqb v 0 (omega arith)))
+    by_cases (inr z) = grind (arith, cond-true, eq-eqb)
 
 segments_sync : (ps : List (List ℕ)) (v : ℕ) → v < length ps / 4 → AreSegments (sync_before ps v)
 unfolding sync_before field_sync
-segments_sync ps v l = by_cases (4 * v % 312 == 0)
-  where
-    second : Bool
-    second = nat_le 312 (4 * v % 624)
-
-    long : length (sync_symbols second ++ last_before ps v) ≡ 832
-    long = length-append (sync_symbols second) (last_before ps v)
-        ∙ ap₂ (λ (x y : ℕ). x + y) (length_front second) (length-last ps v l)
-
-    by_cases : (t : Bool) → AreSegments (cond t (field_sync second (last_before ps v) ∷ []) [])
-    by_cases true = (long, tt)
-    by_cases false = tt
+segments_sync ps v l = grind (arith, length-append, length_front, length-last)
 
 segments_group : (ps : List (List ℕ)) (v : ℕ) → v < length ps / 4 → AreSegments (group_segments ps v)
 unfolding group_segments four_segments
-segments_group ps v l =
-    segments_append (sync_before ps v) (map (segment (levels ps)) (range_with_len (4 * v) 4)) (segments_sync ps v l)
-    (segments_map (segment (levels ps)) (4 * v) 4
-    (λ n a b. length-segment (levels ps) n (omega (arith, l, b, length-levels ps))))
+segments_group ps v l = grind (arith, segments_append, segments_sync, segments_map, length-segment, length-levels)
 
 segments_a53 : (packets : List (List ℕ)) → AreSegments (a53 packets)
 unfolding a53
-segments_a53 packets =
-    segments_flat (group_segments packets) 0 (length packets / 4) (λ v a b. segments_group packets v (omega (arith, b)))
+segments_a53 packets = grind (arith, segments_flat, segments_group)
 
 pub segment_at : (ss : List (List ℤ)) (i : ℕ) → AreSegments ss → i < length ss → length (get_or ss i []) ≡ 832
 segment_at [] i h l = absurd (omega arith)

@@ -11,18 +11,9 @@ use Rattle.dtx_coder.proofs.AlignLemmas.{in_turn}
 -- the longest branch is through 51 * 208 bytes behind the align
 pub drop_settled : (held : Branching) (x : List ℕ) (n : ℕ) → HasWidths 52 (spreading 4) held → 10764 ≤ n
     → drop n (leaving_all 52 (aligned held) x) ≡ drop n (interleaved 52 4 x)
-drop_settled held x n w l =
-    ext_get_or 0 (drop n (leaving_all 52 (aligned held) x)) (drop n (interleaved 52 4 x))
+drop_settled held x n w l = ext_get_or 0 (drop n (leaving_all 52 (aligned held) x)) (drop n (interleaved 52 4 x))
     (length-drop n (leaving_all 52 (aligned held) x) ∙ ap (λ (m : ℕ). m - n) long
-    ∙ sym (length-drop n (interleaved 52 4 x)))
-    (λ i k. get_or-drop n (leaving_all 52 (aligned held) x) i 0
-    ∙ all.come (n + i) (omega (
-      arith,
-      k,
-      length_leaving 52 (aligned held) x,
-      length-drop n (leaving_all 52 (aligned held) x),
-    )) (omega (arith, l))
-    ∙ sym (get_or-drop n (interleaved 52 4 x) i 0))
+    ∙ sym (length-drop n (interleaved 52 4 x))) (λ i k. grind (arith, get_or-drop, all, length_leaving, length-drop))
   where
     all : IsInterleavedBehind 52 4 held.lists x (leaving_all 52 (aligned held) x)
     all = behind 52 4 (aligned held) x (HasWidths-aligned 52 (spreading 4) held w) refl
@@ -33,12 +24,9 @@ drop_settled held x n w l =
 pub bytes_settled : (coder : Coding) (groups : List Group) (n : ℕ) → HasWidths 52 (spreading 4) coder.branches
     → 10764 ≤ n
     → drop n (bytes_of_groups (aligned_coding coder) groups) ≡ drop n (interleaved 52 4 (coded_groups groups))
-bytes_settled coder groups n w l = ap (drop n) (in_turn (aligned_coding coder) groups)
-    ∙ drop_settled coder.branches (coded_groups groups) n w l
+bytes_settled coder groups n w l = grind (arith, in_turn, drop_settled)
 
 pub group_settled : (coder : Coding) (groups : List Group) (u : ℕ) → HasWidths 52 (spreading 4) coder.branches
-    → 52 ≤ 4 * u
-    → take (828 * u + 828 - 828 * u) (drop (828 * u) (bytes_of_groups (aligned_coding coder) groups))
+    → 52 ≤ 4 * u → take (828 * u + 828 - 828 * u) (drop (828 * u) (bytes_of_groups (aligned_coding coder) groups))
     ≡ take (828 * u + 828 - 828 * u) (drop (828 * u) (interleaved 52 4 (coded_groups groups)))
-group_settled coder groups u w l =
-    ap (take (828 * u + 828 - 828 * u)) (bytes_settled coder groups (828 * u) w (omega (arith, l)))
+group_settled coder groups u w l = grind (arith, bytes_settled)

@@ -24,28 +24,18 @@ abbrev pub states_behind : List (List ℕ) → ℕ → List ℕ → List ℕ
 states_behind ps u y = states_after (4 * u % 312) (states ps) y
 
 levels_go_on : (ps qs : List (List ℕ)) (u : ℕ) (y : List ℕ) → length ps ≡ 4 * u
-    → whole_groups (ps ++ qs) ≡ whole_groups ps ++ y
-    → levels (ps ++ qs) ≡ levels ps ++ levels_behind ps u y
+    → whole_groups (ps ++ qs) ≡ whole_groups ps ++ y → levels (ps ++ qs) ≡ levels ps ++ levels_behind ps u y
 unfolding levels states
-levels_go_on ps qs u y e h =
-    ap (levels_of 0 zero_states) h
-    ∙ levels_append 0 u zero_states (whole_groups ps) y (long ps u e)
-    ∙ ap (λ s. levels_of 0 zero_states (whole_groups ps)
-    ++ levels_of s (states_after 0 zero_states (whole_groups ps)) y) (place_is u)
+levels_go_on ps qs u y e h = rw (h, levels_append 0 u zero_states (whole_groups ps) y (long ps u e), place_is u)
 
 states_go_on : (ps qs : List (List ℕ)) (u : ℕ) (y : List ℕ) → length ps ≡ 4 * u
-    → whole_groups (ps ++ qs) ≡ whole_groups ps ++ y
-    → states (ps ++ qs) ≡ states_behind ps u y
+    → whole_groups (ps ++ qs) ≡ whole_groups ps ++ y → states (ps ++ qs) ≡ states_behind ps u y
 unfolding states
-states_go_on ps qs u y e h =
-    ap (states_after 0 zero_states) h
-    ∙ states_append 0 u zero_states (whole_groups ps) y (long ps u e)
-    ∙ ap (λ s. states_after s (states_after 0 zero_states (whole_groups ps)) y) (place_is u)
+states_go_on ps qs u y e h = rw (h, states_append 0 u zero_states (whole_groups ps) y (long ps u e), place_is u)
 
 pub length-levels_of : (s : ℕ) (q y : List ℕ) (n : ℕ) → length y ≡ 828 * n → length (levels_of s q y) ≡ 3312 * n
 unfolding levels_of
-length-levels_of s q y n e = length-map-range_with_len (level_at s q y) 0 (3312 * groups y)
-    ∙ ap (λ (k : ℕ). 3312 * k) (groups_whole n y e)
+length-levels_of s q y n e = rw (length-map-range_with_len (level_at s q y) 0 (3312 * groups y), groups_whole n y e)
 
 pub length-levels : (ps : List (List ℕ)) → length (levels ps) ≡ 3312 * (length ps / 4)
 unfolding levels
@@ -73,16 +63,12 @@ states_next ps qs u e f = states_go_on ps qs u (bytes_behind ps qs) e (whole_nex
 pub levels_from : (packets : List (List ℕ)) (u : ℕ) → 4 * u ≤ length packets
     → levels packets ≡ levels (take (4 * u) packets)
     ++ levels_behind (take (4 * u) packets) u (drop (828 * u) (whole_groups packets))
-levels_from packets u l =
-    let front : List (List ℕ) = take (4 * u) packets in
-    subst (λ (all : List (List ℕ)). levels all ≡ levels front
-    ++ levels_behind front u (drop (828 * u) (whole_groups all))) (take-append-drop (4 * u) packets)
+levels_from packets u l = subst (λ (all : List (List ℕ)). levels all ≡ levels (take (4 * u) packets)
+    ++ levels_behind (take (4 * u) packets) u (drop (828 * u) (whole_groups all))) (take-append-drop (4 * u) packets)
     (levels_more (take (4 * u) packets) (drop (4 * u) packets) u (length-take-le (4 * u) packets l))
 
 pub states_from : (packets : List (List ℕ)) (u : ℕ) → 4 * u ≤ length packets
     → states packets ≡ states_behind (take (4 * u) packets) u (drop (828 * u) (whole_groups packets))
-states_from packets u l =
-    let front : List (List ℕ) = take (4 * u) packets in
-    subst (λ (all : List (List ℕ)). states all ≡ states_behind front u (drop (828 * u) (whole_groups all)))
-    (take-append-drop (4 * u) packets)
+states_from packets u l = subst (λ (all : List (List ℕ)). states all ≡ states_behind (take (4 * u) packets) u
+    (drop (828 * u) (whole_groups all))) (take-append-drop (4 * u) packets)
     (states_more (take (4 * u) packets) (drop (4 * u) packets) u (length-take-le (4 * u) packets l))

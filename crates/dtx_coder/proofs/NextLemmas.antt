@@ -1,16 +1,16 @@
 -- The next group of a stream: what a coder gives and holds behind it, where it stands for the packets before.
-use Rattle.std.proofs.Common.{◌≡◌, ℕ, ◌+◌, ◌-◌, ◌*◌, ◌/◌, ◌%◌, ◌<◌, ◌≤◌, ◌⊎◌, ◌↔◌, ◌==◌, nat_le, cond, inl, inr, Bool}
-use Rattle.std.proofs.Common.{true, false, ℤ, List, [], ◌∷◌, ◌++◌, length, take, refl, sym, ap, ap₂, subst, ◌∙◌, arith}
+use Rattle.std.proofs.Common.{◌≡◌, ℕ, ◌+◌, ◌-◌, ◌*◌, ◌/◌, ◌%◌, ◌≤◌, ◌↔◌, ◌==◌, nat_le, cond, Bool, true, ℤ, List, []}
+use Rattle.std.proofs.Common.{◌∷◌, ◌++◌, length, take, refl, sym, ap, ap₂, ◌∙◌, arith}
 use Rattle.std.specs.List.{range_with_len, flat_map}
 use Rattle.std.proofs.lemmas.Bool.{cases_Bool, cases_lt, cond-false, eq-eqb, ne_eqb, le-leb, lt-leb, iff_false}
 use Rattle.std.proofs.lemmas.List.{append-nil, length-append, take_all}
-use Rattle.dtx_laws.specs.Branches.{Branching, leaving_all, after_all}
+use Rattle.dtx_laws.specs.Branches.{Branching, after_all}
 use Rattle.dtx_trellis.specs.Trellis.{state_after}
 use Rattle.dtx_trellis.specs.Pairs.{groups}
-use Rattle.dtx_trellis.specs.Groups.{coder_after, levels_of, states_after}
+use Rattle.dtx_trellis.specs.Groups.{coder_after, states_after}
 use Rattle.dtx_frame.specs.Segments.{field_sync}
 use Rattle.dtx_coder.specs.Coded.{coded_from, coded, spread, whole_groups}
-use Rattle.dtx_coder.specs.Stream.{zero_states, levels, states, segment, four_segments, last_of, no_last, last_before}
+use Rattle.dtx_coder.specs.Stream.{zero_states, levels, states, segment, four_segments, last_of, last_before}
 use Rattle.dtx_coder.specs.Stream.{sync_before, group_segments, a53}
 use Rattle.dtx_coder.specs.Groups.{Coding, Group, StandsFor, IsNextGroup, zero_branches, new_coding, stream_coding}
 use Rattle.dtx_coder.specs.Groups.{bytes_of, group_levels, air_segments, after_group}
@@ -22,19 +22,10 @@ use Rattle.dtx_coder.proofs.StreamLemmas.{sync_front, a53_append}
 -- ---- tests that say the same
 
 is_zero : (b : Bool) (x y : ℕ) → ((b ≡ true) ↔ (x ≡ 0)) → x ≡ y → b ≡ (y == 0)
-is_zero b x y h e = by_cases (cases_Bool b)
-  where
-    by_cases : (b ≡ true) ⊎ (b ≡ false) → b ≡ (y == 0)
-    by_cases (inl t) = t ∙ sym (eq-eqb y 0 (sym e ∙ h.0 t))
-    by_cases (inr f) = f ∙ sym (ne_eqb y 0 (λ z. iff_false h f (e ∙ z)))
+is_zero b x y h e = grind (arith, cases_Bool, eq-eqb, ne_eqb, iff_false)
 
 is_above : (b : Bool) (x y : ℕ) → ((b ≡ true) ↔ (312 ≤ x)) → x ≡ y → b ≡ nat_le 312 y
-is_above b x y h e = by_cases (cases_Bool b) (cases_lt y 312)
-  where
-    by_cases : (b ≡ true) ⊎ (b ≡ false) → (y < 312) ⊎ (312 ≤ y) → b ≡ nat_le 312 y
-    by_cases (inl t) o = t ∙ sym (le-leb 312 y (subst (λ (n : ℕ). 312 ≤ n) e (h.0 t)))
-    by_cases (inr f) (inl l) = f ∙ sym (lt-leb 312 y l)
-    by_cases (inr f) (inr l) = absurd (iff_false h f (subst (λ (n : ℕ). 312 ≤ n) (sym e) l))
+is_above b x y h e = grind (arith, cases_Bool, cases_lt, le-leb, lt-leb, iff_false)
 
 -- ---- the group's bytes and levels
 
@@ -44,8 +35,7 @@ take_whole ps e = take_all (4 * (length ps / 4)) ps (omega (arith, e))
 branches_held : (coder : Coding) (ps : List (List ℕ)) → StandsFor coder ps → length ps % 4 ≡ 0
     → coder.branches ≡ after_all 52 zero_branches (coded ps)
 unfolding stream_coding
-branches_held coder ps s e = ap (λ (c : Coding). c.branches) s
-    ∙ ap (λ xs. after_all 52 zero_branches (coded xs)) (take_whole ps e)
+branches_held coder ps s e = grind (arith, take_whole)
 
 states_held : (coder : Coding) (ps : List (List ℕ)) → StandsFor coder ps → coder.states ≡ states ps
 unfolding stream_coding
@@ -74,21 +64,16 @@ codewords_are coder ps u g n = coded_place g.first (length ps) g.packets (let a 
 bytes_are : (coder : Coding) (ps : List (List ℕ)) (u : ℕ) (g : Group) → Next coder ps u g
     → bytes_of coder g ≡ bytes_behind ps g.packets
 unfolding bytes_of
-bytes_are coder ps u g n =
-    ap₂ (leaving_all 52) (branches_held coder ps n.stands n.next.whole) (codewords_are coder ps u g n)
+bytes_are coder ps u g n = grind (arith, branches_held, codewords_are)
 
 levels_are : (coder : Coding) (ps : List (List ℕ)) (u : ℕ) (g : Group) → Next coder ps u g
     → group_levels coder g ≡ levels_behind ps u (bytes_behind ps g.packets)
 unfolding group_levels
-levels_are coder ps u g n =
-    ap (λ s. levels_of s g.from (bytes_of coder g)) (place_of coder ps u g n)
-    ∙ ap₂ (levels_of (4 * u % 312)) (n.next.states ∙ states_held coder ps n.stands) (bytes_are coder ps u g n)
+levels_are coder ps u g n = grind (arith, place_of, states_held, bytes_are)
 
 states_are : (coder : Coding) (ps : List (List ℕ)) (u : ℕ) (g : Group) → Next coder ps u g
     → states_after g.first g.from (bytes_of coder g) ≡ states_behind ps u (bytes_behind ps g.packets)
-states_are coder ps u g n =
-    ap (λ s. states_after s g.from (bytes_of coder g)) (place_of coder ps u g n)
-    ∙ ap₂ (states_after (4 * u % 312)) (n.next.states ∙ states_held coder ps n.stands) (bytes_are coder ps u g n)
+states_are coder ps u g n = grind (arith, place_of, states_held, bytes_are)
 
 levels_long : (ps : List (List ℕ)) (u : ℕ) → length ps ≡ 4 * u → length (levels ps) ≡ 828 * (4 * u)
 levels_long ps u e = omega (arith, e, length-levels ps)
@@ -98,38 +83,26 @@ levels_long ps u e = omega (arith, e, length-levels ps)
 sync_is : (coder : Coding) (ps : List (List ℕ)) (u : ℕ) (g : Group) → Next coder ps u g
     → cond g.sync (field_sync g.second coder.last ∷ []) [] ≡ sync_before (ps ++ g.packets) u
 unfolding sync_before
-sync_is coder ps u g n =
-    let e : length ps ≡ 4 * u = whole_of coder ps u g n in
-    ap (λ b. cond b (field_sync g.second coder.last ∷ []) [])
-    (is_zero g.sync g.first (4 * u % 312) n.next.sync (place_of coder ps u g n))
-    ∙ ap₂ (λ second last. cond (4 * u % 312 == 0) (field_sync second last ∷ []) [])
-    (is_above g.second (length ps % 624) (4 * u % 624) n.next.second (ap (λ (k : ℕ). k % 624) e))
-    (last_held coder ps n.stands ∙ ap (last_before ps) (sym n.groups))
-    ∙ sym (sync_front ps g.packets u u e (omega arith))
+sync_is coder ps u g n = grind (arith, whole_of, is_zero, place_of, is_above, last_held, sync_front)
 
 group_is : (coder : Coding) (ps : List (List ℕ)) (u : ℕ) (g : Group) → Next coder ps u g
     → group_segments (ps ++ g.packets) u ≡ air_segments coder g
 unfolding group_segments air_segments
-group_is coder ps u g n =
-    let e : length ps ≡ 4 * u = whole_of coder ps u g n in
-    ap₂ ◌++◌ (sym (sync_is coder ps u g n))
-    (ap (λ zs. four_segments zs (4 * u)) (levels_next ps g.packets u e n.next.four)
-    ∙ four_back (levels ps) (levels_behind ps u (bytes_behind ps g.packets)) (4 * u) (levels_long ps u e)
-    ∙ ap (λ zs. four_segments zs 0) (sym (levels_are coder ps u g n)))
+group_is coder ps u g n = ap₂ ◌++◌ (sym (sync_is coder ps u g n))
+    (ap (λ zs. four_segments zs (4 * u)) (levels_next ps g.packets u (whole_of coder ps u g n) n.next.four)
+    ∙ four_back (levels ps) (levels_behind ps u (bytes_behind ps g.packets)) (4 * u)
+    (levels_long ps u (whole_of coder ps u g n)) ∙ ap (λ zs. four_segments zs 0) (sym (levels_are coder ps u g n)))
 
 segments_by : (coder : Coding) (ps : List (List ℕ)) (u : ℕ) (g : Group) → Next coder ps u g
     → a53 (ps ++ g.packets) ≡ a53 ps ++ air_segments coder g
-segments_by coder ps u g n =
-    a53_append ps g.packets u (whole_of coder ps u g n)
+segments_by coder ps u g n = a53_append ps g.packets u (whole_of coder ps u g n)
     ∙ ap (λ k. a53 ps ++ flat_map (group_segments (ps ++ g.packets)) (range_with_len u k)) (let a = n.next.four in
     let one : length g.packets / 4 ≡ 1 = omega (arith, a) in one)
     ∙ ap (λ s. a53 ps ++ s) (append-nil (group_segments (ps ++ g.packets) u) ∙ group_is coder ps u g n)
 
 pub next_segments : (coder : Coding) (packets : List (List ℕ)) (group : Group) → StandsFor coder packets
-    → IsNextGroup packets coder.states group
-    → a53 (packets ++ group.packets) ≡ a53 packets ++ air_segments coder group
-next_segments coder packets group s n =
-    segments_by coder packets (length packets / 4) group (record { stands = s; next = n; groups = refl })
+    → IsNextGroup packets coder.states group → a53 (packets ++ group.packets) ≡ a53 packets ++ air_segments coder group
+next_segments coder packets group s n = grind (arith, segments_by)
 
 -- ---- what the coder holds
 
@@ -138,28 +111,20 @@ last_is : (coder : Coding) (ps : List (List ℕ)) (u : ℕ) (g : Group) → Next
 unfolding last_before
 last_is coder ps u g n =
     let e : length ps ≡ 4 * u = whole_of coder ps u g n in
-    ap last_of
-    (ap (λ zs. segment zs 3) (levels_are coder ps u g n)
+    ap last_of (ap (λ zs. segment zs 3) (levels_are coder ps u g n)
     ∙ sym (segment_back (levels ps) (levels_behind ps u (bytes_behind ps g.packets)) (4 * u) 3 (levels_long ps u e))
-    ∙ ap₂ segment (sym (levels_next ps g.packets u e n.next.four)) (behind u))
-    ∙ sym (cond-false (u + 1 == 0) no_last (last_of (segment (levels (ps ++ g.packets)) (4 * (u + 1) - 1)))
-    (ne_eqb (u + 1) 0 (λ z. omega (arith, z))))
+    ∙ ap₂ segment (sym (levels_next ps g.packets u e n.next.four)) (behind u)) ∙ sym (grind (arith, cond-false, ne_eqb))
   where
     behind : (u : ℕ) → 4 * u + 3 ≡ 4 * (u + 1) - 1
     behind u = omega arith
 
 branches_are : (coder : Coding) (ps : List (List ℕ)) (u : ℕ) (g : Group) → Next coder ps u g
     → after_all 52 coder.branches (coded_from g.first g.packets) ≡ after_all 52 zero_branches (coded (ps ++ g.packets))
-branches_are coder ps u g n =
-    ap₂ (after_all 52) (branches_held coder ps n.stands n.next.whole) (codewords_are coder ps u g n)
-    ∙ sym (branches_append ps g.packets)
+branches_are coder ps u g n = grind (arith, branches_held, codewords_are, branches_append)
 
 pub same_coding : (a b : List ℕ) (c d : List ℤ) (x y : Branching) → a ≡ b → c ≡ d → x ≡ y
     → ◌≡◌ {A = Coding} (record { states = a; last = c; branches = x }) (record { states = b; last = d; branches = y })
-same_coding a b c d x y e f g =
-    ap (λ v. record { states = v; last = c; branches = x }) e
-    ∙ ap (λ v. record { states = b; last = v; branches = x }) f
-    ∙ ap (λ v. record { states = b; last = d; branches = v }) g
+same_coding a b c d x y e f g = grind arith
 
 stands_by : (coder : Coding) (ps : List (List ℕ)) (u : ℕ) (g : Group) → Next coder ps u g
     → StandsFor (after_group coder g) (ps ++ g.packets)
@@ -168,28 +133,18 @@ stands_by coder ps u g n =
     let e : length ps ≡ 4 * u = whole_of coder ps u g n in
     let four : length g.packets ≡ 4 = n.next.four in
     let all : length (ps ++ g.packets) ≡ length ps + length g.packets = length-append ps g.packets in
-    same_coding
-    (states_after g.first g.from (bytes_of coder g)) (states (ps ++ g.packets))
+    same_coding (states_after g.first g.from (bytes_of coder g)) (states (ps ++ g.packets))
     (last_of (segment (group_levels coder g) 3)) (last_before (ps ++ g.packets) (length (ps ++ g.packets) / 4))
     (after_all 52 coder.branches (coded_from g.first g.packets))
     (after_all 52 zero_branches (coded (take (4 * (length (ps ++ g.packets) / 4)) (ps ++ g.packets))))
-    (states_are coder ps u g n ∙ sym (states_next ps g.packets u e four))
-    (last_is coder ps u g n
-    ∙ ap (last_before (ps ++ g.packets)) (let c : u + 1 ≡ length (ps ++ g.packets) / 4 = omega (
-      arith,
-      e,
-      four,
-      all,
-    ) in c))
-    (branches_are coder ps u g n
+    (states_are coder ps u g n ∙ sym (states_next ps g.packets u e four)) (last_is coder ps u g n
+    ∙ ap (last_before (ps ++ g.packets)) (grind arith)) (branches_are coder ps u g n
     ∙ ap (λ xs. after_all 52 zero_branches (coded xs))
     (sym (take_whole (ps ++ g.packets) (omega (arith, e, four, all)))))
 
 pub next_stands : (coder : Coding) (packets : List (List ℕ)) (group : Group) → StandsFor coder packets
-    → IsNextGroup packets coder.states group
-    → StandsFor (after_group coder group) (packets ++ group.packets)
-next_stands coder packets group s n =
-    stands_by coder packets (length packets / 4) group (record { stands = s; next = n; groups = refl })
+    → IsNextGroup packets coder.states group → StandsFor (after_group coder group) (packets ++ group.packets)
+next_stands coder packets group s n = grind (arith, stands_by)
 
 -- ---- no packets
 

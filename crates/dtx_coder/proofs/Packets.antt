@@ -1,7 +1,7 @@
 -- The codewords of packets, one after another.
 use borrow.Rule.Slice.PartMut.{put_mid}
 use Rattle.std.proofs.Common.{◌≡◌, ℕ, ◌+◌, ◌*◌, ◌/◌, ◌%◌, ◌<◌, ◌≤◌, List, [], ◌∷◌, ◌++◌, length, map, get_or, take}
-use Rattle.std.proofs.Common.{drop, refl, lit<, sym, ap, ap₂, subst, ◌∙◌, arith}
+use Rattle.std.proofs.Common.{drop, refl, lit<, sym, ap, ap₂, ◌∙◌, arith}
 use Rattle.std.specs.List.{concat}
 use Rattle.std.proofs.Math.Seq.{take-add}
 use Rattle.std.proofs.lemmas.List.{get_or-map, length-drop, length-map, length-take-le}
@@ -35,8 +35,7 @@ AreData head packet = record { behind : head ≡ drop 1 packet; whole : length p
 
 -- the codewords of four packets' data are those of the packets
 pub four_coded : (first : ℕ) (white : List ℕ) (ps : List (List ℕ)) (one two three four : List ℕ)
-    → white ≡ randomizer_bytes → length ps ≡ 4
-    → AreData one (get_or ps 0 []) → AreData two (get_or ps 1 [])
+    → white ≡ randomizer_bytes → length ps ≡ 4 → AreData one (get_or ps 0 []) → AreData two (get_or ps 1 [])
     → AreData three (get_or ps 2 []) → AreData four (get_or ps 3 [])
     → concat (codewords 207 187 white first (one ∷ two ∷ three ∷ four ∷ [])) ≡ coded_from first ps
 unfolding coded_from
@@ -54,12 +53,7 @@ pub packets_coded : {A : Type 0} (f : A → List ℕ) (first : ℕ) (white : Lis
     → AreData one (f (get_or ps 0 d)) → AreData two (f (get_or ps 1 d))
     → AreData three (f (get_or ps 2 d)) → AreData four (f (get_or ps 3 d))
     → concat (codewords 207 187 white first (one ∷ two ∷ three ∷ four ∷ [])) ≡ coded_from first (map f ps)
-packets_coded f first white ps d one two three four w l d1 d2 d3 d4 =
-    four_coded first white (map f ps) one two three four w (length-map ps f ∙ l) (each 0 one (lit< tt) d1)
-    (each 1 two (lit< tt) d2) (each 2 three (lit< tt) d3) (each 3 four (lit< tt) d4)
-  where
-    each : (i : ℕ) (head : List ℕ) → i < 4 → AreData head (f (get_or ps i d)) → AreData head (get_or (map f ps) i [])
-    each i head m a = subst (AreData head) (sym (get_or-map f ps i d [] (omega (arith, l, m)))) a
+packets_coded f first white ps d one two three four w l d1 d2 d3 d4 = grind (arith, four_coded, length-map, get_or-map)
 
 pub words_none : (first : ℕ) → [] ≡ coded_from first []
 unfolding coded_from
@@ -67,20 +61,16 @@ words_none first = refl
 
 -- more packets, in fours: those of group i are written, at a piece of that length, behind the ones before
 pub words_on : (first i size : ℕ) (ps : List (List ℕ)) (words group : List ℕ) → 4 * i + 4 ≤ length ps → size ≡ 828
-    → length words ≡ 207 * length ps
-    → take (828 * i) words ≡ coded_from first (take (4 * i) ps)
+    → length words ≡ 207 * length ps → take (828 * i) words ≡ coded_from first (take (4 * i) ps)
     → group ≡ coded_from (first + 4 * i) (take 4 (drop (4 * i) ps))
     → take (828 * (i + 1)) (put_mid (828 * i) size words group) ≡ coded_from first (take (4 * (i + 1)) ps)
 words_on first i size ps words group within e long before is =
-    let long_group : length group ≡ 828 =
-    ap length is ∙ length-coded (first + 4 * i) (take 4 (drop (4 * i) ps))
+    let long_group : length group ≡ 828 = ap length is ∙ length-coded (first + 4 * i) (take 4 (drop (4 * i) ps))
     ∙ ap (λ (n : ℕ). 207 * n) (length-take-le 4 (drop (4 * i) ps) (omega (arith, length-drop (4 * i) ps, within))) in
     ap₂ (λ m n. take n (put_mid (828 * i) m words group)) e (let f : 828 * (i + 1) ≡ 828 * i + 828 = omega arith in f)
-    ∙ written_behind (828 * i) 828 words group (omega (arith, long, within)) long_group
-    ∙ ap₂ ◌++◌ before is
+    ∙ written_behind (828 * i) 828 words group (omega (arith, long, within)) long_group ∙ ap₂ ◌++◌ before is
     ∙ ap (λ n. coded_from first (take (4 * i) ps) ++ coded_from (first + n) (take 4 (drop (4 * i) ps)))
-    (sym (length-take-le (4 * i) ps (omega (arith, within))))
-    ∙ sym (coded_append first (take (4 * i) ps) (take 4 (drop (4 * i) ps)))
+    (sym (grind (arith, length-take-le))) ∙ sym (coded_append first (take (4 * i) ps) (take 4 (drop (4 * i) ps)))
     ∙ ap (coded_from first) (sym (take-add (4 * i) 4 ps)
     ∙ ap (λ n. take n ps) (let e : 4 * i + 4 ≡ 4 * (i + 1) = omega arith in e))
 

@@ -34,10 +34,8 @@ pub bytes_append : (coder : Coding) (front rest : List Group)
     ++ bytes_of_groups (after_groups coder front) rest
 unfolding bytes_of_groups after_groups
 bytes_append coder [] rest = refl
-bytes_append coder (g ∷ gs) rest =
-    ap (λ zs. bytes_of coder g ++ zs) (bytes_append (after_group coder g) gs rest)
-    ∙ sym (append_assoc (bytes_of coder g) (bytes_of_groups (after_group coder g) gs)
-    (bytes_of_groups (after_groups (after_group coder g) gs) rest))
+bytes_append coder (g ∷ gs) rest = ap (λ zs. bytes_of coder g ++ zs) (bytes_append (after_group coder g) gs rest)
+    ∙ sym (grind (arith, append_assoc))
 
 pub segments_append : (coder : Coding) (front rest : List Group)
     → segments_of_groups coder (front ++ rest) ≡ segments_of_groups coder front
@@ -46,8 +44,7 @@ unfolding segments_of_groups after_groups
 segments_append coder [] rest = refl
 segments_append coder (g ∷ gs) rest =
     ap (λ zs. air_segments coder g ++ zs) (segments_append (after_group coder g) gs rest)
-    ∙ sym (append_assoc (air_segments coder g) (segments_of_groups (after_group coder g) gs)
-    (segments_of_groups (after_groups (after_group coder g) gs) rest))
+    ∙ sym (grind (arith, append_assoc))
 
 -- ---- bytes
 
@@ -55,23 +52,16 @@ pub branches_groups : (coder : Coding) (gs : List Group)
     → (after_groups coder gs).branches ≡ after_all 52 coder.branches (coded_groups gs)
 unfolding after_groups after_group after_all
 branches_groups coder [] = refl
-branches_groups coder (g ∷ gs) = branches_groups (after_group coder g) gs
-    ∙ sym (after_append 52 coder.branches (coded_from g.first g.packets) (coded_groups gs))
+branches_groups coder (g ∷ gs) = branches_groups (after_group coder g) gs ∙ sym (grind (arith, after_append))
 
 pub length-bytes_of : (coder : Coding) (g : Group) → length g.packets ≡ 4 → length (bytes_of coder g) ≡ 828
 unfolding bytes_of
-length-bytes_of coder g e = omega (
-  arith,
-  length_leaving 52 coder.branches (coded_from g.first g.packets),
-  length-coded g.first g.packets,
-  e,
-)
+length-bytes_of coder g e = grind (arith, length_leaving, length-coded)
 
 length-coded_groups : (gs : List Group) (s : ℕ) → AreInTurn s gs → length (coded_groups gs) ≡ 828 * length gs
 unfolding AreInTurn
 length-coded_groups [] s t = refl
-length-coded_groups (g ∷ gs) s t =
-    length-append (coded_from g.first g.packets) (coded_groups gs)
+length-coded_groups (g ∷ gs) s t = length-append (coded_from g.first g.packets) (coded_groups gs)
     ∙ ap₂ (λ (x y : ℕ). x + y) (length-coded g.first g.packets
     ∙ ap (λ (n : ℕ). 207 * n) t.1) (length-coded_groups gs (group_place s 1) t.2)
     ∙ more (length gs)
@@ -81,8 +71,7 @@ length-coded_groups (g ∷ gs) s t =
 
 pub length-bytes_of_groups : (coder : Coding) (gs : List Group) (s : ℕ) → AreInTurn s gs
     → length (bytes_of_groups coder gs) ≡ 828 * length gs
-length-bytes_of_groups coder gs s t = ap length (in_turn coder gs) ∙ length_leaving 52 coder.branches (coded_groups gs)
-    ∙ length-coded_groups gs s t
+length-bytes_of_groups coder gs s t = grind (arith, in_turn, length_leaving, length-coded_groups)
 
 next_place : (s k m : ℕ) → s % 312 ≡ k % 312 → m ≡ 4 → group_place s 1 % 312 ≡ (k + m) % 312
 unfolding group_place
@@ -96,8 +85,7 @@ coded_in_turn : (gs : List Group) (s k : ℕ) → AreInTurn s gs → s % 312 ≡
     → coded_groups gs ≡ coded_from k (group_packets gs)
 unfolding AreInTurn
 coded_in_turn [] s k t e = coded_none k
-coded_in_turn (g ∷ gs) s k t e =
-    ap₂ ◌++◌ (coded_place g.first k g.packets (ap (λ (n : ℕ). n % 312) t.0
+coded_in_turn (g ∷ gs) s k t e = ap₂ ◌++◌ (coded_place g.first k g.packets (ap (λ (n : ℕ). n % 312) t.0
     ∙ e)) (coded_in_turn gs (group_place s 1) (k + length g.packets) t.2 (next_place s k (length g.packets) e t.1))
     ∙ sym (coded_append k g.packets (group_packets gs))
 
@@ -124,8 +112,7 @@ states_in : (coder : Coding) (s : ℕ) (q : List ℕ) (gs : List Group) → AreI
     → (after_groups coder gs).states ≡ states_after s q (bytes_of_groups coder gs)
 unfolding AreInTurn GoOn after_groups bytes_of_groups
 states_in coder s q [] t o l = absurd (omega (arith, l))
-states_in coder s q (g ∷ []) t o l = states_at coder g s q t.0 o.0
-    ∙ ap (states_after s q) (sym (append-nil (bytes_of coder g)))
+states_in coder s q (g ∷ []) t o l = grind (arith, states_at, append-nil)
 states_in coder s q (g ∷ (h ∷ gs)) t o l =
     let rest : List ℕ = bytes_of_groups (after_group coder g) (h ∷ gs) in
     states_in (after_group coder g) (group_place s 1) (after_group coder g).states (h ∷ gs) t.2 o.1 (omega arith)
@@ -142,8 +129,7 @@ states_run coder s q gs r l = states_in coder s q gs r.in_turn r.go_on l
 levels_parts : (coder : Coding) (g : Group) (s : ℕ) (q rest : List ℕ) → g.first ≡ s → g.from ≡ q → length g.packets ≡ 4
     → levels_of s q (bytes_of coder g ++ rest) ≡ group_levels coder g
     ++ levels_of (group_place s 1) (after_group coder g).states rest
-levels_parts coder g s q rest e f four =
-    levels_append s 1 q (bytes_of coder g) rest (one_group coder g four)
+levels_parts coder g s q rest e f four = levels_append s 1 q (bytes_of coder g) rest (one_group coder g four)
     ∙ ap₂ (λ xs p. xs ++ levels_of (group_place s 1) p rest) (sym (levels_at coder g s q e f))
     (sym (states_at coder g s q e f))
 
@@ -159,8 +145,7 @@ length-group_levels coder g e = length-levels_of g.first g.from (bytes_of coder 
 last_behind : (last : List ℤ) (xs zs : List ℕ) (n : ℕ) → length xs ≡ 828 * 4
     → last_in last (xs ++ zs) (n + 1) ≡ last_in (last_of (segment xs 3)) zs n
 unfolding last_in
-last_behind last xs zs n e =
-    cond-false (n + 1 == 0) last (last_of (segment (xs ++ zs) (4 * (n + 1) - 1)))
+last_behind last xs zs n e = cond-false (n + 1 == 0) last (last_of (segment (xs ++ zs) (4 * (n + 1) - 1)))
     (ne_eqb (n + 1) 0 (λ z. omega (arith, z))) ∙ by_cases n
   where
     back : (n : ℕ) → 4 * (suc n + 1) - 1 ≡ 4 + (4 * suc n - 1)
@@ -169,10 +154,8 @@ last_behind last xs zs n e =
     by_cases : (n : ℕ) → last_of (segment (xs ++ zs) (4 * (n + 1) - 1))
         ≡ cond (n == 0) (last_of (segment xs 3)) (last_of (segment zs (4 * n - 1)))
     by_cases zero = ap last_of (segment_front xs zs 3 (omega (arith, e)))
-    by_cases (suc n) =
-        ap last_of (ap (segment (xs ++ zs)) (back n) ∙ segment_back xs zs 4 (4 * suc n - 1) e)
-        ∙ sym (cond-false (suc n == 0) (last_of (segment xs 3)) (last_of (segment zs (4 * suc n - 1)))
-        (ne_eqb (suc n) 0 (λ z. omega (arith, z))))
+    by_cases (suc n) = ap last_of (ap (segment (xs ++ zs)) (back n) ∙ segment_back xs zs 4 (4 * suc n - 1) e)
+        ∙ sym (grind (arith, cond-false, ne_eqb))
 
 group_behind : (last : List ℤ) (xs zs : List ℕ) (n : ℕ) (g : Group) → length xs ≡ 828 * 4
     → run_group last (xs ++ zs) (n + 1, g) ≡ run_group (last_of (segment xs 3)) zs (n, g)
@@ -194,9 +177,7 @@ groups_behind last xs zs n (g ∷ gs) e = ap₂ ◌++◌ (group_behind last xs z
 group_front : (coder : Coding) (g : Group) (zs : List ℕ) → length g.packets ≡ 4
     → air_segments coder g ≡ run_group coder.last (group_levels coder g ++ zs) (0, g)
 unfolding air_segments run_group last_in
-group_front coder g zs e =
-    ap (λ ss. cond g.sync (field_sync g.second coder.last ∷ []) [] ++ ss)
-    (sym (four_front (group_levels coder g) zs 0 (omega (arith, length-group_levels coder g e))))
+group_front coder g zs e = grind (arith, four_front, length-group_levels)
 
 segments_in : (coder : Coding) (s : ℕ) (q : List ℕ) (gs : List Group) → AreInTurn s gs → GoOn q coder gs
     → segments_of_groups coder gs ≡ run_segments coder.last (levels_of s q (bytes_of_groups coder gs)) gs
@@ -210,8 +191,7 @@ segments_in coder s q (g ∷ gs) t o =
     (segments_in (after_group coder g) (group_place s 1) (after_group coder g).states gs t.2 o.1
     ∙ ap (λ l. flat_map (run_group l zs) (enumerate_from 0 gs)) (last_after coder g)
     ∙ sym (groups_behind coder.last xs zs 0 gs (length-group_levels coder g t.1)))
-    ∙ ap (λ ys. flat_map (run_group coder.last ys) (enumerate_from 0 (g ∷ gs)))
-    (sym (levels_parts coder g s q rest t.0 o.0 t.1))
+    ∙ ap (λ ys. flat_map (run_group coder.last ys) (enumerate_from 0 (g ∷ gs))) (sym (grind (arith, levels_parts)))
 
 pub segments_run : (coder : Coding) (s : ℕ) (q : List ℕ) (gs : List Group) → IsGroupRun s q coder gs
     → segments_of_groups coder gs ≡ run_segments coder.last (levels_of s q (bytes_of_groups coder gs)) gs
@@ -230,8 +210,7 @@ last_in_run coder s q (g ∷ gs) t o =
     let rest : List ℕ = bytes_of_groups (after_group coder g) gs in
     let zs : List ℕ = levels_of (group_place s 1) (after_group coder g).states rest in
     last_in_run (after_group coder g) (group_place s 1) (after_group coder g).states gs t.2 o.1
-    ∙ ap (λ l. last_in l zs (length gs)) (last_after coder g)
-    ∙ sym (last_behind coder.last xs zs (length gs) (length-group_levels coder g t.1))
+    ∙ ap (λ l. last_in l zs (length gs)) (last_after coder g) ∙ sym (grind (arith, last_behind, length-group_levels))
     ∙ ap₂ (last_in coder.last) (sym (levels_parts coder g s q rest t.0 o.0 t.1)) (let e : length gs + 1
     ≡ suc (length gs) = omega arith in e)
 
@@ -243,27 +222,20 @@ last_run coder s q gs r = last_in_run coder s q gs r.in_turn r.go_on
 
 bytes_since : (coder : Coding) (front run : List Group) (r : ℕ) → AreInTurn r front
     → bytes_of_groups (after_groups coder front) run ≡ drop (828 * length front) (bytes_of_groups coder (front ++ run))
-bytes_since coder front run r t =
-    sym (drop_at (bytes_of_groups coder front) (bytes_of_groups (after_groups coder front) run) (828 * length front)
-    (length-bytes_of_groups coder front r t))
-    ∙ ap (drop (828 * length front)) (sym (bytes_append coder front run))
+bytes_since coder front run r t = grind (arith, drop_at, length-bytes_of_groups, bytes_append)
 
 pub segments_restart : (coder : Coding) (front run : List Group) (r s : ℕ) (q : List ℕ) → AreInTurn r front
-    → IsGroupRun s q (after_groups coder front) run
-    → segments_of_groups coder (front ++ run)
+    → IsGroupRun s q (after_groups coder front) run → segments_of_groups coder (front ++ run)
     ≡ segments_of_groups coder front ++ run_segments (after_groups coder front).last
     (levels_of s q (drop (828 * length front) (bytes_of_groups coder (front ++ run)))) run
-segments_restart coder front run r s q t i =
-    segments_append coder front run
-    ∙ ap (λ ss. segments_of_groups coder front ++ ss)
-    (segments_run (after_groups coder front) s q run i
+segments_restart coder front run r s q t i = segments_append coder front run
+    ∙ ap (λ ss. segments_of_groups coder front ++ ss) (segments_run (after_groups coder front) s q run i
     ∙ ap (λ ys. run_segments (after_groups coder front).last (levels_of s q ys) run) (bytes_since coder front run r t))
 
 pub states_restart : (coder : Coding) (front run : List Group) (r s : ℕ) (q : List ℕ) → AreInTurn r front
     → IsGroupRun s q (after_groups coder front) run → 0 < length run
     → (after_groups coder (front ++ run)).states ≡ states_after s q
     (drop (828 * length front) (bytes_of_groups coder (front ++ run)))
-states_restart coder front run r s q t i l =
-    ap (λ (c : Coding). c.states) (coder_append coder front run)
+states_restart coder front run r s q t i l = ap (λ (c : Coding). c.states) (coder_append coder front run)
     ∙ states_run (after_groups coder front) s q run i l
     ∙ ap (states_after s q) (bytes_since coder front run r t)

@@ -1,11 +1,10 @@
 -- The segments of levels that stand behind others.
-use Rattle.std.proofs.Common.{◌≡◌, ℕ, ◌+◌, ◌-◌, ◌*◌, ◌≤◌, List, ◌++◌, length, map, take, drop, sym, ap, ap₂, ◌∙◌, arith}
+use Rattle.std.proofs.Common.{◌≡◌, ℕ, ◌+◌, ◌-◌, ◌*◌, ◌≤◌, List, ◌++◌, length, take, drop, ap, ◌∙◌, arith}
 use Rattle.dtx_lists.proofs.Range.{map-range_same}
 use Rattle.dtx_lists.proofs.RangeMoved.{map-range_moved}
 use Rattle.dtx_coder.proofs.SlicesLemmas.{piece-front, piece-back}
 use Rattle.std.proofs.lemmas.List.{length-append, length-drop, length-map, length-take-le}
-use Rattle.dtx_trellis.specs.Trellis.{symbol_of}
-use Rattle.dtx_frame.specs.Segments.{data_segment, segment_sync}
+use Rattle.dtx_frame.specs.Segments.{data_segment}
 use Rattle.dtx_frame.proofs.SymbolsLemmas.{length_sync}
 use Rattle.dtx_coder.specs.Stream.{segment, four_segments}
 
@@ -17,46 +16,36 @@ unfolding segment
 segment_is zs n = ap (λ k. data_segment (take k (drop (828 * n) zs))) (size (828 * n))
 
 pub segment_front : (xs ys : List ℕ) (n : ℕ) → 828 * n + 828 ≤ length xs → segment (xs ++ ys) n ≡ segment xs n
-segment_front xs ys n l = segment_is (xs ++ ys) n ∙ ap data_segment (piece-front xs ys (828 * n) 828 l)
-    ∙ sym (segment_is xs n)
+segment_front xs ys n l = rw (segment_is (xs ++ ys) n, piece-front xs ys (828 * n) 828 l, ← segment_is xs n)
 
 pub segment_back : (xs ys : List ℕ) (m i : ℕ) → length xs ≡ 828 * m → segment (xs ++ ys) (m + i) ≡ segment ys i
-segment_back xs ys m i e =
-    segment_is (xs ++ ys) (m + i)
-    ∙ ap data_segment (ap (λ k. take 828 (drop k (xs ++ ys))) (apart m i) ∙ piece-back xs ys (828 * m) (828 * i) 828 e)
-    ∙ sym (segment_is ys i)
+segment_back xs ys m i e = simp (segment_is, apart, piece-back)
   where
     apart : (m i : ℕ) → 828 * (m + i) ≡ 828 * m + 828 * i
     apart m i = omega arith
 
 pub four_front : (xs ys : List ℕ) (n : ℕ) → 828 * (n + 4) ≤ length xs → four_segments (xs ++ ys) n ≡ four_segments xs n
 unfolding four_segments
-four_front xs ys n l =
-    map-range_same (segment (xs ++ ys)) (segment xs) n 4 (λ k m o. segment_front xs ys k (omega arith))
+four_front xs ys n l = grind (arith, map-range_same, segment_front)
 
 pub four_back : (xs ys : List ℕ) (m : ℕ) → length xs ≡ 828 * m → four_segments (xs ++ ys) m ≡ four_segments ys 0
 unfolding four_segments
-four_back xs ys m e =
-    map-range_moved (segment (xs ++ ys)) (segment ys) m 0 4 (λ i l. segment_back xs ys m i e
-    ∙ ap (segment ys) (let z : i ≡ 0 + i = omega arith in z))
+four_back xs ys m e = map-range_moved (segment (xs ++ ys)) (segment ys) m 0 4 (λ i l. grind (arith, segment_back))
 
 pub four_behind : (xs ys : List ℕ) (m i : ℕ) → length xs ≡ 828 * m
     → four_segments (xs ++ ys) (m + i) ≡ four_segments ys i
 unfolding four_segments
-four_behind xs ys m i e =
-    map-range_moved (segment (xs ++ ys)) (segment ys) (m + i) i 4 (λ j l. ap (segment (xs ++ ys)) (assoc m i j)
-    ∙ segment_back xs ys m (i + j) e)
+four_behind xs ys m i e = map-range_moved (segment (xs ++ ys)) (segment ys) (m + i) i 4
+    (λ j l. rw (assoc m i j, segment_back xs ys m (i + j) e))
   where
     assoc : (m i j : ℕ) → m + i + j ≡ m + (i + j)
     assoc m i j = omega arith
 
 pub length-data_segment : (zs : List ℕ) → length (data_segment zs) ≡ 4 + length zs
 unfolding data_segment
-length-data_segment zs = length-append segment_sync (map symbol_of zs)
-    ∙ ap₂ (λ (x y : ℕ). x + y) length_sync (length-map zs symbol_of)
+length-data_segment zs = grind (arith, length-append, length_sync, length-map)
 
 pub length-segment : (zs : List ℕ) (n : ℕ) → 828 * n + 828 ≤ length zs → length (segment zs n) ≡ 832
-length-segment zs n l =
-    ap length (segment_is zs n)
+length-segment zs n l = ap length (segment_is zs n)
     ∙ length-data_segment (take 828 (drop (828 * n) zs))
     ∙ ap (λ (m : ℕ). 4 + m) (length-take-le 828 (drop (828 * n) zs) (omega (arith, l, length-drop (828 * n) zs)))

@@ -19,19 +19,14 @@ use Rattle.dtx_coder.proofs.NextLemmas.{same_coding}
 -- one segment more
 symbols_more : (zs : List ℕ) (n : ℕ) → symbols_of (map (segment zs) (range_with_len 0 (n + 1)))
     ≡ symbols_of (map (segment zs) (range_with_len 0 n)) ++ segment zs n
-symbols_more zs n =
-    ap symbols_of (map-range_with_len_more (segment zs) 0 n n (let e : 0 + n ≡ n = omega arith in e))
-    ∙ flat_map-append (λ (s : List ℤ). s) (map (segment zs) (range_with_len 0 n)) (segment zs n ∷ [])
-    ∙ ap (λ s. symbols_of (map (segment zs) (range_with_len 0 n)) ++ s) (append-nil (segment zs n))
+symbols_more zs n = ap symbols_of (map-range_with_len_more (segment zs) 0 n n (let e : 0 + n ≡ n = omega arith in e))
+    ∙ grind (arith, flat_map-append, append-nil)
 
 -- the first n segments of some levels, where they are the pieces of a list
-segments_joined : (zs : List ℕ) (xs : List ℤ) (n : ℕ)
-    → ((s : ℕ) → s < n → take 832 (drop (832 * s) xs) ≡ segment zs s)
+segments_joined : (zs : List ℕ) (xs : List ℤ) (n : ℕ) → ((s : ℕ) → s < n → take 832 (drop (832 * s) xs) ≡ segment zs s)
     → take (832 * n) xs ≡ symbols_of (map (segment zs) (range_with_len 0 n))
 segments_joined zs xs zero h = refl
-segments_joined zs xs (suc n) h =
-    ap (λ k. take k xs) (let e : 832 * suc n ≡ 832 * n + 832 = omega arith in e)
-    ∙ take-add (832 * n) 832 xs
+segments_joined zs xs (suc n) h = ap (λ k. take k xs) (grind arith) ∙ take-add (832 * n) 832 xs
     ∙ ap₂ (λ x y. x ++ y) (segments_joined zs xs n (λ s l. h s (omega (arith, l)))) (h n (omega arith))
     ∙ sym (symbols_more zs n)
     ∙ ap (λ k. symbols_of (map (segment zs) (range_with_len 0 k))) (let e : n + 1 ≡ suc n = omega arith in e)
@@ -41,17 +36,14 @@ pub four_written : (zs : List ℕ) (xs : List ℤ) → length xs ≡ 3328
     → ((s : ℕ) → s < 4 → take 832 (drop (832 * s) xs) ≡ segment_sync ++ map symbol_of (take 828 (drop (828 * s) zs)))
     → xs ≡ symbols_of (four_segments zs 0)
 unfolding four_segments data_segment
-four_written zs xs long h =
-    sym (take_all (832 * 4) xs (omega (arith, long)))
+four_written zs xs long h = sym (take_all (832 * 4) xs (omega (arith, long)))
     ∙ segments_joined zs xs 4 (λ s l. h s l ∙ sym (segment_is zs s))
 
 -- the last twelve symbols of a list that ends with a segment
 last_twelve : (xs s : List ℤ) (n : ℕ) → length (xs ++ s) ≡ n → length s ≡ 832 → drop (n - 12) (xs ++ s) ≡ last_of s
 unfolding last_of
-last_twelve xs s n e l =
-    ap (λ a. drop a (xs ++ s)) (let f : n - 12 ≡ length xs + 820 = omega (arith, e, l, length-append xs s) in f)
-    ∙ sym (drop-drop 820 (length xs) (xs ++ s))
-    ∙ ap (drop 820) (drop_at xs s (length xs) refl)
+last_twelve xs s n e l = ap (λ a. drop a (xs ++ s)) (grind (arith, length-append))
+    ∙ sym (drop-drop 820 (length xs) (xs ++ s)) ∙ ap (drop 820) (drop_at xs s (length xs) refl)
 
 -- a group's segments end with the last one
 four_end : (zs : List ℕ) → symbols_of (four_segments zs 0) ≡ symbols_of (map (segment zs) (range_with_len 0 3))
@@ -96,23 +88,12 @@ last_sent old g states last count sent d =
     ap length d.ends ∙ length-drop (832 * count - 12) (take (832 * count) sent) in
     let twelve = d.twelve in
     let counted = d.counted in
-    let all : length (take (832 * count) sent) ≡ 832 * count = omega (arith, a, twelve, counted) in
     let long : length levels ≡ 3312 = length-levels_of g.first g.from g.bytes 1 d.bytes_long in
-    d.ends
-    ∙ ap (drop (832 * count - 12)) whole
-    ∙ last_twelve (front ++ three) (segment levels 3) (832 * count) (sym (ap length whole) ∙ all)
-    (length-segment levels 3 (omega (arith, long)))
+    d.ends ∙ ap (drop (832 * count - 12)) whole ∙ last_twelve (front ++ three) (segment levels 3) (832 * count)
+    (sym (ap length whole) ∙ (omega (arith, a, twelve, counted))) (length-segment levels 3 (omega (arith, long)))
 
 pub does_send : (old : Coding) (g : InterleavedGroup) (states : List ℕ) (last : List ℤ) (count : ℕ) (sent : List ℤ)
     → Does old g states last count sent
     → IsSent old g (record { states = states; last = last; branches = old.branches }) count sent
 unfolding after_bytes segments_of_bytes
-does_send old g states last count sent d = record {
-  coder =
-      same_coding states (states_after g.first g.from g.bytes) last (last_of (segment (levels_of_bytes g) 3))
-      old.branches old.branches d.states_are (last_sent old g states last count sent d) refl;
-  segments = d.counted ∙ length_sent g.sync (field_sync g.second old.last) (four_segments (levels_of_bytes g) 0)
-      (length_four (levels_of_bytes g));
-  symbols =
-      d.written ∙ symbols_sent g.sync (field_sync g.second old.last) (four_segments (levels_of_bytes g) 0);
-}
+does_send old g states last count sent d = grind (arith, same_coding, last_sent, length_sent, length_four, symbols_sent)

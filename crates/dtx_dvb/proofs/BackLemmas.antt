@@ -33,8 +33,7 @@ pub block_coded : (k : ℕ) (p : List ℕ) → length p ≡ 188
 block_coded k p l = ap (codeword 204 188) (randomized_whitened k p l)
 
 pub block_is : (k : ℕ) (p : List ℕ) → length p ≡ 188 → AreBytes p → IsCodeword 204 188 (block_of k p)
-block_is k p l b =
-    subst (IsCodeword 204 188) (sym (block_coded k p l))
+block_is k p l b = subst (IsCodeword 204 188) (sym (block_coded k p l))
     (coded_is 204 188 randomizer_bytes (188 * (k % 8)) p (lit< tt) bytes_randomizer_bytes l b)
 
 pub block_begins : (k : ℕ) (p : List ℕ) → take 188 (block_of k p) ≡ randomized k p
@@ -51,8 +50,7 @@ synced : (p : List ℕ) → length p ≡ 188 → get_or p 0 0 ≡ 0x47 → with_
 synced [] l e = absurd (omega (arith, l))
 synced (x ∷ xs) l e = ap (λ (y : ℕ). y ∷ xs) (sym e)
 
-pub block_there : (ps : List (List ℕ)) (k : ℕ) → k < length ps
-    → take 204 (drop (204 * k) (blocks ps)) ≡ block_in ps k
+pub block_there : (ps : List (List ℕ)) (k : ℕ) → k < length ps → take 204 (drop (204 * k) (blocks ps)) ≡ block_in ps k
 unfolding block_in
 block_there ps k l = block_at 0 ps k l ∙ ap (λ i. block_of i (get_or ps k [])) (zero-add k)
 
@@ -63,40 +61,27 @@ pub corrected_back : (ps : List (List ℕ)) (y : List ℕ) (k : ℕ) → ArePack
     → wrong_in ps y k ≤ 8 → read_at y k ≡ as_corrected ps y k
 unfolding read_at as_corrected wrong_in block_in
 corrected_back ps y k h l n =
-    ap (read_by from word)
-    (near_corrected 204 188 randomizer_bytes from packet word sound (length-word 204 12 17 y k)
-    (omega (arith, n, ap (distance word) is)) ∙ ap Some (sym is))
-    ∙ ap (λ (d : List ℕ). record { taken = Good (distance word (block_of k packet)); packet = d }) same
-  where
-    word : List ℕ
-    word = word_at 204 12 17 y k
-
-    packet : List ℕ
-    packet = get_or ps k []
-
-    from : ℕ
-    from = 188 * (k % 8)
-
-    own : (length (get_or ps k []) ≡ 188) × AreBytes (get_or ps k []) × (get_or (get_or ps k []) 0 0 ≡ 0x47)
-    own = packet_at ps k h l
-
-    is : block_of k (get_or ps k []) ≡ coded 204 188 randomizer_bytes (188 * (k % 8)) (get_or ps k [])
-    is = block_coded k (get_or ps k []) own.0
-
-    sound : AreData 204 188 randomizer_bytes (get_or ps k [])
-    sound = record {
+    let word : List ℕ = word_at 204 12 17 y k in
+    let packet : List ℕ = get_or ps k [] in
+    let from : ℕ = 188 * (k % 8) in
+    let own : (length (get_or ps k []) ≡ 188) × AreBytes (get_or ps k []) × (get_or (get_or ps k []) 0 0 ≡ 0x47) =
+    packet_at ps k h l in
+    let is : block_of k (get_or ps k []) ≡ coded 204 188 randomizer_bytes (188 * (k % 8)) (get_or ps k []) =
+    block_coded k (get_or ps k []) own.0 in
+    let sound : AreData 204 188 randomizer_bytes (get_or ps k []) = record {
       longer = lit< tt;
       few = omega arith;
       whitener = bytes_randomizer_bytes;
       long = own.0;
       bytes = own.1;
-    }
-
-    same : with_sync (whitened randomizer_bytes (188 * (k % 8)) (take 188 (block_of k (get_or ps k []))))
-        ≡ get_or ps k []
-    same =
-        ap (λ (c : List ℕ). with_sync (whitened randomizer_bytes from (take 188 c))) is
-        ∙ ap with_sync (coded_back 204 188 randomizer_bytes from packet own.0) ∙ synced packet own.0 own.2
+    } in
+    let same : with_sync
+    (whitened randomizer_bytes (188 * (k % 8)) (take 188 (block_of k (get_or ps k [])))) ≡ get_or ps k [] =
+    ap (λ (c : List ℕ). with_sync (whitened randomizer_bytes from (take 188 c))) is
+    ∙ ap with_sync (coded_back 204 188 randomizer_bytes from packet own.0) ∙ synced packet own.0 own.2 in
+    ap (read_by from word) (near_corrected 204 188 randomizer_bytes from packet word sound (length-word 204 12 17 y k)
+    (omega (arith, n, ap (distance word) is)) ∙ ap Some (sym is))
+    ∙ ap (λ (d : List ℕ). record { taken = Good (distance word (block_of k packet)); packet = d }) same
 
 -- ---- all packets
 
@@ -106,10 +91,7 @@ numbers n m e = omega (arith, e)
 pub all_back : (ps : List (List ℕ)) (y : List ℕ) → ArePackets ps → IsSlight ps y
     → read_dvb y ≡ map (as_corrected ps y) (range_with_len 0 (length ps - 11))
 unfolding read_dvb
-all_back ps y h s =
-    ap (λ n. map (read_at y) (range_with_len 0 n)) (numbers (length y) (length ps) s.as_many)
-    ∙ map-range_same (read_at y) (as_corrected ps y) 0 (length ps - 11)
-    (λ k a b. corrected_back ps y k h (omega (arith, b)) (s.near k (omega (arith, b))))
+all_back ps y h s = grind (arith, numbers, map-range_same, corrected_back)
 
 -- the first m packets, by their numbers
 pub firsts : (ps : List (List ℕ)) (m : ℕ) → m ≤ length ps → take m ps ≡ map (λ k. get_or ps k []) (range_with_len 0 m)
@@ -124,9 +106,7 @@ each_packet ps y (k ∷ ks) = ap (λ xs. get_or ps k [] ∷ xs) (each_packet ps 
 
 pub packets_back : (ps : List (List ℕ)) (y : List ℕ) → ArePackets ps → IsSlight ps y
     → map (λ (r : Read). r.packet) (read_dvb y) ≡ take (length ps - 11) ps
-packets_back ps y h s =
-    ap (map (λ (r : Read). r.packet)) (all_back ps y h s) ∙ each_packet ps y (range_with_len 0 (length ps - 11))
-    ∙ sym (firsts ps (length ps - 11) (omega arith))
+packets_back ps y h s = ap (map (λ (r : Read). r.packet)) (all_back ps y h s) ∙ grind (arith, each_packet, firsts)
 
 each_flag : (ps : List (List ℕ)) (y : List ℕ) (ks : List ℕ)
     → sum_by (λ (r : Read). flag_of r.taken) (map (as_corrected ps y) ks) ≡ 0
@@ -136,9 +116,7 @@ each_flag ps y (k ∷ ks) = each_flag ps y ks
 
 pub none_flagged : (ps : List (List ℕ)) (y : List ℕ) → ArePackets ps → IsSlight ps y → flagged_in (read_dvb y) ≡ 0
 unfolding flagged_in
-none_flagged ps y h s =
-    ap (sum_by (λ (r : Read). flag_of r.taken)) (all_back ps y h s)
-    ∙ each_flag ps y (range_with_len 0 (length ps - 11))
+none_flagged ps y h s = rw (all_back ps y h s, each_flag ps y (range_with_len 0 (length ps - 11)))
 
 each_fixed : (ps : List (List ℕ)) (y : List ℕ) (ks : List ℕ)
     → sum_by (λ (r : Read). fixed_of r.taken) (map (as_corrected ps y) ks) ≡ sum_by (wrong_in ps y) ks
@@ -152,16 +130,13 @@ each_fixed ps y (k ∷ ks) =
 pub all_fixed : (ps : List (List ℕ)) (y : List ℕ) → ArePackets ps → IsSlight ps y
     → fixed_in (read_dvb y) ≡ sum_by (wrong_in ps y) (range_with_len 0 (length ps - 11))
 unfolding fixed_in
-all_fixed ps y h s =
-    ap (sum_by (λ (r : Read). fixed_of r.taken)) (all_back ps y h s)
-    ∙ each_fixed ps y (range_with_len 0 (length ps - 11))
+all_fixed ps y h s = rw (all_back ps y h s, each_fixed ps y (range_with_len 0 (length ps - 11)))
 
 -- ---- undamaged
 
 pub word_is : (ps : List (List ℕ)) (k : ℕ) → k + 11 < length ps → word_at 204 12 17 (dvb ps) k ≡ block_in ps k
 unfolding dvb
-word_is ps k l =
-    word_back 204 12 17 (blocks ps) (dvb ps) k (lit< tt) (λ p m. refl)
+word_is ps k l = word_back 204 12 17 (blocks ps) (dvb ps) k (lit< tt) (λ p m. refl)
     (complete_by (length (blocks ps)) k (omega (arith, l, length-blocks 0 ps)))
     ∙ block_there ps k (omega (arith, l))
 
@@ -181,11 +156,7 @@ sent_back : (ps : List (List ℕ)) (k : ℕ) → k + 11 < length ps → as_corre
 unfolding as_corrected
 sent_back ps k l = ap (λ (n : ℕ). record { taken = Good n; packet = get_or ps k [] }) (none_wrong ps k l)
 
-pub all_as_sent : (ps : List (List ℕ)) → ArePackets ps
-    → read_dvb (dvb ps) ≡ map as_sent (take (length ps - 11) ps)
-all_as_sent ps h =
-    all_back ps (dvb ps) h (undamaged ps)
+pub all_as_sent : (ps : List (List ℕ)) → ArePackets ps → read_dvb (dvb ps) ≡ map as_sent (take (length ps - 11) ps)
+all_as_sent ps h = all_back ps (dvb ps) h (undamaged ps)
     ∙ map-range_same (as_corrected ps (dvb ps)) (λ k. as_sent (get_or ps k [])) 0 (length ps - 11)
-    (λ k a b. sent_back ps k (omega (arith, b)))
-    ∙ map-map_sent ps (range_with_len 0 (length ps - 11))
-    ∙ ap (map as_sent) (sym (firsts ps (length ps - 11) (omega arith)))
+    (λ k a b. sent_back ps k (omega (arith, b))) ∙ grind (arith, map-map_sent, firsts)

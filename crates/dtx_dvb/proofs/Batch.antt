@@ -1,6 +1,6 @@
 -- What the blocks of a batch give, one after another.
 use Rattle.std.proofs.Common.{◌≡◌, ℕ, zero, suc, ◌+◌, ◌*◌, ◌/◌, ◌%◌, ◌<◌, ◌≤◌, List, [], ◌++◌, length, get_or, take}
-use Rattle.std.proofs.Common.{drop, sym, ap, ap₂, ◌∙◌, subst, append_assoc, arith, add-one}
+use Rattle.std.proofs.Common.{drop, sym, ap, ap₂, ◌∙◌, append_assoc, arith, add-one}
 use Rattle.std.specs.List.{range_with_len, flat_map}
 use Rattle.std.proofs.Math.Seq.{take-add}
 use Rattle.std.proofs.lemmas.List.{append-nil, length-append, length-drop, length-take-le, take_all}
@@ -37,8 +37,7 @@ long_part p n bytes e l = length-take-le (204 * p) bytes (omega (arith, e, l))
 
 long_block : (p n : ℕ) (bytes : List ℕ) → length bytes ≡ 816 * n → p < 4 * n
     → length (take 204 (drop (204 * p) bytes)) ≡ 204
-long_block p n bytes e l =
-    length-take-le 204 (drop (204 * p) bytes) (omega (arith, length-drop (204 * p) bytes, e, l))
+long_block p n bytes e l = length-take-le 204 (drop (204 * p) bytes) (omega (arith, length-drop (204 * p) bytes, e, l))
 
 -- block p is one of four
 of_four : (p : ℕ) → 4 * (p / 4) + p % 4 ≡ p
@@ -48,8 +47,7 @@ of_four p = omega arith
 first_given : (y bytes : List ℕ) (old packets : List (List (List ℕ))) (taken : List (List Taken)) (n : ℕ)
     → n ≤ 4 * length packets → AreTaken y bytes old packets taken → read_dvb (y ++ take (204 * n) bytes)
     ≡ read_dvb y ++ flat_map (given_in taken packets) (range_with_len 0 n)
-first_given y bytes old packets taken zero l t =
-    ap read_dvb (append-nil y) ∙ sym (append-nil (read_dvb y))
+first_given y bytes old packets taken zero l t = ap read_dvb (append-nil y) ∙ sym (append-nil (read_dvb y))
 first_given y bytes old packets taken (suc n) l t =
     let fours : ℕ = length packets in
     let q : ℕ = n / 4 in
@@ -63,10 +61,7 @@ first_given y bytes old packets taken (suc n) l t =
     ∙ gives t.white (y ++ take (204 * n) bytes) (take 204 (drop (204 * n) bytes)) (get_or (get_or old q []) p [])
     (get_or (get_or t.new q []) p []) (t.blocks + n) (get_or (get_or taken q []) p None) t.white_is
     (omega (arith, length-append y (take (204 * n) bytes), behind, long_part n fours bytes long (omega (arith, m))))
-    (long_block n fours bytes long m)
-    (subst (λ i. IsTaken 204 188 12 17 t.white (y ++ take (204 * i) bytes) (take 204 (drop (204 * i) bytes))
-    (get_or (get_or old q []) p []) (get_or (get_or t.new q []) p []) (get_or (get_or taken q []) p None)) (of_four n)
-    (t.taken_each q p here one))
+    (long_block n fours bytes long m) (grind (arith, of_four))
     ∙ ap₂ (λ (xs : List Read) (b : List ℕ). xs ++ given (get_or (get_or taken q []) p None) b)
     (first_given y bytes old packets taken n (omega (arith, m)) t) (sym (t.finished_each q p here one))
     ∙ append_assoc (read_dvb y) (flat_map each (range_with_len 0 n)) (each n)
@@ -83,8 +78,7 @@ first_given y bytes old packets taken (suc n) l t =
         ∙ ap (λ xs. y ++ xs) (sym (take-add (204 * n) 204 bytes) ∙ ap (λ k. take k bytes) (next n))
 
     one_more : (n : ℕ) → flat_map each (range_with_len 0 (suc n)) ≡ flat_map each (range_with_len 0 n) ++ each n
-    one_more n =
-        ap (λ k. flat_map each (range_with_len 0 k)) (sym (add-one n))
+    one_more n = ap (λ k. flat_map each (range_with_len 0 k)) (sym (add-one n))
         ∙ ap (flat_map each) (range_with_len-parts 0 n 1)
         ∙ flat_map-append each (range_with_len 0 n) (range_with_len (0 + n) 1)
         ∙ ap (λ xs. flat_map each (range_with_len 0 n) ++ xs) (append-nil (each (0 + n))
@@ -94,7 +88,6 @@ pub batch_given : (y bytes : List ℕ) (old packets : List (List (List ℕ))) (t
     → AreTaken y bytes old packets taken → read_dvb (y ++ bytes) ≡ read_dvb y ++ all_given taken packets
 unfolding all_given
 batch_given y bytes old packets taken t =
-    let fours : ℕ = length packets in
-    let long : length bytes ≡ 816 * fours = t.long in
-    ap (λ xs. read_dvb (y ++ xs)) (sym (take_all (204 * (4 * fours)) bytes (omega (arith, long))))
-    ∙ first_given y bytes old packets taken (4 * fours) (omega arith) t
+    let long : length bytes ≡ 816 * (length packets) = t.long in
+    ap (λ xs. read_dvb (y ++ xs)) (sym (take_all (204 * (4 * (length packets))) bytes (omega (arith, long))))
+    ∙ first_given y bytes old packets taken (4 * (length packets)) (omega arith) t

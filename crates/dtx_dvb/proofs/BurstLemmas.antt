@@ -1,6 +1,6 @@
 -- Wrong bytes in a row: the interleaver spreads 96 of them so that no word has more than eight.
-use Rattle.std.proofs.Common.{◌≡◌, ℕ, suc, ◌+◌, ◌-◌, ◌*◌, ◌/◌, ◌%◌, ◌<◌, ◌≤◌, ◌⊎◌, ◌==◌, cond, min, max, List, []}
-use Rattle.std.proofs.Common.{◌∷◌, length, get_or, Bool, true, false, inl, inr, sym, ap, ◌∙◌, subst, arith}
+use Rattle.std.proofs.Common.{◌≡◌, ℕ, suc, ◌+◌, ◌-◌, ◌*◌, ◌/◌, ◌%◌, ◌<◌, ◌≤◌, ◌⊎◌, ◌==◌, cond, min, max, List, [], ◌∷◌}
+use Rattle.std.proofs.Common.{length, get_or, inl, inr, sym, ap, ◌∙◌, subst, arith}
 use Rattle.std.proofs.lemmas.Bool.{cases_lt, cond-true, eq-eqb}
 use Rattle.dtx_laws.specs.Codeword.{distance}
 use Rattle.dtx_outer.specs.Inner.{codeword_byte_place, word_at}
@@ -18,11 +18,7 @@ record Rises (f : ℕ → ℕ) (o : ℕ) (xs ys : List ℕ) : Type 0 where
 
 cost : (x y a b : ℕ) → a ≤ b → (x ≡ y) ⊎ (a + 1 ≤ b) → cond (x == y) 0 1 + a ≤ b
 cost x y a b l (inl e) = omega (arith, l, cond-true {A = ℕ} (x == y) 0 1 (eq-eqb x y e))
-cost x y a b l (inr m) = by_test (x == y)
-  where
-    by_test : (t : Bool) → cond t 0 1 + a ≤ b
-    by_test true = omega (arith, m)
-    by_test false = omega (arith, m)
+cost x y a b l (inr m) = grind arith
 
 by_rises : (f : ℕ → ℕ) (o : ℕ) (xs ys : List ℕ) → length xs ≡ length ys → Rises f o xs ys
     → distance xs ys + f o ≤ f (o + length xs)
@@ -32,13 +28,11 @@ by_rises f o (x ∷ xs) (y ∷ ys) l r =
     let first : cond (x == y) 0 1 + f o ≤ f (o + 1) =
     cost x y (f o) (f (o + 1)) (r.never_falls 0 o (omega arith) (omega arith))
     (r.rises 0 o (omega arith) (omega arith)) in
-    let rest : distance xs ys + f (o + 1) ≤ f (o + 1 + length xs) =
-    by_rises f (o + 1) xs ys (omega arith) (record {
+    let rest : distance xs ys + f (o + 1) ≤ f (o + 1 + length xs) = by_rises f (o + 1) xs ys (omega arith) (record {
       never_falls = λ i j h e. r.never_falls (suc i) j (omega (arith, h)) (omega (arith, e));
       rises = λ i j h e. r.rises (suc i) j (omega (arith, h)) (omega (arith, e));
     }) in
-    let end : f (o + 1 + length xs) ≡ f (o + length (x ∷ xs)) =
-    ap f (let e : o + 1 + length xs ≡ o + length (x ∷ xs) = omega arith in e) in
+    let end : f (o + 1 + length xs) ≡ f (o + length (x ∷ xs)) = ap f (grind arith) in
     omega (arith, first, rest, end)
 
 -- ---- the places of a word in a row of bytes
@@ -90,11 +84,7 @@ record InSecond (k a j : ℕ) : Type 0 where
   pub to : j + 108 < a % 204
 
 in_row : (k a j : ℕ) → j < 204 → a ≤ place k j → place k j < a + 96 → InFirst k a j ⊎ InSecond k a j
-in_row k a j l f t = by_cases (cases_lt (a / 204) (k + j % 12))
-  where
-    by_cases : (a / 204 < k + j % 12) ⊎ (k + j % 12 ≤ a / 204) → InFirst k a j ⊎ InSecond k a j
-    by_cases (inl m) = inr (record { residue = omega arith; to = omega arith })
-    by_cases (inr m) = inl (record { residue = omega arith; from = omega arith; to = omega arith })
+in_row k a j l f t = grind (arith, cases_lt)
 
 -- Two words agree but in the places of word k in the row.
 record Agree (k a : ℕ) (xs ys : List ℕ) : Type 0 where
@@ -111,33 +101,14 @@ record Counts (k a : ℕ) (f : ℕ → ℕ) : Type 0 where
 
 rises_by : (k a : ℕ) (f : ℕ → ℕ) (xs ys : List ℕ) → Agree k a xs ys → Counts k a f → (j : ℕ) → j < 204
     → (get_or xs j 0 ≡ get_or ys j 0) ⊎ (f j + 1 ≤ f (j + 1))
-rises_by k a f xs ys g c j l = by_cases (cases_lt (place k j) a) (cases_lt (place k j) (a + 96))
-  where
-    in_part : InFirst k a j ⊎ InSecond k a j → (get_or xs j 0 ≡ get_or ys j 0) ⊎ (f j + 1 ≤ f (j + 1))
-    in_part (inl h) = inr (c.first j l h)
-    in_part (inr h) = inr (c.second j l h)
-
-    by_cases : (place k j < a) ⊎ (a ≤ place k j) → (place k j < a + 96) ⊎ (a + 96 ≤ place k j)
-        → (get_or xs j 0 ≡ get_or ys j 0) ⊎ (f j + 1 ≤ f (j + 1))
-    by_cases (inl m) n = inl (g.others j l (inl m))
-    by_cases (inr m) (inr n) = inl (g.others j l (inr n))
-    by_cases (inr m) (inl n) = in_part (in_row k a j l m n)
+rises_by k a f xs ys g c j l = grind (arith, cases_lt, in_row)
 
 few_differ : (k a : ℕ) (f : ℕ → ℕ) (xs ys : List ℕ) → Agree k a xs ys → Counts k a f → distance xs ys ≤ 8
 few_differ k a f xs ys g c =
     let long : length xs ≡ 204 = g.long in
     let few : f 204 ≤ f 0 + 8 = c.few in
     let end : f (0 + length xs) ≡ f 204 = ap f (let e : 0 + length xs ≡ 204 = omega arith in e) in
-    omega (
-      arith,
-      few,
-      end,
-      by_rises f 0 xs ys (long ∙ sym g.other) (record {
-        never_falls = λ i j h e. c.never_falls j (omega (arith, h, e, long));
-        rises = λ i j h e. subst (λ (n : ℕ). (get_or xs n 0 ≡ get_or ys n 0) ⊎ (f j + 1 ≤ f (j + 1)))
-            (let d : j ≡ i = omega (arith, e) in d) (rises_by k a f xs ys g c j (omega (arith, h, e, long)));
-      }),
-    )
+    omega (arith, few, end, by_rises f 0 xs ys (long ∙ sym g.other) (grind (arith, rises_by)))
 
 -- ---- the four ways in which word k may lie
 
@@ -192,12 +163,14 @@ lies_elsewhere k a e = record {
     not_second (inr l) j h = omega (arith, l, h.residue)
 
 at_most_eight : (k a : ℕ) (xs ys : List ℕ) → Agree k a xs ys → distance xs ys ≤ 8
-at_most_eight k a xs ys g = by_side (cases_lt (a / 204) k)
+at_most_eight k a xs ys g = elim (cases_lt (a / 204) k) [
+  | inl l ↦ behind l (cases_lt (a / 204 + 1) k)
+  | inr l ↦ ahead l (cases_lt (k + 11) (a / 204))
+]
   where
     behind : a / 204 < k → (a / 204 + 1 < k) ⊎ (k ≤ a / 204 + 1) → distance xs ys ≤ 8
     behind l (inl m) = few_differ k a (λ j. 0) xs ys g (lies_elsewhere k a (inr m))
-    behind l (inr m) =
-        few_differ k a (second_count (a % 204) 0) xs ys g (lies_in_second k a (omega (arith, l, m)))
+    behind l (inr m) = few_differ k a (second_count (a % 204) 0) xs ys g (lies_in_second k a (omega (arith, l, m)))
 
     near : k ≤ a / 204 → a / 204 ≤ k + 11 → (a / 204 < k + 11) ⊎ (k + 11 ≤ a / 204) → distance xs ys ≤ 8
     near l h (inl m) =
@@ -207,10 +180,6 @@ at_most_eight k a xs ys g = by_side (cases_lt (a / 204) k)
     ahead : k ≤ a / 204 → (k + 11 < a / 204) ⊎ (a / 204 ≤ k + 11) → distance xs ys ≤ 8
     ahead l (inl m) = few_differ k a (λ j. 0) xs ys g (lies_elsewhere k a (inl m))
     ahead l (inr m) = near l m (cases_lt (a / 204) (k + 11))
-
-    by_side : (a / 204 < k) ⊎ (k ≤ a / 204) → distance xs ys ≤ 8
-    by_side (inl l) = behind l (cases_lt (a / 204 + 1) k)
-    by_side (inr l) = ahead l (cases_lt (k + 11) (a / 204))
 
 -- ---- a stream
 

@@ -1,12 +1,9 @@
 -- What a block gives.
-use Rattle.std.proofs.Common.{◌≡◌, ℕ, ◌*◌, ◌/◌, ◌%◌, ◌<◌, Option, List, [], ◌∷◌, ◌++◌, length, take}
-use Rattle.std.proofs.Common.{refl, sym, ap, ◌∙◌, subst, lit<, arith}
-use Rattle.dtx_laws.specs.Codeword.{distance}
-use Rattle.dtx_laws.specs.Whitening.{whitened}
+use Rattle.std.proofs.Common.{◌≡◌, ℕ, ◌*◌, ◌/◌, ◌%◌, ◌<◌, List, ◌++◌, length, sym, ap, ◌∙◌, subst, lit<, arith}
 use Rattle.dtx_outer.specs.Inner.{IsTaken, waiting}
 use Rattle.dtx_outer.proofs.MadeLemmas.{IsTold, made_told}
 use Rattle.dtx_outer.specs.declared.inner.Taken.{Taken}
-use Rattle.dtx_outer.specs.declared.inner.Taken.TheVariants.{None, Good, Bad}
+use Rattle.dtx_outer.specs.declared.inner.Taken.TheVariants.{None}
 use Rattle.dtx_dvb.specs.Read.{Read}
 use Rattle.dtx_dvb.specs.Randomizer.{randomizer_bytes}
 use Rattle.dtx_dvb.proofs.RandomizerLemmas.{length-randomizer_bytes}
@@ -26,26 +23,15 @@ place_is : (k : ℕ) → 188 * (k % (length randomizer_bytes / 188)) ≡ 188 * (
 place_is k = ap (λ n. 188 * (k % (n / 188))) length-randomizer_bytes
 
 is_told : IsTold 204 188 randomizer_bytes read_word told
-is_told = record {
-  nothing = λ out. refl;
-  good = λ k word code e.
-      ap (λ p. told (Good (distance word code)) (whitened randomizer_bytes p (take 188 code))) (place_is k)
-      ∙ ap (λ (o : Option (List ℕ)). read_by (188 * (k % 8)) word o ∷ []) (sym e);
-  bad = λ k word e.
-      ap (λ p. told Bad (whitened randomizer_bytes p (take 188 word))) (place_is k)
-      ∙ ap (λ (o : Option (List ℕ)). read_by (188 * (k % 8)) word o ∷ []) (sym e);
-}
+is_told = grind (arith, place_is)
 
 -- what the block behind s others brings, by what was taken of it
 pub gives : (white before block old new : List ℕ) (s : ℕ) (taken : Taken) → white ≡ randomizer_bytes
-    → length before ≡ 204 * s → length block ≡ 204
-    → IsTaken 204 188 12 17 white before block old new taken
+    → length before ≡ 204 * s → length block ≡ 204 → IsTaken 204 188 12 17 white before block old new taken
     → read_dvb (before ++ block) ≡ read_dvb before ++ given taken (finished taken new)
-gives white before block old new s taken w g l t =
-    sym (read_made (before ++ block))
+gives white before block old new s taken w g l t = sym (read_made (before ++ block))
     ∙ made_told 204 188 12 17 randomizer_bytes read_word told before block old new s taken (lit< tt) (omega arith)
-    (lit< tt) is_told g l (subst (λ (b : List ℕ). IsTaken 204 188 12 17 b before block old new taken) w t)
-    ∙ ap (λ xs. xs ++ told taken new) (read_made before)
+    (lit< tt) is_told g l (grind arith) ∙ ap (λ xs. xs ++ told taken new) (read_made before)
 
 -- what a block that gives nothing leaves
 pub nothing_finished : (taken : Taken) (old new : List ℕ) → taken ≡ None → new ≡ old → finished taken new ≡ old

@@ -55,16 +55,14 @@ small_bit t = small_bits (suc t) (15 + t) (omega (arith, length-sequence (suc t)
 pub sequence_stays : (n m i : ℕ) → i < 15 + n → get_or (sequence (m + n)) i 0 ≡ get_or (sequence n) i 0
 unfolding sequence
 sequence_stays n zero i l = ap (λ k. get_or (sequence k) i 0) (let e : 0 + n ≡ n = omega arith in e)
-sequence_stays n (suc m) i l =
-    ap (λ k. get_or (sequence k) i 0) (let e : suc m + n ≡ suc (m + n) = omega arith in e)
+sequence_stays n (suc m) i l = ap (λ k. get_or (sequence k) i 0) (let e : suc m + n ≡ suc (m + n) = omega arith in e)
     ∙ get_or_append_left (sequence (m + n)) _ 0 i (omega (arith, l, length-sequence (m + n)))
     ∙ sequence_stays n m i l
 
 -- place by place
 pub bit_in : (n t : ℕ) → t < n → get_or (sequence n) (15 + t) 0 ≡ randomizer_bit t
 unfolding randomizer_bit
-bit_in n t l =
-    ap (λ k. get_or (sequence k) (15 + t) 0) (let e : n ≡ n - suc t + suc t = omega (arith, l) in e)
+bit_in n t l = ap (λ k. get_or (sequence k) (15 + t) 0) (let e : n ≡ n - suc t + suc t = omega (arith, l) in e)
     ∙ sequence_stays (suc t) (n - suc t) (15 + t) (omega arith)
 
 pub loaded_in : (n i : ℕ) → i < 15 → get_or (sequence n) i 0 ≡ get_or loaded i 0
@@ -76,25 +74,18 @@ loaded_in n i l =
 pub sequence_next : (n : ℕ) → sequence (suc n)
     ≡ sequence n ++ (bit_xor (get_or (sequence n) (n + 1) 0) (get_or (sequence n) n 0)) ∷ []
 unfolding sequence
-sequence_next n =
-    ap₂ (λ (i j : ℕ). sequence n ++ (bit_xor (get_or (sequence n) i 0) (get_or (sequence n) j 0)) ∷ [])
+sequence_next n = ap₂ (λ (i j : ℕ). sequence n ++ (bit_xor (get_or (sequence n) i 0) (get_or (sequence n) j 0)) ∷ [])
     (omega (arith, length-sequence n)) (omega (arith, length-sequence n))
 
 -- the rule of the sequence
 pub sequence_rule : (n i : ℕ) → i < n → get_or (sequence n) (15 + i) 0
     ≡ bit_xor (get_or (sequence n) (1 + i) 0) (get_or (sequence n) i 0)
-sequence_rule n i l =
-    before (suc i) (15 + i) l (omega arith)
-    ∙ ap (λ s. get_or s (15 + i) 0) (sequence_next i)
-    ∙ get_or_push (sequence i) _ 0 (15 + i) (length-sequence i)
-    ∙ ap₂ bit_xor
-    (ap (λ j. get_or (sequence i) j 0) (let e : i + 1 ≡ 1 + i = omega arith in e)
-    ∙ sym (before i (1 + i) (omega (arith, l)) (omega arith)))
+sequence_rule n i l = before (suc i) (15 + i) l (omega arith) ∙ ap (λ s. get_or s (15 + i) 0) (sequence_next i)
+    ∙ get_or_push (sequence i) _ 0 (15 + i) (length-sequence i) ∙ ap₂ bit_xor (grind (arith, before))
     (sym (before i i (omega (arith, l)) (omega arith)))
   where
     before : (m j : ℕ) → m ≤ n → j < 15 + m → get_or (sequence n) j 0 ≡ get_or (sequence m) j 0
-    before m j k h =
-        ap (λ a. get_or (sequence a) j 0) (let e : n ≡ n - m + m = omega (arith, k) in e)
+    before m j k h = ap (λ a. get_or (sequence a) j 0) (let e : n ≡ n - m + m = omega (arith, k) in e)
         ∙ sequence_stays m (n - m) j h
 
 -- ---- bytes
@@ -137,24 +128,14 @@ byte_first t e = sym (cond-true (t == 0) 255 _ (eq-eqb t 0 e))
 
 pub byte_sync : (t : ℕ) → t ≢ 0 → t % 188 ≡ 0 → 0 ≡ randomizer_byte t
 unfolding randomizer_byte
-byte_sync t n e =
-    sym (cond-false (t == 0) 255 _ (ne_eqb t 0 n) ∙ cond-true (t % 188 == 0) 0 _ (eq-eqb (t % 188) 0 e))
+byte_sync t n e = sym (cond-false (t == 0) 255 _ (ne_eqb t 0 n) ∙ cond-true (t % 188 == 0) 0 _ (eq-eqb (t % 188) 0 e))
 
 pub byte_else : (n t : ℕ) → t ≢ 0 → t % 188 ≢ 0 → 8 * (t - 1) + 8 ≤ n
     → randomizer_byte t ≡ eight_bits (λ i. get_or (sequence n) (15 + 8 * (t - 1) + i) 0)
 unfolding randomizer_byte
 byte_else n t a b l =
-    cond-false (t == 0) 255 _ (ne_eqb t 0 a) ∙ cond-false (t % 188 == 0) 0 _ (ne_eqb (t % 188) 0 b)
-    ∙ eight
-  where
-    place : (i : ℕ) → i < 8 → randomizer_bit (8 * (t - 1) + i) ≡ get_or (sequence n) (15 + 8 * (t - 1) + i) 0
-    place i m =
-        sym (bit_in n (8 * (t - 1) + i) (omega (arith, l, m)))
-        ∙ ap (λ k. get_or (sequence n) k 0) (let e : 15 + (8 * (t - 1) + i) ≡ 15 + 8 * (t - 1) + i = omega arith in e)
-
-    eight : eight_bits (λ i. randomizer_bit (8 * (t - 1) + i))
-        ≡ eight_bits (λ i. get_or (sequence n) (15 + 8 * (t - 1) + i) 0)
-    eight = omega (
+    let eight : eight_bits (λ i. randomizer_bit (8 * (t - 1) + i)) ≡ eight_bits
+    (λ i. get_or (sequence n) (15 + 8 * (t - 1) + i) 0) = omega (
       arith,
       place 0 (omega arith),
       place 1 (omega arith),
@@ -164,7 +145,12 @@ byte_else n t a b l =
       place 5 (omega arith),
       place 6 (omega arith),
       place 7 (omega arith),
-    )
+    ) in
+    cond-false (t == 0) 255 _ (ne_eqb t 0 a) ∙ cond-false (t % 188 == 0) 0 _ (ne_eqb (t % 188) 0 b) ∙ eight
+  where
+    place : (i : ℕ) → i < 8 → randomizer_bit (8 * (t - 1) + i) ≡ get_or (sequence n) (15 + 8 * (t - 1) + i) 0
+    place i m = sym (bit_in n (8 * (t - 1) + i) (omega (arith, l, m)))
+        ∙ ap (λ k. get_or (sequence n) k 0) (let e : 15 + (8 * (t - 1) + i) ≡ 15 + 8 * (t - 1) + i = omega arith in e)
 
 -- known place by place
 pub randomizer_bytes_by : (bytes : List ℕ) → length bytes ≡ 188 * 8

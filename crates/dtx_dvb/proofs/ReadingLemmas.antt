@@ -1,6 +1,6 @@
 -- The packets that are read, by how many blocks have come.
 use Rattle.std.proofs.Common.{◌≡◌, ℕ, ◌+◌, ◌-◌, ◌*◌, ◌/◌, ◌%◌, ◌<◌, ◌≤◌, ◌↔◌, List, [], ◌∷◌, ◌++◌, map, length, get_or}
-use Rattle.std.proofs.Common.{refl, sym, ap, ◌∙◌, subst, arith, lit<}
+use Rattle.std.proofs.Common.{refl, sym, ap, ◌∙◌, arith, lit<}
 use Rattle.std.specs.List.{range_with_len}
 use Rattle.std.proofs.lemmas.List.FromFn.{length-map-range_with_len, get_or-map-range_with_len}
 use Rattle.dtx_laws.specs.Words.{correction}
@@ -18,18 +18,13 @@ waiting_dvb = refl
 
 -- a word is there when eleven blocks more than its own have come
 pub complete_by : (given k : ℕ) → 204 * (k + 12) ≤ given → IsComplete 204 12 17 given k
-complete_by given k l =
-    complete_then 204 12 17 given k (omega arith) (omega arith)
-    (subst (λ (w : ℕ). 204 * (w + k + 1) ≤ given) (sym waiting_dvb) (omega (arith, l)))
+complete_by given k l = grind (arith, complete_then, waiting_dvb)
 
 last_byte : (given k : ℕ) → IsComplete 204 12 17 given k → 204 * (k + 12) ≤ given
 last_byte given k c = omega (arith, c 203 (omega arith))
 
 pub complete_where : (given k : ℕ) → k < given / 204 - 11 ↔ IsComplete 204 12 17 given k
-complete_where given k = (
-  λ l. complete_by given k (omega (arith, l)),
-  λ c. omega (arith, last_byte given k c),
-)
+complete_where given k = grind (arith, complete_by, last_byte)
 
 -- ---- how many
 
@@ -40,9 +35,7 @@ length-read bytes = length-map-range_with_len (read_at bytes) 0 (length bytes / 
 pub get_or-read : (bytes : List ℕ) (k : ℕ) (other : Read) → k < length bytes / 204 - 11
     → get_or (read_dvb bytes) k other ≡ read_at bytes k
 unfolding read_dvb
-get_or-read bytes k other l =
-    get_or-map-range_with_len (read_at bytes) 0 (length bytes / 204 - 11) k k other l
-    (let e : 0 + k ≡ k = omega arith in e)
+get_or-read bytes k other l = grind (arith, get_or-map-range_with_len)
 
 -- ---- as more bytes come
 
@@ -67,8 +60,7 @@ next_of bytes s n = next_in 204 12 17 read_word bytes s n
 pub read_more : (bytes more : List ℕ) (s n : ℕ) → length bytes / 204 ≡ s → length (bytes ++ more) / 204 ≡ s + n
     → read_dvb (bytes ++ more) ≡ read_dvb bytes ++ next_of (bytes ++ more) s n
 read_more bytes more s n e f =
-    sym (read_made (bytes ++ more)) ∙ made_more 204 12 17 read_word bytes more s n (lit< tt) (lit< tt) e f
-    ∙ ap (λ xs. xs ++ next_of (bytes ++ more) s n) (read_made bytes)
+    grind (arith, read_made, made_more) ∙ ap (λ xs. xs ++ next_of (bytes ++ more) s n) (read_made bytes)
 
 -- loose bytes, fewer than a block, give nothing
 pub read_loose : (bytes more : List ℕ) (s : ℕ) → length bytes ≡ 204 * s → length more < 204
@@ -79,19 +71,15 @@ read_loose bytes more s e l =
 -- one block more: no packet, while few have come, and then packet s - 11
 pub read_short : (bytes more : List ℕ) (s : ℕ) → length bytes ≡ 204 * s → length more ≡ 204 → s < 11
     → read_dvb (bytes ++ more) ≡ read_dvb bytes
-read_short bytes more s e f l =
-    sym (read_made (bytes ++ more))
-    ∙ made_none 204 12 17 read_word bytes more s (lit< tt) (lit< tt) e f (omega (arith, l, waiting_dvb))
-    ∙ read_made bytes
+read_short bytes more s e f l = sym (read_made (bytes ++ more))
+    ∙ made_none 204 12 17 read_word bytes more s (lit< tt) (lit< tt) e f (omega (arith, waiting_dvb)) ∙ read_made bytes
 
 pub read_next : (bytes more : List ℕ) (s : ℕ) → length bytes ≡ 204 * s → length more ≡ 204 → 11 ≤ s
     → read_dvb (bytes ++ more) ≡ read_dvb bytes ++ read_at (bytes ++ more) (s - 11) ∷ []
 unfolding read_at
-read_next bytes more s e f l =
-    sym (read_made (bytes ++ more))
+read_next bytes more s e f l = sym (read_made (bytes ++ more))
     ∙ made_next 204 12 17 read_word bytes more s (lit< tt) (lit< tt) e f (omega (arith, l, waiting_dvb))
-    ∙ ap (λ xs. xs ++ at (s - waiting 204 12 17) ∷ []) (read_made bytes)
-    ∙ ap (λ w. read_dvb bytes ++ at (s - w) ∷ []) waiting_dvb
+    ∙ grind (arith, at, read_made, waiting_dvb)
   where
     at : ℕ → Read
     at k = read_word k (word_at 204 12 17 (bytes ++ more) k)

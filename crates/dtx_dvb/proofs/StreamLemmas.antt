@@ -1,12 +1,10 @@
 -- Streams that stand behind other packets.
-use Rattle.std.proofs.Common.{◌≡◌, ℕ, ◌+◌, ◌*◌, ◌%◌, ◌<◌, List, [], ◌∷◌, ◌++◌, length, take, drop, map}
-use Rattle.std.proofs.Common.{get_or, bit_xor, refl, sym, ap, ap₂, ◌∙◌, arith, lit<, zero-add}
-use Rattle.std.specs.List.{range_with_len}
+use Rattle.std.proofs.Common.{◌≡◌, ℕ, ◌+◌, ◌*◌, ◌%◌, ◌<◌, List, [], ◌∷◌, ◌++◌, length, take, drop, get_or, bit_xor}
+use Rattle.std.proofs.Common.{refl, sym, ap, ap₂, ◌∙◌, arith, lit<, zero-add}
 use Rattle.std.proofs.lemmas.List.{append-nil, take_at}
 use Rattle.std.proofs.lemmas.List.FromFn.{length-map-range_with_len, get_or-map-range_with_len}
 use Rattle.std.proofs.lemmas.Nat.{mod_below}
 use Rattle.dtx_lists.proofs.Enumerated.{pieces_append, length-pieces, piece_at}
-use Rattle.dtx_laws.specs.Words.{codeword}
 use Rattle.dtx_laws.specs.Branches.{Branching, leaving_all, after_all}
 use Rattle.dtx_laws.specs.Interleaving.{interleaved, interleaved_at}
 use Rattle.dtx_laws.specs.Whitening.{whitened}
@@ -23,8 +21,7 @@ use Rattle.dtx_dvb.specs.Sending.{HasSent}
 
 pub length-randomized : (k : ℕ) (packet : List ℕ) → length (randomized k packet) ≡ 188
 unfolding randomized
-length-randomized k packet =
-    length-map-range_with_len (λ j. bit_xor (get_or packet j 0) (randomizer_byte (188 * (k % 8) + j))) 0 188
+length-randomized k packet = grind (arith, length-map-range_with_len)
 
 pub get_or-randomized : (k : ℕ) (packet : List ℕ) (j : ℕ) → j < 188
     → get_or (randomized k packet) j 0 ≡ bit_xor (get_or packet j 0) (randomizer_byte (188 * (k % 8) + j))
@@ -45,8 +42,7 @@ randomized_whitened k packet e =
 -- the randomizer begins anew with each group of eight
 pub randomized_place : (j k : ℕ) (packet : List ℕ) → j % 8 ≡ k % 8 → randomized j packet ≡ randomized k packet
 unfolding randomized
-randomized_place j k packet e =
-    ap (λ (m : ℕ). map (λ i. bit_xor (get_or packet i 0) (randomizer_byte (188 * m + i))) (range_with_len 0 188)) e
+randomized_place j k packet e = grind arith
 
 -- ---- blocks
 
@@ -74,8 +70,7 @@ length-blocks k ps = length-pieces block 204 k ps length-block
 pub blocks_place : (j k : ℕ) (ps : List (List ℕ)) → j % 8 ≡ k % 8 → blocks_from j ps ≡ blocks_from k ps
 unfolding blocks_from
 blocks_place j k [] e = refl
-blocks_place j k (p ∷ ps) e =
-    ap₂ ◌++◌ (ap (codeword 204 188) (randomized_place j k p e)) (blocks_place (j + 1) (k + 1) ps (omega arith))
+blocks_place j k (p ∷ ps) e = ap₂ ◌++◌ (grind (arith, randomized_place)) (blocks_place (j + 1) (k + 1) ps (omega arith))
 
 pub block_at : (s : ℕ) (ps : List (List ℕ)) (k : ℕ) → k < length ps
     → take 204 (drop (204 * k) (blocks_from s ps)) ≡ block_of (s + k) (get_or ps k [])
@@ -93,17 +88,13 @@ blocks_more ps qs = blocks_append 0 ps qs ∙ ap (λ k. blocks ps ++ blocks_from
 
 pub dvb_append : (ps qs : List (List ℕ)) → dvb (ps ++ qs) ≡ dvb ps ++ bytes_behind ps qs
 unfolding dvb
-dvb_append ps qs =
-    ap (interleaved 12 17) (blocks_more ps qs)
-    ∙ sym (zeros_give 12 17 (blocks ps ++ blocks_from (length ps) qs) (lit< tt))
+dvb_append ps qs = ap (interleaved 12 17) (blocks_more ps qs) ∙ sym (grind (arith, zeros_give))
     ∙ leaving_append 12 zero_branches (blocks ps) (blocks_from (length ps) qs)
     ∙ ap (λ xs. xs ++ bytes_behind ps qs) (zeros_give 12 17 (blocks ps) (lit< tt))
 
 pub branches_append : (ps qs : List (List ℕ)) → after_all 12 zero_branches (blocks (ps ++ qs))
     ≡ after_all 12 (after_all 12 zero_branches (blocks ps)) (blocks_from (length ps) qs)
-branches_append ps qs =
-    ap (after_all 12 zero_branches) (blocks_more ps qs)
-    ∙ after_append 12 zero_branches (blocks ps) (blocks_from (length ps) qs)
+branches_append ps qs = grind (arith, blocks_more, after_append)
 
 pub length-dvb : (ps : List (List ℕ)) → length (dvb ps) ≡ 204 * length ps
 unfolding dvb
@@ -112,14 +103,11 @@ length-dvb ps = length-interleaved 12 17 (blocks ps) ∙ length-blocks 0 ps
 pub get_or-dvb : (ps : List (List ℕ)) (n : ℕ) → n < length (dvb ps)
     → get_or (dvb ps) n 0 ≡ interleaved_at 12 17 (blocks ps) n
 unfolding dvb
-get_or-dvb ps n l =
-    get_or-interleaved 12 17 (blocks ps) n (omega (arith, l, length-interleaved 12 17 (blocks ps)))
+get_or-dvb ps n l = get_or-interleaved 12 17 (blocks ps) n (omega (arith, l, length-interleaved 12 17 (blocks ps)))
 
 -- what is sent of the first packets is the begin of what is sent of all
 pub dvb_front : (ps qs : List (List ℕ)) → take (204 * length ps) (dvb (ps ++ qs)) ≡ dvb ps
-dvb_front ps qs =
-    ap (take (204 * length ps)) (dvb_append ps qs)
-    ∙ take_at (dvb ps) (bytes_behind ps qs) (204 * length ps) (length-dvb ps)
+dvb_front ps qs = grind (arith, dvb_append, take_at, length-dvb)
 
 -- ---- what is kept
 
@@ -130,14 +118,8 @@ sent_nothing = record { branches = refl }
 -- packets more, at their place of a group of eight
 pub sent_more : (ps qs : List (List ℕ)) (place : ℕ) (branches : Branching) → HasSent ps branches
     → place ≡ length ps % 8 → HasSent (ps ++ qs) (after_all 12 branches (blocks_from place qs))
-sent_more ps qs place branches h e = record {
-  branches = ap₂ (after_all 12) h.branches (blocks_place place (length ps) qs (omega (arith, e)))
-      ∙ sym (branches_append ps qs);
-}
+sent_more ps qs place branches h e = grind (arith, blocks_place, branches_append)
 
 pub bytes_more : (ps qs : List (List ℕ)) (place : ℕ) (branches : Branching) → HasSent ps branches
     → place ≡ length ps % 8 → dvb (ps ++ qs) ≡ dvb ps ++ leaving_all 12 branches (blocks_from place qs)
-bytes_more ps qs place branches h e =
-    dvb_append ps qs
-    ∙ ap (λ xs. dvb ps ++ xs) (sym (ap₂ (leaving_all 12) h.branches
-    (blocks_place place (length ps) qs (omega (arith, e)))))
+bytes_more ps qs place branches h e = grind (arith, dvb_append, blocks_place)

@@ -33,10 +33,8 @@ pub emission_more : (a d : ℕ) (l r : List (List ℕ)) → emission a d (l ++ r
 unfolding emission emission_behind
 emission_more a d l r =
     let f : ℕ → List (List ℤ) = λ i. last_segments a d (take (i + 1) (l ++ r)) in
-    ap (λ n. flat_map f (range_with_len 0 n)) (length-append l r)
-    ∙ ap (flat_map f) (range_with_len-parts 0 (length l) (length r))
-    ∙ flat_map-append f (range_with_len 0 (length l)) (range_with_len (0 + length l) (length r))
-    ∙ ap₂ ◌++◌ (front_same a d l r (length l) (omega arith)) (grind (arith, flat_map-range_moved, take_behind))
+    ap (λ n. flat_map f (range_with_len 0 n)) (length-append l r) ∙
+    grind (arith, range_with_len-parts, flat_map-append, front_same, flat_map-range_moved, take_behind)
 
 pub emission_push : (a d : ℕ) (l : List (List ℕ)) (p : List ℕ)
     → emission a d (l ++ p ∷ []) ≡ emission a d l ++ last_segments a d (l ++ p ∷ [])

@@ -90,12 +90,10 @@ last_none l i e z = last_is l i 0 e (omega (arith, z)) ∙ force_first (readings
 
 pub force_is : (l : List (List ℕ)) (i : ℕ) (p : List ℕ) → Ends l i → orders (readings (l ++ p ∷ [])) i
     ≡ cons_option (placed i (counting_order (readings (l ++ p ∷ [])) i)) (last_orders l)
-force_is l i p e = by_place (zero_or i e.whole)
-  where
-    by_place : (i ≡ 0) ⊎ (4 ≤ i) → orders (readings (l ++ p ∷ [])) i
-        ≡ cons_option (placed i (counting_order (readings (l ++ p ∷ [])) i)) (last_orders l)
-    by_place (inl z) = grind (arith, force_first, counted_early, last_none)
-    by_place (inr m) = grind (arith, force_more, said_append, force_left, length-said, last_is)
+force_is l i p e = elim (zero_or i e.whole) [
+  | inl z ↦ grind (arith, force_first, counted_early, last_none)
+  | inr m ↦ grind (arith, force_more, said_append, force_left, length-said, last_is)
+]
 
 -- the order in force before the group
 pub before_is : (l : List (List ℕ)) (i : ℕ) (p : List ℕ) → Ends l i → 4 ≤ i
@@ -124,7 +122,6 @@ last_older l i order older e h = elim (zero_or i e.whole) [
       record {
         flushed = b.flushed;
         whole = b.whole;
-        before = let x = s.below in let y = b.whole in let z = e.whole in
-            omega (arith, x, y, z, m);
+        before = grind arith;
       }
 ]

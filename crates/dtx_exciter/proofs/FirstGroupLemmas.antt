@@ -62,11 +62,7 @@ given_first a d z base feed mark n first m g = given_last a d base feed mark fir
     ∙ sync_first (length base + first) (sent_at a d (life base feed mark first) (length base + (first - 4)))
     (levels (upto feed mark (first + 4))) (mark + first)
     ∙ ap (λ x. x ++ four_segments (levels (upto feed mark (first + 4))) (mark + first))
-    (sync_place (sent_at a d (life base feed mark first) (length base + (first - 4))) (length base + first)
-    (mark + first) (let m1 = m.at_mark in let m2 = m.at_other in omega (arith, m1, m2))
-    ∙ sym (ap (λ x. sync_behind x (mark + first)) earlier ∙ sync_over (length base + (first - 4)) (mark + first)
-    (sent_before a d (life base feed mark first) (length base + (first - 4)))
-    (sent_at a d (life base feed mark first) (length base + (first - 4)))))
+    (grind (arith, sync_place, life, earlier, sync_over))
   where
     inside : mark + (first + 4) ≤ length feed
     inside = let i = m.inside in let w = g.within in omega (arith, i, w)

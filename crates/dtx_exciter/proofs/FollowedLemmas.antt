@@ -1,6 +1,6 @@
 -- An exciter behind a feed's mark: the packets under its anchor, what it gives, and what it answers.
-use Rattle.std.proofs.Common.{◌≡◌, ◌≢◌, ℕ, ℤ, ◌+◌, ◌-◌, ◌%◌, ◌<◌, ◌≤◌, ◌==◌, Some, option_map, List, [], ◌∷◌, ◌++◌}
-use Rattle.std.proofs.Common.{length, take, drop, map, get_or, sym, ap, ◌∙◌, arith}
+use Rattle.std.proofs.Common.{◌≡◌, ◌≢◌, ℕ, ℤ, ◌+◌, ◌-◌, ◌%◌, ◌<◌, ◌≤◌, ◌==◌, Some, List, [], ◌∷◌, ◌++◌, length, take}
+use Rattle.std.proofs.Common.{drop, map, get_or, sym, ap, ◌∙◌, arith}
 use Rattle.std.proofs.lemmas.Bool.{cond-false, ne_eqb}
 use Rattle.std.proofs.lemmas.List.{append_assoc, get_or-drop, get_or-map, get_or-take, length-append, length-drop}
 use Rattle.std.proofs.lemmas.List.{length-map, length-take-le, drop-append-le, take-map, take-take, take_more}
@@ -24,9 +24,8 @@ pub marked_part : (a d : ℕ) (z : ℤ) (feed : List (List ℕ)) (mark n : ℕ) 
 unfolding syncs
 marked_part a d z feed mark n f m l = λ i h.
     let small : i < n = grind (arith, length-map, length-take-le, length-drop) in
-    let e : (mark + i) % 624 ≡ i % 624 = omega (arith, m) in
     ap (λ x. x == 0xB8) (grind (arith, get_or-map, length-map, get_or-take, get_or-drop))
-    ∙ f.marks (mark + i) (omega (arith, l, small)) ∙ ap (λ (k : ℕ). k == 0) e
+    ∙ f.marks (mark + i) (omega (arith, l, small)) ∙ ap (λ (k : ℕ). k == 0) (omega (arith, m))
 
 pub syncs_append : (xs ys : List (List ℕ)) → syncs (xs ++ ys) ≡ syncs xs ++ syncs ys
 unfolding syncs
@@ -76,9 +75,7 @@ follows a d z earlier feed mark n f m l s t = by_anchor (grind (arith, anchored,
           before = within;
           steps = omega (arith, steps, length-syncs earlier);
           anchors = anchors;
-          holds = λ j h.
-              ap (option_map (λ k. drop k (after earlier feed mark (j + 1)))) (anchors j h)
-              ∙ ap Some (drop-append-le w.place earlier (take (j + 1) (drop mark feed)) within);
+          holds = λ j h. grind (arith, drop-append-le);
         }
 
 pub given_is : (a d : ℕ) (earlier feed : List (List ℕ)) (mark n j : ℕ) → (w : Follows earlier feed mark n) → j < n
@@ -108,10 +105,7 @@ told_is a d earlier feed mark n j w h s l =
     let b = w.before in
     let before : anchor_of (after earlier feed mark j) ≡ Some w.place =
     ap (λ k. anchor_of (after earlier feed mark k)) (sym e) ∙ w.anchors (j - 1) (omega (arith, s, l)) in
-    ap (last_answer a d) more ∙ (goes_on a d (after earlier feed mark j) (get_or (drop mark feed) j []) w.place
-    (grind (arith, length-append, length-take-le, length-drop)) before (ap anchor_of (sym more) ∙ w.anchors j l)).answer
-    ∙ ap (λ x. told_under a d (option_map readings (under x))) (sym more)
-    ∙ ap (λ x. told_under a d (option_map readings x)) (w.holds j l)
+    ap (last_answer a d) more ∙ grind (arith, goes_on, length-append, length-take-le, length-drop)
 
 -- a packet that ends no group is answered with nothing
 pub told_none : (a d : ℕ) (earlier feed : List (List ℕ)) (mark n j : ℕ) → (w : Follows earlier feed mark n)

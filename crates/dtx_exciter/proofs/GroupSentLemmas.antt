@@ -92,7 +92,6 @@ data_own : (address delay : ℕ) (w q : List (List ℕ)) (i : ℕ) (ops : Ops) (
 unfolding segments_since
 data_own address delay w q i ops r coder g n l s =
     let x : RunsSince w coder = since w r coder n.runs in
-    let z : 0 ≡ 4 * (i / 4 - i / 4) = omega arith in
     sent_preset w x.group x.states ops.states coder g x.runs (subst (λ (k : ℕ). 52 ≤ k) (sym n.long) l) n.next
     ∙ ap (λ ss. sync_of_group coder g ++ ss) (grind (arith, cond-true))
 
@@ -153,12 +152,11 @@ last_held : (w q : List (List ℕ)) (i : ℕ) (order : Order) (coder : Coding) (
     → n ≡ 4 * ((i - 4) / 4 - order.place / 4) + 3
     → coder.last ≡ last_of (segment (levels_since (order.place / 4) order.ops.states (w ++ q)) n)
 last_held w q i order coder n long whole runs o e =
-    let z : order.place + 4 ≤ i = o.before in
-    let k : length w - 4 * (order.place / 4) - 1 ≡ n = omega (arith, long, whole, z, e) in
-    last_along w (order.place / 4) order.ops.states coder runs (omega arith) (omega (arith, long, z))
+    let k : length w - 4 * (order.place / 4) - 1 ≡ n = omega (arith, long, whole, e) in
+    last_along w (order.place / 4) order.ops.states coder runs (omega arith) (omega (arith, long))
     ∙ ap last_of (ap (segment (levels_since (order.place / 4) order.ops.states w)) k
-    ∙ sym (since_front w q (i / 4) (order.place / 4) n order.ops.states (omega (arith, long, whole)) (omega (arith, z))
-    (omega (arith, whole, z, e))))
+    ∙ sym (since_front w q (i / 4) (order.place / 4) n order.ops.states (omega (arith, long, whole)) (omega arith)
+    (omega (arith, whole, e))))
 
 -- whether a field sync stands before the group
 pub record HasSync (i : ℕ) (before : Bool) (g : Group) : Type 0 where
@@ -179,8 +177,7 @@ sync_old address delay w q i order older coder g ss long whole runs o h s four =
     ap (λ x. sync_of_group coder g ++ x) four.are ∙ ap (λ x. x ++ four_segments four.zs four.n)
     (ap (λ t. cond t (field_sync g.second coder.last ∷ []) []) h.sync
     ∙ ap₂ (λ second last. cond (i % 312 == 0) (field_sync second last ∷ []) []) h.second
-    (last_held w q i order coder (n + 3) long whole runs o refl)) ∙ sym (some_before i n four.n zs four.zs)
-    ∙ ap₂ (behind_field_sync i) (sym (grind (arith, cond-true))) (sym four.are)
+    (last_held w q i order coder (n + 3) long whole runs o refl)) ∙ grind (arith, some_before, cond-true)
 
 sync_by_service : (address delay : ℕ) (w q : List (List ℕ)) (i : ℕ) (order : Order) (older : List Order)
     (coder : Coding) (g : Group) (ss : List (List ℤ)) (before t : Bool) → length w ≡ i → i % 4 ≡ 0

@@ -67,7 +67,8 @@ begun_holds a n (l ∷ r) p k = elim (cases_eq (pages l) n) [
       (ne_eqb p.count n (λ e. h (sym k.count ∙ e)))))
       (subst (λ c. HoldsCycle a c (record { count = n; told = replicate 30 false; held = None }))
       (sym (take_while-cons (λ x. pages x == n) l r
-      ∙ cond-false (pages l == n) (l ∷ take_while (λ x. pages x == n) r) [] (ne_eqb (pages l) n h))) (cleared_holds a n))
+      ∙ cond-false (pages l == n) (l ∷ take_while (λ x. pages x == n) r) [] (ne_eqb (pages l) n h)))
+      (cleared_holds a n))
 ]
 
 -- ---- one order more
@@ -75,12 +76,10 @@ begun_holds a n (l ∷ r) p k = elim (cases_eq (pages l) n) [
 told_more : (o : Order) (c : List Order) (ts : List Bool) → page o < 30 → ts ≡ map (is_told c) (range_with_len 0 30)
     → set ts (page o) true ≡ map (is_told (o ∷ c)) (range_with_len 0 30)
 told_more o c ts l e =
+    let long : length ts ≡ 30 = ap (λ (x : List Bool). length x) e ∙ length-map-range_with_len (is_told c) 0 30 in
     fill_by_all (is_told (o ∷ c)) (set ts (page o) true) 30 false (length-set ts (page o) true ∙ long)
     (λ k m. by_page k m (cases_eq k (page o)))
   where
-    long : length ts ≡ 30
-    long = ap (λ (x : List Bool). length x) e ∙ length-map-range_with_len (is_told c) 0 30
-
     by_page : (k : ℕ) → k < 30 → (k ≡ page o) ⊎ (k ≢ page o)
         → get_or (set ts (page o) true) k false ≡ ((page o == k) || is_told c k)
     by_page k m (inl s) = grind (arith, get_or-set_same, eq-eqb)

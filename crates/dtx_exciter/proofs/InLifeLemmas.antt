@@ -7,8 +7,7 @@ use Rattle.std.proofs.lemmas.Bool.{cond-true, cond-false, eq-eqb, ne_eqb, le-leb
 use Rattle.std.proofs.lemmas.List.{get_or-append_right, get_or-drop, get_or-take, get_or-map, length-append}
 use Rattle.std.proofs.lemmas.List.{length-drop, length-take-le, take-take}
 use Rattle.dtx_frame.specs.Segments.{field_sync}
-use Rattle.dtx_coder.specs.Stream.{levels, states, segment, four_segments, last_of, last_before, sync_before}
-use Rattle.dtx_coder.specs.Stream.{group_segments}
+use Rattle.dtx_coder.specs.Stream.{levels, segment, four_segments, last_of, last_before, sync_before, group_segments}
 use Rattle.dtx_ops.specs.declared.fields.Ops.{Ops}
 use Rattle.dtx_exciter.specs.Order.{Order, either, latest_first, ordered_at, order_at, counting_order, placed, orders}
 use Rattle.dtx_exciter.specs.Pages.{lists}
@@ -49,8 +48,7 @@ said_same : (base feed : List (List ℕ)) (mark j i k : ℕ) → mark + j ≤ le
     → get_or (readings (life base feed mark j)) k None ≡ get_or (readings feed) (mark + i) None
 unfolding readings
 said_same base feed mark j i k h l e = get_or-map reads (life base feed mark j) k [] None (grind (arith, length-life))
-    ∙ ap reads (packet_same base feed mark j i k l e)
-    ∙ sym (get_or-map reads feed (mark + i) [] None (omega (arith, l, h)))
+    ∙ ap reads (packet_same base feed mark j i k l e) ∙ sym (grind (arith, get_or-map))
 
 -- ---- the orders
 
@@ -204,10 +202,7 @@ sent_same a d z base feed mark n j first x m p =
         ap (sent_by a d (life base feed mark j) (length base + x)) w.in_life
         ∙ cond-true (is_ok (served a d (record { place = length base + w.group; ops = w.ops } ∷ w.older))) _ _
         (served_by_feed a d z feed (mark + w.group) (record { place = length base + w.group; ops = w.ops }) w.older
-        m.feed_is w.its_own w.listed).ok
-        ∙ data_same base (take mark feed) (take j (drop mark feed)) x w.group w.ops.states same
-        (m.feed_is.states (mark + w.group) w.ops w.its_own ∙ ap states (sym front))
-        ∙ ap₂ (λ f (k : ℕ). four_segments (levels f) (k + x)) parts long
+        m.feed_is w.its_own w.listed).ok ∙ grind (arith, data_same)
 
 -- a group behind the first one, with its field sync
 sync_same : (f : List (List ℕ)) (i v : ℕ) → 0 < v → i % 624 ≡ 4 * v % 624

@@ -38,8 +38,7 @@ pub lines_in : (a d n : ℕ) (xs ys : List (List (List ℕ))) (life : List (List
     ≡ restarted_lines a d n xs ++ (life_lines a d (n + length (emission_over a d xs)) life
     ++ restarting_lines a d (n + length (emission_over a d xs) + length (emission a d life)) ys)
 unfolding restarted_lines
-lines_in a d n [] ys life = log_first a d n life ys
-    ∙ ap (λ m. life_lines a d m life ++ restarting_lines a d (m + length (emission a d life)) ys) (sym (add-zero n))
+lines_in a d n [] ys life = grind (arith, log_first, add-zero)
 lines_in a d n (x ∷ xs) ys life =
     let m : ℕ = n + length (emission a d x) in
     let sum : m + length (emission_over a d xs) ≡ n + length (emission_over a d (x ∷ xs)) =

@@ -57,11 +57,11 @@ joined_partial a d l old place packet count symbols k e h four z =
       answer = quiet_told a d l packet.0 n;
       air = subst (λ ss. Holds ss count symbols) (sym (quiet_given a d l packet.0 n)) (none_held count symbols z);
       keeps = record {
-        flushed = k.flushed ∙ settled_same (length l) n (cases_lt (length l) 52)
-            ∙ ap (nat_le 52) (sym (length_push l packet.0));
+        flushed = grind (arith, settled_same, cases_lt, length_push);
         partial = ap₂ (λ (x y : ℕ). take x (bytes_of (set old.packets y packet))) s (omega (arith, e))
             ∙ held_more old.packets packet (length l % 4) (omega (arith, four)) ∙ ap (λ x. x ++ packet.0 ∷ []) k.partial
-            ∙ sym (ap (λ (y : ℕ). drop y (l ++ packet.0 ∷ [])) w ∙ drop-append-le (whole l) l (packet.0 ∷ []) (omega arith));
+            ∙ sym (ap (λ (y : ℕ). drop y (l ++ packet.0 ∷ [])) w
+            ∙ drop-append-le (whole l) l (packet.0 ∷ []) (omega arith));
         sent = k.sent ∙ ap (is_served a d) (sym (last_same l packet.0 n));
         pages = subst (λ r. HoldsPages a r old.pages) (sym (last_same l packet.0 n)) k.pages;
         coder = subst (λ x. RunsUnder x (last_orders (l ++ packet.0 ∷ [])) old.coder) (sym (front_same l packet.0 n))
@@ -126,8 +126,7 @@ before_now a d l p i e = elim (cases_lt i 4) [
       let w = e.whole in
       let z : i ≡ 0 = omega (arith, m, w) in
       cond-false (nat_le 4 i) _ _ (lt-leb 4 i m) ∙ sym (ap (sent_by a d (l ++ p ∷ []) (i - 4)) (Ends.last_none l i e z))
-  | inr m ↦ cond-true (nat_le 4 i) _ _ (le-leb 4 i m)
-      ∙ ap (sent_by a d (l ++ p ∷ []) (i - 4)) (Ends.before_is l i p e m)
+  | inr m ↦ rw (cond-true (nat_le 4 i) _ _ (le-leb 4 i m), Ends.before_is l i p e m)
 ]
 
 sent_now : (a d : ℕ) (l : List (List ℕ)) (p : List ℕ) (i : ℕ) → Ends.Ends l i
@@ -141,9 +140,7 @@ given_now : (a d : ℕ) (l : List (List ℕ)) (p : List ℕ) (i : ℕ) → Ends.
 given_now a d l p i e =
     let n : length (l ++ p ∷ []) ≡ i + 4 = Ends.length-all l i p e in
     let w = e.whole in
-    cond-true (length (l ++ p ∷ []) % 4 == 0) _ _ (eq-eqb (length (l ++ p ∷ []) % 4) 0 (omega (arith, n, w)))
-    ∙ ap (λ k. behind_field_sync k (sent_before a d (l ++ p ∷ []) k) (sent_at a d (l ++ p ∷ []) k)) (omega (arith, n))
-    ∙ ap₂ (behind_field_sync i) (before_now a d l p i e) (sent_now a d l p i e)
+    grind (arith, cond-true, eq-eqb) ∙ ap₂ (behind_field_sync i) (before_now a d l p i e) (sent_now a d l p i e)
 
 -- ---- the coder
 

@@ -20,8 +20,7 @@ use Rattle.dtx_exciter.proofs.EndsLemmas as Ends
 pub last_same : (l : List (List ℕ)) (p : List ℕ) → length l % 4 ≢ 3 → last_orders (l ++ p ∷ []) ≡ last_orders l
 unfolding last_orders
 last_same l p h =
-    let same : whole (l ++ p ∷ []) - 4 ≡ whole l - 4 = omega (arith, h, length_push l p) in
-    ap₂ orders (said_append l (p ∷ [])) same ∙ by_place (cases_lt (whole l) 4)
+    ap₂ orders (said_append l (p ∷ [])) (omega (arith, h, length_push l p)) ∙ by_place (cases_lt (whole l) 4)
   where
     by_place : (whole l < 4) ⊎ (4 ≤ whole l) → orders (readings l ++ readings (p ∷ [])) (whole l - 4)
         ≡ orders (readings l) (whole l - 4)

@@ -13,8 +13,7 @@ use Rattle.dtx_ops.specs.declared.fields.Ops.{Ops}
 use Rattle.dtx_exciter.specs.declared.answers.Why.{Why}
 use Rattle.dtx_exciter.specs.Order.{Order, counting_order, placed, orders}
 use Rattle.dtx_clock.specs.Clock.{moment_of}
-use Rattle.dtx_exciter.specs.Pages.{entry_in_force, offset_of}
-use Rattle.dtx_exciter.specs.Told.{served, told_by, told_at}
+use Rattle.dtx_exciter.specs.Told.{told_by, told_at}
 use Rattle.dtx_cadence.specs.Cadence.{IsInStep}
 use Rattle.dtx_exciter.specs.Packets.{syncs, readings, last_answer}
 use Rattle.dtx_exciter.specs.Emission.{last_segments, emission}
@@ -46,11 +45,8 @@ unfolding life_lines lines_behind
 lines_more a d n l r =
     let f : ℕ → List Line = λ i. line_between a d n (take i (l ++ r)) (take (i + 1) (l ++ r)) in
     ap (λ k. flat_map f (range_with_len 0 k)) (length-append l r)
-    ∙ ap (flat_map f) (range_with_len-parts 0 (length l) (length r))
-    ∙ flat_map-append f (range_with_len 0 (length l)) (range_with_len (0 + length l) (length r)) ∙ ap₂ ◌++◌
-    (flat_map-range_same f (λ i. line_between a d n (take i l) (take (i + 1) l)) 0 (length l)
-    (λ i x y. ap₂ (line_between a d n) (take-append-le i l r (omega (arith, y)))
-    (take-append-le (i + 1) l r (omega (arith, y))))) (grind (arith, flat_map-range_moved, take_behind))
+    ∙ ap (flat_map f) (range_with_len-parts 0 (length l) (length r)) ∙
+    grind (arith, flat_map-append, flat_map-range_same, take-append-le, flat_map-range_moved, take_behind)
 
 -- ---- the line at a group
 
@@ -76,10 +72,9 @@ told_last a d earlier feed mark n x w h l g =
     let b = w.in_step in
     let long : length (readings (life w.base feed mark (x + 3 + 1))) ≡ length w.base + (x + 3 + 1) =
     length-said (life w.base feed mark (x + 3 + 1)) ∙ length-life w.base feed mark (x + 3 + 1) (omega (arith, h, l)) in
-    let at : length (readings (life w.base feed mark (x + 3 + 1))) - 4 ≡ length w.base + x = omega (arith, long) in
     told_is a d earlier feed mark n (x + 3) w h (omega arith) (omega (arith, l))
     ∙ cond-true (length (readings (life w.base feed mark (x + 3 + 1))) % 4 == 0) _ _ (grind (arith, eq-eqb, life))
-    ∙ ap (λ k. told_at a d k (orders (readings (life w.base feed mark (x + 3 + 1))) k)) at
+    ∙ ap (λ k. told_at a d k (orders (readings (life w.base feed mark (x + 3 + 1))) k)) (omega (arith, long))
 
 -- the order's line, or none
 line_here : (a d : ℕ) (z : ℤ) (s m : ℕ) (base feed : List (List ℕ)) (mark n first x : ℕ) → Marks a d z base feed mark n
@@ -116,12 +111,7 @@ line_here a d z s m base feed mark n first x k g l h o e =
     by_step (Some ops) e w = ap (λ r. line_of s m (told_at a d (length base + x) r)) w.in_life
         ∙ by_own ops e w (served_by_feed a d z feed (mark + w.group)
         (record { place = length base + w.group; ops = w.ops }) w.older k.feed_is w.its_own w.listed)
-    by_step None e w =
-        let latest : Order = record { place = length base + w.group; ops = w.ops } in
-        ap (λ r. line_of s m (told_at a d (length base + x) r)) w.in_life
-        ∙ told_old (offset_of (entry_in_force a (latest ∷ w.older))) (length base + x) s m latest
-        (served a d (latest ∷ w.older)) (λ q. let same : mark + x ≡ mark + w.group = omega (arith, q) in
-        none_some w.ops (sym e ∙ ap (counting_order (readings feed)) same ∙ w.its_own))
+    by_step None e w = grind (arith, told_old)
 
 -- ---- the line of each packet of the stretch
 
@@ -140,19 +130,16 @@ seg_is a d n z earlier feed mark m first x w k g l h y =
     let c : first + 4 + 4 * ((x - first) / 4) ≡ x + 3 + 1 = omega (arith, l, y, g1) in
     let v : mark + (first + 4 + 4 * ((x - first) / 4)) ≡ 4 * ((mark + x) / 4) + 4 = omega (arith, l, y, g1, k1) in
     let u : 4 * ((mark + x) / 4) ≡ mark + x = omega (arith, y, k1) in
-    let all : length (emission a d (after earlier feed mark (x + 3))) + length
-    (last_segments a d (after earlier feed mark (x + 3 + 1))) ≡ length (before_first a d earlier feed mark first) +
-    (segment_place (mark + x) + 4 - segment_place (mark + first)) =
-    sym (length-append (emission a d (after earlier feed mark (x + 3)))
+    let more : segment_place (mark + first) ≤ segment_place (mark + x) = omega (arith, l) in
+    seg (segment_place (mark + x)) (segment_place (mark + first)) n _ _ _ more
+    (sym (length-append (emission a d (after earlier feed mark (x + 3)))
     (last_segments a d (after earlier feed mark (x + 3 + 1))))
     ∙ ap length (sym (emitted_more a d earlier feed mark (x + 3) (omega (arith, i, h)))
     ∙ ap (λ j. emission a d (after earlier feed mark j)) (sym c)
     ∙ emits a d z earlier feed mark m first ((x - first) / 4) w k g (omega (arith, l, h)))
     ∙ length-append (before_first a d earlier feed mark first)
     (stretch feed (mark + first) (mark + (first + 4 + 4 * ((x - first) / 4))))
-    ∙ ap (λ (j : ℕ). length (before_first a d earlier feed mark first) + j) (grind (arith, length-stretch)) in
-    let more : segment_place (mark + first) ≤ segment_place (mark + x) = omega (arith, l) in
-    seg (segment_place (mark + x)) (segment_place (mark + first)) n _ _ _ more all
+    ∙ ap (λ (j : ℕ). length (before_first a d earlier feed mark first) + j) (grind (arith, length-stretch)))
   where
     seg : (p q n b e z : ℕ) → q ≤ p → e + z ≡ b + (p + 4 - q) → n + e + z - 4 ≡ n + b + (p - q)
     seg p q n b e z l h = omega (arith, l, h)
@@ -185,10 +172,7 @@ line_is a d n z earlier feed mark m first i w k g l = by_place (cases_eq (i % 4)
         ≡ listed (option_map (preset_line z (n + length (before_first a d earlier feed mark first)) (mark + first))
         (placed (mark + (first + i)) o))
     by_order None e = refl
-    by_order (Some ops) e =
-        let order : Order = record { place = mark + (first + i); ops = ops } in
-        ap (λ q. preset q ops.frame ((mark + (first + i)) % 624) (order_moment z order).tick
-        (order_moment z order).grain ∷ []) e
+    by_order (Some ops) e = grind arith
 
     by_place : (i % 4 ≡ 0) ⊎ (i % 4 ≢ 0)
         → line_between a d n (after earlier feed mark (first + i + 3)) (after earlier feed mark (first + i + 3 + 1))
@@ -260,7 +244,6 @@ unfolding stretch_lines orders_in
 lines_at a d n z feed earlier mark end k f s r =
     let y = s.behind in let t = s.whole in
     let w : Within a d z earlier feed mark (end - mark) (k - mark) = within a d z feed earlier mark end k f s r in
-    let at : mark + (k - mark) ≡ k = omega (arith, y) in
     let e : k - mark + 3 ≡ k + 3 - mark = omega (arith, y) in
     let c : end - mark - (k - mark + 3) ≡ end - 3 - k = omega (arith, y, t) in
     lines_from a d n z earlier feed mark (end - mark) (k - mark) w.follows w.marks w.group
@@ -289,8 +272,7 @@ pub lines_on : (a d n : ℕ) (z : ℤ) (feed earlier later : List (List ℕ)) (m
     ++ lines_behind a d n (earlier ++ slice_range feed mark end) later)
 lines_on a d n z feed earlier later mark end k f s = ap (life_lines a d n) (sym (grind (arith, append_assoc)))
     ∙ lines_more a d n (earlier ++ slice_range feed mark end) later
-    ∙ ap (λ x. x ++ lines_behind a d n (earlier ++ slice_range feed mark end) later)
-    (lines_is a d n z feed earlier mark end k f s)
+    ∙ ap (λ x. x ++ lines_behind a d n (earlier ++ slice_range feed mark end) later) (grind (arith, lines_is))
     ∙ append_assoc (life_lines a d n (earlier ++ slice_range feed mark (k + 3)))
     (stretch_lines z (n + length (before_stretch a d earlier feed mark k)) feed k end)
     (lines_behind a d n (earlier ++ slice_range feed mark end) later)

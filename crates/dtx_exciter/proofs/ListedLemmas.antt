@@ -1,12 +1,12 @@
 -- Under the orders of a feed, from one on that lists a transmitter, the transmitter is served.
 use Rattle.std.proofs.Common.{◌≡◌, ℕ, ℤ, ◌==◌, Bool, true, false, Option, Some, None, List, ◌∷◌, refl, ap, ◌∙◌, arith}
-use Rattle.std.specs.Prelude.{is_ok, is_some, option_and_then, pos, negsuc, ◌+ℤ◌, ◌-ℤ◌, ◌≤ℤ◌}
+use Rattle.std.specs.Prelude.{is_ok, is_some, option_and_then, pos, negsuc, ◌≤ℤ◌}
 use Rattle.std.proofs.lemmas.Bool.{cond-false, ne_eqb, false≢true}
 use Rattle.std.proofs.lemmas.Int.{ints}
 use Rattle.dtx_ops.specs.declared.fields.Entry.{Entry}
 use Rattle.dtx_exciter.specs.Order.{Order, counting_order}
-use Rattle.dtx_exciter.specs.Pages.{page, pages, entry_of, lists, of_one_cycle, all_pages_told, listing, entry_in_force}
-use Rattle.dtx_exciter.specs.Told.{left_of, hold_by, served}
+use Rattle.dtx_exciter.specs.Pages.{page, pages, entry_of, lists, of_one_cycle, listing, entry_in_force}
+use Rattle.dtx_exciter.specs.Told.{left_of, served}
 use Rattle.dtx_exciter.specs.Packets.{readings}
 use Rattle.dtx_exciter.specs.Lockstep.{IsFeed}
 use Rattle.dtx_exciter.proofs.PagesLemmas.{cycle_same, listing_here, listing_other, forgotten}
@@ -68,7 +68,5 @@ served_by_feed a d z feed g l r f c w =
       entry = e.0;
       is = is;
       offset = offset;
-      ok = ap (λ x. is_ok (hold_by d l.ops.max_delay x (all_pages_told (of_one_cycle (l ∷ r))))) is
-          ∙ ap (λ (x : ℤ). is_ok (left_of (pos l.ops.max_delay +ℤ x -ℤ pos d))) offset
-          ∙ left_ok (pos l.ops.max_delay +ℤ z -ℤ pos d) (omega (arith, ints, most));
+      ok = grind (arith, left_ok, ints);
     }

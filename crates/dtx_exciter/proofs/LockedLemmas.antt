@@ -118,8 +118,7 @@ lock_of : (a d : ℕ) (y : ℤ) (earlier feed : List (List ℕ)) (mark z : ℕ) 
 lock_of a d y earlier feed mark z f l w = by_follow (grind (arith, follows))
   where
     long : length (locked_life earlier feed mark z) ≡ length earlier + (z - mark)
-    long = length-append earlier (slice_range feed mark z) ∙ ap (λ (n : ℕ). length earlier + n)
-        (length-take-le (z - mark) (drop mark feed) (omega (arith, l, length-drop mark feed)))
+    long = grind (arith, length-append, length-take-le, length-drop)
 
     by_follow : Follows (locked_life earlier feed mark z) feed z (length feed - z) → HasLock earlier feed mark z
     by_follow v =

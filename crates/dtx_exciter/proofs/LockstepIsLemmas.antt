@@ -3,7 +3,7 @@ use Rattle.std.proofs.Common.{◌≡◌, ◌≢◌, ℕ, ℤ, zero, suc, ◌+◌
 use Rattle.std.proofs.Common.{length, take, refl, sym, ap, ap₂, ◌∙◌, arith}
 use Rattle.std.specs.Prelude.{slice_range}
 use Rattle.std.proofs.lemmas.List.{append-nil, append_assoc, length-append}
-use Rattle.dtx_coder.specs.Stream.{levels, four_segments, group_segments}
+use Rattle.dtx_coder.specs.Stream.{levels, four_segments}
 use Rattle.dtx_exciter.specs.Order.{counting_order}
 use Rattle.dtx_cadence.specs.Cadence.{IsInStep}
 use Rattle.dtx_exciter.specs.Packets.{syncs, readings}
@@ -81,10 +81,7 @@ emits_all a d z earlier feed mark n first (suc c) before w m g h l =
     ∙ emitted_group a d earlier feed mark n (first + 4 + 4 * c) w inside (omega (arith, l)) (omega (arith, g1))
     ∙ ap₂ ◌++◌ (emits_all a d z earlier feed mark n first c before w m g h (omega (arith, l)))
     (given_next a d z w.base feed mark n first (first + 4 + 4 * c) m here (omega arith))
-    ∙ append_assoc before (stretch feed (mark + first) (mark + (first + 4 + 4 * c)))
-    (group_segments (take (mark + (first + 4 + 4 * c + 4)) feed) ((mark + (first + 4 + 4 * c)) / 4))
-    ∙ ap (λ y. before ++ y) (grind (arith, stretch_next))
-    ∙ ap (λ k. before ++ stretch feed (mark + first) (mark + k)) (sym e)
+    ∙ grind (arith, append_assoc, stretch_next)
 
 -- up to the end of any group of the stretch
 pub emits : (a d : ℕ) (z : ℤ) (earlier feed : List (List ℕ)) (mark n first c : ℕ) → (w : Follows earlier feed mark n)
@@ -111,10 +108,9 @@ emits a d z earlier feed mark n first c w m g h =
 
     same : given_under a d (Some (life w.base feed mark first)) ≡ last_segments a d (after earlier feed mark first)
     same =
-        let far : 52 ≤ first = g.flushed in
-        let e : first - 1 + 1 ≡ first = omega (arith, far) in
+        let e : first - 1 + 1 ≡ first = omega arith in
         ap (λ k. given_under a d (Some (life w.base feed mark k))) (sym e)
-        ∙ sym (given_is a d earlier feed mark n (first - 1) w (omega (arith, within, far)))
+        ∙ sym (given_is a d earlier feed mark n (first - 1) w (omega (arith, within)))
         ∙ ap (λ k. last_segments a d (after earlier feed mark k)) e
 
     begins : emission a d (after earlier feed mark (first + 4)) ≡ before_first a d earlier feed mark first
@@ -136,9 +132,8 @@ tail_same a d earlier feed mark n m (suc r) w h e y s = by_parts m r n w h e y s
     steps : (m r : ℕ) (k : ℕ) → (w : Follows earlier feed mark n) → mark + n ≤ length feed → m + r ≡ k → k ≤ n
         → m % 4 ≡ 0 → r < 4 → emission a d (after earlier feed mark k) ≡ emission a d (after earlier feed mark m)
     steps m zero k w h e l y s = grind (arith, after)
-    steps m (suc r) k w h e l y s =
-        emitted_same a d earlier feed mark n (m + r) k w h (omega (arith, e, l)) (λ z. omega (arith, z, y, s))
-        (omega (arith, e)) ∙ steps m r (m + r) w h refl (omega (arith, e, l)) y (omega (arith, s))
+    steps m (suc r) k w h e l y s = emitted_same a d earlier feed mark n (m + r) k w h (omega arith) (λ z. omega arith)
+        (omega arith) ∙ steps m r (m + r) w h refl (omega arith) y (omega arith)
 
     by_parts : (m r k : ℕ) → (w : Follows earlier feed mark n) → mark + n ≤ length feed → n ≡ m + suc r → m % 4 ≡ 0
         → suc r < 4 → emission a d (after earlier feed mark n) ≡ emission a d (after earlier feed mark m)
@@ -197,9 +192,7 @@ lockstep_at a d z feed earlier mark end k f s r =
     tail_same a d earlier feed mark (end - mark) (k - mark + 4 + 4 * c)
     (end - (mark + (k - mark + 4 + 4 * c))) w.follows w.marks.inside size (omega (arith, i, o)) (omega (arith, t))
     ∙ emits a d z earlier feed mark (end - mark) (k - mark) c w.follows w.marks w.group (omega (arith, t))
-    ∙ ap₂ (λ b p. b ++ stretch feed p (mark + (k - mark + 4 + 4 * c)))
-    (before_is a d earlier feed mark k (omega arith)) at ∙ ap (λ b. before_stretch a d earlier feed mark k
-    ++ b) (stretch_whole feed k end (mark + (k - mark + 4 + 4 * c)) s.inside (omega (arith, t, i, o)))
+    ∙ grind (arith, before_is, stretch_whole)
 
 -- whatever was given before
 pub lockstep_is : (a d : ℕ) (z : ℤ) (feed earlier : List (List ℕ)) (mark end k : ℕ) → IsFeed a d z feed

@@ -108,9 +108,7 @@ anchors_same xs ys n s l = s.anchors n (omega (arith, l, length-syncs xs))
 front_same : (xs ys : List (List ℕ)) (n : ℕ) → AreSentAlike xs ys → n ≤ length xs → AreSentAlike (take n xs) (take n ys)
 front_same xs ys n s l = record {
   bodies = bodies_take n xs ys s.bodies;
-  anchors = λ m k.
-      let b : m ≤ n = omega (arith, k, length-syncs (take n xs), length-take-le n xs l) in
-      ap anchor (front m b xs) ∙ anchors_same xs ys m s (omega (arith, b, l)) ∙ sym (ap anchor (front m b ys));
+  anchors = λ m k. grind (arith, length-syncs, length-take-le, front, anchors_same);
 }
   where
     front : (m : ℕ) → m ≤ n → (zs : List (List ℕ)) → take m (syncs (take n zs)) ≡ take m (syncs zs)
@@ -151,7 +149,8 @@ pub one_missing : (packets : List (List ℕ)) (packet : List ℕ) (i j : ℕ) �
 unfolding anchor_of syncs bodies
 one_missing packets packet i j h l m e = record {
   bodies = sym (set-get_or (map (drop 1) packets) i []) ∙ ap (set (map (drop 1) packets) i)
-      (get_or-map (drop 1) packets i [] [] (grind (arith, length-map)) ∙ sym e) ∙ sym (map-set (drop 1) packets i packet);
+      (get_or-map (drop 1) packets i [] [] (grind (arith, length-map)) ∙ sym e)
+      ∙ sym (map-set (drop 1) packets i packet);
   anchors = λ n b.
       missing_mark (map sync_of packets) i j (sync_of packet) (ap anchor (take-map sync_of i packets) ∙ h)
       (grind (arith, length-map)) m n b ∙ ap (λ x. anchor (take n x)) (sym (map-set sync_of packets i packet));

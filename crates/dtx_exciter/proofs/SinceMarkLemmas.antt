@@ -67,11 +67,9 @@ states_from_group f g h = states_from f g h
 pub data_since : (f : List (List ℕ)) (g v : ℕ) → g ≤ v → 4 * g ≤ length f
     → four_segments (levels f) (4 * v) ≡ four_segments (levels_since g (states (take (4 * g) f)) f) (4 * (v - g))
 unfolding levels_since
-data_since f g v l h =
-    let long : length (levels (take (4 * g) f)) ≡ 828 *
-    (4 * g) = omega (arith, length-levels (take (4 * g) f), length-take-le (4 * g) f h) in
-    ap₂ four_segments (levels_from f g h) (omega (arith, l)) ∙ four_behind (levels (take (4 * g) f))
-    (levels_of (4 * g % 312) (states (take (4 * g) f)) (drop (828 * g) (whole_groups f))) (4 * g) (4 * (v - g)) long
+data_since f g v l h = ap₂ four_segments (levels_from f g h) (omega (arith, l)) ∙ four_behind (levels (take (4 * g) f))
+    (levels_of (4 * g % 312) (states (take (4 * g) f)) (drop (828 * g) (whole_groups f))) (4 * g) (4 * (v - g))
+    (omega (arith, length-levels (take (4 * g) f), length-take-le (4 * g) f h))
 
 -- packets x to x + 3 behind a mark in two streams, under an order at packet y behind it
 pub record AreSame (a b t : List (List ℕ)) (x y : ℕ) : Type 0 where
@@ -95,9 +93,7 @@ data_same a b t x y q h e =
     let gb : 4 * ((length b + y) / 4) ≡ length b + y = omega (arith, h2, h3) in
     let na : 4 * ((length a + x) / 4 - (length a + y) / 4) ≡ x - y = omega (arith, h1, h3, h4, h5) in
     let vb : 4 * ((length b + x) / 4) ≡ length b + x = omega (arith, h2, h5) in
-    ap₂ four_segments (levels_mark a t y ((length a + y) / 4) q h.first h.groups h.flushed h.order ga) na
-    ∙ ap₂ four_segments (sym (levels_mark b t y ((length b + y) / 4) q h.second h.groups h.flushed h.order gb))
-    (omega (arith, h2, h3, h4, h5)) ∙ ap (λ p. four_segments (levels_since ((length b + y) / 4) p (b ++ t))
+    grind (arith, levels_mark) ∙ ap (λ p. four_segments (levels_since ((length b + y) / 4) p (b ++ t))
     (4 * ((length b + x) / 4 - (length b + y) / 4))) (e ∙ ap (λ k. states (take k (b ++ t))) (sym gb))
     ∙ sym (grind (arith, data_since, length-append)) ∙ ap (four_segments (levels (b ++ t))) vb
 

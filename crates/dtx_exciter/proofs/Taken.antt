@@ -148,5 +148,4 @@ taken_at old mid e before p place anchor answered count symbols a d stood h m j 
     by_follow : Goes a d before p (At place) → IsTaken a d (before ++ p ∷ []) e answered count symbols
     by_follow g =
         let l : List (List ℕ) = g.follows.0 in
-        by_join l g.follows.2 g (joined_as a d mid e p place answered count symbols l of_old delay_old j
-        (with_anchor a d old mid anchor l m (kept_old a d old before l stood g.follows.1)) g.follows.3)
+        by_join l g.follows.2 g (grind (arith, joined_as, of_old, delay_old, with_anchor, kept_old))

@@ -89,9 +89,8 @@ told_by_anchors : (address delay : ℕ) (d : List (List ℕ)) (p : List ℕ) (be
 unfolding last_answer told_of anchor_of
 told_by_anchors address delay d p before now b n =
     let shorter : length (syncs (d ++ p ∷ [])) - 1 ≡ length (syncs d) = grind (arith, syncs_push, length_push) in
-    let front : take (length (syncs (d ++ p ∷ [])) - 1) (syncs (d ++ p ∷ [])) ≡ syncs d =
-    ap₂ take shorter (syncs_push d p) ∙ take_at (syncs d) (sync_of p ∷ []) (length (syncs d)) refl in
-    ap (λ s. told_from address delay (anchor s) (anchor (syncs (d ++ p ∷ []))) (readings (d ++ p ∷ []))) front
+    ap (λ s. told_from address delay (anchor s) (anchor (syncs (d ++ p ∷ []))) (readings (d ++ p ∷ [])))
+    (ap₂ take shorter (syncs_push d p) ∙ take_at (syncs d) (sync_of p ∷ []) (length (syncs d)) refl)
     ∙ ap₂ (λ x y. told_from address delay x y (readings (d ++ p ∷ []))) b n
     ∙ ap (λ o. cond (was_lost before now) (Muted Cadence) (told_under address delay o)) (said_rest (d ++ p ∷ []) now)
 
@@ -127,8 +126,7 @@ goes_new address delay d p true h e = record {
 }
 goes_new address delay d p false h e = record {
   follows = under_by (d ++ p ∷ []) None e ∙ nothing (d ++ p ∷ []);
-  answer = told_by_anchors address delay d p None None h e
-      ∙ ap (λ o. told_under address delay (option_map readings o)) (nothing (d ++ p ∷ []));
+  answer = rw (told_by_anchors address delay d p None None h e, nothing (d ++ p ∷ []));
 }
 
 pub goes_on : (address delay : ℕ) (d : List (List ℕ)) (p : List ℕ) (j : ℕ) → j < length d → anchor_of d ≡ Some j
@@ -140,8 +138,7 @@ goes_on address delay d p j l h e = record {
     under_by (d ++ p ∷ []) (Some j) e ∙ longer d p j l,
     ap (λ (n : ℕ). n % 624) (sym (length-drop j d)),
   );
-  answer = told_by_anchors address delay d p (Some j) (Some j) h e
-      ∙ ap (λ o. told_under address delay (option_map readings o)) (sym (under_by (d ++ p ∷ []) (Some j) e));
+  answer = rw (told_by_anchors address delay d p (Some j) (Some j) h e, ← under_by (d ++ p ∷ []) (Some j) e);
 }
 
 goes_lost : (address delay : ℕ) (d : List (List ℕ)) (p : List ℕ) (j : ℕ) → anchor_of d ≡ Some j

@@ -107,9 +107,7 @@ below_told said most k (suc n) b = by_order (counting_order said n) refl (cases_
     by_one : (ops : Ops) → counting_order said n ≡ Some ops → (b.group ≡ n) ⊎ (b.group ≢ n)
         → (Below said n most k → is_told (since said most n) k ≡ true)
         → ((page_of ops.paging == k) || is_told (since said most n) k) ≡ true
-    by_one ops e (inl s) rest = or_left (page_of ops.paging == k) (is_told (since said most n) k)
-        (eq-eqb (page_of ops.paging) k
-        (ap (λ (o : Ops). page_of o.paging) (sym (same_ops said b.group n b.ops ops s b.orders e)) ∙ b.tells))
+    by_one ops e (inl s) rest = grind (arith, or_left, eq-eqb, same_ops)
     by_one ops e (inr s) rest = or_right (page_of ops.paging == k) (is_told (since said most n) k) (before rest s)
 
     by_order : (o : Option Ops) → counting_order said n ≡ o → (b.group ≡ n) ⊎ (b.group ≢ n)

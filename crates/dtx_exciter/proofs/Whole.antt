@@ -62,8 +62,7 @@ does_send old made j order pages answered sent sync states coder coded count sym
     record {
       pages = subst (λ o. HoldsMore old.address o old.pages made.pages) d.order_is (grind arith);
       answer = d.told ∙ ap₂ (λ (o : Option Ops) (x : Pages). told_group old.delay j o x old.sent) d.order_is (sym kept);
-      new = m ∙ ap (λ (x : Pages). record old { sent = sent; pages = x; coder = coder }) (sym kept)
-          ∙ ap₂ (λ (b : Bool) (c : Coding). record old { sent = b; pages = made.pages; coder = c }) d.sent_is codes.coder;
+      new = grind arith;
       air = subst (λ (x : List ℤ). Holds (cond (is_sent answered) (air_segments old.coder (group_of old j answered)) [])
           count x) (sym d.symbols_are) (grind (arith, held_by));
     }

@@ -135,8 +135,7 @@ pub all_given_back : (feed : List (List ℕ)) (k end : ℕ) (got : List (List �
 unfolding from_sync
 all_given_back feed k end got packets inside = λ begins alone.
     let some : 4 ≤ end = some_packets k end begins in
-    let r : AreReceived feed (segment_place k) (stretch_of feed k end) got =
-    record { in_a_row = in_a_row feed k end some inside; as_many = alone.as_many; long = alone.long } in
+    let r : AreReceived feed (segment_place k) (stretch_of feed k end) got = grind (arith, in_a_row) in
     let l : to_sync (segment_place k) < length (stretch_of feed k end) =
     grind (arith, to_sync_is, length-stretch_of, sync_within) in
     record {

@@ -1,7 +1,7 @@
 -- A transmitter of a network emits exactly.
-use Rattle.std.proofs.Common.{◌≡◌, ◌⊎◌, inl, inr, ℕ, ℤ, ◌+◌, ◌-◌, ◌*◌, ◌/◌, ◌%◌, ◌<◌, ◌≤◌, ◌&&◌, Bool, All, true, Some}
-use Rattle.std.proofs.Common.{List, ◌∷◌, ◌++◌, length, map, refl, sym, ap, subst, ◌∙◌, arith, pos, ◌-ℤ◌, ◌*ℤ◌}
-use Rattle.std.proofs.Common.{slice_range, eq-eqb, length-append}
+use Rattle.std.proofs.Common.{◌≡◌, ◌⊎◌, inl, inr, ℕ, ℤ, ◌+◌, ◌-◌, ◌*◌, ◌/◌, ◌%◌, ◌<◌, ◌≤◌, All, true, Some, List, ◌∷◌}
+use Rattle.std.proofs.Common.{◌++◌, length, map, refl, sym, ap, subst, ◌∙◌, arith, pos, ◌-ℤ◌, ◌*ℤ◌, slice_range, eq-eqb}
+use Rattle.std.proofs.Common.{length-append}
 use Rattle.std.specs.List.{Contains}
 use Rattle.std.proofs.lemmas.Bool.{cond-true, and_from}
 use Rattle.std.proofs.lemmas.List.Elements.{All-append, All-weaker, All-contains, Contains-append_cases}
@@ -57,9 +57,7 @@ earlier_lines a d earlier feed xs mark k =
     length-append (emission_over a d xs) (before_stretch a d earlier feed mark k) in
     let own = length-before a d feed earlier mark k in
     All-append (λ line. line_end line ≤ length (all_before a d earlier feed xs mark k)) (restarted_lines a d 0 xs)
-    (life_lines a d n life) (All-weaker (λ line. line_end line ≤ 0 + length (emission_over a d xs))
-    (λ line. line_end line ≤ length (all_before a d earlier feed xs mark k)) (λ line h. omega (arith, h, all))
-    (restarted_lines a d 0 xs) (restarted_up a d 0 xs)) (grind (arith, All-weaker, life_up))
+    (life_lines a d n life) (grind (arith, All-weaker, restarted_up)) (grind (arith, All-weaker, life_up))
 
 later_lines : (a d : ℕ) (z : ℤ) (earlier feed later : List (List ℕ)) (xs ys : List (List (List ℕ))) (mark end k : ℕ)
     → IsFeed a d z feed → IsStretch a feed (locked_from earlier mark) mark end k
@@ -84,10 +82,7 @@ later_lines a d z earlier feed later xs ys mark end k f s =
     (length-append (stretch feed k end) (emission_behind a d front later)) in
     All-append (λ line. length (all_before a d earlier feed xs mark k) + length (stretch feed k end) ≤ segment_of line)
     (lines_behind a d n front later) (restarting_lines a d (n + length (emission a d life)) ys)
-    (grind (arith, All-weaker, behind_down)) (All-weaker (λ line. n + length (emission a d life) ≤ segment_of line)
-    (λ line. length (all_before a d earlier feed xs mark k) + length (stretch feed k end) ≤ segment_of line)
-    (λ line h. omega (arith, h, all, given_all)) (restarting_lines a d (n + length (emission a d life)) ys)
-    (restarting_down a d (n + length (emission a d life)) ys))
+    (grind (arith, All-weaker, behind_down)) (grind (arith, All-weaker, restarting_down))
 
 -- ---- the feed of a plan
 
@@ -99,8 +94,7 @@ listing_order plan stream t k p u listed far group listing =
     let place = place_of plan t listed in
     let orders : has_order (feed plan stream) k ≡ true = listing_orders t.address (feed plan stream) k listing in
     let order = order_some plan stream k p u far group orders in
-    let own : is_listed (paging_at plan stream (k / 4)) place.0 ≡ true =
-    sym (ap (λ (b : Bool). b && is_listed (paging_at plan stream (k / 4)) place.0) orders)
+    let own : is_listed (paging_at plan stream (k / 4)) place.0 ≡ true = sym (grind arith)
     ∙ sym (listing_is plan stream t place.0 k p u place.1 group) ∙ listing in
     (grind (arith, lists_is, order_says))
 
@@ -202,8 +196,7 @@ no_other plan t feed mark k end a segments lines line e c low high =
     by_own (inr c) = grind (arith, All-contains)
 
     by_part : Contains e.earlier line ⊎ Contains (own ++ e.later) line → Contains own line
-    by_part (inl c) = let h = All-contains (λ x. line_end x ≤ length e.before) e.earlier line e.up_to c in
-        absurd (omega (arith, h, low))
+    by_part (inl c) = grind (arith, All-contains)
     by_part (inr c) = by_own (Contains-append_cases own e.later line c)
 
 -- ---- two transmitters

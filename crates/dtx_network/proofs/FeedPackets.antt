@@ -53,8 +53,7 @@ packet_made : (ops : Ops) (counter k : ℕ) (p : List ℕ) → IsPacket p → co
     → IsPacket (as_feed_packet ops counter k p)
 unfolding as_feed_packet
 packet_made ops counter k p h l valid = elim (cases_Bool (is_placeholder p)) [
-  | inl t ↦ subst IsPacket (sym (cond-true (is_placeholder p) (spelling ops counter (sync_at k)) (marked k p) t))
-      (packet_spelled ops counter k (valid (pid_true p t)) l)
+  | inl t ↦ subst IsPacket (sym (grind (arith, cond-true))) (packet_spelled ops counter k (valid (pid_true p t)) l)
   | inr f ↦ subst IsPacket (sym (cond-false (is_placeholder p) (spelling ops counter (sync_at k)) (marked k p) f))
       (packet_marked k p h)
 ]

@@ -165,8 +165,7 @@ anchor_there earlier feed mark n h w s = elim (cases_lt w.place (length earlier)
       let marked : has_mark (syncs (earlier ++ one)) w.place ≡ true =
       anchor_is_mark (syncs (earlier ++ one)) (length (syncs (earlier ++ one))) w.place (w.anchors 0 s) in
       let same : has_mark (syncs (earlier ++ one)) w.place ≡ has_mark (syncs earlier) w.place =
-      ap (λ x. x == 0xB8) (ap (λ (xs : List ℕ). get_or xs w.place 0) (syncs_append earlier one)
-      ∙ get_or_append_left (syncs earlier) (syncs one) 0 w.place (omega (arith, l, length-syncs earlier))) in
+      ap (λ x. x == 0xB8) (grind (arith, syncs_append, get_or_append_left, length-syncs)) in
       absurd (true≢false (sym marked ∙ same ∙ h w.place l))
 ]
 
@@ -341,10 +340,9 @@ unfolding before_stretch
 nothing_before plan stream t delay earlier mark n k j first =
     let far = first.behind in
     let w = waits_before plan stream t delay earlier mark n k j first in
-    let e : k - mark ≡ k - mark - 1 + 1 = omega (arith, far) in
     ap₂ (λ x y. x ++ sync_behind y k)
     (emits_nothing t.address delay (own_page j) t.offset earlier (feed plan stream) mark (k + 3 - mark) w)
-    (ap (λ i. last_segments t.address delay (earlier ++ take i (drop mark (feed plan stream)))) e
+    (ap (λ i. last_segments t.address delay (earlier ++ take i (drop mark (feed plan stream)))) (omega (arith, far))
     ∙ given_nothing t.address delay (own_page j) t.offset earlier (feed plan stream) mark (k + 3 - mark)
     (k - mark - 1) w (omega (arith, far)))
 
@@ -366,11 +364,10 @@ pub segments_from : (plan : Plan) (stream : List (List ℕ)) (t : Transmitter) (
     → emission t.address delay (earlier ++ slice_range (feed plan stream) mark (mark + n))
     ≡ stretch_of (feed plan stream) k (mark + n)
 segments_from plan stream t delay earlier mark n k j first =
-    let fed : List (List ℕ) = feed plan stream in
-    lockstep_is t.address delay t.offset fed earlier mark (mark + n) k (grind (arith, locks_with))
-    (is_stretch plan stream t delay earlier mark n k j first)
-    ∙ ap (λ x. x ++ stretch fed k (mark + n)) (nothing_before plan stream t delay earlier mark n k j first)
-    ∙ sym (stretch_is fed k (mark + n) first.whole j.inside)
+    lockstep_is t.address delay t.offset (feed plan stream) earlier mark (mark + n) k (grind (arith, locks_with))
+    (is_stretch plan stream t delay earlier mark n k j first) ∙ ap (λ x. x ++ stretch (feed plan stream) k (mark + n))
+    (nothing_before plan stream t delay earlier mark n k j first)
+    ∙ sym (stretch_is (feed plan stream) k (mark + n) first.whole j.inside)
 
 pub lines_from : (plan : Plan) (stream : List (List ℕ)) (t : Transmitter) (delay : ℕ) (earlier : List (List ℕ))
     (mark n k : ℕ) → IsFedAnew plan stream t delay earlier mark n

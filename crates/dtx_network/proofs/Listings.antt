@@ -116,14 +116,13 @@ pub listing_is : (plan : Plan) (stream : List (List ℕ)) (t : Transmitter) (who
     ≡ (has_order (feed plan stream) g && is_listed (paging_at plan stream (g / 4)) who)
 unfolding has_listing has_order
 listing_is plan stream t who g p s listed whole =
-    let own : Bool = is_listed (paging_at plan stream (g / 4)) who in
     any_within (λ k. is_listing t.address (reads (get_or (feed plan stream) k [])))
-    (λ k. is_operations stream k && own) g 4 (λ k l m.
+    (λ k. is_operations stream k && (is_listed (paging_at plan stream (g / 4)) who)) g 4 (λ k l m.
     let turn : k / 4 ≡ g / 4 = omega (arith, whole, l, m) in
     listing_at plan stream t who k p s listed
     ∙ ap (λ (u : ℕ). is_operations stream k && is_listed (paging_at plan stream u) who) turn)
-    ∙ any_and (is_operations stream) own (range_with_len g 4)
-    ∙ ap (λ (b : Bool). b && own) (sym (same_orders plan stream g p s))
+    ∙ any_and (is_operations stream) (is_listed (paging_at plan stream (g / 4)) who) (range_with_len g 4)
+    ∙ ap (λ (b : Bool). b && (is_listed (paging_at plan stream (g / 4)) who)) (sym (same_orders plan stream g p s))
 
 and_true : (b : Bool) → (b && true) ≡ b
 and_true true = refl

@@ -51,9 +51,8 @@ all_given (p ∷ ps) zero (suc n) l = ap (λ (rest : List (Option (List ℕ))). 
     (map-range_moved (λ k. Some (get_or (p ∷ ps) k [])) (λ k. Some (get_or ps k [])) (0 + 1) 0 n (λ i l. grind arith)
     ∙ all_given ps 0 n (omega arith))
 all_given (p ∷ ps) (suc a) n l =
-    map-range_moved (λ k. Some (get_or (p ∷ ps) k [])) (λ k. Some (get_or ps k [])) (suc a) a n (λ i l.
-    let e : suc a + i ≡ suc (a + i) = omega arith in
-    ap (λ k. Some (get_or (p ∷ ps) k [])) e) ∙ all_given ps a n (omega arith)
+    map-range_moved (λ k. Some (get_or (p ∷ ps) k [])) (λ k. Some (get_or ps k [])) (suc a) a n
+    (λ i l. grind arith) ∙ all_given ps a n (omega arith)
 
 -- the lives that end in these actions, where the first of them begins with these packets, and the packets of the life
 -- that goes on
@@ -134,9 +133,7 @@ part_steps plan stream t who mark n p listed l =
     let actions : List (Option (List ℕ)) = map (λ k. Some (get_or (feed plan stream) k [])) (range_with_len mark n) in
     let e : n ≡ mark + n - mark = omega arith in
     ap (λ (o : Option ℕ). own_steps who (steps_at o actions))
-    (place_only plan.transmitters who t p.sound.transmitters listed)
-    ∙ own_all who actions ∙ all_given (feed plan stream) mark n (omega (arith, l, length-feed plan stream))
-    ∙ ap (λ (m : ℕ). map Some (take m (drop mark (feed plan stream)))) e
+    (place_only plan.transmitters who t p.sound.transmitters listed) ∙ grind (arith, own_all, all_given, length-feed)
 
 -- its lives, with that event among others
 lives_are : (plan : Plan) (stream : List (List ℕ)) (t : Transmitter) (who mark n : ℕ) (before after : List Event)
@@ -153,11 +150,7 @@ lives_are plan stream t who mark n before after p listed l =
     let a : List (Option (List ℕ)) = done_in plan stream who before in
     let b : List (Option (List ℕ)) = done_in plan stream who after in
     let own : List Step = steps_of ts fed (part_of_feed t mark n) in
-    ap (λ (steps : List Step). lives_from [] (own_steps who steps)) (grind (arith, flat_map-append))
-    ∙ ap (lives_from []) (own_more who (schedule ts fed before) (own ++ schedule ts fed after)
-    ∙ ap (λ (x : List (Option (List ℕ))). a ++ x) (own_more who own (schedule ts fed after)
-    ∙ ap (λ (x : List (Option (List ℕ))). x ++ b) (part_steps plan stream t who mark n p listed l)))
-    ∙ lives_on [] a (map Some part ++ b)
+    grind (arith, flat_map-append, own_more, part_steps) ∙ lives_on [] a (map Some part ++ b)
     ∙ ap (λ (x : List (List (List ℕ))). ended [] a ++ x) (lives_given (going_on [] a) part b
     ∙ lives_first (going_on [] a ++ part) b)
 
@@ -172,8 +165,7 @@ first_listing address fed z end g whole far l h = by_find (find test (range_with
     test i = nat_le (z + 52) i && ((i % 4 == 0) && has_listing address fed i)
 
     passes : (i : ℕ) → i % 4 ≡ 0 → z + 52 ≤ i → has_listing address fed i ≡ true → test i ≡ true
-    passes i w f o = and_from (nat_le (z + 52) i) ((i % 4 == 0) && has_listing address fed i) (le-leb (z + 52) i f)
-        (and_from (i % 4 == 0) (has_listing address fed i) (eq-eqb (i % 4) 0 w) o)
+    passes i w f o = grind (arith, and_from, le-leb, eq-eqb)
 
     fails : (i : ℕ) → i % 4 ≡ 0 → z + 52 ≤ i → test i ≡ false
         → (has_listing address fed i ≡ true) ⊎ (has_listing address fed i ≡ false) → has_listing address fed i ≡ false
@@ -206,10 +198,9 @@ done_by_others : (plan : Plan) (stream : List (List ℕ)) (t : Transmitter) (who
 unfolding done_in schedule steps_of
 done_by_others plan stream t who [] listed others = refl
 done_by_others plan stream t who (event ∷ events) listed others =
-    let fed : List (List ℕ) = feed plan stream in
-    own_more who (steps_at (transmitter_place (to_of event) plan.transmitters) (actions_of fed event))
-    (schedule plan.transmitters fed events) ∙ ap₂ (λ (x y : List (Option (List ℕ))). x ++ y)
-    (own_at who (transmitter_place (to_of event) plan.transmitters) (actions_of fed event)
+    own_more who (steps_at (transmitter_place (to_of event) plan.transmitters) (actions_of (feed plan stream) event))
+    (schedule plan.transmitters (feed plan stream) events) ∙ ap₂ (λ (x y : List (Option (List ℕ))). x ++ y)
+    (own_at who (transmitter_place (to_of event) plan.transmitters) (actions_of (feed plan stream) event)
     (not_here plan.transmitters t who event listed others.0)) (done_by_others plan stream t who events listed others.1)
 
 -- ---- it joins

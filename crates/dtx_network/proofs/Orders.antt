@@ -68,8 +68,7 @@ same_operations plan stream k p s = elim (cases_Bool (pid_of (get_or stream k []
   | inl t ↦ eq-eqb (pid_of (get_or (feed plan stream) k [])) 0x1FFA
       (read_as (get_or (feed plan stream) k []) (ops_at plan stream (take k (feed plan stream)) k)
       (operations_read plan stream k p s (eqb-true (pid_of (get_or stream k [])) 0x1FFA t))).pid ∙ sym t
-  | inr f ↦ ne_eqb (pid_of (get_or (feed plan stream) k [])) 0x1FFA
-      (other_stays plan stream k (eqb-false (pid_of (get_or stream k [])) 0x1FFA f)) ∙ sym f
+  | inr f ↦ ne_eqb (pid_of (get_or (feed plan stream) k [])) 0x1FFA (grind (arith, other_stays, eqb-false)) ∙ sym f
 ]
 
 any_same : (p q : ℕ → Bool) (a n : ℕ) → ((k : ℕ) → p k ≡ q k)
@@ -98,9 +97,7 @@ ordered_is plan stream k p s = elim (cases_Bool (is_operations stream k)) [
       ∙ cond-true (ops.index == k % 624) (Some ops) None
       (eq-eqb ops.index (k % 624) (index_is plan stream (take k (feed plan stream)) k))
       ∙ sym (cond-true (is_operations stream k) (Some ops) None t)
-  | inr f ↦ ap (ordered (k % 624)) (said_at (feed plan stream) k ∙ reads_other (get_or (feed plan stream) k [])
-      (other_stays plan stream k (eqb-false (pid_of (get_or stream k [])) 0x1FFA f)))
-      ∙ sym (cond-false (is_operations stream k) (Some ops) None f)
+  | inr f ↦ grind (arith, said_at, reads_other, other_stays, eqb-false, cond-false, ops)
 ]
   where
     ops : Ops
@@ -183,8 +180,7 @@ order_some plan stream g p s far whole h =
       ops_at plan stream (take found.0 (feed plan stream)) found.0,
       order_is plan stream g p s ∙ cond-true (nat_le 52 g && (g % 4 == 0))
           (option_map (λ k. ops_at plan stream (take k (feed plan stream)) k)
-          (find (is_operations stream) (range_with_len g 4))) None
-          (and_from (nat_le 52 g) (g % 4 == 0) (le-leb 52 g far) (eq-eqb (g % 4) 0 whole))
+          (find (is_operations stream) (range_with_len g 4))) None (grind (arith, and_from, le-leb, eq-eqb))
           ∙ ap (option_map (λ k. ops_at plan stream (take k (feed plan stream)) k)) found.1,
     )
 

@@ -45,8 +45,7 @@ other_packet : (earlier feed : List (List ℕ)) (mark n m : ℕ) (packet : List 
 other_packet earlier feed mark n m packet h =
     let e : length earlier + m - length earlier ≡ m = omega arith in
     set-append_right earlier (take n (drop mark feed)) (length earlier) (length earlier + m) packet refl (omega arith)
-    ∙ ap (λ k. earlier ++ set (take n (drop mark feed)) k packet) e
-    ∙ ap (λ x. earlier ++ x) (sym (grind (arith, take-set-lt)) ∙ ap (take n) (sym (drop-set-add mark feed m packet)))
+    ∙ grind (arith, take-set-lt, drop-set-add)
 
 marks_round : (a d : ℕ) (y : ℤ) (earlier feed : List (List ℕ)) (mark n m : ℕ) → IsFeed a d y feed → mark % 624 ≡ 0
     → mark + n ≤ length feed → m < n → m % 624 ≡ 0 → 624 ≤ m
@@ -58,10 +57,7 @@ marks_round a d y earlier feed mark n m f e l h g far =
     record {
       before = ap (has_mark (syncs life)) low ∙ mark_own a d y earlier feed mark n (m - 624) f e l (omega (arith, h))
           ∙ eq-eqb ((m - 624) % 624) 0 (omega (arith, g, far));
-      behind = λ k.
-          ap (has_mark (syncs life)) high ∙ mark_own a d y earlier feed mark n (m + 624) f e l
-          (grind (arith, length-syncs, length-append, length-take-le, length-drop))
-          ∙ eq-eqb ((m + 624) % 624) 0 (omega (arith, g));
+      behind = λ k. grind (arith, mark_own, length-syncs, length-append, length-take-le, length-drop, eq-eqb);
     }
 
 pub one_mark_missing : (a d : ℕ) (y : ℤ) (feed earlier : List (List ℕ)) (mark n i : ℕ) (packet : List ℕ)
@@ -84,9 +80,7 @@ one_mark_missing a d y feed earlier mark n i packet f e l g h b c =
     get_or-append-add earlier part m [] ∙ get_or-take n (drop mark feed) m [] small ∙ get_or-drop mark feed m []
     ∙ ap (λ x. get_or feed x []) at in
     subst (λ x. AreSentAlike (earlier ++ x) (earlier ++ slice_range (set feed i packet) mark (mark + n)))
-    (sym (part_is feed mark n)) (subst (AreSentAlike (earlier ++ part)) (other_packet earlier feed mark n m packet small
-    ∙ ap (λ x. earlier ++ take n (drop mark (set feed x packet))) at
-    ∙ ap (λ x. earlier ++ x) (sym (part_is (set feed i packet) mark n)))
+    (sym (part_is feed mark n)) (subst (AreSentAlike (earlier ++ part)) (grind (arith, other_packet, part_is))
     (one_missing (earlier ++ part) packet (length earlier + m) w.place
     (ap anchor_of front ∙ w.holds i (omega (arith, h)) (omega (arith, b, l)))
     (grind (arith, length-append, length-take-le, length-drop))
@@ -111,6 +105,10 @@ pub stray_marks_pass : (a d : ℕ) (y : ℤ) (feed earlier other : List (List �
     → ((i : ℕ) → i < n → i % 624 ≡ 0 → has_mark (syncs other) i ≡ true)
     → AreSentAlike (earlier ++ slice_range feed mark (mark + n)) (earlier ++ other)
 stray_marks_pass a d y feed earlier other mark n f e l h b up_to due =
+    let z : ℕ = locked_from earlier mark in
+    let size : length (syncs (earlier ++ part)) ≡ length earlier + n =
+    length-syncs (earlier ++ part) ∙ length-append earlier part ∙ ap (λ (x : ℕ). length earlier + x)
+    (length-take-le n (drop mark feed) (omega (arith, l, length-drop mark feed))) in
     subst (λ x. AreSentAlike (earlier ++ x) (earlier ++ other)) (sym (part_is feed mark n))
     (stray (earlier ++ part) (earlier ++ other) w.place
     (bodies_more earlier part ∙ ap (λ x. bodies earlier ++ x) (sym (b ∙ ap bodies (part_is feed mark n)))
@@ -126,12 +124,10 @@ stray_marks_pass a d y feed earlier other mark n f e l h b up_to due =
           due_there (length earlier) (locked_from earlier mark - mark) w.place (i - length earlier) w.within w.steps
           (omega (arith, whole, e, late)) (omega (arith, high, behind))
           (ap (λ (x : ℕ). (x - w.place) % 624) (sym at) ∙ step) in
-          given i behind small (due (i - length earlier) small there ∙ sym (eq-eqb ((i - length earlier) % 624) 0 there))
+          given i behind small
+          (due (i - length earlier) small there ∙ sym (eq-eqb ((i - length earlier) % 624) 0 there))
     ]))
   where
-    z : ℕ
-    z = locked_from earlier mark
-
     part : List (List ℕ)
     part = take n (drop mark feed)
 
@@ -143,10 +139,6 @@ stray_marks_pass a d y feed earlier other mark n f e l h b up_to due =
 
     w : HasLock earlier feed mark (locked_from earlier mark)
     w = has_lock a d y feed earlier mark f e (omega (arith, h, l))
-
-    size : length (syncs (earlier ++ part)) ≡ length earlier + n
-    size = length-syncs (earlier ++ part) ∙ length-append earlier part ∙ ap (λ (x : ℕ). length earlier + x)
-        (length-take-le n (drop mark feed) (omega (arith, l, length-drop mark feed)))
 
     early : (i : ℕ) → i < length earlier → has_mark (syncs (earlier ++ part)) i ≡ has_mark (syncs (earlier ++ other)) i
     early i low = mark_early earlier part i low ∙ sym (mark_early earlier other i low)

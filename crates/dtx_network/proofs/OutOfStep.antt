@@ -7,7 +7,7 @@ use Rattle.std.proofs.Common.{take_at}
 use Rattle.std.proofs.lemmas.Bool.{cond-true, eqb-false}
 use Rattle.std.proofs.lemmas.List.{length_push}
 use Rattle.dtx_packets.specs.Packet.{sync_of}
-use Rattle.dtx_cadence.specs.Anchor.{has_mark, anchor}
+use Rattle.dtx_cadence.specs.Anchor.{has_mark}
 use Rattle.dtx_cadence.specs.Cadence.{IsInStep}
 use Rattle.dtx_cadence.proofs.AnchoredLemmas.{two_missing}
 use Rattle.dtx_cadence.proofs.NextAnchorLemmas.{anchor_below, anchor_next, ends_with}
@@ -24,13 +24,12 @@ use Rattle.dtx_exciter.proofs.UnderLemmas.{syncs_push, length-syncs}
 pub lost_mutes : (address delay : ℕ) (d : List (List ℕ)) (p : List ℕ)
     → was_lost (anchor_of d) (anchor_of (d ++ p ∷ [])) ≡ true → last_answer address delay (d ++ p ∷ []) ≡ Muted Cadence
 unfolding last_answer told_of anchor_of
-lost_mutes address delay d p m = simp (front, cond-true)
-  where
-    shorter : length (syncs (d ++ p ∷ [])) - 1 ≡ length (syncs d)
-    shorter = omega (arith, ap length (syncs_push d p), length_push (syncs d) (sync_of p))
-
-    front : take (length (syncs (d ++ p ∷ [])) - 1) (syncs (d ++ p ∷ [])) ≡ syncs d
-    front = ap₂ take shorter (syncs_push d p) ∙ take_at (syncs d) (sync_of p ∷ []) (length (syncs d)) refl
+lost_mutes address delay d p m =
+    let shorter : length (syncs (d ++ p ∷ [])) - 1 ≡ length (syncs d) =
+    omega (arith, ap length (syncs_push d p), length_push (syncs d) (sync_of p)) in
+    let front : take (length (syncs (d ++ p ∷ [])) - 1) (syncs (d ++ p ∷ [])) ≡ syncs d =
+    ap₂ take shorter (syncs_push d p) ∙ take_at (syncs d) (sync_of p ∷ []) (length (syncs d)) refl in
+    simp (front, cond-true)
 
 -- two marks in a row that are due and missing
 pub two_missing_lose : (d : List (List ℕ)) (p : List ℕ) (j : ℕ) → anchor_of d ≡ Some j → (length d - j) % 624 ≡ 0
@@ -67,8 +66,7 @@ stays_or_lost earlier feed mark j (suc n) h l = elim (stays_or_lost earlier feed
 
     next : anchor_of d ≡ Some j → anchor_of (after earlier feed mark (n + 1))
         ≡ cond (ends_with (syncs d) (sync_of p) j) None (Some j)
-    next e = ap anchor_of (after_more earlier feed mark n (omega (arith, l)))
-        ∙ ap anchor (syncs_push d p) ∙ anchor_next (syncs d) (sync_of p) j e
+    next e = grind (arith, after_more, syncs_push, anchor_next)
 
     by_test : (t : Bool) → anchor_of d ≡ Some j → anchor_of (after earlier feed mark (n + 1)) ≡ cond t None (Some j)
         → IsLostWithin earlier feed mark (suc n) ⊎ (anchor_of (after earlier feed mark (suc n)) ≡ Some j)
@@ -98,10 +96,7 @@ pub lost_before_third : (a d : ℕ) (y : ℤ) (feed earlier : List (List ℕ)) (
     → mark % 624 ≡ 0 → mark + 1248 ≤ length feed → anchor_of earlier ≡ Some j
     → ((length earlier - j) % 624 == 0) ≡ false
     → (m : ℕ) × (m < 1248) × (last_answer a d (earlier ++ slice_range feed mark (mark + m + 1)) ≡ Muted Cadence)
-lost_before_third a d y feed earlier mark j f m l h out = by_stay (stays_or_lost earlier feed mark j 1248 h l)
-  where
-    by_stay : IsLostWithin earlier feed mark 1248 ⊎ (anchor_of (after earlier feed mark 1248) ≡ Some j)
-        → (m : ℕ) × (m < 1248) × (last_answer a d (earlier ++ slice_range feed mark (mark + m + 1)) ≡ Muted Cadence)
-    by_stay (inl w) = grind (arith, after_more, lost_mutes, after)
-    by_stay (inr e) = absurd (eqb-false ((length earlier - j) % 624) 0 out
-        (third_in_step a d y earlier feed mark j f m l h e))
+lost_before_third a d y feed earlier mark j f m l h out = elim (stays_or_lost earlier feed mark j 1248 h l) [
+  | inl w ↦ grind (arith, after_more, lost_mutes, after)
+  | inr e ↦ absurd (eqb-false ((length earlier - j) % 624) 0 out (third_in_step a d y earlier feed mark j f m l h e))
+]

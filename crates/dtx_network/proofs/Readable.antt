@@ -66,13 +66,7 @@ part_there feed k end f n before after begins some inside =
     record {
       some = omega (arith, some, less, inside);
       within = omega (arith, less, at, inside, stretch_within feed k end (omega (arith, inside)));
-      same = λ i l.
-          let here : i < m = omega (arith, l, less) in
-          let here_run : i < n = omega (arith, l, less, most) in
-          let e : segment_place k + (t + i) ≡ 313 * (f / 312) + i = omega (arith, at) in
-          get_or-take m run i [] here ∙ run_at before ((stretch_of feed k end) ++ after) t n i here_run
-          ∙ get_or_append_left (stretch_of feed k end) after [] (t + i) (omega (arith, here, inside))
-          ∙ stretch_at feed k end (t + i) (omega (arith, here, inside)) ∙ ap (λ (j : ℕ). get_or (a53 feed) j []) e;
+      same = λ i l. grind (arith, get_or-take, run_at, get_or_append_left, stretch_at);
     }
 
 -- ---- the words that lie in it
@@ -100,9 +94,8 @@ complete_in : (feed : List (List ℕ)) (k end f j : ℕ) (run : List (List ℤ))
     → (length run < left_from feed k end f) ⊎ (left_from feed k end f ≤ length run)
     → IsComplete 207 52 4 (828 * groups_of (take (left_from feed k end f) run)) j
 unfolding groups_of data_count
-complete_in feed k end f j run p inside begins there given lies (inl l) =
-    let all : take (left_from feed k end f) run ≡ run = take_all (left_from feed k end f) run (omega (arith, l)) in
-    subst (λ (n : ℕ). IsComplete 207 52 4 n j) (ap (λ (r : List (List ℤ)). length (bytes_in r)) (sym all)
+complete_in feed k end f j run p inside begins there given lies (inl l) = subst (λ (n : ℕ). IsComplete 207 52 4 n j)
+    (ap (λ (r : List (List ℤ)). length (bytes_in r)) (sym (take_all (left_from feed k end f) run (omega (arith, l))))
     ∙ length-bytes_there feed (f / 312) (take (left_from feed k end f) run) p there) given
 complete_in feed k end f j run p inside begins there given lies (inr l) =
     grind (arith, left_from, length-take, length-left, field_turn, groups_left)

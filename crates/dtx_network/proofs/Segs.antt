@@ -90,12 +90,10 @@ emission_up : (a d : ℕ) (life : List (List ℕ)) (i : ℕ) → i < length life
     → length (emission a d (take i life)) + length (last_segments a d (take (i + 1) life)) ≤ length (emission a d life)
 emission_up a d life i l =
     let more : take (i + 1) life ≡ take i life ++ get_or life i [] ∷ [] = take_more life i [] l in
-    let here : emission a d (take (i + 1) life) ≡ emission a d (take i life) ++ last_segments a d (take (i + 1) life) =
-    ap (emission a d) more ∙ emission_push a d (take i life) (get_or life i [])
-    ∙ ap (λ x. emission a d (take i life) ++ last_segments a d x) (sym more) in
     omega (
       arith,
-      ap (λ (x : List (List ℤ)). length x) here,
+      ap (λ (x : List (List ℤ)). length x) (ap (emission a d) more ∙ emission_push a d (take i life) (get_or life i [])
+          ∙ ap (λ x. emission a d (take i life) ++ last_segments a d x) (sym more)),
       ap (λ (x : List (List ℤ)). length x) (ap (emission a d) (sym (take-append-drop (i + 1) life))
           ∙ emission_more a d (take (i + 1) life) (drop (i + 1) life)),
       length-append (emission a d (take i life)) (last_segments a d (take (i + 1) life)),

@@ -38,8 +38,7 @@ unfolding stretch_of stretch
 stretch_is feed k end l m =
     ap (λ x. take (segment_place (4 * u - 1) + 1 - segment_place k) (drop (segment_place k) x)) (a53_from feed u inside)
     ∙ ap (take (segment_place (4 * u - 1) + 1 - segment_place k)) (drop-append-le (segment_place k) front rest starts)
-    ∙ take_at (drop (segment_place k) front) rest (segment_place (4 * u - 1) + 1 - segment_place k) ends
-    ∙ stretch_whole feed k end (4 * u) m whole
+    ∙ grind (arith, take_at, front, rest, u, ends, stretch_whole, whole)
   where
     u : ℕ
     u = end / 4
@@ -96,9 +95,7 @@ line_at plan stream offset s k g p u far = elim (cases_Bool (g % 4 == 0)) [
         ap (λ (o : Option Ops). option_map (preset_line offset s k) (placed g o)) order.1
         ∙ ap Some (line_is plan stream offset s k g order.0 (order_says plan stream g order.0 p u order.1))
         ∙ sym (cond-true test (Some line) None (and_from (g % 4 == 0) (has_order (feed plan stream) g) e h))
-    by_order e (inr h) =
-        ap (λ (o : Option Ops). option_map (preset_line offset s k) (placed g o)) (order_none plan stream g p u h)
-        ∙ sym (cond-false test (Some line) None (and_right (g % 4 == 0) (has_order (feed plan stream) g) h))
+    by_order e (inr h) = grind (arith, order_none, cond-false, and_right)
 
 -- ---- all lines
 

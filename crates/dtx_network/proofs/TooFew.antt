@@ -1,6 +1,6 @@
 -- A byte of packet 51 behind a mark is one of the last packet before the mark.
-use Rattle.std.proofs.Common.{◌≡◌, ◌≢◌, ℕ, ◌+◌, ◌-◌, ◌*◌, ◌%◌, ◌<◌, ◌≤◌, nat_le, List, ◌∷◌, ◌++◌, length}
-use Rattle.std.proofs.Common.{get_or, sym, ap, ◌∙◌, arith, zero-add}
+use Rattle.std.proofs.Common.{◌≡◌, ◌≢◌, ℕ, ◌+◌, ◌-◌, ◌*◌, ◌%◌, ◌<◌, ◌≤◌, nat_le, List, ◌∷◌, ◌++◌, length, get_or, sym}
+use Rattle.std.proofs.Common.{◌∙◌, arith, zero-add}
 use Rattle.std.proofs.lemmas.Bool.{cond-true, le-leb}
 use Rattle.std.proofs.lemmas.List.{length-append, get_or_append_left, get_or-append_right}
 use Rattle.std.proofs.lemmas.List.FromFn.{get_or-map-range_with_len}
@@ -24,13 +24,8 @@ late_is front packets p z l =
     let within : n < length (coded all) = omega (arith, l, length-coded 0 all, length-append front (p ∷ packets)) in
     get_or-map-range_with_len (interleaved_at 52 4 (coded all)) 0 (length (coded all)) n n 0 within (omega arith)
     ∙ cond-true (nat_le (208 * (n % 52)) n) (get_or (coded all) (n - 208 * (n % 52)) 0) 0
-    (le-leb (208 * (n % 52)) n far) ∙ ap (λ i. get_or (coded all) i 0) back
-    ∙ ap (λ (x : List ℕ). get_or x (207 * length front + 206) 0) (coded_append 0 front (p ∷ packets))
-    ∙ get_or-append_right (coded front) (coded_from (0 + length front) (p ∷ packets)) (207 * length front)
-    (207 * length front + 206) 0 (length-coded 0 front) (omega arith)
-    ∙ ap (λ i. get_or (coded_from (0 + length front) (p ∷ packets)) i 0) (there (207 * length front))
-    ∙ get_or_append_left (own (0 + length front)) (coded_from (0 + length front + 1) packets) 0 206
-    (omega (arith, length-code (0 + length front) p)) ∙ ap (λ k. get_or (own k) 206 0) (zero-add (length front))
+    (le-leb (208 * (n % 52)) n far) ∙
+    grind (arith, coded_append, get_or-append_right, length-coded, there, get_or_append_left, length-code, zero-add)
   where
     there : (m : ℕ) → m + 206 - m ≡ 206
     there m = omega arith

@@ -68,8 +68,7 @@ length-kept true x xs = omega arith
 length-kept false x xs = omega arith
 
 test_whole : (stream : List (List ℕ)) (k : ℕ) → k % 4 ≡ 0 → orders_at stream k ≡ is_filled stream (k / 4)
-test_whole stream k whole = ap (λ (b : Bool). b && has_order stream k) (eq-eqb (k % 4) 0 whole)
-    ∙ ap (has_order stream) (omega (arith, whole)) ∙ filled_is stream (k / 4)
+test_whole stream k whole = grind (arith, eq-eqb) ∙ filled_is stream (k / 4)
 
 -- those from packet k on, where those behind it are counted
 one_counted : (stream : List (List ℕ)) (k n : ℕ)
@@ -77,34 +76,31 @@ one_counted : (stream : List (List ℕ)) (k n : ℕ)
     ≡ filled_groups stream ((k + 1 + n + 3) / 4)
     → filled_groups stream ((k + 3) / 4) + length (filter (orders_at stream) (k ∷ range_with_len (k + 1) n))
     ≡ filled_groups stream ((k + suc n + 3) / 4)
-one_counted stream k n further = by_place (cases_Bool (k % 4 == 0))
+one_counted stream k n further = elim (cases_Bool (k % 4 == 0)) [
+  | inl t ↦
+      let whole : k % 4 ≡ 0 = eqb-true (k % 4) 0 t in
+      let here : (k + 3) / 4 ≡ k / 4 = omega (arith, whole) in
+      let next : (k + 1 + 3) / 4 ≡ k / 4 + 1 = omega (arith, whole) in
+      let kept : length (filter (orders_at stream) (k ∷ range_with_len (k + 1) n))
+      ≡ cond (is_filled stream (k / 4)) 1 0 + length rest = length-kept (orders_at stream k) k rest
+      ∙ ap (λ (b : Bool). cond b 1 0 + length rest) (test_whole stream k whole) in
+      omega (
+        arith,
+        kept,
+        filled_groups-next stream (k / 4),
+        ap (filled_groups stream) here,
+        ap (filled_groups stream) next,
+        ap (filled_groups stream) ends,
+        further,
+      )
+  | inr f ↦ grind (arith, eqb-false, filter-lost, and_left)
+]
   where
     rest : List ℕ
     rest = filter (orders_at stream) (range_with_len (k + 1) n)
 
     ends : (k + 1 + n + 3) / 4 ≡ (k + suc n + 3) / 4
     ends = omega arith
-
-    by_place : ((k % 4 == 0) ≡ true) ⊎ ((k % 4 == 0) ≡ false)
-        → filled_groups stream ((k + 3) / 4) + length (filter (orders_at stream) (k ∷ range_with_len (k + 1) n))
-        ≡ filled_groups stream ((k + suc n + 3) / 4)
-    by_place (inl t) =
-        let whole : k % 4 ≡ 0 = eqb-true (k % 4) 0 t in
-        let here : (k + 3) / 4 ≡ k / 4 = omega (arith, whole) in
-        let next : (k + 1 + 3) / 4 ≡ k / 4 + 1 = omega (arith, whole) in
-        let kept : length (filter (orders_at stream) (k ∷ range_with_len (k + 1) n))
-        ≡ cond (is_filled stream (k / 4)) 1 0 + length rest = length-kept (orders_at stream k) k rest
-        ∙ ap (λ (b : Bool). cond b 1 0 + length rest) (test_whole stream k whole) in
-        omega (
-          arith,
-          kept,
-          filled_groups-next stream (k / 4),
-          ap (filled_groups stream) here,
-          ap (filled_groups stream) next,
-          ap (filled_groups stream) ends,
-          further,
-        )
-    by_place (inr f) = grind (arith, eqb-false, filter-lost, and_left)
 
 orders_counted : (stream : List (List ℕ)) (k n : ℕ)
     → filled_groups stream ((k + 3) / 4) + length (filter (orders_at stream) (range_with_len k n))

@@ -51,20 +51,17 @@ own_not_told address own r h = list_any_none (λ o. page o == own) (of_one_cycle
 
 not_all_told : (address own : ℕ) (order : Order) (older : List Order) → All (IsOther address own) (order ∷ older)
     → all_pages_told (of_one_cycle (order ∷ older)) ≡ false
-not_all_told address own order older h = elim (cases_Bool all) [
-  | inr f ↦ f
-  | inl t ↦
-      let first : IsOther address own order = All-head (IsOther address own) order older h in
-      let below = first.below in
-      absurd (true≢false (sym (list_all-range_at (is_told cycle) 0 (pages order) t own (omega arith)
-      (omega (arith, below))) ∙ own_not_told address own (order ∷ older) h))
-]
-  where
-    cycle : List Order
-    cycle = of_one_cycle (order ∷ older)
-
-    all : Bool
-    all = list_all (is_told cycle) (range_with_len 0 (pages order))
+not_all_told address own order older h =
+    let cycle : List Order = of_one_cycle (order ∷ older) in
+    let all : Bool = list_all (is_told cycle) (range_with_len 0 (pages order)) in
+    elim (cases_Bool all) [
+      | inr f ↦ f
+      | inl t ↦
+          let first : IsOther address own order = All-head (IsOther address own) order older h in
+          let below = first.below in
+          absurd (true≢false (sym (list_all-range_at (is_told cycle) 0 (pages order) t own (omega arith)
+          (omega (arith, below))) ∙ own_not_told address own (order ∷ older) h))
+    ]
 
 pub none_served : (address delay own : ℕ) (r : List Order) → All (IsOther address own) r
     → served address delay r ≡ Err None

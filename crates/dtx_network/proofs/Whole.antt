@@ -85,8 +85,8 @@ follows plan stream events p s x =
     let packets : ArePackets (feed plan stream) = feed_packets plan stream p s in
     record {
       emits = e;
-      named = first_is plan x.t.offset (length e.before) x.t.address (feed plan stream) (locked_from x.fed.earlier x.mark)
-          (x.mark + x.count) x.k x.listing;
+      named = first_is plan x.t.offset (length e.before) x.t.address (feed plan stream)
+          (locked_from x.fed.earlier x.mark) (x.mark + x.count) x.k x.listing;
       unmuted = no_mute plan x.t (feed plan stream) x.mark x.k (x.mark + x.count)
           (around x.lives_before x.fed x.lives_behind) (sent_segments x.t x.who (steps_under plan stream events))
           (lines_of x.t x.who (steps_under plan stream events)) e;

@@ -21,8 +21,7 @@ use Rattle.dtx_outer.specs.Coding.{coded_as, codewords}
 pub length-codewords : (n k : ℕ) (white : List ℕ) (s : ℕ) (heads : List (List ℕ))
     → length (codewords n k white s heads) ≡ length heads
 unfolding codewords
-length-codewords n k white s heads = length-map (enumerate_from s heads) (λ p. coded_as n k white p.0 p.1)
-    ∙ length-enumerate_from s heads
+length-codewords n k white s heads = grind (arith, length-map, length-enumerate_from)
 
 pub get_or-codewords : (n k : ℕ) (white : List ℕ) (s : ℕ) (heads : List (List ℕ)) (i : ℕ) → i < length heads
     → get_or (codewords n k white s heads) i [] ≡ coded_as n k white (s + i) (get_or heads i [])
@@ -41,10 +40,9 @@ unfolding codewords
 length-joined n k white s [] m h = let e : 0 ≡ n * 0 = grind arith in e
 length-joined n k white s (x ∷ xs) m h =
     let first : length x ≡ k = h 0 (omega arith) in
-    let rest : length (concat (codewords n k white (s + 1) xs)) ≡ n * length xs =
-    length-joined n k white (s + 1) xs m (λ i l. h (suc i) (omega arith)) in
     length-append (coded_as n k white s x) (concat (codewords n k white (s + 1) xs))
-    ∙ ap₂ ◌+◌ (length-coded n k white _ x ∙ omega arith) rest ∙ more (length xs)
+    ∙ ap₂ ◌+◌ (length-coded n k white _ x ∙ omega arith)
+    (length-joined n k white (s + 1) xs m (λ i l. h (suc i) (omega arith))) ∙ more (length xs)
   where
     more : (l : ℕ) → n + n * l ≡ n * suc l
     more l = grind arith
@@ -56,20 +54,16 @@ pub codewords_more : (n k : ℕ) (white : List ℕ) (s : ℕ) (heads : List (Lis
     ++ coded_as n k white (s + length heads) head ∷ []
 unfolding codewords
 codewords_more n k white s [] head = ap (λ p. coded_as n k white p head ∷ []) (let e : s ≡ s + 0 = omega arith in e)
-codewords_more n k white s (x ∷ xs) head =
-    ap (λ ys. coded_as n k white s x ∷ ys)
+codewords_more n k white s (x ∷ xs) head = ap (λ ys. coded_as n k white s x ∷ ys)
     (codewords_more n k white (s + 1) xs head
-    ∙ ap (λ p. codewords n k white (s + 1) xs ++ coded_as n k white p head ∷ []) (let e : s + 1 + length xs
-    ≡ s + suc (length xs) = omega arith in e))
+    ∙ ap (λ p. codewords n k white (s + 1) xs ++ coded_as n k white p head ∷ []) (grind arith))
 
 pub leaving_more : (b : ℕ) (v : Branching) (calls : List (List ℕ)) (call : List ℕ)
     → leaving_calls b v (calls ++ call ∷ []) ≡ leaving_calls b v calls ++ leaving_all b (after_calls b v calls) call
 unfolding leaving_calls after_calls
 leaving_more b v [] call = append-nil (leaving_all b v call)
-leaving_more b v (x ∷ xs) call =
-    ap (λ ys. leaving_all b v x ++ ys) (leaving_more b (after_all b v x) xs call)
-    ∙ sym (append_assoc (leaving_all b v x) (leaving_calls b (after_all b v x) xs)
-    (leaving_all b (after_calls b (after_all b v x) xs) call))
+leaving_more b v (x ∷ xs) call = ap (λ ys. leaving_all b v x ++ ys) (leaving_more b (after_all b v x) xs call)
+    ∙ sym (grind (arith, append_assoc))
 
 pub after_more : (b : ℕ) (v : Branching) (calls : List (List ℕ)) (call : List ℕ)
     → after_calls b v (calls ++ call ∷ []) ≡ after_all b (after_calls b v calls) call
@@ -79,39 +73,24 @@ after_more b v (x ∷ xs) call = after_more b (after_all b v x) xs call
 
 -- a packet of the whitener's period
 pub packet_within : (k place period : ℕ) → 0 < k → place < period / k → k * place + k ≤ period
-packet_within k place period some l =
-    let m : k * (place + 1) ≤ k * (period / k) = mul-le-mul_left k (omega arith) in
-    let f : k * (place + 1) ≡ k * place + k = grind arith in
-    omega (arith, m, f, some)
+packet_within k place period some l = grind (arith, mul-le-mul_left)
 
 -- ---- four packets at once
 
 -- word p of four, and its front
 pub front_within : (n k p long : ℕ) → k ≤ n → p < 4 → long ≡ n * 4 → n * p + k ≤ long
-front_within n k p long few l e =
-    let m : n * (p + 1) ≤ n * 4 = mul-le-mul_left n (omega arith) in
-    let f : n * (p + 1) ≡ n * p + n = grind arith in
-    omega (arith, e, f, m, few)
+front_within n k p long few l e = grind (arith, mul-le-mul_left)
 
 -- the bytes by which packet p of them is whitened are those of one packet of the period
 pub white_within : (k place period p : ℕ) → k * (place + 4) ≤ period → p < 4 → k * (place + p) + k ≤ period
-white_within k place period p h l =
-    let m : k * (place + p + 1) ≤ k * (place + 4) = mul-le-mul_left k (omega arith) in
-    let f : k * (place + p + 1) ≡ k * (place + p) + k = grind arith in
-    omega (arith, f, m, h)
+white_within k place period p h l = grind (arith, mul-le-mul_left)
 
 pub place_small : (k place period p : ℕ) → 0 < k → k * (place + 4) ≤ period → p < 4 → place + p ≤ period
-place_small k place period p some h l =
-    let m : 1 * (place + 4) ≤ k * (place + 4) = mul-le 1 (place + 4) k (place + 4) (omega arith) (omega arith) in
-    omega (arith, m, h, l)
+place_small k place period p some h l = grind (arith, mul-le)
 
 place_within : (k place period p : ℕ) → 0 < k → k * (place + 4) ≤ period → p < 4
     → place + p ≡ (place + p) % (period / k)
-place_within k place period p some h l =
-    let f : k * (place + 4) ≡ (place + 4) * k = grind arith in
-    let q : place + 4 ≤ period / k = le-div (place + 4) period k some (omega (arith, f, h)) in
-    let r : place + p < period / k = omega (arith, q, l) in
-    sym (mod-eq_of_lt r)
+place_within k place period p some h l = grind (arith, le-div, mod-eq_of_lt)
 
 -- words that begin with the data of four packets, whitened, become their codewords
 pub begun_completed : {A : Type 0} (n k : ℕ) (white : List ℕ) (place period : ℕ) (f : A → List ℕ) (xs : List A)
@@ -124,9 +103,6 @@ begun_completed n k white place period f xs words code long four within begun =
     let count : length heads ≡ 4 = length-map xs f ∙ four in
     ap (λ i. completed n k i words) (sym count)
     ∙ completed_each n k (λ p head. whitened white (k * (p % (length white / k))) head) place heads words
-    (λ p l. let q : p < 4 = omega (arith, l, count) in
-    begun p q
-    ∙ ap (λ i. whitened white (k * i) (get_or heads p []))
-    (place_within k place (length white) p (omega (arith, code.some)) (omega (arith, within, long)) q))
+    (λ p l. grind (arith, place_within))
     ∙ sym (concat_is (codewords n k white place heads) ∙ flat_map-map (λ x. x) (λ p. coded_as n k white p.0 p.1)
     (enumerate_from place heads))

@@ -1,7 +1,6 @@
 -- The codewords of the data of packets, as those that make them call them.
 use borrow.Rule.Slice.PartMut.{put_mid}
-use Rattle.std.proofs.Common.{◌≡◌, ℕ, ◌+◌, ◌≤◌, List, [], ◌∷◌, ◌++◌, length, take, drop, get_or, refl, sym, ap, ap₂}
-use Rattle.std.proofs.Common.{◌∙◌, arith}
+use Rattle.std.proofs.Common.{◌≡◌, ℕ, ◌+◌, ◌≤◌, List, [], ◌∷◌, ◌++◌, length, take, get_or, arith}
 use Rattle.std.proofs.lemmas.List.{append_assoc, length-append, length-take-le, take_at}
 use Rattle.std.specs.List.{concat, enumerate_from, flat_map}
 use Rattle.dtx_outer.specs.Coding.{coded_as, codewords}
@@ -16,8 +15,7 @@ pub four_made : (n k : ℕ) (white : List ℕ) (s : ℕ) (one two three four : L
     → concat (codewords n k white s (one ∷ two ∷ three ∷ four ∷ []))
     ≡ flat_map (λ p. made p.0 p.1) (enumerate_from s packets)
 unfolding codewords
-four_made n k white s one two three four (a ∷ b ∷ c ∷ d ∷ []) made l e1 e2 e3 e4 =
-    ap₂ ◌++◌ (e1 s) (ap₂ ◌++◌ (e2 (s + 1)) (ap₂ ◌++◌ (e3 (s + 1 + 1)) (ap₂ ◌++◌ (e4 (s + 1 + 1 + 1)) refl)))
+four_made n k white s one two three four (a ∷ b ∷ c ∷ d ∷ []) made l e1 e2 e3 e4 = grind arith
 four_made n k white s one two three four [] made l e1 e2 e3 e4 = absurd (omega (arith, l))
 four_made n k white s one two three four (a ∷ []) made l e1 e2 e3 e4 = absurd (omega (arith, l))
 four_made n k white s one two three four (a ∷ b ∷ []) made l e1 e2 e3 e4 = absurd (omega (arith, l))
@@ -27,9 +25,4 @@ four_made n k white s one two three four (a ∷ b ∷ c ∷ d ∷ e ∷ ps) made
 -- words that are written behind those before them
 pub written_behind : (a k : ℕ) (words more : List ℕ) → a + k ≤ length words → length more ≡ k
     → take (a + k) (put_mid a k words more) ≡ take a words ++ more
-written_behind a k words more within long =
-    let front : List ℕ = take a words in
-    let rest : List ℕ = drop k (drop a words) in
-    ap (take (a + k)) (sym (append_assoc front more rest))
-    ∙ take_at (front ++ more) rest (a + k)
-    (omega (arith, length-append front more, length-take-le a words (omega (arith, within)), long))
+written_behind a k words more within long = grind (arith, append_assoc, take_at, length-append, length-take-le)

@@ -1,5 +1,5 @@
 -- What is made of the words of a run, as more of its bytes come.
-use Rattle.std.proofs.Common.{◌≡◌, ℕ, ◌+◌, ◌-◌, ◌*◌, ◌/◌, ◌%◌, ◌<◌, ◌≤◌, ◌⊎◌, inl, inr, List, [], ◌∷◌, ◌++◌, map, Some}
+use Rattle.std.proofs.Common.{◌≡◌, ℕ, ◌+◌, ◌-◌, ◌*◌, ◌/◌, ◌%◌, ◌<◌, ◌≤◌, inl, inr, List, [], ◌∷◌, ◌++◌, map, Some}
 use Rattle.std.proofs.Common.{None as Absent, take, length, sym, ap, ap₂, ◌∙◌, arith, mul-le-mul_left, div-add-mod'}
 use Rattle.std.specs.List.{range_with_len}
 use Rattle.std.proofs.lemmas.Bool.{cases_lt}
@@ -34,14 +34,10 @@ pub record IsTold {X : Type 0} (n k : ℕ) (white : List ℕ) (make : ℕ → Li
 -- ---- as more bytes come
 
 blocks_within : (n s given : ℕ) → given / n ≡ s → n * s ≤ given
-blocks_within n s given e =
-    let f : n * (given / n) ≡ n * s = ap (λ q. n * q) e in
-    let g : n * (given / n) ≡ given / n * n = grind arith in
-    omega (arith, div-add-mod' given n, f, g)
+blocks_within n s given e = grind (arith, div-add-mod')
 
 -- the words that are there stay
-same_before : {X : Type 0} (n b m : ℕ) (make : ℕ → List ℕ → X) (y z : List ℕ) (s : ℕ) → 0 < n → 0 < b
-    → length y / n ≡ s
+same_before : {X : Type 0} (n b m : ℕ) (make : ℕ → List ℕ → X) (y z : List ℕ) (s : ℕ) → 0 < n → 0 < b → length y / n ≡ s
     → map (λ k. make k (word_at n b m (y ++ z) k)) (range_with_len 0 (s - waiting n b m)) ≡ made_in n b m make y
 same_before n b m make y z s p q e =
     map-range_same (λ k. make k (word_at n b m (y ++ z) k)) (λ k. make k (word_at n b m y k)) 0 (s - waiting n b m)
@@ -49,91 +45,65 @@ same_before n b m make y z s p q e =
     ∙ ap (λ i. map (λ k. make k (word_at n b m y k)) (range_with_len 0 (i - waiting n b m))) (sym e)
   where
     there : (k : ℕ) → k < 0 + (s - waiting n b m) → n * (waiting n b m + k + 1) ≤ length y
-    there k l =
-        let some : waiting n b m + k + 1 ≤ s = omega (arith, l) in
-        let f : n * (waiting n b m + k + 1) ≤ n * s = mul-le-mul_left n some in
-        omega (arith, f, blocks_within n s (length y) e)
+    there k l = grind (arith, mul-le-mul_left, blocks_within)
 
 -- what s + u blocks give behind what s blocks give
 abbrev pub next_in : {X : Type 0} (n b m : ℕ) (make : ℕ → List ℕ → X) (y : List ℕ) (s u : ℕ) → List X
-next_in n b m make y s u =
-    map (λ k. make k (word_at n b m y k))
+next_in n b m make y s u = map (λ k. make k (word_at n b m y k))
     (range_with_len (s - waiting n b m) (s + u - waiting n b m - (s - waiting n b m)))
 
 pub made_more : {X : Type 0} (n b m : ℕ) (make : ℕ → List ℕ → X) (y z : List ℕ) (s u : ℕ) → 0 < n → 0 < b
     → length y / n ≡ s → length (y ++ z) / n ≡ s + u
     → made_in n b m make (y ++ z) ≡ made_in n b m make y ++ next_in n b m make (y ++ z) s u
 made_more {X} n b m make y z s u p q e f =
-    ap (λ i. map each (range_with_len 0 (i - w))) f
-    ∙ ap (λ i. map each (range_with_len 0 i)) (omega arith)
+    let w : ℕ = waiting n b m in
+    let from : 0 + (s - w) ≡ s - w = omega arith in
+    ap (λ i. map each (range_with_len 0 (i - w))) f ∙ ap (λ i. map each (range_with_len 0 i)) (omega arith)
     ∙ ap (map each) (range_with_len-parts 0 (s - w) (s + u - w - (s - w)))
     ∙ map-append each (range_with_len 0 (s - w)) (range_with_len (0 + (s - w)) (s + u - w - (s - w)))
     ∙ ap₂ (λ (xs : List X) (a : ℕ). xs ++ map each (range_with_len a (s + u - w - (s - w))))
     (same_before n b m make y z s p q e) from
   where
-    w : ℕ
-    w = waiting n b m
-
     each : ℕ → X
     each k = make k (word_at n b m (y ++ z) k)
-
-    from : 0 + (s - w) ≡ s - w
-    from = omega arith
 
 -- ---- by whole blocks
 
 count : (n s r given : ℕ) → r < n → given ≡ n * s + r → given / n ≡ s
-count n s r given l e =
-    let f : n * s + r ≡ s * n + r = grind arith in
-    ap (λ i. i / n) (e ∙ f) ∙ div-mul-add s n r l
+count n s r given l e = grind (arith, div-mul-add)
 
 pub whole_blocks : (n s : ℕ) (y : List ℕ) → 0 < n → length y ≡ n * s → length y / n ≡ s
 whole_blocks n s y p e = count n s 0 (length y) p (omega (arith, e))
 
 next_blocks : (n s : ℕ) (y z : List ℕ) → 0 < n → length y ≡ n * s → length z ≡ n → length (y ++ z) / n ≡ s + 1
-next_blocks n s y z p e f =
-    let g : n * (s + 1) ≡ n * s + n = grind arith in
-    whole_blocks n (s + 1) (y ++ z) p (length-append y z ∙ omega (arith, e, f, g))
+next_blocks n s y z p e f = grind (arith, whole_blocks, length-append)
 
 -- fewer bytes than a block give nothing
 pub made_loose : {X : Type 0} (n b m : ℕ) (make : ℕ → List ℕ → X) (y z : List ℕ) (s : ℕ) → 0 < b → length y ≡ n * s
     → length z < n → made_in n b m make (y ++ z) ≡ made_in n b m make y
 made_loose n b m make y z s q e l =
+    let none : s + 0 - waiting n b m - (s - waiting n b m) ≡ 0 = omega arith in
     made_more n b m make y z s 0 (omega (arith, l)) q (whole_blocks n s y (omega (arith, l)) e)
     (count n s (length z) (length (y ++ z)) l (length-append y z ∙ omega (arith, e)) ∙ same s)
     ∙ ap (λ i. made_in n b m make y ++ map (λ k. make k (word_at n b m (y ++ z) k))
-    (range_with_len (s - waiting n b m) i)) none
-    ∙ append-nil (made_in n b m make y)
+    (range_with_len (s - waiting n b m) i)) none ∙ append-nil (made_in n b m make y)
   where
     same : (s : ℕ) → s ≡ s + 0
     same s = omega arith
 
-    none : s + 0 - waiting n b m - (s - waiting n b m) ≡ 0
-    none = omega arith
-
 -- one block more: no word, while few have come, and then the next
 pub made_none : {X : Type 0} (n b m : ℕ) (make : ℕ → List ℕ → X) (y z : List ℕ) (s : ℕ) → 0 < n → 0 < b
     → length y ≡ n * s → length z ≡ n → s < waiting n b m → made_in n b m make (y ++ z) ≡ made_in n b m make y
-made_none n b m make y z s p q e f l =
-    made_more n b m make y z s 1 p q (whole_blocks n s y p e) (next_blocks n s y z p e f)
-    ∙ ap (λ i. made_in n b m make y ++ map (λ k. make k (word_at n b m (y ++ z) k))
-    (range_with_len (s - waiting n b m) i)) none
-    ∙ append-nil (made_in n b m make y)
-  where
-    none : s + 1 - waiting n b m - (s - waiting n b m) ≡ 0
-    none = omega (arith, l)
+made_none n b m make y z s p q e f l = grind (arith, made_more, whole_blocks, next_blocks, append-nil)
 
 pub made_next : {X : Type 0} (n b m : ℕ) (make : ℕ → List ℕ → X) (y z : List ℕ) (s : ℕ) → 0 < n → 0 < b
-    → length y ≡ n * s → length z ≡ n → waiting n b m ≤ s
-    → made_in n b m make (y ++ z) ≡ made_in n b m make y
+    → length y ≡ n * s → length z ≡ n → waiting n b m ≤ s → made_in n b m make (y ++ z) ≡ made_in n b m make y
     ++ make (s - waiting n b m) (word_at n b m (y ++ z) (s - waiting n b m)) ∷ []
 made_next n b m make y z s p q e f l =
+    let one : s + 1 - waiting n b m - (s - waiting n b m) ≡ 1 = omega (arith, l) in
     made_more n b m make y z s 1 p q (whole_blocks n s y p e) (next_blocks n s y z p e f)
     ∙ ap (λ i. made_in n b m make y ++ map (λ k. make k (word_at n b m (y ++ z) k))
     (range_with_len (s - waiting n b m) i)) one
-  where
-    one : s + 1 - waiting n b m - (s - waiting n b m) ≡ 1
-    one = omega (arith, l)
 
 -- ---- what a block gave tells what is made of the word that it completes
 
@@ -153,23 +123,18 @@ pub made_told : {X : Type 0} (n k b m : ℕ) (white : List ℕ) (make : ℕ → 
     (y block old out : List ℕ) (s : ℕ) (taken : Taken) → 0 < n → n ≤ 255 → 0 < b → IsTold n k white make told
     → length y ≡ n * s → length block ≡ n → IsTaken n k b m white y block old out taken
     → made_in n b m make (y ++ block) ≡ made_in n b m make y ++ told taken out
-made_told n k b m white make told y block old out s taken p few q t e f h =
-    by_cases (cases_lt s (waiting n b m))
-  where
-    by_cases : (s < waiting n b m) ⊎ (waiting n b m ≤ s)
-        → made_in n b m make (y ++ block) ≡ made_in n b m make y ++ told taken out
-    by_cases (inl l) =
-        let some : s + 1 ≤ waiting n b m = omega (arith, l) in
-        let next : n * (s + 1) ≤ n * waiting n b m = mul-le-mul_left n some in
-        let more : n * (s + 1) ≡ n * s + n = grind arith in
-        made_none n b m make y block s p q e f l
-        ∙ sym (append-nil (made_in n b m make y))
-        ∙ ap (λ xs. made_in n b m make y ++ xs)
-        (sym (ap (λ g. told g out) (h.none (omega (arith, e, next, more, p))).0 ∙ t.nothing out))
-    by_cases (inr l) =
-        let j : ℕ = s - waiting n b m in
-        let sum : s ≡ waiting n b m + (s - waiting n b m) = omega (arith, l) in
-        made_next n b m make y block s p q e f l
-        ∙ ap (λ xs. made_in n b m make y ++ xs)
-        (sym (word_told n k white make told j (word_at n b m (y ++ block) j) out taken few
-        (length-word n b m (y ++ block) j) t (h.packet j (e ∙ ap (λ i. n * i) sum))))
+made_told n k b m white make told y block old out s taken p few q t e f h = elim (cases_lt s (waiting n b m)) [
+  | inl l ↦
+      let some : s + 1 ≤ waiting n b m = omega (arith, l) in
+      let next : n * (s + 1) ≤ n * waiting n b m = mul-le-mul_left n some in
+      let more : n * (s + 1) ≡ n * s + n = grind arith in
+      made_none n b m make y block s p q e f l ∙ sym (append-nil (made_in n b m make y))
+      ∙ ap (λ xs. made_in n b m make y ++ xs)
+      (sym (ap (λ g. told g out) (h.none (omega (arith, e, next, more, p))).0 ∙ t.nothing out))
+  | inr l ↦
+      let j : ℕ = s - waiting n b m in
+      let sum : s ≡ waiting n b m + (s - waiting n b m) = omega (arith, l) in
+      made_next n b m make y block s p q e f l ∙ ap (λ xs. made_in n b m make y ++ xs)
+      (sym (word_told n k white make told j (word_at n b m (y ++ block) j) out taken few
+      (length-word n b m (y ++ block) j) t (h.packet j (e ∙ ap (λ i. n * i) sum))))
+]

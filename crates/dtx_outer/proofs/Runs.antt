@@ -1,7 +1,7 @@
 -- A run, block by block: the word that a block completes, and what is kept.
 use Rattle.std.proofs.Common.{◌≡◌, ℕ, ◌+◌, ◌-◌, ◌*◌, ◌/◌, ◌%◌, ◌<◌, ◌≤◌, ◌⊎◌, ◌==◌, inl, inr, cond, Bool, true, false}
-use Rattle.std.proofs.Common.{List, [], ◌∷◌, ◌++◌, length, get_or, take, drop, refl, sym, ap, ap₂, ◌∙◌, arith, zero}
-use Rattle.std.proofs.Common.{suc, subst, mul-le-mul_left, div-add-mod'}
+use Rattle.std.proofs.Common.{List, [], ◌∷◌, ◌++◌, length, get_or, take, drop, refl, sym, ap, ◌∙◌, arith, zero, suc}
+use Rattle.std.proofs.Common.{subst, mul-le-mul_left, div-add-mod'}
 use Rattle.std.proofs.lemmas.Bool.{cases_lt, eqb-true, eqb-false}
 use Rattle.std.proofs.lemmas.Nat.{div-mul-add, mod-mul-add, mod_below}
 use Rattle.std.proofs.lemmas.List.{get_or_append_left, get_or-append_right, get_or-take, get_or-drop, drop_at}
@@ -24,41 +24,38 @@ use Rattle.dtx_outer.proofs.WordsLemmas.{waiting_some, completing_is, completing
 -- the end of one block and the begin of the next
 window_at : (us vs : List ℕ) (a skip n j : ℕ) → length us ≡ a + n → length vs ≡ n → skip ≤ n → j < n
     → get_or (drop skip (drop a us) ++ take skip vs) j 0 ≡ get_or (us ++ vs) (a + skip + j) 0
-window_at us vs a skip n j e f s l = by_cases (cases_lt j (n - skip))
-  where
-    long : length (drop skip (drop a us)) ≡ n - skip
-    long = omega (arith, length-drop skip (drop a us), length-drop a us)
-
-    by_cases : (j < n - skip) ⊎ (n - skip ≤ j) → get_or (drop skip (drop a us) ++ take skip vs) j 0
-        ≡ get_or (us ++ vs) (a + skip + j) 0
-    by_cases (inl k) =
-        let p : a + (skip + j) ≡ a + skip + j = omega arith in
-        get_or_append_left (drop skip (drop a us)) (take skip vs) 0 j (omega (arith, long))
-        ∙ get_or-drop skip (drop a us) j 0 ∙ get_or-drop a us (skip + j) 0 ∙ ap (λ i. get_or us i 0) p
-        ∙ sym (get_or_append_left us vs 0 (a + skip + j) (omega (arith, e)))
-    by_cases (inr k) =
-        let p : j - (n - skip) ≡ a + skip + j - (a + n) = omega arith in
-        get_or-append_right (drop skip (drop a us)) (take skip vs) (n - skip) j 0 long k
-        ∙ get_or-take skip vs (j - (n - skip)) 0 (omega arith)
-        ∙ ap (λ i. get_or vs i 0) p
-        ∙ sym (get_or-append_right us vs (a + n) (a + skip + j) 0 e (omega arith))
+window_at us vs a skip n j e f s l =
+    grind (arith, cases_lt, length-drop, get_or_append_left, get_or-drop, get_or-append_right, get_or-take)
 
 parts : (n a u v : ℕ) → a ≡ u + v → n * a ≡ n * u + n * v
-parts n a u v e = ap (λ i. n * i) e ∙ all
-  where
-    all : n * (u + v) ≡ n * u + n * v
-    all = grind arith
+parts n a u v e = grind arith
 
 -- the block bs behind the bytes y, which came in q + k blocks
 pub word_is : (n b m k : ℕ) (g : Branching) (y bs : List ℕ) → 0 < n → IsInterleaver b m → HasWidths b (gathering b m) g
-    → g.next ≡ 0
-    → length y ≡ n * (waiting n b m + k) → length bs ≡ n
+    → g.next ≡ 0 → length y ≡ n * (waiting n b m + k) → length bs ≡ n
     → drop (completing n b m) (drop (n * (waiting n b m + k - 1)) (leaving_all b g y))
     ++ take (completing n b m) (leaving_all b (after_all b g y) bs) ≡ word_at n b m (y ++ bs) k
 word_is n b m k g y bs p i s z ly lb =
+    let within : completing n b m ≤ n = completing_within n b m p i in
+    let last : n * (waiting n b m + k) ≡ n * (waiting n b m + k - 1) + n * 1 =
+    parts n (waiting n b m + k) (waiting n b m + k - 1) 1 (omega (arith, some)) in
+    let one : n * 1 ≡ n = grind arith in
+    let first : length (leaving_all b g y) ≡ n * (waiting n b m + k - 1) + n =
+    length_leaving b g y ∙ omega (arith, ly, last, one) in
+    let second : length (leaving_all b (after_all b g y) bs) ≡ n = length_leaving b (after_all b g y) bs ∙ lb in
+    let long : length (drop (completing n b m) (drop (n * (waiting n b m + k - 1)) (leaving_all b g y)) ++ take
+    (completing n b m) (leaving_all b (after_all b g y) bs)) ≡ n =
+    length-append (drop (completing n b m) (drop (n * (waiting n b m + k - 1)) (leaving_all b g y)))
+    (take (completing n b m) (leaving_all b (after_all b g y) bs)) ∙ omega (
+      arith,
+      within,
+      length-drop (completing n b m) (drop (n * (waiting n b m + k - 1)) (leaving_all b g y)),
+      length-drop (n * (waiting n b m + k - 1)) (leaving_all b g y),
+      first,
+      length-take-le (completing n b m) (leaving_all b (after_all b g y) bs) (omega (arith, second, within)),
+    ) in
     word_by n b m (y ++ bs) k (drop (completing n b m) (drop (n * (waiting n b m + k - 1)) (leaving_all b g y))
-    ++ take (completing n b m) (leaving_all b (after_all b g y) bs))
-    long
+    ++ take (completing n b m) (leaving_all b (after_all b g y) bs)) long
     (λ j l. window_at (leaving_all b g y) (leaving_all b (after_all b g y) bs) (n * (waiting n b m + k - 1))
     (completing n b m) n j first second within l
     ∙ ap (λ zs. get_or zs (n * (waiting n b m + k - 1) + completing n b m + j) 0) (sym (leaving_append b g y bs))
@@ -69,37 +66,8 @@ word_is n b m k g y bs p i s z ly lb =
     some : 1 ≤ waiting n b m
     some = waiting_some n b m p i
 
-    within : completing n b m ≤ n
-    within = completing_within n b m p i
-
-    last : n * (waiting n b m + k) ≡ n * (waiting n b m + k - 1) + n * 1
-    last = parts n (waiting n b m + k) (waiting n b m + k - 1) 1 (omega (arith, some))
-
-    one : n * 1 ≡ n
-    one = grind arith
-
     split : n * (waiting n b m + k - 1) ≡ n * (waiting n b m - 1) + n * k
     split = parts n (waiting n b m + k - 1) (waiting n b m - 1) k (omega (arith, some))
-
-    first : length (leaving_all b g y) ≡ n * (waiting n b m + k - 1) + n
-    first = length_leaving b g y ∙ omega (arith, ly, last, one)
-
-    second : length (leaving_all b (after_all b g y) bs) ≡ n
-    second = length_leaving b (after_all b g y) bs ∙ lb
-
-    long : length (drop (completing n b m) (drop (n * (waiting n b m + k - 1)) (leaving_all b g y))
-        ++ take (completing n b m) (leaving_all b (after_all b g y) bs)) ≡ n
-    long =
-        length-append (drop (completing n b m) (drop (n * (waiting n b m + k - 1)) (leaving_all b g y)))
-        (take (completing n b m) (leaving_all b (after_all b g y) bs))
-        ∙ omega (
-          arith,
-          within,
-          length-drop (completing n b m) (drop (n * (waiting n b m + k - 1)) (leaving_all b g y)),
-          length-drop (n * (waiting n b m + k - 1)) (leaving_all b g y),
-          first,
-          length-take-le (completing n b m) (leaving_all b (after_all b g y) bs) (omega (arith, second, within)),
-        )
 
     at : (j : ℕ) → n * (waiting n b m + k - 1) + completing n b m + j ≡ n * k + j + b * m * (b - 1)
     at j = omega (arith, split, completing_is n b m p i)
@@ -107,43 +75,27 @@ word_is n b m k g y bs p i s z ly lb =
 -- ---- how many blocks have come
 
 blocks_are : (n a c : ℕ) → 0 < n → n * a ≡ n * c → a ≡ c
-blocks_are n a c p e = sym (whole a) ∙ ap (λ i. i / n) e ∙ whole c
-  where
-    whole : (i : ℕ) → n * i / n ≡ i
-    whole i = let f : n * i ≡ i * n + 0 = grind arith in ap (λ j. j / n) f ∙ div-mul-add i n 0 p
+blocks_are n a c p e = grind (arith, div-mul-add)
 
 less_blocks : (n a c : ℕ) → a < c → 0 < n → n * a < n * c
-less_blocks n a c l p =
-    let h : n * (a + 1) ≤ n * c = mul-le-mul_left n (omega arith) in
-    let f : n * (a + 1) ≡ n * a + n = grind arith in
-    omega (arith, h, f, p)
+less_blocks n a c l p = grind (arith, mul-le-mul_left)
 
 pub none_or_packet : (n k b m : ℕ) (inner : Kept) (y : List ℕ) → 0 < n → StandsFor n k b m inner y
     → (length y < n * waiting n b m) ⊎ ((j : ℕ) × (length y ≡ n * (waiting n b m + j)))
-none_or_packet n k b m inner y p s = by_cases (cases_lt s.blocks (waiting n b m))
-  where
-    by_cases : (s.blocks < waiting n b m) ⊎ (waiting n b m ≤ s.blocks) → (length y < n * waiting n b m)
-        ⊎ ((j : ℕ) × (length y ≡ n * (waiting n b m + j)))
-    by_cases (inl l) = inl (omega (arith, s.given, less_blocks n s.blocks (waiting n b m) l p))
-    by_cases (inr l) = inr (s.blocks - waiting n b m, s.given ∙ ap (λ i. n * i) (omega arith))
+none_or_packet n k b m inner y p s = elim (cases_lt s.blocks (waiting n b m)) [
+  | inl l ↦ inl (omega (arith, s.given, less_blocks n s.blocks (waiting n b m) l p))
+  | inr l ↦ inr (s.blocks - waiting n b m, s.given ∙ ap (λ i. n * i) (omega arith))
+]
 
 -- while blocks are waited for
 pub still_waits : (n k b m j : ℕ) (d : Kept) (y : List ℕ) → 0 < n → StandsFor n k b m d y → 0 < d.waits
     → length y ≡ n * (waiting n b m + j) → ⊥
-still_waits n k b m j d y p s h e = omega (
-  arith,
-  h,
-  s.waits,
-  blocks_are n s.blocks (waiting n b m + j) p (sym s.given
-      ∙ e),
-)
+still_waits n k b m j d y p s h e = grind (arith, blocks_are)
 
 -- and when none is
 pub waits_no_more : (n k b m : ℕ) (d : Kept) (y : List ℕ) → StandsFor n k b m d y → d.waits ≡ 0
     → length y < n * waiting n b m → ⊥
-waits_no_more n k b m d y s h l =
-    let g : n * waiting n b m ≤ n * s.blocks = mul-le-mul_left n (omega (arith, h, s.waits)) in
-    omega (arith, g, s.given, l)
+waits_no_more n k b m d y s h l = grind (arith, mul-le-mul_left)
 
 -- ---- the packet
 
@@ -151,41 +103,27 @@ pub word_given : (n k b m j : ℕ) (d : Kept) (y bs : List ℕ) → 0 < n → Is
     → StandsFor n k b m d y → length y ≡ n * (waiting n b m + j)
     → drop (completing n b m) d.before ++ take (completing n b m) (leaving_all b d.branches bs)
     ≡ word_at n b m (y ++ bs) j
-word_given n k b m j d y bs p i lb s e =
-    ap₂ (λ us v. drop (completing n b m) us ++ take (completing n b m) (leaving_all b v bs))
-    (s.before (omega (arith, c, waiting_some n b m p i))
-    ∙ ap (λ c. drop (n * (c - 1)) (leaving_all b s.start y)) c) s.branches
-    ∙ word_is n b m j s.start y bs p i s.widths s.aligned e lb
-  where
-    c : s.blocks ≡ waiting n b m + j
-    c = blocks_are n s.blocks (waiting n b m + j) p (sym s.given ∙ e)
+word_given n k b m j d y bs p i lb s e = grind (arith, waiting_some, word_is, blocks_are)
 
 pub place_given : (n k b m j : ℕ) (d : Kept) (y : List ℕ) → 0 < n → StandsFor n k b m d y
     → length y ≡ n * (waiting n b m + j) → d.place ≡ j % (length d.white / k)
-place_given n k b m j d y p s e = s.place ∙ ap (λ i. i % (length d.white / k)) c
-  where
-    c : s.blocks - waiting n b m ≡ j
-    c = omega (arith, blocks_are n s.blocks (waiting n b m + j) p (sym s.given ∙ e))
+place_given n k b m j d y p s e = grind (arith, blocks_are)
 
 -- ---- what is kept, one block further
 
 more_blocks : (n c : ℕ) (y bs : List ℕ) → length y ≡ n * c → length bs ≡ n → length (y ++ bs) ≡ n * (c + 1)
-more_blocks n c y bs e f = length-append y bs ∙ (let h : n * (c + 1) ≡ n * c + n = grind arith in
-    omega (arith, e, f, h))
+more_blocks n c y bs e f = grind (arith, length-append)
 
 last_gathered : (n b c : ℕ) (g : Branching) (y bs : List ℕ) → length y ≡ n * c
     → leaving_all b (after_all b g y) bs ≡ drop (n * (c + 1 - 1)) (leaving_all b g (y ++ bs))
-last_gathered n b c g y bs e =
-    sym (ap (λ i. drop (n * i) (leaving_all b g (y ++ bs))) (omega arith) ∙ ap (drop (n * c)) (leaving_append b g y bs)
-    ∙ drop_at (leaving_all b g y) (leaving_all b (after_all b g y) bs) (n * c) (length_leaving b g y ∙ e))
+last_gathered n b c g y bs e = grind (arith, leaving_append, drop_at, length_leaving)
 
 place_next : (x count p : ℕ) → p ≡ x % count → (t : Bool) → (t ≡ true → p + 1 ≡ count) → (t ≡ false → p + 1 ≡ count → ⊥)
     → p < count → cond t 0 (p + 1) ≡ (x + 1) % count
 place_next x count p e true f g l =
-    let h : x ≡ x / count * count + x % count = sym (div-add-mod' x count) in
     let k : p + 1 ≡ count = f refl in
     let b : (x / count + 1) * count ≡ x / count * count + count = grind arith in
-    let a : x + 1 ≡ (x / count + 1) * count + 0 = omega (arith, h, k, e, b) in
+    let a : x + 1 ≡ (x / count + 1) * count + 0 = omega (arith, k, e, b) in
     sym (ap (λ i. i % count) a ∙ mod-mul-add (x / count + 1) count 0 (omega arith))
 place_next x count p e false f g l =
     let h : x ≡ x / count * count + x % count = sym (div-add-mod' x count) in
@@ -201,42 +139,18 @@ place_zero w count = let h : 0 - w ≡ 0 = omega arith in omega arith
 pub start_stands : (n k b m : ℕ) (d e : Kept) → HasWidths b (gathering b m) d.branches → e.branches ≡ aligned d.branches
     → e.waits ≡ waiting n b m → e.place ≡ 0 → StandsFor n k b m e []
 unfolding after_all
-start_stands n k b m d e h ev ew ep = record {
-  start = aligned d.branches;
-  widths = HasWidths-aligned b (gathering b m) d.branches h;
-  aligned = refl;
-  blocks = 0;
-  given = let z : n * 0 ≡ 0 = grind arith in sym z;
-  branches = ev;
-  before = λ l. absurd (omega (arith, l));
-  waits = omega (arith, ew);
-  place = ep ∙ place_zero (waiting n b m) (length e.white / k);
-}
+start_stands n k b m d e h ev ew ep = grind (arith, HasWidths-aligned, place_zero)
 
 -- ---- what a gathered block leaves
 
 -- one that gives no packet
 pub next_waiting : (k : ℕ) (d old : Kept) → d ≡ old → 0 < d.waits → IsNext k old (record d { waits = d.waits - 1 })
-next_waiting k d old e h = rw (← e) (record {
-  white = refl;
-  branches = refl;
-  before = refl;
-  waits = refl;
-  waiting = λ _. refl;
-  given = λ z. absurd (omega (arith, z, h));
-})
+next_waiting k d old e h = grind arith
 
 -- and one that gives a packet
 pub next_given : (k count place : ℕ) (d old : Kept) → d ≡ old → d.waits ≤ 0 → count ≡ length d.white / k
     → place ≡ cond (d.place + 1 == count) 0 (d.place + 1) → IsNext k old (record d { place = place })
-next_given k count place d old e h c p = rw (← e) (record {
-  white = refl;
-  branches = refl;
-  before = refl;
-  waits = omega (arith, h);
-  waiting = λ w. absurd (omega (arith, w, h));
-  given = λ _. p ∙ ap (λ i. cond (d.place + 1 == i) 0 (d.place + 1)) c;
-})
+next_given k count place d old e h c p = grind arith
 
 -- ---- a block, whether it gives a packet or not
 
@@ -244,8 +158,7 @@ next_given k count place d old e h c p = rw (← e) (record {
 pub taken_next : (n k b m : ℕ) (d : Kept) (y bs gathered old new : List ℕ) (taken : Taken) → 0 < n → IsInterleaver b m
     → length bs ≡ n → StandsFor n k b m d y
     → gathered ≡ drop (completing n b m) d.before ++ take (completing n b m) (leaving_all b d.branches bs)
-    → (0 < d.waits → (taken ≡ None) × (new ≡ old))
-    → (d.waits ≡ 0 → Gives n k d.white (k * d.place) gathered new taken)
+    → (0 < d.waits → (taken ≡ None) × (new ≡ old)) → (d.waits ≡ 0 → Gives n k d.white (k * d.place) gathered new taken)
     → IsTaken n k b m d.white y bs old new taken
 taken_next n k b m d y bs gathered old new taken p i lb s w f g = record {
   none = λ l. none l (cases_lt 0 d.waits);
@@ -259,19 +172,12 @@ taken_next n k b m d y bs gathered old new taken p i lb s w f g = record {
     packet : (j : ℕ) → length y ≡ n * (waiting n b m + j) → (0 < d.waits) ⊎ (d.waits ≤ 0)
         → Gives n k d.white (k * (j % (length d.white / k))) (word_at n b m (y ++ bs) j) new taken
     packet j e (inl h) = absurd (still_waits n k b m j d y p s h e)
-    packet j e (inr h) =
-        rw (← place_given n k b m j d y p s e)
+    packet j e (inr h) = rw (← place_given n k b m j d y p s e)
         (rw (← (w ∙ word_given n k b m j d y bs p i lb s e)) (g (omega (arith, h))))
 
 -- a period has packets
 pub whole_packets : (n k b period : ℕ) → 0 < k → IsPeriod n k b period → 0 < period / k
-whole_packets n k b period p h = by_cases (cases_lt 0 (period / k))
-  where
-    by_cases : (0 < period / k) ⊎ (period / k ≤ 0) → 0 < period / k
-    by_cases (inl l) = l
-    by_cases (inr l) = let z : period / k ≡ 0 = omega (arith, l) in
-        let y : period / k * k ≡ 0 * k = ap (λ i. i * k) z in
-        absurd (omega (arith, y, div-add-mod' period k, h.packets, h.some))
+whole_packets n k b period p h = grind (arith, cases_lt, div-add-mod')
 
 -- what is kept
 pub stands_next : (n k b m period : ℕ) (d e : Kept) (y bs : List ℕ) → 0 < k → IsPeriod n k b period
@@ -296,19 +202,11 @@ stands_next n k b m period d e y bs p h w lb s x = record {
 
     place : (0 < d.waits) ⊎ (d.waits ≤ 0) → e.place ≡ (s.blocks + 1 - waiting n b m) % (length d.white / k)
     place (inl l) = x.waiting l ∙ s.place ∙ ap (λ i. i % (length d.white / k)) (omega (arith, s.waits, l))
-    place (inr l) =
-        let within : d.place < length d.white / k =
-        omega (arith, s.place, mod_below (s.blocks - waiting n b m) (length d.white / k) count) in
-        x.given (omega (arith, l))
-        ∙ place_next (s.blocks - waiting n b m) (length d.white / k) d.place s.place
-        (d.place + 1 == length d.white / k) (eqb-true (d.place + 1) (length d.white / k))
-        (eqb-false (d.place + 1) (length d.white / k)) within
-        ∙ ap (λ i. i % (length d.white / k)) (omega (arith, s.waits, l))
+    place (inr l) = grind (arith, mod_below, place_next, eqb-true, eqb-false)
 
 -- ---- parts of what leaves
 
-pub take_leaving : (b n : ℕ) (v : Branching) (ys : List ℕ)
-    → take n (leaving_all b v ys) ≡ leaving_all b v (take n ys)
+pub take_leaving : (b n : ℕ) (v : Branching) (ys : List ℕ) → take n (leaving_all b v ys) ≡ leaving_all b v (take n ys)
 unfolding leaving_all
 take_leaving b zero v ys = refl
 take_leaving b (suc n) v [] = refl
@@ -325,9 +223,7 @@ drop_leaving b (suc n) v (x ∷ xs) = drop_leaving b n (after_byte b v x) xs
 pub block_leaving : (n b : ℕ) (before : List ℕ) (v : Branching) (ys : List ℕ) (p : ℕ)
     → block_behind n before (leaving_all b v ys) (suc p)
     ≡ leaving_all b (after_all b v (take (n * p) ys)) (take n (drop (n * p) ys))
-block_leaving n b before v ys p =
-    ap (take n) (drop_leaving b (n * p) v ys)
-    ∙ take_leaving b n (after_all b v (take (n * p) ys)) (drop (n * p) ys)
+block_leaving n b before v ys p = grind (arith, drop_leaving, take_leaving)
 
 -- ---- four blocks
 
@@ -339,50 +235,24 @@ between n b d e bytes p = record e {
 }
 
 pub between_first : (n k b m : ℕ) (d e : Kept) (y bytes : List ℕ) → e.white ≡ d.white → e.waits ≡ d.waits
-    → e.place ≡ d.place → StandsFor n k b m d y
-    → StandsFor n k b m (between n b d e bytes 0) (y ++ take (n * 0) bytes)
+    → e.place ≡ d.place → StandsFor n k b m d y → StandsFor n k b m (between n b d e bytes 0) (y ++ take (n * 0) bytes)
 unfolding after_all
-between_first n k b m d e y bytes ew et ep s =
-    subst (λ j. StandsFor n k b m (record e {
-      branches = after_all b d.branches (take j bytes);
-      before = d.before;
-    }) (y ++ take j bytes)) (sym zero_blocks)
-    (subst (StandsFor n k b m (record e { branches = after_all b d.branches []; before = d.before }))
-    (sym (append-nil y)) at_first)
-  where
-    zero_blocks : n * 0 ≡ 0
-    zero_blocks = grind arith
-
-    at_first : StandsFor n k b m (record e { branches = after_all b d.branches []; before = d.before }) y
-    at_first = record {
-      start = s.start;
-      widths = s.widths;
-      aligned = s.aligned;
-      blocks = s.blocks;
-      given = s.given;
-      branches = s.branches;
-      before = s.before;
-      waits = et ∙ s.waits;
-      place = ep ∙ s.place ∙ ap (λ (w : List ℕ). (s.blocks - waiting n b m) % (length w / k)) (sym ew);
-    }
+between_first n k b m d e y bytes ew et ep s = grind (arith, append-nil)
 
 -- one block more of the bytes
 one_more : (n p : ℕ) (bytes : List ℕ) → take (n * p) bytes ++ take n (drop (n * p) bytes) ≡ take (n * (p + 1)) bytes
-one_more n p bytes = sym (take-add (n * p) n bytes) ∙ ap (λ i. take i bytes) further
-  where
-    further : n * p + n ≡ n * (p + 1)
-    further = grind arith
+one_more n p bytes = grind (arith, take-add)
 
 pub between_next : (n k b m period : ℕ) (d e f : Kept) (y bytes : List ℕ) (p : ℕ) → 0 < k → IsPeriod n k b period
     → length e.white ≡ period → length (take n (drop (n * p) bytes)) ≡ n
     → StandsFor n k b m (between n b d e bytes p) (y ++ take (n * p) bytes) → IsNext k e f
     → StandsFor n k b m (between n b d f bytes (p + 1)) (y ++ take (n * (p + 1)) bytes)
 between_next n k b m period d e f y bytes p h i w lb s x =
+    let next : p + 1 ≡ suc p = omega arith in
     subst (StandsFor n k b m (between n b d f bytes (p + 1)))
     (append_assoc y (take (n * p) bytes) (take n (drop (n * p) bytes)) ∙ ap (λ zs. y ++ zs) (one_more n p bytes))
     (stands_next n k b m period (between n b d e bytes p) (between n b d f bytes (p + 1)) (y ++ take (n * p) bytes)
-    (take n (drop (n * p) bytes)) h i w lb s
-    (record {
+    (take n (drop (n * p) bytes)) h i w lb s (record {
       white = x.white;
       branches = ap (after_all b d.branches) (sym (one_more n p bytes))
           ∙ after_append b d.branches (take (n * p) bytes) (take n (drop (n * p) bytes));
@@ -392,84 +262,46 @@ between_next n k b m period d e f y bytes p h i w lb s x =
       waiting = x.waiting;
       given = x.given;
     }))
-  where
-    next : p + 1 ≡ suc p
-    next = omega arith
 
 pub between_taken : (n k b m : ℕ) (d e : Kept) (y bytes gathered old new : List ℕ) (p : ℕ) (taken : Taken) → 0 < n
-    → IsInterleaver b m
-    → length (take n (drop (n * p) bytes)) ≡ n
+    → IsInterleaver b m → length (take n (drop (n * p) bytes)) ≡ n
     → StandsFor n k b m (between n b d e bytes p) (y ++ take (n * p) bytes)
     → gathered ≡ drop (completing n b m) (block_behind n d.before (leaving_all b d.branches bytes) p)
     ++ take (completing n b m) (block_behind n d.before (leaving_all b d.branches bytes) (suc p))
-    → (0 < e.waits → (taken ≡ None) × (new ≡ old))
-    → (e.waits ≡ 0 → Gives n k e.white (k * e.place) gathered new taken)
+    → (0 < e.waits → (taken ≡ None) × (new ≡ old)) → (e.waits ≡ 0 → Gives n k e.white (k * e.place) gathered new taken)
     → IsTaken n k b m e.white (y ++ take (n * p) bytes) (take n (drop (n * p) bytes)) old new taken
 between_taken n k b m d e y bytes gathered old new p taken h i lb s w f g =
     taken_next n k b m (between n b d e bytes p) (y ++ take (n * p) bytes) (take n (drop (n * p) bytes)) gathered old
-    new taken h i lb s
-    (w ∙ ap (λ zs. drop (completing n b m) (block_behind n d.before (leaving_all b d.branches bytes) p)
-    ++ take (completing n b m) zs) (block_leaving n b d.before d.branches bytes p))
-    f g
+    new taken h i lb s (grind (arith, block_leaving)) f g
 
 pub between_last : (n k b m : ℕ) (d e : Kept) (y bytes : List ℕ) (p : ℕ) → p ≡ 4 → length bytes ≡ n * 4
-    → e.branches ≡ after_all b d.branches bytes
-    → e.before ≡ block_behind n d.before (leaving_all b d.branches bytes) 4
+    → e.branches ≡ after_all b d.branches bytes → e.before ≡ block_behind n d.before (leaving_all b d.branches bytes) 4
     → StandsFor n k b m (between n b d e bytes p) (y ++ take (n * p) bytes) → StandsFor n k b m e (y ++ bytes)
-between_last n k b m d e y bytes p q l eb ev s = at_last (subst (λ j. StandsFor n k b m (between n b d e bytes j)
-    (y ++ take (n * j) bytes)) q s)
-  where
-    whole : take (n * 4) bytes ≡ bytes
-    whole = take_all (n * 4) bytes (omega (arith, l))
-
-    at_last : StandsFor n k b m (between n b d e bytes 4) (y ++ take (n * 4) bytes) → StandsFor n k b m e (y ++ bytes)
-    at_last s =
-        let r = subst (λ zs. StandsFor n k b m (between n b d e bytes 4) (y ++ zs)) whole s in record {
-          start = r.start;
-          widths = r.widths;
-          aligned = r.aligned;
-          blocks = r.blocks;
-          given = r.given;
-          branches = eb ∙ ap (after_all b d.branches) (sym whole) ∙ r.branches;
-          before = λ z. ev ∙ r.before z;
-          waits = r.waits;
-          place = r.place;
-        }
+between_last n k b m d e y bytes p q l eb ev s = grind (arith, take_all)
 
 -- a block of four
 pub block_long : (n p : ℕ) (bytes : List ℕ) → length bytes ≡ n * 4 → p < 4 → length (take n (drop (n * p) bytes)) ≡ n
-block_long n p bytes l h =
-    let f : n * (p + 1) ≡ n * p + n = grind arith in
-    let g : n * (p + 1) ≤ n * 4 = mul-le-mul_left n (omega arith) in
-    length-take-le n (drop (n * p) bytes) (omega (arith, length-drop (n * p) bytes, l, f, g))
+block_long n p bytes l h = grind (arith, mul-le-mul_left, length-take-le, length-drop)
 
 -- one element more of two lists that are set from their fronts on
 pub set_further : {A B : Type 0} (xs : List A) (ys : List B) (i : ℕ) (x d : A) (y e : B) (P : ℕ → A → B → Type 0)
     → i < length xs → i < length ys → ((j : ℕ) → j < i → P j (get_or xs j d) (get_or ys j e)) → P i x y
     → (j : ℕ) → j < i + 1 → P j (get_or (set xs i x) j d) (get_or (set ys i y) j e)
-set_further xs ys i x d y e P lx ly before here j h = by_cases (cases_lt j i)
-  where
-    by_cases : (j < i) ⊎ (i ≤ j) → P j (get_or (set xs i x) j d) (get_or (set ys i y) j e)
-    by_cases (inl k) =
-        let other : j ≡ i → ⊥ = λ q. omega (arith, q, k) in
-        subst (λ a. P j a (get_or (set ys i y) j e)) (sym (get_or-set_other xs i j x d other))
-        (subst (P j (get_or xs j d)) (sym (get_or-set_other ys i j y e other)) (before j k))
-    by_cases (inr k) =
-        let q : i ≡ j = omega (arith, h, k) in
-        rw (← q) (subst (λ a. P i a (get_or (set ys i y) i e)) (sym (get_or-set_same xs i x d lx))
-        (subst (P i x) (sym (get_or-set_same ys i y e ly)) here))
+set_further xs ys i x d y e P lx ly before here j h = elim (cases_lt j i) [
+  | inl k ↦
+      let other : j ≡ i → ⊥ = λ q. omega (arith, q, k) in
+      subst (λ a. P j a (get_or (set ys i y) j e)) (sym (get_or-set_other xs i j x d other))
+      (subst (P j (get_or xs j d)) (sym (get_or-set_other ys i j y e other)) (before j k))
+  | inr k ↦
+      let q : i ≡ j = omega (arith, h, k) in
+      rw (← q) (subst (λ a. P i a (get_or (set ys i y) i e)) (sym (get_or-set_same xs i x d lx))
+      (subst (P i x) (sym (get_or-set_same ys i y e ly)) here))
+]
 
 -- four elements that are set one after the other
 pub four_set : {A : Type 0} (xs : List (List A)) (a b c d : List A) (f : ℕ → List A) → length xs ≡ 4 → a ≡ f 0 → b ≡ f 1
     → c ≡ f 2 → d ≡ f 3 → (p : ℕ) → p < 4 → get_or (set (set (set (set xs 0 a) 1 b) 2 c) 3 d) p [] ≡ f p
-four_set (w ∷ x ∷ y ∷ z ∷ []) a b c d f e h i j k p l = by_place p l
-  where
-    by_place : (p : ℕ) → p < 4 → get_or (a ∷ b ∷ c ∷ d ∷ []) p [] ≡ f p
-    by_place zero l = h
-    by_place (suc zero) l = i
-    by_place (suc (suc zero)) l = j
-    by_place (suc (suc (suc zero))) l = k
-    by_place (suc (suc (suc (suc p)))) l = absurd (omega (arith, l))
+four_set (w ∷ x ∷ y ∷ z ∷ []) a b c d f e h i j k p l = grind arith
 four_set [] a b c d f e h i j k p l = absurd (omega (arith, e))
 four_set (w ∷ []) a b c d f e h i j k p l = absurd (omega (arith, e))
 four_set (w ∷ x ∷ []) a b c d f e h i j k p l = absurd (omega (arith, e))

@@ -1,7 +1,7 @@
 -- The words of a run.
 use Rattle.std.proofs.Common.{◌≡◌, ℕ, zero, suc, ◌+◌, ◌-◌, ◌*◌, ◌/◌, ◌%◌, ◌<◌, ◌≤◌, ◌⊎◌, inl, inr, Option, Some, None}
-use Rattle.std.proofs.Common.{List, ◌++◌, length, get_or, take, drop, refl, sym, ap, subst, ◌∙◌, arith, nat_le}
-use Rattle.std.proofs.Common.{mul-le-mul, mul-le-mul_left, div-add-mod'}
+use Rattle.std.proofs.Common.{List, ◌++◌, length, get_or, take, drop, refl, sym, ap, subst, ◌∙◌, arith, mul-le-mul}
+use Rattle.std.proofs.Common.{mul-le-mul_left, div-add-mod'}
 use Rattle.std.proofs.lemmas.Bool.{cases_lt, cond-true, le-leb}
 use Rattle.std.proofs.lemmas.Nat.{mod_below, mod-mul-add}
 use Rattle.std.proofs.lemmas.List.{get_or_append_left, ext_get_or, get_or-take, get_or-drop, length-drop}
@@ -20,17 +20,10 @@ use Rattle.dtx_outer.specs.Inner.{waiting, completing, codeword_byte_place, word
 -- ---- how many blocks give no packet
 
 rounds_up : (n d : ℕ) → 0 < n → d ≤ n * ((d + n - 1) / n)
-rounds_up n d p =
-    let e : d + n - 1 ≡ (d + n - 1) / n * n + (d + n - 1) % n = sym (div-add-mod' (d + n - 1) n) in
-    let r : (d + n - 1) % n < n = mod_below (d + n - 1) n p in
-    let f : n * ((d + n - 1) / n) ≡ (d + n - 1) / n * n = grind arith in
-    omega arith
+rounds_up n d p = grind (arith, div-add-mod', mod_below)
 
 rounds_least : (n d : ℕ) → n * ((d + n - 1) / n) ≤ d + n - 1
-rounds_least n d =
-    let e : d + n - 1 ≡ (d + n - 1) / n * n + (d + n - 1) % n = sym (div-add-mod' (d + n - 1) n) in
-    let f : n * ((d + n - 1) / n) ≡ (d + n - 1) / n * n = grind arith in
-    omega arith
+rounds_least n d = grind (arith, div-add-mod')
 
 pub waiting_covers : (n b m : ℕ) → 0 < n → b * m * (b - 1) ≤ n * waiting n b m
 unfolding waiting
@@ -53,11 +46,7 @@ waiting_least n b m q p h = by_cases (cases_lt q (waiting n b m))
 
 -- the next place of the last branch, from any place on
 last_branch : (x b : ℕ) → 0 < b → (x + (b - 1 - x % b)) % b ≡ b - 1
-last_branch x b p =
-    let e : x / b * b + x % b ≡ x = div-add-mod' x b in
-    let r : x % b < b = mod_below x b p in
-    let turns : x + (b - 1 - x % b) ≡ x / b * b + (b - 1) = omega (arith, e, r) in
-    ap (λ n. n % b) turns ∙ mod-mul-add (x / b) b (b - 1) (omega (arith, p))
+last_branch x b p = grind (arith, div-add-mod', mod_below, mod-mul-add)
 
 -- where a word is complete behind so many blocks, one more brings its call, if each has a byte of every branch
 pub one_more_brings : (n b m s k : ℕ) → 0 < b → b ≤ n → IsComplete n b m (n * s) k
@@ -79,8 +68,7 @@ one_more_brings n b m s k p l c = by_cases (cases_lt s k)
         let some : 0 < n = omega (arith, p, l) in
         let q : waiting n b m ≤ s - k = waiting_least n b m (s - k) some (omega (arith, split, place)) in
         let more : n * (waiting n b m + k + 1) ≤ n * (s + 1) = mul-le-mul_left n (omega (arith, q, h)) in
-        let own : n * (s + 1) ≡ n * s + n = grind arith in
-        omega (arith, more, own)
+        omega (arith, more)
       where
         apart : (d : ℕ) → n * (k + d) ≡ n * k + n * d
         apart d = grind arith
@@ -90,19 +78,10 @@ unfolding waiting
 waiting_air = refl
 
 delay_some : (b m : ℕ) → IsInterleaver b m → 1 ≤ b * m * (b - 1)
-delay_some b m h =
-    let k : 1 ≤ b = omega (arith, h.some) in
-    let p : 1 * 1 ≤ b * m = mul-le-mul k h.longer in
-    let l : 1 ≤ b - 1 = omega (arith, h.some) in
-    let q : 1 ≤ b * m = omega (arith, p) in
-    let r : 1 * 1 ≤ b * m * (b - 1) = mul-le-mul q l in
-    omega (arith, r)
+delay_some b m h = grind (arith, mul-le-mul)
 
 pub delay_small : (b m : ℕ) → IsInterleaver b m → b * m * (b - 1) ≤ 64 * 32 * 64
-delay_small b m h =
-    let p : b * m ≤ 64 * 32 = mul-le-mul h.few h.short in
-    let q : b - 1 ≤ 64 = omega (arith, h.few) in
-    mul-le-mul p q
+delay_small b m h = grind (arith, mul-le-mul)
 
 pub waiting_some : (n b m : ℕ) → 0 < n → IsInterleaver b m → 1 ≤ waiting n b m
 waiting_some n b m p h = by_cases (cases_lt 0 (waiting n b m))
@@ -129,13 +108,12 @@ completing_is n b m p h = omega (
 )
 
 pub completing_within : (n b m : ℕ) → 0 < n → IsInterleaver b m → completing n b m ≤ n
-completing_within n b m p h =
-    omega (
-      arith,
-      completing_is n b m p h,
-      last_block n (waiting n b m) (waiting_some n b m p h),
-      waiting_covers n b m p,
-    )
+completing_within n b m p h = omega (
+  arith,
+  completing_is n b m p h,
+  last_block n (waiting n b m) (waiting_some n b m p h),
+  waiting_covers n b m p,
+)
 
 pub waited_within : (n b m : ℕ) → 0 < n → IsInterleaver b m → n * (waiting n b m - 1) ≤ b * m * (b - 1)
 waited_within n b m p h = omega (arith, completing_is n b m p h)
@@ -149,21 +127,18 @@ length-word n b m y k = length-map-range_with_len (λ p. get_or y (codeword_byte
 pub get_or-word : (n b m : ℕ) (y : List ℕ) (k j : ℕ) → j < n
     → get_or (word_at n b m y k) j 0 ≡ get_or y (codeword_byte_place b m (n * k + j)) 0
 unfolding word_at
-get_or-word n b m y k j l =
-    get_or-map-range_with_len (λ p. get_or y (codeword_byte_place b m p) 0) (n * k) n j (n * k + j) 0 l refl
+get_or-word n b m y k j l = grind (arith, get_or-map-range_with_len)
 
 -- known place by place
 pub word_by : (n b m : ℕ) (y : List ℕ) (k : ℕ) (word : List ℕ) → length word ≡ n
     → ((j : ℕ) → j < n → get_or word j 0 ≡ get_or y (codeword_byte_place b m (n * k + j)) 0) → word ≡ word_at n b m y k
-word_by n b m y k word l h =
-    ext_get_or 0 word (word_at n b m y k) (l ∙ sym (length-word n b m y k))
+word_by n b m y k word l h = ext_get_or 0 word (word_at n b m y k) (l ∙ sym (length-word n b m y k))
     (λ j i. h j (omega (arith, i, l)) ∙ sym (get_or-word n b m y k j (omega (arith, i, l))))
 
 -- more bytes leave a word alone whose bytes have come
 pub word_stays : (n b m : ℕ) (y z : List ℕ) (k : ℕ) → IsComplete n b m (length y) k
     → word_at n b m (y ++ z) k ≡ word_at n b m y k
-word_stays n b m y z k c =
-    word_by n b m y k (word_at n b m (y ++ z) k) (length-word n b m (y ++ z) k)
+word_stays n b m y z k c = word_by n b m y k (word_at n b m (y ++ z) k) (length-word n b m (y ++ z) k)
     (λ j l. get_or-word n b m (y ++ z) k j l ∙ get_or_append_left y z 0 (codeword_byte_place b m (n * k + j)) (c j l))
 
 -- no byte waits longer than all branches do
@@ -171,18 +146,15 @@ reaches : (b m p : ℕ) → 0 < b → codeword_byte_place b m p ≤ p + b * m * 
 reaches b m p h = omega (arith, delays b m (p % b) (mod_below p b h))
 
 pub complete_then : (n b m given k : ℕ) → 0 < n → 0 < b → n * (waiting n b m + k + 1) ≤ given → IsComplete n b m given k
-complete_then n b m given k p q h = λ j l.
-    let e : n * (waiting n b m + k + 1) ≡ n * waiting n b m + n * k + n = grind arith in
-    omega (arith, e, h, l, reaches b m (n * k + j) q, waiting_covers n b m p)
+complete_then n b m given k p q h = grind (arith, reaches, waiting_covers)
 
 -- ---- the words of interleaved bytes
 
 -- a place moved on by whole turns
 turned : (b t p : ℕ) → 0 < b → (p + t * b) % b ≡ p % b
 turned b t p h =
-    let e : p + t * b - t * b ≡ p = omega arith in
     let f : t * b ≤ p + t * b = omega arith in
-    sym (same_branch b (p + t * b) t h f) ∙ ap (λ i. i % b) e
+    sym (same_branch b (p + t * b) t h f) ∙ ap (λ i. i % b) (omega arith)
 
 place_turns : (b m p : ℕ) → codeword_byte_place b m p ≡ p + m * (p % b) * b
 place_turns b m p = omega (arith, in_turns b m (p % b))
@@ -192,36 +164,22 @@ branch_of b m p h = ap (λ i. i % b) (place_turns b m p) ∙ turned b (m * (p % 
 
 interleaved_back : (b m : ℕ) (x : List ℕ) (p : ℕ) → 0 < b → interleaved_at b m x (codeword_byte_place b m p)
     ≡ get_or x p 0
-interleaved_back b m x p h =
-    let e : b * m * (codeword_byte_place b m p % b) ≡ b * m * (p % b) = ap (λ i. b * m * i) (branch_of b m p h) in
-    let s : codeword_byte_place b m p - b * m * (codeword_byte_place b m p % b) ≡ p = omega (arith, e) in
-    cond-true (nat_le (b * m * (codeword_byte_place b m p % b)) (codeword_byte_place b m p))
-    (get_or x (codeword_byte_place b m p - b * m * (codeword_byte_place b m p % b)) 0) 0
-    (le-leb (b * m * (codeword_byte_place b m p % b)) (codeword_byte_place b m p) (omega (arith, e)))
-    ∙ ap (λ i. get_or x i 0) s
+interleaved_back b m x p h = grind (arith, branch_of, cond-true, le-leb)
 
 long_block : (n b m k : ℕ) (x : List ℕ) → IsComplete n b m (length x) k → length (take n (drop (n * k) x)) ≡ n
 long_block zero b m k x c = refl
 long_block (suc n) b m k x c =
     length-take-le (suc n) (drop (suc n * k) x) (omega (arith, c n (omega arith), length-drop (suc n * k) x))
 
-pub word_back : (n b m : ℕ) (x y : List ℕ) (k : ℕ) → 0 < b
-    → ((p : ℕ) → codeword_byte_place b m p < length x
+pub word_back : (n b m : ℕ) (x y : List ℕ) (k : ℕ) → 0 < b → ((p : ℕ) → codeword_byte_place b m p < length x
     → get_or y (codeword_byte_place b m p) 0 ≡ get_or (interleaved b m x) (codeword_byte_place b m p) 0)
     → IsComplete n b m (length x) k → word_at n b m y k ≡ take n (drop (n * k) x)
-word_back n b m x y k p s c =
-    sym (word_by n b m y k (take n (drop (n * k) x)) (long_block n b m k x c)
-    (λ j l. get_or-take n (drop (n * k) x) j 0 l ∙ get_or-drop (n * k) x j 0
-    ∙ sym (s (n * k + j) (c j l) ∙ get_or-interleaved b m x (codeword_byte_place b m (n * k + j)) (c j l)
-    ∙ interleaved_back b m x (n * k + j) p)))
+word_back n b m x y k p s c = sym (word_by n b m y k (take n (drop (n * k) x)) (long_block n b m k x c)
+    (λ j l. grind (arith, get_or-take, get_or-drop, get_or-interleaved, interleaved_back)))
 
 pub word_behind : (n b m : ℕ) (lists : List (List ℕ)) (x y : List ℕ) (k : ℕ) → 0 < b → IsInterleavedBehind b m lists x y
     → IsComplete n b m (length x) k → word_at n b m y k ≡ take n (drop (n * k) x)
-word_behind n b m lists x y k p h c =
-    word_back n b m x y k p
-    (λ q l. let e : b * m * (codeword_byte_place b m q % b) ≡ b * m * (q % b) = ap (λ i. b * m * i)
-    (branch_of b m q p) in
-    h.come (codeword_byte_place b m q) l (omega (arith, e))) c
+word_behind n b m lists x y k p h c = grind (arith, word_back, branch_of)
 
 -- ---- the words that a gatherer gives
 
@@ -234,9 +192,7 @@ gathers_word b m g y p h s z l =
     let q : (p + b * m * (b - 1)) % b ≡ p % b = ap (λ i. i % b) t ∙ turned b (m * (b - 1)) p h in
     let e : b * m * (b - 1 - (p + b * m * (b - 1)) % b) ≡ b * m * (b - 1 - p % b) = ap (λ i. b * m * (b - 1 - i)) q in
     let d : b * m * (b - 1 - p % b) + b * m * (p % b) ≡ b * m * (b - 1) = delays b m (p % b) r in
-    let f : p + b * m * (b - 1) - b * m * (b - 1 - (p + b * m * (b - 1)) % b)
-    ≡ codeword_byte_place b m p = omega (arith, e, d) in
-    gathers_at b m g y (p + b * m * (b - 1)) s z l (omega (arith, e, d)) ∙ ap (λ i. get_or y i 0) f
+    gathers_at b m g y (p + b * m * (b - 1)) s z l (omega (arith, e, d)) ∙ ap (λ i. get_or y i 0) (omega (arith, e, d))
 
 -- ---- what a word gives, by its correction as a function
 
@@ -244,12 +200,7 @@ pub good_data : (n k : ℕ) (white : List ℕ) (from : ℕ) (word out : List ℕ
     → IsGood n k white from word out fixed
     → (code : List ℕ) × (correction n k word ≡ Some code) × (fixed ≡ distance word code)
     × (out ≡ whitened white from (take k code))
-good_data n k white from word out fixed s l g = (
-  g.code,
-  correction_only n k word g.code s l g.corrected.correction,
-  g.corrected.changed,
-  g.bytes,
-)
+good_data n k white from word out fixed s l g = grind (arith, correction_only)
 
 no_correction : (n k : ℕ) (word : List ℕ) (found : Option (List ℕ)) → correction n k word ≡ found
     → ((code : List ℕ) → IsCorrection n k word code → ⊥) → found ≡ None

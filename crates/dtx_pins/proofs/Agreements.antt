@@ -1,7 +1,6 @@
 -- Paths that agree with pins, level by level.
-use Rattle.std.proofs.Common.{◌≡◌, ℕ, zero, suc, ◌+◌, ◌-◌, ◌/◌, ◌%◌, ◌<◌, ◌≤◌, ◌⊎◌, inl, inr, Bool, true, false}
-use Rattle.std.proofs.Common.{◌||◌, nat_eq, nat_le, List, [], ◌∷◌, length, drop, get_or, refl, sym, ap, ◌∙◌}
-use Rattle.std.proofs.Common.{arith}
+use Rattle.std.proofs.Common.{◌≡◌, ℕ, zero, suc, ◌+◌, ◌-◌, ◌/◌, ◌%◌, ◌<◌, Bool, true, false, ◌||◌, nat_eq, nat_le, List}
+use Rattle.std.proofs.Common.{[], ◌∷◌, length, drop, get_or, refl, ap, ◌∙◌, arith}
 use Rattle.std.proofs.lemmas.Bool.{and_parts, and_from, cases_lt}
 use Rattle.std.proofs.lemmas.Bool.Decides.{nat_tests}
 use Rattle.dtx_lists.proofs.Range.{list_all-range_at, list_all-range_from}
@@ -30,16 +29,12 @@ agrees_at former pins (z ∷ levels) h (suc t) l p =
     ∙ agrees_at (z / 4) (drop 1 pins) levels h.1 t (omega arith) (omega (arith, dropped_pin pins t, p))
     ∙ dropped_pin pins t
 
-agrees_by : (former : ℕ) (pins levels : List ℕ)
-    → ((t : ℕ) → t < length levels → pin_at pins t < 4
-    → pair_of (former_at former levels t) (get_or levels t 0) ≡ pin_at pins t)
-    → AgreesFrom former pins levels
+agrees_by : (former : ℕ) (pins levels : List ℕ) → ((t : ℕ) → t < length levels → pin_at pins t < 4
+    → pair_of (former_at former levels t) (get_or levels t 0) ≡ pin_at pins t) → AgreesFrom former pins levels
 agrees_by former pins [] h = tt
 agrees_by former pins (z ∷ levels) h = (
   h 0 (omega arith),
-  agrees_by (z / 4) (drop 1 pins) levels (λ t l p.
-      ap (λ f. pair_of f (get_or levels t 0)) (sym (behind_first former z levels t))
-      ∙ h (suc t) (omega arith) (omega (arith, dropped_pin pins t, p)) ∙ sym (dropped_pin pins t)),
+  agrees_by (z / 4) (drop 1 pins) levels (λ t l p. grind (arith, behind_first, dropped_pin)),
 )
 
 -- the level of the step before
@@ -51,8 +46,7 @@ pub agrees_all : (former : ℕ) (pins levels : List ℕ) → AgreesFrom former p
 unfolding x1_told x2_told
 agrees_all former pins levels h t l p = record {
   x1 = x1;
-  x2 = λ some. x2 t
-      (agrees_at former pins levels h t l p) some;
+  x2 = λ some. x2 t (agrees_at former pins levels h t l p) some;
 }
   where
     x1 : get_or levels t 0 / 2 % 2 ≡ pin_at pins t % 2
@@ -61,9 +55,7 @@ agrees_all former pins levels h t l p = record {
     x2 : (t : ℕ) → pair_of (former_at former levels t) (get_or levels t 0) ≡ pin_at pins t → 0 < t
         → (get_or levels t 0 / 4 + get_or levels (t - 1) 0 / 4) % 2 ≡ pin_at pins t / 2
     x2 zero e some = absurd (omega arith)
-    x2 (suc t) e some =
-        let told : pair_of (get_or levels t 0 / 4) (get_or levels (suc t) 0) ≡ pin_at pins (suc t) = e in
-        omega (arith, told, level_before levels t)
+    x2 (suc t) e some = grind (arith, level_before)
 
 -- and with one of both former Z2 they agree from there
 pub agrees_with_one : (pins levels : List ℕ) → Agrees pins levels
@@ -77,12 +69,7 @@ agrees_with_one pins levels h = (former, omega arith, agrees_by former pins leve
     told : (t : ℕ) → t < length levels → pin_at pins t < 4
         → pair_of (former_at former levels t) (get_or levels t 0) ≡ pin_at pins t
     told zero l p = (let a = (h 0 l p).x1 in omega (arith, a, p))
-    told (suc t) l p =
-        let a = (h (suc t) l p).x1 in
-        let b = (h (suc t) l p).x2 (omega arith) in
-        let e : pair_of (get_or levels t 0 / 4) (get_or levels (suc t) 0) ≡ pin_at pins (suc t) =
-        omega (arith, a, b, p, level_before levels t) in
-        e
+    told (suc t) l p = grind (arith, level_before)
 
 -- ---- the test
 
@@ -106,15 +93,7 @@ same_so a b e = grind (arith, nat_tests)
 
 pair_from : (pair : ℕ) (levels : List ℕ) (t : ℕ) → TellsPair pair levels t → tells_pair pair levels t ≡ true
 unfolding tells_pair
-pair_from pair levels t h =
-    and_from (nat_eq (x1_told levels t) (pair % 2)) (nat_eq t 0 || nat_eq (x2_told levels t) (pair / 2))
-    (same_so (x1_told levels t) (pair % 2) h.x1) (by_place (cases_lt 0 t))
-  where
-    by_place : (0 < t) ⊎ (t ≤ 0) → (nat_eq t 0 || nat_eq (x2_told levels t) (pair / 2)) ≡ true
-    by_place (inl some) =
-        or_from (nat_eq t 0) (nat_eq (x2_told levels t) (pair / 2)) (same_so (x2_told levels t) (pair / 2) (h.x2 some))
-    by_place (inr none) =
-        or_first (nat_eq t 0) (nat_eq (x2_told levels t) (pair / 2)) (same_so t 0 (omega arith))
+pair_from pair levels t h = grind (arith, and_from, same_so, cases_lt, or_from, or_first)
 
 pair_at : (pair : ℕ) (levels : List ℕ) (t : ℕ) → tells_pair pair levels t ≡ true → TellsPair pair levels t
 unfolding tells_pair
@@ -130,22 +109,11 @@ pair_at pair levels t h = record {
 
 pub agreement_tested : (pins levels : List ℕ) → Agrees pins levels → agrees pins levels ≡ true
 unfolding agrees
-agreement_tested pins levels h =
-    list_all-range_from (λ t. nat_le 4 (pin_at pins t) || tells_pair (pin_at pins t) levels t) 0 (length levels)
-    (λ t a b. step t (omega arith) (cases_lt (pin_at pins t) 4))
-  where
-    step : (t : ℕ) → t < length levels → (pin_at pins t < 4) ⊎ (4 ≤ pin_at pins t)
-        → (nat_le 4 (pin_at pins t) || tells_pair (pin_at pins t) levels t) ≡ true
-    step t l (inl p) =
-        or_from (nat_le 4 (pin_at pins t)) (tells_pair (pin_at pins t) levels t)
-        (pair_from (pin_at pins t) levels t (h t l p))
-    step t l (inr p) =
-        or_first (nat_le 4 (pin_at pins t)) (tells_pair (pin_at pins t) levels t) (grind (arith, nat_tests))
+agreement_tested pins levels h = grind (arith, list_all-range_from, cases_lt, or_from, pair_from, or_first, nat_tests)
 
 pub agreement_told : (pins levels : List ℕ) → agrees pins levels ≡ true → Agrees pins levels
 unfolding agrees
-agreement_told pins levels h t l p =
-    pair_at (pin_at pins t) levels t
+agreement_told pins levels h t l p = pair_at (pin_at pins t) levels t
     (second_of (nat_le 4 (pin_at pins t)) (tells_pair (pin_at pins t) levels t)
     (list_all-range_at (λ t. nat_le 4 (pin_at pins t) || tells_pair (pin_at pins t) levels t) 0 (length levels) h t
     (omega arith) (omega arith)) (grind (arith, nat_tests)))

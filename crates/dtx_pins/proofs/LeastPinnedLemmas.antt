@@ -61,9 +61,7 @@ passes_of pins path = agrees pins (drop 1 path)
 pinned_have : (pins : List ℕ) (n start : ℕ) (levels : List ℕ) → start < 4 → length levels ≡ n → IsPath start levels
     → Agrees pins levels → IsIn (start ∷ levels) (pinned_paths pins n)
 unfolding pinned_paths
-pinned_have pins n start levels l e path h =
-    filtered_in (passes_of pins) (all_paths n) (start ∷ levels) (all_have n start levels l e path)
-    (agreement_tested pins levels h)
+pinned_have pins n start levels l e path h = grind (arith, filtered_in, all_have, agreement_tested)
 
 pinned_are : (pins : List ℕ) (n : ℕ) → AllByRecursion (IsStarted n) (pinned_paths pins n)
 unfolding pinned_paths
@@ -86,28 +84,13 @@ IsAgreed n pins path = IsStarted n path × Agrees pins (drop 1 path)
 agreed_in : (pins : List ℕ) (n : ℕ) (path : List ℕ) → IsIn path (pinned_paths pins n) → IsAgreed n pins path
 agreed_in pins n path i = (
   all_at (IsStarted n) (pinned_paths pins n) path (pinned_are pins n) i,
-  agreement_told pins (drop 1 path)
-      (all_at (λ path. agrees pins (drop 1 path) ≡ true) (pinned_paths pins n) path (pinned_agree pins n) i),
+  agreement_told pins (drop 1 path) (grind (arith, all_at, pinned_agree)),
 )
 
 is_least_in : (scale : ℕ) (pins : List ℕ) (symbols : List ℤ) (start : ℕ) (levels : List ℕ)
     → IsLeastPinned scale pins symbols start levels
     → IsLeastIn scale symbols (pinned_paths pins (length symbols)) (start ∷ levels)
-is_least_in scale pins symbols start levels h = record {
-  inside = pinned_have pins (length symbols) start levels h.begins h.long h.path h.agrees;
-  least = λ other i. least other (agreed_in pins (length symbols) other i);
-  first = λ other i. first other (agreed_in pins (length symbols) other i);
-}
-  where
-    least : (other : List ℕ) → IsAgreed (length symbols) pins other
-        → cost scale symbols levels ≤ cost scale symbols (drop 1 other)
-    least [] k = absurd k.0
-    least (state ∷ others) k = h.least state others k.0.0 k.0.1.0 k.0.1.1 k.1
-
-    first : (other : List ℕ) → IsAgreed (length symbols) pins other
-        → cost scale symbols (drop 1 other) ≡ cost scale symbols levels → AreInOrder (start ∷ levels) other
-    first [] k = absurd k.0
-    first (state ∷ others) k = h.first state others k.0.0 k.0.1.0 k.0.1.1 k.1
+is_least_in scale pins symbols start levels h = grind (arith, pinned_have, agreed_in)
 
 -- what is a least path under pins is the one that the function gives
 pub least_pinned_is : (scale : ℕ) (pins : List ℕ) (symbols : List ℤ) (start : ℕ) (levels : List ℕ)
@@ -119,8 +102,7 @@ least_pinned_is scale pins symbols start levels h =
 
 pub least_pinned_levels_are : (scale : ℕ) (pins : List ℕ) (symbols : List ℤ) (start : ℕ) (levels : List ℕ)
     → IsLeastPinned scale pins symbols start levels → least_pinned_levels scale pins symbols ≡ levels
-least_pinned_levels_are scale pins symbols start levels h =
-    ap (drop 1) (least_pinned_is scale pins symbols start levels h)
+least_pinned_levels_are scale pins symbols start levels h = grind (arith, least_pinned_is)
 
 -- ---- there always is one, since each pair can be given from each state
 
@@ -136,8 +118,7 @@ some_agreed : (n : ℕ) (pins : List ℕ) (former state : ℕ) → former < 2 �
 some_agreed zero pins former state l m = ([], refl, tt, tt)
 some_agreed (suc n) pins former state l m =
     let rest = some_agreed n (drop 1 pins) (told_level (pin_at pins 0) former state / 4)
-    (next_state state (told_level (pin_at pins 0) former state)) (omega arith)
-    (next_small state (told_level (pin_at pins 0) former state) m) in (
+    (next_state state (told_level (pin_at pins 0) former state)) (omega arith) (grind (arith, next_small)) in (
       told_level (pin_at pins 0) former state ∷ rest.0,
       ap suc rest.1,
       (omega arith, omega arith, rest.2),
@@ -147,8 +128,7 @@ some_agreed (suc n) pins former state l m =
 pub least_pinned_found : (scale : ℕ) (pins : List ℕ) (symbols : List ℤ)
     → IsLeastPinned scale pins symbols (least_pinned_start scale pins symbols) (least_pinned_levels scale pins symbols)
 unfolding least_pinned_path
-least_pinned_found scale pins symbols =
-    from_path (first_least scale symbols (pinned_paths pins (length symbols)))
+least_pinned_found scale pins symbols = from_path (first_least scale symbols (pinned_paths pins (length symbols)))
     (agreed_in pins (length symbols) (first_least scale symbols (pinned_paths pins (length symbols))) found.inside)
     found
   where
@@ -168,8 +148,7 @@ least_pinned_found scale pins symbols =
       long = k.0.1.0;
       path = k.0.1.1;
       agrees = k.1;
-      least = λ state others l n path told. h.least (state ∷ others)
-          (pinned_have pins (length symbols) state others l n path told);
+      least = λ state others l n path told. h.least (state ∷ others) (grind (arith, pinned_have));
       first = λ state others l n path told. h.first (state ∷ others)
           (pinned_have pins (length symbols) state others l n path told);
     }
@@ -178,8 +157,7 @@ least_pinned_found scale pins symbols =
 
 -- without pins it is the least path
 pub without_pins_is : (scale : ℕ) (pins : List ℕ) (symbols : List ℤ) → ((t : ℕ) → t < length symbols
-    → 4 ≤ pin_at pins t)
-    → least_pinned_path scale pins symbols ≡ least_path scale symbols
+    → 4 ≤ pin_at pins t) → least_pinned_path scale pins symbols ≡ least_path scale symbols
 without_pins_is scale pins symbols none =
     least_pinned_is scale pins symbols (least_start scale symbols) (least_levels scale symbols) pinned_too
     ∙ sym (least_path_is scale symbols (least_start scale symbols) (least_levels scale symbols) h)

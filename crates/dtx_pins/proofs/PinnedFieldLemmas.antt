@@ -1,12 +1,12 @@
 -- Segments in which each coder's symbols were replaced: no others are so decided, and the function gives them at the
 -- scale of what was heard. What they cost, and their levels.
-use Rattle.std.proofs.Common.{◌≡◌, ℕ, ℤ, pos, ◌+◌, ◌-◌, ◌*◌, ◌/◌, ◌<◌, ◌≤◌, List, [], length, map, get_or, sum, sym, ap}
-use Rattle.std.proofs.Common.{◌∙◌, refl, subst, arith}
+use Rattle.std.proofs.Common.{◌≡◌, ℕ, ℤ, pos, ◌+◌, ◌-◌, ◌*◌, ◌/◌, ◌<◌, ◌≤◌, List, [], length, map, get_or, sym, ap, ◌∙◌}
+use Rattle.std.proofs.Common.{refl, subst, arith}
 use Rattle.std.proofs.lemmas.List.{get_or-map, length-map}
 use Rattle.dtx_lists.proofs.Range.{map-range_same}
 use Rattle.dtx_trellis.specs.Pairs.{coder_at}
 use Rattle.dtx_soft.specs.Coders.{coder_symbols, coders_distance}
-use Rattle.dtx_soft.specs.Paths.{cost, distance, symbol_at}
+use Rattle.dtx_soft.specs.Paths.{cost, symbol_at}
 use Rattle.dtx_soft.proofs.LeastPathLemmas.{path_small}
 use Rattle.dtx_soft.proofs.SoftenedLemmas.{data_given, given, given_coder, given_is, given_syncs, length-coder}
 use Rattle.dtx_soft.proofs.SoftenedLemmas.{length-given}
@@ -28,19 +28,14 @@ path_levels scale at pins heard e = refl
 
 -- the symbols of a least path are those of the function
 path_symbols_are : (scale at : ℕ) (pins : List (List ℕ)) (heard : List (List ℤ)) (e : ℕ) (new : List ℤ)
-    → AreLeastPinned scale at (coder_pins pins e) (coder_symbols heard e) new
-    → new ≡ path_symbols scale at pins heard e
+    → AreLeastPinned scale at (coder_pins pins e) (coder_symbols heard e) new → new ≡ path_symbols scale at pins heard e
 unfolding path_symbols
-path_symbols_are scale at pins heard e new h =
-    h.symbols ∙ ap (map (symbol_at at)) (sym (least_pinned_levels_are scale (coder_pins pins e)
-    (coder_symbols heard e) h.start h.levels h.least))
+path_symbols_are scale at pins heard e new h = grind (arith, least_pinned_levels_are)
 
 entries_are : (scale at : ℕ) (pins : List (List ℕ)) (heard old new : List (List ℤ))
     → IsPinned scale at pins heard old new → ((i : ℕ) → i < length new → length (get_or new i []) ≡ 832)
     → new ≡ given (path_symbols scale at pins heard) old
-entries_are scale at pins heard old new h =
-    given_is (path_symbols scale at pins heard) old new h.long h.syncs
-    (λ e l. path_symbols_are scale at pins heard e (coder_symbols new e) (h.coders e l))
+entries_are scale at pins heard old new h = grind (arith, given_is, path_symbols_are)
 
 -- no two lists of segments of 832 symbols are so decided
 pub one_decision : (scale at : ℕ) (pins : List (List ℕ)) (heard old new other : List (List ℤ))
@@ -58,8 +53,7 @@ pinned_given scale pins segments = refl
 
 pub pinned_is : (scale : ℕ) (pins : List (List ℕ)) (old new : List (List ℤ)) → IsPinned scale scale pins old old new
     → ((i : ℕ) → i < length new → length (get_or new i []) ≡ 832) → new ≡ pinned scale pins old
-pinned_is scale pins old new h rows =
-    entries_are scale scale pins old old new h rows ∙ pinned_given scale pins old
+pinned_is scale pins old new h rows = entries_are scale scale pins old old new h rows ∙ pinned_given scale pins old
 
 pub pinned_found : (scale : ℕ) (pins : List (List ℕ)) (segments : List (List ℤ)) → IsPinned scale scale pins segments
     segments (pinned scale pins segments)
@@ -71,14 +65,12 @@ pinned_found scale pins segments =
         start = least_pinned_start scale (coder_pins pins e) (coder_symbols segments e);
         levels = least_pinned_levels scale (coder_pins pins e) (coder_symbols segments e);
         least = least_pinned_found scale (coder_pins pins e) (coder_symbols segments e);
-        symbols = given_coder (path_symbols scale scale pins segments) segments e l (long e)
-            ∙ path_levels scale scale pins segments e;
+        symbols = grind (arith, given_coder, long, path_levels);
       };
     })
   where
     long : (e : ℕ) → length (path_symbols scale scale pins segments e) ≡ 69 * length segments
-    long e =
-        ap length (path_levels scale scale pins segments e)
+    long e = ap length (path_levels scale scale pins segments e)
         ∙ length-map (least_pinned_levels scale (coder_pins pins e) (coder_symbols segments e)) (symbol_at scale)
         ∙ (least_pinned_found scale (coder_pins pins e) (coder_symbols segments e)).long ∙ length-coder segments e
 
@@ -87,12 +79,7 @@ pinned_found scale pins segments =
 -- as many segments are decided as were heard
 length-heard : (scale at : ℕ) (pins : List (List ℕ)) (heard old new : List (List ℤ))
     → IsPinned scale at pins heard old new → length new ≡ length heard
-length-heard scale at pins heard old new h =
-    let first = h.coders 0 (omega arith) in
-    let many : 69 * length new ≡ 69 * length heard =
-    sym (length-coder new 0) ∙ ap length first.symbols ∙ length-map first.levels (symbol_at at) ∙ first.least.long
-    ∙ length-coder heard 0 in
-    omega (arith, many)
+length-heard scale at pins heard old new h = grind (arith, length-coder, length-map)
 
 -- The levels that are decided: at scale 1 they have the symbols that the decoder writes, and at the scale of what was
 -- heard those that `pinned` gives.
@@ -135,9 +122,7 @@ pinned_level scale pins heard old new i k h l n m = (
         omega (arith, long, many)
 
     at : (wide : ℕ) → get_or (path_symbols scale wide pins heard (coder_at 0 d)) (d / 12) (pos 0) ≡ symbol_at wide level
-    at wide =
-        ap (λ (xs : List ℤ). get_or xs (d / 12) (pos 0)) (path_levels scale wide pins heard e)
-        ∙ get_or-map (symbol_at wide) levels (d / 12) 0 (pos 0) within
+    at wide = rw (path_levels scale wide pins heard e, get_or-map (symbol_at wide) levels (d / 12) 0 (pos 0) within)
 
 -- ---- what it costs
 
@@ -145,8 +130,4 @@ pinned_level scale pins heard old new i k h l n m = (
 pub pinned_cost_is : (scale : ℕ) (pins : List (List ℕ)) (heard old new : List (List ℤ))
     → IsPinned scale scale pins heard old new → coders_distance heard new 12 ≡ pinned_cost scale pins heard
 unfolding coders_distance pinned_cost pinned_coder_cost cost path_symbols
-pinned_cost_is scale pins heard old new h =
-    ap sum (map-range_same (λ e. distance (coder_symbols heard e) (coder_symbols new e))
-    (pinned_coder_cost scale pins heard) 0 12
-    (λ e a b. ap (distance (coder_symbols heard e))
-    (path_symbols_are scale scale pins heard e (coder_symbols new e) (h.coders e (omega arith)))))
+pinned_cost_is scale pins heard old new h = grind (arith, map-range_same, path_symbols_are)

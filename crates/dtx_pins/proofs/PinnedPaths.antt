@@ -1,6 +1,6 @@
 -- Least paths under pins and their costs, one more symbol in front (Bellman).
-use Rattle.std.proofs.Common.{◌≡◌, ℕ, suc, ℤ, ◌+◌, ◌/◌, ◌%◌, ◌<◌, ◌≤◌, ◌⊎◌, inl, inr, List, [], ◌∷◌}
-use Rattle.std.proofs.Common.{length, drop, refl, sym, ap, ◌∙◌, subst, arith}
+use Rattle.std.proofs.Common.{◌≡◌, ℕ, suc, ℤ, ◌+◌, ◌/◌, ◌%◌, ◌<◌, ◌≤◌, ◌⊎◌, inl, inr, List, [], ◌∷◌, length, drop, ap}
+use Rattle.std.proofs.Common.{◌∙◌, arith}
 use Rattle.std.proofs.lemmas.Bool.{cases_lt}
 use Rattle.dtx_soft.specs.Paths.{IsPath, cost, next_state, squared, symbol_at}
 use Rattle.dtx_soft.specs.Least.{AreInOrder}
@@ -37,9 +37,7 @@ pub record IsBestLevel (scale pin : ℕ) (v : ℤ) (behind : List (List ℕ)) (f
 
 pub onto_through : (scale : ℕ) (v : ℤ) (behind : List (List ℕ)) (state k : ℕ) → state < 4 → k < 4
     → onto scale v behind state (level_by state k) ≡ through (square_of scale v) behind state k
-onto_through scale v behind state k l m =
-    ap (λ (y : ℕ). squared v (symbol_at scale (level_by state k)) + cost_at behind y (next_state state
-    (level_by state k))) (omega arith)
+onto_through scale v behind state k l m = grind arith
 
 pair_number : (pin former state k : ℕ) → pin < 4 → former < 2 → state < 4 → k < 4 → k ≡ told_number pin former
     → pair_of former (level_by state k) ≡ pin
@@ -67,28 +65,20 @@ best_level scale pin v behind former state k f l b = record {
 
     other : (y : ℕ) → y < 8 → y % 2 ≡ state / 2
         → onto scale v behind state y ≡ through (square_of scale v) behind state (y / 2)
-    other y m e =
-        let level : y ≡ level_by state (y / 2) = omega arith in
-        ap (onto scale v behind state) level ∙ onto_through scale v behind state (y / 2) l (omega arith)
+    other y m e = grind (arith, onto_through)
 
 -- a path costs no less than its first level comes to
 onto_below : (scale : ℕ) (v : ℤ) (pins : List ℕ) (symbols : List ℤ) (behind : List (List ℕ)) (state z : ℕ)
     (levels : List ℕ) → AreLeastCosts scale pins symbols behind → state < 4 → z < 8
     → length levels ≡ length symbols → IsPath (next_state state z) levels → AgreesFrom (z / 4) pins levels
     → onto scale v behind state z ≤ cost scale (v ∷ symbols) (z ∷ levels)
-onto_below scale v pins symbols behind state z levels p l m n path told =
-    let a = (p (z / 4) (next_state state z) (omega arith) (next_small state z l)).below levels n path told in
-    let e = cost-cons scale v symbols z levels in
-    omega (arith, a, e)
+onto_below scale v pins symbols behind state z levels p l m n path told = grind (arith, next_small, cost-cons)
 
 -- and it costs as much where it is a least one from there
 pub least_is : (scale : ℕ) (pins : List ℕ) (symbols : List ℤ) (former state least : ℕ) (levels : List ℕ)
     → IsLeastCost scale pins symbols former state least → IsLeastFrom scale pins symbols former state levels
     → cost scale symbols levels ≡ least
-least_is scale pins symbols former state least levels p h =
-    let a = p.below levels h.long h.path h.agrees in
-    let b = h.least p.met.0 p.met.1 p.met.2 p.met.3 in
-    omega (arith, a, b, p.met.4)
+least_is scale pins symbols former state least levels p h = grind arith
 
 pub one_more : (scale : ℕ) (v : ℤ) (pins : List ℕ) (symbols : List ℤ) (behind : List (List ℕ))
     (former state z : ℕ) (levels : List ℕ) → AreLeastCosts scale (drop 1 pins) symbols behind → state < 4
@@ -135,16 +125,7 @@ one_more scale v pins symbols behind former state z levels p l h q = record {
             → cost scale (v ∷ symbols) (y ∷ ys) ≡ cost scale (v ∷ symbols) (z ∷ levels) → (z < y) ⊎ (z ≡ y)
             → (z < y) ⊎ ((z ≡ y) × AreInOrder levels ys)
         go y ys n path told t (inl k) = inl k
-        go y ys n path told t (inr k) = inr (
-          k,
-          q.first ys n (subst (λ x. IsPath (next_state state x) ys) (sym k) path)
-              (subst (λ x. AgreesFrom (x / 4) (drop 1 pins) ys) (sym k) told)
-              (same (subst (λ x. cost scale (v ∷ symbols) (x ∷ ys) ≡ cost scale (v ∷ symbols) (z ∷ levels)) (sym k) t)),
-        )
-          where
-            same : cost scale (v ∷ symbols) (z ∷ ys) ≡ cost scale (v ∷ symbols) (z ∷ levels)
-                → cost scale symbols ys ≡ cost scale symbols levels
-            same t = omega (arith, t, cost-cons scale v symbols z ys, cost-cons scale v symbols z levels)
+        go y ys n path told t (inr k) = grind (arith, cost-cons)
 
 pub cost_more : (scale : ℕ) (v : ℤ) (pins : List ℕ) (symbols : List ℤ) (behind : List (List ℕ)) (former state z : ℕ)
     → AreLeastCosts scale (drop 1 pins) symbols behind → state < 4
@@ -175,16 +156,7 @@ cost_more scale v pins symbols behind former state z p l h = record {
 
 -- no symbols
 pub nothing_least : (scale : ℕ) (pins : List ℕ) (former state : ℕ) → IsLeastFrom scale pins [] former state []
-nothing_least scale pins former state = record {
-  long = refl;
-  path = tt;
-  agrees = tt;
-  least = λ others e path told. omega (arith, nothing_costs scale [], nothing_costs scale others);
-  first = λ others e path told t. tt;
-}
+nothing_least scale pins former state = grind (arith, nothing_costs)
 
 pub nothing_cost : (scale : ℕ) (pins : List ℕ) (former state : ℕ) → IsLeastCost scale pins [] former state 0
-nothing_cost scale pins former state = record {
-  below = λ levels e path told. omega arith;
-  met = ([], refl, tt, tt, nothing_costs scale []);
-}
+nothing_cost scale pins former state = grind (arith, nothing_costs)

@@ -1,6 +1,6 @@
 -- Where a least path under pins begins.
-use Rattle.std.proofs.Common.{◌≡◌, ◌≢◌, ℕ, zero, suc, ℤ, ◌-◌, ◌/◌, ◌%◌, ◌<◌, ◌≤◌, ◌⊎◌, inl, inr, nat_lt, cond}
-use Rattle.std.proofs.Common.{min, List, [], ◌∷◌, length, get_or, refl, sym, ap, ◌∙◌, subst, arith}
+use Rattle.std.proofs.Common.{◌≡◌, ◌≢◌, ℕ, zero, suc, ℤ, ◌-◌, ◌/◌, ◌%◌, ◌<◌, ◌≤◌, ◌⊎◌, inl, inr, nat_lt, cond, min}
+use Rattle.std.proofs.Common.{List, [], ◌∷◌, length, get_or, refl, sym, subst, arith}
 use Rattle.std.proofs.lemmas.Bool.{cases_eq, cases_lt, cond-false, cond-true, le-ltb, lt-ltb}
 use Rattle.std.proofs.lemmas.Bool.Decides.{nat_tests}
 use Rattle.dtx_soft.specs.Least.{AreInOrder}
@@ -34,78 +34,16 @@ record IsBetter (f : ℕ → ℕ) (x former : ℕ) : Type 0 where
 
 better_is : (f : ℕ → ℕ) (x former : ℕ) → x < 2 → former ≡ cond (nat_lt (f (1 - x)) (f x)) (1 - x) x
     → IsBetter f x former
-better_is f x former l e = by_order (cases_lt (f (1 - x)) (f x))
-  where
-    by_order : (f (1 - x) < f x) ⊎ (f x ≤ f (1 - x)) → IsBetter f x former
-    by_order (inl o) =
-        let own : former ≡ 1 - x = e ∙ cond-true (nat_lt (f (1 - x)) (f x)) (1 - x) x (lt-ltb (f (1 - x)) (f x) o) in
-        record {
-          small = omega arith;
-          least = ap f own ∙ less (f x) (f (1 - x)) o ∙ sym (min_of_pair f x l);
-          first = λ p m same. inl (other p m own (same ∙ ap f own) (cases_eq p x));
-        }
-      where
-        less : (a b : ℕ) → b < a → b ≡ min a b
-        less a b k = omega arith
-
-        other : (p : ℕ) → p < 2 → former ≡ 1 - x → f p ≡ f (1 - x) → (p ≡ x) ⊎ (p ≢ x) → former ≡ p
-        other p m own same (inl q) =
-            let r : f x ≡ f (1 - x) = ap f (sym q) ∙ same in absurd (omega (arith, r, o))
-        other p m own same (inr q) = omega (arith, own, m, l, q)
-    by_order (inr o) =
-        let own : former ≡ x = e ∙ cond-false (nat_lt (f (1 - x)) (f x)) (1 - x) x (le-ltb (f (1 - x)) (f x) o) in
-        record {
-          small = omega arith;
-          least = ap f own ∙ less (f x) (f (1 - x)) o ∙ sym (min_of_pair f x l);
-          first = λ p m same. inr own;
-        }
-      where
-        less : (a b : ℕ) → a ≤ b → a ≡ min a b
-        less a b k = omega arith
+better_is f x former l e = grind (arith, cases_lt, cond-true, lt-ltb, min_of_pair, cases_eq, cond-false, le-ltb)
 
 pub start_is : (pin x2 : ℕ) (behind : List (List ℕ)) (costs : List ℕ) (state : ℕ) (stand : Stand) → x2_of pin ≡ x2
-    → x2 < 2 → state < 4
-    → ((s : ℕ) → s < 4 → get_or costs s 0 ≡ min (cost_at behind 0 s) (cost_at behind 1 s))
+    → x2 < 2 → state < 4 → ((s : ℕ) → s < 4 → get_or costs s 0 ≡ min (cost_at behind 0 s) (cost_at behind 1 s))
     → ((s : ℕ) → s < 4 → get_or costs state 0 ≤ get_or costs s 0)
     → ((s : ℕ) → s < 4 → get_or costs s 0 ≡ get_or costs state 0 → state ≤ s)
     → stand.former ≡ cond (nat_lt (cost_at behind (1 - x2) state) (cost_at behind x2 state)) (1 - x2) x2
     → stand.q1 ≡ state / 2 → stand.q0 ≡ state % 2 → stand.cost ≡ 0 → IsStart pin behind stand
-start_is pin x2 behind costs state stand named l low each least first former q1 q0 none = record {
-  former = better.small;
-  q1 = omega (arith, q1, low);
-  q0 = omega (arith, q0);
-  cost = none;
-  least = λ p s f m. (let a = min_below (λ p. cost_at behind p s) p f in
-      let b = least s m in omega (arith, own, each state low, each s m, a, b));
-  first = λ p s f m e. (let a = min_below (λ p. cost_at behind p s) p f in
-      let b = least s m in
-      in_order p s f m e (first s m (omega (arith, own, each state low, each s m, a, b, e))) (cases_lt state s));
-}
-  where
-    state_is : state_of stand ≡ state
-    state_is = omega (arith, q1, q0)
-
-    better : IsBetter (λ p. cost_at behind p state) x2 stand.former
-    better = better_is (λ p. cost_at behind p state) x2 stand.former l former
-
-    own : cost_at behind stand.former (state_of stand) ≡ min (cost_at behind 0 state) (cost_at behind 1 state)
-    own = ap (cost_at behind stand.former) state_is ∙ better.least
-
-    in_order : (p s : ℕ) → p < 2 → s < 4 → cost_at behind p s ≡ cost_at behind stand.former (state_of stand) → state ≤ s
-        → (state < s) ⊎ (s ≤ state)
-        → (state_of stand < s) ⊎ ((state_of stand ≡ s) × ((stand.former ≡ p) ⊎ (stand.former ≡ x2_of pin)))
-    in_order p s f m e k (inl o) = inl (omega (arith, state_is, o))
-    in_order p s f m e k (inr o) =
-        let same : s ≡ state = omega (arith, k, o) in
-        inr (
-          omega (arith, state_is, same),
-          named_too (better.first p f
-              (ap (cost_at behind p) (sym same) ∙ e ∙ ap (cost_at behind stand.former) state_is)),
-        )
-      where
-        named_too : (stand.former ≡ p) ⊎ (stand.former ≡ x2) → (stand.former ≡ p) ⊎ (stand.former ≡ x2_of pin)
-        named_too (inl q) = inl q
-        named_too (inr q) = inr (q ∙ sym named)
+start_is pin x2 behind costs state stand named l low each least first former q1 q0 none =
+    grind (arith, min_below, cases_lt, better_is)
 
 -- ---- the paths from there
 
@@ -115,24 +53,7 @@ x2_is pin l = grind (arith, nat_tests)
 -- a level that gives a pair from the former Z2 that is its X2 comes before one from the other
 before_other : (pin former other z y : ℕ) → pin < 4 → former ≡ pin / 2 → other < 2 → former ≢ other → z < 8 → y < 8
     → pair_of former z ≡ pin → pair_of other y ≡ pin → z < y
-before_other pin former other z y a b c d e f g h = by_place (cases_lt z y)
-  where
-    apart : (former < other) ⊎ (other < former)
-    apart = by_order (cases_lt former other) (cases_lt other former)
-      where
-        by_order : (former < other) ⊎ (other ≤ former) → (other < former) ⊎ (former ≤ other)
-            → (former < other) ⊎ (other < former)
-        by_order (inl l) m = inl l
-        by_order (inr l) (inl m) = inr m
-        by_order (inr l) (inr m) = absurd (d (omega arith))
-
-    by_place : (z < y) ⊎ (y ≤ z) → z < y
-    by_place (inl l) = l
-    by_place (inr l) = absurd (never apart)
-      where
-        never : (former < other) ⊎ (other < former) → ⊥
-        never (inl m) = omega (arith, a, b, c, e, f, g, h, l, m)
-        never (inr m) = omega (arith, a, b, c, e, f, g, h, l, m)
+before_other pin former other z y a b c d e f g h = grind (arith, cases_lt)
 
 -- where the first pin says nothing, the former Z2 doesn't matter
 any_former : (former other : ℕ) (pins levels : List ℕ) → 4 ≤ pin_at pins 0 → AgreesFrom other pins levels
@@ -177,14 +98,7 @@ from_start scale pins symbols costs stand levels s p h = record {
         → AreInOrder levels others
     by_levels [] others state other a b n q x l d f g = tt
     by_levels (z ∷ levels) [] state other a b n q x l d f g = absurd (omega arith)
-    by_levels (z ∷ levels) (y ∷ others) state other a b n q x l d f g =
-        inl (before_other (pin_at pins 0) stand.former other z y q (omega (
-          arith,
-          x,
-          x2_is
-              (pin_at pins 0) q,
-        )) l d a.0 b.0
-        (f.0 q) (g.0 q))
+    by_levels (z ∷ levels) (y ∷ others) state other a b n q x l d f g = grind (arith, before_other, x2_is)
 
     by_former : (state : ℕ) (others : List ℕ) (other : ℕ) → length others ≡ length symbols → IsPath state others
         → state_of stand ≡ state → other < 2 → AgreesFrom other pins others
@@ -211,9 +125,7 @@ from_start scale pins symbols costs stand levels s p h = record {
         × ((stand.former ≡ other) ⊎ (stand.former ≡ x2_of (pin_at pins 0))))
         → (state_of stand < state) ⊎ ((state_of stand ≡ state) × AreInOrder levels others)
     in_order state others other n path l told e (inl o) = inl o
-    in_order state others other n path l told e (inr o) =
-        inr (
-          o.0,
-          by_former state others other n path o.0 l told e o.1 (cases_eq stand.former other)
-              (cases_lt (pin_at pins 0) 4),
-        )
+    in_order state others other n path l told e (inr o) = inr (
+      o.0,
+      by_former state others other n path o.0 l told e o.1 (cases_eq stand.former other) (cases_lt (pin_at pins 0) 4),
+    )

@@ -1,17 +1,13 @@
 -- One step of the search: the pens, and what the least of four sums tells.
-use Rattle.std.proofs.Common.{◌≡◌, ◌≢◌, ℕ, ℤ, ◌+◌, ◌-◌, ◌*◌, ◌/◌, ◌%◌, ◌^◌, ◌<◌, ◌≤◌, ◌⊎◌, inl, inr, Bool, true}
-use Rattle.std.proofs.Common.{zero, suc}
-use Rattle.std.proofs.Common.{false}
-use Rattle.std.proofs.Common.{nat_eq, nat_le, nat_lt, cond, min, List, [], get_or, refl, sym, ap, ap₂, ◌∙◌}
-use Rattle.std.proofs.Common.{subst, arith}
+use Rattle.std.proofs.Common.{◌≡◌, ◌≢◌, ℕ, ℤ, ◌+◌, ◌-◌, ◌*◌, ◌/◌, ◌%◌, ◌^◌, ◌<◌, ◌≤◌, ◌⊎◌, inl, inr, Bool, true, zero}
+use Rattle.std.proofs.Common.{suc, false, nat_eq, nat_le, cond, min, List, [], get_or, refl, ap, ◌∙◌, arith}
 use Rattle.std.proofs.lemmas.Bool.{cases_eq, cases_lt, cond-true, le-leb}
 use Rattle.std.proofs.lemmas.Bool.Decides.{nat_tests}
 use Rattle.dtx_lists.proofs.Below.{at_below, holds_below}
 use Rattle.dtx_soft.specs.Paths.{next_state}
 use Rattle.dtx_soft.proofs.LeastPathLemmas.{next_small}
 use Rattle.dtx_soft.proofs.WritesLemmas.{four}
-use Rattle.dtx_pins.specs.Steps.{AreAtMost, AreBounded, IsBest, cost_at, level_by, number_of}
-use Rattle.dtx_pins.specs.Steps.{pen_of, through, told_number}
+use Rattle.dtx_pins.specs.Steps.{AreAtMost, AreBounded, IsBest, level_by, number_of, pen_of, through, told_number}
 use Rattle.dtx_pins.specs.Weights.{AreMultiples, fare, weight}
 use Rattle.dtx_pins.proofs.FourNumbers.{IsFirstLeast, told_by_least}
 
@@ -23,8 +19,7 @@ pen_sum pin former j = pen_of pin (j % 2) + pen_of pin (2 + (j / 2 + former) % 2
 
 -- nothing to the level that gives the pair, and more than any path costs to the others
 unfoldable is_penned : ℕ → Bool
-is_penned n =
-    cond (nat_eq (n % 4) (told_number (n / 8) (n / 4 % 2))) (nat_eq (pen_sum (n / 8) (n / 4 % 2) (n % 4)) 0)
+is_penned n = cond (nat_eq (n % 4) (told_number (n / 8) (n / 4 % 2))) (nat_eq (pen_sum (n / 8) (n / 4 % 2) (n % 4)) 0)
     (nat_le 1400000000 (pen_sum (n / 8) (n / 4 % 2) (n % 4)))
 
 all_penned : holds_below is_penned 32 ≡ true
@@ -35,31 +30,13 @@ pen_tested : (pin former j : ℕ) → pin < 4 → former < 2 → j < 4
     → cond (nat_eq j (told_number pin former)) (nat_eq (pen_sum pin former j) 0)
     (nat_le 1400000000 (pen_sum pin former j)) ≡ true
 unfolding is_penned
-pen_tested pin former j l m n =
-    at pin former j (omega arith) (omega arith) (omega arith)
-    (at_below is_penned 32 (8 * pin + 4 * former + j) all_penned (omega arith))
-  where
-    at : (a b c : ℕ) → (8 * pin + 4 * former + j) / 8 ≡ a → (8 * pin + 4 * former + j) / 4 % 2 ≡ b
-        → (8 * pin + 4 * former + j) % 4 ≡ c → is_penned (8 * pin + 4 * former + j) ≡ true
-        → cond (nat_eq c (told_number a b)) (nat_eq (pen_sum a b c) 0) (nat_le 1400000000 (pen_sum a b c)) ≡ true
-    at a b c e f g t =
-        subst (λ a. cond (nat_eq c (told_number a b)) (nat_eq (pen_sum a b c) 0) (nat_le 1400000000 (pen_sum a b c))
-        ≡ true) e
-        (subst (λ b. cond (nat_eq c (told_number ((8 * pin + 4 * former + j) / 8) b))
-        (nat_eq (pen_sum ((8 * pin + 4 * former + j) / 8) b c) 0)
-        (nat_le 1400000000 (pen_sum ((8 * pin + 4 * former + j) / 8) b c)) ≡ true) f
-        (subst (λ c. cond (nat_eq c (told_number ((8 * pin + 4 * former + j) / 8) ((8 * pin + 4 * former + j) / 4 % 2)))
-        (nat_eq (pen_sum ((8 * pin + 4 * former + j) / 8) ((8 * pin + 4 * former + j) / 4 % 2) c) 0)
-        (nat_le 1400000000 (pen_sum ((8 * pin + 4 * former + j) / 8) ((8 * pin + 4 * former + j) / 4 % 2) c)) ≡ true) g
-        t))
+pen_tested pin former j l m n = grind (arith, at_below, all_penned)
 
 pen_told : (pin former : ℕ) → pin < 4 → former < 2 → pen_sum pin former (told_number pin former) ≡ 0
-pen_told pin former l m =
-    by_test (nat_eq (told_number pin former) (told_number pin former)) (grind (arith, nat_tests))
+pen_told pin former l m = by_test (nat_eq (told_number pin former) (told_number pin former)) (grind (arith, nat_tests))
     (pen_tested pin former (told_number pin former) l m (omega arith))
   where
-    by_test : (t : Bool) → t ≡ true
-        → cond t (nat_eq (pen_sum pin former (told_number pin former)) 0)
+    by_test : (t : Bool) → t ≡ true → cond t (nat_eq (pen_sum pin former (told_number pin former)) 0)
         (nat_le 1400000000 (pen_sum pin former (told_number pin former))) ≡ true
         → pen_sum pin former (told_number pin former) ≡ 0
     by_test true e h = grind (arith, nat_tests)
@@ -82,21 +59,11 @@ pen_none pin i l = cond-true (nat_le 4 pin) 0 _ (le-leb 4 pin l)
 
 pub pen_small : (pin i : ℕ) → pen_of pin i ≤ 1400000000
 unfolding pen_of
-pen_small pin i = by_test (nat_le 4 pin) (nat_eq (cond (nat_lt i 2) pin (pin / 2) % 2) (i % 2))
-  where
-    by_test : (t u : Bool) → cond t 0 (cond u 0 1400000000) ≤ 1400000000
-    by_test true u = omega arith
-    by_test false true = omega arith
-    by_test false false = omega arith
+pen_small pin i = grind arith
 
 pub pen_multiple : (pin i : ℕ) → pen_of pin i % 4 ≡ 0
 unfolding pen_of
-pen_multiple pin i = by_test (nat_le 4 pin) (nat_eq (cond (nat_lt i 2) pin (pin / 2) % 2) (i % 2))
-  where
-    by_test : (t u : Bool) → cond t 0 (cond u 0 1400000000) % 4 ≡ 0
-    by_test true u = refl
-    by_test false true = refl
-    by_test false false = refl
+pen_multiple pin i = grind arith
 
 -- the pens of Z1 and of Z2, where a bit of a pin is given
 pens_by : (t : Bool) (bit all pen : ℕ) → bit < 2 → all ≡ cond t 0 1400000000 → pen ≡ cond (nat_eq bit 0) 0 all
@@ -129,10 +96,7 @@ penned level_cost old pin p s j = through level_cost old s j + pen_sum pin p j
 
 through_small : (level_cost : ℕ → ℕ) (old : List (List ℕ)) (s j : ℕ) → AreSmall level_cost → AreBounded 154312704 old
     → s < 4 → j < 4 → through level_cost old s j < 1400000000
-through_small level_cost old s j small bounded l m =
-    let a = small (level_by s j) (omega arith) in
-    let b = bounded (j / 2) (next_state s (level_by s j)) (omega arith) (next_small s (level_by s j) l) in
-    omega (arith, a, b)
+through_small level_cost old s j small bounded l m = grind (arith, next_small)
 
 -- the first least with pens is the best level, and it has none
 best_is : (level_cost : ℕ → ℕ) (pin : ℕ) (old : List (List ℕ)) (p s k : ℕ) → AreSmall level_cost
@@ -162,27 +126,12 @@ best_is level_cost pin old p s k small bounded f l h = by_pin (cases_lt pin 4)
             let c = pen_other pin p k q f h.small d in
             let g = through_small level_cost old s (told_number pin p) small bounded l (omega arith) in
             absurd (omega (arith, a, b, c, g))
-    by_pin (inr q) = (
-      record {
-        small = h.small;
-        told = λ r. absurd (omega arith);
-        least = λ j m t. (let a = h.least j m in omega (arith, a, nothing j, nothing k));
-        first = λ j m t same. h.first j m (omega (arith, same, nothing j, nothing k));
-      },
-      omega (arith, nothing k),
-    )
-      where
-        nothing : (j : ℕ) → pen_sum pin p j ≡ 0
-        nothing j =
-            let a = pen_none pin (j % 2) q in let b = pen_none pin (2 + (j / 2 + p) % 2) q in omega (arith, a, b)
+    by_pin (inr q) = grind (arith, pen_none)
 
 -- the state behind a level depends on its Z1 alone
 next_alike : (s j k : ℕ) → s < 4 → j % 2 ≡ k % 2 → next_state s (level_by s j) ≡ next_state s (level_by s k)
 unfolding next_state
-next_alike s j k l e = ap (λ x. 2 * ((x + s % 2) % 2) + s / 2) same
-  where
-    same : level_by s j / 2 % 2 ≡ level_by s k / 2 % 2
-    same = omega (arith, e, l)
+next_alike s j k l e = grind arith
 
 -- ---- the sums of a step
 
@@ -190,43 +139,18 @@ next_alike s j k l e = ap (λ x. 2 * ((x + s % 2) % 2) + s / 2) same
 fare_is : (scale : ℕ) (symbol : ℤ) (first second z2 z1 s : ℕ) → z2 < 2 → z1 < 2 → s < 4
     → fare scale symbol first second (4 * z2 + (2 * z1 + s / 2))
     ≡ weight scale symbol (level_by s (2 * z2 + z1)) + (2 * z2 + z1) + cond (nat_eq z1 0) first second
-fare_is scale symbol first second z2 z1 s f g l =
-    ap (fare scale symbol first second) level
-    ∙ ap₂ (λ n m. weight scale symbol (level_by s (2 * z2 + z1)) + n + cond (nat_eq m 0) first second) number bit
-  where
-    level : 4 * z2 + (2 * z1 + s / 2) ≡ level_by s (2 * z2 + z1)
-    level = omega arith
-
-    number : level_by s (2 * z2 + z1) / 2 ≡ 2 * z2 + z1
-    number = omega (arith, l)
-
-    bit : level_by s (2 * z2 + z1) / 2 % 2 ≡ z1
-    bit = omega (arith, l, g)
+fare_is scale symbol first second z2 z1 s f g l = grind arith
 
 -- what a level comes to with its number and the pen of its Z1
 way_is : (scale : ℕ) (symbol : ℤ) (old : List (List ℕ)) (first second z2 z1 s other : ℕ) → z2 < 2 → z1 < 2 → s < 4
     → other ≡ fare scale symbol first second (4 * z2 + (2 * z1 + s / 2))
     → get_or (get_or old z2 []) (next_state s (level_by s z1)) 0 + other
     ≡ through (weight scale symbol) old s (2 * z2 + z1) + (2 * z2 + z1) + cond (nat_eq z1 0) first second
-way_is scale symbol old first second z2 z1 s other f g l e = omega (arith, behind, own)
-  where
-    half : z2 ≡ (2 * z2 + z1) / 2
-    half = omega (arith, g)
-
-    rest : z1 % 2 ≡ (2 * z2 + z1) % 2
-    rest = omega (arith, g)
-
-    behind : get_or (get_or old z2 []) (next_state s (level_by s z1)) 0
-        ≡ cost_at old ((2 * z2 + z1) / 2) (next_state s (level_by s (2 * z2 + z1)))
-    behind = ap₂ (cost_at old) half (next_alike s z1 (2 * z2 + z1) l rest)
-
-    own : other ≡ weight scale symbol (level_by s (2 * z2 + z1)) + (2 * z2 + z1) + cond (nat_eq z1 0) first second
-    own = e ∙ fare_is scale symbol first second z2 z1 s f g l
+way_is scale symbol old first second z2 z1 s other f g l e = grind (arith, next_alike, fare_is)
 
 -- what is told of the half of a step with one Z2, at one state
 abbrev pub IsHalf : ℕ → ℤ → List (List ℕ) → ℕ → ℕ → ℕ → ℕ → Type 0
-IsHalf scale symbol old pin s z2 sum =
-    sum ≡ min (through (weight scale symbol) old s (2 * z2) + 2 * z2 + pen_of pin 0)
+IsHalf scale symbol old pin s z2 sum = sum ≡ min (through (weight scale symbol) old s (2 * z2) + 2 * z2 + pen_of pin 0)
     (through (weight scale symbol) old s (2 * z2 + 1) + (2 * z2 + 1) + pen_of pin 1)
 
 pub half_is : (scale : ℕ) (symbol : ℤ) (old : List (List ℕ)) (pin first second z2 s sum : ℕ) (fares : List ℕ) → z2 < 2
@@ -239,15 +163,13 @@ half_is scale symbol old pin first second z2 s sum fares f l a b each e = omega 
   where
     with_none : get_or (get_or old z2 []) (next_state s (level_by s 0)) 0 + get_or fares (s / 2) 0
         ≡ through (weight scale symbol) old s (2 * z2) + 2 * z2 + first
-    with_none =
-        way_is scale symbol old first second z2 0 s (get_or fares (s / 2) 0) f (omega arith) l
+    with_none = way_is scale symbol old first second z2 0 s (get_or fares (s / 2) 0) f (omega arith) l
         (each (s / 2) (omega arith) ∙ ap (fare scale symbol first second) (omega arith))
         ∙ ap (λ k. through (weight scale symbol) old s k + k + first) (omega arith)
 
     with_one : get_or (get_or old z2 []) (next_state s (level_by s 1)) 0 + get_or fares (2 + s / 2) 0
         ≡ through (weight scale symbol) old s (2 * z2 + 1) + (2 * z2 + 1) + second
-    with_one = way_is scale symbol old first second z2 1 s (get_or fares (2 + s / 2) 0) f (omega arith) l
-        (each (2 + s / 2) (omega arith))
+    with_one = grind (arith, way_is)
 
 -- the sums of a step are multiples of four but for the number
 pub penned_multiple : (level_cost : ℕ → ℕ) (old : List (List ℕ)) (pin p s j : ℕ)
@@ -263,28 +185,19 @@ penned_multiple level_cost old pin p s j own behind l m =
 -- bounds of fares and of the sums of a half
 pub fare_small : (scale : ℕ) (symbol : ℤ) (first second z : ℕ) → AreSmall (weight scale symbol) → first ≤ 1400000000
     → second ≤ 1400000000 → z < 8 → fare scale symbol first second z ≤ 1400007171
-fare_small scale symbol first second z small l m o =
-    let a = small z o in let b = chosen (nat_eq (z / 2 % 2) 0) in omega (arith, a, b)
-  where
-    chosen : (t : Bool) → cond t first second ≤ 1400000000
-    chosen true = l
-    chosen false = m
+fare_small scale symbol first second z small l m o = grind arith
 
 pub half_small : (sums fares : List ℕ) (s x : ℕ) → s < 4 → AreAtMost 154312704 sums → AreAtMost 1400007171 fares
     → x ≡ min (get_or sums (next_state s (level_by s 0)) 0 + get_or fares (s / 2) 0)
     (get_or sums (next_state s (level_by s 1)) 0 + get_or fares (2 + s / 2) 0) → x ≤ 2000000000
-half_small sums fares s x l few small e =
-    let a = few (next_state s (level_by s 0)) (next_small s (level_by s 0) l) in
-    let b = small (s / 2) (omega arith) in
-    omega (arith, a, b, e)
+half_small sums fares s x l few small e = grind (arith, next_small)
 
 -- the numbers that a mark gives
 pub mark_is : (x y : ℕ) → x < 256 → y < 256 → (s : ℕ) → s < 4
     → (number_of (x + 256 * y) 0 s ≡ x / 2 ^ (2 * s) % 4) × (number_of (x + 256 * y) 1 s ≡ y / 2 ^ (2 * s) % 4)
 mark_is x y l m =
     four (λ s. (number_of (x + 256 * y) 0 s ≡ x / 2 ^ (2 * s) % 4) × (number_of (x + 256 * y) 1 s ≡ y / 2 ^ (2 * s)
-    % 4)) (omega (arith, l, m), omega (arith, l, m)) (omega (arith, l, m), omega (arith, l, m))
-    (omega (arith, l, m), omega (arith, l, m)) (omega (arith, l, m), omega (arith, l, m))
+    % 4)) (omega arith, omega arith) (omega arith, omega arith) (omega arith, omega arith) (omega arith, omega arith)
 
 -- the least of the sums tells the best level and what it comes to
 joined_best : (scale : ℕ) (symbol : ℤ) (pin : ℕ) (old : List (List ℕ)) (p s low high sum : ℕ)
@@ -294,20 +207,16 @@ joined_best : (scale : ℕ) (symbol : ℤ) (pin : ℕ) (old : List (List ℕ)) (
     → IsBest (weight scale symbol) pin old p s (sum % 4)
     × (sum - sum % 4 ≡ through (weight scale symbol) old s (sum % 4))
 joined_best scale symbol pin old p s low high sum small own bounded behind f l first second e =
+    let near : pen_of pin (2 + (0 + p) % 2) ≡ pen_of pin (2 + p) = ap (λ n. pen_of pin (2 + n)) (omega arith) in
+    let told : IsFirstLeast (penned (weight scale symbol) old pin p s) (sum % 4) ×
+    (sum - sum % 4 ≡ penned (weight scale symbol) old pin p s (sum % 4)) =
+    told_by_least (penned (weight scale symbol) old pin p s) sum
+    (λ j m. penned_multiple (weight scale symbol) old pin p s j own behind l m)
+    (omega (arith, near, first, second, e)) in
+    let best : IsBest (weight scale symbol) pin old p s (sum % 4) ×
+    (penned (weight scale symbol) old pin p s (sum % 4) ≡ through (weight scale symbol) old s (sum % 4)) =
+    best_is (weight scale symbol) pin old p s (sum % 4) small bounded f l told.0 in
     (best.0, told.1 ∙ best.1)
-  where
-    near : pen_of pin (2 + (0 + p) % 2) ≡ pen_of pin (2 + p)
-    near = ap (λ n. pen_of pin (2 + n)) (omega arith)
-
-    told : IsFirstLeast (penned (weight scale symbol) old pin p s) (sum % 4)
-        × (sum - sum % 4 ≡ penned (weight scale symbol) old pin p s (sum % 4))
-    told = told_by_least (penned (weight scale symbol) old pin p s) sum
-        (λ j m. penned_multiple (weight scale symbol) old pin p s j own behind l m)
-        (omega (arith, near, first, second, e))
-
-    best : IsBest (weight scale symbol) pin old p s (sum % 4)
-        × (penned (weight scale symbol) old pin p s (sum % 4) ≡ through (weight scale symbol) old s (sum % 4))
-    best = best_is (weight scale symbol) pin old p s (sum % 4) small bounded f l told.0
 
 -- the same, where a mark tells the number, and a sum is what is left
 pub step_is : (scale : ℕ) (symbol : ℤ) (pin : ℕ) (old : List (List ℕ)) (p s low high sum number new : ℕ)
@@ -317,7 +226,5 @@ pub step_is : (scale : ℕ) (symbol : ℤ) (pin : ℕ) (old : List (List ℕ)) (
     → new ≡ sum - sum % 4
     → IsBest (weight scale symbol) pin old p s number × (new ≡ through (weight scale symbol) old s number)
 step_is scale symbol pin old p s low high sum number new small own bounded behind f l first second e n k =
-    let h = joined_best scale symbol pin old p s low high sum small own bounded behind f l first second e in (
-      subst (IsBest (weight scale symbol) pin old p s) (sym n) h.0,
-      k ∙ h.1 ∙ ap (through (weight scale symbol) old s) (sym n),
-    )
+    let h = joined_best scale symbol pin old p s low high sum small own bounded behind f l first second e in
+    (grind arith)

@@ -61,19 +61,14 @@ sets_out scale pins symbols now sums stand s p = record {
 next_is : (q1 q0 k : ℕ) → q1 < 2 → q0 < 2
     → 2 * ((k % 2 + q0) % 2) + q1 ≡ next_state (2 * q1 + q0) (level_by (2 * q1 + q0) k)
 unfolding next_state
-next_is q1 q0 k l m =
-    let a : (2 * q1 + q0) / 2 ≡ q1 = omega arith in
-    let b : (2 * q1 + q0) % 2 ≡ q0 = omega arith in
-    let e : level_by (2 * q1 + q0) k / 2 ≡ k = omega arith in
-    ap₂ (λ x y. 2 * x + y) (ap (λ x. x % 2) (ap₂ (λ x y. x + y) (ap (λ x. x % 2) (sym e)) (sym b))) (sym a)
+next_is q1 q0 k l m = grind arith
 
 -- what levels cost, with one level more
 cost-more : (scale t : ℕ) (symbols : List ℤ) (levels : List ℕ) (z : ℕ) → t < length symbols → length levels ≡ t
     → cost scale (take (t + 1) symbols) (levels ++ (z ∷ []))
     ≡ cost scale (take t symbols) levels + squared (get_or symbols t (pos 0)) (symbol_at scale z)
 unfolding cost
-cost-more scale t symbols levels z l n =
-    ap₂ distance (take_more symbols t (pos 0) l) (map-append (symbol_at scale) levels (z ∷ []))
+cost-more scale t symbols levels z l n = ap₂ distance (take_more symbols t (pos 0) l) (grind (arith, map-append))
     ∙ distance-more (take t symbols) (map (symbol_at scale) levels) (get_or symbols t (pos 0)) (symbol_at scale z)
     (omega (arith, n, length-take t symbols, length-map levels (symbol_at scale)))
 
@@ -123,30 +118,25 @@ goes_further scale pins symbols now t mark old new written l n m next u = record
 
     state_is : state_of new
         ≡ next_state (state_of old) (level_by (state_of old) (number_of mark old.former (state_of old)))
-    state_is =
-        ap₂ (λ x y. 2 * x + y) next.q1 next.q0
+    state_is = ap₂ (λ x y. 2 * x + y) next.q1 next.q0
         ∙ next_is old.q1 old.q0 (number_of mark old.former (state_of old)) u.q1 u.q0
 
     best : IsBestLevel scale (pin_at pins t) (get_or symbols t (pos 0)) m.behind old.former (state_of old)
         (level_by (state_of old) (number_of mark old.former (state_of old)))
-    best =
-        best_level scale (pin_at pins t) (get_or symbols t (pos 0)) m.behind old.former (state_of old)
+    best = best_level scale (pin_at pins t) (get_or symbols t (pos 0)) m.behind old.former (state_of old)
         (number_of mark old.former (state_of old)) u.former_small low
         (m.best old.former (state_of old) u.former_small low)
 
-    longer : (rest : List ℕ)
-        → IsLeastFrom scale (drop (t + 1) pins) (drop (t + 1) symbols)
+    longer : (rest : List ℕ) → IsLeastFrom scale (drop (t + 1) pins) (drop (t + 1) symbols)
         (level_by (state_of old) (number_of mark old.former (state_of old)) / 4)
         (next_state (state_of old) (level_by (state_of old) (number_of mark old.former (state_of old)))) rest
         → IsLeastFrom scale (drop t pins) (drop t symbols) old.former (state_of old)
         (level_by (state_of old) (number_of mark old.former (state_of old)) ∷ rest)
-    longer rest h =
-        subst (λ symbols. IsLeastFrom scale (drop t pins) symbols old.former (state_of old)
+    longer rest h = subst (λ symbols. IsLeastFrom scale (drop t pins) symbols old.former (state_of old)
         (level_by (state_of old) (number_of mark old.former (state_of old)) ∷ rest))
         (sym (drop_more symbols t (pos 0) l))
         (one_more scale (get_or symbols t (pos 0)) (drop t pins) (drop (t + 1) symbols) m.behind old.former
-        (state_of old)
-        (level_by (state_of old) (number_of mark old.former (state_of old))) rest
+        (state_of old) (level_by (state_of old) (number_of mark old.former (state_of old))) rest
         (subst (λ pins. AreLeastCosts scale pins (drop (t + 1) symbols) m.behind)
         (sym (pins_behind pins t (t + 1) refl)) m.least) low
         (subst (λ pin. IsBestLevel scale pin (get_or symbols t (pos 0)) m.behind old.former (state_of old)
@@ -158,15 +148,9 @@ goes_further scale pins symbols now t mark old new written l n m next u = record
 
     by_place : (k : ℕ) → k < t + 1 → (k < t) ⊎ (t ≤ k)
         → get_or now k (pos 0) ≡ symbol_at 1 (get_or (u.levels ++ (level ∷ [])) k 0)
-    by_place k o (inl before) =
-        u.written k before
+    by_place k o (inl before) = u.written k before
         ∙ ap (symbol_at 1) (sym (get_or_append_left u.levels (level ∷ []) 0 k (omega (arith, u.long, before))))
-    by_place k o (inr there) =
-        let here : k ≡ t = omega (arith, o, there) in
-        let none : k - t ≡ 0 = omega (arith, o, there) in
-        ap (λ k. get_or now k (pos 0)) here ∙ n ∙ next.written_is ∙ ap (symbol_at 1) (level_is
-        ∙ sym (get_or-append_right u.levels (level ∷ []) t k 0 u.long there
-        ∙ ap (λ i. get_or (level ∷ []) i 0) none))
+    by_place k o (inr there) = grind (arith, get_or-append_right)
 
 -- several steps further
 pub goes_on : (scale : ℕ) (pins : List ℕ) (symbols now : List ℤ) (t : ℕ) (heard : ℕ → ℤ) (marks : ℕ → ℕ)
@@ -176,10 +160,7 @@ pub goes_on : (scale : ℕ) (pins : List ℕ) (symbols now : List ℤ) (t : ℕ)
     → ((k : ℕ) → k < n → IsMark scale pins symbols (t + k) (marks k))
     → IsTraced scale heard marks written n old new → IsUnderWay scale pins symbols now t old
     → IsUnderWay scale pins symbols now (t + n) new
-goes_on scale pins symbols now t heard marks written zero old new l e f m traced u =
-    let none : t ≡ t + 0 = omega arith in
-    subst (λ t. IsUnderWay scale pins symbols now t new) none
-    (subst (IsUnderWay scale pins symbols now t) (sym traced) u)
+goes_on scale pins symbols now t heard marks written zero old new l e f m traced u = grind arith
 goes_on scale pins symbols now t heard marks written (suc n) old new l e f m traced u =
     let next : t + n + 1 ≡ t + suc n = omega arith in
     subst (λ t. IsUnderWay scale pins symbols now t new) next
@@ -193,40 +174,24 @@ goes_on scale pins symbols now t heard marks written (suc n) old new l e f m tra
 pub goes_elsewhere : (scale : ℕ) (pins : List ℕ) (symbols now other : List ℤ) (t : ℕ) (stand : Stand)
     → ((k : ℕ) → k < t → get_or other k (pos 0) ≡ get_or now k (pos 0)) → IsUnderWay scale pins symbols now t stand
     → IsUnderWay scale pins symbols other t stand
-goes_elsewhere scale pins symbols now other t stand e u = record {
-  former = u.former;
-  start = u.start;
-  levels = u.levels;
-  former_small = u.former_small;
-  q1 = u.q1;
-  q0 = u.q0;
-  long = u.long;
-  goes_on = u.goes_on;
-  written = λ k l. e k l ∙ u.written k l;
-  spent = u.spent;
-  whole = u.whole;
-}
+goes_elsewhere scale pins symbols now other t stand e u = grind (arith, goes_on)
 
 pub arrives : (scale : ℕ) (pins : List ℕ) (symbols now : List ℤ) (t : ℕ) (stand : Stand) → t ≡ length symbols
-    → length now ≡ length symbols → IsUnderWay scale pins symbols now t stand
-    → AreLeastPinned scale 1 pins symbols now
+    → length now ≡ length symbols → IsUnderWay scale pins symbols now t stand → AreLeastPinned scale 1 pins symbols now
     × (stand.cost ≡ cost scale symbols (least_pinned_levels scale pins symbols))
 arrives scale pins symbols now t stand e n u = (
   record { start = u.start; levels = u.levels; least = least; symbols = written },
-  u.spent ∙ ap₂ (cost scale) (take_all t symbols (omega (arith, e)))
-      (sym (least_pinned_levels_are scale pins symbols u.start u.levels least)),
+  u.spent ∙ ap₂ (cost scale) (take_all t symbols (omega (arith, e))) (grind (arith, least_pinned_levels_are, least)),
 )
   where
     least : IsLeastPinned scale pins symbols u.start u.levels
-    least =
-        u.whole u.levels (subst (IsLeastFrom scale pins symbols u.former u.start) (append-nil u.levels)
+    least = u.whole u.levels (subst (IsLeastFrom scale pins symbols u.former u.start) (append-nil u.levels)
         (u.goes_on [] (subst (λ rest. IsLeastFrom scale (drop t pins) rest stand.former (state_of stand) [])
         (sym (drop_all t symbols (omega (arith, e))))
         (nothing_least scale (drop t pins) stand.former (state_of stand)))))
 
     written : now ≡ map (symbol_at 1) u.levels
-    written =
-        fill_by_all (λ k. symbol_at 1 (get_or u.levels k 0)) now t (pos 0) (n ∙ sym e) u.written
+    written = fill_by_all (λ k. symbol_at 1 (get_or u.levels k 0)) now t (pos 0) (n ∙ sym e) u.written
         ∙ sym (fill_by_all (λ k. symbol_at 1 (get_or u.levels k 0)) (map (symbol_at 1) u.levels) t (pos 0)
         (length-map u.levels (symbol_at 1) ∙ u.long)
         (λ k l. get_or-map (symbol_at 1) u.levels k 0 (pos 0) (omega (arith, l, u.long))))

@@ -1,14 +1,12 @@
 -- Sums of weights stand for costs, one step further and at the start.
-use Rattle.std.proofs.Common.{◌≡◌, ℕ, zero, suc, ℤ, pos, ◌+◌, ◌*◌, ◌/◌, ◌<◌, ◌≤◌, ◌⊎◌, inl, inr, ◌+ℤ◌, ◌≤ℤ◌}
-use Rattle.std.proofs.Common.{List, [], ◌∷◌, refl, sym, subst, arith}
+use Rattle.std.proofs.Common.{◌≡◌, ℕ, zero, suc, ℤ, pos, ◌+◌, ◌*◌, ◌<◌, ◌≤◌, ◌+ℤ◌, ◌≤ℤ◌, List, [], ◌∷◌, refl, arith}
 use Rattle.std.proofs.lemmas.Bool.{cases_lt}
 use Rattle.std.proofs.Math.Nat.{mul-add, mul-le-mul_left}
 use Rattle.dtx_soft.specs.Gaps.{unit}
-use Rattle.dtx_soft.specs.Paths.{next_state}
 use Rattle.dtx_soft.proofs.LeastPathLemmas.{next_small}
 use Rattle.dtx_soft.proofs.WritesLemmas.{four}
 use Rattle.dtx_pins.specs.declared.start.Stand.{Stand}
-use Rattle.dtx_pins.specs.Steps.{IsBest, IsStep, cost_at, level_by, number_of, square_of, through}
+use Rattle.dtx_pins.specs.Steps.{IsBest, IsStep, cost_at, number_of, square_of, through}
 use Rattle.dtx_pins.specs.Trace.{IsStart, state_of}
 use Rattle.dtx_pins.specs.Weights.{AreUnits, weight}
 use Rattle.dtx_pins.proofs.WeightTests.{IsWeighed, is_weighed}
@@ -30,19 +28,7 @@ keeps_most : (k lift base x y a b : ℕ) → Stands k lift base x a → Stands k
 keeps_most k lift base x y a b e f l = let g : k * a ≤ k * b = mul-le-mul_left k l in omega (arith, e, f, g)
 
 keeps_same : (k lift base x y a b : ℕ) → 0 < k → Stands k lift base x a → Stands k lift base y b → x ≡ y → a ≡ b
-keeps_same k lift base x y a b s e f h = by_order (cases_lt a b) (cases_lt b a)
-  where
-    never : (c d : ℕ) → c < d → k * c ≡ k * d → ⊥
-    never c d l t =
-        let g : k * (c + 1) ≤ k * d = mul-le-mul_left k (omega arith) in omega (arith, g, s, t, mul-add k c 1)
-
-    alike : k * a ≡ k * b
-    alike = omega (arith, e, f, h)
-
-    by_order : (a < b) ⊎ (b ≤ a) → (b < a) ⊎ (a ≤ b) → a ≡ b
-    by_order (inl l) m = absurd (never a b l alike)
-    by_order (inr l) (inl m) = absurd (never b a m (sym alike))
-    by_order (inr l) (inr m) = omega arith
+keeps_same k lift base x y a b s e f h = grind (arith, cases_lt, mul-le-mul_left, mul-add)
 
 -- ---- one step
 
@@ -50,14 +36,7 @@ through_units : (scale : ℕ) (symbol : ℤ) (costs sums : List (List ℕ)) (u :
     → ((z : ℕ) → z < 8 → IsWeighed scale symbol z) → (s k : ℕ) → s < 4 → k < 4
     → Stands (unit scale) (3584 + u.lift) (4 * square_of scale symbol 0 + u.base)
     (through (square_of scale symbol) costs s k) (through (weight scale symbol) sums s k)
-through_units scale symbol costs sums u w s k l m =
-    let own = (w (level_by s k) (omega arith)).units in
-    let behind = u.each (k / 2) (next_state s (level_by s k)) (omega arith) (next_small s (level_by s k) l) in
-    sum (unit scale) 3584 u.lift (4 * square_of scale symbol 0) u.base _ _ _ _ own behind
-  where
-    sum : (k l j b a m p n q : ℕ) → 4 * m + k * l ≡ b + k * n → 4 * p + k * j ≡ a + k * q
-        → 4 * (m + p) + k * (l + j) ≡ b + a + k * (n + q)
-    sum k l j b a m p n q e f = omega (arith, mul-add k l j, mul-add k n q, e, f)
+through_units scale symbol costs sums u w s k l m = grind (arith, next_small, mul-add)
 
 best_units : (scale : ℕ) (symbol : ℤ) (pin : ℕ) (costs sums : List (List ℕ)) → AreUnits (unit scale) costs sums
     → ((z : ℕ) → z < 8 → IsWeighed scale symbol z) → (p s k : ℕ) → s < 4
@@ -103,11 +82,7 @@ step_units scale symbol pin costs old new mark l from to u h = record {
   units = record {
     base = 4 * square_of scale symbol 0 + u.base;
     lift = 3584 + u.lift;
-    each = λ p s f m. subst (λ x. Stands (unit scale) (3584 + u.lift) (4 * square_of scale symbol 0 + u.base) x
-        (cost_at new p s)) (sym (listed_at after p s f m))
-        (subst (Stands (unit scale) (3584 + u.lift) (4 * square_of scale symbol 0 + u.base) (after p s))
-        (sym (h.costs p s f m))
-        (through_units scale symbol costs old u weighed s (number_of mark p s) m (h.best p s f m).small));
+    each = λ p s f m. grind (arith, listed_at, after, through_units, weighed);
   };
 }
   where
@@ -127,8 +102,7 @@ start_units scale pin costs sums stand u h = record {
   q0 = h.q0;
   cost = h.cost;
   least = λ p s f m. keeps_most (unit scale) u.lift u.base _ _ _ _ own (u.each p s f m) (h.least p s f m);
-  first = λ p s f m e. h.first p s f m
-      (keeps_same (unit scale) u.lift u.base _ _ _ _ (unit_some scale) (u.each p s f m) own e);
+  first = λ p s f m e. h.first p s f m (grind (arith, keeps_same, unit_some, own));
 }
   where
     own : Stands (unit scale) u.lift u.base (cost_at costs stand.former (state_of stand))

@@ -32,8 +32,7 @@ eight P a b c d e f g h (suc (suc (suc (suc (suc (suc (suc (suc z)))))))) l = ab
 
 product : (scale z : ℕ) → z < 8 → pos scale *ℤ (pos (2 * z) -ℤ pos 7) ≡ symbol_at scale z
 unfolding symbol_at
-product scale =
-    eight (λ z. pos scale *ℤ (pos (2 * z) -ℤ pos 7) ≡ pos (scale * (2 * z)) -ℤ pos (scale * 7))
+product scale = eight (λ z. pos scale *ℤ (pos (2 * z) -ℤ pos 7) ≡ pos (scale * (2 * z)) -ℤ pos (scale * 7))
     (omega (arith, ints)) (omega (arith, ints)) (omega (arith, ints)) (omega (arith, ints)) (omega (arith, ints))
     (omega (arith, ints)) (omega (arith, ints)) (omega (arith, ints))
 
@@ -62,16 +61,14 @@ narrow : (v : ℤ) → pos 0 ≤ℤ (v +ℤ pos 126) → v ≤ℤ pos 126 → SF
 narrow v l m = omega (arith, ints)
 
 pub is_scaled : (scale z : ℕ) → scale ≤ 18 → z < 8 → IsScaled scale z
-is_scaled scale z l m = record {
-  fits = subst (SFits w16) (sym value) fits;
-  symbol = ap (read w16) value ∙ to_z-of_z w16 (symbol_at scale z) fits;
-  written = ap (read w8) (computed_is z m) ∙ at_one z m;
-  from = from_low scale z l;
-  to = to_high scale l z m;
-}
-  where
-    value : to_z w16 scale *ℤ computed z ≡ symbol_at scale z
-    value = ap₂ (λ a b. a *ℤ b) (wide scale l) (computed_is z m) ∙ product scale z m
-
-    fits : SFits w16 (symbol_at scale z)
-    fits = narrow (symbol_at scale z) (from_low scale z l) (to_high scale l z m)
+is_scaled scale z l m =
+    let value : to_z w16 scale *ℤ computed z ≡ symbol_at scale z =
+    ap₂ (λ a b. a *ℤ b) (wide scale l) (computed_is z m) ∙ product scale z m in
+    let fits : SFits w16 (symbol_at scale z) = narrow (symbol_at scale z) (from_low scale z l) (to_high scale l z m) in
+    record {
+      fits = subst (SFits w16) (sym value) fits;
+      symbol = ap (read w16) value ∙ to_z-of_z w16 (symbol_at scale z) fits;
+      written = ap (read w8) (computed_is z m) ∙ at_one z m;
+      from = from_low scale z l;
+      to = to_high scale l z m;
+    }

@@ -1,10 +1,10 @@
 -- A coder's path, one step further.
-use Rattle.std.proofs.Common.{◌≡◌, ◌≢◌, ◌⊎◌, inl, inr, ℕ, zero, suc, ℤ, pos, ◌+◌, ◌*◌, ◌<◌, ◌≤◌, ◌+ℤ◌, ◌≤ℤ◌}
-use Rattle.std.proofs.Common.{neg_ℤ, ◌*ℤ◌, Bool, [], length, w8}
+use Rattle.std.proofs.Common.{◌≡◌, ◌≢◌, ◌⊎◌, inl, inr, ℕ, zero, suc, ℤ, pos, ◌+◌, ◌*◌, ◌<◌, ◌≤◌, ◌+ℤ◌, ◌≤ℤ◌, ◌*ℤ◌, []}
+use Rattle.std.proofs.Common.{length, w8}
 use mir.Syntax.{w16, w32}
 use mir.Val.{SFits}
 use Rattle.dtx_soft.proofs.WrapsLemmas.{read, sum_read}
-use Rattle.std.proofs.Common.{true, false, cond, nat_eq, List, get_or, sym, ap, ◌∙◌, subst, arith}
+use Rattle.std.proofs.Common.{List, get_or, sym, ◌∙◌, subst, arith}
 use Rattle.std.proofs.lemmas.Bool.{cases_eq}
 use Rattle.std.proofs.lemmas.Int.{ints}
 use Rattle.std.proofs.lemmas.List.{get_or_default}
@@ -19,67 +19,15 @@ pub record IsSigned (bit k : ℕ) (number : ℤ) : Type 0 where
   pub from : pos 0 ≤ℤ (number +ℤ pos k)
   pub to : number ≤ℤ pos k
 
-pub is_signed : (bit k : ℕ) (number whole : ℤ) → number ≡ signed bit whole → whole ≡ pos k
-    → IsSigned bit k number
-is_signed bit k number whole e f = record {
-  is = e ∙ ap (signed bit) f;
-  from = subst (λ x. pos 0 ≤ℤ (x +ℤ pos k)) (sym (e ∙ ap (signed bit) f)) (from (nat_eq bit 0));
-  to = subst (λ x. x ≤ℤ pos k) (sym (e ∙ ap (signed bit) f)) (to (nat_eq bit 0));
-}
-  where
-    from : (t : Bool) → pos 0 ≤ℤ (cond t (pos k) (neg_ℤ (pos k)) +ℤ pos k)
-    from true = omega (arith, ints)
-    from false = omega (arith, ints)
-
-    to : (t : Bool) → cond t (pos k) (neg_ℤ (pos k)) ≤ℤ pos k
-    to true = omega (arith, ints)
-    to false = omega (arith, ints)
+pub is_signed : (bit k : ℕ) (number whole : ℤ) → number ≡ signed bit whole → whole ≡ pos k → IsSigned bit k number
+is_signed bit k number whole e f = grind (arith, ints)
 
 pub same_excess : (a b : Excess ℤ) → a.far ≡ b.far → a.near ≡ b.near → a.other_near ≡ b.other_near
     → a.both ≡ b.both → a.other_both ≡ b.other_both → a ≡ b
-same_excess a b e f g h i =
-    ap (λ (x : ℤ). record {
-      far = x;
-      near = a.near;
-      other_near = a.other_near;
-      both = a.both;
-      other_both = a.other_both;
-    }) e
-    ∙ ap (λ (x : ℤ). record {
-      far = b.far;
-      near = x;
-      other_near = a.other_near;
-      both = a.both;
-      other_both = a.other_both;
-    }) f
-    ∙ ap (λ (x : ℤ). record {
-      far = b.far;
-      near = b.near;
-      other_near = x;
-      both = a.both;
-      other_both = a.other_both;
-    }) g
-    ∙ ap (λ (x : ℤ). record {
-      far = b.far;
-      near = b.near;
-      other_near = b.other_near;
-      both = x;
-      other_both = a.other_both;
-    }) h
-    ∙ ap (λ (x : ℤ). record {
-      far = b.far;
-      near = b.near;
-      other_near = b.other_near;
-      both = b.both;
-      other_both = x;
-    }) i
+same_excess a b e f g h i = grind arith
 
 pub same_lane : (a b : Lane) → a.former ≡ b.former → a.q1 ≡ b.q1 → a.q0 ≡ b.q0 → a.more ≡ b.more → a ≡ b
-same_lane a b e f g h =
-    ap (λ (x : ℕ). record { former = x; q1 = a.q1; q0 = a.q0; more = a.more }) e
-    ∙ ap (λ (x : ℕ). record { former = b.former; q1 = x; q0 = a.q0; more = a.more }) f
-    ∙ ap (λ (x : ℕ). record { former = b.former; q1 = b.q1; q0 = x; more = a.more }) g
-    ∙ ap (λ (x : Excess ℤ). record { former = b.former; q1 = b.q1; q0 = b.q0; more = x }) h
+same_lane a b e f g h = grind arith
 
 -- the first n coders have taken a step, and the others have not
 pub record AreLanesAfter (scale : ℕ) (pins : List ℕ) (symbols : List ℤ) (n : ℕ) (old new : ℕ → Lane) : Type 0 where
@@ -89,13 +37,15 @@ pub record AreLanesAfter (scale : ℕ) (pins : List ℕ) (symbols : List ℤ) (n
   pub bytes : (k : ℕ) → k < n → SFits w8 (get_or symbols k (pos 0))
 
 pub lane_stepped : (scale : ℕ) (pins : List ℕ) (symbols : List ℤ) (n : ℕ) (old now new : ℕ → Lane)
-    → ((k : ℕ) → k ≢ n → new k ≡ now k)
-    → new n ≡ lane_after scale (get_or pins n 0) (get_or symbols n (pos 0)) (old n)
+    → ((k : ℕ) → k ≢ n → new k ≡ now k) → new n ≡ lane_after scale (get_or pins n 0) (get_or symbols n (pos 0)) (old n)
     → ((m : ℕ) → IsLane m (old n) → IsLane (m + 1) (new n)) → SFits w8 (get_or symbols n (pos 0))
     → AreLanesAfter scale pins symbols n old now → AreLanesAfter scale pins symbols (n + 1) old new
 lane_stepped scale pins symbols n old now new others step small byte h = record {
   done = λ k l. done k l (cases_eq k n);
-  small = λ m k l lane. small_at m k l lane (cases_eq k n);
+  small = λ m k l lane. elim (cases_eq k n) [
+    | inl e ↦ subst (λ k. IsLane (m + 1) (new k)) (sym e) (small m (subst (λ k. IsLane m (old k)) e lane))
+    | inr d ↦ subst (IsLane (m + 1)) (sym (others k d)) (h.small m k (omega arith) lane)
+  ];
   left = λ k l. others k (λ e. absurd (omega arith)) ∙ h.left k (omega arith);
   bytes = λ k l. byte_at k l (cases_eq k n);
 }
@@ -109,11 +59,6 @@ lane_stepped scale pins symbols n old now new others step small byte h = record 
     byte_at : (k : ℕ) → k < n + 1 → (k ≡ n) ⊎ (k ≢ n) → SFits w8 (get_or symbols k (pos 0))
     byte_at k l (inl e) = subst (λ k. SFits w8 (get_or symbols k (pos 0))) (sym e) byte
     byte_at k l (inr d) = h.bytes k (omega arith)
-
-    small_at : (m k : ℕ) → k < n + 1 → IsLane m (old k) → (k ≡ n) ⊎ (k ≢ n) → IsLane (m + 1) (new k)
-    small_at m k l lane (inl e) =
-        subst (λ k. IsLane (m + 1) (new k)) (sym e) (small m (subst (λ k. IsLane m (old k)) e lane))
-    small_at m k l lane (inr d) = subst (IsLane (m + 1)) (sym (others k d)) (h.small m k (omega arith) lane)
 
 -- fewer steps
 pub within_more : (m n : ℕ) (more : Excess ℤ) → m ≤ n → IsWithin m more → IsWithin n more
@@ -142,8 +87,7 @@ lane_more m n lane l h = record {
 pub summed : (a b x : ℤ) → pos 0 ≤ℤ (a +ℤ pos 16320) → a ≤ℤ pos 16320 → pos 0 ≤ℤ (b +ℤ pos 240) → b ≤ℤ pos 240
     → b ≡ x → read w16 (read w16 a +ℤ read w16 b) ≡ a +ℤ x
 summed a b x from to b_from b_to e =
-    sum_read w16 (read w16 a) (read w16 b) a b (omega (arith, ints)) (omega (arith, ints)) (omega (arith, ints))
-    ∙ ap (λ x. a +ℤ x) e
+    rw (sum_read w16 (read w16 a) (read w16 b) a b (omega (arith, ints)) (omega (arith, ints)) (omega (arith, ints)), e)
 
 -- a number where a bit is 1
 pub record IsBit (bit k : ℕ) (number whole : ℤ) : Type 0 where
@@ -153,19 +97,7 @@ pub record IsBit (bit k : ℕ) (number whole : ℤ) : Type 0 where
 
 pub is_bit : (bit k : ℕ) (number raw whole : ℤ) → number ≡ if_bit bit raw → raw ≡ whole
     → pos 0 ≤ℤ (whole +ℤ pos k) → whole ≤ℤ pos k → IsBit bit k number whole
-is_bit bit k number raw whole e f from to = record {
-  is = e ∙ ap (if_bit bit) f;
-  from = subst (λ x. pos 0 ≤ℤ (x +ℤ pos k)) (sym (e ∙ ap (if_bit bit) f)) (from_of (nat_eq bit 0));
-  to = subst (λ x. x ≤ℤ pos k) (sym (e ∙ ap (if_bit bit) f)) (to_of (nat_eq bit 0));
-}
-  where
-    from_of : (t : Bool) → pos 0 ≤ℤ (cond t (pos 0) whole +ℤ pos k)
-    from_of true = omega (arith, ints)
-    from_of false = from
-
-    to_of : (t : Bool) → cond t (pos 0) whole ≤ℤ pos k
-    to_of true = omega (arith, ints)
-    to_of false = to
+is_bit bit k number raw whole e f from to = grind (arith, ints)
 
 -- each of two, and of eight
 pub two : (P : ℕ → Type 0) → P 0 → P 1 → (k : ℕ) → k < 2 → P k
@@ -186,29 +118,11 @@ each_two P c d e f p a l m = two (λ p. P p a) (two (P 0) c d a m) (two (P 1) e 
 pub pin_kept : (old now : List (List ℕ)) (r e : ℕ) → r < 69 → e < 12 → r < length old
     → ((i : ℕ) → i < length old → length (get_or old i []) ≡ 12) → ((i : ℕ) → r ≤ i → get_or now i [] ≡ get_or old i [])
     → get_or (get_or now r []) e 0 ≡ pin_at (get_or old r []) e
-pin_kept old now r e m l within long left =
-    ap (λ row. get_or row e 0) (left r (omega arith))
-    ∙ get_or_default (get_or old r []) e 0 4 (omega (arith, long r within))
+pin_kept old now r e m l within long left = grind (arith, get_or_default)
 
 -- sums that begin anew
 pub emptied_lane : (n : ℕ) (lane : Lane) → IsLane n lane → IsLane 0 (emptied lane)
-emptied_lane n lane h = record {
-  former = h.former;
-  q1 = h.q1;
-  q0 = h.q0;
-  small = record {
-    far_from = omega (arith, ints);
-    far_to = omega (arith, ints);
-    near_from = omega (arith, ints);
-    near_to = omega (arith, ints);
-    other_near_from = omega (arith, ints);
-    other_near_to = omega (arith, ints);
-    both_from = omega (arith, ints);
-    both_to = omega (arith, ints);
-    other_both_from = omega (arith, ints);
-    other_both_to = omega (arith, ints);
-  };
-}
+emptied_lane n lane h = grind (arith, ints)
 
 -- sums with those of the steps before them
 pub within_sum : (m n k : ℕ) (total more : Excess ℤ) → k ≡ m + n → IsWithin m total → IsWithin n more
@@ -227,23 +141,7 @@ within_sum m n k total more e h g = record {
 }
 
 pub beginning_lane : IsLane 0 beginning
-beginning_lane = record {
-  former = omega arith;
-  q1 = omega arith;
-  q0 = omega arith;
-  small = record {
-    far_from = omega (arith, ints);
-    far_to = omega (arith, ints);
-    near_from = omega (arith, ints);
-    near_to = omega (arith, ints);
-    other_near_from = omega (arith, ints);
-    other_near_to = omega (arith, ints);
-    both_from = omega (arith, ints);
-    both_to = omega (arith, ints);
-    other_both_from = omega (arith, ints);
-    other_both_to = omega (arith, ints);
-  };
-}
+beginning_lane = grind (arith, ints)
 
 -- sums of a lane behind a step
 pub record IsSum (n : ℕ) (x : ℤ) : Type 0 where
@@ -251,8 +149,7 @@ pub record IsSum (n : ℕ) (x : ℤ) : Type 0 where
   pub to : x ≤ℤ pos (240 * (n + 1))
 
 pub sum_more : (n : ℕ) (a b : ℤ) → pos 0 ≤ℤ (a +ℤ pos 16320) → a ≤ℤ pos 16320 → pos 0 ≤ℤ (b +ℤ pos 240)
-    → b ≤ℤ pos 240 → pos 0 ≤ℤ (a +ℤ pos (240 * n)) → a ≤ℤ pos (240 * n)
-    → IsSum n (read w16 (read w16 a +ℤ read w16 b))
+    → b ≤ℤ pos 240 → pos 0 ≤ℤ (a +ℤ pos (240 * n)) → a ≤ℤ pos (240 * n) → IsSum n (read w16 (read w16 a +ℤ read w16 b))
 sum_more n a b a_from a_to b_from b_to from to = record {
   from = omega (arith, ints, a_from, a_to, b_from, b_to, from);
   to = omega (arith, ints, a_from, a_to, b_from, b_to, to);
@@ -269,11 +166,9 @@ sum_kept n a a_from a_to from to = record {
 pub four_times : (bit : ℕ) (number x : ℤ) → number ≡ if_bit bit (read w32 (pos 4 *ℤ read w32 x))
     → pos 0 ≤ℤ (x +ℤ pos 5166720) → x ≤ℤ pos 5166720 → IsBit bit 20666880 number (pos 4 *ℤ x)
 four_times bit number x e from to =
-    is_bit bit 20666880 number _ (pos 4 *ℤ x) e (omega (arith, ints, from, to)) (omega (arith, ints, from, to))
-    (omega (arith, ints, from, to))
+    is_bit bit 20666880 number _ (pos 4 *ℤ x) e (omega (arith, ints)) (omega (arith, ints)) (omega (arith, ints))
 
 pub times_32 : (bit : ℕ) (number x : ℤ) → number ≡ if_bit bit (read w32 (pos 32 *ℤ read w32 x))
     → pos 0 ≤ℤ (x +ℤ pos 5166720) → x ≤ℤ pos 5166720 → IsBit bit 165335040 number (pos 32 *ℤ x)
 times_32 bit number x e from to =
-    is_bit bit 165335040 number _ (pos 32 *ℤ x) e (omega (arith, ints, from, to)) (omega (arith, ints, from, to))
-    (omega (arith, ints, from, to))
+    is_bit bit 165335040 number _ (pos 32 *ℤ x) e (omega (arith, ints)) (omega (arith, ints)) (omega (arith, ints))

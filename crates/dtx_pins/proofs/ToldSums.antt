@@ -1,9 +1,7 @@
 -- What paths from other beginnings weigh, where all pairs are known.
-use Rattle.std.proofs.Common.{◌≡◌, ℕ, zero, suc, ℤ, pos, ◌+◌, ◌*◌, ◌/◌, ◌%◌, ◌<◌, ◌≤◌, ◌-◌, ◌+ℤ◌, ◌-ℤ◌, ◌*ℤ◌}
-use Rattle.std.proofs.Common.{Bool}
-use Rattle.std.proofs.Common.{true, false, cond, nat_abs, nat_eq, List, [], ◌∷◌, length, drop, refl, sym, ap, ap₂, ◌∙◌}
-use Rattle.std.proofs.Common.{subst}
-use Rattle.std.proofs.Common.{get_or, w8, arith}
+use Rattle.std.proofs.Common.{◌≡◌, ℕ, suc, ℤ, pos, ◌+◌, ◌*◌, ◌/◌, ◌%◌, ◌<◌, ◌≤◌, ◌-◌, ◌+ℤ◌, ◌-ℤ◌, ◌*ℤ◌, Bool, true}
+use Rattle.std.proofs.Common.{false, cond, nat_eq, List, [], ◌∷◌, length, drop, refl, sym, ap, ap₂, ◌∙◌, subst, get_or}
+use Rattle.std.proofs.Common.{w8, arith}
 use mir.Val.{SFits}
 use Rattle.std.proofs.lemmas.Bool.Decides.{nat_tests}
 use Rattle.std.proofs.lemmas.Int.{ints}
@@ -36,8 +34,7 @@ bytes_behind v symbols bytes t l = bytes (suc t) (omega arith)
 -- what the path from a former Z2 and a state weighs
 abbrev pub told_weight : ℕ → List ℕ → List ℤ → ℕ → ℕ → ℕ
 told_weight scale pins [] former state = 0
-told_weight scale pins (v ∷ symbols) former state =
-    weight scale v (told_level (pin_at pins 0) former state)
+told_weight scale pins (v ∷ symbols) former state = weight scale v (told_level (pin_at pins 0) former state)
     + told_weight scale (drop 1 pins) symbols (told_level (pin_at pins 0) former state / 4)
     (next_state state (told_level (pin_at pins 0) former state))
 
@@ -48,9 +45,7 @@ base_of scale (v ∷ symbols) = 4 * square_of scale v 0 + base_of scale symbols
 
 sum_units : (k n b m p q w c : ℕ) → 4 * p + k * 3584 ≡ b + k * w → 4 * q + k * (3584 * n) ≡ c + k * m
     → 4 * (p + q) + k * (3584 * suc n) ≡ b + c + k * (w + m)
-sum_units k n b m p q w c e f =
-    let g : k * (3584 * suc n) ≡ k * (3584 + 3584 * n) = ap (λ x. k * x) (omega arith) in
-    omega (arith, g, mul-add k 3584 (3584 * n), mul-add k w m, e, f)
+sum_units k n b m p q w c e f = grind (arith, mul-add)
 
 pub told_units : (scale : ℕ) (pins : List ℕ) (symbols : List ℤ) (former state : ℕ) → scale ≤ 18 → former < 2
     → state < 4 → AreBytes symbols
@@ -58,34 +53,23 @@ pub told_units : (scale : ℕ) (pins : List ℕ) (symbols : List ℤ) (former st
     ≡ base_of scale symbols + unit scale * told_weight scale pins symbols former state
 told_units scale pins [] former state l f m bytes = refl
 told_units scale pins (v ∷ symbols) former state l f m bytes =
+    let z : ℕ = told_level (pin_at pins 0) former state in
+    let byte : SFits w8 v = bytes 0 (omega arith) in
+    let small : told_level (pin_at pins 0) former state < 8 = omega arith in
     sum_units (unit scale) (length symbols) (4 * square_of scale v 0) _ _ _ _ (base_of scale symbols)
     (is_weighed scale v z l (omega (arith, ints, byte)) (omega (arith, ints, byte)) small).units
     (told_units scale (drop 1 pins) symbols (z / 4) (next_state state z) l (omega arith) (next_small state z m)
     (bytes_behind v symbols bytes))
-  where
-    z : ℕ
-    z = told_level (pin_at pins 0) former state
-
-    byte : SFits w8 v
-    byte = bytes 0 (omega arith)
-
-    small : told_level (pin_at pins 0) former state < 8
-    small = omega arith
 
 -- ---- one step
 
 depth_is : (scale : ℕ) (v : ℤ) → 0 < scale → SFits w8 v → pos (depth scale v) ≡ (pos 127 -ℤ v)
 unfolding depth
-depth_is scale v l fits = by_test (nat_eq scale 0) (grind (arith, nat_tests))
-  where
-    by_test : (t : Bool) → t ≡ false → pos (nat_abs (pos 127 -ℤ cond t (pos 0) v)) ≡ (pos 127 -ℤ v)
-    by_test true e = absurd cc
-    by_test false e = omega (arith, ints, fits)
+depth_is scale v l fits = grind (arith, nat_tests, ints)
 
 -- the level with another Z2 where p is 1, and another Z0 where a is 1
 abbrev FlipsTo : ℕ → ℤ → ℕ → ℕ → ℕ → ℕ → ℕ → Type 0
-FlipsTo scale v z2 x1 q1 p a =
-    (pos (weight scale v (4 * ((z2 + p) % 2) + 2 * x1 + (q1 + a) % 2))
+FlipsTo scale v z2 x1 q1 p a = (pos (weight scale v (4 * ((z2 + p) % 2) + 2 * x1 + (q1 + a) % 2))
     +ℤ (if_bit p (pos 16 *ℤ far_by scale z2 x1 q1 v) +ℤ if_bit a (pos 4 *ℤ near_by scale z2 x1 q1 v)))
     ≡ (pos (weight scale v (4 * z2 + 2 * x1 + q1)) +ℤ if_bit p (if_bit a (pos 32 *ℤ both_by scale z2 q1)))
 
@@ -110,14 +94,12 @@ flips_to scale v z2 x1 q1 p a from to fits l m n o k =
     (each_two (FlipsTo scale v 1 1 0) (omega (arith, ints, d)) (omega (arith, ints, d)) (omega (arith, ints, d))
     (omega (arith, ints, d)))
     (each_two (FlipsTo scale v 1 1 1) (omega (arith, ints, d)) (omega (arith, ints, d)) (omega (arith, ints, d))
-    (omega (arith, ints, d)))
-    z2 x1 q1 l m n p a o k
+    (omega (arith, ints, d))) z2 x1 q1 l m n p a o k
 
 -- a step's weight, and what the path weighs less before it and behind it
 step_weight : (p a b : ℕ) (more : Excess ℤ) (far near both : ℤ) (w start : ℕ) → p < 2 → a < 2 → b < 2
     → (pos w +ℤ (if_bit p (pos 16 *ℤ far) +ℤ if_bit a (pos 4 *ℤ near)))
-    ≡ (pos start +ℤ if_bit p (if_bit a (pos 32 *ℤ both)))
-    → (pos w +ℤ less_by p b a (record {
+    ≡ (pos start +ℤ if_bit p (if_bit a (pos 32 *ℤ both))) → (pos w +ℤ less_by p b a (record {
       far = more.far +ℤ far;
       near = more.other_near;
       other_near = more.near +ℤ near;
@@ -126,8 +108,7 @@ step_weight : (p a b : ℕ) (more : Excess ℤ) (far near both : ℤ) (w start :
     })) ≡ (pos start +ℤ less_by p a b more)
 step_weight p a b more far near both w start l m n =
     eight (λ p a b. (pos w +ℤ (if_bit p (pos 16 *ℤ far) +ℤ if_bit a (pos 4 *ℤ near)))
-    ≡ (pos start +ℤ if_bit p (if_bit a (pos 32 *ℤ both)))
-    → (pos w +ℤ less_by p b a (record {
+    ≡ (pos start +ℤ if_bit p (if_bit a (pos 32 *ℤ both))) → (pos w +ℤ less_by p b a (record {
       far = more.far +ℤ far;
       near = more.other_near;
       other_near = more.near +ℤ near;
@@ -165,30 +146,17 @@ flipped_weight scale pins symbols lane p a b =
 flipped_more : (scale : ℕ) (pins : List ℕ) (v : ℤ) (symbols : List ℤ) (p a b pin former q1 q0 : ℕ) → pin < 4
     → former < 2 → q1 < 2 → q0 < 2 → p < 2 → a < 2 → b < 2
     → weight scale v (told_level pin ((former + p) % 2) (2 * ((q1 + a) % 2) + (q0 + b) % 2))
-    + told_weight scale pins symbols
-    (told_level pin ((former + p) % 2) (2 * ((q1 + a) % 2) + (q0 + b) % 2) / 4)
+    + told_weight scale pins symbols (told_level pin ((former + p) % 2) (2 * ((q1 + a) % 2) + (q0 + b) % 2) / 4)
     (next_state (2 * ((q1 + a) % 2) + (q0 + b) % 2)
     (told_level pin ((former + p) % 2) (2 * ((q1 + a) % 2) + (q0 + b) % 2)))
     ≡ weight scale v (4 * (((former + pin / 2) % 2 + p) % 2) + 2 * (pin % 2) + (q1 + a) % 2)
     + told_weight scale pins symbols (((former + pin / 2) % 2 + p) % 2)
     (2 * (((pin % 2 + q0) % 2 + b) % 2) + (q1 + a) % 2)
 unfolding next_state
-flipped_more scale pins v symbols p a b pin former q1 q0 l f g h m n o =
-    let z : told_level pin ((former + p) % 2) (2 * ((q1 + a) % 2) + (q0 + b) % 2)
-    ≡ 4 * (((former + pin / 2) % 2 + p) % 2) + 2 * (pin % 2) + (q1 + a) % 2 = omega arith in
-    let z2 : told_level pin ((former + p) % 2) (2 * ((q1 + a) % 2) + (q0 + b) % 2) / 4
-    ≡ ((former + pin / 2) % 2 + p) % 2 = omega (arith, z) in
-    let state : next_state (2 * ((q1 + a) % 2) + (q0 + b) % 2)
-    (told_level pin ((former + p) % 2) (2 * ((q1 + a) % 2) + (q0 + b) % 2))
-    ≡ 2 * (((pin % 2 + q0) % 2 + b) % 2) + (q1 + a) % 2 = omega (arith, z) in
-    ap₂ (λ x y. x + y) (ap (weight scale v) z) (ap₂ (told_weight scale pins symbols) z2 state)
+flipped_more scale pins v symbols p a b pin former q1 q0 l f g h m n o = grind (arith, told_level)
 
 bits_after : (scale pin : ℕ) (v : ℤ) (lane : Lane) → HasBits lane → HasBits (lane_after scale pin v lane)
-bits_after scale pin v lane bits = record {
-  former = omega arith;
-  q1 = omega arith;
-  q0 = bits.q1;
-}
+bits_after scale pin v lane bits = grind arith
 
 both_steps : (w start t rest : ℕ) (e d c : ℤ) → (pos t +ℤ e) ≡ (pos rest +ℤ d) → (pos w +ℤ d) ≡ (pos start +ℤ c)
     → (pos (w + t) +ℤ e) ≡ (pos (start + rest) +ℤ c)
@@ -201,6 +169,8 @@ pub told_difference : (scale : ℕ) (pins : List ℕ) (symbols : List ℤ) (lane
     ≡ (pos (flipped_weight scale pins symbols lane 0 0 0) +ℤ less_by p a b lane.more)
 told_difference scale pins [] lane p a b from to told bytes bits l m n = refl
 told_difference scale pins (v ∷ symbols) lane p a b from to told bytes bits l m n =
+    let next : Lane = lane_after scale (pin_at pins 0) v lane in
+    let end : Lane = lane_at_end scale (drop 1 pins) symbols (lane_after scale (pin_at pins 0) v lane) in
     subst (λ x. (pos x +ℤ less_at_end p b a symbols end.more)
     ≡ (pos (flipped_weight scale pins (v ∷ symbols) lane 0 0 0) +ℤ less_by p a b lane.more))
     (sym (flipped_more scale (drop 1 pins) v symbols p a b (pin_at pins 0) lane.former lane.q1 lane.q0
@@ -228,19 +198,12 @@ told_difference scale pins (v ∷ symbols) lane p a b from to told bytes bits l 
     z : ℕ → ℕ → ℕ
     z p a = 4 * (((lane.former + pin_at pins 0 / 2) % 2 + p) % 2) + 2 * (pin_at pins 0 % 2) + (lane.q1 + a) % 2
 
-    next : Lane
-    next = lane_after scale (pin_at pins 0) v lane
-
-    end : Lane
-    end = lane_at_end scale (drop 1 pins) symbols (lane_after scale (pin_at pins 0) v lane)
-
     flips : (z2 x1 q1 p a : ℕ) → z2 < 2 → x1 < 2 → q1 < 2 → p < 2 → a < 2
         → (pos (weight scale v (4 * ((z2 + p) % 2) + 2 * x1 + (q1 + a) % 2))
         +ℤ (if_bit p (pos 16 *ℤ far_by scale z2 x1 q1 v) +ℤ if_bit a (pos 4 *ℤ near_by scale z2 x1 q1 v)))
         ≡ (pos (weight scale v (4 * ((z2 + 0) % 2) + 2 * x1 + (q1 + 0) % 2))
         +ℤ if_bit p (if_bit a (pos 32 *ℤ both_by scale z2 q1)))
-    flips z2 x1 q1 p a f g h l m =
-        subst (λ z. (pos (weight scale v (4 * ((z2 + p) % 2) + 2 * x1 + (q1 + a) % 2))
+    flips z2 x1 q1 p a f g h l m = subst (λ z. (pos (weight scale v (4 * ((z2 + p) % 2) + 2 * x1 + (q1 + a) % 2))
         +ℤ (if_bit p (pos 16 *ℤ far_by scale z2 x1 q1 v) +ℤ if_bit a (pos 4 *ℤ near_by scale z2 x1 q1 v)))
         ≡ (pos (weight scale v z) +ℤ if_bit p (if_bit a (pos 32 *ℤ both_by scale z2 q1)))) (omega arith)
         (flips_to scale v z2 x1 q1 p a from to (bytes 0 (omega arith)) f g h l m)
@@ -266,12 +229,8 @@ swapped x y = omega (arith, ints)
 less_picked : (t : Bool) (p a b : ℕ) (more : Excess ℤ)
     → less_by p b a (picked t more) ≡ less_by p a b (picked (not t) more)
 unfolding picked not
-less_picked true p a b more =
-    ap₂ (λ x y. if_bit p ((pos 16 *ℤ more.far) -ℤ x) +ℤ y)
-    (swapped (if_bit b (pos 32 *ℤ more.both)) (if_bit a (pos 32 *ℤ more.other_both)))
-    (swapped (if_bit b (pos 4 *ℤ more.near)) (if_bit a (pos 4 *ℤ more.other_near)))
-less_picked false p a b more =
-    ap₂ (λ x y. if_bit p ((pos 16 *ℤ more.far) -ℤ x) +ℤ y)
+less_picked true p a b more = grind (arith, swapped)
+less_picked false p a b more = ap₂ (λ x y. if_bit p ((pos 16 *ℤ more.far) -ℤ x) +ℤ y)
     (swapped (if_bit b (pos 32 *ℤ more.other_both)) (if_bit a (pos 32 *ℤ more.both)))
     (swapped (if_bit b (pos 4 *ℤ more.other_near)) (if_bit a (pos 4 *ℤ more.near)))
 
@@ -280,27 +239,18 @@ is_even n = nat_eq (n % 2) 0
 
 even_next : (n : ℕ) → not (is_even n) ≡ is_even (suc n)
 unfolding not is_even
-even_next n = by_rest (n % 2) (suc n % 2) (omega arith) (omega arith)
-  where
-    by_rest : (m k : ℕ) → m < 2 → k ≡ 1 - m → not (nat_eq m 0) ≡ nat_eq k 0
-    by_rest zero k l e = ap (λ k. nat_eq k 0) (sym e)
-    by_rest (suc zero) k l e = ap (λ k. nat_eq k 0) (sym e)
-    by_rest (suc (suc m)) k l e = absurd (omega arith)
+even_next n = grind (arith, not)
 
 less_is : (p a b : ℕ) (symbols : List ℤ) (more : Excess ℤ)
     → less_at_end p a b symbols more ≡ less_by p a b (picked (is_even (length symbols)) more)
 unfolding picked is_even
 less_is p a b [] more = refl
-less_is p a b (v ∷ symbols) more =
-    less_is p b a symbols more ∙ less_picked (is_even (length symbols)) p a b more
-    ∙ ap (λ t. less_by p a b (picked t more)) (even_next (length symbols))
+less_is p a b (v ∷ symbols) more = less_is p b a symbols more ∙ grind (arith, less_picked, is_even, picked, even_next)
 
 less_from_beginning : (p a b segments : ℕ) (symbols : List ℤ) (more : Excess ℤ) → length symbols ≡ 69 * segments
     → less_at_end p a b symbols more ≡ less_by p a b (from_beginning segments more)
 unfolding picked is_even
-less_from_beginning p a b segments symbols more e =
-    less_is p a b symbols more
-    ∙ ap (λ n. less_by p a b (picked (nat_eq n 0) more)) (parity (length symbols) segments e)
+less_from_beginning p a b segments symbols more e = rw (less_is p a b symbols more, parity (length symbols) segments e)
   where
     parity : (n k : ℕ) → n ≡ 69 * k → n % 2 ≡ k % 2
     parity n k e = omega arith
@@ -317,6 +267,15 @@ sum_weight : (scale : ℕ) (pins : List ℕ) (symbols : List ℤ) (segments p s 
     → pos sum ≡ (pos 1_000_000_000 -ℤ less_by p (s / 2) (s % 2) (from_beginning segments more))
     → told_weight scale pins symbols p s + 1_000_000_000 ≡ told_weight scale pins symbols 0 0 + sum
 sum_weight scale pins symbols segments p s sum more from to told bytes long end l m e =
+    let state : 2 * ((0 + s / 2) % 2) + (0 + s % 2) % 2 ≡ s = omega arith in
+    let former : (0 + p) % 2 ≡ p = omega arith in
+    let difference : (pos (told_weight scale pins symbols p s) +ℤ less_at_end p (s / 2) (s % 2) symbols
+    (lane_at_end scale pins symbols beginning).more) ≡
+    (pos (told_weight scale pins symbols 0 0) +ℤ less_by p (s / 2) (s % 2) no_excess) =
+    ap₂ (λ former t. pos (told_weight scale pins symbols former t) +ℤ less_at_end p (s / 2) (s % 2) symbols
+    (lane_at_end scale pins symbols beginning).more) (sym former) (sym state)
+    ∙ told_difference scale pins symbols beginning p (s / 2) (s % 2) from to told bytes
+    (record { former = omega arith; q1 = omega arith; q0 = omega arith }) l (omega arith) (omega arith) in
     numbers (told_weight scale pins symbols p s) (told_weight scale pins symbols 0 0) sum _ _ _ difference
     (less_nothing p (s / 2) (s % 2) l (omega arith) (omega arith))
     (less_from_beginning p (s / 2) (s % 2) segments symbols (lane_at_end scale pins symbols beginning).more long
@@ -326,27 +285,11 @@ sum_weight scale pins symbols segments p s sum more from to told bytes long end 
         → pos sum ≡ (pos 1_000_000_000 -ℤ x) → w + 1_000_000_000 ≡ start + sum
     numbers w start sum d c x e f g h = omega (arith, ints, e, f, g, h)
 
-    state : 2 * ((0 + s / 2) % 2) + (0 + s % 2) % 2 ≡ s
-    state = omega arith
-
-    former : (0 + p) % 2 ≡ p
-    former = omega arith
-
-    difference : (pos (told_weight scale pins symbols p s) +ℤ less_at_end p (s / 2) (s % 2) symbols
-        (lane_at_end scale pins symbols beginning).more)
-        ≡ (pos (told_weight scale pins symbols 0 0) +ℤ less_by p (s / 2) (s % 2) no_excess)
-    difference =
-        ap₂ (λ former t. pos (told_weight scale pins symbols former t) +ℤ less_at_end p (s / 2) (s % 2) symbols
-        (lane_at_end scale pins symbols beginning).more) (sym former) (sym state)
-        ∙ told_difference scale pins symbols beginning p (s / 2) (s % 2) from to told bytes
-        (record { former = omega arith; q1 = omega arith; q0 = omega arith }) l (omega arith) (omega arith)
-
 pub told_sums_are : (scale : ℕ) (pins : List ℕ) (symbols : List ℤ) (segments : ℕ) (more : Excess ℤ)
     (sums : List (List ℕ)) → 0 < scale → scale ≤ 18 → AreTold pins (length symbols) → AreBytes symbols
     → length symbols ≡ 69 * segments → (lane_at_end scale pins symbols beginning).more ≡ more
     → ((p a b : ℕ) → p < 2 → a < 2 → b < 2 → pos (cost_at sums p (2 * a + b))
-    ≡ (pos 1_000_000_000 -ℤ less_by p a b (from_beginning segments more)))
-    → AreLeastSums scale pins symbols sums
+    ≡ (pos 1_000_000_000 -ℤ less_by p a b (from_beginning segments more))) → AreLeastSums scale pins symbols sums
 told_sums_are scale pins symbols segments more sums from to told bytes long end are = record {
   costs = listed (told_cost scale pins symbols);
   least = told_costs scale pins symbols told;
@@ -370,7 +313,4 @@ told_sums_are scale pins symbols segments more sums from to told bytes long end 
 
     by_state : (p s : ℕ) → p < 2 → s < 4 → pos (cost_at sums p s)
         ≡ (pos 1_000_000_000 -ℤ less_by p (s / 2) (s % 2) (from_beginning segments more))
-    by_state p s l m =
-        subst (λ n. pos (cost_at sums p n)
-        ≡ (pos 1_000_000_000 -ℤ less_by p (s / 2) (s % 2) (from_beginning segments more))) (omega arith)
-        (are p (s / 2) (s % 2) l (omega arith) (omega arith))
+    by_state p s l m = grind arith

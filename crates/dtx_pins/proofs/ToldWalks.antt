@@ -1,7 +1,6 @@
 -- Walks along the paths of known pairs, in parts.
-use Rattle.std.proofs.Common.{◌≡◌, ℕ, zero, suc, ℤ, pos, ◌+◌, ◌*◌, ◌<◌, ◌≤◌, ◌+ℤ◌, ◌≤ℤ◌, List, ◌∷◌}
-use Rattle.std.proofs.Common.{length, drop}
-use Rattle.std.proofs.Common.{refl, sym, ap, ap₂, ◌∙◌, get_or, arith}
+use Rattle.std.proofs.Common.{◌≡◌, ℕ, zero, suc, ℤ, pos, ◌+◌, ◌*◌, ◌<◌, ◌≤◌, ◌+ℤ◌, ◌≤ℤ◌, List, length, drop, refl, sym}
+use Rattle.std.proofs.Common.{ap, ap₂, ◌∙◌, get_or, arith}
 use Rattle.std.proofs.lemmas.Int.{ints}
 use Rattle.std.proofs.lemmas.List.{drop_more}
 use Rattle.dtx_pins.specs.declared.told.Excess.{Excess}
@@ -27,19 +26,15 @@ behind_next scale pins symbols r lane = refl
 pub behind_more : (scale : ℕ) (pins : ℕ → ℕ) (symbols : ℕ → ℤ) (r : ℕ) (old now new : Lane) (pin : ℕ) (v : ℤ)
     → now ≡ lane_behind scale pins symbols r old → pin ≡ pins r → v ≡ symbols r → new ≡ lane_after scale pin v now
     → new ≡ lane_behind scale pins symbols (r + 1) old
-behind_more scale pins symbols r old now new pin v h e f g =
-    g ∙ ap (λ pin. lane_after scale pin v now) e ∙ ap₂ (lane_after scale (pins r)) f h
-    ∙ sym (behind_next scale pins symbols r old)
+behind_more scale pins symbols r old now new pin v h e f g = grind arith ∙ sym (behind_next scale pins symbols r old)
     ∙ ap (λ r. lane_behind scale pins symbols r old) (omega arith)
 
 -- the same pins and symbols
 pub behind_alike : (scale : ℕ) (pins others : ℕ → ℕ) (symbols voices : ℕ → ℤ) (r : ℕ) (lane : Lane)
     → ((k : ℕ) → k < r → pins k ≡ others k) → ((k : ℕ) → k < r → symbols k ≡ voices k)
     → lane_behind scale pins symbols r lane ≡ lane_behind scale others voices r lane
-behind_alike scale pins others symbols voices zero lane e f =
-    behind_none scale pins symbols lane ∙ sym (behind_none scale others voices lane)
-behind_alike scale pins others symbols voices (suc r) lane e f =
-    behind_next scale pins symbols r lane
+behind_alike scale pins others symbols voices zero lane e f = grind (arith, behind_none)
+behind_alike scale pins others symbols voices (suc r) lane e f = behind_next scale pins symbols r lane
     ∙ ap (λ pin. lane_after scale pin (symbols r) (lane_behind scale pins symbols r lane)) (e r (omega arith))
     ∙ ap₂ (lane_after scale (others r)) (f r (omega arith))
     (behind_alike scale pins others symbols voices r lane (λ k l. e k (omega arith)) (λ k l. f k (omega arith)))
@@ -50,23 +45,14 @@ end_next : (scale : ℕ) (pins : List ℕ) (symbols : List ℤ) (t u : ℕ) (lan
     → lane_at_end scale (drop u pins) (drop u symbols)
     (lane_after scale (pin_at pins t) (get_or symbols t (pos 0)) lane)
     ≡ lane_at_end scale (drop t pins) (drop t symbols) lane
-end_next scale pins symbols t u lane e l =
-    ap₂ (λ rest pin. lane_at_end scale rest (drop u symbols) (lane_after scale pin (get_or symbols t (pos 0)) lane))
-    (sym (pins_behind pins t u e)) (sym (pin_here pins t))
-    ∙ ap (λ symbols. lane_at_end scale (drop t pins) symbols lane) (sym opened)
-  where
-    opened : drop t symbols ≡ get_or symbols t (pos 0) ∷ drop u symbols
-    opened = drop_more symbols t (pos 0) l ∙ ap (λ n. get_or symbols t (pos 0) ∷ drop n symbols) (sym e)
+end_next scale pins symbols t u lane e l = grind (arith, lane_at_end, pins_behind, pin_here, drop_more)
 
 -- the path along lists, in two parts
 pub end_from : (scale : ℕ) (pins : List ℕ) (symbols : List ℤ) (t r : ℕ) (lane : Lane) → t + r ≤ length symbols
     → lane_at_end scale (drop (t + r) pins) (drop (t + r) symbols)
     (lane_behind scale (λ k. pin_at pins (t + k)) (λ k. get_or symbols (t + k) (pos 0)) r lane)
     ≡ lane_at_end scale (drop t pins) (drop t symbols) lane
-end_from scale pins symbols t zero lane l =
-    let none : t + 0 ≡ t = omega arith in
-    ap₂ (λ n start. lane_at_end scale (drop n pins) (drop n symbols) start) none
-    (behind_none scale (λ k. pin_at pins (t + k)) (λ k. get_or symbols (t + k) (pos 0)) lane)
+end_from scale pins symbols t zero lane l = grind (arith, lane_at_end, behind_none)
 end_from scale pins symbols t (suc r) lane l =
     let here = lane_behind scale (λ k. pin_at pins (t + k)) (λ k. get_or symbols (t + k) (pos 0)) r lane in
     ap (lane_at_end scale (drop (t + suc r) pins) (drop (t + suc r) symbols))
@@ -107,9 +93,7 @@ turned_by (suc r) total = turned (turned_by r total)
 
 after_whole : (scale pin : ℕ) (v : ℤ) (total : Excess ℤ) (lane : Lane)
     → lane_after scale pin v (whole total lane) ≡ whole (turned total) (lane_after scale pin v lane)
-after_whole scale pin v total lane =
-    same_lane _ _ refl refl refl (same_excess _ _ (moved total.far lane.more.far _) refl
-    (moved total.near lane.more.near _) refl (moved total.both lane.more.both _))
+after_whole scale pin v total lane = same_lane _ _ refl refl refl (grind (arith, same_excess, moved))
   where
     moved : (x y z : ℤ) → (x +ℤ y) +ℤ z ≡ x +ℤ (y +ℤ z)
     moved x y z = omega (arith, ints)
@@ -117,10 +101,8 @@ after_whole scale pin v total lane =
 pub behind_whole : (scale : ℕ) (pins : ℕ → ℕ) (symbols : ℕ → ℤ) (r : ℕ) (total : Excess ℤ) (lane : Lane)
     → lane_behind scale pins symbols r (whole total lane)
     ≡ whole (turned_by r total) (lane_behind scale pins symbols r lane)
-behind_whole scale pins symbols zero total lane =
-    behind_none scale pins symbols (whole total lane) ∙ ap (whole total) (sym (behind_none scale pins symbols lane))
-behind_whole scale pins symbols (suc r) total lane =
-    behind_next scale pins symbols r (whole total lane)
+behind_whole scale pins symbols zero total lane = grind (arith, behind_none)
+behind_whole scale pins symbols (suc r) total lane = behind_next scale pins symbols r (whole total lane)
     ∙ ap (lane_after scale (pins r) (symbols r)) (behind_whole scale pins symbols r total lane)
     ∙ after_whole scale (pins r) (symbols r) (turned_by r total) (lane_behind scale pins symbols r lane)
     ∙ ap (whole (turned (turned_by r total))) (sym (behind_next scale pins symbols r lane))
@@ -131,19 +113,13 @@ nothing_more x = omega (arith, ints)
 
 whole_emptied : (total : Excess ℤ) (lane : Lane)
     → whole (excess_with total lane.more) (emptied lane) ≡ whole (turned total) lane
-whole_emptied total lane =
-    same_lane _ _ refl refl refl (same_excess _ _ (nothing_more _) (nothing_more _) (nothing_more _) (nothing_more _)
-    (nothing_more _))
+whole_emptied total lane = grind (arith, same_lane, same_excess, nothing_more)
 
 nothing_small : (x y : ℤ) → pos 0 ≤ℤ (y +ℤ pos (240 * 0)) → y ≤ℤ pos (240 * 0) → (x +ℤ y) ≡ x
 nothing_small x y from to = omega (arith, ints, from, to)
 
 pub whole_fresh : (total : Excess ℤ) (lane : Lane) → IsLane 0 lane → (whole total lane).more ≡ total
-whole_fresh total lane h =
-    let s = h.small in
-    same_excess _ _ (nothing_small _ _ s.far_from s.far_to) (nothing_small _ _ s.near_from s.near_to)
-    (nothing_small _ _ s.other_near_from s.other_near_to) (nothing_small _ _ s.both_from s.both_to)
-    (nothing_small _ _ s.other_both_from s.other_both_to)
+whole_fresh total lane h = grind (arith, same_excess, nothing_small)
 
 -- the path along lists, one segment further
 pub segment_more : (scale : ℕ) (pins : List ℕ) (symbols : List ℤ) (t u : ℕ) (total sum : Excess ℤ) (old now new : Lane)
@@ -158,8 +134,4 @@ segment_more scale pins symbols t u total sum old now new f g e l same heard h s
   where
     start : whole sum new ≡ lane_behind scale (λ k. pin_at pins (t + k)) (λ k. get_or symbols (t + k) (pos 0)) 69
         (whole total old)
-    start =
-        ap₂ whole s n ∙ whole_emptied total now
-        ∙ ap (whole (turned total)) (h ∙ behind_alike scale f (λ k. pin_at pins (t + k)) g
-        (λ k. get_or symbols (t + k) (pos 0)) 69 old same heard)
-        ∙ sym (behind_whole scale (λ k. pin_at pins (t + k)) (λ k. get_or symbols (t + k) (pos 0)) 69 total old)
+    start = grind (arith, whole_emptied, behind_alike, behind_whole)

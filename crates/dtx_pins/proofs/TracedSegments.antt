@@ -18,10 +18,7 @@ symbol_before segments i e k row l m =
     ap (λ k. get_or (coder_symbols (slice_set segments i row) e) k (pos 0)) (sym place)
     ∙ symbol_in_segment (slice_set segments i row) (k / 69 % 3) (k / 69) (k % 69) e
     (omega (arith, l, m, length-set segments i row)) (omega arith) refl
-    ∙ ap (λ row. get_or row (turned_place (k / 69 % 3) (k % 69) e) (pos 0))
-    (get_or-set_other segments i (k / 69) row [] (λ f. absurd (omega (arith, m, f))))
-    ∙ sym (symbol_in_segment segments (k / 69 % 3) (k / 69) (k % 69) e (omega (arith, l, m)) (omega arith) refl)
-    ∙ ap (λ k. get_or (coder_symbols segments e) k (pos 0)) place
+    ∙ grind (arith, get_or-set_other, symbol_in_segment, place)
   where
     place : 69 * (k / 69) + k % 69 ≡ k
     place = omega arith
@@ -37,8 +34,7 @@ pub segment_traced : (scale i n : ℕ) (pins marks : List (List ℕ)) (heard dec
     (69 * (i + 1)) (stand_at new e)
 segment_traced scale i n pins marks heard decided path row sums old new whole l same walked traced kept e m u =
     subst (λ t. IsUnderWay scale (coder_pins pins e) (coder_symbols heard e) (coder_symbols rows e) t (stand_at new e))
-    next
-    (goes_on scale (coder_pins pins e) (coder_symbols heard e) (coder_symbols rows e) (69 * i)
+    next (goes_on scale (coder_pins pins e) (coder_symbols heard e) (coder_symbols rows e) (69 * i)
     (λ r. get_or (get_or heard i []) (turned_place (i % 3) r e) (pos 0))
     (λ r. get_or (get_or (take n (drop (69 * i) marks)) r []) e 0)
     (λ r. get_or path (turned_place (i % 3) r e) (pos 0)) 69 (stand_at old e) (stand_at new e)
@@ -55,15 +51,10 @@ segment_traced scale i n pins marks heard decided path row sums old new whole l 
 
     here : (r : ℕ) → r < 69 → get_or (coder_symbols rows e) (69 * i + r) (pos 0)
         ≡ get_or path (turned_place (i % 3) r e) (pos 0)
-    here r k =
-        symbol_in_segment rows (i % 3) i r e (omega (arith, l, same, length-set decided i row)) k refl
+    here r k = symbol_in_segment rows (i % 3) i r e (omega (arith, l, same, length-set decided i row)) k refl
         ∙ ap (λ row. get_or row (turned_place (i % 3) r e) (pos 0))
-        (get_or-set_same decided i row [] (omega (arith, l, same)))
-        ∙ kept (turned_place (i % 3) r e) (omega arith)
+        (get_or-set_same decided i row [] (omega (arith, l, same))) ∙ kept (turned_place (i % 3) r e) (omega arith)
 
     mark : (r : ℕ) → r < 69 → IsMark scale (coder_pins pins e) (coder_symbols heard e) (69 * i + r)
         (get_or (get_or (take n (drop (69 * i) marks)) r []) e 0)
-    mark r k =
-        subst (λ row. IsMark scale (coder_pins pins e) (coder_symbols heard e) (69 * i + r) (get_or row e 0))
-        (sym (part_row (69 * i) n r marks (omega (arith, whole, k))))
-        (walked.marks_are (69 * i + r) e (omega arith) (omega (arith, l, k)) m)
+    mark r k = grind (arith, part_row)

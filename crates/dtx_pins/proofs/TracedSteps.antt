@@ -5,20 +5,10 @@ use Rattle.dtx_pins.specs.Trace.{IsNext, IsStand, IsTraced}
 
 pub stands_further : (scale : ℕ) (symbol : ℤ) (t u mark : ℕ) (old new : Stand) (written : ℤ) → u ≡ t + 1
     → IsNext scale symbol mark old new written → IsStand t old → IsStand u new
-stands_further scale symbol t u mark old new written e next h = record {
-  former = (let e = next.former in let f = next.number_small in omega arith);
-  q1 = (let e = next.q1 in omega arith);
-  q0 = (let e = next.q0 in let f = h.q1 in omega arith);
-  cost = (let a = h.cost in let b = next.cost in let d = next.small in omega arith);
-}
+stands_further scale symbol t u mark old new written e next h = grind arith
 
 pub stands_within : (t n : ℕ) (stand : Stand) → t ≤ n → IsStand t stand → IsStand n stand
-stands_within t n stand l h = record {
-  former = h.former;
-  q1 = h.q1;
-  q0 = h.q0;
-  cost = (let a = h.cost in omega arith);
-}
+stands_within t n stand l h = grind arith
 
 -- where what is written stands elsewhere
 traced_elsewhere : (scale : ℕ) (symbols : ℕ → ℤ) (marks : ℕ → ℕ) (written other : ℕ → ℤ) (n : ℕ) (old new : Stand)
@@ -35,10 +25,7 @@ traced_elsewhere scale symbols marks written other (suc n) old new e h = (
 pub traced_more : (scale : ℕ) (symbols : ℕ → ℤ) (marks : ℕ → ℕ) (written other : ℕ → ℤ) (n : ℕ)
     (old now new : Stand) → ((k : ℕ) → k < n → other k ≡ written k) → IsTraced scale symbols marks written n old now
     → IsNext scale (symbols n) (marks n) now new (other n) → IsTraced scale symbols marks other (n + 1) old new
-traced_more scale symbols marks written other n old now new e h next =
-    let more : suc n ≡ n + 1 = omega arith in
-    subst (λ n. IsTraced scale symbols marks other n old new) more
-    (now, traced_elsewhere scale symbols marks written other n old now e h, next)
+traced_more scale symbols marks written other n old now new e h next = grind (arith, traced_elsewhere)
 
 -- which coder stands there
 pub turned_back : (turn e : ℕ) → turn < 3 → e < 12 → ((e + 12 - 4 * turn) % 12 + 4 * turn) % 12 ≡ e

@@ -11,8 +11,7 @@ use Rattle.dtx_pins.specs.Weights.{depth, ground, weight}
 
 -- whether a square and a weight go together, and are small, where the square of level 0 is given
 unfoldable fits : (unit first square weight : ℕ) → Bool
-fits unit first square weight =
-    nat_eq (4 * square + unit * 3584) (4 * first + unit * weight)
+fits unit first square weight = nat_eq (4 * square + unit * 3584) (4 * first + unit * weight)
     && (nat_le weight 7168 && (nat_eq (weight % 4) 0 && nat_le square 64516))
 
 unfoldable passes : ℕ → ℤ → ℕ → Bool
@@ -43,16 +42,7 @@ pub record IsWeighed (scale : ℕ) (symbol : ℤ) (z : ℕ) : Type 0 where
 
 opened : (scale : ℕ) (symbol : ℤ) (z : ℕ) → passes scale symbol z ≡ true → IsWeighed scale symbol z
 unfolding passes fits
-opened scale symbol z t =
-    let a = both _ _ t in
-    let b = both _ _ a.1 in
-    let c = both _ _ b.1 in
-    record {
-      units = same_numbers _ _ a.0;
-      small = at_most _ _ b.0;
-      multiple = same_numbers _ _ c.0;
-      near = at_most _ _ c.1;
-    }
+opened scale symbol z t = grind (arith, both, same_numbers, at_most)
 
 tested : (scale n z : ℕ) → scale ≤ 18 → n < 256 → z < 8 → passes scale (pos n -ℤ pos 128) z ≡ true
 tested scale n z l m f =
@@ -63,16 +53,11 @@ tested scale n z l m f =
   where
     at : (a b c : ℕ) → a ≡ scale → b ≡ n → c ≡ z → passes a (pos b -ℤ pos 128) c ≡ true
         → passes scale (pos n -ℤ pos 128) z ≡ true
-    at a b c e g h t =
-        subst (λ a. passes a (pos n -ℤ pos 128) z ≡ true) e
-        (subst (λ b. passes a (pos b -ℤ pos 128) z ≡ true) g
-        (subst (λ c. passes a (pos b -ℤ pos 128) c ≡ true) h t))
+    at a b c e g h t = grind arith
 
 pub is_weighed : (scale : ℕ) (symbol : ℤ) (z : ℕ) → scale ≤ 18 → pos 0 ≤ℤ (symbol +ℤ pos 128) → symbol ≤ℤ pos 127
     → z < 8 → IsWeighed scale symbol z
 is_weighed scale symbol z l from to m =
+    let back : pos (nat_abs (symbol +ℤ pos 128)) -ℤ pos 128 ≡ symbol = omega (arith, ints) in
     opened scale symbol z (subst (λ v. passes scale v z ≡ true) back
     (tested scale (nat_abs (symbol +ℤ pos 128)) z l (omega (arith, ints)) m))
-  where
-    back : pos (nat_abs (symbol +ℤ pos 128)) -ℤ pos 128 ≡ symbol
-    back = omega (arith, ints)

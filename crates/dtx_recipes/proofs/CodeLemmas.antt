@@ -22,12 +22,11 @@ symbols_none = ap (λ ss. map byte_of_symbol (symbols_of ss)) a53_nothing
 a53_more : (ps qs : List (List ℕ)) → (rest : List (List ℤ)) × (a53 (ps ++ qs) ≡ a53 ps ++ rest)
 a53_more ps qs =
     let u : ℕ = length ps / 4 in
-    let fits : 4 * u ≤ length (ps ++ qs) = omega (arith, length-append ps qs) in
     let rest : List (List ℤ) = flat_map (group_segments (ps ++ qs)) (range_with_len u (length (ps ++ qs) / 4 - u)) in
     let within : 4 * u ≤ length ps = omega arith in (
       rest,
-      a53_from (ps ++ qs) u fits ∙ ap (λ z. a53 z ++ rest) (take-append-le (4 * u) ps qs within)
-          ∙ ap (λ z. z ++ rest) (sym (a53_whole ps)),
+      a53_from (ps ++ qs) u (omega (arith, length-append ps qs))
+          ∙ ap (λ z. a53 z ++ rest) (take-append-le (4 * u) ps qs within) ∙ ap (λ z. z ++ rest) (sym (a53_whole ps)),
     )
 
 -- the symbols of `ps` are a prefix of those of `ps ++ qs`
@@ -36,8 +35,7 @@ unfolding a53_symbols
 symbols_more ps qs =
     let more = a53_more ps qs in (
       map byte_of_symbol (symbols_of more.0),
-      ap (λ ss. map byte_of_symbol (symbols_of ss)) more.1
-          ∙ ap (map byte_of_symbol) (flat_map-append (λ (s : List ℤ). s) (a53 ps) more.0)
+      ap (λ ss. map byte_of_symbol (symbols_of ss)) more.1 ∙ ap (map byte_of_symbol) (grind (arith, flat_map-append))
           ∙ map-append byte_of_symbol (symbols_of (a53 ps)) (symbols_of more.0),
     )
 

@@ -18,8 +18,7 @@ dvb_none = no_bytes (dvb []) (length-dvb [])
 pub sends_none : dvb_coding.made [] ≡ only []
 sends_none = ap only dvb_none
 
-pub sends_more : (a b : List ℕ) → length a % 188 ≡ 0
-    → AreFrontsOf (dvb_coding.made a) (dvb_coding.made (a ++ b))
+pub sends_more : (a b : List ℕ) → length a % 188 ≡ 0 → AreFrontsOf (dvb_coding.made a) (dvb_coding.made (a ++ b))
 sends_more a b whole = (
   (
     bytes_behind (packets_of a) (packets_of b),

@@ -22,12 +22,10 @@ read_none = no_reads (read_dvb []) (length-read [])
 pub reads_none : dvb_reading.made [] ≡ only []
 reads_none = ap (λ reads. only (bytes_of_reads reads)) read_none
 
-pub reads_more : (a b : List ℕ) → length a % 204 ≡ 0
-    → AreFrontsOf (dvb_reading.made a) (dvb_reading.made (a ++ b))
+pub reads_more : (a b : List ℕ) → length a % 204 ≡ 0 → AreFrontsOf (dvb_reading.made a) (dvb_reading.made (a ++ b))
 reads_more a b whole =
     let s : ℕ = length a / 204 in
     let n : ℕ = length b / 204 in
     let more : List Read = next_of (a ++ b) s n in
-    let is : read_dvb (a ++ b) ≡ read_dvb a ++ more =
-    read_more a b s n refl (omega (arith, whole, length-append a b)) in
+    let is : read_dvb (a ++ b) ≡ read_dvb a ++ more = read_more a b s n refl (grind (arith, length-append)) in
     ((bytes_of_reads more, sym (ap bytes_of_reads is ∙ bytes_of_reads-append (read_dvb a) more)), ([], refl))

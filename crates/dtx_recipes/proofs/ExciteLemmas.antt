@@ -1,5 +1,5 @@
 -- Laws of what an exciter makes of packets: what the first packets give is a prefix of what all give.
-use Rattle.std.proofs.Common.{◌≡◌, ℕ, ℤ, ◌+◌, ◌%◌, ◌≤◌, List, [], ◌∷◌, ◌++◌, length, map, take, refl, sym, ap, ap₂, ◌∙◌}
+use Rattle.std.proofs.Common.{◌≡◌, ℕ, ℤ, ◌+◌, ◌%◌, ◌≤◌, List, [], ◌∷◌, ◌++◌, length, map, take, refl, sym, ap, ◌∙◌}
 use Rattle.std.proofs.Common.{arith, append_assoc, zero-add}
 use Rattle.std.specs.List.{range_with_len, flat_map}
 use Rattle.std.proofs.lemmas.Grind.{flat_map-append}
@@ -30,13 +30,9 @@ line_at a d l i = line_of (0 + length (emission a d (take i l))) (length (last_s
 
 front_same : (a d : ℕ) (l r : List (List ℕ)) (n : ℕ) → n ≤ length l
     → flat_map (line_at a d (l ++ r)) (range_with_len 0 n) ≡ flat_map (line_at a d l) (range_with_len 0 n)
-front_same a d l r n h =
-    flat_map-range_same (line_at a d (l ++ r)) (line_at a d l) 0 n
-    (λ i x y. ap₂ (λ s t. line_of (0 + length (emission a d s)) (length (last_segments a d t)) (last_answer a d t))
-    (take-append-le i l r (omega (arith, y, h))) (take-append-le (i + 1) l r (omega (arith, y, h))))
+front_same a d l r n h = grind (arith, flat_map-range_same, take-append-le)
 
-pub lines_push : (a d : ℕ) (l : List (List ℕ)) (p : List ℕ)
-    → life_lines a d 0 (l ++ p ∷ [])
+pub lines_push : (a d : ℕ) (l : List (List ℕ)) (p : List ℕ) → life_lines a d 0 (l ++ p ∷ [])
     ≡ life_lines a d 0 l ++ line_of (length (emission a d l)) (length (last_segments a d (l ++ p ∷ [])))
     (last_answer a d (l ++ p ∷ []))
 unfolding life_lines
@@ -47,16 +43,9 @@ lines_push a d l p =
     let all : take (0 + length l + 1) (l ++ p ∷ []) ≡ l ++ p ∷ [] =
     take_all (0 + length l + 1) (l ++ p ∷ []) (omega (arith, length_push l p)) in
     ap (λ n. flat_map f (range_with_len 0 n)) (length_push l p)
-    ∙ ap (flat_map f) (range_with_len-parts 0 (length l) 1)
-    ∙ flat_map-append f (range_with_len 0 (length l)) (range_with_len (0 + length l) 1)
-    ∙ ap₂ ◌++◌ (front_same a d l (p ∷ []) (length l) (omega arith))
-    (append-nil (f (0 + length l))
-    ∙ ap₂ (λ s t. line_of (0 + length (emission a d s)) (length (last_segments a d t)) (last_answer a d t)) same all
-    ∙ ap (λ n. line_of n (length (last_segments a d (l ++ p ∷ []))) (last_answer a d (l ++ p ∷ [])))
-    (zero-add (length (emission a d l))))
+    ∙ grind (arith, range_with_len-parts, flat_map-append, front_same, append-nil, zero-add)
 
-pub logged_push : (a d : ℕ) (l : List (List ℕ)) (p : List ℕ)
-    → logged_bytes a d (l ++ p ∷ [])
+pub logged_push : (a d : ℕ) (l : List (List ℕ)) (p : List ℕ) → logged_bytes a d (l ++ p ∷ [])
     ≡ logged_bytes a d l ++ log_text
     (line_of (length (emission a d l)) (length (last_segments a d (l ++ p ∷ []))) (last_answer a d (l ++ p ∷ [])))
 logged_push a d l p = ap log_text (lines_push a d l p) ∙ log_text-append (life_lines a d 0 l) _
@@ -95,7 +84,4 @@ pub excites_more : (a d : ℕ) (x y : List ℕ) → length x % 188 ≡ 0
 excites_more a d x y whole =
     let all = packets_of-append x y whole in
     let sent = sent_more a d (packets_of x) (packets_of y) in
-    let logged = logged_more a d (packets_of x) (packets_of y) in (
-      (sent.0, sym (ap (sent_bytes a d) all ∙ sent.1)),
-      (logged.0, sym (ap (logged_bytes a d) all ∙ logged.1)),
-    )
+    let logged = logged_more a d (packets_of x) (packets_of y) in (grind arith)

@@ -1,5 +1,5 @@
 -- Laws of the feed of a stream: the feed of its first packets is a prefix of the feed of all.
-use Rattle.std.proofs.Common.{◌≡◌, ℕ, ◌%◌, List, [], ◌++◌, length, drop, refl, sym, ap, ◌∙◌}
+use Rattle.std.proofs.Common.{◌≡◌, ℕ, ◌%◌, List, [], ◌++◌, length, drop, refl, sym, ap, ◌∙◌, arith}
 use Rattle.std.proofs.lemmas.Grind.{flat_map-append}
 use Rattle.dtx_adapter.proofs.FeedsLemmas.{feed_parts}
 use Rattle.dtx_adapter.specs.Feed.{feed, feed_to}
@@ -23,9 +23,7 @@ feed_bytes_none plan = refl
 -- the feed of two parts of a stream, the second behind the first
 pub feed_bytes-parts : (plan : Plan) (stream more : List (List ℕ)) → feed_bytes plan (stream ++ more)
     ≡ feed_bytes plan stream ++ bytes_of_packets (drop (length stream) (feed plan (stream ++ more)))
-feed_bytes-parts plan stream more =
-    ap bytes_of_packets (feed_parts plan stream more)
-    ∙ bytes_of_packets-append (feed plan stream) (drop (length stream) (feed plan (stream ++ more)))
+feed_bytes-parts plan stream more = grind (arith, feed_parts, bytes_of_packets-append)
 
 -- no bytes give no feed
 pub feeding_starts : (plan : Plan) → (feeding plan).made [] ≡ only []

@@ -1,5 +1,5 @@
 -- Laws of what any receiver makes of symbols: what the first segments give is a prefix of what more give.
-use Rattle.std.proofs.Common.{◌≡◌, ℕ, ◌%◌, List, [], ◌∷◌, ◌++◌, length, refl, sym, ap, ◌∙◌}
+use Rattle.std.proofs.Common.{◌≡◌, ℕ, ◌%◌, List, [], ◌∷◌, ◌++◌, length, refl, sym, ap, ◌∙◌, arith}
 use Rattle.std.specs.Prelude.{ℤ}
 use Rattle.std.proofs.lemmas.Grind.{flat_map-append}
 use Rattle.std.proofs.lemmas.List.{append_assoc, append-nil}
@@ -19,11 +19,7 @@ given_on giving is segments [] =
     ([], ap giving.so_far (append-nil segments) ∙ sym (append-nil (giving.so_far segments)))
 given_on giving is segments (x ∷ more) =
     let first = is.segment segments x in
-    let rest = given_on giving is (segments ++ x ∷ []) more in (
-      first.0 ++ rest.0,
-      ap giving.so_far (sym (append_assoc segments (x ∷ []) more)) ∙ rest.1 ∙ ap (λ z. z ++ rest.0) first.1
-          ∙ append_assoc (giving.so_far segments) first.0 rest.0,
-    )
+    let rest = given_on giving is (segments ++ x ∷ []) more in (grind (arith, append_assoc))
 
 -- ---- what is made
 
@@ -34,10 +30,6 @@ pub receives_more : (giving : Giving) → IsGiving giving → (a b : List ℕ) �
     → AreFrontsOf ((receiving_by giving).made a) ((receiving_by giving).made (a ++ b))
 receives_more giving is a b whole =
     let on = given_on giving is (file_segments a) (file_segments b) in (
-      (
-        bytes_of on.0,
-        sym (ap (λ s. bytes_of (giving.so_far s)) (file_segments-append a b whole) ∙ ap bytes_of on.1
-            ∙ bytes_of-append (giving.so_far (file_segments a)) on.0),
-      ),
+      (bytes_of on.0, sym (grind (arith, file_segments-append, bytes_of-append))),
       ([], refl),
     )

@@ -1,5 +1,5 @@
 -- Laws of damage that is laid over a file piece by piece.
-use Rattle.std.proofs.Common.{◌≡◌, ℕ, List, [], ◌++◌, length, refl, sym, ap, ◌∙◌, zero-add}
+use Rattle.std.proofs.Common.{◌≡◌, ℕ, List, [], ◌++◌, length, refl, sym, ap, zero-add, arith}
 use Rattle.dtx_engine.specs.Made.{AreFrontsOf, only}
 use Rattle.dtx_make.proofs.LaidLemmas.{damaged_bytes-append}
 use Rattle.dtx_make.specs.Hurt.{hurt, damaged_bytes}
@@ -13,9 +13,7 @@ hurt_none damage = refl
 -- damage over a file of two pieces
 pub hurt-append : (damage : List Damage) (first rest : List ℕ)
     → hurt damage (first ++ rest) ≡ hurt damage first ++ damaged_bytes damage (length first) rest
-hurt-append damage first rest =
-    damaged_bytes-append damage 0 first rest ∙ ap (λ k. hurt damage first
-    ++ damaged_bytes damage k rest) (zero-add (length first))
+hurt-append damage first rest = grind (arith, damaged_bytes-append, zero-add)
 
 -- no bytes give no bytes
 pub hurting_starts : (damage : List Damage) → (hurting damage).made [] ≡ only []

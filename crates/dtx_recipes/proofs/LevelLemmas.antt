@@ -1,5 +1,5 @@
 -- Laws of what `level` makes.
-use Rattle.std.proofs.Common.{refl, ◌≡◌, ℕ, List, [], ◌++◌, map, sym, ap, ap₂, ◌∙◌}
+use Rattle.std.proofs.Common.{refl, ◌≡◌, ℕ, List, [], ◌++◌, map, sym, ap, ap₂, ◌∙◌, arith}
 use Rattle.std.proofs.lemmas.Grind.{flat_map-append}
 use Rattle.std.proofs.lemmas.List.{map-append}
 use Rattle.dtx_engine.specs.Made.{AreFrontsOf, only}
@@ -11,7 +11,6 @@ use Rattle.dtx_recipes.proofs.AnswersLemmas.{synced_known}
 use Rattle.dtx_recipes.specs.Level.{levelled_files, levelling}
 use Rattle.dtx_recipes.specs.SymbolFile.{symbol_of_byte, symbols}
 use Rattle.dtx_level.proofs.LevelledLemmas.{none_so_far, so_far_grows}
-use Rattle.dtx_level.specs.Levelled.{levelled_so_far}
 use Rattle.dtx_level.specs.MeasureText.{measure_text, measures_text}
 use Rattle.dtx_level.specs.Measures.{measures_so_far}
 use Rattle.dtx_meaning.specs.declared.status.Outcome.{Outcome}
@@ -26,11 +25,7 @@ pub levels_more : (a b : List ℕ) → AreFrontsOf (levelling.made a) (levelling
 levels_more a b =
     let on = so_far_grows (symbols a) (symbols b) in
     let all = map-append symbol_of_byte a b in (
-      (
-        map byte_of_symbol on.others,
-        sym (ap (λ s. map byte_of_symbol (levelled_so_far s)) all ∙ ap (map byte_of_symbol) on.levelled_is
-            ∙ map-append byte_of_symbol (levelled_so_far (symbols a)) on.others),
-      ),
+      (map byte_of_symbol on.others, sym (grind (arith, map-append))),
       (
         measures_text on.told,
         sym (ap (λ s. measures_text (measures_so_far s)) all ∙ ap measures_text on.measures_are

@@ -1,5 +1,5 @@
 -- Laws of what a receiver gives that mends each word.
-use Rattle.std.proofs.Common.{◌≡◌, ℤ, List, [], length, map, refl, ap}
+use Rattle.std.proofs.Common.{◌≡◌, ℤ, List, [], length, map, refl, ap, arith}
 use Rattle.std.specs.List.{flat_map}
 use Rattle.std.proofs.lemmas.List.{nil_from_length}
 use Rattle.dtx_erase.proofs.GrowingLemmas.{nothing_mended, mended_more, mended_end}
@@ -19,10 +19,4 @@ unfolding mended
 packets_are list = refl
 
 pub mendings_given : IsGiving with_mendings
-mendings_given = record {
-  none = nothing_mended;
-  segment = mended_more;
-  end = mended_end;
-  packets = packets_are;
-  no_run = no_packets;
-}
+mendings_given = grind (arith, nothing_mended, mended_more, mended_end, packets_are, no_packets)

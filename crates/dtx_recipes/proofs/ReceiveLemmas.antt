@@ -1,5 +1,5 @@
 -- Laws of what a receiver gives that corrects each word.
-use Rattle.std.proofs.Common.{◌≡◌, ℤ, List, [], length, map, ap, refl}
+use Rattle.std.proofs.Common.{◌≡◌, ℤ, List, [], length, map, ap, refl, arith}
 use Rattle.std.specs.List.{flat_map}
 use Rattle.std.proofs.lemmas.List.{nil_from_length}
 use Rattle.dtx_receiver.specs.Bytes.{bytes_in}
@@ -18,10 +18,4 @@ unfolding received
 packets_are list = refl
 
 pub corrections_given : IsGiving with_corrections
-corrections_given = record {
-  none = nothing_given;
-  segment = given_more;
-  end = all_more;
-  packets = packets_are;
-  no_run = no_packets;
-}
+corrections_given = grind (arith, nothing_given, given_more, all_more, packets_are, no_packets)

@@ -2,8 +2,7 @@
 use Rattle.std.proofs.Common.{refl, ◌≡◌, ◌-◌, ◌*◌, ℕ, [], length, take, ap, arith}
 use Rattle.dtx_acquire.specs.Acquired.{acquired_so_far}
 use Rattle.dtx_acquire.proofs.AcquiredLemmas.{none_so_far}
-use Rattle.dtx_rounds.specs.Rounds.{refined, refined_so_far}
-use Rattle.dtx_rounds.specs.Rounds.{settled_count}
+use Rattle.dtx_rounds.specs.Rounds.{refined_so_far, settled_count}
 use Rattle.dtx_rounds.proofs.SoFarLemmas.{refined_grows}
 use Rattle.dtx_engine.specs.Recipe.{IsAnswerOf}
 use Rattle.dtx_meaning.specs.declared.status.Outcome.{Outcome}
@@ -16,9 +15,7 @@ use Rattle.dtx_recipes.specs.Restoring.{IsRestoring}
 
 none_refined : (scale rounds : ℕ) → refined_so_far scale [] rounds ≡ []
 unfolding refined_so_far settled_count
-none_refined scale rounds =
-    let none : length (acquired_so_far scale []) - 313 * rounds ≡ 0 = omega (arith, ap length (none_so_far scale)) in
-    ap (λ n. take n (refined scale [] rounds)) none
+none_refined scale rounds = grind (arith, none_so_far)
 
 -- what is made grows
 pub refines : (scale rounds : ℕ) → IsRestoring (with_refiner scale rounds)

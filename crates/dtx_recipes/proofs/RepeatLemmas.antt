@@ -32,23 +32,14 @@ fronts_same a d before after e = (
 pub fronts_on : (a d : ℕ) (before between after : List (List (List ℕ))) → Fronts a d before between
     → Fronts a d between after → Fronts a d before after
 fronts_on a d before between after f g = (
-  (
-    f.0.0 ++ g.0.0,
-    sym (append_assoc (sent_over a d before) f.0.0 g.0.0) ∙ ap (λ z. z ++ g.0.0) f.0.1 ∙ g.0.1,
-  ),
-  (
-    f.1.0 ++ g.1.0,
-    sym (append_assoc (logged_over a d before) f.1.0 g.1.0) ∙ ap (λ z. z ++ g.1.0) f.1.1 ∙ g.1.1,
-  ),
+  (f.0.0 ++ g.0.0, sym (append_assoc (sent_over a d before) f.0.0 g.0.0) ∙ ap (λ z. z ++ g.0.0) f.0.1 ∙ g.0.1),
+  (f.1.0 ++ g.1.0, sym (append_assoc (logged_over a d before) f.1.0 g.1.0) ∙ ap (λ z. z ++ g.1.0) f.1.1 ∙ g.1.1),
 )
 
 -- for one packet more
 fronts_one : (a d : ℕ) (lives : List (List (List ℕ))) (p : List ℕ) → 0 < length lives
     → Fronts a d lives (longer lives (p ∷ []))
-fronts_one a d lives p some = (
-  (_, sym (sent_longer a d lives p some)),
-  (_, sym (logged_longer a d lives p some)),
-)
+fronts_one a d lives p some = ((_, sym (sent_longer a d lives p some)), (_, sym (logged_longer a d lives p some)))
 
 -- for any packets more
 fronts_all : (a d : ℕ) (lives : List (List (List ℕ))) (packets : List (List ℕ)) → 0 < length lives
@@ -62,8 +53,7 @@ fronts_all a d lives (p ∷ packets) some =
 
 pub fronts_given : (a d : ℕ) (before after : List (List (List ℕ))) (packets : List Received)
     → AreGiven before after packets → Fronts a d before after
-fronts_given a d [] after packets g =
-    fronts_same a d [] after (g.0 ∙ ap (λ z. longer [] (packets_in z)) (g.1 refl))
+fronts_given a d [] after packets g = fronts_same a d [] after (g.0 ∙ ap (λ z. longer [] (packets_in z)) (g.1 refl))
 fronts_given a d (x ∷ more) after packets g =
     subst (Fronts a d (x ∷ more)) (sym g.0) (fronts_all a d (x ∷ more) (packets_in packets) (omega arith))
 
@@ -79,8 +69,7 @@ fronts_begun a d lives Began = (
 )
 
 -- for one segment more
-fronts_segment : (a d : ℕ) (s : List (List ℤ)) (x : List ℤ)
-    → Fronts a d (lives_so_far s) (lives_so_far (s ++ x ∷ []))
+fronts_segment : (a d : ℕ) (s : List (List ℤ)) (x : List ℤ) → Fronts a d (lives_so_far s) (lives_so_far (s ++ x ∷ []))
 fronts_segment a d s x =
     let more = some_more s x in
     let begun : List (List (List ℕ)) = with_begun (tracking s x) (lives_so_far s) in

@@ -1,11 +1,11 @@
 -- Laws of what restored segments make of a file.
-use Rattle.std.proofs.Common.{◌≡◌, ℕ, ℤ, List, [], ◌++◌, refl, sym, ap, ◌∙◌}
+use Rattle.std.proofs.Common.{◌≡◌, ℕ, List, [], ◌++◌, refl, sym, ap, arith}
 use Rattle.std.proofs.lemmas.List.{map-append}
 use Rattle.dtx_engine.specs.Made.{AreFrontsOf, only}
 use Rattle.dtx_files.proofs.AppendedLemmas.{segment_bytes-append}
 use Rattle.dtx_files.specs.Symbols.{segment_bytes}
 use Rattle.dtx_recipes.specs.Restoring.{IsRestoring, Restoring, restoring_by}
-use Rattle.dtx_recipes.specs.SymbolFile.{symbol_of_byte, symbols}
+use Rattle.dtx_recipes.specs.SymbolFile.{symbols}
 
 pub restores_none : (restoring : Restoring) → IsRestoring restoring → (restoring_by restoring).made [] ≡ only []
 restores_none restoring is = ap (λ s. only (segment_bytes s)) is.starts
@@ -14,10 +14,6 @@ pub restores_more : (restoring : Restoring) → IsRestoring restoring → (a b :
     → AreFrontsOf ((restoring_by restoring).made a) ((restoring_by restoring).made (a ++ b))
 restores_more restoring is a b =
     let on = is.grows (symbols a) (symbols b) in (
-      (
-        segment_bytes on.0,
-        sym (ap (λ (s : List ℤ). segment_bytes (restoring.so_far s)) (map-append symbol_of_byte a b)
-            ∙ ap segment_bytes on.1 ∙ segment_bytes-append (restoring.so_far (symbols a)) on.0),
-      ),
+      (segment_bytes on.0, sym (grind (arith, map-append, segment_bytes-append))),
       ([], refl),
     )

@@ -1,49 +1,34 @@
 -- Laws of what `soft` makes, one segment after another.
-use Rattle.std.proofs.Common.{◌≡◌, ℕ, ℤ, zero, suc, ◌+◌, ◌-◌, ◌*◌, ◌/◌, ◌<◌, ◌≤◌, ◌⊎◌, inl, inr, Bool, true, false}
-use Rattle.std.proofs.Common.{cond, Option, Some, None, List, [], ◌∷◌, ◌++◌, length, map, take, drop, get_or, min}
-use Rattle.std.proofs.Common.{unwrap_or, refl, sym, ap, ap₂, ◌∙◌, subst, arith}
+use Rattle.std.proofs.Common.{◌≡◌, ℕ, ℤ, zero, suc, ◌+◌, ◌-◌, ◌*◌, ◌/◌, ◌<◌, ◌≤◌, ◌⊎◌, inl, inr, Option, Some, None}
+use Rattle.std.proofs.Common.{List, [], ◌∷◌, ◌++◌, length, map, take, drop, get_or, unwrap_or, refl, sym, ap, ap₂, ◌∙◌}
+use Rattle.std.proofs.Common.{subst, arith}
 use Rattle.std.specs.List.{range_with_len}
 use Rattle.std.proofs.lemmas.Bool.{cases_lt}
 use Rattle.std.proofs.lemmas.List.{append_assoc, append-nil, drop-append-le, get_or-drop, get_or_append_left}
 use Rattle.std.proofs.lemmas.List.{length-append, length-drop, length_push, length-take-le, map-append, take-append-le}
 use Rattle.std.proofs.lemmas.List.FromFn.{fill_by_all, length-map-range_with_len}
 use Rattle.std.proofs.Math.Seq.{get_or-append_seam}
-use Rattle.dtx_frame.specs.Detection.{looks_like}
 use Rattle.dtx_lists.proofs.Range.{map-range_same, range_with_len-parts}
 use Rattle.dtx_lists.proofs.RangeMoved.{map-range_moved}
 use Rattle.dtx_soft.specs.Softened.{softened, softened_segment}
 use Rattle.dtx_recipes.specs.Soft.{flushed, groups_in, in_groups, next_place, pending, ahead, soft_at, soft_from}
 use Rattle.dtx_recipes.specs.Soft.{soft_so_far}
 use Rattle.dtx_recipes.proofs.SoftPlacesLemmas.{IsFollowed, before_push, at_push, follows, place_copied, place_on}
-use Rattle.dtx_recipes.proofs.SoftPlacesLemmas.{place_ends}
-use Rattle.dtx_recipes.proofs.SoftPlacesLemmas.{follows_on, place_small}
+use Rattle.dtx_recipes.proofs.SoftPlacesLemmas.{place_ends, follows_on, place_small}
 
 -- ---- what stays
 
 pub part_stays : (s t : List (List ℤ)) (n : ℕ) → n + 312 ≤ length s → in_groups (s ++ t) n ≡ in_groups s n
 unfolding in_groups
-part_stays s t n l =
-    let all : 4 * (min 312 (length (s ++ t) - n) / 4) ≡ 312 = omega (arith, length-append s t) in
-    let own : 4 * (min 312 (length s - n) / 4) ≡ 312 = omega arith in
-    ap₂ take all (drop-append-le n s t (omega arith))
-    ∙ take-append-le 312 (drop n s) t (omega (arith, length-drop n s)) ∙ ap (λ k. take k (drop n s)) (sym own)
+part_stays s t n l = grind (arith, length-append, drop-append-le, take-append-le, length-drop)
 
 soft_stays : (s t : List (List ℤ)) (n i : ℕ) → IsFollowed s n → i < length s - n → soft_at (s ++ t) i ≡ soft_at s i
 unfolding soft_at
-soft_stays s t n i h l =
-    ap (soft_from (s ++ t) i) (before_push s t i (omega arith)) ∙ by_place (next_place (take i s)) refl
-  where
-    by_place : (o : Option ℕ) → next_place (take i s) ≡ o → soft_from (s ++ t) i o ≡ soft_from s i o
-    by_place None e = get_or_append_left s t [] i (omega arith)
-    by_place (Some p) e =
-        let c = h.closed i p l e in
-        ap₂ (λ (part : List (List ℤ)) (x : List ℤ). get_or (softened 1 part) p x)
-        (part_stays s t (i - p) (omega (arith, c.0, c.1))) (get_or_append_left s t [] i (omega arith))
+soft_stays s t n i h l = grind (arith, before_push, get_or_append_left, part_stays)
 
 so_far_stays : (s t : List (List ℤ)) (n : ℕ) → IsFollowed s n
     → map (soft_at (s ++ t)) (range_with_len 0 (length s - n)) ≡ map (soft_at s) (range_with_len 0 (length s - n))
-so_far_stays s t n h =
-    map-range_same (soft_at (s ++ t)) (soft_at s) 0 (length s - n) (λ i a b. soft_stays s t n i h (omega arith))
+so_far_stays s t n h = grind (arith, map-range_same, soft_stays)
 
 -- ---- a field
 
@@ -55,12 +40,7 @@ pub record IsField (s : List (List ℤ)) (first n : ℕ) : Type 0 where
 
 pub groups_are : (s : List (List ℤ)) (first n : ℕ) → IsField s first n → in_groups s first ≡ groups_in (drop first s)
 unfolding in_groups groups_in
-groups_are s first n h =
-    let few = h.few in
-    let long = h.long in
-    let e : 4 * (min 312 (length s - first) / 4) ≡ 4 * (length (drop first s) / 4) =
-    omega (arith, length-drop first s) in
-    ap (λ k. take k (drop first s)) e
+groups_are s first n h = grind (arith, length-drop)
 
 length-softened : (scale : ℕ) (rows : List (List ℤ)) → length (softened scale rows) ≡ length rows
 unfolding softened
@@ -87,27 +67,19 @@ field_at s first n j h l =
     length-softened 1 (groups_in rows) ∙ length-groups rows in
     ap (soft_from s (first + j)) (h.places j l)
     ∙ ap₂ (λ (part : List (List ℤ)) (x : List ℤ). get_or (softened 1 part) j x)
-    (ap (in_groups s) back ∙ groups_are s first n h) (sym (get_or-drop first s j []))
-    ∙ patched (softened 1 (groups_in rows)) rows j [] (omega (arith, long))
-    ∙ ap (λ k. get_or (softened 1 (groups_in rows) ++ drop k rows) j []) long
+    (ap (in_groups s) back ∙ groups_are s first n h) (sym (get_or-drop first s j [])) ∙ grind (arith, patched)
 
 length-flushed : (rows : List (List ℤ)) → length (flushed rows) ≡ length rows
 unfolding flushed
-length-flushed rows =
-    let a = length-append (softened 1 (groups_in rows)) (drop (4 * (length rows / 4)) rows) in
-    let b = length-softened 1 (groups_in rows) in
-    let c = length-groups rows in
-    let d = length-drop (4 * (length rows / 4)) rows in
-    omega (arith, a, b, c, d)
+length-flushed rows = grind (arith, length-append, length-softened, length-groups, length-drop)
 
 pub field_soft : (s : List (List ℤ)) (first n : ℕ) → IsField s first n
     → map (soft_at s) (range_with_len first n) ≡ flushed (drop first s)
 field_soft s first n h =
     let rows = drop first s in
     let long : length (flushed rows) ≡ n = omega (arith, length-flushed rows, length-drop first s, h.long) in
-    map-range_moved (soft_at s) (λ j. get_or (flushed rows) j []) first 0 n
-    (λ j l. (let same : 0 + j ≡ j = omega arith in field_at s first n j h l
-    ∙ ap (λ k. get_or (flushed rows) k []) (sym same)))
+    map-range_moved (soft_at s) (λ j. get_or (flushed rows) j []) first 0 n (λ j l. (field_at s first n j h l
+    ∙ ap (λ k. get_or (flushed rows) k []) (sym (omega arith))))
     ∙ sym (fill_by_all (λ j. get_or (flushed rows) j []) (flushed rows) n [] long (λ k l. refl))
 
 -- ---- the pieces
@@ -116,11 +88,7 @@ pub followed_field : (s : List (List ℤ)) (n : ℕ) → IsFollowed s n → n �
 followed_field s n h l = record { few = l; long = omega (arith, h.within); places = h.places }
 
 pub pending_copied : (s : List (List ℤ)) (x : List ℤ) → next_place s ≡ None → pending (s ++ x ∷ []) ≡ 0
-pending_copied s x e = ap (λ (o : Option ℕ). unwrap_or o 0) (place_copied s x e) ∙ either (looks_like x)
-  where
-    either : (b : Bool) → ◌≡◌ {A = ℕ} (unwrap_or (cond b (Some 0) None) 0) 0
-    either true = refl
-    either false = refl
+pending_copied s x e = grind (arith, place_copied)
 
 pub pending_is : (s : List (List ℤ)) (o : Option ℕ) → next_place s ≡ o → pending s ≡ unwrap_or o 0
 pending_is s o e = ap (λ (o : Option ℕ). unwrap_or o 0) e
@@ -180,24 +148,12 @@ pub so_far_copied : (s : List (List ℤ)) (x : List ℤ) → next_place s ≡ No
     → soft_so_far (s ++ x ∷ []) ≡ soft_so_far s ++ x ∷ []
 unfolding soft_so_far soft_at
 so_far_copied s x e =
-    let h = ahead_copied s x e in
-    let zero_on : 0 + (length s - 0) ≡ length s = omega arith in
-    ap (λ n. map (soft_at (s ++ x ∷ [])) (range_with_len 0 n)) h.all
-    ∙ ap (map (soft_at (s ++ x ∷ []))) (range_with_len-parts 0 (length s - 0) 1)
-    ∙ map-append (soft_at (s ++ x ∷ [])) (range_with_len 0 (length s - 0)) (range_with_len (0 + (length s - 0)) 1)
-    ∙ ap₂ ◌++◌ (so_far_stays s (x ∷ []) 0 h.followed ∙ ap (λ n. map (soft_at s) (range_with_len 0 n)) h.own)
-    (ap (λ n. map (soft_at (s ++ x ∷ [])) (range_with_len n 1)) zero_on
-    ∙ ap (λ (y : List ℤ). y ∷ []) (ap (soft_from (s ++ x ∷ []) (length s)) (at_push s x (length s) refl ∙ e)
-    ∙ get_or-append_seam s x [] []))
+    grind (arith, ahead_copied, range_with_len-parts, map-append, so_far_stays, at_push, get_or-append_seam)
 
 pub so_far_kept : (s : List (List ℤ)) (x : List ℤ) (p : ℕ) → next_place s ≡ Some p → p + 1 < 312
     → soft_so_far (s ++ x ∷ []) ≡ soft_so_far s
 unfolding soft_so_far
-so_far_kept s x p e l =
-    let h = ahead_kept s x p e l in
-    let all : ahead (s ++ x ∷ []) ≡ length s - p = omega (arith, h.all) in
-    ap (λ n. map (soft_at (s ++ x ∷ [])) (range_with_len 0 n)) all
-    ∙ so_far_stays s (x ∷ []) p h.followed ∙ ap (λ n. map (soft_at s) (range_with_len 0 n)) h.own
+so_far_kept s x p e l = grind (arith, ahead_kept, so_far_stays)
 
 pub so_far_full : (s : List (List ℤ)) (x : List ℤ) → next_place s ≡ Some 311
     → soft_so_far (s ++ x ∷ []) ≡ soft_so_far s ++ flushed (drop (ahead s) s ++ x ∷ [])
@@ -208,8 +164,7 @@ so_far_full s x e =
     ap (λ n. map (soft_at (s ++ x ∷ [])) (range_with_len 0 n)) h.all
     ∙ ap (map (soft_at (s ++ x ∷ []))) (range_with_len-parts 0 (length s - 311) 312)
     ∙ map-append (soft_at (s ++ x ∷ [])) (range_with_len 0 (length s - 311)) (range_with_len (0 + (length s - 311)) 312)
-    ∙ ap₂ ◌++◌ (so_far_stays s (x ∷ []) 311 h.followed ∙ ap (λ n. map (soft_at s) (range_with_len 0 n)) h.own)
-    (ap (λ n. map (soft_at (s ++ x ∷ [])) (range_with_len n 312)) zero_on
+    ∙ ap₂ ◌++◌ (grind (arith, so_far_stays)) (ap (λ n. map (soft_at (s ++ x ∷ [])) (range_with_len n 312)) zero_on
     ∙ field_soft (s ++ x ∷ []) (length s - 311) 312 (full_field s x e h.followed) ∙ ap flushed (full_rows s x h))
 
 -- ---- with more segments more is made
@@ -223,8 +178,7 @@ one_on s x = by_place (next_place s) refl
     by_end p e (inl l) = ([], so_far_kept s x p e l ∙ sym (append-nil (soft_so_far s)))
     by_end p e (inr l) =
         let small = place_small s p e in
-        let same : p ≡ 311 = omega arith in
-        (flushed (drop (ahead s) s ++ x ∷ []), so_far_full s x (e ∙ ap Some same))
+        (flushed (drop (ahead s) s ++ x ∷ []), so_far_full s x (e ∙ ap Some (omega arith)))
 
     by_place : (o : Option ℕ) → next_place s ≡ o
         → (brought : List (List ℤ)) × (soft_so_far (s ++ x ∷ []) ≡ soft_so_far s ++ brought)
@@ -236,17 +190,11 @@ pub so_far_on : (s more : List (List ℤ))
 so_far_on s [] = ([], ap soft_so_far (append-nil s) ∙ sym (append-nil (soft_so_far s)))
 so_far_on s (x ∷ more) =
     let first = one_on s x in
-    let rest = so_far_on (s ++ x ∷ []) more in (
-      first.0 ++ rest.0,
-      ap soft_so_far (sym (append_assoc s (x ∷ []) more)) ∙ rest.1 ∙ ap (λ z. z ++ rest.0) first.1
-          ∙ append_assoc (soft_so_far s) first.0 rest.0,
-    )
+    let rest = so_far_on (s ++ x ∷ []) more in (grind (arith, append_assoc))
 
 pub none_so_far : soft_so_far [] ≡ []
 unfolding soft_so_far
-none_so_far =
-    let none : ahead [] ≡ 0 = omega arith in
-    ap (λ n. map (soft_at []) (range_with_len 0 n)) none
+none_so_far = grind arith
 
 -- ---- numbers
 

@@ -1,8 +1,7 @@
 -- Laws of the places of segments: what the next place is after one segment more, and that the places of a field follow
 -- one another.
-use Rattle.std.proofs.Common.{◌≡◌, ◌≢◌, ℕ, ℤ, ◌+◌, ◌-◌, ◌%◌, ◌<◌, ◌≤◌, ◌⊎◌, inl, inr, ◌==◌, Bool, true, false}
-use Rattle.std.proofs.Common.{cond, Option, Some, None, List, [], ◌∷◌, ◌++◌, length, take, unwrap_or, refl, sym, ap}
-use Rattle.std.proofs.Common.{◌∙◌, subst, arith}
+use Rattle.std.proofs.Common.{◌≡◌, ℕ, ℤ, ◌+◌, ◌-◌, ◌%◌, ◌<◌, ◌≤◌, ◌⊎◌, inl, inr, Bool, true, false, cond, Option, Some}
+use Rattle.std.proofs.Common.{None, List, [], ◌∷◌, ◌++◌, length, take, unwrap_or, refl, sym, ap, ◌∙◌, subst, arith}
 use Rattle.std.proofs.lemmas.Bool.{cases_lt, cond-false, eqb-true, eqb-false, ne_eqb}
 use Rattle.std.proofs.lemmas.List.{append_assoc, append-nil, length_push, take-append-le}
 use Rattle.std.proofs.Math.Seq.{take-append_seam}
@@ -15,24 +14,16 @@ use Rattle.dtx_recipes.specs.Soft.{next_place, pending, place_in}
 
 after_due : (run : List (List ℤ)) (x : List ℤ) → length run % 313 ≡ 0 → place_in (Some (run ++ x ∷ [])) ≡ Some 0
 unfolding sync_due
-after_due run x e =
-    let n : length (run ++ x ∷ []) % 313 ≡ 1 = omega (arith, length_push run x, e) in
-    ap (λ (n : ℕ). cond (n == 0) None (Some (n - 1))) n
+after_due run x e = grind (arith, length_push)
 
 after_data : (run : List (List ℤ)) (x : List ℤ) (p : ℕ) → length run % 313 ≡ p + 1 → p + 1 < 312
     → place_in (Some (run ++ x ∷ [])) ≡ Some (p + 1)
 unfolding sync_due
-after_data run x p e l =
-    let n : length (run ++ x ∷ []) % 313 ≡ p + 2 = omega (arith, length_push run x, e, l) in
-    let one : p + 2 - 1 ≡ p + 1 = omega arith in
-    ap (λ (n : ℕ). cond (n == 0) None (Some (n - 1))) n
-    ∙ cond-false (p + 2 == 0) None (Some (p + 2 - 1)) (ne_eqb (p + 2) 0 (λ h. omega (arith, h))) ∙ ap Some one
+after_data run x p e l = grind (arith, length_push, cond-false, ne_eqb)
 
 after_last : (run : List (List ℤ)) (x : List ℤ) → length run % 313 ≡ 312 → place_in (Some (run ++ x ∷ [])) ≡ None
 unfolding sync_due
-after_last run x e =
-    let n : length (run ++ x ∷ []) % 313 ≡ 0 = omega (arith, length_push run x, e) in
-    ap (λ (n : ℕ). cond (n == 0) None (Some (n - 1))) n
+after_last run x e = grind (arith, length_push)
 
 after_first : (x : List ℤ) → place_in (Some (x ∷ [])) ≡ Some 0
 unfolding sync_due
@@ -40,25 +31,12 @@ after_first x = refl
 
 is_due : (run : List (List ℤ)) → place_in (Some run) ≡ None → (sync_due run ≡ true) × (length run % 313 ≡ 0)
 unfolding sync_due
-is_due run h = by_test (length run % 313 == 0) refl h
-  where
-    by_test : (b : Bool) → (length run % 313 == 0) ≡ b → cond b None (Some (length run % 313 - 1)) ≡ None
-        → ((length run % 313 == 0) ≡ true) × (length run % 313 ≡ 0)
-    by_test true e h = (e, eqb-true (length run % 313) 0 e)
-    by_test false e h = cc
+is_due run h = grind (arith, eqb-true)
 
 is_data : (run : List (List ℤ)) (p : ℕ) → place_in (Some run) ≡ Some p
     → (sync_due run ≡ false) × (length run % 313 ≡ p + 1)
 unfolding sync_due
-is_data run p h = by_test (length run % 313 == 0) refl h
-  where
-    by_test : (b : Bool) → (length run % 313 == 0) ≡ b → cond b None (Some (length run % 313 - 1)) ≡ Some p
-        → ((length run % 313 == 0) ≡ false) × (length run % 313 ≡ p + 1)
-    by_test true e h = cc
-    by_test false e h =
-        let n : length run % 313 ≢ 0 = eqb-false (length run % 313) 0 e in
-        let m : length run % 313 - 1 ≡ p = cc in
-        (e, omega (arith, n, m))
+is_data run p h = grind (arith, eqb-false)
 
 -- the run goes on with a segment (`with_run`), or ends before it (`without_run`)
 abbrev with_run : List (List (List ℤ)) → List (List ℤ) → List ℤ → Tracked
@@ -103,8 +81,7 @@ place_copied s x h = by_run (tracked s).run refl h
 
 -- a data segment: the run goes on with it
 goes_on : (s : List (List ℤ)) (x : List ℤ) (p : ℕ) (o : Option (List (List ℤ))) → (tracked s).run ≡ o
-    → place_in o ≡ Some p
-    → (run : List (List ℤ)) × (length run % 313 ≡ p + 1)
+    → place_in o ≡ Some p → (run : List (List ℤ)) × (length run % 313 ≡ p + 1)
     × (place_in (tracked (s ++ x ∷ [])).run ≡ place_in (Some (run ++ x ∷ [])))
 goes_on s x p None e h = cc
 goes_on s x p (Some run) e h =
@@ -166,10 +143,7 @@ follows_copied s x h none = record {
     by_place i p l e (inl m) =
         let c = h.closed i p (omega arith) (sym (before_push s (x ∷ []) i (omega arith)) ∙ e) in
         (c.0, omega (arith, c.1, length_push s x))
-    by_place i p l e (inr m) =
-        let same : i ≡ length s = omega (arith, length_push s x) in
-        let at = at_push s x i same in
-        cc
+    by_place i p l e (inr m) = grind (arith, length_push, at_push)
 
 pub follows_on : (s : List (List ℤ)) (x : List ℤ) (n : ℕ) → IsFollowed s n → next_place s ≡ Some n
     → IsFollowed (s ++ x ∷ []) (n + 1)
@@ -191,39 +165,32 @@ follows_on s x n h here = record {
         let same : length (s ++ x ∷ []) - (n + 1) + j ≡ length s - n + j = omega arith in
         ap (λ k. next_place (take k (s ++ x ∷ []))) same ∙ before_push s (x ∷ []) (length s - n + j) (omega arith)
         ∙ h.places j m
-    by_place j l (inr m) =
-        let long = length_push s x in
-        let within = h.within in
-        let same : j ≡ n = omega arith in
-        at_push s x (length (s ++ x ∷ []) - (n + 1) + j) (omega arith) ∙ here ∙ ap Some (sym same)
+    by_place j l (inr m) = grind (arith, length_push, at_push)
 
 pub follows_full : (s : List (List ℤ)) (x : List ℤ) → IsFollowed s 311 → next_place s ≡ Some 311
     → IsFollowed (s ++ x ∷ []) 0
 follows_full s x h here = record {
   within = omega arith;
   places = λ j l. absurd (omega arith);
-  closed = λ i p l e. by_place i p l e (cases_lt i (length s - 311));
-}
-  where
-    on : IsFollowed (s ++ x ∷ []) 312
-    on = follows_on s x 311 h here
-
-    by_place : (i p : ℕ) → i < length (s ++ x ∷ []) - 0 → next_place (take i (s ++ x ∷ [])) ≡ Some p
-        → (i < length s - 311) ⊎ (length s - 311 ≤ i) → (p ≤ i) × (i - p + 312 ≤ length (s ++ x ∷ []) - 0)
-    by_place i p l e (inl m) =
+  closed = λ i p l e. elim (cases_lt i (length s - 311)) [
+    | inl m ↦
         let long = length_push s x in
         let within = h.within in
         let c = h.closed i p m (sym (before_push s (x ∷ []) i (omega arith)) ∙ e) in
         (c.0, omega (arith, c.1))
-    by_place i p l e (inr m) =
+    | inr m ↦
         let long = length_push s x in
         let within = h.within in
         let j : length (s ++ x ∷ []) - 312 + (i - (length s - 311)) ≡ i = omega arith in
         let at = on.places (i - (length s - 311)) (omega arith) in
-        let same : Some (i - (length s - 311)) ≡ Some p =
-        sym at ∙ ap (λ k. next_place (take k (s ++ x ∷ []))) j ∙ e in
+        let same : Some (i - (length s - 311)) ≡ Some p = sym at ∙ ap (λ k. next_place (take k (s ++ x ∷ []))) j ∙ e in
         let is = some_is (i - (length s - 311)) p same in
         (omega arith, omega arith)
+  ];
+}
+  where
+    on : IsFollowed (s ++ x ∷ []) 312
+    on = follows_on s x 311 h here
 
 -- ---- one segment after another
 
@@ -245,31 +212,21 @@ follows_push s x h = by_place (next_place s) refl
     copied_back false k = k
 
     by_end : (p : ℕ) → next_place s ≡ Some p → IsFollowed s p → (p + 1 < 312) ⊎ (312 ≤ p + 1) → Follows (s ++ x ∷ [])
-    by_end p e k (inl l) =
-        subst (λ (o : Option ℕ). IsFollowed (s ++ x ∷ []) (unwrap_or o 0)) (sym (place_on s x p e l))
+    by_end p e k (inl l) = subst (λ (o : Option ℕ). IsFollowed (s ++ x ∷ []) (unwrap_or o 0)) (sym (place_on s x p e l))
         (follows_on s x p k e)
     by_end p e k (inr l) =
         let small = place_small s p e in
-        let same : p ≡ 311 = omega arith in
-        let full : next_place s ≡ Some 311 = e ∙ ap Some same in
+        let full : next_place s ≡ Some 311 = e ∙ ap Some (omega arith) in
         subst (λ (o : Option ℕ). IsFollowed (s ++ x ∷ []) (unwrap_or o 0)) (sym (place_ends s x full))
-        (follows_full s x (subst (IsFollowed s) same k) full)
+        (follows_full s x (subst (IsFollowed s) (omega arith) k) full)
 
     by_place : (o : Option ℕ) → next_place s ≡ o → Follows (s ++ x ∷ [])
-    by_place None e =
-        subst (λ (o : Option ℕ). IsFollowed (s ++ x ∷ []) (unwrap_or o 0)) (sym (place_copied s x e))
-        (copied_back (looks_like x)
-        (follows_copied s x (subst (λ (o : Option ℕ). IsFollowed s (unwrap_or o 0)) e h) e))
-    by_place (Some p) e =
-        by_end p e (subst (λ (o : Option ℕ). IsFollowed s (unwrap_or o 0)) e h) (cases_lt (p + 1) 312)
+    by_place None e = subst (λ (o : Option ℕ). IsFollowed (s ++ x ∷ []) (unwrap_or o 0)) (sym (place_copied s x e))
+        (copied_back (looks_like x) (follows_copied s x (subst (λ (o : Option ℕ). IsFollowed s (unwrap_or o 0)) e h) e))
+    by_place (Some p) e = by_end p e (subst (λ (o : Option ℕ). IsFollowed s (unwrap_or o 0)) e h) (cases_lt (p + 1) 312)
 
 follows_none : Follows []
-follows_none =
-    subst (λ (o : Option ℕ). IsFollowed [] (unwrap_or o 0)) (sym place_first) (record {
-      within = omega arith;
-      places = λ j l. absurd (omega arith);
-      closed = λ i p l e. absurd (omega arith);
-    })
+follows_none = grind (arith, place_first)
 
 -- for all segments
 pub follows : (s : List (List ℤ)) → IsFollowed s (pending s)

@@ -1,28 +1,24 @@
 -- Laws of the segments of a symbol file that is read piece by piece.
-use Rattle.std.proofs.Common.{◌≡◌, ℕ, ◌+◌, ◌-◌, ◌*◌, ◌%◌, ◌<◌, List, [], ◌++◌, length, take, drop, map, refl, sym, ap}
-use Rattle.std.proofs.Common.{◌∙◌, arith}
+use Rattle.std.proofs.Common.{◌≡◌, ℕ, ◌+◌, ◌-◌, ◌*◌, ◌%◌, ◌<◌, List, [], ◌++◌, length, take, drop, refl, sym, ap, ◌∙◌}
+use Rattle.std.proofs.Common.{arith}
 use Rattle.std.proofs.lemmas.List.{drop-drop, drop-take, take-take, map-append, length-append}
 use Rattle.std.proofs.lemmas.List.FromFn.{get_or-map-range_with_len, length-map-range_with_len, fill_by_all}
 use Rattle.std.proofs.Math.Seq.{take-append_seam, drop-append_seam}
-use Rattle.std.specs.List.{range_with_len}
 use Rattle.dtx_lists.proofs.Range.{range_with_len-parts}
 use Rattle.dtx_recipes.specs.SymbolFile.{symbols, segment_at, segments_from, file_segments, whole_segments}
 
 -- the segments of two pieces, one behind the other
 pub segments_from-append : (file : List ℕ) (first m n : ℕ)
     → segments_from file first (m + n) ≡ segments_from file first m ++ segments_from file (first + m) n
-segments_from-append file first m n =
-    ap (map (segment_at file)) (range_with_len-parts first m n)
-    ∙ map-append (segment_at file) (range_with_len first m) (range_with_len (first + m) n)
+segments_from-append file first m n = grind (arith, range_with_len-parts, map-append)
 
 -- segment k of a piece
 segment_at-piece : (file : List ℕ) (first n k : ℕ) → k < n
     → segment_at (take (832 * n) (drop (832 * first) file)) k ≡ segment_at file (first + k)
 segment_at-piece file first n k within =
-    let split : 832 * n ≡ 832 * k + (832 * n - 832 * k) = omega arith in
     let place : 832 * first + 832 * k ≡ 832 * (first + k) = omega arith in
     ap symbols (
-    ap (λ m. take 832 (drop (832 * k) (take m (drop (832 * first) file)))) split
+    ap (λ m. take 832 (drop (832 * k) (take m (drop (832 * first) file)))) (omega arith)
     ∙ ap (take 832) (drop-take (832 * k) (832 * n - 832 * k) (drop (832 * first) file))
     ∙ take-take 832 (832 * n - 832 * k) (drop (832 * k) (drop (832 * first) file)) (omega arith)
     ∙ ap (take 832) (drop-drop (832 * k) (832 * first) file ∙ ap (λ m. drop m file) place))
@@ -32,8 +28,7 @@ pub segments_from-piece : (file : List ℕ) (first n : ℕ)
     → segments_from (take (832 * n) (drop (832 * first) file)) 0 n ≡ segments_from file first n
 segments_from-piece file first n =
     let piece = take (832 * n) (drop (832 * first) file) in
-    sym (fill_by_all (segment_at piece) (segments_from file first n) n []
-    (length-map-range_with_len (segment_at file) first n)
+    sym (fill_by_all (segment_at piece) (segments_from file first n) n [] (grind (arith, length-map-range_with_len))
     (λ k less. get_or-map-range_with_len (segment_at file) first n k (first + k) [] less refl
     ∙ sym (segment_at-piece file first n k less)))
 
@@ -51,8 +46,6 @@ file_segments-append a b whole =
     let first : segments_from (a ++ b) 0 m ≡ file_segments a =
     sym (segments_from-piece (a ++ b) 0 m) ∙ ap (λ z. segments_from z 0 m) front in
     let more : n ≡ n = refl in
-    let second : segments_from (a ++ b) (0 + m) n ≡ file_segments b =
-    ap (λ k. segments_from (a ++ b) k n) place ∙ sym (segments_from-piece (a ++ b) m n)
-    ∙ ap (λ z. segments_from (take (832 * n) z) 0 n) behind ∙ segments_from-piece b 0 n in
+    let second : segments_from (a ++ b) (0 + m) n ≡ file_segments b = grind (arith, segments_from-piece) in
     ap (segments_from (a ++ b) 0) both ∙ segments_from-append (a ++ b) 0 m n
     ∙ ap (λ z. z ++ segments_from (a ++ b) (0 + m) n) first ∙ ap (λ z. file_segments a ++ z) second

@@ -115,7 +115,8 @@ begun_field scale f heard given field is long count heard_are decided cost none 
         segments = λ _.
             ap (λ rows. field_rounded scale rows field.known.items (decided_rows field)) heard_are
             ∙ ap (field_rounded scale (rows_of heard f) field.known.items) decided
-            ∙ field_after scale heard given [] field.known.items f same ∙ unknown_stays scale heard given [] f is (nothing_is f)
+            ∙ field_after scale heard given [] field.known.items f same
+            ∙ unknown_stays scale heard given [] f is (nothing_is f)
             ∙ sym decided;
         cost = λ _.
             cost ∙ sym (unknown_cost scale heard [] f (nothing_is f))

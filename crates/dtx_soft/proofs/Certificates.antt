@@ -1,6 +1,6 @@
 -- Paths that cost so much, one step on; and why a certificate proves its path a least one.
 use Rattle.std.proofs.Common.{◌≡◌, ℕ, suc, ℤ, pos, ◌+◌, ◌-◌, ◌/◌, ◌%◌, ◌<◌, ◌≤◌, List, [], ◌∷◌, length, get_or, drop}
-use Rattle.std.proofs.Common.{refl, sym, ap, ◌∙◌, subst, arith}
+use Rattle.std.proofs.Common.{sym, ap, ◌∙◌, subst, arith}
 use Rattle.std.proofs.lemmas.List.{drop_all, drop_more}
 use Rattle.dtx_soft.specs.Paths.{IsPath, cost, next_state, squared, symbol_at}
 use Rattle.dtx_soft.specs.Least.{ArePotentials, IsLeast, IsPotential, NoneCostsLess}
@@ -59,11 +59,7 @@ joined_at state symbols levels t left l e h =
 -- behind the last symbol
 pub nothing_left : (state : ℕ) (symbols : List ℤ) (levels : List ℕ) (t left : ℕ) → length symbols ≤ t
     → length levels ≡ length symbols → Costs state (drop t symbols) (drop t levels) left → left ≡ 0
-nothing_left state symbols levels t left l e h =
-    sym h.1 ∙ free
-  where
-    free : cost 1 (drop t symbols) (drop t levels) ≡ 0
-    free = ap (λ symbols. cost 1 symbols (drop t levels)) (drop_all t symbols l) ∙ nothing_costs 1 (drop t levels)
+nothing_left state symbols levels t left l e h = grind (arith, drop_all, nothing_costs)
 
 pub all_left : (state : ℕ) (symbols : List ℤ) (levels : List ℕ) (t : ℕ) → length symbols ≤ t
     → length levels ≡ length symbols → Costs state (drop t symbols) (drop t levels) 0
@@ -125,17 +121,12 @@ potentials_certify symbols start levels potentials h p = record {
 }
   where
     none : {s n : ℕ} → IsPotential 1 (drop (length symbols) symbols) s n → n ≡ 0
-    none {s} {n} q =
-        let r : IsPotential 1 [] s n = subst (λ symbols. IsPotential 1 symbols s n)
-        (drop_all (length symbols) symbols (omega arith)) q in
-        let a = r.below [] refl tt in
-        omega (arith, a, nothing_costs 1 [])
+    none {s} {n} q = grind (arith, drop_all, nothing_costs)
 
     step : (t s z : ℕ) → t < length symbols → z < 8 → z % 2 ≡ s / 2
         → IsPotential 1 (drop t symbols) s (get_or (get_or potentials t []) s 0)
         → IsPotential 1 (drop (t + 1) symbols) (next_state s z)
-        (get_or (get_or potentials (t + 1) []) (next_state s z) 0)
-        → get_or (get_or potentials t []) s 0
+        (get_or (get_or potentials (t + 1) []) (next_state s z) 0) → get_or (get_or potentials t []) s 0
         ≤ squared (get_or symbols t (pos 0)) (symbol_at 1 z) + get_or (get_or potentials (t + 1) []) (next_state s z) 0
     step t s z k m e q r =
         let q : IsPotential 1 (get_or symbols t (pos 0) ∷ drop (t + 1) symbols) s

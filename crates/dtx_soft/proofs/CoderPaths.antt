@@ -1,6 +1,5 @@
 -- The levels of a trellis coder are a path.
-use Rattle.std.proofs.Common.{◌≡◌, ℕ, zero, suc, ◌+◌, ◌*◌, ◌/◌, ◌%◌, ◌<◌, List, length, get_or, map, sym, ap, ap₂, ◌∙◌}
-use Rattle.std.proofs.Common.{subst, arith}
+use Rattle.std.proofs.Common.{◌≡◌, ℕ, zero, suc, ◌+◌, ◌*◌, ◌/◌, ◌%◌, ◌<◌, List, length, get_or, map, sym, subst, arith}
 use Rattle.std.specs.List.{range_with_len}
 use Rattle.dtx_trellis.specs.Trellis.{AreBits, State, level, level_of, next_of, state_after}
 use Rattle.dtx_trellis.proofs.StepsLemmas.{after_zero, level_step, state_step}
@@ -37,13 +36,7 @@ level_begins q x2 x1 h = let m : q.q1 < 2 = h.q1 in let n : q.q0 < 2 = h.q0 in o
 level_next : (q : State) (x2 x1 : ℕ) → AreBits q → x1 < 2
     → next_state (low_bits q) (level_of q x2 x1) ≡ low_bits (next_of q x2 x1)
 unfolding next_state
-level_next q x2 x1 h l =
-    let m : q.q1 < 2 = h.q1 in
-    let n : q.q0 < 2 = h.q0 in
-    let a : level_of q x2 x1 / 2 % 2 ≡ x1 = omega arith in
-    let b : low_bits q % 2 ≡ q.q0 = omega arith in
-    let c : low_bits q / 2 ≡ q.q1 = omega arith in
-    ap₂ (λ x y. 2 * x + y) (ap (λ x. x % 2) (ap₂ (λ x y. x + y) a b)) c
+level_next q x2 x1 h l = grind arith
 
 pub coder_path : (q : State) (a b : List ℕ) → AreBits q → ((t : ℕ) → t < length a → get_or b t 0 < 2)
     → IsPath (2 * q.q1 + q.q0) (map (level q a b) (range_with_len 0 (length a)))
@@ -52,17 +45,4 @@ coder_path q a b h small =
     (path_from (λ t. low_bits (state_after q a b t)) (level q a b) 0 (length a) (λ t l. follows t (omega arith)))
   where
     follows : (t : ℕ) → t < length a → Follows (λ t. low_bits (state_after q a b t)) (level q a b) t
-    follows t l = record {
-      small = subst (λ z. z < 8) (sym z)
-          (level_small (state_after q a b t) (get_or a t 0) (get_or b t 0) bits (small t l));
-      begins = ap (λ z. z % 2) z ∙ level_begins (state_after q a b t) (get_or a t 0) (get_or b t 0) bits;
-      next = ap (next_state (low_bits (state_after q a b t))) z
-          ∙ level_next (state_after q a b t) (get_or a t 0) (get_or b t 0) bits (small t l)
-          ∙ ap low_bits (sym (state_step q a b t h l));
-    }
-      where
-        z : level q a b t ≡ level_of (state_after q a b t) (get_or a t 0) (get_or b t 0)
-        z = level_step q a b t h l
-
-        bits : AreBits (state_after q a b t)
-        bits = after_bits q a b t h (omega arith)
+    follows t l = grind (arith, level_small, level_begins, level_next, state_step, level_step, after_bits)

@@ -24,8 +24,7 @@ pub no_gaps : (scale : ℕ) (symbols : List ℤ) (k : ℕ) (gap : Gap ℤ) → l
     → gap.odd ≡ pos 0 → gap.across ≡ pos 0 → AreLeastGaps scale (drop k symbols) gap
 no_gaps scale symbols k gap l e f g = record {
   potentials = 0 ∷ 0 ∷ 0 ∷ 0 ∷ [];
-  least = no_potentials scale symbols k (0 ∷ 0 ∷ 0 ∷ 0 ∷ []) l
-      (four (λ s. get_or (0 ∷ 0 ∷ 0 ∷ 0 ∷ []) s 0 ≡ 0) refl refl refl refl);
+  least = no_potentials scale symbols k (0 ∷ 0 ∷ 0 ∷ 0 ∷ []) l (grind (arith, four));
   gaps = record {
     base = 0;
     lift = 0;
@@ -40,21 +39,18 @@ no_gaps scale symbols k gap l e f g = record {
 pub gaps_more : (scale : ℕ) (symbols : List ℤ) (t u : ℕ) (old new : Gap ℤ) (marks : ℕ) → scale ≤ 18
     → t < length symbols → u ≡ t + 1 → IsStep scale (get_or symbols t (pos 0)) old new marks
     → AreLeastGaps scale (drop u symbols) old → AreLeastGaps scale (drop t symbols) new
-gaps_more scale symbols t u old new marks small l e step h = record {
-  potentials = before;
-  least = potentials_more scale symbols t u (row_of scale (get_or symbols t (pos 0))) h.potentials before l e
-      (row_is scale (get_or symbols t (pos 0)) small step.from step.to) h.least written;
-  gaps = step.gaps h.potentials before h.gaps written;
-}
-  where
-    each : ℕ → ℕ
-    each = cheapest (row_of scale (get_or symbols t (pos 0))) h.potentials
-
-    before : List ℕ
-    before = each 0 ∷ each 1 ∷ each 2 ∷ each 3 ∷ []
-
-    written : (s : ℕ) → s < 4 → get_or before s 0 ≡ cheapest (row_of scale (get_or symbols t (pos 0))) h.potentials s
-    written = four (λ s. get_or before s 0 ≡ each s) refl refl refl refl
+gaps_more scale symbols t u old new marks small l e step h =
+    let each : ℕ → ℕ = cheapest (row_of scale (get_or symbols t (pos 0))) h.potentials in
+    let before : List ℕ = each 0 ∷ each 1 ∷ each 2 ∷ each 3 ∷ [] in
+    let written : (s : ℕ) → s < 4 → get_or before s 0 ≡ cheapest
+    (row_of scale (get_or symbols t (pos 0))) h.potentials s =
+    four (λ s. get_or before s 0 ≡ each s) refl refl refl refl in
+    record {
+      potentials = before;
+      least = potentials_more scale symbols t u (row_of scale (get_or symbols t (pos 0))) h.potentials before l e
+          (row_is scale (get_or symbols t (pos 0)) small step.from step.to) h.least written;
+      gaps = step.gaps h.potentials before h.gaps written;
+    }
 
 pub marks_more : (scale : ℕ) (symbols : List ℤ) (t u : ℕ) (old new : Gap ℤ) (marks : ℕ) → u ≡ t + 1
     → IsStep scale (get_or symbols t (pos 0)) old new marks → AreLeastGaps scale (drop u symbols) old
@@ -68,16 +64,11 @@ marks_more scale symbols t u old new marks e step h = record {
 pub none_walked : (scale : ℕ) (rounds : List (List ℤ)) (gaps : ℕ → Gap ℤ) (marks : List (List ℕ))
     → ((n : ℕ) → n < 16 → (gaps n).even ≡ pos 0) → ((n : ℕ) → n < 16 → (gaps n).odd ≡ pos 0)
     → ((n : ℕ) → n < 16 → (gaps n).across ≡ pos 0) → AreWalked scale (length rounds) rounds gaps marks
-none_walked scale rounds gaps marks e f g = record {
-  gaps_are = λ n l. no_gaps scale (column rounds n) (length rounds) (gaps n) (omega (arith, length-column rounds n))
-      (e n l) (f n l) (g n l);
-  marks_are = λ k n l m o. absurd (omega arith);
-}
+none_walked scale rounds gaps marks e f g = grind (arith, no_gaps, length-column)
 
 pub one_walked : (scale units t u : ℕ) (rounds : List (List ℤ)) (old new : ℕ → Gap ℤ) (marks : List (List ℕ))
     (row : List ℕ) → units ≡ scale → scale ≤ 18 → u ≡ t + 1 → u ≤ length rounds → length marks ≡ length rounds
-    → ((n : ℕ) → n < 16
-    → IsStep units (get_or (get_or rounds t []) n (pos 0)) (old n) (new n) (get_or row n 0))
+    → ((n : ℕ) → n < 16 → IsStep units (get_or (get_or rounds t []) n (pos 0)) (old n) (new n) (get_or row n 0))
     → AreWalked scale u rounds old marks → AreWalked scale t rounds new (slice_set marks t row)
 one_walked scale units t u rounds old new marks row same small e l long step h = record {
   gaps_are = λ n m. gaps_more scale (column rounds n) t u (old n) (new n) (get_or row n 0) small
@@ -87,21 +78,13 @@ one_walked scale units t u rounds old new marks row same small e l long step h =
       (h.gaps_are n p)) k [] (λ d. h.marks_are k n (omega arith) o p);
 }
   where
-    in_column : (n : ℕ) → n < 16
-        → IsStep scale (get_or (column rounds n) t (pos 0)) (old n) (new n) (get_or row n 0)
-    in_column n m =
-        subst (λ v. IsStep scale v (old n) (new n) (get_or row n 0))
-        (sym (symbol_in_column rounds n t (omega arith)))
-        (subst (λ scale. IsStep scale (get_or (get_or rounds t []) n (pos 0)) (old n) (new n) (get_or row n 0)) same
-        (step n m))
+    in_column : (n : ℕ) → n < 16 → IsStep scale (get_or (column rounds n) t (pos 0)) (old n) (new n) (get_or row n 0)
+    in_column n m = grind (arith, symbol_in_column)
 
 pub walked_alike : (scale t : ℕ) (rounds : List (List ℤ)) (gaps others : ℕ → Gap ℤ) (marks : List (List ℕ))
     → ((n : ℕ) → n < 16 → others n ≡ gaps n) → AreWalked scale t rounds gaps marks
     → AreWalked scale t rounds others marks
-walked_alike scale t rounds gaps others marks e h = record {
-  gaps_are = λ n l. subst (AreLeastGaps scale (drop t (column rounds n))) (sym (e n l)) (h.gaps_are n l);
-  marks_are = h.marks_are;
-}
+walked_alike scale t rounds gaps others marks e h = grind arith
 
 -- the gaps and the marks of a round's first n lanes; P says how small the gaps are
 pub record AreStepped (P : Gap ℤ → Type 0) (scale : ℕ) (symbols : List ℤ) (n : ℕ) (old new : ℕ → Gap ℤ)
@@ -119,9 +102,7 @@ lane_stepped P scale symbols n old now new marks mark l others p step h = record
   long = length-set marks n mark ∙ h.long;
   small = λ k m. small k m (cases_eq k n);
   done = λ k m. by_entry (λ k mark. IsStep scale (get_or symbols k (pos 0)) (old k) (new k) mark) marks n mark
-      (omega (arith, h.long)) step k 0
-      (λ d. subst (λ g. IsStep scale (get_or symbols k (pos 0)) (old k) g (get_or marks k 0)) (sym (others k d))
-      (h.done k (omega arith)));
+      (omega (arith, h.long)) step k 0 (λ d. grind arith);
   left = λ k m. others k (λ e. absurd (omega arith)) ∙ h.left k (omega arith);
 }
   where

@@ -1,6 +1,6 @@
 -- What the least paths of a field cost at most, where its symbols are signed bytes.
-use Rattle.std.proofs.Common.{◌≡◌, ℕ, zero, suc, ℤ, pos, ◌+◌, ◌*◌, ◌<◌, ◌≤◌, ◌-ℤ◌, nat_abs, List, [], ◌∷◌, length, map, sum}
-use Rattle.std.proofs.Common.{sym, ap, ◌∙◌, subst, arith}
+use Rattle.std.proofs.Common.{◌≡◌, ℕ, zero, suc, ℤ, pos, ◌+◌, ◌*◌, ◌<◌, ◌≤◌, ◌-ℤ◌, nat_abs, List, [], ◌∷◌, length, map}
+use Rattle.std.proofs.Common.{sum, sym, ap, ◌∙◌, subst, arith}
 use Rattle.std.specs.List.{range_with_len, zip, AllByRecursion}
 use Rattle.std.proofs.lemmas.Int.{ints}
 use Rattle.std.proofs.lemmas.List.FromFn.{length-map-range_with_len, sum_by-map-range_with_len_more}
@@ -42,27 +42,18 @@ distance_small scale (x ∷ xs) (y ∷ ys) h k =
         → behind ≤ most_behind → most_all ≡ most_behind + most → all ≤ most_all
     added all first behind most most_behind most_all e f g h = omega arith
 
-within_map : (f : ℕ → ℤ) (most a n : ℕ) → ((t : ℕ) → nat_abs (f t) ≤ most)
-    → AreWithin most (map f (range_with_len a n))
+within_map : (f : ℕ → ℤ) (most a n : ℕ) → ((t : ℕ) → nat_abs (f t) ≤ most) → AreWithin most (map f (range_with_len a n))
 within_map f most a zero h = tt
 within_map f most a (suc n) h = (h a, within_map f most (a + 1) n h)
 
 level_small : (scale z : ℕ) → z < 8 → nat_abs (symbol_at scale z) ≤ 7 * scale
 unfolding symbol_at
-level_small scale z l =
-    let same : scale ≤ scale = omega arith in
-    let high : 2 * z ≤ 14 = omega arith in
-    let most : scale * (2 * z) ≤ scale * 14 = mul-le-mul same high in
-    between (scale * (2 * z)) scale (omega (arith, most))
-  where
-    between : (x c : ℕ) → x ≤ c * 14 → nat_abs (pos x -ℤ pos (c * 7)) ≤ 7 * c
-    between x c l = omega (arith, ints, l)
+level_small scale z l = grind (arith, mul-le-mul, ints)
 
 path_small : (scale state : ℕ) (levels : List ℕ) → IsPath state levels
     → AreWithin (7 * scale) (map (symbol_at scale) levels)
 path_small scale state [] h = tt
-path_small scale state (z ∷ levels) h =
-    (level_small scale z h.0, path_small scale (next_state state z) levels h.2)
+path_small scale state (z ∷ levels) h = (level_small scale z h.0, path_small scale (next_state state z) levels h.2)
 
 coder_small : (scale : ℕ) (old : List (List ℤ)) (e : ℕ) (new : List ℤ) → AreSigned old
     → AreLeast scale (coder_symbols old e) new
@@ -71,10 +62,8 @@ unfolding coder_symbols data_symbol
 coder_small scale old e new h least =
     let long = length-map-range_with_len (λ t. data_symbol old (symbol_place 0 t e)) 0 (69 * length old) in
     let most = distance_small scale (coder_symbols old e) new
-    (within_map (λ t. data_symbol old (symbol_place 0 t e)) 128 0 (69 * length old)
-    (λ t. h _ _))
-    (subst (AreWithin (7 * scale)) (sym least.symbols)
-    (path_small scale least.start least.levels least.least.path)) in
+    (within_map (λ t. data_symbol old (symbol_place 0 t e)) 128 0 (69 * length old) (λ t. h _ _))
+    (subst (AreWithin (7 * scale)) (sym least.symbols) (path_small scale least.start least.levels least.least.path)) in
     subst (λ n. distance (coder_symbols old e) new ≤ most_square scale * n) long most
 
 -- a sum of n numbers, each at most `most`

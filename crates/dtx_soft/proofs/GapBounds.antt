@@ -10,11 +10,7 @@ use Rattle.dtx_soft.specs.Gaps.{AreSums}
 use Rattle.dtx_soft.specs.Squares.{IsSquares, across_of, even_of, odd_of, seen}
 
 pub seen_reached : (b : Bounds) (scale : ℕ) (symbol : ℤ) → IsReached b symbol → IsReached b (seen scale symbol)
-seen_reached b scale symbol h = by_test (nat_eq scale 0)
-  where
-    by_test : (t : Bool) → nat_abs (cond t (pos 0) symbol) ≤ b.reach
-    by_test true = omega arith
-    by_test false = h
+seen_reached b scale symbol h = grind arith
 
 pub even_small : (b : Bounds) (c : ℕ) (v t : ℤ) → AreBounds b → IsScale b c → nat_abs v ≤ b.reach → pos 0 ≤ℤ t
     → t ≤ℤ pos 1 → nat_abs (even_of c v t) ≤ b.far
@@ -36,12 +32,11 @@ pub squares_within : (b : Bounds) (scale : ℕ) (symbol : ℤ) (squares : Square
     → IsReached b symbol → IsSquares scale symbol squares → AreWithin b squares
 squares_within b scale symbol squares w s l q =
     let r = seen_reached b scale symbol l in
-    let from : pos 0 ≤ℤ pos 0 = omega (arith, ints) in
     let to : pos 0 ≤ℤ pos 1 = omega (arith, ints) in
     let above : pos 1 ≤ℤ pos 1 = omega (arith, ints) in
     record {
-      even = rw q.even (even_small b scale (seen scale symbol) (pos 0) w s r from to);
-      odd = rw q.odd (odd_small b scale (seen scale symbol) (pos 0) w s r from to);
+      even = rw q.even (even_small b scale (seen scale symbol) (pos 0) w s r (omega (arith, ints)) to);
+      odd = rw q.odd (odd_small b scale (seen scale symbol) (pos 0) w s r (omega (arith, ints)) to);
       across = rw q.across (across_small b scale (seen scale symbol) w s r);
       beside = rw (q.odd, q.across, q.even) (beside_small b scale (seen scale symbol) w s r);
       even_tied = rw q.even_tied (even_small b scale (seen scale symbol) (pos 1) w s r to above);
@@ -52,8 +47,7 @@ bounded : (far aside : ℕ) (x y u d e f : ℤ) → nat_abs x ≤ far → nat_ab
     → nat_abs (y -ℤ (u +ℤ x)) ≤ aside → nat_abs f ≤ far → nat_abs (e -ℤ (d +ℤ f)) ≤ far
     → (nat_abs ((u +ℤ f) +ℤ (int_min (x +ℤ d) (pos 0) -ℤ int_min (y +ℤ e) (pos 0))) ≤ far + aside)
     × (nat_abs ((u +ℤ f) +ℤ (int_min x d -ℤ int_min y e)) ≤ far + aside)
-    × (nat_abs (int_min (y +ℤ e) (pos 0) -ℤ int_min y e) ≤ far)
-    × (nat_abs (((u +ℤ f) +ℤ (int_min x d -ℤ int_min y e))
+    × (nat_abs (int_min (y +ℤ e) (pos 0) -ℤ int_min y e) ≤ far) × (nat_abs (((u +ℤ f) +ℤ (int_min x d -ℤ int_min y e))
     -ℤ (((u +ℤ f) +ℤ (int_min (x +ℤ d) (pos 0) -ℤ int_min (y +ℤ e) (pos 0)))
     +ℤ (int_min (y +ℤ e) (pos 0) -ℤ int_min y e))) ≤ far)
 bounded far aside x y u d e f a b g h i j = (
@@ -87,17 +81,7 @@ sums_of squares old = record { even = refl; odd = refl; across = refl }
 -- the gaps of no symbols
 pub none_bounded : (b : Bounds) (gap : Gap ℤ) → gap.even ≡ pos 0 → gap.odd ≡ pos 0 → gap.across ≡ pos 0
     → IsBounded b gap
-none_bounded b gap e f g = record {
-  even = omega (arith, ints);
-  odd = omega (arith, ints);
-  across = omega (arith, ints);
-  beside = omega (arith, ints);
-}
+none_bounded b gap e f g = grind (arith, ints)
 
 pub bytes_in_words : (gap : Gap ℤ) → IsBounded bytes gap → IsBounded words gap
-bytes_in_words gap h = record {
-  even = omega (arith, h.even);
-  odd = omega (arith, h.odd);
-  across = omega (arith, h.across);
-  beside = omega (arith, h.beside);
-}
+bytes_in_words gap h = grind arith

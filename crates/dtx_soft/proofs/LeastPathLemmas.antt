@@ -1,7 +1,7 @@
 -- What the function of least paths gives, and that there is one least path.
-use Rattle.std.proofs.Common.{◌≡◌, ℕ, zero, suc, ℤ, ◌+◌, ◌*◌, ◌/◌, ◌<◌, ◌≤◌, ◌⊎◌, inl, inr, nat_le, Bool, true}
-use Rattle.std.proofs.Common.{false, cond, Some, List, [], ◌∷◌, ◌++◌, length, map, drop, unwrap_or, refl, get_or}
-use Rattle.std.proofs.Common.{sym, ap, ap₂, ◌∙◌, subst, arith}
+use Rattle.std.proofs.Common.{◌≡◌, ℕ, zero, suc, ℤ, ◌+◌, ◌*◌, ◌/◌, ◌<◌, ◌≤◌, ◌⊎◌, inl, inr, Bool, true, false, cond}
+use Rattle.std.proofs.Common.{Some, List, [], ◌∷◌, ◌++◌, length, map, drop, unwrap_or, refl, get_or, sym, ap, ap₂, ◌∙◌}
+use Rattle.std.proofs.Common.{subst, arith}
 use Rattle.std.proofs.lemmas.Bool.{cases_lt, le-leb, leb-true, true≢false, and_parts, and_from}
 use Rattle.std.specs.List.{range_with_len, flat_map, list_all, find, AllByRecursion}
 use Rattle.dtx_lists.proofs.Range.{range_cases}
@@ -37,8 +37,7 @@ in_flat f x b a (suc n) l m h = by_place (range_cases a b l) (λ p. in_flat f x 
   where
     by_place : (a ≡ b) ⊎ (a + 1 ≤ b) → (a + 1 ≤ b → IsIn x (flat_map f (range_with_len (a + 1) n)))
         → IsIn x (f a ++ flat_map f (range_with_len (a + 1) n))
-    by_place (inl e) behind =
-        in_left x (f a) (flat_map f (range_with_len (a + 1) n)) (subst (λ (c : ℕ). IsIn x (f c)) (sym e) h)
+    by_place (inl e) behind = grind (arith, in_left)
     by_place (inr p) behind = in_right x (f a) (flat_map f (range_with_len (a + 1) n)) (behind p)
 
 pub all_at : (P : List ℕ → Type 0) (xs : List (List ℕ)) (x : List ℕ) → AllByRecursion P xs → IsIn x xs → P x
@@ -59,8 +58,7 @@ all_map P Q z (x ∷ xs) f h = (f x h.0, all_map P Q z xs f h.1)
 all_flat : (P : List ℕ → Type 0) (f : ℕ → List (List ℕ)) (a n : ℕ)
     → ((k : ℕ) → a ≤ k → k < a + n → AllByRecursion P (f k)) → AllByRecursion P (flat_map f (range_with_len a n))
 all_flat P f a zero h = tt
-all_flat P f a (suc n) h =
-    all_append P (f a) (flat_map f (range_with_len (a + 1) n)) (h a (omega arith) (omega arith))
+all_flat P f a (suc n) h = all_append P (f a) (flat_map f (range_with_len (a + 1) n)) (h a (omega arith) (omega arith))
     (all_flat P f (a + 1) n (λ k l m. h k (omega arith) (omega arith)))
 
 -- what a test says of all, and the other way
@@ -72,8 +70,7 @@ tested_at p (y ∷ ys) x h (inr i) = tested_at p ys x (and_parts (p y) (list_all
 pub tested_all : (p : List ℕ → Bool) (xs : List (List ℕ)) → ((x : List ℕ) → IsIn x xs → p x ≡ true)
     → list_all p xs ≡ true
 tested_all p [] h = refl
-tested_all p (x ∷ xs) h =
-    and_from (p x) (list_all p xs) (h x (inl refl)) (tested_all p xs (λ y i. h y (inr i)))
+tested_all p (x ∷ xs) h = and_from (p x) (list_all p xs) (h x (inl refl)) (tested_all p xs (λ y i. h y (inr i)))
 
 -- ---- all paths
 
@@ -94,12 +91,10 @@ path_small state (z ∷ levels) path (suc k) l = path_small (next_state state z)
 paths_are : (n state : ℕ) → state < 4 → AllByRecursion (IsAPath n state) (paths_from n state)
 unfolding paths_from
 paths_are zero state l = ((refl, tt), tt)
-paths_are (suc n) state l =
-    all_flat (IsAPath (suc n) state)
+paths_are (suc n) state l = all_flat (IsAPath (suc n) state)
     (λ k. map (λ levels. (2 * k + state / 2) ∷ levels) (paths_from n (next_state state (2 * k + state / 2)))) 0 4
     (λ k a b. all_map (IsAPath n (next_state state (2 * k + state / 2))) (IsAPath (suc n) state) (2 * k + state / 2)
-    (paths_from n (next_state state (2 * k + state / 2)))
-    (λ levels h. (ap suc h.0, (omega arith, omega arith, h.1)))
+    (paths_from n (next_state state (2 * k + state / 2))) (λ levels h. (ap suc h.0, (omega arith, omega arith, h.1)))
     (paths_are n (next_state state (2 * k + state / 2)) (next_small state (2 * k + state / 2) l)))
 
 paths_have : (n state : ℕ) (levels : List ℕ) → state < 4 → length levels ≡ n → IsPath state levels
@@ -109,10 +104,9 @@ paths_have zero state [] l e h = inl refl
 paths_have zero state (z ∷ levels) l e h = absurd (omega arith)
 paths_have (suc n) state [] l e h = absurd (omega arith)
 paths_have (suc n) state (z ∷ levels) l e (small, begins, path) =
-    let level : z ≡ 2 * (z / 2) + state / 2 = omega arith in
     in_flat (λ k. map (λ levels. (2 * k + state / 2) ∷ levels) (paths_from n (next_state state (2 * k + state / 2))))
     (z ∷ levels) (z / 2) 0 4 (omega arith) (omega arith)
-    (subst (λ y. IsIn (z ∷ levels) (map (λ levels. y ∷ levels) (paths_from n (next_state state y)))) level
+    (subst (λ y. IsIn (z ∷ levels) (map (λ levels. y ∷ levels) (paths_from n (next_state state y)))) (omega arith)
     (in_map z levels (paths_from n (next_state state z))
     (paths_have n (next_state state z) levels (next_small state z l) (omega arith) path)))
 
@@ -123,8 +117,7 @@ IsStarted n (state ∷ levels) = (state < 4) × IsAPath n state levels
 
 pub all_are : (n : ℕ) → AllByRecursion (IsStarted n) (all_paths n)
 unfolding all_paths
-all_are n =
-    all_flat (IsStarted n) (λ start. map (λ levels. start ∷ levels) (paths_from n start)) 0 4
+all_are n = all_flat (IsStarted n) (λ start. map (λ levels. start ∷ levels) (paths_from n start)) 0 4
     (λ k a b. all_map (IsAPath n k) (IsStarted n) k (paths_from n k) (λ levels h. (omega arith, h))
     (paths_are n k (omega arith)))
 
@@ -144,8 +137,7 @@ AreOrdered (x ∷ xs) = AllByRecursion (AreInOrder x) xs × AreOrdered xs
 ordered_append : (xs ys : List (List ℕ)) → AreOrdered xs → AreOrdered ys
     → AllByRecursion (λ x. AllByRecursion (AreInOrder x) ys) xs → AreOrdered (xs ++ ys)
 ordered_append [] ys h k m = k
-ordered_append (x ∷ xs) ys h k m =
-    (all_append (AreInOrder x) xs ys h.0 m.0, ordered_append xs ys h.1 k m.1)
+ordered_append (x ∷ xs) ys h k m = (all_append (AreInOrder x) xs ys h.0 m.0, ordered_append xs ys h.1 k m.1)
 
 ordered_map : (z : ℕ) (xs : List (List ℕ)) → AreOrdered xs → AreOrdered (map (λ x. z ∷ x) xs)
 ordered_map z [] h = tt
@@ -157,8 +149,7 @@ any_all [] = tt
 any_all (x ∷ xs) = (tt, any_all xs)
 
 ordered_flat : (g : ℕ → ℕ) (f : ℕ → List (List ℕ)) (a n : ℕ) → ((j k : ℕ) → j < k → g j < g k)
-    → ((k : ℕ) → AreOrdered (f k))
-    → AreOrdered (flat_map (λ k. map (λ x. g k ∷ x) (f k)) (range_with_len a n))
+    → ((k : ℕ) → AreOrdered (f k)) → AreOrdered (flat_map (λ k. map (λ x. g k ∷ x) (f k)) (range_with_len a n))
 ordered_flat g f a zero rises h = tt
 ordered_flat g f a (suc n) rises h =
     ordered_append (map (λ x. g a ∷ x) (f a)) (flat_map (λ k. map (λ x. g k ∷ x) (f k)) (range_with_len (a + 1) n))
@@ -205,14 +196,9 @@ pub first_found : (p : List ℕ → Bool) (xs : List (List ℕ)) (x : List ℕ) 
 first_found p [] x h i t = absurd i
 first_found p (y ∷ ys) x h i t = by_test (p y) refl i (λ behind. first_found p ys x h.1 behind t)
   where
-    by_test : (b : Bool) → p y ≡ b → (x ≡ y) ⊎ IsIn x ys
-        → (IsIn x ys → IsFirst p ys x (unwrap_or (find p ys) []))
+    by_test : (b : Bool) → p y ≡ b → (x ≡ y) ⊎ IsIn x ys → (IsIn x ys → IsFirst p ys x (unwrap_or (find p ys) []))
         → IsFirst p (y ∷ ys) x (unwrap_or (cond b (Some y) (find p ys)) [])
-    by_test true e (inl same) on = record {
-      within = inl refl;
-      passes = e;
-      before = subst (λ z. AreInOrder y z) (sym same) (in_order_self y);
-    }
+    by_test true e (inl same) on = grind (arith, in_order_self)
     by_test true e (inr behind) on = record {
       within = inl refl;
       passes = e;
@@ -242,11 +228,7 @@ minimum f x (y ∷ ys) = joined (minimum f y ys)
     joined rest = by_order (cases_lt (f x) (f rest.path))
       where
         by_order : (f x < f rest.path) ⊎ (f rest.path ≤ f x) → HasMinimum f (x ∷ (y ∷ ys))
-        by_order (inl l) = record { path = x; inside = inl refl; below = above }
-          where
-            above : (other : List ℕ) → IsIn other (x ∷ (y ∷ ys)) → f x ≤ f other
-            above other (inl e) = (let same = ap f e in omega (arith, same))
-            above other (inr i) = (let m = rest.below other i in omega (arith, m, l))
+        by_order (inl l) = grind arith
         by_order (inr l) = record { path = rest.path; inside = inr rest.inside; below = above }
           where
             above : (other : List ℕ) → IsIn other (x ∷ (y ∷ ys)) → f rest.path ≤ f other
@@ -269,17 +251,13 @@ costs_below : (scale : ℕ) (symbols : List ℤ) (paths : List (List ℕ)) (path
     → ((other : List ℕ) → IsIn other paths → cost scale symbols (drop 1 path) ≤ cost scale symbols (drop 1 other))
     → costs_least scale symbols paths path ≡ true
 unfolding costs_least
-costs_below scale symbols paths path h =
-    tested_all (λ other. nat_le (cost scale symbols (drop 1 path)) (cost scale symbols (drop 1 other))) paths
-    (λ other i. le-leb (cost scale symbols (drop 1 path)) (cost scale symbols (drop 1 other)) (h other i))
+costs_below scale symbols paths path h = grind (arith, tested_all, le-leb)
 
 costs_at : (scale : ℕ) (symbols : List ℤ) (paths : List (List ℕ)) (path other : List ℕ)
     → costs_least scale symbols paths path ≡ true → IsIn other paths
     → cost scale symbols (drop 1 path) ≤ cost scale symbols (drop 1 other)
 unfolding costs_least
-costs_at scale symbols paths path other t i =
-    leb-true (cost scale symbols (drop 1 path)) (cost scale symbols (drop 1 other))
-    (tested_at (λ other. nat_le (cost scale symbols (drop 1 path)) (cost scale symbols (drop 1 other))) paths other t i)
+costs_at scale symbols paths path other t i = grind (arith, leb-true, tested_at)
 
 -- where there is some path, the function gives it
 pub least_in : (scale : ℕ) (symbols : List ℤ) (paths : List (List ℕ)) (some : List ℕ) → AreOrdered paths
@@ -287,9 +265,7 @@ pub least_in : (scale : ℕ) (symbols : List ℤ) (paths : List (List ℕ)) (som
 least_in scale symbols paths some ordered i = record {
   inside = best.within;
   least = λ other j. costs_at scale symbols paths (first_least scale symbols paths) other best.passes j;
-  first = λ other j e. (found other j (costs_below scale symbols paths other
-      (λ y k. (let most = costs_at scale symbols paths (first_least scale symbols paths) y best.passes k in
-      omega (arith, most, e))))).before;
+  first = λ other j e. (found other j (grind (arith, costs_below, costs_at, best))).before;
 }
   where
     least : HasMinimum (λ path. cost scale symbols (drop 1 path)) paths
@@ -309,31 +285,13 @@ least_in_is scale symbols paths path ordered h =
     let found = least_in scale symbols paths path ordered h.inside in
     let a = found.least path h.inside in
     let b = h.least (first_least scale symbols paths) found.inside in
-    in_order_both (first_least scale symbols paths) path (found.first path h.inside (omega (arith, a, b)))
-    (h.first (first_least scale symbols paths) found.inside (omega (arith, a, b)))
+    in_order_both (first_least scale symbols paths) path (found.first path h.inside (omega (arith, a, b))) (grind arith)
 
 -- ---- the least path
 
 is_least_in : (scale : ℕ) (symbols : List ℤ) (start : ℕ) (levels : List ℕ) → IsLeast scale symbols start levels
     → IsLeastIn scale symbols (all_paths (length symbols)) (start ∷ levels)
-is_least_in scale symbols start levels h = record {
-  inside = all_have (length symbols) start levels h.begins h.long h.path;
-  least = λ other i. least other (started other i);
-  first = λ other i. first other (started other i);
-}
-  where
-    started : (other : List ℕ) → IsIn other (all_paths (length symbols)) → IsStarted (length symbols) other
-    started other = all_at (IsStarted (length symbols)) (all_paths (length symbols)) other (all_are (length symbols))
-
-    least : (other : List ℕ) → IsStarted (length symbols) other
-        → cost scale symbols levels ≤ cost scale symbols (drop 1 other)
-    least [] k = absurd k
-    least (state ∷ others) k = h.least state others k.0 k.1.0 k.1.1
-
-    first : (other : List ℕ) → IsStarted (length symbols) other
-        → cost scale symbols (drop 1 other) ≡ cost scale symbols levels → AreInOrder (start ∷ levels) other
-    first [] k = absurd k
-    first (state ∷ others) k = h.first state others k.0 k.1.0 k.1.1
+is_least_in scale symbols start levels h = grind (arith, all_have, all_at, all_are)
 
 -- what is a least path is the one that the function gives
 pub least_path_is : (scale : ℕ) (symbols : List ℤ) (start : ℕ) (levels : List ℕ)
@@ -359,10 +317,8 @@ some_path (suc n) state l =
 pub least_path_found : (scale : ℕ) (symbols : List ℤ)
     → IsLeast scale symbols (get_or (least_path scale symbols) 0 0) (drop 1 (least_path scale symbols))
 unfolding least_path
-least_path_found scale symbols =
-    from_path (first_least scale symbols (all_paths (length symbols))) (all_at (IsStarted (length symbols))
-    (all_paths (length symbols)) (first_least scale symbols (all_paths (length symbols))) (all_are (length symbols))
-    found.inside) found
+least_path_found scale symbols = from_path (first_least scale symbols (all_paths (length symbols)))
+    (grind (arith, all_at, all_are, found)) found
   where
     found : IsLeastIn scale symbols (all_paths (length symbols))
         (first_least scale symbols (all_paths (length symbols)))

@@ -1,7 +1,6 @@
 -- How far the symbols of segments are moved: the sum over the coders is that over the segments.
-use Rattle.std.proofs.Common.{◌≡◌, ℕ, ℤ, zero, suc, pos, ◌+◌, ◌-◌, ◌*◌, ◌/◌, ◌%◌, ◌<◌, ◌-ℤ◌, nat_abs, List, []}
-use Rattle.std.proofs.Common.{◌∷◌, length}
-use Rattle.std.proofs.Common.{map, get_or, refl, sym, ap, ap₂, ◌∙◌, arith}
+use Rattle.std.proofs.Common.{◌≡◌, ℕ, ℤ, zero, suc, pos, ◌+◌, ◌-◌, ◌*◌, ◌<◌, List, [], ◌∷◌, length, map, get_or, refl}
+use Rattle.std.proofs.Common.{sym, ap, ap₂, ◌∙◌, arith}
 use Rattle.std.specs.List.{range_with_len, zip}
 use Rattle.std.proofs.lemmas.Int.{ints}
 use Rattle.std.proofs.lemmas.List.FromFn.{fill_by_all}
@@ -27,10 +26,7 @@ nothing_costs scale others = refl
 
 pub squared_same : (x : ℤ) → squared x x ≡ 0
 unfolding squared
-squared_same x = ap₂ (λ a b. a * b) (none x) (none x)
-  where
-    none : (x : ℤ) → nat_abs (x -ℤ x) ≡ 0
-    none x = omega (arith, ints)
+squared_same x = grind (arith, ints)
 
 pub distance_same : (xs : List ℤ) → distance xs xs ≡ 0
 unfolding distance
@@ -55,23 +51,12 @@ coder_moved : (old new : List (List ℤ)) (e : ℕ) → length new ≡ length ol
     → distance (coder_symbols old e) (coder_symbols new e)
     ≡ over (λ t. moved old new (symbol_place 0 t e)) 0 (69 * length old)
 unfolding coder_symbols
-coder_moved old new e long =
-    ap (λ n. distance (map (λ t. data_symbol old (symbol_place 0 t e)) (range_with_len 0 (69 * length old)))
-    (map (λ t. data_symbol new (symbol_place 0 t e)) (range_with_len 0 (69 * n)))) long
-    ∙ distance_made (λ t. data_symbol old (symbol_place 0 t e)) (λ t. data_symbol new (symbol_place 0 t e)) 0
-    (69 * length old)
+coder_moved old new e long = grind (arith, distance_made)
 
 -- the twelve symbols of a round, in whichever order the coders have
 round_moved : (q : ℕ → ℕ) (t : ℕ) → over (λ e. q (symbol_place 0 t e)) 0 12 ≡ over (λ j. q (12 * t + j)) 0 12
 unfolding symbol_place
-round_moved q t = by_turn ((0 + t / 69) % 3) (omega arith)
-  where
-    by_turn : (x : ℕ) → x < 3
-        → over (λ e. q (12 * t + (e + 12 - 4 * x) % 12)) 0 12 ≡ over (λ j. q (12 * t + j)) 0 12
-    by_turn zero l = refl
-    by_turn (suc zero) l = omega arith
-    by_turn (suc (suc zero)) l = omega arith
-    by_turn (suc (suc (suc x))) l = absurd (omega arith)
+round_moved q t = grind (arith, over)
 
 -- the symbols of a segment
 row_moved : (old new : List (List ℤ)) (i : ℕ) → length (get_or old i []) ≡ 832 → length (get_or new i []) ≡ 832
@@ -82,16 +67,10 @@ row_moved old new i long after sync =
     let x : List ℤ = get_or old i [] in
     let y : List ℤ = get_or new i [] in
     let f : ℕ → ℕ = λ k. squared (get_or x k (pos 0)) (get_or y k (pos 0)) in
-    let front : over f 0 4 ≡ 0 =
-    over_none f 0 4 (λ k a b. ap (squared (get_or x k (pos 0))) (sync k (omega arith))
+    let front : over f 0 4 ≡ 0 = over_none f 0 4 (λ k a b. ap (squared (get_or x k (pos 0))) (sync k (omega arith))
     ∙ squared_same (get_or x k (pos 0))) in
-    over_moved (λ k. moved old new (828 * i + k)) f 0 (0 + 4) 828 (λ k l.
-    let row : (828 * i + (0 + k)) / 828 ≡ i = omega (arith, l) in
-    let place : 4 + (828 * i + (0 + k)) % 828 ≡ 0 + 4 + k = omega (arith, l) in
-    ap₂ (λ (r n : ℕ). squared (get_or (get_or old r []) n (pos 0)) (get_or (get_or new r []) n (pos 0))) row place)
-    ∙ sym (none_first (over f (0 + 4) 828))
-    ∙ ap (λ n. n + over f (0 + 4) 828) (sym front)
-    ∙ sym (over_parts f 0 4 828)
+    over_moved (λ k. moved old new (828 * i + k)) f 0 (0 + 4) 828 (λ k l. grind arith)
+    ∙ sym (none_first (over f (0 + 4) 828)) ∙ ap (λ n. n + over f (0 + 4) 828) (sym front) ∙ sym (over_parts f 0 4 828)
     ∙ sym (distance_made (λ k. get_or x k (pos 0)) (λ k. get_or y k (pos 0)) 0 832)
     ∙ ap₂ distance (sym (fill_by_all (λ k. get_or x k (pos 0)) x 832 (pos 0) long (λ k l. refl)))
     (sym (fill_by_all (λ k. get_or y k (pos 0)) y 832 (pos 0) after (λ k l. refl)))

@@ -1,6 +1,6 @@
 -- The symbol of the nearer of two levels is that on the symbol's side of the limit in their midst.
-use Rattle.std.proofs.Common.{◌≡◌, ℕ, ℤ, pos, zero, suc, ◌+◌, ◌*◌, ◌<◌, ◌≤◌, ◌⊎◌, inl, inr, ◌+ℤ◌, ◌-ℤ◌, ◌≤ℤ◌, nat_abs}
-use Rattle.std.proofs.Common.{Bool, true, false, cond, nat_le, refl, sym, ◌∙◌, get_or, arith}
+use Rattle.std.proofs.Common.{◌≡◌, ℕ, ℤ, pos, zero, suc, ◌+◌, ◌*◌, ◌<◌, ◌≤◌, ◌+ℤ◌, ◌-ℤ◌, ◌≤ℤ◌, nat_abs, Bool, true}
+use Rattle.std.proofs.Common.{false, cond, nat_le, refl, sym, ◌∙◌, get_or, arith}
 use Rattle.std.specs.Prelude.{int_lt, ◌<ℤ◌}
 use Rattle.std.proofs.lemmas.Bool.{cases_lt}
 use Rattle.std.proofs.lemmas.Bool.Decides.{nat_tests}
@@ -12,24 +12,10 @@ use Rattle.dtx_soft.specs.Trace.{limit_of, nearer_symbol}
 
 -- numbers are in the order of their squares
 root_at_most : (a b : ℕ) → a * a ≤ b * b → a ≤ b
-root_at_most a b l = by_order (cases_lt b a)
-  where
-    by_order : (b < a) ⊎ (a ≤ b) → a ≤ b
-    by_order (inl m) =
-        let g : b * b ≤ b * a = mul-le-mul_left b (omega arith) in
-        let h : a * (b + 1) ≤ a * a = mul-le-mul_left a (omega arith) in
-        absurd (omega (arith, g, h))
-    by_order (inr m) = m
+root_at_most a b l = grind (arith, cases_lt, mul-le-mul_left)
 
 root_below : (a b : ℕ) → a * a < b * b → a < b
-root_below a b l = by_order (cases_lt a b)
-  where
-    by_order : (a < b) ⊎ (b ≤ a) → a < b
-    by_order (inl m) = m
-    by_order (inr m) =
-        let g : b * b ≤ b * a = mul-le-mul_left b m in
-        let h : a * b ≤ a * a = mul-le-mul_left a m in
-        absurd (omega (arith, g, h))
+root_below a b l = grind (arith, cases_lt, mul-le-mul_left)
 
 at_most : (a b : ℕ) → nat_le a b ≡ true → a ≤ b
 at_most a b e = grind (arith, nat_tests)
@@ -50,10 +36,7 @@ by_limit : (far : ℕ) (v limit low high : ℤ) (t u : Bool) → low ≡ limit -
 unfolding squared
 by_limit far v limit low high true false e f g h = sym f
 by_limit far v limit low high false true e f g h = sym e
-by_limit far v limit low high true true e f g h =
-    let k : nat_abs (v -ℤ low) ≤ nat_abs (v -ℤ high) = root_at_most _ _ (at_most _ _ h) in
-    let m : limit <ℤ v = less limit v g in
-    omega (arith, ints)
+by_limit far v limit low high true true e f g h = grind (arith, root_at_most, at_most, less, ints)
 by_limit far v limit low high false false e f g h =
     let k : nat_abs (v -ℤ high) < nat_abs (v -ℤ low) = root_below _ _ (above _ _ h) in
     let m : v ≤ℤ limit = not_less limit v g in
@@ -110,8 +93,7 @@ pub nearer_is_symbol : (scale : ℕ) (symbol : ℤ) (q1 pair : ℕ) → q1 < 2 �
     → nearer_symbol scale symbol q1 pair ≡ symbol_at scale (get_or (row_of scale symbol).levels (q1 + 2 * pair) 0)
 unfolding row_of
 nearer_is_symbol scale v zero zero k m = nearer_by scale 0 v (limit_of scale 0 0) (first_low scale) (first_high scale)
-nearer_is_symbol scale v (suc zero) zero k m =
-    nearer_by scale 1 v (limit_of scale 1 0) (second_low scale) (second_high scale)
+nearer_is_symbol scale v (suc zero) zero k m = grind (arith, nearer_by, second_low, second_high)
 nearer_is_symbol scale v zero (suc zero) k m =
     nearer_by scale 2 v (limit_of scale 0 1) (third_low scale) (third_high scale)
 nearer_is_symbol scale v (suc zero) (suc zero) k m =

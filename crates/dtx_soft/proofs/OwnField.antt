@@ -42,8 +42,4 @@ own_field scale segments rows own = (
 )
   where
     stays : IsSoftened scale segments segments
-    stays = record {
-      long = refl;
-      syncs = λ i k l. refl;
-      coders = λ e l. own_least scale (coder_symbols segments e) (own e l);
-    }
+    stays = grind (arith, own_least)

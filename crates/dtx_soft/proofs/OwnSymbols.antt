@@ -1,6 +1,6 @@
 -- Symbols that are those of a path's levels.
-use Rattle.std.proofs.Common.{◌≡◌, ℕ, zero, suc, ℤ, ◌*◌, ◌<◌, ◌-ℤ◌, nat_abs, List, [], ◌∷◌, length, map}
-use Rattle.std.proofs.Common.{refl, sym, ap₂, ◌∙◌, arith}
+use Rattle.std.proofs.Common.{◌≡◌, ℕ, zero, suc, ℤ, ◌*◌, ◌<◌, ◌-ℤ◌, nat_abs, List, [], ◌∷◌, length, map, refl, sym, ap₂}
+use Rattle.std.proofs.Common.{arith}
 use Rattle.std.proofs.lemmas.Int.{ints}
 use Rattle.std.proofs.lemmas.List.{length-map}
 use Rattle.dtx_soft.specs.Paths.{IsPath, cost, distance, squared, symbol_at}
@@ -21,22 +21,10 @@ same_distance [] (y ∷ ys) n h = absurd (omega arith)
 same_distance (x ∷ xs) [] n h = absurd (omega arith)
 same_distance (x ∷ xs) (y ∷ ys) n h =
     let e = distance-cons x y xs ys in
-    ap₂ ◌∷◌ (sym (same_squared x y (omega (arith, e, h))))
-    (same_distance xs ys (omega arith) (omega (arith, e, h)))
+    ap₂ ◌∷◌ (sym (same_squared x y (omega (arith, e, h)))) (same_distance xs ys (omega arith) (omega (arith, e, h)))
 
 pub own_symbols : (scale start found : ℕ) (levels others : List ℕ) → start < 4 → IsPath start levels
-    → IsLeast scale (map (symbol_at scale) levels) found others
-    → (cost scale (map (symbol_at scale) levels) others ≡ 0)
+    → IsLeast scale (map (symbol_at scale) levels) found others → (cost scale (map (symbol_at scale) levels) others ≡ 0)
     × (map (symbol_at scale) others ≡ map (symbol_at scale) levels)
 unfolding cost
-own_symbols scale start found levels others l path h = (
-  free,
-  same_distance (map (symbol_at scale) levels)
-      (map (symbol_at scale) others) (length-map others (symbol_at scale) ∙ h.long) free,
-)
-  where
-    free : cost scale (map (symbol_at scale) levels) others ≡ 0
-    free =
-        let a = h.least start levels l (sym (length-map levels (symbol_at scale))) path in
-        let b : cost scale (map (symbol_at scale) levels) levels ≡ 0 = distance_same (map (symbol_at scale) levels) in
-        omega (arith, a, b)
+own_symbols scale start found levels others l path h = grind (arith, same_distance, length-map, distance_same)

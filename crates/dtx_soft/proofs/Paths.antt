@@ -1,6 +1,6 @@
 -- Least paths and potentials, one more symbol in front (Bellman).
-use Rattle.std.proofs.Common.{◌≡◌, ℕ, suc, ℤ, ◌+◌, ◌<◌, ◌≤◌, ◌⊎◌, inl, inr, List, [], ◌∷◌}
-use Rattle.std.proofs.Common.{length, get_or, refl, sym, ap, ◌∙◌, subst, arith}
+use Rattle.std.proofs.Common.{◌≡◌, ℕ, suc, ℤ, ◌+◌, ◌<◌, ◌≤◌, ◌⊎◌, inl, inr, List, [], ◌∷◌, length, get_or, refl, sym}
+use Rattle.std.proofs.Common.{ap, ◌∙◌, subst, arith}
 use Rattle.std.proofs.lemmas.Bool.{cases_lt}
 use Rattle.dtx_soft.specs.Paths.{IsPath, cost, next_state, squared, symbol_at}
 use Rattle.dtx_soft.specs.Least.{AreInOrder, IsLeastFrom, IsPotential}
@@ -16,19 +16,13 @@ ArePotentialsAt scale symbols potentials = (s : ℕ) → s < 4 → IsPotential s
 onto_below : (scale : ℕ) (v : ℤ) (symbols : List ℤ) (behind : List ℕ) (state z : ℕ) (levels : List ℕ)
     → ArePotentialsAt scale symbols behind → state < 4 → length levels ≡ length symbols
     → IsPath (next_state state z) levels → onto scale v behind state z ≤ cost scale (v ∷ symbols) (z ∷ levels)
-onto_below scale v symbols behind state z levels p l n path =
-    let a = (p (next_state state z) (next_small state z l)).below levels n path in
-    let e = cost-cons scale v symbols z levels in
-    omega (arith, a, e)
+onto_below scale v symbols behind state z levels p l n path = grind (arith, next_small, cost-cons)
 
 -- and it costs as much where it is a least one from there
 pub least_is : (scale : ℕ) (symbols : List ℤ) (state potential : ℕ) (levels : List ℕ)
     → IsPotential scale symbols state potential → IsLeastFrom scale symbols state levels
     → cost scale symbols levels ≡ potential
-least_is scale symbols state potential levels p h =
-    let a = p.below levels h.long h.path in
-    let b = h.least p.met.0 p.met.1 p.met.2 in
-    omega (arith, a, b, p.met.3)
+least_is scale symbols state potential levels p h = grind arith
 
 pub one_more : (scale : ℕ) (v : ℤ) (symbols : List ℤ) (behind : List ℕ) (state z : ℕ) (levels : List ℕ)
     → ArePotentialsAt scale symbols behind → state < 4 → IsFirstLeast scale v behind state z
@@ -70,16 +64,7 @@ one_more scale v symbols behind state z levels p l h q = record {
             → cost scale (v ∷ symbols) (y ∷ ys) ≡ cost scale (v ∷ symbols) (z ∷ levels) → (z < y) ⊎ (z ≡ y)
             → (z < y) ⊎ ((z ≡ y) × AreInOrder levels ys)
         go y ys n path t (inl k) = inl k
-        go y ys n path t (inr k) = inr (
-          k,
-          q.first ys n (subst (λ x. IsPath (next_state state x) ys) (sym k) path)
-              (same (subst (λ x. cost scale (v ∷ symbols) (x ∷ ys) ≡ cost scale (v ∷ symbols) (z ∷ levels)) (sym k) t)),
-        )
-          where
-            same : cost scale (v ∷ symbols) (z ∷ ys) ≡ cost scale (v ∷ symbols) (z ∷ levels)
-                → cost scale symbols ys ≡ cost scale symbols levels
-            same t =
-                omega (arith, t, cost-cons scale v symbols z ys, cost-cons scale v symbols z levels)
+        go y ys n path t (inr k) = grind (arith, cost-cons)
 
 pub potential_more : (scale : ℕ) (v : ℤ) (symbols : List ℤ) (behind : List ℕ) (state z : ℕ)
     → ArePotentialsAt scale symbols behind → state < 4 → IsFirstLeast scale v behind state z
@@ -100,22 +85,11 @@ potential_more scale v symbols behind state z p l h = record {
     below_of : (others : List ℕ) → length others ≡ suc (length symbols) → IsPath state others
         → onto scale v behind state z ≤ cost scale (v ∷ symbols) others
     below_of [] e path = absurd (omega arith)
-    below_of (y ∷ ys) e path =
-        let a = onto_below scale v symbols behind state y ys p l (omega arith) path.2 in
-        let b = h.least y path.0 path.1 in
-        omega (arith, a, b)
+    below_of (y ∷ ys) e path = grind (arith, onto_below)
 
 -- no symbols
 pub nothing_least : (scale state : ℕ) → IsLeastFrom scale [] state []
-nothing_least scale state = record {
-  long = refl;
-  path = tt;
-  least = λ others e path. omega (arith, nothing_costs scale [], nothing_costs scale others);
-  first = λ others e path t. tt;
-}
+nothing_least scale state = grind (arith, nothing_costs)
 
 pub nothing_potential : (scale state : ℕ) → IsPotential scale [] state 0
-nothing_potential scale state = record {
-  below = λ levels e path. omega arith;
-  met = ([], refl, tt, nothing_costs scale []);
-}
+nothing_potential scale state = grind (arith, nothing_costs)

@@ -1,7 +1,6 @@
 -- Where the coders' symbols stand, and a segment that is written.
-use Rattle.std.proofs.Common.{◌≡◌, ◌≢◌, ℕ, ℤ, pos, ◌+◌, ◌-◌, ◌*◌, ◌/◌, ◌%◌, ◌<◌, ◌⊎◌, inl, inr}
-use Rattle.std.proofs.Common.{List, [], length, get_or}
-use Rattle.std.proofs.Common.{slice_set, sym, ap, ◌∙◌, arith}
+use Rattle.std.proofs.Common.{◌≡◌, ◌≢◌, ℕ, ℤ, pos, ◌+◌, ◌-◌, ◌*◌, ◌/◌, ◌%◌, ◌<◌, ◌⊎◌, inl, inr, List, [], length}
+use Rattle.std.proofs.Common.{get_or, slice_set, ap, ◌∙◌, arith}
 use Rattle.std.proofs.lemmas.Bool.{cases_eq}
 use Rattle.std.proofs.lemmas.List.{get_or-set_same, get_or-set_other}
 use Rattle.dtx_slice.specs.Unrolled.{symbol_place}
@@ -20,15 +19,12 @@ place_round t e = omega arith
 pub symbol_in_row : (segments : List (List ℤ)) (i : ℕ) (row : List ℤ) (d : ℕ) → i < length segments → d / 828 ≡ i
     → data_symbol (slice_set segments i row) d ≡ get_or row (4 + d % 828) (pos 0)
 unfolding data_symbol
-symbol_in_row segments i row d l e =
-    ap (λ j. get_or (get_or (slice_set segments i row) j []) (4 + d % 828) (pos 0)) e
-    ∙ ap (λ row. get_or row (4 + d % 828) (pos 0)) (get_or-set_same segments i row [] l)
+symbol_in_row segments i row d l e = grind (arith, get_or-set_same)
 
 pub symbol_elsewhere : (segments : List (List ℤ)) (i : ℕ) (row : List ℤ) (d : ℕ) → d / 828 ≢ i
     → data_symbol (slice_set segments i row) d ≡ data_symbol segments d
 unfolding data_symbol
-symbol_elsewhere segments i row d n =
-    ap (λ row. get_or row (4 + d % 828) (pos 0)) (get_or-set_other segments i (d / 828) row [] n)
+symbol_elsewhere segments i row d n = grind (arith, get_or-set_other)
 
 pub symbol_of_row : (segments : List (List ℤ)) (i d : ℕ) → d / 828 ≡ i
     → data_symbol segments d ≡ get_or (get_or segments i []) (4 + d % 828) (pos 0)
@@ -42,9 +38,5 @@ syncs_written old segments i row l f h j k m = by_row (cases_eq j i)
   where
     by_row : (j ≡ i) ⊎ (j ≢ i)
         → get_or (get_or (slice_set segments i row) j []) k (pos 0) ≡ get_or (get_or old j []) k (pos 0)
-    by_row (inr n) =
-        ap (λ row. get_or row k (pos 0)) (get_or-set_other segments i j row [] n) ∙ h j k m
-    by_row (inl e) =
-        ap (λ j. get_or (get_or (slice_set segments i row) j []) k (pos 0)) e
-        ∙ ap (λ row. get_or row k (pos 0)) (get_or-set_same segments i row [] l) ∙ f k m
-        ∙ ap (λ j. get_or (get_or segments j []) k (pos 0)) (sym e) ∙ h j k m
+    by_row (inr n) = ap (λ row. get_or row k (pos 0)) (get_or-set_other segments i j row [] n) ∙ h j k m
+    by_row (inl e) = grind (arith, get_or-set_same)

@@ -9,8 +9,7 @@ use Rattle.dtx_soft.proofs.WrapsLemmas.{difference_read, read}
 -- a difference of a byte and a small number, as it is read
 pub off_is : (n : ℕ) (v u : ℤ) → n ≡ nat_abs (read w16 (read w16 (read w8 v) -ℤ read w16 u)) → SFits w8 v
     → pos 0 ≤ℤ (u +ℤ pos 126) → u ≤ℤ pos 126 → n ≡ nat_abs (v -ℤ u)
-off_is n v u e l f g =
-    e ∙ ap nat_abs (difference_read w16 _ _ v u (ap (read w16) (to_z-of_z w8 v l)
+off_is n v u e l f g = e ∙ ap nat_abs (difference_read w16 _ _ v u (ap (read w16) (to_z-of_z w8 v l)
     ∙ to_z-of_z w16 v (omega (arith, ints))) (to_z-of_z w16 u (omega (arith, ints))) (omega (arith, ints)))
 
 pub off_small : (n : ℕ) (v u : ℤ) → n ≡ nat_abs (read w16 (read w16 (read w8 v) -ℤ read w16 u)) → SFits w8 v

@@ -34,8 +34,7 @@ rest : (s n : ℕ) → n < 256 → (256 * s + n) % 256 ≡ n
 rest s n m = omega arith
 
 tested : (scale n : ℕ) → scale < 19 → n < 256 → passes scale (pos n -ℤ pos 128) ≡ true
-tested scale n l m =
-    subst (λ s. passes s (pos n -ℤ pos 128) ≡ true) (quotient scale n m)
+tested scale n l m = subst (λ s. passes s (pos n -ℤ pos 128) ≡ true) (quotient scale n m)
     (subst (λ k. passes ((256 * scale + n) / 256) (pos k -ℤ pos 128) ≡ true) (rest scale n m)
     (at_below (λ k. passes (k / 256) (pos (k % 256) -ℤ pos 128)) 4864 (256 * scale + n) all_pass (omega arith)))
 
@@ -76,11 +75,9 @@ opened scale symbol t =
 pub are_tested : (scale : ℕ) (symbol : ℤ) → scale ≤ 18 → pos 0 ≤ℤ (symbol +ℤ pos 128) → symbol ≤ℤ pos 127
     → AreTested scale symbol
 are_tested scale symbol l from to =
+    let back : pos (nat_abs (symbol +ℤ pos 128)) -ℤ pos 128 ≡ symbol = omega (arith, ints) in
     opened scale symbol (subst (λ v. passes scale v ≡ true) back
     (tested scale (nat_abs (symbol +ℤ pos 128)) (omega arith) (omega (arith, ints))))
-  where
-    back : pos (nat_abs (symbol +ℤ pos 128)) -ℤ pos 128 ≡ symbol
-    back = omega (arith, ints)
 
 lifted_is : (x : ℤ) → pos 0 ≤ℤ (x +ℤ pos 2048) → pos (lifted x) ≡ pos 2048 +ℤ x
 lifted_is x l = omega (arith, ints)
@@ -103,24 +100,15 @@ row_gaps scale symbol x y u t ex ey eu lx ly lu = record {
   where
     first : nearer_square scale symbol 0 + unit scale * 2048
         ≡ nearer_square scale symbol 3 + unit scale * lifted (u +ℤ x)
-    first =
-        subst (λ a. nearer_square scale symbol 0 + unit scale * 2048 ≡ nearer_square scale symbol 3 + unit scale *
-        lifted (a +ℤ x))
-        (sym eu) (subst (λ a. nearer_square scale symbol 0 + unit scale * 2048
-        ≡ nearer_square scale symbol 3 + unit scale * lifted (across_of scale (seen scale symbol) +ℤ a)) (sym ex)
-        t.first)
+    first = grind (arith, lifted)
 
-    second : nearer_square scale symbol 1 + unit scale * 2048
-        ≡ nearer_square scale symbol 3 + unit scale * lifted y
+    second : nearer_square scale symbol 1 + unit scale * 2048 ≡ nearer_square scale symbol 3 + unit scale * lifted y
     second = subst (λ a. nearer_square scale symbol 1 + unit scale * 2048 ≡ nearer_square scale symbol 3 + unit scale *
-        lifted a)
-        (sym ey) t.second
+        lifted a) (sym ey) t.second
 
-    third : nearer_square scale symbol 2 + unit scale * 2048
-        ≡ nearer_square scale symbol 3 + unit scale * lifted u
+    third : nearer_square scale symbol 2 + unit scale * 2048 ≡ nearer_square scale symbol 3 + unit scale * lifted u
     third = subst (λ a. nearer_square scale symbol 2 + unit scale * 2048 ≡ nearer_square scale symbol 3 + unit scale *
-        lifted a)
-        (sym eu) t.third
+        lifted a) (sym eu) t.third
 
 tie_is : (m n : ℕ) → IsTieBreak m n (cond (nat_lt n m) 1 0)
 tie_is m n = record { before = λ l. grind (arith, nat_tests); behind = λ l. grind (arith, nat_tests) }

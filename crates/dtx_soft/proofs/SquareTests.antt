@@ -13,10 +13,8 @@ lifted x = nat_abs (pos 2048 +ℤ x)
 
 -- whether four lesser squares are small, and differ by these gaps
 unfoldable pub have_gaps : (unit a b c d : ℕ) (even odd across : ℤ) → Bool
-have_gaps unit a b c d even odd across =
-    nat_eq (a + unit * 2048) (d + unit * lifted (across +ℤ even))
-    && (nat_eq (b + unit * 2048) (d + unit * lifted odd)
-    && (nat_eq (c + unit * 2048) (d + unit * lifted across)
+have_gaps unit a b c d even odd across = nat_eq (a + unit * 2048) (d + unit * lifted (across +ℤ even))
+    && (nat_eq (b + unit * 2048) (d + unit * lifted odd) && (nat_eq (c + unit * 2048) (d + unit * lifted across)
     && (nat_le a 64516 && (nat_le b 64516 && (nat_le c 64516 && nat_le d 64516)))))
 
 -- whether a gap is 1 more where the level of a second pair comes first

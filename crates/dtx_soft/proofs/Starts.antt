@@ -1,7 +1,6 @@
 -- The state that a least path starts from.
 use Rattle.std.proofs.Common.{◌≡◌, ℕ, ℤ, pos, ◌+◌, ◌*◌, ◌<◌, ◌≤◌, ◌⊎◌, inl, inr, ◌+ℤ◌, ◌<ℤ◌, ◌≤ℤ◌, ◌==◌, cond, List}
-use Rattle.std.proofs.Common.{get_or, length}
-use Rattle.std.proofs.Common.{sym, ap, ◌∙◌, subst, arith}
+use Rattle.std.proofs.Common.{get_or, sym, ap, ◌∙◌, subst, arith}
 use Rattle.std.specs.Int.{int_min}
 use Rattle.std.proofs.lemmas.Bool.{cases_lt}
 use mir.Syntax.{Width}
@@ -10,7 +9,7 @@ use Rattle.std.proofs.lemmas.Int.{ints, clamps, to_z-of_z}
 use Rattle.dtx_soft.specs.declared.gaps.Gap.{Gap}
 use Rattle.dtx_soft.specs.declared.trace.Stand.{Stand}
 use Rattle.dtx_soft.specs.Gaps.{AreLeastGaps, HasGaps, SaysAbove, unit}
-use Rattle.dtx_soft.specs.Least.{AreInOrder, IsLeast, IsLeastFrom}
+use Rattle.dtx_soft.specs.Least.{IsLeast, IsLeastFrom}
 use Rattle.dtx_soft.specs.Paths.{IsPath, cost}
 use Rattle.dtx_soft.specs.Trace.{IsStart}
 use Rattle.dtx_soft.proofs.Paths.{least_is}
@@ -29,19 +28,16 @@ above_read w o n f g = above_alike (to_z-of_z w o f) (to_z-of_z w n g)
 
 pub above_sum : (w : Width) (o x y : ℤ) {bit : ℕ} → SFits w o → SFits w x → SFits w y → SFits w (x +ℤ y)
     → SaysAbove (read w o) (read w (read w x +ℤ read w y)) bit → SaysAbove o (x +ℤ y) bit
-above_sum w o x y f g h k =
-    above_alike (to_z-of_z w o f) (sum_read w _ _ x y (to_z-of_z w x g) (to_z-of_z w y h) k)
+above_sum w o x y f g h k = above_alike (to_z-of_z w o f) (sum_read w _ _ x y (to_z-of_z w x g) (to_z-of_z w y h) k)
 
 -- what is asked of four costs in units
 abbrev Comes : ℕ → List ℕ → ℕ → Type 0
 Comes n p s = (get_or p n 0 ≤ get_or p s 0) × (s < n → get_or p n 0 < get_or p s 0)
 
 start_at : (gap : Gap ℤ) (stand : Stand) (n : ℕ) → n < 4 → stand.cost ≡ 0 → stand.q1 < 2 → stand.q0 < 2
-    → 2 * stand.q1 + stand.q0 ≡ n
-    → ((p : List ℕ) → pos (get_or p 0 0) ≡ pos (get_or p 2 0) +ℤ gap.even
+    → 2 * stand.q1 + stand.q0 ≡ n → ((p : List ℕ) → pos (get_or p 0 0) ≡ pos (get_or p 2 0) +ℤ gap.even
     → pos (get_or p 1 0) ≡ pos (get_or p 3 0) +ℤ gap.odd → pos (get_or p 2 0) ≡ pos (get_or p 3 0) +ℤ gap.across
-    → (s : ℕ) → s < 4 → Comes n p s)
-    → IsStart gap stand
+    → (s : ℕ) → s < 4 → Comes n p s) → IsStart gap stand
 start_at gap stand n small c l m e by = record {
   q1 = l;
   q0 = m;
@@ -73,10 +69,7 @@ start_at gap stand n small c l m e by = record {
         by_order : (get_or h.units n 0 < get_or h.units s 0) ⊎ (get_or h.units s 0 ≤ get_or h.units n 0)
             → get_or costs n 0 ≤ get_or costs s 0
         by_order (inl o) = let a = less scale costs h s k o in omega arith
-        by_order (inr o) =
-            let b = (comes scale costs h s k).0 in
-            let a = same scale costs h s k (omega (arith, b, o)) in
-            omega arith
+        by_order (inr o) = grind arith
 
     first : (scale : ℕ) (costs : List ℕ) → HasGaps scale costs gap → (s : ℕ) → s < 4
         → get_or costs s 0 ≡ get_or costs n 0 → n ≤ s
@@ -120,17 +113,12 @@ start_is gap stand first low_cost high_cost low high e f g (inr a) b (inr q) h c
     let k : first ≤ℤ gap.odd = a.0 in
     start_at gap stand 0 (omega arith) c (omega (arith, q.1)) (omega arith) (omega (arith, q.1, i))
     (λ p e0 e1 e2. four (Comes 0 p) ((omega arith), λ l. absurd (omega arith))
-    ((omega (arith, ints, clamps)), λ l. absurd (omega arith)) (
-      (omega (arith, ints, clamps)),
-      λ l. absurd (omega
-          arith),
-    )
+    ((omega (arith, ints, clamps)), λ l. absurd (omega arith)) (grind (arith, ints, clamps))
     ((omega (arith, ints, clamps)), λ l. absurd (omega arith)))
 
 -- a least path from that state is a least one of all
 pub least_from_start : (scale : ℕ) (symbols : List ℤ) (gap : Gap ℤ) (stand : Stand) (levels : List ℕ)
-    → IsStart gap stand → AreLeastGaps scale symbols gap
-    → IsLeastFrom scale symbols (2 * stand.q1 + stand.q0) levels
+    → IsStart gap stand → AreLeastGaps scale symbols gap → IsLeastFrom scale symbols (2 * stand.q1 + stand.q0) levels
     → IsLeast scale symbols (2 * stand.q1 + stand.q0) levels
 least_from_start scale symbols gap stand levels s p h = record {
   begins = (let l = s.q1 in let m = s.q0 in omega arith);
@@ -140,21 +128,17 @@ least_from_start scale symbols gap stand levels s p h = record {
       let a = s.least scale p.potentials p.gaps state l in
       let b = (p.least state l).below others n path in
       omega (arith, value, a, b);
-  first = λ state others l n path e. in_order state others l n path e (cases_lt (2 * stand.q1 + stand.q0) state);
-}
-  where
-    value : cost scale symbols levels ≡ get_or p.potentials (2 * stand.q1 + stand.q0) 0
-    value = least_is scale symbols (2 * stand.q1 + stand.q0) (get_or p.potentials (2 * stand.q1 + stand.q0) 0) levels
-        (p.least (2 * stand.q1 + stand.q0) (let l = s.q1 in let m = s.q0 in omega arith)) h
-
-    in_order : (state : ℕ) (others : List ℕ) → state < 4 → length others ≡ length symbols → IsPath state others
-        → cost scale symbols others ≡ cost scale symbols levels
-        → (2 * stand.q1 + stand.q0 < state) ⊎ (state ≤ 2 * stand.q1 + stand.q0)
-        → (2 * stand.q1 + stand.q0 < state) ⊎ ((2 * stand.q1 + stand.q0 ≡ state) × AreInOrder levels others)
-    in_order state others l n path e (inl o) = inl o
-    in_order state others l n path e (inr o) =
+  first = λ state others l n path e. elim (cases_lt (2 * stand.q1 + stand.q0) state) [
+    | inl o ↦ inl o
+    | inr o ↦
         let a = s.least scale p.potentials p.gaps state l in
         let b = (p.least state l).below others n path in
         let c = s.first scale p.potentials p.gaps state l (omega (arith, value, a, b, e)) in
         let same : 2 * stand.q1 + stand.q0 ≡ state = omega (arith, c, o) in
         inr (same, h.first others n (subst (λ s. IsPath s others) (sym same) path) e)
+  ];
+}
+  where
+    value : cost scale symbols levels ≡ get_or p.potentials (2 * stand.q1 + stand.q0) 0
+    value = least_is scale symbols (2 * stand.q1 + stand.q0) (get_or p.potentials (2 * stand.q1 + stand.q0) 0) levels
+        (p.least (2 * stand.q1 + stand.q0) (let l = s.q1 in let m = s.q0 in omega arith)) h

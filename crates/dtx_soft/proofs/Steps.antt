@@ -1,6 +1,6 @@
 -- One step: from the nearer of each two levels to the least of all levels.
-use Rattle.std.proofs.Common.{◌≡◌, ℕ, ℤ, ◌+◌, ◌*◌, ◌/◌, ◌%◌, ◌<◌, ◌≤◌, ◌≢◌, ◌⊎◌, inl, inr, min, List, get_or}
-use Rattle.std.proofs.Common.{sym, ap, ap₂, ◌∙◌, subst, arith}
+use Rattle.std.proofs.Common.{◌≡◌, ℕ, ℤ, ◌+◌, ◌*◌, ◌/◌, ◌%◌, ◌<◌, ◌≤◌, ◌⊎◌, inl, inr, min, List, get_or, sym, ap, ap₂}
+use Rattle.std.proofs.Common.{◌∙◌, subst, arith}
 use Rattle.std.proofs.lemmas.Bool.{cases_eq, cases_lt}
 use Rattle.dtx_soft.specs.Paths.{next_state, squared, symbol_at}
 use Rattle.dtx_soft.specs.declared.nearest.Nearest.{Nearest}
@@ -28,26 +28,18 @@ abbrev pub pair_onto : List ℕ → ℕ → ℕ → ℕ → ℕ
 pair_onto behind state z square = square + get_or behind (next_state state z) 0
 
 pub pair_is : {scale : ℕ} {symbol : ℤ} {z level square : ℕ} (behind : List ℕ) (state : ℕ)
-    → IsNearest scale symbol z level square
-    → onto scale symbol behind state level ≡ pair_onto behind state z square
-pair_is behind state h =
-    ap₂ (λ (x y : ℕ). x + get_or behind y 0) (sym h.exact) (next_alike state _ _ h.alike)
+    → IsNearest scale symbol z level square → onto scale symbol behind state level ≡ pair_onto behind state z square
+pair_is behind state h = ap₂ (λ (x y : ℕ). x + get_or behind y 0) (sym h.exact) (next_alike state _ _ h.alike)
 
 pair_below : {scale : ℕ} {symbol : ℤ} {z level square : ℕ} (behind : List ℕ) (state y : ℕ)
     → IsNearest scale symbol z level square → y < 8 → y % 4 ≡ z % 4
     → pair_onto behind state z square ≤ onto scale symbol behind state y
-pair_below behind state y h l e =
-    let a : get_or behind (next_state state y) 0 ≡ get_or behind (next_state state _) 0 =
-    ap (λ n. get_or behind n 0) (next_alike state y _ e) in
-    omega (arith, h.nearest y l e)
+pair_below behind state y h l e = grind (arith, next_alike)
 
 pair_first : {scale : ℕ} {symbol : ℤ} {z level square : ℕ} (behind : List ℕ) (state y : ℕ)
     → IsNearest scale symbol z level square → y < 8 → y % 4 ≡ z % 4
     → onto scale symbol behind state y ≡ pair_onto behind state z square → level ≤ y
-pair_first behind state y h l e t =
-    let a : get_or behind (next_state state y) 0 ≡ get_or behind (next_state state _) 0 =
-    ap (λ n. get_or behind n 0) (next_alike state y _ e) in
-    h.first y l e (omega arith)
+pair_first behind state y h l e t = grind (arith, next_alike)
 
 -- the two pairs of levels that may follow a state, of which the first is taken
 pub record ArePairs (scale : ℕ) (symbol : ℤ) (behind : List ℕ) (state a b first second m n : ℕ) : Type 0 where
@@ -63,20 +55,17 @@ pub taken_first : {scale : ℕ} {symbol : ℤ} {behind : List ℕ} {state a b fi
 taken_first {scale} {symbol} {behind} {state} {a} {b} {first} {second} {m} {n} h = record {
   small = h.nearest.small;
   begins = (let e : first % 4 ≡ a % 4 = h.nearest.alike in let f : a % 2 ≡ state / 2 = h.begins in omega arith);
-  least = λ y l e. least_of y l (h.all y e);
+  least = λ y l e. elim (h.all y e) [
+    | inl e ↦ subst (λ x. x ≤ onto scale symbol behind state y) (sym value) (pair_below behind state y h.nearest l e)
+    | inr e ↦
+        let p : pair_onto behind state b n ≤ onto scale symbol behind state y = pair_below behind state y h.other l e in
+        omega (arith, value, h.less)
+  ];
   first = λ y l e t. first_of_all y l (h.all y e) t;
 }
   where
     value : onto scale symbol behind state first ≡ pair_onto behind state a m
     value = pair_is behind state h.nearest
-
-    least_of : (y : ℕ) → y < 8 → (y % 4 ≡ a % 4) ⊎ (y % 4 ≡ b % 4)
-        → onto scale symbol behind state first ≤ onto scale symbol behind state y
-    least_of y l (inl e) =
-        subst (λ x. x ≤ onto scale symbol behind state y) (sym value) (pair_below behind state y h.nearest l e)
-    least_of y l (inr e) =
-        let p : pair_onto behind state b n ≤ onto scale symbol behind state y = pair_below behind state y h.other l e in
-        omega (arith, value, h.less)
 
     first_of_all : (y : ℕ) → y < 8 → (y % 4 ≡ a % 4) ⊎ (y % 4 ≡ b % 4)
         → onto scale symbol behind state y ≡ onto scale symbol behind state first → first ≤ y
@@ -93,23 +82,11 @@ pairs_of : (scale : ℕ) (symbol : ℤ) (row : Nearest) (behind : List ℕ) (sta
     → IsFirstLeast scale symbol behind state (get_or row.levels a 0)
 pairs_of scale symbol row behind state a b h l la lb ma mb all first =
     let pairs : ArePairs scale symbol behind state a b (get_or row.levels a 0) (get_or row.levels b 0)
-    (get_or row.squares a 0) (get_or row.squares b 0) = record {
-      begins = ma;
-      all = all;
-      nearest = h.each a la;
-      other = h.each b lb;
-      less = first.0;
-      tie = first.1;
-    } in
+    (get_or row.squares a 0) (get_or row.squares b 0) = grind arith in
     taken_first pairs
 
-either : (state y : ℕ) → state < 4 → y % 2 ≡ state / 2
-    → (y % 4 ≡ state / 2 % 4) ⊎ (y % 4 ≡ (state / 2 + 2) % 4)
-either state y l e = by_order (cases_eq (y % 4) (state / 2))
-  where
-    by_order : (y % 4 ≡ state / 2) ⊎ (y % 4 ≢ state / 2) → (y % 4 ≡ state / 2 % 4) ⊎ (y % 4 ≡ (state / 2 + 2) % 4)
-    by_order (inl k) = inl (omega arith)
-    by_order (inr k) = inr (omega arith)
+either : (state y : ℕ) → state < 4 → y % 2 ≡ state / 2 → (y % 4 ≡ state / 2 % 4) ⊎ (y % 4 ≡ (state / 2 + 2) % 4)
+either state y l e = grind (arith, cases_eq)
 
 swapped : {P Q : Type 0} → P ⊎ Q → Q ⊎ P
 swapped (inl p) = inr p
@@ -134,11 +111,9 @@ pub taken_first_least : (scale : ℕ) (symbol : ℤ) (row : Nearest) (behind : L
     → AreNearest scale symbol row → state < 4 → IsTaken row behind state pair
     → IsFirstLeast scale symbol behind state (get_or row.levels (state / 2 + 2 * pair) 0)
 taken_first_least scale symbol row behind state pair h l (inl c) =
+    let at : state / 2 + 2 * pair ≡ state / 2 = omega (arith, c.0) in
     subst (λ z. IsFirstLeast scale symbol behind state (get_or row.levels z 0)) (sym at)
     (low_first scale symbol row behind state h l c.1)
-  where
-    at : state / 2 + 2 * pair ≡ state / 2
-    at = omega (arith, c.0)
 taken_first_least scale symbol row behind state pair h l (inr c) =
     subst (λ z. IsFirstLeast scale symbol behind state (get_or row.levels z 0)) (sym at)
     (high_first scale symbol row behind state h l c.1)
@@ -154,14 +129,7 @@ next_taken scale symbol row state z h l = next_alike state (get_or row.levels z 
 -- of two costs the second is taken where it is less, or where it is as much and its level comes first
 pub by_tie : (a b m n tie : ℕ) → IsTieBreak m n tie → ((b < a + tie) × ((b ≤ a) × (b ≡ a → n ≤ m)))
     ⊎ ((a + tie ≤ b) × ((a ≤ b) × (a ≡ b → m ≤ n)))
-by_tie a b m n tie h = by_less (cases_lt n m) (cases_lt b (a + tie))
-  where
-    by_less : (n < m) ⊎ (m ≤ n) → (b < a + tie) ⊎ (a + tie ≤ b) → ((b < a + tie) × ((b ≤ a) × (b ≡ a → n ≤ m)))
-        ⊎ ((a + tie ≤ b) × ((a ≤ b) × (a ≡ b → m ≤ n)))
-    by_less (inl k) (inl l) = inl (l, (omega (arith, h.before k), λ e. omega arith))
-    by_less (inl k) (inr l) = inr (l, (omega (arith, h.before k), λ e. absurd (omega (arith, h.before k))))
-    by_less (inr k) (inl l) = inl (l, (omega (arith, h.behind k), λ e. absurd (omega (arith, h.behind k))))
-    by_less (inr k) (inr l) = inr (l, (omega (arith, h.behind k), λ e. omega arith))
+by_tie a b m n tie h = grind (arith, cases_lt)
 
 -- a bit that says so
 pub bit_taken : (row : Nearest) (behind : List ℕ) (state tie bit : ℕ)
@@ -169,44 +137,21 @@ pub bit_taken : (row : Nearest) (behind : List ℕ) (state tie bit : ℕ)
     → ((through row behind state (state / 2 + 2) < through row behind state (state / 2) + tie) × (bit ≡ 1))
     ⊎ ((through row behind state (state / 2) + tie ≤ through row behind state (state / 2 + 2)) × (bit ≡ 0))
     → IsTaken row behind state bit
-bit_taken row behind state tie bit h b =
-    both (by_tie (through row behind state (state / 2)) (through row behind state (state / 2 + 2))
-    (get_or row.levels (state / 2) 0) (get_or row.levels (state / 2 + 2) 0) tie h) b
-  where
-    both : ((through row behind state (state / 2 + 2) < through row behind state (state / 2) + tie)
-        × ComesFirst row behind state (state / 2 + 2) (state / 2))
-        ⊎ ((through row behind state (state / 2) + tie ≤ through row behind state (state / 2 + 2))
-        × ComesFirst row behind state (state / 2) (state / 2 + 2))
-        → ((through row behind state (state / 2 + 2) < through row behind state (state / 2) + tie) × (bit ≡ 1))
-        ⊎ ((through row behind state (state / 2) + tie ≤ through row behind state (state / 2 + 2)) × (bit ≡ 0))
-        → IsTaken row behind state bit
-    both (inl f) (inl b) = inr (b.1, f.1)
-    both (inl f) (inr b) = absurd (omega (arith, f.0, b.0))
-    both (inr f) (inl b) = absurd (omega (arith, f.0, b.0))
-    both (inr f) (inr b) = inl (b.1, f.1)
+bit_taken row behind state tie bit h b = grind (arith, by_tie)
 
 -- some level is the first least, and it comes to the potential
 pub cheapest_is : (scale : ℕ) (symbol : ℤ) (row : Nearest) (behind : List ℕ) (state : ℕ) → AreNearest scale symbol row
-    → state < 4
-    → (z : ℕ) × IsFirstLeast scale symbol behind state z
+    → state < 4 → (z : ℕ) × IsFirstLeast scale symbol behind state z
     × (cheapest row behind state ≡ onto scale symbol behind state z)
 cheapest_is scale symbol row behind state h l =
     by_order (cases (through row behind state (state / 2)) (through row behind state (state / 2 + 2))
     (get_or row.levels (state / 2) 0) (get_or row.levels (state / 2 + 2) 0))
   where
     cases : (a b m n : ℕ) → ((a ≤ b) × (a ≡ b → m ≤ n)) ⊎ ((b ≤ a) × (b ≡ a → n ≤ m))
-    cases a b m n = by_less (cases_lt a b) (cases_lt b a) (cases_lt m n)
-      where
-        by_less : (a < b) ⊎ (b ≤ a) → (b < a) ⊎ (a ≤ b) → (m < n) ⊎ (n ≤ m)
-            → ((a ≤ b) × (a ≡ b → m ≤ n)) ⊎ ((b ≤ a) × (b ≡ a → n ≤ m))
-        by_less (inl p) q r = inl (omega arith, λ e. absurd (omega arith))
-        by_less (inr p) (inl q) r = inr (omega arith, λ e. absurd (omega arith))
-        by_less (inr p) (inr q) (inl r) = inl (omega arith, λ e. omega arith)
-        by_less (inr p) (inr q) (inr r) = inr (omega arith, λ e. omega arith)
+    cases a b m n = grind (arith, cases_lt)
 
     by_order : ComesFirst row behind state (state / 2) (state / 2 + 2)
-        ⊎ ComesFirst row behind state (state / 2 + 2) (state / 2)
-        → (z : ℕ) × IsFirstLeast scale symbol behind state z
+        ⊎ ComesFirst row behind state (state / 2 + 2) (state / 2) → (z : ℕ) × IsFirstLeast scale symbol behind state z
         × (cheapest row behind state ≡ onto scale symbol behind state z)
     by_order (inl first) = (
       get_or row.levels (state / 2) 0,
@@ -229,11 +174,4 @@ cheapest_is scale symbol row behind state h l =
 pub next_pair : (q1 q0 pair : ℕ) → q1 < 2 → q0 < 2 → pair < 2
     → 2 * ((pair + q0) % 2) + q1 ≡ next_state (2 * q1 + q0) (q1 + 2 * pair)
 unfolding next_state
-next_pair q1 q0 pair k l m =
-    let a : (2 * q1 + q0) / 2 ≡ q1 = omega arith in
-    let b : (2 * q1 + q0) % 2 ≡ q0 = omega arith in
-    let e : (q1 + 2 * pair) / 2 ≡ pair = omega arith in
-    ap₂ (λ x y. 2 * x + y) (ap (λ x. x % 2) (ap₂ (λ x y. x + y) (sym (bit (sym e))) (sym b))) (sym a)
-  where
-    bit : {n : ℕ} → pair ≡ n → n % 2 ≡ pair
-    bit e = omega arith
+next_pair q1 q0 pair k l m = grind arith

@@ -41,8 +41,7 @@ over_plus f g a (suc n) =
     let first = over_more f a n in
     let second = over_more g a n in
     let both = over_more (λ i. f i + g i) a n in
-    let all : over (λ i. f i + g i) a (n + 1) ≡ over f a (n + 1) + over g a (n + 1) =
-    omega (arith, before, first, second, both) in
+    let all : over (λ i. f i + g i) a (n + 1) ≡ over f a (n + 1) + over g a (n + 1) = grind arith in
     ap (over (λ i. f i + g i) a) next ∙ all ∙ sym (ap (λ n. over f a n + over g a n) next)
 
 -- two sums in either order
@@ -67,11 +66,7 @@ over_blocks f b (suc n) =
     let next : suc n ≡ n + 1 = omega arith in
     let at : 0 + n ≡ n = omega arith in
     let more : b * n + b ≡ b * suc n = grind arith in
-    let moved : over (λ k. f (b * n + k)) 0 b ≡ over f (0 + b * n) b =
-    over_moved (λ k. f (b * n + k)) f 0 (0 + b * n) b (λ i l. (let same : b * n + (0 + i) ≡ 0 + b * n + i = omega arith
-    in ap f same)) in
-    ap (over (λ i. over (λ k. f (b * i + k)) 0 b) 0) next
-    ∙ over_more (λ i. over (λ k. f (b * i + k)) 0 b) 0 n
-    ∙ ap₂ (λ (x y : ℕ). x + y) (over_blocks f b n)
-    (ap (λ i. over (λ k. f (b * i + k)) 0 b) at ∙ moved)
+    let moved : over (λ k. f (b * n + k)) 0 b ≡ over f (0 + b * n) b = grind (arith, over_moved) in
+    ap (over (λ i. over (λ k. f (b * i + k)) 0 b) 0) next ∙ over_more (λ i. over (λ k. f (b * i + k)) 0 b) 0 n
+    ∙ ap₂ (λ (x y : ℕ). x + y) (over_blocks f b n) (ap (λ i. over (λ k. f (b * i + k)) 0 b) at ∙ moved)
     ∙ sym (over_parts f 0 (b * n) b) ∙ ap (over f 0) more

@@ -73,11 +73,10 @@ goes_further scale symbols now t marks old new written small l n m next u = reco
   small = (let a = u.small in let b = next.cost in let d = next.small in omega arith);
   long = length-append u.levels (level ∷ []) ∙ ap (λ n. n + 1) u.long;
   goes_on = λ rest h. subst (IsLeastFrom scale symbols u.start) (sym (append_assoc u.levels (level ∷ []) rest))
-      (u.goes_on (level ∷ rest) (longer rest
-      (subst (λ s. IsLeastFrom scale (drop (t + 1) symbols) s rest) state_is h)));
+      (u.goes_on (level ∷ rest)
+      (longer rest (subst (λ s. IsLeastFrom scale (drop (t + 1) symbols) s rest) state_is h)));
   written = take_more_set now t written (omega (arith, n)) ∙ ap₂ (λ (xs ys : List ℤ). xs ++ ys) u.written
-      (ap (λ x. x ∷ []) (next.written_is ∙ nearer_is_symbol scale v old.q1 pair u.q1
-      (omega arith))) ∙ sym (map-append (symbol_at scale) u.levels (level ∷ []));
+      (grind (arith, nearer_is_symbol, v, pair)) ∙ sym (map-append (symbol_at scale) u.levels (level ∷ []));
   cost = next.cost ∙ ap (λ n. n + squared v written) u.cost
       ∙ sym (distance-more (take t symbols) (take t now) v written (omega (arith, front t symbols, front t now)))
       ∙ ap₂ distance (sym (take_more symbols t (pos 0) l)) (sym (take_more_set now t written (omega (arith, n))));
@@ -103,15 +102,12 @@ goes_further scale symbols now t marks old new written small l n m next u = reco
     half = (let b = u.q0 in omega arith)
 
     taken : IsFirstLeast scale v m.behind state level
-    taken =
-        subst (λ q1. IsFirstLeast scale v m.behind state (get_or (row_of scale v).levels (q1 + 2 * pair) 0)) half
+    taken = subst (λ q1. IsFirstLeast scale v m.behind state (get_or (row_of scale v).levels (q1 + 2 * pair) 0)) half
         (taken_first_least scale v (row_of scale v) m.behind state pair (row_is scale v small next.from next.to) low
         (m.taken state low))
 
     state_is : 2 * new.q1 + new.q0 ≡ next_state state level
-    state_is =
-        ap₂ (λ x y. 2 * x + y) next.q1 next.q0
-        ∙ next_pair old.q1 old.q0 pair u.q1 u.q0 (omega arith)
+    state_is = ap₂ (λ x y. 2 * x + y) next.q1 next.q0 ∙ next_pair old.q1 old.q0 pair u.q1 u.q0 (omega arith)
         ∙ sym (next_taken scale v (row_of scale v) state (old.q1 + 2 * pair) (row_is scale v small next.from next.to)
         (let a = u.q1 in omega arith))
 

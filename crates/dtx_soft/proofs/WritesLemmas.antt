@@ -1,19 +1,17 @@
 -- What holds of each entry, one write further.
-use Rattle.std.proofs.Common.{◌≡◌, ℕ, zero, suc, ◌+◌, ◌<◌, ◌≤◌, ◌≢◌, ◌⊎◌, inl, inr, List}
-use Rattle.std.proofs.Common.{length, get_or, slice_set, sym}
-use Rattle.std.proofs.Common.{subst, arith}
+use Rattle.std.proofs.Common.{ℕ, zero, suc, ◌+◌, ◌<◌, ◌≤◌, ◌≢◌, inl, inr, List, length, get_or, slice_set, sym, subst}
+use Rattle.std.proofs.Common.{arith}
 use Rattle.std.proofs.lemmas.Bool.{cases_eq}
 use Rattle.std.proofs.lemmas.List.{get_or-set_same, get_or-set_other}
 
 -- at one entry
 pub by_entry : {A : Type 0} (P : ℕ → A → Type 0) (xs : List A) (n : ℕ) (x : A) → n < length xs → P n x
     → (k : ℕ) (d : A) → (k ≢ n → P k (get_or xs k d)) → P k (get_or (slice_set xs n x) k d)
-by_entry P xs n x l p k d f = go (cases_eq k n)
-  where
-    go : (k ≡ n) ⊎ (k ≢ n) → P k (get_or (slice_set xs n x) k d)
-    go (inl e) =
-        subst (λ i. P i (get_or (slice_set xs n x) i d)) (sym e) (subst (P n) (sym (get_or-set_same xs n x d l)) p)
-    go (inr e) = subst (P k) (sym (get_or-set_other xs n k x d e)) (f e)
+by_entry P xs n x l p k d f = elim (cases_eq k n) [
+  | inl e ↦
+      subst (λ i. P i (get_or (slice_set xs n x) i d)) (sym e) (subst (P n) (sym (get_or-set_same xs n x d l)) p)
+  | inr e ↦ subst (P k) (sym (get_or-set_other xs n k x d e)) (f e)
+]
 
 -- upwards
 pub written_below : {A : Type 0} (P : ℕ → A → Type 0) (xs : List A) (n : ℕ) (x : A) → n < length xs

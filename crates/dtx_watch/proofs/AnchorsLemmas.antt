@@ -24,19 +24,17 @@ below d a h = let l : a < length (syncs d) = anchor_below (syncs d) a h in omega
 
 -- an anchor was the anchor from its own packet on
 pub since : (d : List (List ℕ)) (a k : ℕ) → anchor_of d ≡ Some a → a < k → k ≤ length d → anchor_of (take k d) ≡ Some a
-since d a k h l m = to_front d k m
-    ∙ stood (syncs d) a k (length d - k) l (ap (anchor_to (syncs d)) (omega (arith, m)) ∙ sym (to_all d) ∙ h)
+since d a k h l m = to_front d k m ∙ stood (syncs d) a k (length d - k) l (grind (arith, to_all))
 
 -- and before that there was none
 pub none_before : (d : List (List ℕ)) (a : ℕ) → anchor_of d ≡ Some a → anchor_of (take a d) ≡ None
 unfolding anchor_to
 none_before d a h =
     let one : a + 1 ≡ suc a = omega arith in
-    let now : anchor_to (syncs d) (suc a) ≡ Some a =
-    ap (anchor_to (syncs d)) (sym one) ∙ sym (to_front d (a + 1) (omega (arith, below d a h)))
-    ∙ since d a (a + 1) h (omega arith) (omega (arith, below d a h)) in
     to_front d a (omega (arith, below d a h))
-    ∙ by_before (anchor_to (syncs d) a) (λ j e. anchor_to_below (syncs d) a j e) now
+    ∙ by_before (anchor_to (syncs d) a) (λ j e. anchor_to_below (syncs d) a j e)
+    (ap (anchor_to (syncs d)) (sym one) ∙ sym (to_front d (a + 1) (omega (arith, below d a h)))
+    ∙ since d a (a + 1) h (omega arith) (omega (arith, below d a h)))
   where
     by_old : (j : ℕ) (b : Bool) → j < a → cond b None (Some j) ≡ Some a → ◌≡◌ {A = Option ℕ} (Some j) None
     by_old j true l e = cc

@@ -112,9 +112,7 @@ unfolding order_at
 order_at_hand g l i h =
     let f : ℕ → Option Ops = ordered_at (readings l) in
     let e : i + 0 ≡ i = omega arith in
-    ap₂ either (ap₂ either (grind (arith, order_same)) (order_same g l i 4 2 h (omega arith)))
-    (order_same g l i 4 3 h (omega arith)) ∙ either_either (either (f i) (f (i + 1))) (f (i + 2)) (f (i + 3))
-    ∙ either_either (f i) (f (i + 1)) (either (f (i + 2)) (f (i + 3)))
+    grind (arith, order_same, either_either) ∙ either_either (f i) (f (i + 1)) (either (f (i + 2)) (f (i + 3)))
 
 note_same : (g : Group) (l : List (List ℕ)) (i n m : ℕ) → IsAtHand g l i n → m < n
     → note_in g m ≡ note_under l (g.number + m) (i + m)

@@ -60,9 +60,7 @@ joined_partial l old place packet k given keeps e h four none =
         first = λ _. omega (arith, e, w);
         flushed = keeps.flushed ∙ settled_same (length l) n (cases_lt (length l) 52)
             ∙ ap (nat_le 52) (sym (length_push l packet.0));
-        partial = ap₂ (λ (x y : ℕ). take x (bytes_of (set old.packets y packet))) s m
-            ∙ held_more old.packets packet (length l % 4) (omega (arith, four)) ∙ ap (λ x. x ++ packet.0 ∷ []) keeps.partial
-            ∙ sym (ap (λ (y : ℕ). drop y (l ++ packet.0 ∷ [])) w ∙ drop-append-le (whole l) l (packet.0 ∷ []) (omega arith));
+        partial = grind (arith, held_more, drop-append-le);
         ordered = keeps.ordered ∙ ap are_some (sym (last_same l packet.0 n));
         latest = keeps.latest ∙ sym (stamped_same l packet.0 n);
         coder = subst (λ x. RunsUnder x (last_orders (l ++ packet.0 ∷ [])) old.coder) (sym (front_same l packet.0 n))
@@ -134,8 +132,6 @@ expected_orders w l p i (order ∷ older) h e m =
     let o : Ends.IsOlder i order = Ends.last_older l i order older h.ends e in
     let x = o.flushed in
     let y = o.whole in
-    let runs : RunsUnder (Ends.front l i) (order ∷ older) w.coder =
-    subst (λ r. RunsUnder (Ends.front l i) r w.coder) e h.coder in
     let long = h.ends.long in
     ap (λ b. cond (not b) First (These w.coder.states)) (h.ordered ∙ ap are_some e) ∙ ap These
     (grind (arith, states_along, take-append-le))
@@ -165,7 +161,8 @@ full_at_hand w l p i h =
       before = h.latest ∙ sym (stamped_front l (p ∷ []) i (omega (arith, long)));
       packets = λ m k.
           ap (λ x. get_or x m []) h.packets ∙ sym (ap (λ x. get_or x (i + m) []) (sym (Ends.parts l i p))
-          ∙ get_or-append_right (Ends.front l i) (Ends.group l i p) i (i + m) [] (Ends.length-front l i h.ends) (omega arith)
+          ∙ get_or-append_right (Ends.front l i) (Ends.group l i p) i (i + m) [] (Ends.length-front l i h.ends)
+          (omega arith)
           ∙ ap (λ x. get_or (Ends.group l i p) x []) (omega arith));
       inside = omega (arith, Ends.length-all l i p h.ends);
       few = omega arith;
@@ -238,9 +235,7 @@ some_more i (Some ops) (order ∷ older) = refl
 
 ordered_full : (w : Watcher) (l : List (List ℕ)) (p : List ℕ) (i : ℕ) → IsFull w l p i
     → (w.ordered || is_some (states_in w)) ≡ are_some (last_orders (l ++ p ∷ []))
-ordered_full w l p i h = ap₂ (λ b q. b || is_some q) h.ordered (states_full w l p i h)
-    ∙ some_more i (counting_order (readings (l ++ p ∷ [])) i) (last_orders l)
-    ∙ ap are_some (sym (orders_now l p i h.ends))
+ordered_full w l p i h = grind (arith, states_full, some_more) ∙ ap are_some (sym (orders_now l p i h.ends))
 
 -- what is kept behind it
 pub joined_full : (l : List (List ℕ)) (w made now : Watcher) (p : List ℕ) (i place k : ℕ) (given : List Note)
@@ -260,9 +255,7 @@ joined_full l w made now p i place k given h e at last is =
       part = ap (λ (x : Watcher). x.part) is ∙ sym end;
       keeps = record {
         first = λ some. absurd (omega (arith, some, end));
-        flushed = ap (λ (x : Watcher). x.flushed) is ∙ ap (λ (x : Watcher). x.flushed || (place == 51)) e.made
-            ∙ ap (λ b. b || (place == 51)) h.flushed
-            ∙ settled_more (length l) place at (cases_lt (length l) 52) ∙ ap (nat_le 52) (sym (length_push l p));
+        flushed = grind (arith, settled_more, cases_lt, length_push);
         partial = partial_full l p i (bytes_of now.packets) h.ends;
         ordered = ap (λ (x : Watcher). x.ordered) is ∙ ap (λ (x : Watcher). x.ordered) e.made ∙ ordered_full w l p i h;
         latest = ap (λ (x : Watcher). x.latest) is ∙ ap (λ (x : Watcher). x.latest) e.made

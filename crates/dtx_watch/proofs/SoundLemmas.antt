@@ -74,7 +74,6 @@ anchor_from : (start most : ℕ) (f d : List (List ℕ)) (m k : ℕ) → IsFrom 
     → anchor_of (take (k + 1) d) ≡ Some 0
 unfolding anchor_of syncs
 anchor_from start most f d m k h l =
-    let none : (j : ℕ) → anchor [] ≡ Some j → (length {A = ℕ} [] - j) % 624 ≡ 0 = λ j e. omega arith in
     let a : IsAnchored [] (syncs d) 0 = grind (arith, anchored, marked_from, length-syncs) in
     let w = a.within in
     let z : a.place ≡ 0 = omega (arith, w) in
@@ -177,7 +176,6 @@ states_right start most f d m i order older h w l far e =
     let says : SaysAt start most f (m + r.packet) order.ops = says_so start most f d m r.packet order.ops h r.so in
     let z = h.mark in let inside = h.inside in let x1 = b.flushed in let x2 = b.whole in let x3 = st.below in
     let r1 = r.from in let r2 = r.within in
-    let long : length d ≡ length f - m = long_from start most f d m h in
     let x : ℕ = order.place in
     let g : ℕ = (m + x) / 4 in
     let a : List (List ℕ) = take m f in
@@ -217,8 +215,7 @@ states_calm start most f d m k ops h r = by_place (cases_lt (4 * (k / 4)) 52) (c
     own : ops.states ≡ states (take (m + i) f)
     own =
         let z = h.mark in
-        let e : 4 * ((m + k) / 4) ≡ m + i = omega (arith, z) in
-        says.states_are ∙ ap (λ n. states (take n f)) e
+        says.states_are ∙ ap (λ n. states (take n f)) (omega (arith, z))
 
     by_orders : 52 ≤ i → i + 4 ≤ length d → (os : List Order) → orders (readings d) (i - 4) ≡ os
         → states_note (expected_by d i os) ops ≢ states_are.Slip

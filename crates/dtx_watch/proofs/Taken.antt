@@ -73,8 +73,7 @@ pub taken_start : (old mid now : Watcher) (before : List (List ℕ)) (p : List �
 taken_start old mid now before p anchor given stood h e keeps part same n =
     let g : Goes 0 0 before p Start = goes_seen 0 0 before p Start anchor h in
     taken_as before p Start anchor (Some (p ∷ [])) now given h g.follows
-    (told_start before p (stood_as before p Start anchor h) g.follows ∙ ap (λ ns. told before ++ ns) (sym n))
-    (grind arith)
+    (rw (told_start before p (stood_as before p Start anchor h) g.follows, ← n)) (grind arith)
 
 -- where it joins those under the anchor
 with_count : (old mid : Watcher) (anchor : Option Lock) (l : List (List ℕ)) → mid ≡ counted old anchor
@@ -102,12 +101,11 @@ taken_at old mid now before p place anchor given stood h e joins same =
   where
     by_follow : Goes 0 0 before p (At place) → IsTaken before p now given
     by_follow g =
-        let l : List (List ℕ) = g.follows.0 in
-        let keeps : KeepsUnder old l = subst (Keeps old) g.follows.1 stood.kept in
-        let j : IsJoined (l ++ p ∷ []) (mid.count - 1) now given = grind (arith, with_count) in
+        let keeps : KeepsUnder old g.follows.0 = subst (Keeps old) g.follows.1 stood.kept in
+        let j : IsJoined (g.follows.0 ++ p ∷ []) (mid.count - 1) now given = grind (arith, with_count) in
         let at : mid.count - 1 ≡ length before = omega (arith, ap (λ (w : Watcher). w.count) e, stood.count) in
-        taken_as before p (At place) anchor (Some (l ++ p ∷ [])) now given h g.follows.2
-        (told_joined before l p (mid.count - 1) now given g.follows.1 g.follows.2 j at) (record {
+        taken_as before p (At place) anchor (Some (g.follows.0 ++ p ∷ [])) now given h g.follows.2
+        (told_joined before g.follows.0 p (mid.count - 1) now given g.follows.1 g.follows.2 j at) (record {
           count = same.count ∙ ap (λ (w : Watcher). w.count) e ∙ ap (λ (n : ℕ). n + 1) stood.count;
           anchored = same.anchor ∙ ap (λ (w : Watcher). w.anchor) e;
           part = j.part;

@@ -1,7 +1,7 @@
 -- What is told of packets, with one packet more.
 use Rattle.std.proofs.Common.{◌≡◌, ◌≢◌, ℕ, zero, suc, ◌+◌, ◌-◌, ◌*◌, ◌/◌, ◌%◌, ◌<◌, ◌≤◌, ◌⊎◌, ◌==◌, ◌&&◌, Bool, true}
 use Rattle.std.proofs.Common.{false, not, cond, Option, Some, None, option_map, List, [], ◌∷◌, ◌++◌, length, take, drop}
-use Rattle.std.proofs.Common.{get_or, refl, sym, ap, ap₂, subst, ◌∙◌, arith, inl, inr, nat_le, ne_eqb, le-leb, eqb-true}
+use Rattle.std.proofs.Common.{get_or, refl, sym, ap, ap₂, subst, ◌∙◌, arith, inl, inr, nat_le, le-leb, eqb-true}
 use Rattle.std.proofs.Common.{append-nil, append_assoc, length-drop, take_all, length-append, length-take-le}
 use Rattle.std.specs.Prelude.{⊤}
 use Rattle.std.specs.List.{range_with_len, flat_map}
@@ -157,10 +157,7 @@ first_at d l u i h =
         → one_or_none (lock_note (u.anchor + i) (anchor_of (take (u.anchor + i) d)) (Some u.anchor))
         ≡ cond (j == 0) ((record { packet = u.anchor + i; what = what.Lock }) ∷ []) []
     by_place zero e b = grind (arith, none_before)
-    by_place (suc j) e b = ap (λ o. one_or_none (lock_note (u.anchor + i) o (Some u.anchor)))
-        (since d u.anchor (u.anchor + i) u.is (omega (arith, e)) (omega (arith, b)))
-        ∙ sym (cond-false (suc j == 0) ((record { packet = u.anchor + i; what = what.Lock }) ∷ []) []
-        (ne_eqb (suc j) 0 (λ z. omega (arith, z))))
+    by_place (suc j) e b = grind (arith, since, cond-false)
 
 later_at : (d l : List (List ℕ)) (u : IsUnder d l) (i : ℕ) → u.anchor + i < length d → 0 < i
     → notes_at d (u.anchor + i) ≡ one_or_none (note_under l (u.anchor + i) i)
@@ -178,9 +175,7 @@ group_at_end d l u i n e =
     let k0 : k + 0 ≡ k = omega arith in
     let i0 : i + 0 ≡ i = omega arith in
     let lock : List Note = cond (i == 0) ((record { packet = k; what = what.Lock }) ∷ []) [] in
-    ap₂ ◌++◌
-    (first_at d l u i (omega (arith, long)) ∙ ap₂ (λ x y. lock ++ one_or_none (note_under l x y)) (sym k0) (sym i0))
-    (flat_map-range_moved (notes_at d) g (k + 1) (0 + 1) n (λ m h.
+    ap₂ ◌++◌ (grind (arith, first_at)) (flat_map-range_moved (notes_at d) g (k + 1) (0 + 1) n (λ m h.
     let at : k + 1 + m ≡ u.anchor + (i + (0 + 1 + m)) = omega arith in
     let same : u.anchor + (i + (0 + 1 + m)) ≡ k + (0 + 1 + m) = omega arith in
     ap (notes_at d) at ∙ later_at d l u (i + (0 + 1 + m)) (omega (arith, h, long)) (omega arith)
@@ -279,10 +274,9 @@ unfolding notes_at
 alone_at d p none =
     let k : ℕ = length d in
     let here : take k (d ++ p ∷ []) ≡ d = take-append-le k d (p ∷ []) (omega arith) ∙ take_all k d (omega arith) in
-    let next : take (k + 1) (d ++ p ∷ []) ≡ (d ++ p ∷ []) = take_all (k + 1) (d ++ p ∷ [])
-    (omega (arith, length_push d p)) in
     ap₂ (λ x o. one_or_none (lock_note k (anchor_of x) o) ++ one_or_none (reading_note (d ++ p ∷ []) k o)) here
-    (ap anchor_of next ∙ none) ∙ ap (λ q. one_or_none (lock_note k (anchor_of d) None) ++ one_or_none
+    (ap anchor_of (take_all (k + 1) (d ++ p ∷ []) (omega (arith, length_push d p))) ∙ none)
+    ∙ ap (λ q. one_or_none (lock_note k (anchor_of d) None) ++ one_or_none
     (packet_note k None Early None (reading q))) (get_or_push d p [] k refl)
 
 -- where there is no anchor with it
@@ -336,8 +330,7 @@ told_group d p l i was now e w =
     let inside = u.inside in
     let long : length all ≡ length d + 1 = length_push d p in
     let one = length_push l p in
-    let size : length (l ++ p ∷ []) ≡ length all - u.anchor =
-    ap (λ (x : List (List ℕ)). length x) (sym u.are) ∙ length-drop u.anchor all in
+    let size : length (l ++ p ∷ []) ≡ length all - u.anchor = grind (arith, length-drop) in
     let x = part_under d l was in
     let y = part_under all (l ++ p ∷ []) now in
     let at : length d - group_part d ≡ u.anchor + i = omega (arith, inside, long, one, size, x, e, w) in
@@ -357,13 +350,12 @@ waiting_none d z = ap (λ n. flat_map (notes_at d) (range_with_len (length d - g
 pub waiting_some : (d l : List (List ℕ)) (i n : ℕ) → under d ≡ Some l → length l ≡ i + suc n → i % 4 ≡ 0 → suc n < 4
     → waiting d ≡ group_notes l (length d - suc n) i (suc n)
 waiting_some d l i n now e w few =
-    let u : IsUnder d l = is_under d l now in
-    let inside = u.inside in
-    let size : length l ≡ length d - u.anchor = grind (arith, length-drop) in
+    let inside = (is_under d l now).inside in
+    let size : length l ≡ length d - (is_under d l now).anchor = grind (arith, length-drop) in
     let part : group_part d ≡ suc n = let x = part_under d l now in omega (arith, x, e, w, few) in
-    let at : length d - group_part d ≡ u.anchor + i = omega (arith, inside, size, e, part) in
-    let k : u.anchor + i ≡ length d - suc n = omega (arith, inside, size, e) in
-    ap₂ (λ x y. flat_map (notes_at d) (range_with_len x y)) at part ∙ group_at_end d l u i n e
+    let at : length d - group_part d ≡ (is_under d l now).anchor + i = omega (arith, inside, size, e, part) in
+    let k : (is_under d l now).anchor + i ≡ length d - suc n = omega (arith, inside, size, e) in
+    ap₂ (λ x y. flat_map (notes_at d) (range_with_len x y)) at part ∙ group_at_end d l (is_under d l now) i n e
     ∙ ap (λ x. group_notes l x i (suc n)) k
 
 -- all that is told is told before the end or at it
@@ -375,8 +367,7 @@ all_told d = ap (notes_to d) (by_under (under d) refl) ∙ to_parts d (length d 
     by_under None h = let x = part_free d h in omega (arith, x)
     by_under (Some l) h =
         let u : IsUnder d l = is_under d l h in
-        let size : length l ≡ length d - u.anchor =
-        ap (λ (x : List (List ℕ)). length x) (sym u.are) ∙ length-drop u.anchor d in
+        let size : length l ≡ length d - u.anchor = grind (arith, length-drop) in
         let x = part_under d l h in
         omega (arith, x, size)
 

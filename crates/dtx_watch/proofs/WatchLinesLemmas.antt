@@ -37,11 +37,9 @@ either_word false xs ys h k = k
 
 digits_word : (k n : ℕ) (acc : List ℕ) → IsWord acc → IsWord (digits_onto k 10 false n acc)
 digits_word zero n acc h = h
-digits_word (suc k) n acc h =
-    let last : IsWord (digit_glyph false (n % 10) ∷ acc) = grind (arith, All-cons, glyph) in
-    either_word (n / 10 == 0) (digit_glyph false (n % 10) ∷ acc)
-    (digits_onto k 10 false (n / 10) (digit_glyph false (n % 10) ∷ acc)) last
-    (digits_word k (n / 10) (digit_glyph false (n % 10) ∷ acc) last)
+digits_word (suc k) n acc h = either_word (n / 10 == 0) (digit_glyph false (n % 10) ∷ acc)
+    (digits_onto k 10 false (n / 10) (digit_glyph false (n % 10) ∷ acc)) (grind (arith, All-cons, glyph))
+    (digits_word k (n / 10) (digit_glyph false (n % 10) ∷ acc) (grind (arith, All-cons, glyph)))
 
 pub number : (n : ℕ) → IsWord (decimal n)
 unfolding digits
@@ -54,22 +52,19 @@ first_is : (w : NoteKind) → IsWord (first_word w)
 first_is what.Lock = spelled (codes "lock") (omega arith, (omega arith, (omega arith, (omega arith, tt))))
 first_is what.Lost = spelled (codes "lost") (omega arith, (omega arith, (omega arith, (omega arith, tt))))
 first_is (what.Unread refusal) = grind (arith, spelled)
-first_is (what.Stray frame index) =
-    spelled (codes "stray") (omega arith, (omega arith, (omega arith, (omega arith, (omega arith, tt)))))
+first_is (what.Stray frame index) = grind (arith, spelled)
 first_is (what.Ops o) = spelled (codes "ops") (omega arith, (omega arith, (omega arith, tt)))
 
 states_is : (s : StatesNote) → IsWord (states_word s)
 states_is states.Early = grind (arith, spelled)
-states_is states.First =
-    spelled (codes "first") (omega arith, (omega arith, (omega arith, (omega arith, (omega arith, tt)))))
+states_is states.First = grind (arith, spelled)
 states_is states.Right =
     spelled (codes "right") (omega arith, (omega arith, (omega arith, (omega arith, (omega arith, tt)))))
 states_is states.Slip = spelled (codes "slip") (omega arith, (omega arith, (omega arith, (omega arith, tt))))
 
 clock_is : (c : ClockNote) → IsWord (clock_word c)
 clock_is clock.First = grind (arith, spelled)
-clock_is clock.Right =
-    spelled (codes "right") (omega arith, (omega arith, (omega arith, (omega arith, (omega arith, tt)))))
+clock_is clock.Right = grind (arith, spelled)
 clock_is clock.Jump = spelled (codes "jump") (omega arith, (omega arith, (omega arith, (omega arith, tt))))
 
 later_are : (k : ℕ) (w : NoteKind) → AllByRecursion IsWord (later_words k w)
@@ -103,8 +98,7 @@ spaced_long (word ∷ words) h = All-append (λ b. 32 ≤ b) (32 ∷ word) (spac
 pub one_line : (word : List ℕ) (words : List (List ℕ)) → IsWord word → AllByRecursion IsWord words
     → All (λ b. (b == 10) ≡ false) (word ++ spaced words)
 one_line word words h k = All-weaker (λ b. 32 ≤ b) (λ b. (b == 10) ≡ false) (λ b l. grind arith) (word ++ spaced words)
-    (All-append (λ b. 32 ≤ b) word (spaced words)
-    (All-weaker (λ b. 33 ≤ b) (λ b. 32 ≤ b) (λ b l. omega (arith, l)) word h) (spaced_long words k))
+    (All-append (λ b. 32 ≤ b) word (spaced words) (grind (arith, All-weaker)) (spaced_long words k))
 
 line_is : (k : ℕ) (w : NoteKind) → note_head k w ++ note_end w ≡ (first_word w ++ spaced (later_words k w)) ++ 10 ∷ []
 line_is k what.Lock = refl
@@ -131,8 +125,7 @@ words_of-watch_text (note ∷ notes) =
     let words : List (List ℕ) = later_words note.packet note.what in
     let line : List ℕ = word ++ spaced words in
     let rest : List ℕ = watch_text notes in
-    let text : watch_text (note ∷ notes) ≡ line ++ 10 ∷ rest =
-    ap (λ z. z ++ rest) (line_is note.packet note.what) ∙ append_assoc line (10 ∷ []) rest in
+    let text : watch_text (note ∷ notes) ≡ line ++ 10 ∷ rest = simp (line_is, append_assoc) in
     ap words_of_lines text ∙ ap (map (slice_split (λ b. b == 32))) (slice_split_at (λ b. b == 10) line 10 rest
     (one_line word words (first_is note.what) (later_are note.packet note.what)) refl)
     ∙ ap₂ (λ ws more. ws ∷ more) (grind (arith, words_cut, first_is, later_are)) (words_of-watch_text notes)
