@@ -15,15 +15,11 @@ use Rattle.dtx_adapter.specs.Feed.{is_placeholder, is_filled, filled_groups}
 abbrev four : List (List ℕ) → ℕ → List (List ℕ)
 four stream u = slice_range stream (4 * u) (4 * u + 4)
 
-four-more : (stream more : List (List ℕ)) (u : ℕ) → 4 * u + 4 ≤ length stream
-    → four (stream ++ more) u ≡ four stream u
-four-more stream more u h =
-    ap (take (4 * u + 4 - 4 * u)) (drop-append-le (4 * u) stream more (omega arith))
-    ∙ take-append-le (4 * u + 4 - 4 * u) (drop (4 * u) stream) more (omega (arith, length-drop (4 * u) stream))
+four-more : (stream more : List (List ℕ)) (u : ℕ) → 4 * u + 4 ≤ length stream → four (stream ++ more) u ≡ four stream u
+four-more stream more u h = grind (arith, drop-append-le, take-append-le, length-drop)
 
 four-begun : (stream : List (List ℕ)) (u : ℕ) → length stream ≤ 4 * u + 4 → four stream u ≡ drop (4 * u) stream
-four-begun stream u h =
-    take_all (4 * u + 4 - 4 * u) (drop (4 * u) stream) (omega (arith, length-drop (4 * u) stream))
+four-begun stream u h = take_all (4 * u + 4 - 4 * u) (drop (4 * u) stream) (omega (arith, length-drop (4 * u) stream))
 
 -- whole groups stay what they are
 pub is_filled-more : (stream more : List (List ℕ)) (u : ℕ) → 4 * u + 4 ≤ length stream
@@ -34,19 +30,13 @@ is_filled-more stream more u h = ap (list_any is_placeholder) (four-more stream 
 -- a group that has not begun holds nothing
 pub is_filled-none : (stream : List (List ℕ)) (u : ℕ) → length stream ≤ 4 * u → is_filled stream u ≡ false
 unfolding is_filled
-is_filled-none stream u h =
-    ap (list_any is_placeholder) (four-begun stream u (omega arith) ∙ drop_all (4 * u) stream h)
+is_filled-none stream u h = ap (list_any is_placeholder) (four-begun stream u (omega arith) ∙ drop_all (4 * u) stream h)
 
 -- one packet more of the group at hand
 pub is_filled-next : (stream : List (List ℕ)) (p : List ℕ) (u : ℕ) → 4 * u ≤ length stream
     → length stream < 4 * u + 4 → is_filled (stream ++ p ∷ []) u ≡ (is_filled stream u || is_placeholder p)
 unfolding is_filled
-is_filled-next stream p u from to =
-    ap (list_any is_placeholder) (four-begun (stream ++ p ∷ []) u (omega (arith, length-append stream (p ∷ [])))
-    ∙ drop-append-le (4 * u) stream (p ∷ []) from)
-    ∙ list_any-append is_placeholder (drop (4 * u) stream) (p ∷ [])
-    ∙ ap₂ (λ front this. list_any is_placeholder front || this)
-    (sym (four-begun stream u (omega arith))) (or-false (is_placeholder p))
+is_filled-next stream p u from to = grind (arith, four-begun, length-append, drop-append-le, list_any-append, or-false)
 
 -- ---- the groups before a group
 
@@ -67,9 +57,7 @@ filled_groups-next stream u =
 
 pub filled_groups-suc : (stream : List (List ℕ)) (u : ℕ)
     → filled_groups stream (suc u) ≡ filled_groups stream u + cond (is_filled stream u) 1 0
-filled_groups-suc stream u =
-    let one : suc u ≡ u + 1 = omega arith in
-    ap (filled_groups stream) one ∙ filled_groups-next stream u
+filled_groups-suc stream u = ap (filled_groups stream) (omega arith) ∙ filled_groups-next stream u
 
 pub filled_groups-none : (stream : List (List ℕ)) → filled_groups stream 0 ≡ 0
 unfolding filled_groups
@@ -77,11 +65,9 @@ filled_groups-none stream = refl
 
 -- where groups hold placeholders in two streams alike, as many do
 pub filled_groups-same : (stream other : List (List ℕ)) (n : ℕ)
-    → ((u : ℕ) → u < n → is_filled stream u ≡ is_filled other u)
-    → filled_groups stream n ≡ filled_groups other n
+    → ((u : ℕ) → u < n → is_filled stream u ≡ is_filled other u) → filled_groups stream n ≡ filled_groups other n
 filled_groups-same stream other zero same = filled_groups-none stream ∙ sym (filled_groups-none other)
-filled_groups-same stream other (suc u) same =
-    filled_groups-suc stream u
+filled_groups-same stream other (suc u) same = filled_groups-suc stream u
     ∙ ap₂ (λ n b. n + cond b 1 0) (filled_groups-same stream other u (λ k l. same k (omega arith)))
     (same u (omega arith))
     ∙ sym (filled_groups-suc other u)
@@ -89,8 +75,7 @@ filled_groups-same stream other (suc u) same =
 -- packets that come later change nothing
 pub filled_groups-more : (stream more : List (List ℕ)) (u : ℕ) → 4 * u ≤ length stream
     → filled_groups (stream ++ more) u ≡ filled_groups stream u
-filled_groups-more stream more u h =
-    filled_groups-same (stream ++ more) stream u (λ k l. is_filled-more stream more k (omega arith))
+filled_groups-more stream more u h = grind (arith, filled_groups-same, is_filled-more)
 
 -- ---- the group at hand
 
@@ -98,14 +83,8 @@ filled_groups-more stream more u h =
 pub filled_groups-turn : (stream : List (List ℕ)) (u : ℕ) → length stream ≡ 4 * u
     → filled_groups stream u ≡ filled_groups stream ((length stream - 1) / 4)
     + cond (is_filled stream ((length stream - 1) / 4)) 1 0
-filled_groups-turn stream zero h =
-    let at : (length stream - 1) / 4 ≡ 0 = omega arith in
-    let none : is_filled stream 0 ≡ false = is_filled-none stream 0 (omega arith) in
-    let zero : filled_groups stream 0 ≡ 0 = filled_groups-none stream in
-    rw (at, none) (omega arith)
-filled_groups-turn stream (suc u) h =
-    let at : (length stream - 1) / 4 ≡ u = omega arith in
-    rw at (filled_groups-suc stream u)
+filled_groups-turn stream zero h = grind (arith, is_filled-none, filled_groups-none)
+filled_groups-turn stream (suc u) h = grind (arith, filled_groups-suc)
 
 -- ---- streams whose placeholders stand alike
 
@@ -116,14 +95,8 @@ list_any-map test (x ∷ xs) = ap (λ b. test x || b) (list_any-map test xs)
 is_filled-tests : (stream : List (List ℕ)) (u : ℕ) → is_filled stream u
     ≡ list_any (λ b. b) (take (4 * u + 4 - 4 * u) (drop (4 * u) (map is_placeholder stream)))
 unfolding is_filled
-is_filled-tests stream u =
-    list_any-map is_placeholder (four stream u)
-    ∙ ap (list_any (λ b. b)) (sym (take-map is_placeholder (4 * u + 4 - 4 * u) (drop (4 * u) stream)))
-    ∙ ap (λ bs. list_any (λ b. b) (take (4 * u + 4 - 4 * u) bs)) (sym (drop-map is_placeholder (4 * u) stream))
+is_filled-tests stream u = grind (arith, list_any-map, take-map, drop-map)
 
 pub is_filled-same : (stream other : List (List ℕ)) (u : ℕ)
     → map is_placeholder stream ≡ map is_placeholder other → is_filled stream u ≡ is_filled other u
-is_filled-same stream other u same =
-    is_filled-tests stream u
-    ∙ ap (λ bs. list_any (λ b. b) (take (4 * u + 4 - 4 * u) (drop (4 * u) bs))) same
-    ∙ sym (is_filled-tests other u)
+is_filled-same stream other u same = grind (arith, is_filled-tests)

@@ -8,8 +8,6 @@ use Rattle.std.proofs.lemmas.Bool.{cond-false}
 use Rattle.std.proofs.lemmas.List.{length-append, append-nil, drop_all, drop-append-le}
 use Rattle.std.proofs.lemmas.Simd.{map-map}
 use Rattle.std.proofs.lemmas.Map.Made.{AllPairs-from_IsDistinct}
-use Rattle.dtx_cadence.specs.Mark.{sync_at, marked}
-use Rattle.dtx_ops.specs.Spelling.{spelling}
 use Rattle.dtx_ops.specs.declared.fields.Entry.{Entry}
 use Rattle.dtx_ops.specs.declared.fields.Ops.{Ops}
 use Rattle.dtx_ops.specs.declared.paging.Paging.{Paging}
@@ -18,7 +16,7 @@ use Rattle.dtx_plan.specs.declared.plan.Plan.{Plan}
 use Rattle.dtx_plan.specs.declared.transmitter.Transmitter.{Transmitter}
 use Rattle.dtx_plan.specs.TransmitterTable.{addresses_of}
 use Rattle.dtx_adapter.specs.Feed.{entry_of, is_placeholder, placeholders, paging_of, listed, is_filled, filled_groups}
-use Rattle.dtx_adapter.specs.Feed.{paging_at, ops_at, as_feed_packet, feed}
+use Rattle.dtx_adapter.specs.Feed.{ops_at, as_feed_packet, feed}
 use Rattle.dtx_adapter.specs.Filling.{Filling, Fills, filled_ops, next_page, begun}
 use Rattle.dtx_adapter.proofs.GroupsLemmas.{is_filled-none, is_filled-next, filled_groups-more, filled_groups-turn}
 use Rattle.dtx_adapter.proofs.PagesLemmas.{listed-map, AllPairs-listed, paging_of-turn}
@@ -29,15 +27,7 @@ said_is : (plan : Plan) (filling : Filling) (stream before : List (List ℕ)) (k
     → Fills plan filling stream (k / 4) → filling.states ≡ states (take (4 * (k / 4)) before)
     → filled_ops filling k ≡ ops_at plan stream before k
 unfolding filled_ops ops_at
-said_is plan filling stream before k fills told =
-    let a = fills.start in
-    let b = fills.max_delay in
-    let c = fills.paging in
-    let d : listed filling.entries filling.paging
-    ≡ map entry_of (listed plan.transmitters (paging_at plan stream (k / 4))) =
-    ap₂ listed fills.entries fills.paging
-    ∙ listed-map entry_of plan.transmitters (paging_at plan stream (k / 4)) in
-    cc
+said_is plan filling stream before k fills told = grind (arith, listed-map)
 
 -- ---- the counter
 
@@ -53,8 +43,7 @@ either_filled false false = refl
 
 -- one packet more of the group at hand
 pub fills_next : (plan : Plan) (old new : Filling) (stream : List (List ℕ)) (p : List ℕ) (u : ℕ)
-    → Fills plan old stream u → 4 * u ≤ length stream → length stream < 4 * u + 4
-    → new ≡ record old {
+    → Fills plan old stream u → 4 * u ≤ length stream → length stream < 4 * u + 4 → new ≡ record old {
       counter = cond (is_placeholder p) ((old.counter + 1) % 16) old.counter;
       filled = cond (is_placeholder p) true old.filled;
     } → Fills plan new (stream ++ p ∷ []) u
@@ -78,21 +67,16 @@ fills_next plan old new stream p u fills from to e = record {
 
 -- the states behind all whole groups before a packet of the group
 group_states : (plan : Plan) (stream given : List (List ℕ)) (k : ℕ) → length stream % 4 ≡ 0 → length given < 4
-    → k ≡ length stream + length given
-    → take (4 * (k / 4)) (feed plan (stream ++ given)) ≡ feed plan stream
+    → k ≡ length stream + length given → take (4 * (k / 4)) (feed plan (stream ++ given)) ≡ feed plan stream
 group_states plan stream given k whole few at =
-    let same : 4 * (k / 4) ≡ length stream = omega (arith, whole, few, at) in
-    ap (λ n. take n (feed plan (stream ++ given))) same ∙ feed_front plan stream given
+    ap (λ n. take n (feed plan (stream ++ given))) (omega (arith, whole, few, at)) ∙ feed_front plan stream given
 
 -- what a packet becomes: the fields count only where it is a placeholder
 same_made : (said ops : Ops) (counter other k n : ℕ) (p : List ℕ)
     → (is_placeholder p ≡ false) ⊎ (said ≡ ops) → counter ≡ other → k ≡ n
     → as_feed_packet said counter k p ≡ as_feed_packet ops other n p
 unfolding as_feed_packet
-same_made said ops counter other k n p (inl not) e at =
-    cond-false (is_placeholder p) (spelling said counter (sync_at k)) (marked k p) not
-    ∙ ap (λ j. marked j p) at
-    ∙ sym (cond-false (is_placeholder p) (spelling ops other (sync_at n)) (marked n p) not)
+same_made said ops counter other k n p (inl not) e at = grind (arith, cond-false)
 same_made said ops counter other k n p (inr same) e at = cc
 
 -- one packet more of a group
@@ -108,48 +92,30 @@ made_next plan filling stream given xs p k fills whole few at told e =
     let long : k ≡ length before = omega (arith, at, length-append stream given) in
     let ops : Ops = ops_at plan before (feed plan before) (length before) in
     let next : List ℕ = as_feed_packet ops (placeholders before % 16) (length before) p in
-    let says : (is_placeholder p ≡ false) ⊎ (filled_ops filling k ≡ ops) = elim told [
-      | inl not ↦ inl not
-      | inr known ↦ inr (said_is plan filling before (feed plan before) k fills (known
-          ∙ ap states (sym (group_states plan stream given k whole few at)))
-          ∙ ap (ops_at plan before (feed plan before)) long)
-    ] in
+    let says : (is_placeholder p ≡ false) ⊎ (filled_ops filling k ≡ ops) = grind (arith, said_is, group_states) in
     let here : as_feed_packet (filled_ops filling k) filling.counter k p ≡ next =
     same_made (filled_ops filling k) ops filling.counter (placeholders before % 16) k (length before) p says
     fills.counter long in
-    ap₂ (λ front q. front ++ q ∷ []) e here
-    ∙ sym (drop-append-le (length stream) (feed plan before) (next ∷ []) (omega (
-      arith,
-      length-feed plan before,
-      length-append stream given,
-    )))
+    ap₂ (λ front q. front ++ q ∷ []) e here ∙ sym (grind (arith, drop-append-le, length-feed, length-append))
     ∙ ap (drop (length stream)) (sym (feed_next plan before p) ∙ ap (feed plan) (append_assoc stream given (p ∷ [])))
 
 -- ---- no packet
 
 pub fills_none : (plan : Plan) (filling : Filling) (stream : List (List ℕ)) (u : ℕ) → Fills plan filling stream u
     → Fills plan filling (stream ++ []) u
-fills_none plan filling stream u fills =
-    subst (λ whole. Fills plan filling whole u) (sym (append-nil stream)) fills
+fills_none plan filling stream u fills = subst (λ whole. Fills plan filling whole u) (sym (append-nil stream)) fills
 
 pub made_none : (plan : Plan) (stream : List (List ℕ)) → [] ≡ drop (length stream) (feed plan (stream ++ []))
-made_none plan stream =
-    sym (drop_all (length stream) (feed plan (stream ++ [])) (omega (
-      arith,
-      length-feed plan (stream ++ []),
-      length-append stream [],
-    )))
+made_none plan stream = grind (arith, drop_all, length-feed, length-append)
 
 -- ---- the packets that a group has
 
 -- the next packet is still as it was given
 pub still_given : (old now : List (List ℕ)) (i : ℕ) (d : List ℕ) → i < length old → length now ≡ length old
-    → drop i now ≡ drop i old
-    → (get_or now i d ≡ get_or old i d) × (drop (suc i) now ≡ drop (suc i) old)
+    → drop i now ≡ drop i old → (get_or now i d ≡ get_or old i d) × (drop (suc i) now ≡ drop (suc i) old)
 still_given old now i d here long rest =
     let a = drop-cons now i d (omega arith) in
     let b = drop-cons old i d here in
-    let whole : get_or now i d ∷ drop (suc i) now ≡ get_or old i d ∷ drop (suc i) old = sym a ∙ rest ∙ b in
     (cc, cc)
 
 -- ---- a group begins
@@ -177,18 +143,13 @@ fills_begun plan old new stream told u fills whole e =
 -- the addresses of a plan's entries differ
 pub entries_differ : (ts : List Transmitter) (es : List Entry) → es ≡ map entry_of ts
     → IsDistinct nat_eq (addresses_of ts) → AllPairs (λ a b. a ≢ b) (map (λ (e : Entry). e.address) es)
-entries_differ ts es e distinct =
-    subst (AllPairs (λ a b. a ≢ b))
-    (sym (ap (map (λ (e : Entry). e.address)) e ∙ map-map (λ (e : Entry). e.address) entry_of ts))
-    (AllPairs-from_IsDistinct Decides-eqb (addresses_of ts) distinct)
+entries_differ ts es e distinct = grind (arith, map-map, AllPairs-from_IsDistinct, Decides-eqb)
 
 -- and so do those that are at hand
 pub at_hand_differ : (all at_hand : List Entry) (paging : Paging) → at_hand ≡ listed all paging
     → AllPairs (λ a b. a ≢ b) (map (λ (e : Entry). e.address) all)
     → AllPairs (λ a b. a ≢ b) (map (λ (e : Entry). e.address) at_hand)
-at_hand_differ all at_hand paging held differ =
-    subst (AllPairs (λ a b. a ≢ b))
-    (listed-map (λ (e : Entry). e.address) all paging ∙ ap (map (λ (e : Entry). e.address)) (sym held))
+at_hand_differ all at_hand paging held differ = subst (AllPairs (λ a b. a ≢ b)) (grind (arith, listed-map))
     (AllPairs-listed (λ a b. a ≢ b) (map (λ (e : Entry). e.address) all) paging differ)
 
 pub listed_differ : (ts : List Transmitter) (paging : Paging) → IsDistinct nat_eq (addresses_of ts)

@@ -35,48 +35,30 @@ pages_are_least count fewer h = omega (arith, h)
 
 pub paging_of-few : {X : Type 0} (ts : List X) (n : ℕ) → length ts ≤ 35 → paging_of ts n ≡ One
 unfolding paging_of
-paging_of-few ts n few =
-    cond-true (nat_le (length ts) 35) One (Of (n % pages_for (length ts)) (pages_for (length ts)))
-    (le-leb (length ts) 35 few)
+paging_of-few ts n few = grind (arith, cond-true, le-leb)
 
 many_are : (n : ℕ) → 35 < n → nat_le n 35 ≡ false
-many_are n h = by_cases (cases_Bool (nat_le n 35))
-  where
-    by_cases : (nat_le n 35 ≡ true) ⊎ (nat_le n 35 ≡ false) → nat_le n 35 ≡ false
-    by_cases (inl t) = absurd (omega (arith, h, leb-true n 35 t))
-    by_cases (inr f) = f
+many_are n h = grind (arith, cases_Bool, leb-true)
 
 pub paging_of-many : {X : Type 0} (ts : List X) (n : ℕ) → 35 < length ts
     → paging_of ts n ≡ Of (n % pages_for (length ts)) (pages_for (length ts))
 unfolding paging_of
-paging_of-many ts n many =
-    cond-false (nat_le (length ts) 35) One (Of (n % pages_for (length ts)) (pages_for (length ts)))
-    (many_are (length ts) many)
+paging_of-many ts n many = grind (arith, cond-false, many_are)
 
 -- the page depends on how many transmitters there are
 pub paging_of-same : {X Y : Type 0} (xs : List X) (ys : List Y) (n : ℕ) → length xs ≡ length ys
     → paging_of xs n ≡ paging_of ys n
 unfolding paging_of
-paging_of-same xs ys n same =
-    ap (λ count. cond (nat_le count 35) One (Of (n % pages_for count) (pages_for count))) same
+paging_of-same xs ys n same = ap (λ count. cond (nat_le count 35) One (Of (n % pages_for count) (pages_for count))) same
 
 -- behind a group that holds a placeholder the next page comes
 paging_of-next : {X : Type 0} (ts : List X) (n : ℕ) → paging_of ts (n + 1) ≡ next_page (paging_of ts n)
-paging_of-next ts n = by_cases (cases_lt 35 (length ts))
-  where
-    by_cases : (35 < length ts) ⊎ (length ts ≤ 35) → paging_of ts (n + 1) ≡ next_page (paging_of ts n)
-    by_cases (inl many) =
-        paging_of-many ts (n + 1) many
-        ∙ ap (λ page. Of page (pages_for (length ts))) (sym (mod-add-mod n (pages_for (length ts)) 1))
-        ∙ ap next_page (sym (paging_of-many ts n many))
-    by_cases (inr few) = paging_of-few ts (n + 1) few ∙ ap next_page (sym (paging_of-few ts n few))
+paging_of-next ts n = grind (arith, cases_lt, paging_of-many, mod-add-mod, paging_of-few)
 
 pub paging_of-turn : {X : Type 0} (ts : List X) (n : ℕ) (turns : Bool)
     → paging_of ts (n + cond turns 1 0) ≡ cond turns (next_page (paging_of ts n)) (paging_of ts n)
 paging_of-turn ts n true = paging_of-next ts n
-paging_of-turn ts n false =
-    let same : n + 0 ≡ n = omega arith in
-    ap (paging_of ts) same
+paging_of-turn ts n false = grind arith
 
 -- ---- a page has its place
 
@@ -100,23 +82,19 @@ paged_one ts few = record { page = omega arith; pages = omega arith; fits = few 
 
 pub page_has_place : {X : Type 0} (ts : List X) (n : ℕ) → length ts ≤ 1020
     → IsPaged (paging_of ts n) (length (listed ts (paging_of ts n)))
-page_has_place ts n most = by_cases (cases_lt 35 (length ts))
-  where
-    by_cases : (35 < length ts) ⊎ (length ts ≤ 35) → IsPaged (paging_of ts n) (length (listed ts (paging_of ts n)))
-    by_cases (inl many) =
-        let some : 0 < pages_for (length ts) = omega (arith, within_pages 0 (length ts) (omega arith)) in
-        let below : n % pages_for (length ts) < pages_for (length ts) = omega (arith, some) in
-        subst (λ paging. IsPaged paging (length (listed ts paging))) (sym (paging_of-many ts n many))
-        (paged ts (n % pages_for (length ts)) (pages_for (length ts)) below (most_pages (length ts) most))
-    by_cases (inr few) =
-        subst (λ paging. IsPaged paging (length (listed ts paging))) (sym (paging_of-few ts n few))
-        (paged_one ts few)
+page_has_place ts n most = elim (cases_lt 35 (length ts)) [
+  | inl many ↦
+      let some : 0 < pages_for (length ts) = omega (arith, within_pages 0 (length ts) (omega arith)) in
+      let below : n % pages_for (length ts) < pages_for (length ts) = omega (arith, some) in
+      subst (λ paging. IsPaged paging (length (listed ts paging))) (sym (paging_of-many ts n many))
+      (paged ts (n % pages_for (length ts)) (pages_for (length ts)) below (most_pages (length ts) most))
+  | inr few ↦ grind (arith, paging_of-few, paged_one)
+]
 
 -- the transmitters of a page, kept at hand
 pub paged_at_hand : {X : Type 0} (all at_hand : List X) (paging : Paging) (n : ℕ) → paging ≡ paging_of all n
     → at_hand ≡ listed all paging → length all ≤ 1020 → IsPaged paging (length at_hand)
-paged_at_hand all at_hand paging n turn held most =
-    subst (λ part. IsPaged paging (length part)) (sym held)
+paged_at_hand all at_hand paging n turn held most = subst (λ part. IsPaged paging (length part)) (sym held)
     (subst (λ page. IsPaged page (length (listed all page))) (sym turn) (page_has_place all n most))
 
 pub most_entries : (paging : Paging) → most_of paging ≤ 35
@@ -136,20 +114,12 @@ few_on_page ts paging n turn most =
 pub listed-map : {X Y : Type 0} (f : X → Y) (xs : List X) (paging : Paging)
     → listed (map f xs) paging ≡ map f (listed xs paging)
 listed-map f xs One = refl
-listed-map f xs (Of page pages) =
-    ap (take (34 * page + 34 - 34 * page)) (drop-map f (34 * page) xs)
-    ∙ take-map f (34 * page + 34 - 34 * page) (drop (34 * page) xs)
+listed-map f xs (Of page pages) = grind (arith, drop-map, take-map)
 
 -- what holds of each two elements holds of each two of a part
 AllPairs-part : {X : Type 0} (R : X → X → Type 0) (m n : ℕ) (xs : List X) → AllPairs R xs
     → AllPairs R (take n (drop m xs))
-AllPairs-part R m n xs pairs = λ i j d before within.
-    let long = length-take n (drop m xs) in
-    let behind = length-drop m xs in
-    subst (λ x. R x (get_or (take n (drop m xs)) j d))
-    (sym (get_or-take n (drop m xs) i d (omega arith) ∙ get_or-drop m xs i d))
-    (subst (R (get_or xs (m + i) d)) (sym (get_or-take n (drop m xs) j d (omega arith) ∙ get_or-drop m xs j d))
-    (pairs (m + i) (m + j) d (omega arith) (omega arith)))
+AllPairs-part R m n xs pairs = grind (arith, length-take, length-drop, get_or-take, get_or-drop)
 
 pub AllPairs-listed : {X : Type 0} (R : X → X → Type 0) (xs : List X) (paging : Paging) → AllPairs R xs
     → AllPairs R (listed xs paging)
@@ -163,38 +133,32 @@ pub find_first : {X : Type 0} (p : X → Bool) (xs : List X) (k : ℕ) (d : X) �
     → ((i : ℕ) → i < k → p (get_or xs i d) ≡ false) → find p xs ≡ Some (get_or xs k d)
 find_first p [] k d l t f = absurd (omega arith)
 find_first p (x ∷ xs) zero d l t f = cond-true (p x) (Some x) (find p xs) t
-find_first p (x ∷ xs) (suc k) d l t f =
-    cond-false (p x) (Some x) (find p xs) (f 0 (omega arith))
+find_first p (x ∷ xs) (suc k) d l t f = cond-false (p x) (Some x) (find p xs) (f 0 (omega arith))
     ∙ find_first p xs k d (omega arith) t (λ i m. f (suc i) (omega arith))
 
 -- and none, where none passes
 find_none : {X : Type 0} (p : X → Bool) (xs : List X) (d : X)
     → ((i : ℕ) → i < length xs → p (get_or xs i d) ≡ false) → find p xs ≡ None
 find_none p [] d f = refl
-find_none p (x ∷ xs) d f =
-    cond-false (p x) (Some x) (find p xs) (f 0 (omega arith))
+find_none p (x ∷ xs) d f = cond-false (p x) (Some x) (find p xs) (f 0 (omega arith))
     ∙ find_none p xs d (λ i m. f (suc i) (omega arith))
 
 -- the transmitters at two places have two addresses
 two_addresses : (ts : List Transmitter) (i k : ℕ) (d : Transmitter) → IsDistinct nat_eq (addresses_of ts)
     → i < length ts → k < length ts → i ≢ k → (get_or ts i d).address ≢ (get_or ts k d).address
-two_addresses ts i k d distinct here there apart = by_cases (cases_lt i k)
+two_addresses ts i k d distinct here there apart =
+    let pairs : AllPairs (λ a b. a ≢ b) (addresses_of ts) =
+    AllPairs-from_IsDistinct Decides-eqb (addresses_of ts) distinct in
+    let long : length (addresses_of ts) ≡ length ts = length-map ts (λ (t : Transmitter). t.address) in
+    elim (cases_lt i k) [
+      | inl l ↦ λ same.
+          pairs i k d.address l (omega (arith, there, long)) (at i here ∙ same ∙ sym (at k there))
+      | inr l ↦ λ same.
+          pairs k i d.address (omega (arith, l, apart)) (omega (arith, here, long)) (at k there ∙ sym same ∙ sym (at i here))
+    ]
   where
     at : (j : ℕ) → j < length ts → get_or (addresses_of ts) j d.address ≡ (get_or ts j d).address
     at j l = get_or-map (λ (t : Transmitter). t.address) ts j d d.address l
-
-    pairs : AllPairs (λ a b. a ≢ b) (addresses_of ts)
-    pairs = AllPairs-from_IsDistinct Decides-eqb (addresses_of ts) distinct
-
-    long : length (addresses_of ts) ≡ length ts
-    long = length-map ts (λ (t : Transmitter). t.address)
-
-    by_cases : (i < k) ⊎ (k ≤ i) → (get_or ts i d).address ≢ (get_or ts k d).address
-    by_cases (inl l) = λ same.
-        pairs i k d.address l (omega (arith, there, long)) (at i here ∙ same ∙ sym (at k there))
-    by_cases (inr l) = λ same.
-        pairs k i d.address (omega (arith, l, apart)) (omega (arith, here, long))
-        (at k there ∙ sym same ∙ sym (at i here))
 
 -- the test by which an entry is found
 abbrev has : Transmitter → Entry → Bool
@@ -203,65 +167,43 @@ has t e = e.address == t.address
 -- entry k of a part of the transmitters
 part_at : (ts : List Transmitter) (m n k : ℕ) (t : Transmitter) → k < length (take n (drop m ts))
     → get_or (map entry_of (take n (drop m ts))) k (entry_of t) ≡ entry_of (get_or ts (m + k) t)
-part_at ts m n k t h =
-    get_or-map entry_of (take n (drop m ts)) k t (entry_of t) h
-    ∙ ap entry_of (get_or-take n (drop m ts) k t (omega (arith, h, length-take n (drop m ts)))
-    ∙ get_or-drop m ts k t)
+part_at ts m n k t h = grind (arith, get_or-map, get_or-take, length-take, get_or-drop)
 
 -- an entry of a part that stands elsewhere is another one's
 other_at : (ts : List Transmitter) (m n i k : ℕ) (t : Transmitter) → IsDistinct nat_eq (addresses_of ts)
     → slice_get ts i ≡ Some t → k < length (take n (drop m ts)) → m + k ≢ i
     → has t (get_or (map entry_of (take n (drop m ts))) k (entry_of t)) ≡ false
-other_at ts m n i k t distinct at within apart =
-    ap (has t) (part_at ts m n k t within)
+other_at ts m n i k t distinct at within apart = ap (has t) (part_at ts m n k t within)
     ∙ ne_eqb (get_or ts (m + k) t).address t.address (λ same.
-    two_addresses ts (m + k) i t distinct
-    (omega (arith, within, length-take n (drop m ts), length-drop m ts)) (slice_get_within ts i t at) apart
+    two_addresses ts (m + k) i t distinct (grind (arith, length-take, length-drop)) (slice_get_within ts i t at) apart
     (same ∙ ap (λ (u : Transmitter). u.address) (sym (get_or_from_slice_get ts i t t at))))
 
 part_finds : (ts : List Transmitter) (m n i : ℕ) (t : Transmitter) → IsDistinct nat_eq (addresses_of ts)
-    → slice_get ts i ≡ Some t → m ≤ i → i < m + n
-    → find (has t) (map entry_of (take n (drop m ts))) ≡ Some (entry_of t)
+    → slice_get ts i ≡ Some t → m ≤ i → i < m + n → find (has t) (map entry_of (take n (drop m ts))) ≡ Some (entry_of t)
 part_finds ts m n i t distinct at from to =
     let inside : i < length ts = slice_get_within ts i t at in
     let part : List Transmitter = take n (drop m ts) in
     let k : ℕ = i - m in
     let within : k < length part = omega (arith, inside, from, to, length-take n (drop m ts), length-drop m ts) in
     let place : m + k ≡ i = omega (arith, from) in
-    let here : get_or (map entry_of part) k (entry_of t) ≡ entry_of t =
-    part_at ts m n k t within ∙ ap (λ j. entry_of (get_or ts j t)) place
-    ∙ ap entry_of (get_or_from_slice_get ts i t t at) in
+    let here : get_or (map entry_of part) k (entry_of t) ≡ entry_of t = grind (arith, part_at, get_or_from_slice_get) in
     find_first (has t) (map entry_of part) k (entry_of t) (omega (arith, within, length-map part entry_of))
     (eq-eqb (get_or (map entry_of part) k (entry_of t)).address t.address (ap (λ (e : Entry). e.address) here))
-    (λ j l. other_at ts m n i j t distinct at (omega (arith, within, l)) (λ same. omega (arith, same, l, place)))
-    ∙ ap Some here
+    (λ j l. grind (arith, other_at)) ∙ ap Some here
 
 part_misses : (ts : List Transmitter) (m n i : ℕ) (t : Transmitter) → IsDistinct nat_eq (addresses_of ts)
-    → slice_get ts i ≡ Some t → (m ≤ i → m + n ≤ i)
-    → find (has t) (map entry_of (take n (drop m ts))) ≡ None
-part_misses ts m n i t distinct at apart =
-    let part : List Transmitter = take n (drop m ts) in
-    find_none (has t) (map entry_of part) (entry_of t) (λ k l.
-    let within : k < length part = omega (arith, l, length-map part entry_of) in
-    other_at ts m n i k t distinct at within
-    (λ same. omega (arith, same, within, apart (omega (arith, same)), length-take n (drop m ts))))
+    → slice_get ts i ≡ Some t → (m ≤ i → m + n ≤ i) → find (has t) (map entry_of (take n (drop m ts))) ≡ None
+part_misses ts m n i t distinct at apart = find_none (has t) (map entry_of (take n (drop m ts))) (entry_of t)
+    (λ k l. grind (arith, length-map, other_at, length-take))
 
 on_page : (ts : List Transmitter) (page pages i : ℕ) (t : Transmitter) → IsDistinct nat_eq (addresses_of ts)
     → slice_get ts i ≡ Some t → (page ≡ i / 34) ⊎ (page ≢ i / 34)
     → find (has t) (map entry_of (listed ts (Of page pages))) ≡ cond (page == i / 34) (Some (entry_of t)) None
-on_page ts page pages i t distinct at (inl same) =
-    part_finds ts (34 * page) (34 * page + 34 - 34 * page) i t distinct at (omega (arith, same)) (omega (arith, same))
-    ∙ sym (cond-true (page == i / 34) (Some (entry_of t)) None (eq-eqb page (i / 34) same))
-on_page ts page pages i t distinct at (inr other) =
-    part_misses ts (34 * page) (34 * page + 34 - 34 * page) i t distinct at (λ from. omega (arith, from, other))
-    ∙ sym (cond-false (page == i / 34) (Some (entry_of t)) None (ne_eqb page (i / 34) other))
+on_page ts page pages i t distinct at (inl same) = grind (arith, part_finds, cond-true, eq-eqb)
+on_page ts page pages i t distinct at (inr other) = grind (arith, part_misses, cond-false)
 
 same_or_not : (n m : ℕ) → (n ≡ m) ⊎ (n ≢ m)
-same_or_not n m = by_cases (cases_Bool (n == m))
-  where
-    by_cases : ((n == m) ≡ true) ⊎ ((n == m) ≡ false) → (n ≡ m) ⊎ (n ≢ m)
-    by_cases (inl t) = inl (eqb-true n m t)
-    by_cases (inr f) = inr (λ same. absurd cc (eq-eqb n m same, f))
+same_or_not n m = grind (arith, cases_Bool, eqb-true, eq-eqb)
 
 -- a transmitter's own entry is found on its page, and on no other one
 pub entry_on_page : (ts : List Transmitter) (paging : Paging) (i : ℕ) (t : Transmitter)
@@ -271,5 +213,4 @@ pub entry_on_page : (ts : List Transmitter) (paging : Paging) (i : ℕ) (t : Tra
 entry_on_page ts One i t distinct at =
     ap (λ part. find (has t) (map entry_of part)) (sym (take_all (length ts) ts (omega arith)))
     ∙ part_finds ts 0 (length ts) i t distinct at (omega arith) (omega (arith, slice_get_within ts i t at))
-entry_on_page ts (Of page pages) i t distinct at =
-    on_page ts page pages i t distinct at (same_or_not page (i / 34))
+entry_on_page ts (Of page pages) i t distinct at = on_page ts page pages i t distinct at (same_or_not page (i / 34))

@@ -1,6 +1,6 @@
 -- What the packets of a feed read as.
-use Rattle.std.proofs.Common.{◌≡◌, ◌≢◌, ◌⊎◌, inl, inr, ℕ, ◌+◌, ◌-◌, ◌*◌, ◌/◌, ◌%◌, ◌<◌, ◌≤◌, ◌==◌, true, false, All}
-use Rattle.std.proofs.Common.{List, [], length, map, take, drop, get_or, refl, sym, ap, ap₂, subst, ◌∙◌, arith}
+use Rattle.std.proofs.Common.{◌≡◌, ◌≢◌, ℕ, ◌+◌, ◌-◌, ◌*◌, ◌/◌, ◌<◌, ◌≤◌, false, All, List, [], length, map, take, drop}
+use Rattle.std.proofs.Common.{get_or, refl, sym, ap, subst, ◌∙◌, arith}
 use Rattle.std.specs.Prelude.{Ok}
 use Rattle.std.proofs.lemmas.List.Elements.{All-map, All-take, All-drop}
 use Rattle.std.proofs.lemmas.Bool.{cases_Bool, cond-true, cond-false, eq-eqb, ne_eqb}
@@ -52,8 +52,7 @@ valid_at plan stream before k sound fit within =
     let paging : Paging = paging_at plan stream (k / 4) in
     let ts : List Transmitter = listed plan.transmitters paging in
     let are = are_states (take (4 * (k / 4)) before) in
-    let place : IsPaged paging (length (map entry_of ts)) =
-    subst (IsPaged paging) (sym (length-map ts entry_of))
+    let place : IsPaged paging (length (map entry_of ts)) = subst (IsPaged paging) (sym (length-map ts entry_of))
     (page_has_place plan.transmitters (filled_groups stream (k / 4)) sound.transmitters.most) in
     let fits = place.fits in
     record {
@@ -76,26 +75,20 @@ unfolding spelling
 length-spelling f counter sync valid = omega (arith, codeword_length 184 164 (data_of f), length-data_of f valid)
 
 spelled_reads : (f : Ops) (counter sync : ℕ) → IsValid f → reading (spelling f counter sync) ≡ Ok f
-spelled_reads f counter sync valid =
-    changed_reads f counter sync (spelling f counter sync) valid (length-spelling f counter sync valid)
-    (pid_of-spelling f counter sync)
-    (omega (arith, distance_self (drop 4 (spelling f counter sync))))
+spelled_reads f counter sync valid = grind (arith, changed_reads, length-spelling, pid_of-spelling, distance_self)
 
 made_operations : (ops : Ops) (counter k : ℕ) (p : List ℕ) → pid_of p ≡ 0x1FFA
     → as_feed_packet ops counter k p ≡ spelling ops counter (sync_at k)
 unfolding as_feed_packet is_placeholder
-made_operations ops counter k p is =
-    cond-true (is_placeholder p) (spelling ops counter (sync_at k)) (marked k p) (eq-eqb (pid_of p) 0x1FFA is)
+made_operations ops counter k p is = grind (arith, cond-true, eq-eqb)
 
 made_other : (ops : Ops) (counter k : ℕ) (p : List ℕ) → pid_of p ≢ 0x1FFA → as_feed_packet ops counter k p ≡ marked k p
 unfolding as_feed_packet is_placeholder
-made_other ops counter k p other =
-    cond-false (is_placeholder p) (spelling ops counter (sync_at k)) (marked k p) (ne_eqb (pid_of p) 0x1FFA other)
+made_other ops counter k p other = grind (arith, cond-false, ne_eqb)
 
 fed_made : (plan : Plan) (stream : List (List ℕ)) (k : ℕ) → k < length stream
     → get_or (feed plan stream) k [] ≡ as_feed_packet (ops_at plan stream (take k (feed plan stream)) k)
-    (counter_at stream k) k
-    (get_or stream k [])
+    (counter_at stream k) k (get_or stream k [])
 unfolding fed_packet
 fed_made plan stream k within = feed_packet plan stream k within
 
@@ -104,25 +97,14 @@ pub placeholder_reads : (plan : Plan) (stream : List (List ℕ)) (k : ℕ) → I
     → k < length stream → pid_of (get_or stream k []) ≡ 0x1FFA
     → reading (get_or (feed plan stream) k []) ≡ Ok (ops_at plan stream (take k (feed plan stream)) k)
 placeholder_reads plan stream k sound fit most within is =
-    let before : List (List ℕ) = take k (feed plan stream) in
-    ap reading (fed_made plan stream k within
-    ∙ made_operations (ops_at plan stream before k) (counter_at stream k) k (get_or stream k []) is)
-    ∙ spelled_reads (ops_at plan stream before k) (counter_at stream k) (sync_at k)
-    (valid_at plan stream before k sound fit (omega (arith, most, within)))
+    grind (arith, fed_made, made_operations, spelled_reads, valid_at)
 
 pid-marked : (k : ℕ) (p : List ℕ) → pid_of (marked k p) ≡ pid_of p
-pid-marked k p =
-    ap₂ (λ high low. high % 32 * 256 + low) (get_or-set_other p 0 1 (sync_at k) 0 (omega arith))
-    (get_or-set_other p 0 2 (sync_at k) 0 (omega arith))
+pid-marked k p = grind (arith, get_or-set_other)
 
 pub others_stay : (plan : Plan) (stream : List (List ℕ)) (k : ℕ) → k < length stream
     → pid_of (get_or stream k []) ≢ 0x1FFA → pid_of (get_or (feed plan stream) k []) ≢ 0x1FFA
-others_stay plan stream k within other = λ same.
-    other
-    (sym (ap pid_of (fed_made plan stream k within
-    ∙ made_other (ops_at plan stream (take k (feed plan stream)) k) (counter_at stream k) k (get_or stream k []) other)
-    ∙ pid-marked k (get_or stream k []))
-    ∙ same)
+others_stay plan stream k within other = grind (arith, fed_made, made_other, pid-marked)
 
 -- the states that an operations packet says
 pub said_states : (plan : Plan) (stream : List (List ℕ)) (k : ℕ)
@@ -139,51 +121,29 @@ sync-spelling f counter sync = refl
 sync-made : (ops : Ops) (counter k : ℕ) (p : List ℕ) → length p ≡ 188
     → sync_of (as_feed_packet ops counter k p) ≡ sync_at k
 unfolding as_feed_packet
-sync-made ops counter k p long = by_cases (cases_Bool (is_placeholder p))
-  where
-    by_cases : (is_placeholder p ≡ true) ⊎ (is_placeholder p ≡ false)
-        → sync_of (as_feed_packet ops counter k p) ≡ sync_at k
-    by_cases (inl t) = ap sync_of (cond-true (is_placeholder p) (spelling ops counter (sync_at k)) (marked k p) t)
-        ∙ sync-spelling ops counter (sync_at k)
-    by_cases (inr f) = ap sync_of (cond-false (is_placeholder p) (spelling ops counter (sync_at k)) (marked k p) f)
-        ∙ get_or-set_same p 0 (sync_at k) 0 (omega (arith, long))
+sync-made ops counter k p long = grind (arith, cases_Bool, cond-true, sync-spelling, cond-false, get_or-set_same)
 
 pub sync_fed : (plan : Plan) (stream : List (List ℕ)) (k : ℕ) → k < length stream → length (get_or stream k []) ≡ 188
     → sync_of (get_or (feed plan stream) k []) ≡ sync_at k
-sync_fed plan stream k within long =
-    ap sync_of (fed_made plan stream k within)
-    ∙ sync-made (ops_at plan stream (take k (feed plan stream)) k) (counter_at stream k) k (get_or stream k []) long
+sync_fed plan stream k within long = grind (arith, fed_made, sync-made)
 
 -- ---- a feed holds operations packets where its stream holds placeholders
 
 same_place : (ops : Ops) (counter k : ℕ) (p : List ℕ)
     → is_placeholder (as_feed_packet ops counter k p) ≡ is_placeholder p
 unfolding as_feed_packet is_placeholder
-same_place ops counter k p = by_cases (cases_Bool (is_placeholder p))
-  where
-    by_cases : (is_placeholder p ≡ true) ⊎ (is_placeholder p ≡ false)
-        → is_placeholder (as_feed_packet ops counter k p) ≡ is_placeholder p
-    by_cases (inl t) =
-        ap is_placeholder (cond-true (is_placeholder p) (spelling ops counter (sync_at k)) (marked k p) t)
-        ∙ eq-eqb (pid_of (spelling ops counter (sync_at k))) 0x1FFA (pid_of-spelling ops counter (sync_at k))
-        ∙ sym t
-    by_cases (inr f) =
-        ap is_placeholder (cond-false (is_placeholder p) (spelling ops counter (sync_at k)) (marked k p) f)
-        ∙ ap (λ pid. pid == 0x1FFA) (pid-marked k p)
+same_place ops counter k p = grind (arith, cases_Bool, cond-true, eq-eqb, pid_of-spelling, cond-false, pid-marked)
 
 same_places : (plan : Plan) (stream : List (List ℕ)) → map is_placeholder (feed plan stream) ≡ map is_placeholder stream
 same_places plan stream =
+    let fed : List (List ℕ) = feed plan stream in
     ext_get_or false (map is_placeholder fed) (map is_placeholder stream)
-    (length-map fed is_placeholder ∙ length-feed plan stream ∙ sym (length-map stream is_placeholder))
-    (λ k h.
+    (length-map fed is_placeholder ∙ length-feed plan stream ∙ sym (length-map stream is_placeholder)) (λ k h.
     let within : k < length stream = omega (arith, h, length-map fed is_placeholder, length-feed plan stream) in
     get_or-map is_placeholder fed k [] false (omega (arith, within, length-feed plan stream))
     ∙ ap is_placeholder (fed_made plan stream k within)
     ∙ same_place (ops_at plan stream (take k fed) k) (counter_at stream k) k (get_or stream k [])
     ∙ sym (get_or-map is_placeholder stream k [] false within))
-  where
-    fed : List (List ℕ)
-    fed = feed plan stream
 
 pub is_filled-feed : (plan : Plan) (stream : List (List ℕ)) (u : ℕ)
     → is_filled (feed plan stream) u ≡ is_filled stream u
@@ -191,5 +151,4 @@ is_filled-feed plan stream u = is_filled-same (feed plan stream) stream u (same_
 
 pub filled_groups-feed : (plan : Plan) (stream : List (List ℕ)) (u : ℕ)
     → filled_groups (feed plan stream) u ≡ filled_groups stream u
-filled_groups-feed plan stream u =
-    filled_groups-same (feed plan stream) stream u (λ k before. is_filled-feed plan stream k)
+filled_groups-feed plan stream u = grind (arith, filled_groups-same, is_filled-feed)

@@ -1,7 +1,6 @@
 -- The packets of a run: only its first group may hold placeholders.
-use Rattle.std.proofs.Common.{◌≡◌, ◌⊎◌, inl, inr, ℕ, ◌+◌, ◌-◌, ◌/◌, ◌%◌, ◌<◌, ◌≤◌, Bool, true, false, cond}
-use Rattle.std.proofs.Common.{List, [], ◌∷◌, ◌++◌, length, take, drop, get_or, refl, ap, ap₂, sym, subst, ◌∙◌, arith}
-use Rattle.std.proofs.Common.{append_assoc}
+use Rattle.std.proofs.Common.{◌≡◌, ◌⊎◌, inl, inr, ℕ, ◌+◌, ◌-◌, ◌/◌, ◌%◌, ◌<◌, ◌≤◌, Bool, true, false, cond, List, []}
+use Rattle.std.proofs.Common.{◌∷◌, ◌++◌, length, take, drop, get_or, refl, ap, sym, subst, ◌∙◌, arith, append_assoc}
 use Rattle.std.proofs.Math.Seq.{take-add}
 use Rattle.std.proofs.lemmas.Bool.{cases_lt}
 use Rattle.std.proofs.lemmas.List.{take-append-drop, take-take, drop-take, take_more, drop_all, drop-append-le}
@@ -30,12 +29,9 @@ none_in_one false n e = refl
 -- none of them is one
 pub not_one : (ps : List (List ℕ)) (i : ℕ) (d : List ℕ) → i < length ps → placeholders ps ≡ 0
     → is_placeholder (get_or ps i d) ≡ false
-not_one ps i d within none =
-    let p : List ℕ = get_or ps i d in
-    none_in_one (is_placeholder p) (placeholders (take i ps))
-    (ap (λ n. placeholders (take i ps) + n) (sym (placeholders-one p))
-    ∙ sym (placeholders-append (take i ps) (p ∷ []))
-    ∙ ap placeholders (sym (take_more ps i d within))
+not_one ps i d within none = none_in_one (is_placeholder (get_or ps i d)) (placeholders (take i ps))
+    (ap (λ n. placeholders (take i ps) + n) (sym (placeholders-one (get_or ps i d)))
+    ∙ sym (placeholders-append (take i ps) ((get_or ps i d) ∷ [])) ∙ ap placeholders (sym (take_more ps i d within))
     ∙ take_none ps (i + 1) none)
 
 -- ---- those behind the first group
@@ -43,21 +39,16 @@ not_one ps i d within none =
 -- behind a first group alone there are none
 pub none_behind : (ps : List (List ℕ)) (i : ℕ) → i ≤ 4 → placeholders (drop 4 (take i ps)) ≡ 0
 unfolding placeholders
-none_behind ps i few =
-    ap placeholders (drop_all 4 (take i ps) (omega (arith, few, length-take i ps)))
+none_behind ps i few = ap placeholders (drop_all 4 (take i ps) (omega (arith, few, length-take i ps)))
 
 behind : (ps : List (List ℕ)) (i : ℕ) → 4 ≤ i → drop 4 (take i ps) ≡ take (i - 4) (drop 4 ps)
-behind ps i l =
-    let e : i ≡ 4 + (i - 4) = omega (arith, l) in
-    ap (λ n. drop 4 (take n ps)) e ∙ drop-take 4 (i - 4) ps
+behind ps i l = ap (λ n. drop 4 (take n ps)) (omega (arith, l)) ∙ drop-take 4 (i - 4) ps
 
 -- fewer packets hold none either
 pub fewer_behind : (ps : List (List ℕ)) (i j : ℕ) → 4 ≤ j → j ≤ i → placeholders (drop 4 (take i ps)) ≡ 0
     → placeholders (drop 4 (take j ps)) ≡ 0
-fewer_behind ps i j l m none =
-    ap placeholders (behind ps j l ∙ sym (take-take (j - 4) (i - 4) (drop 4 ps) (omega (arith, l, m))))
-    ∙ take_none (take (i - 4) (drop 4 ps)) (j - 4)
-    (ap placeholders (sym (behind ps i (omega (arith, l, m)))) ∙ none)
+fewer_behind ps i j l m none = ap placeholders (behind ps j l ∙ sym (grind (arith, take-take)))
+    ∙ take_none (take (i - 4) (drop 4 ps)) (j - 4) (ap placeholders (sym (behind ps i (omega (arith, l, m)))) ∙ none)
 
 -- one packet more, which is none
 pub none_more : (ps : List (List ℕ)) (i : ℕ) (d : List ℕ) → 4 ≤ i → i < length ps
@@ -77,24 +68,19 @@ later_none : (ps : List (List ℕ)) (done n : ℕ) → 4 ≤ done → placeholde
     → placeholders (take n (drop done ps)) ≡ 0
 later_none ps done n l none =
     let e : 4 + (done - 4) ≡ done = omega (arith, l) in
-    take_none (drop done ps) n
-    (ap placeholders (sym (drop-drop (done - 4) 4 ps ∙ ap (λ k. drop k ps) e)) ∙ drop_none (drop 4 ps) (done - 4) none)
+    take_none (drop done ps) n (rw (← e, ← drop-drop (done - 4) 4 ps, drop_none (drop 4 ps) (done - 4) none))
 
 -- ---- parts of a stream
 
 -- what is not made yet behind the part
 pub rest_on : (old now : List (List ℕ)) (done n end : ℕ) → done + n ≡ end → drop done now ≡ drop done old
     → drop end now ≡ drop end old
-rest_on old now done n end sum rest =
-    ap (λ k. drop k now) (sym sum) ∙ sym (drop-drop n done now) ∙ ap (drop n) rest ∙ drop-drop n done old
-    ∙ ap (λ k. drop k old) sum
+rest_on old now done n end sum rest = rw (← sum, ← drop-drop n done now, rest, drop-drop n done old, sum)
 
 -- a part behind others of it
 pub part_on : (stream old : List (List ℕ)) (done n end : ℕ) → done + n ≡ end
     → (stream ++ take done old) ++ take n (drop done old) ≡ stream ++ take end old
-part_on stream old done n end sum =
-    append_assoc stream (take done old) (take n (drop done old))
-    ∙ ap (λ part. stream ++ part) (sym (take-add done n old) ∙ ap (λ k. take k old) sum)
+part_on stream old done n end sum = simp (append_assoc, ← take-add, sum)
 
 -- its feed
 pub fed_on : (plan : Plan) (stream front part all xs ys : List (List ℕ)) → (stream ++ front) ++ part ≡ all
@@ -102,18 +88,12 @@ pub fed_on : (plan : Plan) (stream front part all xs ys : List (List ℕ)) → (
     → ys ≡ drop (length (stream ++ front)) (feed plan ((stream ++ front) ++ part))
     → xs ++ ys ≡ drop (length stream) (feed plan all)
 fed_on plan stream front part all xs ys whole first second =
-    let before : List (List ℕ) = stream ++ front in
-    ap₂ ◌++◌ first second
-    ∙ sym (drop-append-le (length stream) (feed plan before) (drop (length before) (feed plan (before ++ part)))
-    (omega (arith, length-feed plan before, length-append stream front)))
-    ∙ ap (drop (length stream)) (sym (feed_parts plan before part) ∙ ap (feed plan) whole)
+    grind (arith, drop-append-le, length-feed, length-append, feed_parts)
 
 -- and its placeholders
 pub filled_on : (old : List (List ℕ)) (done n end some more : ℕ) → done + n ≡ end → some ≡ placeholders (take done old)
     → more ≡ placeholders (take n (drop done old)) → some + more ≡ placeholders (take end old)
-filled_on old done n end some more sum e f =
-    ap₂ ◌+◌ e f ∙ sym (placeholders-append (take done old) (take n (drop done old)))
-    ∙ ap placeholders (sym (take-add done n old) ∙ ap (λ k. take k old) sum)
+filled_on old done n end some more sum e f = grind (arith, placeholders-append, take-add)
 
 -- ---- a group of a run
 
@@ -140,12 +120,9 @@ begun_states old new told e = ap (λ (f : Filling). f.states) e
 pub tells : (plan : Plan) (stream old : List (List ℕ)) (done n : ℕ) (filler new : Filling) (told : List ℕ)
     → done % 4 ≡ 0 → placeholders (drop 4 old) ≡ 0 → new ≡ begun filler told → told ≡ states (feed plan stream)
     → (placeholders (take n (drop done old)) ≡ 0) ⊎ (new.states ≡ states (feed plan (stream ++ take done old)))
-tells plan stream old done n filler new told whole none e known = by_cases (cases_lt 0 done)
-  where
-    by_cases : (0 < done) ⊎ (done ≤ 0)
-        → (placeholders (take n (drop done old)) ≡ 0) ⊎ (new.states ≡ states (feed plan (stream ++ take done old)))
-    by_cases (inl l) = inl (later_none old done n (omega (arith, l, whole)) none)
-    by_cases (inr m) =
-        let zero : done ≡ 0 = omega (arith, m) in
-        inr (begun_states filler new told e ∙ known
-        ∙ ap (λ s. states (feed plan s)) (sym (ap (λ k. stream ++ take k old) zero ∙ append-nil stream)))
+tells plan stream old done n filler new told whole none e known = elim (cases_lt 0 done) [
+  | inl l ↦ inl (later_none old done n (omega (arith, l, whole)) none)
+  | inr m ↦
+      let zero : done ≡ 0 = omega (arith, m) in
+      inr (begun_states filler new told e ∙ known ∙ ap (λ s. states (feed plan s)) (sym (grind (arith, append-nil))))
+]

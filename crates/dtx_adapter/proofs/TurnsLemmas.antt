@@ -52,26 +52,13 @@ turn_comes stream from (suc to) count order least below =
     by_cases (turn_comes stream from to count) (cases_lt count (filled_groups stream to)) (cases_lt to from)
   where
     by_cases : (from ≤ to → filled_groups stream from ≤ count → count < filled_groups stream to
-        → IsTurn stream from to count)
-        → (count < filled_groups stream to) ⊎ (filled_groups stream to ≤ count)
-        → (to < from) ⊎ (from ≤ to)
-        → IsTurn stream from (suc to) count
+        → IsTurn stream from to count) → (count < filled_groups stream to) ⊎ (filled_groups stream to ≤ count)
+        → (to < from) ⊎ (from ≤ to) → IsTurn stream from (suc to) count
     by_cases earlier past (inl behind) =
         let same : from ≡ suc to = omega arith in
         absurd (omega (arith, least, below, ap (filled_groups stream) same))
-    by_cases earlier (inl past) (inr inside) =
-        let turn = earlier inside least past in
-        record {
-          group = turn.group;
-          least = turn.least;
-          within = omega (arith, turn.within);
-          filled = turn.filled;
-          behind = turn.behind;
-        }
-    by_cases earlier (inr reached) (inr inside) =
-        let last = one_more (is_filled stream to) (filled_groups stream to) count reached
-        (omega (arith, below, filled_groups-suc stream to)) in
-        record { group = to; least = inside; within = omega arith; filled = last.0; behind = last.1 }
+    by_cases earlier (inl past) (inr inside) = grind arith
+    by_cases earlier (inr reached) (inr inside) = grind (arith, one_more, filled_groups-suc)
 
 few_in_turn : {X : Type 0} (ts : List X) (stream : List (List ℕ)) (from to place : ℕ) → length ts ≤ 35 → from ≤ to
     → filled_groups stream from + pages_of (paging_of ts 0) ≤ filled_groups stream to
@@ -110,8 +97,4 @@ many_in_turn ts stream from to place many order turns inside =
 pub in_turn : {X : Type 0} (ts : List X) (stream : List (List ℕ)) (from to place : ℕ) → from ≤ to
     → filled_groups stream from + pages_of (paging_of ts 0) ≤ filled_groups stream to → place < length ts
     → IsListedIn ts stream from to place
-in_turn ts stream from to place order turns inside = by_cases (cases_lt 35 (length ts))
-  where
-    by_cases : (35 < length ts) ⊎ (length ts ≤ 35) → IsListedIn ts stream from to place
-    by_cases (inl many) = many_in_turn ts stream from to place many order turns inside
-    by_cases (inr few) = few_in_turn ts stream from to place few order turns
+in_turn ts stream from to place order turns inside = grind (arith, cases_lt, many_in_turn, few_in_turn)

@@ -1,14 +1,13 @@
 -- Where a symbol's level is the opposite one, the bytes that hang on it are others.
-use Rattle.std.proofs.Common.{◌≡◌, ℕ, ℤ, ◌+◌, ◌-◌, ◌*◌, ◌/◌, ◌<◌, List, length, get_or, sym, ap, ap₂, ◌∙◌, arith}
-use Rattle.dtx_slice.specs.Unrolled.{pair_back, pair_from, coder_of, byte_back}
+use Rattle.std.proofs.Common.{◌≡◌, ℕ, ℤ, ◌+◌, ◌-◌, ◌*◌, ◌/◌, ◌<◌, List, length, get_or, arith}
+use Rattle.dtx_slice.specs.Unrolled.{pair_from, coder_of, byte_back}
 use Rattle.dtx_slice.proofs.InverseLemmas.{coder_of_small}
-use Rattle.dtx_receiver.specs.Bytes.{groups_of, levels_in, first_bits, bytes_in}
+use Rattle.dtx_receiver.specs.Bytes.{groups_of, bytes_in}
 use Rattle.dtx_bursts.proofs.Bytes.{AreWhole, byte_at, level_before, pair_is}
 
 -- the byte of five levels: that of the coder's symbol before, and those of its four pairs
 abbrev joined : ℕ → ℕ → ℕ → ℕ → ℕ → ℕ
-joined v w x y z =
-    64 * pair_from (v / 4) w + 16 * pair_from (w / 4) x + 4 * pair_from (x / 4) y + pair_from (y / 4) z
+joined v w x y z = 64 * pair_from (v / 4) w + 16 * pair_from (w / 4) x + 4 * pair_from (x / 4) y + pair_from (y / 4) z
 
 -- the level on which a byte hangs, of five
 abbrev pub level_on : List (List ℤ) → ℕ → ℕ → ℕ
@@ -18,36 +17,7 @@ joined_is : (run : List (List ℤ)) (y : ℕ) → AreWhole run → 0 < length ru
     → get_or (bytes_in run) y 0
     ≡ joined (level_on run y 0) (level_on run y 1) (level_on run y 2) (level_on run y 3) (level_on run y 4)
 unfolding byte_back
-joined_is run y whole some l =
-    byte_at run y whole l
-    ∙ ap₂ (λ a b. 64 * a + 16 * b + 4 * pair 2 + pair 3)
-    (first (pair_is run (4 * (y / 12)) e whole some (omega (arith, l)) small))
-    (pair_is run (4 * (y / 12) + 1) e whole some (omega (arith, l)) small ∙ next 1)
-    ∙ ap₂ (λ a b. 64 * pair_from (level_on run y 0 / 4) (level_on run y 1)
-    + 16 * pair_from (level_on run y 1 / 4) (level_on run y 2) + 4 * a + b)
-    (pair_is run (4 * (y / 12) + 2) e whole some (omega (arith, l)) small ∙ next 2)
-    (pair_is run (4 * (y / 12) + 3) e whole some (omega (arith, l)) small ∙ next 3)
-  where
-    e : ℕ
-    e = coder_of 0 y
-
-    small : coder_of 0 y < 12
-    small = coder_of_small 0 y
-
-    pair : ℕ → ℕ
-    pair i = pair_back 0 (first_bits run) (levels_in run) (4 * (y / 12) + i) (coder_of 0 y)
-
-    next : (i : ℕ) → pair_from (level_on run y i / 4) (level_before run (4 * (y / 12) + i + 1) (coder_of 0 y))
-        ≡ pair_from (level_on run y i / 4) (level_on run y (i + 1))
-    next i =
-        let z : 4 * (y / 12) + i + 1 ≡ 4 * (y / 12) + (i + 1) = omega arith in
-        ap (λ r. pair_from (level_on run y i / 4) (level_before run r (coder_of 0 y))) z
-
-    first : {x : ℕ} → x ≡ pair_from (level_before run (4 * (y / 12)) (coder_of 0 y) / 4)
-        (level_before run (4 * (y / 12) + 1) (coder_of 0 y)) → x ≡ pair_from (level_on run y 0 / 4) (level_on run y 1)
-    first h =
-        let z : 4 * (y / 12) ≡ 4 * (y / 12) + 0 = omega arith in
-        h ∙ ap (λ r. pair_from (level_before run r (coder_of 0 y) / 4) (level_on run y 1)) z
+joined_is run y whole some l = grind (arith, byte_at, pair_is, coder_of_small, level_before)
 
 -- the last of the five
 by_last : (v w x y z p q r s : ℕ) → z < 8 → joined v w x y (7 - z) ≡ joined p q r s z → ⊥
@@ -60,18 +30,10 @@ by_first v w x y z r s t l m e = omega (arith, l, m, e)
 pub apart_by_last : (a b : List (List ℤ)) (y : ℕ) → AreWhole a → 0 < length a → y < 828 * groups_of a → AreWhole b
     → 0 < length b → y < 828 * groups_of b → level_on b y 4 < 8 → level_on a y 4 ≡ 7 - level_on b y 4
     → get_or (bytes_in a) y 0 ≡ get_or (bytes_in b) y 0 → ⊥
-apart_by_last a b y wa sa la wb sb lb small e same =
-    by_last (level_on a y 0) (level_on a y 1) (level_on a y 2) (level_on a y 3) (level_on b y 4) (level_on b y 0)
-    (level_on b y 1) (level_on b y 2) (level_on b y 3) small
-    (ap (joined (level_on a y 0) (level_on a y 1) (level_on a y 2) (level_on a y 3)) (sym e)
-    ∙ sym (joined_is a y wa sa la) ∙ same ∙ joined_is b y wb sb lb)
+apart_by_last a b y wa sa la wb sb lb small e same = grind (arith, by_last, joined_is)
 
 pub apart_by_first : (a b : List (List ℤ)) (y : ℕ) → AreWhole a → 0 < length a → y < 828 * groups_of a → AreWhole b
     → 0 < length b → y < 828 * groups_of b → level_on b y 0 < 8 → level_on b y 1 < 8
     → level_on a y 0 ≡ 7 - level_on b y 0 → level_on a y 1 ≡ level_on b y 1
     → get_or (bytes_in a) y 0 ≡ get_or (bytes_in b) y 0 → ⊥
-apart_by_first a b y wa sa la wb sb lb small next e f same =
-    by_first (level_on b y 0) (level_on b y 1) (level_on a y 2) (level_on a y 3) (level_on a y 4) (level_on b y 2)
-    (level_on b y 3) (level_on b y 4) small next
-    (ap₂ (λ u v. joined u v (level_on a y 2) (level_on a y 3) (level_on a y 4)) (sym e) (sym f)
-    ∙ sym (joined_is a y wa sa la) ∙ same ∙ joined_is b y wb sb lb)
+apart_by_first a b y wa sa la wb sb lb small next e f same = grind (arith, by_first, joined_is)

@@ -1,6 +1,6 @@
 -- A byte of a run hangs on the levels of five symbols.
-use Rattle.std.proofs.Common.{◌≡◌, ℕ, ℤ, pos, zero, suc, ◌+◌, ◌-◌, ◌*◌, ◌/◌, ◌%◌, ◌<◌, ◌≤◌, List, [], ◌++◌, ◌⊎◌, inl}
-use Rattle.std.proofs.Common.{inr, length, map, drop, get_or, sym, ap, ap₂, ◌∙◌, subst, arith}
+use Rattle.std.proofs.Common.{◌≡◌, ℕ, ℤ, pos, zero, suc, ◌+◌, ◌-◌, ◌*◌, ◌/◌, ◌%◌, ◌<◌, ◌≤◌, List, [], ◌⊎◌, length, map}
+use Rattle.std.proofs.Common.{drop, get_or, sym, ap, ap₂, ◌∙◌, subst, arith}
 use Rattle.std.specs.List.{range_with_len, flat_map}
 use Rattle.std.proofs.lemmas.List.{get_or_append_left, get_or-append_right, get_or-drop, get_or-map, length-drop}
 use Rattle.std.proofs.lemmas.List.{length-append, length-map}
@@ -20,23 +20,14 @@ use Rattle.dtx_bursts.proofs.Places.{position, position_of, first_position, next
 pub flat_at : {X : Type 0} (f : ℕ → List X) (w a n i k : ℕ) (d : X) → ((j : ℕ) → j < n → length (f (a + j)) ≡ w)
     → i < n → k < w → get_or (flat_map f (range_with_len a n)) (w * i + k) d ≡ get_or (f (a + i)) k d
 flat_at f w a zero i k d long l m = absurd (omega arith)
-flat_at f w a (suc n) zero k d long l m =
-    let z : a + 0 ≡ a = omega arith in
-    let first : w * 0 + k ≡ k = omega arith in
-    let own : length (f a) ≡ w = subst (λ (b : ℕ). length (f b) ≡ w) z (long 0 (omega arith)) in
-    ap (λ (x : ℕ). get_or (f a ++ flat_map f (range_with_len (a + 1) n)) x d) first
-    ∙ get_or_append_left (f a) (flat_map f (range_with_len (a + 1) n)) d k (omega (arith, own, m))
-    ∙ ap (λ (b : ℕ). get_or (f b) k d) (sym z)
+flat_at f w a (suc n) zero k d long l m = grind (arith, get_or_append_left)
 flat_at f w a (suc n) (suc i) k d long l m =
-    let z : a + 0 ≡ a = omega arith in
     let next : w * suc i + k - w ≡ w * i + k = omega arith in
     let within : w ≤ w * suc i + k = omega arith in
-    let own : length (f a) ≡ w = subst (λ (b : ℕ). length (f b) ≡ w) z (long 0 (omega arith)) in
+    let own : length (f a) ≡ w = subst (λ (b : ℕ). length (f b) ≡ w) (omega arith) (long 0 (omega arith)) in
     get_or-append_right (f a) (flat_map f (range_with_len (a + 1) n)) w (w * suc i + k) d own within
-    ∙ ap (λ (x : ℕ). get_or (flat_map f (range_with_len (a + 1) n)) x d) next
-    ∙ flat_at f w (a + 1) n i k d
-    (λ j h. subst (λ (b : ℕ). length (f b) ≡ w) (omega arith) (long (suc j) (omega (arith, h))))
-    (omega (arith, l)) m
+    ∙ ap (λ (x : ℕ). get_or (flat_map f (range_with_len (a + 1) n)) x d) next ∙ flat_at f w (a + 1) n i k d
+    (λ j h. subst (λ (b : ℕ). length (f b) ≡ w) (omega arith) (long (suc j) (omega (arith, h)))) (omega (arith, l)) m
     ∙ ap (λ (b : ℕ). get_or (f b) k d) (sym (omega arith))
 
 -- ---- the levels of a run
@@ -47,59 +38,43 @@ AreWhole run = (i : ℕ) → i < length run → length (get_or run i []) ≡ 832
 
 pub data_within : (run : List (List ℤ)) (d : ℕ) → d < 4 * groups_of run → d + d / 312 + 1 < length run
 unfolding groups_of data_count
-data_within run d l = by_length (length run) l
-  where
-    by_length : (n : ℕ) → d < 4 * ((n - (n + 312) / 313) / 4) → d + d / 312 + 1 < n
-    by_length n l = omega (arith, l)
+data_within run d l = grind arith
 
 part_at : {X : Type 0} (f : ℤ → X) (n k : ℕ) (x : List ℤ) (z : X) → n + k < length x
     → get_or (map f (drop n x)) k z ≡ f (get_or x (n + k) (pos 0))
-part_at f n k x z l =
-    get_or-map f (drop n x) k (pos 0) z (omega (arith, l, length-drop n x)) ∙ ap f (get_or-drop n x k (pos 0))
+part_at f n k x z l = grind (arith, get_or-map, length-drop, get_or-drop)
 
 -- data symbol d, as f tells it
-pub data_is : {X : Type 0} (f : ℤ → X) (run : List (List ℤ)) (d : ℕ) (z : X) → AreWhole run
-    → d < 3312 * groups_of run
+pub data_is : {X : Type 0} (f : ℤ → X) (run : List (List ℤ)) (d : ℕ) (z : X) → AreWhole run → d < 3312 * groups_of run
     → get_or (flat_map (λ i. map f (drop 4 (data_at run i))) (range_with_len 0 (4 * groups_of run))) d z
     ≡ f (symbol_at run (position d))
 unfolding data_at
 data_is {X} f run d z whole l =
     let i : ℕ = d / 828 in
     let k : ℕ = d % 828 in
-    let parts : d ≡ 828 * i + k = omega arith in
     let in_data : i < 4 * groups_of run = omega (arith, l) in
     let place : i ≡ 0 + i = omega arith in
     let own : length (get_or run (i + i / 312 + 1) []) ≡ 832 = whole (i + i / 312 + 1) (data_within run i in_data) in
     let segment : (832 * (i + i / 312 + 1) + 4 + k) / 832 ≡ i + i / 312 + 1 = omega arith in
     let symbol : (832 * (i + i / 312 + 1) + 4 + k) % 832 ≡ 4 + k = omega arith in
-    ap (λ n. get_or (flat_map part (range_with_len 0 (4 * groups_of run))) n z) parts
+    ap (λ n. get_or (flat_map part (range_with_len 0 (4 * groups_of run))) n z) (omega arith)
     ∙ flat_at part 828 0 (4 * groups_of run) i k z long in_data (omega arith)
-    ∙ ap (λ n. get_or (part n) k z) (sym place)
-    ∙ part_at f 4 k (get_or run (i + i / 312 + 1) []) z (omega (arith, own))
+    ∙ ap (λ n. get_or (part n) k z) (sym place) ∙ part_at f 4 k (get_or run (i + i / 312 + 1) []) z (omega (arith, own))
     ∙ ap₂ (λ a b. f (get_or (get_or run a []) b (pos 0))) (sym segment) (sym symbol)
   where
     part : ℕ → List X
     part = λ i. map f (drop 4 (get_or run (i + i / 312 + 1) []))
 
     long : (j : ℕ) → j < 4 * groups_of run → length (part (0 + j)) ≡ 828
-    long j h =
-        let e : j ≡ 0 + j = omega arith in
-        subst (λ n. length (part n) ≡ 828) e (omega (
-          arith,
-          length-map (drop 4 (get_or run (j + j / 312 + 1) [])) f,
-          length-drop 4 (get_or run (j + j / 312 + 1) []),
-          whole (j + j / 312 + 1) (data_within run j h),
-        ))
+    long j h = grind (arith, length-map, length-drop, data_within)
 
 -- the symbol of coder e before round 0
 pub early_is : {X : Type 0} (f : ℤ → X) (run : List (List ℤ)) (e : ℕ) (z : X) → AreWhole run → 0 < length run
     → get_or (map f (drop 820 (get_or run 0 []))) ((e + 4) % 12) z ≡ f (symbol_at run (position_of 0 e))
 early_is f run e z whole some =
-    let q : ℕ = (e + 4) % 12 in
-    let own : length (get_or run 0 []) ≡ 832 = whole 0 some in
-    let segment : 0 ≡ (820 + q) / 832 = omega arith in
-    let symbol : 820 + q ≡ (820 + q) % 832 = omega arith in
-    part_at f 820 q (get_or run 0 []) z (omega (arith, own))
+    let segment : 0 ≡ (820 + ((e + 4) % 12)) / 832 = omega arith in
+    let symbol : 820 + ((e + 4) % 12) ≡ (820 + ((e + 4) % 12)) % 832 = omega arith in
+    part_at f 820 ((e + 4) % 12) (get_or run 0 []) z (omega arith)
     ∙ ap₂ (λ a b. f (get_or (get_or run a []) b (pos 0))) segment symbol
     ∙ ap (λ n. f (symbol_at run n)) (sym (first_position e))
 
@@ -124,14 +99,11 @@ first_bit run e whole some l =
 
 bit_is : (run : List (List ℤ)) (r e : ℕ) → AreWhole run → 0 < length run → r ≤ 276 * groups_of run → e < 12
     → precoder_bit 0 (first_bits run) (levels_in run) r e ≡ level_before run r e / 4
-bit_is run zero e whole some l m =
-    precoder_bit_zero 0 e (first_bits run) (levels_in run) ∙ first_bit run e whole some m
-bit_is run (suc r) e whole some l m =
-    let a : suc r ≡ r + 1 = omega arith in
-    ap (λ n. precoder_bit 0 (first_bits run) (levels_in run) n e) a
+bit_is run zero e whole some l m = precoder_bit_zero 0 e (first_bits run) (levels_in run) ∙ first_bit run e whole some m
+bit_is run (suc r) e whole some l m = ap (λ n. precoder_bit 0 (first_bits run) (levels_in run) n e) (omega arith)
     ∙ precoder_bit_next 0 r e (first_bits run) (levels_in run)
     ∙ ap (λ x. x / 4) (level_is run (symbol_place 0 r e) whole (place_within 0 r e (groups_of run) (omega (arith, l)))
-    ∙ ap (symbol_level run) (sym (next_position r e)) ∙ ap (λ n. level_before run n e) (sym a))
+    ∙ ap (symbol_level run) (sym (next_position r e)) ∙ ap (λ n. level_before run n e) (sym (omega arith)))
 
 -- ---- two runs
 
@@ -144,18 +116,14 @@ pub pair_is : (run : List (List ℤ)) (r e : ℕ) → AreWhole run → 0 < lengt
     → pair_back 0 (first_bits run) (levels_in run) r e
     ≡ pair_from (level_before run r e / 4) (level_before run (r + 1) e)
 unfolding pair_back
-pair_is run r e whole some l m =
-    ap₂ pair_from (bit_is run r e whole some (omega (arith, l)) m)
-    (level_is run (symbol_place 0 r e) whole (place_within 0 r e (groups_of run) l)
-    ∙ ap (symbol_level run) (sym (next_position r e)))
+pair_is run r e whole some l m = ap₂ pair_from (bit_is run r e whole some (omega (arith, l)) m)
+    (rw (level_is run (symbol_place 0 r e) whole (place_within 0 r e (groups_of run) l), ← next_position r e))
 
 same_pair : (a b : List (List ℤ)) (r e : ℕ) → AreWhole a → AreWhole b → 0 < length a → length b ≡ length a
     → groups_of b ≡ groups_of a → r < 276 * groups_of a → e < 12 → level_before a r e ≡ level_before b r e
     → level_before a (r + 1) e ≡ level_before b (r + 1) e
     → pair_back 0 (first_bits a) (levels_in a) r e ≡ pair_back 0 (first_bits b) (levels_in b) r e
-same_pair a b r e wa wb some as_long as_many l m x y =
-    pair_is a r e wa some l m ∙ ap₂ (λ u v. pair_from (u / 4) v) x y
-    ∙ sym (pair_is b r e wb (omega (arith, some, as_long)) (omega (arith, l, as_many)) m)
+same_pair a b r e wa wb some as_long as_many l m x y = grind (arith, pair_is)
 
 -- ---- the bytes of two runs
 
@@ -173,40 +141,7 @@ same_groups a b e = ap (λ n. (n - (n + 312) / 313) / 4) e
 same_byte : (a b : List (List ℤ)) (y : ℕ) → AreAlike a b → y < 828 * groups_of a → AreSame a b y
     → byte_back 0 (first_bits a) (levels_in a) y ≡ byte_back 0 (first_bits b) (levels_in b) y
 unfolding byte_back
-same_byte a b y h l s =
-    ap₂ (λ x z. 64 * x + 16 * z + 4 * third a + fourth a)
-    (pair (4 * (y / 12)) (omega (arith, l)) (at 0 (omega arith) (omega arith)) (s.same 1 (omega arith)))
-    (pair (4 * (y / 12) + 1) (omega (arith, l)) (s.same 1 (omega arith)) (at 2 (omega arith) (omega arith)))
-    ∙ ap₂ (λ x z. 64 * first b + 16 * second b + 4 * x + z)
-    (pair (4 * (y / 12) + 2) (omega (arith, l)) (s.same 2 (omega arith)) (at 3 (omega arith) (omega arith)))
-    (pair (4 * (y / 12) + 3) (omega (arith, l)) (s.same 3 (omega arith)) (at 4 (omega arith) (omega arith)))
-  where
-    e : ℕ
-    e = coder_of 0 y
-
-    first : List (List ℤ) → ℕ
-    first run = pair_back 0 (first_bits run) (levels_in run) (4 * (y / 12)) (coder_of 0 y)
-
-    second : List (List ℤ) → ℕ
-    second run = pair_back 0 (first_bits run) (levels_in run) (4 * (y / 12) + 1) (coder_of 0 y)
-
-    third : List (List ℤ) → ℕ
-    third run = pair_back 0 (first_bits run) (levels_in run) (4 * (y / 12) + 2) (coder_of 0 y)
-
-    fourth : List (List ℤ) → ℕ
-    fourth run = pair_back 0 (first_bits run) (levels_in run) (4 * (y / 12) + 3) (coder_of 0 y)
-
-    at : (i : ℕ) {r : ℕ} → i < 5 → 4 * (y / 12) + i ≡ r
-        → level_before a r (coder_of 0 y) ≡ level_before b r (coder_of 0 y)
-    at i k m = rw (← m) (s.same i k)
-
-    pair : (r : ℕ) → r < 276 * groups_of a → level_before a r (coder_of 0 y) ≡ level_before b r (coder_of 0 y)
-        → level_before a (r + 1) (coder_of 0 y) ≡ level_before b (r + 1) (coder_of 0 y)
-        → pair_back 0 (first_bits a) (levels_in a) r (coder_of 0 y)
-        ≡ pair_back 0 (first_bits b) (levels_in b) r (coder_of 0 y)
-    pair r m x z =
-        same_pair a b r (coder_of 0 y) h.first h.second h.some h.as_long (same_groups a b h.as_long) m
-        (coder_of_small 0 y) x z
+same_byte a b y h l s = grind (arith, same_pair, same_groups, coder_of_small)
 
 length-flat : {X : Type 0} (f : ℕ → List X) (w a n : ℕ) → ((j : ℕ) → j < n → length (f (a + j)) ≡ w)
     → length (flat_map f (range_with_len a n)) ≡ w * n
@@ -217,16 +152,12 @@ length-flat f w a (suc n) long =
       arith,
       length-append (f a) (flat_map f (range_with_len (a + 1) n)),
       subst (λ (b : ℕ). length (f b) ≡ w) z (long 0 (omega arith)),
-      length-flat f w (a + 1) n
-          (λ j l. subst (λ (b : ℕ). length (f b) ≡ w) (omega arith) (long (suc j) (omega (arith, l)))),
+      length-flat f w (a + 1) n (λ j l. subst (λ (b : ℕ). length (f b) ≡ w) (omega arith) (long (suc j) (omega arith))),
     )
 
 level_groups_are : (run : List (List ℤ)) → AreWhole run → level_groups (levels_in run) ≡ groups_of run
 unfolding level_groups levels_in levels_from data_at
-level_groups_are run whole =
-    ap (λ n. n / 3312) (length-flat (λ i. sliced_data (get_or run (i + i / 312 + 1) [])) 828 0 (4 * groups_of run)
-    (λ j h. let z : j ≡ 0 + j = omega arith in
-    rw (← z) (segment_long (get_or run (j + j / 312 + 1) []) (whole (j + j / 312 + 1) (data_within run j h)))))
+level_groups_are run whole = ap (λ n. n / 3312) (grind (arith, length-flat, segment_long, data_within))
     ∙ back (groups_of run)
   where
     back : (g : ℕ) → 828 * (4 * g) / 3312 ≡ g
@@ -235,21 +166,15 @@ level_groups_are run whole =
 pub byte_at : (run : List (List ℤ)) (y : ℕ) → AreWhole run → y < 828 * groups_of run
     → get_or (bytes_in run) y 0 ≡ byte_back 0 (first_bits run) (levels_in run) y
 unfolding bytes_in bytes_back
-byte_at run y whole l =
-    get_or-map-range_with_len (byte_back 0 (first_bits run) (levels_in run)) 0
-    (828 * level_groups (levels_in run)) y y 0 (omega (arith, l, level_groups_are run whole)) (omega arith)
+byte_at run y whole l = grind (arith, get_or-map-range_with_len, level_groups_are)
 
 pub length-run : (run : List (List ℤ)) → AreWhole run → length (bytes_in run) ≡ 828 * groups_of run
 unfolding bytes_in bytes_back
-length-run run whole =
-    length-map-range_with_len (byte_back 0 (first_bits run) (levels_in run)) 0 (828 * level_groups (levels_in run))
-    ∙ ap (λ n. 828 * n) (level_groups_are run whole)
+length-run run whole = grind (arith, length-map-range_with_len, level_groups_are)
 
 pub byte_stays : (a b : List (List ℤ)) (y : ℕ) → AreAlike a b → y < 828 * groups_of a → AreSame a b y
     → get_or (bytes_in a) y 0 ≡ get_or (bytes_in b) y 0
-byte_stays a b y h l s =
-    byte_at a y h.first l ∙ same_byte a b y h l s
-    ∙ sym (byte_at b y h.second (omega (arith, l, same_groups a b h.as_long)))
+byte_stays a b y h l s = grind (arith, byte_at, same_byte, same_groups)
 
 -- ---- a byte off the symbols from one on and before another
 
@@ -295,13 +220,4 @@ pub off_byte : (a b : List (List ℤ)) (count from y : ℕ) → AreAlike a b →
     → y < 828 * groups_of a → (end_of y < from) ⊎ (from + count ≤ begin_of y)
     → get_or (bytes_in a) y 0 ≡ get_or (bytes_in b) y 0
 off_byte a b count from y h d l off =
-    byte_stays a b y h l (record {
-      same = λ i m. d (position_of (4 * (y / 12) + i) (coder_of 0 y)) (symbol_within a y i h.some l m)
-          (by_side i m off);
-    })
-  where
-    by_side : (i : ℕ) → i < 5 → (end_of y < from) ⊎ (from + count ≤ begin_of y)
-        → (position_of (4 * (y / 12) + i) (coder_of 0 y) < from)
-        ⊎ (from + count ≤ position_of (4 * (y / 12) + i) (coder_of 0 y))
-    by_side i m (inl u) = inl (omega (arith, u, not_behind y i m))
-    by_side i m (inr u) = inr (omega (arith, u, not_before y i))
+    grind (arith, byte_stays, position_of, symbol_within, end_of, begin_of, not_behind, not_before)

@@ -1,6 +1,6 @@
 -- A count of places is bounded by a number that rises at each of them.
 use Rattle.std.proofs.Common.{◌≡◌, ℕ, zero, suc, ◌+◌, ◌<◌, ◌≤◌, ◌==◌, ◌||◌, ◌⊎◌, inl, inr, cond, Bool, true, false}
-use Rattle.std.proofs.Common.{List, [], ◌∷◌, length, get_or, refl, sym, ap, subst, subst₂, arith, nat_le, ◌&&◌, ◌-◌}
+use Rattle.std.proofs.Common.{List, [], ◌∷◌, length, get_or, refl, ap, subst, subst₂, arith, nat_le, ◌&&◌, ◌-◌}
 use Rattle.std.proofs.lemmas.Bool.{and_parts, cond-true, eq-eqb, leb-true}
 use Rattle.dtx_laws.specs.Codeword.{distance}
 use Rattle.dtx_erase.specs.Mending.{lost, unmarked_distance}
@@ -10,11 +10,8 @@ pub total_rises : (f g : ℕ → ℕ) (a n : ℕ) → ((i : ℕ) → a ≤ i →
     → total g a n + f a ≤ f (a + n)
 total_rises f g a zero h = subst (λ (n : ℕ). 0 + f a ≤ f n) (let e : a ≡ a + 0 = omega arith in e) (omega arith)
 total_rises f g a (suc n) h =
-    let first : g a + f a ≤ f (suc a) =
-    subst (λ (i : ℕ). g a + f a ≤ f i) (let e : a + 1 ≡ suc a = omega arith in e)
-    (h a (omega arith) (omega arith)) in
-    let rest : total g (suc a) n + f (suc a) ≤ f (suc a + n) =
-    total_rises f g (suc a) n (λ i l m. h i (omega arith) (omega arith)) in
+    let first : g a + f a ≤ f (suc a) = grind arith in
+    let rest : total g (suc a) n + f (suc a) ≤ f (suc a + n) = total_rises f g (suc a) n (λ i l m. grind arith) in
     let end : f (suc a + n) ≡ f (a + suc n) = ap f (let e : suc a + n ≡ a + suc n = omega arith in e) in
     omega (arith, first, rest, end)
 
@@ -62,15 +59,11 @@ none_unmarked (mark ∷ marks) (x ∷ xs) (y ∷ ys) h =
 -- ---- no fewer
 
 skip : (g : ℕ → ℕ) (a d n : ℕ) → total g (a + d) n ≤ total g a (d + n)
-skip g a zero n =
-    let x : a + 0 ≡ a = omega arith in
-    let y : n ≡ 0 + n = omega arith in
-    subst₂ (λ u v. total g u n ≤ total g a v) (sym x) y (omega arith)
+skip g a zero n = grind (arith, total)
 skip g a (suc d) n =
     let x : suc a + d ≡ a + suc d = omega arith in
     let y : suc (d + n) ≡ suc d + n = omega arith in
-    subst₂ (λ u v. total g u n ≤ total g a v) x y
-    (omega (arith, skip g (suc a) d n))
+    subst₂ (λ u v. total g u n ≤ total g a v) x y (omega (arith, skip g (suc a) d n))
 
 -- whether these numbers rise from a on below an end, and each passes a test
 abbrev pub rising : (ℕ → Bool) → ℕ → List ℕ → ℕ → Bool
@@ -94,10 +87,9 @@ no_fewer g t one (k ∷ ks) a end e =
     let u : suc k ≤ end = rising_within t ks (suc k) end rest.1 in
     let x : a + (k - a) ≡ k = omega (arith, l) in
     let y : k - a + suc (end - suc k) ≡ end - a = omega (arith, l, u) in
-    let tail : total g k (suc (end - suc k)) ≤ total g a (end - a) =
-    subst₂ (λ v w. total g v (suc (end - suc k)) ≤ total g a w) x y (skip g a (k - a) (suc (end - suc k))) in
     count (length ks) (g k) (total g (suc k) (end - suc k)) (total g a (end - a)) (one k rest.0)
-    (no_fewer g t one ks (suc k) end rest.1) tail
+    (no_fewer g t one ks (suc k) end rest.1)
+    (subst₂ (λ v w. total g v (suc (end - suc k)) ≤ total g a w) x y (skip g a (k - a) (suc (end - suc k))))
   where
     count : (n x y z : ℕ) → x ≡ 1 → n ≤ y → x + y ≤ z → suc n ≤ z
     count n x y z e l m = omega (arith, e, l, m)
@@ -112,8 +104,7 @@ distance_least g a (x ∷ xs) (y ∷ ys) e h =
     subst (λ (i : ℕ). g i ≤ cond (x == y) 0 1) (let e : a + 0 ≡ a = omega arith in e) (h 0 (omega arith)) in
     let rest : total g (suc a) (length xs) ≤ distance xs ys =
     distance_least g (suc a) xs ys (omega (arith, e)) (λ i l. subst (λ (n : ℕ). g n
-    ≤ cond (get_or xs i 0 == get_or ys i 0) 0 1)
-    (let e : a + suc i ≡ suc a + i = omega arith in e) (h (suc i) (omega (arith, l)))) in
+    ≤ cond (get_or xs i 0 == get_or ys i 0) 0 1) (grind arith) (h (suc i) (omega (arith, l)))) in
     omega (arith, first, rest)
 
 pub lost_least : (g : ℕ → ℕ) (a : ℕ) (marks : List Bool)

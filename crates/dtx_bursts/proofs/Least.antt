@@ -14,11 +14,10 @@ AllPass p a n = (i : ℕ) → a ≤ i → i < a + n → p i ≡ true
 
 first_or_later : (P : ℕ → Type 0) (a n : ℕ) → P a → ((i : ℕ) → suc a ≤ i → i < suc a + n → P i) → (i : ℕ) → a ≤ i
     → i < a + suc n → P i
-first_or_later P a n first later i l m = by_place (cases_lt a i)
-  where
-    by_place : (a < i) ⊎ (i ≤ a) → P i
-    by_place (inl k) = later i (omega (arith, k)) (omega (arith, m))
-    by_place (inr k) = subst P (let z : a ≡ i = omega (arith, l, k) in z) first
+first_or_later P a n first later i l m = elim (cases_lt a i) [
+  | inl k ↦ later i (omega (arith, k)) (omega (arith, m))
+  | inr k ↦ subst P (let z : a ≡ i = omega (arith, l, k) in z) first
+]
 
 abbrev Found : (p : ℕ → Bool) (v : ℕ → ℕ) (a n : ℕ) → Type 0
 Found p v a n = ((at : ℕ) × IsLeast p v a n at) ⊎ AllPass p a n
@@ -43,32 +42,29 @@ more p v a n false e (inr pass) = inl (
     least = first_or_later (λ i. (p i ≡ true) ⊎ (v a ≤ v i)) a n (inr (omega arith)) (λ i l m. inl (pass i l m));
   },
 )
-more p v a n false e (inl (at, h)) = by_value (cases_lt (v a) (v at))
-  where
-    below : v a < v at → (i : ℕ) → (p i ≡ true) ⊎ (v at ≤ v i) → (p i ≡ true) ⊎ (v a ≤ v i)
-    below k i (inl t) = inl t
-    below k i (inr l) = inr (omega (arith, k, l))
-
-    by_value : (v a < v at) ⊎ (v at ≤ v a) → Found p v a (suc n)
-    by_value (inl k) = inl (
-      a,
-      record {
-        from = omega arith;
-        to = omega arith;
-        fails = e;
-        least = first_or_later (λ i. (p i ≡ true) ⊎ (v a ≤ v i)) a n (inr (omega arith))
-            (λ i l m. below k i (h.least i l m));
-      },
-    )
-    by_value (inr k) = inl (
-      at,
-      record {
-        from = omega (arith, h.from);
-        to = omega (arith, h.to);
-        fails = h.fails;
-        least = first_or_later (λ i. (p i ≡ true) ⊎ (v at ≤ v i)) a n (inr k) h.least;
-      },
-    )
+more p v a n false e (inl (at, h)) = elim (cases_lt (v a) (v at)) [
+  | inl k ↦ inl (
+    a,
+    record {
+      from = omega arith;
+      to = omega arith;
+      fails = e;
+      least = first_or_later (λ i. (p i ≡ true) ⊎ (v a ≤ v i)) a n (inr (omega arith)) (λ i l m. elim (h.least i l m) [
+        | inl t ↦ inl t
+        | inr l ↦ inr (omega (arith, k, l))
+      ]);
+    },
+  )
+  | inr k ↦ inl (
+    at,
+    record {
+      from = omega (arith, h.from);
+      to = omega (arith, h.to);
+      fails = h.fails;
+      least = first_or_later (λ i. (p i ≡ true) ⊎ (v at ≤ v i)) a n (inr k) h.least;
+    },
+  )
+]
 
 pub least_by : (p : ℕ → Bool) (v : ℕ → ℕ) (a n : ℕ) → Found p v a n
 least_by p v a zero = inr (λ i l m. absurd (omega (arith, l, m)))

@@ -1,13 +1,13 @@
 -- Missing symbols in a row are mended.
-use Rattle.std.proofs.Common.{◌≡◌, ℕ, ℤ, ◌+◌, ◌-◌, ◌*◌, ◌<◌, ◌≤◌, ◌⊎◌, inl, inr, true, List, [], length, map, drop}
-use Rattle.std.proofs.Common.{get_or, ap, ◌∙◌, arith}
+use Rattle.std.proofs.Common.{◌≡◌, ℕ, ℤ, ◌+◌, ◌-◌, ◌*◌, ◌<◌, ◌≤◌, inl, inr, true, List, [], length, map, drop, get_or}
+use Rattle.std.proofs.Common.{ap, ◌∙◌, arith}
 use Rattle.std.specs.List.{flat_map, list_all}
 use Rattle.std.proofs.lemmas.Bool.{cases_lt}
 use Rattle.std.proofs.lemmas.List.{append-nil}
 use Rattle.dtx_outer.specs.Inner.{IsComplete, word_at}
 use Rattle.dtx_receiver.specs.Bytes.{groups_of, bytes_in}
 use Rattle.dtx_receiver.specs.declared.batch.Received.{Received}
-use Rattle.dtx_erase.specs.Marks.{is_missing, marks_in}
+use Rattle.dtx_erase.specs.Marks.{marks_in}
 use Rattle.dtx_erase.specs.Mended.{all_mended, marks_at, mended, mended_at, mended_run, mended_run_packets}
 use Rattle.dtx_erase.specs.Mending.{lost, unmarked_distance}
 use Rattle.dtx_erase.proofs.UnmarkedLemmas.{mended_packet}
@@ -17,20 +17,13 @@ use Rattle.dtx_chain.specs.Damage.{AreReceived, AreFound, as_corrected, codeword
 use Rattle.dtx_chain.specs.Damage.{packet_behind, to_sync, word_in}
 use Rattle.dtx_chain.proofs.SlightLemmas.{field_begins, one_run_left}
 use Rattle.dtx_chain.proofs.WordsLemmas.{codeword_back, own_codeword}
-use Rattle.dtx_bursts.specs.Burst.{IsBurst, IsGap, symbol_at, symbol_level}
+use Rattle.dtx_bursts.specs.Burst.{IsBurst, IsGap}
 use Rattle.dtx_bursts.proofs.Missing.{few_lost, none_wrong}
 use Rattle.dtx_bursts.proofs.Moved.{alike_moved, missing_moved, no_word, sent_word}
 
 -- a gap is a burst
 pub gap_is_burst : (count from : ℕ) (sent got : List (List ℤ)) → IsGap count from sent got → IsBurst count from sent got
-gap_is_burst count from sent got gap = record { others = λ n l side. by_level n l side (gap.there n l) }
-  where
-    by_level : (n : ℕ) → n < 832 * length sent → (n < from) ⊎ (from + count ≤ n)
-        → (is_missing (symbol_at got n) ≡ true) ⊎ (symbol_level got n ≡ symbol_level sent n)
-        → symbol_level got n ≡ symbol_level sent n
-    by_level n l side (inr e) = e
-    by_level n l (inl a) (inl m) = let at = gap.missing n l m in absurd (omega (arith, at.0, a))
-    by_level n l (inr a) (inl m) = let at = gap.missing n l m in absurd (omega (arith, at.1, a))
+gap_is_burst count from sent got gap = grind arith
 
 -- word j of a run differs from the codeword of packet k of a stream in no unmarked byte, and at most 20 are marked
 abbrev IsMissing : List (List ℕ) → ℕ → List (List ℤ) → ℕ → Type 0
@@ -51,43 +44,26 @@ missing_behind : (ps : List (List ℕ)) (first from j : ℕ) (sent got : List (L
 unfolding from_sync
 missing_behind ps first from j sent got r p gap l c = (
   rw (← sent_word ps first j sent got r p l c)
-      (none_wrong run (drop (to_sync first) sent) 4141 (from - 832 * to_sync first) j
-      (alike_moved ps first (to_sync first) sent got r l)
-      (missing_moved (to_sync first) 4141 from sent got r.as_many gap)
+      (none_wrong (drop (to_sync first) got) (drop (to_sync first) sent) 4141 (from - 832 * to_sync first) j
+      (alike_moved ps first (to_sync first) sent got r l) (missing_moved (to_sync first) 4141 from sent got r.as_many gap)
       c),
-  few_lost run (drop (to_sync first) sent) (from - 832 * to_sync first) j
-      (alike_moved ps first (to_sync first) sent got r l)
-      (missing_moved (to_sync first) 4141 from sent got r.as_many gap)
+  few_lost (drop (to_sync first) got) (drop (to_sync first) sent) (from - 832 * to_sync first) j
+      (alike_moved ps first (to_sync first) sent got r l) (missing_moved (to_sync first) 4141 from sent got r.as_many gap)
       c,
 )
-  where
-    run : List (List ℤ)
-    run = drop (to_sync first) got
 
 pub gap_missing : (ps : List (List ℕ)) (first from : ℕ) (sent got : List (List ℤ)) → AreReceived ps first sent got
-    → ArePackets ps → IsGap 4141 from sent got → (j : ℕ)
-    → IsComplete 207 52 4 (828 * groups_of (from_sync first got)) j
+    → ArePackets ps → IsGap 4141 from sent got → (j : ℕ) → IsComplete 207 52 4 (828 * groups_of (from_sync first got)) j
     → IsMissing ps (packet_behind first + j) (from_sync first got) j
-gap_missing ps first from sent got r p gap j c = by_sync (cases_lt (to_sync first) (length sent))
-  where
-    by_sync : (to_sync first < length sent) ⊎ (length sent ≤ to_sync first)
-        → IsMissing ps (packet_behind first + j) (from_sync first got) j
-    by_sync (inl l) = missing_behind ps first from j sent got r p gap l c
-    by_sync (inr l) = absurd (no_word first got j (omega (arith, l, r.as_many)) c)
+gap_missing ps first from sent got r p gap j c = elim (cases_lt (to_sync first) (length sent)) [
+  | inl l ↦ missing_behind ps first from j sent got r p gap l c
+  | inr l ↦ absurd (no_word first got j (omega (arith, l, r.as_many)) c)
+]
 
 gap_mendable : (ps : List (List ℕ)) (first from : ℕ) (sent got : List (List ℤ)) → AreReceived ps first sent got
-    → ArePackets ps → IsGap 4141 from sent got → (j : ℕ)
-    → IsComplete 207 52 4 (828 * groups_of (from_sync first got)) j
+    → ArePackets ps → IsGap 4141 from sent got → (j : ℕ) → IsComplete 207 52 4 (828 * groups_of (from_sync first got)) j
     → IsMendable ps (packet_behind first + j) (from_sync first got) j
-gap_mendable ps first from sent got r p gap j c =
-    let run : List (List ℤ) = from_sync first got in
-    let missing = gap_missing ps first from sent got r p gap j c in
-    cost (unmarked_distance (marks_at (marks_in run) j) (word_at 207 52 4 (bytes_in run) j)
-    (codeword_at ps (packet_behind first + j)))
-    (lost (marks_at (marks_in run) j)) missing.0 missing.1
-  where
-    cost : (x y : ℕ) → x ≡ 0 → y ≤ 20 → 2 * x + y ≤ 20
-    cost x y e l = omega (arith, e, l)
+gap_mendable ps first from sent got r p gap j c = grind (arith, gap_missing)
 
 -- ---- the packets
 
@@ -109,8 +85,7 @@ pub all_back : (ps : List (List ℕ)) (first from : ℕ) (sent got : List (List 
     → ArePackets ps → to_sync first < length sent → AreFound first sent got → IsGap 4141 from sent got
     → mended got ≡ map (λ j. as_received (get_or ps (packet_behind first + j) [])) (numbers_in (from_sync first got))
 unfolding mended
-all_back ps first from sent got r p some found gap =
-    ap (map (λ (r : Received). r.packet.0)) (all_good ps first from sent got r p some found gap)
+all_back ps first from sent got r p some found gap = ap (map (λ (r : Received). r.packet.0)) (grind (arith, all_good))
     ∙ corrected_bytes ps (packet_behind first) (word_in first got) (numbers_in (from_sync first got))
 
 pub none_flagged : (ps : List (List ℕ)) (first from : ℕ) (sent got : List (List ℤ)) → AreReceived ps first sent got

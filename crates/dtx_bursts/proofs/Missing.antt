@@ -1,10 +1,9 @@
 -- Missing symbols in a row mark few bytes of each word, and leave the others as they were.
-use Rattle.std.proofs.Common.{◌≡◌, ℕ, ℤ, ◌+◌, ◌*◌, ◌/◌, ◌<◌, ◌≤◌, ◌⊎◌, cond, not, inl, inr, Bool, true, false, List}
-use Rattle.std.proofs.Common.{length, map, get_or, refl, sym, ap, ◌∙◌, subst, arith}
+use Rattle.std.proofs.Common.{◌≡◌, ℕ, ℤ, ◌+◌, ◌*◌, ◌<◌, ◌≤◌, ◌⊎◌, cond, not, inl, inr, Bool, true, false, List, length}
+use Rattle.std.proofs.Common.{map, get_or, refl, ap, ◌∙◌, subst, arith}
 use Rattle.std.proofs.lemmas.List.FromFn.{get_or-map-range_with_len}
 use Rattle.std.specs.List.{range_with_len}
 use Rattle.dtx_frame.proofs.CountsLemmas.{total}
-use Rattle.dtx_slice.specs.Unrolled.{coder_of}
 use Rattle.dtx_outer.specs.Inner.{codeword_byte_place, IsComplete, word_at}
 use Rattle.dtx_outer.proofs.WordsLemmas.{get_or-word}
 use Rattle.dtx_receiver.specs.Bytes.{groups_of, bytes_in}
@@ -34,26 +33,8 @@ IsToldOf count from a b y = ((is_marked a y ≡ true) × (from ≤ end_of y) × 
 told : (count from : ℕ) (a b : List (List ℤ)) (y : ℕ) → AreAlike a b → AreMissing count from a b
     → y < 828 * groups_of a → MarkedOrNot a y → IsToldOf count from a b y
 told count from a b y h gap l (inl (i, m, lost, marked)) =
-    let at = gap.missing (position_of (4 * (y / 12) + i) (coder_of 0 y)) (symbol_within a y i h.some l m) lost in
-    inl (marked, omega (arith, at.0, not_behind y i m), omega (arith, at.1, not_before y i))
-told count from a b y h gap l (inr (seen, unmarked)) =
-    inr (
-      unmarked,
-      byte_stays a b y h l (record {
-        same = λ i m. same_where i m
-            (gap.there (position_of (4 * (y / 12) + i) (coder_of 0 y)) (symbol_within a y i h.some l m));
-      }),
-    )
-  where
-    same_where : (i : ℕ) → i < 5
-        → (is_missing (symbol_at a (position_of (4 * (y / 12) + i) (coder_of 0 y))) ≡ true)
-        ⊎ (symbol_level a (position_of (4 * (y / 12) + i) (coder_of 0 y))
-        ≡ symbol_level b (position_of (4 * (y / 12) + i) (coder_of 0 y)))
-        → symbol_level a (position_of (4 * (y / 12) + i) (coder_of 0 y))
-        ≡ symbol_level b (position_of (4 * (y / 12) + i) (coder_of 0 y))
-    same_where i m (inl e) =
-        absurd (never_both (is_missing (symbol_at a (position_of (4 * (y / 12) + i) (coder_of 0 y)))) e (seen i m))
-    same_where i m (inr e) = e
+    grind (arith, position_of, symbol_within, not_behind, not_before)
+told count from a b y h gap l (inr (seen, unmarked)) = grind (arith, byte_stays, position_of, symbol_within, never_both)
 
 -- ---- a word
 
@@ -64,8 +45,7 @@ mark_at a b j i h c l =
     get_or-map-range_with_len (λ p. get_or (map (is_marked a) (range_with_len 0 (length (bytes_in a))))
     (codeword_byte_place 52 4 p) false) (207 * j) 207 i (207 * j + i) false l refl
     ∙ get_or-map-range_with_len (is_marked a) 0 (length (bytes_in a)) (air_place (207 * j + i))
-    (air_place (207 * j + i)) false
-    (rw (length-run a h.first) (c i l)) (omega arith)
+    (air_place (207 * j + i)) false (rw (length-run a h.first) (c i l)) (omega arith)
 
 -- whether byte m of the codewords isn't marked
 abbrev unmarked_at : List (List ℤ) → ℕ → Bool
@@ -74,18 +54,15 @@ unmarked_at a m = not (is_marked a (air_place m))
 touched : (a b : List (List ℤ)) (count from j : ℕ) → AreAlike a b → AreMissing count from a b
     → IsComplete 207 52 4 (828 * groups_of a) j → AreTouched count from j (unmarked_at a)
 touched a b count from j h gap c m l u =
-    by_told (told count from a b (air_place m) h gap (byte_there (828 * groups_of a) j m c l u)
-    (marked_or_not a (air_place m) h.first h.some (byte_there (828 * groups_of a) j m c l u)))
-  where
-    by_told : IsToldOf count from a b (air_place m)
-        → (unmarked_at a m ≡ true) ⊎ ((from ≤ end_of (air_place m)) × (begin_of (air_place m) < from + count))
-    by_told (inl (e, x, y)) = inr (x, y)
-    by_told (inr (e, s)) = inl (ap not e)
+    elim (told count from a b (air_place m) h gap (byte_there (828 * groups_of a) j m c l u)
+    (marked_or_not a (air_place m) h.first h.some (byte_there (828 * groups_of a) j m c l u))) [
+      | inl (e, x, y) ↦ inr (x, y)
+      | inr (e, s) ↦ inl (ap not e)
+    ]
 
 pub few_lost : (a b : List (List ℤ)) (from j : ℕ) → AreAlike a b → AreMissing 4141 from a b
     → IsComplete 207 52 4 (828 * groups_of a) j → lost (marks_at (marks_in a) j) ≤ 20
-few_lost a b from j h gap c =
-    through (lost (marks_at (marks_in a) j)) (total (failing (unmarked_at a)) (207 * j) 207)
+few_lost a b from j h gap c = through (lost (marks_at (marks_in a) j)) (total (failing (unmarked_at a)) (207 * j) 207)
     (subst (λ (n : ℕ). lost (marks_at (marks_in a) j) ≤ total (failing (unmarked_at a)) (207 * j) n)
     (length-marks (marks_in a) j) (lost_within (failing (unmarked_at a)) (207 * j) (marks_at (marks_in a) j) each))
     (few_in_twenty from j (unmarked_at a) (touched a b 4141 from j h gap c))
@@ -101,26 +78,11 @@ few_lost a b from j h gap c =
 
     each : (i : ℕ) → i < length (marks_at (marks_in a) j)
         → cond (get_or (marks_at (marks_in a) j) i false) 1 0 ≤ failing (unmarked_at a) (207 * j + i)
-    each i l =
-        flag (get_or (marks_at (marks_in a) j) i false) (is_marked a (air_place (207 * j + i)))
-        (mark_at a b j i h c (subst (λ (n : ℕ). i < n) (length-marks (marks_in a) j) l))
+    each i l = grind (arith, air_place, mark_at, length-marks)
 
 pub none_wrong : (a b : List (List ℤ)) (count from j : ℕ) → AreAlike a b → AreMissing count from a b
     → IsComplete 207 52 4 (828 * groups_of a) j
     → unmarked_distance (marks_at (marks_in a) j) (word_at 207 52 4 (bytes_in a) j) (word_at 207 52 4 (bytes_in b) j)
     ≡ 0
 none_wrong a b count from j h gap c =
-    none_unmarked (marks_at (marks_in a) j) (word_at 207 52 4 (bytes_in a) j) (word_at 207 52 4 (bytes_in b) j)
-    (λ i l. each i (subst (λ (n : ℕ). i < n) (length-marks (marks_in a) j) l))
-  where
-    each : (i : ℕ) → i < 207 → (get_or (marks_at (marks_in a) j) i false ≡ true)
-        ⊎ (get_or (word_at 207 52 4 (bytes_in a) j) i 0 ≡ get_or (word_at 207 52 4 (bytes_in b) j) i 0)
-    each i l = by_told (told count from a b (air_place (207 * j + i)) h gap (c i l)
-        (marked_or_not a (air_place (207 * j + i)) h.first h.some (c i l)))
-      where
-        by_told : IsToldOf count from a b (air_place (207 * j + i))
-            → (get_or (marks_at (marks_in a) j) i false ≡ true)
-            ⊎ (get_or (word_at 207 52 4 (bytes_in a) j) i 0 ≡ get_or (word_at 207 52 4 (bytes_in b) j) i 0)
-        by_told (inl (e, x, y)) = inl (mark_at a b j i h c l ∙ e)
-        by_told (inr (e, s)) =
-            inr (get_or-word 207 52 4 (bytes_in a) j i l ∙ s ∙ sym (get_or-word 207 52 4 (bytes_in b) j i l))
+    grind (arith, none_unmarked, length-marks, told, air_place, marked_or_not, mark_at, get_or-word)

@@ -1,6 +1,6 @@
 -- Where the symbols stand on which a byte of a run hangs, and how far apart those of two bytes are.
-use Rattle.std.proofs.Common.{◌≡◌, ℕ, zero, suc, ◌+◌, ◌-◌, ◌*◌, ◌/◌, ◌%◌, ◌<◌, ◌≤◌, ◌==◌, ◌⊎◌, inl, inr, cond, refl}
-use Rattle.std.proofs.Common.{sym, ap, ap₂, ◌∙◌, subst₂, arith}
+use Rattle.std.proofs.Common.{◌≡◌, ℕ, zero, suc, ◌+◌, ◌-◌, ◌*◌, ◌/◌, ◌%◌, ◌<◌, ◌≤◌, ◌==◌, ◌⊎◌, inl, inr, cond, refl, ap}
+use Rattle.std.proofs.Common.{◌∙◌, arith}
 use Rattle.std.proofs.lemmas.Bool.{cases_lt, cond-false, ne_eqb}
 use Rattle.dtx_slice.specs.Lanes.{lane_place}
 use Rattle.dtx_slice.proofs.PlacesLemmas.{lane_symbol, lane_byte_coder}
@@ -38,12 +38,7 @@ turned_back h p l s = omega (arith, l, s)
 
 first_is : (h p : ℕ) → p < 12 → 0 < h → symbol_place 0 (4 * h - 1) (coder_of 0 (12 * h + p)) ≡ first_data h p
 unfolding symbol_place coder_of
-first_is h p l s =
-    let a : (12 * h + p) % 12 ≡ p = omega (arith, l) in
-    let b : (12 * h + p) / 12 ≡ h = omega (arith, l) in
-    ap₂ (λ x y. 12 * (4 * h - 1) + ((x + 4 * ((0 + 4 * y / 69) % 3)) % 12 + 12 - 4 * ((0 + (4 * h - 1) / 69) % 3)) % 12)
-    a b
-    ∙ ap (λ x. 12 * (4 * h - 1) + x) (turned_back h p l s)
+first_is h p l s = grind (arith, turned_back)
 
 last_is : (h p : ℕ) → p < 12 → symbol_place 0 (4 * h + 3) (coder_of 0 (12 * h + p)) ≡ last_data h p
 unfolding lane_place
@@ -67,55 +62,31 @@ first_position e = refl
 
 pub next_position : (r e : ℕ) → position_of (r + 1) e ≡ position (symbol_place 0 r e)
 unfolding position_of
-next_position r e =
-    let a : r + 1 - 1 ≡ r = omega arith in
-    cond-false (r + 1 == 0) (820 + (e + 4) % 12) (position (symbol_place 0 (r + 1 - 1) e))
-    (ne_eqb (r + 1) 0 (λ z. omega (arith, z)))
-    ∙ ap (λ n. position (symbol_place 0 n e)) a
+next_position r e = grind (arith, cond-false, ne_eqb)
 
 pub of_rises : (r e : ℕ) → position_of r e ≤ position_of (r + 1) e
 of_rises zero e = omega (arith, first_position e, next_position 0 e)
 of_rises (suc r) e =
     let a : r + 1 ≡ suc r = omega arith in
-    rw (← a) (omega (
-      arith,
-      next_position r e,
-      next_position (r + 1) e,
-      position_rises (symbol_place 0 r e) (symbol_place 0 (r + 1) e) (place_rises r e),
-    ))
+    rw (← a) (grind (arith, next_position, position_rises, place_rises))
 
 begin_is : (y : ℕ) → 0 < y / 12 → begin_of y ≡ position (first_data (y / 12) (y % 12))
-begin_is y s =
-    let a : 4 * (y / 12) - 1 + 1 ≡ 4 * (y / 12) = omega (arith, s) in
-    ap (λ r. position_of r (coder_of 0 y)) (sym a) ∙ next_position (4 * (y / 12) - 1) (coder_of 0 y)
-    ∙ ap position (ap (λ i. symbol_place 0 (4 * (y / 12) - 1) (coder_of 0 i)) (sym (twelve y))
-    ∙ first_is (y / 12) (y % 12) (omega arith) s)
+begin_is y s = grind (arith, next_position, twelve, first_is)
 
 end_is : (y : ℕ) → end_of y ≡ position (last_data (y / 12) (y % 12))
-end_is y =
-    let a : 4 * (y / 12) + 4 ≡ 4 * (y / 12) + 3 + 1 = omega arith in
-    ap (λ r. position_of r (coder_of 0 y)) a ∙ next_position (4 * (y / 12) + 3) (coder_of 0 y)
-    ∙ ap position (ap (λ i. symbol_place 0 (4 * (y / 12) + 3) (coder_of 0 i)) (sym (twelve y))
-    ∙ last_is (y / 12) (y % 12) (omega arith))
+end_is y = ap (λ r. position_of r (coder_of 0 y)) (omega arith) ∙ next_position (4 * (y / 12) + 3) (coder_of 0 y)
+    ∙ ap position (grind (arith, twelve, last_is))
 
 -- ---- ten bytes of a word lie between them
 
-data_apart_ten : (h p g q : ℕ) → p < 12 → q < 12 → 12 * h + p + 522 ≤ 12 * g + q
-    → last_data h p + 2014 ≤ first_data g q
+data_apart_ten : (h p g q : ℕ) → p < 12 → q < 12 → 12 * h + p + 522 ≤ 12 * g + q → last_data h p + 2014 ≤ first_data g q
 data_apart_ten h p g q l m a = omega (arith, l, m, a)
 
 position_apart_ten : (c d : ℕ) → c + 2014 ≤ d → position c + 2022 ≤ position d
 position_apart_ten c d l = omega (arith, l)
 
 pub apart_ten : (y z : ℕ) → y + 522 ≤ z → end_of y + 2022 ≤ begin_of z
-apart_ten y z l =
-    omega (
-      arith,
-      end_is y,
-      begin_is z (omega (arith, l)),
-      position_apart_ten (last_data (y / 12) (y % 12)) (first_data (z / 12) (z % 12))
-          (data_apart_ten (y / 12) (y % 12) (z / 12) (z % 12) (omega arith) (omega arith) (omega (arith, l))),
-    )
+apart_ten y z l = grind (arith, end_is, begin_is, position_apart_ten, data_apart_ten)
 
 -- ---- twenty bytes of a word lie between them
 
@@ -140,24 +111,4 @@ position_apart_twenty c d l (inr m) = omega (arith, m)
 
 pub apart_twenty : (y z : ℕ) → AreTwenty y z → end_of y + 4141 ≤ begin_of z
 apart_twenty y z a =
-    omega (arith, end_is y, begin_is z later, at (cases_lt (last_data (y / 12) (y % 12) % 828) 19))
-  where
-    behind : AreTwenty y z → y + 1045 ≤ z
-    behind (inl (l, m)) = l
-    behind (inr l) = omega (arith, l)
-
-    later : 0 < z / 12
-    later = omega (arith, behind a)
-
-    own : AreTwenty (12 * (y / 12) + y % 12) (12 * (z / 12) + z % 12)
-    own = subst₂ AreTwenty (sym (twelve y)) (sym (twelve z)) a
-
-    at : (last_data (y / 12) (y % 12) % 828 < 19) ⊎ (19 ≤ last_data (y / 12) (y % 12) % 828)
-        → position (last_data (y / 12) (y % 12)) + 4141 ≤ position (first_data (z / 12) (z % 12))
-    at (inl s) =
-        position_apart_twenty (last_data (y / 12) (y % 12)) (first_data (z / 12) (z % 12))
-        (data_apart_twenty (y / 12) (y % 12) (z / 12) (z % 12) (omega arith) (omega arith) own)
-        (inr (data_apart_early (y / 12) (y % 12) (z / 12) (z % 12) (omega arith) (omega arith) own s))
-    at (inr s) =
-        position_apart_twenty (last_data (y / 12) (y % 12)) (first_data (z / 12) (z % 12))
-        (data_apart_twenty (y / 12) (y % 12) (z / 12) (z % 12) (omega arith) (omega arith) own) (inl s)
+    grind (arith, end_is, begin_is, cases_lt, twelve, position_apart_twenty, data_apart_twenty, data_apart_early)

@@ -1,7 +1,6 @@
 -- Segments of which each symbol is replaced by another.
 use Rattle.std.proofs.Common.{◌≡◌, ℕ, ℤ, pos, negsuc, ◌+◌, ◌-◌, ◌*◌, ◌/◌, ◌%◌, ◌<◌, ◌≤◌, ◌⊎◌, inl, inr, cond, nat_le}
-use Rattle.std.proofs.Common.{nat_lt, ◌&&◌, Bool, true, false, List, [], length, map, get_or, refl, sym, ap, ◌∙◌, subst}
-use Rattle.std.proofs.Common.{arith}
+use Rattle.std.proofs.Common.{nat_lt, ◌&&◌, List, [], length, map, get_or, ap, ◌∙◌, arith}
 use Rattle.std.specs.List.{range_with_len}
 use Rattle.std.proofs.lemmas.Bool.{and_from, and_left, and_right, cond-true, cond-false, le-leb, le-ltb, leb-true}
 use Rattle.std.proofs.lemmas.Bool.{lt-leb, lt-ltb}
@@ -27,38 +26,21 @@ segment_replaced f n i l =
     get_or-map-range_with_len (λ i. map (λ k. f (832 * i + k)) (range_with_len 0 832)) 0 n i i [] l (omega arith)
 
 pub whole_replaced : (f : ℕ → ℤ) (n i : ℕ) → i < length (replaced f n) → length (get_or (replaced f n) i []) ≡ 832
-whole_replaced f n i l =
-    ap length (segment_replaced f n i (subst (λ m. i < m) (length-replaced f n) l))
-    ∙ length-map-range_with_len (λ k. f (832 * i + k)) 0 832
+whole_replaced f n i l = grind (arith, segment_replaced, length-replaced, length-map-range_with_len)
 
 pub symbol_replaced : (f : ℕ → ℤ) (n p : ℕ) → p < 832 * n → symbol_at (replaced f n) p ≡ f p
-symbol_replaced f n p l =
-    let whole : 832 * (p / 832) + p % 832 ≡ p = omega arith in
-    ap (λ (x : List ℤ). get_or x (p % 832) (pos 0)) (segment_replaced f n (p / 832) (omega (arith, l)))
+symbol_replaced f n p l = ap (λ (x : List ℤ). get_or x (p % 832) (pos 0)) (segment_replaced f n (p / 832) (omega arith))
     ∙ get_or-map-range_with_len (λ k. f (832 * (p / 832) + k)) 0 832 (p % 832) (p % 832) (pos 0) (omega arith)
-    (omega arith)
-    ∙ ap f whole
+    (omega arith) ∙ ap f (omega arith)
 
 pub are_replaced : (ps : List (List ℕ)) (f : ℕ → ℤ) → AreReceived ps 0 (a53 ps) (replaced f (length (a53 ps)))
-are_replaced ps f = record {
-  in_a_row = sym (take_all (0 + length (a53 ps) - 0) (a53 ps) (omega arith));
-  as_many = length-replaced f (length (a53 ps));
-  long = whole_replaced f (length (a53 ps));
-}
+are_replaced ps f = grind (arith, take_all, length-replaced, whole_replaced)
 
 -- a level is one of eight
 sliced_eight : (v : ℤ) → sliced v < 8
 unfolding sliced
-sliced_eight (pos n) = by_test (nat_le n 7) refl
-  where
-    by_test : (t : Bool) → nat_le n 7 ≡ t → cond t ((n + 8) / 2) 7 < 8
-    by_test true e = let h : n ≤ 7 = leb-true n 7 e in omega arith
-    by_test false e = omega arith
-sliced_eight (negsuc n) = by_test (nat_le n 7)
-  where
-    by_test : (t : Bool) → cond t ((7 - n) / 2) 0 < 8
-    by_test true = omega arith
-    by_test false = omega arith
+sliced_eight (pos n) = grind (arith, leb-true)
+sliced_eight (negsuc n) = grind arith
 
 pub level_eight : (run : List (List ℤ)) (p : ℕ) → symbol_level run p < 8
 unfolding symbol_level
@@ -72,16 +54,9 @@ row count from new old p = cond (nat_le from p && nat_lt p (from + count)) (new 
 
 pub inside : (count from p : ℕ) (new old : ℕ → ℤ) → from ≤ p → p < from + count → row count from new old p ≡ new p
 unfolding row
-inside count from p new old l u =
-    cond-true (nat_le from p && nat_lt p (from + count)) (new p) (old p)
-    (and_from (nat_le from p) (nat_lt p (from + count)) (le-leb from p l) (lt-ltb p (from + count) u))
+inside count from p new old l u = grind (arith, cond-true, and_from, le-leb, lt-ltb)
 
-pub outside : (count from p : ℕ) (new old : ℕ → ℤ) → (p < from) ⊎ (from + count ≤ p)
-    → row count from new old p ≡ old p
+pub outside : (count from p : ℕ) (new old : ℕ → ℤ) → (p < from) ⊎ (from + count ≤ p) → row count from new old p ≡ old p
 unfolding row
-outside count from p new old (inl l) =
-    cond-false (nat_le from p && nat_lt p (from + count)) (new p) (old p)
-    (and_left (nat_le from p) (nat_lt p (from + count)) (lt-leb from p l))
-outside count from p new old (inr u) =
-    cond-false (nat_le from p && nat_lt p (from + count)) (new p) (old p)
-    (and_right (nat_le from p) (nat_lt p (from + count)) (le-ltb p (from + count) u))
+outside count from p new old (inl l) = grind (arith, cond-false, and_left, lt-leb)
+outside count from p new old (inr u) = grind (arith, cond-false, and_right, le-ltb)

@@ -42,8 +42,7 @@ few_ten : (w t r : ℕ) → r < 52 → five_counts w 522 t (52 * t + r + 207) �
 unfolding five_counts
 few_ten w t r l = omega (arith, l)
 
-few_twenty : (w t r : ℕ) → r < 52
-    → five_counts w 1045 t (52 * t + r + 207) ≤ five_counts w 1045 t (52 * t + r) + 20
+few_twenty : (w t r : ℕ) → r < 52 → five_counts w 1045 t (52 * t + r + 207) ≤ five_counts w 1045 t (52 * t + r) + 20
 unfolding five_counts
 few_twenty w t r l = omega (arith, l)
 
@@ -51,15 +50,14 @@ few_twenty w t r l = omega (arith, l)
 
 never : (w n t m : ℕ) → five_counts w n t m ≤ five_counts w n t (m + 1)
 unfolding five_counts
-never w n t m =
-    omega (
-      arith,
-      before_never (ramp_begin w t) (ramp_begin (w + n) t) m,
-      before_never (ramp_begin w (t + 1)) (ramp_begin (w + n) (t + 1)) m,
-      before_never (ramp_begin w (t + 2)) (ramp_begin (w + n) (t + 2)) m,
-      before_never (ramp_begin w (t + 3)) (ramp_begin (w + n) (t + 3)) m,
-      before_never (ramp_begin w (t + 4)) (ramp_begin (w + n) (t + 4)) m,
-    )
+never w n t m = omega (
+  arith,
+  before_never (ramp_begin w t) (ramp_begin (w + n) t) m,
+  before_never (ramp_begin w (t + 1)) (ramp_begin (w + n) (t + 1)) m,
+  before_never (ramp_begin w (t + 2)) (ramp_begin (w + n) (t + 2)) m,
+  before_never (ramp_begin w (t + 3)) (ramp_begin (w + n) (t + 3)) m,
+  before_never (ramp_begin w (t + 4)) (ramp_begin (w + n) (t + 4)) m,
+)
 
 rises : (w n t m : ℕ) → 52 * t ≤ m → m < 52 * (t + 5) → w ≤ air_place m → air_place m < w + n
     → 1 + five_counts w n t m ≤ five_counts w n t (m + 1)
@@ -78,22 +76,8 @@ rises w n t m a b l h = by_ramp (m / 52 - t) (omega (arith, a)) (omega (arith, a
         + ramp_count w n (t + 4) m)
         ≤ ramp_count w n t (m + 1) + ramp_count w n (t + 1) (m + 1) + ramp_count w n (t + 2) (m + 1)
         + ramp_count w n (t + 3) (m + 1) + ramp_count w n (t + 4) (m + 1)
-    by_ramp zero e k = omega (
-      arith,
-      at_ramp t (omega (arith, e)),
-      before_ramp (t + 1),
-      before_ramp (t + 2),
-      before_ramp (t + 3),
-      before_ramp (t + 4),
-    )
-    by_ramp (suc zero) e k = omega (
-      arith,
-      before_ramp t,
-      at_ramp (t + 1) e,
-      before_ramp (t + 2),
-      before_ramp (t + 3),
-      before_ramp (t + 4),
-    )
+    by_ramp zero e k = grind arith
+    by_ramp (suc zero) e k = grind arith
     by_ramp (suc (suc zero)) e k = omega (
       arith,
       before_ramp t,
@@ -138,13 +122,10 @@ within_window w n j most g h few =
     let t : ℕ = 207 * j / 52 in
     let r : ℕ = 207 * j % 52 in
     let at : 52 * t + r ≡ 207 * j = omega arith in
-    let end : five_counts w n t (207 * j + 207) ≤ five_counts w n t (207 * j) + most =
-    subst (λ (m : ℕ). five_counts w n t (m + 207) ≤ five_counts w n t m + most) at (few t r (omega arith)) in
     omega (
       arith,
-      end,
-      total_rises (five_counts w n t) g (207 * j) 207
-          (λ i l m. counted w n t i g (omega (arith, l)) (omega (arith, m)) (h i l m)),
+      (subst (λ (m : ℕ). five_counts w n t (m + 207) ≤ five_counts w n t m + most) at (few t r (omega arith))),
+      total_rises (five_counts w n t) g (207 * j) 207 (λ i l m. counted w n t i g (omega arith) (omega arith) (h i l m)),
     )
 
 pub at_most_ten : (w j : ℕ) (g : ℕ → ℕ) → IsWithin w 522 j g → total g (207 * j) 207 ≤ 10

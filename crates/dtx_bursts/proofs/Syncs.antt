@@ -1,7 +1,6 @@
 -- A burst that leaves the field syncs leaves them found.
-use Rattle.std.proofs.Common.{◌≡◌, ℕ, ℤ, pos, ◌+◌, ◌-◌, ◌*◌, ◌/◌, ◌%◌, ◌<◌, ◌≤◌, ◌==◌, ◌⊎◌, inl, inr, cond, min, true}
-use Rattle.std.proofs.Common.{false, Bool, List, [], length, map, sum, get_or, sym, ap, ap₂, ◌∙◌, subst, arith}
-use Rattle.std.specs.List.{range_with_len}
+use Rattle.std.proofs.Common.{◌≡◌, ℕ, ℤ, pos, ◌+◌, ◌-◌, ◌*◌, ◌%◌, ◌<◌, ◌≤◌, ◌==◌, ◌⊎◌, inl, inr, cond, min, true, false}
+use Rattle.std.proofs.Common.{Bool, List, [], length, get_or, sym, ap, ◌∙◌, subst, arith}
 use Rattle.std.proofs.lemmas.Bool.{cases_lt, le-leb}
 use Rattle.dtx_slice.specs.Slicing.{sliced}
 use Rattle.dtx_frame.proofs.AlikeLemmas.{none_differ}
@@ -17,10 +16,7 @@ use Rattle.dtx_bursts.proofs.Counting.{total_rises}
 level_in : (xs : List (List ℤ)) (i n : ℕ) → n < 832
     → symbol_level xs (832 * i + n) ≡ sliced (get_or (get_or xs i []) n (pos 0))
 unfolding symbol_level
-level_in xs i n l =
-    let a : (832 * i + n) / 832 ≡ i = omega (arith, l) in
-    let b : (832 * i + n) % 832 ≡ n = omega (arith, l) in
-    ap₂ (λ x y. sliced (get_or (get_or xs x []) y (pos 0))) a b
+level_in xs i n l = grind arith
 
 -- a symbol off the burst
 same_level : (count from : ℕ) (sent got : List (List ℤ)) → IsBurst count from sent got → (i n : ℕ) → i < length sent
@@ -35,8 +31,7 @@ none_damaged : (sent got : List ℤ)
     → ((n : ℕ) → n < 515 → sliced (get_or got n (pos 0)) ≡ sliced (get_or sent n (pos 0)))
     → damaged_symbols sent got ≡ 0
 unfolding damaged_symbols damage_at
-none_damaged sent got same =
-    sum_is (damage_at sent got) 0 515
+none_damaged sent got same = sum_is (damage_at sent got) 0 515
     ∙ total_zeros (damage_at sent got) 0 515
     (λ n _ l. same_is (sliced (get_or got n (pos 0))) (sliced (get_or sent n (pos 0))) (same n (omega (arith, l))))
 
@@ -44,24 +39,17 @@ none_damaged sent got same =
 
 differs_bit : (x : List ℤ) (n : ℕ) → differs x n ≤ 1
 unfolding differs
-differs_bit x n = bit (sliced (get_or x n (pos 0)) == sliced (get_or (sync_symbols false) n (pos 0)))
-  where
-    bit : (b : Bool) → cond b 0 1 ≤ 1
-    bit true = omega arith
-    bit false = omega arith
+differs_bit x n = grind arith
 
 differs_as : (x y : List ℤ) (n : ℕ) → sliced (get_or x n (pos 0)) ≡ sliced (get_or y n (pos 0))
     → differs x n ≡ differs y n
 unfolding differs
-differs_as x y n e =
-    ap {B = ℕ} (λ (z : ℕ). cond (z == sliced (get_or (sync_symbols false) n (pos 0))) 0 1) e
+differs_as x y n e = ap {B = ℕ} (λ (z : ℕ). cond (z == sliced (get_or (sync_symbols false) n (pos 0))) 0 1) e
 
 own_symbol : (second : Bool) (last : List ℤ) (n : ℕ) → n < 515 → differs (field_sync second last) n ≡ 0
 unfolding differing
-own_symbol second last n l =
-    none (differs (field_sync second last) n) (total (differs (field_sync second last)) 0 515)
-    (part (differs (field_sync second last)) n 1 515 (omega (arith, l)))
-    (sym (sum_is (differs (field_sync second last)) 0 515) ∙ none_differ second last)
+own_symbol second last n l = none (differs (field_sync second last) n) (total (differs (field_sync second last)) 0 515)
+    (part (differs (field_sync second last)) n 1 515 (omega (arith, l))) (grind (arith, sum_is, none_differ))
   where
     none : (x y : ℕ) → x + 0 ≤ y → y ≡ 0 → x ≡ 0
     none x y l e = omega (arith, l, e)
@@ -73,26 +61,18 @@ DifferWithin a b x = (n : ℕ) → n < 515 → ((a ≤ n) × (n < b)) ⊎ (diffe
 -- a number that rises with them
 bound : (g f : ℕ → ℕ) (n : ℕ) → ((i : ℕ) → i < n → g i + f i ≤ f (i + 1)) → total g 0 n + f 0 ≤ f n
 bound g f n h =
-    let z : 0 + n ≡ n = omega arith in
-    subst (λ (m : ℕ). total g 0 n + f 0 ≤ f m) z (total_rises f g 0 n (λ i _ l. h i (omega (arith, l))))
+    subst (λ (m : ℕ). total g 0 n + f 0 ≤ f m) (omega arith) (total_rises f g 0 n (λ i _ l. h i (omega (arith, l))))
 
 few : (x : List ℤ) (a b : ℕ) → DifferWithin a b x → min b 515 - a ≤ 32 → total (differs x) 0 515 ≤ 32
-few x a b within least =
-    through (total (differs x) 0 515) (min 0 b - a) (min 515 b - a)
-    (bound (differs x) (λ n. min n b - a) 515 (λ n l. step n (within n l))) (omega (arith, least))
+few x a b within least = through (total (differs x) 0 515) (min 0 b - a) (min 515 b - a)
+    (bound (differs x) (λ n. min n b - a) 515 (λ n l. grind (arith, differs_bit))) (omega (arith, least))
   where
     through : (t y z : ℕ) → t + y ≤ z → z ≤ 32 → t ≤ 32
     through t y z l m = omega (arith, l, m)
 
-    step : (n : ℕ) → ((a ≤ n) × (n < b)) ⊎ (differs x n ≡ 0) → differs x n + (min n b - a) ≤ min (n + 1) b - a
-    step n (inl (l, m)) = omega (arith, l, m, differs_bit x n)
-    step n (inr z) = omega (arith, z)
-
 looks : (x : List ℤ) (a b : ℕ) → DifferWithin a b x → min b 515 - a ≤ 32 → looks_like x ≡ true
 unfolding looks_like differing
-looks x a b within least =
-    le-leb (sum (map (differs x) (range_with_len 0 515))) 32
-    (subst (λ (n : ℕ). n ≤ 32) (sym (sum_is (differs x) 0 515)) (few x a b within least))
+looks x a b within least = grind (arith, le-leb, sum_is, few)
 
 -- ---- all of them
 
@@ -104,9 +84,7 @@ burst_found ps first count from sent got r leaves burst = record {
       (omega (arith, leaves.few i l z));
   before = λ i l m. omega (
     arith,
-    none_damaged (get_or sent i []) (get_or got i [])
-        (λ n h. same_level count from sent got burst i n l (omega (arith, h))
-        (inl (omega (arith, leaves.behind, m, h)))),
+    none_damaged (get_or sent i []) (get_or got i []) (λ n h. grind (arith, same_level)),
   );
 }
   where
@@ -115,8 +93,7 @@ burst_found ps first count from sent got r leaves burst = record {
     as_sent i n l z h side =
         let s = sync_at_place ps (first + i) (omega (arith, l, sent_within ps first sent got r (omega (arith, l)))) z in
         differs_as (get_or got i []) (field_sync s.0 s.1) n
-        (same_level count from sent got burst i n l (omega (arith, h)) side
-        ∙ ap (λ (x : List ℤ). sliced (get_or x n (pos 0))) (sent_at ps first sent got r i l ∙ s.2))
+        (rw (same_level count from sent got burst i n l (omega (arith, h)) side, sent_at ps first sent got r i l, s.2))
         ∙ own_symbol s.0 s.1 n h
 
     within : (i : ℕ) → i < length sent → (first + i) % 313 ≡ 0

@@ -1,11 +1,9 @@
 -- One missing symbol more in a row can be too many: a stream's first packet shows it.
 use Rattle.std.proofs.Common.{◌≡◌, ℕ, ℤ, negsuc, ◌+◌, ◌*◌, ◌/◌, ◌<◌, ◌≤◌, ◌⊎◌, cond, nat_le, nat_lt, ◌&&◌, ◌||◌, inl}
-use Rattle.std.proofs.Common.{inr, not, Bool, true, false, List, [], ◌∷◌, length, get_or, refl, sym, ap, ◌∙◌, subst}
-use Rattle.std.proofs.Common.{arith}
+use Rattle.std.proofs.Common.{inr, not, Bool, true, false, List, [], ◌∷◌, length, get_or, refl, sym, subst, arith}
 use Rattle.std.proofs.lemmas.Bool.{and_parts, cases_lt, leb-true, ltb-true, or_cases}
 use Rattle.dtx_lists.proofs.Below.{holds_below, at_below}
 use Rattle.dtx_trellis.specs.Trellis.{symbol_of}
-use Rattle.dtx_slice.specs.Slicing.{sliced}
 use Rattle.dtx_slice.specs.Unrolled.{symbol_place, coder_of}
 use Rattle.dtx_frame.proofs.CountsLemmas.{total}
 use Rattle.dtx_frame.proofs.SlicesLemmas.{sliced_symbol}
@@ -40,16 +38,12 @@ gapped ps = replaced (row 4142 19982 (λ p. negsuc 127) (decided (a53 ps))) (len
 missing_inside : (ps : List (List ℕ)) (p : ℕ) → p < 832 * length (a53 ps) → 19982 ≤ p → p < 19982 + 4142
     → is_missing (symbol_at (gapped ps) p) ≡ true
 unfolding gapped
-missing_inside ps p l a b =
-    ap is_missing (symbol_replaced (row 4142 19982 (λ p. negsuc 127) (decided (a53 ps))) (length (a53 ps)) p l
-    ∙ inside 4142 19982 p (λ p. negsuc 127) (decided (a53 ps)) a b)
+missing_inside ps p l a b = grind (arith, symbol_replaced, row, decided, inside)
 
 left_outside : (ps : List (List ℕ)) (p : ℕ) → p < 832 * length (a53 ps) → (p < 19982) ⊎ (19982 + 4142 ≤ p)
     → symbol_at (gapped ps) p ≡ symbol_of (symbol_level (a53 ps) p)
 unfolding gapped decided
-left_outside ps p l side =
-    symbol_replaced (row 4142 19982 (λ p. negsuc 127) (decided (a53 ps))) (length (a53 ps)) p l
-    ∙ outside 4142 19982 p (λ p. negsuc 127) (decided (a53 ps)) side
+left_outside ps p l side = grind (arith, symbol_replaced, row, decided, outside)
 
 there_test : holds_below (λ z. not (is_missing (symbol_of z))) 8 ≡ true
 unfolding symbol_of
@@ -68,55 +62,22 @@ gapped_received ps = are_replaced ps (row 4142 19982 (λ p. negsuc 127) (decided
 
 gapped_gap : (ps : List (List ℕ)) → IsGap 4142 19982 (a53 ps) (gapped ps)
 unfolding symbol_level
-gapped_gap ps = record {
-  there = λ n l. by_place n l (cases_lt n 19982) (cases_lt n (19982 + 4142));
-  missing = λ n l m. within n l m (cases_lt n 19982) (cases_lt n (19982 + 4142));
-}
-  where
-    left : (n : ℕ) → n < 832 * length (a53 ps) → (n < 19982) ⊎ (19982 + 4142 ≤ n)
-        → (is_missing (symbol_at (gapped ps) n) ≡ true)
-        ⊎ (sliced (symbol_at (gapped ps) n) ≡ sliced (symbol_at (a53 ps) n))
-    left n l side =
-        inr (ap sliced (left_outside ps n l side)
-        ∙ sliced_symbol (sliced (symbol_at (a53 ps) n)) (level_eight (a53 ps) n))
-
-    by_place : (n : ℕ) → n < 832 * length (a53 ps) → (n < 19982) ⊎ (19982 ≤ n)
-        → (n < 19982 + 4142) ⊎ (19982 + 4142 ≤ n)
-        → (is_missing (symbol_at (gapped ps) n) ≡ true)
-        ⊎ (sliced (symbol_at (gapped ps) n) ≡ sliced (symbol_at (a53 ps) n))
-    by_place n l (inl a) b = left n l (inl a)
-    by_place n l (inr a) (inl b) = inl (missing_inside ps n l a b)
-    by_place n l (inr a) (inr b) = left n l (inr b)
-
-    never : (n : ℕ) → n < 832 * length (a53 ps) → is_missing (symbol_at (gapped ps) n) ≡ true
-        → (n < 19982) ⊎ (19982 + 4142 ≤ n) → ⊥
-    never n l m side =
-        never_both (is_missing (symbol_at (gapped ps) n)) m
-        (ap is_missing (left_outside ps n l side) ∙ is_there (sliced (symbol_at (a53 ps) n)) (level_eight (a53 ps) n))
-
-    within : (n : ℕ) → n < 832 * length (a53 ps) → is_missing (symbol_at (gapped ps) n) ≡ true
-        → (n < 19982) ⊎ (19982 ≤ n) → (n < 19982 + 4142) ⊎ (19982 + 4142 ≤ n) → (19982 ≤ n) × (n < 19982 + 4142)
-    within n l m (inl a) b = absurd (never n l m (inl a))
-    within n l m (inr a) (inl b) = (a, b)
-    within n l m (inr a) (inr b) = absurd (never n l m (inr b))
+gapped_gap ps =
+    grind (arith, cases_lt, gapped, left_outside, sliced_symbol, level_eight, missing_inside, never_both, is_there)
 
 gapped_found : (ps : List (List ℕ)) → AreFound 0 (a53 ps) (gapped ps)
-gapped_found ps =
-    burst_found ps 0 4142 19982 (a53 ps) (gapped ps) (gapped_received ps)
-    (leaves 4142 19982 (length (a53 ps)) (omega arith) (omega arith))
-    (gap_is_burst 4142 19982 (a53 ps) (gapped ps) (gapped_gap ps))
+gapped_found ps = burst_found ps 0 4142 19982 (a53 ps) (gapped ps) (gapped_received ps)
+    (leaves 4142 19982 (length (a53 ps)) (omega arith) (omega arith)) (grind (arith, gap_is_burst, gapped, gapped_gap))
 
 -- ---- twenty-one bytes of packet 0
 
 -- whether byte m of the codewords hangs on them, by its last symbol or by its first
 hangs : ℕ → Bool
-hangs m =
-    (nat_lt m 207 && (nat_le 19982 (end_of (air_place m)) && nat_lt (end_of (air_place m)) 24124))
+hangs m = (nat_lt m 207 && (nat_le 19982 (end_of (air_place m)) && nat_lt (end_of (air_place m)) 24124))
     || (nat_lt m 207 && (nat_le 19982 (begin_of (air_place m)) && nat_lt (begin_of (air_place m)) 24124))
 
 twenty_one : List ℕ
-twenty_one =
-    23 ∷ 24 ∷ 25 ∷ 26 ∷ 27 ∷ 75 ∷ 76 ∷ 77 ∷ 78 ∷ 79 ∷ 127 ∷ 128 ∷ 129 ∷ 130 ∷ 131 ∷ 178 ∷ 179 ∷ 180 ∷ 181 ∷ 182
+twenty_one = 23 ∷ 24 ∷ 25 ∷ 26 ∷ 27 ∷ 75 ∷ 76 ∷ 77 ∷ 78 ∷ 79 ∷ 127 ∷ 128 ∷ 129 ∷ 130 ∷ 131 ∷ 178 ∷ 179 ∷ 180 ∷ 181 ∷ 182
     ∷ 183 ∷ []
 
 they_hang : rising hangs 0 twenty_one 207 ≡ true
@@ -126,30 +87,7 @@ they_hang = refl
 hangs_at : (m : ℕ) → hangs m ≡ true → (m < 207) × (((19982 ≤ end_of (air_place m)) × (end_of (air_place m) < 24124))
     ⊎ ((19982 ≤ begin_of (air_place m)) × (begin_of (air_place m) < 24124)))
 unfolding hangs
-hangs_at m t = by_part (or_cases (nat_lt m 207 && last) (nat_lt m 207 && first) t)
-  where
-    last : Bool
-    last = nat_le 19982 (end_of (air_place m)) && nat_lt (end_of (air_place m)) 24124
-
-    first : Bool
-    first = nat_le 19982 (begin_of (air_place m)) && nat_lt (begin_of (air_place m)) 24124
-
-    by_part : ((nat_lt m 207 && last) ≡ true) ⊎ ((nat_lt m 207 && first) ≡ true)
-        → (m < 207) × (((19982 ≤ end_of (air_place m)) × (end_of (air_place m) < 24124))
-        ⊎ ((19982 ≤ begin_of (air_place m)) × (begin_of (air_place m) < 24124)))
-    by_part (inl e) =
-        let parts = and_parts (nat_lt m 207) last e in
-        let both = and_parts (nat_le 19982 (end_of (air_place m))) (nat_lt (end_of (air_place m)) 24124) parts.1 in (
-          ltb-true m 207 parts.0,
-          inl (leb-true 19982 (end_of (air_place m)) both.0, ltb-true (end_of (air_place m)) 24124 both.1),
-        )
-    by_part (inr e) =
-        let parts = and_parts (nat_lt m 207) first e in
-        let both =
-        and_parts (nat_le 19982 (begin_of (air_place m))) (nat_lt (begin_of (air_place m)) 24124) parts.1 in (
-          ltb-true m 207 parts.0,
-          inr (leb-true 19982 (begin_of (air_place m)) both.0, ltb-true (begin_of (air_place m)) 24124 both.1),
-        )
+hangs_at m t = grind (arith, or_cases, end_of, air_place, begin_of, and_parts, ltb-true, leb-true)
 
 same : (ps : List (List ℕ)) → groups_of (gapped ps) ≡ groups_of (a53 ps)
 same ps = same_groups (a53 ps) (gapped ps) (gapped_received ps).as_many
@@ -161,9 +99,7 @@ some ps l = omega (arith, (gapped_received ps).as_many, some_segments ps l)
 marked : (ps : List (List ℕ)) (y : ℕ) → 52 ≤ length ps → y < 10764
     → ((19982 ≤ end_of y) × (end_of y < 24124)) ⊎ ((19982 ≤ begin_of y) × (begin_of y < 24124))
     → is_marked (gapped ps) y ≡ true
-marked ps y l m h =
-    by_mark (marked_or_not (gapped ps) y (gapped_received ps).long (some ps l)
-    (omega (arith, m, same ps, enough_groups ps l))) h
+marked ps y l m h = by_mark (grind (arith, marked_or_not, gapped, gapped_received, some, same, enough_groups)) h
   where
     within : (i : ℕ) → i < 5 → position_of (4 * (y / 12) + i) (coder_of 0 y) < 832 * length (a53 ps)
     within i k = symbol_within (a53 ps) y i (some_segments ps l) (omega (arith, m, enough_groups ps l)) k
@@ -175,14 +111,10 @@ marked ps y l m h =
         → ((19982 ≤ end_of y) × (end_of y < 24124)) ⊎ ((19982 ≤ begin_of y) × (begin_of y < 24124))
         → is_marked (gapped ps) y ≡ true
     by_mark (inl (i, k, e, t)) h = t
-    by_mark (inr (none, t)) (inl (a, b)) =
-        absurd (never_both (is_missing (symbol_at (gapped ps) (end_of y)))
+    by_mark (inr (none, t)) (inl (a, b)) = absurd (never_both (is_missing (symbol_at (gapped ps) (end_of y)))
         (missing_inside ps (end_of y) (within 4 (omega arith)) a b) (none 4 (omega arith)))
     by_mark (inr (none, t)) (inr (a, b)) =
-        absurd (never_both (is_missing (symbol_at (gapped ps) (position_of (4 * (y / 12) + 0) (coder_of 0 y))))
-        (missing_inside ps (position_of (4 * (y / 12) + 0) (coder_of 0 y)) (within 0 (omega arith))
-        (rw (← start) a)
-        (rw (← start) b)) (none 0 (omega arith)))
+        absurd (grind (arith, never_both, gapped, position_of, missing_inside, within, start))
 
 -- 1 where byte m of the codewords is marked
 flag_at : List (List ℕ) → ℕ → ℕ
@@ -190,13 +122,14 @@ flag_at ps m = cond (is_marked (gapped ps) (air_place m)) 1 0
 
 flags : (ps : List (List ℕ)) → 52 ≤ length ps → (m : ℕ) → hangs m ≡ true → flag_at ps m ≡ 1
 unfolding flag_at
-flags ps l m t =
-    let at = hangs_at m t in
-    ap (λ (b : Bool). cond b 1 0) (marked ps (air_place m) l (omega (arith, at.0)) at.1)
+flags ps l m t = grind (arith, hangs_at, marked, air_place)
 
 many_lost : (ps : List (List ℕ)) → 52 ≤ length ps → 21 ≤ lost (marks_at (marks_in (gapped ps)) 0)
 unfolding flag_at twenty_one
 many_lost ps l =
+    let least : total (flag_at ps) 0 207 ≤ lost (marks_at (marks_in (gapped ps)) 0) =
+    subst (λ (n : ℕ). total (flag_at ps) 0 n ≤ lost (marks_at (marks_in (gapped ps)) 0))
+    (length-marks (marks_in (gapped ps)) 0) (lost_least (flag_at ps) 0 (marks_at (marks_in (gapped ps)) 0) each) in
     through (total (flag_at ps) 0 207) _ (no_fewer (flag_at ps) hangs (flags ps l) twenty_one 0 207 they_hang) least
   where
     through : (x y : ℕ) → 21 ≤ x → x ≤ y → 21 ≤ y
@@ -218,19 +151,10 @@ many_lost ps l =
 
     each : (i : ℕ) → i < length (marks_at (marks_in (gapped ps)) 0)
         → flag_at ps (0 + i) ≤ cond (get_or (marks_at (marks_in (gapped ps)) 0) i false) 1 0
-    each i m =
-        flag (get_or (marks_at (marks_in (gapped ps)) 0) i false) (is_marked (gapped ps) (air_place (0 + i)))
-        (mark_at (gapped ps) (a53 ps) 0 i alike (first_complete ps (groups_of (gapped ps)) l (same ps))
-        (subst (λ (n : ℕ). i < n) (length-marks (marks_in (gapped ps)) 0) m))
+    each i m = flag (get_or (marks_at (marks_in (gapped ps)) 0) i false) (is_marked (gapped ps) (air_place (0 + i)))
+        (grind (arith, mark_at, gapped, alike, first_complete, same, length-marks))
 
-    least : total (flag_at ps) 0 207 ≤ lost (marks_at (marks_in (gapped ps)) 0)
-    least =
-        subst (λ (n : ℕ). total (flag_at ps) 0 n ≤ lost (marks_at (marks_in (gapped ps)) 0))
-        (length-marks (marks_in (gapped ps)) 0)
-        (lost_least (flag_at ps) 0 (marks_at (marks_in (gapped ps)) 0) each)
-
-first_lost : (ps : List (List ℕ)) → 52 ≤ length ps
-    → 21 ≤ lost (marks_at (marks_in (from_sync 0 (gapped ps))) 0)
+first_lost : (ps : List (List ℕ)) → 52 ≤ length ps → 21 ≤ lost (marks_at (marks_in (from_sync 0 (gapped ps))) 0)
 unfolding to_sync from_sync
 first_lost ps l = many_lost ps l
 

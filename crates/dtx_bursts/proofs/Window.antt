@@ -1,10 +1,10 @@
 -- Where the places of a word that fail a test hang on symbols in a row, they are few.
-use Rattle.std.proofs.Common.{◌≡◌, ℕ, ◌+◌, ◌*◌, ◌<◌, ◌≤◌, ◌⊎◌, cond, inl, inr, Bool, true, false, ap, arith, refl, ◌-◌}
+use Rattle.std.proofs.Common.{◌≡◌, ℕ, ◌+◌, ◌*◌, ◌<◌, ◌≤◌, ◌⊎◌, cond, inl, inr, Bool, true, false, ap, arith, ◌-◌}
 use Rattle.std.proofs.lemmas.Bool.{cases_lt}
 use Rattle.dtx_frame.proofs.CountsLemmas.{total}
 use Rattle.dtx_outer.specs.Inner.{IsComplete}
 use Rattle.dtx_bursts.proofs.Least.{IsLeast, AllPass, least_by}
-use Rattle.dtx_bursts.proofs.Places.{AreTwenty, begin_of, end_of, apart_ten, apart_twenty}
+use Rattle.dtx_bursts.proofs.Places.{begin_of, end_of, apart_ten, apart_twenty}
 use Rattle.dtx_bursts.proofs.Spread.{air_place, IsWithin, at_most_ten, at_most_twenty, no_nearer}
 
 -- Each place of word j at which the test fails hangs on the symbols from one on, so many.
@@ -33,53 +33,24 @@ failing p m = cond (p m) 0 1
 
 window_from : (count n from j : ℕ) (p : ℕ → Bool) → AreTouched count from j p → AreApart count n j → (k : ℕ)
     → IsLeast p air_place (207 * j) 207 k → IsWithin (air_place k) n j (failing p)
-window_from count n from j p touched apart k h m l u = by_test (p m) refl (h.least m l u)
-  where
-    begins : (p k ≡ true) ⊎ ((from ≤ end_of (air_place k)) × (begin_of (air_place k) < from + count))
-        → from ≤ end_of (air_place k)
-    begins (inl t) = absurd (never_both (p k) t h.fails)
-    begins (inr (a, b)) = a
-
-    inside : (p m ≡ true) ⊎ ((from ≤ end_of (air_place m)) × (begin_of (air_place m) < from + count)) → p m ≡ false
-        → (air_place m < air_place k + n) ⊎ (air_place k + n ≤ air_place m) → air_place m < air_place k + n
-    inside t f (inl x) = x
-    inside (inl t) f (inr x) = absurd (never_both (p m) t f)
-    inside (inr (a, b)) f (inr x) =
-        absurd (omega (arith, b, begins (touched k h.from h.to), apart k m h.from h.to l u x))
-
-    by_test : (b : Bool) → p m ≡ b → (p m ≡ true) ⊎ (air_place k ≤ air_place m)
-        → (failing p m ≡ 0) ⊎ ((failing p m ≡ 1) × (air_place k ≤ air_place m) × (air_place m < air_place k + n))
-    by_test true e x = inl (ap (λ b. cond b 0 1) e)
-    by_test false e (inl t) = absurd (never_both (p m) t e)
-    by_test false e (inr x) =
-        inr (ap (λ b. cond b 0 1) e, x, inside (touched m l u) e (cases_lt (air_place m) (air_place k + n)))
+window_from count n from j p touched apart k h m l u = grind (arith, end_of, air_place, begin_of, never_both, cases_lt)
 
 -- the number of them
 by_least : (count n from j most : ℕ) (p : ℕ → Bool) → AreTouched count from j p → AreApart count n j
     → ((w : ℕ) → IsWithin w n j (failing p) → total (failing p) (207 * j) 207 ≤ most)
-    → ((k : ℕ) × IsLeast p air_place (207 * j) 207 k) ⊎ AllPass p (207 * j) 207
-    → total (failing p) (207 * j) 207 ≤ most
-by_least count n from j most p touched apart few (inl (k, h)) =
-    few (air_place k) (window_from count n from j p touched apart k h)
-by_least count n from j most p touched apart few (inr pass) =
-    few 0 (λ m l u. inl (ap (λ b. cond b 0 1) (pass m l u)))
+    → ((k : ℕ) × IsLeast p air_place (207 * j) 207 k) ⊎ AllPass p (207 * j) 207 → total (failing p) (207 * j) 207 ≤ most
+by_least count n from j most p touched apart few (inl (k, h)) = few (air_place k) (grind (arith, window_from))
+by_least count n from j most p touched apart few (inr pass) = few 0 (λ m l u. inl (ap (λ b. cond b 0 1) (pass m l u)))
 
 apart_in_ten : (j : ℕ) → AreApart 2022 522 j
 apart_in_ten j k m a b c d l = apart_ten (air_place k) (air_place m) l
 
 pub few_in_ten : (from j : ℕ) (p : ℕ → Bool) → AreTouched 2022 from j p → total (failing p) (207 * j) 207 ≤ 10
-few_in_ten from j p touched =
-    by_least 2022 522 from j 10 p touched (apart_in_ten j) (λ w. at_most_ten w j (failing p))
+few_in_ten from j p touched = by_least 2022 522 from j 10 p touched (apart_in_ten j) (λ w. at_most_ten w j (failing p))
     (least_by p air_place (207 * j) 207)
 
 apart_in_twenty : (j : ℕ) → AreApart 4141 1045 j
-apart_in_twenty j k m a b c d l =
-    apart_twenty (air_place k) (air_place m) (by_gap (cases_lt (air_place m) (air_place k + 1047)))
-  where
-    by_gap : (air_place m < air_place k + 1047) ⊎ (air_place k + 1047 ≤ air_place m)
-        → AreTwenty (air_place k) (air_place m)
-    by_gap (inl u) = inl (l, omega (arith, u))
-    by_gap (inr u) = inr (no_nearer j k m a b c d u)
+apart_in_twenty j k m a b c d l = grind (arith, apart_twenty, air_place, cases_lt, no_nearer)
 
 pub few_in_twenty : (from j : ℕ) (p : ℕ → Bool) → AreTouched 4141 from j p → total (failing p) (207 * j) 207 ≤ 20
 few_in_twenty from j p touched =

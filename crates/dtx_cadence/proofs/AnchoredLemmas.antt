@@ -8,9 +8,8 @@ use Rattle.std.proofs.lemmas.List.{get_or-append-add, get_or-take, take-append-d
 use Rattle.dtx_cadence.specs.Anchor.{has_mark, ends_lock, anchor_at, anchor_to, anchor}
 use Rattle.dtx_cadence.specs.Cadence.{IsMarked, AreAlike, AreAlikeWhereDue, HaveSameAnchors, HasMarksRound, IsInStep}
 use Rattle.dtx_cadence.specs.Cadence.{IsAnchored}
-use Rattle.dtx_cadence.proofs.NextAnchorLemmas.{anchor_to_same, anchor_take, anchor_behind}
-use Rattle.dtx_cadence.proofs.NextAnchorLemmas.{anchor_below, anchor_next, Stays, stays, stood, none_ended}
-use Rattle.dtx_cadence.proofs.NextAnchorLemmas.{anchor_is_mark}
+use Rattle.dtx_cadence.proofs.NextAnchorLemmas.{anchor_to_same, anchor_take, anchor_behind, anchor_below, anchor_next}
+use Rattle.dtx_cadence.proofs.NextAnchorLemmas.{Stays, stays, stood, none_ended, anchor_is_mark}
 
 -- ---- one packet and an anchor
 
@@ -20,57 +19,31 @@ ends_idle d i j f = ap (λ b. b && not (has_mark d i) && not (has_mark d (i - 62
 
 -- at a mark
 ends_marked : (d : List ℕ) (i j : ℕ) → has_mark d i ≡ true → ends_lock d i j ≡ false
-ends_marked d i j h =
-    ap (λ b. ((i - j) % 624 == 0) && not b && not (has_mark d (i - 624))) h
-    ∙ none ((i - j) % 624 == 0) (not (has_mark d (i - 624)))
-  where
-    none : (a b : Bool) → (a && not true && b) ≡ false
-    none true b = refl
-    none false b = refl
+ends_marked d i j h = grind arith
 
 -- 624 packets behind a mark
 ends_behind : (d : List ℕ) (i j : ℕ) → has_mark d (i - 624) ≡ true → ends_lock d i j ≡ false
-ends_behind d i j h =
-    ap (λ b. ((i - j) % 624 == 0) && not (has_mark d i) && not b) h
-    ∙ none ((i - j) % 624 == 0) (not (has_mark d i))
-  where
-    none : (a b : Bool) → (a && b && not true) ≡ false
-    none true true = refl
-    none true false = refl
-    none false b = refl
+ends_behind d i j h = grind arith
 
 -- where two marks that are due in a row are missing
 ends_missing : (d : List ℕ) (i j : ℕ) → (i - j) % 624 ≡ 0 → has_mark d i ≡ false → has_mark d (i - 624) ≡ false
     → ends_lock d i j ≡ true
-ends_missing d i j e h g =
-    ap (λ b. b && not (has_mark d i) && not (has_mark d (i - 624))) (eq-eqb ((i - j) % 624) 0 e)
-    ∙ ap₂ (λ x y. not x && not y) h g
+ends_missing d i j e h g = grind (arith, eq-eqb)
 
 -- ---- marks where none is due
 
 due_same : (xs ys : List ℕ) (i j : ℕ) → j < i → i < length xs → (b : Bool) → ((i - j) % 624 == 0) ≡ b
     → has_mark xs (i - 624) ≡ has_mark ys (i - 624) ⊎ b ≡ false
     → AreAlikeWhereDue xs ys j → ends_lock xs i j ≡ ends_lock ys i j
-due_same xs ys i j l k true e (inl g) h =
-    ap₂ (λ x y. ((i - j) % 624 == 0) && not x && not y) (h i l k (eqb-true ((i - j) % 624) 0 e)) g
+due_same xs ys i j l k true e (inl g) h = grind (arith, eqb-true)
 due_same xs ys i j l k true e (inr g) h = cc
-due_same xs ys i j l k false e g h =
-    ap (λ b. b && not (has_mark xs i) && not (has_mark xs (i - 624))) e
-    ∙ sym (ap (λ b. b && not (has_mark ys i) && not (has_mark ys (i - 624))) e)
+due_same xs ys i j l k false e g h = grind arith
 
 -- also of the packet 624 before it, at the anchor itself and behind it
 before_same : (xs ys : List ℕ) (i j : ℕ) → j < i → i < length xs → (b : Bool) → ((i - j) % 624 == 0) ≡ b
-    → AreAlike xs ys (j + 1) → AreAlikeWhereDue xs ys j
-    → has_mark xs (i - 624) ≡ has_mark ys (i - 624) ⊎ b ≡ false
+    → AreAlike xs ys (j + 1) → AreAlikeWhereDue xs ys j → has_mark xs (i - 624) ≡ has_mark ys (i - 624) ⊎ b ≡ false
 before_same xs ys i j l k false e f h = inr refl
-before_same xs ys i j l k true e f h = inl (by_place (cases_lt j (i - 624)))
-  where
-    due : (i - j) % 624 ≡ 0
-    due = eqb-true ((i - j) % 624) 0 e
-
-    by_place : (j < i - 624) ⊎ (i - 624 ≤ j) → has_mark xs (i - 624) ≡ has_mark ys (i - 624)
-    by_place (inl g) = h (i - 624) g (omega (arith, k)) (omega (arith, due, g))
-    by_place (inr g) = f (i - 624) (omega (arith, g))
+before_same xs ys i j l k true e f h = grind (arith, cases_lt, eqb-true)
 
 pub stray_marks : (xs ys : List ℕ) (j : ℕ) → length xs ≡ length ys → anchor xs ≡ Some j → AreAlike xs ys (j + 1)
     → AreAlikeWhereDue xs ys j → HaveSameAnchors xs ys
@@ -82,9 +55,7 @@ stray_marks xs ys j e h f g = λ n l.
     below = anchor_below xs j h
 
     first : anchor_to xs (j + 1) ≡ Some j
-    first =
-        let k : j + 1 + (length xs - (j + 1)) ≡ length xs = omega (arith, below) in
-        stood xs j (j + 1) (length xs - (j + 1)) (omega arith) (ap (anchor_to xs) k ∙ h)
+    first = stood xs j (j + 1) (length xs - (j + 1)) (omega arith) (ap (anchor_to xs) (omega (arith, below)) ∙ h)
 
     other : anchor_to ys (j + 1) ≡ Some j
     other = sym (anchor_to_same xs ys (j + 1) f) ∙ first
@@ -95,18 +66,14 @@ stray_marks xs ys j e h f g = λ n l.
         none_ended xs j (j + 1) (length xs - (j + 1)) (omega arith) (ap (anchor_to xs) k ∙ h) i a (omega (arith, b, k))
 
     same : (i : ℕ) → j + 1 ≤ i → i < length xs → ends_lock xs i j ≡ ends_lock ys i j
-    same i a b =
-        due_same xs ys i j (omega (arith, a)) b ((i - j) % 624 == 0) refl
-        (before_same xs ys i j (omega (arith, a)) b ((i - j) % 624 == 0) refl f g) g
+    same i a b = grind (arith, due_same, before_same)
 
     by_place : (n : ℕ) → n ≤ length xs → (j < n) ⊎ (n ≤ j) → anchor_to xs n ≡ anchor_to ys n
     by_place n l (inr k) = anchor_to_same xs ys n (λ i a. f i (omega (arith, a, k)))
     by_place n l (inl k) =
         let u : n ≡ j + 1 + (n - (j + 1)) = omega (arith, k) in
-        ap (anchor_to xs) u
-        ∙ stays xs j (j + 1) (n - (j + 1)) first (λ i a b. kept i a (omega (arith, b, l, u)))
-        ∙ sym (ap (anchor_to ys) u
-        ∙ stays ys j (j + 1) (n - (j + 1)) other
+        ap (anchor_to xs) u ∙ stays xs j (j + 1) (n - (j + 1)) first (λ i a b. kept i a (omega (arith, b, l, u)))
+        ∙ sym (ap (anchor_to ys) u ∙ stays ys j (j + 1) (n - (j + 1)) other
         (λ i a b. sym (same i a (omega (arith, b, l, u))) ∙ kept i a (omega (arith, b, l, u))))
 
 -- ---- one missing mark
@@ -115,47 +82,26 @@ mark_other : (d : List ℕ) (i s k : ℕ) → k ≢ i → has_mark (set d i s) k
 mark_other d i s k f = ap (λ x. x == 0xB8) (get_or-set_other d i k s 0 f)
 
 same_or : (a b : ℕ) → (a ≡ b) ⊎ (a ≢ b)
-same_or a b = by_test (a == b) refl
-  where
-    by_test : (t : Bool) → (a == b) ≡ t → (a ≡ b) ⊎ (a ≢ b)
-    by_test true e = inl (eqb-true a b e)
-    by_test false e = inr (eqb-false a b e)
+same_or a b = grind (arith, eqb-true, eqb-false)
 
 -- behind the packet nothing else than its next due mark sees it
 ends_other : (d : List ℕ) (i s k j : ℕ) → 0 < i → i < k → k < length d
     → (i + 624 < length d → has_mark d (i + 624) ≡ true) → ends_lock d k j ≡ ends_lock (set d i s) k j
-ends_other d i s k j p l b h = by_place (same_or (k - 624) i)
-  where
-    own : has_mark d k ≡ has_mark (set d i s) k
-    own = sym (mark_other d i s k (λ e. omega (arith, e, l)))
-
-    by_place : (k - 624 ≡ i) ⊎ (k - 624 ≢ i) → ends_lock d k j ≡ ends_lock (set d i s) k j
-    by_place (inl e) =
-        let u : i + 624 ≡ k = omega (arith, e, p) in
-        let m : has_mark d k ≡ true = ap (has_mark d) (sym u) ∙ h (omega (arith, u, b)) in
-        ends_marked d k j m ∙ sym (ends_marked (set d i s) k j (sym own ∙ m))
-    by_place (inr f) =
-        ap₂ (λ x y. ((k - j) % 624 == 0) && not x && not y) own (sym (mark_other d i s (k - 624) f))
+ends_other d i s k j p l b h = grind (arith, same_or, mark_other, ends_marked)
 
 at_other : (d : List ℕ) (i s k : ℕ) (o : Option ℕ) → 0 < i → i < k → k < length d
     → (i + 624 < length d → has_mark d (i + 624) ≡ true) → anchor_at d k o ≡ anchor_at (set d i s) k o
-at_other d i s k None p l b h =
-    ap (λ t. cond t (Some k) None) (sym (mark_other d i s k (λ e. omega (arith, e, l))))
+at_other d i s k None p l b h = ap (λ t. cond t (Some k) None) (sym (mark_other d i s k (λ e. omega (arith, e, l))))
 at_other d i s k (Some j) p l b h = ap (λ t. cond t None (Some j)) (ends_other d i s k j p l b h)
 
 -- up to the packet and one further
 front_set : (d : List ℕ) (i s n : ℕ) → n ≤ i → anchor_to d n ≡ anchor_to (set d i s) n
-front_set d i s n l =
-    anchor_to_same d (set d i s) n (λ k a. sym (mark_other d i s k (λ e. omega (arith, e, a, l))))
+front_set d i s n l = anchor_to_same d (set d i s) n (λ k a. sym (mark_other d i s k (λ e. omega (arith, e, a, l))))
 
 set_one : (d : List ℕ) (i j s : ℕ) → anchor_to d i ≡ Some j → 0 < i → has_mark d (i - 624) ≡ true
     → anchor_to d (suc i) ≡ anchor_to (set d i s) (suc i)
 unfolding anchor_to
-set_one d i j s h p m =
-    ap (anchor_at d i) h ∙ ap (λ b. cond b None (Some j)) (ends_behind d i j m)
-    ∙ sym (ap (anchor_at (set d i s) i) (sym (front_set d i s i (omega arith)) ∙ h)
-    ∙ ap (λ b. cond b None (Some j)) (ends_behind (set d i s) i j
-    (mark_other d i s (i - 624) (λ e. omega (arith, e, p)) ∙ m)))
+set_one d i j s h p m = grind (arith, ends_behind, front_set, mark_other)
 
 set_more : (d : List ℕ) (i j s m : ℕ) → anchor_to d i ≡ Some j → 0 < i → HasMarksRound d i → i + m < length d
     → anchor_to d (suc i + m) ≡ anchor_to (set d i s) (suc i + m)
@@ -179,25 +125,20 @@ missing_mark d i j s h l r = λ n b.
     before = sym (anchor_take d i (omega (arith, l))) ∙ h
 
     some : 0 < i
-    some = let a : j < length (take i d) = anchor_below (take i d) j h in
-        omega (arith, a, length-take-le i d (omega (arith, l)))
+    some = grind (arith, anchor_below, length-take-le)
 
     by_place : (n : ℕ) → n ≤ length d → (i < n) ⊎ (n ≤ i) → anchor_to d n ≡ anchor_to (set d i s) n
     by_place n b (inr k) = front_set d i s n k
     by_place n b (inl k) =
-        let u : n ≡ suc i + (n - suc i) = omega (arith, k) in
-        ap (anchor_to d) u ∙ set_more d i j s (n - suc i) before some r (omega (arith, u, b))
-        ∙ ap (anchor_to (set d i s)) (sym u)
+        ap (anchor_to d) (omega (arith, k)) ∙ set_more d i j s (n - suc i) before some r (omega (arith, b))
+        ∙ ap (anchor_to (set d i s)) (sym (omega (arith, k)))
 
 -- ---- two missing marks
 
 pub two_missing : (d : List ℕ) (s j : ℕ) → anchor d ≡ Some j → (length d - j) % 624 ≡ 0 → (s == 0xB8) ≡ false
     → has_mark d (length d - 624) ≡ false → anchor (d ++ s ∷ []) ≡ None
 two_missing d s j h e m g =
-    anchor_next d s j h
-    ∙ ap (λ b. cond (b && not (s == 0xB8) && not (has_mark d (length d - 624))) None (Some j))
-    (eq-eqb ((length d - j) % 624) 0 e)
-    ∙ ap₂ (λ x y. cond (not x && not y) None (Some j)) m g
+    rw (anchor_next d s j h, eq-eqb ((length d - j) % 624) 0 e, ap₂ (λ x y. cond (not x && not y) None (Some j)) m g)
 
 -- ---- a feed from one of its marks on
 
@@ -217,22 +158,15 @@ stays_in_step d s j n m c l e a b = λ i f g. by_due i f g ((i - j) % 624 == 0) 
     by_due i f g true u =
         let due : (i - j) % 624 ≡ 0 = eqb-true ((i - j) % 624) 0 u in
         let p : length d + (i - length d) ≡ i = omega (arith, a, f) in
-        let z : (i - length d) % 624 ≡ 0 = in_step i (length d) j l (omega (arith, a, f)) e due in
-        ends_marked (d ++ s) i j
-        (ap (has_mark (d ++ s)) (sym p) ∙ mark_behind d s (i - length d)
-        ∙ c (i - length d) (omega (arith, g, b, a, f)) ∙ eq-eqb ((i - length d) % 624) 0 z)
+        ends_marked (d ++ s) i j (grind (arith, mark_behind, eq-eqb))
 
 held : (d s : List ℕ) (j n : ℕ) → IsMarked s → j ≤ length d → (length d - j) % 624 ≡ 0 → length d ≤ n
-    → n ≤ length d + 1 → anchor_to (d ++ s) n ≡ Some j → (m : ℕ) → m < length s
-    → anchor (d ++ take (m + 1) s) ≡ Some j
+    → n ≤ length d + 1 → anchor_to (d ++ s) n ≡ Some j → (m : ℕ) → m < length s → anchor (d ++ take (m + 1) s) ≡ Some j
 held d s j n c l e a b h m k =
-    let u : length (d ++ take (m + 1) s) ≡ length d + (m + 1) =
-    length-append d (take (m + 1) s) ∙ ap (λ x. length d + x) (length-take-le (m + 1) s (omega (arith, k))) in
+    let u : length (d ++ take (m + 1) s) ≡ length d + (m + 1) = grind (arith, length-append, length-take-le) in
     let v : length d + (m + 1) ≡ n + (length d + (m + 1) - n) = omega (arith, b) in
-    let whole : d ++ s ≡ (d ++ take (m + 1) s) ++ drop (m + 1) s =
-    ap (λ x. d ++ x) (sym (take-append-drop (m + 1) s)) ∙ sym (append_assoc d (take (m + 1) s) (drop (m + 1) s)) in
-    sym (anchor_behind (d ++ take (m + 1) s) (drop (m + 1) s))
-    ∙ ap₂ anchor_to (sym whole) (u ∙ v)
+    let whole : d ++ s ≡ (d ++ take (m + 1) s) ++ drop (m + 1) s = grind (arith, take-append-drop, append_assoc) in
+    sym (anchor_behind (d ++ take (m + 1) s) (drop (m + 1) s)) ∙ ap₂ anchor_to (sym whole) (u ∙ v)
     ∙ stays (d ++ s) j n (length d + (m + 1) - n) h
     (stays_in_step d s j n (length d + (m + 1) - n) c l e a (omega (arith, v, k)))
 
@@ -242,9 +176,7 @@ unfolding anchor_to
 anchored d s c l f = by_anchor (anchor d) refl
   where
     mark : has_mark (d ++ s) (length d) ≡ true
-    mark =
-        let z : length d ≡ length d + 0 = omega arith in
-        ap (has_mark (d ++ s)) z ∙ mark_behind d s 0 ∙ c 0 l
+    mark = ap (has_mark (d ++ s)) (omega arith) ∙ mark_behind d s 0 ∙ c 0 l
 
     by_anchor : (o : Option ℕ) → anchor d ≡ o → IsAnchored d s 0
     by_anchor None h = record {
@@ -252,17 +184,15 @@ anchored d s c l f = by_anchor (anchor d) refl
       within = omega arith;
       steps = omega arith;
       holds = λ m a b. held d s (length d) (suc (length d)) c (omega arith) (omega arith) (omega arith) (omega arith)
-          (ap (anchor_at (d ++ s) (length d)) (anchor_behind d s ∙ h)
-          ∙ ap (λ t. cond t (Some (length d)) None) mark) m b;
+          (ap (anchor_at (d ++ s) (length d)) (anchor_behind d s ∙ h) ∙ ap (λ t. cond t (Some (length d)) None) mark) m b;
     }
     by_anchor (Some j) h =
         let k : j < length d = anchor_below d j h in
-        let e : (length d - j) % 624 ≡ 0 = f j h in
         record {
           place = j;
           within = omega (arith, k);
-          steps = let z : length d + 0 - j ≡ length d - j = omega arith in ap (λ (n : ℕ). n % 624) z ∙ e;
-          holds = λ m a b. held d s j (length d) c (omega (arith, k)) e (omega arith) (omega arith)
+          steps = let z : length d + 0 - j ≡ length d - j = omega arith in ap (λ (n : ℕ). n % 624) z ∙ (f j h);
+          holds = λ m a b. held d s j (length d) c (omega (arith, k)) (f j h) (omega arith) (omega arith)
               (anchor_behind d s ∙ h) m b;
         }
 
@@ -285,8 +215,7 @@ out_of_step d s j c l h = by_place (cases_lt j (length d))
     own : length d ≤ j → (length d + 1248 - j) % 624 ≡ 0
     own k =
         let p : j ≡ length d + (j - length d) = omega (arith, k) in
-        let z : ((j - length d) % 624 == 0) ≡ true =
-        sym (c (j - length d) (omega (arith, below, l, k))) ∙ sym (mark_behind d s (j - length d))
+        let z : ((j - length d) % 624 == 0) ≡ true = sym (grind (arith, below)) ∙ sym (mark_behind d s (j - length d))
         ∙ ap (has_mark (d ++ s)) (sym p) ∙ anchor_is_mark (d ++ s) (length (d ++ s)) j h in
         let m : (j - length d) % 624 ≡ 0 = eqb-true ((j - length d) % 624) 0 z in
         rest (length d) j k below m
@@ -315,10 +244,7 @@ out_of_step d s j c l h = by_place (cases_lt j (length d))
         let kept : ends_lock (d ++ s) (length d + (1248 - (length d - j) % 624)) j ≡ false =
         none_ended (d ++ s) j (length d) (length (d ++ s) - length d) k (ap (anchor_to (d ++ s)) v ∙ h)
         (length d + (1248 - (length d - j) % 624)) (omega arith) (omega (arith, size, r0)) in
-        true≢false (sym (ends_missing (d ++ s) (length d + (1248 - (length d - j) % 624)) j due
-        (no_mark (1248 - (length d - j) % 624) (omega (arith, r0)) (λ z. omega (arith, z, r0)))
-        (ap (has_mark (d ++ s)) back
-        ∙ no_mark (624 - (length d - j) % 624) (omega (arith, r0)) (λ z. omega (arith, z, r0)))) ∙ kept)
+        true≢false (sym (grind (arith, ends_missing, no_mark)) ∙ kept)
 
     -- an older one, whose next two due marks would be missing
     old : j < length d → (t : Bool) → ((length d - j) % 624 == 0) ≡ t → (length d + 1248 - j) % 624 ≡ 0
@@ -330,14 +256,11 @@ out_of_step d s j c l h = by_place (cases_lt j (length d))
     by_place (inr k) = own k
 
 marked_front : (s : List ℕ) (n : ℕ) → IsMarked s → n ≤ length s → IsMarked (take n s)
-marked_front s n c l = λ i h.
-    let k : i < n = omega (arith, h, length-take-le n s l) in
-    ap (λ x. x == 0xB8) (get_or-take n s i 0 k) ∙ c i (omega (arith, k, l))
+marked_front s n c l = grind (arith, length-take-le, get_or-take)
 
 -- so there is none then, or one in step
 pub in_step_at_third : (d s : List ℕ) → IsMarked s → 1248 ≤ length s → IsInStep (d ++ take 1248 s)
 in_step_at_third d s c l = λ j h.
     let long : length (take 1248 s) ≡ 1248 = length-take-le 1248 s l in
-    let size : length (d ++ take 1248 s) ≡ length d + 1248 =
-    length-append d (take 1248 s) ∙ ap (λ x. length d + x) long in
+    let size : length (d ++ take 1248 s) ≡ length d + 1248 = grind (arith, length-append) in
     ap (λ (n : ℕ). (n - j) % 624) size ∙ out_of_step d (take 1248 s) j (marked_front s 1248 c l) long h

@@ -1,7 +1,6 @@
 -- The anchor, one sync byte further: it stays or is lost, or there is a new one.
 use Rattle.std.proofs.Common.{◌≡◌, ℕ, zero, suc, ◌+◌, ◌-◌, ◌%◌, ◌<◌, ◌≤◌, ◌==◌, Bool, true, false, ◌&&◌, not, cond}
-use Rattle.std.proofs.Common.{Option, Some, None, List, [], ◌∷◌, ◌++◌, length, take, refl, sym, ap, ap₂, ◌∙◌}
-use Rattle.std.proofs.Common.{arith}
+use Rattle.std.proofs.Common.{Option, Some, None, List, [], ◌∷◌, ◌++◌, length, take, refl, sym, ap, ap₂, ◌∙◌, arith}
 use Rattle.std.proofs.lemmas.List.{length_push, length-take-le, get_or_append_left, get_or_push, get_or-take}
 use Rattle.dtx_cadence.specs.Anchor.{has_mark, ends_lock, anchor_at, anchor_to, anchor}
 use Rattle.dtx_cadence.specs.Cadence.{AreAlike}
@@ -9,19 +8,16 @@ use Rattle.dtx_cadence.specs.Cadence.{AreAlike}
 -- ---- the anchor behind the first packets is that of those alone
 
 ends_same : (xs ys : List ℕ) (n i j : ℕ) → AreAlike xs ys n → i < n → ends_lock xs i j ≡ ends_lock ys i j
-ends_same xs ys n i j h l =
-    ap₂ (λ x y. ((i - j) % 624 == 0) && not x && not y) (h i l) (h (i - 624) (omega (arith, l)))
+ends_same xs ys n i j h l = ap₂ (λ x y. ((i - j) % 624 == 0) && not x && not y) (h i l) (h (i - 624) (omega (arith, l)))
 
-at_same : (xs ys : List ℕ) (n i : ℕ) (o : Option ℕ) → AreAlike xs ys n → i < n
-    → anchor_at xs i o ≡ anchor_at ys i o
+at_same : (xs ys : List ℕ) (n i : ℕ) (o : Option ℕ) → AreAlike xs ys n → i < n → anchor_at xs i o ≡ anchor_at ys i o
 at_same xs ys n i None h l = ap (λ b. cond b (Some i) None) (h i l)
 at_same xs ys n i (Some j) h l = ap (λ b. cond b None (Some j)) (ends_same xs ys n i j h l)
 
 pub anchor_to_same : (xs ys : List ℕ) (n : ℕ) → AreAlike xs ys n → anchor_to xs n ≡ anchor_to ys n
 unfolding anchor_to
 anchor_to_same xs ys zero h = refl
-anchor_to_same xs ys (suc n) h =
-    at_same xs ys (suc n) n (anchor_to xs n) h (omega arith)
+anchor_to_same xs ys (suc n) h = at_same xs ys (suc n) n (anchor_to xs n) h (omega arith)
     ∙ ap (anchor_at ys n) (anchor_to_same xs ys n (λ i l. h i (omega (arith, l))))
 
 pub front_alike : (d e : List ℕ) (n : ℕ) → n ≤ length d → AreAlike (d ++ e) d n
@@ -32,9 +28,7 @@ anchor_to_front d e n l = anchor_to_same (d ++ e) d n (front_alike d e n l)
 
 pub anchor_take : (d : List ℕ) (n : ℕ) → n ≤ length d → anchor (take n d) ≡ anchor_to d n
 unfolding anchor
-anchor_take d n l =
-    ap (anchor_to (take n d)) (length-take-le n d l)
-    ∙ anchor_to_same (take n d) d n (λ i h. ap (λ x. x == 0xB8) (get_or-take n d i 0 h))
+anchor_take d n l = grind (arith, length-take-le, anchor_to_same, get_or-take)
 
 -- behind more packets
 pub anchor_behind : (d e : List ℕ) → anchor_to (d ++ e) (length d) ≡ anchor d
@@ -45,12 +39,7 @@ anchor_behind d e = anchor_to_front d e (length d) (omega arith)
 
 pub anchor_push : (d : List ℕ) (s : ℕ) → anchor (d ++ s ∷ []) ≡ anchor_at (d ++ s ∷ []) (length d) (anchor d)
 unfolding anchor anchor_to
-anchor_push d s =
-    ap (anchor_to (d ++ s ∷ [])) (length_push d s ∙ one (length d))
-    ∙ ap (anchor_at (d ++ s ∷ []) (length d)) (anchor_behind d (s ∷ []))
-  where
-    one : (n : ℕ) → n + 1 ≡ suc n
-    one n = omega arith
+anchor_push d s = grind (arith, length_push, anchor_behind)
 
 -- a new anchor at this packet, where it is a mark
 abbrev pub new_anchor : List ℕ → ℕ → Option ℕ
@@ -64,9 +53,7 @@ pub mark_push : (d : List ℕ) (s : ℕ) → has_mark (d ++ s ∷ []) (length d)
 mark_push d s = ap (λ x. x == 0xB8) (get_or_push d s 0 (length d) refl)
 
 pub anchor_free : (d : List ℕ) (s : ℕ) → anchor d ≡ None → anchor (d ++ s ∷ []) ≡ new_anchor d s
-anchor_free d s h =
-    anchor_push d s ∙ ap (anchor_at (d ++ s ∷ []) (length d)) h
-    ∙ ap (λ b. cond b (Some (length d)) None) (mark_push d s)
+anchor_free d s h = grind (arith, anchor_push, mark_push)
 
 -- ---- an anchor is a mark among the packets
 
@@ -94,11 +81,7 @@ anchor_below d j h = anchor_to_below d (length d) j h
 -- where there is an anchor, it stays or is lost
 pub anchor_next : (d : List ℕ) (s j : ℕ) → anchor d ≡ Some j
     → anchor (d ++ s ∷ []) ≡ cond (ends_with d s j) None (Some j)
-anchor_next d s j h =
-    let l : j < length d = anchor_below d j h in
-    anchor_push d s ∙ ap (anchor_at (d ++ s ∷ []) (length d)) h
-    ∙ ap₂ (λ x y. cond (((length d - j) % 624 == 0) && not x && not y) None (Some j)) (mark_push d s)
-    (front_alike d (s ∷ []) (length d) (omega arith) (length d - 624) (omega (arith, l)))
+anchor_next d s j h = grind (arith, anchor_below, anchor_push, mark_push, front_alike)
 
 -- ---- an anchor stays where no packet takes it away
 
@@ -140,13 +123,12 @@ stood d j n (suc m) l h =
 pub none_ended : (d : List ℕ) (j n m : ℕ) → j < n → anchor_to d (n + m) ≡ Some j → Stays d j n m
 unfolding anchor_to
 none_ended d j n m l h = λ i f g.
-    let e : suc i + (n + m - suc i) ≡ n + m = omega (arith, g) in
-    let k : n + (i - n) ≡ i = omega (arith, f) in
+    let e : suc i + (n + m - suc i) ≡ n + m = omega arith in
+    let k : n + (i - n) ≡ i = omega arith in
     let b : n + (n + m - n) ≡ n + m = omega arith in
-    let now : anchor_to d (suc i) ≡ Some j = stood d j (suc i) (n + m - suc i) (omega (arith, l, f)) (ap (anchor_to d) e
-    ∙ h) in
-    let u : i + (n + m - i) ≡ n + m = omega (arith, g) in
-    let before : anchor_to d i ≡ Some j = stood d j i (n + m - i) (omega (arith, l, f)) (ap (anchor_to d) u ∙ h) in
+    let now : anchor_to d (suc i) ≡ Some j = stood d j (suc i) (n + m - suc i) (omega arith) (ap (anchor_to d) e ∙ h) in
+    let u : i + (n + m - i) ≡ n + m = omega arith in
+    let before : anchor_to d i ≡ Some j = stood d j i (n + m - i) (omega arith) (ap (anchor_to d) u ∙ h) in
     by_test (ends_lock d i j) (sym (ap (anchor_at d i) before) ∙ now)
   where
     by_test : (b : Bool) → cond b None (Some j) ≡ Some j → b ≡ false

@@ -1,6 +1,6 @@
 -- What an anchor keeps and answers, one sync byte further.
-use Rattle.std.proofs.Common.{◌≡◌, ℕ, ◌+◌, ◌-◌, ◌%◌, ◌<◌, ◌==◌, Bool, true, false, ◌&&◌, not, cond, Option}
-use Rattle.std.proofs.Common.{Some, None, option_map, List, [], ◌∷◌, ◌++◌, length, refl, sym, ap, ap₂, ◌∙◌, arith}
+use Rattle.std.proofs.Common.{◌≡◌, ℕ, ◌+◌, ◌-◌, ◌%◌, ◌<◌, ◌==◌, Bool, true, false, not, cond, Option, Some, None}
+use Rattle.std.proofs.Common.{option_map, List, [], ◌∷◌, ◌++◌, length, refl, sym, ap, ◌∙◌, arith}
 use Rattle.std.proofs.lemmas.Bool.{eqb-true, eqb-false}
 use Rattle.std.proofs.lemmas.List.{length_push}
 use Rattle.dtx_cadence.specs.declared.anchor.Lock.{Lock}
@@ -26,9 +26,7 @@ due_new n = omega arith
 
 kept_new : (d : List ℕ) (s : ℕ) (b : Bool) → (s == 0xB8) ≡ b
     → cond b (Some first_lock) None ≡ kept_of (d ++ s ∷ []) (length d + 1) (cond b (Some (length d)) None)
-kept_new d s true e =
-    ap₂ (λ (p : ℕ) (m : Bool). Some (record { place = p; missed = m })) (place_new (length d))
-    (sym (ap (λ k. not (has_mark (d ++ s ∷ []) k)) (due_new (length d)) ∙ ap not (mark_push d s ∙ e)))
+kept_new d s true e = grind (arith, place_new, due_new, mark_push)
 kept_new d s false e = refl
 
 -- behind a packet with which the anchor stays
@@ -37,52 +35,19 @@ place_more n j l = omega arith
 
 missed_due : (d : List ℕ) (s j : ℕ) → j < length d → (length d - j) % 624 ≡ 0
     → not (s == 0xB8) ≡ is_missed (d ++ s ∷ []) (length d + 1) j
-missed_due d s j l e =
-    let k : length d + 1 - 1 - (length d + 1 - 1 - j) % 624 ≡ length d = omega (arith, l, e) in
-    sym (ap (λ i. not (has_mark (d ++ s ∷ []) i)) k ∙ ap not (mark_push d s))
+missed_due d s j l e = sym (ap (λ i. not (has_mark (d ++ s ∷ []) i)) (omega (arith, l, e)) ∙ ap not (mark_push d s))
 
 missed_on : (d : List ℕ) (s j : ℕ) (f : (length d - j) % 624 ≡ 0 → ⊥) → j < length d
     → is_missed d (length d) j ≡ is_missed (d ++ s ∷ []) (length d + 1) j
-missed_on d s j f l =
-    let p : 0 < (length d - j) % 624 = above ((length d - j) % 624) f in
-    let k : length d - 1 - (length d - 1 - j) % 624 ≡ length d + 1 - 1 - (length d + 1 - 1 - j) % 624 =
-    same (length d) j l p in
-    ap not (sym (front_alike d (s ∷ []) (length d) (omega arith) (length d - 1 - (length d - 1 - j) % 624)
-    (omega (arith, l)))
-    ∙ ap (has_mark (d ++ s ∷ [])) k)
-  where
-    above : (n : ℕ) → (n ≡ 0 → ⊥) → 0 < n
-    above n g = omega (arith, g)
-
-    same : (n j : ℕ) → j < n → 0 < (n - j) % 624 → n - 1 - (n - 1 - j) % 624 ≡ n + 1 - 1 - (n + 1 - 1 - j) % 624
-    same n j l p = omega arith
+missed_on d s j f l = grind (arith, front_alike)
 
 moved : (d : List ℕ) (s j : ℕ) → j < length d
     → moved_on (under d (length d) j) (s == 0xB8) ≡ under (d ++ s ∷ []) (length d + 1) j
-moved d s j l =
-    ap₂ (λ (p : ℕ) (m : Bool). record { place = p; missed = m }) (place_more (length d) j l)
-    (by_test ((length d - j) % 624 == 0) refl)
-  where
-    by_test : (b : Bool) → ((length d - j) % 624 == 0) ≡ b
-        → cond b (not (s == 0xB8)) (is_missed d (length d) j) ≡ is_missed (d ++ s ∷ []) (length d + 1) j
-    by_test true e = missed_due d s j l (eqb-true ((length d - j) % 624) 0 e)
-    by_test false e = missed_on d s j (eqb-false ((length d - j) % 624) 0 e) l
+moved d s j l = grind (arith, place_more, missed_due, eqb-true, missed_on, eqb-false)
 
 -- the packet takes the anchor away where the lock says so
 lost_same : (d : List ℕ) (s j : ℕ) → j < length d → is_lost (under d (length d) j) (s == 0xB8) ≡ ends_with d s j
-lost_same d s j l = by_test ((length d - j) % 624 == 0) refl
-  where
-    due : (n j : ℕ) → j < n → (n - j) % 624 ≡ 0 → n - 1 - (n - 1 - j) % 624 ≡ n - 624
-    due n j l z = omega arith
-
-    by_test : (b : Bool) → ((length d - j) % 624 == 0) ≡ b
-        → (b && not (s == 0xB8) && is_missed d (length d) j)
-        ≡ (b && not (s == 0xB8) && not (has_mark d (length d - 624)))
-    by_test true e =
-        let z : (length d - j) % 624 ≡ 0 = eqb-true ((length d - j) % 624) 0 e in
-        let k : length d - 1 - (length d - 1 - j) % 624 ≡ length d - 624 = due (length d) j l z in
-        ap (λ i. not (s == 0xB8) && not (has_mark d i)) k
-    by_test false e = refl
+lost_same d s j l = grind (arith, eqb-true)
 
 kept_stays : (d : List ℕ) (s j : ℕ) (b : Bool) → j < length d
     → cond b None (Some (moved_on (under d (length d) j) (s == 0xB8)))
@@ -92,20 +57,15 @@ kept_stays d s j false l = ap Some (moved d s j l)
 
 kept_by_anchor : (d : List ℕ) (s : ℕ) (o : Option ℕ) → anchor d ≡ o
     → kept_after (kept_of d (length d) o) s ≡ kept_of (d ++ s ∷ []) (length d + 1) (anchor (d ++ s ∷ []))
-kept_by_anchor d s None h =
-    kept_new d s (s == 0xB8) refl ∙ ap (kept_of (d ++ s ∷ []) (length d + 1)) (sym (anchor_free d s h))
-kept_by_anchor d s (Some j) h =
-    let l : j < length d = anchor_below d j h in
-    ap (λ b. cond b None (Some (moved_on (under d (length d) j) (s == 0xB8)))) (lost_same d s j l)
-    ∙ kept_stays d s j (ends_with d s j) l
+kept_by_anchor d s None h = grind (arith, kept_new, anchor_free)
+kept_by_anchor d s (Some j) h = ap (λ b. cond b None (Some (moved_on (under d (length d) j) (s == 0xB8))))
+    (lost_same d s j (anchor_below d j h)) ∙ kept_stays d s j (ends_with d s j) (anchor_below d j h)
     ∙ ap (kept_of (d ++ s ∷ []) (length d + 1)) (sym (anchor_next d s j h))
 
 pub stands_next : (kept : Option Lock) (d : List ℕ) (s : ℕ) → StandsFor kept d
     → StandsFor (kept_after kept s) (d ++ s ∷ [])
 unfolding lock
-stands_next kept d s h =
-    ap (λ o. kept_after o s) h ∙ kept_by_anchor d s (anchor d) refl
-    ∙ ap (λ n. kept_of (d ++ s ∷ []) n (anchor (d ++ s ∷ []))) (sym (length_push d s))
+stands_next kept d s h = rw (h, kept_by_anchor d s (anchor d) refl, ← length_push d s)
 
 -- ---- the answer
 
@@ -120,11 +80,7 @@ seen_stays n j false = refl
 seen_by_anchor : (d : List ℕ) (s : ℕ) (o : Option ℕ) → anchor d ≡ o
     → answer (kept_of d (length d) o) s ≡ seen_by (length d) o (anchor (d ++ s ∷ []))
 seen_by_anchor d s None h = seen_new (length d) (s == 0xB8) ∙ ap (seen_by (length d) None) (sym (anchor_free d s h))
-seen_by_anchor d s (Some j) h =
-    let l : j < length d = anchor_below d j h in
-    ap (λ b. cond b Lost (At ((length d - j) % 624))) (lost_same d s j l)
-    ∙ seen_stays (length d) j (ends_with d s j)
-    ∙ ap (seen_by (length d) (Some j)) (sym (anchor_next d s j h))
+seen_by_anchor d s (Some j) h = grind (arith, anchor_below, lost_same, seen_stays, ends_with, anchor_next)
 
 pub seen_next : (kept : Option Lock) (d : List ℕ) (s : ℕ) → StandsFor kept d → answer kept s ≡ seen d s
 unfolding lock seen

@@ -6,12 +6,11 @@ use Rattle.std.proofs.lemmas.List.{append-nil, length-append, length-drop, get_o
 use Rattle.std.proofs.lemmas.Simd.{map-map}
 use Rattle.std.proofs.lemmas.List.FromFn.{length-map-range_with_len}
 use Rattle.dtx_outer.specs.Inner.{IsComplete}
-use Rattle.dtx_slice.specs.Slicing.{sliced_data}
-use Rattle.dtx_slice.specs.Unrolled.{level_groups, byte_back, bytes_back}
+use Rattle.dtx_slice.specs.Unrolled.{level_groups, bytes_back}
 use Rattle.dtx_coder.specs.Stream.{a53}
 use Rattle.dtx_coder.proofs.CountsLemmas.{length-a53}
-use Rattle.dtx_receiver.specs.Bytes.{data_count, data_at, groups_of, levels_from, levels_in, first_bits, bytes_in}
-use Rattle.dtx_receiver.specs.Packets.{is_complete, received_at, run_packets, all_packets, received}
+use Rattle.dtx_receiver.specs.Bytes.{data_count, data_at, groups_of, levels_from, levels_in, bytes_in}
+use Rattle.dtx_receiver.specs.Packets.{is_complete, run_packets, all_packets, received}
 use Rattle.dtx_receiver.specs.declared.batch.Received.{Received}
 use Rattle.dtx_receiver.proofs.CompleteLemmas.{complete_told}
 use Rattle.dtx_receiver.proofs.SegmentsLemmas.{segment_long}
@@ -27,8 +26,7 @@ use Rattle.dtx_chain.proofs.WordsLemmas.{corrected_back}
 length-levels : (f : ℕ → List ℕ) (a n : ℕ) → ((i : ℕ) → a ≤ i → i < a + n → length (f i) ≡ 828)
     → length (flat_map f (range_with_len a n)) ≡ 828 * n
 length-levels f a zero h = refl
-length-levels f a (suc n) h =
-    length-append (f a) (flat_map f (range_with_len (a + 1) n))
+length-levels f a (suc n) h = length-append (f a) (flat_map f (range_with_len (a + 1) n))
     ∙ ap₂ (λ (x y : ℕ). x + y) (h a (omega arith) (omega arith))
     (length-levels f (a + 1) n (λ i l m. h i (omega arith) (omega arith)))
     ∙ more n
@@ -43,27 +41,19 @@ data_within l d h = omega arith
 run_levels : (run : List (List ℤ)) → ((i : ℕ) → i < length run → length (get_or run i []) ≡ 832)
     → length (levels_in run) ≡ 828 * (4 * groups_of run)
 unfolding levels_in levels_from data_at groups_of data_count
-run_levels run h =
-    length-levels (λ i. sliced_data (get_or run (i + i / 312 + 1) [])) 0
-    (4 * ((length run - (length run + 312) / 313) / 4))
-    (λ d _ m. segment_long (get_or run (d + d / 312 + 1) []) (h (d + d / 312 + 1) (data_within (length run) d m)))
+run_levels run h = grind (arith, length-levels, segment_long, data_within)
 
 run_bytes : (run : List (List ℤ)) → ((i : ℕ) → i < length run → length (get_or run i []) ≡ 832)
     → length (bytes_in run) ≡ 828 * groups_of run
 unfolding bytes_in bytes_back level_groups
-run_bytes run h =
-    length-map-range_with_len (byte_back 0 (first_bits run) (levels_in run)) 0
-    (828 * (length (levels_in run) / 3312))
-    ∙ ap (λ (n : ℕ). 828 * n) (omega (arith, run_levels run h))
+run_bytes run h = grind (arith, length-map-range_with_len, run_levels)
 
 -- ---- the run of the segments
 
 run_long : (ps : List (List ℕ)) (first : ℕ) (sent got : List (List ℤ)) → AreReceived ps first sent got → (i : ℕ)
     → i < length (from_sync first got) → length (get_or (from_sync first got) i []) ≡ 832
 unfolding from_sync
-run_long ps first sent got r i l =
-    ap length (get_or-drop (to_sync first) got i [])
-    ∙ r.long (to_sync first + i) (omega (arith, l, length-drop (to_sync first) got))
+run_long ps first sent got r i l = grind (arith, get_or-drop, length-drop)
 
 -- the data segments of whole fields and of what follows them, and of all segments of u groups
 pub data_before : (q l n : ℕ) → 313 * q + n ≤ l → 312 * q + (n - (n + 312) / 313) ≤ l - (l + 312) / 313
@@ -75,10 +65,7 @@ data_all l u e = omega arith
 -- the packets of the run are packets of the stream
 count_within : (q l n g j : ℕ) → 313 * q + n ≤ l → l ≡ 4 * (g / 4) + (g / 4 + 77) / 78
     → j < 4 * ((n - (n + 312) / 313) / 4) → 312 * q + j < g
-count_within q l n g j a e h =
-    let b : 312 * q + (n - (n + 312) / 313) ≤ l - (l + 312) / 313 = data_before q l n a in
-    let c : l - (l + 312) / 313 ≡ 4 * (g / 4) = data_all l (g / 4) e in
-    omega (arith, b, c, h)
+count_within q l n g j a e h = grind (arith, data_before, data_all)
 
 number_within : (ps : List (List ℕ)) (first : ℕ) (sent got : List (List ℤ)) → AreReceived ps first sent got
     → to_sync first < length sent → (j : ℕ) → j < 4 * groups_of (from_sync first got)
@@ -86,15 +73,7 @@ number_within : (ps : List (List ℕ)) (first : ℕ) (sent got : List (List ℤ)
 unfolding packet_behind groups_of data_count from_sync
 number_within ps first sent got r l j m =
     count_within ((first + to_sync first) / 313) (length (a53 ps)) (length (drop (to_sync first) got)) (length ps) j
-    (omega (
-      arith,
-      sent_within ps first sent got r (omega (arith, l)),
-      sync_first first,
-      length-drop (to_sync first) got,
-      r.as_many,
-      l,
-    ))
-    (length-a53 ps) m
+    (grind (arith, sent_within, sync_first, length-drop)) (length-a53 ps) m
 
 -- ---- its packets
 
@@ -107,37 +86,21 @@ pub run_back : (ps : List (List ℕ)) (first : ℕ) (sent got : List (List ℤ))
     (range_with_len 0 (length (bytes_in (from_sync first got)) / 207)))
     ≡ map (λ j. as_corrected ps (packet_behind first + j) (word_in first got j)) (numbers_in (from_sync first got))
 unfolding numbers_in
-run_back ps first sent got at r l h =
-    ap (λ n. map at (filter (is_complete n) (range_with_len 0 (n / 207))))
-    (run_bytes (from_sync first got) (run_long ps first sent got r))
-    ∙ ap (λ n. map at (filter (is_complete (828 * groups)) (range_with_len 0 n))) (omega arith)
-    ∙ map-filter_same at (λ j. as_corrected ps (packet_behind first + j) (word_in first got j))
-    (is_complete (828 * groups)) 0 (4 * groups)
-    (λ j _ b t. h j (number_within ps first sent got r l j (omega (arith, b)))
-    ((complete_told (828 * groups) j).0 t))
-  where
-    groups : ℕ
-    groups = groups_of (from_sync first got)
+run_back ps first sent got at r l h = grind (arith, run_bytes, run_long, map-filter_same, number_within, complete_told)
 
 from_run : (ps : List (List ℕ)) (first : ℕ) (sent got : List (List ℤ)) → AreReceived ps first sent got
     → to_sync first < length sent → IsSlight ps first sent got → ArePackets ps
     → run_packets (bytes_in (from_sync first got))
     ≡ map (λ j. as_corrected ps (packet_behind first + j) (word_in first got j)) (numbers_in (from_sync first got))
 unfolding run_packets word_in
-from_run ps first sent got r l h p =
-    run_back ps first sent got (received_at (bytes_in (from_sync first got))) r l
-    (λ j m c. corrected_back ps (bytes_in (from_sync first got)) (packet_behind first) j p (field_begins first) m
-    (h.words j c))
+from_run ps first sent got r l h p = grind (arith, run_back, corrected_back, field_begins)
 
 pub all_good : (ps : List (List ℕ)) (first : ℕ) (sent got : List (List ℤ)) → AreReceived ps first sent got
     → to_sync first < length sent → IsSlight ps first sent got → ArePackets ps
     → all_packets got ≡ map (λ j. as_corrected ps (packet_behind first + j) (word_in first got j))
     (numbers_in (from_sync first got))
 unfolding all_packets
-all_good ps first sent got r l h p =
-    ap (flat_map (λ run. run_packets (bytes_in run))) (one_run_left ps first sent got r l h.found)
-    ∙ append-nil (run_packets (bytes_in (from_sync first got)))
-    ∙ from_run ps first sent got r l h p
+all_good ps first sent got r l h p = grind (arith, one_run_left, append-nil, from_run)
 
 pub corrected_bytes : (ps : List (List ℕ)) (f : ℕ) (word : ℕ → List ℕ) (js : List ℕ)
     → map (λ (r : Received). r.packet.0) (map (λ j. as_corrected ps (f + j) (word j)) js)
@@ -149,8 +112,7 @@ pub all_back : (ps : List (List ℕ)) (first : ℕ) (sent got : List (List ℤ))
     → to_sync first < length sent → IsSlight ps first sent got → ArePackets ps
     → received got ≡ map (λ j. as_received (get_or ps (packet_behind first + j) [])) (numbers_in (from_sync first got))
 unfolding received
-all_back ps first sent got r l h p =
-    ap (map (λ (r : Received). r.packet.0)) (all_good ps first sent got r l h p)
+all_back ps first sent got r l h p = ap (map (λ (r : Received). r.packet.0)) (all_good ps first sent got r l h p)
     ∙ corrected_bytes ps (packet_behind first) (word_in first got) (numbers_in (from_sync first got))
 
 pub corrected_good : (ps : List (List ℕ)) (f : ℕ) (word : ℕ → List ℕ) (js : List ℕ)
@@ -162,6 +124,5 @@ corrected_good ps f word (j ∷ js) = corrected_good ps f word js
 pub none_flagged : (ps : List (List ℕ)) (first : ℕ) (sent got : List (List ℤ)) → AreReceived ps first sent got
     → to_sync first < length sent → IsSlight ps first sent got → ArePackets ps
     → list_all (λ (r : Received). r.good) (all_packets got) ≡ true
-none_flagged ps first sent got r l h p =
-    ap (list_all (λ (r : Received). r.good)) (all_good ps first sent got r l h p)
+none_flagged ps first sent got r l h p = ap (list_all (λ (r : Received). r.good)) (all_good ps first sent got r l h p)
     ∙ corrected_good ps (packet_behind first) (word_in first got) (numbers_in (from_sync first got))

@@ -1,6 +1,6 @@
 -- Two packets that differ in their last byte alone: their codewords differ in 21 bytes, the fewest that two may differ
 -- in. Between them lies a word that has eleven wrong bytes of the one and ten of the other.
-use Rattle.std.proofs.Common.{◌≡◌, ◌≢◌, ◌⊎◌, inl, inr, ℕ, zero, suc, ◌+◌, ◌*◌, ◌%◌, ◌<◌, ◌≤◌, ◌==◌, cond, List, [], ◌∷◌}
+use Rattle.std.proofs.Common.{◌≡◌, ◌≢◌, inl, inr, ℕ, zero, suc, ◌+◌, ◌*◌, ◌%◌, ◌<◌, ◌≤◌, ◌==◌, cond, List, [], ◌∷◌}
 use Rattle.std.proofs.Common.{◌++◌, length, take, drop, replicate, get_or, sym, ap, ap₂, ◌∙◌, subst, arith, ◌-◌}
 use Rattle.std.specs.Int.RustNames.{bit_xor}
 use Rattle.std.proofs.lemmas.List.{length-append, length-drop, length-take-le, take-append-drop, take_at, ext_get_or}
@@ -35,33 +35,23 @@ abbrev pub other_last : List ℕ → List ℕ
 other_last p = take 187 p ++ (get_or p 187 0 + 1) % 256 ∷ []
 
 pub length-other : (p : List ℕ) → length p ≡ 188 → length (other_last p) ≡ 188
-length-other p l =
-    length-append (take 187 p) ((get_or p 187 0 + 1) % 256 ∷ [])
+length-other p l = length-append (take 187 p) ((get_or p 187 0 + 1) % 256 ∷ [])
     ∙ ap (λ (n : ℕ). n + 1) (length-take-le 187 p (omega (arith, l)))
 
 pub bytes_other : (p : List ℕ) → AreBytes p → AreBytes (other_last p)
 bytes_other p b = bytes_append (take 187 p) ((get_or p 187 0 + 1) % 256 ∷ []) (bytes_take 187 p b) (omega arith, tt)
 
 other_at : (p : List ℕ) (i : ℕ) → length p ≡ 188 → i < 187 → get_or (other_last p) i 0 ≡ get_or p i 0
-other_at p i l m =
-    get_or_append_left (take 187 p) ((get_or p 187 0 + 1) % 256 ∷ []) 0 i
+other_at p i l m = get_or_append_left (take 187 p) ((get_or p 187 0 + 1) % 256 ∷ []) 0 i
     (omega (arith, m, length-take-le 187 p (omega (arith, l))))
     ∙ get_or-take 187 p i 0 m
 
 other_end : (p : List ℕ) → length p ≡ 188 → get_or (other_last p) 187 0 ≡ (get_or p 187 0 + 1) % 256
-other_end p l =
-    get_or-append_right (take 187 p) ((get_or p 187 0 + 1) % 256 ∷ []) 187 187 0
+other_end p l = get_or-append_right (take 187 p) ((get_or p 187 0 + 1) % 256 ∷ []) 187 187 0
     (length-take-le 187 p (omega (arith, l))) (omega arith)
 
 pub other_differs : (p : List ℕ) → length p ≡ 188 → drop 1 (other_last p) ≡ drop 1 p → ⊥
-other_differs p l e =
-    let h : (get_or p 187 0 + 1) % 256 ≡ get_or p 187 0 =
-    sym (other_end p l) ∙ sym (get_or-drop 1 (other_last p) 186 0) ∙ ap (λ (x : List ℕ). get_or x 186 0) e
-    ∙ get_or-drop 1 p 186 0 in
-    turn (get_or p 187 0) h
-  where
-    turn : (n : ℕ) → (n + 1) % 256 ≡ n → ⊥
-    turn n h = omega (arith, h)
+other_differs p l e = grind (arith, other_end, get_or-drop)
 
 -- ---- their codewords
 
@@ -75,50 +65,37 @@ length-code k p = codeword_length 207 187 (randomized k p) ∙ ap (λ (n : ℕ).
 byte_at : (k i : ℕ) (p : List ℕ) → i < 187
     → get_or (code_of k p) i 0 ≡ bit_xor (get_or p (1 + i) 0) (randomizer_byte (187 * (k % 312) + i))
 unfolding randomized
-byte_at k i p m =
-    sym (get_or-take 187 (code_of k p) i 0 m)
+byte_at k i p m = sym (get_or-take 187 (code_of k p) i 0 m)
     ∙ ap (λ (x : List ℕ). get_or x i 0) (codeword_begins 207 187 (randomized k p) (length-randomized k p))
     ∙ get_or-map-range_with_len (λ j. bit_xor (get_or p (1 + j) 0) (randomizer_byte (187 * (k % 312) + j))) 0 187 i i 0
     m (omega arith)
 
 front_same : (k : ℕ) (p : List ℕ) → length p ≡ 188 → take 186 (code_of k (other_last p)) ≡ take 186 (code_of k p)
 front_same k p l =
-    let q : List ℕ = other_last p in
-    let long : length (take 186 (code_of k q)) ≡ 186 =
-    length-take-le 186 (code_of k q) (omega (arith, length-code k q)) in
-    ext_get_or 0 (take 186 (code_of k q)) (take 186 (code_of k p))
-    (long ∙ sym (length-take-le 186 (code_of k p) (omega (arith, length-code k p))))
-    (λ i m.
-    let n : i < 186 = omega (arith, m, long) in
-    get_or-take 186 (code_of k q) i 0 n ∙ byte_at k i q (omega (arith, n))
-    ∙ ap (λ (x : ℕ). bit_xor x (randomizer_byte (187 * (k % 312) + i))) (other_at p (1 + i) l (omega (arith, n)))
-    ∙ sym (byte_at k i p (omega (arith, n))) ∙ sym (get_or-take 186 (code_of k p) i 0 n))
+    let long : length (take 186 (code_of k (other_last p))) ≡ 186 =
+    length-take-le 186 (code_of k (other_last p)) (omega (arith, length-code k (other_last p))) in
+    ext_get_or 0 (take 186 (code_of k (other_last p))) (take 186 (code_of k p))
+    (long ∙ sym (length-take-le 186 (code_of k p) (omega (arith, length-code k p)))) (λ i m.
+    get_or-take 186 (code_of k (other_last p)) i 0 (omega (arith, m, long)) ∙ byte_at k i (other_last p) (omega arith)
+    ∙ ap (λ (x : ℕ). bit_xor x (randomizer_byte (187 * (k % 312) + i))) (other_at p (1 + i) l (omega arith))
+    ∙ sym (byte_at k i p (omega arith)) ∙ sym (get_or-take 186 (code_of k p) i 0 (omega (arith, m, long))))
 
 codes_differ : (k : ℕ) (p : List ℕ) → length p ≡ 188 → code_of k (other_last p) ≡ code_of k p → ⊥
 codes_differ k p l e =
     let q : List ℕ = other_last p in
     let m : length q ≡ 188 = length-other p l in
-    let same : randomized k q ≡ randomized k p =
-    sym (codeword_begins 207 187 (randomized k q) (length-randomized k q)) ∙ ap (take 187) e
-    ∙ codeword_begins 207 187 (randomized k p) (length-randomized k p) in
-    let white : whitened randomizer_bytes (187 * (k % 312)) (drop 1 q)
-    ≡ whitened randomizer_bytes (187 * (k % 312)) (drop 1 p) =
-    sym (randomized_whitened k q m) ∙ same ∙ randomized_whitened k p l in
-    other_differs p l
-    (sym (whitened_twice randomizer_bytes (drop 1 q) (187 * (k % 312)))
-    ∙ ap (whitened randomizer_bytes (187 * (k % 312))) white
+    other_differs p l (sym (whitened_twice randomizer_bytes (drop 1 q) (187 * (k % 312)))
+    ∙ ap (whitened randomizer_bytes (187 * (k % 312))) (sym (randomized_whitened k q m)
+    ∙ (sym (codeword_begins 207 187 (randomized k q) (length-randomized k q)) ∙ ap (take 187) e
+    ∙ codeword_begins 207 187 (randomized k p) (length-randomized k p)) ∙ randomized_whitened k p l)
     ∙ whitened_twice randomizer_bytes (drop 1 p) (187 * (k % 312)))
 
 codes_far : (k : ℕ) (p : List ℕ) → length p ≡ 188 → AreBytes p → 21 ≤ distance (code_of k (other_last p)) (code_of k p)
-codes_far k p l b =
-    by_cases (codewords_apart 207 187 (code_of k (other_last p)) (code_of k p) (omega arith)
-    (is_codeword k (other_last p) (length-other p l) (bytes_other p b)) (is_codeword k p l b))
-  where
-    by_cases : (code_of k (other_last p) ≡ code_of k p)
-        ⊎ (207 - 187 + 1 ≤ distance (code_of k (other_last p)) (code_of k p))
-        → 21 ≤ distance (code_of k (other_last p)) (code_of k p)
-    by_cases (inl e) = absurd (codes_differ k p l e)
-    by_cases (inr h) = omega (arith, h)
+codes_far k p l b = elim (codewords_apart 207 187 (code_of k (other_last p)) (code_of k p) (omega arith)
+    (is_codeword k (other_last p) (length-other p l) (bytes_other p b)) (is_codeword k p l b)) [
+      | inl e ↦ absurd (codes_differ k p l e)
+      | inr h ↦ omega (arith, h)
+    ]
 
 -- ---- words that end alike
 
@@ -126,8 +103,7 @@ ends_alike : (xs ys zs : List ℕ) → length xs ≡ length ys → distance (xs 
 ends_alike [] [] zs l = distance_self zs
 ends_alike [] (y ∷ ys) zs l = absurd (omega (arith, l))
 ends_alike (x ∷ xs) [] zs l = absurd (omega (arith, l))
-ends_alike (x ∷ xs) (y ∷ ys) zs l =
-    ap (λ (n : ℕ). cond (x == y) 0 1 + n) (ends_alike xs ys zs (omega (arith, l)))
+ends_alike (x ∷ xs) (y ∷ ys) zs l = ap (λ (n : ℕ). cond (x == y) 0 1 + n) (ends_alike xs ys zs (omega (arith, l)))
 
 -- the first n of one and the rest of the other differ from that other in n - 186 places at most
 within_front : (k n : ℕ) (p : List ℕ) → length p ≡ 188 → 186 ≤ n → n ≤ 207
@@ -136,14 +112,11 @@ within_front k n p l a b =
     let c : List ℕ = code_of k p in
     let d : List ℕ = code_of k (other_last p) in
     let long : length (take n d) ≡ n = length-take-le n d (omega (arith, b, length-code k (other_last p))) in
-    let long_other : length (take n c) ≡ n = length-take-le n c (omega (arith, b, length-code k p)) in
-    let front : take 186 (take n d) ≡ take 186 (take n c) =
-    take-take 186 n d a ∙ front_same k p l ∙ sym (take-take 186 n c a) in
-    let near : distance (take n d) (take n c) ≤ length (take n d) - 186 =
-    distance_from_front 186 (take n d) (take n c) front in
+    let near : distance (take n d) (take n c) ≤ length (take n d) - 186 = distance_from_front 186 (take n d) (take n c)
+    (take-take 186 n d a ∙ front_same k p l ∙ sym (take-take 186 n c a)) in
     let same : distance (take n d ++ drop n c) c ≡ distance (take n d) (take n c) =
-    ap (distance (take n d ++ drop n c)) (sym (take-append-drop n c))
-    ∙ ends_alike (take n d) (take n c) (drop n c) (long ∙ sym long_other) in
+    ap (distance (take n d ++ drop n c)) (sym (take-append-drop n c)) ∙ ends_alike (take n d) (take n c) (drop n c)
+    (long ∙ sym (length-take-le n c (omega (arith, b, length-code k p)))) in
     omega (arith, near, same, long)
 
 -- the last bytes differ
@@ -153,35 +126,28 @@ pub last_differs : (k : ℕ) (p : List ℕ) → length p ≡ 188 → AreBytes p
 last_differs k p l b e =
     let c : List ℕ = code_of k p in
     let d : List ℕ = code_of k (other_last p) in
-    let own : d ≡ take 206 d ++ drop 206 c =
-    sym (take-append-drop 206 d) ∙ ap (λ (x : List ℕ). take 206 d ++ x)
+    let own : d ≡ take 206 d ++ drop 206 c = sym (take-append-drop 206 d) ∙ ap (λ (x : List ℕ). take 206 d ++ x)
     (last_one d (length-code k (other_last p)) ∙ ap (λ (x : ℕ). x ∷ []) e ∙ sym (last_one c (length-code k p))) in
     let near = within_front k 206 p l (omega arith) (omega arith) in
     let far = codes_far k p l b in
     omega (arith, far, near, ap (λ (x : List ℕ). distance x c) own)
   where
     last_one : (x : List ℕ) → length x ≡ 207 → drop 206 x ≡ get_or x 206 0 ∷ []
-    last_one x m =
-        drop-cons x 206 0 (omega (arith, m)) ∙ ap (λ (y : List ℕ). get_or x 206 0 ∷ y)
-        (drop_all 207 x (omega (arith, m)))
+    last_one x m = rw (drop-cons x 206 0 (omega (arith, m)), drop_all 207 x (omega (arith, m)))
 
 -- ---- a word between them
 
 -- the first 197 bytes of the other packet's codeword, and the last ten of the packet's own
 abbrev pub between : ℕ → List ℕ → List ℕ
-between k p =
-    take 197 (codeword 207 187 (randomized k (other_last p))) ++ drop 197 (codeword 207 187 (randomized k p))
+between k p = take 197 (codeword 207 187 (randomized k (other_last p))) ++ drop 197 (codeword 207 187 (randomized k p))
 
 length-between : (k : ℕ) (p : List ℕ) → length (between k p) ≡ 207
-length-between k p =
-    length-append (take 197 (code_of k (other_last p))) (drop 197 (code_of k p))
+length-between k p = length-append (take 197 (code_of k (other_last p))) (drop 197 (code_of k p))
     ∙ ap₂ (λ (x y : ℕ). x + y) (length-take-le 197 (code_of k (other_last p))
-    (omega (arith, length-code k (other_last p)))) (length-drop 197 (code_of k p)
-    ∙ ap (λ (n : ℕ). n - 197) (length-code k p))
+    (grind (arith, length-code))) (length-drop 197 (code_of k p) ∙ ap (λ (n : ℕ). n - 197) (length-code k p))
 
 bytes_between : (k : ℕ) (p : List ℕ) → length p ≡ 188 → AreBytes p → AreBytes (between k p)
-bytes_between k p l b =
-    bytes_append (take 197 (code_of k (other_last p))) (drop 197 (code_of k p))
+bytes_between k p l b = bytes_append (take 197 (code_of k (other_last p))) (drop 197 (code_of k p))
     (bytes_take 197 (code_of k (other_last p))
     (is_codeword k (other_last p) (length-other p l) (bytes_other p b)).bytes)
     (bytes_drop (take 197 (code_of k p)) (drop 197 (code_of k p))
@@ -189,10 +155,9 @@ bytes_between k p l b =
 
 near_other : (k : ℕ) (p : List ℕ) → distance (between k p) (code_of k (other_last p)) ≤ 10
 near_other k p =
-    let front : take 197 (between k p) ≡ take 197 (code_of k (other_last p)) =
-    take_at (take 197 (code_of k (other_last p))) (drop 197 (code_of k p)) 197
-    (length-take-le 197 (code_of k (other_last p)) (omega (arith, length-code k (other_last p)))) in
-    let near = distance_from_front 197 (between k p) (code_of k (other_last p)) front in
+    let near = distance_from_front 197 (between k p) (code_of k (other_last p))
+    (take_at (take 197 (code_of k (other_last p))) (drop 197 (code_of k p)) 197
+    (length-take-le 197 (code_of k (other_last p)) (omega (arith, length-code k (other_last p))))) in
     omega (arith, near, length-between k p)
 
 pub eleven_wrong : (k : ℕ) (p : List ℕ) → length p ≡ 188 → AreBytes p
@@ -217,17 +182,13 @@ gives_other f j p y l b z e =
     let q : List ℕ = other_last p in
     let ps : List (List ℕ) = replicate (f + j + 1) q in
     let there : get_or ps (f + j) [] ≡ q = get_or-replicate (f + j + 1) (f + j) q [] (omega arith) in
-    let near : distance (word_at 207 52 4 y j) (codeword 207 187 (randomized (f + j) (get_or ps (f + j) []))) ≤ 10 =
-    rw e
-    (rw there (near_other (f + j) p)) in
     ap (λ (r : Received). r.packet.0) (corrected_back ps y f j
-    (others (f + j + 1) q (length-other p l) (bytes_other p b)) z (omega (arith, length-replicate (f + j + 1) q)) near)
-    ∙ ap as_received there
+    (others (f + j + 1) q (length-other p l) (bytes_other p b)) z (omega (arith, length-replicate (f + j + 1) q))
+    (rw e (rw there (near_other (f + j) p)))) ∙ ap as_received there
 
 pub goes_elsewhere : (ps : List (List ℕ)) (f j : ℕ) → ArePackets ps → f % 312 ≡ 0 → f + j < length ps
     → (word : List ℕ) × (length word ≡ 207) × AreBytes word × (distance word (codeword_at ps (f + j)) ≡ 11)
-    × ((y : List ℕ) → word_at 207 52 4 y j ≡ word
-    → (received_at y j).packet.0 ≢ as_received (get_or ps (f + j) []))
+    × ((y : List ℕ) → word_at 207 52 4 y j ≡ word → (received_at y j).packet.0 ≢ as_received (get_or ps (f + j) []))
 unfolding codeword_at as_received
 goes_elsewhere ps f j h z l =
     let p : List ℕ = get_or ps (f + j) [] in
@@ -236,6 +197,5 @@ goes_elsewhere ps f j h z l =
       length-between (f + j) p,
       bytes_between (f + j) p own.0 own.1,
       eleven_wrong (f + j) p own.0 own.1,
-      λ y e g. other_differs p own.0
-          (ap (drop 1) (sym (gives_other f j p y own.0 own.1 z e) ∙ g)),
+      λ y e g. other_differs p own.0 (ap (drop 1) (sym (gives_other f j p y own.0 own.1 z e) ∙ g)),
     )

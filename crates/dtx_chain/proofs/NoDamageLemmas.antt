@@ -1,10 +1,9 @@
 -- Undamaged segments of a stream are slightly damaged ones.
-use Rattle.std.proofs.Common.{◌≡◌, ◌⊎◌, inl, inr, ℕ, ℤ, pos, zero, suc, ◌+◌, ◌-◌, ◌*◌, ◌/◌, ◌<◌, ◌≤◌, ◌==◌, ◌%◌, true}
-use Rattle.std.proofs.Common.{List, [], ◌∷◌, length, take, drop, get_or, refl, sym, ap, subst, ◌∙◌, arith}
+use Rattle.std.proofs.Common.{◌≡◌, ◌⊎◌, inl, inr, ℕ, ℤ, zero, suc, ◌+◌, ◌-◌, ◌*◌, ◌/◌, ◌<◌, ◌≤◌, List, [], ◌∷◌, length}
+use Rattle.std.proofs.Common.{take, drop, get_or, refl, sym, ap, subst, ◌∙◌, arith}
 use Rattle.std.specs.Prelude.{slice_range}
 use Rattle.std.proofs.lemmas.Bool.{cases_lt, cond-true, eq-eqb}
 use Rattle.std.proofs.lemmas.List.{length-take, length-drop, get_or-take, get_or-drop}
-use Rattle.dtx_slice.specs.Slicing.{sliced}
 use Rattle.dtx_frame.specs.Detection.{looks_like}
 use Rattle.dtx_frame.proofs.CountsLemmas.{sum_is, total_zeros}
 use Rattle.dtx_outer.specs.Inner.{IsComplete, word_at}
@@ -28,40 +27,20 @@ take_own (suc n) (x ∷ xs) = ap (λ (ys : List (List ℤ)). x ∷ ys) (take_own
 
 pub are_received : (ps : List (List ℕ)) (first : ℕ) (sent : List (List ℤ))
     → sent ≡ slice_range (a53 ps) first (first + length sent) → AreReceived ps first sent sent
-are_received ps first sent e = record {
-  in_a_row = e;
-  as_many = refl;
-  long = λ i l.
-      let within : first + length sent ≤ length (a53 ps) = omega (
-        arith,
-        l,
-        ap length e,
-        length-take (first + length sent - first) (drop first (a53 ps)),
-        length-drop first (a53 ps),
-      ) in
-      ap length (ap (λ (xs : List (List ℤ)). get_or xs i []) e
-      ∙ get_or-take (first + length sent - first) (drop first (a53 ps)) i [] (omega (arith, l))
-      ∙ get_or-drop first (a53 ps) i [])
-      ∙ a53_segment ps (first + i) (omega (arith, l, within));
-}
+are_received ps first sent e = grind (arith, length-take, length-drop, get_or-take, get_or-drop, a53_segment)
 
 pub part_received : (ps : List (List ℕ)) (first end : ℕ)
     → AreReceived ps first (slice_range (a53 ps) first end) (slice_range (a53 ps) first end)
 part_received ps first end =
     let n : ℕ = length (take (end - first) (drop first (a53 ps))) in
-    let e : n ≡ first + n - first = omega arith in
-    are_received ps first (slice_range (a53 ps) first end)
-    (take_own (end - first) (drop first (a53 ps)) ∙ ap (λ (m : ℕ). take m (drop first (a53 ps))) e)
+    are_received ps first (slice_range (a53 ps) first end) (grind (arith, take_own))
 
 -- ---- no symbol is damaged
 
 none_damaged : (segment : List ℤ) → damaged_symbols segment segment ≡ 0
 unfolding damaged_symbols damage_at
-none_damaged segment =
-    sum_is (damage_at segment segment) 0 515
-    ∙ total_zeros (damage_at segment segment) 0 515
-    (λ i _ _. cond-true (sliced (get_or segment i (pos 0)) == sliced (get_or segment i (pos 0))) 0 1
-    (eq-eqb (sliced (get_or segment i (pos 0))) (sliced (get_or segment i (pos 0))) refl))
+none_damaged segment = sum_is (damage_at segment segment) 0 515 ∙ total_zeros (damage_at segment segment) 0 515
+    (λ i _ _. grind (arith, cond-true, eq-eqb))
 
 -- ---- each word is near
 
@@ -70,34 +49,28 @@ pub is_there : (ps : List (List ℕ)) (first : ℕ) (sent : List (List ℤ)) →
     → to_sync first < length sent → IsThere ps ((first + to_sync first) / 313) (from_sync first sent)
 unfolding from_sync
 is_there ps first sent r l =
-    let q : ℕ = (first + to_sync first) / 313 in
-    let at : 313 * q ≡ first + to_sync first = omega (arith, sync_first first) in
+    let at : 313 * ((first + to_sync first) / 313) ≡ first + to_sync first = omega (arith, sync_first first) in
     let less = length-drop (to_sync first) sent in
     let all = sent_within ps first sent sent r (omega (arith, l)) in
     record {
       some = omega (arith, l, less);
       within = omega (arith, l, less, at, all);
       same = λ i m.
-          let e : first + (to_sync first + i) ≡ 313 * q + i = omega (arith, at) in
-          get_or-drop (to_sync first) sent i []
-          ∙ sent_at ps first sent sent r (to_sync first + i) (omega (arith, m, less))
-          ∙ ap (λ n. get_or (a53 ps) n []) e;
+          get_or-drop (to_sync first) sent i [] ∙ sent_at ps first sent sent r (to_sync first + i) (omega (arith, m, less))
+          ∙ ap (λ n. get_or (a53 ps) n []) (omega (arith, at));
     }
 
 -- where there is none, no word is complete
 pub no_groups : (first : ℕ) (sent : List (List ℤ)) → length sent ≤ to_sync first → groups_of (from_sync first sent) ≡ 0
 unfolding from_sync groups_of data_count
-no_groups first sent l =
-    let n : length (drop (to_sync first) sent) ≡ 0 = omega (arith, l, length-drop (to_sync first) sent) in
-    ap (λ (n : ℕ). (n - (n + 312) / 313) / 4) n
+no_groups first sent l = grind (arith, length-drop)
 
 near_at : (ps : List (List ℕ)) (first : ℕ) (sent : List (List ℤ)) (j : ℕ) → AreReceived ps first sent sent
     → ArePackets ps → IsComplete 207 52 4 (828 * groups_of (from_sync first sent)) j
     → (to_sync first < length sent) ⊎ (length sent ≤ to_sync first)
     → IsNear ps (packet_behind first + j) (word_in first sent j)
 unfolding word_in packet_behind
-near_at ps first sent j r p c (inl l) =
-    word_there ps ((first + to_sync first) / 313) j (from_sync first sent) p (is_there ps first sent r l) c
+near_at ps first sent j r p c (inl l) = grind (arith, word_there, is_there)
 near_at ps first sent j r p c (inr l) =
     let e = no_groups first sent l in let h = c 0 (omega arith) in absurd (omega (arith, e, h))
 
@@ -106,8 +79,7 @@ pub is_slight : (ps : List (List ℕ)) (first : ℕ) (sent : List (List ℤ)) �
 is_slight ps first sent r p = record {
   found = record {
     syncs = λ i m z.
-        ap looks_like (sent_at ps first sent sent r i m)
-        ∙ syncs_look ps (first + i) (omega (arith, m, sent_within ps first sent sent r (omega (arith, m)))) z;
+        ap looks_like (sent_at ps first sent sent r i m) ∙ syncs_look ps (first + i) (grind (arith, sent_within)) z;
     before = λ i _ _. omega (arith, none_damaged (get_or sent i []));
   };
   words = λ j c. near_at ps first sent j r p c (cases_lt (to_sync first) (length sent));
@@ -121,22 +93,19 @@ pub slight_before : (ps : List (List ℕ)) (first : ℕ) (sent got : List (List 
     → IsSlight ps first sent got
 unfolding word_in from_sync
 slight_before ps first sent got r p same few = record {
-  found = record { syncs = λ i m z. looks i m z (cases_lt i (to_sync first)); before = few };
+  found = record {
+    syncs = λ i m z. elim (cases_lt i (to_sync first)) [
+      | inl l ↦ absurd (none_earlier first i l z)
+      | inr l ↦
+          let e : to_sync first + (i - to_sync first) ≡ i = omega (arith, l) in
+          ap looks_like (grind (arith, get_or-drop)) ∙ own.found.syncs i m z
+    ];
+    before = few;
+  };
   words = λ j c.
       subst (IsNear ps (packet_behind first + j))
-      (ap (λ (xs : List (List ℤ)). word_at 207 52 4 (bytes_in xs) j) (sym same))
-      (own.words j (rw (← same) c));
+      (ap (λ (xs : List (List ℤ)). word_at 207 52 4 (bytes_in xs) j) (sym same)) (own.words j (rw (← same) c));
 }
   where
     own : IsSlight ps first sent sent
     own = is_slight ps first sent (are_received ps first sent r.in_a_row) p
-
-    looks : (i : ℕ) → i < length sent → (first + i) % 313 ≡ 0 → (i < to_sync first) ⊎ (to_sync first ≤ i)
-        → looks_like (get_or got i []) ≡ true
-    looks i m z (inl l) = absurd (none_earlier first i l z)
-    looks i m z (inr l) =
-        let e : to_sync first + (i - to_sync first) ≡ i = omega (arith, l) in
-        ap looks_like (ap (λ n. get_or got n []) (sym e) ∙ sym (get_or-drop (to_sync first) got (i - to_sync first) [])
-        ∙ ap (λ (xs : List (List ℤ)). get_or xs (i - to_sync first) []) same
-        ∙ get_or-drop (to_sync first) sent (i - to_sync first) [] ∙ ap (λ n. get_or sent n []) e)
-        ∙ own.found.syncs i m z

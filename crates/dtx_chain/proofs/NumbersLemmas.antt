@@ -41,16 +41,11 @@ complete_up_to count (suc k) i c l =
 filtered_at : {X : Type 0} (f : ℕ → X) (p : ℕ → Bool) (a n j : ℕ) (d : X) → j < n
     → ((i : ℕ) → a ≤ i → i ≤ a + j → p i ≡ true) → get_or (map f (filter p (range_with_len a n))) j d ≡ f (a + j)
 filtered_at f p a zero j d l h = absurd (omega arith)
-filtered_at f p a (suc n) zero d l h =
-    let z : a ≡ a + 0 = omega arith in
-    ap (λ xs. get_or (map f xs) 0 d) (filter-kept p a (range_with_len (a + 1) n) (h a (omega arith) (omega arith)))
-    ∙ ap f z
+filtered_at f p a (suc n) zero d l h = grind (arith, filter-kept)
 filtered_at f p a (suc n) (suc j) d l h =
     let z : a + 1 + j ≡ a + suc j = omega arith in
     ap (λ xs. get_or (map f xs) (suc j) d) (filter-kept p a (range_with_len (a + 1) n)
-    (h a (omega arith) (omega arith)))
-    ∙ filtered_at f p (a + 1) n j d (omega arith) (λ i m o. h i (omega arith) (omega arith))
-    ∙ ap f z
+    (h a (omega arith) (omega arith))) ∙ filtered_at f p (a + 1) n j d (omega arith) (λ i m o. grind arith) ∙ ap f z
 
 -- the packets of a run's complete words, in any way from words to packets
 pub number_of : (y : List ℕ) (at : ℕ → Received) (j : ℕ) (other : Received) → IsComplete 207 52 4 (length y) j

@@ -1,12 +1,10 @@
 -- Slightly damaged segments of a stream are one run, which begins with their first field sync.
-use Rattle.std.proofs.Common.{◌≡◌, ◌≢◌, ℕ, ℤ, pos, zero, suc, ◌+◌, ◌-◌, ◌*◌, ◌/◌, ◌%◌, ◌<◌, ◌≤◌, ◌==◌, cond, false}
-use Rattle.std.proofs.Common.{List, [], ◌∷◌, length, map, drop, sum, get_or, sym, ap, ◌∙◌, subst, inl, arith}
+use Rattle.std.proofs.Common.{◌≡◌, ◌≢◌, ℕ, ℤ, zero, suc, ◌+◌, ◌-◌, ◌*◌, ◌/◌, ◌%◌, ◌<◌, ◌≤◌, false, List, [], ◌∷◌}
+use Rattle.std.proofs.Common.{length, map, sum, get_or, sym, ap, ◌∙◌, subst, inl, arith}
 use Rattle.std.specs.List.{range_with_len}
 use Rattle.std.proofs.lemmas.Bool.{lt-leb}
 use Rattle.std.proofs.lemmas.Bool.Decides.{nat_tests}
 use Rattle.std.proofs.lemmas.List.{length-take, length-drop, take_all, get_or-take, get_or-drop}
-use Rattle.dtx_slice.specs.Slicing.{sliced}
-use Rattle.dtx_frame.specs.Segments.{sync_symbols}
 use Rattle.dtx_frame.specs.Detection.{differs, differing, looks_like}
 use Rattle.dtx_frame.proofs.CountsLemmas.{total, sum_is}
 use Rattle.dtx_frame.proofs.UnlikeLemmas.{unlike_segment}
@@ -30,12 +28,7 @@ total_within f g h a (suc n) p = omega (arith, p a, total_within f g h (suc a) n
 -- a symbol that differs from the sync's and doesn't as it was received is damaged
 differs_within : (sent got : List ℤ) (i : ℕ) → differs sent i ≤ differs got i + damage_at sent got i
 unfolding differs damage_at
-differs_within sent got i =
-    cost (sliced (get_or sent i (pos 0))) (sliced (get_or got i (pos 0)))
-    (sliced (get_or (sync_symbols false) i (pos 0)))
-  where
-    cost : (x y z : ℕ) → cond (x == z) 0 1 ≤ cond (y == z) 0 1 + cond (y == x) 0 1
-    cost x y z = grind (arith, nat_tests)
+differs_within sent got i = grind (arith, nat_tests)
 
 differing_within : (sent got : List ℤ) → differing sent ≤ differing got + damaged_symbols sent got
 unfolding differing damaged_symbols
@@ -59,12 +52,9 @@ unlike ps d l = unlike_segment 0 (length ps / 4) d zero_states (whole_groups ps)
 
 unlike_at : (ps : List (List ℕ)) (n : ℕ) → n < length (a53 ps) → n % 313 ≢ 0 → 64 ≤ differing (get_or (a53 ps) n [])
 unlike_at ps n l z =
-    subst (λ (s : List ℤ). 64 ≤ differing s)
-    (sym (data_at_place ps (n - (n + 312) / 313) within) ∙ ap (λ i. get_or (a53 ps) i []) (place_data n z))
+    let within : n - (n + 312) / 313 < 4 * (length ps / 4) = omega (arith, l, z, length-a53 ps) in
+    subst (λ (s : List ℤ). 64 ≤ differing s) (grind (arith, data_at_place, place_data))
     (unlike ps (n - (n + 312) / 313) within)
-  where
-    within : n - (n + 312) / 313 < 4 * (length ps / 4)
-    within = omega (arith, l, z, length-a53 ps)
 
 pub no_sync : (ps : List (List ℕ)) (n : ℕ) (got : List ℤ) → n < length (a53 ps) → n % 313 ≢ 0
     → damaged_symbols (get_or (a53 ps) n []) got ≤ 31 → looks_like got ≡ false
@@ -74,21 +64,11 @@ no_sync ps n got l z few = still_unlike (get_or (a53 ps) n []) got (unlike_at ps
 
 pub sent_within : (ps : List (List ℕ)) (first : ℕ) (sent got : List (List ℤ)) → AreReceived ps first sent got
     → 0 < length sent → first + length sent ≤ length (a53 ps)
-sent_within ps first sent got r l =
-    omega (
-      arith,
-      l,
-      ap length r.in_a_row,
-      length-take (first + length sent - first) (drop first (a53 ps)),
-      length-drop first (a53 ps),
-    )
+sent_within ps first sent got r l = grind (arith, length-take, length-drop)
 
 pub sent_at : (ps : List (List ℕ)) (first : ℕ) (sent got : List (List ℤ)) → AreReceived ps first sent got → (i : ℕ)
     → i < length sent → get_or sent i [] ≡ get_or (a53 ps) (first + i) []
-sent_at ps first sent got r i l =
-    ap (λ (xs : List (List ℤ)). get_or xs i []) r.in_a_row
-    ∙ get_or-take (first + length sent - first) (drop first (a53 ps)) i [] (omega arith)
-    ∙ get_or-drop first (a53 ps) i []
+sent_at ps first sent got r i l = grind (arith, get_or-take, get_or-drop)
 
 -- ---- the first field sync
 
@@ -102,36 +82,26 @@ none_earlier first i l = λ z. omega (arith, l, z)
 
 pub field_begins : (first : ℕ) → packet_behind first % 312 ≡ 0
 unfolding packet_behind
-field_begins first = by_turns ((first + to_sync first) / 313)
-  where
-    by_turns : (q : ℕ) → 312 * q % 312 ≡ 0
-    by_turns q = omega arith
+field_begins first = grind arith
 
 -- the place of its segment is the next one
 pub behind_sync : (first : ℕ) → packet_behind first + packet_behind first / 312 ≡ first + to_sync first
 unfolding packet_behind
-behind_sync first = by_turns (first + to_sync first) (sync_first first)
-  where
-    by_turns : (n : ℕ) → n % 313 ≡ 0 → 312 * (n / 313) + 312 * (n / 313) / 312 ≡ n
-    by_turns n z = omega (arith, z)
+behind_sync first = grind (arith, sync_first)
 
 -- ---- one run
 
 pub one_run_left : (ps : List (List ℕ)) (first : ℕ) (sent got : List (List ℤ)) → AreReceived ps first sent got
     → to_sync first < length sent → AreFound first sent got → runs got ≡ from_sync first got ∷ []
 unfolding from_sync
-one_run_left ps first sent got r l h =
-    (are_runs got).2
+one_run_left ps first sent got r l h = (are_runs got).2
     ∙ ap (map (segments_in got)) (only_runs got 0 (are_runs got).0 ((to_sync first, length got - to_sync first) ∷ [])
-    (are_runs got).1 mine)
-    ∙ ap (λ xs. xs ∷ []) (take_all (to_sync first + (length got - to_sync first) - to_sync first)
-    (drop (to_sync first) got) (omega (arith, length-drop (to_sync first) got)))
+    (are_runs got).1 mine) ∙ ap (λ xs. xs ∷ []) (grind (arith, take_all, length-drop))
   where
     within : to_sync first + (length got - to_sync first) ≡ length got
     within = omega (arith, l, r.as_many)
 
     -- each 313th from there on
-
     run : IsRun got (to_sync first) (length got - to_sync first)
     run = record {
       some = omega (arith, l, r.as_many);
@@ -145,9 +115,7 @@ one_run_left ps first sent got r l h =
     none = λ i _ m.
         still_unlike (get_or sent i []) (get_or got i [])
         (subst (λ (s : List ℤ). 64 ≤ differing s) (sym (sent_at ps first sent got r i (omega (arith, m, l))))
-        (unlike_at ps (first + i) (omega (arith, m, l, sent_within ps first sent got r (omega (arith, l))))
-        (none_earlier first i m)))
-        (h.before i (omega (arith, m, l)) m)
+        (grind (arith, unlike_at, sent_within, none_earlier))) (h.before i (omega (arith, m, l)) m)
 
     mine : AreRuns got 0 ((to_sync first, length got - to_sync first) ∷ [])
     mine = (omega arith, none, run, λ i a b. absurd (omega (arith, a, b, within)))

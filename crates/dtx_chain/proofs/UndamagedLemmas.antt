@@ -1,13 +1,12 @@
 -- What is received of undamaged symbols.
 use Rattle.std.proofs.Common.{◌≡◌, ℕ, zero, suc, ◌+◌, ◌*◌, ◌/◌, ◌<◌, ◌≤◌, Bool, true, false, List, [], ◌∷◌, length, map}
-use Rattle.std.proofs.Common.{get_or, refl, sym, ap, ap₂, ◌∙◌, arith}
-use Rattle.std.specs.List.{range_with_len, filter, flat_map}
+use Rattle.std.proofs.Common.{get_or, refl, sym, ap, ◌∙◌, arith}
+use Rattle.std.specs.List.{range_with_len, filter}
 use Rattle.std.proofs.lemmas.List.{append-nil}
 use Rattle.dtx_coder.specs.Coded.{whole_groups}
 use Rattle.dtx_coder.specs.Stream.{a53}
 use Rattle.dtx_coder.proofs.BytesLemmas.{length-whole}
-use Rattle.dtx_receiver.specs.Bytes.{bytes_in}
-use Rattle.dtx_receiver.specs.Packets.{is_complete, received_at, run_packets, all_packets, received}
+use Rattle.dtx_receiver.specs.Packets.{is_complete, run_packets, all_packets, received}
 use Rattle.dtx_receiver.specs.declared.batch.Received.{Received}
 use Rattle.dtx_receiver.proofs.CompleteLemmas.{complete_told}
 use Rattle.dtx_lists.proofs.RangeFilter.{filter-kept, filter-lost}
@@ -20,39 +19,25 @@ pub map-filter_same : {X : Type 0} (f g : ℕ → X) (p : ℕ → Bool) (a n : �
     → ((i : ℕ) → a ≤ i → i < a + n → p i ≡ true → f i ≡ g i)
     → map f (filter p (range_with_len a n)) ≡ map g (filter p (range_with_len a n))
 map-filter_same f g p a zero h = refl
-map-filter_same f g p a (suc n) h =
-    by_test (p a) refl (map-filter_same f g p (a + 1) n (λ i l m. h i (omega arith) (omega arith)))
+map-filter_same f g p a (suc n) h = by_test (p a) refl (map-filter_same f g p (a + 1) n (λ i l m. grind arith))
   where
     rest : List ℕ
     rest = range_with_len (a + 1) n
 
     by_test : (t : Bool) → p a ≡ t → map f (filter p rest) ≡ map g (filter p rest)
         → map f (filter p (a ∷ rest)) ≡ map g (filter p (a ∷ rest))
-    by_test true e r = ap (map f) (filter-kept p a rest e) ∙ ap₂ ◌∷◌ (h a (omega arith) (omega arith) e) r
-        ∙ sym (ap (map g) (filter-kept p a rest e))
+    by_test true e r = grind (arith, filter-kept)
     by_test false e r = ap (map f) (filter-lost p a rest e) ∙ r ∙ sym (ap (map g) (filter-lost p a rest e))
 
-from_words : (ps : List (List ℕ)) → ArePackets ps
-    → run_packets (whole_groups ps) ≡ map (as_sent ps)
+from_words : (ps : List (List ℕ)) → ArePackets ps → run_packets (whole_groups ps) ≡ map (as_sent ps)
     (filter (is_complete (828 * (length ps / 4))) (range_with_len 0 (4 * (length ps / 4))))
 unfolding run_packets
-from_words ps h =
-    ap (λ n. map (received_at (whole_groups ps)) (filter (is_complete n) (range_with_len 0 (n / 207))))
-    (length-whole ps)
-    ∙ ap (λ n. map (received_at (whole_groups ps)) (filter (is_complete (828 * (length ps / 4))) (range_with_len 0 n)))
-    (omega arith)
-    ∙ map-filter_same (received_at (whole_groups ps)) (as_sent ps) (is_complete (828 * (length ps / 4))) 0
-    (4 * (length ps / 4))
-    (λ k a b t. packet_back ps k h (omega (arith, b)) ((complete_told (828 * (length ps / 4)) k).0 t))
+from_words ps h = grind (arith, length-whole, map-filter_same, packet_back, complete_told)
 
 pub good_packets : (ps : List (List ℕ)) → 4 ≤ length ps → ArePackets ps
     → all_packets (a53 ps) ≡ map (as_sent ps) (whole_words ps)
 unfolding all_packets whole_words
-good_packets ps l h =
-    ap (flat_map (λ run. run_packets (bytes_in run))) (one_run ps l)
-    ∙ append-nil (run_packets (bytes_in (a53 ps)))
-    ∙ ap run_packets (bytes_are ps l (whole_small ps h))
-    ∙ from_words ps h
+good_packets ps l h = grind (arith, one_run, append-nil, bytes_are, whole_small, from_words)
 
 bytes_back : (ps : List (List ℕ)) (ks : List ℕ) → map (λ (r : Received). r.packet.0) (map (as_sent ps) ks)
     ≡ map (λ k. as_received (get_or ps k [])) ks

@@ -1,7 +1,6 @@
 -- The words of a stream's bytes are the codewords of its packets.
-use Rattle.std.proofs.Common.{◌≡◌, ℕ, zero, suc, ◌+◌, ◌-◌, ◌*◌, ◌/◌, ◌%◌, ◌<◌, nat_le, cond, Bool, true, false, List}
-use Rattle.std.proofs.Common.{[], ◌∷◌, length, take, drop, get_or, refl, sym, ap, ap₂, ◌∙◌, subst, arith, lit<}
-use Rattle.std.proofs.Common.{zero-add}
+use Rattle.std.proofs.Common.{◌≡◌, ℕ, zero, suc, ◌+◌, ◌-◌, ◌*◌, ◌/◌, ◌%◌, ◌<◌, true, List, [], ◌∷◌, length, take, drop}
+use Rattle.std.proofs.Common.{get_or, refl, sym, ap, ap₂, ◌∙◌, subst, arith, lit<, zero-add}
 use Rattle.std.specs.Prelude.{Option, Some, None}
 use Rattle.std.proofs.lemmas.List.{length-drop, take-append-drop, get_or-take}
 use Rattle.std.proofs.lemmas.List.FromFn.{get_or-map-range_with_len}
@@ -48,10 +47,9 @@ sound p l b = record {
 
 pub is_codeword : (k : ℕ) (p : List ℕ) → length p ≡ 188 → AreBytes p
     → IsCodeword 207 187 (codeword 207 187 (randomized k p))
-is_codeword k p l b =
-    let h : AreData 207 187 randomizer_bytes (drop 1 p) = sound p l b in
-    subst (IsCodeword 207 187) (sym (coded_is_own k p l))
-    (coded_is 207 187 randomizer_bytes (187 * (k % 312)) (drop 1 p) h.longer h.whitener h.long h.bytes)
+is_codeword k p l b = subst (IsCodeword 207 187) (sym (coded_is_own k p l))
+    (coded_is 207 187 randomizer_bytes (187 * (k % 312)) (drop 1 p) (sound p l b).longer (sound p l b).whitener
+    (sound p l b).long (sound p l b).bytes)
 
 bytes_coded : (k : ℕ) (ps : List (List ℕ)) → ArePackets ps → AreBytes (coded_from k ps)
 unfolding coded_from
@@ -68,21 +66,14 @@ byte_at (x ∷ xs) zero b = b.0
 byte_at (x ∷ xs) (suc i) b = byte_at xs i b.1
 
 interleaved_small : (b m : ℕ) (x : List ℕ) (n : ℕ) → AreBytes x → interleaved_at b m x n < 256
-interleaved_small b m x n h = by_test (nat_le (b * m * (n % b)) n)
-  where
-    by_test : (t : Bool) → cond t (get_or x (n - b * m * (n % b)) 0) 0 < 256
-    by_test true = byte_at x (n - b * m * (n % b)) h
-    by_test false = lit< tt
+interleaved_small b m x n h = grind (arith, byte_at)
 
 pub whole_small : (ps : List (List ℕ)) → ArePackets ps → (j : ℕ) → j < length (whole_groups ps)
     → get_or (whole_groups ps) j 0 < 256
 unfolding whole_groups spread interleaved
 whole_small ps h j l =
     let n : j < 828 * (length ps / 4) = omega (arith, l, length-whole ps) in
-    subst (λ (x : ℕ). x < 256)
-    (sym (get_or-take (828 * (length ps / 4)) (spread ps) j 0 n
-    ∙ get_or-map-range_with_len (interleaved_at 52 4 (coded ps)) 0 (length (coded ps)) j j 0
-    (omega (arith, n, length-coded 0 ps)) (omega arith)))
+    subst (λ (x : ℕ). x < 256) (sym (grind (arith, get_or-take, get_or-map-range_with_len, length-coded)))
     (interleaved_small 52 4 (coded ps) j (bytes_coded 0 ps h))
 
 -- ---- words
@@ -96,17 +87,11 @@ pub word_is : (ps : List (List ℕ)) (k : ℕ) → k < length ps → IsComplete 
     → word_at 207 52 4 (whole_groups ps) k ≡ codeword_at ps k
 unfolding whole_groups codeword_at
 word_is ps k l c =
-    sym (word_stays 207 52 4 (whole_groups ps) (drop (828 * (length ps / 4)) (spread ps)) k
-    (subst (λ (n : ℕ). IsComplete 207 52 4 n k) (sym (length-whole ps)) c))
-    ∙ ap (λ y. word_at 207 52 4 y k) (take-append-drop (828 * (length ps / 4)) (spread ps))
-    ∙ from_spread ps k all
+    let plus : 0 + k ≡ k = omega arith in
+    let all : IsComplete 207 52 4 (length (coded ps)) k = λ j m. omega (arith, c j m, length-coded 0 ps) in
+    sym (grind (arith, word_stays, length-whole))
+    ∙ ap (λ y. word_at 207 52 4 y k) (take-append-drop (828 * (length ps / 4)) (spread ps)) ∙ from_spread ps k all
     ∙ coded_at 0 ps k l ∙ ap (λ i. codeword 207 187 (randomized i (get_or ps k []))) plus
-  where
-    plus : 0 + k ≡ k
-    plus = omega arith
-
-    all : IsComplete 207 52 4 (length (coded ps)) k
-    all = λ j m. omega (arith, c j m, length-coded 0 ps)
 
 -- ---- packets
 
@@ -139,21 +124,14 @@ pub codeword_back : (ps : List (List ℕ)) (f j : ℕ) (word : List ℕ) → Are
     }) (as_corrected ps (f + j) word)
 unfolding as_corrected as_received
 codeword_back ps f j word h z l =
+    let place : j % 312 ≡ (f + j) % 312 = omega (arith, z) in
     ap (λ (d : List ℕ). record {
       packet = record { 0 = 0x47 ∷ d };
       fixed = distance word (codeword_at ps (f + j));
       good = true;
-    }) same
-  where
-    place : j % 312 ≡ (f + j) % 312
-    place = omega (arith, z)
-
-    same : whitened randomizer_bytes (187 * (j % 312)) (take 187 (codeword_at ps (f + j)))
-        ≡ drop 1 (get_or ps (f + j) [])
-    same =
-        ap₂ (λ (i : ℕ) (c : List ℕ). whitened randomizer_bytes (187 * i) (take 187 c)) place (own_coded ps (f + j) h l)
-        ∙ coded_back 207 187 randomizer_bytes (187 * ((f + j) % 312)) (drop 1 (get_or ps (f + j) []))
-        (own_data ps (f + j) h l).long
+    }) (ap₂ (λ (i : ℕ) (c : List ℕ). whitened randomizer_bytes (187 * i) (take 187 c)) place (own_coded ps (f + j) h l)
+    ∙ coded_back 207 187 randomizer_bytes (187 * ((f + j) % 312)) (drop 1 (get_or ps (f + j) []))
+    (own_data ps (f + j) h l).long)
 
 pub corrected_packet : (ps : List (List ℕ)) (k : ℕ) (word : List ℕ)
     → (as_corrected ps k word).packet.0 ≡ as_received (get_or ps k [])
@@ -162,31 +140,19 @@ corrected_packet ps k word = refl
 
 -- a word near it
 pub corrected_back : (ps : List (List ℕ)) (y : List ℕ) (f j : ℕ) → ArePackets ps → f % 312 ≡ 0 → f + j < length ps
-    → IsNear ps (f + j) (word_at 207 52 4 y j)
-    → received_at y j ≡ as_corrected ps (f + j) (word_at 207 52 4 y j)
+    → IsNear ps (f + j) (word_at 207 52 4 y j) → received_at y j ≡ as_corrected ps (f + j) (word_at 207 52 4 y j)
 unfolding received_at
-corrected_back ps y f j h z l n =
-    ap (received_by (187 * (j % 312)) word)
-    (near_corrected 207 187 randomizer_bytes (187 * ((f + j) % 312)) (drop 1 (get_or ps (f + j) [])) word
-    (own_data ps (f + j) h l) (length-word 207 52 4 y j)
-    (omega (arith, n, ap (distance word) (own_coded ps (f + j) h l)))
-    ∙ ap Some (sym (own_coded ps (f + j) h l)))
-    ∙ codeword_back ps f j word h z l
-  where
-    word : List ℕ
-    word = word_at 207 52 4 y j
+corrected_back ps y f j h z l n = grind (arith, near_corrected, own_data, length-word, own_coded, codeword_back)
 
 pub packet_back : (ps : List (List ℕ)) (k : ℕ) → ArePackets ps → k < length ps
     → IsComplete 207 52 4 (828 * (length ps / 4)) k → received_at (whole_groups ps) k ≡ as_sent ps k
 unfolding as_sent as_corrected
-packet_back ps k h l c =
-    corrected_back ps (whole_groups ps) 0 k h refl (omega (arith, l)) (omega (arith, far))
+packet_back ps k h l c = corrected_back ps (whole_groups ps) 0 k h refl (omega (arith, l)) (omega (arith, far))
     ∙ ap₂ (λ (i n : ℕ). record { packet = record { 0 = as_received (get_or ps i []) }; fixed = n; good = true })
     (zero-add k) far
   where
     far : distance (word_at 207 52 4 (whole_groups ps) k) (codeword_at ps (0 + k)) ≡ 0
-    far =
-        ap₂ distance (word_is ps k l c) (ap (codeword_at ps) (zero-add k))
+    far = ap₂ distance (word_is ps k l c) (ap (codeword_at ps) (zero-add k))
         ∙ distance_self (codeword_at ps k)
 
 -- ---- and the other way round
@@ -198,18 +164,14 @@ near_by : (ps : List (List ℕ)) (k from : ℕ) (word : List ℕ) (found : Optio
 unfolding as_received codeword_at
 near_by ps k from word None p l at is good same = cc
 near_by ps k from word (Some code) p l at is good same =
-    let packet : List ℕ = get_or ps k [] in
     let own = packet_at ps k p l in
-    let back : whitened randomizer_bytes (187 * (k % 312)) (take 187 code) ≡ drop 1 packet =
-    ap (λ (a : ℕ). whitened randomizer_bytes a (take 187 code)) (sym at) ∙ ap (drop 1) same in
-    let near = (near_if_corrected 207 187 randomizer_bytes (187 * (k % 312)) (drop 1 packet) word code
-    (sound packet own.0 own.1) is back).1 in
-    omega (arith, near, ap (distance word) (coded_is_own k packet own.0))
+    let back : whitened randomizer_bytes (187 * (k % 312)) (take 187 code) ≡ drop 1 (get_or ps k []) = grind arith in
+    let near = (near_if_corrected 207 187 randomizer_bytes (187 * (k % 312)) (drop 1 (get_or ps k [])) word code
+    (sound (get_or ps k []) own.0 own.1) is back).1 in
+    omega (arith, near, ap (distance word) (coded_is_own k (get_or ps k []) own.0))
 
 pub near_if_back : (ps : List (List ℕ)) (y : List ℕ) (f j : ℕ) → ArePackets ps → f % 312 ≡ 0 → f + j < length ps
     → (received_at y j).good ≡ true → (received_at y j).packet.0 ≡ as_received (get_or ps (f + j) [])
     → IsNear ps (f + j) (word_at 207 52 4 y j)
 unfolding received_at
-near_if_back ps y f j p z l good same =
-    near_by ps (f + j) (187 * (j % 312)) (word_at 207 52 4 y j) (correction 207 187 (word_at 207 52 4 y j)) p l
-    (omega (arith, z)) refl good same
+near_if_back ps y f j p z l good same = grind (arith, near_by)

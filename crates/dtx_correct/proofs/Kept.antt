@@ -52,13 +52,8 @@ same_or_not : (p w : ℕ) → (w ≡ p) ⊎ (w ≡ p → ⊥)
 same_or_not p w = grind arith
 
 count_step : (a b : ℕ → Bool) (p w : ℕ) → (w ≡ p) ⊎ (w ≡ p → ⊥) → ((j : ℕ) → j < suc w → (j ≡ p → ⊥) → a j ≡ b j)
-    → count a w ≤ count b w + 1
-    → cond (a w) 1 0 + count a w ≤ cond (b w) 1 0 + count b w + 1
-count_step a b p w (inl e) h i =
-    omega (arith, one_at_most (a w), count_same a b w (λ j l. h j (omega arith) (below_not j l)))
-  where
-    below_not : (j : ℕ) → j < w → j ≡ p → ⊥
-    below_not j l f = omega arith
+    → count a w ≤ count b w + 1 → cond (a w) 1 0 + count a w ≤ cond (b w) 1 0 + count b w + 1
+count_step a b p w (inl e) h i = grind (arith, one_at_most, count_same)
 count_step a b p w (inr d) h i = omega (arith, i, cond_same (a w) (b w) (h w (omega arith) d))
 
 -- where only p may be given up, one at most is
@@ -80,14 +75,8 @@ solves_same w e s a b v u h f g = record {
 -- after place p is set to false
 cases_same : (kept : List Bool) (p k : ℕ) → p < length kept → (k ≡ p) ⊎ (k ≡ p → ⊥)
     → get_or (set kept p false) k false ≡ true → (get_or kept k false && not (k == p)) ≡ true
-cases_same kept p k l (inl e) t =
-    cc_false (sym (subst (λ (j : ℕ). get_or (set kept p false) j false ≡ false) (sym e)
-    (get_or-set_same kept p false false l)) ∙ t)
-  where
-    cc_false : false ≡ true → (get_or kept k false && not (k == p)) ≡ true
-    cc_false e = cc
-cases_same kept p k l (inr d) t = ap₂ (λ u v. u && not v) (sym (get_or-set_other kept p k false false d)
-    ∙ t) (ne_eqb k p d)
+cases_same kept p k l (inl e) t = grind (arith, get_or-set_same)
+cases_same kept p k l (inr d) t = grind (arith, get_or-set_other, ne_eqb)
 
 pub kept_before : (kept : List Bool) (p k : ℕ) → p < length kept → get_or (set kept p false) k false ≡ true
     → (get_or kept k false && not (k == p)) ≡ true
@@ -112,18 +101,17 @@ unit_solves w s a v l b o z = record {
 -- what holds of each row below i, after row i is written
 pub rows_more : (P : ℕ → List ℕ → Type 0) (xs : List (List ℕ)) (i : ℕ) (x : List ℕ) → i < length xs
     → ((k : ℕ) → k < i → P k (get_or xs k [])) → P i x → (k : ℕ) → k < i + 1 → P k (get_or (set xs i x) k [])
-rows_more P xs i x l h q k m = by_place (last_or_below i k m)
+rows_more P xs i x l h q k m = elim (last_or_below i k m) [
+  | inl e ↦
+      subst (λ (j : ℕ). P j (get_or (set xs i x) j [])) (sym e) (subst (P i) (sym (get_or-set_same xs i x [] l)) q)
+  | inr r ↦ subst (P k) (sym (get_or-set_other xs i k x [] (λ s. below_not i k r s))) (h k r)
+]
   where
     last_or_below : (i k : ℕ) → k < i + 1 → (k ≡ i) ⊎ (k < i)
     last_or_below i k m = grind arith
 
     below_not : (i k : ℕ) → k < i → k ≡ i → ⊥
     below_not i k r s = omega arith
-
-    by_place : (k ≡ i) ⊎ (k < i) → P k (get_or (set xs i x) k [])
-    by_place (inl e) =
-        subst (λ (j : ℕ). P j (get_or (set xs i x) j [])) (sym e) (subst (P i) (sym (get_or-set_same xs i x [] l)) q)
-    by_place (inr r) = subst (P k) (sym (get_or-set_other xs i k x [] (λ s. below_not i k r s))) (h k r)
 
 get_take : (w : ℕ) (xs : List ℕ) (j : ℕ) → j < w → get_or (take w xs) j 0 ≡ get_or xs j 0
 get_take zero xs j l = absurd (omega arith)
@@ -133,8 +121,7 @@ get_take (suc w) (x ∷ xs) (suc j) l = get_take w xs j (omega arith)
 
 pub units_solve : (w : ℕ) (s : ℕ → ℕ) (a : ℕ → Bool) (vectors : List (List ℕ)) → w ≤ 128
     → ((k : ℕ) → k < w → IsUnit k (get_or vectors k [])) → Solves w 0 s a (vector w vectors)
-units_solve w s a vectors m h =
-    unit_solves w s a (vector w vectors)
+units_solve w s a vectors m h = unit_solves w s a (vector w vectors)
     (λ k l. length-take-le w (get_or vectors k []) (omega (arith, (h k l).long)))
     (λ k l. bytes_take w (get_or vectors k []) (h k l).bytes)
     (λ k l. get_take w (get_or vectors k []) k l ∙ (h k l).own)
@@ -143,12 +130,4 @@ units_solve w s a vectors m h =
 -- a kept vector of t + 1 entries that solves t equations is a locator
 pub kept_locator : (t e k : ℕ) (s : ℕ → ℕ) (keep : ℕ → Bool) (v : ℕ → List ℕ) → Solves (t + 1) e s keep v → t ≤ e
     → k < t + 1 → keep k ≡ true → IsLocator t s (v k)
-kept_locator t e k s keep v h m l u = record {
-  long = omega (arith, h.long k l);
-  bytes = h.bytes k l;
-  some = (k, λ z. not_both (get_or (v k) k 0) (h.own k l u) z);
-  annuls = λ i q. h.annuls k i l u (omega arith);
-}
-  where
-    not_both : (x : ℕ) → x ≡ 1 → x ≡ 0 → ⊥
-    not_both x p q = omega arith
+kept_locator t e k s keep v h m l u = grind arith

@@ -1,6 +1,6 @@
 -- A vector that solves one more equation at each step: begin with the unit vectors, and give one up for each equation.
 use Rattle.std.proofs.Common.{◌≡◌, ℕ, suc, ◌+◌, ◌<◌, ◌⊎◌, ◌==◌, Bool, true, not, ◌&&◌, List, [], ◌∷◌, length, get_or}
-use Rattle.std.proofs.Common.{bit_xor, refl, sym, ap, ap₂, ◌∙◌, subst, arith, inl, inr}
+use Rattle.std.proofs.Common.{bit_xor, refl, sym, ap, ap₂, ◌∙◌, arith, inl, inr}
 use Rattle.std.proofs.lemmas.Bool.{and_parts, not-true, eqb-false}
 use Rattle.std.proofs.lemmas.List.{length-map, get_or-map}
 use Rattle.std.specs.Int.Bits.{xor_self, xor_zero_r, xor_lt}
@@ -29,24 +29,16 @@ combination_scaled f (x ∷ xs) s i = ap₂ bit_xor (mul_assoc f x (s i)) (combi
     ∙ sym (mul_right f (mul x (s i)) (combination xs s (suc i)))
 
 reduced_at : (w e : ℕ) (s : ℕ → ℕ) (a : ℕ → Bool) (v : ℕ → List ℕ) (p g k j : ℕ) → Solves w e s a v → p < w → k < w
-    → j < w → get_or (v p) j 0 ≡ 0
-    → get_or (reduced s e v p g k) j 0 ≡ get_or (v k) j 0
+    → j < w → get_or (v p) j 0 ≡ 0 → get_or (reduced s e v p g k) j 0 ≡ get_or (v k) j 0
 reduced_at w e s a v p g k j h lp lk lj z =
-    let c : ℕ = mul (combination (v k) s e) g in
     sums_at (v k) (scaled (mul (combination (v k) s e) g) (v p)) j (omega (arith, h.long k lk))
     (omega (arith, length-map (v p) (mul (mul (combination (v k) s e) g)), h.long p lp))
-    ∙ ap (bit_xor (get_or (v k) j 0)) (get_or-map (mul (mul (combination (v k) s e) g)) (v p) j 0 0
-    (omega (arith, h.long p lp)) ∙ ap (mul (mul (combination (v k) s e) g)) z
-    ∙ mul_zero (mul (combination (v k) s e) g))
-    ∙ xor_zero_r (get_or (v k) j 0)
+    ∙ ap (bit_xor (get_or (v k) j 0)) (grind (arith, get_or-map, mul_zero)) ∙ xor_zero_r (get_or (v k) j 0)
 
 reduced_annuls : (s : ℕ → ℕ) (e i : ℕ) (v : ℕ → List ℕ) (p g k : ℕ) → length (v k) ≡ length (v p)
     → combination (reduced s e v p g k) s i ≡ bit_xor (combination (v k) s i)
     (mul (mul (combination (v k) s e) g) (combination (v p) s i))
-reduced_annuls s e i v p g k l =
-    combination_sums (v k) (scaled (mul (combination (v k) s e) g) (v p)) s i (l
-    ∙ sym (length-map (v p) (mul (mul (combination (v k) s e) g))))
-    ∙ ap (bit_xor (combination (v k) s i)) (combination_scaled (mul (combination (v k) s e) g) (v p) s i)
+reduced_annuls s e i v p g k l = grind (arith, combination_sums, length-map, combination_scaled)
 
 pub combination_small : (xs : List ℕ) (s : ℕ → ℕ) (i : ℕ) → combination xs s i < 256
 combination_small [] s i = omega arith
@@ -55,15 +47,13 @@ combination_small (x ∷ xs) s i =
 
 -- the new equation
 pub cancels : (x f g : ℕ) → x < 256 → mul f g ≡ 1 → bit_xor x (mul (mul x g) f) ≡ 0
-cancels x f g l e =
-    ap (bit_xor x) (mul_assoc x g f ∙ ap (mul x) (mul_comm g f ∙ e) ∙ mul_comm x 1 ∙ mul_one x l) ∙ xor_self x
+cancels x f g l e = rw (mul_assoc x g f, mul_comm g f, e, mul_comm x 1, mul_one x l, xor_self x)
 
 order : (e i : ℕ) → i < e + 1 → (i ≡ e) ⊎ (i < e)
 order e i l = grind arith
 
 pub step : (w e : ℕ) (s : ℕ → ℕ) (a : ℕ → Bool) (v : ℕ → List ℕ) (p g : ℕ) → Solves w e s a v → p < w → a p ≡ true
-    → mul (combination (v p) s e) g ≡ 1
-    → Solves w (e + 1) s (λ k. a k && not (k == p)) (reduced s e v p g)
+    → mul (combination (v p) s e) g ≡ 1 → Solves w (e + 1) s (λ k. a k && not (k == p)) (reduced s e v p g)
 step w e s a v p g h lp ap' f = record {
   long = λ k l. length_sums (v k) (scaled (mul (combination (v k) s e) g) (v p)) ∙ h.long k l;
   bytes = λ k l. bytes_sums (v k) (scaled (mul (combination (v k) s e) g) (v p)) (h.bytes k l)
@@ -82,11 +72,5 @@ step w e s a v p g h lp ap' f = record {
     other k t = eqb-false k p (not-true (k == p) (and_parts (a k) (not (k == p)) t).1)
 
     by_cases : (k i : ℕ) → k < w → a k ≡ true → (i ≡ e) ⊎ (i < e) → combination (reduced s e v p g k) s i ≡ 0
-    by_cases k i l t (inl q) =
-        subst (λ (j : ℕ). combination (reduced s e v p g k) s j ≡ 0) (sym q)
-        (reduced_annuls s e e v p g k (h.long k l ∙ sym (h.long p lp))
-        ∙ cancels (combination (v k) s e) (combination (v p) s e) g (combination_small (v k) s e) f)
-    by_cases k i l t (inr r) =
-        reduced_annuls s e i v p g k (h.long k l ∙ sym (h.long p lp))
-        ∙ ap₂ bit_xor (h.annuls k i l t r) (ap (mul (mul (combination (v k) s e) g)) (h.annuls p i lp ap' r)
-        ∙ mul_zero (mul (combination (v k) s e) g))
+    by_cases k i l t (inl q) = grind (arith, reduced_annuls, cancels, combination_small)
+    by_cases k i l t (inr r) = grind (arith, reduced_annuls, mul_zero)

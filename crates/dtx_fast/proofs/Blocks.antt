@@ -11,10 +11,8 @@ walked_moved : (w z y : ℕ) (c d : ℕ → ℕ) → ((k : ℕ) → k < w → d 
     → walked w d y ≡ walked w c (mul z y)
 unfolding walked
 walked_moved zero z y c d h = refl
-walked_moved (suc w) z y c d h =
-    ap₂ bit_xor (walked_moved w z y c d (λ k l. h k (omega arith)))
-    (ap (λ (v : ℕ). mul v (pow y w)) (h w (omega arith)) ∙ mul_assoc (c w) (pow z w) (pow y w)
-    ∙ ap (mul (c w)) (sym (pow_mul z y w)))
+walked_moved (suc w) z y c d h = ap₂ bit_xor (walked_moved w z y c d (λ k l. h k (omega arith)))
+    (grind (arith, mul_assoc, pow_mul))
 
 -- before the first block
 pub not_moved : (g k c : ℕ) → c < 256 → c ≡ mul c (pow (pow g (32 * 0)) k)
@@ -32,23 +30,19 @@ moved_more g b k c d e h m =
 -- a value in a block
 pub block_value : (w g b r : ℕ) (c d : ℕ → ℕ) → ((k : ℕ) → k < w → d k ≡ mul (c k) (pow (pow g (32 * b)) k))
     → walked w d (pow g r) ≡ walked w c (pow g (32 * b + r))
-block_value w g b r c d h =
-    walked_moved w (pow g (32 * b)) (pow g r) c d h ∙ ap (walked w c) (sym (pow_add g (32 * b) r))
+block_value w g b r c d h = grind (arith, walked_moved, pow_add)
 
 -- what holds in all blocks so far holds in the next
 pub blocks_more : (b : ℕ) (old new block : List ℕ) (f : ℕ → ℕ) → ((q : ℕ) → q < 32 * b → get_or old q 0 ≡ f q)
     → ((q : ℕ) → q < 32 * b → get_or new q 0 ≡ get_or old q 0)
     → ((r : ℕ) → r < 32 → get_or new (32 * b + r) 0 ≡ get_or block r 0)
-    → ((r : ℕ) → r < 32 → get_or block r 0 ≡ f (32 * b + r))
-    → (q : ℕ) → q < 32 * (b + 1) → get_or new q 0 ≡ f q
-blocks_more b old new block f done before put value q l = by_place (places b q)
+    → ((r : ℕ) → r < 32 → get_or block r 0 ≡ f (32 * b + r)) → (q : ℕ) → q < 32 * (b + 1) → get_or new q 0 ≡ f q
+blocks_more b old new block f done before put value q l = elim (places b q) [
+  | inl u ↦ before q u ∙ done q u
+  | inr u ↦
+      let same : 32 * b + (q - 32 * b) ≡ q = omega arith in
+      sym (ap (λ j. get_or new j 0) same) ∙ put (q - 32 * b) (omega arith) ∙ value (q - 32 * b) (omega arith) ∙ ap f same
+]
   where
     places : (b q : ℕ) → (q < 32 * b) ⊎ (32 * b ≤ q)
     places b q = grind arith
-
-    by_place : (q < 32 * b) ⊎ (32 * b ≤ q) → get_or new q 0 ≡ f q
-    by_place (inl u) = before q u ∙ done q u
-    by_place (inr u) =
-        let r : ℕ = q - 32 * b in
-        let same : 32 * b + r ≡ q = omega arith in
-        sym (ap (λ j. get_or new j 0) same) ∙ put r (omega arith) ∙ value r (omega arith) ∙ ap f same

@@ -3,7 +3,7 @@ use Rattle.std.proofs.Common.{◌≡◌, ℕ, zero, suc, ◌+◌, ◌-◌, ◌<�
 use Rattle.std.proofs.Common.{ap₂, ◌∙◌, arith}
 use Rattle.std.proofs.lemmas.List.{length-map}
 use Rattle.std.specs.List.{AllByRecursion}
-use Rattle.std.specs.Int.Bits.{xor_self, xor_zero_r, xor_comm}
+use Rattle.std.specs.Int.Bits.{xor_self, xor_zero_r}
 use Rattle.dtx_galois.specs.Field.{mul, pow, value}
 use Rattle.dtx_galois.proofs.FieldLemmas.{mul_one, mul_zero, zero_mul}
 use Rattle.dtx_galois.proofs.ValuesLemmas.{value_small}
@@ -32,15 +32,10 @@ connection_end (y ∷ ys) (suc k) l =
 connection_is : (ys : List ℕ) (s : ℕ → ℕ) (n : ℕ) → ((j : ℕ) → s j < 256) → length ys ≤ n
     → discrepancy (suc (length ys)) (connection ys) s n ≡ without ys s (n - length ys)
 unfolding discrepancy connection without
-connection_is [] s n b l =
-    xor_start (mul 1 (s (n - 0))) ∙ mul_one (s (n - 0)) (b (n - 0))
-  where
-    xor_start : (x : ℕ) → bit_xor 0 x ≡ x
-    xor_start x = sym (sym (xor_zero_r x) ∙ xor_comm x 0)
+connection_is [] s n b l = grind (arith, mul_one)
 connection_is (y ∷ ys) s n b l =
     discrepancy_mended (suc (suc (length ys))) y (connection ys) (moved 1 (connection ys)) s n
-    ∙ ap₂ (λ (u v : ℕ). bit_xor u (mul y v))
-    (ap (λ w. discrepancy w (connection ys) s n) (one_more (length ys))
+    ∙ ap₂ (λ (u v : ℕ). bit_xor u (mul y v)) (ap (λ w. discrepancy w (connection ys) s n) (one_more (length ys))
     ∙ discrepancy_longer (suc (length ys)) 1 (connection ys) s n (λ k p q. connection_end ys k (omega arith))
     ∙ connection_is ys s n b (omega arith) ∙ ap (without ys s) (next n (length ys) (omega arith)))
     (ap (λ w. discrepancy w (moved 1 (connection ys)) s n) (one_before (length ys))
@@ -109,15 +104,14 @@ recurs_same m l s r c h p = record {
 -- what is no longer than any recurrence of a word's syndromes is no longer than there are wrong places
 pub least_of_word : (n k m l : ℕ) (word code : List ℕ) (s : ℕ → ℕ) → length word ≡ n → IsCorrection n k word code
     → m ≤ n - k → ((j : ℕ) → j < m → s j ≡ value word (pow 2 j)) → IsLeast m l s → l ≤ distance word code
-least_of_word n k m l word code s long c few h least =
-    omega (
-      arith,
-      length_differences word code,
-      least (length (differences word code)) (connection (powers (differences word code)))
-          (recurs_same m (length (differences word code)) s (λ j. value word (pow 2 j))
-          (connection (powers (differences word code))) h
-          (connection_recurs m (differences word code) (λ j. value word (pow 2 j)) (λ j. value_small word (pow 2 j))
-          (λ j r. sym (moment_differences j word code (long ∙ sym c.codeword.long)
-          ∙ ap (bit_xor (value word (pow 2 j))) (c.codeword.vanishes j (omega arith))
-          ∙ xor_zero_r (value word (pow 2 j)))))),
-    )
+least_of_word n k m l word code s long c few h least = omega (
+  arith,
+  length_differences word code,
+  least (length (differences word code)) (connection (powers (differences word code)))
+      (recurs_same m (length (differences word code)) s (λ j. value word (pow 2 j))
+      (connection (powers (differences word code))) h
+      (connection_recurs m (differences word code) (λ j. value word (pow 2 j)) (λ j. value_small word (pow 2 j))
+      (λ j r. sym (moment_differences j word code (long ∙ sym c.codeword.long)
+      ∙ ap (bit_xor (value word (pow 2 j))) (c.codeword.vanishes j (omega arith))
+      ∙ xor_zero_r (value word (pow 2 j)))))),
+)

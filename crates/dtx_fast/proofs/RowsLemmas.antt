@@ -10,8 +10,7 @@ use Rattle.dtx_fast.specs.Recurrence.{walked}
 use Rattle.dtx_fast.specs.Rows.{half_byte}
 
 halves : (c : ℕ) → c < 256 → bit_xor (c % 16) (16 * (c / 16)) ≡ c
-halves c l =
-    ap₂ bit_xor (low c) (high c)
+halves c l = ap₂ bit_xor (low c) (high c)
     ∙ xor_block 4 0 (c / 16) (c % 16) 0 (omega arith) (omega arith)
     ∙ ap₂ (λ (a b : ℕ). a * 16 + b) (xor_comm 0 (c / 16) ∙ xor_zero_r (c / 16)) (xor_zero_r (c % 16)) ∙ back c
   where
@@ -30,16 +29,11 @@ low_half n l = ap (λ u. cond u n (16 * (n - 16))) (lt-ltb n 16 l)
 
 high_half : (n : ℕ) → half_byte (16 + n) ≡ 16 * n
 unfolding half_byte
-high_half n = ap (λ u. cond u (16 + n) (16 * (16 + n - 16))) (le-ltb (16 + n) 16 (omega arith)) ∙ back n
-  where
-    back : (n : ℕ) → 16 * (16 + n - 16) ≡ 16 * n
-    back n = omega arith
+high_half n = grind (arith, le-ltb)
 
 -- a product is the sum of those of the two halves
-pub two_halves : (c x : ℕ) → c < 256
-    → bit_xor (mul (half_byte (c % 16)) x) (mul (half_byte (16 + c / 16)) x) ≡ mul c x
-two_halves c x l =
-    ap₂ (λ (a b : ℕ). bit_xor (mul a x) (mul b x)) (low_half (c % 16) (omega arith)) (high_half (c / 16))
+pub two_halves : (c x : ℕ) → c < 256 → bit_xor (mul (half_byte (c % 16)) x) (mul (half_byte (16 + c / 16)) x) ≡ mul c x
+two_halves c x l = ap₂ (λ (a b : ℕ). bit_xor (mul a x) (mul b x)) (low_half (c % 16) (omega arith)) (high_half (c / 16))
     ∙ sym (mul_left (c % 16) (16 * (c / 16)) x) ∙ ap (λ (z : ℕ). mul z x) (halves c l)
 
 -- the value of a word is the walk's over its bytes from the last on
@@ -47,11 +41,8 @@ pub value_walked : (xs : List ℕ) (d : ℕ → ℕ) (y : ℕ)
     → ((k : ℕ) → k < length xs → d k ≡ get_or xs (length xs - 1 - k) 0) → value xs y ≡ walked (length xs) d y
 unfolding value walked
 value_walked [] d y h = refl
-value_walked (x ∷ xs) d y h =
-    ap₂ (λ (u v : ℕ). bit_xor (mul u (pow y (length xs))) v)
-    (sym (h (length xs) (omega arith) ∙ ap (λ j. get_or (x ∷ xs) j 0) (last (length xs))))
-    (value_walked xs d y (λ k l. h k (omega arith)
-    ∙ ap (λ j. get_or (x ∷ xs) j 0) (inner (length xs) k l)))
+value_walked (x ∷ xs) d y h = ap₂ (λ (u v : ℕ). bit_xor (mul u (pow y (length xs))) v) (sym (grind (arith, last)))
+    (value_walked xs d y (λ k l. h k (omega arith) ∙ ap (λ j. get_or (x ∷ xs) j 0) (inner (length xs) k l)))
     ∙ xor_comm (mul (d (length xs)) (pow y (length xs))) (walked (length xs) d y)
   where
     last : (n : ℕ) → suc n - 1 - n ≡ 0
@@ -75,22 +66,15 @@ walked_same (suc w) y c d h =
 -- over a front part of a list
 pub walked_front : (w y : ℕ) (xs : List ℕ) → w ≤ length xs
     → walked (length (take w xs)) (λ k. get_or (take w xs) k 0) y ≡ walked w (λ k. get_or xs k 0) y
-walked_front w y xs l =
-    ap (λ v. walked v (λ k. get_or (take w xs) k 0) y) (length-take-le w xs l)
-    ∙ walked_same w y (λ k. get_or (take w xs) k 0) (λ k. get_or xs k 0) (λ k m. get_or-take w xs k 0 m)
+walked_front w y xs l = grind (arith, length-take-le, walked_same, get_or-take)
 
 -- what the rows of a coefficient's two halves add
 pub two_rows : (R k c q g : ℕ) (rows : List (List ℕ)) → c < 256 → 32 * k + 31 < R
     → ((j : ℕ) → j < R → get_or (get_or rows j []) q 0 ≡ mul (half_byte (j % 32)) (pow (pow g q) (j / 32)))
     → bit_xor (get_or (get_or rows (32 * k + c % 16) []) q 0) (get_or (get_or rows (32 * k + 16 + c / 16) []) q 0)
     ≡ mul c (pow (pow g q) k)
-two_rows R k c q g rows l m h =
-    ap₂ bit_xor (one (32 * k + c % 16) (c % 16) (omega arith) (omega arith))
-    (one (32 * k + 16 + c / 16) (16 + c / 16) (omega arith) (omega arith))
-    ∙ two_halves c (pow (pow g q) k) l
+two_rows R k c q g rows l m h = ap₂ bit_xor (one (32 * k + c % 16) (c % 16) (omega arith) (omega arith))
+    (one (32 * k + 16 + c / 16) (16 + c / 16) (omega arith) (omega arith)) ∙ two_halves c (pow (pow g q) k) l
   where
     one : (j n : ℕ) → j ≡ 32 * k + n → n < 32 → get_or (get_or rows j []) q 0 ≡ mul (half_byte n) (pow (pow g q) k)
-    one j n e u =
-        h j (omega arith)
-        ∙ ap₂ (λ (a b : ℕ). mul (half_byte a) (pow (pow g q) b)) (let r : j % 32 ≡ n = omega arith in r)
-        (let r : j / 32 ≡ k = omega arith in r)
+    one j n e u = grind arith

@@ -26,7 +26,11 @@ pub mended_at : (y last f : ℕ) (c d b : ℕ → ℕ) → ((k : ℕ) → k < y 
     → ((k : ℕ) → y ≤ k → k ≤ last → d k ≡ bit_xor (c k) (mul f (b (k - y))))
     → ((k : ℕ) → y ≤ k → last < k → d k ≡ c k) → ((k : ℕ) → y ≤ k → last < k → b (k - y) ≡ 0)
     → (k : ℕ) → d k ≡ bit_xor (c k) (mul f (moved y b k))
-mended_at y last f c d b low mid high none k = by_place (places y last k)
+mended_at y last f c d b low mid high none k = elim (places y last k) [
+  | inl l ↦ low k l ∙ adds_none (moved y b k) (moved_below y k b l)
+  | inr (l, inl m) ↦ mid k l m ∙ ap (λ x. bit_xor (c k) (mul f x)) (sym (moved_from y k b l))
+  | inr (l, inr m) ↦ high k l m ∙ adds_none (moved y b k) (moved_from y k b l ∙ none k l m)
+]
   where
     places : (y last k : ℕ) → (k < y) ⊎ ((y ≤ k) × ((k ≤ last) ⊎ (last < k)))
     places y last k = grind arith
@@ -34,28 +38,20 @@ mended_at y last f c d b low mid high none k = by_place (places y last k)
     adds_none : (x : ℕ) → x ≡ 0 → c k ≡ bit_xor (c k) (mul f x)
     adds_none x e = sym (ap (bit_xor (c k)) (ap (mul f) e ∙ mul_zero f) ∙ xor_zero_r (c k))
 
-    by_place : (k < y) ⊎ ((y ≤ k) × ((k ≤ last) ⊎ (last < k))) → d k ≡ bit_xor (c k) (mul f (moved y b k))
-    by_place (inl l) = low k l ∙ adds_none (moved y b k) (moved_below y k b l)
-    by_place (inr (l, inl m)) = mid k l m ∙ ap (λ x. bit_xor (c k) (mul f x)) (sym (moved_from y k b l))
-    by_place (inr (l, inr m)) = high k l m ∙ adds_none (moved y b k) (moved_from y k b l ∙ none k l m)
-
 -- over all coefficients that there is room for
 wide : (l : ℕ) (c s : ℕ → ℕ) (n : ℕ) → l < 128 → ((k : ℕ) → l < k → c k ≡ 0)
     → discrepancy 128 c s n ≡ discrepancy (suc l) c s n
-wide l c s n r h =
-    ap (λ u. discrepancy u c s n) (omega arith)
+wide l c s n r h = ap (λ u. discrepancy u c s n) (omega arith)
     ∙ discrepancy_longer (suc l) (127 - l) c s n (λ k p q. h k (omega arith))
 
 wide_moved : (y : ℕ) (b s : ℕ → ℕ) (n : ℕ) → y ≤ 128 → ((k : ℕ) → 128 - y ≤ k → b k ≡ 0)
     → discrepancy 128 (moved y b) s n ≡ discrepancy 128 b s (n - y)
-wide_moved y b s n r h =
-    ap (λ u. discrepancy u (moved y b) s n) (omega arith) ∙ discrepancy_moved y (128 - y) b s n
+wide_moved y b s n r h = ap (λ u. discrepancy u (moved y b) s n) (omega arith) ∙ discrepancy_moved y (128 - y) b s n
     ∙ sym (discrepancy_longer (128 - y) y b s (n - y) (λ k p q. h k p))
     ∙ ap (λ u. discrepancy u b s (n - y)) (omega arith)
 
 cancels : (d g e : ℕ) → d < 256 → mul e g ≡ 1 → bit_xor d (mul (mul d g) e) ≡ 0
-cancels d g e l h =
-    ap (bit_xor d) (mul_assoc d g e ∙ ap (mul d) (mul_comm g e ∙ h) ∙ mul_comm d 1 ∙ mul_one d l) ∙ xor_self d
+cancels d g e l h = rw (mul_assoc d g e, mul_comm g e, h, mul_comm d 1, mul_one d l, xor_self d)
 
 -- what the lemmas below take: new coefficients, of order m
 record AreMended (n l m gap inverse f : ℕ) (s c b d : ℕ → ℕ) : Type 0 where
@@ -68,22 +64,14 @@ record AreMended (n l m gap inverse f : ℕ) (s c b d : ℕ → ℕ) : Type 0 wh
 
 mended_behind : (n l m gap inverse f : ℕ) (s c b d : ℕ → ℕ) → AreMended n l m gap inverse f s c b d
     → (k : ℕ) → m < k → d k ≡ 0
-mended_behind n l m gap inverse f s c b d h k r =
-    let st = h.stage in
-    h.at k ∙ ap₂ bit_xor (h.stage.behind k (omega (arith, h.longer)))
-    (ap (mul f) (moved_from gap k b (omega (arith, h.enough, h.stage.within))
-    ∙ h.stage.before_behind (k - gap) (omega (arith, h.enough, h.stage.within))) ∙ mul_zero f)
+mended_behind n l m gap inverse f s c b d h k r = grind (arith, moved_from, mul_zero)
 
 mended_is : (n l m gap inverse f : ℕ) (s c b d : ℕ → ℕ) → AreMended n l m gap inverse f s c b d
     → (i : ℕ) → discrepancy (suc m) d s i ≡ bit_xor (discrepancy (suc l) c s i) (mul f (discrepancy 128 b s (i - gap)))
-mended_is n l m gap inverse f s c b d h i =
-    sym (wide m d s i h.room (mended_behind n l m gap inverse f s c b d h))
+mended_is n l m gap inverse f s c b d h i = sym (wide m d s i h.room (mended_behind n l m gap inverse f s c b d h))
     ∙ same_coefficients 128 d (λ k. bit_xor (c k) (mul f (moved gap b k))) s i (λ k r. h.at k)
-    ∙ discrepancy_mended 128 f c (moved gap b) s i
-    ∙ ap₂ (λ (u v : ℕ). bit_xor u (mul f v))
-    (wide l c s i (omega (arith, h.longer, h.room)) h.stage.behind)
-    (wide_moved gap b s i (omega (arith, h.enough, h.stage.within, h.room))
-    (λ k r. h.stage.before_behind k (omega (arith, h.enough, h.stage.within, h.room))))
+    ∙ discrepancy_mended 128 f c (moved gap b) s i ∙ ap₂ (λ (u v : ℕ). bit_xor u (mul f v))
+    (wide l c s i (omega (arith, h.longer, h.room)) h.stage.behind) (grind (arith, wide_moved))
 
 mended_next : (n l m gap inverse f : ℕ) (s c b d : ℕ → ℕ) → AreMended n l m gap inverse f s c b d
     → (i : ℕ) → m ≤ i → i < n + 1 → discrepancy (suc m) d s i ≡ 0
@@ -94,19 +82,11 @@ mended_next n l m gap inverse f s c b d h i p q =
     last_or_before i n q = grind arith
 
     by_term : (i < n) ⊎ (i ≡ n) → bit_xor (discrepancy (suc l) c s i) (mul f (discrepancy 128 b s (i - gap))) ≡ 0
-    by_term (inl r) =
-        ap₂ bit_xor (h.stage.next i (omega (arith, h.longer)) r)
-        (ap (mul f) (h.stage.before_next (i - gap) (omega (arith, h.enough, h.stage.within))
-        (omega (arith, h.enough, h.stage.within))) ∙ mul_zero f)
-    by_term (inr r) =
-        ap (λ j. bit_xor (discrepancy (suc l) c s j) (mul f (discrepancy 128 b s (j - gap)))) r
-        ∙ ap (λ (x : ℕ). bit_xor (discrepancy (suc l) c s n) (mul x (discrepancy 128 b s (n - gap)))) h.factor
-        ∙ cancels (discrepancy (suc l) c s n) inverse (discrepancy 128 b s (n - gap)) (discrepancy_small (suc l) c s n)
-        (h.stage.before_fails (omega (arith, h.enough, h.stage.within)))
+    by_term (inl r) = grind (arith, mul_zero)
+    by_term (inr r) = grind (arith, cancels, discrepancy_small)
 
 mended_newest : (n l m gap inverse f : ℕ) (s c b d : ℕ → ℕ) → AreMended n l m gap inverse f s c b d → d 0 ≡ 1
-mended_newest n l m gap inverse f s c b d h =
-    h.at 0 ∙ ap₂ bit_xor h.stage.newest (ap (mul f) (moved_below gap 0 b h.stage.some) ∙ mul_zero f)
+mended_newest n l m gap inverse f s c b d h = grind (arith, moved_below, mul_zero)
 
 pub stage_recurs : (n l gap inverse : ℕ) (s c b : ℕ → ℕ) → IsStage n l gap inverse s c b → IsRecurrence n l s c
 stage_recurs n l gap inverse s c b h = record { newest = h.newest; next = h.next }
@@ -120,26 +100,7 @@ zeros_at (suc n) (suc k) = zeros_at n k
 
 pub first_stage : (s c b : ℕ → ℕ) → c 0 ≡ 1 → ((k : ℕ) → 0 < k → c k ≡ 0) → ((k : ℕ) → 0 < k → b k ≡ 0)
     → IsStage 0 0 1 1 s c b
-first_stage s c b o z y = record {
-  newest = o;
-  behind = z;
-  next = λ i p q. absurd (none i q);
-  least = λ k d r. omega arith;
-  some = omega arith;
-  within = omega arith;
-  before_behind = λ k r. y k (omega arith);
-  before_next = λ i p q. absurd (none_of i q);
-  before_fails = λ r. absurd (one_not r);
-}
-  where
-    none : (i : ℕ) → i < 0 → ⊥
-    none i q = omega arith
-
-    none_of : (i : ℕ) → i + 1 < 0 → ⊥
-    none_of i q = omega arith
-
-    one_not : ◌≤◌ 1 0 → ⊥
-    one_not r = omega arith
+first_stage s c b o z y = grind arith
 
 least_next : (n l : ℕ) (s : ℕ → ℕ) → IsLeast (suc n) l s → IsLeast (n + 1) l s
 least_next n l s h = subst (λ j. IsLeast j l s) (sym (add-one n)) h
@@ -158,7 +119,10 @@ pub stage_kept : (n l gap inverse : ℕ) (s c b : ℕ → ℕ) → IsStage n l g
 stage_kept n l gap inverse s c b h e = record {
   newest = h.newest;
   behind = h.behind;
-  next = λ i p q. by_term i p (last_or_before i n q);
+  next = λ i p q. elim (last_or_before i n q) [
+    | inl r ↦ h.next i p r
+    | inr r ↦ ap (discrepancy (suc l) c s) r ∙ ap (λ w. discrepancy w c s n) (sym (add-one l)) ∙ e
+  ];
   least = least_next n l s (least_same n l s h.least);
   some = omega arith;
   within = omega (arith, h.within);
@@ -173,60 +137,40 @@ stage_kept n l gap inverse s c b h e = record {
     both : (n gap : ℕ) → n + 1 - (gap + 1) ≡ n - gap
     both n gap = omega arith
 
-    by_term : (i : ℕ) → l ≤ i → (i < n) ⊎ (i ≡ n) → discrepancy (suc l) c s i ≡ 0
-    by_term i p (inl r) = h.next i p r
-    by_term i p (inr r) = ap (discrepancy (suc l) c s) r ∙ ap (λ w. discrepancy w c s n) (sym (add-one l)) ∙ e
-
 -- a term for which the order is enough
 pub stage_mended : (n l gap inverse f : ℕ) (s c b d : ℕ → ℕ) → IsStage n l gap inverse s c b → l < 128 → n < 2 * l
     → f ≡ mul (discrepancy (l + 1) c s n) inverse → ((k : ℕ) → d k ≡ bit_xor (c k) (mul f (moved gap b k)))
     → IsStage (n + 1) l (gap + 1) inverse s d b
-stage_mended n l gap inverse f s c b d h r t e g =
-    let m : AreMended n l l gap inverse f s c b d = record {
-      stage = h;
-      longer = omega arith;
-      room = r;
-      enough = omega arith;
-      factor = e ∙ ap (λ w. mul (discrepancy w c s n) inverse) (add-one l);
-      at = g;
-    } in record {
-      newest = mended_newest n l l gap inverse f s c b d m;
-      behind = mended_behind n l l gap inverse f s c b d m;
-      next = mended_next n l l gap inverse f s c b d m;
-      least = least_next n l s (least_same n l s h.least);
-      some = omega arith;
-      within = omega (arith, h.within);
-      before_behind = λ k r. h.before_behind k (omega arith);
-      before_next = λ i p q. h.before_next i (omega arith) (omega arith);
-      before_fails = λ r. ap (λ j. mul (discrepancy 128 b s j) inverse) (omega arith) ∙ h.before_fails (omega arith);
-    }
+stage_mended n l gap inverse f s c b d h r t e g = record {
+  newest = mended_newest n l l gap inverse f s c b d (grind (arith, add-one));
+  behind = mended_behind n l l gap inverse f s c b d (grind (arith, add-one));
+  next = mended_next n l l gap inverse f s c b d (grind (arith, add-one));
+  least = least_next n l s (least_same n l s h.least);
+  some = omega arith;
+  within = omega (arith, h.within);
+  before_behind = λ k r. h.before_behind k (omega arith);
+  before_next = λ i p q. h.before_next i (omega arith) (omega arith);
+  before_fails = λ r. ap (λ j. mul (discrepancy 128 b s j) inverse) (omega arith) ∙ h.before_fails (omega arith);
+}
 
 -- a term for which it isn't
 pub stage_raised : (n l gap inverse f again : ℕ) (s c b d : ℕ → ℕ) → IsStage n l gap inverse s c b → 2 * l ≤ n
     → n + 1 - l < 128 → discrepancy (l + 1) c s n ≢ 0 → mul (discrepancy (l + 1) c s n) again ≡ 1
     → f ≡ mul (discrepancy (l + 1) c s n) inverse → ((k : ℕ) → d k ≡ bit_xor (c k) (mul f (moved gap b k)))
     → IsStage (n + 1) (n + 1 - l) 1 again s d c
-stage_raised n l gap inverse f again s c b d h t r o a e g =
-    let m : AreMended n l (n + 1 - l) gap inverse f s c b d = record {
-      stage = h;
-      longer = omega arith;
-      room = r;
-      enough = omega arith;
-      factor = e ∙ ap (λ w. mul (discrepancy w c s n) inverse) (add-one l);
-      at = g;
-    } in record {
-      newest = mended_newest n l (n + 1 - l) gap inverse f s c b d m;
-      behind = mended_behind n l (n + 1 - l) gap inverse f s c b d m;
-      next = mended_next n l (n + 1 - l) gap inverse f s c b d m;
-      least = least_grown n l gap inverse s c b h o;
-      some = omega arith;
-      within = omega arith;
-      before_behind = λ k q. h.behind k (behind n l k q t);
-      before_next = λ i p q. wide l c s i (omega arith) h.behind ∙ h.next i (omega arith) (omega arith);
-      before_fails = λ q. ap (λ j. mul (discrepancy 128 c s j) again) (omega arith)
-          ∙ ap (λ (x : ℕ). mul x again) (wide l c s n (omega arith) h.behind
-          ∙ ap (λ w. discrepancy w c s n) (sym (add-one l))) ∙ a;
-    }
+stage_raised n l gap inverse f again s c b d h t r o a e g = record {
+  newest = mended_newest n l (n + 1 - l) gap inverse f s c b d (grind (arith, add-one));
+  behind = mended_behind n l (n + 1 - l) gap inverse f s c b d (grind (arith, add-one));
+  next = mended_next n l (n + 1 - l) gap inverse f s c b d (grind (arith, add-one));
+  least = least_grown n l gap inverse s c b h o;
+  some = omega arith;
+  within = omega arith;
+  before_behind = λ k q. h.behind k (behind n l k q t);
+  before_next = λ i p q. wide l c s i (omega arith) h.behind ∙ h.next i (omega arith) (omega arith);
+  before_fails = λ q. ap (λ j. mul (discrepancy 128 c s j) again) (omega arith)
+      ∙ ap (λ (x : ℕ). mul x again) (wide l c s n (omega arith) h.behind
+      ∙ ap (λ w. discrepancy w c s n) (sym (add-one l))) ∙ a;
+}
   where
     behind : (n l k : ℕ) → n + 1 + 1 < n + 1 - l + 1 + k → 2 * l ≤ n → l < k
     behind n l k q t = omega arith

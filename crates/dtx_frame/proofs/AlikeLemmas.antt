@@ -20,8 +20,7 @@ same_test = refl
 
 second_same : (i : ℕ) → i < 515 → sliced (get_or (sync_symbols true) i (pos 0))
     ≡ sliced (get_or (sync_symbols false) i (pos 0))
-second_same i l =
-    ap (λ (xs : List ℤ). sliced (get_or xs i (pos 0))) (sym second_is)
+second_same i l = ap (λ (xs : List ℤ). sliced (get_or xs i (pos 0))) (sym second_is)
     ∙ eqb-true (sliced (get_or SECOND i (pos 0))) (sliced (get_or FIRST i (pos 0)))
     (at_below (λ i. sliced (get_or SECOND i (pos 0)) == sliced (get_or FIRST i (pos 0))) 515 i same_test l)
     ∙ ap (λ (xs : List ℤ). sliced (get_or xs i (pos 0))) first_is
@@ -42,13 +41,11 @@ unfolding sliced
 second_test = refl
 
 first_sign : (i : ℕ) → i < 63 → sliced (get_or (sync_symbols false) (578 + i) (pos 0)) / 4 ≡ get_or pn63 i 0
-first_sign i l =
-    ap (λ (xs : List ℤ). sliced (get_or xs (578 + i) (pos 0)) / 4) (sym first_is)
+first_sign i l = ap (λ (xs : List ℤ). sliced (get_or xs (578 + i) (pos 0)) / 4) (sym first_is)
     ∙ eqb-true (sliced (get_or FIRST (578 + i) (pos 0)) / 4) (get_or pn63 i 0) (short_at has_sign 63 i first_test l)
 
 second_sign : (i : ℕ) → i < 63 → sliced (get_or (sync_symbols true) (578 + i) (pos 0)) / 4 + get_or pn63 i 0 ≡ 1
-second_sign i l =
-    ap (λ (xs : List ℤ). sliced (get_or xs (578 + i) (pos 0)) / 4 + get_or pn63 i 0) (sym second_is)
+second_sign i l = ap (λ (xs : List ℤ). sliced (get_or xs (578 + i) (pos 0)) / 4 + get_or pn63 i 0) (sym second_is)
     ∙ eqb-true (sliced (get_or SECOND (578 + i) (pos 0)) / 4 + get_or pn63 i 0) 1
     (short_at has_other_sign 63 i second_test l)
 
@@ -65,14 +62,11 @@ alike_at true last i l = ap sliced (sync_at true last i (omega arith)) ∙ secon
 
 differs_not : (second : Bool) (last : List ℤ) (i : ℕ) → i < 515 → differs (field_sync second last) i ≡ 0
 unfolding differs
-differs_not second last i l =
-    same_is (sliced (get_or (field_sync second last) i (pos 0))) (sliced (get_or (sync_symbols false) i (pos 0)))
-    (alike_at second last i l)
+differs_not second last i l = grind (arith, same_is, alike_at)
 
 pub none_differ : (second : Bool) (last : List ℤ) → differing (field_sync second last) ≡ 0
 unfolding differing
-none_differ second last =
-    sum_is (differs (field_sync second last)) 0 515
+none_differ second last = sum_is (differs (field_sync second last)) 0 515
     ∙ total_zeros (differs (field_sync second last)) 0 515 (λ i _ l. differs_not second last i (omega arith))
 
 pub looks_alike : (second : Bool) (last : List ℤ) → looks_like (field_sync second last) ≡ true
@@ -81,28 +75,16 @@ looks_alike second last = ap (λ n. nat_le n 32) (none_differ second last)
 
 none_opposite : (last : List ℤ) (i : ℕ) → i < 63 → opposite (field_sync false last) i ≡ 0
 unfolding opposite
-none_opposite last i l =
-    same_is (sliced (get_or (field_sync false last) (578 + i) (pos 0)) / 4) (get_or pn63 i 0)
-    (ap (λ x. sliced x / 4) (sync_at false last (578 + i) (omega arith)) ∙ first_sign i l)
+none_opposite last i l = grind (arith, same_is, sync_at, first_sign)
 
 all_opposite : (last : List ℤ) (i : ℕ) → i < 63 → opposite (field_sync true last) i ≡ 1
 unfolding opposite
-all_opposite last i l =
-    other_is (sliced (get_or (field_sync true last) (578 + i) (pos 0)) / 4) (get_or pn63 i 0)
-    (λ e. unlike (sliced (get_or (field_sync true last) (578 + i) (pos 0)) / 4) (get_or pn63 i 0)
-    (ap (λ x. sliced x / 4 + get_or pn63 i 0) (sync_at true last (578 + i) (omega arith)) ∙ second_sign i l) e)
-  where
-    unlike : (x y : ℕ) → x + y ≡ 1 → x ≡ y → ⊥
-    unlike x y h e = omega arith
+all_opposite last i l = grind (arith, other_is, sync_at, second_sign)
 
 pub second_told : (second : Bool) (last : List ℤ) → looks_second (field_sync second last) ≡ second
 unfolding looks_second opposites
-second_told false last =
-    ap (λ n. nat_le 32 n) (sum_is (opposite (field_sync false last)) 0 63
-    ∙ total_zeros (opposite (field_sync false last)) 0 63 (λ i _ l. none_opposite last i (omega arith)))
-second_told true last =
-    ap (λ n. nat_le 32 n) (sum_is (opposite (field_sync true last)) 0 63
-    ∙ total_ones (opposite (field_sync true last)) 0 63 (λ i _ l. all_opposite last i (omega arith)))
+second_told false last = grind (arith, sum_is, total_zeros, none_opposite)
+second_told true last = grind (arith, sum_is, total_ones, all_opposite)
 
 -- the table's symbols, as signed bytes are read
 table_test : holds_below (λ i. sliced (to_z w8 (of_z w8 (get_or FIRST i (pos 0)))) == sliced (get_or FIRST i (pos 0)))
@@ -111,8 +93,7 @@ unfolding sliced
 table_test = refl
 
 table_read : (i : ℕ) → i < 820 → sliced (to_z w8 (of_z w8 (get_or FIRST i (pos 0)))) ≡ sliced (get_or FIRST i (pos 0))
-table_read i l =
-    eqb-true (sliced (to_z w8 (of_z w8 (get_or FIRST i (pos 0))))) (sliced (get_or FIRST i (pos 0)))
+table_read i l = eqb-true (sliced (to_z w8 (of_z w8 (get_or FIRST i (pos 0))))) (sliced (get_or FIRST i (pos 0)))
     (at_below (λ i. sliced (to_z w8 (of_z w8 (get_or FIRST i (pos 0)))) == sliced (get_or FIRST i (pos 0))) 820 i
     table_test l)
 

@@ -19,8 +19,7 @@ total f a (suc n) = f a + total f (suc a) n
 
 total_by : (f : ℕ → ℕ) (a n : ℕ) → sum_by f (range_with_len a n) ≡ total f a n
 total_by f a zero = refl
-total_by f a (suc n) = sum_by-cons f a (range_with_len (a + 1) n)
-    ∙ ap (λ x. f a + x) (total_by f (a + 1) n ∙ ap (λ x. total f x n) (next a))
+total_by f a (suc n) = rw (sum_by-cons f a (range_with_len (a + 1) n), total_by f (a + 1) n, next a)
   where
     next : (a : ℕ) → a + 1 ≡ suc a
     next a = omega arith
@@ -41,21 +40,12 @@ total_zeros f a (suc n) h =
 
 pub total_ones : (f : ℕ → ℕ) (a n : ℕ) → ((i : ℕ) → a ≤ i → i < a + n → f i ≡ 1) → total f a n ≡ n
 total_ones f a zero h = refl
-total_ones f a (suc n) h =
-    omega (arith, h a (omega arith) (omega arith), total_ones f (suc a) n (λ i l m. h i (omega arith) (omega arith)))
+total_ones f a (suc n) h = omega (arith, h a (omega arith) (omega arith), total_ones f (suc a) n (λ i l m. grind arith))
 
 total_append : (f : ℕ → ℕ) (a m n : ℕ) → total f a (m + n) ≡ total f a m + total f (a + m) n
-total_append f a zero n =
-    let e : 0 + n ≡ n = omega arith in
-    let g : a ≡ a + 0 = omega arith in
-    ap (total f a) e ∙ ap (λ x. total f x n) g ∙ zero_add (total f (a + 0) n)
-  where
-    zero_add : (x : ℕ) → x ≡ 0 + x
-    zero_add x = omega arith
-total_append f a (suc m) n =
-    ap (total f a) (one m n)
-    ∙ ap (λ x. f a + x) (total_append f (suc a) m n ∙ ap (λ x. total f (suc a) m + total f x n) (two a m))
-    ∙ omega arith
+total_append f a zero n = grind arith
+total_append f a (suc m) n = ap (total f a) (one m n)
+    ∙ ap (λ x. f a + x) (total_append f (suc a) m n ∙ ap (λ x. total f (suc a) m + total f x n) (two a m)) ∙ omega arith
   where
     one : (m n : ℕ) → suc m + n ≡ suc (m + n)
     one m n = omega arith

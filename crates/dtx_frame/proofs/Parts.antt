@@ -1,6 +1,6 @@
 -- Segments that are written in two parts.
-use Rattle.std.proofs.Common.{◌≡◌, ℕ, ◌+◌, ◌-◌, ◌≤◌, ℤ, List, [], ◌++◌, length, take, drop, length-drop, sym, ap, ◌∙◌}
-use Rattle.std.proofs.Common.{subst, arith}
+use Rattle.std.proofs.Common.{◌≡◌, ℕ, ◌+◌, ◌-◌, ◌≤◌, ℤ, List, ◌++◌, length, take, drop, length-drop, sym, ap, ◌∙◌}
+use Rattle.std.proofs.Common.{arith}
 use Rattle.std.proofs.Math.Seq.{take-append_seam, drop-append_seam, take-append-add}
 use Rattle.std.proofs.lemmas.List.{append-nil, drop_all, drop_at, drop-drop, drop-take, length-take-le}
 use Rattle.std.proofs.lemmas.Slice.{take-put_mid_below}
@@ -8,43 +8,22 @@ use borrow.Rule.Slice.PartMut.{put_mid, post_of}
 
 parts : (a k : ℕ) (front rest last : List ℤ) → length front ≡ a → length rest ≡ k
     → put_mid a k (front ++ rest) last ≡ front ++ last
-parts a k front rest last long behind =
-    let first : take a (front ++ rest) ≡ front =
-    subst (λ n. take n (front ++ rest) ≡ front) long (take-append_seam front rest) in
-    let second : drop a (front ++ rest) ≡ rest =
-    subst (λ n. drop n (front ++ rest) ≡ rest) long (drop-append_seam front rest) in
-    let none : drop k rest ≡ [] = drop_all k rest (omega arith) in
-    ap (λ z. z ++ (last ++ drop k (drop a (front ++ rest)))) first
-    ∙ ap (λ z. front ++ (last ++ drop k z)) second
-    ∙ ap (λ z. front ++ (last ++ z)) none
-    ∙ ap (λ z. front ++ z) (append-nil last)
+parts a k front rest last long behind = grind (arith, take-append_seam, drop-append_seam, drop_all, append-nil)
 
 -- the first a symbols and the last k of a segment, copied to their places
 pub two_parts : (a k : ℕ) (out front last first second : List ℤ) → length out ≡ a + k → length front ≡ a → first ≡ front
-    → second ≡ last
-    → put_mid a k (first ++ post_of 0 a out) second ≡ front ++ last
-two_parts a k out front last first second h long at_first at_second =
-    ap (λ z. put_mid a k (z ++ post_of 0 a out) second) at_first ∙ ap (put_mid a k (front ++ post_of 0 a out)) at_second
-    ∙ parts a k front (drop a out) last long (length-drop a out ∙ ap (λ n. n - a) h ∙ left a k)
-  where
-    left : (a k : ℕ) → a + k - a ≡ k
-    left a k = omega arith
+    → second ≡ last → put_mid a k (first ++ post_of 0 a out) second ≡ front ++ last
+two_parts a k out front last first second h long at_first at_second = grind (arith, parts, length-drop)
 
 -- a part that is copied to place a of a list, and what stands behind it
 pub part_put : (a k n : ℕ) (xs part : List ℤ) → length part ≡ k → a ≤ length xs
     → take (k + n) (drop a (put_mid a k xs part)) ≡ part ++ take n (drop (a + k) xs)
-part_put a k n xs part long l =
-    ap (take (k + n)) (drop_at (take a xs) (part ++ drop k (drop a xs)) a (length-take-le a xs l))
-    ∙ subst (λ m. take (m + n) (part ++ drop k (drop a xs)) ≡ part ++ take n (drop k (drop a xs))) long
-    (take-append-add part (drop k (drop a xs)) n)
-    ∙ ap (λ ys. part ++ take n ys) (drop-drop k a xs)
+part_put a k n xs part long l = grind (arith, drop_at, length-take-le, take-append-add, drop-drop)
 
 -- a piece in front of it
 pub piece_before : (a k b n : ℕ) (xs part : List ℤ) → b + n ≤ a → a ≤ length xs
     → take n (drop b (put_mid a k xs part)) ≡ take n (drop b xs)
-piece_before a k b n xs part l m =
-    sym (drop-take b n (put_mid a k xs part)) ∙ ap (drop b) (take-put_mid_below a k xs part (b + n) l m)
-    ∙ drop-take b n xs
+piece_before a k b n xs part l m = rw (← drop-take, take-put_mid_below, drop-take)
 
 -- what stands behind place a + n, where two lists are alike from place a on
 pub behind_too : (a n : ℕ) (xs ys : List ℤ) → drop a xs ≡ drop a ys → drop (a + n) xs ≡ drop (a + n) ys

@@ -1,5 +1,5 @@
 -- The rule that each coder keeps within a segment: Z0[p] = Z1[p - 12] + Z0[p - 24].
-use Rattle.std.proofs.Common.{◌≡◌, ℕ, ◌+◌, ◌-◌, ◌*◌, ◌/◌, ◌%◌, ◌<◌, ◌≤◌, List, get_or, sym, ap, ap₂, ◌∙◌, arith}
+use Rattle.std.proofs.Common.{◌≡◌, ℕ, ◌+◌, ◌-◌, ◌*◌, ◌/◌, ◌%◌, ◌<◌, ◌≤◌, List, get_or, ap, ap₂, ◌∙◌, arith}
 use Rattle.dtx_trellis.specs.Trellis.{State, z2, z0, level, state_of}
 use Rattle.dtx_trellis.specs.Pairs.{groups, coder_at, higher, lower}
 use Rattle.dtx_trellis.specs.Groups.{level_at}
@@ -16,16 +16,11 @@ level_small q a b t l = omega arith
 
 pub level_at_small : (s d : ℕ) (states bytes : List ℕ) → d < 3312 * groups bytes → level_at s states bytes d < 8
 unfolding level_at
-level_at_small s d states bytes l =
-    level_small (state_of (get_or states (coder_at s d) 0)) (higher s bytes (coder_at s d))
-    (lower s bytes (coder_at s d)) (d / 12) (lower_bit s (d / 12) (coder_at s d) bytes (omega arith))
+level_at_small s d states bytes l = grind (arith, level_small, lower_bit)
 
 same_coder : (s n p : ℕ) → 12 ≤ p → p < 828 → coder_at s (828 * n + (p - 12)) ≡ coder_at s (828 * n + p)
 unfolding coder_at
-same_coder s n p k l =
-    let a : (828 * n + (p - 12)) % 12 ≡ (828 * n + p) % 12 = omega arith in
-    let b : (828 * n + (p - 12)) / 828 ≡ (828 * n + p) / 828 = omega arith in
-    ap₂ (λ x y. (x + 4 * ((s + y) % 3)) % 12) a b
+same_coder s n p k l = grind arith
 
 -- within segment n of whole groups, from any states
 pub rule : (s n p : ℕ) (states bytes : List ℕ) → n < 4 * groups bytes → 24 ≤ p → p < 828
@@ -42,17 +37,8 @@ rule s n p states bytes h k l =
     (lower s bytes (coder_at s (828 * n + p))) ((828 * n + p) / 12)
     ∙ ap (z0 (state_of (get_or states (coder_at s (828 * n + p)) 0)) (lower s bytes (coder_at s (828 * n + p)))) t0
     ∙ z0_next (state_of (get_or states (coder_at s (828 * n + p)) 0)) (lower s bytes (coder_at s (828 * n + p)))
-    ((828 * n + (p - 24)) / 12)
-    ∙ ap₂ (λ x y. (x + y) % 2)
-    (sym (level_z1 (state_of (get_or states (coder_at s (828 * n + p)) 0)) (higher s bytes (coder_at s (828 * n + p)))
-    (lower s bytes (coder_at s (828 * n + p))) ((828 * n + (p - 24)) / 12 + 1)
-    (lower_bit s ((828 * n + (p - 24)) / 12 + 1) (coder_at s (828 * n + p)) bytes (omega arith)))
-    ∙ ap₂ (λ c r. level (state_of (get_or states c 0)) (higher s bytes c) (lower s bytes c) r / 2 % 2) (sym c1)
-    (sym t1))
-    (sym (level_z0 (state_of (get_or states (coder_at s (828 * n + p)) 0)) (higher s bytes (coder_at s (828 * n + p)))
-    (lower s bytes (coder_at s (828 * n + p))) ((828 * n + (p - 24)) / 12))
-    ∙ ap (λ c. level (state_of (get_or states c 0)) (higher s bytes c) (lower s bytes c)
-    ((828 * n + (p - 24)) / 12) % 2) (sym c2))
+    ((828 * n + (p - 24)) / 12) ∙ ap₂ (λ x y. (x + y) % 2) (grind (arith, level_z1, lower_bit))
+    (grind (arith, level_z0))
   where
     minus : (p : ℕ) → 24 ≤ p → p - 24 ≡ p - 12 - 12
     minus p k = omega arith

@@ -21,11 +21,7 @@ sliced_symbol z l = eqb-true (sliced (symbol_of z)) z (at_below (λ z. sliced (s
 pub data_at : (levels : List ℕ) (p : ℕ) → p < length levels → get_or levels p 0 < 8
     → sliced (get_or (data_segment levels) (4 + p) (pos 0)) ≡ get_or levels p 0
 unfolding data_segment
-data_at levels p l m =
-    ap sliced
-    (get_or-append_right segment_sync (map symbol_of levels) 4 (4 + p) (pos 0) length_sync (omega arith)
-    ∙ ap (λ i. get_or (map symbol_of levels) i (pos 0)) (back p)
-    ∙ get_or-map symbol_of levels p 0 (pos 0) l)
+data_at levels p l m = ap sliced (grind (arith, get_or-append_right, length_sync, back, get_or-map))
     ∙ sliced_symbol (get_or levels p 0) m
   where
     back : (p : ℕ) → 4 + p - 4 ≡ p
@@ -33,14 +29,8 @@ data_at levels p l m =
 
 map_back : (levels : List ℕ) → ((d : ℕ) → d < length levels → get_or levels d 0 < 8)
     → map sliced (map symbol_of levels) ≡ levels
-map_back levels h =
-    ext_get_or 0 (map sliced (map symbol_of levels)) levels (length-map (map symbol_of levels) sliced
-    ∙ length-map levels symbol_of)
-    (λ d l. let m : d < length levels = omega (
-      arith,
-      length-map (map symbol_of levels) sliced,
-      length-map levels symbol_of,
-    ) in
+map_back levels h = ext_get_or 0 (map sliced (map symbol_of levels)) levels (length-map (map symbol_of levels) sliced
+    ∙ length-map levels symbol_of) (λ d l. let m : d < length levels = grind (arith, length-map) in
     get_or-map sliced (map symbol_of levels) d (pos 0) 0 (omega (arith, length-map levels symbol_of))
     ∙ ap sliced (get_or-map symbol_of levels d 0 (pos 0) m) ∙ sliced_symbol (get_or levels d 0) (h d m))
 
@@ -56,13 +46,11 @@ data_back levels h =
 pub end_back : (levels : List ℕ) → ((d : ℕ) → d < length levels → get_or levels d 0 < 8)
     → sliced_last (data_segment levels) ≡ drop 816 levels
 unfolding sliced_last data_segment
-end_back levels h =
-    ap (map sliced) (subst (λ n. drop (n + 816) (segment_sync ++ map symbol_of levels)
+end_back levels h = ap (map sliced) (subst (λ n. drop (n + 816) (segment_sync ++ map symbol_of levels)
     ≡ drop 816 (map symbol_of levels)) length_sync (drop-append-add segment_sync (map symbol_of levels) 816))
     ∙ sym (drop-map sliced 816 (map symbol_of levels)) ∙ ap (drop 816) (map_back levels h)
 
 pub last_back : (second : Bool) (last : List ℤ) → sliced_last (field_sync second last) ≡ map sliced last
 unfolding sliced_last field_sync
-last_back second last =
-    ap (map sliced) (subst (λ n. drop n (sync_symbols second ++ last) ≡ last) (length_front second)
+last_back second last = ap (map sliced) (subst (λ n. drop n (sync_symbols second ++ last) ≡ last) (length_front second)
     (drop-append_seam (sync_symbols second) last))

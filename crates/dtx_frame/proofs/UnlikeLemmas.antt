@@ -1,7 +1,7 @@
 -- A data segment is unlike a field sync.
-use Rattle.std.proofs.Common.{◌≡◌, ℕ, ◌+◌, ◌-◌, ◌*◌, ◌/◌, ◌%◌, ◌<◌, ◌≤◌, ◌⊎◌, inl, inr, ◌==◌, Bool, true, false, cond}
-use Rattle.std.proofs.Common.{leb, ℤ, pos, List, map, take, drop, sum, length, length-drop, get_or, refl, sym, ap, ap₂}
-use Rattle.std.proofs.Common.{◌∙◌, subst, arith}
+use Rattle.std.proofs.Common.{◌≡◌, ℕ, ◌+◌, ◌-◌, ◌*◌, ◌/◌, ◌%◌, ◌<◌, ◌≤◌, ◌⊎◌, ◌==◌, Bool, true, false, cond, leb, ℤ}
+use Rattle.std.proofs.Common.{pos, List, map, take, drop, sum, length, length-drop, get_or, refl, sym, ap, ap₂, ◌∙◌}
+use Rattle.std.proofs.Common.{subst, arith}
 use Rattle.std.specs.List.{range_with_len}
 use Rattle.std.proofs.lemmas.Bool.{eqb-true, eq-eqb, lt-leb, leb-true}
 use Rattle.std.proofs.lemmas.List.{get_or-take, get_or-drop, length-take-le}
@@ -31,8 +31,7 @@ unfolding sliced
 levels_test = refl
 
 sync_at : (p : ℕ) → p < 511 → sliced (get_or (sync_symbols false) (4 + p) (pos 0)) ≡ 5 * get_or pn511 p 0 + 1
-sync_at p l =
-    ap (λ (xs : List ℤ). sliced (get_or xs (4 + p) (pos 0))) (sym first_is)
+sync_at p l = ap (λ (xs : List ℤ). sliced (get_or xs (4 + p) (pos 0))) (sym first_is)
     ∙ eqb-true (sliced (get_or FIRST (4 + p) (pos 0))) (5 * get_or pn511 p 0 + 1) (long_at is_level 511 p levels_test l)
 
 -- 1 where a sequence breaks the rule of the coders
@@ -52,16 +51,11 @@ many_broken = ap (λ s. leb 192 (total (breaks_in s) 24 487)) (sym table_511) �
 
 breaks_at_most : (p : ℕ) → breaks p ≤ 1
 unfolding breaks
-breaks_at_most p = at_most (get_or pn511 p 0 == (get_or pn511 (p - 12) 0 + get_or pn511 (p - 24) 0) % 2)
-  where
-    at_most : (t : Bool) → cond t 0 1 ≤ 1
-    at_most true = omega arith
-    at_most false = omega arith
+breaks_at_most p = grind arith
 
 breaks_not : (p : ℕ) → get_or pn511 p 0 ≡ (get_or pn511 (p - 12) 0 + get_or pn511 (p - 24) 0) % 2 → breaks p ≡ 0
 unfolding breaks
-breaks_not p e =
-    ap (λ t. cond t 0 1) (eq-eqb (get_or pn511 p 0) ((get_or pn511 (p - 12) 0 + get_or pn511 (p - 24) 0) % 2) e)
+breaks_not p e = grind (arith, eq-eqb)
 
 -- the levels of one segment of a coder's
 pub record Keeps (levels : List ℕ) : Type 0 where
@@ -77,54 +71,19 @@ other levels p = differs (data_segment levels) (4 + p)
 differs_at : (levels : List ℕ) (p : ℕ) → Keeps levels → p < 511 → (get_or levels p 0 ≡ 5 * get_or pn511 p 0 + 1)
     ⊎ (other levels p ≡ 1)
 unfolding differs
-differs_at levels p k l =
-    by_cases (sliced (get_or (data_segment levels) (4 + p) (pos 0)))
-    (sliced (get_or (sync_symbols false) (4 + p) (pos 0)))
-    (data_at levels p (omega (arith, k.long)) (k.small p (omega arith))) (sync_at p l)
-    (sliced (get_or (data_segment levels) (4 + p) (pos 0)) == sliced (get_or (sync_symbols false) (4 + p) (pos 0))) refl
-  where
-    by_cases : (x y : ℕ) → x ≡ get_or levels p 0 → y ≡ 5 * get_or pn511 p 0 + 1 → (t : Bool) → (x == y) ≡ t
-        → (get_or levels p 0 ≡ 5 * get_or pn511 p 0 + 1) ⊎ (◌≡◌ {A = ℕ} (cond t 0 1) 1)
-    by_cases x y e g true h = inl (sym e ∙ eqb-true x y h ∙ g)
-    by_cases x y e g false h = inr refl
+differs_at levels p k l = grind (arith, data_at, sync_at, eqb-true)
 
 covered : (levels : List ℕ) (p : ℕ) → Keeps levels → 24 ≤ p → p < 511
     → breaks p ≤ other levels p + other levels (p - 12) + other levels (p - 24)
-covered levels p k h l =
-    by_cases (differs_at levels p k l) (differs_at levels (p - 12) k (omega arith))
-    (differs_at levels (p - 24) k (omega arith))
-  where
-    by_cases : (get_or levels p 0 ≡ 5 * get_or pn511 p 0 + 1) ⊎ (other levels p ≡ 1)
-        → (get_or levels (p - 12) 0 ≡ 5 * get_or pn511 (p - 12) 0 + 1) ⊎ (other levels (p - 12) ≡ 1)
-        → (get_or levels (p - 24) 0 ≡ 5 * get_or pn511 (p - 24) 0 + 1) ⊎ (other levels (p - 24) ≡ 1)
-        → breaks p ≤ other levels p + other levels (p - 12) + other levels (p - 24)
-    by_cases (inl a) (inl b) (inl c) =
-        let n : breaks p ≡ 0 =
-        breaks_not p (window (λ i. get_or levels i 0 / 2 % 2) (λ i. get_or levels i 0 % 2) (λ i. get_or pn511 i 0) p
-        (k.rule p h (omega arith)) (bit_511 p l) (bit_511 (p - 12) (omega arith)) (bit_511 (p - 24) (omega arith))
-        (bit0 (get_or levels p 0) (get_or pn511 p 0) a (bit_511 p l))
-        (bit1 (get_or levels (p - 12) 0) (get_or pn511 (p - 12) 0) b (bit_511 (p - 12) (omega arith)))
-        (bit0 (get_or levels (p - 24) 0) (get_or pn511 (p - 24) 0) c (bit_511 (p - 24) (omega arith)))) in
-        omega arith
-      where
-        bit0 : (x b : ℕ) → x ≡ 5 * b + 1 → b < 2 → x % 2 ≡ (b + 1) % 2
-        bit0 x b e l = omega arith
-
-        bit1 : (x b : ℕ) → x ≡ 5 * b + 1 → b < 2 → x / 2 % 2 ≡ b
-        bit1 x b e l = omega arith
-    by_cases (inr a) b c = let m : breaks p ≤ 1 = breaks_at_most p in omega arith
-    by_cases a (inr b) c = let m : breaks p ≤ 1 = breaks_at_most p in omega arith
-    by_cases a b (inr c) = let m : breaks p ≤ 1 = breaks_at_most p in omega arith
+covered levels p k h l = grind (arith, differs_at, breaks, breaks_not, window, bit_511, breaks_at_most)
 
 unlike_sync : (levels : List ℕ) → Keeps levels → 64 ≤ differing (data_segment levels)
 unfolding differing
 unlike_sync levels k =
     bound (total breaks 24 487) (total (other levels) 0 511) (total (differs (data_segment levels)) 4 511)
     (total (differs (data_segment levels)) 0 515) (sum (map (differs (data_segment levels)) (range_with_len 0 515)))
-    (leb-true 192 (total breaks 24 487) many_broken)
-    (a_third breaks (other levels) (λ p h l. covered levels p k h l))
-    (total_shift (differs (data_segment levels)) 4 0 511)
-    (part (differs (data_segment levels)) 4 511 515 (omega arith))
+    (leb-true 192 (total breaks 24 487) many_broken) (a_third breaks (other levels) (λ p h l. covered levels p k h l))
+    (total_shift (differs (data_segment levels)) 4 0 511) (part (differs (data_segment levels)) 4 511 515 (omega arith))
     (sum_is (differs (data_segment levels)) 0 515)
   where
     bound : (n d e w x : ℕ) → 192 ≤ n → n ≤ 3 * d → e ≡ d → e ≤ w → x ≡ w → 64 ≤ x
@@ -137,25 +96,12 @@ segment_levels s states bytes n = take (828 * n + 828 - 828 * n) (drop (828 * n)
 level_of_segment : (s n p : ℕ) (states bytes : List ℕ) → n < 4 * groups bytes → p < 828
     → get_or (segment_levels s states bytes n) p 0 ≡ level_at s states bytes (828 * n + p)
 unfolding levels_of
-level_of_segment s n p states bytes h l =
-    let levels : List ℕ = map (level_at s states bytes) (range_with_len 0 (3312 * groups bytes)) in
-    get_or-take (828 * n + 828 - 828 * n) (drop (828 * n) levels) p 0 (omega arith)
-    ∙ get_or-drop (828 * n) levels p 0
-    ∙ get_or-map-range_with_len (level_at s states bytes) 0 (3312 * groups bytes) (828 * n + p) (828 * n + p) 0
-    (omega arith) (omega arith)
+level_of_segment s n p states bytes h l = grind (arith, get_or-take, get_or-drop, get_or-map-range_with_len)
 
 length_of_segment : (s n : ℕ) (states bytes : List ℕ) → n < 4 * groups bytes
     → length (segment_levels s states bytes n) ≡ 828
 unfolding levels_of
-length_of_segment s n states bytes h =
-    let levels : List ℕ = map (level_at s states bytes) (range_with_len 0 (3312 * groups bytes)) in
-    let long : length (map (level_at s states bytes) (range_with_len 0 (3312 * groups bytes))) ≡ 3312 * groups bytes =
-    length-map-range_with_len (level_at s states bytes) 0 (3312 * groups bytes) in
-    length-take-le (828 * n + 828 - 828 * n) (drop (828 * n) levels) (omega (arith, length-drop (828 * n) levels))
-    ∙ back n
-  where
-    back : (n : ℕ) → 828 * n + 828 - 828 * n ≡ 828
-    back n = omega arith
+length_of_segment s n states bytes h = grind (arith, length-map-range_with_len, length-take-le, length-drop)
 
 keeps : (s n : ℕ) (states bytes : List ℕ) → n < 4 * groups bytes → Keeps (segment_levels s states bytes n)
 keeps s n states bytes h = record {
@@ -176,6 +122,5 @@ unlike_segment s u n states bytes h l =
 pub unlike_looks : (s u n : ℕ) (states bytes : List ℕ) → length bytes ≡ 828 * u → n < 4 * u
     → looks_like (data_segment (segment_levels s states bytes n)) ≡ false
 unfolding looks_like
-unlike_looks s u n states bytes h l =
-    lt-leb (differing (data_segment (segment_levels s states bytes n))) 32
+unlike_looks s u n states bytes h l = lt-leb (differing (data_segment (segment_levels s states bytes n))) 32
     (omega (arith, unlike_segment s u n states bytes h l))

@@ -19,8 +19,7 @@ windows g d h a (suc n) l k =
 -- at least a third of what is broken at the places 24 to 510
 pub a_third : (g d : ℕ → ℕ) → ((p : ℕ) → 24 ≤ p → p < 511 → g p ≤ d p + d (p - 12) + d (p - 24))
     → total g 24 487 ≤ 3 * total d 0 511
-a_third g d h =
-    bound (total g 24 487) (total d 24 487) (total d 12 487) (total d 0 487) (total d 0 511)
+a_third g d h = bound (total g 24 487) (total d 24 487) (total d 12 487) (total d 0 487) (total d 0 511)
     (windows g d h 24 487 (omega arith) (omega arith)) (part d 24 487 511 (omega arith))
     (part d 12 487 511 (omega arith)) (part d 0 487 511 (omega arith))
   where
@@ -29,7 +28,6 @@ a_third g d h =
 
 -- where the symbols at p, p - 12 and p - 24 are those of the sync, the rule of the coders is the sync's
 pub window : (z1 z0 b : ℕ → ℕ) (p : ℕ) → z0 p ≡ (z1 (p - 12) + z0 (p - 24)) % 2 → b p < 2 → b (p - 12) < 2
-    → b (p - 24) < 2
-    → z0 p ≡ (b p + 1) % 2 → z1 (p - 12) ≡ b (p - 12) → z0 (p - 24) ≡ (b (p - 24) + 1) % 2
+    → b (p - 24) < 2 → z0 p ≡ (b p + 1) % 2 → z1 (p - 12) ≡ b (p - 12) → z0 (p - 24) ≡ (b (p - 24) + 1) % 2
     → b p ≡ (b (p - 12) + b (p - 24)) % 2
 window z1 z0 b p r l m n e f g = omega arith

@@ -1,6 +1,6 @@
 -- The remainder by long division is a remainder.
-use Rattle.std.proofs.Common.{◌≡◌, ℕ, zero, suc, ◌+◌, ◌*◌, ◌/◌, ◌%◌, ◌^◌, ◌<◌, ◌⊎◌, bit_xor, sym, ap, ap₂, ◌∙◌, subst}
-use Rattle.std.proofs.Common.{arith, inl, inr, zero-mul, one-mul, pow_pos, pow-suc, mul_comm, add-zero, pow-add}
+use Rattle.std.proofs.Common.{◌≡◌, ℕ, zero, suc, ◌+◌, ◌*◌, ◌/◌, ◌%◌, ◌^◌, ◌<◌, ◌⊎◌, bit_xor, sym, ap, ◌∙◌, subst, arith}
+use Rattle.std.proofs.Common.{inl, inr, zero-mul, one-mul, pow_pos, pow-suc, add-zero, pow-add}
 use Rattle.std.specs.Int.{bit_at}
 use Rattle.std.specs.Int.Bits.{xor_assoc, xor_comm, xor_self, xor_zero_r, xor_lt, xor_block}
 use Rattle.std.proofs.lemmas.Nat.{shr_split, mod_below, div_below, shl_below, div-mul-add}
@@ -11,47 +11,34 @@ use Rattle.dtx_galois.proofs.LinearLemmas.{bit_cases, product_same}
 
 -- a polynomial whose term at d + n is cleared, of two with the same bit there
 same_top : (k u r s : ℕ) → r < 2 ^ k → s < 2 ^ k → bit_xor (u * 2 ^ k + r) (u * 2 ^ k + s) < 2 ^ k
-same_top k u r s hr hs =
-    subst (λ (x : ℕ). x < 2 ^ k) (sym (xor_block k u u r s hr hs ∙ ap (λ (x : ℕ). x * 2 ^ k + bit_xor r s) (xor_self u)
-    ∙ ap (λ (x : ℕ). x + bit_xor r s) (zero-mul (2 ^ k)) ∙ zero_add (bit_xor r s))) (xor_lt k r s hr hs)
+same_top k u r s hr hs = subst (λ (x : ℕ). x < 2 ^ k) (sym
+    (rw (xor_block k u u r s hr hs, xor_self u, zero-mul (2 ^ k), zero_add (bit_xor r s)))) (xor_lt k r s hr hs)
   where
     zero_add : (x : ℕ) → 0 + x ≡ x
     zero_add x = omega arith
 
 top_bit : (k p : ℕ) → p < 2 ^ suc k → bit_at p k ≡ p / 2 ^ k
-top_bit k p l =
-    mod-eq_of_lt (div_below p (2 ^ k) 2 (pow_pos k) (subst (λ (x : ℕ). p < x) (pow-suc 2 k ∙ mul_comm (2 ^ k) 2) l))
+top_bit k p l = grind (arith, mod-eq_of_lt, div_below, pow-suc)
 
 shifted : (d low n u : ℕ) → u * ((2 ^ d + low) * 2 ^ n) ≡ u * 2 ^ (d + n) + u * (low * 2 ^ n)
 shifted d low n u = rw pow-add (grind arith)
 
 small_times : (k u x : ℕ) → (u ≡ 0) ⊎ (u ≡ 1) → x < 2 ^ k → u * x < 2 ^ k
-small_times k u x (inl e) l =
-    subst (λ (v : ℕ). v * x < 2 ^ k) (sym e) (subst (λ (y : ℕ). y < 2 ^ k) (sym (zero-mul x)) (pow_pos k))
-small_times k u x (inr e) l =
-    subst (λ (v : ℕ). v * x < 2 ^ k) (sym e) (subst (λ (y : ℕ). y < 2 ^ k) (sym (one-mul x)) l)
+small_times k u x (inl e) l = grind (arith, zero-mul)
+small_times k u x (inr e) l = grind (arith, one-mul)
 
 -- a step of the division leaves a polynomial of lower degree
 clear_top : (d low n p : ℕ) → low < 2 ^ d → p < 2 ^ suc (d + n)
     → bit_xor p (bit_at p (d + n) * ((2 ^ d + low) * 2 ^ n)) < 2 ^ (d + n)
 clear_top d low n p hl hp =
-    let e : bit_at p (d + n) ≡ p / 2 ^ (d + n) = top_bit (d + n) p hp in
-    subst (λ (u : ℕ). bit_xor p (u * ((2 ^ d + low) * 2 ^ n)) < 2 ^ (d + n)) (sym e)
-    (subst (λ (x : ℕ). bit_xor p x < 2 ^ (d + n)) (sym (shifted d low n (p / 2 ^ (d + n))))
-    (subst (λ (x : ℕ). bit_xor x (p / 2 ^ (d + n) * 2 ^ (d + n) + p / 2 ^ (d + n) * (low * 2 ^ n)) < 2 ^ (d + n))
-    (shr_split p (d + n))
-    (same_top (d + n) (p / 2 ^ (d + n)) (p % 2 ^ (d + n)) (p / 2 ^ (d + n) * (low * 2 ^ n))
-    (mod_below p (2 ^ (d + n)) (pow_pos (d + n)))
-    (small_times (d + n) (p / 2 ^ (d + n)) (low * 2 ^ n)
-    (subst (λ (u : ℕ). (u ≡ 0) ⊎ (u ≡ 1)) e (bit_cases (bit_at p (d + n)) (bit_at-lt p (d + n))))
-    (shl_below low d n hl)))))
+    subst (λ (u : ℕ). bit_xor p (u * ((2 ^ d + low) * 2 ^ n)) < 2 ^ (d + n)) (sym (top_bit (d + n) p hp))
+    (grind (arith, shifted, shr_split, same_top, mod_below, small_times, bit_cases, bit_at-lt, shl_below))
 
 -- the remainder has a lower degree than the divisor
 pub remainder_small : (d low n p : ℕ) → low < 2 ^ d → p < 2 ^ (d + n) → remainder d (2 ^ d + low) n p < 2 ^ d
 unfolding remainder
 remainder_small d low zero p hl hp = subst (λ (k : ℕ). p < 2 ^ k) (add-zero d) hp
-remainder_small d low (suc n) p hl hp =
-    remainder_small d low n _ hl (clear_top d low n p hl (subst (λ (k : ℕ). p < 2 ^ k) (d_suc d n) hp))
+remainder_small d low (suc n) p hl hp = remainder_small d low n _ hl (clear_top d low n p hl (grind (arith, d_suc)))
   where
     d_suc : (d n : ℕ) → d + suc n ≡ suc (d + n)
     d_suc d n = omega arith
@@ -59,8 +46,7 @@ remainder_small d low (suc n) p hl hp =
 -- ---- what was divided is a multiple of the divisor and the remainder
 
 xor_twice : (p x : ℕ) → bit_xor x (bit_xor p x) ≡ p
-xor_twice p x = ap (bit_xor x) (xor_comm p x) ∙ sym (xor_assoc x x p) ∙ ap (λ (y : ℕ). bit_xor y p) (xor_self x)
-    ∙ xor_comm 0 p ∙ xor_zero_r p
+xor_twice p x = rw (xor_comm p x, ← xor_assoc x x p, xor_self x, xor_comm 0 p, xor_zero_r p)
 
 top_of : (n u r : ℕ) → u < 2 → r < 2 ^ n → bit_at (u * 2 ^ n + r) n ≡ u
 top_of n u r hu hr = ap (λ (x : ℕ). x % 2) (div-mul-add u (2 ^ n) r hr) ∙ mod-eq_of_lt hu
@@ -69,21 +55,10 @@ top_of n u r hu hr = ap (λ (x : ℕ). x % 2) (div-mul-add u (2 ^ n) r hr) ∙ m
 product_term : (n u q g : ℕ) → u < 2 → q < 2 ^ n
     → product (suc n) (u * 2 ^ n + q) g ≡ bit_xor (u * (g * 2 ^ n)) (product n q g)
 unfolding product
-product_term n u q g hu hq =
-    ap₂ (λ (x y : ℕ). bit_xor (x * (g * 2 ^ n)) y) (top_of n u q hu hq)
-    (product_same n (u * 2 ^ n + q) q g (λ i l. bit_at_cat_low u n q i l))
+product_term n u q g hu hq = grind (arith, top_of, product_same, bit_at_cat_low)
 
 quotient_below : (n u q : ℕ) → u < 2 → q < 2 ^ n → u * 2 ^ n + q < 2 ^ suc n
-quotient_below n u q hu hq = by_bit u (bit_cases u hu)
-  where
-    twice : 2 ^ suc n ≡ 2 ^ n + 2 ^ n
-    twice = omega (arith, pow-suc 2 n)
-
-    by_bit : (u : ℕ) → (u ≡ 0) ⊎ (u ≡ 1) → u * 2 ^ n + q < 2 ^ suc n
-    by_bit u (inl e) = let f : u * 2 ^ n ≡ 0 = ap (λ (x : ℕ). x * 2 ^ n) e ∙ zero-mul (2 ^ n) in
-        omega (arith, pow-suc 2 n)
-    by_bit u (inr e) = let f : u * 2 ^ n ≡ 2 ^ n = ap (λ (x : ℕ). x * 2 ^ n) e ∙ one-mul (2 ^ n) in
-        omega (arith, pow-suc 2 n)
+quotient_below n u q hu hq = grind (arith, bit_cases, pow-suc, zero-mul, one-mul)
 
 pub remainder_multiple : (d g n p : ℕ) → (q : ℕ) × (q < 2 ^ n) × (p ≡ bit_xor (product n q g) (remainder d g n p))
 unfolding product remainder

@@ -17,11 +17,8 @@ pow_one (suc n) = mul_one (pow 1 n) (pow_small 1 n) ∙ pow_one n
 pub pow_mul : (a b n : ℕ) → pow (mul a b) n ≡ mul (pow a n) (pow b n)
 unfolding pow
 pow_mul a b zero = sym (mul_one 1 (omega arith))
-pow_mul a b (suc n) =
-    ap (mul (mul a b)) (pow_mul a b n) ∙ mul_assoc a b (mul (pow a n) (pow b n))
-    ∙ ap (mul a) (sym (mul_assoc b (pow a n) (pow b n)) ∙ ap (λ (x : ℕ). mul x (pow b n)) (mul_comm b (pow a n))
-    ∙ mul_assoc (pow a n) b (pow b n))
-    ∙ sym (mul_assoc a (pow a n) (mul b (pow b n)))
+pow_mul a b (suc n) = ap (mul (mul a b)) (pow_mul a b n) ∙ mul_assoc a b (mul (pow a n) (pow b n))
+    ∙ ap (mul a) (grind (arith, mul_assoc, mul_comm)) ∙ sym (mul_assoc a (pow a n) (mul b (pow b n)))
 
 -- the order of two exponents is free
 pub pow_swap : (a i j : ℕ) → pow (pow a i) j ≡ pow (pow a j) i
@@ -46,8 +43,7 @@ order_test : holds_below (λ k. not (get_or POWERS (suc k) 0 == 1)) 254 ≡ true
 order_test = refl
 
 not_one : (k : ℕ) → k < 254 → pow 2 (suc k) ≢ 1
-not_one k l e =
-    false≢true (sym (not-true (get_or POWERS (suc k) 0 == 1)
+not_one k l e = false≢true (sym (not-true (get_or POWERS (suc k) 0 == 1)
     (at_below (λ k. not (get_or POWERS (suc k) 0 == 1)) 254 k order_test l))
     ∙ eq-eqb (get_or POWERS (suc k) 0) 1 (power_at (suc k) (omega arith) ∙ e))
 
@@ -58,13 +54,10 @@ cycle = mul_inverse 2 (omega arith) (omega arith)
 
 -- 2 ^ i has an inverse
 two_inverse : (i : ℕ) → mul (pow 2 i) (pow (pow 2 254) i) ≡ 1
-two_inverse i =
-    sym (pow_mul 2 (pow 2 254) i) ∙ ap (λ (x : ℕ). pow x i) (mul_inverse 2 (omega arith) (omega arith)) ∙ pow_one i
+two_inverse i = rw (← pow_mul 2 (pow 2 254) i, mul_inverse 2 (omega arith) (omega arith), pow_one i)
 
 later_differs : (i k : ℕ) → k < 254 → pow 2 i ≢ pow 2 (i + suc k)
-later_differs i k l e =
-    not_one k l
-    (sym (mul_one (pow 2 (suc k)) (pow_small 2 (suc k)))
+later_differs i k l e = not_one k l (sym (mul_one (pow 2 (suc k)) (pow_small 2 (suc k)))
     ∙ ap (λ (x : ℕ). mul x (pow 2 (suc k))) (sym (two_inverse i) ∙ mul_comm (pow 2 i) (pow (pow 2 254) i))
     ∙ mul_assoc (pow (pow 2 254) i) (pow 2 i) (pow 2 (suc k))
     ∙ ap (mul (pow (pow 2 254) i)) (sym (pow_add 2 i (suc k)) ∙ sym e) ∙ mul_comm (pow (pow 2 254) i) (pow 2 i)
@@ -81,21 +74,16 @@ powers_differ i j l m e = later_differs i (j - suc i) (omega arith) (e ∙ ap (p
 pub pow_times : (a i n : ℕ) → pow (pow a i) n ≡ pow a (i * n)
 unfolding pow
 pow_times a i zero = sym (ap (pow a) (mul-zero i))
-pow_times a i (suc n) = ap (mul (pow a i)) (pow_times a i n) ∙ sym (pow_add a i (i * n))
-    ∙ ap (pow a) (sym (times_suc i n))
+pow_times a i (suc n) = rw (pow_times a i n, ← pow_add a i (i * n), ← times_suc i n)
   where
     times_suc : (i n : ℕ) → i * suc n ≡ i + i * n
     times_suc i n = grind arith
 
 -- exponents of 2 count modulo 255
 pub pow_mod : (n : ℕ) → pow 2 (n % 255) ≡ pow 2 n
-pow_mod n =
-    let split : n ≡ 255 * (n / 255) + n % 255 = omega arith in
-    sym
-    (ap (pow 2) split ∙ pow_add 2 (255 * (n / 255)) (n % 255)
+pow_mod n = sym (ap (pow 2) (omega arith) ∙ pow_add 2 (255 * (n / 255)) (n % 255)
     ∙ ap (λ (x : ℕ). mul x (pow 2 (n % 255))) (sym (pow_times 2 255 (n / 255)) ∙ ap (λ (x : ℕ). pow x (n / 255)) cycle
-    ∙ pow_one (n / 255))
-    ∙ mul_one (pow 2 (n % 255)) (pow_small 2 (n % 255)))
+    ∙ pow_one (n / 255)) ∙ mul_one (pow 2 (n % 255)) (pow_small 2 (n % 255)))
 
 -- the powers of 0
 pub zero_pow : (n : ℕ) → 0 < n → pow 0 n ≡ 0

@@ -1,6 +1,6 @@
 -- A polynomial that is not 0 has fewer zeros than coefficients.
 use Rattle.std.proofs.Common.{◌≡◌, ◌≢◌, ℕ, suc, ◌<◌, ◌≤◌, List, [], ◌∷◌, length, bit_xor, refl, sym, ap, ap₂, ◌∙◌}
-use Rattle.std.proofs.Common.{arith, ◌⊎◌, inl, inr}
+use Rattle.std.proofs.Common.{arith}
 use Rattle.std.proofs.lemmas.Bool.{cases_lt}
 use Rattle.std.specs.List.{AllByRecursion}
 use Rattle.std.specs.Int.Bits.{xor_assoc, xor_self, xor_zero_r, xor_lt}
@@ -35,16 +35,13 @@ divides r a (c ∷ cs) x =
     ∙ ap (bit_xor (mul (bit_xor x r) (mul a (pow x (length cs))))) (divides r (bit_xor (mul a r) c) cs x)
     ∙ sym (xor_assoc (mul (bit_xor x r) (mul a (pow x (length cs))))
     (mul (bit_xor x r) (value (quotient r (bit_xor (mul a r) c) cs) x)) (mul (last_value r (bit_xor (mul a r) c) cs) 1))
-    ∙ ap (λ y. bit_xor y (mul (last_value r (bit_xor (mul a r) c) cs) 1))
-    (sym (mul_right (bit_xor x r) (mul a (pow x (length cs))) (value (quotient r (bit_xor (mul a r) c) cs) x))
-    ∙ ap (λ m. mul (bit_xor x r) (bit_xor (mul a (pow x m)) (value (quotient r (bit_xor (mul a r) c) cs) x))) (sym n))
+    ∙ ap (λ y. bit_xor y (mul (last_value r (bit_xor (mul a r) c) cs) 1)) (grind (arith, mul_right))
   where
     -- a x p + (c p + v) = (x + r) a p + ((a r + c) p + v)
     regroup : (a r c x p v : ℕ) → bit_xor (mul a (mul x p)) (bit_xor (mul c p) v)
         ≡ bit_xor (mul (bit_xor x r) (mul a p)) (bit_xor (mul (bit_xor (mul a r) c) p) v)
     regroup a r c x p v =
-        let e : mul (bit_xor x r) (mul a p) ≡ bit_xor (mul a (mul x p)) (mul r (mul a p)) =
-        mul_left x r (mul a p) ∙ ap (λ y. bit_xor y (mul r (mul a p))) (mul_swap x a p) in
+        let e : mul (bit_xor x r) (mul a p) ≡ bit_xor (mul a (mul x p)) (mul r (mul a p)) = simp (mul_left, mul_swap) in
         let f : mul (bit_xor (mul a r) c) p ≡ bit_xor (mul r (mul a p)) (mul c p) =
         mul_left (mul a r) c p ∙ ap (λ y. bit_xor y (mul c p)) (mul_assoc a r p ∙ mul_swap a r p) in
         sym (ap₂ bit_xor e (ap (λ y. bit_xor y v) f ∙ xor_assoc (mul r (mul a p)) (mul c p) v)
@@ -74,18 +71,14 @@ Lacks r xs = AllByRecursion (λ x. x ≢ r) xs
 
 last_is : (r a : ℕ) (cs : List ℕ) → value (a ∷ cs) r ≡ mul (last_value r a cs) 1
 unfolding value
-last_is r a cs =
-    divides r a cs r
-    ∙ ap (λ y. bit_xor y (mul (last_value r a cs) 1)) (ap (λ y. mul y (value (quotient r a cs) r)) (xor_self r)
-    ∙ zero_mul (value (quotient r a cs) r))
+last_is r a cs = rw (divides r a cs r, xor_self r, zero_mul (value (quotient r a cs) r))
 
 roots_of_quotient : (r a : ℕ) (cs xs : List ℕ) → r < 256 → a < 256 → AreBytes cs → AreBytes xs → last_value r a cs ≡ 0
     → Lacks r xs → VanishesAt (a ∷ cs) xs → VanishesAt (quotient r a cs) xs
 roots_of_quotient r a cs [] lr la b bx e h z = tt
 roots_of_quotient r a cs (x ∷ xs) lr la b bx e h z = (
   no_divisors (value (quotient r a cs) x) (bit_xor x r) (value_small (quotient r a cs) x) (xor_lt 8 x r bx.0 lr)
-      (λ d. h.0 (xor_zero x r d))
-      (mul_comm (value (quotient r a cs) x) (bit_xor x r)
+      (λ d. h.0 (xor_zero x r d)) (mul_comm (value (quotient r a cs) x) (bit_xor x r)
       ∙ sym (xor_zero_r (mul (bit_xor x r) (value (quotient r a cs) x)))
       ∙ ap (bit_xor (mul (bit_xor x r) (value (quotient r a cs) x))) (sym (ap (λ y. mul y 1) e ∙ zero_mul 1))
       ∙ sym (divides_value r a cs x) ∙ z.0),
@@ -102,18 +95,11 @@ pub few_roots : (xs cs : List ℕ) → AreBytes cs → AreBytes xs → AreDiffer
 few_roots xs [] b bx a z l = tt
 few_roots [] (c ∷ cs) b bx a z l = absurd (omega arith)
 few_roots (r ∷ xs) (c ∷ cs) b bx a z l =
-    let e : last_value r c cs ≡ 0 = sym (mul_comm (last_value r c cs) 1
-    ∙ mul_one (last_value r c cs) (last_small r c cs b.0 b.1)) ∙ sym (last_is r c cs) ∙ z.0 in
-    let q : IsZero (quotient r c cs) =
-    few_roots xs (quotient r c cs) (bytes_quotient r c cs b.0 b.1) bx.1 a.1
-    (roots_of_quotient r c cs xs bx.0 b.0 b.1 bx.1 e a.0 z.1) (omega (arith, length_quotient r c cs)) in
-    zero_from_quotient r c cs q e
+    let e : last_value r c cs ≡ 0 = sym (grind (arith, mul_comm, mul_one, last_small)) ∙ sym (last_is r c cs) ∙ z.0 in
+    zero_from_quotient r c cs (few_roots xs (quotient r c cs) (bytes_quotient r c cs b.0 b.1) bx.1 a.1
+    (roots_of_quotient r c cs xs bx.0 b.0 b.1 bx.1 e a.0 z.1) (omega (arith, length_quotient r c cs))) e
 
 -- so a polynomial that is not 0 has fewer zeros than coefficients
 pub fewer_roots : (cs xs : List ℕ) → AreBytes cs → AreBytes xs → AreDifferent xs → VanishesAt cs xs → (IsZero cs → ⊥)
     → length xs < length cs
-fewer_roots cs xs b bx a z h = by_cases (cases_lt (length xs) (length cs))
-  where
-    by_cases : (length xs < length cs) ⊎ (length cs ≤ length xs) → length xs < length cs
-    by_cases (inl l) = l
-    by_cases (inr l) = absurd (h (few_roots xs cs b bx a z l))
+fewer_roots cs xs b bx a z h = grind (arith, cases_lt, few_roots)

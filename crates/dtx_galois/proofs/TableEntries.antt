@@ -23,10 +23,7 @@ logarithm_both a l =
 
 pub logarithm_at : (a : ℕ) → 0 < a → a < 256 → (pow 2 (get_or LOGARITHMS a 0) ≡ a) × (get_or LOGARITHMS a 0 < 255)
 logarithm_at zero p l = absurd (omega arith)
-logarithm_at (suc a) p l =
-    let h : (get_or POWERS (get_or LOGARITHMS (suc a) 0) 0 ≡ suc a) × (get_or LOGARITHMS (suc a) 0 < 255) =
-    logarithm_both a (omega arith) in
-    (sym (power_at (get_or LOGARITHMS (suc a) 0) h.1) ∙ h.0, h.1)
+logarithm_at (suc a) p l = grind (arith, logarithm_both, power_at)
 
 pub product_at : (i j a b : ℕ) → pow 2 i ≡ a → pow 2 j ≡ b → pow 2 (i + j) ≡ mul a b
 product_at i j a b p q = pow_add 2 i j ∙ ap₂ mul p q
@@ -37,8 +34,7 @@ around n l = sym (pow_mod (n - 255)) ∙ ap (pow 2) (let e : (n - 255) % 255 ≡
 
 pub inverse_at : (i a : ℕ) → i < 255 → pow 2 i ≡ a → mul a (pow 2 (255 - i)) ≡ 1
 inverse_at i a l p =
-    let e : i + (255 - i) ≡ 255 = omega arith in
-    ap (λ (x : ℕ). mul x (pow 2 (255 - i))) (sym p) ∙ sym (pow_add 2 i (255 - i)) ∙ ap (pow 2) e ∙ cycle
+    ap (λ (x : ℕ). mul x (pow 2 (255 - i))) (sym p) ∙ sym (pow_add 2 i (255 - i)) ∙ ap (pow 2) (omega arith) ∙ cycle
 
 pub power_of : (i a n : ℕ) → pow 2 i ≡ a → pow 2 (i * n % 255) ≡ pow a n
 power_of i a n p = pow_mod (i * n) ∙ sym (pow_times 2 i n) ∙ ap (λ (x : ℕ). pow x n) p

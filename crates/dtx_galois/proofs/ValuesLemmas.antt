@@ -18,10 +18,8 @@ times_power c x n = mul_assoc c (pow x n) x ∙ ap (mul c) (mul_comm (pow x n) x
 -- Horner's step
 pub value_push : (cs : List ℕ) (c x : ℕ) → c < 256 → value (cs ++ c ∷ []) x ≡ bit_xor (mul (value cs x) x) c
 unfolding value pow
-value_push [] c x l = ap (λ (y : ℕ). bit_xor y 0) (mul_comm c 1 ∙ mul_one c l) ∙ xor_zero_r c
-    ∙ ap (λ (y : ℕ). bit_xor y c) (sym (zero_mul x))
-value_push (d ∷ cs) c x l =
-    ap₂ bit_xor (ap (λ n. mul d (pow x n)) (length_push cs c ∙ add-one (length cs))
+value_push [] c x l = rw (mul_comm c 1, mul_one c l, xor_zero_r c, zero_mul x)
+value_push (d ∷ cs) c x l = ap₂ bit_xor (ap (λ n. mul d (pow x n)) (length_push cs c ∙ add-one (length cs))
     ∙ sym (times_power d x (length cs))) (value_push cs c x l)
     ∙ sym (xor_assoc (mul (mul d (pow x (length cs))) x) (mul (value cs x) x) c)
     ∙ ap (λ (y : ℕ). bit_xor y c) (sym (mul_left (mul d (pow x (length cs))) (value cs x) x))
@@ -43,20 +41,14 @@ value_sums [] [] x l = refl
 value_sums [] (b ∷ bs) x l = absurd (omega arith)
 value_sums (a ∷ as') [] x l = absurd (omega arith)
 value_sums (a ∷ as') (b ∷ bs) x l =
-    let m : length as' ≡ length bs = omega arith in
-    ap₂ bit_xor
-    (ap (λ n. mul (bit_xor a b) (pow x n)) (length_sums as' bs) ∙ mul_left a b (pow x (length as'))
-    ∙ ap (λ n. bit_xor (mul a (pow x (length as'))) (mul b (pow x n))) m)
-    (value_sums as' bs x m)
+    ap₂ bit_xor (grind (arith, length_sums, mul_left)) (value_sums as' bs x (omega arith))
     ∙ xor_swap (mul a (pow x (length as'))) (mul b (pow x (length bs))) (value as' x) (value bs x)
 
 pub value_scaled : (f : ℕ) (xs : List ℕ) (x : ℕ) → value (scaled f xs) x ≡ mul f (value xs x)
 unfolding value
 value_scaled f [] x = sym (mul_zero f)
-value_scaled f (c ∷ cs) x =
-    ap₂ bit_xor (ap (λ n. mul (mul f c) (pow x n)) (length_scaled f cs)
-    ∙ mul_assoc f c (pow x (length cs))) (value_scaled f cs x)
-    ∙ sym (mul_right f (mul c (pow x (length cs))) (value cs x))
+value_scaled f (c ∷ cs) x = ap₂ bit_xor (ap (λ n. mul (mul f c) (pow x n)) (length_scaled f cs)
+    ∙ mul_assoc f c (pow x (length cs))) (value_scaled f cs x) ∙ sym (grind (arith, mul_right))
 
 pub value_shifted : (xs : List ℕ) (x : ℕ) → value (xs ++ 0 ∷ []) x ≡ mul (value xs x) x
 value_shifted xs x = value_push xs 0 x (omega arith) ∙ xor_zero_r (mul (value xs x) x)
@@ -65,14 +57,11 @@ pub value_append : (xs ys : List ℕ) (x : ℕ)
     → value (xs ++ ys) x ≡ bit_xor (mul (value xs x) (pow x (length ys))) (value ys x)
 unfolding value
 value_append [] ys x = ap (λ y. bit_xor y (value ys x)) (sym (zero_mul (pow x (length ys))))
-value_append (c ∷ cs) ys x =
-    ap₂ bit_xor
+value_append (c ∷ cs) ys x = ap₂ bit_xor
     (ap (λ n. mul c (pow x n)) (length-append cs ys) ∙ ap (mul c) (pow_add x (length cs) (length ys))
-    ∙ sym (mul_assoc c (pow x (length cs)) (pow x (length ys))))
-    (value_append cs ys x)
+    ∙ sym (mul_assoc c (pow x (length cs)) (pow x (length ys)))) (value_append cs ys x)
     ∙ sym (xor_assoc (mul (mul c (pow x (length cs))) (pow x (length ys))) (mul (value cs x) (pow x (length ys)))
-    (value ys x))
-    ∙ ap (λ y. bit_xor y (value ys x)) (sym (mul_left (mul c (pow x (length cs))) (value cs x) (pow x (length ys))))
+    (value ys x)) ∙ ap (λ y. bit_xor y (value ys x)) (sym (grind (arith, mul_left)))
 
 pub value_zeros : (n x : ℕ) → value (replicate n 0) x ≡ 0
 unfolding value

@@ -1,6 +1,6 @@
 -- A repeater hears what is sent, undamaged: its field syncs have few wrong signs.
-use Rattle.std.proofs.Common.{◌≡◌, ◌⊎◌, inl, inr, ℕ, ℤ, ◌+◌, ◌-◌, ◌*◌, ◌/◌, ◌%◌, ◌<◌, ◌≤◌, ◌==◌, Bool, true, false}
-use Rattle.std.proofs.Common.{List, [], length, drop, get_or, sym, ap, ◌∙◌, arith}
+use Rattle.std.proofs.Common.{◌≡◌, ℕ, ℤ, ◌+◌, ◌-◌, ◌*◌, ◌/◌, ◌%◌, ◌<◌, ◌≤◌, ◌==◌, Bool, true, false, List, [], length}
+use Rattle.std.proofs.Common.{drop, get_or, ap, ◌∙◌, arith}
 use Rattle.std.specs.Prelude.{nat_le, slice_range}
 use Rattle.std.proofs.lemmas.Bool.{cases_eq, eq-eqb, ne_eqb, le-leb, lt-leb, leb-true, leb-false}
 use Rattle.std.proofs.lemmas.List.{get_or-drop, get_or-take, length-drop, length-take}
@@ -23,34 +23,20 @@ few_by false segment e = let l : opposites segment < 32 = leb-false 32 (opposite
 
 -- the field that begins behind it
 second_is : (q : ℕ) → nat_le 312 (4 * (78 * q) % 624) ≡ (312 * q % 624 == 312)
-second_is q = by_turn (cases_eq (312 * q % 624) 312)
-  where
-    by_turn : (312 * q % 624 ≡ 312) ⊎ (312 * q % 624 ≡ 312 → ⊥)
-        → nat_le 312 (4 * (78 * q) % 624) ≡ (312 * q % 624 == 312)
-    by_turn (inl e) = le-leb 312 (4 * (78 * q) % 624) (omega (arith, e)) ∙ sym (eq-eqb (312 * q % 624) 312 e)
-    by_turn (inr n) =
-        lt-leb 312 (4 * (78 * q) % 624) (omega (arith, first q n)) ∙ sym (ne_eqb (312 * q % 624) 312 n)
-      where
-        first : (q : ℕ) → (312 * q % 624 ≡ 312 → ⊥) → 4 * (78 * q) % 624 ≡ 0
-        first q n = omega (arith, n)
+second_is q = grind (arith, cases_eq, le-leb, eq-eqb, lt-leb, ne_eqb)
 
 -- the first field sync among the segments from one on
 there : (ps : List (List ℕ)) (first end : ℕ) → to_sync first < length (slice_range (a53 ps) first end)
     → first_sync first (slice_range (a53 ps) first end)
     ≡ field_sync (nat_le 312 (4 * (78 * ((first + to_sync first) / 313)) % 624))
     (last_before ps (78 * ((first + to_sync first) / 313)))
-there ps first end l =
-    get_or-take (end - first) (drop first (a53 ps)) (to_sync first) [] (omega (arith, small))
-    ∙ get_or-drop first (a53 ps) (to_sync first) []
-    ∙ ap (λ i. get_or (a53 ps) i []) (place (first + to_sync first) (sync_first first))
+there ps first end l = get_or-take (end - first) (drop first (a53 ps)) (to_sync first) [] (omega (arith, small))
+    ∙ get_or-drop first (a53 ps) (to_sync first) [] ∙ ap (λ i. get_or (a53 ps) i []) (grind (arith, place, sync_first))
     ∙ sync_at ps (78 * ((first + to_sync first) / 313))
     (within (first + to_sync first) (length ps / 4) (omega (arith, small, length-a53 ps))) (omega arith)
   where
     small : (to_sync first < end - first) × (first + to_sync first < length (a53 ps))
-    small = (
-      omega (arith, l, length-take (end - first) (drop first (a53 ps))),
-      omega (arith, l, length-take (end - first) (drop first (a53 ps)), length-drop first (a53 ps)),
-    )
+    small = grind (arith, length-take, length-drop)
 
     place : (n : ℕ) → n % 313 ≡ 0 → n ≡ 4 * (78 * (n / 313)) + (78 * (n / 313) + 77) / 78
     place n z = omega (arith, z)
@@ -61,9 +47,4 @@ there ps first end l =
 pub few_as_sent : (ps : List (List ℕ)) (first end : ℕ) → to_sync first < length (slice_range (a53 ps) first end)
     → wrong_signs (packet_behind first % 624 == 312) (first_sync first (slice_range (a53 ps) first end)) ≤ 31
 unfolding packet_behind
-few_as_sent ps first end l =
-    few_by (312 * ((first + to_sync first) / 313) % 624 == 312) (first_sync first (slice_range (a53 ps) first end))
-    (ap looks_second (there ps first end l)
-    ∙ second_told (nat_le 312 (4 * (78 * ((first + to_sync first) / 313)) % 624))
-    (last_before ps (78 * ((first + to_sync first) / 313)))
-    ∙ second_is ((first + to_sync first) / 313))
+few_as_sent ps first end l = grind (arith, few_by, there, second_told, second_is)

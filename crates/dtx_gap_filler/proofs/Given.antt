@@ -1,13 +1,12 @@
 -- The packets that a repeater gives its exciter of a feed that it hears.
 use Rattle.std.proofs.Common.{◌≡◌, ◌⊎◌, inl, inr, ℕ, ℤ, zero, suc, ◌+◌, ◌-◌, ◌*◌, ◌/◌, ◌%◌, ◌<◌, ◌≤◌, ◌==◌, Bool, true}
-use Rattle.std.proofs.Common.{false, cond, List, [], ◌∷◌, length, map, drop, get_or, refl, sym, ap, ◌∙◌, arith}
+use Rattle.std.proofs.Common.{false, cond, List, [], ◌∷◌, length, map, drop, get_or, refl, ap, ◌∙◌, arith}
 use Rattle.std.specs.Prelude.{slice_range}
 use Rattle.std.specs.List.{range_with_len, filter, flat_map}
 use Rattle.std.proofs.lemmas.Bool.{cases_Bool, true≢false, eqb-true, eqb-false}
 use Rattle.std.proofs.lemmas.List.{append-nil, get_or-drop, length-drop, length-map}
 use Rattle.dtx_lists.proofs.RangeFilter.{filter-kept, filter-range_none}
 use Rattle.dtx_lists.proofs.RangeMoved.{map-range_moved}
-use Rattle.dtx_cadence.specs.Mark.{sync_at}
 use Rattle.dtx_frame.specs.Detection.{looks_second}
 use Rattle.dtx_plan.specs.declared.plan.Plan.{Plan}
 use Rattle.dtx_plan.specs.declared.transmitter.Transmitter.{Transmitter}
@@ -43,9 +42,7 @@ fails_behind p a (suc m) i h f e = by_cases (cases_Bool (p i)) (fails_behind p a
   where
     by_cases : (p i ≡ true) ⊎ (p i ≡ false) → p (a + m) ≡ false → p i ≡ false
     by_cases (inr g) w = g
-    by_cases (inl t) w =
-        let z : a + m + 1 ≡ i = omega (arith, e) in
-        absurd (true≢false (sym (h (a + m) (ap p z ∙ t)) ∙ w))
+    by_cases (inl t) w = grind (arith, true≢false)
 
 none_behind : (p : ℕ → Bool) (a n : ℕ) → ((i : ℕ) → p (i + 1) ≡ true → p i ≡ true) → p a ≡ false
     → filter p (range_with_len a n) ≡ []
@@ -59,13 +56,8 @@ front_left p a (suc n) h = by_cases (cases_Bool (p a)) (front_left p (a + 1) n h
     by_cases : (p a ≡ true) ⊎ (p a ≡ false)
         → filter p (range_with_len (a + 1) n) ≡ range_with_len (a + 1) (length (filter p (range_with_len (a + 1) n)))
         → filter p (range_with_len a (suc n)) ≡ range_with_len a (length (filter p (range_with_len a (suc n))))
-    by_cases (inl t) rest =
-        let e : filter p (range_with_len a (suc n)) ≡ a ∷ filter p (range_with_len (a + 1) n) =
-        filter-kept p a (range_with_len (a + 1) n) t in
-        e ∙ ap (λ xs. a ∷ xs) rest ∙ ap (λ (xs : List ℕ). range_with_len a (length xs)) (sym e)
-    by_cases (inr f) rest =
-        let e : filter p (range_with_len a (suc n)) ≡ [] = none_behind p a (suc n) h f in
-        e ∙ ap (λ (xs : List ℕ). range_with_len a (length xs)) (sym e)
+    by_cases (inl t) rest = grind (arith, filter-kept)
+    by_cases (inr f) rest = grind (arith, none_behind)
 
 length-left : (p : ℕ → Bool) (a n : ℕ) → length (filter p (range_with_len a n)) ≤ n
 length-left p a zero = omega arith
@@ -78,34 +70,23 @@ length-left p a (suc n) = by_cases (p a) (length-left p (a + 1) n)
 
 -- a word is whole where the next one is
 complete_before : (groups k : ℕ) → is_complete (828 * groups) (k + 1) ≡ true → is_complete (828 * groups) k ≡ true
-complete_before groups k t =
-    ap (λ n. is_complete n k) (count groups)
-    ∙ (complete_told (207 * (4 * groups)) k).1 (complete_all (4 * groups) k (inl (by_least
-    (complete_only (4 * groups) (k + 1) ((complete_told (207 * (4 * groups)) (k + 1)).0
-    (sym (ap (λ n. is_complete n (k + 1)) (count groups)) ∙ t))))))
+complete_before groups k t = ap (λ n. is_complete n k) (count groups) ∙ (complete_told (207 * (4 * groups)) k).1
+    (complete_all (4 * groups) k (inl (elim (complete_only (4 * groups) (k + 1) (grind (arith, complete_told, count))) [
+      | inl l ↦ omega (arith, l)
+      | inr e ↦ let z = e.0 in omega (arith, z)
+    ])))
   where
     count : (g : ℕ) → 828 * g ≡ 207 * (4 * g)
     count g = omega arith
 
-    by_least : (k + 1 + 53 ≤ 4 * groups) ⊎ ((k + 1 + 52 ≡ 4 * groups) × ((k + 1) % 52 ≡ 0)) → k + 53 ≤ 4 * groups
-    by_least (inl l) = omega (arith, l)
-    by_least (inr e) = let z = e.0 in omega (arith, z)
-
 numbers_are : (run : List (List ℤ)) → numbers_in run ≡ range_with_len 0 (length (numbers_in run))
 unfolding numbers_in
-numbers_are run =
-    front_left (is_complete (828 * groups_of run)) 0 (4 * groups_of run) (complete_before (groups_of run))
+numbers_are run = front_left (is_complete (828 * groups_of run)) 0 (4 * groups_of run) (complete_before (groups_of run))
 
 -- the data segments of the run are those of packets of the stream
 groups_within : (q n l u : ℕ) → 313 * q + n ≤ l → 0 < n → l ≡ 4 * u + (u + 77) / 78
     → 312 * q + 4 * ((n - (n + 312) / 313) / 4) ≤ 4 * u
-groups_within q n l u a s e = omega (arith, before q n l a, all l u e)
-  where
-    before : (q n l : ℕ) → 313 * q + n ≤ l → 312 * q + (n - (n + 312) / 313) ≤ l - (l + 312) / 313
-    before q n l a = omega arith
-
-    all : (l u : ℕ) → l ≡ 4 * u + (u + 77) / 78 → l - (l + 312) / 313 ≡ 4 * u
-    all l u e = omega arith
+groups_within q n l u a s e = grind arith
 
 numbers_within : (ps : List (List ℕ)) (first : ℕ) (sent got : List (List ℤ)) → AreReceived ps first sent got
     → to_sync first < length sent → heard_to first got ≤ length ps
@@ -115,16 +96,7 @@ numbers_within ps first sent got r l =
     let most = length-left (is_complete (828 * ((length run - (length run + 312) / 313) / 4))) 0
     (4 * ((length run - (length run + 312) / 313) / 4)) in
     let whole = groups_within ((first + to_sync first) / 313) (length run) (length (a53 ps)) (length ps / 4)
-    (omega (
-      arith,
-      sent_within ps first sent got r (omega (arith, l)),
-      sync_first first,
-      length-drop (to_sync first) got,
-      r.as_many,
-      l,
-    ))
-    (omega (arith, length-drop (to_sync first) got, r.as_many, l))
-    (length-a53 ps) in
+    (grind (arith, sent_within, sync_first, length-drop)) (grind (arith, length-drop)) (length-a53 ps) in
     omega (arith, most, whole)
 
 -- ---- the feed's sync bytes
@@ -135,41 +107,27 @@ with_sync (x ∷ p) s l e = ap (λ y. y ∷ p) e
 
 pub has_syncs : (plan : Plan) (stream : List (List ℕ)) → IsStream stream → ArePackets (feed plan stream)
     → HasSyncs (feed plan stream)
-has_syncs plan stream u h = λ k l.
-    let within : k < length stream = omega (arith, l, length-feed plan stream) in
-    with_sync (get_or (feed plan stream) k []) (sync_at k) (packet_at (feed plan stream) k h l).0
-    (sync_fed plan stream k within (u.long k [] within))
+has_syncs plan stream u h = grind (arith, length-feed, with_sync, packet_at, sync_fed)
 
 -- ---- the run's place in its frame
 
 pub place_is : (q : ℕ) (b : Bool) → (312 * q % 624 == 312) ≡ b → cond b 312 0 % 624 ≡ 312 * q % 624
 place_is q true e = let z : 312 * q % 624 ≡ 312 = eqb-true (312 * q % 624) 312 e in omega (arith, z)
-place_is q false e =
-    by_turns q (eqb-false (312 * q % 624) 312 e)
-  where
-    by_turns : (q : ℕ) → (312 * q % 624 ≡ 312 → ⊥) → 0 % 624 ≡ 312 * q % 624
-    by_turns q f = omega (arith, f)
+place_is q false e = grind (arith, eqb-false)
 
 second_told : (plan : Plan) (stream : List (List ℕ)) (t : Transmitter) (delay first : ℕ) (sent got : List (List ℤ))
     → Hears plan stream t delay first sent got
     → looks_second (first_sync first got) ≡ (packet_behind first % 624 == 312)
-second_told plan stream t delay first sent got h =
-    second_is (packet_behind first % 624 == 312) (first_sync first got) h.few_wrong_signs
+second_told plan stream t delay first sent got h = grind (arith, second_is)
 
 first_is : (first : ℕ) (got : List (List ℤ)) → get_or (from_sync first got) 0 [] ≡ first_sync first got
 unfolding from_sync
-first_is first got =
-    let e : to_sync first + 0 ≡ to_sync first = omega arith in
-    get_or-drop (to_sync first) got 0 [] ∙ ap (λ i. get_or got i []) e
+first_is first got = grind (arith, get_or-drop)
 
 starts_at : (plan : Plan) (stream : List (List ℕ)) (t : Transmitter) (delay first : ℕ) (sent got : List (List ℤ))
-    → Hears plan stream t delay first sent got
-    → first_place (from_sync first got) % 624 ≡ packet_behind first % 624
+    → Hears plan stream t delay first sent got → first_place (from_sync first got) % 624 ≡ packet_behind first % 624
 unfolding place_behind packet_behind
-starts_at plan stream t delay first sent got h =
-    ap (λ x. place_behind x % 624) (first_is first got)
-    ∙ ap (λ b. cond b 312 0 % 624) (second_told plan stream t delay first sent got h)
-    ∙ place_is ((first + to_sync first) / 313) (312 * ((first + to_sync first) / 313) % 624 == 312) refl
+starts_at plan stream t delay first sent got h = grind (arith, first_is, second_told, place_is)
 
 -- ---- its packets
 
@@ -188,15 +146,7 @@ run_packets_are : (ps : List (List ℕ)) (first : ℕ) (got : List (List ℤ)) �
     ≡ map (λ j. without_mark (get_or ps j [])) (range_with_len (packet_behind first)
     (length (numbers_in (from_sync first got))))
 unfolding as_received
-run_packets_are ps first got e all =
-    let run : List (List ℤ) = from_sync first got in
-    sym (received_is got run e) ∙ all
-    ∙ ap (map (λ j. as_received (get_or ps (packet_behind first + j) []))) (numbers_are run)
-    ∙ map-range_moved (λ j. as_received (get_or ps (packet_behind first + j) [])) (λ j. without_mark (get_or ps j []))
-    0 (packet_behind first) (length (numbers_in run))
-    (λ i l.
-    let z : packet_behind first + (0 + i) ≡ packet_behind first + i = omega arith in
-    ap (λ k. without_mark (get_or ps k [])) z)
+run_packets_are ps first got e all = grind (arith, received_is, numbers_are, map-range_moved)
 
 length-in : (rs : List Received) → length (packets_in rs) ≡ length rs
 length-in rs = length-map rs (λ r. r.packet.0)
@@ -216,28 +166,19 @@ unfolding life_of run_restored heard_to
 life_is ps first got syncs place within are =
     let run : List (List ℤ) = from_sync first got in
     let m : ℕ = packet_behind first in
-    let count : length (run_packets (bytes_in run)) ≡ length (numbers_in run) =
-    sym (length-in (run_packets (bytes_in run))) ∙ ap length are ∙ length-kept ps m (length (numbers_in run)) in
-    feed_is ps m (first_place run) (run_packets (bytes_in run)) syncs place (omega (arith, within, count))
-    (are ∙ ap (λ n. map (λ j. without_mark (get_or ps j [])) (range_with_len m n)) (sym count))
+    let count : length (run_packets (bytes_in run)) ≡ length (numbers_in run) = grind (arith, length-in, length-kept) in
+    feed_is ps m (first_place run) (run_packets (bytes_in run)) syncs place (omega (arith, within, count)) (grind arith)
     ∙ ap (λ n. slice_range ps m (m + n)) count
 
 pub one_life : (plan : Plan) (stream : List (List ℕ)) (t : Transmitter) (delay first : ℕ) (sent got : List (List ℤ))
-    → ArePackets (feed plan stream) → Hears plan stream t delay first sent got
-    → runs got ≡ from_sync first got ∷ []
+    → ArePackets (feed plan stream) → Hears plan stream t delay first sent got → runs got ≡ from_sync first got ∷ []
     → received got ≡ map (λ j. as_received (get_or (feed plan stream) (packet_behind first + j) []))
     (numbers_in (from_sync first got))
     → lives got ≡ slice_range (feed plan stream) (packet_behind first) (heard_to first got) ∷ []
 unfolding lives
 one_life plan stream t delay first sent got p h e all =
-    let ps : List (List ℕ) = feed plan stream in
-    ap (map life_of) e
-    ∙ ap (λ x. x ∷ []) (life_is ps first got (has_syncs plan stream h.is_stream p)
-    (starts_at plan stream t delay first sent got h)
-    (numbers_within ps first sent got h.received h.holds_sync)
-    (run_packets_are ps first got e all))
+    grind (arith, life_is, has_syncs, starts_at, numbers_within, run_packets_are)
 
 pub inside : (plan : Plan) (stream : List (List ℕ)) (t : Transmitter) (delay first : ℕ) (sent got : List (List ℤ))
     → Hears plan stream t delay first sent got → heard_to first got ≤ length (feed plan stream)
-inside plan stream t delay first sent got h =
-    numbers_within (feed plan stream) first sent got h.received h.holds_sync
+inside plan stream t delay first sent got h = numbers_within (feed plan stream) first sent got h.received h.holds_sync

@@ -26,29 +26,16 @@ search p a (suc n) = by_cases (cases_Bool (p a)) (search p (a + 1) n)
     by_cases : (p a ≡ true) ⊎ (p a ≡ false)
         → ((k : ℕ) × IsFirst p (a + 1) n k) ⊎ ((i : ℕ) → a + 1 ≤ i → i < a + 1 + n → p i ≡ false)
         → ((k : ℕ) × IsFirst p a (suc n) k) ⊎ ((i : ℕ) → a ≤ i → i < a + suc n → p i ≡ false)
-    by_cases (inl t) r = inl (
-      a,
-      record {
-        from = omega arith;
-        below = omega arith;
-        passes = t;
-        least = λ i l m. absurd (omega (arith, l, m));
-      },
-    )
-    by_cases (inr f) (inl (k, w)) = let x = w.from in let y = w.below in inl (
-      k,
-      record {
-        from = omega (arith, x);
-        below = omega (arith, y);
-        passes = w.passes;
-        least = λ i l m. here i f l (λ g. w.least i g m);
-      },
-    )
+    by_cases (inl t) r = grind arith
+    by_cases (inr f) (inl (k, w)) = grind arith
     by_cases (inr f) (inr none) = inr (λ i l m. here i f l (λ g. none i g (omega (arith, m))))
 
 pub listed_or_not : (address : ℕ) (feed : List (List ℕ)) (z end : ℕ)
     → ((k : ℕ) × IsFirstListing address feed z end k) ⊎ HasNoListing address feed z end
-listed_or_not address feed z end = by_search (search test (z + 52) (end - 3 - (z + 52)))
+listed_or_not address feed z end = elim (search test (z + 52) (end - 3 - (z + 52))) [
+  | inl (k, w) ↦ grind (arith, and_parts, eqb-true)
+  | inr none ↦ inr (λ g e l m. fails g e (none g l (omega (arith, m, l))))
+]
   where
     test : ℕ → Bool
     test k = (k % 4 == 0) && has_listing address feed k
@@ -56,22 +43,3 @@ listed_or_not address feed z end = by_search (search test (z + 52) (end - 3 - (z
     fails : (i : ℕ) → i % 4 ≡ 0 → ((i % 4 == 0) && has_listing address feed i) ≡ false
         → has_listing address feed i ≡ false
     fails i g f = sym (ap (λ b. b && has_listing address feed i) (eq-eqb (i % 4) 0 g)) ∙ f
-
-    by_search : ((k : ℕ) × IsFirst test (z + 52) (end - 3 - (z + 52)) k)
-        ⊎ ((i : ℕ) → z + 52 ≤ i → i < z + 52 + (end - 3 - (z + 52)) → test i ≡ false)
-        → ((k : ℕ) × IsFirstListing address feed z end k) ⊎ HasNoListing address feed z end
-    by_search (inl (k, w)) =
-        let from = w.from in let below = w.below in
-        let both : ((k % 4 == 0) ≡ true) × (has_listing address feed k ≡ true) =
-        and_parts (k % 4 == 0) (has_listing address feed k) w.passes in
-        inl (
-          k,
-          record {
-            group = eqb-true (k % 4) 0 both.0;
-            behind = from;
-            whole = omega (arith, from, below);
-            listing = both.1;
-            least = λ i g l m. fails i g (w.least i l m);
-          },
-        )
-    by_search (inr none) = inr (λ g e l m. fails g e (none g l (omega (arith, m, l))))

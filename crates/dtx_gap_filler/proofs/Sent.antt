@@ -1,7 +1,6 @@
 -- What a repeater sends and logs of a feed that it hears.
-use Rattle.std.proofs.Common.{◌≡◌, ◌≢◌, ◌⊎◌, inl, inr, ℕ, ℤ, ◌+◌, ◌-◌, ◌%◌, ◌<◌, ◌≤◌, ◌==◌, cond}
-use Rattle.std.proofs.Common.{List, [], ◌∷◌, ◌++◌, length, take, drop, refl, sym, ap, subst, ◌∙◌}
-use Rattle.std.proofs.Common.{arith}
+use Rattle.std.proofs.Common.{◌≡◌, ◌≢◌, ◌⊎◌, inl, inr, ℕ, ℤ, ◌+◌, ◌-◌, ◌%◌, ◌<◌, ◌≤◌, ◌==◌, cond, List, [], ◌∷◌, ◌++◌}
+use Rattle.std.proofs.Common.{length, take, drop, refl, sym, ap, ◌∙◌, arith}
 use Rattle.std.specs.Prelude.{slice_range}
 use Rattle.std.proofs.lemmas.Bool.{cases_eq, cases_lt, ne_eqb}
 use Rattle.std.proofs.lemmas.List.{append-nil, drop-drop, get_or-drop, get_or-map, get_or-take, length-drop}
@@ -15,7 +14,7 @@ use Rattle.dtx_exciter.specs.Emission.{emission}
 use Rattle.dtx_exciter.specs.Log.{life_lines, log, emission_over}
 use Rattle.dtx_exciter.proofs.SinceMarkLemmas.{take_parts}
 use Rattle.dtx_chain.specs.Undamaged.{ArePackets}
-use Rattle.dtx_chain.specs.Damage.{packet_behind, from_sync, numbers_in}
+use Rattle.dtx_chain.specs.Damage.{packet_behind}
 use Rattle.dtx_chain.proofs.SlightLemmas.{field_begins}
 use Rattle.dtx_network.specs.Headline.{IsFirstListing, HasNoListing, HaveNoMark, IsFedAnew, stretch_of}
 use Rattle.dtx_network.specs.Presets.{presets}
@@ -44,8 +43,7 @@ no_mark : (ps : List (List ℕ)) (m c : ℕ) → HasSyncs ps → m % 624 ≡ 312
 unfolding syncs
 no_mark ps m c syncs_are e small l = λ i h.
     let s : i < c = omega (arith, h, length-take-le c (drop m ps) (omega (arith, l, length-drop m ps))) in
-    ap (λ x. x == 0xB8)
-    (get_or-map sync_of (take c (drop m ps)) i [] 0 h
+    ap (λ x. x == 0xB8) (get_or-map sync_of (take c (drop m ps)) i [] 0 h
     ∙ ap sync_of (get_or-take c (drop m ps) i [] s ∙ get_or-drop m ps i []
     ∙ syncs_are (m + i) (omega (arith, s, l))))
     ∙ ap (λ b. cond b 0xB8 0x47 == 0xB8) (ne_eqb ((m + i) % 624) 0 (unmarked i s))
@@ -61,10 +59,7 @@ slice_is ps m c = let e : m + c - m ≡ c = omega arith in ap (λ k. take k (dro
 
 slice_parts : (ps : List (List ℕ)) (m a b : ℕ)
     → take (a + b) (drop m ps) ≡ take a (drop m ps) ++ slice_range ps (m + a) (m + a + b)
-slice_parts ps m a b =
-    take_parts a b (drop m ps)
-    ∙ ap (λ x. take a (drop m ps) ++ take b x) (drop-drop a m ps)
-    ∙ ap (λ x. take a (drop m ps) ++ x) (sym (slice_is ps (m + a) b))
+slice_parts ps m a b = grind (arith, take_parts, drop-drop, slice_is)
 
 cut : (ps : List (List ℕ)) (m n : ℕ) → HasSyncs ps → m % 312 ≡ 0 → m + n ≤ length ps → IsCut ps m (m + n)
 cut ps m n syncs_are f l = by_field (cases_eq (m % 624) 0) (cases_lt n 312)
@@ -100,50 +95,37 @@ cut ps m n syncs_are f l = by_field (cases_eq (m % 624) 0) (cases_lt n 312)
       place = inr (omega arith, omega (arith, s, behind (second e)));
     }
     by_field (inr e) (inr s) =
-        let w : m % 624 ≡ 312 = second e in
         let parts : 312 + (n - 312) ≡ n = omega (arith, s) in
-        let all : m + 312 + (n - 312) ≡ m + n = omega (arith, s) in
         record {
           earlier = take 312 (drop m ps);
           mark = m + 312;
           count = n - 312;
-          unmarked = no_mark ps m 312 syncs_are w (omega arith) (omega (arith, s, l));
-          at_mark = omega (arith, w);
-          inside = omega (arith, all, l);
+          unmarked = no_mark ps m 312 syncs_are (second e) (omega arith) (omega (arith, s, l));
+          at_mark = omega arith;
+          inside = omega (arith, l);
           holds = slice_is ps m n ∙ ap (λ k. take k (drop m ps)) (sym parts) ∙ slice_parts ps m 312 (n - 312);
-          place = inl (sym (behind w), all);
+          place = inl (sym (behind (second e)), (omega (arith, s)));
         }
 
 pub cut_heard : (plan : Plan) (stream : List (List ℕ)) (t : Transmitter) (delay first : ℕ) (sent got : List (List ℤ))
     → ArePackets (feed plan stream) → Hears plan stream t delay first sent got
     → IsCut (feed plan stream) (packet_behind first) (heard_to first got)
 unfolding heard_to
-cut_heard plan stream t delay first sent got p h =
-    cut (feed plan stream) (packet_behind first) (length (numbers_in (from_sync first got)))
-    (has_syncs plan stream h.is_stream p) (field_begins first) (inside plan stream t delay first sent got h)
+cut_heard plan stream t delay first sent got p h = grind (arith, cut, has_syncs, field_begins, inside)
 
 -- the exciter is fed anew with these parts
 pub fed_anew : (plan : Plan) (stream : List (List ℕ)) (t : Transmitter) (delay first : ℕ) (sent got : List (List ℤ))
     → Hears plan stream t delay first sent got
     → (w : IsCut (feed plan stream) (packet_behind first) (heard_to first got))
     → IsFedAnew plan stream t delay w.earlier w.mark w.count
-fed_anew plan stream t delay first sent got h w = record {
-  is_plan = h.is_plan;
-  is_stream = h.is_stream;
-  listed = h.listed;
-  in_time = h.in_time;
-  unmarked = w.unmarked;
-  at_mark = w.at_mark;
-  inside = w.inside;
-}
+fed_anew plan stream t delay first sent got h w = grind (arith, inside)
 
 -- ---- the life
 
 -- the one life's segments and lines
 all_sent : (address delay : ℕ) (got : List (List ℤ)) (life : List (List ℕ)) → lives got ≡ life ∷ []
     → repeated address delay got ≡ emission address delay life
-all_sent address delay got life e =
-    ap (emission_over address delay) e ∙ append-nil (emission address delay life)
+all_sent address delay got life e = ap (emission_over address delay) e ∙ append-nil (emission address delay life)
 
 all_logged : (address delay : ℕ) (got : List (List ℤ)) (life : List (List ℕ)) → lives got ≡ life ∷ []
     → repeated_log address delay got ≡ life_lines address delay 0 life
@@ -153,83 +135,45 @@ all_logged address delay got life e = ap (log address delay 0) e
 -- a first listing stands where it did
 moved : (address : ℕ) (ps : List (List ℕ)) (z y end to k : ℕ) → z ≡ y → end ≡ to
     → IsFirstListing address ps y to k → IsFirstListing address ps z end k
-moved address ps z y end to k e f first =
-    subst (λ (x : ℕ). IsFirstListing address ps x end k) (sym e)
-    (subst (λ (x : ℕ). IsFirstListing address ps y x k) (sym f) first)
+moved address ps z y end to k e f first = grind arith
 
 none_moved : (address : ℕ) (ps : List (List ℕ)) (z y end to : ℕ) → z ≡ y → end ≡ to
     → HasNoListing address ps y to → HasNoListing address ps z end
-none_moved address ps z y end to e f none =
-    λ g whole far l. none g whole (omega (arith, e, far)) (omega (arith, f, l))
+none_moved address ps z y end to e f none = λ g whole far l. none g whole (omega (arith, e, far)) (omega (arith, f, l))
 
 -- what is sent and logged of one life that is a part of a feed
 pub sends : (plan : Plan) (stream : List (List ℕ)) (t : Transmitter) (delay m end k : ℕ) (got : List (List ℤ))
-    → lives got ≡ slice_range (feed plan stream) m end ∷ []
-    → (w : IsCut (feed plan stream) m end)
+    → lives got ≡ slice_range (feed plan stream) m end ∷ [] → (w : IsCut (feed plan stream) m end)
     → (IsFirstListing t.address (feed plan stream) w.mark (w.mark + w.count) k
     → emission t.address delay (w.earlier ++ slice_range (feed plan stream) w.mark (w.mark + w.count))
     ≡ stretch_of (feed plan stream) k (w.mark + w.count))
     → IsFirstListing t.address (feed plan stream) (mark_from m) end k
     → repeated t.address delay got ≡ stretch_of (feed plan stream) k end
-sends plan stream t delay m end k got e w known first = by_place w.place
-  where
-    by_place : ((w.mark ≡ mark_from m) × (w.mark + w.count ≡ end)) ⊎ ((w.mark + w.count ≡ 0) × (end ≤ mark_from m))
-        → repeated t.address delay got ≡ stretch_of (feed plan stream) k end
-    by_place (inr (_, l)) =
-        let whole = first.whole in let far = first.behind in absurd (omega (arith, l, whole, far))
-    by_place (inl (z, f)) =
-        all_sent t.address delay got (slice_range (feed plan stream) m end) e
-        ∙ ap (emission t.address delay) w.holds
-        ∙ known (moved t.address (feed plan stream) w.mark (mark_from m) (w.mark + w.count) end k z f first)
-        ∙ ap (stretch_of (feed plan stream) k) f
+sends plan stream t delay m end k got e w known first = grind (arith, all_sent, moved)
 
 pub logs : (plan : Plan) (stream : List (List ℕ)) (t : Transmitter) (delay m end k : ℕ) (got : List (List ℤ))
-    → lives got ≡ slice_range (feed plan stream) m end ∷ []
-    → (w : IsCut (feed plan stream) m end)
+    → lives got ≡ slice_range (feed plan stream) m end ∷ [] → (w : IsCut (feed plan stream) m end)
     → (IsFirstListing t.address (feed plan stream) w.mark (w.mark + w.count) k
     → life_lines t.address delay 0 (w.earlier ++ slice_range (feed plan stream) w.mark (w.mark + w.count))
     ≡ presets plan t.offset 0 (feed plan stream) k (w.mark + w.count))
     → IsFirstListing t.address (feed plan stream) (mark_from m) end k
     → repeated_log t.address delay got ≡ presets plan t.offset 0 (feed plan stream) k end
-logs plan stream t delay m end k got e w known first = by_place w.place
-  where
-    by_place : ((w.mark ≡ mark_from m) × (w.mark + w.count ≡ end)) ⊎ ((w.mark + w.count ≡ 0) × (end ≤ mark_from m))
-        → repeated_log t.address delay got ≡ presets plan t.offset 0 (feed plan stream) k end
-    by_place (inr (_, l)) =
-        let whole = first.whole in let far = first.behind in absurd (omega (arith, l, whole, far))
-    by_place (inl (z, f)) =
-        all_logged t.address delay got (slice_range (feed plan stream) m end) e
-        ∙ ap (life_lines t.address delay 0) w.holds
-        ∙ known (moved t.address (feed plan stream) w.mark (mark_from m) (w.mark + w.count) end k z f first)
-        ∙ ap (presets plan t.offset 0 (feed plan stream) k) f
+logs plan stream t delay m end k got e w known first = grind (arith, all_logged, moved)
 
 none_there : (address : ℕ) (ps : List (List ℕ)) (m end : ℕ) → (w : IsCut ps m end)
     → HasNoListing address ps (mark_from m) end → HasNoListing address ps w.mark (w.mark + w.count)
-none_there address ps m end w none = by_place w.place
-  where
-    by_place : ((w.mark ≡ mark_from m) × (w.mark + w.count ≡ end)) ⊎ ((w.mark + w.count ≡ 0) × (end ≤ mark_from m))
-        → HasNoListing address ps w.mark (w.mark + w.count)
-    by_place (inr (z, _)) = λ g whole far l. absurd (omega (arith, z, far, l))
-    by_place (inl (z, f)) = none_moved address ps w.mark (mark_from m) (w.mark + w.count) end z f none
+none_there address ps m end w none = grind (arith, none_moved)
 
 pub sends_nothing : (plan : Plan) (stream : List (List ℕ)) (t : Transmitter) (delay m end : ℕ) (got : List (List ℤ))
-    → lives got ≡ slice_range (feed plan stream) m end ∷ []
-    → (w : IsCut (feed plan stream) m end)
+    → lives got ≡ slice_range (feed plan stream) m end ∷ [] → (w : IsCut (feed plan stream) m end)
     → (HasNoListing t.address (feed plan stream) w.mark (w.mark + w.count)
     → emission t.address delay (w.earlier ++ slice_range (feed plan stream) w.mark (w.mark + w.count)) ≡ [])
     → HasNoListing t.address (feed plan stream) (mark_from m) end → repeated t.address delay got ≡ []
-sends_nothing plan stream t delay m end got e w known none =
-    all_sent t.address delay got (slice_range (feed plan stream) m end) e
-    ∙ ap (emission t.address delay) w.holds
-    ∙ known (none_there t.address (feed plan stream) m end w none)
+sends_nothing plan stream t delay m end got e w known none = grind (arith, all_sent, none_there)
 
 pub logs_nothing : (plan : Plan) (stream : List (List ℕ)) (t : Transmitter) (delay m end : ℕ) (got : List (List ℤ))
-    → lives got ≡ slice_range (feed plan stream) m end ∷ []
-    → (w : IsCut (feed plan stream) m end)
+    → lives got ≡ slice_range (feed plan stream) m end ∷ [] → (w : IsCut (feed plan stream) m end)
     → (HasNoListing t.address (feed plan stream) w.mark (w.mark + w.count)
     → life_lines t.address delay 0 (w.earlier ++ slice_range (feed plan stream) w.mark (w.mark + w.count)) ≡ [])
     → HasNoListing t.address (feed plan stream) (mark_from m) end → repeated_log t.address delay got ≡ []
-logs_nothing plan stream t delay m end got e w known none =
-    all_logged t.address delay got (slice_range (feed plan stream) m end) e
-    ∙ ap (life_lines t.address delay 0) w.holds
-    ∙ known (none_there t.address (feed plan stream) m end w none)
+logs_nothing plan stream t delay m end got e w known none = grind (arith, all_logged, none_there)

@@ -1,6 +1,6 @@
 -- The first item of a list that passes a test, for a loop that looks for it.
-use Rattle.std.proofs.Common.{◌≡◌, ℕ, ◌+◌, ◌<◌, ◌≤◌, ◌⊎◌, inl, inr, Bool, true, false, cond, Some, None, List, length}
-use Rattle.std.proofs.Common.{sym, ap, subst, ◌∙◌, arith, get_or}
+use Rattle.std.proofs.Common.{◌≡◌, ℕ, ◌+◌, ◌<◌, inl, inr, Bool, true, false, cond, Some, None, List, length, sym, ap}
+use Rattle.std.proofs.Common.{subst, ◌∙◌, arith, get_or}
 use Rattle.std.specs.Prelude.{nat_lt, slice_get, position}
 use Rattle.std.specs.List.{position_or_len}
 use Rattle.std.proofs.lemmas.Bool.{cases_lt, cond-true, cond-false, lt-ltb}
@@ -24,10 +24,8 @@ pub position_is : {X : Type 0} (test : X → Bool) (xs : List X) (i : ℕ) (x : 
 position_is test xs i x here before passes =
     let within : i < length xs = slice_get_within xs i x here in
     let e : position_or_len test xs ≡ i = position_or_len_is test xs i x (omega (arith, within))
-    (λ k l. before k (get_or xs k x) l (slice_get-get_or xs k x (omega (arith, within, l))))
-    (λ _. ap test (get_or_from_slice_get xs i x x here) ∙ passes) in
-    subst (λ (n : ℕ). cond (nat_lt n (length xs)) (Some n) None ≡ Some i) (sym e)
-    (cond-true (nat_lt i (length xs)) (Some i) None (lt-ltb i (length xs) within))
+    (λ k l. grind (arith, slice_get-get_or)) (λ _. ap test (get_or_from_slice_get xs i x x here) ∙ passes) in
+    subst (λ (n : ℕ). cond (nat_lt n (length xs)) (Some n) None ≡ Some i) (sym e) (grind (arith, cond-true, lt-ltb))
 
 -- none is
 pub position_none : {X : Type 0} (test : X → Bool) (xs : List X) (d : X) → FailBefore test xs (length xs)
@@ -35,32 +33,22 @@ pub position_none : {X : Type 0} (test : X → Bool) (xs : List X) (d : X) → F
 position_none test xs d before =
     let e : position_or_len test xs ≡ length xs = position_or_len_is test xs (length xs) d (omega arith)
     (λ k l. before k (get_or xs k d) l (slice_get-get_or xs k d l)) (λ l. absurd (omega (arith, l))) in
-    subst (λ (n : ℕ). cond (nat_lt n (length xs)) (Some n) None ≡ None) (sym e)
-    (cond-false (nat_lt (length xs) (length xs)) (Some (length xs)) None (ltb_self (length xs)))
+    subst (λ (n : ℕ). cond (nat_lt n (length xs)) (Some n) None ≡ None) (sym e) (grind (arith, cond-false, ltb_self))
 
 -- one item more that fails it
 pub before_next : {X : Type 0} (test : X → Bool) (xs : List X) (i : ℕ) (x : X) → FailBefore test xs i
     → slice_get xs i ≡ Some x → test x ≡ false → FailBefore test xs (i + 1)
-before_next {X} test xs i x before here fails k y l at = by_cases (cases_lt k i)
-  where
-    by_cases : (k < i) ⊎ (i ≤ k) → test y ≡ false
-    by_cases (inl less) = before k y less at
-    by_cases (inr past) =
-        let same : k ≡ i = omega (arith, l, past) in
-        let is : Some y ≡ Some x = sym at ∙ ap (slice_get xs) same ∙ here in
-        subst (λ z. test z ≡ false) (sym (some_is is)) fails
+before_next {X} test xs i x before here fails k y l at = elim (cases_lt k i) [
+  | inl less ↦ before k y less at
+  | inr past ↦ grind (arith, some_is)
+]
 
 -- where none is found, each fails it
 pub position_passes : {X : Type 0} (test : X → Bool) (xs : List X) (i : ℕ) (x : X) → position test xs ≡ None
     → slice_get xs i ≡ Some x → test x ≡ false
-position_passes {X} test xs i x none here = by_cases (cases_lt (position_or_len test xs) (length xs))
-  where
-    by_cases : (position_or_len test xs < length xs) ⊎ (length xs ≤ position_or_len test xs) → test x ≡ false
-    by_cases (inl within) =
-        let found = cond-true (nat_lt (position_or_len test xs) (length xs)) (Some (position_or_len test xs)) None
-        (lt-ltb (position_or_len test xs) (length xs) within) in
-        cc
-    by_cases (inr past) =
-        let within : i < length xs = slice_get_within xs i x here in
-        sym (ap test (get_or_from_slice_get xs i x x here))
-        ∙ fails_before_first test xs i x (omega (arith, within, past))
+position_passes {X} test xs i x none here = elim (cases_lt (position_or_len test xs) (length xs)) [
+  | inl within ↦ grind (arith, cond-true, lt-ltb)
+  | inr past ↦
+      let within : i < length xs = slice_get_within xs i x here in
+      sym (ap test (get_or_from_slice_get xs i x x here)) ∙ fails_before_first test xs i x (omega (arith, within, past))
+]

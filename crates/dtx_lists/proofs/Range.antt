@@ -12,12 +12,10 @@ next : (a n : ℕ) → a + 1 + n ≡ a + suc n
 next a n = omega arith
 
 pub range_with_len-parts : (a m n : ℕ) → range_with_len a (m + n) ≡ range_with_len a m ++ range_with_len (a + m) n
-range_with_len-parts a zero n = let p : 0 + n ≡ n = omega arith in
-    ap (range_with_len a) p ∙ ap (λ x. range_with_len x n) (sym (add-zero a))
+range_with_len-parts a zero n = grind (arith, add-zero)
 range_with_len-parts a (suc m) n =
     let p : suc m + n ≡ suc (m + n) = omega arith in
-    ap (range_with_len a) p ∙ ap (λ xs. a ∷ xs) (range_with_len-parts (a + 1) m n
-    ∙ ap (λ x. range_with_len (a + 1) m ++ range_with_len x n) (next a m))
+    ap (range_with_len a) p ∙ ap (λ xs. a ∷ xs) (rw (range_with_len-parts (a + 1) m n, next a m))
 
 -- where two functions agree
 pub map-range_same : {X : Type 0} (f g : ℕ → X) (a n : ℕ) → ((i : ℕ) → a ≤ i → i < a + n → f i ≡ g i)
@@ -31,8 +29,7 @@ pub list_all-range_at : (f : ℕ → Bool) (a n : ℕ) → list_all f (range_wit
     → f i ≡ true
 list_all-range_at f a zero t i l m = absurd (omega arith)
 list_all-range_at f a (suc n) t i l m =
-    let h : (f a ≡ true) × (list_all f (range_with_len (a + 1) n) ≡ true) =
-    and_parts (f a) (list_all f (range_with_len (a + 1) n)) t in
+    let h : (f a ≡ true) × (list_all f (range_with_len (a + 1) n) ≡ true) = grind (arith, and_parts) in
     by_place (range_cases a i l) h.0 (λ p. list_all-range_at f (a + 1) n h.1 i p (omega arith))
   where
     by_place : (a ≡ i) ⊎ (a + 1 ≤ i) → f a ≡ true → (a + 1 ≤ i → f i ≡ true) → f i ≡ true

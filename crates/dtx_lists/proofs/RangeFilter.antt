@@ -12,13 +12,11 @@ filter-lost p a xs e = ap (λ b. cond b (a ∷ filter p xs) (filter p xs)) e
 pub filter-range_all : (p : ℕ → Bool) (a n : ℕ) → ((i : ℕ) → a ≤ i → i < a + n → p i ≡ true)
     → filter p (range_with_len a n) ≡ range_with_len a n
 filter-range_all p a zero h = refl
-filter-range_all p a (suc n) h =
-    filter-kept p a (range_with_len (a + 1) n) (h a (omega arith) (omega arith))
+filter-range_all p a (suc n) h = filter-kept p a (range_with_len (a + 1) n) (h a (omega arith) (omega arith))
     ∙ ap (λ xs. a ∷ xs) (filter-range_all p (a + 1) n (λ i l m. h i (omega arith) (omega arith)))
 
 pub filter-range_none : (p : ℕ → Bool) (a n : ℕ) → ((i : ℕ) → a ≤ i → i < a + n → p i ≡ false)
     → filter p (range_with_len a n) ≡ []
 filter-range_none p a zero h = refl
-filter-range_none p a (suc n) h =
-    filter-lost p a (range_with_len (a + 1) n) (h a (omega arith) (omega arith))
+filter-range_none p a (suc n) h = filter-lost p a (range_with_len (a + 1) n) (h a (omega arith) (omega arith))
     ∙ filter-range_none p (a + 1) n (λ i l m. h i (omega arith) (omega arith))

@@ -1,6 +1,6 @@
 -- A list over a range in two parts, of which the second is counted anew.
-use Rattle.std.proofs.Common.{◌≡◌, ℕ, ◌+◌, ◌-◌, ◌<◌, ◌≤◌, ◌⊎◌, ◌++◌, map, length, get_or, sym, ap, ap₂, ◌∙◌, subst}
-use Rattle.std.proofs.Common.{arith, inl, inr}
+use Rattle.std.proofs.Common.{◌≡◌, ℕ, ◌+◌, ◌-◌, ◌<◌, ◌≤◌, ◌⊎◌, ◌++◌, map, length, get_or, sym, ap₂, ◌∙◌, subst, arith}
+use Rattle.std.proofs.Common.{inl, inr}
 use Rattle.std.specs.List.{range_with_len}
 use Rattle.std.proofs.lemmas.Bool.{cases_lt}
 use Rattle.std.proofs.lemmas.List.{ext_get_or, get_or_append_left, get_or-append_right, length-append}
@@ -20,18 +20,7 @@ map-range_parts f g m n h =
     back : (k : ℕ) → m ≤ k → m + (k - m) ≡ k
     back k l = omega arith
 
-    by_cases : (k : ℕ) → k < m + n → (k < m) ⊎ (m ≤ k)
-        → get_or (map f (range_with_len 0 (m + n))) k 0
+    by_cases : (k : ℕ) → k < m + n → (k < m) ⊎ (m ≤ k) → get_or (map f (range_with_len 0 (m + n))) k 0
         ≡ get_or (map f (range_with_len 0 m) ++ map g (range_with_len 0 n)) k 0
-    by_cases k l (inl below) =
-        get_or-map-range_with_len f 0 (m + n) k k 0 l (omega arith)
-        ∙ sym (get_or_append_left (map f (range_with_len 0 m)) (map g (range_with_len 0 n)) 0 k
-        (omega (arith, length-map-range_with_len f 0 m))
-        ∙ get_or-map-range_with_len f 0 m k k 0 below (omega arith))
-    by_cases k l (inr above) =
-        get_or-map-range_with_len f 0 (m + n) k k 0 l (omega arith)
-        ∙ ap f (sym (back k above))
-        ∙ h (k - m) (omega arith)
-        ∙ sym (get_or-append_right (map f (range_with_len 0 m)) (map g (range_with_len 0 n)) m k 0
-        (length-map-range_with_len f 0 m) above
-        ∙ get_or-map-range_with_len g 0 n (k - m) (k - m) 0 (omega arith) (omega arith))
+    by_cases k l (inl below) = grind (arith, get_or-map-range_with_len, get_or_append_left, length-map-range_with_len)
+    by_cases k l (inr above) = grind (arith, get_or-map-range_with_len, get_or-append_right, length-map-range_with_len)

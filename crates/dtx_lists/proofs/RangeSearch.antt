@@ -28,38 +28,12 @@ find-range_first p a (suc n) j l m t f =
 gives_by_test : (p : ℕ → Bool) (a n j : ℕ) (t : Bool) → p a ≡ t
     → cond t (Some a) (find p (range_with_len (a + 1) n)) ≡ Some j
     → (find p (range_with_len (a + 1) n) ≡ Some j → IsFirst p (a + 1) n j) → IsFirst p a (suc n) j
-gives_by_test p a n j true e h f =
-    let q : a ≡ j = some_injective a j h in
-    record {
-      least = omega arith;
-      within = omega arith;
-      passes = ap p (sym q)
-          ∙ e;
-      before = λ i l m. absurd (omega arith);
-    }
-  where
-    some_injective : (a j : ℕ) → ◌≡◌ {A = Option ℕ} (Some a) (Some j) → a ≡ j
-    some_injective a j e = cc
-gives_by_test p a n j false e h f =
-    let w : IsFirst p (a + 1) n j = f h in
-    record {
-      least = omega (arith, w.least);
-      within = omega (arith, w.within);
-      passes = w.passes;
-      before = λ i l m. earlier p a i j e (range_cases a i l) w.before m;
-    }
-  where
-    earlier : (p : ℕ → Bool) (a i j : ℕ) → p a ≡ false → (a ≡ i) ⊎ (a + 1 ≤ i)
-        → ((k : ℕ) → a + 1 ≤ k → k < j → p k ≡ false) → i < j → p i ≡ false
-    earlier p a i j e (inl q) g m = ap p (sym q) ∙ e
-    earlier p a i j e (inr k) g m = g i k m
+gives_by_test p a n j true e h f = grind arith
+gives_by_test p a n j false e h f = grind (arith, range_cases)
 
 -- what is found is the first that passes
 pub find-range_gives : (p : ℕ → Bool) (a n j : ℕ) → find p (range_with_len a n) ≡ Some j → IsFirst p a n j
-find-range_gives p a zero j h = absurd (none_some j h)
-  where
-    none_some : (j : ℕ) → ◌≡◌ {A = Option ℕ} None (Some j) → ⊥
-    none_some j h = cc
+find-range_gives p a zero j h = grind arith
 find-range_gives p a (suc n) j h = gives_by_test p a n j (p a) refl h (find-range_gives p (a + 1) n j)
 
 -- where nothing is found, none passes

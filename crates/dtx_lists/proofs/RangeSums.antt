@@ -1,5 +1,5 @@
 -- Sums over a range.
-use Rattle.std.proofs.Common.{◌≡◌, ℕ, ◌+◌, map, sum, ap, ◌∙◌}
+use Rattle.std.proofs.Common.{◌≡◌, ℕ, ◌+◌, map, sum, arith}
 use Rattle.std.specs.List.{range_with_len}
 use Rattle.std.proofs.lemmas.List.{map-append}
 use Rattle.std.proofs.lemmas.List.Sums.{sum_by-append}
@@ -11,7 +11,4 @@ over f a n = sum (map f (range_with_len a n))
 
 -- in two parts
 pub over_parts : (f : ℕ → ℕ) (a m n : ℕ) → over f a (m + n) ≡ over f a m + over f (a + m) n
-over_parts f a m n =
-    ap (λ xs. sum (map f xs)) (range_with_len-parts a m n)
-    ∙ ap sum (map-append f (range_with_len a m) (range_with_len (a + m) n))
-    ∙ sum_by-append (λ x. x) (map f (range_with_len a m)) (map f (range_with_len (a + m) n))
+over_parts f a m n = grind (arith, range_with_len-parts, map-append, sum_by-append)

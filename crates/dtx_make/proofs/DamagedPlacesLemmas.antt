@@ -1,7 +1,7 @@
 -- How many places are damaged.
-use Rattle.std.proofs.Common.{◌≡◌, ℕ, zero, suc, ◌+◌, ◌-◌, ◌<◌, ◌≤◌, ◌⊎◌, true, false, ◌&&◌, cond, Option, Some, None}
-use Rattle.std.proofs.Common.{List, [], ◌∷◌, length, get_or, take, refl, sym, ap, ap₂, ◌∙◌, subst, arith, inl, inr}
-use Rattle.std.proofs.Common.{add-zero, zero-add}
+use Rattle.std.proofs.Common.{◌≡◌, ℕ, zero, suc, ◌+◌, ◌-◌, ◌<◌, ◌≤◌, ◌⊎◌, true, false, cond, Option, Some, None, List}
+use Rattle.std.proofs.Common.{[], ◌∷◌, length, get_or, take, refl, sym, ap, ap₂, ◌∙◌, arith, inl, inr, add-zero}
+use Rattle.std.proofs.Common.{zero-add}
 use Rattle.std.specs.Option.{option_or, is_some}
 use Rattle.std.specs.List.{range_with_len, sum_by, count_by}
 use Rattle.std.proofs.Math.Dec.{leb, ltb}
@@ -34,37 +34,31 @@ sum_by-range_sums f g h a (suc n) e =
 
 sum_by-range_zeros : (f : ℕ → ℕ) (a n : ℕ) → ((i : ℕ) → a ≤ i → i < a + n → f i ≡ 0) → sum_by f (range_with_len a n) ≡ 0
 sum_by-range_zeros f a zero e = refl
-sum_by-range_zeros f a (suc n) e =
-    omega (
-      arith,
-      e a (omega arith) (omega arith),
-      sum_by-range_zeros f (a + 1) n (λ i l m. e i (omega arith) (omega arith)),
-      sum_by-cons f a (range_with_len (a + 1) n),
-    )
+sum_by-range_zeros f a (suc n) e = omega (
+  arith,
+  e a (omega arith) (omega arith),
+  sum_by-range_zeros f (a + 1) n (λ i l m. e i (omega arith) (omega arith)),
+  sum_by-cons f a (range_with_len (a + 1) n),
+)
 
 sum_by-range_ones : (f : ℕ → ℕ) (a n : ℕ) → ((i : ℕ) → a ≤ i → i < a + n → f i ≡ 1) → sum_by f (range_with_len a n) ≡ n
 sum_by-range_ones f a zero e = refl
-sum_by-range_ones f a (suc n) e =
-    omega (
-      arith,
-      e a (omega arith) (omega arith),
-      sum_by-range_ones f (a + 1) n (λ i l m. e i (omega arith) (omega arith)),
-      sum_by-cons f a (range_with_len (a + 1) n),
-    )
+sum_by-range_ones f a (suc n) e = omega (
+  arith,
+  e a (omega arith) (omega arith),
+  sum_by-range_ones f (a + 1) n (λ i l m. e i (omega arith) (omega arith)),
+  sum_by-cons f a (range_with_len (a + 1) n),
+)
 
 pub damaged_from-le-count : (ds : List Damage) (place n : ℕ) → damaged_from ds place n ≤ n
 unfolding damaged_from
-damaged_from-le-count ds place n =
-    subst (λ m. count_by (λ k. is_some (entry_at ds k)) (range_with_len place n) ≤ m) (length-range_with_len place n)
-    (count_by-le-length (λ k. is_some (entry_at ds k)) (range_with_len place n))
+damaged_from-le-count ds place n = grind (arith, length-range_with_len, count_by-le-length)
 
 -- counted in two pieces
 pub damaged_from-parts : (ds : List Damage) (place m n : ℕ)
     → damaged_from ds place (m + n) ≡ damaged_from ds place m + damaged_from ds (place + m) n
 unfolding damaged_from
-damaged_from-parts ds place m n =
-    ap (count_by (λ k. is_some (entry_at ds k))) (range_with_len-parts place m n)
-    ∙ sum_by-append (λ k. one_of (entry_at ds k)) (range_with_len place m) (range_with_len (place + m) n)
+damaged_from-parts ds place m n = grind (arith, range_with_len-parts, sum_by-append)
 
 -- where no entry covers any of the places
 pub damaged_from_none : (ds : List Damage) (place n : ℕ) → ((k : ℕ) → place ≤ k → k < place + n → entry_at ds k ≡ None)
@@ -79,10 +73,8 @@ pub damaged_from_same : (ds es : List Damage) (place n : ℕ)
 unfolding damaged_from
 damaged_from_same ds es place n h =
     sum_by-range_sums (λ k. one_of (entry_at ds k)) (λ k. one_of (entry_at es k)) (λ k. 0) place n
-    (λ k l m. ap one_of (h k l m) ∙ sym (add-zero (one_of (entry_at es k))))
-    ∙ ap (λ z. count_by (λ k. is_some (entry_at es k)) (range_with_len place n) + z)
-    (sum_by-range_zeros (λ k. 0) place n (λ k l m. refl))
-    ∙ add-zero (count_by (λ k. is_some (entry_at es k)) (range_with_len place n))
+    (λ k l m. grind (arith, add-zero)) ∙ ap (λ z. count_by (λ k. is_some (entry_at es k)) (range_with_len place n) + z)
+    (grind (arith, sum_by-range_zeros)) ∙ add-zero (count_by (λ k. is_some (entry_at es k)) (range_with_len place n))
 
 either : (x y : Option Damage) → (y ≡ None) ⊎ (x ≡ None) → one_of (option_or x y) ≡ one_of x + one_of y
 either None y h = sym (zero-add (one_of y))
@@ -97,8 +89,7 @@ pub damaged_from_more : (ds : List Damage) (d : Damage) (i place n : ℕ) → Ar
 unfolding damaged_from
 damaged_from_more ds d i place n o l =
     sum_by-range_sums (λ k. one_of (entry_at (take (i + 1) ds) k)) (λ k. one_of (entry_at (take i ds) k))
-    (λ k. one_of (entry_at (get_or ds i d ∷ []) k)) place n
-    (λ k a b. ap one_of (entry_at_more ds d i k l)
+    (λ k. one_of (entry_at (get_or ds i d ∷ []) k)) place n (λ k a b. ap one_of (entry_at_more ds d i k l)
     ∙ either (entry_at (take i ds) k) (entry_at (get_or ds i d ∷ []) k) (one_covers ds d i k o l))
 
 one_covers_it : (e : Damage) (k : ℕ) → covers k e ≡ true → one_of (entry_at (e ∷ []) k) ≡ 1
@@ -113,20 +104,12 @@ outside : (e : Damage) (place n from to a m : ℕ) → IsCovered e place (place 
     → (a + m ≤ from) ⊎ (to ≤ a) → damaged_from (e ∷ []) a m ≡ 0
 unfolding damaged_from
 outside e place n from to a m c l h side =
-    sum_by-range_zeros (λ k. one_of (entry_at (e ∷ []) k)) a m
-    (λ k b t. one_covers_none e k (c.covered k (omega arith) (omega arith) ∙ by_side k b t side))
-  where
-    by_side : (k : ℕ) → a ≤ k → k < a + m → (a + m ≤ from) ⊎ (to ≤ a) → (leb from k && ltb k to) ≡ false
-    by_side k b t (inl before) = and_left (leb from k) (ltb k to) (lt-leb from k (omega arith))
-    by_side k b t (inr behind) = and_right (leb from k) (ltb k to) (le-ltb k to (omega arith))
+    grind (arith, sum_by-range_zeros, one_covers_none, leb, ltb, and_left, lt-leb, and_right, le-ltb)
 
 inside : (e : Damage) (place n from to m : ℕ) → IsCovered e place (place + n) from to → from + m ≡ to
     → damaged_from (e ∷ []) from m ≡ m
 unfolding damaged_from
-inside e place n from to m c s =
-    sum_by-range_ones (λ k. one_of (entry_at (e ∷ []) k)) from m
-    (λ k b t. one_covers_it e k (c.covered k (omega (arith, c.least)) (omega (arith, c.most))
-    ∙ and_from (leb from k) (ltb k to) (le-leb from k b) (lt-ltb k to (omega arith))))
+inside e place n from to m c s = grind (arith, sum_by-range_ones, one_covers_it, and_from, leb, ltb, le-leb, lt-ltb)
 
 -- one entry damages the places that it covers
 pub damaged_from_one : (e : Damage) (place n from to : ℕ) → IsCovered e place (place + n) from to
@@ -135,7 +118,6 @@ damaged_from_one e place n from to c =
     let before = from - place in
     let covered = to - from in
     let behind = place + n - to in
-    let at_from : place + before ≡ from = omega (arith, c.least) in
     let at_to : from + covered ≡ to = omega (arith, c.order) in
     let whole : before + (covered + behind) ≡ n = omega (arith, c.least, c.order, c.most) in
     let first = outside e place n from to place before c (omega arith) (omega (arith, c.order, c.most))
@@ -143,9 +125,7 @@ damaged_from_one e place n from to c =
     let second = inside e place n from to covered c at_to in
     let third = outside e place n from to to behind c (omega (arith, c.least, c.order)) (omega (arith, c.most))
     (inr (omega arith)) in
-    ap (damaged_from (e ∷ []) place) (sym whole)
-    ∙ damaged_from-parts (e ∷ []) place before (covered + behind)
-    ∙ ap₂ (λ (x y : ℕ). x + y) first (ap (λ p. damaged_from (e ∷ []) p (covered + behind)) at_from
+    ap (damaged_from (e ∷ []) place) (sym whole) ∙ damaged_from-parts (e ∷ []) place before (covered + behind)
+    ∙ ap₂ (λ (x y : ℕ). x + y) first (ap (λ p. damaged_from (e ∷ []) p (covered + behind)) (omega (arith, c.least))
     ∙ damaged_from-parts (e ∷ []) from covered behind
-    ∙ ap₂ (λ (x y : ℕ). x + y) second (ap (λ p. damaged_from (e ∷ []) p behind) at_to ∙ third))
-    ∙ omega arith
+    ∙ ap₂ (λ (x y : ℕ). x + y) second (ap (λ p. damaged_from (e ∷ []) p behind) at_to ∙ third)) ∙ omega arith

@@ -1,6 +1,6 @@
 -- The lives of a transmitter, one step further.
 use Rattle.std.proofs.Common.{◌≡◌, ◌≢◌, ℕ, ◌-◌, Option, Some, None, List, [], ◌∷◌, ◌++◌, length, map, take, refl, sym}
-use Rattle.std.proofs.Common.{ap, ap₂, subst, ◌∙◌, arith, get_or}
+use Rattle.std.proofs.Common.{ap, ap₂, ◌∙◌, arith, get_or}
 use Rattle.std.proofs.Math.Seq.{get_or-append_seam, take-append_seam}
 use Rattle.std.proofs.lemmas.List.{append-nil, append_assoc, length_push, map-append}
 use Rattle.dtx_net.specs.Steps.{Step, packet_step, restart_step}
@@ -37,15 +37,11 @@ length_last xs x = omega (arith, length_push xs x)
 
 last_is : (lives : List (List (List ℕ))) (ended : List (List (List ℕ))) (last : List (List ℕ))
     → lives ≡ ended ++ last ∷ [] → get_or lives (length lives - 1) [] ≡ last
-last_is lives ended last e =
-    subst (λ (x : List (List (List ℕ))). get_or x (length x - 1) [] ≡ last) (sym e)
-    (ap (λ n. get_or (ended ++ last ∷ []) n []) (length_last ended last) ∙ get_or-append_seam ended last [] [])
+last_is lives ended last e = grind (arith, length_last, get_or-append_seam)
 
 ended_are : (lives : List (List (List ℕ))) (ended : List (List (List ℕ))) (last : List (List ℕ))
     → lives ≡ ended ++ last ∷ [] → take (length lives - 1) lives ≡ ended
-ended_are lives ended last e =
-    subst (λ (x : List (List (List ℕ))). take (length x - 1) x ≡ ended) (sym e)
-    (ap (λ n. take n (ended ++ last ∷ [])) (length_last ended last) ∙ take-append_seam ended (last ∷ []))
+ended_are lives ended last e = grind (arith, length_last, take-append_seam)
 
 pub last_life_is : (who : ℕ) (steps : List Step) (ended : List (List (List ℕ))) (last : List (List ℕ))
     → lives_of who steps ≡ ended ++ last ∷ [] → last_life who steps ≡ last
@@ -75,8 +71,7 @@ lives who steps =
       are = e.lives ∙ sym (ap₂ (λ x y. x ++ y ∷ []) ended last);
       given = λ p. ap (lives_from []) (own_push who steps (packet_step who p) refl) ∙ e.packet p
           ∙ sym (ap₂ (λ x y. x ++ (y ++ p ∷ []) ∷ []) ended last);
-      restarted =
-          ap (lives_from []) (own_push who steps (restart_step who) refl) ∙ e.restart
+      restarted = ap (lives_from []) (own_push who steps (restart_step who) refl) ∙ e.restart
           ∙ sym (append_assoc e.ended (e.last ∷ []) ([] ∷ []))
           ∙ sym (ap (λ x. x ++ [] ∷ []) e.lives);
     }
@@ -111,8 +106,7 @@ last_restarted who steps =
 pub last_elsewhere : (who : ℕ) (steps : List Step) (step : Step) → step.who ≢ who
     → last_life who (steps ++ step ∷ []) ≡ last_life who steps
 unfolding last_life
-last_elsewhere who steps step n =
-    ap (λ (x : List (List (List ℕ))). get_or x (length x - 1) []) (lives_elsewhere who steps step n)
+last_elsewhere who steps step n = grind (arith, lives_elsewhere)
 
 -- ---- what the lives are cut from
 
@@ -123,8 +117,7 @@ joined_cut life (Some p ∷ steps) =
     joined_cut (life ++ p ∷ []) steps ∙ ap (λ x. x ++ steps) (map-append Some life (p ∷ []))
     ∙ append_assoc (map Some life) (Some p ∷ []) steps
 joined_cut life (None ∷ steps) =
-    let e : Ends [] steps = ends [] steps in
-    joined_more life (lives_from [] steps) e.ended e.last e.lives
+    joined_more life (lives_from [] steps) (ends [] steps).ended (ends [] steps).last (ends [] steps).lives
     ∙ ap (λ x. map Some life ++ None ∷ x) (joined_cut [] steps)
   where
     joined_more : (life : List (List ℕ)) (lives ended : List (List (List ℕ))) (last : List (List ℕ))

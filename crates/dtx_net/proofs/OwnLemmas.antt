@@ -1,6 +1,5 @@
 -- A transmitter's own steps among all.
-use Rattle.std.proofs.Common.{◌≡◌, ◌≢◌, ℕ, ◌==◌, Bool, List, [], ◌∷◌, ◌++◌, map, sym, ap, ◌∙◌}
-use Rattle.std.specs.Prelude.{filter}
+use Rattle.std.proofs.Common.{◌≡◌, ◌≢◌, ℕ, List, [], ◌∷◌, ◌++◌, arith}
 use Rattle.std.proofs.lemmas.Bool.{cond-true, cond-false, eq-eqb, ne_eqb}
 use Rattle.std.proofs.lemmas.List.{append-nil, map-append}
 use Rattle.std.proofs.lemmas.List.Elements.{filter-append}
@@ -8,37 +7,26 @@ use Rattle.dtx_net.specs.Steps.{Step}
 use Rattle.dtx_net.specs.Lives.{own_steps}
 
 pub own_steps-append : (who : ℕ) (xs ys : List Step) → own_steps who (xs ++ ys) ≡ own_steps who xs ++ own_steps who ys
-own_steps-append who xs ys =
-    let mine : Step → Bool = λ step. step.who == who in
-    ap (map (λ (step : Step). step.packet)) (filter-append mine xs ys)
-    ∙ map-append (λ (step : Step). step.packet) (filter mine xs) (filter mine ys)
+own_steps-append who xs ys = grind (arith, filter-append, map-append)
 
 pub own_here : (who : ℕ) (step : Step) (steps : List Step) → step.who ≡ who
     → own_steps who (step ∷ steps) ≡ step.packet ∷ own_steps who steps
-own_here who step steps e =
-    let rest : List Step = filter (λ (step : Step). step.who == who) steps in
-    ap (map (λ (step : Step). step.packet)) (cond-true (step.who == who) (step ∷ rest) rest (eq-eqb step.who who e))
+own_here who step steps e = grind (arith, cond-true, eq-eqb)
 
 pub own_elsewhere : (who : ℕ) (step : Step) (steps : List Step) → step.who ≢ who
     → own_steps who (step ∷ steps) ≡ own_steps who steps
-own_elsewhere who step steps n =
-    let rest : List Step = filter (λ (step : Step). step.who == who) steps in
-    ap (map (λ (step : Step). step.packet)) (cond-false (step.who == who) (step ∷ rest) rest (ne_eqb step.who who n))
+own_elsewhere who step steps n = grind (arith, cond-false, ne_eqb)
 
 -- a step of another anywhere among the steps
 pub own_without : (who : ℕ) (before after : List Step) (step : Step) → step.who ≢ who
     → own_steps who (before ++ step ∷ after) ≡ own_steps who (before ++ after)
-own_without who before after step n =
-    own_steps-append who before (step ∷ after) ∙ ap (λ x. own_steps who before ++ x) (own_elsewhere who step after n)
-    ∙ sym (own_steps-append who before after)
+own_without who before after step n = grind (arith, own_steps-append, own_elsewhere)
 
 -- one step more
 pub own_push : (who : ℕ) (steps : List Step) (step : Step) → step.who ≡ who
     → own_steps who (steps ++ step ∷ []) ≡ own_steps who steps ++ step.packet ∷ []
-own_push who steps step e = own_steps-append who steps (step ∷ [])
-    ∙ ap (λ x. own_steps who steps ++ x) (own_here who step [] e)
+own_push who steps step e = grind (arith, own_steps-append, own_here)
 
 pub own_push_elsewhere : (who : ℕ) (steps : List Step) (step : Step) → step.who ≢ who
     → own_steps who (steps ++ step ∷ []) ≡ own_steps who steps
-own_push_elsewhere who steps step n = own_steps-append who steps (step ∷ [])
-    ∙ ap (λ x. own_steps who steps ++ x) (own_elsewhere who step [] n) ∙ append-nil (own_steps who steps)
+own_push_elsewhere who steps step n = grind (arith, own_steps-append, own_elsewhere, append-nil)

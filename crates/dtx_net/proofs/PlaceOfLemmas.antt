@@ -41,13 +41,11 @@ pub place_only : (ts : List Transmitter) (who : ℕ) (t : Transmitter) → AreTr
 unfolding transmitter_place
 place_only ts who t a e =
     let within : who < length (addresses_of ts) = omega (arith, slice_get_within ts who t e, long ts) in
-    let here : t.address ≡ get_or (addresses_of ts) who 0 =
-    sym (ap (λ (t : Transmitter). t.address) (get_or_from_slice_get ts who t t e))
+    let here : t.address ≡ get_or (addresses_of ts) who 0 = sym (grind (arith, get_or_from_slice_get))
     ∙ sym (address_at ts who t (slice_get_within ts who t e)) in
     let apart : AllPairs (λ x y. x ≢ y) (addresses_of ts) =
     AllPairs-from_IsDistinct Decides-eqb (addresses_of ts) a.distinct in
-    position_found (nat_eq t.address) (addresses_of ts) who within
-    (λ k l. ne_eqb t.address (get_or (addresses_of ts) k 0) (λ same. apart k who 0 l within (sym same ∙ here)))
+    position_found (nat_eq t.address) (addresses_of ts) who within (λ k l. grind (arith, ne_eqb))
     (eq-eqb t.address (get_or (addresses_of ts) who 0) here)
 
 pub place_missing : (ts : List Transmitter) (address : ℕ) → transmitter_place address ts ≡ None

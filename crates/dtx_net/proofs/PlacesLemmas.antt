@@ -1,12 +1,11 @@
 -- What stands at the places of a list.
-use Rattle.std.proofs.Common.{◌≡◌, ◌≢◌, ℕ, zero, suc, ◌<◌, Bool, true, false, cond, Some, None, List, [], ◌∷◌, ◌++◌}
-use Rattle.std.proofs.Common.{◌⊎◌, inl, inr, length, set, refl, sym, ap, subst, ◌∙◌, arith, get_or}
-use Rattle.std.specs.Prelude.{nat_lt, slice_get, position}
+use Rattle.std.proofs.Common.{◌≡◌, ◌≢◌, ℕ, zero, suc, ◌<◌, Bool, true, false, Some, List, [], ◌∷◌, ◌++◌, ◌⊎◌, inl, inr}
+use Rattle.std.proofs.Common.{length, set, refl, ap, ◌∙◌, arith, get_or}
+use Rattle.std.specs.Prelude.{slice_get, position}
 use Rattle.std.proofs.lemmas.Bool.{cond-true, lt-ltb}
 use Rattle.std.proofs.lemmas.List.{length-set, get_or-set_same}
 use Rattle.std.proofs.lemmas.List.Sums.{position_or_len_is}
 use Rattle.std.proofs.lemmas.Option.{slice_get-get_or}
-use Rattle.std.specs.List.{position_or_len}
 
 -- ---- one place is written over
 
@@ -28,18 +27,13 @@ pub pushed_here : {X : Type 0} (xs : List X) (i : ℕ) (x y : X) → slice_get (
 pushed_here [] zero x y e = inr (refl, cc)
 pushed_here [] (suc i) x y e = inl e
 pushed_here (z ∷ zs) zero x y e = inl e
-pushed_here (z ∷ zs) (suc i) x y e = after (pushed_here zs i x y e)
-  where
-    after : (slice_get zs i ≡ Some y) ⊎ ((i ≡ length zs) × (x ≡ y))
-        → (slice_get zs i ≡ Some y) ⊎ ((suc i ≡ suc (length zs)) × (x ≡ y))
-    after (inl a) = inl a
-    after (inr b) = inr (ap suc b.0, b.1)
+pushed_here (z ∷ zs) (suc i) x y e = elim (pushed_here zs i x y e) [
+  | inl a ↦ inl a
+  | inr b ↦ inr (ap suc b.0, b.1)
+]
 
 -- ---- the first place that passes
 
 pub position_found : (p : ℕ → Bool) (xs : List ℕ) (i : ℕ) → i < length xs
     → ((k : ℕ) → k < i → p (get_or xs k 0) ≡ false) → p (get_or xs i 0) ≡ true → position p xs ≡ Some i
-position_found p xs i l before here =
-    let e : position_or_len p xs ≡ i = position_or_len_is p xs i 0 (omega (arith, l)) before (λ _. here) in
-    subst (λ (n : ℕ). cond (nat_lt n (length xs)) (Some n) None ≡ Some i) (sym e)
-    (cond-true (nat_lt i (length xs)) (Some i) None (lt-ltb i (length xs) l))
+position_found p xs i l before here = grind (arith, position_or_len_is, cond-true, lt-ltb)

@@ -46,12 +46,11 @@ pub stands_replaced : (ts : List Transmitter) (net : Net) (steps : List Step) (s
     → ((t : Transmitter) → slice_get ts step.who ≡ Some t
     → exciter.StandsFor t.address t.delay made (last_life step.who (steps ++ step ∷ [])))
     → StandsFor ts (replaced net step.who made same) (steps ++ step ∷ [])
-stands_replaced ts net steps step made same s l h =
-    record {
-      transmitters = s.transmitters;
-      long = s.long;
-      each = λ who t e at_t at_e. each who t e at_t at_e (cases_eq who step.who);
-    }
+stands_replaced ts net steps step made same s l h = record {
+  transmitters = s.transmitters;
+  long = s.long;
+  each = λ who t e at_t at_e. each who t e at_t at_e (cases_eq who step.who);
+}
   where
     within : step.who < length net.exciters.items
     within = let k = net.exciters.ok.0 in omega (arith, l, k)

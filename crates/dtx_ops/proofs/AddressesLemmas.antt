@@ -13,8 +13,7 @@ not_among : (a : ℕ) (es : List Entry) → is_among a es ≡ false → All (λ 
 not_among a [] h = λ k d l. absurd (omega arith)
 not_among a (e ∷ es) h =
     let parts = or_parts (e.address == a) (is_among a es) h in
-    All-cons (λ b. a ≢ b) e.address (addresses es) (λ same. eqb-false e.address a parts.0 (sym same))
-    (not_among a es parts.1)
+    All-cons (λ b. a ≢ b) e.address (addresses es) (λ same. grind (arith, eqb-false)) (not_among a es parts.1)
 
 among_not : (a : ℕ) (es : List Entry) → All (λ b. a ≢ b) (addresses es) → is_among a es ≡ false
 among_not a [] h = refl
@@ -31,7 +30,6 @@ differ_unless_twice (e ∷ es) h =
 
 pub not_twice : (es : List Entry) → AllPairs (λ a b. a ≢ b) (addresses es) → has_twice es ≡ false
 not_twice [] h = refl
-not_twice (e ∷ es) h =
-    or_from (is_among e.address es) (has_twice es)
+not_twice (e ∷ es) h = or_from (is_among e.address es) (has_twice es)
     (among_not e.address es (λ k d l. h 0 (suc k) d (omega arith) (omega arith)))
     (not_twice es (λ i j d l m. h (suc i) (suc j) d (omega arith) (omega arith)))

@@ -10,12 +10,11 @@ use Rattle.std.specs.List.{fold}
 pub packed_more : (states : List ℕ) (i bits : ℕ) → i < length states
     → bits ≡ fold (λ before state. 8 * before + state) 0 (take i states)
     → 8 * bits + get_or states i 0 ≡ fold (λ before state. 8 * before + state) 0 (take (i + 1) states)
-packed_more states i bits h e =
-    rw (
-      take_more states i 0 h,
-      fold_push (λ before state. 8 * before + state) 0 (take i states) (get_or states i 0),
-      e,
-    ) refl
+packed_more states i bits h e = rw (
+  take_more states i 0 h,
+  fold_push (λ before state. 8 * before + state) 0 (take i states) (get_or states i 0),
+  e,
+) refl
 
 pub below_more_bits : (i bits state : ℕ) → bits < 2 ^ (3 * i) → state < 8 → 8 * bits + state < 2 ^ (3 * (i + 1))
 below_more_bits i bits state h k =

@@ -1,8 +1,7 @@
 -- The data of fields, and the fields of data.
 use Rattle.std.proofs.Common.{◌≡◌, ℕ, suc, ◌+◌, ◌-◌, ◌*◌, ◌/◌, ◌%◌, ◌^◌, ◌<◌, ◌≤◌, ◌==◌, List, [], ◌∷◌, ◌++◌, None, Ok}
 use Rattle.std.proofs.Common.{length, drop, get_or, replicate, slice_index, refl, ap, ap₂, sym, ◌∙◌, length-append}
-use Rattle.std.proofs.Common.{append_assoc, subst, arith}
-use Rattle.std.proofs.Math.Nat.{mod-lt}
+use Rattle.std.proofs.Common.{subst, arith, rules}
 use Rattle.std.proofs.Math.Seq.{drop-append_seam}
 use Rattle.std.proofs.lemmas.List.{length-drop, length-replicate, get_or-drop}
 use Rattle.std.proofs.lemmas.List.FromFn.{get_or-map-range_with_len}
@@ -47,27 +46,10 @@ from_6 f = big_bytes 3 f.stamp ++ (big_bytes 3 f.max_delay ++ from_12 f)
 
 layout : (f : Ops) → data_of f ≡ kind_of f.paging ∷ (big_bytes 5 (states_bits f.states) ++ from_6 f)
 unfolding data_of head_bytes times_bytes
-layout f =
-    ap (λ (t : List ℕ). kind_of f.paging ∷ (big_bytes 5 (states_bits f.states) ++ (big_bytes 3 f.stamp
-    ++ (big_bytes 3 f.max_delay ++ (big_bytes 4 f.frame ++ (big_bytes 2 f.index ++ t))))))
-    (append_assoc (paging_bytes f.paging ++ length f.offsets.items ∷ []) (flat_map entry_bytes f.offsets.items)
-    (zeros_of f)
-    ∙ append_assoc (paging_bytes f.paging) (length f.offsets.items ∷ []) (from_page f))
+layout f = grind arith
 
 pub data_long : (f : Ops) → length f.offsets.items ≤ most_of f.paging → length (data_of f) ≡ 164
-data_long f few =
-    let es = f.offsets.items in
-    let name : List ℕ = paging_bytes f.paging in
-    ap (λ (t : List ℕ). length t) (layout f)
-    ∙ omega (
-      arith,
-      few,
-      room f.paging,
-      length-append name (length es ∷ from_page f),
-      length-append (flat_map entry_bytes es) (zeros_of f),
-      length-entries es,
-      length-replicate {A = ℕ} (145 - length name - 4 * length es) 0,
-    )
+data_long f few = grind (arith, layout, room, length-append, length-entries, length-replicate)
 
 pub length-data_of : (f : Ops) → IsValid f → length (data_of f) ≡ 164
 length-data_of f h = data_long f h.paged.fits
@@ -76,8 +58,7 @@ pub AreBytes-data_of : (f : Ops) → IsValid f → AreBytes (data_of f)
 AreBytes-data_of f h =
     let es = f.offsets.items in
     let name : List ℕ = paging_bytes f.paging in
-    let rest : AreBytes (from_page f) = bytes_append (flat_map entry_bytes es) (zeros_of f) (bytes-entries es)
-    (bytes_zeros (145 - length name - 4 * length es)) in
+    let rest : AreBytes (from_page f) = grind (arith, bytes_append, bytes-entries, bytes_zeros) in
     let count : AreBytes (length es ∷ from_page f) = (omega (arith, h.few), rest) in
     let named = bytes_append name (length es ∷ from_page f) (bytes_paging f.paging (length es) h.paged) count in
     let index = bytes_append (big_bytes 2 f.index) (from_18 f) (bytes_are 2 f.index) named in
@@ -87,9 +68,7 @@ AreBytes-data_of f h =
     ++ from_12 f) (bytes_are 3 f.stamp) max_delay in
     let states = bytes_append (big_bytes 5 (states_bits f.states)) (from_6 f)
     (bytes_are 5 (states_bits f.states)) stamp in
-    let all : AreBytes (kind_of f.paging ∷ (big_bytes 5 (states_bits f.states) ++ from_6 f)) =
-    (kind_small f.paging, states) in
-    rw (layout f) all
+    rw (layout f) ((kind_small f.paging, states))
 
 all_below : (states : List ℕ) → ((e : ℕ) → e < length states → slice_index states e < 8)
     → AllByRecursion (λ s. s < 8) states
@@ -105,8 +84,7 @@ times_back : (f : Ops) → IsValid f → (stamp_in (data_of f) ≡ f.stamp) × (
 unfolding stamp_in max_delay_in frame_in index_in
 times_back f h =
     let e : (k : ℕ) → drop k (data_of f)
-    ≡ drop k (kind_of f.paging ∷ (big_bytes 5 (states_bits f.states) ++ from_6 f)) =
-    λ k. ap (drop k) (layout f) in (
+    ≡ drop k (kind_of f.paging ∷ (big_bytes 5 (states_bits f.states) ++ from_6 f)) = λ k. ap (drop k) (layout f) in (
       ap (big_number 3) (e 6) ∙ big_number-reads_back 3 f.stamp (big_bytes 3 f.max_delay
           ++ from_12 f) (omega (arith, h.stamp)),
       ap (big_number 3) (e 9) ∙ big_number-reads_back 3 f.max_delay (from_12 f) (omega (arith, h.max_delay)),
@@ -128,9 +106,7 @@ named : (f : Ops) → drop 18 (data_of f) ≡ from_18 f
 named f = ap (drop 18) (layout f)
 
 paging_back : (f : Ops) → paging_in (data_of f) ≡ f.paging
-paging_back f =
-    paging_named f.paging (data_of f) (length f.offsets.items ∷ from_page f)
-    (ap (λ (t : List ℕ). slice_index t 0) (layout f)) (named f)
+paging_back f = grind (arith, paging_named, layout, named)
 
 count_back : (f : Ops) → count_in (data_of f) ≡ length f.offsets.items
 count_back f = count_named f.paging (length f.offsets.items) (data_of f) (from_page f) (paging_back f) (named f)
@@ -139,14 +115,11 @@ page_back : (f : Ops) → behind_count (data_of f) ≡ from_page f
 page_back f = behind_named f.paging (length f.offsets.items) (data_of f) (from_page f) (paging_back f) (named f)
 
 entries_back : (f : Ops) → IsValid f → entries_in (count_in (data_of f)) (behind_count (data_of f)) ≡ f.offsets.items
-entries_back f h =
-    ap₂ entries_in (count_back f) (page_back f) ∙ entries_in-bytes f.offsets.items (zeros_of f) h.entries
+entries_back f h = ap₂ entries_in (count_back f) (page_back f) ∙ entries_in-bytes f.offsets.items (zeros_of f) h.entries
 
 pub fields-data_of : (f : Ops) → IsValid f → fields (data_of f) ≡ f
 unfolding fields
-fields-data_of f h =
-    let times = times_back f h in
-    rw (states_back f h, times.0, times.1, times.2, times.3, paging_back f, entries_back f h) refl
+fields-data_of f h = grind (arith, times_back, states_back, paging_back, entries_back)
 
 pub passes-data_of : (f : Ops) → IsValid f → Passes (data_of f)
 passes-data_of f h =
@@ -158,8 +131,7 @@ passes-data_of f h =
     ap₂ (λ (n : ℕ) (t : List ℕ). drop (4 * n) t) (count_back f) (page_back f)
     ∙ ap (λ (n : ℕ). drop n (from_page f)) (sym (length-entries es))
     ∙ drop-append_seam (flat_map entry_bytes es) (zeros_of f) in
-    let paged : IsPaged (paging_in (data_of f)) (count_in (data_of f)) =
-    rw (paging_back f, count_back f) h.paged in
+    let paged : IsPaged (paging_in (data_of f)) (count_in (data_of f)) = rw (paging_back f, count_back f) h.paged in
     record {
       kind = ap (λ (t : List ℕ). slice_index t 0) (layout f) ∙ ap kind_of (sym (paging_back f));
       pad = omega (arith, pad, bits_pad f.states);
@@ -168,16 +140,14 @@ passes-data_of f h =
       index = omega (arith, times.3, h.index);
       paged = paged;
       once = ap has_twice (entries_back f h) ∙ not_twice es h.differ;
-      blank =
-          ap (list_all (λ byte. byte == 0)) rest
+      blank = ap (list_all (λ byte. byte == 0)) rest
           ∙ blank_zeros (145 - length (paging_bytes f.paging) - 4 * length es);
     }
 
 -- valid fields, read from their data
 pub data_reading-data_of : (f : Ops) → IsValid f → data_reading (data_of f) ≡ Ok f
 unfolding data_reading
-data_reading-data_of f h =
-    ap₂ unless (unrefused_passes (data_of f) (passes-data_of f h)) (fields-data_of f h)
+data_reading-data_of f h = ap₂ unless (unrefused_passes (data_of f) (passes-data_of f h)) (fields-data_of f h)
 
 -- the bytes behind the count
 page_long : (bytes : List ℕ) → length bytes ≡ 164
@@ -202,11 +172,9 @@ data_of-fields bytes l h p =
     let es : List Entry = entries_in n page in
     let long : length es ≡ n = length-entries_in n page in
     let fits : 4 * n ≤ length page = omega (arith, page_long bytes l, p.paged.fits, room (paging_in bytes)) in
-    let zeros : replicate (145 - length name - 4 * length es) 0 ≡ drop (4 * n) page =
-    ap (λ (m : ℕ). replicate m 0) (omega (arith, long, page_long bytes l, length-drop (4 * n) page))
-    ∙ sym (zeros_blank (drop (4 * n) page) p.blank) in
-    let at_page : from_page (fields bytes) ≡ page =
-    ap (λ (t : List ℕ). flat_map entry_bytes es ++ t) zeros ∙ bytes-entries_in n page fits (AreBytes-page bytes h) in
+    let at_page : from_page (fields bytes) ≡ page = ap (λ (t : List ℕ). flat_map entry_bytes es ++ t)
+    (ap (λ (m : ℕ). replicate m 0) (omega (arith, long, page_long bytes l, length-drop (4 * n) page))
+    ∙ sym (zeros_blank (drop (4 * n) page) p.blank)) ∙ bytes-entries_in n page fits (AreBytes-page bytes h) in
     let at_18 : from_18 (fields bytes) ≡ drop 18 bytes =
     ap₂ (λ (m : ℕ) (t : List ℕ). name ++ m ∷ t) long at_page ∙ name_and_rest bytes l in
     let at_16 = ap (λ (t : List ℕ). big_bytes 2 (index_in bytes) ++ t) at_18
@@ -219,8 +187,7 @@ data_of-fields bytes l h p =
     ∙ number_at 3 6 9 bytes refl (omega (arith, l)) h in
     let number : ℕ = big_number 5 (drop 1 bytes) in
     let pad : number % 16 ≡ 0 = omega (arith, p.pad, get_or-drop 1 bytes 4 0) in
-    let below : number < 2 ^ 40 =
-    big_from-lt 0 5 (drop 1 bytes) (byte_within (drop 1 bytes) (AreBytes-drop 1 bytes h)) in
+    let below : number < 2 ^ 40 = big_from-lt 0 5 (drop 1 bytes) (grind (arith, byte_within, AreBytes-drop)) in
     let states : states_bits (states_at number) ≡ number = bits-states_at number pad below in
     let at_1 = ap₂ (λ (m : ℕ) (t : List ℕ). big_bytes 5 m ++ t) states at_6
     ∙ number_at 5 1 6 bytes refl (omega (arith, l)) h in
@@ -240,8 +207,7 @@ valid_fields bytes l h p =
       states = λ e less.
           let here : get_or (states_at number) e 0 ≡ number / 2 ^ (37 - 3 * e) % 8 =
           get_or-map-range_with_len (λ k. number / 2 ^ (37 - 3 * k) % 8) 0 12 e e 0 less (omega arith) in
-          let small : number / 2 ^ (37 - 3 * e) % 8 < 8 = mod-lt (number / 2 ^ (37 - 3 * e)) (omega arith) in
-          omega (arith, here, small);
+          omega (arith, here);
       stamp = p.stamp;
       max_delay = p.max_delay;
       frame = big_from-lt 0 4 (drop 12 bytes) (byte_within (drop 12 bytes) (AreBytes-drop 12 bytes h));

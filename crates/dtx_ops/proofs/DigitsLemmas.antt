@@ -1,6 +1,6 @@
 -- Twelve states as the digits of a number to the base 8.
 use Rattle.std.proofs.Common.{◌≡◌, ℕ, zero, suc, ◌+◌, ◌*◌, ◌/◌, ◌%◌, ◌^◌, ◌<◌, ◌≤◌, List, [], ◌∷◌, ◌++◌, length, refl}
-use Rattle.std.proofs.Common.{ap, sym, ◌∙◌, append_assoc, subst, arith}
+use Rattle.std.proofs.Common.{ap, ◌∙◌, append_assoc, arith}
 use Rattle.std.proofs.Math.Nat.{div-div-eq-div-mul, pow-suc, pow-succ', mul_assoc, mul_comm, mul-le-mul_right}
 use Rattle.std.proofs.lemmas.List.{append-nil}
 use Rattle.std.proofs.lemmas.List.Sums.{fold_push}
@@ -19,29 +19,21 @@ joined before states = fold (λ before state. 8 * before + state) before states
 
 -- the last digit comes off first
 digits_push : (n before state : ℕ) → state < 8 → digits (suc n) (8 * before + state) ≡ digits n before ++ state ∷ []
-digits_push n before state h =
-    let d : (8 * before + state) / 8 ≡ before = omega arith in
-    let m : (8 * before + state) % 8 ≡ state = omega arith in
-    rw (d, m) refl
+digits_push n before state h = grind arith
 
 digits_joined : (k before : ℕ) (states : List ℕ) → AllByRecursion (λ s. s < 8) states
     → digits (k + length states) (joined before states) ≡ digits k before ++ states
-digits_joined k before [] h =
-    let e : k + 0 ≡ k = omega arith in
-    ap (λ (n : ℕ). digits n before) e ∙ sym (append-nil (digits k before))
+digits_joined k before [] h = grind (arith, append-nil)
 digits_joined k before (s ∷ states) h =
     let e : k + suc (length states) ≡ suc k + length states = omega arith in
-    ap (λ (n : ℕ). digits n (joined (8 * before + s) states)) e
-    ∙ digits_joined (suc k) (8 * before + s) states h.1
-    ∙ ap (λ (t : List ℕ). t ++ states) (digits_push k before s h.0)
-    ∙ append_assoc (digits k before) (s ∷ []) states
+    ap (λ (n : ℕ). digits n (joined (8 * before + s) states)) e ∙ digits_joined (suc k) (8 * before + s) states h.1
+    ∙ ap (λ (t : List ℕ). t ++ states) (digits_push k before s h.0) ∙ append_assoc (digits k before) (s ∷ []) states
 
 -- the number of its digits
 joined_digits : (n number : ℕ) → number < 8 ^ n → joined 0 (digits n number) ≡ number
 joined_digits zero number h = omega arith
 joined_digits (suc n) number h =
-    let less : number / 8 < 8 ^ n = omega (arith, pow-suc 8 n) in
-    let before = joined_digits n (number / 8) less in
+    let before = joined_digits n (number / 8) (omega (arith, pow-suc 8 n)) in
     fold_push (λ before state. 8 * before + state) 0 (digits n (number / 8)) (number % 8) ∙ omega (arith, before)
 
 -- the states in a number are its digits behind the four 0 bits
@@ -53,10 +45,9 @@ pub states_at-bits : (states : List ℕ) → length states ≡ 12 → AllByRecur
     → states_at (states_bits states) ≡ states
 unfolding states_bits
 states_at-bits states l h =
-    let e : 16 * joined 0 states / 16 ≡ joined 0 states = omega arith in
     let twelve : 12 ≡ 0 + length states = omega arith in
-    states_at-digits (16 * joined 0 states) ∙ ap (digits 12) e ∙ ap (λ (n : ℕ). digits n (joined 0 states)) twelve
-    ∙ digits_joined 0 0 states h
+    states_at-digits (16 * joined 0 states) ∙ ap (digits 12) (omega arith)
+    ∙ ap (λ (n : ℕ). digits n (joined 0 states)) twelve ∙ digits_joined 0 0 states h
 
 pub bits-states_at : (number : ℕ) → number % 16 ≡ 0 → number < 2 ^ 40 → states_bits (states_at number) ≡ number
 unfolding states_bits
@@ -72,17 +63,13 @@ joined_below before (s ∷ states) h =
     let more : (8 * before + s + 1) * 8 ^ length states ≤ 8 * (before + 1) * 8 ^ length states =
     mul-le-mul_right (8 ^ length states) (omega (arith, h.0)) in
     let split : 8 * (before + 1) * 8 ^ length states ≡ (before + 1) * 8 ^ suc (length states) =
-    ap (λ n. n * 8 ^ length states) (mul_comm 8 (before + 1)) ∙ mul_assoc (before + 1) 8 (8 ^ length states)
-    ∙ ap (λ n. (before + 1) * n) (sym (pow-succ' 8 (length states))) in
+    grind (arith, mul_comm, mul_assoc, pow-succ') in
     omega (arith, rest, more, split)
 
 pub bits_below : (states : List ℕ) → length states ≡ 12 → AllByRecursion (λ s. s < 8) states
     → states_bits states < 2 ^ 40
 unfolding states_bits
-bits_below states l h =
-    let below : joined 0 states < (0 + 1) * 8 ^ 12 =
-    subst (λ n. joined 0 states < (0 + 1) * 8 ^ n) l (joined_below 0 states h) in
-    omega (arith, below)
+bits_below states l h = grind (arith, joined_below)
 
 pub bits_pad : (states : List ℕ) → states_bits states % 16 ≡ 0
 unfolding states_bits

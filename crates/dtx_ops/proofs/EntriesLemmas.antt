@@ -1,6 +1,6 @@
 -- Entries and their bytes.
 use Rattle.std.proofs.Common.{◌≡◌, ℕ, zero, suc, ◌+◌, ◌*◌, ◌^◌, ◌<◌, ◌≤◌, List, [], ◌∷◌, ◌++◌, length, map, drop}
-use Rattle.std.proofs.Common.{get_or, refl, ap, ap₂, sym, ◌∙◌, append_assoc, All, pos, subst, inl, inr, arith}
+use Rattle.std.proofs.Common.{get_or, refl, ap, ap₂, sym, ◌∙◌, append_assoc, All, pos, arith}
 use Rattle.std.proofs.Math.Facts.{Fits-of_z, Fits-lt-pow, Fits-of_lt, sfits_to_z}
 use Rattle.std.proofs.lemmas.Int.{of_z-to_z, to_z-of_z}
 use Rattle.std.proofs.lemmas.Bool.{cases_lt}
@@ -8,10 +8,9 @@ use Rattle.std.proofs.lemmas.List.{append-nil, drop-drop, length-drop, get_or_de
 use Rattle.std.proofs.lemmas.List.FromFn.{map-range_with_len_more, fill_by_all, get_or-map-range_with_len}
 use Rattle.std.proofs.lemmas.List.FromFn.{length-map-range_with_len}
 use Rattle.std.proofs.lemmas.Grind.{flat_map-append}
-use Rattle.std.specs.Int.{w16, cast_signed, cast_unsigned}
+use Rattle.std.specs.Int.{w16, cast_unsigned}
 use Rattle.std.specs.List.{flat_map, range_with_len}
 use Rattle.byteorder.specs.Endian.{big_bytes, big_number}
-use Rattle.byteorder.specs.Numbers.{big_number-reads_back}
 use Rattle.dtx_galois.specs.Field.{AreBytes}
 use Rattle.dtx_galois.proofs.BytesLemmas.{bytes_append}
 use Rattle.dtx_ops.specs.declared.fields.Entry.{Entry}
@@ -28,41 +27,18 @@ two_below (x ∷ y ∷ bytes) l h = omega (arith, h.0, h.1.0)
 -- the entry in its bytes
 pub entry_in-bytes : (e : Entry) (rest : List ℕ) → IsEntry e → entry_in (entry_bytes e ++ rest) ≡ e
 unfolding entry_in entry_bytes
-entry_in-bytes e rest h =
-    let address = big_number-reads_back 2 e.address (big_bytes 2 (cast_unsigned w16 e.offset) ++ rest) h.address in
-    let number = big_number-reads_back 2 (cast_unsigned w16 e.offset) rest
-    (Fits-lt-pow {w = w16} {n = cast_unsigned w16 e.offset} (Fits-of_z {w = w16} {z = e.offset} h.offset)) in
-    let offset = ap (cast_signed w16) number ∙ to_z-of_z w16 e.offset h.offset in
-    rw (address, offset) refl
+entry_in-bytes e rest h = grind (arith, Fits-lt-pow, Fits-of_z, to_z-of_z)
 
 -- the bytes of the entry in them
 pub bytes-entry_in : (bytes : List ℕ) → 4 ≤ length bytes → AreBytes bytes
     → entry_bytes (entry_in bytes) ++ drop 4 bytes ≡ bytes
 unfolding entry_in entry_bytes
-bytes-entry_in bytes l h =
-    let more : List ℕ = drop 2 bytes in
-    let long : 2 ≤ length more = omega (arith, length-drop 2 bytes) in
-    let are : AreBytes more = AreBytes-drop 2 bytes h in
-    let back : cast_unsigned w16 (cast_signed w16 (big_number 2 more)) ≡ big_number 2 more =
-    of_z-to_z w16 (big_number 2 more) (two_below more long are) in
-    ap (λ (n : ℕ). (big_bytes 2 (big_number 2 bytes) ++ big_bytes 2 n) ++ drop 4 bytes) back
-    ∙ append_assoc (big_bytes 2 (big_number 2 bytes)) (big_bytes 2 (big_number 2 more)) (drop 4 bytes)
-    ∙ ap (λ (t : List ℕ). big_bytes 2 (big_number 2 bytes) ++ (big_bytes 2 (big_number 2 more) ++ t))
-    (sym (drop-drop 2 2 bytes))
-    ∙ ap (λ (t : List ℕ). big_bytes 2 (big_number 2 bytes) ++ t) (number_and_rest 2 more long are)
-    ∙ number_and_rest 2 bytes (omega arith) h
+bytes-entry_in bytes l h = grind (arith, length-drop, AreBytes-drop, of_z-to_z, two_below, drop-drop, number_and_rest)
 
 -- an entry that was read
 pub is_entry_in : (bytes : List ℕ) → 4 ≤ length bytes → AreBytes bytes → IsEntry (entry_in bytes)
 unfolding entry_in
-is_entry_in bytes l h =
-    let more : List ℕ = drop 2 bytes in
-    record {
-      address = two_below bytes (omega arith) h;
-      offset = sfits_to_z {w = w16} {n = big_number 2 more}
-          (Fits-of_lt {w = w16} {n = big_number 2 more}
-          (two_below more (omega (arith, length-drop 2 bytes)) (AreBytes-drop 2 bytes h)));
-    }
+is_entry_in bytes l h = grind (arith, two_below, sfits_to_z, Fits-of_lt, length-drop, AreBytes-drop)
 
 -- four bytes for each entry
 pub length-entries : (es : List Entry) → length (flat_map entry_bytes es) ≡ 4 * length es
@@ -75,9 +51,7 @@ unfolding entry_bytes
 bytes-entries [] = tt
 bytes-entries (e ∷ es) =
     bytes_append (big_bytes 2 e.address ++ big_bytes 2 (cast_unsigned w16 e.offset)) (flat_map entry_bytes es)
-    (bytes_append (big_bytes 2 e.address) (big_bytes 2 (cast_unsigned w16 e.offset)) (bytes_are 2 e.address)
-    (bytes_are 2 (cast_unsigned w16 e.offset)))
-    (bytes-entries es)
+    (grind (arith, bytes_append, bytes_are)) (bytes-entries es)
 
 -- what stands behind the first k entries
 behind_entries : (es : List Entry) (k : ℕ) (d : Entry) (rest : List ℕ) → k < length es
@@ -97,10 +71,9 @@ pub entries_in-bytes : (es : List Entry) (rest : List ℕ) → All IsEntry es
 unfolding entries_in
 entries_in-bytes es rest h =
     let none : Entry = record { address = 0; offset = pos 0 } in
-    let bytes : List ℕ = flat_map entry_bytes es ++ rest in
-    sym (fill_by_all (λ i. entry_in (drop (4 * i) bytes)) es (length es) none refl (λ k l.
+    sym (fill_by_all (λ i. entry_in (drop (4 * i) (flat_map entry_bytes es ++ rest))) es (length es) none refl (λ k l.
     sym (ap entry_in (behind_entries es k none rest l)
-    ∙ entry_in-bytes (get_or es k none) (drop (4 * k + 4) bytes) (h k none l))))
+    ∙ entry_in-bytes (get_or es k none) (drop (4 * k + 4) (flat_map entry_bytes es ++ rest)) (h k none l))))
 
 -- the bytes of the entries in them, and the rest
 pub bytes-entries_in : (count : ℕ) (bytes : List ℕ) → 4 * count ≤ length bytes → AreBytes bytes
@@ -119,23 +92,17 @@ bytes-entries_in (suc n) bytes l h =
     ∙ sym (drop-drop 4 (4 * n) bytes) in
     let one : flat_map entry_bytes (entry n ∷ []) ≡ entry_bytes (entry n) = append-nil (entry_bytes (entry n)) in
     ap₂ (λ (es : List Entry) (t : List ℕ). flat_map entry_bytes es ++ t) more next
-    ∙ ap (λ (t : List ℕ). t ++ drop 4 here) (flat_map-append entry_bytes before (entry n ∷ [])
-    ∙ ap (λ (t : List ℕ). flat_map entry_bytes before ++ t) one)
+    ∙ ap (λ (t : List ℕ). t ++ drop 4 here) (grind (arith, flat_map-append))
     ∙ append_assoc (flat_map entry_bytes before) (entry_bytes (entry n)) (drop 4 here)
-    ∙ ap (λ (t : List ℕ). flat_map entry_bytes before
-    ++ t) (bytes-entry_in here (omega (arith, length-drop (4 * n) bytes)) (AreBytes-drop (4 * n) bytes h))
+    ∙ ap (λ (t : List ℕ). flat_map entry_bytes before ++ t) (grind (arith, bytes-entry_in, length-drop, AreBytes-drop))
     ∙ bytes-entries_in n bytes (omega arith) h
 
 -- entries that were read
 pub are_entries_in : (count : ℕ) (bytes : List ℕ) → 4 * count ≤ length bytes → AreBytes bytes
     → All IsEntry (entries_in count bytes)
 unfolding entries_in
-are_entries_in count bytes l h = λ k d m.
-    let long : k < count =
-    omega (arith, m, length-map-range_with_len (λ i. entry_in (drop (4 * i) bytes)) 0 count) in
-    let here = get_or-map-range_with_len (λ i. entry_in (drop (4 * i) bytes)) 0 count k k d long (omega arith) in
-    rw here (is_entry_in (drop (4 * k) bytes) (omega (arith, length-drop (4 * k) bytes))
-    (AreBytes-drop (4 * k) bytes h))
+are_entries_in count bytes l h =
+    grind (arith, length-map-range_with_len, get_or-map-range_with_len, is_entry_in, length-drop, AreBytes-drop)
 
 pub length-entries_in : (count : ℕ) (bytes : List ℕ) → length (entries_in count bytes) ≡ count
 unfolding entries_in
@@ -145,9 +112,4 @@ length-entries_in count bytes = length-map-range_with_len (λ i. entry_in (drop 
 pub one_more_entry : (es : List Entry) (i : ℕ) (none : Entry) → i < length es → IsEntry (get_or es i none)
     → ((k : ℕ) (d : Entry) → k < i → IsEntry (get_or es k d)) → (k : ℕ) (d : Entry) → k < i + 1
     → IsEntry (get_or es k d)
-one_more_entry es i none l h before k d less = elim (cases_lt k i) [
-  | inl lower ↦ before k d lower
-  | inr higher ↦
-      let here : k ≡ i = omega arith in
-      subst (λ (e : Entry). IsEntry e) (get_or_default es i none d l ∙ ap (λ (j : ℕ). get_or es j d) (sym here)) h
-]
+one_more_entry es i none l h before k d less = grind (arith, cases_lt, get_or_default)

@@ -1,6 +1,6 @@
 -- The bytes of the number that bytes read as are those bytes.
-use Rattle.std.proofs.Common.{◌≡◌, ℕ, zero, suc, ◌+◌, ◌*◌, ◌/◌, ◌%◌, ◌^◌, ◌<◌, ◌≤◌, List, [], ◌∷◌, ◌++◌, length, take}
-use Rattle.std.proofs.Common.{drop, slice_index, refl, ap, ap₂, sym, ◌∙◌, arith}
+use Rattle.std.proofs.Common.{◌≡◌, ℕ, zero, suc, ◌+◌, ◌*◌, ◌/◌, ◌^◌, ◌<◌, ◌≤◌, List, [], ◌∷◌, ◌++◌, length, take, drop}
+use Rattle.std.proofs.Common.{slice_index, refl, ap, ap₂, sym, ◌∙◌, arith}
 use Rattle.std.proofs.Math.Nat.{pow-succ', mod-lt, mul-le-mul_right}
 use Rattle.std.proofs.lemmas.List.{append-nil, take-append-drop, drop-drop, length-take-le, length-drop}
 use Rattle.std.proofs.lemmas.Nat.{div-mul-add, mod-mul-add}
@@ -31,17 +31,12 @@ same_bytes (x ∷ xs) [] l h k e = absurd (omega arith)
 same_bytes (x ∷ xs) (y ∷ ys) l h k e =
     let same : length xs ≡ length ys = omega arith in
     let sum : x * 256 ^ length xs + big_from 0 (length xs) xs ≡ y * 256 ^ length xs + big_from 0 (length ys) ys =
-    sym (number-cons x xs) ∙ e ∙ number-cons y ys
-    ∙ ap (λ (n : ℕ). y * 256 ^ n + big_from 0 (length ys) ys) (sym same) in
+    grind (arith, number-cons) in
     let small = number_below xs h.1 in
     let small' : big_from 0 (length ys) ys < 256 ^ length xs = rw same (number_below ys k.1) in
     let heads : x ≡ y = sym (div-mul-add x (256 ^ length xs) (big_from 0 (length xs) xs) small)
-    ∙ ap (λ (t : ℕ). t / 256 ^ length xs) sum
-    ∙ div-mul-add y (256 ^ length xs) (big_from 0 (length ys) ys) small' in
-    let tails : big_from 0 (length xs) xs ≡ big_from 0 (length ys) ys =
-    sym (mod-mul-add x (256 ^ length xs) (big_from 0 (length xs) xs) small)
-    ∙ ap (λ (t : ℕ). t % 256 ^ length xs) sum
-    ∙ mod-mul-add y (256 ^ length xs) (big_from 0 (length ys) ys) small' in
+    ∙ ap (λ (t : ℕ). t / 256 ^ length xs) sum ∙ div-mul-add y (256 ^ length xs) (big_from 0 (length ys) ys) small' in
+    let tails : big_from 0 (length xs) xs ≡ big_from 0 (length ys) ys = grind (arith, mod-mul-add) in
     ap₂ (λ (a : ℕ) (as' : List ℕ). a ∷ as') heads (same_bytes xs ys same h.1 k.1 tails)
 
 -- a byte of a number is a byte
@@ -57,13 +52,11 @@ bytes_are (suc n) x = (byte_below n x, bytes_are n x)
 -- n bytes are the bytes of the number that they read as
 pub big_bytes-big_number : (n : ℕ) (xs : List ℕ) → length xs ≡ n → AreBytes xs → big_bytes n (big_number n xs) ≡ xs
 big_bytes-big_number n xs l h =
-    let small : big_number n xs < 256 ^ n = rw (sym l) (number_below xs h) in
     let ys : List ℕ = big_bytes n (big_number n xs) in
     let m : length ys ≡ n = length-bytes_high_first n (big_number n xs) in
     let back : big_from 0 n ys ≡ big_number n xs = sym (ap (big_from 0 n) (append-nil ys))
-    ∙ big_number-reads_back n (big_number n xs) [] small in
-    same_bytes ys xs (m ∙ sym l) (bytes_are n (big_number n xs)) h
-    (ap (λ (k : ℕ). big_from 0 k ys) m ∙ back ∙ ap (λ (k : ℕ). big_from 0 k xs) (sym l))
+    ∙ big_number-reads_back n (big_number n xs) [] (rw (sym l) (number_below xs h)) in
+    same_bytes ys xs (m ∙ sym l) (bytes_are n (big_number n xs)) h (grind arith)
 
 -- any part of bytes is bytes
 pub AreBytes-drop : (k : ℕ) (xs : List ℕ) → AreBytes xs → AreBytes (drop k xs)
@@ -80,17 +73,13 @@ AreBytes-take (suc k) (x ∷ xs) h = (h.0, AreBytes-take k xs h.1)
 pub number_and_rest : (m : ℕ) (xs : List ℕ) → m ≤ length xs → AreBytes xs
     → big_bytes m (big_number m xs) ++ drop m xs ≡ xs
 number_and_rest m xs l h =
-    let read : big_number m (take m xs) ≡ big_number m xs = big_from-take 0 m m xs (omega arith) in
-    let front : big_bytes m (big_number m xs) ≡ take m xs =
-    ap (big_bytes m) (sym read) ∙ big_bytes-big_number m (take m xs) (length-take-le m xs l) (AreBytes-take m xs h) in
-    ap (λ (t : List ℕ). t ++ drop m xs) front ∙ take-append-drop m xs
+    ap (λ (t : List ℕ). t ++ drop m xs) (ap (big_bytes m) (sym (big_from-take 0 m m xs (omega arith)))
+    ∙ big_bytes-big_number m (take m xs) (length-take-le m xs l) (AreBytes-take m xs h)) ∙ take-append-drop m xs
 
 -- the same from a place on
 pub number_at : (m k n : ℕ) (xs : List ℕ) → k + m ≡ n → n ≤ length xs → AreBytes xs
     → big_bytes m (big_number m (drop k xs)) ++ drop n xs ≡ drop k xs
-number_at m k n xs e l h =
-    let there : drop m (drop k xs) ≡ drop n xs = drop-drop m k xs ∙ ap (λ (t : ℕ). drop t xs) (omega arith) in
-    ap (λ (t : List ℕ). big_bytes m (big_number m (drop k xs)) ++ t) (sym there)
+number_at m k n xs e l h = ap (λ (t : List ℕ). big_bytes m (big_number m (drop k xs)) ++ t) (grind (arith, drop-drop))
     ∙ number_and_rest m (drop k xs) (omega (arith, length-drop k xs)) (AreBytes-drop k xs h)
 
 -- each byte, and 0 behind the last

@@ -1,7 +1,6 @@
 -- The page in the data of a packet.
-use Rattle.std.proofs.Common.{◌≡◌, ℕ, suc, ◌+◌, ◌*◌, ◌<◌, ◌≤◌, ◌==◌, nat_le, nat_lt, ◌||◌, Bool, true, false}
-use Rattle.std.proofs.Common.{if◌then◌else◌, List, ◌∷◌, ◌++◌, length, drop, get_or, slice_index, refl, ap, sym}
-use Rattle.std.proofs.Common.{◌∙◌, drop-cons, arith}
+use Rattle.std.proofs.Common.{◌≡◌, ℕ, ◌+◌, ◌*◌, ◌<◌, ◌≤◌, ◌==◌, nat_le, nat_lt, ◌||◌, Bool, true, false, if◌then◌else◌}
+use Rattle.std.proofs.Common.{List, ◌∷◌, ◌++◌, length, drop, slice_index, refl, drop-cons, arith, rules}
 use Rattle.std.proofs.lemmas.Bool.{or_parts, or_from, ltb-false, le-ltb, leb-false, lt-leb}
 use Rattle.std.proofs.lemmas.List.{drop-drop, get_or-drop}
 use Rattle.dtx_galois.specs.Field.{AreBytes}
@@ -27,16 +26,12 @@ kind_small (Of page pages) = omega arith
 -- what names a page is bytes
 pub bytes_paging : (p : Paging) (n : ℕ) → IsPaged p n → AreBytes (paging_bytes p)
 bytes_paging One n h = tt
-bytes_paging (Of page pages) n h =
-    let below : page < pages = h.page in
-    let few : pages ≤ 30 = h.pages in
-    (omega (arith, below, few), (omega (arith, few), tt))
+bytes_paging (Of page pages) n h = grind arith
 
 -- the byte at a place and those behind it
 pub byte_and_rest : (k : ℕ) (bytes : List ℕ) → k < length bytes
     → slice_index bytes k ∷ drop (k + 1) bytes ≡ drop k bytes
-byte_and_rest k bytes l = let e : suc k ≡ k + 1 = omega arith in
-    sym (drop-cons bytes k 0 l ∙ ap (λ (n : ℕ). slice_index bytes k ∷ drop n bytes) e)
+byte_and_rest k bytes l = grind (arith, drop-cons)
 
 -- ---- data that name a page
 
@@ -45,10 +40,7 @@ pub paging_named : (p : Paging) (bytes rest : List ℕ) → slice_index bytes 0 
     → drop 18 bytes ≡ paging_bytes p ++ rest → paging_in bytes ≡ p
 unfolding paging_in
 paging_named One bytes rest kind e = rw kind refl
-paging_named (Of page pages) bytes rest kind e =
-    let first : slice_index bytes 18 ≡ page = sym (get_or-drop 18 bytes 0 0) ∙ ap (λ (t : List ℕ). get_or t 0 0) e in
-    let second : slice_index bytes 19 ≡ pages = sym (get_or-drop 18 bytes 1 0) ∙ ap (λ (t : List ℕ). get_or t 1 0) e in
-    rw (kind, first, second) refl
+paging_named (Of page pages) bytes rest kind e = grind (arith, get_or-drop)
 
 count_there : (p : Paging) (n : ℕ) (rest : List ℕ)
     → slice_index (paging_bytes p ++ n ∷ rest) (length (paging_bytes p)) ≡ n
@@ -64,31 +56,20 @@ count_dropped (Of page pages) n rest = refl
 pub count_named : (p : Paging) (n : ℕ) (bytes rest : List ℕ) → paging_in bytes ≡ p
     → drop 18 bytes ≡ paging_bytes p ++ n ∷ rest → count_in bytes ≡ n
 unfolding count_in
-count_named p n bytes rest named e =
-    ap (λ (q : Paging). slice_index bytes (count_place q)) named
-    ∙ sym (get_or-drop 18 bytes (length (paging_bytes p)) 0)
-    ∙ ap (λ (t : List ℕ). slice_index t (length (paging_bytes p))) e ∙ count_there p n rest
+count_named p n bytes rest named e = grind (arith, get_or-drop, count_there)
 
 -- what stands behind it is found
 pub behind_named : (p : Paging) (n : ℕ) (bytes rest : List ℕ) → paging_in bytes ≡ p
     → drop 18 bytes ≡ paging_bytes p ++ n ∷ rest → behind_count bytes ≡ rest
 unfolding behind_count
-behind_named p n bytes rest named e =
-    let far : count_place p + 1 ≡ 18 + (length (paging_bytes p) + 1) = omega arith in
-    ap (λ (q : Paging). drop (count_place q + 1) bytes) named
-    ∙ ap (λ (k : ℕ). drop k bytes) far
-    ∙ sym (drop-drop (length (paging_bytes p) + 1) 18 bytes)
-    ∙ ap (drop (length (paging_bytes p) + 1)) e ∙ count_dropped p n rest
+behind_named p n bytes rest named e = grind (arith, drop-drop, count_dropped)
 
 -- ---- the other way round
 
 name_if : (is_two : Bool) (bytes : List ℕ) → length bytes ≡ 164
     → (let p = if is_two then Of (slice_index bytes 18) (slice_index bytes 19) else One in
     paging_bytes p ++ slice_index bytes (count_place p) ∷ drop (count_place p + 1) bytes ≡ drop 18 bytes)
-name_if true bytes l =
-    ap (λ (t : List ℕ). slice_index bytes 18 ∷ slice_index bytes 19 ∷ t) (byte_and_rest 20 bytes (omega (arith, l)))
-    ∙ ap (λ (t : List ℕ). slice_index bytes 18 ∷ t) (byte_and_rest 19 bytes (omega (arith, l)))
-    ∙ byte_and_rest 18 bytes (omega (arith, l))
+name_if true bytes l = grind (arith, byte_and_rest)
 name_if false bytes l = byte_and_rest 18 bytes (omega (arith, l))
 
 -- what names the page, the count, and what stands behind it are the bytes from byte 18 on
@@ -101,16 +82,8 @@ name_and_rest bytes l = name_if (slice_index bytes 0 == 2) bytes l
 
 pub paged_unless : (p : Paging) (n : ℕ) → (nat_lt 30 (pages_of p) || nat_le (pages_of p) (page_of p)) ≡ false
     → nat_lt (most_of p) n ≡ false → IsPaged p n
-paged_unless p n named few =
-    let parts = or_parts (nat_lt 30 (pages_of p)) (nat_le (pages_of p) (page_of p)) named in
-    record {
-      page = leb-false (pages_of p) (page_of p) parts.1;
-      pages = ltb-false 30 (pages_of p) parts.0;
-      fits = ltb-false (most_of p) n few;
-    }
+paged_unless p n named few = grind (arith, or_parts, leb-false, ltb-false)
 
 pub page_passes : (p : Paging) (n : ℕ) → IsPaged p n
     → (nat_lt 30 (pages_of p) || nat_le (pages_of p) (page_of p)) ≡ false
-page_passes p n h =
-    or_from (nat_lt 30 (pages_of p)) (nat_le (pages_of p) (page_of p)) (le-ltb 30 (pages_of p) h.pages)
-    (lt-leb (pages_of p) (page_of p) h.page)
+page_passes p n h = grind (arith, or_from, le-ltb, lt-leb)

@@ -1,17 +1,14 @@
 -- Data that no rule refuses.
 use Rattle.std.proofs.Common.{◌≡◌, ℕ, zero, suc, ◌*◌, ◌%◌, ◌<◌, ◌==◌, nat_le, nat_lt, not, Bool, true, false}
 use Rattle.std.proofs.Common.{true≢false, ◌&&◌, ◌||◌, if◌then◌else◌, None, List, [], ◌∷◌, length, drop, replicate}
-use Rattle.std.proofs.Common.{slice_index, refl, sym}
-use Rattle.std.proofs.Common.{ap₂}
+use Rattle.std.proofs.Common.{slice_index, refl, sym, ap₂, arith, rules}
 use Rattle.std.proofs.lemmas.Bool.{not-false, eqb-true, eq-eqb, leb-false, lt-leb, le-ltb}
 use Rattle.std.proofs.lemmas.Option.{none-some}
 use Rattle.std.specs.List.{list_all}
-use Rattle.dtx_ops.specs.declared.refusal.OpsNo.TheVariants.{Kind, Pad, Stamp, Delay, Index, Page, Count}
-use Rattle.dtx_ops.specs.declared.refusal.OpsNo.TheVariants.{Twice, Fill}
+use Rattle.dtx_ops.specs.declared.refusal.OpsNo.TheVariants.{Kind, Pad, Stamp, Delay, Index, Page, Count, Twice, Fill}
 use Rattle.dtx_ops.specs.declared.paging.Paging.{Paging}
 use Rattle.dtx_ops.specs.declared.paging.Paging.TheVariants.{One, Of}
-use Rattle.dtx_ops.specs.Fields.{stamp_in, max_delay_in, index_in, paging_in, count_in, behind_count}
-use Rattle.dtx_ops.specs.Fields.{entries_in}
+use Rattle.dtx_ops.specs.Fields.{stamp_in, max_delay_in, index_in, paging_in, count_in, behind_count, entries_in}
 use Rattle.dtx_ops.specs.Paging.{page_of, pages_of, kind_of, most_of, IsPaged}
 use Rattle.dtx_ops.proofs.PagingLemmas.{paged_unless, page_passes}
 use Rattle.dtx_ops.specs.Rules.{first, has_twice, head_rules, data_rules}
@@ -38,10 +35,8 @@ record Off (a b c d e f g h i : Bool) : Type 0 where
   h_off : h ≡ false
   i_off : i ≡ false
 
-none_holds : (a b c d e f g h i : Bool)
-    → first ((a, Kind) ∷ (b, Pad) ∷ (c, Stamp) ∷ (d, Delay) ∷ (e, Index)
-    ∷ (f, Page) ∷ (g, Count) ∷ (h, Twice) ∷ (i, Fill) ∷ [])
-    ≡ None → Off a b c d e f g h i
+none_holds : (a b c d e f g h i : Bool) → first ((a, Kind) ∷ (b, Pad) ∷ (c, Stamp) ∷ (d, Delay) ∷ (e, Index)
+    ∷ (f, Page) ∷ (g, Count) ∷ (h, Twice) ∷ (i, Fill) ∷ []) ≡ None → Off a b c d e f g h i
 none_holds true b c d e f g h i p = absurd (none-some Kind (sym p))
 none_holds false true c d e f g h i p = absurd (none-some Pad (sym p))
 none_holds false false true d e f g h i p = absurd (none-some Stamp (sym p))
@@ -51,18 +46,17 @@ none_holds false false false false false true g h i p = absurd (none-some Page (
 none_holds false false false false false false true h i p = absurd (none-some Count (sym p))
 none_holds false false false false false false false true i p = absurd (none-some Twice (sym p))
 none_holds false false false false false false false false true p = absurd (none-some Fill (sym p))
-none_holds false false false false false false false false false p =
-    record {
-      a_off = refl;
-      b_off = refl;
-      c_off = refl;
-      d_off = refl;
-      e_off = refl;
-      f_off = refl;
-      g_off = refl;
-      h_off = refl;
-      i_off = refl;
-    }
+none_holds false false false false false false false false false p = record {
+  a_off = refl;
+  b_off = refl;
+  c_off = refl;
+  d_off = refl;
+  e_off = refl;
+  f_off = refl;
+  g_off = refl;
+  h_off = refl;
+  i_off = refl;
+}
 
 -- the kind is 1 or 2
 kind_if : (kind page pages : ℕ) (is_one is_two : Bool) → (kind == 1) ≡ is_one → (kind == 2) ≡ is_two
@@ -74,9 +68,7 @@ kind_if kind page pages false false one two h = absurd (true≢false h)
 kind_known : (bytes : List ℕ) → (not (slice_index bytes 0 == 1) && not (slice_index bytes 0 == 2)) ≡ false
     → slice_index bytes 0 ≡ kind_of (paging_in bytes)
 unfolding paging_in
-kind_known bytes h =
-    kind_if (slice_index bytes 0) (slice_index bytes 18) (slice_index bytes 19) (slice_index bytes 0 == 1)
-    (slice_index bytes 0 == 2) refl refl h
+kind_known bytes h = grind (arith, kind_if)
 
 kind_passes : (p : Paging) (kind : ℕ) → kind ≡ kind_of p → (not (kind == 1) && not (kind == 2)) ≡ false
 kind_passes One kind e = rw e refl
@@ -105,18 +97,7 @@ passes_unrefused bytes h =
 
 pub unrefused_passes : (bytes : List ℕ) → Passes bytes → first (data_rules bytes) ≡ None
 unfolding data_rules head_rules
-unrefused_passes bytes p =
-    rw (
-      kind_passes (paging_in bytes) (slice_index bytes 0) p.kind,
-      eq-eqb (slice_index bytes 5 % 16) 0 p.pad,
-      lt-leb 10000000 (stamp_in bytes) p.stamp,
-      lt-leb 10000000 (max_delay_in bytes) p.max_delay,
-      lt-leb 624 (index_in bytes) p.index,
-      page_passes (paging_in bytes) (count_in bytes) p.paged,
-      le-ltb (most_of (paging_in bytes)) (count_in bytes) p.paged.fits,
-      p.once,
-      p.blank,
-    ) refl
+unrefused_passes bytes p = grind (arith, kind_passes, eq-eqb, lt-leb, page_passes, le-ltb)
 
 -- bytes that are all 0
 both : (a b : Bool) → (a && b) ≡ true → (a ≡ true) × (b ≡ true)

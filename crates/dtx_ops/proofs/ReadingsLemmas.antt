@@ -129,17 +129,14 @@ unfolding spelling
 payload_of_spelling f counter sync = refl
 
 pub changed_reads : (f : Ops) (counter sync : ℕ) (packet : List ℕ) → IsValid f → length packet ≡ 188
-    → pid_of packet ≡ 0x1FFA
-    → distance (drop 4 packet) (drop 4 (spelling f counter sync)) ≤ 10 → reading packet ≡ Ok f
+    → pid_of packet ≡ 0x1FFA → distance (drop 4 packet) (drop 4 (spelling f counter sync)) ≤ 10 → reading packet ≡ Ok f
 changed_reads f counter sync packet h l p d =
-    let word : List ℕ = codeword 184 164 (data_of f) in
-    let near : distance (drop 4 packet) word ≤ 10 =
-    subst (λ (t : List ℕ). distance (drop 4 packet) t ≤ 10) (payload_of_spelling f counter sync) d in
+    let near : distance (drop 4 packet) (codeword 184 164 (data_of f)) ≤ 10 = grind (arith, payload_of_spelling) in
     let is = codeword_is 184 164 (data_of f) (omega arith) (length-data_of f h) (AreBytes-data_of f h) in
     reads packet f l (record {
       valid = h;
       pid = p;
-      code = word;
+      code = (codeword 184 164 (data_of f));
       correction = record { codeword = is; near = omega (arith, near) };
       spelled = codeword_begins 184 164 (data_of f) (length-data_of f h);
     })

@@ -1,6 +1,6 @@
 -- A write behind what is written already.
 use Rattle.std.proofs.Common.{◌≡◌, ℕ, ◌+◌, ◌-◌, ◌*◌, ◌<◌, ◌≤◌, List, [], ◌∷◌, ◌++◌, length, take, drop, get_or, set}
-use Rattle.std.proofs.Common.{refl, ap, sym, ◌∙◌, append_assoc, length-append, arith}
+use Rattle.std.proofs.Common.{refl, append_assoc, length-append, arith}
 use Rattle.std.proofs.Math.Seq.{take-append_seam, drop-append_seam, take-length}
 use Rattle.std.proofs.lemmas.List.{drop_all, append-nil, take_more, drop-drop, take_all, length-drop}
 use Rattle.std.proofs.lemmas.Grind.{flat_map-append}
@@ -8,31 +8,18 @@ use Rattle.std.specs.List.{flat_map}
 use borrow.Rule.Slice.PartMut.{put_mid}
 use Rattle.dtx_ops.specs.declared.fields.Entry.{Entry}
 use Rattle.dtx_ops.specs.declared.fields.Ops.{Ops}
-use Rattle.dtx_ops.specs.Paging.{paging_bytes, count_place}
+use Rattle.dtx_ops.specs.Paging.{count_place}
 use Rattle.dtx_ops.specs.Spelling.{entry_bytes, times_bytes, head_bytes}
 
 -- ys are written behind xs
 pub wrote : {X : Type 0} (xs rest ys : List X) (n : ℕ)
     → put_mid (length xs) (length rest) (xs ++ rest) (ys ++ drop n (take (length rest) (drop (length xs) (xs ++ rest))))
     ≡ xs ++ (ys ++ drop n rest)
-wrote xs rest ys n =
-    rw (
-      take-append_seam xs rest,
-      drop-append_seam xs rest,
-      take-length rest,
-      drop_all (length rest) rest (omega arith),
-      append-nil,
-    ) refl
+wrote xs rest ys n = grind (arith, take-append_seam, drop-append_seam, take-length, drop_all, append-nil)
 
 pub wrote_at : {X : Type 0} (a k : ℕ) (xs rest ys out new : List X) (n : ℕ) → out ≡ xs ++ rest → length xs ≡ a
-    → k ≡ length out - a → new ≡ ys ++ drop n (take k (drop a out))
-    → put_mid a k out new ≡ xs ++ (ys ++ drop n rest)
-wrote_at {X} a k xs rest ys out new n e l m f =
-    let r : k ≡ length rest = m ∙ omega (arith, ap (λ (t : List X). length t) e, length-append xs rest) in
-    let whole : put_mid a k out new ≡ put_mid (length xs) (length rest) (xs ++ rest) (ys
-    ++ drop n (take (length rest) (drop (length xs) (xs ++ rest)))) =
-    rw (f, e, sym l, r) refl in
-    whole ∙ wrote xs rest ys n
+    → k ≡ length out - a → new ≡ ys ++ drop n (take k (drop a out)) → put_mid a k out new ≡ xs ++ (ys ++ drop n rest)
+wrote_at {X} a k xs rest ys out new n e l m f = grind (arith, length-append, wrote)
 
 -- one more entry
 pub entries_more : (es : List Entry) (i : ℕ) (d : Entry) (old : List ℕ) → i < length es
@@ -40,12 +27,10 @@ pub entries_more : (es : List Entry) (i : ℕ) (d : Entry) (old : List ℕ) → 
     ≡ flat_map entry_bytes (take (i + 1) es) ++ drop (4 * (i + 1)) old
 entries_more es i d old h =
     let e : 4 * (i + 1) ≡ 4 * i + 4 = omega arith in
-    let one : flat_map entry_bytes (get_or es i d ∷ []) ≡ entry_bytes (get_or es i d) =
-    append-nil (entry_bytes (get_or es i d)) in
     rw (
       take_more es i d h,
       flat_map-append entry_bytes (take i es) (get_or es i d ∷ []),
-      one,
+      (append-nil (entry_bytes (get_or es i d))),
       e,
       drop-drop 4 (4 * i) old,
       append_assoc,
@@ -71,9 +56,7 @@ set_first (x ∷ xs) a h = refl
 
 -- two pieces, and behind them a third and the rest
 pub three_pieces : (xs ys zs rest : List ℕ) → (xs ++ ys) ++ (zs ++ rest) ≡ (xs ++ (ys ++ zs)) ++ rest
-three_pieces xs ys zs rest =
-    append_assoc xs ys (zs ++ rest) ∙ ap (λ (t : List ℕ). xs ++ t) (sym (append_assoc ys zs rest))
-    ∙ sym (append_assoc xs (ys ++ zs) rest)
+three_pieces xs ys zs rest = simp append_assoc
 
 -- the bytes before the entries
 pub length-times_bytes : (f : Ops) → length (times_bytes f) ≡ 12
@@ -82,10 +65,7 @@ length-times_bytes f = refl
 
 pub length-head_bytes : (f : Ops) → length (head_bytes f) ≡ count_place f.paging + 1
 unfolding head_bytes
-length-head_bytes f =
-    let name : List ℕ = paging_bytes f.paging in
-    let n : ℕ = length f.offsets.items in
-    omega (arith, length-times_bytes f, length-append (times_bytes f) (name ++ n ∷ []), length-append name (n ∷ []))
+length-head_bytes f = grind (arith, length-times_bytes, length-append)
 
 -- a packet of which byte 0 stays
 pub packet_written : (xs word : List ℕ) (a b c : ℕ) → length xs ≡ 188

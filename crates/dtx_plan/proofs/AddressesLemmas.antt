@@ -1,6 +1,5 @@
 -- The addresses of the transmitters that were read so far differ from each other.
-use Rattle.std.proofs.Common.{◌≡◌, nat_eq, false, List, [], ◌∷◌, ◌++◌}
-use Rattle.std.specs.Cmp.{nat_eq_equiv}
+use Rattle.std.proofs.Common.{◌≡◌, nat_eq, false, List, [], ◌∷◌, ◌++◌, arith}
 use Rattle.std.specs.List.{IsDistinct}
 use Rattle.std.proofs.lemmas.List.{map-append}
 use Rattle.std.proofs.lemmas.Map.Keys.{IsDistinct-push}
@@ -15,6 +14,4 @@ distinct_none ts e = rw e tt
 -- those of one more, whose address no earlier one has
 pub distinct_more : (ts : List Transmitter) (t : Transmitter) → IsDistinct nat_eq (addresses_of ts)
     → has_address t.address ts ≡ false → IsDistinct nat_eq (addresses_of (ts ++ t ∷ []))
-distinct_more ts t distinct once =
-    rw (map-append (λ (t : Transmitter). t.address) ts (t ∷ []))
-    (IsDistinct-push nat_eq_equiv (addresses_of ts) t.address distinct once)
+distinct_more ts t distinct once = grind (arith, map-append, IsDistinct-push)

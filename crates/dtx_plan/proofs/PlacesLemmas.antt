@@ -1,7 +1,6 @@
 -- The place of an address: with one transmitter more, and whether there is one.
-use Rattle.std.proofs.Common.{◌≡◌, ℕ, ◌+◌, ◌<◌, ◌≤◌, ◌⊎◌, inl, inr, Bool, true, false, not, cond, Option, Some, None}
-use Rattle.std.proofs.Common.{List}
-use Rattle.std.proofs.Common.{[], ◌∷◌, ◌++◌, length, refl, sym, arith}
+use Rattle.std.proofs.Common.{◌≡◌, ℕ, ◌+◌, ◌<◌, ◌≤◌, inl, inr, Bool, cond, Option, Some, None, List, [], ◌∷◌, ◌++◌}
+use Rattle.std.proofs.Common.{length, refl, arith}
 use Rattle.std.specs.Prelude.{nat_eq, nat_lt, position, is_some, IfSome}
 use Rattle.std.specs.Option.{option_or}
 use Rattle.std.specs.List.{list_any, position_or_len}
@@ -23,54 +22,28 @@ below n long = cond (nat_lt n long) (Some n) None
 below_more : (n long : ℕ) (passes : Bool) → n ≤ long
     → below (cond (nat_eq n long) (long + cond passes 0 1) n) (long + 1)
     ≡ option_or (below n long) (cond passes (Some long) None)
-below_more n long passes l = by_cases (cases_lt n long)
-  where
-    by_cases : (n < long) ⊎ (long ≤ n)
-        → below (cond (nat_eq n long) (long + cond passes 0 1) n) (long + 1)
-        ≡ option_or (below n long) (cond passes (Some long) None)
-    by_cases (inl within) = rw (
-      ne_eqb n long (λ same. absurd (omega (arith, within, same))),
-      lt-ltb n long within,
-      lt-ltb n (long + 1) (omega (arith, within)),
-    ) refl
-    by_cases (inr past) = rw (eq-eqb n long (omega (arith, l, past)), le-ltb n long past) (at_end passes)
-      where
-        at_end : (b : Bool) → below (long + cond b 0 1) (long + 1) ≡ cond b (Some long) None
-        at_end true = let same : long + 0 ≡ long = omega arith in rw (same, lt-ltb long (long + 1) (omega arith)) refl
-        at_end false = rw (le-ltb (long + 1) (long + 1) (omega arith)) refl
+below_more n long passes l = grind (arith, cases_lt, ne_eqb, lt-ltb, eq-eqb, le-ltb)
 
 position_more : (p : ℕ → Bool) (xs : List ℕ) (x : ℕ)
     → position p (xs ++ x ∷ []) ≡ option_or (position p xs) (cond (p x) (Some (length xs)) None)
-position_more p xs x = rw (position_or_len_push p xs x, length_push xs x)
-    (below_more (position_or_len p xs) (length xs) (p x) (prefix_len-le-length (λ y. not (p y)) xs))
+position_more p xs x = grind (arith, position_or_len_push, length_push, below_more, prefix_len-le-length)
 
 any_is_position : (p : ℕ → Bool) (xs : List ℕ) → list_any p xs ≡ is_some (position p xs)
-any_is_position p xs = by_cases (cases_lt (position_or_len p xs) (length xs))
-  where
-    by_cases : (position_or_len p xs < length xs) ⊎ (length xs ≤ position_or_len p xs)
-        → list_any p xs ≡ is_some (position p xs)
-    by_cases (inl within) = rw (
-      lt-ltb (position_or_len p xs) (length xs) within,
-      list_any_at p xs (position_or_len p xs) 0 within (passes_at_first p xs 0 within),
-    ) refl
-    by_cases (inr past) = rw (
-      le-ltb (position_or_len p xs) (length xs) past,
-      list_any_none p xs (All-from_get_or (λ x. p x ≡ false) xs 0
-          (λ k l. fails_before_first p xs k 0 (omega (arith, l, past)))),
-    ) refl
+any_is_position p xs = elim (cases_lt (position_or_len p xs) (length xs)) [
+  | inl within ↦ rw (
+    lt-ltb (position_or_len p xs) (length xs) within,
+    list_any_at p xs (position_or_len p xs) 0 within (passes_at_first p xs 0 within),
+  ) refl
+  | inr past ↦ grind (arith, le-ltb, list_any_none, All-from_get_or, fails_before_first)
+]
 
 -- ---- transmitters
 
 -- the place of an address is an earlier one, or that of the transmitter behind the others
-pub place_more : (address : ℕ) (ts : List Transmitter) (t : Transmitter)
-    → transmitter_place address (ts ++ t ∷ [])
+pub place_more : (address : ℕ) (ts : List Transmitter) (t : Transmitter) → transmitter_place address (ts ++ t ∷ [])
     ≡ option_or (transmitter_place address ts) (cond (nat_eq address t.address) (Some (length ts)) None)
 unfolding transmitter_place
-place_more address ts t = rw (
-  map-append (λ (t : Transmitter). t.address) ts (t ∷ []),
-  position_more (nat_eq address) (addresses_of ts) t.address,
-  length-map ts (λ (t : Transmitter). t.address),
-) refl
+place_more address ts t = grind (arith, map-append, position_more, length-map)
 
 -- an address of some transmitter has a place, and no other one has
 pub has_place : (address : ℕ) (ts : List Transmitter) → has_address address ts ≡ is_some (transmitter_place address ts)
@@ -82,6 +55,4 @@ pub place_within : (address : ℕ) (ts : List Transmitter) (found : Option ℕ) 
     → IfSome found (λ place. place < length ts)
 unfolding transmitter_place
 place_within address ts None e = tt
-place_within address ts (Some place) e =
-    let below = (position-Some (nat_eq address) (addresses_of ts) place 0 (sym e)).0 in
-    omega (arith, below, length-map ts (λ (t : Transmitter). t.address))
+place_within address ts (Some place) e = grind (arith, position-Some, length-map)

@@ -1,17 +1,14 @@
 -- What the walk over the array `damage` leaves: the numbers of each entry in their range, and the entries in order.
-use Rattle.std.proofs.Common.{◌≡◌, ℕ, ◌+◌, ◌≤◌, ◌<◌, ◌⊎◌, inl, inr, List, [], ◌∷◌, ◌++◌, length, subst}
-use Rattle.std.proofs.Common.{arith, All, pos, negsuc}
-use Rattle.std.specs.Prelude.{codes, Result, Ok, if◌then◌else◌}
+use Rattle.std.proofs.Common.{◌≡◌, ℕ, ◌+◌, ◌≤◌, List, [], ◌∷◌, ◌++◌, length, subst, arith, All, pos, negsuc}
+use Rattle.std.specs.Prelude.{codes, Ok}
 use Rattle.std.specs.List.{AllAdjacentBelow}
 use Rattle.std.proofs.lemmas.Bool.{lt-ltb, cases_lt}
 use Rattle.std.proofs.lemmas.Grind.{common_steps}
 use Rattle.std.proofs.lemmas.List.Elements.{All-nil, All-push}
 use Rattle.toml.specs.Data.{Data, Members, get_member}
 use Rattle.dtx_plan.specs.declared.key.PlanKey.TheVariants as key
-use Rattle.dtx_plan.specs.declared.rule.PlanRule.TheVariants.{Order}
-use Rattle.dtx_plan.specs.declared.refusal.PlanNo.{PlanNo}
 use Rattle.dtx_plan.specs.declared.damage.Damage.{Damage}
-use Rattle.dtx_plan.specs.Rows.{refused, table, known, whole, whole_or, signed, entries, array_or_none}
+use Rattle.dtx_plan.specs.Rows.{table, known, whole, whole_or, signed, entries, array_or_none}
 use Rattle.dtx_plan.specs.DamageTable.{behind, damage, damage_from, last_end}
 use Rattle.dtx_plan.specs.ReceiveTable.{damage_of}
 use Rattle.dtx_plan.specs.Sound.{IsDamage, AreDamages}
@@ -26,15 +23,7 @@ record IsNext (end : ℕ) (d : Damage) : Type 0 where
   behind : end ≤ d.at
 
 behind_is : (at end item : ℕ) (u : Unit {0}) → behind at end item ≡ Ok u → end ≤ at
-behind_is at end item u e = by_cases (cases_lt at end)
-  where
-    by_cases : (at < end) ⊎ (end ≤ at) → end ≤ at
-    by_cases (inl before) =
-        let t = lt-ltb at end before in
-        let no : ◌≡◌ {A = Result (Unit {0}) PlanNo} (refused key.DamageAt item Order) (Ok u) =
-        subst (λ b. (if b then refused key.DamageAt item Order else Ok tt) ≡ Ok u) t e in
-        cc
-    by_cases (inr after) = after
+behind_is at end item u e = grind (arith, cases_lt, lt-ltb)
 
 next_is : (end item : ℕ) (d : Data) (x : Damage) → damage_from end item d ≡ Ok x → IsNext end x
 unfolding damage_from
@@ -51,11 +40,7 @@ next_is end item d x e =
     let n = whole_or_range 1 (get_member (codes "count") entry.0) key.DamageCount item 1 520832000000 count.0
     (omega arith) (omega arith) count.1 in
     let read : Damage = record { at = at.0; count = count.0; put = put.0 } in
-    subst (IsNext end) {x = read} (ok_same read x put.2)
-    (record {
-      numbers = record { start = omega (arith, a.1); some = n.0; most = n.1 };
-      behind = behind_is at.0 end item first.0 first.1;
-    })
+    subst (IsNext end) {x = read} (ok_same read x put.2) (grind (arith, behind_is))
 
 pub damage_is : (end item : ℕ) (d : Data) (x : Damage) → damage_from end item d ≡ Ok x → IsDamage x
 damage_is end item d x e = (next_is end item d x e).numbers

@@ -1,7 +1,6 @@
 -- What the walk over the array `event` leaves: events of transmitters of the plan, their numbers in their ranges.
-use Rattle.std.proofs.Common.{◌≡◌, ℕ, ◌-◌, ◌≤◌, ◌<◌, List, [], ◌∷◌, length, map, refl, subst, sym, ◌∙◌, arith, All}
-use Rattle.std.proofs.Common.{true}
-use Rattle.std.specs.Prelude.{codes, nat_le, nat_eq, ◌&&◌, Ok}
+use Rattle.std.proofs.Common.{◌≡◌, ℕ, ◌-◌, ◌≤◌, ◌<◌, List, [], ◌∷◌, length, map, refl, subst, sym, arith, All, true}
+use Rattle.std.specs.Prelude.{codes, nat_le, Ok}
 use Rattle.std.specs.List.{list_all}
 use Rattle.std.proofs.lemmas.Bool.{and_parts, eqb-true, leb-true}
 use Rattle.std.proofs.lemmas.List.{length-map}
@@ -9,7 +8,7 @@ use Rattle.std.proofs.lemmas.List.Elements.{All-nil, All-cons, All-push}
 use Rattle.toml.specs.Data.{Data, Items, Members, get_member}
 use Rattle.dtx_plan.specs.declared.key.PlanKey.{PlanKey}
 use Rattle.dtx_plan.specs.declared.key.PlanKey.TheVariants as key
-use Rattle.dtx_plan.specs.declared.rule.PlanRule.TheVariants.{Range, Stranger}
+use Rattle.dtx_plan.specs.declared.rule.PlanRule.TheVariants.{Stranger}
 use Rattle.dtx_plan.specs.declared.transmitter.Transmitter.{Transmitter}
 use Rattle.dtx_plan.specs.declared.event.Event.{Event}
 use Rattle.dtx_plan.specs.declared.event.Event.TheVariants as event
@@ -18,8 +17,7 @@ use Rattle.dtx_plan.specs.declared.event.EventKind.TheVariants.{Send, Foreign, F
 use Rattle.dtx_plan.specs.Rows.{table, whole, text, entries}
 use Rattle.dtx_plan.specs.TransmitterTable.{has_address}
 use Rattle.dtx_plan.specs.EventTable.{kind, known_keys, no_stranger, send, foreign, flip, lie, is_state, states_of}
-use Rattle.dtx_plan.specs.EventTable.{states}
-use Rattle.dtx_plan.specs.EventTable.{event_of, event_at, event_after}
+use Rattle.dtx_plan.specs.EventTable.{states, event_of, event_at, event_after}
 use Rattle.dtx_plan.specs.Sound.{IsPart, IsInRange, IsEvent, to_of}
 use Rattle.dtx_plan.proofs.WalksLemmas.{bind_ok, test_ok, ok_same, whole_range, entries_keep}
 
@@ -52,8 +50,7 @@ foreign_is to entry item e is =
     let f = whole_range (get_member (codes "from") entry) key.From item 0 623999999 from.0 from.1 in
     let n = whole_range (get_member (codes "count") entry) key.Count item 1 (624000000 - from.0) count.0 count.1 in
     let read = event.Foreign to seed.0 from.0 count.0 in
-    subst (IsOf to) {x = read} (ok_same read e count.2)
-    (record { told = refl; in_range = (part_is from.0 count.0 f.1 n.0 n.1, omega (arith, s.1)) })
+    subst (IsOf to) {x = read} (ok_same read e count.2) (record { told = refl; in_range = (grind (arith, part_is)) })
 
 flip_is : (to : ℕ) (entry : Members) (item : ℕ) (e : Event) → flip to entry item ≡ Ok e → IsOf to e
 unfolding flip
@@ -65,8 +62,7 @@ flip_is to entry item e is =
     let a = whole_range (get_member (codes "at") entry) key.At item 0 187 at.0 at.1 in
     let w = whole_range (get_member (codes "with") entry) key.With item 1 255 with.0 with.1 in
     let read = event.Flip to from.0 at.0 with.0 in
-    subst (IsOf to) {x = read} (ok_same read e with.2)
-    (record { told = refl; in_range = (omega (arith, f.1), omega (arith, a.1), w.0) })
+    subst (IsOf to) {x = read} (ok_same read e with.2) (record { told = refl; in_range = (grind arith) })
 
 -- the states that digits spell are below 8
 states_small : (digits : List ℕ) → list_all is_state digits ≡ true
@@ -83,14 +79,7 @@ record AreStates (told : List ℕ) : Type 0 where
   each : All (λ state. state < 8) told
 
 states_of_are : (digits : List ℕ) (item : ℕ) (told : List ℕ) → states_of digits item ≡ Ok told → AreStates told
-states_of_are digits item told e =
-    let t = test_ok (nat_eq (length digits) 12 && list_all is_state digits) (map (λ digit. digit - 48) digits) told
-    key.States item Range e in
-    let s = and_parts (nat_eq (length digits) 12) (list_all is_state digits) t.0 in
-    subst AreStates t.1 (record {
-      count = length-map digits (λ digit. digit - 48) ∙ eqb-true (length digits) 12 s.0;
-      each = states_small digits s.1;
-    })
+states_of_are digits item told e = grind (arith, test_ok, and_parts, length-map, eqb-true, states_small)
 
 lie_is : (to : ℕ) (entry : Members) (item : ℕ) (e : Event) → lie to entry item ≡ Ok e → IsOf to e
 unfolding lie
@@ -102,8 +91,7 @@ lie_is to entry item e is =
     let f = whole_range (get_member (codes "from") entry) key.From item 0 623999999 from.0 from.1 in
     let s = states_of_are digits.0 item told.0 digits.2 in
     let read = event.Lie to from.0 told.0 in
-    subst (IsOf to) {x = read} (ok_same read e told.2)
-    (record { told = refl; in_range = (omega (arith, f.1), s.count, s.each) })
+    subst (IsOf to) {x = read} (ok_same read e told.2) (grind arith)
 
 of_kind_is : (does : EventKind) (to : ℕ) (entry : Members) (item : ℕ) (e : Event) → event_of does to entry item ≡ Ok e
     → IsOf to e
@@ -112,8 +100,7 @@ of_kind_is Send to entry item e is = send_is to entry item e is
 of_kind_is Foreign to entry item e is = foreign_is to entry item e is
 of_kind_is Flip to entry item e is = flip_is to entry item e is
 of_kind_is Lie to entry item e is = lie_is to entry item e is
-of_kind_is Restart to entry item e is =
-    subst (IsOf to) {x = event.Restart to} (ok_same (event.Restart to) e is) (record { told = refl; in_range = tt })
+of_kind_is Restart to entry item e is = grind (arith, ok_same)
 
 pub listed_is : (address : ℕ) (ts : List Transmitter) (k : PlanKey) (item : ℕ) (u : Unit {0})
     → no_stranger address ts k item ≡ Ok u → has_address address ts ≡ true
@@ -137,7 +124,6 @@ event_is ts item d e is =
 
 pub events_are : (ts : List Transmitter) (items : Items) (es : List Event) → entries (event_after ts) [] items ≡ Ok es
     → All (IsEvent ts) es
-events_are ts items es is =
-    entries_keep (All (IsEvent ts)) (event_after ts)
+events_are ts items es is = entries_keep (All (IsEvent ts)) (event_after ts)
     (λ done d e kept read. All-push (IsEvent ts) done e kept (event_is ts (length done) d e read)) items [] es is
     (All-nil (IsEvent ts))

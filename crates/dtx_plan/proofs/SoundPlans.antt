@@ -1,10 +1,9 @@
 -- What the walk over a file leaves: a plan that an adapter takes, what is done with its transmitters, and damage.
 use Rattle.std.proofs.Common.{◌≡◌, ℕ, ◌≤◌, List, [], ◌∷◌, length, subst, arith, Option, Some, None}
-use Rattle.std.specs.Prelude.{codes, nat_le, ◌&&◌, Result, Ok, Err, IfOk, IfSome}
+use Rattle.std.specs.Prelude.{codes, Result, Ok, Err, IfOk, IfSome}
 use Rattle.std.proofs.lemmas.Bool.{and_parts, leb-true}
 use Rattle.toml.specs.Data.{Data, Members, get_member}
 use Rattle.dtx_plan.specs.declared.key.PlanKey.TheVariants as key
-use Rattle.dtx_plan.specs.declared.rule.PlanRule.TheVariants.{Range}
 use Rattle.dtx_plan.specs.declared.refusal.PlanNo.{PlanNo}
 use Rattle.dtx_plan.specs.declared.refusal.PlanFault.{PlanFault}
 use Rattle.dtx_plan.specs.declared.transmitter.Transmitter.{Transmitter}
@@ -12,11 +11,10 @@ use Rattle.dtx_plan.specs.declared.damage.Damage.{Damage}
 use Rattle.dtx_plan.specs.declared.plan.ReceivePlan.{ReceivePlan}
 use Rattle.dtx_plan.specs.declared.plan.NetPlan.{NetPlan}
 use Rattle.dtx_plan.specs.declared.plan.Plan.{Plan}
-use Rattle.dtx_plan.specs.Rows.{IsAnswer, table, known, whole, array, text, array_or_none, optional, entries}
-use Rattle.dtx_plan.specs.TransmitterTable.{transmitter}
+use Rattle.dtx_plan.specs.Rows.{IsAnswer, table, known, whole, text, array_or_none, optional, entries}
 use Rattle.dtx_plan.specs.EventTable.{no_stranger, event_after}
 use Rattle.dtx_plan.specs.ReceiveTable.{damage_of, receive_of, receive}
-use Rattle.dtx_plan.specs.NetTable.{stream_of, stream, events_of, net_of, net}
+use Rattle.dtx_plan.specs.NetTable.{stream_of, stream, events_of, net_of}
 use Rattle.dtx_plan.specs.RootTable.{plan, changes}
 use Rattle.dtx_plan.specs.Plan.{root_of, plan_of, changes_of}
 use Rattle.dtx_plan.specs.Sound.{AreDamages, IsReceived, IsNet, IsSound, HasSoundNet}
@@ -30,9 +28,7 @@ optional_is : {A : Type 0} (Is : A → Type 0) (read : Data → Result A PlanNo)
     → ((d : Data) (x : A) → read d ≡ Ok x → Is x)
     → (found : Option Data) (o : Option A) → optional read found ≡ Ok o → IfSome o Is
 optional_is Is read each None o e = subst (λ o. IfSome o Is) (ok_same None o e) tt
-optional_is Is read each (Some d) o e =
-    let x = bind_ok (read d) (λ x. Ok (Some x)) o e in
-    subst (λ o. IfSome o Is) (ok_same (Some x.0) o x.2) (each d x.0 x.1)
+optional_is Is read each (Some d) o e = grind (arith, bind_ok, ok_same)
 
 -- ---- what is received
 
@@ -45,8 +41,7 @@ received_is ts d r e =
     let first = bind_ok (no_stranger from.0 ts key.ReceiveFrom 0) _ r from.2 in
     let damage = bind_ok (damage_of entry.0) _ r first.2 in
     let read : ReceivePlan = record { from = from.0; damage = damage.0 } in
-    subst (IsReceived ts) {x = read} (ok_same read r damage.2)
-    (record {
+    subst (IsReceived ts) {x = read} (ok_same read r damage.2) (record {
       listed = listed_is from.0 ts key.ReceiveFrom 0 first.0 first.1;
       damage = damages_are entry.0 damage.0 damage.1;
     })
@@ -54,18 +49,13 @@ received_is ts d r e =
 -- ---- what is done with the transmitters
 
 stream_of_is : (name told : List ℕ) → stream_of name ≡ Ok told → (1 ≤ length told) × (length told ≤ 255)
-stream_of_is name told e =
-    let t = test_ok (nat_le 1 (length name) && nat_le (length name) 255) name told key.Stream 0 Range e in
-    let s = and_parts (nat_le 1 (length name)) (nat_le (length name) 255) t.0 in
-    subst (λ (w : List ℕ). (1 ≤ length w) × (length w ≤ 255)) t.1
-    (leb-true 1 (length name) s.0, leb-true (length name) 255 s.1)
+stream_of_is name told e = grind (arith, test_ok, and_parts, leb-true)
 
 net_is : (ts : List Transmitter) (d : Data) (n : NetPlan) → net_of ts d ≡ Ok n → IsNet ts n
 unfolding net_of
 net_is ts d n e =
     let entry = bind_ok (table d key.Net 0) _ n e in
-    let keys = bind_ok (known (codes "stream" ∷ codes "event" ∷ codes "receive" ∷ []) entry.0 key.Net 0) _ n
-    entry.2 in
+    let keys = bind_ok (known (codes "stream" ∷ codes "event" ∷ codes "receive" ∷ []) entry.0 key.Net 0) _ n entry.2 in
     let name = bind_ok (stream entry.0) _ n keys.2 in
     let schedule = bind_ok (events_of ts entry.0) _ n name.2 in
     let receiving = bind_ok (receive ts entry.0) _ n schedule.2 in
@@ -76,8 +66,7 @@ net_is ts d n e =
     let count = entries_count (event_after ts) items.0 [] schedule.0 items.2 in
     let few = array_or_none_range (get_member (codes "event") entry.0) key.Event 0 10000 items.0 items.1 in
     let read : NetPlan = record { stream = name.0; events = schedule.0; receive = receiving.0 } in
-    subst (IsNet ts) {x = read} (ok_same read n receiving.2)
-    (record {
+    subst (IsNet ts) {x = read} (ok_same read n receiving.2) (record {
       some = long.0;
       name = long.1;
       most = omega (arith, count, few);
@@ -90,17 +79,7 @@ net_is ts d n e =
 
 plan_net : (root : Members) (p : Plan) → plan root ≡ Ok p → HasSoundNet p
 unfolding plan
-plan_net root p e =
-    let keys = bind_ok (known (codes "start" ∷ codes "max_delay" ∷ codes "transmitter" ∷ codes "net" ∷ []) root
-    key.Whole 0) _ p e in
-    let start = bind_ok (whole (get_member (codes "start") root) key.Start 0 0 9999999) _ p keys.2 in
-    let most = bind_ok (whole (get_member (codes "max_delay") root) key.MaxDelay 0 0 9999999) _ p start.2 in
-    let items = bind_ok (array (get_member (codes "transmitter") root) key.Transmitter 0 1 1020) _ p most.2 in
-    let ts = bind_ok (entries transmitter [] items.0) _ p items.2 in
-    let network = bind_ok (net ts.0 root) _ p ts.2 in
-    let read : Plan = record { start = start.0; max_delay = most.0; transmitters = ts.0; net = network.0 } in
-    subst HasSoundNet {x = read} (ok_same read p network.2)
-    (optional_is (IsNet ts.0) (net_of ts.0) (net_is ts.0) (get_member (codes "net") root) network.0 network.1)
+plan_net root p e = grind (arith, bind_ok, ok_same, optional_is, net_is)
 
 pub answer_sound : (bytes : List ℕ) (answer : Result Plan PlanFault) → IsAnswer (plan_of bytes) answer
     → IfOk answer IsSound
@@ -116,9 +95,7 @@ answer_net bytes (Err fault) is = tt
 
 changes_are : (root : Members) (ds : List Damage) → changes root ≡ Ok ds → AreDamages ds
 unfolding changes
-changes_are root ds e =
-    let keys = bind_ok (known (codes "damage" ∷ []) root key.Whole 0) (λ u. damage_of root) ds e in
-    damages_are root ds keys.2
+changes_are root ds e = grind (arith, bind_ok, damages_are)
 
 pub answer_damages : (bytes : List ℕ) (answer : Result (List Damage) PlanFault) → IsAnswer (changes_of bytes) answer
     → IfOk answer AreDamages

@@ -1,24 +1,23 @@
 -- What the walk over a plan leaves: the numbers of each row in their range, and addresses that differ.
-use Rattle.std.proofs.Common.{◌≡◌, ℕ, ℤ, pos, negsuc, ◌+◌, ◌≤◌, ◌&&◌, nat_eq, Bool, true, false, cond, Option, Some}
-use Rattle.std.proofs.Common.{None, Result, Ok, Err, All, List, [], ◌∷◌, ◌++◌, length, refl, ap, subst, arith}
-use Rattle.std.specs.Prelude.{codes, nat_le, int_le, FitsSigned, ◌≤ℤ◌}
+use Rattle.std.proofs.Common.{◌≡◌, ℕ, ℤ, pos, negsuc, ◌+◌, ◌≤◌, nat_eq, Bool, true, false, cond, Option, Some, None}
+use Rattle.std.proofs.Common.{Result, Ok, Err, All, List, [], ◌∷◌, ◌++◌, length, refl, ap, subst, arith}
+use Rattle.std.specs.Prelude.{codes, int_le, FitsSigned, ◌≤ℤ◌}
 use Rattle.std.specs.Int.{w16}
 use Rattle.std.specs.List.{IsDistinct}
 use Rattle.std.proofs.lemmas.Bool.{and_parts, leb-true}
 use Rattle.std.proofs.lemmas.Int.{ints}
 use Rattle.std.proofs.lemmas.List.{length-append}
 use Rattle.std.proofs.lemmas.List.Elements.{All-nil, All-push}
-use Rattle.toml.specs.Data.{Data, Items, no_items, item as item_of, Members, get_member, as_integer, as_array}
+use Rattle.toml.specs.Data.{Data, Items, no_items, item as item_of, Members, get_member}
 use Rattle.dtx_plan.specs.declared.key.PlanKey.{PlanKey}
 use Rattle.dtx_plan.specs.declared.key.PlanKey.TheVariants as key
-use Rattle.dtx_plan.specs.declared.rule.PlanRule.TheVariants.{Twice, Range}
 use Rattle.dtx_plan.specs.declared.rule.PlanRule.{PlanRule}
 use Rattle.dtx_plan.specs.declared.refusal.PlanNo.{PlanNo}
 use Rattle.dtx_plan.specs.declared.transmitter.Transmitter.{Transmitter}
 use Rattle.dtx_plan.specs.declared.plan.NetPlan.{NetPlan}
 use Rattle.dtx_plan.specs.declared.plan.Plan.{Plan}
 use Rattle.dtx_plan.specs.Rows.{◌>>=◌, refused, whole_of, whole_value, whole, whole_or, signed_of, signed_value, signed}
-use Rattle.dtx_plan.specs.Rows.{of_kind, table, known, count_of, numbered, array, array_or_none, entries}
+use Rattle.dtx_plan.specs.Rows.{table, known, count_of, array, array_or_none, entries}
 use Rattle.dtx_plan.specs.TransmitterTable.{addresses_of, has_address, once, transmitter}
 use Rattle.dtx_plan.specs.NetTable.{net}
 use Rattle.dtx_plan.specs.RootTable.{plan}
@@ -65,20 +64,12 @@ entries_count entry (item_of d ds) done xs e =
 
 whole_in : (z : ℤ) (k : PlanKey) (item least most n : ℕ) → whole_of z k item least most ≡ Ok n
     → (least ≤ n) × (n ≤ most)
-whole_in (pos m) k item least most n e =
-    let t = test_ok (nat_le least m && nat_le m most) m n k item _ e in
-    let s = and_parts (nat_le least m) (nat_le m most) t.0 in
-    let a = leb-true least m s.0 in
-    let b = leb-true m most s.1 in
-    let same = t.1 in
-    (omega arith, omega arith)
+whole_in (pos m) k item least most n e = grind (arith, test_ok, and_parts, leb-true)
 whole_in (negsuc m) k item least most n e = cc
 
 whole_value_in : (d : Data) (k : PlanKey) (item least most n : ℕ) → whole_value d k item least most ≡ Ok n
     → (least ≤ n) × (n ≤ most)
-whole_value_in d k item least most n e =
-    let a = bind_ok (of_kind (as_integer d) k item) (λ z. whole_of z k item least most) n e in
-    whole_in a.0 k item least most n a.2
+whole_value_in d k item least most n e = grind (arith, bind_ok, whole_in)
 
 pub whole_range : (found : Option Data) (k : PlanKey) (item least most n : ℕ) → whole found k item least most ≡ Ok n
     → (least ≤ n) × (n ≤ most)
@@ -95,16 +86,11 @@ int_le_is a b e = grind (arith, ints)
 
 signed_in : (z : ℤ) (k : PlanKey) (item : ℕ) (least most n : ℤ) → signed_of z k item least most ≡ Ok n
     → (least ≤ℤ n) × (n ≤ℤ most)
-signed_in z k item least most n e =
-    let t = test_ok (int_le least z && int_le z most) z n k item _ e in
-    let s = and_parts (int_le least z) (int_le z most) t.0 in
-    (subst (λ x. least ≤ℤ x) t.1 (int_le_is least z s.0), subst (λ x. x ≤ℤ most) t.1 (int_le_is z most s.1))
+signed_in z k item least most n e = grind (arith, test_ok, and_parts, int_le_is)
 
 signed_value_in : (d : Data) (k : PlanKey) (item : ℕ) (least most n : ℤ) → signed_value d k item least most ≡ Ok n
     → (least ≤ℤ n) × (n ≤ℤ most)
-signed_value_in d k item least most n e =
-    let a = bind_ok (of_kind (as_integer d) k item) (λ z. signed_of z k item least most) n e in
-    signed_in a.0 k item least most n a.2
+signed_value_in d k item least most n e = grind (arith, bind_ok, signed_in)
 
 pub signed_range : (found : Option Data) (k : PlanKey) (item : ℕ) (least most n : ℤ)
     → signed found k item least most ≡ Ok n → (least ≤ℤ n) × (n ≤ℤ most)
@@ -120,12 +106,7 @@ fits_16 (negsuc n) l m = record { sfits = omega (arith, ints) }
 
 once_is : (address : ℕ) (earlier : List Transmitter) (item : ℕ) (u : Unit {0}) → once address earlier item ≡ Ok u
     → has_address address earlier ≡ false
-once_is address earlier item u e = by_test (has_address address earlier) refl e
-  where
-    by_test : (b : Bool) → has_address address earlier ≡ b → cond b (refused key.Address item Twice) (Ok tt) ≡ Ok u
-        → has_address address earlier ≡ false
-    by_test true h e = cc
-    by_test false h e = h
+once_is address earlier item u e = grind arith
 
 -- the walk over an entry from each row on
 abbrev from_delay : List Transmitter → Members → ℕ → ℤ → Result Transmitter PlanNo
@@ -142,13 +123,11 @@ abbrev from_once : List Transmitter → Members → ℕ → Result Transmitter P
 from_once earlier entry address = once address earlier (length earlier) >>= λ u. from_offset earlier entry address
 
 abbrev from_address : List Transmitter → Members → Result Transmitter PlanNo
-from_address earlier entry =
-    whole (get_member (codes "address") entry) key.Address
+from_address earlier entry = whole (get_member (codes "address") entry) key.Address
     (length earlier) 0 65535 >>= λ address. from_once earlier entry address
 
 abbrev from_keys : List Transmitter → Members → Result Transmitter PlanNo
-from_keys earlier entry =
-    known (codes "address" ∷ codes "offset" ∷ codes "delay" ∷ []) entry key.Transmitter
+from_keys earlier entry = known (codes "address" ∷ codes "offset" ∷ codes "delay" ∷ []) entry key.Transmitter
     (length earlier) >>= λ u. from_address earlier entry
 
 record IsNext (earlier : List Transmitter) (t : Transmitter) : Type 0 where
@@ -162,8 +141,7 @@ transmitter_is earlier d t e =
     let entry = bind_ok (table d key.Transmitter (length earlier)) (from_keys earlier) t e in
     let keys = bind_ok (known (codes "address" ∷ codes "offset" ∷ codes "delay" ∷ []) entry.0 key.Transmitter
     (length earlier)) (λ u. from_address earlier entry.0) t entry.2 in
-    let address =
-    bind_ok (whole (get_member (codes "address") entry.0) key.Address (length earlier) 0 65535)
+    let address = bind_ok (whole (get_member (codes "address") entry.0) key.Address (length earlier) 0 65535)
     (from_once earlier entry.0) t keys.2 in
     let first = bind_ok (once address.0 earlier (length earlier))
     (λ u. from_offset earlier entry.0 address.0) t address.2 in
@@ -178,11 +156,7 @@ transmitter_is earlier d t e =
     let l = whole_or_range 0 (get_member (codes "delay") entry.0) key.Delay (length earlier) 0 4294967295 delay.0
     (omega arith) (omega arith) delay.1 in
     let read : Transmitter = record { address = address.0; offset = offset.0; delay = delay.0 } in
-    subst (IsNext earlier) {x = read} (ok_same read t delay.2)
-    (record {
-      numbers = record { address = omega (arith, a.1); offset = fits_16 offset.0 o.0 o.1; delay = omega (arith, l.1) };
-      once = once_is address.0 earlier (length earlier) first.0 first.1;
-    })
+    subst (IsNext earlier) {x = read} (ok_same read t delay.2) (grind (arith, fits_16, once_is))
 
 -- ---- all transmitters
 
@@ -204,14 +178,7 @@ all_read items ts e =
 pub array_range : (found : Option Data) (k : PlanKey) (item least most : ℕ) (ds : Items)
     → array found k item least most ≡ Ok ds → (least ≤ count_of ds) × (count_of ds ≤ most)
 array_range None k item least most ds e = cc
-array_range (Some d) k item least most ds e =
-    let a = bind_ok (of_kind (as_array d) k item) (λ x. numbered x k item least most) ds e in
-    let t = test_ok (nat_le least (count_of a.0) && nat_le (count_of a.0) most) a.0 ds k item Range a.2 in
-    let s = and_parts (nat_le least (count_of a.0)) (nat_le (count_of a.0) most) t.0 in
-    let same = ap count_of t.1 in
-    let l = leb-true least (count_of a.0) s.0 in
-    let m = leb-true (count_of a.0) most s.1 in
-    (omega (arith, same, l), omega (arith, same, m))
+array_range (Some d) k item least most ds e = grind (arith, bind_ok, test_ok, and_parts, leb-true)
 
 pub array_or_none_range : (found : Option Data) (k : PlanKey) (item most : ℕ) (ds : Items)
     → array_or_none found k item most ≡ Ok ds → count_of ds ≤ most
@@ -270,19 +237,7 @@ root_read root p e =
     let r = all_read items.0 ts.0 ts.1 in
     let count = entries_count transmitter items.0 [] ts.0 ts.1 in
     let read : Plan = made start.0 most.0 ts.0 network.0 in
-    subst IsRead {x = read} (ok_same read p network.2)
-    (record {
-      sound = record {
-        start = omega (arith, a.1);
-        max_delay = omega (arith, b.1);
-        transmitters = record {
-          some = omega (arith, count, c.0);
-          most = omega (arith, count, c.1);
-          distinct = r.distinct;
-        };
-      };
-      each = r.each;
-    })
+    subst IsRead {x = read} (ok_same read p network.2) (grind arith)
 
 plan_read : (bytes : List ℕ) (p : Plan) → plan_of bytes ≡ Ok p → IsRead p
 plan_read bytes p e = let root = bind_ok (root_of bytes) plan p e in root_read root.0 p root.2

@@ -4,7 +4,6 @@ use Rattle.std.proofs.Common.{length, refl, sym, ap, ◌∙◌, subst, arith, op
 use Rattle.std.specs.Option.{is_some, unwrap_or}
 use Rattle.std.proofs.lemmas.Bool.{true≢false}
 use Rattle.std.proofs.lemmas.List.{length-append, length_push}
-use Rattle.std.specs.Prelude.{option_to_list}
 use Rattle.dtx_frame.specs.Detection.{looks_like}
 use Rattle.dtx_receiver.specs.declared.batch.Received.{Received}
 use Rattle.dtx_receiver.specs.declared.tracking.Tracking.TheVariants.{Searching, Began, Sync, Data, Ended}
@@ -27,11 +26,7 @@ place_seen {D} e f = ap (λ (r : Kept D). r.place) (sym e) ∙ f
 
 none_on : {D : Type 0} (Holds : D → List (List ℤ) → Type 0) (p : Option ℕ) (d : D) (s : List (List ℤ))
     → HasRun Holds p d s → p ≡ None → (tracked s).run ≡ None
-none_on Holds p d s h e = by_cases (tracked s).run (sym h.place ∙ e)
-  where
-    by_cases : (o : Option (List (List ℤ))) → option_map (λ (run : List (List ℤ)). length run % 313) o ≡ None → o ≡ None
-    by_cases None e = refl
-    by_cases (Some run) e = absurd (true≢false (ap is_some e))
+none_on Holds p d s h e = grind (arith, true≢false)
 
 record On {D : Type 0} (Holds : D → List (List ℤ) → Type 0) (d : D) (s : List (List ℤ)) (place : ℕ) : Type 0 where
   run : List (List ℤ)
@@ -55,17 +50,11 @@ some_on {D} Holds p d s place h e = by_cases (tracked s).run refl h.run (sym h.p
 
 stands_none : {D : Type 0} (Holds : D → List (List ℤ) → Type 0) (p : Option ℕ) (d : D) (s : List (List ℤ))
     → (tracked s).run ≡ None → p ≡ None → HasRun Holds p d s
-stands_none Holds p d s e f = record {
-  place = f ∙ ap (option_map (λ run. length run % 313)) (sym e);
-  run = subst (λ (o : Option (List (List ℤ))). IfSome o (λ run. Holds d run)) (sym e) tt;
-}
+stands_none Holds p d s e f = grind arith
 
 stands_some : {D : Type 0} (Holds : D → List (List ℤ) → Type 0) (p : Option ℕ) (d : D) (s : List (List ℤ))
     (run : List (List ℤ)) → (tracked s).run ≡ Some run → p ≡ Some (length run % 313) → Holds d run → HasRun Holds p d s
-stands_some Holds p d s run e f h = record {
-  place = f ∙ ap (option_map (λ run. length run % 313)) (sym e);
-  run = subst (λ (o : Option (List (List ℤ))). IfSome o (λ run. Holds d run)) (sym e) h;
-}
+stands_some Holds p d s run e f h = grind arith
 
 -- before the first segment
 pub stands_new : {D : Type 0} (Holds : D → List (List ℤ) → Type 0) (p : Option ℕ) (d : D) → p ≡ None
@@ -107,10 +96,7 @@ step_began {D} {Holds} {whole} {early} {given} w s x p q d new brought h n l b f
 
 next_place : (run : List (List ℤ)) (x : List ℤ) (p : ℕ) → length run % 313 ≡ p
     → (p + 1) % 313 ≡ length (run ++ x ∷ []) % 313
-next_place run x p e = by_length (length run) e ∙ ap (λ n. n % 313) (sym (length_push run x))
-  where
-    by_length : (n : ℕ) → n % 313 ≡ p → (p + 1) % 313 ≡ (n + 1) % 313
-    by_length n e = omega (arith, e)
+next_place run x p e = grind (arith, length_push)
 
 pub step_sync : {D : Type 0} {Holds : D → List (List ℤ) → Type 0} {whole early given all : Packets}
     (w : IsDecoder Holds whole early given all) (s : List (List ℤ)) (x : List ℤ) (p q : Option ℕ) (d : D)
@@ -156,12 +142,11 @@ pub step_data : {D : Type 0} {Holds : D → List (List ℤ) → Type 0} {whole e
 step_data {D} {Holds} {whole} {early} w s x p q d new place brought h e z f k =
     let o : On Holds d s place = some_on Holds p d s place h e in
     let t = data_came s x o.run o.is (λ i. z (sym o.place_is ∙ i)) in
-    let c : AreCarried Holds early (x ∷ []) new o.run brought = k o.run o.holds o.place_is in
     record {
       told = t.1;
       stands = stands_some Holds q new (s ++ x ∷ []) (o.run ++ x ∷ []) (ap (λ (u : Tracked). u.run) t.0)
-          (f ∙ ap Some (next_place o.run x place o.place_is)) c.holds;
-      packets = given_on w.packets s x o.run (o.run ++ x ∷ []) brought o.is t.0 c.packets;
+          (f ∙ ap Some (next_place o.run x place o.place_is)) (k o.run o.holds o.place_is).holds;
+      packets = given_on w.packets s x o.run (o.run ++ x ∷ []) brought o.is t.0 (k o.run o.holds o.place_is).packets;
     }
 
 -- ---- the end of the list
@@ -169,26 +154,20 @@ step_data {D} {Holds} {whole} {early} w s x p q d new place brought h e z f k =
 pub finish_none : {D : Type 0} {Holds : D → List (List ℤ) → Type 0} {whole early given all : Packets}
     (w : IsDecoder Holds whole early given all) (s : List (List ℤ)) (p : Option ℕ) (d : D) (brought : List Received)
     → HasRun Holds p d s → p ≡ None → brought ≡ [] → all s ≡ given s ++ brought
-finish_none {D} {Holds} {whole} {early} {given} w s p d brought h n b =
-    all_none w.packets s (none_on Holds p d s h n) ∙ ap (λ xs. given s ++ xs) (sym b)
+finish_none {D} {Holds} {whole} {early} {given} w s p d brought h n b = grind (arith, all_none, none_on)
 
 pub finish_some : {D : Type 0} {Holds : D → List (List ℤ) → Type 0} {whole early given all : Packets}
     (w : IsDecoder Holds whole early given all) (s : List (List ℤ)) (p : Option ℕ) (d : D) (place : ℕ)
     (brought : List Received) → HasRun Holds p d s → p ≡ Some place
     → ((run : List (List ℤ)) → Holds d run → whole run ≡ early run ++ brought) → all s ≡ given s ++ brought
-finish_some {D} {Holds} w s p d place brought h e k =
-    let o : On Holds d s place = some_on Holds p d s place h e in
-    all_run w.packets s o.run brought o.is (k o.run o.holds)
+finish_some {D} {Holds} w s p d place brought h e k = grind (arith, some_on, all_run)
 
 -- ---- data segments, one behind the other
 
 same_runs : (s more run new : List (List ℤ)) → (tracked s).run ≡ Some run
     → tracked more ≡ record { ended = (tracked s).ended; run = Some new } → length (runs more) ≡ length (runs s) + 0
 unfolding runs
-same_runs s more run new e f =
-    ap (λ (t : Tracked). length (t.ended ++ option_to_list t.run)) f
-    ∙ omega (arith, length_push (tracked s).ended new, length_push (tracked s).ended run)
-    ∙ ap (λ (o : Option (List (List ℤ))). length ((tracked s).ended ++ option_to_list o) + 0) (sym e)
+same_runs s more run new e f = grind (arith, length_push)
 
 pub step_all : {D : Type 0} {Holds : D → List (List ℤ) → Type 0} {whole early given all : Packets}
     (w : IsDecoder Holds whole early given all) (s xs : List (List ℤ)) (p q : Option ℕ) (d new : D)

@@ -78,38 +78,25 @@ all_early s = filter-range_all (is_complete (207 * s)) 0 (s - 52) (λ k l m. tol
 
 pub complete_parts : (s : ℕ) → filter (is_complete (207 * s)) (range_with_len 0 s) ≡ range_with_len 0 (s - 52)
     ++ filter (is_complete (207 * s)) (range_with_len (s - 52) (s - (s - 52)))
-complete_parts s =
-    let e : s - 52 + (s - (s - 52)) ≡ s = omega arith in
-    let z : 0 + (s - 52) ≡ s - 52 = omega arith in
-    ap (λ n. filter (is_complete (207 * s)) (range_with_len 0 n)) (sym e)
+complete_parts s = ap (λ n. filter (is_complete (207 * s)) (range_with_len 0 n)) (sym (omega arith))
     ∙ ap (filter (is_complete (207 * s))) (range_with_len-parts 0 (s - 52) (s - (s - 52)))
     ∙ filter-append (is_complete (207 * s)) (range_with_len 0 (s - 52)) (range_with_len (0 + (s - 52)) (s - (s - 52)))
-    ∙ ap₂ (λ xs a. xs ++ filter (is_complete (207 * s)) (range_with_len a (s - (s - 52)))) (all_early s) z
+    ∙ ap₂ (λ xs a. xs ++ filter (is_complete (207 * s)) (range_with_len a (s - (s - 52)))) (all_early s) (omega arith)
 
 -- where a word becomes complete at the end, and where none does
 pub complete_last : (s : ℕ) → 52 ≤ s → s % 52 ≡ 0
     → filter (is_complete (207 * s)) (range_with_len (s - 52) (s - (s - 52))) ≡ (s - 52) ∷ []
 complete_last s l e =
+    let rest : List ℕ = filter (is_complete (207 * s)) (range_with_len (s - 52 + 1) 51) in
     let n : s - (s - 52) ≡ suc 51 = omega arith in
     ap (λ i. filter (is_complete (207 * s)) (range_with_len (s - 52) i)) n
     ∙ ap (λ b. cond b ((s - 52) ∷ rest) rest) (told_complete s (s - 52) (inr (omega arith, omega arith)))
     ∙ ap (λ xs. (s - 52) ∷ xs) (filter-range_none (is_complete (207 * s)) (s - 52 + 1) 51
-    (λ k a b. told_other s k (λ h. no k a h)))
-  where
-    rest : List ℕ
-    rest = filter (is_complete (207 * s)) (range_with_len (s - 52 + 1) 51)
-
-    no : (k : ℕ) → s - 52 + 1 ≤ k → (k + 53 ≤ s) ⊎ ((k + 52 ≡ s) × (k % 52 ≡ 0)) → ⊥
-    no k a (inl h) = omega arith
-    no k a (inr h) = omega (arith, h.0)
+    (λ k a b. told_other s k (λ h. elim h [
+      | inl h ↦ omega arith
+      | inr h ↦ omega (arith, h.0)
+    ])))
 
 pub complete_none : (s : ℕ) → (s < 52) ⊎ (s % 52 ≢ 0)
     → filter (is_complete (207 * s)) (range_with_len (s - 52) (s - (s - 52))) ≡ []
-complete_none s c =
-    filter-range_none (is_complete (207 * s)) (s - 52) (s - (s - 52)) (λ k a b. told_other s k (λ h. no c k a h))
-  where
-    no : (s < 52) ⊎ (s % 52 ≢ 0) → (k : ℕ) → s - 52 ≤ k → (k + 53 ≤ s) ⊎ ((k + 52 ≡ s) × (k % 52 ≡ 0)) → ⊥
-    no (inl l) k a (inl h) = omega arith
-    no (inl l) k a (inr h) = omega (arith, h.0)
-    no (inr n) k a (inl h) = omega arith
-    no (inr n) k a (inr h) = n (omega (arith, h.0, h.1))
+complete_none s c = grind (arith, filter-range_none, told_other)

@@ -1,19 +1,17 @@
 -- Runs and packets with one segment more, and at the end of a list.
 use Rattle.std.proofs.Common.{◌≡◌, ◌≢◌, ℕ, ℤ, ◌+◌, ◌*◌, ◌/◌, ◌%◌, ◌<◌, ◌⊎◌, Bool, true, false, Option, Some, None, List}
-use Rattle.std.proofs.Common.{[], ◌∷◌, ◌++◌, length, map, take, drop, refl, sym, ap, ap₂, ◌∙◌, append_assoc, inl, inr}
-use Rattle.std.proofs.Common.{arith}
+use Rattle.std.proofs.Common.{[], ◌∷◌, ◌++◌, length, take, drop, refl, sym, ap, ap₂, ◌∙◌, append_assoc, inl, inr, arith}
 use Rattle.std.specs.Prelude.{option_to_list}
-use Rattle.std.specs.List.{range_with_len}
 use Rattle.std.proofs.lemmas.Bool.{cases_eq}
 use Rattle.std.proofs.lemmas.List.{length-append, append-nil, length-take-le, length-drop, take-append-drop}
 use Rattle.std.proofs.lemmas.List.FromFn.{length-map-range_with_len}
 use Rattle.dtx_frame.specs.Detection.{looks_like}
 use Rattle.dtx_trellis.specs.Pairs.{group_place}
-use Rattle.dtx_slice.specs.Unrolled.{level_groups, byte_back, bytes_back, precoder_bits_after}
+use Rattle.dtx_slice.specs.Unrolled.{level_groups, bytes_back, precoder_bits_after}
 use Rattle.dtx_slice.proofs.JoinsLemmas.{bytes_append}
 use Rattle.dtx_receiver.specs.declared.batch.Received.{Received}
 use Rattle.dtx_receiver.specs.declared.tracking.Tracking.{Tracking}
-use Rattle.dtx_receiver.specs.declared.tracking.Tracking.TheVariants.{Searching, Began, Sync, Data, Ended}
+use Rattle.dtx_receiver.specs.declared.tracking.Tracking.TheVariants.{Sync, Data, Ended}
 use Rattle.dtx_receiver.specs.Runs.{Tracked, tracked, runs, tracking, begun}
 use Rattle.dtx_receiver.specs.Bytes.{data_count, first_bits, levels_in, bytes_in}
 use Rattle.dtx_receiver.specs.Packets.{run_packets, early_of, all_packets, packets_so_far}
@@ -38,14 +36,11 @@ nothing_given = refl
 runs_by : (s : List (List ℤ)) (t : Tracked) → tracked s ≡ t
     → length (runs s) ≡ length t.ended + length (option_to_list t.run)
 unfolding runs
-runs_by s t e =
-    ap (λ (u : Tracked). length (u.ended ++ option_to_list u.run)) e ∙ length-append t.ended (option_to_list t.run)
+runs_by s t e = grind (arith, length-append)
 
 runs_now : (s : List (List ℤ)) (o : Option (List (List ℤ))) → (tracked s).run ≡ o
     → length (runs s) ≡ length (tracked s).ended + length (option_to_list o)
-runs_now s o e =
-    runs_by s (tracked s) refl
-    ∙ ap (λ (p : Option (List (List ℤ))). length (tracked s).ended + length (option_to_list p)) e
+runs_now s o e = grind (arith, runs_by)
 
 told_runs : (s : List (List ℤ)) (x : List ℤ) (t : Tracking) → t ≡ tracking s x
     → length (runs (s ++ x ∷ [])) ≡ length (runs s) + begun t
@@ -60,10 +55,8 @@ runs_more s x = by_run (tracked s).run refl (looks_like x) refl
 
     by_run : (o : Option (List (List ℤ))) → (tracked s).run ≡ o → (b : Bool) → looks_like x ≡ b
         → length (runs (s ++ x ∷ [])) ≡ length (runs s) + begun (tracking s x)
-    by_run None e false l = let t = searching s x e l in
-        told_runs s x Searching t.1 (runs_by (s ++ x ∷ []) _ t.0 ∙ omega (arith, runs_now s None e))
-    by_run None e true l = let t = began s x e l in
-        told_runs s x Began t.1 (runs_by (s ++ x ∷ []) _ t.0 ∙ omega (arith, runs_now s None e))
+    by_run None e false l = grind (arith, searching, told_runs, runs_by, runs_now)
+    by_run None e true l = grind (arith, began, told_runs, runs_by, runs_now)
     by_run (Some run) e b l = by_due (cases_eq (length run % 313) 0) b l
       where
         now : length (runs s) ≡ ended + 1
@@ -84,59 +77,33 @@ runs_more s x = by_run (tracked s).run refl (looks_like x) refl
 -- the bytes of levels are those of their whole groups
 long_back : (s : ℕ) (f levels : List ℕ) → length (bytes_back s f levels) ≡ 207 * (4 * level_groups levels)
 unfolding bytes_back
-long_back s f levels =
-    length-map-range_with_len (byte_back s f levels) 0 (828 * level_groups levels) ∙ blocks (level_groups levels)
-  where
-    blocks : (g : ℕ) → 828 * g ≡ 207 * (4 * g)
-    blocks g = omega arith
+long_back s f levels = grind (arith, length-map-range_with_len)
 
 none_back : (s : ℕ) (f levels : List ℕ) → length levels < 3312 → bytes_back s f levels ≡ []
 unfolding bytes_back level_groups
-none_back s f levels l = ap (λ g. map (byte_back s f levels) (range_with_len 0 (828 * g))) (none (length levels) l)
-  where
-    none : (n : ℕ) → n < 3312 → n / 3312 ≡ 0
-    none n l = omega arith
+none_back s f levels l = grind arith
 
 -- with levels more there may be bytes more
 bytes_front : (f y z : List ℕ) → (more : List ℕ) × (h : ℕ) × (length more ≡ 207 * (4 * h))
     × (bytes_back 0 f (y ++ z) ≡ bytes_back 0 f y ++ more)
-bytes_front f y z = (
-  bytes_back (group_place 0 u) new (rest ++ z),
-  level_groups (rest ++ z),
-  long_back (group_place 0 u) new (rest ++ z),
-  there,
-)
-  where
-    u : ℕ
-    u = length y / 3312
-
-    front : List ℕ
-    front = take (3312 * (length y / 3312)) y
-
-    rest : List ℕ
-    rest = drop (3312 * (length y / 3312)) y
-
-    new : List ℕ
-    new = precoder_bits_after 0 f front
-
-    parts : front ++ rest ≡ y
-    parts = take-append-drop (3312 * u) y
-
-    long : length front ≡ 3312 * u
-    long = length-take-le (3312 * u) y (omega arith)
-
-    own : bytes_back 0 f y ≡ bytes_back 0 f front
-    own =
-        ap (bytes_back 0 f) (sym parts) ∙ bytes_append 0 u f front rest long
-        ∙ ap (λ xs. bytes_back 0 f front ++ xs) (none_back (group_place 0 u) new rest
-        (omega (arith, length-drop (3312 * u) y)))
-        ∙ append-nil (bytes_back 0 f front)
-
-    there : bytes_back 0 f (y ++ z) ≡ bytes_back 0 f y ++ bytes_back (group_place 0 u) new (rest ++ z)
-    there =
-        ap (λ xs. bytes_back 0 f (xs ++ z)) (sym parts) ∙ ap (bytes_back 0 f) (append_assoc front rest z)
-        ∙ bytes_append 0 u f front (rest ++ z) long
-        ∙ ap (λ xs. xs ++ bytes_back (group_place 0 u) new (rest ++ z)) (sym own)
+bytes_front f y z =
+    let u : ℕ = length y / 3312 in
+    let front : List ℕ = take (3312 * (length y / 3312)) y in
+    let rest : List ℕ = drop (3312 * (length y / 3312)) y in
+    let new : List ℕ = precoder_bits_after 0 f front in
+    let parts : front ++ rest ≡ y = take-append-drop (3312 * u) y in
+    let long : length front ≡ 3312 * u = length-take-le (3312 * u) y (omega arith) in
+    let there : bytes_back 0 f (y ++ z) ≡ bytes_back 0 f y ++ bytes_back (group_place 0 u) new (rest ++ z) =
+    ap (λ xs. bytes_back 0 f (xs ++ z)) (sym parts) ∙ ap (bytes_back 0 f) (append_assoc front rest z)
+    ∙ bytes_append 0 u f front (rest ++ z) long ∙ ap (λ xs. xs ++ bytes_back (group_place 0 u) new (rest ++ z))
+    (sym (ap (bytes_back 0 f) (sym parts) ∙ bytes_append 0 u f front rest long ∙ ap (λ xs. bytes_back 0 f front ++ xs)
+    (none_back (group_place 0 u) new rest (omega (arith, length-drop (3312 * u) y)))
+    ∙ append-nil (bytes_back 0 f front))) in (
+      bytes_back (group_place 0 u) new (rest ++ z),
+      level_groups (rest ++ z),
+      long_back (group_place 0 u) new (rest ++ z),
+      there,
+    )
 
 pub bytes_count : (run : List (List ℤ)) → length (bytes_in run) ≡ 207 * (4 * level_groups (levels_in run))
 unfolding bytes_in

@@ -1,7 +1,7 @@
 -- The packets of a run by how many data segments are in whole groups: those that are given while it is on, and the last
 -- one.
 use Rattle.std.proofs.Common.{◌≡◌, ◌≢◌, ℕ, ◌+◌, ◌-◌, ◌*◌, ◌/◌, ◌%◌, ◌<◌, ◌≤◌, ◌⊎◌, List, [], ◌∷◌, ◌++◌, map, length}
-use Rattle.std.proofs.Common.{take, drop, refl, sym, ap, ap₂, ◌∙◌, subst, inl, inr, arith, lit<}
+use Rattle.std.proofs.Common.{take, drop, refl, sym, ap, ap₂, ◌∙◌, inl, inr, arith, lit<}
 use Rattle.std.specs.List.{filter, range_with_len}
 use Rattle.std.proofs.lemmas.Bool.{cases_eq, cases_lt}
 use Rattle.std.proofs.lemmas.List.{length-append, append-nil, map-append, append_assoc, length-take-le}
@@ -28,26 +28,18 @@ early_count at n s e = ap (λ m. map at (range_with_len 0 (m - 52))) (ap (λ m. 
 pub early_grown : (at new : ℕ → Received) (c d s n : ℕ) → c ≡ 207 * s → d ≡ 207 * (s + n)
     → ((k : ℕ) → IsComplete 207 52 4 (207 * s) k → new k ≡ at k)
     → early_by new d ≡ early_by at c ++ map new (range_with_len (s - 52) (s + n - 52 - (s - 52)))
-early_grown at new c d s n e f same =
-    early_count new d (s + n) f
-    ∙ ap (λ m. map new (range_with_len 0 m)) (omega arith)
+early_grown at new c d s n e f same = early_count new d (s + n) f ∙ ap (λ m. map new (range_with_len 0 m)) (omega arith)
     ∙ ap (map new) (range_with_len-parts 0 (s - 52) (s + n - 52 - (s - 52)))
     ∙ map-append new (range_with_len 0 (s - 52)) (range_with_len (0 + (s - 52)) (s + n - 52 - (s - 52)))
     ∙ ap₂ (λ (xs : List Received) (a : ℕ). xs ++ map new (range_with_len a (s + n - 52 - (s - 52))))
-    (map-range_same new at 0 (s - 52) (λ k a b. same k (complete_all s k (inl (omega (arith, b)))))
-    ∙ sym (early_count at c s e)) (omega arith)
+    (map-range_same new at 0 (s - 52) (λ k a b. grind (arith, complete_all)) ∙ sym (early_count at c s e)) (omega arith)
 
 -- at the end, whatever is left comes behind those
 abbrev pub left_by : (ℕ → Received) → ℕ → List Received
 left_by at s = map at (filter (is_complete (207 * s)) (range_with_len (s - 52) (s - (s - 52))))
 
 pub ends_more : (at : ℕ → Received) (n s : ℕ) → n ≡ 207 * s → packets_by at n ≡ early_by at n ++ left_by at s
-ends_more at n s e =
-    ap₂ (λ c m. map at (filter (is_complete c) (range_with_len 0 m))) e (ap (λ m. m / 207) e ∙ numbers s)
-    ∙ ap (map at) (complete_parts s)
-    ∙ map-append at (range_with_len 0 (s - 52)) (filter (is_complete (207 * s)) (range_with_len (s - 52)
-    (s - (s - 52))))
-    ∙ ap (λ xs. xs ++ left_by at s) (sym (early_count at n s e))
+ends_more at n s e = grind (arith, numbers, complete_parts, map-append, early_count)
 
 -- nothing, or one packet
 pub ends_none : (at : ℕ → Received) (n s : ℕ) → n ≡ 207 * s → (s < 52) ⊎ (s % 52 ≢ 0)
@@ -80,8 +72,7 @@ next_of bytes s n = next_in 207 52 4 received_word bytes s n
 
 pub early_more : (bytes more : List ℕ) (s n : ℕ) → length bytes ≡ 207 * s → length more ≡ 207 * n
     → early_of (bytes ++ more) ≡ early_of bytes ++ next_of (bytes ++ more) s n
-early_more bytes more s n e f =
-    sym (early_made (bytes ++ more))
+early_more bytes more s n e f = sym (early_made (bytes ++ more))
     ∙ made_more 207 52 4 received_word bytes more s n (lit< tt) (lit< tt) (omega (arith, e))
     (omega (arith, e, f, length-append bytes more))
     ∙ ap (λ xs. xs ++ next_of (bytes ++ more) s n) (early_made bytes)
@@ -89,16 +80,14 @@ early_more bytes more s n e f =
 -- with 207 bytes more: no packet, while a run is short, and then packet s - 52
 pub early_short : (bytes more : List ℕ) (s : ℕ) → length bytes ≡ 207 * s → length more ≡ 207 → s < 52
     → early_of (bytes ++ more) ≡ early_of bytes
-early_short bytes more s e f l =
-    sym (early_made (bytes ++ more))
+early_short bytes more s e f l = sym (early_made (bytes ++ more))
     ∙ made_none 207 52 4 received_word bytes more s (lit< tt) (lit< tt) e f (omega (arith, l, waiting_air))
     ∙ early_made bytes
 
 pub early_next : (bytes more : List ℕ) (s : ℕ) → length bytes ≡ 207 * s → length more ≡ 207 → 52 ≤ s
     → early_of (bytes ++ more) ≡ early_of bytes ++ received_at (bytes ++ more) (s - 52) ∷ []
 unfolding received_at
-early_next bytes more s e f l =
-    sym (early_made (bytes ++ more))
+early_next bytes more s e f l = sym (early_made (bytes ++ more))
     ∙ made_next 207 52 4 received_word bytes more s (lit< tt) (lit< tt) e f (omega (arith, l, waiting_air))
     ∙ ap (λ xs. xs ++ at (s - waiting 207 52 4) ∷ []) (early_made bytes)
     ∙ ap (λ w. early_of bytes ++ at (s - w) ∷ []) waiting_air
@@ -121,13 +110,10 @@ pub end_one : (bytes more : List ℕ) (s : ℕ) → length bytes ≡ 207 * s →
     → run_packets bytes ≡ early_of (bytes ++ more)
 unfolding run_packets early_of
 end_one bytes more s e f l z =
+    let there : IsComplete 207 52 4 (length bytes) (s - 52) = grind (arith, complete_all) in
     ends_one (received_at bytes) (length bytes) s e l z
     ∙ ap (λ (r : Received). early_of bytes ++ r ∷ []) (sym (stays bytes more (s - 52) there))
     ∙ sym (early_next bytes more s e f l)
-  where
-    there : IsComplete 207 52 4 (length bytes) (s - 52)
-    there = subst (λ (n : ℕ). IsComplete 207 52 4 n (s - 52)) (sym e)
-        (complete_all s (s - 52) (inr (omega arith, omega arith)))
 
 pub early_nothing : early_of [] ≡ []
 unfolding early_of
@@ -136,11 +122,10 @@ early_nothing = refl
 -- the end of a run whose data segments are a multiple of 52, and of any other
 pub end_turn : (bytes more : List ℕ) (s : ℕ) → length bytes ≡ 207 * s → length more ≡ 207 → s % 52 ≡ 0
     → run_packets bytes ≡ early_of (bytes ++ more)
-end_turn bytes more s e f z = by_cases (cases_lt s 52)
-  where
-    by_cases : (s < 52) ⊎ (52 ≤ s) → run_packets bytes ≡ early_of (bytes ++ more)
-    by_cases (inl few) = end_none bytes s e (inl few) ∙ sym (early_short bytes more s e f few)
-    by_cases (inr many) = end_one bytes more s e f many z
+end_turn bytes more s e f z = elim (cases_lt s 52) [
+  | inl few ↦ end_none bytes s e (inl few) ∙ sym (early_short bytes more s e f few)
+  | inr many ↦ end_one bytes more s e f many z
+]
 
 -- the packets of a run stay, whatever bytes come behind it
 packets_stay : (bytes more : List ℕ) (s n : ℕ) → length bytes ≡ 207 * s → length more ≡ 207 * n
@@ -153,8 +138,7 @@ packets_stay bytes more s n e f before rest m is long within same =
     let next : List Received = next_of (before ++ rest) m (s + n - m) in (
       next ++ left_by (received_at (bytes ++ more)) (s + n),
       end_more (bytes ++ more) (s + n) whole
-          ∙ ap (λ xs. xs ++ left_by (received_at (bytes ++ more)) (s + n)) (ap early_of (sym is)
-          ∙ early_more before rest m (s + n - m) long left ∙ ap (λ xs. xs ++ next) (sym same))
+          ∙ ap (λ xs. xs ++ left_by (received_at (bytes ++ more)) (s + n)) (grind (arith, early_more))
           ∙ append_assoc (run_packets bytes) next (left_by (received_at (bytes ++ more)) (s + n)),
     )
 
@@ -170,8 +154,5 @@ packets_more bytes more s n e f = by_turn (cases_eq (s % 52) 0) (cases_lt 0 n)
         packets_stay bytes more s n e f (bytes ++ first) (drop 207 more) (s + 1)
         (append_assoc bytes first (drop 207 more) ∙ ap (λ xs. bytes ++ xs) (take-append-drop 207 more))
         (length-append bytes first ∙ omega (arith, e, long)) (omega (arith, some)) (end_turn bytes first s e long z)
-    by_turn (inl z) (inr none) =
-        let nothing : more ≡ [] = nil_from_length more (omega (arith, f, none)) in
-        ([], ap run_packets (ap (λ xs. bytes ++ xs) nothing ∙ append-nil bytes) ∙ sym (append-nil (run_packets bytes)))
-    by_turn (inr z) any =
-        packets_stay bytes more s n e f bytes more s refl e (omega arith) (end_none bytes s e (inr z))
+    by_turn (inl z) (inr none) = grind (arith, nil_from_length, append-nil)
+    by_turn (inr z) any = packets_stay bytes more s n e f bytes more s refl e (omega arith) (end_none bytes s e (inr z))

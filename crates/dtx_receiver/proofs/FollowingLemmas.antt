@@ -11,8 +11,7 @@ use Rattle.dtx_receiver.specs.Runs.{sync_due, Tracked, followed, tracked, tracki
 pub tracked_push : (s : List (List ℤ)) (x : List ℤ)
     → tracked (s ++ x ∷ []) ≡ followed (tracked s).ended (tracked s).run x
 unfolding tracked
-tracked_push s x =
-    fold_push (λ (t : Tracked) (y : List ℤ). followed t.ended t.run y) (record { ended = []; run = None }) s x
+tracked_push s x = grind (arith, fold_push)
 
 pub next_is : (s : List (List ℤ)) (x : List ℤ) (o : Option (List (List ℤ))) → (tracked s).run ≡ o
     → tracked (s ++ x ∷ []) ≡ followed (tracked s).ended o x
@@ -60,14 +59,12 @@ by_tests : (s : List (List ℤ)) (x : List ℤ) (run : List (List ℤ)) (d l : B
     → sync_due run ≡ d → looks_like x ≡ l
     → tracked (s ++ x ∷ []) ≡ cond d (cond l (goes_on (tracked s).ended run x) (ends (tracked s).ended run))
     (goes_on (tracked s).ended run x)
-by_tests s x run d l e f g =
-    next_is s x (Some run) e
+by_tests s x run d l e f g = next_is s x (Some run) e
     ∙ ap₂ (λ (a b : Bool). cond a (cond b (goes_on (tracked s).ended run x) (ends (tracked s).ended run))
     (goes_on (tracked s).ended run x)) f g
 
 answer_by : (s : List (List ℤ)) (x : List ℤ) (run : List (List ℤ)) (d l : Bool) → (tracked s).run ≡ Some run
-    → sync_due run ≡ d → looks_like x ≡ l
-    → tracking s x ≡ cond d (cond l Sync Ended) Data
+    → sync_due run ≡ d → looks_like x ≡ l → tracking s x ≡ cond d (cond l Sync Ended) Data
 unfolding tracking
 answer_by s x run d l e f g = ap₂ tracking_of e g ∙ ap (λ (b : Bool). cond b (cond l Sync Ended) Data) f
 
@@ -84,8 +81,7 @@ ended_there s x run e z l =
     (by_tests s x run true false e (due run z) l, sym (answer_by s x run true false e (due run z) l))
 
 pub data_came : (s : List (List ℤ)) (x : List ℤ) (run : List (List ℤ)) → (tracked s).run ≡ Some run
-    → length run % 313 ≢ 0
-    → (tracked (s ++ x ∷ []) ≡ goes_on (tracked s).ended run x) × (Data ≡ tracking s x)
+    → length run % 313 ≢ 0 → (tracked (s ++ x ∷ []) ≡ goes_on (tracked s).ended run x) × (Data ≡ tracking s x)
 data_came s x run e n = (by_looks (looks_like x) refl, by_looks_too (looks_like x) refl)
   where
     by_looks : (l : Bool) → looks_like x ≡ l → tracked (s ++ x ∷ []) ≡ goes_on (tracked s).ended run x
@@ -100,9 +96,7 @@ data_came s x run e n = (by_looks (looks_like x) refl, by_looks_too (looks_like 
 pub data_all : (xs s run : List (List ℤ)) → (tracked s).run ≡ Some run → (0 < length xs → length run % 313 ≢ 0)
     → length run % 313 + length xs ≤ 313
     → tracked (s ++ xs) ≡ record { ended = (tracked s).ended; run = Some (run ++ xs) }
-data_all [] s run e n l =
-    ap tracked (append-nil s) ∙ ap (λ (o : Option (List (List ℤ))). record { ended = (tracked s).ended; run = o }) e
-    ∙ ap (λ r. record { ended = (tracked s).ended; run = Some r }) (sym (append-nil run))
+data_all [] s run e n l = grind (arith, append-nil)
 data_all (x ∷ xs) s run e n l =
     let t = (data_came s x run e (n (omega arith))).0 in
     ap tracked (sym (append_assoc s (x ∷ []) xs))

@@ -1,5 +1,5 @@
 -- What is given of runs with one segment more, whichever packets a run gives.
-use Rattle.std.proofs.Common.{◌≡◌, ℤ, Option, Some, None, List, [], ◌∷◌, ◌++◌, refl, sym, ap, ◌∙◌, append_assoc}
+use Rattle.std.proofs.Common.{◌≡◌, ℤ, Option, Some, None, List, [], ◌∷◌, ◌++◌, refl, sym, ap, ◌∙◌, append_assoc, arith}
 use Rattle.std.specs.Prelude.{option_to_list}
 use Rattle.std.specs.List.{flat_map}
 use Rattle.std.proofs.lemmas.List.{append-nil}
@@ -19,11 +19,7 @@ Packets = List (List ℤ) → List Received
 pub received_given : AreGiven (λ run. run_packets (bytes_in run)) (λ run. early_of (bytes_in run)) packets_so_far
     all_packets
 unfolding packets_so_far all_packets
-received_given = record {
-  first = λ x. ap early_of (first_bytes x) ∙ early_nothing;
-  so_far = λ s. refl;
-  ended = λ s. refl;
-}
+received_given = grind (arith, first_bytes, early_nothing)
 
 given_with : Packets → Packets → List (List (List ℤ)) → Option (List (List ℤ)) → List Received
 given_with whole early ended o = flat_map whole ended ++ flat_map early (option_to_list o)
@@ -44,17 +40,12 @@ unfolding given_with
 none_is whole early ended = append-nil (flat_map whole ended)
 
 given_run : {whole early given all : Packets} (g : AreGiven whole early given all) (s : List (List ℤ))
-    (run : List (List ℤ)) → (tracked s).run ≡ Some run
-    → given s ≡ flat_map whole (tracked s).ended ++ early run
-given_run {whole} {early} g s run e =
-    given_is g s (tracked s) refl ∙ ap (given_with whole early (tracked s).ended) e
-    ∙ some_is whole early (tracked s).ended run
+    (run : List (List ℤ)) → (tracked s).run ≡ Some run → given s ≡ flat_map whole (tracked s).ended ++ early run
+given_run {whole} {early} g s run e = rw (given_is g s (tracked s) refl, e, some_is whole early (tracked s).ended run)
 
 given_off : {whole early given all : Packets} (g : AreGiven whole early given all) (s : List (List ℤ))
     → (tracked s).run ≡ None → given s ≡ flat_map whole (tracked s).ended
-given_off {whole} {early} g s e =
-    given_is g s (tracked s) refl ∙ ap (given_with whole early (tracked s).ended) e
-    ∙ none_is whole early (tracked s).ended
+given_off {whole} {early} g s e = rw (given_is g s (tracked s) refl, e, none_is whole early (tracked s).ended)
 
 -- with more segments of the run that is on
 pub given_further : {whole early given all : Packets} (g : AreGiven whole early given all)
@@ -77,8 +68,7 @@ given_on g s x run new brought e f h = given_further g s (s ++ x ∷ []) run new
 whole_run : {whole early given all : Packets} (g : AreGiven whole early given all) (s : List (List ℤ))
     (run : List (List ℤ)) (brought : List Received) → (tracked s).run ≡ Some run → whole run ≡ early run ++ brought
     → flat_map whole ((tracked s).ended ++ run ∷ []) ≡ given s ++ brought
-whole_run {whole} {early} g s run brought e h =
-    flat_map-append whole (tracked s).ended (run ∷ [])
+whole_run {whole} {early} g s run brought e h = flat_map-append whole (tracked s).ended (run ∷ [])
     ∙ ap (λ xs. flat_map whole (tracked s).ended ++ xs) (append-nil (whole run) ∙ h)
     ∙ sym (append_assoc (flat_map whole (tracked s).ended) (early run) brought)
     ∙ ap (λ xs. xs ++ brought) (sym (given_run g s run e))
@@ -94,34 +84,22 @@ given_end {whole} {early} g s x run brought e f h =
 pub given_none : {whole early given all : Packets} (g : AreGiven whole early given all) (s : List (List ℤ))
     (x : List ℤ) → (tracked s).run ≡ None → tracked (s ++ x ∷ []) ≡ record { ended = (tracked s).ended; run = None }
     → given (s ++ x ∷ []) ≡ given s ++ []
-given_none {whole} {early} {given} g s x e f =
-    given_is g (s ++ x ∷ []) (record { ended = (tracked s).ended; run = None }) f
-    ∙ none_is whole early (tracked s).ended ∙ sym (given_off g s e) ∙ sym (append-nil (given s))
+given_none {whole} {early} {given} g s x e f = grind (arith, given_is, none_is, given_off, append-nil)
 
 pub given_first : {whole early given all : Packets} (g : AreGiven whole early given all) (s : List (List ℤ))
     (x : List ℤ) → (tracked s).run ≡ None
     → tracked (s ++ x ∷ []) ≡ record { ended = (tracked s).ended; run = Some (x ∷ []) }
     → given (s ++ x ∷ []) ≡ given s ++ []
-given_first {whole} {early} {given} g s x e f =
-    given_is g (s ++ x ∷ []) (record { ended = (tracked s).ended; run = Some (x ∷ []) }) f
-    ∙ some_is whole early (tracked s).ended (x ∷ [])
-    ∙ ap (λ xs. flat_map whole (tracked s).ended ++ xs) (g.first x)
-    ∙ append-nil (flat_map whole (tracked s).ended) ∙ sym (given_off g s e) ∙ sym (append-nil (given s))
+given_first {whole} {early} {given} g s x e f = grind (arith, given_is, some_is, append-nil, given_off)
 
 -- with the end of the list
 pub all_run : {whole early given all : Packets} (g : AreGiven whole early given all) (s : List (List ℤ))
     (run : List (List ℤ)) (brought : List Received) → (tracked s).run ≡ Some run → whole run ≡ early run ++ brought
     → all s ≡ given s ++ brought
 unfolding runs
-all_run {whole} g s run brought e h =
-    g.ended s
-    ∙ ap (λ (o : Option (List (List ℤ))). flat_map whole ((tracked s).ended ++ option_to_list o)) e
-    ∙ whole_run g s run brought e h
+all_run {whole} g s run brought e h = grind (arith, whole_run)
 
 pub all_none : {whole early given all : Packets} (g : AreGiven whole early given all) (s : List (List ℤ))
     → (tracked s).run ≡ None → all s ≡ given s ++ []
 unfolding runs
-all_none {whole} {early} {given} g s e =
-    g.ended s
-    ∙ ap (λ (o : Option (List (List ℤ))). flat_map whole ((tracked s).ended ++ option_to_list o)) e
-    ∙ ap (flat_map whole) (append-nil (tracked s).ended) ∙ sym (given_off g s e) ∙ sym (append-nil (given s))
+all_none {whole} {early} {given} g s e = grind (arith, append-nil, given_off)

@@ -11,7 +11,7 @@ use Rattle.dtx_slice.proofs.JoinsLemmas.{groups_whole}
 use Rattle.dtx_receiver.specs.Bytes.{data_count, groups_of, first_bits, levels_in, bytes_in}
 use Rattle.dtx_receiver.specs.Receiver.{AreGrouped, AreLevels, Grouping}
 use Rattle.dtx_receiver.proofs.LevelsLemmas.{levels_first, levels_data, levels_group, Added, Whole}
-use Rattle.dtx_receiver.proofs.SegmentsLemmas.{Still, still_data, first_bytes}
+use Rattle.dtx_receiver.proofs.SegmentsLemmas.{still_data, first_bytes}
 
 -- what is kept, of its parts
 abbrev pub grouping : List ℕ → List ℕ → List (List ℕ) → Grouping
@@ -22,30 +22,22 @@ abbrev pub flat : List (List ℕ) → List ℕ
 flat held = flat_map (λ bytes. bytes) held
 
 -- how many bytes a group has
-pub group_long : (first : ℕ) (bits levels : List ℕ) → length levels ≡ 3312
-    → length (bytes_back first bits levels) ≡ 828
+pub group_long : (first : ℕ) (bits levels : List ℕ) → length levels ≡ 3312 → length (bytes_back first bits levels) ≡ 828
 unfolding bytes_back
-group_long first bits levels l =
-    length-map-range_with_len (byte_back first bits levels) 0 (828 * level_groups levels)
+group_long first bits levels l = length-map-range_with_len (byte_back first bits levels) 0 (828 * level_groups levels)
     ∙ ap (λ g. 828 * g) (groups_whole 1 levels l)
 
 flat_more : (held : List (List ℕ)) (bytes : List ℕ) → flat (held ++ bytes ∷ []) ≡ flat held ++ bytes
-flat_more held bytes =
-    flat_map-append (λ (xs : List ℕ). xs) held (bytes ∷ []) ∙ ap (λ xs. flat held ++ xs) (append-nil bytes)
+flat_more held bytes = grind (arith, flat_map-append, append-nil)
 
 pub grouped_first : (x : List ℤ) (levels bits : List ℕ) → bits ≡ precoder_bits_of (sliced_last x)
     → AreGrouped (grouping levels bits []) (x ∷ []) []
-grouped_first x levels bits f =
-    record { levels = levels_first x levels bits f; bytes = first_bytes x; long = refl }
+grouped_first x levels bits f = record { levels = levels_first x levels bits f; bytes = first_bytes x; long = refl }
 
 -- where none is held, all bytes were given on
 pub grouped_none : (kept : Grouping) (run : List (List ℤ)) → AreLevels kept.levels kept.precoder_bits run
     → kept.held ≡ [] → AreGrouped kept run (bytes_in run)
-grouped_none kept run a n = record {
-  levels = a;
-  bytes = sym (append-nil (bytes_in run)) ∙ ap (λ held. bytes_in run ++ flat held) (sym n);
-  long = ap (λ held. length (flat held)) n ∙ ap (λ held. 828 * length held) (sym n);
-}
+grouped_none kept run a n = grind (arith, append-nil)
 
 -- a segment that makes no group whole
 pub grouped_data : (x : List ℤ) (kept new : Grouping) (run : List (List ℤ)) (given : List ℕ) → AreGrouped kept run given
@@ -53,14 +45,12 @@ pub grouped_data : (x : List ℤ) (kept new : Grouping) (run : List (List ℤ)) 
     → new.levels ≡ take (828 * (data_count run % 4)) kept.levels ++ sliced_data x
     ++ drop (828 * (data_count run % 4) + 828) kept.levels
     → new.precoder_bits ≡ kept.precoder_bits → new.held ≡ kept.held → AreGrouped new (run ++ x ∷ []) given
-grouped_data x kept new run given d n p l m e f h =
-    let s : Still run (run ++ x ∷ []) = still_data run x n p in
-    record {
-      levels = subst (λ (bits : List ℕ). AreLevels new.levels bits (run ++ x ∷ [])) (sym f)
-          (levels_data x kept.levels new.levels kept.precoder_bits run d.levels n p l m e);
-      bytes = s.bytes ∙ d.bytes ∙ ap (λ held. given ++ flat held) (sym h);
-      long = ap (λ held. length (flat held)) h ∙ d.long ∙ ap (λ held. 828 * length held) (sym h);
-    }
+grouped_data x kept new run given d n p l m e f h = record {
+  levels = subst (λ (bits : List ℕ). AreLevels new.levels bits (run ++ x ∷ [])) (sym f)
+      (levels_data x kept.levels new.levels kept.precoder_bits run d.levels n p l m e);
+  bytes = (still_data run x n p).bytes ∙ d.bytes ∙ ap (λ held. given ++ flat held) (sym h);
+  long = ap (λ held. length (flat held)) h ∙ d.long ∙ ap (λ held. 828 * length held) (sym h);
+}
 
 -- one that makes one whole, of these levels
 pub grouped_group : (x : List ℤ) (kept new : Grouping) (run : List (List ℤ)) (given : List ℕ) (place : ℕ) (z : List ℕ)
@@ -74,13 +64,11 @@ grouped_group x kept new run given place z w d l f long h =
     levels_group x kept.levels kept.precoder_bits run place z w d.levels in
     let bytes : List ℕ = bytes_back (place - place % 4) kept.precoder_bits z in
     record {
-      levels = subst (λ (ls : List ℕ). AreLevels ls new.precoder_bits (run ++ x ∷ [])) (sym l)
-          (subst (λ (bits : List ℕ). AreLevels z bits (run ++ x ∷ [])) (sym f) a.levels);
+      levels = subst (λ (ls : List ℕ). AreLevels ls new.precoder_bits (run ++ x ∷ [])) (sym l) (grind arith);
       bytes = a.bytes ∙ ap (λ xs. xs ++ bytes) d.bytes ∙ append_assoc given (flat kept.held) bytes
           ∙ ap (λ xs. given ++ xs) (sym (flat_more kept.held bytes) ∙ ap flat (sym h));
       long = ap (λ held. length (flat held)) h ∙ ap length (flat_more kept.held bytes)
-          ∙ length-append (flat kept.held) bytes
-          ∙ omega (arith, d.long, long, ap length h, length_push kept.held bytes);
+          ∙ length-append (flat kept.held) bytes ∙ omega (arith, d.long, long, ap length h, length_push kept.held bytes);
     }
 
 -- ---- how many groups there are

@@ -19,16 +19,11 @@ use Rattle.dtx_receiver.proofs.FollowingLemmas.{searching, began, sync_came, end
 
 -- the first segment of a run looks like a field sync, so it isn't where none does
 first_looks : (s : List (List ℤ)) (a b : ℕ) (p : ℕ × ℕ) → NoneLooks s a b → a ≤ p.0 → p.0 < b → IsRun s p.0 p.1 → ⊥
-first_looks s a b p h l m r =
-    false≢true (sym (h p.0 l m) ∙ ap (looks_at s) (sym (omega arith)) ∙ r.syncs 0 r.some refl)
+first_looks s a b p h l m r = false≢true (sym (h p.0 l m) ∙ ap (looks_at s) (sym (omega arith)) ∙ r.syncs 0 r.some refl)
 
 -- of two runs that begin at one place the one isn't shorter than the other
 not_shorter : (s : List (List ℤ)) (first m n : ℕ) → IsRun s first m → IsRun s first n → m < n → ⊥
-not_shorter s first m n a b l = by_end a.ends
-  where
-    by_end : (first + m ≡ length s) ⊎ ((first + m < length s) × (m % 313 ≡ 0) × (looks_at s (first + m) ≡ false)) → ⊥
-    by_end (inl e) = omega (arith, e, l, b.within)
-    by_end (inr e) = false≢true (sym e.2 ∙ b.syncs m l e.1)
+not_shorter s first m n a b l = grind (arith, false≢true)
 
 same_pair : (a b c d : ℕ) → a ≡ c → b ≡ d → ◌≡◌ {A = ℕ × ℕ} (a, b) (c, d)
 same_pair a b c d e f = ap₂ (λ (x y : ℕ). (x, y)) e f
@@ -42,9 +37,7 @@ only_runs s from (p ∷ ps) [] h g =
 only_runs s from (p ∷ ps) (q ∷ qs) h g =
     let here : p.0 ≡ q.0 = by_first (cases_order p.0 q.0) in
     let long : p.1 ≡ q.1 = by_long here (cases_order p.1 q.1) in
-    let rest : ps ≡ qs =
-    only_runs s (p.0 + p.1 + 1) ps qs h.3 (subst (λ n. AreRuns s (n + 1) qs)
-    (ap₂ (λ (x y : ℕ). x + y) (sym here) (sym long)) g.3) in
+    let rest : ps ≡ qs = only_runs s (p.0 + p.1 + 1) ps qs h.3 (subst (λ n. AreRuns s (n + 1) qs) (grind arith) g.3) in
     ap₂ (λ (x : ℕ × ℕ) (xs : List (ℕ × ℕ)). x ∷ xs) (same_pair p.0 p.1 q.0 q.1 here long) rest
   where
     by_first : (p.0 ≡ q.0) ⊎ ((p.0 < q.0) ⊎ (q.0 < p.0)) → p.0 ≡ q.0
@@ -65,8 +58,7 @@ Closed s from [] to = from ≡ to
 Closed s from (p ∷ ps) to = (from ≤ p.0) × NoneLooks s from p.0 × IsRun s p.0 p.1 × Closed s (p.0 + p.1 + 1) ps to
 
 closed_more : (s : List (List ℤ)) (from to : ℕ) (ps : List (ℕ × ℕ)) (p : ℕ × ℕ) → Closed s from ps to → to ≤ p.0
-    → NoneLooks s to p.0 → IsRun s p.0 p.1
-    → Closed s from (ps ++ p ∷ []) (p.0 + p.1 + 1)
+    → NoneLooks s to p.0 → IsRun s p.0 p.1 → Closed s from (ps ++ p ∷ []) (p.0 + p.1 + 1)
 closed_more s from to [] p c l h r = (omega (arith, c, l), λ i a b. h i (omega (arith, c, a)) b, r, refl)
 closed_more s from to (q ∷ qs) p c l h r = (c.0, c.1, c.2, closed_more s (q.0 + q.1 + 1) to qs p c.3 l h r)
 
@@ -98,11 +90,9 @@ record Searched (s : List (List ℤ)) (n : ℕ) (t : Tracked) : Type 0 where
 slice_more : (s : List (List ℤ)) (a n : ℕ) → a ≤ n → n < length s
     → slice_range s a n ++ get_or s n [] ∷ [] ≡ slice_range s a (n + 1)
 slice_more s a n m l =
-    let w : n - a < length (drop a s) = omega (arith, length-drop a s, m, l) in
-    let e : a + (n - a) ≡ n = omega arith in
     let f : n - a + 1 ≡ n + 1 - a = omega arith in
-    ap (λ x. slice_range s a n ++ x ∷ []) (sym (get_or-drop a s (n - a) [] ∙ ap (λ i. get_or s i []) e))
-    ∙ sym (take_more (drop a s) (n - a) [] w) ∙ ap (λ i. take i (drop a s)) f
+    ap (λ x. slice_range s a n ++ x ∷ []) (sym (get_or-drop a s (n - a) [] ∙ ap (λ i. get_or s i []) (omega arith)))
+    ∙ sym (take_more (drop a s) (n - a) [] (omega (arith, length-drop a s, m, l))) ∙ ap (λ i. take i (drop a s)) f
 
 slice_one : (s : List (List ℤ)) (n : ℕ) → n < length s → get_or s n [] ∷ [] ≡ slice_range s n (n + 1)
 slice_one s n l =
@@ -113,16 +103,11 @@ slice_long : (s : List (List ℤ)) (a n : ℕ) → a ≤ n → n ≤ length s �
 slice_long s a n m l = length-take-le (n - a) (drop a s) (omega (arith, length-drop a s, m, l))
 
 none_more : (s : List (List ℤ)) (a n : ℕ) → NoneLooks s a n → looks_at s n ≡ false → NoneLooks s a (n + 1)
-none_more s a n h e = λ i l m. by_place i l (cases_lt i n) m
-  where
-    by_place : (i : ℕ) → a ≤ i → (i < n) ⊎ (n ≤ i) → i < n + 1 → looks_at s i ≡ false
-    by_place i l (inl f) m = h i l f
-    by_place i l (inr f) m = let k : i ≡ n = omega arith in ap (looks_at s) k ∙ e
+none_more s a n h e = grind (arith, cases_lt)
 
 -- one segment more of the run that is on
 going_more : (s : List (List ℤ)) (from n : ℕ) (run : List (List ℤ)) (g : Going s from n run) → n < length s
-    → ((n - g.first) % 313 ≡ 0 → looks_at s n ≡ true)
-    → Going s from (n + 1) (run ++ get_or s n [] ∷ [])
+    → ((n - g.first) % 313 ≡ 0 → looks_at s n ≡ true) → Going s from (n + 1) (run ++ get_or s n [] ∷ [])
 going_more s from n run g l e = record {
   first = g.first;
   behind = g.behind;
@@ -135,8 +120,7 @@ going_more s from n run g l e = record {
     by_place : (j : ℕ) → (g.first + j < n) ⊎ (n ≤ g.first + j) → g.first + j < n + 1 → j % 313 ≡ 0
         → looks_at s (g.first + j) ≡ true
     by_place j (inl f) m d = g.syncs j f d
-    by_place j (inr f) m d = let k : g.first + j ≡ n = omega arith in let w : n - g.first ≡ j = omega arith in
-        ap (looks_at s) k ∙ e (ap (λ i. i % 313) w ∙ d)
+    by_place j (inr f) m d = grind arith
 
 going_long : (s : List (List ℤ)) (from n : ℕ) (run : List (List ℤ)) (g : Going s from n run) → n ≤ length s
     → length run ≡ n - g.first
@@ -171,11 +155,10 @@ step s n q l h (Some run) e a b f = by_due (cases_eq (length run % 313) 0) b f
     long : length run ≡ n - a.first
     long = going_long s h.from n run a (omega arith)
 
-    goes : ((n - a.first) % 313 ≡ 0 → looks_at s n ≡ true)
-        → tracked (q ++ get_or s n [] ∷ []) ≡ record {
-          ended = (tracked q).ended;
-          run = Some (run ++ get_or s n [] ∷ []);
-        } → Searched s (n + 1) (tracked (q ++ get_or s n [] ∷ []))
+    goes : ((n - a.first) % 313 ≡ 0 → looks_at s n ≡ true) → tracked (q ++ get_or s n [] ∷ []) ≡ record {
+      ended = (tracked q).ended;
+      run = Some (run ++ get_or s n [] ∷ []);
+    } → Searched s (n + 1) (tracked (q ++ get_or s n [] ∷ []))
     goes d t = subst (Searched s (n + 1)) (sym t) (record {
       places = h.places;
       from = h.from;
@@ -228,16 +211,14 @@ searched s (suc n) l =
     let next : n + 1 ≡ suc n = omega arith in
     let more : take n s ++ get_or s n [] ∷ [] ≡ take (suc n) s = sym (take_more s n [] (omega arith))
     ∙ ap (λ i. take i s) next in
-    subst (λ i. Searched s i (tracked (take (suc n) s))) next
-    (subst (λ q. Searched s (n + 1) (tracked q)) more
+    subst (λ i. Searched s i (tracked (take (suc n) s))) next (subst (λ q. Searched s (n + 1) (tracked q)) more
     (step s n (take n s) (omega arith) h (tracked (take n s)).run refl h.at (looks_at s n) refl))
 
 abbrev Intervals : List (List ℤ) → List (List (List ℤ)) → Type 0
 Intervals s rs = (places : List (ℕ × ℕ)) × AreRuns s 0 places × (rs ≡ map (segments_in s) places)
 
 all_searched : (s : List (List ℤ)) → Searched s (length s) (tracked s)
-all_searched s =
-    subst (λ q. Searched s (length s) (tracked q)) (take_all (length s) s (omega arith))
+all_searched s = subst (λ q. Searched s (length s) (tracked q)) (take_all (length s) s (omega arith))
     (searched s (length s) (omega arith))
 
 closed_up : (s : List (List ℤ)) (from to : ℕ) (ps : List (ℕ × ℕ)) → Closed s from ps to → from ≤ to
@@ -248,8 +229,7 @@ closed_up s from to (p ∷ ps) c = omega (arith, c.0, closed_up s (p.0 + p.1 + 1
 closed_before : (s : List (List ℤ)) (from to : ℕ) (ps : List (ℕ × ℕ)) → Closed s from ps to
     → All (λ p. p.0 + p.1 < to) ps
 closed_before s from to [] c = All-nil (λ p. p.0 + p.1 < to)
-closed_before s from to (p ∷ ps) c =
-    All-cons (λ p. p.0 + p.1 < to) p ps (omega (arith, closed_up s (p.0 + p.1 + 1) to ps c.3))
+closed_before s from to (p ∷ ps) c = All-cons (λ p. p.0 + p.1 < to) p ps (grind (arith, closed_up))
     (closed_before s (p.0 + p.1 + 1) to ps c.3)
 
 -- The run that is on reaches the end of the list, and is the last of the runs there.
@@ -343,8 +323,7 @@ on_there s places first n a e =
     by_run : (h : Searched s (length s) (tracked s)) (o : Option (List (List ℤ))) → (tracked s).run ≡ o
         → At s h.from (length s) o → (run : List (List ℤ)) × ((tracked s).run ≡ Some run) × (length run ≡ n)
     by_run h None f at =
-        let own : AreRuns s 0 h.places = subst (AreRuns s 0) (append-nil h.places)
-        (closed_all s 0 h.from h.places [] h.closed at.1) in
+        let own : AreRuns s 0 h.places = subst (AreRuns s 0) (append-nil h.places) (grind (arith, closed_all)) in
         let same : places ++ (first, n) ∷ [] ≡ h.places = only_runs s 0 (places ++ (first, n) ∷ []) h.places a own in
         let before = All-contains (λ p. p.0 + p.1 < h.from) h.places (first, n)
         (closed_before s 0 h.from h.places h.closed) (subst (λ x. Contains x (first, n)) same within) in
@@ -361,19 +340,14 @@ on_there s places first n a e =
       where
         by_place : (l : Lasts s run) → Contains l.places (first, n)
             ⊎ ◌≡◌ {A = ℕ × ℕ} (l.first, l.n) (first, n) → l.n ≡ n
-        by_place l (inl c) =
-            let m = All-contains (λ p. p.0 + p.1 < length s) l.places (first, n) l.ended c in
-            absurd (omega (arith, m, e))
+        by_place l (inl c) = grind (arith, All-contains)
         by_place l (inr d) = ap (λ (p : ℕ × ℕ). p.1) d
 
 pub told_on : (s : List (List ℤ)) (x : List ℤ) (places : List (ℕ × ℕ)) (first n : ℕ)
     → AreRuns s 0 (places ++ (first, n) ∷ []) → first + n ≡ length s
     → tracking s x ≡ cond (n % 313 == 0) (cond (looks_like x) Sync Ended) Data
 unfolding tracking sync_due
-told_on s x places first n a e =
-    let o = on_there s places first n a e in
-    ap (λ r. tracking_of r (looks_like x)) o.1
-    ∙ ap (λ (k : ℕ). cond (k % 313 == 0) (cond (looks_like x) Sync Ended) Data) o.2
+told_on s x places first n a e = grind (arith, on_there)
 
 -- where none does, none is on
 pub none_on : (s : List (List ℤ)) (places : List (ℕ × ℕ)) → AreRuns s 0 places → All (λ p. p.0 + p.1 < length s) places
@@ -385,10 +359,8 @@ none_on s places a b = let h : Searched s (length s) (tracked s) = all_searched 
     by_run h None f at = f
     by_run h (Some run) f at =
         let l : Lasts s run = lasts s run h at in
-        let same : l.places ++ (l.first, l.n) ∷ [] ≡ places =
-        only_runs s 0 (l.places ++ (l.first, l.n) ∷ []) places l.are a in
         let m = All-contains (λ p. p.0 + p.1 < length s) places (l.first, l.n) b
-        (subst (λ x. Contains x (l.first, l.n)) same (Contains-push l.places (l.first, l.n))) in
+        (subst (λ x. Contains x (l.first, l.n)) (grind (arith, only_runs)) (Contains-push l.places (l.first, l.n))) in
         absurd (omega (arith, m, l.reaches))
 
 pub told_off : (s : List (List ℤ)) (x : List ℤ) (places : List (ℕ × ℕ)) → AreRuns s 0 places

@@ -1,6 +1,6 @@
 -- The levels that are kept of a run, with one segment more.
-use Rattle.std.proofs.Common.{◌≡◌, ◌≢◌, ℕ, ℤ, ◌+◌, ◌-◌, ◌*◌, ◌/◌, ◌%◌, ◌<◌, ◌≤◌, List, [], ◌∷◌, ◌++◌, length, take}
-use Rattle.std.proofs.Common.{drop, refl, sym, ap, ap₂, ◌∙◌, arith, lit<}
+use Rattle.std.proofs.Common.{◌≡◌, ◌≢◌, ℕ, ℤ, ◌+◌, ◌-◌, ◌*◌, ◌/◌, ◌%◌, ◌<◌, List, [], ◌∷◌, ◌++◌, length, take, drop}
+use Rattle.std.proofs.Common.{refl, sym, ap, ap₂, ◌∙◌, arith, lit<}
 use Rattle.std.proofs.lemmas.List.{length_push, length-append, length-take-le, length-drop, take_at, take_all}
 use Rattle.dtx_slice.specs.Slicing.{sliced_data, sliced_last}
 use Rattle.dtx_slice.specs.Unrolled.{bytes_back, precoder_bits_after, precoder_bits_of}
@@ -13,12 +13,7 @@ use Rattle.dtx_receiver.proofs.SegmentsLemmas.{still_sync, Grown, grown, first_l
 pub levels_first : (x : List ℤ) (levels precoder_bits : List ℕ) → precoder_bits ≡ precoder_bits_of (sliced_last x)
     → AreLevels levels precoder_bits (x ∷ [])
 unfolding levels_from groups_of data_count
-levels_first x levels precoder_bits f = record {
-  some = lit< tt;
-  long = ap length (first_levels x);
-  levels = refl;
-  precoder_bits = f ∙ sym (bits_first x);
-}
+levels_first x levels precoder_bits f = grind (arith, first_levels, bits_first)
 
 pub levels_sync : (x : List ℤ) (levels precoder_bits : List ℕ) (run : List (List ℤ))
     → AreLevels levels precoder_bits run → length run % 313 ≡ 0 → AreLevels levels precoder_bits (run ++ x ∷ [])
@@ -28,9 +23,7 @@ levels_sync x levels precoder_bits run d z =
     record {
       some = omega (arith, length_push run x);
       long = ap length s.levels ∙ d.long ∙ ap (λ g. 3312 * g) (sym s.groups);
-      levels = ap (λ n. take (828 * (n % 4)) levels) c ∙ d.levels
-          ∙ sym (ap₂ (λ g n. levels_from (run ++ x ∷ []) (4 * g) (n % 4)) s.groups c
-          ∙ levels_stay run x (4 * groups_of run) (data_count run % 4) (omega (arith, groups_within run)));
+      levels = ap (λ n. take (828 * (n % 4)) levels) c ∙ d.levels ∙ sym (grind (arith, levels_stay, groups_within));
       precoder_bits = d.precoder_bits ∙ sym s.precoder_bits;
     }
 
@@ -38,42 +31,30 @@ levels_sync x levels precoder_bits run d z =
 put : (n : ℕ) (old new more before : List ℕ) → length old ≡ 3312 → n < 4 → length more ≡ 828
     → new ≡ take (828 * n) old ++ more ++ drop (828 * n + 828) old
     → take (828 * n) old ≡ before → take (828 * (n + 1)) new ≡ before ++ more
-put n old new more before l small m e f =
-    let fits : 828 * n ≤ length old = omega (arith, l, small) in
-    let long : length (take (828 * n) old ++ more) ≡ 828 * (n + 1) = length-append (take (828 * n) old) more
-    ∙ omega (arith, length-take-le (828 * n) old fits, m) in
-    ap (take (828 * (n + 1))) e ∙ take_at (take (828 * n) old ++ more) (drop (828 * n + 828) old) (828 * (n + 1)) long
-    ∙ ap (λ xs. xs ++ more) f
+put n old new more before l small m e f = grind (arith, length-append, length-take-le, take_at)
 
 pub levels_data : (x : List ℤ) (levels new precoder_bits : List ℕ) (run : List (List ℤ))
     → AreLevels levels precoder_bits run → length run % 313 ≢ 0 → data_count run % 4 ≢ 3
     → length levels ≡ 3312 → length (sliced_data x) ≡ 828
-    → new ≡ take (828 * (data_count run % 4)) levels ++ sliced_data x
-    ++ drop (828 * (data_count run % 4) + 828) levels
+    → new ≡ take (828 * (data_count run % 4)) levels ++ sliced_data x ++ drop (828 * (data_count run % 4) + 828) levels
     → AreLevels new precoder_bits (run ++ x ∷ [])
 levels_data x levels new precoder_bits run d n p l m e =
-    let s : Still run (run ++ x ∷ []) = still_data run x n p in
     let c : data_count (run ++ x ∷ []) ≡ data_count run + 1 = more_data run x n in
     let r : (data_count run + 1) % 4 ≡ data_count run % 4 + 1 = omega (arith, p) in
     record {
       some = omega (arith, length_push run x);
-      long = ap length s.levels ∙ d.long ∙ ap (λ g. 3312 * g) (sym s.groups);
-      levels = ap (λ n. take (828 * n) new) (ap (λ n. n % 4) c ∙ r)
-          ∙ put (data_count run % 4) levels new (sliced_data x)
+      long = ap length (still_data run x n p).levels ∙ d.long ∙ ap (λ g. 3312 * g) (sym (still_data run x n p).groups);
+      levels = ap (λ n. take (828 * n) new) (ap (λ n. n % 4) c ∙ r) ∙ put (data_count run % 4) levels new (sliced_data x)
           (levels_from run (4 * groups_of run) (data_count run % 4)) l (omega arith) m e d.levels
-          ∙ sym (ap₂ (λ g n. levels_from (run ++ x ∷ []) (4 * g) n) s.groups (ap (λ n. n % 4) c ∙ r)
-          ∙ levels_more run x (4 * groups_of run) (data_count run % 4) n (groups_within run));
-      precoder_bits = d.precoder_bits ∙ sym s.precoder_bits;
+          ∙ sym (grind (arith, levels_more, groups_within));
+      precoder_bits = d.precoder_bits ∙ sym (still_data run x n p).precoder_bits;
     }
 
 -- ---- the segment that makes a group whole
 
 place_now : (run : List (List ℤ)) (place : ℕ) → length run % 313 ≡ place + 1 → data_count run % 312 ≡ place
 unfolding data_count
-place_now run place e = by_length (length run) e
-  where
-    by_length : (l : ℕ) → l % 313 ≡ place + 1 → (l - (l + 312) / 313) % 312 ≡ place
-    by_length l e = omega (arith, e)
+place_now run place e = grind arith
 
 pub part_now : (run : List (List ℤ)) (place : ℕ) → length run % 313 ≡ place + 1 → data_count run % 4 ≡ place % 4
 part_now run place e = by_count (data_count run) (place_now run place e)
@@ -104,18 +85,7 @@ pub record Whole (x : List ℤ) (kept : List ℕ) (run : List (List ℤ)) (place
 -- how many levels there are, those of a segment put among them
 put_long : (n : ℕ) (old more : List ℕ) → length old ≡ 3312 → n < 4 → length more ≡ 828
     → length (take (828 * n) old ++ more ++ drop (828 * n + 828) old) ≡ 3312
-put_long n old more l small m =
-    let fits : 828 * n ≤ length old = omega (arith, l, small) in
-    length-append (take (828 * n) old ++ more) (drop (828 * n + 828) old)
-    ∙ omega (
-      arith,
-      length-append (take (828 * n) old) more,
-      length-take-le (828 * n) old fits,
-      length-drop (828 * n + 828) old,
-      l,
-      m,
-      small,
-    )
+put_long n old more l small m = grind (arith, length-append, length-take-le, length-drop)
 
 pub whole_now : (x : List ℤ) (kept : List ℕ) (run : List (List ℤ)) (place : ℕ) (z : List ℕ)
     → length run % 313 ≡ place + 1 → place % 4 + 1 ≡ 4 → length kept ≡ 3312 → length (sliced_data x) ≡ 828
@@ -133,14 +103,11 @@ whole_now x kept run place z due last long segment levels = record {
 whole_levels : (x : List ℤ) (levels precoder_bits : List ℕ) (run : List (List ℤ)) (place : ℕ) (z : List ℕ)
     → Whole x levels run place z → AreLevels levels precoder_bits run
     → levels_from run (4 * groups_of run) 3 ++ sliced_data x ≡ z
-whole_levels x levels precoder_bits run place z w d =
-    sym (sym (take_all 3312 z (omega (arith, w.group)))
+whole_levels x levels precoder_bits run place z w d = sym (sym (take_all 3312 z (omega (arith, w.group)))
     ∙ put 3 levels z (sliced_data x) (levels_from run (4 * groups_of run) 3) w.long (lit< tt) w.segment (w.levels
     ∙ ap (λ n. take (828 * n) levels ++ sliced_data x ++ drop (828 * n + 828) levels) w.last)
-    (ap (λ n. take (828 * n) levels) (sym count) ∙ d.levels ∙ ap (levels_from run (4 * groups_of run)) count))
-  where
-    count : data_count run % 4 ≡ 3
-    count = part_now run place w.due ∙ w.last
+    (ap (λ n. take (828 * n) levels) (sym (part_now run place w.due ∙ w.last)) ∙ d.levels
+    ∙ ap (levels_from run (4 * groups_of run)) (part_now run place w.due ∙ w.last)))
 
 levels_none : (run : List (List ℤ)) (a : ℕ) → levels_from run a 0 ≡ []
 unfolding levels_from

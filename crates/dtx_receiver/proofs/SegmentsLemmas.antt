@@ -1,7 +1,6 @@
 -- The data segments of a run, their groups, levels and bytes, with one segment more.
 use Rattle.std.proofs.Common.{◌≡◌, ◌≢◌, ℕ, ℤ, ◌+◌, ◌-◌, ◌*◌, ◌/◌, ◌%◌, ◌<◌, ◌≤◌, List, [], ◌∷◌, ◌++◌, length, drop}
-use Rattle.std.proofs.Common.{get_or, refl, sym, ap, ap₂, ◌∙◌, arith}
-use Rattle.std.specs.List.{range_with_len, flat_map}
+use Rattle.std.proofs.Common.{get_or, refl, ap, ap₂, ◌∙◌, arith}
 use Rattle.std.proofs.lemmas.List.{length_push, get_or_append_left, get_or_push, length-map, length-drop, append-nil}
 use Rattle.std.proofs.lemmas.Grind.{flat_map-append}
 use Rattle.std.proofs.lemmas.List.FromFn.{get_or-map-range_with_len}
@@ -47,22 +46,17 @@ data_stays run x d l = get_or_append_left run (x ∷ []) [] (d + d / 312 + 1) (p
 
 pub data_last : (run : List (List ℤ)) (x : List ℤ) → length run % 313 ≢ 0 → data_at (run ++ x ∷ []) (data_count run) ≡ x
 unfolding data_count data_at
-data_last run x n = ap (λ i. get_or (run ++ x ∷ []) i []) (place_data (length run) n)
-    ∙ get_or_push run x [] (length run) refl
+data_last run x n = grind (arith, place_data, get_or_push)
 
 pub levels_stay : (run : List (List ℤ)) (x : List ℤ) (a n : ℕ) → a + n ≤ data_count run
     → levels_from (run ++ x ∷ []) a n ≡ levels_from run a n
 unfolding levels_from
-levels_stay run x a n l =
-    flat_map-range_same (λ i. sliced_data (data_at (run ++ x ∷ []) i)) (λ i. sliced_data (data_at run i)) a n
-    (λ i b c. ap sliced_data (data_stays run x i (omega (arith, b, c, l))))
+levels_stay run x a n l = grind (arith, flat_map-range_same, data_stays)
 
 pub levels_parts : (run : List (List ℤ)) (a m n : ℕ)
     → levels_from run a (m + n) ≡ levels_from run a m ++ levels_from run (a + m) n
 unfolding levels_from
-levels_parts run a m n =
-    ap (flat_map (λ i. sliced_data (data_at run i))) (range_with_len-parts a m n)
-    ∙ flat_map-append (λ i. sliced_data (data_at run i)) (range_with_len a m) (range_with_len (a + m) n)
+levels_parts run a m n = grind (arith, range_with_len-parts, flat_map-append)
 
 levels_one : (run : List (List ℤ)) (a : ℕ) → levels_from run a 1 ≡ sliced_data (data_at run a)
 unfolding levels_from
@@ -70,24 +64,16 @@ levels_one run a = append-nil (sliced_data (data_at run a))
 
 pub levels_more : (run : List (List ℤ)) (x : List ℤ) (a n : ℕ) → length run % 313 ≢ 0 → a + n ≡ data_count run
     → levels_from (run ++ x ∷ []) a (n + 1) ≡ levels_from run a n ++ sliced_data x
-levels_more run x a n h e =
-    levels_parts (run ++ x ∷ []) a n 1
-    ∙ ap₂ (λ (xs ys : List ℕ). xs ++ ys) (levels_stay run x a n (omega (arith, e)))
-    (levels_one (run ++ x ∷ []) (a + n) ∙ ap (λ d. sliced_data (data_at (run ++ x ∷ []) d)) e
-    ∙ ap sliced_data (data_last run x h))
+levels_more run x a n h e = grind (arith, levels_parts, levels_stay, levels_one, data_last)
 
-pub first_stays : (run : List (List ℤ)) (x : List ℤ) → 0 < length run
-    → first_bits (run ++ x ∷ []) ≡ first_bits run
+pub first_stays : (run : List (List ℤ)) (x : List ℤ) → 0 < length run → first_bits (run ++ x ∷ []) ≡ first_bits run
 unfolding first_bits
 first_stays run x l = ap (λ s. precoder_bits_of (sliced_last s)) (get_or_append_left run (x ∷ []) [] 0 l)
 
 -- ---- where no group becomes whole
 
 pub some_before : (run : List (List ℤ)) → length run % 313 ≢ 0 → 0 < length run
-some_before run n = by_length (length run) n
-  where
-    by_length : (l : ℕ) → l % 313 ≢ 0 → 0 < l
-    by_length l n = omega arith
+some_before run n = grind arith
 
 pub record Still (run new : List (List ℤ)) : Type 0 where
   pub groups : groups_of new ≡ groups_of run
@@ -111,10 +97,7 @@ still_from run x l e m =
 
 pub groups_within : (run : List (List ℤ)) → 4 * groups_of run + data_count run % 4 ≡ data_count run
 unfolding groups_of
-groups_within run = by_four (data_count run)
-  where
-    by_four : (d : ℕ) → 4 * (d / 4) + d % 4 ≡ d
-    by_four d = omega arith
+groups_within run = grind arith
 
 quarter : (d : ℕ) → d % 4 ≢ 3 → (d + 1) / 4 ≡ d / 4
 quarter d n = omega arith
@@ -125,8 +108,7 @@ next_quarter d e = omega arith
 pub still_data : (run : List (List ℤ)) (x : List ℤ) → length run % 313 ≢ 0 → data_count run % 4 ≢ 3
     → Still run (run ++ x ∷ [])
 unfolding groups_of
-still_data run x n p =
-    still_from run x (some_before run n) (ap (λ d. d / 4) (more_data run x n)
+still_data run x n p = still_from run x (some_before run n) (ap (λ d. d / 4) (more_data run x n)
     ∙ quarter (data_count run) p) (omega (arith, groups_within run))
 
 pub still_sync : (run : List (List ℤ)) (x : List ℤ) → 0 < length run → length run % 313 ≡ 0 → Still run (run ++ x ∷ [])
@@ -150,14 +132,12 @@ more_groups run x n p = ap (λ d. d / 4) (more_data run x n) ∙ next_quarter (d
 
 last_grown : (run : List (List ℤ)) (x : List ℤ) → length run % 313 ≢ 0 → data_count run % 4 ≡ 3
     → levels_from (run ++ x ∷ []) (4 * groups_of run) 4 ≡ levels_from run (4 * groups_of run) 3 ++ sliced_data x
-last_grown run x n p = levels_more run x (4 * groups_of run) 3 n (ap (λ i. 4 * groups_of run + i) (sym p)
-    ∙ groups_within run)
+last_grown run x n p = levels_more run x (4 * groups_of run) 3 n (grind (arith, groups_within))
 
 pub levels_grown : (run : List (List ℤ)) (x : List ℤ) → length run % 313 ≢ 0 → data_count run % 4 ≡ 3
     → levels_in (run ++ x ∷ []) ≡ levels_in run ++ (levels_from run (4 * groups_of run) 3 ++ sliced_data x)
 unfolding levels_in
-levels_grown run x n p =
-    ap (λ g. levels_from (run ++ x ∷ []) 0 (4 * g)) (more_groups run x n p)
+levels_grown run x n p = ap (λ g. levels_from (run ++ x ∷ []) 0 (4 * g)) (more_groups run x n p)
     ∙ ap (levels_from (run ++ x ∷ []) 0) (omega arith)
     ∙ levels_parts (run ++ x ∷ []) 0 (4 * groups_of run) 4
     ∙ ap₂ (λ (xs ys : List ℕ). xs ++ ys) (levels_stay run x 0 (4 * groups_of run) (omega (arith, groups_within run)))
@@ -197,8 +177,7 @@ first_bytes x = ap (bytes_back 0 (first_bits (x ∷ []))) (first_levels x)
 
 pub bits_first : (x : List ℤ) → precoder_bits_in (x ∷ []) ≡ precoder_bits_of (sliced_last x)
 unfolding precoder_bits_in first_bits precoder_bits_after precoder_bits_of level_groups
-bits_first x =
-    ap (precoder_bits_after 0 (precoder_bits_of (sliced_last x))) (first_levels x)
+bits_first x = ap (precoder_bits_after 0 (precoder_bits_of (sliced_last x))) (first_levels x)
     ∙ map-range_same (precoder_bit 0 (precoder_bits_of (sliced_last x)) [] 0)
     (λ e. get_or (sliced_last x) ((e + 4) % 12) 0 / 4) 0 12
     (λ e _ l. precoder_bit_zero 0 e (precoder_bits_of (sliced_last x)) []

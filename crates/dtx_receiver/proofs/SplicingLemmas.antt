@@ -39,10 +39,7 @@ all_now s o e = all_is s (tracked s) refl ∙ ap (packets_with (tracked s).ended
 last_run : (ended : List (List (List ℤ))) (run : List (List ℤ))
     → packets_with ended (Some run) ≡ packets_with ended None ++ run_packets (bytes_in run)
 unfolding packets_in
-last_run ended run =
-    flat_map-append (λ r. run_packets (bytes_in r)) ended (run ∷ [])
-    ∙ ap (λ xs. flat_map (λ r. run_packets (bytes_in r)) ended ++ xs) (append-nil (run_packets (bytes_in run)))
-    ∙ ap (λ rs. flat_map (λ r. run_packets (bytes_in r)) rs ++ run_packets (bytes_in run)) (sym (append-nil ended))
+last_run ended run = grind (arith, flat_map-append, append-nil)
 
 -- a run that has become longer
 longer : (ended : List (List (List ℤ))) (run new : List (List ℤ))
@@ -56,8 +53,7 @@ longer ended run new m = (
 )
 
 both : (s : List (List ℤ)) (x : List ℤ) (o : Option (List (List ℤ))) (t : Tracked) → (tracked s).run ≡ o
-    → tracked (s ++ x ∷ []) ≡ t
-    → More (packets_with t.ended t.run) (packets_with (tracked s).ended o)
+    → tracked (s ++ x ∷ []) ≡ t → More (packets_with t.ended t.run) (packets_with (tracked s).ended o)
     → More (all_packets (s ++ x ∷ [])) (all_packets s)
 both s x o t e f m = (m.0, all_is (s ++ x ∷ []) t f ∙ m.1 ∙ ap (λ xs. xs ++ m.0) (sym (all_now s o e)))
 
@@ -80,18 +76,15 @@ one_more s x = by_run (tracked s).run refl (looks_like x) refl
       where
         by_due : (length run % 313 ≡ 0) ⊎ (length run % 313 ≢ 0) → (b : Bool) → looks_like x ≡ b
             → More (all_packets (s ++ x ∷ [])) (all_packets s)
-        by_due (inr d) b l =
-            both s x (Some run) _ e (data_came s x run e d).0
+        by_due (inr d) b l = both s x (Some run) _ e (data_came s x run e d).0
             (longer ended run (run ++ x ∷ []) (whole_more run x (some_segment s run e)))
-        by_due (inl d) true l =
-            both s x (Some run) _ e (sync_came s x run e d l).0
+        by_due (inl d) true l = both s x (Some run) _ e (sync_came s x run e d l).0
             (longer ended run (run ++ x ∷ []) (whole_more run x (some_segment s run e)))
-        by_due (inl d) false l =
-            both s x (Some run) _ e (ended_there s x run e d l).0 (
-              [],
-              ap packets_in (append-nil (ended ++ run ∷ []))
-                  ∙ sym (append-nil (packets_with ended (Some run))),
-            )
+        by_due (inl d) false l = both s x (Some run) _ e (ended_there s x run e d l).0 (
+          [],
+          ap packets_in (append-nil (ended ++ run ∷ []))
+              ∙ sym (append-nil (packets_with ended (Some run))),
+        )
 
 -- with any segments more
 pub more_packets : (s more : List (List ℤ)) → More (all_packets (s ++ more)) (all_packets s)
@@ -155,8 +148,7 @@ track t segments = fold (λ t x. followed t.ended t.run x) t segments
 track_behind : (ended : List (List (List ℤ))) (t : Tracked) (more : List (List ℤ))
     → track (behind ended t) more ≡ behind ended (track t more)
 track_behind ended t [] = refl
-track_behind ended t (x ∷ more) =
-    ap (λ (u : Tracked). track u more) (step_behind ended t.ended t.run x)
+track_behind ended t (x ∷ more) = ap (λ (u : Tracked). track u more) (step_behind ended t.ended t.run x)
     ∙ track_behind ended (followed t.ended t.run x) more
 
 -- where no run is on behind a list, the runs of a longer one are its runs, and then those of what comes
@@ -171,11 +163,7 @@ tracked_behind s more e =
 
 runs_behind : (s more : List (List ℤ)) → (tracked s).run ≡ None → runs (s ++ more) ≡ runs s ++ runs more
 unfolding runs
-runs_behind s more e =
-    ap (λ (t : Tracked). t.ended ++ option_to_list t.run) (tracked_behind s more e)
-    ∙ append_assoc (tracked s).ended (tracked more).ended (option_to_list (tracked more).run)
-    ∙ ap (λ rs. rs ++ ((tracked more).ended ++ option_to_list (tracked more).run))
-    (sym (ap (λ o. (tracked s).ended ++ option_to_list o) e ∙ append-nil (tracked s).ended))
+runs_behind s more e = simp (tracked_behind, append_assoc, e, append-nil)
 
 pub spliced_runs : (s more : List (List ℤ)) (places : List (ℕ × ℕ)) → AreRuns s 0 places
     → All (λ p. p.0 + p.1 < length s) places → runs (s ++ more) ≡ runs s ++ runs more
@@ -184,16 +172,12 @@ spliced_runs s more places a b = runs_behind s more (none_on s places a b)
 pub spliced_packets : (s more : List (List ℤ)) (places : List (ℕ × ℕ)) → AreRuns s 0 places
     → All (λ p. p.0 + p.1 < length s) places → all_packets (s ++ more) ≡ all_packets s ++ all_packets more
 unfolding all_packets
-spliced_packets s more places a b =
-    ap (flat_map (λ run. run_packets (bytes_in run))) (spliced_runs s more places a b)
-    ∙ flat_map-append (λ run. run_packets (bytes_in run)) (runs s) (runs more)
+spliced_packets s more places a b = grind (arith, spliced_runs, flat_map-append)
 
 pub spliced_received : (s more : List (List ℤ)) (places : List (ℕ × ℕ)) → AreRuns s 0 places
     → All (λ p. p.0 + p.1 < length s) places → received (s ++ more) ≡ received s ++ received more
 unfolding received
-spliced_received s more places a b =
-    ap (map (λ (r : Received). r.packet.0)) (spliced_packets s more places a b)
-    ∙ bytes_more (all_packets s) (all_packets more)
+spliced_received s more places a b = grind (arith, spliced_packets, bytes_more)
 
 -- where there is no run, or the last one has ended, none is on
 
@@ -205,23 +189,18 @@ runs_up s from (q ∷ qs) p a = omega (arith, a.0, runs_up s (q.0 + q.1 + 1) qs 
 all_ended : (s : List (List ℤ)) (from : ℕ) (places : List (ℕ × ℕ)) (p : ℕ × ℕ) → AreRuns s from (places ++ p ∷ [])
     → p.0 + p.1 < length s → All (λ q. q.0 + q.1 < length s) (places ++ p ∷ [])
 all_ended s from [] p a l = All-cons (λ q. q.0 + q.1 < length s) p [] l (All-nil (λ q. q.0 + q.1 < length s))
-all_ended s from (q ∷ qs) p a l =
-    All-cons (λ r. r.0 + r.1 < length s) q (qs ++ p ∷ []) (omega (arith, runs_up s (q.0 + q.1 + 1) qs p a.3, l))
+all_ended s from (q ∷ qs) p a l = All-cons (λ r. r.0 + r.1 < length s) q (qs ++ p ∷ []) (grind (arith, runs_up))
     (all_ended s (q.0 + q.1 + 1) qs p a.3 l)
 
 pub behind_ended : (s more : List (List ℤ)) (places : List (ℕ × ℕ)) (place n : ℕ)
     → AreRuns s 0 (places ++ (place, n) ∷ []) → place + n < length s
     → received (s ++ more) ≡ received s ++ received more
-behind_ended s more places place n a l =
-    spliced_received s more (places ++ (place, n) ∷ []) a (all_ended s 0 places (place, n) a l)
+behind_ended s more places place n a l = grind (arith, spliced_received, all_ended)
 
 no_packets : (s : List (List ℤ)) → NoneLooks s 0 (length s) → received s ≡ []
 unfolding received all_packets
-no_packets s none =
-    ap (λ rs. map (λ (r : Received). r.packet.0) (flat_map (λ run. run_packets (bytes_in run)) rs))
+no_packets s none = ap (λ rs. map (λ (r : Received). r.packet.0) (flat_map (λ run. run_packets (bytes_in run)) rs))
     (nil_from_length (runs s) ((no_runs s).1 none))
 
 pub behind_none : (s more : List (List ℤ)) → NoneLooks s 0 (length s) → received (s ++ more) ≡ received more
-behind_none s more none =
-    spliced_received s more [] none (All-nil (λ p. p.0 + p.1 < length s))
-    ∙ ap (λ ps. ps ++ received more) (no_packets s none)
+behind_none s more none = rw (spliced_received s more [] none (All-nil (λ p. p.0 + p.1 < length s)), no_packets s none)

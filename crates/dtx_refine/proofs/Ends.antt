@@ -1,6 +1,6 @@
 -- A refiner at the end of the symbols.
-use Rattle.std.proofs.Common.{◌≡◌, ℕ, ℤ, ◌+◌, ◌-◌, ◌*◌, ◌/◌, ◌<◌, ◌≤◌, Bool, true, false, cond, List, [], ◌++◌, length}
-use Rattle.std.proofs.Common.{map, sum, take, refl, sym, ap, ◌∙◌, subst, arith, length-append}
+use Rattle.std.proofs.Common.{◌≡◌, ℕ, ℤ, ◌+◌, ◌-◌, ◌*◌, ◌/◌, ◌<◌, ◌≤◌, Bool, true, false, List, [], ◌++◌, length, map}
+use Rattle.std.proofs.Common.{sum, take, sym, ap, ◌∙◌, subst, arith, length-append}
 use Rattle.std.specs.List.{range_with_len}
 use Rattle.std.proofs.lemmas.List.{append-nil, append_assoc, append_cancel_left, take_all}
 use Rattle.dtx_receiver.specs.Bytes.{bytes_in}
@@ -29,28 +29,24 @@ field_ended : (acquirer : Holding) (symbols : List ℤ) (t : ℕ)
     → length (acquired_so_far acquirer.scale symbols) ≡ 313 * t → length acquirer.given ≤ 313
     → length acquirer.heard ≡ length acquirer.given → 0 < length acquirer.given → IsField acquirer symbols t
 unfolding heard_of
-field_ended acquirer symbols t given heard long few same l = record {
-  within = omega (
-    arith,
-    long,
-    l,
-    ap length segments,
-    length-append (acquired_so_far acquirer.scale symbols) acquirer.given,
-  );
-  given_are = sym (ap (λ xs. rows_of xs t) segments
-      ∙ field_last t (acquired_so_far acquirer.scale symbols) acquirer.given long few);
-  heard_are = sym (ap (λ xs. rows_of xs t) received
-      ∙ field_last t (heard_so_far symbols) acquirer.heard
-      (length-heard_so_far acquirer.scale symbols ∙ long) (omega (arith, few, same)));
-}
-  where
-    segments : acquired acquirer.scale symbols ≡ acquired_so_far acquirer.scale symbols ++ acquirer.given
-    segments =
-        sym (all_is_acquired acquirer.scale symbols)
-        ∙ ap (λ xs. acquired_so_far acquirer.scale symbols ++ xs) (sym given)
-
-    received : heard_of symbols ≡ heard_so_far symbols ++ acquirer.heard
-    received = sym (all_is_heard symbols) ∙ ap (λ xs. heard_so_far symbols ++ xs) (sym heard)
+field_ended acquirer symbols t given heard long few same l =
+    let segments : acquired acquirer.scale symbols ≡ acquired_so_far acquirer.scale symbols ++ acquirer.given =
+    grind (arith, all_is_acquired) in
+    let received : heard_of symbols ≡ heard_so_far symbols ++ acquirer.heard =
+    sym (all_is_heard symbols) ∙ ap (λ xs. heard_so_far symbols ++ xs) (sym heard) in
+    record {
+      within = omega (
+        arith,
+        long,
+        l,
+        ap length segments,
+        length-append (acquired_so_far acquirer.scale symbols) acquirer.given,
+      );
+      given_are = sym (ap (λ xs. rows_of xs t) segments
+          ∙ field_last t (acquired_so_far acquirer.scale symbols) acquirer.given long few);
+      heard_are = sym (ap (λ xs. rows_of xs t) received ∙ field_last t (heard_so_far symbols) acquirer.heard
+          (length-heard_so_far acquirer.scale symbols ∙ long) (omega (arith, few, same)));
+    }
 
 -- ---- the end of the symbols
 
@@ -122,18 +118,7 @@ module _ (a b : Holding) (p q : Passes) (ended : Bool) (symbols : List ℤ)
 pub ended_next : (a : Holding) (p q : Passes) (ended : Bool) (symbols : List ℤ) (before : List (List ℤ))
     → HasEnded (refining a p ended) symbols before → HasEndedOne a.scale symbols p q → q.count ≡ p.count
     → q.held ≤ p.held → HasEnded (refining a q ended) symbols (before ++ given_of q)
-ended_next a p q ended symbols before was one count held = record {
-  passed = one.given.passed;
-  given_are =
-      sym (append_assoc (refined_so_far a.scale symbols q.count) before (given_of q))
-      ∙ ap (λ n. (refined_so_far a.scale symbols n ++ before) ++ given_of q) count
-      ∙ ap (λ xs. xs ++ given_of q) was.given_are
-      ∙ sym (given_next a.scale (fields_in (acquired a.scale symbols)) symbols p q one.given)
-      ∙ ap (λ n. take (313 * q.numbers.done) (refined a.scale symbols n)) (sym count);
-  runs_are = was.runs_are;
-  segments_are = was.segments_are;
-  few = omega (arith, was.few, held, count);
-}
+ended_next a p q ended symbols before was one count held = grind (arith, append_assoc, given_next)
 
 -- ---- all segments
 
@@ -177,64 +162,28 @@ over a p ended symbols done h sums = record {
 pub rest_is : (refiner : Refining) (symbols : List ℤ) (before : List (List ℤ)) → HasEnded refiner symbols before
     → refiner.passes.numbers.done ≡ fields_in (acquired refiner.scale symbols)
     → before ≡ refined_rest refiner.scale symbols refiner.rounds
-rest_is refiner symbols before h done =
-    append_cancel_left (refined_so_far refiner.scale symbols refiner.rounds) before
-    (refined_rest refiner.scale symbols refiner.rounds)
-    (h.given_are ∙ take_all (313 * refiner.passes.numbers.done) (refined refiner.scale symbols refiner.rounds)
-    (omega (arith, done, length-refined refiner.scale refiner.rounds symbols))
-    ∙ sym (all_is_refined refiner.scale refiner.rounds symbols))
+rest_is refiner symbols before h done = append_cancel_left (refined_so_far refiner.scale symbols refiner.rounds) before
+    (refined_rest refiner.scale symbols refiner.rounds) (grind (arith, take_all, length-refined, all_is_refined))
 
 -- ---- what a step does to the numbers
 
 -- a field can be left where none was given
 waits : (p : Passes) (before behind : ℕ) → 313 * p.held + behind ≤ before
     → (p.gives ≡ true → 313 * p.held + behind + 313 ≤ before) → 313 * p.held + behind + length (given_of p) ≤ before
-waits p before behind l more = by_answer p.gives refl
-  where
-    by_answer : (b : Bool) → p.gives ≡ b → 313 * p.held + behind + length (given_of p) ≤ before
-    by_answer true e = omega (arith, given_few p, more e)
-    by_answer false e = omega (arith, ap length (given_none p e), l)
+waits p before behind l more = grind (arith, given_few, given_none)
 
 pub stepped_end : (a b : Holding) (p q : Passes) (ended : Bool) → ended ≡ false → b.scale ≡ a.scale
     → b.symbols ≡ a.symbols → q.count ≡ p.count → q.held ≤ p.held + 1 → (q.gives ≡ true → q.held ≤ p.held)
     → HasStepped (refining a p ended) (refining b q true) q.gives
-stepped_end a b p q ended going scale symbols count most still = record {
-  few = given_few q;
-  none = given_none q;
-  waiting = waits q (313 * p.held + cond ended 0 313) 0 (omega (arith, waiting_then ended going, most))
-      (λ e. omega (arith, waiting_then ended going, still e));
-  fewer = λ e. omega (arith, waiting_then ended going, still e);
-  scale = scale;
-  rounds = count;
-  symbols = symbols;
-  over = refl;
-}
+stepped_end a b p q ended going scale symbols count most still =
+    grind (arith, given_few, given_none, waits, waiting_then, over)
 
 pub stepped_next : (a : Holding) (p q : Passes) (ended : Bool) → ended ≡ true → q.count ≡ p.count
     → q.held ≤ p.held → (q.gives ≡ true → q.held < p.held)
     → HasStepped (refining a p ended) (refining a q ended) q.gives
-stepped_next a p q ended over count most less = record {
-  few = given_few q;
-  none = given_none q;
-  waiting = waits q (313 * p.held + cond ended 0 313) (cond ended 0 313) (omega (arith, most))
-      (λ e. omega (arith, less e));
-  fewer = λ e. omega (arith, less e);
-  scale = refl;
-  rounds = count;
-  symbols = refl;
-  over = over;
-}
+stepped_next a p q ended over count most less = grind (arith, given_few, given_none, waits, over)
 
 -- a step that gave nothing, and another
 pub stepped_two : (old mid new : Refining) (answer : Bool) → HasStepped old mid false → HasStepped mid new answer
     → HasStepped old new answer
-stepped_two old mid new answer h k = record {
-  few = k.few;
-  none = k.none;
-  waiting = omega (arith, h.waiting, k.waiting);
-  fewer = λ e. omega (arith, h.waiting, k.fewer e);
-  scale = k.scale ∙ h.scale;
-  rounds = k.rounds ∙ h.rounds;
-  symbols = k.symbols ∙ h.symbols;
-  over = k.over;
-}
+stepped_two old mid new answer h k = grind (arith, over)

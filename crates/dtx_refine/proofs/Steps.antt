@@ -29,16 +29,12 @@ use Rattle.dtx_refine.specs.declared.passes.Passes.{Passes}
 -- a whole field behind other segments
 pub field_behind : {A : Type 0} (t : ℕ) (front field back : List A) → length front ≡ 313 * t → length field ≡ 313
     → take 313 (drop (313 * t) ((front ++ field) ++ back)) ≡ field
-field_behind t front field back f l =
-    ap (λ xs. take 313 (drop (313 * t) xs)) (append_assoc front field back)
-    ∙ ap (take 313) (drop_at front (field ++ back) (313 * t) f)
-    ∙ take_at field back 313 l
+field_behind t front field back f l = simp (append_assoc, drop_at, take_at)
 
 -- the last field, which may have fewer segments
 pub field_last : {A : Type 0} (t : ℕ) (front field : List A) → length front ≡ 313 * t → length field ≤ 313
     → take 313 (drop (313 * t) (front ++ field)) ≡ field
-field_last t front field f l =
-    ap (take 313) (drop_at front field (313 * t) f) ∙ take_all 313 field l
+field_last t front field f l = ap (take 313) (drop_at front field (313 * t) f) ∙ take_all 313 field l
 
 -- ---- the numbers of fields
 
@@ -50,35 +46,17 @@ at_last : (n : ℕ) (last : Field) (fields : ℕ → Field) → with_last n last
 at_last n last fields = cond-true (eqb n n) last (fields n) (eq-eqb n n refl)
 
 before_last : (n : ℕ) (last : Field) (fields : ℕ → Field) (f : ℕ) → f < n → with_last n last fields f ≡ fields f
-before_last n last fields f l =
-    cond-false (eqb f n) last (fields f) (ne_eqb f n (λ e. absurd (omega (arith, e, l))))
+before_last n last fields f l = cond-false (eqb f n) last (fields f) (ne_eqb f n (λ e. absurd (omega (arith, e, l))))
 
 sum_more : (g : Field → ℕ) (n total : ℕ) (last : Field) (fields : ℕ → Field)
     → total ≡ sum (map (λ f. g (fields f)) (range_with_len 0 n))
     → total + g last ≡ sum (map (λ f. g (with_last n last fields f)) (range_with_len 0 (n + 1)))
-sum_more g n total last fields e =
-    sym (sum_by-map-range_with_len_more (λ x. x) (λ f. g (with_last n last fields f)) 0 n n (omega arith)
-    ∙ ap (λ xs. sum xs + g (with_last n last fields n)) (map-range_same (λ f. g (with_last n last fields f))
-    (λ f. g (fields f)) 0 n (λ i a b. ap g (before_last n last fields i (omega (arith, b)))))
-    ∙ ap (λ x. sum (map (λ f. g (fields f)) (range_with_len 0 n)) + g x) (at_last n last fields)
-    ∙ ap (λ x. x + g last) (sym e))
+sum_more g n total last fields e = grind (arith, sum_by-map-range_with_len_more, map-range_same, before_last, at_last)
 
 -- no field
 pub counted_none : (scale rounds : ℕ) (symbols : List ℤ) (numbers : Numbers) (field : Field) → numbers.done ≡ 0
     → numbers.known ≡ 0 → numbers.cost ≡ 0 → numbers.moved ≡ 0 → AreCounted scale rounds symbols numbers
-counted_none scale rounds symbols numbers field done known cost moved = record {
-  field = λ _. field;
-  rounded = λ f l. absurd (omega (arith, l, done));
-  known_are = known ∙ sym (none words);
-  cost_is = cost ∙ sym (none (λ (x : Field). x.cost));
-  moved_are = moved ∙ sym (none (λ (x : Field). x.moved));
-}
-  where
-    words : Field → ℕ
-    words x = words_known x.words
-
-    none : (g : Field → ℕ) → sum (map (λ f. g field) (range_with_len 0 numbers.done)) ≡ 0
-    none g = ap (λ n. sum (map (λ f. g field) (range_with_len 0 n))) done
+counted_none scale rounds symbols numbers field done known cost moved = grind arith
 
 -- a field more
 pub counted_next : (scale rounds : ℕ) (symbols : List ℤ) (old new : Numbers) (field : Field)
@@ -98,8 +76,7 @@ counted_next scale rounds symbols old new field h r a = record {
 
     more : (g : Field → ℕ) (total : ℕ) → total ≡ sum (map (λ f. g (h.field f)) (range_with_len 0 old.done))
         → total + g field ≡ sum (map (λ f. g (fields f)) (range_with_len 0 new.done))
-    more g total e =
-        sum_more g old.done total field h.field e
+    more g total e = sum_more g old.done total field h.field e
         ∙ ap (λ n. sum (map (λ f. g (fields f)) (range_with_len 0 n))) (sym a.done_is)
 
     given : List (List ℤ)
@@ -107,13 +84,8 @@ counted_next scale rounds symbols old new field h r a = record {
 
     by_place : (f : ℕ) (b : Bool) → eqb f old.done ≡ b → f < old.done + 1
         → IsRounded scale (heard_of symbols) given f (fields f)
-    by_place f true e l =
-        subst (λ n. IsRounded scale (heard_of symbols) given n (fields n)) (sym (eqb-true f old.done e))
-        (subst (IsRounded scale (heard_of symbols) given old.done) (sym (at_last old.done field h.field)) r)
-    by_place f false e l =
-        let before : f < old.done = omega (arith, l, eqb-false f old.done e) in
-        subst (IsRounded scale (heard_of symbols) given f) (sym (before_last old.done field h.field f before))
-        (h.rounded f before)
+    by_place f true e l = grind (arith, eqb-true, at_last)
+    by_place f false e l = grind (arith, eqb-false, before_last)
 
 -- ---- the cost of a field's paths
 
@@ -125,8 +97,7 @@ tail_same (x ∷ xs) sync others e = ap (drop 1) e
 -- the segments of a field behind its sync
 rows_behind : (n : ℕ) (rows : List (List ℤ)) (sync : List ℤ) (others : List (List ℤ))
     → take 313 (drop n rows) ≡ sync ∷ others → take 312 (drop (n + 1) rows) ≡ others
-rows_behind n rows sync others e =
-    ap (take 312) (sym (drop-drop 1 n rows)) ∙ tail_same (drop n rows) sync others e
+rows_behind n rows sync others e = ap (take 312) (sym (drop-drop 1 n rows)) ∙ tail_same (drop n rows) sync others e
 
 pub field_cost_is : (scale t : ℕ) (heard rows : List (List ℤ)) → rows ≡ rows_of heard t → 0 < length rows
     → path_cost scale rows ≡ softened_cost scale (groups_in heard t)
@@ -139,30 +110,15 @@ field_cost_is scale t heard (sync ∷ others) e l =
 
 made_now : (scale u : ℕ) (symbols : List ℤ) (old new : Passes) → 0 < scale → scale ≤ 18 → new.count ≡ old.count
     → AreMade scale (heard_of symbols) (acquired scale symbols) old.count u new.numbers.done new.rounds
-    → new.held + new.numbers.done ≡ u → AreCounted scale old.count symbols new.numbers
-    → ArePassed scale symbols u new
-made_now scale u symbols old new some most count made all counted = record {
-  some = some;
-  most = most;
-  made = subst (λ n. AreMade scale (heard_of symbols) (acquired scale symbols) n u new.numbers.done new.rounds)
-      (sym count) made;
-  all = all;
-  counted = subst (λ n. AreCounted scale n symbols new.numbers) (sym count) counted;
-}
+    → new.held + new.numbers.done ≡ u → AreCounted scale old.count symbols new.numbers → ArePassed scale symbols u new
+made_now scale u symbols old new some most count made all counted = grind arith
 
 -- no field came yet
 pub none_passed : (scale : ℕ) (symbols : List ℤ) (passes : Passes) → 0 < scale → scale ≤ 18
     → AreMade scale (heard_of symbols) (acquired scale symbols) passes.count 0 0 passes.rounds → passes.held ≡ 0
     → passes.numbers.done ≡ 0 → passes.numbers.known ≡ 0 → passes.numbers.cost ≡ 0 → passes.numbers.moved ≡ 0
     → ArePassed scale symbols 0 passes
-none_passed scale symbols passes some most made held done known cost moved = record {
-  some = some;
-  most = most;
-  made = subst (λ n. AreMade scale (heard_of symbols) (acquired scale symbols) passes.count 0 n passes.rounds)
-      (sym done) made;
-  all = omega (arith, held, done);
-  counted = counted_none scale passes.count symbols passes.numbers passes.field done known cost moved;
-}
+none_passed scale symbols passes some most made held done known cost moved = grind (arith, counted_none)
 
 -- field `old.numbers.done` is given, with its numbers
 module _ (scale u : ℕ) (symbols : List ℤ) (old new : Passes) where
@@ -315,25 +271,13 @@ given_next scale t symbols old new h = by_answer new.gives refl
 
     by_answer : (b : Bool) → new.gives ≡ b
         → take (313 * new.numbers.done) segments ≡ take (313 * old.numbers.done) segments ++ given_of new
-    by_answer true e =
-        let next : 313 * new.numbers.done ≡ 313 * old.numbers.done + 313 =
-        omega (arith, h.done ∙ ap (λ b. old.numbers.done + cond b 1 0) e) in
-        ap (λ n. take n segments) next ∙ take-add (313 * old.numbers.done) 313 segments
-        ∙ ap (λ xs. take (313 * old.numbers.done) segments ++ xs)
+    by_answer true e = ap (λ n. take n segments) (omega (arith, h.done ∙ ap (λ b. old.numbers.done + cond b 1 0) e))
+        ∙ take-add (313 * old.numbers.done) 313 segments ∙ ap (λ xs. take (313 * old.numbers.done) segments ++ xs)
         (sym (h.given_are e) ∙ ap (λ b. cond b (decided_rows new.field) []) (sym e))
-    by_answer false e =
-        let same : 313 * new.numbers.done ≡ 313 * old.numbers.done =
-        omega (arith, h.done ∙ ap (λ b. old.numbers.done + cond b 1 0) e) in
-        ap (λ n. take n segments) same
-        ∙ sym (append-nil (take (313 * old.numbers.done) segments))
-        ∙ ap (λ b. take (313 * old.numbers.done) segments ++ cond b (decided_rows new.field) []) (sym e)
+    by_answer false e = grind (arith, append-nil)
 
 pub given_few : (p : Passes) → length (given_of p) ≤ 313
-given_few p = by_answer p.gives
-  where
-    by_answer : (b : Bool) → length (cond b (decided_rows p.field) []) ≤ 313
-    by_answer true = omega (arith, length-take p.field.count p.field.decided.items, p.field.few)
-    by_answer false = omega arith
+given_few p = grind (arith, length-take)
 
 pub given_none : (p : Passes) → p.gives ≡ false → given_of p ≡ []
 given_none p e = ap (λ b. cond b (decided_rows p.field) []) e
@@ -341,14 +285,4 @@ given_none p e = ap (λ b. cond b (decided_rows p.field) []) e
 -- each field that is given has a segment at least
 pub given_some : (scale t : ℕ) (symbols : List ℤ) (old new : Passes) → HasGiven scale symbols t old new
     → t ≡ fields_in (acquired scale symbols) → new.gives ≡ true → 0 < length (given_of new)
-given_some scale t symbols old new h all gives =
-    omega (
-      arith,
-      all,
-      h.passed.all,
-      h.done ∙ ap (λ b. old.numbers.done + cond b 1 0) gives,
-      ap (λ b. length (cond b (decided_rows new.field) [])) gives ∙ ap length (h.given_are gives)
-          ∙ length-take 313 (drop (313 * old.numbers.done) (refined scale symbols old.count)),
-      length-drop (313 * old.numbers.done) (refined scale symbols old.count),
-      length-refined scale old.count symbols,
-    )
+given_some scale t symbols old new h all gives = grind (arith, length-take, length-drop, length-refined)

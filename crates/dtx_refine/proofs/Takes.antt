@@ -1,6 +1,6 @@
 -- A refiner that takes symbols.
 use Rattle.std.proofs.Common.{◌≡◌, ℕ, ℤ, ◌+◌, ◌-◌, ◌*◌, ◌<◌, ◌≤◌, ◌⊎◌, inl, inr, Bool, true, false, cond, List, []}
-use Rattle.std.proofs.Common.{◌++◌, length, take, refl, sym, ap, ◌∙◌, subst, arith, length-append}
+use Rattle.std.proofs.Common.{◌++◌, length, take, sym, ap, ◌∙◌, subst, arith, length-append}
 use Rattle.std.proofs.lemmas.Bool.{cond-false}
 use Rattle.std.proofs.lemmas.List.{append-nil, append_assoc}
 use Rattle.dtx_acquire.specs.Acquired.{acquired, acquired_so_far, heard_so_far}
@@ -23,32 +23,26 @@ field_taken : (acquirer : Holding) (before now more : List ℤ) (t : ℕ)
     → heard_so_far now ≡ heard_so_far before ++ acquirer.heard
     → length (acquired_so_far acquirer.scale before) ≡ 313 * t → length acquirer.given ≡ 313
     → length acquirer.heard ≡ length acquirer.given → IsField acquirer (now ++ more) t
-field_taken acquirer before now more t so_far heard long whole same = record {
-  within = omega (
-    arith,
-    long,
-    whole,
-    ap length segments,
-    length-append (acquired_so_far acquirer.scale before ++ acquirer.given) a.0,
-    length-append (acquired_so_far acquirer.scale before) acquirer.given,
-  );
-  given_are = sym (ap (λ xs. rows_of xs t) segments
-      ∙ field_behind t (acquired_so_far acquirer.scale before) acquirer.given a.0 long whole);
-  heard_are = sym (ap (λ xs. rows_of xs t) (h.1 ∙ ap (λ xs. xs ++ h.0) heard)
-      ∙ field_behind t (heard_so_far before) acquirer.heard h.0
-      (length-heard_so_far acquirer.scale before ∙ long) (same ∙ whole));
-}
-  where
-    a : (others : List (List ℤ)) × (acquired acquirer.scale (now ++ more)
-        ≡ acquired_so_far acquirer.scale now ++ others)
-    a = acquired_ahead acquirer.scale now more
-
-    segments : acquired acquirer.scale (now ++ more)
-        ≡ (acquired_so_far acquirer.scale before ++ acquirer.given) ++ a.0
-    segments = a.1 ∙ ap (λ xs. xs ++ a.0) so_far
-
-    h : (others : List (List ℤ)) × (heard_of (now ++ more) ≡ heard_so_far now ++ others)
-    h = heard_ahead now more
+field_taken acquirer before now more t so_far heard long whole same =
+    let a : (others : List (List ℤ)) ×
+    (acquired acquirer.scale (now ++ more) ≡ acquired_so_far acquirer.scale now ++ others) =
+    acquired_ahead acquirer.scale now more in
+    let segments : acquired acquirer.scale (now ++ more) ≡
+    (acquired_so_far acquirer.scale before ++ acquirer.given) ++ a.0 = a.1 ∙ ap (λ xs. xs ++ a.0) so_far in
+    let h : (others : List (List ℤ)) × (heard_of (now ++ more) ≡ heard_so_far now ++ others) = heard_ahead now more in
+    record {
+      within = omega (
+        arith,
+        long,
+        whole,
+        ap length segments,
+        length-append (acquired_so_far acquirer.scale before ++ acquirer.given) a.0,
+        length-append (acquired_so_far acquirer.scale before) acquirer.given,
+      );
+      given_are = sym (ap (λ xs. rows_of xs t) segments
+          ∙ field_behind t (acquired_so_far acquirer.scale before) acquirer.given a.0 long whole);
+      heard_are = sym (grind (arith, field_behind, length-heard_so_far));
+    }
 
 -- ---- the refiner
 
@@ -150,10 +144,4 @@ few_whole given (inr e) = omega (arith, e)
 -- no more segments than the acquirer gave
 pub given_within : (p : Passes) (given : List (List ℤ)) → (p.gives ≡ true → 0 < length given)
     → (given ≡ []) ⊎ (length given ≡ 313) → length (given_of p) ≤ length given
-given_within p given some whole = by_answer p.gives refl whole
-  where
-    by_answer : (b : Bool) → p.gives ≡ b → (given ≡ []) ⊎ (length given ≡ 313)
-        → length (given_of p) ≤ length given
-    by_answer true e (inl none) = absurd (omega (arith, some e, ap length none))
-    by_answer true e (inr all) = omega (arith, all, given_few p)
-    by_answer false e h = omega (arith, ap length (given_none p e))
+given_within p given some whole = grind (arith, given_few, given_none)

@@ -20,8 +20,7 @@ IsFront k head word = (head ≡ take k word) × (length head ≡ k) × AreBytes 
 
 pub encoded_codeword : (n k : ℕ) (head : List ℕ) → n ≤ 255 → k < n → length head ≡ k → AreBytes head
     → encoded (n - k) head ≡ codeword n k head
-encoded_codeword n k head s l e b =
-    codeword_only n k head (encoded (n - k) head) s l e b (encoded_is n k head l e b)
+encoded_codeword n k head s l e b = codeword_only n k head (encoded (n - k) head) s l e b (encoded_is n k head l e b)
     (take_at head (register (generator (n - k)) (replicate (n - k) 0) head) k e)
 
 -- with zeros behind the generator, the register's first bytes are those without
@@ -32,17 +31,13 @@ register_front m n divisor head p l e =
     let zeros : replicate {A = ℕ} n 0 ≡ replicate m 0 ++ replicate (n - m) 0 =
     sym (replicate-append-replicate m (n - m) 0 ∙ ap (λ k. replicate k 0) whole) in
     let long : length (replicate {A = ℕ} m 0) ≡ m = length-replicate {A = ℕ} m 0 in
-    ap (take m)
-    (ap₂ (λ g rs. register g rs head) e zeros
-    ∙ register_padded (generator m) (replicate m 0) head (n - m) (long ∙ sym (length_generator m)) (omega arith))
-    ∙ take_at (register (generator m) (replicate m 0) head) (replicate (n - m) 0) m
-    (length_register (generator m) (replicate m 0) head ∙ long)
+    ap (take m) (grind (arith, register_padded, length_generator))
+    ∙ take_at (register (generator m) (replicate m 0) head) (replicate (n - m) 0) m (grind (arith, length_register))
 
 front_padded : (m n w : ℕ) (divisor : List ℕ) → m ≤ w → w ≤ n → divisor ≡ generator m ++ replicate (n - m) 0
     → take w divisor ≡ generator m ++ replicate (w - m) 0
 front_padded m n w divisor l r e =
-    let whole : w ≡ length (generator m) + (w - m) = omega (arith, length_generator m) in
-    ap₂ take whole e ∙ take-append-add (generator m) (replicate (n - m) 0) (w - m)
+    ap₂ take (omega (arith, length_generator m)) e ∙ take-append-add (generator m) (replicate (n - m) 0) (w - m)
     ∙ ap (λ xs. generator m ++ xs) (take-replicate (w - m) (n - m) 0 (omega arith))
 
 -- by a table of a divisor of w coefficients
@@ -51,11 +46,7 @@ pub table_codeword : (n k w : ℕ) (divisor table head parity word new : List �
     → length head ≡ k → length word ≡ n → AreBytes head → parity ≡ register table (replicate w 0) head
     → new ≡ head ++ take (length word - length head) parity → new ≡ codeword n k head
 table_codeword n k w divisor table head parity word new code few wide d t lh lw b r e =
-    e ∙ ap (λ xs. head ++ xs)
-    (ap₂ take (ap₂ ◌-◌ lw lh) r
-    ∙ register_front (n - k) w table head (omega (arith, code.longer)) few (t
-    ∙ front_padded (n - k) 256 w divisor few wide d))
-    ∙ encoded_codeword n k head code.short code.longer lh b
+    grind (arith, register_front, front_padded, encoded_codeword)
 
 -- what was made is a codeword
 pub made_codeword : (n k : ℕ) (head new : List ℕ) → IsCode n k → length head ≡ k → AreBytes head
@@ -65,8 +56,7 @@ made_codeword n k head new code l b e = subst (IsCodeword n k) (sym e) (codeword
 -- the parity bytes of data are a table's register
 pub table_parity : (n k : ℕ) (divisor table head : List ℕ) → IsCode n k → n - k ≤ 20
     → divisor ≡ generator (n - k) ++ replicate (256 - (n - k)) 0 → table ≡ take 20 divisor
-    → length head ≡ k → AreBytes head
-    → IsCodeword n k (head ++ take (n - k) (register table (replicate 20 0) head))
+    → length head ≡ k → AreBytes head → IsCodeword n k (head ++ take (n - k) (register table (replicate 20 0) head))
 table_parity n k divisor table head code few d t l b =
     let parity : List ℕ = register table (replicate 20 0) head in
     let long : length (replicate {A = ℕ} n 0) ≡ n = length-replicate {A = ℕ} n 0 in
@@ -86,8 +76,7 @@ four_parities n k divisor table words parities one two three four code few d t e
   where
     made : (head word : List ℕ) → IsFront k head word
         → IsCodeword n k (take k word ++ take (n - k) (register table (replicate 20 0) head))
-    made head word f =
-        subst (λ xs. IsCodeword n k (xs ++ take (n - k) (register table (replicate 20 0) head))) f.0
+    made head word f = subst (λ xs. IsCodeword n k (xs ++ take (n - k) (register table (replicate 20 0) head))) f.0
         (table_parity n k divisor table head code few d t f.1 f.2)
 
     at : (p : ℕ) → p < 4 → IsCodeword n k (take k (get_or words p [])
@@ -118,32 +107,21 @@ pub record AreFour (n : ℕ) (words one two three four : List ℕ) : Type 0 wher
 
 four_joined : (n k : ℕ) (words one two three four : List ℕ) → IsCode n k → AreFour n words one two three four
     → codeword n k (take k one) ++ (codeword n k (take k two) ++ (codeword n k (take k three)
-    ++ codeword n k (take k four)))
-    ≡ completed n k 4 words
-four_joined n k words one two three four code are =
-    sym (ap (completed n k 4) are.joined
-    ∙ completed_four n k one two three four (omega (arith, code.longer)) are.first are.second are.third)
+    ++ codeword n k (take k four))) ≡ completed n k 4 words
+four_joined n k words one two three four code are = grind (arith, completed_four)
 
 pub four_completed : (n k : ℕ) (words one two three four new1 new2 new3 new4 : List ℕ) → IsCode n k
     → AreFour n words one two three four
     → new1 ≡ codeword n k (take k one) → new2 ≡ codeword n k (take k two) → new3 ≡ codeword n k (take k three)
     → new4 ≡ codeword n k (take k four) → new1 ++ (new2 ++ (new3 ++ new4)) ≡ completed n k 4 words
-four_completed n k words one two three four new1 new2 new3 new4 code are e1 e2 e3 e4 =
-    ap₂ (λ x y. x ++ y) e1 (ap₂ (λ x y. x ++ y) e2 (ap₂ (λ x y. x ++ y) e3 e4))
-    ∙ four_joined n k words one two three four code are
+four_completed n k words one two three four new1 new2 new3 new4 code are e1 e2 e3 e4 = grind (arith, four_joined)
 
 -- byte by byte
 pub register_codeword : (n k : ℕ) (divisor head new : List ℕ) → IsCode n k
     → divisor ≡ generator (n - k) ++ replicate (256 - (n - k)) 0 → length head ≡ k → AreBytes head
     → new ≡ head ++ register (take (n - k) divisor) (replicate (length (take (n - k) divisor)) 0) head
     → new ≡ codeword n k head
-register_codeword n k divisor head new code d lh b e =
-    let front : take (n - k) divisor ≡ generator (n - k) =
-    ap (take (n - k)) d
-    ∙ take_at (generator (n - k)) (replicate (256 - (n - k)) 0) (n - k) (length_generator (n - k)) in
-    e ∙ ap (λ g. head ++ register g (replicate (length g) 0) head) front
-    ∙ ap (λ j. head ++ register (generator (n - k)) (replicate j 0) head) (length_generator (n - k))
-    ∙ encoded_codeword n k head code.short code.longer lh b
+register_codeword n k divisor head new code d lh b e = grind (arith, take_at, length_generator, encoded_codeword)
 
 -- what stands behind the data became the register that was fed with them
 abbrev pub IsDivided : List ℕ → List ℕ → List ℕ → Type 0
@@ -155,12 +133,4 @@ pub register_put : (n k : ℕ) (divisor word new : List ℕ) → IsCode n k
     → divisor ≡ generator (n - k) ++ replicate (256 - (n - k)) 0 → length word ≡ n → AreBytes word
     → IsDivided (take (n - k) divisor) word new → new ≡ codeword n k (take k word)
 register_put n k divisor word new code d l b e =
-    let long : length (take (n - k) divisor) ≡ n - k =
-    ap (λ xs. length (take (n - k) xs)) d
-    ∙ ap length (take_at (generator (n - k)) (replicate (256 - (n - k)) 0) (n - k) (length_generator (n - k)))
-    ∙ length_generator (n - k) in
-    let count : length word - length (take (n - k) divisor) ≡ k = omega (arith, l, long, code.longer) in
-    register_codeword n k divisor (take k word) new code d (length-take-le k word (omega (arith, l, code.longer)))
-    (bytes_take k word b)
-    (e ∙ ap (λ i. take i word ++ register (take (n - k) divisor) (replicate (length (take (n - k) divisor)) 0)
-    (take i word)) count)
+    grind (arith, take_at, length_generator, register_codeword, length-take-le, bytes_take)

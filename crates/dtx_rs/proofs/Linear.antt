@@ -49,9 +49,8 @@ sums_back : (xs ys : List ℕ) → length xs ≡ length ys → sums ys (sums xs 
 sums_back [] [] l = refl
 sums_back [] (y ∷ ys) l = absurd (omega arith)
 sums_back (x ∷ xs) [] l = absurd (omega arith)
-sums_back (x ∷ xs) (y ∷ ys) l =
-    ap₂ ◌∷◌ (ap (bit_xor y) (xor_comm x y) ∙ sym (xor_assoc y y x) ∙ ap (λ (z : ℕ). bit_xor z x) (xor_self y)
-    ∙ xor_comm 0 x ∙ xor_zero_r x) (sums_back xs ys (omega arith))
+sums_back (x ∷ xs) (y ∷ ys) l = ap₂ ◌∷◌
+    (rw (xor_comm x y, ← xor_assoc y y x, xor_self y, xor_comm 0 x, xor_zero_r x)) (sums_back xs ys (omega arith))
 
 -- ---- the register keeps sums
 
@@ -63,13 +62,7 @@ fed_sums : (divisor rs us : List ℕ) (b c : ℕ) → length rs ≡ length us �
 fed_sums divisor [] us b c l m = refl
 fed_sums divisor (r ∷ rs) [] b c l m = absurd (omega arith)
 fed_sums divisor (r ∷ rs) (u ∷ us) b c l m =
-    ap₂ (λ xs f. sums xs (scaled f divisor)) (sym (sums_append rs us (0 ∷ []) (0 ∷ []) (omega arith)))
-    (xor_swap b c r u)
-    ∙ ap (sums (sums (rs ++ 0 ∷ []) (us ++ 0 ∷ []))) (scaled_sum (bit_xor b r) (bit_xor c u) divisor)
-    ∙ sums_swap (rs ++ 0 ∷ []) (us ++ 0 ∷ []) (scaled (bit_xor b r) divisor) (scaled (bit_xor c u) divisor)
-    (omega (arith, length_push rs 0, length_push us 0)) (length_scaled (bit_xor b r) divisor
-    ∙ sym (length_scaled (bit_xor c u) divisor))
-    (omega (arith, length_push rs 0, length_scaled (bit_xor b r) divisor))
+    grind (arith, sums_append, xor_swap, scaled_sum, sums_swap, length_push, length_scaled)
 
 pub register_sums : (divisor rs us bs cs : List ℕ) → length rs ≡ length us → length rs ≡ length divisor
     → length bs ≡ length cs
@@ -107,9 +100,8 @@ zeros_before divisor bs n (suc j) = ap (λ rs. register divisor rs (replicate j 
 -- what the register's own first bytes feed moves it
 own_shift : (divisor top rest : List ℕ) → register divisor (top ++ rest) top ≡ rest ++ replicate (length top) 0
 own_shift divisor [] rest = sym (append-nil rest)
-own_shift divisor (r ∷ top) rest =
-    ap (λ xs. register divisor xs top) (ap (λ f. sums ((top ++ rest) ++ 0 ∷ []) (scaled f divisor)) (xor_self r)
-    ∙ zero_scaled ((top ++ rest) ++ 0 ∷ []) divisor ∙ append_assoc top rest (0 ∷ []))
+own_shift divisor (r ∷ top) rest = ap (λ xs. register divisor xs top)
+    (rw (xor_self r, zero_scaled ((top ++ rest) ++ 0 ∷ []) divisor, append_assoc top rest (0 ∷ [])))
     ∙ own_shift divisor top (rest ++ 0 ∷ []) ∙ append_assoc rest (0 ∷ []) (replicate (length top) 0)
 
 -- A step by many bytes: the register moves, and what the sums feed to zeros is added.
@@ -142,14 +134,10 @@ fed_padded : (divisor rs : List ℕ) (p b : ℕ) → length rs ≡ length diviso
     → fed (divisor ++ replicate p 0) (rs ++ replicate p 0) b ≡ fed divisor rs b ++ replicate p 0
 fed_padded divisor [] p b l s = absurd (omega arith)
 fed_padded divisor (r ∷ rs) p b l s =
-    let long : length (rs ++ 0 ∷ []) ≡ length (scaled (bit_xor b r) divisor) =
-    omega (arith, length_push rs 0, length_scaled (bit_xor b r) divisor) in
-    ap₂ sums
-    (append_assoc rs (replicate p 0) (0 ∷ []) ∙ ap (λ xs. rs ++ xs) (zeros_push p)
-    ∙ sym (append_assoc rs (0 ∷ []) (replicate p 0)))
-    (scaled_append (bit_xor b r) divisor (replicate p 0)
-    ∙ ap (λ xs. scaled (bit_xor b r) divisor ++ xs) (scaled_zeros (bit_xor b r) p))
-    ∙ sums_append (rs ++ 0 ∷ []) (scaled (bit_xor b r) divisor) (replicate p 0) (replicate p 0) long
+    ap₂ sums (append_assoc rs (replicate p 0) (0 ∷ []) ∙ ap (λ xs. rs ++ xs) (zeros_push p)
+    ∙ sym (append_assoc rs (0 ∷ []) (replicate p 0))) (grind (arith, scaled_append, scaled_zeros))
+    ∙ sums_append (rs ++ 0 ∷ []) (scaled (bit_xor b r) divisor) (replicate p 0) (replicate p 0)
+    (omega (arith, length_push rs 0, length_scaled (bit_xor b r) divisor))
     ∙ ap (λ xs. sums (rs ++ 0 ∷ []) (scaled (bit_xor b r) divisor) ++ xs) (zeros_sum p)
 
 -- zeros behind the divisor stand behind the register and change nothing else
@@ -158,5 +146,4 @@ pub register_padded : (divisor rs bs : List ℕ) (p : ℕ) → length rs ≡ len
 register_padded divisor rs [] p l s = refl
 register_padded divisor rs (b ∷ bs) p l s =
     ap (λ xs. register (divisor ++ replicate p 0) xs bs) (fed_padded divisor rs p b l s)
-    ∙ register_padded divisor (fed divisor rs b) bs p (length_fed divisor rs b
-    ∙ l) (omega (arith, length_fed divisor rs b))
+    ∙ register_padded divisor (fed divisor rs b) bs p (length_fed divisor rs b ∙ l) (grind (arith, length_fed))

@@ -23,9 +23,8 @@ multiplied_at r c (x ∷ xs) (suc k) l = multiplied_at r x xs k (omega arith)
 pub multiplied_by_places : (new old : List ℕ) (r : ℕ) → length new ≡ length old
     → ((k : ℕ) → k < length old → get_or new k 0 ≡ bit_xor (get_or old k 0) (mul r (get_or (1 ∷ old) k 0)))
     → new ≡ multiplied r 1 old
-multiplied_by_places new old r l h =
-    ext_get_or 0 new (multiplied r 1 old) (l ∙ sym (length_multiplied r 1 old)) (λ k i. h k (omega arith)
-    ∙ sym (multiplied_at r 1 old k (omega arith)))
+multiplied_by_places new old r l h = ext_get_or 0 new (multiplied r 1 old) (l ∙ sym (length_multiplied r 1 old))
+    (λ k i. grind (arith, multiplied_at))
 
 multiplied_is : (r c : ℕ) (xs : List ℕ) → multiplied r c (xs ++ 0 ∷ []) ≡ sums (xs ++ 0 ∷ []) (mul r c ∷ scaled r xs)
 multiplied_is r c [] = refl
@@ -33,11 +32,7 @@ multiplied_is r c (x ∷ xs) = ap (◌∷◌ (bit_xor x (mul r c))) (multiplied_
 
 -- the generator of one more root
 grown : (m : ℕ) → multiplied (pow 2 m) 1 (generator m ++ 0 ∷ []) ≡ generator (m + 1)
-grown m =
-    multiplied_is (pow 2 m) 1 (generator m)
-    ∙ ap (λ c. sums (generator m ++ 0 ∷ []) (c ∷ scaled (pow 2 m) (generator m))) (mul_comm (pow 2 m) 1
-    ∙ mul_one (pow 2 m) (pow_small 2 m))
-    ∙ ap generator (sym (add-one m))
+grown m = grind (arith, multiplied_is, mul_comm, mul_one, pow_small, add-one)
 
 -- one turn of the loop over the degree, in a place for n coefficients
 pub generator_more : (m n : ℕ) (old part : List ℕ) (root : ℕ) → m < n → old ≡ generator m ++ replicate (n - m) 0
@@ -46,14 +41,8 @@ pub generator_more : (m n : ℕ) (old part : List ℕ) (root : ℕ) → m < n �
 generator_more m n old part root l e p h =
     let rest : List ℕ = replicate (n - (m + 1)) 0 in
     let one_less : n - m ≡ suc (n - (m + 1)) = omega arith in
-    let split : old ≡ (generator m ++ 0 ∷ []) ++ replicate (n - (m + 1)) 0 =
-    e ∙ ap (λ k. generator m ++ replicate k 0) one_less
-    ∙ sym (append_assoc (generator m) (0 ∷ []) (replicate (n - (m + 1)) 0)) in
+    let split : old ≡ (generator m ++ 0 ∷ []) ++ replicate (n - (m + 1)) 0 = grind (arith, append_assoc) in
     let long : length (generator m ++ 0 ∷ []) ≡ m + 1 =
     length_push (generator m) 0 ∙ ap (λ k. k + 1) (length_generator m) in
-    ap₂ ◌++◌
-    (h
-    ∙ ap₂ (λ r xs. multiplied r 1 xs) p (ap (take (m + 1)) split
-    ∙ take_at (generator m ++ 0 ∷ []) (replicate (n - (m + 1)) 0) (m + 1) long)
-    ∙ grown m)
+    ap₂ ◌++◌ (h ∙ ap₂ (λ r xs. multiplied r 1 xs) p (grind (arith, take_at)) ∙ grown m)
     (ap (drop (m + 1)) split ∙ drop_at (generator m ++ 0 ∷ []) (replicate (n - (m + 1)) 0) (m + 1) long)

@@ -27,7 +27,6 @@ pub step_is : (divisor state bytes fs r3 r2 r1 r0 : List ℕ) → 0 < length sta
     ≡ register divisor (word_bytes state) bytes
 step_is divisor [] bytes fs r3 r2 r1 r0 s l b small f e3 e2 e1 e0 = absurd (omega arith)
 step_is divisor (w ∷ ws) bytes fs r3 r2 r1 r0 s l b small f e3 e2 e1 e0 =
-    let n : ℕ = suc (length ws) in
     let l3 : length r3 ≡ suc (length ws) = row_words divisor r3 (get_or fs 0 0) 3 (suc (length ws)) l e3 in
     let l2 : length r2 ≡ suc (length ws) = row_words divisor r2 (get_or fs 1 0) 2 (suc (length ws)) l e2 in
     let l1 : length r1 ≡ suc (length ws) = row_words divisor r1 (get_or fs 2 0) 1 (suc (length ws)) l e1 in
@@ -38,20 +37,12 @@ step_is divisor (w ∷ ws) bytes fs r3 r2 r1 r0 s l b small f e3 e2 e1 e0 =
     let four : bytes ≡ get_or bytes 0 0 ∷ get_or bytes 1 0 ∷ get_or bytes 2 0 ∷ get_or bytes 3 0 ∷ [] =
     list_of_four bytes b in
     let factors : fs ≡ sums (get_or bytes 0 0 ∷ get_or bytes 1 0 ∷ get_or bytes 2 0 ∷ get_or bytes 3 0 ∷ [])
-    (to_le_bytes w32 w) =
-    f ∙ to_le_bytes-xor (from_le_bytes w32 bytes) w
+    (to_le_bytes w32 w) = f ∙ to_le_bytes-xor (from_le_bytes w32 bytes) w
     ∙ ap (λ xs. sums xs (to_le_bytes w32 w)) (le_bytes_4 bytes (from_le_bytes w32 bytes) b small refl ∙ four) in
     word_bytes-sums (ws ++ 0 ∷ []) (sums r3 (sums r2 (sums r1 r0))) (omega (arith, length_push ws 0))
-    ∙ ap₂ sums (word_bytes-append ws (0 ∷ []))
-    (word_bytes-sums r3 (sums r2 (sums r1 r0)) (l3 ∙ sym m2)
-    ∙ ap₂ sums (e3 ∙ ap (λ xs. row divisor (get_or xs 0 0) 3) factors)
-    (word_bytes-sums r2 (sums r1 r0) (l2 ∙ sym m1)
-    ∙ ap₂ sums (e2 ∙ ap (λ xs. row divisor (get_or xs 1 0) 2) factors)
-    (word_bytes-sums r1 r0 (l1 ∙ sym l0) ∙ ap₂ sums (e1 ∙ ap (λ xs. row divisor (get_or xs 2 0) 1) factors) (e0
-    ∙ ap (λ xs. row divisor (get_or xs 3 0) 0) factors))))
+    ∙ ap₂ sums (word_bytes-append ws (0 ∷ [])) (grind (arith, word_bytes-sums))
     ∙ sym (four_fed divisor (word_bytes ws) _ _ _ _ (get_or bytes 0 0) (get_or bytes 1 0) (get_or bytes 2 0)
-    (get_or bytes 3 0) (omega (arith, length-word_bytes ws)))
-    ∙ ap (register divisor (word_bytes (w ∷ ws))) (sym four)
+    (get_or bytes 3 0) (omega (arith, length-word_bytes ws))) ∙ ap (register divisor (word_bytes (w ∷ ws))) (sym four)
 
 -- where the first word of each stands apart
 pub split_sum : (rest r3 r2 r1 r0 : List ℕ) (first : ℕ) (words : List ℕ) → 0 < length rest → 0 < length r3

@@ -11,8 +11,7 @@ xor_byte : (u v k : ℕ) → bit_xor u v / 2 ^ k % 256 ≡ bit_xor (u / 2 ^ k % 
 xor_byte u v k = ap (λ (x : ℕ). x % 256) (xor_shr u v k) ∙ xor_mod (u / 2 ^ k) (v / 2 ^ k) 8
 
 pub to_le_bytes-xor : (u v : ℕ) → to_le_bytes w32 (bit_xor u v) ≡ sums (to_le_bytes w32 u) (to_le_bytes w32 v)
-to_le_bytes-xor u v =
-    ap₂ ◌∷◌ (xor_mod u v 8) (ap₂ ◌∷◌ (xor_byte u v 8)
+to_le_bytes-xor u v = ap₂ ◌∷◌ (xor_mod u v 8) (ap₂ ◌∷◌ (xor_byte u v 8)
     (ap₂ ◌∷◌ (xor_byte u v 16) (ap (λ (x : ℕ). x ∷ []) (xor_byte u v 24))))
 
 pub length-word_bytes : (ws : List ℕ) → length (word_bytes ws) ≡ 4 * length ws
@@ -30,8 +29,7 @@ pub word_bytes-sums : (us vs : List ℕ) → length us ≡ length vs
     → word_bytes (sums us vs) ≡ sums (word_bytes us) (word_bytes vs)
 word_bytes-sums [] vs l = refl
 word_bytes-sums (u ∷ us) [] l = absurd (omega arith)
-word_bytes-sums (u ∷ us) (v ∷ vs) l =
-    ap₂ ◌∷◌ (xor_mod u v 8) (ap₂ ◌∷◌ (xor_byte u v 8)
+word_bytes-sums (u ∷ us) (v ∷ vs) l = ap₂ ◌∷◌ (xor_mod u v 8) (ap₂ ◌∷◌ (xor_byte u v 8)
     (ap₂ ◌∷◌ (xor_byte u v 16) (ap₂ ◌∷◌ (xor_byte u v 24) (word_bytes-sums us vs (omega arith)))))
 
 -- one more word
@@ -54,14 +52,8 @@ pub take_four : (xs : List ℕ) (i : ℕ) → i + 3 < length xs
     → take i xs ++ get_or xs i 0 ∷ get_or xs (i + 1) 0 ∷ get_or xs (i + 2) 0 ∷ get_or xs (i + 3) 0 ∷ []
     ≡ take (i + 4) xs
 take_four xs i l =
-    let a1 : i + 1 + 1 ≡ i + 2 = omega arith in
     let a2 : i + 2 + 1 ≡ i + 3 = omega arith in
-    let a3 : i + 3 + 1 ≡ i + 4 = omega arith in
-    sym
-    (ap (λ n. take n xs) (sym a3) ∙ take_more xs (i + 3) 0 l
-    ∙ ap (λ ys. ys ++ get_or xs (i + 3) 0 ∷ [])
-    (ap (λ n. take n xs) (sym a2) ∙ take_more xs (i + 2) 0 (omega arith)
-    ∙ ap (λ ys. ys ++ get_or xs (i + 2) 0 ∷ [])
-    (ap (λ n. take n xs) (sym a1) ∙ take_more xs (i + 1) 0 (omega arith)
-    ∙ ap (λ ys. ys ++ get_or xs (i + 1) 0 ∷ []) (take_more xs i 0 (omega arith))))
-    ∙ simp append_assoc)
+    sym (ap (λ n. take n xs) (sym (omega arith)) ∙ take_more xs (i + 3) 0 l ∙ ap (λ ys. ys ++ get_or xs (i + 3) 0 ∷ [])
+    (ap (λ n. take n xs) (sym a2) ∙ take_more xs (i + 2) 0 (omega arith) ∙ ap (λ ys. ys ++ get_or xs (i + 2) 0 ∷ [])
+    (ap (λ n. take n xs) (sym (omega arith)) ∙ take_more xs (i + 1) 0 (omega arith)
+    ∙ ap (λ ys. ys ++ get_or xs (i + 1) 0 ∷ []) (take_more xs i 0 (omega arith)))) ∙ simp append_assoc)

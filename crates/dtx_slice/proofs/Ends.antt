@@ -13,14 +13,12 @@ pub bytes_end : (s : ℕ) (precoder_bits levels bytes : List ℕ) → length lev
     → ((j : ℕ) → j < 828 → get_or bytes j 0 ≡ byte_back s precoder_bits levels j)
     → bytes ≡ bytes_back s precoder_bits levels
 unfolding bytes_back
-bytes_end s precoder_bits levels bytes h l f =
-    fill_by_all (byte_back s precoder_bits levels) bytes 828 0 l f
+bytes_end s precoder_bits levels bytes h l f = fill_by_all (byte_back s precoder_bits levels) bytes 828 0 l f
     ∙ ap (λ n. map (byte_back s precoder_bits levels) (range_with_len 0 (828 * n))) (sym (one_group levels h))
 
 pub precoder_bits_end : (s : ℕ) (precoder_bits levels new : List ℕ) → length levels ≡ 3312 → length new ≡ 12
     → ((e : ℕ) → e < 12 → get_or new e 0 ≡ precoder_bit s precoder_bits levels 276 e)
     → new ≡ precoder_bits_after s precoder_bits levels
 unfolding precoder_bits_after
-precoder_bits_end s precoder_bits levels new h l f =
-    fill_by_all (precoder_bit s precoder_bits levels 276) new 12 0 l f
+precoder_bits_end s precoder_bits levels new h l f = fill_by_all (precoder_bit s precoder_bits levels 276) new 12 0 l f
     ∙ ap (λ n. map (precoder_bit s precoder_bits levels (276 * n)) (range_with_len 0 12)) (sym (one_group levels h))

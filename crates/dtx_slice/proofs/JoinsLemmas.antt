@@ -18,11 +18,7 @@ groups_whole u y h = let e : length y / 3312 ≡ u = omega arith in e
 
 groups_append : (u : ℕ) (y z : List ℕ) → length y ≡ 3312 * u → level_groups (y ++ z) ≡ u + level_groups z
 unfolding level_groups
-groups_append u y z h =
-    ap (λ n. n / 3312) (length-append y z ∙ ap (λ n. n + length z) h) ∙ divided u (length z)
-  where
-    divided : (u n : ℕ) → (3312 * u + n) / 3312 ≡ u + n / 3312
-    divided u n = omega arith
+groups_append u y z h = grind (arith, length-append)
 
 -- within the first groups
 symbol_before : (s u r e : ℕ) (y z : List ℕ) → length y ≡ 3312 * u → r < 276 * u
@@ -31,8 +27,7 @@ symbol_before s u r e y z h l = get_or_append_left y z 0 (symbol_place s r e) (o
 
 precoder_bit_before : (s u r e : ℕ) (precoder_bits y z : List ℕ) → length y ≡ 3312 * u → r ≤ 276 * u
     → precoder_bit s precoder_bits (y ++ z) r e ≡ precoder_bit s precoder_bits y r e
-precoder_bit_before s u zero e precoder_bits y z h l = precoder_bit_zero s e precoder_bits (y ++ z)
-    ∙ sym (precoder_bit_zero s e precoder_bits y)
+precoder_bit_before s u zero e precoder_bits y z h l = grind (arith, precoder_bit_zero)
 precoder_bit_before s u (suc r) e precoder_bits y z h l =
     ap (λ t. precoder_bit s precoder_bits (y ++ z) t e) (omega arith) ∙ precoder_bit_next s r e precoder_bits (y ++ z)
     ∙ ap (λ x. x / 4) (symbol_before s u r e y z h (omega arith))
@@ -50,9 +45,7 @@ of_pairs f r = 64 * f r + 16 * f (r + 1) + 4 * f (r + 2) + f (r + 3)
 
 same_pairs : (f g : ℕ → ℕ) (r t : ℕ) → f r ≡ g t → f (r + 1) ≡ g (t + 1) → f (r + 2) ≡ g (t + 2) → f (r + 3) ≡ g (t + 3)
     → of_pairs f r ≡ of_pairs g t
-same_pairs f g r t a b c d =
-    ap₂ (λ x y. 64 * x + 16 * y + 4 * f (r + 2) + f (r + 3)) a b
-    ∙ ap₂ (λ x y. 64 * g t + 16 * g (t + 1) + 4 * x + y) c d
+same_pairs f g r t a b c d = grind arith
 
 byte_before : (s u j : ℕ) (precoder_bits y z : List ℕ) → length y ≡ 3312 * u → j < 828 * u
     → byte_back s precoder_bits (y ++ z) j ≡ byte_back s precoder_bits y j
@@ -63,36 +56,23 @@ byte_before s u j precoder_bits y z h l =
     ≡ pair_back s precoder_bits y (4 * (j / 12) + i) (coder_of s j) =
     λ i m. pair_before s u (4 * (j / 12) + i) (coder_of s j) precoder_bits y z h m in
     same_pairs (λ r. pair_back s precoder_bits (y ++ z) r (coder_of s j)) (λ r. pair_back s precoder_bits y r
-    (coder_of s j))
-    (4 * (j / 12)) (4 * (j / 12))
-    (pair_before s u (4 * (j / 12)) (coder_of s j) precoder_bits y z h (omega arith)) (same 1 (omega arith))
+    (coder_of s j)) (4 * (j / 12)) (4 * (j / 12)) (grind (arith, pair_before)) (same 1 (omega arith))
     (same 2 (omega arith)) (same 3 (omega arith))
 
 -- behind them
 place_on : (s u r e : ℕ) → symbol_place s (276 * u + r) e ≡ 3312 * u + symbol_place (group_place s u) r e
 unfolding symbol_place group_place
-place_on s u r e =
-    let f : (276 * u + r) / 69 ≡ 4 * u + r / 69 = omega arith in
-    ap (λ x. 12 * (276 * u + r) + (e + 12 - 4 * ((s + x) % 3)) % 12) f
-    ∙ ap (λ x. 12 * (276 * u + r) + (e + 12 - 4 * x) % 12) (omega arith)
-    ∙ sum ((e + 12 - 4 * (((s + 4 * u) % 312 + r / 69) % 3)) % 12)
-  where
-    sum : (x : ℕ) → 12 * (276 * u + r) + x ≡ 3312 * u + (12 * r + x)
-    sum x = omega arith
+place_on s u r e = grind arith
 
 symbol_behind : (s u r e : ℕ) (y z : List ℕ) → length y ≡ 3312 * u
     → get_or (y ++ z) (symbol_place s (276 * u + r) e) 0 ≡ get_or z (symbol_place (group_place s u) r e) 0
-symbol_behind s u r e y z h =
-    ap (λ i. get_or (y ++ z) i 0) (place_on s u r e)
-    ∙ get_or-append_right y z (3312 * u) (3312 * u + symbol_place (group_place s u) r e) 0 h (omega arith)
-    ∙ ap (λ i. get_or z i 0) (omega arith)
+symbol_behind s u r e y z h = grind (arith, place_on, get_or-append_right)
 
 precoder_bit_behind : (s u r e : ℕ) (precoder_bits y z : List ℕ) → length y ≡ 3312 * u → e < 12
     → precoder_bit s precoder_bits (y ++ z) (276 * u + r) e ≡ precoder_bit (group_place s u)
     (precoder_bits_after s precoder_bits y) z r e
 unfolding precoder_bits_after
-precoder_bit_behind s u zero e precoder_bits y z h l =
-    ap (λ t. precoder_bit s precoder_bits (y ++ z) t e) (omega arith)
+precoder_bit_behind s u zero e precoder_bits y z h l = ap (λ t. precoder_bit s precoder_bits (y ++ z) t e) (omega arith)
     ∙ precoder_bit_before s u (276 * u) e precoder_bits y z h (omega arith)
     ∙ sym (precoder_bit_zero (group_place s u) e (map (precoder_bit s precoder_bits y (276 * level_groups y))
     (range_with_len 0 12)) z
@@ -109,28 +89,21 @@ pair_behind : (s u r e : ℕ) (precoder_bits y z : List ℕ) → length y ≡ 33
     → pair_back s precoder_bits (y ++ z) (276 * u + r) e ≡ pair_back (group_place s u)
     (precoder_bits_after s precoder_bits y) z r e
 unfolding pair_back
-pair_behind s u r e precoder_bits y z h l =
-    ap₂ pair_from (precoder_bit_behind s u r e precoder_bits y z h l) (symbol_behind s u r e y z h)
+pair_behind s u r e precoder_bits y z h l = grind (arith, precoder_bit_behind, symbol_behind)
 
 coder_on : (s u j : ℕ) → coder_of s (828 * u + j) ≡ coder_of (group_place s u) j
 unfolding coder_of group_place
-coder_on s u j =
-    let a : (828 * u + j) % 12 ≡ j % 12 = omega arith in
-    let b : 4 * ((828 * u + j) / 12) / 69 ≡ 4 * u + 4 * (j / 12) / 69 = omega arith in
-    ap₂ (λ (x y : ℕ). (x + 4 * ((s + y) % 3)) % 12) a b
-    ∙ ap (λ x. (j % 12 + 4 * x) % 12) (omega arith)
+coder_on s u j = grind arith
 
 byte_behind : (s u j : ℕ) (precoder_bits y z : List ℕ) → length y ≡ 3312 * u
     → byte_back s precoder_bits (y ++ z) (828 * u + j) ≡ byte_back (group_place s u)
     (precoder_bits_after s precoder_bits y) z j
 unfolding byte_back
 byte_behind s u j precoder_bits y z h =
-    let m : 4 * ((828 * u + j) / 12) ≡ 276 * u + 4 * (j / 12) = omega arith in
-    ap₂ (λ (r e : ℕ). of_pairs (λ t. pair_back s precoder_bits (y ++ z) t e) r) m (coder_on s u j)
+    ap₂ (λ (r e : ℕ). of_pairs (λ t. pair_back s precoder_bits (y ++ z) t e) r) (omega arith) (coder_on s u j)
     ∙ same_pairs (λ t. pair_back s precoder_bits (y ++ z) t (coder_of (group_place s u) j))
     (λ t. pair_back (group_place s u) (precoder_bits_after s precoder_bits y) z t (coder_of (group_place s u) j))
-    (276 * u + 4 * (j / 12)) (4 * (j / 12))
-    (same (4 * (j / 12))) (next 1) (next 2) (next 3)
+    (276 * u + 4 * (j / 12)) (4 * (j / 12)) (same (4 * (j / 12))) (next 1) (next 2) (next 3)
   where
     same : (r : ℕ) → pair_back s precoder_bits (y ++ z) (276 * u + r) (coder_of (group_place s u) j)
         ≡ pair_back (group_place s u) (precoder_bits_after s precoder_bits y) z r (coder_of (group_place s u) j)
@@ -148,10 +121,8 @@ pub bytes_append : (s u : ℕ) (precoder_bits y z : List ℕ) → length y ≡ 3
 unfolding bytes_back
 bytes_append s u precoder_bits y z h =
     ap (λ n. map (byte_back s precoder_bits (y ++ z)) (range_with_len 0 n)) (ap (λ n. 828 * n) (groups_append u y z h)
-    ∙ omega arith)
-    ∙ map-range_parts (byte_back s precoder_bits (y ++ z)) (byte_back (group_place s u)
-    (precoder_bits_after s precoder_bits y) z)
-    (828 * u) (828 * level_groups z) (λ j _. byte_behind s u j precoder_bits y z h)
+    ∙ omega arith) ∙ map-range_parts (byte_back s precoder_bits (y ++ z)) (byte_back (group_place s u)
+    (precoder_bits_after s precoder_bits y) z) (828 * u) (828 * level_groups z) (λ j _. grind (arith, byte_behind))
     ∙ ap (λ (xs : List ℕ). xs ++ map (byte_back (group_place s u) (precoder_bits_after s precoder_bits y) z)
     (range_with_len 0 (828 * level_groups z)))
     (map-range_same (byte_back s precoder_bits (y ++ z)) (byte_back s precoder_bits y) 0 (828 * u)
@@ -173,23 +144,15 @@ precoder_bits_append s u precoder_bits y z h =
 -- at a field's end
 end_place : (s u e : ℕ) → 0 < u → group_place s u ≡ 0 → symbol_place s (276 * u - 1) e ≡ 3312 * u - 12 + (e + 4) % 12
 unfolding symbol_place group_place
-end_place s u e l h =
-    let a : (276 * u - 1) / 69 ≡ 4 * u - 1 = omega arith in
-    let b : (s + (4 * u - 1)) % 3 ≡ 2 = omega arith in
-    let c : 12 * (276 * u - 1) ≡ 3312 * u - 12 = omega arith in
-    ap (λ x. 12 * (276 * u - 1) + (e + 12 - 4 * ((s + x) % 3)) % 12) a ∙ ap₂ (λ x y. x + (e + 12 - 4 * y) % 12) c b
-    ∙ ap (λ x. 3312 * u - 12 + x) (omega arith)
+end_place s u e l h = grind arith
 
 pub precoder_bits_repeated : (s u : ℕ) (precoder_bits levels : List ℕ) → length levels ≡ 3312 * u → 0 < u
-    → group_place s u ≡ 0
-    → precoder_bits_of (drop (3312 * u - 12) levels) ≡ precoder_bits_after s precoder_bits levels
+    → group_place s u ≡ 0 → precoder_bits_of (drop (3312 * u - 12) levels) ≡ precoder_bits_after s precoder_bits levels
 unfolding precoder_bits_of precoder_bits_after
 precoder_bits_repeated s u precoder_bits levels h l m =
     map-range_same (λ e. get_or (drop (3312 * u - 12) levels) ((e + 4) % 12) 0 / 4)
     (precoder_bit s precoder_bits levels (276 * u)) 0 12
     (λ e _ _. ap (λ x. x / 4) (get_or-drop (3312 * u - 12) levels ((e + 4) % 12) 0
-    ∙ ap (λ i. get_or levels i 0) (sym (end_place s u e l m)))
-    ∙ sym (ap (λ t. precoder_bit s precoder_bits levels t e) (omega arith)
-    ∙ precoder_bit_next s (276 * u - 1) e precoder_bits levels))
+    ∙ ap (λ i. get_or levels i 0) (sym (end_place s u e l m))) ∙ sym (grind (arith, precoder_bit_next)))
     ∙ ap (λ g. map (precoder_bit s precoder_bits levels (276 * g)) (range_with_len 0 12)) (sym
     (groups_whole u levels h))

@@ -22,19 +22,13 @@ position_test = refl
 
 pub turned_at : (v : List ℕ) (p : ℕ) → length v ≡ 16 → p < 12
     → get_or (map (λ k. get_or (v ++ v) k 0) positions) p 0 ≡ get_or v ((p + 8) % 12) 0
-turned_at v p h l =
-    get_or-map (λ k. get_or (v ++ v) k 0) positions p 0 0 (omega arith)
-    ∙ ap (λ k. get_or (v ++ v) k 0) (eqb-true (get_or positions p 0) ((p + 8) % 12)
-    (at_below (λ p. get_or positions p 0 == (p + 8) % 12) 12 p position_test l))
-    ∙ get_or_append_left v v 0 ((p + 8) % 12) (omega arith)
+turned_at v p h l = get_or-map (λ k. get_or (v ++ v) k 0) positions p 0 0 (omega arith) ∙ ap (λ k. get_or (v ++ v) k 0)
+    (grind (arith, eqb-true, at_below, position_test)) ∙ get_or_append_left v v 0 ((p + 8) % 12) (omega arith)
 
 -- levels that are picked from a vector
 pub picked_small : (v places : List ℕ) → AreSmall v → AreSmall (map (λ k. get_or (v ++ v) k 0) places)
-picked_small v places f p l =
-    subst (λ x. x < 8)
-    (sym (get_or-map (λ k. get_or (v ++ v) k 0) places p 0 0
-    (omega (arith, length-map places (λ k. get_or (v ++ v) k 0)))))
-    (twice (get_or places p 0) (cases_lt (get_or places p 0) (length v)))
+picked_small v places f p l = subst (λ x. x < 8) (sym (get_or-map (λ k. get_or (v ++ v) k 0) places p 0 0
+    (grind (arith, length-map)))) (twice (get_or places p 0) (cases_lt (get_or places p 0) (length v)))
   where
     once : (k : ℕ) → (k < length v) ⊎ (length v ≤ k) → get_or v k 0 < 8
     once k (inl m) = f k m
@@ -42,8 +36,7 @@ picked_small v places f p l =
 
     twice : (k : ℕ) → (k < length v) ⊎ (length v ≤ k) → get_or (v ++ v) k 0 < 8
     twice k (inl m) = subst (λ x. x < 8) (sym (get_or_append_left v v 0 k m)) (f k m)
-    twice k (inr m) =
-        subst (λ x. x < 8) (sym (get_or-append_right v v (length v) k 0 refl m))
+    twice k (inr m) = subst (λ x. x < 8) (sym (get_or-append_right v v (length v) k 0 refl m))
         (once (k - length v) (cases_lt (k - length v) (length v)))
 
 -- levels as places of a table
@@ -67,23 +60,18 @@ byte_test : holds_below (λ n. byte_lane (128 * (n / 4096)) (n / 512 % 8) (n / 6
     == joined_byte (n / 4096) (n / 512 % 8) (n / 64 % 8) (n / 8 % 8) (n % 8)) 8192 ≡ true
 byte_test = refl
 
-byte_is : (z a b c d : ℕ) → z < 2 → a < 8 → b < 8 → c < 8 → d < 8
-    → byte_lane (128 * z) a b c d ≡ joined_byte z a b c d
+byte_is : (z a b c d : ℕ) → z < 2 → a < 8 → b < 8 → c < 8 → d < 8 → byte_lane (128 * z) a b c d ≡ joined_byte z a b c d
 byte_is z a b c d k l m n o = at (4096 * z + 512 * a + 64 * b + 8 * c + d) (omega arith)
     (omega arith) (omega arith) (omega arith) (omega arith) (omega arith)
   where
     at : (n : ℕ) → n < 8192 → n / 4096 ≡ z → n / 512 % 8 ≡ a → n / 64 % 8 ≡ b → n / 8 % 8 ≡ c → n % 8 ≡ d
         → byte_lane (128 * z) a b c d ≡ joined_byte z a b c d
-    at n p e f g h i =
-        let t : byte_lane (128 * (n / 4096)) (n / 512 % 8) (n / 64 % 8) (n / 8 % 8) (n % 8)
-        ≡ joined_byte (n / 4096) (n / 512 % 8) (n / 64 % 8) (n / 8 % 8) (n % 8) =
-        eqb-true (byte_lane (128 * (n / 4096)) (n / 512 % 8) (n / 64 % 8) (n / 8 % 8) (n % 8))
+    at n p e f g h i = sym (grind arith)
+        ∙ (eqb-true (byte_lane (128 * (n / 4096)) (n / 512 % 8) (n / 64 % 8) (n / 8 % 8) (n % 8))
         (joined_byte (n / 4096) (n / 512 % 8) (n / 64 % 8) (n / 8 % 8) (n % 8))
-        (at_below (λ n. byte_lane (128 * (n / 4096)) (n / 512 % 8) (n / 64 % 8) (n / 8 % 8) (n % 8)
-        == joined_byte (n / 4096) (n / 512 % 8) (n / 64 % 8) (n / 8 % 8) (n % 8)) 8192 n byte_test p) in
-        sym (ap₂ (λ x y. byte_lane (128 * x) y (n / 64 % 8) (n / 8 % 8) (n % 8)) e f
-        ∙ ap₂ (λ x y. byte_lane (128 * z) a x y (n % 8)) g h ∙ ap (byte_lane (128 * z) a b c) i)
-        ∙ t ∙ ap₂ (λ x y. joined_byte x y (n / 64 % 8) (n / 8 % 8) (n % 8)) e f
+        (at_below (λ n. byte_lane (128 * (n / 4096)) (n / 512 % 8) (n / 64 % 8) (n / 8 % 8) (n % 8) == joined_byte
+        (n / 4096) (n / 512 % 8) (n / 64 % 8) (n / 8 % 8) (n % 8)) 8192 n byte_test p))
+        ∙ ap₂ (λ x y. joined_byte x y (n / 64 % 8) (n / 8 % 8) (n % 8)) e f
         ∙ ap₂ (λ x y. joined_byte z a x y (n % 8)) g h ∙ ap (joined_byte z a b c) i
 
 -- the shares of five vectors
@@ -98,23 +86,11 @@ abbrev pub joined_lanes : List ℕ → List ℕ → List ℕ → List ℕ → Li
 joined_lanes e a b c d = zip2 bit_xor (zip2 bit_xor e (zip2 bit_xor a b)) (zip2 bit_xor c d)
 
 pub long_joined : (e a b c d : List ℕ) → AreShares e a b c d → length (joined_lanes e a b c d) ≡ 16
-long_joined e a b c d h =
-    long_zip bit_xor (zip2 bit_xor e (zip2 bit_xor a b)) (zip2 bit_xor c d)
-    (long_zip bit_xor e (zip2 bit_xor a b) h.before (long_zip bit_xor a b h.first h.second))
-    (long_zip bit_xor c d h.third h.fourth)
+long_joined e a b c d h = grind (arith, long_zip)
 
-joined_shares : (e a b c d : List ℕ) (p : ℕ) → AreShares e a b c d → p < 12
-    → get_or (joined_lanes e a b c d) p 0
+joined_shares : (e a b c d : List ℕ) (p : ℕ) → AreShares e a b c d → p < 12 → get_or (joined_lanes e a b c d) p 0
     ≡ byte_of (get_or e p 0) (get_or a p 0) (get_or b p 0) (get_or c p 0) (get_or d p 0)
-joined_shares e a b c d p h l =
-    let m : p < 16 = omega arith in
-    at_zip bit_xor (zip2 bit_xor e (zip2 bit_xor a b)) (zip2 bit_xor c d) p
-    (long_zip bit_xor e (zip2 bit_xor a b) h.before (long_zip bit_xor a b h.first h.second))
-    (long_zip bit_xor c d h.third h.fourth) m
-    ∙ ap₂ bit_xor
-    (at_zip bit_xor e (zip2 bit_xor a b) p h.before (long_zip bit_xor a b h.first h.second) m
-    ∙ ap (bit_xor (get_or e p 0)) (at_zip bit_xor a b p h.first h.second m))
-    (at_zip bit_xor c d p h.third h.fourth m)
+joined_shares e a b c d p h l = grind (arith, at_zip, long_zip)
 
 -- the shares of one lane
 pub record HasShares (p y0 x0 x1 x2 x3 : ℕ) (e a b c d : List ℕ) : Type 0 where
@@ -127,8 +103,7 @@ pub record HasShares (p y0 x0 x1 x2 x3 : ℕ) (e a b c d : List ℕ) : Type 0 wh
 pub joined_at : (p y0 x0 x1 x2 x3 : ℕ) (e a b c d : List ℕ) → AreShares e a b c d → p < 12
     → HasShares p y0 x0 x1 x2 x3 e a b c d → y0 < 8 → x0 < 8 → x1 < 8 → x2 < 8 → x3 < 8
     → get_or (joined_lanes e a b c d) p 0 ≡ joined_byte (y0 / 4 % 2) x0 x1 x2 x3
-joined_at p y0 x0 x1 x2 x3 e a b c d long l h k m n o q =
-    joined_shares e a b c d p long l
+joined_at p y0 x0 x1 x2 x3 e a b c d long l h k m n o q = joined_shares e a b c d p long l
     ∙ ap₂ (λ x y. byte_of x y (get_or b p 0) (get_or c p 0) (get_or d p 0))
     (h.before ∙ eqb-true (get_or BEFORE y0 0) (128 * (y0 / 4 % 2))
     (at_below (λ n. get_or BEFORE n 0 == 128 * (n / 4 % 2)) 8 y0 before_test k)) h.first

@@ -1,6 +1,6 @@
 -- Where the symbols of a coder stand, and its precoder bit.
-use Rattle.std.proofs.Common.{◌≡◌, ℕ, ◌+◌, ◌-◌, ◌*◌, ◌/◌, ◌%◌, ◌<◌, ◌≤◌, ◌==◌, ◌⊎◌, inl, inr, List, get_or, refl, sym}
-use Rattle.std.proofs.Common.{ap, ap₂, ◌∙◌, subst, arith}
+use Rattle.std.proofs.Common.{◌≡◌, ℕ, ◌+◌, ◌-◌, ◌*◌, ◌/◌, ◌%◌, ◌<◌, ◌≤◌, inl, inr, List, get_or, refl, sym, ap, ap₂}
+use Rattle.std.proofs.Common.{◌∙◌, subst, arith}
 use Rattle.std.proofs.lemmas.Bool.{cases_lt, cond-false, ne_eqb}
 use Rattle.dtx_trellis.specs.Lanes.{coder_turned, turn}
 use Rattle.dtx_trellis.proofs.LaneRoundsLemmas.{first_coder, first_turn}
@@ -15,9 +15,7 @@ precoder_bit_zero s e precoder_bits levels = refl
 pub precoder_bit_next : (s r e : ℕ) (precoder_bits levels : List ℕ)
     → precoder_bit s precoder_bits levels (r + 1) e ≡ get_or levels (symbol_place s r e) 0 / 4
 unfolding precoder_bit
-precoder_bit_next s r e precoder_bits levels =
-    cond-false (r + 1 == 0) (get_or precoder_bits e 0) (get_or levels (symbol_place s (r + 1 - 1) e) 0 / 4)
-    (ne_eqb (r + 1) 0 (λ e. omega arith)) ∙ ap (λ u. get_or levels (symbol_place s u e) 0 / 4) (omega arith)
+precoder_bit_next s r e precoder_bits levels = grind (arith, cond-false, ne_eqb)
 
 -- the coder at place p of the first round of byte h
 abbrev pub lane_coder : ℕ → ℕ → ℕ → ℕ
@@ -30,32 +28,21 @@ turned_place p x a d l m = omega arith
 -- where that coder's symbol of the byte's round i stands
 pub lane_symbol : (s h i p : ℕ) → i < 4 → p < 12 → symbol_place s (4 * h + i) (lane_coder s h p) ≡ lane_place h i p
 unfolding symbol_place lane_place coder_turned turn
-lane_symbol s h i p l m =
-    let d : (4 * h + i) / 69 - 4 * h / 69 < 2 = omega arith in
-    let e : (4 * h + i) / 69 ≡ 4 * h / 69 + ((4 * h + i) / 69 - 4 * h / 69) = omega arith in
-    ap (λ x. 12 * (4 * h + i) + x)
-    (ap (λ b. ((p + 4 * ((s + 4 * h / 69) % 3)) % 12 + 12 - 4 * ((s + b) % 3)) % 12) e
-    ∙ turned_place p s (4 * h / 69) ((4 * h + i) / 69 - 4 * h / 69) m d
-    ∙ ap (λ b. (p + 12 - 4 * (b - 4 * h / 69)) % 12) (sym e))
+lane_symbol s h i p l m = grind (arith, turned_place)
 
 pub lane_byte_coder : (s h p : ℕ) → p < 12 → coder_of s (12 * h + p) ≡ lane_coder s h p
 unfolding coder_of coder_turned turn
-lane_byte_coder s h p l =
-    let a : (12 * h + p) % 12 ≡ p = omega arith in
-    let b : (12 * h + p) / 12 ≡ h = omega arith in
-    ap₂ (λ x y. (x + 4 * ((s + 4 * y / 69) % 3)) % 12) a b
+lane_byte_coder s h p l = grind arith
 
 -- the levels of two rounds of one byte, one behind the other
 lane_pair : (s h i p : ℕ) (precoder_bits levels : List ℕ) → i < 3 → p < 12
     → pair_back s precoder_bits levels (4 * h + (i + 1)) (lane_coder s h p)
     ≡ pair_from (lane_level levels h i p / 4) (lane_level levels h (i + 1) p)
 unfolding pair_back
-lane_pair s h i p precoder_bits levels l m =
-    ap₂ (λ x y. pair_from x (get_or levels y 0))
+lane_pair s h i p precoder_bits levels l m = ap₂ (λ x y. pair_from x (get_or levels y 0))
     (ap (λ r. precoder_bit s precoder_bits levels r (lane_coder s h p)) (omega arith)
     ∙ precoder_bit_next s (4 * h + i) (lane_coder s h p) precoder_bits levels
-    ∙ ap (λ x. get_or levels x 0 / 4) (lane_symbol s h i p (omega arith) m))
-    (lane_symbol s h (i + 1) p (omega arith) m)
+    ∙ ap (λ x. get_or levels x 0 / 4) (lane_symbol s h i p (omega arith) m)) (lane_symbol s h (i + 1) p (omega arith) m)
 
 lane_first : (s h p b : ℕ) (precoder_bits levels : List ℕ) → p < 12
     → b ≡ precoder_bit s precoder_bits levels (4 * h) (lane_coder s h p)
@@ -89,46 +76,28 @@ own_place s r p l = ap (λ x. 12 * r + x) (omega arith)
 -- a lane stands still within a segment, and four places back behind its end
 pub lane_stays : (h i p : ℕ) → i < 4 → p < 12 → 4 * h % 69 + i < 69 → 12 * (4 * h + i) + p ≡ lane_place h i p
 unfolding lane_place
-lane_stays h i p l m n =
-    let e : (4 * h + i) / 69 - 4 * h / 69 ≡ 0 = omega arith in
-    ap (λ x. 12 * (4 * h + i) + x) (omega arith ∙ ap (λ d. (p + 12 - 4 * d) % 12) (sym e))
+lane_stays h i p l m n = grind arith
 
 pub lane_moves : (h i p : ℕ) → i < 4 → p < 12 → 69 ≤ 4 * h % 69 + i → 12 * (4 * h + i) + (p + 8) % 12 ≡ lane_place h i p
 unfolding lane_place
-lane_moves h i p l m n =
-    let e : (4 * h + i) / 69 - 4 * h / 69 ≡ 1 = omega arith in
-    ap (λ x. 12 * (4 * h + i) + x) (omega arith ∙ ap (λ d. (p + 12 - 4 * d) % 12) (sym e))
+lane_moves h i p l m n = grind arith
 
 -- Z2 before a group, laid out as bit 2
 pub before_first : (s p x : ℕ) (precoder_bits levels : List ℕ) → get_or precoder_bits ((p + 4 * (s % 3)) % 12) 0 < 2
     → x ≡ 4 * get_or precoder_bits ((p + 4 * (s % 3)) % 12) 0
     → x / 4 % 2 ≡ precoder_bit s precoder_bits levels 0 (coder_turned (turn s 0) p)
-before_first s p x precoder_bits levels l e =
-    bit (get_or precoder_bits ((p + 4 * (s % 3)) % 12) 0) l e
-    ∙ ap (λ k. get_or precoder_bits k 0) (sym (first_coder s p))
-    ∙ sym (precoder_bit_zero s (coder_turned (turn s 0) p) precoder_bits levels)
-  where
-    bit : (f : ℕ) → f < 2 → x ≡ 4 * f → x / 4 % 2 ≡ f
-    bit f l e = omega arith
+before_first s p x precoder_bits levels l e = grind (arith, first_coder, precoder_bit_zero)
 
 -- Z2 before a later byte is bit 2 of the levels of the round before
 pub before_later : (s h p x : ℕ) (precoder_bits levels : List ℕ) → 0 < h → h < 69 → p < 12 → x < 8
     → x ≡ get_or levels (12 * (4 * h - 1) + p) 0
     → x / 4 % 2 ≡ precoder_bit s precoder_bits levels (4 * h) (lane_coder s h p)
-before_later s h p x precoder_bits levels z l m n e =
-    let f : 4 * h - 1 + 1 ≡ 4 * h = omega arith in
-    omega arith ∙ ap (λ y. y / 4) (e ∙ ap (λ i. get_or levels i 0) (sym (own_place s (4 * h - 1) p m))
-    ∙ ap (λ t. get_or levels (symbol_place s (4 * h - 1) (coder_turned t p)) 0) (sym (first_turn s h l)))
-    ∙ sym (precoder_bit_next s (4 * h - 1) (lane_coder s h p) precoder_bits levels)
-    ∙ ap (λ r. precoder_bit s precoder_bits levels r (lane_coder s h p)) f
+before_later s h p x precoder_bits levels z l m n e = grind (arith, own_place, first_turn, precoder_bit_next)
 
 -- and so the lane's byte is the group's
 pub later_byte_is : (s h p : ℕ) (precoder_bits levels : List ℕ) → 0 < h → h < 69 → p < 12
-    → get_or levels (12 * (4 * h - 1) + p) 0 < 8
-    → later_byte levels h p ≡ byte_back s precoder_bits levels (12 * h + p)
-later_byte_is s h p precoder_bits levels z l m n =
-    lane_byte_is s h p (get_or levels (12 * (4 * h - 1) + p) 0 / 4 % 2) precoder_bits levels m
-    (before_later s h p (get_or levels (12 * (4 * h - 1) + p) 0) precoder_bits levels z l m n refl)
+    → get_or levels (12 * (4 * h - 1) + p) 0 < 8 → later_byte levels h p ≡ byte_back s precoder_bits levels (12 * h + p)
+later_byte_is s h p precoder_bits levels z l m n = grind (arith, lane_byte_is, before_later)
 
 last_symbol : (s e : ℕ) → 3300 + (e + 12 - 4 * (s % 3)) % 12 ≡ symbol_place s 275 e
 unfolding symbol_place
@@ -137,32 +106,27 @@ last_symbol s e = omega arith
 -- Z2 behind the last round
 pub precoder_bit_last : (s e : ℕ) (precoder_bits levels : List ℕ)
     → get_or levels (3300 + (e + 12 - 4 * (s % 3)) % 12) 0 / 4 ≡ precoder_bit s precoder_bits levels 276 e
-precoder_bit_last s e precoder_bits levels = ap (λ i. get_or levels i 0 / 4) (last_symbol s e)
-    ∙ sym (precoder_bit_next s 275 e precoder_bits levels)
+precoder_bit_last s e precoder_bits levels = rw (last_symbol s e, ← precoder_bit_next s 275 e precoder_bits levels)
 
 -- the byte of four levels
 pub lane_joined : (h p b x0 x1 x2 x3 : ℕ) (levels : List ℕ) → x0 ≡ lane_level levels h 0 p
     → x1 ≡ lane_level levels h 1 p → x2 ≡ lane_level levels h 2 p → x3 ≡ lane_level levels h 3 p
     → joined_byte b x0 x1 x2 x3 ≡ lane_byte b levels h p
 unfolding lane_byte
-lane_joined h p b x0 x1 x2 x3 levels e0 e1 e2 e3 =
-    ap₂ (λ x y. joined_byte b x y x2 x3) e0 e1
-    ∙ ap₂ (joined_byte b (lane_level levels h 0 p) (lane_level levels h 1 p)) e2 e3
+lane_joined h p b x0 x1 x2 x3 levels e0 e1 e2 e3 = grind arith
 
 -- bytes from number h on, twelve for each of n numbers
 pub bytes_over : (h n : ℕ) (P : ℕ → Type 0) → ((j : ℕ) → j < 12 * h → P j)
     → ((i p : ℕ) → h ≤ i → i < h + n → p < 12 → P (12 * i + p)) → (j : ℕ) → j < 12 * (h + n) → P j
-bytes_over h n P f g j l = by_cases (cases_lt j (12 * h))
-  where
-    by_cases : (j < 12 * h) ⊎ (12 * h ≤ j) → P j
-    by_cases (inl k) = f j k
-    by_cases (inr k) = subst P (omega arith) (g (j / 12) (j % 12) (omega arith) (omega arith) (omega arith))
+bytes_over h n P f g j l = elim (cases_lt j (12 * h)) [
+  | inl k ↦ f j k
+  | inr k ↦ subst P (omega arith) (g (j / 12) (j % 12) (omega arith) (omega arith) (omega arith))
+]
 
 -- twelve bytes more
 pub bytes_more : (h : ℕ) (P : ℕ → Type 0) → ((j : ℕ) → j < 12 * h → P j) → ((p : ℕ) → p < 12 → P (12 * h + p)) → (j : ℕ)
     → j < 12 * (h + 1) → P j
-bytes_more h P f g j l = by_cases (cases_lt j (12 * h))
-  where
-    by_cases : (j < 12 * h) ⊎ (12 * h ≤ j) → P j
-    by_cases (inl k) = f j k
-    by_cases (inr k) = subst P (omega arith) (g (j - 12 * h) (omega arith))
+bytes_more h P f g j l = elim (cases_lt j (12 * h)) [
+  | inl k ↦ f j k
+  | inr k ↦ subst P (omega arith) (g (j - 12 * h) (omega arith))
+]

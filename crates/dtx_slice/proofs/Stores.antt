@@ -11,18 +11,13 @@ use Rattle.dtx_slice.proofs.Slices.{AreSmall, small_take, small_drop}
 -- sixteen lanes that are read from place a of n on
 pub loaded : (n a p : ℕ) (xs : List ℕ) → length xs ≡ n → a + 16 ≤ n → p < 16
     → get_or (take 16 (drop 0 (take (n - a) (drop a xs)))) p 0 ≡ get_or xs (a + p) 0
-loaded n a p xs h k l =
-    let whole : take (n - a) (drop a xs) ≡ drop a xs = take_all (n - a) (drop a xs) (omega (arith, length-drop a xs)) in
-    ap (λ (ys : List ℕ). get_or (take 16 (drop 0 ys)) p 0) whole
-    ∙ get_or-chunk 0 16 (drop a xs) p 0 l
-    ∙ ap (λ i. get_or (drop a xs) i 0) (omega arith)
-    ∙ get_or-drop a xs p 0
+loaded n a p xs h k l = ap (λ (ys : List ℕ). get_or (take 16 (drop 0 ys)) p 0)
+    (take_all (n - a) (drop a xs) (omega (arith, length-drop a xs))) ∙ get_or-chunk 0 16 (drop a xs) p 0 l
+    ∙ ap (λ i. get_or (drop a xs) i 0) (omega arith) ∙ get_or-drop a xs p 0
 
 pub long_loaded : (n a : ℕ) (xs : List ℕ) → length xs ≡ n → a + 16 ≤ n
     → length (take 16 (drop 0 (take (n - a) (drop a xs)))) ≡ 16
-long_loaded n a xs h k =
-    let whole : take (n - a) (drop a xs) ≡ drop a xs = take_all (n - a) (drop a xs) (omega (arith, length-drop a xs)) in
-    length-chunk 0 16 (take (n - a) (drop a xs)) (omega (arith, ap length whole, length-drop a xs))
+long_loaded n a xs h k = grind (arith, take_all, length-drop, length-chunk)
 
 -- the last twelve of the last sixteen
 pub last_loaded : (p : ℕ) (xs : List ℕ) → length xs ≡ 3312 → p < 12
@@ -33,14 +28,11 @@ last_loaded p xs h l = at 3296 (take 16 (drop 3296 xs)) refl refl
     at : (a : ℕ) (ys : List ℕ) → a ≡ 3296 → ys ≡ take (3312 - a) (drop a xs)
         → get_or (map (λ k. get_or (chunk 0 16 ys ++ chunk 0 16 ys) k 0) lasts) p 0 ≡ get_or xs (3300 + p) 0
     at a ys e f =
-        let whole : take (3312 - a) (drop a xs) ≡ drop a xs =
-        take_all (3312 - a) (drop a xs) (omega (arith, length-drop a xs)) in
+        let whole : take (3312 - a) (drop a xs) ≡ drop a xs = grind (arith, take_all, length-drop) in
         let long : length ys ≡ 16 = ap length (f ∙ whole) ∙ length-drop a xs ∙ omega arith in
-        let place : a + (p + 4) ≡ 3300 + p = omega arith in
         last_at (chunk 0 16 ys) p (length-chunk 0 16 ys (omega arith)) l
         ∙ ap (λ (zs : List ℕ). get_or (chunk 0 16 zs) (p + 4) 0) f
-        ∙ loaded 3312 a (p + 4) xs h (omega arith) (omega arith)
-        ∙ ap (λ i. get_or xs i 0) place
+        ∙ loaded 3312 a (p + 4) xs h (omega arith) (omega arith) ∙ ap (λ i. get_or xs i 0) (omega arith)
 
 pub last_small : (xs : List ℕ) → length xs ≡ 3312 → AreSmall xs
     → AreSmall (map (λ k. get_or (chunk 0 16 (take 16 (drop 3296 xs)) ++ chunk 0 16 (take 16 (drop 3296 xs))) k 0)
@@ -48,8 +40,7 @@ pub last_small : (xs : List ℕ) → length xs ≡ 3312 → AreSmall xs
 last_small xs h f =
     let room : 16 ≤ length (drop 3296 xs) = omega (arith, length-drop 3296 xs) in
     let long : length (take 16 (drop 3296 xs)) ≡ 16 = length-take-le 16 (drop 3296 xs) room in
-    picked_small (chunk 0 16 (take 16 (drop 3296 xs))) lasts
-    (small_take 16 (take 16 (drop 3296 xs)) (omega arith)
+    picked_small (chunk 0 16 (take 16 (drop 3296 xs))) lasts (small_take 16 (take 16 (drop 3296 xs)) (omega arith)
     (small_take 16 (drop 3296 xs) room (small_drop 3296 xs f)))
 
 -- sixteen lanes that are written from place a of n on

@@ -1,14 +1,13 @@
 -- What leaves, and what stays in the branches, where the bytes at all places have gone through.
-use Rattle.std.proofs.Common.{◌≡◌, ℕ, suc, ◌+◌, ◌-◌, ◌*◌, ◌/◌, ◌%◌, ◌<◌, ◌≤◌, ◌⊎◌, inl, inr, List, [], ◌∷◌, ◌++◌}
-use Rattle.std.proofs.Common.{length, get_or, drop, sym, ap, ap₂, subst, subst₂, ◌∙◌, arith, add-zero, ◌==◌, set}
-use Rattle.std.proofs.Common.{mod-eq_of_lt, div-add-mod', add-mul}
-use Rattle.std.proofs.lemmas.Bool.{cases_lt, cases_eq, cond-true, cond-false, eq-eqb, ne_eqb}
-use Rattle.std.proofs.lemmas.Nat.{mod_below, div-mul-add, mod-mul-add}
+use Rattle.std.proofs.Common.{◌≡◌, ℕ, ◌+◌, ◌-◌, ◌/◌, ◌%◌, ◌<◌, ◌≤◌, ◌⊎◌, inl, inr, List, [], ◌++◌, length, get_or, drop}
+use Rattle.std.proofs.Common.{sym, ap, ap₂, subst₂, ◌∙◌, arith, mod-eq_of_lt}
+use Rattle.std.proofs.lemmas.Bool.{cases_lt}
+use Rattle.std.proofs.lemmas.Nat.{mod_below, div-mul-add}
 use Rattle.std.proofs.lemmas.List.{ext_get_or, length-append, length-drop, get_or-drop, get_or_append_left}
 use Rattle.std.proofs.lemmas.List.{get_or-append_right}
-use Rattle.dtx_laws.specs.Branches.{Branching, HasWidths, after_byte, leaving_all, after_all}
+use Rattle.dtx_laws.specs.Branches.{Branching, HasWidths, leaving_all, after_all}
 use Rattle.dtx_laws.proofs.PlacesLemmas.{Holds, Stands, Stands-all, leaving_all_is, length_leaving}
-use Rattle.dtx_spread.specs.Rings.{branch_at, count_at, column, ArePassed}
+use Rattle.dtx_spread.specs.Rings.{count_at, column, ArePassed}
 use Rattle.dtx_spread.proofs.Turns.{place_of, later, later_from, later_before, branch_there, place_less, IsTurn, turns}
 use Rattle.dtx_spread.proofs.Turns.{row_counts, from_row, come_early, come_late}
 use Rattle.dtx_spread.proofs.Column.{length-column, column_at}
@@ -17,8 +16,7 @@ use Rattle.dtx_spread.proofs.Column.{length-column, column_at}
 ever : ℕ → Branching → List ℕ → ℕ → ℕ → ℕ
 ever b v xs i t = get_or (get_or v.lists i [] ++ column b xs (place_of b v.next i)) (t - later v.next i) 0
 
-begin : (b : ℕ) (w : ℕ → ℕ) (v : Branching) (xs : List ℕ) → HasWidths b w v
-    → Holds b w (ever b v xs) 0 v.next v.lists
+begin : (b : ℕ) (w : ℕ → ℕ) (v : Branching) (xs : List ℕ) → HasWidths b w v → Holds b w (ever b v xs) 0 v.next v.lists
 unfolding ever
 begin b w v xs h = record {
   count = h.count;
@@ -52,16 +50,9 @@ comes b w v xs h k l =
     let i : ℕ = (v.next + k) % b in
     let o : 0 < b = omega (arith, h.next) in
     let t : IsTurn b v.next k = turns b v.next k h.next in
-    let m : length (get_or v.lists ((v.next + k) % b) []) ≡ w ((v.next + k) % b) =
-    h.long ((v.next + k) % b) (mod_below (v.next + k) b o) in
     let e : (v.next + k) / b + w ((v.next + k) % b) - later v.next ((v.next + k) % b)
     ≡ w ((v.next + k) % b) + k / b = omega (arith, t.turn) in
-    sym (ap₂ (λ p n. get_or (get_or v.lists ((v.next + k) % b) [] ++ column b xs p) n 0) t.place e
-    ∙ get_or-append_right (get_or v.lists ((v.next + k) % b) []) (column b xs (k % b)) (w ((v.next + k) % b))
-    (w ((v.next + k) % b) + k / b) 0 m (omega arith)
-    ∙ ap (λ n. get_or (column b xs (k % b)) n 0) (omega arith)
-    ∙ column_at b xs (k % b) (k / b) (row_counts b (length xs) k o l)
-    ∙ ap (λ n. get_or xs n 0) (from_row b k))
+    sym (grind (arith, get_or-append_right, column_at, row_counts, from_row))
 
 -- ---- the two clauses of a pass
 
@@ -69,6 +60,7 @@ pub passed_bytes : (b : ℕ) (w : ℕ → ℕ) (v : Branching) (new : List (List
     → ArePassed b v.next 0 b v.lists new bytes out → out ≡ leaving_all b v bytes
 unfolding ever
 passed_bytes b w v new bytes out h a =
+    let o : 0 < b = omega (arith, h.next) in
     ext_get_or 0 out (leaving_all b v bytes) (a.long ∙ sym (length_leaving b v bytes))
     (λ k l. let n : k < length bytes = omega (arith, a.long) in
     let t : IsTurn b v.next k = turns b v.next k h.next in
@@ -77,16 +69,12 @@ passed_bytes b w v new bytes out h a =
     ∙ ap (λ i. get_or (get_or v.lists i [] ++ column b bytes (k % b)) (k / b) 0) t.branch
     ∙ sym (leaving_all_is b w (ever b v bytes) v.next v bytes o (stands b w v bytes h) (comes b w v bytes h) k n
     ∙ ap₂ (λ p i. get_or (get_or v.lists ((v.next + k) % b) [] ++ column b bytes p) i 0) t.place e))
-  where
-    o : 0 < b
-    o = omega (arith, h.next)
 
 pub passed_branches : (b : ℕ) (w : ℕ → ℕ) (v : Branching) (new : List (List ℕ)) (bytes out : List ℕ) → HasWidths b w v
     → ArePassed b v.next 0 b v.lists new bytes out
     → record { next = (v.next + length bytes) % b; lists = new } ≡ after_all b v bytes
 unfolding ever
-passed_branches b w v new bytes out h a =
-    ap₂ view_of (sym s.0)
+passed_branches b w v new bytes out h a = ap₂ view_of (sym s.0)
     (ext_get_or [] new (after_all b v bytes).lists (a.count ∙ h.count ∙ sym s.1.count)
     (λ i l. list i (omega (arith, a.count, h.count))))
   where
@@ -103,43 +91,27 @@ passed_branches b w v new bytes out h a =
     all i = get_or v.lists i [] ++ column b bytes (place_of b v.next i)
 
     kept : (i : ℕ) → i < b → get_or new i [] ≡ drop (count_at b (length bytes) (place_of b v.next i)) (all i)
-    kept i l =
-        let e : branch_at b v.next (place_of b v.next i) ≡ i = branch_there b v.next i h.next l in
-        ap (λ k. get_or new k []) (sym e)
-        ∙ a.kept (place_of b v.next i) (omega arith) (place_less b v.next i h.next l)
-        ∙ ap (λ k. drop (count_at b (length bytes) (place_of b v.next i))
-        (get_or v.lists k [] ++ column b bytes (place_of b v.next i))) e
+    kept i l = grind (arith, place_of, branch_there, place_less)
 
     long : (i : ℕ) → i < b → length (get_or new i []) ≡ w i
-    long i l = ap length (kept i l)
-        ∙ length-drop (count_at b (length bytes) (place_of b v.next i)) (all i)
-        ∙ omega (
-          arith,
-          length-append (get_or v.lists i []) (column b bytes (place_of b v.next i)),
-          length-column b bytes (place_of b v.next i),
-          h.long i l,
-        )
+    long i l = ap length (kept i l) ∙ length-drop (count_at b (length bytes) (place_of b v.next i)) (all i) ∙ omega (
+      arith,
+      length-append (get_or v.lists i []) (column b bytes (place_of b v.next i)),
+      length-column b bytes (place_of b v.next i),
+      h.long i l,
+    )
 
     byte : (i j : ℕ) → i < b → j < w i
         → get_or (get_or new i []) j 0 ≡ get_or (all i) (count_at b (length bytes) (place_of b v.next i) + j) 0
-    byte i j l m = ap (λ ys. get_or ys j 0) (kept i l)
-        ∙ get_or-drop (count_at b (length bytes) (place_of b v.next i)) (all i) j 0
+    byte i j l m = rw (kept i l, get_or-drop (count_at b (length bytes) (place_of b v.next i)) (all i) j 0)
 
-    by_turn : (i j : ℕ) → i < b → j < w i
-        → (i < (v.next + length bytes) % b) ⊎ ((v.next + length bytes) % b ≤ i)
+    by_turn : (i j : ℕ) → i < b → j < w i → (i < (v.next + length bytes) % b) ⊎ ((v.next + length bytes) % b ≤ i)
         → get_or (get_or new i []) j 0 ≡ get_or (get_or (after_all b v bytes).lists i []) j 0
-    by_turn i j l m (inl k) =
-        byte i j l m
-        ∙ ap (λ n. get_or (all i) n 0)
-        (omega (arith, come_early b v.next (length bytes) i h.next k))
-        ∙ sym (s.1.early i j k m)
-    by_turn i j l m (inr k) =
-        byte i j l m
-        ∙ ap (λ n. get_or (all i) n 0)
-        (omega (arith, come_late b v.next (length bytes) i h.next l k))
-        ∙ sym (s.1.late i j k l m)
+    by_turn i j l m (inl k) = byte i j l m ∙ ap (λ n. get_or (all i) n 0)
+        (omega (arith, come_early b v.next (length bytes) i h.next k)) ∙ sym (s.1.early i j k m)
+    by_turn i j l m (inr k) = byte i j l m ∙ ap (λ n. get_or (all i) n 0)
+        (omega (arith, come_late b v.next (length bytes) i h.next l k)) ∙ sym (s.1.late i j k l m)
 
     list : (i : ℕ) → i < b → get_or new i [] ≡ get_or (after_all b v bytes).lists i []
-    list i l =
-        ext_get_or 0 (get_or new i []) (get_or (after_all b v bytes).lists i []) (long i l ∙ sym (s.1.long i l))
+    list i l = ext_get_or 0 (get_or new i []) (get_or (after_all b v bytes).lists i []) (long i l ∙ sym (s.1.long i l))
         (λ j m. by_turn i j l (omega (arith, long i l)) (cases_lt i ((v.next + length bytes) % b)))

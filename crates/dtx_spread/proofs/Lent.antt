@@ -1,6 +1,6 @@
 -- What a vector holds after its slice was lent whole, and a pass that goes on behind another.
-use Rattle.std.proofs.Common.{◌≡◌, ℕ, ◌+◌, ◌%◌, ◌≤◌, List, ◌++◌, length, take, drop, map, replicate, sym, ap, ap₂}
-use Rattle.std.proofs.Common.{subst, ◌∙◌, arith}
+use Rattle.std.proofs.Common.{◌≡◌, ℕ, ◌+◌, ◌%◌, ◌≤◌, List, ◌++◌, length, take, drop, map, replicate, sym, ap₂, ◌∙◌}
+use Rattle.std.proofs.Common.{arith}
 use Rattle.std.specs.List.{range_with_len}
 use Rattle.std.proofs.lemmas.List.{take_at, drop_at, drop-drop, length-take-le, append_assoc}
 use Rattle.std.proofs.Math.Seq.{take-add}
@@ -19,29 +19,21 @@ lent_whole n xs new e f = take_at new (drop (length new) xs) n (f ∙ sym e)
 pub zeroed_rings : (b n : ℕ) (w : ℕ → ℕ) (rings : List (Buffer ℕ)) → n ≡ b
     → lists_of rings ≡ map (λ i. replicate (w i) 0) (range_with_len 0 n) → branches_of 0 rings ≡ zeroed b w
 unfolding zeroed
-zeroed_rings b n w rings e h =
-    ap (view_of 0) (h ∙ ap (λ k. map (λ i. replicate (w i) 0) (range_with_len 0 k)) e)
-  where
-    view_of : ℕ → List (List ℕ) → Branching
-    view_of k ls = record { next = k; lists = ls }
+zeroed_rings b n w rings e h = grind arith
 
 -- the branches after a pass, and what left
 pub branches_after : (b : ℕ) (w : ℕ → ℕ) (next turn n : ℕ) (rings lent new : List (Buffer ℕ)) (bytes out : List ℕ)
     → HasWidths b w (branches_of next rings) → lent ≡ rings → n ≡ length rings → length new ≡ length lent
     → ArePassed b next 0 b (lists_of lent) (lists_of new) bytes out → turn ≡ (next + length bytes) % b
     → branches_of turn (take n (new ++ drop (length new) rings)) ≡ after_all b (branches_of next rings) bytes
-branches_after b w next turn n rings lent new bytes out h e k l a t =
-    ap₂ branches_of t (lent_whole n rings new k (l ∙ ap length e))
-    ∙ passed_branches b w (branches_of next rings) (lists_of new) bytes out h
-    (rw (← e) a)
+branches_after b w next turn n rings lent new bytes out h e k l a t = ap₂ branches_of t (grind (arith, lent_whole))
+    ∙ passed_branches b w (branches_of next rings) (lists_of new) bytes out h (rw (← e) a)
 
 pub bytes_after : (b : ℕ) (w : ℕ → ℕ) (next : ℕ) (rings lent new : List (Buffer ℕ)) (bytes out : List ℕ)
     → HasWidths b w (branches_of next rings) → lent ≡ rings
-    → ArePassed b next 0 b (lists_of lent) (lists_of new) bytes out
-    → out ≡ leaving_all b (branches_of next rings) bytes
+    → ArePassed b next 0 b (lists_of lent) (lists_of new) bytes out → out ≡ leaving_all b (branches_of next rings) bytes
 bytes_after b w next rings lent new bytes out h e a =
-    passed_bytes b w (branches_of next rings) (lists_of new) bytes out h
-    (rw (← e) a)
+    passed_bytes b w (branches_of next rings) (lists_of new) bytes out h (rw (← e) a)
 
 -- the bytes from place `done` on, replaced by those that leave
 pub passed_more : (b done count : ℕ) (v now : Branching) (old cur part new : List ℕ) → done + count ≤ length old
@@ -49,35 +41,10 @@ pub passed_more : (b done count : ℕ) (v now : Branching) (old cur part new : L
     → part ≡ take count (drop done cur) → new ≡ leaving_all b now part
     → put_mid done count cur new ≡ leaving_all b v (take (done + count) old) ++ drop (done + count) old
 passed_more b done count v now old cur part new l e n p f =
-    ap₂ (λ xs ys. xs ++ (new ++ drop count ys)) front rest
-    ∙ ap₂ (λ xs ys. leaving_all b v (take done old) ++ (xs ++ ys)) news (drop-drop count done old)
-    ∙ sym (append_assoc (leaving_all b v (take done old))
-    (leaving_all b (after_all b v (take done old)) (take count (drop done old))) (drop (done + count) old))
-    ∙ ap (λ xs. xs ++ drop (done + count) old) (sym (ap (leaving_all b v) (take-add done count old)
-    ∙ leaving_append b v (take done old) (take count (drop done old))))
-  where
-    long : length (leaving_all b v (take done old)) ≡ done
-    long = length_leaving b v (take done old) ∙ length-take-le done old (omega arith)
-
-    front : take done cur ≡ leaving_all b v (take done old)
-    front = ap (take done) e ∙ take_at (leaving_all b v (take done old)) (drop done old) done long
-
-    rest : drop done cur ≡ drop done old
-    rest = ap (drop done) e ∙ drop_at (leaving_all b v (take done old)) (drop done old) done long
-
-    news : new ≡ leaving_all b (after_all b v (take done old)) (take count (drop done old))
-    news = f ∙ ap₂ (leaving_all b) n (p ∙ ap (take count) rest)
+    grind (arith, drop-drop, append_assoc, take-add, leaving_append, length_leaving, length-take-le, take_at, drop_at)
 
 pub branches_more : (b done count : ℕ) (v now new : Branching) (old cur part : List ℕ) → done + count ≤ length old
     → cur ≡ leaving_all b v (take done old) ++ drop done old → now ≡ after_all b v (take done old)
     → part ≡ take count (drop done cur) → new ≡ after_all b now part → new ≡ after_all b v (take (done + count) old)
 branches_more b done count v now new old cur part l e n p f =
-    f ∙ ap₂ (after_all b) n (p ∙ ap (take count) rest)
-    ∙ sym (ap (after_all b v) (take-add done count old)
-    ∙ after_append b v (take done old) (take count (drop done old)))
-  where
-    long : length (leaving_all b v (take done old)) ≡ done
-    long = length_leaving b v (take done old) ∙ length-take-le done old (omega arith)
-
-    rest : drop done cur ≡ drop done old
-    rest = ap (drop done) e ∙ drop_at (leaving_all b v (take done old)) (drop done old) done long
+    grind (arith, take-add, after_append, length_leaving, length-take-le, drop_at)

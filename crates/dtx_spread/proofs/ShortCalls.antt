@@ -16,69 +16,45 @@ use lib.Lanes.{put_chunk}
 -- one more row of a tile is put behind the others
 pub flat_more : (n c r : ℕ) (bytes : List ℕ) (tile : List (List ℕ)) → n < 16 → length bytes ≡ 256
     → length (get_or tile n []) ≡ 16
-    → ((c r : ℕ) → c < n → r < 16 → get_or bytes (c * 16 + r) 0 ≡ get_or (get_or tile c []) r 0)
-    → c < n + 1 → r < 16
+    → ((c r : ℕ) → c < n → r < 16 → get_or bytes (c * 16 + r) 0 ≡ get_or (get_or tile c []) r 0) → c < n + 1 → r < 16
     → get_or (put_chunk (n * 16) bytes (get_or tile n [])) (c * 16 + r) 0 ≡ get_or (get_or tile c []) r 0
-flat_more n c r bytes tile l lb lr before k m = elim (cases_eq c n) [
-  | inl e ↦
-      ap (λ x. get_or (put_chunk (n * 16) bytes (get_or tile n [])) (x * 16 + r) 0) e
-      ∙ get_or-put_chunk_at (n * 16) bytes (get_or tile n []) r 0 (omega arith) (omega arith)
-      ∙ ap (λ x. get_or (get_or tile x []) r 0) (sym e)
-  | inr o ↦
-      get_or-put_chunk_below (n * 16) bytes (get_or tile n []) (c * 16 + r) 0 (omega arith)
-      ∙ before c r (omega arith) m
-]
+flat_more n c r bytes tile l lb lr before k m = grind (arith, cases_eq, get_or-put_chunk_at, get_or-put_chunk_below)
 
 -- the columns of sixteen places more are taken
 pub places_taken : (b t p r z : ℕ) (rows old new : List ℕ) → 256 * t ≤ length old → length new ≡ 256
     → ((p r : ℕ) → p < 16 * t → r < 16 → get_or old (p * 16 + r) 0 ≡ get_or rows (p + r * b) 0)
     → ((c r : ℕ) → c < 16 → r < 16 → get_or new (c * 16 + r) 0 ≡ get_or rows (16 * t + c + r * b) 0)
-    → p < 16 * (t + 1) → r < 16
-    → get_or (put_mid (256 * t) z old new) (p * 16 + r) 0 ≡ get_or rows (p + r * b) 0
+    → p < 16 * (t + 1) → r < 16 → get_or (put_mid (256 * t) z old new) (p * 16 + r) 0 ≡ get_or rows (p + r * b) 0
 places_taken b t p r z rows old new within long before taken l m = elim (cases_lt p (16 * t)) [
   | inl h ↦ written_before (256 * t) z (p * 16 + r) old new within (omega arith) ∙ before p r h m
-  | inr h ↦
-      let e : 16 * t + (p - 16 * t) ≡ p = omega arith in
-      ap (λ x. get_or (put_mid (256 * t) z old new) x 0) (omega (arith, e))
+  | inr h ↦ ap (λ x. get_or (put_mid (256 * t) z old new) x 0) (omega arith)
       ∙ written_at (256 * t) z ((p - 16 * t) * 16 + r) old new within (omega arith)
-      ∙ taken (p - 16 * t) r (omega arith) m ∙ ap (λ x. get_or rows (x + r * b) 0) e
+      ∙ taken (p - 16 * t) r (omega arith) m ∙ ap (λ x. get_or rows (x + r * b) 0) (omega arith)
 ]
 
 -- a byte of sixteen columns
 pub part_byte : (t c r z : ℕ) (columns : List ℕ) → z ≡ 256 → c < 16 → r < 16
     → get_or (take z (drop (256 * t) columns)) (c * 16 + r) 0 ≡ get_or columns ((16 * t + c) * 16 + r) 0
-part_byte t c r z columns e l m =
-    get_or-take z (drop (256 * t) columns) (c * 16 + r) 0 (omega arith)
-    ∙ get_or-drop (256 * t) columns (c * 16 + r) 0 ∙ ap (λ x. get_or columns x 0) (omega arith)
+part_byte t c r z columns e l m = grind (arith, get_or-take, get_or-drop)
 
 -- ---- sixteen bytes put over the rows, of which some may reach into the next row
 
 -- a byte of an earlier row stands before a later row
 row_before : (b p k n : ℕ) → p < b → k < n → p + k * b < n * b
-row_before b p k n l m =
-    let g : (k + 1) * b ≤ n * b = mul-le-mul_right b (omega arith) in omega (arith, add-mul k 1 b)
+row_before b p k n l m = grind (arith, mul-le-mul_right, add-mul)
 
 pub over_there : (b n p c k : ℕ) (rows : List ℕ) (tile : List (List ℕ)) → length (get_or tile n []) ≡ 16
     → p + n * b + 16 ≤ length rows
     → ((c k : ℕ) → c < 16 → p + c < b → k < n → get_or rows (p + c + k * b) 0 ≡ get_or (get_or tile k []) c 0)
     → c < 16 → p + c < b → k < n + 1
     → get_or (put_chunk (p + n * b) rows (get_or tile n [])) (p + c + k * b) 0 ≡ get_or (get_or tile k []) c 0
-over_there b n p c k rows tile lr room before l m o = elim (cases_eq k n) [
-  | inl e ↦
-      ap (λ x. get_or (put_chunk (p + n * b) rows (get_or tile n [])) x 0)
-      (ap (λ x. p + c + x * b) e ∙ omega arith)
-      ∙ get_or-put_chunk_at (p + n * b) rows (get_or tile n []) c 0 (omega (arith, l, lr)) (omega (arith, room, lr))
-      ∙ ap (λ x. get_or (get_or tile x []) c 0) (sym e)
-  | inr f ↦
-      get_or-put_chunk_below (p + n * b) rows (get_or tile n []) (p + c + k * b) 0
-      (omega (arith, row_before b (p + c) k n m (omega arith))) ∙ before c k l m (omega arith)
-]
+over_there b n p c k rows tile lr room before l m o =
+    grind (arith, cases_eq, get_or-put_chunk_at, get_or-put_chunk_below, row_before)
 
 pub over_elsewhere : (b n p q k : ℕ) (rows row : List ℕ) → length row ≡ 16 → p + 16 ≤ q → q < b
     → get_or (put_chunk (p + n * b) rows row) (q + k * b) 0 ≡ get_or rows (q + k * b) 0
 over_elsewhere b n p q k rows row lr l m = elim (cases_lt k n) [
-  | inl h ↦
-      get_or-put_chunk_below (p + n * b) rows row (q + k * b) 0 (omega (arith, row_before b q k n m h))
+  | inl h ↦ get_or-put_chunk_below (p + n * b) rows row (q + k * b) 0 (omega (arith, row_before b q k n m h))
   | inr h ↦
       let g : n * b ≤ k * b = mul-le-mul_right b h in
       get_or-put_chunk_above (p + n * b) rows row (q + k * b) 0 (omega (arith, g, lr, l))
@@ -92,10 +68,8 @@ pub places_put : (b t p r : ℕ) (columns old new : List ℕ)
     → ((p r : ℕ) → 16 * t + 16 ≤ p → p < b → r < 16 → get_or new (p + r * b) 0 ≡ get_or old (p + r * b) 0)
     → 16 * t ≤ p → p < b → r < 16 → get_or new (p + r * b) 0 ≡ get_or columns (p * 16 + r) 0
 places_put b t p r columns old new before put others l m o = elim (cases_lt p (16 * t + 16)) [
-  | inl h ↦
-      let e : 16 * t + (p - 16 * t) ≡ p = omega arith in
-      ap (λ x. get_or new (x + r * b) 0) (sym e) ∙ put (p - 16 * t) r (omega arith) (omega (arith, e, m)) o
-      ∙ ap (λ x. get_or columns (x * 16 + r) 0) e
+  | inl h ↦ ap (λ x. get_or new (x + r * b) 0) (sym (omega arith)) ∙ put (p - 16 * t) r (omega arith) (omega arith) o
+      ∙ ap (λ x. get_or columns (x * 16 + r) 0) (omega arith)
   | inr h ↦ others p r h m o ∙ before p r (omega arith) m o
 ]
 
@@ -106,8 +80,7 @@ pub few_passed : (b next : ℕ) (old new : List (List ℕ)) (bytes room first la
     → ((p r : ℕ) → p < b → r < 16 → get_or come (p * 16 + r) 0 ≡ get_or first (p + r * b) 0)
     → AreExchanged b next 0 (0 + b) 16 (length bytes / b) (length bytes % b) old new come gone
     → ((p r : ℕ) → p < b → r < 16 → get_or last (p + r * b) 0 ≡ get_or gone (p * 16 + r) 0)
-    → length bytes ≤ length last → out ≡ take (length bytes) last
-    → ArePassed b next 0 b old new bytes out
+    → length bytes ≤ length last → out ≡ take (length bytes) last → ArePassed b next 0 b old new bytes out
 few_passed b next old new bytes room first last come gone out o b64 short ef lc taken h put ll eo = record {
   count = h.count;
   long = ap length eo ∙ length-take-le (length bytes) last ll;
@@ -128,23 +101,14 @@ few_passed b next old new bytes room first last come gone out o b64 short ef lc 
     stretch : (q : ℕ) → q < b → take (count_at b (length bytes) q) (drop ((q - 0) * 16) come) ≡ column b bytes q
     stretch q m =
         fill_by_all (λ k. get_or bytes (q + k * b) 0) (take (count_at b (length bytes) q) (drop ((q - 0) * 16) come))
-        (count_at b (length bytes) q) 0
-        (length-take-le (count_at b (length bytes) q) (drop ((q - 0) * 16) come)
-        (omega (arith, length-drop ((q - 0) * 16) come, lc, few q, m, b64)))
-        (λ k s. get_or-take (count_at b (length bytes) q) (drop ((q - 0) * 16) come) k 0 s
-        ∙ get_or-drop ((q - 0) * 16) come k 0
-        ∙ ap (λ x. get_or come (x * 16 + k) 0) (sym (omega arith))
-        ∙ taken q k m (omega (arith, s, few q))
-        ∙ ap (λ ys. get_or ys (q + k * b) 0) ef
-        ∙ get_or_append_left bytes (drop (length bytes) room) 0 (q + k * b) (row_within b (length bytes) q k o m s))
+        (count_at b (length bytes) q) 0 (grind (arith, length-take-le, length-drop, few))
+        (λ k s. grind (arith, get_or-take, get_or-drop, few, get_or_append_left, row_within))
 
     left : (i : ℕ) → i < length bytes → get_or out i 0 ≡ get_or (joined_at b next old bytes (i % b)) (i / b) 0
     left i l =
         let s : i / b < count_at b (length bytes) (i % b) = row_counts b (length bytes) i o l in
         let m : i % b < b = mod_below i b o in
         ap (λ ys. get_or ys i 0) eo ∙ get_or-take (length bytes) last i 0 l
-        ∙ ap (λ x. get_or last x 0) (sym (from_row b i))
-        ∙ put (i % b) (i / b) m (omega (arith, s, few (i % b)))
-        ∙ ap (λ x. get_or gone (x * 16 + i / b) 0) (omega arith)
-        ∙ h.left (i % b) (i / b) (omega arith) (omega arith) s
+        ∙ ap (λ x. get_or last x 0) (sym (from_row b i)) ∙ put (i % b) (i / b) m (omega (arith, s, few (i % b)))
+        ∙ ap (λ x. get_or gone (x * 16 + i / b) 0) (omega arith) ∙ h.left (i % b) (i / b) (omega arith) (omega arith) s
         ∙ ap (λ ys. get_or (get_or old (branch_at b next (i % b)) [] ++ ys) (i / b) 0) (stretch (i % b) m)

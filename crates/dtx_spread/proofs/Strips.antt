@@ -16,60 +16,31 @@ pub column_there : (n at d r : ℕ) (columns : List ℕ) (tile : List (List ℕ)
     → ((d r : ℕ) → d < n → r < 16 → get_or columns (d * 560 + at + r) 0 ≡ get_or (get_or tile d []) r 0)
     → d < n + 1 → r < 16
     → get_or (put_chunk (n * 560 + at) columns (get_or tile n [])) (d * 560 + at + r) 0 ≡ get_or (get_or tile d []) r 0
-column_there n at d r columns tile room long ln lc before l m = elim (cases_eq d n) [
-  | inl e ↦
-      ap (λ x. get_or (put_chunk (n * 560 + at) columns (get_or tile n [])) (x * 560 + at + r) 0) e
-      ∙ get_or-put_chunk_at (n * 560 + at) columns (get_or tile n []) r 0 (omega arith) (omega arith)
-      ∙ ap (λ x. get_or (get_or tile x []) r 0) (sym e)
-  | inr o ↦
-      get_or-put_chunk_below (n * 560 + at) columns (get_or tile n []) (d * 560 + at + r) 0 (omega arith)
-      ∙ before d r (omega arith) m
-]
-  where
-    row : length (get_or tile n []) ≡ 16
-    row = long n ln
+column_there n at d r columns tile room long ln lc before l m =
+    grind (arith, cases_eq, get_or-put_chunk_at, get_or-put_chunk_below)
 
 pub column_elsewhere : (n at d r : ℕ) (columns row : List ℕ) → at + 16 ≤ 560 → length row ≡ 16
     → r < 560 → (r < at) ⊎ (at + 16 ≤ r)
     → get_or (put_chunk (n * 560 + at) columns row) (d * 560 + r) 0 ≡ get_or columns (d * 560 + r) 0
-column_elsewhere n at d r columns row room long l o = by_place (cases_lt (d * 560 + r) (n * 560 + at))
-  where
-    by_place : (d * 560 + r < n * 560 + at) ⊎ (n * 560 + at ≤ d * 560 + r)
-        → get_or (put_chunk (n * 560 + at) columns row) (d * 560 + r) 0 ≡ get_or columns (d * 560 + r) 0
-    by_place (inl h) = get_or-put_chunk_below (n * 560 + at) columns row (d * 560 + r) 0 h
-    by_place (inr h) = get_or-put_chunk_above (n * 560 + at) columns row (d * 560 + r) 0 (past o)
-      where
-        past : (r < at) ⊎ (at + 16 ≤ r) → n * 560 + at + length row ≤ d * 560 + r
-        past (inl k) = omega arith
-        past (inr k) = omega arith
+column_elsewhere n at d r columns row room long l o =
+    grind (arith, cases_lt, get_or-put_chunk_below, get_or-put_chunk_above)
 
 -- ---- rows
 
 -- a byte of an earlier row stands before a later row's
 before_row : (b p c k n : ℕ) → c < b → k < n → p + c + k * b < p + n * b
-before_row b p c k n l m =
-    let g : (k + 1) * b ≤ n * b = mul-le-mul_right b (omega arith) in omega (arith, add-mul k 1 b)
+before_row b p c k n l m = grind (arith, mul-le-mul_right, add-mul)
 
 pub row_there : (b w p n a z c k : ℕ) (tile part : List ℕ) (rows : List (List ℕ)) → p + w ≤ b → a ≡ p + n * b
     → a ≤ length tile → part ≡ take w (get_or rows n []) → w ≤ length (get_or rows n [])
     → ((c k : ℕ) → c < w → k < n → get_or tile (p + c + k * b) 0 ≡ get_or (get_or rows k []) c 0)
     → length part ≡ w → c < w → k < n + 1
     → get_or (put_mid a z tile part) (p + c + k * b) 0 ≡ get_or (get_or rows k []) c 0
-row_there b w p n a z c k tile part rows room ea within ep wide before long l m = elim (cases_eq k n) [
-  | inl e ↦
-      ap (λ x. get_or (put_mid a z tile part) x 0) (ap (λ x. p + c + x * b) e ∙ omega (arith, ea))
-      ∙ written_at a z c tile part within (omega arith)
-      ∙ ap (λ ys. get_or ys c 0) ep ∙ get_or-take w (get_or rows n []) c 0 l
-      ∙ ap (λ x. get_or (get_or rows x []) c 0) (sym e)
-  | inr o ↦
-      written_before a z (p + c + k * b) tile part within
-      (omega (arith, ea, before_row b p c k n (omega arith) (omega arith)))
-      ∙ before c k l (omega arith)
-]
+row_there b w p n a z c k tile part rows room ea within ep wide before long l m =
+    grind (arith, cases_eq, written_at, get_or-take, written_before, before_row)
 
 pub row_elsewhere : (b w p n a z i : ℕ) (tile part : List ℕ) → p + w ≤ b → a ≡ p + n * b → a ≤ length tile
-    → length part ≡ w → z ≡ w → (i % b < p) ⊎ (p + w ≤ i % b)
-    → get_or (put_mid a z tile part) i 0 ≡ get_or tile i 0
+    → length part ≡ w → z ≡ w → (i % b < p) ⊎ (p + w ≤ i % b) → get_or (put_mid a z tile part) i 0 ≡ get_or tile i 0
 row_elsewhere b w p n a z i tile part room ea within long ez o = by_place (cases_lt i a) (cases_lt i (a + w))
   where
     inside : a ≤ i → i < a + w → i % b ≡ i - n * b
@@ -92,12 +63,7 @@ in_tile b q t r = omega (arith, add-mul (t * 16) r b)
 
 pub tile_byte : (b t q r : ℕ) (bytes : List ℕ) → q < b → r < 16
     → get_or (take (16 * b) (drop (t * 16 * b) bytes)) (q + r * b) 0 ≡ get_or bytes (q + (t * 16 + r) * b) 0
-tile_byte b t q r bytes l m =
-    get_or-take (16 * b) (drop (t * 16 * b) bytes) (q + r * b) 0 within
-    ∙ get_or-drop (t * 16 * b) bytes (q + r * b) 0 ∙ ap (λ n. get_or bytes n 0) (in_tile b q t r)
-  where
-    within : q + r * b < 16 * b
-    within = let g : (r + 1) * b ≤ 16 * b = mul-le-mul_right b (omega arith) in omega (arith, add-mul r 1 b)
+tile_byte b t q r bytes l m = grind (arith, get_or-take, get_or-drop, in_tile, mul-le-mul_right, add-mul)
 
 -- one more tile is taken
 pub tile_taken : (b w p t c k z : ℕ) (bytes old new : List ℕ) → p + w ≤ b → t * 16 + 16 ≤ 560
@@ -105,17 +71,13 @@ pub tile_taken : (b w p t c k z : ℕ) (bytes old new : List ℕ) → p + w ≤ 
     → ((c r : ℕ) → c < w → r < 16
     → get_or new (c * 560 + t * 16 + r) 0 ≡ get_or (take z (drop (t * 16 * b) bytes)) (p + c + r * b) 0)
     → ((c r : ℕ) → r < 560 → (r < t * 16) ⊎ (t * 16 + 16 ≤ r) → get_or new (c * 560 + r) 0 ≡ get_or old (c * 560 + r) 0)
-    → z ≡ 16 * b → c < w → k < (t + 1) * 16
-    → get_or new (c * 560 + k) 0 ≡ get_or bytes (p + c + k * b) 0
+    → z ≡ 16 * b → c < w → k < (t + 1) * 16 → get_or new (c * 560 + k) 0 ≡ get_or bytes (p + c + k * b) 0
 tile_taken b w p t c k z bytes old new room fits before taken others ez l m = elim (cases_lt k (t * 16)) [
   | inl h ↦ others c k (omega arith) (inl h) ∙ before c k l h
-  | inr h ↦
-      let e : t * 16 + (k - t * 16) ≡ k = omega arith in
-      ap (λ n. get_or new n 0) (omega (arith, e))
-      ∙ taken c (k - t * 16) l (omega arith)
+  | inr h ↦ ap (λ n. get_or new n 0) (omega arith) ∙ taken c (k - t * 16) l (omega arith)
       ∙ ap (λ n. get_or (take n (drop (t * 16 * b) bytes)) (p + c + (k - t * 16) * b) 0) ez
       ∙ tile_byte b t (p + c) (k - t * 16) bytes (omega arith) (omega arith)
-      ∙ ap (λ n. get_or bytes (p + c + n * b) 0) e
+      ∙ ap (λ n. get_or bytes (p + c + n * b) 0) (omega arith)
 ]
 
 -- one more tile is put
@@ -128,15 +90,11 @@ pub tile_put : (b w p t c k z : ℕ) (columns old new : List ℕ) → p + w ≤ 
 tile_put b w p t c k z columns old new room within long before put l m = elim (cases_lt k (t * 16)) [
   | inl h ↦
       let g : (k + 1) * b ≤ t * 16 * b = mul-le-mul_right b (omega arith) in
-      written_before (t * 16 * b) z (p + c + k * b) old new within (omega (arith, add-mul k 1 b))
-      ∙ before c k l h
-  | inr h ↦
-      let e : t * 16 + (k - t * 16) ≡ k = omega arith in
-      ap (λ n. get_or (put_mid (t * 16 * b) z old new) n 0)
-      (ap (λ n. p + c + n * b) (sym e) ∙ sym (in_tile b (p + c) t (k - t * 16)))
-      ∙ written_at (t * 16 * b) z (p + c + (k - t * 16) * b) old new within
-      (omega (arith, small (k - t * 16) (omega arith)))
-      ∙ put c (k - t * 16) l (omega arith) ∙ ap (λ n. get_or columns n 0) (omega (arith, e))
+      written_before (t * 16 * b) z (p + c + k * b) old new within (omega (arith, add-mul k 1 b)) ∙ before c k l h
+  | inr h ↦ ap (λ n. get_or (put_mid (t * 16 * b) z old new) n 0)
+      (ap (λ n. p + c + n * b) (sym (omega arith)) ∙ sym (in_tile b (p + c) t (k - t * 16)))
+      ∙ written_at (t * 16 * b) z (p + c + (k - t * 16) * b) old new within (grind (arith, small))
+      ∙ put c (k - t * 16) l (omega arith) ∙ ap (λ n. get_or columns n 0) (omega arith)
 ]
   where
     small : (r : ℕ) → r < 16 → p + c + r * b < 16 * b
@@ -150,32 +108,25 @@ tile_elsewhere b w p t z i old new s within long others o =
     by_place (cases_lt i (t * 16 * b)) (cases_lt i (t * 16 * b + z))
   where
     same : t * 16 * b ≤ i → (i - t * 16 * b) % b ≡ i % b
-    same l =
-        let at : i ≡ (t * 16 + (i - t * 16 * b) / b) * b + (i - t * 16 * b) % b =
-        omega (arith, l, div-add-mod' (i - t * 16 * b) b, add-mul (t * 16) ((i - t * 16 * b) / b) b) in
-        sym (ap (λ x. x % b) at
+    same l = sym (ap (λ x. x % b)
+        (omega (arith, l, div-add-mod' (i - t * 16 * b) b, add-mul (t * 16) ((i - t * 16 * b) / b) b))
         ∙ mod-mul-add (t * 16 + (i - t * 16 * b) / b) b ((i - t * 16 * b) % b) (mod_below (i - t * 16 * b) b s))
 
     by_place : (i < t * 16 * b) ⊎ (t * 16 * b ≤ i) → (i < t * 16 * b + z) ⊎ (t * 16 * b + z ≤ i)
         → get_or (put_mid (t * 16 * b) z old new) i 0 ≡ get_or old i 0
     by_place (inl h) g = written_before (t * 16 * b) z i old new within h
-    by_place (inr h) (inl g) =
-        let e : t * 16 * b + (i - t * 16 * b) ≡ i = omega arith in
-        ap (λ n. get_or (put_mid (t * 16 * b) z old new) n 0) (sym e)
+    by_place (inr h) (inl g) = ap (λ n. get_or (put_mid (t * 16 * b) z old new) n 0) (sym (omega arith))
         ∙ written_at (t * 16 * b) z (i - t * 16 * b) old new within (omega arith)
         ∙ others (i - t * 16 * b) (subst (λ (x : ℕ). (x < p) ⊎ (p + w ≤ x)) (sym (same h)) o)
         ∙ get_or-take z (drop (t * 16 * b) old) (i - t * 16 * b) 0 (omega arith)
-        ∙ get_or-drop (t * 16 * b) old (i - t * 16 * b) 0 ∙ ap (λ n. get_or old n 0) e
+        ∙ get_or-drop (t * 16 * b) old (i - t * 16 * b) 0 ∙ ap (λ n. get_or old n 0) (omega arith)
     by_place (inr h) (inr g) = written_behind (t * 16 * b) z i old new within long g
 
 -- ---- a row from a place on
 
 pub row_room : (b w p n m k : ℕ) → k * b + p + w ≤ m + b → n < k → p + n * b + w ≤ m
-row_room b w p n m k room l =
-    let g : (n + 1) * b ≤ k * b = mul-le-mul_right b (omega arith) in omega (arith, add-mul n 1 b)
+row_room b w p n m k room l = grind (arith, mul-le-mul_right, add-mul)
 
 pub row_byte : (b w p n k : ℕ) (tile : List ℕ) → k < w → p + n * b + w ≤ length tile
     → get_or (take (length tile - (p + n * b)) (drop (p + n * b) tile)) k 0 ≡ get_or tile (p + k + n * b) 0
-row_byte b w p n k tile l m =
-    get_or-take (length tile - (p + n * b)) (drop (p + n * b) tile) k 0 (omega arith)
-    ∙ get_or-drop (p + n * b) tile k 0 ∙ ap (λ x. get_or tile x 0) (omega arith)
+row_byte b w p n k tile l m = grind (arith, get_or-take, get_or-drop)

@@ -1,6 +1,6 @@
 -- A call's bytes in whole tiles and the rows behind them, and the columns of some places.
 use Rattle.std.proofs.Common.{◌≡◌, ◌≢◌, ℕ, ◌+◌, ◌-◌, ◌*◌, ◌/◌, ◌%◌, ◌<◌, ◌≤◌, ◌⊎◌, inl, inr, List, [], ◌++◌, length}
-use Rattle.std.proofs.Common.{get_or, set, take, drop, refl, sym, ap, ap₂, subst, ◌∙◌, arith, add-mul, mul-le-mul_right}
+use Rattle.std.proofs.Common.{get_or, set, take, drop, sym, ap, ap₂, ◌∙◌, arith, add-mul, mul-le-mul_right}
 use Rattle.std.proofs.Common.{div-add-mod', cond, nat_lt}
 use Rattle.std.proofs.lemmas.Bool.{cases_lt, cases_eq}
 use Rattle.std.proofs.lemmas.Nat.{mod_below, mod-mul-add, div-mul-add}
@@ -24,15 +24,7 @@ wide x b = grind arith
 
 pub tile_fits : (b len t : ℕ) → 0 < b → len < 560 * b → t < len / (16 * b)
     → (t * 16 + 16 ≤ 560) × (t * 16 * b + 16 * b ≤ len)
-tile_fits b len t o l h =
-    let g : (t + 1) * (16 * b) ≤ len / (16 * b) * (16 * b) = mul-le-mul_right (16 * b) (omega arith) in
-    let k : t * 16 * b + 16 * b ≤ len =
-    omega (arith, div-add-mod' len (16 * b), add-mul t 1 (16 * b), wide t b) in (few (cases_lt 560 (t * 16 + 16)) k, k)
-  where
-    few : (560 < t * 16 + 16) ⊎ (t * 16 + 16 ≤ 560) → t * 16 * b + 16 * b ≤ len → t * 16 + 16 ≤ 560
-    few (inl m) k = let f : 560 * b ≤ (t * 16 + 16) * b = mul-le-mul_right b (omega arith) in
-        absurd (omega (arith, add-mul (t * 16) 16 b))
-    few (inr m) k = m
+tile_fits b len t o l h = grind (arith, mul-le-mul_right, div-add-mod', add-mul, wide, cases_lt)
 
 pub record IsTiled (b len : ℕ) : Type 0 where
   pub within : tiled b len * b ≤ len
@@ -40,17 +32,7 @@ pub record IsTiled (b len : ℕ) : Type 0 where
   pub few : tiled b len + 16 ≤ 560
 
 pub is_tiled : (b len : ℕ) → 0 < b → len < 560 * b → IsTiled b len
-is_tiled b len o l = record {
-  within = omega (arith, div-add-mod' len (16 * b), wide (len / (16 * b)) b);
-  rest = omega (arith, div-add-mod' len (16 * b), wide (len / (16 * b)) b, mod_below len (16 * b) (omega arith));
-  few = few (cases_lt (len / (16 * b)) 35);
-}
-  where
-    few : (len / (16 * b) < 35) ⊎ (35 ≤ len / (16 * b)) → tiled b len + 16 ≤ 560
-    few (inl m) = omega arith
-    few (inr m) =
-        let f : 35 * (16 * b) ≤ len / (16 * b) * (16 * b) = mul-le-mul_right (16 * b) m in
-        absurd (omega (arith, div-add-mod' len (16 * b)))
+is_tiled b len o l = grind (arith, div-add-mod', wide, mod_below, cases_lt, mul-le-mul_right)
 
 -- ---- the rows behind whole tiles
 
@@ -58,19 +40,15 @@ is_tiled b len o l = record {
 abbrev pub behind : ℕ → ℕ → ℕ
 behind b len = len - tiled b len * b
 
-by_tiles : (b len : ℕ) → IsTiled b len
-    → len ≡ (tiled b len + behind b len / b) * b + behind b len % b
+by_tiles : (b len : ℕ) → IsTiled b len → len ≡ (tiled b len + behind b len / b) * b + behind b len % b
 by_tiles b len t = omega (arith, t.within, div-add-mod' (behind b len) b, add-mul (tiled b len) (behind b len / b) b)
 
 same_rest : (b len : ℕ) → 0 < b → IsTiled b len → behind b len % b ≡ len % b
 same_rest b len o t = sym (ap (λ x. x % b) (by_tiles b len t)
     ∙ mod-mul-add (tiled b len + behind b len / b) b (behind b len % b) (mod_below (behind b len) b o))
 
-count_split : (b len p : ℕ) → 0 < b → IsTiled b len
-    → count_at b len p ≡ tiled b len + count_at b (behind b len) p
-count_split b len p o t =
-    ap₂ (λ q m. q + cond (nat_lt p m) 1 0)
-    (ap (λ x. x / b) (by_tiles b len t)
+count_split : (b len p : ℕ) → 0 < b → IsTiled b len → count_at b len p ≡ tiled b len + count_at b (behind b len) p
+count_split b len p o t = ap₂ (λ q m. q + cond (nat_lt p m) 1 0) (ap (λ x. x / b) (by_tiles b len t)
     ∙ div-mul-add (tiled b len + behind b len / b) b (behind b len % b) (mod_below (behind b len) b o))
     (sym (same_rest b len o t))
     ∙ joined (tiled b len) (behind b len / b) (cond (nat_lt p (behind b len % b)) 1 0)
@@ -81,67 +59,50 @@ count_split b len p o t =
 -- ---- places to each of which as many bytes come
 
 pub even_rest : (b p w len n : ℕ) → 0 < b → IsTiled b len → n ≡ behind b len → IsEven b p w len → IsEven b p w n
-even_rest b p w len n o t e h =
-    subst (λ (x : ℕ). (p + w ≤ x) ⊎ (x ≤ p)) (sym (ap (λ x. x % b) e ∙ same_rest b len o t)) h
+even_rest b p w len n o t e h = grind (arith, same_rest)
 
 pub even_room : (b p w len n : ℕ) → p + w ≤ b → IsEven b p w len → n ≡ count_at b len p → n * b + p + w ≤ len + b
-even_room b p w len n l h e = by_count (cases_lt p (len % b)) h
-  where
-    by_count : (p < len % b) ⊎ (len % b ≤ p) → IsEven b p w len → n * b + p + w ≤ len + b
-    by_count (inl k) (inl m) =
-        omega (arith, ap (λ x. x * b) (e ∙ count_early b len p k), add-mul (len / b) 1 b, div-add-mod' len b)
-    by_count (inl k) (inr m) = absurd (omega arith)
-    by_count (inr k) m = omega (arith, ap (λ x. x * b) (e ∙ count_late b len p k), div-add-mod' len b)
+even_room b p w len n l h e = grind (arith, cases_lt, count_early, add-mul, div-add-mod', count_late)
 
 pub even_count : (b p w len c : ℕ) → c < w → IsEven b p w len → count_at b len (p + c) ≡ count_at b len p
-even_count b p w len c l (inl h) =
-    count_early b len (p + c) (omega arith) ∙ sym (count_early b len p (omega arith))
-even_count b p w len c l (inr h) =
-    count_late b len (p + c) (omega arith) ∙ sym (count_late b len p h)
+even_count b p w len c l (inl h) = count_early b len (p + c) (omega arith) ∙ sym (count_early b len p (omega arith))
+even_count b p w len c l (inr h) = count_late b len (p + c) (omega arith) ∙ sym (count_late b len p h)
 
 pub counts_fit : (b len p m : ℕ) → 0 < b → len ≤ m * b → count_at b len p ≤ m
-counts_fit b len p m o l = elim (cases_lt p (len % b)) [
-  | inl h ↦
-      let k : len / b + 1 ≤ m = early_fit b len p m h l in omega (arith, count_early b len p h)
-  | inr h ↦
-      let k : len / b ≤ m = late_fit b len m o l in omega (arith, count_late b len p h)
-]
+counts_fit b len p m o l = grind (arith, cases_lt, early_fit, count_early, late_fit, count_late)
 
 pub even_behind : (b p w len : ℕ) (xs : List ℕ) → 0 < b → length xs ≡ len → IsTiled b len → IsEven b p w len
     → IsEven b p w (length (take (length xs - tiled b len * b) (drop (tiled b len * b) xs)))
 even_behind b p w len xs o e t h =
     even_rest b p w len (length (take (length xs - tiled b len * b) (drop (tiled b len * b) xs))) o t
-    (length-take-le (length xs - tiled b len * b) (drop (tiled b len * b) xs)
-    (omega (arith, length-drop (tiled b len * b) xs)) ∙ ap (λ n. n - tiled b len * b) e) h
+    (grind (arith, length-take-le, length-drop)) h
 
 -- ---- all rows of some places, taken from a call's bytes and put back
 
 pub all_taken : (b w p z c k : ℕ) (bytes mid new rest : List ℕ) → 0 < b → p + w ≤ b → IsTiled b (length bytes)
     → IsEven b p w (length bytes) → z ≡ behind b (length bytes)
-    → rest ≡ take z (drop (tiled b (length bytes) * b) bytes)
-    → ((c k : ℕ) → c < w → k < tiled b (length bytes)
-    → get_or mid (c * 560 + k) 0 ≡ get_or bytes (p + c + k * b) 0)
-    → ((c r : ℕ) → c < w → r < count_at b (length rest) p
+    → rest ≡ take z (drop (tiled b (length bytes) * b) bytes) → ((c k : ℕ) → c < w → k < tiled b (length bytes)
+    → get_or mid (c * 560 + k) 0 ≡ get_or bytes (p + c + k * b) 0) → ((c r : ℕ) → c < w → r < count_at b (length rest) p
     → get_or new (c * 560 + tiled b (length bytes) + r) 0 ≡ get_or rest (p + c + r * b) 0)
     → ((c r : ℕ) → r < 560 → (r < tiled b (length bytes)) ⊎ (tiled b (length bytes) + 16 ≤ r)
-    → get_or new (c * 560 + r) 0 ≡ get_or mid (c * 560 + r) 0)
-    → c < w → k < count_at b (length bytes) p
+    → get_or new (c * 560 + r) 0 ≡ get_or mid (c * 560 + r) 0) → c < w → k < count_at b (length bytes) p
     → get_or new (c * 560 + k) 0 ≡ get_or bytes (p + c + k * b) 0
 all_taken b w p z c k bytes mid new rest o room t even ez er whole taken others l m =
+    let long : length rest ≡ behind b (length bytes) = grind (arith, length-take-le, length-drop) in
+    let split : count_at b (length bytes) p ≡ tiled b (length bytes) + count_at b (length rest) p =
+    count_split b (length bytes) p o t ∙ ap (λ x. tiled b (length bytes) + count_at b x p) (sym long) in
     elim (cases_lt k (tiled b (length bytes))) [
       | inl h ↦ others c k (omega (arith, t.few)) (inl h) ∙ whole c k l h
       | inr h ↦
           let r : k - tiled b (length bytes) < count_at b (length rest) p = omega (arith, split) in
           let e : tiled b (length bytes) + (k - tiled b (length bytes)) ≡ k = omega arith in
           let f : p + c + (k - tiled b (length bytes)) * b < length rest =
-          row_within b (length rest) (p + c) (k - tiled b (length bytes)) o (omega arith)
-          (omega (
+          row_within b (length rest) (p + c) (k - tiled b (length bytes)) o (omega arith) (omega (
             arith,
             r,
             even_count b p w (length rest) c l (even_rest b p w (length bytes) (length rest) o t long even),
           )) in
-          ap (λ x. get_or new x 0) (omega (arith, e))
-          ∙ taken c (k - tiled b (length bytes)) l r
+          ap (λ x. get_or new x 0) (omega (arith, e)) ∙ taken c (k - tiled b (length bytes)) l r
           ∙ ap (λ ys. get_or ys (p + c + (k - tiled b (length bytes)) * b) 0) er
           ∙ get_or-take z (drop (tiled b (length bytes) * b) bytes) (p + c + (k - tiled b (length bytes)) * b) 0
           (omega (arith, f, long, ez))
@@ -149,58 +110,40 @@ all_taken b w p z c k bytes mid new rest o room t even ez er whole taken others 
           ∙ ap (λ x. get_or bytes x 0)
           (omega (arith, add-mul (tiled b (length bytes)) (k - tiled b (length bytes)) b, ap (λ x. x * b) e))
     ]
-  where
-    long : length rest ≡ behind b (length bytes)
-    long = ap length er
-        ∙ length-take-le z (drop (tiled b (length bytes) * b) bytes)
-        (omega (arith, ez, length-drop (tiled b (length bytes) * b) bytes)) ∙ ez
-
-    split : count_at b (length bytes) p ≡ tiled b (length bytes) + count_at b (length rest) p
-    split = count_split b (length bytes) p o t ∙ ap (λ x. tiled b (length bytes) + count_at b x p) (sym long)
 
 pub all_put : (b w p z c k len : ℕ) (columns mid rest part : List ℕ) → 0 < b → p + w ≤ b → length mid ≡ len
     → IsTiled b len → IsEven b p w len → z ≡ behind b len → rest ≡ take z (drop (tiled b len * b) mid)
     → length part ≡ length rest
     → ((c k : ℕ) → c < w → k < tiled b len → get_or mid (p + c + k * b) 0 ≡ get_or columns (c * 560 + k) 0)
     → ((c r : ℕ) → c < w → r < count_at b (length rest) p
-    → get_or part (p + c + r * b) 0 ≡ get_or columns (c * 560 + tiled b len + r) 0)
-    → c < w → k < count_at b len p
+    → get_or part (p + c + r * b) 0 ≡ get_or columns (c * 560 + tiled b len + r) 0) → c < w → k < count_at b len p
     → get_or (put_mid (tiled b len * b) z mid part) (p + c + k * b) 0 ≡ get_or columns (c * 560 + k) 0
 all_put b w p z c k len columns mid rest part o room lm t even ez er lp whole put l m =
+    let within : tiled b len * b ≤ length mid = omega (arith, t.within, lm) in
+    let long : length rest ≡ behind b len = ap length er ∙ length-take-le z (drop (tiled b len * b) mid)
+    (omega (arith, ez, lm, length-drop (tiled b len * b) mid)) ∙ ez in
+    let split : count_at b len p ≡ tiled b len + count_at b (length rest) p =
+    count_split b len p o t ∙ ap (λ x. tiled b len + count_at b x p) (sym long) in
     elim (cases_lt k (tiled b len)) [
       | inl h ↦
           let g : (k + 1) * b ≤ tiled b len * b = mul-le-mul_right b (omega arith) in
-          written_before (tiled b len * b) z (p + c + k * b) mid part within (omega (arith, add-mul k 1 b))
-          ∙ whole c k l h
+          written_before (tiled b len * b) z (p + c + k * b) mid part within (omega (arith, add-mul k 1 b)) ∙ whole c k l h
       | inr h ↦
           let r : k - tiled b len < count_at b (length rest) p = omega (arith, split) in
           let e : tiled b len + (k - tiled b len) ≡ k = omega arith in
           let f : p + c + (k - tiled b len) * b < length rest =
           row_within b (length rest) (p + c) (k - tiled b len) o (omega arith)
           (omega (arith, r, even_count b p w (length rest) c l (even_rest b p w len (length rest) o t long even))) in
-          ap (λ x. get_or (put_mid (tiled b len * b) z mid part) x 0)
-          (omega (arith, add-mul (tiled b len) (k - tiled b len) b, ap (λ x. x * b) e))
+          ap (λ x. get_or (put_mid (tiled b len * b) z mid part) x 0) (grind (arith, add-mul))
           ∙ written_at (tiled b len * b) z (p + c + (k - tiled b len) * b) mid part within (omega (arith, f, lp))
           ∙ put c (k - tiled b len) l r ∙ ap (λ x. get_or columns x 0) (omega (arith, e))
     ]
-  where
-    within : tiled b len * b ≤ length mid
-    within = omega (arith, t.within, lm)
-
-    long : length rest ≡ behind b len
-    long = ap length er
-        ∙ length-take-le z (drop (tiled b len * b) mid)
-        (omega (arith, ez, lm, length-drop (tiled b len * b) mid)) ∙ ez
-
-    split : count_at b len p ≡ tiled b len + count_at b (length rest) p
-    split = count_split b len p o t ∙ ap (λ x. tiled b len + count_at b x p) (sym long)
 
 -- ---- one column exchanged behind others
 
 -- an earlier column stands before a later one
 column_before : (s d c k : ℕ) → d < c → k < s → d * s + k < c * s
-column_before s d c k l m =
-    let g : (d + 1) * s ≤ c * s = mul-le-mul_right s (omega arith) in omega (arith, add-mul d 1 s)
+column_before s d c k l m = grind (arith, mul-le-mul_right, add-mul)
 
 pub exchanged_on : (b next from c s q r at n start y z : ℕ) (old cur new : List (List ℕ))
     (come part gone went : List ℕ) → next < b → from + c < b → length cur ≡ b → start ≡ c * s
@@ -211,8 +154,7 @@ pub exchanged_on : (b next from c s q r at n start y z : ℕ) (old cur new : Lis
     → AreExchanged b next from (from + c) s q r old cur come gone
     → AreExchanged b next from (from + (c + 1)) s q r old new come (put_mid start z gone went)
 exchanged_on b next from c s q r at n start y z old cur new come part gone went l m lc es room en few ey lw ea ep ec ew
-    h =
-    record {
+    h = record {
       count = ap length ec ∙ length-set cur at (drop n (get_or cur at [] ++ take n part)) ∙ h.count;
       kept = λ p k o. kept p k o (cases_eq p (from + c));
       others = λ p k o. moved p o (apart p k) ∙ h.others p (out p k) o;
@@ -235,8 +177,7 @@ exchanged_on b next from c s q r at n start y z old cur new come part gone went 
         ∙ get_or-set_other cur at (branch_at b next p) (drop n (get_or cur at [] ++ take n part)) []
         (λ e. branch_other b next p (from + c) l o m f (e ∙ ea))
 
-    joined : get_or cur at [] ++ take n part
-        ≡ get_or old (branch_at b next (from + c)) []
+    joined : get_or cur at [] ++ take n part ≡ get_or old (branch_at b next (from + c)) []
         ++ take (count_of q r (from + c)) (drop (c * s) come)
     joined = ap₂ ◌++◌ (ap (λ x. get_or cur x []) ea ∙ h.others (from + c) (inr (omega arith)) m)
         (ap₂ take en (ep ∙ ap₂ (λ x a. take x (drop a come)) ey es)
@@ -249,11 +190,9 @@ exchanged_on b next from c s q r at n start y z old cur new come part gone went 
         (omega arith)
 
     kept : (p : ℕ) → from ≤ p → p < from + (c + 1) → (p ≡ from + c) ⊎ (p ≡ from + c → ⊥)
-        → get_or new (branch_at b next p) []
-        ≡ drop (count_of q r p) (get_or old (branch_at b next p) []
+        → get_or new (branch_at b next p) [] ≡ drop (count_of q r p) (get_or old (branch_at b next p) []
         ++ take (count_of q r p) (drop ((p - from) * s) come))
-    kept p k o (inl e) =
-        ap₂ (λ ys x. get_or ys x []) ec (ap (branch_at b next) e ∙ sym ea)
+    kept p k o (inl e) = ap₂ (λ ys x. get_or ys x []) ec (ap (branch_at b next) e ∙ sym ea)
         ∙ get_or-set_same cur at (drop n (get_or cur at [] ++ take n part)) []
         (omega (arith, lc, ea, branch_less b next (from + c) l m))
         ∙ ap₂ drop (en ∙ ap (count_of q r) (sym e)) (joined_there p e)
@@ -267,21 +206,18 @@ exchanged_on b next from c s q r at n start y z old cur new come part gone went 
         ap (λ x. get_or (put_mid start z gone went) (x + k) 0) (ap (λ x. x * s) (sym (omega arith)) ∙ sym es)
         ∙ written_at start z k gone went room (omega (arith, f, en, fits (from + c), lw))
         ∙ ew k f ∙ ap (λ ys. get_or ys k 0) (joined_there p e)
-    left p k i o t (inr f) =
-        written_before start z ((p - from) * s + k) gone went room
+    left p k i o t (inr f) = written_before start z ((p - from) * s + k) gone went room
         (omega (arith, es, column_before s (p - from) c k (omega arith) (omega (arith, t, fits p))))
         ∙ h.left p k i (omega arith) t
 
 -- ---- all places of a group
 
 pub put_back : (b w next p : ℕ) (old new : List (List ℕ)) (bytes out come gone : List ℕ) → 0 < b → p + w ≤ b
-    → w ≤ 16 → length out ≡ length bytes → length come ≡ 8960 → length bytes < 560 * b
-    → IsEven b p w (length bytes)
+    → w ≤ 16 → length out ≡ length bytes → length come ≡ 8960 → length bytes < 560 * b → IsEven b p w (length bytes)
     → ((c k : ℕ) → c < w → k < count_at b (length bytes) p
     → get_or come (c * 560 + k) 0 ≡ get_or bytes (p + c + k * b) 0)
     → AreExchanged b next p (p + w) 560 (length bytes / b) (length bytes % b) old new come gone
-    → ((c k : ℕ) → c < w → k < count_at b (length bytes) p
-    → get_or out (p + c + k * b) 0 ≡ get_or gone (c * 560 + k) 0)
+    → ((c k : ℕ) → c < w → k < count_at b (length bytes) p → get_or out (p + c + k * b) 0 ≡ get_or gone (c * 560 + k) 0)
     → ((i : ℕ) → (i % b < p) ⊎ (p + w ≤ i % b) → get_or out i 0 ≡ get_or bytes i 0)
     → ArePassed b next p (p + w) old new bytes out
 put_back b w next p old new bytes out come gone o room w16 lo lc short even taken h put rest = record {
@@ -303,21 +239,14 @@ put_back b w next p old new bytes out come gone o room w16 lo lc short even take
 
     stretch : (q : ℕ) → p ≤ q → q < p + w
         → take (count_at b (length bytes) q) (drop ((q - p) * 560) come) ≡ column b bytes q
-    stretch q l m =
-        fill_by_all (λ k. get_or bytes (q + k * b) 0)
+    stretch q l m = fill_by_all (λ k. get_or bytes (q + k * b) 0)
         (take (count_at b (length bytes) q) (drop ((q - p) * 560) come)) (count_at b (length bytes) q) 0
-        (length-take-le (count_at b (length bytes) q) (drop ((q - p) * 560) come)
-        (omega (arith, length-drop ((q - p) * 560) come, lc, few q)))
-        (λ k s. get_or-take (count_at b (length bytes) q) (drop ((q - p) * 560) come) k 0 s
-        ∙ get_or-drop ((q - p) * 560) come k 0
-        ∙ taken (q - p) k (omega arith) (omega (arith, s, counts q l m))
-        ∙ ap (λ x. get_or bytes (x + k * b) 0) (omega arith))
+        (grind (arith, length-take-le, length-drop, few)) (λ k s. grind (arith, get_or-take, get_or-drop, counts))
 
     left : (i : ℕ) → i < length bytes → p ≤ i % b → i % b < p + w
         → get_or out i 0 ≡ get_or (joined_at b next old bytes (i % b)) (i / b) 0
     left i l m k =
         let s : i / b < count_at b (length bytes) (i % b) = row_counts b (length bytes) i o l in
         ap (λ x. get_or out x 0) (sym (ap (λ x. x + i / b * b) (omega arith) ∙ from_row b i))
-        ∙ put (i % b - p) (i / b) (omega arith) (omega (arith, s, counts (i % b) m k))
-        ∙ h.left (i % b) (i / b) m k s
+        ∙ put (i % b - p) (i / b) (omega arith) (omega (arith, s, counts (i % b) m k)) ∙ h.left (i % b) (i / b) m k s
         ∙ ap (λ ys. get_or (get_or old (branch_at b next (i % b)) [] ++ ys) (i / b) 0) (stretch (i % b) m k)

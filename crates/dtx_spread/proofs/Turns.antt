@@ -36,37 +36,17 @@ pub branch_round : (b next p : ℕ) → b ≤ next + p → branch_at b next p �
 branch_round b next p l = cond-false (nat_lt (next + p) b) (next + p) (next + p - b) (le-ltb (next + p) b l)
 
 pub branch_less : (b next p : ℕ) → next < b → p < b → branch_at b next p < b
-branch_less b next p l k = elim (cases_lt (next + p) b) [
-  | inl h ↦ omega (arith, branch_on b next p h)
-  | inr h ↦ omega (arith, branch_round b next p h)
-]
+branch_less b next p l k = grind (arith, cases_lt, branch_on, branch_round)
 
 pub branch_other : (b next p q : ℕ) → next < b → p < b → q < b → p ≢ q → branch_at b next p ≢ branch_at b next q
-branch_other b next p q l k m n = λ e. by_cases e (cases_lt (next + p) b) (cases_lt (next + q) b)
-  where
-    by_cases : branch_at b next p ≡ branch_at b next q → (next + p < b) ⊎ (b ≤ next + p)
-        → (next + q < b) ⊎ (b ≤ next + q) → ⊥
-    by_cases e (inl f) (inl g) = n (omega (arith, e, branch_on b next p f, branch_on b next q g))
-    by_cases e (inl f) (inr g) = absurd (omega (arith, e, branch_on b next p f, branch_round b next q g))
-    by_cases e (inr f) (inl g) = absurd (omega (arith, e, branch_round b next p f, branch_on b next q g))
-    by_cases e (inr f) (inr g) = n (omega (arith, e, branch_round b next p f, branch_round b next q g))
+branch_other b next p q l k m n = grind (arith, cases_lt, branch_on, branch_round)
 
 pub place_less : (b next i : ℕ) → next < b → i < b → place_of b next i < b
-place_less b next i l k = elim (cases_lt i next) [
-  | inl h ↦ omega (arith, place_before b next i h)
-  | inr h ↦ omega (arith, place_from b next i h)
-]
+place_less b next i l k = grind (arith, cases_lt, place_before, place_from)
 
 -- the branch at the place of branch i is branch i
 pub branch_there : (b next i : ℕ) → next < b → i < b → branch_at b next (place_of b next i) ≡ i
-branch_there b next i l k = elim (cases_lt i next) [
-  | inl h ↦
-      ap (branch_at b next) (place_before b next i h)
-      ∙ branch_round b next (i + b - next) (omega arith) ∙ omega arith
-  | inr h ↦
-      ap (branch_at b next) (place_from b next i h)
-      ∙ branch_on b next (i - next) (omega arith) ∙ omega arith
-]
+branch_there b next i l k = grind (arith, cases_lt, place_before, branch_round, place_from, branch_on)
 
 -- where byte k goes: its branch, and at which turn of this branch
 pub record IsTurn (b next k : ℕ) : Type 0 where
@@ -77,7 +57,7 @@ pub record IsTurn (b next k : ℕ) : Type 0 where
 pub turns : (b next k : ℕ) → next < b → IsTurn b next k
 turns b next k l = elim (cases_lt (next + k % b) b) [
   | inl h ↦
-      let e : next + k ≡ k / b * b + (next + k % b) = omega (arith, whole) in
+      let e : next + k ≡ k / b * b + (next + k % b) = omega arith in
       let m : (next + k) % b ≡ next + k % b = ap (λ x. x % b) e ∙ mod-mul-add (k / b) b (next + k % b) h in
       let d : (next + k) / b ≡ k / b = ap (λ x. x / b) e ∙ div-mul-add (k / b) b (next + k % b) h in
       record {
@@ -87,8 +67,7 @@ turns b next k l = elim (cases_lt (next + k % b) b) [
       }
   | inr h ↦
       let r : k % b < b = mod_below k b (omega arith) in
-      let e : next + k ≡ (k / b + 1) * b + (next + k % b - b) =
-      omega (arith, whole, add-mul (k / b) 1 b) in
+      let e : next + k ≡ (k / b + 1) * b + (next + k % b - b) = omega (arith, add-mul (k / b) 1 b) in
       let m : (next + k) % b ≡ next + k % b - b =
       ap (λ x. x % b) e ∙ mod-mul-add (k / b + 1) b (next + k % b - b) (omega arith) in
       let d : (next + k) / b ≡ k / b + 1 =
@@ -99,9 +78,6 @@ turns b next k l = elim (cases_lt (next + k % b) b) [
         turn = omega (arith, d, ap (later next) m, later_before next (next + k % b - b) (omega arith));
       }
 ]
-  where
-    whole : k ≡ k / b * b + k % b
-    whole = sym (div-add-mod' k b)
 
 -- ---- how many bytes come to a place
 
@@ -113,54 +89,25 @@ count_late b len p l = ap (λ n. len / b + n) (cond-false (nat_lt p (len % b)) 1
     ∙ omega arith
 
 pub count_few : (q r p : ℕ) → count_of q r p ≤ q + 1
-count_few q r p = elim (cases_lt p r) [
-  | inl h ↦
-      let e : count_of q r p ≡ q + 1 = ap (λ n. q + n) (cond-true (nat_lt p r) 1 0 (lt-ltb p r h)) in
-      omega (arith, e)
-  | inr h ↦
-      let e : count_of q r p ≡ q + 0 = ap (λ n. q + n) (cond-false (nat_lt p r) 1 0 (le-ltb p r h)) in
-      omega (arith, e)
-]
+count_few q r p = grind (arith, cases_lt, cond-true, lt-ltb, cond-false, le-ltb)
 
 -- a row of one byte more has it at the places before its end
 fewer : (b q r n s : ℕ) → q * b + r < n * b + s → s ≤ b → q ≤ n
-fewer b q r n s h l = elim (cases_lt n q) [
-  | inl k ↦
-      let g : (n + 1) * b ≤ q * b = mul-le-mul_right b (omega arith) in
-      absurd (omega (arith, add-mul n 1 b))
-  | inr k ↦ k
-]
+fewer b q r n s h l = grind (arith, cases_lt, mul-le-mul_right, add-mul)
 
 fewer_still : (b q r n s : ℕ) → q * b + r < n * b + s → s ≤ r → q < n
-fewer_still b q r n s h l = elim (cases_lt q n) [
-  | inl k ↦ k
-  | inr k ↦ let g : n * b ≤ q * b = mul-le-mul_right b k in absurd (omega arith)
-]
+fewer_still b q r n s h l = grind (arith, cases_lt, mul-le-mul_right)
 
 -- a byte's row is one of its place's
 pub row_counts : (b len k : ℕ) → 0 < b → k < len → k / b < count_at b len (k % b)
-row_counts b len k p l = elim (cases_lt (k % b) (len % b)) [
-  | inl h ↦
-      let g : k / b ≤ len / b =
-      fewer b (k / b) (k % b) (len / b) (len % b) both (omega (arith, mod_below len b p)) in
-      omega (arith, count_early b len (k % b) h)
-  | inr h ↦
-      let g : k / b < len / b = fewer_still b (k / b) (k % b) (len / b) (len % b) both h in
-      omega (arith, count_late b len (k % b) h)
-]
-  where
-    both : k / b * b + k % b < len / b * b + len % b
-    both = omega (arith, div-add-mod' k b, div-add-mod' len b)
+row_counts b len k p l = grind (arith, cases_lt, fewer, mod_below, count_early, fewer_still, count_late, div-add-mod')
 
 -- and no more rows have a byte at a place than hold all bytes
 pub early_fit : (b len p n : ℕ) → p < len % b → len ≤ n * b → len / b + 1 ≤ n
-early_fit b len p n l h =
-    let k : len / b < n = fewer_still b (len / b) (len % b) n 1 (omega (arith, div-add-mod' len b)) (omega arith) in
-    omega arith
+early_fit b len p n l h = grind (arith, fewer_still, div-add-mod')
 
 pub late_fit : (b len n : ℕ) → 0 < b → len ≤ n * b → len / b ≤ n
-late_fit b len n o h =
-    fewer b (len / b) (len % b) n 1 (omega (arith, div-add-mod' len b)) o
+late_fit b len n o h = fewer b (len / b) (len % b) n 1 (omega (arith, div-add-mod' len b)) o
 
 -- and a row of a place has a byte there
 pub row_within : (b len p k : ℕ) → 0 < b → p < b → k < count_at b len p → p + k * b < len
@@ -185,77 +132,31 @@ from_row b i = omega (arith, div-add-mod' i b)
 ordered : (b next i j : ℕ) → next < b → i < b → j < b → i < j
     → ((place_of b next i < place_of b next j) × (later next i ≡ later next j))
     ⊎ ((place_of b next j ≤ place_of b next i) × (later next i ≡ 1) × (later next j ≡ 0))
-ordered b next i j l m n h = by_cases (cases_lt i next) (cases_lt j next)
-  where
-    by_cases : (i < next) ⊎ (next ≤ i) → (j < next) ⊎ (next ≤ j)
-        → ((place_of b next i < place_of b next j) × (later next i ≡ later next j))
-        ⊎ ((place_of b next j ≤ place_of b next i) × (later next i ≡ 1) × (later next j ≡ 0))
-    by_cases (inl f) (inl g) = inl (
-      omega (arith, place_before b next i f, place_before b next j g),
-      later_before next i f ∙ sym (later_before next j g),
-    )
-    by_cases (inl f) (inr g) = inr (
-      omega (arith, place_before b next i f, place_from b next j g),
-      later_before next i f,
-      later_from next j g,
-    )
-    by_cases (inr f) (inl g) = absurd (omega arith)
-    by_cases (inr f) (inr g) = inl (
-      omega (arith, place_from b next i f, place_from b next j g),
-      later_from next i f ∙ sym (later_from next j g),
-    )
+ordered b next i j l m n h =
+    grind (arith, cases_lt, place_of, later, place_before, later_before, place_from, later_from)
 
 -- a branch before the next one has had its byte of this turn
 pub come_early : (b next len i : ℕ) → next < b → i < (next + len) % b
     → count_at b len (place_of b next i) + later next i ≡ (next + len) / b + 1
-come_early b next len i l h = elim (ordered b next i ((next + len) % b) l (omega arith) m h) [
-  | inl k ↦
-      omega (arith, k.1, t.turn, count_early b len (place_of b next i) (omega (arith, k.0, t.place)))
-  | inr k ↦
-      omega (arith, k.1, k.2, t.turn, count_late b len (place_of b next i) (omega (arith, k.0, t.place)))
-]
-  where
-    m : (next + len) % b < b
-    m = mod_below (next + len) b (omega arith)
-
-    t : IsTurn b next len
-    t = turns b next len l
+come_early b next len i l h =
+    let t : IsTurn b next len = turns b next len l in
+    elim (ordered b next i ((next + len) % b) l (omega arith) (mod_below (next + len) b (omega arith)) h) [
+      | inl k ↦ omega (arith, k.1, t.turn, count_early b len (place_of b next i) (omega (arith, k.0, t.place)))
+      | inr k ↦ omega (arith, k.1, k.2, t.turn, count_late b len (place_of b next i) (omega (arith, k.0, t.place)))
+    ]
 
 not_before : (b next i j : ℕ) → next < b → i < b → j < b → j ≤ i
     → ((place_of b next j ≤ place_of b next i) × (later next i ≡ later next j))
     ⊎ ((place_of b next i < place_of b next j) × (later next i ≡ 0) × (later next j ≡ 1))
-not_before b next i j l m n h = by_cases (cases_lt i next) (cases_lt j next)
-  where
-    by_cases : (i < next) ⊎ (next ≤ i) → (j < next) ⊎ (next ≤ j)
-        → ((place_of b next j ≤ place_of b next i) × (later next i ≡ later next j))
-        ⊎ ((place_of b next i < place_of b next j) × (later next i ≡ 0) × (later next j ≡ 1))
-    by_cases (inl f) (inl g) = inl (
-      omega (arith, place_before b next i f, place_before b next j g),
-      later_before next i f ∙ sym (later_before next j g),
-    )
-    by_cases (inl f) (inr g) = absurd (omega arith)
-    by_cases (inr f) (inl g) = inr (
-      omega (arith, place_from b next i f, place_before b next j g),
-      later_from next i f,
-      later_before next j g,
-    )
-    by_cases (inr f) (inr g) = inl (
-      omega (arith, place_from b next i f, place_from b next j g),
-      later_from next i f ∙ sym (later_from next j g),
-    )
+not_before b next i j l m n h =
+    grind (arith, cases_lt, place_of, later, place_before, later_before, place_from, later_from)
 
 -- and the next one and those behind it have not
 pub come_late : (b next len i : ℕ) → next < b → i < b → (next + len) % b ≤ i
     → count_at b len (place_of b next i) + later next i ≡ (next + len) / b
-come_late b next len i l p h = elim (not_before b next i ((next + len) % b) l p m h) [
-  | inl k ↦
-      omega (arith, k.1, t.turn, count_late b len (place_of b next i) (omega (arith, k.0, t.place)))
-  | inr k ↦
-      omega (arith, k.1, k.2, t.turn, count_early b len (place_of b next i) (omega (arith, k.0, t.place)))
-]
-  where
-    m : (next + len) % b < b
-    m = mod_below (next + len) b (omega arith)
-
-    t : IsTurn b next len
-    t = turns b next len l
+come_late b next len i l p h =
+    let t : IsTurn b next len = turns b next len l in
+    elim (not_before b next i ((next + len) % b) l p (mod_below (next + len) b (omega arith)) h) [
+      | inl k ↦ omega (arith, k.1, t.turn, count_late b len (place_of b next i) (omega (arith, k.0, t.place)))
+      | inr k ↦ omega (arith, k.1, k.2, t.turn, count_early b len (place_of b next i) (omega (arith, k.0, t.place)))
+    ]
