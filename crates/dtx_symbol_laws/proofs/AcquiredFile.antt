@@ -3,13 +3,8 @@ use Rattle.std.proofs.Common.{◌≡◌, ◌↔◌, ℕ, ℤ, List, [], length, 
 use Rattle.std.proofs.lemmas.List.{length-map}
 use Rattle.dtx_acquire.specs.Acquired.{acquired, acquired_cost, acquired_runs}
 use Rattle.dtx_acquire.proofs.AcquiredLemmas.{all_is_acquired}
-<<<<<<< HEAD
 use Rattle.dtx_meaning.specs.Status.{done}
-use Rattle.dtx_recipes.specs.Acquire.{acquired_answer, acquired_numbers, with_acquirer}
-=======
-use Rattle.dtx_meaning.specs.declared.status.Status.TheVariants.{Done}
 use Rattle.dtx_recipes.specs.Acquire.{acquired_numbers, with_acquirer}
->>>>>>> e2f21e0f9a8de469a84620005617d03aac505191
 use Rattle.dtx_recipes.specs.SymbolFile.{symbol_of_byte, symbols}
 use Rattle.dtx_symbol_laws.specs.RestoredFile.{acquired_of}
 use Rattle.dtx_symbol_laws.proofs.RestoredFile.{IsRestored}
@@ -17,25 +12,9 @@ use Rattle.dtx_symbol_laws.proofs.RestoredFile.{IsRestored}
 -- the numbers are those of so many symbols
 pub symbols_acquired : (scale n : ℕ) (symbols : List ℤ) → length symbols ≡ n
     → (acquired_runs symbols ≡ 0) ↔ (acquired scale symbols ≡ [])
-<<<<<<< HEAD
     → IsRestored (with_acquirer scale) symbols (acquired scale symbols) (acquired_runs symbols)
     (done (acquired_numbers n (acquired_runs symbols) (length (acquired scale symbols)) (acquired_cost scale symbols)))
-symbols_acquired scale n symbols long none = record {
-  parts = all_is_acquired scale symbols;
-  none = none;
-  answer = ap (λ count. acquired_answer count (acquired_runs symbols) (length (acquired scale symbols))
-      (acquired_cost scale symbols)) long;
-  done = refl;
-}
-=======
-    → IsRestored (with_acquirer scale) symbols (acquired scale symbols) (acquired_runs symbols) (record {
-      status = Done;
-      numbers = acquired_numbers n (acquired_runs symbols) (length (acquired scale symbols))
-          (acquired_cost scale symbols);
-      shown = 5;
-    })
 symbols_acquired scale n symbols long none = grind (arith, all_is_acquired)
->>>>>>> e2f21e0f9a8de469a84620005617d03aac505191
 
 -- of a file, these are its bytes
 pub file_acquires : (scale : ℕ) (names : List (List ℕ)) (file : List ℕ)

@@ -6,13 +6,8 @@ use Rattle.dtx_acquire.specs.Acquired.{acquired, acquired_runs}
 use Rattle.dtx_rounds.specs.Known.{known_count}
 use Rattle.dtx_rounds.specs.Rounds.{heard_of, refined, round_cost, round_moved}
 use Rattle.dtx_rounds.proofs.SoFarLemmas.{all_is_refined, length-refined}
-<<<<<<< HEAD
 use Rattle.dtx_meaning.specs.Status.{done}
-use Rattle.dtx_recipes.specs.Refine.{before_last, refined_answer, refined_numbers, with_refiner}
-=======
-use Rattle.dtx_meaning.specs.declared.status.Status.TheVariants.{Done}
 use Rattle.dtx_recipes.specs.Refine.{before_last, refined_numbers, with_refiner}
->>>>>>> e2f21e0f9a8de469a84620005617d03aac505191
 use Rattle.dtx_recipes.specs.SymbolFile.{symbol_of_byte, symbols}
 use Rattle.dtx_symbol_laws.specs.RestoredFile.{refined_of}
 use Rattle.dtx_symbol_laws.proofs.RestoredFile.{IsRestored}
@@ -29,33 +24,12 @@ none_refined scale rounds symbols none =
 -- the numbers are those of so many symbols
 pub symbols_refined : (scale rounds n : ℕ) (symbols : List ℤ) → length symbols ≡ n
     → (acquired_runs symbols ≡ 0) ↔ (acquired scale symbols ≡ [])
-<<<<<<< HEAD
     → IsRestored (with_refiner scale rounds) symbols (refined scale symbols rounds) (acquired_runs symbols)
     (done (refined_numbers n (acquired_runs symbols) (length (refined scale symbols rounds))
     (round_cost scale (heard_of symbols) (before_last scale rounds symbols))
     (known_count (bytes_in (before_last scale rounds symbols)))
     (round_moved scale (heard_of symbols) (before_last scale rounds symbols))))
-symbols_refined scale rounds n symbols long none = record {
-  parts = all_is_refined scale rounds symbols;
-  none = none_refined scale rounds symbols none;
-  answer = ap₂ (λ count segments. refined_answer count (acquired_runs symbols) segments
-      (round_cost scale (heard_of symbols) (before_last scale rounds symbols))
-      (known_count (bytes_in (before_last scale rounds symbols)))
-      (round_moved scale (heard_of symbols) (before_last scale rounds symbols)))
-      long (sym (length-refined scale rounds symbols));
-  done = refl;
-}
-=======
-    → IsRestored (with_refiner scale rounds) symbols (refined scale symbols rounds) (acquired_runs symbols) (record {
-      status = Done;
-      numbers = refined_numbers n (acquired_runs symbols) (length (refined scale symbols rounds))
-          (round_cost scale (heard_of symbols) (before_last scale rounds symbols))
-          (known_count (bytes_in (before_last scale rounds symbols)))
-          (round_moved scale (heard_of symbols) (before_last scale rounds symbols));
-      shown = 7;
-    })
 symbols_refined scale rounds n symbols long none = grind (arith, all_is_refined, none_refined, length-refined)
->>>>>>> e2f21e0f9a8de469a84620005617d03aac505191
 
 -- of a file, these are its bytes
 pub file_refines : (scale rounds : ℕ) (names : List (List ℕ)) (file : List ℕ)

@@ -7,17 +7,11 @@ use Rattle.dtx_receiver.specs.Intervals.{NoneLooks}
 use Rattle.dtx_receiver.specs.Runs.{runs}
 use Rattle.dtx_exciter.specs.Log.{log}
 use Rattle.dtx_repeat.specs.Lives.{life_of, lives, lives_so_far}
-<<<<<<< HEAD
 use Rattle.dtx_meaning.specs.Meaning.{Meaning}
 use Rattle.dtx_meaning.specs.Status.{done, ended}
 use Rattle.dtx_meaning.specs.declared.status.Outcome.{Outcome}
 use Rattle.dtx_meaning.specs.declared.status.Status.TheVariants.{NoSync, TooLong}
 use Rattle.dtx_engine.specs.Made.{Made, only, outputs_of}
-=======
-use Rattle.dtx_meaning.specs.Status.{ended}
-use Rattle.dtx_meaning.specs.declared.status.Status.TheVariants.{TooLong}
-use Rattle.dtx_engine.specs.Made.{only, outputs_of}
->>>>>>> e2f21e0f9a8de469a84620005617d03aac505191
 use Rattle.dtx_engine.specs.Recipe.{first_refused, meaning_at, meaning_of_file}
 use Rattle.dtx_engine.specs.declared.piece.Ending.TheVariants.{Whole}
 use Rattle.dtx_forms.proofs.AllowedFileLemmas.{all_read, first_read, none_found}
@@ -53,19 +47,7 @@ answered a d names file few = grind (arith, all_read, all_allowed, repeated_fron
 pub all_repeated : (a d : ℕ) (names : List (List ℕ)) (file : List ℕ) → whole_segments file ≤ 626000000
     → (NoneLooks (file_segments file) 0 (whole_segments file) → ⊥)
     → meaning_of_file segments (repeating a d) names file ≡ repeated_of a d names file
-<<<<<<< HEAD
-all_repeated a d names file few some =
-    let list : List (List ℤ) = file_segments file in
-    let answer : ℕ → Outcome = λ count.
-    done (repeated_numbers count (length (runs list)) (lives_tally a d (lives list)) (length file % 832)) in
-    answered a d names file few
-    ∙ ap (λ (outcome : Outcome). record { outcome = outcome; outputs = outputs_of names (repeated_outputs a d list) })
-    (cond-false _ (ended NoSync) (answer (length list)) (ne_eqb (length (runs list)) 0
-    (λ e. some ((no_run_in file).0 e)))
-    ∙ ap answer (length-segments_of file))
-=======
 all_repeated a d names file few some = grind (arith, answered, cond-false, ne_eqb, no_run_in, length-segments_of)
->>>>>>> e2f21e0f9a8de469a84620005617d03aac505191
 
 -- ---- no run
 

@@ -1,11 +1,8 @@
 use Rattle.std.proofs.Common.{◌++◌, ap, ◌∙◌, arith, refl, take}
 use Rattle.dtx_files.specs.Symbols.{segment_bytes}
 use Rattle.dtx_engine.specs.Made.{only}
-<<<<<<< HEAD
 use Rattle.dtx_meaning.specs.Status.{done}
 use Rattle.dtx_meaning.specs.declared.status.Outcome.{Outcome}
-=======
->>>>>>> 4535c002bafb18adaf14b058db29c901bf6d032b
 use Rattle.dtx_soft.specs.Softened.{softened_cost}
 use Rattle.dtx_recipes.specs.Soft.{flushed, has_group}
 use Rattle.dtx_jobs.proofs.SoftLemmas.{no_cost}
@@ -30,7 +27,6 @@ pub returns-clause-outcome : goal.returns-clause-outcome
 returns-clause-outcome c = λ given stand.
     let old = c.args.self.now in
     let was = stand.softening in
-<<<<<<< HEAD
     let outcome : ℕ → ℕ → ℕ → Outcome =
     λ segments fields cost. done (segments ∷ fields ∷ cost ∷ c.args.loose ∷ []) in
     let sums = field_sum_all old s c.unwrap_or-rows.result was c.unwrap_or-rows.ensures in
@@ -39,12 +35,6 @@ returns-clause-outcome c = λ given stand.
     (sums has_group old.fields c.flush.new.self.fields refl was.fields c.flush.ensures.fields)
     ∙ ap (λ n. outcome (length s) (field_sum has_group s (length s)) n)
     (sums (softened_cost 1) old.cost c.flush.new.self.cost no_cost was.cost c.flush.ensures.cost)
-=======
-    let sums = field_sum_all old (file_segments given) c.unwrap_or-rows.result was c.unwrap_or-rows.ensures in
-    let fields = sums has_group old.fields c.flush.new.self.fields refl was.fields c.flush.ensures.fields in
-    let cost = sums (softened_cost 1) old.cost c.flush.new.self.cost no_cost was.cost c.flush.ensures.cost in
-    rw (c.flush.ensures.count, was.count, fields, cost) refl
->>>>>>> 4535c002bafb18adaf14b058db29c901bf6d032b
 
 pub returns-clause-rest : goal.returns-clause-rest
 returns-clause-rest c = λ given stand.
