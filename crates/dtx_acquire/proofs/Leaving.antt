@@ -8,7 +8,6 @@ use Rattle.dtx_acquire.specs.Agreement.{agrees}
 use Rattle.dtx_acquire.proofs.AgreementLemmas.{past_end}
 use Rattle.dtx_acquire.specs.Acquired.{Field, acquired, acquired_cost, acquired_rest, acquired_runs, acquired_so_far}
 use Rattle.dtx_acquire.specs.Acquired.{begun, all_fields, cost_of, fields_where, heard_in, heard_rest, heard_so_far}
-
 use Rattle.dtx_acquire.specs.Acquired.{last_fields, path_cost, restored, restored_of, runs_of, segments_from}
 use Rattle.dtx_acquire.specs.Acquired.{settled_fields}
 use Rattle.dtx_acquire.specs.Acquirer.{Holding, IsSought, Leaves, StandsFor, field_of, where_wanted}

@@ -8,7 +8,6 @@ use Rattle.std.proofs.lemmas.List.{take-append-le}
 use Rattle.dtx_lists.proofs.Range.{map-range_same}
 use Rattle.dtx_acquire.specs.Agreement.{agrees, are_unlike, is_plus, least_from, sync_sign, unlike, unlike_at}
 use Rattle.dtx_acquire.proofs.AgreementLemmas.{past_end}
-
 use Rattle.dtx_acquire.specs.Acquired.{begun_at, behind, field_at, fields_where, given_at, is_met}
 use Rattle.dtx_acquire.specs.Acquired.{segments_from, unless_lost}
 use Rattle.dtx_acquire.specs.Acquirer.{IsSought, field_of, where_wanted}

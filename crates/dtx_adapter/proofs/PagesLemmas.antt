@@ -154,7 +154,8 @@ two_addresses ts i k d distinct here there apart =
       | inl l ↦ λ same.
           pairs i k d.address l (omega (arith, there, long)) (at i here ∙ same ∙ sym (at k there))
       | inr l ↦ λ same.
-          pairs k i d.address (omega (arith, l, apart)) (omega (arith, here, long)) (at k there ∙ sym same ∙ sym (at i here))
+          pairs k i d.address (omega (arith, l, apart)) (omega (arith, here, long))
+          (at k there ∙ sym same ∙ sym (at i here))
     ]
   where
     at : (j : ℕ) → j < length ts → get_or (addresses_of ts) j d.address ≡ (get_or ts j d).address

@@ -45,10 +45,12 @@ unfolding from_sync
 missing_behind ps first from j sent got r p gap l c = (
   rw (← sent_word ps first j sent got r p l c)
       (none_wrong (drop (to_sync first) got) (drop (to_sync first) sent) 4141 (from - 832 * to_sync first) j
-      (alike_moved ps first (to_sync first) sent got r l) (missing_moved (to_sync first) 4141 from sent got r.as_many gap)
+      (alike_moved ps first (to_sync first) sent got r l)
+      (missing_moved (to_sync first) 4141 from sent got r.as_many gap)
       c),
   few_lost (drop (to_sync first) got) (drop (to_sync first) sent) (from - 832 * to_sync first) j
-      (alike_moved ps first (to_sync first) sent got r l) (missing_moved (to_sync first) 4141 from sent got r.as_many gap)
+      (alike_moved ps first (to_sync first) sent got r l)
+      (missing_moved (to_sync first) 4141 from sent got r.as_many gap)
       c,
 )
 

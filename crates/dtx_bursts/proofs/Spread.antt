@@ -125,7 +125,8 @@ within_window w n j most g h few =
     omega (
       arith,
       (subst (λ (m : ℕ). five_counts w n t (m + 207) ≤ five_counts w n t m + most) at (few t r (omega arith))),
-      total_rises (five_counts w n t) g (207 * j) 207 (λ i l m. counted w n t i g (omega arith) (omega arith) (h i l m)),
+      total_rises (five_counts w n t) g (207 * j) 207
+          (λ i l m. counted w n t i g (omega arith) (omega arith) (h i l m)),
     )
 
 pub at_most_ten : (w j : ℕ) (g : ℕ → ℕ) → IsWithin w 522 j g → total g (207 * j) 207 ≤ 10

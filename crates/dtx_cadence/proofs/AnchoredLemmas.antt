@@ -184,7 +184,8 @@ anchored d s c l f = by_anchor (anchor d) refl
       within = omega arith;
       steps = omega arith;
       holds = λ m a b. held d s (length d) (suc (length d)) c (omega arith) (omega arith) (omega arith) (omega arith)
-          (ap (anchor_at (d ++ s) (length d)) (anchor_behind d s ∙ h) ∙ ap (λ t. cond t (Some (length d)) None) mark) m b;
+          (ap (anchor_at (d ++ s) (length d)) (anchor_behind d s ∙ h)
+          ∙ ap (λ t. cond t (Some (length d)) None) mark) m b;
     }
     by_anchor (Some j) h =
         let k : j < length d = anchor_below d j h in

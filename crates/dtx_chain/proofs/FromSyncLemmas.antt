@@ -289,7 +289,8 @@ bytes_front ps q m run h =
       ap (bytes_back 0 precoder_bits) (levels_front run m)
           ∙ bytes_append 0 g precoder_bits (levels_in (take m run)) rest (length-levels_there ps q (take m run) h)
           ∙ ap (λ (x : List ℤ). bytes_back 0 (precoder_bits_of (sliced_last x)) (levels_in (take m run))
-          ++ bytes_back (group_place 0 g) (precoder_bits_after 0 precoder_bits (levels_in (take m run))) rest) (sym first),
+          ++ bytes_back (group_place 0 g) (precoder_bits_after 0 precoder_bits (levels_in (take m run))) rest)
+          (sym first),
     )
 
 -- whatever comes then, the words of the front are near

@@ -56,7 +56,8 @@ is_there ps first sent r l =
       some = omega (arith, l, less);
       within = omega (arith, l, less, at, all);
       same = λ i m.
-          get_or-drop (to_sync first) sent i [] ∙ sent_at ps first sent sent r (to_sync first + i) (omega (arith, m, less))
+          get_or-drop (to_sync first) sent i []
+          ∙ sent_at ps first sent sent r (to_sync first + i) (omega (arith, m, less))
           ∙ ap (λ n. get_or (a53 ps) n []) (omega (arith, at));
     }
 

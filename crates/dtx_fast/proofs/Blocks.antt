@@ -41,7 +41,8 @@ blocks_more b old new block f done before put value q l = elim (places b q) [
   | inl u ↦ before q u ∙ done q u
   | inr u ↦
       let same : 32 * b + (q - 32 * b) ≡ q = omega arith in
-      sym (ap (λ j. get_or new j 0) same) ∙ put (q - 32 * b) (omega arith) ∙ value (q - 32 * b) (omega arith) ∙ ap f same
+      sym (ap (λ j. get_or new j 0) same) ∙ put (q - 32 * b) (omega arith) ∙ value (q - 32 * b) (omega arith)
+      ∙ ap f same
 ]
   where
     places : (b q : ℕ) → (q < 32 * b) ⊎ (32 * b ≤ q)

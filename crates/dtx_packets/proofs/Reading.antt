@@ -51,14 +51,16 @@ step_of_file (Some file) old new filled wanted (Ok n) into rest any wanted_is lo
     let whole : 188 * n ≤ filled = omega (arith, step.0) in
     let least : 0 < wanted = omega (arith, any, wanted_is) in (
       record {
-        least = limited (whole_packets (into ++ rest)) (old.limit - old.given) wanted (whole_packets file - next_of old) n
+        least = limited (whole_packets (into ++ rest)) (old.limit - old.given) wanted
+            (whole_packets file - next_of old) n
             any wanted_is (n_is ∙ ap (min wanted) (omega arith)) (λ given. omega (arith, (step.2 given).0));
         none = λ z. record {
           none_left = omega (arith, n_is, z, least);
           loose = ap (λ (r : Reading). r.loose) (step.1 z) ∙ omega (arith, count, step.0, z, least);
         };
       },
-      take-append-le (188 * n) into rest (omega (arith, whole, count, long)) ∙ sym (take-take (188 * n) filled into whole)
+      take-append-le (188 * n) into rest (omega (arith, whole, count, long))
+          ∙ sym (take-take (188 * n) filled into whole)
           ∙ ap (take (188 * n)) fills.bytes ∙ take-take (188 * n) filled (drop (188 * next_of old) file) whole,
     )
 step_of_file (Some file) old new filled wanted (Err refusal) into rest any wanted_is long fills step = grind arith

@@ -68,7 +68,8 @@ grouped_group x kept new run given place z w d l f long h =
       bytes = a.bytes ∙ ap (λ xs. xs ++ bytes) d.bytes ∙ append_assoc given (flat kept.held) bytes
           ∙ ap (λ xs. given ++ xs) (sym (flat_more kept.held bytes) ∙ ap flat (sym h));
       long = ap (λ held. length (flat held)) h ∙ ap length (flat_more kept.held bytes)
-          ∙ length-append (flat kept.held) bytes ∙ omega (arith, d.long, long, ap length h, length_push kept.held bytes);
+          ∙ length-append (flat kept.held) bytes
+          ∙ omega (arith, d.long, long, ap length h, length_push kept.held bytes);
     }
 
 -- ---- how many groups there are

@@ -44,7 +44,8 @@ levels_data x levels new precoder_bits run d n p l m e =
     record {
       some = omega (arith, length_push run x);
       long = ap length (still_data run x n p).levels ∙ d.long ∙ ap (λ g. 3312 * g) (sym (still_data run x n p).groups);
-      levels = ap (λ n. take (828 * n) new) (ap (λ n. n % 4) c ∙ r) ∙ put (data_count run % 4) levels new (sliced_data x)
+      levels = ap (λ n. take (828 * n) new) (ap (λ n. n % 4) c ∙ r)
+          ∙ put (data_count run % 4) levels new (sliced_data x)
           (levels_from run (4 * groups_of run) (data_count run % 4)) l (omega arith) m e d.levels
           ∙ sym (grind (arith, levels_more, groups_within));
       precoder_bits = d.precoder_bits ∙ sym (still_data run x n p).precoder_bits;

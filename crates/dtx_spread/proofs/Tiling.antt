@@ -127,7 +127,8 @@ all_put b w p z c k len columns mid rest part o room lm t even ez er lp whole pu
     elim (cases_lt k (tiled b len)) [
       | inl h ↦
           let g : (k + 1) * b ≤ tiled b len * b = mul-le-mul_right b (omega arith) in
-          written_before (tiled b len * b) z (p + c + k * b) mid part within (omega (arith, add-mul k 1 b)) ∙ whole c k l h
+          written_before (tiled b len * b) z (p + c + k * b) mid part within (omega (arith, add-mul k 1 b))
+          ∙ whole c k l h
       | inr h ↦
           let r : k - tiled b len < count_at b (length rest) p = omega (arith, split) in
           let e : tiled b len + (k - tiled b len) ≡ k = omega arith in

@@ -54,7 +54,8 @@ short_byte i room items column l lc lr m = elim (cases_lt i (length items)) [
   | inr h ↦ ap (λ x. get_or (short_joined room items column) x 0) (sym (omega arith))
       ∙ written_at (length items) (48 - length items) (i - length items) (items ++ drop (length items) room)
       (put_chunk 0 (take (48 - length items) (drop (length items) (items ++ drop (length items) room))) column)
-      (omega (arith, length-room room items l lr)) (grind (arith, long, length-put_chunk)) ∙ ap (λ x. get_or (put_chunk 0
+      (omega (arith, length-room room items l lr)) (grind (arith, long, length-put_chunk))
+      ∙ ap (λ x. get_or (put_chunk 0
       (take (48 - length items) (drop (length items) (items ++ drop (length items) room))) column) x 0) (omega arith)
       ∙ get_or-put_chunk_at 0 (take (48 - length items) (drop (length items) (items ++ drop (length items) room)))
       column (i - length items) 0 (omega (arith, m, lc)) (omega (arith, long, m))

@@ -54,4 +54,5 @@ returns c =
     let told : damage_of (table_view c.args.entry.now) ≡ entries damage [] (items_view c.in_ok-values.values.now) =
     search rules in
     told ∙ sym c.loop-value.invariant.same
-    ∙ entries_end damage c.loop-value.all.items c.in_ok-values.values.now c.loop-value.value-index c.loop-value-test.false
+    ∙ entries_end damage c.loop-value.all.items c.in_ok-values.values.now c.loop-value.value-index
+    c.loop-value-test.false

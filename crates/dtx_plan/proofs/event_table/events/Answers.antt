@@ -34,7 +34,8 @@ returns-in_err-next c =
     let number : length all ≡ c.len.result = omega arith in
     let refused : event_after ts all (view value) ≡ Err refusal =
     ap (λ n. event_at ts n (view value)) number ∙ sym c.in_err-next.ensures in
-    let all_refused : events_of c.args.transmitters.now (table_view c.args.net.now) ≡ Err refusal = told ∙ sym c.loop-value.invariant.same
+    let all_refused : events_of c.args.transmitters.now (table_view c.args.net.now) ≡ Err refusal =
+    told ∙ sym c.loop-value.invariant.same
     ∙ entries_refused (event_after ts) all c.in_ok-values.values.now c.loop-value.value-index value refusal
     c.loop-value-test.true c.value-item.is refused in
     search (rules, all_refused)

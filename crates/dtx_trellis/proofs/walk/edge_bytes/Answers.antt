@@ -3,7 +3,8 @@ use Rattle.std.proofs.lemmas.Bool.{eq-eqb, eqb-true}
 use Rattle.dtx_trellis.specs.Groups.{sent_place}
 use Rattle.dtx_trellis.specs.Lanes.{place_behind, turn}
 use Rattle.dtx_trellis.proofs.LaneRoundsLemmas.{first_turn, loaded_bytes, lower_pairs, moved_bytes, moved_nibbles}
-use Rattle.dtx_trellis.proofs.LaneRoundsLemmas.{moved_states, next_sent, round_place, round_within, stands_next, upper_pairs}
+use Rattle.dtx_trellis.proofs.LaneRoundsLemmas.{moved_states, next_sent, round_place, round_within, stands_next}
+use Rattle.dtx_trellis.proofs.LaneRoundsLemmas.{upper_pairs}
 use Rattle.dtx_trellis.proofs.walk.edge_bytes.Goals as goal
 
 -- the rounds of byte h that begin a segment
@@ -75,7 +76,8 @@ returns-clause-stands c = λ s states in_field stands.
       long = c.told-bytes;
       round = omega (arith, few);
       between = fourth h few;
-      at = third_place h c.next_place.result c.next_place-later.result few c.next_place.ensures c.next_place-later.ensures;
+      at = third_place h c.next_place.result c.next_place-later.result few c.next_place.ensures
+          c.next_place-later.ensures;
       held = moved_states s (4 * h + 2) (4 * h + 2) states bytes c.two_rounds-middle.result c.moved_on-middle.result
           (4 * h + 2 == 138) (omega arith, third h few) c.moved_on-middle.ensures (rw (← f) middle.0);
       taken = lower_pairs s h (turn s (4 * h + 2)) bytes c.moved_on-turned.result c.lower-pairs.result

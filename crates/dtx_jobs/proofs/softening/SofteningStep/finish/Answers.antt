@@ -25,6 +25,7 @@ flush-requires-clause-cost c =
 
 pub returns-clause-outcome : goal.returns-clause-outcome
 returns-clause-outcome c = λ given stand.
+    let s = file_segments given in
     let old = c.args.self.now in
     let was = stand.softening in
     let outcome : ℕ → ℕ → ℕ → Outcome =

@@ -5,4 +5,9 @@ use Rattle.dtx_jobs.proofs.stream_coder.StreamCoderStep.finish.Goals as goal
 
 pub returns-clause-outcome : goal.returns-clause-outcome
 returns-clause-outcome c = λ given stand.
-    cc (c.done.ensures, stand.packets, c.segments_of.ensures (packets_of given) (length-packets_of given ∙ sym stand.packets))
+    cc (
+      c.done.ensures,
+      stand.packets,
+      c.segments_of.ensures (packets_of given)
+          (length-packets_of given ∙ sym stand.packets),
+    )
