@@ -1,5 +1,5 @@
 -- What the engine of `soft` keeps.
-use Rattle.std.specs.Prelude.{◌≡◌, ℕ, ℤ, pos, ◌*◌, ◌<◌, ◌≤◌, nat_abs, List, ◌++◌, length, take, drop, slice_index_or}
+use Rattle.std.specs.Prelude.{◌≡◌, ℕ, ℤ, ◌*◌, ◌<◌, ◌≤◌, List, ◌++◌, length, take, drop}
 use Rattle.std.specs.Prelude.{unwrap_or, vec_len}
 use Rattle.dtx_files.specs.Symbols.{segment_bytes}
 use Rattle.dtx_soft.specs.Softened.{softened_cost}

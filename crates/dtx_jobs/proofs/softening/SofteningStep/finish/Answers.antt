@@ -1,10 +1,10 @@
-use Rattle.std.proofs.Common.{◌++◌, ap, ◌∙◌, arith, refl, take}
+use Rattle.std.proofs.Common.{ℕ, [], ◌∷◌, ◌++◌, ap, ap₂, ◌∙◌, arith, length, refl, take}
 use Rattle.dtx_files.specs.Symbols.{segment_bytes}
 use Rattle.dtx_engine.specs.Made.{only}
 use Rattle.dtx_meaning.specs.Status.{done}
 use Rattle.dtx_meaning.specs.declared.status.Outcome.{Outcome}
 use Rattle.dtx_soft.specs.Softened.{softened_cost}
-use Rattle.dtx_recipes.specs.Soft.{flushed, has_group}
+use Rattle.dtx_recipes.specs.Soft.{field_sum, flushed, has_group}
 use Rattle.dtx_jobs.proofs.SoftLemmas.{no_cost}
 use Rattle.dtx_jobs.proofs.SofteningLemmas.{field_sum_all, rest_of}
 use Rattle.dtx_recipes.specs.SymbolFile.{file_segments}
