@@ -70,6 +70,10 @@ impl<const N: u64> Shelf for HaltingShelf<N> {
 
     ghost foreseen = { halting_at N };
 
+    fn known(&self) {
+        self.memory.known();
+    }
+
     fn read(&mut self, name: &str, place: u64, into: &mut [u8]) -> Result<usize, ReadNo> {
         if halts(name, N, place, into.len()) {
             return self.refusals.note_read(Err(ReadNo::Failed));
