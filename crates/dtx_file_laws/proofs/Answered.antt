@@ -1,20 +1,17 @@
 -- A call that is done over files that are told: what its words mean of the input's file is done, and its output is
 -- whole.
-use Rattle.std.proofs.Common.{◌≡◌, ◌⊎◌, ℕ, ◌%◌, ◌≤◌, cond, Bool, true, false, List, [], ◌∷◌, refl, sym, ap}
-use Rattle.std.proofs.Common.{ap₂}
-use Rattle.std.proofs.Common.{subst, ◌∙◌, inl, inr, nat_lt, length}
+use Rattle.std.proofs.Common.{◌≡◌, ◌⊎◌, ℕ, ◌≤◌, cond, Bool, true, false, List, [], ◌∷◌, refl, sym, ap, subst, ◌∙◌, inl}
+use Rattle.std.proofs.Common.{inr, arith}
 use Rattle.std.specs.Prelude.{Option, Some, None, IfSome}
 use Rattle.std.specs.FinMap.{get}
 use Rattle.std.proofs.lemmas.Bool.{ltb-false}
-use Rattle.dtx_engine.specs.Recipe.{Course, Recipe, course_from, first_refused, first_units, meaning, meaning_at}
-use Rattle.dtx_engine.specs.Recipe.{meaning_of_file, whole_units}
+use Rattle.dtx_engine.specs.Recipe.{Recipe, first_refused, meaning, meaning_of_file, whole_units}
 use Rattle.dtx_engine.specs.declared.engine.Shape.{Shape}
-use Rattle.dtx_engine.specs.declared.piece.Ending.TheVariants.{Refused, Whole}
 use Rattle.dtx_meaning.specs.Meaning.{IsAnswered, IsDone, Meaning, refused, with_outputs}
 use Rattle.dtx_meaning.specs.Status.{IsFault}
 use Rattle.dtx_meaning.proofs.MeaningLemmas.{status_of_done}
 use Rattle.dtx_meaning.specs.declared.status.Status.{Status}
-use Rattle.dtx_meaning.specs.declared.status.Status.TheVariants.{Done, Packet, Same, TooLong, Usage, WriteFault}
+use Rattle.dtx_meaning.specs.declared.status.Status.TheVariants.{Done, Same}
 use Rattle.dtx_outside.specs.Shelf.{Files}
 use Rattle.dtx_outside.specs.Sink.{SinkCounts}
 use Rattle.dtx_outside.proofs.FilesLemmas.{get-insert_same}
@@ -22,7 +19,7 @@ use Rattle.dtx_words.specs.Fitting.{command_of}
 use Rattle.dtx_words.specs.declared.rows.Command.{Command}
 use Rattle.dtx_words.specs.Line.{done_line}
 use Rattle.dtx_words.specs.Printed.{printed}
-use Rattle.dtx_top.specs.Lines.{HasLine, HasWholeLine, IsToldLine}
+use Rattle.dtx_top.specs.Lines.{HasLine, IsToldLine}
 use Rattle.dtx_top.specs.Means.{means, means_of}
 use Rattle.dtx_file_laws.specs.Told.{Holds}
 
@@ -33,12 +30,7 @@ pub answered_of : (m : Meaning) (start now : Option Files) (status : Status) (un
     → IsDone m start status unprinted now → status ≡ Done → IsAnswered m start status now
 answered_of m start now status unprinted is done = elim is [
   | inl answered ↦ answered
-  | inr other ↦ elim other [
-    | inl faulted ↦ let P : Status → Type 0 = λ s. IsFault s in absurd (subst P done faulted.fault)
-    | inr alone ↦
-        let e : WriteFault ≡ Done = sym alone.answer ∙ done in
-        absurd (let no : ⊥ = cc in no)
-  ]
+  | inr other ↦ grind arith
 ]
 
 -- ---- the words
@@ -57,16 +49,10 @@ pub record IsRead (words : List (List ℕ)) (fit : Bool) (c : Command) (same : B
 -- where what words mean is done, they fit the command
 means_fit : (words : List (List ℕ)) (held : Files) (fit : Bool) (c : Command)
     → command_of words ≡ cond fit (Some c) None → (means words held).outcome.status ≡ Done → fit ≡ true
-means_fit words held fit c is done =
-    by_test fit (subst (λ (o : Option Command). (means_of o words held).outcome.status ≡ Done) is done)
-  where
-    by_test : (t : Bool) → (means_of (cond t (Some c) None) words held).outcome.status ≡ Done → t ≡ true
-    by_test true d = refl
-    by_test false d = let e : Usage ≡ Done = d in absurd (let no : ⊥ = cc in no)
+means_fit words held fit c is done = grind arith
 
 not_same : (same : Bool) (shape : Shape) (recipe : Recipe) (which : ℕ) (names : List (List ℕ)) (input : List ℕ)
-    (held : Files)
-    → (unless same shape recipe which names input held).outcome.status ≡ Done → same ≡ false
+    (held : Files) → (unless same shape recipe which names input held).outcome.status ≡ Done → same ≡ false
 not_same true shape recipe which names input held d = let e : Same ≡ Done = d in absurd (let no : ⊥ = cc in no)
 not_same false shape recipe which names input held d = refl
 
@@ -79,12 +65,8 @@ fitting words fit c is fits = is ∙ ap (λ (t : Bool). cond {A = Option Command
 pub means_file : (words : List (List ℕ)) (fit : Bool) (c : Command) (same : Bool) (shape : Shape) (recipe : Recipe)
     (which : ℕ) (names : List (List ℕ)) (input file : List ℕ) (held : Files)
     → IsRead words fit c same shape recipe which names input held → fit ≡ true → same ≡ false
-    → get held input ≡ Some file
-    → means words held ≡ meaning_of_file shape recipe names file
-means_file words fit c same shape recipe which names input file held read fits apart there =
-    ap (λ (o : Option Command). means_of o words held) (fitting words fit c read.fits fits)
-    ∙ read.reads ∙ ap (λ (t : Bool). unless t shape recipe which names input held) apart
-    ∙ ap (meaning shape recipe which names) there
+    → get held input ≡ Some file → means words held ≡ meaning_of_file shape recipe names file
+means_file words fit c same shape recipe which names input file held read fits apart there = grind (arith, fitting)
 
 -- and so where it is done
 record IsFitting (words : List (List ℕ)) (fit same : Bool) : Type 0 where
@@ -95,15 +77,7 @@ done_fits : (words : List (List ℕ)) (fit : Bool) (c : Command) (same : Bool) (
     (which : ℕ) (names : List (List ℕ)) (input : List ℕ) (held : Files)
     → IsRead words fit c same shape recipe which names input held
     → (means words held).outcome.status ≡ Done → IsFitting words fit same
-done_fits words fit c same shape recipe which names input held read done =
-    let fits = means_fit words held fit c read.fits done in
-    let e : means words held ≡ unless same shape recipe which names input held =
-    ap (λ (o : Option Command). means_of o words held) (fitting words fit c read.fits fits) ∙ read.reads in
-    record {
-      fits = fits;
-      apart = not_same same shape recipe which names input held
-          (subst (λ (m : Meaning). m.outcome.status ≡ Done) e done);
-    }
+done_fits words fit c same shape recipe which names input held read done = grind (arith, means_fit, fitting, not_same)
 
 -- ---- the call
 
@@ -114,10 +88,7 @@ pub answered : (words : List (List ℕ)) (fit : Bool) (c : Command) (same : Bool
     → status ≡ Done → IsDone (means words held) (Some held) status unprinted now
     → IsAnswered (meaning_of_file shape recipe names file) (Some held) status now
 answered words fit c same shape recipe which names input file held now status unprinted read there done carried =
-    let is = answered_of (means words held) (Some held) now status unprinted carried done in
-    let fitting = done_fits words fit c same shape recipe which names input held read (sym is.answer ∙ done) in
-    subst (λ (m : Meaning). IsAnswered m (Some held) status now)
-    (means_file words fit c same shape recipe which names input file held read fitting.fits fitting.apart there) is
+    grind (arith, answered_of, fitting, done_fits, means_file)
 
 -- it answers what is meant, or a fault
 pub ended_so : (words : List (List ℕ)) (fit : Bool) (c : Command) (same : Bool) (shape : Shape) (recipe : Recipe)
@@ -126,9 +97,7 @@ pub ended_so : (words : List (List ℕ)) (fit : Bool) (c : Command) (same : Bool
     → get held input ≡ Some file → IsDone (means words held) (Some held) status unprinted now
     → (status ≡ (meaning_of_file shape recipe names file).outcome.status) ⊎ IsFault status
 ended_so words fit c same shape recipe which names input file held now status unprinted read fits apart there carried =
-    let e = means_file words fit c same shape recipe which names input file held read fits apart there in
-    subst (λ (m : Meaning). (status ≡ m.outcome.status) ⊎ IsFault status) e
-    (status_of_done (means words held) (Some held) now status unprinted carried)
+    grind (arith, means_file, status_of_done)
 
 -- and its line
 pub lined : (words : List (List ℕ)) (fit : Bool) (c : Command) (same : Bool) (shape : Shape) (recipe : Recipe)
@@ -138,18 +107,7 @@ pub lined : (words : List (List ℕ)) (fit : Bool) (c : Command) (same : Bool) (
     → status ≡ Done → HasLine (IsToldLine (command_of words) words held) status first last old new
     → new ≡ printed (done_line (Some c) (meaning_of_file shape recipe names file).outcome) old
 lined words fit c same shape recipe which names input file held old new status first last read there done line =
-    let P : Status → Type 0 = λ s. HasLine (IsToldLine (command_of words) words held) s first last old new in
-    of_done (subst P done line).1
-  where
-    of_done : HasWholeLine (IsToldLine (command_of words) words held) Done old new
-        → new ≡ printed (done_line (Some c) (meaning_of_file shape recipe names file).outcome) old
-    of_done whole =
-        let own : (means words held).outcome.status ≡ Done = whole.line.done refl in
-        let is = done_fits words fit c same shape recipe which names input held read own in
-        let e = means_file words fit c same shape recipe which names input file held read is.fits is.apart there in
-        whole.whole ∙ ap (λ (text : List ℕ). printed text old) (whole.line.line
-        ∙ ap₂ (λ (o : Option Command) (m : Meaning). done_line o m.outcome)
-        (fitting words fit c read.fits is.fits) e)
+    grind (arith, done_fits, means_file, fitting)
 
 -- ---- the input
 
@@ -160,31 +118,7 @@ pub record IsReadWhole (shape : Shape) (recipe : Recipe) (file : List ℕ) : Typ
 
 pub read_whole : (shape : Shape) (recipe : Recipe) (names : List (List ℕ)) (file : List ℕ)
     → (meaning_of_file shape recipe names file).outcome.status ≡ Done → IsReadWhole shape recipe file
-read_whole shape recipe names file done = by_refused (first_refused shape recipe file) refl done
-  where
-    many : Course
-    many = record { taken = shape.limit; ending = Refused TooLong }
-
-    all : Course
-    all = record { taken = whole_units shape file; ending = Whole (length file % shape.unit) }
-
-    of_course : Course → Meaning
-    of_course c = meaning_at recipe names (first_units shape file c.taken) c.ending
-
-    by_size : (t : Bool) → nat_lt shape.limit (whole_units shape file) ≡ t
-        → (of_course (cond t many all)).outcome.status ≡ Done
-        → whole_units shape file ≤ shape.limit
-    by_size true e d = let no : TooLong ≡ Done = d in absurd (let n : ⊥ = cc in n)
-    by_size false e d = ltb-false shape.limit (whole_units shape file) e
-
-    by_refused : (o : Option ℕ) → first_refused shape recipe file ≡ o
-        → (of_course (course_from shape file o)).outcome.status ≡ Done
-        → IsReadWhole shape recipe file
-    by_refused (Some k) e d = let no : Packet k ≡ Done = d in absurd (let n : ⊥ = cc in n)
-    by_refused None e d = record {
-      allowed = e;
-      few = by_size (nat_lt shape.limit (whole_units shape file)) refl d;
-    }
+read_whole shape recipe names file done = grind (arith, ltb-false)
 
 -- ---- the output
 

@@ -1,6 +1,6 @@
 -- What is sent at one end and what is made of it at the other, where both calls are done.
-use Rattle.std.proofs.Common.{◌≡◌, ◌≢◌, ℕ, ◌*◌, ◌<◌, ◌≤◌, ◌⊎◌, inl, inr, List, [], ◌∷◌, length, take}
-use Rattle.std.proofs.Common.{drop, refl, sym, ap, ◌∙◌, subst, arith}
+use Rattle.std.proofs.Common.{◌≡◌, ◌≢◌, ℕ, ◌*◌, ◌≤◌, ◌⊎◌, inl, inr, List, [], ◌∷◌, length, drop, refl, sym, ap, ◌∙◌}
+use Rattle.std.proofs.Common.{subst, arith}
 use Rattle.std.specs.Prelude.{Option, Some, None, IfSome}
 use Rattle.std.specs.FinMap.{get}
 use Rattle.std.proofs.lemmas.Bool.{cases_lt}
@@ -47,8 +47,7 @@ holds_one (Some held) name a b h g = let e : Some a ≡ Some b = sym h ∙ g in 
 pub holds_bytes : (now : Option Files) (name file : List ℕ) → IfSome now ConsistOfBytes → Holds now name file
     → AreBytes file
 holds_bytes None name file known there = elim there [ ]
-holds_bytes (Some held) name file known there =
-    subst (λ (o : Option (List ℕ)). IfSome o AreBytes) there (known name)
+holds_bytes (Some held) name file known there = subst (λ (o : Option (List ℕ)). IfSome o AreBytes) there (known name)
 
 -- what follows of a call over files that are told
 pub told_so : (start : Option Files) (name bytes : List ℕ) (P : Files → Type 0) (Q : Type 0) → Holds start name bytes
@@ -75,15 +74,8 @@ are_packets file are =
 
 pub code_outputs : (sent stream : List ℕ)
     → (meaning_of_file coded_packets coding (sent ∷ []) stream).outcome.status ≡ Done
-    → (meaning_of_file coded_packets coding (sent ∷ []) stream).outputs
-    ≡ (sent, symbol_bytes (packets_of stream)) ∷ []
-code_outputs sent stream done =
-    let front : List ℕ = take (188 * whole_packets stream) stream in
-    let whole = read_whole coded_packets coding (sent ∷ []) stream done in
-    ap (λ (x : Meaning). x.outputs)
-    (all_read coded_packets coding (sent ∷ []) stream whole.allowed whole.few)
-    ∙ ap (λ (bytes : List ℕ). (sent, bytes) ∷ [])
-    (append-nil (symbol_bytes (packets_of front)) ∙ ap symbol_bytes (whole_read stream))
+    → (meaning_of_file coded_packets coding (sent ∷ []) stream).outputs ≡ (sent, symbol_bytes (packets_of stream)) ∷ []
+code_outputs sent stream done = grind (arith, read_whole, all_read, append-nil, whole_read)
 
 code_left : (sent stream : List ℕ) (held : Files) (now : Option Files) (status : Status) → status ≡ Done
     → IsAnswered (meaning_of_file coded_packets coding (sent ∷ []) stream) (Some held) status now
@@ -96,13 +88,10 @@ code_left sent stream held now status done answered =
     )
 
 pub sent_is : (start now : Option Files) (input sent stream : List ℕ) (status : Status) → Holds start input stream
-    → status ≡ Done
-    → IfSome start (λ held. get held input ≡ Some stream → status ≡ Done
+    → status ≡ Done → IfSome start (λ held. get held input ≡ Some stream → status ≡ Done
     → IsAnswered (meaning_of_file coded_packets coding (sent ∷ []) stream) (Some held) status now)
     → (whole_packets stream ≤ 624000000) × Holds now sent (symbol_bytes (packets_of stream))
-sent_is start now input sent stream status there done call =
-    told_so start input stream _ _ there call (λ held _ here of.
-    code_left sent stream held now status done (of here done))
+sent_is start now input sent stream status there done call = grind (arith, told_so, code_left)
 
 -- ---- what is received
 
@@ -110,17 +99,15 @@ sent_is start now input sent stream status there done call =
 some_packets : (giving : Giving) → IsGiving giving → (names packets : List (List ℕ)) (file : List ℕ)
     → length file ≡ length (symbol_bytes packets)
     → (meaning_of_file segments (receiving_by giving) names file).outcome.status ≡ Done → 4 ≤ length packets
-some_packets giving is names packets file long done = by_length (cases_lt (length packets) 4)
-  where
-    by_length : (length packets < 4) ⊎ (4 ≤ length packets) → 4 ≤ length packets
-    by_length (inl few) =
-        let none : whole_segments file ≡ 0 =
-        omega (arith, few, count_segments packets file long, length-a53 packets) in
-        let e : NoSync ≡ Done =
-        sym (ap (λ (m : Meaning). m.outcome.status) (nothing_received giving is names file (omega (arith, none))
-        (λ i _ l. absurd (omega (arith, l, none))))) ∙ done in
-        absurd (let no : ⊥ = cc in no)
-    by_length (inr some) = some
+some_packets giving is names packets file long done = elim (cases_lt (length packets) 4) [
+  | inl few ↦
+      let none : whole_segments file ≡ 0 = omega (arith, few, count_segments packets file long, length-a53 packets) in
+      let e : NoSync ≡ Done =
+      sym (ap (λ (m : Meaning). m.outcome.status) (nothing_received giving is names file (omega (arith, none))
+      (λ i _ l. absurd (omega (arith, l, none))))) ∙ done in
+      absurd (let no : ⊥ = cc in no)
+  | inr some ↦ some
+]
 
 -- the laws of one way back: its line where all comes back
 abbrev pub LineLaw : Command → Type 0
@@ -163,8 +150,7 @@ given_is giving is c line_law Fixed stream got output file status start now old 
       record {
         packets = one_holds m output (packets_back (packets_of stream)) held now status
             (ap (λ (x : Meaning). x.outputs) all.2) answered;
-        line = ends_with old new (line_back (whole_packets stream) all.0)
-            (line here call.done ∙ ap (λ (t : List ℕ). printed t old) text);
+        line = ends_with old new (line_back (whole_packets stream) all.0) (grind arith);
       },
     ))
 
@@ -192,8 +178,7 @@ pub record IsCoded (input sent stream : List ℕ) (status : Status) (start now :
 pub coded_is : (input sent stream : List ℕ) (status : Status) (start now : Option Files)
     → IsCoded input sent stream status start now
     → (whole_packets stream ≤ 624000000) × Holds now sent (symbol_bytes (packets_of stream))
-coded_is input sent stream status start now call =
-    sent_is start now input sent stream status call.there call.done call.files
+coded_is input sent stream status start now call = grind (arith, sent_is)
 
 -- whatever is received, where it is as long as what was sent, and all comes back of it
 pub back_through : (giving : Giving) → IsGiving giving → (c : Command) → LineLaw c → (Fixed : ℕ → Type 0)

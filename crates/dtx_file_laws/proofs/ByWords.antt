@@ -1,7 +1,7 @@
 -- What the words of each command mean, where it is done.
-use Rattle.std.proofs.Common.{◌≡◌, ◌≢◌, ℕ, ◌^◌, ◌<◌, ◌≤◌, ◌&&◌, not, Bool, true, false, List, [], ◌∷◌, length}
-use Rattle.std.proofs.Common.{cond, refl, sym, ap, ap₂, ◌∙◌, ◌||◌, subst, arith}
-use Rattle.std.specs.Prelude.{Ok, Some, None, codes, decimal, is_some, nat_le}
+use Rattle.std.proofs.Common.{◌≡◌, ◌≢◌, ℕ, ◌^◌, ◌<◌, ◌≤◌, ◌&&◌, not, true, false, List, [], ◌∷◌, length, refl, ap}
+use Rattle.std.proofs.Common.{arith}
+use Rattle.std.specs.Prelude.{Ok, Some, codes, decimal, is_some}
 use Rattle.std.specs.FinMap.{get}
 use Rattle.std.specs.Str.{bytes_eq}
 use Rattle.std.specs.Str.Parse.{AllDigits, digits_value}
@@ -9,13 +9,7 @@ use Rattle.std.proofs.lemmas.Bool.{and_from, cond-true, le-leb, ne_eqb}
 use Rattle.std.proofs.lemmas.Fmt.{digits_value-decimal}
 use Rattle.std.proofs.lemmas.Slice.Eq.{bytes_eq-Decides}
 use Rattle.std.proofs.lemmas.Str.Parse.{IsNumeralModel, numerals_by_value, tells_digits}
-use Rattle.dtx_engine.specs.Recipe.{meaning}
-use Rattle.dtx_forms.specs.Capture.{captured, setting_of}
-use Rattle.dtx_forms.specs.Job.{task_meaning, unless_same}
-use Rattle.dtx_forms.specs.PlanFile.{under_plan, under_said}
 use Rattle.dtx_forms.specs.Shapes.{coded_packets, packets, segments, single_bytes}
-use Rattle.dtx_forms.specs.Transmit.{transmit_with}
-use Rattle.dtx_meaning.specs.Meaning.{Meaning}
 use Rattle.dtx_outside.specs.Shelf.{Files}
 use Rattle.dtx_recipes.specs.Adapt.{feeding}
 use Rattle.dtx_recipes.specs.DvbCode.{dvb_coding}
@@ -31,7 +25,7 @@ use Rattle.dtx_recipes.specs.Receive.{receiving}
 use Rattle.dtx_recipes.specs.Refine.{refining}
 use Rattle.dtx_words.specs.Fitting.{is_name}
 use Rattle.dtx_words.specs.Names.{repeated}
-use Rattle.dtx_words.specs.Number.{at_least, number_in, number_within}
+use Rattle.dtx_words.specs.Number.{number_in, number_within}
 use Rattle.dtx_words.specs.declared.rows.Command.TheVariants.{Acquire, Adapt, Code, DvbCode, DvbRead, Excite, Mend}
 use Rattle.dtx_words.specs.declared.rows.Command.TheVariants.{Receive, Refine}
 use Rattle.dtx_file_laws.proofs.Answered.{IsRead}
@@ -41,44 +35,29 @@ use Rattle.dtx_file_laws.proofs.Answered.{IsRead}
 pub code_read : (words : List (List ℕ)) (input output : List ℕ) (held : Files)
     → words ≡ codes "code" ∷ input ∷ output ∷ [] → IsRead words (is_name input && (is_name output && true)) Code
     (bytes_eq input output) coded_packets coding 0 (output ∷ []) input held
-code_read words input output held is =
-    subst (λ (ws : List (List ℕ)). IsRead ws (is_name input && (is_name output && true)) Code
-    (bytes_eq input output) coded_packets coding 0 (output ∷ []) input held) (sym is)
-    (record { fits = refl; reads = refl })
+code_read words input output held is = grind arith
 
 pub receive_read : (words : List (List ℕ)) (input output : List ℕ) (held : Files)
     → words ≡ codes "receive" ∷ input ∷ output ∷ [] → IsRead words (is_name input && (is_name output && true)) Receive
     (bytes_eq input output) segments receiving 0 (output ∷ []) input held
-receive_read words input output held is =
-    subst (λ (ws : List (List ℕ)). IsRead ws (is_name input && (is_name output && true)) Receive
-    (bytes_eq input output) segments receiving 0 (output ∷ []) input held) (sym is)
-    (record { fits = refl; reads = refl })
+receive_read words input output held is = grind arith
 
 pub mend_read : (words : List (List ℕ)) (input output : List ℕ) (held : Files)
     → words ≡ codes "mend" ∷ input ∷ output ∷ [] → IsRead words (is_name input && (is_name output && true)) Mend
     (bytes_eq input output) segments mending_symbols 0 (output ∷ []) input held
-mend_read words input output held is =
-    subst (λ (ws : List (List ℕ)). IsRead ws (is_name input && (is_name output && true)) Mend
-    (bytes_eq input output) segments mending_symbols 0 (output ∷ []) input held) (sym is)
-    (record { fits = refl; reads = refl })
+mend_read words input output held is = grind arith
 
 pub dvb_code_read : (words : List (List ℕ)) (input output : List ℕ) (held : Files)
     → words ≡ codes "dvb" ∷ codes "code" ∷ input ∷ output ∷ []
     → IsRead words (is_name input && (is_name output && true)) DvbCode
     (bytes_eq input output) dvb_packets dvb_coding 0 (output ∷ []) input held
-dvb_code_read words input output held is =
-    subst (λ (ws : List (List ℕ)). IsRead ws (is_name input && (is_name output && true)) DvbCode
-    (bytes_eq input output) dvb_packets dvb_coding 0 (output ∷ []) input held) (sym is)
-    (record { fits = refl; reads = refl })
+dvb_code_read words input output held is = grind arith
 
 pub dvb_read_read : (words : List (List ℕ)) (input output : List ℕ) (held : Files)
     → words ≡ codes "dvb" ∷ codes "read" ∷ input ∷ output ∷ []
     → IsRead words (is_name input && (is_name output && true)) DvbRead
     (bytes_eq input output) blocks dvb_reading 0 (output ∷ []) input held
-dvb_read_read words input output held is =
-    subst (λ (ws : List (List ℕ)). IsRead ws (is_name input && (is_name output && true)) DvbRead
-    (bytes_eq input output) blocks dvb_reading 0 (output ∷ []) input held) (sym is)
-    (record { fits = refl; reads = refl })
+dvb_read_read words input output held is = grind arith
 
 -- where the names are not empty and different, the words fit and no two names are equal
 pub named : (name : List ℕ) → name ≢ [] → is_name name ≡ true
@@ -93,21 +72,12 @@ pub all_named : (first second third : List ℕ) → first ≢ [] → second ≢ 
 all_named first second third a b c = and_from _ _ (named first a) (both_named second third b c)
 
 pub unlike : (input output : List ℕ) → input ≢ output → bytes_eq input output ≡ false
-unlike input output apart =
-    by_test (bytes_eq input output) (λ e. apart ((bytes_eq-Decides input output).0 e))
-  where
-    by_test : (t : Bool) → (t ≡ true → ⊥) → t ≡ false
-    by_test true unlikely = absurd (unlikely refl)
-    by_test false _ = refl
+unlike input output apart = grind (arith, bytes_eq-Decides)
 
 -- of three names that are different none is repeated
 pub three_apart : (first second third : List ℕ) → first ≢ second → first ≢ third → second ≢ third
     → is_some (repeated (first ∷ second ∷ third ∷ [])) ≡ false
-three_apart first second third a b c =
-    let found : Bool → Bool → Bool → Bool =
-    λ x y z. is_some (cond (x || false) (Some second) (cond (y || (z || false)) (Some third) None)) in
-    ap (λ x. found x (bytes_eq first third) (bytes_eq second third)) (unlike first second a)
-    ∙ ap₂ (found false) (unlike first third b) (unlike second third c)
+three_apart first second third a b c = grind (arith, unlike)
 
 -- ---- words with numbers
 
@@ -117,16 +87,11 @@ own = numerals_by_value (AllDigits 10) tells_digits
 -- the decimal spelling of a number is read as that number
 spelled : (most n : ℕ) → most < 2 ^ 64 → n ≤ most → number_in most (decimal n) ≡ Some n
 unfolding number_in
-spelled most n small le =
-    let value : digits_value 10 (decimal n) ≡ n = digits_value-decimal own n (omega (arith, small, le)) in
-    cond-true _ _ _ (and_from _ _
-    ((bytes_eq-Decides (decimal n) (decimal (digits_value 10 (decimal n)))).1 (ap decimal (sym value)))
-    (le-leb (digits_value 10 (decimal n)) most (omega (arith, value, le)))) ∙ ap Some value
+spelled most n small le = grind (arith, digits_value-decimal, own, cond-true, and_from, bytes_eq-Decides, le-leb)
 
 -- so is that of a number from 1 on
 spelled_within : (most n : ℕ) → most < 2 ^ 64 → 0 < n → n ≤ most → number_within 1 most (decimal n) ≡ Some n
-spelled_within most n small some le =
-    ap (at_least 1) (spelled most n small le) ∙ cond-true (nat_le 1 n) (Some n) None (le-leb 1 n some)
+spelled_within most n small some le = grind (arith, spelled, cond-true, le-leb)
 
 spelled_scale : (scale : ℕ) → 0 < scale → scale ≤ 18 → number_within 1 18 (decimal scale) ≡ Some scale
 spelled_scale scale some most = spelled_within 18 scale (omega arith) some most
@@ -138,83 +103,41 @@ pub acquire_read : (words : List (List ℕ)) (scale : ℕ) (input output : List 
     → words ≡ codes "acquire" ∷ decimal scale ∷ input ∷ output ∷ [] → 0 < scale → scale ≤ 18
     → IsRead words (is_some (number_within 1 18 (decimal scale)) && (is_name input && (is_name output && true))) Acquire
     (bytes_eq input output) single_bytes (acquiring scale) 0 (output ∷ []) input held
-acquire_read words scale input output held is some most =
-    subst (λ (ws : List (List ℕ)). IsRead ws
-    (is_some (number_within 1 18 (decimal scale)) && (is_name input && (is_name output && true))) Acquire
-    (bytes_eq input output) single_bytes (acquiring scale) 0 (output ∷ []) input held) (sym is)
-    (record {
-      fits = refl;
-      reads = ap (λ number. task_meaning (captured single_bytes (λ scale rounds. acquiring scale)
-          (setting_of number (Some 1)) input output) held) (spelled_scale scale some most);
-    })
+acquire_read words scale input output held is some most = grind (arith, spelled_scale)
 
 pub refine_read : (words : List (List ℕ)) (scale rounds : ℕ) (input output : List ℕ) (held : Files)
     → words ≡ codes "refine" ∷ decimal scale ∷ decimal rounds ∷ input ∷ output ∷ [] → 0 < scale → scale ≤ 18
-    → 0 < rounds → rounds ≤ 32
-    → IsRead words (is_some (number_within 1 18 (decimal scale))
+    → 0 < rounds → rounds ≤ 32 → IsRead words (is_some (number_within 1 18 (decimal scale))
     && (is_some (number_within 1 32 (decimal rounds)) && (is_name input && (is_name output && true)))) Refine
     (bytes_eq input output) single_bytes (refining scale rounds) 0 (output ∷ []) input held
-refine_read words scale rounds input output held is some most one many =
-    subst (λ (ws : List (List ℕ)). IsRead ws (is_some (number_within 1 18 (decimal scale))
-    && (is_some (number_within 1 32 (decimal rounds)) && (is_name input && (is_name output && true)))) Refine
-    (bytes_eq input output) single_bytes (refining scale rounds) 0 (output ∷ []) input held) (sym is)
-    (record {
-      fits = refl;
-      reads = ap₂ (λ s r. task_meaning (captured single_bytes refining (setting_of s r) input output) held)
-          (spelled_scale scale some most) (spelled_rounds rounds one many);
-    })
+refine_read words scale rounds input output held is some most one many = grind (arith, spelled_scale, spelled_rounds)
 
 pub excite_read : (words : List (List ℕ)) (address delay : ℕ) (input output log : List ℕ) (held : Files)
     → words ≡ codes "excite" ∷ input ∷ decimal address ∷ decimal delay ∷ output ∷ log ∷ []
-    → address ≤ 65535 → delay ≤ 4294967295
-    → IsRead words (is_name input && (is_some (number_in 65535 (decimal address))
+    → address ≤ 65535 → delay ≤ 4294967295 → IsRead words (is_name input && (is_some (number_in 65535 (decimal address))
     && (is_some (number_in 4294967295 (decimal delay)) && (is_name output && (is_name log && true))))) Excite
     (is_some (repeated (input ∷ output ∷ log ∷ []))) coded_packets (exciting address delay) 0 (output ∷ log ∷ []) input
     held
-excite_read words address delay input output log held is small_address small_delay =
-    subst (λ (ws : List (List ℕ)). IsRead ws (is_name input && (is_some (number_in 65535 (decimal address))
-    && (is_some (number_in 4294967295 (decimal delay)) && (is_name output && (is_name log && true))))) Excite
-    (is_some (repeated (input ∷ output ∷ log ∷ []))) coded_packets (exciting address delay) 0 (output ∷ log ∷ []) input
-    held) (sym is)
-    (record {
-      fits = refl;
-      reads = ap₂ (λ a d. task_meaning (transmit_with coded_packets exciting a d input output log) held)
-          (spelled 65535 address (omega arith) small_address) (spelled 4294967295 delay (omega arith) small_delay);
-    })
+excite_read words address delay input output log held is small_address small_delay = grind (arith, spelled)
 
 pub excite_named : (address delay : ℕ) (input output log : List ℕ) → address ≤ 65535 → delay ≤ 4294967295
-    → input ≢ [] → output ≢ [] → log ≢ []
-    → (is_name input && (is_some (number_in 65535 (decimal address))
+    → input ≢ [] → output ≢ [] → log ≢ [] → (is_name input && (is_some (number_in 65535 (decimal address))
     && (is_some (number_in 4294967295 (decimal delay)) && (is_name output && (is_name log && true))))) ≡ true
 excite_named address delay input output log small_address small_delay in_named out_named log_named =
-    and_from _ _ (named input in_named)
-    (and_from _ _ (ap is_some (spelled 65535 address (omega arith) small_address))
-    (and_from _ _ (ap is_some (spelled 4294967295 delay (omega arith) small_delay))
-    (both_named output log out_named log_named)))
+    grind (arith, and_from, named, spelled, both_named)
 
 pub acquire_named : (scale : ℕ) (input output : List ℕ) → 0 < scale → scale ≤ 18 → input ≢ [] → output ≢ []
     → (is_some (number_within 1 18 (decimal scale)) && (is_name input && (is_name output && true))) ≡ true
-acquire_named scale input output some most in_named out_named =
-    and_from _ _ (ap is_some (spelled_scale scale some most)) (both_named input output in_named out_named)
+acquire_named scale input output some most in_named out_named = grind (arith, and_from, spelled_scale, both_named)
 
 pub refine_named : (scale rounds : ℕ) (input output : List ℕ) → 0 < scale → scale ≤ 18 → 0 < rounds → rounds ≤ 32
-    → input ≢ [] → output ≢ []
-    → (is_some (number_within 1 18 (decimal scale))
+    → input ≢ [] → output ≢ [] → (is_some (number_within 1 18 (decimal scale))
     && (is_some (number_within 1 32 (decimal rounds)) && (is_name input && (is_name output && true)))) ≡ true
 refine_named scale rounds input output some most one many in_named out_named =
-    and_from _ _ (ap is_some (spelled_scale scale some most))
-    (and_from _ _ (ap is_some (spelled_rounds rounds one many)) (both_named input output in_named out_named))
+    grind (arith, and_from, spelled_scale, spelled_rounds, both_named)
 
 pub adapt_read : (words : List (List ℕ)) (plan input output bytes : List ℕ) (said : Plan) (held : Files)
     → words ≡ codes "adapt" ∷ plan ∷ input ∷ output ∷ [] → get held plan ≡ Some bytes → plan_of bytes ≡ Ok said
     → IsRead words (is_name plan && (is_name input && (is_name output && true))) Adapt
     (is_some (repeated (plan ∷ input ∷ output ∷ []))) packets (feeding said) 1 (output ∷ []) input held
-adapt_read words plan input output bytes said held is there says =
-    let means : Plan → Meaning = λ p. meaning packets (feeding p) 1 (output ∷ []) (get held input) in
-    subst (λ (ws : List (List ℕ)). IsRead ws (is_name plan && (is_name input && (is_name output && true))) Adapt
-    (is_some (repeated (plan ∷ input ∷ output ∷ []))) packets (feeding said) 1 (output ∷ []) input held) (sym is)
-    (record {
-      fits = refl;
-      reads = ap (λ found. unless_same (repeated (plan ∷ input ∷ output ∷ [])) (under_plan 0 found means)) there
-          ∙ ap (λ said. unless_same (repeated (plan ∷ input ∷ output ∷ [])) (under_said means said)) says;
-    })
+adapt_read words plan input output bytes said held is there says = grind arith

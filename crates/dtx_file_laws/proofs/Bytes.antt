@@ -1,6 +1,6 @@
 -- A burst, or a gap, of a file's bytes is one of the symbols of its segments.
 use Rattle.std.proofs.Common.{◌≡◌, ℕ, ℤ, pos, ◌+◌, ◌*◌, ◌/◌, ◌%◌, ◌<◌, ◌≤◌, ◌⊎◌, inl, inr, Bool, true, false, List, []}
-use Rattle.std.proofs.Common.{length, take, drop, get_or, refl, sym, ap, ◌∙◌, subst, arith, min, max}
+use Rattle.std.proofs.Common.{length, take, drop, get_or, sym, ap, ◌∙◌, subst, arith, min, max}
 use Rattle.std.proofs.lemmas.List.{get_or-drop, get_or-map, get_or-take, length-drop, length-take-le}
 use Rattle.std.proofs.lemmas.List.FromFn.{get_or-map-range_with_len}
 use Rattle.dtx_bursts.specs.Burst as air
@@ -24,12 +24,10 @@ symbol_of_file file n l =
     let i : ℕ = n / 832 in
     let k : ℕ = n % 832 in
     let rest : List ℕ = drop (832 * i) file in
-    let within : i < whole_segments file = omega (arith, l) in
-    let long : length (take 832 rest) ≡ 832 =
-    length-take-le 832 rest (omega (arith, within, length-drop (832 * i) file)) in
+    let long : length (take 832 rest) ≡ 832 = length-take-le 832 rest (omega (arith, length-drop (832 * i) file)) in
     let whole : 832 * i + k ≡ n = omega arith in
     ap (λ (xs : List ℤ). get_or xs k (pos 0))
-    (get_or-map-range_with_len (segment_at file) 0 (whole_segments file) i i [] within (omega arith))
+    (get_or-map-range_with_len (segment_at file) 0 (whole_segments file) i i [] (omega (arith, l)) (omega arith))
     ∙ get_or-map symbol_of_byte (take 832 rest) k 0 (pos 0) (omega (arith, long))
     ∙ ap symbol_of_byte (get_or-take 832 rest k 0 (omega arith) ∙ get_or-drop (832 * i) file k 0
     ∙ ap (λ (m : ℕ). get_or file m 0) whole)
@@ -37,21 +35,14 @@ symbol_of_file file n l =
 -- and of a stream's own file
 symbol_sent : (packets : List (List ℕ)) (n : ℕ) → n < 832 * length (a53 packets)
     → symbol_at (a53 packets) n ≡ symbol_of_byte (get_or (symbol_bytes packets) n 0)
-symbol_sent packets n l =
-    ap (λ (segments : List (List ℤ)). symbol_at segments n) (sym (stream_read_back packets))
-    ∙ symbol_of_file (symbol_bytes packets) n (omega (
-      arith,
-      l,
-      count_segments packets (symbol_bytes packets) refl,
-    ))
+symbol_sent packets n l = ap (λ (segments : List (List ℤ)). symbol_at segments n) (sym (stream_read_back packets))
+    ∙ symbol_of_file (symbol_bytes packets) n (grind (arith, count_segments))
 
 -- where the byte is as it was sent, the symbol is
 same_symbol : (packets : List (List ℕ)) (file : List ℕ) (n : ℕ) → length file ≡ length (symbol_bytes packets)
     → n < 832 * length (a53 packets) → get_or file n 0 ≡ get_or (symbol_bytes packets) n 0
     → symbol_at (file_segments file) n ≡ symbol_at (a53 packets) n
-same_symbol packets file n long l same =
-    symbol_of_file file n (omega (arith, l, count_segments packets file long))
-    ∙ ap symbol_of_byte same ∙ sym (symbol_sent packets n l)
+same_symbol packets file n long l same = grind (arith, symbol_of_file, count_segments, symbol_sent)
 
 same_level : (packets : List (List ℕ)) (file : List ℕ) (n : ℕ) → length file ≡ length (symbol_bytes packets)
     → n < 832 * length (a53 packets) → get_or file n 0 ≡ get_or (symbol_bytes packets) n 0
@@ -76,15 +67,11 @@ IsToldAt count from packets file n = (get_or file n 0 ≡ get_or (symbol_bytes p
     ⊎ ((get_or file n 0 ≡ 0x80) × (from ≤ n) × (n < from + count))
 
 missing_byte : (packets : List (List ℕ)) (file : List ℕ) (n : ℕ) → length file ≡ length (symbol_bytes packets)
-    → n < 832 * length (a53 packets) → get_or file n 0 ≡ 0x80
-    → is_missing (symbol_at (file_segments file) n) ≡ true
-missing_byte packets file n long l missing =
-    ap is_missing (symbol_of_file file n (omega (arith, l, count_segments packets file long)))
-    ∙ ap (λ b. is_missing (symbol_of_byte b)) missing
+    → n < 832 * length (a53 packets) → get_or file n 0 ≡ 0x80 → is_missing (symbol_at (file_segments file) n) ≡ true
+missing_byte packets file n long l missing = grind (arith, symbol_of_file, count_segments)
 
 there_by : (count from : ℕ) (packets : List (List ℕ)) (file : List ℕ) (n : ℕ)
-    → length file ≡ length (symbol_bytes packets) → n < 832 * length (a53 packets)
-    → IsToldAt count from packets file n
+    → length file ≡ length (symbol_bytes packets) → n < 832 * length (a53 packets) → IsToldAt count from packets file n
     → (is_missing (symbol_at (file_segments file) n) ≡ true)
     ⊎ (symbol_level (file_segments file) n ≡ symbol_level (a53 packets) n)
 there_by count from packets file n long l (inl same) = inr (same_level packets file n long l same)
@@ -127,5 +114,4 @@ syncs_left count from packets file long spares = record {
     few i l z =
         let f : ℕ = i / 313 in
         let place : 260416 * f ≡ 832 * i = omega (arith, z) in
-        subst (λ n. min (from + count) (n + 515) ≤ max from n + 32) place
-        (spares f (omega (arith, place, l, as_many packets file long)))
+        subst (λ n. min (from + count) (n + 515) ≤ max from n + 32) place (spares f (grind (arith, as_many)))

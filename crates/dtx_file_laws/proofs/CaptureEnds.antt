@@ -1,5 +1,5 @@
 -- What is restored at one end of the symbols that `code` left at the other, where both calls are done.
-use Rattle.std.proofs.Common.{◌≡◌, ℕ, ℤ, ◌<◌, ◌≤◌, ◌⊎◌, inl, inr, List, [], ◌∷◌, length, sym, ap, ◌∙◌, subst, arith}
+use Rattle.std.proofs.Common.{◌≡◌, ℕ, ℤ, ◌≤◌, inl, inr, List, [], ◌∷◌, length, sym, ap, ◌∙◌, subst, arith}
 use Rattle.std.specs.Prelude.{Option, Some, IfSome}
 use Rattle.std.specs.FinMap.{get}
 use Rattle.std.proofs.lemmas.Bool.{cases_lt}
@@ -42,17 +42,15 @@ some_packets : (restoring : Restoring) (scale : ℕ) (names packets : List (List
     (all : List (List ℤ)) → Laws restoring scale names packets file all
     → length packets ≤ 624000000 → IsNoisy scale (symbol_bytes packets) file
     → (meaning_of_file single_bytes (restoring_by restoring) names file).outcome.status ≡ Done → 4 ≤ length packets
-some_packets restoring scale names packets file all laws few noisy done = by_length (cases_lt (length packets) 4)
-  where
-    by_length : (length packets < 4) ⊎ (4 ≤ length packets) → 4 ≤ length packets
-    by_length (inl none) =
-        let nothing : a53 packets ≡ [] = nil_from_length (a53 packets) (omega (arith, none, length-a53 packets)) in
-        let is : all ≡ [] = laws.stream (are_near scale packets file noisy) ∙ nothing in
-        let e : NoSync ≡ Done =
-        sym (ap (λ (m : Meaning). m.outcome.status)
-        (laws.no_sync (few_symbols packets file few noisy.as_many) is)) ∙ done in
-        absurd (let no : ⊥ = cc in no)
-    by_length (inr some) = some
+some_packets restoring scale names packets file all laws few noisy done = elim (cases_lt (length packets) 4) [
+  | inl none ↦
+      let nothing : a53 packets ≡ [] = nil_from_length (a53 packets) (omega (arith, none, length-a53 packets)) in
+      let is : all ≡ [] = laws.stream (are_near scale packets file noisy) ∙ nothing in
+      let e : NoSync ≡ Done = sym (ap (λ (m : Meaning). m.outcome.status)
+      (laws.no_sync (few_symbols packets file few noisy.as_many) is)) ∙ done in
+      absurd (let no : ⊥ = cc in no)
+  | inr some ↦ some
+]
 
 pub restore_through : (restoring : Restoring) (all : List (List ℤ)) (start mid at now : Option Files)
     (input sent got output stream bytes file : List ℕ) (scale : ℕ) (coded given : Status)
@@ -71,8 +69,7 @@ restore_through restoring all start mid at now input sent got output stream byte
     let few = few_packets stream of_code.0 in
     let same : bytes ≡ symbol_bytes packets = holds_one mid sent bytes (symbol_bytes packets) left of_code.1 in
     let noisy = subst (λ (b : List ℕ). IsNoisy scale b file) same noise in
-    subst (λ (b : List ℕ). Holds now output b) (sym same)
-    (told_so at got file _ _ here restores (λ held _ found of.
+    subst (λ (b : List ℕ). Holds now output b) (sym same) (told_so at got file _ _ here restores (λ held _ found of.
     let m : Meaning = meaning_of_file single_bytes (restoring_by restoring) (output ∷ []) file in
     let answered = of found given_done in
     let some = some_packets restoring scale (output ∷ []) packets file all laws few noisy

@@ -1,15 +1,14 @@
 -- A capture whose samples lie near a stream's symbols, and what is answered and written of it.
-use Rattle.std.proofs.Common.{◌≡◌, ◌≢◌, ℕ, ℤ, zero, suc, pos, ◌+◌, ◌*◌, ◌<◌, ◌≤◌, List, [], ◌++◌}
-use Rattle.std.proofs.Common.{length, take, drop, get_or, refl, sym, ap, ◌∙◌, subst, arith}
-use Rattle.std.specs.Prelude.{◌-ℤ◌, ◌*ℤ◌, nat_abs}
+use Rattle.std.proofs.Common.{◌≡◌, ◌≢◌, ℕ, ℤ, zero, suc, pos, ◌+◌, ◌*◌, ◌<◌, ◌≤◌, List, [], ◌++◌, length, take, drop}
+use Rattle.std.proofs.Common.{get_or, refl, sym, ap, ◌∙◌, arith}
 use Rattle.std.proofs.Math.Seq.{take-add}
 use Rattle.std.proofs.lemmas.List.{drop-drop, get_or-map, length-map, map-append, take_all}
 use Rattle.dtx_acquire.specs.Sent.{AreNear}
 use Rattle.dtx_coder.proofs.CountsLemmas.{length-a53}
 use Rattle.dtx_coder.specs.Stream.{a53, a53_symbols, symbols_of}
-use Rattle.dtx_engine.specs.Made.{only, outputs_of}
+use Rattle.dtx_engine.specs.Made.{only}
 use Rattle.dtx_engine.specs.Recipe.{meaning_of_file}
-use Rattle.dtx_files.specs.Symbols.{byte_of_symbol, segment_bytes}
+use Rattle.dtx_files.specs.Symbols.{segment_bytes}
 use Rattle.dtx_forms.specs.Shapes.{single_bytes}
 use Rattle.dtx_meaning.specs.Meaning.{Meaning}
 use Rattle.dtx_meaning.specs.declared.status.Outcome.{Outcome}
@@ -32,22 +31,18 @@ symbols_from file first (suc n) =
     let rest = drop (832 * first) file in
     let next : 832 * (first + 1) ≡ 832 * first + 832 = omega arith in
     let more : 832 * suc n ≡ 832 + 832 * n = omega arith in
-    ap (λ xs. segment_at file first ++ xs) (symbols_from file (first + 1) n
-    ∙ ap (λ m. symbols (take (832 * n) (drop m file))) next
-    ∙ ap (λ xs. symbols (take (832 * n) xs)) (sym (drop-drop 832 (832 * first) file)))
+    ap (λ xs. segment_at file first ++ xs)
+    (rw (symbols_from file (first + 1) n, next, ← drop-drop 832 (832 * first) file))
     ∙ sym (map-append symbol_of_byte (take 832 rest) (take (832 * n) (drop 832 rest)))
-    ∙ ap symbols (sym (take-add 832 (832 * n) rest))
-    ∙ ap (λ m. symbols (take m rest)) (sym more)
+    ∙ ap symbols (sym (take-add 832 (832 * n) rest)) ∙ ap (λ m. symbols (take m rest)) (sym more)
 
 symbols_back : (packets : List (List ℕ)) → a53_symbols packets ≡ symbols (symbol_bytes packets)
 unfolding a53_symbols
 symbols_back packets =
     let file : List ℕ = symbol_bytes packets in
     let n : ℕ = 832 * whole_segments file in
-    let all : length file ≤ n =
-    omega (arith, count_segments packets file refl, length-symbol_bytes packets) in
     ap symbols_of (sym (stream_read_back packets)) ∙ symbols_from file 0 (whole_segments file)
-    ∙ ap symbols (take_all n file all)
+    ∙ ap symbols (take_all n file (omega (arith, count_segments packets file refl, length-symbol_bytes packets)))
 
 -- ---- a capture
 
@@ -57,19 +52,7 @@ symbol_at file i l = get_or-map symbol_of_byte file i 0 (pos 0) l
 
 pub are_near : (scale : ℕ) (packets : List (List ℕ)) (file : List ℕ) → IsNoisy scale (symbol_bytes packets) file
     → AreNear scale (a53_symbols packets) (symbols file)
-are_near scale packets file noisy =
-    let sent : List ℕ = symbol_bytes packets in
-    let long : length (a53_symbols packets) ≡ length sent = sym (length-map (a53_symbols packets) byte_of_symbol) in
-    record {
-      long = length-map file symbol_of_byte ∙ noisy.as_many ∙ sym long;
-      near = λ i l.
-          let within : i < length sent = subst (λ (n : ℕ). i < n) long l in
-          subst (λ (x : ℤ). nat_abs (get_or (symbols file) i (pos 0) -ℤ (pos scale *ℤ x)) < scale)
-          (sym (ap (λ (xs : List ℤ). get_or xs i (pos 0)) (symbols_back packets) ∙ symbol_at sent i within))
-          (subst (λ (y : ℤ). nat_abs (y -ℤ (pos scale *ℤ symbol_of_byte (get_or sent i 0))) < scale)
-          (sym (symbol_at file i (subst (λ (n : ℕ). i < n) (sym noisy.as_many) within)))
-          (noisy.near i within));
-    }
+are_near scale packets file noisy = grind (arith, length-map, symbols_back, symbol_at)
 
 pub few_symbols : (packets : List (List ℕ)) (file : List ℕ) → length packets ≤ 624000000
     → length file ≡ length (symbol_bytes packets) → length file ≤ 520832000000
@@ -84,15 +67,12 @@ stream_bytes packets = refl
 pub restored_as : (restoring : Restoring) (names packets : List (List ℕ)) (file : List ℕ) (all : List (List ℤ))
     (outcome : Outcome) → outcome.status ≡ Done → 4 ≤ length packets → all ≡ a53 packets
     → (all ≢ [] → meaning_of_file single_bytes (restoring_by restoring) names file ≡ restored_with names outcome all)
-    → IsDoneWith names (only (symbol_bytes packets))
-    (meaning_of_file single_bytes (restoring_by restoring) names file)
+    → IsDoneWith names (only (symbol_bytes packets)) (meaning_of_file single_bytes (restoring_by restoring) names file)
 restored_as restoring names packets file all outcome done some is means =
     let found : all ≢ [] = λ none.
     let nothing : length (a53 packets) ≡ 0 = ap length (sym is ∙ none) in
     omega (arith, nothing, length-a53 packets, some) in
     record {
       done = ap (λ (m : Meaning). m.outcome.status) (means found) ∙ done;
-      outputs = ap (λ (m : Meaning). m.outputs) (means found)
-          ∙ ap (λ (segments : List (List ℤ)). outputs_of names (only (segment_bytes segments))) is
-          ∙ ap (λ (bytes : List ℕ). outputs_of names (only bytes)) (stream_bytes packets);
+      outputs = grind (arith, stream_bytes);
     }

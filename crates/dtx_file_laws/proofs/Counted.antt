@@ -1,6 +1,6 @@
 -- Which packets of a stream come back, and how many.
-use Rattle.std.proofs.Common.{◌≡◌, ◌≢◌, ◌⊎◌, inl, inr, ℕ, ℤ, ◌+◌, ◌-◌, ◌*◌, ◌/◌, ◌%◌, ◌<◌, ◌≤◌, ◌==◌, Bool, true}
-use Rattle.std.proofs.Common.{false, cond, List, [], ◌∷◌, ◌++◌, length, map, take, get_or, sym, ap, ◌∙◌, arith}
+use Rattle.std.proofs.Common.{◌≡◌, ◌≢◌, ◌⊎◌, inl, inr, ℕ, ℤ, ◌+◌, ◌-◌, ◌*◌, ◌/◌, ◌%◌, ◌<◌, ◌≤◌, ◌==◌, Bool, true, false}
+use Rattle.std.proofs.Common.{cond, List, [], ◌++◌, length, map, take, get_or, ap, ◌∙◌, arith}
 use Rattle.std.specs.Prelude.{filter}
 use Rattle.std.specs.List.{flat_map, range_with_len}
 use Rattle.std.proofs.lemmas.Bool.{cases_eq, cond-false, cond-true, eq-eqb, ne_eqb}
@@ -21,8 +21,7 @@ use Rattle.dtx_file_laws.specs.Back.{back_of_all, back_of_sent, packets_back}
 -- ---- which words are whole
 
 -- of so many packets that are sent
-whole_are : (s : ℕ) → 0 < s
-    → filter (is_complete (207 * s)) (range_with_len 0 s) ≡ range_with_len 0 (back_of_sent s)
+whole_are : (s : ℕ) → 0 < s → filter (is_complete (207 * s)) (range_with_len 0 s) ≡ range_with_len 0 (back_of_sent s)
 whole_are s some = complete_parts s ∙ by_end (cases_eq (s % 52) 0)
   where
     front : List ℕ
@@ -31,13 +30,7 @@ whole_are s some = complete_parts s ∙ by_end (cases_eq (s % 52) 0)
     by_end : (s % 52 ≡ 0) ⊎ (s % 52 ≢ 0)
         → front ++ filter (is_complete (207 * s)) (range_with_len (s - 52) (s - (s - 52)))
         ≡ range_with_len 0 (back_of_sent s)
-    by_end (inl z) =
-        let extra : ℕ = cond (s % 52 == 0) 1 0 in
-        let one : extra ≡ 1 = cond-true (s % 52 == 0) 1 0 (eq-eqb (s % 52) 0 z) in
-        let many : s - 52 + 1 ≡ back_of_sent s = omega (arith, one) in
-        let start : 0 + (s - 52) ≡ s - 52 = omega arith in
-        ap (λ xs. front ++ xs) (complete_last s (omega (arith, some, z)) z ∙ ap (λ k. k ∷ []) (sym start))
-        ∙ sym (range_with_len-parts 0 (s - 52) 1) ∙ ap (range_with_len 0) many
+    by_end (inl z) = grind (arith, cond-true, eq-eqb, complete_last, range_with_len-parts)
     by_end (inr z) =
         let extra : ℕ = cond (s % 52 == 0) 1 0 in
         let none : extra ≡ 0 = cond-false (s % 52 == 0) 1 0 (ne_eqb (s % 52) 0 z) in
@@ -54,11 +47,9 @@ pub numbers_are : (packets : List (List ℕ)) (run : List (List ℤ)) → 4 ≤ 
 unfolding numbers_in
 numbers_are packets run some long =
     let u : ℕ = length packets / 4 in
-    let groups : groups_of run ≡ u = run_groups run u (long ∙ length-a53 packets) in
     let words : 828 * u ≡ 207 * (4 * u) = omega arith in
-    ap (λ n. filter (is_complete (828 * n)) (range_with_len 0 (4 * n))) groups
-    ∙ ap (λ n. filter (is_complete n) (range_with_len 0 (4 * u))) words
-    ∙ whole_are (4 * u) (omega (arith, some))
+    ap (λ n. filter (is_complete (828 * n)) (range_with_len 0 (4 * n))) (run_groups run u (long ∙ length-a53 packets))
+    ∙ ap (λ n. filter (is_complete n) (range_with_len 0 (4 * u))) words ∙ whole_are (4 * u) (omega (arith, some))
 
 -- ---- they are packets of the stream
 
@@ -67,12 +58,7 @@ one_at_most true = omega arith
 one_at_most false = omega arith
 
 pub back_within : (count : ℕ) → 4 ≤ count → back_of_all count ≤ count
-back_within count some =
-    let sent : ℕ = 4 * (count / 4) in
-    let extra : ℕ = cond (sent % 52 == 0) 1 0 in
-    let few : extra ≤ 1 = one_at_most (sent % 52 == 0) in
-    let all : sent - 52 + extra ≤ count = omega (arith, few, some) in
-    all
+back_within count some = grind (arith, one_at_most)
 
 -- ---- and their bytes
 
@@ -85,7 +71,4 @@ first_packets packets n within =
 pub bytes_back : (packets : List (List ℕ)) → 4 ≤ length packets
     → flat_map (λ k. as_received (get_or packets k [])) (range_with_len 0 (back_of_all (length packets)))
     ≡ packets_back packets
-bytes_back packets some =
-    let n : ℕ = back_of_all (length packets) in
-    sym (ap (flat_map as_received) (first_packets packets n (back_within (length packets) some))
-    ∙ flat_map-map as_received (λ k. get_or packets k []) (range_with_len 0 n))
+bytes_back packets some = grind (arith, first_packets, back_within, flat_map-map)

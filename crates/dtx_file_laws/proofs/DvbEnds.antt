@@ -69,8 +69,7 @@ SendsAll = (names : List (List ℕ)) (stream : List ℕ) → whole_packets strea
     → meaning_of_file dvb_packets dvb_coding names stream ≡ sent_of names stream
 
 sent_is : SendsAll → (start now : Option Files) (input sent stream : List ℕ) (status : Status)
-    → Holds start input stream → status ≡ Done
-    → IfSome start (λ held. get held input ≡ Some stream → status ≡ Done
+    → Holds start input stream → status ≡ Done → IfSome start (λ held. get held input ≡ Some stream → status ≡ Done
     → IsAnswered (meaning_of_file dvb_packets dvb_coding (sent ∷ []) stream) (Some held) status now)
     → IsSent stream sent now
 sent_is law start now input sent stream status there done call =
@@ -107,16 +106,13 @@ pub record IsCalled (got output file : List ℕ) (status : Status) (start now : 
 
 pub read_through : SendsAll → (input sent got output stream bytes file : List ℕ) (coded given : Status)
     (start mid at now : Option Files) (old new : Option (List ℕ)) → AreBytes stream
-    → IsCoded input sent stream coded start mid → Holds mid sent bytes
-    → IsCalled got output file given at now old new
-    → (bytes ≡ dvb (packets_of stream) → whole_packets stream ≤ 624000000 → ArePackets (packets_of stream)
-    → (fixed : ℕ)
+    → IsCoded input sent stream coded start mid → Holds mid sent bytes → IsCalled got output file given at now old new
+    → (bytes ≡ dvb (packets_of stream) → whole_packets stream ≤ 624000000 → ArePackets (packets_of stream) → (fixed : ℕ)
     × (meaning_of_file blocks dvb_reading (output ∷ []) file ≡ back_of (output ∷ []) stream fixed))
     → (fixed : ℕ) × IsReadBack stream fixed output now new
 read_through law input sent got output stream bytes file coded given start mid at now old new are code left call back =
     let of_code = sent_is law start mid input sent stream coded code.there code.done code.files in
-    let same : bytes ≡ dvb (packets_of stream) =
-    holds_one mid sent bytes (dvb (packets_of stream)) left of_code.file in
+    let same : bytes ≡ dvb (packets_of stream) = holds_one mid sent bytes (dvb (packets_of stream)) left of_code.file in
     let all = back same of_code.few (are_packets stream are of_code.syncs) in
     told_both at got file _ _ _ call.there call.files call.line (λ held here files line.
     let m : Meaning = meaning_of_file blocks dvb_reading (output ∷ []) file in
@@ -126,7 +122,6 @@ read_through law input sent got output stream bytes file coded given start mid a
       record {
         packets = one_holds m output (take (188 * (whole_packets stream - 11)) stream) held now given
             (ap (λ (x : Meaning). x.outputs) all.1) (files here call.done);
-        line = ends_with old new (dvb_line_back (whole_packets stream) all.0)
-            (line here call.done ∙ ap (λ (t : List ℕ). printed t old) text);
+        line = ends_with old new (dvb_line_back (whole_packets stream) all.0) (grind arith);
       },
     ))

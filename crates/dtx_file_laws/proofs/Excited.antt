@@ -1,14 +1,12 @@
 -- What `excite` answers and writes of a file whose packets are known.
-use Rattle.std.proofs.Common.{◌≡◌, ◌≢◌, ℕ, ℤ, ◌%◌, ◌*◌, ◌≤◌, List, [], ◌∷◌, length, take, sym, ap, ap₂, ◌∙◌}
-use Rattle.std.proofs.Common.{subst, arith}
+use Rattle.std.proofs.Common.{◌≡◌, ◌≢◌, ℕ, ℤ, ◌*◌, ◌≤◌, List, [], ◌∷◌, take, sym, ap, ◌∙◌, subst, arith}
 use Rattle.std.specs.Prelude.{min, Option, Some, None}
 use Rattle.std.specs.List.{range_with_len}
 use Rattle.std.proofs.lemmas.List.{append-nil}
 use Rattle.dtx_exciter.specs.Emission.{emission}
 use Rattle.dtx_exciter.specs.Log.{Line, life_lines}
-use Rattle.dtx_engine.specs.Made.{both, joined, only, outputs_of}
-use Rattle.dtx_engine.specs.Recipe.{first_refused, meaning_at, meaning_of_file, whole_units}
-use Rattle.dtx_engine.specs.declared.piece.Ending.TheVariants.{Whole}
+use Rattle.dtx_engine.specs.Made.{both, joined, only}
+use Rattle.dtx_engine.specs.Recipe.{first_refused, meaning_of_file, whole_units}
 use Rattle.dtx_files.specs.LogText.{log_text}
 use Rattle.dtx_files.specs.Symbols.{segment_bytes}
 use Rattle.dtx_forms.proofs.AllowedFileLemmas.{all_read, none_found}
@@ -36,9 +34,7 @@ whole_read file = packets_of-piece file 0 (whole_packets file) (omega arith)
 made_of : (a d : ℕ) (packets : List (List ℕ)) (sent : List (List ℤ)) (lines : List Line)
     → emission a d packets ≡ sent → life_lines a d 0 packets ≡ lines
     → joined (excited a d packets) (only []) ≡ both (segment_bytes sent) (log_text lines)
-made_of a d packets sent lines sends logs =
-    ap₂ both (append-nil (segment_bytes (emission a d packets)) ∙ ap segment_bytes sends)
-    (append-nil (log_text (life_lines a d 0 packets)) ∙ ap log_text logs)
+made_of a d packets sent lines sends logs = grind (arith, append-nil)
 
 pub excited_with : (names : List (List ℕ)) (a d : ℕ) (file : List ℕ) (packets : List (List ℕ))
     → whole_packets file ≤ 624000000 → packets_of file ≡ packets → (sent : List (List ℤ)) (lines : List Line)
@@ -46,22 +42,12 @@ pub excited_with : (names : List (List ℕ)) (a d : ℕ) (file : List ℕ) (pack
     → IsDoneWith names (both (segment_bytes sent) (log_text lines))
     (meaning_of_file coded_packets (exciting a d) names file)
 excited_with names a d file packets few holds sent lines sends logs =
-    let front : List ℕ = take (188 * whole_packets file) file in
-    let is : meaning_of_file coded_packets (exciting a d) names file
-    ≡ meaning_at (exciting a d) names front (Whole (length file % 188)) =
-    all_read coded_packets (exciting a d) names file (all_allowed a d file) few in
-    record {
-      done = ap (λ (m : Meaning). m.outcome.status) is;
-      outputs = ap (λ (m : Meaning). m.outputs) is
-          ∙ ap (λ (ps : List (List ℕ)). outputs_of names (joined (excited a d ps) (only []))) (whole_read file ∙ holds)
-          ∙ ap (outputs_of names) (made_of a d packets sent lines sends logs);
-    }
+    grind (arith, all_read, all_allowed, whole_read, made_of)
 
 -- ---- where the call is done
 
 pub few_read : (a d : ℕ) (names : List (List ℕ)) (file : List ℕ)
-    → (meaning_of_file coded_packets (exciting a d) names file).outcome.status ≡ Done
-    → whole_packets file ≤ 624000000
+    → (meaning_of_file coded_packets (exciting a d) names file).outcome.status ≡ Done → whole_packets file ≤ 624000000
 few_read a d names file done = (read_whole coded_packets (exciting a d) names file done).few
 
 pub two_hold : (m : Meaning) (output log first second : List ℕ) (held : Files) (now : Option Files) (status : Status)

@@ -1,6 +1,6 @@
 -- What `adapt` leaves at one end, and what two transmitters send of it at others, where all calls are done.
-use Rattle.std.proofs.Common.{◌≡◌, ◌≢◌, ℕ, ◌+◌, ◌-◌, ◌*◌, ◌%◌, ◌≤◌, ◌==◌, ◌&&◌, Bool}
-use Rattle.std.proofs.Common.{true, false, List, [], ◌∷◌, ◌++◌, length, take, refl, sym, ap, ◌∙◌, subst, arith}
+use Rattle.std.proofs.Common.{◌≡◌, ◌≢◌, ℕ, ◌+◌, ◌-◌, ◌*◌, ◌%◌, ◌≤◌, ◌==◌, ◌&&◌, Bool, true, false, List, [], ◌∷◌, ◌++◌}
+use Rattle.std.proofs.Common.{length, take, refl, sym, ◌∙◌, subst, arith}
 use Rattle.std.specs.Prelude.{Option, Some, None, Ok, IfSome, slice_range}
 use Rattle.std.specs.FinMap.{get}
 use Rattle.std.specs.List.{All, find, range_with_len}
@@ -28,7 +28,7 @@ use Rattle.dtx_packets.specs.Packets.{packets_of, whole_packets}
 use Rattle.dtx_recipes.specs.Adapt.{feeding}
 use Rattle.dtx_recipes.specs.Feed.{feed_bytes}
 use Rattle.dtx_plan.specs.Plan.{plan_of}
-use Rattle.dtx_plan.specs.Sound.{IsSound, IsTransmitter}
+use Rattle.dtx_plan.specs.Sound.{IsSound}
 use Rattle.dtx_plan.specs.declared.plan.Plan.{Plan}
 use Rattle.dtx_plan.specs.declared.transmitter.Transmitter.{Transmitter}
 use Rattle.dtx_recipes.specs.Excite.{exciting}
@@ -69,8 +69,7 @@ pub record IsFeedOf (plan : Plan) (stream : List ℕ) (name : List ℕ) (now : O
   pub few : whole_packets stream ≤ 624000000
   pub file : Holds now name (feed_bytes plan (packets_of stream))
 
-feed_left : (plan : Plan) (output stream : List ℕ) (held : Files) (now : Option Files) (status : Status)
-    → status ≡ Done
+feed_left : (plan : Plan) (output stream : List ℕ) (held : Files) (now : Option Files) (status : Status) → status ≡ Done
     → IsAnswered (meaning_of_file packets (feeding plan) (output ∷ []) stream) (Some held) status now
     → IsFeedOf plan stream output now
 feed_left plan output stream held now status done answered =
@@ -81,9 +80,7 @@ feed_left plan output stream held now status done answered =
     let fed : List ℕ = feed_bytes plan (packets_of stream) in
     record {
       few = whole.few;
-      file = one_holds m output fed held now status (ap (λ (x : Meaning). x.outputs) is
-          ∙ ap (λ (bytes : List ℕ). (output, bytes) ∷ [])
-          (append-nil (feed_bytes plan (packets_of front)) ∙ ap (feed_bytes plan) (whole_read stream))) answered;
+      file = one_holds m output fed held now status (grind (arith, append-nil, whole_read)) answered;
     }
 
 pub feed_is : (plan : Plan) (planned input output bytes stream : List ℕ) (status : Status)
@@ -91,8 +88,7 @@ pub feed_is : (plan : Plan) (planned input output bytes stream : List ℕ) (stat
     → IfSome start (λ held. get held planned ≡ Some bytes → get held input ≡ Some stream → status ≡ Done
     → IsAnswered (meaning_of_file packets (feeding plan) (output ∷ []) stream) (Some held) status now)
     → IsFeedOf plan stream output now
-feed_is plan planned input output bytes stream status (Some held) now there here done call =
-    feed_left plan output stream held now status done (call there here done)
+feed_is plan planned input output bytes stream status (Some held) now there here done call = grind (arith, feed_left)
 feed_is plan planned input output bytes stream status None now there here done call = elim there [ ]
 
 -- ---- the first order that counts
@@ -103,21 +99,7 @@ orders_at fed g = (g % 4 == 0) && has_order fed g
 
 first_is : (fed : List (List ℕ)) (a k : ℕ) → ((g : ℕ) → has_listing a fed g ≡ has_order fed g)
     → IsFirst (orders_at fed) 52 (length fed - 3 - 52) k → IsFirstListing a fed 0 (0 + length fed) k
-first_is fed a k same first =
-    let passes = and_parts (k % 4 == 0) (has_order fed k) first.passes in
-    record {
-      group = eqb-true (k % 4) 0 passes.0;
-      behind = omega (arith, first.least);
-      whole = omega (arith, first.least, first.within);
-      listing = same k ∙ passes.1;
-      least = λ i z l m. same i ∙ ordered (has_order fed i) (i % 4 == 0) (eq-eqb (i % 4) 0 z)
-          (first.before i (omega (arith, l)) m);
-    }
-  where
-    ordered : (x y : Bool) → y ≡ true → (y && x) ≡ false → x ≡ false
-    ordered true true e f = f
-    ordered true false e f = cc
-    ordered false y e f = refl
+first_is fed a k same first = grind (arith, and_parts, eqb-true, eq-eqb)
 
 none_is : (fed : List (List ℕ)) (a : ℕ) → ((g : ℕ) → has_listing a fed g ≡ has_order fed g)
     → find (orders_at fed) (range_with_len 52 (length fed - 3 - 52)) ≡ None → HasNoListing a fed 0 (0 + length fed)
@@ -147,29 +129,19 @@ no_mark = λ i l. absurd (omega (arith, l))
 
 pub fed_anew : (plan : Plan) (stream : List (List ℕ)) (t : Transmitter) → IsPlan plan → IsStream stream
     → IsListed plan t → IsInTime plan t → IsFedAnew plan stream t t.delay [] 0 (length (feed plan stream))
-fed_anew plan stream t is_plan is listed in_time = record {
-  is_plan = is_plan;
-  is_stream = is;
-  listed = listed;
-  in_time = in_time;
-  unmarked = no_mark;
-  at_mark = refl;
-  inside = omega arith;
-}
+fed_anew plan stream t is_plan is listed in_time = grind (arith, is_stream, no_mark)
 
 -- it holds what is made, whatever that is
 pub sends : (t : Transmitter) (input output log file : List ℕ) (status : Status) (start now : Option Files)
     (made logged : List ℕ) → IsExcited t input output log file status start now
     → (whole_packets file ≤ 624000000 → IsDoneWith (output ∷ log ∷ []) (both made logged)
-    (meaning_of_file coded_packets (exciting t.address t.delay) (output ∷ log ∷ []) file))
-    → Holds now output made
+    (meaning_of_file coded_packets (exciting t.address t.delay) (output ∷ log ∷ []) file)) → Holds now output made
 sends t input output log file status start now made logged call means =
     told_so start input file _ _ call.there call.files (λ held _ here of.
     let answered = of here call.done in
     let m : Meaning = meaning_of_file coded_packets (exciting t.address t.delay) (output ∷ log ∷ []) file in
     (two_hold m output log made logged held now status call.apart
-    (means (few_read t.address t.delay (output ∷ log ∷ []) file (sym answered.answer ∙ call.done))).outputs
-    answered).0)
+    (means (few_read t.address t.delay (output ∷ log ∷ []) file (sym answered.answer ∙ call.done))).outputs answered).0)
 
 -- where a transmitter of the plan is given the feed
 pub record IsOfPlan (plan : Plan) (t : Transmitter) : Type 0 where
@@ -183,8 +155,7 @@ made_by plan stream None = []
 
 excited_is : Laws → (plan : Plan) (stream : List (List ℕ)) (t : Transmitter) (input output log : List ℕ)
     (status : Status) (start now : Option Files) → IsPlan plan → IsStream stream → length plan.transmitters ≤ 35
-    → IsOfPlan plan t → IsExcited t input output log (feed_bytes plan stream) status start now
-    → (found : Option ℕ)
+    → IsOfPlan plan t → IsExcited t input output log (feed_bytes plan stream) status start now → (found : Option ℕ)
     → find (orders_at (feed plan stream)) (range_with_len 52 (length (feed plan stream) - 3 - 52)) ≡ found
     → Holds now output (made_by plan stream found)
 unfolding made_by
@@ -236,6 +207,4 @@ pub record HasNumbers (t : Transmitter) : Type 0 where
   pub delay : t.delay ≤ 4294967295
 
 pub numbers_of : (plan : Plan) (t : Transmitter) → IsPlan plan → IsListed plan t → HasNumbers t
-numbers_of plan t is listed =
-    let own = All-contains IsTransmitter plan.transmitters t is.transmitters listed in
-    record { address = omega (arith, own.address); delay = omega (arith, own.delay) }
+numbers_of plan t is listed = grind (arith, All-contains)

@@ -26,38 +26,19 @@ later_words (Line.mute segment why) = decimal segment ∷ word_of why ∷ []
 later_words (Line.restart segment) = decimal segment ∷ []
 
 first_is : (line : Line) → IsWord (first_word line)
-first_is (Line.preset segment frame packet tick grain) =
-    spelled (codes "preset")
-    (omega arith, (omega arith, (omega arith, (omega arith, (omega arith, (omega arith, tt))))))
-first_is (Line.mute segment why) =
-    spelled (codes "mute") (omega arith, (omega arith, (omega arith, (omega arith, tt))))
-first_is (Line.restart segment) =
-    spelled (codes "restart")
+first_is (Line.preset segment frame packet tick grain) = grind (arith, spelled)
+first_is (Line.mute segment why) = spelled (codes "mute") (omega arith, (omega arith, (omega arith, (omega arith, tt))))
+first_is (Line.restart segment) = spelled (codes "restart")
     (omega arith, (omega arith, (omega arith, (omega arith, (omega arith, (omega arith, (omega arith, tt)))))))
 
 why_is : (why : Why) → IsWord (word_of why)
-why_is Cadence =
-    spelled (codes "cadence")
+why_is Cadence = spelled (codes "cadence")
     (omega arith, (omega arith, (omega arith, (omega arith, (omega arith, (omega arith, (omega arith, tt)))))))
-why_is Unlisted =
-    spelled (codes "unlisted") (
-      omega arith,
-      (
-        omega arith,
-        (
-          omega arith,
-          (
-            omega arith,
-            (omega arith, (omega arith, (omega arith, (omega arith, tt)))),
-          ),
-        ),
-      ),
-    )
+why_is Unlisted = grind (arith, spelled)
 why_is Late = spelled (codes "late") (omega arith, (omega arith, (omega arith, (omega arith, tt))))
 
 later_are : (line : Line) → AllByRecursion IsWord (later_words line)
-later_are (Line.preset segment frame packet tick grain) =
-    (number segment, (number frame, (number packet, (number tick, (number grain, tt)))))
+later_are (Line.preset segment frame packet tick grain) = grind (arith, number)
 later_are (Line.mute segment why) = (number segment, (why_is why, tt))
 later_are (Line.restart segment) = (number segment, tt)
 
@@ -95,16 +76,12 @@ words_are (Line.preset segment frame packet tick grain) = refl
 words_are (Line.mute segment why) = refl
 words_are (Line.restart segment) = refl
 
-pub words_of-log_text : (lines : List Line)
-    → words_of_lines (log_text lines) ≡ map line_words lines ++ ([] ∷ []) ∷ []
+pub words_of-log_text : (lines : List Line) → words_of_lines (log_text lines) ≡ map line_words lines ++ ([] ∷ []) ∷ []
 words_of-log_text [] = refl
 words_of-log_text (line ∷ lines) =
-    let word : List ℕ = first_word line in
     let words : List (List ℕ) = later_words line in
     let rest : List ℕ = log_text lines in
-    ap words_of_lines (line_is line rest)
-    ∙ ap (map (slice_split (λ b. b == 32)))
-    (slice_split_at (λ b. b == 10) (word ++ spaced words) 10 rest
-    (one_line word words (first_is line) (later_are line)) refl)
-    ∙ ap₂ (λ ws more. ws ∷ more) (words_cut word words (first_is line) (later_are line) ∙ words_are line)
-    (words_of-log_text lines)
+    ap words_of_lines (line_is line rest) ∙ ap (map (slice_split (λ b. b == 32)))
+    (slice_split_at (λ b. b == 10) ((first_word line) ++ spaced words) 10 rest
+    (one_line (first_word line) words (first_is line) (later_are line)) refl) ∙ ap₂ (λ ws more. ws ∷ more)
+    (words_cut (first_word line) words (first_is line) (later_are line) ∙ words_are line) (words_of-log_text lines)

@@ -12,8 +12,7 @@ pub all_mendable : (packets : List (List ℕ)) (first : ℕ) (sent got : List (L
     → ((j : ℕ) → IsComplete 207 52 4 (828 * groups_of (from_sync first got)) j
     → (unmarked_distance (marks_at (marks_in (from_sync first got)) j)
     (word_at 207 52 4 (bytes_in (from_sync first got)) j) (codeword_at packets (packet_behind first + j)) ≡ 0)
-    × (lost (marks_at (marks_in (from_sync first got)) j) ≤ 20))
-    → CanAllBeMended packets first sent got
+    × (lost (marks_at (marks_in (from_sync first got)) j) ≤ 20)) → CanAllBeMended packets first sent got
 unfolding word_in
 all_mendable packets first sent got found words = record {
   found = found;

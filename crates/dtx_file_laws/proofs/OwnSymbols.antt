@@ -65,8 +65,7 @@ stretch_to_end fed k whole =
 
 pub own_symbols : (fed : List (List ℕ)) (k : ℕ) → k + 4 ≤ length fed
     → segment_bytes (stretch_of fed k (0 + length fed)) ≡ drop (832 * segment_place k) (symbol_bytes fed)
-own_symbols fed k whole =
-    ap segment_bytes (stretch_to_end fed k whole)
+own_symbols fed k whole = ap segment_bytes (stretch_to_end fed k whole)
     ∙ bytes_from (a53 fed) (segment_place k) (each_of (λ s. length s ≡ 832) (a53 fed) [] (a53_segment fed))
     ∙ ap (drop (832 * segment_place k)) (stream_bytes fed)
 
@@ -93,8 +92,7 @@ pub sends_own : Laws → OrdersLaw → (plan : Plan) (bytes stream name fed symb
     → plan_of bytes ≡ Ok plan → length plan.transmitters ≤ 35 → AreBytes stream → IsFeedOf plan stream name left
     → Holds left name fed → symbols ≡ symbol_bytes (packets_of fed) → (t : Transmitter) → IsOfPlan plan t → (k : ℕ)
     → IsFirstOrder (packets_of stream) k → (input output log : List ℕ) (status : Status) (start now : Option Files)
-    → IsExcited t input output log fed status start now
-    → Holds now output (drop (832 * segment_place k) symbols)
+    → IsExcited t input output log fed status start now → Holds now output (drop (832 * segment_place k) symbols)
 sends_own laws orders plan bytes stream name fed symbols left says few are feeds holds coded t of k first input output
     log status start now call =
     let is_plan = laws.plan bytes plan says in
@@ -124,8 +122,7 @@ pub record IsLeft (plan : Plan) (stream name fed symbols : List ℕ) (left : Opt
 
 -- the studio adapts a stream, and then codes its feed
 pub studio : (plan : Plan) (stream name sent fed symbols : List ℕ) (status : Status) (mid left : Option Files)
-    → IsFeedOf plan stream name mid → name ≢ sent
-    → (Holds mid name (feed_bytes plan (packets_of stream))
+    → IsFeedOf plan stream name mid → name ≢ sent → (Holds mid name (feed_bytes plan (packets_of stream))
     → IsCoded name sent (feed_bytes plan (packets_of stream)) status mid left)
     → Holds left name fed → Holds left sent symbols → IsLeft plan stream name fed symbols left
 studio plan stream name sent fed symbols status mid left feeds apart code holds coded =

@@ -1,10 +1,9 @@
 -- What `receive` answers and writes of segments in a row of a stream that are received with slight damage.
-use Rattle.std.proofs.Common.{◌≡◌, ℕ, ℤ, ◌+◌, ◌%◌, ◌<◌, ◌≤◌, List, [], ◌∷◌, length, map, get_or, refl, ap, ap₂}
-use Rattle.std.proofs.Common.{◌∙◌, arith}
+use Rattle.std.proofs.Common.{◌≡◌, ℕ, ℤ, ◌+◌, ◌%◌, ◌<◌, ◌≤◌, List, [], ◌∷◌, length, map, get_or, refl, ap, ◌∙◌, arith}
 use Rattle.std.specs.List.{flat_map}
 use Rattle.std.proofs.lemmas.List.{length-map}
 use Rattle.std.proofs.lemmas.List.Folds.{flat_map-map}
-use Rattle.dtx_receiver.specs.Packets.{all_packets, received}
+use Rattle.dtx_receiver.specs.Packets.{received}
 use Rattle.dtx_receiver.specs.Runs.{runs}
 use Rattle.dtx_receiver.specs.declared.batch.Received.{Received}
 use Rattle.dtx_chain.proofs.AllBackLemmas.{all_back, all_good}
@@ -12,9 +11,6 @@ use Rattle.dtx_chain.specs.Damage.{AreReceived, IsSlight, as_corrected, from_syn
 use Rattle.dtx_chain.specs.Damage.{packet_behind, to_sync, word_in}
 use Rattle.dtx_chain.proofs.SlightLemmas.{one_run_left}
 use Rattle.dtx_chain.specs.Undamaged.{ArePackets, as_received, as_sent}
-use Rattle.dtx_meaning.specs.Meaning.{Meaning}
-use Rattle.dtx_meaning.specs.declared.status.Outcome.{Outcome}
-use Rattle.dtx_engine.specs.Made.{only, outputs_of}
 use Rattle.dtx_engine.specs.Recipe.{meaning_of_file}
 use Rattle.dtx_forms.specs.Shapes.{segments}
 use Rattle.dtx_jobs.proofs.GivenLemmas.{sync_answered}
@@ -46,11 +42,9 @@ answered stream first sent file packets received some slight names =
     let f : ℕ = packet_behind first in
     let back : List Received = map (λ j. as_corrected stream (f + j) (word_in first got j)) js in
     let one : length (runs got) ≡ 1 = ap length (one_run_left stream first sent got received some slight.found) in
-    let all : all_packets got ≡ back = all_good stream first sent got received some slight packets in
     let count : length back ≡ length js = length-map js (λ j. as_corrected stream (f + j) (word_in first got j)) in
-    sync_answered with_corrections got (length file % 832) (λ e. omega (arith, e, one))
-    ∙ rw (
-      all,
+    sync_answered with_corrections got (length file % 832) (λ e. omega (arith, e, one)) ∙ rw (
+      (all_good stream first sent got received some slight packets),
       one,
       length-segments_of file,
       count,
@@ -72,8 +66,4 @@ pub all_received_back : (names stream : List (List ℕ)) (first : ℕ) (sent : L
     → to_sync first < length sent → IsSlight stream first sent (file_segments file)
     → meaning_of_file segments receiving names file ≡ all_back_of names stream first file
 all_received_back names stream first sent file few packets received some slight =
-    let means : Outcome → List ℕ → Meaning =
-    λ outcome bytes. record { outcome = outcome; outputs = outputs_of names (only bytes) } in
-    all_received names file few
-    ∙ ap₂ means (answered stream first sent file packets received some slight names)
-    (written stream first sent (file_segments file) packets received some slight)
+    grind (arith, all_received, answered, written)

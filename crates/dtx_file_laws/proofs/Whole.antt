@@ -19,7 +19,7 @@ use Rattle.dtx_receiver.specs.Packets.{all_packets}
 use Rattle.dtx_recipes.specs.MendedBack.{all_back_of, put_right}
 use Rattle.dtx_recipes.specs.Receive.{receiving}
 use Rattle.dtx_jobs.proofs.StreamBackLemmas.{length-symbol_bytes, stream_read_back}
-use Rattle.dtx_recipes.specs.SymbolFile.{file_segments, segment_at, symbol_of_byte, whole_segments}
+use Rattle.dtx_recipes.specs.SymbolFile.{file_segments, symbol_of_byte, whole_segments}
 use Rattle.dtx_jobs.proofs.SymbolFileLemmas.{length-segments_of}
 use Rattle.dtx_recipes.specs.Symbols.{symbol_bytes}
 use Rattle.dtx_recipes.specs.Tally.{fixed_in}
@@ -44,8 +44,7 @@ all_from got = ap (λ n. drop n got) no_segments
 
 -- a stream of at least one whole group has a field sync
 pub some_segments : (packets : List (List ℕ)) → 4 ≤ length packets → to_sync 0 < length (a53 packets)
-some_segments packets some =
-    subst (λ n. n < length (a53 packets)) (sym no_segments) (omega (arith, length-a53 packets, some))
+some_segments packets some = grind (arith, no_segments, length-a53)
 
 -- ---- a file of as many bytes
 
@@ -59,24 +58,18 @@ count_segments packets file long = omega (arith, as_many packets file long)
 
 pub few_segments : (packets : List (List ℕ)) (file : List ℕ) → length packets ≤ 624000000
     → length file ≡ length (symbol_bytes packets) → whole_segments file ≤ 626000000
-few_segments packets file few long =
-    omega (arith, count_segments packets file long, length-a53 packets, few)
+few_segments packets file few long = omega (arith, count_segments packets file long, length-a53 packets, few)
 
 pub whole_segment : (file : List ℕ) (i : ℕ) → i < length (file_segments file)
     → length (get_or (file_segments file) i []) ≡ 832
 whole_segment file i l =
     let within : i < whole_segments file = omega (arith, l, length-segments_of file) in
-    ap length (get_or-map-range_with_len (segment_at file) 0 (whole_segments file) i i [] within (omega arith))
-    ∙ length-map (take 832 (drop (832 * i) file)) symbol_of_byte
+    ap length (grind (arith, get_or-map-range_with_len)) ∙ length-map (take 832 (drop (832 * i) file)) symbol_of_byte
     ∙ length-take-le 832 (drop (832 * i) file) (omega (arith, within, length-drop (832 * i) file))
 
 pub are_received : (packets : List (List ℕ)) (file : List ℕ) → length file ≡ length (symbol_bytes packets)
     → AreReceived packets 0 (a53 packets) (file_segments file)
-are_received packets file long = record {
-  in_a_row = sym (take_all (0 + length (a53 packets) - 0) (a53 packets) (omega arith));
-  as_many = length-segments_of file ∙ count_segments packets file long;
-  long = whole_segment file;
-}
+are_received packets file long = grind (arith, take_all, as_many, length-segments_of, count_segments, whole_segment)
 
 -- ---- what is answered and written of it
 
@@ -84,18 +77,13 @@ same_range : (f g : ℕ → List ℕ) (ks : List ℕ) → ((k : ℕ) → f k ≡
 same_range f g [] same = refl
 same_range f g (k ∷ ks) same = ap₂ (λ (x y : List ℕ). x ++ y) (same k) (same_range f g ks same)
 
-written : (packets : List (List ℕ)) (got : List (List ℤ)) → 4 ≤ length packets
-    → length got ≡ length (a53 packets)
+written : (packets : List (List ℕ)) (got : List (List ℤ)) → 4 ≤ length packets → length got ≡ length (a53 packets)
     → flat_map (λ j. as_received (get_or packets (packet_behind 0 + j) [])) (numbers_in (from_sync 0 got))
     ≡ packets_back packets
-written packets got some long =
-    ap (flat_map (λ j. as_received (get_or packets (packet_behind 0 + j) [])))
+written packets got some long = ap (flat_map (λ j. as_received (get_or packets (packet_behind 0 + j) [])))
     (ap numbers_in (all_from got) ∙ numbers_are packets got some long)
     ∙ same_range (λ j. as_received (get_or packets (packet_behind 0 + j) [])) (λ k. as_received (get_or packets k []))
-    (range_with_len 0 (back_of_all (length packets)))
-    (λ k. let z : packet_behind 0 + k ≡ k = omega (arith, first_packet) in
-    ap (λ n. as_received (get_or packets n [])) z)
-    ∙ bytes_back packets some
+    (range_with_len 0 (back_of_all (length packets))) (λ k. grind (arith, first_packet)) ∙ bytes_back packets some
 
 pub of_all : (names packets : List (List ℕ)) (file : List ℕ) → 4 ≤ length packets
     → length file ≡ length (symbol_bytes packets)
@@ -108,20 +96,17 @@ of_all names packets file some long =
       outcome = done (s ∷ 1 ∷ p ∷ fixed ∷ 0 ∷ l ∷ []);
       outputs = outputs_of names (only bytes);
     } in
-    let back : length (numbers_in (from_sync 0 got)) ≡ back_of_all (length packets) =
-    ap length (ap numbers_in (all_from got) ∙ numbers_are packets got some many)
-    ∙ length-range_with_len 0 (back_of_all (length packets)) in
     let loose : length file % 832 ≡ 0 = omega (arith, as_many packets file long) in
     ap₂ (λ (s p : ℕ). means s p (length file % 832)
     (flat_map (λ j. as_received (get_or packets (packet_behind 0 + j) [])) (numbers_in (from_sync 0 got))))
-    (count_segments packets file long) back
+    (count_segments packets file long) (ap length (ap numbers_in (all_from got) ∙ numbers_are packets got some many)
+    ∙ length-range_with_len 0 (back_of_all (length packets)))
     ∙ ap₂ (means (length (a53 packets)) (back_of_all (length packets))) loose (written packets got some many)
 
 -- of slight damage
 pub near_back : (names packets : List (List ℕ)) (file : List ℕ) → ArePackets packets → 4 ≤ length packets
     → length packets ≤ 624000000 → length file ≡ length (symbol_bytes packets)
-    → IsSlight packets 0 (a53 packets) (file_segments file)
-    → meaning_of_file segments receiving names file
+    → IsSlight packets 0 (a53 packets) (file_segments file) → meaning_of_file segments receiving names file
     ≡ all_back names packets (put_right packets 0 (file_segments file))
 near_back names packets file are some few long slight =
     all_received_back names packets 0 (a53 packets) file (few_segments packets file few long) are
@@ -130,8 +115,7 @@ near_back names packets file are some few long slight =
 
 -- of none
 none_put_right : (packets : List (List ℕ)) → ArePackets packets → 4 ≤ length packets
-    → all_packets (a53 packets) ≡ map (as_sent packets) (whole_words packets)
-    → put_right packets 0 (a53 packets) ≡ 0
+    → all_packets (a53 packets) ≡ map (as_sent packets) (whole_words packets) → put_right packets 0 (a53 packets) ≡ 0
 none_put_right packets are some good =
     let received = stream_received packets in
     sym (all_fixed packets (packet_behind 0) (word_in 0 (a53 packets)) (numbers_in (from_sync 0 (a53 packets))))
@@ -150,6 +134,5 @@ stream_back names packets are some few good =
     let read : a53 packets ≡ file_segments (symbol_bytes packets) = sym (stream_read_back packets) in
     let received = are_received packets (symbol_bytes packets) refl in
     near_back names packets (symbol_bytes packets) are some few refl
-    (subst (IsSlight packets 0 (a53 packets)) read (is_slight packets 0 (a53 packets)
-    (subst (AreReceived packets 0 (a53 packets)) (sym read) received) are))
+    (subst (IsSlight packets 0 (a53 packets)) read (is_slight packets 0 (a53 packets) (grind arith) are))
     ∙ ap (all_back names packets) (ap (put_right packets 0) (sym read) ∙ none_put_right packets are some good)

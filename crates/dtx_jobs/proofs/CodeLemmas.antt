@@ -1,6 +1,5 @@
 -- Lemmas of the symbols of a stream: those of its whole groups.
-use Rattle.std.proofs.Common.{◌≡◌, ℕ, ◌+◌, ◌-◌, ◌%◌, ◌≤◌, List, ◌++◌, length, map, take, refl, ap, ap₂, ◌∙◌}
-use Rattle.std.proofs.Common.{arith}
+use Rattle.std.proofs.Common.{◌≡◌, ℕ, ◌+◌, ◌-◌, ◌%◌, ◌≤◌, List, ◌++◌, length, map, take, refl, ap, ap₂, ◌∙◌, arith}
 use Rattle.std.proofs.Math.Seq.{take-add}
 use Rattle.std.proofs.lemmas.List.{take_at, drop_at, take_all, take-take, length-append, length-take-le}
 use Rattle.dtx_coder.proofs.StreamLemmas.{a53_whole}
@@ -26,8 +25,6 @@ pub groups_behind : (ps more : List (List ℕ)) (n : ℕ) → length ps % 4 ≡ 
 groups_behind ps more n whole within =
     let qs = take n more in
     let m : ℕ = n - n % 4 in
-    let all : in_groups (ps ++ qs) ≡ length ps + m =
-    omega (arith, length-append ps qs, length-take-le n more within, whole) in
-    ap (λ k. take k (ps ++ qs)) all ∙ take-add (length ps) m (ps ++ qs)
-    ∙ ap₂ ◌++◌ (take_at ps qs (length ps) refl)
+    let all : in_groups (ps ++ qs) ≡ length ps + m = grind (arith, length-append, length-take-le) in
+    ap (λ k. take k (ps ++ qs)) all ∙ take-add (length ps) m (ps ++ qs) ∙ ap₂ ◌++◌ (take_at ps qs (length ps) refl)
     (ap (take m) (drop_at ps qs (length ps) refl) ∙ take-take m n more (omega arith))

@@ -1,5 +1,5 @@
 -- Lemmas of what is made of symbols, whichever receiver it is: with what the end brings it is all packets.
-use Rattle.std.proofs.Common.{◌≡◌, ℕ, List, [], ◌∷◌, ◌++◌, length, map, take, drop, refl, sym, ap, ◌∙◌}
+use Rattle.std.proofs.Common.{◌≡◌, ℕ, List, [], ◌∷◌, ◌++◌, map, take, drop, refl, ap, ◌∙◌, arith}
 use Rattle.std.specs.Prelude.{ℤ}
 use Rattle.std.specs.List.{flat_map}
 use Rattle.std.proofs.lemmas.List.{append_assoc, drop_at, take-append-drop}
@@ -17,27 +17,21 @@ flat_bytes (p ∷ ps) = ap (λ z. p.packet.0 ++ z) (flat_bytes ps)
 -- the bytes of the packets of segments
 pub bytes_of-all : (giving : Giving) → IsGiving giving → (segments : List (List ℤ))
     → flat_map (λ (p : List ℕ). p) (giving.packets segments) ≡ bytes_of (giving.all segments)
-bytes_of-all giving is segments =
-    ap (flat_map (λ (p : List ℕ). p)) (is.packets segments) ∙ flat_bytes (giving.all segments)
+bytes_of-all giving is segments = grind (arith, flat_bytes)
 
 -- what is given while the first segments come is a front part of what all give
 pub front_given : (giving : Giving) → IsGiving giving → (segments : List (List ℤ)) (n : ℕ)
     → (rest : List Received) × (giving.all segments ≡ giving.so_far (take n segments) ++ rest)
 front_given giving is segments n =
     let on = given_on giving is (take n segments) (drop n segments) in
-    let end = is.end segments in (
-      on.0 ++ end.0,
-      cc (end.1, take-append-drop n segments, on.1, append_assoc (giving.so_far (take n segments)) on.0 end.0),
-    )
+    let end = is.end segments in (grind (arith, take-append-drop, append_assoc))
 
 -- ---- what is made
 
 -- what the end adds, where it brings these
 pub receives_last : (giving : Giving) → IsGiving giving → (file last : List ℕ)
     → bytes_of (giving.all (file_segments file)) ≡ early_bytes giving file ++ last → last ≡ end_bytes giving file
-receives_last giving is file last brought =
-    sym (ap (drop (length (early_bytes giving file))) (bytes_of-all giving is (file_segments file) ∙ brought)
-    ∙ drop_at (early_bytes giving file) last (length (early_bytes giving file)) refl)
+receives_last giving is file last brought = grind (arith, bytes_of-all, drop_at)
 
 -- what is made of all segments is their packets
 pub receives_whole : (giving : Giving) → IsGiving giving → (file : List ℕ)

@@ -39,5 +39,4 @@ pub brought_with : (count more : ℕ) (bytes : List ℕ) (given : List ℤ) (bro
     → (0 < more → (count ≡ 0) × (bytes ≡ [])) → called ≡ more → brought ≡ given
     → now ≡ bytes ++ map byte_of_symbol brought → replicate (count + called) 0 ++ now
     ≡ (replicate count 0 ++ bytes) ++ map byte_of_symbol (replicate more (pos 0) ++ given)
-brought_with count more bytes given brought called now first called_is brought_is now_is =
-    cc (called_is, now_is, brought_is, brought_more count more bytes given first)
+brought_with count more bytes given brought called now first called_is brought_is now_is = grind (arith, brought_more)

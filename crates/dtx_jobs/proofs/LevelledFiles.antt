@@ -1,5 +1,5 @@
 -- What `level` answers and writes of all bytes of a file, and of the first of too many.
-use Rattle.std.proofs.Common.{◌≡◌, ℕ, ◌*◌, ◌/◌, ◌<◌, ◌≤◌, List, length, take, sym, ap, ap₂, ◌∙◌, arith}
+use Rattle.std.proofs.Common.{◌≡◌, ℕ, ◌<◌, ◌≤◌, List, length, sym, ap, ap₂, ◌∙◌, arith}
 use Rattle.std.specs.Prelude.{min, None}
 use Rattle.std.specs.List.{range_with_len}
 use Rattle.std.proofs.lemmas.Grind.{flat_map-append}
@@ -22,8 +22,7 @@ all_made : (bytes : List ℕ) → joined (levelling.made bytes) (levelling.rest 
     ≡ levelled_files (levelled (symbols bytes)) (measures (symbols bytes))
 all_made bytes =
     let s = symbols bytes in
-    ap₂ both
-    (cc (map-append byte_of_symbol (levelled_so_far s) (levelled_rest s), all_are_levelled s))
+    ap₂ both (cc (map-append byte_of_symbol (levelled_so_far s) (levelled_rest s), all_are_levelled s))
     (sym (flat_map-append measure_text (measures_so_far s) (measures_rest s)) ∙ ap measures_text (all_are_measured s))
 
 all_allowed : (file : List ℕ) → first_refused single_bytes levelling file ≡ None
@@ -32,14 +31,11 @@ all_allowed file = none_found (range_with_len 0 (min (whole_units single_bytes f
 
 pub all_levelled : (names : List (List ℕ)) (file : List ℕ) → length file ≤ 520832000000
     → meaning_of_file single_bytes levelling names file ≡ levelled_of names file
-all_levelled names file few =
-    let whole : take (1 * (length file / 1)) file ≡ file = take_all (1 * (length file / 1)) file (omega arith) in
-    cc (all_read single_bytes levelling names file (all_allowed file) (omega (arith, few)), whole, all_made file)
+all_levelled names file few = grind (arith, take_all, all_read, all_allowed, all_made)
 
 pub first_levelled : (names : List (List ℕ)) (file : List ℕ) → 520832000000 < length file
     → meaning_of_file single_bytes levelling names file ≡ levelled_until names file
-first_levelled names file many =
-    cc (
-      first_read single_bytes levelling names file (all_allowed file) (omega (arith, many)),
-      take-map symbol_of_byte 520832000000 file,
-    )
+first_levelled names file many = cc (
+  first_read single_bytes levelling names file (all_allowed file) (omega (arith, many)),
+  take-map symbol_of_byte 520832000000 file,
+)

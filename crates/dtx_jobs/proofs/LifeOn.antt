@@ -1,6 +1,5 @@
 -- The numbers of one life, one packet further, and how much they are at most.
-use Rattle.std.proofs.Common.{◌≡◌, ℕ, zero, suc, ◌+◌, ◌*◌, ◌<◌, ◌≤◌, List, [], ◌∷◌, ◌++◌, length, take, refl, sym, ap}
-use Rattle.std.proofs.Common.{◌∙◌, arith}
+use Rattle.std.proofs.Common.{◌≡◌, ℕ, zero, suc, ◌+◌, ◌*◌, ◌<◌, ◌≤◌, List, [], ◌∷◌, ◌++◌, length, take, refl, arith}
 use Rattle.std.specs.Prelude.{Some, None}
 use Rattle.std.specs.List.{range_with_len, flat_map}
 use Rattle.std.proofs.lemmas.List.{length-append, length_push}
@@ -30,8 +29,7 @@ few_in_all f a (suc n) h =
 
 pub emission_few : (a d : ℕ) (l : List (List ℕ)) → length (emission a d l) ≤ 5 * length l
 unfolding emission
-emission_few a d l = few_in_all (λ n. last_segments a d (take (n + 1) l)) 0 (length l) (λ n. given_few a d (take
-    (n + 1) l))
+emission_few a d l = grind (arith, few_in_all, given_few)
 
 pub presets_few : (n m : ℕ) (t : Told) → presets_in (line_of n m t) + mutes_in (line_of n m t) ≤ 1
 presets_few n m Quiet = omega arith
@@ -42,15 +40,13 @@ presets_few n m (Muted why) = omega arith
 pub counted_in_all : (f : ℕ → List Line) (a n : ℕ) → ((i : ℕ) → presets_in (f i) + mutes_in (f i) ≤ 1)
     → presets_in (flat_map f (range_with_len a n)) + mutes_in (flat_map f (range_with_len a n)) ≤ n
 counted_in_all f a zero h = omega arith
-counted_in_all f a (suc n) h =
-    let rest : List Line = flat_map f (range_with_len (a + 1) n) in
-    omega (
-      arith,
-      sum_by-append one_preset (f a) rest,
-      sum_by-append one_mute (f a) rest,
-      h a,
-      counted_in_all f (a + 1) n h,
-    )
+counted_in_all f a (suc n) h = omega (
+  arith,
+  sum_by-append one_preset (f a) (flat_map f (range_with_len (a + 1) n)),
+  sum_by-append one_mute (f a) (flat_map f (range_with_len (a + 1) n)),
+  h a,
+  counted_in_all f (a + 1) n h,
+)
 
 pub lines_few : (a d : ℕ) (l : List (List ℕ))
     → presets_in (life_lines a d 0 l) + mutes_in (life_lines a d 0 l) ≤ length l
@@ -59,19 +55,8 @@ lines_few a d l = counted_in_all (line_at a d l) 0 (length l) (λ i. presets_few
 
 -- so there is room for what the next packet brings
 pub has_room : (a d : ℕ) (l : List (List ℕ)) (p : List ℕ) (tally : LifeTally) → tally ≡ life_tally a d l
-    → tally.packets < 624000000
-    → HasRoom tally (length (last_segments a d (l ++ p ∷ [])))
-has_room a d l p tally is most =
-    let packets = ap (λ (t : LifeTally). t.packets) is in
-    let segments = ap (λ (t : LifeTally). t.segments) is in
-    let presets = ap (λ (t : LifeTally). t.presets) is in
-    let mutes = ap (λ (t : LifeTally). t.mutes) is in
-    record {
-      packets = omega (arith, most);
-      segments = omega (arith, most, packets, segments, emission_few a d l, given_few a d (l ++ p ∷ []));
-      presets = omega (arith, most, packets, presets, lines_few a d l);
-      mutes = omega (arith, most, packets, mutes, lines_few a d l);
-    }
+    → tally.packets < 624000000 → HasRoom tally (length (last_segments a d (l ++ p ∷ [])))
+has_room a d l p tally is most = grind (arith, emission_few, given_few, lines_few)
 
 same_tally : (a b c e a' b' c' e' : ℕ) → a ≡ a' → b ≡ b' → c ≡ c' → e ≡ e'
     → ◌≡◌ {A = LifeTally} (record { packets = a; segments = b; presets = c; mutes = e })
@@ -83,11 +68,4 @@ pub tally_push : (a d : ℕ) (l : List (List ℕ)) (p : List ℕ)
     → tally_with (life_tally a d l) (length (last_segments a d (l ++ p ∷ [])))
     (line_of (length (emission a d l)) (length (last_segments a d (l ++ p ∷ []))) (last_answer a d (l ++ p ∷ [])))
     ≡ life_tally a d (l ++ p ∷ [])
-tally_push a d l p =
-    let line : List Line =
-    line_of (length (emission a d l)) (length (last_segments a d (l ++ p ∷ []))) (last_answer a d (l ++ p ∷ [])) in
-    same_tally _ _ _ _ _ _ _ _
-    (sym (length_push l p))
-    (sym (ap length (emission_push a d l p) ∙ length-append (emission a d l) (last_segments a d (l ++ p ∷ []))))
-    (sym (ap presets_in (lines_push a d l p) ∙ sum_by-append one_preset (life_lines a d 0 l) line))
-    (sym (ap mutes_in (lines_push a d l p) ∙ sum_by-append one_mute (life_lines a d 0 l) line))
+tally_push a d l p = grind (arith, same_tally, length_push, emission_push, length-append, lines_push, sum_by-append)

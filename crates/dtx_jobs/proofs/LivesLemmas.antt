@@ -11,7 +11,7 @@ use Rattle.dtx_files.specs.LogText.{log_text}
 use Rattle.dtx_repeat.specs.GoingOn.{last_life, longer, with_runs}
 use Rattle.dtx_repeat.proofs.GoingOnLemmas.{longer_last}
 use Rattle.dtx_repeat.proofs.SeveralLemmas.{one_or_none}
-use Rattle.dtx_recipes.specs.Life.{one_preset, one_mute, presets_in, mutes_in, tally_with}
+use Rattle.dtx_recipes.specs.Life.{one_mute, presets_in, mutes_in, tally_with}
 use Rattle.dtx_recipes.specs.Lives.{sent_over, logged_over, lives_tally}
 use Rattle.dtx_recipes.specs.Restarts.{restart_with}
 use Rattle.dtx_recipes.specs.declared.life_tally.LifeTally.{LifeTally}
@@ -28,25 +28,21 @@ same_tally a b c e a' b' c' e' p q r s = rw (p, q, r, s) refl
 packets_last : (xs : List (List (List ℕ))) (life : List (List ℕ))
     → length (flat_map (λ (l : List (List ℕ)). l) (xs ++ life ∷ []))
     ≡ length (flat_map (λ (l : List (List ℕ)). l) xs) + length life
-packets_last xs life =
-    ap length (flat_map-append (λ (l : List (List ℕ)). l) xs (life ∷ []))
-    ∙ length-append (flat_map (λ (l : List (List ℕ)). l) xs) (life ++ [])
-    ∙ ap (λ z. length (flat_map (λ (l : List (List ℕ)). l) xs) + length z) (append-nil life)
+packets_last xs life = grind (arith, flat_map-append, length-append, append-nil)
 
 packets_longer : (lives : List (List (List ℕ))) (p : List ℕ) → 0 < length lives
     → length (flat_map (λ (l : List (List ℕ)). l) (longer lives (p ∷ [])))
     ≡ length (flat_map (λ (l : List (List ℕ)). l) lives) + 1
 packets_longer lives p some =
-    let xs : List (List (List ℕ)) = lives_but_last lives in
     let life : List (List ℕ) = last_life lives in
     let e = parts lives some in
     let count : List (List (List ℕ)) → ℕ = λ z. length (flat_map (λ (l : List (List ℕ)). l) z) in
     omega (
       arith,
-      ap (λ z. count (longer z (p ∷ []))) e ∙ ap count (longer_last xs life (p ∷ [])),
-      packets_last xs (life ++ p ∷ []),
+      ap (λ z. count (longer z (p ∷ []))) e ∙ ap count (longer_last (lives_but_last lives) life (p ∷ [])),
+      packets_last (lives_but_last lives) (life ++ p ∷ []),
       ap count e,
-      packets_last xs life,
+      packets_last (lives_but_last lives) life,
       length_push life p,
     )
 
@@ -55,11 +51,8 @@ pub tally_longer : (a d : ℕ) (lives : List (List (List ℕ))) (p : List ℕ) �
     ≡ lives_tally a d (longer lives (p ∷ []))
 tally_longer a d lives p some =
     let line : List Line = line_by a d lives p in
-    same_tally _ _ _ _ _ _ _ _
-    (sym (packets_longer lives p some))
-    (sym (ap length (emission_longer a d lives p some)
-    ∙ length-append (emission_over a d lives) (brought_by a d lives p)))
-    (sym (ap presets_in (log_longer a d lives p some) ∙ sum_by-append one_preset (log a d 0 lives) line))
+    same_tally _ _ _ _ _ _ _ _ (sym (packets_longer lives p some)) (sym (ap length (emission_longer a d lives p some)
+    ∙ length-append (emission_over a d lives) (brought_by a d lives p))) (grind (arith, log_longer, sum_by-append))
     (sym (ap mutes_in (log_longer a d lives p some) ∙ sum_by-append one_mute (log a d 0 lives) line))
 
 no_presets : (a d : ℕ) (lives : List (List (List ℕ))) → presets_in (restart_by a d lives) ≡ 0
@@ -72,44 +65,24 @@ no_mutes a d (x ∷ more) = refl
 
 pub tally_begun : (a d : ℕ) (lives : List (List (List ℕ))) → lives_tally a d lives ≡ lives_tally a d (lives ++ [] ∷ [])
 tally_begun a d lives =
-    same_tally _ _ _ _ _ _ _ _
-    (sym (omega (arith, packets_last lives [])))
-    (sym (ap length (emission_begun a d lives)))
-    (sym (omega (
-      arith,
-      ap presets_in (log_begun a d lives) ∙ sum_by-append one_preset (log a d 0 lives) (restart_by a d lives),
-      no_presets a d lives,
-    )))
-    (sym (omega (
-      arith,
-      ap mutes_in (log_begun a d lives) ∙ sum_by-append one_mute (log a d 0 lives) (restart_by a d lives),
-      no_mutes a d lives,
-    )))
+    grind (arith, same_tally, packets_last, emission_begun, log_begun, sum_by-append, restart_by, no_presets, no_mutes)
 
 -- ---- where some segments begin one run, or none
 
 pub sent_with : (a d begins : ℕ) (lives : List (List (List ℕ))) → begins ≤ 1
     → sent_over a d (with_runs begins lives) ≡ sent_over a d lives
-sent_with a d begins lives most =
-    one_or_none (λ n. sent_over a d (with_runs n lives) ≡ sent_over a d lives) begins most refl (sent_begun a d lives)
+sent_with a d begins lives most = grind (arith, one_or_none, sent_begun)
 
 restart_is : (a d runs n : ℕ) (lives : List (List (List ℕ))) → runs ≡ length lives
     → n ≡ length (emission_over a d lives) → restart_by a d lives ≡ restart_with 1 runs n
 restart_is a d runs n [] e f = sym (cond-false (nat_lt 0 runs) (restart n ∷ []) [] (le-ltb 0 runs (omega (arith, e))))
-restart_is a d runs n (x ∷ more) e f =
-    ap (λ m. restart m ∷ []) (sym f)
-    ∙ sym (cond-true (nat_lt 0 runs) (restart n ∷ []) [] (lt-ltb 0 runs (omega (arith, e))))
+restart_is a d runs n (x ∷ more) e f = grind (arith, cond-true, lt-ltb)
 
 pub logged_with : (a d begins runs n : ℕ) (lives : List (List (List ℕ))) → begins ≤ 1 → runs ≡ length lives
     → n ≡ length (emission_over a d lives)
     → logged_over a d (with_runs begins lives) ≡ logged_over a d lives ++ log_text (restart_with begins runs n)
-logged_with a d begins runs n lives most e f =
-    one_or_none (λ k. logged_over a d (with_runs k lives) ≡ logged_over a d lives ++ log_text (restart_with k runs n))
-    begins most (sym (append-nil (logged_over a d lives)))
-    (logged_begun a d lives ∙ ap (λ l. logged_over a d lives ++ log_text l) (restart_is a d runs n lives e f))
+logged_with a d begins runs n lives most e f = grind (arith, one_or_none, append-nil, logged_begun, restart_is)
 
 pub tally_with_begun : (a d begins : ℕ) (lives : List (List (List ℕ))) → begins ≤ 1
     → lives_tally a d lives ≡ lives_tally a d (with_runs begins lives)
-tally_with_begun a d begins lives most =
-    one_or_none (λ n. lives_tally a d lives ≡ lives_tally a d (with_runs n lives)) begins most refl
-    (tally_begun a d lives)
+tally_with_begun a d begins lives most = grind (arith, one_or_none, tally_begun)

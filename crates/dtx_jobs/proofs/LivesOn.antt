@@ -1,7 +1,6 @@
 -- Lives that are sent on, and how much they give at most.
 use Rattle.std.proofs.Common.{◌≡◌, ℕ, ℤ, ◌+◌, ◌*◌, ◌<◌, ◌≤◌, List, [], ◌∷◌, ◌++◌, length, take, get_or, refl, sym, ap}
-use Rattle.std.proofs.Common.{ap₂, ◌∙◌}
-use Rattle.std.proofs.Common.{append_assoc, arith, subst}
+use Rattle.std.proofs.Common.{ap₂, ◌∙◌, append_assoc, arith, subst}
 use Rattle.std.specs.List.{flat_map}
 use Rattle.std.proofs.lemmas.List.{length-append, take_more}
 use Rattle.std.proofs.lemmas.List.Sums.{sum_by-append}
@@ -24,7 +23,7 @@ use Rattle.dtx_repeat.proofs.RestoredLemmas.{packets_in-append}
 use Rattle.dtx_files.proofs.GivenFewLemmas.{given_few}
 use Rattle.dtx_files.specs.LogText.{log_text}
 use Rattle.dtx_recipes.specs.Life.{one_preset, one_mute, presets_in, mutes_in, HasRoom}
-use Rattle.dtx_recipes.specs.Lives.{sent_over, logged_over, lives_tally}
+use Rattle.dtx_recipes.specs.Lives.{lives_tally}
 use Rattle.dtx_recipes.proofs.LivesLemmas.{brought_by}
 use Rattle.dtx_jobs.proofs.LivesLemmas.{sent_with, logged_with, tally_with_begun}
 use Rattle.dtx_jobs.specs.Repetition.{IsRepeating, IsSentOn}
@@ -43,17 +42,15 @@ packets_of_all lives = length (flat_map (λ (l : List (List ℕ)). l) lives)
 emission_over_few : (a d : ℕ) (lives : List (List (List ℕ)))
     → length (emission_over a d lives) ≤ 5 * packets_of_all lives
 emission_over_few a d [] = omega arith
-emission_over_few a d (life ∷ more) =
-    omega (
-      arith,
-      length-append (emission a d life) (emission_over a d more),
-      length-append life (flat_map (λ (l : List (List ℕ)). l) more),
-      emission_few a d life,
-      emission_over_few a d more,
-    )
+emission_over_few a d (life ∷ more) = omega (
+  arith,
+  length-append (emission a d life) (emission_over a d more),
+  length-append life (flat_map (λ (l : List (List ℕ)). l) more),
+  emission_few a d life,
+  emission_over_few a d more,
+)
 
-lines_few : (a d n : ℕ) (l : List (List ℕ))
-    → presets_in (life_lines a d n l) + mutes_in (life_lines a d n l) ≤ length l
+lines_few : (a d n : ℕ) (l : List (List ℕ)) → presets_in (life_lines a d n l) + mutes_in (life_lines a d n l) ≤ length l
 unfolding life_lines
 lines_few a d n l = counted_in_all _ 0 (length l) (λ i. presets_few _ _ (last_answer a d (take (i + 1) l)))
 
@@ -61,8 +58,7 @@ log_few : (a d n : ℕ) (lives : List (List (List ℕ)))
     → presets_in (log a d n lives) + mutes_in (log a d n lives) ≤ packets_of_all lives
 unfolding log
 log_few a d n [] = omega arith
-log_few a d n (life ∷ []) =
-    omega (arith, lines_few a d n life, length-append life (flat_map (λ (l : List (List ℕ)). l) []))
+log_few a d n (life ∷ []) = grind (arith, lines_few, length-append)
 log_few a d n (life ∷ (next ∷ more)) =
     let m : ℕ = n + length (emission a d life) in
     let rest : List Line = restart m ∷ log a d m (next ∷ more) in
@@ -78,39 +74,14 @@ log_few a d n (life ∷ (next ∷ more)) =
 -- so there is room for what the next packet brings
 pub lives_room : (a d : ℕ) (lives : List (List (List ℕ))) (p : List ℕ) (tally : LifeTally)
     → tally ≡ lives_tally a d lives → tally.packets < 4 * 626000001 → HasRoom tally (length (brought_by a d lives p))
-lives_room a d lives p tally is most =
-    let packets = ap (λ (t : LifeTally). t.packets) is in
-    let segments = ap (λ (t : LifeTally). t.segments) is in
-    let presets = ap (λ (t : LifeTally). t.presets) is in
-    let mutes = ap (λ (t : LifeTally). t.mutes) is in
-    record {
-      packets = omega (arith, most);
-      segments = omega (
-        arith,
-        most,
-        packets,
-        segments,
-        emission_over_few a d lives,
-        given_few a d (last_life lives ++ p ∷ []),
-      );
-      presets = omega (arith, most, packets, presets, log_few a d 0 lives);
-      mutes = omega (arith, most, packets, mutes, log_few a d 0 lives);
-    }
+lives_room a d lives p tally is most = grind (arith, emission_over_few, given_few, log_few)
 
 -- ---- one state behind another
 
 pub sent_on : (old mid new : Repetition) (s t : List (List ℤ)) (x y z : List (List (List ℕ)))
     → mid.address ≡ old.address → mid.delay ≡ old.delay → IsSentOn old mid s x y → IsSentOn mid new t y z
     → IsSentOn old new t x z
-sent_on old mid new s t x y z a d f g = record {
-  sending = g.sending;
-  sent = λ bytes e.
-      sym (ap₂ (λ a d. sent_over a d z) a d)
-      ∙ g.sent bytes (ap₂ (λ a d. sent_over a d y) a d ∙ f.sent bytes e);
-  logged = λ bytes e.
-      sym (ap₂ (λ a d. logged_over a d z) a d)
-      ∙ g.logged bytes (ap₂ (λ a d. logged_over a d y) a d ∙ f.logged bytes e);
-}
+sent_on old mid new s t x y z a d f g = grind arith
 
 -- there is a life, where there are packets for the last one
 pub some_lives : (lives : List (List (List ℕ))) (packets : List Received) (i : ℕ) → i < length packets
@@ -128,9 +99,7 @@ packet_more packets i d inside =
 
 last_with : (begins : ℕ) (lives : List (List (List ℕ))) → begins ≤ 1
     → given_with begins (last_life lives) ≡ last_life (with_runs begins lives)
-last_with begins lives most =
-    one_or_none (λ n. given_with n (last_life lives) ≡ last_life (with_runs n lives)) begins most refl
-    (sym (last_begun lives))
+last_with begins lives most = grind (arith, one_or_none, last_begun)
 
 no_part : group_part [] ≡ 0
 unfolding group_part under anchor_of syncs anchor anchor_to
@@ -138,9 +107,7 @@ no_part = refl
 
 pub part_with : (begins : ℕ) (lives : List (List (List ℕ))) → begins ≤ 1
     → group_part (last_life (with_runs begins lives)) ≤ group_part (last_life lives)
-part_with begins lives most =
-    one_or_none (λ n. group_part (last_life (with_runs n lives)) ≤ group_part (last_life lives)) begins most
-    (omega arith) (omega (arith, ap group_part (last_begun lives), no_part))
+part_with begins lives most = grind (arith, one_or_none, last_begun, no_part)
 
 -- what the segments leave, with which so many runs begin
 pub record IsReceivedOn (old mid : Repetition) (s more : List (List ℤ)) (begins : ℕ) : Type 0 where
@@ -150,8 +117,7 @@ pub record IsReceivedOn (old mid : Repetition) (s more : List (List ℤ)) (begin
 pub received_on : (old mid : Repetition) (repeater : Repeater) (s more : List (List ℤ)) (begins : ℕ)
     (items : List Received) → IsRepeating old s → begins ≤ 1 → (0 < begins → length more ≡ 1)
     → StandsFor old.address old.delay repeater (s ++ more) (given_with begins (last_life (lives_so_far s)))
-    → restored_so_far (s ++ more) ≡ restored_so_far s ++ items
-    → length (runs (s ++ more)) ≡ length (runs s) + begins
+    → restored_so_far (s ++ more) ≡ restored_so_far s ++ items → length (runs (s ++ more)) ≡ length (runs s) + begins
     → mid.address ≡ old.address → mid.delay ≡ old.delay → mid.repeater.value ≡ repeater
     → mid.batch.packets.items ≡ items → mid.sending.tally ≡ old.sending.tally
     → mid.sending.symbols ≡ old.sending.symbols
@@ -168,19 +134,14 @@ received_on old mid repeater s more begins items is most alone stands brought gr
     record {
       on = record {
         sending = record {
-          repeater =
-              subst (λ n. StandsFor n mid.delay mid.repeater.value all (last_life begun)) (sym ea)
-              (subst (λ n. StandsFor a n mid.repeater.value all (last_life begun)) (sym ed)
-              (subst (λ r. StandsFor a d r all (last_life begun)) (sym er)
-              (subst (StandsFor a d repeater all) (last_with begins ls most) stands)));
+          repeater = grind (arith, last_with);
           tally = et ∙ is.sending.tally ∙ tally_with_begun a d begins ls most
               ∙ sym (ap₂ (λ a d. lives_tally a d begun) ea ed);
         };
         sent = λ bytes e. sent_with a d begins ls most ∙ e ∙ ap (λ z. bytes ++ z) (sym es);
         logged = λ bytes e.
             let line : List ℕ = log_text (restart_with begins old.runs old.sending.tally.segments) in
-            logged_with a d begins old.runs old.sending.tally.segments ls most many count
-            ∙ ap (λ z. z ++ line) e
+            logged_with a d begins old.runs old.sending.tally.segments ls most many count ∙ ap (λ z. z ++ line) e
             ∙ append_assoc bytes old.sending.lines line ∙ ap (λ z. bytes ++ z) (sym el);
       };
       given = subst (AreGiven begun (lives_so_far all)) (sym ei)
@@ -195,8 +156,4 @@ no_tally a d = refl
 -- a state that has let go what the last piece brought
 pub cleared : (old : Repetition) (sending : Sending SENT_BYTES LOGGED_BYTES) (s : List (List ℤ))
     → sending.tally ≡ old.sending.tally → IsRepeating old s → IsRepeating (record old { sending = sending }) s
-cleared old sending s e is = record {
-  sending = record { repeater = is.sending.repeater; tally = e ∙ is.sending.tally };
-  count = is.count;
-  begun = is.begun;
-}
+cleared old sending s e is = grind arith

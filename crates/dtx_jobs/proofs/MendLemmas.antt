@@ -1,17 +1,14 @@
 -- Lemmas of what `mend` makes of symbols: where none is missing the same as where each word is corrected.
-use Rattle.std.proofs.Common.{◌≡◌, ◌≢◌, ℕ, ℤ, pos, negsuc, zero, suc, ◌+◌, ◌-◌, ◌*◌, Bool, true, false, cond, List, []}
-use Rattle.std.proofs.Common.{◌∷◌, ◌++◌, take, drop, refl, ap, subst, arith}
-use Rattle.std.specs.Prelude.{if◌then◌else◌, nat_lt, Option, Some, None}
+use Rattle.std.proofs.Common.{◌≡◌, ◌≢◌, ℕ, ℤ, zero, suc, ◌+◌, ◌-◌, ◌*◌, false, List, [], ◌∷◌, ◌++◌, take, drop, refl}
+use Rattle.std.proofs.Common.{subst, arith}
+use Rattle.std.specs.Prelude.{Option, Some, None}
 use Rattle.std.specs.FinMap.{get}
 use Rattle.std.specs.List.{All}
-use Rattle.std.specs.Str.{bytes_eq}
 use Rattle.std.proofs.lemmas.Bool.{ne_eqb}
 use Rattle.std.proofs.lemmas.List.Elements.{All-drop, All-head, All-tail, All-take}
 use Rattle.dtx_erase.specs.Marks.{AllThere, AreThere, is_missing}
 use Rattle.dtx_erase.proofs.UnmarkedLemmas.{all_same, bytes_same, so_far_same}
 use Rattle.dtx_outside.specs.Shelf.{Files}
-use Rattle.dtx_meaning.specs.Meaning.{Meaning, refused}
-use Rattle.dtx_meaning.specs.declared.status.Status.TheVariants.{Same}
 use Rattle.dtx_engine.specs.Recipe.{Course, course_from, meaning, meaning_at, meaning_of_file}
 use Rattle.dtx_engine.specs.declared.piece.Ending.{Ending}
 use Rattle.dtx_engine.specs.declared.piece.Ending.TheVariants.{Whole, Refused}
@@ -28,11 +25,7 @@ use Rattle.dtx_jobs.proofs.SymbolFileLemmas.{file_segments-whole}
 
 -- a byte other than 0x80 is a symbol that is there
 byte_there : (byte : ℕ) → byte ≢ 128 → is_missing (symbol_of_byte byte) ≡ false
-byte_there byte other = by_sign (nat_lt byte 128)
-  where
-    by_sign : (small : Bool) → is_missing (cond small (pos byte) (negsuc (256 - suc byte))) ≡ false
-    by_sign true = refl
-    by_sign false = ne_eqb (256 - suc byte) 127 (λ e. other (omega (arith, e)))
+byte_there byte other = grind (arith, ne_eqb)
 
 symbols_there : (bytes : List ℕ) → All (λ byte. byte ≢ 128) bytes → AreThere (symbols bytes)
 symbols_there [] h = tt
@@ -45,15 +38,13 @@ each_there : (file : List ℕ) (first count : ℕ) → All (λ byte. byte ≢ 12
     → AllThere (segments_from file first count)
 each_there file first zero h = tt
 each_there file first (suc count) h = (
-  symbols_there (take 832 (drop (832 * first) file))
-      (All-take (λ byte. byte ≢ 128) 832 (drop (832 * first) file)
+  symbols_there (take 832 (drop (832 * first) file)) (All-take (λ byte. byte ≢ 128) 832 (drop (832 * first) file)
       (All-drop (λ byte. byte ≢ 128) (832 * first) file h)),
   each_there file (first + 1) count h,
 )
 
 pub file_there : (file : List ℕ) → NoneMissing file → AllThere (file_segments file)
-file_there file h =
-    subst (λ (list : List (List ℤ)). AllThere list) (file_segments-whole file)
+file_there file h = subst (λ (list : List (List ℤ)). AllThere list) (file_segments-whole file)
     (each_there (take (832 * whole_segments file) file) 0 (whole_segments (take (832 * whole_segments file) file)) h)
 
 front_there : (front rest : List (List ℤ)) → AllThere (front ++ rest) → AllThere front
@@ -63,8 +54,7 @@ front_there (x ∷ front) rest h = (h.0, front_there front rest h.1)
 -- the same is made of bytes, and answered
 same_ending : (names : List (List ℕ)) (given : List ℕ) (ending : Ending) → AllThere (file_segments given)
     → meaning_at mending_symbols names given ending ≡ meaning_at receiving names given ending
-same_ending names given (Whole loose) h =
-    rw (so_far_same (file_segments given) h, all_same (file_segments given) h, bytes_same (file_segments given) h) refl
+same_ending names given (Whole loose) h = grind (arith, so_far_same, all_same, bytes_same)
 same_ending names given (Refused status) h = rw (so_far_same (file_segments given) h) refl
 
 pub same_file : (names : List (List ℕ)) (file : List ℕ) → NoneMissing file
@@ -75,8 +65,7 @@ same_file names file h =
     let cut = segments_cut file n in
     cc (
       all_allowed with_mendings file,
-      same_ending names (take n file) c.ending (front_there (file_segments (take n file)) cut.0
-          (subst (λ (list : List (List ℤ)). AllThere list) cut.1 (file_there file h))),
+      same_ending names (take n file) c.ending (grind (arith, front_there, file_there)),
       all_allowed with_corrections file,
     )
 
@@ -90,6 +79,4 @@ same_found input output held (Some file) h = same_file (output ∷ []) file (h f
 pub same_words : (verb input output : List ℕ) (held : Files)
     → ((file : List ℕ) → get held input ≡ Some file → NoneMissing file)
     → mend_job.means (verb ∷ input ∷ output ∷ []) held ≡ receive_job.means (verb ∷ input ∷ output ∷ []) held
-same_words verb input output held h =
-    ap (λ (means : Meaning). if bytes_eq input output then refused Same else means)
-    (same_found input output held (get held input) h)
+same_words verb input output held h = grind (arith, same_found)

@@ -17,7 +17,6 @@ all_received = all_given with_corrections corrections_given
 
 -- and one that is damaged as it is read
 pub all_damaged_received : (names : List (List ℕ)) (damage : List Damage) (file : List ℕ)
-    → whole_segments file ≤ 626000000
-    → meaning_of_file segments (damaged_making damage receiving) names file
+    → whole_segments file ≤ 626000000 → meaning_of_file segments (damaged_making damage receiving) names file
     ≡ received_of names (hurt damage file) (length file % 832)
 all_damaged_received = all_damaged_given with_corrections corrections_given

@@ -1,5 +1,5 @@
 -- Lemmas of what is made of symbols that are sent again: it grows with them.
-use Rattle.std.proofs.Common.{◌≡◌, ℕ, ℤ, List, ◌++◌, length, take, drop, refl, sym, ap, ap₂, ◌∙◌, subst}
+use Rattle.std.proofs.Common.{◌≡◌, ℕ, ℤ, List, ◌++◌, take, drop, sym, ap, ap₂, ◌∙◌, subst, arith}
 use Rattle.std.proofs.lemmas.List.{drop_at, take-append-drop}
 use Rattle.dtx_engine.specs.Made.{Made, joined, AreFrontsOf}
 use Rattle.dtx_repeat.specs.Lives.{lives, lives_so_far}
@@ -21,14 +21,7 @@ pub repeats_last : (a d : ℕ) (file symbols lines : List ℕ)
     → sent_over a d (lives (file_segments file)) ≡ sent_over a d (lives_so_far (file_segments file)) ++ symbols
     → logged_over a d (lives (file_segments file)) ≡ logged_over a d (lives_so_far (file_segments file)) ++ lines
     → record { first = symbols; second = lines } ≡ (repeating a d).rest file
-repeats_last a d file symbols lines sent logged =
-    let s : List (List ℤ) = file_segments file in
-    let made : List ℕ → List ℕ → Made = λ x y. record { first = x; second = y } in
-    sym (ap₂ made
-    (ap (drop (length (sent_over a d (lives_so_far s)))) sent
-    ∙ drop_at (sent_over a d (lives_so_far s)) symbols (length (sent_over a d (lives_so_far s))) refl)
-    (ap (drop (length (logged_over a d (lives_so_far s)))) logged
-    ∙ drop_at (logged_over a d (lives_so_far s)) lines (length (logged_over a d (lives_so_far s))) refl))
+repeats_last a d file symbols lines sent logged = grind (arith, drop_at)
 
 -- what is made of all segments is what their runs give
 pub repeats_all : (a d : ℕ) (file : List ℕ)
@@ -37,14 +30,11 @@ repeats_all a d file =
     let s : List (List ℤ) = file_segments file in
     let end = fronts_end a d s in
     let made : List ℕ → List ℕ → Made = λ x y. record { first = x; second = y } in
-    ap (joined ((repeating a d).made file)) (sym (repeats_last a d file end.0.0 end.1.0 (sym end.0.1) (sym end.1.1)))
-    ∙ ap₂ made end.0.1 end.1.1
+    ap (joined ((repeating a d).made file)) (sym (grind (arith, repeats_last))) ∙ ap₂ made end.0.1 end.1.1
 
 -- what the first segments give while they come is in each output a front part of what all give
 pub repeats_front : (a d : ℕ) (list : List (List ℤ)) (n : ℕ)
     → AreFrontsOf (sent_in a d (lives_so_far (take n list))) (sent_in a d (lives list))
-repeats_front a d list n =
-    fronts_on a d (lives_so_far (take n list)) (lives_so_far list) (lives list)
+repeats_front a d list n = fronts_on a d (lives_so_far (take n list)) (lives_so_far list) (lives list)
     (subst (λ z. Fronts a d (lives_so_far (take n list)) (lives_so_far z)) (take-append-drop n list)
-    (fronts_segments a d (take n list) (drop n list)))
-    (fronts_end a d list)
+    (fronts_segments a d (take n list) (drop n list))) (fronts_end a d list)

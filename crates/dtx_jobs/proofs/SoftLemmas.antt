@@ -1,6 +1,6 @@
 -- Lemmas of what `soft` makes, one segment after another.
 use Rattle.std.proofs.Common.{◌≡◌, ℕ, ℤ, zero, suc, ◌+◌, ◌-◌, ◌<◌, ◌≤◌, Option, Some, None, List, [], ◌∷◌, ◌++◌, length}
-use Rattle.std.proofs.Common.{map, sum, take, drop, unwrap_or, refl, sym, ap, ap₂, ◌∙◌, arith}
+use Rattle.std.proofs.Common.{map, sum, take, drop, refl, sym, ap, ap₂, ◌∙◌, arith}
 use Rattle.std.specs.List.{range_with_len}
 use Rattle.std.proofs.lemmas.List.{length-drop, map-append}
 use Rattle.std.proofs.lemmas.List.Sums.{sum_by-append, sum_by-cons}
@@ -9,7 +9,7 @@ use Rattle.dtx_soft.specs.Coders.{coder_symbols}
 use Rattle.dtx_soft.specs.Paths.{cost, distance}
 use Rattle.dtx_soft.specs.Softened.{least_cost, softened_cost}
 use Rattle.dtx_recipes.specs.Soft.{count_from, field_sum, flushed, groups_in, next_place, pending, place_at, ahead}
-use Rattle.dtx_recipes.specs.Soft.{soft_at, soft_rest, soft_so_far, soft_symbols}
+use Rattle.dtx_recipes.specs.Soft.{soft_rest, soft_so_far, soft_symbols}
 use Rattle.dtx_recipes.proofs.SoftPlacesLemmas.{IsFollowed, before_push, at_push, follows, place_small}
 use Rattle.dtx_recipes.proofs.SoftLemmas.{part_stays, IsField, groups_are, length-groups, field_soft, followed_field}
 use Rattle.dtx_recipes.proofs.SoftLemmas.{ahead_copied, ahead_kept, ahead_full, full_field, full_rows}
@@ -17,11 +17,7 @@ use Rattle.dtx_recipes.proofs.SoftLemmas.{ahead_copied, ahead_kept, ahead_full, 
 -- ---- the pieces
 
 pending_few : (s : List (List ℤ)) → pending s ≤ 312
-pending_few s = by_place (next_place s) refl
-  where
-    by_place : (o : Option ℕ) → next_place s ≡ o → unwrap_or o 0 ≤ 312
-    by_place None e = omega arith
-    by_place (Some p) e = (let l = place_small s p e in omega (arith, l))
+pending_few s = grind (arith, place_small)
 
 pub rest_is : (s : List (List ℤ)) → soft_rest s ≡ flushed (drop (ahead s) s)
 unfolding soft_rest
@@ -29,14 +25,7 @@ rest_is s = field_soft s (ahead s) (pending s) (followed_field s (pending s) (fo
 
 pub all_is : (s : List (List ℤ)) → soft_so_far s ++ soft_rest s ≡ soft_symbols s
 unfolding soft_so_far soft_rest soft_symbols
-all_is s =
-    let f = follows s in
-    let parts : ahead s + pending s ≡ length s = omega (arith, f.within) in
-    let zero_on : 0 + ahead s ≡ ahead s = omega arith in
-    cc (
-      range_with_len-parts 0 (ahead s) (pending s),
-      map-append (soft_at s) (range_with_len 0 (ahead s)) (range_with_len (0 + ahead s) (pending s)),
-    )
+all_is s = grind (arith, follows, range_with_len-parts, map-append)
 
 -- ---- numbers
 
@@ -45,9 +34,7 @@ none_counts f a zero h = refl
 none_counts f a (suc n) h =
     let first = h a (omega arith) (omega arith) in
     let rest = none_counts f (a + 1) n (λ i l m. h i (omega arith) (omega arith)) in
-    let both : sum (f a ∷ map f (range_with_len (a + 1) n)) ≡ f a + sum (map f (range_with_len (a + 1) n)) =
-    sum_by-cons (λ x. x) (f a) (map f (range_with_len (a + 1) n)) in
-    both ∙ ap₂ (λ x y. x + y) first rest
+    (sum_by-cons (λ x. x) (f a) (map f (range_with_len (a + 1) n))) ∙ ap₂ (λ x y. x + y) first rest
 
 module _ (count : List (List ℤ) → ℕ) where
   abbrev count_at : List (List ℤ) → ℕ → ℕ

@@ -1,7 +1,6 @@
 -- Lemmas of what is kept while symbols are softened: one segment more.
-use Rattle.std.proofs.Common.{◌≡◌, ℕ, ℤ, ◌+◌, ◌-◌, ◌<◌, ◌≤◌, cond, Bool, true, false, Option, Some, None}
-use Rattle.std.proofs.Common.{List, [], ◌∷◌, ◌++◌, length, map, take, drop, slice_set, unwrap_or, refl, sym}
-use Rattle.std.proofs.Common.{ap, ap₂, ◌∙◌, arith}
+use Rattle.std.proofs.Common.{◌≡◌, ℕ, ℤ, ◌+◌, ◌-◌, ◌<◌, ◌≤◌, cond, Bool, true, false, Option, Some, None, List, [], ◌∷◌}
+use Rattle.std.proofs.Common.{◌++◌, length, map, take, drop, slice_set, unwrap_or, refl, sym, ap, ap₂, ◌∙◌, arith}
 use Rattle.std.specs.Bool.{then_some}
 use Rattle.std.proofs.lemmas.List.{append_assoc, append-nil, drop_all, drop-append-le, length_push, take_more_set}
 use Rattle.dtx_files.proofs.AppendedLemmas.{segment_bytes-append}
@@ -133,11 +132,4 @@ module _ (old : Softening) (s : List (List ℤ)) (rows : ℕ) (h : IsSoftening o
 -- nothing was given
 pub softening_none : (new : Softening) → new.place ≡ None → new.segments ≡ 0 → new.fields ≡ 0 → new.cost ≡ 0
     → IsSoftening new []
-softening_none new place count fields cost =
-    record {
-      place = place ∙ sym place_first;
-      field = cc (pending_is [] None place_first, drop_all {X = List ℤ} (ahead []) [] (omega arith));
-      count = count;
-      fields = fields ∙ sym (field_sum_none has_group);
-      cost = cost ∙ sym (field_sum_none (softened_cost 1));
-    }
+softening_none new place count fields cost = grind (arith, place_first, pending_is, drop_all, field_sum_none)

@@ -1,7 +1,7 @@
 -- What `receive` writes of the first bytes of a symbol file, and of two files one behind the other.
-use Rattle.std.proofs.Common.{◌≡◌, ℕ, ◌+◌, ◌*◌, ◌%◌, ◌<◌, ◌≤◌, All, List, [], ◌∷◌, ◌++◌, length, take, drop}
-use Rattle.std.proofs.Common.{sym, ap, ◌∙◌, subst, append_assoc, arith}
-use Rattle.std.specs.Prelude.{ℤ, Option}
+use Rattle.std.proofs.Common.{◌≡◌, ℕ, ◌+◌, ◌*◌, ◌%◌, ◌<◌, ◌≤◌, All, List, ◌++◌, length, take, drop, sym, ap, ◌∙◌, subst}
+use Rattle.std.proofs.Common.{append_assoc, arith}
+use Rattle.std.specs.Prelude.{ℤ}
 use Rattle.std.specs.List.{flat_map}
 use Rattle.std.proofs.lemmas.Bool.{cond-false}
 use Rattle.std.proofs.lemmas.Grind.{flat_map-append}
@@ -9,10 +9,7 @@ use Rattle.std.proofs.lemmas.List.{length-append, length-take-le, take-append-dr
 use Rattle.dtx_receiver.specs.Intervals.{AreRuns}
 use Rattle.dtx_receiver.specs.Packets.{received}
 use Rattle.dtx_receiver.proofs.SplicingLemmas.{more_received, spliced_received}
-use Rattle.dtx_meaning.specs.Meaning.{Meaning}
-use Rattle.dtx_engine.specs.Recipe.{meaning}
-use Rattle.dtx_forms.specs.Shapes.{segments}
-use Rattle.dtx_recipes.specs.Receive.{IsWritten, received_bytes, receiving}
+use Rattle.dtx_recipes.specs.Receive.{IsWritten, received_bytes}
 use Rattle.dtx_jobs.proofs.ReceivedLemmas.{all_received}
 use Rattle.dtx_recipes.specs.SymbolFile.{file_segments, whole_segments}
 use Rattle.dtx_jobs.proofs.SymbolFileLemmas.{length-segments_of, file_segments-whole}
@@ -20,10 +17,7 @@ use Rattle.dtx_recipes.proofs.SymbolFileLemmas.{file_segments-append}
 
 -- of a symbol file all packets are written
 all_written : (file : List ℕ) → whole_segments file ≤ 626000000 → IsWritten file (received_bytes file)
-all_written file few verb input output held apart is =
-    ap (λ (m : Meaning). m.outputs) (cond-false _ _ _ apart)
-    ∙ ap (λ (found : Option (List ℕ)). (meaning segments receiving 0 (output ∷ []) found).outputs) is
-    ∙ ap (λ (m : Meaning). m.outputs) (all_received (output ∷ []) file few)
+all_written file few verb input output held apart is = simp (cond-false, is, all_received)
 
 bytes-append : (a b : List (List ℕ)) → flat_map (λ (p : List ℕ). p) (a ++ b)
     ≡ flat_map (λ (p : List ℕ). p) a ++ flat_map (λ (p : List ℕ). p) b
@@ -53,8 +47,7 @@ cut_bytes file n =
     )
 
 fewer : (file : List ℕ) (n : ℕ) → whole_segments file ≤ 626000000 → whole_segments (take n file) ≤ 626000000
-fewer file n few =
-    omega (arith, few, sym (length-append (take n file) (drop n file)) ∙ ap length (take-append-drop n file))
+fewer file n few = omega (arith, sym (length-append (take n file) (drop n file)) ∙ ap length (take-append-drop n file))
 
 pub cut_written : (file : List ℕ) (n : ℕ) → whole_segments file ≤ 626000000
     → (first rest : List ℕ) × IsWritten file (first ++ rest) × IsWritten (take n file) first
@@ -67,13 +60,9 @@ cut_written file n few =
     )
 
 pub spliced_bytes : (a b : List ℕ) (places : List (ℕ × ℕ)) → length a % 832 ≡ 0 → AreRuns (file_segments a) 0 places
-    → All (λ p. p.0 + p.1 < whole_segments a) places
-    → received_bytes (a ++ b) ≡ received_bytes a ++ received_bytes b
+    → All (λ p. p.0 + p.1 < whole_segments a) places → received_bytes (a ++ b) ≡ received_bytes a ++ received_bytes b
 spliced_bytes a b places whole are ended =
-    ap (λ s. flat_map (λ (p : List ℕ). p) (received s)) (file_segments-append a b whole)
-    ∙ ap (flat_map (λ (p : List ℕ). p)) (spliced_received (file_segments a) (file_segments b) places are
-    (subst (λ (n : ℕ). All (λ p. p.0 + p.1 < n) places) (sym (length-segments_of a)) ended))
-    ∙ bytes-append (received (file_segments a)) (received (file_segments b))
+    grind (arith, file_segments-append, spliced_received, length-segments_of, bytes-append)
 
 pub spliced_written : (a b : List ℕ) (places : List (ℕ × ℕ)) → whole_segments (a ++ b) ≤ 626000000
     → length a % 832 ≡ 0 → AreRuns (file_segments a) 0 places → All (λ p. p.0 + p.1 < whole_segments a) places

@@ -1,16 +1,14 @@
 -- Every symbol of a data segment and of a field sync is the symbol of its byte in a symbol file, so the segments of a
 -- stream are read back from its file.
-use Rattle.std.proofs.Common.{◌≡◌, ℕ, zero, suc, ℤ, pos, negsuc, ◌+◌, ◌-◌, ◌*◌, ◌/◌, ◌%◌, ◌<◌, ◌==◌, Bool, true, false}
-use Rattle.std.proofs.Common.{cond, List, [], ◌∷◌, ◌++◌, length, map, take, drop, replicate, refl, ◌∙◌, arith}
+use Rattle.std.proofs.Common.{◌≡◌, ℕ, zero, suc, ℤ, negsuc, ◌+◌, ◌-◌, ◌*◌, ◌/◌, ◌%◌, ◌<◌, ◌==◌, Bool, true, false, cond}
+use Rattle.std.proofs.Common.{List, [], ◌∷◌, length, map, take, drop, replicate, refl, ◌∙◌, arith}
 use Rattle.std.specs.Prelude.{nat_le}
 use Rattle.std.specs.List.{range_with_len, AllByRecursion}
 use Rattle.std.proofs.lemmas.List.{length-map}
 use Rattle.dtx_trellis.specs.Trellis.{symbol_of}
 use Rattle.dtx_trellis.specs.Groups.{level_at, levels_of}
 use Rattle.dtx_trellis.specs.Pairs.{groups}
-use Rattle.dtx_frame.specs.Segments.{bit_symbol, segment_sync, data_segment, inverted, mode_bits}
-use Rattle.dtx_frame.specs.Segments.{reserved_bits, sync_symbols, field_sync}
-use Rattle.dtx_frame.specs.Sequences.{pn511, pn63}
+use Rattle.dtx_frame.specs.Segments.{bit_symbol, segment_sync, data_segment, sync_symbols, field_sync}
 use Rattle.dtx_frame.proofs.RuleLemmas.{level_at_small}
 use Rattle.dtx_coder.specs.Coded.{whole_groups}
 use Rattle.dtx_coder.proofs.CountsLemmas.{a53_segment, length-a53_symbols}
@@ -26,11 +24,7 @@ use Rattle.dtx_jobs.proofs.SymbolsBackLemmas.{each_of, each_range, each_take, le
 
 bit_back : (b : ℕ) → IsBack (bit_symbol b)
 unfolding bit_symbol
-bit_back b = by_test (b == 1)
-  where
-    by_test : (t : Bool) → IsBack (cond t (pos 5) (negsuc 4))
-    by_test true = refl
-    by_test false = refl
+bit_back b = grind arith
 
 bits_back : (bits : List ℕ) → AreBack (map bit_symbol bits)
 bits_back [] = tt
@@ -44,29 +38,20 @@ front_back = bits_back (1 ∷ 0 ∷ 0 ∷ 1 ∷ [])
 
 pub levels_small : (s : ℕ) (q bytes : List ℕ) → AllByRecursion (λ z. z < 8) (levels_of s q bytes)
 unfolding levels_of
-levels_small s q bytes =
-    each_range (λ z. z < 8) (level_at s q bytes) 0 (3312 * groups bytes)
+levels_small s q bytes = each_range (λ z. z < 8) (level_at s q bytes) 0 (3312 * groups bytes)
     (λ d l m. level_at_small s d q bytes (omega (arith, m)))
 
 pub segment_back : (zs : List ℕ) (n : ℕ) → AllByRecursion (λ z. z < 8) zs → AreBack (segment zs n)
 unfolding segment data_segment
 segment_back zs n small =
+    let piece : List ℕ = take (828 * n + 828 - 828 * n) (drop (828 * n) zs) in
     each_append IsBack segment_sync (map symbol_of piece) front_back
     (each_map (λ z. z < 8) IsBack symbol_of piece level_back
-    (each_take (λ z. z < 8) (828 * n + 828 - 828 * n) (drop (828 * n) zs)
-    (each_drop (λ z. z < 8) (828 * n) zs small)))
-  where
-    piece : List ℕ
-    piece = take (828 * n + 828 - 828 * n) (drop (828 * n) zs)
+    (each_take (λ z. z < 8) (828 * n + 828 - 828 * n) (drop (828 * n) zs) (each_drop (λ z. z < 8) (828 * n) zs small)))
 
 pub sync_back : (second : Bool) (last : List ℤ) → AreBack last → AreBack (field_sync second last)
 unfolding field_sync sync_symbols
-sync_back second last back =
-    each_append IsBack (sync_symbols second) last
-    (each_append IsBack segment_sync (map bit_symbol bits) front_back (bits_back bits)) back
-  where
-    bits : List ℕ
-    bits = pn511 ++ pn63 ++ cond second (inverted pn63) pn63 ++ pn63 ++ mode_bits ++ reserved_bits
+sync_back second last back = grind (arith, each_append, front_back, bits_back)
 
 -- ---- a stream
 
@@ -101,8 +86,7 @@ group_back : (packets : List (List ℕ)) (u : ℕ) → EachBack (group_segments 
 unfolding group_segments four_segments
 group_back packets u =
     each_append AreBack (sync_before packets u) (map (segment (levels packets)) (range_with_len (4 * u) 4))
-    (before_back packets u)
-    (each_range AreBack (segment (levels packets)) (4 * u) 4 (λ n l m. data_back packets n))
+    (before_back packets u) (each_range AreBack (segment (levels packets)) (4 * u) 4 (λ n l m. data_back packets n))
 
 stream_back : (packets : List (List ℕ)) → EachBack (a53 packets)
 unfolding a53

@@ -1,6 +1,6 @@
 -- Lemmas of the segments of a symbol file that is read piece by piece.
-use Rattle.std.proofs.Common.{◌≡◌, ℕ, ◌+◌, ◌-◌, ◌*◌, ◌/◌, ◌%◌, ◌<◌, ◌≤◌, List, [], ◌++◌, length, take, drop}
-use Rattle.std.proofs.Common.{get_or, refl, sym, ap, ◌∙◌, arith}
+use Rattle.std.proofs.Common.{◌≡◌, ℕ, ◌+◌, ◌-◌, ◌*◌, ◌/◌, ◌%◌, ◌<◌, ◌≤◌, List, [], ◌++◌, length, take, drop, get_or}
+use Rattle.std.proofs.Common.{sym, ap, ◌∙◌, arith}
 use Rattle.std.specs.Prelude.{ℤ}
 use Rattle.std.specs.Simd.{first_chunks}
 use Rattle.std.proofs.lemmas.List.{append_assoc, ext_get_or, get_or-drop, get_or-map, get_or-take, length-drop}
@@ -17,11 +17,7 @@ length-segments_of file = length-map-range_with_len (segment_at file) 0 (whole_s
 
 -- where all whole segments were read, the bytes behind them are in none
 pub file_segments-whole : (file : List ℕ) → file_segments (take (832 * whole_segments file) file) ≡ file_segments file
-file_segments-whole file =
-    let all : length (take (832 * whole_segments file) file) ≡ 832 * whole_segments file =
-    length-take-le (832 * whole_segments file) file (omega arith) in
-    let many : whole_segments (take (832 * whole_segments file) file) ≡ whole_segments file = omega (arith, all) in
-    ap (segments_from (take (832 * whole_segments file) file) 0) many ∙ segments_from-piece file 0 (whole_segments file)
+file_segments-whole file = grind (arith, length-take-le, segments_from-piece)
 
 -- the first segments of a file
 pub first_segments : (file : List ℕ) (n : ℕ) → n ≤ whole_segments file
@@ -31,17 +27,13 @@ first_segments file n within =
     let many : whole_segments (take (832 * n) file) ≡ n = omega (arith, long) in
     let all : whole_segments file ≡ n + (whole_segments file - n) = omega (arith, within) in
     ap (segments_from (take (832 * n) file) 0) many ∙ segments_from-piece file 0 n
-    ∙ sym (ap (λ m. take n (segments_from file 0 m)) all
-    ∙ ap (take n) (segments_from-append file 0 n (whole_segments file - n))
-    ∙ take_at (segments_from file 0 n) (segments_from file (0 + n) (whole_segments file - n)) n
-    (length-map-range_with_len (segment_at file) 0 n))
+    ∙ sym (grind (arith, segments_from-append, take_at, length-map-range_with_len))
 
 -- some of a piece's chunks
 pub segments_of_chunks : (bytes : List ℕ) (chunks first n : ℕ) → first + n ≤ chunks
     → length (first_chunks 832 chunks bytes) ≡ chunks
     → symbols_in (take n (drop first (first_chunks 832 chunks bytes))) ≡ segments_from bytes first n
-segments_of_chunks bytes chunks first n fits all =
-    ext_get_or [] (symbols_in some) (segments_from bytes first n)
+segments_of_chunks bytes chunks first n fits all = ext_get_or [] (symbols_in some) (segments_from bytes first n)
     (length-map some symbols ∙ long ∙ sym (length-map-range_with_len (segment_at bytes) first n))
     (λ k l. place k (omega (arith, l, length-map some symbols, long)))
   where
@@ -53,12 +45,8 @@ segments_of_chunks bytes chunks first n fits all =
         (omega (arith, fits, all, length-drop first (first_chunks 832 chunks bytes)))
 
     place : (k : ℕ) → k < n → get_or (symbols_in some) k [] ≡ get_or (segments_from bytes first n) k []
-    place k l =
-        get_or-map symbols some k [] [] (omega (arith, l, long))
-        ∙ ap symbols (get_or-take n (drop first (first_chunks 832 chunks bytes)) k [] l
-        ∙ get_or-drop first (first_chunks 832 chunks bytes) k []
-        ∙ get_or-first_chunks 832 chunks bytes (first + k) (omega (arith, l, fits)))
-        ∙ sym (get_or-map-range_with_len (segment_at bytes) first n k (first + k) [] l refl)
+    place k l = get_or-map symbols some k [] [] (omega (arith, l, long))
+        ∙ grind (arith, get_or-take, get_or-drop, get_or-first_chunks, get_or-map-range_with_len)
 
 -- some segments more of a piece, behind those before: the first of the chunks that are left
 pub segments_on : (segments : List (List ℤ)) (bytes : List ℕ) (units first n : ℕ) (chunks : List (List ℕ))
@@ -67,25 +55,16 @@ pub segments_on : (segments : List (List ℤ)) (bytes : List ℕ) (units first n
     ++ symbols_in (take n (take (length chunks - first) (drop first chunks)))
     ≡ segments ++ segments_from bytes 0 (first + n)
 segments_on segments bytes units first n chunks is long fits =
-    let all : take (length chunks - first) (drop first chunks) ≡ drop first chunks =
-    take_all (length chunks - first) (drop first chunks) (omega (arith, length-drop first chunks)) in
-    let zero : 0 + first ≡ first = omega arith in
-    cc (
-      append_assoc segments (segments_from bytes 0 first) (symbols_in (take n (drop first chunks))),
-      segments_of_chunks bytes units first n fits (sym (ap length is) ∙ long),
-      segments_from-append bytes 0 first n,
-    )
+    grind (arith, take_all, length-drop, append_assoc, segments_of_chunks, segments_from-append)
 
 -- segments that are taken behind whole ones: the first chunks of some bytes
 pub chunks_on : (given bytes : List ℕ) (n : ℕ) (chunks : List (List ℕ)) → length given % 832 ≡ 0
-    → chunks ≡ first_chunks 832 (length bytes / 832) bytes → length chunks ≡ length bytes / 832
-    → n ≤ length bytes / 832
+    → chunks ≡ first_chunks 832 (length bytes / 832) bytes → length chunks ≡ length bytes / 832 → n ≤ length bytes / 832
     → file_segments (given ++ take (832 * n) bytes) ≡ file_segments given ++ symbols_in (take n chunks)
 chunks_on given bytes n chunks whole is long fits =
     let part = take (832 * n) bytes in
     let many : whole_segments part ≡ n = omega (arith, length-take-le (832 * n) bytes (omega (arith, fits))) in
     file_segments-append given part whole
-    ∙ ap (λ z. file_segments given ++ z)
-    (ap (segments_from part 0) many ∙ segments_from-piece bytes 0 n
+    ∙ ap (λ z. file_segments given ++ z) (ap (segments_from part 0) many ∙ segments_from-piece bytes 0 n
     ∙ sym (ap (λ xs. symbols_in (take n xs)) is
     ∙ segments_of_chunks bytes (length bytes / 832) 0 n (omega (arith, fits)) (sym (ap length is) ∙ long)))

@@ -1,5 +1,5 @@
 -- The numbers of what was received, as segments come.
-use Rattle.std.proofs.Common.{◌≡◌, ℕ, ◌+◌, List, [], ◌++◌, length, refl, sym, ap, ◌∙◌}
+use Rattle.std.proofs.Common.{◌≡◌, ℕ, ◌+◌, List, [], ◌++◌, length, refl, arith}
 use Rattle.std.specs.Prelude.{ℤ, if◌then◌else◌}
 use Rattle.std.proofs.lemmas.List.{length-append}
 use Rattle.std.proofs.lemmas.List.Sums.{sum_by-append}
@@ -34,11 +34,6 @@ pub tally_on : (giving : Giving) (segments more : List (List ℤ)) (count begins
     → tally_with (record (tally_of segments (giving.so_far segments)) {
       segments = length segments + count;
       runs = length (runs segments) + begins;
-    }) brought
-    ≡ tally_of (segments ++ more) (giving.so_far (segments ++ more))
-tally_on giving segments more count begins brought long begun given = same_tally _ _ _ _ _ _ _ _ _ _
-    (sym (length-append segments more ∙ ap (λ n. length segments + n) long))
-    (sym begun)
-    (sym (ap length given ∙ length-append (giving.so_far segments) brought))
-    (sym (ap fixed_in given ∙ fixed_in-append (giving.so_far segments) brought))
-    (sym (ap flagged_in given ∙ flagged_in-append (giving.so_far segments) brought))
+    }) brought ≡ tally_of (segments ++ more) (giving.so_far (segments ++ more))
+tally_on giving segments more count begins brought long begun given =
+    grind (arith, same_tally, length-append, fixed_in-append, flagged_in-append)

@@ -5,10 +5,10 @@ use Rattle.std.specs.List.{range_with_len, flat_map}
 use Rattle.std.proofs.Math.Seq.{take-suc}
 use Rattle.std.proofs.lemmas.List.{length-append, append-nil, append_assoc}
 use Rattle.std.proofs.lemmas.List.Sums.{sum_by-append, sum_by-cons}
-use Rattle.dtx_exciter.specs.Packets.{anchor_of, group_part}
-use Rattle.dtx_watch.specs.Notes.{lock_note, one_or_none}
+use Rattle.dtx_exciter.specs.Packets.{group_part}
+use Rattle.dtx_watch.specs.Notes.{one_or_none}
 use Rattle.dtx_watch.proofs.ToldLemmas.{to_parts}
-use Rattle.dtx_watch.specs.Watch.{reading_note, notes_at, notes_to, told, waiting}
+use Rattle.dtx_watch.specs.Watch.{notes_at, notes_to, told, waiting}
 use Rattle.dtx_watch.proofs.WatchLinesLemmas.{watch_text-append}
 use Rattle.dtx_watch.specs.WatchText.{note_text, watch_text}
 use Rattle.dtx_watch.specs.declared.notes.Note.{Note}
@@ -19,8 +19,7 @@ use Rattle.dtx_watch.specs.declared.notes.StatesNote.TheVariants as states
 use Rattle.dtx_watch.specs.declared.notes.ClockNote.{ClockNote}
 use Rattle.dtx_watch.specs.declared.notes.ClockNote.TheVariants as clock
 use Rattle.dtx_recipes.specs.Watch.{waiting_bytes, count_of, watch_tally, one_ops, one_slip, one_jump, slips_of}
-use Rattle.dtx_recipes.specs.Watch.{jumps_of}
-use Rattle.dtx_recipes.specs.Watch.{one_unread, one_stray}
+use Rattle.dtx_recipes.specs.Watch.{jumps_of, one_unread, one_stray}
 use Rattle.dtx_recipes.specs.WatchTally.{tally_of_one, tally_with, HasRoom}
 use Rattle.dtx_recipes.specs.declared.watch_tally.WatchTally.{WatchTally}
 
@@ -39,11 +38,7 @@ one_at_most (Some note) = omega arith
 
 two_at_most : (d : List (List ℕ)) (k : ℕ) → length (notes_at d k) ≤ 2
 unfolding notes_at
-two_at_most d k = both (lock_note k (anchor_of (take k d)) (anchor_of (take (k + 1) d)))
-    (reading_note d k (anchor_of (take (k + 1) d)))
-  where
-    both : (x y : Option Note) → length (one_or_none x ++ one_or_none y) ≤ 2
-    both x y = omega (arith, length-append (one_or_none x) (one_or_none y), one_at_most x, one_at_most y)
+two_at_most d k = grind (arith, length-append, one_at_most)
 
 few_notes : (d : List (List ℕ)) (n : ℕ) → length (notes_to d n) ≤ 2 * n
 unfolding notes_to
@@ -66,13 +61,12 @@ few_told d = omega (arith, few_notes d (length d - group_part d))
 count_few : (one : NoteKind → ℕ) → ((w : NoteKind) → one w ≤ 1) → (notes : List Note)
     → count_of one notes ≤ length notes
 count_few one h [] = omega arith
-count_few one h (note ∷ notes) =
-    omega (
-      arith,
-      h note.what,
-      count_few one h notes,
-      sum_by-cons (λ (x : Note). one x.what) note notes,
-    )
+count_few one h (note ∷ notes) = omega (
+  arith,
+  h note.what,
+  count_few one h notes,
+  sum_by-cons (λ (x : Note). one x.what) note notes,
+)
 
 ops_few : (w : NoteKind) → one_ops w ≤ 1
 ops_few Lock = omega arith
@@ -123,43 +117,22 @@ stray_few (Ops o) = omega arith
 -- as many packets as a stream has, and what is told of them, and five notes more can be counted
 pub has_room : (d : List (List ℕ)) (tally : WatchTally) (n : ℕ) → tally ≡ watch_tally n (told d)
     → length d ≤ 624000000 → n ≤ 624000000 → HasRoom tally 5
-has_room d tally n e l m = record {
-  packets = omega (arith, m, ap (λ (t : WatchTally). t.packets) e);
-  ops = omega (arith, l, few_told d, count_few one_ops ops_few (told d), ap (λ (t : WatchTally). t.ops) e);
-  slips = omega (arith, l, few_told d, count_few slips_of slips_few (told d), ap (λ (t : WatchTally). t.slips) e);
-  jumps = omega (arith, l, few_told d, count_few jumps_of jumps_few (told d), ap (λ (t : WatchTally). t.jumps) e);
-  unread = omega (arith, l, few_told d, count_few one_unread unread_few (told d), ap (λ (t : WatchTally). t.unread) e);
-  stray = omega (arith, l, few_told d, count_few one_stray stray_few (told d), ap (λ (t : WatchTally). t.stray) e);
-}
+has_room d tally n e l m = grind (arith, few_told, count_few, ops_few, slips_few, jumps_few, unread_few, stray_few)
 
 -- behind at most four of five notes there is room for one
 pub room_within : (t : WatchTally) (xs : List Note) → length xs ≤ 4 → HasRoom t 5 → HasRoom (tally_with t xs) 1
-room_within t xs l h =
-    let a = h.ops in let b = h.slips in let c = h.jumps in let d = h.unread in let e = h.stray in
-    record {
-      packets = h.packets;
-      ops = omega (arith, l, a, count_few one_ops ops_few xs);
-      slips = omega (arith, l, b, count_few slips_of slips_few xs);
-      jumps = omega (arith, l, c, count_few jumps_of jumps_few xs);
-      unread = omega (arith, l, d, count_few one_unread unread_few xs);
-      stray = omega (arith, l, e, count_few one_stray stray_few xs);
-    }
+room_within t xs l h = grind (arith, count_few, ops_few, slips_few, jumps_few, unread_few, stray_few)
 
 -- ---- the numbers
 
 pub same_numbers : (p o s j u t a b c d e : ℕ) → o ≡ a → s ≡ b → j ≡ c → u ≡ d → t ≡ e
     → ◌≡◌ {A = WatchTally} (record { packets = p; ops = o; slips = s; jumps = j; unread = u; stray = t })
     (record { packets = p; ops = a; slips = b; jumps = c; unread = d; stray = e })
-same_numbers p o s j u t a b c d e h1 h2 h3 h4 h5 =
-    cc (h1, h2, h3, h4, h5)
+same_numbers p o s j u t a b c d e h1 h2 h3 h4 h5 = cc (h1, h2, h3, h4, h5)
 
 -- the notes that are counted first, and then others
 pub tally_parts : (n : ℕ) (xs ys : List Note) → tally_with (watch_tally n xs) ys ≡ watch_tally n (xs ++ ys)
-tally_parts n xs ys =
-    same_numbers n _ _ _ _ _ _ _ _ _ _ (sym (sum_by-append (λ note. one_ops note.what) xs ys))
-    (sym (sum_by-append (λ note. slips_of note.what) xs ys)) (sym (sum_by-append (λ note. jumps_of note.what) xs ys))
-    (sym (sum_by-append (λ note. one_unread note.what) xs ys))
-    (sym (sum_by-append (λ note. one_stray note.what) xs ys))
+tally_parts n xs ys = grind (arith, same_numbers, sum_by-append)
 
 count_more : (one : NoteKind → ℕ) (m : ℕ) (xs ys : List Note)
     → m + count_of one xs + count_of one ys ≡ m + count_of one (xs ++ ys)
@@ -172,13 +145,7 @@ tally_more t xs ys =
 
 -- one note
 pub tally_one : (t : WatchTally) (note : Note) → tally_of_one t note.what ≡ tally_with t (note ∷ [])
-tally_one t note =
-    same_numbers t.packets _ _ _ _ _ _ _ _ _ _ (one_more t.ops (one_ops note.what))
-    (one_more t.slips (slips_of note.what)) (one_more t.jumps (jumps_of note.what))
-    (one_more t.unread (one_unread note.what)) (one_more t.stray (one_stray note.what))
-  where
-    one_more : (n m : ℕ) → n + m ≡ n + (0 + m)
-    one_more n m = omega arith
+tally_one t note = grind (arith, same_numbers)
 
 -- ---- one note of some more
 
@@ -188,17 +155,14 @@ next_front ns i d h = let e : i + 1 ≡ suc i = omega arith in ap (λ n. take n 
 pub lines_next : (start lines new : List ℕ) (ns : List Note) (i : ℕ) (d note : Note) → i < length ns
     → note ≡ get_or ns i d → lines ≡ start ++ watch_text (take i ns) → new ≡ lines ++ note_text note
     → new ≡ start ++ watch_text (take (i + 1) ns)
-lines_next start lines new ns i d note h e so_far next =
-    next ∙ ap (λ z. z ++ note_text note) so_far ∙ append_assoc start (watch_text (take i ns)) (note_text note)
-    ∙ ap (λ z. start ++ z)
+lines_next start lines new ns i d note h e so_far next = grind (arith, append_assoc) ∙ ap (λ z. start ++ z)
     (sym (ap watch_text (next_front ns i d h) ∙ watch_text-append (take i ns) (get_or ns i d ∷ [])
     ∙ ap (λ z. watch_text (take i ns) ++ z) (append-nil (note_text (get_or ns i d)) ∙ ap note_text (sym e))))
 
 pub tally_next : (start tally new : WatchTally) (ns : List Note) (i : ℕ) (d note : Note) → i < length ns
     → note ≡ get_or ns i d → tally ≡ tally_with start (take i ns) → new ≡ tally_of_one tally note.what
     → new ≡ tally_with start (take (i + 1) ns)
-tally_next start tally new ns i d note h e so_far next =
-    next ∙ ap₂ (λ t (x : Note). tally_of_one t x.what) so_far e
+tally_next start tally new ns i d note h e so_far next = next ∙ ap₂ (λ t (x : Note). tally_of_one t x.what) so_far e
     ∙ tally_one (tally_with start (take i ns)) (get_or ns i d)
     ∙ tally_more start (take i ns) (get_or ns i d ∷ [])
     ∙ ap (tally_with start) (sym (next_front ns i d h))

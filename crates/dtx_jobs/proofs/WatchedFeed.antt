@@ -1,7 +1,7 @@
 -- What `watch` answers and writes of a sound feed.
-use Rattle.std.proofs.Common.{◌≡◌, ◌≢◌, ℕ, zero, suc, ◌+◌, ◌-◌, ◌%◌, ◌<◌, ◌≤◌, ◌==◌, Bool, true, false}
-use Rattle.std.proofs.Common.{not, cond, Option, Some, None, Result, Ok, Err, List, [], ◌∷◌, ◌++◌, length, map, drop}
-use Rattle.std.proofs.Common.{get_or, refl, sym, ap, ap₂, subst, ◌∙◌, arith}
+use Rattle.std.proofs.Common.{◌≡◌, ◌≢◌, ℕ, zero, suc, ◌+◌, ◌-◌, ◌%◌, ◌<◌, ◌≤◌, ◌==◌, Bool, true, false, cond, Option}
+use Rattle.std.proofs.Common.{Some, None, Result, Ok, Err, List, [], ◌∷◌, ◌++◌, length, map, drop, get_or, refl, sym}
+use Rattle.std.proofs.Common.{ap, ap₂, subst, ◌∙◌, arith}
 use Rattle.std.specs.Prelude.{codes, unwrap_or}
 use Rattle.std.specs.Fmt.{digits}
 use Rattle.std.specs.List.{All, Contains, filter, flat_map, range_with_len}
@@ -25,7 +25,7 @@ use Rattle.dtx_ops.specs.declared.refusal.OpsNo.{OpsNo}
 use Rattle.dtx_ops.specs.declared.refusal.OpsNo.TheVariants as no
 use Rattle.dtx_packets.specs.Packet.{pid_of}
 use Rattle.dtx_packets.specs.Packets.{packets_of, whole_packets}
-use Rattle.dtx_watch.specs.Sound.{IsSoundAt, IsSoundFeed, IsCalmOps, IsCalm, IsCalmAt}
+use Rattle.dtx_watch.specs.Sound.{IsSoundAt, IsSoundFeed, IsCalmOps, IsCalmAt}
 use Rattle.dtx_watch.proofs.SoundLemmas.{calm}
 use Rattle.dtx_watch.specs.Watch.{notes_at, notes_to, watch}
 use Rattle.dtx_watch.specs.WatchText.{note_text, watch_text}
@@ -58,8 +58,7 @@ none_is_some e = cc
 
 data_passed : (bytes : List ℕ) → first (data_rules bytes) ≢ Some no.NotOps
 unfolding data_rules head_rules
-data_passed bytes =
-    passed _ no.Kind _ (λ e. cc) (passed _ no.Pad _ (λ e. cc) (passed _ no.Stamp _ (λ e. cc)
+data_passed bytes = passed _ no.Kind _ (λ e. cc) (passed _ no.Pad _ (λ e. cc) (passed _ no.Stamp _ (λ e. cc)
     (passed _ no.Delay _ (λ e. cc) (passed _ no.Index _ (λ e. cc) (passed _ no.Page _ (λ e. cc)
     (passed _ no.Count _ (λ e. cc) (passed _ no.Twice _ (λ e. cc) (passed _ no.Fill _ (λ e. cc) none_is_some))))))))
 
@@ -80,19 +79,12 @@ refused_so (Some refusal) ops e = ap refusal_of e
 
 ops_read : (p : List ℕ) → reading p ≡ Err no.NotOps → (pid_of p == 0x1FFA) ≡ false
 unfolding reading rules
-ops_read p e = by_cases (pid_of p == 0x1FFA) refl (refused_so _ _ e)
-  where
-    by_cases : (b : Bool) → (pid_of p == 0x1FFA) ≡ b → first (rules p) ≡ Some no.NotOps → (pid_of p == 0x1FFA) ≡ false
-    by_cases false is h = is
-    by_cases true is h =
-        absurd (passed _ no.Uncorrectable _ (λ e. cc) (data_passed _)
-        (sym (cond-false (not (pid_of p == 0x1FFA)) (Some no.NotOps) _ (ap not is)) ∙ h))
+ops_read p e = grind (arith, refused_so, passed, data_passed, cond-false)
 
 read_is_ops : (p : List ℕ) (ops : Ops) → reading p ≡ Ok ops → (b : Bool) → (pid_of p == 0x1FFA) ≡ b
     → (pid_of p == 0x1FFA) ≡ true
 read_is_ops p ops e true is = is
-read_is_ops p ops e false is =
-    absurd (ok_is_none ops (sym e ∙ reading_other p (eqb-false (pid_of p) 0x1FFA is)))
+read_is_ops p ops e false is = absurd (ok_is_none ops (sym e ∙ reading_other p (eqb-false (pid_of p) 0x1FFA is)))
 
 -- ---- what is told of each packet
 
@@ -120,47 +112,21 @@ abbrev lock_at : ℕ → List Note
 lock_at k = cond (k == 0) ((record { packet = 0; what = what.Lock }) ∷ []) []
 
 abbrev line_at : List (List ℕ) → ℕ → List Note
-line_at packets k =
-    cond (pid_of (get_or packets k []) == 0x1FFA) (ops_at (said_of packets) k ∷ []) []
+line_at packets k = cond (pid_of (get_or packets k []) == 0x1FFA) (ops_at (said_of packets) k ∷ []) []
 
 record IsOne (packets : List (List ℕ)) (k : ℕ) : Type 0 where
   is : notes_at packets k ≡ lock_at k ++ line_at packets k
   calm : (pid_of (get_or packets k []) == 0x1FFA) ≡ true
       → (ops : Ops) × (reading (get_or packets k []) ≡ Ok ops) × IsCalmOps ops (said_of packets k)
 
-said_last : (b : Bool) (k : ℕ) (o : OpsNote)
-    → said_in (cond b ((record { packet = 0; what = what.Lock }) ∷ []) []
+said_last : (b : Bool) (k : ℕ) (o : OpsNote) → said_in (cond b ((record { packet = 0; what = what.Lock }) ∷ []) []
     ++ (record { packet = k; what = what.Ops o }) ∷ []) ≡ o
 said_last true k o = refl
 said_last false k o = refl
 
 one : (start most m k : ℕ) (f d : List (List ℕ)) → IsSoundAt start most f (m + k) (reading (get_or d k []))
     → IsCalmAt d k → IsOne d k
-one start most m k f d h at = by_reading (reading (get_or d k [])) refl
-  where
-    by_reading : (r : Result Ops OpsNo) → reading (get_or d k []) ≡ r → IsOne d k
-    by_reading (Ok ops) e =
-        let so : IsCalm k (Ok ops) at.0 = subst (λ r. IsCalm k r at.0) e at.1 in
-        let all : notes_at d k ≡ lock_at k ++ (record { packet = k; what = what.Ops so.0 }) ∷ [] =
-        at.2 ∙ ap (λ ns. lock_at k ++ ns) so.2 in
-        let said : said_of d k ≡ so.0 = ap said_in all ∙ said_last (k == 0) k so.0 in
-        let ops_is = read_is_ops (get_or d k []) ops e (pid_of (get_or d k []) == 0x1FFA) refl in
-        record {
-          is =
-              all
-              ∙ ap (λ (o : OpsNote). lock_at k ++ (record { packet = k; what = what.Ops o }) ∷ []) (sym said)
-              ∙ ap (λ b. lock_at k ++ cond b (ops_at (said_of d) k ∷ []) []) (sym ops_is);
-          calm = λ t. (ops, e, subst (IsCalmOps ops) (sym said) so.1);
-        }
-    by_reading (Err refusal) e =
-        let none : refusal ≡ no.NotOps = subst (IsSoundAt start most f (m + k)) e h in
-        let so : at.0 ≡ [] = subst (λ r. IsCalm k r at.0) e at.1 in
-        let other = ops_read (get_or d k []) (e ∙ ap Err none) in
-        record {
-          is =
-              cc (at.2, so, other);
-          calm = λ t. absurd (never_both _ t other);
-        }
+one start most m k f d h at = grind (arith, said_last, read_is_ops, calm, ops_read, never_both)
 
 -- ---- all of them
 
@@ -171,17 +137,12 @@ one_kept : (p : ℕ → Bool) (g : ℕ → Note) (k : ℕ) (ks : List ℕ) (b : 
 one_kept p g k ks true rest = ap (λ ns. g k ∷ ns) rest
 one_kept p g k ks false rest = rest
 
-kept : (p : ℕ → Bool) (g : ℕ → Note) (xs : List ℕ)
-    → flat_map (λ k. cond (p k) (g k ∷ []) []) xs ≡ map g (filter p xs)
+kept : (p : ℕ → Bool) (g : ℕ → Note) (xs : List ℕ) → flat_map (λ k. cond (p k) (g k ∷ []) []) xs ≡ map g (filter p xs)
 kept p g [] = refl
 kept p g (k ∷ ks) = one_kept p g k ks (p k) (kept p g ks)
 
 no_lock : (k : ℕ) → 1 ≤ k → lock_at k ≡ []
-no_lock k l = cond-false (k == 0) ((record { packet = 0; what = what.Lock }) ∷ []) [] (ne_eqb k 0 (λ e. omega (
-  arith,
-  l,
-  e,
-)))
+no_lock k l = grind (arith, cond-false, ne_eqb)
 
 notes_are : (d : List (List ℕ)) → 0 < length d → ((k : ℕ) → k < length d → IsOne d k)
     → watch d ≡ (record { packet = 0; what = what.Lock }) ∷ map (ops_at (said_of d)) (ops_packets d)
@@ -192,34 +153,26 @@ notes_are d some ones = by_length (length d) refl
         → flat_map (notes_at d) (range_with_len 0 (length d)) ≡ (record { packet = 0; what = what.Lock })
         ∷ map (ops_at (said_of d)) (filter (λ k. pid_of (get_or d k []) == 0x1FFA) (range_with_len 0 (length d)))
     by_length zero e = absurd (omega (arith, some, e))
-    by_length (suc n) e =
-        let p : ℕ → Bool = λ k. pid_of (get_or d k []) == 0x1FFA in
-        cc (
-          e,
-          flat_map-range_same (notes_at d) (λ k. lock_at k ++ line_at d k) 0 (suc n)
-              (λ k l m. let o = ones k (omega (arith, m, e)) in o.is),
-          flat_map-range_same (λ k. lock_at k ++ line_at d k) (line_at d) 1 n
-              (λ k l m. ap (λ ls. ls ++ line_at d k) (no_lock k l)),
-          kept p (ops_at (said_of d)) (range_with_len 0 (suc n)),
-        )
+    by_length (suc n) e = cc (
+      e,
+      flat_map-range_same (notes_at d) (λ k. lock_at k ++ line_at d k) 0 (suc n)
+          (λ k l m. let o = ones k (omega (arith, m, e)) in o.is),
+      flat_map-range_same (λ k. lock_at k ++ line_at d k) (line_at d) 1 n
+          (λ k l m. ap (λ ls. ls ++ line_at d k) (no_lock k l)),
+      kept (λ k. pid_of (get_or d k []) == 0x1FFA) (ops_at (said_of d)) (range_with_len 0 (suc n)),
+    )
 
 below_all : (n : ℕ) → All (λ k. k < n) (range_with_len 0 n)
-below_all n = All-from_get_or (λ k. k < n) (range_with_len 0 n) 0 (λ i l.
-    let long = length-range_with_len 0 n in
-    let inside : i < n = omega (arith, l, long) in
-    let at = get_or-range_with_len 0 n i 0 inside in
-    omega (arith, at, inside))
+below_all n = grind (arith, All-from_get_or, length-range_with_len, get_or-range_with_len)
 
 are_calm : (d : List (List ℕ)) → ((k : ℕ) → k < length d → IsOne d k) → AreCalm d (said_of d)
 unfolding ops_packets
 are_calm d ones = λ k contained.
     let p : ℕ → Bool = λ i. pid_of (get_or d i []) == 0x1FFA in
     let all : List ℕ = range_with_len 0 (length d) in
-    let inside : k < length d =
-    All-contains (λ i. i < length d) (filter p all) k (All-filter p (λ i. i < length d) all (below_all (length d)))
-    contained in
     let is : p k ≡ true = All-contains (λ i. p i ≡ true) (filter p all) k (filter_passes p all) contained in
-    let o = ones k inside in
+    let o = ones k (All-contains (λ i. i < length d) (filter p all) k
+    (All-filter p (λ i. i < length d) all (below_all (length d))) contained) in
     o.calm is
 
 -- ---- the text and the numbers
@@ -235,23 +188,21 @@ text_is said ks = ap₂ (λ (x y : List ℕ). x ++ y) lock_text (flat_map-map no
 
 each_counted : (said : ℕ → OpsNote) (ks : List ℕ) → count_of one_ops (map (ops_at said) ks) ≡ length ks
 each_counted said [] = refl
-each_counted said (k ∷ ks) =
-    omega (
-      arith,
-      sum_by-cons (λ (x : Note). one_ops x.what) (ops_at said k) (map (ops_at said) ks),
-      each_counted said ks,
-    )
+each_counted said (k ∷ ks) = omega (
+  arith,
+  sum_by-cons (λ (x : Note). one_ops x.what) (ops_at said k) (map (ops_at said) ks),
+  each_counted said ks,
+)
 
 none_counted : (one : NoteKind → ℕ) (said : ℕ → OpsNote) (ks : List ℕ) → All (λ k. one (what.Ops (said k)) ≡ 0) ks
     → count_of one (map (ops_at said) ks) ≡ 0
 none_counted one said [] h = refl
-none_counted one said (k ∷ ks) h =
-    omega (
-      arith,
-      sum_by-cons (λ (x : Note). one x.what) (ops_at said k) (map (ops_at said) ks),
-      All-head (λ i. one (what.Ops (said i)) ≡ 0) k ks h,
-      none_counted one said ks (All-tail (λ i. one (what.Ops (said i)) ≡ 0) k ks h),
-    )
+none_counted one said (k ∷ ks) h = omega (
+  arith,
+  sum_by-cons (λ (x : Note). one x.what) (ops_at said k) (map (ops_at said) ks),
+  All-head (λ i. one (what.Ops (said i)) ≡ 0) k ks h,
+  none_counted one said ks (All-tail (λ i. one (what.Ops (said i)) ≡ 0) k ks h),
+)
 
 no_slip : (s : StatesNote) → s ≢ states.Slip → one_slip s ≡ 0
 no_slip states.Early h = refl
@@ -267,12 +218,7 @@ no_jump clock.Jump h = absurd (h refl)
 -- with the note of the anchor, which isn't counted
 with_lock : (one : NoteKind → ℕ) → one what.Lock ≡ 0 → (notes : List Note)
     → count_of one ((record { packet = 0; what = what.Lock }) ∷ notes) ≡ count_of one notes
-with_lock one none notes =
-    omega (
-      arith,
-      sum_by-cons (λ (x : Note). one x.what) (record { packet = 0; what = what.Lock }) notes,
-      none,
-    )
+with_lock one none notes = grind (arith, sum_by-cons, one)
 
 tally_calm : (d : List (List ℕ)) (said : ℕ → OpsNote) (n : ℕ) → AreCalm d said
     → watch_tally n ((record { packet = 0; what = what.Lock }) ∷ map (ops_at said) (ops_packets d)) ≡ record {
@@ -287,8 +233,7 @@ tally_calm d said n calm =
     let ks : List ℕ = ops_packets d in
     let notes : List Note = map (ops_at said) ks in
     let each : (one : NoteKind → ℕ) → ((k : ℕ) → Contains ks k → one (what.Ops (said k)) ≡ 0) → count_of one notes ≡ 0 =
-    λ one none. none_counted one said ks (All-weaker (Contains ks) (λ k. one (what.Ops (said k)) ≡ 0) none ks
-    (All-contains_itself ks)) in
+    λ one none. none_counted one said ks (grind (arith, All-weaker, one, All-contains_itself)) in
     same_numbers n _ _ _ _ _ _ _ _ _ _ (with_lock one_ops refl notes ∙ each_counted said ks)
     (with_lock slips_of refl notes ∙ each slips_of (λ k c. no_slip (said k).states (calm k c).2.states))
     (with_lock jumps_of refl notes ∙ each jumps_of (λ k c. no_jump (said k).clock (calm k c).2.clock))
@@ -312,15 +257,12 @@ watched_calmly names file start most mark feed sound z inside same few =
       outcome = done numbers;
       outputs = outputs_of names (only text);
     } in
-    let of_notes : List Note → Meaning = λ notes.
-    means (watch_numbers (watch_tally (length d) notes) loose) (watch_text notes) in
     record {
       said = said_of d;
       calm = are_calm d ones;
-      is =
-          notes_watched names file few
+      is = notes_watched names file few
           ∙ ap (λ ps. means (watch_numbers (watch_tally (length ps) (watch ps)) loose) (watch_text (watch ps))) same
-          ∙ ap of_notes (notes_are d (omega (arith, long, inside)) ones)
-          ∙ ap₂ means (ap (λ (t : WatchTally). watch_numbers t loose)
+          ∙ ap (λ notes. means (watch_numbers (watch_tally (length d) notes) loose) (watch_text notes))
+          (notes_are d (omega (arith, long, inside)) ones) ∙ ap₂ means (ap (λ (t : WatchTally). watch_numbers t loose)
           (tally_calm d (said_of d) (length d) (are_calm d ones))) (text_is (said_of d) (ops_packets d));
     }

@@ -19,18 +19,15 @@ use Rattle.dtx_watch.specs.declared.notes.StatesNote.{StatesNote}
 use Rattle.dtx_watch.specs.declared.notes.StatesNote.TheVariants as states
 use Rattle.dtx_watch.specs.declared.notes.NoteKind.{NoteKind}
 use Rattle.dtx_watch.specs.declared.notes.NoteKind.TheVariants as what
-use Rattle.dtx_meaning.specs.Meaning.{Meaning}
-use Rattle.dtx_meaning.specs.Status.{done}
 use Rattle.dtx_engine.specs.Made.{only, outputs_of}
 use Rattle.dtx_engine.specs.Recipe.{first_refused, meaning_of_file}
 use Rattle.dtx_forms.proofs.AllowedFileLemmas.{all_read, none_found}
 use Rattle.dtx_forms.specs.Shapes.{single_packets}
 use Rattle.dtx_forms.proofs.FilePacketsLemmas.{length-packets_of}
-use Rattle.dtx_recipes.specs.Watch.{watched_bytes, waiting_bytes, count_of, watch_tally, watch_numbers, watch_answer}
-use Rattle.dtx_recipes.specs.Watch.{watching, one_ops, one_slip, one_jump, slips_of, jumps_of, one_unread, one_stray}
+use Rattle.dtx_recipes.specs.Watch.{watched_bytes, waiting_bytes, count_of, watch_tally, watch_answer, watching}
+use Rattle.dtx_recipes.specs.Watch.{one_ops, one_slip, one_jump, slips_of, jumps_of, one_unread, one_stray}
 use Rattle.dtx_jobs.proofs.WatchLemmas.{same_numbers}
 use Rattle.dtx_recipes.specs.WatchedFeed.{tally_of_text, watched_of}
-use Rattle.dtx_recipes.specs.declared.watch_tally.WatchTally.{WatchTally}
 
 -- ---- the numbers
 
@@ -89,8 +86,7 @@ notes_counted : (f : List (List ℕ) → ℕ) (one : NoteKind → ℕ)
     → ((k : ℕ) (w : NoteKind) → f (first_word w ∷ later_words k w) ≡ one w)
     → (notes : List Note) → sum_by f (map note_words notes) ≡ count_of one notes
 notes_counted f one same [] = refl
-notes_counted f one same (note ∷ notes) =
-    sum_by-cons f (note_words note) (map note_words notes)
+notes_counted f one same (note ∷ notes) = sum_by-cons f (note_words note) (map note_words notes)
     ∙ ap₂ (λ (m n : ℕ). m + n) (same note.packet note.what) (notes_counted f one same notes)
     ∙ sym (sum_by-cons (λ (x : Note). one x.what) note notes)
 
@@ -100,21 +96,11 @@ lines_counted : (place : ℕ) (word : List ℕ) (one : NoteKind → ℕ)
     → count_of one notes ≡ lines_with place word (watch_text notes)
 unfolding lines_with
 lines_counted place word one same none notes =
-    let last : List (List (List ℕ)) = ([] ∷ []) ∷ [] in
-    omega (
-      arith,
-      ap (λ (lines : List (List (List ℕ))). sum_by (has_word place word) lines) (words_of-watch_text notes),
-      sum_by-append (has_word place word) (map note_words notes) last,
-      notes_counted (has_word place word) one same notes,
-      sum_by-cons (has_word place word) ([] ∷ []) [],
-      none,
-    )
+    grind (arith, words_of-watch_text, sum_by-append, notes_counted, sum_by-cons)
 
 pub tally_told : (n : ℕ) (notes : List Note) → watch_tally n notes ≡ tally_of_text n (watch_text notes)
-tally_told n notes =
-    same_numbers n _ _ _ _ _ _ _ _ _ _ (lines_counted 0 (codes "ops") one_ops ops_word refl notes)
-    (lines_counted 7 (codes "slip") slips_of slip_word refl notes)
-    (lines_counted 8 (codes "jump") jumps_of jump_word refl notes)
+tally_told n notes = same_numbers n _ _ _ _ _ _ _ _ _ _ (lines_counted 0 (codes "ops") one_ops ops_word refl notes)
+    (grind (arith, lines_counted, slip_word)) (lines_counted 8 (codes "jump") jumps_of jump_word refl notes)
     (lines_counted 0 (codes "unread") one_unread unread_word refl notes)
     (lines_counted 0 (codes "stray") one_stray stray_word refl notes)
 
@@ -130,16 +116,11 @@ unfolding watched_bytes waiting_bytes
 all_lines packets = sym (ap watch_text (all_told packets) ∙ watch_text-append (told packets) (waiting packets))
 
 pub notes_watched : (names : List (List ℕ)) (file : List ℕ) → whole_packets file ≤ 624000000
-    → meaning_of_file single_packets watching names file
-    ≡ record {
+    → meaning_of_file single_packets watching names file ≡ record {
       outcome = watch_answer (packets_of file) (length file % 188);
       outputs = outputs_of names (only (watch_text (watch (packets_of file))));
     }
 notes_watched names file few =
-    let means : List (List ℕ) → List ℕ → Meaning = λ packets text. record {
-      outcome = watch_answer packets (length file % 188);
-      outputs = outputs_of names (only text);
-    } in
     let n : ℕ = whole_packets file in
     let front : packets_of (take (188 * n) file) ≡ packets_of file = packets_of-piece file 0 n (omega arith) in
     cc (all_read single_packets watching names file (all_allowed file) few, front, all_lines (packets_of file))
@@ -148,8 +129,4 @@ pub all_watched : (names : List (List ℕ)) (file : List ℕ) → whole_packets 
     → meaning_of_file single_packets watching names file ≡ watched_of names file
 all_watched names file few =
     let notes : List Note = watch (packets_of file) in
-    let means : WatchTally → Meaning = λ tally. record {
-      outcome = done (watch_numbers tally (length file % 188));
-      outputs = outputs_of names (only (watch_text notes));
-    } in
     cc (notes_watched names file few, length-packets_of file, tally_told (whole_packets file) notes)

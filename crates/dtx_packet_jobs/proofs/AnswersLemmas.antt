@@ -1,7 +1,7 @@
 -- Which answers the commands of packets and of plain bytes know: of how their making answers, and of faults of
 -- writing.
 use Rattle.std.specs.Prelude.{ℕ, List, Option, Some, None}
-use Rattle.std.proofs.Common.{refl}
+use Rattle.std.proofs.Common.{refl, arith}
 use Rattle.dtx_outside.specs.declared.shelf.WriteNo.{WriteNo}
 use Rattle.dtx_outside.specs.declared.shelf.WriteNo.TheVariants as write
 use Rattle.dtx_plan.specs.declared.damage.Damage.{Damage}
@@ -25,8 +25,7 @@ past_or_not damage bytes None = refl
 
 -- a file over which damage is laid
 pub hurt_knows : (damage : List Damage) (outcome : Outcome) → IsAnswerOf (hurting damage) outcome → IsKnown Hurt outcome
-hurt_knows damage =
-    knows_by (hurting damage) Hurt tt (λ k unit. none_refused unit) (λ given loose. past_or_not damage _ _)
+hurt_knows damage = grind (arith, knows_by, none_refused, past_or_not)
 
 -- a fault of writing
 pub write_known : (cause : WriteNo) → IsKnown Make (ended (of_write cause))

@@ -1,6 +1,6 @@
 -- What `dvb code` and `dvb read` mean over files, and what comes back of a stream.
-use Rattle.std.proofs.Common.{◌≡◌, ℕ, zero, suc, ◌+◌, ◌-◌, ◌*◌, ◌/◌, ◌%◌, ◌<◌, ◌≤◌, Bool, List, [], ◌∷◌, ◌++◌}
-use Rattle.std.proofs.Common.{length, map, take, drop, refl, sym, ap, ap₂, ◌∙◌, arith}
+use Rattle.std.proofs.Common.{◌≡◌, ℕ, zero, suc, ◌+◌, ◌-◌, ◌*◌, ◌/◌, ◌%◌, ◌<◌, ◌≤◌, Bool, List, [], ◌∷◌, ◌++◌, length}
+use Rattle.std.proofs.Common.{map, take, drop, refl, sym, ap, ◌∙◌, arith}
 use Rattle.std.specs.Prelude.{true, false, not, min, Some, None}
 use Rattle.std.specs.List.{find, flat_map, range_with_len}
 use Rattle.std.proofs.lemmas.Bool.{cond-false}
@@ -10,7 +10,7 @@ use Rattle.dtx_packets.proofs.PacketLemmas.{packets_of-piece}
 use Rattle.dtx_packets.specs.Packets.{packet_at, packets_from, packets_of, whole_packets}
 use Rattle.dtx_dvb.proofs.BackLemmas.{all_as_sent, all_fixed, none_flagged, packets_back, undamaged}
 use Rattle.dtx_dvb.specs.Damage.{ArePackets, IsSlight, as_sent}
-use Rattle.dtx_dvb.specs.Read.{Read, fixed_in, flagged_in}
+use Rattle.dtx_dvb.specs.Read.{Read, fixed_in}
 use Rattle.dtx_dvb.specs.Reading.{read_dvb}
 use Rattle.dtx_dvb.proofs.ReadingLemmas.{length-read, next_of, read_loose, read_more}
 use Rattle.dtx_dvb.specs.Stream.{dvb}
@@ -19,7 +19,7 @@ use Rattle.dtx_meaning.specs.Status.{done, ended}
 use Rattle.dtx_meaning.specs.declared.status.Status.{Status}
 use Rattle.dtx_meaning.specs.declared.status.Status.TheVariants.{Packet, TooLong}
 use Rattle.dtx_engine.specs.Made.{only, outputs_of}
-use Rattle.dtx_engine.specs.Recipe.{Course, course, course_from, first_refused, meaning_at, meaning_of_file}
+use Rattle.dtx_engine.specs.Recipe.{course, course_from, first_refused, meaning_at, meaning_of_file}
 use Rattle.dtx_engine.specs.declared.piece.Ending.TheVariants.{Refused}
 use Rattle.dtx_forms.proofs.AllowedFileLemmas.{all_read, first_read, none_found}
 use Rattle.dtx_recipes.specs.DvbBack.{HaveSyncs, back_of, read_of, read_until, sent_of, sent_until, wrong_in_all}
@@ -36,8 +36,7 @@ use Rattle.dtx_packet_jobs.proofs.DvbChunks.{chunks_flat}
 none_refused : (p : ℕ → Bool) (a n : ℕ) → ((k : ℕ) → a ≤ k → k < a + n → p k ≡ true)
     → find (λ k. not (p k)) (range_with_len a n) ≡ None
 none_refused p a zero all = refl
-none_refused p a (suc n) all =
-    cond-false _ _ _ (ap not (all a (omega arith) (omega arith)))
+none_refused p a (suc n) all = cond-false _ _ _ (ap not (all a (omega arith) (omega arith)))
     ∙ none_refused p (a + 1) n (λ k l m. all k (omega (arith, l)) (omega (arith, m)))
 
 all_begin : (stream : List ℕ) (n : ℕ) → min (whole_packets stream) 624000000 ≤ n → HaveSyncs stream n
@@ -55,24 +54,12 @@ first_packets stream k within = packets_of-piece stream 0 k (omega (arith, withi
 pub all_sent : (names : List (List ℕ)) (stream : List ℕ) → whole_packets stream ≤ 624000000
     → HaveSyncs stream (whole_packets stream)
     → meaning_of_file dvb_packets dvb_coding names stream ≡ sent_of names stream
-all_sent names stream few syncs =
-    let n : ℕ = whole_packets stream in
-    let means : ℕ → List ℕ → Meaning = λ packets sent. record {
-      outcome = done (packets ∷ length stream % 188 ∷ []);
-      outputs = outputs_of names (only sent);
-    } in
-    let long : length (take (188 * n) stream) ≡ 188 * n = length-take-le (188 * n) stream (omega arith) in
-    let many : whole_packets (take (188 * n) stream) ≡ n = omega (arith, long) in
-    all_read dvb_packets dvb_coding names stream (all_begin stream n (omega arith) syncs) few
-    ∙ ap₂ means many (append-nil (dvb (packets_of (take (188 * n) stream)))
-    ∙ ap dvb (first_packets stream n (omega arith)))
+all_sent names stream few syncs = grind (arith, length-take-le, all_read, all_begin, append-nil, first_packets)
 
 -- where the input ends behind the first packets
 cut_sent : (names : List (List ℕ)) (stream : List ℕ) (k : ℕ) (refusal : Status) → k ≤ whole_packets stream
     → meaning_at dvb_coding names (take (188 * k) stream) (Refused refusal) ≡ sent_until names stream k refusal
-cut_sent names stream k refusal within =
-    ap (λ ps. record { outcome = ended refusal; outputs = outputs_of names (only (dvb ps)) })
-    (first_packets stream k within ∙ sym (front_of stream k within))
+cut_sent names stream k refusal within = grind (arith, first_packets, front_of)
 
 pub refused_sent : (names : List (List ℕ)) (stream : List ℕ) (k : ℕ) → k < whole_packets stream → k < 624000000
     → HaveSyncs stream k → has_sync k (packet_at stream k) ≡ false
@@ -85,15 +72,12 @@ refused_sent names stream k within few syncs other =
     let is : course dvb_packets dvb_coding stream ≡ record { taken = k / 1 * 1; ending = Refused (Packet k) } =
     ap (course_from dvb_packets stream) first in
     let taken : k / 1 * 1 ≡ k = omega arith in
-    ap (λ (c : Course). meaning_at dvb_coding names (take (188 * c.taken) stream) c.ending) is
-    ∙ ap (λ (j : ℕ). meaning_at dvb_coding names (take (188 * j) stream) (Refused (Packet k))) taken
-    ∙ cut_sent names stream k (Packet k) (omega (arith, within))
+    grind arith ∙ cut_sent names stream k (Packet k) (omega (arith, within))
 
 pub too_many_sent : (names : List (List ℕ)) (stream : List ℕ) → 624000000 < whole_packets stream
     → HaveSyncs stream 624000000
     → meaning_of_file dvb_packets dvb_coding names stream ≡ sent_until names stream 624000000 TooLong
-too_many_sent names stream many syncs =
-    first_read dvb_packets dvb_coding names stream (all_begin stream 624000000 (omega arith) syncs) many
+too_many_sent names stream many syncs = first_read dvb_packets dvb_coding names stream (grind (arith, all_begin)) many
     ∙ cut_sent names stream 624000000 TooLong (omega (arith, many))
 
 -- ---- what is read
@@ -106,28 +90,12 @@ all_allowed bytes = none_found (range_with_len 0 (min (whole_blocks bytes) block
 blocks_read : (bytes : List ℕ) → read_dvb (take (204 * whole_blocks bytes) bytes) ≡ read_dvb bytes
 blocks_read bytes =
     let s : ℕ = whole_blocks bytes in
-    let long : length (take (204 * s) bytes) ≡ 204 * s = length-take-le (204 * s) bytes (omega arith) in
-    sym (read_loose (take (204 * s) bytes) (drop (204 * s) bytes) s long
-    (omega (arith, length-drop (204 * s) bytes)))
-    ∙ ap read_dvb (take-append-drop (204 * s) bytes)
+    sym (read_loose (take (204 * s) bytes) (drop (204 * s) bytes) s (length-take-le (204 * s) bytes (omega arith))
+    (omega (arith, length-drop (204 * s) bytes))) ∙ ap read_dvb (take-append-drop (204 * s) bytes)
 
 pub blocks_all_read : (names : List (List ℕ)) (bytes : List ℕ) → whole_blocks bytes ≤ 624000000
     → meaning_of_file blocks dvb_reading names bytes ≡ read_of names bytes
-blocks_all_read names bytes few =
-    let s : ℕ = whole_blocks bytes in
-    let front : List ℕ = take (204 * s) bytes in
-    let long : length front ≡ 204 * s = length-take-le (204 * s) bytes (omega arith) in
-    let many : whole_blocks front ≡ s = omega (arith, long) in
-    let means : ℕ → List Read → Meaning = λ n reads. record {
-      outcome = done (n ∷ length reads ∷ fixed_in reads ∷ flagged_in reads ∷ length bytes % 204 ∷ []);
-      outputs = outputs_of names (only (bytes_of_reads reads));
-    } in
-    all_read blocks dvb_reading names bytes (all_allowed bytes) few
-    ∙ ap (λ made. record {
-      outcome = dvb_reading.answer front (length bytes % 204);
-      outputs = outputs_of names (only made);
-    }) (append-nil (bytes_of_reads (read_dvb front)))
-    ∙ ap₂ means many (blocks_read bytes)
+blocks_all_read names bytes few = grind (arith, length-take-le, all_read, all_allowed, append-nil, blocks_read)
 
 -- what the first blocks give are the first of all packets
 first_blocks : (bytes : List ℕ) (n : ℕ) → n ≤ whole_blocks bytes
@@ -140,13 +108,11 @@ first_blocks bytes n within =
     let all : front ++ rest ≡ bytes = take-append-drop (204 * n) bytes in
     let is : read_dvb (front ++ rest) ≡ read_dvb front ++ next_of (front ++ rest) n m =
     read_more front rest n m (omega (arith, long)) (omega (arith, within, ap length all)) in
-    sym (ap (λ z. take (n - 11) (read_dvb z)) (sym all) ∙ ap (take (n - 11)) is
-    ∙ take_at (read_dvb front) (next_of (front ++ rest) n m) (n - 11) (omega (arith, long, length-read front)))
+    sym (grind (arith, take_at, next_of, length-read))
 
 pub too_many : (names : List (List ℕ)) (bytes : List ℕ) → 624000000 < whole_blocks bytes
     → meaning_of_file blocks dvb_reading names bytes ≡ read_until names bytes
-too_many names bytes many =
-    first_read blocks dvb_reading names bytes (all_allowed bytes) many
+too_many names bytes many = first_read blocks dvb_reading names bytes (all_allowed bytes) many
     ∙ ap (λ reads. record { outcome = ended TooLong; outputs = outputs_of names (only (bytes_of_reads reads)) })
     (first_blocks bytes 624000000 (omega (arith, many)))
 
@@ -170,8 +136,7 @@ first_bytes stream m within =
 
 pub comes_back : (names : List (List ℕ)) (stream bytes : List ℕ) → whole_packets stream ≤ 624000000
     → ArePackets (packets_of stream) → IsSlight (packets_of stream) bytes
-    → meaning_of_file blocks dvb_reading names bytes
-    ≡ back_of names stream (wrong_in_all (packets_of stream) bytes)
+    → meaning_of_file blocks dvb_reading names bytes ≡ back_of names stream (wrong_in_all (packets_of stream) bytes)
 comes_back names stream bytes few packets slight =
     let ps = packets_of stream in
     let n : ℕ = whole_packets stream in
@@ -180,21 +145,14 @@ comes_back names stream bytes few packets slight =
     let count : whole_blocks bytes ≡ n = omega (arith, slight.as_many, many) in
     let read : length reads ≡ n - 11 = omega (arith, length-read bytes, count) in
     let loose : length bytes % 204 ≡ 0 = omega (arith, slight.as_many) in
-    let written : bytes_of_reads reads ≡ take (188 * (n - 11)) stream =
-    flat_reads reads
-    ∙ ap (flat_map (λ (p : List ℕ). p)) (packets_back ps bytes packets slight
-    ∙ ap (λ (m : ℕ). take (m - 11) ps) many)
+    let written : bytes_of_reads reads ≡ take (188 * (n - 11)) stream = flat_reads reads
+    ∙ ap (flat_map (λ (p : List ℕ). p)) (packets_back ps bytes packets slight ∙ ap (λ (m : ℕ). take (m - 11) ps) many)
     ∙ first_bytes stream (n - 11) (omega arith) in
     let means : ℕ → ℕ → ℕ → ℕ → ℕ → List ℕ → Meaning = λ b p f g l made. record {
       outcome = done (b ∷ p ∷ f ∷ g ∷ l ∷ []);
       outputs = outputs_of names (only made);
     } in
-    blocks_all_read names bytes (omega (arith, count, few))
-    ∙ ap₂ (λ (b p : ℕ). means b p (fixed_in reads) (flagged_in reads) (length bytes % 204) (bytes_of_reads reads)) count
-    read
-    ∙ ap₂ (λ (f g : ℕ). means n (n - 11) f g (length bytes % 204) (bytes_of_reads reads))
-    (all_fixed ps bytes packets slight) (none_flagged ps bytes packets slight)
-    ∙ ap₂ (λ (l : ℕ) (made : List ℕ). means n (n - 11) (wrong_in_all ps bytes) 0 l made) loose written
+    blocks_all_read names bytes (omega (arith, count, few)) ∙ grind (arith, all_fixed, none_flagged)
 
 none_fixed : (packets : List (List ℕ)) → fixed_in (map as_sent packets) ≡ 0
 unfolding fixed_in
@@ -204,8 +162,4 @@ none_fixed (p ∷ ps) = none_fixed ps
 pub sent_comes_back : (names : List (List ℕ)) (stream : List ℕ) → whole_packets stream ≤ 624000000
     → ArePackets (packets_of stream)
     → meaning_of_file blocks dvb_reading names (dvb (packets_of stream)) ≡ back_of names stream 0
-sent_comes_back names stream few packets =
-    let ps = packets_of stream in
-    comes_back names stream (dvb ps) few packets (undamaged ps)
-    ∙ ap (back_of names stream) (sym (all_fixed ps (dvb ps) packets (undamaged ps))
-    ∙ ap fixed_in (all_as_sent ps packets) ∙ none_fixed (take (length ps - 11) ps))
+sent_comes_back names stream few packets = grind (arith, comes_back, undamaged, all_fixed, all_as_sent, none_fixed)

@@ -7,6 +7,5 @@ use Rattle.std.proofs.Math.Seq.{take-add}
 -- the first chunks of a list, one behind another, are its front
 pub chunks_flat : {X : Type 0} (n k : ℕ) (xs : List X) → flat_map (λ c. c) (first_chunks n k xs) ≡ take (k * n) xs
 chunks_flat n zero xs = let none : 0 ≡ 0 * n = omega arith in ap (λ m. take m xs) none
-chunks_flat n (suc k) xs =
-    let more : n + k * n ≡ suc k * n = omega arith in
-    ap (λ z. take n xs ++ z) (chunks_flat n k (drop n xs)) ∙ sym (take-add n (k * n) xs) ∙ ap (λ m. take m xs) more
+chunks_flat n (suc k) xs = ap (λ z. take n xs ++ z) (chunks_flat n k (drop n xs)) ∙ sym (take-add n (k * n) xs)
+    ∙ ap (λ m. take m xs) (omega arith)

@@ -1,6 +1,6 @@
 -- What a block gives, counted and put behind what was given before.
-use Rattle.std.proofs.Common.{◌≡◌, ℕ, ◌+◌, ◌/◌, ◌%◌, ◌<◌, ◌++◌, List, [], ◌∷◌, length, get_or, refl}
-use Rattle.std.proofs.Common.{sym, ap, ap₂, ◌∙◌, arith, append_assoc}
+use Rattle.std.proofs.Common.{◌≡◌, ℕ, ◌+◌, ◌/◌, ◌%◌, ◌<◌, ◌++◌, List, [], length, get_or, refl, sym, ap, ap₂, ◌∙◌}
+use Rattle.std.proofs.Common.{arith, append_assoc}
 use Rattle.std.specs.List.{flat_map, range_with_len}
 use Rattle.std.proofs.lemmas.Grind.{flat_map-append}
 use Rattle.std.proofs.lemmas.List.{append-nil, get_or_default}
@@ -33,14 +33,12 @@ pub gathered_on : (old new : Gathered) (taken : Taken) (packet : List ℕ) (read
     → new.packets ≡ old.packets ++ bytes_of_reads (given taken packet)
     → HasGathered new (reads ++ given taken packet) before
 gathered_on old new taken packet reads before was fixed flagged packets = record {
-  fixed = fixed ∙ ap₂ (λ (a b : ℕ). a + b) was.fixed (sym (fixed_given taken packet))
-      ∙ sym (fixed-append reads (given taken packet));
+  fixed = grind (arith, fixed_given, fixed-append);
   flagged = flagged ∙ ap₂ (λ (a b : ℕ). a + b) was.flagged (sym (flagged_given taken packet))
       ∙ sym (flagged-append reads (given taken packet));
   bytes = bytes_of_reads-append reads (given taken packet)
       ∙ ap (λ z. z ++ bytes_of_reads (given taken packet)) was.bytes
-      ∙ append_assoc before old.packets (bytes_of_reads (given taken packet))
-      ∙ ap (λ z. before ++ z) (sym packets);
+      ∙ append_assoc before old.packets (bytes_of_reads (given taken packet)) ∙ ap (λ z. before ++ z) (sym packets);
 }
 
 -- what one block more of a batch gives, behind what was given before
@@ -62,8 +60,4 @@ given_on taken packets p four t heads packet reads few less one same =
     ∙ get_or_default (get_or packets q []) (p % 4) packet [] same in
     append_assoc reads (flat_map gives (range_with_len 0 p))
     (given (get_or (get_or taken q four) (p % 4) t) (get_or (get_or packets q heads) (p % 4) packet))
-    ∙ ap (λ z. reads ++ z) (
-    ap (λ z. flat_map gives (range_with_len 0 p) ++ z) (
-    ap₂ given answer bytes ∙ sym (append-nil (gives p)) ∙ ap (λ i. flat_map gives (i ∷ [])) (sym here))
-    ∙ sym (ap (flat_map gives) (range_with_len-parts 0 p 1)
-    ∙ flat_map-append gives (range_with_len 0 p) (range_with_len (0 + p) 1)))
+    ∙ ap (λ z. reads ++ z) (grind (arith, append-nil, range_with_len-parts, flat_map-append))

@@ -18,8 +18,7 @@ pub packets_of-next : (given packet : List ℕ) → length given % 188 ≡ 0 →
 packets_of-next given packet whole long =
     let one : whole_packets packet ≡ 1 = omega (arith, long) in
     packets_of-append given packet whole
-    ∙ ap (λ (ps : List (List ℕ)). packets_of given ++ ps) (ap (packets_from packet 0) one
-    ∙ ap (λ (p : List ℕ). p ∷ []) (take_all 188 packet (omega (arith, long))))
+    ∙ ap (λ (ps : List (List ℕ)). packets_of given ++ ps) (rw (one, take_all 188 packet (omega (arith, long))))
 
 -- the bytes of the first packets
 each_placed : (bytes : List ℕ) (n : ℕ) → n ≤ whole_packets bytes
@@ -35,15 +34,12 @@ each_placed bytes (suc n) within =
     let given : packets_of (take (188 * n) bytes) ≡ before = packets_of-piece bytes 0 n (omega (arith, fits)) in
     let next : packets_from bytes 0 (n + 1) ≡ before ++ packet ∷ [] =
     map-range_with_len_more (packet_at bytes) 0 n n (omega arith) in
-    ap (λ (m : ℕ). each 188 placed_behind [] m bytes) more
-    ∙ each-next 188 placed_behind [] n bytes
+    ap (λ (m : ℕ). each 188 placed_behind [] m bytes) more ∙ each-next 188 placed_behind [] n bytes
     ∙ ap (λ (ps : List (List ℕ)). each 188 placed_behind [] n bytes ++ placed_one ps packet) given
     ∙ ap (λ (b : List ℕ). b ++ put) (each_placed bytes n fits)
     ∙ ap (λ (b : List ℕ). flat_map (λ p. p) (placed before) ++ b) (sym (append-nil put))
     ∙ sym (flat_map-append (λ (p : List ℕ). p) (placed before) (put ∷ []))
-    ∙ ap (λ (ps : List (List ℕ)). flat_map (λ p. p) ps) (sym (placed-next before packet))
-    ∙ ap (λ (ps : List (List ℕ)). flat_map (λ p. p) (placed ps)) (sym next)
-    ∙ ap (λ (m : ℕ). flat_map (λ p. p) (placed (packets_from bytes 0 m))) (sym more)
+    ∙ ap (λ (ps : List (List ℕ)). flat_map (λ p. p) ps) (sym (placed-next before packet)) ∙ grind arith
 
 -- the bytes that the engine makes
 pub made_placed : (bytes : List ℕ) → (placing.made bytes).first ≡ flat_map (λ p. p) (placed (packets_of bytes))

@@ -12,8 +12,7 @@ use Rattle.std.proofs.lemmas.List.Sums.{count_by-le-length, sum_by-append}
 use Rattle.dtx_adapter.specs.Feed.{is_placeholder}
 use Rattle.dtx_packet_jobs.specs.declared.placing.Placing.{Placing}
 use Rattle.dtx_packet_jobs.specs.Placing.{IsCounted, closed_fields}
-use Rattle.dtx_recipes.specs.Place.{bare_fields, becomes, becoming, behind, fields, is_null, is_open, placed}
-use Rattle.dtx_recipes.specs.Place.{placed_count}
+use Rattle.dtx_recipes.specs.Place.{bare_fields, becomes, becoming, behind, is_open, placed, placed_count}
 use Rattle.dtx_packets.specs.Packet.{pid_of}
 use Rattle.dtx_packet_jobs.proofs.PlacedPackets.{any_more, any_same, behind_none, behind_same, length-placed}
 use Rattle.dtx_packet_jobs.proofs.PlacedPackets.{length-scanned, scanned-next}
@@ -36,10 +35,8 @@ fits_with n false small = omega (arith, small)
 pub placed_count-next : (packets : List (List ℕ)) (packet : List ℕ)
     → placed_count (packets ++ packet ∷ []) ≡ placed_count packets + (if becomes packets packet then 1 else 0)
 unfolding placed_count
-placed_count-next packets packet =
-    ap (count_by (λ (c : Bool). c)) (scanned-next becomes [] packets packet)
-    ∙ sum_by-append one_if (becoming packets) (becomes packets packet ∷ [])
-    ∙ ap (λ (k : ℕ). count_by (λ (c : Bool). c) (becoming packets) + k) (none_more (one_if (becomes packets packet)))
+placed_count-next packets packet = ap (count_by (λ (c : Bool). c)) (scanned-next becomes [] packets packet)
+    ∙ grind (arith, sum_by-append, none_more)
   where
     none_more : (n : ℕ) → 0 + n ≡ n
     none_more n = omega arith
@@ -85,24 +82,7 @@ pub bare_is : (s : Placing) (packets : List (List ℕ)) (units : ℕ) → IsCoun
     → s.bare + bool_byte (not (units % 312 == 0) && not s.found) ≡ bare_fields (placed packets)
 unfolding bare_fields
 bare_is s packets units counted all =
-    let f = length packets / 312 in
-    elim (cases_eq (units % 312) 0) [
-      | inl none ↦
-          let count : fields (placed packets) ≡ f = omega (arith, length-placed packets, all, none) in
-          ap (λ (b : Bool). s.bare + bool_byte (not b && not s.found)) (eq-eqb (units % 312) 0 none)
-          ∙ (let e : s.bare + 0 ≡ s.bare = omega arith in e) ∙ counted.without
-          ∙ sym (ap bare_first count ∙ closed_fields-bare packets f)
-      | inr some ↦
-          let count : fields (placed packets) ≡ suc f = omega (arith, length-placed packets, all, some) in
-          ap (λ (b : Bool). s.bare + bool_byte (not b && not s.found)) (ne_eqb (units % 312) 0 some)
-          ∙ ap (λ (m : ℕ). s.bare + m) (one_if_is (not s.found))
-          ∙ ap₂ (λ (k : ℕ) (b : Bool). k + one_if (not b)) counted.without counted.field
-          ∙ sym (ap bare_first count ∙ closed_fields-bare packets (suc f))
-    ]
-  where
-    bare_first : ℕ → ℕ
-    bare_first count = count_by (λ rest. not (list_any is_placeholder rest))
-        (map (behind (placed packets)) (range_with_len 0 count))
+    grind (arith, cases_eq, length-placed, eq-eqb, closed_fields-bare, ne_eqb, one_if_is)
 
 -- ---- one packet more, at this place of its field
 
@@ -114,14 +94,8 @@ found_next packets packet place at =
     let f = length packets / 312 in
     let any = list_any is_open (behind packets f) in
     elim (cases_lt place 52) [
-      | inl early ↦
-          ap (list_any is_open) (behind_none (packets ++ packet ∷ []) f
-          (omega (arith, length-append packets (packet ∷ []), at, early)))
-          ∙ sym (ap (λ (b : Bool). any || (b && is_open packet)) (lt-leb 52 place early)
-          ∙ ap (λ (rest : List (List ℕ)). list_any is_open rest || false)
-          (behind_none packets f (omega (arith, at, early))))
-      | inr late ↦
-          any_more is_open packets packet f (omega (arith, at, late)) (omega arith)
+      | inl early ↦ grind (arith, behind_none, length-append, lt-leb)
+      | inr late ↦ any_more is_open packets packet f (omega (arith, at, late)) (omega arith)
           ∙ sym (ap (λ (b : Bool). any || (b && is_open packet)) (le-leb 52 place late))
     ]
 
@@ -130,14 +104,11 @@ pub becomes_is : (s : Placing) (packets : List (List ℕ)) (packet : List ℕ) (
     → place ≡ length packets % 312 → pid ≡ pid_of packet
     → becomes packets packet ≡ ((pid == 0x1FFF) && (nat_le 52 place && not s.found))
 unfolding becomes
-becomes_is s packets packet place pid counted at is =
-    sym (ap₂ (λ (q p : ℕ). (q == 0x1FFF) && (nat_le 52 p && not s.found)) is at
-    ∙ ap (λ (b : Bool). is_null packet && (nat_le 52 (length packets % 312) && not b)) counted.field)
+becomes_is s packets packet place pid counted at is = grind arith
 
 -- it is counted; the last one of a field ends it
 pub counted-next : (s t : Placing) (packets : List (List ℕ)) (packet : List ℕ) (place : ℕ) (found : Bool)
-    → IsCounted s packets → place ≡ length packets % 312
-    → found ≡ (s.found || (nat_le 52 place && is_open packet))
+    → IsCounted s packets → place ≡ length packets % 312 → found ≡ (s.found || (nat_le 52 place && is_open packet))
     → t.placed ≡ s.placed + bool_byte (becomes packets packet)
     → t.bare ≡ s.bare + bool_byte ((place == 311) && not found)
     → t.found ≡ (not (place == 311) && found) → IsCounted t (packets ++ packet ∷ [])
@@ -145,9 +116,7 @@ counted-next s t packets packet place found counted at is placed_is bare_is foun
     let f = length packets / 312 in
     let all = packets ++ packet ∷ [] in
     let more : length all ≡ length packets + 1 = length-append packets (packet ∷ []) in
-    let changed : t.placed ≡ placed_count all = placed_is
-    ∙ ap₂ (λ (k m : ℕ). k + m) counted.changed (one_if_is (becomes packets packet))
-    ∙ sym (placed_count-next packets packet) in
+    let changed : t.placed ≡ placed_count all = grind (arith, one_if_is, placed_count-next) in
     let any : found ≡ list_any is_open (behind all f) = is
     ∙ ap (λ (b : Bool). b || (nat_le 52 place && is_open packet)) counted.field
     ∙ sym (found_next packets packet place at) in
@@ -158,8 +127,7 @@ counted-next s t packets packet place found counted at is placed_is bare_is foun
           let field : length all / 312 ≡ suc f = omega (arith, more, at, ends) in
           record {
             changed = changed;
-            without = bare_is
-                ∙ ap (λ (b : Bool). s.bare + bool_byte (b && not found)) (eq-eqb place 311 ends)
+            without = bare_is ∙ ap (λ (b : Bool). s.bare + bool_byte (b && not found)) (eq-eqb place 311 ends)
                 ∙ ap (λ (m : ℕ). s.bare + m) (one_if_is (not found))
                 ∙ ap₂ (λ (k : ℕ) (b : Bool). k + one_if (not b)) before any
                 ∙ sym (ap (closed_fields all) field);
@@ -170,10 +138,8 @@ counted-next s t packets packet place found counted at is placed_is bare_is foun
           let field : length all / 312 ≡ f = omega (arith, more, at, going) in
           record {
             changed = changed;
-            without = bare_is
-                ∙ ap (λ (b : Bool). s.bare + bool_byte (b && not found)) (ne_eqb place 311 going)
-                ∙ (let e : s.bare + 0 ≡ s.bare = omega arith in e) ∙ before
-                ∙ sym (ap (closed_fields all) field);
+            without = bare_is ∙ ap (λ (b : Bool). s.bare + bool_byte (b && not found)) (ne_eqb place 311 going)
+                ∙ (let e : s.bare + 0 ≡ s.bare = omega arith in e) ∙ before ∙ sym (ap (closed_fields all) field);
             field = found_is ∙ ap (λ (b : Bool). not b && found) (ne_eqb place 311 going) ∙ any
                 ∙ sym (ap (λ (g : ℕ). list_any is_open (behind all g)) field);
           }

@@ -1,9 +1,8 @@
 -- Placeholders that are put, as the packets come.
-use Rattle.std.proofs.Common.{◌≡◌, ◌≢◌, ℕ, ◌+◌, ◌-◌, ◌*◌, ◌/◌, ◌%◌, ◌<◌, ◌≤◌, Bool, true, false, not, ◌&&◌}
-use Rattle.std.proofs.Common.{◌||◌, List, [], ◌∷◌, ◌++◌, length, take, drop, map, get_or, refl, sym, ap, subst, ◌∙◌}
-use Rattle.std.proofs.Common.{arith, cond}
+use Rattle.std.proofs.Common.{◌≡◌, ◌≢◌, ℕ, ◌+◌, ◌-◌, ◌*◌, ◌/◌, ◌%◌, ◌<◌, ◌≤◌, Bool, true, false, not, ◌&&◌, ◌||◌, List}
+use Rattle.std.proofs.Common.{[], ◌∷◌, ◌++◌, length, take, drop, map, get_or, refl, sym, ap, subst, ◌∙◌, arith, cond}
 use Rattle.std.proofs.Common.{append_assoc, nat_le, inl, inr}
-use Rattle.std.specs.Prelude.{◌⊎◌, slice_set}
+use Rattle.std.specs.Prelude.{◌⊎◌}
 use Rattle.std.specs.List.{list_any, range_with_len}
 use Rattle.std.proofs.lemmas.List.{append-nil, length-append, length-drop, length-set, take_all, take-append-le}
 use Rattle.std.proofs.lemmas.List.{drop-append-le}
@@ -12,8 +11,7 @@ use Rattle.std.proofs.lemmas.Bool.{cond-true, cond-false, and_parts, not-false, 
 use Rattle.std.proofs.lemmas.Bool.{false≢true, cases_Bool, cases_eq}
 use Rattle.std.proofs.lemmas.List.{get_or-set_other, get_or-set_same}
 use Rattle.std.proofs.lemmas.List.Folds.{list_any-append}
-use Rattle.std.proofs.lemmas.List.FromFn.{length-map-range_with_len, map-range_with_len_more}
-use Rattle.std.proofs.lemmas.List.FromFn.{get_or-map-range_with_len}
+use Rattle.std.proofs.lemmas.List.FromFn.{length-map-range_with_len, map-range_with_len_more, get_or-map-range_with_len}
 use Rattle.std.proofs.Math.ListN.{drop_of_length-le, get_or-append}
 use Rattle.std.proofs.Math.Seq.{get_or-append_seam, take-append_seam}
 use Rattle.dtx_lists.proofs.Range.{map-range_same}
@@ -47,9 +45,8 @@ scanned-next {X} {Y} g d xs x =
     let all = xs ++ x ∷ [] in
     let f = λ (k : ℕ). g (take k all) (get_or all k d) in
     let more : length all ≡ n + 1 = length-append xs (x ∷ []) in
-    let same : (k : ℕ) → 0 ≤ k → k < 0 + n → f k ≡ g (take k xs) (get_or xs k d) = λ k _ within.
-    ap (λ (t : List X). g t (get_or all k d)) (take-append-le k xs (x ∷ []) (omega (arith, within)))
-    ∙ ap (g (take k xs)) (get_or-append xs (x ∷ []) d k (omega (arith, within))) in
+    let same : (k : ℕ) → 0 ≤ k → k < 0 + n → f k ≡ g (take k xs) (get_or xs k d) =
+    grind (arith, take-append-le, get_or-append) in
     let last : f n ≡ g xs x = ap (λ (t : List X). g t (get_or all n d)) (take-append_seam xs (x ∷ []))
     ∙ ap (g xs) (get_or-append_seam xs x [] d) in
     ap (λ (m : ℕ). map f (range_with_len 0 m)) more ∙ map-range_with_len_more f 0 n n (omega arith)
@@ -104,23 +101,15 @@ null_long (a ∷ (b ∷ (c ∷ rest))) e = omega arith
 -- its packet identifier
 pub pid-as_placeholder : (packet : List ℕ) → is_null packet ≡ true → pid_of (as_placeholder packet) ≡ 0x1FFA
 unfolding as_placeholder
-pid-as_placeholder packet null =
-    let two : 2 < length packet = null_long packet (null_pid packet null) in
-    let first : get_or (slice_set packet 2 (get_or packet 2 0 - 5)) 1 0 ≡ get_or packet 1 0 =
-    get_or-set_other packet 2 1 (get_or packet 2 0 - 5) 0 (λ e. absurd (omega (arith, e))) in
-    let second : get_or (slice_set packet 2 (get_or packet 2 0 - 5)) 2 0 ≡ get_or packet 2 0 - 5 =
-    get_or-set_same packet 2 (get_or packet 2 0 - 5) 0 two in
-    omega (arith, first, second, null_pid packet null)
+pid-as_placeholder packet null = grind (arith, null_long, null_pid, get_or-set_other, get_or-set_same)
 
 pub is_placeholder-as_placeholder : (packet : List ℕ) → is_null packet ≡ true
     → is_placeholder (as_placeholder packet) ≡ true
 unfolding is_placeholder
-is_placeholder-as_placeholder packet null =
-    eq-eqb (pid_of (as_placeholder packet)) 0x1FFA (pid-as_placeholder packet null)
+is_placeholder-as_placeholder packet null = grind (arith, eq-eqb, pid-as_placeholder)
 
 pub is_null-as_placeholder : (packet : List ℕ) → is_null packet ≡ true → is_null (as_placeholder packet) ≡ false
-is_null-as_placeholder packet null =
-    ne_eqb (pid_of (as_placeholder packet)) 0x1FFF (λ e. absurd (omega (arith, e, pid-as_placeholder packet null)))
+is_null-as_placeholder packet null = grind (arith, ne_eqb, pid-as_placeholder)
 
 -- where a field's later part has a packet that may become one or is one, what is placed has a placeholder there
 one_same : (found null held : Bool) (before : List (List ℕ)) (packet : List ℕ) → is_null packet ≡ null
@@ -128,10 +117,7 @@ one_same : (found null held : Bool) (before : List (List ℕ)) (packet : List �
     → (found || is_placeholder (placed_one before packet)) ≡ (found || is_open packet)
 unfolding is_open
 one_same true null held before packet n h b = refl
-one_same false true held before packet n h b =
-    ap is_placeholder (cond-true (becomes before packet) (as_placeholder packet) packet b)
-    ∙ is_placeholder-as_placeholder packet n
-    ∙ sym (or_left (is_null packet) (is_placeholder packet) n)
+one_same false true held before packet n h b = grind (arith, cond-true, is_placeholder-as_placeholder, or_left)
 one_same false false held before packet n h b =
     ap is_placeholder (cond-false (becomes before packet) (as_placeholder packet) packet b)
     ∙ ap (λ (t : Bool). t || is_placeholder packet) (sym n)
@@ -142,20 +128,15 @@ pub becomes_late : (before : List (List ℕ)) (packet : List ℕ) (f : ℕ) → 
     → becomes before packet ≡ (is_null packet && not (list_any is_open (behind before f)))
 unfolding becomes
 becomes_late before packet f begun going =
-    let field : length before / 312 ≡ f = omega (arith, begun, going) in
-    let late : nat_le 52 (length before % 312) ≡ true =
-    le-leb 52 (length before % 312) (omega (arith, begun, going)) in
+    let late : nat_le 52 (length before % 312) ≡ true = le-leb 52 (length before % 312) (omega (arith, begun, going)) in
     ap (λ (t : Bool). is_null packet && (t && not (list_any is_open (behind before (length before / 312))))) late
-    ∙ ap (λ (g : ℕ). is_null packet && not (list_any is_open (behind before g))) field
+    ∙ ap (λ (g : ℕ). is_null packet && not (list_any is_open (behind before g))) (omega (arith, begun, going))
 
 -- before it
 pub becomes_early : (before : List (List ℕ)) (packet : List ℕ) → length before % 312 < 52
     → becomes before packet ≡ false
 unfolding becomes
-becomes_early before packet early =
-    let rest = not (list_any is_open (behind before (length before / 312))) in
-    and_right (is_null packet) (nat_le 52 (length before % 312) && rest)
-    (and_left (nat_le 52 (length before % 312)) rest (lt-leb 52 (length before % 312) early))
+becomes_early before packet early = grind (arith, and_right, and_left, lt-leb)
 
 or_none : (t : Bool) → (t || false) ≡ t
 or_none true = refl
@@ -165,10 +146,7 @@ or_none false = refl
 pub any_more : (test : List ℕ → Bool) (packets : List (List ℕ)) (packet : List ℕ) (f : ℕ)
     → 312 * f + 52 ≤ length packets → length packets < 312 * f + 312
     → list_any test (behind (packets ++ packet ∷ []) f) ≡ (list_any test (behind packets f) || test packet)
-any_more test packets packet f begun going =
-    ap (list_any test) (behind_more packets packet f begun going)
-    ∙ list_any-append test (behind packets f) (packet ∷ [])
-    ∙ ap (λ (t : Bool). list_any test (behind packets f) || t) (or_none (test packet))
+any_more test packets packet f begun going = grind (arith, behind_more, list_any-append, or_none)
 
 abbrev IsSameBehind : List (List ℕ) → Type 0
 IsSameBehind packets = (f : ℕ)
@@ -185,20 +163,13 @@ any_same_more packets packet same f =
     let by_cases : (n < 312 * f + 52) ⊎ (312 * f + 52 ≤ n) → (n < 312 * f + 312) ⊎ (312 * f + 312 ≤ n)
     → list_any is_placeholder (behind (out ++ put ∷ []) f) ≡ list_any is_open (behind all f) = λ start end.
     elim start [
-      | inl before ↦
-          ap (list_any is_placeholder) (behind_none (out ++ put ∷ []) f
-          (omega (arith, length-append out (put ∷ []), long, before)))
-          ∙ sym (ap (list_any is_open) (behind_none all f (omega (arith, length-append packets (packet ∷ []), before))))
+      | inl before ↦ grind (arith, behind_none, length-append)
       | inr begun ↦ elim end [
-        | inl going ↦
-            any_more is_placeholder out put f (omega (arith, long, begun)) (omega (arith, long, going))
+        | inl going ↦ any_more is_placeholder out put f (omega (arith, long, begun)) (omega (arith, long, going))
             ∙ ap (λ (t : Bool). t || is_placeholder put) (same f)
             ∙ one_same (list_any is_open (behind packets f)) (is_null packet) (is_placeholder packet) packets packet
-            refl refl (becomes_late packets packet f begun going)
-            ∙ sym (any_more is_open packets packet f begun going)
-        | inr ended ↦
-            ap (list_any is_placeholder) (behind_same out put f (omega (arith, long, ended)))
-            ∙ same f
+            refl refl (becomes_late packets packet f begun going) ∙ sym (any_more is_open packets packet f begun going)
+        | inr ended ↦ ap (list_any is_placeholder) (behind_same out put f (omega (arith, long, ended))) ∙ same f
             ∙ sym (ap (list_any is_open) (behind_same packets packet f ended))
       ]
     ] in
@@ -207,30 +178,23 @@ any_same_more packets packet same f =
 
 pub any_same : (packets : List (List ℕ)) (f : ℕ)
     → list_any is_placeholder (behind (placed packets) f) ≡ list_any is_open (behind packets f)
-any_same = by_last IsSameBehind
-    (λ f. ap (list_any is_placeholder) (behind_none (placed []) f (omega (arith, length-placed [])))
-    ∙ sym (ap (list_any is_open) (behind_none [] f (omega arith)))) any_same_more
+any_same = by_last IsSameBehind (λ f. grind (arith, behind_none, length-placed)) any_same_more
 
 -- ---- placed twice
 
 not_null : (before : List (List ℕ)) (packet : List ℕ) → is_null packet ≡ false → becomes before packet ≡ false
 unfolding becomes
-not_null before packet other = and_left (is_null packet)
-    (nat_le 52 (length before % 312) && not (list_any is_open (behind before (length before / 312)))) other
+not_null before packet other = grind (arith, and_left)
 
 was_null : (before : List (List ℕ)) (packet : List ℕ) → becomes before packet ≡ true → is_null packet ≡ true
 unfolding becomes
-was_null before packet is = (and_parts (is_null packet)
-    (nat_le 52 (length before % 312) && not (list_any is_open (behind before (length before / 312)))) is).0
+was_null before packet is = grind (arith, and_parts)
 
 -- a null packet that stays has a packet of its kind before it in its field
 found_before : (before : List (List ℕ)) (packet : List ℕ) (f : ℕ) → 312 * f + 52 ≤ length before
     → length before < 312 * f + 312 → is_null packet ≡ true → becomes before packet ≡ false
     → list_any is_open (behind before f) ≡ true
-found_before before packet f begun going null stays =
-    not-false (list_any is_open (behind before f))
-    (ap (λ (t : Bool). t && not (list_any is_open (behind before f))) (sym null)
-    ∙ sym (becomes_late before packet f begun going) ∙ stays)
+found_before before packet f begun going null stays = grind (arith, not-false, becomes_late)
 
 open_of_placeholder : (packets : List (List ℕ)) → list_any is_placeholder packets ≡ true
     → list_any is_open packets ≡ true
@@ -250,24 +214,17 @@ still before packet null stays =
     let long : length (placed before) ≡ n = length-placed before in
     elim (cases_lt (n % 312) 52) [
       | inl early ↦ becomes_early (placed before) packet (omega (arith, long, early))
-      | inr late ↦
-          let found : list_any is_open (behind (placed before) f) ≡ true =
-          open_of_placeholder (behind (placed before) f) (any_same before f
-          ∙ found_before before packet f (omega (arith, late)) (omega arith) null stays) in
-          becomes_late (placed before) packet f (omega (arith, long, late)) (omega (arith, long))
+      | inr late ↦ becomes_late (placed before) packet f (omega (arith, long, late)) (omega (arith, long))
           ∙ and_right (is_null packet) (not (list_any is_open (behind (placed before) f)))
-          (not_from_true (list_any is_open (behind (placed before) f)) found)
+          (not_from_true (list_any is_open (behind (placed before) f)) (open_of_placeholder (behind (placed before) f)
+          (any_same before f ∙ found_before before packet f (omega (arith, late)) (omega arith) null stays)))
     ]
 
 -- what became of a packet stays where it comes behind what became of those before it
 again_one : (before : List (List ℕ)) (packet : List ℕ) (changed null : Bool) → becomes before packet ≡ changed
     → is_null packet ≡ null → becomes (placed before) (placed_one before packet) ≡ false
-again_one before packet true null is n =
-    not_null (placed before) (placed_one before packet)
-    (ap is_null (cond-true (becomes before packet) (as_placeholder packet) packet is)
-    ∙ is_null-as_placeholder packet (was_null before packet is))
-again_one before packet false false is n =
-    not_null (placed before) (placed_one before packet)
+again_one before packet true null is n = grind (arith, not_null, cond-true, is_null-as_placeholder, was_null)
+again_one before packet false false is n = not_null (placed before) (placed_one before packet)
     (ap is_null (cond-false (becomes before packet) (as_placeholder packet) packet is) ∙ n)
 again_one before packet false true is n =
     ap (becomes (placed before)) (cond-false (becomes before packet) (as_placeholder packet) packet is)
@@ -282,95 +239,43 @@ placed_twice = by_last (λ packets. placed (placed packets) ≡ placed packets) 
 
     more : (packets : List (List ℕ)) (packet : List ℕ) → placed (placed packets) ≡ placed packets
         → placed (placed (packets ++ packet ∷ [])) ≡ placed (packets ++ packet ∷ [])
-    more packets packet same =
-        let put = placed_one packets packet in
-        let stays : placed_one (placed packets) put ≡ put =
-        cond-false (becomes (placed packets) put) (as_placeholder put) put
-        (again_one packets packet (becomes packets packet) (is_null packet) refl refl) in
-        ap placed (placed-next packets packet) ∙ placed-next (placed packets) put
-        ∙ ap (λ (o : List (List ℕ)). o ++ placed_one (placed packets) put ∷ []) same
-        ∙ ap (λ (p : List ℕ). placed packets ++ p ∷ []) stays
-        ∙ sym (placed-next packets packet)
+    more packets packet same = grind (arith, cond-false, again_one, placed-next)
 
 -- ---- each packet of what is placed
 
 pub placed_at : (packets : List (List ℕ)) (k : ℕ) → k < length packets
     → get_or (placed packets) k [] ≡ placed_one (take k packets) (get_or packets k [])
 unfolding placed
-placed_at packets k within =
-    get_or-map-range_with_len (λ (i : ℕ). placed_one (take i packets) (get_or packets i [])) 0 (length packets) k k []
-    within (omega arith)
+placed_at packets k within = grind (arith, get_or-map-range_with_len)
 
 -- one with another packet identifier stays
 pub other_stays : (packets : List (List ℕ)) (k : ℕ) → k < length packets → pid_of (get_or packets k []) ≢ 0x1FFF
     → get_or (placed packets) k [] ≡ get_or packets k []
-other_stays packets k within other =
-    let packet = get_or packets k [] in
-    placed_at packets k within
-    ∙ cond-false (becomes (take k packets) packet) (as_placeholder packet) packet
-    (not_null (take k packets) packet (ne_eqb (pid_of packet) 0x1FFF other))
+other_stays packets k within other = grind (arith, placed_at, cond-false, not_null, ne_eqb)
 
 -- all bytes but byte 2 stay
 pub bytes_stay : (packets : List (List ℕ)) (k j : ℕ) → k < length packets → j ≢ 2
     → get_or (get_or (placed packets) k []) j 0 ≡ get_or (get_or packets k []) j 0
 unfolding as_placeholder
-bytes_stay packets k j within other =
-    let packet = get_or packets k [] in
-    ap (λ (p : List ℕ). get_or p j 0) (placed_at packets k within)
-    ∙ elim (cases_Bool (becomes (take k packets) packet)) [
-      | inl is ↦
-          ap (λ (p : List ℕ). get_or p j 0)
-          (cond-true (becomes (take k packets) packet) (as_placeholder packet) packet is)
-          ∙ get_or-set_other packet 2 j (get_or packet 2 0 - 5) 0 other
-      | inr isnt ↦
-          ap (λ (p : List ℕ). get_or p j 0)
-          (cond-false (becomes (take k packets) packet) (as_placeholder packet) packet isnt)
-    ]
+bytes_stay packets k j within other = grind (arith, placed_at, cases_Bool, cond-true, get_or-set_other, cond-false)
 
 -- no byte grows: byte 2 of a packet that is changed is less by five
 lower_one : (before : List (List ℕ)) (packet : List ℕ) (changed : Bool) → becomes before packet ≡ changed
     → get_or (cond changed (as_placeholder packet) packet) 2 0 ≤ get_or packet 2 0
 unfolding as_placeholder
-lower_one before packet true is =
-    let two : 2 < length packet = null_long packet (null_pid packet (was_null before packet is)) in
-    let less : get_or (slice_set packet 2 (get_or packet 2 0 - 5)) 2 0 ≡ get_or packet 2 0 - 5 =
-    get_or-set_same packet 2 (get_or packet 2 0 - 5) 0 two in
-    omega (arith, less)
+lower_one before packet true is = grind (arith, null_long, null_pid, was_null, get_or-set_same)
 lower_one before packet false is = omega arith
 
 pub bytes_lower : (packets : List (List ℕ)) (k j : ℕ) → k < length packets
     → get_or (get_or (placed packets) k []) j 0 ≤ get_or (get_or packets k []) j 0
-bytes_lower packets k j within = elim (cases_eq j 2) [
-  | inl second ↦
-      (let packet = get_or packets k [] in
-      let two : get_or (get_or (placed packets) k []) 2 0 ≤ get_or packet 2 0 =
-      subst (λ (p : List ℕ). get_or p 2 0 ≤ get_or packet 2 0) (sym (placed_at packets k within))
-      (lower_one (take k packets) packet (becomes (take k packets) packet) refl) in
-      subst (λ (i : ℕ). get_or (get_or (placed packets) k []) i 0 ≤ get_or packet i 0) (sym second) two)
-  | inr other ↦ omega (arith, bytes_stay packets k j within other)
-]
+bytes_lower packets k j within = grind (arith, cases_eq, placed_at, lower_one, bytes_stay)
 
 pub lengths_stay : (packets : List (List ℕ)) (k : ℕ) → k < length packets
     → length (get_or (placed packets) k []) ≡ length (get_or packets k [])
 unfolding as_placeholder
-lengths_stay packets k within =
-    let packet = get_or packets k [] in
-    ap (λ (p : List ℕ). length p) (placed_at packets k within)
-    ∙ elim (cases_Bool (becomes (take k packets) packet)) [
-      | inl is ↦
-          ap (λ (p : List ℕ). length p)
-          (cond-true (becomes (take k packets) packet) (as_placeholder packet) packet is)
-          ∙ length-set packet 2 (get_or packet 2 0 - 5)
-      | inr isnt ↦
-          ap (λ (p : List ℕ). length p)
-          (cond-false (becomes (take k packets) packet) (as_placeholder packet) packet isnt)
-    ]
+lengths_stay packets k within = grind (arith, placed_at, cases_Bool, cond-true, length-set, cond-false)
 
 -- a packet that is changed has the packet identifier of a placeholder
 pub changed_pid : (packets : List (List ℕ)) (k : ℕ) → k < length packets
     → becomes (take k packets) (get_or packets k []) ≡ true → pid_of (get_or (placed packets) k []) ≡ 0x1FFA
-changed_pid packets k within is =
-    let packet = get_or packets k [] in
-    ap (λ (p : List ℕ). pid_of p) (placed_at packets k within
-    ∙ cond-true (becomes (take k packets) packet) (as_placeholder packet) packet is)
-    ∙ pid-as_placeholder packet (was_null (take k packets) packet is)
+changed_pid packets k within is = grind (arith, placed_at, cond-true, pid-as_placeholder, was_null)

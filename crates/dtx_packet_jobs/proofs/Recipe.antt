@@ -1,8 +1,6 @@
 -- A made stream that is written packet by packet, and how that ends.
-use Rattle.std.proofs.Common.{◌≡◌, ℕ, ◌+◌, ◌-◌, ◌≤◌, List, [], ◌∷◌, ◌++◌, flat_map, sym, ap, subst, ◌∙◌}
-use Rattle.std.proofs.Common.{arith, inr}
+use Rattle.std.proofs.Common.{◌≡◌, ℕ, ◌+◌, ◌-◌, ◌≤◌, List, [], ◌∷◌, ◌++◌, sym, ap, subst, ◌∙◌, arith, inr}
 use Rattle.std.specs.Prelude.{Option}
-use Rattle.std.specs.List.{range_with_len}
 use Rattle.dtx_make.proofs.StreamsLemmas.{made_stream_none, made_stream_more, made_stream-parts}
 use Rattle.dtx_make.specs.Made.{made_packet, made_stream}
 use Rattle.dtx_meaning.proofs.MeaningLemmas.{carried_part}
@@ -20,17 +18,13 @@ use Rattle.dtx_recipes.specs.Make.{made_file}
 -- nothing is made yet
 pub made_none : (start now : Option Files) (output gathered : List ℕ) (seed : ℕ) → gathered ≡ []
     → IsWritten start output [] now → IsGathered start output (made_stream seed 0) gathered now
-made_none start now output gathered seed empty is =
-    subst (λ bytes. IsGathered start output bytes gathered now) (sym (made_stream_none seed))
-    (subst (λ g. IsGathered start output [] g now) (sym empty) (gathered_of_written start now output [] is))
+made_none start now output gathered seed empty is = grind (arith, made_stream_none, gathered_of_written)
 
 -- one more packet
 pub made_on : (start now : Option Files) (output gathered bytes : List ℕ) (seed i : ℕ) → bytes ≡ made_packet seed i
     → IsGathered start output (made_stream seed i ++ bytes) gathered now
     → IsGathered start output (made_stream seed (i + 1)) gathered now
-made_on start now output gathered bytes seed i is given =
-    subst (λ b. IsGathered start output b gathered now)
-    (ap (λ z. made_stream seed i ++ z) is ∙ sym (made_stream_more seed i)) given
+made_on start now output gathered bytes seed i is given = grind (arith, made_stream_more)
 
 -- a front part of fewer packets is one of more
 pub made_part : (start now : Option Files) (output bytes : List ℕ) (seed i count : ℕ) → i + 1 ≤ count
@@ -40,9 +34,7 @@ made_part start now output bytes seed i count within is (rest, given) =
     let all : (i + 1) + (count - (i + 1)) ≡ count = omega arith in
     subst (λ b. IsPartWritten start output b now)
     (sym (made_stream-parts seed (i + 1) (count - (i + 1))) ∙ ap (made_stream seed) all)
-    (part_of_more start now output (made_stream seed (i + 1))
-    (flat_map (made_packet seed) (range_with_len (i + 1) (count - (i + 1))))
-    (rest, made_on start now output rest bytes seed i is given))
+    (grind (arith, part_of_more, made_on))
 
 write_is_fault : (cause : WriteNo) → IsFault (of_write cause)
 write_is_fault Failed = tt
@@ -58,6 +50,4 @@ pub made_unwritten : (start now : Option Files) (output : List ℕ) (seed count 
     → IsPartWritten start output (made_stream seed count) now
     → IsCarriedOut (made_file seed count output) start outcome now
 made_unwritten start now output seed count cause status outcome same is part =
-    carried_part (made_file seed count output) start now outcome
-    (subst (λ (o : Outcome). IsFault o.status) (sym (is ∙ ap ended same)) (write_is_fault cause))
-    (λ none. cc) (part_output start now output (made_stream seed count) part)
+    grind (arith, carried_part, write_is_fault, part_output)

@@ -5,10 +5,10 @@ use Rattle.std.specs.Prelude.{Option, Some, None, IfSome, nat_lt, slice_index}
 use Rattle.std.specs.FinMap.{get}
 use Rattle.std.proofs.lemmas.List.{append-nil}
 use Rattle.dtx_adapter.specs.Feed.{placeholders}
-use Rattle.dtx_engine.specs.Recipe.{Course, Recipe, course_from, first_refused, first_units, meaning, meaning_at}
-use Rattle.dtx_engine.specs.Recipe.{meaning_of_file, whole_units}
+use Rattle.dtx_engine.specs.Recipe.{Recipe, first_refused, first_units, meaning, meaning_at, meaning_of_file}
+use Rattle.dtx_engine.specs.Recipe.{whole_units}
 use Rattle.dtx_engine.specs.declared.engine.Shape.{Shape}
-use Rattle.dtx_engine.specs.declared.piece.Ending.TheVariants.{Whole, Refused}
+use Rattle.dtx_engine.specs.declared.piece.Ending.TheVariants.{Whole}
 use Rattle.dtx_recipes.specs.Adapt.{feeding}
 use Rattle.dtx_recipes.specs.Feed.{feed_bytes}
 use Rattle.dtx_forms.proofs.FilePacketsLemmas.{length-packets_of, long-packets_of}
@@ -18,7 +18,7 @@ use Rattle.dtx_meaning.specs.Meaning.{Meaning, IsCarriedOut, IsWhole, and_then, 
 use Rattle.dtx_meaning.specs.Status.{IsFault}
 use Rattle.dtx_meaning.specs.declared.status.Outcome.{Outcome}
 use Rattle.dtx_meaning.specs.declared.status.Status.{Status}
-use Rattle.dtx_meaning.specs.declared.status.Status.TheVariants.{Done, TooLong}
+use Rattle.dtx_meaning.specs.declared.status.Status.TheVariants.{Done}
 use Rattle.dtx_network.specs.Network.{steps_under}
 use Rattle.dtx_outside.proofs.FilesLemmas.{get-insert_same}
 use Rattle.dtx_outside.specs.Shelf.{Files, with_file}
@@ -43,33 +43,12 @@ pub record AreAllTaken (shape : Shape) (recipe : Recipe) (file : List ℕ) : Typ
 -- so it is where the answer is that the command is done
 pub all_taken : (shape : Shape) (recipe : Recipe) (names : List (List ℕ)) (file : List ℕ)
     → (meaning_of_file shape recipe names file).outcome.status ≡ Done → AreAllTaken shape recipe file
-all_taken shape recipe names file done = by_first (first_refused shape recipe file) refl done
-  where
-    means_at : Course → Meaning
-    means_at course = meaning_at recipe names (first_units shape file course.taken) course.ending
-
-    by_few : (b : Bool) → nat_lt shape.limit (whole_units shape file) ≡ b → first_refused shape recipe file ≡ None
-        → (means_at (cond b (record { taken = shape.limit; ending = Refused TooLong })
-        (record { taken = whole_units shape file; ending = Whole (length file % shape.unit) }))).outcome.status ≡ Done
-        → AreAllTaken shape recipe file
-    by_few true few none done = cc
-    by_few false few none done = record { none = none; few = few }
-
-    by_first : (o : Option ℕ) → first_refused shape recipe file ≡ o
-        → (means_at (course_from shape file o)).outcome.status ≡ Done
-        → AreAllTaken shape recipe file
-    by_first (Some k) is done = cc
-    by_first None is done = by_few (nat_lt shape.limit (whole_units shape file)) refl is done
+all_taken shape recipe names file done = grind arith
 
 pub taken_means : (shape : Shape) (recipe : Recipe) (names : List (List ℕ)) (file : List ℕ)
-    → AreAllTaken shape recipe file
-    → meaning_of_file shape recipe names file ≡ meaning_at recipe names
+    → AreAllTaken shape recipe file → meaning_of_file shape recipe names file ≡ meaning_at recipe names
     (first_units shape file (whole_units shape file)) (Whole (length file % shape.unit))
-taken_means shape recipe names file all =
-    ap (λ (c : Course). meaning_at recipe names (first_units shape file c.taken) c.ending)
-    (ap (course_from shape file) all.none
-    ∙ ap (λ (b : Bool). cond b (record { taken = shape.limit; ending = Refused TooLong })
-    (record { taken = whole_units shape file; ending = Whole (length file % shape.unit) })) all.few)
+taken_means shape recipe names file all = grind arith
 
 -- ---- the feed of a stream was written
 
@@ -88,15 +67,13 @@ written plan file held mid fed all whole =
     let given : List ℕ = given_of file in
     let bytes : List ℕ = feed_bytes plan (packets_of given) ++ [] in
     let answer = whole.answer ∙ ap (λ (m : Meaning). m.outcome) means in
-    let files : Some mid ≡ Some (with_file feed_name bytes held) =
-    whole.files ∙ ap (λ (m : Meaning). with_outputs m.outputs (Some held)) means in
+    let files : Some mid ≡ Some (with_file feed_name bytes held) = grind arith in
     let are : mid ≡ with_file feed_name bytes held = cc in
     record {
       long = long-packets_of file;
       numbers = record {
         packets = ap (λ (o : Outcome). slice_index o.numbers 0) answer
-            ∙ whole_packets-piece file 0 (whole_packets file) (omega arith)
-            ∙ sym (length-packets_of file);
+            ∙ whole_packets-piece file 0 (whole_packets file) (omega arith) ∙ sym (length-packets_of file);
         filled = ap (λ (o : Outcome). slice_index o.numbers 1) answer ∙ ap placeholders (packets_given_of file);
       };
       feed = ap (λ (files : Files). get files feed_name) are ∙ get-insert_same held feed_name bytes
@@ -111,28 +88,21 @@ pub record IsAdapted (plan : Plan) (file : List ℕ) (held : Files) (fed : Outco
   pub written : IsFeedWritten plan (packets_of file) (fed_of fed) between
 
 pub adapted_whole : (plan : Plan) (file : List ℕ) (held : Files) (fed : Outcome) (mid : Option Files)
-    → fed.status ≡ Done
-    → IsWhole (meaning_of_file packets (feeding plan) (feed_name ∷ []) file) (Some held) fed mid
+    → fed.status ≡ Done → IsWhole (meaning_of_file packets (feeding plan) (feed_name ∷ []) file) (Some held) fed mid
     → IsAdapted plan file held fed mid
-adapted_whole plan file held fed mid done whole = record {
-  between = between;
-  told = told;
-  whole = sym told ∙ whole.files;
-  written = written plan file held between fed all
-      (record { answer = whole.answer; files = sym told ∙ whole.files });
-}
-  where
-    all : AreAllTaken packets (feeding plan) file
-    all = all_taken packets (feeding plan) (feed_name ∷ []) file
-        (sym (ap (λ (o : Outcome). o.status) whole.answer) ∙ done)
-
-    between : Files
-    between = with_file feed_name (feed_bytes plan (packets_of (given_of file)) ++ []) held
-
-    told : mid ≡ Some between
-    told = whole.files
-        ∙ ap (λ (m : Meaning). with_outputs m.outputs (Some held))
-        (taken_means packets (feeding plan) (feed_name ∷ []) file all)
+adapted_whole plan file held fed mid done whole =
+    let all : AreAllTaken packets (feeding plan) file = all_taken packets (feeding plan) (feed_name ∷ []) file
+    (sym (ap (λ (o : Outcome). o.status) whole.answer) ∙ done) in
+    let between : Files = with_file feed_name (feed_bytes plan (packets_of (given_of file)) ++ []) held in
+    let told : mid ≡ Some between = whole.files ∙ ap (λ (m : Meaning). with_outputs m.outputs (Some held))
+    (taken_means packets (feeding plan) (feed_name ∷ []) file all) in
+    record {
+      between = between;
+      told = told;
+      whole = sym told ∙ whole.files;
+      written = written plan file held between fed all
+          (record { answer = whole.answer; files = sym told ∙ whole.files });
+    }
 
 -- ---- what follows of it
 
@@ -145,8 +115,7 @@ pub fed_then : (plan : Plan) (network : NetPlan) (held : Files) (found : Option 
     → ((told : Files) (stream : List (List ℕ)) → mid ≡ Some told → IsFeedWritten plan stream (fed_of fed) told
     → IsCarriedOut (fed_meaning plan network stream) (Some told) result now)
     → IsCarriedOut (network_meaning plan network found) (Some held) result now
-fed_then plan network held found mid now fed result done (inr broken) next =
-    absurd (not_fault fed.status done broken.fault)
+fed_then plan network held found mid now fed result done (inr broken) next = grind (arith, not_fault)
 fed_then plan network held None mid now fed result done (inl whole) next = let e =
     ap (λ (o : Outcome). o.status) whole.answer in cc
 fed_then plan network held (Some file) mid now fed result done (inl whole) next =
@@ -187,8 +156,7 @@ fed_alone plan network held (Some file) now fed not_done carried = at_done (is_d
     at_done : (b : Bool) → is_done first.outcome.status ≡ b → IsCarriedOut first (Some held) fed now
         → IsCarriedOut (cond b (and_then first next) first) (Some held) fed now
     at_done false e carried = carried
-    at_done true e (inl whole) =
-        absurd (not_done (ap (λ (o : Outcome). o.status) whole.answer ∙ is_done_is first.outcome.status e))
+    at_done true e (inl whole) = grind (arith, is_done_is)
     at_done true e (inr broken) = carried_before first next (Some held) now fed broken
 
 -- ---- where the files are told
@@ -223,8 +191,7 @@ fed_then_come : (plan : Plan) (network : NetPlan) (held : Files) (found : Option
     → HasPlayProgress plan network stream status told now)
     → IfSome found (λ file. HasNetProgress plan network file status held now)
 fed_then_come plan network held None mid now fed status done carried next = tt
-fed_then_come plan network held (Some file) mid now fed status done (inr broken) next =
-    absurd (not_fault fed.status done broken.fault)
+fed_then_come plan network held (Some file) mid now fed status done (inr broken) next = grind (arith, not_fault)
 fed_then_come plan network held (Some file) mid now fed status done (inl whole) next =
     let is = adapted_whole plan file held fed mid done whole in
     fed_on (feed_outputs plan file) plan.transmitters (steps_under plan (packets_of file) network.events)
@@ -254,8 +221,7 @@ fed_alone_come plan network held (Some file) now fed carried =
 
 pub fed_alone_progress : (plan : Plan) (network : NetPlan) (told now : Option Files) (fed : Outcome)
     → IfSome told (λ held. IsCarriedOut (meaning packets (feeding plan) 1 (feed_name ∷ []) (get held network.stream))
-    (Some held) fed now)
-    → IfSome told (λ held. HasStreamProgress plan network fed.status held now)
+    (Some held) fed now) → IfSome told (λ held. HasStreamProgress plan network fed.status held now)
 fed_alone_progress plan network None now fed carried = tt
 fed_alone_progress plan network (Some held) now fed carried =
     fed_alone_come plan network held (get held network.stream) now fed carried

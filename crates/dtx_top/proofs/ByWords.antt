@@ -2,7 +2,7 @@
 use Rattle.std.specs.Prelude.{◌≡◌, ◌⊎◌, ℕ, Bool, true, false, is_some, List, [], ◌∷◌, ◌++◌, length, Option, Some, None}
 use Rattle.std.specs.Prelude.{Result, Ok, Err, refl}
 use Rattle.std.specs.Option.{option_and}
-use Rattle.std.proofs.Common.{sym, ap, subst, ◌∙◌, inl, inr}
+use Rattle.std.proofs.Common.{sym, ap, subst, ◌∙◌, inl, inr, arith}
 use Rattle.std.proofs.lemmas.Bool.{and_parts}
 use Rattle.std.proofs.lemmas.List.{append-nil, append_assoc}
 use Rattle.dtx_outside.specs.declared.sink.SinkNo.{SinkNo}
@@ -13,7 +13,7 @@ use Rattle.dtx_meaning.specs.declared.status.Status.{Status}
 use Rattle.dtx_meaning.specs.declared.status.Status.TheVariants.{Done, Usage, Memory}
 use Rattle.dtx_forms.specs.Answers.{IsKnown, IsKnownAt, Knows}
 use Rattle.dtx_forms.specs.OfWords.{IsOfWords, same_behind}
-use Rattle.dtx_words.specs.Fitting.{command_of, fit_fields, fits, is_name}
+use Rattle.dtx_words.specs.Fitting.{command_of, fit_fields, fits}
 use Rattle.dtx_words.proofs.FittingLemmas.{command_fits}
 use Rattle.dtx_words.specs.Line.{finished}
 use Rattle.dtx_words.specs.Names.{names_at, repeated}
@@ -54,8 +54,7 @@ some_told (Some number) same inputs status there is = is
 names_told : (names all : List (List ℕ)) (fields : List Field) (words : List (List ℕ)) (inputs : ℕ) (status : Status)
     → names ++ names_at fields words ≡ all → fit_fields fields words ≡ true
     → IsOfWords (same_behind names fields words) inputs status → IsOfInputs (is_some (repeated all)) inputs status
-names_told names all [] [] inputs status same fit is =
-    subst (λ (ns : List (List ℕ)). IsOfInputs (is_some (repeated ns)) inputs status) (sym (append-nil names) ∙ same) is
+names_told names all [] [] inputs status same fit is = grind (arith, append-nil)
 names_told names all [] (word ∷ words) inputs status same fit is = let e : false ≡ true = fit in cc
 names_told names all (field ∷ fields) [] inputs status same fit is = let e : false ≡ true = fit in cc
 names_told names all (Number most ∷ fields) (word ∷ words) inputs status same fit is =
@@ -75,8 +74,7 @@ net_told : (verb : List ℕ) (words : List (List ℕ)) (status : Status) → fit
     → IsOfNetWords (verb ∷ words) status → IsOfNetwork status
 net_told verb [] status fit is = let e : false ≡ true = fit in cc
 net_told verb (plan ∷ []) status fit is = is
-net_told verb (plan ∷ word ∷ words) status fit is =
-    let e : false ≡ true = (and_parts (is_name plan) false fit).1 in cc
+net_told verb (plan ∷ word ∷ words) status fit is = grind (arith, and_parts)
 
 -- `trial SEED COUNT`, which has no names
 no_names : (words : List (List ℕ)) → names_at (row_of Trial).fields words ≡ []
@@ -89,10 +87,7 @@ fitted_told : (command : Command) (words : List (List ℕ)) (outcome : Outcome) 
     → IsOfCommand (Some command) words outcome → IsByWords (Some command) words outcome.status
 fitted_told command [] outcome fit is = let e : false ≡ true = fit in cc
 fitted_told Net (verb ∷ words) outcome fit is = net_told verb words outcome.status (and_parts _ _ fit).1 is
-fitted_told Trial (verb ∷ words) outcome fit is = (
-  names_told [] [] (row_of Trial).fields words 3 outcome.status (no_names words) (and_parts _ _ fit).1 is.0,
-  known_status Trial outcome is.1,
-)
+fitted_told Trial (verb ∷ words) outcome fit is = grind (arith, names_told, no_names, and_parts, known_status)
 fitted_told command (verb ∷ words) outcome fit is = (
   names_told [] _ (row_of command).fields words _ outcome.status refl (and_parts _ _ fit).1 is.0,
   known_status command outcome is.1,
@@ -105,22 +100,14 @@ inputs_finished : (same : Bool) (inputs : ℕ) (status : Status) (line : Result 
     → IsOfInputs same inputs status → IsOfInputs same inputs (finished status line)
 inputs_finished same inputs status (Ok u) is = is
 inputs_finished same inputs status (Err sink.Memory) is = tt
-inputs_finished same inputs status (Err sink.Failed) is = elim (finished_failed status) [
-  | inl done ↦ (let P : Status → Type 0 = λ s. IsOfInputs same inputs (finished s (Err sink.Failed)) in
-      let Q : Status → Type 0 = λ s. IsOfInputs same inputs s in
-      subst P (sym done) (subst Q done is))
-  | inr kept ↦ (let P : Status → Type 0 = λ s. IsOfInputs same inputs s in subst P (sym kept) is)
-]
+inputs_finished same inputs status (Err sink.Failed) is = grind (arith, finished_failed)
 
 -- the answer of a network, whose line was printed so
 network_finished : (status : Status) (line : Result (Unit {0}) SinkNo) → IsOfNetwork status
     → IsOfNetwork (finished status line)
 network_finished status (Ok u) is = is
 network_finished status (Err sink.Memory) is = tt
-network_finished status (Err sink.Failed) is = elim (finished_failed status) [
-  | inl done ↦ (let P : Status → Type 0 = λ s. IsOfNetwork (finished s (Err sink.Failed)) in subst P (sym done) tt)
-  | inr kept ↦ (let P : Status → Type 0 = λ s. IsOfNetwork s in subst P (sym kept) is)
-]
+network_finished status (Err sink.Failed) is = grind (arith, finished_failed)
 
 -- each command knows want of memory, and that its line could not be printed
 knows_finished : (command : Command) (status : Status) (line : Result (Unit {0}) SinkNo) → Knows command status
@@ -142,13 +129,11 @@ usage_finished status (Err sink.Failed) is = inl (ap (λ s. finished s (Err sink
 by_words_finished : (command : Command) (words : List (List ℕ)) (status : Status) (line : Result (Unit {0}) SinkNo)
     → IsByWords (Some command) words status → IsByWords (Some command) words (finished status line)
 by_words_finished Net words status line is = network_finished status line is
-by_words_finished command words status line is =
-    (inputs_finished _ _ status line is.0, knows_finished command status line is.1)
+by_words_finished command words status line is = grind (arith, inputs_finished, knows_finished)
 
 -- the command that the words fit, behind its line
 pub words_told : (command : Option Command) (words : List (List ℕ)) (outcome : Outcome)
     (line : Result (Unit {0}) SinkNo) → command_of words ≡ command → IsOfCommand command words outcome
     → IsByWords command words (finished outcome.status line)
 words_told None words outcome line is answer = usage_finished outcome.status line answer
-words_told (Some command) words outcome line is answer = by_words_finished command words outcome.status line
-    (fitted_told command words outcome (command_fits words command is) answer)
+words_told (Some command) words outcome line is answer = grind (arith, by_words_finished, fitted_told, command_fits)

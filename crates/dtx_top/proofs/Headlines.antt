@@ -1,8 +1,7 @@
 -- The headline, of a network whose meaning was carried out and is done.
 use Rattle.std.proofs.Common.{◌≡◌, ℕ, ◌*◌, ◌/◌, ◌<◌, ◌≤◌, ◌^◌, Bool, true, false, cond, List, [], ◌∷◌, ◌++◌, length}
 use Rattle.std.proofs.Common.{refl, sym, ap, subst, ◌∙◌, arith}
-use Rattle.std.specs.Prelude.{Option, Some, None, Result, Ok, Err, IfSome, IsSomeAnd, ℤ, is_some, slice_get}
-use Rattle.std.specs.Prelude.{slice_index}
+use Rattle.std.specs.Prelude.{Option, Some, None, Result, Ok, Err, IfSome, IsSomeAnd, is_some, slice_get}
 use Rattle.std.specs.FinMap.{get}
 use Rattle.std.specs.Option.{option_map_or}
 use Rattle.std.specs.Result.{IsOkAnd}
@@ -15,7 +14,6 @@ use Rattle.dtx_outside.specs.Shelf.{ConsistOfBytes, Files}
 use Rattle.dtx_packets.specs.Packets.{packets_of, whole_packets}
 use Rattle.dtx_plan.proofs.WalksLemmas.{plan_sound, plan_transmitters}
 use Rattle.dtx_plan.specs.Plan.{plan_of}
-use Rattle.dtx_plan.specs.Sound.{IsTransmitter}
 use Rattle.dtx_plan.specs.declared.plan.NetPlan.{NetPlan}
 use Rattle.dtx_plan.specs.declared.plan.Plan.{Plan}
 use Rattle.dtx_plan.specs.declared.plan.ReceivePlan.{ReceivePlan}
@@ -29,32 +27,28 @@ use Rattle.dtx_chain.proofs.ReceivedLemmas.{all_whole}
 use Rattle.dtx_network.specs.Network.{steps_under}
 use Rattle.dtx_network.specs.Plans.{IsPlan, IsStream}
 use Rattle.dtx_meaning.proofs.MeaningLemmas.{whole_of_carried}
-use Rattle.dtx_meaning.specs.Meaning.{Meaning, Outputs, IsCarriedOut, and_then, refused, with_outputs}
+use Rattle.dtx_meaning.specs.Meaning.{Meaning, Outputs, IsCarriedOut, refused, with_outputs}
 use Rattle.dtx_meaning.specs.Status.{IsFault, done}
 use Rattle.dtx_meaning.specs.declared.status.Outcome.{Outcome}
 use Rattle.dtx_meaning.specs.declared.status.Status.TheVariants.{Done, Same}
-use Rattle.dtx_engine.specs.Made.{Made, outputs_of}
-use Rattle.dtx_engine.specs.Recipe.{Recipe, first_units, meaning_of_file, whole_units}
+use Rattle.dtx_engine.specs.Recipe.{Recipe, first_units, whole_units}
 use Rattle.dtx_words.specs.Names.{repeated}
-use Rattle.dtx_words.specs.NetworkNames.{feed_name, received_name}
+use Rattle.dtx_words.specs.NetworkNames.{received_name}
 use Rattle.dtx_forms.specs.PlanFile.{under_plan, under_said}
 use Rattle.dtx_forms.specs.Shapes.{packets, segments}
 use Rattle.dtx_forms.specs.Damaged.{damaged_making}
 use Rattle.dtx_recipes.specs.Adapt.{feeding}
-use Rattle.dtx_recipes.specs.Feed.{feed_bytes}
 use Rattle.dtx_packet_jobs.proofs.PacketFileLemmas.{packets_of-bytes}
 use Rattle.dtx_recipes.specs.PastEnd.{first_past}
 use Rattle.dtx_recipes.specs.Receive.{received_bytes, receiving}
 use Rattle.dtx_jobs.proofs.ReceiveLemmas.{receives_all}
 use Rattle.dtx_recipes.specs.SymbolFile as symbols
-use Rattle.dtx_schedule.specs.Inside.{first_past_feed}
 use Rattle.dtx_schedule.proofs.FilesLemmas.{AreApart, apart_of, files_with, with_outputs-told}
 use Rattle.dtx_schedule.specs.TransmitterFiles.{played_outputs, symbol_file}
 use Rattle.dtx_top.specs.HeadlineOfFiles.{HeadlineOfFiles}
-use Rattle.dtx_top.specs.NetMeaning.{events_past, fed_meaning, is_done, network_meaning, planned_meaning}
-use Rattle.dtx_top.specs.NetMeaning.{played_and_received, received_of, received_past, with_received}
-use Rattle.dtx_top.specs.Networks.{OfNetwork, AreWholeFiles, damaged_file, network_names, packets_received}
-use Rattle.dtx_top.specs.Networks.{sent_file}
+use Rattle.dtx_top.specs.NetMeaning.{events_past, network_meaning, planned_meaning, played_and_received, received_of}
+use Rattle.dtx_top.specs.NetMeaning.{received_past, with_received}
+use Rattle.dtx_top.specs.Networks.{OfNetwork, AreWholeFiles, damaged_file, network_names, packets_received, sent_file}
 use Rattle.dtx_top.proofs.Adapted.{AreAllTaken, all_taken, packets_given_of, taken_means}
 use Rattle.dtx_top.proofs.Carrying.{is_done_is}
 use Rattle.dtx_top.proofs.HeadlineLaw.{HeadlineLaw}
@@ -92,16 +86,7 @@ all_given file n long = take_all (832 * (length file / 832)) file (omega (arith,
 
 done_back : (fed filled steps : ℕ) (outcome : Outcome) → (with_received fed filled steps outcome).status ≡ Done
     → outcome.status ≡ Done
-done_back fed filled steps outcome is = by_test (is_done outcome.status) refl is
-  where
-    reported : Outcome
-    reported =
-        done (fed ∷ filled ∷ steps ∷ slice_index outcome.numbers 2 ∷ slice_index outcome.numbers 3
-        ∷ slice_index outcome.numbers 4 ∷ [])
-
-    by_test : (b : Bool) → is_done outcome.status ≡ b → (cond b reported outcome).status ≡ Done → outcome.status ≡ Done
-    by_test true e done = is_done_is outcome.status e
-    by_test false e done = done
+done_back fed filled steps outcome is = grind (arith, is_done_is)
 
 -- where the symbols were received, what is written of them
 received_done : (plan : Plan) (network : NetPlan) (stream : List (List ℕ)) (receiver : ReceivePlan)
@@ -132,8 +117,7 @@ received_done plan network stream receiver done = by_past (first_past receiver.d
         let long = sent_whole plan network stream receiver.from in
         let same : given ≡ file = all_given file long.0 long.1 in
         ap (λ (m : Meaning). m.outputs) (taken_means segments recipe (received_name ∷ []) file all)
-        ∙ ap (λ (m : Made). outputs_of (received_name ∷ []) m) (receives_all (hurt receiver.damage given))
-        ∙ ap (λ (f : List ℕ). (received_name, received_bytes (hurt receiver.damage f)) ∷ []) same
+        ∙ grind (arith, receives_all)
 
 -- ---- all outputs
 
@@ -144,13 +128,10 @@ by_receiver : (plan : Plan) (network : NetPlan) (stream : List (List ℕ)) (rece
     ++ received_outputs receive (packets_received plan network stream)
 by_receiver plan network stream None done =
     sym (append-nil (played_outputs plan.transmitters (steps_under plan stream network.events)))
-by_receiver plan network stream (Some receiver) done =
-    ap (λ (more : Outputs). played_outputs plan.transmitters (steps_under plan stream network.events)
-    ++ more) (received_done plan network stream receiver done)
+by_receiver plan network stream (Some receiver) done = grind (arith, received_done)
 
 by_events : (plan : Plan) (network : NetPlan) (stream : List (List ℕ)) (o : Option ℕ)
-    → (events_past o plan network stream).outcome.status ≡ Done
-    → (events_past o plan network stream).outputs
+    → (events_past o plan network stream).outcome.status ≡ Done → (events_past o plan network stream).outputs
     ≡ played_outputs plan.transmitters (steps_under plan stream network.events)
     ++ received_outputs network.receive (packets_received plan network stream)
 by_events plan network stream (Some event) done = cc
@@ -163,30 +144,8 @@ record IsDone (plan : Plan) (network : NetPlan) (file : List ℕ) : Type 0 where
 
 done_outputs : (plan : Plan) (network : NetPlan) (file : List ℕ)
     → (network_meaning plan network (Some file)).outcome.status ≡ Done → IsDone plan network file
-done_outputs plan network file done = at_first (is_done first.outcome.status) refl done
-  where
-    first : Meaning
-    first = meaning_of_file packets (feeding plan) (feed_name ∷ []) file
-
-    next : Meaning
-    next = fed_meaning plan network (packets_of file)
-
-    at_first : (b : Bool) → is_done first.outcome.status ≡ b
-        → (cond b (and_then first next) first).outcome.status ≡ Done → IsDone plan network file
-    at_first false e done = let t : is_done first.outcome.status ≡ true = ap is_done done in cc
-    at_first true e done =
-        let all = all_taken packets (feeding plan) (feed_name ∷ []) file (is_done_is first.outcome.status e) in
-        record {
-          all = all;
-          outputs = ap (λ (b : Bool). (cond b (and_then first next) first).outputs) e
-              ∙ ap (λ (o : Outputs). o ++ next.outputs)
-              (ap (λ (m : Meaning). m.outputs) (taken_means packets (feeding plan) (feed_name ∷ []) file all)
-              ∙ ap (λ (bytes : List ℕ). (feed_name, bytes) ∷ []) (append-nil _
-              ∙ ap (feed_bytes plan) (packets_given_of file)))
-              ∙ ap (λ (o : Outputs). (feed_name, feed_bytes plan (packets_of file)) ∷ o)
-              (by_events plan network (packets_of file)
-              (first_past_feed network.events (length (packets_of file))) done);
-        }
+done_outputs plan network file done =
+    grind (arith, all_taken, is_done_is, taken_means, append-nil, packets_given_of, by_events)
 
 -- ---- the headline
 
@@ -195,17 +154,10 @@ received_back : (plan : Plan) (network : NetPlan) (stream : List (List ℕ)) (he
     → AreWholeFiles plan network stream held now → (receiver : ReceivePlan) → network.receive ≡ Some receiver
     → IsSomeAnd (get now received_name)
     (λ file. packets_of file ≡ received (symbols.file_segments (damaged_file plan network stream receiver)))
-received_back plan network stream held now files receiver receives =
-    let back : List (List ℤ) = symbols.file_segments (damaged_file plan network stream receiver) in
-    let there : get now received_name ≡ Some (packets_received plan network stream receiver) =
-    subst (λ (o : Option ReceivePlan). IfSome o (λ r. get now received_name
-    ≡ Some (packets_received plan network stream r))) receives files.received in
-    subst (λ (o : Option (List ℕ)). IsSomeAnd o (λ file. packets_of file ≡ received back)) (sym there)
-    (packets_of-bytes (received back) (all_whole back))
+received_back plan network stream held now files receiver receives = grind (arith, packets_of-bytes, all_whole)
 
 headline_of : HeadlineLaw → (plan : Plan) (network : NetPlan) (stream : List (List ℕ)) (held now : Files) → IsPlan plan
-    → IsStream stream → AreWholeFiles plan network stream held now
-    → HeadlineOfFiles plan network stream held now
+    → IsStream stream → AreWholeFiles plan network stream held now → HeadlineOfFiles plan network stream held now
 headline_of law plan network stream held now plans streams files =
     let h = law plan stream network.events plans streams in
     record {
@@ -221,10 +173,7 @@ headline_of law plan network stream held now plans streams files =
 
 small : (plan : Plan) → IsPlan plan → (who : ℕ) (t : Transmitter) → slice_get plan.transmitters who ≡ Some t
     → t.address < 2 ^ 16
-small plan is who t at_t =
-    let ts : List Transmitter = plan.transmitters in
-    (subst IsTransmitter (get_or_from_slice_get ts who t t at_t)
-    (All-get_or IsTransmitter ts who t (slice_get_within ts who t at_t) is.transmitters)).address
+small plan is who t at_t = grind (arith, get_or_from_slice_get, All-get_or, slice_get_within)
 
 pub apart_plan : (plan : Plan) → IsPlan plan → AreApart plan.transmitters
 apart_plan plan is = apart_of plan.transmitters is.sound.transmitters (small plan is)
@@ -232,8 +181,7 @@ apart_plan plan is = apart_of plan.transmitters is.sound.transmitters (small pla
 -- the files and the headline, of a network whose plan is read
 pub stream_done : HeadlineLaw
     → (plan : Plan) (network : NetPlan) (held : Files) (now : Option Files) (found : Option (List ℕ))
-    → IfSome found AreBytes → IsPlan plan
-    → (network_meaning plan network found).outcome.status ≡ Done
+    → IfSome found AreBytes → IsPlan plan → (network_meaning plan network found).outcome.status ≡ Done
     → now ≡ with_outputs (network_meaning plan network found).outputs (Some held)
     → IsSomeAnd found (λ file. IsSomeAnd now (HeadlineOfFiles plan network (packets_of file) held))
 stream_done law plan network held now None bytes is done files = cc
@@ -241,8 +189,7 @@ stream_done law plan network held now (Some file) bytes is done files =
     let whole = done_outputs plan network file done in
     let stream : List (List ℕ) = packets_of file in
     let outputs : Outputs = network_outputs plan network stream (packets_received plan network stream) in
-    let told : now ≡ Some (files_with outputs held) =
-    files ∙ ap (λ (o : Outputs). with_outputs o (Some held)) whole.outputs ∙ with_outputs-told outputs held in
+    let told : now ≡ Some (files_with outputs held) = grind (arith, with_outputs-told) in
     let apart = apart_plan plan is in
     let few : whole_packets file ≤ 624000000 = ltb-false 624000000 (whole_packets file) whole.all.few in
     subst (λ (o : Option Files). IsSomeAnd o (HeadlineOfFiles plan network stream held)) (sym told)

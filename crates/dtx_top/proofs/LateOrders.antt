@@ -1,11 +1,11 @@
 -- A group with a placeholder orders something, also for an exciter that locks to a later mark.
 use Rattle.std.proofs.Common.{◌≡◌, ℕ, zero, suc, ◌+◌, ◌*◌, ◌/◌, ◌%◌, ◌<◌, ◌≤◌, Bool, true, false, List, [], get_or}
-use Rattle.std.proofs.Common.{refl, sym, ap, ap₂, subst, ◌∙◌, arith}
-use Rattle.std.specs.Prelude.{◌||◌, ◌&&◌, ◌==◌, nat_le, Option, None, drop}
+use Rattle.std.proofs.Common.{refl, ap₂, subst, arith}
+use Rattle.std.specs.Prelude.{◌||◌, Option, drop}
 use Rattle.std.specs.List.{range_with_len, list_any}
 use Rattle.std.proofs.lemmas.Bool.{cond-true, eq-eqb, le-leb}
 use Rattle.std.proofs.lemmas.List.{get_or-drop}
-use Rattle.dtx_exciter.specs.Order.{counting_order, either, order_at, ordered, ordered_at}
+use Rattle.dtx_exciter.specs.Order.{counting_order, either, order_at, ordered_at}
 use Rattle.dtx_network.specs.Orders.{has_order, is_operations}
 use Rattle.dtx_ops.specs.declared.fields.Ops.{Ops}
 use Rattle.dtx_packets.specs.Packet.{pid_of}
@@ -17,9 +17,7 @@ or_right false b e = e
 -- one of some numbers in a row passes
 any_at : (test : ℕ → Bool) (g n i : ℕ) → i < n → test (g + i) ≡ true → list_any test (range_with_len g n) ≡ true
 any_at test g zero i l e = absurd (omega (arith, l))
-any_at test g (suc n) zero l e =
-    let here : test g ≡ true = subst (λ (x : ℕ). test x ≡ true) (omega arith) e in
-    ap (λ (b : Bool). b || list_any test (range_with_len (g + 1) n)) here
+any_at test g (suc n) zero l e = grind arith
 any_at test g (suc n) (suc i) l e =
     let there : test (g + 1 + i) ≡ true = subst (λ (x : ℕ). test x ≡ true) (omega arith) e in
     or_right (test g) (list_any test (range_with_len (g + 1) n)) (any_at test (g + 1) n i (omega (arith, l)) there)
@@ -28,37 +26,25 @@ any_at test g (suc n) (suc i) l e =
 pub held_order : (stream : List (List ℕ)) (k : ℕ) → pid_of (get_or stream k []) ≡ 0x1FFA
     → has_order stream (4 * (k / 4)) ≡ true
 unfolding has_order is_operations
-held_order stream k placeholder =
-    let passes : is_operations stream k ≡ true = eq-eqb (pid_of (get_or stream k [])) 0x1FFA placeholder in
-    let place : k ≡ 4 * (k / 4) + k % 4 = omega arith in
-    any_at (is_operations stream) (4 * (k / 4)) 4 (k % 4) (omega arith)
-    (subst (λ (x : ℕ). is_operations stream x ≡ true) place passes)
+held_order stream k placeholder = grind (arith, eq-eqb, any_at)
 
 -- ---- from a later mark on
 
 -- what a packet orders is the same, counted from a mark
 at_mark : (said : List (Option Ops)) (m k j : ℕ) → m % 624 ≡ 0 → j ≡ m + k
     → ordered_at (drop m said) k ≡ ordered_at said j
-at_mark said m k j mark same =
-    ap₂ ordered (omega (arith, mark, same)) (get_or-drop m said k None ∙ ap (λ i. get_or said i None) (sym same))
+at_mark said m k j mark same = grind (arith, get_or-drop)
 
 orders_same : (said : List (Option Ops)) (m g : ℕ) → m % 624 ≡ 0 → order_at (drop m said) g ≡ order_at said (m + g)
 unfolding order_at
-orders_same said m g mark =
-    ap₂ either (at_mark said m g (m + g) mark refl)
-    (ap₂ either (at_mark said m (g + 1) (m + g + 1) mark (omega arith))
-    (ap₂ either (at_mark said m (g + 2) (m + g + 2) mark (omega arith))
-    (at_mark said m (g + 3) (m + g + 3) mark (omega arith))))
+orders_same said m g mark = ap₂ either (at_mark said m g (m + g) mark refl)
+    (ap₂ either (at_mark said m (g + 1) (m + g + 1) mark (omega arith)) (grind (arith, at_mark)))
 
 counts : (said : List (Option Ops)) (g : ℕ) → 52 ≤ g → g % 4 ≡ 0 → counting_order said g ≡ order_at said g
 unfolding counting_order
-counts said g far whole = cond-true (nat_le 52 g && (g % 4 == 0)) (order_at said g) None
-    (ap₂ (λ (x y : Bool). x && y) (le-leb 52 g far) (eq-eqb (g % 4) 0 whole))
+counts said g far whole = grind (arith, cond-true, le-leb, eq-eqb)
 
 -- a group that begins 52 packets or more behind the mark orders what it orders from the first packet on
 pub order_from : (said : List (Option Ops)) (m g j : ℕ) → m % 624 ≡ 0 → 52 ≤ g → g % 4 ≡ 0 → j ≡ m + g
     → counting_order (drop m said) g ≡ counting_order said j
-order_from said m g j mark far whole same =
-    counts (drop m said) g far whole ∙ orders_same said m g mark
-    ∙ sym (counts said (m + g) (omega (arith, far)) (omega (arith, mark, whole)))
-    ∙ ap (counting_order said) (sym same)
+order_from said m g j mark far whole same = grind (arith, counts, orders_same)

@@ -1,6 +1,6 @@
 -- The line that a call leaves behind, of how its printing ended.
 use Rattle.std.specs.Prelude.{◌≡◌, ℕ, List, Option, Some, None, Result, Ok, Err, IfSome, refl}
-use Rattle.std.proofs.Common.{sym, ap, ◌∙◌, subst, inl, inr}
+use Rattle.std.proofs.Common.{sym, ap, ◌∙◌, subst, inl, inr, arith}
 use Rattle.dtx_outside.specs.Shelf.{Files}
 use Rattle.dtx_outside.specs.Counts.{Rose}
 use Rattle.dtx_outside.specs.Sink.{IsCounted, SinkCounts}
@@ -11,8 +11,7 @@ use Rattle.dtx_meaning.specs.Meaning.{IsCarriedOut}
 use Rattle.dtx_meaning.specs.Status.{IsFault}
 use Rattle.dtx_meaning.specs.declared.status.Outcome.{Outcome}
 use Rattle.dtx_meaning.specs.declared.status.Status.{Status}
-use Rattle.dtx_meaning.specs.declared.status.Status.TheVariants.{Done, Usage}
-use Rattle.dtx_meaning.specs.declared.status.Status.TheVariants.{WriteFault, Memory}
+use Rattle.dtx_meaning.specs.declared.status.Status.TheVariants.{Done, Usage, WriteFault, Memory}
 use Rattle.dtx_words.specs.Line.{finished, line_at, line_of}
 use Rattle.dtx_words.specs.Names.{line_name}
 use Rattle.dtx_words.specs.Printed.{printed, IsPut}
@@ -31,8 +30,7 @@ whole_line : (IsLine : Status → List ℕ → Type 0) (status : Status) (text :
     (old new : Option (List ℕ))
     → IsLine status text → last ≡ first → new ≡ printed text old → HasLine IsLine status first last old new
 whole_line IsLine Done text first last old new is same e = (same, record { text = text; line = is; whole = e })
-whole_line IsLine WriteFault text first last old new is same e =
-    inl (inl (same, record { text = text; line = is; whole = e }))
+whole_line IsLine WriteFault text first last old new is same e = grind arith
 whole_line IsLine Memory text first last old new is same e =
     inl (inl (same, record { text = text; line = is; whole = e }))
 whole_line IsLine status text first last old new is same e = inl (same, record { text = text; line = is; whole = e })
@@ -40,8 +38,7 @@ whole_line IsLine status text first last old new is same e = inl (same, record {
 part_of_put : (IsLine : Status → List ℕ → Type 0) (status : Status) (text : List ℕ) (cause : SinkNo)
     (old new : Option (List ℕ))
     → IsLine status text → IsPut text old (Err cause) new → HasPartLine IsLine status old new
-part_of_put IsLine status text cause old new is put =
-    record { text = text; line = is; bytes = put.0; within = put.1; part = put.2 }
+part_of_put IsLine status text cause old new is put = grind arith
 
 cut_line : (IsLine : Status → List ℕ → Type 0) (status : Status) (first last : SinkCounts) (old new : Option (List ℕ))
     → HasPartLine IsLine status old new → Rose first.faults last.faults
@@ -56,8 +53,7 @@ pub line_left : (IsLine : Status → List ℕ → Type 0) (status : Status) (tex
     (first last : SinkCounts)
     (old new : Option (List ℕ)) → IsLine status text → IsPut text old line new → IsCounted first line last
     → HasLine IsLine (finished status line) first last old new
-line_left IsLine status text (Ok u) first last old new is put counted =
-    whole_line IsLine status text first last old new is counted.risen put
+line_left IsLine status text (Ok u) first last old new is put counted = grind (arith, whole_line)
 line_left IsLine status text (Err sink.Memory) first last old new is put counted =
     inr (counted.risen.0, (status, part_of_put IsLine status text sink.Memory old new is put))
 line_left IsLine status text (Err sink.Failed) first last old new is put counted =
@@ -68,8 +64,7 @@ line_left IsLine status text (Err sink.Failed) first last old new is put counted
 
 -- only the line of `Done` has the outcome's numbers
 same_line : (command : Option Command) (status : Status) (outcome other : Outcome) (name : List ℕ)
-    → (status ≡ Done → outcome ≡ other)
-    → line_at command status outcome name ≡ line_at command status other name
+    → (status ≡ Done → outcome ≡ other) → line_at command status outcome name ≡ line_at command status other name
 same_line command Done outcome other name same = ap (λ o. line_at command Done o name) (same refl)
 same_line command status outcome other name same = refl
 
@@ -87,27 +82,16 @@ name_told None words held status kept is = refl
 
 -- the line of an outcome is that of the meaning
 line_is : (command : Option Command) (words : List (List ℕ)) (held : Files) (outcome : Outcome) (now : Option Files)
-    (kept : List ℕ)
-    → IsCarriedOut (means_of command words held) (Some held) outcome now
+    (kept : List ℕ) → IsCarriedOut (means_of command words held) (Some held) outcome now
     → (command ≡ Some Net → name_kept command words outcome.status kept
     ≡ line_name outcome.status (names_told outcome.status command words held))
     → IsToldLine command words held outcome.status
     (line_of command outcome (name_kept command words outcome.status kept))
-line_is command words held outcome now kept is named =
-    let same : outcome.status ≡ Done → outcome ≡ (means_of command words held).outcome =
-    λ done. (whole_of_carried (means_of command words held) (Some held) now outcome is
-    (no_fault outcome.status done)).answer in
-    record {
-      done = λ done. sym (ap (λ (o : Outcome). o.status) (same done)) ∙ done;
-      line = ap (line_at command outcome.status outcome)
-          (name_told command words held outcome.status kept named)
-          ∙ same_line command outcome.status outcome (means_of command words held).outcome _ same;
-    }
+line_is command words held outcome now kept is named = grind (arith, whole_of_carried, no_fault, name_told, same_line)
 
 -- the line that is left, over files that are told
 pub line_told : (command : Option Command) (words : List (List ℕ)) (told now : Option Files) (outcome : Outcome)
-    (kept : List ℕ)
-    (line : Result (Unit {0}) SinkNo) (first last : SinkCounts) (old new : Option (List ℕ))
+    (kept : List ℕ) (line : Result (Unit {0}) SinkNo) (first last : SinkCounts) (old new : Option (List ℕ))
     → IfSome told (λ held. IsCarriedOut (means_of command words held) (Some held) outcome now)
     → (command ≡ Some Net → IfSome told (λ held. name_kept command words outcome.status kept
     ≡ line_name outcome.status (names_told outcome.status command words held)))
@@ -141,13 +125,6 @@ pub line_untold : (command : Option Command) (words : List (List ℕ)) (outcome 
     → (command ≡ Some Net → IsSomeName command words outcome.status (name_kept command words outcome.status kept))
     → IsOfCommand command words outcome → (command ≡ Some Net → ShowsNetwork outcome.status outcome)
     → IsPut (line_of command outcome (name_kept command words outcome.status kept)) old line new
-    → IsCounted first line last
-    → HasLine (IsSomeLine command words) (finished outcome.status line) first last old new
+    → IsCounted first line last → HasLine (IsSomeLine command words) (finished outcome.status line) first last old new
 line_untold command words outcome kept line first last old new named answer shown put counted =
-    line_left (IsSomeLine command words) outcome.status _ line first last old new (record {
-      outcome = outcome;
-      name = name_kept command words outcome.status kept;
-      named = some_name command words outcome.status kept named;
-      count = some_count command words outcome answer shown;
-      line = refl;
-    }) put counted
+    grind (arith, line_left, some_name, some_count)

@@ -1,6 +1,6 @@
 -- What an answer of one input says of a network.
-use Rattle.std.specs.Prelude.{◌≡◌, ◌≢◌, ℕ, ◌<◌, ◌≤◌, List, [], Option, Some, None, position}
-use Rattle.std.proofs.Common.{arith, inl, inr, refl, subst, sym, ap, ◌∙◌}
+use Rattle.std.specs.Prelude.{◌≡◌, ◌≢◌, ℕ, ◌<◌, ◌≤◌, List, [], Option, Some, None}
+use Rattle.std.proofs.Common.{arith, inl, inr, refl, subst}
 use Rattle.dtx_plan.specs.declared.damage.Damage.{Damage}
 use Rattle.dtx_plan.specs.declared.plan.Plan as plans
 use Rattle.dtx_plan.specs.declared.plan.ReceivePlan.{ReceivePlan}
@@ -19,7 +19,7 @@ use Rattle.dtx_forms.proofs.AnswersLemmas.{knows_by, none_refused}
 use Rattle.dtx_forms.proofs.OfWordsLemmas.{refusal_of_input}
 use Rattle.dtx_forms.specs.PlanFile.{IsPlanRefusal}
 use Rattle.dtx_forms.specs.Damaged.{damaged_making}
-use Rattle.dtx_recipes.specs.PastEnd.{ends_past, first_past}
+use Rattle.dtx_recipes.specs.PastEnd.{first_past}
 use Rattle.dtx_recipes.proofs.AnswersLemmas.{synced_known}
 use Rattle.dtx_recipes.specs.Receive.{receiving}
 use Rattle.dtx_schedule.specs.PlayedSoFar.{IsOfFeed}
@@ -89,8 +89,7 @@ feed_not_done status is done = let P : Status → Type 0 = λ s. IsOfFeed s in s
 of_replay : (command : Command) (receive : Option ReceivePlan) (number : ℕ) (status : Status) → 1 ≤ number → number < 4
     → (MayRefuse command rows.plan → ⊥) → (MayRefuse command rows.out_of_air → ⊥) → IsOfInput number status
     → Knows command status → IsOfReplay receive status
-of_replay command receive number (Absent input) least most no_plan no_air is known =
-    (omega (arith, is, least), omega (arith, is, most))
+of_replay command receive number (Absent input) least most no_plan no_air is known = grind arith
 of_replay command receive number (Plan refusal) least most no_plan no_air is known = absurd (no_plan known)
 of_replay command receive number (OutOfAir entry) least most no_plan no_air is known = absurd (no_air known)
 of_replay command receive number Usage least most no_plan no_air is known = is
@@ -103,22 +102,16 @@ stream_knows plan = knows_by (feeding plan) Code tt (λ k unit. tt) (λ given lo
 
 pub stream_of_replay : (plan : plans.Plan) (receive : Option ReceivePlan) (outcome : Outcome)
     → IsOfInput 1 outcome.status → IsAnswerOf (feeding plan) outcome → IsOfReplay receive outcome.status
-stream_of_replay plan receive outcome is answer =
-    of_replay Code receive 1 outcome.status (omega arith) (omega arith) (λ no. no) (λ no. no) is
-    (known_status Code outcome (stream_knows plan outcome answer))
+stream_of_replay plan receive outcome is answer = grind (arith, of_replay, known_status, stream_knows)
 
 -- the answer of the symbols that are received
 pub symbols_know : (damage : List Damage) (outcome : Outcome) → IsAnswerOf (damaged_making damage receiving) outcome
     → IsKnown Receive outcome
-symbols_know damage =
-    knows_by (damaged_making damage receiving) Receive tt (λ k unit. none_refused unit)
-    (λ given loose. synced_known Receive _ _ tt refl)
+symbols_know damage = grind (arith, knows_by, none_refused, synced_known)
 
 pub symbols_of_replay : (receiver : ReceivePlan) (outcome : Outcome) → IsOfInput 3 outcome.status
     → IsAnswerOf (damaged_making receiver.damage receiving) outcome → IsOfReplay (Some receiver) outcome.status
-symbols_of_replay receiver outcome is answer =
-    of_replay Receive (Some receiver) 3 outcome.status (omega arith) (omega arith) (λ no. no) (λ no. no) is
-    (known_status Receive outcome (symbols_know receiver.damage outcome answer))
+symbols_of_replay receiver outcome is answer = grind (arith, of_replay, known_status, symbols_know)
 
 -- a network has three numbers or six
 pub shows_network : (receive : Option ReceivePlan) (outcome : Outcome) → HasCount (count_of receive) outcome
@@ -127,8 +120,6 @@ shows_network None outcome count = λ done. inl (count done)
 shows_network (Some receiver) outcome count = λ done. inr (count done)
 
 -- an entry of damage ends behind the symbols only where there is one
-pub damage_of_replay : (damage : List Damage) (symbols entry : ℕ) → first_past damage symbols ≡ Some entry
-    → damage ≢ []
+pub damage_of_replay : (damage : List Damage) (symbols entry : ℕ) → first_past damage symbols ≡ Some entry → damage ≢ []
 unfolding first_past
-damage_of_replay damage symbols entry past none =
-    let e : None ≡ Some entry = sym (ap (λ (d : List Damage). position (ends_past symbols) d) none) ∙ past in cc
+damage_of_replay damage symbols entry past none = grind arith

@@ -55,8 +55,7 @@ received_outputs None made = []
 received_outputs (Some receiver) made = (received_name, made receiver) ∷ []
 
 abbrev pub network_outputs : Plan → NetPlan → List (List ℕ) → (ReceivePlan → List ℕ) → Outputs
-network_outputs plan network stream made =
-    (feed_name, feed_bytes plan stream)
+network_outputs plan network stream made = (feed_name, feed_bytes plan stream)
     ∷ (played_outputs plan.transmitters (steps_under plan stream network.events)
     ++ received_outputs network.receive made)
 
@@ -90,8 +89,7 @@ no_received None made name n = tt
 no_received (Some receiver) made name n = (n, tt)
 
 not_received : (receive : Option ReceivePlan) (made : ReceivePlan → List ℕ) (name : List ℕ)
-    → ¬ Contains (received_names receive) name
-    → IsNoOutput name (received_outputs receive made)
+    → ¬ Contains (received_names receive) name → IsNoOutput name (received_outputs receive made)
 not_received None made name out = tt
 not_received (Some receiver) made name out = (λ same. out (0, omega arith, sym same), tt)
 
@@ -121,10 +119,7 @@ network_files plan network stream made held now apart is =
           ∙ get_past sent feed_name first (no_own ts (played steps) feed_name feed_no_symbols feed_no_log)
           ∙ get-insert_same held feed_name (feed_bytes plan stream);
       sent = record {
-        symbols = λ who t at_t. ap (λ (f : Files). get f (symbol_name t.address)) split
-            ∙ get_past rest (symbol_name t.address) mid
-            (no_received network.receive made (symbol_name t.address) (symbols_not_received t.address))
-            ∙ (has_pair ts who t (played steps) first apart at_t).sent;
+        symbols = λ who t at_t. grind (arith, get_past, no_received, symbols_not_received, has_pair);
         logs = λ who t at_t. ap (λ (f : Files). get f (log_name t.address)) split
             ∙ get_past rest (log_name t.address) mid
             (no_received network.receive made (log_name t.address) (log_not_received t.address))
@@ -135,8 +130,7 @@ network_files plan network stream made held now apart is =
       others = λ name out. ap (λ (f : Files). get f name) is
           ∙ get_past (network_outputs plan network stream made) name held (
             λ same. out (0, omega arith, sym same),
-            no_output-append sent rest name
-                (not_named ts (played steps) name (λ has. out
+            no_output-append sent rest name (not_named ts (played steps) name (λ has. out
                 (behind name out (transmitter_names ts ++ received_names network.receive)
                 (Contains-append_left (transmitter_names ts) (received_names network.receive) name has))))
                 (not_received network.receive made name

@@ -21,8 +21,7 @@ IsTold name plan network status =
 absent_told : (name : List ℕ) (plan : Plan) (network : NetPlan) (input : ℕ) → input < 4
     → (input < 1) ⊎ (1 ≤ input) → (input < 2) ⊎ (2 ≤ input) → (input < 3) ⊎ (3 ≤ input)
     → IsTold name plan network (Absent input)
-absent_told name plan network input below (inl a) b c =
-    subst (λ n. IsTold name plan network (Absent n)) {x = 0} (omega (arith, a)) refl
+absent_told name plan network input below (inl a) b c = grind arith
 absent_told name plan network input below (inr a) (inl b) c =
     subst (λ n. IsTold name plan network (Absent n)) {x = 1} (omega (arith, a, b)) refl
 absent_told name plan network input below (inr a) (inr b) (inl c) =
@@ -33,8 +32,7 @@ absent_told name plan network input below (inr a) (inr b) (inr c) =
 pub name_replayed : (name : List ℕ) (plan : Plan) (network : NetPlan) (status : Status) → IsOfNetwork status
     → repeated (network_names name plan network) ≡ None → IsTold name plan network status
 name_replayed name plan network Same is none = sym (ap (λ (o : Option (List ℕ)). unwrap_or o []) none)
-name_replayed name plan network (Absent input) below none =
-    absent_told name plan network input below (cases_lt input 1) (cases_lt input 2) (cases_lt input 3)
+name_replayed name plan network (Absent input) below none = grind (arith, absent_told, cases_lt)
 name_replayed name plan network status is none = refl
 
 -- no name is repeated, as no name was found

@@ -1,6 +1,5 @@
 -- How far a network came, part by part.
-use Rattle.std.proofs.Common.{◌≡◌, ◌⊎◌, ℕ, ◌-◌, ◌^◌, List, [], ◌∷◌, ◌++◌, refl, sym, ap, subst, ◌∙◌, inl, inr}
-use Rattle.std.proofs.Common.{arith}
+use Rattle.std.proofs.Common.{◌≡◌, ◌⊎◌, ℕ, ◌-◌, List, [], ◌∷◌, ◌++◌, refl, sym, ap, subst, ◌∙◌, inl, inr, arith}
 use Rattle.std.specs.Prelude.{Option, Some, None, IfSome, IfOk, Result, Ok, Err}
 use Rattle.std.specs.Option.{option_map}
 use Rattle.std.specs.FinMap.{get}
@@ -26,14 +25,12 @@ use Rattle.dtx_schedule.specs.Progress.{Progress, begun_files}
 use Rattle.dtx_schedule.proofs.ProgressLemmas.{all_files, all_played, only_begun}
 use Rattle.dtx_schedule.specs.TransmitterFiles.{played, played_outputs}
 use Rattle.dtx_words.specs.Line.{finished}
-use Rattle.dtx_words.specs.Number.{number_in, number_within}
 use Rattle.dtx_words.specs.declared.rows.Command.{Command}
 use Rattle.dtx_words.specs.declared.rows.Command.TheVariants.{Net, Trial}
 use Rattle.dtx_top.specs.Ends.{HasProgressOf}
 use Rattle.dtx_top.specs.NetProgress.{AreFirstParts, HasFileProgress, HasNetProgress, HasPlanProgress}
 use Rattle.dtx_top.specs.NetProgress.{HasProgress, HasStreamProgress, NetProgress, feed_outputs, reception_outputs}
-use Rattle.dtx_top.specs.Trial.{HasMadeProgress, HasNumbersProgress, HasTrialNet, HasTrialProgress, trial_events}
-use Rattle.dtx_top.specs.Trial.{trial_network, trial_plan, trial_transmitters, with_trial}
+use Rattle.dtx_top.specs.Trial.{HasMadeProgress, HasNumbersProgress, HasTrialNet, HasTrialProgress}
 use Rattle.dtx_top.proofs.Ending.{finished_failed}
 
 -- ---- parts of outputs
@@ -76,8 +73,7 @@ only_fed fed ts steps got status held now part =
 -- nothing was touched
 pub nothing_fed : (fed : Outputs) (ts : List Transmitter) (steps : List Step) (got : Outputs) (status : Status)
     (held : Files) (now : Option Files) → now ≡ Some held → NetProgress fed ts steps got status held now
-nothing_fed fed ts steps got status held now same =
-    only_fed fed ts steps got status held now
+nothing_fed fed ts steps got status held now same = only_fed fed ts steps got status held now
     (part_of_none fed (Some held) now same)
 
 -- ---- behind the feed
@@ -85,8 +81,7 @@ nothing_fed fed ts steps got status held now same =
 -- a fault in the midst of the schedule
 pub broken_off : (ts : List Transmitter) (steps : List Step) (got : Outputs) (status : Status) (outcome : Outcome)
     (held : Files) (now : Option Files) (sent : Progress ts steps) → IsFault status → outcome ≡ ended status
-    → now ≡ with_outputs (begun_files ts steps sent) (Some held)
-    → NetProgress [] ts steps got outcome.status held now
+    → now ≡ with_outputs (begun_files ts steps sent) (Some held) → NetProgress [] ts steps got outcome.status held now
 broken_off ts steps got status outcome held now sent fault is left = record {
   feed = [];
   feed_part = tt;
@@ -123,21 +118,20 @@ received_on ts steps got status held mid now is part =
 pub fed_on : (fed : Outputs) (ts : List Transmitter) (steps : List Step) (got : Outputs) (status : Status)
     (held mid : Files) (now : Option Files) → Some mid ≡ with_outputs fed (Some held)
     → NetProgress [] ts steps got status mid now → NetProgress fed ts steps got status held now
-fed_on fed ts steps got status held mid now whole is = record {
-  feed = fed;
-  feed_part = whole_parts fed;
-  schedule = is.schedule;
-  feed_first = λ some. refl;
-  reception = is.reception;
-  reception_part = is.reception_part;
-  schedule_first = is.schedule_first;
-  ends = is.ends;
-  files = is.files ∙ ap (λ feed. with_outputs (feed ++ behind) (Some mid)) (parts_of_none is.feed is.feed_part)
-      ∙ ap (with_outputs behind) whole ∙ sym (with_outputs-append fed behind (Some held));
-}
-  where
-    behind : Outputs
-    behind = begun_files ts steps is.schedule ++ is.reception
+fed_on fed ts steps got status held mid now whole is =
+    let behind : Outputs = begun_files ts steps is.schedule ++ is.reception in
+    record {
+      feed = fed;
+      feed_part = whole_parts fed;
+      schedule = is.schedule;
+      feed_first = λ some. refl;
+      reception = is.reception;
+      reception_part = is.reception_part;
+      schedule_first = is.schedule_first;
+      ends = is.ends;
+      files = is.files ∙ ap (λ feed. with_outputs (feed ++ behind) (Some mid)) (parts_of_none is.feed is.feed_part)
+          ∙ ap (with_outputs behind) whole ∙ sym (with_outputs-append fed behind (Some held));
+    }
 
 -- ---- over files that are told
 
@@ -145,13 +139,7 @@ fed_on fed ts steps got status held mid now whole is = record {
 pub stream_untouched : (plan : whole.Plan) (network : NetPlan) (status : Status) (told now : Option Files)
     → now ≡ told → IfSome told (λ held. HasStreamProgress plan network status held now)
 stream_untouched plan network status None now same = tt
-stream_untouched plan network status (Some held) now same = by_file (get held network.stream)
-  where
-    by_file : (found : Option (List ℕ)) → IfSome found (λ file. HasNetProgress plan network file status held now)
-    by_file None = tt
-    by_file (Some file) = nothing_fed (feed_outputs plan file) plan.transmitters
-        (steps_under plan (packets_of file) network.events)
-        (reception_outputs plan network (packets_of file) network.receive) status held now same
+stream_untouched plan network status (Some held) now same = grind (arith, nothing_fed)
 
 net_untouched : (plan : whole.Plan) (net : Option NetPlan) (status : Status) (held : Files) (now : Option Files)
     → now ≡ Some held → HasPlanProgress plan net status held now
@@ -161,16 +149,7 @@ net_untouched plan (Some network) status held now same = stream_untouched plan n
 pub file_untouched : (name : List ℕ) (status : Status) (told now : Option Files) → now ≡ told
     → IfSome told (λ held. HasFileProgress name status held now)
 file_untouched name status None now same = tt
-file_untouched name status (Some held) now same = by_file (get held name)
-  where
-    by_plan : (said : Result whole.Plan PlanNo) → IfOk said (λ plan. HasPlanProgress plan plan.net status held now)
-    by_plan (Err refusal) = tt
-    by_plan (Ok plan) = net_untouched plan plan.net status held now same
-
-    by_file : (found : Option (List ℕ))
-        → IfSome found (λ bytes. IfOk (plan_of bytes) (λ plan. HasPlanProgress plan plan.net status held now))
-    by_file None = tt
-    by_file (Some bytes) = by_plan (plan_of bytes)
+file_untouched name status (Some held) now same = grind (arith, net_untouched)
 
 -- ---- behind the line
 
@@ -179,10 +158,7 @@ finished_or_fault : (status : Status) (line : Result (Unit {0}) SinkNo)
     → (finished status line ≡ status) ⊎ IsFault (finished status line)
 finished_or_fault status (Ok u) = inl refl
 finished_or_fault status (Err sink.Memory) = inr tt
-finished_or_fault status (Err sink.Failed) = elim (finished_failed status) [
-  | inl done ↦ inr (let P : Status → Type 0 = λ s. IsFault (finished s (Err sink.Failed)) in subst P (sym done) tt)
-  | inr same ↦ inl same
-]
+finished_or_fault status (Err sink.Failed) = grind (arith, finished_failed)
 
 -- under another status, which is a fault where the first one is
 pub answered_so : (fed : Outputs) (ts : List Transmitter) (steps : List Step) (got : Outputs) (status other : Status)
@@ -219,8 +195,7 @@ net_so : (plan : whole.Plan) (status other : Status) (held : Files) (now : Optio
     → (other ≡ status) ⊎ IsFault other → (net : Option NetPlan) → HasPlanProgress plan net status held now
     → HasPlanProgress plan net other held now
 net_so plan status other held now same None is = tt
-net_so plan status other held now same (Some network) is =
-    stream_so plan network status other held now same (get held network.stream) is
+net_so plan status other held now same (Some network) is = grind (arith, stream_so)
 
 plan_so : (status other : Status) (held : Files) (now : Option Files) → (other ≡ status) ⊎ IsFault other
     → (said : Result whole.Plan PlanNo) → IfOk said (λ plan. HasPlanProgress plan plan.net status held now)
@@ -250,10 +225,7 @@ unfolding HasTrialNet
 made_so seed count status other held now same (inl broken) = inl (stays_fault status other same broken.0, broken.1)
 made_so seed count status other held now same (inr come) =
     let stream : List (List ℕ) = packets_of (made_stream seed count) in
-    inr (answered_so (feed_outputs (trial_plan seed count) (made_stream seed count)) trial_transmitters
-    (steps_under (trial_plan seed count) stream (trial_events seed count))
-    (reception_outputs (trial_plan seed count) (trial_network seed count) stream (trial_network seed count).receive)
-    status other (with_trial seed count held) now (stays_fault status other same) come)
+    inr (grind (arith, answered_so, stays_fault))
 
 numbers_so : (seed count : Option ℕ) (status other : Status) (held : Files) (now : Option Files)
     → (other ≡ status) ⊎ IsFault other → HasNumbersProgress seed count status held now
@@ -263,13 +235,11 @@ numbers_so (Some seed) None status other held now same is = tt
 numbers_so (Some seed) (Some count) status other held now same is = made_so seed count status other held now same is
 
 trial_so : (words : List (List ℕ)) (status other : Status) (held : Files) (now : Option Files)
-    → (other ≡ status) ⊎ IsFault other → HasTrialProgress words held status now
-    → HasTrialProgress words held other now
+    → (other ≡ status) ⊎ IsFault other → HasTrialProgress words held status now → HasTrialProgress words held other now
 trial_so [] status other held now same is = tt
 trial_so (verb ∷ []) status other held now same is = tt
 trial_so (verb ∷ seed ∷ []) status other held now same is = tt
-trial_so (verb ∷ seed ∷ count ∷ []) status other held now same is =
-    numbers_so (number_in (2 ^ 64 - 1) seed) (number_within 624 1000000 count) status other held now same is
+trial_so (verb ∷ seed ∷ count ∷ []) status other held now same is = grind (arith, numbers_so)
 trial_so (verb ∷ seed ∷ count ∷ more ∷ rest) status other held now same is = tt
 
 command_so : (command : Option Command) (words : List (List ℕ)) (status other : Status) (held : Files)
@@ -283,5 +253,4 @@ pub progress_told : (command : Option Command) (words : List (List ℕ)) (told n
     (line : Result (Unit {0}) SinkNo) → IfSome told (λ held. HasProgressOf command words held status now)
     → IfSome told (λ held. HasProgressOf command words held (finished status line) now)
 progress_told command words None now status line is = tt
-progress_told command words (Some held) now status line is =
-    command_so command words status (finished status line) held now (finished_or_fault status line) is
+progress_told command words (Some held) now status line is = grind (arith, command_so, finished_or_fault)

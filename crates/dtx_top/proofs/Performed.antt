@@ -1,4 +1,5 @@
 -- A command was performed, since its job was.
+use Rattle.std.proofs.Common.{arith}
 use Rattle.std.specs.Prelude.{◌≡◌, ◌≢◌, ℕ, List, Option, Some, None, IfSome}
 use Rattle.dtx_meaning.specs.declared.status.Outcome.{Outcome}
 use Rattle.dtx_meaning.specs.declared.status.Status.TheVariants.{Done}
@@ -17,23 +18,12 @@ of_all P (Some held) is = is held
 
 -- a job of a command that plays no network
 of_job : (command : Command) (job : Job) (words : List (List ℕ)) (outcome : Outcome) (kept : List ℕ)
-    (told now : Option Files) (before after : Counts)
-    → job_of command ≡ Some job
-    → Some command ≢ Some Net
+    (told now : Option Files) (before after : Counts) → job_of command ≡ Some job → Some command ≢ Some Net
     → ((held : Files) → HasProgressOf (Some command) words held outcome.status now)
     → ((held : Files) → outcome.status ≡ Done → HasHeadlineOf (Some command) words held now)
     → IsJobPerformed job words outcome told now before after
     → IsCommandPerformed (Some command) words outcome kept told now before after
-of_job command job words outcome kept told now before after is other progress headline done = record {
-  carried = rw is done.carried;
-  gone = done.gone;
-  answer = rw is (done.words, done.answers);
-  name = λ net. elim (other net) [ ];
-  untold_name = λ net. elim (other net) [ ];
-  shown = λ net. elim (other net) [ ];
-  progress = of_all (λ held. HasProgressOf (Some command) words held outcome.status now) told progress;
-  headline = of_all (λ held. outcome.status ≡ Done → HasHeadlineOf (Some command) words held now) told headline;
-}
+of_job command job words outcome kept told now before after is other progress headline done = grind (arith, of_all)
 
 -- the command plays no network
 abbrev IsPlain : Command → Type 0
@@ -47,8 +37,7 @@ plain_performed : (command : Command) (job : Job) (words : List (List ℕ)) (out
     → IsCommandPerformed (Some command) words outcome kept told now before after
 plain_performed Net job words outcome kept told now before after plain is done = absurd plain
 plain_performed Trial job words outcome kept told now before after plain is done = absurd plain
-plain_performed command job words outcome kept told now before after plain is done =
-    of_job command job words outcome kept told now before after is (λ same. cc) (λ _. tt) (λ _ _. tt) done
+plain_performed command job words outcome kept told now before after plain is done = grind (arith, of_job)
 
 -- the outcome of a job is that of its command
 pub performed : (command plain : Command) (job : Job) (words : List (List ℕ)) (outcome result : Outcome) (kept : List ℕ)

@@ -1,6 +1,6 @@
 -- A stream in which placeholders were put is a stream, and where a field of it has one.
-use Rattle.std.proofs.Common.{◌≡◌, ℕ, ◌+◌, ◌*◌, ◌/◌, ◌%◌, ◌<◌, ◌≤◌, Bool, false, true, List, [], ◌∷◌, length}
-use Rattle.std.proofs.Common.{drop, get_or, suc, inl, inr, subst, sym, ap, ◌∙◌, arith}
+use Rattle.std.proofs.Common.{◌≡◌, ℕ, ◌+◌, ◌*◌, ◌/◌, ◌%◌, ◌<◌, ◌≤◌, Bool, false, true, List, [], ◌∷◌, length, drop}
+use Rattle.std.proofs.Common.{get_or, suc, inl, inr, subst, sym, ◌∙◌, arith}
 use Rattle.std.specs.List.{list_any}
 use Rattle.std.proofs.lemmas.Bool.{eqb-true, or_cases}
 use Rattle.std.proofs.lemmas.List.{get_or-drop, get_or-take, length-take}
@@ -16,8 +16,7 @@ use Rattle.dtx_recipes.specs.Place.{behind, placed}
 -- where there are as many packets as before, each as long as it was, and no byte grows
 pub placed_stream : (stream : List (List ℕ)) → length (placed stream) ≡ length stream
     → ((k : ℕ) → k < length stream → length (get_or (placed stream) k []) ≡ length (get_or stream k []))
-    → ((k i : ℕ) → k < length stream
-    → get_or (get_or (placed stream) k []) i 0 ≤ get_or (get_or stream k []) i 0)
+    → ((k i : ℕ) → k < length stream → get_or (get_or (placed stream) k []) i 0 ≤ get_or (get_or stream k []) i 0)
     → IsStream stream → IsStream (placed stream)
 placed_stream stream count lengths lower s = record {
   most = subst (λ (n : ℕ). n ≤ 624000000) (sym count) s.most;
@@ -25,13 +24,7 @@ placed_stream stream count lengths lower s = record {
       (λ k below. let within : k < length stream = omega (arith, below, count) in
       lengths k within ∙ All-get_or (λ packet. length packet ≡ 188) stream k [] within s.long);
   bytes = All-from_get_or AreBytes (placed stream) []
-      (λ k below. let within : k < length stream = omega (arith, below, count) in
-      AreBytes-from_places (get_or (placed stream) k [])
-      (λ i inside. omega (
-        arith,
-        lower k i within,
-        byte_at (get_or stream k []) i (All-get_or AreBytes stream k [] within s.bytes),
-      )));
+      (λ k below. grind (arith, AreBytes-from_places, byte_at, All-get_or));
 }
 
 -- ---- a field's placeholder
@@ -55,10 +48,5 @@ late_in_field packets field any =
     let rest = drop (312 * field + 52) packets in
     let within : i < 260 = omega (arith, found.1, length-take 260 rest) in
     let at : get_or (behind packets field) i [] ≡ get_or packets (312 * field + 52 + i) [] =
-    get_or-take 260 rest i [] within ∙ get_or-drop (312 * field + 52) packets i [] in (
-      312 * field + 52 + i,
-      omega (arith, within),
-      omega (arith, within),
-      ap (λ (packet : List ℕ). pid_of packet) (sym at)
-          ∙ eqb-true (pid_of (get_or (behind packets field) i [])) 0x1FFA found.2,
-    )
+    get_or-take 260 rest i [] within ∙ get_or-drop (312 * field + 52) packets i [] in
+    (grind (arith, eqb-true))

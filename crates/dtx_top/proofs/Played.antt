@@ -27,8 +27,7 @@ use Rattle.dtx_schedule.specs.Playout.{IsPlayout, SentBy, packets_given}
 use Rattle.dtx_schedule.specs.TransmitterFiles.{Contents, files_of, played, played_outputs, symbol_file}
 use Rattle.dtx_schedule.specs.declared.playout.Playout.{Playout}
 use Rattle.dtx_words.specs.NetworkNames.{feed_name, symbol_name}
-use Rattle.dtx_top.specs.NetMeaning.{played_and_received, playing, received_of, received_past}
-use Rattle.dtx_top.specs.NetMeaning.{with_received}
+use Rattle.dtx_top.specs.NetMeaning.{played_and_received, playing, received_of, received_past, with_received}
 use Rattle.dtx_top.specs.NetProgress.{NetProgress, reception_outputs}
 use Rattle.dtx_top.specs.Networks.{sent_file}
 use Rattle.dtx_top.specs.Replaying.{HasNumbers, IsFeedWritten}
@@ -45,15 +44,13 @@ damages_of ts (Some receiver) is = is.damage
 -- what playing says of the feed, as it was written of a stream: `Says` of the transmitters and the steps
 abbrev pub PlaysFeed : (List Transmitter → List Step → Files → Type 0) → List Transmitter → NetPlan → Option Files
     → Type 0
-PlaysFeed Says ts network told =
-    (held : Files) (bytes : List ℕ) → told ≡ Some held → get held feed_name ≡ Some bytes
+PlaysFeed Says ts network told = (held : Files) (bytes : List ℕ) → told ≡ Some held → get held feed_name ≡ Some bytes
     → first_past_feed network.events (whole_packets bytes) ≡ None
     → Says ts (schedule ts (packets_of bytes) network.events) held
 
 pub played_over : (Says : List Transmitter → List Step → Files → Type 0) (plan : Plan) (network : NetPlan)
     (stream : List (List ℕ)) (ts : List Transmitter) (fed : Fed) (held : Files) (told : Option Files)
-    → IsSound plan → ts ≡ plan.transmitters → told ≡ Some held
-    → IsFeedWritten plan stream fed held
+    → IsSound plan → ts ≡ plan.transmitters → told ≡ Some held → IsFeedWritten plan stream fed held
     → first_past_feed network.events (length stream) ≡ None → PlaysFeed Says ts network told
     → Says plan.transmitters (steps_under plan stream network.events) held
 played_over Says plan network stream ts fed held told sound its is written inside says =
@@ -72,10 +69,8 @@ some_files contents (t ∷ ts) some = λ none. cc
 
 -- a fault while they were played
 pub play_fault : (plan : Plan) (network : NetPlan) (stream : List (List ℕ)) (receive : Option ReceivePlan)
-    (held : Files) (status : Status) (outcome : Outcome)
-    (now : Option Files) → 1 ≤ length plan.transmitters
-    → IsPlayFault plan.transmitters (steps_under plan stream network.events) held status now
-    → outcome ≡ ended status
+    (held : Files) (status : Status) (outcome : Outcome) (now : Option Files) → 1 ≤ length plan.transmitters
+    → IsPlayFault plan.transmitters (steps_under plan stream network.events) held status now → outcome ≡ ended status
     → IsCarriedOut (played_and_received plan network stream receive) (Some held) outcome now
 play_fault plan network stream receive held status outcome now transmitters is ends = by_receiver receive
   where
@@ -110,13 +105,11 @@ pub received_told : (plan : Plan) (network : NetPlan) (stream : List (List ℕ))
     → IsPlayout plan.transmitters playout (steps_under plan stream network.events)
     → SentBy receiver.from plan.transmitters (steps_under plan stream network.events) segments
     → symbols ≡ min (segments * 832) (2 ^ 64 - 1)
-    → told ≡ with_outputs (played_outputs plan.transmitters (steps_under plan stream network.events))
-    (Some held)
+    → told ≡ with_outputs (played_outputs plan.transmitters (steps_under plan stream network.events)) (Some held)
     → ((held : Files) (file : List ℕ) → told ≡ Some held → get held (symbol_name receiver.from) ≡ Some file
     → first_past receiver.damage symbols ≡ first_past receiver.damage (length file)
     → IsCarriedOut (received_past (first_past receiver.damage (length file)) receiver.damage file)
-    (Some held) received now)
-    → AreReceived plan network stream receiver held received now
+    (Some held) received now) → AreReceived plan network stream receiver held received now
 received_told plan network stream receiver held told now received playout segments symbols is playing counted many
     left says = record {
       mid = mid;
@@ -156,10 +149,8 @@ pub received_behind : (plan : Plan) (network : NetPlan) (receiver : ReceivePlan)
     → result ≡ with_received fed.packets fed.filled steps received
     → IsCarriedOut (played_and_received plan network stream (Some receiver)) (Some held) result now
 received_behind plan network receiver stream held now fed steps received result numbers counted sent is =
-    let m : Meaning =
-    received_past (first_past receiver.damage (length (sent_file plan network stream receiver.from)))
-    receiver.damage
-    (sent_file plan network stream receiver.from) in
+    let m : Meaning = received_past (first_past receiver.damage (length (sent_file plan network stream receiver.from)))
+    receiver.damage (sent_file plan network stream receiver.from) in
     let same : result ≡ with_received (length stream) (placeholders stream)
     (packets_given (steps_under plan stream network.events)) received =
     is ∙ ap (λ n. with_received n fed.filled steps received) numbers.packets

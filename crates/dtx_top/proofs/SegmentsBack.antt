@@ -1,5 +1,5 @@
 -- The segments of a symbol file that was written of segments are those segments.
-use Rattle.std.proofs.Common.{◌≡◌, ℕ, List, length}
+use Rattle.std.proofs.Common.{◌≡◌, ℕ, List, length, arith}
 use Rattle.dtx_recipes.specs.SymbolFile as file
 use Rattle.dtx_recipes.specs.SymbolFile.{whole_segments}
 use Rattle.dtx_jobs.proofs.SymbolsBackLemmas.{segments_read_back, whole_segments_back}
@@ -18,5 +18,4 @@ whole_segments_sent t who steps = whole_segments_back (sent.sent_segments t who 
 pub segments_of_file : (t : Transmitter) (who : ℕ) (steps : List Step)
     → file.file_segments (symbol_file t who steps) ≡ sent.sent_segments t who steps
 unfolding symbol_file
-segments_of_file t who steps =
-    segments_read_back (sent.sent_segments t who steps) (sent_long t who steps) (sent_back t who steps)
+segments_of_file t who steps = grind (arith, segments_read_back, sent_long, sent_back)

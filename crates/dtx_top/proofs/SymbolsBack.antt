@@ -1,6 +1,6 @@
 -- Every symbol that a transmitter sends, whatever it is given, is the symbol of its byte in the symbol file.
 use Rattle.std.proofs.Common.{ℕ, ℤ, ◌+◌, ◌-◌, ◌*◌, ◌/◌, ◌%◌, ◌==◌, Bool, true, false, cond, Option, Some, None, List}
-use Rattle.std.proofs.Common.{[], ◌∷◌, ◌++◌, length, take, drop}
+use Rattle.std.proofs.Common.{[], ◌∷◌, ◌++◌, length, take, drop, arith}
 use Rattle.std.specs.Prelude.{nat_le, is_ok, slice_index_or}
 use Rattle.std.specs.List.{range_with_len}
 use Rattle.dtx_frame.specs.Segments.{field_sync}
@@ -8,8 +8,7 @@ use Rattle.dtx_coder.specs.Along.{levels_since}
 use Rattle.dtx_coder.specs.Coded.{whole_groups}
 use Rattle.dtx_coder.specs.Stream.{segment, four_segments, last_of}
 use Rattle.dtx_exciter.specs.Emission.{segments_since, sent_by, sent_at, sent_before, behind_field_sync, given_under}
-use Rattle.dtx_exciter.specs.Emission.{last_segments}
-use Rattle.dtx_exciter.specs.Emission.{emission}
+use Rattle.dtx_exciter.specs.Emission.{last_segments, emission}
 use Rattle.dtx_exciter.specs.Order.{Order, orders}
 use Rattle.dtx_exciter.specs.Packets.{readings, under}
 use Rattle.dtx_exciter.specs.Told.{served}
@@ -24,8 +23,7 @@ use Rattle.dtx_plan.specs.declared.transmitter.Transmitter.{Transmitter}
 
 since_back : (g : ℕ) (q : List ℕ) (packets : List (List ℕ)) (u : ℕ) → EachBack (segments_since g q packets u)
 unfolding segments_since four_segments levels_since
-since_back g q packets u =
-    each_range AreBack (segment (levels_since g q packets)) (4 * (u - g)) 4
+since_back g q packets u = each_range AreBack (segment (levels_since g q packets)) (4 * (u - g)) 4
     (λ n l m. segment_back (levels_since g q packets) n
     (levels_small (4 * g % 312) q (drop (828 * g) (whole_groups packets))))
 
@@ -52,8 +50,7 @@ before_back address delay packets i = by_test (nat_le 4 i)
 last_back : (b : List ℤ) (bs : List (List ℤ)) → EachBack (b ∷ bs)
     → AreBack (last_of (slice_index_or (b ∷ bs) (length bs) []))
 unfolding last_of
-last_back b bs each = each_drop IsBack 820 (slice_index_or (b ∷ bs) (length bs) [])
-    (each_at AreBack (b ∷ bs) (length bs) [] each tt)
+last_back b bs each = each_drop IsBack 820 (slice_index_or (b ∷ bs) (length bs) []) (grind (arith, each_at))
 
 with_back : (i : ℕ) (before sent : List (List ℤ)) → EachBack before → EachBack sent
     → EachBack (behind_field_sync i before sent)
@@ -75,11 +72,9 @@ under_back address delay (Some packets) = by_test (length packets % 4 == 0)
     i : ℕ
     i = length packets - 4
 
-    by_test : (t : Bool)
-        → EachBack (cond t (behind_field_sync i (sent_before address delay packets i)
+    by_test : (t : Bool) → EachBack (cond t (behind_field_sync i (sent_before address delay packets i)
         (sent_at address delay packets i)) [])
-    by_test true =
-        with_back i (sent_before address delay packets i) (sent_at address delay packets i)
+    by_test true = with_back i (sent_before address delay packets i) (sent_at address delay packets i)
         (before_back address delay packets i) (at_back address delay packets i)
     by_test false = tt
 

@@ -1,5 +1,5 @@
 -- What the words of a trial mean is done.
-use Rattle.std.proofs.Common.{◌≡◌, ℕ, ◌-◌, ◌^◌, ◌≤◌, true, false, List, [], ◌∷◌, refl, sym, subst}
+use Rattle.std.proofs.Common.{◌≡◌, ℕ, ◌-◌, ◌^◌, ◌≤◌, true, false, List, [], ◌∷◌, refl, sym, subst, arith}
 use Rattle.std.specs.Prelude.{Option, Some, None, IfSome, is_some}
 use Rattle.std.proofs.lemmas.Bool.{and_parts}
 use Rattle.dtx_meaning.specs.declared.status.Status.TheVariants.{Done}
@@ -44,9 +44,7 @@ fitted_done law (verb ∷ seed ∷ count ∷ []) held fit =
     (within_most (2 ^ 64 - 1) seed (number_in (2 ^ 64 - 1) seed) refl)
     (within_range 624 1000000 count (number_within 624 1000000 count) refl)
     (and_parts _ _ all).0 (and_parts _ _ (and_parts _ _ all).1).0
-fitted_done law (verb ∷ seed ∷ count ∷ word ∷ words) held fit =
-    let behind = (and_parts _ _ (and_parts _ _ fit).1).1 in
-    let e : false ≡ true = (and_parts (is_some (number_within 624 1000000 count)) false behind).1 in cc
+fitted_done law (verb ∷ seed ∷ count ∷ word ∷ words) held fit = grind (arith, and_parts)
 
 pub words_done : TrialLaw → (words : List (List ℕ)) (held : Files) → command_of words ≡ Some Trial
     → (means words held).outcome.status ≡ Done

@@ -1,11 +1,11 @@
 -- Transmitter 3 of a trial is locked to nothing where it is given the feed: what it is given before has no mark.
-use Rattle.std.proofs.Common.{◌≡◌, ◌≢◌, ℕ, pos, negsuc, zero, suc, ◌<◌, ◌==◌, cond, false, List, [], ◌∷◌, ◌++◌}
-use Rattle.std.proofs.Common.{Option, Some, None, length, map, refl, sym, ap, ◌∙◌, arith}
+use Rattle.std.proofs.Common.{◌≡◌, ◌≢◌, ℕ, pos, negsuc, zero, suc, ◌<◌, ◌==◌, false, List, [], ◌∷◌, ◌++◌, Option, Some}
+use Rattle.std.proofs.Common.{None, map, refl, sym, ap, ◌∙◌, arith}
 use Rattle.std.specs.List.{range_with_len}
 use Rattle.std.proofs.lemmas.List.{append-nil, append_assoc, get_or-map, length-map}
 use Rattle.dtx_adapter.specs.Feed.{feed}
-use Rattle.dtx_cadence.specs.Anchor.{anchor, anchor_at, anchor_to, has_mark}
-use Rattle.dtx_exciter.specs.Lockstep.{locked_by, locked_from}
+use Rattle.dtx_cadence.specs.Anchor.{anchor, anchor_to, has_mark}
+use Rattle.dtx_exciter.specs.Lockstep.{locked_from}
 use Rattle.dtx_exciter.specs.Packets.{anchor_of, syncs}
 use Rattle.dtx_make.specs.Made.{made_packet}
 use Rattle.dtx_net.proofs.LastLifeLemmas.{last_life_is}
@@ -30,40 +30,30 @@ use Rattle.dtx_top.proofs.WorkedStream.{length-made, packet_in}
 no_anchor : (all : List ℕ) (n : ℕ) → ((i : ℕ) → i < n → has_mark all i ≡ false) → anchor_to all n ≡ None
 unfolding anchor_to
 no_anchor all zero none = refl
-no_anchor all (suc n) none =
-    ap (anchor_at all n) (no_anchor all n (λ i l. none i (omega (arith, l))))
-    ∙ ap (λ b. cond b (Some n) None) (none n (omega arith))
+no_anchor all (suc n) none = rw (no_anchor all n (λ i l. none i (omega (arith, l))), none n (omega arith))
 
 made_unmarked : (seed count i : ℕ) → i < count → has_mark (syncs (made_packets seed count)) i ≡ false
 unfolding syncs
-made_unmarked seed count i l =
-    ap (λ (s : ℕ). s == 0xB8)
+made_unmarked seed count i l = ap (λ (s : ℕ). s == 0xB8)
     (get_or-map sync_of (made_packets seed count) i [] 0 (omega (arith, l, length-made seed count))
     ∙ ap sync_of (packet_in seed count i l) ∙ begins seed i)
 
 made_unlocked : (seed count mark : ℕ) → locked_from (made_packets seed count) mark ≡ mark
 unfolding locked_from anchor_of anchor syncs
-made_unlocked seed count mark =
-    let packets : List (List ℕ) = made_packets seed count in
-    ap (λ (o : Option ℕ). locked_by o (length packets) mark)
-    (no_anchor (syncs packets) (length (syncs packets)) (λ i l.
-    made_unmarked seed count i (omega (arith, l, length-map packets sync_of, length-made seed count))))
+made_unlocked seed count mark = grind (arith, no_anchor, made_unmarked, length-map, length-made)
 
 -- ---- the life in which packets are given in a row
 
 given_in_row : (f : ℕ → List ℕ) (life : List (List ℕ)) (ks : List ℕ)
     → lives_from life (map (λ k. Some (f k)) ks) ≡ (life ++ map f ks) ∷ []
 given_in_row f life [] = ap (λ (l : List (List ℕ)). l ∷ []) (sym (append-nil life))
-given_in_row f life (k ∷ ks) =
-    given_in_row f (life ++ f k ∷ []) ks
-    ∙ ap (λ (l : List (List ℕ)). l ∷ []) (append_assoc life (f k ∷ []) (map f ks))
+given_in_row f life (k ∷ ks) = rw (given_in_row f (life ++ f k ∷ []) ks, append_assoc life (f k ∷ []) (map f ks))
 
 -- ---- the steps of one transmitter in events
 
 own_all : (who : ℕ) (actions : List (Option (List ℕ))) → own_steps who (steps_at (Some who) actions) ≡ actions
 own_all who [] = refl
-own_all who (a ∷ actions) =
-    own_here who (record { who = who; packet = a }) (steps_at (Some who) actions) refl
+own_all who (a ∷ actions) = own_here who (record { who = who; packet = a }) (steps_at (Some who) actions) refl
     ∙ ap (λ (rest : List (Option (List ℕ))). a ∷ rest) (own_all who actions)
 
 own_none : (who other : ℕ) (actions : List (Option (List ℕ))) → other ≢ who
@@ -83,20 +73,13 @@ of_other : (ts : List Transmitter) (fed : List (List ℕ)) (who other : ℕ) (ev
     → transmitter_place (to_of event) ts ≡ Some other → other ≢ who
     → own_steps who (schedule ts fed (event ∷ events)) ≡ own_steps who (schedule ts fed events)
 unfolding steps_of
-of_other ts fed who other event events e n =
-    own_more ts fed who event events
-    ∙ ap (λ (x : List (Option (List ℕ))). x ++ own_steps who (schedule ts fed events))
-    (ap (λ (o : Option ℕ). own_steps who (steps_at o (actions_of fed event))) e
-    ∙ own_none who other (actions_of fed event) n)
+of_other ts fed who other event events e n = grind (arith, own_more, own_none)
 
 of_one : (ts : List Transmitter) (fed : List (List ℕ)) (who : ℕ) (event : Event)
     → transmitter_place (to_of event) ts ≡ Some who
     → own_steps who (schedule ts fed (event ∷ [])) ≡ actions_of fed event
 unfolding steps_of schedule
-of_one ts fed who event e =
-    ap (own_steps who) (append-nil (steps_of ts fed event))
-    ∙ ap (λ (o : Option ℕ). own_steps who (steps_at o (actions_of fed event))) e
-    ∙ own_all who (actions_of fed event)
+of_one ts fed who event e = grind (arith, append-nil, own_all)
 
 -- ---- transmitter 3
 
@@ -128,5 +111,4 @@ third_life seed count stream p =
 -- so it is locked to the feed from the feed's first mark on
 pub third_unlocked : (seed count : ℕ) (stream : List (List ℕ)) → IsPlan (trial_plan seed count)
     → locked_from (last_life 2 (steps_under (trial_plan seed count) stream (events_before seed count))) 0 ≡ 0
-third_unlocked seed count stream p =
-    ap (λ (life : List (List ℕ)). locked_from life 0) (third_life seed count stream p) ∙ made_unlocked seed 50 0
+third_unlocked seed count stream p = grind (arith, third_life, made_unlocked)

@@ -1,6 +1,5 @@
 -- A trial: its plan is one that a network takes, and what is carried out of it.
-use Rattle.std.proofs.Common.{◌≡◌, ◌≢◌, ℕ, ◌-◌, ◌^◌, ◌<◌, ◌≤◌, true, false, length, List, []}
-use Rattle.std.proofs.Common.{◌∷◌, get_or, refl, sym}
+use Rattle.std.proofs.Common.{◌≡◌, ◌≢◌, ℕ, ◌-◌, ◌^◌, ◌<◌, ◌≤◌, true, false, length, List, [], ◌∷◌, get_or, refl, sym}
 use Rattle.std.proofs.Common.{ap, subst, ◌∙◌, inl, inr, arith, lit<}
 use Rattle.std.specs.Prelude.{ℤ, pos, negsuc, unsigned_abs, Option, Some, None, All, IfSome, IsSomeAnd}
 use Rattle.std.specs.FinMap.{get}
@@ -18,9 +17,8 @@ use Rattle.dtx_meaning.specs.Meaning.{Meaning, IsCarriedOut}
 use Rattle.dtx_meaning.specs.Status.{IsFault, IsOfInputs, blame_of}
 use Rattle.dtx_meaning.specs.declared.status.Outcome.{Outcome}
 use Rattle.dtx_meaning.specs.declared.status.Status.{Status}
-use Rattle.dtx_meaning.specs.declared.status.Status.TheVariants.{Done, Usage, Same, Absent, Plan}
-use Rattle.dtx_meaning.specs.declared.status.Status.TheVariants.{OutOfAir, ReadFault, WriteFault}
-use Rattle.dtx_meaning.specs.declared.status.Status.TheVariants.{Memory}
+use Rattle.dtx_meaning.specs.declared.status.Status.TheVariants.{Done, Usage, Same, Absent, Plan, OutOfAir, ReadFault}
+use Rattle.dtx_meaning.specs.declared.status.Status.TheVariants.{WriteFault, Memory}
 use Rattle.dtx_network.specs.Network.{steps_under}
 use Rattle.dtx_network.specs.Plans.{IsPlan}
 use Rattle.dtx_outside.proofs.FilesLemmas.{get-insert_same}
@@ -67,12 +65,10 @@ in_range address offset small few =
     record { address = small; offset = fits_signed_from_abs w16 offset few; delay = lit< tt }
 
 each_in_range : All IsTransmitter trial_transmitters
-each_in_range =
-    All-cons IsTransmitter (near 1 (pos 0)) (near 2 (pos 25) ∷ near 3 (negsuc 9) ∷ [])
+each_in_range = All-cons IsTransmitter (near 1 (pos 0)) (near 2 (pos 25) ∷ near 3 (negsuc 9) ∷ [])
     (in_range 1 (pos 0) (lit< tt) (lit< tt))
     (All-cons IsTransmitter (near 2 (pos 25)) (near 3 (negsuc 9) ∷ []) (in_range 2 (pos 25) (lit< tt) (lit< tt))
-    (All-cons IsTransmitter (near 3 (negsuc 9)) [] (in_range 3 (negsuc 9) (lit< tt) (lit< tt))
-    (All-nil IsTransmitter)))
+    (All-cons IsTransmitter (near 3 (negsuc 9)) [] (in_range 3 (negsuc 9) (lit< tt) (lit< tt)) (All-nil IsTransmitter)))
 
 pub is_plan : (seed count : ℕ) → IsPlan (trial_plan seed count)
 is_plan seed count = record { sound = plan_sound seed count; transmitters = each_in_range }
@@ -128,11 +124,9 @@ its_network plan seed count network is has = same_Some (trial_network seed count
 
 pub network_of : (plan : whole.Plan) (network : NetPlan) → IsTrialPlan plan → plan.net ≡ Some network
     → IsNetworkOf plan network
-network_of plan network x has =
-    subst (λ (p : whole.Plan). IsNetworkOf p network) (sym x.is)
+network_of plan network x has = subst (λ (p : whole.Plan). IsNetworkOf p network) (sym x.is)
     (subst (λ (n : NetPlan). IsNetworkOf (trial_plan x.seed x.count) n)
-    (its_network plan x.seed x.count network x.is has)
-    (record {
+    (its_network plan x.seed x.count network x.is has) (record {
       sound = plan_sound x.seed x.count;
       net = is_net x.seed x.count x.small x.least x.most;
       differ = stream_no_feed;
@@ -225,8 +219,7 @@ pub played_carried : (plan : whole.Plan) (network : NetPlan) (seed count : ℕ) 
     (outcome : Outcome) → plan ≡ trial_plan seed count → plan.net ≡ Some network → told ≡ Some held
     → get held trial_name ≡ Some (made_stream seed count)
     → IfSome told (λ held. IsCarriedOut (network_meaning plan network (get held network.stream)) (Some held) outcome
-    now)
-    → IsCarriedOut (trial_played seed count) (Some held) (trial_outcome outcome) now
+    now) → IsCarriedOut (trial_played seed count) (Some held) (trial_outcome outcome) now
 unfolding trial_played
 played_carried plan network seed count held told now outcome is has tells there carried =
     let here = subst (λ (t : Option Files). IfSome t (λ held.
@@ -280,8 +273,7 @@ then_carried seed count (Some held) mid now made outcome done carried next =
 pub then_come : (seed count : ℕ) (told mid now : Option Files) (made : Outcome) (status : Status) → made.status ≡ Done
     → IsCarriedOut (made_file seed count trial_name) told made mid
     → OverStream seed count mid (λ held. HasNetProgress (trial_plan seed count) (trial_network seed count)
-    (made_stream seed count) status held now)
-    → IfSome told (λ held. HasMadeProgress seed count status held now)
+    (made_stream seed count) status held now) → IfSome told (λ held. HasMadeProgress seed count status held now)
 unfolding HasTrialNet
 then_come seed count None mid now made status done carried next = tt
 then_come seed count (Some held) mid now made status done carried next =
@@ -308,11 +300,10 @@ pub alone_come : (seed count : ℕ) (told now : Option Files) (made : Outcome) �
     → IsCarriedOut (made_file seed count trial_name) told made now
     → IfSome told (λ held. HasMadeProgress seed count made.status held now)
 alone_come seed count None now made not_done carried = tt
-alone_come seed count (Some held) now made not_done carried =
-    inl (
-      made_fault seed count (Some held) now made not_done carried,
-      part_of_carried (made_file seed count trial_name) (Some held) now made carried,
-    )
+alone_come seed count (Some held) now made not_done carried = inl (
+  made_fault seed count (Some held) now made not_done carried,
+  part_of_carried (made_file seed count trial_name) (Some held) now made carried,
+)
 
 -- nothing was touched for want of memory
 pub wanting_come : (seed count : ℕ) (told now : Option Files) (status : Status) → now ≡ told → IsFault status
@@ -325,8 +316,7 @@ wanting_come seed count (Some held) now status same fault =
 
 -- three words, of which two are known
 pub three_words : (words : List (List ℕ)) (seed count : List ℕ) → 3 ≤ length words → length words < 4
-    → seed ≡ get_or words 1 seed → count ≡ get_or words 2 count
-    → (verb : List ℕ) × (words ≡ verb ∷ seed ∷ count ∷ [])
+    → seed ≡ get_or words 1 seed → count ≡ get_or words 2 count → (verb : List ℕ) × (words ≡ verb ∷ seed ∷ count ∷ [])
 three_words [] seed count least most one two = absurd (omega (arith, least))
 three_words (verb ∷ []) seed count least most one two = absurd (omega (arith, least))
 three_words (verb ∷ a ∷ []) seed count least most one two = absurd (omega (arith, least))
@@ -339,8 +329,7 @@ pub of_words : (P : Option ℕ → Option ℕ → Type 0) (seed count : Option �
     → seed ≡ number_in (2 ^ 64 - 1) seed_word → count ≡ number_within 624 1000000 count_word → P seed count
     → P (number_in (2 ^ 64 - 1) seed_word) (number_within 624 1000000 count_word)
 of_words P seed count seed_word count_word one two holds =
-    subst (λ (o : Option ℕ). P (number_in (2 ^ 64 - 1) seed_word) o) two
-    (subst (λ (o : Option ℕ). P o count) one holds)
+    subst (λ (o : Option ℕ). P (number_in (2 ^ 64 - 1) seed_word) o) two (subst (λ (o : Option ℕ). P o count) one holds)
 
 -- ---- the headline
 
@@ -351,8 +340,7 @@ no_written seed count has = let e : true ≡ false =
 
 done_files : (seed count : ℕ) (held : Files) (now : Option Files)
     → IsSomeAnd now (HeadlineOfFiles (trial_plan seed count) (trial_network seed count)
-    (packets_of (made_stream seed count)) (with_trial seed count held))
-    → IsSomeAnd now (IsTrialDone seed count held)
+    (packets_of (made_stream seed count)) (with_trial seed count held)) → IsSomeAnd now (IsTrialDone seed count held)
 done_files seed count held None is = is
 done_files seed count held (Some now) is = record {
   stream = is.files.others trial_name (no_written seed count)

@@ -1,9 +1,8 @@
 -- The files of the transmitters by their names, while a schedule is under way.
-use Rattle.std.proofs.Common.{◌≡◌, ◌≢◌, ℕ, ◌*◌, ◌+◌, List, [], ◌∷◌, ◌++◌, length, take, sym, ap, subst, ◌∙◌}
+use Rattle.std.proofs.Common.{◌≡◌, ◌≢◌, ℕ, ◌*◌, ◌+◌, List, [], ◌∷◌, length, take, sym, subst, ◌∙◌, arith}
 use Rattle.std.specs.Prelude.{Option, Some, None, IsSomeAnd}
 use Rattle.std.specs.FinMap.{get}
 use Rattle.std.proofs.lemmas.Option.{same_Some}
-use Rattle.dtx_recipes.specs.PastEnd.{first_past}
 use Rattle.dtx_meaning.specs.Meaning.{IsNoOutput, Outputs}
 use Rattle.dtx_meaning.specs.declared.status.Status.{Status}
 use Rattle.dtx_net.specs.Steps.{Step}
@@ -16,14 +15,11 @@ use Rattle.dtx_plan.specs.declared.plan.Plan.{Plan}
 use Rattle.dtx_plan.specs.declared.plan.ReceivePlan.{ReceivePlan}
 use Rattle.dtx_plan.specs.declared.transmitter.Transmitter.{Transmitter}
 use Rattle.dtx_schedule.proofs.FilesLemmas.{AreApart, files_with, get_past, has_pair, with_outputs-told}
-use Rattle.dtx_schedule.specs.Progress.{begun_files}
 use Rattle.dtx_schedule.proofs.ProgressLemmas.{all_files}
 use Rattle.dtx_schedule.specs.TransmitterFiles.{files_of, log_file, symbol_file}
 use Rattle.dtx_words.specs.NetworkNames.{log_name, received_name, symbol_name}
-use Rattle.dtx_top.specs.NetMeaning.{received_past}
 use Rattle.dtx_top.specs.NetProgress.{AreFirstParts, AreUnderWay, HasNetProgress, IsBetween, NetProgress}
 use Rattle.dtx_top.specs.NetProgress.{reception_outputs}
-use Rattle.dtx_top.specs.Networks.{sent_file}
 use Rattle.dtx_top.proofs.Headlines.{apart_plan}
 use Rattle.dtx_top.proofs.NetFiles.{files_with-append, log_not_received, symbols_not_received}
 
@@ -39,52 +35,35 @@ no_part (part ∷ parts) (o ∷ rest) name (same, front, more) apart =
 no_reception : (plan : Plan) (network : NetPlan) (stream : List (List ℕ)) (name : List ℕ) → name ≢ received_name
     → (receive : Option ReceivePlan) → IsNoOutput name (reception_outputs plan network stream receive)
 no_reception plan network stream name apart None = tt
-no_reception plan network stream name apart (Some receiver) =
-    by_entry (first_past receiver.damage (length symbols))
-  where
-    symbols : List ℕ
-    symbols = sent_file plan network stream receiver.from
-
-    by_entry : (entry : Option ℕ) → IsNoOutput name (received_past entry receiver.damage symbols).outputs
-    by_entry (Some entry) = tt
-    by_entry None = (apart, tt)
+no_reception plan network stream name apart (Some receiver) = grind arith
 
 -- ---- by name
 
 -- a file of this name holds what stands behind the feed, where it isn't what is received
 behind_feed : (whole_feed whole_reception : Outputs) (ts : List Transmitter) (steps : List Step) (status : Status)
     (held now : Files) (progress : NetProgress whole_feed ts steps whole_reception status held (Some now))
-    (name : List ℕ) → progress.schedule.begun ≡ 2 * length ts → IsNoOutput name whole_reception
-    → get now name
+    (name : List ℕ) → progress.schedule.begun ≡ 2 * length ts → IsNoOutput name whole_reception → get now name
     ≡ get (files_with (files_of progress.schedule.contents ts) (files_with progress.feed held)) name
 behind_feed whole_feed whole_reception ts steps status held now progress name begun apart =
-    let sent : Outputs = files_of progress.schedule.contents ts in
-    let all : begun_files ts steps progress.schedule ≡ sent =
-    ap (λ n. take n sent) begun ∙ all_files progress.schedule.contents ts in
-    let outputs : Outputs = progress.feed ++ (begun_files ts steps progress.schedule ++ progress.reception) in
-    let told : now ≡ files_with outputs held =
-    same_Some now (files_with outputs held) (progress.files ∙ with_outputs-told outputs held) in
-    ap (λ (f : Files). get f name) (told
-    ∙ files_with-append progress.feed (begun_files ts steps progress.schedule ++ progress.reception) held
-    ∙ files_with-append (begun_files ts steps progress.schedule) progress.reception (files_with progress.feed held)
-    ∙ ap (λ outputs. files_with progress.reception (files_with outputs (files_with progress.feed held))) all)
-    ∙ get_past progress.reception name (files_with sent (files_with progress.feed held))
-    (no_part progress.reception whole_reception name progress.reception_part apart)
+    grind (arith, all_files, files_with, same_Some, with_outputs-told, files_with-append, get_past, no_part)
 
 pub under_way : (plan : Plan) (network : NetPlan) (file : List ℕ) (status : Status) (held now : Files)
     (progress : HasNetProgress plan network file status held (Some now)) → IsPlan plan
     → progress.schedule.begun ≡ 2 * length plan.transmitters
     → AreUnderWay plan.transmitters (steps_under plan (packets_of file) network.events) progress.schedule.done now
-under_way plan network file status held now progress is begun = record {
-  symbols = λ who t at_t. found (symbol_name t.address) (progress.schedule.contents who t).0
-      (IsBetween (symbol_file t who (take done steps)) (symbol_file t who (take (done + 1) steps)))
-      (symbols_not_received t.address) (has_pair ts who t progress.schedule.contents fed apart at_t).sent
-      ((progress.schedule.least who t at_t).0, (progress.schedule.most who t at_t).0);
-  logs = λ who t at_t. found (log_name t.address) (progress.schedule.contents who t).1
-      (IsBetween (log_file t who (take done steps)) (log_file t who (take (done + 1) steps)))
-      (log_not_received t.address) (has_pair ts who t progress.schedule.contents fed apart at_t).logged
-      ((progress.schedule.least who t at_t).1, (progress.schedule.most who t at_t).1);
-}
+under_way plan network file status held now progress is begun =
+    let done : ℕ = progress.schedule.done in
+    let apart : AreApart ts = apart_plan plan is in
+    record {
+      symbols = λ who t at_t. found (symbol_name t.address) (progress.schedule.contents who t).0
+          (IsBetween (symbol_file t who (take done steps)) (symbol_file t who (take (done + 1) steps)))
+          (symbols_not_received t.address) (has_pair ts who t progress.schedule.contents fed apart at_t).sent
+          ((progress.schedule.least who t at_t).0, (progress.schedule.most who t at_t).0);
+      logs = λ who t at_t. found (log_name t.address) (progress.schedule.contents who t).1
+          (IsBetween (log_file t who (take done steps)) (log_file t who (take (done + 1) steps)))
+          (log_not_received t.address) (has_pair ts who t progress.schedule.contents fed apart at_t).logged
+          ((progress.schedule.least who t at_t).1, (progress.schedule.most who t at_t).1);
+    }
   where
     ts : List Transmitter
     ts = plan.transmitters
@@ -92,19 +71,12 @@ under_way plan network file status held now progress is begun = record {
     steps : List Step
     steps = steps_under plan (packets_of file) network.events
 
-    done : ℕ
-    done = progress.schedule.done
-
     fed : Files
     fed = files_with progress.feed held
-
-    apart : AreApart ts
-    apart = apart_plan plan is
 
     found : (name bytes : List ℕ) (P : List ℕ → Type 0) → name ≢ received_name
         → get (files_with (files_of progress.schedule.contents ts) fed) name ≡ Some bytes → P bytes
         → IsSomeAnd (get now name) P
-    found name bytes P other there holds =
-        subst (λ o. IsSomeAnd o P)
+    found name bytes P other there holds = subst (λ o. IsSomeAnd o P)
         (sym (behind_feed _ (reception_outputs plan network (packets_of file) network.receive) ts steps status held now
         progress name begun (no_reception plan network (packets_of file) name other network.receive) ∙ there)) holds

@@ -1,7 +1,6 @@
 -- A simple network meets what the headline asks of transmitters, symbols and damage.
-use Rattle.std.proofs.Common.{◌≡◌, ◌⊎◌, inl, inr, ℕ, zero, suc, ◌+◌, ◌-◌, ◌*◌, ◌/◌, ◌%◌, ◌<◌, ◌≤◌, ◌==◌, ◌&&◌}
-use Rattle.std.proofs.Common.{Bool, true, false, cond, List, [], ◌∷◌, ◌++◌, length, refl, sym, ap, subst}
-use Rattle.std.proofs.Common.{◌∙◌, arith}
+use Rattle.std.proofs.Common.{◌≡◌, ◌⊎◌, inl, inr, ℕ, zero, suc, ◌+◌, ◌-◌, ◌*◌, ◌/◌, ◌%◌, ◌<◌, ◌≤◌, ◌==◌, ◌&&◌, Bool}
+use Rattle.std.proofs.Common.{true, false, cond, List, [], ◌∷◌, ◌++◌, length, refl, sym, ap, subst, ◌∙◌, arith}
 use Rattle.std.specs.Prelude.{Option, Some, None, IsSomeAnd, filter, slice_get}
 use Rattle.std.specs.FinMap.{get}
 use Rattle.std.specs.List.{range_with_len, Contains}
@@ -73,8 +72,7 @@ MetFirstLaw = (plan : Plan) (stream : List (List ℕ)) (t : Transmitter) (who ma
 abbrev pub AloneLaw : Type 0
 AloneLaw = (plan : Plan) (stream : List (List ℕ)) (t : Transmitter) (who n k : ℕ) (before after : List Event)
     → IsPlan plan → IsStream stream → slice_get plan.transmitters who ≡ Some t → IsInTime plan t
-    → n ≤ length stream → IsFirstListing t.address (feed plan stream) 0 n k → AreOfOthers t before
-    → AreOfOthers t after
+    → n ≤ length stream → IsFirstListing t.address (feed plan stream) 0 n k → AreOfOthers t before → AreOfOthers t after
     → sent_segments t who (steps_under plan stream (before ++ Send t.address 0 n ∷ after))
     ≡ stretch_of (feed plan stream) k n
 
@@ -127,21 +125,18 @@ from_first z mark k (inr e) first far near = omega (arith, e, far, near)
 
 passing_in : (p : ℕ → Bool) (a n g : ℕ) → a ≤ g → g < a + n → p g ≡ true → Contains (filter p (range_with_len a n)) g
 passing_in p a zero g l m h = absurd (omega (arith, l, m))
-passing_in p a (suc n) g l m h =
-    by_place (range_cases a g l) (λ k. passing_in p (a + 1) n g k (omega (arith, m)) h)
+passing_in p a (suc n) g l m h = by_place (range_cases a g l) (λ k. passing_in p (a + 1) n g k (omega (arith, m)) h)
   where
     rest : List ℕ
     rest = range_with_len (a + 1) n
 
     at_test : (t : Bool) → p a ≡ t → Contains (filter p rest) g → Contains (filter p (a ∷ rest)) g
-    at_test true e c =
-        subst (λ (xs : List ℕ). Contains xs g) (sym (filter-kept p a rest e))
+    at_test true e c = subst (λ (xs : List ℕ). Contains xs g) (sym (filter-kept p a rest e))
         (Contains-append_right (a ∷ []) (filter p rest) g c)
     at_test false e c = subst (λ (xs : List ℕ). Contains xs g) (sym (filter-lost p a rest e)) c
 
     by_place : (a ≡ g) ⊎ (a + 1 ≤ g) → (a + 1 ≤ g → Contains (filter p rest) g) → Contains (filter p (a ∷ rest)) g
-    by_place (inl e) f =
-        subst (λ (xs : List ℕ). Contains xs g) (sym (filter-kept p a rest (ap p e ∙ h)))
+    by_place (inl e) f = subst (λ (xs : List ℕ). Contains xs g) (sym (filter-kept p a rest (ap p e ∙ h)))
         (0, omega arith, e)
     by_place (inr k) f = at_test (p a) refl (f k)
 
@@ -174,8 +169,7 @@ sent_is plan network stream a address p listed e =
     ap (λ (o : Option ℕ).
     option_map_or (λ who. option_map_or (own who) (slice_get plan.transmitters who) []) o [])
     (ap (λ (n : ℕ). transmitter_place n plan.transmitters) e
-    ∙ place_only plan.transmitters 0 a p.sound.transmitters
-    listed)
+    ∙ place_only plan.transmitters 0 a p.sound.transmitters listed)
     ∙ ap (λ (o : Option Transmitter). option_map_or (own 0) o []) listed
 
 -- ---- the network
@@ -187,10 +181,8 @@ some_and (Some x) P Q f h = f x h
 -- where a plan's transmitters stand on the only page, each group that holds an operations packet lists each of them
 pub lists_each : ListLaws → (plan : Plan) (stream : List (List ℕ)) (t : Transmitter) (who g : ℕ) → IsPlan plan
     → IsStream stream → slice_get plan.transmitters who ≡ Some t → length plan.transmitters ≤ 35
-    → has_order stream g ≡ true
-    → has_listing t.address (feed plan stream) g ≡ true
-lists_each laws plan stream t who g p u at few holds =
-    laws.listings plan stream t g p u
+    → has_order stream g ≡ true → has_listing t.address (feed plan stream) g ≡ true
+lists_each laws plan stream t who g p u at few holds = laws.listings plan stream t g p u
     (who, slice_get_within plan.transmitters who t at, get_or_from_slice_get plan.transmitters who t t at) few
     ∙ laws.orders plan stream g p u ∙ holds
 
@@ -260,8 +252,7 @@ worked laws plan network stream a b entries p u s = record {
     slight receiver little =
         let steps : List Step = steps_under plan stream network.events in
         subst (λ (f : List ℕ). IsReceivedAlone fed one.0.k (length stream) (file.file_segments
-        (hurt receiver.damage f)))
-        (sym (sent_is plan network stream a receiver.from p s.first little.from))
+        (hurt receiver.damage f))) (sym (sent_is plan network stream a receiver.from p s.first little.from))
         (few_slight fed one.0.k (length stream) (symbol_file a 0 steps) receiver.damage (laws.packets plan stream p u)
         one.5 (segments_of_file a 0 steps ∙ alone) little.few)
 
@@ -289,11 +280,8 @@ file_back plan network stream held now entries w h = of_receiver network.receive
   where
     of_receiver : (o : Option ReceivePlan) → network.receive ≡ o
         → IsSomeAnd o (IsGivenBack plan network stream w.one.t.address w.one.k entries)
-        → IsSomeAnd o (λ receiver. IsSomeAnd (get now received_name)
-        (HasAllBack plan network stream receiver w.one.k))
+        → IsSomeAnd o (λ receiver. IsSomeAnd (get now received_name) (HasAllBack plan network stream receiver w.one.k))
     of_receiver None is back = back
-    of_receiver (Some receiver) is back =
-        some_and (get now received_name)
+    of_receiver (Some receiver) is back = some_and (get now received_name)
         (λ bytes. packets_of bytes ≡ received (file.file_segments (damaged_file plan network stream receiver)))
-        (HasAllBack plan network stream receiver w.one.k)
-        (λ bytes e. e ∙ back.all_back.packets) (h.packets receiver is)
+        (HasAllBack plan network stream receiver w.one.k) (λ bytes e. e ∙ back.all_back.packets) (h.packets receiver is)

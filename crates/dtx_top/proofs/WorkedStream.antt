@@ -1,9 +1,8 @@
 -- Made packets are a stream, with a placeholder at packet 100.
-use Rattle.std.proofs.Common.{◌≡◌, ℕ, zero, suc, ◌+◌, ◌*◌, ◌/◌, ◌%◌, ◌<◌, ◌≤◌, ◌==◌, ◌^◌, cond, Bool, true, false}
-use Rattle.std.proofs.Common.{List, []}
-use Rattle.std.proofs.Common.{◌∷◌, ◌++◌, length, map, get_or, refl, sym, ap, subst, ◌∙◌, arith, lit<}
-use Rattle.std.specs.Prelude.{◌||◌, replicate}
-use Rattle.std.specs.List.{range_with_len, list_any}
+use Rattle.std.proofs.Common.{◌≡◌, ℕ, zero, suc, ◌+◌, ◌/◌, ◌%◌, ◌<◌, ◌≤◌, ◌==◌, ◌^◌, cond, Bool, true, false, [], ◌∷◌}
+use Rattle.std.proofs.Common.{◌++◌, length, map, get_or, refl, sym, ap, subst, ◌∙◌, arith, lit<}
+use Rattle.std.specs.Prelude.{replicate}
+use Rattle.std.specs.List.{range_with_len}
 use Rattle.std.proofs.lemmas.List.Elements.{All-from_get_or}
 use Rattle.std.proofs.lemmas.List.FromFn.{get_or-map-range_with_len, length-map-range_with_len}
 use Rattle.dtx_galois.proofs.BytesLemmas.{AreBytes-from_places}
@@ -12,7 +11,6 @@ use Rattle.dtx_make.specs.Made.{made_packet, made_payload, number_at}
 use Rattle.dtx_make.proofs.StreamsLemmas.{length-made_packet, number_more}
 use Rattle.dtx_network.specs.Orders.{has_order, is_operations}
 use Rattle.dtx_network.specs.Plans.{IsStream}
-use Rattle.dtx_packets.specs.Packet.{pid_of}
 use Rattle.dtx_top.specs.WorkedNetwork.{made_packets}
 
 high : (x : ℕ) → x % 2 ^ 64 / 2 ^ 56 < 256
@@ -22,12 +20,10 @@ payload_bytes : (seed index : ℕ) → AreBytes (made_payload seed index)
 unfolding made_payload
 payload_bytes seed index =
     AreBytes-from_places (map (λ j. number_at seed index (j + 1) / 2 ^ 56) (range_with_len 0 184)) (λ i l.
-    let m : i < 184 =
-    omega (arith, l, length-map-range_with_len (λ j. number_at seed index (j + 1) / 2 ^ 56) 0 184) in
+    let m : i < 184 = omega (arith, l, length-map-range_with_len (λ j. number_at seed index (j + 1) / 2 ^ 56) 0 184) in
     subst (λ (x : ℕ). x < 256)
     (sym (get_or-map-range_with_len (λ j. number_at seed index (j + 1) / 2 ^ 56) 0 184 i i 0 m (omega arith)
-    ∙ ap (λ (x : ℕ). x / 2 ^ 56) (number_more seed index i)))
-    (high (number_at seed index i * 6364136223846793005 + 1442695040888963407)))
+    ∙ ap (λ (x : ℕ). x / 2 ^ 56) (number_more seed index i))) (grind (arith, high)))
 
 zeros : (n : ℕ) → AreBytes (replicate n 0)
 zeros zero = tt
@@ -65,7 +61,4 @@ placeholder seed = refl
 
 pub made_order : (seed count : ℕ) → 104 ≤ count → has_order (made_packets seed count) 100 ≡ true
 unfolding has_order is_operations
-made_order seed count l =
-    let here : is_operations (made_packets seed count) 100 ≡ true = ap (λ (p : List ℕ). pid_of p == 0x1FFA)
-    (packet_in seed count 100 (omega (arith, l)) ∙ placeholder seed) in
-    ap (λ (b : Bool). b || list_any (is_operations (made_packets seed count)) (range_with_len 101 3)) here
+made_order seed count l = grind (arith, packet_in, placeholder)

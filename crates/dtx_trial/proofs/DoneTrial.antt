@@ -16,14 +16,12 @@ use Rattle.dtx_chain.specs.Undamaged.{ArePackets, as_received}
 use Rattle.dtx_coder.specs.Stream.{a53}
 use Rattle.dtx_exciter.specs.Emission.{emission}
 use Rattle.dtx_exciter.specs.Log.{emission_over, life_lines, log}
-use Rattle.dtx_files.specs.LogText.{log_text}
-use Rattle.dtx_files.specs.Symbols.{segment_bytes}
 use Rattle.dtx_recipes.specs.Receive.{received_bytes}
 use Rattle.dtx_recipes.specs.SymbolFile.{file_segments}
 use Rattle.dtx_make.proofs.EntriesLemmas.{entry_at_nothing}
 use Rattle.dtx_make.specs.Hurt.{hurt}
 use Rattle.dtx_make.proofs.LaidBytesLemmas.{laid_none}
-use Rattle.dtx_make.specs.Made.{made_packet, made_stream}
+use Rattle.dtx_make.specs.Made.{made_stream}
 use Rattle.dtx_net.specs.Lives.{lives_of}
 use Rattle.dtx_net.proofs.PlaceOfLemmas.{place_only}
 use Rattle.dtx_net.specs.Sent.{lines_of, sent_segments}
@@ -104,9 +102,7 @@ fed_long seed count = length-feed (trial_plan seed count) (made_packets seed cou
 stream_of : (seed count : ℕ) → IsStream (made_packets seed count)
     → packets_of (made_stream seed count) ≡ made_packets seed count
 unfolding made_stream made_packets
-stream_of seed count u =
-    ap packets_of (sym (flat_map-map (λ p. p) (made_packet seed) (range_with_len 0 count)))
-    ∙ packets_of-bytes (made_packets seed count) u.long
+stream_of seed count u = ap packets_of (grind (arith, flat_map-map)) ∙ packets_of-bytes (made_packets seed count) u.long
 
 -- ---- what a transmitter sends and logs
 
@@ -131,15 +127,13 @@ anew laws seed count most t who earlier given = record {
 }
 
 ordered : Laws → (seed count : ℕ) → count ≤ 1000000 → IsOrdered (fed_of seed count) seed count
-ordered laws seed count most g =
-    laws.orders (trial_plan seed count) (made_packets seed count) g (laws.plan seed count)
+ordered laws seed count most g = laws.orders (trial_plan seed count) (made_packets seed count) g (laws.plan seed count)
     (laws.stream seed count (omega (arith, most)))
 
 listing : Laws → (seed count : ℕ) → 624 ≤ count → count ≤ 1000000 → (t : Transmitter)
     → IsListed (trial_plan seed count) t → IsFirstListing t.address (fed_of seed count) 0 (0 + count) 100
 listing laws seed count least most t listed =
-    let end : count ≡ 0 + count = omega arith in
-    subst (λ (n : ℕ). IsFirstListing t.address (fed_of seed count) 0 n 100) end
+    subst (λ (n : ℕ). IsFirstListing t.address (fed_of seed count) 0 n 100) (omega arith)
     (first_listing t.address (fed_of seed count) seed count (omega (arith, least)) (ordered laws seed count most)
     (λ g. laws.listings (trial_plan seed count) (made_packets seed count) t g (laws.plan seed count)
     (laws.stream seed count (omega (arith, most))) listed (omega arith)))
@@ -153,29 +147,23 @@ sends : Laws → (seed count : ℕ) → 624 ≤ count → count ≤ 1000000 → 
 unfolding sent_segments
 sends laws seed count least most t who earlier given =
     let fed : List (List ℕ) = fed_of seed count in
-    let end : 0 + count ≡ count = omega arith in
-    ap (emission_over t.address t.delay) given.lives
-    ∙ append-nil (emission t.address t.delay (earlier ++ fed))
-    ∙ ap (λ (l : List (List ℕ)). emission t.address t.delay (earlier ++ l))
-    (all_given fed count (fed_long seed count))
+    ap (emission_over t.address t.delay) given.lives ∙ append-nil (emission t.address t.delay (earlier ++ fed))
+    ∙ ap (λ (l : List (List ℕ)). emission t.address t.delay (earlier ++ l)) (all_given fed count (fed_long seed count))
     ∙ laws.segments (trial_plan seed count) (made_packets seed count) t t.delay earlier 0 count 100
     (anew laws seed count most t who earlier given) (listing laws seed count least most t given.listed)
-    ∙ ap (stretch_of fed 100) end ∙ stretch_is fed count (fed_long seed count) (omega (arith, least))
+    ∙ ap (stretch_of fed 100) (omega arith) ∙ stretch_is fed count (fed_long seed count) (omega (arith, least))
 
 logs : Laws → (seed count : ℕ) → 624 ≤ count → count ≤ 1000000 → (t : Transmitter) (who : ℕ)
     (earlier : List (List ℕ)) → IsGiven seed count t who earlier
     → lines_of t who (steps_of seed count) ≡ map (order_line t.offset) (range_with_len 0 ((count + 208) / 312))
 unfolding lines_of log
-logs laws seed count least most t who earlier given =
-    let fed : List (List ℕ) = fed_of seed count in
-    let end : 0 + count ≡ count = omega arith in
-    ap (log t.address t.delay 0) given.lives
+logs laws seed count least most t who earlier given = ap (log t.address t.delay 0) given.lives
     ∙ ap (λ (l : List (List ℕ)). life_lines t.address t.delay 0 (earlier ++ l))
-    (all_given fed count (fed_long seed count))
+    (all_given (fed_of seed count) count (fed_long seed count))
     ∙ laws.lines (trial_plan seed count) (made_packets seed count) t t.delay earlier 0 count 100
     (anew laws seed count most t who earlier given) (listing laws seed count least most t given.listed)
-    ∙ ap (presets (trial_plan seed count) t.offset 0 fed 100) end
-    ∙ lines_are seed count fed t.offset (omega (arith, least)) (ordered laws seed count most)
+    ∙ ap (presets (trial_plan seed count) t.offset 0 (fed_of seed count) 100) (omega arith)
+    ∙ lines_are seed count (fed_of seed count) t.offset (omega (arith, least)) (ordered laws seed count most)
 
 -- ---- the three transmitters
 
@@ -217,17 +205,13 @@ symbols_of_one : Laws → (seed count : ℕ) → 624 ≤ count → count ≤ 100
     (earlier : List (List ℕ)) → IsGiven seed count t who earlier
     → symbol_file t who (steps_of seed count) ≡ trial_symbols seed count
 unfolding symbol_file
-symbols_of_one laws seed count least most t who earlier given =
-    ap segment_bytes (sends laws seed count least most t who earlier given)
-    ∙ ap (λ (fed : List (List ℕ)). segment_bytes (drop 101 (a53 fed)))
-    (same_feed seed count (made_packets seed count))
+symbols_of_one laws seed count least most t who earlier given = grind (arith, sends, same_feed)
 
 log_of_one : Laws → (seed count : ℕ) → 624 ≤ count → count ≤ 1000000 → (t : Transmitter) (who : ℕ)
     (earlier : List (List ℕ)) → IsGiven seed count t who earlier
     → log_file t who (steps_of seed count) ≡ trial_log count t.offset
 unfolding log_file
-log_of_one laws seed count least most t who earlier given =
-    ap log_text (logs laws seed count least most t who earlier given)
+log_of_one laws seed count least most t who earlier given = grind (arith, logs)
 
 -- ---- what is received
 
@@ -248,9 +232,7 @@ taken : (seed count : ℕ) (stream : List (List ℕ)) → IsPlan (trial_plan see
     → damaged_file (trial_plan seed count) (trial_network seed count) stream (record { from = 3; damage = [] })
     ≡ symbol_file third 2 (steps_under (trial_plan seed count) stream (trial_events seed count))
 unfolding damaged_file
-taken seed count stream p =
-    no_damage (sent_file (trial_plan seed count) (trial_network seed count) stream 3)
-    ∙ third_sends seed count stream p
+taken seed count stream p = grind (arith, no_damage, third_sends)
 
 begins_field : (count : ℕ) → 624 ≤ count → BeginsField 100 count 312
 begins_field count least = record { begins = refl; behind = omega arith; inside = omega (arith, least) }
@@ -259,11 +241,10 @@ begins_field count least = record { begins = refl; behind = omega arith; inside 
 all_back : Laws → (seed count : ℕ) → 624 ≤ count → count ≤ 1000000
     → IsAllBack (fed_of seed count) 100 312 (stretch_of (fed_of seed count) 100 count)
 all_back laws seed count least most =
-    let fed : List (List ℕ) = fed_of seed count in
-    let are : ArePackets fed = laws.packets (trial_plan seed count) (made_packets seed count) (laws.plan seed count)
-    (laws.stream seed count (omega (arith, most))) in
-    laws.back fed 100 count (stretch_of fed 100 count) are (omega (arith, fed_long seed count))
-    (begins_field count least) (laws.slight fed 100 count are)
+    let are : ArePackets (fed_of seed count) = laws.packets (trial_plan seed count) (made_packets seed count)
+    (laws.plan seed count) (laws.stream seed count (omega (arith, most))) in
+    laws.back (fed_of seed count) 100 count (stretch_of (fed_of seed count) 100 count) are
+    (omega (arith, fed_long seed count)) (begins_field count least) (laws.slight (fed_of seed count) 100 count are)
 
 received_of : Laws → (seed count : ℕ) → 624 ≤ count → count ≤ 1000000
     → flat_map (λ p. p) (received (drop 101 (a53 (fed_of seed count)))) ≡ trial_received seed count
@@ -271,13 +252,11 @@ received_of laws seed count least most =
     let fed : List (List ℕ) = fed_of seed count in
     let many : ℕ = whole_from_312 (4 * (count / 4)) in
     let back : ℕ → List ℕ = λ j. as_received (get_or fed (312 + j) []) in
-    let stretch : stretch_of fed 100 count ≡ drop 101 (a53 fed) =
-    stretch_is fed count (fed_long seed count) (omega (arith, least)) in
+    let stretch : stretch_of fed 100 count ≡ drop 101 (a53 fed) = grind (arith, stretch_is, fed_long) in
     ap (λ (got : List (List ℤ)). flat_map (λ p. p) (received got)) (sym stretch)
     ∙ ap (flat_map (λ p. p)) (all_back laws seed count least most).packets
     ∙ ap (λ (got : List (List ℤ)). flat_map (λ p. p) (map back (numbers_in (drop 212 got)))) stretch
-    ∙ ap (λ (js : List ℕ). flat_map (λ p. p) (map back js)) (numbers_are fed count (fed_long seed count) least)
-    ∙ bytes_back fed many
+    ∙ ap (λ (js : List ℕ). flat_map (λ p. p) (map back js)) (grind (arith, numbers_are, fed_long)) ∙ bytes_back fed many
     ∙ ap (λ (packets : List (List ℕ)). flat_map (λ k. as_received (get_or packets k [])) (range_with_len 312 many))
     (same_feed seed count (made_packets seed count))
 
@@ -297,8 +276,7 @@ file_received laws seed count least most cut =
 named : (now : Files) (address : ℕ) (ending bytes : List ℕ) → address < 10
     → get now (codes "tx-" ++ (decimal address ++ ending)) ≡ Some bytes
     → get now (codes "tx-" ++ ((48 + address) ∷ ending)) ≡ Some bytes
-named now address ending bytes small is =
-    sym (ap (λ (digits : List ℕ). get now (codes "tx-" ++ (digits ++ ending))) (decimal_digit address small)) ∙ is
+named now address ending bytes small is = grind (arith, decimal_digit)
 
 files_of : Laws → (seed count : ℕ) (held now : Files) → 624 ≤ count → count ≤ 1000000
     → get now (codes "trial.ts") ≡ Some (made_stream seed count)
@@ -306,8 +284,7 @@ files_of : Laws → (seed count : ℕ) (held now : Files) → 624 ≤ count → 
     → AreTrialFiles seed count now
 files_of laws seed count held now least most made h = record {
   stream = made;
-  feed = h.files.feed ∙ ap (λ (fed : List (List ℕ)). Some (flat_map (λ p. p) fed))
-      (same_feed seed count (made_packets seed count));
+  feed = grind (arith, same_feed);
   symbols_1 = named now 1 (codes ".sym") _ (omega arith) (h.files.sent.symbols 0 first refl)
       ∙ ap Some (symbols_of_one laws seed count least most first 0 [] (first_given laws seed count));
   symbols_2 = named now 2 (codes ".sym") _ (omega arith) (h.files.sent.symbols 1 second refl)
@@ -321,8 +298,7 @@ files_of laws seed count held now least most made h = record {
       ∙ ap Some (log_of_one laws seed count least most second 1 [] (second_given laws seed count));
   log_3 = named now 3 (codes ".log") _ (omega arith) (h.files.sent.logs 2 third refl)
       ∙ ap Some (log_of_one laws seed count least most third 2 (made_packets seed 50) (third_given laws seed count));
-  received = h.files.received
-      ∙ ap Some (file_received laws seed count least most (h.segments 2 third refl));
+  received = h.files.received ∙ ap Some (file_received laws seed count least most (h.segments 2 third refl));
 }
 
 pub trial_files : Laws → (seed count : ℕ) (held now : Files) → 624 ≤ count → count ≤ 1000000
@@ -330,5 +306,4 @@ pub trial_files : Laws → (seed count : ℕ) (held now : Files) → 624 ≤ cou
 trial_files laws seed count held now least most done =
     files_of laws seed count (with_trial seed count held) now least most done.stream
     (subst (λ (stream : List (List ℕ)). HeadlineOfFiles (trial_plan seed count) (trial_network seed count) stream
-    (with_trial seed count held) now) (stream_of seed count (laws.stream seed count (omega (arith, most))))
-    done.network)
+    (with_trial seed count held) now) (stream_of seed count (grind arith)) done.network)

@@ -1,7 +1,7 @@
 -- Which groups of a made stream hold a placeholder: those with which the packet 100 of a field begins.
-use Rattle.std.proofs.Common.{◌≡◌, ◌≢◌, ◌⊎◌, inl, inr, ℕ, zero, suc, ◌+◌, ◌-◌, ◌*◌, ◌/◌, ◌%◌, ◌<◌, ◌≤◌, ◌==◌, ◌&&◌}
-use Rattle.std.proofs.Common.{Bool, true, false, cond, List, [], ◌∷◌, ◌++◌, map, get_or, refl, sym, ap, ◌∙◌, arith}
-use Rattle.std.specs.Prelude.{◌||◌, filter, replicate}
+use Rattle.std.proofs.Common.{◌≡◌, ◌≢◌, ◌⊎◌, inl, inr, ℕ, zero, suc, ◌+◌, ◌-◌, ◌*◌, ◌/◌, ◌%◌, ◌<◌, ◌≤◌, ◌==◌, Bool}
+use Rattle.std.proofs.Common.{true, false, List, [], ◌∷◌, ◌++◌, map, get_or, refl, sym, ap, ◌∙◌, arith}
+use Rattle.std.specs.Prelude.{◌||◌, filter}
 use Rattle.std.specs.List.{range_with_len}
 use Rattle.std.proofs.lemmas.Bool.{cases_eq, eq-eqb, ne_eqb}
 use Rattle.std.proofs.lemmas.List.{append-nil}
@@ -9,11 +9,10 @@ use Rattle.std.proofs.lemmas.List.Elements.{filter-append}
 use Rattle.std.proofs.lemmas.List.FromFn.{get_or-map-range_with_len, map-range_with_len_more}
 use Rattle.dtx_lists.proofs.Range.{range_with_len-parts}
 use Rattle.dtx_lists.proofs.RangeFilter.{filter-kept, filter-lost}
-use Rattle.dtx_make.specs.Made.{made_packet, made_payload}
+use Rattle.dtx_make.specs.Made.{made_packet}
 use Rattle.dtx_network.specs.Headline.{IsFirstListing}
 use Rattle.dtx_network.specs.Orders.{has_listing, has_order, is_operations}
 use Rattle.dtx_network.specs.Presets.{orders}
-use Rattle.dtx_packets.specs.Packet.{pid_of}
 use Rattle.dtx_top.specs.WorkedNetwork.{made_packets}
 
 -- ---- packets and groups
@@ -24,13 +23,7 @@ made_at seed count k l = get_or-map-range_with_len (made_packet seed) 0 count k 
 
 operations_at : (seed count k : ℕ) → k < count → is_operations (made_packets seed count) k ≡ (k % 312 == 100)
 unfolding is_operations made_packet
-operations_at seed count k l =
-    ap (λ (p : List ℕ). pid_of p == 0x1FFA) (made_at seed count k l) ∙ choose (k % 312 == 100)
-  where
-    choose : (t : Bool) → (pid_of (cond t ((0x47 ∷ 0x1F ∷ 0xFA ∷ 0x10 ∷ []) ++ replicate 184 0)
-        ((0x47 ∷ 0x00 ∷ 0x31 ∷ (0x10 + k % 16) ∷ []) ++ made_payload seed k)) == 0x1FFA) ≡ t
-    choose true = refl
-    choose false = refl
+operations_at seed count k l = grind (arith, made_at)
 
 first_of : (a b c d : Bool) → b ≡ false → c ≡ false → d ≡ false → (a || (b || (c || (d || false)))) ≡ a
 first_of true b c d eb ec ed = refl
@@ -39,17 +32,9 @@ first_of false false true d eb ec ed = ec
 first_of false false false true eb ec ed = ed
 first_of false false false false eb ec ed = refl
 
-pub order_at : (seed count g : ℕ) → g % 4 ≡ 0 → g + 4 ≤ count
-    → has_order (made_packets seed count) g ≡ (g % 312 == 100)
+pub order_at : (seed count g : ℕ) → g % 4 ≡ 0 → g + 4 ≤ count → has_order (made_packets seed count) g ≡ (g % 312 == 100)
 unfolding has_order
-order_at seed count g z l =
-    first_of (is_operations (made_packets seed count) g) _ _ _
-    (operations_at seed count (g + 1) (omega (arith, l)) ∙ ne_eqb ((g + 1) % 312) 100 (λ e. omega (arith, z, e)))
-    (operations_at seed count (g + 1 + 1) (omega (arith, l))
-    ∙ ne_eqb ((g + 1 + 1) % 312) 100 (λ e. omega (arith, z, e)))
-    (operations_at seed count (g + 1 + 1 + 1) (omega (arith, l))
-    ∙ ne_eqb ((g + 1 + 1 + 1) % 312) 100 (λ e. omega (arith, z, e)))
-    ∙ operations_at seed count g (omega (arith, l))
+order_at seed count g z l = grind (arith, first_of, operations_at, ne_eqb)
 
 -- ---- the numbers 100, 412, 724 and so on
 
@@ -61,8 +46,7 @@ pub every_312 : (p : ℕ → Bool) (n : ℕ) → ((g : ℕ) → 100 ≤ g → g 
 every_312 p zero h = refl
 every_312 p (suc n) h =
     let e : suc n ≡ n + 1 = omega arith in
-    ap (λ m. filter p (range_with_len 100 m)) e
-    ∙ ap (filter p) (range_with_len-parts 100 n 1)
+    ap (λ m. filter p (range_with_len 100 m)) e ∙ ap (filter p) (range_with_len-parts 100 n 1)
     ∙ filter-append p (range_with_len 100 n) ((100 + n) ∷ [])
     ∙ ap (λ xs. xs ++ filter p ((100 + n) ∷ [])) (every_312 p n (λ g l m. h g l (omega (arith, m))))
     ∙ by_last (cases_eq (n % 312) 0)
@@ -75,15 +59,10 @@ every_312 p (suc n) h =
     by_last (inl z) =
         let more : (n + 311) / 312 + 1 ≡ (suc n + 311) / 312 = omega (arith, z) in
         let last : 100 + n ≡ each_312 ((n + 311) / 312) = omega (arith, z) in
-        ap (λ xs. front ++ xs) (filter-kept p (100 + n) [] (h (100 + n) (omega arith) (omega arith)
-        ∙ eq-eqb ((100 + n) % 312) 100 (omega (arith, z))) ∙ ap (λ k. k ∷ []) last)
+        ap (λ xs. front ++ xs) (filter-kept p (100 + n) [] (grind (arith, eq-eqb)) ∙ ap (λ k. k ∷ []) last)
         ∙ sym (map-range_with_len_more each_312 0 ((n + 311) / 312) ((n + 311) / 312) (omega arith))
         ∙ ap (λ m. map each_312 (range_with_len 0 m)) more
-    by_last (inr z) =
-        let same : (n + 311) / 312 ≡ (suc n + 311) / 312 = omega (arith, z) in
-        ap (λ xs. front ++ xs) (filter-lost p (100 + n) [] (h (100 + n) (omega arith) (omega arith)
-        ∙ ne_eqb ((100 + n) % 312) 100 (λ e. z (omega (arith, e)))))
-        ∙ append-nil front ∙ ap (λ m. map each_312 (range_with_len 0 m)) same
+    by_last (inr z) = grind (arith, filter-lost, ne_eqb, append-nil)
 
 -- ---- orders of its feed
 
@@ -94,28 +73,9 @@ IsOrdered fed seed count = (g : ℕ) → has_order fed g ≡ has_order (made_pac
 pub orders_are : (fed : List (List ℕ)) (seed count : ℕ) → 104 ≤ count → IsOrdered fed seed count
     → orders fed 100 count ≡ map each_312 (range_with_len 0 ((count + 208) / 312))
 unfolding orders
-orders_are fed seed count least same =
-    let many : count - 3 - 100 + 311 ≡ count + 208 = omega (arith, least) in
-    every_312 (λ g. (g % 4 == 0) && has_order fed g) (count - 3 - 100)
-    (λ g l m. by_group g (omega (arith, m, least)) (cases_eq (g % 4) 0))
-    ∙ ap (λ n. map each_312 (range_with_len 0 (n / 312))) many
-  where
-    by_group : (g : ℕ) → g + 4 ≤ count → (g % 4 ≡ 0) ⊎ (g % 4 ≢ 0)
-        → ((g % 4 == 0) && has_order fed g) ≡ (g % 312 == 100)
-    by_group g l (inl z) =
-        ap (λ (b : Bool). b && has_order fed g) (eq-eqb (g % 4) 0 z) ∙ same g ∙ order_at seed count g z l
-    by_group g l (inr z) =
-        ap (λ (b : Bool). b && has_order fed g) (ne_eqb (g % 4) 0 z)
-        ∙ sym (ne_eqb (g % 312) 100 (λ e. z (omega (arith, e))))
+orders_are fed seed count least same = grind (arith, every_312, cases_eq, eq-eqb, order_at, ne_eqb)
 
 -- where each order lists an address, its first listing is that of the group from packet 100 on
 pub first_listing : (address : ℕ) (fed : List (List ℕ)) (seed count : ℕ) → 104 ≤ count → IsOrdered fed seed count
     → ((g : ℕ) → has_listing address fed g ≡ has_order fed g) → IsFirstListing address fed 0 count 100
-first_listing address fed seed count least same lists = record {
-  group = refl;
-  behind = omega arith;
-  whole = least;
-  listing = lists 100 ∙ same 100 ∙ order_at seed count 100 refl least;
-  least = λ i z far near. lists i ∙ same i ∙ order_at seed count i z (omega (arith, near, least))
-      ∙ ne_eqb (i % 312) 100 (λ e. omega (arith, far, near, e));
-}
+first_listing address fed seed count least same lists = grind (arith, order_at, ne_eqb)

@@ -1,13 +1,12 @@
 -- What the transmitters of a trial are given: each has one life, which ends with the whole feed.
-use Rattle.std.proofs.Common.{◌≡◌, ◌≢◌, ℕ, pos, negsuc, suc, ◌+◌, ◌%◌, ◌==◌, cond, Bool, true, false, List, []}
-use Rattle.std.proofs.Common.{◌∷◌, ◌++◌, Option, Some, length, map, refl, sym, ap, ◌∙◌, arith}
-use Rattle.std.specs.Prelude.{replicate}
+use Rattle.std.proofs.Common.{◌≡◌, ◌≢◌, ℕ, pos, negsuc, ◌+◌, ◌==◌, List, [], ◌∷◌, ◌++◌, Option, Some, length, map, refl}
+use Rattle.std.proofs.Common.{sym, ap, ◌∙◌, arith}
 use Rattle.std.specs.List.{range_with_len}
 use Rattle.std.proofs.lemmas.List.{append-nil, append_assoc, get_or-map}
 use Rattle.std.proofs.lemmas.List.FromFn.{length-map-range_with_len}
 use Rattle.dtx_adapter.specs.Feed.{feed}
 use Rattle.dtx_lists.proofs.RangeMoved.{map-range_moved}
-use Rattle.dtx_make.specs.Made.{made_packet, made_payload}
+use Rattle.dtx_make.specs.Made.{made_packet}
 use Rattle.dtx_net.specs.Lives.{lives_from, lives_of, own_steps}
 use Rattle.dtx_net.proofs.OwnLemmas.{own_elsewhere, own_here, own_steps-append}
 use Rattle.dtx_net.proofs.PlaceOfLemmas.{place_only}
@@ -29,8 +28,7 @@ use Rattle.dtx_trial.proofs.MadeOrders.{made_at}
 
 own_all : (who : ℕ) (actions : List (Option (List ℕ))) → own_steps who (steps_at (Some who) actions) ≡ actions
 own_all who [] = refl
-own_all who (a ∷ actions) =
-    own_here who (record { who = who; packet = a }) (steps_at (Some who) actions) refl
+own_all who (a ∷ actions) = own_here who (record { who = who; packet = a }) (steps_at (Some who) actions) refl
     ∙ ap (λ (rest : List (Option (List ℕ))). a ∷ rest) (own_all who actions)
 
 own_none : (who other : ℕ) (actions : List (Option (List ℕ))) → other ≢ who
@@ -54,60 +52,42 @@ of_other : (ts : List Transmitter) (fed : List (List ℕ)) (who other : ℕ) (ev
     → transmitter_place (to_of event) ts ≡ Some other → other ≢ who
     → own_steps who (schedule ts fed (event ∷ events)) ≡ own_steps who (schedule ts fed events)
 unfolding steps_of
-of_other ts fed who other event events e n =
-    own_more ts fed who event events
-    ∙ ap (λ (x : List (Option (List ℕ))). x ++ own_steps who (schedule ts fed events))
-    (ap (λ (o : Option ℕ). own_steps who (steps_at o (actions_of fed event))) e
-    ∙ own_none who other (actions_of fed event) n)
+of_other ts fed who other event events e n = grind (arith, own_more, own_none)
 
 of_own : (ts : List Transmitter) (fed : List (List ℕ)) (who : ℕ) (event : Event) (events : List Event)
     → transmitter_place (to_of event) ts ≡ Some who
     → own_steps who (schedule ts fed (event ∷ events)) ≡ actions_of fed event ++ own_steps who (schedule ts fed events)
 unfolding steps_of
-of_own ts fed who event events e =
-    own_more ts fed who event events
-    ∙ ap (λ (x : List (Option (List ℕ))). x ++ own_steps who (schedule ts fed events))
-    (ap (λ (o : Option ℕ). own_steps who (steps_at o (actions_of fed event))) e
-    ∙ own_all who (actions_of fed event))
+of_own ts fed who event events e = grind (arith, own_more, own_all)
 
 -- ---- packets in a row
 
 in_row : (f : ℕ → List ℕ) (life : List (List ℕ)) (ks : List ℕ) (rest : List (Option (List ℕ)))
     → lives_from life (map (λ k. Some (f k)) ks ++ rest) ≡ lives_from (life ++ map f ks) rest
 in_row f life [] rest = ap (λ (l : List (List ℕ)). lives_from l rest) (sym (append-nil life))
-in_row f life (k ∷ ks) rest =
-    in_row f (life ++ f k ∷ []) ks rest
-    ∙ ap (λ (l : List (List ℕ)). lives_from l rest) (append_assoc life (f k ∷ []) (map f ks))
+in_row f life (k ∷ ks) rest = rw (in_row f (life ++ f k ∷ []) ks rest, append_assoc life (f k ∷ []) (map f ks))
 
 all_of : (xs : List (List ℕ)) → map (feed_packet xs) (range_with_len 0 (length xs)) ≡ xs
 all_of [] = refl
-all_of (x ∷ xs) =
-    ap (λ (ys : List (List ℕ)). x ∷ ys)
-    (map-range_moved (feed_packet (x ∷ xs)) (feed_packet xs) 1 0 (length xs)
-    (λ i l. let e : 1 + i ≡ suc (0 + i) = omega arith in ap (feed_packet (x ∷ xs)) e) ∙ all_of xs)
+all_of (x ∷ xs) = ap (λ (ys : List (List ℕ)). x ∷ ys)
+    (map-range_moved (feed_packet (x ∷ xs)) (feed_packet xs) 1 0 (length xs) (λ i l. grind arith) ∙ all_of xs)
 
 given_all : (fed : List (List ℕ)) (count : ℕ) → length fed ≡ count
     → map (feed_packet fed) (range_with_len 0 count) ≡ fed
-given_all fed count long =
-    ap (λ n. map (feed_packet fed) (range_with_len 0 n)) (sym long) ∙ all_of fed
+given_all fed count long = ap (λ n. map (feed_packet fed) (range_with_len 0 n)) (sym long) ∙ all_of fed
 
 -- ---- a life, and then the whole feed
 
 send_alone : (fed : List (List ℕ)) (to count : ℕ) → length fed ≡ count
     → lives_from [] (actions_of fed (Send to 0 count) ++ []) ≡ fed ∷ []
 unfolding actions_of
-send_alone fed to count long =
-    in_row (feed_packet fed) [] (range_with_len 0 count) []
-    ∙ ap (λ (l : List (List ℕ)). l ∷ []) (given_all fed count long)
+send_alone fed to count long = rw (in_row (feed_packet fed) [] (range_with_len 0 count) [], given_all fed count long)
 
 send_behind : (fed : List (List ℕ)) (to seed many count : ℕ) → length fed ≡ count
     → lives_from [] (actions_of fed (Foreign to seed 0 many) ++ (actions_of fed (Send to 0 count) ++ []))
     ≡ (made_packets seed many ++ fed) ∷ []
 unfolding actions_of made_packets
-send_behind fed to seed many count long =
-    in_row (made_packet seed) [] (range_with_len 0 many) (actions_of fed (Send to 0 count) ++ [])
-    ∙ in_row (feed_packet fed) (map (made_packet seed) (range_with_len 0 many)) (range_with_len 0 count) []
-    ∙ ap (λ (l : List (List ℕ)). (map (made_packet seed) (range_with_len 0 many) ++ l) ∷ []) (given_all fed count long)
+send_behind fed to seed many count long = simp (in_row, given_all)
 
 -- ---- the three transmitters
 
@@ -126,18 +106,15 @@ pub first_lives : (seed count : ℕ) (stream : List (List ℕ)) → IsPlan (tria
     ≡ feed (trial_plan seed count) stream ∷ []
 unfolding lives_of
 first_lives seed count stream p long =
-    let ts : List Transmitter = trial_transmitters in
     let fed : List (List ℕ) = feed (trial_plan seed count) stream in
-    let last : List Event = Send 3 0 count ∷ [] in
-    let more : List Event = Foreign 3 seed 0 50 ∷ last in
+    let more : List Event = Foreign 3 seed 0 50 ∷ (Send 3 0 count ∷ []) in
     ap (lives_from []) (
-    of_own ts fed 0 (Send 1 0 count) (Send 2 0 count ∷ more) (first_at seed count p)
+    of_own trial_transmitters fed 0 (Send 1 0 count) (Send 2 0 count ∷ more) (first_at seed count p)
     ∙ ap (λ (x : List (Option (List ℕ))). actions_of fed (Send 1 0 count) ++ x) (
-    of_other ts fed 0 1 (Send 2 0 count) more (second_at seed count p) (λ e. cc)
-    ∙ of_other ts fed 0 2 (Foreign 3 seed 0 50) last (third_at seed count p) (λ e. cc)
-    ∙ of_other ts fed 0 2 (Send 3 0 count) [] (third_at seed count p) (λ e. cc)
-    ∙ none_left ts fed 0))
-    ∙ send_alone fed 1 count long
+    of_other trial_transmitters fed 0 1 (Send 2 0 count) more (second_at seed count p) (λ e. cc)
+    ∙ of_other trial_transmitters fed 0 2 (Foreign 3 seed 0 50) (Send 3 0 count ∷ []) (third_at seed count p) (λ e. cc)
+    ∙ of_other trial_transmitters fed 0 2 (Send 3 0 count) [] (third_at seed count p) (λ e. cc)
+    ∙ none_left trial_transmitters fed 0)) ∙ send_alone fed 1 count long
 
 pub second_lives : (seed count : ℕ) (stream : List (List ℕ)) → IsPlan (trial_plan seed count)
     → length (feed (trial_plan seed count) stream) ≡ count
@@ -145,18 +122,15 @@ pub second_lives : (seed count : ℕ) (stream : List (List ℕ)) → IsPlan (tri
     ≡ feed (trial_plan seed count) stream ∷ []
 unfolding lives_of
 second_lives seed count stream p long =
-    let ts : List Transmitter = trial_transmitters in
     let fed : List (List ℕ) = feed (trial_plan seed count) stream in
-    let last : List Event = Send 3 0 count ∷ [] in
-    let more : List Event = Foreign 3 seed 0 50 ∷ last in
+    let more : List Event = Foreign 3 seed 0 50 ∷ (Send 3 0 count ∷ []) in
     ap (lives_from []) (
-    of_other ts fed 1 0 (Send 1 0 count) (Send 2 0 count ∷ more) (first_at seed count p) (λ e. cc)
-    ∙ of_own ts fed 1 (Send 2 0 count) more (second_at seed count p)
+    of_other trial_transmitters fed 1 0 (Send 1 0 count) (Send 2 0 count ∷ more) (first_at seed count p) (λ e. cc)
+    ∙ of_own trial_transmitters fed 1 (Send 2 0 count) more (second_at seed count p)
     ∙ ap (λ (x : List (Option (List ℕ))). actions_of fed (Send 2 0 count) ++ x) (
-    of_other ts fed 1 2 (Foreign 3 seed 0 50) last (third_at seed count p) (λ e. cc)
-    ∙ of_other ts fed 1 2 (Send 3 0 count) [] (third_at seed count p) (λ e. cc)
-    ∙ none_left ts fed 1))
-    ∙ send_alone fed 2 count long
+    of_other trial_transmitters fed 1 2 (Foreign 3 seed 0 50) (Send 3 0 count ∷ []) (third_at seed count p) (λ e. cc)
+    ∙ of_other trial_transmitters fed 1 2 (Send 3 0 count) [] (third_at seed count p) (λ e. cc)
+    ∙ none_left trial_transmitters fed 1)) ∙ send_alone fed 2 count long
 
 pub third_lives : (seed count : ℕ) (stream : List (List ℕ)) → IsPlan (trial_plan seed count)
     → length (feed (trial_plan seed count) stream) ≡ count
@@ -172,21 +146,15 @@ third_lives seed count stream p long =
     of_other ts fed 2 0 (Send 1 0 count) (Send 2 0 count ∷ more) (first_at seed count p) (λ e. cc)
     ∙ of_other ts fed 2 1 (Send 2 0 count) more (second_at seed count p) (λ e. cc)
     ∙ of_own ts fed 2 (Foreign 3 seed 0 50) last (third_at seed count p)
-    ∙ ap (λ (x : List (Option (List ℕ))). actions_of fed (Foreign 3 seed 0 50) ++ x) (
-    of_own ts fed 2 (Send 3 0 count) [] (third_at seed count p)
-    ∙ ap (λ (x : List (Option (List ℕ))). actions_of fed (Send 3 0 count) ++ x) (none_left ts fed 2)))
+    ∙ ap (λ (x : List (Option (List ℕ))). actions_of fed (Foreign 3 seed 0 50) ++ x)
+    (rw (of_own ts fed 2 (Send 3 0 count) [] (third_at seed count p), none_left ts fed 2)))
     ∙ send_behind fed 3 seed 50 count long
 
 -- ---- what comes before the feed has no mark
 
 begins : (seed index : ℕ) → sync_of (made_packet seed index) ≡ 0x47
 unfolding made_packet
-begins seed index = choose (index % 312 == 100)
-  where
-    choose : (t : Bool) → sync_of (cond t ((0x47 ∷ 0x1F ∷ 0xFA ∷ 0x10 ∷ []) ++ replicate 184 0)
-        ((0x47 ∷ 0x00 ∷ 0x31 ∷ (0x10 + index % 16) ∷ []) ++ made_payload seed index)) ≡ 0x47
-    choose true = refl
-    choose false = refl
+begins seed index = grind arith
 
 pub length-made : (seed count : ℕ) → length (made_packets seed count) ≡ count
 unfolding made_packets
@@ -197,7 +165,5 @@ none_marked i l = absurd (omega (arith, l))
 
 pub made_unmarked : (seed count : ℕ) → HaveNoMark (made_packets seed count)
 unfolding syncs
-made_unmarked seed count i l =
-    ap (λ (s : ℕ). s == 0xB8)
-    (get_or-map sync_of (made_packets seed count) i [] 0 l
+made_unmarked seed count i l = ap (λ (s : ℕ). s == 0xB8) (get_or-map sync_of (made_packets seed count) i [] 0 l
     ∙ ap sync_of (made_at seed count i (omega (arith, l, length-made seed count))) ∙ begins seed i)

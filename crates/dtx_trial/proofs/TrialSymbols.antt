@@ -1,6 +1,6 @@
 -- What a transmitter sends and logs that is given a trial's feed, and which packets come back of it.
-use Rattle.std.proofs.Common.{◌≡◌, ◌≢◌, ◌⊎◌, inl, inr, ℕ, ℤ, ◌+◌, ◌-◌, ◌*◌, ◌/◌, ◌%◌, ◌≤◌, ◌==◌, cond, List}
-use Rattle.std.proofs.Common.{[], ◌∷◌, ◌++◌, length, map, drop, get_or, refl, sym, ap, ap₂, ◌∙◌, arith}
+use Rattle.std.proofs.Common.{◌≡◌, ◌≢◌, ◌⊎◌, inl, inr, ℕ, ℤ, ◌+◌, ◌-◌, ◌*◌, ◌/◌, ◌%◌, ◌≤◌, List, [], ◌∷◌, ◌++◌, length}
+use Rattle.std.proofs.Common.{map, drop, get_or, refl, ap, ap₂, ◌∙◌, arith}
 use Rattle.std.specs.Prelude.{filter}
 use Rattle.std.specs.List.{flat_map, range_with_len}
 use Rattle.std.proofs.lemmas.Bool.{cases_eq, cond-false, cond-true, eq-eqb, ne_eqb}
@@ -31,8 +31,7 @@ use Rattle.dtx_trial.specs.TrialFiles.{order_line, whole_from_312}
 pub stretch_is : (fed : List (List ℕ)) (count : ℕ) → length fed ≡ count → 104 ≤ count
     → stretch_of fed 100 count ≡ drop 101 (a53 fed)
 unfolding stretch_of
-stretch_is fed count long least =
-    take_all (segment_place (last_packet count) + 1 - 101) (drop 101 (a53 fed))
+stretch_is fed count long least = take_all (segment_place (last_packet count) + 1 - 101) (drop 101 (a53 fed))
     (omega (arith, least, long, length-drop 101 (a53 fed), length-a53 fed))
 
 -- ---- lines
@@ -44,13 +43,7 @@ line_at offset segment frame packet =
 
 line_is : (seed count : ℕ) (offset : ℤ) (i : ℕ)
     → preset_at (trial_plan seed count) offset 0 100 (each_312 i) ≡ order_line offset i
-line_is seed count offset i =
-    let s : 0 + (segment_place (each_312 i) - segment_place 100) ≡ 313 * i = omega arith in
-    let f : each_312 i / 624 ≡ i / 2 = omega arith in
-    let p : each_312 i % 624 ≡ 100 + 312 * (i % 2) = omega arith in
-    ap (λ n. line_at offset n (each_312 i / 624) (each_312 i % 624)) s
-    ∙ ap (λ n. line_at offset (313 * i) n (each_312 i % 624)) f
-    ∙ ap (line_at offset (313 * i) (i / 2)) p
+line_is seed count offset i = grind (arith, each_312)
 
 map_both : {X : Type 0} (f : ℕ → X) (g : ℕ → ℕ) (h : ℕ → X) (xs : List ℕ) → ((i : ℕ) → f (g i) ≡ h i)
     → map f (map g xs) ≡ map h xs
@@ -82,19 +75,8 @@ whole_of u least = complete_parts s ∙ by_end (cases_eq (s % 52) 0)
     by_end : (s % 52 ≡ 0) ⊎ (s % 52 ≢ 0)
         → front ++ filter (is_complete (207 * s)) (range_with_len (s - 52) (s - (s - 52)))
         ≡ range_with_len 0 (whole_from_312 (s + 312))
-    by_end (inl z) =
-        let extra : ℕ = cond ((s + 312) % 52 == 0) 1 0 in
-        let one : extra ≡ 1 = cond-true ((s + 312) % 52 == 0) 1 0 (eq-eqb ((s + 312) % 52) 0 (omega (arith, z))) in
-        let many : s - 52 + 1 ≡ whole_from_312 (s + 312) = omega (arith, one, least) in
-        let start : 0 + (s - 52) ≡ s - 52 = omega arith in
-        ap (λ xs. front ++ xs) (complete_last s (omega (arith, least)) z ∙ ap (λ k. k ∷ []) (sym start))
-        ∙ sym (range_with_len-parts 0 (s - 52) 1) ∙ ap (range_with_len 0) many
-    by_end (inr z) =
-        let extra : ℕ = cond ((s + 312) % 52 == 0) 1 0 in
-        let none : extra ≡ 0 = cond-false ((s + 312) % 52 == 0) 1 0
-        (ne_eqb ((s + 312) % 52) 0 (λ e. z (omega (arith, e)))) in
-        let many : s - 52 ≡ whole_from_312 (s + 312) = omega (arith, none, least) in
-        ap (λ xs. front ++ xs) (complete_none s (inr z)) ∙ append-nil front ∙ ap (range_with_len 0) many
+    by_end (inl z) = grind (arith, cond-true, eq-eqb, complete_last, range_with_len-parts)
+    by_end (inr z) = grind (arith, cond-false, ne_eqb, complete_none, append-nil)
 
 run_groups : (run : List (List ℤ)) (u : ℕ) → length run ≡ 4 * u + (u + 77) / 78 → groups_of run ≡ u
 unfolding groups_of data_count
@@ -124,8 +106,6 @@ numbers_are fed count long least =
 pub bytes_back : (fed : List (List ℕ)) (n : ℕ)
     → flat_map (λ p. p) (map (λ j. as_received (get_or fed (312 + j) [])) (range_with_len 0 n))
     ≡ flat_map (λ k. as_received (get_or fed k [])) (range_with_len 312 n)
-bytes_back fed n =
-    ap (flat_map (λ p. p)) (map-range_moved (λ j. as_received (get_or fed (312 + j) []))
-    (λ k. as_received (get_or fed k [])) 0 312 n
-    (λ i l. let e : 312 + (0 + i) ≡ 312 + i = omega arith in ap (λ k. as_received (get_or fed k [])) e))
+bytes_back fed n = ap (flat_map (λ p. p)) (map-range_moved (λ j. as_received (get_or fed (312 + j) []))
+    (λ k. as_received (get_or fed k [])) 0 312 n (λ i l. grind arith))
     ∙ flat_map-map (λ p. p) (λ k. as_received (get_or fed k [])) (range_with_len 312 n)
