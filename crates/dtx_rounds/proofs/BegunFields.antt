@@ -1,6 +1,6 @@
 -- A field of a capture before the first round: its segments and their cost are those that were acquired, and nothing is
 -- known of it.
-use Rattle.std.proofs.Common.{◌≡◌, ℕ, ℤ, ◌+◌, ◌-◌, ◌*◌, ◌<◌, ◌≤◌, min, Option, None, List, [], length, map, get_or, sum}
+use Rattle.std.proofs.Common.{◌≡◌, ℕ, ℤ, ◌+◌, ◌-◌, ◌*◌, ◌<◌, ◌≤◌, min, Option, None, List, [], length, map, get_or}
 use Rattle.std.proofs.Common.{refl, sym, ap, ◌∙◌, arith, Bool, true, false, Some, is_some}
 use Rattle.std.specs.List.{range_with_len}
 use Rattle.std.proofs.lemmas.List.FromFn.{get_or-map-range_with_len, length-map-range_with_len}
@@ -8,7 +8,7 @@ use Rattle.dtx_lists.proofs.Range.{map-range_same}
 use Rattle.dtx_soft.specs.Coders.{coder_symbols}
 use Rattle.dtx_soft.specs.LeastPath.{least_levels}
 use Rattle.dtx_soft.specs.Paths.{cost}
-use Rattle.dtx_soft.specs.Softened.{least_cost, softened, softened_cost}
+use Rattle.dtx_soft.specs.Softened.{least_cost, softened_cost}
 use Rattle.dtx_soft.proofs.SoftenedLemmas.{length-coder}
 use Rattle.dtx_receiver.proofs.CompleteLemmas.{complete_told}
 use Rattle.dtx_pins.specs.LeastPinned.{least_pinned_levels}
@@ -47,14 +47,10 @@ least_again : (scale : ℕ) (heard : List (List ℤ)) (known : List (Option ℕ)
     ≡ least_levels scale (coder_symbols (groups_in heard f) e)
 least_again scale heard known f e none l = grind (arith, without_pins_is, no_pin, length-coder)
 
-unknown_paths : (scale : ℕ) (heard : List (List ℤ)) (known : List (Option ℕ)) (f : ℕ) → KnowsNoByte known f
-    → paths_in scale heard known f ≡ softened scale (groups_in heard f)
-unfolding paths_in
-unknown_paths scale heard known f none = grind (arith, as_softened, least_again)
-
 -- its segments
 pub unknown_stays : (scale : ℕ) (heard given : List (List ℤ)) (known : List (Option ℕ)) (f : ℕ)
     → AreDecided scale heard given → KnowsNoByte known f → rows_of (after scale heard known given) f ≡ rows_of given f
+unfolding paths_in
 unknown_stays scale heard given known f is none =
     same_items [] (length (rows_of given f)) (rows_of (after scale heard known given) f) (rows_of given f)
     (length-rows (after scale heard known given) f
@@ -65,29 +61,17 @@ unknown_stays scale heard given known f is none =
     few i l = omega (arith, l, length-rows given f)
 
     stays : (i : ℕ) → i < 313 → round_segment scale heard known given (313 * f + i) ≡ get_or given (313 * f + i) []
-    stays i l = grind (arith, decided_segment, unknown_paths)
-
--- its cost
-pub unknown_cost : (scale : ℕ) (heard : List (List ℤ)) (known : List (Option ℕ)) (f : ℕ) → KnowsNoByte known f
-    → sum (map (coder_cost scale heard known f) (range_with_len 0 12)) ≡ softened_cost scale (groups_in heard f)
-unfolding coder_cost pinned_coder_cost softened_cost least_cost
-unknown_cost scale heard known f none = grind (arith, map-range_same, least_again)
+    stays i l = grind (arith, decided_segment, as_softened, least_again)
 
 -- ---- no bytes, no words
 
-none_below : (n : ℕ) → n < 0 → ⊥
-none_below n l = omega (arith, l)
-
 pub no_word : (k : ℕ) (code : List ℕ) → known_word [] k ≡ Some code → ⊥
-no_word k code e = grind (arith, none_below, complete_told, known_parts)
+no_word k code e = grind (arith, complete_told, known_parts)
 
 pub known_none : (k : ℕ) → known_word [] k ≡ None
 known_none k = grind (arith, no_word)
 
 -- ---- the field
-
-nothing_is : (f : ℕ) → KnowsNoByte [] f
-nothing_is f n l = refl
 
 words_are : (words : List Bool) (f : ℕ) → length words ≡ 312 → ((k : ℕ) → k < 312 → get_or words k true ≡ false)
     → words ≡ map (λ k. is_some (known_word [] (312 * f + k))) (range_with_len 0 312)
@@ -103,6 +87,7 @@ pub begun_field : (scale f : ℕ) (heard given : List (List ℤ)) (field : Field
     → decided_rows field ≡ rows_of given f → field.cost ≡ softened_cost scale (groups_in heard f)
     → KnowsNothing field.known.items field.words field.knows_more field.moved
     → IsInRun scale heard given (known_word []) f field
+unfolding coder_cost pinned_coder_cost softened_cost least_cost
 begun_field scale f heard given field is long count heard_are decided cost none =
     let same : KnowSame field.known.items [] f = none.bytes in
     record {
@@ -116,10 +101,10 @@ begun_field scale f heard given field is long count heard_are decided cost none 
             ap (λ rows. field_rounded scale rows field.known.items (decided_rows field)) heard_are
             ∙ ap (field_rounded scale (rows_of heard f) field.known.items) decided
             ∙ field_after scale heard given [] field.known.items f same
-            ∙ unknown_stays scale heard given [] f is (nothing_is f)
+            ∙ unknown_stays scale heard given [] f is (λ n l. refl)
             ∙ sym decided;
         cost = λ _.
-            cost ∙ sym (unknown_cost scale heard [] f (nothing_is f))
+            cost ∙ sym (grind (arith, map-range_same, least_again))
             ∙ sym (field_costs scale heard [] field.known.items f same)
             ∙ sym (ap (λ rows. field_cost scale rows field.known.items) heard_are);
       };

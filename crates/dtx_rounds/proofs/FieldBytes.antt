@@ -91,9 +91,6 @@ last_level segment q long l =
     get_or-map sliced (drop 820 segment) q (pos 0) 0 (omega (arith, l, long, length-drop 820 segment))
     ∙ ap sliced (get_or-drop 820 segment q (pos 0) ∙ ap (λ i. get_or segment i (pos 0)) (omega arith))
 
-last_step : (f : ℕ) → 276 * (78 * (f + 1)) ≡ 21528 * f + 21527 + 1
-last_step f = omega arith
-
 -- before field f + 1 they are those of the last segment of field f
 pub last_bits : (run : List (List ℤ)) (f : ℕ) → AreSegments run → 312 * (f + 1) ≤ 4 * groups_of run
     → precoder_bits_of (sliced_last (data_at run (312 * f + 311))) ≡ field_bits run (f + 1)
@@ -111,5 +108,5 @@ last_bits run f h l = map-range_same _ _ 0 12 (λ e a b. bit e (omega arith))
         ap (λ x. x / 4) (grind (arith, last_level, data_long, levels, last_place, level_from))
         ∙ sym (ap (λ g. precoder_bit 0 (first_bits run) levels (276 * g) e)
         (groups_whole (78 * (f + 1)) levels (before_long run (f + 1) h l))
-        ∙ ap (λ r. precoder_bit 0 (first_bits run) levels r e) (last_step f)
+        ∙ ap (λ r. precoder_bit 0 (first_bits run) levels r e) (omega arith)
         ∙ precoder_bit_next 0 (21528 * f + 21527) e (first_bits run) levels)

@@ -83,13 +83,6 @@ same_pins part known f n same few =
 steps_few : (heard : List (List ℤ)) (f : ℕ) → 69 * length (groups_in heard f) ≤ 21528
 steps_few heard f = omega (arith, length-groups heard f)
 
--- ---- paths
-
-paths_of_rows : (scale : ℕ) (heard : List (List ℤ)) (known part : List (Option ℕ)) (f : ℕ) → KnowSame part known f
-    → paths_in scale (rows_of heard f) part 0 ≡ paths_in scale heard known f
-unfolding paths_in
-paths_of_rows scale heard known part f same = grind (arith, groups_of_rows, same_pins, steps_few)
-
 -- ---- segments
 
 -- a segment by its place in its field, the field's groups and their paths
@@ -107,14 +100,12 @@ cell_is scale heard given known f i l = grind arith
 pub field_segment : (scale : ℕ) (heard given : List (List ℤ)) (known part : List (Option ℕ)) (f i : ℕ)
     → KnowSame part known f → i < 313 → round_segment scale (rows_of heard f) part (rows_of given f) i
     ≡ round_segment scale heard known given (313 * f + i)
+unfolding paths_in
 field_segment scale heard given known part f i same l =
     let first : i ≡ 313 * 0 + i = omega arith in
     ap (round_segment scale (rows_of heard f) part (rows_of given f)) first
     ∙ cell_is scale (rows_of heard f) (rows_of given f) part 0 i l
-    ∙ ap₂ (λ groups paths. cell scale i groups paths (get_or (rows_of given f) (313 * 0 + i) []))
-    (groups_of_rows given f) (paths_of_rows scale heard known part f same)
-    ∙ ap (cell scale i (groups_in given f) (paths_in scale heard known f)) (grind (arith, row_of))
-    ∙ sym (cell_is scale heard given known f i l)
+    ∙ grind (arith, groups_of_rows, same_pins, steps_few, row_of, cell_is)
 
 pub row_after : (scale : ℕ) (heard given : List (List ℤ)) (known : List (Option ℕ)) (f i : ℕ)
     → i < length (rows_of given f)

@@ -1,16 +1,12 @@
 -- Fields, with what is known by corrections.
-use Rattle.std.proofs.Common.{◌≡◌, ℕ, zero, suc, ◌+◌, ◌<◌, ◌≤◌, ◌⊎◌, inl, inr, ◌&&◌, ◌||◌, Bool, true, false, Option}
-use Rattle.std.proofs.Common.{Some, None, is_some, option_map, List, get_or, refl, sym, ap, ap₂, ◌∙◌, arith, ◌++◌}
+use Rattle.std.proofs.Common.{◌≡◌, ℕ, zero, suc, ◌+◌, ◌<◌, ◌≤◌, ◌⊎◌, inl, inr, ◌||◌, Bool, true, false, Option, Some}
+use Rattle.std.proofs.Common.{None, is_some, option_map, List, get_or, refl, sym, ap, ap₂, ◌∙◌, arith}
 use Rattle.std.specs.List.{list_any, range_with_len}
 use Rattle.std.proofs.lemmas.Bool.{cases_lt, false_from_ne_true, true≢false}
-use Rattle.dtx_rounds.specs.Found.{AreFound, IsKept, code_byte, has_code, has_code_behind, or_else}
+use Rattle.dtx_rounds.specs.Found.{AreFound, code_byte, has_code, has_code_behind, or_else}
 use Rattle.dtx_rounds.specs.declared.field.Field.{Field}
 
 -- ---- options
-
-or_assoc : {A : Type 0} (x y z : Option A) → or_else x (or_else y z) ≡ or_else (or_else x y) z
-or_assoc None y z = refl
-or_assoc (Some a) y z = refl
 
 pub map_or : {A B : Type 0} (f : A → B) (x y : Option A)
     → or_else (option_map f x) (option_map f y) ≡ option_map f (or_else x y)
@@ -39,21 +35,14 @@ any_none f a zero h = refl
 any_none f a (suc n) h = ap₂ (λ x y. x || y) (h a (omega arith) (omega arith))
     (any_none f (a + 1) n (λ i l m. h i (omega arith) (omega arith)))
 
-or_here : (x y : Bool) → x ≡ true → (x || y) ≡ true
-or_here x y e = ap (λ b. b || y) e
-
-or_behind : (x y : Bool) → y ≡ true → (x || y) ≡ true
-or_behind true y e = refl
-or_behind false y e = e
-
 pub any_at : (f : ℕ → Bool) (a n k : ℕ) → a ≤ k → k < a + n → f k ≡ true → list_any f (range_with_len a n) ≡ true
 any_at f a zero k l m t = absurd (omega arith)
 any_at f a (suc n) k l m t = by_place (cases_lt a k) (λ h. any_at f (a + 1) n k (omega arith) (omega arith) t)
   where
     by_place : (a < k) ⊎ (k ≤ a) → (a < k → list_any f (range_with_len (a + 1) n) ≡ true)
         → list_any f (range_with_len a (suc n)) ≡ true
-    by_place (inl h) next = or_behind (f a) (list_any f (range_with_len (a + 1) n)) (next h)
-    by_place (inr h) next = grind (arith, or_here)
+    by_place (inl h) next = grind arith
+    by_place (inr h) next = grind arith
 
 pub any_each : (f : ℕ → Bool) (a n k : ℕ) → list_any f (range_with_len a n) ≡ false → a ≤ k → k < a + n → f k ≡ false
 any_each f a n k e l m = false_from_ne_true (f k) (λ t. true≢false (sym (any_at f a n k l m t) ∙ e))
@@ -81,11 +70,6 @@ code_byte_none codes n none = grind arith
 abbrev Agree : (first second both : ℕ → Option (List ℕ)) → Type 0
 Agree first second both = (k : ℕ) → or_else (second k) (first k) ≡ both k
 
-code_byte_or : (first second both : ℕ → Option (List ℕ)) (n : ℕ) → Agree first second both
-    → or_else (code_byte second n) (code_byte first n) ≡ code_byte both n
-unfolding code_byte
-code_byte_or first second both n agree = grind (arith, map_or)
-
 -- ---- whether there is a correction
 
 has_or : (first second both : ℕ → Option (List ℕ)) (n : ℕ) → Agree first second both
@@ -93,16 +77,10 @@ has_or : (first second both : ℕ → Option (List ℕ)) (n : ℕ) → Agree fir
 unfolding has_code
 has_or first second both n agree = grind (arith, any_or, some_or)
 
-and_or : (x y z : Bool) → ((x || y) && z) ≡ ((x && z) || (y && z))
-and_or true y true = refl
-and_or true true false = refl
-and_or true false false = refl
-and_or false y z = refl
-
 behind_or : (first second both : ℕ → Option (List ℕ)) (n : ℕ) → Agree first second both
     → has_code_behind both n ≡ (has_code_behind first n || has_code_behind second n)
 unfolding has_code_behind
-behind_or first second both n agree = grind (arith, any_or, some_or, and_or)
+behind_or first second both n agree = grind (arith, any_or, some_or)
 
 has_none : (codes : ℕ → Option (List ℕ)) (n : ℕ) → ((k : ℕ) → codes k ≡ None) → has_code codes n ≡ false
 unfolding has_code
@@ -118,28 +96,24 @@ pub found_none : (codes : ℕ → Option (List ℕ)) (field next : Field) → ((
     → AreFound codes field next field next
 found_none codes field next none = grind (arith, code_byte_none, or_false, has_none, behind_none)
 
-kept_twice : (a b c : Field) → IsKept a b → IsKept b c → IsKept a c
-kept_twice a b c h k = grind arith
-
 -- one after the other
 pub found_twice : (first second both : ℕ → Option (List ℕ)) (a b p q x y : Field) → AreFound first a b p q
     → AreFound second p q x y → ((k : ℕ) → or_else (second k) (first k) ≡ both k) → AreFound both a b x y
+unfolding code_byte
 found_twice first second both a b p q x y h k agree = record {
-  known = λ n. k.known n ∙ ap (or_else (code_byte second n)) (h.known n)
-      ∙ or_assoc (code_byte second n) (code_byte first n) (get_or (a.known.items ++ b.known.items) n None)
-      ∙ ap (λ o. or_else o (get_or (a.known.items ++ b.known.items) n None)) (code_byte_or first second both n agree);
+  known = λ n. grind (arith, map_or);
   long = k.long ∙ h.long;
   words = λ i l. k.words i (omega (arith, l, h.long)) ∙ ap (λ x. x || is_some (second i)) (h.words i l)
       ∙ sym (or_assoc_bool (get_or a.words i false) (is_some (first i)) (is_some (second i)))
       ∙ ap (λ x. get_or a.words i false || x) (some_or (second i) (first i) ∙ ap is_some (agree i));
   more = k.more ∙ ap (λ x. x || has_code second 312) h.more ∙ sym (grind (arith, or_assoc_bool))
       ∙ ap (λ x. a.knows_more || x) (sym (has_or first second both 312 agree));
-  rest = kept_twice a p x h.rest k.rest;
+  rest = (grind arith);
   next_words = k.next_words ∙ h.next_words;
   next_more = k.next_more ∙ ap (λ x. x || has_code_behind second 312) h.next_more
       ∙ sym (or_assoc_bool b.knows_more (has_code_behind first 312) (has_code_behind second 312))
       ∙ ap (λ x. b.knows_more || x) (sym (behind_or first second both 312 agree));
-  next_rest = kept_twice b q y h.next_rest k.next_rest;
+  next_rest = (grind arith);
 }
 
 -- other corrections that are the same

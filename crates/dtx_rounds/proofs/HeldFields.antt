@@ -1,8 +1,7 @@
 -- A round over the fields of a run: the round of a field that is held, its words and its bytes, and how it goes from
 -- the first field to each next one and ends with the last.
-use Rattle.std.proofs.Common.{◌≡◌, ℕ, ℤ, ◌+◌, ◌-◌, ◌*◌, ◌/◌, ◌%◌, ◌<◌, ◌&&◌, nat_le, nat_lt, Bool, false, Option, None}
-use Rattle.std.proofs.Common.{is_some, List, [], ◌++◌, length, get_or, take, drop, refl, sym, ap, ap₂, ◌∙◌, arith, zero}
-use Rattle.std.proofs.Common.{suc, ◌≤◌, inr, min, subst, ◌∷◌}
+use Rattle.std.proofs.Common.{◌≡◌, ℕ, ℤ, ◌+◌, ◌-◌, ◌*◌, ◌/◌, ◌<◌, Bool, false, Option, None, is_some, List, [], ◌++◌}
+use Rattle.std.proofs.Common.{length, get_or, take, drop, sym, ap, ap₂, ◌∙◌, arith, ◌≤◌, min, subst}
 use Rattle.std.specs.List.{flat_map}
 use Rattle.std.proofs.Math.Seq.{take-add}
 use Rattle.std.proofs.lemmas.Bool.{cases_lt}
@@ -10,7 +9,7 @@ use Rattle.std.proofs.lemmas.List.{length-take-le, take_at, length-drop, take-ta
 use Rattle.std.proofs.lemmas.List.{take-append-le, take_all}
 use Rattle.std.proofs.lemmas.List.FromFn.{get_or-map-range_with_len, length-map-range_with_len}
 use Rattle.dtx_lists.proofs.Range.{map-range_same}
-use Rattle.dtx_slice.specs.Slicing.{sliced_data, sliced_last}
+use Rattle.dtx_slice.specs.Slicing.{sliced_last}
 use Rattle.dtx_slice.specs.Unrolled.{bytes_back, precoder_bits_of}
 use Rattle.dtx_receiver.specs.Bytes.{bytes_in, data_count, groups_of, levels_from, data_at, first_bits}
 use Rattle.dtx_acquire.specs.Scaled.{decided}
@@ -35,17 +34,12 @@ use Rattle.dtx_rounds.proofs.RunWords.{AreSought, upto_before, code_byte_same}
 
 -- ---- a round over what a round gave, under the same pins
 
-whole_same : (one other : List (List ℤ)) (i : ℕ) → length one ≡ length other
-    → in_whole_group one i ≡ in_whole_group other i
-unfolding in_whole_group
-whole_same one other i e = ap (λ n. nat_lt 0 (i % 313) && nat_le (i % 313) n) (same_groups one other (i / 313) e)
-
 segment_twice : (scale : ℕ) (heard given : List (List ℤ)) (known : List (Option ℕ)) (i : ℕ) → AreSegments given
     → i < length given
     → round_segment scale heard known (after scale heard known given) i ≡ round_segment scale heard known given i
-unfolding round_segment
+unfolding round_segment in_whole_group
 segment_twice scale heard given known i long l =
-    grind (arith, whole_same, after, length-after, get_or-map-range_with_len, take_at, length-take-le)
+    grind (arith, same_groups, after, length-after, get_or-map-range_with_len, take_at, length-take-le)
 
 pub after_twice : (scale : ℕ) (heard given : List (List ℤ)) (known : List (Option ℕ)) → AreSegments given
     → after scale heard known (after scale heard known given) ≡ after scale heard known given
@@ -158,37 +152,11 @@ pub there_next : (n f : ℕ) → 313 * (f + 1) < n → AreThere f (4 * ((n - (n 
     ((min 313 (n - 313 * f) - 1) / 4 * 4 + (min 313 (n - 313 * (f + 1)) - 1) / 4 * 4)
 there_next n f l = grind (arith, cases_lt)
 
-pub there_last : (n f : ℕ) → 313 * f < n → n ≤ 313 * (f + 1)
-    → AreThere f (4 * ((n - (n + 312) / 313) / 4)) ((min 313 (n - 313 * f) - 1) / 4 * 4 + (0 - 1) / 4 * 4)
-there_last n f l m = inr (omega (arith, l, m))
-
 -- ---- what the groups of a field write
-
-drop_one : (n : ℕ) (xs : List (List ℤ)) → drop 1 (take (suc n) xs) ≡ take n (drop 1 xs)
-drop_one zero [] = refl
-drop_one (suc n) [] = refl
-drop_one n (x ∷ xs) = refl
-
-front_rows : (n count : ℕ) (rows : List (List ℤ)) → n ≤ count - 1
-    → take n (drop 1 (take count rows)) ≡ take n (drop 1 rows)
-front_rows n zero rows l = grind arith
-front_rows n (suc count) rows l = ap (take n) (drop_one count rows) ∙ take-take n count (drop 1 rows) (omega arith)
-
-whole_few : (count : ℕ) → (count - 1) / 4 * 4 ≤ count - 1
-whole_few count = omega arith
-
-levels_are : (given : List (List ℤ)) (f : ℕ) (field : Field) → field.count ≡ length (rows_of given f)
-    → decided_rows field ≡ rows_of given f
-    → flat_map sliced_data (take (whole_segments field.count) (drop 1 field.decided.items))
-    ≡ levels_from given (312 * f) (whole_in given f)
-levels_are given f field count rows = grind (arith, front_rows, whole_few, levels_rows, length-drop)
-
-room_in_run : (n f : ℕ) → 313 * f < n → 312 * f + (min 313 (n - 313 * f) - 1) / 4 * 4 ≤ 4 * ((n - (n + 312) / 313) / 4)
-room_in_run n f l = omega (arith, l)
 
 room : (given : List (List ℤ)) (f : ℕ) → 313 * f < length given → 312 * f + whole_in given f ≤ 4 * groups_of given
 unfolding groups_of data_count
-room given f l = grind (arith, length-rows, room_in_run)
+room given f l = grind (arith, length-rows)
 
 pub written_bytes : (given : List (List ℤ)) (f : ℕ) (field : Field) (last : List ℕ) → AreSegments given
     → 313 * f < length given → field.count ≡ length (rows_of given f)
@@ -197,7 +165,7 @@ pub written_bytes : (given : List (List ℤ)) (f : ℕ) (field : Field) (last : 
     ≡ take (207 * whole_in given f) (drop (64584 * f) (bytes_in given))
 written_bytes given f field last long l count rows before written =
     ap (λ n. take (207 * whole_segments n) (bytes_of field)) (sym count) ∙ written.bytes
-    ∙ ap₂ (bytes_back 0) before (levels_are given f field count rows)
+    ∙ ap₂ (bytes_back 0) before (grind (arith, take-take, levels_rows, length-drop))
     ∙ by_groups ((length (rows_of given f) - 1) / 4) (whole_in given f) (omega arith) (room given f l)
   where
     by_groups : (g n : ℕ) → n ≡ g * 4 → 312 * f + n ≤ 4 * groups_of given
@@ -223,25 +191,11 @@ same_codes scale f heard given codes same field e h = record {
   settled = h.settled;
 }
 
-length-first : (given : List (List ℤ)) → length (first_bits given) ≡ 12
-unfolding first_bits precoder_bits_of
-length-first given = length-map-range_with_len (λ e. get_or (sliced_last (get_or given 0 [])) ((e + 4) % 12) 0 / 4) 0 12
-
-bits_first : (given : List (List ℤ)) → first_bits given ≡ field_bits given 0
-unfolding levels_from
-bits_first given = bits_none (first_bits given) (length-first given)
-
--- the first segment of a run is that of its first field
-sync_is : (given : List (List ℤ)) (field : Field) → 0 < length given → field.count ≡ length (rows_of given 0)
-    → decided_rows field ≡ rows_of given 0 → get_or field.decided.items 0 [] ≡ get_or given 0 []
-sync_is given field some count rows = sym (grind (arith, get_or-take, length-rows))
-    ∙ ap (λ (xs : List (List ℤ)). get_or xs 0 []) rows ∙ row_of given 0 0 (omega arith)
-
 pub held_first : (scale : ℕ) (heard given : List (List ℤ)) (before : List ℕ) (field : Field) → AreSegments given
     → 0 < length given → IsInRun scale heard given (known_word before) 0 field
     → IsWritten field.count field.decided.items (sliced_last (get_or field.decided.items 0 [])) field.bytes.items
     → Holds scale heard given before 0 field
-unfolding first_bits
+unfolding first_bits levels_from precoder_bits_of
 held_first scale heard given before field long some h written = record {
   held = same_codes scale 0 heard given (known_word before) (codes_upto before (bytes_in given) (312 * 0)) field
       (λ k. sym (upto_before before (bytes_in given) (312 * 0) k (omega arith))) h;
@@ -250,15 +204,12 @@ held_first scale heard given before field long some h written = record {
 }
   where
     here : precoder_bits_of (sliced_last (get_or field.decided.items 0 [])) ≡ field_bits given 0
-    here = ap (λ s. precoder_bits_of (sliced_last s)) (sync_is given field some h.count h.decided) ∙ bits_first given
+    here = grind (arith, get_or-take, length-rows, row_of, bits_none, length-map-range_with_len)
 
 -- ---- from a field to the next one
 
-whole_field : (n f : ℕ) → 313 * (f + 1) < n → (min 313 (n - 313 * f) - 1) / 4 * 4 ≡ 312
-whole_field n f l = omega (arith, l)
-
 whole_before : (given : List (List ℤ)) (f : ℕ) → 313 * (f + 1) < length given → whole_in given f ≡ 312
-whole_before given f l = ap whole_segments (length-rows given f) ∙ whole_field (length given) f l
+whole_before given f l = grind (arith, length-rows)
 
 -- the last segment of a field that isn't the last one
 last_is : (given : List (List ℤ)) (f : ℕ) (field : Field) → 313 * (f + 1) < length given
@@ -270,16 +221,13 @@ last_is given f field more count rows =
     ∙ ap (λ (xs : List (List ℤ)). get_or xs 312 []) rows ∙ row_of given f 312 (omega arith)
     ∙ ap (λ n. get_or given n []) (omega arith)
 
-full_before : (n f : ℕ) → 313 * (f + 1) < n → 312 * (f + 1) ≤ 4 * ((n - (n + 312) / 313) / 4)
-full_before n f l = omega (arith, l)
-
 -- the precoder bits behind it
 bits_behind : (given : List (List ℤ)) (f : ℕ) (field : Field) → AreSegments given → 313 * (f + 1) < length given
     → field.count ≡ length (rows_of given f) → decided_rows field ≡ rows_of given f
     → precoder_bits_of (sliced_last (get_or field.decided.items 312 [])) ≡ field_bits given (f + 1)
 unfolding groups_of data_count
 bits_behind given f field long more count rows =
-    rw (last_is given f field more count rows, last_bits given f long (full_before (length given) f more))
+    rw (last_is given f field more count rows, last_bits given f long (omega (arith, more)))
 
 -- the bytes of both fields
 join : (own behind all : List ℕ) (f n : ℕ) → length own ≡ 64584
@@ -354,5 +302,4 @@ held_last scale f heard given before held field new new_next long stays some mos
     there_are = grind (arith, take-append-le)
 
     segments : AreThere f (4 * groups_of given) (whole_in given f + whole_segments 0)
-    segments = subst (λ m. AreThere f (4 * groups_of given) (whole_segments m + whole_segments 0))
-        (sym (length-rows given f)) (there_last (length given) f some most)
+    segments = grind (arith, length-rows)

@@ -1,5 +1,8 @@
 -- What is known stays known in the next round: its bytes are pinned, but for the first X2 of a coder in a field, which
 -- is a bit of byte 0 of a word. So the pins grow more from round to round, and the least paths cost more.
+use Rattle.dtx_trellis.specs.Pairs.{byte_place}
+use Rattle.dtx_rounds.specs.Pins.{byte_at_step}
+use Rattle.dtx_trellis.specs.Pairs.{group_place}
 use Rattle.std.proofs.Common.{◌≡◌, ℕ, ℤ, suc, ◌+◌, ◌-◌, ◌*◌, ◌/◌, ◌%◌, ◌^◌, ◌<◌, ◌≤◌, ◌==◌, Bool, true, false, cond}
 use Rattle.std.proofs.Common.{Option, Some, None, List, [], ◌∷◌, length, map, get_or, sym, ap, ap₂, ◌∙◌, subst, arith}
 use Rattle.std.specs.List.{range_with_len}
@@ -22,7 +25,7 @@ use Rattle.dtx_soft.proofs.SoftenedLemmas.{length-coder}
 use Rattle.dtx_receiver.specs.Bytes.{bytes_in, first_bits, groups_of, levels_in}
 use Rattle.dtx_pins.specs.LeastPinned.{least_pinned_levels, least_pinned_start}
 use Rattle.dtx_pins.specs.PinnedField.{pinned_coder_cost}
-use Rattle.dtx_pins.specs.Pins.{TellsPair, coder_pins, pin_at, x1_told, x2_told, Agrees}
+use Rattle.dtx_pins.specs.Pins.{TellsPair, coder_pins, pin_at, x1_told, x2_told}
 use Rattle.dtx_pins.proofs.LeastPinnedLemmas.{fewer_pins_cost_less, least_pinned_found}
 use Rattle.dtx_rounds.specs.Fields.{AreSegments}
 use Rattle.dtx_rounds.specs.Known.{known_bytes, known_word, known_byte, known_code_byte}
@@ -32,7 +35,7 @@ use Rattle.dtx_rounds.specs.RunField.{StayKnown}
 use Rattle.dtx_rounds.proofs.KnownLemmas.{IsKnown, known_at, known_correction, known_from, known_parts, known_place}
 use Rattle.dtx_rounds.proofs.RoundLevels.{HasPaths, after, after_long, groups_after, level_after, levels_of}
 use Rattle.dtx_rounds.proofs.RoundLevels.{place_in_groups, same_groups}
-use Rattle.dtx_rounds.proofs.RunLevels.{byte_in, length-bytes, field_of_segment, later_step, step_byte, step_pair}
+use Rattle.dtx_rounds.proofs.RunLevels.{byte_in, length-bytes, field_of_segment, later_step}
 use Rattle.dtx_rounds.proofs.RunWords.{known_entry}
 
 -- ---- pins
@@ -40,11 +43,6 @@ use Rattle.dtx_rounds.proofs.RunWords.{known_entry}
 -- pair i of a byte
 abbrev pub part : ℕ → ℕ → ℕ
 part b i = b / 4 ^ (3 - i) % 4
-
-pub pin_is : (known : List (Option ℕ)) (n i b : ℕ) → i < 4 → get_or known n None ≡ Some b
-    → known_pin known (coder_of 0 n) (4 * (n / 12) + i) ≡ part b i
-unfolding known_pin pair_in
-pin_is known n i b l e = grind (arith, step_byte, step_pair)
 
 -- the pin of coder e at step t of a field
 pub field_pin : (heard : List (List ℤ)) (known : List (Option ℕ)) (f e t : ℕ) → e < 12
@@ -66,12 +64,6 @@ pairs_join b l = omega arith
 
 pair_halves : (p : ℕ) → 2 * (p / 2) + p % 2 ≡ p
 pair_halves p = omega arith
-
-later_in_field : (n i : ℕ) → i < 4 → 0 < 4 * (n / 12) % 21528 → 0 < (4 * (n / 12) + i) % 21528
-later_in_field n i l m = omega arith
-
-step_within : (n i g : ℕ) → i < 4 → n < 828 * g → 4 * (n / 12) + i < 276 * g
-step_within n i g l m = omega arith
 
 record IsRound (scale : ℕ) (heard given : List (List ℤ)) : Type 0 where
   some : 0 < scale
@@ -136,7 +128,7 @@ byte_kept : (scale : ℕ) (heard given : List (List ℤ)) (known : List (Option 
     (bits : List ℕ) (n b : ℕ) → IsRound scale heard given → n < 828 * groups_of given
     → 0 < 4 * (n / 12) % 21528 → get_or known n None ≡ Some b → b < 256
     → byte_back 0 bits (levels_in (after scale heard known given)) n ≡ b
-unfolding byte_back
+unfolding byte_back known_pin pair_in byte_at_step byte_place group_place coder_of
 byte_kept scale heard given known paths bits n b is l some e small = ap₂ (λ (x y : ℕ). x + y) (ap₂ (λ (x y : ℕ). x + y)
     (ap₂ (λ (x y : ℕ). 64 * x + 16 * y)
     (ap (λ t. pair_back 0 bits levels t (coder_of 0 n)) first ∙ pair 0 (omega arith)) (pair 1 (omega arith)))
@@ -152,7 +144,7 @@ byte_kept scale heard given known paths bits n b is l some e small = ap₂ (λ (
     part_small i = omega arith
 
     pair : (i : ℕ) → i < 4 → pair_back 0 bits levels (4 * (n / 12) + i) (coder_of 0 n) ≡ part b i
-    pair i m = grind (arith, pair_told, coder_of_small, step_within, later_in_field, pin_is)
+    pair i m = grind (arith, pair_told, coder_of_small)
 
 -- ---- words
 
@@ -220,38 +212,16 @@ word_kept scale heard given k code paths some most long same e = known_from new 
 pub none_some : {A : Type 0} (x : A) → ◌≡◌ {A = Option A} None (Some x) → ⊥
 none_some x e = cc
 
-code_byte_stays : (old new : List ℕ) (p b : ℕ) → StayKnown old new → known_code_byte old p ≡ Some b
-    → known_code_byte new p ≡ Some b
-unfolding known_code_byte
-code_byte_stays old new p b stays e = grind (arith, none_some)
-
-byte_stays : (old new : List ℕ) (n b : ℕ) → StayKnown old new → known_byte old n ≡ Some b → known_byte new n ≡ Some b
-unfolding known_byte
-byte_stays old new n b stays e = grind (arith, code_byte_stays, none_some)
-
-entry_stays : (old new : List ℕ) (n b : ℕ) → StayKnown old new → get_or (known_bytes old) n None ≡ Some b
-    → get_or (known_bytes new) n None ≡ Some b
-entry_stays old new n b stays e = known_entry new n ∙ byte_stays old new n b stays (sym (known_entry old n) ∙ e)
-
 pin_stays : (old new : List ℕ) (e t : ℕ) → StayKnown old new
     → known_pin (known_bytes old) e t < 4 → known_pin (known_bytes new) e t ≡ known_pin (known_bytes old) e t
-unfolding known_pin
-pin_stays old new e t stays l = grind (arith, entry_stays)
-
--- what agrees with more pins agrees with fewer
-agrees_with_fewer : (heard : List (List ℤ)) (old new : List ℕ) (f e : ℕ) (levels : List ℕ) → StayKnown old new
-    → e < 12 → length levels ≡ length (coder_symbols (groups_in heard f) e)
-    → Agrees (coder_pins (pins_in heard (known_bytes new) f) e) levels
-    → Agrees (coder_pins (pins_in heard (known_bytes old) f) e) levels
-agrees_with_fewer heard old new f e levels stays l long h t m p = grind (arith, length-coder, field_pin, pin_stays)
+unfolding known_pin known_byte known_code_byte
+pin_stays old new e t stays l = grind (arith, known_entry, none_some)
 
 pub more_known_costs_more : (scale : ℕ) (heard : List (List ℤ)) (old new : List ℕ) (f e : ℕ) → StayKnown old new
     → e < 12 → coder_cost scale heard (known_bytes old) f e ≤ coder_cost scale heard (known_bytes new) f e
 unfolding coder_cost pinned_coder_cost
 more_known_costs_more scale heard old new f e stays l =
-    fewer_pins_cost_less scale (coder_pins (pins_in heard (known_bytes new) f) e)
-    (coder_pins (pins_in heard (known_bytes old) f) e) (coder_symbols (groups_in heard f) e)
-    (λ levels long h. agrees_with_fewer heard old new f e levels stays l long h)
+    grind (arith, fewer_pins_cost_less, length-coder, field_pin, pin_stays)
 
 -- pinned paths cost no less than those without pins
 pub known_costs_more : (scale : ℕ) (heard : List (List ℤ)) (known : List (Option ℕ)) (f e : ℕ)

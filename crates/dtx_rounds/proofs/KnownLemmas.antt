@@ -1,6 +1,6 @@
 -- Which words and bytes of a run are known.
 use Rattle.std.proofs.Common.{◌≡◌, ℕ, ◌+◌, ◌-◌, ◌*◌, ◌%◌, ◌<◌, ◌≤◌, ◌↔◌, Bool, true, Some, None, List, length, get_or}
-use Rattle.std.proofs.Common.{take, refl, ap, ◌∙◌, arith}
+use Rattle.std.proofs.Common.{take, ap, ◌∙◌, arith}
 use Rattle.std.proofs.lemmas.Bool.{cond-false, cond-true, false_from_ne_true, le-leb}
 use Rattle.std.proofs.lemmas.List.{get_or-take, length-take-le}
 use Rattle.std.proofs.lemmas.List.FromFn.{get_or-map-range_with_len}
@@ -67,24 +67,11 @@ source n = n - 208 * (n % 52)
 pub byte_source : (n p : ℕ) → n ≡ p + 52 * 4 * (p % 52) → (208 * (n % 52) ≤ n) × (n - 208 * (n % 52) ≡ p)
 byte_source n p e = (omega arith, omega arith)
 
--- a byte is known where its word is
-pub known_byte_is : (bytes : List ℕ) (n p : ℕ) → n ≡ codeword_byte_place 52 4 p
-    → known_byte bytes n ≡ known_code_byte bytes p
-unfolding known_byte
-known_byte_is bytes n p e = grind (arith, byte_source, cond-true, le-leb)
-
-pub known_code_is : (bytes : List ℕ) (k j : ℕ) (code : List ℕ) → known_word bytes k ≡ Some code → j < 207
-    → known_code_byte bytes (207 * k + j) ≡ Some (get_or code j 0)
-unfolding known_code_byte
-known_code_is bytes k j code h l = grind arith
-
 -- byte j of a known word is known at its place
 pub known_at : (bytes : List ℕ) (k j : ℕ) (code : List ℕ) → known_word bytes k ≡ Some code → j < 207
     → get_or (known_bytes bytes) (codeword_byte_place 52 4 (207 * k + j)) None ≡ Some (get_or code j 0)
-unfolding known_bytes
+unfolding known_bytes known_byte known_code_byte
 known_at bytes k j code h l =
     get_or-map-range_with_len (known_byte bytes) 0 (length bytes) (codeword_byte_place 52 4 (207 * k + j))
     (codeword_byte_place 52 4 (207 * k + j)) None (known_place bytes k j code (known_parts bytes k code h) l)
-    (omega arith)
-    ∙ known_byte_is bytes (codeword_byte_place 52 4 (207 * k + j)) (207 * k + j) refl
-    ∙ known_code_is bytes k j code h l
+    (omega arith) ∙ grind (arith, byte_source, cond-true, le-leb)

@@ -1,5 +1,6 @@
 -- Where no byte of a known word is put right, the pins are pairs of the paths themselves. So these stay the least ones,
 -- and rounds over a capture leave it as it is.
+use Rattle.dtx_trellis.specs.Pairs.{byte_place, group_place}
 use Rattle.std.proofs.Common.{◌≡◌, ℕ, ℤ, pos, ◌+◌, ◌-◌, ◌*◌, ◌/◌, ◌%◌, ◌<◌, ◌⊎◌, inl, inr, min, nat_lt, true, false}
 use Rattle.std.proofs.Common.{cond, Option, Some, List, [], ◌++◌, length, map, take, drop, get_or, refl, sym, ap, ap₂}
 use Rattle.std.proofs.Common.{◌∙◌, subst, arith}
@@ -44,7 +45,7 @@ use Rattle.dtx_rounds.proofs.KnownLemmas.{known_correction, known_parts}
 use Rattle.dtx_rounds.proofs.RefinedLemmas.{length-heard, rounds_stay}
 use Rattle.dtx_rounds.proofs.RoundLevels.{in_whole_room, in_whole_some, length-groups, level_by, path_small}
 use Rattle.dtx_rounds.proofs.RoundLevels.{place_in_groups, same_groups, step_there}
-use Rattle.dtx_rounds.proofs.RunLevels.{byte_in, length-bytes, byte_coder, byte_step, field_of_segment, place_in}
+use Rattle.dtx_rounds.proofs.RunLevels.{byte_in, length-bytes, field_of_segment, place_in}
 use Rattle.dtx_rounds.proofs.RunWords.{length-known}
 
 -- The segments are decided by the least paths over those received, as the acquirer does it.
@@ -148,24 +149,11 @@ own_level scale heard given t e l is m =
 
 -- ---- bytes
 
-pair_small : (x y : ℕ) → pair_from x y < 4
-pair_small x y = omega arith
-
-back_small : (bits levels : List ℕ) (t e : ℕ) → pair_back 0 bits levels t e < 4
-unfolding pair_back
-back_small bits levels t e = pair_small (precoder_bit 0 bits levels t e) (get_or levels (symbol_place 0 t e) 0)
-
--- a byte's parts are the pairs that it was made of
-byte_part : (bits levels : List ℕ) (n i : ℕ) → i < 4
-    → part (byte_back 0 bits levels n) i ≡ pair_back 0 bits levels (4 * (n / 12) + i) (coder_of 0 n)
-unfolding byte_back
-byte_part bits levels n i l = grind (arith, back_small, part)
-
 -- the byte at a coder's step
 step_part : (bits levels : List ℕ) (t e : ℕ) → e < 12
     → pair_in (byte_back 0 bits levels (byte_at_step e t)) (t % 276) ≡ pair_back 0 bits levels t e
-unfolding pair_in
-step_part bits levels t e l = grind (arith, part, byte_part, byte_step, byte_coder)
+unfolding pair_in byte_back byte_at_step byte_place group_place coder_of pair_back
+step_part bits levels t e l = grind (arith, part)
 
 -- ---- what is known
 
@@ -289,12 +277,6 @@ as_softened scale pins rows same =
     symbol : (d : ℕ) → pinned_symbol scale pins rows d ≡ softened_symbol scale rows d
     symbol d = grind (arith, coder_small)
 
-own_paths : (scale : ℕ) (heard given : List (List ℤ)) (f : ℕ) → AreDecided scale heard given
-    → NoneIsPutRight (bytes_in given)
-    → paths_in scale heard (known_bytes (bytes_in given)) f ≡ softened scale (groups_in heard f)
-unfolding paths_in
-own_paths scale heard given f is own = grind (arith, as_softened, own_least)
-
 -- ---- the round
 
 whole_place : (i : ℕ) → 0 < i % 313 → 313 * (i / 313) + 1 + (i % 313 - 1) ≡ i
@@ -327,18 +309,13 @@ decided_segment scale heard given known i is paths = by_test (cases_Bool (in_who
         (take_at segment_sync (map (decided scale) (drop 4 path)) 4 sync_long) ∙ sym (row_is e)
     by_test (inr e) = cond-false (in_whole_group given i) _ (get_or given i []) e
 
-own_segment : (scale : ℕ) (heard given : List (List ℤ)) (i : ℕ) → AreDecided scale heard given
-    → NoneIsPutRight (bytes_in given)
-    → round_segment scale heard (known_bytes (bytes_in given)) given i ≡ get_or given i []
-own_segment scale heard given i is own = grind (arith, decided_segment, own_paths)
-
 -- where nothing is put right, nothing moves
 pub own_round : (scale : ℕ) (heard given : List (List ℤ)) → AreDecided scale heard given
     → NoneIsPutRight (bytes_in given) → rounded scale heard given ≡ given
-unfolding rounded
+unfolding rounded paths_in
 own_round scale heard given is own =
     sym (fill_by_all (round_segment scale heard (known_bytes (bytes_in given)) given) given (length given) [] refl
-    (λ i l. sym (own_segment scale heard given i is own)))
+    (λ i l. sym (grind (arith, decided_segment, as_softened, own_least))))
 
 -- a codeword is its own correction
 pub own_code : (bytes : List ℕ) (k : ℕ) (code : List ℕ)

@@ -93,10 +93,6 @@ given_on round t e = cond-true round.on (t - 1) t e
 pub given_off : (round : Round) (t : ℕ) → round.on ≡ false → given_by round t ≡ t
 given_off round t e = cond-false round.on (t - 1) t e
 
-pub passed_none : (scale : ℕ) (heard given : List (List ℤ)) (before : List ℕ) (t : ℕ) (field : Field)
-    → IsInRun scale heard given (known_word before) t field → IsPassed scale heard given before t [] [] true field
-passed_none scale heard given before t field h = record { at = tt; count = refl; given_is = λ _. h }
-
 -- a round that holds a field gives it
 pub passed_on : (scale : ℕ) (heard given : List (List ℤ)) (before : List ℕ) (t : ℕ) (round new : Round)
     (rest after : List Round) (answer : Bool) (taken field : Field) → round.on ≡ true → 0 < t → new.on ≡ true
@@ -132,7 +128,7 @@ passed_off scale heard given before t round new rest field off none new_on held 
 pub passed_all : (scale : ℕ) (heard given : List (List ℤ)) (before : List ℕ) (t : ℕ) (rounds : List Round)
     (field : Field) → length rounds ≡ 0 → IsInRun scale heard given (known_word before) t field
     → IsPassed scale heard given before t rounds rounds true field
-passed_all scale heard given before t [] field e h = passed_none scale heard given before t field h
+passed_all scale heard given before t [] field e h = grind arith
 passed_all scale heard given before t (round ∷ rounds) field e h = absurd (omega arith)
 
 -- ---- the end
@@ -205,15 +201,11 @@ pub off_more : (rounds : List Round) (round : Round) → AreOff rounds → round
 off_more [] round h e = (e, tt)
 off_more (first ∷ rounds) round h e = (h.0, off_more rounds round h.1 e)
 
-is_at_first : (scale : ℕ) (heard given : List (List ℤ)) (before : List ℕ) (round : Round) → round.on ≡ false
-    → IsAt scale heard given before 0 round
-is_at_first scale heard given before round off = grind (arith, true≢false)
-
 pub at_first : (scale : ℕ) (heard given : List (List ℤ)) (before : List ℕ) (rounds : List Round) → AreOff rounds
     → AreAt scale heard given before 0 rounds
 at_first scale heard given before [] h = tt
 at_first scale heard given before (round ∷ rounds) h = (
-  is_at_first scale heard given before round h.0,
+  (grind (arith, true≢false)),
   subst (λ n. AreAt scale heard (rounded scale heard given) (bytes_in given) n rounds) (sym (given_off round 0 h.0))
       (at_first scale heard (rounded scale heard given) (bytes_in given) rounds h.1),
 )
@@ -240,12 +232,6 @@ held_few : (scale count t f : ℕ) (heard given : List (List ℤ)) (rounds : Lis
     → AreAt scale heard given [] t rounds → given_count t rounds ≡ f → t ≤ f + count
 held_few scale count t f heard given rounds long at e = grind (arith, given_and_on, few_on)
 
--- whether each of them holds one
-is_full : (scale count t f : ℕ) (heard given : List (List ℤ)) (rounds : Rounds)
-    → AreMade scale heard given count t f rounds
-    → nat_le (length rounds.rounds.items) (on_count rounds.rounds.items) ≡ nat_le (f + count) t
-is_full scale count t f heard given rounds m = grind (arith, given_and_on, same_test)
-
 -- ---- a run of which nothing is known before
 
 pub run_of : (heard given : List (List ℤ)) → AreSegments given → length heard ≡ length given → IsRun heard given []
@@ -259,7 +245,8 @@ pub taken : (scale count t f : ℕ) (heard given : List (List ℤ)) (old new : R
     → answer ≡ nat_le (length old.rounds.items) (on_count old.rounds.items)
     → IsPassed scale heard given [] t old.rounds.items new.rounds.items answer field
     → AreTaken scale heard given count t f answer new field
-taken scale count t f heard given old new answer field m e long full p = grind (arith, few_given, held_few, is_full)
+taken scale count t f heard given old new answer field m e long full p =
+    grind (arith, few_given, held_few, given_and_on, same_test)
 
 pub finished : (scale count t f : ℕ) (heard given : List (List ℤ)) (old new : Rounds) (answer : Bool) (field : Field)
     → AreMade scale heard given count t f old → new.means.decoder ≡ old.means.decoder

@@ -1,6 +1,6 @@
 -- The pins of twelve bytes, one of each coder, and where they stand among those of a field.
-use Rattle.std.proofs.Common.{◌≡◌, ℕ, zero, suc, ◌+◌, ◌-◌, ◌*◌, ◌/◌, ◌%◌, ◌^◌, ◌<◌, ◌≤◌, Option, Some, None, List, []}
-use Rattle.std.proofs.Common.{◌∷◌, length, map, option_map, unwrap_or, set, take, drop, get_or, refl, ap, ◌∙◌, arith}
+use Rattle.std.proofs.Common.{◌≡◌, ℕ, ◌+◌, ◌-◌, ◌*◌, ◌/◌, ◌%◌, ◌<◌, ◌≤◌, Option, Some, None, List, [], ◌∷◌, length, map}
+use Rattle.std.proofs.Common.{option_map, unwrap_or, set, take, drop, get_or, refl, ap, ◌∙◌, arith}
 use Rattle.std.specs.List.{range_with_len}
 use Rattle.std.proofs.lemmas.List.{get_or-append_right, get_or-drop, get_or-take, get_or_append_left, length-take-le}
 use Rattle.std.proofs.lemmas.List.FromFn.{fill_by_all}
@@ -27,34 +27,18 @@ part_byte a k x bytes l = get_or-take k (drop a bytes) x 0 l ∙ get_or-drop a b
 
 -- ---- pins
 
-same_pair : (o : Option ℕ) (r i : ℕ) → r % 4 ≡ i % 4 → pin_of o r ≡ pin_of o i
-unfolding pair_in
-same_pair None r i e = refl
-same_pair (Some b) r i e = ap (λ x. b / 4 ^ (3 - x) % 4) e
-
-row_byte : (b i e : ℕ) → i < 4 → e < 12 → byte_at_step e (4 * b + i) ≡ 12 * b + (e + 12 - 4 * (4 * b / 69 % 3)) % 12
-unfolding byte_at_step byte_place group_place
-row_byte b i e l m = grind arith
-
 -- the pin of coder e in step i of the four of byte row b
 pub row_pin : (known : List (Option ℕ)) (b i e : ℕ) → i < 4 → e < 12 → known_pin known e (4 * b + i)
     ≡ pin_of (get_or known (12 * b + (e + 12 - 4 * (4 * b / 69 % 3)) % 12) None) i
-unfolding known_pin
-row_pin known b i e l m = grind (arith, row_byte, same_pair)
-
-no_pair : (i : ℕ) → i < 4 → pair_in 0 i ≡ 0
-unfolding pair_in
-no_pair zero l = refl
-no_pair (suc zero) l = refl
-no_pair (suc (suc zero)) l = refl
-no_pair (suc (suc (suc zero))) l = refl
-no_pair (suc (suc (suc (suc i)))) l = absurd (omega arith)
+unfolding known_pin pair_in byte_at_step byte_place group_place
+row_pin known b i e l m = grind arith
 
 -- the pin is a pair of the byte, or 4, which is added where the byte isn't known and 0 stands for it
 pub pin_parts : (i : ℕ) → i < 4 → (byte : Option ℕ)
     → pair_in (unwrap_or byte 0) i + unwrap_or (option_map (λ byte. 0) byte) 4 ≡ pin_of byte i
+unfolding pair_in
 pin_parts i l (Some b) = (let same : pair_in b i + 0 ≡ pair_in b i = omega arith in same)
-pin_parts i l None = ap (λ n. n + 4) (no_pair i l)
+pin_parts i l None = grind arith
 
 -- four rows that were written one by one
 pub four_rows : {X : Type 0} (rows : List (List X)) (a b c d : List X) → length rows ≡ 4

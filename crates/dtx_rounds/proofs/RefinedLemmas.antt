@@ -8,7 +8,7 @@ use Rattle.dtx_rounds.specs.Fields.{AreSegments}
 use Rattle.dtx_rounds.specs.Known.{known_bytes, known_word}
 use Rattle.dtx_rounds.specs.Rounds.{heard_of, refined, rounded, rounds_of, coder_cost, groups_in, paths_in, pins_in}
 use Rattle.dtx_rounds.proofs.Kept.{more_known_costs_more, word_kept}
-use Rattle.dtx_rounds.proofs.RoundLevels.{HasPaths, after_long, length-after}
+use Rattle.dtx_rounds.proofs.RoundLevels.{after_long, length-after}
 
 pub rounds_stay : (scale n : ℕ) (heard given : List (List ℤ)) → rounded scale heard given ≡ given
     → rounds_of scale heard given n ≡ given
@@ -35,11 +35,6 @@ pub refined_stays : (scale r n : ℕ) (symbols : List ℤ) → refined scale sym
 unfolding refined
 refined_stays scale r n symbols e = grind (arith, rounds_more, rounds_stay, refined_next)
 
-has_paths : (scale : ℕ) (heard : List (List ℤ)) (given : List (List ℤ))
-    → HasPaths scale heard (known_bytes (bytes_in given))
-unfolding paths_in
-has_paths scale heard given f = pinned_found scale (pins_in heard (known_bytes (bytes_in given)) f) (groups_in heard f)
-
 -- ---- one round
 
 pub length-rounded : (scale : ℕ) (heard given : List (List ℤ)) → length (rounded scale heard given) ≡ length given
@@ -54,9 +49,9 @@ rounded_long scale heard given long same = after_long scale heard given (known_b
 pub known_stays : (scale k : ℕ) (heard given : List (List ℤ)) (code : List ℕ) → 0 < scale → scale < 19
     → AreSegments given → length heard ≡ length given → known_word (bytes_in given) k ≡ Some code
     → known_word (bytes_in (rounded scale heard given)) k ≡ Some code
-unfolding rounded
-known_stays scale k heard given code some most long same e =
-    word_kept scale heard given k code (has_paths scale heard given) some most long same e
+unfolding rounded paths_in
+known_stays scale k heard given code some most long same e = word_kept scale heard given k code
+    (λ f. pinned_found scale (pins_in heard (known_bytes (bytes_in given)) f) (groups_in heard f)) some most long same e
 
 pub costs_rise : (scale f e : ℕ) (heard given : List (List ℤ)) → 0 < scale → scale < 19 → AreSegments given
     → length heard ≡ length given → e < 12 → coder_cost scale heard (known_bytes (bytes_in given)) f e

@@ -1,7 +1,8 @@
 -- The segments after a round: the levels of a coder are those of its path.
-use Rattle.std.proofs.Common.{◌≡◌, ℕ, ℤ, pos, zero, suc, ◌+◌, ◌-◌, ◌*◌, ◌/◌, ◌%◌, ◌<◌, ◌≤◌, ◌⊎◌, inl, inr, min, nat_eq}
-use Rattle.std.proofs.Common.{Bool, true, false, cond, Option, List, [], ◌∷◌, ◌++◌, length, map, take, drop, get_or}
-use Rattle.std.proofs.Common.{refl, sym, ap, ap₂, ◌∙◌, subst, arith}
+use Rattle.dtx_rounds.proofs.RunLevels.{level_from}
+use Rattle.std.proofs.Common.{◌≡◌, ℕ, ℤ, pos, zero, suc, ◌+◌, ◌-◌, ◌*◌, ◌/◌, ◌%◌, ◌<◌, ◌⊎◌, inl, inr, min, Bool, true}
+use Rattle.std.proofs.Common.{false, cond, Option, List, [], ◌∷◌, ◌++◌, length, map, take, drop, get_or, refl, sym, ap}
+use Rattle.std.proofs.Common.{ap₂, ◌∙◌, subst, arith}
 use Rattle.std.specs.List.{range_with_len}
 use Rattle.std.specs.Ordering.{int_eq}
 use Rattle.std.proofs.lemmas.Bool.{and_from, and_parts, cases_Bool, cond-false, cond-true, le-leb, leb-true, lt-ltb}
@@ -10,7 +11,7 @@ use Rattle.std.proofs.lemmas.Bool.Decides.{Decides-int_eq}
 use Rattle.std.proofs.lemmas.List.{get_or-append_right, get_or-drop, get_or-map, length-append, length-drop, length-map}
 use Rattle.std.proofs.lemmas.List.{length-take, length-take-le}
 use Rattle.std.proofs.lemmas.List.FromFn.{get_or-map-range_with_len, length-map-range_with_len}
-use Rattle.dtx_lists.proofs.Below.{at_below, holds_below}
+use Rattle.dtx_lists.proofs.Below.{at_below}
 use Rattle.dtx_trellis.specs.Trellis.{symbol_of}
 use Rattle.dtx_slice.specs.Slicing.{sliced}
 use Rattle.dtx_slice.specs.Unrolled.{symbol_place}
@@ -24,8 +25,7 @@ use Rattle.dtx_acquire.specs.Sent.{groups_behind}
 use Rattle.dtx_pins.specs.PinnedField.{IsPinned, pinned, pinned_segment}
 use Rattle.dtx_rounds.specs.Fields.{AreSegments}
 use Rattle.dtx_rounds.specs.Rounds.{groups_in, in_whole_group, paths_in, pins_in, round_segment}
-use Rattle.dtx_rounds.proofs.RunLevels.{data_long, data_there, level_in, field_of_segment, place_in, place_in_field}
-use Rattle.dtx_rounds.proofs.RunLevels.{place_segment, segment_in_field}
+use Rattle.dtx_rounds.proofs.RunLevels.{data_long, data_there, field_of_segment, place_in}
 
 -- ---- groups of a field
 
@@ -48,15 +48,11 @@ number_field d = omega arith
 number_place : (d : ℕ) → (d + d / 312 + 1) % 313 ≡ d % 312 + 1
 number_place d = omega arith
 
-number_room : (l d : ℕ) → d < 4 * ((l - (l + 312) / 313) / 4)
-    → d % 312 + 1 ≤ 4 * (min 312 (l - (313 * (d / 312) + 1)) / 4)
-number_room l d h = omega arith
-
 -- where a data segment stands among the groups of its field
 pub place_in_groups : (given : List (List ℤ)) (d : ℕ) → d < 4 * groups_of given
     → d % 312 < length (groups_in given (d / 312))
 unfolding groups_of data_count
-place_in_groups given d l = grind (arith, number_room, length-groups)
+place_in_groups given d l = grind (arith, length-groups)
 
 whole_in : (given : List (List ℤ)) (d : ℕ) → d < 4 * groups_of given → in_whole_group given (d + d / 312 + 1) ≡ true
 unfolding in_whole_group
@@ -122,23 +118,13 @@ path_small (z ∷ levels) state (suc t) h l = path_small levels (next_state stat
 abbrev is_decided : ℕ → Bool
 is_decided n = int_eq (decided (n / 8 + 1) (symbol_at (n / 8 + 1) (n % 8))) (symbol_at 1 (n % 8))
 
-all_are_decided : holds_below is_decided 144 ≡ true
-unfolding scaled_level symbol_at symbol_of
-all_are_decided = refl
-
 pub decided_level : (scale z : ℕ) → 0 < scale → scale < 19 → z < 8 → decided scale (symbol_at scale z) ≡ symbol_at 1 z
+unfolding scaled_level symbol_at symbol_of
 decided_level scale z some most small =
     let second : (8 * (scale - 1) + z) % 8 ≡ z = omega arith in
     sym (ap₂ (λ (c y : ℕ). decided c (symbol_at c y)) (omega arith) second)
-    ∙ (Decides-int_eq _ _).0 (at_below is_decided 144 (8 * (scale - 1) + z) all_are_decided (omega arith))
+    ∙ (Decides-int_eq _ _).0 (at_below is_decided 144 (8 * (scale - 1) + z) refl (omega arith))
     ∙ ap (symbol_at 1) second
-
-sliced_level : (z : ℕ) → z < 8 → sliced (symbol_at 1 z) ≡ z
-unfolding sliced symbol_at
-sliced_level z small = eqb-true _ _ (at_below (λ y. nat_eq (sliced (symbol_at 1 y)) y) 8 z refl small)
-
-level_back : (scale z : ℕ) → 0 < scale → scale < 19 → z < 8 → sliced (decided scale (symbol_at scale z)) ≡ z
-level_back scale z some most small = ap sliced (decided_level scale z some most small) ∙ sliced_level z small
 
 -- the symbol of a coder's path
 path_symbol : (scale : ℕ) (pins : List (List ℕ)) (rows paths : List (List ℤ)) (e t : ℕ) (l : e < 12)
@@ -165,19 +151,15 @@ levels_of scale heard known paths f e l = ((paths f).coders e l).levels
 pub step_there : (t n : ℕ) → t / 69 % 312 < n → t % 21528 < 69 * n
 step_there t n l = omega arith
 
-symbol_there : (paths : List (List ℤ)) (i k t e : ℕ) → i ≡ t / 69 → k ≡ symbol_place 0 t e % 828
-    → get_or (get_or paths i []) (4 + k) (pos 0) ≡ data_symbol paths (symbol_place 0 t e)
-unfolding data_symbol
-symbol_there paths i k t e a b = grind (arith, place_segment, place_in)
-
 -- the level of coder e at step t of a run whose symbols are decided by paths
 pub level_by : (scale : ℕ) (run paths : List (List ℤ)) (own : List ℕ) (t e : ℕ) → 0 < scale → scale < 19
     → AreSegments run → t < 276 * groups_of run → get_or (data_at run (t / 69)) (4 + symbol_place 0 t e % 828) (pos 0)
     ≡ decided scale (get_or (get_or paths (t / 69 % 312) []) (4 + symbol_place 0 t e % 828) (pos 0))
     → data_symbol paths (symbol_place 0 (t % 21528) e) ≡ symbol_at scale (get_or own (t % 21528) 0)
     → get_or own (t % 21528) 0 < 8 → get_or (levels_in run) (symbol_place 0 t e) 0 ≡ get_or own (t % 21528) 0
+unfolding levels_in sliced symbol_at data_symbol symbol_place
 level_by scale run paths own t e some most long m decision path small =
-    grind (arith, place_segment, level_in, place_in, symbol_there, segment_in_field, place_in_field, level_back)
+    grind (arith, level_from, place_in, decided_level, eqb-true, at_below)
 
 -- the same after a round
 pub level_after : (scale : ℕ) (heard given : List (List ℤ)) (known : List (Option ℕ))

@@ -12,7 +12,6 @@ use Rattle.std.proofs.lemmas.List.Sums.{sum_by-cons}
 use Rattle.dtx_lists.proofs.Range.{map-range_same}
 use Rattle.dtx_lists.proofs.RangeMoved.{map-range_moved}
 use Rattle.dtx_lists.proofs.RangeSums.{over, over_parts}
-use Rattle.dtx_outer.specs.Inner.{codeword_byte_place}
 use Rattle.dtx_soft.specs.Softened.{softened_cost}
 use Rattle.dtx_receiver.specs.Bytes.{bytes_in, data_count, groups_of}
 use Rattle.dtx_receiver.proofs.CompleteLemmas.{complete_told}
@@ -40,9 +39,6 @@ use Rattle.dtx_acquire.specs.Acquired as acquirers
 abbrev count : (ℕ → Bool) → ℕ → ℕ
 count p n = length (filter p (range_with_len 0 n))
 
-add_three : (x y z : ℕ) → x + y + z ≡ x + (y + z)
-add_three x y z = omega arith
-
 add_none : (x : ℕ) → x ≡ x + 0
 add_none x = omega arith
 
@@ -51,8 +47,7 @@ count_parts p a zero = (let same : a + 0 ≡ a = omega arith in ap (count p) sam
 count_parts p a (suc m) =
     let one : suc m ≡ m + 1 = omega arith in
     ap (count p) (omega arith) ∙ count_next p (a + m) ∙ ap (λ n. n + cond (p (a + m)) 1 0) (count_parts p a m)
-    ∙ add_three (count p a) (count (λ k. p (a + k)) m) (cond (p (a + m)) 1 0)
-    ∙ ap (λ n. count p a + n) (sym (ap (count (λ k. p (a + k))) one ∙ count_next (λ k. p (a + k)) m))
+    ∙ (omega arith) ∙ ap (λ n. count p a + n) (sym (ap (count (λ k. p (a + k))) one ∙ count_next (λ k. p (a + k)) m))
 
 no_count : (p : ℕ → Bool) (n : ℕ) → ((k : ℕ) → p k ≡ false) → count p n ≡ 0
 no_count p zero none = refl
@@ -82,9 +77,6 @@ count_of_fields p (suc n) =
 
 -- ---- words
 
-place_past : (p : ℕ) → p ≤ codeword_byte_place 52 4 p
-place_past p = omega arith
-
 -- no word is known of which no byte is there
 unknown_past : (bytes : List ℕ) (k : ℕ) → length bytes / 207 ≤ k → is_some (known_word bytes k) ≡ false
 unknown_past bytes k past = by_word (known_word bytes k) refl
@@ -93,18 +85,14 @@ unknown_past bytes k past = by_word (known_word bytes k) refl
     by_word None e = refl
     by_word (Some code) e =
         let there = (complete_told (length bytes) k).0 (known_parts bytes k code e).complete 206 (omega arith) in
-        absurd (omega (arith, past, there, place_past (207 * k + 206)))
-
-words_in_fields : (n : ℕ) → (828 * ((n - (n + 312) / 313) / 4)) / 207 ≤ 312 * ((n + 312) / 313)
-words_in_fields n = omega arith
+        absurd (omega (arith, past, there))
 
 known_in_fields : (given : List (List ℤ)) → AreSegments given
     → count (λ k. is_some (known_word (bytes_in given) k)) (312 * fields_in given) ≡ known_count (bytes_in given)
 unfolding known_count groups_of data_count
 known_in_fields given long =
     let n : ℕ = length (bytes_in given) / 207 in
-    let few : n ≤ 312 * fields_in given =
-    omega (arith, ap (λ l. l / 207) (length-bytes given long), words_in_fields (length given)) in
+    let few : n ≤ 312 * fields_in given = omega (arith, ap (λ l. l / 207) (length-bytes given long)) in
     let whole : n + (312 * fields_in given - n) ≡ 312 * fields_in given = omega (arith, few) in
     ap (count p) (sym whole) ∙ count_parts p n (312 * fields_in given - n)
     ∙ ap (λ m. count p n + m) (no_count (λ k. p (n + k)) (312 * fields_in given - n)
@@ -167,17 +155,8 @@ costs_whole scale r symbols some most = grind (arith, over, fields_same, length-
 abbrev run_cost : ℕ → List (List ℤ) → ℕ
 run_cost scale heard = over (λ f. softened_cost scale (groups_in heard f)) 0 (fields_in heard)
 
-none_more : (n : ℕ) → n + 0 ≡ n
-none_more n = omega arith
-
 none_before : (n : ℕ) → 0 + n ≡ n
 none_before n = omega arith
-
-one_field : (n : ℕ) → 0 < n → n ≤ 313 → (n + 312) / 313 ≡ 0 + 1
-one_field n l m = omega arith
-
-next_field : (n m : ℕ) → n ≡ 313 → (n + m + 312) / 313 ≡ 1 + (m + 312) / 313
-next_field n m e = omega arith
 
 -- a whole field in front
 cost_next : (scale : ℕ) (sync : List ℤ) (rows rest : List (List ℤ)) → length rows ≡ 312
@@ -190,7 +169,7 @@ cost_next scale sync rows rest e = sym (ap (over costs 0) count ∙ over_parts c
     costs f = softened_cost scale (groups_in ((sync ∷ rows) ++ rest) f)
 
     count : fields_in ((sync ∷ rows) ++ rest) ≡ 1 + fields_in rest
-    count = grind (arith, length-append, next_field)
+    count = grind (arith, length-append)
 
     first : 0 + costs 0 ≡ softened_cost scale (in_groups rows)
     first = none_before (costs 0) ∙ ap (softened_cost scale) (groups_first sync rows rest (inl e))
@@ -201,11 +180,6 @@ cost_next scale sync rows rest e = sym (ap (over costs 0) count ∙ over_parts c
         let there : j ≡ 0 + j = omega arith in
         ap costs here ∙ ap (softened_cost scale) (groups_next (sync ∷ rows) rest j (ap suc e))
         ∙ ap (λ f. softened_cost scale (groups_in rest f)) there
-
--- a field that is the last one
-cost_last : (scale : ℕ) (sync : List ℤ) (rows rest : List (List ℤ)) → length rows ≤ 312 → rest ≡ []
-    → softened_cost scale (in_groups rows) ≡ run_cost scale ((sync ∷ rows) ++ rest)
-cost_last scale sync rows rest l e = grind (arith, over, one_field, sum_next, none_before, groups_first, length-append)
 
 -- fields of no segments cost nothing, and the others are those of the run
 cost_of_fields : (scale : ℕ) (fields : List acquirers.Field) → AreFields fields
@@ -225,7 +199,8 @@ cost_of_fields scale (x ∷ xs) h =
     by_segments : (segments : List (List ℤ)) → x.segments ≡ segments → cost_of scale xs ≡ run_cost scale (heard_in xs)
         → path_cost scale segments + cost_of scale xs ≡ run_cost scale (segments ++ heard_in xs)
     by_segments [] e rest = none_before (cost_of scale xs) ∙ rest
-    by_segments (sync ∷ rows) e rest = grind (arith, cost_next, none_more, cost_last)
+    by_segments (sync ∷ rows) e rest =
+        grind (arith, cost_next, over, sum_next, none_before, groups_first, length-append)
 
 pub costs_begin : (scale : ℕ) (symbols : List ℤ) → AreFields (all_fields symbols)
     → acquired_cost scale symbols ≤ round_cost scale (heard_of symbols) (refined scale symbols 0)

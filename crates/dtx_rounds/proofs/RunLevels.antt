@@ -1,74 +1,38 @@
 -- Where the symbols and bytes of coders stand in a run, and the levels and bytes of a run of segments of 832 symbols,
 -- one by one. A field has 312 data segments, so 21528 steps.
 use Rattle.std.proofs.Common.{◌≡◌, ℕ, ◌+◌, ◌-◌, ◌*◌, ◌/◌, ◌%◌, ◌<◌, ◌≤◌, refl, arith, ℤ, pos, zero, suc, List, length}
-use Rattle.std.proofs.Common.{drop, get_or, ap, ap₂, ◌∙◌}
+use Rattle.std.proofs.Common.{drop, get_or, ap, ◌∙◌}
 use Rattle.std.specs.List.{range_with_len, flat_map}
 use Rattle.std.proofs.lemmas.List.{get_or-append_right, get_or-drop, get_or-map, get_or_append_left, length-append}
 use Rattle.std.proofs.lemmas.List.{length-drop}
 use Rattle.std.proofs.lemmas.List.FromFn.{get_or-map-range_with_len, length-map-range_with_len}
-use Rattle.dtx_trellis.specs.Pairs.{byte_place, group_place}
 use Rattle.dtx_slice.specs.Slicing.{sliced, sliced_data}
-use Rattle.dtx_slice.specs.Unrolled.{coder_of, symbol_place, byte_back, bytes_back, level_groups}
+use Rattle.dtx_slice.specs.Unrolled.{symbol_place, byte_back, bytes_back, level_groups}
 use Rattle.dtx_receiver.specs.Bytes.{bytes_in, data_at, data_count, first_bits, groups_of, levels_from, levels_in}
 use Rattle.dtx_receiver.proofs.SegmentsLemmas.{segment_long}
 use Rattle.dtx_rounds.specs.Fields.{AreSegments}
-use Rattle.dtx_rounds.specs.Pins.{byte_at_step}
 
 -- ---- symbols
 
--- a symbol's data segment, and its place there
-pub place_segment : (t e : ℕ) → symbol_place 0 t e ≡ 828 * (t / 69) + symbol_place 0 t e % 828
-unfolding symbol_place
-place_segment t e = omega arith
-
 pub place_in : (t e : ℕ) → symbol_place 0 t e % 828 < 828
 place_in t e = omega arith
-
--- the same in its field
-pub place_in_field : (t e : ℕ) → symbol_place 0 t e % 828 ≡ symbol_place 0 (t % 21528) e % 828
-unfolding symbol_place
-place_in_field t e = grind arith
-
-pub segment_in_field : (t : ℕ) → t / 69 % 312 ≡ t % 21528 / 69
-segment_in_field t = omega arith
 
 pub field_of_segment : (t : ℕ) → t / 69 / 312 ≡ t / 21528
 field_of_segment t = omega arith
 
 -- ---- bytes
 
--- a coder works on a byte in four steps
-pub step_byte : (n i : ℕ) → i < 4 → byte_at_step (coder_of 0 n) (4 * (n / 12) + i) ≡ n
-unfolding byte_at_step byte_place group_place coder_of
-step_byte n i l = grind arith
-
--- which pair of the byte it is
-pub step_pair : (n i : ℕ) → i < 4 → (4 * (n / 12) + i) % 276 % 4 ≡ i
-step_pair n i l = omega arith
-
 -- byte 0 of a word alone may be one whose first step is the first of a field
 pub later_step : (k j i : ℕ) → 0 < j → j < 207 → i < 4
     → 0 < (4 * ((207 * k + j + 52 * 4 * ((207 * k + j) % 52)) / 12) + i) % 21528
 later_step k j i a b c = grind arith
 
--- the step of a coder's byte, back from the byte
-pub byte_coder : (t e : ℕ) → e < 12 → coder_of 0 (byte_at_step e t) ≡ e
-unfolding byte_at_step byte_place group_place coder_of
-byte_coder t e l = grind arith
-
-pub byte_step : (t e : ℕ) → 4 * (byte_at_step e t / 12) + t % 4 ≡ t
-unfolding byte_at_step byte_place group_place
-byte_step t e = omega arith
-
 -- ---- rows of 828 numbers
-
-same_place : (a b k : ℕ) (f : ℕ → List ℕ) (x : ℕ) → a ≡ b → x ≡ k → get_or (f a) x 0 ≡ get_or (f b) k 0
-same_place a b k f x e h = ap₂ (λ i j. get_or (f i) j 0) e h
 
 row_at : (f : ℕ → List ℕ) (a n i k : ℕ) → ((j : ℕ) → a ≤ j → j < a + n → length (f j) ≡ 828) → i < n → k < 828
     → get_or (flat_map f (range_with_len a n)) (828 * i + k) 0 ≡ get_or (f (a + i)) k 0
 row_at f a zero i k h l m = absurd (omega arith)
-row_at f a (suc n) zero k h l m = grind (arith, get_or_append_left, same_place)
+row_at f a (suc n) zero k h l m = grind (arith, get_or_append_left)
 row_at f a (suc n) (suc i) k h l m =
     let first : length (f a) ≡ 828 = h a (omega arith) (omega arith) in
     let there : 828 * suc i + k - 828 ≡ 828 * i + k = omega arith in
@@ -88,13 +52,10 @@ rows_long f a (suc n) h =
 
 -- ---- levels
 
-index_there : (l d : ℕ) → d < 4 * ((l - (l + 312) / 313) / 4) → d + d / 312 + 1 < l
-index_there l d h = omega arith
-
 -- a data segment in a whole group
 pub data_there : (run : List (List ℤ)) (d : ℕ) → d < 4 * groups_of run → d + d / 312 + 1 < length run
 unfolding groups_of data_count
-data_there run d l = index_there (length run) d l
+data_there run d l = grind arith
 
 pub data_long : (run : List (List ℤ)) (d : ℕ) → AreSegments run → d < 4 * groups_of run → length (data_at run d) ≡ 832
 unfolding data_at
@@ -115,26 +76,16 @@ level_from run n d k h few l m =
     ∙ ap (λ i. get_or (sliced_data (data_at run i)) k 0) (omega arith)
     ∙ get_or-map sliced (drop 4 (data_at run d)) k (pos 0) 0 rest ∙ ap sliced (get_or-drop 4 (data_at run d) k (pos 0))
 
--- the same among all
-pub level_in : (run : List (List ℤ)) (d k : ℕ) → AreSegments run → d < 4 * groups_of run → k < 828
-    → get_or (levels_in run) (828 * d + k) 0 ≡ sliced (get_or (data_at run d) (4 + k) (pos 0))
-unfolding levels_in
-level_in run d k h l m = level_from run (4 * groups_of run) d k h (omega arith) l m
-
 pub length-from : (run : List (List ℤ)) (a n : ℕ) → AreSegments run → a + n ≤ 4 * groups_of run
     → length (levels_from run a n) ≡ 828 * n
 unfolding levels_from
 length-from run a n h l = grind (arith, rows_long, segment_long, data_long)
 
-pub length-levels : (run : List (List ℤ)) → AreSegments run → length (levels_in run) ≡ 3312 * groups_of run
-unfolding levels_in levels_from
-length-levels run h = grind (arith, rows_long, rows_are)
-
 -- ---- bytes
 
 pub level_groups_are : (run : List (List ℤ)) → AreSegments run → level_groups (levels_in run) ≡ groups_of run
-unfolding level_groups
-level_groups_are run h = (let long = length-levels run h in omega (arith, long))
+unfolding level_groups levels_in levels_from
+level_groups_are run h = grind (arith, rows_long, rows_are)
 
 pub length-bytes : (run : List (List ℤ)) → AreSegments run → length (bytes_in run) ≡ 828 * groups_of run
 unfolding bytes_in bytes_back

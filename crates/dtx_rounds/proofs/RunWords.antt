@@ -8,7 +8,7 @@ use Rattle.std.proofs.lemmas.Bool.{lt-ltb}
 use Rattle.std.proofs.lemmas.List.{get_or_past, get_or-drop, length-drop, get_or_default}
 use Rattle.std.proofs.lemmas.List.FromFn.{get_or-map-range_with_len, length-map-range_with_len}
 use Rattle.dtx_laws.specs.Words.{correction}
-use Rattle.dtx_outer.specs.Inner.{IsComplete, codeword_byte_place, word_at}
+use Rattle.dtx_outer.specs.Inner.{IsComplete, word_at}
 use Rattle.dtx_outer.proofs.WordsLemmas.{get_or-word, length-word, word_by}
 use Rattle.dtx_receiver.specs.Packets.{is_complete}
 use Rattle.dtx_receiver.proofs.CompleteLemmas.{complete_all, complete_only, complete_told}
@@ -70,14 +70,10 @@ complete_in_run f s m k (inr h) l c = complete_all s (312 * f + k) (elim (comple
   | inr a ↦ inr (omega (arith, a.0, h), omega (arith, a.1))
 ])
 
-place_in_field : (f k j : ℕ) → codeword_byte_place 52 4 (207 * (312 * f + k) + j)
-    ≡ 64584 * f + codeword_byte_place 52 4 (207 * k + j)
-place_in_field f k j = grind arith
-
 word_in_field : (bytes : List ℕ) (f k : ℕ)
     → word_at 207 52 4 bytes (312 * f + k) ≡ word_at 207 52 4 (drop (64584 * f) bytes) k
 word_in_field bytes f k = word_by 207 52 4 (drop (64584 * f) bytes) k (word_at 207 52 4 bytes (312 * f + k))
-    (length-word 207 52 4 bytes (312 * f + k)) (λ j l. grind (arith, get_or-word, place_in_field, get_or-drop))
+    (length-word 207 52 4 bytes (312 * f + k)) (λ j l. grind (arith, get_or-word, get_or-drop))
 
 -- a word that begins in a field
 pub known_in_field : (bytes : List ℕ) (f s m k : ℕ) → length bytes ≡ 207 * s → AreThere f s m → k < 312
@@ -151,15 +147,11 @@ pub none_behind : (there : List ℕ) (words : List Bool) (k : ℕ) → length wo
 unfolding new_code
 none_behind there words k l = ap (λ b. cond b None (known_word there k)) (get_or_past words k true l)
 
-or_none : {A : Type 0} (o : Option A) → or_else o None ≡ o
-or_none None = refl
-or_none (Some x) = refl
-
 -- each word is known as it is of the bytes now
 pub sought_word : (before now there : List ℕ) (f k : ℕ) (words : List Bool) → AreSought before now there f words
     → k < 312 → or_else (new_code there words k) (known_word before (312 * f + k)) ≡ known_word now (312 * f + k)
 unfolding new_code
-sought_word before now there f k words h l = grind (arith, get_or_default, or_none)
+sought_word before now there f k words h l = grind (arith, get_or_default)
 
 -- ---- what is known with them
 

@@ -1,14 +1,13 @@
 -- What is refined of first symbols, whatever follows them. A round leaves the first fields of a run as it leaves those
 -- of its front alone. The front has one field more, since a word that begins in a field ends in the next one at the
 -- latest.
-use Rattle.std.proofs.Common.{◌≡◌, ℕ, ℤ, zero, suc, ◌+◌, ◌-◌, ◌*◌, ◌/◌, ◌%◌, ◌<◌, ◌≤◌, Option, None, List, [], ◌++◌}
-use Rattle.std.proofs.Common.{length, take, drop, refl, sym, ap, ap₂, ◌∙◌, subst, arith, take-add, ◌⊎◌, inl, inr}
-use Rattle.std.proofs.Common.{append_assoc, take-append-drop, Some}
+use Rattle.std.proofs.Common.{◌≡◌, ℕ, ℤ, zero, suc, ◌+◌, ◌-◌, ◌*◌, ◌/◌, ◌<◌, ◌≤◌, Option, None, List, [], ◌++◌, length}
+use Rattle.std.proofs.Common.{take, drop, refl, sym, ap, ap₂, ◌∙◌, subst, arith, take-add, ◌⊎◌, inl, inr, append_assoc}
+use Rattle.std.proofs.Common.{take-append-drop, Some}
 use Rattle.std.proofs.lemmas.Bool.{cond-true, cases_lt}
 use Rattle.std.proofs.lemmas.List.{drop-take, get_or-drop, get_or-take, length-take-le, take-take, take_all, append-nil}
 use Rattle.std.proofs.lemmas.List.{length-append, take_at}
 use Rattle.dtx_lists.proofs.RangeMoved.{flat_map-range_same}
-use Rattle.dtx_outer.specs.Inner.{IsComplete, codeword_byte_place}
 use Rattle.dtx_slice.specs.Unrolled.{bytes_back, precoder_bits_after}
 use Rattle.dtx_receiver.specs.Bytes.{bytes_in, data_at, data_count, first_bits, groups_of, levels_from}
 use Rattle.dtx_receiver.proofs.CompleteLemmas.{complete_told}
@@ -45,18 +44,11 @@ front_groups : (t : ℕ) (run : List (List ℤ)) → 313 * (t + 1) ≤ length ru
 unfolding groups_of data_count
 front_groups t run room = grind (arith, length-take-le, whole_groups)
 
-groups_room : (n l : ℕ) → 313 * n ≤ l → 78 * n ≤ (l - (l + 312) / 313) / 4
-groups_room n l h = omega arith
-
 run_groups : (t : ℕ) (run : List (List ℤ)) → 313 * (t + 1) ≤ length run → 78 * (t + 1) ≤ groups_of run
 unfolding groups_of data_count
-run_groups t run room = groups_room (t + 1) (length run) room
+run_groups t run room = grind arith
 
 -- ---- its bytes
-
-front_bits : (t : ℕ) (run : List (List ℤ)) → first_bits (front t run) ≡ first_bits run
-unfolding first_bits
-front_bits t run = grind (arith, get_or-take)
 
 front_levels : (t n : ℕ) (run : List (List ℤ)) → n ≤ 312 * (t + 1) → levels_from (front t run) 0 n ≡ levels_from run 0 n
 unfolding levels_from data_at
@@ -73,30 +65,20 @@ first_bytes t run long room =
 
 front_bytes : (t : ℕ) (run : List (List ℤ)) → AreSegments run → 313 * (t + 1) ≤ length run
     → bytes_in (front t run) ≡ take (64584 * (t + 1)) (bytes_in run)
+unfolding first_bits
 front_bytes t run long room = sym (grind (arith, take_all, length-bytes, front_long, front_groups))
     ∙ first_bytes t (front t run) (front_long t run long room) (omega (arith, front_groups t run room))
-    ∙ ap₂ (λ bits levels. bytes_back 0 bits levels)
-    (ap₂ (λ bits levels. precoder_bits_after 0 bits levels) (front_bits t run) (front_levels t 0 run (omega arith)))
+    ∙ ap₂ (λ bits levels. bytes_back 0 bits levels) (grind (arith, get_or-take, front_levels))
     (front_levels t (312 * (t + 1)) run (omega arith)) ∙ sym (first_bytes t run long (run_groups t run room))
 
 -- ---- what is known of them
 
--- a word whose bytes are all among the first ones
-word_front : (bytes : List ℕ) (n k : ℕ) → n ≤ length bytes → IsComplete 207 52 4 n k
-    → known_word (take n bytes) k ≡ known_word bytes k
-unfolding known_word
-word_front bytes n k l c = grind (arith, known_there, cond-true, complete_told)
-
--- the word of a byte ends in the field behind the byte's at the latest
-word_ends : (t n j : ℕ) → n < 64584 * t → 208 * (n % 52) ≤ n → j < 207
-    → codeword_byte_place 52 4 (207 * ((n - 208 * (n % 52)) / 207) + j) < 64584 * (t + 1)
-word_ends t n j l m s = omega arith
-
 byte_front : (bytes : List ℕ) (t n : ℕ) → 64584 * (t + 1) ≤ length bytes → n < 64584 * t
     → known_byte (take (64584 * (t + 1)) bytes) n ≡ known_byte bytes n
+unfolding known_word
 byte_front bytes t n room l = sym (known_byte_same (take (64584 * (t + 1)) bytes) n)
     ∙ code_byte_same (known_word (take (64584 * (t + 1)) bytes)) (known_word bytes) n
-    (λ valid. grind (arith, word_front, word_ends)) ∙ known_byte_same bytes n
+    (λ valid. grind (arith, known_there, cond-true, complete_told)) ∙ known_byte_same bytes n
 
 -- all that is known of the bytes of a run's first t fields is known of its front
 pub known_front : (t n : ℕ) (run : List (List ℤ)) → AreSegments run → 313 * (t + 1) ≤ length run → n < 64584 * t
