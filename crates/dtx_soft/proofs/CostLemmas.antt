@@ -1,6 +1,6 @@
 -- What the least paths of a field cost at most, where its symbols are signed bytes.
-use Rattle.std.proofs.Common.{◌≡◌, ℕ, zero, suc, ℤ, pos, ◌+◌, ◌*◌, ◌<◌, ◌≤◌, ◌-ℤ◌, nat_abs, List, [], ◌∷◌, length, map}
-use Rattle.std.proofs.Common.{sum, sym, ap, ◌∙◌, subst, arith}
+use Rattle.std.proofs.Common.{◌≡◌, ℕ, zero, suc, ℤ, ◌+◌, ◌*◌, ◌<◌, ◌≤◌, ◌-ℤ◌, nat_abs, List, [], ◌∷◌, length, map, sum}
+use Rattle.std.proofs.Common.{sym, ap, ◌∙◌, subst, arith}
 use Rattle.std.specs.List.{range_with_len, zip, AllByRecursion}
 use Rattle.std.proofs.lemmas.Int.{ints}
 use Rattle.std.proofs.lemmas.List.FromFn.{length-map-range_with_len, sum_by-map-range_with_len_more}
@@ -67,8 +67,7 @@ coder_small scale old e new h least =
     subst (λ n. distance (coder_symbols old e) new ≤ most_square scale * n) long most
 
 -- a sum of n numbers, each at most `most`
-pub sums_small : (f : ℕ → ℕ) (most n : ℕ) → ((e : ℕ) → e < n → f e ≤ most)
-    → sum (map f (range_with_len 0 n)) ≤ n * most
+pub sums_small : (f : ℕ → ℕ) (most n : ℕ) → ((e : ℕ) → e < n → f e ≤ most) → sum (map f (range_with_len 0 n)) ≤ n * most
 sums_small f most zero h = omega arith
 sums_small f most (suc n) h =
     let next : suc n ≡ n + 1 = omega arith in
