@@ -1,6 +1,6 @@
 -- The answer at a whole group, from its own order and whether the group before it was sent.
-use Rattle.std.proofs.Common.{◌≡◌, ℕ, ℤ, ◌%◌, ◌==◌, Bool, false, cond, Option, Some, None, option_map, Result, Ok, Err}
-use Rattle.std.proofs.Common.{List, [], ◌∷◌, refl, sym, ap, ap₂, ◌∙◌, arith}
+use Rattle.std.proofs.Common.{◌≡◌, ℕ, ℤ, ◌%◌, ◌==◌, Bool, cond, Option, Some, None, option_map, Result, Ok, Err, List}
+use Rattle.std.proofs.Common.{[], ◌∷◌, refl, sym, ap, ap₂, ◌∙◌, arith}
 use Rattle.std.specs.Prelude.{is_ok}
 use Rattle.std.specs.List.{cons_option}
 use Rattle.std.proofs.lemmas.Bool.{cond-true, cond-false, eq-eqb, ne_eqb}
@@ -48,16 +48,8 @@ told_group_is address delay i j None (order ∷ older) p sent e k s h = ap (λ b
     ∙ old_told i order (offset_of (entry_in_force address (order ∷ older))) (served address delay (order ∷ older))
     (h order older refl)
 
-not_sent : (why : Option Why) → is_sent (told_why why) ≡ false
-not_sent None = refl
-not_sent (Some why) = refl
-
-sent_by_result : (i : ℕ) (order : Order) (z : ℤ) (r : Result ℕ (Option Why)) → is_sent (told_by i order z r) ≡ is_ok r
-sent_by_result i order z (Ok hold) = refl
-sent_by_result i order z (Err why) = grind (arith, not_sent)
-
 -- a group is sent exactly where the order in force serves
 pub sent_is_served : (address delay i : ℕ) (r : List Order)
     → is_sent (told_at address delay i r) ≡ is_served address delay r
 sent_is_served address delay i [] = refl
-sent_is_served address delay i (order ∷ older) = grind (arith, sent_by_result)
+sent_is_served address delay i (order ∷ older) = grind arith

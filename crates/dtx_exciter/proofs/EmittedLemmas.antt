@@ -58,10 +58,6 @@ a53_step f v l =
     (take-take (4 * v) (4 * v + 4) f (omega arith)) one
     ∙ ap (λ x. a53 (take (4 * v) f) ++ x) (append-nil (group_segments (take (4 * v + 4) f) v))
 
-length-sync : (f : List (List ℕ)) (v : ℕ) → length (sync_before f v) + (v + 77) / 78 ≡ v / 78 + 1
-unfolding sync_before
-length-sync f v = grind (arith, cases_lt, cond-false, ne_eqb, cond-true, eq-eqb)
-
 pub length-front : (f : List (List ℕ)) (v : ℕ) → 4 * v ≤ length f
     → length (a53 (take (4 * v) f)) ≡ 4 * v + (v + 77) / 78
 length-front f v l = length-a53 (take (4 * v) f) ∙ omega (arith, length-take-le (4 * v) f l)
@@ -69,13 +65,14 @@ length-front f v l = length-a53 (take (4 * v) f) ∙ omega (arith, length-take-l
 -- the first group's data segments
 pub stretch_first : (f : List (List ℕ)) (v : ℕ) → 4 * v + 4 ≤ length f
     → stretch f (4 * v) (4 * v + 4) ≡ four_segments (levels (take (4 * v + 4) f)) (4 * v)
-unfolding stretch group_segments
+unfolding stretch group_segments sync_before
 stretch_first f v l =
     let front : List (List ℤ) = a53 (take (4 * v) f) in
     let sync : List (List ℤ) = sync_before (take (4 * v + 4) f) v in
     let four : List (List ℤ) = four_segments (levels (take (4 * v + 4) f)) (4 * v) in
     ap (drop (segment_place (4 * v))) (a53_step f v l ∙ sym (append_assoc front sync four))
-    ∙ drop_at (front ++ sync) four (segment_place (4 * v)) (grind (arith, length-append, length-front, length-sync))
+    ∙ drop_at (front ++ sync) four (segment_place (4 * v))
+    (grind (arith, length-append, length-front, cases_lt, cond-false, ne_eqb, cond-true, eq-eqb))
 
 -- one group more
 pub stretch_next : (f : List (List ℕ)) (k v : ℕ) → 4 * v + 4 ≤ length f → k + 4 ≤ 4 * v

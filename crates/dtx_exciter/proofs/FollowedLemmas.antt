@@ -1,6 +1,6 @@
 -- An exciter behind a feed's mark: the packets under its anchor, what it gives, and what it answers.
 use Rattle.std.proofs.Common.{◌≡◌, ◌≢◌, ℕ, ℤ, ◌+◌, ◌-◌, ◌%◌, ◌<◌, ◌≤◌, ◌==◌, Some, List, [], ◌∷◌, ◌++◌, length, take}
-use Rattle.std.proofs.Common.{drop, map, get_or, sym, ap, ◌∙◌, arith}
+use Rattle.std.proofs.Common.{drop, get_or, sym, ap, ◌∙◌, arith}
 use Rattle.std.proofs.lemmas.Bool.{cond-false, ne_eqb}
 use Rattle.std.proofs.lemmas.List.{append_assoc, get_or-drop, get_or-map, get_or-take, length-append, length-drop}
 use Rattle.std.proofs.lemmas.List.{length-map, length-take-le, drop-append-le, take-map, take-take, take_more}
@@ -31,10 +31,6 @@ pub syncs_append : (xs ys : List (List ℕ)) → syncs (xs ++ ys) ≡ syncs xs +
 unfolding syncs
 syncs_append xs ys = map-append sync_of xs ys
 
-syncs_take : (j n : ℕ) (xs : List (List ℕ)) → j ≤ n → take j (syncs (take n xs)) ≡ syncs (take j xs)
-unfolding syncs
-syncs_take j n xs l = take-map sync_of j (take n xs) ∙ ap (map sync_of) (take-take j n xs l)
-
 -- after j packets of the feed
 abbrev pub after : List (List ℕ) → List (List ℕ) → ℕ → ℕ → List (List ℕ)
 after earlier feed mark j = earlier ++ take j (drop mark feed)
@@ -55,7 +51,7 @@ pub record Follows (earlier feed : List (List ℕ)) (mark n : ℕ) : Type 0 wher
 
 pub follows : (a d : ℕ) (z : ℤ) (earlier feed : List (List ℕ)) (mark n : ℕ) → IsFeed a d z feed → mark % 624 ≡ 0
     → mark + n ≤ length feed → 0 < n → IsInStep (syncs earlier) → Follows earlier feed mark n
-unfolding under anchor_of
+unfolding under anchor_of syncs
 follows a d z earlier feed mark n f m l s t = by_anchor (grind (arith, anchored, marked_part, long))
   where
     long : length (syncs (take n (drop mark feed))) ≡ n
@@ -67,7 +63,8 @@ follows a d z earlier feed mark n f m l s t = by_anchor (grind (arith, anchored,
         let within : w.place ≤ length earlier = let x = w.within in omega (arith, x, length-syncs earlier) in
         let steps = w.steps in
         let anchors : (j : ℕ) → j < n → anchor (syncs (after earlier feed mark (j + 1))) ≡ Some w.place = λ j h.
-        ap anchor (grind (arith, syncs_append, syncs_take)) ∙ w.holds j (omega arith) (omega (arith, h, long)) in
+        ap anchor (grind (arith, syncs_append, take-map, take-take))
+        ∙ w.holds j (omega arith) (omega (arith, h, long)) in
         record {
           base = drop w.place earlier;
           in_step = omega (arith, steps, length-drop w.place earlier, length-syncs earlier);

@@ -1,7 +1,6 @@
 -- The orders so far, over one packet more.
-use Rattle.std.proofs.Common.{◌≡◌, ◌≢◌, ℕ, zero, suc, ◌+◌, ◌-◌, ◌%◌, ◌<◌, ◌≤◌, ◌==◌, ◌&&◌, Bool, true, false, cond}
-use Rattle.std.proofs.Common.{Option, Some, None, List, [], ◌∷◌, ◌++◌, length, refl, ap, ap₂, subst, ◌∙◌, arith}
-use Rattle.std.specs.Prelude.{nat_le}
+use Rattle.std.proofs.Common.{◌≡◌, ◌≢◌, ℕ, zero, suc, ◌+◌, ◌-◌, ◌%◌, ◌<◌, ◌≤◌, Option, Some, None, List, [], ◌∷◌, ◌++◌}
+use Rattle.std.proofs.Common.{length, refl, ap, ap₂, subst, ◌∙◌, arith}
 use Rattle.std.specs.List.{cons_option}
 use Rattle.std.proofs.lemmas.Bool.{cond-false, eqb-true, ne_eqb, and_left, and_right, and_parts, lt-leb, leb-true}
 use Rattle.std.proofs.lemmas.List.{get_or_append_left}
@@ -24,18 +23,9 @@ latest_skip f n m e h = ap (latest_first f) e ∙ latest_more f n ∙ ap (λ o. 
 
 -- ---- what is ordered stays where a packet is added
 
-order_left : (l rest : List (Option Ops)) (g : ℕ) → g + 4 ≤ length l → order_at (l ++ rest) g ≡ order_at l g
-unfolding order_at
-order_left l rest g h = grind (arith, get_or_append_left)
-
-pub counted_left : (l rest : List (Option Ops)) (g : ℕ) → g + 4 ≤ length l
-    → counting_order (l ++ rest) g ≡ counting_order l g
-unfolding counting_order
-counted_left l rest g h = ap (λ o. cond (nat_le 52 g && (g % 4 == 0)) o None) (order_left l rest g h)
-
 pub force_left : (l rest : List (Option Ops)) (i : ℕ) → i + 4 ≤ length l → orders (l ++ rest) i ≡ orders l i
-unfolding orders
-force_left l rest i h = grind (arith, latest_same, counted_left)
+unfolding orders counting_order order_at
+force_left l rest i h = grind (arith, latest_same, get_or_append_left)
 
 -- ---- a group further
 
@@ -78,13 +68,10 @@ pub record Stands (l : List (Option Ops)) (n : ℕ) (order : Order) : Type 0 whe
   pub below : order.place < n
   pub counts : counting_order l order.place ≡ Some order.ops
 
-stands_further : (l : List (Option Ops)) (n : ℕ) (order : Order) → Stands l n order → Stands l (n + 1) order
-stands_further l n order s = record { below = let a = s.below in omega (arith, a); counts = s.counts }
-
 stands_here : (l : List (Option Ops)) (g : ℕ) (o : Option Ops) (r : List Order) (order : Order) (older : List Order)
     → counting_order l g ≡ o
     → cons_option (placed g o) r ≡ order ∷ older → (r ≡ order ∷ older → Stands l g order) → Stands l (g + 1) order
-stands_here l g None r order older e h f = stands_further l g order (f h)
+stands_here l g None r order older e h f = grind arith
 stands_here l g (Some ops) r order older e h f = grind arith
 
 latest_stands : (l : List (Option Ops)) (n : ℕ) (order : Order) (older : List Order)
@@ -99,16 +86,10 @@ pub force_stands : (l : List (Option Ops)) (i : ℕ) (order : Order) (older : Li
 unfolding orders
 force_stands l i order older e = latest_stands l (i + 1) order older e
 
--- a group that counts begins 52 or more packets behind the anchor
-counted_test : (l : List (Option Ops)) (g : ℕ) (ops : Ops) (t : Bool) → (nat_le 52 g && (g % 4 == 0)) ≡ t
-    → counting_order l g ≡ Some ops → (nat_le 52 g && (g % 4 == 0)) ≡ true
-unfolding counting_order
-counted_test l g ops true e h = e
-counted_test l g ops false e h = grind (arith, cond-false)
-
 pub record IsBehind (g : ℕ) : Type 0 where
   pub flushed : 52 ≤ g
   pub whole : g % 4 ≡ 0
 
 pub counted_behind : (l : List (Option Ops)) (g : ℕ) (ops : Ops) → counting_order l g ≡ Some ops → IsBehind g
-counted_behind l g ops h = grind (arith, and_parts, counted_test, leb-true, eqb-true)
+unfolding counting_order
+counted_behind l g ops h = grind (arith, and_parts, cond-false, leb-true, eqb-true)

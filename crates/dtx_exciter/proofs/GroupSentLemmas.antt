@@ -135,12 +135,6 @@ pub record AreFour (ss : List (List ℤ)) : Type 0 where
   pub n : ℕ
   pub are : ss ≡ four_segments zs n
 
-four_by : (address delay : ℕ) (packets : List (List ℕ)) (i : ℕ) (r : List Order) → is_served address delay r ≡ true
-    → AreFour (sent_by address delay packets i r)
-unfolding segments_since
-four_by address delay packets i [] s = cc
-four_by address delay packets i (order ∷ older) s = grind (arith, cond-true)
-
 pub none_by : (address delay : ℕ) (packets : List (List ℕ)) (i : ℕ) (r : List Order)
     → is_served address delay r ≡ false → sent_by address delay packets i r ≡ []
 none_by address delay packets i [] s = refl
@@ -207,6 +201,7 @@ pub group_sent : (address delay : ℕ) (w q : List (List ℕ)) (i : ℕ) (own : 
     → is_served address delay (cons_option (placed i own) r) ≡ true
     → air_segments coder g ≡ behind_field_sync i (sent_by address delay (w ++ q) (i - 4) r)
     (sent_by address delay (w ++ q) i (cons_option (placed i own) r))
+unfolding segments_since
 group_sent address delay w q i own r coder g before n f h y b s = data_is address delay w q i own r coder g n f h s
     ∙ sync_is address delay w q i own r coder g
-    (sent_by address delay (w ++ q) i (cons_option (placed i own) r)) before n h y b (grind (arith, four_by))
+    (sent_by address delay (w ++ q) i (cons_option (placed i own) r)) before n h y b (grind (arith, cond-true))

@@ -1,7 +1,7 @@
 -- What is kept of the pages, with one order more, and what it says of the orders so far.
-use Rattle.std.proofs.Common.{◌≡◌, ◌≢◌, ℕ, ◌<◌, ◌≤◌, ◌⊎◌, ◌==◌, ◌||◌, Bool, true, false, cond, Option, Some}
-use Rattle.std.proofs.Common.{None, option_map, List, [], ◌∷◌, length, map, get_or, set, take, replicate, refl, sym, ap}
-use Rattle.std.proofs.Common.{ap₂, subst, ◌∙◌, arith, inl, inr, zero-add}
+use Rattle.std.proofs.Common.{◌≡◌, ◌≢◌, ℕ, ◌<◌, ◌≤◌, ◌⊎◌, ◌==◌, ◌||◌, Bool, true, false, cond, Option, None, option_map}
+use Rattle.std.proofs.Common.{List, [], ◌∷◌, length, map, get_or, set, take, replicate, refl, sym, ap, ap₂, subst, ◌∙◌}
+use Rattle.std.proofs.Common.{arith, inl, inr, zero-add}
 use Rattle.std.specs.Prelude.{option_and_then}
 use Rattle.std.specs.List.{range_with_len, take_while, list_all}
 use Rattle.std.proofs.lemmas.Bool.{cases_eq, cond-true, cond-false, eq-eqb, ne_eqb}
@@ -19,7 +19,7 @@ use Rattle.dtx_exciter.specs.Pages.{page, pages, entry_of, of_one_cycle, all_pag
 use Rattle.dtx_exciter.specs.Pages.{entry_in_force}
 use Rattle.dtx_exciter.specs.Told.{hold_by, served}
 use Rattle.dtx_exciter.specs.HeldPages.{held_of, HoldsCycle, begun, held_after, with_order, HoldsPages}
-use Rattle.dtx_exciter.proofs.PagesLemmas.{listing_here, forgotten, listing_other}
+use Rattle.dtx_exciter.proofs.PagesLemmas.{listing_here, listing_other}
 use Rattle.dtx_exciter.specs.Step.{served_by}
 
 -- ---- what is kept says what is in force
@@ -87,14 +87,9 @@ told_more o c ts l e =
         ∙ get_or-map-range_with_len (is_told c) 0 30 k k false m (zero-add k)
         ∙ sym (ap (λ b. b || is_told c k) (ne_eqb (page o) k (λ q. s (sym q))))
 
-held_none : (a k : ℕ) (o : Option Order)
-    → held_after k None (option_and_then (held_of a) o) ≡ option_and_then (held_of a) (forgotten k o)
-held_none a k None = refl
-held_none a k (Some l) = grind arith
-
 held_more : (a : ℕ) (o : Order) (c : List Order) (h : Option PageEntry) → h ≡ option_and_then (held_of a) (listing a c)
     → held_after (page o) (entry_of a o.ops) h ≡ option_and_then (held_of a) (listing a (o ∷ c))
-held_more a o c h e = grind (arith, held_none, listing_other, listing_here)
+held_more a o c h e = grind (arith, listing_other, listing_here)
 
 pub order_holds : (a i : ℕ) (ops : Ops) (r : List Order) (p : Pages) → page_of ops.paging < pages_of ops.paging
     → pages_of ops.paging ≤ 30 → HoldsPages a r p

@@ -1,6 +1,6 @@
 -- How many segments a packet gives, by its answer.
 use Rattle.std.proofs.Common.{◌≡◌, ℕ, ℤ, ◌+◌, ◌-◌, ◌*◌, ◌%◌, ◌≤◌, ◌==◌, ◌&&◌, Bool, true, false, cond, Option, Some}
-use Rattle.std.proofs.Common.{None, List, [], ◌∷◌, ◌++◌, length, refl, sym, ap, ◌∙◌, arith}
+use Rattle.std.proofs.Common.{None, List, [], ◌∷◌, ◌++◌, length, refl, ap, arith}
 use Rattle.std.proofs.lemmas.Bool.{eqb-true, eqb-false, false≢true}
 use Rattle.std.proofs.lemmas.List.{length-append}
 use Rattle.std.proofs.lemmas.List.FromFn.{length-map-range_with_len}
@@ -27,22 +27,10 @@ told_where : (a d : ℕ) (l : List (List ℕ)) → told_under a d (Some (reading
     ≡ cond (length l % 4 == 0) (told_at a d (length l - 4) (orders (readings l) (length l - 4))) Quiet
 told_where a d l = grind (arith, length-said)
 
-none_under : (a d : ℕ) (l : List (List ℕ)) → is_sent (told_under a d (Some (readings l))) ≡ false
-    → given_under a d (Some l) ≡ []
-unfolding sent_at
-none_under a d l e = grind (arith, told_where, none_by, sent_is_served)
-
-none_seen : (a d : ℕ) (ps : List (List ℕ)) (p : List ℕ) (s : Seen) → Goes a d ps p s
-    → is_sent (last_answer a d (ps ++ p ∷ [])) ≡ false → last_segments a d (ps ++ p ∷ []) ≡ []
-unfolding last_segments
-none_seen a d ps p Free g e = ap (given_under a d) g.follows
-none_seen a d ps p Start g e = ap (given_under a d) g.follows
-none_seen a d ps p Lost g e = ap (given_under a d) g.follows
-none_seen a d ps p (At place) g e = grind (arith, none_under)
-
 pub none_given : (a d : ℕ) (ps : List (List ℕ)) (p : List ℕ) → is_sent (last_answer a d (ps ++ p ∷ [])) ≡ false
     → last_segments a d (ps ++ p ∷ []) ≡ []
-none_given a d ps p e = none_seen a d ps p (seen (syncs ps) (sync_of p)) (goes a d ps p) e
+unfolding last_segments sent_at
+none_given a d ps p e = grind (arith, told_where, none_by, sent_is_served, goes)
 
 -- ---- four or five
 
@@ -65,47 +53,17 @@ synced i [] (s ∷ ss) false e l = l
 synced i (b ∷ bs) (s ∷ ss) false e l = absurd (omega (arith, e))
 synced i (b ∷ bs) (s ∷ ss) true e l = grind arith
 
-some_under : (a d : ℕ) (l : List (List ℕ)) → is_sent (told_under a d (Some (readings l))) ≡ true
-    → length (given_under a d (Some l))
-    ≡ cond (was_sent a d (readings l) (length l - 4) && ((length l - 4) % 312 == 0)) 5 4
-unfolding sent_at
-some_under a d l e = by_whole (length l % 4 == 0) (sym (ap is_sent (told_where a d l)) ∙ e)
-  where
-    by_whole : (t : Bool)
-        → is_sent (cond t (told_at a d (length l - 4) (orders (readings l) (length l - 4))) Quiet) ≡ true
-        → length (cond t (behind_field_sync (length l - 4) (sent_before a d l (length l - 4))
-        (sent_at a d l (length l - 4))) [])
-        ≡ cond (was_sent a d (readings l) (length l - 4) && ((length l - 4) % 312 == 0)) 5 4
-    by_whole true h = grind (arith, synced, length-before, length-sent, sent_is_served)
-    by_whole false h = absurd (false≢true h)
-
 HasMany : ℕ → ℕ → List (List ℕ) → Type 0
 HasMany a d packets = (l : List (List ℕ)) × (under packets ≡ Some l) × (length (last_segments a d packets)
     ≡ cond (was_sent a d (readings l) (length l - 4) && ((length l - 4) % 312 == 0)) 5 4)
 
-some_seen : (a d : ℕ) (ps : List (List ℕ)) (p : List ℕ) (s : Seen) → Goes a d ps p s
-    → is_sent (last_answer a d (ps ++ p ∷ [])) ≡ true → HasMany a d (ps ++ p ∷ [])
-unfolding last_segments HasMany
-some_seen a d ps p Free g e = absurd (false≢true (sym (ap is_sent g.answer) ∙ e))
-some_seen a d ps p Start g e = absurd (false≢true (sym (ap is_sent g.answer) ∙ e))
-some_seen a d ps p Lost g e = absurd (false≢true (sym (ap is_sent g.answer) ∙ e))
-some_seen a d ps p (At place) g e = grind (arith, some_under)
-
 pub some_given : (a d : ℕ) (ps : List (List ℕ)) (p : List ℕ) → is_sent (last_answer a d (ps ++ p ∷ [])) ≡ true
     → (l : List (List ℕ)) × (under (ps ++ p ∷ []) ≡ Some l) × (length (last_segments a d (ps ++ p ∷ []))
     ≡ cond (was_sent a d (readings l) (length l - 4) && ((length l - 4) % 312 == 0)) 5 4)
-unfolding HasMany
-some_given a d ps p e = some_seen a d ps p (seen (syncs ps) (sync_of p)) (goes a d ps p) e
+unfolding HasMany last_segments sent_at
+some_given a d ps p e = grind (arith, false≢true, told_where, synced, length-before, length-sent, sent_is_served, goes)
 
 -- ---- at most every fourth packet
-
-at_most_five : (a d : ℕ) (ps : List (List ℕ)) (p : List ℕ) → length (last_segments a d (ps ++ p ∷ [])) ≤ 5
-at_most_five a d ps p = grind (arith, some_given, none_given)
-
--- what the packets from the anchor on give, and how many stand behind their last whole group, with one packet more
-spaced_under : (a d : ℕ) (l : List (List ℕ)) (p : List ℕ) → length (given_under a d (Some (l ++ p ∷ []))) ≤ 5
-    → 4 * length (given_under a d (Some (l ++ p ∷ []))) + 5 * part_of (Some (l ++ p ∷ [])) ≤ 5 * (part_of (Some l) + 1)
-spaced_under a d l p few = grind (arith, length-append, eqb-true, eqb-false)
 
 given_at : (a d : ℕ) (ps : List (List ℕ)) (o : Option (List (List ℕ))) → under ps ≡ o
     → last_segments a d ps ≡ given_under a d o
@@ -124,16 +82,13 @@ spaced_none : (a d : ℕ) (ps : List (List ℕ)) (p : List ℕ) → under (ps ++
 unfolding IsSpaced
 spaced_none a d ps p e = omega (arith, ap length (given_at a d (ps ++ p ∷ []) None e), part_at (ps ++ p ∷ []) None e)
 
-spaced_single : (a d : ℕ) (ps : List (List ℕ)) (p : List ℕ) → under (ps ++ p ∷ []) ≡ Some (p ∷ []) → IsSpaced a d ps p
-unfolding IsSpaced
-spaced_single a d ps p e = grind (arith, given_at, part_at)
-
 spaced_seen : (a d : ℕ) (ps : List (List ℕ)) (p : List ℕ) (s : Seen) → Goes a d ps p s → IsSpaced a d ps p
 unfolding IsSpaced
 spaced_seen a d ps p Free g = spaced_none a d ps p g.follows
-spaced_seen a d ps p Start g = spaced_single a d ps p g.follows
+spaced_seen a d ps p Start g = grind (arith, given_at, part_at)
 spaced_seen a d ps p Lost g = spaced_none a d ps p g.follows
-spaced_seen a d ps p (At place) g = grind (arith, given_at, part_at, spaced_under, at_most_five)
+spaced_seen a d ps p (At place) g =
+    grind (arith, given_at, part_at, length-append, eqb-true, eqb-false, some_given, none_given)
 
 pub spaced : (a d : ℕ) (ps : List (List ℕ)) (p : List ℕ)
     → 4 * length (last_segments a d (ps ++ p ∷ [])) + 5 * group_part (ps ++ p ∷ []) ≤ 5 * (group_part ps + 1)

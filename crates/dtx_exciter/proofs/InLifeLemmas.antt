@@ -1,13 +1,12 @@
 -- An exciter's packets behind a mark of a feed: the same packets, the same orders, and the feed's own segments.
-use Rattle.std.proofs.Common.{◌≡◌, ℕ, ℤ, zero, suc, ◌+◌, ◌-◌, ◌*◌, ◌/◌, ◌%◌, ◌<◌, ◌≤◌, ◌==◌, cond, Option, Some, None}
-use Rattle.std.proofs.Common.{true, List, [], ◌∷◌, ◌++◌, length, take, drop, get_or, refl, sym, ap, ap₂, ◌∙◌, arith}
+use Rattle.std.proofs.Common.{◌≡◌, ℕ, ℤ, zero, suc, ◌+◌, ◌-◌, ◌*◌, ◌/◌, ◌%◌, ◌<◌, ◌≤◌, Option, Some, None, true, List}
+use Rattle.std.proofs.Common.{[], ◌∷◌, ◌++◌, length, take, drop, get_or, refl, sym, ap, ap₂, ◌∙◌, arith}
 use Rattle.std.specs.Prelude.{nat_le, is_ok}
 use Rattle.std.specs.List.{cons_option}
 use Rattle.std.proofs.lemmas.Bool.{cond-true, cond-false, eq-eqb, ne_eqb, le-leb}
 use Rattle.std.proofs.lemmas.List.{get_or-append_right, get_or-drop, get_or-take, get_or-map, length-append}
 use Rattle.std.proofs.lemmas.List.{length-drop, length-take-le, take-take}
-use Rattle.dtx_frame.specs.Segments.{field_sync}
-use Rattle.dtx_coder.specs.Stream.{levels, segment, four_segments, last_of, last_before, sync_before, group_segments}
+use Rattle.dtx_coder.specs.Stream.{levels, four_segments, last_before, sync_before, group_segments}
 use Rattle.dtx_ops.specs.declared.fields.Ops.{Ops}
 use Rattle.dtx_exciter.specs.Order.{Order, either, latest_first, ordered_at, order_at, counting_order, placed, orders}
 use Rattle.dtx_exciter.specs.Pages.{lists}
@@ -204,18 +203,6 @@ sent_same a d z base feed mark n j first x m p =
         (served_by_feed a d z feed (mark + w.group) (record { place = length base + w.group; ops = w.ops }) w.older
         m.feed_is w.its_own w.listed).ok ∙ grind (arith, data_same)
 
--- a group behind the first one, with its field sync
-sync_same : (f : List (List ℕ)) (i v : ℕ) → 0 < v → i % 624 ≡ 4 * v % 624
-    → cond (i % 312 == 0) (field_sync (nat_le 312 (i % 624)) (last_of (segment (levels f) (4 * v - 4 + 3))) ∷ []) []
-    ≡ sync_before f v
-unfolding sync_before last_before
-sync_same f i v h e = grind (arith, cond-false, ne_eqb)
-
-with_sync_same : (f : List (List ℕ)) (i v : ℕ) → 0 < v → i % 624 ≡ 4 * v % 624
-    → behind_field_sync i (four_segments (levels f) (4 * v - 4)) (four_segments (levels f) (4 * v)) ≡ group_segments f v
-unfolding group_segments
-with_sync_same f i v h e = grind (arith, some_before, sync_same)
-
 -- what the group's last packet gives
 pub given_last : (a d : ℕ) (base feed : List (List ℕ)) (mark x : ℕ) → mark + (x + 4) ≤ length feed → x % 4 ≡ 0
     → length base % 624 ≡ 0 → given_under a d (Some (life base feed mark (x + 4)))
@@ -238,6 +225,7 @@ place_of a feed mark n first x y g l w h = grind arith
 pub given_next : (a d : ℕ) (z : ℤ) (base feed : List (List ℕ)) (mark n first x : ℕ) → Marks a d z base feed mark n
     → IsGroup a feed mark n first x → first + 4 ≤ x
     → given_under a d (Some (life base feed mark (x + 4))) ≡ group_segments (upto feed mark (x + 4)) ((mark + x) / 4)
+unfolding group_segments sync_before last_before
 given_next a d z base feed mark n first x m g l =
     let inside : mark + (x + 4) ≤ length feed = let i = m.inside in let w = g.within in omega (arith, i, w) in
     let m1 = m.at_mark in let m2 = m.at_other in let g1 = g.group in let g2 = g.flushed in let g3 = g.whole in
@@ -253,6 +241,4 @@ given_next a d z base feed mark n first x m g l =
     (cond-true (nat_le 4 (length base + x)) _ _ (le-leb 4 (length base + x) (omega (arith, l)))
     ∙ ap (sent_at a d (life base feed mark (x + 4))) k ∙ sent_same a d z base feed mark n (x + 4) first (x - 4) m
     (place_of a feed mark n first x (x - 4) g (omega (arith, l)) (omega (arith, g1)) (omega arith))
-    ∙ ap (four_segments (levels (upto feed mark (x + 4)))) u) here
-    ∙ with_sync_same (upto feed mark (x + 4)) (length base + x) ((mark + x) / 4) (omega (arith, l))
-    (omega (arith, m1, m2, g1))
+    ∙ ap (four_segments (levels (upto feed mark (x + 4)))) u) here ∙ (grind (arith, some_before, cond-false, ne_eqb))

@@ -1,7 +1,6 @@
 -- A packet joins those under the anchor.
-use Rattle.std.proofs.Common.{◌≡◌, ◌≢◌, ℕ, ℤ, ◌+◌, ◌-◌, ◌*◌, ◌%◌, ◌≤◌, ◌==◌, ◌||◌, Bool, true, false, cond, Option}
-use Rattle.std.proofs.Common.{Some, option_map, List, [], ◌∷◌, ◌++◌, length, take, drop, set, sym, ap, ap₂, subst, ◌∙◌}
-use Rattle.std.proofs.Common.{arith, inl, inr}
+use Rattle.std.proofs.Common.{◌≡◌, ◌≢◌, ℕ, ℤ, ◌+◌, ◌-◌, ◌%◌, ◌==◌, ◌||◌, Bool, true, false, cond, Some, option_map}
+use Rattle.std.proofs.Common.{List, [], ◌∷◌, ◌++◌, length, take, drop, set, sym, ap, ap₂, subst, ◌∙◌, arith, inl, inr}
 use Rattle.std.specs.Prelude.{nat_le}
 use Rattle.std.specs.List.{cons_option}
 use Rattle.std.specs.Option.{unwrap_or}
@@ -21,28 +20,15 @@ use Rattle.dtx_exciter.specs.Packets.{readings}
 use Rattle.dtx_exciter.specs.Emission.{Holds, sent_by, sent_at, sent_before, behind_field_sync, given_under}
 use Rattle.dtx_exciter.specs.Step.{bytes_of, own_order, told_group, own_of, group_of, IsSent}
 use Rattle.dtx_exciter.specs.Kept.{whole, last_orders, is_served, RunsUnder, KeepsUnder, IsJoined}
-use Rattle.dtx_exciter.proofs.ForceLemmas.{counted_behind, IsBehind}
+use Rattle.dtx_exciter.proofs.ForceLemmas.{counted_behind}
 use Rattle.dtx_exciter.proofs.UnderLemmas.{length-said}
 use Rattle.dtx_exciter.proofs.EndsLemmas as Ends
 use Rattle.dtx_exciter.proofs.JoinedLemmas.{last_same, settled_same, held_more, front_same, group_bytes, settled_more}
 use Rattle.dtx_exciter.proofs.JoinedLemmas.{partial_full}
 use Rattle.dtx_exciter.proofs.AnswerLemmas.{told_group_is, sent_is_served}
-use Rattle.dtx_exciter.proofs.GroupSentLemmas.{IsGiven, HasSync, group_sent, runs_more, none_by}
-
-length-with : (l : List (List ℕ)) (p : List ℕ) → length (readings (l ++ p ∷ [])) ≡ length l + 1
-length-with l p = length-said (l ++ p ∷ []) ∙ length_push l p
+use Rattle.dtx_exciter.proofs.GroupSentLemmas.{IsGiven, group_sent, runs_more, none_by}
 
 -- ---- a packet that ends no group
-
-quiet_told : (a d : ℕ) (l : List (List ℕ)) (p : List ℕ) → length l % 4 ≢ 3
-    → Quiet ≡ told_under a d (Some (readings (l ++ p ∷ [])))
-quiet_told a d l p h = grind (arith, cond-false, ne_eqb, length-with)
-
-quiet_given : (a d : ℕ) (l : List (List ℕ)) (p : List ℕ) → length l % 4 ≢ 3 → given_under a d (Some (l ++ p ∷ [])) ≡ []
-quiet_given a d l p h = grind (arith, cond-false, ne_eqb, length_push)
-
-none_held : (count : ℕ) (symbols : List ℤ) → count ≡ 0 → Holds [] count symbols
-none_held count symbols e = record { counted = e; begins = ap (λ (n : ℕ). take (832 * n) symbols) e }
 
 pub joined_partial : (a d : ℕ) (l : List (List ℕ)) (old : Exciter) (place : ℕ) (packet : Packet) (count : ℕ)
     (symbols : List ℤ) → KeepsUnder a d old l → place ≡ length l % 624 → place % 4 ≢ 3 → length old.packets ≡ 4
@@ -54,8 +40,8 @@ joined_partial a d l old place packet count symbols k e h four z =
     let w : whole (l ++ packet.0 ∷ []) ≡ whole l = omega (arith, n, length_push l packet.0) in
     let s : length (l ++ packet.0 ∷ []) % 4 ≡ length l % 4 + 1 = omega (arith, n, length_push l packet.0) in
     record {
-      answer = quiet_told a d l packet.0 n;
-      air = subst (λ ss. Holds ss count symbols) (sym (quiet_given a d l packet.0 n)) (none_held count symbols z);
+      answer = (grind (arith, cond-false, ne_eqb, length-said, length_push));
+      air = grind (arith, cond-false, ne_eqb, length_push);
       keeps = record {
         flushed = grind (arith, settled_same, cases_lt, length_push);
         partial = ap₂ (λ (x y : ℕ). take x (bytes_of (set old.packets y packet))) s (omega (arith, e))
@@ -163,29 +149,21 @@ given_full a d l old packet i j answered c = record {
   whole = c.ends.whole;
 }
 
-sync_full : (a d : ℕ) (l : List (List ℕ)) (old : Exciter) (packet : Packet) (i j : ℕ) (answered : Told)
-    → Joining a d l old packet i j → is_sent answered ≡ true
-    → HasSync i old.sent (group_of (full old packet) j answered)
-unfolding group_of
-sync_full a d l old packet i j answered c s = grind arith
-
 served_now : (a d : ℕ) (l : List (List ℕ)) (p : List ℕ) (i : ℕ) (answered : Told)
     → answered ≡ told_at a d i (orders_now l i p) → is_sent answered ≡ is_served a d (orders_now l i p)
 served_now a d l p i answered h = ap is_sent h ∙ sent_is_served a d i (orders_now l i p)
-
-settled_own : (readings : List (Option Ops)) (i : ℕ) (ops : Ops) → counting_order readings i ≡ Some ops → 52 ≤ i
-settled_own readings i ops h = let b : IsBehind i = counted_behind readings i ops h in b.flushed
 
 segments_full : (a d : ℕ) (l : List (List ℕ)) (old : Exciter) (packet : Packet) (i j : ℕ) (answered : Told)
     → Joining a d l old packet i j → answered ≡ told_at a d i (orders_now l i packet.0)
     → (t : Bool) → is_sent answered ≡ t → cond t (air_segments old.coder (group_of (full old packet) j answered)) []
     ≡ given_under a d (Some (l ++ packet.0 ∷ []))
+unfolding group_of
 segments_full a d l old packet i j answered c h true s =
     group_sent a d (Ends.front l i) (Ends.group l i packet.0) i (counting_order (readings (l ++ packet.0 ∷ [])) i)
     (last_orders l) old.coder (group_of (full old packet) j answered) old.sent
-    (given_full a d l old packet i j answered c) (λ ops e. settled_own (readings (l ++ packet.0 ∷ [])) i ops e)
+    (given_full a d l old packet i j answered c) (λ ops e. grind (arith, counted_behind))
     (λ order older e. Ends.last_older l i order older c.ends e)
-    (sync_full a d l old packet i j answered c s) c.keeps.sent (sym (served_now a d l packet.0 i answered h) ∙ s)
+    (grind arith) c.keeps.sent (sym (served_now a d l packet.0 i answered h) ∙ s)
     ∙ ap (λ x. behind_field_sync i (sent_by a d x (i - 4) (last_orders l)) (sent_by a d x i (orders_now l i packet.0)))
     (Ends.parts l i packet.0) ∙ sym (given_now a d l packet.0 i c.ends)
 segments_full a d l old packet i j answered c h false s = sym (given_now a d l packet.0 i c.ends

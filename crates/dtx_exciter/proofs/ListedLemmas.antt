@@ -1,12 +1,12 @@
 -- Under the orders of a feed, from one on that lists a transmitter, the transmitter is served.
 use Rattle.std.proofs.Common.{◌≡◌, ℕ, ℤ, ◌==◌, Bool, true, false, Option, Some, None, List, ◌∷◌, refl, ap, ◌∙◌, arith}
-use Rattle.std.specs.Prelude.{is_ok, is_some, option_and_then, pos, negsuc, ◌≤ℤ◌}
+use Rattle.std.specs.Prelude.{is_ok, is_some, option_and_then}
 use Rattle.std.proofs.lemmas.Bool.{cond-false, ne_eqb, false≢true}
 use Rattle.std.proofs.lemmas.Int.{ints}
 use Rattle.dtx_ops.specs.declared.fields.Entry.{Entry}
 use Rattle.dtx_exciter.specs.Order.{Order, counting_order}
 use Rattle.dtx_exciter.specs.Pages.{page, pages, entry_of, lists, of_one_cycle, listing, entry_in_force}
-use Rattle.dtx_exciter.specs.Told.{left_of, served}
+use Rattle.dtx_exciter.specs.Told.{served}
 use Rattle.dtx_exciter.specs.Packets.{readings}
 use Rattle.dtx_exciter.specs.Lockstep.{IsFeed}
 use Rattle.dtx_exciter.proofs.PagesLemmas.{cycle_same, listing_here, listing_other, forgotten}
@@ -52,10 +52,6 @@ some_of : (o : Option Entry) → is_some o ≡ true → (e : Entry) × (o ≡ So
 some_of None h = absurd (false≢true h)
 some_of (Some e) h = (e, refl)
 
-left_ok : (x : ℤ) → pos 0 ≤ℤ x → is_ok (left_of x) ≡ true
-left_ok (pos n) h = refl
-left_ok (negsuc n) h = absurd (omega (arith, ints))
-
 pub served_by_feed : (a d : ℕ) (z : ℤ) (feed : List (List ℕ)) (g : ℕ) (l : Order) (r : List Order) → IsFeed a d z feed
     → counting_order (readings feed) g ≡ Some l.ops → IsListed a feed (l ∷ r) → IsServed a d z (l ∷ r)
 unfolding entry_in_force served
@@ -68,5 +64,5 @@ served_by_feed a d z feed g l r f c w =
       entry = e.0;
       is = is;
       offset = offset;
-      ok = grind (arith, left_ok, ints);
+      ok = grind (arith, ints);
     }

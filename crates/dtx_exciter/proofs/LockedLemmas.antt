@@ -25,13 +25,10 @@ pub record IsLocked (earlier feed : List (List ℕ)) (mark z : ℕ) : Type 0 whe
   pub behind : mark ≤ z
   pub in_step : IsInStep (syncs (locked_life earlier feed mark z))
 
-none_given : (earlier feed : List (List ℕ)) (mark : ℕ) → earlier ≡ locked_life earlier feed mark mark
-none_given earlier feed mark = grind (arith, append-nil)
-
 -- from the mark on
 locked_here : (earlier feed : List (List ℕ)) (mark : ℕ) → mark % 624 ≡ 0 → IsInStep (syncs earlier)
     → IsLocked earlier feed mark mark
-locked_here earlier feed mark m r = grind (arith, none_given)
+locked_here earlier feed mark m r = grind (arith, append-nil)
 
 -- from the third mark on
 pub locked_third : (a d : ℕ) (y : ℤ) (earlier feed : List (List ℕ)) (mark : ℕ) → IsFeed a d y feed → mark % 624 ≡ 0

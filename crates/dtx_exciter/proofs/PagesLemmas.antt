@@ -1,6 +1,6 @@
 -- What orders say of pages, with one order more.
-use Rattle.std.proofs.Common.{◌≡◌, ℕ, ◌==◌, ◌||◌, Bool, true, false, not, cond, Option, Some, None, List, [], ◌∷◌, refl}
-use Rattle.std.proofs.Common.{ap, ap₂, ◌∙◌, arith}
+use Rattle.std.proofs.Common.{◌≡◌, ℕ, ◌==◌, true, false, not, cond, Option, Some, None, List, [], ◌∷◌, refl, ap, ap₂}
+use Rattle.std.proofs.Common.{◌∙◌, arith}
 use Rattle.std.specs.List.{find, take_while}
 use Rattle.std.proofs.lemmas.Bool.{cond-true, cond-false, eq-eqb}
 use Rattle.std.proofs.lemmas.List.Sums.{take_while-cons}
@@ -24,18 +24,10 @@ abbrev pub forgotten : ℕ → Option Order → Option Order
 forgotten k None = None
 forgotten k (Some l) = cond (k == page l) None (Some l)
 
-or_true : {X : Type 0} (b : Bool) (x y : X) → cond (b || true) x y ≡ x
-or_true true x y = refl
-or_true false x y = refl
-
-or_false : {X : Type 0} (b : Bool) (x y : X) → cond (b || false) x y ≡ cond b x y
-or_false true x y = refl
-or_false false x y = refl
-
 told_by_one : (o : Order) (later : List Order) (f : Option Order)
     → unless_told_again (o ∷ later) f ≡ forgotten (page o) (unless_told_again later f)
 told_by_one o later None = refl
-told_by_one o later (Some l) = grind (arith, or_true, or_false)
+told_by_one o later (Some l) = grind arith
 
 pub listing_other : (a : ℕ) (o : Order) (c : List Order) → lists a o.ops ≡ false
     → listing a (o ∷ c) ≡ forgotten (page o) (listing a c)

@@ -1,15 +1,13 @@
 -- A sync byte tells an exciter of marks alone.
-use Rattle.std.proofs.Common.{◌≡◌, ℕ, ◌+◌, ◌-◌, ◌*◌, ◌/◌, ◌%◌, ◌<◌, ◌≤◌, cond, Some, List, [], ◌∷◌, ◌++◌, length, take}
-use Rattle.std.proofs.Common.{drop, map, set, get_or, refl, sym, ap, ap₂, ◌∙◌, arith}
-use Rattle.std.specs.Prelude.{nat_le}
+use Rattle.std.proofs.Common.{◌≡◌, ℕ, ◌+◌, ◌-◌, ◌<◌, ◌≤◌, Some, List, [], ◌∷◌, ◌++◌, length, take, drop, map, set}
+use Rattle.std.proofs.Common.{get_or, refl, sym, ap, ap₂, ◌∙◌, arith}
 use Rattle.std.proofs.lemmas.List.{length-map, length-take-le, get_or-drop, get_or-map, drop-drop, drop-map}
 use Rattle.std.proofs.lemmas.List.{take-map, take-take, take_all, map-set, set-get_or}
 use Rattle.dtx_lists.proofs.Range.{map-range_same}
 use Rattle.dtx_lists.proofs.RangeMoved.{flat_map-range_same}
-use Rattle.dtx_laws.specs.Interleaving.{interleaved}
 use Rattle.dtx_laws.specs.Words.{codeword}
 use Rattle.dtx_whiten.specs.Randomized.{randomized}
-use Rattle.dtx_packets.specs.Packet.{sync_of, pid_of}
+use Rattle.dtx_packets.specs.Packet.{sync_of}
 use Rattle.dtx_cadence.specs.Anchor.{anchor}
 use Rattle.dtx_cadence.proofs.AnchoredLemmas.{missing_mark, stray_marks}
 use Rattle.dtx_cadence.specs.Cadence.{AreAlike, AreAlikeWhereDue, HasMarksRound}
@@ -19,7 +17,7 @@ use Rattle.dtx_coder.specs.Coded.{coded_from, spread, whole_groups}
 use Rattle.dtx_coder.specs.Along.{levels_since}
 use Rattle.dtx_exciter.specs.Told.{told_of}
 use Rattle.dtx_exciter.specs.Packets.{syncs, reads, readings, anchor_of, under, last_answer}
-use Rattle.dtx_exciter.specs.Emission.{segments_since, sent_at, sent_before, given_under, last_segments, emission}
+use Rattle.dtx_exciter.specs.Emission.{segments_since, sent_at, last_segments, emission}
 use Rattle.dtx_exciter.specs.Log.{life_lines}
 use Rattle.dtx_exciter.specs.SentAlike.{bodies, AreSentAlike}
 use Rattle.dtx_exciter.proofs.UnderLemmas.{length-syncs}
@@ -30,21 +28,6 @@ use Rattle.dtx_exciter.proofs.UnderLemmas.{length-syncs}
 byte_same : (p q : List ℕ) (j : ℕ) → drop 1 p ≡ drop 1 q → get_or p (1 + j) 0 ≡ get_or q (1 + j) 0
 byte_same p q j h = sym (get_or-drop 1 p j 0) ∙ ap (λ x. get_or x j 0) h ∙ get_or-drop 1 q j 0
 
-randomized_same : (k : ℕ) (p q : List ℕ) → drop 1 p ≡ drop 1 q → randomized k p ≡ randomized k q
-unfolding randomized
-randomized_same k p q h = grind (arith, map-range_same, byte_same)
-
-pid_same : (p q : List ℕ) → drop 1 p ≡ drop 1 q → pid_of p ≡ pid_of q
-pid_same p q h = ap₂ (λ high low. high % 32 * 256 + low) (byte_same p q 0 h) (byte_same p q 1 h)
-
-corrected_same : (p q : List ℕ) → drop 1 p ≡ drop 1 q → corrected p ≡ corrected q
-unfolding corrected
-corrected_same p q h = grind (arith, drop-drop)
-
-reads_same : (p q : List ℕ) → drop 1 p ≡ drop 1 q → reads p ≡ reads q
-unfolding reads reading rules
-reads_same p q h = grind (arith, pid_same, corrected_same)
-
 -- ---- packets
 
 length_same : (xs ys : List (List ℕ)) → bodies xs ≡ bodies ys → length xs ≡ length ys
@@ -52,39 +35,19 @@ unfolding bodies
 length_same xs ys h = sym (length-map xs (drop 1)) ∙ ap length h ∙ length-map ys (drop 1)
 
 said_same : (xs ys : List (List ℕ)) → bodies xs ≡ bodies ys → readings xs ≡ readings ys
-unfolding readings bodies
+unfolding readings bodies reads reading rules corrected
 said_same [] [] h = refl
 said_same [] (y ∷ ys) h = cc
 said_same (x ∷ xs) [] h = cc
-said_same (x ∷ xs) (y ∷ ys) h = ap₂ ◌∷◌ (reads_same x y (ap (λ l. get_or l 0 []) h)) (said_same xs ys (ap (drop 1) h))
+said_same (x ∷ xs) (y ∷ ys) h = ap₂ ◌∷◌ (grind (arith, byte_same, drop-drop)) (said_same xs ys (ap (drop 1) h))
 
 coded_same : (k : ℕ) (xs ys : List (List ℕ)) → bodies xs ≡ bodies ys → coded_from k xs ≡ coded_from k ys
-unfolding coded_from bodies
+unfolding coded_from bodies randomized
 coded_same k [] [] h = refl
 coded_same k [] (y ∷ ys) h = cc
 coded_same k (x ∷ xs) [] h = cc
-coded_same k (x ∷ xs) (y ∷ ys) h = ap₂ (λ a b. codeword 207 187 a ++ b) (grind (arith, randomized_same))
+coded_same k (x ∷ xs) (y ∷ ys) h = ap₂ (λ a b. codeword 207 187 a ++ b) (grind (arith, map-range_same, byte_same))
     (coded_same (k + 1) xs ys (ap (drop 1) h))
-
-whole_same : (xs ys : List (List ℕ)) → bodies xs ≡ bodies ys → whole_groups xs ≡ whole_groups ys
-unfolding whole_groups spread
-whole_same xs ys h = ap₂ (λ n c. take (828 * (n / 4)) (interleaved 52 4 c)) (length_same xs ys h) (coded_same 0 xs ys h)
-
-since_same : (g u : ℕ) (q : List ℕ) (xs ys : List (List ℕ)) → bodies xs ≡ bodies ys
-    → segments_since g q xs u ≡ segments_since g q ys u
-unfolding segments_since levels_since
-since_same g u q xs ys h = grind (arith, whole_same)
-
-sent_same : (a d i : ℕ) (xs ys : List (List ℕ)) → bodies xs ≡ bodies ys → sent_at a d xs i ≡ sent_at a d ys i
-unfolding sent_at
-sent_same a d i xs ys h = grind (arith, said_same, since_same)
-
-before_same : (a d i : ℕ) (xs ys : List (List ℕ)) → bodies xs ≡ bodies ys → sent_before a d xs i ≡ sent_before a d ys i
-before_same a d i xs ys h = ap (λ x. cond (nat_le 4 i) x []) (sent_same a d (i - 4) xs ys h)
-
-given_same : (a d : ℕ) (xs ys : List (List ℕ)) → bodies xs ≡ bodies ys
-    → given_under a d (Some xs) ≡ given_under a d (Some ys)
-given_same a d xs ys h = grind (arith, length_same, before_same, sent_same)
 
 -- ---- with their anchors
 
@@ -92,35 +55,28 @@ bodies_drop : (n : ℕ) (xs ys : List (List ℕ)) → bodies xs ≡ bodies ys �
 unfolding bodies
 bodies_drop n xs ys h = sym (drop-map (drop 1) n xs) ∙ ap (drop n) h ∙ drop-map (drop 1) n ys
 
-bodies_take : (n : ℕ) (xs ys : List (List ℕ)) → bodies xs ≡ bodies ys → bodies (take n xs) ≡ bodies (take n ys)
-unfolding bodies
-bodies_take n xs ys h = sym (take-map (drop 1) n xs) ∙ ap (take n) h ∙ take-map (drop 1) n ys
-
-syncs_take : (n : ℕ) (xs : List (List ℕ)) → take n (syncs xs) ≡ syncs (take n xs)
-unfolding syncs
-syncs_take n xs = take-map sync_of n xs
-
 anchors_same : (xs ys : List (List ℕ)) (n : ℕ) → AreSentAlike xs ys → n ≤ length xs
     → anchor (take n (syncs xs)) ≡ anchor (take n (syncs ys))
 anchors_same xs ys n s l = s.anchors n (omega (arith, l, length-syncs xs))
 
 -- the first packets are alike too
 front_same : (xs ys : List (List ℕ)) (n : ℕ) → AreSentAlike xs ys → n ≤ length xs → AreSentAlike (take n xs) (take n ys)
+unfolding bodies syncs
 front_same xs ys n s l = record {
-  bodies = bodies_take n xs ys s.bodies;
+  bodies = (sym (take-map (drop 1) n xs) ∙ ap (take n) s.bodies ∙ take-map (drop 1) n ys);
   anchors = λ m k. grind (arith, length-syncs, length-take-le, front, anchors_same);
 }
   where
     front : (m : ℕ) → m ≤ n → (zs : List (List ℕ)) → take m (syncs (take n zs)) ≡ take m (syncs zs)
-    front m b zs = ap (take m) (sym (syncs_take n zs)) ∙ take-take m n (syncs zs) b
+    front m b zs = ap (take m) (sym (take-map sync_of n zs)) ∙ take-take m n (syncs zs) b
 
 anchor_same : (xs ys : List (List ℕ)) → AreSentAlike xs ys → anchor (syncs xs) ≡ anchor (syncs ys)
 anchor_same xs ys s = grind (arith, take_all, length-syncs, anchors_same, length_same)
 
 pub segments_alike : (a d : ℕ) (xs ys : List (List ℕ)) → AreSentAlike xs ys
     → last_segments a d xs ≡ last_segments a d ys
-unfolding last_segments under anchor_of
-segments_alike a d xs ys s = grind (arith, anchor_same, given_same, bodies_drop)
+unfolding last_segments under anchor_of sent_at segments_since levels_since whole_groups spread
+segments_alike a d xs ys s = grind (arith, anchor_same, length_same, said_same, coded_same, bodies_drop)
 
 pub answer_alike : (a d : ℕ) (xs ys : List (List ℕ)) → AreSentAlike xs ys → last_answer a d xs ≡ last_answer a d ys
 unfolding last_answer told_of

@@ -1,5 +1,5 @@
 -- What an exciter keeps where it begins, and what one packet more makes of it.
-use Rattle.std.proofs.Common.{◌≡◌, ℕ, ℤ, ◌%◌, ◌<◌, false, Option, Some, None, List, [], ◌∷◌, ◌++◌, length, take, set}
+use Rattle.std.proofs.Common.{◌≡◌, ℕ, ℤ, ◌<◌, false, Option, Some, None, List, [], ◌∷◌, ◌++◌, length, take, set}
 use Rattle.std.proofs.Common.{replicate, refl, sym, ap, subst, ◌∙◌, arith}
 use Rattle.std.proofs.lemmas.List.{map-set, take_more_set, length-map}
 use Rattle.dtx_packets.specs.declared.packet.Packet.{Packet}
@@ -106,26 +106,6 @@ taken_start a d old mid e before p anchor symbols stood h m k same =
     taken_as a d before p Start anchor (Some (p ∷ [])) e Quiet 0 symbols h g.follows (sym g.answer)
     (begun a d old mid e before p anchor symbols stood m k same)
 
--- where the anchor holds: it joins those under it
-kept_old : (a d : ℕ) (old : Exciter) (before : List (List ℕ)) (l : List (List ℕ)) → StandsFor a d old before
-    → under before ≡ Some l → KeepsUnder a d old l
-kept_old a d old before l h u = subst (Keeps a d old) u h.kept
-
-with_anchor : (a d : ℕ) (old mid : Exciter) (anchor : Option Lock) (l : List (List ℕ))
-    → mid ≡ record old { anchor = anchor } → KeepsUnder a d old l → KeepsUnder a d mid l
-with_anchor a d old mid anchor l m k = subst (λ (x : Exciter). KeepsUnder a d x l) (sym m) (record {
-  flushed = k.flushed;
-  partial = k.partial;
-  sent = k.sent;
-  pages = k.pages;
-  coder = k.coder;
-})
-
-joined_as : (a d : ℕ) (mid e : Exciter) (p : List ℕ) (place : ℕ) (answered : Told) (count : ℕ) (symbols : List ℤ)
-    (l : List (List ℕ)) → mid.address ≡ a → mid.delay ≡ d → Joins place p mid e answered count symbols
-    → KeepsUnder a d mid l → place ≡ length l % 624 → IsJoined a d (l ++ p ∷ []) e answered count symbols
-joined_as a d mid e p place answered count symbols l x y j k h = grind arith
-
 pub taken_at : (old mid e : Exciter) (before : List (List ℕ)) (p : List ℕ) (place : ℕ) (anchor : Option Lock)
     (answered : Told) (count : ℕ) (symbols : List ℤ) (a d : ℕ) → StandsFor a d old before
     → Sees before p (At place) anchor → mid ≡ record old { anchor = anchor }
@@ -148,4 +128,4 @@ taken_at old mid e before p place anchor answered count symbols a d stood h m j 
     by_follow : Goes a d before p (At place) → IsTaken a d (before ++ p ∷ []) e answered count symbols
     by_follow g =
         let l : List (List ℕ) = g.follows.0 in
-        by_join l g.follows.2 g (grind (arith, joined_as, of_old, delay_old, with_anchor, kept_old))
+        by_join l g.follows.2 g (grind (arith, of_old, delay_old))

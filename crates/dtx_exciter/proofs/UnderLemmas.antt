@@ -1,6 +1,6 @@
 -- The packets from the anchor on, over one packet more.
 use Rattle.std.proofs.Common.{◌≡◌, ℕ, ◌-◌, ◌%◌, ◌<◌, ◌==◌, Bool, true, false, cond, Option, Some, None, option_map}
-use Rattle.std.proofs.Common.{List, [], ◌∷◌, ◌++◌, length, drop, take, refl, sym, ap, ap₂, subst, ◌∙◌, arith}
+use Rattle.std.proofs.Common.{List, [], ◌∷◌, ◌++◌, length, drop, refl, sym, ap, subst, ◌∙◌, arith}
 use Rattle.std.proofs.lemmas.List.{length_push, length-drop, map-append, length-map, drop_at, drop-append-le, drop-map}
 use Rattle.std.proofs.lemmas.List.{take_at}
 use Rattle.dtx_packets.specs.Packet.{sync_of}
@@ -12,7 +12,7 @@ use Rattle.dtx_cadence.proofs.NextAnchorLemmas.{new_anchor, ends_with, anchor_fr
 use Rattle.dtx_exciter.specs.declared.answers.Why.TheVariants.{Cadence}
 use Rattle.dtx_exciter.specs.declared.answers.Told.{Told}
 use Rattle.dtx_exciter.specs.declared.answers.Told.TheVariants.{Quiet, Muted}
-use Rattle.dtx_exciter.specs.Told.{was_lost, told_under, told_from, told_of}
+use Rattle.dtx_exciter.specs.Told.{was_lost, told_under, told_of}
 use Rattle.dtx_exciter.specs.Packets.{syncs, reads, readings, anchor_of, under, last_answer}
 
 -- ---- nothing given
@@ -76,23 +76,12 @@ under_by : (d : List (List ℕ)) (o : Option ℕ) → anchor_of d ≡ o → unde
 unfolding under rest
 under_by d o h = ap (λ x. option_map (λ a. drop a d) x) h
 
-said_rest : (d : List (List ℕ)) (o : Option ℕ) → option_map (λ a. drop a (readings d)) o
-    ≡ option_map readings (rest d o)
-unfolding rest
-said_rest d None = refl
-said_rest d (Some a) = ap Some (said_drop a d)
-
 told_by_anchors : (address delay : ℕ) (d : List (List ℕ)) (p : List ℕ) (before now : Option ℕ) → anchor_of d ≡ before
     → anchor_of (d ++ p ∷ []) ≡ now
     → last_answer address delay (d ++ p ∷ []) ≡ cond (was_lost before now) (Muted Cadence)
     (told_under address delay (option_map readings (rest (d ++ p ∷ []) now)))
-unfolding last_answer told_of anchor_of
-told_by_anchors address delay d p before now b n =
-    let shorter : length (syncs (d ++ p ∷ [])) - 1 ≡ length (syncs d) = grind (arith, syncs_push, length_push) in
-    ap (λ s. told_from address delay (anchor s) (anchor (syncs (d ++ p ∷ []))) (readings (d ++ p ∷ [])))
-    (ap₂ take shorter (syncs_push d p) ∙ take_at (syncs d) (sync_of p ∷ []) (length (syncs d)) refl)
-    ∙ ap₂ (λ x y. told_from address delay x y (readings (d ++ p ∷ []))) b n
-    ∙ ap (λ o. cond (was_lost before now) (Muted Cadence) (told_under address delay o)) (said_rest (d ++ p ∷ []) now)
+unfolding last_answer told_of anchor_of rest
+told_by_anchors address delay d p before now b n = grind (arith, syncs_push, length_push, take_at, said_drop)
 
 single : (d : List (List ℕ)) (p : List ℕ) → rest (d ++ p ∷ []) (Some (length d)) ≡ Some (p ∷ [])
 unfolding rest
@@ -111,18 +100,14 @@ longer : (d : List (List ℕ)) (p : List ℕ) (j : ℕ) → j < length d
 unfolding rest
 longer d p j l = ap Some (drop-append-le j d (p ∷ []) (omega arith))
 
--- one packet ends no group
-quiet_single : (address delay : ℕ) (p : List ℕ) → told_under address delay (Some (readings (p ∷ []))) ≡ Quiet
-unfolding readings
-quiet_single address delay p = refl
-
 goes_new : (address delay : ℕ) (d : List (List ℕ)) (p : List ℕ) (b : Bool) → anchor_of d ≡ None
     → anchor_of (d ++ p ∷ []) ≡ cond b (Some (length d)) None
     → Goes address delay d p (seen_by (length d) None (cond b (Some (length d)) None))
+unfolding readings
 goes_new address delay d p true h e = record {
   follows = under_by (d ++ p ∷ []) (Some (length d)) e ∙ single d p;
   answer = told_by_anchors address delay d p None (Some (length d)) h e
-      ∙ ap (λ o. told_under address delay (option_map readings o)) (single d p) ∙ quiet_single address delay p;
+      ∙ ap (λ o. told_under address delay (option_map readings o)) (single d p) ∙ refl;
 }
 goes_new address delay d p false h e = record {
   follows = under_by (d ++ p ∷ []) None e ∙ nothing (d ++ p ∷ []);
@@ -154,26 +139,12 @@ goes_by_test : (address delay : ℕ) (d : List (List ℕ)) (p : List ℕ) (j : �
 goes_by_test address delay d p j true l h e = goes_lost address delay d p j h e
 goes_by_test address delay d p j false l h e = goes_on address delay d p j l h e
 
--- the anchor, of packets
-anchor_with : (d : List (List ℕ)) (p : List ℕ) → anchor_of (d ++ p ∷ []) ≡ anchor (syncs d ++ sync_of p ∷ [])
-unfolding anchor_of
-anchor_with d p = ap anchor (syncs_push d p)
-
-anchor_is : (d : List (List ℕ)) (o : Option ℕ) → anchor (syncs d) ≡ o → anchor_of d ≡ o
-unfolding anchor_of
-anchor_is d o h = h
-
 new_anchor_is : (d : List (List ℕ)) (p : List ℕ)
     → new_anchor (syncs d) (sync_of p) ≡ cond (sync_of p == 0xB8) (Some (length d)) None
 new_anchor_is d p = ap (λ (n : ℕ). cond (sync_of p == 0xB8) (Some n) None) (length-syncs d)
 
--- what is seen, by the anchors of the packets
-seen_is : (d : List (List ℕ)) (p : List ℕ) (before now : Option ℕ) → anchor (syncs d) ≡ before
-    → anchor (syncs d ++ sync_of p ∷ []) ≡ now → seen (syncs d) (sync_of p) ≡ seen_by (length d) before now
-unfolding seen
-seen_is d p before now b n = grind (arith, length-syncs)
-
 pub goes : (address delay : ℕ) (d : List (List ℕ)) (p : List ℕ) → Goes address delay d p (seen (syncs d) (sync_of p))
+unfolding seen anchor_of
 goes address delay d p = by_anchor (anchor (syncs d)) refl
   where
     below : (j : ℕ) → anchor (syncs d) ≡ Some j → j < length d
@@ -183,13 +154,13 @@ goes address delay d p = by_anchor (anchor (syncs d)) refl
     by_anchor None h =
         let e : anchor (syncs d ++ sync_of p ∷ []) ≡ cond (sync_of p == 0xB8) (Some (length d)) None =
         anchor_free (syncs d) (sync_of p) h ∙ new_anchor_is d p in
-        subst (Goes address delay d p) (sym (seen_is d p None (cond (sync_of p == 0xB8) (Some (length d)) None) h e))
-        (goes_new address delay d p (sync_of p == 0xB8) (anchor_is d None h) (anchor_with d p ∙ e))
+        subst (Goes address delay d p) (sym (grind (arith, length-syncs)))
+        (goes_new address delay d p (sync_of p == 0xB8) (h) ((ap anchor (syncs_push d p)) ∙ e))
     by_anchor (Some j) h =
         let t : Bool = ends_with (syncs d) (sync_of p) j in
         let e : anchor (syncs d ++ sync_of p ∷ []) ≡ cond t None (Some j) = anchor_next (syncs d) (sync_of p) j h in
-        subst (Goes address delay d p) (sym (seen_is d p (Some j) (cond t None (Some j)) h e))
-        (goes_by_test address delay d p j t (below j h) (anchor_is d (Some j) h) (anchor_with d p ∙ e))
+        subst (Goes address delay d p) (sym (grind (arith, length-syncs)))
+        (goes_by_test address delay d p j t (below j h) (h) ((ap anchor (syncs_push d p)) ∙ e))
 
 -- ---- what is seen of a packet
 

@@ -1,6 +1,6 @@
 -- Which pages the orders tell.
-use Rattle.std.proofs.Common.{◌≡◌, ◌≢◌, ℕ, zero, suc, ◌+◌, ◌<◌, ◌≤◌, ◌⊎◌, ◌↔◌, ◌==◌, ◌||◌, Bool, true, false}
-use Rattle.std.proofs.Common.{Option, Some, None, List, [], ◌∷◌, refl, sym, ap, ◌∙◌, arith, inl, inr}
+use Rattle.std.proofs.Common.{◌≡◌, ◌≢◌, ℕ, zero, suc, ◌+◌, ◌<◌, ◌≤◌, ◌⊎◌, ◌↔◌, ◌==◌, ◌||◌, Bool, true, false, Option}
+use Rattle.std.proofs.Common.{Some, None, List, [], ◌∷◌, refl, sym, ap, ◌∙◌, arith, inl, inr}
 use Rattle.std.specs.List.{take_while, cons_option}
 use Rattle.std.specs.Option.{unwrap_or}
 use Rattle.std.proofs.lemmas.Bool.{cases_eq, cond-true, cond-false, eq-eqb, ne_eqb, eqb-true, false≢true}
@@ -46,13 +46,6 @@ further said n most k b h = record {
     | inr e ↦ b.later g other l (omega (arith, m, e)) c
   ];
 }
-
-or_left : (a b : Bool) → a ≡ true → (a || b) ≡ true
-or_left a b e = ap (λ x. x || b) e
-
-or_right : (a b : Bool) → b ≡ true → (a || b) ≡ true
-or_right true b e = refl
-or_right false b e = e
 
 told_below : (said : List (Option Ops)) (most k n : ℕ) → is_told (since said most n) k ≡ true → Below said n most k
 told_below said most k zero h = absurd (false≢true h)
@@ -107,8 +100,8 @@ below_told said most k (suc n) b = by_order (counting_order said n) refl (cases_
     by_one : (ops : Ops) → counting_order said n ≡ Some ops → (b.group ≡ n) ⊎ (b.group ≢ n)
         → (Below said n most k → is_told (since said most n) k ≡ true)
         → ((page_of ops.paging == k) || is_told (since said most n) k) ≡ true
-    by_one ops e (inl s) rest = grind (arith, or_left, eq-eqb, same_ops)
-    by_one ops e (inr s) rest = or_right (page_of ops.paging == k) (is_told (since said most n) k) (before rest s)
+    by_one ops e (inl s) rest = grind (arith, eq-eqb, same_ops)
+    by_one ops e (inr s) rest = grind arith
 
     by_order : (o : Option Ops) → counting_order said n ≡ o → (b.group ≡ n) ⊎ (b.group ≢ n)
         → (Below said n most k → is_told (since said most n) k ≡ true) → is_told (take_while (λ o. pages o == most)
@@ -118,11 +111,6 @@ below_told said most k (suc n) b = by_order (counting_order said n) refl (cases_
     by_order (Some ops) e s rest = grind (arith, take_while-cons, cond-true, eq-eqb)
 
 -- ---- of the order in force
-
-cycle_is : (said : List (Option Ops)) (i : ℕ) (order : Order) (older : List Order) → orders said i ≡ order ∷ older
-    → of_one_cycle (order ∷ older) ≡ since said (pages order) (i + 1)
-unfolding orders
-cycle_is said i order older e = sym (grind (arith, take_while-cons, cond-true, eq-eqb))
 
 was_told : (said : List (Option Ops)) (i n k : ℕ) → Below said (i + 1) n k → WasTold said i n k
 was_told said i n k b = record {
@@ -147,10 +135,11 @@ is_below said i n k w = record {
 pub all_told : (said : List (Option Ops)) (i : ℕ) (order : Order) (older : List Order) → orders said i ≡ order ∷ older
     → (all_pages_told (of_one_cycle (order ∷ older)) ≡ true)
     ↔ ((k : ℕ) → k < pages order → WasTold said i (pages order) k)
+unfolding orders
 all_told said i order older e = (forth, back)
   where
     cycle : of_one_cycle (order ∷ older) ≡ since said (pages order) (i + 1)
-    cycle = cycle_is said i order older e
+    cycle = sym (grind (arith, take_while-cons, cond-true, eq-eqb))
 
     forth : all_pages_told (of_one_cycle (order ∷ older)) ≡ true
         → (k : ℕ) → k < pages order → WasTold said i (pages order) k
