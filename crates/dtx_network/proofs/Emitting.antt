@@ -201,9 +201,6 @@ no_other plan t feed mark k end a segments lines line e c low high =
 
 -- ---- two transmitters
 
-whole_grains : (n : ℕ) → n ≡ n / 1539 * 1539 + n % 1539
-whole_grains n = omega arith
-
 pub apart : (plan : Plan) (t u : Transmitter) (s r k l g : ℕ)
     → IsApart (t.offset -ℤ u.offset) (preset_at plan t.offset s k g) (preset_at plan u.offset r l g)
 apart plan t u s r k l g =
@@ -211,7 +208,7 @@ apart plan t u s r k l g =
     let y : ℕ = grains_of (stamp_of plan.start (g / 624)) plan.max_delay u.offset (g % 624) in (
       refl,
       refl,
-      subst (λ (n : ℕ). DifferBy n (y / 1539 * 1539 + y % 1539) ((t.offset -ℤ u.offset) *ℤ pos 1539)) (whole_grains x)
-          (subst (λ (n : ℕ). DifferBy x n ((t.offset -ℤ u.offset) *ℤ pos 1539)) (whole_grains y)
+      subst (λ (n : ℕ). DifferBy n (y / 1539 * 1539 + y % 1539) ((t.offset -ℤ u.offset) *ℤ pos 1539)) (omega arith)
+          (subst (λ (n : ℕ). DifferBy x n ((t.offset -ℤ u.offset) *ℤ pos 1539)) (omega arith)
           (moments_differ (stamp_of plan.start (g / 624)) plan.max_delay (g % 624) t.offset u.offset)),
     )

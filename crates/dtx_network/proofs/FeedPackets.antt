@@ -1,6 +1,5 @@
 -- The packets of a feed have 188 bytes, and each of them is a byte.
-use Rattle.std.proofs.Common.{◌≡◌, inl, inr, ℕ, suc, ◌+◌, ◌<◌, true, List, [], ◌∷◌, length, take, get_or, sym, subst}
-use Rattle.std.proofs.Common.{arith}
+use Rattle.std.proofs.Common.{◌≡◌, inl, inr, ℕ, suc, ◌+◌, ◌<◌, List, [], ◌∷◌, length, take, get_or, sym, subst, arith}
 use Rattle.std.specs.List.{AllByRecursion}
 use Rattle.std.proofs.lemmas.Bool.{cases_Bool, cond-true, cond-false, eqb-true}
 use Rattle.dtx_galois.specs.Field.{AreBytes}
@@ -45,31 +44,23 @@ packet_spelled ops counter k valid l = (
       (codeword_is 184 164 (data_of ops) (omega arith) (length-data_of ops valid) (AreBytes-data_of ops valid)).bytes,
 )
 
-pid_true : (p : List ℕ) → is_placeholder p ≡ true → pid_of p ≡ 0x1FFA
-unfolding is_placeholder
-pid_true p t = eqb-true (pid_of p) 0x1FFA t
-
 packet_made : (ops : Ops) (counter k : ℕ) (p : List ℕ) → IsPacket p → counter < 16 → (pid_of p ≡ 0x1FFA → IsValid ops)
     → IsPacket (as_feed_packet ops counter k p)
-unfolding as_feed_packet
+unfolding as_feed_packet is_placeholder
 packet_made ops counter k p h l valid = elim (cases_Bool (is_placeholder p)) [
-  | inl t ↦ subst IsPacket (sym (grind (arith, cond-true))) (packet_spelled ops counter k (valid (pid_true p t)) l)
+  | inl t ↦ subst IsPacket (sym (grind (arith, cond-true))) (packet_spelled ops counter k (grind (arith, eqb-true)) l)
   | inr f ↦ subst IsPacket (sym (cond-false (is_placeholder p) (spelling ops counter (sync_at k)) (marked k p) f))
       (packet_marked k p h)
 ]
 
 -- ---- all of them
 
-small_counter : (stream : List (List ℕ)) (k : ℕ) → counter_at stream k < 16
-unfolding counter_at
-small_counter stream k = omega arith
-
 packet_fed : (plan : Plan) (stream : List (List ℕ)) (k : ℕ) → IsPlan plan → IsStream stream → k < length stream
     → IsPacket (get_or (feed plan stream) k [])
-unfolding fed_packet
+unfolding fed_packet counter_at
 packet_fed plan stream k p s l = subst IsPacket (sym (feed_packet plan stream k l))
     (packet_made (ops_at plan stream (take k (feed plan stream)) k) (counter_at stream k) k (get_or stream k [])
-    (s.long k [] l, s.bytes k [] l) (small_counter stream k)
+    (s.long k [] l, s.bytes k [] l) (omega arith)
     (λ e. (read_as (get_or (feed plan stream) k []) (ops_at plan stream (take k (feed plan stream)) k)
     (operations_read plan stream k p s e)).valid))
 

@@ -8,16 +8,13 @@ use Rattle.dtx_exciter.specs.Emission.{emission}
 use Rattle.dtx_exciter.specs.Log.{life_lines}
 use Rattle.dtx_network.specs.Plans.{IsPlan, IsStream, IsListed, IsInTime}
 use Rattle.dtx_network.specs.Presets.{presets}
-use Rattle.dtx_network.specs.Headline.{IsFirstListing, HasNoListing, HaveNoMark, IsFedAnew, stretch_of}
+use Rattle.dtx_network.specs.Headline.{IsFirstListing, HasNoListing, IsFedAnew, stretch_of}
 use Rattle.dtx_network.proofs.FromMark as behind
 use Rattle.dtx_network.proofs.FromMark.{from_mark}
 
-nothing_unmarked : HaveNoMark []
-nothing_unmarked = λ i l. absurd (omega (arith, l))
-
 fed_anew : (plan : Plan) (stream : List (List ℕ)) (t : Transmitter) (n : ℕ) → IsPlan plan → IsStream stream
     → IsListed plan t → IsInTime plan t → n ≤ length (feed plan stream) → IsFedAnew plan stream t t.delay [] 0 n
-fed_anew plan stream t n p u listed time l = grind (arith, nothing_unmarked)
+fed_anew plan stream t n p u listed time l = grind arith
 
 zero : (n : ℕ) → 0 + n ≡ n
 zero n = omega arith

@@ -26,17 +26,6 @@ use Rattle.dtx_exciter.specs.Pages as pages
 
 -- ---- pages
 
--- each order tells as many pages
-pub pages_are : {X : Type 0} (ts : List X) (n m : ℕ) → pages_of (paging_of ts n) ≡ pages_of (paging_of ts m)
-unfolding paging_of
-pages_are ts n m = grind arith
-
--- a page and its like list the same transmitters
-pub same_page : {X : Type 0} (ts : List X) (n m who : ℕ) → page_of (paging_of ts n) ≡ page_of (paging_of ts m)
-    → is_listed (paging_of ts n) who ≡ is_listed (paging_of ts m) who
-unfolding paging_of
-same_page ts n m who = grind arith
-
 -- a page that a transmitter doesn't stand on: there is another one, which is its own
 pub not_its_page : {X : Type 0} (ts : List X) (n who : ℕ) → who < length ts → is_listed (paging_of ts n) who ≡ false
     → (page_of (paging_of ts n) ≢ who / 34) × (who / 34 < pages_of (paging_of ts n))
@@ -143,9 +132,6 @@ listing_few plan stream t who g p s listed few =
 
 -- ---- a group that lists somebody orders something
 
-listing_packet : (address : ℕ) (p : List ℕ) → is_listing address (reads p) ≡ true → (pid_of p == 0x1FFA) ≡ true
-listing_packet address p h = grind (arith, cases_Bool, reads_other, eqb-false)
-
 either_passes : (a b c d : Bool) → (a ≡ true → c ≡ true) → (b ≡ true → d ≡ true) → (a || b) ≡ true → (c || d) ≡ true
 either_passes true b c d f g h = ap (λ (x : Bool). x || d) (f refl)
 either_passes false b true d f g h = refl
@@ -159,7 +145,7 @@ any_passes p q (x ∷ xs) h e = either_passes (p x) (list_any p xs) (q x) (list_
 pub listing_orders : (address : ℕ) (packets : List (List ℕ)) (g : ℕ) → has_listing address packets g ≡ true
     → has_order packets g ≡ true
 unfolding has_listing has_order is_operations
-listing_orders address packets g h = grind (arith, any_passes, listing_packet)
+listing_orders address packets g h = grind (arith, any_passes, cases_Bool, reads_other, eqb-false)
 
 -- ---- two orders
 
@@ -169,14 +155,8 @@ earlier stream g = filled_groups stream (g / 4)
 
 same_pages : (plan : Plan) (stream : List (List ℕ)) (g h : ℕ) (ops other : Ops) → IsOrder plan stream g ops
     → IsOrder plan stream h other → pages_of ops.paging ≡ pages_of other.paging
-same_pages plan stream g h ops other o p = grind (arith, pages_are)
-
-same_lists : (plan : Plan) (stream : List (List ℕ)) (t : Transmitter) (who g h : ℕ) (ops other : Ops) → IsPlan plan
-    → slice_get plan.transmitters who ≡ Some t → IsOrder plan stream g ops → IsOrder plan stream h other
-    → page_of ops.paging ≡ page_of other.paging → pages.lists t.address ops ≡ pages.lists t.address other
-same_lists plan stream t who g h ops other p listed o q same = lists_is plan stream t who g ops p listed o
-    ∙ same_page plan.transmitters (earlier stream g) (earlier stream h) who (grind arith)
-    ∙ sym (lists_is plan stream t who h other p listed q)
+unfolding paging_of
+same_pages plan stream g h ops other o p = grind arith
 
 -- ---- one order
 
@@ -191,11 +171,6 @@ own_offset plan stream t who g ops e p listed o h =
     sym (ap (λ (x : Entry). x.offset) (some_picked (is_listed (paging_at plan stream (g / 4)) who) (entry_of t) e
     (sym (entry_is plan stream t who g ops p listed o) ∙ h)))
 
-serves_it : (plan : Plan) (stream : List (List ℕ)) (t : Transmitter) (delay g : ℕ) (ops : Ops)
-    → pos delay ≤ℤ (pos plan.max_delay +ℤ t.offset) → IsOrder plan stream g ops
-    → pos delay ≤ℤ (pos ops.max_delay +ℤ t.offset)
-serves_it plan stream t delay g ops time o = grind arith
-
 -- ---- the feed
 
 pub mark_told : (b : Bool) → (cond b 0xB8 0x47 == 0xB8) ≡ b
@@ -205,8 +180,9 @@ mark_told false = refl
 locks_at : (plan : Plan) (stream : List (List ℕ)) (t : Transmitter) (delay who : ℕ) → IsPlan plan → IsStream stream
     → slice_get plan.transmitters who ≡ Some t → pos delay ≤ℤ (pos plan.max_delay +ℤ t.offset)
     → IsFeed t.address delay t.offset (feed plan stream)
+unfolding paging_of
 locks_at plan stream t delay who p s listed time =
-    grind (arith, length-feed, sync_fed, mark_told, order_says, same_pages, same_lists, own_offset, serves_it)
+    grind (arith, length-feed, sync_fed, mark_told, order_says, same_pages, lists_is, own_offset)
 
 -- the place of a listed transmitter
 pub place_of : (plan : Plan) (t : Transmitter) → IsListed plan t

@@ -189,10 +189,6 @@ own_at who (Some w) (a ∷ actions) n =
     own_elsewhere who (record { who = w; packet = a }) (steps_at (Some w) actions) (λ e. n (ap Some e))
     ∙ own_at who (Some w) actions n
 
-not_here : (ts : List Transmitter) (t : Transmitter) (who : ℕ) (event : Event) → slice_get ts who ≡ Some t
-    → to_of event ≢ t.address → transmitter_place (to_of event) ts ≢ Some who
-not_here ts t who event listed n = grind (arith, place_found, get_or_from_slice_get)
-
 done_by_others : (plan : Plan) (stream : List (List ℕ)) (t : Transmitter) (who : ℕ) (events : List Event)
     → slice_get plan.transmitters who ≡ Some t → AreOfOthers t events → done_in plan stream who events ≡ []
 unfolding done_in schedule steps_of
@@ -201,7 +197,7 @@ done_by_others plan stream t who (event ∷ events) listed others =
     own_more who (steps_at (transmitter_place (to_of event) plan.transmitters) (actions_of (feed plan stream) event))
     (schedule plan.transmitters (feed plan stream) events) ∙ ap₂ (λ (x y : List (Option (List ℕ))). x ++ y)
     (own_at who (transmitter_place (to_of event) plan.transmitters) (actions_of (feed plan stream) event)
-    (not_here plan.transmitters t who event listed others.0)) (done_by_others plan stream t who events listed others.1)
+    (grind (arith, place_found, get_or_from_slice_get))) (done_by_others plan stream t who events listed others.1)
 
 -- ---- it joins
 

@@ -1,7 +1,7 @@
 -- What a feed orders, group by group.
 use Rattle.std.proofs.Common.{◌≡◌, ◌≢◌, inl, inr, ℕ, zero, suc, ◌+◌, ◌%◌, ◌<◌, ◌≤◌, ◌==◌, ◌&&◌, ◌||◌, Bool, true, false}
-use Rattle.std.proofs.Common.{cond, Option, Some, None, option_map, All, List, [], ◌∷◌, length, take, get_or, refl, sym}
-use Rattle.std.proofs.Common.{ap, ap₂, subst, ◌∙◌, arith, nat_le, is_some, Ok, eqb-true, eq-eqb, ne_eqb, le-leb}
+use Rattle.std.proofs.Common.{cond, Option, Some, None, option_map, List, [], ◌∷◌, length, take, get_or, refl, sym, ap}
+use Rattle.std.proofs.Common.{ap₂, subst, ◌∙◌, arith, nat_le, is_some, Ok, eqb-true, eq-eqb, ne_eqb, le-leb}
 use Rattle.std.specs.List.{range_with_len, list_any, find}
 use Rattle.std.proofs.lemmas.Bool.{cases_lt, cases_Bool, cond-true, cond-false, eqb-false, and_parts, and_from}
 use Rattle.std.proofs.lemmas.List.{get_or_past}
@@ -10,15 +10,14 @@ use Rattle.std.proofs.Math.ListN.{get_or-map}
 use Rattle.dtx_lists.proofs.RangeSearch.{find-range_gives}
 use Rattle.dtx_packets.specs.Packet.{pid_of}
 use Rattle.dtx_ops.specs.declared.fields.Ops.{Ops}
-use Rattle.dtx_ops.specs.Spelling.{IsEntry}
 use Rattle.dtx_ops.specs.Reading.{reading}
 use Rattle.dtx_ops.proofs.ReadingsLemmas.{read_as}
 use Rattle.dtx_ops.proofs.RefusingLemmas.{reading_other}
 use Rattle.dtx_plan.specs.declared.plan.Plan.{Plan}
-use Rattle.dtx_adapter.specs.Feed.{entry_of, ops_at, feed}
+use Rattle.dtx_adapter.specs.Feed.{ops_at, feed}
 use Rattle.dtx_adapter.proofs.FeedsLemmas.{length-feed}
 use Rattle.dtx_adapter.proofs.ReadingsLemmas.{placeholder_reads, others_stay, said_states}
-use Rattle.dtx_exciter.specs.Order.{either, ordered, ordered_at, order_at, counting_order}
+use Rattle.dtx_exciter.specs.Order.{ordered, ordered_at, order_at, counting_order}
 use Rattle.dtx_exciter.specs.Packets.{read_fields, reads, readings}
 use Rattle.dtx_network.specs.Plans.{IsPlan, IsStream}
 use Rattle.dtx_network.specs.Orders.{is_operations, has_order, first_operations, order_of, IsOrder}
@@ -50,15 +49,11 @@ pub other_stays : (plan : Plan) (stream : List (List ℕ)) (k : ℕ) → pid_of 
     → pid_of (get_or (feed plan stream) k []) ≢ 0x1FFA
 other_stays plan stream k other = grind (arith, cases_lt, others_stay, no_pid, get_or_past, length-feed)
 
--- the plan's transmitters are entries of an operations packet
-are_entries : (plan : Plan) → IsPlan plan → All (λ t. IsEntry (entry_of t)) plan.transmitters
-are_entries plan p = grind (arith, All-weaker)
-
 -- each of them reads as what is said at its place
 pub operations_read : (plan : Plan) (stream : List (List ℕ)) (k : ℕ) → IsPlan plan → IsStream stream
     → pid_of (get_or stream k []) ≡ 0x1FFA
     → reading (get_or (feed plan stream) k []) ≡ Ok (ops_at plan stream (take k (feed plan stream)) k)
-operations_read plan stream k p s e = grind (arith, placeholder_reads, are_entries, within)
+operations_read plan stream k p s e = grind (arith, placeholder_reads, All-weaker, within)
 
 -- they stand where the stream's placeholders stand
 pub same_operations : (plan : Plan) (stream : List (List ℕ)) (k : ℕ) → IsPlan plan → IsStream stream
@@ -83,19 +78,14 @@ same_orders plan stream g p s = grind (arith, any_same, same_operations)
 
 -- ---- what a group orders
 
-index_is : (plan : Plan) (stream before : List (List ℕ)) (k : ℕ) → (ops_at plan stream before k).index ≡ k % 624
-unfolding ops_at
-index_is plan stream before k = refl
-
 ordered_is : (plan : Plan) (stream : List (List ℕ)) (k : ℕ) → IsPlan plan → IsStream stream
     → ordered_at (readings (feed plan stream)) k ≡ cond (is_operations stream k)
     (Some (ops_at plan stream (take k (feed plan stream)) k)) None
-unfolding is_operations
+unfolding is_operations ops_at
 ordered_is plan stream k p s = elim (cases_Bool (is_operations stream k)) [
   | inl t ↦ ap (ordered (k % 624)) (said_at (feed plan stream) k ∙ reads_as (get_or (feed plan stream) k []) ops
       (operations_read plan stream k p s (eqb-true (pid_of (get_or stream k [])) 0x1FFA t)))
-      ∙ cond-true (ops.index == k % 624) (Some ops) None
-      (eq-eqb ops.index (k % 624) (index_is plan stream (take k (feed plan stream)) k))
+      ∙ cond-true (ops.index == k % 624) (Some ops) None (eq-eqb ops.index (k % 624) (refl))
       ∙ sym (cond-true (is_operations stream k) (Some ops) None t)
   | inr f ↦ grind (arith, said_at, reads_other, other_stays, eqb-false, cond-false, ops)
 ]
@@ -103,26 +93,10 @@ ordered_is plan stream k p s = elim (cases_Bool (is_operations stream k)) [
     ops : Ops
     ops = ops_at plan stream (take k (feed plan stream)) k
 
--- the first of two, where a test picks it
-either_picked : {A : Type 0} (b : Bool) (pick : ℕ → A) (k : ℕ) (o : Option A) (rest : Option ℕ)
-    → o ≡ option_map pick rest → either (cond b (Some (pick k)) None) o ≡ option_map pick (cond b (Some k) rest)
-either_picked true pick k o rest e = refl
-either_picked false pick k o rest e = e
-
-last_picked : {A : Type 0} (b : Bool) (pick : ℕ → A) (k : ℕ)
-    → cond b (Some (pick k)) None ≡ option_map pick (cond b (Some k) None)
-last_picked true pick k = refl
-last_picked false pick k = refl
-
-first_picked : {A : Type 0} (f : ℕ → Option A) (p : ℕ → Bool) (pick : ℕ → A) (g : ℕ)
-    → ((k : ℕ) → f k ≡ cond (p k) (Some (pick k)) None)
-    → either (f g) (either (f (g + 1)) (either (f (g + 2)) (f (g + 3)))) ≡ option_map pick (find p (range_with_len g 4))
-first_picked {A} f p pick g h = grind (arith, last_picked, either_picked)
-
 pub order_is : (plan : Plan) (stream : List (List ℕ)) (g : ℕ) → IsPlan plan → IsStream stream
     → counting_order (readings (feed plan stream)) g ≡ order_of plan stream g
 unfolding counting_order order_of order_at first_operations
-order_is plan stream g p s = grind (arith, first_picked, ordered_is)
+order_is plan stream g p s = grind (arith, ordered_is)
 
 -- ---- what its fields are
 
@@ -168,10 +142,6 @@ some_of : (o : Option ℕ) → is_some o ≡ true → (j : ℕ) × (o ≡ Some j
 some_of None e = cc
 some_of (Some j) e = (j, refl)
 
-none_of : (o : Option ℕ) → is_some o ≡ false → o ≡ None
-none_of None e = refl
-none_of (Some j) e = cc
-
 pub order_some : (plan : Plan) (stream : List (List ℕ)) (g : ℕ) → IsPlan plan → IsStream stream → 52 ≤ g → g % 4 ≡ 0
     → has_order (feed plan stream) g ≡ true → (ops : Ops) × (counting_order (readings (feed plan stream)) g ≡ Some ops)
 unfolding order_of first_operations has_order
@@ -184,11 +154,7 @@ order_some plan stream g p s far whole h =
           ∙ ap (option_map (λ k. ops_at plan stream (take k (feed plan stream)) k)) found.1,
     )
 
-cond_none : {A : Type 0} (b : Bool) (o : Option A) → o ≡ None → cond b o None ≡ None
-cond_none true o e = e
-cond_none false o e = refl
-
 pub order_none : (plan : Plan) (stream : List (List ℕ)) (g : ℕ) → IsPlan plan → IsStream stream
     → has_order (feed plan stream) g ≡ false → counting_order (readings (feed plan stream)) g ≡ None
 unfolding order_of first_operations has_order
-order_none plan stream g p s h = grind (arith, order_is, cond_none, none_of, any_found, same_orders)
+order_none plan stream g p s h = grind (arith, order_is, any_found, same_orders)

@@ -1,6 +1,6 @@
 -- A stretch as it was sent is readable, whatever stands before it and behind it.
 use Rattle.std.proofs.Common.{◌≡◌, ◌⊎◌, inl, inr, ℕ, ℤ, ◌+◌, ◌-◌, ◌*◌, ◌/◌, ◌%◌, ◌<◌, ◌≤◌, List, [], ◌++◌, length, take}
-use Rattle.std.proofs.Common.{drop, get_or, sym, ap, subst, ◌∙◌, arith}
+use Rattle.std.proofs.Common.{get_or, sym, ap, subst, ◌∙◌, arith}
 use Rattle.std.proofs.lemmas.Bool.{cases_lt}
 use Rattle.std.proofs.lemmas.List.{length-take, length-drop, take_all, get_or-take, get_or-drop, get_or-append-add}
 use Rattle.std.proofs.lemmas.List.{get_or_append_left}
@@ -31,11 +31,6 @@ sync_place k f l z = grind (arith, field_turn)
 
 -- ---- the stretch's part of the run
 
-stretch_at : (feed : List (List ℕ)) (k end i : ℕ) → i < length (stretch_of feed k end)
-    → get_or (stretch_of feed k end) i [] ≡ get_or (a53 feed) (segment_place k + i) []
-unfolding stretch_of
-stretch_at feed k end i l = grind (arith, get_or-take, length-take, get_or-drop)
-
 stretch_within : (feed : List (List ℕ)) (k end : ℕ) → 0 < length (stretch_of feed k end)
     → segment_place k + length (stretch_of feed k end) ≤ length (a53 feed)
 unfolding stretch_of
@@ -46,45 +41,17 @@ run_at : (before rest : List (List ℤ)) (a n i : ℕ) → i < n
     → get_or (segments_in (before ++ rest) (length before + a, n)) i [] ≡ get_or rest (a + i) []
 run_at before rest a n i l = grind (arith, get_or-take, get_or-drop, get_or-append-add)
 
-length-run : (segments : List (List ℤ)) (p n : ℕ) → length (segments_in segments (p, n)) ≤ n
-length-run segments p n = omega (arith, length-take (p + n - p) (drop p segments))
-
 -- the stretch's part stands in the feed's own segments
 part_there : (feed : List (List ℕ)) (k end f n : ℕ) (before after : List (List ℤ)) → BeginsField k end f
     → let run : List (List ℤ) =
     segments_in (before ++ (stretch_of feed k end ++ after)) (length before + to_field k f, n) in
     0 < length run → to_field k f < length (stretch_of feed k end)
     → IsThere feed (f / 312) (take (left_from feed k end f) run)
-unfolding left_from
+unfolding left_from stretch_of
 part_there feed k end f n before after begins some inside =
-    let t : ℕ = to_field k f in
-    let m : ℕ = length (stretch_of feed k end) - to_field k f in
-    let run : List (List ℤ) = segments_in (before ++ ((stretch_of feed k end) ++ after)) (length before + t, n) in
-    let at : segment_place k + t ≡ 313 * (f / 312) = sync_place k f begins.behind begins.begins in
-    let less = length-take m run in
-    let most = length-run (before ++ ((stretch_of feed k end) ++ after)) (length before + t) n in
-    record {
-      some = omega (arith, some, less, inside);
-      within = omega (arith, less, at, inside, stretch_within feed k end (omega (arith, inside)));
-      same = λ i l. grind (arith, get_or-take, run_at, get_or_append_left, stretch_at);
-    }
+    grind (arith, sync_place, length-take, stretch_within, get_or-take, run_at, get_or_append_left, get_or-drop)
 
 -- ---- the words that lie in it
-
--- it has the groups up to the stretch's last one
-groups_left : (q v a : ℕ) → 312 * q + 4 * a + 3 ≤ 4 * v - 1
-    → let m : ℕ = 4 * v - 1 + (4 * v - 1) / 312 + 2 - 313 * q in a < (m - (m + 312) / 313) / 4
-groups_left q v a l = grind arith
-
-length-left : (feed : List (List ℕ)) (k end f : ℕ) → end ≤ length feed → BeginsField k end f
-    → left_from feed k end f ≡ 4 * (end / 4) - 1 + (4 * (end / 4) - 1) / 312 + 2 - 313 * (f / 312)
-unfolding left_from
-length-left feed k end f inside begins = grind (arith, sync_place, length-stretch_of)
-
--- the stretch holds the field sync
-field_within : (feed : List (List ℕ)) (k end f : ℕ) → end ≤ length feed → BeginsField k end f
-    → to_field k f < length (stretch_of feed k end)
-field_within feed k end f inside begins = grind (arith, length-stretch_of)
 
 -- the run ends within the stretch, or holds all of it from there on
 complete_in : (feed : List (List ℕ)) (k end f j : ℕ) (run : List (List ℤ)) → ArePackets feed → end ≤ length feed
@@ -93,12 +60,12 @@ complete_in : (feed : List (List ℕ)) (k end f j : ℕ) (run : List (List ℤ))
     → ((i : ℕ) → i < 207 → f + 4 * (codeword_byte_place 52 4 (207 * j + i) / 828) + 3 ≤ last_packet end)
     → (length run < left_from feed k end f) ⊎ (left_from feed k end f ≤ length run)
     → IsComplete 207 52 4 (828 * groups_of (take (left_from feed k end f) run)) j
-unfolding groups_of data_count
+unfolding groups_of data_count left_from
 complete_in feed k end f j run p inside begins there given lies (inl l) = subst (λ (n : ℕ). IsComplete 207 52 4 n j)
     (ap (λ (r : List (List ℤ)). length (bytes_in r)) (sym (take_all (left_from feed k end f) run (omega (arith, l))))
     ∙ length-bytes_there feed (f / 312) (take (left_from feed k end f) run) p there) given
 complete_in feed k end f j run p inside begins there given lies (inr l) =
-    grind (arith, left_from, length-take, length-left, field_turn, groups_left)
+    grind (arith, left_from, length-take, sync_place, length-stretch_of, field_turn)
 
 -- ---- the stretch is readable
 
@@ -114,8 +81,7 @@ readable feed k end f n j before after p inside begins given lies =
     segments_in (before ++ (stretch_of feed k end ++ after)) (length before + to_field k f, n) in
     let m : ℕ = left_from feed k end f in
     let there : IsThere feed (f / 312) (take m run) =
-    part_there feed k end f n before after begins (some_segments run j given)
-    (field_within feed k end f inside begins) in
+    part_there feed k end f n before after begins (some_segments run j given) (grind (arith, length-stretch_of)) in
     let c = complete_in feed k end f j run p inside begins there given lies (cases_lt (length run) m) in
     record {
       given = given;

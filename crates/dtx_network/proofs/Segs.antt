@@ -1,22 +1,17 @@
 -- Of which segments the lines of a log speak: those of a life of nothing before the life, nor of anything behind it.
-use Rattle.std.proofs.Common.{◌≡◌, ℕ, ℤ, zero, suc, ◌+◌, ◌-◌, ◌*◌, ◌<◌, ◌≤◌, Bool, true, false, cond, Option, Some}
-use Rattle.std.proofs.Common.{None, All, List, [], ◌∷◌, ◌++◌, length, take, drop, get_or, refl, sym, ap, ◌∙◌, arith}
-use Rattle.std.proofs.Common.{length-append, take-append-drop}
+use Rattle.std.proofs.Common.{◌≡◌, ℕ, ℤ, zero, suc, ◌+◌, ◌-◌, ◌<◌, ◌≤◌, Some, None, All, List, [], ◌∷◌, ◌++◌, length}
+use Rattle.std.proofs.Common.{take, drop, get_or, refl, sym, ap, ◌∙◌, arith, length-append, take-append-drop}
 use Rattle.std.specs.List.{range_with_len, flat_map}
 use Rattle.std.proofs.lemmas.List.{take_more}
 use Rattle.std.proofs.lemmas.List.Elements.{All-nil, All-cons, All-append, All-weaker}
 use Rattle.std.proofs.lemmas.List.FromFn.{length-map-range_with_len}
-use Rattle.dtx_coder.specs.Stream.{segment, four_segments}
-use Rattle.dtx_coder.specs.Along.{levels_since}
-use Rattle.dtx_exciter.specs.declared.answers.Why.{Why}
+use Rattle.dtx_coder.specs.Stream.{four_segments}
 use Rattle.dtx_exciter.specs.declared.answers.Preset.{Preset}
 use Rattle.dtx_exciter.specs.declared.answers.Told.{Told}
 use Rattle.dtx_exciter.specs.declared.answers.Told.TheVariants.{Quiet, Sent, Muted}
-use Rattle.dtx_exciter.specs.Order.{Order}
-use Rattle.dtx_exciter.specs.Told.{told_why, told_at, told_under, told_of}
-use Rattle.dtx_exciter.specs.Packets.{readings, anchor_of, under, last_answer}
-use Rattle.dtx_exciter.specs.Emission.{segments_since, sent_by, sent_at, behind_field_sync, given_under, last_segments}
-use Rattle.dtx_exciter.specs.Emission.{emission}
+use Rattle.dtx_exciter.specs.Told.{told_of}
+use Rattle.dtx_exciter.specs.Packets.{anchor_of, under, last_answer}
+use Rattle.dtx_exciter.specs.Emission.{segments_since, sent_at, last_segments, emission}
 use Rattle.dtx_exciter.specs.Log.{preset, restart, line_of, life_lines, restarted_lines, restarting_lines}
 use Rattle.dtx_exciter.specs.Log.{emission_over}
 use Rattle.dtx_exciter.specs.Stretch.{emission_behind, lines_behind}
@@ -26,46 +21,12 @@ use Rattle.dtx_network.specs.Headline.{segment_of, line_end}
 
 -- ---- a preset has its group's segments
 
-length-since : (g : ℕ) (q : List ℕ) (packets : List (List ℕ)) (u : ℕ) → length (segments_since g q packets u) ≡ 4
-unfolding segments_since four_segments
-length-since g q packets u = length-map-range_with_len (segment (levels_since g q packets)) (4 * (u - g)) 4
-
-with_sync_long : (i : ℕ) (before after : List (List ℤ)) → length after ≤ length (behind_field_sync i before after)
-with_sync_long i before [] = omega arith
-with_sync_long i [] (s ∷ ss) = omega arith
-with_sync_long i (b ∷ bs) (s ∷ ss) = grind (arith, length-append)
-
-not_sent : (t : Bool) (why : Option Why) (p : Preset) → cond t (told_why why) Quiet ≡ Sent (Some p) → ⊥
-not_sent true None p e = cc
-not_sent true (Some why) p e = cc
-not_sent false why p e = cc
-
-sent_long : (a d : ℕ) (packets : List (List ℕ)) (i : ℕ) (r : List Order) (p : Preset)
-    → told_at a d i r ≡ Sent (Some p) → 4 ≤ length (sent_by a d packets i r)
-sent_long a d packets i [] p e = cc
-sent_long a d packets i (order ∷ older) p e = grind (arith, length-since, not_sent)
-
-given_at : (a d : ℕ) (l : List (List ℕ)) (p : Preset) → told_under a d (Some (readings l)) ≡ Sent (Some p)
-    → 4 ≤ length (given_under a d (Some l))
-unfolding sent_at
-given_at a d l p e = grind (arith, length-said, sent_long, with_sync_long)
-
 given_long : (a d : ℕ) (packets : List (List ℕ)) (p : Preset) → last_answer a d packets ≡ Sent (Some p)
     → 4 ≤ length (last_segments a d packets)
-unfolding last_answer told_of last_segments under anchor_of
-given_long a d packets p e = grind (arith, given_at, said_drop)
+unfolding last_answer told_of last_segments under anchor_of sent_at segments_since four_segments
+given_long a d packets p e = grind (arith, length-said, length-map-range_with_len, length-append, said_drop)
 
 -- ---- one line
-
-line_up : (n m : ℕ) (t : Told) → ((p : Preset) → t ≡ Sent (Some p) → 4 ≤ m)
-    → All (λ line. line_end line ≤ n + m) (line_of n m t)
-line_up n m Quiet h = All-nil (λ line. line_end line ≤ n + m)
-line_up n m (Sent None) h = All-nil (λ line. line_end line ≤ n + m)
-line_up n m (Sent (Some p)) h =
-    let few : 4 ≤ m = h p refl in
-    All-cons (λ line. line_end line ≤ n + m) (preset (n + m - 4) p.frame p.packet p.moment.tick p.moment.grain) []
-    (omega (arith, few)) (All-nil (λ line. line_end line ≤ n + m))
-line_up n m (Muted why) h = grind (arith, All-cons, All-nil)
 
 line_down : (n m : ℕ) (t : Told) → ((p : Preset) → t ≡ Sent (Some p) → 4 ≤ m)
     → All (λ line. n ≤ segment_of line) (line_of n m t)
@@ -106,7 +67,7 @@ unfolding life_lines
 life_up a d n life = all_flat (λ line. line_end line ≤ n + length (emission a d life))
     (λ i. line_of (n + length (emission a d (take i life))) (length (last_segments a d (take (i + 1) life)))
     (last_answer a d (take (i + 1) life))) 0 (length life)
-    (λ i l m. grind (arith, emission_up, All-weaker, line_up, given_long))
+    (λ i l m. grind (arith, emission_up, All-weaker, All-nil, All-cons, given_long))
 
 pub life_down : (a d n : ℕ) (life : List (List ℕ)) → All (λ line. n ≤ segment_of line) (life_lines a d n life)
 unfolding life_lines

@@ -127,11 +127,6 @@ kept_in p a (suc n) g from to passes = by_place (λ l. kept_in p (a + 1) n g (om
     by_place h (inl l) = kept_behind (p a) a g rest (h l)
     by_place h (inr l) = grind (arith, filter-kept)
 
-pub orders_same : (plan : Plan) (stream : List (List ℕ)) (k end : ℕ) → IsPlan plan → IsStream stream
-    → orders (feed plan stream) k end ≡ orders stream k end
-unfolding orders
-orders_same plan stream k end p s = grind (arith, filter_agree, same_orders)
-
 -- a group of these that lists it
 pub record ListsAmong (address : ℕ) (packets : List (List ℕ)) (k end : ℕ) : Type 0 where
   pub group : ℕ
@@ -192,6 +187,7 @@ lists_in_turn plan stream t k end p s listed enough =
 pub in_turn_listed : (plan : Plan) (stream : List (List ℕ)) (t : Transmitter) (k end : ℕ) → IsPlan plan
     → IsStream stream → IsListed plan t → pages_in plan ≤ length (orders (feed plan stream) k end)
     → (g : ℕ) × Contains (orders (feed plan stream) k end) g × (has_listing t.address (feed plan stream) g ≡ true)
+unfolding orders
 in_turn_listed plan stream t k end p s listed enough =
-    let one = lists_in_turn plan stream t k end p s listed (grind (arith, orders_same)) in
+    let one = lists_in_turn plan stream t k end p s listed (grind (arith, filter_agree, same_orders)) in
     (one.group, one.among, one.listing)

@@ -1,7 +1,7 @@
 -- An exciter that waits for its page: no order in force so far lists it.
-use Rattle.std.proofs.Common.{◌≡◌, ◌≢◌, inl, inr, ℕ, zero, suc, ◌+◌, ◌<◌, ◌≤◌, ◌==◌, Bool, true, false, cond, All}
-use Rattle.std.proofs.Common.{Option, Some, None, Err, List, [], ◌∷◌, refl, sym, ap, ap₂, subst, ◌∙◌, arith}
-use Rattle.std.proofs.Common.{option_and_then, not, find, true≢false, ne_eqb}
+use Rattle.std.proofs.Common.{◌≡◌, ◌≢◌, inl, inr, ℕ, zero, suc, ◌+◌, ◌<◌, ◌≤◌, ◌==◌, Bool, false, cond, All, Option}
+use Rattle.std.proofs.Common.{Some, None, Err, List, [], ◌∷◌, refl, sym, ap, ap₂, ◌∙◌, arith, option_and_then, not}
+use Rattle.std.proofs.Common.{find, true≢false, ne_eqb}
 use Rattle.std.specs.List.{range_with_len, take_while, prefix_len, list_all, cons_option}
 use Rattle.std.proofs.lemmas.Bool.{cases_Bool}
 use Rattle.std.proofs.lemmas.List.Elements.{All-nil, All-cons, All-head, All-tail, All-take, All-weaker}
@@ -73,14 +73,10 @@ none_served address delay own (order ∷ older) h =
 
 -- ---- what is answered and sent then
 
-quiet_both : (t : Bool) → cond t Quiet Quiet ≡ Quiet
-quiet_both true = refl
-quiet_both false = refl
-
 pub told_waits : (address delay i : ℕ) (r : List Order) → served address delay r ≡ Err None
     → told_at address delay i r ≡ Quiet
 told_waits address delay i [] e = refl
-told_waits address delay i (order ∷ older) e = grind (arith, quiet_both)
+told_waits address delay i (order ∷ older) e = grind arith
 
 pub sent_waits : (address delay : ℕ) (packets : List (List ℕ)) (i : ℕ) (r : List Order)
     → served address delay r ≡ Err None → sent_by address delay packets i r ≡ []
@@ -100,14 +96,9 @@ All-latest P f zero h = All-nil P
 All-latest P f (suc n) h = All-cons_option P (f n) (latest_first f n) (λ x e. h n x (omega arith) e)
     (All-latest P f n (λ g x l e. h g x (omega arith) e))
 
-placed_is : (P : Order → Type 0) (g : ℕ) (o : Option Ops) (order : Order)
-    → ((ops : Ops) → o ≡ Some ops → P (record { place = g; ops = ops })) → placed g o ≡ Some order → P order
-placed_is P g None order h e = cc
-placed_is P g (Some ops) order h e = subst P (same_Some (record { place = g; ops = ops }) order e) (h ops refl)
-
 pub All-orders : (P : Order → Type 0) (said : List (Option Ops)) (i : ℕ)
     → ((g : ℕ) (ops : Ops) → g ≤ i → counting_order said g ≡ Some ops → P (record { place = g; ops = ops }))
     → All P (orders said i)
 unfolding orders
-All-orders P said i h = All-latest P (λ g. placed g (counting_order said g)) (i + 1) (λ g order l e.
-    placed_is P g (counting_order said g) order (λ ops f. h g ops (omega (arith, l)) f) e)
+All-orders P said i h = All-latest P (λ g. placed g (counting_order said g)) (i + 1)
+    (λ g order l e. grind (arith, same_Some))
