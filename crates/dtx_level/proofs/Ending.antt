@@ -9,16 +9,15 @@ use Rattle.dtx_acquire.specs.Acquired.{is_met}
 use Rattle.dtx_level.proofs.MeasuresBehind.{measures_none, measures_last}
 use Rattle.dtx_level.proofs.Steps.{by_closed}
 use Rattle.dtx_level.proofs.StretchesBehind.{levelled_alone, levelled_last}
-use Rattle.dtx_level.proofs.SyncsBehind.{unmet, all_last, no_syncs}
+use Rattle.dtx_level.proofs.SyncsBehind.{unmet, all_last}
 use Rattle.dtx_level.proofs.Tallies.{last_more, last_some, met_last, tally_after}
 use Rattle.dtx_level.specs.Levelled.{levelled_so_far, nothing, By, level, last_behind, known, levelled, levelled_behind}
 use Rattle.dtx_level.specs.Levelled.{levelled_rest, stretches}
 use Rattle.dtx_level.specs.Leveller.{Holding, StandsFor, all_given, as_list, where_wanted, IsTally, slip_after}
 use Rattle.dtx_level.specs.Leveller.{Leaves, places_of, shown, are_some, closed, cleared, stretched}
 use Rattle.dtx_level.specs.Measures.{later_by, measure_at, measures_rest, measures_where}
-use Rattle.dtx_level.specs.Shown.{shows}
 use Rattle.dtx_level.proofs.Shows.{past_end}
-use Rattle.dtx_level.specs.Syncs.{all_syncs, slips_behind, syncs_where, slips}
+use Rattle.dtx_level.specs.Syncs.{all_syncs, slips_behind, syncs_where, slips, syncs_from}
 use Rattle.dtx_level.specs.declared.measure.Measure.{Measure}
 
 -- ---- the places of syncs
@@ -68,7 +67,8 @@ syncs_now holding symbols done told h =
     ∙ ap (λ xs. places_of told ++ xs) (grind (arith, places_later, places_all))
 
 pub few_none : (v : List ℤ) → length v < 832 → all_syncs v ≡ []
-few_none v l = no_syncs v (least_none shows past_end v 0 (λ i m n. absurd (omega arith)))
+unfolding all_syncs syncs_from
+few_none v l = grind (arith, least_none, past_end)
 
 -- ---- what is known
 

@@ -1,7 +1,7 @@
 -- A gain and a constant undone, symbol by symbol.
 use Rattle.std.proofs.Common.{◌≡◌, ◌≢◌, ℕ, ℤ, pos, negsuc, neg_ℤ, zero, suc, ◌+◌, ◌-◌, ◌*◌, ◌<◌, ◌≤◌, ◌+ℤ◌, ◌-ℤ◌, ◌*ℤ◌}
 use Rattle.std.proofs.Common.{nat_abs, refl, ap, ◌∙◌, arith}
-use Rattle.std.specs.Int.{int_div_euclid, int_max, int_min}
+use Rattle.std.specs.Int.{int_div_euclid}
 use Rattle.std.proofs.lemmas.Bool.{cond-true, cond-false, le-ltb}
 use Rattle.std.proofs.lemmas.Int.{clamps, ints}
 use Rattle.std.proofs.lemmas.Nat.{div-mul-add}
@@ -28,13 +28,10 @@ nearest_above : (n : ℤ) (g : ℕ) → nearest n (pos g) ≡ next_whole n (pos 
 unfolding nearest
 nearest_above n g = grind (arith, cond-false, le-ltb)
 
-nearest_below : (n g : ℤ) (m h : ℕ) → g ≡ negsuc m → neg_ℤ g ≡ pos h → nearest n g ≡ next_whole (neg_ℤ n) (pos h)
-unfolding nearest
-nearest_below n g m h e f = grind (arith, cond-true)
-
 -- ---- a symbol
 
 undone : (a b s : ℤ) → a ≢ pos 0 → nearest (number a b s) (pos 663060 *ℤ a) ≡ pos 8 *ℤ s
+unfolding nearest
 undone (pos zero) b s n = absurd (n refl)
 undone (pos (suc a)) b (pos s) n =
     let g = 663060 * suc a in
@@ -48,23 +45,18 @@ undone (pos (suc a)) b (negsuc s) n =
 undone (negsuc a) b (pos s) n =
     let g = 663060 * suc a in
     let is : neg_ℤ (number (negsuc a) b (pos s)) ≡ pos (8 * s * g) = omega (arith, ints) in
-    nearest_below (number (negsuc a) b (pos s)) (pos 663060 *ℤ negsuc a) (g - 1) g (omega (arith, ints))
-    (omega (arith, ints)) ∙ ap (λ x. next_whole x (pos g)) is ∙ next_up (8 * s) g (omega arith)
+    (grind (arith, cond-true)) ∙ ap (λ x. next_whole x (pos g)) is ∙ next_up (8 * s) g (omega arith)
 undone (negsuc a) b (negsuc s) n =
     let g = 663060 * suc a in
     let is : neg_ℤ (number (negsuc a) b (negsuc s)) ≡ negsuc (suc (8 * s + 7) * g - 1) = omega (arith, ints) in
     let eight : negsuc (8 * s + 7) ≡ pos 8 *ℤ negsuc s = omega (arith, ints) in
-    nearest_below (number (negsuc a) b (negsuc s)) (pos 663060 *ℤ negsuc a) (g - 1) g (omega (arith, ints))
-    (omega (arith, ints)) ∙ ap (λ x. next_whole x (pos g)) is
+    (grind (arith, cond-true)) ∙ ap (λ x. next_whole x (pos g)) is
     ∙ next_down (8 * s + 7) g (suc (8 * s + 7) * g - 1) (omega arith) (omega arith) ∙ eight
-
-within_bounds : (y : ℤ) → nat_abs y ≤ 127 → int_max (negsuc 126) (int_min y (pos 127)) ≡ y
-within_bounds y l = omega (arith, ints, clamps, l)
 
 pub symbol_undone : (a b s : ℤ) → a ≢ pos 0 → nat_abs s ≤ 15
     → levelled_symbol (pos 663060 *ℤ a) (pos 132612 *ℤ b) (a *ℤ s +ℤ b) ≡ pos 8 *ℤ s
 unfolding levelled_symbol
-symbol_undone a b s n l = grind (arith, undone, within_bounds, ints)
+symbol_undone a b s n l = grind (arith, undone, clamps, ints)
 
 -- ---- hundredths
 

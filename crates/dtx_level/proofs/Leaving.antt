@@ -75,10 +75,6 @@ measures_sought h more count s wanted = ap (measures_where wanted) (sym (split_a
     ∙ measures_skip wanted (take count h) (drop count h ++ more) (sought_none h more count s)
     ∙ ap (λ n. map (later_by n) (measures_where wanted (drop count h ++ more))) (length-take-le count h s.within)
 
-levelled_sought : (by : By) (h more : List ℤ) (count : ℕ) → IsSought h count
-    → levelled_behind by (h ++ more) ≡ map (level by) (take count h) ++ levelled_behind by (drop count h ++ more)
-levelled_sought by h more count s = grind (arith, split_at, levelled_skip, sought_none)
-
 -- how long it is then
 length_more : (done : List ℤ) (f : ℤ → ℤ) (count : ℕ) (h : List ℤ) → count ≤ length h
     → length (done ++ map f (take count h)) ≡ length done + count
@@ -93,13 +89,12 @@ leaves_sought h count on silent zeros given symbols done told l s silence =
     let far = length_more done (level h.by) count h.held s.within in
     record {
       measures = λ wanted more.
-          l.measures wanted more
-          ∙ ap (λ xs. where_wanted (wanted true) told ++ xs)
+          l.measures wanted more ∙ ap (λ xs. where_wanted (wanted true) told ++ xs)
           (ap (map (later_by (length done))) (measures_sought h.held more count s wanted)
           ∙ later_twice (length done) count (measures_where wanted (drop count h.held ++ more))
           ∙ ap (λ n. map (later_by n) (measures_where wanted (drop count h.held ++ more))) (sym far));
       levelled = λ more.
-          l.levelled more ∙ ap (λ xs. done ++ xs) (levelled_sought h.by h.held more count s)
+          l.levelled more ∙ ap (λ xs. done ++ xs) (grind (arith, split_at, levelled_skip, sought_none))
           ∙ sym (append_assoc done _ (levelled_behind h.by (drop count h.held ++ more)));
       symbols_are = l.symbols_are;
       long = omega (arith, far, length-drop count h.held, s.within, l.long);
@@ -182,23 +177,15 @@ searched h k l d some most none more =
     ∙ least_shown_behind (take k h) (drop k h ++ more) 0
     ∙ ap (λ n. option_map (λ i. n + i) (least_shown (drop k h ++ more) 0)) long
 
-next_found : (h : List ℤ) (k : ℕ) → length h ≡ 261248 → shows h 260416 ≡ false → least_shown h 832 ≡ Some k → IsNext k h
-next_found h k l d e =
-    let is = least_gives shows h 832 k e in
-    let there = whole_there shows past_end h k is.passes in
-    searched h k l d (omega (arith, is.least)) (omega (arith, there, l)) (λ i m n. is.before i m n)
-
-next_none : (h : List ℤ) → length h ≡ 261248 → shows h 260416 ≡ false → least_shown h 832 ≡ None → IsNext 260417 h
-next_none h l d e = searched h 260417 l d (omega arith) (omega arith) (λ i m n. least_misses shows past_end h 832 i e m)
-
 -- behind the symbols of the step
 next_is : (h : List ℤ) → length h ≡ 261248 → IsNext (step_at h).count h
 unfolding step_at
 next_is h full = by_due (shows h 260416) refl
   where
     by_least : shows h 260416 ≡ false → (o : Option ℕ) → least_shown h 832 ≡ o → IsNext (step_to o).count h
-    by_least d None e = next_none h full d e
-    by_least d (Some k) e = next_found h k full d e
+    by_least d None e =
+        searched h 260417 full d (omega arith) (omega arith) (λ i m n. least_misses shows past_end h 832 i e m)
+    by_least d (Some k) e = grind (arith, least_gives, whole_there, past_end, searched)
 
     by_due : (d : Bool) → shows h 260416 ≡ d
         → IsNext (cond d (step_to (Some 260416)) (step_to (least_shown h 832))).count h

@@ -1,19 +1,19 @@
 -- How syncs stand of symbols behind others.
-use Rattle.std.proofs.Common.{◌≡◌, ℕ, ℤ, ◌+◌, ◌<◌, ◌≤◌, Bool, true, false, option_map, List, [], ◌∷◌, ◌++◌, length}
-use Rattle.std.proofs.Common.{map, take, drop, refl, ap, ap₂, ◌∙◌, arith}
+use Rattle.std.proofs.Common.{◌≡◌, ℕ, ℤ, ◌+◌, ◌<◌, ◌≤◌, Bool, true, false, option_map, List, [], ◌∷◌, ◌++◌, length, map}
+use Rattle.std.proofs.Common.{take, drop, refl, ap₂, arith}
 use Rattle.std.proofs.Math.Seq.{drop-append-add}
 use Rattle.std.proofs.lemmas.List.{drop-append-le, length-drop, map-append, take-append-le, take-map, take-take}
 use Rattle.dtx_acquire.specs.Agreement.{is_second}
 use Rattle.dtx_acquire.specs.Acquired.{is_met}
 use Rattle.dtx_level.specs.declared.measure.Measure.{Measure}
 use Rattle.dtx_level.specs.Shown.{least_shown, shows}
-use Rattle.dtx_level.specs.Syncs.{all_syncs, behind}
+use Rattle.dtx_level.specs.Syncs.{all_syncs, behind, syncs_where}
 use Rattle.dtx_level.specs.Levelled.{By, by_sync, level}
 use Rattle.dtx_level.specs.Measures.{constant_in_hundredths, gain_in_hundredths, later_by, levelled_sync, measure_at}
 use Rattle.dtx_level.specs.Measures.{measures_where, noise}
 use Rattle.dtx_level.specs.Leveller.{where_wanted}
 use Rattle.dtx_level.proofs.Shows.{constant_behind, constant_front, gain_behind, gain_front}
-use Rattle.dtx_level.proofs.SyncsBehind.{places_where, where_last, where_next, where_none, where_skip}
+use Rattle.dtx_level.proofs.SyncsBehind.{places_where, where_next, where_skip, unmet, all_last}
 
 -- ---- one sync
 
@@ -22,10 +22,6 @@ by_behind front v t = grind (arith, gain_behind, constant_behind)
 
 pub by_front : (h more : List ℤ) (t : ℕ) → t + 515 ≤ length h → by_sync (h ++ more) t ≡ by_sync h t
 by_front h more t l = grind (arith, gain_front, constant_front)
-
-sync_behind : (front v : List ℤ) (t : ℕ) → levelled_sync (front ++ v) (length front + t) ≡ levelled_sync v t
-unfolding levelled_sync
-sync_behind front v t = grind (arith, by_behind, drop-append-add)
 
 sync_front : (h more : List ℤ) (t : ℕ) → t + 832 ≤ length h → levelled_sync (h ++ more) t ≡ levelled_sync h t
 unfolding levelled_sync
@@ -59,11 +55,6 @@ pub later_measured : (held : List ℤ) (k : ℕ)
 unfolding measure_at
 later_measured held k = refl
 
-pub measure_behind : (front v : List ℤ) (t : ℕ)
-    → measure_at (front ++ v) (length front + t) ≡ later_by (length front) (measure_at v t)
-unfolding measure_at
-measure_behind front v t = ap₂ (measured (length front + t)) (by_behind front v t) (sync_behind front v t)
-
 pub measure_front : (h more : List ℤ) (t : ℕ) → t + 832 ≤ length h → measure_at (h ++ more) t ≡ measure_at h t
 unfolding measure_at
 measure_front h more t l = ap₂ (measured t) (by_front h more t (omega arith)) (sync_front h more t l)
@@ -72,8 +63,9 @@ measure_front h more t l = ap₂ (measured t) (by_front h more t (omega arith)) 
 
 mapped : (front v : List ℤ) (places : List ℕ) → map (measure_at (front ++ v)) (map (λ i. length front + i) places)
     ≡ map (later_by (length front)) (map (measure_at v) places)
+unfolding measure_at levelled_sync
 mapped front v [] = refl
-mapped front v (p ∷ places) = ap₂ ◌∷◌ (measure_behind front v p) (mapped front v places)
+mapped front v (p ∷ places) = ap₂ ◌∷◌ (grind (arith, by_behind, drop-append-add)) (mapped front v places)
 
 pub measures_skip : (wanted : Bool → Bool) (front v : List ℤ)
     → ((p : ℕ) → p < length front → shows (front ++ v) p ≡ false)
@@ -95,9 +87,9 @@ measures_next wanted front v h met some e = grind (arith, where_next, map-append
 
 pub measures_last : (wanted : Bool → Bool) (v : List ℤ) → length v < 261248 → shows v 0 ≡ true
     → measures_where wanted v ≡ where_wanted (wanted false) (measure_at v 0 ∷ [])
-unfolding measures_where
-measures_last wanted v l h = ap (map (measure_at v)) (where_last wanted v l h) ∙ one_where (wanted false) (measure_at v)
+unfolding measures_where syncs_where
+measures_last wanted v l h = grind (arith, all_last, unmet, one_where)
 
 pub measures_none : (wanted : Bool → Bool) (v : List ℤ) → all_syncs v ≡ [] → measures_where wanted v ≡ []
-unfolding measures_where
-measures_none wanted v e = ap (map (measure_at v)) (where_none wanted v e)
+unfolding measures_where syncs_where
+measures_none wanted v e = grind arith

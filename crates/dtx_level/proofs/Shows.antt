@@ -4,11 +4,11 @@ use Rattle.std.proofs.Common.{sum, take, drop, sym, ap, ap₂, ◌∙◌, arith,
 use Rattle.std.proofs.lemmas.Bool.{le-leb, lt-leb, true≢false}
 use Rattle.std.proofs.lemmas.List.{get_or_append_left, length-take-le, take-append-drop}
 use Rattle.dtx_lists.proofs.Range.{map-range_same}
-use Rattle.dtx_acquire.specs.Agreement.{are_unlike, is_plus, sync_sign, unlike, unlike_at}
+use Rattle.dtx_acquire.specs.Agreement.{unlike, unlike_at}
 use Rattle.dtx_acquire.specs.Places.{NeedsSegment}
 use Rattle.dtx_acquire.proofs.PlacesLemmas.{least_behind, whole_there}
 use Rattle.dtx_acquire.proofs.SyncsLemmas.{order_behind, symbol_behind, unlike_behind}
-use Rattle.dtx_level.specs.Shown.{are_shown, constant, counted_at, gain, least_shown, shows, sum_where, total}
+use Rattle.dtx_level.specs.Shown.{are_shown, constant, counted_at, gain, least_shown, shows, sum_where}
 
 -- ---- a place and the segment there
 
@@ -25,24 +25,15 @@ past_end symbols place l =
 
 -- ---- in front of more
 
-unlike_at_front : (h more : List ℤ) (p i : ℕ) → p + i < length h → unlike_at (h ++ more) p i ≡ unlike_at h p i
-unfolding unlike_at
-unlike_at_front h more p i l = grind (arith, get_or_append_left)
-
 unlike_front : (h more : List ℤ) (p : ℕ) → p + 515 ≤ length h → unlike (h ++ more) p 0 515 ≡ unlike h p 0 515
-unfolding unlike
+unfolding unlike unlike_at
 unlike_front h more p l = ap sum (map-range_same (unlike_at (h ++ more) p) (unlike_at h p) 0 515
-    (λ i a b. unlike_at_front h more p i (omega arith)))
-
-counted_front : (plus : Bool) (h more : List ℤ) (p i : ℕ) → p + i < length h
-    → counted_at plus (h ++ more) p i ≡ counted_at plus h p i
-unfolding counted_at
-counted_front plus h more p i l = grind (arith, get_or_append_left)
+    (λ i a b. (grind (arith, get_or_append_left))))
 
 sum_front : (plus : Bool) (h more : List ℤ) (p n : ℕ) → p + n ≤ length h
     → sum_where plus (h ++ more) p n ≡ sum_where plus h p n
-unfolding sum_where
-sum_front plus h more p n l = grind (arith, map-range_same, counted_front)
+unfolding sum_where counted_at
+sum_front plus h more p n l = grind (arith, map-range_same, get_or_append_left)
 
 pub gain_front : (h more : List ℤ) (p : ℕ) → p + 515 ≤ length h → gain (h ++ more) p ≡ gain h p
 unfolding gain
@@ -58,15 +49,10 @@ shows_front h more p l = grind (arith, le-leb, length-append, unlike_front, gain
 
 -- ---- behind others
 
-counted_behind : (plus : Bool) (front v : List ℤ) (p i : ℕ)
-    → counted_at plus (front ++ v) (length front + p) i ≡ counted_at plus v p i
-unfolding counted_at
-counted_behind plus front v p i = grind (arith, symbol_behind)
-
 sum_behind : (plus : Bool) (front v : List ℤ) (p n : ℕ)
     → sum_where plus (front ++ v) (length front + p) n ≡ sum_where plus v p n
-unfolding sum_where
-sum_behind plus front v p n = grind (arith, map-range_same, counted_behind)
+unfolding sum_where counted_at
+sum_behind plus front v p n = grind (arith, map-range_same, symbol_behind)
 
 pub gain_behind : (front v : List ℤ) (p : ℕ) → gain (front ++ v) (length front + p) ≡ gain v p
 unfolding gain
@@ -92,10 +78,6 @@ shows_dropped h k p l = sym (shows_behind (take k h) (drop k h) p)
 pub between : (n : ℕ) (g : ℤ) → 128 < n → n < 387 → are_shown n g ≡ false
 between n g l m = grind (arith, lt-leb n 128 l, lt-leb 387 n m)
 
--- where a sync is shown its gain isn't 0
-some_shown : (n : ℕ) (g : ℤ) → are_shown n g ≡ true → g ≡ pos 0 → ⊥
-some_shown n g h e = grind (arith, true≢false)
-
 pub gain_some : (symbols : List ℤ) (place : ℕ) → shows symbols place ≡ true → gain symbols place ≡ pos 0 → ⊥
 unfolding shows
-gain_some symbols place h e = grind (arith, whole_there, some_shown, le-leb)
+gain_some symbols place h e = grind (arith, whole_there, true≢false, le-leb)

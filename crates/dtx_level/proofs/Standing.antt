@@ -1,7 +1,7 @@
 -- A field sync that stands at a gain and with a constant: what its place shows.
-use Rattle.std.proofs.Common.{◌≡◌, ◌≢◌, ℕ, ℤ, pos, negsuc, zero, suc, ◌+◌, ◌-◌, ◌*◌, ◌<◌, ◌≤◌, ◌+ℤ◌, ◌-ℤ◌, ◌*ℤ◌}
-use Rattle.std.proofs.Common.{nat_abs, Bool, true, false, ◌&&◌, ◌||◌, cond, not, leb, List, [], ◌∷◌, length, map, sum}
-use Rattle.std.proofs.Common.{get_or, refl, sym, ap, ap₂, ◌∙◌, arith}
+use Rattle.std.proofs.Common.{◌≡◌, ℕ, ℤ, pos, negsuc, zero, suc, ◌+◌, ◌-◌, ◌*◌, ◌<◌, ◌≤◌, ◌+ℤ◌, ◌-ℤ◌, ◌*ℤ◌, nat_abs}
+use Rattle.std.proofs.Common.{Bool, true, false, ◌&&◌, ◌||◌, cond, not, leb, List, [], ◌∷◌, length, map, sum, get_or}
+use Rattle.std.proofs.Common.{refl, sym, ap, ap₂, ◌∙◌, arith}
 use Rattle.std.specs.Prelude.{int_lt}
 use Rattle.std.specs.List.{range_with_len}
 use Rattle.std.proofs.lemmas.Bool.{lt-ltb}
@@ -11,12 +11,13 @@ use Rattle.std.proofs.lemmas.List.Sums.{sum_by-cons}
 use Rattle.dtx_lists.proofs.Range.{map-range_same}
 use Rattle.dtx_frame.proofs.CountsLemmas.{sum_is, total_ones, total_zeros}
 use Rattle.dtx_frame.specs.Segments.{sync_symbols}
-use Rattle.dtx_acquire.specs.Agreement.{are_unlike, is_plus, is_second, sync_sign, unlike, unlike_at}
+use Rattle.dtx_frame.proofs.SymbolsLemmas.{first_is}
+use Rattle.dtx_acquire.specs.Agreement.{is_plus, is_second, sync_sign, unlike, unlike_at}
 use Rattle.dtx_level.specs.Shown.{are_shown, constant, counted_at, gain, shows, sum_where, total}
 use Rattle.dtx_level.specs.Levelled.{By, by_sync, level}
 use Rattle.dtx_level.specs.Measures.{noise, square_at}
 use Rattle.dtx_level.specs.Standing.{eightfold, standing}
-use Rattle.dtx_level.proofs.Counts.{others_counted, signs_counted}
+use Rattle.dtx_level.proofs.Counts.{signs_counted}
 use Rattle.dtx_level.proofs.Each.{each_is}
 use Rattle.dtx_level.proofs.Gains.{symbol_undone}
 use Rattle.dtx_level.proofs.Shows.{shows_by}
@@ -43,42 +44,25 @@ total_counted p x (n ∷ ns) = ap (λ s. cond (p n) x (pos 0) +ℤ s) (total_cou
     by_sign true k = omega (arith, ints)
     by_sign false k = omega (arith, ints)
 
-counted_plus : (a b x : ℤ) (p : Bool) → x ≡ five_at a b p
-    → cond (are_unlike p true) (pos 0) x ≡ cond p (five_at a b true) (pos 0)
-counted_plus a b x true e = e
-counted_plus a b x false e = refl
-
-counted_minus : (a b x : ℤ) (p : Bool) → x ≡ five_at a b p
-    → cond (are_unlike p false) (pos 0) x ≡ cond (not p) (five_at a b false) (pos 0)
-counted_minus a b x true e = refl
-counted_minus a b x false e = e
-
 sum_plus : (a b : ℤ) (v : List ℤ) (place : ℕ) → IsSyncAt a b v place
     → sum_where true v place 515 ≡ pos 258 *ℤ five_at a b true
 unfolding sum_where counted_at
 sum_plus a b v place h =
     ap total (map-range_same (counted_at true v place) (λ i. cond (sync_sign i) (five_at a b true) (pos 0)) 0 515
-    (λ i l m. counted_plus a b (get_or v (place + i) (pos 0)) (sync_sign i) (h.front i (omega arith))))
-    ∙ total_counted sync_sign (five_at a b true) (range_with_len 0 515)
+    (λ i l m. grind arith)) ∙ total_counted sync_sign (five_at a b true) (range_with_len 0 515)
     ∙ ap (λ n. pos n *ℤ five_at a b true) signs_counted
 
 sum_minus : (a b : ℤ) (v : List ℤ) (place : ℕ) → IsSyncAt a b v place
     → sum_where false v place 515 ≡ pos 257 *ℤ five_at a b false
-unfolding sum_where counted_at
-sum_minus a b v place h =
-    ap total (map-range_same (counted_at false v place) (λ i. cond (not (sync_sign i)) (five_at a b false) (pos 0)) 0
-    515 (λ i l m. counted_minus a b (get_or v (place + i) (pos 0)) (sync_sign i) (h.front i (omega arith))))
-    ∙ total_counted (λ i. not (sync_sign i)) (five_at a b false) (range_with_len 0 515)
-    ∙ ap (λ n. pos n *ℤ five_at a b false) others_counted
+unfolding sum_where counted_at sync_sign
+sum_minus a b v place h = ap total (map-range_same (counted_at false v place)
+    (λ i. cond (not (sync_sign i)) (five_at a b false) (pos 0)) 0
+    515 (λ i l m. grind arith)) ∙ total_counted (λ i. not (sync_sign i)) (five_at a b false) (range_with_len 0 515)
+    ∙ ap (λ n. pos n *ℤ five_at a b false) (sym (grind (arith, first_is)))
 
 pub gain_at : (a b : ℤ) (v : List ℤ) (place : ℕ) → IsSyncAt a b v place → gain v place ≡ pos 663060 *ℤ a
 unfolding gain
 gain_at a b v place h = ap₂ (λ x y. pos 257 *ℤ x -ℤ pos 258 *ℤ y) (sum_plus a b v place h) (sum_minus a b v place h)
-    ∙ omega (arith, ints)
-
-pub constant_at : (a b : ℤ) (v : List ℤ) (place : ℕ) → IsSyncAt a b v place → constant v place ≡ pos 132612 *ℤ b
-unfolding constant
-constant_at a b v place h = ap₂ (λ x y. pos 257 *ℤ x +ℤ pos 258 *ℤ y) (sum_plus a b v place h) (sum_minus a b v place h)
     ∙ omega (arith, ints)
 
 -- ---- its signs
@@ -93,35 +77,17 @@ minus_is n (pos zero) l = refl
 minus_is n (pos (suc m)) l = absurd (omega (arith, ints))
 minus_is n (negsuc m) l = refl
 
-kept_sign : (n : ℕ) (b : ℤ) (p : Bool) → nat_abs b < 5 * suc n → is_plus (five_at (pos (suc n)) b p) ≡ p
-kept_sign n b true l = plus_is n (five_at (pos (suc n)) b true) (omega (arith, ints, l))
-kept_sign n b false l = minus_is n (five_at (pos (suc n)) b false) (omega (arith, ints, l))
-
-turned_sign : (n : ℕ) (b : ℤ) (p : Bool) → nat_abs b < 5 * suc n → is_plus (five_at (negsuc n) b p) ≡ not p
-turned_sign n b true l = minus_is n (five_at (negsuc n) b true) (omega (arith, ints, l))
-turned_sign n b false l = plus_is n (five_at (negsuc n) b false) (omega (arith, ints, l))
-
-like_is : (c p : Bool) → c ≡ p → ◌≡◌ {A = ℕ} (cond (are_unlike c p) 1 0) 0
-like_is c true e = ap (λ x. cond (are_unlike x true) 1 0) e
-like_is c false e = ap (λ x. cond (are_unlike x false) 1 0) e
-
-unlike_is : (c p : Bool) → c ≡ not p → ◌≡◌ {A = ℕ} (cond (are_unlike c p) 1 0) 1
-unlike_is c true e = ap (λ x. cond (are_unlike x true) 1 0) e
-unlike_is c false e = ap (λ x. cond (are_unlike x false) 1 0) e
-
 unlike_kept : (n : ℕ) (b : ℤ) (v : List ℤ) (place : ℕ) → nat_abs b < 5 * suc n → IsSyncAt (pos (suc n)) b v place
     → 0 ≡ unlike v place 0 515
 unfolding unlike unlike_at
 unlike_kept n b v place l h = sym (sum_is (unlike_at v place) 0 515 ∙ total_zeros (unlike_at v place) 0 515
-    (λ i k m. like_is (is_plus (get_or v (place + i) (pos 0))) (sync_sign i)
-    (ap is_plus (h.front i (omega arith)) ∙ kept_sign n b (sync_sign i) l)))
+    (λ i k m. grind (arith, plus_is, ints, minus_is)))
 
 unlike_turned : (n : ℕ) (b : ℤ) (v : List ℤ) (place : ℕ) → nat_abs b < 5 * suc n → IsSyncAt (negsuc n) b v place
     → 515 ≡ unlike v place 0 515
 unfolding unlike unlike_at
 unlike_turned n b v place l h = sym (sum_is (unlike_at v place) 0 515 ∙ total_ones (unlike_at v place) 0 515
-    (λ i k m. unlike_is (is_plus (get_or v (place + i) (pos 0))) (sync_sign i)
-    (ap is_plus (h.front i (omega arith)) ∙ turned_sign n b (sync_sign i) l)))
+    (λ i k m. grind (arith, minus_is, ints, plus_is)))
 
 shown_kept : (n : ℕ) → are_shown 0 (pos 663060 *ℤ pos (suc n)) ≡ true
 shown_kept n = ap (λ c. c || (leb 387 0 && int_lt (pos 663060 *ℤ pos (suc n)) (pos 0)))
@@ -148,15 +114,13 @@ abbrev pub by_gain : ℤ → ℤ → By
 by_gain a b = record { begun = true; gain = pos 663060 *ℤ a; constant = pos 132612 *ℤ b }
 
 pub by_at : (a b : ℤ) (v : List ℤ) (place : ℕ) → IsSyncAt a b v place → by_sync v place ≡ by_gain a b
+unfolding constant
 by_at a b v place h = ap₂ (λ (g o : ℤ). record { begun = true; gain = g; constant = o }) (gain_at a b v place h)
-    (constant_at a b v place h)
+    (ap₂ (λ x y. pos 257 *ℤ x +ℤ pos 258 *ℤ y) (sum_plus a b v place h) (sum_minus a b v place h) ∙ omega (arith, ints))
 
 -- none is beyond 7 or -7
 abbrev pub AreSmall : List ℤ → Type 0
 AreSmall xs = (k : ℕ) → k < length xs → nat_abs (get_or xs k (pos 0)) ≤ 7
-
-some_gain : (a b : ℤ) → nat_abs b < 5 * nat_abs a → a ≢ pos 0
-some_gain a b l e = omega (arith, l, ap nat_abs e)
 
 pub standing_undone : (a b : ℤ) (xs : List ℤ) → nat_abs b < 5 * nat_abs a → AreSmall xs
     → map (level (by_gain a b)) (standing a b xs) ≡ eightfold xs
@@ -166,7 +130,7 @@ standing_undone a b xs l small = each_is (λ s. pos 8 *ℤ s) xs (map (level (by
     (λ k m. get_or-map (level (by_gain a b)) (map (λ s. a *ℤ s +ℤ b) xs) k (pos 0) (pos 0)
     (omega (arith, m, length-map xs (λ s. a *ℤ s +ℤ b)))
     ∙ ap (level (by_gain a b)) (get_or-map (λ s. a *ℤ s +ℤ b) xs k (pos 0) (pos 0) m)
-    ∙ symbol_undone a b (get_or xs k (pos 0)) (some_gain a b l) (omega (arith, small k m)))
+    ∙ symbol_undone a b (get_or xs k (pos 0)) (λ e. omega (arith, l, ap nat_abs e)) (omega (arith, small k m)))
 
 -- ---- a segment of it, eight times as much
 
@@ -174,40 +138,15 @@ eight_at : (xs : List ℤ) (k : ℕ) → k < length xs → get_or (eightfold xs)
 unfolding eightfold
 eight_at xs k l = get_or-map (λ s. pos 8 *ℤ s) xs k (pos 0) (pos 0) l
 
-plus_eight : (x : ℤ) → is_plus (pos 8 *ℤ x) ≡ is_plus x
-plus_eight (pos zero) = refl
-plus_eight (pos (suc n)) = lt-ltb 0 (8 * suc n) (omega arith) ∙ sym (lt-ltb 0 (suc n) (omega arith))
-plus_eight (negsuc n) = below (pos 8 *ℤ negsuc n) (8 * suc n - 1) (omega (arith, ints))
-  where
-    below : (x : ℤ) (m : ℕ) → x ≡ negsuc m → is_plus x ≡ false
-    below x m e = ap is_plus e
-
-unlike_eight : (segment : List ℤ) (i : ℕ) → i < length segment
-    → unlike_at (eightfold segment) 0 i ≡ unlike_at segment 0 i
-unfolding unlike_at
-unlike_eight segment i l =
-    let there : 0 + i < length segment = omega arith in
-    ap (λ c. cond (are_unlike c (sync_sign i)) 1 0)
-    (ap is_plus (eight_at segment (0 + i) there) ∙ plus_eight (get_or segment (0 + i) (pos 0)))
-
 pub second_eight : (segment : List ℤ) → length segment ≡ 832 → is_second (eightfold segment) ≡ is_second segment
-unfolding is_second unlike
+unfolding is_second unlike unlike_at
 second_eight segment long =
     ap (λ n. leb 32 n) (ap sum (map-range_same (unlike_at (eightfold segment) 0) (unlike_at segment 0) 578 63
-    (λ i l m. unlike_eight segment i (omega (arith, long)))))
-
-none_off : (x y : ℤ) → x ≡ y → nat_abs (x -ℤ y) * nat_abs (x -ℤ y) ≡ 0
-none_off x y e = let zero : nat_abs (x -ℤ y) ≡ 0 = omega (arith, ints, e) in ap₂ (λ m n. m * n) zero zero
-
-none_at : (segment : List ℤ) (i : ℕ) → get_or segment i (pos 0) ≡ pos 8 *ℤ get_or (sync_symbols false) i (pos 0)
-    → square_at segment i ≡ 0
-unfolding square_at
-none_at segment i e = none_off (get_or segment i (pos 0)) (pos 8 *ℤ get_or (sync_symbols false) i (pos 0)) e
+    (λ i l m. (grind (arith, eight_at, lt-ltb, ints)))))
 
 pub noise_eight : (segment : List ℤ) → length segment ≡ 832
     → ((i : ℕ) → i < 515 → get_or segment i (pos 0) ≡ get_or (sync_symbols false) i (pos 0))
     → noise (eightfold segment) 515 ≡ 0
-unfolding noise
+unfolding noise square_at
 noise_eight segment long front = sum_is (square_at (eightfold segment)) 0 515
-    ∙ total_zeros (square_at (eightfold segment)) 0 515 (λ i l m. none_at (eightfold segment) i
-    (eight_at segment i (omega (arith, long)) ∙ ap (λ x. pos 8 *ℤ x) (front i (omega arith))))
+    ∙ total_zeros (square_at (eightfold segment)) 0 515 (λ i l m. grind (arith, ints, eight_at))

@@ -90,10 +90,6 @@ all_next front v h some e =
         ∙ ap (map (λ i. length front + i))
         (syncs_enough v n (length v) (least_shown v 0) (enough_first v n (omega arith)) (grind (arith, enough_first))))
 
-pub no_syncs : (v : List ℤ) → least_shown v 0 ≡ None → all_syncs v ≡ []
-unfolding all_syncs syncs_from
-no_syncs v e = grind arith
-
 pub unmet : (v : List ℤ) (p : ℕ) → length v < 261248 → is_met v p ≡ false
 unfolding is_met
 unmet v p l = lt-leb (p + 260416 + 832) (length v) (omega arith)
@@ -137,22 +133,9 @@ pub where_skip : (wanted : Bool → Bool) (front v : List ℤ) → ((p : ℕ) �
 unfolding syncs_where
 where_skip wanted front v h = grind (arith, all_skip, filtered)
 
-first_wanted : (b : Bool) (xs : List ℕ) → cond b (0 ∷ xs) xs ≡ places_where b (0 ∷ []) ++ xs
-first_wanted true xs = refl
-first_wanted false xs = refl
-
 pub where_next : (wanted : Bool → Bool) (front v : List ℤ) → shows (front ++ v) 0 ≡ true → is_met (front ++ v) 0 ≡ true
     → 0 < length front → behind (front ++ v) 0 ≡ option_map (λ i. length front + i) (least_shown v 0)
     → syncs_where wanted (front ++ v)
     ≡ places_where (wanted true) (0 ∷ []) ++ map (λ i. length front + i) (syncs_where wanted v)
 unfolding syncs_where
-where_next wanted front v h met some e = grind (arith, all_next, first_wanted, filtered)
-
-pub where_last : (wanted : Bool → Bool) (v : List ℤ) → length v < 261248 → shows v 0 ≡ true
-    → syncs_where wanted v ≡ places_where (wanted false) (0 ∷ [])
-unfolding syncs_where
-where_last wanted v l h = grind (arith, all_last, unmet)
-
-pub where_none : (wanted : Bool → Bool) (v : List ℤ) → all_syncs v ≡ [] → syncs_where wanted v ≡ []
-unfolding syncs_where
-where_none wanted v e = ap (filter (λ p. wanted (is_met v p))) e
+where_next wanted front v h met some e = grind (arith, all_next, filtered)

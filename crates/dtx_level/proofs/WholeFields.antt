@@ -6,14 +6,14 @@ use Rattle.std.specs.List.{range_with_len}
 use Rattle.std.proofs.lemmas.Bool.{cond-true, cond-false, le-leb, lt-leb}
 use Rattle.std.proofs.lemmas.List.{drop-drop, drop-map, get_or-map, length-map, map-append, take-append-drop, take-map}
 use Rattle.dtx_frame.specs.Segments.{sync_symbols}
-use Rattle.dtx_acquire.specs.Acquired.{due, is_met}
+use Rattle.dtx_acquire.specs.Acquired.{is_met}
 use Rattle.dtx_acquire.specs.Agreement.{is_second, sync_sign}
 use Rattle.dtx_acquire.specs.Sent.{AreInFields}
 use Rattle.dtx_acquire.proofs.SentLemmas.{all_symbols, front_five, length_sent, row_long, row_small, segment_there}
 use Rattle.dtx_acquire.proofs.SentLemmas.{sent_front, symbol_there, symbols_small}
 use Rattle.dtx_acquire.proofs.PlacesLemmas.{least_here}
 use Rattle.dtx_level.specs.declared.measure.Measure.{Measure}
-use Rattle.dtx_level.specs.Shown.{least_shown, shows}
+use Rattle.dtx_level.specs.Shown.{shows}
 use Rattle.dtx_level.proofs.Shows.{past_end}
 use Rattle.dtx_level.specs.Syncs.{all_syncs, behind, slips, slips_behind, syncs_from, syncs_where}
 use Rattle.dtx_level.specs.Levelled.{By, by_sync, level, levelled, levelled_behind, nothing, stretches, where_some}
@@ -32,23 +32,6 @@ use Rattle.dtx_level.proofs.Standing.{IsSyncAt, by_at, by_gain, noise_eight, sec
 abbrev pub field_place : ℕ → ℕ
 field_place f = 260416 * f
 
-next_place : (f : ℕ) → field_place f + 260416 ≡ field_place (f + 1)
-next_place f = omega arith
-
-behind_due : (v : List ℤ) (f : ℕ) → field_place (f + 1) + 832 ≤ length v → shows v (field_place (f + 1)) ≡ true
-    → behind v (field_place f) ≡ Some (field_place (f + 1))
-unfolding behind is_met
-behind_due v f room h = cond-true (is_met v (field_place f)) _ None
-    (le-leb (field_place f + 260416 + 832) (length v) (omega arith))
-    ∙ cond-true (shows v (due (field_place f))) (Some (due (field_place f)))
-    (least_shown v (field_place f + 832)) (ap (shows v) (next_place f) ∙ h)
-    ∙ ap (λ p. Some p) (next_place f)
-
-behind_last : (v : List ℤ) (f : ℕ) → length v < field_place (f + 1) + 832 → behind v (field_place f) ≡ None
-unfolding behind is_met
-behind_last v f l =
-    cond-false (is_met v (field_place f)) _ None (lt-leb (field_place f + 260416 + 832) (length v) (omega arith))
-
 ended : (v : List ℤ) (n : ℕ) → syncs_from v n None ≡ []
 unfolding syncs_from
 ended v zero = refl
@@ -58,13 +41,14 @@ places_from : (v : List ℤ) (n k f : ℕ) → k < n
     → ((j : ℕ) → f < j → j ≤ f + k → (field_place j + 832 ≤ length v) × (shows v (field_place j) ≡ true))
     → length v < field_place (f + k + 1) + 832
     → syncs_from v n (Some (field_place f)) ≡ map field_place (range_with_len f (suc k))
-unfolding syncs_from
+unfolding syncs_from behind is_met
 places_from v zero k f l each ends = absurd (omega arith)
-places_from v (suc n) zero f l each ends = ap (λ xs. field_place f ∷ xs)
-    (ap (syncs_from v n) (behind_last v f (omega (arith, ends))) ∙ ended v n)
+places_from v (suc n) zero f l each ends = ap (λ xs. field_place f ∷ xs) (ap (syncs_from v n)
+    (cond-false (is_met v (field_place f)) _ None
+    (lt-leb (field_place f + 260416 + 832) (length v) (omega arith))) ∙ ended v n)
 places_from v (suc n) (suc k) f l each ends =
     let is = each (f + 1) (omega arith) (omega arith) in
-    ap (λ xs. field_place f ∷ xs) (ap (syncs_from v n) (behind_due v f is.0 is.1)
+    ap (λ xs. field_place f ∷ xs) (ap (syncs_from v n) (grind (arith, cond-true, le-leb))
     ∙ places_from v n k (f + 1) (omega arith) (λ j a b. each j (omega arith) (omega arith)) (omega (arith, ends)))
 
 -- a sync that stands so begins each of so many fields, and no more are begun
@@ -170,11 +154,6 @@ standing_at : (a b : ℤ) (xs : List ℤ) (k : ℕ) (s : ℤ) → k < length xs 
 unfolding standing
 standing_at a b xs k s l e = get_or-map (λ s. a *ℤ s +ℤ b) xs k (pos 0) (pos 0) l ∙ ap (λ s. a *ℤ s +ℤ b) e
 
-standing_part : (a b : ℤ) (xs : List ℤ) (p : ℕ)
-    → take 832 (drop p (standing a b xs)) ≡ standing a b (take 832 (drop p xs))
-unfolding standing
-standing_part a b xs p = ap (take 832) (drop-map (λ s. a *ℤ s +ℤ b) p xs) ∙ take-map (λ s. a *ℤ s +ℤ b) 832 (drop p xs)
-
 sync_stands : (a b : ℤ) (sent : List (List ℤ)) (f : ℕ) → AreInFields sent → 313 * f < length sent
     → IsSyncAt a b (standing a b (all_symbols sent)) (field_place f)
 sync_stands a b sent f h l = record {
@@ -191,13 +170,13 @@ sync_stands a b sent f h l = record {
 sync_levelled : (a b : ℤ) (sent : List (List ℤ)) (f : ℕ) → nat_abs b < 5 * nat_abs a → AreInFields sent
     → 313 * f < length sent
     → levelled_sync (standing a b (all_symbols sent)) (field_place f) ≡ eightfold (get_or sent (313 * f) [])
-unfolding levelled_sync
+unfolding levelled_sync standing
 sync_levelled a b sent f some h l = ap₂ (λ (by : By) (xs : List ℤ). map (level by) xs)
     (by_at a b (standing a b (all_symbols sent)) (field_place f) (sync_stands a b sent f h l))
-    (standing_part a b (all_symbols sent) (field_place f)
+    ((ap (take 832) (drop-map (λ s. a *ℤ s +ℤ b) (field_place f) (all_symbols sent))
+    ∙ take-map (λ s. a *ℤ s +ℤ b) 832 (drop (field_place f) (all_symbols sent)))
     ∙ ap (standing a b) (ap (λ p. take 832 (drop p (all_symbols sent))) (sym (field_segment f))
-    ∙ segment_there sent h (313 * f) l))
-    ∙ standing_undone a b (get_or sent (313 * f) []) some
+    ∙ segment_there sent h (313 * f) l)) ∙ standing_undone a b (get_or sent (313 * f) []) some
     (λ k m. row_small sent h (313 * f) k l (omega (arith, m, row_long sent h (313 * f) l)))
 
 syncs_stand : (a b : ℤ) (sent : List (List ℤ)) → AreInFields sent
