@@ -78,8 +78,7 @@ entries_below [] entry zeros steps s levels l n path = (let e = zeros s l in ome
 entries_below (v ∷ symbols) entry zeros steps s [] l n path = absurd (omega arith)
 entries_below (v ∷ symbols) entry zeros steps s (z ∷ levels) l n path =
     let a = steps 0 s z (omega arith) l path.0 path.1 in
-    let b = entries_below symbols (λ t. entry (t + 1))
-    (λ s l. ap (λ t. entry t s) (more (length symbols)) ∙ zeros s l)
+    let b = entries_below symbols (λ t. entry (t + 1)) (λ s l. ap (λ t. entry t s) (more (length symbols)) ∙ zeros s l)
     (λ t s z k l m e. shifted t s z (steps (t + 1) s z (omega arith) l m e))
     (next_state s z) levels (next_small s z l) (omega arith) path.2 in
     let c = cost-cons 1 v symbols z levels in
@@ -88,12 +87,10 @@ entries_below (v ∷ symbols) entry zeros steps s (z ∷ levels) l n path =
     more : (n : ℕ) → n + 1 ≡ suc n
     more n = omega arith
 
-    shifted : (t s z : ℕ)
-        → entry (t + 1) s ≤ squared (get_or (v ∷ symbols) (t + 1) (pos 0)) (symbol_at 1 z)
+    shifted : (t s z : ℕ) → entry (t + 1) s ≤ squared (get_or (v ∷ symbols) (t + 1) (pos 0)) (symbol_at 1 z)
         + entry (t + 1 + 1) (next_state s z)
         → entry (t + 1) s ≤ squared (get_or symbols t (pos 0)) (symbol_at 1 z) + entry (t + 1 + 1) (next_state s z)
-    shifted t s z h =
-        subst (λ v. entry (t + 1) s ≤ squared v (symbol_at 1 z) + entry (t + 1 + 1) (next_state s z))
+    shifted t s z h = subst (λ v. entry (t + 1) s ≤ squared v (symbol_at 1 z) + entry (t + 1 + 1) (next_state s z))
         (ap (λ k. get_or (v ∷ symbols) k (pos 0)) (more t)) h
 
 pub no_less : (symbols : List ℤ) (start : ℕ) (levels : List ℕ) (potentials : List (List ℕ))

@@ -67,8 +67,7 @@ coder_small scale old e new h least =
     subst (λ n. distance (coder_symbols old e) new ≤ most_square scale * n) long most
 
 -- a sum of n numbers, each at most `most`
-pub sums_small : (f : ℕ → ℕ) (most n : ℕ) → ((e : ℕ) → e < n → f e ≤ most)
-    → sum (map f (range_with_len 0 n)) ≤ n * most
+pub sums_small : (f : ℕ → ℕ) (most n : ℕ) → ((e : ℕ) → e < n → f e ≤ most) → sum (map f (range_with_len 0 n)) ≤ n * most
 sums_small f most zero h = omega arith
 sums_small f most (suc n) h =
     let next : suc n ≡ n + 1 = omega arith in

@@ -54,8 +54,7 @@ row_is scale v l from to =
       squares = refl;
       each = four (λ z. IsNearest scale v z (get_or (row_of scale v).levels z 0) (get_or (row_of scale v).squares z 0))
           (nearer_is scale v 0 (omega arith) t) (nearer_is scale v 1 (omega arith) t)
-          (nearer_is scale v 2 (omega arith) t)
-          (nearer_is scale v 3 (omega arith) t);
+          (nearer_is scale v 2 (omega arith) t) (nearer_is scale v 3 (omega arith) t);
       tie_breaks = λ z m. tie_breaks z m;
     }
   where

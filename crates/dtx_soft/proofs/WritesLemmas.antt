@@ -8,8 +8,7 @@ use Rattle.std.proofs.lemmas.List.{get_or-set_same, get_or-set_other}
 pub by_entry : {A : Type 0} (P : ℕ → A → Type 0) (xs : List A) (n : ℕ) (x : A) → n < length xs → P n x
     → (k : ℕ) (d : A) → (k ≢ n → P k (get_or xs k d)) → P k (get_or (slice_set xs n x) k d)
 by_entry P xs n x l p k d f = elim (cases_eq k n) [
-  | inl e ↦
-      subst (λ i. P i (get_or (slice_set xs n x) i d)) (sym e) (subst (P n) (sym (get_or-set_same xs n x d l)) p)
+  | inl e ↦ subst (λ i. P i (get_or (slice_set xs n x) i d)) (sym e) (subst (P n) (sym (get_or-set_same xs n x d l)) p)
   | inr e ↦ subst (P k) (sym (get_or-set_other xs n k x d e)) (f e)
 ]
 
