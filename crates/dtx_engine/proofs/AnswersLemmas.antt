@@ -1,15 +1,13 @@
 -- Lemmas of what may be answered of an input: faults, refusals to read it, and how a making ends.
 use Rattle.std.specs.Prelude.{◌≡◌, ℕ, List}
-use Rattle.std.proofs.Common.{inr}
+use Rattle.std.proofs.Common.{arith}
 use Rattle.dtx_outside.specs.declared.shelf.ReadNo.{ReadNo}
 use Rattle.dtx_outside.specs.declared.shelf.ReadNo.TheVariants as read
 use Rattle.dtx_meaning.specs.Status.{IsFault, ended, of_read, refused_behind}
 use Rattle.dtx_meaning.specs.declared.status.Outcome.{Outcome}
 use Rattle.dtx_meaning.specs.declared.status.Status.{Status}
-use Rattle.dtx_meaning.specs.declared.status.Status.TheVariants.{Absent, Packet, TooLong}
-use Rattle.dtx_meaning.specs.declared.status.Status.TheVariants.{ReadFault, WriteFault}
-use Rattle.dtx_meaning.specs.declared.status.Status.TheVariants.{Memory}
-use Rattle.dtx_engine.specs.Recipe.{IsAnswerAt, IsAnswerOf, Recipe}
+use Rattle.dtx_meaning.specs.declared.status.Status.TheVariants.{Absent, ReadFault, WriteFault, Memory}
+use Rattle.dtx_engine.specs.Recipe.{IsAnswerOf, Recipe}
 
 -- a fault
 pub fault_answers : (recipe : Recipe) (status : Status) → IsFault status → IsAnswerOf recipe (ended status)
@@ -35,13 +33,4 @@ read_answers recipe number read.Memory = tt
 -- the end of some input
 pub end_answers : (recipe : Recipe) (given : List ℕ) (loose : ℕ) (outcome : Outcome)
     → outcome ≡ recipe.answer given loose → IsAnswerOf recipe outcome
-end_answers recipe given loose outcome is = by_status outcome.status
-  where
-    by_status : (status : Status) → IsAnswerAt recipe status outcome
-    by_status (Packet k) = inr (given, loose, is)
-    by_status TooLong = tt
-    by_status (Absent input) = tt
-    by_status ReadFault = tt
-    by_status WriteFault = tt
-    by_status Memory = tt
-    by_status status = (given, loose, is)
+end_answers recipe given loose outcome is = grind arith

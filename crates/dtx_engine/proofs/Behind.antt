@@ -1,5 +1,5 @@
 -- What is answered where a call is refused behind a piece: what a count tells comes before lack of memory.
-use Rattle.std.proofs.Common.{ℕ, List, Bool, true, false, Option, Some, None, inl, inr, subst, nat_lt}
+use Rattle.std.proofs.Common.{ℕ, List, Bool, true, false, Option, Some, None, inl, inr, nat_lt, arith}
 use Rattle.std.specs.Prelude.{if◌then◌else◌}
 use Rattle.dtx_outside.specs.Counts.{Counts, HasGone}
 use Rattle.dtx_meaning.proofs.MeaningLemmas.{fault_behind, fault_of_input, fault_present, gone_over, one_behind}
@@ -7,7 +7,7 @@ use Rattle.dtx_meaning.specs.Status.{IsFault, IsOfInput, blame_of, ended}
 use Rattle.dtx_meaning.specs.declared.status.Status.{Status}
 use Rattle.dtx_engine.specs.Course.{IsEndOfInput, IsFaultEnding, IsNext, IsPresentEnding, blame_of_ending}
 use Rattle.dtx_engine.specs.Course.{status_behind}
-use Rattle.dtx_engine.specs.Recipe.{Course, IsAnswerOf, Recipe, course_from, first_refused, whole_units}
+use Rattle.dtx_engine.specs.Recipe.{Course, IsAnswerOf, Recipe, course_from, whole_units}
 use Rattle.dtx_engine.specs.declared.engine.Shape.{Shape}
 use Rattle.dtx_engine.specs.declared.piece.Ending.{Ending}
 use Rattle.dtx_engine.specs.declared.piece.Ending.TheVariants.{Whole, Refused}
@@ -17,9 +17,7 @@ use Rattle.dtx_engine.proofs.Gone.{gone_behind}
 -- it is an answer of the input
 pub input_behind : (number : ℕ) (last : Option Ending) (refusal : Status) → IsEndOfInput number last → IsFault refusal
     → IsOfInput number (status_behind last refusal)
-input_behind number (Some (Refused first)) refusal was fault =
-    let P : Status → Type 0 = λ s. IsOfInput number s in
-    one_behind P first refusal was (fault_of_input number refusal fault)
+input_behind number (Some (Refused first)) refusal was fault = grind (arith, one_behind, fault_of_input)
 input_behind number (Some (Whole loose)) refusal was fault = fault_of_input number refusal fault
 input_behind number None refusal was fault = fault_of_input number refusal fault
 
@@ -34,8 +32,7 @@ answer_behind recipe None refusal fault = fault_answers recipe refusal fault
 pub gone_behind_piece : (last : Option Ending) (refusal : Status) (before between now : Counts) → IsFault refusal
     → HasGone before between (blame_of_ending last) → HasGone between now (blame_of refusal)
     → HasGone before now (blame_of (status_behind last refusal))
-gone_behind_piece (Some (Refused first)) refusal before between now fault was is =
-    gone_over first refusal before between now fault was is
+gone_behind_piece (Some (Refused first)) refusal before between now fault was is = grind (arith, gone_over)
 gone_behind_piece (Some (Whole loose)) refusal before between now fault was is =
     gone_behind (blame_of refusal) before between now was is
 gone_behind_piece None refusal before between now fault was is =
@@ -62,9 +59,7 @@ fault_ending (Refused status) fault = fault_present status fault
 pub ending_present : (shape : Shape) (recipe : Recipe) (file : List ℕ) (count units : ℕ) (ending : Ending)
     → IsNext shape recipe file count units (Some ending) → IsPresentEnding ending
 ending_present shape recipe file count units ending (inl fault) = fault_ending ending fault.0
-ending_present shape recipe file count units ending (inr end) =
-    subst (λ (e : Ending). IsPresentEnding e) end.1
-    (course_present shape file (first_refused shape recipe file))
+ending_present shape recipe file count units ending (inr end) = grind (arith, course_present)
 
 -- so a fault behind a piece is answered by a fault
 pub piece_faulted : (shape : Shape) (recipe : Recipe) (file : List ℕ) (count units : ℕ) (last : Option Ending)

@@ -8,8 +8,7 @@ use Rattle.dtx_meaning.specs.Status.{blame_of, of_read}
 
 -- a read that was refused
 pub gone_of_read : (number : ℕ) (cause : ReadNo) (before now : Counts)
-    → HasGone before now (blame_of_read {T = ℕ} (Err cause))
-    → HasGone before now (blame_of (of_read number cause))
+    → HasGone before now (blame_of_read {T = ℕ} (Err cause)) → HasGone before now (blame_of (of_read number cause))
 gone_of_read number read.Absent before now gone = gone
 gone_of_read number read.Failed before now gone = gone
 gone_of_read number read.Memory before now gone = gone

@@ -13,8 +13,7 @@ use Rattle.dtx_engine.specs.Outlet.{AreBothGathered}
 use Rattle.dtx_engine.specs.Stages.{AreNearlyWritten, most_gathered}
 
 -- where no write error was counted, it was memory that ran out
-pub short_alone : (before after : Counts) (cause : WriteNo)
-    → HasGone before after (blame_of_write (Err cause))
+pub short_alone : (before after : Counts) (cause : WriteNo) → HasGone before after (blame_of_write (Err cause))
     → ¬ Rose before.write_faults after.write_faults → IsErrOf {T = Unit {0}} (Err cause) Memory
 short_alone before after Failed gone calm = absurd (calm gone.risen)
 short_alone before after Memory gone calm = refl
@@ -37,24 +36,16 @@ whole_one name start made now is = (made.first, [], append-nil made.first, omega
 pub nearly_both : (one other : List ℕ) (start : Option Files) (made : Made) (r s : List ℕ) (now : Option Files)
     → AreBothGathered one other start made r s now → length r ≤ 16384 → length s ≤ 16384
     → AreNearlyWritten (most_gathered (one ∷ other ∷ [])) (outputs_of (one ∷ other ∷ []) made) start now
-nearly_both one other start made r s now is few less =
-    (is.one_front, r, is.first, few, (is.other_front, s, is.second, less, is.files))
+nearly_both one other start made r s now is few less = grind arith
 
 -- the first was flushed
 pub nearly_second : (one other : List ℕ) (start : Option Files) (made : Made) (s : List ℕ) (now : Option Files)
     → IsGathered (option_map (with_file one made.first) start) other made.second s now → length s ≤ 16384
     → AreNearlyWritten (most_gathered (one ∷ other ∷ [])) (outputs_of (one ∷ other ∷ []) made) start now
-nearly_second one other start made s now is less =
-    (made.first, [], append-nil made.first, omega arith, (is.front, s, is.whole, less, is.file))
+nearly_second one other start made s now is less = grind (arith, append-nil)
 
 -- both were
 pub whole_both : (one other : List ℕ) (start : Option Files) (made : Made) (now : Option Files)
     → now ≡ option_map (with_file other made.second) (option_map (with_file one made.first) start)
     → AreNearlyWritten (most_gathered (one ∷ other ∷ [])) (outputs_of (one ∷ other ∷ []) made) start now
-whole_both one other start made now is = (
-  made.first,
-  [],
-  append-nil made.first,
-  omega arith,
-  (made.second, [], append-nil made.second, omega arith, is),
-)
+whole_both one other start made now is = grind (arith, append-nil)

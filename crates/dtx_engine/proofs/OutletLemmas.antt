@@ -1,7 +1,7 @@
 -- Lemmas of outputs: a part of less is a part of more.
-use Rattle.std.specs.Prelude.{◌≢◌, ℕ, List, [], ◌∷◌, ◌++◌, Option}
+use Rattle.std.specs.Prelude.{◌≢◌, ℕ, List, [], ◌∷◌, Option}
 use Rattle.std.specs.Option.{option_map}
-use Rattle.std.proofs.Common.{refl, sym, ap, ◌∙◌, inl, inr}
+use Rattle.std.proofs.Common.{refl, inl, inr, arith}
 use Rattle.std.proofs.lemmas.List.{append_assoc}
 use Rattle.dtx_outside.specs.Shelf.{Files, with_file}
 use Rattle.dtx_meaning.specs.Meaning.{ArePartWritten, IsFrontOf, IsNoOutput}
@@ -9,8 +9,7 @@ use Rattle.dtx_engine.specs.Made.{Made, AreFrontsOf, IsNoneOf, outputs_of}
 
 -- a front part of a front part
 pub front_of_front : (a b c : List ℕ) → IsFrontOf a b → IsFrontOf b c → IsFrontOf a c
-front_of_front a b c (r, first) (s, next) =
-    (r ++ s, sym (append_assoc a r s) ∙ ap (λ (x : List ℕ). x ++ s) first ∙ next)
+front_of_front a b c (r, first) (s, next) = grind (arith, append_assoc)
 
 part_of_one_more : (name a b : List ℕ) (start now : Option Files) → IsFrontOf a b
     → ArePartWritten ((name, a) ∷ []) start now → ArePartWritten ((name, b) ∷ []) start now
@@ -23,8 +22,7 @@ part_of_one_more name a b start now more part = elim part [
 pub part_of_more : (names : List (List ℕ)) (a b : Made) (start now : Option Files) → AreFrontsOf a b
     → ArePartWritten (outputs_of names a) start now → ArePartWritten (outputs_of names b) start now
 part_of_more [] a b start now more part = part
-part_of_more (first ∷ []) a b start now more part =
-    part_of_one_more first a.first b.first start now more.0 part
+part_of_more (first ∷ []) a b start now more part = part_of_one_more first a.first b.first start now more.0 part
 part_of_more (first ∷ (second ∷ rest)) a b start now more part = elim part [
   | inl same ↦ inl same
   | inr begun ↦ inr (

@@ -1,7 +1,6 @@
 -- Lemmas of the stages of a command: what is asked, what isn't read, and what is written by then.
 use Rattle.std.proofs.Common.{◌≡◌, ◌≢◌, Bool, true, false, ℕ, zero, suc, ◌+◌, ◌*◌, ◌<◌, ◌≤◌, List, [], ◌∷◌, ◌++◌}
-use Rattle.std.proofs.Common.{length, take, drop, replicate}
-use Rattle.std.proofs.Common.{refl, sym, ap, subst, ◌∙◌, arith}
+use Rattle.std.proofs.Common.{length, take, drop, replicate, refl, sym, ap, ◌∙◌, arith}
 use Rattle.std.specs.Prelude.{Option, Some, None, Result, Ok, Err, IfErr, IfSome}
 use Rattle.std.specs.FinMap.{get}
 use Rattle.std.proofs.lemmas.List.{append-nil}
@@ -16,7 +15,7 @@ use Rattle.dtx_meaning.specs.Status.{blame_of, ended, of_read, of_write, refused
 use Rattle.dtx_meaning.specs.declared.status.Outcome.{Outcome}
 use Rattle.dtx_meaning.specs.declared.status.Status.{Status}
 use Rattle.dtx_meaning.specs.declared.status.Status.TheVariants.{Absent, ReadFault, WriteFault, Memory}
-use Rattle.dtx_engine.specs.Course.{blame_of_ending, blame_of_piece, status_behind}
+use Rattle.dtx_engine.specs.Course.{blame_of_piece, status_behind}
 use Rattle.dtx_engine.specs.Made.{Made, joined, outputs_of}
 use Rattle.dtx_engine.specs.Recipe.{Recipe, first_units}
 use Rattle.dtx_engine.specs.Stages.{AreNearlyWritten, AreStages, IsForeseenAsk, IsStopOf, IsStopped, IsUnread}
@@ -47,14 +46,12 @@ not_nothing e = cc
 
 -- an answer that is blamed on nothing is no read error
 pub other_than_read : (status : Status) → blame_of status ≡ Nothing → status ≢ ReadFault
-other_than_read status none =
-    λ is. not_nothing (sym (ap (λ (s : Status). blame_of s) is) ∙ none)
+other_than_read status none = λ is. not_nothing (sym (ap (λ (s : Status). blame_of s) is) ∙ none)
 
 -- nor is the end of a piece that is blamed on nothing
 pub judged_read : (readable : Option ℕ) (behind : ℕ) (piece : Piece) → blame_of_piece piece ≡ Nothing
     → IsUnread readable behind piece
-judged_read readable behind piece none =
-    λ is. absurd (not_nothing (sym (ap (λ (e : Option Ending). blame_of_ending e) is) ∙ none))
+judged_read readable behind piece none = grind (arith, not_nothing)
 
 same_count : (m n : ℕ) → ◌≡◌ {A = Option ℕ} (Some m) (Some n) → m ≡ n
 same_count m n e = cc
@@ -62,10 +59,7 @@ same_count m n e = cc
 unread_behind : (readable : Option ℕ) (number place wanted behind : ℕ) (cause : ReadNo) → place + wanted ≡ behind
     → IsForeseenFill readable place wanted (Err cause) → of_read number cause ≡ ReadFault
     → (n : ℕ) → readable ≡ Some n → n < behind
-unread_behind None number place wanted behind cause all fill is n e = absurd (none_some n e)
-  where
-    none_some : (n : ℕ) → ◌≡◌ {A = Option ℕ} None (Some n) → ⊥
-    none_some n e = cc
+unread_behind None number place wanted behind cause all fill is n e = grind arith
 unread_behind (Some m) number place wanted behind read.Absent all fill is n e = absurd cc
 unread_behind (Some m) number place wanted behind read.Failed all fill is n e =
     omega (arith, fill, all, same_count m n e)
@@ -78,9 +72,7 @@ same_status a b e = cc
 pub unread_stage : (readable : Option ℕ) (number place wanted behind : ℕ) (cause : ReadNo) (status : Status)
     → status ≡ of_read number cause → place + wanted ≡ behind → IsForeseenFill readable place wanted (Err cause)
     → IsUnread readable behind (record { units = 0; bytes = 0; ended = Some (Refused status) })
-unread_stage readable number place wanted behind cause status is all fill = λ ended.
-    let fault = sym is ∙ same_status status ReadFault ended in
-    (refl, unread_behind readable number place wanted behind cause all fill fault)
+unread_stage readable number place wanted behind cause status is all fill = grind (arith, same_status, unread_behind)
 
 -- ---- writing
 
@@ -99,8 +91,7 @@ no_read write.Memory = λ e. cc
 
 pub writes_no_read : (cause : WriteNo) (result : Result (Unit {0}) Status) → result ≡ Err (of_write cause)
     → IfErr result (λ status. status ≢ ReadFault)
-writes_no_read cause result is =
-    subst (λ (r : Result (Unit {0}) Status). IfErr r (λ status. status ≢ ReadFault)) (sym is) (no_read cause)
+writes_no_read cause result is = grind (arith, no_read)
 
 -- a read error behind which writing was refused was met before
 pub read_behind : (first refusal : Status) → refusal ≢ ReadFault → refused_behind first refusal ≡ ReadFault
@@ -112,8 +103,7 @@ read_behind first refusal other is = absurd (other is)
 
 pub ending_behind : (last : Option Ending) (refusal : Status) → refusal ≢ ReadFault
     → status_behind last refusal ≡ ReadFault → last ≡ Some (Refused ReadFault)
-ending_behind (Some (Refused first)) refusal other is =
-    ap (λ (s : Status). Some (Refused s)) (read_behind first refusal other is)
+ending_behind (Some (Refused first)) refusal other is = grind (arith, read_behind)
 ending_behind (Some (Whole loose)) refusal other is = absurd (other is)
 ending_behind None refusal other is = absurd (other is)
 
@@ -124,13 +114,7 @@ pub turn_stopped : (shape : Shape) (recipe : Recipe) (names : List (List ℕ)) (
     → AreNearlyWritten (most_gathered names)
     (outputs_of names (recipe.made (first_units shape file count ++ take taken bytes))) (Some held) now
     → IsStopped names recipe.made file (shape.unit * shape.units) n (Some held) now
-turn_stopped shape recipe names held file count bytes taken n now none room behind written = (
-  shape.unit * count,
-  omega (arith, behind, room),
-  subst (λ (b : List ℕ). AreNearlyWritten (most_gathered names) (outputs_of names (recipe.made b)) (Some held) now)
-      (ap (λ (t : ℕ). first_units shape file count ++ take t bytes) none ∙ append-nil (first_units shape file count))
-      written,
-)
+turn_stopped shape recipe names held file count bytes taken n now none room behind written = grind (arith, append-nil)
 
 -- the same, counted from an earlier moment
 pub stop_before : (foreseen : Foreseen) (shape : Shape) (recipe : Recipe) (input : List ℕ) (names : List (List ℕ))
@@ -139,15 +123,11 @@ pub stop_before : (foreseen : Foreseen) (shape : Shape) (recipe : Recipe) (input
     → IsStopOf foreseen shape recipe input names held file between after status now
     → IsStopOf foreseen shape recipe input names held file before after status now
 stop_before foreseen shape recipe input names held file before between after status now first stop =
-    λ n readable calm fault. stop n readable
-    (calm_behind before.write_faults between.write_faults after.write_faults first calm) fault
+    grind (arith, calm_behind)
 
 -- what an engine makes of nothing is nothing
 pub nothing_made : (made gives : Made) → made ≡ joined made gives → (gives.first ≡ []) × (gives.second ≡ [])
-nothing_made made gives is = (
-  append-cancel-nil made.first gives.first (ap (λ (m : Made). m.first) is),
-  append-cancel-nil made.second gives.second (ap (λ (m : Made). m.second) is),
-)
+nothing_made made gives is = (grind (arith, append-cancel-nil))
   where
     append-cancel-nil : (xs ys : List ℕ) → xs ≡ xs ++ ys → ys ≡ []
     append-cancel-nil [] ys e = sym e
@@ -157,48 +137,30 @@ nothing_made made gives is = (
 pub nothing_behind : (zeros : ℕ) (bytes made : List ℕ) → replicate zeros 0 ++ bytes ≡ made → made ≡ []
     → (zeros ≡ 0) × (bytes ≡ [])
 nothing_behind zero bytes made is none = (refl, is ∙ none)
-nothing_behind (suc zeros) bytes made is none = absurd (some (is ∙ none))
-  where
-    some : 0 ∷ (replicate zeros 0 ++ bytes) ≡ [] → ⊥
-    some e = cc
+nothing_behind (suc zeros) bytes made is none = grind arith
 
 -- ---- the stages
 
 -- the input was asked for
 pub asked_stages : (foreseen : Foreseen) (shape : Shape) (recipe : Recipe) (input : List ℕ) (names : List (List ℕ))
     (held : Files) (before after : Counts) (status : Status) (now : Option Files) (done : Unit {0})
-    → IsForeseenAsk (foreseen.readable input) (Ok done)
-    → ((file : List ℕ) → get held input ≡ Some file
+    → IsForeseenAsk (foreseen.readable input) (Ok done) → ((file : List ℕ) → get held input ≡ Some file
     → IsStopOf foreseen shape recipe input names held file before after status now)
     → AreStages foreseen shape recipe input names held before after status now
-asked_stages foreseen shape recipe input names held before after status now done ask stop = record {
-  untouched = λ none.
-      let asked : 0 < 0 = subst (λ (o : Option ℕ). IsForeseenAsk o (Ok done)) none ask in
-      absurd (omega (arith, asked));
-  stopped = λ n file some readable there calm fault. stop file there n readable calm fault;
-}
+asked_stages foreseen shape recipe input names held before after status now done ask stop = grind arith
 
 -- asking for the input was refused
 pub unasked_stages : (foreseen : Foreseen) (shape : Shape) (recipe : Recipe) (input : List ℕ) (names : List (List ℕ))
     (held : Files) (before after : Counts) (status : Status) (now : Option Files)
     → IsForeseenAsk (foreseen.readable input) (Err status) → now ≡ Some held
     → AreStages foreseen shape recipe input names held before after status now
-unasked_stages foreseen shape recipe input names held before after status now ask same = record {
-  untouched = λ none. same;
-  stopped = λ n file some readable there calm fault.
-      let at = subst (λ (o : Option ℕ). IsForeseenAsk o (Err status)) readable ask in
-      let least : n ≡ 0 = subst (λ (s : Status). IsForeseenAsk (Some n) (Err s)) fault at in
-      absurd (omega (arith, some, least));
-}
+unasked_stages foreseen shape recipe input names held before after status now ask same = grind arith
 
 -- no file was touched, and the answer is no read error
 pub kept_stages : (foreseen : Foreseen) (shape : Shape) (recipe : Recipe) (input : List ℕ) (names : List (List ℕ))
     (held : Files) (before after : Counts) (status : Status) (now : Option Files) → status ≢ ReadFault
     → now ≡ Some held → AreStages foreseen shape recipe input names held before after status now
-kept_stages foreseen shape recipe input names held before after status now other same = record {
-  untouched = λ none. same;
-  stopped = λ n file some readable there calm fault. absurd (other fault);
-}
+kept_stages foreseen shape recipe input names held before after status now other same = grind arith
 
 -- an outcome with that status
 pub ended_not_read : (outcome : Outcome) (status : Status) → outcome ≡ ended status → status ≢ ReadFault
@@ -217,8 +179,5 @@ pub stages_before : (foreseen : Foreseen) (shape : Shape) (recipe : Recipe) (inp
     → before.write_faults ≤ between.write_faults
     → AreStages foreseen shape recipe input names held between after status now
     → AreStages foreseen shape recipe input names held before after status now
-stages_before foreseen shape recipe input names held before between after status now first stages = record {
-  untouched = stages.untouched;
-  stopped = λ n file some readable there calm fault. stages.stopped n file some readable there
-      (calm_behind before.write_faults between.write_faults after.write_faults first calm) fault;
-}
+stages_before foreseen shape recipe input names held before between after status now first stages =
+    grind (arith, calm_behind)

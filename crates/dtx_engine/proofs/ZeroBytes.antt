@@ -32,8 +32,7 @@ fewer_zeros names given n m start now few part =
       (
         replicate (m - n) 0,
         append_assoc given.first (replicate n 0) (replicate (m - n) 0)
-            ∙ ap (λ (b : List ℕ). given.first ++ b) (replicate-append-replicate n (m - n) 0
-            ∙ ap (λ (k : ℕ). replicate k 0) (omega (arith, few))),
+            ∙ ap (λ (b : List ℕ). given.first ++ b) (grind (arith, replicate-append-replicate)),
       ),
       ([], append-nil (given.second ++ [])),
     ) part
@@ -45,11 +44,7 @@ pub zeros_unwritten : (names other : List (List ℕ)) (given : Made) (some left 
     (both (take some (replicate 4096 0)) []))) start now
     → ArePartWritten (outputs_of names (joined given (only (replicate count 0)))) start now
 zeros_unwritten names other given some left count start now same few most short part =
-    fewer_zeros names given (count - (left - some)) count start now (omega arith)
-    (subst (λ (m : Made). ArePartWritten (outputs_of names m) start now)
-    (zeros_more given some left count few most short)
-    (subst (λ (k : List (List ℕ)). ArePartWritten (outputs_of k (joined (joined given
-    (only (replicate (count - left) 0))) (both (take some (replicate 4096 0)) []))) start now) same part))
+    fewer_zeros names given (count - (left - some)) count start now (omega arith) (grind (arith, zeros_more))
 
 -- what is made behind them was written, or a fault
 pub put_behind : (names other : List (List ℕ)) (start now : Option Files) (given gives : Made) (n : ℕ)
@@ -68,11 +63,4 @@ pub zeros_of_made : (names : List (List ℕ)) (given gives : Made) (n : ℕ) (fi
     → replicate n 0 ++ first ≡ gives.first
     → ArePartWritten (outputs_of names (joined given (only (replicate n 0)))) start now
     → ArePartWritten (outputs_of names (joined given gives)) start now
-zeros_of_made names given gives n first start now first_is part =
-    part_of_more names (joined given (only (replicate n 0))) (joined given gives) start now (
-      (
-        first,
-        append_assoc given.first (replicate n 0) first ∙ ap (λ (b : List ℕ). given.first ++ b) first_is,
-      ),
-      (gives.second, ap (λ (b : List ℕ). b ++ gives.second) (append-nil given.second)),
-    ) part
+zeros_of_made names given gives n first start now first_is part = grind (arith, part_of_more, append_assoc, append-nil)

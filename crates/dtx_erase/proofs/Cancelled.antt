@@ -6,8 +6,7 @@ use Rattle.dtx_laws.specs.Locator.{power_at}
 use Rattle.dtx_laws.specs.ErrorValues.{others, without}
 use Rattle.dtx_erase.proofs.Marked.{others_by}
 
-pub rest_yes : (n q m y : ℕ) (mark : ℕ → Bool) (s : ℕ → ℕ) (new old : List ℕ) → q < n → mark q ≡ true
-    → y ≡ power_at n q
+pub rest_yes : (n q m y : ℕ) (mark : ℕ → Bool) (s : ℕ → ℕ) (new old : List ℕ) → q < n → mark q ≡ true → y ≡ power_at n q
     → ((i : ℕ) → i + length (others n mark n q) < m → get_or old i 0 ≡ without (others n mark n q) s i)
     → ((i : ℕ) → i + 1 < m → get_or new i 0 ≡ bit_xor (get_or old (i + 1) 0) (mul y (get_or old i 0)))
     → (i : ℕ) → i + length (others n mark n (q + 1)) < m → get_or new i 0 ≡ without (others n mark n (q + 1)) s i
@@ -15,16 +14,13 @@ unfolding without
 rest_yes n q m y mark s new old b t e h c i l =
     let o : others n mark n (q + 1) ≡ power_at n q ∷ others n mark n q = others_by n q mark true b t in
     let r : length (others n mark n (q + 1)) ≡ suc (length (others n mark n q)) = ap length o in
-    let a : get_or old (i + 1) 0 ≡ without (others n mark n q) s (suc i) =
-    h (i + 1) (omega arith) ∙ ap (without (others n mark n q) s) (add-one i) in
-    c i (omega arith)
-    ∙ ap₂ (λ (v w : ℕ). bit_xor v w) a (ap₂ mul e (h i (omega arith)))
+    let a : get_or old (i + 1) 0 ≡ without (others n mark n q) s (suc i) = grind (arith, add-one) in
+    c i (omega arith) ∙ ap₂ (λ (v w : ℕ). bit_xor v w) a (ap₂ mul e (h i (omega arith)))
     ∙ sym (ap (λ ys. without ys s i) o)
 
 pub rest_no : (n q m : ℕ) (mark : ℕ → Bool) (s : ℕ → ℕ) (old : List ℕ) → q < n → mark q ≡ false
     → ((i : ℕ) → i + length (others n mark n q) < m → get_or old i 0 ≡ without (others n mark n q) s i)
     → (i : ℕ) → i + length (others n mark n (q + 1)) < m → get_or old i 0 ≡ without (others n mark n (q + 1)) s i
 rest_no n q m mark s old b t h i l =
-    let o : others n mark n (q + 1) ≡ others n mark n q = others_by n q mark false b t in
-    let r : length (others n mark n (q + 1)) ≡ length (others n mark n q) = ap length o in
-    h i (omega arith) ∙ sym (ap (λ ys. without ys s i) o)
+    let r : length (others n mark n (q + 1)) ≡ length (others n mark n q) = ap length (others_by n q mark false b t) in
+    h i (omega arith) ∙ sym (ap (λ ys. without ys s i) (others_by n q mark false b t))

@@ -1,6 +1,6 @@
 -- The mending as a function: what it gives is the mending.
 use Rattle.std.proofs.Common.{◌≡◌, ℕ, ◌+◌, ◌-◌, ◌*◌, ◌≤◌, nat_le, Bool, true, ◌&&◌, Option, Some, None, List, length}
-use Rattle.std.proofs.Common.{refl, sym, ap, ◌∙◌}
+use Rattle.std.proofs.Common.{refl, ap, arith}
 use Rattle.std.proofs.lemmas.Bool.{and_parts, and_from, le-leb, leb-true, true≢false}
 use Rattle.dtx_galois.specs.Field.{AreBytes}
 use Rattle.dtx_laws.specs.Codeword.{IsCorrection}
@@ -15,36 +15,22 @@ fits n k marks word c = vanishes n k c && nat_le (2 * unmarked_distance marks wo
 
 mending_from : (n k : ℕ) (marks : List Bool) (word c : List ℕ) → fits n k marks word c ≡ true → length c ≡ n
     → AreBytes c → IsMending n k marks word c
-mending_from n k marks word c t l b =
-    let h : (vanishes n k c ≡ true) × (nat_le (2 * unmarked_distance marks word c + lost marks) (n - k) ≡ true) =
-    and_parts (vanishes n k c) (nat_le (2 * unmarked_distance marks word c + lost marks) (n - k)) t in
-    record {
-      codeword = record { long = l; bytes = b; vanishes = vanishes_at n k c h.0 };
-      near = leb-true (2 * unmarked_distance marks word c + lost marks) (n - k) h.1;
-    }
+mending_from n k marks word c t l b = grind (arith, and_parts, vanishes_at, leb-true)
 
 mending_fits : (n k : ℕ) (marks : List Bool) (word c : List ℕ) → IsMending n k marks word c
     → fits n k marks word c ≡ true
-mending_fits n k marks word c h =
-    and_from (vanishes n k c) (nat_le (2 * unmarked_distance marks word c + lost marks) (n - k))
-    (vanishes_from n k c h.codeword.vanishes)
-    (le-leb (2 * unmarked_distance marks word c + lost marks) (n - k) h.near)
+mending_fits n k marks word c h = grind (arith, and_from, vanishes_from, le-leb)
 
 pub mending_is : (n k : ℕ) (marks : List Bool) (word code : List ℕ) → mending n k marks word ≡ Some code
     → IsMending n k marks word code
 unfolding mending
-mending_is n k marks word code e =
-    let h : (fits n k marks word code ≡ true) × ((length code ≡ n) × AreBytes code) =
-    chosen (fits n k marks word) n code e in
-    mending_from n k marks word code h.0 h.1.0 h.1.1
+mending_is n k marks word code e = mending_from n k marks word code (chosen (fits n k marks word) n code e).0
+    (chosen (fits n k marks word) n code e).1.0 (chosen (fits n k marks word) n code e).1.1
 
 pub mending_none : (n k : ℕ) (marks : List Bool) (word : List ℕ) → mending n k marks word ≡ None → (code : List ℕ)
     → IsMending n k marks word code → ⊥
 unfolding mending
-mending_none n k marks word e code h =
-    true≢false
-    (sym (mending_fits n k marks word code h)
-    ∙ none_fits (fits n k marks word) n code e h.codeword.long h.codeword.bytes)
+mending_none n k marks word e code h = grind (arith, true≢false, mending_fits, none_fits)
 
 -- what is a mending is the function's
 pub mending_only : (n k : ℕ) (marks : List Bool) (word code : List ℕ) → n ≤ 255 → length word ≡ n → length marks ≡ n
@@ -74,5 +60,4 @@ unmarked_mending n k marks word m l f z =
     by_answer : (o : Option (List ℕ)) → ((c : List ℕ) → o ≡ Some c → IsCorrection n k word c)
         → (o ≡ None → (c : List ℕ) → IsCorrection n k word c → ⊥) → mending n k marks word ≡ o
     by_answer (Some c) g h = mending_only n k marks word c m l f (correction_mends n k marks word c l f z (g c refl))
-    by_answer None g h =
-        mending_never n k marks word (λ c p. h refl c (mending_corrects n k marks word c l f z p))
+    by_answer None g h = mending_never n k marks word (λ c p. h refl c (mending_corrects n k marks word c l f z p))

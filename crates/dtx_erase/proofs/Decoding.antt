@@ -57,21 +57,16 @@ decodes_sync x kept run d z =
 
 -- where neither bytes nor marks come
 early_still : (x : List ℤ) (kept new : Decoding) (run : List (List ℤ)) → Decodes kept run → Decodes new (run ++ x ∷ [])
-    → bytes_in (run ++ x ∷ []) ≡ bytes_in run
-    → bytes_in (shown_run run ++ map shown x ∷ []) ≡ bytes_in (shown_run run)
+    → bytes_in (run ++ x ∷ []) ≡ bytes_in run → bytes_in (shown_run run ++ map shown x ∷ []) ≡ bytes_in (shown_run run)
     → mended_run_early (run ++ x ∷ []) ≡ mended_run_early run ++ []
-early_still x kept new run d h e f =
-    early_is new (run ++ x ∷ []) h
-    ∙ ap₂ (λ bytes flags. mended_early bytes (map is_set flags)) e (ap bytes_in (shown_push run x) ∙ f)
-    ∙ sym (early_is kept run d) ∙ sym (append-nil (mended_run_early run))
+early_still x kept new run d h e f = grind (arith, early_is, shown_push, append-nil)
 
 early_sync : (x : List ℤ) (kept : Decoding) (run : List (List ℤ)) → Decodes kept run → length run % 313 ≡ 0
     → mended_run_early (run ++ x ∷ []) ≡ mended_run_early run ++ []
 early_sync x kept run d z =
-    let s : Still run (run ++ x ∷ []) = still_sync run x d.bytes.levels.some z in
     let t : Still (shown_run run) (shown_run run ++ map shown x ∷ []) =
     still_sync (shown_run run) (map shown x) d.marks.levels.some (ap (λ n. n % 313) (shown_long run) ∙ z) in
-    early_still x kept kept run d (decodes_sync x kept run d z) s.bytes t.bytes
+    early_still x kept kept run d (decodes_sync x kept run d z) (still_sync run x d.bytes.levels.some z).bytes t.bytes
 
 pub mending : IsDecoder Decodes mended_run mended_run_early mended_so_far all_mended
 mending = record {

@@ -1,6 +1,6 @@
 -- The words that a de-interleaver gives, group by group of a run's bytes.
 use Rattle.std.proofs.Common.{◌≡◌, ℕ, zero, suc, ◌+◌, ◌-◌, ◌*◌, ◌%◌, ◌<◌, ◌≤◌, List, [], ◌∷◌, ◌++◌, length, get_or}
-use Rattle.std.proofs.Common.{take, drop, refl, sym, ap, ap₂, ◌∙◌, subst, inl, inr, ◌⊎◌, arith}
+use Rattle.std.proofs.Common.{take, drop, sym, ap, ◌∙◌, subst, inl, inr, ◌⊎◌, arith}
 use Rattle.std.proofs.lemmas.List.{length-append, length-drop, length-take-le, take_all, take-take, drop-take}
 use Rattle.std.proofs.lemmas.List.{drop-append-le, take-append-le, drop-drop, get_or-take, get_or-drop}
 use Rattle.std.proofs.lemmas.Bool.{cases_lt}
@@ -42,8 +42,7 @@ passed_through begun old ys rest n b l m =
 leaves : (start : Branching) (z : List ℕ) (k b c : ℕ) → HasWidths 52 (gathering 52 4) start → start.next ≡ 0
     → b + c ≡ 10608 + 207 * k → 10608 + 207 * k + 207 ≤ length z
     → take 207 (drop c (drop b (leaving_all 52 start z))) ≡ word_at 207 52 4 z k
-leaves start z k b c w a e l =
-    word_by 207 52 4 z k (take 207 (drop c (drop b (leaving_all 52 start z)))) long
+leaves start z k b c w a e l = word_by 207 52 4 z k (take 207 (drop c (drop b (leaving_all 52 start z)))) long
     (λ j m. let at : b + (c + j) ≡ 207 * k + j + 10608 = omega (arith, e) in
     get_or-take 207 (drop c (drop b (leaving_all 52 start z))) j 0 m
     ∙ get_or-drop c (drop b (leaving_all 52 start z)) j 0 ∙ get_or-drop b (leaving_all 52 start z) (c + j) 0
@@ -51,14 +50,7 @@ leaves start z k b c w a e l =
     ∙ gathers_word 52 4 start z (207 * k + j) (omega arith) w a (omega (arith, l, m)))
   where
     long : length (take 207 (drop c (drop b (leaving_all 52 start z)))) ≡ 207
-    long = length-take-le 207 (drop c (drop b (leaving_all 52 start z))) (omega (
-      arith,
-      length-drop c (drop b (leaving_all 52 start z)),
-      length-drop b (leaving_all 52 start z),
-      length_leaving 52 start z,
-      e,
-      l,
-    ))
+    long = length-take-le 207 (drop c (drop b (leaving_all 52 start z))) (grind (arith, length-drop, length_leaving))
 
 -- ---- what is kept
 
@@ -76,17 +68,12 @@ gathers_first held begun y g w a e z = record {
 
 pub gathers_stay : (held : Branching) (begun : List ℕ) (g h : ℕ) (y z : List ℕ) → g ≡ h → y ≡ z
     → Gathers held begun g y → Gathers held begun h z
-gathers_stay held begun g h y z e f s =
-    subst (λ (n : ℕ). Gathers held begun n z) e (rw (← f) s)
+gathers_stay held begun g h y z e f s = subst (λ (n : ℕ). Gathers held begun n z) e (rw (← f) s)
 
 -- the end of what was gathered, with more bytes behind it
 joined : (held : Branching) (begun : List ℕ) (g : ℕ) (y more : List ℕ) (s : Gathers held begun g y) → 0 < g
     → begun ++ leaving_all 52 held more ≡ drop (828 * g - 156) (leaving_all 52 s.start (y ++ more))
-joined held begun g y more s l =
-    ap₂ (λ (us : List ℕ) v. us ++ leaving_all 52 v more) (s.rest l) s.branches
-    ∙ sym (ap (drop (828 * g - 156)) (leaving_append 52 s.start y more)
-    ∙ drop-append-le (828 * g - 156) (leaving_all 52 s.start y) (leaving_all 52 (after_all 52 s.start y) more)
-    (omega (arith, length_leaving 52 s.start y, s.given)))
+joined held begun g y more s l = grind (arith, leaving_append, drop-append-le, length_leaving)
 
 -- what is gathered of h groups: their bytes left behind those that begin a word
 pub record Passed (held new : Branching) (begun all ends : List ℕ) (h : ℕ) (more : List ℕ) : Type 0 where
@@ -100,9 +87,7 @@ pub record Passed (held new : Branching) (begun all ends : List ℕ) (h : ℕ) (
 -- the last of them
 ends_begun : (held new : Branching) (begun all ends : List ℕ) (h : ℕ) (more : List ℕ)
     → Passed held new begun all ends h more → ends ≡ drop (828 * h) (begun ++ leaving_all 52 held more)
-ends_begun held new begun all ends h more p =
-    p.ends_are ∙ sym (drop-take (828 * h) 156 all)
-    ∙ ap (λ n. drop (828 * h) (take n all)) (omega arith) ∙ ap (drop (828 * h)) p.gathered
+ends_begun held new begun all ends h more p = p.ends_are ∙ sym (drop-take (828 * h) 156 all) ∙ grind arith
 
 pub gathers_more : (held new : Branching) (begun all ends : List ℕ) (g h : ℕ) (y more : List ℕ)
     → Gathers held begun g y → Passed held new begun all ends h more → Gathers new ends (g + h) (y ++ more)
@@ -117,48 +102,38 @@ gathers_more held new begun all ends g h y more s p = record {
   where
     by_groups : 0 < g + h → (0 < g) ⊎ (g ≤ 0) → drop (828 * h) (begun ++ leaving_all 52 held more)
         ≡ drop (828 * (g + h) - 156) (leaving_all 52 s.start (y ++ more))
-    by_groups l (inl m) =
-        ap (drop (828 * h)) (joined held begun g y more s m)
+    by_groups l (inl m) = ap (drop (828 * h)) (joined held begun g y more s m)
         ∙ drop-drop (828 * h) (828 * g - 156) (leaving_all 52 s.start (y ++ more))
         ∙ ap (λ n. drop n (leaving_all 52 s.start (y ++ more))) (omega (arith, m))
     by_groups l (inr m) =
         drop_past begun (leaving_all 52 held more) (828 * h - 156) (828 * h) (omega (arith, p.long, l, m))
-        ∙ ap (λ v. drop (828 * h - 156) (leaving_all 52 v more)) s.branches
-        ∙ sym (ap (drop (828 * (g + h) - 156)) (leaving_append 52 s.start y more)
-        ∙ drop_past (leaving_all 52 s.start y) (leaving_all 52 (after_all 52 s.start y) more) (828 * h - 156)
-        (828 * (g + h) - 156) (omega (arith, length_leaving 52 s.start y, s.given, l, m)))
+        ∙ grind (arith, leaving_append, drop_past, length_leaving)
 
 -- a part of the front
 front : (n a : ℕ) (xs : List ℕ) → a + 207 ≤ n → take 207 (drop a xs) ≡ take 207 (drop a (take n xs))
-front n a xs l =
-    sym (ap (λ i. take 207 (drop a (take i xs))) (omega (arith, l))
+front n a xs l = sym (ap (λ i. take 207 (drop a (take i xs))) (omega (arith, l))
     ∙ ap (take 207) (drop-take a (n - a) xs) ∙ take-take 207 (n - a) (drop a xs) (omega (arith, l)))
 
 pub words_more : (held new : Branching) (begun all ends : List ℕ) (g h : ℕ) (y more : List ℕ)
     → Gathers held begun g y → Passed held new begun all ends h more → AreWords all g h (y ++ more)
 words_more held new begun all ends g h y more s p k q l e =
+    let some : 0 < g = omega (arith, l, e, p.few) in
     front (156 + 828 * h) (207 * q) all (omega (arith, l))
     ∙ ap (λ xs. take 207 (drop (207 * q) xs)) (p.gathered ∙ joined held begun g y more s some)
     ∙ leaves s.start (y ++ more) k (828 * g - 156) (207 * q) s.widths s.aligned (omega (arith, e, some))
     (omega (arith, e, l, length-append y more, s.given, p.bytes))
-  where
-    some : 0 < g
-    some = omega (arith, l, e, p.few)
 
 -- the word that is left at the end of a run
 pub gathers_last : (held : Branching) (begun : List ℕ) (g k : ℕ) (y more word : List ℕ) → Gathers held begun g y
     → length begun ≡ 156 → length more ≡ 51 → k + 52 ≡ 4 * g → k % 52 ≡ 0
     → word ≡ begun ++ leaving_all 52 held more → word ≡ word_at 207 52 4 y k
 gathers_last held begun g k y more word s l m e z f =
+    let long : length (begun ++ leaving_all 52 held more) ≡ 207 =
+    length-append begun (leaving_all 52 held more) ∙ omega (arith, length_leaving 52 held more, l, m) in
+    let there : 207 * (4 * g) ≡ length y = omega (arith, s.given) in
     f ∙ sym (take_all 207 (begun ++ leaving_all 52 held more) (omega (arith, long)))
     ∙ ap (take 207) (joined held begun g y more s (omega (arith, e)))
     ∙ leaves s.start (y ++ more) k (828 * g - 156) 0 s.widths s.aligned (omega (arith, e))
     (omega (arith, e, length-append y more, s.given, m))
     ∙ word_stays 207 52 4 y more k (subst (λ (n : ℕ). IsComplete 207 52 4 n k) there (complete_all (4 * g) k
     (inr (e, z))))
-  where
-    long : length (begun ++ leaving_all 52 held more) ≡ 207
-    long = length-append begun (leaving_all 52 held more) ∙ omega (arith, length_leaving 52 held more, l, m)
-
-    there : 207 * (4 * g) ≡ length y
-    there = omega (arith, s.given)

@@ -7,7 +7,7 @@ use Rattle.dtx_receiver.specs.Runs.{tracked}
 use Rattle.dtx_receiver.specs.declared.batch.Received.{Received}
 use Rattle.dtx_receiver.proofs.CountingLemmas.{More, bytes_on, list_ends, list_grows}
 use Rattle.dtx_receiver.proofs.SegmentsLemmas.{first_bytes}
-use Rattle.dtx_erase.specs.Marks.{is_set, marks_in, shown, shown_run}
+use Rattle.dtx_erase.specs.Marks.{is_set, shown, shown_run}
 use Rattle.dtx_erase.proofs.MarksLemmas.{bytes_long, flags_long, groups, marks_are, shown_push}
 use Rattle.dtx_erase.specs.Mended.{all_mended, mended_early, mended_run, mended_run_early, mended_run_packets}
 use Rattle.dtx_erase.specs.Mended.{mended_so_far}
@@ -32,23 +32,18 @@ run_on run x some =
     )
 
 run_end : (run : List (List ℤ)) → More (mended_run run) (mended_run_early run)
-run_end run =
-    by_marks run (mended_run run) (
-      _,
-      ap (mended_run_packets (bytes_in run)) (marks_are run)
-          ∙ end_more (bytes_in run) (bytes_in (shown_run run)) (groups run) (bytes_long run),
-    )
+run_end run = by_marks run (mended_run run) (
+  _,
+  ap (mended_run_packets (bytes_in run)) (marks_are run)
+      ∙ end_more (bytes_in run) (bytes_in (shown_run run)) (groups run) (bytes_long run),
+)
 
 -- ---- lists of segments
 
 -- what is mended of a list is what is mended of its runs
 pub mended_given : AreGiven mended_run mended_run_early mended_so_far all_mended
 unfolding mended_early mended_so_far all_mended
-mended_given = record {
-  first = λ x. ap (λ bytes. mended_early bytes (marks_in (x ∷ []))) (first_bytes x);
-  so_far = λ s. refl;
-  ended = λ s. refl;
-}
+mended_given = grind (arith, first_bytes)
 
 pub nothing_mended : mended_so_far [] ≡ []
 unfolding mended_so_far tracked

@@ -31,8 +31,7 @@ unfolding others
 length_before n zero marks e l = refl
 length_before n (suc q) marks e l =
     ap (λ u. length (cond u (power_at n q ∷ others n (is_marked marks) n q) (others n (is_marked marks) n q)))
-    (none_left_out n q (is_marked marks q) (omega arith))
-    ∙ length_chosen (is_marked marks q) (power_at n q) (others n (is_marked marks) n q)
+    (grind (arith, none_left_out)) ∙ length_chosen (is_marked marks q) (power_at n q) (others n (is_marked marks) n q)
     ∙ ap (λ (j : ℕ). cond (is_marked marks q) 1 0 + j) (length_before n q marks e (omega arith))
     ∙ sym (lost_more marks q (omega arith))
 
@@ -72,23 +71,14 @@ not_last n q l = none_left_out n q true l
 pub others_by : (n q : ℕ) (mark : ℕ → Bool) (u : Bool) → q < n → mark q ≡ u
     → others n mark n (q + 1) ≡ cond u (power_at n q ∷ others n mark n q) (others n mark n q)
 unfolding others
-others_by n q mark u l t =
-    ap (others n mark n) (add-one q)
-    ∙ ap (λ v. cond v (power_at n q ∷ others n mark n q) (others n mark n q))
-    (ap₂ ◌&&◌ t (not_last n q l) ∙ by_itself u)
-  where
-    by_itself : (u : Bool) → (u && true) ≡ u
-    by_itself true = refl
-    by_itself false = refl
+others_by n q mark u l t = grind (arith, add-one, not_last)
 
 -- before a place it makes no difference
 others_past : (n p q : ℕ) (mark : ℕ → Bool) → p < n → q ≤ p → others n mark p q ≡ others n mark n q
 unfolding others
 others_past n p zero mark m l = refl
-others_past n p (suc q) mark m l =
-    ap₂ (λ (u : Bool) (ys : List ℕ). cond (mark q && u) (power_at n q ∷ ys) ys)
-    (ap not (ne_eqb q p (λ e. omega arith)) ∙ sym (not_last n q (omega arith)))
-    (others_past n p q mark m (omega arith))
+others_past n p (suc q) mark m l = ap₂ (λ (u : Bool) (ys : List ℕ). cond (mark q && u) (power_at n q ∷ ys) ys)
+    (ap not (ne_eqb q p (λ e. omega arith)) ∙ sym (not_last n q (omega arith))) (others_past n p q mark m (omega arith))
 
 -- a marked place's power is one of them, whatever the order: R tells a list from another order of it
 pub others_with : (R : List ℕ → List ℕ → Type 0) → ((ys : List ℕ) → R ys ys)
@@ -120,21 +110,16 @@ others_with R same moved n p (suc q) mark l m t =
     by_place : (p ≡ q) ⊎ (p < q) → (p < q → R (others n mark n q) (power_at n p ∷ others n mark p q))
         → R (cond (mark q && not (q == n)) (power_at n q ∷ others n mark n q) (others n mark n q))
         (power_at n p ∷ cond (mark q && not (q == p)) (power_at n q ∷ others n mark p q) (others n mark p q))
-    by_place (inl e) rest =
-        subst₂ R
+    by_place (inl e) rest = subst₂ R
         (ap₂ (λ (x : ℕ) (ys : List ℕ). x ∷ ys) (ap (power_at n) e) (others_past n p q mark (omega arith) (omega arith))
         ∙ sym (ap (λ u. cond u (power_at n q ∷ others n mark n q) (others n mark n q))
         (ap₂ ◌&&◌ (ap mark (sym e) ∙ t) (not_last n q (omega arith)))))
         (ap (λ u. power_at n p ∷ cond u (power_at n q ∷ others n mark p q) (others n mark p q))
-        (sym (left_out (mark q) (sym e))))
-        (same (power_at n p ∷ others n mark p q))
-    by_place (inr r) rest =
-        subst₂ R
-        (ap (λ u. cond u (power_at n q ∷ others n mark n q) (others n mark n q))
+        (sym (left_out (mark q) (sym e)))) (same (power_at n p ∷ others n mark p q))
+    by_place (inr r) rest = subst₂ R (ap (λ u. cond u (power_at n q ∷ others n mark n q) (others n mark n q))
         (sym (by_itself (mark q) (not (q == n)) (not_last n q (omega arith)))))
         (ap (λ u. power_at n p ∷ cond u (power_at n q ∷ others n mark p q) (others n mark p q))
-        (sym (by_itself (mark q) (not (q == p)) (ap not (ne_eqb q p (λ e. omega arith))))))
-        (by_mark (mark q) (rest r))
+        (sym (by_itself (mark q) (not (q == p)) (ap not (ne_eqb q p (λ e. omega arith)))))) (by_mark (mark q) (rest r))
 
 pub length_with : (n p : ℕ) (mark : ℕ → Bool) → p < n → mark p ≡ true
     → length (others n mark n n) ≡ suc (length (others n mark p n))
@@ -145,12 +130,9 @@ length_with n p mark m t =
 pub others_all : (n p q : ℕ) (mark : ℕ → Bool) → q ≤ n → mark p ≡ false → others n mark p q ≡ others n mark n q
 unfolding others
 others_all n p zero mark l t = refl
-others_all n p (suc q) mark l t =
-    ap₂ (λ (u : Bool) (ys : List ℕ). cond u (power_at n q ∷ ys) ys)
+others_all n p (suc q) mark l t = ap₂ (λ (u : Bool) (ys : List ℕ). cond u (power_at n q ∷ ys) ys)
     (same (q == p) refl) (others_all n p q mark (omega arith) t)
   where
     same : (u : Bool) → (q == p) ≡ u → (mark q && not (q == p)) ≡ (mark q && not (q == n))
-    same true e =
-        let h : mark q ≡ false = ap mark (eqb-true q p e) ∙ t in
-        ap (λ v. v && not (q == p)) h ∙ sym (ap (λ v. v && not (q == n)) h)
+    same true e = grind (arith, eqb-true)
     same false e = ap (λ v. mark q && not v) e ∙ sym (ap (λ v. mark q && v) (not_last n q (omega arith)))

@@ -1,6 +1,6 @@
 -- The marks of a run go the way of its bytes: a run shown as its marks has the byte 0 just where no byte is marked.
-use Rattle.std.proofs.Common.{◌≡◌, ℕ, ℤ, pos, negsuc, ◌+◌, ◌-◌, ◌*◌, ◌/◌, ◌%◌, ◌<◌, ◌==◌, ◌||◌, Bool, true, false, cond}
-use Rattle.std.proofs.Common.{List, [], ◌∷◌, ◌++◌, map, length, drop, get_or, refl, sym, ap, ap₂, ◌∙◌, arith}
+use Rattle.std.proofs.Common.{◌≡◌, ℕ, ℤ, ◌+◌, ◌-◌, ◌*◌, ◌/◌, ◌%◌, ◌<◌, ◌||◌, Bool, true, false, cond, List, [], ◌∷◌}
+use Rattle.std.proofs.Common.{◌++◌, map, length, drop, get_or, refl, sym, ap, ap₂, ◌∙◌, arith}
 use Rattle.std.specs.List.{range_with_len, flat_map}
 use Rattle.std.proofs.Math.ListN.{get_or-map}
 use Rattle.std.proofs.lemmas.Simd.{map-map}
@@ -34,11 +34,7 @@ bit_of mark = cond mark 1 0
 
 shown_level : (symbol : ℤ) → sliced (shown symbol) ≡ level_of (is_missing symbol)
 unfolding sliced
-shown_level symbol = by_test (is_missing symbol)
-  where
-    by_test : (t : Bool) → sliced (cond t (pos 7) (negsuc 6)) ≡ level_of t
-    by_test true = refl
-    by_test false = refl
+shown_level symbol = grind arith
 
 levels_same : (xs : List ℤ) → map sliced (map shown xs) ≡ map level_of (map is_missing xs)
 levels_same [] = refl
@@ -68,12 +64,7 @@ data_levels x = behind 4 x
 
 shown_levels : (run : List (List ℤ)) → levels_in (shown_run run) ≡ map level_of (missing_in run)
 unfolding levels_in levels_from missing_in
-shown_levels run =
-    ap (λ g. flat_map (λ i. sliced_data (data_at (shown_run run) i)) (range_with_len 0 (4 * g))) (shown_groups run)
-    ∙ flat_map-range_same (λ i. sliced_data (data_at (shown_run run) i))
-    (λ i. map level_of (map is_missing (drop 4 (data_at run i)))) 0 (4 * groups_of run)
-    (λ i l m. ap sliced_data (shown_data run i) ∙ data_levels (data_at run i))
-    ∙ sym (map_flat level_of (λ i. map is_missing (drop 4 (data_at run i))) (range_with_len 0 (4 * groups_of run)))
+shown_levels run = grind (arith, shown_groups, flat_map-range_same, shown_data, data_levels, map_flat)
 
 -- ---- how many bytes
 
@@ -82,34 +73,23 @@ abbrev pub groups : List (List ℤ) → ℕ
 groups run = level_groups (levels_in run)
 
 pub bytes_long : (run : List (List ℤ)) → length (bytes_in run) ≡ 828 * groups run
-bytes_long run = bytes_count run ∙ blocks (groups run)
-  where
-    blocks : (g : ℕ) → 207 * (4 * g) ≡ 828 * g
-    blocks g = omega arith
+bytes_long run = grind (arith, bytes_count)
 
 -- a run shown as its marks has as many levels, and so as many bytes
 
 pub as_long : {X Y Z : Type 0} (f : X → List Y) (g : X → List Z) (xs : List X)
     → ((x : X) → length (f x) ≡ length (g x)) → length (flat_map f xs) ≡ length (flat_map g xs)
 as_long f g [] h = refl
-as_long f g (x ∷ xs) h =
-    length-append (f x) (flat_map f xs) ∙ ap₂ (λ (a b : ℕ). a + b) (h x) (as_long f g xs h)
+as_long f g (x ∷ xs) h = length-append (f x) (flat_map f xs) ∙ ap₂ (λ (a b : ℕ). a + b) (h x) (as_long f g xs h)
     ∙ sym (length-append (g x) (flat_map g xs))
 
 data_long : (x : List ℤ) → length (sliced_data (map shown x)) ≡ length (sliced_data x)
 unfolding sliced_data
-data_long x =
-    length-map (drop 4 (map shown x)) sliced ∙ length-drop 4 (map shown x) ∙ ap (λ n. n - 4) (length-map x shown)
-    ∙ sym (length-map (drop 4 x) sliced ∙ length-drop 4 x)
+data_long x = grind (arith, length-map, length-drop)
 
 levels_long : (run : List (List ℤ)) → length (levels_in (shown_run run)) ≡ length (levels_in run)
 unfolding levels_in levels_from
-levels_long run =
-    ap (λ g. length (flat_map (λ i. sliced_data (data_at (shown_run run) i)) (range_with_len 0 (4 * g))))
-    (shown_groups run)
-    ∙ as_long (λ i. sliced_data (data_at (shown_run run) i)) (λ i. sliced_data (data_at run i))
-    (range_with_len 0 (4 * groups_of run))
-    (λ i. ap (λ x. length (sliced_data x)) (shown_data run i) ∙ data_long (data_at run i))
+levels_long run = grind (arith, shown_groups, as_long, shown_data, data_long)
 
 groups_shown : (run : List (List ℤ)) → groups (shown_run run) ≡ groups run
 unfolding level_groups
@@ -134,10 +114,7 @@ first_bit : (run : List (List ℤ)) (e : ℕ) → e < 12 → get_or (first_bits 
 unfolding first_bits precoder_bits_of
 first_bit run e l =
     get_or-map-range_with_len (λ e. get_or (sliced_last (get_or (shown_run run) 0 [])) ((e + 4) % 12) 0 / 4) 0 12 e e 0
-    l (omega arith)
-    ∙ ap (λ (x : List ℤ). get_or (sliced_last x) ((e + 4) % 12) 0 / 4) (segment_at run 0)
-    ∙ ap (λ n. n / 4) (first_level (get_or run 0 []) ((e + 4) % 12))
-    ∙ quarter (get_or (map is_missing (drop 820 (get_or run 0 []))) ((e + 4) % 12) false)
+    l (omega arith) ∙ grind (arith, segment_at, first_level, quarter)
 
 level_at : (run : List (List ℤ)) (i : ℕ) → get_or (levels_in (shown_run run)) i 0
     ≡ level_of (get_or (missing_in run) i false)
@@ -150,19 +127,12 @@ either false a b m n e f = f
 bit_before : (run : List (List ℤ)) (r e : ℕ) → e < 12
     → precoder_bit 0 (first_bits (shown_run run)) (levels_in (shown_run run)) r e ≡ bit_of (was_missing run r e)
 unfolding precoder_bit was_missing
-bit_before run r e l =
-    either (r == 0) (get_or (map is_missing (drop 820 (get_or run 0 []))) ((e + 4) % 12) false)
-    (get_or (missing_in run) (symbol_place 0 (r - 1) e) false) _ _ (first_bit run e l)
-    (ap (λ n. n / 4) (level_at run (symbol_place 0 (r - 1) e))
-    ∙ quarter (get_or (missing_in run) (symbol_place 0 (r - 1) e) false))
+bit_before run r e l = grind (arith, either, first_bit, level_at, quarter)
 
 missing_next : (run : List (List ℤ)) (r e : ℕ)
     → was_missing run (r + 1) e ≡ get_or (missing_in run) (symbol_place 0 r e) false
 unfolding was_missing
-missing_next run r e =
-    cond-false (r + 1 == 0) (get_or (map is_missing (drop 820 (get_or run 0 []))) ((e + 4) % 12) false)
-    (get_or (missing_in run) (symbol_place 0 (r + 1 - 1) e) false) (ne_eqb (r + 1) 0 (λ e. omega arith))
-    ∙ ap (λ u. get_or (missing_in run) (symbol_place 0 u e) false) (omega arith)
+missing_next run r e = grind (arith, cond-false, ne_eqb)
 
 abbrev pair_of : Bool → Bool → ℕ
 pair_of a b = pair_from (bit_of a) (level_of b)
@@ -171,9 +141,7 @@ pair_is : (run : List (List ℤ)) (r u e : ℕ) → e < 12 → r + 1 ≡ u
     → pair_back 0 (first_bits (shown_run run)) (levels_in (shown_run run)) r e
     ≡ pair_of (was_missing run r e) (was_missing run u e)
 unfolding pair_back
-pair_is run r u e l h =
-    ap₂ pair_from (bit_before run r e l)
-    (level_at run (symbol_place 0 r e) ∙ ap level_of (sym (missing_next run r e) ∙ ap (λ v. was_missing run v e) h))
+pair_is run r u e l h = grind (arith, bit_before, level_at, missing_next)
 
 -- ---- bytes
 
@@ -226,12 +194,7 @@ byte_set run j =
     let two : r + 1 + 1 ≡ r + 2 = omega arith in
     let three : r + 2 + 1 ≡ r + 3 = omega arith in
     let four : r + 3 + 1 ≡ r + 4 = omega arith in
-    ap is_set
-    (ap₂ (λ (x y : ℕ). x + y)
-    (ap₂ (λ (x y : ℕ). x + y)
-    (ap₂ (λ (x y : ℕ). 64 * x + 16 * y) (pair_is run r (r + 1) e l refl) (pair_is run (r + 1) (r + 2) e l two))
-    (ap (λ x. 4 * x) (pair_is run (r + 2) (r + 3) e l three)))
-    (pair_is run (r + 3) (r + 4) e l four))
+    ap is_set (ap₂ (λ (x y : ℕ). x + y) (grind (arith, pair_is)) (pair_is run (r + 3) (r + 4) e l four))
     ∙ set_by (was_missing run r e) (was_missing run (r + 1) e) (was_missing run (r + 2) e) (was_missing run (r + 3) e)
     (was_missing run (r + 4) e)
 
@@ -244,21 +207,13 @@ marks_are run = ap (λ n. map (is_marked run) (range_with_len 0 n)) (bytes_long 
 
     there : map (is_marked run) (range_with_len 0 (length (bytes_in (shown_run run))))
         ≡ map is_set (bytes_in (shown_run run))
-    there =
-        ap (λ m. map (is_marked run) (range_with_len 0 m)) (length-map-range_with_len (byte_back 0
-        (first_bits (shown_run run)) (levels_in (shown_run run))) 0 n)
-        ∙ map-range_same (is_marked run)
-        (λ j. is_set (byte_back 0 (first_bits (shown_run run)) (levels_in (shown_run run)) j)) 0 n
-        (λ j a b. sym (byte_set run j))
-        ∙ sym (map-map is_set (byte_back 0 (first_bits (shown_run run)) (levels_in (shown_run run)))
-        (range_with_len 0 n))
+    there = grind (arith, length-map-range_with_len, map-range_same, byte_set, map-map)
 
 -- ---- words
 
 pub marks_word : (flags : List ℕ) (k : ℕ) → marks_at (map is_set flags) k ≡ map is_set (word_at 207 52 4 flags k)
 unfolding marks_at word_at
-marks_word flags k =
-    map-range_same (λ p. get_or (map is_set flags) (codeword_byte_place 52 4 p) false)
+marks_word flags k = map-range_same (λ p. get_or (map is_set flags) (codeword_byte_place 52 4 p) false)
     (λ p. is_set (get_or flags (codeword_byte_place 52 4 p) 0)) (207 * k) 207
     (λ p a b. get_or-map is_set flags (codeword_byte_place 52 4 p) 0)
     ∙ sym (map-map is_set (λ p. get_or flags (codeword_byte_place 52 4 p) 0) (range_with_len (207 * k) 207))

@@ -1,6 +1,6 @@
 -- Mendings: there is at most one, and without marks it is the correction.
 use Rattle.std.proofs.Common.{◌≡◌, ℕ, ◌+◌, ◌-◌, ◌*◌, ◌≤◌, ◌==◌, ◌||◌, cond, Bool, true, false, List, [], ◌∷◌, length}
-use Rattle.std.proofs.Common.{refl, sym, ap, ap₂, ◌∙◌, arith}
+use Rattle.std.proofs.Common.{refl, ap₂, arith}
 use Rattle.std.proofs.lemmas.Bool.Decides.{nat_tests}
 use Rattle.dtx_laws.specs.Codeword.{IsCodeword, IsCorrection, distance}
 use Rattle.dtx_laws.proofs.WordsLemmas.{same_codewords, distance_self}
@@ -24,21 +24,12 @@ through (k ∷ marks) (w ∷ word) (x ∷ a) (y ∷ b) l m n =
 
 pub one_mending : (n k : ℕ) (marks : List Bool) (word a b : List ℕ) → n ≤ 255 → length word ≡ n → length marks ≡ n
     → IsMending n k marks word a → IsMending n k marks word b → a ≡ b
-one_mending n k marks word a b l lw lm ma mb =
-    same_codewords n k a b l ma.codeword mb.codeword
-    (omega (
-      arith,
-      through marks word a b (lm ∙ sym lw) (lw ∙ sym ma.codeword.long) (ma.codeword.long ∙ sym mb.codeword.long),
-      ma.near,
-      mb.near,
-    ))
+one_mending n k marks word a b l lw lm ma mb = grind (arith, same_codewords, through)
 
 -- the same answer, whoever gives it
 pub answers_same : (n k : ℕ) (marks : List Bool) (word a b : List ℕ) (c d : ℕ) → n ≤ 255 → length word ≡ n
     → length marks ≡ n → IsMended n k marks word a c → IsMended n k marks word b d → (a ≡ b) × (c ≡ d)
-answers_same n k marks word a b c d l lw lm p q =
-    let r : a ≡ b = one_mending n k marks word a b l lw lm p.mending q.mending in
-    (r, p.changed ∙ ap (distance word) r ∙ sym q.changed)
+answers_same n k marks word a b c d l lw lm p q = grind (arith, one_mending)
 
 pub answer_either : (n k : ℕ) (marks : List Bool) (word a b : List ℕ) (c : ℕ) → IsMended n k marks word a c
     → IsUnmended n k marks word b → ⊥
@@ -63,17 +54,11 @@ unmarked_is (m ∷ marks) (x ∷ xs) (y ∷ ys) l z =
 
 pub mending_corrects : (n k : ℕ) (marks : List Bool) (word code : List ℕ) → length word ≡ n → length marks ≡ n
     → lost marks ≡ 0 → IsMending n k marks word code → IsCorrection n k word code
-mending_corrects n k marks word code lw lm z p = record {
-  codeword = p.codeword;
-  near = omega (arith, p.near, unmarked_is marks word code (lm ∙ sym lw) z);
-}
+mending_corrects n k marks word code lw lm z p = grind (arith, unmarked_is)
 
 pub correction_mends : (n k : ℕ) (marks : List Bool) (word code : List ℕ) → length word ≡ n → length marks ≡ n
     → lost marks ≡ 0 → IsCorrection n k word code → IsMending n k marks word code
-correction_mends n k marks word code lw lm z p = record {
-  codeword = p.codeword;
-  near = omega (arith, p.near, unmarked_is marks word code (lm ∙ sym lw) z);
-}
+correction_mends n k marks word code lw lm z p = grind (arith, unmarked_is)
 
 -- ---- codewords
 
@@ -91,10 +76,7 @@ own_mending n k marks word c l = record { codeword = c; near = omega (arith, unm
 
 pub own_answer : (n k : ℕ) (marks : List Bool) (word : List ℕ) → IsCodeword n k word → lost marks ≤ n - k
     → IsMended n k marks word word 0
-own_answer n k marks word c l = record {
-  mending = own_mending n k marks word c l;
-  changed = sym (distance_self word);
-}
+own_answer n k marks word c l = grind (arith, own_mending, distance_self)
 
 -- ---- damage
 
@@ -105,5 +87,4 @@ damage_is n k marks code word c l = record { codeword = c; near = l }
 pub damage_only : (n k : ℕ) (marks : List Bool) (code word : List ℕ) → n ≤ 255 → length word ≡ n → length marks ≡ n
     → IsCodeword n k code → 2 * unmarked_distance marks word code + lost marks ≤ n - k
     → (right : List ℕ) → IsMending n k marks word right → right ≡ code
-damage_only n k marks code word m lw lm c l right p =
-    one_mending n k marks word right code m lw lm p (damage_is n k marks code word c l)
+damage_only n k marks code word m lw lm c l right p = grind (arith, one_mending, damage_is)

@@ -1,6 +1,6 @@
 -- The packet of a word, by what mended it.
 use Rattle.std.proofs.Common.{◌≡◌, ℕ, ℤ, pos, negsuc, suc, ◌+◌, ◌<◌, Bool, true, false, cond, List, [], ◌∷◌, ◌++◌}
-use Rattle.std.proofs.Common.{length, map, take, get_or, refl, sym, ap, ap₂, ◌∙◌, arith, lit<}
+use Rattle.std.proofs.Common.{length, map, take, get_or, refl, sym, ap, ap₂, ◌∙◌, arith}
 use Rattle.std.specs.Prelude.{Result, Ok, Err, MatchResult}
 use Rattle.std.proofs.lemmas.Bool.{ne_eqb}
 use Rattle.std.proofs.lemmas.List.{ext_get_or, get_or-map, length-map}
@@ -22,12 +22,8 @@ pub received_is : {E : Type 0} (from : ℕ) (marks : List Bool) (word new head :
     → out ≡ received_by from word (mending 207 187 marks word)
 received_is from marks word new head (Ok c) out l m p h o =
     o ∙ ap₂ (λ (head : List ℕ) (c : ℕ). record { packet = record { 0 = 0x47 ∷ head }; fixed = c; good = true })
-    p h.changed
-    ∙ ap (received_by from word) (sym (mending_only 207 187 marks word new (omega arith) l m h.mending))
-received_is from marks word new head (Err e) out l m p h o =
-    o ∙ ap (λ (bytes : List ℕ). record { packet = record { 0 = with_error (0x47 ∷ bytes) }; fixed = 0; good = false })
-    (p ∙ ap (λ (w : List ℕ). whitened randomizer_bytes from (take 187 w)) h.same)
-    ∙ ap (received_by from word) (sym (mending_never 207 187 marks word h.none))
+    p h.changed ∙ ap (received_by from word) (sym (mending_only 207 187 marks word new (omega arith) l m h.mending))
+received_is from marks word new head (Err e) out l m p h o = grind (arith, mending_never)
 
 -- of words without marks no place is lost
 pub none_lost : (flags : List ℕ) → ((i : ℕ) → get_or flags i 0 ≡ 0) → lost (map is_set flags) ≡ 0
@@ -38,11 +34,7 @@ none_lost (f ∷ flags) h =
 -- four packets
 pub map_four : (f g : ℕ → Received) → ((p : ℕ) → p < 4 → f p ≡ g p)
     → map f (0 ∷ 1 ∷ 2 ∷ 3 ∷ []) ≡ map g (0 ∷ 1 ∷ 2 ∷ 3 ∷ [])
-map_four f g h =
-    ap₂ (λ (r : Received) (rs : List Received). r ∷ rs) (h 0 (lit< tt))
-    (ap₂ (λ (r : Received) (rs : List Received). r ∷ rs) (h 1 (lit< tt))
-    (ap₂ (λ (r : Received) (rs : List Received). r ∷ rs) (h 2 (lit< tt))
-    (ap (λ (r : Received). r ∷ []) (h 3 (lit< tt)))))
+map_four f g h = grind arith
 
 -- behind others
 pub push_four : (rs : List Received) (a b c d : Received)
@@ -54,13 +46,11 @@ push_four (r ∷ rs) a b c d = ap (λ (xs : List Received). r ∷ xs) (push_four
 
 pub shown_other : (symbol : ℤ) → (symbol ≡ negsuc 127 → ⊥) → shown symbol ≡ negsuc 6
 shown_other (pos n) h = refl
-shown_other (negsuc n) h =
-    ap (λ t. cond t (pos 7) (negsuc 6)) (ne_eqb n 127 (λ e. h (ap negsuc e)))
+shown_other (negsuc n) h = ap (λ t. cond t (pos 7) (negsuc 6)) (ne_eqb n 127 (λ e. h (ap negsuc e)))
 
 -- ---- lists known place by place
 
 pub map_by : {X Y : Type 0} (f : X → Y) (n : ℕ) (xs : List X) (ys : List Y) (d : X) (e : Y) → length xs ≡ n
     → length ys ≡ n → ((j : ℕ) → j < n → get_or ys j e ≡ f (get_or xs j d)) → ys ≡ map f xs
-map_by f n xs ys d e l m h =
-    ext_get_or e ys (map f xs) (m ∙ sym (length-map xs f ∙ l))
+map_by f n xs ys d e l m h = ext_get_or e ys (map f xs) (m ∙ sym (length-map xs f ∙ l))
     (λ j k. h j (omega (arith, k, m)) ∙ sym (get_or-map f xs j d e (omega (arith, k, l, m))))

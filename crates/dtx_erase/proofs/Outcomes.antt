@@ -1,5 +1,5 @@
 -- The answers of what mends, from those of a corrector and of the final test.
-use Rattle.std.proofs.Common.{◌≡◌, ◌↔◌, ℕ, ◌+◌, ◌*◌, ◌≤◌, List, Bool, IsTrue, length, nat_le, refl, sym, subst, arith}
+use Rattle.std.proofs.Common.{◌≡◌, ◌↔◌, ℕ, ◌+◌, ◌*◌, ◌≤◌, List, Bool, IsTrue, length, nat_le, arith}
 use Rattle.std.proofs.lemmas.Bool.Decides.{nat_tests}
 use Rattle.std.specs.Prelude.{Result, Ok, Err, MatchResult}
 use Rattle.dtx_laws.specs.Codeword.{IsCodeword}
@@ -11,10 +11,7 @@ use Rattle.dtx_erase.proofs.MendingLemmas.{correction_mends, mending_corrects}
 pub corrected_answer : {E : Type 0} (n k : ℕ) (marks : List Bool) (old new : List ℕ) (r : Result ℕ E) → length old ≡ n
     → length marks ≡ n → lost marks ≡ 0 → MatchResult r (IsCorrected n k old new) (λ _e. IsLeft n k old new)
     → IsAnswered n k marks old new r
-corrected_answer n k marks old new (Ok c) lo lm z h = record {
-  mending = correction_mends n k marks old new lo lm z h.correction;
-  changed = h.changed;
-}
+corrected_answer n k marks old new (Ok c) lo lm z h = grind (arith, correction_mends)
 corrected_answer n k marks old new (Err e) lo lm z h = record {
   none = λ code p. h.none code (mending_corrects n k marks old code lo lm z p);
   same = h.same;
@@ -24,10 +21,7 @@ corrected_answer n k marks old new (Err e) lo lm z h = record {
 pub not_restored : (n k : ℕ) (marks : List Bool) (word tried : List ℕ)
     → ((right : List ℕ) → IsMending n k marks word right → tried ≡ right) → (IsCodeword n k tried → ⊥)
     → IsUnmended n k marks word word
-not_restored n k marks word tried h d = record {
-  none = λ right p. d (subst (IsCodeword n k) (sym (h right p)) p.codeword);
-  same = refl;
-}
+not_restored n k marks word tried h d = grind arith
 
 -- what counts as near, by counts that were taken
 pub near_is : (wrong missing distance count room : ℕ) → wrong ≡ distance → missing ≡ count

@@ -1,5 +1,5 @@
 -- What is known of a word before its recurrence is looked for: its syndromes, and what is left of them.
-use Rattle.std.proofs.Common.{◌≡◌, ℕ, ◌-◌, ◌*◌, ◌/◌, ◌<◌, ◌≤◌, Bool, List, length, refl, subst, arith}
+use Rattle.std.proofs.Common.{◌≡◌, ℕ, ◌-◌, ◌*◌, ◌/◌, ◌<◌, ◌≤◌, Bool, List, length, arith}
 use Rattle.dtx_galois.specs.Field.{pow, value, AreBytes}
 use Rattle.dtx_laws.specs.Codeword.{IsCode}
 use Rattle.dtx_laws.specs.ErrorValues.{others, without}
@@ -9,19 +9,7 @@ use Rattle.dtx_erase.proofs.Restored.{AreMarked}
 
 pub are_marked : (k f : ℕ) (marks : List Bool) (word : List ℕ) (s r : ℕ → ℕ) → IsCode (length word) k
     → length marks ≡ length word → AreBytes word → lost marks ≤ length word - k → f ≡ lost marks
-    → ((i : ℕ) → i < length word - k → s i ≡ value word (pow 2 i))
-    → ((i : ℕ) → i < 2 * ((length word - k - f) / 2)
+    → ((i : ℕ) → i < length word - k → s i ≡ value word (pow 2 i)) → ((i : ℕ) → i < 2 * ((length word - k - f) / 2)
     → r i ≡ without (others (length marks) (is_marked marks) (length marks) (length marks)) s i)
     → AreMarked (length word) k ((length word - k - f) / 2) marks word s r
-are_marked k f marks word s r c l b few e h g = record {
-  short = c.short;
-  within = omega arith;
-  bytes = b;
-  long = refl;
-  marks_long = l;
-  few = omega (arith, few, e);
-  most = omega (arith, few, e);
-  syndromes = h;
-  rest = subst (λ m. (i : ℕ) → i < 2 * ((length word - k - f) / 2)
-      → r i ≡ without (others m (is_marked marks) m m) s i) l g;
-}
+are_marked k f marks word s r c l b few e h g = grind arith

@@ -1,8 +1,7 @@
 -- Marks that are all clear: zeros pass the branches, and after 13 groups of them these hold nothing else.
 use Rattle.std.proofs.Common.{◌≡◌, ◌≢◌, ℕ, ℤ, zero, suc, ◌+◌, ◌-◌, ◌*◌, ◌/◌, ◌%◌, ◌<◌, ◌≤◌, ◌⊎◌, ◌==◌, nat_lt, Bool}
 use Rattle.std.proofs.Common.{pos, negsuc, true, false, not, cond, List, [], ◌∷◌, ◌++◌, map, length, get_or, set, take}
-use Rattle.std.proofs.Common.{drop, replicate, refl, sym, ap, ap₂, ◌∙◌, subst, inl, inr, arith, add-zero}
-use Rattle.std.proofs.Common.{append_assoc}
+use Rattle.std.proofs.Common.{drop, replicate, refl, sym, ap, ap₂, ◌∙◌, subst, inl, inr, arith, add-zero, append_assoc}
 use Rattle.std.specs.Int.{w8, cast_signed}
 use Rattle.std.specs.List.{range_with_len, AllByRecursion}
 use Rattle.std.proofs.lemmas.Bool.{true≢false, cases_lt, cases_eq, eq-eqb, ne_eqb, lt-ltb, le-ltb}
@@ -12,7 +11,7 @@ use Rattle.std.proofs.lemmas.List.{length-map, length_push, get_or-map, get_or_a
 use Rattle.dtx_laws.specs.Branches.{Branching, HasWidths, gathering, leaving_all, after_all, after_byte}
 use Rattle.dtx_laws.proofs.InterleavingLemmas.{HasWidths-all}
 use Rattle.dtx_laws.proofs.PlacesLemmas.{Holds, Holds-step, Holds-turn, after_append}
-use Rattle.dtx_slice.specs.Unrolled.{symbol_place, precoder_bit, pair_from, pair_back, byte_back, bytes_back, coder_of}
+use Rattle.dtx_slice.specs.Unrolled.{symbol_place, precoder_bit, pair_from, pair_back, byte_back, bytes_back}
 use Rattle.dtx_slice.specs.Unrolled.{level_groups, precoder_bits_after}
 use Rattle.dtx_slice.specs.Slicing.{sliced, sliced_data}
 use Rattle.dtx_receiver.specs.Bytes.{data_count, bytes_in}
@@ -93,10 +92,8 @@ come_all : (w : ℕ → ℕ) (e : ℕ → ℕ → ℕ) (m n : ℕ) (v : Branchin
     → ((q r : ℕ) → m ≤ 52 * q + r → r < 52 → 0 ≡ e r (q + w r)) → Come w e (m + n) (after_all 52 v (zeros n))
 unfolding after_all
 come_all w e m zero v c z = subst (λ (k : ℕ). Come w e k v) (sym (add-zero m)) c
-come_all w e m (suc n) v c z =
-    subst (λ (k : ℕ). Come w e k (after_all 52 (after_byte 52 v 0) (zeros n))) (further m n)
-    (come_all w e (m + 1) n (after_byte 52 v 0)
-    (come_byte w e m v c (z c.q v.next (omega (arith, c.count)) c.below))
+come_all w e m (suc n) v c z = subst (λ (k : ℕ). Come w e k (after_all 52 (after_byte 52 v 0) (zeros n))) (further m n)
+    (come_all w e (m + 1) n (after_byte 52 v 0) (come_byte w e m v c (z c.q v.next (omega (arith, c.count)) c.below))
     (λ q r l h. z q r (omega (arith, l)) h))
   where
     further : (m n : ℕ) → m + 1 + n ≡ m + suc n
@@ -138,22 +135,15 @@ come_first w v h = record {
 zero_comes : (w : ℕ → ℕ) (v : Branching) → HasWidths 52 w v → (q r : ℕ) → v.next ≤ 52 * q + r → r < 52
     → 0 ≡ held_first v.next v.lists r (q + w r)
 unfolding held_first
-zero_comes w v h q r l m = by_place (cases_lt r v.next)
-  where
-    by_place : (r < v.next) ⊎ (v.next ≤ r) → 0 ≡ get_or (cond (nat_lt r v.next) (0 ∷ get_or v.lists r [])
-        (get_or v.lists r [])) (q + w r) 0
-    by_place (inl p) =
-        sym (nothing_behind (nat_lt r v.next) (get_or v.lists r []) (q + w r) (omega (arith, h.long r m, l, p)))
-    by_place (inr p) =
-        sym (ap (λ (t : Bool). get_or (cond t (0 ∷ get_or v.lists r []) (get_or v.lists r [])) (q + w r) 0)
-        (le-ltb r v.next p)
-        ∙ past_end (get_or v.lists r []) (q + w r) (omega (arith, h.long r m)))
+zero_comes w v h q r l m = grind (arith, cases_lt, nothing_behind, le-ltb, past_end)
 
 -- after 13 groups of zeros the branches hold zeros alone
-pub clear_after : (v : Branching) → HasWidths 52 (gathering 52 4) v
-    → AreClear (after_all 52 v (zeros (828 * 13)))
+pub clear_after : (v : Branching) → HasWidths 52 (gathering 52 4) v → AreClear (after_all 52 v (zeros (828 * 13)))
 unfolding held_first
-clear_after v h i j l = by_length (cases_lt j (gathering 52 4 i))
+clear_after v h i j l = elim (cases_lt j (gathering 52 4 i)) [
+  | inl m ↦ by_place m (cases_lt i (after_all 52 v (zeros (828 * 13))).next)
+  | inr m ↦ past_end (get_or (after_all 52 v (zeros (828 * 13))).lists i []) j (omega (arith, come.holds.long i l, m))
+]
   where
     come : Come (gathering 52 4) (held_first v.next v.lists) (v.next + 828 * 13) (after_all 52 v (zeros (828 * 13)))
     come = come_all (gathering 52 4) (held_first v.next v.lists) v.next (828 * 13) v
@@ -171,18 +161,11 @@ clear_after v h i j l = by_length (cases_lt j (gathering 52 4 i))
     by_place m (inl p) = come.holds.early i j p m ∙ none (come.q + 1 + j) (omega arith)
     by_place m (inr p) = come.holds.late i j p l m ∙ none (come.q + j) (omega arith)
 
-    by_length : (j < gathering 52 4 i) ⊎ (gathering 52 4 i ≤ j)
-        → get_or (get_or (after_all 52 v (zeros (828 * 13))).lists i []) j 0 ≡ 0
-    by_length (inl m) = by_place m (cases_lt i (after_all 52 v (zeros (828 * 13))).next)
-    by_length (inr m) =
-        past_end (get_or (after_all 52 v (zeros (828 * 13))).lists i []) j (omega (arith, come.holds.long i l, m))
-
 -- ---- zeros to branches of zeros
 
 push_zero : (x : ℕ) (xs : List ℕ) → x ≡ 0 → ((j : ℕ) → get_or xs j 0 ≡ 0) → xs ++ 0 ∷ [] ≡ x ∷ xs
 push_zero x [] e h = ap (λ (y : ℕ). y ∷ []) (sym e)
-push_zero x (y ∷ ys) e h =
-    ap₂ (λ (z : ℕ) (zs : List ℕ). z ∷ zs) (h 0 ∙ sym e) (push_zero y ys (h 0) (λ j. h (suc j)))
+push_zero x (y ∷ ys) e h = ap₂ (λ (z : ℕ) (zs : List ℕ). z ∷ zs) (h 0 ∙ sym e) (push_zero y ys (h 0) (λ j. h (suc j)))
 
 zeros_moved : (xs : List ℕ) → ((j : ℕ) → get_or xs j 0 ≡ 0) → drop 1 (xs ++ 0 ∷ []) ≡ xs
 zeros_moved [] h = refl
@@ -197,42 +180,30 @@ next_of r = cond (r + 1 == 52) 0 (r + 1)
 
 byte_clear : (v : Branching) → AreClear v → v.next < 52
     → after_byte 52 v 0 ≡ record { next = next_of v.next; lists = v.lists }
-byte_clear v c l =
-    ap (λ (ls : List (List ℕ)). record { next = next_of v.next; lists = ls })
-    (ap (set v.lists v.next) (zeros_moved (get_or v.lists v.next []) (λ j. c v.next j l))
-    ∙ set-get_or v.lists v.next [])
+byte_clear v c l = grind (arith, zeros_moved, set-get_or)
 
 next_is : (r : ℕ) → r < 52 → next_of r ≡ (r + 1) % 52
-next_is r l = by_end (cases_eq (r + 1) 52)
-  where
-    by_end : (r + 1 ≡ 52) ⊎ (r + 1 ≡ 52 → ⊥) → next_of r ≡ (r + 1) % 52
-    by_end (inl h) = ap (λ (t : Bool). cond t 0 (r + 1)) (eq-eqb (r + 1) 52 h) ∙ omega (arith, h)
-    by_end (inr h) = ap (λ (t : Bool). cond t 0 (r + 1)) (ne_eqb (r + 1) 52 h) ∙ omega (arith, h, l)
+next_is r l = grind (arith, cases_eq, eq-eqb, ne_eqb)
 
 pub clear_stays : (n : ℕ) (v : Branching) → AreClear v → v.next < 52
     → after_all 52 v (zeros n) ≡ record { next = (v.next + n) % 52; lists = v.lists }
 unfolding after_all
 clear_stays zero v c l = ap (λ (r : ℕ). record { next = r; lists = v.lists }) (omega arith)
-clear_stays (suc n) v c l =
-    ap (λ (u : Branching). after_all 52 u (zeros n)) (byte_clear v c l)
+clear_stays (suc n) v c l = ap (λ (u : Branching). after_all 52 u (zeros n)) (byte_clear v c l)
     ∙ clear_stays n (record { next = next_of v.next; lists = v.lists }) c (omega (arith, next_is v.next l))
     ∙ ap (λ (r : ℕ). record { next = r; lists = v.lists }) (omega (arith, next_is v.next l))
 
 pub clear_leaves : (n : ℕ) (v : Branching) → AreClear v → v.next < 52 → leaving_all 52 v (zeros n) ≡ zeros n
 unfolding leaving_all
 clear_leaves zero v c l = refl
-clear_leaves (suc n) v c l =
-    ap₂ (λ (x : ℕ) (xs : List ℕ). x ∷ xs) (zero_leaves (get_or v.lists v.next []) (λ j. c v.next j l))
+clear_leaves (suc n) v c l = ap₂ (λ (x : ℕ) (xs : List ℕ). x ∷ xs) (grind (arith, zero_leaves))
     (ap (λ (u : Branching). leaving_all 52 u (zeros n)) (byte_clear v c l)
     ∙ clear_leaves n (record { next = next_of v.next; lists = v.lists }) c (omega (arith, next_is v.next l)))
 
 -- groups of zeros leave such branches as those zeros do that are over whole turns
 pub groups_of_zeros : (h : ℕ) (v : Branching) → AreClear v → v.next < 52
     → after_all 52 v (zeros (48 * h % 52)) ≡ after_all 52 v (zeros (828 * h))
-groups_of_zeros h v c l =
-    clear_stays (48 * h % 52) v c l
-    ∙ ap (λ (r : ℕ). record { next = r; lists = v.lists }) (omega arith)
-    ∙ sym (clear_stays (828 * h) v c l)
+groups_of_zeros h v c l = grind (arith, clear_stays)
 
 -- ---- groups of zeros that have come
 
@@ -244,8 +215,7 @@ unfolding after_all
 none_come v h = record { before = v; widths = h; come = refl }
 
 pub widths_come : (c : ℕ) (v : Branching) → HaveCome c v → HasWidths 52 (gathering 52 4) v
-widths_come c v h =
-    subst (HasWidths 52 (gathering 52 4)) (sym h.come)
+widths_come c v h = subst (HasWidths 52 (gathering 52 4)) (sym h.come)
     (HasWidths-all 52 (gathering 52 4) h.before (zeros (828 * c)) h.widths)
 
 -- with n groups more
@@ -279,8 +249,7 @@ range_zeros g a (suc n) h = ap₂ (λ (x : ℕ) (xs : List ℕ). x ∷ xs) (h a)
 
 bit_zero : (s r e : ℕ) → precoder_bit s (zeros 12) (zeros 3312) r e ≡ 0
 unfolding precoder_bit
-bit_zero s r e =
-    ap₂ (cond (r == 0)) (zero_at 12 e) (ap (λ (x : ℕ). x / 4) (zero_at 3312 (symbol_place s (r - 1) e)))
+bit_zero s r e = ap₂ (cond (r == 0)) (zero_at 12 e) (ap (λ (x : ℕ). x / 4) (zero_at 3312 (symbol_place s (r - 1) e)))
     ∙ same (r == 0)
   where
     same : (t : Bool) → ◌≡◌ {A = ℕ} (cond t 0 0) 0
@@ -293,14 +262,7 @@ pair_zero s r e = ap₂ pair_from (bit_zero s r e) (zero_at 3312 (symbol_place s
 
 byte_zero : (s j : ℕ) → byte_back s (zeros 12) (zeros 3312) j ≡ 0
 unfolding byte_back
-byte_zero s j =
-    let r : ℕ = 4 * (j / 12) in
-    let e : ℕ = coder_of s j in
-    ap₂ (λ (x y : ℕ). x + y)
-    (ap₂ (λ (x y : ℕ). x + y)
-    (ap₂ (λ (x y : ℕ). 64 * x + 16 * y) (pair_zero s r e) (pair_zero s (r + 1) e))
-    (ap (λ (x : ℕ). 4 * x) (pair_zero s (r + 2) e)))
-    (pair_zero s (r + 3) e)
+byte_zero s j = grind (arith, pair_zero)
 
 one_group : level_groups (zeros 3312) ≡ 1
 unfolding level_groups
@@ -308,23 +270,19 @@ one_group = ap (λ (n : ℕ). n / 3312) (length-replicate {A = ℕ} 3312 0)
 
 pub bytes_zero : (s : ℕ) → bytes_back s (zeros 12) (zeros 3312) ≡ zeros 828
 unfolding bytes_back
-bytes_zero s =
-    ap (λ (n : ℕ). map (byte_back s (zeros 12) (zeros 3312)) (range_with_len 0 (828 * n))) one_group
-    ∙ range_zeros (byte_back s (zeros 12) (zeros 3312)) 0 828 (byte_zero s)
+bytes_zero s = rw (one_group, range_zeros (byte_back s (zeros 12) (zeros 3312)) 0 828 (byte_zero s))
 
 -- whatever was before it, a group of levels of 0 leaves Z2 of 0
 pub bits_zero : (s : ℕ) (f : List ℕ) → precoder_bits_after s f (zeros 3312) ≡ zeros 12
 unfolding precoder_bits_after precoder_bit
-bits_zero s f =
-    ap (λ (n : ℕ). map (precoder_bit s f (zeros 3312) (276 * n)) (range_with_len 0 12)) one_group
+bits_zero s f = ap (λ (n : ℕ). map (precoder_bit s f (zeros 3312) (276 * n)) (range_with_len 0 12)) one_group
     ∙ range_zeros (precoder_bit s f (zeros 3312) 276) 0 12
     (λ e. ap (λ (x : ℕ). x / 4) (zero_at 3312 (symbol_place s 275 e)))
 
 -- ---- what is kept
 
 zeros_put : (n : ℕ) → n < 4 → take (828 * n) (zeros 3312) ++ zeros 828 ++ drop (828 * n + 828) (zeros 3312) ≡ zeros 3312
-zeros_put n l =
-    ap₂ (λ (xs ys : List ℕ). xs ++ zeros 828 ++ ys) (take-replicate (828 * n) 3312 0 (omega (arith, l)))
+zeros_put n l = ap₂ (λ (xs ys : List ℕ). xs ++ zeros 828 ++ ys) (take-replicate (828 * n) 3312 0 (omega (arith, l)))
     (drop-replicate (828 * n + 828) 3312 0)
     ∙ ap (λ (xs : List ℕ). xs ++ zeros (3312 - (828 * n + 828))) (more_zeros (828 * n) 828 (828 * n + 828) refl)
     ∙ more_zeros (828 * n + 828) (3312 - (828 * n + 828)) 3312 (omega (arith, l))
@@ -343,8 +301,7 @@ quiet_one x kept run given place q z d e = by_place (cases_eq (place % 4) 3)
 
     put : (n : ℕ) → n < 4 → kept.groups.levels ≡ take (828 * n) kept.groups.levels ++ sliced_data x
         ++ drop (828 * n + 828) kept.groups.levels
-    put n l =
-        q.levels
+    put n l = q.levels
         ∙ sym (ap₂ (λ (ls more : List ℕ). take (828 * n) ls ++ more ++ drop (828 * n + 828) ls) q.levels z
         ∙ zeros_put n l)
 
@@ -357,26 +314,17 @@ quiet_one x kept run given place q z d e = by_place (cases_eq (place % 4) 3)
         ∙ bytes_zero (place - place % 4) in
         let g = grouped_group x kept.groups
         (grouping kept.groups.levels kept.groups.precoder_bits (kept.groups.held ++ bytes ∷ [])) run given place
-        (zeros 3312)
-        (record {
-          due = e;
-          last = n;
-          long = levels_long;
-          segment = segment;
-          group = length-replicate {A = ℕ} 3312 0;
-          levels = sym q.levels ∙ put (place % 4) (omega (arith, n));
-        })
+        (zeros 3312) (grind (arith, levels_long, segment, length-replicate, put))
         d q.levels (q.precoder_bits ∙ sym (bits_zero (place - place % 4) kept.groups.precoder_bits))
         (ap length whole ∙ length-replicate {A = ℕ} 828 0) refl in
         record {
           levels = g.levels;
-          bytes = g.bytes
-              ∙ ap₂ (λ (held : List (List ℕ)) (more : List ℕ). given ++ flat (held ++ more ∷ [])) q.held whole
+          bytes = g.bytes ∙ ap₂
+              (λ (held : List (List ℕ)) (more : List ℕ). given ++ flat (held ++ more ∷ [])) q.held whole
               ∙ ap (λ (more : List ℕ). given ++ more) (append-nil (zeros 828))
               ∙ ap (λ (m : ℕ). given ++ zeros (828 * m)) (one (place % 4) n)
               ∙ sym (append-nil (given ++ zeros (828 * ((place % 4 + 1) / 4))))
-              ∙ ap (λ (held : List (List ℕ)). (given ++ zeros (828 * ((place % 4 + 1) / 4))) ++ flat held)
-              (sym q.held);
+              ∙ ap (λ (held : List (List ℕ)). (given ++ zeros (828 * ((place % 4 + 1) / 4))) ++ flat held) (sym q.held);
           long = d.long;
         }
       where
@@ -399,19 +347,12 @@ quiet_many : (xs : List (List ℤ)) (kept : Side) (run : List (List ℤ)) (given
     → AllByRecursion (λ x. sliced_data x ≡ zeros 828) xs → AreGrouped kept.groups run given
     → (0 < length xs → length run % 313 ≡ place + 1) → place + length xs ≤ 312
     → AreGrouped kept.groups (run ++ xs) (given ++ zeros (828 * ((place % 4 + length xs) / 4)))
-quiet_many [] kept run given place q z d e l =
-    subst (λ (m : ℕ). AreGrouped kept.groups (run ++ []) (given ++ zeros (828 * m))) (none place)
-    (subst (λ (more : List ℕ). AreGrouped kept.groups (run ++ []) more) (sym (append-nil given))
-    (subst (λ (r : List (List ℤ)). AreGrouped kept.groups r given) (sym (append-nil run)) d))
-  where
-    none : (p : ℕ) → 0 ≡ (p % 4 + 0) / 4
-    none p = omega arith
+quiet_many [] kept run given place q z d e l = grind (arith, append-nil)
 quiet_many (x ∷ xs) kept run given place q z d e l =
     let a : ℕ = (place % 4 + 1) / 4 in
     let b : ℕ = ((place + 1) % 4 + length xs) / 4 in
     subst (λ (more : List ℕ). AreGrouped kept.groups (run ++ x ∷ xs) more)
-    (append_assoc given (zeros (828 * ((place % 4 + 1) / 4)))
-    (zeros (828 * (((place + 1) % 4 + length xs) / 4)))
+    (append_assoc given (zeros (828 * ((place % 4 + 1) / 4))) (zeros (828 * (((place + 1) % 4 + length xs) / 4)))
     ∙ ap (λ (more : List ℕ). given ++ more)
     (more_zeros (828 * ((place % 4 + 1) / 4)) (828 * (((place + 1) % 4 + length xs) / 4))
     (828 * ((place % 4 + suc (length xs)) / 4)) (both place (length xs))))
@@ -429,19 +370,20 @@ quiet_many (x ∷ xs) kept run given place q z d e l =
 
 -- where so many groups of zeros have passed
 abbrev pub moved_on : Side → ℕ → Side
-moved_on kept h =
-    record kept { branches = after_all 52 kept.branches (zeros (48 * h % 52)); gathered = zeros 10920 }
+moved_on kept h = record kept { branches = after_all 52 kept.branches (zeros (48 * h % 52)); gathered = zeros 10920 }
 
 pub quiet_further : (kept new : Side) (h place : ℕ) (run xs : List (List ℤ)) → IsQuiet kept
     → AllByRecursion (λ x. sliced_data x ≡ zeros 828) xs → sides.Holds kept run
     → length run % 313 ≡ place + 1 → place + length xs ≤ 312 → length xs ≤ 52 → h ≡ (place % 4 + length xs) / 4
     → new ≡ moved_on kept h → IsFurther new h run (run ++ xs)
 quiet_further kept new h place run xs q z d e l m i f =
+    let few : h ≤ 13 = omega (arith, i, m) in
+    let g : AreGrouped kept.groups (run ++ xs) (bytes_in run ++ zeros (828 * ((place % 4 + length xs) / 4))) =
+    quiet_many xs kept run (bytes_in run) place q z (grouped_none kept.groups run d.levels d.none) (λ _. e) l in
     rw f (further kept (moved_on kept h) h run (run ++ xs) (zeros (828 * h)) d g.levels q.held
     (g.bytes ∙ ap (λ (held : List (List ℕ)). (bytes_in run ++ zeros (828 * ((place % 4 + length xs) / 4))) ++ flat held)
     q.held ∙ append-nil (bytes_in run ++ zeros (828 * ((place % 4 + length xs) / 4)))
-    ∙ ap (λ (n : ℕ). bytes_in run ++ zeros (828 * n)) (sym i))
-    (record {
+    ∙ ap (λ (n : ℕ). bytes_in run ++ zeros (828 * n)) (sym i)) (record {
       few = few;
       long = ap length q.begun ∙ length-replicate {A = ℕ} 156 0;
       bytes = length-replicate {A = ℕ} (828 * h) 0;
@@ -449,39 +391,18 @@ quiet_further kept new h place run xs q z d e l m i f =
       gathered = take-replicate (156 + 828 * h) 10920 0 (omega (arith, few))
           ∙ sym (ap₂ (λ (us ys : List ℕ). us ++ ys) q.begun (clear_leaves (828 * h) kept.branches q.branches q.below)
           ∙ more_zeros 156 (828 * h) (156 + 828 * h) refl);
-      ends_are = q.begun
-          ∙ sym (ap (take 156) (drop-replicate (828 * h) 10920 0)
+      ends_are = q.begun ∙ sym (ap (take 156) (drop-replicate (828 * h) 10920 0)
           ∙ take-replicate 156 (10920 - 828 * h) 0 (omega (arith, few)));
     }))
-  where
-    few : h ≤ 13
-    few = omega (arith, i, m)
-
-    g : AreGrouped kept.groups (run ++ xs) (bytes_in run ++ zeros (828 * ((place % 4 + length xs) / 4)))
-    g = quiet_many xs kept run (bytes_in run) place q z (grouped_none kept.groups run d.levels d.none) (λ _. e) l
 
 pub quiet_still : (kept new : Side) (h : ℕ) → IsQuiet kept → new ≡ moved_on kept h → IsQuiet new
-quiet_still kept new h q f =
-    subst IsQuiet (sym f) (record {
-      levels = q.levels;
-      precoder_bits = q.precoder_bits;
-      held = q.held;
-      below = subst (λ (v : Branching). v.next < 52) (sym (clear_stays (48 * h % 52) kept.branches q.branches q.below))
-          (omega arith);
-      branches = λ i j l. ap (λ (v : Branching). get_or (get_or v.lists i []) j 0)
-          (clear_stays (48 * h % 52) kept.branches q.branches q.below) ∙ q.branches i j l;
-      begun = q.begun;
-    })
+quiet_still kept new h q f = grind (arith, clear_stays)
 
 -- ---- what is known
 
 pub known_afresh : (side : Side) → side.groups.held ≡ [] → HasWidths 52 (gathering 52 4) side.branches
     → AreKnown side 0 false
-known_afresh side n w = record {
-  held = n;
-  come = none_come side.branches w;
-  none = λ e. absurd (true≢false (sym e));
-}
+known_afresh side n w = grind (arith, none_come, true≢false)
 
 pub known_quiet : (side : Side) (quiet : Bool) → IsQuiet side → HasWidths 52 (gathering 52 4) side.branches
     → AreKnown side 0 quiet
@@ -490,22 +411,13 @@ known_quiet side quiet q w = record { held = q.held; come = none_come side.branc
 -- groups have passed
 pub known_more : (old new : Side) (quiet blank over : Bool) (before h count : ℕ) (more : List ℕ)
     → AreKnown old before quiet → new.groups.held ≡ [] → new.branches ≡ after_all 52 old.branches more
-    → (blank ≡ true → more ≡ zeros (828 * h)) → (blank ≡ false → count ≡ 0)
-    → (blank ≡ true → count ≤ before + h)
+    → (blank ≡ true → more ≡ zeros (828 * h)) → (blank ≡ false → count ≡ 0) → (blank ≡ true → count ≤ before + h)
     → (over ≡ true → (new.groups.levels ≡ zeros 3312) × (new.groups.precoder_bits ≡ zeros 12) × (count ≡ 13)
-    × (new.begun ≡ zeros 156))
-    → AreKnown new count over
+    × (new.begun ≡ zeros 156)) → AreKnown new count over
 known_more old new quiet blank over before h count more k n b clear none some end = record {
   held = n;
   come = come blank refl;
-  none = λ t. let i = end t in record {
-    levels = i.0;
-    precoder_bits = i.1;
-    held = n;
-    below = widths.next;
-    branches = clear_come new.branches (subst (λ (m : ℕ). HaveCome m new.branches) (i.2) (come blank refl));
-    begun = i.3;
-  };
+  none = λ t. grind (arith, widths, clear_come, come);
 }
   where
     widths : HasWidths 52 (gathering 52 4) new.branches
@@ -514,8 +426,7 @@ known_more old new quiet blank over before h count more k n b clear none some en
 
     come : (t : Bool) → blank ≡ t → HaveCome count new.branches
     come false t = subst (λ (m : ℕ). HaveCome m new.branches) (sym (none t)) (none_come new.branches widths)
-    come true t =
-        fewer_come (before + h) count new.branches (some t)
+    come true t = fewer_come (before + h) count new.branches (some t)
         (subst (HaveCome (before + h)) (sym (b ∙ ap (after_all 52 old.branches) (clear t)))
         (more_come before h old.branches k.come))
 
@@ -525,18 +436,15 @@ lowest_all : (xs : List ℤ) → ((j : ℕ) → j < length xs → get_or xs j (p
     → map sliced (map shown xs) ≡ zeros (length xs)
 unfolding sliced
 lowest_all [] h = refl
-lowest_all (x ∷ xs) h =
-    ap₂ (λ (l : ℕ) (ls : List ℕ). l ∷ ls) (ap sliced (shown_other x (λ e. h 0 (omega arith) e)))
+lowest_all (x ∷ xs) h = ap₂ (λ (l : ℕ) (ls : List ℕ). l ∷ ls) (ap sliced (shown_other x (λ e. h 0 (omega arith) e)))
     (lowest_all xs (λ j l e. h (suc j) (omega (arith, l)) e))
 
 pub lowest_data : (x : List ℤ) → length x ≡ 832
     → ((j : ℕ) → j < 832 → get_or x j (pos 0) ≡ negsuc 127 → ⊥) → sliced_data (map shown x) ≡ zeros 828
 unfolding sliced_data
-lowest_data x l h =
-    ap (map sliced) (drop-map shown 4 x)
+lowest_data x l h = ap (map sliced) (drop-map shown 4 x)
     ∙ lowest_all (drop 4 x) (λ j m e. h (4 + j) (omega (arith, m, length-drop 4 x, l))
-    (sym (get_or-drop 4 x j (pos 0)) ∙ e))
-    ∙ ap zeros (length-drop 4 x ∙ ap (λ (n : ℕ). n - 4) l)
+    (sym (get_or-drop 4 x j (pos 0)) ∙ e)) ∙ ap zeros (length-drop 4 x ∙ ap (λ (n : ℕ). n - 4) l)
 
 -- segments, by their symbols' bytes
 pub none_missing : (segments : List (List ℕ)) → ((j : ℕ) → j < length segments → length (get_or segments j []) ≡ 832)
@@ -550,5 +458,5 @@ none_missing (x ∷ xs) l h = (
       ∙ sym (get_or-map (λ byte. cast_signed w8 byte) x j 0 (pos 0) (omega (arith, m, l 0 (omega arith)))) ∙ e)),
   none_missing xs (λ j m. l (suc j) (omega (arith, m)))
       (λ i m e. h (length x + i) (omega (arith, m, length-append x (flat xs)))
-      (ap (cast_signed w8) (get_or-append-add x (flat xs) i 0) ∙ e)),
+      (grind (arith, get_or-append-add, flat))),
 )

@@ -1,6 +1,6 @@
 -- What is kept of one side of a run, with more segments.
 use Rattle.std.proofs.Common.{◌≡◌, ℕ, ℤ, ◌+◌, ◌*◌, ◌%◌, ◌≤◌, List, [], ◌∷◌, ◌++◌, length, take, drop, sym, ap, ap₂, ◌∙◌}
-use Rattle.std.proofs.Common.{subst}
+use Rattle.std.proofs.Common.{arith}
 use Rattle.dtx_laws.specs.Branches.{Branching, HasWidths, gathering, leaving_all, after_all}
 use Rattle.dtx_outer.specs.Inner.{word_at}
 use Rattle.dtx_receiver.specs.Bytes.{groups_of, bytes_in}
@@ -46,16 +46,13 @@ further kept new h run longer more d a n e p =
       holds = record {
         levels = a;
         none = n;
-        gathers = gathers_stay new.branches new.begun _ _ _ _ (sym g) (sym e)
-            (gathers_more kept.branches new.branches kept.begun new.gathered new.begun (groups_of run) h (bytes_in run)
-            more d.gathers p);
+        gathers = gathers_stay new.branches new.begun _ _ _ _ (sym g) (sym e) (grind (arith, gathers_more));
       };
       more = more;
       bytes = e;
       count = g;
       words = λ k q l i. words_more kept.branches new.branches kept.begun new.gathered new.begun (groups_of run) h
-          (bytes_in run) more d.gathers p k q l i
-          ∙ ap (λ y. word_at 207 52 4 y k) (sym e);
+          (bytes_in run) more d.gathers p k q l i ∙ ap (λ y. word_at 207 52 4 y k) (sym e);
     }
 
 -- the groups that were held, of which none is held now
@@ -63,10 +60,7 @@ pub further_held : (kept new : Side) (groups : Grouping) (h : ℕ) (run longer :
     → AreGrouped groups longer (bytes_in run) → new.groups ≡ record groups { held = [] }
     → Passed kept.branches new.branches kept.begun new.gathered new.begun h (flat groups.held)
     → IsFurther new h run longer
-further_held kept new groups h run longer d g e p =
-    further kept new h run longer (flat groups.held) d
-    (rw e g.levels)
-    (ap (λ (k : Grouping). k.held) e) g.bytes p
+further_held kept new groups h run longer d g e p = grind (arith, further, flat)
 
 -- the bytes that were held are laid out, and pass
 pub held_passed : (kept laid new : Side) (h : ℕ) → length kept.begun ≡ 156 → h ≤ 13

@@ -39,8 +39,7 @@ pub mended_packet : (bytes : List ℕ) (marks : List Bool) (k : ℕ) (code : Lis
       good = true;
     }
 unfolding mended_at
-mended_packet bytes marks k code c l =
-    ap (received_by (187 * (k % 312)) (word_at 207 52 4 bytes k))
+mended_packet bytes marks k code c l = ap (received_by (187 * (k % 312)) (word_at 207 52 4 bytes k))
     (mending_only 207 187 (marks_at marks k) (word_at 207 52 4 bytes k) code (omega arith)
     (length-word 207 52 4 bytes k) (length-marks marks k)
     (damage_is 207 187 (marks_at marks k) code (word_at 207 52 4 bytes k) c l))
@@ -123,18 +122,14 @@ none_data run d h = none_behind 4 (get_or run (d + d / 312 + 1) []) (there_at ru
 
 none_in : (run : List (List ℤ)) → AllThere run → AllFalse (missing_in run)
 unfolding missing_in
-none_in run h =
-    none_flat (λ d. map is_missing (drop 4 (data_at run d))) (range_with_len 0 (4 * groups_of run))
+none_in run h = none_flat (λ d. map is_missing (drop 4 (data_at run d))) (range_with_len 0 (4 * groups_of run))
     (λ d. none_data run d h)
 
 none_was : (run : List (List ℤ)) (r e : ℕ) → AllThere run → was_missing run r e ≡ false
 unfolding was_missing
-none_was run r e h =
-    ap₂ (cond (r == 0))
+none_was run r e h = ap₂ (cond (r == 0))
     (none_at (map is_missing (drop 820 (get_or run 0 []))) ((e + 4) % 12) (none_behind 820 (get_or run 0 [])
-    (there_at run 0 h)))
-    (none_at (missing_in run) (symbol_place 0 (r - 1) e) (none_in run h))
-    ∙ same (r == 0)
+    (there_at run 0 h))) (none_at (missing_in run) (symbol_place 0 (r - 1) e) (none_in run h)) ∙ same (r == 0)
   where
     same : (t : Bool) → cond t false false ≡ false
     same true = refl
@@ -150,8 +145,7 @@ none_marked run j h =
 
 none_marks : (run : List (List ℤ)) (k : ℕ) → AllThere run → lost (marks_at (marks_in run) k) ≡ 0
 unfolding marks_at marks_in
-none_marks run k h =
-    lost_none (marks_at (marks_in run) k)
+none_marks run k h = lost_none (marks_at (marks_in run) k)
     (none_map (λ p. get_or (marks_in run) (codeword_byte_place 52 4 p) false) (range_with_len (207 * k) 207)
     (λ p. none_at (marks_in run) (codeword_byte_place 52 4 p)
     (none_map (is_marked run) (range_with_len 0 (length (bytes_in run))) (λ j. none_marked run j h))))
@@ -159,8 +153,7 @@ none_marks run k h =
 packet_same : (run : List (List ℤ)) (k : ℕ) → AllThere run → mended_at (bytes_in run) (marks_in run) k
     ≡ received_at (bytes_in run) k
 unfolding mended_at received_at
-packet_same run k h =
-    ap (received_by (187 * (k % 312)) (word_at 207 52 4 (bytes_in run) k))
+packet_same run k h = ap (received_by (187 * (k % 312)) (word_at 207 52 4 (bytes_in run) k))
     (unmarked_mending 207 187 (marks_at (marks_in run) k) (word_at 207 52 4 (bytes_in run) k) (omega arith)
     (length-word 207 52 4 (bytes_in run) k) (length-marks (marks_in run) k) (none_marks run k h))
 
@@ -170,15 +163,13 @@ map_same f g (x ∷ xs) h = ap₂ (λ (r : Received) (rs : List Received). r ∷
 
 run_same : (run : List (List ℤ)) → AllThere run → mended_run run ≡ run_packets (bytes_in run)
 unfolding mended_run_packets run_packets
-run_same run h =
-    map_same (mended_at (bytes_in run) (marks_in run)) (received_at (bytes_in run))
+run_same run h = map_same (mended_at (bytes_in run) (marks_in run)) (received_at (bytes_in run))
     (filter (is_complete (length (bytes_in run))) (range_with_len 0 (length (bytes_in run) / 207)))
     (λ k. packet_same run k h)
 
 early_same : (run : List (List ℤ)) → AllThere run → mended_run_early run ≡ early_of (bytes_in run)
 unfolding mended_early early_of
-early_same run h =
-    map_same (mended_at (bytes_in run) (marks_in run)) (received_at (bytes_in run))
+early_same run h = map_same (mended_at (bytes_in run) (marks_in run)) (received_at (bytes_in run))
     (range_with_len 0 (length (bytes_in run) / 207 - 52)) (λ k. packet_same run k h)
 
 -- ---- the runs of segments of which no symbol is missing
@@ -229,8 +220,7 @@ all_same segments h =
     let f : Fine (tracked segments) = fine segments h in
     flat_same mended_run (λ run. run_packets (bytes_in run)) (runs segments)
     (all_both AllThere (tracked segments).ended (option_to_list (tracked segments).run) f.ended
-    (on_list (tracked segments).run f.run))
-    run_same
+    (on_list (tracked segments).run f.run)) run_same
 
 pub so_far_same : (segments : List (List ℤ)) → AllThere segments → mended_so_far segments ≡ packets_so_far segments
 unfolding mended_so_far packets_so_far

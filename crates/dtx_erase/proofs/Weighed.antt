@@ -1,8 +1,7 @@
 -- Weighed words: each byte times the weight of its place, which is 0 where the place is marked. Those of codewords are
 -- codewords of a code with as many parity bytes less as places are marked, so a mending becomes a correction.
-use Rattle.std.proofs.Common.{◌≡◌, ◌≢◌, ℕ, zero, suc, ◌+◌, ◌-◌, ◌*◌, ◌<◌, ◌≤◌, ◌⊎◌, inl, inr, ◌==◌, ◌||◌, cond, Bool}
-use Rattle.std.proofs.Common.{true, false, List, [], ◌∷◌, map, length, get_or, bit_xor, refl, sym, ap, ap₂, ◌∙◌, subst}
-use Rattle.std.proofs.Common.{arith}
+use Rattle.std.proofs.Common.{◌≡◌, ◌≢◌, ℕ, zero, suc, ◌+◌, ◌-◌, ◌*◌, ◌<◌, ◌≤◌, ◌==◌, ◌||◌, cond, Bool, true, false}
+use Rattle.std.proofs.Common.{List, [], ◌∷◌, map, length, get_or, bit_xor, refl, sym, ap, ap₂, ◌∙◌, subst, arith}
 use Rattle.std.proofs.lemmas.Bool.{eq-eqb, eqb-true, or_cases}
 use Rattle.std.specs.Int.Bits.{xor_self, xor_lt}
 use Rattle.dtx_galois.specs.Field.{mul, pow, value, AreBytes}
@@ -42,21 +41,18 @@ bytes_weighed ys (x ∷ xs) = (mul_small x (weight (pow 2 (length xs)) ys), byte
 
 terms_weighed : (ys xs : List ℕ) → map (λ p. (mul p.0 (weight p.1 ys), p.1)) (terms xs) ≡ terms (weighed ys xs)
 terms_weighed ys [] = refl
-terms_weighed ys (x ∷ xs) =
-    ap₂ (λ (m : ℕ) (ps : List (ℕ × ℕ)). (mul x (weight (pow 2 (length xs)) ys), pow 2 m) ∷ ps)
+terms_weighed ys (x ∷ xs) = ap₂ (λ (m : ℕ) (ps : List (ℕ × ℕ)). (mul x (weight (pow 2 (length xs)) ys), pow 2 m) ∷ ps)
     (sym (length_weighed ys xs)) (terms_weighed ys xs)
 
 -- cancelling the marked places from the syndromes leaves those of the weighed word
 pub value_weighed : (ys word : List ℕ) (s : ℕ → ℕ) (i m : ℕ) → ((j : ℕ) → j < m → s j ≡ value word (pow 2 j))
     → i + length ys < m → without ys s i ≡ value (weighed ys word) (pow 2 i)
-value_weighed ys word s i m h l =
-    without_is ys s i m (terms word) (λ j r. h j r ∙ sym (moment_terms j word)) l
+value_weighed ys word s i m h l = without_is ys s i m (terms word) (λ j r. h j r ∙ sym (moment_terms j word)) l
     ∙ ap (moment i) (terms_weighed ys word) ∙ moment_terms i (weighed ys word)
 
 vanishes_weighed : (ys code : List ℕ) (i m : ℕ) → ((j : ℕ) → j < m → value code (pow 2 j) ≡ 0) → i + length ys < m
     → value (weighed ys code) (pow 2 i) ≡ 0
-vanishes_weighed ys code i m h l =
-    sym (value_weighed ys code (λ j. value code (pow 2 j)) i m (λ j r. refl) l)
+vanishes_weighed ys code i m h l = sym (value_weighed ys code (λ j. value code (pow 2 j)) i m (λ j r. refl) l)
     ∙ without_is ys (λ j. value code (pow 2 j)) i m [] h l
 
 weighed_at : (ys xs : List ℕ) (p : ℕ) → p < length xs
@@ -84,27 +80,18 @@ weighed_differ n p ys word code lw lc bw bc l w d e =
   where
     at : (xs : List ℕ) → length xs ≡ n
         → mul (get_or xs p 0) (weight (pow 2 (n - 1 - p)) ys) ≡ get_or (weighed ys xs) p 0
-    at xs e = ap (λ j. mul (get_or xs p 0) (weight (pow 2 (j - 1 - p)) ys)) (sym e)
-        ∙ sym (weighed_at ys xs p (omega (arith, e, l)))
+    at xs e = grind (arith, weighed_at)
 
 -- ---- as many differences as at unmarked places
 
 cost_by : (u v : Bool) → (v ≡ true → u ≡ true) → cond u 0 1 ≤ cond v 0 1
 cost_by true true h = omega arith
 cost_by true false h = omega arith
-cost_by false true h = absurd (no (h refl))
-  where
-    no : false ≡ true → ⊥
-    no e = cc
+cost_by false true h = grind arith
 cost_by false false h = omega arith
 
 weighed_cost : (m : Bool) (x y v : ℕ) → (m ≡ true → v ≡ 0) → cond (mul x v == mul y v) 0 1 ≤ cond (m || x == y) 0 1
-weighed_cost m x y v h =
-    cost_by (mul x v == mul y v) (m || x == y) (λ t. eq-eqb (mul x v) (mul y v) (same (or_cases m (x == y) t)))
-  where
-    same : (m ≡ true) ⊎ ((x == y) ≡ true) → mul x v ≡ mul y v
-    same (inl e) = ap (mul x) (h e) ∙ mul_zero x ∙ sym (ap (mul y) (h e) ∙ mul_zero y)
-    same (inr e) = ap (λ z. mul z v) (eqb-true x y e)
+weighed_cost m x y v h = grind (arith, cost_by, eq-eqb, or_cases, mul_zero, eqb-true)
 
 pub distance_weighed : (ys : List ℕ) (marks : List Bool) (word code : List ℕ) → length marks ≡ length word
     → length word ≡ length code
@@ -119,11 +106,9 @@ distance_weighed ys (m ∷ marks) (x ∷ xs) (c ∷ cs) l e h =
     omega (
       arith,
       subst (λ (j : ℕ). cond (mul x (weight (pow 2 (length xs)) ys) == mul c (weight (pow 2 j) ys)) 0 1
-          ≤ cond (m || x == c) 0 1) same
-          (weighed_cost m x c (weight (pow 2 (length xs)) ys)
+          ≤ cond (m || x == c) 0 1) same (weighed_cost m x c (weight (pow 2 (length xs)) ys)
           (λ t. ap (λ j. weight (pow 2 j) ys) (last (length xs)) ∙ h 0 (omega arith) t)),
-      distance_weighed ys marks xs cs (omega arith) same
-          (λ p r t. ap (λ j. weight (pow 2 j) ys) (inner (length xs) p) ∙ h (suc p) (omega arith) t),
+      distance_weighed ys marks xs cs (omega arith) same (λ p r t. grind (arith, inner)),
     )
   where
     last : (n : ℕ) → n ≡ suc n - 1 - 0
@@ -138,18 +123,5 @@ pub weighed_correction : (n k t : ℕ) (ys : List ℕ) (marks : List Bool) (word
     → length marks ≡ n → length ys ≡ lost marks → lost marks + 2 * t ≤ n - k → n - k ≤ lost marks + 2 * t + 1
     → ((p : ℕ) → p < n → get_or marks p false ≡ true → weight (pow 2 (n - 1 - p)) ys ≡ 0)
     → IsMending n k marks word code → IsCorrection n (n - 2 * t) (weighed ys word) (weighed ys code)
-weighed_correction n k t ys marks word code lw lm ly few most z p = record {
-  codeword = record {
-    long = length_weighed ys code ∙ p.codeword.long;
-    bytes = bytes_weighed ys code;
-    vanishes = λ i l. vanishes_weighed ys code i (n - k) p.codeword.vanishes (omega (arith, l, few, ly));
-  };
-  near = omega (
-    arith,
-    distance_weighed ys marks word code (lm ∙ sym lw) (lw ∙ sym p.codeword.long)
-        (λ q r t. ap (λ j. weight (pow 2 (j - 1 - q)) ys) lw ∙ z q (omega (arith, r, lw)) t),
-    p.near,
-    few,
-    most,
-  );
-}
+weighed_correction n k t ys marks word code lw lm ly few most z p =
+    grind (arith, length_weighed, bytes_weighed, vanishes_weighed, distance_weighed)

@@ -1,6 +1,6 @@
 -- The search for the places at which a recurrence vanishes, which ends when as many are found as its order says.
-use Rattle.std.proofs.Common.{◌≡◌, ℕ, zero, suc, ◌+◌, ◌-◌, ◌<◌, ◌≤◌, ◌⊎◌, inl, inr, ◌==◌, ◌&&◌, ◌||◌, not, cond, Bool}
-use Rattle.std.proofs.Common.{true, false, List, length, set, refl, sym, ap, ◌∙◌, subst, arith}
+use Rattle.std.proofs.Common.{◌≡◌, ℕ, zero, suc, ◌+◌, ◌-◌, ◌<◌, ◌≤◌, ◌==◌, ◌&&◌, ◌||◌, not, cond, Bool, true, false}
+use Rattle.std.proofs.Common.{List, length, set, refl, ap, ◌∙◌, subst, arith}
 use Rattle.std.proofs.lemmas.Bool.{eqb-true, eqb-false}
 use Rattle.std.proofs.lemmas.List.{get_or-set_same, get_or-set_other}
 use Rattle.dtx_laws.specs.ErrorValues.{others}
@@ -13,17 +13,13 @@ length_by n q mark l =
     ap length (others_by n q mark (mark q) l refl) ∙ length_chosen (mark q) (power_at n q) (others n mark n q)
 
 longer : (n q d : ℕ) (mark : ℕ → Bool) → q + d ≤ n → length (others n mark n q) ≤ length (others n mark n (q + d))
-longer n q zero mark l = omega (arith, ap (λ j. length (others n mark n j)) (none q))
-  where
-    none : (q : ℕ) → q + 0 ≡ q
-    none q = omega arith
-longer n q (suc d) mark l =
-    omega (
-      arith,
-      longer n q d mark (omega arith),
-      length_by n (q + d) mark (omega arith),
-      ap (λ j. length (others n mark n j)) (next q d),
-    )
+longer n q zero mark l = grind arith
+longer n q (suc d) mark l = omega (
+  arith,
+  longer n q d mark (omega arith),
+  length_by n (q + d) mark (omega arith),
+  ap (λ j. length (others n mark n j)) (next q d),
+)
   where
     next : (q d : ℕ) → q + suc d ≡ q + d + 1
     next q d = omega arith
@@ -40,40 +36,24 @@ none_missed n q l left mark m e few = by_cases (left == 0) (mark q) refl refl
     by_cases : (u v : Bool) → (left == 0) ≡ u → mark q ≡ v → (not (left == 0) && mark q) ≡ mark q
     by_cases true true t h =
         absurd (omega (arith, eqb-true left 0 t, whole, length_by n q mark m, ap (λ w. cond {A = ℕ} w 1 0) h))
-    by_cases true false t h = ap (λ w. not (left == 0) && w) h ∙ neither (not (left == 0)) ∙ sym h
-      where
-        neither : (u : Bool) → (u && false) ≡ false
-        neither true = refl
-        neither false = refl
+    by_cases true false t h = grind arith
     by_cases false v t h = ap (λ w. not w && mark q) t
 
 -- one place more
 pub one_more : (f : ℕ → Bool) (all : List Bool) (q : ℕ) (x : Bool) → q < length all → x ≡ f q
     → ((p : ℕ) → p < q → is_marked all p ≡ f p) → (p : ℕ) → p < q + 1 → is_marked (set all q x) p ≡ f p
-one_more f all q x l e h p m = by_place (place_order p q m)
-  where
-    place_order : (p q : ℕ) → p < q + 1 → (p ≡ q) ⊎ (p < q)
-    place_order p q m = grind arith
-
-    by_place : (p ≡ q) ⊎ (p < q) → is_marked (set all q x) p ≡ f p
-    by_place (inl s) = rw s (get_or-set_same all q x false l ∙ e)
-    by_place (inr r) = get_or-set_other all q p x false (λ e. omega arith) ∙ h p r
+one_more f all q x l e h p m = grind (arith, get_or-set_same, get_or-set_other)
 
 pub left_over : (n q l left next : ℕ) (mark : ℕ → Bool) (u : Bool) → q < n → u ≡ mark q
     → next ≡ left - cond u 1 0 → (u ≡ true → 0 < left)
     → left + length (others n mark n q) ≡ l → next + length (others n mark n (q + 1)) ≡ l
-left_over n q l left next mark true m e s p h =
-    omega (arith, s, p refl, h, length_by n q mark m, ap (λ w. cond {A = ℕ} w 1 0) e)
+left_over n q l left next mark true m e s p h = grind (arith, length_by)
 left_over n q l left next mark false m e s p h =
     omega (arith, s, h, length_by n q mark m, ap (λ w. cond {A = ℕ} w 1 0) e)
 
 -- what is found was left
 pub some_left : (left : ℕ) (v u : Bool) → u ≡ (not (left == 0) && v) → u ≡ true → 0 < left
-some_left left v u e t = by_test (left == 0) refl
-  where
-    by_test : (w : Bool) → (left == 0) ≡ w → 0 < left
-    by_test true h = cc
-    by_test false h = let d : left ≡ 0 → ⊥ = eqb-false left 0 h in omega arith
+some_left left v u e t = grind (arith, eqb-false)
 
 pub itself : (m v : Bool) → m ≡ true → m ≡ (m || v)
 itself true v e = refl

@@ -1,11 +1,9 @@
 -- Lemmas of a file whose units are all allowed: it is read to its end, or as far as it may be.
-use Rattle.std.proofs.Common.{◌≡◌, ℕ, ◌%◌, ◌<◌, ◌≤◌, List, [], ◌∷◌, length, ap}
-use Rattle.std.proofs.Common.{◌∙◌, refl}
+use Rattle.std.proofs.Common.{◌≡◌, ℕ, ◌%◌, ◌<◌, ◌≤◌, List, [], ◌∷◌, length, refl, arith}
 use Rattle.std.specs.Prelude.{true, not, None}
 use Rattle.std.specs.List.{find}
 use Rattle.std.proofs.lemmas.Bool.{cond-false, cond-true, le-ltb, lt-ltb}
-use Rattle.dtx_engine.specs.Recipe.{Recipe, Course, course, course_from, first_refused, first_units, meaning_at}
-use Rattle.dtx_engine.specs.Recipe.{meaning_of_file, whole_units}
+use Rattle.dtx_engine.specs.Recipe.{Recipe, first_refused, first_units, meaning_at, meaning_of_file, whole_units}
 use Rattle.dtx_engine.specs.declared.engine.Shape.{Shape}
 use Rattle.dtx_engine.specs.declared.piece.Ending.TheVariants.{Whole, Refused}
 use Rattle.dtx_meaning.specs.declared.status.Status.TheVariants.{TooLong}
@@ -19,18 +17,11 @@ pub all_read : (shape : Shape) (recipe : Recipe) (names : List (List ℕ)) (file
     → first_refused shape recipe file ≡ None → whole_units shape file ≤ shape.limit
     → meaning_of_file shape recipe names file
     ≡ meaning_at recipe names (first_units shape file (whole_units shape file)) (Whole (length file % shape.unit))
-all_read shape recipe names file none few =
-    let is : course shape recipe file
-    ≡ record { taken = whole_units shape file; ending = Whole (length file % shape.unit) } =
-    ap (course_from shape file) none ∙ cond-false _ _ _ (le-ltb shape.limit (whole_units shape file) few) in
-    ap (λ (c : Course). meaning_at recipe names (first_units shape file c.taken) c.ending) is
+all_read shape recipe names file none few = grind (arith, cond-false, le-ltb)
 
 -- and where it has more, as many as it may have are
 pub first_read : (shape : Shape) (recipe : Recipe) (names : List (List ℕ)) (file : List ℕ)
     → first_refused shape recipe file ≡ None → shape.limit < whole_units shape file
     → meaning_of_file shape recipe names file
     ≡ meaning_at recipe names (first_units shape file shape.limit) (Refused TooLong)
-first_read shape recipe names file none many =
-    let is : course shape recipe file ≡ record { taken = shape.limit; ending = Refused TooLong } =
-    ap (course_from shape file) none ∙ cond-true _ _ _ (lt-ltb shape.limit (whole_units shape file) many) in
-    ap (λ (c : Course). meaning_at recipe names (first_units shape file c.taken) c.ending) is
+first_read shape recipe names file none many = grind (arith, cond-true, lt-ltb)

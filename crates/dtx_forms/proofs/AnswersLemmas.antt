@@ -1,6 +1,6 @@
 -- Which refusals a command knows: of how its making answers, of equal names, and of a plan that is not read.
 use Rattle.std.specs.Prelude.{◌≡◌, ◌⊎◌, ℕ, false, true, List}
-use Rattle.std.proofs.Common.{inl, inr, refl, sym, subst}
+use Rattle.std.proofs.Common.{inl, inr, refl, arith}
 use Rattle.dtx_engine.specs.Recipe.{IsAnswerAt, IsAnswerOf, IsEndOf, Recipe}
 use Rattle.dtx_meaning.specs.Status.{ended}
 use Rattle.dtx_meaning.specs.declared.status.Outcome.{Outcome}
@@ -21,9 +21,7 @@ pub knows_by : (recipe : Recipe) (command : Command) → Knows command TooLong
 knows_by recipe command long refused ends outcome is = by_status outcome.status refl is
   where
     at_end : (s : Status) → outcome.status ≡ s → IsEndOf recipe outcome → IsKnownAt command s outcome.numbers
-    at_end s same (given, loose, end) =
-        subst (λ (s : Status). IsKnownAt command s outcome.numbers) same
-        (subst (λ (o : Outcome). IsKnown command o) (sym end) (ends given loose))
+    at_end s same (given, loose, end) = grind arith
 
     by_status : (s : Status) → outcome.status ≡ s → IsAnswerAt recipe s outcome → IsKnownAt command s outcome.numbers
     by_status Done same is = at_end Done same is
@@ -46,10 +44,7 @@ none_refused (unit, refused) = let e : true ≡ false = refused in cc
 pub transformed_knows : (recipe : Recipe) (command : Command) (outcome : Outcome)
     → ((o : Outcome) → IsAnswerOf recipe o → IsKnown command o) → (outcome.status ≡ Same) ⊎ IsAnswerOf recipe outcome
     → IsKnown command outcome
-transformed_knows recipe command outcome knows is = elim is [
-  | inl same ↦ subst (λ (s : Status). IsKnownAt command s outcome.numbers) (sym same) tt
-  | inr answer ↦ knows outcome answer
-]
+transformed_knows recipe command outcome knows is = grind arith
 
 -- a plan, or changes, that are not read
 pub plan_refusal_known : (command : Command) (number : ℕ) → ((refusal : _) → Knows command (Plan refusal))

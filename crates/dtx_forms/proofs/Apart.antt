@@ -1,7 +1,6 @@
 -- What follows from file names of which no two are equal.
-use Rattle.std.proofs.Common.{◌≡◌, ◌≢◌, ℕ, Bool, true, false, ◌||◌, cond, List, [], ◌∷◌, sym}
+use Rattle.std.proofs.Common.{◌≡◌, ◌≢◌, ℕ, Bool, true, false, ◌||◌, cond, List, [], ◌∷◌, arith}
 use Rattle.std.specs.Prelude.{Some, None}
-use Rattle.std.specs.Str.{bytes_eq}
 use Rattle.std.proofs.lemmas.Slice.Eq.{bytes_eq-Decides}
 use Rattle.dtx_words.specs.Names.{repeated}
 
@@ -16,10 +15,4 @@ none_equal second third false false false none = (λ e. cc, λ e. cc, λ e. cc)
 -- three names that differ
 pub all_differ : (first second third : List ℕ) → None ≡ repeated (first ∷ second ∷ third ∷ [])
     → (first ≢ second) × (first ≢ third) × (second ≢ third)
-all_differ first second third differ =
-    let none = none_equal second third (bytes_eq first second) (bytes_eq first third) (bytes_eq second third)
-    (sym differ) in (
-      λ same. none.0 ((bytes_eq-Decides first second).1 same),
-      λ same. none.1 ((bytes_eq-Decides first third).1 same),
-      λ same. none.2 ((bytes_eq-Decides second third).1 same),
-    )
+all_differ first second third differ = grind (arith, none_equal, bytes_eq-Decides)

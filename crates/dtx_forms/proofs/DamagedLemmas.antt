@@ -1,5 +1,5 @@
 -- Lemmas of what is made of damaged bytes.
-use Rattle.std.proofs.Common.{ℕ, List, length, sym, ap, subst, ◌∙◌}
+use Rattle.std.proofs.Common.{ℕ, List, length, arith}
 use Rattle.dtx_engine.specs.Made.{Made}
 use Rattle.dtx_engine.specs.Recipe.{Recipe, IsFed}
 use Rattle.dtx_make.specs.Hurt.{hurt, damaged_bytes}
@@ -11,7 +11,4 @@ use Rattle.dtx_forms.specs.Damaged.{damaged_making}
 pub hurt_fed : (damage : List Damage) (recipe : Recipe) (given bytes : List ℕ) (stands : List ℕ → Type 0) (gives : Made)
     → IsFed recipe (hurt damage given) (damaged_bytes damage (length given) bytes) stands gives
     → IsFed (damaged_making damage recipe) given bytes (λ z. stands (hurt damage z)) gives
-hurt_fed damage recipe given bytes stands gives fed = record {
-  stand = subst stands (sym (hurt-append damage given bytes)) fed.stand;
-  made = ap recipe.made (hurt-append damage given bytes) ∙ fed.made;
-}
+hurt_fed damage recipe given bytes stands gives fed = grind (arith, hurt-append)

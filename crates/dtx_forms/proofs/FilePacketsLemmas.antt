@@ -26,9 +26,8 @@ long-packets_of file = All-from_get_or IsLong (packets_of file) [] (λ k within.
 
 -- the first packets of a file
 pub front_of : (file : List ℕ) (m : ℕ) → m ≤ whole_packets file → take m (packets_of file) ≡ packets_from file 0 m
-front_of file m within =
-    let rest : m + (whole_packets file - m) ≡ whole_packets file = omega (arith, within) in
-    ap (take m) (ap (packets_from file 0) (sym rest) ∙ packets_from-append file 0 m (whole_packets file - m))
+front_of file m within = ap (take m) (ap (packets_from file 0) (sym (omega (arith, within)))
+    ∙ packets_from-append file 0 m (whole_packets file - m))
     ∙ take_at (packets_from file 0 m) (packets_from file (0 + m) (whole_packets file - m)) m
     (length-map-range_with_len (packet_at file) 0 m)
 
@@ -40,15 +39,12 @@ length-chunks n (suc k) xs = ap (λ (m : ℕ). suc m) (length-chunks n k (drop n
 pub packets_are : (bytes : List ℕ) → first_chunks 188 (length bytes / 188) bytes ≡ packets_of bytes
 packets_are bytes =
     fill_by_all (packet_at bytes) (first_chunks 188 (whole_packets bytes) bytes) (whole_packets bytes) []
-    (length-chunks 188 (whole_packets bytes) bytes)
-    (λ k within. get_or-first_chunks 188 (whole_packets bytes) bytes k within)
+    (grind (arith, length-chunks)) (λ k within. get_or-first_chunks 188 (whole_packets bytes) bytes k within)
 
 -- packets that are taken behind whole ones: the first chunks of some bytes
 pub packets_on : (given bytes : List ℕ) (n : ℕ) (chunks : List (List ℕ)) → length given % 188 ≡ 0
     → chunks ≡ first_chunks 188 (length bytes / 188) bytes → n ≤ whole_packets bytes
     → packets_of (given ++ take (188 * n) bytes) ≡ packets_of given ++ take n chunks
-packets_on given bytes n chunks whole is within =
-    packets_of-append given (take (188 * n) bytes) whole
+packets_on given bytes n chunks whole is within = packets_of-append given (take (188 * n) bytes) whole
     ∙ ap (λ ps. packets_of given ++ ps)
-    (packets_of-piece bytes 0 n (omega (arith, within)) ∙ sym (front_of bytes n within)
-    ∙ ap (take n) (sym (is ∙ packets_are bytes)))
+    (rw (packets_of-piece bytes 0 n (omega (arith, within)), ← front_of bytes n within, ← packets_are bytes, ← is))

@@ -1,6 +1,6 @@
 -- That a command was done follows from that a part of it was: behind names that were compared, and behind a small file
 -- that was read.
-use Rattle.std.proofs.Common.{◌≡◌, ℕ, ◌<◌, true, false, List, sym, subst, refl, arith}
+use Rattle.std.proofs.Common.{◌≡◌, ℕ, ◌<◌, false, List, sym, subst, refl, arith}
 use Rattle.std.specs.Prelude.{Option, Some, None, Result, Ok, Err, IfSome, is_some}
 use Rattle.std.specs.FinMap.{get}
 use Rattle.dtx_meaning.proofs.MeaningLemmas.{of_inputs, refused_told}
@@ -26,8 +26,7 @@ use Rattle.dtx_forms.proofs.PlanFileLemmas.{read_told, unread_told}
 -- it was done, where one of the names was found to come twice, or none
 abbrev pub IsUnlessSame : Command → Option (List ℕ) → (Files → Meaning) → ℕ → Outcome → Option Files → Option Files
     → Counts → Counts → Type 0
-IsUnlessSame command twice means =
-    IsPerformed command (λ held. unless_same twice (means held)) (Some (is_some twice))
+IsUnlessSame command twice means = IsPerformed command (λ held. unless_same twice (means held)) (Some (is_some twice))
 
 stands : (counts : Counts) → HasGone counts counts Nothing
 stands counts = record { read_faults = omega arith; write_faults = omega arith; misses = omega arith; risen = refl }
@@ -36,31 +35,21 @@ stands counts = record { read_faults = omega arith; write_faults = omega arith; 
 pub refused_same : (command : Command) (names : List (List ℕ)) (name : List ℕ) (means : Files → Meaning) (inputs : ℕ)
     (outcome : Outcome) (told : Option Files) (counts : Counts) → Some name ≡ repeated names → outcome ≡ ended Same
     → IsUnlessSame command (repeated names) means inputs outcome told told counts counts
-refused_same command names name means inputs outcome told counts twice is =
-    subst (λ (r : Option (List ℕ)). IsUnlessSame command r means inputs outcome told told counts counts) twice
-    (record {
-      carried = refused_told (λ held. unless_same (Some name) (means held)) told told Same outcome (λ held told. refl)
-          refl is;
-      words = subst (λ (o : Outcome). IsOfInputs true inputs o.status) (sym is) refl;
-      answers = subst (λ (o : Outcome). IsKnown command o) (sym is) tt;
-      gone = subst (λ (o : Outcome). HasGone counts counts (blame_of o.status)) (sym is) (stands counts);
-    })
+refused_same command names name means inputs outcome told counts twice is = grind (arith, refused_told, stands)
 
 -- none does
 pub apart_performed : (command : Command) (names : List (List ℕ)) (means : Files → Meaning) (inputs : ℕ)
     (outcome : Outcome) (told now : Option Files) (before after : Counts) → None ≡ repeated names
     → IsPerformed command means (Some false) inputs outcome told now before after
     → IsUnlessSame command (repeated names) means inputs outcome told now before after
-apart_performed command names means inputs outcome told now before after apart is =
-    subst (λ (r : Option (List ℕ)). IsUnlessSame command r means inputs outcome told now before after) apart is
+apart_performed command names means inputs outcome told now before after apart is = grind arith
 
 -- ---- a small file that was read
 
 -- counts that stood before
 gone_on : (first before after : Counts) (status : Status) → before ≡ first → HasGone before after (blame_of status)
     → HasGone first after (blame_of status)
-gone_on first before after status same gone =
-    subst (λ (c : Counts). HasGone c after (blame_of status)) same gone
+gone_on first before after status same gone = subst (λ (c : Counts). HasGone c after (blame_of status)) same gone
 
 -- it says this, and what is meant then was done
 pub read_performed : {T : Type 0} (command : Command) (said : List ℕ → Result T PlanNo) (number : ℕ) (name : List ℕ)
@@ -71,12 +60,7 @@ pub read_performed : {T : Type 0} (command : Command) (said : List ℕ → Resul
     → IsPerformed command (λ held. under_file said number (get held name) (means held)) (Some false) inputs outcome told
     now first after
 read_performed command said number name x means inputs outcome told between now first before after same read stood is =
-    record {
-      carried = read_told said number name x means told between now outcome same read is.carried;
-      words = is.words;
-      answers = is.answers;
-      gone = gone_on first before after outcome.status stood.risen is.gone;
-    }
+    grind (arith, read_told, gone_on)
 
 -- it wasn't read, or breaks a rule
 pub unread_performed : {T : Type 0} (command : Command) (said : List ℕ → Result T PlanNo) (number : ℕ) (name : List ℕ)

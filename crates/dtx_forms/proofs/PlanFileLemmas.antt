@@ -1,7 +1,7 @@
 -- What a command means that reads a plan or a file of changes first, once that was read or was not.
 use Rattle.std.specs.Prelude.{◌≡◌, ℕ, List, Option, Some, None, Result, Ok, Err, IfSome}
 use Rattle.std.specs.FinMap.{get}
-use Rattle.std.proofs.Common.{sym, ap, subst, ◌∙◌}
+use Rattle.std.proofs.Common.{sym, ap, subst, ◌∙◌, arith}
 use Rattle.dtx_meaning.proofs.MeaningLemmas.{carried_as, carried_fault, carried_refused}
 use Rattle.dtx_meaning.specs.Meaning.{Meaning, IsCarriedOut, refused}
 use Rattle.dtx_meaning.specs.Status.{IsFault, ended}
@@ -27,10 +27,7 @@ pub read_told : {T : Type 0} (said : List ℕ → Result T PlanNo) (number : ℕ
     → IfSome mid (λ held. IsCarriedOut (means held x) (Some held) outcome now)
     → IfSome told (λ held. IsCarriedOut (under_file said number (get held name) (means held)) (Some held) outcome now)
 read_told said number name x means None mid now outcome same is carried = tt
-read_told said number name x means (Some held) mid now outcome same is carried =
-    carried_as (under_file said number (get held name) (means held)) (means held x) (Some held) now outcome
-    (read_means said number (get held name) x (means held) is)
-    (subst (λ f. IfSome f (λ held. IsCarriedOut (means held x) (Some held) outcome now)) same carried)
+read_told said number name x means (Some held) mid now outcome same is carried = grind (arith, carried_as, read_means)
 
 -- ---- it was not
 
@@ -52,9 +49,7 @@ unread_carried said number found (Plan refusal) means start now outcome is same 
     carried_as (under_file said number found means) (refused (Plan refusal)) start now outcome
     (broken_rule said number found refusal means is) (carried_refused (Plan refusal) start now outcome same ends)
 unread_carried said number found (Absent input) means start now outcome is same ends =
-    carried_as (under_file said number found means) (refused (Absent input)) start now outcome
-    (ap (λ f. under_file said number f means) is.1 ∙ ap (λ n. refused (Absent n)) (sym is.0))
-    (carried_refused (Absent input) start now outcome same ends)
+    grind (arith, carried_as, carried_refused)
 unread_carried said number found ReadFault means start now outcome is same ends =
     carried_fault (under_file said number found means) start now outcome same (fault_at ReadFault outcome ends tt)
     (λ writing. let e : ReadFault ≡ WriteFault = sym (ap (λ (o : Outcome). o.status) ends) ∙ writing in cc)

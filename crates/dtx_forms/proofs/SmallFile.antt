@@ -1,7 +1,6 @@
 -- A file that is read up to the most bytes that a small one may have, and what it says.
-use Rattle.std.proofs.Common.{◌≡◌, ◌⊎◌, ℕ, ◌≤◌, List, length, take, refl, sym, ap, subst, ◌∙◌, arith, inl, inr}
-use Rattle.std.specs.Prelude.{Option, Some, None, Result, Ok, Err, IfSome, IsSomeAnd, Bool, true, nat_lt}
-use Rattle.std.specs.Prelude.{if◌then◌else◌}
+use Rattle.std.proofs.Common.{◌≡◌, ◌⊎◌, ℕ, ◌≤◌, List, length, take, sym, ap, ◌∙◌, arith, inl, inr}
+use Rattle.std.specs.Prelude.{Option, Some, None, Result, Ok, Err, IfSome, IsSomeAnd, Bool, true, nat_lt, if◌then◌else◌}
 use Rattle.std.specs.FinMap.{get}
 use Rattle.std.proofs.lemmas.Bool.{cases_lt, lt-ltb}
 use Rattle.std.proofs.lemmas.List.{take_all, take-take, length-take-le}
@@ -22,8 +21,7 @@ use Rattle.dtx_forms.specs.PlanFile.{small_part, AreFirstOf, IsReadAll, IsReadOn
 
 too_long : (file : List ℕ) (b : Bool) → nat_lt 16777216 (length file) ≡ b → b ≡ true
     → root_of file ≡ refused key.Whole 0 Size
-too_long file b is long =
-    ap (λ (b : Bool). if b then refused key.Whole 0 Size else text_of (table_in file)) (is ∙ long)
+too_long file b is long = ap (λ (b : Bool). if b then refused key.Whole 0 Size else text_of (table_in file)) (is ∙ long)
 
 long_part : (file : List ℕ) → 16777217 ≤ length file → length (small_part file) ≡ 16777217
 unfolding small_part
@@ -34,13 +32,7 @@ unfolding small_part
 short_part file within = take_all 16777217 file within
 
 root_of_part : (file : List ℕ) → root_of (small_part file) ≡ root_of file
-root_of_part file = elim (cases_lt 16777217 (length file)) [
-  | inl long ↦
-      let part : length (small_part file) ≡ 16777217 = long_part file (omega (arith, long)) in
-      too_long (small_part file) _ refl (lt-ltb 16777216 (length (small_part file)) (omega (arith, part)))
-      ∙ sym (too_long file _ refl (lt-ltb 16777216 (length file) (omega (arith, long))))
-  | inr short ↦ ap root_of (short_part file (omega (arith, short)))
-]
+root_of_part file = grind (arith, cases_lt, long_part, too_long, lt-ltb, short_part)
 
 -- it gives the plan of all of it
 pub plan_of_part : (file : List ℕ) → plan_of (small_part file) ≡ plan_of file
@@ -62,20 +54,9 @@ all_at file bytes front (inr long) = ap (take 16777217) front ∙ take-take 1677
 pub all_read : (told : Option Files) (name : List ℕ) (number : ℕ) (old new : List ℕ) (ended : Bool)
     → IfSome told (λ held. (file : List ℕ) → get held name ≡ Some file → AreFirstOf file old)
     → IfSome told (λ held. IsReadOn (get held name) number old (Ok ended) new)
-    → (ended ≡ true) ⊎ (16777217 ≤ length new)
-    → IfSome told (λ held. IsReadAll (get held name) number (Ok tt) new)
+    → (ended ≡ true) ⊎ (16777217 ≤ length new) → IfSome told (λ held. IsReadAll (get held name) number (Ok tt) new)
 all_read None name number old new ended front on enough = tt
-all_read (Some held) name number old new ended front on enough = by (get held name) refl on
-  where
-    length_enough : (file : List ℕ) → (ended ≡ true → length file ≤ length new)
-        → (ended ≡ true) ⊎ (16777217 ≤ length new) → (length file ≤ length new) ⊎ (16777217 ≤ length new)
-    length_enough file whole (inl e) = inl (whole e)
-    length_enough file whole (inr long) = inr long
-
-    by : (found : Option (List ℕ)) → get held name ≡ found → IsReadOn found number old (Ok ended) new
-        → IsReadAll found number (Ok tt) new
-    by None is on = absurd on
-    by (Some file) is on = let p = on (front file is) in all_at file new p.0 (length_enough file p.1 enough)
+all_read (Some held) name number old new ended front on enough = grind (arith, all_at)
 
 cut_at : (found : Option (List ℕ)) (number : ℕ) (bytes items : List ℕ) → items ≡ take 16777217 bytes
     → IsReadAll found number (Ok tt) bytes → IsSomeAnd found (λ file. items ≡ small_part file)
@@ -121,6 +102,4 @@ pub read_refused : {T : Type 0} (said : List ℕ → Result T PlanNo) (told : Op
     → status ≡ of_plan fault → IfSome told (λ held. IsSomeAnd (get held name) (λ file. items ≡ small_part file))
     → IsAnswer (said items) (Err fault) → IfSome told (λ held. IsReadAs said (get held name) number (Err status))
 read_refused said None name number items fault status part same is walk = tt
-read_refused said (Some held) name number items fault status part same is walk =
-    subst (λ s. IsReadAs said (get held name) number (Err s)) (sym same)
-    (unsaid_at said (get held name) number items fault part is walk)
+read_refused said (Some held) name number items fault status part same is walk = grind (arith, unsaid_at)

@@ -1,7 +1,7 @@
 -- Lemmas of the stages of a job: from those of its loop, where no file was touched, and behind a small file that was
 -- read first.
-use Rattle.std.proofs.Common.{◌≡◌, ◌≢◌, ◌⊎◌, ℕ, zero, suc, ◌<◌, ◌+◌, ◌*◌, ◌^◌, List, [], ◌∷◌, sym, ap, subst, ◌∙◌, refl}
-use Rattle.std.proofs.Common.{inl, inr, arith}
+use Rattle.std.proofs.Common.{◌≡◌, ◌≢◌, ◌⊎◌, ℕ, zero, suc, ◌<◌, ◌+◌, ◌*◌, ◌^◌, List, [], ◌∷◌, sym, subst, inl, inr}
+use Rattle.std.proofs.Common.{arith}
 use Rattle.std.specs.Prelude.{Option, Some, None, Result, Ok, Err, IfSome}
 use Rattle.std.specs.FinMap.{get}
 use Rattle.std.specs.List.{Contains}
@@ -44,11 +44,7 @@ pub loop_staged : (foreseen : Foreseen) (shape : Shape) (recipe : Recipe) (input
     → IfSome told (λ held. AreStages foreseen shape recipe input outputs held before after status now)
     → IsStaged foreseen (Some (stages_of shape recipe input outputs)) status told now before after
 loop_staged foreseen shape recipe input outputs status None now before after is = tt
-loop_staged foreseen shape recipe input outputs status (Some held) now before after is = record {
-  untouched = λ name one none.
-      is.untouched (subst (λ (n : List ℕ). foreseen.readable n ≡ Some 0) (only_one input name one) none);
-  stopped = λ n file some opened there calm fault. is.stopped n file some opened.input there calm fault;
-}
+loop_staged foreseen shape recipe input outputs status (Some held) now before after is = grind (arith, only_one)
 
 -- ---- no file was touched
 
@@ -57,10 +53,7 @@ pub kept_staged : (foreseen : Foreseen) (stages : Option Stages) (status : Statu
     (before after : Counts) → status ≢ ReadFault → now ≡ told → IsStaged foreseen stages status told now before after
 kept_staged foreseen None status told now before after other same = tt
 kept_staged foreseen (Some stages) status None now before after other same = tt
-kept_staged foreseen (Some stages) status (Some held) now before after other same = record {
-  untouched = λ name one none. same;
-  stopped = λ n file some opened there calm fault. absurd (other fault);
-}
+kept_staged foreseen (Some stages) status (Some held) now before after other same = grind arith
 
 -- an answer other than a read error
 abbrev pub IsNotRead : Status → Type 0
@@ -71,9 +64,7 @@ IsNotRead status = Unit {0}
 pub ended_staged : (foreseen : Foreseen) (stages : Option Stages) (outcome : Outcome) (status : Status)
     (told : Option Files) (counts : Counts) → outcome ≡ ended status → IsNotRead status
     → IsStaged foreseen stages outcome.status told told counts counts
-ended_staged foreseen stages outcome status told counts is other =
-    kept_staged foreseen stages outcome.status told told counts counts
-    (λ fault. subst IsNotRead (sym (ap (λ (o : Outcome). o.status) is) ∙ fault) other) refl
+ended_staged foreseen stages outcome status told counts is other = grind (arith, kept_staged)
 
 -- ---- a small file is read whole
 
@@ -81,19 +72,13 @@ ended_staged foreseen stages outcome status told counts is other =
 pub foreseen_on : (readable : Option ℕ) (place wanted count : ℕ) → IsForeseenRead readable place wanted (Ok count)
     → readable ≢ Some 0
 foreseen_on None place wanted count is = λ e. cc
-foreseen_on (Some n) place wanted count is = λ e. omega (arith, is.0, same_count n 0 e)
-  where
-    same_count : (m n : ℕ) → ◌≡◌ {A = Option ℕ} (Some m) (Some n) → m ≡ n
-    same_count m n e = cc
+foreseen_on (Some n) place wanted count is = grind arith
 
 -- a read that failed
 pub foreseen_failed : (readable : Option ℕ) (number place wanted : ℕ) (cause : ReadNo) → place + wanted < 2 ^ 64
     → IsForeseenRead readable place wanted (Err cause) → readable ≡ Some (2 ^ 64) → of_read number cause ≢ ReadFault
 foreseen_failed readable number place wanted read.Absent room is all = λ e. cc
-foreseen_failed readable number place wanted read.Failed room is all = λ e.
-    let behind : 2 ^ 64 < place + wanted =
-    subst (λ (r : Option ℕ). IsForeseenRead r place wanted (Err read.Failed)) all is in
-    omega (arith, room, behind)
+foreseen_failed readable number place wanted read.Failed room is all = grind arith
 foreseen_failed readable number place wanted read.Memory room is all = λ e. cc
 
 -- a rule that is broken is no read error
@@ -108,8 +93,7 @@ said_made : {T : Type 0} (said : List ℕ → Result T PlanNo) (number : ℕ) (f
     (recipe : T → Recipe) (P : (List ℕ → Made) → Type 0) → IsReadAs said found number (Ok x)
     → P (λ bytes. (recipe x).made bytes) → P (λ bytes. made_under said found recipe bytes)
 said_made said number None x recipe P is made = absurd is
-said_made said number (Some file) x recipe P is made =
-    subst (λ r. P (λ bytes. made_said recipe r bytes)) (sym is) made
+said_made said number (Some file) x recipe P is made = subst (λ r. P (λ bytes. made_said recipe r bytes)) (sym is) made
 
 -- It says this, and the loop follows.
 pub read_staged : {T : Type 0} (foreseen : Foreseen) (said : List ℕ → Result T PlanNo) (number : ℕ)
@@ -125,8 +109,7 @@ read_staged foreseen said number name x shape recipe input outputs status (Some 
     same read some stood is =
     let here : HasStages foreseen (stages_of shape (recipe x) input outputs) held status now first after =
     subst (λ (c : Counts). HasStages foreseen (stages_of shape (recipe x) input outputs) held status now c after)
-    stood.risen
-    (subst (λ (f : Option Files).
+    stood.risen (subst (λ (f : Option Files).
     IsStaged foreseen (Some (stages_of shape (recipe x) input outputs)) status f now before after) same is) in
     record {
       untouched = λ one among none. elim (one_of_two input name one among) [
@@ -150,9 +133,4 @@ pub unread_staged : {T : Type 0} (foreseen : Foreseen) (said : List ℕ → Resu
     → IsStaged foreseen (Some (stages_under said name shape recipe input outputs)) outcome.status told now before after
 unread_staged foreseen said name cause shape recipe input outputs outcome None now before after same whole is = tt
 unread_staged foreseen said name cause shape recipe input outputs outcome (Some held) now before after same whole is =
-    record {
-      untouched = λ one among none. same;
-      stopped = λ n file some opened there calm fault.
-          absurd (whole (opened.before name (0, omega arith, refl))
-          (sym (ap (λ (o : Outcome). o.status) is) ∙ fault));
-    }
+    grind arith

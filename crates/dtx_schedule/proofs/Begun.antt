@@ -1,7 +1,6 @@
 -- The files of the transmitters while they are begun.
-use Rattle.std.proofs.Common.{◌≡◌, ◌⊎◌, ℕ, ◌+◌, List, [], ◌∷◌, ◌++◌, length, take, drop, refl, sym, ap, subst, ◌∙◌}
-use Rattle.std.proofs.Common.{inl}
-use Rattle.std.proofs.Common.{inr}
+use Rattle.std.proofs.Common.{◌≡◌, ◌⊎◌, ℕ, ◌+◌, List, [], ◌∷◌, ◌++◌, length, take, drop, refl, sym, ap, subst, ◌∙◌, inl}
+use Rattle.std.proofs.Common.{inr, arith}
 use Rattle.std.specs.Prelude.{Option, Some, Result, slice_get}
 use Rattle.std.specs.Option.{option_map}
 use Rattle.std.proofs.Math.Seq.{take-length}
@@ -15,7 +14,7 @@ use Rattle.dtx_outside.proofs.WrittenLemmas.{begun_written}
 use Rattle.dtx_outside.specs.declared.shelf.WriteNo.{WriteNo}
 use Rattle.dtx_plan.specs.declared.transmitter.Transmitter.{Transmitter}
 use Rattle.dtx_words.specs.NetworkNames.{symbol_name, log_name}
-use Rattle.dtx_schedule.specs.TransmitterFiles.{files_of, log_file, nothing, played, played_outputs}
+use Rattle.dtx_schedule.specs.TransmitterFiles.{files_of, nothing, played_outputs}
 use Rattle.dtx_schedule.proofs.FilesLemmas.{contents_same, no_log_file, no_symbol_file}
 
 -- the outputs of the first n transmitters, with nothing in them
@@ -33,8 +32,7 @@ empty-append (t ∷ ts) us =
 
 next_empty : (ts : List Transmitter) (i : ℕ) (t : Transmitter) → slice_get ts i ≡ Some t
     → first_empty ts (i + 1) ≡ first_empty ts i ++ own_empty t.address
-next_empty ts i t at_t =
-    ap (files_of nothing) (take_more ts i t (slice_get_within ts i t at_t)
+next_empty ts i t at_t = ap (files_of nothing) (take_more ts i t (slice_get_within ts i t at_t)
     ∙ ap (λ (x : Transmitter). take i ts ++ x ∷ []) (get_or_from_slice_get ts i t t at_t))
     ∙ empty-append (take i ts) (t ∷ [])
 
@@ -48,10 +46,7 @@ pub next_begun : (ts : List Transmitter) (i : ℕ) (t : Transmitter) (start befo
     → before ≡ with_outputs (first_empty ts i) start → mid ≡ option_map (with_file (symbol_name t.address) []) before
     → now ≡ option_map (with_file (log_name t.address) []) mid → now ≡ with_outputs (first_empty ts (i + 1)) start
 next_begun ts i t start before mid now at_t is first second =
-    second ∙ ap (option_map (with_file (log_name t.address) [])) (first
-    ∙ ap (option_map (with_file (symbol_name t.address) [])) is)
-    ∙ sym (ap (λ outputs. with_outputs outputs start) (next_empty ts i t at_t)
-    ∙ with_outputs-append (first_empty ts i) (own_empty t.address) start)
+    rw (second, first, is, next_empty ts i t at_t, with_outputs-append (first_empty ts i) (own_empty t.address) start)
 
 -- a part of what is begun of one more is a part of all
 part_of_next : (ts : List Transmitter) (i : ℕ) (t : Transmitter) (start before now : Option Files)
@@ -59,9 +54,7 @@ part_of_next : (ts : List Transmitter) (i : ℕ) (t : Transmitter) (start before
     → before ≡ with_outputs (first_empty ts i) start → ArePartWritten (own_empty t.address) before now
     → ArePartWritten (files_of nothing ts) start now
 part_of_next ts i t start before now at_t is part =
-    let more : ArePartWritten (first_empty ts i ++ own_empty t.address) start now =
-    part_behind (first_empty ts i) (own_empty t.address) start now
-    (subst (λ (s : Option Files). ArePartWritten (own_empty t.address) s now) is part) in
+    let more : ArePartWritten (first_empty ts i ++ own_empty t.address) start now = grind (arith, part_behind) in
     let next : ArePartWritten (first_empty ts (i + 1)) start now =
     subst (λ outputs. ArePartWritten outputs start now) (sym (next_empty ts i t at_t)) more in
     subst (λ outputs. ArePartWritten outputs start now)
@@ -73,14 +66,7 @@ pub symbols_not_begun : (ts : List Transmitter) (i : ℕ) (t : Transmitter) (sta
     (result : Result (Unit {0}) WriteNo) → slice_get ts i ≡ Some t
     → before ≡ with_outputs (first_empty ts i) start → IsBegun (symbol_name t.address) before result now
     → ArePartWritten (files_of nothing ts) start now
-symbols_not_begun ts i t start before now result at_t is left =
-    part_of_next ts i t start before now at_t is (by_cases
-    (begun_written (symbol_name t.address) before result now left))
-  where
-    by_cases : (now ≡ before) ⊎ IsWritten before (symbol_name t.address) [] now
-        → ArePartWritten (own_empty t.address) before now
-    by_cases (inl same) = inl same
-    by_cases (inr empty) = inr ([], ([], refl), inl empty)
+symbols_not_begun ts i t start before now result at_t is left = grind (arith, part_of_next, begun_written)
 
 -- the log of one more wasn't
 pub log_not_begun : (ts : List Transmitter) (i : ℕ) (t : Transmitter) (start before mid now : Option Files)
@@ -88,11 +74,7 @@ pub log_not_begun : (ts : List Transmitter) (i : ℕ) (t : Transmitter) (start b
     → before ≡ with_outputs (first_empty ts i) start → mid ≡ option_map (with_file (symbol_name t.address) []) before
     → IsBegun (log_name t.address) mid result now → ArePartWritten (files_of nothing ts) start now
 log_not_begun ts i t start before mid now result at_t is first left =
-    part_of_next ts i t start before now at_t is (inr (
-      [],
-      ([], refl),
-      by_cases (begun_written (log_name t.address) mid result now left),
-    ))
+    part_of_next ts i t start before now at_t is (inr (grind (arith, by_cases, begun_written)))
   where
     empty_symbols : Option Files
     empty_symbols = option_map (with_file (symbol_name t.address) []) before
@@ -104,15 +86,10 @@ log_not_begun ts i t start before mid now result at_t is first left =
 
 -- all were
 pub all_begun : (ts : List Transmitter) (n : ℕ) (start now : Option Files) → n ≡ length ts
-    → now ≡ with_outputs (first_empty ts n) start
-    → now ≡ with_outputs (files_of nothing ts) start
-all_begun ts n start now all is =
-    is ∙ ap (λ us. with_outputs (files_of nothing us) start) (ap (λ k. take k ts) all ∙ take-length ts)
+    → now ≡ with_outputs (first_empty ts n) start → now ≡ with_outputs (files_of nothing ts) start
+all_begun ts n start now all is = grind (arith, take-length)
 
 -- files in which nothing is are those of no steps
 pub none_played : (ts : List Transmitter) (start : Option Files)
     → with_outputs (files_of nothing ts) start ≡ with_outputs (played_outputs ts []) start
-none_played ts start =
-    ap (λ outputs. with_outputs outputs start) (sym (contents_same ts (played []) nothing (λ who t at_t.
-    ap (λ (z : List ℕ). (z, log_file t who [])) (no_symbol_file t who)
-    ∙ ap (λ (z : List ℕ). ([], z)) (no_log_file t who))))
+none_played ts start = grind (arith, contents_same, no_symbol_file, no_log_file)

@@ -1,6 +1,5 @@
 -- What a step of one transmitter leaves of the others.
-use Rattle.std.proofs.Common.{◌≡◌, ◌≢◌, ℕ, List, [], ◌∷◌, ◌++◌, ap}
-use Rattle.dtx_files.specs.LogText.{log_text}
+use Rattle.std.proofs.Common.{◌≡◌, ◌≢◌, ℕ, List, [], ◌∷◌, ◌++◌, ap, arith}
 use Rattle.dtx_files.specs.Symbols.{segment_bytes}
 use Rattle.dtx_net.specs.Sent.{sent_segments}
 use Rattle.dtx_net.specs.Steps.{Step}
@@ -11,8 +10,7 @@ use Rattle.dtx_schedule.specs.TransmitterFiles.{symbol_file, log_file}
 
 pub segments_elsewhere : (u : Transmitter) (other : ℕ) (steps : List Step) (step : Step) → step.who ≢ other
     → sent_segments u other (steps ++ step ∷ []) ≡ sent_segments u other steps
-segments_elsewhere u other steps step n =
-    segments_same u other (steps ++ step ∷ []) steps (lives_elsewhere other steps step n)
+segments_elsewhere u other steps step n = grind (arith, segments_same, lives_elsewhere)
 
 pub symbols_elsewhere : (u : Transmitter) (other : ℕ) (steps : List Step) (step : Step) → step.who ≢ other
     → symbol_file u other (steps ++ step ∷ []) ≡ symbol_file u other steps
@@ -22,5 +20,4 @@ symbols_elsewhere u other steps step n = ap segment_bytes (segments_elsewhere u 
 pub log_elsewhere : (u : Transmitter) (other : ℕ) (steps : List Step) (step : Step) → step.who ≢ other
     → log_file u other (steps ++ step ∷ []) ≡ log_file u other steps
 unfolding log_file
-log_elsewhere u other steps step n =
-    ap log_text (lines_same u other (steps ++ step ∷ []) steps (lives_elsewhere other steps step n))
+log_elsewhere u other steps step n = grind (arith, lines_same, lives_elsewhere)

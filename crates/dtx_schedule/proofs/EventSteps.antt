@@ -1,6 +1,5 @@
 -- The steps of each kind of event, as they are done.
-use Rattle.std.proofs.Common.{◌≡◌, ℕ, ◌+◌, ◌<◌, ◌≤◌, false, List, [], ◌∷◌, ◌++◌, map, refl, sym, ap, subst, ◌∙◌, arith}
-use Rattle.std.proofs.Common.{append_assoc}
+use Rattle.std.proofs.Common.{◌≡◌, ℕ, ◌+◌, ◌<◌, ◌≤◌, false, List, [], ◌∷◌, ◌++◌, map, refl, arith, append_assoc}
 use Rattle.std.specs.Prelude.{Option, Some, None, Result, nat_le}
 use Rattle.std.specs.List.{range_with_len}
 use Rattle.std.proofs.lemmas.Bool.{ltb-false, leb-false}
@@ -26,8 +25,7 @@ use Rattle.dtx_schedule.specs.PlayedSoFar.{IsDoneOf, packet_steps}
 -- a packet that the feed has
 pub packet_of_feed : (feed : List ℕ) (k : ℕ) → k < whole_packets feed
     → packet_at feed k ≡ feed_packet (packets_of feed) k
-packet_of_feed feed k within =
-    sym (get_or-map-range_with_len (packet_at feed) 0 (whole_packets feed) k k [] within (omega arith))
+packet_of_feed feed k within = grind (arith, get_or-map-range_with_len)
 
 pub nowhere : (ts : List Transmitter) (feed : List (List ℕ)) (e : Event) (before : List Step)
     → transmitter_place (to_of e) ts ≡ None → before ++ steps_of ts feed e ≡ before
@@ -38,40 +36,25 @@ pub sent : (ts : List Transmitter) (who to from count : ℕ) (feed : List ℕ) �
     → from + count ≤ whole_packets feed
     → packet_steps who (packets_from feed from count) ≡ steps_of ts (packets_of feed) (Send to from count)
 unfolding steps_of actions_of
-sent ts who to from count feed place within =
-    let each : map (packet_at feed) (range_with_len from count)
-    ≡ map (feed_packet (packets_of feed)) (range_with_len from count) =
-    map-range_same (packet_at feed) (feed_packet (packets_of feed)) from count
-    (λ k past less. packet_of_feed feed k (omega (arith, less, within))) in
-    rw place (ap (packet_steps who) each
-    ∙ map-map (packet_step who) (feed_packet (packets_of feed)) (range_with_len from count)
-    ∙ sym (map-map (λ (packet : Option (List ℕ)). record { who = who; packet = packet })
-    (λ k. Some (feed_packet (packets_of feed) k)) (range_with_len from count)))
+sent ts who to from count feed place within = grind (arith, map-range_same, packet_of_feed, map-map)
 
 pub made : (ts : List Transmitter) (who to seed from count : ℕ) (feed : List (List ℕ))
-    → transmitter_place to ts ≡ Some who
-    → packet_steps who (map (made_packet seed) (range_with_len from count))
+    → transmitter_place to ts ≡ Some who → packet_steps who (map (made_packet seed) (range_with_len from count))
     ≡ steps_of ts feed (Foreign to seed from count)
 unfolding steps_of actions_of
-made ts who to seed from count feed place =
-    rw place (map-map (packet_step who) (made_packet seed) (range_with_len from count)
-    ∙ sym (map-map (λ (packet : Option (List ℕ)). record { who = who; packet = packet })
-    (λ k. Some (made_packet seed k)) (range_with_len from count)))
+made ts who to seed from count feed place = grind (arith, map-map)
 
 pub flipped : (ts : List Transmitter) (who to from at with : ℕ) (feed packet : List ℕ)
-    → transmitter_place to ts ≡ Some who
-    → from < whole_packets feed → packet ≡ packet_at feed from
+    → transmitter_place to ts ≡ Some who → from < whole_packets feed → packet ≡ packet_at feed from
     → packet_step who (flipped_packet packet at with) ∷ [] ≡ steps_of ts (packets_of feed) (Flip to from at with)
 unfolding steps_of actions_of
-flipped ts who to from at with feed packet place within is =
-    rw place (ap (λ p. packet_step who (flipped_packet p at with) ∷ []) (is ∙ packet_of_feed feed from within))
+flipped ts who to from at with feed packet place within is = grind (arith, packet_of_feed)
 
 pub lied : (ts : List Transmitter) (who to from : ℕ) (states feed packet : List ℕ) → transmitter_place to ts ≡ Some who
     → from < whole_packets feed → packet ≡ packet_at feed from
     → packet_step who (lied_packet packet states) ∷ [] ≡ steps_of ts (packets_of feed) (Lie to from states)
 unfolding steps_of actions_of
-lied ts who to from states feed packet place within is =
-    rw place (ap (λ p. packet_step who (lied_packet p states) ∷ []) (is ∙ packet_of_feed feed from within))
+lied ts who to from states feed packet place within is = grind (arith, packet_of_feed)
 
 pub restarted : (ts : List Transmitter) (who to : ℕ) (feed : List (List ℕ)) → transmitter_place to ts ≡ Some who
     → restart_step who ∷ [] ≡ steps_of ts feed (Restart to)
@@ -82,11 +65,7 @@ restarted ts who to feed place = rw place refl
 pub piece_on : (before : List Step) (who : ℕ) (feed : List ℕ) (from m n : ℕ)
     → (before ++ packet_steps who (packets_from feed from m)) ++ packet_steps who (packets_from feed (from + m) n)
     ≡ before ++ packet_steps who (packets_from feed from (m + n))
-piece_on before who feed from m n =
-    append_assoc before (packet_steps who (packets_from feed from m))
-    (packet_steps who (packets_from feed (from + m) n))
-    ∙ ap (λ s. before ++ s) (sym (ap (packet_steps who) (packets_from-append feed from m n)
-    ∙ map-append (packet_step who) (packets_from feed from m) (packets_from feed (from + m) n)))
+piece_on before who feed from m n = simp (append_assoc, packets_from-append, map-append)
 
 -- ---- an event done
 
@@ -94,20 +73,15 @@ piece_on before who feed from m n =
 pub event_done : (ts : List Transmitter) (before own : List Step) (held : Files) (result : Result (Unit {0}) Status)
     (playout : Playout) (now : Option Files) (who : ℕ) (feed : List (List ℕ)) (e kind : Event)
     → e ≡ kind → transmitter_place (to_of e) ts ≡ Some who → (transmitter_place (to_of kind) ts ≡ Some who
-    → own ≡ steps_of ts feed kind)
-    → IsDoneOf ts (before ++ own) held result playout now
+    → own ≡ steps_of ts feed kind) → IsDoneOf ts (before ++ own) held result playout now
     → IsDoneOf ts (before ++ steps_of ts feed e) held result playout now
-event_done ts before own held result playout now who feed e kind is place same done =
-    subst (λ steps. IsDoneOf ts (before ++ steps) held result playout now)
-    (same (subst (λ e. transmitter_place (to_of e) ts ≡ Some who) is place) ∙ ap (steps_of ts feed) (sym is)) done
+event_done ts before own held result playout now who feed e kind is place same done = grind arith
 
 -- a part of the feed, or one packet of it, that is within the feed
 pub part_within : (whole to from count : ℕ) (e : Event) → e ≡ Send to from count → reads_past whole e ≡ false
     → from + count ≤ whole
-part_within whole to from count e is past =
-    ltb-false whole (from + count) (subst (λ e. reads_past whole e ≡ false) is past)
+part_within whole to from count e is past = grind (arith, ltb-false)
 
 pub one_within : (whole from : ℕ) (e kind : Event) → e ≡ kind → reads_past whole kind ≡ nat_le whole from
     → reads_past whole e ≡ false → from < whole
-one_within whole from e kind is reads past = leb-false whole from (sym reads
-    ∙ subst (λ e. reads_past whole e ≡ false) is past)
+one_within whole from e kind is reads past = grind (arith, leb-false)

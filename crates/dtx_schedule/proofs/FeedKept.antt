@@ -23,16 +23,12 @@ pub feed_apart : (ts : List Transmitter) (contents : Contents) → IsNoOutput fe
 feed_apart [] contents = tt
 feed_apart (t ∷ ts) contents = (
   other_letter (symbol_name t.address) refl,
-  (
-    other_letter (log_name t.address) refl,
-    feed_apart ts (λ who. contents (suc who)),
-  ),
+  (other_letter (log_name t.address) refl, feed_apart ts (λ who. contents (suc who))),
 )
 
 -- what is read of the files as they are is read of the feed as it was
 pub feed_read : (P : List ℕ → Type 0) (ts : List Transmitter) (steps : List Step) (held : Files) (playout : Playout)
-    (now : Option Files) (feed : List ℕ)
-    → get held feed_name ≡ Some feed → IsPlayedSoFar ts steps held playout now
+    (now : Option Files) (feed : List ℕ) → get held feed_name ≡ Some feed → IsPlayedSoFar ts steps held playout now
     → IfSome now (λ files. (feed : List ℕ) → get files feed_name ≡ Some feed → P feed) → P feed
 feed_read P ts steps held playout now feed there is read =
     subst (λ (told : Option Files). IfSome told (λ files. (feed : List ℕ) → get files feed_name ≡ Some feed → P feed))
@@ -41,13 +37,11 @@ feed_read P ts steps held playout now feed there is read =
 
 -- reading leaves the files
 pub kept_on : (ts : List Transmitter) (steps : List Step) (held : Files) (playout : Playout) (now mid : Option Files)
-    → mid ≡ now
-    → IsPlayedSoFar ts steps held playout now → IsPlayedSoFar ts steps held playout mid
+    → mid ≡ now → IsPlayedSoFar ts steps held playout now → IsPlayedSoFar ts steps held playout mid
 kept_on ts steps held playout now mid kept is = subst (IsPlayedSoFar ts steps held playout) (sym kept) is
 
 -- where the feed isn't read no step is under way
 pub unread : (ts : List Transmitter) (steps rest : List Step) (held : Files) (playout : Playout)
     (now mid : Option Files) (status : Status) → mid ≡ now
     → IsPlayedSoFar ts steps held playout now → IsFault status → IsFault status × IsUnderWay ts (steps ++ rest) held mid
-unread ts steps rest held playout now mid status kept is fault =
-    (fault, at_rest ts steps rest held mid (kept_on ts steps held playout now mid kept is).files)
+unread ts steps rest held playout now mid status kept is fault = grind (arith, at_rest, kept_on)

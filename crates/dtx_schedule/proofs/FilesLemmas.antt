@@ -1,7 +1,6 @@
 -- The files of transmitters as outputs: what each holds, the two of one transmitter written anew, and both before any
 -- step.
-use Rattle.std.proofs.Common.{◌≡◌, ◌≢◌, ◌⊎◌, ℕ, zero, suc, ◌<◌, ◌^◌, List, [], ◌∷◌, refl, sym, ap, subst, ◌∙◌, inl}
-use Rattle.std.proofs.Common.{inr}
+use Rattle.std.proofs.Common.{◌≡◌, ◌≢◌, ℕ, zero, suc, ◌<◌, ◌^◌, List, [], ◌∷◌, refl, sym, ap, subst, ◌∙◌, inl, inr}
 use Rattle.std.proofs.Common.{arith}
 use Rattle.std.specs.Prelude.{Some, slice_get}
 use Rattle.std.specs.FinMap.{get, insert}
@@ -15,7 +14,6 @@ use Rattle.dtx_files.specs.Symbols.{segment_bytes}
 use Rattle.dtx_meaning.specs.Meaning.{Outputs, IsNoOutput, with_outputs}
 use Rattle.dtx_net.specs.Lives.{lives_of}
 use Rattle.dtx_net.specs.Sent.{lines_of, sent_segments}
-use Rattle.dtx_net.specs.Steps.{transmitter_place}
 use Rattle.dtx_net.proofs.PlaceOfLemmas.{place_only}
 use Rattle.dtx_plan.specs.Sound.{AreTransmitters}
 use Rattle.dtx_plan.specs.declared.transmitter.Transmitter.{Transmitter}
@@ -45,8 +43,7 @@ get_past (o ∷ rest) name held apart =
 insert_past : (outputs : Outputs) (name bytes : List ℕ) (held : Files) → IsNoOutput name outputs
     → insert (files_with outputs held) name bytes ≡ files_with outputs (insert held name bytes)
 insert_past [] name bytes held apart = refl
-insert_past (o ∷ rest) name bytes held apart =
-    insert_past rest name bytes (with_file o.0 o.1 held) apart.1
+insert_past (o ∷ rest) name bytes held apart = insert_past rest name bytes (with_file o.0 o.1 held) apart.1
     ∙ ap (files_with rest) (insert_swap held o.0 name o.1 bytes (λ same. apart.0 (sym same)))
 
 -- ---- names
@@ -63,8 +60,7 @@ pub apart_of : (ts : List Transmitter) → AreTransmitters ts
     → ((who : ℕ) (t : Transmitter) → slice_get ts who ≡ Some t → t.address < 2 ^ 16) → AreApart ts
 apart_of ts are small = record {
   differ = λ who other t u at_t at_u n same.
-      n (same_Some other who (sym (place_only ts other u are at_u) ∙ ap (λ a. transmitter_place a ts) (sym same)
-      ∙ place_only ts who t are at_t));
+      n (same_Some other who (rw (← place_only ts other u are at_u, ← same, place_only ts who t are at_t)));
   small = small;
 }
 
@@ -136,30 +132,21 @@ pub at_places : (P : ℕ → Transmitter → List ℕ × List ℕ
     (pair : List ℕ × List ℕ) → slice_get ts who ≡ Some t → P who t pair
     → ((other : ℕ) (u : Transmitter) → slice_get ts other ≡ Some u → other ≢ who → P other u (contents other u))
     → (other : ℕ) (u : Transmitter) → slice_get ts other ≡ Some u → P other u (put contents who pair other u)
-at_places P ts contents who t pair at_t here elsewhere other u at_u = by_cases (cases_eq other who)
-  where
-    by_cases : (other ≡ who) ⊎ (other ≡ who → ⊥) → P other u (put contents who pair other u)
-    by_cases (inl same) =
-        let is : t ≡ u = same_Some t u (sym at_t ∙ ap (slice_get ts) (sym same) ∙ at_u) in
-        subst (λ i. P i u (put contents who pair i u)) (sym same)
-        (subst (λ (x : Transmitter). P who x (put contents who pair who x)) is
-        (subst (P who t) (sym (put_here contents who pair t)) here))
-    by_cases (inr n) = subst (P other u) (sym (put_elsewhere contents who other pair u n)) (elsewhere other u at_u n)
+at_places P ts contents who t pair at_t here elsewhere other u at_u = elim (cases_eq other who) [
+  | inl same ↦
+      let is : t ≡ u = same_Some t u (sym at_t ∙ ap (slice_get ts) (sym same) ∙ at_u) in
+      subst (λ i. P i u (put contents who pair i u)) (sym same)
+      (subst (λ (x : Transmitter). P who x (put contents who pair who x)) is
+      (subst (P who t) (sym (put_here contents who pair t)) here))
+  | inr n ↦ subst (P other u) (sym (put_elsewhere contents who other pair u n)) (elsewhere other u at_u n)
+]
 
 pair_anew : (held : Files) (address : ℕ) (symbols log a b : List ℕ)
     → with_pair address symbols log (with_pair address a b held) ≡ with_pair address symbols log held
-pair_anew held address symbols log a b =
-    let S : List ℕ = symbol_name address in
-    let L : List ℕ = log_name address in
-    let first : Files = insert held S a in
-    ap (λ (m : Files). insert m L log) (insert_swap first L S b symbols
-    (λ same. symbols_no_logs address address (sym same)))
-    ∙ insert-insert (insert first S symbols) L b log
-    ∙ ap (λ (m : Files). insert m L log) (insert-insert held S a symbols)
+pair_anew held address symbols log a b = grind (arith, insert_swap, symbols_no_logs, insert-insert)
 
 pair_at_head : (u : Transmitter) (ts : List Transmitter) (contents : Contents) (symbols log : List ℕ) (held : Files)
-    → AreApart (u ∷ ts)
-    → with_pair u.address symbols log (files_with (files_of contents (u ∷ ts)) held)
+    → AreApart (u ∷ ts) → with_pair u.address symbols log (files_with (files_of contents (u ∷ ts)) held)
     ≡ files_with (files_of (put contents zero (symbols, log)) (u ∷ ts)) held
 pair_at_head u ts contents symbols log held apart =
     let S : List ℕ = symbol_name u.address in
@@ -174,15 +161,11 @@ pair_at_head u ts contents symbols log held apart =
     ∙ ap (files_with rest) (pair_anew held u.address symbols log (contents 0 u).0 (contents 0 u).1)
 
 pub set_pair : (ts : List Transmitter) (who : ℕ) (t : Transmitter) (contents : Contents) (symbols log : List ℕ)
-    (held : Files) → AreApart ts
-    → slice_get ts who ≡ Some t
+    (held : Files) → AreApart ts → slice_get ts who ≡ Some t
     → with_pair t.address symbols log (files_with (files_of contents ts) held)
     ≡ files_with (files_of (put contents who (symbols, log)) ts) held
 set_pair [] who t contents symbols log held apart at_t = cc
-set_pair (u ∷ ts) zero t contents symbols log held apart at_t =
-    subst (λ (x : Transmitter). with_pair x.address symbols log (files_with (files_of contents (u ∷ ts)) held)
-    ≡ files_with (files_of (put contents zero (symbols, log)) (u ∷ ts)) held)
-    (same_Some u t at_t) (pair_at_head u ts contents symbols log held apart)
+set_pair (u ∷ ts) zero t contents symbols log held apart at_t = grind (arith, same_Some, pair_at_head)
 set_pair (u ∷ ts) (suc who) t contents symbols log held apart at_t =
     set_pair ts who t (λ k. contents (suc k)) symbols log (with_pair u.address (contents 0 u).0 (contents 0 u).1 held)
     (apart_behind u ts apart) at_t
@@ -190,17 +173,16 @@ set_pair (u ∷ ts) (suc who) t contents symbols log held apart at_t =
 pair_of_head : (u : Transmitter) (ts : List Transmitter) (contents : Contents) (held : Files) → AreApart (u ∷ ts)
     → HasPair u.address (contents 0 u).0 (contents 0 u).1 (files_with (files_of contents (u ∷ ts)) held)
 pair_of_head u ts contents held apart =
-    let S : List ℕ = symbol_name u.address in
     let L : List ℕ = log_name u.address in
     let rest : Outputs = files_of (λ who. contents (suc who)) ts in
     let other = others_behind u ts apart in
     let small = apart.small 0 u refl in
-    let first : Files = insert held S (contents 0 u).0 in
+    let first : Files = insert held (symbol_name u.address) (contents 0 u).0 in
     let own : Files = insert first L (contents 0 u).1 in
     record {
-      sent = get_past rest S own (no_symbols ts (λ who. contents (suc who)) u.address small other)
-          ∙ get-insert_other first L (contents 0 u).1 S (symbols_no_logs u.address u.address)
-          ∙ get-insert_same held S (contents 0 u).0;
+      sent = get_past rest (symbol_name u.address) own (no_symbols ts (λ who. contents (suc who)) u.address small other)
+          ∙ get-insert_other first L (contents 0 u).1 (symbol_name u.address) (symbols_no_logs u.address u.address)
+          ∙ get-insert_same held (symbol_name u.address) (contents 0 u).0;
       logged = get_past rest L own (no_logs ts (λ who. contents (suc who)) u.address small other)
           ∙ get-insert_same first L (contents 0 u).1;
     }
@@ -211,24 +193,17 @@ pub has_pair : (ts : List Transmitter) (who : ℕ) (t : Transmitter) (contents :
 has_pair [] who t contents held apart at_t = cc
 has_pair (u ∷ ts) zero t contents held apart at_t =
     subst (λ (x : Transmitter). HasPair x.address (contents 0 x).0 (contents 0 x).1
-    (files_with (files_of contents (u ∷ ts)) held))
-    (same_Some u t at_t) (pair_of_head u ts contents held apart)
+    (files_with (files_of contents (u ∷ ts)) held)) (same_Some u t at_t) (pair_of_head u ts contents held apart)
 has_pair (u ∷ ts) (suc who) t contents held apart at_t =
     has_pair ts who t (λ k. contents (suc k)) (with_pair u.address (contents 0 u).0 (contents 0 u).1 held)
     (apart_behind u ts apart) at_t
 
 -- the same files where each holds the same
 pub contents_same : (ts : List Transmitter) (f g : Contents)
-    → ((who : ℕ) (t : Transmitter) → slice_get ts who ≡ Some t → f who t ≡ g who t)
-    → files_of f ts ≡ files_of g ts
+    → ((who : ℕ) (t : Transmitter) → slice_get ts who ≡ Some t → f who t ≡ g who t) → files_of f ts ≡ files_of g ts
 contents_same [] f g same = refl
 contents_same (u ∷ ts) f g same =
-    ap (λ (p : List ℕ × List ℕ). (symbol_name u.address, p.0) ∷ (
-      log_name u.address,
-      p.1,
-    ) ∷ files_of (λ who. f (suc who)) ts) (same 0 u refl)
-    ∙ ap (λ (rest : Outputs). (symbol_name u.address, (g 0 u).0) ∷ (log_name u.address, (g 0 u).1) ∷ rest)
-    (contents_same ts (λ who. f (suc who)) (λ who. g (suc who)) (λ who t at_t. same (suc who) t at_t))
+    rw (same 0 u refl, contents_same ts (λ who. f (suc who)) (λ who. g (suc who)) (λ who t at_t. same (suc who) t at_t))
 
 -- ---- before any step
 

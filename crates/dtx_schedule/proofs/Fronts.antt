@@ -1,6 +1,5 @@
 -- Front parts of what the transmitters send and of their logs.
-use Rattle.std.proofs.Common.{◌≡◌, ◌⊎◌, ℕ, suc, List, [], ◌∷◌, ◌++◌, length, refl, sym, ap, subst, ◌∙◌, inl, inr}
-use Rattle.std.proofs.Common.{arith}
+use Rattle.std.proofs.Common.{◌≡◌, ℕ, suc, List, [], ◌∷◌, ◌++◌, length, refl, sym, ap, subst, ◌∙◌, inl, inr, arith}
 use Rattle.std.proofs.Common.{append_assoc}
 use Rattle.std.specs.Prelude.{Option, Some, None}
 use Rattle.std.specs.Option.{option_map}
@@ -57,19 +56,18 @@ nothing_first ts f = λ who t at_t. (((f who t).0, refl), ((f who t).1, refl))
 part_of_fronts : (ts : List Transmitter) (fewer more : Contents) (start now : Option Files) → AreFronts ts fewer more
     → now ≡ with_outputs (files_of fewer ts) start → ArePartWritten (files_of more ts) start now
 part_of_fronts [] fewer more start now fronts is = is
-part_of_fronts (t ∷ ts) fewer more start now fronts is =
-    inr (
-      (fewer 0 t).0,
-      (fronts 0 t refl).0,
-      inr (
-        (fewer 0 t).1,
-        (fronts 0 t refl).1,
-        part_of_fronts ts (λ who. fewer (suc who)) (λ who. more (suc who))
-            (option_map (with_file (log_name t.address) (fewer 0 t).1)
-            (option_map (with_file (symbol_name t.address) (fewer 0 t).0) start)) now
-            (λ who u at_u. fronts (suc who) u at_u) is,
-      ),
-    )
+part_of_fronts (t ∷ ts) fewer more start now fronts is = inr (
+  (fewer 0 t).0,
+  (fronts 0 t refl).0,
+  inr (
+    (fewer 0 t).1,
+    (fronts 0 t refl).1,
+    part_of_fronts ts (λ who. fewer (suc who)) (λ who. more (suc who))
+        (option_map (with_file (log_name t.address) (fewer 0 t).1)
+        (option_map (with_file (symbol_name t.address) (fewer 0 t).0) start)) now
+        (λ who u at_u. fronts (suc who) u at_u) is,
+  ),
+)
 
 pub parts_grow : (ts : List Transmitter) (fewer more : Contents) (start now : Option Files) → AreFronts ts fewer more
     → ArePartWritten (files_of fewer ts) start now → ArePartWritten (files_of more ts) start now
@@ -125,25 +123,17 @@ own_more t who steps None = (
 one_more : (t : Transmitter) (who : ℕ) (steps : List Step) (step : Step)
     → IsFrontOf (symbol_file t who steps) (symbol_file t who (steps ++ step ∷ []))
     × IsFrontOf (log_file t who steps) (log_file t who (steps ++ step ∷ []))
-one_more t who steps step = by_cases (cases_eq step.who who)
-  where
-    by_cases : (step.who ≡ who) ⊎ (step.who ≡ who → ⊥)
-        → IsFrontOf (symbol_file t who steps) (symbol_file t who (steps ++ step ∷ []))
-        × IsFrontOf (log_file t who steps) (log_file t who (steps ++ step ∷ []))
-    by_cases (inl same) =
-        subst (λ i. IsFrontOf (symbol_file t i steps) (symbol_file t i (steps ++ step ∷ []))
-        × IsFrontOf (log_file t i steps) (log_file t i (steps ++ step ∷ []))) same
-        (own_more t step.who steps step.packet)
-    by_cases (inr n) = (
-      front_of_same _ _ (sym (symbols_elsewhere t who steps step n)),
-      front_of_same _ _ (sym (log_elsewhere t who steps step n)),
-    )
+one_more t who steps step = elim (cases_eq step.who who) [
+  | inl same ↦ subst (λ i. IsFrontOf (symbol_file t i steps) (symbol_file t i (steps ++ step ∷ []))
+      × IsFrontOf (log_file t i steps) (log_file t i (steps ++ step ∷ []))) same (own_more t step.who steps step.packet)
+  | inr n ↦ (
+    front_of_same _ _ (sym (symbols_elsewhere t who steps step n)),
+    front_of_same _ _ (sym (log_elsewhere t who steps step n)),
+  )
+]
 
 pub steps_grow : (ts : List Transmitter) (steps more : List Step) → AreFronts ts (played steps) (played (steps ++ more))
-steps_grow ts steps [] = λ who t at_t. (
-  front_of_same (symbol_file t who steps) _ (ap (symbol_file t who) (sym (append-nil steps))),
-  front_of_same (log_file t who steps) _ (ap (log_file t who) (sym (append-nil steps))),
-)
+steps_grow ts steps [] = grind (arith, front_of_same, append-nil)
 steps_grow ts steps (step ∷ more) =
     subst (λ (all : List Step). AreFronts ts (played steps) (played all)) (append_assoc steps (step ∷ []) more)
     (fronts_then ts (played steps) (played (steps ++ step ∷ [])) (played ((steps ++ step ∷ []) ++ more))
@@ -172,10 +162,7 @@ under_way_more ts steps more held now is = record {
   done = is.done;
   next = is.next;
   rest = is.rest ++ more;
-  whole =
-      ap (λ z. is.done ++ z) (sym (append_assoc is.next is.rest more))
-      ∙ sym (append_assoc is.done (is.next ++ is.rest) more)
-      ∙ ap (λ z. z ++ more) is.whole;
+  whole = rw (← append_assoc is.next is.rest more, ← append_assoc is.done (is.next ++ is.rest) more, is.whole);
   one = is.one;
   contents = is.contents;
   least = is.least;
@@ -184,12 +171,8 @@ under_way_more ts steps more held now is = record {
 }
 
 pub part_under_way : (ts : List Transmitter) (steps : List Step) (held : Files) (now : Option Files)
-    → IsUnderWay ts steps held now
-    → ArePartWritten (played_outputs ts steps) (Some held) now
-part_under_way ts steps held now is =
-    let all : (is.done ++ is.next) ++ is.rest ≡ steps = append_assoc is.done is.next is.rest ∙ is.whole in
-    part_of_fronts ts is.contents (played steps) (Some held) now
+    → IsUnderWay ts steps held now → ArePartWritten (played_outputs ts steps) (Some held) now
+part_under_way ts steps held now is = part_of_fronts ts is.contents (played steps) (Some held) now
     (fronts_then ts is.contents (played (is.done ++ is.next)) (played steps) is.most
-    (subst (λ (s : List Step). AreFronts ts (played (is.done ++ is.next)) (played s)) all
-    (steps_grow ts (is.done ++ is.next) is.rest)))
-    is.files
+    (subst (λ (s : List Step). AreFronts ts (played (is.done ++ is.next)) (played s))
+    (append_assoc is.done is.next is.rest ∙ is.whole) (steps_grow ts (is.done ++ is.next) is.rest))) is.files

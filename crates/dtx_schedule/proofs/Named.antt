@@ -19,11 +19,7 @@ pub record AreFirstNames (ts : List Transmitter) (n : ℕ) (names : List FileNam
   pub small : (who : ℕ) (t : Transmitter) → who < n → slice_get ts who ≡ Some t → t.address < 2 ^ 16
 
 pub none_named : (ts : List Transmitter) (names : List FileNames) → names ≡ [] → AreFirstNames ts 0 names
-none_named ts names none = record {
-  long = ap length none;
-  each = λ who t its at_t here. absurd (omega (arith, slice_get_within names who its here, ap length none));
-  small = λ who t l at_t. absurd (omega (arith, l));
-}
+none_named ts names none = grind (arith, slice_get_within)
 
 pub one_named : (ts : List Transmitter) (n : ℕ) (names more : List FileNames) (t : Transmitter) (its : FileNames)
     → more ≡ names ++ its ∷ []
@@ -45,15 +41,8 @@ one_named ts n names more t its are at_t own first = record {
     by_place : (who : ℕ) (u : Transmitter) → who < n + 1 → slice_get ts who ≡ Some u → (who < n) ⊎ (n ≤ who)
         → u.address < 2 ^ 16
     by_place who u l at_u (inl less) = first.small who u less at_u
-    by_place who u l at_u (inr past) =
-        let same : n ≡ who = omega (arith, l, past) in
-        let is : t ≡ u = same_Some t u (sym at_t ∙ ap (slice_get ts) same ∙ at_u) in
-        subst (λ (x : Transmitter). x.address < 2 ^ 16) is own.small
+    by_place who u l at_u (inr past) = grind (arith, same_Some)
 
 pub all_named : (ts : List Transmitter) (n : ℕ) (names : List FileNames) → n ≡ length ts → AreFirstNames ts n names
     → AreNames ts names
-all_named ts n names all first = record {
-  long = first.long ∙ all;
-  each = first.each;
-  small = λ who t at_t. first.small who t (omega (arith, all, slice_get_within ts who t at_t)) at_t;
-}
+all_named ts n names all first = grind (arith, slice_get_within)

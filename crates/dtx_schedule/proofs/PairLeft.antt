@@ -1,6 +1,5 @@
 -- What appending leaves of the two files of a transmitter.
-use Rattle.std.proofs.Common.{◌≡◌, ◌==◌, true, length, ℕ, List, [], ◌∷◌, ◌++◌, take, drop, refl, sym, ap, subst, ◌∙◌}
-use Rattle.std.proofs.Common.{arith}
+use Rattle.std.proofs.Common.{◌≡◌, ◌==◌, true, length, ℕ, List, [], ◌∷◌, ◌++◌, take, drop, refl, ap, ◌∙◌, arith}
 use Rattle.std.specs.Prelude.{Option, Some, Result, Ok, Err, unwrap_or}
 use Rattle.std.specs.FinMap.{get}
 use Rattle.std.proofs.lemmas.Bool.{eqb-true}
@@ -18,14 +17,12 @@ use Rattle.dtx_schedule.proofs.Fronts.{front_same}
 
 -- nothing added to a file
 nothing_more : (held : Files) (name file : List ℕ) → get held name ≡ Some file → held ≡ with_file name (file ++ []) held
-nothing_more held name file is =
-    sym (ap (λ bytes. with_file name bytes held) (append-nil file) ∙ insert_same held name file is)
+nothing_more held name file is = grind (arith, append-nil, insert_same)
 
 pub file_appended : (told now : Option Files) (held : Files) (name file bytes : List ℕ)
     (result : Result (Unit {0}) WriteNo) → told ≡ Some held
     → get held name ≡ Some file → IsAppended name bytes told result now → IsAddedTo name file bytes held result now
-file_appended told now held name file bytes result there is appended =
-    by_result result (subst (λ files. IsAppended name bytes files result now) there appended)
+file_appended told now held name file bytes result there is appended = by_result result (grind arith)
   where
     added : (more : List ℕ) → with_file name (unwrap_or (get held name) [] ++ more) held
         ≡ with_file name (file ++ more) held
@@ -37,8 +34,7 @@ file_appended told now held name file bytes result there is appended =
     by_result (Err Failed) left = (
       take left.0 bytes,
       (drop left.0 bytes, take-append-drop left.0 bytes),
-      left.2
-          ∙ ap Some (added (take left.0 bytes)),
+      left.2 ∙ ap Some (added (take left.0 bytes)),
     )
     by_result (Err Memory) left = ([], (bytes, refl), left ∙ ap Some (nothing_more held name file is))
 
@@ -47,26 +43,20 @@ is_nothing [] e = refl
 is_nothing (x ∷ xs) e = absurd (omega (arith, eqb-true (length (x ∷ xs)) 0 e))
 
 pub nothing_appended : (told : Option Files) (held : Files) (name file bytes : List ℕ) → (length bytes == 0) ≡ true
-    → told ≡ Some held
-    → get held name ≡ Some file → told ≡ Some (with_file name (file ++ bytes) held)
-nothing_appended told held name file bytes none there is =
-    there ∙ ap Some (nothing_more held name file is
-    ∙ ap (λ more. with_file name (file ++ more) held) (sym (is_nothing bytes none)))
+    → told ≡ Some held → get held name ≡ Some file → told ≡ Some (with_file name (file ++ bytes) held)
+nothing_appended told held name file bytes none there is = grind (arith, nothing_more, is_nothing)
 
 -- ---- both files
 
 -- what `append_some` says of a file
 abbrev pub AppendsTo : List ℕ → List ℕ → Option Files → Result (Unit {0}) WriteNo → Option Files → Type 0
-AppendsTo name bytes told result now =
-    (held : Files) (file : List ℕ) → told ≡ Some held → get held name ≡ Some file
+AppendsTo name bytes told result now = (held : Files) (file : List ℕ) → told ≡ Some held → get held name ≡ Some file
     → IsAddedTo name file bytes held result now
 
 -- the log stands while the symbols are added
 log_stands : (address : ℕ) (sent logged symbols : List ℕ) (held : Files) → HasPair address sent logged held
     → get (with_file (symbol_name address) symbols held) (log_name address) ≡ Some logged
-log_stands address sent logged symbols held has =
-    get-insert_other held (symbol_name address) symbols (log_name address)
-    (λ same. symbols_no_logs address address (sym same)) ∙ has.logged
+log_stands address sent logged symbols held has = grind (arith, get-insert_other, symbols_no_logs)
 
 pub symbols_not_appended : (address : ℕ) (sent logged symbols line : List ℕ) (held : Files) (now : Option Files)
     (why cause : WriteNo)

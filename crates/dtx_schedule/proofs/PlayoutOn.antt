@@ -1,7 +1,7 @@
 -- What is kept of a network, one step further.
-use Rattle.std.proofs.Common.{◌≡◌, ◌⊎◌, ℕ, ℤ, ◌+◌, ◌*◌, ◌<◌, ◌≤◌, List, [], ◌∷◌, ◌++◌, refl, cond, length, map, set}
-use Rattle.std.proofs.Common.{take, get_or, replicate, pos, sym, ap, subst, ◌∙◌, inl, inr, arith}
-use Rattle.std.specs.Prelude.{Option, Some, None, IfSome, is_some, slice_get, vec_len}
+use Rattle.std.proofs.Common.{◌≡◌, ◌⊎◌, ℕ, ℤ, ◌+◌, ◌*◌, ◌<◌, ◌≤◌, List, [], ◌∷◌, ◌++◌, refl, length, map, set, take}
+use Rattle.std.proofs.Common.{get_or, replicate, pos, sym, ap, subst, ◌∙◌, inl, inr, arith}
+use Rattle.std.specs.Prelude.{Option, Some, None, IfSome, slice_get, vec_len}
 use Rattle.std.proofs.lemmas.Bool.{cases_eq}
 use Rattle.std.proofs.lemmas.List.{append-nil, get_or-replicate, length-append, length-replicate, length-set}
 use Rattle.std.proofs.lemmas.List.Sums.{sum_by-append}
@@ -33,8 +33,7 @@ use Rattle.dtx_schedule.proofs.FilesLemmas.{no_segments}
 
 -- a transmitter that is found stands there
 pub found_there : (playout : Playout) (found : Option ℕ) → IsSomePlayout playout
-    → IfSome found (λ who. who < vec_len playout.net.exciters)
-    → IfSome found (λ who. HasTransmitter who playout)
+    → IfSome found (λ who. who < vec_len playout.net.exciters) → IfSome found (λ who. HasTransmitter who playout)
 found_there playout None some within = tt
 found_there playout (Some who) some within = record {
   ts = some.ts;
@@ -45,8 +44,7 @@ found_there playout (Some who) some within = record {
 
 -- what the transmitter of an address has sent, by its place
 pub sent_by : (address who : ℕ) (ts : List Transmitter) (steps : List Step) (sent : List ℕ) → AreSent ts steps sent
-    → transmitter_place address ts ≡ Some who
-    → SentBy address ts steps (get_or sent who 0)
+    → transmitter_place address ts ≡ Some who → SentBy address ts steps (get_or sent who 0)
 sent_by address who ts steps sent is place =
     subst (λ (found : Option ℕ). IfSome found (λ who'. (t : Transmitter) → slice_get ts who' ≡ Some t
     → get_or sent who 0 ≡ length (sent_segments t who' steps)))
@@ -62,8 +60,7 @@ sent_by_none address n ts steps place =
 
 -- where the transmitter of the step sent so many more
 abbrev SendsMore : List Transmitter → List Step → Step → ℕ → Type 0
-SendsMore ts steps step count =
-    (t : Transmitter) → slice_get ts step.who ≡ Some t
+SendsMore ts steps step count = (t : Transmitter) → slice_get ts step.who ≡ Some t
     → length (sent_segments t step.who (steps ++ step ∷ [])) ≡ length (sent_segments t step.who steps) + count
 
 pub sent_more : (ts : List Transmitter) (steps : List Step) (step : Step) (sent : List ℕ) (count : ℕ)
@@ -77,33 +74,16 @@ sent_more ts steps step sent count is more = record {
     each : (who : ℕ) (t : Transmitter) → slice_get ts who ≡ Some t → (who ≡ step.who) ⊎ (who ≡ step.who → ⊥)
         → slice_get (set sent step.who (get_or sent step.who 0 + count)) who
         ≡ Some (length (sent_segments t who (steps ++ step ∷ [])))
-    each who t at_t (inl same) =
-        let here : slice_get ts step.who ≡ Some t = ap (slice_get ts) (sym same) ∙ at_t in
-        let was : slice_get sent step.who ≡ Some (length (sent_segments t step.who steps)) = is.each step.who t here in
-        subst (λ i. slice_get (set sent step.who (get_or sent step.who 0 + count)) i
-        ≡ Some (length (sent_segments t i (steps ++ step ∷ [])))) (sym same)
-        (set_here sent step.who (get_or sent step.who 0 + count) (slice_get_within sent step.who _ was)
-        ∙ ap Some (ap (λ n. n + count) (get_or_from_slice_get sent step.who _ 0 was) ∙ sym (more t here)))
-    each who t at_t (inr n) =
-        set_elsewhere sent step.who who (get_or sent step.who 0 + count) n ∙ is.each who t at_t
+    each who t at_t (inl same) = grind (arith, set_here, slice_get_within, get_or_from_slice_get)
+    each who t at_t (inr n) = set_elsewhere sent step.who who (get_or sent step.who 0 + count) n ∙ is.each who t at_t
         ∙ ap (λ (segments : List (List ℤ)). Some (length segments))
         (sym (segments_elsewhere t who steps step (λ same. n (sym same))))
 
 pub few_more : (sent : List ℕ) (i count most : ℕ) → i < length sent → count ≤ 5
     → ((who : ℕ) (n : ℕ) → slice_get sent who ≡ Some n → n ≤ 5 * most)
     → (who : ℕ) (n : ℕ) → slice_get (set sent i (get_or sent i 0 + count)) who ≡ Some n → n ≤ 5 * (most + 1)
-few_more sent i count most l five few who n at_n = by_cases (cases_eq who i)
-  where
-    by_cases : (who ≡ i) ⊎ (who ≡ i → ⊥) → n ≤ 5 * (most + 1)
-    by_cases (inl same) =
-        let is : get_or sent i 0 + count ≡ n = same_Some _ n (sym (set_here sent i (get_or sent i 0 + count) l)
-        ∙ ap (slice_get (set sent i (get_or sent i 0 + count))) (sym same) ∙ at_n) in
-        omega (arith, is, five, few i (get_or sent i 0) (slice_get-get_or sent i 0 l))
-    by_cases (inr other) = omega (
-      arith,
-      few who n (sym (set_elsewhere sent i who (get_or sent i 0 + count) other)
-          ∙ at_n),
-    )
+few_more sent i count most l five few who n at_n =
+    grind (arith, cases_eq, same_Some, set_here, slice_get-get_or, set_elsewhere)
 
 pub given_sends : (ts : List Transmitter) (steps : List Step) (who : ℕ) (packet : List ℕ) (count : ℕ)
     → ((t : Transmitter) → slice_get ts who ≡ Some t
@@ -131,18 +111,7 @@ brings_few ts steps who packet answered count symbols net within gives =
 -- a restart sends nothing
 pub sent_restarted : (ts : List Transmitter) (steps : List Step) (who : ℕ) (sent : List ℕ) → AreSent ts steps sent
     → AreSent ts (steps ++ restart_step who ∷ []) sent
-sent_restarted ts steps who sent is = record {
-  long = is.long;
-  each = λ other t at_t. is.each other t at_t
-      ∙ ap (λ (segments : List (List ℤ)). Some (length segments)) (sym (same t other (cases_eq other who)));
-}
-  where
-    same : (t : Transmitter) (other : ℕ) → (other ≡ who) ⊎ (other ≡ who → ⊥)
-        → sent_segments t other (steps ++ restart_step who ∷ []) ≡ sent_segments t other steps
-    same t other (inl e) =
-        subst (λ i. sent_segments t i (steps ++ restart_step who ∷ []) ≡ sent_segments t i steps) (sym e)
-        (segments_restarted t who steps)
-    same t other (inr n) = segments_elsewhere t other steps (restart_step who) (λ e. n (sym e))
+sent_restarted ts steps who sent is = grind (arith, cases_eq, segments_restarted, segments_elsewhere)
 
 -- nothing was sent yet
 pub none_sent : (ts : List Transmitter) (sent : List ℕ) → sent ≡ replicate (length ts) 0 → AreSent ts [] sent
@@ -152,11 +121,7 @@ none_sent ts sent is = record {
 }
   where
     each : (who : ℕ) (t : Transmitter) → who < length ts → slice_get sent who ≡ Some (length (sent_segments t who []))
-    each who t l =
-        ap (λ (ns : List ℕ). slice_get ns who) is
-        ∙ slice_get-get_or (replicate (length ts) 0) who 0
-        (omega (arith, l, length-replicate {A = ℕ} (length ts) 0))
-        ∙ ap Some (get_or-replicate (length ts) who 0 0 l
+    each who t l = grind (arith, slice_get-get_or, length-replicate) ∙ ap Some (get_or-replicate (length ts) who 0 0 l
         ∙ sym (ap (λ (segments : List (List ℤ)). length segments) (no_segments t who)))
 
 pub none_few : (ts : List Transmitter) (sent : List ℕ) → sent ≡ replicate (length ts) 0 → (who : ℕ) (n : ℕ)
@@ -164,11 +129,7 @@ pub none_few : (ts : List Transmitter) (sent : List ℕ) → sent ≡ replicate 
 none_few ts sent is who n at_n =
     let here : slice_get (replicate (length ts) 0) who ≡ Some n = sym (ap (λ (ns : List ℕ). slice_get ns who) is)
     ∙ at_n in
-    let within : who < length ts = omega (
-      arith,
-      slice_get_within (replicate (length ts) 0) who n here,
-      length-replicate {A = ℕ} (length ts) 0,
-    ) in
+    let within : who < length ts = grind (arith, slice_get_within, length-replicate) in
     omega (
       arith,
       get_or-replicate {A = ℕ} (length ts) who 0 0 within,
@@ -195,16 +156,14 @@ given_brings ts steps who packet sent answered count symbols net bytes line is g
       let m : ℕ = length (last_segments t.address t.delay life) in
       ap log_text (lines_given t who steps packet)
       ∙ log_text-append (lines_of t who steps) (line_of n m (last_answer t.address t.delay life))
-      ∙ ap (λ z. log_text (lines_of t who steps) ++ z)
-      (sym (line_is
+      ∙ ap (λ z. log_text (lines_of t who steps) ++ z) (sym (line_is
       ∙ ap (λ k. log_text (line_of k count answered)) (get_or_from_slice_get sent who n 0 (is.each who t at_t))
       ∙ ap (λ k. log_text (line_of n k answered)) (gives t at_t).air.counted
       ∙ ap (λ a. log_text (line_of n m a)) (gives t at_t).answer));
 }
 
 pub restart_brings : (ts : List Transmitter) (steps : List Step) (who : ℕ) (sent line : List ℕ) → AreSent ts steps sent
-    → line ≡ log_text (restart (get_or sent who 0) ∷ [])
-    → Brings ts steps (restart_step who) [] line
+    → line ≡ log_text (restart (get_or sent who 0) ∷ []) → Brings ts steps (restart_step who) [] line
 unfolding symbol_file log_file
 restart_brings ts steps who sent line is line_is = record {
   sent = λ t at_t. ap segment_bytes (segments_restarted t who steps)
@@ -225,10 +184,8 @@ none_given = refl
 pub given_packet : (steps : List Step) (who : ℕ) (packet : List ℕ)
     → packets_given (steps ++ packet_step who packet ∷ []) ≡ packets_given steps + 1
 unfolding packets_given
-given_packet steps who packet =
-    sum_by-append (λ (step : Step). cond (is_some step.packet) 1 0) steps (packet_step who packet ∷ []) ∙ omega arith
+given_packet steps who packet = grind (arith, sum_by-append)
 
 pub given_restart : (steps : List Step) (who : ℕ) → packets_given (steps ++ restart_step who ∷ []) ≡ packets_given steps
 unfolding packets_given
-given_restart steps who = sum_by-append (λ (step : Step). cond (is_some step.packet) 1 0) steps (restart_step who ∷ [])
-    ∙ omega arith
+given_restart steps who = grind (arith, sum_by-append)

@@ -7,8 +7,7 @@ use Rattle.dtx_net.specs.Steps.{Step}
 use Rattle.dtx_plan.specs.declared.transmitter.Transmitter.{Transmitter}
 use Rattle.dtx_schedule.proofs.FilesLemmas.{no_log_file, no_symbol_file}
 use Rattle.dtx_schedule.specs.Progress.{Progress}
-use Rattle.dtx_schedule.specs.TransmitterFiles.{AreFronts, Contents, files_of, log_file, nothing, played}
-use Rattle.dtx_schedule.specs.TransmitterFiles.{symbol_file}
+use Rattle.dtx_schedule.specs.TransmitterFiles.{AreFronts, Contents, files_of, nothing, played}
 
 -- each file has a front part of itself
 pub same_fronts : (ts : List Transmitter) (contents : Contents) → AreFronts ts contents contents
@@ -21,8 +20,7 @@ front_of_none [] none = ([], refl)
 front_of_none (x ∷ a) none = cc
 
 pub nothing_is_least : (ts : List Transmitter) → AreFronts ts (played []) nothing
-nothing_is_least ts = λ who t at_t.
-    (front_of_none (symbol_file t who []) (no_symbol_file t who), front_of_none (log_file t who []) (no_log_file t who))
+nothing_is_least ts = grind (arith, front_of_none, no_symbol_file, no_log_file)
 
 -- so many files were begun, and nothing was played
 abbrev pub only_begun : (ts : List Transmitter) (steps : List Step) (n : ℕ) → n ≤ 2 * length ts → Progress ts steps

@@ -18,8 +18,7 @@ use Rattle.dtx_schedule.specs.PlayedSoFar.{IsUnderWay}
 use Rattle.dtx_schedule.proofs.FilesLemmas.{contents_same}
 use Rattle.dtx_schedule.specs.Progress.{IsProgressOf, IsComplete, Progress, begun_files}
 use Rattle.dtx_schedule.proofs.ProgressLemmas.{all_files, all_played, only_begun}
-use Rattle.dtx_schedule.specs.TransmitterFiles.{AreFronts, Contents, files_of, nothing, played}
-use Rattle.dtx_schedule.specs.TransmitterFiles.{played_outputs}
+use Rattle.dtx_schedule.specs.TransmitterFiles.{AreFronts, Contents, files_of, nothing, played, played_outputs}
 use Rattle.dtx_schedule.specs.declared.playing.PlayedSchedule.{PlayedSchedule}
 use Rattle.dtx_schedule.proofs.Fronts.{front_same, fronts_then, steps_grow}
 
@@ -58,11 +57,9 @@ first_begun (t ∷ ts) start now (inr (front, none, inr (text, empty, rest))) =
 -- what is done, and at most one more, is a front of what is done and the step behind it
 next_grows : (ts : List Transmitter) (done next rest : List Step) → length next ≤ 1
     → AreFronts ts (played (done ++ next)) (played (take (length done + 1) (done ++ (next ++ rest))))
-next_grows ts done [] rest one =
-    subst (λ steps. AreFronts ts (played (done ++ [])) (played steps))
+next_grows ts done [] rest one = subst (λ steps. AreFronts ts (played (done ++ [])) (played steps))
     (append_assoc done [] (take 1 rest) ∙ sym (take-append-add done rest 1)) (steps_grow ts (done ++ []) (take 1 rest))
-next_grows ts done (step ∷ []) rest one =
-    subst (λ steps. AreFronts ts (played (done ++ step ∷ [])) (played steps))
+next_grows ts done (step ∷ []) rest one = subst (λ steps. AreFronts ts (played (done ++ step ∷ [])) (played steps))
     (sym (take-append-add done (step ∷ rest) 1)) (λ who t at_t. (front_same _, front_same _))
 next_grows ts done (step ∷ other ∷ next) rest one = absurd (omega (arith, one))
 
@@ -76,9 +73,7 @@ under_way ts steps held now is = (
     done = length is.done;
     within = omega (arith, ap length is.whole, length-append is.done (is.next ++ is.rest));
     contents = is.contents;
-    least = subst (λ all. AreFronts ts (played (take (length is.done) all)) is.contents) is.whole
-        (subst (λ done. AreFronts ts (played done) is.contents) (sym (take-append_seam is.done (is.next ++ is.rest)))
-        is.least);
+    least = grind (arith, take-append_seam);
     most = subst (λ all. AreFronts ts is.contents (played (take (length is.done + 1) all))) is.whole
         (fronts_then ts is.contents (played (is.done ++ is.next)) _ is.most
         (next_grows ts is.done is.next is.rest is.one));
@@ -104,11 +99,8 @@ pub whole_files : (ts : List Transmitter) (steps : List Step) (progress : Progre
     → IsComplete ts steps progress → begun_files ts steps progress ≡ played_outputs ts steps
 whole_files ts steps progress is =
     ap (λ n. take n (files_of progress.contents ts)) is.begun ∙ all_files progress.contents ts
-    ∙ same_contents ts progress.contents (played steps)
-    (subst (λ all. AreFronts ts progress.contents (played all))
-    (take_all (progress.done + 1) steps (omega (arith, is.done))) progress.most)
-    (subst (λ all. AreFronts ts (played all) progress.contents)
-    (take_all progress.done steps (omega (arith, is.done))) progress.least)
+    ∙ same_contents ts progress.contents (played steps) (subst (λ all. AreFronts ts progress.contents (played all))
+    (take_all (progress.done + 1) steps (omega (arith, is.done))) progress.most) (grind (arith, take_all))
 
 -- ---- wherever it came
 
@@ -137,8 +129,4 @@ progress_of ts steps held (Err status) now is = broken_off ts steps held now is.
 -- want of memory, before a file was begun
 pub wanting : (ts : List Transmitter) (steps : List Step) (held : Files) (now : Option Files) → now ≡ Some held
     → IsPlayFault ts steps held Memory now
-wanting ts steps held now same = record {
-  fault = tt;
-  part = part_of_none (played_outputs ts steps) (Some held) now same;
-  off = inl (part_of_none (files_of nothing ts) (Some held) now same);
-}
+wanting ts steps held now same = grind (arith, part_of_none)

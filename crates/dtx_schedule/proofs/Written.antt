@@ -21,21 +21,17 @@ pub are_apart : (ts : List Transmitter) (names : List FileNames) → AreTransmit
 are_apart ts names are named = apart_of ts are named.small
 
 written : (ts : List Transmitter) (steps : List Step) (step : Step) (t : Transmitter) (symbols line : List ℕ)
-    → slice_get ts step.who ≡ Some t
-    → Brings ts steps step symbols line
-    → files_of (put (played steps) step.who (
+    → slice_get ts step.who ≡ Some t → Brings ts steps step symbols line → files_of (put (played steps) step.who (
       symbol_file t step.who steps ++ symbols,
       log_file t step.who steps ++ line,
-    )) ts
-    ≡ played_outputs ts (steps ++ step ∷ [])
+    )) ts ≡ played_outputs ts (steps ++ step ∷ [])
 written ts steps step t symbols line at_t brings =
     let more : List Step = steps ++ step ∷ [] in
     let pair : List ℕ × List ℕ = (symbol_file t step.who steps ++ symbols, log_file t step.who steps ++ line) in
     contents_same ts (put (played steps) step.who pair) (played more)
     (at_places (λ who u p. p ≡ played more who u) ts (played steps) step.who t pair at_t
     (ap (λ z. (z, log_file t step.who steps ++ line)) (sym (brings.sent t at_t))
-    ∙ ap (λ z. (symbol_file t step.who more, z)) (sym (brings.logged t at_t)))
-    (λ other u at_u n.
+    ∙ ap (λ z. (symbol_file t step.who more, z)) (sym (brings.logged t at_t))) (λ other u at_u n.
     ap (λ z. (z, log_file u other steps)) (sym (symbols_elsewhere u other steps step (λ same. n (sym same))))
     ∙ ap (λ z. (symbol_file u other more, z)) (sym (log_elsewhere u other steps step (λ same. n (sym same))))))
 
@@ -45,8 +41,7 @@ broken : (ts : List Transmitter) (steps : List Step) (step : Step) (t : Transmit
     → now ≡ with_outputs (files_of (put (played steps) step.who (
       symbol_file t step.who steps ++ part,
       log_file t step.who steps ++ text,
-    )) ts) (Some held)
-    → IsUnderWay ts (steps ++ step ∷ []) held now
+    )) ts) (Some held) → IsUnderWay ts (steps ++ step ∷ []) held now
 broken ts steps step t symbols line part text held now at_t brings front front_too is = record {
   done = steps;
   next = step ∷ [];
@@ -63,8 +58,7 @@ broken ts steps step t symbols line part text held now at_t brings front front_t
         front_behind (symbol_file t step.who steps) part symbols (symbol_file t step.who more)
             (brings.sent t at_t) front,
         front_behind (log_file t step.who steps) text line (log_file t step.who more) (brings.logged t at_t) front_too,
-      )
-      (λ other u at_u n. (
+      ) (λ other u at_u n. (
         front_of_same (symbol_file u other steps) (symbol_file u other more)
             (sym (symbols_elsewhere u other steps step (λ same. n (sym same)))),
         front_of_same (log_file u other steps) (log_file u other more)
@@ -93,8 +87,7 @@ pub step_written : (ts : List Transmitter) (steps : List Step) (step : Step) (t 
     → IsWrittenOf ts (steps ++ step ∷ []) held result now
 step_written ts steps step t symbols line held told now result apart at_t brings is adds =
     by_result result (adds (symbol_file t step.who steps) (log_file t step.who steps) before (is
-    ∙ with_outputs-told (played_outputs ts steps) held)
-    (has_pair ts step.who t (played steps) held apart at_t))
+    ∙ with_outputs-told (played_outputs ts steps) held) (has_pair ts step.who t (played steps) held apart at_t))
   where
     before : Files
     before = files_with (played_outputs ts steps) held

@@ -25,6 +25,7 @@ use dtx_packets::{PIECE_PACKETS, Packet};
 use dtx_plan::Event;
 
 /// Does the steps of event `number`. `packets` is room for the packets of a piece.
+#[tactic(auto, using(crate::proofs::EventSteps::nowhere))]
 pub(crate) fn play_event<S: Shelf>(
     shelf: &mut S,
     number: u32,

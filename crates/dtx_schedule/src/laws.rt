@@ -7,6 +7,7 @@ ghost use Rattle.dtx_schedule.specs.Progress.{IsComplete, Progress, begun_files}
 ghost use Rattle.dtx_schedule.specs.TransmitterFiles.{played_outputs};
 
 /// Where all files are begun and all steps are done, each file is whole.
+#[tactic(auto, using(crate::proofs::ProgressOf::whole_files))]
 pub fn what_is_complete_is_whole()
     ensures { (ts : List Transmitter) (steps : List Step) (progress : Progress ts steps)
         → IsComplete ts steps progress → begun_files ts steps progress ≡ played_outputs ts steps }

@@ -44,6 +44,7 @@ pub(crate) fn append_both<S: Shelf>(
 }
 
 /// Appends bytes to a file, which must exist. Where there are no bytes, the file isn't touched.
+#[tactic(auto, using(crate::proofs::PairLeft::nothing_appended, crate::proofs::PairLeft::file_appended))]
 fn append_some<S: Shelf>(shelf: &mut S, name: &str, bytes: &[u8]) -> Result<(), WriteNo>
     ensures appended { (held : Files) (file : List ℕ) → S.files shelf.old ≡ Some held
         → files.get held name.now ≡ Some file

@@ -43,6 +43,7 @@ pub(crate) struct Playout {
 
 impl Playout {
     /// A network of these transmitters, in which no step was done. Takes all memory. The only error is out of memory.
+    #[tactic(auto, using(crate::proofs::PlayoutOn::none_sent, crate::proofs::PlayoutOn::none_few, crate::proofs::PlayoutOn::none_given))]
     pub(crate) fn new(alloc: Global, transmitters: &[Transmitter]) -> Result<Playout, AllocError>
         requires { AreTransmitters transmitters.now }
         ensures { IfOk result (λ playout. IsPlayout transmitters.now playout []) }

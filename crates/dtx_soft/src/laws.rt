@@ -15,12 +15,14 @@ ghost use Rattle.dtx_soft.specs.LeastPath.{least_levels, least_path, least_start
 use dtx_sizes::{CODERS, SEGMENT, SEGMENT_ROUNDS};
 
 /// A certificate proves its path a least one: no path from any state costs less.
+#[tactic(auto, using(crate::proofs::Certificates::no_less))]
 pub fn certified()
     ensures { (symbols : List ℤ) (start : ℕ) (levels : List ℕ) (potentials : List (List ℕ))
         → IsCertificate symbols start levels potentials → NoneCostsLess 1 symbols levels }
 {}
 
 /// The least path and the least costs are a certificate.
+#[tactic(auto, using(crate::proofs::Certificates::potentials_certify))]
 pub fn certifies()
     ensures { (symbols : List ℤ) (start : ℕ) (levels : List ℕ) (potentials : List (List ℕ))
         → IsLeast 1 symbols start levels → ArePotentials 1 symbols potentials
@@ -28,6 +30,7 @@ pub fn certifies()
 {}
 
 /// Where symbols are those of a path's levels, the least path costs nothing and has the same symbols.
+#[tactic(auto, using(crate::proofs::OwnSymbols::own_symbols))]
 pub fn keeps_own_symbols()
     ensures { (scale start found : ℕ) (levels others : List ℕ) → start < 4 → IsPath start levels
         → IsLeast scale (map (symbol_at scale) levels) found others
@@ -36,6 +39,7 @@ pub fn keeps_own_symbols()
 {}
 
 /// There is exactly one least path over symbols, and `least_path` gives it.
+#[tactic(auto, using(crate::proofs::LeastPathLemmas::least_path_found, crate::proofs::LeastPathLemmas::least_path_is))]
 pub fn one_least_path()
     ensures found { (scale : ℕ) (symbols : List ℤ)
         → IsLeast scale symbols (least_start scale symbols) (least_levels scale symbols) }
@@ -63,6 +67,7 @@ pub fn cost_of_softening()
 
 /// A bound of what the least paths of a field cost, where its symbols are signed bytes. No symbol is off a level by
 /// more than 128 and seven times the scale, and each coder has 69 symbols in a segment.
+#[tactic(auto, using(crate::proofs::CostLemmas::scaled_costs_small))]
 pub fn costs_are_small()
     ensures { (scale : ℕ) (old new : List (List ℤ)) → AreSigned old → IsSoftened scale old new
         → coders_distance old new CODERS
@@ -80,6 +85,7 @@ pub fn keeps_own_field()
 
 /// The levels that a trellis coder gives are a path, whatever its precoder adds. `a` has the higher bits of its pairs,
 /// and `b` the lower ones.
+#[tactic(auto, using(crate::proofs::CoderPaths::coder_path))]
 pub fn coder_takes_a_path()
     ensures { (q : State) (a b : List ℕ) → AreBits q → ((t : ℕ) → t < length a → slice_index b t < 2)
         → IsPath (2 * q.q1 + q.q0) (map (level q a b) (range_with_len 0 (length a))) }

@@ -5,10 +5,7 @@ use Rattle.dtx_trellis.specs.Pairs.{groups, group_place, byte_place, pair_in, pa
 
 pub coder_is : (s r p : ℕ) → p < 12 → coder_at s (12 * r + p) ≡ (p + 4 * ((s + r / 69) % 3)) % 12
 unfolding coder_at
-coder_is s r p l =
-    let e : (12 * r + p) % 12 ≡ p = omega arith in
-    let f : (12 * r + p) / 828 ≡ r / 69 = omega arith in
-    ap (λ x. (x + 4 * ((s + (12 * r + p) / 828) % 3)) % 12) e ∙ ap (λ x. (p + 4 * ((s + x) % 3)) % 12) f
+coder_is s r p l = grind arith
 
 pub coder_small : (s d : ℕ) → coder_at s d < 12
 unfolding coder_at
@@ -38,14 +35,12 @@ pair_3 b r e = omega arith ∙ ap (λ x. b / 4 ^ (3 - x) % 4) (sym e)
 pub higher_at : (s e t : ℕ) (bytes : List ℕ) → t < 276 * groups bytes
     → get_or (higher s bytes e) t 0 ≡ pair_at s bytes e t / 2
 unfolding higher
-higher_at s e t bytes l =
-    get_or-map-range_with_len (λ t. pair_at s bytes e t / 2) 0 (276 * groups bytes) t t 0 l (omega arith)
+higher_at s e t bytes l = grind (arith, get_or-map-range_with_len)
 
 pub lower_at : (s e t : ℕ) (bytes : List ℕ) → t < 276 * groups bytes
     → get_or (lower s bytes e) t 0 ≡ pair_at s bytes e t % 2
 unfolding lower
-lower_at s e t bytes l =
-    get_or-map-range_with_len (λ t. pair_at s bytes e t % 2) 0 (276 * groups bytes) t t 0 l (omega arith)
+lower_at s e t bytes l = grind (arith, get_or-map-range_with_len)
 
 pub length_higher : (s e : ℕ) (bytes : List ℕ) → length (higher s bytes e) ≡ 276 * groups bytes
 unfolding higher
@@ -64,11 +59,4 @@ one_group bytes h = ap (λ n. n / 828) h
 pub pair_of_round : (s e r : ℕ) (bytes : List ℕ) → s < 312 → r < 276
     → pair_at s bytes e r ≡ pair_in (get_or bytes (byte_place s r e) 0) r
 unfolding pair_at group_place
-pair_of_round s e r bytes h l =
-    let u : r / 276 ≡ 0 = omega arith in
-    let v : r % 276 ≡ r = omega arith in
-    let w : (s + 4 * 0) % 312 ≡ s = omega arith in
-    ap (λ x. pair_in (get_or bytes (828 * x + byte_place ((s + 4 * x) % 312) (r % 276) e) 0) (r % 276)) u
-    ∙ ap (λ x. pair_in (get_or bytes (828 * 0 + byte_place ((s + 4 * 0) % 312) x e) 0) x) v
-    ∙ ap (λ x. pair_in (get_or bytes (828 * 0 + byte_place x r e) 0) r) w
-    ∙ ap (λ x. pair_in (get_or bytes x 0) r) (omega arith)
+pair_of_round s e r bytes h l = grind arith

@@ -28,19 +28,11 @@ groups_whole u y h = let e : length y / 828 ≡ u = omega arith in e
 
 pub groups_append : (u : ℕ) (y z : List ℕ) → length y ≡ 828 * u → groups (y ++ z) ≡ u + groups z
 unfolding groups
-groups_append u y z h =
-    ap (λ n. n / 828) (length-append y z ∙ ap (λ n. n + length z) h) ∙ divided u (length z)
-  where
-    divided : (u n : ℕ) → (828 * u + n) / 828 ≡ u + n / 828
-    divided u n = omega arith
+groups_append u y z h = grind (arith, length-append)
 
 pair_before : (s u e t : ℕ) (y z : List ℕ) → length y ≡ 828 * u → t < 276 * u → pair_at s (y ++ z) e t ≡ pair_at s y e t
 unfolding pair_at
-pair_before s u e t y z h l =
-    let place : ℕ = byte_place (group_place s (t / 276)) (t % 276) e in
-    let small : byte_place (group_place s (t / 276)) (t % 276) e < 828 =
-    place_small (group_place s (t / 276)) (t % 276) e (omega arith) in
-    ap (λ b. pair_in b (t % 276)) (get_or_append_left y z 0 (828 * (t / 276) + place) (omega arith))
+pair_before s u e t y z h l = grind (arith, place_small, get_or_append_left)
 
 place_on : (s u v : ℕ) → group_place s (u + v) ≡ group_place (group_place s u) v
 unfolding group_place
@@ -53,9 +45,7 @@ pair_behind s u e t y z h =
     ap₂ (λ (v r : ℕ). pair_in (get_or (y ++ z) (828 * v + byte_place (group_place s v) r e) 0) r) (omega arith)
     (omega arith)
     ∙ ap (λ (q : ℕ). pair_in (get_or (y ++ z) (828 * (u + t / 276) + byte_place q (t % 276) e) 0) (t % 276))
-    (place_on s u (t / 276))
-    ∙ ap (λ (b : ℕ). pair_in b (t % 276)) (byte (byte_place (group_place (group_place s u) (t / 276)) (t % 276) e)
-    (t / 276))
+    (place_on s u (t / 276)) ∙ ap (λ (b : ℕ). pair_in b (t % 276)) (grind (arith, byte))
   where
     byte : (p v : ℕ) → get_or (y ++ z) (828 * (u + v) + p) 0 ≡ get_or z (828 * v + p) 0
     byte p v = get_or-append_right y z (828 * u) (828 * (u + v) + p) 0 h (omega arith)
@@ -86,13 +76,7 @@ unfolding lower
 lower_append s u e y z h = bits_append (λ x. x % 2) s u e y z h
 
 number_bits : (q : State) → AreBits q → state_of (number_of q) ≡ q
-number_bits q h =
-    let a : (4 * q.q2 + 2 * q.q1 + q.q0) / 4 % 2 ≡ q.q2 = omega (arith, h.q2, h.q1, h.q0) in
-    let b : (4 * q.q2 + 2 * q.q1 + q.q0) / 2 % 2 ≡ q.q1 = omega (arith, h.q2, h.q1, h.q0) in
-    let c : (4 * q.q2 + 2 * q.q1 + q.q0) % 2 ≡ q.q0 = omega (arith, h.q2, h.q1, h.q0) in
-    ap (λ x. record { q2 = x; q1 = number_of q / 2 % 2; q0 = number_of q % 2 }) a
-    ∙ ap (λ x. record { q2 = q.q2; q1 = x; q0 = number_of q % 2 }) b
-    ∙ ap (λ x. record { q2 = q.q2; q1 = q.q1; q0 = x }) c
+number_bits q h = grind arith
 
 -- the state that the first groups leave
 left_state : (s u e : ℕ) (states y : List ℕ) → length y ≡ 828 * u → e < 12
@@ -101,9 +85,7 @@ left_state : (s u e : ℕ) (states y : List ℕ) → length y ≡ 828 * u → e 
 unfolding states_after coder_after
 left_state s u e states y h l =
     ap state_of (get_or-map-range_with_len (λ e. number_of (coder_after s states y (276 * groups y) e)) 0 12 e e 0 l
-    (omega arith))
-    ∙ number_bits (coder_after s states y (276 * groups y) e) (coder_bits s e (276 * groups y) states y (omega arith))
-    ∙ ap (state_after (state_of (get_or states e 0)) (higher s y e) (lower s y e)) (sym (length_higher s e y))
+    (omega arith)) ∙ grind (arith, number_bits, coder_bits, length_higher)
 
 pub coder_append : (s u e t : ℕ) (states y z : List ℕ) → length y ≡ 828 * u → e < 12 → t ≤ 276 * groups z
     → coder_after s states (y ++ z) (276 * u + t) e ≡ coder_after (group_place s u) (states_after s states y) z t e
@@ -115,27 +97,21 @@ coder_append s u e t states y z h l m =
     ∙ ap (λ n. state_after q (higher s y e ++ higher (group_place s u) z e) (lower s y e ++ lower (group_place s u) z e)
     (n + t)) g
     ∙ state_goes_on q (higher s y e) (lower s y e) (higher (group_place s u) z e) (lower (group_place s u) z e) t
-    (bits_of (get_or states e 0)) (length_higher s e y
-    ∙ sym (length_lower s e y)) (omega (arith, length_higher (group_place s u) e z))
+    (bits_of (get_or states e 0)) (length_higher s e y ∙ sym (length_lower s e y)) (grind (arith, length_higher))
     ∙ ap (λ p. state_after p (higher (group_place s u) z e) (lower (group_place s u) z e) t)
     (sym (left_state s u e states y h l))
 
 pub states_append : (s u : ℕ) (states y z : List ℕ) → length y ≡ 828 * u
     → states_after s states (y ++ z) ≡ states_after (group_place s u) (states_after s states y) z
 unfolding states_after
-states_append s u states y z h =
-    same_below (λ e. number_of (coder_after s states (y ++ z) (276 * groups (y ++ z)) e))
+states_append s u states y z h = same_below (λ e. number_of (coder_after s states (y ++ z) (276 * groups (y ++ z)) e))
     (λ e. number_of (coder_after (group_place s u) (states_after s states y) z (276 * groups z) e)) 12
     (λ e l. ap number_of (ap (λ n. coder_after s states (y ++ z) n e) (ap (λ n. 276 * n) (groups_append u y z h)
     ∙ omega arith) ∙ coder_append s u e (276 * groups z) states y z h l (omega arith)))
 
 coder_on : (s u d : ℕ) → coder_at s (3312 * u + d) ≡ coder_at (group_place s u) d
 unfolding coder_at group_place
-coder_on s u d =
-    let e : (3312 * u + d) % 12 ≡ d % 12 = omega arith in
-    let f : (3312 * u + d) / 828 ≡ 4 * u + d / 828 = omega arith in
-    let g : (s + (4 * u + d / 828)) % 3 ≡ ((s + 4 * u) % 312 + d / 828) % 3 = omega arith in
-    ap₂ (λ (x y : ℕ). (x + 4 * ((s + y) % 3)) % 12) e f ∙ ap (λ (x : ℕ). (d % 12 + 4 * x) % 12) g
+coder_on s u d = grind arith
 
 level_before : (s u d : ℕ) (states y z : List ℕ) → length y ≡ 828 * u → d < 3312 * u
     → level_at s states (y ++ z) d ≡ level_at s states y d
@@ -151,20 +127,13 @@ level_before s u d states y z h l = at (coder_at s d)
         (lower_append s u e y z h)
         ∙ same_levels (state_of (get_or states e 0)) (higher s y e ++ higher (group_place s u) z e) (lower s y e
         ++ lower (group_place s u) z e) (higher s y e) (lower s y e) (d / 12) (bits_of (get_or states e 0))
-        (record {
-          long = omega (arith, g, length-append (higher s y e) (higher (group_place s u) z e));
-          longer = omega (arith, g);
-          higher = λ j m. get_or_append_left (higher s y e) (higher (group_place s u) z e) 0 j (omega (arith, g, m));
-          lower = λ j m. get_or_append_left (lower s y e) (lower (group_place s u) z e) 0 j (omega (arith, k, m));
-        })
+        (grind (arith, length-append, get_or_append_left))
 
 level_behind : (s u d : ℕ) (states y z : List ℕ) → length y ≡ 828 * u → d < 3312 * groups z
     → level_at s states (y ++ z) (3312 * u + d) ≡ level_at (group_place s u) (states_after s states y) z d
 unfolding level_at
 level_behind s u d states y z h l =
-    ap (λ e. level (state_of (get_or states e 0)) (higher s (y ++ z) e) (lower s (y ++ z) e) ((3312 * u + d) / 12))
-    (coder_on s u d)
-    ∙ at (coder_at (group_place s u) d) (coder_small (group_place s u) d)
+    rw (coder_on s u d, at (coder_at (group_place s u) d) (coder_small (group_place s u) d))
   where
     at : (e : ℕ) → e < 12
         → level (state_of (get_or states e 0)) (higher s (y ++ z) e) (lower s (y ++ z) e) ((3312 * u + d) / 12)

@@ -1,6 +1,6 @@
 -- A round of the coders side by side, by the definitions.
-use Rattle.std.proofs.Common.{◌≡◌, ◌≢◌, Bool, ◌⊎◌, inl, inr, ℕ, ◌-◌, ◌+◌, ◌*◌, ◌/◌, ◌%◌, ◌<◌, ◌≤◌}
-use Rattle.std.proofs.Common.{◌↔◌, IsTrue, ltb, ℤ, pos, List, length, get_or, sym, ap, ap₂, ◌∙◌, subst, arith}
+use Rattle.std.proofs.Common.{◌≡◌, ◌≢◌, Bool, inl, inr, ℕ, ◌-◌, ◌+◌, ◌*◌, ◌/◌, ◌%◌, ◌<◌, ◌≤◌, ◌↔◌, IsTrue, ℤ, pos, List}
+use Rattle.std.proofs.Common.{length, get_or, sym, ap, ap₂, ◌∙◌, subst, arith}
 use Rattle.std.proofs.lemmas.Bool.{cases_lt, cond-true, cond_both, false≢true, lt-ltb}
 use Rattle.dtx_trellis.specs.Trellis.{AreBits, level_of, next_of, number_of, state_of, symbol_of}
 use Rattle.dtx_trellis.specs.Pairs.{byte_place, pair_in, coder_at}
@@ -87,22 +87,13 @@ second_round s r x states bytes lanes pairs both lower h n f =
 pub round_level : (s r p : ℕ) (states bytes lanes : List ℕ) → IsGroup s bytes → r < 276 → p < 12
     → HoldsRound s states bytes r (turn s r) lanes
     → level_told (get_or lanes p 0) ≡ level_at s states bytes (12 * r + p)
-round_level s r p states bytes lanes g l m h =
-    h.levels p m
-    ∙ ap (λ e. level_of (coder_after s states bytes r e) (pair_taken s bytes r e / 2) (pair_taken s bytes r e % 2))
-    (place_coder s r p m)
-    ∙ sym (level_next s r p states bytes g l m)
+round_level s r p states bytes lanes g l m h = grind (arith, place_coder, level_next)
 
 -- where round t begins a segment, each place has the coder of the place four further on
 turned_coder : (s t p : ℕ) → t % 69 ≡ 0 → 0 < t → p < 12
     → coder_turned (turn s t) p ≡ coder_turned (turn s (t - 1)) ((p + 4) % 12)
 unfolding coder_turned turn
-turned_coder s t p e z l =
-    let n : t / 69 ≡ (t - 1) / 69 + 1 = omega arith in
-    ap (λ i. (p + 4 * ((s + i) % 3)) % 12) n ∙ moved ((t - 1) / 69)
-  where
-    moved : (i : ℕ) → (p + 4 * ((s + (i + 1)) % 3)) % 12 ≡ ((p + 4) % 12 + 4 * ((s + i) % 3)) % 12
-    moved i = omega arith
+turned_coder s t p e z l = grind arith
 
 pub same_turn : (s t : ℕ) → t % 69 ≢ 0 → turn s t ≡ turn s (t - 1)
 unfolding turn
@@ -127,13 +118,9 @@ loaded_bytes s h bytes v k f = record {
   at = λ p l. f p l ∙ ap (λ i. get_or bytes i 0) (place p l);
 }
   where
-    place : (p : ℕ) → p < 12
-        → 12 * h + p ≡ 12 * (4 * h / 4) + ((p + 4 * ((s + 4 * h / 69) % 3)) % 12 + 12 - 4 *
+    place : (p : ℕ) → p < 12 → 12 * h + p ≡ 12 * (4 * h / 4) + ((p + 4 * ((s + 4 * h / 69) % 3)) % 12 + 12 - 4 *
         ((s + 4 * (4 * h / 4) / 69) % 3)) % 12
-    place p l =
-        let e : 4 * h / 4 ≡ h = omega arith in
-        ap (λ x. 12 * h + x) (sym (omega arith))
-        ∙ ap (λ x. 12 * x + ((p + 4 * ((s + 4 * h / 69) % 3)) % 12 + 12 - 4 * ((s + 4 * x / 69) % 3)) % 12) (sym e)
+    place p l = grind arith
 
 -- round t isn't the first, and `b` says whether it begins a segment
 abbrev pub Begins : ℕ → Bool → Type 0
@@ -149,17 +136,10 @@ came_small b p l = cond_both b (turned_place p) p (λ y. y < 16) (λ _. turned_s
 
 came_coder : (s t p : ℕ) (b : Bool) → Begins t b → p < 12
     → (came_from b p < 12) × (coder_turned (turn s t) p ≡ coder_turned (turn s (t - 1)) (came_from b p))
-came_coder s t p b z l =
-    cond_both b (turned_place p) p (Comes s t p)
-    (λ e. subst (Comes s t p) (sym (cond-true (ltb p 12) ((p + 4) % 12) p (lt-ltb p 12 l)))
-    (omega arith, turned_coder s t p (z.1.0 e) z.0 l))
-    (λ e. (l, ap (λ x. coder_turned x p) (same_turn s t (λ m. false≢true (sym e ∙ z.1.1 m)))))
+came_coder s t p b z l = grind (arith, cond_both, cond-true, lt-ltb, turned_coder, same_turn, false≢true)
 
 pub moved_nibbles : (b : Bool) (v w : List ℕ) → IsMovedOn b v w → AreNibbles v → AreNibbles w
-moved_nibbles b v w m n = record {
-  long = m.long;
-  small = λ p l. subst (λ y. y < 16) (sym (m.at p l)) (n.small (came_from b p) (came_small b p l));
-}
+moved_nibbles b v w m n = grind (arith, came_small)
 
 pub moved_states : (s t u : ℕ) (states bytes v w : List ℕ) (b : Bool) → Begins t b → IsMovedOn b v w
     → HoldsStates s states bytes u (turn s (t - 1)) v → HoldsStates s states bytes u (turn s t) w
@@ -203,8 +183,7 @@ second_moved s r states bytes lanes pairs both lower behind b h n f between m =
 -- the pairs of the four rounds of byte group h
 byte_later : (s h r e : ℕ) → r / 4 ≡ h → byte_place s (4 * h) e ≡ byte_place s r e
 unfolding byte_place
-byte_later s h r e f =
-    ap (λ k. 12 * k + (e + 12 - 4 * ((s + 4 * k / 69) % 3)) % 12) (omega arith ∙ sym f)
+byte_later s h r e f = ap (λ k. 12 * k + (e + 12 - 4 * ((s + 4 * k / 69) % 3)) % 12) (omega arith ∙ sym f)
 
 pub upper_pairs : (s h x : ℕ) (bytes v w : List ℕ) → HoldsBytes s bytes (4 * h) x v
     → AreNibbles w → ((p : ℕ) → p < 16 → get_or w p 0 ≡ get_or v p 0 / 16) → HoldsPairs s bytes (4 * h) x w
@@ -259,16 +238,9 @@ pub state_low : (n : ℕ) → state_of (n % 8) ≡ state_of n
 state_low n = state_eq (state_of (n % 8)) (state_of n) (omega arith) (omega arith) (omega arith)
 
 -- the number of coder e's state behind the last round
-pub number_end : (s e : ℕ) (states bytes lanes : List ℕ) → e < 12
-    → HoldsStates s states bytes 276 (turn s 275) lanes
+pub number_end : (s e : ℕ) (states bytes lanes : List ℕ) → e < 12 → HoldsStates s states bytes 276 (turn s 275) lanes
     → get_or lanes ((e + 12 - 4 * (s % 3)) % 12) 0 % 8 ≡ number_of (coder_after s states bytes 276 e)
-number_end s e states bytes lanes l h =
-    number_is (get_or lanes ((e + 12 - 4 * (s % 3)) % 12) 0)
-    ∙ ap number_of (h.at ((e + 12 - 4 * (s % 3)) % 12) (omega arith)
-    ∙ ap (coder_after s states bytes 276) (last_place s e l))
-  where
-    number_is : (n : ℕ) → n % 8 ≡ number_of (state_of n)
-    number_is n = omega arith
+number_end s e states bytes lanes l h = grind (arith, last_place)
 
 -- where a round is sent
 pub round_place : (r : ℕ) → 12 * r + 4 * (r / 69 + 1) ≡ sent_place (12 * r)
@@ -277,20 +249,16 @@ round_place r = omega arith
 
 -- the symbols of one more round
 pub sent_more : (s r : ℕ) (states bytes : List ℕ) (before symbols : List ℤ) → AreSent s states bytes (12 * r) before
-    → ((i : ℕ) → i < sent_place (12 * r) → get_or symbols i (pos 0) ≡ get_or before i (pos 0))
-    → ((p : ℕ) → p < 12
+    → ((i : ℕ) → i < sent_place (12 * r) → get_or symbols i (pos 0) ≡ get_or before i (pos 0)) → ((p : ℕ) → p < 12
     → get_or symbols (sent_place (12 * r) + p) (pos 0) ≡ symbol_of (level_at s states bytes (12 * r + p)))
     → AreSent s states bytes (12 * (r + 1)) symbols
 unfolding AreSent sent_place
-sent_more s r states bytes before symbols h kept given d l = by_cases (cases_lt d (12 * r))
-  where
-    by_cases : (d < 12 * r) ⊎ (12 * r ≤ d)
-        → get_or symbols (d + 4 * (d / 828 + 1)) (pos 0) ≡ symbol_of (level_at s states bytes d)
-    by_cases (inl k) = kept (d + 4 * (d / 828 + 1)) (omega arith) ∙ h d k
-    by_cases (inr k) =
-        subst (λ i. get_or symbols i (pos 0) ≡ symbol_of (level_at s states bytes d)) (omega arith)
-        (subst (λ n. get_or symbols (12 * r + 4 * (12 * r / 828 + 1) + (d - 12 * r)) (pos 0)
-        ≡ symbol_of (level_at s states bytes n)) (omega arith) (given (d - 12 * r) (omega arith)))
+sent_more s r states bytes before symbols h kept given d l = elim (cases_lt d (12 * r)) [
+  | inl k ↦ kept (d + 4 * (d / 828 + 1)) (omega arith) ∙ h d k
+  | inr k ↦ subst (λ i. get_or symbols i (pos 0) ≡ symbol_of (level_at s states bytes d)) (omega arith)
+      (subst (λ n. get_or symbols (12 * r + 4 * (12 * r / 828 + 1) + (d - 12 * r)) (pos 0)
+      ≡ symbol_of (level_at s states bytes n)) (omega arith) (given (d - 12 * r) (omega arith)))
+]
 
 pub none_sent : (s : ℕ) (states bytes : List ℕ) (symbols : List ℤ) → AreSent s states bytes 0 symbols
 unfolding AreSent
@@ -300,10 +268,7 @@ none_sent s states bytes symbols d l = absurd (omega arith)
 pub next_sent : (r place : ℕ) (b : Bool) → (IsTrue b ↔ ((r + 1) % 69 ≡ 0)) → place ≡ sent_place (12 * r)
     → place_behind place b ≡ sent_place (12 * (r + 1))
 unfolding sent_place
-next_sent r place b z e =
-    cond_both b 4 0 (λ n. place + 12 + n ≡ 12 * (r + 1) + 4 * (12 * (r + 1) / 828 + 1))
-    (λ t. let m : (r + 1) % 69 ≡ 0 = z.0 t in omega (arith, e))
-    (λ f. let m : (r + 1) % 69 ≢ 0 = λ n. false≢true (sym f ∙ z.1 n) in omega (arith, e))
+next_sent r place b z e = grind (arith, cond_both, false≢true)
 
 -- the symbols of a round have room
 pub round_within : (r : ℕ) → r < 276 → sent_place (12 * r) + 12 ≤ 3328
@@ -315,10 +280,7 @@ sent_next : (s r place : ℕ) (states bytes lanes : List ℕ) (before symbols : 
     → HoldsRound s states bytes r (turn s r) lanes → place ≡ sent_place (12 * r)
     → AreSent s states bytes (12 * r) before → IsStored place lanes before symbols
     → AreSent s states bytes (12 * (r + 1)) symbols
-sent_next s r place states bytes lanes before symbols g l held e sent stored =
-    sent_more s r states bytes before symbols sent (λ i m. stored.1 i (subst (λ n. i < n) (sym e) m))
-    (λ p m. ap (λ n. get_or symbols (n + p) (pos 0)) (sym e) ∙ stored.0 p m
-    ∙ ap symbol_of (round_level s r p states bytes lanes g l m held))
+sent_next s r place states bytes lanes before symbols g l held e sent stored = grind (arith, sent_more, round_level)
 
 -- what two rounds make
 pub rounds_coded : (s r place later : ℕ) (b : Bool) (states bytes lanes pairs both upper lower behind : List ℕ)
@@ -345,14 +307,7 @@ rounds_coded s r place later b states bytes lanes pairs both upper lower behind 
 pub stands_next : (s h : ℕ) (states bytes lanes : List ℕ) (symbols : List ℤ)
     → HoldsStates s states bytes (4 * h + 2 + 2) (turn s (4 * h + 2 + 1)) lanes
     × AreSent s states bytes (12 * (4 * h + 2 + 2)) symbols → StandsAt s states bytes (h + 1) lanes symbols
-stands_next s h states bytes lanes symbols coded =
-    let e : 4 * h + 2 + 2 ≡ 4 * (h + 1) = omega arith in
-    let f : 4 * h + 2 + 1 ≡ 4 * (h + 1) - 1 = omega arith in
-    record {
-      held = subst (λ t. HoldsStates s states bytes t (turn s (4 * (h + 1) - 1)) lanes) e
-          (subst (λ t. HoldsStates s states bytes (4 * h + 2 + 2) (turn s t) lanes) f coded.0);
-      sent = subst (λ t. AreSent s states bytes (12 * t) symbols) e coded.1;
-    }
+stands_next s h states bytes lanes symbols coded = grind arith
 
 -- the rounds of byte h of each coder, where it stands within segment g and doesn't begin it
 pub inside : (h g k : ℕ) → g < 4 → 17 * g < h → h < 17 * (g + 1) → k < 4

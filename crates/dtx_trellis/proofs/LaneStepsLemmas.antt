@@ -24,20 +24,15 @@ position_test : holds_below (λ p. get_or positions p 0 == turned_place p && ltb
 position_test = refl
 
 position_is : (p : ℕ) → p < 16 → (get_or positions p 0 ≡ turned_place p) × (turned_place p < 16)
-position_is p l =
-    let both = and_parts _ _ (at_below (λ p. get_or positions p 0 == turned_place p && ltb (turned_place p) 16) 16 p
-    position_test l) in
-    (eqb-true (get_or positions p 0) (turned_place p) both.0, ltb-true (turned_place p) 16 both.1)
+position_is p l = grind (arith, and_parts, at_below, position_test, eqb-true, ltb-true)
 
 pub turned_small : (p : ℕ) → p < 16 → turned_place p < 16
 turned_small p l = (position_is p l).1
 
 pub turned_at : (v : List ℕ) (p : ℕ) → length v ≡ 16 → p < 16
     → get_or (map (λ k. get_or (v ++ v) k 0) positions) p 0 ≡ get_or v (turned_place p) 0
-turned_at v p h l =
-    get_or-map (λ k. get_or (v ++ v) k 0) positions p 0 0 (omega arith)
-    ∙ ap (λ k. get_or (v ++ v) k 0) (position_is p l).0
-    ∙ get_or_append_left v v 0 (turned_place p) (omega (arith, h, turned_small p l))
+turned_at v p h l = get_or-map (λ k. get_or (v ++ v) k 0) positions p 0 0 (omega arith)
+    ∙ grind (arith, position_is, get_or_append_left, turned_small)
 
 -- an operation on two vectors, and on a vector and one number
 pub long_zip : (f : ℕ → ℕ → ℕ) (xs ys : List ℕ) → length xs ≡ 16 → length ys ≡ 16 → length (zip2 f xs ys) ≡ 16
@@ -52,9 +47,7 @@ at_zip f xs ys p h k l = get_or-zip2 f xs ys p 0 0 0 (omega arith) (omega arith)
 
 pub splat_at : (f : ℕ → ℕ → ℕ) (xs : List ℕ) (v p : ℕ) → length xs ≡ 16 → p < 16
     → get_or (zip2 f xs (replicate 16 v)) p 0 ≡ f (get_or xs p 0) v
-splat_at f xs v p h l =
-    at_zip f xs (replicate 16 v) p h (length-replicate {A = ℕ} 16 v) l
-    ∙ ap (f (get_or xs p 0)) (get_or-replicate {A = ℕ} 16 p v 0 l)
+splat_at f xs v p h l = grind (arith, at_zip, length-replicate, get_or-replicate)
 
 -- the lower four bits of a byte
 low_test : holds_below (λ x. bit_and x 15 == x % 16) 256 ≡ true
@@ -65,15 +58,12 @@ low_bits x l = eqb-true (bit_and x 15) (x % 16) (at_below (λ x. bit_and x 15 ==
 
 -- a look-up
 pub look_up_ok : (lanes : List ℕ) → AreNibbles lanes → SwzOk w8 16 16 0 lanes
-look_up_ok lanes h =
-    SwzOk-from_below w8 16 1 16 0 lanes refl (omega (arith, h.long))
+look_up_ok lanes h = SwzOk-from_below w8 16 1 16 0 lanes refl (omega (arith, h.long))
     (Each1-from_get_or (λ j. j < 16) lanes 0 (λ p l. h.small p (omega (arith, h.long))))
 
 pub looked_up_at : (table lanes : List ℕ) (p : ℕ) → AreNibbles lanes → p < 16
     → get_or (swz_l w8 16 table 0 lanes) p 0 ≡ get_or table (get_or lanes p 0) 0
-looked_up_at table lanes p h l =
-    get_or-swz_l_below w8 16 table 0 lanes p (omega (arith, h.long)) (h.small p l)
-    ∙ ap (λ i. get_or table i 0) (omega arith)
+looked_up_at table lanes p h l = grind (arith, get_or-swz_l_below)
 
 -- the tables
 both_test : holds_below (λ i. bit_xor (get_or BEHIND_PAIRS (i / 16) 0) (get_or BEHIND_LANES (i % 16) 0)
@@ -83,8 +73,7 @@ both_test = refl
 
 pub both_at : (k n : ℕ) → k < 16 → n < 16
     → bit_xor (get_or BEHIND_PAIRS n 0) (get_or BEHIND_LANES k 0) ≡ behind_both k n
-both_at k n l m =
-    sym (ap₂ (λ x y. bit_xor (get_or BEHIND_PAIRS x 0) (get_or BEHIND_LANES y 0)) upper lower)
+both_at k n l m = sym (ap₂ (λ x y. bit_xor (get_or BEHIND_PAIRS x 0) (get_or BEHIND_LANES y 0)) upper lower)
     ∙ eqb-true (bit_xor (get_or BEHIND_PAIRS ((16 * n + k) / 16) 0) (get_or BEHIND_LANES ((16 * n + k) % 16) 0))
     (behind_both ((16 * n + k) % 16) ((16 * n + k) / 16))
     (at_below (λ i. bit_xor (get_or BEHIND_PAIRS (i / 16) 0) (get_or BEHIND_LANES (i % 16) 0)
@@ -102,8 +91,7 @@ unfolding level_told
 doubled_test = refl
 
 pub doubled_at : (n : ℕ) → n < 16 → get_or DOUBLED n 0 ≡ 2 * level_told n
-doubled_at n l =
-    eqb-true (get_or DOUBLED n 0) (2 * level_told n)
+doubled_at n l = eqb-true (get_or DOUBLED n 0) (2 * level_told n)
     (at_below (λ n. get_or DOUBLED n 0 == 2 * level_told n) 16 n doubled_test l)
 
 pub level_small : (n : ℕ) → level_told n < 8
@@ -116,16 +104,14 @@ sent_lanes f g doubled = map (to_z w8) (zip2 f (map g doubled) (replicate 16 7))
 
 pub long_sent : (f : ℕ → ℕ → ℕ) (g : ℕ → ℕ) (doubled : List ℕ) → length doubled ≡ 16
     → length (sent_lanes f g doubled) ≡ 16
-long_sent f g doubled h =
-    length-map (zip2 f (map g doubled) (replicate 16 7)) (to_z w8)
+long_sent f g doubled h = length-map (zip2 f (map g doubled) (replicate 16 7)) (to_z w8)
     ∙ long_splat f (map g doubled) 7 (length-map doubled g ∙ h)
 
 pub sent_at : (f : ℕ → ℕ → ℕ) (g : ℕ → ℕ) (doubled : List ℕ) (p z : ℕ) → length doubled ≡ 16 → p < 16
     → get_or doubled p 0 ≡ 2 * z → z < 8
     → map (λ z. to_z w8 (f (g (2 * z)) 7)) (range_with_len 0 8) ≡ map symbol_of (range_with_len 0 8)
     → get_or (sent_lanes f g doubled) p (pos 0) ≡ symbol_of z
-sent_at f g doubled p z h l e m all =
-    get_or-map (to_z w8) (zip2 f (map g doubled) (replicate 16 7)) p 0 (pos 0)
+sent_at f g doubled p z h l e m all = get_or-map (to_z w8) (zip2 f (map g doubled) (replicate 16 7)) p 0 (pos 0)
     (omega (arith, long_splat f (map g doubled) 7 (length-map doubled g ∙ h)))
     ∙ ap (to_z w8) (splat_at f (map g doubled) 7 p (length-map doubled g ∙ h) l
     ∙ ap (λ x. f x 7) (get_or-map g doubled p 0 0 (omega (arith, h)) ∙ ap g e))
@@ -138,14 +124,10 @@ unfolding lane_behind
 lane_small q pair h = omega (arith, h.q1)
 
 pub state_eq : (q r : State) → q.q2 ≡ r.q2 → q.q1 ≡ r.q1 → q.q0 ≡ r.q0 → q ≡ r
-state_eq q r e f g =
-    ap (λ x. record { q2 = x; q1 = q.q1; q0 = q.q0 }) e ∙ ap (λ x. record { q2 = r.q2; q1 = x; q0 = q.q0 }) f
-    ∙ ap (λ x. record { q2 = r.q2; q1 = r.q1; q0 = x }) g
+state_eq q r e f g = grind arith
 
 number_back : (q : State) (b : ℕ) → AreBits q → state_of (8 * b + number_of q) ≡ q
-number_back q b h =
-    state_eq (state_of (8 * b + number_of q)) q (omega (arith, h.q2, h.q1, h.q0)) (omega (arith, h.q2, h.q1, h.q0))
-    (omega (arith, h.q2, h.q1, h.q0))
+number_back q b h = grind (arith, state_eq)
 
 pub state_behind : (q : State) (pair : ℕ) → AreBits q → state_of (lane_behind q pair) ≡ next_of q (pair / 2) (pair % 2)
 unfolding lane_behind
@@ -153,11 +135,7 @@ state_behind q pair h = number_back (next_of q (pair / 2) (pair % 2)) (pair % 2)
 
 level_back : (q : State) (b : ℕ) → b < 2 → AreBits q → level_told (8 * b + number_of q) ≡ 4 * q.q2 + 2 * b + q.q0
 unfolding level_told
-level_back q b l h =
-    let two : (8 * b + number_of q) / 4 % 2 ≡ q.q2 = omega (arith, h.q2, h.q1, h.q0) in
-    let one : (8 * b + number_of q) / 8 % 2 ≡ b = omega (arith, h.q2, h.q1, h.q0) in
-    let none : (8 * b + number_of q) % 2 ≡ q.q0 = omega (arith, h.q2, h.q1, h.q0) in
-    omega arith
+level_back q b l h = grind arith
 
 pub level_behind : (q : State) (pair : ℕ) → AreBits q
     → level_told (lane_behind q pair) ≡ level_of q (pair / 2) (pair % 2)
@@ -168,17 +146,8 @@ level_behind q pair h =
 -- behind the first of two pairs, and behind the second
 pub upper_both : (k n : ℕ) → behind_both k n / 16 ≡ lane_behind (state_of k) (n / 4)
 unfolding behind_both
-upper_both k n =
-    let first : ℕ = lane_behind (state_of k) (n / 4) in
-    divided first (lane_behind (state_of first) (n % 4)) (lane_small (state_of first) (n % 4) (bits_of first))
-  where
-    divided : (a b : ℕ) → b < 16 → (16 * a + b) / 16 ≡ a
-    divided a b l = omega arith
+upper_both k n = grind (arith, lane_small, bits_of)
 
-pub lower_both : (k n : ℕ)
-    → behind_both k n % 16 ≡ lane_behind (next_of (state_of k) (n / 4 / 2) (n / 4 % 2)) (n % 4)
+pub lower_both : (k n : ℕ) → behind_both k n % 16 ≡ lane_behind (next_of (state_of k) (n / 4 / 2) (n / 4 % 2)) (n % 4)
 unfolding behind_both
-lower_both k n =
-    let first : ℕ = lane_behind (state_of k) (n / 4) in
-    omega (arith, lane_small (state_of first) (n % 4) (bits_of first))
-    ∙ ap (λ q. lane_behind q (n % 4)) (state_behind (state_of k) (n / 4) (bits_of k))
+lower_both k n = grind (arith, lane_small, bits_of, state_behind)

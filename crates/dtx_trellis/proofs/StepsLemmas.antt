@@ -1,6 +1,6 @@
 -- The sums, one pair further.
-use Rattle.std.proofs.Common.{◌≡◌, ℕ, zero, suc, ◌+◌, ◌-◌, ◌*◌, ◌%◌, ◌<◌, ◌==◌, cond, List, ◌∷◌, map, length, get_or}
-use Rattle.std.proofs.Common.{take, sum, refl, sym, ap, ap₂, ◌∙◌, subst, arith}
+use Rattle.std.proofs.Common.{◌≡◌, ℕ, zero, suc, ◌+◌, ◌-◌, ◌*◌, ◌%◌, ◌<◌, ◌==◌, cond, List, map, length, get_or, sum}
+use Rattle.std.proofs.Common.{refl, sym, ap, ap₂, ◌∙◌, arith}
 use Rattle.std.specs.List.{range_with_len, sum_by}
 use Rattle.std.proofs.lemmas.List.FromFn.{sum_by-map-range_with_len_more}
 use Rattle.std.proofs.lemmas.List.Sums.{sum_by_more}
@@ -10,15 +10,11 @@ use Rattle.dtx_trellis.specs.Trellis.{State, z2, z0, alternate, level, state_aft
 -- one more a
 pub z2_next : (q : State) (a : List ℕ) (t : ℕ) → t + 1 < length a → z2 q a (t + 1) ≡ (z2 q a t + get_or a (t + 1) 0) % 2
 unfolding z2
-z2_next q a t l =
-    let e : sum (take (t + 1 + 1) a) ≡ sum (take (t + 1) a) + get_or a (t + 1) 0 = sum_by_more (λ x. x) a (t + 1) 0 l in
-    omega arith
+z2_next q a t l = grind (arith, sum_by_more)
 
 pub z2_first : (q : State) (a : List ℕ) → 0 < length a → z2 q a 0 ≡ (q.q2 + get_or a 0 0) % 2
 unfolding z2
-z2_first q a l =
-    let e : sum (take (0 + 1) a) ≡ sum (take 0 a) + get_or a 0 0 = sum_by_more (λ x. x) a 0 0 l in
-    omega arith
+z2_first q a l = grind (arith, sum_by_more)
 
 -- two more places of the alternating sum
 term : List ℕ → ℕ → ℕ → ℕ
@@ -29,16 +25,11 @@ unfolding term
 term_even b t j = ap (λ (x : ℕ). cond (x == 1) (get_or b j 0) 0) (omega arith)
 
 same_terms : (b : List ℕ) (t n : ℕ) → map (term b (t + 2)) (range_with_len 0 n) ≡ map (term b t) (range_with_len 0 n)
-same_terms b t n = go 0 n
-  where
-    go : (s n : ℕ) → map (term b (t + 2)) (range_with_len s n) ≡ map (term b t) (range_with_len s n)
-    go s zero = refl
-    go s (suc n) = ap₂ ◌∷◌ (term_even b t s) (go (s + 1) n)
+same_terms b t n = grind (arith, term, term_even)
 
 term_before : (b : List ℕ) (t : ℕ) → term b (t + 2) (t + 1) ≡ get_or b (t + 1) 0
 unfolding term
-term_before b t =
-    cond-true ((t + 2 + (t + 1)) % 2 == 1) (get_or b (t + 1) 0) 0 (eq-eqb ((t + 2 + (t + 1)) % 2) 1 (omega arith))
+term_before b t = grind (arith, cond-true, eq-eqb)
 
 term_at : (b : List ℕ) (t : ℕ) → term b (t + 2) t ≡ 0
 unfolding term
@@ -47,13 +38,11 @@ term_at b t = cond-false ((t + 2 + t) % 2 == 1) (get_or b t 0) 0 (ne_eqb ((t + 2
 pub alternate_next : (b : List ℕ) (t : ℕ) → alternate b (t + 2) ≡ get_or b (t + 1) 0 + alternate b t
 unfolding alternate term
 alternate_next b t =
-    let e : sum_by (λ x. x) (map (term b (t + 2)) (range_with_len 0 (t + 1 + 1)))
-    ≡ sum_by (λ x. x) (map (term b (t + 2)) (range_with_len 0 (t + 1))) + term b (t + 2) (t + 1) =
-    sum_by-map-range_with_len_more (λ x. x) (term b (t + 2)) 0 (t + 1) (t + 1) (omega arith) in
     let f : sum_by (λ x. x) (map (term b (t + 2)) (range_with_len 0 (t + 1)))
     ≡ sum_by (λ x. x) (map (term b (t + 2)) (range_with_len 0 t)) + term b (t + 2) t =
     sum_by-map-range_with_len_more (λ x. x) (term b (t + 2)) 0 t t (omega arith) in
-    ap (λ n. sum (map (term b (t + 2)) (range_with_len 0 n))) (two t) ∙ e
+    ap (λ n. sum (map (term b (t + 2)) (range_with_len 0 n))) (two t)
+    ∙ (sum_by-map-range_with_len_more (λ x. x) (term b (t + 2)) 0 (t + 1) (t + 1) (omega arith))
     ∙ ap₂ ◌+◌ (f ∙ ap₂ ◌+◌ (ap sum (same_terms b t t)) (term_at b t)) (term_before b t)
     ∙ swapped (sum (map (term b t) (range_with_len 0 t))) (get_or b (t + 1) 0)
   where
@@ -65,12 +54,7 @@ alternate_next b t =
 
 pub z0_next : (q : State) (b : List ℕ) (t : ℕ) → z0 q b (t + 2) ≡ (get_or b (t + 1) 0 + z0 q b t) % 2
 unfolding z0
-z0_next q b t =
-    ap₂ (λ (x y : ℕ). (cond (x == 0) q.q1 q.q0 + y) % 2) (omega arith) (alternate_next b t)
-    ∙ mod2 (cond (t % 2 == 0) q.q1 q.q0) (get_or b (t + 1) 0) (alternate b t)
-  where
-    mod2 : (c x y : ℕ) → (c + (x + y)) % 2 ≡ (x + (c + y) % 2) % 2
-    mod2 c x y = omega arith
+z0_next q b t = grind (arith, alternate_next)
 
 z0_first : (q : State) (b : List ℕ) → AreBits q → z0 q b 0 ≡ q.q1
 unfolding z0 alternate
@@ -89,10 +73,7 @@ make_eq {a} {b} {c} {d} {e} {f} p q r = ap (λ x. make x b c) p ∙ ap (λ x. ma
 after_next : (q : State) (a b : List ℕ) (u : ℕ)
     → state_after q a b (u + 1) ≡ make (z2 q a u) (z0 q b (u + 1)) (z0 q b u)
 unfolding state_after
-after_next q a b u =
-    cond-false (u + 1 == 0) q (make (z2 q a (u + 1 - 1)) (z0 q b (u + 1)) (z0 q b (u + 1 - 1)))
-    (ne_eqb (u + 1) 0 (λ e. omega arith))
-    ∙ ap (λ v. make (z2 q a v) (z0 q b (u + 1)) (z0 q b v)) (omega arith)
+after_next q a b u = grind (arith, cond-false, ne_eqb)
 
 pub after_zero : (q : State) (a b : List ℕ) → state_after q a b 0 ≡ q
 unfolding state_after
@@ -104,23 +85,19 @@ swapped x y = omega arith
 -- stepping gives the sums
 pub state_step : (q : State) (a b : List ℕ) (t : ℕ) → AreBits q → t < length a
     → state_after q a b (t + 1) ≡ next_of (state_after q a b t) (get_or a t 0) (get_or b t 0)
-state_step q a b zero h l =
-    after_next q a b 0
+state_step q a b zero h l = after_next q a b 0
     ∙ make_eq (z2_first q a l ∙ swapped q.q2 (get_or a 0 0)) (z0_second q b) (z0_first q b h)
     ∙ ap (λ s. next_of s (get_or a 0 0) (get_or b 0 0)) (sym (after_zero q a b))
 state_step q a b (suc u) h l =
     let e : suc u ≡ u + 1 = omega arith in
     rw e (after_next q a b (u + 1)
     ∙ make_eq (z2_next q a u (omega arith) ∙ swapped (z2 q a u) (get_or a (u + 1) 0)) (ap (z0 q b) (omega arith)
-    ∙ z0_next q b u) refl
-    ∙ ap (λ s. next_of s (get_or a (u + 1) 0) (get_or b (u + 1) 0)) (sym (after_next q a b u)))
+    ∙ z0_next q b u) refl ∙ ap (λ s. next_of s (get_or a (u + 1) 0) (get_or b (u + 1) 0)) (sym (after_next q a b u)))
 
 pub level_step : (q : State) (a b : List ℕ) (t : ℕ) → AreBits q → t < length a
     → level q a b t ≡ level_of (state_after q a b t) (get_or a t 0) (get_or b t 0)
 unfolding level
-level_step q a b zero h l =
-    ap₂ (λ x y. 4 * x + 2 * get_or b 0 0 + y) (z2_first q a l ∙ swapped q.q2 (get_or a 0 0)) (z0_first q b h)
-    ∙ ap (λ s. level_of s (get_or a 0 0) (get_or b 0 0)) (sym (after_zero q a b))
+level_step q a b zero h l = grind (arith, z2_first, swapped, z0_first, after_zero)
 level_step q a b (suc u) h l =
     let e : suc u ≡ u + 1 = omega arith in
     rw e (ap (λ x. 4 * x + 2 * get_or b (u + 1) 0 + z0 q b (u + 1)) (z2_next q a u (omega arith)

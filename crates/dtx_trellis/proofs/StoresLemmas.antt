@@ -10,8 +10,7 @@ use Rattle.dtx_lists.proofs.Below.{holds_below, at_below}
 
 -- the first twelve of sixteen lanes that are written from place a on
 pub stored : {X : Type 0} (z : X) (a p : ℕ) (symbols lanes : List X) → length symbols ≡ 3328 → length lanes ≡ 16
-    → a ≤ 3312 → p < 12
-    → get_or (take a symbols ++ (put_chunk 0 (take (3328 - a) (drop a symbols)) lanes
+    → a ≤ 3312 → p < 12 → get_or (take a symbols ++ (put_chunk 0 (take (3328 - a) (drop a symbols)) lanes
     ++ drop (3328 - a) (drop a symbols))) (a + p) z ≡ get_or lanes p z
 stored {X} z a p symbols lanes h k l m =
     let rest : List X = take (3328 - a) (drop a symbols) in
@@ -22,21 +21,14 @@ stored {X} z a p symbols lanes h k l m =
     let front : length (take a symbols) ≡ a = length-take-le a symbols (omega arith) in
     let room : length rest ≡ 3328 - a = ap length whole ∙ long ∙ ap (λ n. n - a) h in
     get_or-append_right (take a symbols) (put_chunk 0 rest lanes ++ behind) a (a + p) z front (omega arith)
-    ∙ ap (λ i. get_or (put_chunk 0 rest lanes ++ behind) i z) (omega arith)
-    ∙ get_or_append_left (put_chunk 0 rest lanes) behind z p (omega (arith, length-put_chunk 0 rest lanes, room))
-    ∙ ap (λ i. get_or (put_chunk 0 rest lanes) i z) (omega arith)
-    ∙ get_or-put_chunk_at 0 rest lanes p z (omega arith) (omega (arith, room))
+    ∙ grind (arith, get_or_append_left, length-put_chunk, get_or-put_chunk_at)
 
 -- sixteen lanes that are read from place 12 * h on
 pub loaded : (a p : ℕ) (bytes : List ℕ) → length bytes ≡ 828 → a < 813 → p < 16
     → get_or (take 16 (drop 0 (take (828 - a) (drop a bytes)))) p 0 ≡ get_or bytes (a + p) 0
-loaded a p bytes h k l =
-    let whole : take (828 - a) (drop a bytes) ≡ drop a bytes =
-    take_all (828 - a) (drop a bytes) (omega (arith, length-drop a bytes)) in
-    ap (λ (xs : List ℕ). get_or (take 16 (drop 0 xs)) p 0) whole
-    ∙ get_or-chunk 0 16 (drop a bytes) p 0 l
-    ∙ get_or-chunk_all (drop a bytes) p
-    ∙ get_or-drop a bytes p 0
+loaded a p bytes h k l = ap (λ (xs : List ℕ). get_or (take 16 (drop 0 xs)) p 0)
+    (take_all (828 - a) (drop a bytes) (omega (arith, length-drop a bytes))) ∙ get_or-chunk 0 16 (drop a bytes) p 0 l
+    ∙ get_or-chunk_all (drop a bytes) p ∙ get_or-drop a bytes p 0
   where
     get_or-chunk_all : (xs : List ℕ) (p : ℕ) → get_or xs (0 + p) 0 ≡ get_or xs p 0
     get_or-chunk_all xs p = let e : 0 + p ≡ p = omega arith in ap (λ i. get_or xs i 0) e
@@ -50,11 +42,8 @@ last_test = refl
 
 pub last_at : (v : List ℕ) (p : ℕ) → length v ≡ 16 → p < 12
     → get_or (map (λ k. get_or (v ++ v) k 0) lasts) p 0 ≡ get_or v (p + 4) 0
-last_at v p h l =
-    get_or-map (λ k. get_or (v ++ v) k 0) lasts p 0 0 (omega arith)
-    ∙ ap (λ k. get_or (v ++ v) k 0) (eqb-true (get_or lasts p 0) (p + 4)
-    (at_below (λ p. get_or lasts p 0 == p + 4) 12 p last_test l))
-    ∙ get_or_append_left v v 0 (p + 4) (omega arith)
+last_at v p h l = get_or-map (λ k. get_or (v ++ v) k 0) lasts p 0 0 (omega arith)
+    ∙ grind (arith, eqb-true, at_below, last_test, get_or_append_left)
 
 pub last_loaded : (p : ℕ) (bytes : List ℕ) → length bytes ≡ 828 → p < 12
     → get_or (map (λ k. get_or (chunk 0 16 (take 16 (drop 812 bytes)) ++ chunk 0 16 (take 16 (drop 812 bytes))) k 0)
@@ -68,7 +57,4 @@ last_loaded p bytes h l = at 812 (take 16 (drop 812 bytes)) refl refl
         take_all (828 - a) (drop a bytes) (omega (arith, length-drop a bytes)) in
         let long : length xs ≡ 16 = ap length (f ∙ whole) ∙ length-drop a bytes ∙ omega arith in
         let place : a + (p + 4) ≡ 816 + p = omega arith in
-        last_at (chunk 0 16 xs) p (length-chunk 0 16 xs (omega arith)) l
-        ∙ ap (λ (ys : List ℕ). get_or (chunk 0 16 ys) (p + 4) 0) f
-        ∙ loaded a (p + 4) bytes h (omega arith) (omega arith)
-        ∙ ap (λ i. get_or bytes i 0) place
+        last_at (chunk 0 16 xs) p (length-chunk 0 16 xs (omega arith)) l ∙ grind (arith, loaded)

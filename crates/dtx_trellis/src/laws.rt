@@ -12,6 +12,7 @@ use dtx_sizes::GROUP_BYTES;
 /// The first data symbols of segments 0 to 4 of a field (ATSC A/53 Part 2, the table of byte to symbol conversion). The
 /// law gives their coders, the bytes of the field from which these work, and the bits of the byte that they take. The
 /// bits are 7 and 6, 5 and 4, 3 and 2, 1 and 0, and 7 and 6 again.
+#[tactic(auto, using(crate::proofs::Rows::coders, crate::proofs::Rows::places, crate::proofs::Rows::bits))]
 pub fn first_symbols()
     ensures coders { coder_at 0 0 ∷ coder_at 0 828 ∷ coder_at 0 1656 ∷ coder_at 0 2484 ∷ coder_at
         (group_place 0 1) 0 ∷ [] ≡ 0 ∷ 4 ∷ 8 ∷ 0 ∷ 4 ∷ [] }
@@ -31,6 +32,7 @@ pub fn table()
 
 /// Byte 0x40 goes into coder 0 from state 0, with zeros behind it. The law gives its first five levels, which are the
 /// symbols -3, -5, -7, -5 and -7, and its state after the first.
+#[tactic(auto, using(crate::proofs::Rows::levels_of_byte, crate::proofs::Rows::state_of_byte))]
 pub fn one_byte()
     ensures levels { map (λ r. level_at 0 (replicate 12 0) (0x40 ∷ replicate 827 0) (12 * r)) (0 ∷ 1 ∷ 2 ∷ 3 ∷ 4 ∷ [])
         ≡ 2 ∷ 1 ∷ 0 ∷ 1 ∷ 0 ∷ [] }
@@ -38,6 +40,7 @@ pub fn one_byte()
 {}
 
 /// Stepping a coder pair by pair gives the sums over all pairs.
+#[tactic(auto, using(crate::proofs::StepsLemmas::after_zero, crate::proofs::StepsLemmas::state_step, crate::proofs::StepsLemmas::level_step))]
 pub fn steps()
     ensures first { (q : State) (a b : List ℕ) → state_after q a b 0 ≡ q }
     ensures next { (q : State) (a b : List ℕ) (t : ℕ) → AreBits q → t < length a
@@ -47,6 +50,7 @@ pub fn steps()
 {}
 
 /// The sums go on from the state after some pairs.
+#[tactic(auto, using(crate::proofs::GoesOnLemmas::state_goes_on, crate::proofs::GoesOnLemmas::level_goes_on))]
 pub fn goes_on()
     ensures states { (q : State) (a b c d : List ℕ) (t : ℕ) → AreBits q → length a ≡ length b → t ≤ length c
         → state_after q (a ++ c) (b ++ d) (length a + t) ≡ state_after (state_after q a b (length a)) c d t }

@@ -62,6 +62,7 @@ impl Twelve {
     /// Writes the data symbols of a group, each at its place behind the syncs. `first` is the place of the group's
     /// first segment in its field. The first four symbols of each segment, where the syncs stand, are unspecified. The
     /// next group goes on from the states that this one leaves.
+    #[tactic(auto, using(crate::proofs::Ends::symbols_end, crate::proofs::Ends::states_end, crate::proofs::Ends::state_small))]
     pub fn group(
         &mut self,
         first: u16,

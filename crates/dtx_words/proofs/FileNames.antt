@@ -1,10 +1,8 @@
 -- The words at the fields of files, as far as a loop has come.
-use Rattle.std.proofs.Common.{◌≡◌, ℕ, ◌+◌, ◌≤◌, ◌<◌, true, false, List, [], ◌∷◌, ◌++◌, length, map, drop}
-use Rattle.std.proofs.Common.{get_or}
-use Rattle.std.proofs.Common.{refl, sym, ap, ◌∙◌, arith, add-one, append_assoc}
-use Rattle.std.specs.Prelude.{min, nat_le}
+use Rattle.std.proofs.Common.{◌≡◌, ℕ, ◌+◌, ◌≤◌, ◌<◌, true, false, List, [], ◌∷◌, ◌++◌, length, map, drop, get_or, refl}
+use Rattle.std.proofs.Common.{ap, arith, add-one, append_assoc}
+use Rattle.std.specs.Prelude.{min}
 use Rattle.std.specs.Borrow.{Bor}
-use Rattle.std.proofs.Common.{inl, inr}
 use Rattle.std.proofs.lemmas.Bool.{cases_lt, leb-true}
 use Rattle.std.proofs.Math.Seq.{drop-cons}
 use Rattle.std.proofs.Math.ListN.{drop_of_length-le}
@@ -20,11 +18,9 @@ names_from fields words i = names_at (drop i fields) (drop i words)
 
 -- a field of a file
 pub at_file : (fields : List Field) (words : List (List ℕ)) (i : ℕ) (d : Field) (e : List ℕ) → i < length fields
-    → i < length words
-    → is_file (get_or fields i d) ≡ true
+    → i < length words → is_file (get_or fields i d) ≡ true
     → names_from fields words i ≡ get_or words i e ∷ names_from fields words (i + 1)
-at_file fields words i d e first second is =
-    rw (add-one, drop-cons fields i d first, drop-cons words i e second, is) refl
+at_file fields words i d e first second is = grind (arith, add-one, drop-cons)
 
 -- another field
 pub at_other : (fields : List Field) (words : List (List ℕ)) (i : ℕ) (d : Field) → i < length fields → i < length words
@@ -47,10 +43,7 @@ past_words fields words n within = rw (drop_of_length-le words {i = n} within) (
 -- behind the last field or word
 pub at_end : (fields : List Field) (words : List (List ℕ)) (n : ℕ) → min (length fields) (length words) ≤ n
     → names_from fields words n ≡ []
-at_end fields words n past = elim (cases_lt (length words) (length fields)) [
-  | inr h ↦ past_fields fields words n (omega arith)
-  | inl h ↦ past_words fields words n (omega arith)
-]
+at_end fields words n past = grind (arith, cases_lt, past_fields, past_words)
 
 -- the names behind references
 abbrev pub texts : List (Bor (List ℕ)) → List (List ℕ)
@@ -63,11 +56,8 @@ texts-append (name ∷ first) second = ap (λ rest. name.now ∷ rest) (texts-ap
 -- the invariant behind a field of a file
 pub names_more : (before : List (Bor (List ℕ))) (name : Bor (List ℕ)) (rest further whole : List (List ℕ))
     → rest ≡ name.now ∷ further → texts before ++ rest ≡ whole → texts (before ++ name ∷ []) ++ further ≡ whole
-names_more before name rest further whole is so_far =
-    ap (λ z. z ++ further) (texts-append before (name ∷ [])) ∙ append_assoc (texts before) (name.now ∷ []) further
-    ∙ ap (λ z. texts before ++ z) (sym is) ∙ so_far
+names_more before name rest further whole is so_far = simp (texts-append, append_assoc, ← is, so_far)
 
 -- no command has more fields than five
 pub few_fields : (command : Command) → length (row_of command).fields ≤ 5
-few_fields command = leb-true (length (row_of command).fields) 5
-    (of_every (λ c. nat_le (length (row_of c).fields) 5) refl command)
+few_fields command = grind (arith, leb-true, of_every)

@@ -3,12 +3,11 @@ use Rattle.std.specs.Prelude.{◌≡◌, ℕ, Bool, true, false, not, ◌&&◌, 
 use Rattle.std.specs.Prelude.{None, refl}
 use Rattle.std.specs.List.{find}
 use Rattle.std.specs.Str.{bytes_eq}
-use Rattle.std.proofs.Common.{sym, ap, ◌∙◌, subst}
+use Rattle.std.proofs.Common.{sym, ap, ◌∙◌, subst, arith}
 use Rattle.std.proofs.lemmas.Bool.{and_parts}
 use Rattle.std.proofs.lemmas.Slice.Eq.{bytes_eq-Decides}
 use Rattle.dtx_words.specs.declared.rows.Command.{Command}
-use Rattle.dtx_words.specs.declared.rows.Command.TheVariants.{Adapt}
-use Rattle.dtx_words.specs.declared.rows.Command.TheVariants.{DvbCode, DvbRead}
+use Rattle.dtx_words.specs.declared.rows.Command.TheVariants.{Adapt, DvbCode, DvbRead}
 use Rattle.dtx_words.specs.declared.rows.Field.{Field}
 use Rattle.dtx_words.specs.declared.rows.Field.TheVariants.{Input, Output, Number, Within, Second}
 use Rattle.dtx_words.specs.Fitting.{fits, fit_fields, command_of}
@@ -26,8 +25,7 @@ found_passes p (first ∷ rest) c is = tested (p first) refl (found_passes p res
   where
     tested : (b : Bool) → p first ≡ b → (find p rest ≡ Some c → p c ≡ true) → cond b (Some first) (find p rest) ≡ Some c
         → p c ≡ true
-    tested true passes further is =
-        let e : Some first ≡ Some c = is in let same : first ≡ c = cc in subst (λ x. p x ≡ true) same passes
+    tested true passes further is = grind arith
     tested false fails further is = further is
 
 -- where nothing is found, nothing passes
@@ -36,8 +34,7 @@ none_passes p [] is = tt
 none_passes p (first ∷ rest) is = tested (p first) refl (none_passes p rest) is
   where
     tested : (b : Bool) → p first ≡ b → (find p rest ≡ None → DoAllFail p rest)
-        → cond b (Some first) (find p rest) ≡ None
-        → DoAllFail p (first ∷ rest)
+        → cond b (Some first) (find p rest) ≡ None → DoAllFail p (first ∷ rest)
     tested true passes further is = let e : Some first ≡ None = is in cc
     tested false fails further is = (fails, further is)
 
@@ -76,8 +73,7 @@ command_named verb word = find (is_named verb word) commands
 named_by_words : (c : Command) (word : List ℕ) → opens (row_of c).fields word ≡ true
     → command_named (row_of c).verb word ≡ Some c
 unfolding command_named
-named_by_words DvbCode word is =
-    subst (λ w. command_named (codes "dvb") w ≡ Some DvbCode) (sym ((bytes_eq-Decides word (codes "code")).0 is)) refl
+named_by_words DvbCode word is = grind (arith, command_named, bytes_eq-Decides)
 named_by_words DvbRead word is =
     subst (λ w. command_named (codes "dvb") w ≡ Some DvbRead) (sym ((bytes_eq-Decides word (codes "read")).0 is)) refl
 named_by_words command word is = refl
@@ -101,25 +97,17 @@ found_fails p q (first ∷ rest) c fails is = tested (q first) (found_fails p q 
   where
     tested : (b : Bool) → (find q rest ≡ Some c → p c ≡ false) → cond b (Some first) (find q rest) ≡ Some c
         → p c ≡ false
-    tested true further is =
-        let e : Some first ≡ Some c = is in let same : first ≡ c = cc in subst (λ x. p x ≡ false) same fails.0
+    tested true further is = grind arith
     tested false further is = further is
 
 -- each command is among all
 fails_of_all : (p : Command → Bool) → DoAllFail p commands → (c : Command) → p c ≡ false
 unfolding command_named
-fails_of_all p all c =
-    let word = own_word (row_of c).fields in
-    found_fails p (is_named (row_of c).verb word) commands c all (named_by_words c word (own_opens c))
+fails_of_all p all c = grind (arith, found_fails, named_by_words, own_opens)
 
 -- a fact of every command, by one test over all of them: none fails it
 pub of_every : (test : Command → Bool) → find (λ c. not (test c)) commands ≡ None → (c : Command) → test c ≡ true
-of_every test none c =
-    passed (test c) (fails_of_all (λ d. not (test d)) (none_passes (λ d. not (test d)) commands none) c)
-  where
-    passed : (b : Bool) → not b ≡ false → b ≡ true
-    passed true e = refl
-    passed false e = let no : true ≡ false = e in cc
+of_every test none c = grind (arith, fails_of_all, none_passes)
 
 -- the first of words that fit a command is its word
 verb_is : (c : Command) (verb : List ℕ) (words : List (List ℕ)) → fits c (verb ∷ words) ≡ true → verb ≡ (row_of c).verb
@@ -129,8 +117,7 @@ verb_is c verb words fit = (bytes_eq-Decides verb (row_of c).verb).0 (and_parts 
 pub fits_only : (words : List (List ℕ)) (a b : Command) → fits a words ≡ true → fits b words ≡ true → a ≡ b
 fits_only [] a b first second = let e : false ≡ true = first in cc
 fits_only (verb ∷ words) a b first second =
-    let e : Some a ≡ Some b =
-    sym (named_by_words a (first_word words) (opens_of (row_of a).fields words (and_parts _ _ first).1))
+    let e : Some a ≡ Some b = sym (named_by_words a (first_word words) (grind (arith, opens_of, and_parts)))
     ∙ ap (λ v. command_named v (first_word words)) (sym (verb_is a verb words first) ∙ verb_is b verb words second)
     ∙ named_by_words b (first_word words) (opens_of (row_of b).fields words (and_parts _ _ second).1) in
     cc

@@ -1,6 +1,6 @@
 -- The pieces of a line, as far as a loop has come.
-use Rattle.std.proofs.Common.{◌≡◌, ℕ, ◌+◌, ◌≤◌, ◌<◌, ◌⊎◌, suc, List, [], ◌∷◌, ◌++◌, length, map, drop, get_or}
-use Rattle.std.proofs.Common.{arith, inl, inr, refl, sym, ap, ◌∙◌, add-one, append_assoc}
+use Rattle.std.proofs.Common.{◌≡◌, ℕ, ◌+◌, ◌≤◌, ◌<◌, suc, List, [], ◌∷◌, ◌++◌, length, map, drop, get_or, arith, refl}
+use Rattle.std.proofs.Common.{sym, add-one, append_assoc}
 use Rattle.std.specs.Prelude.{codes, decimal, min}
 use Rattle.std.specs.Borrow.{Bor}
 use Rattle.std.proofs.lemmas.Bool.{cases_lt}
@@ -20,11 +20,9 @@ numbered_from labels numbers i = numbered (labels_behind (drop i labels)) (drop 
 
 -- the next label and its number
 pub numbered_next : (labels : List (Bor (List ℕ))) (numbers : List ℕ) (i : ℕ) (d : Bor (List ℕ)) → i < length labels
-    → i < length numbers
-    → numbered_from labels numbers i ≡ ((get_or labels i d).now ++ decimal (get_or numbers i 0))
+    → i < length numbers → numbered_from labels numbers i ≡ ((get_or labels i d).now ++ decimal (get_or numbers i 0))
     ++ numbered_from labels numbers (i + 1)
-numbered_next labels numbers i d first second =
-    rw (add-one, drop-cons labels i d first, drop-cons numbers i 0 second)
+numbered_next labels numbers i d first second = rw (add-one, drop-cons labels i d first, drop-cons numbers i 0 second)
     (sym (append_assoc (get_or labels i d).now (decimal (get_or numbers i 0)) (numbered_from labels numbers (suc i))))
 
 numbered_none : (labels : List (List ℕ)) → numbered labels [] ≡ []
@@ -34,13 +32,7 @@ numbered_none (label ∷ labels) = refl
 -- behind the last label, or the last number
 pub numbered_end : (labels : List (Bor (List ℕ))) (numbers : List ℕ) (i : ℕ)
     → min (length labels) (length numbers) ≤ i → numbered_from labels numbers i ≡ []
-numbered_end labels numbers i past = by_cases (cases_lt i (length labels))
-  where
-    by_cases : (i < length labels) ⊎ (length labels ≤ i) → numbered_from labels numbers i ≡ []
-    by_cases (inl some) =
-        rw (drop_of_length-le numbers {i = i} (omega (arith, past, some)))
-        (numbered_none (labels_behind (drop i labels)))
-    by_cases (inr none) = rw (drop_of_length-le labels {i = i} none) refl
+numbered_end labels numbers i past = grind (arith, cases_lt, drop_of_length-le, numbered_none)
 
 -- the words from a place on
 abbrev pub verbs_from : List ℕ → List Command → ℕ → List ℕ
@@ -49,11 +41,7 @@ verbs_from before all i = verbs_behind before (drop i all)
 pub verbs_next : (before : List ℕ) (all : List Command) (i : ℕ) (d : Command) → i < length all
     → verbs_from before all i ++ codes "\n"
     ≡ (before ++ (row_of (get_or all i d)).verb) ++ (verbs_from (codes "|") all (i + 1) ++ codes "\n")
-verbs_next before all i d within =
-    rw (add-one, drop-cons all i d within)
-    (ap (λ z. z ++ codes "\n") (sym (append_assoc before (row_of (get_or all i d)).verb
-    (verbs_from (codes "|") all (suc i))))
-    ∙ append_assoc (before ++ (row_of (get_or all i d)).verb) (verbs_from (codes "|") all (suc i)) (codes "\n"))
+verbs_next before all i d within = rw (add-one, drop-cons all i d within) (rw (← append_assoc, append_assoc))
 
 -- behind the last command
 pub verbs_end : (before : List ℕ) (all : List Command) (i : ℕ) → length all ≤ i

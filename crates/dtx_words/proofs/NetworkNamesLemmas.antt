@@ -10,9 +10,7 @@ use Rattle.dtx_words.specs.NetworkNames.{log_name, symbol_name}
 between : (ending : List ℕ) (first second : ℕ) → first < 2 ^ 16 → second < 2 ^ 16
     → codes "tx-" ++ (decimal first ++ ending) ≡ codes "tx-" ++ (decimal second ++ ending) → first ≡ second
 between ending first second small small_too same =
-    decimal_injective first second (omega arith) (omega arith)
-    (append_cancel_right (decimal first) (decimal second) ending
-    (append_cancel_left (codes "tx-") (decimal first ++ ending) (decimal second ++ ending) same))
+    grind (arith, decimal_injective, append_cancel_right, append_cancel_left)
 
 pub symbols_differ : (first second : ℕ) → first < 2 ^ 16 → second < 2 ^ 16 → symbol_name first ≡ symbol_name second
     → first ≡ second
@@ -27,20 +25,13 @@ same_ending : (front other ending last : List ℕ) → length ending ≡ length 
     → ending ≡ last
 same_ending front other ending last long same =
     let lengths = ap length same in
-    let fronts : length front ≡ length other = omega (
-      arith,
-      lengths,
-      long,
-      length-append front ending,
-      length-append other last,
-    ) in
+    let fronts : length front ≡ length other = grind (arith, length-append) in
     sym (drop-append_seam front ending) ∙ ap (drop (length front)) same ∙ ap (λ n. drop n (other ++ last)) fronts
     ∙ drop-append_seam other last
 
 pub symbols_no_logs : (first second : ℕ) → symbol_name first ≡ log_name second → ⊥
 symbols_no_logs first second same =
-    let endings : codes ".sym" ≡ codes ".log" =
-    same_ending (codes "tx-" ++ decimal first) (codes "tx-" ++ decimal second) (codes ".sym")
-    (codes ".log") refl same in
-    let second_letters : 115 ≡ 108 = ap (λ text. get_or text 1 0) endings in
+    let second_letters : 115 ≡ 108 = ap (λ text. get_or text 1 0)
+    (same_ending (codes "tx-" ++ decimal first) (codes "tx-" ++ decimal second) (codes ".sym")
+    (codes ".log") refl same) in
     omega (arith, second_letters)

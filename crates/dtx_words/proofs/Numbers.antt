@@ -1,6 +1,6 @@
 -- Decimal spellings of numbers.
-use Rattle.std.proofs.Common.{◌≡◌, ◌≢◌, ℕ, zero, suc, ◌≤◌, ◌<◌, ◌^◌, ◌↔◌, Bool, true, false, ◌&&◌, cond, List, length}
-use Rattle.std.proofs.Common.{get_or, refl, sym, ap, subst, ◌∙◌, arith}
+use Rattle.std.proofs.Common.{◌≡◌, ◌≢◌, ℕ, zero, suc, ◌≤◌, ◌<◌, ◌^◌, ◌↔◌, Bool, ◌&&◌, cond, List, length, refl, sym, ap}
+use Rattle.std.proofs.Common.{◌∙◌, arith}
 use Rattle.std.specs.Prelude.{Option, Some, None, Result, Ok, Err, nat_le, decimal, slice_index}
 use Rattle.std.specs.Str.{bytes_eq}
 use Rattle.std.specs.Str.Parse.{AllDigits, digits_value, ParsesUnsigned}
@@ -24,25 +24,11 @@ at_test most word b is = ap (λ (b : Bool). cond b (Some (digits_value 10 word))
 pub number_in_spelled : (most n : ℕ) (word : List ℕ) → most < 2 ^ 64 → n ≤ most → word ≡ decimal n
     → number_in most word ≡ Some n
 number_in_spelled most n word small le is =
-    let value : digits_value 10 word ≡ n = ap (digits_value 10) is ∙ digits_value-decimal own n (omega arith) in
-    let same : word ≡ decimal (digits_value 10 word) = is ∙ ap decimal (sym value) in
-    at_test most word true (and_from _ _ ((bytes_eq-Decides word (decimal (digits_value 10 word))).1 same)
-    (le-leb (digits_value 10 word) most (omega arith))) ∙ ap Some value
+    grind (arith, digits_value-decimal, own, at_test, and_from, bytes_eq-Decides, le-leb)
 
 -- what is read as a number is its decimal spelling
 pub spelled_by : (most n : ℕ) (word : List ℕ) → number_in most word ≡ Some n → (n ≤ most) × (word ≡ decimal n)
-spelled_by most n word is = tested _ refl
-  where
-    tested : (b : Bool) → (bytes_eq word (decimal (digits_value 10 word)) && nat_le (digits_value 10 word) most) ≡ b
-        → (n ≤ most) × (word ≡ decimal n)
-    tested true t =
-        let e : Some (digits_value 10 word) ≡ Some n = sym (at_test most word true t) ∙ is in
-        let value : digits_value 10 word ≡ n = cc in
-        let h = and_parts _ _ t in (
-          omega (arith, leb-true (digits_value 10 word) most h.1),
-          (bytes_eq-Decides word (decimal (digits_value 10 word))).0 h.0 ∙ ap decimal value,
-        )
-    tested false t = let e : None ≡ Some n = sym (at_test most word false t) ∙ is in cc
+spelled_by most n word is = grind (arith, at_test, and_parts, leb-true, bytes_eq-Decides)
 
 -- what spells no number is read as none
 pub no_number : (most : ℕ) (word : List ℕ) → ((n : ℕ) → n ≤ most → word ≢ decimal n) → number_in most word ≡ None
@@ -68,41 +54,25 @@ plain_decimal n small =
   where
     only : (n : ℕ) → n < 2 ^ 64 → slice_index (decimal n) 0 ≡ 48 → length (decimal n) ≡ 1
     only zero small e = ap length (decimal_digit 0 (omega arith))
-    only (suc m) small e = let l : 48 < get_or (decimal (suc m)) 0 0 = first_decimal (suc m) (omega arith) small in
-        absurd (omega arith)
+    only (suc m) small e = grind (arith, first_decimal)
 
 -- a word that doesn't begin as a spelling does
 pub not_plain : (most : ℕ) (word : List ℕ) → most < 2 ^ 64 → ¬ BeginsPlain word → number_in most word ≡ None
-not_plain most word small h =
-    no_number most word (λ n le e. h (subst BeginsPlain (sym e) (plain_decimal n (omega arith))))
+not_plain most word small h = grind (arith, no_number, plain_decimal)
 
 -- what a word that begins so is parsed as
 pub parsed : {E : Type 0} (word : List ℕ) (n : ℕ) (r : Result ℕ E) → BeginsPlain word → ParsesUnsigned 64 10 word r
     → r ≡ Ok n → word ≡ decimal n
 parsed {E} word n r plain h is =
     let o : Result ℕ E = Ok n in
-    let p = parse_plain own {E = E} 64 word o (subst (λ (x : Result ℕ E). ParsesUnsigned 64 10 word x) is h)
-    (λ plus. absurd (omega (arith, plain.digit, plus))) in
+    let p = parse_plain own {E = E} 64 word o (grind arith) (λ plus. absurd (omega (arith, plain.digit, plus))) in
     sym (ap decimal p.1 ∙ decimal-digits_value own word p.0.0 p.0.1 plain.alone p.0.2)
 
 -- a word that begins so and is parsed as no number
 pub not_parsed : {E : Type 0} (most : ℕ) (word : List ℕ) (e : E) → most < 2 ^ 64 → BeginsPlain word
     → ParsesUnsigned {E = E} 64 10 word (Err e) → number_in most word ≡ None
-not_parsed {E} most word e small plain h =
-    let r : Result ℕ E = Err e in
-    let p = parse_plain own {E = E} 64 word r h (λ plus. absurd (omega (arith, plain.digit, plus))) in
-    no_number most word (λ n le is.
-    let numeral = decimal_is_IsNumeral n (omega arith) in
-    p (
-      subst (AllDigits 10) (sym is) numeral.0.1,
-      subst (λ w. 0 < length w) (sym is) numeral.0.0,
-      subst (λ w. digits_value 10 w < 2 ^ 64) (sym is) (omega (arith, numeral.1)),
-    ))
+not_parsed {E} most word e small plain h = grind (arith, parse_plain, own, no_number, decimal_is_IsNumeral)
 
 -- a word that is parsed as a number that is too large
 pub too_large : (most n : ℕ) (word : List ℕ) → most < n → n < 2 ^ 64 → word ≡ decimal n → number_in most word ≡ None
-too_large most n word large small is =
-    no_number most word (λ m le e.
-    let same : m ≡ n = sym (digits_value-decimal own m (omega arith)) ∙ ap (digits_value 10) (sym e ∙ is)
-    ∙ digits_value-decimal own n small in
-    absurd (omega arith))
+too_large most n word large small is = grind (arith, no_number, digits_value-decimal, own)

@@ -8,8 +8,7 @@ use Rattle.std.proofs.lemmas.Slice.{between_to_end}
 use Rattle.std.proofs.lemmas.Grind.{flat_map-append}
 use Rattle.std.proofs.lemmas.List.Concat.{flat_map-cons}
 use Rattle.std.proofs.Common.{[], append-nil}
-use Rattle.std.proofs.lemmas.List.{length-drop, length-append, take-append-le, take-append-drop}
-use Rattle.std.proofs.lemmas.List.{take_more}
+use Rattle.std.proofs.lemmas.List.{length-drop, length-append, take-append-le, take-append-drop, take_more}
 use Rattle.dtx_outside.specs.declared.sink.SinkNo.{SinkNo}
 use Rattle.dtx_outside.specs.declared.sink.SinkNo.TheVariants.{Failed, Memory}
 use Rattle.dtx_outside.specs.Sink.{IsPrinted}
@@ -24,10 +23,7 @@ printed-printed (Some before) first second = ap Some (append_assoc before first 
 -- a loop that prints what is left
 pub put_more : (bytes : List ℕ) (done n : ℕ) (w0 w1 w2 : Option (List ℕ)) → w1 ≡ printed (take done bytes) w0
     → w2 ≡ printed (take n (drop done bytes)) w1 → w2 ≡ printed (take (done + n) bytes) w0
-put_more bytes done n w0 w1 w2 first next =
-    next ∙ ap (printed (take n (drop done bytes))) first
-    ∙ printed-printed w0 (take done bytes) (take n (drop done bytes))
-    ∙ ap (λ t. printed t w0) (sym (take-add done n bytes))
+put_more bytes done n w0 w1 w2 first next = grind (arith, printed-printed, take-add)
 
 -- where such a loop is refused
 pub put_refused : (bytes rest : List ℕ) (done : ℕ) (cause : SinkNo) (w0 w1 w2 : Option (List ℕ))
@@ -62,12 +58,10 @@ pub put_all_more : (pieces : List (Bor (List ℕ))) (i : ℕ) (d : Bor (List ℕ
     → w2 ≡ printed piece w1 → w2 ≡ printed (text_of (take (i + 1) pieces)) w0
 put_all_more pieces i d piece w0 w1 w2 within is first next =
     let before = text_of (take i pieces) in
-    let all : text_of (take (i + 1) pieces) ≡ before ++ (get_or pieces i d).now =
-    ap text_of (take_more pieces i d within)
+    next ∙ ap (printed piece) first ∙ printed-printed w0 before piece ∙ ap (λ t. printed t w0) (ap (λ z. before ++ z) is
+    ∙ sym (ap text_of (take_more pieces i d within)
     ∙ flat_map-append (λ piece. piece.now) (take i pieces) (get_or pieces i d ∷ [])
-    ∙ ap (λ z. before ++ z) (append-nil (get_or pieces i d).now) in
-    next ∙ ap (printed piece) first ∙ printed-printed w0 before piece
-    ∙ ap (λ t. printed t w0) (ap (λ z. before ++ z) is ∙ sym all)
+    ∙ ap (λ z. before ++ z) (append-nil (get_or pieces i d).now)))
 
 -- the rest of a slice
 pub rest_is : (bytes : List ℕ) (done : ℕ) → take (length bytes - done) (drop done bytes) ≡ drop done bytes
@@ -78,9 +72,7 @@ pub text_of-split : (pieces : List (Bor (List ℕ))) (i : ℕ) (d : Bor (List �
     → text_of pieces ≡ text_of (take i pieces) ++ ((get_or pieces i d).now ++ text_of (drop (suc i) pieces))
 text_of-split pieces i d within =
     ap text_of (sym (take-append-drop i pieces) ∙ ap (λ z. take i pieces ++ z) (drop-cons pieces i d within))
-    ∙ flat_map-append (λ piece. piece.now) (take i pieces) (get_or pieces i d ∷ drop (suc i) pieces)
-    ∙ ap (λ z. text_of (take i pieces) ++ z) (flat_map-cons (λ piece. piece.now) (get_or pieces i d)
-    (drop (suc i) pieces))
+    ∙ grind (arith, flat_map-append, flat_map-cons)
 
 -- ---- pieces of a text
 
@@ -101,8 +93,7 @@ so_far_none text old = record { front = []; whole = refl; written = sym (printed
 
 -- the next piece was printed
 pub so_far_then : (text rest piece further : List ℕ) (w0 w1 w2 : Option (List ℕ)) → rest ≡ piece ++ further
-    → IsSoFar text rest w0 w1
-    → w2 ≡ printed piece w1 → IsSoFar text further w0 w2
+    → IsSoFar text rest w0 w1 → w2 ≡ printed piece w1 → IsSoFar text further w0 w2
 so_far_then text rest piece further w0 w1 w2 split so_far then = record {
   front = so_far.front ++ piece;
   whole = append_assoc so_far.front piece further ∙ ap (λ z. so_far.front ++ z) (sym split) ∙ so_far.whole;
@@ -114,19 +105,12 @@ pub so_far_refused : (text rest piece further : List ℕ) (cause : SinkNo) (w0 w
     → rest ≡ piece ++ further → IsSoFar text rest w0 w1
     → IsPut piece w1 (Err cause) w2 → (n : ℕ) × (n ≤ length text) × (w2 ≡ printed (take n text) w0)
 so_far_refused text rest piece further cause w0 w1 w2 split so_far put =
-    put_all_refused text so_far.front piece further cause w0 w1 w2 (sym so_far.whole
-    ∙ ap (λ z. so_far.front ++ z) split) so_far.written put
+    put_all_refused text so_far.front piece further cause w0 w1 w2 (grind arith) so_far.written put
 
 -- the same of what is left under another name
 pub so_far_as : (text rest other : List ℕ) (w0 w1 : Option (List ℕ)) → rest ≡ other → IsSoFar text rest w0 w1
     → IsSoFar text other w0 w1
-so_far_as text rest other w0 w1 same so_far =
-    record {
-      front = so_far.front;
-      whole = ap (λ z. so_far.front ++ z) (sym same)
-          ∙ so_far.whole;
-      written = so_far.written;
-    }
+so_far_as text rest other w0 w1 same so_far = grind (arith, front)
 
 -- all was printed
 pub so_far_all : (text : List ℕ) (w0 w1 : Option (List ℕ)) → IsSoFar text [] w0 w1 → w1 ≡ printed text w0
@@ -134,8 +118,7 @@ so_far_all text w0 w1 so_far = so_far.written ∙ ap (λ z. printed z w0) (sym (
 
 -- the last piece
 pub so_far_last : (text piece : List ℕ) (r : Result (Unit {0}) SinkNo) (w0 w1 w2 : Option (List ℕ))
-    → IsSoFar text piece w0 w1
-    → IsPut piece w1 r w2 → IsPut text w0 r w2
+    → IsSoFar text piece w0 w1 → IsPut piece w1 r w2 → IsPut text w0 r w2
 so_far_last text piece (Ok u) w0 w1 w2 so_far put =
     so_far_all text w0 w2 (so_far_then text piece piece [] w0 w1 w2 (sym (append-nil piece)) so_far put)
 so_far_last text piece (Err cause) w0 w1 w2 so_far put =

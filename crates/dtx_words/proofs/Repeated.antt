@@ -1,6 +1,6 @@
 -- The search for a name that equals an earlier one.
 use Rattle.std.proofs.Common.{◌≡◌, ℕ, ◌+◌, ◌<◌, suc, Bool, true, false, ◌||◌, cond, List, [], ◌∷◌, ◌++◌, length, map}
-use Rattle.std.proofs.Common.{take, drop, get_or, refl, sym, ap, ◌∙◌, add-one}
+use Rattle.std.proofs.Common.{take, drop, get_or, refl, sym, ap, ◌∙◌, add-one, arith}
 use Rattle.std.specs.Prelude.{Some}
 use Rattle.std.specs.Borrow.{Bor}
 use Rattle.std.specs.List.{list_any}
@@ -28,11 +28,7 @@ at_name : (names : List (Bor (List ℕ))) (i : ℕ) (d : Bor (List ℕ)) (b : Bo
     → repeated_after (texts (take i names)) (texts (drop i names))
     ≡ cond b (Some (get_or names i d).now) (repeated_after (texts (take i names) ++ (get_or names i d).now ∷ [])
     (texts (drop (suc i) names)))
-at_name names i d b within is =
-    ap (λ rest. repeated_after (texts (take i names)) (texts rest)) (drop-cons names i d within)
-    ∙ ap (λ (b : Bool). cond b (Some (get_or names i d).now)
-    (repeated_after (texts (take i names) ++ (get_or names i d).now ∷ []) (texts (drop (suc i) names))))
-    (list_any-texts (λ first. bytes_eq first (get_or names i d).now) (take i names) ∙ is)
+at_name names i d b within is = grind (arith, drop-cons, list_any-texts)
 
 -- a name that equals an earlier one
 pub repeated_here : (names : List (Bor (List ℕ))) (i : ℕ) (d : Bor (List ℕ)) → i < length names
@@ -45,8 +41,7 @@ pub not_repeated : (names : List (Bor (List ℕ))) (i : ℕ) (d : Bor (List ℕ)
     → list_any (λ first. bytes_eq first.now (get_or names i d).now) (take i names) ≡ false
     → repeated_after (texts (take i names)) (texts (drop i names))
     ≡ repeated_after (texts (take (i + 1) names)) (texts (drop (i + 1) names))
-not_repeated names i d within is =
-    at_name names i d false within is
+not_repeated names i d within is = at_name names i d false within is
     ∙ ap (λ earlier. repeated_after earlier (texts (drop (suc i) names)))
     (sym (texts-append (take i names) (get_or names i d ∷ [])) ∙ ap texts (sym (take_more names i d within)))
     ∙ ap (λ k. repeated_after (texts (take (i + 1) names)) (texts (drop k names))) (sym (add-one i))

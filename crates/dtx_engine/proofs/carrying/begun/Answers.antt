@@ -1,10 +1,8 @@
-use Rattle.std.proofs.Common.{ℕ, List, subst, sym}
+use Rattle.std.proofs.Common.{ℕ, List, subst, sym, arith}
 use Rattle.dtx_meaning.proofs.MeaningLemmas.{fault_of_input}
-use Rattle.dtx_meaning.specs.Meaning.{IsCarriedOut}
 use Rattle.dtx_meaning.specs.Status.{blame_of}
 use Rattle.dtx_engine.proofs.AnswersLemmas.{fault_answers}
 use Rattle.dtx_engine.specs.Made.{IsNoneOf}
-use Rattle.dtx_engine.specs.Recipe.{meaning_of_file}
 use Rattle.dtx_engine.proofs.Gone.{gone_behind}
 use Rattle.std.specs.Prelude.{Err, Some, refl}
 use Rattle.dtx_meaning.specs.Status.{outcome_of}
@@ -29,19 +27,11 @@ returns-in-Err g c = record {
 
 pub returns-in-Ok : goal.returns-in-Ok
 returns-in-Ok g c = record {
-  carried = λ apart held file told there.
-      let recipe = g.E.Engine.recipe c.args.engine.now in
-      let now = g.S.Shelf.files c.carry.new.shelf in
-      let here = subst (λ (n : List (List ℕ)). IsNoneOf c.args.place.input.name.now n) (sym c.begin.ensures.kept)
-      apart in
-      let shape = c.args.place.shape in
-      subst (λ (n : List (List ℕ)). IsCarriedOut (meaning_of_file shape recipe n file) (Some held) c.carry.result now)
-      c.begin.ensures.kept (c.carry.ensures.carried here held file (c.in-Ok.ensures.begun (Some held) told) there);
+  carried = λ apart held file told there. grind arith;
   input = c.carry.ensures.input;
   answer = c.carry.ensures.answer;
   gone = gone_behind (blame_of c.carry.result.status) (g.S.Shelf.counts c.args.shelf.now)
-      (g.S.Shelf.counts c.begin.new.shelf) (g.S.Shelf.counts c.carry.new.shelf) c.in-Ok.ensures.gone
-      c.carry.ensures.gone;
+      (g.S.Shelf.counts c.begin.new.shelf) (g.S.Shelf.counts c.carry.new.shelf) c.in-Ok.ensures.gone c.carry.ensures.gone;
   stages = λ apart held file told there.
       let place = c.args.place in
       let input = place.input.name.now in

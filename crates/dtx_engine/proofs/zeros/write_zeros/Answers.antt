@@ -1,6 +1,5 @@
-use Rattle.std.proofs.Common.{arith, subst, ◌∙◌}
+use Rattle.std.proofs.Common.{arith, ◌∙◌}
 use Rattle.dtx_outside.specs.Counts.{Nothing}
-use Rattle.dtx_engine.specs.Made.{Made}
 use Rattle.dtx_engine.proofs.Gone.{gone_behind}
 use Rattle.dtx_engine.proofs.ZeroBytes.{zeros_more, zeros_unwritten}
 use Rattle.dtx_engine.proofs.zeros.write_zeros.Goals as goal
@@ -10,11 +9,7 @@ loop-left-preserved g c =
     let before = c.loop-left.invariant in
     record {
       most = omega (arith, before.most);
-      written = λ start given gathered.
-          subst (λ (m : Made). g.W.Outlet.gathered c.write.new.self start m (g.S.Shelf.files c.write.new.shelf))
-          (zeros_more given c.min-some.result c.loop-left.left c.args.count (omega (arith, c.min-some.ensures))
-          before.most (omega (arith, c.min-some.ensures)))
-          (c.in-Ok.ensures.written start _ (before.written start given gathered));
+      written = λ start given gathered. grind (arith, zeros_more, c.min-some.ensures, c.in-Ok.ensures.written);
       kept = c.in-Ok.ensures.kept ∙ before.kept;
       gone = gone_behind Nothing (g.S.Shelf.counts c.args.shelf.now) (g.S.Shelf.counts c.loop-left.shelf)
           (g.S.Shelf.counts c.write.new.shelf) before.gone c.in-Ok.ensures.gone;

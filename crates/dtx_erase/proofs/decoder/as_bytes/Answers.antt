@@ -4,15 +4,6 @@ use Rattle.std.specs.Int.{w8, cast_signed}
 use Rattle.dtx_erase.proofs.decoder.as_bytes.Goals as goal
 
 pub returns : goal.returns
-returns c =
-    ext_get_or (pos 0) _ c.args.segment.now
+returns c = ext_get_or (pos 0) _ c.args.segment.now
     (length-map c.loop-i.bytes (λ byte. cast_signed w8 byte) ∙ c.loop-i.invariant.long ∙ sym c.told-segment)
-    (λ j l. get_or-map (λ byte. cast_signed w8 byte) c.loop-i.bytes j 0 (pos 0)
-    (omega (arith, l, length-map c.loop-i.bytes (λ byte. cast_signed w8 byte)))
-    ∙ c.loop-i.invariant.done j (omega (
-      arith,
-      l,
-      c.loop-i-test.false,
-      c.loop-i.invariant.long,
-      length-map c.loop-i.bytes (λ byte. cast_signed w8 byte),
-    )))
+    (λ j l. grind (arith, get_or-map, length-map))

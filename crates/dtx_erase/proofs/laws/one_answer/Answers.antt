@@ -1,8 +1,5 @@
-use Rattle.dtx_erase.proofs.MendingLemmas.{answers_same, answer_either}
+use Rattle.dtx_erase.proofs.MendingLemmas.{answers_same}
 use Rattle.dtx_erase.proofs.laws.one_answer.Goals as goal
 
 pub returns-clause-same : goal.returns-clause-same
 returns-clause-same c = answers_same
-
-pub returns-clause-either : goal.returns-clause-either
-returns-clause-either c = answer_either

@@ -1,8 +1,6 @@
-use Rattle.std.proofs.Common.{◌≡◌, ℕ, ℤ, ◌+◌, ◌-◌, ◌%◌, ◌<◌, ◌≤◌, List, [], ◌∷◌, ◌++◌, length, map, take, get_or, refl}
-use Rattle.std.proofs.Common.{sym, ap, subst, ◌∙◌, arith, append_assoc}
-use Rattle.std.proofs.lemmas.List.{append-nil, length-append, length-map, length-take-le, map-append, take_all}
-use Rattle.std.proofs.lemmas.List.{take_more}
-use Rattle.dtx_slice.specs.Unrolled.{precoder_bits_after}
+use Rattle.std.proofs.Common.{sym, append_assoc, ◌≡◌, ℕ, ℤ, ◌+◌, ◌-◌, ◌<◌, ◌≤◌, List, [], ◌∷◌, ◌++◌, length, map, take}
+use Rattle.std.proofs.Common.{get_or, ap, subst, ◌∙◌, arith}
+use Rattle.std.proofs.lemmas.List.{length-append, length-map, length-take-le, map-append, take_all, take_more}
 use Rattle.dtx_receiver.specs.Receiver.{AreGrouped}
 use Rattle.dtx_receiver.specs.Symbols.{symbols_in, symbols_of}
 use Rattle.dtx_erase.specs.Marks.{shown, shown_run}
@@ -23,23 +21,13 @@ more run segments i l =
 -- how many segments the run has then
 now : (run : List (List ℤ)) (segments : List (List ℕ)) (i : ℕ) → i ≤ length segments
     → length (run ++ shown_run (symbols_in (take i segments))) ≡ length run + i
-now run segments i l =
-    length-append run (shown_run (symbols_in (take i segments)))
+now run segments i l = length-append run (shown_run (symbols_in (take i segments)))
     ∙ omega (
       arith,
       length-map (symbols_in (take i segments)) (map shown),
       length-map (take i segments) symbols_of,
       length-take-le i segments l,
     )
-
-pub loop-i-init : goal.loop-i-init
-loop-i-init c = record {
-  long = refl;
-  rest = refl;
-  grouped = λ run given d e. rw (append-nil run) d;
-  held = omega (arith, ap length c.requires.none);
-  lowest = λ l z e. absurd (omega (arith, l));
-}
 
 pub loop-i-preserved : goal.loop-i-preserved
 loop-i-preserved c =
@@ -53,18 +41,14 @@ loop-i-preserved c =
       grouped = λ run given d e.
           let before = run ++ shown_run (symbols_in (take i segments)) in
           subst (λ s. AreGrouped c.take.new.self.groups s given)
-          (ap (λ y. before ++ y ∷ []) (c.as_marks.ensures ∙ ap (map shown) c.to_symbols.ensures)
-          ∙ more run segments i l)
+          (ap (λ y. before ++ y ∷ []) (c.as_marks.ensures ∙ ap (map shown) c.to_symbols.ensures) ∙ more run segments i l)
           (c.take.ensures.grouped before given (c.loop-i.invariant.grouped run given d e)
           (omega (arith, now run segments i (omega (arith, l)), e, l, c.requires.place)));
       held = omega (arith, c.take.ensures.held, c.loop-i.invariant.held);
-      lowest = λ _ z e. c.take.ensures.bits (omega (arith, z))
-          ∙ ap (precoder_bits_after (c.args.place + i - (c.args.place + i) % 4) c.loop-i.side.groups.precoder_bits) e
-          ∙ bits_zero (c.args.place + i - (c.args.place + i) % 4) c.loop-i.side.groups.precoder_bits;
+      lowest = λ _ z e. grind (arith, bits_zero, c.take.ensures.bits);
     }
 
 pub returns-clause-grouped : goal.returns-clause-grouped
 returns-clause-grouped c = λ run given d e.
     subst (λ xs. AreGrouped c.loop-i.side.groups (run ++ shown_run (symbols_in xs)) given)
-    (take_all c.loop-i.i c.args.segments.now (omega (arith, c.loop-i-test.false)))
-    (c.loop-i.invariant.grouped run given d e)
+    (grind (arith, take_all, c.loop-i-test.false)) (c.loop-i.invariant.grouped run given d e)

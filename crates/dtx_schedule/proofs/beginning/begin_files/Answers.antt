@@ -9,7 +9,7 @@ use Rattle.dtx_schedule.specs.Pair.{AreNamesOf}
 use Rattle.dtx_schedule.specs.Played.{IsBegunOf}
 use Rattle.dtx_schedule.specs.Playout.{AreNames}
 use Rattle.dtx_schedule.specs.declared.pair.FileNames.{FileNames}
-use Rattle.dtx_schedule.proofs.Begun.{all_begun, log_not_begun, next_begun, none_begun, symbols_not_begun}
+use Rattle.dtx_schedule.proofs.Begun.{log_not_begun, next_begun, symbols_not_begun}
 use Rattle.dtx_schedule.proofs.beginning.begin_files.Goals as goal
 
 none : Transmitter
@@ -23,19 +23,11 @@ record IsAt (ts : List Transmitter) (i : ℕ) (its : FileNames) : Type 0 where
 here : (ts : List Transmitter) (names : List FileNames) (i : ℕ) (its : FileNames) → AreNames ts names → i < length names
     → its ≡ get_or names i its → IsAt ts i its
 here ts names i its named within is =
-    let at_t : slice_get ts i ≡ Some (get_or ts i none) =
-    slice_get-get_or ts i none (omega (arith, within, named.long)) in
+    let at_t : slice_get ts i ≡ Some (get_or ts i none) = grind (arith, slice_get-get_or, none) in
     record {
       at_t = at_t;
-      own = named.each i (get_or ts i none) its at_t
-          (slice_get_read names (length names) i its refl within is);
+      own = named.each i (get_or ts i none) its at_t (slice_get_read names (length names) i its refl within is);
     }
-
-pub loop-its-init : goal.loop-its-init
-loop-its-init g c = record {
-  begun = λ ts named. none_begun ts (g.S.Shelf.files c.args.shelf.now);
-  gone = grind (arith, common_steps);
-}
 
 pub returns-in_err-begin-clause-begun : goal.returns-in_err-begin-clause-begun
 returns-in_err-begin-clause-begun g c = λ ts named.
@@ -47,10 +39,7 @@ returns-in_err-begin-clause-begun g c = λ ts named.
     let now = g.S.Shelf.files c.begin.new.self in
     let why = c.in_err-begin.field-0.0 in
     let p = err_from_is_err_and c.from_residual.result c.from_residual.ensures.1 in
-    subst (λ r. IsBegunOf ts start r now) (sym (p.1 ∙ ap Err p.2))
-    (symbols_not_begun ts i (get_or ts i none) start before now (Err why) is.at_t (c.loop-its.invariant.begun ts named)
-    (subst (λ n. IsBegun n before (Err why) now) (c.as_str.ensures.value
-    ∙ is.own.symbols) c.in_err-begin.ensures.files))
+    subst (λ r. IsBegunOf ts start r now) (sym (p.1 ∙ ap Err p.2)) (grind (arith, symbols_not_begun, none))
 
 pub returns-in_err-begin-2-clause-begun : goal.returns-in_err-begin-2-clause-begun
 returns-in_err-begin-2-clause-begun g c = λ ts named.
@@ -63,12 +52,7 @@ returns-in_err-begin-2-clause-begun g c = λ ts named.
     let now = g.S.Shelf.files c.begin-in-loop-its.new.self in
     let why = c.in_err-begin-2.field-0.0 in
     let p = err_from_is_err_and c.from_residual-in_err-begin-2.result c.from_residual-in_err-begin-2.ensures.1 in
-    subst (λ r. IsBegunOf ts start r now) (sym (p.1 ∙ ap Err p.2))
-    (log_not_begun ts i (get_or ts i none) start before mid now (Err why) is.at_t (c.loop-its.invariant.begun ts named)
-    (subst (λ n. IsBegun n before (Ok c.in_ok-begin.field-0) mid) (c.as_str.ensures.value
-    ∙ is.own.symbols) c.in_ok-begin.ensures.files)
-    (subst (λ n. IsBegun n mid (Err why) now) (c.as_str-in-loop-its.ensures.value
-    ∙ is.own.log) c.in_err-begin-2.ensures.files))
+    subst (λ r. IsBegunOf ts start r now) (sym (p.1 ∙ ap Err p.2)) (grind (arith, log_not_begun, none))
 
 pub loop-its-preserved : goal.loop-its-preserved
 loop-its-preserved g c = record {
@@ -80,16 +64,8 @@ loop-its-preserved g c = record {
       let mid = g.S.Shelf.files c.begin.new.self in
       let now = g.S.Shelf.files c.begin-in-loop-its.new.self in
       next_begun ts i (get_or ts i none) (g.S.Shelf.files c.args.shelf.now) before mid now is.at_t
-      (c.loop-its.invariant.begun ts named)
-      (subst (λ n. IsBegun n before (Ok c.in_ok-begin.field-0) mid) (c.as_str.ensures.value
-      ∙ is.own.symbols) c.in_ok-begin.ensures.files)
+      (c.loop-its.invariant.begun ts named) (grind (arith, c.as_str.ensures.value, c.in_ok-begin.ensures.files))
       (subst (λ n. IsBegun n mid (Ok c.in_ok-begin-2.field-0) now) (c.as_str-in-loop-its.ensures.value
       ∙ is.own.log) c.in_ok-begin-2.ensures.files);
   gone = grind (arith, common_steps);
 }
-
-pub returns-clause-begun : goal.returns-clause-begun
-returns-clause-begun g c = λ ts named.
-    let long = named.long in
-    all_begun ts c.loop-its.its-index (g.S.Shelf.files c.args.shelf.now) (g.S.Shelf.files c.loop-its.shelf)
-    (omega (arith, long, c.loop-its-test.false, c.loop-its.auto.its-index-end)) (c.loop-its.invariant.begun ts named)

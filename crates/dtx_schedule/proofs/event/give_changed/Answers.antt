@@ -1,4 +1,4 @@
-use Rattle.std.proofs.Common.{◌≡◌, ◌<◌, ◌∷◌, ◌++◌, [], List, ap, subst, ◌∙◌}
+use Rattle.std.proofs.Common.{◌<◌, ◌∷◌, ◌++◌, [], List, ap, subst, ◌∙◌}
 use Rattle.std.specs.Prelude.{Ok, Err}
 use Rattle.dtx_packets.specs.Packets.{packet_at, whole_packets}
 use Rattle.dtx_net.specs.Steps.{Step, packet_step}
@@ -15,10 +15,8 @@ returns-in-Ok-clause-done g c = λ ts held before feed there within is.
     let mid = g.S.Shelf.files c.read_one.new.shelf in
     let read = feed_read (λ feed. from < whole_packets feed → IsPacketOf feed from (Ok c.in-Ok.packet)) ts before held
     c.args.playout.now was feed there is c.in-Ok.ensures.told within in
-    let same : c.changed_by-changed.result.0 ≡ changed_packet c.args.event.now (packet_at feed from) =
-    c.changed_by-changed.ensures ∙ ap (changed_packet c.args.event.now) read in
     subst (λ p. IsDoneOf ts (before ++ packet_step who p ∷ []) held c.give.result c.give.new.self
-    (g.S.Shelf.files c.give.new.shelf)) same
+    (g.S.Shelf.files c.give.new.shelf)) (c.changed_by-changed.ensures ∙ ap (changed_packet c.args.event.now) read)
     (c.give.ensures.done ts held before (kept_on ts before held c.args.playout.now was mid c.read_one.ensures.kept is))
 
 pub returns-in-Err-clause-done : goal.returns-in-Err-clause-done

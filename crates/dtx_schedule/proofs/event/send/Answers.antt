@@ -1,4 +1,4 @@
-use Rattle.std.proofs.Common.{◌≡◌, ◌+◌, ◌-◌, ◌++◌, List, refl, ap, subst, ◌∙◌, arith}
+use Rattle.std.proofs.Common.{◌≡◌, ◌+◌, ◌-◌, ◌++◌, List, refl, subst, arith}
 use Rattle.std.proofs.lemmas.Grind.{common_steps}
 use Rattle.dtx_meaning.specs.Status.{IsFault}
 use Rattle.dtx_packets.specs.Packets.{packets_from}
@@ -16,9 +16,7 @@ returns-in-Err-clause-done g c = λ ts held before feed there within is.
     let now = g.S.Shelf.files c.send_piece.new.shelf in
     let status = c.in-Err.status in
     let all : given + (part.count - given) ≡ part.count = omega (arith, less) in
-    subst (λ (steps : List Step). IsFault status × IsUnderWay ts steps held now)
-    (piece_on before c.args.who feed part.from given (part.count - given)
-    ∙ ap (λ n. before ++ packet_steps c.args.who (packets_from feed part.from n)) all)
+    subst (λ (steps : List Step). IsFault status × IsUnderWay ts steps held now) (grind (arith, piece_on))
     (c.in-Err.ensures.done ts held so_far feed there (omega (arith, within, less))
     (c.loop-given.invariant.done ts held before feed there within is))
 
@@ -47,7 +45,6 @@ pub returns-clause-done : goal.returns-clause-done
 returns-clause-done g c = λ ts held before feed there within is.
     let part = c.args.part.now in
     let past = c.loop-given-test.false in
-    let all : c.loop-given.given ≡ part.count = omega (arith, past, c.loop-given.invariant.in_range) in
     subst (λ n. IsPlayedSoFar ts (before ++ packet_steps c.args.who (packets_from feed part.from n)) held
-    c.loop-given.playout (g.S.Shelf.files c.loop-given.shelf)) all
+    c.loop-given.playout (g.S.Shelf.files c.loop-given.shelf)) (omega (arith, past, c.loop-given.invariant.in_range))
     (c.loop-given.invariant.done ts held before feed there within is)

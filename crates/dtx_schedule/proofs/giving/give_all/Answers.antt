@@ -1,6 +1,5 @@
-use Rattle.std.proofs.Common.{◌≡◌, length, ◌+◌, ◌++◌, List, map, take, drop, refl, ap, subst, ◌∙◌, arith}
+use Rattle.std.proofs.Common.{◌≡◌, length, ◌+◌, ◌++◌, List, map, take, drop, ap, subst, ◌∙◌, arith}
 use Rattle.std.proofs.Math.Seq.{take-length}
-use Rattle.std.proofs.lemmas.Grind.{common_steps}
 use Rattle.dtx_net.specs.Steps.{Step}
 use Rattle.dtx_schedule.specs.PlayedSoFar.{IsPlayedSoFar, packet_steps}
 use Rattle.dtx_schedule.proofs.SoFar.{fault_more, packet_on, packets_rest}
@@ -16,27 +15,15 @@ returns-in-Err-clause-done g c = λ ts held before is.
     let so_far : List Step = before ++ packet_steps who (map (λ p. p.0) (take i packets)) in
     let rest : List Step = packet_steps who (map (λ p. p.0) (drop (i + 1) packets)) in
     fault_more ts _ rest (before ++ packet_steps who (map (λ p. p.0) packets)) held status now
-    (ap (λ steps. steps ++ rest) (packet_on before who packets i _ c.loop-i-test.true)
-    ∙ packets_rest before who packets (i + 1))
+    (ap (λ steps. steps ++ rest) (grind (arith, packet_on)) ∙ packets_rest before who packets (i + 1))
     (c.in-Err.ensures.done ts held so_far (c.loop-i.invariant.done ts held before is))
 
 pub loop-i-preserved : goal.loop-i-preserved
-loop-i-preserved g c = record {
-  done = λ ts held before is.
-      let who = c.args.who in
-      let so_far : List Step = before ++ packet_steps who (map (λ p. p.0) (take c.loop-i.i c.args.packets.now)) in
-      subst (λ steps. IsPlayedSoFar ts steps held c.give.new.self (g.S.Shelf.files c.give.new.shelf))
-      (packet_on before who c.args.packets.now c.loop-i.i _ c.loop-i-test.true)
-      (c.in-Ok.ensures.done ts held so_far (c.loop-i.invariant.done ts held before is));
-  there = c.in-Ok.ensures.there refl;
-  count = c.in-Ok.ensures.steps refl ∙ omega (arith, c.loop-i.invariant.count);
-  gone = grind (arith, common_steps);
-}
+loop-i-preserved g c = grind (arith, packet_on)
 
 pub returns-clause-done : goal.returns-clause-done
 returns-clause-done g c = λ ts held before is.
     let packets = c.args.packets.now in
     let all : c.loop-i.i ≡ length packets = omega (arith, c.loop-i-test.false, c.loop-i.auto.i-end) in
     subst (λ ps. IsPlayedSoFar ts (before ++ packet_steps c.args.who (map (λ p. p.0) ps)) held c.loop-i.playout
-    (g.S.Shelf.files c.loop-i.shelf))
-    (ap (λ n. take n packets) all ∙ take-length packets) (c.loop-i.invariant.done ts held before is)
+    (g.S.Shelf.files c.loop-i.shelf)) (grind (arith, take-length)) (c.loop-i.invariant.done ts held before is)

@@ -1,4 +1,4 @@
-use Rattle.std.proofs.Common.{◌≡◌, [], ◌+◌, ◌++◌, List, length, take, drop, refl, sym, ap, subst, ◌∙◌, arith}
+use Rattle.std.proofs.Common.{◌≡◌, ◌+◌, ◌++◌, List, length, take, drop, refl, ap, subst, ◌∙◌, arith}
 use Rattle.std.proofs.Math.Seq.{take-length}
 use Rattle.std.proofs.lemmas.Grind.{common_steps}
 use Rattle.dtx_packets.specs.Packets.{packets_of, whole_packets}
@@ -10,19 +10,10 @@ use Rattle.dtx_schedule.proofs.PlayoutOn.{none_given}
 use Rattle.dtx_schedule.proofs.playing.play_events.Goals as goal
 
 pub loop-i-init : goal.loop-i-init
-loop-i-init g c = record {
-  room = c.requires.room;
-  done = λ ts held feed there inside is.
-      subst (λ steps. IsPlayedSoFar ts steps held c.args.playout.now (g.S.Shelf.files c.args.shelf.now))
-      (sym (nothing_yet ts (packets_of feed))) is;
-  some = record { ts = c.requires.playing.0; steps = []; playing = c.requires.playing.1 };
-  count = omega (arith, c.requires.playing.1.count, none_given);
-  gone = grind (arith, common_steps);
-}
+loop-i-init g c = grind (arith, nothing_yet, none_given)
 
 pub play_event-requires-clause-event : goal.play_event-requires-clause-event
-play_event-requires-clause-event g c =
-    event_at c.args.events.now c.loop-i.i c.get.result c.requires.events.each c.get.ensures
+play_event-requires-clause-event g c = grind (arith, event_at)
 
 pub returns-in-Err-clause-done : goal.returns-in-Err-clause-done
 returns-in-Err-clause-done g c = λ ts held feed there inside is.
@@ -33,9 +24,7 @@ returns-in-Err-clause-done g c = λ ts held feed there inside is.
     let now = g.S.Shelf.files c.play_event.new.shelf in
     let rest : List Step = schedule ts stream (drop (i + 1) events) in
     fault_more ts (schedule ts stream (take i events) ++ steps_of ts stream c.get.result) rest
-    (schedule ts stream events) held status now
-    (ap (λ steps. steps ++ rest) (schedule_on ts stream events i c.get.result c.get.ensures)
-    ∙ schedule_rest ts stream events (i + 1))
+    (schedule ts stream events) held status now (grind (arith, schedule_on, schedule_rest))
     (c.in-Err.ensures.done ts held (schedule ts stream (take i events)) feed there
     (stays_within events (whole_packets feed) i c.get.result inside c.get.ensures)
     (c.loop-i.invariant.done ts held feed there inside is))
@@ -60,10 +49,8 @@ loop-i-preserved g c =
 
 pub returns-clause-done : goal.returns-clause-done
 returns-clause-done g c = λ ts held feed there inside is.
-    let events = c.args.events.now in
     let past = c.loop-i-test.false in
-    let all : c.loop-i.i ≡ length events = omega (arith, past, c.loop-i.auto.i-end, c.len-i-end.ensures) in
+    let all : c.loop-i.i ≡ length c.args.events.now = omega (arith, past, c.loop-i.auto.i-end, c.len-i-end.ensures) in
     subst (λ es. IsPlayedSoFar ts (schedule ts (packets_of feed) es) held c.loop-i.playout
-    (g.S.Shelf.files c.loop-i.shelf))
-    (ap (λ n. take n events) all ∙ take-length events)
+    (g.S.Shelf.files c.loop-i.shelf)) (ap (λ n. take n c.args.events.now) all ∙ take-length c.args.events.now)
     (c.loop-i.invariant.done ts held feed there inside is)

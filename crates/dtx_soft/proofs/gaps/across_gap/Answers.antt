@@ -6,9 +6,6 @@ use Rattle.dtx_soft.proofs.gaps.across_gap.Goals as goal
 pub plus-twice-requires : goal.plus-twice-requires
 plus-twice-requires g c = let w = g.met.T.Width.wide in omega (arith, ints)
 
-pub plus-requires : goal.plus-requires
-plus-requires g c = let w = g.met.T.Width.wide in omega (arith, ints)
-
 pub minus-requires : goal.minus-requires
 minus-requires g c =
     let w = g.met.T.Width.wide in
@@ -20,8 +17,7 @@ minus-requires g c =
 
 pub plus-requires-2 : goal.plus-requires-2
 plus-requires-2 g c =
-    let w = g.met.T.Width.wide in
-    let a = across_small g.T.Width.bounds c.args.units.now.scale (g.T.Width.value c.args.symbol) w
+    let a = across_small g.T.Width.bounds c.args.units.now.scale (g.T.Width.value c.args.symbol) g.met.T.Width.wide
     c.requires.units.scale c.requires.symbol in
     rw (
       c.minus.ensures,
@@ -32,18 +28,4 @@ plus-requires-2 g c =
       c.requires.odd,
       c.requires.units.four_below,
       c.requires.units.four,
-    ) (omega (arith, a, w.sums))
-
-pub returns : goal.returns
-returns g c =
-    rw (
-      c.plus-2.ensures,
-      c.minus.ensures,
-      c.lesser-near.ensures,
-      c.greater.ensures,
-      c.plus.ensures,
-      c.plus-twice.ensures,
-      c.requires.odd,
-      c.requires.units.four_below,
-      c.requires.units.four,
-    )
+    ) (omega (arith, a, g.met.T.Width.wide.sums))

@@ -1,7 +1,5 @@
-use Rattle.std.proofs.Common.{◌≡◌, ℕ, pos, ◌-◌, ◌<◌, [], get_or, replicate, ap, ◌∙◌, subst, w8, arith, rules}
-use mir.Val.{SFits}
+use Rattle.std.proofs.Common.{◌≡◌, ℕ, pos, ◌-◌, ◌<◌, get_or, replicate, ap, ◌∙◌, subst, arith}
 use Rattle.std.proofs.lemmas.List.{get_or-replicate, length-set}
-use Rattle.dtx_soft.specs.Bounds.{IsReached}
 use Rattle.dtx_soft.specs.Gaps.{AreWalked, gaps_of}
 use Rattle.dtx_soft.proofs.ColumnsLemmas.{none_walked, one_walked}
 use Rattle.dtx_soft.proofs.GapBounds.{none_bounded}
@@ -20,11 +18,7 @@ loop-t-init g c = record {
     none n other l = ap g.T.Width.value (get_or-replicate 16 n c.number-none.result other l) ∙ c.number-none.ensures
 
 pub step_lanes-requires : goal.step_lanes-requires
-step_lanes-requires g c =
-    let symbols : (n : ℕ) → n < 16 → SFits w8 (get_or (get_or c.args.rounds.now (c.loop-t.t - 1) []) n (pos 0))
-    → IsReached g.T.Width.bounds (get_or (get_or c.args.rounds.now (c.loop-t.t - 1) []) n (pos 0)) =
-    λ n l f. c.requires.symbols (c.loop-t.t - 1) n (omega arith) l f in
-    search rules
+step_lanes-requires g c = grind (arith, c.requires.symbols)
 
 pub loop-t-preserved : goal.loop-t-preserved
 loop-t-preserved g c = record {
@@ -37,7 +31,5 @@ loop-t-preserved g c = record {
 }
 
 pub returns-clause-walked : goal.returns-clause-walked
-returns-clause-walked g c other =
-    let end : c.loop-t.t ≡ 0 = omega arith in
-    subst (λ t. AreWalked c.args.scale t c.args.rounds.now (gaps_of g.T.Width.value other c.loop-t.gaps) c.loop-t.marks)
-    end (c.loop-t.invariant.walked other)
+returns-clause-walked g c other = subst (λ t. AreWalked c.args.scale t c.args.rounds.now
+    (gaps_of g.T.Width.value other c.loop-t.gaps) c.loop-t.marks) (omega arith) (c.loop-t.invariant.walked other)

@@ -45,31 +45,3 @@ plus-requires-4 g c =
     (sums_of (squares_of g.T.Width.value c.args.squares.now) (gap_of g.T.Width.value c.args.gap))).odd in
     rw (c.plus-step.ensures, c.minus-2.ensures, c.lesser-even_least.ensures, c.lesser-odd_least.ensures)
     (omega (arith, a, w.sums))
-
-pub returns : goal.returns
-returns g c = record {
-  even = rw (
-    c.plus-3.ensures,
-    c.plus-step.ensures,
-    c.minus.ensures,
-    c.lesser-even_sum.ensures,
-    c.lesser-odd_sum.ensures,
-    c.plus.ensures,
-    c.plus-2.ensures,
-    c.number-none.ensures,
-  );
-  odd = rw (
-    c.plus-4.ensures,
-    c.plus-step.ensures,
-    c.minus-2.ensures,
-    c.lesser-even_least.ensures,
-    c.lesser-odd_least.ensures,
-  );
-  across = rw (
-    c.minus-3.ensures,
-    c.lesser-odd_sum.ensures,
-    c.lesser-odd_least.ensures,
-    c.plus-2.ensures,
-    c.number-none.ensures,
-  );
-}

@@ -1,14 +1,11 @@
-use Rattle.std.proofs.Common.{◌∙◌, arith, rules}
+use Rattle.std.proofs.Common.{arith, rules}
 use mir.Syntax.{w16}
 use Rattle.std.proofs.lemmas.Int.{ints, to_z-of_z}
 use Rattle.dtx_soft.proofs.GapBounds.{odd_small}
 use Rattle.dtx_soft.proofs.gaps.odd_gap.Goals as goal
 
 pub pair_gap-requires-clause-shifted : goal.pair_gap-requires-clause-shifted
-pair_gap-requires-clause-shifted g c =
-    let w = g.met.T.Width.wide in
-    let u = c.requires.units in
-    omega (arith, ints)
+pair_gap-requires-clause-shifted g c = grind (arith, ints)
 
 pub pair_gap-requires-clause-fits : goal.pair_gap-requires-clause-fits
 pair_gap-requires-clause-fits g c =
@@ -20,14 +17,4 @@ pair_gap-requires-clause-fits g c =
       c.requires.units.two_below,
       c.requires.units.four_below,
       c.requires.units.twelve,
-    )
-    (omega (arith, a, w.sums))
-
-pub returns : goal.returns
-returns g c =
-    c.pair_gap.ensures ∙ rw (
-      to_z-of_z w16 c.args.tie (search rules),
-      c.requires.units.two_below,
-      c.requires.units.four_below,
-      c.requires.units.twelve,
-    )
+    ) (omega (arith, a, w.sums))

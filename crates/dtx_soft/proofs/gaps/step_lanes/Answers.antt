@@ -15,10 +15,8 @@ gap_before-before-requires-clause-squares g c =
     rules))) (c.requires.symbols c.loop-n.n (omega arith) (search rules))) c.differ-squares.ensures
 
 pub gap_before-before-requires-clause-bounded : goal.gap_before-before-requires-clause-bounded
-gap_before-before-requires-clause-bounded g c =
-    subst (λ gap. IsBounded g.T.Width.bounds (gap_of g.T.Width.value gap))
-    (sym (c.lane-gap.ensures c.lane-gap.result.even))
-    (subst (IsBounded g.T.Width.bounds)
+gap_before-before-requires-clause-bounded g c = subst (λ gap. IsBounded g.T.Width.bounds (gap_of g.T.Width.value gap))
+    (sym (c.lane-gap.ensures c.lane-gap.result.even)) (subst (IsBounded g.T.Width.bounds)
     (sym ((c.loop-n.invariant c.lane-gap.result.even).left c.loop-n.n (omega arith)))
     (c.requires.bounded c.loop-n.n c.lane-gap.result.even (omega arith)))
 
@@ -29,17 +27,13 @@ marks_of-requires-clause-squares g c =
     rules))) (c.requires.symbols c.loop-n.n (omega arith) (search rules))) c.differ-squares.ensures
 
 pub marks_of-requires-clause-bounded : goal.marks_of-requires-clause-bounded
-marks_of-requires-clause-bounded g c =
-    subst (λ gap. IsBounded g.T.Width.bounds (gap_of g.T.Width.value gap))
-    (sym (c.lane-gap.ensures c.lane-gap.result.even))
-    (subst (IsBounded g.T.Width.bounds)
+marks_of-requires-clause-bounded g c = subst (λ gap. IsBounded g.T.Width.bounds (gap_of g.T.Width.value gap))
+    (sym (c.lane-gap.ensures c.lane-gap.result.even)) (subst (IsBounded g.T.Width.bounds)
     (sym ((c.loop-n.invariant c.lane-gap.result.even).left c.loop-n.n (omega arith)))
     (c.requires.bounded c.loop-n.n c.lane-gap.result.even (omega arith)))
 
 pub differ-squares-requires-clause-symbol : goal.differ-squares-requires-clause-symbol
-differ-squares-requires-clause-symbol g c =
-    subst (IsReached g.T.Width.bounds) (sym (to_z-of_z w8 (get_or c.args.symbols.now c.loop-n.n (pos 0)) (search
-    rules))) (c.requires.symbols c.loop-n.n (omega arith) (search rules))
+differ-squares-requires-clause-symbol g c = grind (arith, to_z-of_z)
 
 pub loop-n-preserved : goal.loop-n-preserved
 loop-n-preserved g c other =

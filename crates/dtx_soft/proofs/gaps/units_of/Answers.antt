@@ -2,21 +2,6 @@ use Rattle.std.proofs.Common.{arith}
 use Rattle.std.proofs.lemmas.Int.{ints}
 use Rattle.dtx_soft.proofs.gaps.units_of.Goals as goal
 
-pub number-requires : goal.number-requires
-number-requires g c = let w = g.met.T.Width.wide in omega (arith, ints)
-
-pub number-requires-2 : goal.number-requires-2
-number-requires-2 g c = let w = g.met.T.Width.wide in omega (arith, ints)
-
-pub number-requires-3 : goal.number-requires-3
-number-requires-3 g c = let w = g.met.T.Width.wide in omega (arith, ints)
-
-pub number-requires-4 : goal.number-requires-4
-number-requires-4 g c = let w = g.met.T.Width.wide in omega (arith, ints)
-
-pub number-requires-5 : goal.number-requires-5
-number-requires-5 g c = let w = g.met.T.Width.wide in omega (arith, ints)
-
 pub number-requires-6 : goal.number-requires-6
 number-requires-6 g c = let w = g.met.T.Width.wide in omega (arith, ints)
 

@@ -1,4 +1,4 @@
-use Rattle.std.proofs.Common.{◌≡◌, ◌↔◌, get_or, pos, ◌∙◌, subst, w8, to_z, of_z, arith, rules}
+use Rattle.std.proofs.Common.{◌≡◌, ◌↔◌, get_or, pos, ◌∙◌, arith}
 use Rattle.std.proofs.lemmas.Int.{to_z-of_z}
 use Rattle.std.proofs.lemmas.List.{get_or-set_other, length-set}
 use Rattle.dtx_soft.specs.Near.{IsNear}
@@ -10,17 +10,11 @@ loop-n-preserved c = record {
   long = length-set c.loop-n.far c.loop-n.n c.one_more.result ∙ c.loop-n.invariant.long;
   done = λ k l. by_entry (λ k count. (count ≡ 0)
       ↔ ((get_or c.args.far.now k 0 ≡ 0) × IsNear (get_or c.args.symbols.now k (pos 0)))) c.loop-n.far c.loop-n.n
-      c.one_more.result (omega (arith, c.loop-n.invariant.long)) here k 0
-      (λ n. c.loop-n.invariant.done k (omega arith));
+      c.one_more.result (omega (arith, c.loop-n.invariant.long)) here k 0 (λ n. c.loop-n.invariant.done k (omega arith));
   left = λ k l. get_or-set_other c.loop-n.far c.loop-n.n k c.one_more.result 0 (λ e. absurd (omega arith))
       ∙ c.loop-n.invariant.left k (omega arith);
 }
   where
     here : (c.one_more.result ≡ 0)
         ↔ ((get_or c.args.far.now c.loop-n.n 0 ≡ 0) × IsNear (get_or c.args.symbols.now c.loop-n.n (pos 0)))
-    here =
-        subst (λ symbol. (c.one_more.result ≡ 0) ↔ ((get_or c.args.far.now c.loop-n.n 0 ≡ 0) × IsNear symbol))
-        (to_z-of_z w8 (get_or c.args.symbols.now c.loop-n.n (pos 0)) (search rules))
-        (subst (λ count. (c.one_more.result ≡ 0)
-        ↔ ((count ≡ 0) × IsNear (to_z w8 (of_z w8 (get_or c.args.symbols.now c.loop-n.n (pos 0))))))
-        (c.loop-n.invariant.left c.loop-n.n (omega arith)) c.one_more.ensures)
+    here = grind (arith, to_z-of_z)

@@ -14,8 +14,7 @@ loop-i-preserved c t e l m = by_segment (cases_lt t (69 * c.loop-i.i))
   where
     here : (r : ℕ) → r < 69 → get_or (get_or c.read_segment.new.rounds (69 * c.loop-i.i + r) []) e (pos 0)
         ≡ data_symbol c.args.segments.now (symbol_place 0 (69 * c.loop-i.i + r) e)
-    here r k =
-        c.read_segment.ensures.lanes r e k m
+    here r k = c.read_segment.ensures.lanes r e k m
         ∙ ap (λ k. get_or (get_or c.args.segments.now c.loop-i.i []) k (pos 0)) place
         ∙ sym (symbol_of_row c.args.segments.now c.loop-i.i (symbol_place 0 (69 * c.loop-i.i + r) e)
         (place_segment (69 * c.loop-i.i + r) e ∙ within))
@@ -35,8 +34,7 @@ loop-i-preserved c t e l m = by_segment (cases_lt t (69 * c.loop-i.i))
         ≡ data_symbol c.args.segments.now (symbol_place 0 t e)
     by_segment (inl k) =
         ap (λ round. get_or round e (pos 0)) (c.read_segment.ensures.before t k) ∙ c.loop-i.invariant t e k m
-    by_segment (inr k) =
-        subst (λ t. get_or (get_or c.read_segment.new.rounds t []) e (pos 0)
+    by_segment (inr k) = subst (λ t. get_or (get_or c.read_segment.new.rounds t []) e (pos 0)
         ≡ data_symbol c.args.segments.now (symbol_place 0 t e)) (back t k) (here (t - 69 * c.loop-i.i) (omega arith))
       where
         back : (t : ℕ) → 69 * c.loop-i.i ≤ t → 69 * c.loop-i.i + (t - 69 * c.loop-i.i) ≡ t
@@ -44,7 +42,6 @@ loop-i-preserved c t e l m = by_segment (cases_lt t (69 * c.loop-i.i))
 
 pub returns : goal.returns
 unfolding coder_symbols
-returns c e m =
-    fill_by_all (λ t. data_symbol c.args.segments.now (symbol_place 0 t e)) (column c.loop-i.rounds e)
+returns c e m = fill_by_all (λ t. data_symbol c.args.segments.now (symbol_place 0 t e)) (column c.loop-i.rounds e)
     (69 * length c.args.segments.now) (pos 0) (omega (arith, length-column c.loop-i.rounds e))
     (λ t l. symbol_in_column c.loop-i.rounds e t (omega arith) ∙ c.loop-i.invariant t e (omega arith) m)

@@ -24,10 +24,8 @@ loop-i-preserved c = record {
 
     here : (r e : ℕ) → r < 69 → e < 12
         → data_symbol (slice_set c.loop-i.segments c.loop-i.i c.write_segment.new.segment)
-        (symbol_place 0 (69 * c.loop-i.i + r) e)
-        ≡ get_or (get_or c.args.rounds.now (69 * c.loop-i.i + r) []) e (pos 0)
-    here r e k m =
-        symbol_in_row c.loop-i.segments c.loop-i.i c.write_segment.new.segment
+        (symbol_place 0 (69 * c.loop-i.i + r) e) ≡ get_or (get_or c.args.rounds.now (69 * c.loop-i.i + r) []) e (pos 0)
+    here r e k m = symbol_in_row c.loop-i.segments c.loop-i.i c.write_segment.new.segment
         (symbol_place 0 (69 * c.loop-i.i + r) e) within (place_segment (69 * c.loop-i.i + r) e ∙ segment)
         ∙ ap (λ k. get_or c.write_segment.new.segment k (pos 0)) place
         ∙ c.write_segment.ensures.symbols r ((e + 12 - 4 * (c.loop-i.i % 3)) % 12) k (omega arith)
@@ -53,8 +51,7 @@ loop-i-preserved c = record {
         ∙ c.loop-i.invariant.coders t e k m
     by_segment t e l m (inr k) =
         subst (λ t. data_symbol (slice_set c.loop-i.segments c.loop-i.i c.write_segment.new.segment) (symbol_place 0 t
-        e)
-        ≡ get_or (get_or c.args.rounds.now t []) e (pos 0)) (back t k) (here (t - 69 * c.loop-i.i) e (omega arith) m)
+        e) ≡ get_or (get_or c.args.rounds.now t []) e (pos 0)) (back t k) (here (t - 69 * c.loop-i.i) e (omega arith) m)
       where
         back : (t : ℕ) → 69 * c.loop-i.i ≤ t → 69 * c.loop-i.i + (t - 69 * c.loop-i.i) ≡ t
         back t k = omega arith

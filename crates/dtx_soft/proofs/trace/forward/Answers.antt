@@ -1,4 +1,4 @@
-use Rattle.std.proofs.Common.{◌≡◌, ℕ, ◌+◌, ◌<◌, [], get_or, length, pos, refl, sym, ap, ◌∙◌, subst, arith}
+use Rattle.std.proofs.Common.{◌≡◌, ℕ, ◌+◌, ◌<◌, [], get_or, length, pos, sym, ap, ◌∙◌, subst, arith}
 use Rattle.std.proofs.lemmas.List.{get_or-set_other, length-set}
 use Rattle.dtx_soft.specs.Gaps.{column}
 use Rattle.dtx_soft.specs.Trace.{IsNext, stand_at}
@@ -7,19 +7,7 @@ use Rattle.dtx_soft.proofs.TracesLemmas.{IsUnderWay, arrives, column-set, goes_f
 use Rattle.dtx_soft.proofs.trace.forward.Goals as goal
 
 pub loop-t-init : goal.loop-t-init
-loop-t-init c = record {
-  long = refl;
-  left = λ k l. refl;
-  under_way = λ n l. sets_out c.args.scale (column c.args.rounds.now n) _ _ (c.starts-stands.ensures n l)
-      (c.requires.walked.gaps_are n l);
-}
-
-pub trace_lanes-requires-clause-stands : goal.trace_lanes-requires-clause-stands
-trace_lanes-requires-clause-stands c n l = record {
-  q1 = (c.loop-t.invariant.under_way n l).q1;
-  q0 = (c.loop-t.invariant.under_way n l).q0;
-  cost = (let a = (c.loop-t.invariant.under_way n l).small in omega (arith, a));
-}
+loop-t-init c = grind (arith, sets_out)
 
 pub loop-t-preserved : goal.loop-t-preserved
 loop-t-preserved c = record {
@@ -43,35 +31,18 @@ loop-t-preserved c = record {
 
     symbol : (n : ℕ) → get_or (get_or c.loop-t.rounds c.loop-t.t []) n (pos 0)
         ≡ get_or (column c.args.rounds.now n) c.loop-t.t (pos 0)
-    symbol n =
-        ap (λ round. get_or round n (pos 0)) (c.loop-t.invariant.left c.loop-t.t (omega arith))
+    symbol n = ap (λ round. get_or round n (pos 0)) (c.loop-t.invariant.left c.loop-t.t (omega arith))
         ∙ sym (symbol_in_column c.args.rounds.now n c.loop-t.t (omega (arith, c.loop-t.invariant.long)))
 
     next : (n : ℕ) → n < 16 → IsNext c.args.scale (get_or (column c.args.rounds.now n) c.loop-t.t (pos 0))
         (get_or (get_or c.args.marks.now c.loop-t.t []) n 0) (stand_at c.loop-t.stands n)
         (stand_at c.trace_lanes.new.stands n) (get_or c.trace_lanes.result n (pos 0))
-    next n l =
-        subst (λ v. IsNext c.args.scale v (get_or (get_or c.args.marks.now c.loop-t.t []) n 0)
+    next n l = subst (λ v. IsNext c.args.scale v (get_or (get_or c.args.marks.now c.loop-t.t []) n 0)
         (stand_at c.loop-t.stands n) (stand_at c.trace_lanes.new.stands n) (get_or c.trace_lanes.result n (pos 0)))
         (symbol n) (c.trace_lanes.ensures n l)
 
 pub returns-clause-lanes : goal.returns-clause-lanes
-returns-clause-lanes c n l =
-    (arrives c.args.scale (column c.args.rounds.now n) (column c.loop-t.rounds n) c.loop-t.t (stand_at c.loop-t.stands
-    n)
-    (omega (arith, length-column c.args.rounds.now n, c.loop-t.invariant.long))
-    (length-column c.loop-t.rounds n ∙ c.loop-t.invariant.long ∙ sym (length-column c.args.rounds.now n))
-    (c.loop-t.invariant.under_way n l)).0
+returns-clause-lanes c n l = grind (arith, arrives, length-column)
 
 pub returns-clause-costs : goal.returns-clause-costs
-returns-clause-costs c n l =
-    (arrives c.args.scale (column c.args.rounds.now n) (column c.loop-t.rounds n) c.loop-t.t (stand_at c.loop-t.stands
-    n)
-    (omega (arith, length-column c.args.rounds.now n, c.loop-t.invariant.long))
-    (length-column c.loop-t.rounds n ∙ c.loop-t.invariant.long ∙ sym (length-column c.args.rounds.now n))
-    (c.loop-t.invariant.under_way n l)).1
-
-pub returns-clause-small : goal.returns-clause-small
-returns-clause-small c n l =
-    let small = (c.loop-t.invariant.under_way n l).small in
-    omega (arith, small, c.loop-t.invariant.long, c.loop-t-test.false)
+returns-clause-costs c n l = grind (arith, arrives, length-column)

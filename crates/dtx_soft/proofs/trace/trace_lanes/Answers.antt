@@ -36,8 +36,7 @@ loop-n-preserved c = record {
     written_fits = search rules
 
     square : c.square.result ≡ squared symbol written
-    square =
-        c.square.ensures.square ∙ ap₂ squared (to_z-of_z w8 symbol symbol_fits)
+    square = c.square.ensures.square ∙ ap₂ squared (to_z-of_z w8 symbol symbol_fits)
         (ap (λ v. to_z w16 (of_z w16 v)) (to_z-of_z w8 written written_fits)
         ∙ to_z-of_z w16 written (omega (arith, ints, written_fits)))
 

@@ -6,8 +6,7 @@ use Rattle.dtx_soft.proofs.walk.before.Goals as goal
 
 pub returns-clause-potentials : goal.returns-clause-potentials
 unfolding next_state
-returns-clause-potentials c =
-    four _
+returns-clause-potentials c = four _
     (least_lane c.args.row.now.squares c.args.behind.now 0 0 2 2 small (lit< tt) (lit< tt) (lit< tt) (lit< tt))
     (least_lane c.args.row.now.squares c.args.behind.now 0 2 2 0 small (lit< tt) (lit< tt) (lit< tt) (lit< tt))
     (least_lane c.args.row.now.squares c.args.behind.now 1 1 3 3 small (lit< tt) (lit< tt) (lit< tt) (lit< tt))

@@ -31,8 +31,7 @@ loop-t-init c = record {
   where
     at : (k : ℕ) (d : List ℕ) → k ≡ length c.args.symbols.now
         → get_or (slice_set c.args.potentials.now (length c.args.symbols.now) zeros) k d ≡ zeros
-    at k d e =
-        ap (λ i. get_or (slice_set c.args.potentials.now (length c.args.symbols.now) zeros) i d) e
+    at k d e = ap (λ i. get_or (slice_set c.args.potentials.now (length c.args.symbols.now) zeros) i d) e
         ∙ get_or-set_same c.args.potentials.now (length c.args.symbols.now) zeros d (omega (arith, c.requires.room))
 
 pub loop-t-preserved : goal.loop-t-preserved
@@ -48,37 +47,28 @@ loop-t-preserved c = record {
   bounds = λ k d l m. written_above (λ k x. k ≤ length c.args.symbols.now
       → (s : ℕ) → s < 4 → get_or x s 0 ≤ 64516 * length c.args.symbols.now)
       c.loop-t.potentials (c.loop-t.t - 1) c.before-behind.result (omega (arith, c.loop-t.invariant.long))
-      (λ k d l m. c.loop-t.invariant.bounds k d (omega arith) m)
-      (λ _ s n. (let a = small s n in omega arith)) k d l m;
+      (λ k d l m. c.loop-t.invariant.bounds k d (omega arith) m) (λ _ s n. (let a = small s n in omega arith)) k d l m;
 }
   where
     fits : SFits w8 (get_or c.args.symbols.now (c.loop-t.t - 1) (pos 0))
     fits = search rules
 
     row : AreNearest c.args.table.now.scale (get_or c.args.symbols.now (c.loop-t.t - 1) (pos 0)) c.row.result.now
-    row =
-        subst (λ v. AreNearest c.args.table.now.scale v c.row.result.now)
+    row = subst (λ v. AreNearest c.args.table.now.scale v c.row.result.now)
         (to_z-of_z w8 (get_or c.args.symbols.now (c.loop-t.t - 1) (pos 0)) fits) c.row.ensures
 
     before : ArePotentialsAt c.args.table.now.scale (drop (c.loop-t.t - 1) c.args.symbols.now) c.before-behind.result
-    before =
-        potentials_more c.args.table.now.scale c.args.symbols.now (c.loop-t.t - 1) c.loop-t.t c.row.result.now
+    before = potentials_more c.args.table.now.scale c.args.symbols.now (c.loop-t.t - 1) c.loop-t.t c.row.result.now
         c.loop-t.behind c.before-behind.result (omega arith) (omega arith) row c.loop-t.invariant.behind
         c.before-behind.ensures.potentials
 
-    small : (s : ℕ) → s < 4
-        → get_or c.before-behind.result s 0 ≤ 64516 * (length c.args.symbols.now - (c.loop-t.t - 1))
+    small : (s : ℕ) → s < 4 → get_or c.before-behind.result s 0 ≤ 64516 * (length c.args.symbols.now - (c.loop-t.t - 1))
     small s l =
         let a = cheapest_small c.args.table.now.scale (get_or c.args.symbols.now (c.loop-t.t - 1) (pos 0))
         c.row.result.now c.loop-t.behind (64516 * (length c.args.symbols.now - c.loop-t.t)) s row
         c.loop-t.invariant.bounded l in
         let b = c.before-behind.ensures.potentials s l in
         omega arith
-
-pub returns-clause-bounded : goal.returns-clause-bounded
-returns-clause-bounded c t s l m =
-    let a = c.loop-t.invariant.bounds t [] (omega arith) l s m in
-    omega arith
 
 pub returns-clause-potentials : goal.returns-clause-potentials
 returns-clause-potentials c t s l m = c.loop-t.invariant.done t [] (omega arith) l s m

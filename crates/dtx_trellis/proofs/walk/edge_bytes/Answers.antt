@@ -1,10 +1,11 @@
-use Rattle.std.proofs.Common.{◌≡◌, ℕ, ◌+◌, ◌-◌, ◌*◌, ◌/◌, ◌%◌, ◌<◌, ◌==◌, ◌↔◌, IsTrue, refl, ap, ◌∙◌, sym, subst, arith}
+use Rattle.std.proofs.Common.{◌≡◌, ℕ, ◌+◌, ◌-◌, ◌*◌, ◌/◌, ◌%◌, ◌<◌, ◌==◌, ◌↔◌, IsTrue, ap, ◌∙◌, sym, subst, arith}
+use Rattle.std.proofs.Common.{rules}
 use Rattle.std.proofs.lemmas.Bool.{eq-eqb, eqb-true}
+use Rattle.std.proofs.lemmas.Grind.{common_steps}
 use Rattle.dtx_trellis.specs.Groups.{sent_place}
 use Rattle.dtx_trellis.specs.Lanes.{place_behind, turn}
-use Rattle.dtx_trellis.proofs.LaneRoundsLemmas.{first_turn, loaded_bytes, lower_pairs, moved_bytes, moved_nibbles}
-use Rattle.dtx_trellis.proofs.LaneRoundsLemmas.{moved_states, next_sent, round_place, round_within, stands_next}
-use Rattle.dtx_trellis.proofs.LaneRoundsLemmas.{upper_pairs}
+use Rattle.dtx_trellis.proofs.LaneRoundsLemmas.{first_turn, loaded_bytes, lower_pairs, moved_bytes, moved_states}
+use Rattle.dtx_trellis.proofs.LaneRoundsLemmas.{next_sent, round_place, stands_next, upper_pairs}
 use Rattle.dtx_trellis.proofs.walk.edge_bytes.Goals as goal
 
 -- the rounds of byte h that begin a segment
@@ -15,14 +16,12 @@ third : (h : ℕ) → h < 69 → IsTrue (4 * h + 2 == 138) ↔ ((4 * h + 2) % 69
 third h l = (λ t. ap (λ n. n % 69) (eqb-true (4 * h + 2) 138 t), λ z. eq-eqb (4 * h + 2) 138 (omega arith))
 
 fourth : (h : ℕ) → h < 69 → IsTrue (4 * h + 3 == 207) ↔ ((4 * h + 2 + 1) % 69 ≡ 0)
-fourth h l =
-    (λ t. let e = eqb-true (4 * h + 3) 207 t in omega (arith, e), λ z. eq-eqb (4 * h + 3) 207 (omega arith))
+fourth h l = (λ t. let e = eqb-true (4 * h + 3) 207 t in omega (arith, e), λ z. eq-eqb (4 * h + 3) 207 (omega arith))
 
 -- where its second round is sent, and its third
 second_place : (h n : ℕ) → h < 69 → n ≡ place_behind (12 * (4 * h) + 4 * (4 * h / 69 + 1)) (4 * h + 1 == 69)
     → n ≡ sent_place (12 * (4 * h + 1))
-second_place h n l e =
-    e ∙ next_sent (4 * h) (12 * (4 * h) + 4 * (4 * h / 69 + 1)) (4 * h + 1 == 69) (second h l) (round_place (4 * h))
+second_place h n l e = grind (arith, next_sent, second, round_place)
 
 third_place : (h n m : ℕ) → h < 69 → n ≡ place_behind (12 * (4 * h) + 4 * (4 * h / 69 + 1)) (4 * h + 1 == 69)
     → m ≡ place_behind n (4 * h + 2 == 138) → m ≡ sent_place (12 * (4 * h + 2))
@@ -33,23 +32,13 @@ third_place h n m l e f =
     (subst (λ r. IsTrue (4 * h + 2 == 138) ↔ (r % 69 ≡ 0)) (sym g) (third h l)) (second_place h n l e))
 
 pub two_rounds-middle-requires-clause-place : goal.two_rounds-middle-requires-clause-place
-two_rounds-middle-requires-clause-place c =
-    let e = second_place c.args.byte _ c.requires.byte refl in
-    let l = round_within (4 * c.args.byte + 1) (omega (arith, c.requires.byte)) in
-    omega (arith, e, l)
+two_rounds-middle-requires-clause-place c = grind (arith, common_steps)
 
 pub two_rounds-requires-clause-lanes : goal.two_rounds-requires-clause-lanes
-two_rounds-requires-clause-lanes c =
-    moved_nibbles _ _ _ c.moved_on-middle.ensures c.two_rounds-middle.ensures.nibbles
+two_rounds-requires-clause-lanes c = search rules
 
 pub two_rounds-requires-clause-place : goal.two_rounds-requires-clause-place
-two_rounds-requires-clause-place c =
-    let h = c.args.byte in
-    let e = next_sent (4 * h + 2) c.next_place-later.result (4 * h + 3 == 207) (fourth h c.requires.byte)
-    (third_place h c.next_place.result c.next_place-later.result c.requires.byte c.next_place.ensures
-    c.next_place-later.ensures) in
-    let l = round_within (4 * c.args.byte + 2 + 1) (omega (arith, c.requires.byte)) in
-    omega (arith, e, l)
+two_rounds-requires-clause-place c = grind (arith, common_steps)
 
 pub returns-clause-stands : goal.returns-clause-stands
 returns-clause-stands c = λ s states in_field stands.

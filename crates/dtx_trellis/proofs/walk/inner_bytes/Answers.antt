@@ -7,8 +7,7 @@ use Rattle.dtx_trellis.proofs.LaneRoundsLemmas.{round_place, stands_next, upper_
 use Rattle.dtx_trellis.proofs.walk.inner_bytes.Goals as goal
 
 -- where the first round of byte h is sent, and the third, within segment g
-first_place : (h g : ℕ) → g < 4 → 17 * g < h → h < 17 * (g + 1)
-    → 12 * (4 * h) + 4 * (g + 1) ≡ sent_place (12 * (4 * h))
+first_place : (h g : ℕ) → g < 4 → 17 * g < h → h < 17 * (g + 1) → 12 * (4 * h) + 4 * (g + 1) ≡ sent_place (12 * (4 * h))
 first_place h g l m n = ap (λ i. 12 * (4 * h) + 4 * (i + 1)) (omega arith) ∙ round_place (4 * h)
 
 third_place : (h g : ℕ) → g < 4 → 17 * g < h → h < 17 * (g + 1)

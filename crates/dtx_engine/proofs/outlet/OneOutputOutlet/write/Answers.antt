@@ -1,9 +1,8 @@
-use Rattle.std.proofs.Common.{refl, ◌∙◌, [], ◌∷◌, ap}
+use Rattle.std.proofs.Common.{◌∙◌, [], ◌∷◌, ap}
 use Rattle.std.specs.Prelude.{Err}
 use Rattle.std.proofs.lemmas.Result.{err_from_is_err_and}
 use Rattle.dtx_engine.specs.Made.{both, joined}
 use Rattle.dtx_engine.proofs.Outlets.{one_unwritten, put_unwritten}
-use Rattle.dtx_engine.proofs.StagesLemmas.{writes_no_read}
 use Rattle.dtx_engine.proofs.outlet.OneOutputOutlet.write.Goals as goal
 
 pub returns-in_err-write-clause-written : goal.returns-in_err-write-clause-written
@@ -14,14 +13,3 @@ returns-in_err-write-clause-written g c = λ start given held.
     let p = err_from_is_err_and c.from_residual.result c.from_residual.ensures.1 in
     put_unwritten (name ∷ []) start made c.in_err-write.field-0.0 c.from_residual.result _ now (p.1 ∙ ap Err p.2)
     (one_unwritten name start made now (c.in_err-write.ensures.written start given.first held))
-
-pub returns-clause-kept : goal.returns-clause-kept
-returns-clause-kept g c = refl
-
-pub returns-in_err-write-clause-kept : goal.returns-in_err-write-clause-kept
-returns-in_err-write-clause-kept g c = refl
-
-pub returns-in_err-write-clause-writes : goal.returns-in_err-write-clause-writes
-returns-in_err-write-clause-writes g c =
-    let p = err_from_is_err_and c.from_residual.result c.from_residual.ensures.1 in
-    writes_no_read c.in_err-write.field-0.0 c.from_residual.result (p.1 ∙ ap Err p.2)

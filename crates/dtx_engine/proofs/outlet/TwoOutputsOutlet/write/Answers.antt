@@ -1,10 +1,9 @@
-use Rattle.std.proofs.Common.{refl, ◌++◌, ◌∙◌, [], ◌∷◌, ap}
+use Rattle.std.proofs.Common.{◌++◌, ◌∙◌, [], ◌∷◌, ap, arith}
 use Rattle.std.specs.Prelude.{Err}
 use Rattle.std.proofs.lemmas.Result.{err_from_is_err_and}
 use Rattle.dtx_engine.specs.Made.{both, joined}
 use Rattle.dtx_engine.proofs.Outlets.{view_first, view_after, both_written, first_unwritten, second_unwritten}
 use Rattle.dtx_engine.proofs.Outlets.{put_unwritten}
-use Rattle.dtx_engine.proofs.StagesLemmas.{writes_no_read}
 use Rattle.dtx_engine.proofs.outlet.TwoOutputsOutlet.write.Goals as goal
 
 pub returns-in_err-write-clause-written : goal.returns-in_err-write-clause-written
@@ -61,27 +60,5 @@ returns-clause-written g c = λ start given gathered.
     let more = c.in_ok-write.ensures.written _ _
     (view_first one other start given w.first_output w.second_output before apart is) in
     let last = c.in_ok-write-2.ensures.written _ _ (view_after one other start (given.first ++ m) c.write.new.self
-    given.second is.other_front w.second_output between apart is.second more) in (
-      apart,
-      both_written one other start given is.other_front m n c.write.new.self c.write-2.new.self between now more
-          last,
-    )
-
-pub returns-clause-kept : goal.returns-clause-kept
-returns-clause-kept g c = refl
-
-pub returns-in_err-write-clause-kept : goal.returns-in_err-write-clause-kept
-returns-in_err-write-clause-kept g c = refl
-
-pub returns-in_err-write-2-clause-kept : goal.returns-in_err-write-2-clause-kept
-returns-in_err-write-2-clause-kept g c = refl
-
-pub returns-in_err-write-clause-writes : goal.returns-in_err-write-clause-writes
-returns-in_err-write-clause-writes g c =
-    let p = err_from_is_err_and c.from_residual.result c.from_residual.ensures.1 in
-    writes_no_read c.in_err-write.field-0.0 c.from_residual.result (p.1 ∙ ap Err p.2)
-
-pub returns-in_err-write-2-clause-writes : goal.returns-in_err-write-2-clause-writes
-returns-in_err-write-2-clause-writes g c =
-    let p = err_from_is_err_and c.from_residual-in_err-write-2.result c.from_residual-in_err-write-2.ensures.1 in
-    writes_no_read c.in_err-write-2.field-0.0 c.from_residual-in_err-write-2.result (p.1 ∙ ap Err p.2)
+    given.second is.other_front w.second_output between apart is.second more) in
+    (grind (arith, both_written))

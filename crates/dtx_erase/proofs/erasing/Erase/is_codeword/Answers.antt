@@ -8,10 +8,9 @@ use Rattle.dtx_erase.proofs.erasing.Erase.is_codeword.Goals as goal
 
 pub returns : goal.returns
 returns g c =
-    let again = c.encoded_again in
     let same : Decides c.eq.result (c.encoded_again.result ≡ c.args.word.now) =
     slice_eq-Decides Decides-eqb c.encoded_again.result c.args.word.now c.eq.result c.eq.ensures in (
-      λ h. subst (IsCodeword g.row.N g.row.K) (same.0 h) again.ensures.codeword,
-      λ h. same.1 (one_codeword g.row.N g.row.K again.result c.args.word.now c.args.self.now.code.short
-          again.ensures.codeword h again.ensures.begins),
+      λ h. subst (IsCodeword g.row.N g.row.K) (same.0 h) c.encoded_again.ensures.codeword,
+      λ h. same.1 (one_codeword g.row.N g.row.K c.encoded_again.result c.args.word.now c.args.self.now.code.short
+          c.encoded_again.ensures.codeword h c.encoded_again.ensures.begins),
     )

@@ -1,5 +1,3 @@
-use Rattle.std.proofs.Common.{◌≢◌, ℕ, ◌<◌, List, negsuc, length, get_or, subst}
-use Rattle.std.specs.Int.{w8, cast_signed}
 use Rattle.dtx_erase.proofs.Quiet.{none_missing, none_set}
 use Rattle.dtx_erase.proofs.mark_side.MarkSide.stays_quiet.Goals as goal
 

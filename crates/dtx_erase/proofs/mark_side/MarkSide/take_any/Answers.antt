@@ -1,4 +1,4 @@
-use Rattle.std.proofs.Common.{◌*◌, ◌++◌, ◌∙◌, sym, ap, subst, take, drop}
+use Rattle.std.proofs.Common.{◌*◌, ◌++◌, ◌∙◌, sym, ap, subst, take, drop, arith}
 use Rattle.dtx_laws.specs.Branches.{after_all}
 use Rattle.dtx_receiver.specs.Bytes.{bytes_in}
 use Rattle.dtx_receiver.specs.Receiver.{Grouping}
@@ -6,7 +6,6 @@ use Rattle.dtx_receiver.specs.Symbols.{symbols_in}
 use Rattle.dtx_receiver.proofs.GroupedLemmas.{flat, grouped_none}
 use Rattle.dtx_erase.specs.Marks.{shown_run}
 use Rattle.dtx_erase.specs.Sides.{Side, Holds, IsFurther}
-use Rattle.dtx_erase.proofs.Gathered.{Passed}
 use Rattle.dtx_erase.proofs.Quiet.{known_more}
 use Rattle.dtx_erase.proofs.Stands.{held_passed, further_held}
 use Rattle.dtx_erase.proofs.mark_side.MarkSide.take_any.Goals as goal
@@ -19,8 +18,7 @@ invariant_of-self c =
       known_more old c.pass.new.self c.self.inside.quiet c.is_blank-blank.result c.is_over-self-inside.result
           c.self.inside.zeros laid.result c.counted-zeros.result
           (take (828 * laid.result) (drop 156 laid.new.self.gathered)) c.self.invariant.0
-          (ap (λ (g : Grouping). g.held) groups)
-          (c.pass.ensures.branches
+          (ap (λ (g : Grouping). g.held) groups) (c.pass.ensures.branches
           ∙ ap (λ (k : Side). after_all 52 k.branches (take (828 * laid.result) (drop 156 laid.new.self.gathered)))
           (laid.ensures.side) ∙ ap (λ (k : Side). after_all 52 k.branches (take (828 * laid.result)
           (drop 156 laid.new.self.gathered))) c.take_marks.ensures.rest)
@@ -44,12 +42,4 @@ returns c = λ run d e.
     let laid = c.lay_out-count in
     let held = c.take_marks.ensures.grouped run (bytes_in run) (grouped_none old.groups run here.levels here.none) e in
     subst (λ n. IsFurther c.pass.new.self n run (run ++ shown_run (symbols_in c.args.segments.now)))
-    (laid.ensures.count ∙ c.take_marks.ensures.held)
-    (further_held old c.pass.new.self c.take_marks.new.side.groups laid.result run
-    (run ++ shown_run (symbols_in c.args.segments.now)) here held
-    (c.pass.ensures.groups ∙ ap (λ (k : Side). k.groups) laid.ensures.side)
-    (subst (λ (k : Side). Passed k.branches c.pass.new.self.branches k.begun c.pass.new.self.gathered
-    c.pass.new.self.begun laid.result (flat c.take_marks.new.side.groups.held)) c.take_marks.ensures.rest
-    (held_passed c.take_marks.new.side laid.new.self c.pass.new.self laid.result
-    laid.ensures.begun laid.ensures.most laid.ensures.side laid.ensures.bytes laid.ensures.long c.pass.ensures.branches
-    c.pass.ensures.gathered c.pass.ensures.begun)))
+    (laid.ensures.count ∙ c.take_marks.ensures.held) (grind (arith, further_held, flat, held_passed))

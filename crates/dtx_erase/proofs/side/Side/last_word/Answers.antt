@@ -1,4 +1,4 @@
-use Rattle.std.proofs.Common.{ℕ, ◌++◌, List, ◌∙◌, sym, ap, subst, replicate}
+use Rattle.std.proofs.Common.{ℕ, sym, subst, replicate, arith}
 use Rattle.std.proofs.lemmas.List.{length-replicate}
 use Rattle.dtx_receiver.specs.Bytes.{groups_of, bytes_in}
 use Rattle.dtx_erase.specs.Sides.{Side, Holds}
@@ -12,5 +12,4 @@ returns-clause-word c = λ run k d e z.
     let kept = side old.groups old.gather old.begun old.gathered in
     let here : Holds kept run = subst (λ (k : Side). Holds k run) (sym c.self.view_is) d in
     gathers_last kept.branches kept.begun (groups_of run) k (bytes_in run) (replicate {A = ℕ} 51 0) c.join.new.out
-    here.gathers c.self.told.0 (length-replicate {A = ℕ} 51 0) e z
-    (c.join.ensures ∙ ap (λ (xs : List ℕ). kept.begun ++ xs) c.gather.ensures.bytes)
+    here.gathers c.self.told.0 (length-replicate {A = ℕ} 51 0) e z (grind arith)

@@ -1,7 +1,5 @@
-use Rattle.std.proofs.Common.{◌≡◌, ℕ, ◌+◌, ◌-◌, ◌*◌, ◌++◌, ◌∙◌, List, length, take, drop, ap, ap₂, arith}
+use Rattle.std.proofs.Common.{◌≡◌, ◌+◌, ◌-◌, ◌*◌, ◌∙◌, length, ap, arith}
 use borrow.Rule.Slice.PartMut.{post_of}
-use Rattle.dtx_laws.specs.Branches.{leaving_all}
-use Rattle.dtx_erase.specs.Sides.{Side}
 use Rattle.dtx_erase.proofs.Gathered.{passed_through}
 use Rattle.dtx_erase.proofs.side.Side.pass.Goals as goal
 
@@ -12,8 +10,4 @@ returns-clause-gathered c =
     passed_through c.copy_from_slice.new.self old.gathered c.gather.new.bytes
     (post_of 156 (156 + 828 * c.args.count - 156) old.gathered) (828 * c.args.count)
     (omega (arith, ap length c.copy_from_slice.ensures.after, c.self.told.0)) (omega (arith, c.self.told.1))
-    (omega (arith, c.gather.auto.bytes, c.self.told.1, c.requires, same))
-    ∙ ap₂ (λ (us ys : List ℕ). us ++ ys) c.copy_from_slice.ensures.after
-    (c.gather.ensures.bytes ∙ ap (λ n. leaving_all 52 old.gather (take n (drop 156 old.gathered))) same)
-    ∙ ap (λ (k : Side). k.begun ++ leaving_all 52 k.branches (take (828 * c.args.count) (drop 156 k.gathered)))
-    c.self.view_is
+    (omega (arith, c.gather.auto.bytes, c.self.told.1, c.requires, same)) ∙ grind arith

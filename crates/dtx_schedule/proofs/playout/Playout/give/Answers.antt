@@ -8,10 +8,9 @@ use Rattle.dtx_schedule.proofs.playout.Playout.give.Goals as goal
 
 pub write-requires-clause-within : goal.write-requires-clause-within
 write-requires-clause-within g c =
-    let there = c.requires.there in
-    let playing = c.take-count.ensures.playing there.ts there.steps there.playing in
+    let playing = c.take-count.ensures.playing c.requires.there.ts c.requires.there.steps c.requires.there.playing in
     let long = playing.names.long in
-    omega (arith, long, there.within)
+    omega (arith, long, c.requires.there.within)
 
 pub returns-in_err-write-clause-done : goal.returns-in_err-write-clause-done
 returns-in_err-write-clause-done g c = λ ts held before is.
@@ -20,9 +19,7 @@ returns-in_err-write-clause-done g c = λ ts held before is.
     let now = g.S.Shelf.files c.write.new.shelf in
     let p = err_from_is_err_and c.from_residual.result c.from_residual.ensures.1 in
     subst (λ r. IsDoneOf ts (before ++ step ∷ []) held r c.take-count.new.self now) (sym (p.1 ∙ ap Err p.2))
-    (unwritten ts (before ++ step ∷ []) held c.take-count.new.self now c.in_err-write.field-0.0
-    (c.in_err-write.ensures.written ts held before step refl after.transmitters after.names
-    (c.take-count.ensures.brings ts before is.playing) is.files))
+    (grind (arith, unwritten))
 
 pub returns-clause-done : goal.returns-clause-done
 returns-clause-done g c = λ ts held before is.
@@ -36,10 +33,9 @@ returns-clause-done g c = λ ts held before is.
 
 pub returns-clause-there : goal.returns-clause-there
 returns-clause-there g c = λ _.
-    let there = c.requires.there in
     record {
-      ts = there.ts;
-      steps = there.steps ++ packet_step c.args.who c.args.packet.now.0 ∷ [];
-      playing = c.take-count.ensures.playing there.ts there.steps there.playing;
-      within = there.within;
+      ts = c.requires.there.ts;
+      steps = c.requires.there.steps ++ packet_step c.args.who c.args.packet.now.0 ∷ [];
+      playing = c.take-count.ensures.playing c.requires.there.ts c.requires.there.steps c.requires.there.playing;
+      within = c.requires.there.within;
     }

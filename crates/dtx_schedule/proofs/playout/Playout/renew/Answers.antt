@@ -1,7 +1,6 @@
-use Rattle.std.proofs.Common.{◌<◌, ◌∷◌, [], length, sym, ap, ◌∙◌, arith}
+use Rattle.std.proofs.Common.{sym, ◌∙◌, arith}
 use Rattle.std.proofs.lemmas.List.{get_or_default}
 use Rattle.dtx_exciter.specs.Log.{restart}
-use Rattle.dtx_files.specs.LogText.{log_text}
 use Rattle.dtx_schedule.proofs.PlayoutOn.{given_restart, sent_restarted, restart_brings}
 use Rattle.dtx_schedule.proofs.playout.Playout.renew.Goals as goal
 
@@ -16,10 +15,4 @@ returns-clause-playing c = λ ts steps s. record {
 }
 
 pub returns-clause-brings : goal.returns-clause-brings
-returns-clause-brings c = λ ts steps s.
-    let sent = c.args.self.now.sent.items in
-    let there = c.requires.there in
-    let within : c.args.who < length sent = let long = there.playing.sent.long in omega (arith, there.within, long) in
-    restart_brings ts steps c.args.who sent c.write_restart.new.text.bytes s.sent
-    (c.write_restart.ensures ∙ ap (λ n. log_text (restart n ∷ [])) (c.index.ensures
-    ∙ get_or_default sent c.args.who c.index.result.now 0 within))
+returns-clause-brings c = grind (arith, restart_brings, get_or_default)

@@ -1,4 +1,4 @@
-use Rattle.std.proofs.Common.{◌<◌, ◌≡◌, ℕ, List, pos, get_or, length, take, refl, ap, subst, ◌∙◌, arith}
+use Rattle.std.proofs.Common.{◌<◌, ◌≡◌, ℕ, List, pos, get_or, length, take, refl, ap, ◌∙◌, arith}
 use Rattle.std.specs.Prelude.{Option, Some, Result, slice_get}
 use Rattle.std.proofs.lemmas.Option.{slice_get-get_or, slice_get_read}
 use Rattle.dtx_outside.specs.Shelf.{Files}
@@ -14,8 +14,7 @@ use Rattle.dtx_schedule.proofs.playout.Playout.write.Goals as goal
 adds_to : (ts : List Transmitter) (names : List FileNames) (who : ℕ) (t : Transmitter) (its : FileNames)
     (symbols line : List ℕ)
     (told : Option Files) (result : Result (Unit {0}) WriteNo) (now : Option Files) → AreNames ts names
-    → slice_get ts who ≡ Some t → who < length names
-    → its ≡ get_or names who its
+    → slice_get ts who ≡ Some t → who < length names → its ≡ get_or names who its
     → ((address : ℕ) (sent logged : List ℕ) (held : Files) → AreNamesOf address its → told ≡ Some held
     → HasPair address sent logged held → IsPairOf address sent logged symbols line held result now)
     → AddsTo t.address symbols line told result now
@@ -35,9 +34,4 @@ returns-clause-written g c = λ ts held steps step same are named brings is.
     let now = g.S.Shelf.files c.append_both.new.shelf in
     let symbols = take c.args.count c.args.self.now.bytes in
     step_written ts steps step t symbols c.args.self.now.line.bytes held told now c.append_both.result
-    (are_apart ts names are named)
-    (ap (slice_get ts) same ∙ at_t) brings is
-    (subst (λ line. AddsTo t.address symbols line told c.append_both.result now) (c.as_bytes-line.ensures.value
-    ∙ c.as_str.ensures.value)
-    (adds_to ts names who t c.index.result.now symbols c.as_bytes-line.result.now told c.append_both.result now named
-    at_t c.requires.within c.index.ensures c.append_both.ensures.appended))
+    (are_apart ts names are named) (ap (slice_get ts) same ∙ at_t) brings is (grind (arith, adds_to))

@@ -6,8 +6,7 @@ use Rattle.dtx_soft.proofs.Softened.{length-coder_symbols}
 use Rattle.dtx_soft.proofs.soft.Soft.field.Goals as goal
 
 pub returns-clause-potentials : goal.returns-clause-potentials
-returns-clause-potentials c =
-    subst (λ decoder. ArePotentials decoder.scale (coder_symbols c.args.segments.now 11)
+returns-clause-potentials c = subst (λ decoder. ArePotentials decoder.scale (coder_symbols c.args.segments.now 11)
     (take (69 * length c.args.segments.now + 1) c.hold_last.new.walker.potentials.items)) c.self.view_is
     (front_potentials c.self.inside.walker.table.scale (coder_symbols c.args.segments.now 11)
     c.hold_last.new.walker.potentials.items (69 * length c.args.segments.now)
