@@ -1,6 +1,6 @@
 -- What the least paths of a field cost at most, where its symbols are signed bytes.
-use Rattle.std.proofs.Common.{◌≡◌, ℕ, zero, suc, ℤ, ◌+◌, ◌*◌, ◌<◌, ◌≤◌, ◌-ℤ◌, nat_abs, List, [], ◌∷◌, length, map, sum}
-use Rattle.std.proofs.Common.{sym, ap, ◌∙◌, subst, arith}
+use Rattle.std.proofs.Common.{◌≡◌, ℕ, zero, suc, ℤ, pos, ◌+◌, ◌*◌, ◌<◌, ◌≤◌, ◌-ℤ◌, nat_abs, List, [], ◌∷◌, length, map}
+use Rattle.std.proofs.Common.{sum, sym, ap, ◌∙◌, subst, arith}
 use Rattle.std.specs.List.{range_with_len, zip, AllByRecursion}
 use Rattle.std.proofs.lemmas.Int.{ints}
 use Rattle.std.proofs.lemmas.List.FromFn.{length-map-range_with_len, sum_by-map-range_with_len_more}

@@ -1,5 +1,6 @@
 -- Bounds of the differences of squares and of potentials.
-use Rattle.std.proofs.Common.{◌≡◌, ℕ, ℤ, pos, ◌+◌, ◌≤◌, ◌+ℤ◌, ◌-ℤ◌, ◌≤ℤ◌, nat_abs, refl, arith}
+use Rattle.std.proofs.Common.{◌≡◌, ℕ, ℤ, pos, ◌+◌, ◌≤◌, ◌+ℤ◌, ◌-ℤ◌, ◌≤ℤ◌, nat_abs, nat_eq, Bool, true, false, cond}
+use Rattle.std.proofs.Common.{refl, arith}
 use Rattle.std.specs.Int.{int_min}
 use Rattle.std.proofs.lemmas.Int.{ints, clamps}
 use Rattle.dtx_soft.specs.declared.gaps.Gap.{Gap}
@@ -23,6 +24,10 @@ pub across_small : (b : Bounds) (c : ℕ) (v : ℤ) → AreBounds b → IsScale 
     → nat_abs (across_of c v) ≤ b.aside
 across_small b c v w s l = omega (arith, ints, clamps)
 
+beside_small : (b : Bounds) (c : ℕ) (v : ℤ) → AreBounds b → IsScale b c → nat_abs v ≤ b.reach
+    → nat_abs (odd_of c v (pos 0) -ℤ (across_of c v +ℤ even_of c v (pos 0))) ≤ b.aside
+beside_small b c v w s l = omega (arith, ints, clamps)
+
 pub squares_within : (b : Bounds) (scale : ℕ) (symbol : ℤ) (squares : SquareGaps ℤ) → AreBounds b → IsScale b scale
     → IsReached b symbol → IsSquares scale symbol squares → AreWithin b squares
 squares_within b scale symbol squares w s l q =
@@ -33,7 +38,7 @@ squares_within b scale symbol squares w s l q =
       even = rw q.even (even_small b scale (seen scale symbol) (pos 0) w s r (omega (arith, ints)) to);
       odd = rw q.odd (odd_small b scale (seen scale symbol) (pos 0) w s r (omega (arith, ints)) to);
       across = rw q.across (across_small b scale (seen scale symbol) w s r);
-      beside = rw (q.odd, q.across, q.even) (omega (arith, ints, clamps));
+      beside = rw (q.odd, q.across, q.even) (beside_small b scale (seen scale symbol) w s r);
       even_tied = rw q.even_tied (even_small b scale (seen scale symbol) (pos 1) w s r to above);
       odd_tied = rw q.odd_tied (odd_small b scale (seen scale symbol) (pos 1) w s r to above);
     }

@@ -1,5 +1,4 @@
 -- Gaps of potentials, one more symbol in front.
-use Rattle.std.proofs.Math.Nat.{mul-add}
 use Rattle.std.proofs.Common.{◌≡◌, ℕ, ℤ, pos, ◌+◌, ◌*◌, ◌/◌, ◌%◌, ◌<◌, ◌≤◌, ◌⊎◌, inl, inr, ◌+ℤ◌, ◌-ℤ◌, ◌≤ℤ◌, ◌<ℤ◌, ◌^◌}
 use Rattle.std.proofs.Common.{min, List, [], ◌∷◌, get_or, refl, sym, ap, ◌∙◌, subst, w8, arith}
 use mir.Val.{SFits}
@@ -18,7 +17,7 @@ use Rattle.dtx_soft.specs.Nearest.{IsTaken, IsTieBreak, cheapest, through}
 use Rattle.dtx_soft.specs.Paths.{next_state}
 use Rattle.dtx_soft.proofs.LeastPathLemmas.{next_small}
 use Rattle.dtx_soft.proofs.Steps.{bit_taken}
-use Rattle.dtx_soft.proofs.Units.{least_in_units, less_in_units, same_in_units}
+use Rattle.dtx_soft.proofs.Units.{least_in_units, less_in_units, same_in_units, sum_in_units}
 use Rattle.dtx_soft.proofs.WritesLemmas.{four}
 
 -- what a pair of levels comes to, in units
@@ -28,7 +27,7 @@ units_through squares behind state z = get_or squares z 0 + get_or behind (next_
 pub through_units : (k : ℕ) (row : Nearest) (behind : List ℕ) (x y u d e f : ℤ) (r : AreGaps k row.squares x y u)
     (g : AreGaps k behind d e f) (state z : ℕ) → state < 4 → z < 4
     → through row behind state z + k * (r.lift + g.lift) ≡ r.base + g.base + k * units_through r.units g.units state z
-through_units k row behind x y u d e f r g state z l m = grind (arith, mul-add, next_small)
+through_units k row behind x y u d e f r g state z l m = grind (arith, sum_in_units, next_small)
 
 -- a tie decides where both come to as much
 by_units : (k z c x y a b tie bit : ℕ) → 0 < k → tie ≤ 1 → x + z ≡ c + k * a → y + z ≡ c + k * b

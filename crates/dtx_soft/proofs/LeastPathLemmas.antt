@@ -247,6 +247,12 @@ pub record IsLeastIn (scale : ℕ) (symbols : List ℤ) (paths : List (List ℕ)
   pub first : (other : List ℕ) → IsIn other paths
       → cost scale symbols (drop 1 other) ≡ cost scale symbols (drop 1 path) → AreInOrder path other
 
+costs_below : (scale : ℕ) (symbols : List ℤ) (paths : List (List ℕ)) (path : List ℕ)
+    → ((other : List ℕ) → IsIn other paths → cost scale symbols (drop 1 path) ≤ cost scale symbols (drop 1 other))
+    → costs_least scale symbols paths path ≡ true
+unfolding costs_least
+costs_below scale symbols paths path h = grind (arith, tested_all, le-leb)
+
 costs_at : (scale : ℕ) (symbols : List ℤ) (paths : List (List ℕ)) (path other : List ℕ)
     → costs_least scale symbols paths path ≡ true → IsIn other paths
     → cost scale symbols (drop 1 path) ≤ cost scale symbols (drop 1 other)
@@ -256,11 +262,10 @@ costs_at scale symbols paths path other t i = grind (arith, leb-true, tested_at)
 -- where there is some path, the function gives it
 pub least_in : (scale : ℕ) (symbols : List ℤ) (paths : List (List ℕ)) (some : List ℕ) → AreOrdered paths
     → IsIn some paths → IsLeastIn scale symbols paths (first_least scale symbols paths)
-unfolding costs_least
 least_in scale symbols paths some ordered i = record {
   inside = best.within;
   least = λ other j. costs_at scale symbols paths (first_least scale symbols paths) other best.passes j;
-  first = λ other j e. (found other j (grind (arith, tested_all, le-leb, costs_at, best))).before;
+  first = λ other j e. (found other j (grind (arith, costs_below, costs_at, best))).before;
 }
   where
     least : HasMinimum (λ path. cost scale symbols (drop 1 path)) paths
@@ -271,7 +276,7 @@ least_in scale symbols paths some ordered i = record {
     found x j t = first_found (costs_least scale symbols paths) paths x ordered j t
 
     best : IsFirst (costs_least scale symbols paths) paths least.path (first_least scale symbols paths)
-    best = found least.path least.inside (grind (arith, tested_all, le-leb))
+    best = found least.path least.inside (costs_below scale symbols paths least.path least.below)
 
 -- and there is no other one
 pub least_in_is : (scale : ℕ) (symbols : List ℤ) (paths : List (List ℕ)) (path : List ℕ) → AreOrdered paths
@@ -284,11 +289,17 @@ least_in_is scale symbols paths path ordered h =
 
 -- ---- the least path
 
+is_least_in : (scale : ℕ) (symbols : List ℤ) (start : ℕ) (levels : List ℕ) → IsLeast scale symbols start levels
+    → IsLeastIn scale symbols (all_paths (length symbols)) (start ∷ levels)
+is_least_in scale symbols start levels h = grind (arith, all_have, all_at, all_are)
+
 -- what is a least path is the one that the function gives
 pub least_path_is : (scale : ℕ) (symbols : List ℤ) (start : ℕ) (levels : List ℕ)
     → IsLeast scale symbols start levels → least_path scale symbols ≡ start ∷ levels
 unfolding least_path
-least_path_is scale symbols start levels h = grind (arith, least_in_is, all_ordered, all_have, all_at, all_are)
+least_path_is scale symbols start levels h =
+    least_in_is scale symbols (all_paths (length symbols)) (start ∷ levels) (all_ordered (length symbols))
+    (is_least_in scale symbols start levels h)
 
 -- so its levels are
 pub least_levels_are : (scale : ℕ) (symbols : List ℤ) (start : ℕ) (levels : List ℕ)

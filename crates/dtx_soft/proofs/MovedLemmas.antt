@@ -47,6 +47,12 @@ distance_made f g a (suc n) =
 abbrev moved : List (List ℤ) → List (List ℤ) → ℕ → ℕ
 moved old new d = squared (data_symbol old d) (data_symbol new d)
 
+coder_moved : (old new : List (List ℤ)) (e : ℕ) → length new ≡ length old
+    → distance (coder_symbols old e) (coder_symbols new e)
+    ≡ over (λ t. moved old new (symbol_place 0 t e)) 0 (69 * length old)
+unfolding coder_symbols
+coder_moved old new e long = grind (arith, distance_made)
+
 -- the twelve symbols of a round, in whichever order the coders have
 round_moved : (q : ℕ → ℕ) (t : ℕ) → over (λ e. q (symbol_place 0 t e)) 0 12 ≡ over (λ j. q (12 * t + j)) 0 12
 unfolding symbol_place
@@ -74,12 +80,12 @@ pub distance_is : (scale : ℕ) (old new : List (List ℤ)) → IsSoftened scale
     → ((i : ℕ) → i < length old → length (get_or old i []) ≡ 832)
     → ((i : ℕ) → i < length new → length (get_or new i []) ≡ 832)
     → coders_distance old new 12 ≡ segments_distance old new
-unfolding coders_distance segments_distance coder_symbols
+unfolding coders_distance segments_distance
 distance_is scale old new h long after =
     let q : ℕ → ℕ = moved old new in
     let twelve : 12 * (69 * length old) ≡ 828 * length old = omega arith in
     over_same (λ e. distance (coder_symbols old e) (coder_symbols new e))
-    (λ e. over (λ t. q (symbol_place 0 t e)) 0 (69 * length old)) 0 12 (λ e a b. (grind (arith, distance_made)))
+    (λ e. over (λ t. q (symbol_place 0 t e)) 0 (69 * length old)) 0 12 (λ e a b. coder_moved old new e h.long)
     ∙ over_swap (λ t e. q (symbol_place 0 t e)) 12 (69 * length old)
     ∙ over_same (λ t. over (λ e. q (symbol_place 0 t e)) 0 12) (λ t. over (λ j. q (12 * t + j)) 0 12) 0
     (69 * length old) (λ t a b. round_moved q t)

@@ -1,5 +1,4 @@
 -- Segments whose coders' symbols are paths' own.
-use Rattle.std.proofs.lemmas.List.FromFn.{sum_by-map-range_with_len_more}
 use Rattle.std.proofs.Common.{◌≡◌, ℕ, zero, suc, ℤ, ◌+◌, ◌<◌, List, [], drop, get_or, length, map, refl, sym, ap, ap₂}
 use Rattle.std.proofs.Common.{◌∙◌, arith}
 use Rattle.dtx_soft.specs.Coders.{AreLeast, IsSoftened, coder_symbols, coders_distance}
@@ -10,6 +9,7 @@ use Rattle.dtx_soft.specs.Paths.{symbol_at}
 use Rattle.dtx_soft.specs.Softened.{IsOwn, softened, softened_cost}
 use Rattle.dtx_soft.proofs.SoftenedLemmas.{cost_is, softened_is}
 use Rattle.dtx_soft.proofs.OwnSymbols.{own_symbols}
+use Rattle.dtx_soft.proofs.Softened.{coders_distance_more}
 
 own_least : (scale : ℕ) (symbols : List ℤ) → IsOwn scale symbols → AreLeast scale symbols symbols
 own_least scale symbols h =
@@ -29,7 +29,7 @@ unfolding coders_distance
 no_costs segments zero = refl
 no_costs segments (suc n) =
     let next : suc n ≡ n + 1 = omega arith in
-    ap (coders_distance segments segments) next ∙ (grind (arith, sum_by-map-range_with_len_more))
+    ap (coders_distance segments segments) next ∙ coders_distance_more segments segments n
     ∙ ap₂ (λ a b. a + b) (no_costs segments n) (distance_same (coder_symbols segments n))
 
 pub own_field : (scale : ℕ) (segments : List (List ℤ))

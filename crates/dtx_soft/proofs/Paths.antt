@@ -1,6 +1,6 @@
 -- Least paths and potentials, one more symbol in front (Bellman).
-use Rattle.std.proofs.Common.{◌≡◌, ℕ, suc, ℤ, ◌+◌, ◌<◌, ◌≤◌, ◌⊎◌, inl, inr, List, [], ◌∷◌, length, get_or, ap, ◌∙◌}
-use Rattle.std.proofs.Common.{arith}
+use Rattle.std.proofs.Common.{◌≡◌, ℕ, suc, ℤ, ◌+◌, ◌<◌, ◌≤◌, ◌⊎◌, inl, inr, List, [], ◌∷◌, length, get_or, refl, sym}
+use Rattle.std.proofs.Common.{ap, ◌∙◌, subst, arith}
 use Rattle.std.proofs.lemmas.Bool.{cases_lt}
 use Rattle.dtx_soft.specs.Paths.{IsPath, cost, next_state, squared, symbol_at}
 use Rattle.dtx_soft.specs.Least.{AreInOrder, IsLeastFrom, IsPotential}
@@ -90,3 +90,6 @@ potential_more scale v symbols behind state z p l h = record {
 -- no symbols
 pub nothing_least : (scale state : ℕ) → IsLeastFrom scale [] state []
 nothing_least scale state = grind (arith, nothing_costs)
+
+pub nothing_potential : (scale state : ℕ) → IsPotential scale [] state 0
+nothing_potential scale state = grind (arith, nothing_costs)

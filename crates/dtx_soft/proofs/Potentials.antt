@@ -1,5 +1,4 @@
 -- The table of potentials, one symbol further to the front.
-use Rattle.dtx_soft.proofs.MovedLemmas.{nothing_costs}
 use Rattle.std.proofs.Common.{◌≡◌, ℕ, ℤ, pos, ◌+◌, ◌<◌, ◌≤◌, List, [], ◌∷◌, length, get_or, drop, take, sym, ◌∙◌, subst}
 use Rattle.std.proofs.Common.{ap, arith}
 use Rattle.std.proofs.lemmas.List.{drop_all, drop_more, get_or-take, length-take-le}
@@ -7,7 +6,7 @@ use Rattle.dtx_soft.specs.Least.{ArePotentials, HoldPotentials, IsPotential}
 use Rattle.dtx_soft.specs.declared.nearest.Nearest.{Nearest}
 use Rattle.dtx_soft.specs.Nearest.{AreNearest, cheapest}
 use Rattle.dtx_soft.proofs.LeastPathLemmas.{next_small}
-use Rattle.dtx_soft.proofs.Paths.{ArePotentialsAt, potential_more}
+use Rattle.dtx_soft.proofs.Paths.{ArePotentialsAt, nothing_potential, potential_more}
 use Rattle.dtx_soft.proofs.Steps.{cheapest_is}
 
 pub potentials_more : (scale : ℕ) (symbols : List ℤ) (t u : ℕ) (row : Nearest) (behind before : List ℕ)
@@ -25,7 +24,9 @@ potentials_more scale symbols t u row behind before l n h p e s m =
 -- behind all symbols
 pub no_potentials : (scale : ℕ) (symbols : List ℤ) (k : ℕ) (zeros : List ℕ) → length symbols ≤ k
     → ((s : ℕ) → s < 4 → get_or zeros s 0 ≡ 0) → ArePotentialsAt scale (drop k symbols) zeros
-no_potentials scale symbols k zeros l e s m = grind (arith, drop_all, nothing_costs)
+no_potentials scale symbols k zeros l e s m =
+    subst (λ symbols. IsPotential scale symbols s (get_or zeros s 0)) (sym (drop_all k symbols l))
+    (subst (IsPotential scale [] s) (sym (e s m)) (nothing_potential scale s))
 
 -- no potential grows by more than the greatest square
 pub cheapest_small : (scale : ℕ) (v : ℤ) (row : Nearest) (behind : List ℕ) (bound s : ℕ) → AreNearest scale v row

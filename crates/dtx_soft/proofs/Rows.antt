@@ -9,6 +9,9 @@ use Rattle.dtx_soft.specs.Paths.{squared, symbol_at}
 use Rattle.dtx_soft.proofs.SquareGaps.{AreTested, are_tested, row_tie}
 use Rattle.dtx_soft.proofs.WritesLemmas.{four}
 
+other_is : (y z : ℕ) → y < 8 → z < 4 → y % 4 ≡ z % 4 → (y ≡ z) ⊎ (y ≡ z + 4)
+other_is y z l m e = grind (arith, cases_lt)
+
 level_by : (a b z : ℕ) → ((a ≤ b) × (cond (nat_le a b) z (z + 4) ≡ z) × (min a b ≡ a))
     ⊎ ((b < a) × (cond (nat_le a b) z (z + 4) ≡ z + 4) × (min a b ≡ b))
 level_by a b z = grind (arith, cases_lt, nat_tests)
@@ -23,8 +26,8 @@ nearest_is scale v z level square l s (inl h) = record {
   bounded = s;
   alike = ap (λ n. n % 4) h.1;
   exact = h.2 ∙ ap (λ n. squared v (symbol_at scale n)) (sym h.1);
-  nearest = λ y m e. nearest y (grind (arith, cases_lt));
-  first = λ y m e t. first y (grind (arith, cases_lt));
+  nearest = λ y m e. nearest y (other_is y z m l e);
+  first = λ y m e t. first y (other_is y z m l e);
 }
   where
     nearest : (y : ℕ) → (y ≡ z) ⊎ (y ≡ z + 4) → square ≤ squared v (symbol_at scale y)
@@ -34,7 +37,7 @@ nearest_is scale v z level square l s (inl h) = record {
     first : (y : ℕ) → (y ≡ z) ⊎ (y ≡ z + 4) → level ≤ y
     first y (inl e) = omega (arith, h.1)
     first y (inr e) = omega (arith, h.1)
-nearest_is scale v z level square l s (inr h) = grind (arith, cases_lt)
+nearest_is scale v z level square l s (inr h) = grind (arith, other_is)
 
 nearer_is : (scale : ℕ) (v : ℤ) (z : ℕ) → z < 4 → AreTested scale v
     → IsNearest scale v z (nearer_level scale v z) (nearer_square scale v z)

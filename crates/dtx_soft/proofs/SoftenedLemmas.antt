@@ -24,6 +24,14 @@ pub coder_small : (d : ℕ) → coder_at 0 d < 12
 unfolding coder_at
 coder_small d = omega arith
 
+pub coder_is : (t e : ℕ) → e < 12 → coder_at 0 (symbol_place 0 t e) ≡ e
+unfolding symbol_place coder_at
+coder_is t e l = grind arith
+
+pub round_is : (t e : ℕ) → symbol_place 0 t e / 12 ≡ t
+unfolding symbol_place
+round_is t e = omega arith
+
 pub length-coder : (segments : List (List ℤ)) (e : ℕ) → length (coder_symbols segments e) ≡ 69 * length segments
 unfolding coder_symbols
 length-coder segments e = grind (arith, length-map-range_with_len)
@@ -89,14 +97,20 @@ given_syncs coders old i k n = elim (cases_lt i (length old)) [
 
 pub given_coder : (coders : ℕ → List ℤ) (old : List (List ℤ)) (e : ℕ) → e < 12
     → length (coders e) ≡ 69 * length old → coder_symbols (given coders old) e ≡ coders e
-unfolding coder_symbols data_symbol symbol_place coder_at
+unfolding coder_symbols data_symbol
 given_coder coders old e l long = sym (fill_by_all (λ t. data_symbol (given coders old) (symbol_place 0 t e)) (coders e)
     (69 * length (given coders old)) (pos 0) (long ∙ ap (λ n. 69 * n) (sym (length-given coders old)))
     (λ t m. sym (at t (omega (arith, m, length-given coders old)))))
   where
     at : (t : ℕ) → t < 69 * length old
         → data_symbol (given coders old) (symbol_place 0 t e) ≡ get_or (coders e) t (pos 0)
-    at t m = grind (arith, given_at, cond-false, le-ltb)
+    at t m =
+        let round = round_is t e in
+        let d = symbol_place 0 t e in
+        given_at coders old (d / 828) (4 + d % 828) (omega (arith, round, m)) (omega arith)
+        ∙ cond-false (nat_lt (4 + d % 828) 4) _ _ (le-ltb (4 + d % 828) 4 (omega arith))
+        ∙ ap (λ d. get_or (coders (coder_at 0 d)) (d / 12) (pos 0)) (omega arith)
+        ∙ ap₂ (λ (n r : ℕ). get_or (coders n) r (pos 0)) (coder_is t e l) round
 
 -- ---- segments that were softened
 
@@ -105,6 +119,11 @@ least_symbols_are : (scale : ℕ) (old : List (List ℤ)) (e : ℕ) (new : List 
     → new ≡ least_symbols scale old e
 unfolding least_symbols
 least_symbols_are scale old e new h = grind (arith, least_levels_are)
+
+least_levels_have : (scale : ℕ) (segments : List (List ℤ)) (e : ℕ)
+    → least_symbols scale segments e ≡ map (symbol_at scale) (least_levels scale (coder_symbols segments e))
+unfolding least_symbols
+least_levels_have scale segments e = refl
 
 softened_given : (scale : ℕ) (segments : List (List ℤ))
     → given (least_symbols scale segments) segments ≡ softened scale segments
@@ -118,7 +137,6 @@ softened_is scale old new h rows = given_is (least_symbols scale old) old new h.
     ∙ softened_given scale old
 
 pub softened_found : (scale : ℕ) (segments : List (List ℤ)) → IsSoftened scale segments (softened scale segments)
-unfolding least_symbols
 softened_found scale segments = subst (IsSoftened scale segments) (softened_given scale segments) (record {
   long = length-given (least_symbols scale segments) segments;
   syncs = given_syncs (least_symbols scale segments) segments;
@@ -132,7 +150,7 @@ softened_found scale segments = subst (IsSoftened scale segments) (softened_give
   where
     least : (e : ℕ) → least_symbols scale segments e
         ≡ map (symbol_at scale) (least_levels scale (coder_symbols segments e))
-    least = grind arith
+    least = least_levels_have scale segments
 
     long : (e : ℕ) → length (least_symbols scale segments e) ≡ 69 * length segments
     long e = ap length (least e) ∙ length-map (least_levels scale (coder_symbols segments e)) (symbol_at scale)

@@ -1,16 +1,16 @@
 -- The squares of a symbol's row have the gaps that the formulas say.
-use Rattle.dtx_soft.specs.Paths.{squared, symbol_at}
 use Rattle.std.proofs.Common.{◌≡◌, ℕ, ℤ, pos, ◌+◌, ◌*◌, ◌/◌, ◌%◌, ◌<◌, ◌≤◌, ◌+ℤ◌, ◌-ℤ◌, ◌≤ℤ◌, nat_abs, Bool, true}
 use Rattle.std.proofs.Common.{false}
 use Rattle.std.proofs.Common.{◌&&◌, nat_eq, nat_le, nat_lt, cond, zero, suc, [], ◌∷◌, refl, sym, subst, get_or, arith}
+use Rattle.std.specs.Ordering.{int_eq}
 use Rattle.std.proofs.lemmas.Int.{ints}
 use Rattle.std.proofs.lemmas.Bool.Decides.{nat_tests, Decides-int_eq, Decides-eqb}
 use Rattle.dtx_lists.proofs.Below.{at_below}
 use Rattle.dtx_soft.specs.Gaps.{AreGaps, nearer_level, nearer_square, row_of, tie_of, unit}
 use Rattle.dtx_soft.specs.Nearest.{IsTieBreak}
 use Rattle.dtx_soft.specs.Squares.{across_of, even_of, odd_of, seen}
-use Rattle.dtx_soft.proofs.SquareTests.{formulas_pass, have_gaps, is_tied, level_by, levels_pass, lifted, passes}
-use Rattle.dtx_soft.proofs.SquareTests.{squares_pass}
+use Rattle.dtx_soft.proofs.SquareTests.{all_pass, formulas_pass, have_gaps, is_tied}
+use Rattle.dtx_soft.proofs.SquareTests.{level_by, levels_pass, lifted, passes, squares_pass}
 use Rattle.dtx_soft.proofs.WritesLemmas.{four}
 
 both : (a b : Bool) → (a && b) ≡ true → (a ≡ true) × (b ≡ true)
@@ -20,6 +20,9 @@ both false b e = absurd (cc)
 
 same_numbers : (a b : ℕ) → nat_eq a b ≡ true → a ≡ b
 same_numbers a b e = (Decides-eqb a b).0 e
+
+same_integers : (a b : ℤ) → int_eq a b ≡ true → a ≡ b
+same_integers a b e = (Decides-int_eq a b).0 e
 
 at_most : (a b : ℕ) → nat_le a b ≡ true → a ≤ b
 at_most a b e = grind (arith, nat_tests)
@@ -31,10 +34,9 @@ rest : (s n : ℕ) → n < 256 → (256 * s + n) % 256 ≡ n
 rest s n m = omega arith
 
 tested : (scale n : ℕ) → scale < 19 → n < 256 → passes scale (pos n -ℤ pos 128) ≡ true
-unfolding squared symbol_at passes formulas_pass squares_pass levels_pass level_by have_gaps is_tied
 tested scale n l m = subst (λ s. passes s (pos n -ℤ pos 128) ≡ true) (quotient scale n m)
     (subst (λ k. passes ((256 * scale + n) / 256) (pos k -ℤ pos 128) ≡ true) (rest scale n m)
-    (at_below (λ k. passes (k / 256) (pos (k % 256) -ℤ pos 128)) 4864 (256 * scale + n) refl (omega arith)))
+    (at_below (λ k. passes (k / 256) (pos (k % 256) -ℤ pos 128)) 4864 (256 * scale + n) all_pass (omega arith)))
 
 -- what the test says
 pub record AreTested (scale : ℕ) (symbol : ℤ) : Type 0 where
@@ -65,8 +67,8 @@ opened scale symbol t =
       first = same_numbers _ _ a.0;
       second = same_numbers _ _ b.0;
       third = same_numbers _ _ c.0;
-      even_tied = ((Decides-int_eq _ _).0 even.0);
-      odd_tied = ((Decides-int_eq _ _).0 even.1);
+      even_tied = same_integers _ _ even.0;
+      odd_tied = same_integers _ _ even.1;
       small = four _ (at_most _ _ d.0) (at_most _ _ e.0) (at_most _ _ f.0) (at_most _ _ f.1);
     }
 

@@ -1,7 +1,9 @@
 -- The formulas of the squares' gaps, tested at each scale and symbol. The eight squares and the formulas are handed on,
 -- so that each is computed once.
-use Rattle.std.proofs.Common.{ℕ, ℤ, pos, ◌+◌, ◌*◌, ◌+ℤ◌, nat_abs, Bool, ◌&&◌, cond, min, nat_eq, nat_le, nat_lt}
+use Rattle.std.proofs.Common.{◌≡◌, ℕ, ℤ, pos, ◌+◌, ◌*◌, ◌/◌, ◌%◌, ◌+ℤ◌, ◌-ℤ◌, nat_abs, Bool, true, ◌&&◌, cond, min}
+use Rattle.std.proofs.Common.{nat_eq, nat_le, nat_lt, refl}
 use Rattle.std.specs.Ordering.{int_eq}
+use Rattle.dtx_lists.proofs.Below.{holds_below}
 use Rattle.dtx_soft.specs.Gaps.{unit}
 use Rattle.dtx_soft.specs.Paths.{squared, symbol_at}
 use Rattle.dtx_soft.specs.Squares.{across_of, even_of, odd_of, seen}
@@ -43,3 +45,7 @@ formulas_pass scale symbol seen =
 
 unfoldable pub passes : ℕ → ℤ → Bool
 passes scale symbol = formulas_pass scale symbol (seen scale symbol)
+
+pub all_pass : holds_below (λ k. passes (k / 256) (pos (k % 256) -ℤ pos 128)) 4864 ≡ true
+unfolding squared symbol_at passes formulas_pass squares_pass levels_pass level_by have_gaps is_tied
+all_pass = refl

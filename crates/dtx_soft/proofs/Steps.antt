@@ -31,6 +31,16 @@ pub pair_is : {scale : ℕ} {symbol : ℤ} {z level square : ℕ} (behind : List
     → IsNearest scale symbol z level square → onto scale symbol behind state level ≡ pair_onto behind state z square
 pair_is behind state h = ap₂ (λ (x y : ℕ). x + get_or behind y 0) (sym h.exact) (next_alike state _ _ h.alike)
 
+pair_below : {scale : ℕ} {symbol : ℤ} {z level square : ℕ} (behind : List ℕ) (state y : ℕ)
+    → IsNearest scale symbol z level square → y < 8 → y % 4 ≡ z % 4
+    → pair_onto behind state z square ≤ onto scale symbol behind state y
+pair_below behind state y h l e = grind (arith, next_alike)
+
+pair_first : {scale : ℕ} {symbol : ℤ} {z level square : ℕ} (behind : List ℕ) (state y : ℕ)
+    → IsNearest scale symbol z level square → y < 8 → y % 4 ≡ z % 4
+    → onto scale symbol behind state y ≡ pair_onto behind state z square → level ≤ y
+pair_first behind state y h l e t = grind (arith, next_alike)
+
 -- the two pairs of levels that may follow a state, of which the first is taken
 pub record ArePairs (scale : ℕ) (symbol : ℤ) (behind : List ℕ) (state a b first second m n : ℕ) : Type 0 where
   pub begins : a % 2 ≡ state / 2
@@ -40,14 +50,47 @@ pub record ArePairs (scale : ℕ) (symbol : ℤ) (behind : List ℕ) (state a b 
   pub less : pair_onto behind state a m ≤ pair_onto behind state b n
   pub tie : pair_onto behind state a m ≡ pair_onto behind state b n → first ≤ second
 
+pub taken_first : {scale : ℕ} {symbol : ℤ} {behind : List ℕ} {state a b first second m n : ℕ}
+    → ArePairs scale symbol behind state a b first second m n → IsFirstLeast scale symbol behind state first
+taken_first {scale} {symbol} {behind} {state} {a} {b} {first} {second} {m} {n} h = record {
+  small = h.nearest.small;
+  begins = (let e : first % 4 ≡ a % 4 = h.nearest.alike in let f : a % 2 ≡ state / 2 = h.begins in omega arith);
+  least = λ y l e. elim (h.all y e) [
+    | inl e ↦ subst (λ x. x ≤ onto scale symbol behind state y) (sym value) (pair_below behind state y h.nearest l e)
+    | inr e ↦
+        let p : pair_onto behind state b n ≤ onto scale symbol behind state y = pair_below behind state y h.other l e in
+        omega (arith, value, h.less)
+  ];
+  first = λ y l e t. first_of_all y l (h.all y e) t;
+}
+  where
+    value : onto scale symbol behind state first ≡ pair_onto behind state a m
+    value = pair_is behind state h.nearest
+
+    first_of_all : (y : ℕ) → y < 8 → (y % 4 ≡ a % 4) ⊎ (y % 4 ≡ b % 4)
+        → onto scale symbol behind state y ≡ onto scale symbol behind state first → first ≤ y
+    first_of_all y l (inl e) t = pair_first behind state y h.nearest l e (t ∙ value)
+    first_of_all y l (inr e) t =
+        let p : pair_onto behind state b n ≤ onto scale symbol behind state y = pair_below behind state y h.other l e in
+        let q : pair_onto behind state a m ≡ pair_onto behind state b n = omega (arith, value, h.less) in
+        let r : second ≤ y = pair_first behind state y h.other l e (t ∙ value ∙ q) in
+        omega (arith, h.tie q)
+
 pairs_of : (scale : ℕ) (symbol : ℤ) (row : Nearest) (behind : List ℕ) (state a b : ℕ) → AreNearest scale symbol row
     → state < 4 → a < 4 → b < 4 → a % 2 ≡ state / 2 → b % 2 ≡ state / 2
     → ((y : ℕ) → y % 2 ≡ state / 2 → (y % 4 ≡ a % 4) ⊎ (y % 4 ≡ b % 4)) → ComesFirst row behind state a b
     → IsFirstLeast scale symbol behind state (get_or row.levels a 0)
-pairs_of scale symbol row behind state a b h l la lb ma mb all first = grind (arith, next_alike, pair_is)
+pairs_of scale symbol row behind state a b h l la lb ma mb all first =
+    let pairs : ArePairs scale symbol behind state a b (get_or row.levels a 0) (get_or row.levels b 0)
+    (get_or row.squares a 0) (get_or row.squares b 0) = grind arith in
+    taken_first pairs
 
 either : (state y : ℕ) → state < 4 → y % 2 ≡ state / 2 → (y % 4 ≡ state / 2 % 4) ⊎ (y % 4 ≡ (state / 2 + 2) % 4)
 either state y l e = grind (arith, cases_eq)
+
+swapped : {P Q : Type 0} → P ⊎ Q → Q ⊎ P
+swapped (inl p) = inr p
+swapped (inr q) = inl q
 
 low_first : (scale : ℕ) (symbol : ℤ) (row : Nearest) (behind : List ℕ) (state : ℕ) → AreNearest scale symbol row
     → state < 4 → ComesFirst row behind state (state / 2) (state / 2 + 2)
@@ -61,7 +104,7 @@ high_first : (scale : ℕ) (symbol : ℤ) (row : Nearest) (behind : List ℕ) (s
     → IsFirstLeast scale symbol behind state (get_or row.levels (state / 2 + 2) 0)
 high_first scale symbol row behind state h l first =
     pairs_of scale symbol row behind state (state / 2 + 2) (state / 2) h l (omega arith) (omega arith) (omega arith)
-    (omega arith) (λ y e. grind (arith, either)) first
+    (omega arith) (λ y e. swapped (either state y l e)) first
 
 -- the level of the pair that is taken
 pub taken_first_least : (scale : ℕ) (symbol : ℤ) (row : Nearest) (behind : List ℕ) (state pair : ℕ)
@@ -83,13 +126,18 @@ pub next_taken : (scale : ℕ) (symbol : ℤ) (row : Nearest) (state z : ℕ) �
     → next_state state (get_or row.levels z 0) ≡ next_state state z
 next_taken scale symbol row state z h l = next_alike state (get_or row.levels z 0) z (h.each z l).alike
 
+-- of two costs the second is taken where it is less, or where it is as much and its level comes first
+pub by_tie : (a b m n tie : ℕ) → IsTieBreak m n tie → ((b < a + tie) × ((b ≤ a) × (b ≡ a → n ≤ m)))
+    ⊎ ((a + tie ≤ b) × ((a ≤ b) × (a ≡ b → m ≤ n)))
+by_tie a b m n tie h = grind (arith, cases_lt)
+
 -- a bit that says so
 pub bit_taken : (row : Nearest) (behind : List ℕ) (state tie bit : ℕ)
     → IsTieBreak (get_or row.levels (state / 2) 0) (get_or row.levels (state / 2 + 2) 0) tie
     → ((through row behind state (state / 2 + 2) < through row behind state (state / 2) + tie) × (bit ≡ 1))
     ⊎ ((through row behind state (state / 2) + tie ≤ through row behind state (state / 2 + 2)) × (bit ≡ 0))
     → IsTaken row behind state bit
-bit_taken row behind state tie bit h b = grind (arith, cases_lt)
+bit_taken row behind state tie bit h b = grind (arith, by_tie)
 
 -- some level is the first least, and it comes to the potential
 pub cheapest_is : (scale : ℕ) (symbol : ℤ) (row : Nearest) (behind : List ℕ) (state : ℕ) → AreNearest scale symbol row
