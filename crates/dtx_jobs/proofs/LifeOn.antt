@@ -73,7 +73,7 @@ has_room a d l p tally is most =
       mutes = omega (arith, most, packets, mutes, lines_few a d l);
     }
 
-same_tally : (a b c e a' b' c' e' : ℕ) → a ≡ a' → b ≡ b' → c ≡ c' → e ≡ e'
+pub same_tally : (a b c e a' b' c' e' : ℕ) → a ≡ a' → b ≡ b' → c ≡ c' → e ≡ e'
     → ◌≡◌ {A = LifeTally} (record { packets = a; segments = b; presets = c; mutes = e })
     (record { packets = a'; segments = b'; presets = c'; mutes = e' })
 same_tally a b c e a' b' c' e' p q r s = rw (p, q, r, s) refl

@@ -4,7 +4,7 @@ use Rattle.std.proofs.Common.{get_or, refl, sym, ap, ◌∙◌, arith}
 use Rattle.std.specs.Prelude.{ℤ}
 use Rattle.std.specs.Simd.{first_chunks}
 use Rattle.std.proofs.lemmas.List.{append_assoc, ext_get_or, get_or-drop, get_or-map, get_or-take, length-drop}
-use Rattle.std.proofs.lemmas.List.{length-map, length-take-le, take_all, take_at}
+use Rattle.std.proofs.lemmas.List.{length-map, length-take-le, take_at}
 use Rattle.std.proofs.lemmas.List.FromFn.{get_or-map-range_with_len, length-map-range_with_len, map-range_with_len_more}
 use Rattle.dtx_packets.proofs.ChunksLemmas.{get_or-first_chunks}
 use Rattle.dtx_receiver.specs.Symbols.{symbols_in}
@@ -68,24 +68,6 @@ segments_of_chunks bytes chunks first n fits all =
         ∙ get_or-drop first (first_chunks 832 chunks bytes) k []
         ∙ get_or-first_chunks 832 chunks bytes (first + k) (omega (arith, l, fits)))
         ∙ sym (get_or-map-range_with_len (segment_at bytes) first n k (first + k) [] l refl)
-
--- some segments more of a piece, behind those before: the first of the chunks that are left
-pub segments_on : (segments : List (List ℤ)) (bytes : List ℕ) (units first n : ℕ) (chunks : List (List ℕ))
-    → chunks ≡ first_chunks 832 units bytes → length chunks ≡ units → first + n ≤ units
-    → (segments ++ segments_from bytes 0 first)
-    ++ symbols_in (take n (take (length chunks - first) (drop first chunks)))
-    ≡ segments ++ segments_from bytes 0 (first + n)
-segments_on segments bytes units first n chunks is long fits =
-    let all : take (length chunks - first) (drop first chunks) ≡ drop first chunks =
-    take_all (length chunks - first) (drop first chunks) (omega (arith, length-drop first chunks)) in
-    let zero : 0 + first ≡ first = omega arith in
-    ap (λ xs. (segments ++ segments_from bytes 0 first) ++ symbols_in (take n xs)) all
-    ∙ append_assoc segments (segments_from bytes 0 first) (symbols_in (take n (drop first chunks)))
-    ∙ ap (λ z. segments ++ z)
-    (ap (λ z. segments_from bytes 0 first ++ z) (ap (λ xs. symbols_in (take n (drop first xs))) is
-    ∙ segments_of_chunks bytes units first n fits (sym (ap length is) ∙ long))
-    ∙ sym (segments_from-append bytes 0 first n
-    ∙ ap (λ a. segments_from bytes 0 first ++ segments_from bytes a n) zero))
 
 -- segments that are taken behind whole ones: the first chunks of some bytes
 pub chunks_on : (given bytes : List ℕ) (n : ℕ) (chunks : List (List ℕ)) → length given % 832 ≡ 0

@@ -8,7 +8,7 @@ use Rattle.dtx_lists.proofs.Range.{range_with_len-parts}
 use Rattle.dtx_lists.proofs.RangeMoved.{flat_map-range_same}
 use Rattle.dtx_coder.specs.Stream.{symbols_of}
 use Rattle.dtx_engine.specs.Made.{only, AreFrontsOf}
-use Rattle.dtx_exciter.proofs.EmittedLemmas.{emission_more}
+use Rattle.dtx_exciter.proofs.EmittedLemmas.{emission_more, emission_push}
 use Rattle.dtx_exciter.specs.Emission.{last_segments, emission}
 use Rattle.dtx_exciter.specs.Log.{Line, line_of, life_lines}
 use Rattle.dtx_exciter.specs.Packets.{last_answer}
@@ -54,6 +54,13 @@ lines_push a d l p =
     ∙ ap₂ (λ s t. line_of (0 + length (emission a d s)) (length (last_segments a d t)) (last_answer a d t)) same all
     ∙ ap (λ n. line_of n (length (last_segments a d (l ++ p ∷ []))) (last_answer a d (l ++ p ∷ [])))
     (zero-add (length (emission a d l))))
+
+pub sent_push : (a d : ℕ) (l : List (List ℕ)) (p : List ℕ)
+    → sent_bytes a d (l ++ p ∷ [])
+    ≡ sent_bytes a d l ++ map byte_of_symbol (symbols_of (last_segments a d (l ++ p ∷ [])))
+sent_push a d l p =
+    ap (λ ss. map byte_of_symbol (symbols_of ss)) (emission_push a d l p)
+    ∙ segment_bytes-append (emission a d l) (last_segments a d (l ++ p ∷ []))
 
 pub logged_push : (a d : ℕ) (l : List (List ℕ)) (p : List ℕ)
     → logged_bytes a d (l ++ p ∷ [])
