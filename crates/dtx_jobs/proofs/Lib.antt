@@ -1,5 +1,4 @@
 mod CodeLemmas
-mod ExciteLemmas
 pub mod GivenLemmas
 pub mod GivingLemmas
 mod LevelLemmas

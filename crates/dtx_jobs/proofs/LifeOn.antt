@@ -58,7 +58,7 @@ pub has_room : (a d : ℕ) (l : List (List ℕ)) (p : List ℕ) (tally : LifeTal
     → tally.packets < 624000000 → HasRoom tally (length (last_segments a d (l ++ p ∷ [])))
 has_room a d l p tally is most = grind (arith, emission_few, given_few, lines_few)
 
-same_tally : (a b c e a' b' c' e' : ℕ) → a ≡ a' → b ≡ b' → c ≡ c' → e ≡ e'
+pub same_tally : (a b c e a' b' c' e' : ℕ) → a ≡ a' → b ≡ b' → c ≡ c' → e ≡ e'
     → ◌≡◌ {A = LifeTally} (record { packets = a; segments = b; presets = c; mutes = e })
     (record { packets = a'; segments = b'; presets = c'; mutes = e' })
 same_tally a b c e a' b' c' e' p q r s = rw (p, q, r, s) refl

@@ -8,22 +8,17 @@ use Rattle.std.proofs.lemmas.List.{append-nil, length-append, length_push}
 use Rattle.std.proofs.lemmas.List.Sums.{sum_by-append}
 use Rattle.dtx_exciter.specs.Log.{Line, restart, log, emission_over}
 use Rattle.dtx_files.specs.LogText.{log_text}
-use Rattle.dtx_repeat.specs.GoingOn.{last_life, longer, with_runs}
+use Rattle.dtx_repeat.specs.GoingOn.{last_life, longer}
 use Rattle.dtx_repeat.proofs.GoingOnLemmas.{longer_last}
-use Rattle.dtx_repeat.proofs.SeveralLemmas.{one_or_none}
+use Rattle.dtx_repeat.proofs.SeveralLemmas.{one_or_none, with_runs}
 use Rattle.dtx_recipes.specs.Life.{one_mute, presets_in, mutes_in, tally_with}
 use Rattle.dtx_recipes.specs.Lives.{sent_over, logged_over, lives_tally}
 use Rattle.dtx_recipes.specs.Restarts.{restart_with}
-use Rattle.dtx_recipes.specs.declared.life_tally.LifeTally.{LifeTally}
 use Rattle.dtx_recipes.proofs.LivesLemmas.{lives_but_last, parts, brought_by, line_by, emission_longer, log_longer}
 use Rattle.dtx_recipes.proofs.LivesLemmas.{restart_by, emission_begun, log_begun, sent_begun, logged_begun}
+use Rattle.dtx_jobs.proofs.LifeOn.{same_tally}
 
 -- ---- the numbers
-
-same_tally : (a b c e a' b' c' e' : ℕ) → a ≡ a' → b ≡ b' → c ≡ c' → e ≡ e'
-    → ◌≡◌ {A = LifeTally} (record { packets = a; segments = b; presets = c; mutes = e })
-    (record { packets = a'; segments = b'; presets = c'; mutes = e' })
-same_tally a b c e a' b' c' e' p q r s = rw (p, q, r, s) refl
 
 packets_last : (xs : List (List (List ℕ))) (life : List (List ℕ))
     → length (flat_map (λ (l : List (List ℕ)). l) (xs ++ life ∷ []))

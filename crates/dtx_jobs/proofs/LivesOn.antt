@@ -5,19 +5,15 @@ use Rattle.std.specs.List.{flat_map}
 use Rattle.std.proofs.lemmas.List.{length-append, take_more}
 use Rattle.std.proofs.lemmas.List.Sums.{sum_by-append}
 use Rattle.dtx_cadence.specs.Anchor.{anchor, anchor_to}
-use Rattle.dtx_receiver.specs.Runs.{runs}
 use Rattle.dtx_receiver.specs.declared.batch.Received.{Received}
 use Rattle.dtx_exciter.specs.Emission.{emission}
 use Rattle.dtx_exciter.specs.Log.{Line, restart, life_lines, log, emission_over}
 use Rattle.dtx_exciter.specs.Packets.{last_answer, group_part, under, anchor_of, syncs}
-use Rattle.dtx_repeat.specs.GoingOn.{last_life, with_runs}
+use Rattle.dtx_repeat.specs.GoingOn.{last_life}
 use Rattle.dtx_repeat.proofs.GoingOnLemmas.{last_begun}
 use Rattle.dtx_repeat.specs.Lives.{packets_in, lives_so_far}
-use Rattle.dtx_repeat.specs.GoingOn.{AreGiven}
-use Rattle.dtx_repeat.proofs.LivesLemmas.{as_many_so_far}
-use Rattle.dtx_repeat.proofs.SeveralLemmas.{lives_several, one_or_none}
+use Rattle.dtx_repeat.proofs.SeveralLemmas.{one_or_none, with_runs}
 use Rattle.dtx_repeat.specs.Repeater.{StandsFor, given_with}
-use Rattle.dtx_repeat.specs.Restored.{restored_so_far}
 use Rattle.dtx_repeat.specs.declared.repeater.Repeater.{Repeater}
 use Rattle.dtx_repeat.proofs.RestoredLemmas.{packets_in-append}
 use Rattle.dtx_files.proofs.GivenFewLemmas.{given_few}
@@ -26,10 +22,10 @@ use Rattle.dtx_recipes.specs.Life.{one_preset, one_mute, presets_in, mutes_in, H
 use Rattle.dtx_recipes.specs.Lives.{lives_tally}
 use Rattle.dtx_recipes.proofs.LivesLemmas.{brought_by}
 use Rattle.dtx_jobs.proofs.LivesLemmas.{sent_with, logged_with, tally_with_begun}
-use Rattle.dtx_jobs.specs.Repetition.{IsRepeating, IsSentOn}
+use Rattle.dtx_engine.specs.Made.{both}
+use Rattle.dtx_jobs.specs.Repetition.{IsSentOn}
 use Rattle.dtx_recipes.specs.Restarts.{restart_with}
 use Rattle.dtx_recipes.specs.declared.life_tally.LifeTally.{LifeTally}
-use Rattle.dtx_jobs.specs.declared.repetition.Repetition.{Repetition}
 use Rattle.dtx_jobs.specs.declared.repetition.TheConstants.{SENT_BYTES, LOGGED_BYTES}
 use Rattle.dtx_jobs.specs.declared.sending.Sending.{Sending}
 use Rattle.dtx_jobs.proofs.LifeOn.{emission_few, presets_few, counted_in_all}
@@ -78,10 +74,15 @@ lives_room a d lives p tally is most = grind (arith, emission_over_few, given_fe
 
 -- ---- one state behind another
 
-pub sent_on : (old mid new : Repetition) (s t : List (List ℤ)) (x y z : List (List (List ℕ)))
-    → mid.address ≡ old.address → mid.delay ≡ old.delay → IsSentOn old mid s x y → IsSentOn mid new t y z
-    → IsSentOn old new t x z
-sent_on old mid new s t x y z a d f g = grind arith
+pub sent_on : (a d : ℕ) (between repeater : Repeater) (old mid new : Sending SENT_BYTES LOGGED_BYTES)
+    (s t : List (List ℤ)) (x y z : List (List (List ℕ))) (m n both : ℕ) → m + n ≡ both
+    → IsSentOn a d between old mid s x y m → IsSentOn a d repeater mid new t y z n
+    → IsSentOn a d repeater old new t x z both
+sent_on a d between repeater old mid new s t x y z m n both sum f g = record {
+  sending = g.sending;
+  made = λ front e. g.made front (f.made front e);
+  spaced = omega (arith, sum, f.spaced, g.spaced);
+}
 
 -- there is a life, where there are packets for the last one
 pub some_lives : (lives : List (List (List ℕ))) (packets : List Received) (i : ℕ) → i < length packets
@@ -109,51 +110,31 @@ pub part_with : (begins : ℕ) (lives : List (List (List ℕ))) → begins ≤ 1
     → group_part (last_life (with_runs begins lives)) ≤ group_part (last_life lives)
 part_with begins lives most = grind (arith, one_or_none, last_begun, no_part)
 
--- what the segments leave, with which so many runs begin
-pub record IsReceivedOn (old mid : Repetition) (s more : List (List ℤ)) (begins : ℕ) : Type 0 where
-  pub on : IsSentOn old mid (s ++ more) (lives_so_far s) (with_runs begins (lives_so_far s))
-  pub given : AreGiven (with_runs begins (lives_so_far s)) (lives_so_far (s ++ more)) mid.batch.packets.items
-
-pub received_on : (old mid : Repetition) (repeater : Repeater) (s more : List (List ℤ)) (begins : ℕ)
-    (items : List Received) → IsRepeating old s → begins ≤ 1 → (0 < begins → length more ≡ 1)
-    → StandsFor old.address old.delay repeater (s ++ more) (given_with begins (last_life (lives_so_far s)))
-    → restored_so_far (s ++ more) ≡ restored_so_far s ++ items → length (runs (s ++ more)) ≡ length (runs s) + begins
-    → mid.address ≡ old.address → mid.delay ≡ old.delay → mid.repeater.value ≡ repeater
-    → mid.batch.packets.items ≡ items → mid.sending.tally ≡ old.sending.tally
-    → mid.sending.symbols ≡ old.sending.symbols
-    → mid.sending.lines ≡ old.sending.lines ++ log_text (restart_with begins old.runs old.sending.tally.segments)
-    → IsReceivedOn old mid s more begins
-received_on old mid repeater s more begins items is most alone stands brought grown ea ed er ei et es el =
-    let a : ℕ = old.address in
-    let d : ℕ = old.delay in
+-- with a restart, where they begin a run other than the first
+pub begun_on : (a d : ℕ) (repeater : Repeater) (old mid : Sending SENT_BYTES LOGGED_BYTES) (s more : List (List ℤ))
+    (begins runs : ℕ) → begins ≤ 1 → runs ≡ length (lives_so_far s)
+    → StandsFor a d repeater (s ++ more) (given_with begins (last_life (lives_so_far s)))
+    → old.tally ≡ lives_tally a d (lives_so_far s) → mid.tally ≡ old.tally → mid.symbols ≡ old.symbols
+    → mid.lines ≡ old.lines ++ log_text (restart_with begins runs old.tally.segments)
+    → IsSentOn a d repeater old mid (s ++ more) (lives_so_far s) (with_runs begins (lives_so_far s)) 0
+begun_on a d repeater old mid s more begins runs most many stands counted et es el =
     let ls : List (List (List ℕ)) = lives_so_far s in
-    let begun : List (List (List ℕ)) = with_runs begins ls in
-    let all : List (List ℤ) = s ++ more in
-    let many : old.runs ≡ length ls = is.begun ∙ sym (as_many_so_far s) in
-    let count = ap (λ (k : LifeTally). k.segments) is.sending.tally in
+    let line : List ℕ = log_text (restart_with begins runs old.tally.segments) in
+    let count = ap (λ (k : LifeTally). k.segments) counted in
     record {
-      on = record {
-        sending = record {
-          repeater = grind (arith, last_with);
-          tally = et ∙ is.sending.tally ∙ tally_with_begun a d begins ls most
-              ∙ sym (ap₂ (λ a d. lives_tally a d begun) ea ed);
-        };
-        sent = λ bytes e. sent_with a d begins ls most ∙ e ∙ ap (λ z. bytes ++ z) (sym es);
-        logged = λ bytes e.
-            let line : List ℕ = log_text (restart_with begins old.runs old.sending.tally.segments) in
-            logged_with a d begins old.runs old.sending.tally.segments ls most many count ∙ ap (λ z. z ++ line) e
-            ∙ append_assoc bytes old.sending.lines line ∙ ap (λ z. bytes ++ z) (sym el);
+      sending = record {
+        stands = subst (StandsFor a d repeater (s ++ more)) (last_with begins ls most) stands;
+        counted = et ∙ counted ∙ tally_with_begun a d begins ls most;
       };
-      given = subst (AreGiven begun (lives_so_far all)) (sym ei)
-          (lives_several s more items begins most alone grown brought);
+      made = λ front e.
+          ap₂ both
+          (sent_with a d begins ls most ∙ ap (λ w. w.first) e ∙ ap (λ z. front.first ++ z) (sym es))
+          (logged_with a d begins runs old.tally.segments ls most many count ∙ ap (λ w. w.second ++ line) e
+          ∙ append_assoc front.second old.lines line ∙ ap (λ z. front.second ++ z) (sym el));
+      spaced = omega (arith, part_with begins ls most, ap length es);
     }
 
 -- of no lives
 pub no_tally : (a d : ℕ) → lives_tally a d [] ≡ record { packets = 0; segments = 0; presets = 0; mutes = 0 }
 unfolding log
 no_tally a d = refl
-
--- a state that has let go what the last piece brought
-pub cleared : (old : Repetition) (sending : Sending SENT_BYTES LOGGED_BYTES) (s : List (List ℤ))
-    → sending.tally ≡ old.sending.tally → IsRepeating old s → IsRepeating (record old { sending = sending }) s
-cleared old sending s e is = grind arith

@@ -1,10 +1,9 @@
 -- Lemmas of the segments of a symbol file that is read piece by piece.
 use Rattle.std.proofs.Common.{◌≡◌, ℕ, ◌+◌, ◌-◌, ◌*◌, ◌/◌, ◌%◌, ◌<◌, ◌≤◌, List, [], ◌++◌, length, take, drop, get_or}
 use Rattle.std.proofs.Common.{sym, ap, ◌∙◌, arith}
-use Rattle.std.specs.Prelude.{ℤ}
 use Rattle.std.specs.Simd.{first_chunks}
-use Rattle.std.proofs.lemmas.List.{append_assoc, ext_get_or, get_or-drop, get_or-map, get_or-take, length-drop}
-use Rattle.std.proofs.lemmas.List.{length-map, length-take-le, take_all, take_at}
+use Rattle.std.proofs.lemmas.List.{ext_get_or, get_or-drop, get_or-map, get_or-take, length-drop}
+use Rattle.std.proofs.lemmas.List.{length-map, length-take-le, take_at}
 use Rattle.std.proofs.lemmas.List.FromFn.{get_or-map-range_with_len, length-map-range_with_len}
 use Rattle.dtx_packets.proofs.ChunksLemmas.{get_or-first_chunks}
 use Rattle.dtx_receiver.specs.Symbols.{symbols_in}
@@ -47,15 +46,6 @@ segments_of_chunks bytes chunks first n fits all = ext_get_or [] (symbols_in som
     place : (k : ℕ) → k < n → get_or (symbols_in some) k [] ≡ get_or (segments_from bytes first n) k []
     place k l = get_or-map symbols some k [] [] (omega (arith, l, long))
         ∙ grind (arith, get_or-take, get_or-drop, get_or-first_chunks, get_or-map-range_with_len)
-
--- some segments more of a piece, behind those before: the first of the chunks that are left
-pub segments_on : (segments : List (List ℤ)) (bytes : List ℕ) (units first n : ℕ) (chunks : List (List ℕ))
-    → chunks ≡ first_chunks 832 units bytes → length chunks ≡ units → first + n ≤ units
-    → (segments ++ segments_from bytes 0 first)
-    ++ symbols_in (take n (take (length chunks - first) (drop first chunks)))
-    ≡ segments ++ segments_from bytes 0 (first + n)
-segments_on segments bytes units first n chunks is long fits =
-    grind (arith, take_all, length-drop, append_assoc, segments_of_chunks, segments_from-append)
 
 -- segments that are taken behind whole ones: the first chunks of some bytes
 pub chunks_on : (given bytes : List ℕ) (n : ℕ) (chunks : List (List ℕ)) → length given % 832 ≡ 0

@@ -1,33 +1,43 @@
 -- What the engine of `repeat` keeps.
-use Rattle.std.specs.Prelude.{◌≡◌, ◌+◌, ◌*◌, ◌≤◌, ℕ, ℤ, List, ◌++◌, length}
+use Rattle.std.specs.Prelude.{◌≡◌, ◌+◌, ◌*◌, ◌≤◌, ℕ, ℤ, List, length}
 use Rattle.dtx_coder.specs.declared.air.TheConstants.{AIR_SYMBOLS}
+use Rattle.dtx_engine.specs.Made.{Made, both, joined}
 use Rattle.dtx_exciter.specs.Packets.{group_part}
 use Rattle.dtx_files.specs.declared.log_text.TheConstants.{LOG_LINE}
 use Rattle.dtx_receiver.specs.Runs.{runs}
 use Rattle.dtx_repeat.specs.GoingOn.{last_life}
 use Rattle.dtx_repeat.specs.Lives.{lives_so_far}
 use Rattle.dtx_repeat.specs.Repeater.{StandsFor}
-use Rattle.dtx_recipes.specs.Lives.{sent_over, logged_over, lives_tally}
+use Rattle.dtx_repeat.specs.declared.repeater.Repeater.{Repeater}
+use Rattle.dtx_recipes.specs.Lives.{lives_tally}
+use Rattle.dtx_recipes.specs.Repeat.{sent_in}
 use Rattle.dtx_recipes.specs.SymbolFile.{file_segments}
+use Rattle.dtx_recipes.specs.declared.life_tally.LifeTally.{LifeTally}
 use Rattle.dtx_sizes.specs.declared.fields.TheConstants.{GROUP_PACKETS}
 use Rattle.dtx_jobs.specs.declared.repetition.Repetition.{Repetition}
 use Rattle.dtx_jobs.specs.declared.repetition.TheConstants.{LOGGED_BYTES, SENT_BYTES}
+use Rattle.dtx_jobs.specs.declared.sending.Sending.{Sending}
 
--- These segments were received, and the exciter was given the packets of these lives. The repeater stands for the
--- segments and for the last life. The numbers of what was sent are the lives'.
-pub record IsSending (state : Repetition) (segments : List (List ℤ)) (lives : List (List (List ℕ))) : Type 0 where
-  pub repeater : StandsFor state.address state.delay state.repeater.value segments (last_life lives)
-  pub tally : state.sending.tally ≡ lives_tally state.address state.delay lives
+-- The repeater received these segments, and its exciter was given the packets of these lives. The numbers of what was
+-- sent are the lives'.
+pub record IsSending (a d : ℕ) (repeater : Repeater) (tally : LifeTally) (segments : List (List ℤ))
+    (lives : List (List (List ℕ))) : Type 0 where
+  pub stands : StandsFor a d repeater segments (last_life lives)
+  pub counted : tally ≡ lives_tally a d lives
 
--- The engine went from `old`, which was sending the lives `before`, to `new`, which sends the lives `after`. It has
--- gathered the symbols and lines by which the lives `after` give more than `before`.
-pub record IsSentOn (old new : Repetition) (segments : List (List ℤ)) (before after : List (List (List ℕ))) :
-    Type 0 where
-  pub sending : IsSending new segments after
-  pub sent : (bytes : List ℕ) → sent_over old.address old.delay before ≡ bytes ++ old.sending.symbols
-      → sent_over old.address old.delay after ≡ bytes ++ new.sending.symbols
-  pub logged : (bytes : List ℕ) → logged_over old.address old.delay before ≡ bytes ++ old.sending.lines
-      → logged_over old.address old.delay after ≡ bytes ++ new.sending.lines
+-- the symbols and lines that were gathered
+abbrev pub gathered : Sending SENT_BYTES LOGGED_BYTES → Made
+gathered sending = both sending.symbols sending.lines
+
+-- What the lives `after` give more than `before` was gathered behind `old`. It is that of so many packets, of which
+-- each fourth one brings a group at most.
+pub record IsSentOn (a d : ℕ) (repeater : Repeater) (old new : Sending SENT_BYTES LOGGED_BYTES)
+    (segments : List (List ℤ)) (before after : List (List (List ℕ))) (packets : ℕ) : Type 0 where
+  pub sending : IsSending a d repeater new.tally segments after
+  pub made : (front : Made) → sent_in a d before ≡ joined front (gathered old)
+      → sent_in a d after ≡ joined front (gathered new)
+  pub spaced : 4 * length new.symbols + AIR_SYMBOLS * group_part (last_life after)
+      ≤ 4 * length old.symbols + AIR_SYMBOLS * (group_part (last_life before) + packets)
 
 -- the numbers are within the bounds for as many segments
 pub record AreFew (state : Repetition) : Type 0 where
@@ -36,7 +46,8 @@ pub record AreFew (state : Repetition) : Type 0 where
 
 -- the state after these segments: they were received, and what they gave was sent again
 pub record IsRepeating (state : Repetition) (received : List (List ℤ)) : Type 0 where
-  pub sending : IsSending state received (lives_so_far received)
+  pub sending : IsSending state.address state.delay state.repeater.value state.sending.tally received
+      (lives_so_far received)
   pub count : state.segments ≡ length received
   pub begun : state.runs ≡ length (runs received)
 

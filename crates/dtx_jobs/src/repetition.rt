@@ -1,12 +1,9 @@
 // The engine of `repeat`: receives symbols and sends their packets again, some segments at a time.
-ghost use Rattle.std.specs.Prelude.{◌≡◌, ◌+◌, ◌*◌, ◌<◌, ◌≤◌, ◌++◌, ◌∷◌, [], ℕ, ℤ, List, length};
-ghost use Rattle.dtx_exciter.specs.Packets.{group_part};
-ghost use Rattle.dtx_files.specs.LogText.{log_text};
-ghost use Rattle.dtx_repeat.specs.GoingOn.{last_life, longer};
+ghost use Rattle.std.specs.Prelude.{◌≡◌, ◌+◌, ◌*◌, ◌<◌, ◌≤◌, ◌∷◌, [], ℕ, ℤ, List, length};
+ghost use Rattle.dtx_repeat.specs.GoingOn.{longer};
 ghost use Rattle.dtx_repeat.specs.Lives.{lives, lives_so_far, packets_in};
 ghost use Rattle.dtx_recipes.specs.Repeat.{repeated_numbers};
-ghost use Rattle.dtx_jobs.specs.Repetition.{IsRepeating, IsSending, IsSentOn};
-ghost use Rattle.dtx_recipes.specs.Restarts.{restart_with};
+ghost use Rattle.dtx_jobs.specs.Repetition.{IsSending, IsSentOn};
 
 use crate::sending::Sending;
 use dtx_coder::AIR_SYMBOLS;
@@ -16,7 +13,7 @@ use dtx_files::LOG_LINE;
 use dtx_forms::{PIECE_SEGMENTS, Transmitting, segments};
 use dtx_meaning::{Outcome, Status, done, ended};
 use dtx_packets::Packet;
-use dtx_receiver::{Batch, Progress};
+use dtx_receiver::{Batch, Received};
 use dtx_repeat::Repeater;
 use dtx_sizes::{GROUP_PACKETS, MOST_SEGMENTS, SEGMENT};
 use dtx_steps::Step;
@@ -49,112 +46,6 @@ pub(crate) struct Repetition {
 }
 
 impl Repetition {
-    /// Counts what the repeater took. Where a run other than the first began with it, gathers the line of a restart.
-    fn count(&mut self, progress: Progress)
-        requires most { self.old.segments + progress.segments ≤ MOST_SEGMENTS }
-        requires runs { self.old.runs ≤ self.old.segments }
-        requires few_runs { progress.runs ≤ 1 }
-        requires some { 0 < progress.segments }
-        requires lines { length self.old.sending.lines + LOG_LINE ≤ LOGGED_BYTES }
-        ensures address { self.new.address ≡ self.old.address }
-        ensures delay { self.new.delay ≡ self.old.delay }
-        ensures repeater { self.new.repeater ≡ self.old.repeater }
-        ensures batch { self.new.batch ≡ self.old.batch }
-        ensures segments { self.new.segments ≡ self.old.segments + progress.segments }
-        ensures runs { self.new.runs ≡ self.old.runs + progress.runs }
-        ensures few { self.new.runs ≤ self.new.segments }
-        ensures tally { self.new.sending.tally ≡ self.old.sending.tally }
-        ensures symbols { self.new.sending.symbols ≡ self.old.sending.symbols }
-        ensures lines { self.new.sending.lines ≡ self.old.sending.lines
-            ++ log_text (restart_with progress.runs self.old.runs self.old.sending.tally.segments) }
-        ensures short { length self.new.sending.lines ≤ length self.old.sending.lines + LOG_LINE }
-    {
-        let again = progress.runs > 0 && self.runs > 0;
-        if again {
-            self.sending.restart();
-        }
-        self.segments += progress.segments as u64;
-        self.runs += progress.runs;
-    }
-
-    /// Gives the packets of the batch to the exciter, and gathers what they bring. They belong to the exciter's last
-    /// life. The room for symbols is counted in packets, each a fourth of a group. It is that for three packets of a
-    /// group that began before them, for all of them but the last, and for the group that the last one may bring.
-    fn send_all(&mut self)
-        requires some { (s : List (List ℤ)) × (ls : List (List (List ℕ))) × IsSending self.old s ls
-            × (ls ≡ [] → self.old.batch.packets.items ≡ []) }
-        requires few { self.old.sending.tally.packets + length self.old.batch.packets.items ≤ MOST_BROUGHT }
-        requires symbols { 4 * length self.old.sending.symbols
-            + AIR_SYMBOLS * (length self.old.batch.packets.items + 6) ≤ 4 * SENT_BYTES }
-        requires lines { length self.old.sending.lines + LOG_LINE * length self.old.batch.packets.items
-            ≤ LOGGED_BYTES }
-        ensures address { self.new.address ≡ self.old.address }
-        ensures delay { self.new.delay ≡ self.old.delay }
-        ensures segments { self.new.segments ≡ self.old.segments }
-        ensures runs { self.new.runs ≡ self.old.runs }
-        ensures sent { (s : List (List ℤ)) (ls : List (List (List ℕ))) → IsSending self.old s ls
-            → (ls ≡ [] → self.old.batch.packets.items ≡ [])
-            → IsSentOn self.old self.new s ls (longer ls (packets_in self.old.batch.packets.items)) }
-        ensures spaced { (s : List (List ℤ)) (ls : List (List (List ℕ))) → IsSending self.old s ls
-            → (ls ≡ [] → self.old.batch.packets.items ≡ [])
-            → 4 * length self.new.sending.symbols
-            + AIR_SYMBOLS * group_part (last_life (longer ls (packets_in self.old.batch.packets.items)))
-            ≤ 4 * length self.old.sending.symbols
-            + AIR_SYMBOLS * (group_part (last_life ls) + length self.old.batch.packets.items) }
-        ensures short { length self.new.sending.lines ≤ length self.old.sending.lines
-            + LOG_LINE * length self.old.batch.packets.items }
-        ensures count { self.new.sending.tally.packets ≡ self.old.sending.tally.packets
-            + length self.old.batch.packets.items }
-    {
-        groups_are_spaced();
-        for i in 0..self.batch.packets.len() {
-            let packet = self.batch.packets[i].packet;
-            self.send(&packet);
-        }
-    }
-
-    /// Gives the exciter one packet more, and gathers what it brings.
-    fn send(&mut self, packet: &Packet)
-        requires some { (s : List (List ℤ)) × (ls : List (List (List ℕ))) × IsSending self.old s ls
-            × (0 < length ls) }
-        requires few { self.old.sending.tally.packets < MOST_BROUGHT }
-        requires symbols { length self.old.sending.symbols + AIR_SYMBOLS ≤ SENT_BYTES }
-        requires lines { length self.old.sending.lines + LOG_LINE ≤ LOGGED_BYTES }
-        ensures address { self.new.address ≡ self.old.address }
-        ensures delay { self.new.delay ≡ self.old.delay }
-        ensures segments { self.new.segments ≡ self.old.segments }
-        ensures runs { self.new.runs ≡ self.old.runs }
-        ensures batch { self.new.batch ≡ self.old.batch }
-        ensures sent { (s : List (List ℤ)) (ls : List (List (List ℕ))) → IsSending self.old s ls → 0 < length ls
-            → IsSentOn self.old self.new s ls (longer ls (packet.now.0 ∷ [])) }
-        ensures spaced { (s : List (List ℤ)) (ls : List (List (List ℕ))) → IsSending self.old s ls → 0 < length ls
-            → 4 * length self.new.sending.symbols + AIR_SYMBOLS * group_part (last_life (longer ls (packet.now.0 ∷ [])))
-            ≤ 4 * length self.old.sending.symbols + AIR_SYMBOLS * (group_part (last_life ls) + 1) }
-        ensures short { length self.new.sending.lines ≤ length self.old.sending.lines + LOG_LINE }
-        ensures count { self.new.sending.tally.packets ≡ self.old.sending.tally.packets + 1 }
-    {
-        groups_are_spaced();
-        let told = self.repeater.send(packet, &mut self.sending.air);
-        self.sending.add(told);
-    }
-
-    /// Ends the repeater's input, and gathers what the end brings.
-    fn end(&mut self)
-        requires some { (s : List (List ℤ)) × IsRepeating self.old s }
-        requires few { self.old.sending.tally.packets ≤ GROUP_PACKETS * MOST_SEGMENTS }
-        requires no_symbols { self.old.sending.symbols ≡ [] }
-        requires no_lines { self.old.sending.lines ≡ [] }
-        ensures address { self.new.address ≡ self.old.address }
-        ensures delay { self.new.delay ≡ self.old.delay }
-        ensures segments { self.new.segments ≡ self.old.segments }
-        ensures runs { self.new.runs ≡ self.old.runs }
-        ensures sent { (s : List (List ℤ)) → IsRepeating self.old s
-            → IsSentOn self.old self.new [] (lives_so_far s) (lives s) }
-    {
-        self.repeater.finish(&mut self.batch);
-        self.send_all();
-    }
-
     /// The numbers of the command's line, in their order. `loose` bytes are behind the last whole segment.
     fn numbers(&self, loose: usize) -> [u64; 7]
         ensures { result ≡ repeated_numbers self.now.segments self.now.runs self.now.sending.tally loose }
@@ -206,13 +97,19 @@ impl Step for Repetition {
     fn step(&mut self, _first: u64, bytes: &mut [u8]) -> usize {
         let (segments, _) = bytes.as_chunks::<SEGMENT>();
         let progress = self.repeater.take_some(segments, &mut self.batch);
-        self.count(progress);
-        self.send_all();
+        self.sending.restart(progress.runs, self.runs);
+        self.segments += progress.segments as u64;
+        self.runs += progress.runs;
+        send_all(
+            &mut self.repeater,
+            self.batch.packets.as_slice(),
+            &mut self.sending,
+        );
         progress.segments
     }
 
     fn finish(&mut self, loose: usize) -> Outcome {
-        self.end();
+        end(&mut self.repeater, &mut self.batch, &mut self.sending);
         if self.runs == 0 {
             ended(Status::NoSync)
         } else {
@@ -255,4 +152,63 @@ impl Transmitting for Repetition {
     }
 
     ghost knows = { repeat_knows };
+}
+
+/// Gives these packets to the exciter, and gathers what they bring. They belong to the exciter's last life. The room
+/// for symbols is counted in packets, each a fourth of a group. It is that for three packets of a group that began
+/// before them, for all of them but the last, and for the group that the last one may bring.
+fn send_all(
+    repeater: &mut Repeater,
+    packets: &[Received],
+    sending: &mut Sending<SENT_BYTES, LOGGED_BYTES>,
+)
+    requires some { (a : ℕ) × (d : ℕ) × (s : List (List ℤ)) × (ls : List (List (List ℕ)))
+        × IsSending a d repeater.old sending.old.tally s ls × (ls ≡ [] → packets.now ≡ []) }
+    requires few { sending.old.tally.packets + length packets.now ≤ MOST_BROUGHT }
+    requires symbols { 4 * length sending.old.symbols + AIR_SYMBOLS * (length packets.now + 6) ≤ 4 * SENT_BYTES }
+    requires lines { length sending.old.lines + LOG_LINE * length packets.now ≤ LOGGED_BYTES }
+    ensures sent { (a d : ℕ) (s : List (List ℤ)) (ls : List (List (List ℕ)))
+        → IsSending a d repeater.old sending.old.tally s ls → (ls ≡ [] → packets.now ≡ [])
+        → IsSentOn a d repeater.new sending.old sending.new s ls (longer ls (packets_in packets.now))
+        (length packets.now) }
+    ensures short { length sending.new.lines ≤ length sending.old.lines + LOG_LINE * length packets.now }
+    ensures count { sending.new.tally.packets ≡ sending.old.tally.packets + length packets.now }
+{
+    groups_are_spaced();
+    for i in 0..packets.len() {
+        send(repeater, &packets[i].packet, sending);
+    }
+}
+
+/// Gives the exciter one packet more, and gathers what it brings.
+fn send(repeater: &mut Repeater, packet: &Packet, sending: &mut Sending<SENT_BYTES, LOGGED_BYTES>)
+    requires some { (a : ℕ) × (d : ℕ) × (s : List (List ℤ)) × (ls : List (List (List ℕ)))
+        × IsSending a d repeater.old sending.old.tally s ls × (0 < length ls) }
+    requires few { sending.old.tally.packets < MOST_BROUGHT }
+    requires symbols { length sending.old.symbols + AIR_SYMBOLS ≤ SENT_BYTES }
+    requires lines { length sending.old.lines + LOG_LINE ≤ LOGGED_BYTES }
+    ensures sent { (a d : ℕ) (s : List (List ℤ)) (ls : List (List (List ℕ)))
+        → IsSending a d repeater.old sending.old.tally s ls → 0 < length ls
+        → IsSentOn a d repeater.new sending.old sending.new s ls (longer ls (packet.now.0 ∷ [])) 1 }
+    ensures short { length sending.new.lines ≤ length sending.old.lines + LOG_LINE }
+    ensures count { sending.new.tally.packets ≡ sending.old.tally.packets + 1 }
+{
+    groups_are_spaced();
+    let told = repeater.send(packet, &mut sending.air);
+    sending.add(told);
+}
+
+/// Ends the repeater's input, and gathers what the end brings.
+fn end(repeater: &mut Repeater, batch: &mut Batch, sending: &mut Sending<SENT_BYTES, LOGGED_BYTES>)
+    requires some { (a : ℕ) × (d : ℕ) × (s : List (List ℤ))
+        × IsSending a d repeater.old sending.old.tally s (lives_so_far s) }
+    requires few { sending.old.tally.packets ≤ GROUP_PACKETS * MOST_SEGMENTS }
+    requires no_symbols { sending.old.symbols ≡ [] }
+    requires no_lines { sending.old.lines ≡ [] }
+    ensures { (a d : ℕ) (s : List (List ℤ)) → IsSending a d repeater.old sending.old.tally s (lives_so_far s)
+        → IsSentOn a d repeater.new sending.old sending.new [] (lives_so_far s) (lives s)
+        (length batch.new.packets.items) }
+{
+    repeater.finish(batch);
+    send_all(repeater, batch.packets.as_slice(), sending);
 }

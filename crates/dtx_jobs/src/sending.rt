@@ -1,9 +1,10 @@
 // What an exciter sends and logs, as the bytes of two files.
-ghost use Rattle.std.specs.Prelude.{◌≡◌, ◌+◌, ◌*◌, ◌≤◌, ◌++◌, ◌∷◌, [], ℕ, IfOk, length, map, take};
-ghost use Rattle.dtx_exciter.specs.Log.{Line, line_of};
+ghost use Rattle.std.specs.Prelude.{◌≡◌, ◌+◌, ◌*◌, ◌≤◌, ◌++◌, [], ℕ, IfOk, length, map, take};
+ghost use Rattle.dtx_exciter.specs.Log.{line_of};
 ghost use Rattle.dtx_files.specs.LogText.{log_text};
 ghost use Rattle.dtx_files.specs.Symbols.{byte_of_symbol};
 ghost use Rattle.dtx_recipes.specs.Life.{tally_with, HasRoom};
+ghost use Rattle.dtx_recipes.specs.Restarts.{restart_with};
 
 use crate::symbol_buffer::SymbolBuffer;
 use arrayvec::ArrayString;
@@ -80,15 +81,19 @@ impl<const S: usize, const L: usize> Sending<S, L> {
         self.lines.push(self.line.as_str().as_bytes());
     }
 
-    /// Appends the line of a restart to the lines.
-    pub(crate) fn restart(&mut self)
+    /// Appends the line of a restart to the lines, where runs begin and runs began before.
+    pub(crate) fn restart(&mut self, begins: u64, runs: u64)
         requires lines { length self.old.lines + LOG_LINE ≤ L }
         ensures tally { self.new.tally ≡ self.old.tally }
         ensures symbols { self.new.symbols ≡ self.old.symbols }
-        ensures lines { self.new.lines ≡ self.old.lines ++ log_text (Line.restart self.old.tally.segments ∷ []) }
+        ensures lines { self.new.lines ≡ self.old.lines
+            ++ log_text (restart_with begins runs self.old.tally.segments) }
         ensures short { length self.new.lines ≤ length self.old.lines + LOG_LINE }
     {
-        write_restart(self.tally.segments, &mut self.line);
-        self.lines.push(self.line.as_str().as_bytes());
+        let again = begins > 0 && runs > 0;
+        if again {
+            write_restart(self.tally.segments, &mut self.line);
+            self.lines.push(self.line.as_str().as_bytes());
+        }
     }
 }

@@ -8,7 +8,7 @@ use Rattle.dtx_lists.proofs.Range.{range_with_len-parts}
 use Rattle.dtx_lists.proofs.RangeMoved.{flat_map-range_same}
 use Rattle.dtx_coder.specs.Stream.{symbols_of}
 use Rattle.dtx_engine.specs.Made.{only, AreFrontsOf}
-use Rattle.dtx_exciter.proofs.EmittedLemmas.{emission_more}
+use Rattle.dtx_exciter.proofs.EmittedLemmas.{emission_more, emission_push}
 use Rattle.dtx_exciter.specs.Emission.{last_segments, emission}
 use Rattle.dtx_exciter.specs.Log.{Line, line_of, life_lines}
 use Rattle.dtx_exciter.specs.Packets.{last_answer}
@@ -44,6 +44,11 @@ lines_push a d l p =
     take_all (0 + length l + 1) (l ++ p ∷ []) (omega (arith, length_push l p)) in
     ap (λ n. flat_map f (range_with_len 0 n)) (length_push l p)
     ∙ grind (arith, range_with_len-parts, flat_map-append, front_same, append-nil, zero-add)
+
+pub sent_push : (a d : ℕ) (l : List (List ℕ)) (p : List ℕ)
+    → sent_bytes a d (l ++ p ∷ [])
+    ≡ sent_bytes a d l ++ map byte_of_symbol (symbols_of (last_segments a d (l ++ p ∷ [])))
+sent_push a d l p = grind (arith, emission_push, segment_bytes-append)
 
 pub logged_push : (a d : ℕ) (l : List (List ℕ)) (p : List ℕ) → logged_bytes a d (l ++ p ∷ [])
     ≡ logged_bytes a d l ++ log_text

@@ -1,6 +1,5 @@
 -- Laws of what `refine` makes.
-use Rattle.std.proofs.Common.{refl, ◌≡◌, ◌-◌, ◌*◌, ℕ, [], length, take, ap, arith}
-use Rattle.dtx_acquire.specs.Acquired.{acquired_so_far}
+use Rattle.std.proofs.Common.{refl, ◌≡◌, ℕ, [], arith}
 use Rattle.dtx_acquire.proofs.AcquiredLemmas.{none_so_far}
 use Rattle.dtx_rounds.specs.Rounds.{refined_so_far, settled_count}
 use Rattle.dtx_rounds.proofs.SoFarLemmas.{refined_grows}

@@ -1,12 +1,10 @@
 -- The lives of an exciter that is fed by a receiver, with one segment more and at the end of a list.
 use Rattle.std.proofs.Common.{◌≡◌, ◌≢◌, ℕ, ℤ, ◌+◌, ◌%◌, ◌<◌, ◌⊎◌, Bool, true, false, Option, Some, None, IfSome, List}
-use Rattle.std.proofs.Common.{[]}
-use Rattle.std.proofs.Common.{◌∷◌, ◌++◌, length, map, refl, sym, ap, ◌∙◌, subst, inl, inr, append_assoc, arith}
-use Rattle.std.proofs.Common.{cond, add-zero}
-use Rattle.std.specs.Prelude.{option_to_list}
+use Rattle.std.proofs.Common.{[], ◌∷◌, ◌++◌, length, map, refl, sym, ap, ◌∙◌, subst, inl, inr, append_assoc, arith}
+use Rattle.std.proofs.Common.{cond, add-zero, option_to_list, append-nil, length-append}
 use Rattle.std.specs.List.{flat_map}
 use Rattle.std.proofs.lemmas.Bool.{cases_eq}
-use Rattle.std.proofs.lemmas.List.{append-nil, append_cancel_left, get_or_append_left, length-append, map-append}
+use Rattle.std.proofs.lemmas.List.{append_cancel_left, get_or_append_left, map-append}
 use Rattle.std.proofs.lemmas.Grind.{flat_map-append}
 use Rattle.dtx_frame.specs.Detection.{looks_like, looks_second}
 use Rattle.dtx_receiver.specs.Bytes.{bytes_in}
@@ -14,17 +12,37 @@ use Rattle.dtx_receiver.proofs.EarlyLemmas.{early_nothing}
 use Rattle.dtx_receiver.proofs.FollowingLemmas.{searching, began, sync_came, ended_there, data_came}
 use Rattle.dtx_receiver.proofs.IntervalsLemmas.{some_segment}
 use Rattle.dtx_receiver.specs.Packets.{run_packets, early_of, all_packets, packets_so_far}
-use Rattle.dtx_receiver.specs.Runs.{Tracked, tracked, runs, tracking}
+use Rattle.dtx_receiver.specs.Runs.{Tracked, begun, tracked, runs, tracking}
 use Rattle.dtx_receiver.proofs.SegmentsLemmas.{first_bytes}
 use Rattle.dtx_receiver.specs.declared.batch.Received.{Received}
 use Rattle.dtx_receiver.specs.declared.tracking.Tracking.{Tracking}
 use Rattle.dtx_receiver.specs.declared.tracking.Tracking.TheVariants.{Searching, Began, Sync, Data, Ended}
-use Rattle.dtx_repeat.specs.GoingOn.{last_life, longer, GoesOn, Begins, Ends}
+use Rattle.dtx_repeat.specs.GoingOn.{last_life, longer}
 use Rattle.dtx_repeat.specs.Lives.{packets_in, life_of, lives, lives_so_far}
-use Rattle.dtx_repeat.specs.Repeater.{next_place}
+use Rattle.dtx_repeat.specs.Repeater.{given_behind, next_place}
 use Rattle.dtx_repeat.specs.Restored.{place_behind, first_place, restored, run_restored, early_restored, all_restored}
 use Rattle.dtx_repeat.specs.Restored.{restored_so_far}
 use Rattle.dtx_repeat.proofs.RestoredLemmas.{restored_none, restored_behind, packets_in-append}
+
+-- After more segments these packets are restored, from a place in the frame on, and given to the last life.
+pub record GoesOn (before next : List (List ℤ)) (from : ℕ) (packets : List Received) : Type 0 where
+  pub behind : restored_so_far next ≡ restored_so_far before ++ restored from packets
+  pub place : IfSome (tracked next).run (λ run. (from + length packets) % 624 ≡ next_place run)
+  pub lives : lives_so_far next ≡ longer (lives_so_far before) (packets_in (restored from packets))
+  pub none : lives_so_far before ≡ [] → packets ≡ []
+
+-- One more segment begins a run, and gives no packets.
+pub record Begins (before next : List (List ℤ)) (x : List ℤ) (packets : List Received) : Type 0 where
+  pub nothing : packets ≡ []
+  pub behind : restored_so_far next ≡ restored_so_far before ++ []
+  pub place : IfSome (tracked next).run (λ run. place_behind x ≡ next_place run)
+  pub lives : lives_so_far next ≡ lives_so_far before ++ [] ∷ []
+
+-- At the end of the list these packets are restored and given to the last life.
+pub record Ends (segments : List (List ℤ)) (from : ℕ) (packets : List Received) : Type 0 where
+  pub behind : all_restored segments ≡ restored_so_far segments ++ restored from packets
+  pub lives : lives segments ≡ longer (lives_so_far segments) (packets_in (restored from packets))
+  pub none : lives_so_far segments ≡ [] → packets ≡ []
 
 -- ---- longer lives
 
@@ -322,6 +340,29 @@ searched_with s x p packets ended e f h =
 abbrev pub Steps : List (List ℤ) → List ℤ → ℕ → List Received → Tracking → Type 0
 Steps s x p packets Began = Begins s (s ++ x ∷ []) x packets
 Steps s x p packets tracking = GoesOn s (s ++ x ∷ []) p packets
+
+-- where it begins no run
+pub goes_on : (s : List (List ℤ)) (x : List ℤ) (p : ℕ) (packets : List Received) (t : Tracking) → begun t ≡ 0
+    → Steps s x p packets t → GoesOn s (s ++ x ∷ []) p packets
+goes_on s x p packets Searching none is = is
+goes_on s x p packets Sync none is = is
+goes_on s x p packets Data none is = is
+goes_on s x p packets Ended none is = is
+goes_on s x p packets Began none is = absurd (omega (arith, none))
+
+pub given_stays : (given : List (List ℕ)) (t : Tracking) → begun t ≡ 0 → given_behind t given ≡ given
+given_stays given Searching none = refl
+given_stays given Sync none = refl
+given_stays given Data none = refl
+given_stays given Ended none = refl
+given_stays given Began none = absurd (omega (arith, none))
+
+pub begins_one : (t : Tracking) → begun t ≡ 1 → t ≡ Began
+begins_one Searching e = absurd (omega (arith, e))
+begins_one Sync e = absurd (omega (arith, e))
+begins_one Data e = absurd (omega (arith, e))
+begins_one Ended e = absurd (omega (arith, e))
+begins_one Began e = refl
 
 pub one_more : (s : List (List ℤ)) (x : List ℤ) (p : ℕ) (packets : List Received)
     → IfSome (tracked s).run (λ run. p ≡ next_place run)

@@ -3,5 +3,4 @@ pub mod GoingOnLemmas
 pub mod LivesLemmas
 pub mod MarksLemmas
 pub mod Refilled
-pub mod Stepping
 pub mod SeveralLemmas

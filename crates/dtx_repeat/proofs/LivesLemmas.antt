@@ -1,15 +1,14 @@
 -- The lives of an exciter that is fed by a repeater, by what the repeater gives.
 use Rattle.std.proofs.Common.{◌≡◌, ℕ, ℤ, Option, Some, None, IfSome, List, [], ◌∷◌, ◌++◌, length, map, refl, sym, ap}
-use Rattle.std.proofs.Common.{◌∙◌, arith}
-use Rattle.std.specs.Prelude.{option_to_list}
-use Rattle.std.proofs.lemmas.List.{append_cancel_left, length-append, length-map}
+use Rattle.std.proofs.Common.{◌∙◌, arith, option_to_list, length-append}
+use Rattle.std.proofs.lemmas.List.{append_cancel_left, length-map}
 use Rattle.dtx_receiver.proofs.CountingLemmas.{given_more, all_more}
 use Rattle.dtx_receiver.specs.Runs.{tracked, runs, tracking}
 use Rattle.dtx_receiver.specs.declared.batch.Received.{Received}
 use Rattle.dtx_receiver.specs.declared.tracking.Tracking.{Tracking}
 use Rattle.dtx_receiver.specs.declared.tracking.Tracking.TheVariants.{Searching, Began, Sync, Data, Ended}
-use Rattle.dtx_repeat.specs.GoingOn.{longer, with_begun, AreGiven, GoesOn, Ends}
-use Rattle.dtx_repeat.proofs.GoingOnLemmas.{Steps, one_more, at_end, longer_none}
+use Rattle.dtx_repeat.specs.GoingOn.{longer, with_begun, AreGiven}
+use Rattle.dtx_repeat.proofs.GoingOnLemmas.{GoesOn, Ends, Steps, one_more, at_end, longer_none}
 use Rattle.dtx_repeat.specs.Lives.{packets_in, life_of, lives, lives_so_far}
 use Rattle.dtx_repeat.specs.Repeater.{next_place}
 use Rattle.dtx_repeat.specs.Restored.{restored, all_restored, restored_so_far, early_restored}

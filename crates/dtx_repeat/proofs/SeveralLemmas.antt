@@ -1,6 +1,7 @@
 -- Several segments, of which none begins a run, and one alone that does.
-use Rattle.std.proofs.Common.{◌≡◌, ◌≢◌, ◌⊎◌, ℕ, ℤ, ◌+◌, ◌%◌, ◌≤◌, ◌<◌, Option, Some, None, IfSome, List, [], ◌∷◌}
-use Rattle.std.proofs.Common.{◌++◌, length, take, get_or, refl, sym, ap, ap₂, ◌∙◌, subst, inl, inr, append_assoc, arith}
+use Rattle.std.proofs.Common.{◌≡◌, ◌≢◌, ◌⊎◌, ℕ, ℤ, ◌+◌, ◌%◌, ◌≤◌, ◌<◌, ◌==◌, if◌then◌else◌, Option, Some, None, IfSome}
+use Rattle.std.proofs.Common.{List, [], ◌∷◌, ◌++◌, length, take, get_or, refl, sym, ap, ap₂, ◌∙◌, subst, inl, inr}
+use Rattle.std.proofs.Common.{append_assoc, arith}
 use Rattle.std.proofs.lemmas.Bool.{cases_eq}
 use Rattle.std.proofs.lemmas.List.{append-nil, append_cancel_left, length-append}
 use Rattle.dtx_receiver.proofs.CountingLemmas.{More, given_more, runs_more}
@@ -8,32 +9,18 @@ use Rattle.dtx_receiver.specs.Packets.{packets_so_far}
 use Rattle.dtx_receiver.specs.Runs.{tracked, tracking, runs, begun}
 use Rattle.dtx_receiver.specs.Symbols.{symbols_in, symbols_of}
 use Rattle.dtx_receiver.specs.declared.batch.Received.{Received}
-use Rattle.dtx_receiver.specs.declared.tracking.Tracking.{Tracking}
-use Rattle.dtx_receiver.specs.declared.tracking.Tracking.TheVariants.{Searching, Began, Sync, Data, Ended}
-use Rattle.dtx_repeat.specs.GoingOn.{longer, with_begun, with_runs, AreGiven, GoesOn, Begins}
-use Rattle.dtx_repeat.proofs.GoingOnLemmas.{Steps, one_more, nothing_more, longer_none, longer_longer}
+use Rattle.dtx_repeat.specs.GoingOn.{longer, with_begun, AreGiven}
+use Rattle.dtx_repeat.proofs.GoingOnLemmas.{GoesOn, Begins, Steps, begins_one, goes_on, one_more, nothing_more}
+use Rattle.dtx_repeat.proofs.GoingOnLemmas.{longer_none, longer_longer}
 use Rattle.dtx_repeat.proofs.LivesLemmas.{lives_more, given_on, place_by, at_place}
 use Rattle.dtx_repeat.specs.Lives.{packets_in, lives_so_far}
 use Rattle.dtx_repeat.specs.Repeater.{next_place}
 use Rattle.dtx_repeat.specs.Restored.{restored, restored_so_far}
 use Rattle.dtx_repeat.proofs.RestoredLemmas.{restored_none, restored_behind, packets_in-append}
-use Rattle.dtx_repeat.proofs.Stepping.{BeginsNone, goes_on}
 
--- ---- whether a run begins, by how many do
-
-begins_none : (t : Tracking) → begun t ≡ 0 → BeginsNone t
-begins_none Searching e = inl refl
-begins_none Sync e = inr (inl refl)
-begins_none Data e = inr (inr (inl refl))
-begins_none Ended e = inr (inr (inr refl))
-begins_none Began e = absurd (omega (arith, e))
-
-begins_one : (t : Tracking) → begun t ≡ 1 → t ≡ Began
-begins_one Searching e = absurd (omega (arith, e))
-begins_one Sync e = absurd (omega (arith, e))
-begins_one Data e = absurd (omega (arith, e))
-begins_one Ended e = absurd (omega (arith, e))
-begins_one Began e = refl
+-- these lives, and an empty one more if runs began, so many of them
+abbrev pub with_runs : ℕ → List (List (List ℕ)) → List (List (List ℕ))
+with_runs begins lives = if begins == 0 then lives else lives ++ [] ∷ []
 
 -- what holds where none begins, and where one does
 pub one_or_none : (P : ℕ → Type 0) (begins : ℕ) → begins ≤ 1 → P 0 → P 1 → P begins
@@ -134,7 +121,7 @@ goes_on_all (x ∷ xs) s p packets place few h =
     ∙ append_assoc (packets_so_far s) one.0 rest.0) in
     let none : begun (tracking s x) ≡ 0 = none_first xs s x few in
     let first : GoesOn s mid p one.0 =
-    goes_on s x p one.0 (tracking s x) (begins_none (tracking s x) none) (one_more s x p one.0 place one.1) in
+    goes_on s x p one.0 (tracking s x) none (one_more s x p one.0 place one.1) in
     let few_more : length (runs (mid ++ xs)) ≡ length (runs mid) =
     omega (arith, ap (λ z. length (runs z)) all, few, runs_more s x, none) in
     subst (λ z. GoesOn s z p packets) all

@@ -1,7 +1,6 @@
 -- Which packets of a run are marks, and the packets of a feed that are received.
 use Rattle.std.specs.Prelude.{ℕ, ℤ, ◌≡◌, ◌-◌, ◌<◌, ◌/◌, ◌%◌, ◌==◌, ◌&&◌, not, Bool, if◌then◌else◌, List, [], ◌∷◌}
-use Rattle.std.specs.Prelude.{length, drop}
-use Rattle.std.specs.Prelude.{slice_index_or}
+use Rattle.std.specs.Prelude.{length, drop, slice_index_or}
 use Rattle.dtx_cadence.specs.Mark.{sync_at}
 use Rattle.dtx_frame.specs.Detection.{opposites}
 

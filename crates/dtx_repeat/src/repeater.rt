@@ -10,7 +10,7 @@ use crate::marks::{place_behind, place_behind_bytes, restore};
 use dtx_coder::Air;
 use dtx_exciter::{Exciter, Told};
 use dtx_packets::Packet;
-use dtx_receiver::{Batch, Progress, Receiver, Tracking};
+use dtx_receiver::{Batch, Progress, Receiver, Tracking, begun};
 use dtx_sizes::{GROUP_PACKETS, SEGMENT};
 use std::alloc::{AllocError, Global};
 
@@ -55,14 +55,11 @@ impl Repeater {
         ensures few { length batch.new.packets.items ≤ GROUP_PACKETS }
     {
         let tracking = self.receiver.take(segment, batch);
-        match tracking {
-            Tracking::Began => {
-                self.exciter.reset();
-                self.place = place_behind(segment);
-            }
-            Tracking::Searching | Tracking::Sync | Tracking::Data | Tracking::Ended => {
-                self.place = restore(self.place, batch.packets.as_mut_slice());
-            }
+        if begun(tracking) > 0 {
+            self.exciter.reset();
+            self.place = place_behind(segment);
+        } else {
+            self.place = restore(self.place, batch.packets.as_mut_slice());
         }
         tracking
     }

@@ -12,8 +12,7 @@ use Rattle.dtx_files.specs.LogText.{log_text}
 use Rattle.dtx_files.specs.Symbols.{byte_of_symbol}
 use Rattle.dtx_forms.proofs.FilePacketsLemmas.{length-packets_of, packets_on}
 use Rattle.dtx_packets.specs.Packets.{packets_of}
-use Rattle.dtx_jobs.proofs.ExciteLemmas.{sent_push}
-use Rattle.dtx_recipes.proofs.ExciteLemmas.{logged_push}
+use Rattle.dtx_recipes.proofs.ExciteLemmas.{logged_push, sent_push}
 use Rattle.dtx_recipes.specs.Life.{life_tally, logged_bytes, sent_bytes, tally_with, HasRoom}
 use Rattle.dtx_recipes.specs.declared.life_tally.LifeTally.{LifeTally}
 use Rattle.dtx_jobs.specs.Excitation.{IsLife}

@@ -1,25 +1,35 @@
-use Rattle.std.proofs.Common.{length, ap, arith}
+use Rattle.std.proofs.Common.{length, ap, ◌∙◌, arith}
 use Rattle.dtx_repeat.specs.GoingOn.{last_life}
 use Rattle.dtx_repeat.specs.Lives.{lives_so_far}
 use Rattle.dtx_recipes.specs.SymbolFile.{file_segments}
-use Rattle.dtx_jobs.proofs.LivesOn.{cleared}
 use Rattle.dtx_jobs.proofs.repetition.RepetitionStep.clear.Goals as goal
 
 pub returns-clause-stands : goal.returns-clause-stands
-returns-clause-stands c = λ given stand. record {
-  repeating = cleared c.args.self.now c.clear.new.self (file_segments given) c.clear.ensures.tally stand.repeating;
-  few = record {
-    runs = stand.few.runs;
-    packets = omega (arith, stand.few.packets, ap (λ t. t.packets) c.clear.ensures.tally);
-  };
-}
+returns-clause-stands c = λ given stand.
+    let is = stand.repeating in
+    record {
+      repeating = record {
+        sending = record { stands = is.sending.stands; counted = c.clear.ensures.tally ∙ is.sending.counted };
+        count = is.count;
+        begun = is.begun;
+      };
+      few = record {
+        runs = stand.few.runs;
+        packets = omega (arith, stand.few.packets, ap (λ t. t.packets) c.clear.ensures.tally);
+      };
+    }
 
 pub returns-clause-ready : goal.returns-clause-ready
 returns-clause-ready c = λ first units grouped few.
     let some = c.requires.given.1 in
-    let s = file_segments some.0 in (
+    let s = file_segments some.0 in
+    let is = some.2.repeating in (
       s,
-      cleared c.args.self.now c.clear.new.self s c.clear.ensures.tally some.2.repeating,
+      record {
+        sending = record { stands = is.sending.stands; counted = c.clear.ensures.tally ∙ is.sending.counted };
+        count = is.count;
+        begun = is.begun;
+      },
       omega (
         arith,
         few,

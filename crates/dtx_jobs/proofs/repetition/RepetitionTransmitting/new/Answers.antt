@@ -16,9 +16,9 @@ returns-clause-given c =
     record {
       repeating = record {
         sending = record {
-          repeater = subst (λ l. StandsFor a d c.in_ok-new-2.field-0.value [] (last_life l)) (sym no_lives)
+          stands = subst (λ l. StandsFor a d c.in_ok-new-2.field-0.value [] (last_life l)) (sym no_lives)
               (subst (λ r. StandsFor a d r [] []) (sym c.in_ok-new-2.ensures.ok) c.in_ok-new.ensures);
-          tally = tally ∙ sym (no_tally a d) ∙ ap (lives_tally a d) (sym no_lives);
+          counted = tally ∙ sym (no_tally a d) ∙ ap (lives_tally a d) (sym no_lives);
         };
         count = omega arith;
         begun = omega (arith, ap length no_segments);
