@@ -9,7 +9,6 @@ use Rattle.dtx_outside.specs.Written.{IsGathered, IsWritten}
 use Rattle.dtx_outside.specs.declared.shelf.WriteNo.{WriteNo}
 use Rattle.dtx_outside.specs.declared.shelf.WriteNo.TheVariants.{Failed, Memory}
 use Rattle.dtx_engine.specs.Made.{Made, outputs_of}
-use Rattle.dtx_engine.specs.Outlet.{AreBothGathered}
 use Rattle.dtx_engine.specs.Stages.{AreNearlyWritten, most_gathered}
 
 -- where no write error was counted, it was memory that ran out
@@ -20,23 +19,12 @@ short_alone before after Memory gone calm = refl
 
 -- ---- one output
 
-pub nearly_one : (name : List ℕ) (start : Option Files) (made : Made) (rest : List ℕ) (now : Option Files)
-    → IsGathered start name made.first rest now → length rest ≤ 131072
-    → AreNearlyWritten (most_gathered (name ∷ [])) (outputs_of (name ∷ []) made) start now
-nearly_one name start made rest now is few = (is.front, rest, is.whole, few, is.file)
-
 pub whole_one : (name : List ℕ) (start : Option Files) (made : Made) (now : Option Files)
     → IsWritten start name made.first now
     → AreNearlyWritten (most_gathered (name ∷ [])) (outputs_of (name ∷ []) made) start now
 whole_one name start made now is = (made.first, [], append-nil made.first, omega arith, is)
 
 -- ---- two outputs
-
--- nothing of either was flushed
-pub nearly_both : (one other : List ℕ) (start : Option Files) (made : Made) (r s : List ℕ) (now : Option Files)
-    → AreBothGathered one other start made r s now → length r ≤ 16384 → length s ≤ 16384
-    → AreNearlyWritten (most_gathered (one ∷ other ∷ [])) (outputs_of (one ∷ other ∷ []) made) start now
-nearly_both one other start made r s now is few less = grind arith
 
 -- the first was flushed
 pub nearly_second : (one other : List ℕ) (start : Option Files) (made : Made) (s : List ℕ) (now : Option Files)

@@ -1,43 +1,24 @@
 -- Lemmas of the stages of a command: what is asked, what isn't read, and what is written by then.
 use Rattle.std.proofs.Common.{◌≡◌, ◌≢◌, Bool, true, false, ℕ, zero, suc, ◌+◌, ◌*◌, ◌<◌, ◌≤◌, List, [], ◌∷◌, ◌++◌}
 use Rattle.std.proofs.Common.{length, take, drop, replicate, refl, sym, ap, ◌∙◌, arith}
-use Rattle.std.specs.Prelude.{Option, Some, None, Result, Ok, Err, IfErr, IfSome}
-use Rattle.std.specs.FinMap.{get}
+use Rattle.std.specs.Prelude.{Option, Some, None, Err, IfSome}
 use Rattle.std.proofs.lemmas.List.{append-nil}
 use Rattle.dtx_outside.specs.Counts.{Blame, Counts, Nothing, Reading, Rose}
-use Rattle.dtx_outside.specs.Foreseen.{Foreseen, IsForeseenFill, IsForeseenRead}
+use Rattle.dtx_outside.specs.Foreseen.{Foreseen, IsForeseenFill}
 use Rattle.dtx_outside.specs.Shelf.{Files}
 use Rattle.dtx_outside.specs.declared.shelf.ReadNo.{ReadNo}
 use Rattle.dtx_outside.specs.declared.shelf.ReadNo.TheVariants as read
-use Rattle.dtx_outside.specs.declared.shelf.WriteNo.{WriteNo}
 use Rattle.dtx_outside.specs.declared.shelf.WriteNo.TheVariants as write
-use Rattle.dtx_meaning.specs.Status.{blame_of, ended, of_read, of_write, refused_behind}
-use Rattle.dtx_meaning.specs.declared.status.Outcome.{Outcome}
+use Rattle.dtx_meaning.specs.Status.{blame_of, ended, of_read, refused_behind}
 use Rattle.dtx_meaning.specs.declared.status.Status.{Status}
 use Rattle.dtx_meaning.specs.declared.status.Status.TheVariants.{Absent, ReadFault, WriteFault, Memory}
-use Rattle.dtx_engine.specs.Course.{blame_of_piece, status_behind}
+use Rattle.dtx_engine.specs.Course.{status_behind}
 use Rattle.dtx_engine.specs.Made.{Made, joined, outputs_of}
 use Rattle.dtx_engine.specs.Recipe.{Recipe, first_units}
-use Rattle.dtx_engine.specs.Stages.{AreNearlyWritten, AreStages, IsForeseenAsk, IsStopOf, IsStopped, IsUnread}
-use Rattle.dtx_engine.specs.Stages.{most_gathered}
+use Rattle.dtx_engine.specs.Stages.{AreNearlyWritten, IsStopOf, IsStopped, IsUnread, most_gathered}
 use Rattle.dtx_engine.specs.declared.engine.Shape.{Shape}
 use Rattle.dtx_engine.specs.declared.piece.Ending.{Ending}
 use Rattle.dtx_engine.specs.declared.piece.Ending.TheVariants.{Refused, Whole}
-use Rattle.dtx_engine.specs.declared.piece.Piece.{Piece}
-
--- ---- asking
-
-pub asked_read : (readable : Option ℕ) (wanted count : ℕ) (done : Unit {0})
-    → IsForeseenRead readable 0 wanted (Ok count) → IsForeseenAsk readable (Ok done)
-asked_read None wanted count done is = tt
-asked_read (Some n) wanted count done is = is.0
-
-pub asked_unread : (readable : Option ℕ) (which : ℕ) (cause : ReadNo) → IsForeseenRead readable 0 1 (Err cause)
-    → IsForeseenAsk readable (Err (of_read which cause))
-asked_unread None which cause is = tt
-asked_unread (Some n) which read.Absent is = tt
-asked_unread (Some n) which read.Failed is = omega (arith, is)
-asked_unread (Some n) which read.Memory is = tt
 
 -- ---- reading a piece
 
@@ -47,11 +28,6 @@ not_nothing e = cc
 -- an answer that is blamed on nothing is no read error
 pub other_than_read : (status : Status) → blame_of status ≡ Nothing → status ≢ ReadFault
 other_than_read status none = λ is. not_nothing (sym (ap (λ (s : Status). blame_of s) is) ∙ none)
-
--- nor is the end of a piece that is blamed on nothing
-pub judged_read : (readable : Option ℕ) (behind : ℕ) (piece : Piece) → blame_of_piece piece ≡ Nothing
-    → IsUnread readable behind piece
-judged_read readable behind piece none = grind (arith, not_nothing)
 
 same_count : (m n : ℕ) → ◌≡◌ {A = Option ℕ} (Some m) (Some n) → m ≡ n
 same_count m n e = cc
@@ -83,15 +59,6 @@ calm_behind a b c first calm rose = calm (λ more. omega (arith, first, rose mor
 -- a call that is refused isn't done
 pub not_refused : ◌≡◌ {A = Bool} false true → ⊥
 not_refused e = cc
-
--- the error of a call that writes is no read error
-pub no_read : (cause : WriteNo) → of_write cause ≢ ReadFault
-no_read write.Failed = λ e. cc
-no_read write.Memory = λ e. cc
-
-pub writes_no_read : (cause : WriteNo) (result : Result (Unit {0}) Status) → result ≡ Err (of_write cause)
-    → IfErr result (λ status. status ≢ ReadFault)
-writes_no_read cause result is = grind (arith, no_read)
 
 -- a read error behind which writing was refused was met before
 pub read_behind : (first refusal : Status) → refusal ≢ ReadFault → refused_behind first refusal ≡ ReadFault
@@ -141,43 +108,8 @@ nothing_behind (suc zeros) bytes made is none = grind arith
 
 -- ---- the stages
 
--- the input was asked for
-pub asked_stages : (foreseen : Foreseen) (shape : Shape) (recipe : Recipe) (input : List ℕ) (names : List (List ℕ))
-    (held : Files) (before after : Counts) (status : Status) (now : Option Files) (done : Unit {0})
-    → IsForeseenAsk (foreseen.readable input) (Ok done) → ((file : List ℕ) → get held input ≡ Some file
-    → IsStopOf foreseen shape recipe input names held file before after status now)
-    → AreStages foreseen shape recipe input names held before after status now
-asked_stages foreseen shape recipe input names held before after status now done ask stop = grind arith
-
--- asking for the input was refused
-pub unasked_stages : (foreseen : Foreseen) (shape : Shape) (recipe : Recipe) (input : List ℕ) (names : List (List ℕ))
-    (held : Files) (before after : Counts) (status : Status) (now : Option Files)
-    → IsForeseenAsk (foreseen.readable input) (Err status) → now ≡ Some held
-    → AreStages foreseen shape recipe input names held before after status now
-unasked_stages foreseen shape recipe input names held before after status now ask same = grind arith
-
--- no file was touched, and the answer is no read error
-pub kept_stages : (foreseen : Foreseen) (shape : Shape) (recipe : Recipe) (input : List ℕ) (names : List (List ℕ))
-    (held : Files) (before after : Counts) (status : Status) (now : Option Files) → status ≢ ReadFault
-    → now ≡ Some held → AreStages foreseen shape recipe input names held before after status now
-kept_stages foreseen shape recipe input names held before after status now other same = grind arith
-
--- an outcome with that status
-pub ended_not_read : (outcome : Outcome) (status : Status) → outcome ≡ ended status → status ≢ ReadFault
-    → outcome.status ≢ ReadFault
-ended_not_read outcome status is other = λ e. other (sym (ap (λ (o : Outcome). o.status) is) ∙ e)
-
 -- a fact of the files, where they are told
 pub where_told : (told : Option Files) (P : Files → Type 0) → ((held : Files) → told ≡ Some held → P held)
     → IfSome told (λ held. P held)
 where_told None P is = tt
 where_told (Some held) P is = is held refl
-
--- the stages, counted from an earlier moment
-pub stages_before : (foreseen : Foreseen) (shape : Shape) (recipe : Recipe) (input : List ℕ) (names : List (List ℕ))
-    (held : Files) (before between after : Counts) (status : Status) (now : Option Files)
-    → before.write_faults ≤ between.write_faults
-    → AreStages foreseen shape recipe input names held between after status now
-    → AreStages foreseen shape recipe input names held before after status now
-stages_before foreseen shape recipe input names held before between after status now first stages =
-    grind (arith, calm_behind)

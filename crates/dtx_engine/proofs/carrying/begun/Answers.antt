@@ -31,7 +31,8 @@ returns-in-Ok g c = record {
   input = c.carry.ensures.input;
   answer = c.carry.ensures.answer;
   gone = gone_behind (blame_of c.carry.result.status) (g.S.Shelf.counts c.args.shelf.now)
-      (g.S.Shelf.counts c.begin.new.shelf) (g.S.Shelf.counts c.carry.new.shelf) c.in-Ok.ensures.gone c.carry.ensures.gone;
+      (g.S.Shelf.counts c.begin.new.shelf)
+      (g.S.Shelf.counts c.carry.new.shelf) c.in-Ok.ensures.gone c.carry.ensures.gone;
   stages = λ apart held file told there.
       let place = c.args.place in
       let input = place.input.name.now in
