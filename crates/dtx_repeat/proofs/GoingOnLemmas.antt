@@ -100,10 +100,7 @@ lives_is s t e = ap (λ (u : Tracked). lives_with u.ended u.run) e
 with_last : (ended : List (List (List ℤ))) (run : List (List ℤ)) (early brought : List Received)
     → run_restored run ≡ early ++ brought
     → flat_map run_restored (ended ++ run ∷ []) ≡ (flat_map run_restored ended ++ early) ++ brought
-with_last ended run early brought e =
-    flat_map-append run_restored ended (run ∷ [])
-    ∙ ap (λ z. flat_map run_restored ended ++ z) (append-nil (run_restored run) ∙ e)
-    ∙ sym (append_assoc (flat_map run_restored ended) early brought)
+with_last ended run early brought e = grind (arith, flat_map-append, append-nil, append_assoc)
 
 -- ---- what is brought
 
@@ -124,25 +121,20 @@ packets_none s ended e = packets_is s (record { ended = ended; run = None }) e �
 packets_run : (s : List (List ℤ)) (ended : List (List (List ℤ))) (run : List (List ℤ))
     → tracked s ≡ record { ended = ended; run = Some run }
     → packets_so_far s ≡ whole_in ended ++ early_of (bytes_in run)
-packets_run s ended run e =
-    packets_is s (record { ended = ended; run = Some run }) e
-    ∙ ap (λ z. whole_in ended ++ z) (append-nil (early_of (bytes_in run)))
+packets_run s ended run e = grind (arith, packets_is, append-nil)
 
 -- where packets of one run come behind those of the runs before it
 cancelled : (ended : List (List (List ℤ))) (early brought whole before : List Received)
     → before ≡ whole_in ended ++ early → whole_in ended ++ whole ≡ before ++ brought → whole ≡ early ++ brought
 cancelled ended early brought whole before e f =
-    append_cancel_left (whole_in ended) whole (early ++ brought)
-    (f ∙ ap (λ z. z ++ brought) e ∙ append_assoc (whole_in ended) early brought)
+    append_cancel_left (whole_in ended) whole (early ++ brought) (grind (arith, append_assoc))
 
 pub nothing_more : (before brought : List Received) → before ≡ before ++ brought → brought ≡ []
 nothing_more before brought e = sym (append_cancel_left before [] brought (append-nil before ∙ e))
 
 ended_more : (ended : List (List (List ℤ))) (run : List (List ℤ))
     → whole_in (ended ++ run ∷ []) ≡ whole_in ended ++ run_packets (bytes_in run)
-ended_more ended run =
-    flat_map-append (λ r. run_packets (bytes_in r)) ended (run ∷ [])
-    ∙ ap (λ z. whole_in ended ++ z) (append-nil (run_packets (bytes_in run)))
+ended_more ended run = grind (arith, flat_map-append, append-nil)
 
 all_is : (s : List (List ℤ)) (t : Tracked) → tracked s ≡ t → all_packets s ≡ whole_in (t.ended ++ option_to_list t.run)
 unfolding all_packets runs
@@ -197,15 +189,9 @@ begun_with s x packets ended e f h = record {
   nothing = nothing_more (packets_so_far s) packets (packets_none s ended e
       ∙ sym (append-nil (whole_in ended)) ∙ ap (λ z. whole_in ended ++ z) (sym (nothing_early x))
       ∙ sym (packets_run (s ++ x ∷ []) ended (x ∷ []) f) ∙ h);
-  behind = restored_is (s ++ x ∷ []) (record { ended = ended; run = Some (x ∷ []) }) f
-      ∙ ap (λ z. flat_map run_restored ended ++ (z ++ [])) (nothing_restored x)
-      ∙ sym (restored_is s (record { ended = ended; run = None }) e)
-      ∙ sym (append-nil (restored_so_far s));
+  behind = grind (arith, restored_is, nothing_restored, append-nil);
   place = subst (λ (t : Tracked). IfSome t.run (λ run. place_behind x ≡ next_place run)) (sym f) (place_first x);
-  lives = lives_is (s ++ x ∷ []) (record { ended = ended; run = Some (x ∷ []) }) f
-      ∙ ap (λ z. map life_of ended ++ packets_in z ∷ []) (nothing_restored x)
-      ∙ ap (λ z. z ++ [] ∷ []) (sym (append-nil (map life_of ended)))
-      ∙ ap (λ z. z ++ [] ∷ []) (sym (lives_is s (record { ended = ended; run = None }) e));
+  lives = grind (arith, lives_is, nothing_restored, append-nil);
 }
 
 -- ---- a run goes on or ends
@@ -215,17 +201,13 @@ behind_early : (run : List (List ℤ)) (p : ℕ) (whole packets : List Received)
     → whole ≡ early_of (bytes_in run) ++ packets
     → restored (first_place run) whole ≡ early_restored run ++ restored p packets
 unfolding early_restored
-behind_early run p whole packets e f =
-    ap (restored (first_place run)) f ∙ restored_behind (first_place run) p (early_of (bytes_in run)) packets e
+behind_early run p whole packets e f = grind (arith, restored_behind)
 
 -- the lives, where the run that is on has these packets more
 last_longer : (s : List (List ℤ)) (ended : List (List (List ℤ))) (run : List (List ℤ)) (more : List Received)
     → tracked s ≡ record { ended = ended; run = Some run }
     → longer (lives_so_far s) (packets_in more) ≡ map life_of ended ++ packets_in (early_restored run ++ more) ∷ []
-last_longer s ended run more e =
-    ap (λ z. longer z (packets_in more)) (lives_is s (record { ended = ended; run = Some run }) e)
-    ∙ longer_last (map life_of ended) (packets_in (early_restored run)) (packets_in more)
-    ∙ ap (λ z. map life_of ended ++ z ∷ []) (sym (packets_in-append (early_restored run) more))
+last_longer s ended run more e = grind (arith, lives_is, longer_last, packets_in-append)
 
 some_lives : {X : Type 0} (xs : List X) (x : X) → xs ++ x ∷ [] ≢ []
 some_lives xs x e = omega (arith, ap length e, length-append xs (x ∷ []))
@@ -251,17 +233,10 @@ on_with s x p packets ended run e some f place h =
     ap (λ k. restored k (early_of (bytes_in new))) first
     ∙ behind_early run p (early_of (bytes_in new)) packets place early in
     record {
-      behind = restored_is (s ++ x ∷ []) (record { ended = ended; run = Some new }) f
-          ∙ ap (λ z. flat_map run_restored ended ++ z) (append-nil (early_restored new) ∙ both)
-          ∙ sym (append_assoc (flat_map run_restored ended) (early_restored run) (restored p packets))
-          ∙ ap (λ z. z ++ restored p packets)
-          (sym (restored_is s (record { ended = ended; run = Some run }) e
-          ∙ ap (λ z. flat_map run_restored ended ++ z) (append-nil (early_restored run))));
+      behind = grind (arith, restored_is, append-nil, append_assoc, both);
       place = subst (λ (t : Tracked). IfSome t.run (λ run. (p + length packets) % 624 ≡ next_place run)) (sym f)
           (omega (arith, place, ap length early, length-append (early_of (bytes_in run)) packets, first));
-      lives = lives_is (s ++ x ∷ []) (record { ended = ended; run = Some new }) f
-          ∙ ap (λ z. map life_of ended ++ packets_in z ∷ []) both
-          ∙ sym (last_longer s ended run (restored p packets) e);
+      lives = grind (arith, lives_is, last_longer, both);
       none = not_none s ended run packets e;
     }
 
@@ -280,21 +255,14 @@ whole_restored : (s : List (List ℤ)) (p : ℕ) (packets : List Received) (ende
     (run : List (List ℤ)) → tracked s ≡ record { ended = ended; run = Some run }
     → run_restored run ≡ early_restored run ++ restored p packets
     → flat_map run_restored (ended ++ run ∷ []) ≡ restored_so_far s ++ restored p packets
-whole_restored s p packets ended run e is =
-    with_last ended run (early_restored run) (restored p packets) is
-    ∙ ap (λ z. z ++ restored p packets)
-    (sym (restored_is s (record { ended = ended; run = Some run }) e
-    ∙ ap (λ z. flat_map run_restored ended ++ z) (append-nil (early_restored run))))
+whole_restored s p packets ended run e is = grind (arith, with_last, restored_is, append-nil)
 
 whole_lives : (s : List (List ℤ)) (p : ℕ) (packets : List Received) (ended : List (List (List ℤ)))
     (run : List (List ℤ)) → tracked s ≡ record { ended = ended; run = Some run }
     → run_restored run ≡ early_restored run ++ restored p packets
     → map life_of (ended ++ run ∷ []) ≡ longer (lives_so_far s) (packets_in (restored p packets))
 unfolding life_of
-whole_lives s p packets ended run e is =
-    map-append life_of ended (run ∷ [])
-    ∙ ap (λ z. map life_of ended ++ packets_in z ∷ []) is
-    ∙ sym (last_longer s ended run (restored p packets) e)
+whole_lives s p packets ended run e is = grind (arith, map-append, last_longer)
 
 ended_with : (s : List (List ℤ)) (x : List ℤ) (p : ℕ) (packets : List Received) (ended : List (List (List ℤ)))
     (run : List (List ℤ)) → tracked s ≡ record { ended = ended; run = Some run }
@@ -304,13 +272,9 @@ ended_with s x p packets ended run e f place h =
     let is : run_restored run ≡ early_restored run ++ restored p packets =
     whole_run s p packets ended run e place (sym (packets_none (s ++ x ∷ []) (ended ++ run ∷ []) f) ∙ h) in
     record {
-      behind = restored_is (s ++ x ∷ []) (record { ended = ended ++ run ∷ []; run = None }) f
-          ∙ append-nil (flat_map run_restored (ended ++ run ∷ []))
-          ∙ whole_restored s p packets ended run e is;
+      behind = grind (arith, restored_is, append-nil, whole_restored);
       place = subst (λ (t : Tracked). IfSome t.run (λ run. (p + length packets) % 624 ≡ next_place run)) (sym f) _;
-      lives = lives_is (s ++ x ∷ []) (record { ended = ended ++ run ∷ []; run = None }) f
-          ∙ append-nil (map life_of (ended ++ run ∷ []))
-          ∙ whole_lives s p packets ended run e is;
+      lives = grind (arith, lives_is, append-nil, whole_lives);
       none = not_none s ended run packets e;
     }
 
@@ -327,11 +291,9 @@ searched_with s x p packets ended e f h =
     let nothing : restored p packets ≡ [] = ap (restored p) none ∙ restored_none p in
     let o : Tracked = record { ended = ended; run = None } in
     record {
-      behind = restored_is (s ++ x ∷ []) o f ∙ sym (restored_is s o e) ∙ sym (append-nil (restored_so_far s))
-          ∙ ap (λ z. restored_so_far s ++ z) (sym nothing);
+      behind = grind (arith, restored_is, append-nil, nothing);
       place = subst (λ (t : Tracked). IfSome t.run (λ run. (p + length packets) % 624 ≡ next_place run)) (sym f) _;
-      lives = lives_is (s ++ x ∷ []) o f ∙ sym (lives_is s o e) ∙ sym (longer_none (lives_so_far s))
-          ∙ ap (λ z. longer (lives_so_far s) (packets_in z)) (sym nothing);
+      lives = grind (arith, lives_is, longer_none, nothing);
       none = λ _. none;
     }
 
@@ -414,14 +376,8 @@ at_end s p packets place h = by_run (tracked s).run refl
         ∙ h) in
         let nothing : restored p packets ≡ [] = ap (restored p) none ∙ restored_none p in
         record {
-          behind = all_restored_is s o (now s None e) ∙ ap (flat_map run_restored) (append-nil ended)
-              ∙ sym (restored_is s o (now s None e) ∙ append-nil (flat_map run_restored ended))
-              ∙ sym (append-nil (restored_so_far s))
-              ∙ ap (λ z. restored_so_far s ++ z) (sym nothing);
-          lives = all_lives_are s o (now s None e) ∙ ap (map life_of) (append-nil ended)
-              ∙ sym (lives_is s o (now s None e) ∙ append-nil (map life_of ended))
-              ∙ sym (longer_none (lives_so_far s))
-              ∙ ap (λ z. longer (lives_so_far s) (packets_in z)) (sym nothing);
+          behind = grind (arith, all_restored_is, restored_is, now, append-nil, nothing);
+          lives = grind (arith, all_lives_are, lives_is, now, append-nil, longer_none, nothing);
           none = λ _. none;
         }
     by_run (Some run) e =

@@ -22,14 +22,8 @@ length-restored k (x ∷ xs) = omega (arith, ap length (restored_cons k x xs), l
 
 pub restored-append : (k : ℕ) (a b : List Received)
     → restored k (a ++ b) ≡ restored k a ++ restored (k + length a) b
-restored-append k [] b =
-    ap (λ n. restored n b) (omega arith) ∙ ap (λ z. z ++ restored (k + 0) b) (sym (restored_none k))
-restored-append k (x ∷ a) b =
-    let at : k + 1 + length a ≡ k + length (x ∷ a) = omega arith in
-    restored_cons k x (a ++ b)
-    ∙ ap (λ z. restored_one k x ∷ z) (restored-append (k + 1) a b
-    ∙ ap (λ n. restored (k + 1) a ++ restored n b) at)
-    ∙ ap (λ z. z ++ restored (k + length (x ∷ a)) b) (sym (restored_cons k x a))
+restored-append k [] b = grind (arith, restored_none)
+restored-append k (x ∷ a) b = grind (arith, restored_cons, restored-append (k + 1) a b)
 
 -- at another place of the same kind
 same_sync : (k m : ℕ) → k % 624 ≡ m % 624 → sync_at k ≡ sync_at m
@@ -48,9 +42,7 @@ restored_same k m (x ∷ xs) e =
 -- packets behind others, from the place in the frame that is left
 pub restored_behind : (k p : ℕ) (a b : List Received) → p ≡ (k + length a) % 624
     → restored k (a ++ b) ≡ restored k a ++ restored p b
-restored_behind k p a b e =
-    restored-append k a b
-    ∙ ap (λ z. restored k a ++ z) (restored_same (k + length a) p b (omega (arith, e)))
+restored_behind k p a b e = grind (arith, restored-append, restored_same)
 
 pub packets_in-append : (a b : List Received) → packets_in (a ++ b) ≡ packets_in a ++ packets_in b
 packets_in-append a b = map-append (λ (r : Received). r.packet.0) a b

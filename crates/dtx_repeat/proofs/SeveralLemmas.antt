@@ -74,10 +74,9 @@ same_place p (Some run) h = omega (arith, h)
 -- no segment
 stays : (s : List (List ℤ)) (p : ℕ) → IfSome (tracked s).run (λ run. p ≡ next_place run) → GoesOn s s p []
 stays s p place = record {
-  behind = sym (append-nil (restored_so_far s)) ∙ ap (λ z. restored_so_far s ++ z) (sym (restored_none p));
+  behind = grind (arith, append-nil, restored_none);
   place = same_place p (tracked s).run place;
-  lives = sym (longer_none (lives_so_far s))
-      ∙ ap (λ z. longer (lives_so_far s) (packets_in z)) (sym (restored_none p));
+  lives = grind (arith, longer_none, restored_none);
   none = λ e. refl;
 }
 
@@ -89,14 +88,9 @@ goes_on_twice s mid next p a b f g =
     let both : restored p (a ++ b) ≡ restored p a ++ restored q b = restored_behind p q a b refl in
     let long : length (a ++ b) ≡ length a + length b = length-append a b in
     record {
-      behind = g.behind ∙ ap (λ z. z ++ restored q b) f.behind
-          ∙ append_assoc (restored_so_far s) (restored p a) (restored q b)
-          ∙ ap (λ z. restored_so_far s ++ z) (sym both);
+      behind = grind (arith, f.behind, g.behind, append_assoc, both);
       place = subst (λ (n : ℕ). IfSome (tracked next).run (λ run. n ≡ next_place run)) (omega (arith, long)) g.place;
-      lives = g.lives ∙ ap (λ z. longer z (packets_in (restored q b))) f.lives
-          ∙ longer_longer (lives_so_far s) (packets_in (restored p a)) (packets_in (restored q b))
-          ∙ ap (longer (lives_so_far s))
-          (sym (packets_in-append (restored p a) (restored q b)) ∙ ap packets_in (sym both));
+      lives = grind (arith, f.lives, g.lives, longer_longer, packets_in-append, both);
       none = λ e.
           ap₂ (λ (x y : List Received). x ++ y) (f.none e)
           (g.none (f.lives ∙ ap (λ z. longer z (packets_in (restored p a))) e));
