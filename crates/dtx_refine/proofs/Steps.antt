@@ -53,11 +53,6 @@ sum_more : (g : Field → ℕ) (n total : ℕ) (last : Field) (fields : ℕ → 
     → total + g last ≡ sum (map (λ f. g (with_last n last fields f)) (range_with_len 0 (n + 1)))
 sum_more g n total last fields e = grind (arith, sum_by-map-range_with_len_more, map-range_same, before_last, at_last)
 
--- no field
-pub counted_none : (scale rounds : ℕ) (symbols : List ℤ) (numbers : Numbers) (field : Field) → numbers.done ≡ 0
-    → numbers.known ≡ 0 → numbers.cost ≡ 0 → numbers.moved ≡ 0 → AreCounted scale rounds symbols numbers
-counted_none scale rounds symbols numbers field done known cost moved = grind arith
-
 -- a field more
 pub counted_next : (scale rounds : ℕ) (symbols : List ℤ) (old new : Numbers) (field : Field)
     → AreCounted scale rounds symbols old
@@ -94,17 +89,12 @@ tail_same : (xs : List (List ℤ)) (sync : List ℤ) (others : List (List ℤ)) 
 tail_same [] sync others e = absurd (omega (arith, ap length e))
 tail_same (x ∷ xs) sync others e = ap (drop 1) e
 
--- the segments of a field behind its sync
-rows_behind : (n : ℕ) (rows : List (List ℤ)) (sync : List ℤ) (others : List (List ℤ))
-    → take 313 (drop n rows) ≡ sync ∷ others → take 312 (drop (n + 1) rows) ≡ others
-rows_behind n rows sync others e = ap (take 312) (sym (drop-drop 1 n rows)) ∙ tail_same (drop n rows) sync others e
-
 pub field_cost_is : (scale t : ℕ) (heard rows : List (List ℤ)) → rows ≡ rows_of heard t → 0 < length rows
     → path_cost scale rows ≡ softened_cost scale (groups_in heard t)
 unfolding groups_behind
 field_cost_is scale t heard [] e l = absurd (omega (arith, l))
-field_cost_is scale t heard (sync ∷ others) e l =
-    ap (λ xs. softened_cost scale (in_groups xs)) (sym (rows_behind (313 * t) heard sync others (sym e)))
+field_cost_is scale t heard (sync ∷ others) e l = ap (λ xs. softened_cost scale (in_groups xs))
+    (sym (ap (take 312) (sym (drop-drop 1 (313 * t) heard)) ∙ tail_same (drop (313 * t) heard) sync others (sym e)))
 
 -- ---- what was passed
 
@@ -118,7 +108,7 @@ pub none_passed : (scale : ℕ) (symbols : List ℤ) (passes : Passes) → 0 < s
     → AreMade scale (heard_of symbols) (acquired scale symbols) passes.count 0 0 passes.rounds → passes.held ≡ 0
     → passes.numbers.done ≡ 0 → passes.numbers.known ≡ 0 → passes.numbers.cost ≡ 0 → passes.numbers.moved ≡ 0
     → ArePassed scale symbols 0 passes
-none_passed scale symbols passes some most made held done known cost moved = grind (arith, counted_none)
+none_passed scale symbols passes some most made held done known cost moved = grind arith
 
 -- field `old.numbers.done` is given, with its numbers
 module _ (scale u : ℕ) (symbols : List ℤ) (old new : Passes) where
