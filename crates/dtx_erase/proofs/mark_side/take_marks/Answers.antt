@@ -41,7 +41,8 @@ loop-i-preserved c =
       grouped = λ run given d e.
           let before = run ++ shown_run (symbols_in (take i segments)) in
           subst (λ s. AreGrouped c.take.new.self.groups s given)
-          (ap (λ y. before ++ y ∷ []) (c.as_marks.ensures ∙ ap (map shown) c.to_symbols.ensures) ∙ more run segments i l)
+          (ap (λ y. before ++ y ∷ []) (c.as_marks.ensures ∙ ap (map shown) c.to_symbols.ensures)
+          ∙ more run segments i l)
           (c.take.ensures.grouped before given (c.loop-i.invariant.grouped run given d e)
           (omega (arith, now run segments i (omega (arith, l)), e, l, c.requires.place)));
       held = omega (arith, c.take.ensures.held, c.loop-i.invariant.held);
