@@ -1,6 +1,5 @@
 -- The answers of what mends, from those of a corrector and of the final test.
-use Rattle.std.proofs.Common.{◌≡◌, ◌↔◌, ℕ, ◌+◌, ◌*◌, ◌≤◌, List, Bool, IsTrue, length, nat_le, arith}
-use Rattle.std.proofs.lemmas.Bool.Decides.{nat_tests}
+use Rattle.std.proofs.Common.{◌≡◌, ℕ, List, Bool, length, arith}
 use Rattle.std.specs.Prelude.{Result, Ok, Err, MatchResult}
 use Rattle.dtx_laws.specs.Codeword.{IsCodeword}
 use Rattle.dtx_laws.specs.Correction.{IsCorrected, IsLeft}
@@ -22,8 +21,3 @@ pub not_restored : (n k : ℕ) (marks : List Bool) (word tried : List ℕ)
     → ((right : List ℕ) → IsMending n k marks word right → tried ≡ right) → (IsCodeword n k tried → ⊥)
     → IsUnmended n k marks word word
 not_restored n k marks word tried h d = grind arith
-
--- what counts as near, by counts that were taken
-pub near_is : (wrong missing distance count room : ℕ) → wrong ≡ distance → missing ≡ count
-    → IsTrue (nat_le (2 * wrong + missing) room) ↔ (2 * distance + count ≤ room)
-near_is wrong missing distance count room e f = (λ h. grind (arith, nat_tests), λ h. grind (arith, nat_tests))

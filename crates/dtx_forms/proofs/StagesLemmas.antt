@@ -1,19 +1,16 @@
 -- Lemmas of the stages of a job: from those of its loop, where no file was touched, and behind a small file that was
 -- read first.
-use Rattle.std.proofs.Common.{◌≡◌, ◌≢◌, ◌⊎◌, ℕ, zero, suc, ◌<◌, ◌+◌, ◌*◌, ◌^◌, List, [], ◌∷◌, sym, subst, inl, inr}
-use Rattle.std.proofs.Common.{arith}
-use Rattle.std.specs.Prelude.{Option, Some, None, Result, Ok, Err, IfSome}
+use Rattle.std.proofs.Common.{◌≡◌, ◌≢◌, ◌⊎◌, ℕ, zero, suc, ◌*◌, ◌^◌, List, [], ◌∷◌, sym, subst, inl, inr, arith}
+use Rattle.std.specs.Prelude.{Option, Some, None, Result, Ok, IfSome}
 use Rattle.std.specs.FinMap.{get}
 use Rattle.std.specs.List.{Contains}
 use Rattle.dtx_outside.specs.Counts.{Counts, HasGone, Nothing}
-use Rattle.dtx_outside.specs.Foreseen.{Foreseen, IsForeseenRead}
+use Rattle.dtx_outside.specs.Foreseen.{Foreseen}
 use Rattle.dtx_outside.specs.Shelf.{Files}
-use Rattle.dtx_outside.specs.declared.shelf.ReadNo.{ReadNo}
 use Rattle.dtx_outside.specs.declared.shelf.ReadNo.TheVariants as read
-use Rattle.dtx_plan.specs.declared.refusal.PlanFault.{PlanFault}
 use Rattle.dtx_plan.specs.declared.refusal.PlanFault.TheVariants as fault
 use Rattle.dtx_plan.specs.declared.refusal.PlanNo.{PlanNo}
-use Rattle.dtx_meaning.specs.Status.{ended, of_plan, of_read}
+use Rattle.dtx_meaning.specs.Status.{ended}
 use Rattle.dtx_meaning.specs.declared.status.Outcome.{Outcome}
 use Rattle.dtx_meaning.specs.declared.status.Status.{Status}
 use Rattle.dtx_meaning.specs.declared.status.Status.TheVariants.{ReadFault}
@@ -65,26 +62,6 @@ pub ended_staged : (foreseen : Foreseen) (stages : Option Stages) (outcome : Out
     (told : Option Files) (counts : Counts) → outcome ≡ ended status → IsNotRead status
     → IsStaged foreseen stages outcome.status told told counts counts
 ended_staged foreseen stages outcome status told counts is other = grind (arith, kept_staged)
-
--- ---- a small file is read whole
-
--- a read of it
-pub foreseen_on : (readable : Option ℕ) (place wanted count : ℕ) → IsForeseenRead readable place wanted (Ok count)
-    → readable ≢ Some 0
-foreseen_on None place wanted count is = λ e. cc
-foreseen_on (Some n) place wanted count is = grind arith
-
--- a read that failed
-pub foreseen_failed : (readable : Option ℕ) (number place wanted : ℕ) (cause : ReadNo) → place + wanted < 2 ^ 64
-    → IsForeseenRead readable place wanted (Err cause) → readable ≡ Some (2 ^ 64) → of_read number cause ≢ ReadFault
-foreseen_failed readable number place wanted read.Absent room is all = λ e. cc
-foreseen_failed readable number place wanted read.Failed room is all = grind arith
-foreseen_failed readable number place wanted read.Memory room is all = λ e. cc
-
--- a rule that is broken is no read error
-pub broken_not_read : (fault : PlanFault) → of_plan fault ≢ ReadFault
-broken_not_read fault.Memory = λ e. cc
-broken_not_read (fault.No refusal) = λ e. cc
 
 -- ---- behind a small file that was read
 

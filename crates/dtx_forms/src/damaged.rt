@@ -17,6 +17,7 @@ pub struct DamagedInput<'a, E> {
 
 impl<'a, E: Engine> DamagedInput<'a, E> {
     /// Puts an engine that was given nothing under this damage.
+    #[tactic(auto, using(dtx_make::proofs::LaidLemmas::hurt_none))]
     pub fn new(damage: &'a Damages, engine: E) -> DamagedInput<'a, E>
         requires in_order { AreInOrder damage.now }
         requires fresh { E.stands engine [] }

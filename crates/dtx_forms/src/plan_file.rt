@@ -23,6 +23,7 @@ const PIECE: usize = 65_536;
 
 /// Reads the plan in the input of that number. `dtx_plan::read_plan` says what its text may be (the profile's own). The
 /// error is `Absent` with that number, `Plan` with the rule that is broken, `ReadFault` or `Memory`.
+#[tactic(auto, using(crate::proofs::SmallFile::read_said, crate::proofs::SmallFile::plan_of_part, crate::proofs::SmallFile::read_refused))]
 pub fn plan_in<S: Shelf>(
     alloc: Global,
     shelf: &mut S,
@@ -50,6 +51,7 @@ pub fn plan_in<S: Shelf>(
 
 /// Reads the damage in the file of changes that is the input of that number. `dtx_plan::read_changes` says what its
 /// text may be (the profile's own). The errors are those of `plan_in`.
+#[tactic(auto, using(crate::proofs::SmallFile::read_said, crate::proofs::SmallFile::changes_of_part, crate::proofs::SmallFile::read_refused))]
 pub fn changes_in<S: Shelf>(
     alloc: Global,
     shelf: &mut S,

@@ -1,11 +1,10 @@
 -- Bounds of the differences of squares and of potentials.
-use Rattle.std.proofs.Common.{◌≡◌, ℕ, ℤ, pos, ◌+◌, ◌≤◌, ◌+ℤ◌, ◌-ℤ◌, ◌≤ℤ◌, nat_abs, nat_eq, Bool, true, false, cond}
-use Rattle.std.proofs.Common.{refl, arith}
+use Rattle.std.proofs.Common.{◌≡◌, ℕ, ℤ, pos, ◌+◌, ◌≤◌, ◌+ℤ◌, ◌-ℤ◌, ◌≤ℤ◌, nat_abs, refl, arith}
 use Rattle.std.specs.Int.{int_min}
 use Rattle.std.proofs.lemmas.Int.{ints, clamps}
 use Rattle.dtx_soft.specs.declared.gaps.Gap.{Gap}
 use Rattle.dtx_soft.specs.declared.gaps.SquareGaps.{SquareGaps}
-use Rattle.dtx_soft.specs.Bounds.{AreBounds, AreWithin, Bounds, IsBounded, IsReached, IsScale, bytes, words}
+use Rattle.dtx_soft.specs.Bounds.{AreBounds, AreWithin, Bounds, IsBounded, IsReached, IsScale}
 use Rattle.dtx_soft.specs.Gaps.{AreSums}
 use Rattle.dtx_soft.specs.Squares.{IsSquares, across_of, even_of, odd_of, seen}
 
@@ -82,6 +81,3 @@ sums_of squares old = record { even = refl; odd = refl; across = refl }
 pub none_bounded : (b : Bounds) (gap : Gap ℤ) → gap.even ≡ pos 0 → gap.odd ≡ pos 0 → gap.across ≡ pos 0
     → IsBounded b gap
 none_bounded b gap e f g = grind (arith, ints)
-
-pub bytes_in_words : (gap : Gap ℤ) → IsBounded bytes gap → IsBounded words gap
-bytes_in_words gap h = grind arith

@@ -15,8 +15,7 @@ both_read-setting-requires-clause-scale g c =
 pub returns-in-len4 : goal.returns-in-len4
 returns-in-len4 g c =
     let job = scaled_job g.E.Capturing.command g.E.Engine.shape g.E.Capturing.makes in
-    let is = rw (c.both_read-setting.ensures.setting, c.number_within-scale.ensures) at
-    c.transform_capture.ensures in
+    let is = rw (c.both_read-setting.ensures.setting, c.number_within-scale.ensures) at c.transform_capture.ensures in
     let told = g.S.Shelf.files c.args.shelf.now in
     let now = g.S.Shelf.files c.transform_capture.new.shelf in
     let before = g.S.Shelf.counts c.args.shelf.now in

@@ -9,6 +9,3 @@ returns-in-Ok-clause-performed g c = record {
   answers = g.met.E.Transforming.knows _ (rw (← c.in-Ok.ensures.makes) c.make_both.ensures.answer);
   gone = c.make_both.ensures.gone;
 }
-
-pub returns-in-Ok-clause-stages : goal.returns-in-Ok-clause-stages
-returns-in-Ok-clause-stages g c = rw (← c.in-Ok.ensures.makes) c.make_both.ensures.stages

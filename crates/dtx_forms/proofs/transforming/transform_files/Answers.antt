@@ -1,4 +1,4 @@
-use Rattle.std.proofs.Common.{[], ◌∷◌}
+use Rattle.std.proofs.Common.{arith}
 use Rattle.dtx_forms.proofs.AnswersLemmas.{transformed_knows}
 use Rattle.dtx_forms.proofs.OfWordsLemmas.{pair_told}
 use Rattle.dtx_forms.proofs.StagesLemmas.{loop_staged}
@@ -14,8 +14,4 @@ returns-in-Ok-clause-performed g c = record {
 }
 
 pub returns-in-Ok-clause-stages : goal.returns-in-Ok-clause-stages
-returns-in-Ok-clause-stages g c =
-    loop_staged g.S.Shelf.foreseen g.E.Engine.shape g.E.Transforming.makes c.args.input.now (c.args.output.now ∷ [])
-    c.transform.result.status (g.S.Shelf.files c.args.shelf.now) (g.S.Shelf.files c.transform.new.shelf)
-    (g.S.Shelf.counts c.args.shelf.now) (g.S.Shelf.counts c.transform.new.shelf)
-    (rw (← c.in-Ok.ensures.makes) c.transform.ensures.stages)
+returns-in-Ok-clause-stages g c = grind (arith, loop_staged)

@@ -18,6 +18,5 @@ returns-in-len6 g c =
     c.as_str-in-len6.result.now c.as_str-in-len6-2.result.now c.in-len6.len_at_least c.in-len6.len_below
     (c.as_str.ensures ∙ c.input-item.is) (c.as_str-in-len6-3.ensures ∙ c.address-item.is)
     (c.as_str-in-len6-4.ensures ∙ c.delay-item.is) (c.as_str-in-len6.ensures ∙ c.output-item.is)
-    (c.as_str-in-len6-2.ensures ∙ c.log-item.is)
-    (c.transmit_read.ensures.performed, c.transmit_read.ensures.stages) in
+    (c.as_str-in-len6-2.ensures ∙ c.log-item.is) (c.transmit_read.ensures.performed, c.transmit_read.ensures.stages) in
     record { performed = both.0; stages = both.1 }

@@ -11,7 +11,3 @@ returns-in-Ok-clause-performed g c =
       answers = g.met.E.Transmitting.knows c.args.address c.args.delay _ (rw (← sends) c.make_both.ensures.answer);
       gone = c.make_both.ensures.gone;
     }
-
-pub returns-in-Ok-clause-stages : goal.returns-in-Ok-clause-stages
-returns-in-Ok-clause-stages g c =
-    rw (← c.new-in-Ok.ensures.recipe ∙ c.in-Ok.ensures.sends) c.make_both.ensures.stages

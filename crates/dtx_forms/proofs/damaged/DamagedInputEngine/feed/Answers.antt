@@ -1,4 +1,4 @@
-use Rattle.std.proofs.Common.{◌≡◌, ℕ, List, ◌*◌, length, sym, ap, subst, ◌∙◌}
+use Rattle.std.proofs.Common.{◌≡◌, ℕ, List, ◌*◌, length, sym, ap, subst, ◌∙◌, arith}
 use Rattle.dtx_engine.specs.Recipe.{IsFed}
 use Rattle.dtx_engine.specs.declared.engine.Shape.{Shape}
 use Rattle.dtx_make.specs.Hurt.{hurt, damaged_bytes}
@@ -7,10 +7,7 @@ use Rattle.dtx_forms.proofs.DamagedLemmas.{hurt_fed}
 use Rattle.dtx_forms.proofs.damaged.DamagedInputEngine.feed.Goals as goal
 
 pub feed-requires-clause-given : goal.feed-requires-clause-given
-feed-requires-clause-given g c =
-    let some = c.requires.given in
-    let damage = c.args.self.now.damage.now in
-    (hurt damage some.0, length-hurt damage some.0 ∙ some.1, some.2.1)
+feed-requires-clause-given g c = grind (arith, length-hurt)
 
 pub returns-clause-fed : goal.returns-clause-fed
 returns-clause-fed g c = λ given long stand.
