@@ -1,5 +1,6 @@
 // The engine of `repeat`: receives symbols and sends their packets again, some segments at a time.
 ghost use Rattle.std.specs.Prelude.{◌≡◌, ◌+◌, ◌*◌, ◌<◌, ◌≤◌, ◌∷◌, [], ℕ, ℤ, List, length};
+ghost use Rattle.dtx_engine.specs.Made.{both, only};
 ghost use Rattle.dtx_repeat.specs.GoingOn.{longer};
 ghost use Rattle.dtx_repeat.specs.Lives.{lives, lives_so_far, packets_in};
 ghost use Rattle.dtx_recipes.specs.Repeat.{repeated_numbers};
@@ -64,7 +65,6 @@ impl Repetition {
 }
 
 impl Step for Repetition {
-    ghost use Rattle.dtx_engine.specs.Made.{both};
     ghost use Rattle.dtx_recipes.specs.Repeat.{repeating};
     ghost use Rattle.dtx_recipes.proofs.RepeatLemmas.{repeats_none, repeats_more};
     ghost use Rattle.dtx_jobs.specs.Repetition.{HasRoomFor, WasRepeated};
@@ -203,8 +203,7 @@ fn end(repeater: &mut Repeater, batch: &mut Batch, sending: &mut Sending<SENT_BY
     requires some { (a : ℕ) × (d : ℕ) × (s : List (List ℤ))
         × IsSending a d repeater.old sending.old.tally s (lives_so_far s) }
     requires few { sending.old.tally.packets ≤ GROUP_PACKETS * MOST_SEGMENTS }
-    requires no_symbols { sending.old.symbols ≡ [] }
-    requires no_lines { sending.old.lines ≡ [] }
+    requires empty { both sending.old.symbols sending.old.lines ≡ only [] }
     ensures { (a d : ℕ) (s : List (List ℤ)) → IsSending a d repeater.old sending.old.tally s (lives_so_far s)
         → IsSentOn a d repeater.new sending.old sending.new [] (lives_so_far s) (lives s)
         (length batch.new.packets.items) }

@@ -230,8 +230,7 @@ on_with s x p packets ended run e some f place h =
     (packets_run s ended run e) (sym (packets_run (s ++ x ∷ []) ended new f) ∙ h) in
     let first : first_place new ≡ first_place run = first_stays run x some in
     let both : early_restored new ≡ early_restored run ++ restored p packets =
-    ap (λ k. restored k (early_of (bytes_in new))) first
-    ∙ behind_early run p (early_of (bytes_in new)) packets place early in
+    grind (arith, first, behind_early, early) in
     record {
       behind = grind (arith, restored_is, append-nil, append_assoc, both);
       place = subst (λ (t : Tracked). IfSome t.run (λ run. (p + length packets) % 624 ≡ next_place run)) (sym f)
@@ -371,9 +370,7 @@ at_end s p packets place h = by_run (tracked s).run refl
     by_run None e =
         let o : Tracked = record { ended = ended; run = None } in
         let none : packets ≡ [] =
-        nothing_more (packets_so_far s) packets
-        (packets_none s ended (now s None e) ∙ ap whole_in (sym (append-nil ended)) ∙ sym (all_is s o (now s None e))
-        ∙ h) in
+        nothing_more (packets_so_far s) packets (grind (arith, packets_none, append-nil, all_is, now)) in
         let nothing : restored p packets ≡ [] = ap (restored p) none ∙ restored_none p in
         record {
           behind = grind (arith, all_restored_is, restored_is, now, append-nil, nothing);

@@ -17,7 +17,7 @@ refilled k xs ys zs e f =
     take_at zs (drop (length zs) xs) (length xs) (ap length same ∙ length-restored k xs) ∙ same
 
 one_alone : (n : ℕ) (x : Received) → restored n (x ∷ []) ≡ restored_one n x ∷ []
-one_alone n x = restored_cons n x [] ∙ ap (λ z. restored_one n x ∷ z) (restored_none (n + 1))
+one_alone n x = grind (arith, restored_cons, restored_none)
 
 -- packet i of a list is, where those before it are
 pub one_on : (k i n : ℕ) (xs now : List Received) (d : Received) (packet : Packet) → i < length xs
@@ -43,10 +43,10 @@ one_on k i n xs now d packet inside is place marks =
     long = length-restored k (take i xs) ∙ taken
 
     split : now ≡ front ++ x ∷ drop (i + 1) xs
-    split = is ∙ ap (λ z. front ++ z) (drop_more xs i d inside)
+    split = grind (arith, is, drop_more)
 
     here : get_or now i d ≡ x
-    here = ap (λ z. get_or z i d) split ∙ get_or_at front x (drop (i + 1) xs) d i long
+    here = grind (arith, split, get_or_at, long)
 
     one : record { packet = packet; fixed = (get_or now i d).fixed; good = (get_or now i d).good } ≡ restored_one n x
     one =

@@ -1,5 +1,5 @@
 -- Restored packets, one after another and one list behind another.
-use Rattle.std.proofs.Common.{◌≡◌, ℕ, ◌+◌, ◌%◌, List, [], ◌∷◌, ◌++◌, length, refl, sym, ap, ap₂, ◌∙◌, arith}
+use Rattle.std.proofs.Common.{◌≡◌, ℕ, ◌+◌, ◌%◌, List, [], ◌∷◌, ◌++◌, length, refl, sym, ap, ◌∙◌, arith}
 use Rattle.std.specs.Prelude.{◌==◌, if◌then◌else◌, slice_set}
 use Rattle.std.proofs.lemmas.List.{map-append}
 use Rattle.dtx_cadence.specs.Mark.{sync_at}
@@ -35,9 +35,7 @@ same_one k m x e = ap (λ n. record x { packet = record { 0 = slice_set x.packet
 pub restored_same : (k m : ℕ) (xs : List Received) → k % 624 ≡ m % 624 → restored k xs ≡ restored m xs
 restored_same k m [] e = restored_none k ∙ sym (restored_none m)
 restored_same k m (x ∷ xs) e =
-    restored_cons k x xs
-    ∙ ap₂ (λ y ys. y ∷ ys) (same_one k m x e) (restored_same (k + 1) (m + 1) xs (omega (arith, e)))
-    ∙ sym (restored_cons m x xs)
+    let rest = restored_same (k + 1) (m + 1) xs (omega (arith, e)) in grind (arith, restored_cons, same_one, rest)
 
 -- packets behind others, from the place in the frame that is left
 pub restored_behind : (k p : ℕ) (a b : List Received) → p ≡ (k + length a) % 624

@@ -62,8 +62,7 @@ given_all (x ∷ xs) s =
     let one = given_more s x in
     let rest = given_all xs (s ++ x ∷ []) in (
       one.0 ++ rest.0,
-      ap packets_so_far (sym (append_assoc s (x ∷ []) xs)) ∙ rest.1 ∙ ap (λ z. z ++ rest.0) one.1
-          ∙ append_assoc (packets_so_far s) one.0 rest.0,
+      ap packets_so_far (sym (append_assoc s (x ∷ []) xs)) ∙ grind (arith, rest.1, one.1, append_assoc),
     )
 
 same_place : (p : ℕ) (o : Option (List (List ℤ))) → IfSome o (λ run. p ≡ next_place run)
@@ -111,8 +110,7 @@ goes_on_all (x ∷ xs) s p packets place few h =
     let all : mid ++ xs ≡ s ++ x ∷ xs = append_assoc s (x ∷ []) xs in
     let both : packets ≡ one.0 ++ rest.0 =
     append_cancel_left (packets_so_far s) packets (one.0 ++ rest.0)
-    (sym h ∙ ap packets_so_far (sym all) ∙ rest.1 ∙ ap (λ z. z ++ rest.0) one.1
-    ∙ append_assoc (packets_so_far s) one.0 rest.0) in
+    (sym h ∙ ap packets_so_far (sym all) ∙ grind (arith, rest.1, one.1, append_assoc)) in
     let none : begun (tracking s x) ≡ 0 = none_first xs s x few in
     let first : GoesOn s mid p one.0 =
     goes_on s x p one.0 (tracking s x) none (one_more s x p one.0 place one.1) in

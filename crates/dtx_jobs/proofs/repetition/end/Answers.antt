@@ -27,11 +27,11 @@ send_all-requires-clause-few c =
 
 pub send_all-requires-clause-symbols : goal.send_all-requires-clause-symbols
 send_all-requires-clause-symbols c =
-    omega (arith, c.finish.ensures.few, ap length c.requires.no_symbols, ap length c.as_slice.ensures.value)
+    omega (arith, c.finish.ensures.few, ap (λ m. length m.first) c.requires.empty, ap length c.as_slice.ensures.value)
 
 pub send_all-requires-clause-lines : goal.send_all-requires-clause-lines
 send_all-requires-clause-lines c =
-    omega (arith, c.finish.ensures.few, ap length c.requires.no_lines, ap length c.as_slice.ensures.value)
+    omega (arith, c.finish.ensures.few, ap (λ m. length m.second) c.requires.empty, ap length c.as_slice.ensures.value)
 
 pub returns : goal.returns
 returns c = λ a d s is.

@@ -62,9 +62,3 @@ returns-then-self-eq0-clause-rest c = rest (goal.at.returns-then-self-eq0-clause
 
 pub returns-else-self-eq0-clause-rest : goal.returns-else-self-eq0-clause-rest
 returns-else-self-eq0-clause-rest c = rest (goal.at.returns-else-self-eq0-clause-rest c).After-end
-
-pub end-requires-clause-no_symbols : goal.end-requires-clause-no_symbols
-end-requires-clause-no_symbols c = ap (λ m. m.first) c.requires.empty
-
-pub end-requires-clause-no_lines : goal.end-requires-clause-no_lines
-end-requires-clause-no_lines c = ap (λ m. m.second) c.requires.empty
