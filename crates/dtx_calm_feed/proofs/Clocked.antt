@@ -1,6 +1,6 @@
 -- The stamps of a calm feed follow each other, and so do the moments that exciters make of them.
-use Rattle.std.proofs.Common.{◌≡◌, inl, inr, ℕ, ℤ, pos, negsuc, ◌+◌, ◌-◌, ◌*◌, ◌/◌, ◌%◌, ◌+ℤ◌}
-use Rattle.std.proofs.Common.{◌-ℤ◌, ◌*ℤ◌, Some, List, refl, arith, unsigned_abs}
+use Rattle.std.proofs.Common.{◌≡◌, ℕ, ℤ, pos, negsuc, ◌+◌, ◌-◌, ◌*◌, ◌/◌, ◌%◌, ◌+ℤ◌, ◌-ℤ◌, ◌*ℤ◌, Some, List, refl}
+use Rattle.std.proofs.Common.{arith, unsigned_abs}
 use Rattle.std.specs.Int.{int_rem_euclid}
 use Rattle.std.proofs.lemmas.Int.{ints}
 use Rattle.dtx_clock.specs.Clock.{DifferBy, count_of, grains_of}
@@ -10,7 +10,7 @@ use Rattle.dtx_exciter.specs.Packets.{readings}
 use Rattle.dtx_watch.specs.Clock.{frames_between}
 use Rattle.dtx_calm_feed.specs.Calm.{IsCalmFeed}
 use Rattle.dtx_calm_feed.specs.Moments.{IsBelowTick, air_between}
-use Rattle.dtx_calm_feed.specs.Said.{AreFrames, Follows, latest_before}
+use Rattle.dtx_calm_feed.specs.Said.{Follows, latest_before}
 use Rattle.dtx_calm_feed.proofs.Noted.{ordered_calm}
 use Rattle.dtx_calm_feed.proofs.Told.{clock_follows}
 
@@ -53,10 +53,6 @@ rounded_up grains gone e = record {
   is = omega (arith, ints, e);
 }
 
-are_length : (frames gone : ℕ) → AreFrames frames gone → AreLength (frames * 744789760) gone
-are_length frames gone (inl e) = rounded_down (frames * 744789760) gone e
-are_length frames gone (inr e) = rounded_up (frames * 744789760) gone e
-
 apart : (s t most later i j frames : ℕ) (offset : ℤ) → later ≡ most
     → AreLength (frames * 744789760) ((t + 10000000 - s % 10000000) % 10000000) → (rest : ℤ) × IsBelowTick rest
     × DifferBy (grains_of t later offset j) (grains_of s most offset i) (air_between frames i j +ℤ rest)
@@ -72,4 +68,4 @@ apart s t most later i j frames offset same l =
 pub moments_follow : (before ops : Ops) (offset : ℤ) (i j : ℕ) → Follows before ops → (rest : ℤ) × IsBelowTick rest
     × DifferBy (grains_of ops.stamp ops.max_delay offset j) (grains_of before.stamp before.max_delay offset i)
     (air_between (frames_between before.frame ops.frame) i j +ℤ rest)
-moments_follow before ops offset i j f = grind (arith, apart, are_length)
+moments_follow before ops offset i j f = grind (arith, apart, rounded_down, rounded_up)

@@ -84,15 +84,9 @@ group_given a d l x n r p h =
     subst (GivesOwn l n) (sym (sync_place (n - x - 4) (n - 4) before own same))
     (grind (arith, given_by, before_own, sent_own))
 
--- no packets give nothing
-none_given : (a d i : ℕ) (packets before : List (List ℤ)) (l : List (List ℕ)) → i ≡ 0
-    → behind_field_sync i before (sent_at a d l i) ≡ []
-unfolding sent_at
-none_given a d i packets before l e = grind (arith, force_first)
-
 pub gives_own : (a d : ℕ) (l life : List (List ℕ)) (x n : ℕ) → NeverSlips l → x % 624 ≡ 0 → n ≤ length l
     → under life ≡ Some (slice_range l x n) → GivesOwn l n (last_segments a d life)
-unfolding last_segments
+unfolding last_segments sent_at
 gives_own a d l life x n r m h e =
     subst (λ o. GivesOwn l n (given_under a d o)) (sym e) (by_whole (length t % 4 == 0) refl)
   where
@@ -106,8 +100,7 @@ gives_own a d l life x n r m h e =
     all = behind_field_sync (length t - 4) (sent_before a d t (length t - 4)) (sent_at a d t (length t - 4))
 
     by_length : (n - x) % 4 ≡ 0 → (n - x < 4) ⊎ (4 ≤ n - x) → GivesOwn l n all
-    by_length w (inl few) =
-        inl (none_given a d (length t - 4) [] (sent_before a d t (length t - 4)) t (omega (arith, long, few)))
+    by_length w (inl few) = grind (arith, force_first)
     by_length w (inr some) =
         subst (λ k. GivesOwn l n (behind_field_sync (k - 4) (sent_before a d t (k - 4)) (sent_at a d t (k - 4))))
         (sym long) (group_given a d l x n r (record { at_mark = m; inside = h; whole = w }) (omega (arith, some)))

@@ -1,7 +1,7 @@
 -- The notes of calm packets, and the orders of calm feeds.
-use Rattle.std.proofs.Common.{◌≡◌, ◌≢◌, ◌⊎◌, inl, inr, ℕ, ◌+◌, ◌-◌, ◌*◌, ◌/◌, ◌%◌, ◌<◌, ◌≤◌, ◌==◌, true, Option, Some}
-use Rattle.std.proofs.Common.{None, Result, Ok, Err, List, [], ◌∷◌, ◌++◌, length, take, drop, get_or, sym, ap, subst}
-use Rattle.std.proofs.Common.{◌∙◌, arith, length-drop}
+use Rattle.std.proofs.Common.{◌≡◌, ◌≢◌, ℕ, ◌+◌, ◌-◌, ◌*◌, ◌/◌, ◌%◌, ◌<◌, ◌≤◌, ◌==◌, true, Option, Some, None, Result}
+use Rattle.std.proofs.Common.{Ok, List, [], ◌∷◌, ◌++◌, length, take, drop, get_or, sym, ap, subst, ◌∙◌, arith}
+use Rattle.std.proofs.Common.{length-drop}
 use Rattle.std.specs.List.{AllByRecursion}
 use Rattle.std.proofs.lemmas.Bool.{cases_lt, cond-false, cond-true}
 use Rattle.std.proofs.lemmas.List.{get_or-map, get_or_past, length-map}
@@ -10,10 +10,8 @@ use Rattle.dtx_coder.specs.Along.{states_since}
 use Rattle.dtx_ops.specs.Reading.{reading}
 use Rattle.dtx_ops.specs.declared.fields.Ops.{Ops}
 use Rattle.dtx_ops.specs.declared.refusal.OpsNo.{OpsNo}
-use Rattle.dtx_ops.specs.declared.refusal.OpsNo.TheVariants.{NotOps, Uncorrectable, Kind, Pad, Stamp, Delay, Index}
-use Rattle.dtx_ops.specs.declared.refusal.OpsNo.TheVariants.{Count, Twice, Fill, Page}
 use Rattle.dtx_exciter.proofs.ForceLemmas.{IsBehind, counted_behind}
-use Rattle.dtx_exciter.specs.Order.{Order, either, ordered_at, order_at, counting_order}
+use Rattle.dtx_exciter.specs.Order.{Order, ordered_at, order_at, counting_order}
 use Rattle.dtx_exciter.specs.Packets.{anchor_of, readings}
 use Rattle.dtx_watch.proofs.AnchorsLemmas.{below, since}
 use Rattle.dtx_watch.proofs.SoundLemmas.{reads_ok}
@@ -38,16 +36,9 @@ pub record IsOrderedAt (l : List (List ℕ)) (k : ℕ) (ops : Ops) : Type 0 wher
 none_some : (ops : Ops) → ◌≡◌ {A = Option Ops} None (Some ops) → ⊥
 none_some ops e = cc
 
-some_same : (x ops : Ops) → ◌≡◌ {A = Option Ops} (Some x) (Some ops) → x ≡ ops
-some_same x ops e = cc
-
 pub ordered_is : (l : List (List ℕ)) (k : ℕ) (ops : Ops) → ordered_at (readings l) k ≡ Some ops → IsOrderedAt l k ops
 unfolding readings
-ordered_is l k ops e = grind (arith, cases_lt, some_same, reads_ok, none_some, get_or-map, get_or_past, length-map)
-
-either_is : (x y : Option Ops) (ops : Ops) → either x y ≡ Some ops → (x ≡ Some ops) ⊎ (y ≡ Some ops)
-either_is None y ops e = inr e
-either_is (Some x) y ops e = inl e
+ordered_is l k ops e = grind (arith, cases_lt, reads_ok, none_some, get_or-map, get_or_past, length-map)
 
 -- one of the group's packets orders that
 record IsIn (l : List (List ℕ)) (i : ℕ) (ops : Ops) : Type 0 where
@@ -55,14 +46,6 @@ record IsIn (l : List (List ℕ)) (i : ℕ) (ops : Ops) : Type 0 where
   pub from : i ≤ packet
   pub within : packet < i + 4
   pub is : ordered_at (readings l) packet ≡ Some ops
-
-order_in : (l : List (List ℕ)) (i : ℕ) (ops : Ops) → order_at (readings l) i ≡ Some ops → IsIn l i ops
-unfolding order_at
-order_in l i ops e = grind (arith, either_is)
-
-counted_in : (l : List (List ℕ)) (i : ℕ) (ops : Ops) → counting_order (readings l) i ≡ Some ops → IsIn l i ops
-unfolding counting_order
-counted_in l i ops e = grind (arith, order_in, none_some)
 
 -- ---- calm notes
 
@@ -79,26 +62,10 @@ all_both (x ∷ xs) ys h k = (h.0, all_both xs ys h.1 k)
 abbrev note_of : List (List ℕ) → ℕ → ℕ → Result Ops OpsNo → List Note
 note_of l j k r = one_or_none (packet_note j (Some (k % 624)) (expected_at l (4 * (k / 4))) (stamped_before l k) r)
 
--- it is as calm as packet i of all
-by_number : (l : List (List ℕ)) (j i k : ℕ) (r : Result Ops OpsNo)
-    → AllByRecursion IsCalmNote (note_of l j k r) → AllByRecursion IsCalmNote (note_of l i k r)
-by_number l j i k (Ok ops) h = h
-by_number l j i k (Err NotOps) h = h
-by_number l j i k (Err Uncorrectable) h = h
-by_number l j i k (Err Kind) h = h
-by_number l j i k (Err Pad) h = h
-by_number l j i k (Err Stamp) h = h
-by_number l j i k (Err Delay) h = h
-by_number l j i k (Err Index) h = h
-by_number l j i k (Err Count) h = h
-by_number l j i k (Err Twice) h = h
-by_number l j i k (Err Fill) h = h
-by_number l j i k (Err Page) h = h
-
 number_free : (l : List (List ℕ)) (j i k : ℕ) → AllByRecursion IsCalmNote (one_or_none (note_under l j k))
     → AllByRecursion IsCalmNote (one_or_none (note_under l i k))
 unfolding note_under
-number_free l j i k h = by_number l j i k (reading (get_or l k [])) h
+number_free l j i k h = grind arith
 
 -- under the anchor
 calm_under : (d : List (List ℕ)) (a k : ℕ) → anchor_of d ≡ Some a → a ≤ k → k < length d
@@ -106,10 +73,6 @@ calm_under : (d : List (List ℕ)) (a k : ℕ) → anchor_of d ≡ Some a → a 
     → AllByRecursion IsCalmNote (one_or_none (note_under (drop a d) k (k - a)))
 unfolding notes_at
 calm_under d a k h l m n = grind (arith, since, all_right)
-
-lock_calm : (k a : ℕ) (before : Option ℕ) → AllByRecursion IsCalmNote (one_or_none (lock_note k before (Some a)))
-lock_calm k a None = (tt, tt)
-lock_calm k a (Some b) = tt
 
 pub calm_again : (d : List (List ℕ)) (a : ℕ) → IsCalmFrom d a → IsCalmFeed (drop a d)
 unfolding notes_at
@@ -133,9 +96,7 @@ calm_again d a c = record {
         let own : AllByRecursion IsCalmNote (one_or_none (note_under feed k (k - 0))) =
         number_free feed (a + k) k (k - 0) (grind (arith, feed, calm_under)) in
         subst (λ o. AllByRecursion IsCalmNote (one_or_none (lock_note k (anchor_of (take k feed)) o)
-        ++ one_or_none (reading_note feed k o))) (sym now)
-        (all_both (one_or_none (lock_note k (anchor_of (take k feed)) (Some 0)))
-        (one_or_none (note_under feed k (k - 0))) (lock_calm k 0 (anchor_of (take k feed))) own)
+        ++ one_or_none (reading_note feed k o))) (sym now) (grind (arith, all_both, feed))
 
 -- what is told of an operations packet at its place
 ops_calm : (l : List (List ℕ)) (k : ℕ) (ops : Ops) → IsOrderedAt l k ops
@@ -162,8 +123,9 @@ ordered_calm feed k ops c e =
     (calm_under feed 0 k c.anchor_is (omega arith) o.inside (c.calm k o.inside)))
 
 pub never_slips : (feed : List (List ℕ)) → IsCalmFeed feed → NeverSlips feed
+unfolding counting_order order_at
 never_slips feed c = λ i ops order older e l f.
-    let x : IsIn feed i ops = counted_in feed i ops e in
+    let x : IsIn feed i ops = (grind (arith, none_some)) in
     let b : IsBehind i = counted_behind (readings feed) i ops e in
     let k : ℕ = x.packet in
     let from = x.from in

@@ -34,33 +34,24 @@ bytes_on w g h l m =
 length-between : (w : List (List ℕ)) (g h : ℕ) → g ≤ h → 4 * h ≤ length w → length (between w g h) ≡ 828 * (h - g)
 length-between w g h l m = grind (arith, length-take-le, length-whole, length-drop)
 
-place_on : (g h : ℕ) → g ≤ h → group_place (4 * g % 312) (h - g) ≡ 4 * h % 312
-unfolding group_place
-place_on g h l = let e : (4 * g % 312 + 4 * (h - g)) % 312 ≡ 4 * h % 312 = omega (arith, l) in e
-
 levels_on : (w : List (List ℕ)) (g h : ℕ) (q : List ℕ) → g ≤ h → 4 * h ≤ length w → levels_since g q w
     ≡ levels_since g q (take (4 * h) w) ++ levels_since h (states_since g q (take (4 * h) w)) w
-unfolding levels_since states_since
+unfolding levels_since states_since group_place
 levels_on w g h q l m = ap (levels_of (4 * g % 312) q) (bytes_on w g h l m)
     ∙ levels_append (4 * g % 312) (h - g) q (between w g h) (drop (828 * h) (whole_groups w)) (length-between w g h l m)
     ∙ ap (λ k. levels_of (4 * g % 312) q (between w g h)
-    ++ levels_of k (states_after (4 * g % 312) q (between w g h)) (drop (828 * h) (whole_groups w))) (place_on g h l)
-
-length-levels_between : (w : List (List ℕ)) (g h : ℕ) (q : List ℕ) → g ≤ h → 4 * h ≤ length w
-    → length (levels_since g q (take (4 * h) w)) ≡ 828 * (4 * (h - g))
-unfolding levels_since
-length-levels_between w g h q l m = length-levels_of (4 * g % 312) q (between w g h) (h - g) (length-between w g h l m)
-    ∙ (let e : 3312 * (h - g) ≡ 828 * (4 * (h - g)) = omega arith in e)
+    ++ levels_of k (states_after (4 * g % 312) q (between w g h)) (drop (828 * h) (whole_groups w))) (grind arith)
 
 -- the data segments of group u, where the coders are preset with the states that they have
 pub segments_on : (w : List (List ℕ)) (g h u : ℕ) (q : List ℕ) → g ≤ h → h ≤ u → 4 * h ≤ length w
     → segments_since g q w u ≡ segments_since h (states_since g q (take (4 * h) w)) w u
-unfolding segments_since
+unfolding segments_since levels_since
 segments_on w g h u q l k m =
     let front : List (List ℕ) = take (4 * h) w in
     ap₂ four_segments (levels_on w g h q l m) (omega (arith, l, k))
     ∙ four_behind (levels_since g q front) (levels_since h (states_since g q front) w) (4 * (h - g)) (4 * (u - h))
-    (length-levels_between w g h q l m)
+    (length-levels_of (4 * g % 312) q (between w g h) (h - g) (length-between w g h l m)
+    ∙ (let e : 3312 * (h - g) ≡ 828 * (4 * (h - g)) = omega arith in e))
 
 -- ---- packets behind, and packets before a mark
 

@@ -1,21 +1,16 @@
 -- A sound feed, from any of its marks on, is a calm one.
-use Rattle.std.proofs.Common.{◌≡◌, ℕ, ◌+◌, ◌-◌, ◌%◌, ◌<◌, ◌==◌, Bool, true, false, cond, Some, Result, Ok, Err, List}
-use Rattle.std.proofs.Common.{[], ◌∷◌, length, drop, refl, sym, ap, subst, ◌∙◌, arith}
+use Rattle.std.proofs.Common.{◌≡◌, ℕ, ◌+◌, ◌-◌, ◌%◌, ◌<◌, ◌==◌, Some, List, [], length, drop, refl, ap, ◌∙◌, arith}
 use Rattle.std.specs.List.{AllByRecursion}
 use Rattle.std.proofs.lemmas.List.{get_or-drop, get_or-map, length-drop, take_all}
 use Rattle.dtx_packets.specs.Packet.{sync_of}
 use Rattle.dtx_cadence.specs.Anchor.{anchor}
 use Rattle.dtx_cadence.proofs.AnchoredLemmas.{anchored}
 use Rattle.dtx_cadence.specs.Cadence.{IsAnchored, IsMarked}
-use Rattle.dtx_ops.specs.declared.fields.Ops.{Ops}
-use Rattle.dtx_ops.specs.declared.refusal.OpsNo.{OpsNo}
 use Rattle.dtx_exciter.specs.Packets.{anchor_of, syncs}
 use Rattle.dtx_exciter.proofs.UnderLemmas.{length-syncs}
-use Rattle.dtx_watch.specs.Sound.{IsCalm, IsCalmAt, IsSoundFeed}
+use Rattle.dtx_watch.specs.Sound.{IsCalmAt, IsSoundFeed}
 use Rattle.dtx_watch.proofs.SoundLemmas.{calm}
 use Rattle.dtx_watch.specs.Watch.{notes_at}
-use Rattle.dtx_watch.specs.declared.notes.Note.{Note}
-use Rattle.dtx_watch.specs.declared.notes.NoteKind.TheVariants.{Lock}
 use Rattle.dtx_calm_feed.specs.Calm.{IsCalmFeed, IsCalmNote}
 use Rattle.dtx_calm_feed.proofs.Noted.{all_both}
 
@@ -40,14 +35,6 @@ anchor_is start most mark f s z l =
     let first : a.place ≡ 0 = omega (arith, w) in
     ap anchor (grind (arith, take_all)) ∙ a.holds (length e - 1) (omega arith) (omega (arith, l, long)) ∙ ap Some first
 
-lock_calm : (t : Bool) → AllByRecursion IsCalmNote (cond t ((record { packet = 0; what = Lock }) ∷ []) [])
-lock_calm true = (tt, tt)
-lock_calm false = tt
-
-notes_calm : (k : ℕ) (r : Result Ops OpsNo) (notes : List Note) → IsCalm k r notes → AllByRecursion IsCalmNote notes
-notes_calm k (Ok ops) notes h = subst (AllByRecursion IsCalmNote) (sym h.2) ((h.1.states, h.1.clock), tt)
-notes_calm k (Err refusal) notes h = subst (AllByRecursion IsCalmNote) (sym h) tt
-
 pub sound_is_calm : (start most mark : ℕ) (f : List (List ℕ)) → IsSoundFeed start most f → mark % 624 ≡ 0
     → mark < length f → IsCalmFeed (drop mark f)
 sound_is_calm start most mark f s z l = record {
@@ -61,4 +48,4 @@ sound_is_calm start most mark f s z l = record {
 }
   where
     calm_at : (k : ℕ) → IsCalmAt (drop mark f) k → AllByRecursion IsCalmNote (notes_at (drop mark f) k)
-    calm_at k c = grind (arith, all_both, lock_calm, notes_calm)
+    calm_at k c = grind (arith, all_both)

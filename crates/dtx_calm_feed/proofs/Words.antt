@@ -44,18 +44,15 @@ none_with place word notes e = none_counted (λ words. bytes_eq (slice_index_or 
 
 -- ---- one note
 
-true_false : true ≡ false → ⊥
-true_false e = cc
-
 what_calm : (k : ℕ) (w : NoteKind) → bytes_eq (first_word w) (codes "lost") ≡ false
     → bytes_eq (first_word w) (codes "unread") ≡ false → bytes_eq (first_word w) (codes "stray") ≡ false
     → HasNot 7 (codes "slip") (record { packet = k; what = w })
     → HasNot 8 (codes "jump") (record { packet = k; what = w }) → IsCalmWhat w
 what_calm k Lock a b c d e = tt
-what_calm k Lost a b c d e = true_false a
-what_calm k (Unread refusal) a b c d e = true_false b
-what_calm k (Stray frame index) a b c d e = true_false c
-what_calm k (OpsAt o) a b c d e = grind (arith, true_false)
+what_calm k Lost a b c d e = cc
+what_calm k (Unread refusal) a b c d e = cc
+what_calm k (Stray frame index) a b c d e = cc
+what_calm k (OpsAt o) a b c d e = grind arith
 
 all_calm : (notes : List Note) → AllByRecursion (HasNot 0 (codes "lost")) notes
     → AllByRecursion (HasNot 0 (codes "unread")) notes → AllByRecursion (HasNot 0 (codes "stray")) notes
@@ -66,9 +63,6 @@ all_calm (note ∷ notes) a b c d e =
     (what_calm note.packet note.what a.0 b.0 c.0 d.0 e.0, all_calm notes a.1 b.1 c.1 d.1 e.1)
 
 -- ---- all notes
-
-first_or : (a k : ℕ) → a ≤ k → (a ≡ k) ⊎ (a + 1 ≤ k)
-first_or a k l = grind arith
 
 left : (P : Note → Type 0) (xs ys : List Note) → AllByRecursion P (xs ++ ys) → AllByRecursion P xs
 left P [] ys h = tt
@@ -87,7 +81,7 @@ pub all_at : (P : Note → Type 0) (f : ℕ → List Note) (a n k : ℕ)
     → AllByRecursion P (flat_map f (range_with_len a n)) → a ≤ k → k < a + n → AllByRecursion P (f k)
 all_at P f a zero k h l m = absurd (omega (arith, l, m))
 all_at P f a (suc n) k h l m = all_next P f a k (flat_map f (range_with_len (a + 1) n)) h
-    (λ rest g. all_at P f (a + 1) n k rest g (omega (arith, m))) (first_or a k l)
+    (λ rest g. all_at P f (a + 1) n k rest g (omega (arith, m))) (grind arith)
 
 pub text_calm : (packets : List (List ℕ)) (k : ℕ) → IsCalmText (watch_text (watch packets)) → k < length packets
     → AllByRecursion IsCalmNote (notes_at packets k)

@@ -1,8 +1,8 @@
 -- What the words alone say of the answer: of the command that they fit, and behind its line.
-use Rattle.std.specs.Prelude.{◌≡◌, ◌⊎◌, ℕ, Bool, true, false, is_some, List, [], ◌∷◌, ◌++◌, length, Option, Some, None}
+use Rattle.std.specs.Prelude.{◌≡◌, ℕ, Bool, true, false, is_some, List, [], ◌∷◌, ◌++◌, length, Option, Some, None}
 use Rattle.std.specs.Prelude.{Result, Ok, Err, refl}
 use Rattle.std.specs.Option.{option_and}
-use Rattle.std.proofs.Common.{sym, ap, subst, ◌∙◌, inl, inr, arith}
+use Rattle.std.proofs.Common.{subst, ◌∙◌, arith}
 use Rattle.std.proofs.lemmas.Bool.{and_parts}
 use Rattle.std.proofs.lemmas.List.{append-nil, append_assoc}
 use Rattle.dtx_outside.specs.declared.sink.SinkNo.{SinkNo}
@@ -10,7 +10,7 @@ use Rattle.dtx_outside.specs.declared.sink.SinkNo.TheVariants as sink
 use Rattle.dtx_meaning.specs.Status.{IsOfInputs}
 use Rattle.dtx_meaning.specs.declared.status.Outcome.{Outcome}
 use Rattle.dtx_meaning.specs.declared.status.Status.{Status}
-use Rattle.dtx_meaning.specs.declared.status.Status.TheVariants.{Done, Usage, Memory}
+use Rattle.dtx_meaning.specs.declared.status.Status.TheVariants.{Done, Memory}
 use Rattle.dtx_forms.specs.Answers.{IsKnown, IsKnownAt, Knows}
 use Rattle.dtx_forms.specs.OfWords.{IsOfWords, same_behind}
 use Rattle.dtx_words.specs.Fitting.{command_of, fit_fields, fits}
@@ -23,7 +23,7 @@ use Rattle.dtx_words.specs.declared.rows.Command.TheVariants.{Net, Trial}
 use Rattle.dtx_words.specs.declared.rows.Field.{Field}
 use Rattle.dtx_words.specs.declared.rows.Field.TheVariants.{Number, Within, Second}
 use Rattle.dtx_top.specs.Ends.{IsByWords, IsOfCommand}
-use Rattle.dtx_top.specs.NetAnswers.{IsOfNetWords, IsOfNetwork}
+use Rattle.dtx_top.specs.NetAnswers.{IsOfNetwork}
 use Rattle.dtx_top.proofs.Ending.{finished_failed}
 
 -- ---- what a command knows
@@ -69,38 +69,18 @@ names_told names all (field ∷ fields) (word ∷ words) inputs status same fit 
     names_told (names ++ word ∷ []) all fields words inputs status
     (append_assoc names (word ∷ []) (names_at fields words) ∙ same) (and_parts _ _ fit).1 is
 
--- `net PLAN`
-net_told : (verb : List ℕ) (words : List (List ℕ)) (status : Status) → fit_fields (row_of Net).fields words ≡ true
-    → IsOfNetWords (verb ∷ words) status → IsOfNetwork status
-net_told verb [] status fit is = let e : false ≡ true = fit in cc
-net_told verb (plan ∷ []) status fit is = is
-net_told verb (plan ∷ word ∷ words) status fit is = grind (arith, and_parts)
-
--- `trial SEED COUNT`, which has no names
-no_names : (words : List (List ℕ)) → names_at (row_of Trial).fields words ≡ []
-no_names [] = refl
-no_names (seed ∷ []) = refl
-no_names (seed ∷ count ∷ words) = refl
-
 -- words that fit a command
 fitted_told : (command : Command) (words : List (List ℕ)) (outcome : Outcome) → fits command words ≡ true
     → IsOfCommand (Some command) words outcome → IsByWords (Some command) words outcome.status
 fitted_told command [] outcome fit is = let e : false ≡ true = fit in cc
-fitted_told Net (verb ∷ words) outcome fit is = net_told verb words outcome.status (and_parts _ _ fit).1 is
-fitted_told Trial (verb ∷ words) outcome fit is = grind (arith, names_told, no_names, and_parts, known_status)
+fitted_told Net (verb ∷ words) outcome fit is = grind (arith, and_parts)
+fitted_told Trial (verb ∷ words) outcome fit is = grind (arith, names_told, and_parts, known_status)
 fitted_told command (verb ∷ words) outcome fit is = (
   names_told [] _ (row_of command).fields words _ outcome.status refl (and_parts _ _ fit).1 is.0,
   known_status command outcome is.1,
 )
 
 -- ---- behind the line
-
--- the answer of some inputs, whose line was printed so
-inputs_finished : (same : Bool) (inputs : ℕ) (status : Status) (line : Result (Unit {0}) SinkNo)
-    → IsOfInputs same inputs status → IsOfInputs same inputs (finished status line)
-inputs_finished same inputs status (Ok u) is = is
-inputs_finished same inputs status (Err sink.Memory) is = tt
-inputs_finished same inputs status (Err sink.Failed) is = grind (arith, finished_failed)
 
 -- the answer of a network, whose line was printed so
 network_finished : (status : Status) (line : Result (Unit {0}) SinkNo) → IsOfNetwork status
@@ -109,31 +89,14 @@ network_finished status (Ok u) is = is
 network_finished status (Err sink.Memory) is = tt
 network_finished status (Err sink.Failed) is = grind (arith, finished_failed)
 
--- each command knows want of memory, and that its line could not be printed
-knows_finished : (command : Command) (status : Status) (line : Result (Unit {0}) SinkNo) → Knows command status
-    → Knows command (finished status line)
-knows_finished command status (Ok u) is = is
-knows_finished command status (Err sink.Memory) is = tt
-knows_finished command status (Err sink.Failed) is = elim (finished_failed status) [
-  | inl done ↦ (let P : Status → Type 0 = λ s. Knows command (finished s (Err sink.Failed)) in
-      subst P (sym done) tt)
-  | inr kept ↦ (let P : Status → Type 0 = λ s. Knows command s in subst P (sym kept) is)
-]
-
-usage_finished : (status : Status) (line : Result (Unit {0}) SinkNo) → status ≡ Usage
-    → (finished status line ≡ Usage) ⊎ (finished status line ≡ Memory)
-usage_finished status (Ok u) is = inl is
-usage_finished status (Err sink.Memory) is = inr refl
-usage_finished status (Err sink.Failed) is = inl (ap (λ s. finished s (Err sink.Failed)) is)
-
 by_words_finished : (command : Command) (words : List (List ℕ)) (status : Status) (line : Result (Unit {0}) SinkNo)
     → IsByWords (Some command) words status → IsByWords (Some command) words (finished status line)
 by_words_finished Net words status line is = network_finished status line is
-by_words_finished command words status line is = grind (arith, inputs_finished, knows_finished)
+by_words_finished command words status line is = grind (arith, finished_failed)
 
 -- the command that the words fit, behind its line
 pub words_told : (command : Option Command) (words : List (List ℕ)) (outcome : Outcome)
     (line : Result (Unit {0}) SinkNo) → command_of words ≡ command → IsOfCommand command words outcome
     → IsByWords command words (finished outcome.status line)
-words_told None words outcome line is answer = usage_finished outcome.status line answer
+words_told None words outcome line is answer = grind arith
 words_told (Some command) words outcome line is answer = grind (arith, by_words_finished, fitted_told, command_fits)

@@ -1,8 +1,7 @@
 -- What is carried out, told of other terms for its names, and of the answer that is made of it.
-use Rattle.std.proofs.Common.{◌≡◌, ℕ, true, false, List, [], ◌∷◌, length, refl, ap, inl, inr, arith}
+use Rattle.std.proofs.Common.{◌≡◌, ℕ, true, false, List, [], ◌∷◌, length, refl, arith}
 use Rattle.std.specs.Prelude.{Option, Some, None, IfSome}
 use Rattle.std.specs.FinMap.{get}
-use Rattle.std.proofs.lemmas.Bool.{cond-false}
 use Rattle.dtx_engine.specs.Recipe.{Recipe, meaning}
 use Rattle.dtx_engine.specs.declared.engine.Shape.{Shape}
 use Rattle.dtx_forms.specs.Damaged.{damaged_making}
@@ -10,7 +9,7 @@ use Rattle.dtx_recipes.specs.PastEnd.{first_past}
 use Rattle.dtx_recipes.specs.Receive.{receiving}
 use Rattle.dtx_forms.specs.Shapes.{segments}
 use Rattle.dtx_meaning.proofs.MeaningLemmas.{carried_refused}
-use Rattle.dtx_meaning.specs.Meaning.{Meaning, IsCarriedOut}
+use Rattle.dtx_meaning.specs.Meaning.{IsCarriedOut}
 use Rattle.dtx_meaning.specs.Status.{IsFault, ended}
 use Rattle.dtx_meaning.specs.declared.status.Outcome.{Outcome}
 use Rattle.dtx_meaning.specs.declared.status.Status.{Status}
@@ -18,7 +17,7 @@ use Rattle.dtx_meaning.specs.declared.status.Status.TheVariants.{Done, ReadFault
 use Rattle.dtx_outside.specs.Shelf.{Files}
 use Rattle.dtx_plan.specs.declared.damage.Damage.{Damage}
 use Rattle.dtx_words.specs.NetworkNames.{received_name}
-use Rattle.dtx_top.specs.NetMeaning.{answered, is_done, received_past, with_received}
+use Rattle.dtx_top.specs.NetMeaning.{is_done, received_past}
 
 -- the engine's making, the output's name and the input's are these
 pub carried_by : (told now : Option Files) (outcome : Outcome) (shape : Shape) (made said : Recipe) (number : ℕ)
@@ -57,20 +56,3 @@ fault_not_done ReadFault fault = refl
 fault_not_done WriteFault fault = refl
 fault_not_done Memory fault = refl
 fault_not_done status fault = absurd fault
-
--- a fault stays one
-fault_stays : (fed filled steps : ℕ) (outcome : Outcome) → IsFault outcome.status
-    → IsFault (with_received fed filled steps outcome).status
-fault_stays fed filled steps outcome fault = grind (arith, fault_not_done)
-
-status_stays : (fed filled steps : ℕ) (outcome : Outcome) → is_done outcome.status ≡ false
-    → (with_received fed filled steps outcome).status ≡ outcome.status
-status_stays fed filled steps outcome none = grind (arith, cond-false)
-
-pub answered_carried : (m : Meaning) (fed filled steps : ℕ) (start now : Option Files) (outcome : Outcome)
-    → IsCarriedOut m start outcome now
-    → IsCarriedOut (answered (with_received fed filled steps) m) start (with_received fed filled steps outcome) now
-answered_carried m fed filled steps start now outcome (inl whole) =
-    inl (record { answer = ap (with_received fed filled steps) whole.answer; files = whole.files })
-answered_carried m fed filled steps start now outcome (inr broken) =
-    grind (arith, fault_stays, status_stays, fault_not_done)

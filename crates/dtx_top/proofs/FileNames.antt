@@ -160,15 +160,6 @@ apart_sound plan sound small =
     let ts : List Transmitter = plan.transmitters in
     apart_of ts sound.transmitters (λ who t at_t. grind (arith, get_or_from_slice_get, All-get_or, slice_get_within))
 
--- which of a network's files comes twice: the stream, where it is the plan; or else the first that is the plan's or the
--- stream's
-pub repeated_is : (name : List ℕ) (plan : Plan) (network : NetPlan) → IsSound plan → AreSmall plan.transmitters
-    → repeated (network_names name plan network)
-    ≡ cond (bytes_eq name network.stream) (Some network.stream) (cond (is_given name network.stream feed_name)
-    (Some feed_name) (option_or (find (is_given name network.stream) (transmitter_names plan.transmitters))
-    (find (is_given name network.stream) (received_names network.receive))))
-repeated_is name plan network sound small = grind (arith, given_first, written_once, apart_sound, find-append)
-
 -- where neither the stream nor the feed does, what is found among the others
 pub repeated_past : {X : Type 0} (f : X → List ℕ) (sent received now : Option X) (name : List ℕ) (plan : Plan)
     (network : NetPlan) → IsSound plan → AreSmall plan.transmitters → bytes_eq name network.stream ≡ false
@@ -177,7 +168,7 @@ pub repeated_past : {X : Type 0} (f : X → List ℕ) (sent received now : Optio
     → option_map f received ≡ find (is_given name network.stream) (received_names network.receive)
     → option_map f now ≡ repeated (network_names name plan network)
 repeated_past f sent received now name plan network sound small own fed is of_sent of_received =
-    grind (arith, map_or, repeated_is, cond-false)
+    grind (arith, map_or, given_first, written_once, apart_sound, find-append, cond-false)
 
 -- ---- a name among others is found there
 

@@ -1,9 +1,8 @@
 -- The headline, of a network whose meaning was carried out and is done.
-use Rattle.std.proofs.Common.{◌≡◌, ℕ, ◌*◌, ◌/◌, ◌<◌, ◌≤◌, ◌^◌, Bool, true, false, cond, List, [], ◌∷◌, ◌++◌, length}
-use Rattle.std.proofs.Common.{refl, sym, ap, subst, ◌∙◌, arith}
+use Rattle.std.proofs.Common.{◌≡◌, ℕ, ◌<◌, ◌≤◌, ◌^◌, Bool, true, false, cond, List, [], ◌∷◌, refl, sym, ap, subst, ◌∙◌}
+use Rattle.std.proofs.Common.{arith}
 use Rattle.std.specs.Prelude.{Option, Some, None, Result, Ok, Err, IfSome, IsSomeAnd, is_some, slice_get}
 use Rattle.std.specs.FinMap.{get}
-use Rattle.std.specs.Option.{option_map_or}
 use Rattle.std.specs.Result.{IsOkAnd}
 use Rattle.std.proofs.lemmas.Bool.{ltb-false}
 use Rattle.std.proofs.lemmas.List.{append-nil, take_all}
@@ -19,10 +18,6 @@ use Rattle.dtx_plan.specs.declared.plan.Plan.{Plan}
 use Rattle.dtx_plan.specs.declared.plan.ReceivePlan.{ReceivePlan}
 use Rattle.dtx_plan.specs.declared.refusal.PlanNo.{PlanNo}
 use Rattle.dtx_plan.specs.declared.transmitter.Transmitter.{Transmitter}
-use Rattle.dtx_make.specs.Hurt.{hurt}
-use Rattle.dtx_receiver.specs.Packets.{received}
-use Rattle.dtx_net.specs.Sent.{sent_segments}
-use Rattle.dtx_net.specs.Steps.{transmitter_place}
 use Rattle.dtx_chain.proofs.ReceivedLemmas.{all_whole}
 use Rattle.dtx_network.specs.Network.{steps_under}
 use Rattle.dtx_network.specs.Plans.{IsPlan, IsStream}
@@ -31,62 +26,27 @@ use Rattle.dtx_meaning.specs.Meaning.{Meaning, Outputs, IsCarriedOut, refused, w
 use Rattle.dtx_meaning.specs.Status.{IsFault, done}
 use Rattle.dtx_meaning.specs.declared.status.Outcome.{Outcome}
 use Rattle.dtx_meaning.specs.declared.status.Status.TheVariants.{Done, Same}
-use Rattle.dtx_engine.specs.Recipe.{Recipe, first_units, whole_units}
 use Rattle.dtx_words.specs.Names.{repeated}
 use Rattle.dtx_words.specs.NetworkNames.{received_name}
 use Rattle.dtx_forms.specs.PlanFile.{under_plan, under_said}
 use Rattle.dtx_forms.specs.Shapes.{packets, segments}
-use Rattle.dtx_forms.specs.Damaged.{damaged_making}
 use Rattle.dtx_recipes.specs.Adapt.{feeding}
 use Rattle.dtx_packet_jobs.proofs.PacketFileLemmas.{packets_of-bytes}
-use Rattle.dtx_recipes.specs.PastEnd.{first_past}
-use Rattle.dtx_recipes.specs.Receive.{received_bytes, receiving}
 use Rattle.dtx_jobs.proofs.ReceiveLemmas.{receives_all}
 use Rattle.dtx_recipes.specs.SymbolFile as symbols
 use Rattle.dtx_schedule.proofs.FilesLemmas.{AreApart, apart_of, files_with, with_outputs-told}
-use Rattle.dtx_schedule.specs.TransmitterFiles.{played_outputs, symbol_file}
 use Rattle.dtx_top.specs.HeadlineOfFiles.{HeadlineOfFiles}
-use Rattle.dtx_top.specs.NetMeaning.{events_past, network_meaning, planned_meaning, played_and_received, received_of}
-use Rattle.dtx_top.specs.NetMeaning.{received_past, with_received}
+use Rattle.dtx_top.specs.NetMeaning.{network_meaning, planned_meaning, received_of}
 use Rattle.dtx_top.specs.Networks.{OfNetwork, AreWholeFiles, damaged_file, network_names, packets_received, sent_file}
 use Rattle.dtx_top.proofs.Adapted.{AreAllTaken, all_taken, packets_given_of, taken_means}
 use Rattle.dtx_top.proofs.Carrying.{is_done_is}
 use Rattle.dtx_top.proofs.HeadlineLaw.{HeadlineLaw}
-use Rattle.dtx_top.proofs.NetFiles.{network_files, network_outputs, received_outputs}
+use Rattle.dtx_top.proofs.NetFiles.{network_files, network_outputs}
 use Rattle.dtx_top.proofs.SegmentsBack.{segments_of_file}
 use Rattle.dtx_top.proofs.SegmentsSent.{length-symbol_file}
 use Rattle.dtx_top.proofs.StreamsLemmas.{is_stream}
 
 -- ---- what was received
-
--- a symbol file has whole segments, also where there is none
-sent_whole : (plan : Plan) (network : NetPlan) (stream : List (List ℕ)) (address : ℕ)
-    → (n : ℕ) × (length (sent_file plan network stream address) ≡ 832 * n)
-unfolding sent_file
-sent_whole plan network stream address = by_place (transmitter_place address plan.transmitters)
-  where
-    at : ℕ → Option Transmitter → List ℕ
-    at who o = option_map_or (λ t. symbol_file t who (steps_under plan stream network.events)) o []
-
-    by_transmitter : (who : ℕ) (o : Option Transmitter) → (n : ℕ) × (length (at who o) ≡ 832 * n)
-    by_transmitter who None = (0, refl)
-    by_transmitter who (Some t) = (
-      length (sent_segments t who (steps_under plan stream network.events)),
-      length-symbol_file t who (steps_under plan stream network.events),
-    )
-
-    by_place : (o : Option ℕ)
-        → (n : ℕ) × (length (option_map_or (λ who. at who (slice_get plan.transmitters who)) o []) ≡ 832 * n)
-    by_place None = (0, refl)
-    by_place (Some who) = by_transmitter who (slice_get plan.transmitters who)
-
-all_given : (file : List ℕ) (n : ℕ) → length file ≡ 832 * n
-    → first_units segments file (whole_units segments file) ≡ file
-all_given file n long = take_all (832 * (length file / 832)) file (omega (arith, long))
-
-done_back : (fed filled steps : ℕ) (outcome : Outcome) → (with_received fed filled steps outcome).status ≡ Done
-    → outcome.status ≡ Done
-done_back fed filled steps outcome is = grind (arith, is_done_is)
 
 -- where the symbols were received, what is written of them
 received_done : (plan : Plan) (network : NetPlan) (stream : List (List ℕ)) (receiver : ReceivePlan)
@@ -95,47 +55,11 @@ received_done : (plan : Plan) (network : NetPlan) (stream : List (List ℕ)) (re
       received_name,
       packets_received plan network stream receiver,
     ) ∷ []
-unfolding damaged_file
-received_done plan network stream receiver done = by_past (first_past receiver.damage (length file))
-    (done_back _ _ _ (received_past (first_past receiver.damage (length file)) receiver.damage file).outcome done)
-  where
-    file : List ℕ
-    file = sent_file plan network stream receiver.from
-
-    recipe : Recipe
-    recipe = damaged_making receiver.damage receiving
-
-    by_past : (o : Option ℕ) → (received_past o receiver.damage file).outcome.status ≡ Done
-        → (received_past o receiver.damage file).outputs ≡ (
-          received_name,
-          received_bytes (hurt receiver.damage file),
-        ) ∷ []
-    by_past (Some entry) done = cc
-    by_past None done =
-        let all = all_taken segments recipe (received_name ∷ []) file done in
-        let given : List ℕ = first_units segments file (whole_units segments file) in
-        let long = sent_whole plan network stream receiver.from in
-        let same : given ≡ file = all_given file long.0 long.1 in
-        ap (λ (m : Meaning). m.outputs) (taken_means segments recipe (received_name ∷ []) file all)
-        ∙ grind (arith, receives_all)
+unfolding damaged_file sent_file
+received_done plan network stream receiver done =
+    grind (arith, is_done_is, all_taken, length-symbol_file, take_all, taken_means, receives_all)
 
 -- ---- all outputs
-
-by_receiver : (plan : Plan) (network : NetPlan) (stream : List (List ℕ)) (receive : Option ReceivePlan)
-    → (played_and_received plan network stream receive).outcome.status ≡ Done
-    → (played_and_received plan network stream receive).outputs
-    ≡ played_outputs plan.transmitters (steps_under plan stream network.events)
-    ++ received_outputs receive (packets_received plan network stream)
-by_receiver plan network stream None done =
-    sym (append-nil (played_outputs plan.transmitters (steps_under plan stream network.events)))
-by_receiver plan network stream (Some receiver) done = grind (arith, received_done)
-
-by_events : (plan : Plan) (network : NetPlan) (stream : List (List ℕ)) (o : Option ℕ)
-    → (events_past o plan network stream).outcome.status ≡ Done → (events_past o plan network stream).outputs
-    ≡ played_outputs plan.transmitters (steps_under plan stream network.events)
-    ++ received_outputs network.receive (packets_received plan network stream)
-by_events plan network stream (Some event) done = cc
-by_events plan network stream None done = by_receiver plan network stream network.receive done
 
 record IsDone (plan : Plan) (network : NetPlan) (file : List ℕ) : Type 0 where
   all : AreAllTaken packets (feeding plan) file
@@ -145,16 +69,9 @@ record IsDone (plan : Plan) (network : NetPlan) (file : List ℕ) : Type 0 where
 done_outputs : (plan : Plan) (network : NetPlan) (file : List ℕ)
     → (network_meaning plan network (Some file)).outcome.status ≡ Done → IsDone plan network file
 done_outputs plan network file done =
-    grind (arith, all_taken, is_done_is, taken_means, append-nil, packets_given_of, by_events)
+    grind (arith, all_taken, is_done_is, taken_means, append-nil, packets_given_of, received_done)
 
 -- ---- the headline
-
--- the packets of the file of what is received
-received_back : (plan : Plan) (network : NetPlan) (stream : List (List ℕ)) (held now : Files)
-    → AreWholeFiles plan network stream held now → (receiver : ReceivePlan) → network.receive ≡ Some receiver
-    → IsSomeAnd (get now received_name)
-    (λ file. packets_of file ≡ received (symbols.file_segments (damaged_file plan network stream receiver)))
-received_back plan network stream held now files receiver receives = grind (arith, packets_of-bytes, all_whole)
 
 headline_of : HeadlineLaw → (plan : Plan) (network : NetPlan) (stream : List (List ℕ)) (held now : Files) → IsPlan plan
     → IsStream stream → AreWholeFiles plan network stream held now → HeadlineOfFiles plan network stream held now
@@ -168,7 +85,7 @@ headline_of law plan network stream held now plans streams files =
           (symbols.file_segments (damaged_file plan network stream receiver));
       gives_all_back = λ receiver x receives from. (h.follows x).gives_all_back
           (symbols.file_segments (damaged_file plan network stream receiver));
-      packets = received_back plan network stream held now files;
+      packets = (λ receiver receives. grind (arith, packets_of-bytes, all_whole));
     }
 
 small : (plan : Plan) → IsPlan plan → (who : ℕ) (t : Transmitter) → slice_get plan.transmitters who ≡ Some t

@@ -1,11 +1,11 @@
 -- A group with a placeholder orders something, also for an exciter that locks to a later mark.
 use Rattle.std.proofs.Common.{◌≡◌, ℕ, zero, suc, ◌+◌, ◌*◌, ◌/◌, ◌%◌, ◌<◌, ◌≤◌, Bool, true, false, List, [], get_or}
-use Rattle.std.proofs.Common.{refl, ap₂, subst, arith}
+use Rattle.std.proofs.Common.{refl, subst, arith}
 use Rattle.std.specs.Prelude.{◌||◌, Option, drop}
 use Rattle.std.specs.List.{range_with_len, list_any}
 use Rattle.std.proofs.lemmas.Bool.{cond-true, eq-eqb, le-leb}
 use Rattle.std.proofs.lemmas.List.{get_or-drop}
-use Rattle.dtx_exciter.specs.Order.{counting_order, either, order_at, ordered_at}
+use Rattle.dtx_exciter.specs.Order.{counting_order, order_at}
 use Rattle.dtx_network.specs.Orders.{has_order, is_operations}
 use Rattle.dtx_ops.specs.declared.fields.Ops.{Ops}
 use Rattle.dtx_packets.specs.Packet.{pid_of}
@@ -30,16 +30,6 @@ held_order stream k placeholder = grind (arith, eq-eqb, any_at)
 
 -- ---- from a later mark on
 
--- what a packet orders is the same, counted from a mark
-at_mark : (said : List (Option Ops)) (m k j : ℕ) → m % 624 ≡ 0 → j ≡ m + k
-    → ordered_at (drop m said) k ≡ ordered_at said j
-at_mark said m k j mark same = grind (arith, get_or-drop)
-
-orders_same : (said : List (Option Ops)) (m g : ℕ) → m % 624 ≡ 0 → order_at (drop m said) g ≡ order_at said (m + g)
-unfolding order_at
-orders_same said m g mark = ap₂ either (at_mark said m g (m + g) mark refl)
-    (ap₂ either (at_mark said m (g + 1) (m + g + 1) mark (omega arith)) (grind (arith, at_mark)))
-
 counts : (said : List (Option Ops)) (g : ℕ) → 52 ≤ g → g % 4 ≡ 0 → counting_order said g ≡ order_at said g
 unfolding counting_order
 counts said g far whole = grind (arith, cond-true, le-leb, eq-eqb)
@@ -47,4 +37,5 @@ counts said g far whole = grind (arith, cond-true, le-leb, eq-eqb)
 -- a group that begins 52 packets or more behind the mark orders what it orders from the first packet on
 pub order_from : (said : List (Option Ops)) (m g j : ℕ) → m % 624 ≡ 0 → 52 ≤ g → g % 4 ≡ 0 → j ≡ m + g
     → counting_order (drop m said) g ≡ counting_order said j
-order_from said m g j mark far whole same = grind (arith, counts, orders_same)
+unfolding order_at
+order_from said m g j mark far whole same = grind (arith, counts, get_or-drop)

@@ -27,25 +27,9 @@ use Rattle.dtx_top.specs.NetAnswers.{HasCount, IsOfNetwork, IsOfReplay, ShowsNet
 use Rattle.dtx_recipes.specs.Adapt.{feeding}
 use Rattle.dtx_top.proofs.ByWords.{known_status}
 
--- an answer of one of the inputs
-pub of_network : (number : ℕ) (status : Status) → number < 4 → IsOfInput number status → IsOfNetwork status
-of_network number Usage below is = elim is [ ]
-of_network number Same below is = elim is [ ]
-of_network number (Absent input) below is = omega (arith, below, is)
-of_network number Done below is = tt
-of_network number (Plan refusal) below is = tt
-of_network number (Packet k) below is = tt
-of_network number TooLong below is = tt
-of_network number (OutOfFeed event) below is = tt
-of_network number (OutOfAir entry) below is = tt
-of_network number NoSync below is = tt
-of_network number ReadFault below is = tt
-of_network number WriteFault below is = tt
-of_network number Memory below is = tt
-
 -- a refusal to read the plan
 pub plan_of_network : (status : Status) → IsPlanRefusal 0 status → IsOfNetwork status
-plan_of_network status is = of_network 0 status (omega arith) (refusal_of_input 0 status is)
+plan_of_network status is = grind (arith, refusal_of_input)
 
 -- ---- where the plan is read, and no two names are equal
 

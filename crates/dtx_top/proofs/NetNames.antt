@@ -1,6 +1,6 @@
 -- The name in the line of a network whose names are all different.
-use Rattle.std.specs.Prelude.{◌≡◌, ℕ, ◌<◌, ◌≤◌, ◌⊎◌, List, [], Option, Some, None, IfSome, refl, unwrap_or}
-use Rattle.std.proofs.Common.{sym, ap, subst, inl, inr, arith, ◌∙◌}
+use Rattle.std.specs.Prelude.{◌≡◌, ℕ, List, [], Option, Some, None, IfSome, refl, unwrap_or}
+use Rattle.std.proofs.Common.{sym, ap, arith, ◌∙◌}
 use Rattle.std.specs.Option.{option_map}
 use Rattle.std.proofs.lemmas.Bool.{cases_lt}
 use Rattle.dtx_meaning.specs.declared.status.Status.{Status}
@@ -18,21 +18,10 @@ abbrev IsTold : List ℕ → Plan → NetPlan → Status → Type 0
 IsTold name plan network status =
     told_name name status (kept_name network status) ≡ line_name status (names_for status name plan network)
 
-absent_told : (name : List ℕ) (plan : Plan) (network : NetPlan) (input : ℕ) → input < 4
-    → (input < 1) ⊎ (1 ≤ input) → (input < 2) ⊎ (2 ≤ input) → (input < 3) ⊎ (3 ≤ input)
-    → IsTold name plan network (Absent input)
-absent_told name plan network input below (inl a) b c = grind arith
-absent_told name plan network input below (inr a) (inl b) c =
-    subst (λ n. IsTold name plan network (Absent n)) {x = 1} (omega (arith, a, b)) refl
-absent_told name plan network input below (inr a) (inr b) (inl c) =
-    subst (λ n. IsTold name plan network (Absent n)) {x = 2} (omega (arith, b, c)) refl
-absent_told name plan network input below (inr a) (inr b) (inr c) =
-    subst (λ n. IsTold name plan network (Absent n)) {x = 3} (omega (arith, below, c)) refl
-
 pub name_replayed : (name : List ℕ) (plan : Plan) (network : NetPlan) (status : Status) → IsOfNetwork status
     → repeated (network_names name plan network) ≡ None → IsTold name plan network status
 name_replayed name plan network Same is none = sym (ap (λ (o : Option (List ℕ)). unwrap_or o []) none)
-name_replayed name plan network (Absent input) below none = grind (arith, absent_told, cases_lt)
+name_replayed name plan network (Absent input) below none = grind (arith, cases_lt)
 name_replayed name plan network status is none = refl
 
 -- no name is repeated, as no name was found

@@ -2,7 +2,6 @@
 use Rattle.std.proofs.Common.{◌≡◌, ◌⊎◌, ℕ, ◌-◌, List, [], ◌∷◌, ◌++◌, refl, sym, ap, subst, ◌∙◌, inl, inr, arith}
 use Rattle.std.specs.Prelude.{Option, Some, None, IfSome, IfOk, Result, Ok, Err}
 use Rattle.std.specs.Option.{option_map}
-use Rattle.std.specs.FinMap.{get}
 use Rattle.std.proofs.lemmas.List.{append-nil}
 use Rattle.dtx_make.specs.Made.{made_stream}
 use Rattle.dtx_meaning.proofs.MeaningLemmas.{part_of_none, with_outputs-append}
@@ -11,12 +10,10 @@ use Rattle.dtx_meaning.specs.Status.{IsFault, ended}
 use Rattle.dtx_meaning.specs.declared.status.Outcome.{Outcome}
 use Rattle.dtx_meaning.specs.declared.status.Status.{Status}
 use Rattle.dtx_net.specs.Steps.{Step}
-use Rattle.dtx_network.specs.Network.{steps_under}
 use Rattle.dtx_outside.specs.Shelf.{Files, with_file}
 use Rattle.dtx_outside.specs.declared.sink.SinkNo.{SinkNo}
 use Rattle.dtx_outside.specs.declared.sink.SinkNo.TheVariants as sink
 use Rattle.dtx_packets.specs.Packets.{packets_of}
-use Rattle.dtx_plan.specs.Plan.{plan_of}
 use Rattle.dtx_plan.specs.declared.plan.NetPlan.{NetPlan}
 use Rattle.dtx_plan.specs.declared.plan.Plan as whole
 use Rattle.dtx_plan.specs.declared.refusal.PlanNo.{PlanNo}
@@ -26,11 +23,9 @@ use Rattle.dtx_schedule.proofs.ProgressLemmas.{all_files, all_played, only_begun
 use Rattle.dtx_schedule.specs.TransmitterFiles.{played, played_outputs}
 use Rattle.dtx_words.specs.Line.{finished}
 use Rattle.dtx_words.specs.declared.rows.Command.{Command}
-use Rattle.dtx_words.specs.declared.rows.Command.TheVariants.{Net, Trial}
 use Rattle.dtx_top.specs.Ends.{HasProgressOf}
-use Rattle.dtx_top.specs.NetProgress.{AreFirstParts, HasFileProgress, HasNetProgress, HasPlanProgress}
-use Rattle.dtx_top.specs.NetProgress.{HasProgress, HasStreamProgress, NetProgress, feed_outputs, reception_outputs}
-use Rattle.dtx_top.specs.Trial.{HasMadeProgress, HasNumbersProgress, HasTrialNet, HasTrialProgress}
+use Rattle.dtx_top.specs.NetProgress.{AreFirstParts, HasFileProgress, HasPlanProgress, HasStreamProgress, NetProgress}
+use Rattle.dtx_top.specs.Trial.{HasMadeProgress, HasTrialNet}
 use Rattle.dtx_top.proofs.Ending.{finished_failed}
 
 -- ---- parts of outputs
@@ -153,13 +148,6 @@ file_untouched name status (Some held) now same = grind (arith, net_untouched)
 
 -- ---- behind the line
 
--- the line leaves the status, or makes a fault of it
-finished_or_fault : (status : Status) (line : Result (Unit {0}) SinkNo)
-    → (finished status line ≡ status) ⊎ IsFault (finished status line)
-finished_or_fault status (Ok u) = inl refl
-finished_or_fault status (Err sink.Memory) = inr tt
-finished_or_fault status (Err sink.Failed) = grind (arith, finished_failed)
-
 -- under another status, which is a fault where the first one is
 pub answered_so : (fed : Outputs) (ts : List Transmitter) (steps : List Step) (got : Outputs) (status other : Status)
     (held : Files) (now : Option Files) → (IsFault status → IsFault other)
@@ -181,41 +169,11 @@ stays_fault : (status other : Status) → (other ≡ status) ⊎ IsFault other �
 stays_fault status other (inl same) fault = let P : Status → Type 0 = λ s. IsFault s in subst P (sym same) fault
 stays_fault status other (inr other_fault) fault = other_fault
 
-stream_so : (plan : whole.Plan) (network : NetPlan) (status other : Status) (held : Files) (now : Option Files)
-    → (other ≡ status) ⊎ IsFault other → (found : Option (List ℕ))
-    → IfSome found (λ file. HasNetProgress plan network file status held now)
-    → IfSome found (λ file. HasNetProgress plan network file other held now)
-stream_so plan network status other held now same None is = tt
-stream_so plan network status other held now same (Some file) is =
-    answered_so (feed_outputs plan file) plan.transmitters (steps_under plan (packets_of file) network.events)
-    (reception_outputs plan network (packets_of file) network.receive) status other held now
-    (stays_fault status other same) is
-
-net_so : (plan : whole.Plan) (status other : Status) (held : Files) (now : Option Files)
-    → (other ≡ status) ⊎ IsFault other → (net : Option NetPlan) → HasPlanProgress plan net status held now
-    → HasPlanProgress plan net other held now
-net_so plan status other held now same None is = tt
-net_so plan status other held now same (Some network) is = grind (arith, stream_so)
-
 plan_so : (status other : Status) (held : Files) (now : Option Files) → (other ≡ status) ⊎ IsFault other
     → (said : Result whole.Plan PlanNo) → IfOk said (λ plan. HasPlanProgress plan plan.net status held now)
     → IfOk said (λ plan. HasPlanProgress plan plan.net other held now)
 plan_so status other held now same (Err refusal) is = tt
-plan_so status other held now same (Ok plan) is = net_so plan status other held now same plan.net is
-
-file_so : (status other : Status) (held : Files) (now : Option Files) → (other ≡ status) ⊎ IsFault other
-    → (found : Option (List ℕ))
-    → IfSome found (λ bytes. IfOk (plan_of bytes) (λ plan. HasPlanProgress plan plan.net status held now))
-    → IfSome found (λ bytes. IfOk (plan_of bytes) (λ plan. HasPlanProgress plan plan.net other held now))
-file_so status other held now same None is = tt
-file_so status other held now same (Some bytes) is = plan_so status other held now same (plan_of bytes) is
-
-words_so : (words : List (List ℕ)) (status other : Status) (held : Files) (now : Option Files)
-    → (other ≡ status) ⊎ IsFault other → HasProgress words held status now → HasProgress words held other now
-words_so [] status other held now same is = tt
-words_so (verb ∷ []) status other held now same is = tt
-words_so (verb ∷ plan ∷ []) status other held now same is = file_so status other held now same (get held plan) is
-words_so (verb ∷ plan ∷ more ∷ rest) status other held now same is = tt
+plan_so status other held now same (Ok plan) is = grind (arith, answered_so, stays_fault)
 
 -- of a trial
 made_so : (seed count : ℕ) (status other : Status) (held : Files) (now : Option Files)
@@ -227,30 +185,8 @@ made_so seed count status other held now same (inr come) =
     let stream : List (List ℕ) = packets_of (made_stream seed count) in
     inr (grind (arith, answered_so, stays_fault))
 
-numbers_so : (seed count : Option ℕ) (status other : Status) (held : Files) (now : Option Files)
-    → (other ≡ status) ⊎ IsFault other → HasNumbersProgress seed count status held now
-    → HasNumbersProgress seed count other held now
-numbers_so None count status other held now same is = tt
-numbers_so (Some seed) None status other held now same is = tt
-numbers_so (Some seed) (Some count) status other held now same is = made_so seed count status other held now same is
-
-trial_so : (words : List (List ℕ)) (status other : Status) (held : Files) (now : Option Files)
-    → (other ≡ status) ⊎ IsFault other → HasTrialProgress words held status now → HasTrialProgress words held other now
-trial_so [] status other held now same is = tt
-trial_so (verb ∷ []) status other held now same is = tt
-trial_so (verb ∷ seed ∷ []) status other held now same is = tt
-trial_so (verb ∷ seed ∷ count ∷ []) status other held now same is = grind (arith, numbers_so)
-trial_so (verb ∷ seed ∷ count ∷ more ∷ rest) status other held now same is = tt
-
-command_so : (command : Option Command) (words : List (List ℕ)) (status other : Status) (held : Files)
-    (now : Option Files) → (other ≡ status) ⊎ IsFault other → HasProgressOf command words held status now
-    → HasProgressOf command words held other now
-command_so (Some Net) words status other held now same is = words_so words status other held now same is
-command_so (Some Trial) words status other held now same is = trial_so words status other held now same is
-command_so _ words status other held now same is = tt
-
 pub progress_told : (command : Option Command) (words : List (List ℕ)) (told now : Option Files) (status : Status)
     (line : Result (Unit {0}) SinkNo) → IfSome told (λ held. HasProgressOf command words held status now)
     → IfSome told (λ held. HasProgressOf command words held (finished status line) now)
 progress_told command words None now status line is = tt
-progress_told command words (Some held) now status line is = grind (arith, command_so, finished_or_fault)
+progress_told command words (Some held) now status line is = grind (arith, plan_so, made_so, finished_failed)

@@ -1,6 +1,6 @@
 -- A command was performed, since its job was.
 use Rattle.std.proofs.Common.{arith}
-use Rattle.std.specs.Prelude.{◌≡◌, ◌≢◌, ℕ, List, Option, Some, None, IfSome}
+use Rattle.std.specs.Prelude.{◌≡◌, ◌≢◌, ℕ, List, Option, Some}
 use Rattle.dtx_meaning.specs.declared.status.Outcome.{Outcome}
 use Rattle.dtx_meaning.specs.declared.status.Status.TheVariants.{Done}
 use Rattle.dtx_outside.specs.Counts.{Counts}
@@ -11,11 +11,6 @@ use Rattle.dtx_words.specs.declared.rows.Command.TheVariants.{Net, Trial}
 use Rattle.dtx_top.specs.Ends.{HasHeadlineOf, HasProgressOf, IsCommandPerformed}
 use Rattle.dtx_top.specs.Jobs.{job_of}
 
--- what holds of all files holds of those that are told
-of_all : (P : Files → Type 0) (told : Option Files) → ((held : Files) → P held) → IfSome told P
-of_all P None is = tt
-of_all P (Some held) is = is held
-
 -- a job of a command that plays no network
 of_job : (command : Command) (job : Job) (words : List (List ℕ)) (outcome : Outcome) (kept : List ℕ)
     (told now : Option Files) (before after : Counts) → job_of command ≡ Some job → Some command ≢ Some Net
@@ -23,21 +18,13 @@ of_job : (command : Command) (job : Job) (words : List (List ℕ)) (outcome : Ou
     → ((held : Files) → outcome.status ≡ Done → HasHeadlineOf (Some command) words held now)
     → IsJobPerformed job words outcome told now before after
     → IsCommandPerformed (Some command) words outcome kept told now before after
-of_job command job words outcome kept told now before after is other progress headline done = grind (arith, of_all)
+of_job command job words outcome kept told now before after is other progress headline done = grind arith
 
 -- the command plays no network
 abbrev IsPlain : Command → Type 0
 IsPlain Net = ⊥
 IsPlain Trial = ⊥
 IsPlain command = Unit {0}
-
-plain_performed : (command : Command) (job : Job) (words : List (List ℕ)) (outcome : Outcome) (kept : List ℕ)
-    (told now : Option Files) (before after : Counts)
-    → IsPlain command → job_of command ≡ Some job → IsJobPerformed job words outcome told now before after
-    → IsCommandPerformed (Some command) words outcome kept told now before after
-plain_performed Net job words outcome kept told now before after plain is done = absurd plain
-plain_performed Trial job words outcome kept told now before after plain is done = absurd plain
-plain_performed command job words outcome kept told now before after plain is done = grind (arith, of_job)
 
 -- the outcome of a job is that of its command
 pub performed : (command plain : Command) (job : Job) (words : List (List ℕ)) (outcome result : Outcome) (kept : List ℕ)
@@ -46,4 +33,4 @@ pub performed : (command plain : Command) (job : Job) (words : List (List ℕ)) 
     → IsJobPerformed job words outcome told now before after
     → IsCommandPerformed (Some command) words result kept told now before after
 performed command plain job words outcome result kept told now before after same is_plain is same_outcome done =
-    rw (same, same_outcome) (plain_performed plain job words outcome kept told now before after is_plain is done)
+    grind (arith, of_job)

@@ -2,6 +2,7 @@
 use Rattle.std.proofs.Common.{◌≡◌, ◌≢◌, ℕ, ◌*◌, ◌-◌, ◌^◌, ◌≤◌, List, [], ◌∷◌, length, sym, ap, subst, ◌∙◌, arith}
 use Rattle.std.specs.Prelude.{Option, Some, None, IfSome, min}
 use Rattle.std.specs.FinMap.{get}
+use Rattle.std.proofs.lemmas.Bool.{cond-false}
 use Rattle.dtx_adapter.specs.Feed.{feed, placeholders}
 use Rattle.dtx_recipes.specs.Feed.{feed_bytes}
 use Rattle.dtx_packet_jobs.proofs.FeedFileLemmas.{packets_of-feed_bytes, whole_packets-feed_bytes}
@@ -32,7 +33,7 @@ use Rattle.dtx_top.specs.NetProgress.{NetProgress, reception_outputs}
 use Rattle.dtx_top.specs.Networks.{sent_file}
 use Rattle.dtx_top.specs.Replaying.{HasNumbers, IsFeedWritten}
 use Rattle.dtx_top.specs.declared.replaying.Fed.{Fed}
-use Rattle.dtx_top.proofs.Carrying.{answered_carried}
+use Rattle.dtx_top.proofs.Carrying.{fault_not_done}
 use Rattle.dtx_top.proofs.NetProgresses.{received_on}
 use Rattle.dtx_top.proofs.SymbolsSent.{IsPlace, counted_serves, place_there, sent_file_is}
 
@@ -157,10 +158,7 @@ received_behind plan network receiver stream held now fed steps received result 
     ∙ ap (λ n. with_received (length stream) n steps received) numbers.filled
     ∙ ap (λ n. with_received (length stream) (placeholders stream) n received) counted in
     carried_then (playing plan network stream) (received_of plan network stream receiver) (Some held)
-    (Some sent.mid) now result sent.left
-    (subst (λ (o : Outcome). IsCarriedOut (received_of plan network stream receiver) (Some sent.mid) o now) (sym same)
-    (answered_carried m (length stream) (placeholders stream) (packets_given (steps_under plan stream network.events))
-    (Some sent.mid) now received sent.carried))
+    (Some sent.mid) now result sent.left (grind (arith, fault_not_done, cond-false))
 
 -- ---- how far it came
 

@@ -1,6 +1,6 @@
 -- The stages of a command: from those of its job, and behind its line.
 use Rattle.std.proofs.Common.{◌≡◌, ℕ, List, arith}
-use Rattle.std.specs.Prelude.{Option, Some, None, Result, Ok, Err}
+use Rattle.std.specs.Prelude.{Option, Some, None, Result}
 use Rattle.dtx_outside.specs.Counts.{Counts}
 use Rattle.dtx_outside.specs.Foreseen.{Foreseen}
 use Rattle.dtx_outside.specs.Shelf.{Files}
@@ -8,13 +8,12 @@ use Rattle.dtx_outside.specs.declared.sink.SinkNo.{SinkNo}
 use Rattle.dtx_outside.specs.declared.sink.SinkNo.TheVariants as sink
 use Rattle.dtx_meaning.specs.declared.status.Outcome.{Outcome}
 use Rattle.dtx_meaning.specs.declared.status.Status.{Status}
-use Rattle.dtx_meaning.specs.declared.status.Status.TheVariants.{ReadFault}
 use Rattle.dtx_forms.specs.Job.{Job}
-use Rattle.dtx_forms.specs.Stages.{IsStaged, Stages}
+use Rattle.dtx_forms.specs.Stages.{IsStaged}
 use Rattle.dtx_words.specs.Line.{finished}
 use Rattle.dtx_words.specs.declared.rows.Command.{Command}
 use Rattle.dtx_top.specs.Jobs.{job_of}
-use Rattle.dtx_top.specs.Stages.{HasStagesOf, HasStagesOfJob}
+use Rattle.dtx_top.specs.Stages.{HasStagesOf}
 use Rattle.dtx_top.proofs.Ending.{finished_failed}
 
 -- the stages of a job are those of its command
@@ -28,31 +27,10 @@ job_staged foreseen command plain job words outcome result told now before after
 
 -- ---- behind the line
 
--- a read error behind the line is one before it
-read_before : (status : Status) (line : Result (Unit {0}) SinkNo) → finished status line ≡ ReadFault
-    → status ≡ ReadFault
-read_before status (Ok u) is = is
-read_before status (Err sink.Memory) is = absurd cc
-read_before status (Err sink.Failed) is = grind (arith, finished_failed)
-
-staged_behind : (foreseen : Foreseen) (stages : Option Stages) (first last : Status) (told now : Option Files)
-    (before after : Counts) → (last ≡ ReadFault → first ≡ ReadFault)
-    → IsStaged foreseen stages first told now before after → IsStaged foreseen stages last told now before after
-staged_behind foreseen None first last told now before after fault is = tt
-staged_behind foreseen (Some stages) first last None now before after fault is = tt
-staged_behind foreseen (Some stages) first last (Some held) now before after fault is = grind arith
-
-job_behind : (foreseen : Foreseen) (job : Option Job) (words : List (List ℕ)) (first last : Status)
-    (told now : Option Files) (before after : Counts) → (last ≡ ReadFault → first ≡ ReadFault)
-    → HasStagesOfJob foreseen job words first told now before after
-    → HasStagesOfJob foreseen job words last told now before after
-job_behind foreseen None words first last told now before after fault is = is
-job_behind foreseen (Some job) words first last told now before after fault is = grind (arith, staged_behind)
-
 -- the stages of a command whose line was printed so
 pub stages_told : (foreseen : Foreseen) (command : Option Command) (words : List (List ℕ)) (status : Status)
     (line : Result (Unit {0}) SinkNo) (told now : Option Files) (before after : Counts)
     → HasStagesOf foreseen command words status told now before after
     → HasStagesOf foreseen command words (finished status line) told now before after
 stages_told foreseen None words status line told now before after is = tt
-stages_told foreseen (Some command) words status line told now before after is = grind (arith, job_behind, read_before)
+stages_told foreseen (Some command) words status line told now before after is = grind (arith, finished_failed)

@@ -47,13 +47,9 @@ before_back address delay packets i = by_test (nat_le 4 i)
     by_test true = at_back address delay packets (i - 4)
     by_test false = tt
 
-last_back : (b : List ℤ) (bs : List (List ℤ)) → EachBack (b ∷ bs)
-    → AreBack (last_of (slice_index_or (b ∷ bs) (length bs) []))
-unfolding last_of
-last_back b bs each = each_drop IsBack 820 (slice_index_or (b ∷ bs) (length bs) []) (grind (arith, each_at))
-
 with_back : (i : ℕ) (before sent : List (List ℤ)) → EachBack before → EachBack sent
     → EachBack (behind_field_sync i before sent)
+unfolding last_of
 with_back i before [] h g = tt
 with_back i [] (s ∷ ss) h g = g
 with_back i (b ∷ bs) (s ∷ ss) h g = by_test (i % 312 == 0)
@@ -61,8 +57,11 @@ with_back i (b ∷ bs) (s ∷ ss) h g = by_test (i % 312 == 0)
     by_test : (t : Bool)
         → EachBack (cond t (field_sync (nat_le 312 (i % 624)) (last_of (slice_index_or (b ∷ bs) (length bs) [])) ∷ [])
         [] ++ s ∷ ss)
-    by_test true =
-        (sync_back (nat_le 312 (i % 624)) (last_of (slice_index_or (b ∷ bs) (length bs) [])) (last_back b bs h), g)
+    by_test true = (
+      sync_back (nat_le 312 (i % 624)) (last_of (slice_index_or (b ∷ bs) (length bs) []))
+          (each_drop IsBack 820 (slice_index_or (b ∷ bs) (length bs) []) (grind (arith, each_at))),
+      g,
+    )
     by_test false = g
 
 under_back : (address delay : ℕ) (found : Option (List (List ℕ))) → EachBack (given_under address delay found)
@@ -78,18 +77,9 @@ under_back address delay (Some packets) = by_test (length packets % 4 == 0)
         (before_back address delay packets i) (at_back address delay packets i)
     by_test false = tt
 
-given_back : (address delay : ℕ) (packets : List (List ℕ)) → EachBack (last_segments address delay packets)
-unfolding last_segments
-given_back address delay packets = under_back address delay (under packets)
-
-emission_back : (address delay : ℕ) (packets : List (List ℕ)) → EachBack (emission address delay packets)
-unfolding emission
-emission_back address delay packets =
-    each_flat AreBack (λ n. last_segments address delay (take (n + 1) packets)) (range_with_len 0 (length packets))
-    (λ n. given_back address delay (take (n + 1) packets))
-
 -- what a transmitter sends
 pub sent_back : (t : Transmitter) (who : ℕ) (steps : List Step) → EachBack (sent_segments t who steps)
-unfolding sent_segments
-sent_back t who steps =
-    each_flat AreBack (emission t.address t.delay) (lives_of who steps) (emission_back t.address t.delay)
+unfolding sent_segments emission last_segments
+sent_back t who steps = each_flat AreBack (emission t.address t.delay) (lives_of who steps)
+    (λ packets. each_flat AreBack (λ n. last_segments t.address t.delay (take (n + 1) packets))
+    (range_with_len 0 (length packets)) (λ n. (under_back t.address t.delay (under (take (n + 1) packets)))))

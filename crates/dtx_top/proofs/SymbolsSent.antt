@@ -5,13 +5,12 @@ use Rattle.std.specs.Prelude.{Some, min, slice_get}
 use Rattle.std.specs.List.{All, position_or_len}
 use Rattle.std.proofs.lemmas.Bool.{cases_lt, false≢true, le-ltb}
 use Rattle.std.proofs.lemmas.List.Elements.{All-head, All-tail}
-use Rattle.dtx_recipes.specs.PastEnd.{ends_past, first_past}
+use Rattle.dtx_recipes.specs.PastEnd.{first_past}
 use Rattle.dtx_net.specs.Steps.{Step, transmitter_place}
 use Rattle.dtx_net.proofs.PlaceOfLemmas.{place_found, place_missing}
 use Rattle.dtx_network.specs.Network.{steps_under}
 use Rattle.dtx_plan.specs.Sound.{IsDamage}
 use Rattle.dtx_plan.specs.TransmitterTable.{has_address}
-use Rattle.dtx_plan.specs.declared.damage.Damage.{Damage}
 use Rattle.dtx_plan.specs.declared.plan.NetPlan.{NetPlan}
 use Rattle.dtx_plan.specs.declared.plan.Plan.{Plan}
 use Rattle.dtx_plan.specs.declared.plan.ReceivePlan.{ReceivePlan}
@@ -28,16 +27,6 @@ position_same : {X : Type 0} (p q : X → Bool) (xs : List X) → All (λ x. p x
 position_same p q [] same = refl
 position_same p q (x ∷ xs) same = ap₂ (λ b n. cond (not b) (1 + n) 0) (All-head (λ x. p x ≡ q x) x xs same)
     (position_same p q xs (All-tail (λ x. p x ≡ q x) x xs same))
-
--- an entry ends below 2 ^ 64 - 1, so that a larger number of bytes is as good as that one
-past_at_most : (entry : Damage) (bytes : ℕ) → IsDamage entry
-    → ends_past (min bytes (2 ^ 64 - 1)) entry ≡ ends_past bytes entry
-past_at_most entry bytes is = grind (arith, cases_lt, le-ltb)
-
-first_at_most : (damage : List Damage) (bytes : ℕ) → All IsDamage damage
-    → first_past damage (min bytes (2 ^ 64 - 1)) ≡ first_past damage bytes
-unfolding first_past
-first_at_most damage bytes each = grind (arith, position_same, past_at_most)
 
 -- ---- the transmitter of the receiver
 
@@ -63,5 +52,6 @@ pub counted_serves : (ts : List Transmitter) (steps : List Step) (receiver : Rec
     → SentBy receiver.from ts steps segments → All IsDamage receiver.damage
     → symbols ≡ min (segments * 832) (2 ^ 64 - 1)
     → first_past receiver.damage symbols ≡ first_past receiver.damage (length (symbol_file t who steps))
+unfolding first_past
 counted_serves ts steps receiver who segments symbols t is counted each told =
-    grind (arith, first_at_most, length-symbol_file)
+    grind (arith, position_same, cases_lt, le-ltb, length-symbol_file)

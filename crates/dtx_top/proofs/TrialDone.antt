@@ -1,14 +1,12 @@
 -- A trial is done: its feed is made, its events are within it, and its symbols are received.
-use Rattle.std.proofs.Common.{◌≡◌, ℕ, ◌≤◌, List, [], length, refl, ap, arith}
-use Rattle.std.specs.Prelude.{Some}
+use Rattle.std.proofs.Common.{◌≡◌, ℕ, ◌≤◌, List, [], length, arith}
 use Rattle.std.proofs.lemmas.Bool.{cond-true}
 use Rattle.dtx_recipes.specs.PastEnd.{first_past}
-use Rattle.dtx_make.specs.Made.{made_stream}
 use Rattle.dtx_meaning.specs.declared.status.Outcome.{Outcome}
 use Rattle.dtx_meaning.specs.declared.status.Status.TheVariants.{Done}
-use Rattle.dtx_top.specs.NetMeaning.{fed_meaning, network_meaning, received_past, with_received}
+use Rattle.dtx_top.specs.NetMeaning.{received_past}
 use Rattle.dtx_top.specs.Networks.{sent_file}
-use Rattle.dtx_top.specs.Trial.{of_trial, trial_made, trial_network, trial_plan, trial_played}
+use Rattle.dtx_top.specs.Trial.{trial_made, trial_network, trial_plan, trial_played}
 use Rattle.dtx_top.specs.WorkedNetwork.{made_packets}
 use Rattle.dtx_top.proofs.TrialAnswers.{TrialLaw}
 use Rattle.dtx_top.proofs.TrialFed.{events_inside, fed_done, trial_packets}
@@ -27,23 +25,10 @@ answer_of symbols = (received_past (first_past [] (length symbols)) [] symbols).
 abbrev IsReceived : ℕ → ℕ → Type 0
 IsReceived seed count = (answer_of (trial_symbols seed count)).status ≡ Done
 
-done_stays : (fed filled steps : ℕ) (outcome : Outcome) → outcome.status ≡ Done
-    → (with_received fed filled steps outcome).status ≡ Done
-done_stays fed filled steps outcome is = rw is refl
-
-played_done : (seed count : ℕ) → IsReceived seed count
-    → (fed_meaning (trial_plan seed count) (trial_network seed count) (made_packets seed count)).outcome.status ≡ Done
-played_done seed count received = grind (arith, events_inside, done_stays)
-
-network_done : (seed count : ℕ) → count ≤ 1000000 → IsReceived seed count
-    → (network_meaning (trial_plan seed count) (trial_network seed count)
-    (Some (made_stream seed count))).outcome.status ≡ Done
-network_done seed count most received = grind (arith, cond-true, fed_done, trial_packets, played_done)
-
 -- over what is received of transmitter 3
 received_so : (seed count : ℕ) → count ≤ 1000000 → IsReceived seed count → (trial_made seed count).outcome.status ≡ Done
 unfolding trial_played
-received_so seed count most received = ap of_trial (network_done seed count most received)
+received_so seed count most received = grind (arith, cond-true, fed_done, trial_packets, events_inside)
 
 pub trial_done : ReceivedLaws → TrialLaw
 trial_done laws seed count small least most =

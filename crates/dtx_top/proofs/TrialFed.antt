@@ -1,7 +1,7 @@
 -- The stream of a trial is adapted whole, and no event of a trial reads past its feed.
 use Rattle.std.proofs.Common.{◌≡◌, ℕ, zero, suc, ◌+◌, ◌<◌, ◌≤◌, Bool, true, false, not, List, [], ◌∷◌, length, get_or}
 use Rattle.std.proofs.Common.{refl, sym, ap, subst, ◌∙◌, arith}
-use Rattle.std.specs.Prelude.{None, min, position}
+use Rattle.std.specs.Prelude.{None, min}
 use Rattle.std.specs.List.{AllByRecursion, find, flat_map, position_or_len, range_with_len}
 use Rattle.std.proofs.lemmas.Bool.{cond-false, cond-true, eq-eqb, le-ltb}
 use Rattle.std.proofs.lemmas.List.Folds.{flat_map-map}
@@ -22,7 +22,7 @@ use Rattle.dtx_words.specs.NetworkNames.{feed_name}
 use Rattle.dtx_top.specs.NetMeaning.{is_done}
 use Rattle.dtx_top.specs.Trial.{trial_events}
 use Rattle.dtx_top.specs.WorkedNetwork.{made_packets}
-use Rattle.dtx_top.proofs.Adapted.{AreAllTaken, taken_means}
+use Rattle.dtx_top.proofs.Adapted.{taken_means}
 use Rattle.dtx_top.proofs.WorkedStream.{length-made, packet_bytes, packet_in, made_stream as are_stream}
 
 -- ---- the packets of the stream
@@ -74,13 +74,9 @@ none_refused plan seed count most =
 
 -- ---- so its feed is made
 
-all_taken : (plan : Plan) (seed count : ℕ) → count ≤ 624000000
-    → AreAllTaken packets (feeding plan) (made_stream seed count)
-all_taken plan seed count most = grind (arith, none_refused, le-ltb, length-made_stream)
-
 pub fed_done : (plan : Plan) (seed count : ℕ) → count ≤ 624000000
     → is_done (meaning_of_file packets (feeding plan) (feed_name ∷ []) (made_stream seed count)).outcome.status ≡ true
-fed_done plan seed count most = grind (arith, taken_means, all_taken)
+fed_done plan seed count most = grind (arith, taken_means, none_refused, le-ltb, length-made_stream)
 
 -- ---- the events are within it
 
@@ -91,11 +87,7 @@ all_fail test (x ∷ xs) fails =
     let step : position_or_len test (x ∷ xs) ≡ 1 + position_or_len test xs = grind (arith, cond-true) in
     omega (arith, step, all_fail test xs fails.1)
 
-no_position : {X : Type 0} (test : X → Bool) (xs : List X) → AllByRecursion (λ x. test x ≡ false) xs
-    → position test xs ≡ None
-no_position test xs fails = grind (arith, cond-false, le-ltb, all_fail)
-
 pub events_inside : (seed count : ℕ)
     → first_past_feed (trial_events seed count) (length (made_packets seed count)) ≡ None
 unfolding first_past_feed
-events_inside seed count = grind (arith, no_position, le-ltb, length-made)
+events_inside seed count = grind (arith, cond-false, le-ltb, all_fail, length-made)

@@ -3,7 +3,6 @@ use Rattle.std.proofs.Common.{◌≡◌, ℕ, ℤ, negsuc, ◌+◌, ◌-◌, ◌
 use Rattle.std.proofs.Common.{length, refl, sym, ap, ap₂, subst, ◌∙◌, arith}
 use Rattle.std.specs.Prelude.{Option, Some, None, filter, not, slice_get}
 use Rattle.std.specs.Int.Signed.{le_z_yes}
-use Rattle.std.specs.List.{flat_map}
 use Rattle.std.specs.Option.{option_map_or}
 use Rattle.std.proofs.lemmas.Bool.{false≢true, ne_eqb}
 use Rattle.std.proofs.lemmas.List.{append-nil, append_assoc, get_or-append-add, get_or-drop, get_or-take}
@@ -26,10 +25,10 @@ use Rattle.dtx_exciter.specs.Emission.{emission, last_segments}
 use Rattle.dtx_exciter.proofs.EmittedLemmas.{emission_push}
 use Rattle.dtx_exciter.specs.Log.{emission_over}
 use Rattle.dtx_exciter.specs.Packets.{group_part, under}
-use Rattle.dtx_net.specs.Lives.{lives_from, lives_of, own_steps}
+use Rattle.dtx_net.specs.Lives.{lives_from, lives_of}
 use Rattle.dtx_net.proofs.PlaceOfLemmas.{place_only}
 use Rattle.dtx_net.specs.Sent.{sent_segments}
-use Rattle.dtx_net.specs.Steps.{Step, actions_of, schedule, steps_at, steps_of}
+use Rattle.dtx_net.specs.Steps.{Step, actions_of, schedule, steps_of}
 use Rattle.dtx_net.specs.Lives.{last_life}
 use Rattle.dtx_chain.proofs.PlacesLemmas.{syncs_look}
 use Rattle.dtx_network.specs.Headline.{stretch_of}
@@ -39,7 +38,6 @@ use Rattle.dtx_meaning.specs.Meaning.{Meaning}
 use Rattle.dtx_meaning.specs.declared.status.Status.TheVariants.{Done}
 use Rattle.dtx_words.specs.NetworkNames.{received_name}
 use Rattle.dtx_recipes.specs.PastEnd.{first_past}
-use Rattle.dtx_recipes.specs.Receive.{receive_answer}
 use Rattle.dtx_jobs.proofs.ReceivedLemmas.{all_damaged_received}
 use Rattle.dtx_recipes.specs.SymbolFile.{file_segments, whole_segments}
 use Rattle.dtx_schedule.specs.TransmitterFiles.{symbol_file}
@@ -73,17 +71,9 @@ all_more law a d ps [] h = subst (IsSpaced a d) (sym (append-nil ps)) h
 all_more law a d ps (p ∷ more) h = subst (IsSpaced a d) (append_assoc ps (p ∷ []) more)
     (all_more law a d (ps ++ p ∷ []) more (one_more law a d ps p h))
 
--- no packets give none
-none_behind : group_part [] ≡ 0
-unfolding group_part under
-none_behind = grind (arith, length-drop)
-
-none_given : (a d : ℕ) → length (emission a d []) ≡ 0
-unfolding emission
-none_given a d = refl
-
 none_spaced : (a d : ℕ) → IsSpaced a d []
-none_spaced a d = omega (arith, none_behind, none_given a d)
+unfolding group_part under emission
+none_spaced a d = grind (arith, length-drop)
 
 given_long : SpacedLaw → (a d : ℕ) (ps : List (List ℕ)) → 4 * length (emission a d ps) ≤ 5 * length ps
 given_long law a d ps = let h : IsSpaced a d ps = all_more law a d [] ps (none_spaced a d) in omega (arith, h)
@@ -111,66 +101,22 @@ cut_given life (None ∷ actions) = omega (arith, cut_given [] actions)
 few_kept : {X : Type 0} (p : X → Bool) (xs : List X) → length (filter p xs) ≤ length xs
 few_kept p xs = omega (arith, length-filter_both p (λ x. not (p x)) (λ x. refl) xs)
 
-own_few : (who : ℕ) (steps : List Step) → length (own_steps who steps) ≤ length steps
-own_few who steps = grind (arith, length-map, few_kept)
-
 -- so a transmitter sends at most five quarters of a segment for each step of the schedule
 sent_few : SpacedLaw → (t : Transmitter) (who : ℕ) (steps : List Step)
     → 4 * length (sent_segments t who steps) ≤ 5 * length steps
 unfolding sent_segments lives_of
-sent_few law t who steps = grind (arith, over_long, cut_given, own_few)
+sent_few law t who steps = grind (arith, over_long, cut_given, length-map, few_kept)
 
 -- ---- how many steps events are
-
-steps_few : (place : Option ℕ) (actions : List (Option (List ℕ))) → length (steps_at place actions) ≤ length actions
-steps_few None actions = omega arith
-steps_few (Some who) actions = grind (arith, length-map)
-
-sends_few : (ts : List Transmitter) (feed : List (List ℕ)) (to from count : ℕ)
-    → length (steps_of ts feed (Send to from count)) ≤ count
-unfolding steps_of actions_of
-sends_few ts feed to from count = grind (arith, steps_few, length-map-range_with_len)
-
-foreign_few : (ts : List Transmitter) (feed : List (List ℕ)) (to seed from count : ℕ)
-    → length (steps_of ts feed (Foreign to seed from count)) ≤ count
-unfolding steps_of actions_of
-foreign_few ts feed to seed from count = grind (arith, steps_few, length-map-range_with_len)
-
-more_steps : (ts : List Transmitter) (feed : List (List ℕ)) (event : Event) (events : List Event)
-    → length (schedule ts feed (event ∷ events)) ≡ length (steps_of ts feed event) + length (schedule ts feed events)
-unfolding schedule
-more_steps ts feed event events = length-append (steps_of ts feed event) (flat_map (steps_of ts feed) events)
-
-no_steps : (ts : List Transmitter) (feed : List (List ℕ)) → length (schedule ts feed []) ≡ 0
-unfolding schedule
-no_steps ts feed = refl
 
 -- the steps of a trial's events
 trial_few : (ts : List Transmitter) (feed : List (List ℕ)) (seed count : ℕ)
     → length (schedule ts feed (Send 1 0 count ∷ Send 2 0 count ∷ Foreign 3 seed 0 50 ∷ Send 3 0 count ∷ []))
     ≤ 3 * count + 50
-trial_few ts feed seed count = grind (arith, more_steps, no_steps, sends_few, foreign_few)
-
--- ---- a field sync
-
--- the stretch from packet 100 or an earlier one on holds the field sync before packet 312
-sync_inside : (feed : List (List ℕ)) (k end : ℕ) → k ≤ 100 → 624 ≤ end → end ≤ length feed
-    → (312 - k < length (stretch_of feed k end)) × (looks_at (stretch_of feed k end) (312 - k) ≡ true)
-unfolding stretch_of
-sync_inside feed k end near far within =
-    grind (arith, length-a53, length-take, length-drop, get_or-take, get_or-drop, syncs_look)
-
--- whatever is sent around it
-some_run : (before stretch after : List (List ℤ)) (i : ℕ) → i < length stretch → looks_at stretch i ≡ true
-    → (length (runs (before ++ (stretch ++ after))) == 0) ≡ false
-some_run before stretch after i within looks =
-    grind (arith, get_or-append-add, get_or_append_left, length-append, ne_eqb, false≢true, no_runs)
+unfolding steps_of actions_of schedule
+trial_few ts feed seed count = grind (arith, length-append, length-map, length-map-range_with_len)
 
 -- ---- the answer
-
-answered_done : (list : List (List ℤ)) (loose : ℕ) → (length (runs list) == 0) ≡ false
-    → (receive_answer list loose).status ≡ Done
-answered_done list loose some = grind arith
 
 no_damage : (file : List ℕ) → hurt [] file ≡ file
 no_damage file = sym (laid_none [] 0 file (λ k _ _. entry_at_nothing k))
@@ -184,7 +130,7 @@ file_done : (file : List ℕ) → whole_segments file ≤ 626000000 → (length 
 file_done file few some =
     ap (λ (past : Option ℕ). (received_past past [] file).outcome.status) (nothing_past (length file))
     ∙ ap (λ (m : Meaning). m.outcome.status) (all_damaged_received (received_name ∷ []) [] file few)
-    ∙ grind (arith, no_damage, answered_done)
+    ∙ grind (arith, no_damage)
 
 -- ---- transmitter 3 of a trial
 
@@ -230,6 +176,7 @@ third_joins laws seed count least most p =
 third_runs : ReceivedLaws → (seed count : ℕ) → 624 ≤ count → count ≤ 1000000 → IsPlan (trial_plan seed count)
     → (length (runs (sent_segments third 2
     (steps_under (trial_plan seed count) (made_packets seed count) (trial_events seed count)))) == 0) ≡ false
+unfolding stretch_of
 third_runs laws seed count least most p =
     let plan : Plan = trial_plan seed count in
     let events : List Event = trial_events seed count in
@@ -245,10 +192,9 @@ third_runs laws seed count least most p =
     sym (ap₂ (λ (t : Transmitter) (who : ℕ). sent_segments t who steps) joins.1 joins.2) ∙ follows.emits.symbols in
     let sync : (312 - x.k < length (stretch_of fed x.k (x.mark + x.count))) ×
     (looks_at (stretch_of fed x.k (x.mark + x.count)) (312 - x.k) ≡ true) =
-    sync_inside fed x.k (x.mark + x.count) joins.5 (omega (arith, least, joins.3, joins.4)) x.fed.inside in
+    (grind (arith, length-a53, length-take, length-drop, get_or-take, get_or-drop, syncs_look)) in
     subst (λ (list : List (List ℤ)). (length (runs list) == 0) ≡ false) (sym symbols)
-    (some_run follows.emits.before (stretch_of fed x.k (x.mark + x.count)) follows.emits.after (312 - x.k) sync.0
-    sync.1)
+    (grind (arith, get_or-append-add, get_or_append_left, length-append, ne_eqb, false≢true, no_runs))
 
 -- The symbols of transmitter 3 are received with the answer `Done`.
 pub received_done : ReceivedLaws → (seed count : ℕ) → 624 ≤ count → count ≤ 1000000 → IsPlan (trial_plan seed count)

@@ -38,10 +38,6 @@ made_unmarked seed count i l = ap (λ (s : ℕ). s == 0xB8)
     (get_or-map sync_of (made_packets seed count) i [] 0 (omega (arith, l, length-made seed count))
     ∙ ap sync_of (packet_in seed count i l) ∙ begins seed i)
 
-made_unlocked : (seed count mark : ℕ) → locked_from (made_packets seed count) mark ≡ mark
-unfolding locked_from anchor_of anchor syncs
-made_unlocked seed count mark = grind (arith, no_anchor, made_unmarked, length-map, length-made)
-
 -- ---- the life in which packets are given in a row
 
 given_in_row : (f : ℕ → List ℕ) (life : List (List ℕ)) (ks : List ℕ)
@@ -63,17 +59,11 @@ own_none who other (a ∷ actions) n =
     own_elsewhere who (record { who = other; packet = a }) (steps_at (Some other) actions) n
     ∙ own_none who other actions n
 
-own_more : (ts : List Transmitter) (fed : List (List ℕ)) (who : ℕ) (event : Event) (events : List Event)
-    → own_steps who (schedule ts fed (event ∷ events))
-    ≡ own_steps who (steps_of ts fed event) ++ own_steps who (schedule ts fed events)
-unfolding schedule
-own_more ts fed who event events = own_steps-append who (steps_of ts fed event) (schedule ts fed events)
-
 of_other : (ts : List Transmitter) (fed : List (List ℕ)) (who other : ℕ) (event : Event) (events : List Event)
     → transmitter_place (to_of event) ts ≡ Some other → other ≢ who
     → own_steps who (schedule ts fed (event ∷ events)) ≡ own_steps who (schedule ts fed events)
-unfolding steps_of
-of_other ts fed who other event events e n = grind (arith, own_more, own_none)
+unfolding steps_of schedule
+of_other ts fed who other event events e n = grind (arith, own_steps-append, own_none)
 
 of_one : (ts : List Transmitter) (fed : List (List ℕ)) (who : ℕ) (event : Event)
     → transmitter_place (to_of event) ts ≡ Some who
@@ -111,4 +101,5 @@ third_life seed count stream p =
 -- so it is locked to the feed from the feed's first mark on
 pub third_unlocked : (seed count : ℕ) (stream : List (List ℕ)) → IsPlan (trial_plan seed count)
     → locked_from (last_life 2 (steps_under (trial_plan seed count) stream (events_before seed count))) 0 ≡ 0
-third_unlocked seed count stream p = grind (arith, third_life, made_unlocked)
+unfolding locked_from anchor_of anchor syncs
+third_unlocked seed count stream p = grind (arith, third_life, no_anchor, made_unmarked, length-map, length-made)

@@ -1,10 +1,10 @@
 -- A trial: its plan is one that a network takes, and what is carried out of it.
-use Rattle.std.proofs.Common.{◌≡◌, ◌≢◌, ℕ, ◌-◌, ◌^◌, ◌<◌, ◌≤◌, true, false, length, List, [], ◌∷◌, get_or, refl, sym}
-use Rattle.std.proofs.Common.{ap, subst, ◌∙◌, inl, inr, arith, lit<}
-use Rattle.std.specs.Prelude.{ℤ, pos, negsuc, unsigned_abs, Option, Some, None, All, IfSome, IsSomeAnd}
+use Rattle.std.proofs.Common.{◌≡◌, ◌≢◌, ℕ, ◌-◌, ◌^◌, ◌<◌, ◌≤◌, false, length, List, [], ◌∷◌, get_or, refl, sym, ap}
+use Rattle.std.proofs.Common.{subst, ◌∙◌, inl, inr, arith, lit<}
+use Rattle.std.specs.Prelude.{ℤ, unsigned_abs, Option, Some, None, IfSome, IsSomeAnd}
 use Rattle.std.specs.FinMap.{get}
 use Rattle.std.specs.Int.{w16}
-use Rattle.std.specs.List.{Contains, IsDistinct}
+use Rattle.std.specs.List.{IsDistinct}
 use Rattle.std.proofs.lemmas.Int.{fits_signed_from_abs}
 use Rattle.std.proofs.lemmas.List.Elements.{All-cons, All-nil}
 use Rattle.std.proofs.lemmas.Option.{same_Some}
@@ -13,7 +13,7 @@ use Rattle.dtx_recipes.specs.Make.{made_file}
 use Rattle.dtx_make.specs.Made.{made_stream}
 use Rattle.dtx_meaning.proofs.MeaningLemmas.{carried_before, carried_then, part_of_carried, part_of_none}
 use Rattle.dtx_meaning.proofs.MeaningLemmas.{whole_of_carried}
-use Rattle.dtx_meaning.specs.Meaning.{Meaning, IsCarriedOut}
+use Rattle.dtx_meaning.specs.Meaning.{IsCarriedOut}
 use Rattle.dtx_meaning.specs.Status.{IsFault, IsOfInputs, blame_of}
 use Rattle.dtx_meaning.specs.declared.status.Outcome.{Outcome}
 use Rattle.dtx_meaning.specs.declared.status.Status.{Status}
@@ -24,8 +24,7 @@ use Rattle.dtx_network.specs.Plans.{IsPlan}
 use Rattle.dtx_outside.proofs.FilesLemmas.{get-insert_same}
 use Rattle.dtx_outside.specs.Shelf.{Files}
 use Rattle.dtx_packets.specs.Packets.{packets_of}
-use Rattle.dtx_plan.specs.Sound.{AreDamages, AreTransmitters, IsDamage, IsEvent, IsNet, IsPart, IsSound, IsTransmitter}
-use Rattle.dtx_plan.specs.declared.event.Event.TheVariants.{Foreign, Send}
+use Rattle.dtx_plan.specs.Sound.{IsNet, IsSound, IsTransmitter}
 use Rattle.dtx_plan.specs.declared.plan.NetPlan.{NetPlan}
 use Rattle.dtx_plan.specs.declared.plan.Plan as whole
 use Rattle.dtx_words.specs.NetworkNames.{feed_name, trial_name}
@@ -35,7 +34,6 @@ use Rattle.dtx_top.specs.HeadlineOfFiles.{HeadlineOfFiles}
 use Rattle.dtx_top.specs.NetAnswers.{HasCount, IsOfReplay, count_of}
 use Rattle.dtx_top.specs.NetMeaning.{answered, network_meaning}
 use Rattle.dtx_top.specs.NetProgress.{HasNetProgress, HasStreamProgress, feed_outputs, reception_outputs}
-use Rattle.dtx_top.specs.Networks.{written_names}
 use Rattle.dtx_top.specs.Trial.{HasMadeProgress, HasNumbersHeadline, HasTrialNet, IsTrialDone, IsTrialPlan, near}
 use Rattle.dtx_top.specs.Trial.{of_trial, trial_events, trial_made, trial_network, trial_outcome, trial_plan}
 use Rattle.dtx_top.specs.Trial.{trial_played, trial_transmitters, with_trial}
@@ -48,74 +46,23 @@ use Rattle.dtx_top.proofs.TrialFed.{stream_bytes}
 
 -- ---- the plan
 
-are_three : AreTransmitters trial_transmitters
-unfolding IsDistinct
-are_three = record {
-  some = omega arith;
-  most = omega arith;
-  distinct = ((refl, (refl, tt)), ((refl, tt), (tt, tt)));
-}
-
 plan_sound : (seed count : ℕ) → IsSound (trial_plan seed count)
-plan_sound seed count = record { start = lit< tt; max_delay = lit< tt; transmitters = are_three }
+unfolding IsDistinct
+plan_sound seed count = grind arith
 
 in_range : (address : ℕ) (offset : ℤ) → address < 2 ^ 16 → unsigned_abs offset < 2 ^ 15
     → IsTransmitter (near address offset)
 in_range address offset small few =
     record { address = small; offset = fits_signed_from_abs w16 offset few; delay = lit< tt }
 
-each_in_range : All IsTransmitter trial_transmitters
-each_in_range = All-cons IsTransmitter (near 1 (pos 0)) (near 2 (pos 25) ∷ near 3 (negsuc 9) ∷ [])
-    (in_range 1 (pos 0) (lit< tt) (lit< tt))
-    (All-cons IsTransmitter (near 2 (pos 25)) (near 3 (negsuc 9) ∷ []) (in_range 2 (pos 25) (lit< tt) (lit< tt))
-    (All-cons IsTransmitter (near 3 (negsuc 9)) [] (in_range 3 (negsuc 9) (lit< tt) (lit< tt)) (All-nil IsTransmitter)))
-
 pub is_plan : (seed count : ℕ) → IsPlan (trial_plan seed count)
-is_plan seed count = record { sound = plan_sound seed count; transmitters = each_in_range }
-
-is_net : (seed count : ℕ) → seed ≤ 2 ^ 64 - 1 → 624 ≤ count → count ≤ 1000000
-    → IsNet trial_transmitters (trial_network seed count)
-is_net seed count small least most = record {
-  some = omega arith;
-  name = omega arith;
-  most = omega arith;
-  events = All-cons (IsEvent trial_transmitters) (Send 1 0 count)
-      (Send 2 0 count ∷ Foreign 3 seed 0 50 ∷ Send 3 0 count ∷ []) first
-      (All-cons (IsEvent trial_transmitters) (Send 2 0 count) (Foreign 3 seed 0 50 ∷ Send 3 0 count ∷ []) second
-      (All-cons (IsEvent trial_transmitters) (Foreign 3 seed 0 50) (Send 3 0 count ∷ []) foreign
-      (All-cons (IsEvent trial_transmitters) (Send 3 0 count) [] third (All-nil (IsEvent trial_transmitters)))));
-  receive = record { listed = refl; damage = none };
-}
-  where
-    whole : IsPart 0 count
-    whole = record { some = omega (arith, least); most = omega (arith, most) }
-
-    first : IsEvent trial_transmitters (Send 1 0 count)
-    first = record { listed = refl; in_range = whole }
-
-    second : IsEvent trial_transmitters (Send 2 0 count)
-    second = record { listed = refl; in_range = whole }
-
-    third : IsEvent trial_transmitters (Send 3 0 count)
-    third = record { listed = refl; in_range = whole }
-
-    part : IsPart 0 50
-    part = record { some = omega arith; most = omega arith }
-
-    foreign : IsEvent trial_transmitters (Foreign 3 seed 0 50)
-    foreign = record { listed = refl; in_range = (part, omega (arith, small)) }
-
-    none : AreDamages []
-    none = record { each = All-nil IsDamage; in_order = λ i d l. absurd (omega (arith, l)); most = omega arith }
+is_plan seed count = record { sound = plan_sound seed count; transmitters = grind (arith, All-cons, in_range, All-nil) }
 
 -- the plan of a trial, with what it says of its network
 pub record IsNetworkOf (plan : whole.Plan) (network : NetPlan) : Type 0 where
   pub sound : IsSound plan
   pub net : IsNet plan.transmitters network
   pub differ : network.stream ≢ feed_name
-
-stream_no_feed : trial_name ≢ feed_name
-stream_no_feed = letter trial_name feed_name 0 116 110 refl refl (λ e. omega (arith, e))
 
 pub its_network : (plan : whole.Plan) (seed count : ℕ) (network : NetPlan) → plan ≡ trial_plan seed count
     → plan.net ≡ Some network → trial_network seed count ≡ network
@@ -128,8 +75,8 @@ network_of plan network x has = subst (λ (p : whole.Plan). IsNetworkOf p networ
     (subst (λ (n : NetPlan). IsNetworkOf (trial_plan x.seed x.count) n)
     (its_network plan x.seed x.count network x.is has) (record {
       sound = plan_sound x.seed x.count;
-      net = is_net x.seed x.count x.small x.least x.most;
-      differ = stream_no_feed;
+      net = grind (arith, All-cons, All-nil, in_range);
+      differ = (letter trial_name feed_name 0 116 110 refl refl (λ e. omega (arith, e)));
     }))
 
 -- ---- the answer
@@ -139,24 +86,6 @@ fault_of_trial ReadFault fault = tt
 fault_of_trial WriteFault fault = tt
 fault_of_trial Memory fault = tt
 fault_of_trial status fault = absurd fault
-
-write_of_trial : (status : Status) → of_trial status ≡ WriteFault → status ≡ WriteFault
-write_of_trial (Absent input) is = cc
-write_of_trial status is = is
-
-done_of_trial : (status : Status) → of_trial status ≡ Done → status ≡ Done
-done_of_trial (Absent input) is = cc
-done_of_trial status is = is
-
-trial_answered : (m : Meaning) (start now : Option Files) (outcome : Outcome) → IsCarriedOut m start outcome now
-    → IsCarriedOut (answered trial_outcome m) start (trial_outcome outcome) now
-trial_answered m start now outcome (inl whole) =
-    inl (record { answer = ap trial_outcome whole.answer; files = whole.files })
-trial_answered m start now outcome (inr broken) = inr (record {
-  fault = fault_of_trial outcome.status broken.fault;
-  writing = λ writing. broken.writing (write_of_trial outcome.status writing);
-  files = broken.files;
-})
 
 pub blame_of_trial : (status : Status) → blame_of (of_trial status) ≡ blame_of status
 blame_of_trial (Absent input) = refl
@@ -222,12 +151,7 @@ pub played_carried : (plan : whole.Plan) (network : NetPlan) (seed count : ℕ) 
     now) → IsCarriedOut (trial_played seed count) (Some held) (trial_outcome outcome) now
 unfolding trial_played
 played_carried plan network seed count held told now outcome is has tells there carried =
-    let here = subst (λ (t : Option Files). IfSome t (λ held.
-    IsCarriedOut (network_meaning plan network (get held network.stream)) (Some held) outcome now)) tells carried in
-    trial_answered (network_meaning (trial_plan seed count) (trial_network seed count) (Some (made_stream seed count)))
-    (Some held) now outcome
-    (on_stream (λ p n found. IsCarriedOut (network_meaning p n found) (Some held) outcome now) plan network seed count
-    held is has there here)
+    grind (arith, fault_of_trial, on_stream)
 
 pub played_progress : (plan : whole.Plan) (network : NetPlan) (seed count : ℕ) (held : Files) (told now : Option Files)
     (status : Status) → plan ≡ trial_plan seed count → plan.net ≡ Some network → told ≡ Some held
@@ -280,13 +204,6 @@ then_come seed count (Some held) mid now made status done carried next =
     inr (next (with_trial seed count held) (made_whole seed count held mid made done carried)
     (get-insert_same held trial_name (made_stream seed count)))
 
--- the stream isn't whole
-made_fault : (seed count : ℕ) (start now : Option Files) (made : Outcome) → (made.status ≡ Done → ⊥)
-    → IsCarriedOut (made_file seed count trial_name) start made now → IsFault made.status
-made_fault seed count start now made not_done (inl whole) =
-    absurd (not_done (ap (λ (o : Outcome). o.status) whole.answer))
-made_fault seed count start now made not_done (inr broken) = broken.fault
-
 pub alone_carried : (seed count : ℕ) (told now : Option Files) (made : Outcome) → (made.status ≡ Done → ⊥)
     → IsCarriedOut (made_file seed count trial_name) told made now
     → IfSome told (λ held. IsCarriedOut (trial_made seed count) (Some held) made now)
@@ -300,10 +217,7 @@ pub alone_come : (seed count : ℕ) (told now : Option Files) (made : Outcome) �
     → IsCarriedOut (made_file seed count trial_name) told made now
     → IfSome told (λ held. HasMadeProgress seed count made.status held now)
 alone_come seed count None now made not_done carried = tt
-alone_come seed count (Some held) now made not_done carried = inl (
-  made_fault seed count (Some held) now made not_done carried,
-  part_of_carried (made_file seed count trial_name) (Some held) now made carried,
-)
+alone_come seed count (Some held) now made not_done carried = grind (arith, part_of_carried)
 
 -- nothing was touched for want of memory
 pub wanting_come : (seed count : ℕ) (told now : Option Files) (status : Status) → now ≡ told → IsFault status
@@ -333,17 +247,12 @@ of_words P seed count seed_word count_word one two holds =
 
 -- ---- the headline
 
-no_written : (seed count : ℕ) → Contains (written_names (trial_plan seed count) (trial_network seed count)) trial_name
-    → ⊥
-no_written seed count has = let e : true ≡ false =
-    sym (any_of (written_names (trial_plan seed count) (trial_network seed count)) trial_name has) in cc
-
 done_files : (seed count : ℕ) (held : Files) (now : Option Files)
     → IsSomeAnd now (HeadlineOfFiles (trial_plan seed count) (trial_network seed count)
     (packets_of (made_stream seed count)) (with_trial seed count held)) → IsSomeAnd now (IsTrialDone seed count held)
 done_files seed count held None is = is
 done_files seed count held (Some now) is = record {
-  stream = is.files.others trial_name (no_written seed count)
+  stream = is.files.others trial_name (grind (arith, any_of))
       ∙ get-insert_same held trial_name (made_stream seed count);
   network = is;
 }
@@ -361,7 +270,7 @@ trial_headline law seed count held now outcome carried done =
     sym (ap (λ (o : Outcome). o.status) whole.answer) ∙ done in
     done_files seed count held now
     (stream_done law plan network (with_trial seed count held) now (Some (made_stream seed count))
-    (stream_bytes seed count) (is_plan seed count) (done_of_trial _ answered) whole.files)
+    (stream_bytes seed count) (is_plan seed count) (grind arith) whole.files)
 
 pub headline_told : HeadlineLaw → (seed count : ℕ) (told now : Option Files) (outcome : Outcome)
     → IfSome told (λ held. IsCarriedOut (trial_made seed count) (Some held) outcome now)

@@ -25,13 +25,6 @@ use Rattle.dtx_top.specs.WorkedNetwork.{IsFew}
 
 -- ---- what an entry covers
 
--- nothing behind the first 212 segments
-none_at : (ds : List Damage) (k : ℕ) → IsFew ds → 176384 ≤ k → entry_at ds k ≡ None
-unfolding entry_at
-none_at [] k few l = refl
-none_at (e ∷ []) k few l = cond-false (covers k e) (Some e) None (covers_before k e (omega (arith, few.1, l)))
-none_at (e ∷ d ∷ ds) k few l = absurd few
-
 -- no more places than it has
 hits_few : (e : Damage) (base a n : ℕ) → let s : ℕ = total (λ c. cond (covers (base + c) e) 1 0) a n in
     (s ≤ e.count) × (s ≤ e.at + e.count - (base + a))
@@ -115,6 +108,7 @@ few_damaged (e ∷ d ∷ ds) file i few l = absurd few
 -- those behind the first 212 stay
 segment_stays : (ds : List Damage) (file : List ℕ) (i : ℕ) → IsFew ds → 212 ≤ i
     → segment_at (hurt ds file) i ≡ segment_at file i
+unfolding entry_at
 segment_stays ds file i few far =
     let own : List ℕ = take 832 (drop (832 * i) file) in
     let size = length-take 832 (drop (832 * i) (hurt ds file)) in
@@ -126,7 +120,7 @@ segment_stays ds file i few far =
     let within : 832 * i + c < length file = omega (arith, l, size, rest, all) in
     let z : 0 + (832 * i + c) ≡ 832 * i + c = omega arith in
     get_or-take 832 (drop (832 * i) (hurt ds file)) c 0 m ∙ get_or-drop (832 * i) (hurt ds file) c 0
-    ∙ laid_stays ds 0 (832 * i + c) file within (ap (entry_at ds) z ∙ none_at ds (832 * i + c) few (omega (arith, far)))
+    ∙ laid_stays ds 0 (832 * i + c) file within (grind (arith, cond-false, covers_before))
     ∙ sym (get_or-drop (832 * i) file c 0) ∙ sym (get_or-take 832 (drop (832 * i) file) c 0 m)))
 
 dropped_same : {X : Type 0} (f g : ℕ → X) (a n t : ℕ) → ((i : ℕ) → a + t ≤ i → f i ≡ g i)
@@ -138,15 +132,10 @@ dropped_same f g a (suc n) (suc t) h = dropped_same f g (a + 1) n t (λ i l. h i
 segment_in : (file : List ℕ) (i : ℕ) → i < length file / 832 → get_or (file_segments file) i [] ≡ segment_at file i
 segment_in file i l = get_or-map-range_with_len (segment_at file) 0 (length file / 832) i i [] l (omega arith)
 
--- the field sync behind packet 100 or an earlier one is far enough
-far_sync : (k : ℕ) → k ≤ 100 → 212 ≤ to_sync (segment_place k)
-unfolding to_sync
-far_sync k l = omega (arith, l)
-
 behind_same : (ds : List Damage) (file : List ℕ) (k : ℕ) → IsFew ds → k ≤ 100
     → from_sync (segment_place k) (file_segments (hurt ds file)) ≡ from_sync (segment_place k) (file_segments file)
-unfolding from_sync
-behind_same ds file k few l = grind (arith, length-hurt, dropped_same, segment_stays, far_sync)
+unfolding from_sync to_sync
+behind_same ds file k few l = grind (arith, length-hurt, dropped_same, segment_stays)
 
 -- ---- it is slight
 

@@ -1,6 +1,6 @@
 -- A simple network meets what the headline asks of transmitters, symbols and damage.
 use Rattle.std.proofs.Common.{◌≡◌, ◌⊎◌, inl, inr, ℕ, zero, suc, ◌+◌, ◌-◌, ◌*◌, ◌/◌, ◌%◌, ◌<◌, ◌≤◌, ◌==◌, ◌&&◌, Bool}
-use Rattle.std.proofs.Common.{true, false, cond, List, [], ◌∷◌, ◌++◌, length, refl, sym, ap, subst, ◌∙◌, arith}
+use Rattle.std.proofs.Common.{true, false, List, [], ◌∷◌, ◌++◌, length, refl, sym, ap, subst, ◌∙◌, arith}
 use Rattle.std.specs.Prelude.{Option, Some, None, IsSomeAnd, filter, slice_get}
 use Rattle.std.specs.FinMap.{get}
 use Rattle.std.specs.List.{range_with_len, Contains}
@@ -21,8 +21,7 @@ use Rattle.dtx_plan.specs.declared.transmitter.Transmitter.{Transmitter}
 use Rattle.dtx_make.specs.Hurt.{hurt}
 use Rattle.dtx_receiver.specs.Packets.{received}
 use Rattle.dtx_adapter.specs.Feed.{feed}
-use Rattle.dtx_exciter.specs.Lockstep.{locked_by, locked_from}
-use Rattle.dtx_exciter.specs.Packets.{anchor_of}
+use Rattle.dtx_exciter.specs.Lockstep.{locked_from}
 use Rattle.dtx_net.specs.Lives.{last_life}
 use Rattle.dtx_net.proofs.PlaceOfLemmas.{place_only}
 use Rattle.dtx_net.specs.Sent.{sent_segments}
@@ -102,19 +101,11 @@ pub record Laws : Type 0 where
 
 -- ---- from where on it is locked
 
-by_step : (t : Bool) (mark : ℕ) → (cond t mark (mark + 1248) ≡ mark) ⊎ (cond t mark (mark + 1248) ≡ mark + 1248)
-by_step true mark = inl refl
-by_step false mark = inr refl
-
-by_lock : (o : Option ℕ) (n mark : ℕ) → (locked_by o n mark ≡ mark) ⊎ (locked_by o n mark ≡ mark + 1248)
-by_lock None n mark = inl refl
-by_lock (Some j) n mark = by_step ((n - j) % 624 == 0) mark
-
 -- from the mark on, or from the third one
 first_or_third : (earlier : List (List ℕ)) (mark : ℕ)
     → (locked_from earlier mark ≡ mark) ⊎ (locked_from earlier mark ≡ mark + 1248)
 unfolding locked_from
-first_or_third earlier mark = by_lock (anchor_of earlier) (length earlier) mark
+first_or_third earlier mark = grind arith
 
 -- it is packet 0 where a group counts that begins at packet 100 or earlier
 from_first : (z mark k : ℕ) → (z ≡ mark) ⊎ (z ≡ mark + 1248) → mark ≡ 0 → z + 52 ≤ k → k ≤ 100 → z ≡ 0
