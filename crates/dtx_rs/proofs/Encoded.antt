@@ -1,6 +1,6 @@
 -- The data and then the register that was fed with them are the codeword.
-use Rattle.std.proofs.Common.{◌≡◌, ℕ, zero, suc, ◌+◌, ◌-◌, ◌<◌, ◌≤◌, List, [], ◌∷◌, ◌++◌, get_or, length}
-use Rattle.std.proofs.Common.{map, take, replicate, refl, sym, ap, ap₂, ◌∙◌, subst, arith}
+use Rattle.std.proofs.Common.{◌≡◌, ℕ, zero, suc, ◌+◌, ◌-◌, ◌<◌, ◌≤◌, List, [], ◌∷◌, ◌++◌, get_or, length, map, take}
+use Rattle.std.proofs.Common.{replicate, refl, sym, ap, ap₂, ◌∙◌, subst, arith}
 use Rattle.std.proofs.lemmas.List.{length-replicate, length-take-le, take_at, take-replicate}
 use Rattle.std.proofs.lemmas.List.{replicate-append-replicate}
 use Rattle.std.proofs.Math.Seq.{take-append-add}
@@ -105,16 +105,11 @@ pub record AreFour (n : ℕ) (words one two three four : List ℕ) : Type 0 wher
   pub third : length three ≡ n
   pub fourth : length four ≡ n
 
-four_joined : (n k : ℕ) (words one two three four : List ℕ) → IsCode n k → AreFour n words one two three four
-    → codeword n k (take k one) ++ (codeword n k (take k two) ++ (codeword n k (take k three)
-    ++ codeword n k (take k four))) ≡ completed n k 4 words
-four_joined n k words one two three four code are = grind (arith, completed_four)
-
 pub four_completed : (n k : ℕ) (words one two three four new1 new2 new3 new4 : List ℕ) → IsCode n k
     → AreFour n words one two three four
     → new1 ≡ codeword n k (take k one) → new2 ≡ codeword n k (take k two) → new3 ≡ codeword n k (take k three)
     → new4 ≡ codeword n k (take k four) → new1 ++ (new2 ++ (new3 ++ new4)) ≡ completed n k 4 words
-four_completed n k words one two three four new1 new2 new3 new4 code are e1 e2 e3 e4 = grind (arith, four_joined)
+four_completed n k words one two three four new1 new2 new3 new4 code are e1 e2 e3 e4 = grind (arith, completed_four)
 
 -- byte by byte
 pub register_codeword : (n k : ℕ) (divisor head new : List ℕ) → IsCode n k

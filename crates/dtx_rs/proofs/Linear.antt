@@ -57,21 +57,14 @@ sums_back (x ∷ xs) (y ∷ ys) l = ap₂ ◌∷◌
 length_fed : (divisor rs : List ℕ) (b : ℕ) → length (fed divisor rs b) ≡ length rs
 length_fed divisor rs b = length_register divisor rs (b ∷ [])
 
-fed_sums : (divisor rs us : List ℕ) (b c : ℕ) → length rs ≡ length us → length rs ≡ length divisor
-    → fed divisor (sums rs us) (bit_xor b c) ≡ sums (fed divisor rs b) (fed divisor us c)
-fed_sums divisor [] us b c l m = refl
-fed_sums divisor (r ∷ rs) [] b c l m = absurd (omega arith)
-fed_sums divisor (r ∷ rs) (u ∷ us) b c l m =
-    grind (arith, sums_append, xor_swap, scaled_sum, sums_swap, length_push, length_scaled)
-
 pub register_sums : (divisor rs us bs cs : List ℕ) → length rs ≡ length us → length rs ≡ length divisor
     → length bs ≡ length cs
     → register divisor (sums rs us) (sums bs cs) ≡ sums (register divisor rs bs) (register divisor us cs)
 register_sums divisor rs us [] [] l m n = refl
 register_sums divisor rs us [] (c ∷ cs) l m n = absurd (omega arith)
 register_sums divisor rs us (b ∷ bs) [] l m n = absurd (omega arith)
-register_sums divisor rs us (b ∷ bs) (c ∷ cs) l m n =
-    ap (λ xs. register divisor xs (sums bs cs)) (fed_sums divisor rs us b c l m)
+register_sums divisor rs us (b ∷ bs) (c ∷ cs) l m n = ap (λ xs. register divisor xs (sums bs cs))
+    (grind (arith, sums_append, xor_swap, scaled_sum, sums_swap, length_push, length_scaled))
     ∙ register_sums divisor (fed divisor rs b) (fed divisor us c) bs cs (length_fed divisor rs b ∙ l
     ∙ sym (length_fed divisor us c)) (length_fed divisor rs b ∙ m) (omega arith)
 

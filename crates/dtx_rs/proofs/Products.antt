@@ -30,10 +30,6 @@ multiplied_is : (r c : ℕ) (xs : List ℕ) → multiplied r c (xs ++ 0 ∷ []) 
 multiplied_is r c [] = refl
 multiplied_is r c (x ∷ xs) = ap (◌∷◌ (bit_xor x (mul r c))) (multiplied_is r x xs)
 
--- the generator of one more root
-grown : (m : ℕ) → multiplied (pow 2 m) 1 (generator m ++ 0 ∷ []) ≡ generator (m + 1)
-grown m = grind (arith, multiplied_is, mul_comm, mul_one, pow_small, add-one)
-
 -- one turn of the loop over the degree, in a place for n coefficients
 pub generator_more : (m n : ℕ) (old part : List ℕ) (root : ℕ) → m < n → old ≡ generator m ++ replicate (n - m) 0
     → root ≡ pow 2 m → part ≡ multiplied root 1 (take (m + 1) old)
@@ -44,5 +40,5 @@ generator_more m n old part root l e p h =
     let split : old ≡ (generator m ++ 0 ∷ []) ++ replicate (n - (m + 1)) 0 = grind (arith, append_assoc) in
     let long : length (generator m ++ 0 ∷ []) ≡ m + 1 =
     length_push (generator m) 0 ∙ ap (λ k. k + 1) (length_generator m) in
-    ap₂ ◌++◌ (h ∙ ap₂ (λ r xs. multiplied r 1 xs) p (grind (arith, take_at)) ∙ grown m)
+    ap₂ ◌++◌ (grind (arith, take_at, multiplied_is, mul_comm, mul_one, pow_small, add-one))
     (ap (drop (m + 1)) split ∙ drop_at (generator m ++ 0 ∷ []) (replicate (n - (m + 1)) 0) (m + 1) long)

@@ -1,8 +1,7 @@
 -- The column of a place.
-use Rattle.std.proofs.Common.{◌≡◌, ℕ, ◌+◌, ◌*◌, ◌%◌, ◌<◌, List, length, get_or, arith}
-use Rattle.std.proofs.lemmas.List.FromFn.{get_or-map-range_with_len, length-map-range_with_len, fill_by_all}
+use Rattle.std.proofs.Common.{◌≡◌, ℕ, ◌+◌, ◌*◌, ◌<◌, List, length, get_or, arith}
+use Rattle.std.proofs.lemmas.List.FromFn.{get_or-map-range_with_len, length-map-range_with_len}
 use Rattle.dtx_spread.specs.Rings.{count_at, column}
-use Rattle.dtx_spread.proofs.Turns.{its_place}
 
 pub length-column : (b : ℕ) (bytes : List ℕ) (p : ℕ) → length (column b bytes p) ≡ count_at b (length bytes) p
 length-column b bytes p = length-map-range_with_len (λ k. get_or bytes (p + k * b) 0) 0 (count_at b (length bytes) p)
@@ -10,8 +9,3 @@ length-column b bytes p = length-map-range_with_len (λ k. get_or bytes (p + k *
 pub column_at : (b : ℕ) (bytes : List ℕ) (p k : ℕ) → k < count_at b (length bytes) p
     → get_or (column b bytes p) k 0 ≡ get_or bytes (p + k * b) 0
 column_at b bytes p k l = grind (arith, get_or-map-range_with_len)
-
--- columns are alike where the bytes at their place are
-pub column_same : (b p : ℕ) (xs ys : List ℕ) → p < b → length xs ≡ length ys
-    → ((i : ℕ) → i % b ≡ p → get_or xs i 0 ≡ get_or ys i 0) → column b xs p ≡ column b ys p
-column_same b p xs ys l e h = grind (arith, fill_by_all, length-column, column_at, its_place)

@@ -32,14 +32,10 @@ begin b w v xs h = record {
         → get_or (get_or v.lists i [] ++ column b xs (place_of b v.next i)) n 0 ≡ get_or (get_or v.lists i []) n 0
     in_list i n m l = get_or_append_left (get_or v.lists i []) (column b xs (place_of b v.next i)) 0 n l
 
--- ones that are below b have no turn behind them
-no_turn : (b n : ℕ) → n < b → 0 ≡ n / b
-no_turn b n l = sym (ap (λ x. x / b) (omega arith) ∙ div-mul-add 0 b n l)
-
 stands : (b : ℕ) (w : ℕ → ℕ) (v : Branching) (xs : List ℕ) → HasWidths b w v → Stands b w (ever b v xs) v.next v
 stands b w v xs h = (
   sym (mod-eq_of_lt h.next),
-  subst₂ (λ (q r : ℕ). Holds b w (ever b v xs) q r v.lists) (no_turn b v.next h.next) (sym (mod-eq_of_lt h.next))
+  subst₂ (λ (q r : ℕ). Holds b w (ever b v xs) q r v.lists) (grind (arith, div-mul-add)) (sym (mod-eq_of_lt h.next))
       (begin b w v xs h),
 )
 

@@ -1,6 +1,5 @@
 -- What a vector holds after its slice was lent whole, and a pass that goes on behind another.
-use Rattle.std.proofs.Common.{◌≡◌, ℕ, ◌+◌, ◌%◌, ◌≤◌, List, ◌++◌, length, take, drop, map, replicate, sym, ap₂, ◌∙◌}
-use Rattle.std.proofs.Common.{arith}
+use Rattle.std.proofs.Common.{◌≡◌, ℕ, ◌+◌, ◌%◌, ◌≤◌, List, ◌++◌, length, take, drop, map, replicate, ap₂, ◌∙◌, arith}
 use Rattle.std.specs.List.{range_with_len}
 use Rattle.std.proofs.lemmas.List.{take_at, drop_at, drop-drop, length-take-le, append_assoc}
 use Rattle.std.proofs.Math.Seq.{take-add}
@@ -10,10 +9,6 @@ use Rattle.dtx_laws.proofs.PlacesLemmas.{leaving_append, after_append, length_le
 use Rattle.dtx_spread.specs.Rings.{lists_of, branches_of, ArePassed}
 use Rattle.dtx_spread.proofs.Left.{passed_bytes, passed_branches}
 use borrow.Rule.Slice.PartMut.{put_mid}
-
-lent_whole : {A : Type 0} (n : ℕ) (xs new : List A) → n ≡ length xs → length new ≡ length xs
-    → take n (new ++ drop (length new) xs) ≡ new
-lent_whole n xs new e f = take_at new (drop (length new) xs) n (f ∙ sym e)
 
 -- rings of zeros
 pub zeroed_rings : (b n : ℕ) (w : ℕ → ℕ) (rings : List (Buffer ℕ)) → n ≡ b
@@ -26,7 +21,7 @@ pub branches_after : (b : ℕ) (w : ℕ → ℕ) (next turn n : ℕ) (rings lent
     → HasWidths b w (branches_of next rings) → lent ≡ rings → n ≡ length rings → length new ≡ length lent
     → ArePassed b next 0 b (lists_of lent) (lists_of new) bytes out → turn ≡ (next + length bytes) % b
     → branches_of turn (take n (new ++ drop (length new) rings)) ≡ after_all b (branches_of next rings) bytes
-branches_after b w next turn n rings lent new bytes out h e k l a t = ap₂ branches_of t (grind (arith, lent_whole))
+branches_after b w next turn n rings lent new bytes out h e k l a t = ap₂ branches_of t (grind (arith, take_at))
     ∙ passed_branches b w (branches_of next rings) (lists_of new) bytes out h (rw (← e) a)
 
 pub bytes_after : (b : ℕ) (w : ℕ → ℕ) (next : ℕ) (rings lent new : List (Buffer ℕ)) (bytes out : List ℕ)

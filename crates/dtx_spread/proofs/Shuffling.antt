@@ -80,12 +80,9 @@ four_test i j = ((source (source (source (source (i, j))))).0 == j)
 abbrev row_test : ℕ → Bool
 row_test i = agree_below (four_test i) (λ _. true) 16
 
-all_tests : agree_below row_test (λ _. true) 16 ≡ true
-all_tests = refl
-
 four : (i j : ℕ) → i < 16 → j < 16
     → ((source (source (source (source (i, j))))).0 ≡ j) × ((source (source (source (source (i, j))))).1 ≡ i)
-four i j l m = grind (arith, and_parts, agree_below_at, all_tests, eqb-true)
+four i j l m = grind (arith, and_parts, agree_below_at, eqb-true)
 
 abbrev pub Shuffles : List (List ℕ) → List (List ℕ) → Type 0
 Shuffles tile rows = (i j : ℕ) → i < 16 → j < 16

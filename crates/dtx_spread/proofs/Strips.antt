@@ -27,17 +27,13 @@ column_elsewhere n at d r columns row room long l o =
 
 -- ---- rows
 
--- a byte of an earlier row stands before a later row's
-before_row : (b p c k n : ℕ) → c < b → k < n → p + c + k * b < p + n * b
-before_row b p c k n l m = grind (arith, mul-le-mul_right, add-mul)
-
 pub row_there : (b w p n a z c k : ℕ) (tile part : List ℕ) (rows : List (List ℕ)) → p + w ≤ b → a ≡ p + n * b
     → a ≤ length tile → part ≡ take w (get_or rows n []) → w ≤ length (get_or rows n [])
     → ((c k : ℕ) → c < w → k < n → get_or tile (p + c + k * b) 0 ≡ get_or (get_or rows k []) c 0)
     → length part ≡ w → c < w → k < n + 1
     → get_or (put_mid a z tile part) (p + c + k * b) 0 ≡ get_or (get_or rows k []) c 0
 row_there b w p n a z c k tile part rows room ea within ep wide before long l m =
-    grind (arith, cases_eq, written_at, get_or-take, written_before, before_row)
+    grind (arith, cases_eq, written_at, get_or-take, written_before, mul-le-mul_right, add-mul)
 
 pub row_elsewhere : (b w p n a z i : ℕ) (tile part : List ℕ) → p + w ≤ b → a ≡ p + n * b → a ≤ length tile
     → length part ≡ w → z ≡ w → (i % b < p) ⊎ (p + w ≤ i % b) → get_or (put_mid a z tile part) i 0 ≡ get_or tile i 0
