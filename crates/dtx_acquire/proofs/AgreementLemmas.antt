@@ -1,8 +1,7 @@
 -- Whether places agree, as it is searched.
 use Rattle.std.proofs.Common.{◌≡◌, ℕ, ℤ, ◌+◌, ◌≤◌, ◌&&◌, leb, List, length, sym, ap, ◌∙◌, arith}
 use Rattle.std.proofs.lemmas.Bool.{le-leb, lt-leb}
-use Rattle.dtx_acquire.specs.Agreement.{agrees, unlike}
-use Rattle.dtx_acquire.specs.Places.{NeedsSegment}
+use Rattle.dtx_acquire.specs.Agreement.{agrees, unlike, NeedsSegment}
 
 pub agrees_by : (symbols : List ℤ) (place n : ℕ) → place + 832 ≤ length symbols → n ≡ unlike symbols place 0 515
     → leb n 128 ≡ agrees symbols place

@@ -10,8 +10,8 @@ use Rattle.dtx_trellis.specs.Trellis.{symbol_of}
 use Rattle.dtx_frame.specs.Segments.{data_segment, field_sync, segment_sync}
 use Rattle.dtx_soft.specs.Softened.{softened}
 use Rattle.dtx_acquire.specs.Acquired.{behind_groups, in_groups, restored, restored_data, restored_field, restored_sync}
+use Rattle.dtx_acquire.specs.Acquired.{scaled_level}
 use Rattle.dtx_acquire.specs.Agreement.{is_second}
-use Rattle.dtx_acquire.specs.Scaled.{scaled_level}
 use Rattle.dtx_acquire.specs.Sent.{AreLevels, AreInFields, IsData, IsSync}
 use Rattle.dtx_acquire.proofs.WholeLemmas.{AreLong, length-restored, long_decided}
 

@@ -3,7 +3,7 @@ use Rattle.std.proofs.Common.{◌≡◌, ℕ, pos, ◌+◌, ◌*◌, ◌-◌, �
 use Rattle.std.proofs.lemmas.Bool.{cases_lt}
 use Rattle.std.proofs.lemmas.Int.{ints}
 use Rattle.std.proofs.Math.Nat.{div-lt_iff_lt-mul}
-use Rattle.dtx_acquire.specs.Scaled.{scaled_level}
+use Rattle.dtx_acquire.specs.Acquired.{scaled_level}
 
 few_steps : (x c : ℕ) → 0 < c → x ≤ 8 * c → x / (2 * c) < 8
 few_steps x c l m = (div-lt_iff_lt-mul {k = 2 * c} {x = x} {y = 8} (omega arith)).1 (omega arith)

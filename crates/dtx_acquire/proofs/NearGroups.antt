@@ -7,9 +7,8 @@ use Rattle.std.proofs.lemmas.Bool.{cases_lt}
 use Rattle.std.proofs.lemmas.Int.{ints}
 use Rattle.std.proofs.lemmas.List.{get_or-map, length-map, map-append, take-append-drop}
 use Rattle.std.proofs.lemmas.List.FromFn.{get_or-map-range_with_len}
-use Rattle.dtx_trellis.specs.Trellis.{symbol_of}
+use Rattle.dtx_trellis.specs.Trellis.{symbol_of, coder_at}
 use Rattle.dtx_slice.specs.Unrolled.{symbol_place}
-use Rattle.dtx_trellis.specs.Pairs.{coder_at}
 use Rattle.dtx_soft.specs.Coders.{IsSoftened, coder_symbols, data_symbol}
 use Rattle.dtx_soft.specs.Paths.{IsPath, next_state, symbol_at}
 use Rattle.dtx_soft.specs.Softened.{IsOwn, softened}

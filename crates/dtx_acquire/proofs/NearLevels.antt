@@ -7,7 +7,7 @@ use Rattle.std.proofs.lemmas.Nat.{div-mul-add}
 use Rattle.dtx_trellis.specs.Trellis.{symbol_of}
 use Rattle.dtx_soft.specs.Paths.{symbol_at}
 use Rattle.dtx_acquire.specs.Agreement.{is_plus}
-use Rattle.dtx_acquire.specs.Scaled.{decided, scaled_level}
+use Rattle.dtx_acquire.specs.Acquired.{decided, scaled_level}
 use Rattle.dtx_acquire.specs.Sent.{IsNear}
 
 -- scale times the symbol of a level

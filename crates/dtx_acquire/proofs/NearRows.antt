@@ -5,8 +5,7 @@ use Rattle.std.proofs.lemmas.List.{ext_get_or, get_or-drop, get_or-map, get_or-t
 use Rattle.std.proofs.lemmas.List.{length-drop, length-map, length-take-le}
 use Rattle.dtx_trellis.specs.Trellis.{symbol_of}
 use Rattle.dtx_frame.specs.Segments.{data_segment, field_sync, segment_sync}
-use Rattle.dtx_acquire.specs.Acquired.{restored_data, restored_sync}
-use Rattle.dtx_acquire.specs.Scaled.{decided}
+use Rattle.dtx_acquire.specs.Acquired.{restored_data, restored_sync, decided}
 use Rattle.dtx_acquire.specs.Sent.{AreLevels, AreNear, IsData, IsSync}
 use Rattle.dtx_acquire.proofs.Each.{each_from}
 use Rattle.dtx_acquire.proofs.NearLevels.{decided_near}

@@ -5,8 +5,7 @@ use Rattle.std.proofs.lemmas.Nat.{xor_block, mod_low, shr_high}
 use Rattle.std.proofs.lemmas.List.{drop-take, take-take}
 use Rattle.std.proofs.Math.Nat.{pow-suc}
 use lib.Count.{ones_step, ones-le}
-use Rattle.dtx_acquire.specs.Agreement.{are_unlike, is_plus}
-use Rattle.dtx_acquire.specs.Signs.{packed}
+use Rattle.dtx_acquire.specs.Agreement.{are_unlike, is_plus, packed}
 
 -- ---- parts
 

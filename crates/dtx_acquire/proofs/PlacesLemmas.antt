@@ -5,7 +5,7 @@ use Rattle.std.proofs.Common.{length-append}
 use Rattle.std.specs.List.{find, range_with_len}
 use Rattle.std.proofs.lemmas.Bool.{cond-true, cond-false, cases_lt, true≢false}
 use Rattle.dtx_lists.proofs.RangeSearch.{IsFirst, find-range_first, find-range_gives, find-range_misses}
-use Rattle.dtx_acquire.specs.Places.{NeedsSegment, first_place}
+use Rattle.dtx_acquire.specs.Agreement.{NeedsSegment, first_place}
 
 -- ---- any test of numbers
 

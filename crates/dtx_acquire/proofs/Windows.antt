@@ -10,8 +10,7 @@ use Rattle.dtx_frame.proofs.SymbolsLemmas.{first_is, length_front}
 use Rattle.std.proofs.lemmas.Nat.{ones-le, xor_lt}
 use lib.Pow.{pow_mono}
 use Rattle.dtx_lists.proofs.Range.{range_with_len-parts}
-use Rattle.dtx_acquire.specs.Agreement.{is_plus, sync_sign, unlike, unlike_at}
-use Rattle.dtx_acquire.specs.Signs.{ArePacked, packed}
+use Rattle.dtx_acquire.specs.Agreement.{is_plus, sync_sign, unlike, unlike_at, ArePacked, packed}
 use Rattle.dtx_acquire.specs.declared.signs.TheConstants.{MIDDLE, SIGNS}
 use Rattle.dtx_acquire.proofs.Packing.{ones_unlike, packed_drop, packed_small, packed_take, packed_two, unlike_signs}
 

@@ -3,13 +3,27 @@
 -- stand 313 segments apart. A sync and the data segments after it are a field.
 use Rattle.std.specs.Prelude.{ℕ, ℤ, ◌+◌, ◌-◌, ◌*◌, ◌/◌, ◌&&◌, nat_le, nat_lt, Bool, true, false, not, if◌then◌else◌}
 use Rattle.std.specs.Prelude.{Option, Some, None, option_map, List, [], ◌∷◌, ◌++◌, length, map, sum, take, drop, filter}
-use Rattle.std.specs.Prelude.{◌≡◌}
+use Rattle.std.specs.Prelude.{◌≡◌, pos, negsuc, ◌<◌, min}
 use Rattle.std.proofs.Common.{zero, suc}
 use Rattle.std.specs.List.{flat_map, range_with_len}
 use Rattle.dtx_frame.specs.Segments.{field_sync, segment_sync}
 use Rattle.dtx_soft.specs.Softened.{softened, softened_cost}
 use Rattle.dtx_acquire.specs.Agreement.{agrees, is_second, least_from}
-use Rattle.dtx_acquire.specs.Scaled.{decided}
+use Rattle.dtx_trellis.specs.Trellis.{symbol_of}
+
+-- The level of a symbol v is (v + 8 * scale) div (2 * scale), rounded down, or 0 or 7 where that lies outside.
+unfoldable pub scaled_level : ℕ → ℤ → ℕ
+scaled_level scale (pos n) = min 7 ((8 * scale + n) / (2 * scale))
+scaled_level scale (negsuc n) = (8 * scale - suc n) / (2 * scale)
+
+-- the symbol of that level: twice the level, less 7
+abbrev pub decided : ℕ → ℤ → ℤ
+decided scale symbol = symbol_of (scaled_level scale symbol)
+
+-- this is the symbol's level at the scale
+pub record IsLevel (scale : ℕ) (symbol : ℤ) (level : ℕ) : Type 0 where
+  pub is : level ≡ scaled_level scale symbol
+  pub small : level < 8
 
 -- ---- syncs
 

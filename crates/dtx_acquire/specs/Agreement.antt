@@ -1,10 +1,17 @@
 -- Where a capture agrees with a field sync, by the signs of its symbols (the profile's own; ATSC A/53 Part 2, data
--- field sync).
+-- field sync). Also tests of places, and signs packed into words.
 use Rattle.std.specs.Prelude.{ℕ, ℤ, pos, ◌+◌, ◌&&◌, int_lt, nat_le, Bool, false, not, if◌then◌else◌, Option, List}
-use Rattle.std.specs.Prelude.{length, map, sum, slice_index_or}
-use Rattle.std.specs.List.{range_with_len}
+use Rattle.std.specs.Prelude.{length, map, sum, slice_index_or, ◌≡◌, ◌-◌, ◌<◌, ◌*◌, [], ◌∷◌, take, drop, slice_index}
+use Rattle.std.specs.List.{range_with_len, find}
 use Rattle.dtx_frame.specs.Segments.{sync_symbols}
-use Rattle.dtx_acquire.specs.Places.{first_place}
+
+-- a place passes only where a whole segment stands
+abbrev pub NeedsSegment : (List ℤ → ℕ → Bool) → Type 0
+NeedsSegment passes = (symbols : List ℤ) (place : ℕ) → length symbols < place + 832 → passes symbols place ≡ false
+
+-- the least place from this one on that passes
+unfoldable pub first_place : (List ℤ → ℕ → Bool) → List ℤ → ℕ → Option ℕ
+first_place passes symbols place = find (passes symbols) (range_with_len place (length symbols - place))
 
 -- whether a symbol has the sign plus: whether it is above 0
 abbrev pub is_plus : ℤ → Bool
@@ -40,3 +47,13 @@ least_from symbols place = first_place agrees symbols place
 -- first field.
 unfoldable pub is_second : List ℤ → Bool
 is_second segment = nat_le 32 (unlike segment 0 578 63)
+
+-- the signs of symbols as the bits of a number: the first sign is the lowest bit, and 1 is plus
+abbrev pub packed : List ℤ → ℕ
+packed [] = 0
+packed (x ∷ xs) = (if is_plus x then 1 else 0) + 2 * packed xs
+
+-- ten words that hold the signs of the symbols from this place on
+abbrev pub ArePacked : List ℕ → List ℤ → ℕ → Type 0
+ArePacked words symbols place = (k : ℕ) → k < 10
+    → slice_index words k ≡ packed (take 64 (drop (place + 64 * k) symbols))

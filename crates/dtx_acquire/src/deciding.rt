@@ -3,7 +3,7 @@
 ghost use Rattle.std.specs.Prelude.{◌≡◌, ◌<◌, ◌≤◌, ℕ, ℤ, pos, ◌-ℤ◌, EachIndex, IfOk, drop, length, map};
 ghost use Rattle.std.specs.Prelude.{slice_index, vec_len};
 ghost use Rattle.dtx_trellis.specs.Trellis.{symbol_of};
-ghost use Rattle.dtx_acquire.specs.Scaled.{IsLevel, decided, scaled_level};
+ghost use Rattle.dtx_acquire.specs.Acquired.{IsLevel, decided, scaled_level};
 
 use dtx_sizes::{PRECODE, SEGMENT, SEGMENT_LEVELS, SEGMENT_SYNC};
 use dtx_soft::MAX_SCALE;

@@ -2,8 +2,7 @@
 
 ghost use Rattle.std.specs.Prelude.{◌≡◌, ℕ, ℤ, ◌+◌, ◌<◌, ◌≤◌, Bool, List, length};
 ghost use Rattle.std.specs.List.{find, range_with_len};
-ghost use Rattle.dtx_acquire.specs.Agreement.{unlike};
-ghost use Rattle.dtx_acquire.specs.Places.{NeedsSegment, first_place};
+ghost use Rattle.dtx_acquire.specs.Agreement.{unlike, NeedsSegment, first_place};
 
 use crate::signs::{WORD, unlike_in, window_at};
 use dtx_sizes::SEGMENT;

@@ -2,8 +2,7 @@
 
 ghost use Rattle.std.specs.Prelude.{◌≡◌, ℕ, ℤ, ◌+◌, ◌*◌, ◌/◌, ◌%◌, ◌^◌, ◌<◌, ◌≤◌, if◌then◌else◌, List};
 ghost use Rattle.std.specs.Prelude.{length, take, drop};
-ghost use Rattle.dtx_acquire.specs.Agreement.{is_plus, is_second, unlike};
-ghost use Rattle.dtx_acquire.specs.Signs.{ArePacked, packed};
+ghost use Rattle.dtx_acquire.specs.Agreement.{is_plus, is_second, unlike, ArePacked, packed};
 
 use dtx_sizes::SEGMENT;
 

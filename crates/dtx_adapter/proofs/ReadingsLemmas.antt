@@ -7,10 +7,9 @@ use Rattle.std.proofs.lemmas.Bool.{cases_Bool, cond-true, cond-false, eq-eqb, ne
 use Rattle.std.proofs.lemmas.List.{length-map, take-take, get_or-set_same, get_or-set_other, get_or-map, ext_get_or}
 use Rattle.dtx_laws.proofs.ChoiceLemmas.{codeword_length}
 use Rattle.dtx_laws.proofs.WordsLemmas.{distance_self}
-use Rattle.dtx_packets.specs.Packet.{sync_of, pid_of}
+use Rattle.dtx_packets.specs.Packets.{sync_of, pid_of}
 use Rattle.dtx_cadence.specs.Mark.{sync_at, marked}
-use Rattle.dtx_coder.specs.Stream.{zero_states, states}
-use Rattle.dtx_coder.specs.Coded.{whole_groups}
+use Rattle.dtx_coder.specs.Stream.{zero_states, states, whole_groups}
 use Rattle.dtx_coder.specs.Runs.{AreStates}
 use Rattle.dtx_coder.proofs.KeptLemmas.{states_are}
 use Rattle.dtx_ops.specs.Reading.{reading}

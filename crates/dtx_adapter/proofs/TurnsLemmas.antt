@@ -4,8 +4,7 @@ use Rattle.std.proofs.Common.{cond, List, length, refl, sym, ap, ◌∙◌, arit
 use Rattle.std.proofs.Math.Nat.{add-mod-mod, mod-add-mod, add-mod_right, mod-eq_of_lt}
 use Rattle.std.proofs.lemmas.Bool.{cases_lt, eq-eqb}
 use Rattle.dtx_ops.specs.Paging.{pages_of}
-use Rattle.dtx_adapter.specs.Feed.{pages_for, paging_of, is_listed, is_filled, filled_groups}
-use Rattle.dtx_adapter.specs.Turns.{IsListedIn}
+use Rattle.dtx_adapter.specs.Feed.{pages_for, paging_of, is_listed, is_filled, filled_groups, IsListedIn}
 use Rattle.dtx_adapter.proofs.GroupsLemmas.{filled_groups-suc}
 use Rattle.dtx_adapter.proofs.PagesLemmas.{paging_of-few, paging_of-many, within_pages}
 

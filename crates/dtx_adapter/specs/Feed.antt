@@ -1,10 +1,10 @@
 -- The feed that an adapter makes of a stream under a plan (the profile's own, in the manner of ATSC A/110). Packets are
 -- counted from 0, and 624 make a frame.
 use Rattle.std.specs.Prelude.{ℕ, ◌+◌, ◌*◌, ◌/◌, ◌%◌, ◌==◌, nat_le, Bool, true, if◌then◌else◌, List, [], ◌∷◌, ◌++◌}
-use Rattle.std.specs.Prelude.{length, map, take, slice_index_or, slice_range}
+use Rattle.std.specs.Prelude.{length, map, take, slice_index_or, slice_range, ◌≡◌, ◌<◌, ◌≤◌}
 use Rattle.std.specs.List.{filter, list_any, range_with_len}
 use Rattle.std.proofs.Common.{zero, suc}
-use Rattle.dtx_packets.specs.Packet.{pid_of}
+use Rattle.dtx_packets.specs.Packets.{pid_of}
 use Rattle.dtx_cadence.specs.Mark.{sync_at, marked}
 use Rattle.dtx_clock.specs.Clock.{stamp_of}
 use Rattle.dtx_coder.specs.Stream.{states}
@@ -97,3 +97,12 @@ feed_to plan stream (suc n) = feed_to plan stream n ++ fed_packet plan stream (f
 -- the feed of a stream
 unfoldable pub feed : Plan → List (List ℕ) → List (List ℕ)
 feed plan stream = feed_to plan stream (length stream)
+
+-- A group from group `from` on and before group `to` holds a placeholder, and its page lists the transmitter at `place`
+-- of the plan.
+pub record IsListedIn {X : Type 0} (ts : List X) (stream : List (List ℕ)) (from to place : ℕ) : Type 0 where
+  pub group : ℕ
+  pub least : from ≤ group
+  pub within : group < to
+  pub filled : is_filled stream group ≡ true
+  pub listed : is_listed (paging_of ts (filled_groups stream group)) place ≡ true

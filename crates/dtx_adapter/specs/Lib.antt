@@ -1,4 +1,2 @@
 pub mod Feed
 pub mod Filling
-pub mod Adapting
-pub mod Turns

@@ -3,7 +3,7 @@
 ghost use Rattle.std.specs.Prelude.{◌≡◌, ◌≢◌, ◌↔◌, ◌++◌, ◌+◌, ◌*◌, ◌/◌, ◌%◌, ◌<◌, ◌≤◌, ◌==◌, [], ℕ, List, All, Ok};
 ghost use Rattle.std.specs.Prelude.{IsTrue, Some, None, if◌then◌else◌, length, take, drop, slice_get, slice_index_or};
 ghost use Rattle.std.specs.List.{find};
-ghost use Rattle.dtx_packets.specs.Packet.{sync_of, pid_of};
+ghost use Rattle.dtx_packets.specs.Packets.{sync_of, pid_of};
 ghost use Rattle.dtx_cadence.specs.Mark.{sync_at};
 ghost use Rattle.dtx_coder.specs.Stream.{states};
 ghost use Rattle.dtx_ops.specs.Paging.{page_of, pages_of, IsPaged};
@@ -14,8 +14,7 @@ ghost use Rattle.dtx_plan.specs.Sound.{IsSound};
 ghost use Rattle.dtx_plan.specs.declared.plan.Plan.{Plan};
 ghost use Rattle.dtx_plan.specs.declared.transmitter.Transmitter.{Transmitter};
 ghost use Rattle.dtx_adapter.specs.Feed.{entry_of, placeholders, pages_for, paging_of, is_listed, is_filled};
-ghost use Rattle.dtx_adapter.specs.Feed.{filled_groups, ops_at, fed_packet, feed};
-ghost use Rattle.dtx_adapter.specs.Turns.{IsListedIn};
+ghost use Rattle.dtx_adapter.specs.Feed.{filled_groups, ops_at, fed_packet, feed, IsListedIn};
 
 use dtx_sizes::{GROUP_PACKETS, MOST_ENTRIES, MOST_PACKETS, OPERATIONS_PID, PACKET, PAGE_ENTRIES};
 

@@ -12,9 +12,8 @@ use Rattle.dtx_erase.specs.Mended.{all_mended, marks_at, mended, mended_at, mend
 use Rattle.dtx_erase.specs.Mending.{lost, unmarked_distance}
 use Rattle.dtx_erase.proofs.UnmarkedLemmas.{mended_packet}
 use Rattle.dtx_chain.proofs.AllBackLemmas.{corrected_bytes, corrected_good, run_back}
-use Rattle.dtx_chain.specs.Undamaged.{ArePackets, as_received}
-use Rattle.dtx_chain.specs.Damage.{AreReceived, AreFound, as_corrected, codeword_at, from_sync, numbers_in}
-use Rattle.dtx_chain.specs.Damage.{packet_behind, to_sync, word_in}
+use Rattle.dtx_chain.specs.Damage.{ArePackets, as_received, AreReceived, AreFound, as_corrected, codeword_at, from_sync}
+use Rattle.dtx_chain.specs.Damage.{numbers_in, packet_behind, to_sync, word_in}
 use Rattle.dtx_chain.proofs.SlightLemmas.{field_begins, one_run_left}
 use Rattle.dtx_chain.proofs.WordsLemmas.{codeword_back, own_codeword}
 use Rattle.dtx_bursts.specs.Burst.{IsBurst, IsGap}

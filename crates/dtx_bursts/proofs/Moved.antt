@@ -4,8 +4,7 @@ use Rattle.std.proofs.lemmas.List.{get_or-drop, length-drop}
 use Rattle.dtx_slice.specs.Slicing.{sliced}
 use Rattle.dtx_outer.specs.Inner.{IsComplete, word_at}
 use Rattle.dtx_receiver.specs.Bytes.{groups_of, bytes_in}
-use Rattle.dtx_chain.specs.Undamaged.{ArePackets}
-use Rattle.dtx_chain.specs.Damage.{AreReceived, codeword_at, from_sync, to_sync, packet_behind}
+use Rattle.dtx_chain.specs.Damage.{ArePackets, AreReceived, codeword_at, from_sync, to_sync, packet_behind}
 use Rattle.dtx_chain.proofs.FromSyncLemmas.{own_word}
 use Rattle.dtx_chain.proofs.NoDamageLemmas.{are_received, is_there, no_groups}
 use Rattle.dtx_bursts.specs.Burst.{IsBurst, IsGap, symbol_at, symbol_level}

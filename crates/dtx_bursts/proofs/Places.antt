@@ -2,9 +2,8 @@
 use Rattle.std.proofs.Common.{◌≡◌, ℕ, zero, suc, ◌+◌, ◌-◌, ◌*◌, ◌/◌, ◌%◌, ◌<◌, ◌≤◌, ◌==◌, ◌⊎◌, inl, inr, cond, refl, ap}
 use Rattle.std.proofs.Common.{◌∙◌, arith}
 use Rattle.std.proofs.lemmas.Bool.{cases_lt, cond-false, ne_eqb}
-use Rattle.dtx_slice.specs.Lanes.{lane_place}
+use Rattle.dtx_slice.specs.Unrolled.{lane_place, symbol_place, coder_of}
 use Rattle.dtx_slice.proofs.PlacesLemmas.{lane_symbol, lane_byte_coder}
-use Rattle.dtx_slice.specs.Unrolled.{symbol_place, coder_of}
 
 -- the place of a run's data symbol d among all of its symbols
 abbrev pub position : ℕ → ℕ

@@ -7,8 +7,8 @@ use Rattle.dtx_frame.proofs.CountsLemmas.{total}
 use Rattle.dtx_outer.specs.Inner.{IsComplete, word_at}
 use Rattle.dtx_outer.proofs.WordsLemmas.{length-word, get_or-word}
 use Rattle.dtx_receiver.specs.Bytes.{groups_of, bytes_in}
-use Rattle.dtx_chain.specs.Undamaged.{ArePackets}
-use Rattle.dtx_chain.specs.Damage.{AreReceived, AreFound, IsNear, IsSlight, from_sync, to_sync, packet_behind, word_in}
+use Rattle.dtx_chain.specs.Damage.{ArePackets, AreReceived, AreFound, IsNear, IsSlight, from_sync, to_sync}
+use Rattle.dtx_chain.specs.Damage.{packet_behind, word_in}
 use Rattle.dtx_bursts.specs.Burst.{IsBurst}
 use Rattle.dtx_bursts.proofs.Bytes.{AreAlike, DifferWithin, off_byte}
 use Rattle.dtx_bursts.proofs.Counting.{distance_within}

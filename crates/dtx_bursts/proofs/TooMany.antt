@@ -12,8 +12,8 @@ use Rattle.dtx_outer.proofs.WordsLemmas.{length-word, get_or-word}
 use Rattle.dtx_coder.specs.Stream.{a53}
 use Rattle.dtx_coder.proofs.CountsLemmas.{a53_segment, length-a53}
 use Rattle.dtx_receiver.specs.Bytes.{groups_of, bytes_in}
-use Rattle.dtx_chain.specs.Undamaged.{ArePackets}
-use Rattle.dtx_chain.specs.Damage.{AreReceived, AreFound, codeword_at, from_sync, packet_behind, to_sync, word_in}
+use Rattle.dtx_chain.specs.Damage.{ArePackets, AreReceived, AreFound, codeword_at, from_sync, packet_behind, to_sync}
+use Rattle.dtx_chain.specs.Damage.{word_in}
 use Rattle.dtx_chain.proofs.LevelsLemmas.{groups_are}
 use Rattle.dtx_bursts.specs.Burst.{IsBurst, LeavesSyncs, symbol_at, symbol_level}
 use Rattle.dtx_bursts.proofs.Apart.{apart_by_first, apart_by_last}

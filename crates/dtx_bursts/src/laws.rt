@@ -10,8 +10,7 @@ ghost use Rattle.dtx_erase.specs.Marks.{marks_in};
 ghost use Rattle.dtx_erase.specs.Mended.{all_mended, marks_at, mended};
 ghost use Rattle.dtx_erase.specs.Mending.{lost, unmarked_distance};
 ghost use Rattle.dtx_chain.specs.Damage.{AreFound, AreReceived, IsSlight, codeword_at, from_sync, numbers_in};
-ghost use Rattle.dtx_chain.specs.Damage.{packet_behind, to_sync, word_in};
-ghost use Rattle.dtx_chain.specs.Undamaged.{ArePackets, as_received};
+ghost use Rattle.dtx_chain.specs.Damage.{packet_behind, to_sync, word_in, ArePackets, as_received};
 ghost use Rattle.dtx_bursts.specs.Burst.{IsBurst, IsGap, LeavesSyncs};
 
 /// If all field syncs are found, at most 2,022 wrong symbols in a row are slight damage. They may have any values and

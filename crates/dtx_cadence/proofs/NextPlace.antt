@@ -5,8 +5,8 @@ use Rattle.std.proofs.lemmas.Bool.{eqb-true, eqb-false}
 use Rattle.std.proofs.lemmas.List.{length_push}
 use Rattle.dtx_cadence.specs.declared.anchor.Lock.{Lock}
 use Rattle.dtx_cadence.specs.declared.anchor.Seen.TheVariants.{Free, Start, Lost, At}
-use Rattle.dtx_cadence.specs.Anchor.{has_mark, anchor, is_missed, seen_by, seen, lock, StandsFor}
-use Rattle.dtx_cadence.specs.Step.{first_lock, is_lost, moved_on, kept_after, answer}
+use Rattle.dtx_cadence.specs.Anchor.{has_mark, anchor, is_missed, seen_by, seen, lock, StandsFor, first_lock, is_lost}
+use Rattle.dtx_cadence.specs.Anchor.{moved_on, kept_after, answer}
 use Rattle.dtx_cadence.proofs.NextAnchorLemmas.{ends_with, anchor_free, anchor_next, anchor_below}
 use Rattle.dtx_cadence.proofs.NextAnchorLemmas.{mark_push, front_alike}
 

@@ -1,7 +1,7 @@
 -- The anchor of the packets that were given, by their sync bytes (the profile's own). A packet is a mark where its sync
 -- byte is 0xB8; all other sync bytes are alike.
 use Rattle.std.specs.Prelude.{ℕ, ◌≡◌, ◌<◌, ◌-◌, ◌%◌, ◌==◌, ◌&&◌, Bool, not, Option, Some, None, option_map}
-use Rattle.std.specs.Prelude.{if◌then◌else◌, List, [], ◌∷◌, ◌++◌, length, slice_index}
+use Rattle.std.specs.Prelude.{if◌then◌else◌, List, [], ◌∷◌, ◌++◌, length, slice_index, ◌+◌, false}
 use Rattle.std.proofs.Common.{zero, suc}
 use Rattle.dtx_cadence.specs.declared.anchor.Lock.{Lock}
 use Rattle.dtx_cadence.specs.declared.anchor.Seen.{Seen}
@@ -61,3 +61,28 @@ StandsFor kept syncs = kept ≡ lock syncs
 abbrev pub IsSeen : Seen → Type 0
 IsSeen (At p) = p < 624
 IsSeen other = 0 < 624
+
+-- the state behind the anchor's own packet
+abbrev pub first_lock : Lock
+first_lock = record { place = 1; missed = false }
+
+-- whether a packet ends the anchor, given whether it is a mark
+abbrev pub is_lost : Lock → Bool → Bool
+is_lost lock is_mark = (lock.place == 0) && not is_mark && lock.missed
+
+-- the state after a packet with which the anchor stays
+abbrev pub moved_on : Lock → Bool → Lock
+moved_on lock is_mark = record {
+  place = (lock.place + 1) % 624;
+  missed = if lock.place == 0 then not is_mark else lock.missed;
+}
+
+-- the state after a sync byte
+abbrev pub kept_after : Option Lock → ℕ → Option Lock
+kept_after None sync = if sync == 0xB8 then Some first_lock else None
+kept_after (Some lock) sync = if is_lost lock (sync == 0xB8) then None else Some (moved_on lock (sync == 0xB8))
+
+-- the answer to a sync byte
+abbrev pub answer : Option Lock → ℕ → Seen
+answer None sync = if sync == 0xB8 then Start else Free
+answer (Some lock) sync = if is_lost lock (sync == 0xB8) then Lost else At lock.place

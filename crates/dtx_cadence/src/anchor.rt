@@ -1,7 +1,6 @@
 // The anchor of the packets that were given.
 ghost use Rattle.std.specs.Prelude.{◌≡◌, ◌<◌, ℕ, [], ◌∷◌, ◌++◌, List};
-ghost use Rattle.dtx_cadence.specs.Anchor.{StandsFor, IsSeen, seen};
-ghost use Rattle.dtx_cadence.specs.Step.{is_lost, moved_on, kept_after, answer};
+ghost use Rattle.dtx_cadence.specs.Anchor.{StandsFor, IsSeen, seen, is_lost, moved_on, kept_after, answer};
 
 use dtx_sizes::{FRAME_PACKETS, MARK};
 use std::marker::Model;

@@ -8,8 +8,7 @@ use Rattle.dtx_ops.specs.declared.fields.Ops.{Ops}
 use Rattle.dtx_exciter.specs.Order.{ordered_at}
 use Rattle.dtx_exciter.specs.Packets.{readings}
 use Rattle.dtx_watch.specs.Clock.{frames_between}
-use Rattle.dtx_calm_feed.specs.Calm.{IsCalmFeed}
-use Rattle.dtx_calm_feed.specs.Moments.{IsBelowTick, air_between}
+use Rattle.dtx_calm_feed.specs.Calm.{IsCalmFeed, IsBelowTick, air_between}
 use Rattle.dtx_calm_feed.specs.Said.{Follows, latest_before}
 use Rattle.dtx_calm_feed.proofs.Noted.{ordered_calm}
 use Rattle.dtx_calm_feed.proofs.Told.{clock_follows}

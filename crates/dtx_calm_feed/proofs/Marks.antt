@@ -4,7 +4,7 @@ use Rattle.std.proofs.Common.{None, option_map, List, [], length, take, drop, re
 use Rattle.std.proofs.Common.{slice_range, eq-eqb, eqb-true, get_or-drop, length-drop, take_all}
 use Rattle.std.specs.List.{take-map}
 use Rattle.std.proofs.lemmas.List.{drop-map, get_or-map}
-use Rattle.dtx_packets.specs.Packet.{sync_of}
+use Rattle.dtx_packets.specs.Packets.{sync_of}
 use Rattle.dtx_cadence.specs.Anchor.{anchor, anchor_to, ends_lock, has_mark}
 use Rattle.dtx_cadence.proofs.NextAnchorLemmas.{anchor_below, anchor_is_mark, anchor_take, none_ended, stays}
 use Rattle.dtx_exciter.specs.Packets.{anchor_of, syncs, under}

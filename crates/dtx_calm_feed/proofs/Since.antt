@@ -5,13 +5,12 @@ use Rattle.std.proofs.lemmas.List.{drop-append-le}
 use Rattle.dtx_lists.proofs.Range.{map-range_same}
 use Rattle.dtx_trellis.specs.Groups.{levels_of, states_after}
 use Rattle.dtx_trellis.proofs.JoinsLemmas.{levels_append}
-use Rattle.dtx_trellis.specs.Pairs.{group_place}
+use Rattle.dtx_trellis.specs.Trellis.{group_place}
 use Rattle.dtx_coder.specs.Along.{levels_since, states_since}
 use Rattle.dtx_coder.proofs.BytesLemmas.{length-whole, whole_append}
-use Rattle.dtx_coder.specs.Coded.{whole_groups}
+use Rattle.dtx_coder.specs.Stream.{whole_groups, segment, four_segments}
 use Rattle.dtx_coder.proofs.LevelsLemmas.{length-levels_of}
 use Rattle.dtx_coder.proofs.SegmentsLemmas.{four_behind}
-use Rattle.dtx_coder.specs.Stream.{segment, four_segments}
 use Rattle.dtx_exciter.specs.Emission.{segments_since}
 use Rattle.dtx_exciter.proofs.GroupSentLemmas.{since_front}
 use Rattle.dtx_exciter.proofs.SinceMarkLemmas.{levels_mark, take_parts}

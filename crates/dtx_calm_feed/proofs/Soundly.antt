@@ -2,7 +2,7 @@
 use Rattle.std.proofs.Common.{◌≡◌, ℕ, ◌+◌, ◌-◌, ◌%◌, ◌<◌, ◌==◌, Some, List, [], length, drop, refl, ap, ◌∙◌, arith}
 use Rattle.std.specs.List.{AllByRecursion}
 use Rattle.std.proofs.lemmas.List.{get_or-drop, get_or-map, length-drop, take_all}
-use Rattle.dtx_packets.specs.Packet.{sync_of}
+use Rattle.dtx_packets.specs.Packets.{sync_of}
 use Rattle.dtx_cadence.specs.Anchor.{anchor}
 use Rattle.dtx_cadence.proofs.AnchoredLemmas.{anchored}
 use Rattle.dtx_cadence.specs.Cadence.{IsAnchored, IsMarked}

@@ -5,9 +5,8 @@ use Rattle.std.specs.List.{AllByRecursion, count_by, flat_map, range_with_len}
 use Rattle.std.specs.Str.{bytes_eq}
 use Rattle.std.proofs.lemmas.List.Sums.{sum_by-cons}
 use Rattle.dtx_watch.specs.Watch.{notes_at, notes_to, watch}
-use Rattle.dtx_watch.specs.WatchLines.{first_word, lines_with, note_words}
+use Rattle.dtx_watch.specs.WatchText.{first_word, lines_with, note_words, watch_text}
 use Rattle.dtx_watch.proofs.WatchLinesLemmas.{words_of-watch_text}
-use Rattle.dtx_watch.specs.WatchText.{watch_text}
 use Rattle.dtx_watch.specs.declared.notes.Note.{Note}
 use Rattle.dtx_watch.specs.declared.notes.NoteKind.{NoteKind}
 use Rattle.dtx_watch.specs.declared.notes.NoteKind.TheVariants.{Lock, Lost, Unread, Stray, Ops as OpsAt}

@@ -1,4 +1,3 @@
 pub mod Said
 pub mod Calm
 pub mod Own
-pub mod Moments

@@ -2,7 +2,7 @@
 -- the symbols of ATSC A/53 Part 2). Packets are counted from the anchor.
 use Rattle.std.specs.Prelude.{◌≡◌, ℕ, ℤ, ◌-◌, ◌/◌, ◌%◌, ◌<◌, Bool, if◌then◌else◌, None, Some, List, [], ◌∷◌}
 use Rattle.std.specs.Prelude.{◌⊎◌, ◌+◌, ◌≤◌, ◌++◌, drop, length, slice_index_or, slice_range}
-use Rattle.dtx_packets.specs.Packet.{sync_of}
+use Rattle.dtx_packets.specs.Packets.{sync_of}
 use Rattle.dtx_ops.specs.declared.fields.Ops.{Ops}
 use Rattle.dtx_exciter.specs.Emission.{segments_since, behind_field_sync}
 use Rattle.dtx_exciter.specs.Order.{Order, counting_order, orders}

@@ -16,8 +16,7 @@ ghost use Rattle.dtx_watch.specs.Clock.{frames_between};
 ghost use Rattle.dtx_watch.specs.Sound.{IsSoundFeed};
 ghost use Rattle.dtx_watch.specs.Watch.{watch};
 ghost use Rattle.dtx_watch.specs.WatchText.{watch_text};
-ghost use Rattle.dtx_calm_feed.specs.Calm.{IsCalmFeed, IsCalmFrom, IsCalmText};
-ghost use Rattle.dtx_calm_feed.specs.Moments.{IsBelowTick, air_between};
+ghost use Rattle.dtx_calm_feed.specs.Calm.{IsCalmFeed, IsCalmFrom, IsCalmText, IsBelowTick, air_between};
 ghost use Rattle.dtx_calm_feed.specs.Own.{IsFirstOrder, IsLockedTo, IsMarkOf, data_of, own_data, own_segments};
 ghost use Rattle.dtx_calm_feed.specs.Said.{AreSaid, Follows, IsLatestOrder, IsSaid, latest_before};
 

@@ -14,9 +14,8 @@ use Rattle.dtx_receiver.specs.Packets.{is_complete, run_packets, all_packets, re
 use Rattle.dtx_receiver.specs.declared.batch.Received.{Received}
 use Rattle.dtx_receiver.proofs.CompleteLemmas.{complete_told}
 use Rattle.dtx_receiver.proofs.SegmentsLemmas.{segment_long}
-use Rattle.dtx_chain.specs.Undamaged.{ArePackets, as_received}
-use Rattle.dtx_chain.specs.Damage.{as_corrected, AreReceived, IsSlight, to_sync, from_sync, packet_behind, numbers_in}
-use Rattle.dtx_chain.specs.Damage.{word_in}
+use Rattle.dtx_chain.specs.Damage.{ArePackets, as_received, as_corrected, AreReceived, IsSlight, to_sync, from_sync}
+use Rattle.dtx_chain.specs.Damage.{packet_behind, numbers_in, word_in}
 use Rattle.dtx_chain.proofs.SlightLemmas.{sent_within, sync_first, field_begins, one_run_left}
 use Rattle.dtx_chain.proofs.UndamagedLemmas.{map-filter_same}
 use Rattle.dtx_chain.proofs.WordsLemmas.{corrected_back}

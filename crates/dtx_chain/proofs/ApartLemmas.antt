@@ -18,14 +18,12 @@ use Rattle.dtx_laws.proofs.PartsLemmas.{bytes_take}
 use Rattle.dtx_laws.proofs.WhiteningLemmas.{whitened_twice}
 use Rattle.dtx_laws.proofs.WordsLemmas.{codewords_apart, distance_from_front, distance_comm, distance_through}
 use Rattle.dtx_laws.proofs.WordsLemmas.{distance_self}
-use Rattle.dtx_whiten.specs.Randomizer.{randomizer_byte, randomizer_bytes}
-use Rattle.dtx_whiten.specs.Randomized.{randomized}
+use Rattle.dtx_whiten.specs.Randomizer.{randomizer_byte, randomizer_bytes, randomized}
 use Rattle.dtx_whiten.proofs.PacketsLemmas.{length-randomized, randomized_whitened}
 use Rattle.dtx_outer.specs.Inner.{word_at}
 use Rattle.dtx_receiver.specs.Packets.{received_at}
 use Rattle.dtx_receiver.specs.declared.batch.Received.{Received}
-use Rattle.dtx_chain.specs.Undamaged.{ArePackets, as_received}
-use Rattle.dtx_chain.specs.Damage.{codeword_at, as_corrected}
+use Rattle.dtx_chain.specs.Damage.{ArePackets, as_received, codeword_at, as_corrected}
 use Rattle.dtx_chain.proofs.WordsLemmas.{is_codeword, corrected_back, packet_at}
 
 -- ---- the packets

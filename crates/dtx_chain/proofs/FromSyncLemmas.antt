@@ -6,7 +6,7 @@ use Rattle.std.proofs.lemmas.List.{get_or-take, get_or-drop, get_or-append_right
 use Rattle.std.proofs.lemmas.List.FromFn.{length-map-range_with_len}
 use Rattle.std.proofs.lemmas.Bool.{cond-false, ne_eqb}
 use Rattle.dtx_laws.proofs.WordsLemmas.{distance_self}
-use Rattle.dtx_trellis.specs.Pairs.{group_place}
+use Rattle.dtx_trellis.specs.Trellis.{group_place}
 use Rattle.dtx_slice.specs.Slicing.{sliced, sliced_data, sliced_last}
 use Rattle.dtx_slice.specs.Unrolled.{bytes_back, precoder_bit, level_groups, precoder_bits_of, precoder_bits_in}
 use Rattle.dtx_slice.specs.Unrolled.{precoder_bits_after}
@@ -15,8 +15,7 @@ use Rattle.dtx_slice.proofs.JoinsLemmas.{bytes_append, precoder_bits_repeated}
 use Rattle.dtx_frame.proofs.SlicesLemmas.{end_back, last_back}
 use Rattle.dtx_outer.specs.Inner.{word_at, IsComplete}
 use Rattle.dtx_outer.proofs.WordsLemmas.{length-word, get_or-word, word_by, word_stays}
-use Rattle.dtx_coder.specs.Coded.{whole_groups}
-use Rattle.dtx_coder.specs.Stream.{zero_states, levels, segment, last_of, last_before, a53}
+use Rattle.dtx_coder.specs.Stream.{whole_groups, zero_states, levels, segment, last_of, last_before, a53}
 use Rattle.dtx_coder.proofs.BytesLemmas.{length-whole}
 use Rattle.dtx_coder.proofs.LevelsLemmas.{length-levels}
 use Rattle.dtx_coder.proofs.SegmentsLemmas.{segment_is}
@@ -24,8 +23,7 @@ use Rattle.dtx_coder.proofs.CountsLemmas.{length-a53}
 use Rattle.dtx_receiver.specs.Bytes.{data_count, data_at, groups_of, levels_from, levels_in, first_bits, bytes_in}
 use Rattle.dtx_receiver.proofs.SegmentsLemmas.{levels_parts}
 use Rattle.dtx_lists.proofs.RangeMoved.{flat_map-range_same}
-use Rattle.dtx_chain.specs.Undamaged.{ArePackets}
-use Rattle.dtx_chain.specs.Damage.{codeword_at, IsNear}
+use Rattle.dtx_chain.specs.Damage.{ArePackets, codeword_at, IsNear}
 use Rattle.dtx_chain.proofs.PlacesLemmas.{sync_at, data_at_place}
 use Rattle.dtx_chain.proofs.LevelsLemmas.{slices_front, level_small, segment_back, zero_bits, nothing_before}
 use Rattle.dtx_chain.proofs.WordsLemmas.{whole_small, word_is}

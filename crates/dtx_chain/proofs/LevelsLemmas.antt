@@ -13,8 +13,7 @@ use Rattle.dtx_slice.specs.Unrolled.{bytes_back, precoder_bits_of, precoder_bits
 use Rattle.dtx_slice.proofs.InverseLemmas.{bytes_come_back}
 use Rattle.dtx_frame.proofs.RuleLemmas.{level_at_small}
 use Rattle.dtx_frame.proofs.SlicesLemmas.{data_back, last_back}
-use Rattle.dtx_coder.specs.Coded.{whole_groups}
-use Rattle.dtx_coder.specs.Stream.{zero_states, levels, segment, no_last, last_before, a53}
+use Rattle.dtx_coder.specs.Stream.{whole_groups, zero_states, levels, segment, no_last, last_before, a53}
 use Rattle.dtx_coder.proofs.BytesLemmas.{length-whole}
 use Rattle.dtx_coder.proofs.LevelsLemmas.{length-levels}
 use Rattle.dtx_coder.proofs.SegmentsLemmas.{segment_is}

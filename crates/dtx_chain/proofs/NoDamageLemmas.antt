@@ -10,9 +10,8 @@ use Rattle.dtx_outer.specs.Inner.{IsComplete, word_at}
 use Rattle.dtx_coder.specs.Stream.{a53}
 use Rattle.dtx_coder.proofs.CountsLemmas.{a53_segment}
 use Rattle.dtx_receiver.specs.Bytes.{data_count, groups_of, bytes_in}
-use Rattle.dtx_chain.specs.Undamaged.{ArePackets}
-use Rattle.dtx_chain.specs.Damage.{IsNear, damage_at, damaged_symbols, AreReceived, IsSlight, to_sync, from_sync}
-use Rattle.dtx_chain.specs.Damage.{packet_behind, word_in}
+use Rattle.dtx_chain.specs.Damage.{ArePackets, IsNear, damage_at, damaged_symbols, AreReceived, IsSlight, to_sync}
+use Rattle.dtx_chain.specs.Damage.{from_sync, packet_behind, word_in}
 use Rattle.dtx_chain.proofs.PlacesLemmas.{syncs_look}
 use Rattle.dtx_chain.proofs.SlightLemmas.{sent_within, sent_at, sync_first, none_earlier}
 use Rattle.dtx_chain.proofs.FromSyncLemmas.{IsThere, word_there}

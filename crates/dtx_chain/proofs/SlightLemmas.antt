@@ -8,8 +8,7 @@ use Rattle.std.proofs.lemmas.List.{length-take, length-drop, take_all, get_or-ta
 use Rattle.dtx_frame.specs.Detection.{differs, differing, looks_like}
 use Rattle.dtx_frame.proofs.CountsLemmas.{total, sum_is}
 use Rattle.dtx_frame.proofs.UnlikeLemmas.{unlike_segment}
-use Rattle.dtx_coder.specs.Coded.{whole_groups}
-use Rattle.dtx_coder.specs.Stream.{zero_states, levels, segment, a53}
+use Rattle.dtx_coder.specs.Stream.{whole_groups, zero_states, levels, segment, a53}
 use Rattle.dtx_coder.proofs.BytesLemmas.{length-whole}
 use Rattle.dtx_coder.proofs.CountsLemmas.{length-a53}
 use Rattle.dtx_receiver.specs.Runs.{runs}

@@ -3,14 +3,13 @@ use Rattle.std.proofs.Common.{◌≡◌, ℕ, zero, suc, ◌+◌, ◌*◌, ◌/�
 use Rattle.std.proofs.Common.{get_or, refl, sym, ap, ◌∙◌, arith}
 use Rattle.std.specs.List.{range_with_len, filter}
 use Rattle.std.proofs.lemmas.List.{append-nil}
-use Rattle.dtx_coder.specs.Coded.{whole_groups}
-use Rattle.dtx_coder.specs.Stream.{a53}
+use Rattle.dtx_coder.specs.Stream.{whole_groups, a53}
 use Rattle.dtx_coder.proofs.BytesLemmas.{length-whole}
 use Rattle.dtx_receiver.specs.Packets.{is_complete, run_packets, all_packets, received}
 use Rattle.dtx_receiver.specs.declared.batch.Received.{Received}
 use Rattle.dtx_receiver.proofs.CompleteLemmas.{complete_told}
 use Rattle.dtx_lists.proofs.RangeFilter.{filter-kept, filter-lost}
-use Rattle.dtx_chain.specs.Undamaged.{ArePackets, as_received, as_sent, whole_words}
+use Rattle.dtx_chain.specs.Damage.{ArePackets, as_received, as_sent, whole_words}
 use Rattle.dtx_chain.proofs.PlacesLemmas.{one_run}
 use Rattle.dtx_chain.proofs.LevelsLemmas.{bytes_are}
 use Rattle.dtx_chain.proofs.WordsLemmas.{whole_small, packet_back}

@@ -11,20 +11,18 @@ use Rattle.dtx_laws.specs.Interleaving.{interleaved, interleaved_at}
 use Rattle.dtx_laws.specs.Whitening.{whitened}
 use Rattle.dtx_laws.specs.Words.{codeword, correction}
 use Rattle.dtx_laws.proofs.WordsLemmas.{distance_self}
-use Rattle.dtx_whiten.specs.Randomizer.{randomizer_bytes}
-use Rattle.dtx_whiten.specs.Randomized.{randomized}
+use Rattle.dtx_whiten.specs.Randomizer.{randomizer_bytes, randomized}
 use Rattle.dtx_whiten.proofs.BytesLemmas.{bytes_randomizer_bytes}
 use Rattle.dtx_whiten.proofs.PacketsLemmas.{randomized_whitened}
 use Rattle.dtx_outer.proofs.BackLemmas.{AreData, coded_is, coded_back, near_corrected, near_if_corrected}
 use Rattle.dtx_outer.specs.Inner.{word_at, IsComplete}
 use Rattle.dtx_outer.specs.Outer.{coded as coded_by}
 use Rattle.dtx_outer.proofs.WordsLemmas.{length-word, word_stays, word_back}
-use Rattle.dtx_coder.specs.Coded.{coded_from, coded, spread, whole_groups}
+use Rattle.dtx_coder.specs.Stream.{coded_from, coded, spread, whole_groups}
 use Rattle.dtx_coder.proofs.BytesLemmas.{coded_at, length-coded, length-whole}
 use Rattle.dtx_receiver.specs.Packets.{packet_bytes, received_by, received_at}
 use Rattle.dtx_receiver.specs.declared.batch.Received.{Received}
-use Rattle.dtx_chain.specs.Undamaged.{ArePackets, as_received, as_sent}
-use Rattle.dtx_chain.specs.Damage.{codeword_at, IsNear, as_corrected}
+use Rattle.dtx_chain.specs.Damage.{ArePackets, as_received, as_sent, codeword_at, IsNear, as_corrected}
 
 -- ---- codewords
 

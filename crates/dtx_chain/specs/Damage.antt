@@ -2,11 +2,11 @@
 -- sent is that of ATSC A/53 Part 2). A packet is the list of its 188 bytes, a segment the list of its 832 symbols. The
 -- segments of a stream are counted from 0. Its field syncs are segments 0, 313, 626 and so on.
 use Rattle.std.specs.Prelude.{ℕ, ℤ, pos, ◌≡◌, ◌+◌, ◌-◌, ◌*◌, ◌/◌, ◌%◌, ◌<◌, ◌≤◌, ◌==◌, if◌then◌else◌, true, List, []}
-use Rattle.std.specs.Prelude.{length, map, drop, sum, filter, EachIndex, slice_index_or, slice_range}
-use Rattle.std.specs.List.{range_with_len}
+use Rattle.std.specs.Prelude.{length, map, drop, sum, filter, EachIndex, slice_index_or, slice_range, ◌∷◌}
+use Rattle.std.specs.List.{range_with_len, AllByRecursion}
 use Rattle.dtx_laws.specs.Codeword.{distance}
 use Rattle.dtx_laws.specs.Words.{codeword}
-use Rattle.dtx_whiten.specs.Randomized.{randomized}
+use Rattle.dtx_whiten.specs.Randomizer.{randomized}
 use Rattle.dtx_outer.specs.Inner.{word_at, IsComplete}
 use Rattle.dtx_slice.specs.Slicing.{sliced}
 use Rattle.dtx_coder.specs.Stream.{a53}
@@ -14,7 +14,23 @@ use Rattle.dtx_receiver.specs.Bytes.{groups_of, bytes_in}
 use Rattle.dtx_receiver.specs.Intervals.{looks_at}
 use Rattle.dtx_receiver.specs.Packets.{is_complete}
 use Rattle.dtx_receiver.specs.declared.batch.Received.{Received}
-use Rattle.dtx_chain.specs.Undamaged.{as_received}
+use Rattle.dtx_galois.specs.Field.{AreBytes}
+
+-- each packet has 188 bytes
+abbrev pub ArePackets : List (List ℕ) → Type 0
+ArePackets packets = AllByRecursion (λ p. (length p ≡ 188) × AreBytes p) packets
+
+-- the packet as it is received: with 0x47 as its sync byte, since its own isn't sent
+unfoldable pub as_received : List ℕ → List ℕ
+as_received packet = 0x47 ∷ drop 1 packet
+
+-- packet k, received good, with no byte put right
+unfoldable pub as_sent : List (List ℕ) → ℕ → Received
+as_sent packets k = record { packet = record { 0 = as_received (slice_index_or packets k []) }; fixed = 0; good = true }
+
+-- the numbers of the packets whose 207 bytes are all among the bytes of the stream's whole groups
+unfoldable pub whole_words : List (List ℕ) → List ℕ
+whole_words packets = filter (is_complete (828 * (length packets / 4))) (range_with_len 0 (4 * (length packets / 4)))
 
 -- ---- words
 

@@ -1,2 +1,1 @@
-pub mod Undamaged
 pub mod Damage

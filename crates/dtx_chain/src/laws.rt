@@ -15,8 +15,8 @@ ghost use Rattle.dtx_receiver.specs.Packets.{all_packets, run_packets, received,
 ghost use Rattle.dtx_receiver.specs.declared.batch.Received.{Received};
 ghost use Rattle.dtx_receiver.specs.Runs.{runs};
 ghost use Rattle.dtx_chain.specs.Damage.{AreReceived, IsNear, IsSlight, as_corrected, codeword_at, from_sync};
-ghost use Rattle.dtx_chain.specs.Damage.{damaged_symbols, numbers_in, packet_behind, to_sync, word_in};
-ghost use Rattle.dtx_chain.specs.Undamaged.{ArePackets, as_sent, whole_words, as_received};
+ghost use Rattle.dtx_chain.specs.Damage.{damaged_symbols, numbers_in, packet_behind, to_sync, word_in, ArePackets};
+ghost use Rattle.dtx_chain.specs.Damage.{as_sent, whole_words, as_received};
 
 use dtx_sizes::{FIELD_PACKETS, FIELD_SEGMENTS, GROUP_PACKETS, PACKET};
 

@@ -4,7 +4,7 @@ use Rattle.dtx_laws.specs.Branches.{HasWidths, spreading, aligned, leaving_all}
 use Rattle.dtx_laws.specs.Interleaving.{IsInterleavedBehind}
 use Rattle.dtx_laws.proofs.PlacesLemmas.{leaving_append}
 use Rattle.dtx_laws.proofs.InterleavingLemmas.{HasWidths-aligned, behind}
-use Rattle.dtx_coder.specs.Coded.{coded_from}
+use Rattle.dtx_coder.specs.Stream.{coded_from}
 use Rattle.dtx_coder.specs.Groups.{Coding, Group, aligned_coding, bytes_of, after_group, coded_groups, bytes_of_groups}
 
 pub in_turn : (coder : Coding) (groups : List Group)

@@ -7,12 +7,10 @@ use Rattle.dtx_laws.specs.Branches.{Branching, HasWidths, spreading, aligned, le
 use Rattle.dtx_laws.specs.Interleaving.{interleaved}
 use Rattle.dtx_laws.proofs.PlacesLemmas.{leaving_append, after_append, length_leaving}
 use Rattle.dtx_frame.specs.Segments.{field_sync}
-use Rattle.dtx_trellis.specs.Trellis.{number_of, state_of, state_after}
-use Rattle.dtx_trellis.specs.Pairs.{groups, group_place}
+use Rattle.dtx_trellis.specs.Trellis.{number_of, state_of, state_after, groups, group_place}
 use Rattle.dtx_trellis.specs.Groups.{coder_after, levels_of, states_after}
 use Rattle.dtx_trellis.proofs.JoinsLemmas.{states_append, levels_append}
-use Rattle.dtx_coder.specs.Coded.{coded_from, coded, spread, whole_groups}
-use Rattle.dtx_coder.specs.Stream.{segment, four_segments, last_of}
+use Rattle.dtx_coder.specs.Stream.{coded_from, coded, spread, whole_groups, segment, four_segments, last_of}
 use Rattle.dtx_coder.specs.Groups.{Coding, Group, aligned_coding, bytes_of, group_levels, air_segments, after_group}
 use Rattle.dtx_coder.specs.Runs.{AreStates}
 use Rattle.dtx_coder.specs.Along.{IsNext, RunsAlong, left_since, levels_since, states_since}

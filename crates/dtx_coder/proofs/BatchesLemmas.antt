@@ -12,9 +12,8 @@ use Rattle.dtx_laws.proofs.PlacesLemmas.{leaving_append, after_append, length_le
 use Rattle.dtx_sizes.specs.Fields.{field_place}
 use Rattle.dtx_sizes.specs.declared.fields.FieldPlace.{FieldPlace}
 use Rattle.dtx_trellis.specs.Groups.{levels_of, states_after}
-use Rattle.dtx_trellis.specs.Pairs.{group_place}
-use Rattle.dtx_coder.specs.Coded.{coded_from}
-use Rattle.dtx_coder.specs.Stream.{segment, four_segments, symbols_of, a53, a53_symbols}
+use Rattle.dtx_trellis.specs.Trellis.{group_place}
+use Rattle.dtx_coder.specs.Stream.{coded_from, segment, four_segments, symbols_of, a53, a53_symbols}
 use Rattle.dtx_coder.specs.Groups.{Coding, Group, IsCoded, StandsFor, sent_segments, bytes_of, group_levels}
 use Rattle.dtx_coder.specs.Groups.{air_segments, after_group, stream_coding, IsNextGroup}
 use Rattle.dtx_coder.specs.Batches.{InterleavedGroup, IsSent, IsAhead, AreInterleaved, interleaved_as, after_bytes}

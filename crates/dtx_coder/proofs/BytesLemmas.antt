@@ -9,9 +9,9 @@ use Rattle.dtx_laws.specs.Interleaving.{interleaved}
 use Rattle.dtx_laws.proofs.ChoiceLemmas.{codeword_length}
 use Rattle.dtx_laws.proofs.PlacesLemmas.{leaving_append, after_append}
 use Rattle.dtx_laws.proofs.InterleavingLemmas.{length-interleaved, leaving_calls_is, zeros_calls}
-use Rattle.dtx_whiten.specs.Randomized.{randomized}
+use Rattle.dtx_whiten.specs.Randomizer.{randomized}
 use Rattle.dtx_whiten.proofs.PacketsLemmas.{length-randomized}
-use Rattle.dtx_coder.specs.Coded.{coded_from, coded, spread, whole_groups}
+use Rattle.dtx_coder.specs.Stream.{coded_from, coded, spread, whole_groups}
 use Rattle.dtx_coder.specs.Groups.{zero_branches}
 
 -- the codeword of packet k

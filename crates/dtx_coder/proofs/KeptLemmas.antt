@@ -7,12 +7,10 @@ use Rattle.dtx_laws.specs.Branches.{HasWidths, spreading}
 use Rattle.dtx_laws.proofs.InterleavingLemmas.{HasWidths-all}
 use Rattle.dtx_frame.specs.Segments.{field_sync}
 use Rattle.dtx_frame.proofs.SymbolsLemmas.{length_front}
-use Rattle.dtx_trellis.specs.Trellis.{AreBits, State, number_of}
-use Rattle.dtx_trellis.specs.Pairs.{groups}
+use Rattle.dtx_trellis.specs.Trellis.{AreBits, State, number_of, groups}
 use Rattle.dtx_trellis.specs.Groups.{coder_after, states_after}
 use Rattle.dtx_trellis.proofs.RoundsLemmas.{coder_bits}
-use Rattle.dtx_coder.specs.Coded.{coded_from}
-use Rattle.dtx_coder.specs.Stream.{segment, four_segments, last_of}
+use Rattle.dtx_coder.specs.Stream.{coded_from, segment, four_segments, last_of}
 use Rattle.dtx_coder.specs.Groups.{Coding, Group, bytes_of, group_levels, air_segments, after_group}
 use Rattle.dtx_coder.specs.Runs.{AreStates}
 use Rattle.dtx_coder.proofs.CountsLemmas.{AreSegments, segments_append, segments_map, segment_at}

@@ -2,11 +2,10 @@
 use Rattle.std.proofs.Common.{◌≡◌, ℕ, ◌+◌, ◌*◌, ◌/◌, ◌%◌, ◌≤◌, List, ◌++◌, length, take, drop, ap, subst, ◌∙◌, arith}
 use Rattle.std.proofs.lemmas.List.{length-take-le, take-append-drop}
 use Rattle.std.proofs.lemmas.List.FromFn.{length-map-range_with_len}
-use Rattle.dtx_trellis.specs.Pairs.{groups, group_place}
+use Rattle.dtx_trellis.specs.Trellis.{groups, group_place}
 use Rattle.dtx_trellis.specs.Groups.{level_at, levels_of, states_after}
 use Rattle.dtx_trellis.proofs.JoinsLemmas.{states_append, levels_append, groups_whole}
-use Rattle.dtx_coder.specs.Coded.{whole_groups}
-use Rattle.dtx_coder.specs.Stream.{zero_states, levels, states}
+use Rattle.dtx_coder.specs.Stream.{whole_groups, zero_states, levels, states}
 use Rattle.dtx_coder.proofs.BytesLemmas.{bytes_behind, length-whole, whole_append, whole_next}
 
 place_is : (u : ℕ) → group_place 0 u ≡ 4 * u % 312

@@ -5,13 +5,11 @@ use Rattle.std.specs.List.{range_with_len, flat_map}
 use Rattle.std.proofs.lemmas.Bool.{cases_Bool, cases_lt, cond-false, eq-eqb, ne_eqb, le-leb, lt-leb, iff_false}
 use Rattle.std.proofs.lemmas.List.{append-nil, length-append, take_all}
 use Rattle.dtx_laws.specs.Branches.{Branching, after_all}
-use Rattle.dtx_trellis.specs.Trellis.{state_after}
-use Rattle.dtx_trellis.specs.Pairs.{groups}
+use Rattle.dtx_trellis.specs.Trellis.{state_after, groups}
 use Rattle.dtx_trellis.specs.Groups.{coder_after, states_after}
 use Rattle.dtx_frame.specs.Segments.{field_sync}
-use Rattle.dtx_coder.specs.Coded.{coded_from, coded, spread, whole_groups}
-use Rattle.dtx_coder.specs.Stream.{zero_states, levels, states, segment, four_segments, last_of, last_before}
-use Rattle.dtx_coder.specs.Stream.{sync_before, group_segments, a53}
+use Rattle.dtx_coder.specs.Stream.{coded_from, coded, spread, whole_groups, zero_states, levels, states, segment}
+use Rattle.dtx_coder.specs.Stream.{four_segments, last_of, last_before, sync_before, group_segments, a53}
 use Rattle.dtx_coder.specs.Groups.{Coding, Group, StandsFor, IsNextGroup, zero_branches, new_coding, stream_coding}
 use Rattle.dtx_coder.specs.Groups.{bytes_of, group_levels, air_segments, after_group}
 use Rattle.dtx_coder.proofs.BytesLemmas.{bytes_behind, branches_append, coded_place}

@@ -9,14 +9,12 @@ use Rattle.dtx_laws.specs.Branches.{spreading, after_all}
 use Rattle.dtx_laws.specs.Whitening.{whitened}
 use Rattle.dtx_laws.specs.Words.{codeword}
 use Rattle.dtx_laws.proofs.InterleavingLemmas.{HasWidths-all, HasWidths-zeroed}
-use Rattle.dtx_outer.specs.Coding.{coded_as, codewords}
+use Rattle.dtx_outer.specs.Outer.{coded_as, codewords, Held}
 use Rattle.dtx_outer.proofs.CodingLemmas.{four_made, written_behind}
-use Rattle.dtx_outer.specs.Outer.{Held}
-use Rattle.dtx_whiten.specs.Randomizer.{randomizer_bytes}
-use Rattle.dtx_whiten.specs.Randomized.{randomized}
+use Rattle.dtx_whiten.specs.Randomizer.{randomizer_bytes, randomized}
 use Rattle.dtx_whiten.proofs.BytesLemmas.{length-randomizer_bytes}
 use Rattle.dtx_whiten.proofs.PacketsLemmas.{randomized_whitened}
-use Rattle.dtx_coder.specs.Coded.{coded_from}
+use Rattle.dtx_coder.specs.Stream.{coded_from}
 use Rattle.dtx_coder.specs.Groups.{IsAtsc, zero_branches}
 use Rattle.dtx_coder.proofs.BytesLemmas.{coded_append, length-coded}
 

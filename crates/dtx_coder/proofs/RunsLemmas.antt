@@ -7,11 +7,10 @@ use Rattle.std.proofs.lemmas.List.{append-nil, append_assoc, drop_at, length-app
 use Rattle.dtx_laws.specs.Branches.{after_all}
 use Rattle.dtx_laws.proofs.PlacesLemmas.{after_append, length_leaving}
 use Rattle.dtx_frame.specs.Segments.{field_sync}
-use Rattle.dtx_trellis.specs.Pairs.{group_place}
+use Rattle.dtx_trellis.specs.Trellis.{group_place}
 use Rattle.dtx_trellis.specs.Groups.{levels_of, states_after}
 use Rattle.dtx_trellis.proofs.JoinsLemmas.{states_append, levels_append}
-use Rattle.dtx_coder.specs.Coded.{coded_from, coded}
-use Rattle.dtx_coder.specs.Stream.{segment, four_segments, last_of}
+use Rattle.dtx_coder.specs.Stream.{coded_from, coded, segment, four_segments, last_of}
 use Rattle.dtx_coder.specs.Groups.{Coding, Group, bytes_of, group_levels, air_segments, after_group, coded_groups}
 use Rattle.dtx_coder.specs.Groups.{bytes_of_groups}
 use Rattle.dtx_coder.specs.Runs.{AreInTurn, GoOn, IsGroupRun, after_groups, segments_of_groups, group_packets, last_in}

@@ -8,12 +8,11 @@ use Rattle.std.proofs.lemmas.Grind.{flat_map-append}
 use Rattle.dtx_lists.proofs.Range.{range_with_len-parts}
 use Rattle.dtx_lists.proofs.RangeMoved.{flat_map-range_same}
 use Rattle.dtx_frame.specs.Segments.{field_sync}
-use Rattle.dtx_trellis.specs.Pairs.{group_place}
+use Rattle.dtx_trellis.specs.Trellis.{group_place}
 use Rattle.dtx_trellis.specs.Groups.{levels_of, states_after}
 use Rattle.dtx_trellis.proofs.JoinsLemmas.{levels_append}
-use Rattle.dtx_coder.specs.Coded.{whole_groups}
-use Rattle.dtx_coder.specs.Stream.{levels, states, segment, four_segments, last_of, no_last, last_before, sync_before}
-use Rattle.dtx_coder.specs.Stream.{group_segments, a53}
+use Rattle.dtx_coder.specs.Stream.{whole_groups, levels, states, segment, four_segments, last_of, no_last, last_before}
+use Rattle.dtx_coder.specs.Stream.{sync_before, group_segments, a53}
 use Rattle.dtx_coder.proofs.BytesLemmas.{length-whole}
 use Rattle.dtx_coder.proofs.LevelsLemmas.{levels_behind, length-levels, length-levels_of, levels_from, levels_more}
 use Rattle.dtx_coder.proofs.SegmentsLemmas.{segment_front, four_back, four_front}

@@ -4,8 +4,7 @@
 use Rattle.std.specs.Prelude.{ℕ, ◌≡◌, ◌-◌, ◌*◌, ◌%◌, ◌<◌, ◌≤◌, List, length, drop}
 use Rattle.dtx_laws.specs.Branches.{Branching, HasWidths, spreading, aligned, leaving_all, after_all}
 use Rattle.dtx_trellis.specs.Groups.{levels_of, states_after}
-use Rattle.dtx_coder.specs.Coded.{coded, whole_groups}
-use Rattle.dtx_coder.specs.Stream.{segment, last_of}
+use Rattle.dtx_coder.specs.Stream.{coded, whole_groups, segment, last_of}
 use Rattle.dtx_coder.specs.Groups.{Coding, Group}
 
 -- the levels of these packets from group g on, where the coders start that group in the states q; and the states after

@@ -2,8 +2,7 @@
 use Rattle.std.specs.Prelude.{ℕ, ℤ, ◌≡◌, ◌-◌, ◌*◌, Bool, List, [], ◌∷◌, ◌++◌, length, take, drop}
 use Rattle.dtx_laws.specs.Branches.{leaving_all, after_all}
 use Rattle.dtx_trellis.specs.Groups.{levels_of, states_after}
-use Rattle.dtx_coder.specs.Coded.{coded_from}
-use Rattle.dtx_coder.specs.Stream.{segment, last_of, symbols_of}
+use Rattle.dtx_coder.specs.Stream.{coded_from, segment, last_of, symbols_of}
 use Rattle.dtx_coder.specs.Groups.{Coding, Group, sent_segments, stream_coding}
 
 -- A group whose packets have left the interleaver as these bytes: the place of its first packet in a field, whether

@@ -7,9 +7,8 @@ use Rattle.dtx_laws.specs.Branches.{Branching, HasWidths, spreading, zeroed, ali
 use Rattle.dtx_outer.specs.Outer.{Held}
 use Rattle.dtx_trellis.specs.Groups.{levels_of, states_after}
 use Rattle.dtx_whiten.specs.Randomizer.{randomizer_bytes}
-use Rattle.dtx_coder.specs.Coded.{coded_from, coded}
-use Rattle.dtx_coder.specs.Stream.{zero_states, states, segment, four_segments, last_of, no_last, last_before}
-use Rattle.dtx_coder.specs.Stream.{symbols_of}
+use Rattle.dtx_coder.specs.Stream.{coded_from, coded, zero_states, states, segment, four_segments, last_of, no_last}
+use Rattle.dtx_coder.specs.Stream.{last_before, symbols_of}
 
 -- the state numbers of trellis coders 0 to 11, the last twelve symbols given, and the interleaver's branches
 pub record Coding : Type 0 where

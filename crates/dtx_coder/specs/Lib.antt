@@ -1,4 +1,3 @@
-pub mod Coded
 pub mod Stream
 pub mod Groups
 pub mod Batches

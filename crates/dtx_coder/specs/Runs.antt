@@ -4,7 +4,7 @@ use Rattle.std.specs.Prelude.{ℕ, ℤ, ◌≡◌, ◌-◌, ◌*◌, ◌<◌, �
 use Rattle.std.specs.Prelude.{slice_index}
 use Rattle.std.specs.List.{enumerate_from, flat_map}
 use Rattle.dtx_frame.specs.Segments.{field_sync}
-use Rattle.dtx_trellis.specs.Pairs.{group_place}
+use Rattle.dtx_trellis.specs.Trellis.{group_place}
 use Rattle.dtx_coder.specs.Stream.{segment, four_segments, last_of}
 use Rattle.dtx_coder.specs.Groups.{Coding, Group, air_segments, after_group}
 

@@ -1,12 +1,30 @@
 -- The segments of a stream of packets (ATSC A/53 Part 2). Packets are counted from 0, and packet 0 begins a first
--- field.
--- Only whole groups of four packets are sent.
+-- field. Only whole groups of four packets are sent.
 use Rattle.std.specs.Prelude.{ℕ, ℤ, negsuc, ◌+◌, ◌-◌, ◌*◌, ◌/◌, ◌%◌, ◌==◌, nat_le, if◌then◌else◌, List, [], ◌∷◌, ◌++◌}
-use Rattle.std.specs.Prelude.{length, map, drop, replicate, slice_range}
-use Rattle.std.specs.List.{range_with_len, flat_map}
+use Rattle.std.specs.Prelude.{length, map, drop, replicate, slice_range, take}
+use Rattle.std.specs.List.{range_with_len, flat_map, enumerate_from}
 use Rattle.dtx_frame.specs.Segments.{data_segment, field_sync}
 use Rattle.dtx_trellis.specs.Groups.{levels_of, states_after}
-use Rattle.dtx_coder.specs.Coded.{whole_groups}
+use Rattle.dtx_laws.specs.Words.{codeword}
+use Rattle.dtx_laws.specs.Interleaving.{interleaved}
+use Rattle.dtx_whiten.specs.Randomizer.{randomized}
+
+-- The codewords, one after another, of packets that follow each other in a stream, from packet k on. Each is that of
+-- the randomized packet (data randomizer and Reed-Solomon encoder).
+unfoldable pub coded_from : ℕ → List (List ℕ) → List ℕ
+coded_from k packets = flat_map (λ p. codeword 207 187 (randomized p.0 p.1)) (enumerate_from k packets)
+
+-- the codewords of a stream
+abbrev pub coded : List (List ℕ) → List ℕ
+coded packets = coded_from 0 packets
+
+-- the stream's bytes as the interleaver gives them (interleaving)
+unfoldable pub spread : List (List ℕ) → List ℕ
+spread packets = interleaved 52 4 (coded packets)
+
+-- those of the whole groups of four packets, 828 for each
+unfoldable pub whole_groups : List (List ℕ) → List ℕ
+whole_groups packets = take (828 * (length packets / 4)) (spread packets)
 
 -- all coders in state 0
 unfoldable pub zero_states : List ℕ

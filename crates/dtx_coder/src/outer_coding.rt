@@ -3,7 +3,7 @@
 ghost use Rattle.std.specs.Prelude.{◌≡◌, ◌+◌, ◌*◌, ◌%◌, ◌≤◌, IfOk, drop, length, map};
 ghost use Rattle.dtx_laws.specs.Branches.{leaving_all, after_all};
 ghost use Rattle.dtx_whiten.specs.Randomizer.{randomizer_bytes};
-ghost use Rattle.dtx_coder.specs.Coded.{coded_from};
+ghost use Rattle.dtx_coder.specs.Stream.{coded_from};
 ghost use Rattle.dtx_coder.specs.Groups.{zero_branches};
 
 use crate::tables::Tables;

@@ -4,10 +4,9 @@ use Rattle.std.proofs.Common.{bit_xor, refl, sym, ap, ap₂, ◌∙◌, arith, i
 use Rattle.std.proofs.lemmas.Bool.{and_parts, not-true, eqb-false}
 use Rattle.std.proofs.lemmas.List.{length-map, get_or-map}
 use Rattle.std.specs.Int.Bits.{xor_self, xor_zero_r, xor_lt}
-use Rattle.dtx_galois.specs.Field.{mul}
+use Rattle.dtx_galois.specs.Field.{mul, sums, scaled}
 use Rattle.dtx_galois.proofs.LinearLemmas.{mul_left, mul_right, xor_swap}
 use Rattle.dtx_galois.proofs.FieldLemmas.{mul_comm, mul_assoc, mul_one, mul_zero, mul_small}
-use Rattle.dtx_galois.specs.Word.{sums, scaled}
 use Rattle.dtx_galois.proofs.WordsLemmas.{length_sums, bytes_sums, bytes_scaled}
 use Rattle.dtx_laws.specs.Locator.{combination}
 use Rattle.dtx_laws.proofs.PartsLemmas.{sums_at}

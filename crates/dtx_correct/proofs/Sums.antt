@@ -3,8 +3,7 @@ use Rattle.std.proofs.Common.{◌≡◌, ℕ, ◌+◌, ◌-◌, ◌<◌, List, l
 use Rattle.std.proofs.lemmas.List.{ext_get_or, get_or-map, length-map}
 use Rattle.std.proofs.Math.Seq.{drop-cons}
 use Rattle.dtx_laws.specs.Locator.{combination}
-use Rattle.dtx_galois.specs.Field.{mul}
-use Rattle.dtx_galois.specs.Word.{sums, scaled}
+use Rattle.dtx_galois.specs.Field.{mul, sums, scaled}
 use Rattle.dtx_galois.proofs.WordsLemmas.{length_sums}
 use Rattle.dtx_laws.proofs.PartsLemmas.{sums_at}
 

@@ -2,8 +2,7 @@
 use Rattle.std.specs.Prelude.{ℕ, ◌≡◌, ◌+◌, ◌<◌, Bool, true, if◌then◌else◌, List, [], length, slice_index}
 use Rattle.std.specs.Prelude.{slice_index_or, take}
 use Rattle.std.proofs.Common.{zero, suc}
-use Rattle.dtx_galois.specs.Field.{mul, AreBytes}
-use Rattle.dtx_galois.specs.Word.{sums, scaled}
+use Rattle.dtx_galois.specs.Field.{mul, AreBytes, sums, scaled}
 use Rattle.dtx_laws.specs.Locator.{combination}
 use Rattle.dtx_correct.specs.declared.locator.TheConstants.{WIDTH}
 

@@ -2,8 +2,7 @@
 
 ghost use Rattle.std.specs.Prelude.{◌≡◌, ◌≢◌, ℕ, ◌+◌, ◌<◌, ◌≤◌, [], true, IfNone, IfSome, length, slice_index};
 ghost use Rattle.std.specs.Prelude.{slice_index_or, take};
-ghost use Rattle.dtx_galois.specs.Field.{mul, pow};
-ghost use Rattle.dtx_galois.specs.Word.{scaled, sums};
+ghost use Rattle.dtx_galois.specs.Field.{mul, pow, scaled, sums};
 ghost use Rattle.dtx_laws.specs.Locator.{combination, is_marked};
 ghost use Rattle.dtx_correct.specs.Elimination.{Solves, count, reduced, vector};
 

@@ -5,9 +5,8 @@ use Rattle.std.proofs.Common.{sym, ap, ap₂, ◌∙◌, arith}
 use Rattle.std.specs.List.{concat}
 use Rattle.std.proofs.Math.Seq.{take-add}
 use Rattle.std.proofs.lemmas.List.{length-drop, length-take-le}
-use Rattle.dtx_outer.specs.Coding.{coded_as, codewords}
+use Rattle.dtx_outer.specs.Outer.{coded_as, codewords, coded}
 use Rattle.dtx_outer.proofs.CodingLemmas.{four_made, written_behind}
-use Rattle.dtx_outer.specs.Outer.{coded}
 use Rattle.dtx_dvb.specs.Randomizer.{randomizer_bytes}
 use Rattle.dtx_dvb.proofs.RandomizerLemmas.{length-randomizer_bytes}
 use Rattle.dtx_dvb.specs.Stream.{block_of, blocks_from}

@@ -14,8 +14,7 @@ use Rattle.dtx_laws.proofs.PlacesLemmas.{leaving_append, after_append}
 use Rattle.dtx_laws.proofs.InterleavingLemmas.{length-interleaved, get_or-interleaved, zeros_give}
 use Rattle.dtx_dvb.specs.Randomizer.{randomizer_byte, randomizer_bytes}
 use Rattle.dtx_dvb.proofs.RandomizerLemmas.{get_or-randomizer_bytes}
-use Rattle.dtx_dvb.specs.Stream.{randomized, block_of, blocks_from, blocks, dvb, zero_branches}
-use Rattle.dtx_dvb.specs.Sending.{HasSent}
+use Rattle.dtx_dvb.specs.Stream.{randomized, block_of, blocks_from, blocks, dvb, zero_branches, HasSent}
 
 -- ---- packets
 

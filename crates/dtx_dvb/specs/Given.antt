@@ -3,7 +3,7 @@ use Rattle.std.specs.Prelude.{ℕ, ◌*◌, ◌/◌, ◌%◌, List, [], ◌∷�
 use Rattle.std.specs.List.{range_with_len, flat_map}
 use Rattle.dtx_outer.specs.declared.inner.Taken.{Taken}
 use Rattle.dtx_outer.specs.declared.inner.Taken.TheVariants.{None, Good, Bad}
-use Rattle.dtx_packets.specs.Packet.{with_error}
+use Rattle.dtx_packets.specs.Packets.{with_error}
 use Rattle.dtx_dvb.specs.Read.{Read}
 use Rattle.dtx_dvb.specs.Reading.{with_sync}
 

@@ -7,7 +7,7 @@ use Rattle.dtx_laws.specs.Whitening.{whitened}
 use Rattle.dtx_laws.specs.Words.{correction}
 use Rattle.dtx_outer.specs.Inner.{word_at}
 use Rattle.dtx_outer.specs.declared.inner.Taken.TheVariants.{Good, Bad}
-use Rattle.dtx_packets.specs.Packet.{with_error}
+use Rattle.dtx_packets.specs.Packets.{with_error}
 use Rattle.dtx_dvb.specs.Randomizer.{randomizer_bytes}
 use Rattle.dtx_dvb.specs.Read.{Read}
 

@@ -1,12 +1,13 @@
 -- A stream of packets as it is sent (EN 300 429). A packet is its list of 188 bytes. Packets are counted from 0, and
 -- packet 0 is the first of a group of eight.
-use Rattle.std.specs.Prelude.{ℕ, ◌+◌, ◌*◌, ◌%◌, List, map, slice_index}
+use Rattle.std.specs.Prelude.{ℕ, ◌+◌, ◌*◌, ◌%◌, List, map, slice_index, ◌≡◌}
 use Rattle.std.specs.List.{range_with_len, enumerate_from, flat_map}
 use Rattle.std.specs.Int.RustNames.{bit_xor}
-use Rattle.dtx_laws.specs.Branches.{Branching, spreading, zeroed}
+use Rattle.dtx_laws.specs.Branches.{Branching, spreading, zeroed, after_all}
 use Rattle.dtx_laws.specs.Words.{codeword}
 use Rattle.dtx_laws.specs.Interleaving.{interleaved}
 use Rattle.dtx_dvb.specs.Randomizer.{randomizer_byte}
+use Rattle.dtx_outer.specs.Inner.{Kept, StandsFor}
 
 -- packet k with the randomizer's bytes from 188 * (k mod 8) on added bit by bit to all of its bytes (7.1)
 unfoldable pub randomized : ℕ → List ℕ → List ℕ
@@ -33,3 +34,11 @@ dvb packets = interleaved 12 17 (blocks packets)
 -- the interleaver with zeros in every branch
 abbrev pub zero_branches : Branching
 zero_branches = zeroed 12 (spreading 17)
+
+-- The branches hold what the blocks of these packets leave, from zeros in every branch on.
+pub record HasSent (packets : List (List ℕ)) (held : Branching) : Type 0 where
+  pub branches : held ≡ after_all 12 zero_branches (blocks packets)
+
+-- What a reader keeps is what these bytes of a stream leave, which are whole blocks.
+abbrev pub HasRead : List ℕ → Kept → Type 0
+HasRead bytes kept = StandsFor 204 188 12 17 kept bytes

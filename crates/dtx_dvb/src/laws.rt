@@ -16,8 +16,7 @@ ghost use Rattle.dtx_dvb.specs.Randomizer.{randomizer_bit, randomizer_byte, rand
 ghost use Rattle.dtx_dvb.specs.Given.{given};
 ghost use Rattle.dtx_dvb.specs.Read.{Read, fixed_in, fixed_of, flag_of, flagged_in};
 ghost use Rattle.dtx_dvb.specs.Reading.{read_at, read_dvb};
-ghost use Rattle.dtx_dvb.specs.Sending.{HasSent};
-ghost use Rattle.dtx_dvb.specs.Stream.{block_of, blocks, blocks_from, dvb, randomized};
+ghost use Rattle.dtx_dvb.specs.Stream.{HasSent, block_of, blocks, blocks_from, dvb, randomized};
 
 use crate::sizes::{BLOCK, BRANCH_STEP, BRANCHES, PERIOD, PERIOD_PACKETS, WAITING};
 use dtx_outer::Taken;

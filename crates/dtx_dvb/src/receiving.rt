@@ -1,10 +1,10 @@
 //! From the bytes that were sent to packets.
 
 ghost use Rattle.std.specs.Prelude.{◌≡◌, ℕ, ◌+◌, ◌*◌, ◌<◌, ◌++◌, [], List, IfOk, length, slice_index_or};
-ghost use Rattle.dtx_packets.specs.Packet.{with_error};
+ghost use Rattle.dtx_packets.specs.Packets.{with_error};
 ghost use Rattle.dtx_dvb.specs.Randomizer.{randomizer_bytes};
 ghost use Rattle.dtx_dvb.specs.Reading.{read_dvb};
-ghost use Rattle.dtx_dvb.specs.Sending.{HasRead};
+ghost use Rattle.dtx_dvb.specs.Stream.{HasRead};
 ghost use Rattle.dtx_dvb.specs.Given.{all_given, finished, given};
 
 use crate::randomizer::Dvb;

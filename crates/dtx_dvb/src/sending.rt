@@ -3,8 +3,7 @@
 ghost use Rattle.std.specs.Prelude.{◌≡◌, ℕ, ◌+◌, ◌*◌, ◌%◌, ◌<◌, ◌≤◌, ◌++◌, ◌∷◌, [], List, IfOk, length};
 ghost use Rattle.dtx_laws.specs.Branches.{leaving_all, after_all};
 ghost use Rattle.dtx_dvb.specs.Randomizer.{randomizer_bytes};
-ghost use Rattle.dtx_dvb.specs.Stream.{block_of, blocks_from, dvb, zero_branches};
-ghost use Rattle.dtx_dvb.specs.Sending.{HasSent};
+ghost use Rattle.dtx_dvb.specs.Stream.{block_of, blocks_from, dvb, zero_branches, HasSent};
 
 use crate::randomizer::Dvb;
 use crate::sizes::{BLOCK, BRANCH_STEP, BRANCHES, FOUR, FOUR_BLOCKS, PERIOD_PACKETS};

@@ -4,8 +4,7 @@ use Rattle.std.specs.Prelude.{Option, Err, IsErrOf}
 use Rattle.std.specs.Option.{option_map}
 use Rattle.std.proofs.lemmas.List.{append-nil}
 use Rattle.dtx_outside.specs.Counts.{Counts, HasGone, Rose, blame_of_write}
-use Rattle.dtx_outside.specs.Shelf.{Files, with_file}
-use Rattle.dtx_outside.specs.Written.{IsGathered, IsWritten}
+use Rattle.dtx_outside.specs.Shelf.{Files, with_file, IsGathered, IsWritten}
 use Rattle.dtx_outside.specs.declared.shelf.WriteNo.{WriteNo}
 use Rattle.dtx_outside.specs.declared.shelf.WriteNo.TheVariants.{Failed, Memory}
 use Rattle.dtx_engine.specs.Made.{Made, outputs_of}

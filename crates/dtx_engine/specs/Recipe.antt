@@ -5,13 +5,13 @@ use Rattle.std.specs.FinMap.{get}
 use Rattle.std.specs.List.{find, range_with_len}
 use Rattle.std.specs.Str.{bytes_eq}
 use Rattle.dtx_outside.specs.Shelf.{Files}
-use Rattle.dtx_meaning.specs.Meaning.{Meaning, refused}
+use Rattle.dtx_meaning.specs.Meaning.{Meaning, refused, each}
 use Rattle.dtx_meaning.specs.Status.{ended}
 use Rattle.dtx_meaning.specs.declared.status.Outcome.{Outcome}
 use Rattle.dtx_meaning.specs.declared.status.Status.{Status}
 use Rattle.dtx_meaning.specs.declared.status.Status.TheVariants.{Absent, Packet, Same, TooLong, ReadFault, WriteFault}
 use Rattle.dtx_meaning.specs.declared.status.Status.TheVariants.{Memory}
-use Rattle.dtx_engine.specs.Made.{Made, joined, outputs_of}
+use Rattle.dtx_engine.specs.Made.{Made, joined, outputs_of, only}
 use Rattle.dtx_engine.specs.declared.engine.Shape.{Shape}
 use Rattle.dtx_engine.specs.declared.piece.Ending.{Ending}
 use Rattle.dtx_engine.specs.declared.piece.Ending.TheVariants.{Whole, Refused}
@@ -131,3 +131,13 @@ meaning shape recipe which names (Some file) = meaning_of_file shape recipe name
 abbrev pub transformed : Shape → Recipe → List ℕ → List ℕ → Files → Meaning
 transformed shape recipe input output held =
     if bytes_eq input output then refused Same else meaning shape recipe 0 (output ∷ []) (get held input)
+
+-- the recipe of an input whose units are each changed in place
+abbrev pub each_making
+    : Shape → (ℕ → List ℕ → Bool) → (List ℕ → List ℕ → List ℕ) → (List ℕ → ℕ → Outcome) → Recipe
+each_making shape allowed changed answer = record {
+  allows = allowed;
+  made = λ bytes. only (each shape.unit changed [] (length bytes / shape.unit) bytes);
+  rest = λ _. only [];
+  answer = answer;
+}

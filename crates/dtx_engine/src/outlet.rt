@@ -90,7 +90,7 @@ impl<'a> OneOutput<'a> {
 #[tactic(auto, using(dtx_meaning::proofs::MeaningLemmas::write_is_fault))]
 impl<'a> Outlet for OneOutput<'a> {
     ghost use Rattle.std.proofs.Common.{◌≡◌, [], ◌∷◌, inr};
-    ghost use Rattle.dtx_outside.specs.Written.{IsGathered};
+    ghost use Rattle.dtx_outside.specs.Shelf.{IsGathered};
 
     ghost names = { λ w. w.name.now ∷ [] };
 

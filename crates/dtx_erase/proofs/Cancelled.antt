@@ -2,8 +2,7 @@
 use Rattle.std.proofs.Common.{◌≡◌, ℕ, suc, ◌+◌, ◌<◌, Bool, true, false, List, ◌∷◌, length, get_or, bit_xor, sym, ap}
 use Rattle.std.proofs.Common.{ap₂, ◌∙◌, arith, add-one}
 use Rattle.dtx_galois.specs.Field.{mul}
-use Rattle.dtx_laws.specs.Locator.{power_at}
-use Rattle.dtx_laws.specs.ErrorValues.{others, without}
+use Rattle.dtx_laws.specs.Locator.{power_at, others, without}
 use Rattle.dtx_erase.proofs.Marked.{others_by}
 
 pub rest_yes : (n q m y : ℕ) (mark : ℕ → Bool) (s : ℕ → ℕ) (new old : List ℕ) → q < n → mark q ≡ true → y ≡ power_at n q

@@ -4,8 +4,7 @@ use Rattle.std.proofs.Common.{false, List, [], ◌∷◌, length, get_or, take, 
 use Rattle.std.proofs.Common.{arith}
 use Rattle.std.proofs.lemmas.Bool.{ne_eqb, eq-eqb, eqb-true}
 use Rattle.std.proofs.lemmas.List.{take_all}
-use Rattle.dtx_laws.specs.Locator.{is_marked, power_at}
-use Rattle.dtx_laws.specs.ErrorValues.{others}
+use Rattle.dtx_laws.specs.Locator.{is_marked, power_at, others}
 use Rattle.dtx_erase.specs.Mending.{lost}
 
 pub length_chosen : (u : Bool) (x : ℕ) (xs : List ℕ) → length (cond u (x ∷ xs) xs) ≡ cond u 1 0 + length xs

@@ -4,7 +4,7 @@ use Rattle.std.proofs.Common.{length, map, take, get_or, refl, sym, ap, apâ‚‚, â
 use Rattle.std.specs.Prelude.{Result, Ok, Err, MatchResult}
 use Rattle.std.proofs.lemmas.Bool.{ne_eqb}
 use Rattle.std.proofs.lemmas.List.{ext_get_or, get_or-map, length-map}
-use Rattle.dtx_packets.specs.Packet.{with_error}
+use Rattle.dtx_packets.specs.Packets.{with_error}
 use Rattle.dtx_receiver.specs.declared.batch.Received.{Received}
 use Rattle.dtx_receiver.specs.Packets.{received_by}
 use Rattle.dtx_laws.specs.Whitening.{whitened}

@@ -2,7 +2,7 @@
 use Rattle.std.proofs.Common.{◌≡◌, ℕ, List, Bool, length, arith}
 use Rattle.std.specs.Prelude.{Result, Ok, Err, MatchResult}
 use Rattle.dtx_laws.specs.Codeword.{IsCodeword}
-use Rattle.dtx_laws.specs.Correction.{IsCorrected, IsLeft}
+use Rattle.dtx_laws.specs.Words.{IsCorrected, IsLeft}
 use Rattle.dtx_erase.specs.Mending.{lost, IsMending, IsAnswered, IsUnmended}
 use Rattle.dtx_erase.proofs.MendingLemmas.{correction_mends, mending_corrects}
 

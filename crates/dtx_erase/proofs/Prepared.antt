@@ -2,8 +2,7 @@
 use Rattle.std.proofs.Common.{◌≡◌, ℕ, ◌-◌, ◌*◌, ◌/◌, ◌<◌, ◌≤◌, Bool, List, length, arith}
 use Rattle.dtx_galois.specs.Field.{pow, value, AreBytes}
 use Rattle.dtx_laws.specs.Codeword.{IsCode}
-use Rattle.dtx_laws.specs.ErrorValues.{others, without}
-use Rattle.dtx_laws.specs.Locator.{is_marked}
+use Rattle.dtx_laws.specs.Locator.{others, without, is_marked}
 use Rattle.dtx_erase.specs.Mending.{lost}
 use Rattle.dtx_erase.proofs.Restored.{AreMarked}
 

@@ -14,9 +14,8 @@ use Rattle.dtx_laws.proofs.PlacesLemmas.{Holds, Holds-step, Holds-turn, after_ap
 use Rattle.dtx_slice.specs.Unrolled.{symbol_place, precoder_bit, pair_from, pair_back, byte_back, bytes_back}
 use Rattle.dtx_slice.specs.Unrolled.{level_groups, precoder_bits_after}
 use Rattle.dtx_slice.specs.Slicing.{sliced, sliced_data}
-use Rattle.dtx_receiver.specs.Bytes.{data_count, bytes_in}
+use Rattle.dtx_receiver.specs.Bytes.{data_count, bytes_in, symbols_in, symbols_of}
 use Rattle.dtx_receiver.specs.Receiver.{AreGrouped}
-use Rattle.dtx_receiver.specs.Symbols.{symbols_in, symbols_of}
 use Rattle.dtx_receiver.proofs.GroupedLemmas.{flat, grouping, grouped_data, grouped_group, grouped_none}
 use Rattle.dtx_receiver.proofs.LevelsLemmas.{part_now, not_due_now}
 use Rattle.dtx_erase.specs.Sides as sides

@@ -5,8 +5,7 @@ use Rattle.std.specs.Int.Bits.{xor_self, xor_zero_r, xor_comm, xor_assoc, xor_lt
 use Rattle.dtx_galois.specs.Field.{mul, pow}
 use Rattle.dtx_galois.proofs.LinearLemmas.{mul_right, xor_swap}
 use Rattle.dtx_galois.proofs.FieldLemmas.{mul_comm, mul_assoc, mul_one, mul_zero, mul_small, mul_swap, pow_small}
-use Rattle.dtx_laws.specs.ErrorValues.{others, weight, without, error_at}
-use Rattle.dtx_laws.specs.Locator.{combination, low_value, power_at}
+use Rattle.dtx_laws.specs.Locator.{others, weight, without, error_at, combination, low_value, power_at}
 use Rattle.dtx_laws.proofs.OthersLemmas.{weight_small}
 use Rattle.dtx_laws.proofs.PairsLemmas.{without_is}
 use Rattle.dtx_fast.proofs.QuotientLemmas.{combination_turned, turned_small}

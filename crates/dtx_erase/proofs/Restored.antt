@@ -8,8 +8,7 @@ use Rattle.dtx_galois.specs.Field.{mul, pow, value, AreBytes}
 use Rattle.dtx_galois.proofs.FieldLemmas.{mul_comm}
 use Rattle.dtx_galois.proofs.ValuesLemmas.{value_more}
 use Rattle.dtx_laws.specs.Codeword.{IsCorrection}
-use Rattle.dtx_laws.specs.Locator.{low_value, is_marked, power_at, vanishes_at}
-use Rattle.dtx_laws.specs.ErrorValues.{others, weight, without, patched_at}
+use Rattle.dtx_laws.specs.Locator.{low_value, is_marked, power_at, vanishes_at, others, weight, without, patched_at}
 use Rattle.dtx_laws.proofs.KernelLemmas.{kernel, same_sequence}
 use Rattle.dtx_laws.proofs.OthersLemmas.{few_others, weight_at_other, weight_not_zero}
 use Rattle.dtx_laws.proofs.PatchingLemmas.{others_same, patched_other}

@@ -9,7 +9,7 @@ use Rattle.dtx_galois.proofs.FieldLemmas.{mul_zero, mul_small, xor_zero, no_divi
 use Rattle.dtx_galois.proofs.LinearLemmas.{mul_left}
 use Rattle.dtx_galois.proofs.PowersLemmas.{pow_swap}
 use Rattle.dtx_laws.specs.Codeword.{IsCorrection, distance}
-use Rattle.dtx_laws.specs.ErrorValues.{weight, without}
+use Rattle.dtx_laws.specs.Locator.{weight, without}
 use Rattle.dtx_laws.proofs.MomentsLemmas.{moment}
 use Rattle.dtx_laws.proofs.OthersLemmas.{weight_small}
 use Rattle.dtx_laws.proofs.PairsLemmas.{without_is}

@@ -3,8 +3,7 @@ use Rattle.std.proofs.Common.{◌≡◌, ℕ, zero, suc, ◌+◌, ◌-◌, ◌<�
 use Rattle.std.proofs.Common.{List, length, set, refl, ap, ◌∙◌, subst, arith}
 use Rattle.std.proofs.lemmas.Bool.{eqb-true, eqb-false}
 use Rattle.std.proofs.lemmas.List.{get_or-set_same, get_or-set_other}
-use Rattle.dtx_laws.specs.ErrorValues.{others}
-use Rattle.dtx_laws.specs.Locator.{is_marked, power_at}
+use Rattle.dtx_laws.specs.Locator.{others, is_marked, power_at}
 use Rattle.dtx_erase.proofs.Marked.{others_by, length_chosen}
 
 length_by : (n q : ℕ) (mark : ℕ → Bool) → q < n

@@ -1,7 +1,7 @@
 //! From the segments of a run, some of whose symbols are missing, to packets.
 
 ghost use Rattle.std.specs.Prelude.{◌≡◌, ◌+◌, ◌*◌, ◌%◌, ◌<◌, ◌≤◌, ◌++◌, ◌∷◌, [], length, map};
-ghost use Rattle.dtx_receiver.specs.Symbols.{symbols_of};
+ghost use Rattle.dtx_receiver.specs.Bytes.{symbols_of};
 ghost use Rattle.dtx_erase.specs.Sides.{AreGiven, mended_word, word_of};
 
 use crate::mark_side::MarkSide;

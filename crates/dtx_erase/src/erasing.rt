@@ -2,9 +2,8 @@
 
 ghost use Rattle.std.specs.Prelude.{◌≡◌, ◌↔◌, ◌+◌, ◌-◌, ◌*◌, ◌≤◌, ℕ, List, IsTrue, MatchResult, length};
 ghost use Rattle.dtx_galois.specs.Field.{AreBytes};
-ghost use Rattle.dtx_laws.specs.Codeword.{IsCode, IsCodeword};
-ghost use Rattle.dtx_laws.specs.Correction.{AreCorrected};
-ghost use Rattle.dtx_laws.specs.Syndromes.{AreSyndromes};
+ghost use Rattle.dtx_laws.specs.Codeword.{IsCode, IsCodeword, AreSyndromes};
+ghost use Rattle.dtx_laws.specs.Words.{AreCorrected};
 ghost use Rattle.dtx_erase.specs.Mending.{IsAnswered, IsDeclined, IsMended, IsMending, lost, unmarked_distance};
 
 use crate::marks::{first_left, lost, suspects, unmarked_distance};

@@ -5,9 +5,8 @@ ghost use Rattle.std.specs.Prelude.{true, ◌≢◌, [], List, length, map, negs
 ghost use Rattle.std.specs.Int.{w8, cast_signed};
 ghost use Rattle.std.specs.List.{AllByRecursion};
 ghost use Rattle.dtx_outer.specs.Inner.{word_at};
-ghost use Rattle.dtx_receiver.specs.Bytes.{bytes_in, groups_of};
+ghost use Rattle.dtx_receiver.specs.Bytes.{bytes_in, groups_of, symbols_in};
 ghost use Rattle.dtx_receiver.specs.Receiver.{AreGrouped};
-ghost use Rattle.dtx_receiver.specs.Symbols.{symbols_in};
 ghost use Rattle.dtx_slice.specs.Slicing.{sliced_data};
 ghost use Rattle.dtx_erase.specs.Marks.{shown, shown_run};
 ghost use Rattle.dtx_erase.specs.Sides.{Holds, IsFurther, IsQuiet, word_of};

@@ -3,8 +3,7 @@
 ghost use Rattle.std.specs.Prelude.{◌≡◌, ℕ, ◌+◌, ◌-◌, ◌<◌, ◌≤◌, ◌==◌, ◌&&◌, ◌||◌, not, if◌then◌else◌};
 ghost use Rattle.std.specs.Prelude.{IsTrue, length, slice_index, take};
 ghost use Rattle.dtx_galois.specs.Field.{AreBytes, value};
-ghost use Rattle.dtx_laws.specs.ErrorValues.{others, without};
-ghost use Rattle.dtx_laws.specs.Locator.{is_marked, power_at};
+ghost use Rattle.dtx_laws.specs.Locator.{others, without, is_marked, power_at};
 ghost use Rattle.dtx_erase.specs.Mending.{lost, unmarked_distance};
 
 use dtx_galois::eval;

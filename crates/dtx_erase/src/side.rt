@@ -6,9 +6,8 @@ ghost use Rattle.std.specs.List.{flat_map};
 ghost use Rattle.dtx_laws.specs.Branches.{HasWidths, gathering, leaving_all, after_all};
 ghost use Rattle.dtx_outer.specs.Inner.{word_at};
 ghost use Rattle.dtx_slice.specs.Unrolled.{precoder_bits_after};
-ghost use Rattle.dtx_receiver.specs.Bytes.{groups_of, bytes_in};
+ghost use Rattle.dtx_receiver.specs.Bytes.{groups_of, bytes_in, symbols_in};
 ghost use Rattle.dtx_receiver.specs.Receiver.{AreGrouped};
-ghost use Rattle.dtx_receiver.specs.Symbols.{symbols_in};
 ghost use Rattle.dtx_erase.specs.Sides.{Holds, IsFurther, word_of};
 
 use dtx_laws::Gather;

@@ -4,8 +4,7 @@
 ghost use Rattle.std.specs.Prelude.{◌≡◌, ℕ, ◌+◌, ◌<◌, ◌≤◌, Bool, [], true, length, slice_index};
 ghost use Rattle.std.specs.Int.RustNames.{bit_xor};
 ghost use Rattle.dtx_galois.specs.Field.{mul};
-ghost use Rattle.dtx_laws.specs.ErrorValues.{error_at, others, patched_at};
-ghost use Rattle.dtx_laws.specs.Locator.{is_marked};
+ghost use Rattle.dtx_laws.specs.Locator.{error_at, others, patched_at, is_marked};
 ghost use Rattle.dtx_laws.specs.declared.correcting.TheConstants.{ROOM};
 ghost use Rattle.dtx_fast.specs.Recurrence.{connection};
 

@@ -3,7 +3,7 @@
 ghost use Rattle.std.specs.Prelude.{◌≡◌, ℕ, Bool, List, true, false, ◌+◌, ◌*◌, ◌%◌, ◌<◌, ◌≤◌, ◌↔◌, ◌++◌, [], ◌∷◌, Ok};
 ghost use Rattle.std.specs.Prelude.{IsTrue, MatchResult, length, map, slice_index, slice_index_or, take};
 ghost use Rattle.dtx_laws.specs.Whitening.{whitened};
-ghost use Rattle.dtx_packets.specs.Packet.{with_error};
+ghost use Rattle.dtx_packets.specs.Packets.{with_error};
 ghost use Rattle.dtx_receiver.specs.Packets.{received_by};
 ghost use Rattle.dtx_whiten.specs.Randomizer.{randomizer_bytes};
 ghost use Rattle.dtx_erase.specs.Marks.{is_set};

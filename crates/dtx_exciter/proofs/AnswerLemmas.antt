@@ -9,9 +9,8 @@ use Rattle.dtx_exciter.specs.declared.answers.Why.{Why}
 use Rattle.dtx_exciter.specs.declared.answers.Told.TheVariants.{Quiet, Sent}
 use Rattle.dtx_exciter.specs.declared.pages.Pages.{Pages}
 use Rattle.dtx_exciter.specs.Order.{Order, placed}
-use Rattle.dtx_exciter.specs.Pages.{entry_in_force, offset_of}
+use Rattle.dtx_exciter.specs.Pages.{entry_in_force, offset_of, HoldsPages}
 use Rattle.dtx_exciter.specs.Told.{served, told_why, told_by, told_at, is_sent}
-use Rattle.dtx_exciter.specs.HeldPages.{HoldsPages}
 use Rattle.dtx_exciter.proofs.HeldPagesLemmas.{held_entry, held_served}
 use Rattle.dtx_exciter.specs.Step.{served_by, told_own, told_group}
 use Rattle.dtx_exciter.specs.Kept.{is_served}

@@ -8,11 +8,10 @@ use Rattle.std.specs.Option.{unwrap_or}
 use Rattle.std.proofs.lemmas.Bool.{cond-true, cond-false}
 use Rattle.std.proofs.lemmas.List.{length-drop, drop-append-le}
 use Rattle.dtx_frame.specs.Segments.{field_sync}
-use Rattle.dtx_trellis.specs.Pairs.{group_place}
+use Rattle.dtx_trellis.specs.Trellis.{group_place}
 use Rattle.dtx_trellis.specs.Groups.{levels_of, states_after}
 use Rattle.dtx_trellis.proofs.JoinsLemmas.{levels_append}
-use Rattle.dtx_coder.specs.Coded.{whole_groups}
-use Rattle.dtx_coder.specs.Stream.{segment, four_segments, last_of}
+use Rattle.dtx_coder.specs.Stream.{whole_groups, segment, four_segments, last_of}
 use Rattle.dtx_coder.specs.Groups.{Coding, Group, air_segments, after_group}
 use Rattle.dtx_coder.specs.Along.{IsNext, RunsAlong, levels_since}
 use Rattle.dtx_coder.proofs.AlongLemmas.{along_goes_on, along_preset, sent_group, sent_preset, last_along}

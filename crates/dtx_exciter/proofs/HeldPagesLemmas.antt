@@ -16,9 +16,8 @@ use Rattle.dtx_exciter.specs.declared.pages.PageEntry.{PageEntry}
 use Rattle.dtx_exciter.specs.declared.pages.Pages.{Pages}
 use Rattle.dtx_exciter.specs.Order.{Order}
 use Rattle.dtx_exciter.specs.Pages.{page, pages, entry_of, of_one_cycle, all_pages_told, is_told, listing}
-use Rattle.dtx_exciter.specs.Pages.{entry_in_force}
+use Rattle.dtx_exciter.specs.Pages.{entry_in_force, held_of, HoldsCycle, begun, held_after, with_order, HoldsPages}
 use Rattle.dtx_exciter.specs.Told.{hold_by, served}
-use Rattle.dtx_exciter.specs.HeldPages.{held_of, HoldsCycle, begun, held_after, with_order, HoldsPages}
 use Rattle.dtx_exciter.proofs.PagesLemmas.{listing_here, listing_other}
 use Rattle.dtx_exciter.specs.Step.{served_by}
 

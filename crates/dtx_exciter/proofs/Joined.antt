@@ -14,7 +14,7 @@ use Rattle.dtx_exciter.specs.declared.answers.Told.{Told}
 use Rattle.dtx_exciter.specs.declared.answers.Told.TheVariants.{Quiet}
 use Rattle.dtx_exciter.specs.Order.{Order, counting_order, placed}
 use Rattle.dtx_exciter.specs.declared.pages.Pages.{Pages}
-use Rattle.dtx_exciter.specs.HeldPages.{HoldsPages, HoldsMore}
+use Rattle.dtx_exciter.specs.Pages.{HoldsPages, HoldsMore}
 use Rattle.dtx_exciter.specs.Told.{told_at, told_under, is_sent}
 use Rattle.dtx_exciter.specs.Packets.{readings}
 use Rattle.dtx_exciter.specs.Emission.{Holds, sent_by, sent_at, sent_before, behind_field_sync, given_under}

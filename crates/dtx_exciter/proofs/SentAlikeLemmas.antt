@@ -6,20 +6,18 @@ use Rattle.std.proofs.lemmas.List.{take-map, take-take, take_all, map-set, set-g
 use Rattle.dtx_lists.proofs.Range.{map-range_same}
 use Rattle.dtx_lists.proofs.RangeMoved.{flat_map-range_same}
 use Rattle.dtx_laws.specs.Words.{codeword}
-use Rattle.dtx_whiten.specs.Randomized.{randomized}
-use Rattle.dtx_packets.specs.Packet.{sync_of}
+use Rattle.dtx_whiten.specs.Randomizer.{randomized}
+use Rattle.dtx_packets.specs.Packets.{sync_of}
 use Rattle.dtx_cadence.specs.Anchor.{anchor}
 use Rattle.dtx_cadence.proofs.AnchoredLemmas.{missing_mark, stray_marks}
 use Rattle.dtx_cadence.specs.Cadence.{AreAlike, AreAlikeWhereDue, HasMarksRound}
-use Rattle.dtx_ops.specs.Reading.{reading}
-use Rattle.dtx_ops.specs.Rules.{corrected, rules}
-use Rattle.dtx_coder.specs.Coded.{coded_from, spread, whole_groups}
+use Rattle.dtx_ops.specs.Reading.{reading, corrected, rules}
+use Rattle.dtx_coder.specs.Stream.{coded_from, spread, whole_groups}
 use Rattle.dtx_coder.specs.Along.{levels_since}
 use Rattle.dtx_exciter.specs.Told.{told_of}
-use Rattle.dtx_exciter.specs.Packets.{syncs, reads, readings, anchor_of, under, last_answer}
+use Rattle.dtx_exciter.specs.Packets.{syncs, reads, readings, anchor_of, under, last_answer, bodies, AreSentAlike}
 use Rattle.dtx_exciter.specs.Emission.{segments_since, sent_at, last_segments, emission}
 use Rattle.dtx_exciter.specs.Log.{life_lines}
-use Rattle.dtx_exciter.specs.SentAlike.{bodies, AreSentAlike}
 use Rattle.dtx_exciter.proofs.UnderLemmas.{length-syncs}
 
 -- ---- one packet

@@ -7,8 +7,7 @@ use Rattle.std.proofs.lemmas.List.{ext_get_or, get_or-drop, get_or-append_right,
 use Rattle.std.proofs.lemmas.List.{length-take-le, take-append-drop, take-take, drop-take}
 use Rattle.dtx_laws.proofs.InterleavingLemmas.{get_or-interleaved}
 use Rattle.dtx_trellis.specs.Groups.{levels_of}
-use Rattle.dtx_coder.specs.Coded.{coded, spread, whole_groups}
-use Rattle.dtx_coder.specs.Stream.{levels, states, four_segments}
+use Rattle.dtx_coder.specs.Stream.{coded, spread, whole_groups, levels, states, four_segments}
 use Rattle.dtx_coder.specs.Along.{levels_since, states_since}
 use Rattle.dtx_coder.proofs.BytesLemmas.{coded_append, coded_place, length-coded, length-spread, whole_is}
 use Rattle.dtx_coder.proofs.LevelsLemmas.{length-levels, levels_from, states_from}

@@ -21,7 +21,7 @@ use Rattle.dtx_exciter.specs.Emission.{Holds, last_segments, given_under}
 use Rattle.dtx_exciter.specs.Step.{bytes_of, IsSame}
 use Rattle.dtx_exciter.specs.Kept.{is_served, RunsUnder, KeepsUnder, Keeps, StandsFor, IsTaken, IsJoined, Joins}
 use Rattle.dtx_exciter.specs.declared.pages.Pages.{Pages}
-use Rattle.dtx_exciter.specs.HeldPages.{HoldsPages}
+use Rattle.dtx_exciter.specs.Pages.{HoldsPages}
 use Rattle.dtx_exciter.proofs.HeldPagesLemmas.{nothing_holds}
 use Rattle.dtx_exciter.proofs.UnderLemmas.{Goes, Sees, goes_seen, under_nothing, syncs_nothing}
 use Rattle.dtx_exciter.proofs.EndsLemmas.{last_single}

@@ -5,7 +5,7 @@ use Rattle.dtx_ops.specs.declared.fields.Ops.{Ops}
 use Rattle.dtx_ops.specs.Spelling.{IsValid}
 use Rattle.dtx_exciter.specs.declared.pages.Pages.{Pages}
 use Rattle.dtx_exciter.specs.Order.{placed}
-use Rattle.dtx_exciter.specs.HeldPages.{HoldsPages, HoldsMore, with_order}
+use Rattle.dtx_exciter.specs.Pages.{HoldsPages, HoldsMore, with_order}
 use Rattle.dtx_exciter.proofs.HeldPagesLemmas.{order_holds}
 
 pub turned : (a : ℕ) (order : Option Ops) (ops : Ops) (before now : Pages) → order ≡ Some ops → IsValid ops

@@ -7,7 +7,7 @@ use Rattle.dtx_ops.specs.declared.fields.Ops.{Ops}
 use Rattle.dtx_exciter.specs.declared.exciter.Exciter.{Exciter}
 use Rattle.dtx_exciter.specs.declared.answers.Told.{Told}
 use Rattle.dtx_exciter.specs.declared.pages.Pages.{Pages}
-use Rattle.dtx_exciter.specs.HeldPages.{HoldsMore}
+use Rattle.dtx_exciter.specs.Pages.{HoldsMore}
 use Rattle.dtx_exciter.specs.Told.{is_sent}
 use Rattle.dtx_exciter.specs.Step.{bytes_of, own_order, told_group, own_of, group_of, IsSent}
 

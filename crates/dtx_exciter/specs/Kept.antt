@@ -10,7 +10,7 @@ use Rattle.dtx_exciter.specs.declared.answers.Told.{Told}
 use Rattle.dtx_exciter.specs.Told.{served, told_under}
 use Rattle.dtx_exciter.specs.Packets.{syncs, readings, under, last_answer}
 use Rattle.dtx_exciter.specs.Emission.{Holds, last_segments, given_under}
-use Rattle.dtx_exciter.specs.HeldPages.{HoldsPages}
+use Rattle.dtx_exciter.specs.Pages.{HoldsPages}
 use Rattle.dtx_exciter.specs.Step.{bytes_of}
 
 -- how many of the packets stand in whole groups

@@ -4,9 +4,7 @@ pub mod Told
 pub mod Packets
 pub mod Emission
 pub mod Log
-pub mod HeldPages
 pub mod Step
 pub mod Kept
 pub mod Lockstep
-pub mod SentAlike
 pub mod Stretch

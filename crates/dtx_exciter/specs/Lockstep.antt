@@ -1,7 +1,7 @@
 -- An exciter that is given a feed from one of its marks on, whatever it was given before.
 use Rattle.std.specs.Prelude.{ℕ, ◌≡◌, ◌+◌, ◌-◌, ◌/◌, ◌%◌, ◌≤◌, ◌<◌, ◌==◌, if◌then◌else◌, true, Option, Some, None}
 use Rattle.std.specs.Prelude.{List, [], ◌++◌, length, take, drop, slice_index_or, slice_range, ℤ, pos, ◌+ℤ◌, ◌≤ℤ◌}
-use Rattle.dtx_packets.specs.Packet.{sync_of}
+use Rattle.dtx_packets.specs.Packets.{sync_of}
 use Rattle.dtx_ops.specs.Paging.{page_of, pages_of}
 use Rattle.dtx_ops.specs.declared.fields.Entry.{Entry}
 use Rattle.dtx_ops.specs.declared.fields.Ops.{Ops}

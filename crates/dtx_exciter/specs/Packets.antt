@@ -1,12 +1,13 @@
 -- The packets that an exciter was given since it was new or reset, as their sync bytes and what they read as.
-use Rattle.std.specs.Prelude.{ℕ, ◌%◌, Option, Some, None, option_map, Result, Ok, Err, List, length, map, drop}
-use Rattle.dtx_packets.specs.Packet.{sync_of}
+use Rattle.std.specs.Prelude.{ℕ, ◌%◌, Option, Some, None, option_map, Result, Ok, Err, List, length, map, drop, ◌≡◌}
+use Rattle.dtx_packets.specs.Packets.{sync_of}
 use Rattle.dtx_cadence.specs.Anchor.{anchor}
 use Rattle.dtx_ops.specs.declared.fields.Ops.{Ops}
 use Rattle.dtx_ops.specs.declared.refusal.OpsNo.{OpsNo}
 use Rattle.dtx_ops.specs.Reading.{reading}
 use Rattle.dtx_exciter.specs.declared.answers.Told.{Told}
 use Rattle.dtx_exciter.specs.Told.{told_of}
+use Rattle.dtx_cadence.specs.Cadence.{HaveSameAnchors}
 
 unfoldable pub syncs : List (List ℕ) → List ℕ
 syncs packets = map sync_of packets
@@ -42,3 +43,12 @@ group_part packets = part_of (under packets)
 -- the answer to the last packet
 unfoldable pub last_answer : ℕ → ℕ → List (List ℕ) → Told
 last_answer address delay packets = told_of address delay (syncs packets) (readings packets)
+
+-- packets without their sync bytes, which aren't sent (ATSC A/53 Part 2)
+unfoldable pub bodies : List (List ℕ) → List (List ℕ)
+bodies packets = map (drop 1) packets
+
+-- The packets of two lives differ in their sync bytes alone, and behind each of them the anchor is the same.
+pub record AreSentAlike (xs ys : List (List ℕ)) : Type 0 where
+  pub bodies : bodies xs ≡ bodies ys
+  pub anchors : HaveSameAnchors (syncs xs) (syncs ys)

@@ -12,8 +12,7 @@ use Rattle.dtx_exciter.specs.declared.answers.Told.{Told}
 use Rattle.dtx_exciter.specs.declared.answers.Told.TheVariants.{Quiet, Sent}
 use Rattle.dtx_exciter.specs.Order.{either, ordered}
 use Rattle.dtx_exciter.specs.declared.pages.Pages.{Pages}
-use Rattle.dtx_exciter.specs.Pages.{offset_of}
-use Rattle.dtx_exciter.specs.HeldPages.{HoldsMore}
+use Rattle.dtx_exciter.specs.Pages.{offset_of, HoldsMore}
 use Rattle.dtx_exciter.specs.Told.{hold_by, preset_of, told_why, is_sent}
 use Rattle.dtx_exciter.specs.Packets.{reads}
 use Rattle.dtx_exciter.specs.Emission.{Holds}

@@ -2,8 +2,7 @@
 ghost use Rattle.std.specs.Prelude.{◌≡◌, false, None, IfSome, option_map, take, replicate};
 ghost use Rattle.std.specs.List.{list_all};
 ghost use Rattle.dtx_ops.specs.Spelling.{IsValid};
-ghost use Rattle.dtx_exciter.specs.Pages.{entry_of};
-ghost use Rattle.dtx_exciter.specs.HeldPages.{HoldsMore, begun, with_order, held_after};
+ghost use Rattle.dtx_exciter.specs.Pages.{entry_of, HoldsMore, begun, with_order, held_after};
 
 use dtx_ops::{Entry, Ops};
 use dtx_sizes::MOST_PAGES;

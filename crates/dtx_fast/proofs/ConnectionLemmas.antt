@@ -8,7 +8,7 @@ use Rattle.dtx_galois.specs.Field.{mul, pow, value}
 use Rattle.dtx_galois.proofs.FieldLemmas.{mul_one, mul_zero, zero_mul}
 use Rattle.dtx_galois.proofs.ValuesLemmas.{value_small}
 use Rattle.dtx_laws.specs.Codeword.{IsCorrection, distance}
-use Rattle.dtx_laws.specs.ErrorValues.{weight, without}
+use Rattle.dtx_laws.specs.Locator.{weight, without}
 use Rattle.dtx_laws.proofs.MomentsLemmas.{moment, moment_zero, AreZero}
 use Rattle.dtx_laws.proofs.PairsLemmas.{without_is}
 use Rattle.dtx_laws.proofs.WordsLemmas.{differences, moment_differences, length_differences}

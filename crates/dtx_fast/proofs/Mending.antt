@@ -9,7 +9,7 @@ use Rattle.dtx_galois.proofs.FieldLemmas.{pow_small}
 use Rattle.dtx_galois.proofs.LinearLemmas.{mul_left}
 use Rattle.dtx_galois.proofs.PowersLemmas.{pow_add, pow_times}
 use Rattle.dtx_laws.specs.Codeword.{IsCode, distance}
-use Rattle.dtx_laws.specs.Correction.{IsCorrected}
+use Rattle.dtx_laws.specs.Words.{IsCorrected}
 use Rattle.dtx_laws.proofs.PartsLemmas.{byte_at}
 use Rattle.dtx_laws.proofs.WordsLemmas.{distance_self}
 use Rattle.dtx_fast.proofs.RepairLemmas.{powers_not_zero, two_inverse}

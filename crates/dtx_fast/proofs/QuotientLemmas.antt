@@ -3,8 +3,7 @@ use Rattle.std.proofs.Common.{◌≡◌, ◌≢◌, ℕ, zero, suc, ◌+◌, ◌
 use Rattle.std.proofs.Common.{ap₂, ◌∙◌, arith}
 use Rattle.std.specs.List.{AllByRecursion}
 use Rattle.std.specs.Int.Bits.{xor_assoc, xor_self, xor_zero_r, xor_comm, xor_lt}
-use Rattle.dtx_galois.specs.Field.{mul, AreBytes}
-use Rattle.dtx_galois.specs.Word.{AreDifferent}
+use Rattle.dtx_galois.specs.Field.{mul, AreBytes, AreDifferent}
 use Rattle.dtx_galois.proofs.LinearLemmas.{mul_left, mul_right}
 use Rattle.dtx_galois.proofs.FieldLemmas.{mul_comm, mul_zero, zero_mul, mul_small, xor_zero, no_divisors, mul_swap}
 use Rattle.dtx_laws.specs.Locator.{combination, low_value}

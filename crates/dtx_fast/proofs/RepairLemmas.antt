@@ -5,8 +5,7 @@ use Rattle.std.proofs.lemmas.List.{ext_get_or, get_or-set_same, get_or-set_other
 use Rattle.std.proofs.lemmas.Bool.{eqb-true, eqb-false, eq-eqb, ne_eqb}
 use Rattle.std.specs.List.{AllByRecursion}
 use Rattle.std.specs.Int.Bits.{xor_assoc, xor_self, xor_zero_r, xor_comm, xor_lt}
-use Rattle.dtx_galois.specs.Field.{mul, pow, value, AreBytes}
-use Rattle.dtx_galois.specs.Word.{AreDifferent}
+use Rattle.dtx_galois.specs.Field.{mul, pow, value, AreBytes, AreDifferent}
 use Rattle.dtx_galois.proofs.LinearLemmas.{mul_right}
 use Rattle.dtx_galois.proofs.FieldLemmas.{mul_comm, mul_assoc, mul_one, mul_zero, zero_mul, mul_small, mul_inverse}
 use Rattle.dtx_galois.proofs.FieldLemmas.{pow_small, no_divisors}

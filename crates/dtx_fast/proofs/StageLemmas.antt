@@ -4,10 +4,9 @@ use Rattle.std.proofs.Common.{ap₂, ◌∙◌, subst, arith, add-one, get_or, r
 use Rattle.std.specs.Int.Bits.{xor_zero_r, xor_self}
 use Rattle.dtx_galois.specs.Field.{mul}
 use Rattle.dtx_galois.proofs.FieldLemmas.{mul_comm, mul_assoc, mul_one, mul_zero}
-use Rattle.dtx_fast.specs.Recurrence.{discrepancy, moved, IsRecurrence, IsLeast}
+use Rattle.dtx_fast.specs.Recurrence.{discrepancy, moved, IsRecurrence, IsLeast, IsStage}
 use Rattle.dtx_fast.proofs.RecurrenceLemmas.{discrepancy_small, discrepancy_mended, discrepancy_moved}
 use Rattle.dtx_fast.proofs.RecurrenceLemmas.{discrepancy_longer, same_coefficients, least_same, least_longer}
-use Rattle.dtx_fast.specs.Stage.{IsStage}
 
 moved_below : (y k : ℕ) (b : ℕ → ℕ) → k < y → moved y b k ≡ 0
 unfolding moved

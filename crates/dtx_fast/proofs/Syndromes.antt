@@ -1,8 +1,7 @@
 -- The syndromes of a word from the bytes behind its data.
 use Rattle.std.proofs.Common.{◌≡◌, ℕ, ◌-◌, ◌<◌, List, ◌++◌, length, take, drop, refl, ap, ap₂, ◌∙◌, arith, length-drop}
 use Rattle.std.proofs.lemmas.List.{take_rest, take_at, drop_at, length-take-le}
-use Rattle.dtx_galois.specs.Field.{pow, value}
-use Rattle.dtx_galois.specs.Word.{sums}
+use Rattle.dtx_galois.specs.Field.{pow, value, sums}
 use Rattle.dtx_laws.specs.Codeword.{IsCodeword}
 use Rattle.dtx_laws.proofs.PartsLemmas.{syndrome_is}
 

@@ -1,3 +1,2 @@
 pub mod Recurrence
-pub mod Stage
 pub mod Rows

@@ -1,10 +1,11 @@
 -- Recurrences of a sequence, which the method of Berlekamp and Massey finds. The coefficient of the newest term stands
 -- first.
-use Rattle.std.specs.Prelude.{ℕ, ◌≡◌, ◌-◌, ◌<◌, ◌≤◌, ◌==◌, if◌then◌else◌, List, [], ◌∷◌, slice_index}
+use Rattle.std.specs.Prelude.{ℕ, ◌≡◌, ◌-◌, ◌<◌, ◌≤◌, ◌==◌, if◌then◌else◌, List, [], ◌∷◌, slice_index, ◌+◌}
 use Rattle.std.proofs.Common.{zero, suc}
 use Rattle.std.specs.Int.RustNames.{bit_xor}
 use Rattle.dtx_galois.specs.Field.{mul, pow}
 use Rattle.dtx_laws.specs.Locator.{low_value, power_at}
+use Rattle.dtx_fast.specs.declared.recurrence.TheConstants.{WIDTH}
 
 -- c 0 * s n + c 1 * s (n - 1) + .. , of w terms
 unfoldable pub discrepancy : ℕ → (ℕ → ℕ) → (ℕ → ℕ) → ℕ → ℕ
@@ -63,3 +64,17 @@ abbrev pub repaired_at : ℕ → ℕ → (ℕ → ℕ) → (ℕ → ℕ) → Lis
 repaired_at n l c s word p =
     if walked (suc l) c (inverse_at n p) == 0 then bit_xor (slice_index word p) (error_value l c s (power_at n p))
     else slice_index word p
+
+-- After n terms c is a recurrence of order l, and none has a lower order. b is the recurrence before the order last
+-- grew. It failed `gap` terms ago, and `inverse` is the inverse of the discrepancy there. Where none has failed, all n
+-- terms are 0.
+pub record IsStage (n l gap inverse : ℕ) (s c b : ℕ → ℕ) : Type 0 where
+  pub newest : c 0 ≡ 1
+  pub behind : (k : ℕ) → l < k → c k ≡ 0
+  pub next : (i : ℕ) → l ≤ i → i < n → discrepancy (suc l) c s i ≡ 0
+  pub least : IsLeast n l s
+  pub some : 0 < gap
+  pub within : l + gap ≤ n + 1
+  pub before_behind : (k : ℕ) → n + 1 < l + gap + k → b k ≡ 0
+  pub before_next : (i : ℕ) → n + 1 ≤ l + gap + i → i + gap < n → discrepancy WIDTH b s i ≡ 0
+  pub before_fails : gap ≤ n → mul (discrepancy WIDTH b s (n - gap)) inverse ≡ 1

@@ -2,9 +2,8 @@
 
 ghost use Rattle.std.specs.Prelude.{◌≡◌, ℕ, ◌-◌, ◌<◌, ◌≤◌, ◌↔◌, List, [], ◌++◌, IsTrue, MatchResult, length};
 ghost use Rattle.std.specs.Prelude.{slice_index_or, take};
-ghost use Rattle.dtx_laws.specs.Codeword.{IsCode, IsCodeword, IsCorrection};
-ghost use Rattle.dtx_laws.specs.Correction.{AreCorrected, IsCorrected, IsLeft};
-ghost use Rattle.dtx_laws.specs.Syndromes.{AreSyndromes};
+ghost use Rattle.dtx_laws.specs.Codeword.{IsCode, IsCodeword, IsCorrection, AreSyndromes};
+ghost use Rattle.dtx_laws.specs.Words.{AreCorrected, IsCorrected, IsLeft};
 ghost use Rattle.dtx_laws.specs.declared.encoder.TheConstants.{PARITY};
 ghost use Rattle.dtx_galois.specs.Field.{AreBytes};
 

@@ -2,9 +2,8 @@
 
 ghost use Rattle.std.specs.Prelude.{◌≡◌, ◌≢◌, ◌-◌, ◌<◌, ◌↔◌, IfNone, IfSome, IsFalse, IsTrue, length};
 ghost use Rattle.dtx_galois.specs.Field.{AreBytes};
-ghost use Rattle.dtx_laws.specs.Codeword.{IsCode};
-ghost use Rattle.dtx_laws.specs.Correction.{IsCorrected};
-ghost use Rattle.dtx_laws.specs.Syndromes.{AreSyndromes};
+ghost use Rattle.dtx_laws.specs.Codeword.{IsCode, AreSyndromes};
+ghost use Rattle.dtx_laws.specs.Words.{IsCorrected};
 
 use crate::guesses::Guesses;
 use crate::wrong_byte::{WrongByte, one_gives, three_give, two_give};

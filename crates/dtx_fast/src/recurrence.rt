@@ -4,8 +4,7 @@ ghost use Rattle.std.specs.Prelude.{◌≡◌, ◌≢◌, ℕ, ◌+◌, ◌-◌,
 ghost use Rattle.std.specs.Prelude.{length, slice_index};
 ghost use Rattle.std.specs.Int.RustNames.{bit_xor};
 ghost use Rattle.dtx_galois.specs.Field.{mul};
-ghost use Rattle.dtx_fast.specs.Recurrence.{IsLeast, IsRecurrence, discrepancy};
-ghost use Rattle.dtx_fast.specs.Stage.{IsStage};
+ghost use Rattle.dtx_fast.specs.Recurrence.{IsLeast, IsRecurrence, discrepancy, IsStage};
 ghost use Rattle.dtx_fast.specs.declared.recurrence.TheConstants.{WIDTH};
 
 use dtx_galois::Gf;

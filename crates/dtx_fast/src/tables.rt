@@ -2,9 +2,8 @@
 
 ghost use Rattle.std.specs.Prelude.{◌≡◌, ℕ, ◌+◌, ◌-◌, ◌<◌, ◌≤◌, length, slice_index};
 ghost use Rattle.std.specs.Int.RustNames.{bit_xor};
-ghost use Rattle.dtx_galois.specs.Field.{pow};
-ghost use Rattle.dtx_galois.specs.Word.{sums};
-ghost use Rattle.dtx_laws.specs.Syndromes.{AreSyndromes};
+ghost use Rattle.dtx_galois.specs.Field.{pow, sums};
+ghost use Rattle.dtx_laws.specs.Codeword.{AreSyndromes};
 ghost use Rattle.dtx_fast.specs.Recurrence.{walked};
 ghost use Rattle.dtx_laws.specs.declared.encoder.TheConstants.{PARITY};
 

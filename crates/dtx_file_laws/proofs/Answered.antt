@@ -20,8 +20,8 @@ use Rattle.dtx_words.specs.declared.rows.Command.{Command}
 use Rattle.dtx_words.specs.Line.{done_line}
 use Rattle.dtx_words.specs.Printed.{printed}
 use Rattle.dtx_top.specs.Lines.{HasLine, IsToldLine}
-use Rattle.dtx_top.specs.Means.{means, means_of}
-use Rattle.dtx_file_laws.specs.Told.{Holds}
+use Rattle.dtx_top.specs.Jobs.{means, means_of}
+use Rattle.dtx_file_laws.specs.Back.{Holds}
 
 -- ---- the answer
 

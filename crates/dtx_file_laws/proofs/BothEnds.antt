@@ -6,7 +6,7 @@ use Rattle.std.specs.FinMap.{get}
 use Rattle.std.proofs.lemmas.Bool.{cases_lt}
 use Rattle.std.proofs.lemmas.List.{append-nil, length-drop, length-take-le}
 use Rattle.dtx_galois.specs.Field.{AreBytes}
-use Rattle.dtx_chain.specs.Undamaged.{ArePackets}
+use Rattle.dtx_chain.specs.Damage.{ArePackets}
 use Rattle.dtx_coder.proofs.CountsLemmas.{length-a53}
 use Rattle.dtx_engine.specs.Recipe.{meaning_of_file}
 use Rattle.dtx_forms.proofs.AllowedFileLemmas.{all_read}
@@ -22,15 +22,13 @@ use Rattle.dtx_forms.proofs.FilePacketsLemmas.{length-packets_of}
 use Rattle.dtx_recipes.specs.Code.{coding}
 use Rattle.dtx_jobs.proofs.GivenLemmas.{nothing_received}
 use Rattle.dtx_recipes.specs.Giving.{Giving, IsGiving, receiving_by}
-use Rattle.dtx_recipes.specs.SymbolFile.{whole_segments}
-use Rattle.dtx_recipes.specs.Symbols.{symbol_bytes}
+use Rattle.dtx_recipes.specs.SymbolFile.{whole_segments, symbol_bytes}
 use Rattle.dtx_jobs.proofs.SymbolsBackLemmas.{each_range}
 use Rattle.dtx_words.specs.Line.{done_line}
 use Rattle.dtx_words.specs.Printed.{printed}
 use Rattle.dtx_words.specs.declared.rows.Command.{Command}
 use Rattle.dtx_top.proofs.StreamsLemmas.{AreBytes-packet_at}
-use Rattle.dtx_file_laws.specs.Back.{IsGivenBack, all_back, line_back, packets_back}
-use Rattle.dtx_file_laws.specs.Told.{Holds}
+use Rattle.dtx_file_laws.specs.Back.{IsGivenBack, all_back, line_back, packets_back, Holds}
 use Rattle.dtx_file_laws.proofs.Answered.{one_holds, read_whole}
 use Rattle.dtx_file_laws.proofs.Excited.{whole_read}
 use Rattle.dtx_file_laws.proofs.Lines.{ends_with}

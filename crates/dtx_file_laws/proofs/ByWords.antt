@@ -12,9 +12,8 @@ use Rattle.std.proofs.lemmas.Str.Parse.{IsNumeralModel, numerals_by_value, tells
 use Rattle.dtx_forms.specs.Shapes.{coded_packets, packets, segments, single_bytes}
 use Rattle.dtx_outside.specs.Shelf.{Files}
 use Rattle.dtx_recipes.specs.Adapt.{feeding}
-use Rattle.dtx_recipes.specs.DvbCode.{dvb_coding}
+use Rattle.dtx_recipes.specs.DvbCode.{dvb_coding, blocks, dvb_packets}
 use Rattle.dtx_recipes.specs.DvbRead.{dvb_reading}
-use Rattle.dtx_recipes.specs.DvbShapes.{blocks, dvb_packets}
 use Rattle.dtx_plan.specs.Plan.{plan_of}
 use Rattle.dtx_plan.specs.declared.plan.Plan.{Plan}
 use Rattle.dtx_recipes.specs.Acquire.{acquiring}
@@ -23,9 +22,8 @@ use Rattle.dtx_recipes.specs.Excite.{exciting}
 use Rattle.dtx_recipes.specs.Mend.{mending_symbols}
 use Rattle.dtx_recipes.specs.Receive.{receiving}
 use Rattle.dtx_recipes.specs.Refine.{refining}
-use Rattle.dtx_words.specs.Fitting.{is_name}
+use Rattle.dtx_words.specs.Fitting.{is_name, number_in, number_within}
 use Rattle.dtx_words.specs.Names.{repeated}
-use Rattle.dtx_words.specs.Number.{number_in, number_within}
 use Rattle.dtx_words.specs.declared.rows.Command.TheVariants.{Acquire, Adapt, Code, DvbCode, DvbRead, Excite, Mend}
 use Rattle.dtx_words.specs.declared.rows.Command.TheVariants.{Receive, Refine}
 use Rattle.dtx_file_laws.proofs.Answered.{IsRead}

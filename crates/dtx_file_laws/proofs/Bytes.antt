@@ -9,8 +9,7 @@ use Rattle.dtx_coder.specs.Stream.{a53}
 use Rattle.dtx_erase.specs.Marks.{is_missing}
 use Rattle.dtx_slice.specs.Slicing.{sliced}
 use Rattle.dtx_jobs.proofs.StreamBackLemmas.{length-symbol_bytes, stream_read_back}
-use Rattle.dtx_recipes.specs.SymbolFile.{file_segments, segment_at, symbol_of_byte, whole_segments}
-use Rattle.dtx_recipes.specs.Symbols.{symbol_bytes}
+use Rattle.dtx_recipes.specs.SymbolFile.{file_segments, segment_at, symbol_of_byte, whole_segments, symbol_bytes}
 use Rattle.dtx_file_laws.specs.Damaged.{IsBurst, IsGap, SparesSyncs}
 use Rattle.dtx_file_laws.proofs.There.{symbol_there}
 use Rattle.dtx_file_laws.proofs.Whole.{as_many, count_segments, no_segments}

@@ -18,11 +18,10 @@ use Rattle.dtx_packets.specs.Packets.{packets_of}
 use Rattle.dtx_recipes.specs.Code.{coding}
 use Rattle.dtx_recipes.specs.Giving.{no_sync_in}
 use Rattle.dtx_recipes.specs.Restoring.{Restoring, restoring_by}
-use Rattle.dtx_recipes.specs.SymbolFile.{symbols}
-use Rattle.dtx_recipes.specs.Symbols.{symbol_bytes}
+use Rattle.dtx_recipes.specs.SymbolFile.{symbols, symbol_bytes}
 use Rattle.dtx_repeated_feed.specs.DoneWith.{IsDoneWith}
 use Rattle.dtx_file_laws.specs.Damaged.{IsNoisy}
-use Rattle.dtx_file_laws.specs.Told.{Holds}
+use Rattle.dtx_file_laws.specs.Back.{Holds}
 use Rattle.dtx_file_laws.proofs.Answered.{one_holds}
 use Rattle.dtx_file_laws.proofs.BothEnds.{few_packets, holds_one, sent_is, told_so}
 use Rattle.dtx_file_laws.proofs.Captured.{are_near, few_symbols}

@@ -18,7 +18,7 @@ use Rattle.dtx_symbol_laws.specs.RestoredFile.{restored_with}
 use Rattle.dtx_jobs.proofs.StreamBackLemmas.{length-symbol_bytes, stream_read_back}
 use Rattle.dtx_recipes.specs.Restoring.{Restoring, restoring_by}
 use Rattle.dtx_recipes.specs.SymbolFile.{segment_at, segments_from, symbol_of_byte, symbols, whole_segments}
-use Rattle.dtx_recipes.specs.Symbols.{symbol_bytes}
+use Rattle.dtx_recipes.specs.SymbolFile.{symbol_bytes}
 use Rattle.dtx_file_laws.specs.Damaged.{IsNoisy}
 use Rattle.dtx_file_laws.proofs.Whole.{as_many, count_segments}
 

@@ -10,7 +10,7 @@ use Rattle.dtx_forms.proofs.AllowedFileLemmas.{all_read}
 use Rattle.dtx_forms.specs.Shapes.{coded_packets}
 use Rattle.dtx_packets.specs.Packets.{packet_at, packets_of, whole_packets}
 use Rattle.dtx_recipes.specs.Code.{coding, may_be_coded}
-use Rattle.dtx_recipes.specs.Symbols.{symbol_bytes}
+use Rattle.dtx_recipes.specs.SymbolFile.{symbol_bytes}
 use Rattle.dtx_repeated_feed.specs.DoneWith.{IsDoneWith}
 use Rattle.dtx_file_laws.specs.Back.{CanBeCoded}
 use Rattle.dtx_file_laws.proofs.Excited.{whole_read}

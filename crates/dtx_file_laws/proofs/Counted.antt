@@ -9,8 +9,7 @@ use Rattle.std.proofs.lemmas.List.Folds.{flat_map-map}
 use Rattle.std.proofs.lemmas.List.FromFn.{fill_by_all}
 use Rattle.dtx_lists.proofs.Range.{range_with_len-parts}
 use Rattle.dtx_chain.proofs.AllBackLemmas.{data_all}
-use Rattle.dtx_chain.specs.Damage.{numbers_in}
-use Rattle.dtx_chain.specs.Undamaged.{as_received}
+use Rattle.dtx_chain.specs.Damage.{numbers_in, as_received}
 use Rattle.dtx_coder.proofs.CountsLemmas.{length-a53}
 use Rattle.dtx_coder.specs.Stream.{a53}
 use Rattle.dtx_receiver.specs.Bytes.{data_count, groups_of}

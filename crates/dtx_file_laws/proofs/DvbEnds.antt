@@ -14,20 +14,17 @@ use Rattle.dtx_meaning.specs.Meaning.{IsAnswered, Meaning}
 use Rattle.dtx_meaning.specs.declared.status.Status.{Status}
 use Rattle.dtx_meaning.specs.declared.status.Status.TheVariants.{Done}
 use Rattle.dtx_outside.specs.Shelf.{Files}
-use Rattle.dtx_packets.specs.Packet.{sync_of}
-use Rattle.dtx_packets.specs.Packets.{packet_at, packets_of, whole_packets}
+use Rattle.dtx_packets.specs.Packets.{sync_of, packet_at, packets_of, whole_packets}
 use Rattle.dtx_recipes.specs.DvbBack.{HaveSyncs, back_of, sent_of}
-use Rattle.dtx_recipes.specs.DvbCode.{dvb_coding}
+use Rattle.dtx_recipes.specs.DvbCode.{dvb_coding, blocks, dvb_packets}
 use Rattle.dtx_recipes.specs.DvbRead.{dvb_reading}
-use Rattle.dtx_recipes.specs.DvbShapes.{blocks, dvb_packets}
 use Rattle.dtx_recipes.specs.Place.{has_sync}
 use Rattle.dtx_jobs.proofs.SymbolsBackLemmas.{each_range}
 use Rattle.dtx_words.specs.Line.{done_line}
 use Rattle.dtx_words.specs.Printed.{printed}
 use Rattle.dtx_words.specs.declared.rows.Command.TheVariants.{DvbRead}
 use Rattle.dtx_top.proofs.StreamsLemmas.{AreBytes-packet_at}
-use Rattle.dtx_file_laws.specs.Back.{IsReadBack, dvb_line_back}
-use Rattle.dtx_file_laws.specs.Told.{Holds}
+use Rattle.dtx_file_laws.specs.Back.{IsReadBack, dvb_line_back, Holds}
 use Rattle.dtx_file_laws.proofs.Answered.{one_holds, read_whole}
 use Rattle.dtx_file_laws.proofs.BothEnds.{holds_one, told_both, told_so}
 use Rattle.dtx_file_laws.proofs.Lines.{ends_with, read_line}

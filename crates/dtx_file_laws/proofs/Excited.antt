@@ -20,7 +20,7 @@ use Rattle.dtx_outside.specs.Shelf.{Files, with_file}
 use Rattle.dtx_packets.proofs.PacketLemmas.{packets_of-piece}
 use Rattle.dtx_packets.specs.Packets.{packets_of, whole_packets}
 use Rattle.dtx_repeated_feed.specs.DoneWith.{IsDoneWith}
-use Rattle.dtx_file_laws.specs.Told.{Holds}
+use Rattle.dtx_file_laws.specs.Back.{Holds}
 use Rattle.dtx_file_laws.proofs.Answered.{read_whole}
 
 all_allowed : (a d : ℕ) (file : List ℕ) → first_refused coded_packets (exciting a d) file ≡ None

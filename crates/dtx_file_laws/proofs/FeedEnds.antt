@@ -20,13 +20,11 @@ use Rattle.dtx_meaning.specs.Meaning.{IsAnswered, Meaning}
 use Rattle.dtx_meaning.specs.declared.status.Status.{Status}
 use Rattle.dtx_meaning.specs.declared.status.Status.TheVariants.{Done}
 use Rattle.dtx_network.specs.Headline.{HasNoListing, HaveNoMark, IsFedAnew, IsFirstListing, stretch_of}
-use Rattle.dtx_network.specs.Orders.{has_listing, has_order}
+use Rattle.dtx_network.specs.Orders.{has_listing, has_order, presets}
 use Rattle.dtx_network.specs.Plans.{IsInTime, IsListed, IsPlan, IsStream}
-use Rattle.dtx_network.specs.Presets.{presets}
 use Rattle.dtx_outside.specs.Shelf.{Files}
 use Rattle.dtx_packets.specs.Packets.{packets_of, whole_packets}
-use Rattle.dtx_recipes.specs.Adapt.{feeding}
-use Rattle.dtx_recipes.specs.Feed.{feed_bytes}
+use Rattle.dtx_recipes.specs.Adapt.{feeding, feed_bytes}
 use Rattle.dtx_plan.specs.Plan.{plan_of}
 use Rattle.dtx_plan.specs.Sound.{IsSound}
 use Rattle.dtx_plan.specs.declared.plan.Plan.{Plan}
@@ -34,7 +32,7 @@ use Rattle.dtx_plan.specs.declared.transmitter.Transmitter.{Transmitter}
 use Rattle.dtx_recipes.specs.Excite.{exciting}
 use Rattle.dtx_repeated_feed.specs.DoneWith.{IsDoneWith}
 use Rattle.dtx_top.proofs.StreamsLemmas.{is_stream}
-use Rattle.dtx_file_laws.specs.Told.{Holds}
+use Rattle.dtx_file_laws.specs.Back.{Holds}
 use Rattle.dtx_file_laws.proofs.Answered.{one_holds, read_whole}
 use Rattle.dtx_file_laws.proofs.BothEnds.{holds_one, told_so}
 use Rattle.dtx_file_laws.proofs.Excited.{few_read, two_hold, whole_read}

@@ -9,8 +9,7 @@ use Rattle.dtx_packets.specs.Packets.{whole_packets}
 use Rattle.dtx_words.specs.Line.{done_line, numbered}
 use Rattle.dtx_words.specs.Printed.{printed}
 use Rattle.dtx_words.specs.declared.rows.Command.TheVariants.{DvbRead, Mend, Receive}
-use Rattle.dtx_file_laws.specs.Back.{all_back, dvb_line_back, line_back}
-use Rattle.dtx_file_laws.specs.Told.{EndsWith}
+use Rattle.dtx_file_laws.specs.Back.{all_back, dvb_line_back, line_back, EndsWith}
 
 -- each label with its number behind it, and then a text
 abbrev onto : List (List ℕ) → List ℕ → List ℕ → List ℕ

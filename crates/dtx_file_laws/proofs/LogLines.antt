@@ -8,7 +8,7 @@ use Rattle.dtx_exciter.specs.declared.answers.Why.{Why}
 use Rattle.dtx_exciter.specs.declared.answers.Why.TheVariants.{Cadence, Late, Unlisted}
 use Rattle.dtx_files.specs.LogText.{line_text, log_text, word_of}
 use Rattle.dtx_watch.proofs.WatchLinesLemmas.{IsWord, number, spelled, spaced, words_cut, one_line}
-use Rattle.dtx_watch.specs.WatchLines.{words_of_lines}
+use Rattle.dtx_watch.specs.WatchText.{words_of_lines}
 use Rattle.dtx_file_laws.specs.LogLines.{line_words}
 
 -- ---- words

@@ -14,19 +14,18 @@ use Rattle.dtx_files.specs.LogText.{log_text}
 use Rattle.dtx_files.specs.Symbols.{byte_of_symbol, segment_bytes}
 use Rattle.dtx_meaning.specs.declared.status.Status.{Status}
 use Rattle.dtx_network.specs.Headline.{IsFirstListing, last_packet, stretch_of}
-use Rattle.dtx_network.specs.Orders.{has_order}
+use Rattle.dtx_network.specs.Orders.{has_order, presets}
 use Rattle.dtx_network.specs.Plans.{IsPlan, IsStream}
-use Rattle.dtx_network.specs.Presets.{presets}
 use Rattle.dtx_outside.specs.Shelf.{Files}
 use Rattle.dtx_packets.specs.Packets.{packets_of}
-use Rattle.dtx_recipes.specs.Feed.{feed_bytes}
+use Rattle.dtx_recipes.specs.Adapt.{feed_bytes}
 use Rattle.dtx_plan.specs.Plan.{plan_of}
 use Rattle.dtx_plan.specs.declared.plan.Plan.{Plan}
 use Rattle.dtx_plan.specs.declared.transmitter.Transmitter.{Transmitter}
 use Rattle.dtx_jobs.proofs.SymbolsBackLemmas.{each_of}
-use Rattle.dtx_recipes.specs.Symbols.{symbol_bytes}
+use Rattle.dtx_recipes.specs.SymbolFile.{symbol_bytes}
 use Rattle.dtx_file_laws.specs.Orders.{IsFirstOrder}
-use Rattle.dtx_file_laws.specs.Told.{Holds}
+use Rattle.dtx_file_laws.specs.Back.{Holds}
 use Rattle.dtx_file_laws.proofs.BothEnds.{IsCoded, code_keeps, coded_is, holds_one}
 use Rattle.dtx_file_laws.proofs.Captured.{stream_bytes}
 use Rattle.dtx_top.proofs.StreamsLemmas.{is_stream}

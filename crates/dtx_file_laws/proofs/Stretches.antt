@@ -7,10 +7,9 @@ use Rattle.dtx_receiver.specs.Packets.{received}
 use Rattle.dtx_receiver.specs.Runs.{runs}
 use Rattle.dtx_receiver.specs.declared.batch.Received.{Received}
 use Rattle.dtx_chain.proofs.AllBackLemmas.{all_back, all_good}
-use Rattle.dtx_chain.specs.Damage.{AreReceived, IsSlight, as_corrected, from_sync, numbers_in}
-use Rattle.dtx_chain.specs.Damage.{packet_behind, to_sync, word_in}
+use Rattle.dtx_chain.specs.Damage.{AreReceived, IsSlight, as_corrected, from_sync, numbers_in, packet_behind, to_sync}
+use Rattle.dtx_chain.specs.Damage.{word_in, ArePackets, as_received, as_sent}
 use Rattle.dtx_chain.proofs.SlightLemmas.{one_run_left}
-use Rattle.dtx_chain.specs.Undamaged.{ArePackets, as_received, as_sent}
 use Rattle.dtx_engine.specs.Recipe.{meaning_of_file}
 use Rattle.dtx_forms.specs.Shapes.{segments}
 use Rattle.dtx_jobs.proofs.GivenLemmas.{sync_answered}

@@ -3,9 +3,8 @@ use Rattle.std.proofs.Common.{◌≡◌, ℕ, ℤ, zero, suc, negsuc, ◌+◌, �
 use Rattle.std.proofs.Common.{List, [], ◌∷◌, length, map, take, drop, replicate, refl, arith}
 use Rattle.std.specs.List.{range_with_len, AllByRecursion}
 use Rattle.dtx_bursts.specs.Burst.{symbol_at}
-use Rattle.dtx_coder.specs.Coded.{whole_groups}
-use Rattle.dtx_coder.specs.Stream.{a53, four_segments, group_segments, last_before, last_of, levels, no_last, segment}
-use Rattle.dtx_coder.specs.Stream.{sync_before, zero_states}
+use Rattle.dtx_coder.specs.Stream.{whole_groups, a53, four_segments, group_segments, last_before, last_of, levels}
+use Rattle.dtx_coder.specs.Stream.{no_last, segment, sync_before, zero_states}
 use Rattle.dtx_erase.specs.Marks.{AllThere, AreThere, is_missing}
 use Rattle.dtx_frame.specs.Segments.{bit_symbol, segment_sync, data_segment, sync_symbols, field_sync}
 use Rattle.dtx_trellis.specs.Trellis.{symbol_of}

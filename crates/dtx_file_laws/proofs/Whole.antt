@@ -6,8 +6,8 @@ use Rattle.std.proofs.lemmas.List.{length-drop, length-map, length-take-le, take
 use Rattle.std.proofs.lemmas.List.FromFn.{get_or-map-range_with_len, length-range_with_len}
 use Rattle.dtx_chain.proofs.AllBackLemmas.{all_good}
 use Rattle.dtx_chain.specs.Damage.{AreReceived, IsSlight, from_sync, numbers_in, packet_behind, to_sync, word_in}
+use Rattle.dtx_chain.specs.Damage.{ArePackets, as_received, as_sent, whole_words}
 use Rattle.dtx_chain.proofs.NoDamageLemmas.{is_slight}
-use Rattle.dtx_chain.specs.Undamaged.{ArePackets, as_received, as_sent, whole_words}
 use Rattle.dtx_coder.proofs.CountsLemmas.{length-a53}
 use Rattle.dtx_coder.specs.Stream.{a53}
 use Rattle.dtx_engine.specs.Made.{only, outputs_of}
@@ -19,9 +19,8 @@ use Rattle.dtx_receiver.specs.Packets.{all_packets}
 use Rattle.dtx_recipes.specs.MendedBack.{all_back_of, put_right}
 use Rattle.dtx_recipes.specs.Receive.{receiving}
 use Rattle.dtx_jobs.proofs.StreamBackLemmas.{length-symbol_bytes, stream_read_back}
-use Rattle.dtx_recipes.specs.SymbolFile.{file_segments, symbol_of_byte, whole_segments}
+use Rattle.dtx_recipes.specs.SymbolFile.{file_segments, symbol_of_byte, whole_segments, symbol_bytes}
 use Rattle.dtx_jobs.proofs.SymbolFileLemmas.{length-segments_of}
-use Rattle.dtx_recipes.specs.Symbols.{symbol_bytes}
 use Rattle.dtx_recipes.specs.Tally.{fixed_in}
 use Rattle.dtx_file_laws.specs.Back.{all_back, back_of_all, packets_back}
 use Rattle.dtx_file_laws.proofs.Counted.{bytes_back, numbers_are}

@@ -1,9 +1,9 @@
 -- What comes back of the symbols of a stream (the profile's own; what is sent is that of ATSC A/53 Part 2). A packet is
 -- the list of its 188 bytes.
 use Rattle.std.specs.Prelude.{ℕ, ◌≡◌, ◌+◌, ◌-◌, ◌*◌, ◌/◌, ◌%◌, ◌<◌, ◌==◌, if◌then◌else◌, true, List, [], ◌∷◌, ◌++◌}
-use Rattle.std.specs.Prelude.{Option, codes, decimal, length, take}
+use Rattle.std.specs.Prelude.{Option, codes, decimal, length, take, Some, IfSome, IsSomeAnd}
 use Rattle.std.specs.List.{flat_map}
-use Rattle.dtx_chain.specs.Undamaged.{as_received}
+use Rattle.dtx_chain.specs.Damage.{as_received}
 use Rattle.dtx_coder.specs.Stream.{a53}
 use Rattle.dtx_engine.specs.Made.{only, outputs_of}
 use Rattle.dtx_meaning.specs.Meaning.{Meaning}
@@ -11,7 +11,15 @@ use Rattle.dtx_meaning.specs.Status.{done}
 use Rattle.dtx_outside.specs.Shelf.{Files}
 use Rattle.dtx_packets.specs.Packets.{packet_at, packets_of, whole_packets}
 use Rattle.dtx_recipes.specs.Code.{may_be_coded}
-use Rattle.dtx_file_laws.specs.Told.{EndsWith, Holds}
+use Rattle.std.specs.FinMap.{get}
+
+-- the files are told, and the file of this name is there and holds these bytes
+abbrev pub Holds : Option Files → List ℕ → List ℕ → Type 0
+Holds files name bytes = IsSomeAnd files (λ held. get held name ≡ Some bytes)
+
+-- if what was printed is told, it ends with this text
+abbrev pub EndsWith : Option (List ℕ) → List ℕ → Type 0
+EndsWith written text = IfSome written (λ all. (before : List ℕ) × (all ≡ before ++ text))
 
 -- each whole packet of a stream begins with 0x47, or with the mark 0xB8
 abbrev pub CanBeCoded : List ℕ → Type 0

@@ -2,4 +2,3 @@ pub mod Back
 pub mod Damaged
 pub mod LogLines
 pub mod Orders
-pub mod Told

@@ -10,8 +10,7 @@ use Rattle.std.proofs.lemmas.Str.Parse.{digit_at}
 use Rattle.dtx_exciter.specs.Log.{Line, preset, mute, restart}
 use Rattle.dtx_exciter.specs.declared.answers.Why.{Why}
 use Rattle.dtx_exciter.specs.declared.answers.Why.TheVariants.{Cadence, Unlisted, Late}
-use Rattle.dtx_files.specs.Lines.{HasNumbers}
-use Rattle.dtx_files.specs.LogText.{word_of, line_text, log_text}
+use Rattle.dtx_files.specs.LogText.{HasNumbers, word_of, line_text, log_text}
 
 -- ---- numbers
 

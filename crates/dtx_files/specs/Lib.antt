@@ -1,3 +1,2 @@
 pub mod LogText
-pub mod Lines
 pub mod Symbols

@@ -1,5 +1,5 @@
 -- The text of a transmitter's log (the profile's own).
-use Rattle.std.specs.Prelude.{ℕ, List, ◌++◌, codes, decimal, flat_map}
+use Rattle.std.specs.Prelude.{ℕ, List, ◌++◌, codes, decimal, flat_map, ◌<◌, ◌^◌}
 use Rattle.std.specs.Borrow.{Bor}
 use Rattle.dtx_exciter.specs.Log.{Line}
 use Rattle.dtx_exciter.specs.declared.answers.Why.{Why}
@@ -30,3 +30,10 @@ log_text lines = flat_map line_text lines
 -- pieces of a text, one behind another
 abbrev pub joined : List (Bor (List ℕ)) → List ℕ
 joined pieces = flat_map (λ piece. piece.now) pieces
+
+-- each number of the line fits 64 bits
+abbrev pub HasNumbers : Line → Type 0
+HasNumbers (Line.preset segment frame packet tick grain) = (segment < 2 ^ 64) × (frame < 2 ^ 64) × (packet < 2 ^ 64)
+    × (tick < 2 ^ 64) × (grain < 2 ^ 64)
+HasNumbers (Line.mute segment why) = segment < 2 ^ 64
+HasNumbers (Line.restart segment) = segment < 2 ^ 64

@@ -3,8 +3,7 @@
 ghost use Rattle.std.specs.Prelude.{◌≡◌, List};
 ghost use Rattle.std.specs.List.{AllByRecursion};
 ghost use Rattle.dtx_exciter.specs.Log.{Line};
-ghost use Rattle.dtx_files.specs.Lines.{HasNumbers};
-ghost use Rattle.dtx_files.specs.LogText.{log_text};
+ghost use Rattle.dtx_files.specs.LogText.{HasNumbers, log_text};
 
 /// Two logs with the same text have the same lines, where all numbers of both fit 64 bits. So a claim about a log file
 /// is a claim about its lines.

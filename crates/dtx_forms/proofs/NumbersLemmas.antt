@@ -4,7 +4,7 @@ use Rattle.std.specs.Prelude.{Option, Some, None, IfSome}
 use Rattle.std.specs.Option.{option_and}
 use Rattle.std.proofs.lemmas.Bool.{and_parts, leb-true}
 use Rattle.std.proofs.lemmas.Option.{same_Some}
-use Rattle.dtx_words.specs.Number.{number_in, number_within}
+use Rattle.dtx_words.specs.Fitting.{number_in, number_within}
 use Rattle.dtx_forms.specs.Capture.{setting_of}
 
 pub number_most : (most : ℕ) (word : List ℕ) (number : ℕ) → number_in most word ≡ Some number → number ≤ most

@@ -7,7 +7,7 @@ use Rattle.std.proofs.lemmas.List.{take_all, take-take, length-take-le}
 use Rattle.dtx_outside.specs.Shelf.{Files}
 use Rattle.dtx_plan.specs.Plan.{plan_of, changes_of, root_of, text_of, table_in}
 use Rattle.dtx_plan.specs.Rows.{◌>>=◌, refused, IsAnswer}
-use Rattle.dtx_plan.specs.RootTable as root
+use Rattle.dtx_plan.specs.Plan as root
 use Rattle.dtx_plan.specs.declared.key.PlanKey.TheVariants as key
 use Rattle.dtx_plan.specs.declared.rule.PlanRule.TheVariants.{Size}
 use Rattle.dtx_plan.specs.declared.refusal.PlanFault.{PlanFault}

@@ -3,7 +3,7 @@
 use Rattle.std.specs.Prelude.{ℕ, ◌≤◌, List, [], ◌∷◌, Option, Some, None}
 use Rattle.dtx_engine.specs.Recipe.{Recipe}
 use Rattle.dtx_engine.specs.declared.engine.Shape.{Shape}
-use Rattle.dtx_words.specs.Number.{number_within}
+use Rattle.dtx_words.specs.Fitting.{number_within}
 use Rattle.dtx_words.specs.declared.rows.Command.{Command}
 use Rattle.dtx_words.specs.declared.rows.Field.TheVariants.{Input, Output, Within}
 use Rattle.dtx_forms.specs.Job.{Job, Task, job_of_task}

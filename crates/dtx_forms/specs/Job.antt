@@ -8,8 +8,7 @@ use Rattle.dtx_outside.specs.Counts.{Counts, HasGone}
 use Rattle.dtx_outside.specs.Shelf.{Files}
 use Rattle.dtx_words.specs.declared.rows.Command.{Command}
 use Rattle.dtx_words.specs.declared.rows.Field.{Field}
-use Rattle.dtx_forms.specs.Answers.{IsKnown}
-use Rattle.dtx_forms.specs.OfWords.{IsOfWords, same_in}
+use Rattle.dtx_forms.specs.Answers.{IsKnown, IsOfWords, same_in}
 use Rattle.dtx_forms.specs.Stages.{Stages}
 
 -- Which command it is, what the words behind the first one stand for, what it means with some words, how many inputs

@@ -1,12 +1,9 @@
 pub mod Answers
 pub mod Capture
-pub mod Combine
 pub mod Damaged
 pub mod Job
 pub mod Logged
-pub mod OfWords
 pub mod PlanFile
 pub mod Shapes
 pub mod Stages
 pub mod Transform
-pub mod Transmit

@@ -1,7 +1,6 @@
 // `.. IN OUT` where each unit of the input is changed in place.
 ghost use Rattle.std.specs.Prelude.{[]};
-ghost use Rattle.dtx_engine.specs.Each.{each_making};
-ghost use Rattle.dtx_engine.specs.Recipe.{IsAnswerOf};
+ghost use Rattle.dtx_engine.specs.Recipe.{each_making, IsAnswerOf};
 ghost use Rattle.dtx_words.specs.declared.rows.Command.{Command};
 ghost use Rattle.dtx_forms.specs.Answers.{IsKnown};
 

@@ -5,7 +5,7 @@ ghost use Rattle.dtx_outside.specs.Shelf.{Files};
 ghost use Rattle.dtx_words.specs.Names.{repeated};
 ghost use Rattle.dtx_words.specs.declared.rows.Command.{Command};
 ghost use Rattle.dtx_forms.specs.Job.{IsPerformed, IsJobPerformed};
-ghost use Rattle.dtx_forms.specs.Combine.{combine_job, combined};
+ghost use Rattle.dtx_forms.specs.Transform.{combine_job, combined};
 ghost use Rattle.dtx_forms.specs.Stages.{IsStaged, Stages};
 
 use dtx_meaning::{Outcome, Status, ended};

@@ -4,13 +4,12 @@ ghost use Rattle.std.specs.FinMap as held_at;
 ghost use Rattle.std.specs.Option.{option_and};
 ghost use Rattle.dtx_engine.specs.Recipe.{IsAnswerOf, Recipe, meaning};
 ghost use Rattle.dtx_words.specs.Names.{repeated};
-ghost use Rattle.dtx_words.specs.Number.{number_in};
+ghost use Rattle.dtx_words.specs.Fitting.{number_in};
 ghost use Rattle.dtx_words.specs.declared.rows.Command.{Command};
 ghost use Rattle.dtx_forms.specs.Answers.{IsKnown};
 ghost use Rattle.dtx_forms.specs.Job.{IsPerformed, IsJobPerformed, task_meaning, task_stages};
-ghost use Rattle.dtx_forms.specs.Logged.{logged};
+ghost use Rattle.dtx_forms.specs.Logged.{logged, transmit_job, transmit_with};
 ghost use Rattle.dtx_forms.specs.Stages.{IsStaged, stages_of};
-ghost use Rattle.dtx_forms.specs.Transmit.{transmit_job, transmit_with};
 
 use crate::logging::{LoggedFiles, make_both};
 use dtx_meaning::{Outcome, Status, ended};

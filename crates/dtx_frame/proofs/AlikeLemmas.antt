@@ -7,8 +7,7 @@ use Rattle.dtx_lists.proofs.Below.{holds_below, at_below}
 use Rattle.dtx_slice.specs.Slicing.{sliced}
 use Rattle.dtx_frame.specs.declared.tables.TheConstants.{FIRST, SECOND}
 use Rattle.dtx_frame.proofs.RecurrencesLemmas.{short_at, table_bits}
-use Rattle.dtx_frame.specs.Sequences.{pn63}
-use Rattle.dtx_frame.specs.Segments.{field_sync, sync_symbols}
+use Rattle.dtx_frame.specs.Segments.{pn63, field_sync, sync_symbols}
 use Rattle.dtx_frame.specs.Detection.{differs, differing, looks_like, looks_second, opposite, opposites}
 use Rattle.dtx_frame.proofs.SymbolsLemmas.{first_is, second_is, length_front}
 use Rattle.dtx_frame.proofs.CountsLemmas.{same_is, other_is, sum_is, total_zeros, total_ones}

@@ -5,7 +5,7 @@ use Rattle.std.proofs.Common.{take, drop, map, length, get_or, refl, sym, ap, �
 use Rattle.std.proofs.lemmas.Bool.{eqb-true, leb-true}
 use Rattle.dtx_lists.proofs.Below.{holds_below, at_below}
 use Rattle.dtx_frame.specs.declared.tables.TheConstants.{FIRST}
-use Rattle.dtx_frame.specs.Sequences.{extended, pn511, pn63}
+use Rattle.dtx_frame.specs.Segments.{extended, pn511, pn63}
 
 -- the bit for which a symbol of a sync stands
 abbrev pub bit_of : ℤ → ℕ

@@ -1,7 +1,6 @@
 -- The rule that each coder keeps within a segment: Z0[p] = Z1[p - 12] + Z0[p - 24].
 use Rattle.std.proofs.Common.{◌≡◌, ℕ, ◌+◌, ◌-◌, ◌*◌, ◌/◌, ◌%◌, ◌<◌, ◌≤◌, List, get_or, ap, ap₂, ◌∙◌, arith}
-use Rattle.dtx_trellis.specs.Trellis.{State, z2, z0, level, state_of}
-use Rattle.dtx_trellis.specs.Pairs.{groups, coder_at, higher, lower}
+use Rattle.dtx_trellis.specs.Trellis.{State, z2, z0, level, state_of, groups, coder_at, higher, lower}
 use Rattle.dtx_trellis.specs.Groups.{level_at}
 use Rattle.dtx_trellis.proofs.StepsLemmas.{z0_next}
 use Rattle.dtx_slice.proofs.InverseLemmas.{level_z1, lower_bit}

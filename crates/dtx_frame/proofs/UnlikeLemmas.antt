@@ -7,13 +7,12 @@ use Rattle.std.proofs.lemmas.Bool.{eqb-true, eq-eqb, lt-leb, leb-true}
 use Rattle.std.proofs.lemmas.List.{get_or-take, get_or-drop, length-take-le}
 use Rattle.std.proofs.lemmas.List.FromFn.{get_or-map-range_with_len, length-map-range_with_len}
 use Rattle.dtx_lists.proofs.Below.{holds_below}
-use Rattle.dtx_trellis.specs.Pairs.{groups}
+use Rattle.dtx_trellis.specs.Trellis.{groups}
 use Rattle.dtx_trellis.specs.Groups.{level_at, levels_of}
 use Rattle.dtx_trellis.proofs.JoinsLemmas.{groups_whole}
 use Rattle.dtx_slice.specs.Slicing.{sliced}
 use Rattle.dtx_frame.specs.declared.tables.TheConstants.{FIRST}
-use Rattle.dtx_frame.specs.Sequences.{pn511}
-use Rattle.dtx_frame.specs.Segments.{data_segment, sync_symbols}
+use Rattle.dtx_frame.specs.Segments.{pn511, data_segment, sync_symbols}
 use Rattle.dtx_frame.specs.Detection.{differs, differing, looks_like}
 use Rattle.dtx_frame.proofs.SymbolsLemmas.{first_is}
 use Rattle.dtx_frame.proofs.RecurrencesLemmas.{bit_511, long_at, table_511, table_bits}

@@ -4,8 +4,7 @@ use Rattle.std.specs.Prelude.{ℕ, ℤ, pos, ◌+◌, ◌/◌, ◌==◌, nat_le,
 use Rattle.std.specs.Prelude.{slice_index, slice_index_or}
 use Rattle.std.specs.List.{range_with_len}
 use Rattle.dtx_slice.specs.Slicing.{sliced}
-use Rattle.dtx_frame.specs.Sequences.{pn63}
-use Rattle.dtx_frame.specs.Segments.{sync_symbols}
+use Rattle.dtx_frame.specs.Segments.{pn63, sync_symbols}
 
 -- 1 where the segment's symbol i, sliced, differs from that of a field sync. The first 515 are the same in both fields.
 unfoldable pub differs : List ℤ → ℕ → ℕ

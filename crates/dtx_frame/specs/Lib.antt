@@ -1,3 +1,2 @@
-pub mod Sequences
 pub mod Segments
 pub mod Detection

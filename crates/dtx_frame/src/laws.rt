@@ -5,9 +5,8 @@ ghost use Rattle.std.specs.Prelude.{◌≡◌, ℕ, ℤ, ◌+◌, ◌-◌, ◌*�
 ghost use Rattle.std.specs.Prelude.{EachIndex, length, map, take, drop, slice_index, slice_range};
 ghost use Rattle.dtx_trellis.specs.Groups.{levels_of};
 ghost use Rattle.dtx_slice.specs.Slicing.{sliced, sliced_data, sliced_last};
-ghost use Rattle.dtx_frame.specs.Sequences.{pn63, pn511};
+ghost use Rattle.dtx_frame.specs.Segments.{pn63, pn511, data_segment, field_sync};
 ghost use Rattle.dtx_trellis.specs.Trellis.{symbol_of};
-ghost use Rattle.dtx_frame.specs.Segments.{data_segment, field_sync};
 ghost use Rattle.dtx_frame.specs.Detection.{differing, looks_like, looks_second};
 
 use dtx_sizes::{GROUP_BYTES, PRECODE, SEGMENT_LEVELS};

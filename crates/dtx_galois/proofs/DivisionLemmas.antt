@@ -6,7 +6,7 @@ use Rattle.std.specs.Int.Bits.{xor_assoc, xor_comm, xor_self, xor_zero_r, xor_lt
 use Rattle.std.proofs.lemmas.Nat.{shr_split, mod_below, div_below, shl_below, div-mul-add}
 use Rattle.std.proofs.lemmas.Nat.Bits.{bit_at-lt, bit_at_cat_low}
 use Rattle.std.proofs.Math.Nat.{mod-eq_of_lt}
-use Rattle.dtx_galois.specs.BitPolynomial.{product, remainder}
+use Rattle.dtx_galois.specs.Field.{product, remainder}
 use Rattle.dtx_galois.proofs.LinearLemmas.{bit_cases, product_same}
 
 -- a polynomial whose term at d + n is cleared, of two with the same bit there

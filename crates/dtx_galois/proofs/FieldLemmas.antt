@@ -5,8 +5,7 @@ use Rattle.std.proofs.lemmas.Bool.{eqb-true, ltb-true}
 use Rattle.std.specs.Int.Bits.{xor_assoc, xor_self, xor_zero_r}
 use Rattle.std.proofs.lemmas.Nat.{mod_below}
 use Rattle.dtx_lists.proofs.Below.{holds_below, at_below}
-use Rattle.dtx_galois.specs.BitPolynomial.{product, remainder}
-use Rattle.dtx_galois.specs.Field.{mul, pow}
+use Rattle.dtx_galois.specs.Field.{product, remainder, mul, pow}
 use Rattle.dtx_galois.proofs.LinearLemmas.{KeepsSums, at_zero, same_sums, mul_left, mul_right, mul_low, small_sums}
 
 pub left_of : (b : ℕ) → KeepsSums (λ a. mul a b)

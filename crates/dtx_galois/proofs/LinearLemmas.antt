@@ -5,8 +5,7 @@ use Rattle.std.specs.Int.{bit_at}
 use Rattle.std.specs.Int.Bits.{xor_assoc, xor_self, xor_zero_r, xor_shifted, xor_block, xor_lt}
 use Rattle.std.proofs.lemmas.Nat.{xor_comm, xor_mod, shr_split, mod_below, div_below}
 use Rattle.std.proofs.lemmas.Nat.Bits.{bit_at_xor, bit_at-lt, bit_at_cat_low}
-use Rattle.dtx_galois.specs.BitPolynomial.{product, remainder}
-use Rattle.dtx_galois.specs.Field.{mul}
+use Rattle.dtx_galois.specs.Field.{product, remainder, mul}
 
 pub xor_swap : (a b c d : ℕ) → bit_xor (bit_xor a b) (bit_xor c d) ≡ bit_xor (bit_xor a c) (bit_xor b d)
 xor_swap a b c d =

@@ -3,8 +3,7 @@ use Rattle.std.proofs.Common.{◌≡◌, ◌≢◌, ℕ, zero, suc, ◌+◌, ◌
 use Rattle.std.proofs.Common.{◌/◌, ◌%◌, get_or, mul-zero}
 use Rattle.std.proofs.lemmas.Bool.{eq-eqb, eqb-true, not-true, false≢true}
 use Rattle.dtx_lists.proofs.Below.{holds_below, at_below}
-use Rattle.dtx_galois.specs.BitPolynomial.{product, remainder}
-use Rattle.dtx_galois.specs.Field.{mul, pow}
+use Rattle.dtx_galois.specs.Field.{product, remainder, mul, pow}
 use Rattle.dtx_galois.proofs.FieldLemmas.{mul_comm, mul_assoc, mul_inverse, mul_one, zero_mul, pow_small}
 pub use Rattle.dtx_galois.proofs.FieldLemmas.{pow_add}
 use Rattle.dtx_galois.specs.declared.tables.TheConstants.{POWERS}

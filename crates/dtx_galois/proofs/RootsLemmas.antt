@@ -4,8 +4,7 @@ use Rattle.std.proofs.Common.{arith}
 use Rattle.std.proofs.lemmas.Bool.{cases_lt}
 use Rattle.std.specs.List.{AllByRecursion}
 use Rattle.std.specs.Int.Bits.{xor_assoc, xor_self, xor_zero_r, xor_lt}
-use Rattle.dtx_galois.specs.Field.{mul, pow, value, AreBytes}
-use Rattle.dtx_galois.specs.Word.{AreDifferent, IsZero, VanishesAt}
+use Rattle.dtx_galois.specs.Field.{mul, pow, value, AreBytes, AreDifferent, IsZero, VanishesAt}
 use Rattle.dtx_galois.proofs.LinearLemmas.{mul_left, mul_right}
 use Rattle.dtx_galois.proofs.FieldLemmas.{mul_comm, mul_assoc, mul_one, mul_zero, zero_mul, mul_small, xor_zero}
 use Rattle.dtx_galois.proofs.FieldLemmas.{no_divisors, mul_swap}

@@ -3,8 +3,7 @@ use Rattle.std.proofs.Common.{◌≡◌, ℕ, zero, suc, ◌+◌, ◌<◌, List,
 use Rattle.std.proofs.Common.{bit_xor, refl, sym, ap, ap₂, ◌∙◌, arith, add-one}
 use Rattle.std.specs.Int.Bits.{xor_assoc, xor_zero_r, xor_lt}
 use Rattle.std.proofs.lemmas.List.{length_push, take_more, length-append}
-use Rattle.dtx_galois.specs.Field.{mul, pow, value}
-use Rattle.dtx_galois.specs.Word.{sums, scaled}
+use Rattle.dtx_galois.specs.Field.{mul, pow, value, sums, scaled}
 use Rattle.dtx_galois.proofs.LinearLemmas.{mul_left, mul_right, xor_swap}
 use Rattle.dtx_galois.proofs.FieldLemmas.{mul_comm, mul_assoc, mul_one, mul_zero, zero_mul, mul_small}
 use Rattle.dtx_galois.proofs.PowersLemmas.{pow_add}

@@ -1,8 +1,7 @@
 -- Sums and multiples of words.
 use Rattle.std.proofs.Common.{◌≡◌, ℕ, suc, List, [], ◌∷◌, length, refl, ap}
 use Rattle.std.specs.Int.Bits.{xor_lt}
-use Rattle.dtx_galois.specs.Field.{AreBytes}
-use Rattle.dtx_galois.specs.Word.{sums, scaled}
+use Rattle.dtx_galois.specs.Field.{AreBytes, sums, scaled}
 use Rattle.dtx_galois.proofs.FieldLemmas.{mul_small}
 
 pub length_sums : (xs ys : List ℕ) → length (sums xs ys) ≡ length xs

@@ -1,3 +1,1 @@
-pub mod BitPolynomial
 pub mod Field
-pub mod Word

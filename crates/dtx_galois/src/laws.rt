@@ -2,9 +2,8 @@
 
 ghost use Rattle.std.specs.Prelude.{◌≡◌, ◌≢◌, ◌⊎◌, ℕ, List, ◌+◌, ◌<◌, ◌^◌, length};
 ghost use Rattle.std.specs.Int.RustNames.{bit_xor};
-ghost use Rattle.dtx_galois.specs.BitPolynomial.{product, remainder};
-ghost use Rattle.dtx_galois.specs.Field.{AreBytes, mul, pow, value};
-ghost use Rattle.dtx_galois.specs.Word.{AreDifferent, IsZero, VanishesAt, scaled, sums};
+ghost use Rattle.dtx_galois.specs.Field.{product, remainder, AreBytes, mul, pow, value, AreDifferent, IsZero};
+ghost use Rattle.dtx_galois.specs.Field.{VanishesAt, scaled, sums};
 
 use crate::element::{ALPHA, FIELD_POLYNOMIAL};
 

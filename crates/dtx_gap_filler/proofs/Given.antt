@@ -20,8 +20,7 @@ use Rattle.dtx_receiver.proofs.CompleteLemmas.{complete_told, complete_all, comp
 use Rattle.dtx_receiver.specs.Packets.{is_complete, run_packets, all_packets, received}
 use Rattle.dtx_receiver.specs.Runs.{runs}
 use Rattle.dtx_receiver.specs.declared.batch.Received.{Received}
-use Rattle.dtx_chain.specs.Undamaged.{ArePackets, as_received}
-use Rattle.dtx_chain.specs.Damage.{AreReceived, to_sync, from_sync, packet_behind, numbers_in}
+use Rattle.dtx_chain.specs.Damage.{ArePackets, as_received, AreReceived, to_sync, from_sync, packet_behind, numbers_in}
 use Rattle.dtx_chain.proofs.SlightLemmas.{sent_within, sync_first}
 use Rattle.dtx_chain.proofs.WordsLemmas.{packet_at}
 use Rattle.dtx_network.specs.Plans.{IsStream}

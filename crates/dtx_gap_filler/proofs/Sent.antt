@@ -5,7 +5,7 @@ use Rattle.std.specs.Prelude.{slice_range}
 use Rattle.std.proofs.lemmas.Bool.{cases_eq, cases_lt, ne_eqb}
 use Rattle.std.proofs.lemmas.List.{append-nil, drop-drop, get_or-drop, get_or-map, get_or-take, length-drop}
 use Rattle.std.proofs.lemmas.List.{length-take-le}
-use Rattle.dtx_packets.specs.Packet.{sync_of}
+use Rattle.dtx_packets.specs.Packets.{sync_of}
 use Rattle.dtx_plan.specs.declared.plan.Plan.{Plan}
 use Rattle.dtx_plan.specs.declared.transmitter.Transmitter.{Transmitter}
 use Rattle.dtx_adapter.specs.Feed.{feed}
@@ -13,11 +13,10 @@ use Rattle.dtx_exciter.specs.Packets.{syncs}
 use Rattle.dtx_exciter.specs.Emission.{emission}
 use Rattle.dtx_exciter.specs.Log.{life_lines, log, emission_over}
 use Rattle.dtx_exciter.proofs.SinceMarkLemmas.{take_parts}
-use Rattle.dtx_chain.specs.Undamaged.{ArePackets}
-use Rattle.dtx_chain.specs.Damage.{packet_behind}
+use Rattle.dtx_chain.specs.Damage.{ArePackets, packet_behind}
 use Rattle.dtx_chain.proofs.SlightLemmas.{field_begins}
 use Rattle.dtx_network.specs.Headline.{IsFirstListing, HasNoListing, HaveNoMark, IsFedAnew, stretch_of}
-use Rattle.dtx_network.specs.Presets.{presets}
+use Rattle.dtx_network.specs.Orders.{presets}
 use Rattle.dtx_repeat.specs.Lives.{lives, repeated, repeated_log}
 use Rattle.dtx_repeat.specs.Marks.{HasSyncs}
 use Rattle.dtx_gap_filler.specs.Heard.{Hears, mark_from, heard_to}

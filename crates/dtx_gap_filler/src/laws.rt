@@ -8,7 +8,7 @@ ghost use Rattle.dtx_coder.specs.Stream.{a53};
 ghost use Rattle.dtx_chain.specs.Damage.{to_sync, packet_behind};
 ghost use Rattle.dtx_network.specs.Plans.{IsPlan, IsStream, IsListed};
 ghost use Rattle.dtx_network.specs.Headline.{IsFirstListing, HasNoListing, stretch_of};
-ghost use Rattle.dtx_network.specs.Presets.{presets};
+ghost use Rattle.dtx_network.specs.Orders.{presets};
 ghost use Rattle.dtx_repeat.specs.Lives.{lives, repeated, repeated_log};
 ghost use Rattle.dtx_gap_filler.specs.Heard.{Hears, heard_mark, heard_to};
 

@@ -5,7 +5,7 @@ use Rattle.std.proofs.lemmas.List.{take_at, drop_at, take_all, take-take, length
 use Rattle.dtx_coder.proofs.StreamLemmas.{a53_whole}
 use Rattle.dtx_coder.specs.Stream.{a53, symbols_of, a53_symbols}
 use Rattle.dtx_files.specs.Symbols.{byte_of_symbol}
-use Rattle.dtx_recipes.specs.Symbols.{symbol_bytes, in_groups}
+use Rattle.dtx_recipes.specs.SymbolFile.{symbol_bytes, in_groups}
 
 -- packets behind the last whole group bring no symbols
 same_symbols : (ps qs : List (List ℕ)) → a53 ps ≡ a53 qs → symbol_bytes ps ≡ symbol_bytes qs

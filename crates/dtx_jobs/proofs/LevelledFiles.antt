@@ -9,13 +9,11 @@ use Rattle.dtx_engine.specs.Recipe.{first_refused, meaning_of_file, whole_units}
 use Rattle.dtx_files.specs.Symbols.{byte_of_symbol}
 use Rattle.dtx_forms.proofs.AllowedFileLemmas.{all_read, first_read, none_found}
 use Rattle.dtx_forms.specs.Shapes.{single_bytes}
-use Rattle.dtx_recipes.specs.Level.{levelled_files, levelling}
-use Rattle.dtx_recipes.specs.LevelledFile.{levelled_of, levelled_until}
+use Rattle.dtx_recipes.specs.Level.{levelled_files, levelling, levelled_of, levelled_until}
 use Rattle.dtx_recipes.specs.SymbolFile.{symbol_of_byte, symbols}
 use Rattle.dtx_level.proofs.LevelledLemmas.{all_are_levelled, all_are_measured}
 use Rattle.dtx_level.specs.Levelled.{levelled, levelled_rest, levelled_so_far}
-use Rattle.dtx_level.specs.MeasureText.{measure_text, measures_text}
-use Rattle.dtx_level.specs.Measures.{measures, measures_rest, measures_so_far}
+use Rattle.dtx_level.specs.Measures.{measure_text, measures_text, measures, measures_rest, measures_so_far}
 
 -- what is made of bytes, and what their end adds, are all that is levelled and measured
 all_made : (bytes : List ℕ) → joined (levelling.made bytes) (levelling.rest bytes)

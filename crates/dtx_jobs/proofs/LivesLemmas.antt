@@ -11,9 +11,8 @@ use Rattle.dtx_files.specs.LogText.{log_text}
 use Rattle.dtx_repeat.specs.GoingOn.{last_life, longer}
 use Rattle.dtx_repeat.proofs.GoingOnLemmas.{longer_last}
 use Rattle.dtx_repeat.proofs.SeveralLemmas.{one_or_none, with_runs}
-use Rattle.dtx_recipes.specs.Life.{one_mute, presets_in, mutes_in, tally_with}
-use Rattle.dtx_recipes.specs.Lives.{sent_over, logged_over, lives_tally}
-use Rattle.dtx_recipes.specs.Restarts.{restart_with}
+use Rattle.dtx_recipes.specs.Life.{one_mute, presets_in, mutes_in, tally_with, sent_over, logged_over, lives_tally}
+use Rattle.dtx_recipes.specs.Repeat.{restart_with}
 use Rattle.dtx_recipes.proofs.LivesLemmas.{lives_but_last, parts, brought_by, line_by, emission_longer, log_longer}
 use Rattle.dtx_recipes.proofs.LivesLemmas.{restart_by, emission_begun, log_begun, sent_begun, logged_begun}
 use Rattle.dtx_jobs.proofs.LifeOn.{same_tally}

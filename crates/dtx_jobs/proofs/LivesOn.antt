@@ -18,13 +18,12 @@ use Rattle.dtx_repeat.specs.declared.repeater.Repeater.{Repeater}
 use Rattle.dtx_repeat.proofs.RestoredLemmas.{packets_in-append}
 use Rattle.dtx_files.proofs.GivenFewLemmas.{given_few}
 use Rattle.dtx_files.specs.LogText.{log_text}
-use Rattle.dtx_recipes.specs.Life.{one_preset, one_mute, presets_in, mutes_in, HasRoom}
-use Rattle.dtx_recipes.specs.Lives.{lives_tally}
+use Rattle.dtx_recipes.specs.Life.{one_preset, one_mute, presets_in, mutes_in, HasRoom, lives_tally}
 use Rattle.dtx_recipes.proofs.LivesLemmas.{brought_by}
 use Rattle.dtx_jobs.proofs.LivesLemmas.{sent_with, logged_with, tally_with_begun}
 use Rattle.dtx_engine.specs.Made.{both}
 use Rattle.dtx_jobs.specs.Repetition.{IsSentOn}
-use Rattle.dtx_recipes.specs.Restarts.{restart_with}
+use Rattle.dtx_recipes.specs.Repeat.{restart_with}
 use Rattle.dtx_recipes.specs.declared.life_tally.LifeTally.{LifeTally}
 use Rattle.dtx_jobs.specs.declared.repetition.TheConstants.{SENT_BYTES, LOGGED_BYTES}
 use Rattle.dtx_jobs.specs.declared.sending.Sending.{Sending}

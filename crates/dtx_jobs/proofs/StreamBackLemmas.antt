@@ -5,18 +5,15 @@ use Rattle.std.proofs.Common.{List, [], ◌∷◌, length, map, take, drop, repl
 use Rattle.std.specs.Prelude.{nat_le}
 use Rattle.std.specs.List.{range_with_len, AllByRecursion}
 use Rattle.std.proofs.lemmas.List.{length-map}
-use Rattle.dtx_trellis.specs.Trellis.{symbol_of}
+use Rattle.dtx_trellis.specs.Trellis.{symbol_of, groups}
 use Rattle.dtx_trellis.specs.Groups.{level_at, levels_of}
-use Rattle.dtx_trellis.specs.Pairs.{groups}
 use Rattle.dtx_frame.specs.Segments.{bit_symbol, segment_sync, data_segment, sync_symbols, field_sync}
 use Rattle.dtx_frame.proofs.RuleLemmas.{level_at_small}
-use Rattle.dtx_coder.specs.Coded.{whole_groups}
+use Rattle.dtx_coder.specs.Stream.{whole_groups, a53, a53_symbols, four_segments, group_segments, last_before, last_of}
+use Rattle.dtx_coder.specs.Stream.{levels, no_last, segment, sync_before, zero_states}
 use Rattle.dtx_coder.proofs.CountsLemmas.{a53_segment, length-a53_symbols}
-use Rattle.dtx_coder.specs.Stream.{a53, a53_symbols, four_segments, group_segments, last_before, last_of, levels}
-use Rattle.dtx_coder.specs.Stream.{no_last, segment, sync_before, zero_states}
 use Rattle.dtx_files.specs.Symbols.{byte_of_symbol}
-use Rattle.dtx_recipes.specs.SymbolFile.{file_segments}
-use Rattle.dtx_recipes.specs.Symbols.{symbol_bytes}
+use Rattle.dtx_recipes.specs.SymbolFile.{file_segments, symbol_bytes}
 use Rattle.dtx_jobs.proofs.SymbolsBackLemmas.{AreBack, EachBack, IsBack, each_append, each_drop, each_flat, each_map}
 use Rattle.dtx_jobs.proofs.SymbolsBackLemmas.{each_of, each_range, each_take, level_back, segments_read_back}
 

@@ -6,7 +6,7 @@ use Rattle.std.proofs.lemmas.List.{ext_get_or, get_or-drop, get_or-map, get_or-t
 use Rattle.std.proofs.lemmas.List.{length-map, length-take-le, take_at}
 use Rattle.std.proofs.lemmas.List.FromFn.{get_or-map-range_with_len, length-map-range_with_len}
 use Rattle.dtx_packets.proofs.ChunksLemmas.{get_or-first_chunks}
-use Rattle.dtx_receiver.specs.Symbols.{symbols_in}
+use Rattle.dtx_receiver.specs.Bytes.{symbols_in}
 use Rattle.dtx_recipes.specs.SymbolFile.{symbols, segment_at, segments_from, file_segments, whole_segments}
 use Rattle.dtx_recipes.proofs.SymbolFileLemmas.{file_segments-append, segments_from-append, segments_from-piece}
 

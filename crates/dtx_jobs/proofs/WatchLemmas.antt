@@ -19,8 +19,7 @@ use Rattle.dtx_watch.specs.declared.notes.StatesNote.TheVariants as states
 use Rattle.dtx_watch.specs.declared.notes.ClockNote.{ClockNote}
 use Rattle.dtx_watch.specs.declared.notes.ClockNote.TheVariants as clock
 use Rattle.dtx_recipes.specs.Watch.{waiting_bytes, count_of, watch_tally, one_ops, one_slip, one_jump, slips_of}
-use Rattle.dtx_recipes.specs.Watch.{jumps_of, one_unread, one_stray}
-use Rattle.dtx_recipes.specs.WatchTally.{tally_of_one, tally_with, HasRoom}
+use Rattle.dtx_recipes.specs.Watch.{jumps_of, one_unread, one_stray, tally_of_one, tally_with, HasRoom}
 use Rattle.dtx_recipes.specs.declared.watch_tally.WatchTally.{WatchTally}
 
 -- ---- the bytes

@@ -17,14 +17,12 @@ use Rattle.dtx_engine.specs.Made.{only, outputs_of}
 use Rattle.dtx_engine.specs.Recipe.{meaning_of_file}
 use Rattle.dtx_meaning.specs.Meaning.{Meaning}
 use Rattle.dtx_meaning.specs.Status.{done}
-use Rattle.dtx_ops.specs.Reading.{reading, unless}
+use Rattle.dtx_ops.specs.Reading.{reading, unless, first, rules, data_rules, head_rules}
 use Rattle.dtx_ops.proofs.RefusingLemmas.{reading_other}
-use Rattle.dtx_ops.specs.Rules.{first, rules, data_rules, head_rules}
 use Rattle.dtx_ops.specs.declared.fields.Ops.{Ops}
 use Rattle.dtx_ops.specs.declared.refusal.OpsNo.{OpsNo}
 use Rattle.dtx_ops.specs.declared.refusal.OpsNo.TheVariants as no
-use Rattle.dtx_packets.specs.Packet.{pid_of}
-use Rattle.dtx_packets.specs.Packets.{packets_of, whole_packets}
+use Rattle.dtx_packets.specs.Packets.{pid_of, packets_of, whole_packets}
 use Rattle.dtx_watch.specs.Sound.{IsSoundAt, IsSoundFeed, IsCalmOps, IsCalmAt}
 use Rattle.dtx_watch.proofs.SoundLemmas.{calm}
 use Rattle.dtx_watch.specs.Watch.{notes_at, notes_to, watch}

@@ -9,9 +9,9 @@ use Rattle.dtx_packets.proofs.PacketLemmas.{packets_of-piece}
 use Rattle.dtx_packets.specs.Packets.{packets_of, whole_packets}
 use Rattle.dtx_watch.proofs.ToldLemmas.{all_told}
 use Rattle.dtx_watch.specs.Watch.{watch, told, waiting}
-use Rattle.dtx_watch.specs.WatchLines.{first_word, later_words, lines_with, note_words}
+use Rattle.dtx_watch.specs.WatchText.{first_word, later_words, lines_with, note_words, states_word, clock_word}
+use Rattle.dtx_watch.specs.WatchText.{watch_text}
 use Rattle.dtx_watch.proofs.WatchLinesLemmas.{watch_text-append, words_of-watch_text}
-use Rattle.dtx_watch.specs.WatchText.{states_word, clock_word, watch_text}
 use Rattle.dtx_watch.specs.declared.notes.ClockNote.{ClockNote}
 use Rattle.dtx_watch.specs.declared.notes.ClockNote.TheVariants as clock
 use Rattle.dtx_watch.specs.declared.notes.Note.{Note}

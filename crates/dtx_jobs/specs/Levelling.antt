@@ -7,8 +7,7 @@ use Rattle.dtx_jobs.specs.declared.levelling.Brought.{Brought}
 use Rattle.dtx_jobs.specs.declared.levelling.Levelling.{Levelling}
 use Rattle.dtx_level.specs.Levelled.{levelled_so_far}
 use Rattle.dtx_level.specs.Leveller.{Holding, StandsFor}
-use Rattle.dtx_level.specs.MeasureText.{measures_text}
-use Rattle.dtx_level.specs.Measures.{measures_so_far}
+use Rattle.dtx_level.specs.Measures.{measures_text, measures_so_far}
 
 -- the engine stands for these bytes, one for each symbol: they are all that was given to it
 pub record WasLevelled (kept : Levelling) (bytes : List ℕ) : Type 0 where

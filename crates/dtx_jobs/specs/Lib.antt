@@ -1,7 +1,6 @@
 pub mod Excitation
 pub mod Levelling
 pub mod Reception
-pub mod Refining
 pub mod Repetition
 pub mod Restorer
 pub mod Softening

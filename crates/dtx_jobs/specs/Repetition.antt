@@ -9,7 +9,7 @@ use Rattle.dtx_repeat.specs.GoingOn.{last_life}
 use Rattle.dtx_repeat.specs.Lives.{lives_so_far}
 use Rattle.dtx_repeat.specs.Repeater.{StandsFor}
 use Rattle.dtx_repeat.specs.declared.repeater.Repeater.{Repeater}
-use Rattle.dtx_recipes.specs.Lives.{lives_tally}
+use Rattle.dtx_recipes.specs.Life.{lives_tally}
 use Rattle.dtx_recipes.specs.Repeat.{sent_in}
 use Rattle.dtx_recipes.specs.SymbolFile.{file_segments}
 use Rattle.dtx_recipes.specs.declared.life_tally.LifeTally.{LifeTally}

@@ -2,7 +2,7 @@
 use Rattle.std.specs.Prelude.{◌≡◌, ◌+◌, ◌*◌, ◌/◌, ◌%◌, ◌<◌, ◌≤◌, ℕ, List, length, take}
 use Rattle.dtx_coder.specs.Groups.{StandsFor}
 use Rattle.dtx_packets.specs.Packets.{packets_of, whole_packets}
-use Rattle.dtx_recipes.specs.Symbols.{in_groups}
+use Rattle.dtx_recipes.specs.SymbolFile.{in_groups}
 use Rattle.dtx_jobs.specs.declared.stream_coder.StreamCoder.{StreamCoder}
 use Rattle.dtx_jobs.specs.declared.stream_coder.TheConstants.{CODED_BYTES}
 

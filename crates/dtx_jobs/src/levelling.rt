@@ -2,7 +2,7 @@
 ghost use Rattle.std.specs.Prelude.{◌≡◌, ◌++◌, ◌+◌, ◌*◌, ◌<◌, ◌≤◌, ℤ, List, [], IfOk, length, map, vec_len};
 ghost use Rattle.dtx_files.specs.Symbols.{byte_of_symbol};
 ghost use Rattle.dtx_level.specs.Leveller.{StandsFor, all_given, as_list};
-ghost use Rattle.dtx_level.specs.MeasureText.{measures_text};
+ghost use Rattle.dtx_level.specs.Measures.{measures_text};
 ghost use Rattle.dtx_meaning.specs.Status.{IsOfBytes, blame_of};
 ghost use Rattle.dtx_outside.specs.Counts.{Nothing};
 ghost use Rattle.dtx_recipes.specs.Level.{levelled_answer};

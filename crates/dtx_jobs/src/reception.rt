@@ -1,6 +1,6 @@
 // The engine of `receive` and `mend`: receives symbols, one piece of their file at a time.
 ghost use Rattle.std.specs.Prelude.{◌≡◌, ◌+◌, ◌*◌, ◌/◌, ◌<◌, ◌≤◌, ◌++◌, [], ℤ, List, IfOk, length, take};
-ghost use Rattle.dtx_receiver.specs.Symbols.{symbols_in};
+ghost use Rattle.dtx_receiver.specs.Bytes.{symbols_in};
 ghost use Rattle.dtx_recipes.specs.Giving.{bytes_of};
 ghost use Rattle.dtx_jobs.specs.Reception.{IsReceiving, WasGiven};
 ghost use Rattle.dtx_recipes.specs.SymbolFile.{file_segments};

@@ -2,7 +2,7 @@
 ghost use Rattle.std.specs.Prelude.{◌≡◌, ℤ, List, []};
 ghost use Rattle.dtx_meaning.specs.Status.{IsOfBytes, blame_of};
 ghost use Rattle.dtx_outside.specs.Counts.{Nothing};
-ghost use Rattle.dtx_jobs.specs.Refining.{IsRefining, WasFinished};
+ghost use Rattle.dtx_jobs.specs.Restorer.{IsRefining, WasFinished};
 ghost use Rattle.dtx_recipes.specs.Refine.{refined_answer};
 
 use crate::restorer::Restorer;
@@ -19,7 +19,7 @@ pub(crate) const REFINED_BYTES: usize = SEGMENT * FIELD_SEGMENTS as usize * (MOS
 impl Restorer<REFINED_BYTES> for Refiner {
     ghost use Rattle.std.specs.Prelude.{length};
     ghost use Rattle.dtx_words.specs.declared.rows.Command.TheVariants as command;
-    ghost use Rattle.dtx_jobs.specs.Refining.{IsRefining};
+    ghost use Rattle.dtx_jobs.specs.Restorer.{IsRefining};
     ghost use Rattle.dtx_recipes.specs.Refine.{with_refiner};
     ghost use Rattle.dtx_recipes.proofs.RefineLemmas.{refine_knows, refines};
 

@@ -1,7 +1,7 @@
 // What every receiver of segments does, so that `receive` and `mend` have one engine.
 ghost use Rattle.std.specs.Prelude.{◌≡◌, ◌+◌, ◌*◌, ◌<◌, ◌≤◌, ◌++◌, [], ℤ, IfOk, List, length, take};
 ghost use Rattle.dtx_receiver.specs.Runs.{runs};
-ghost use Rattle.dtx_receiver.specs.Symbols.{symbols_in};
+ghost use Rattle.dtx_receiver.specs.Bytes.{symbols_in};
 ghost use Rattle.dtx_recipes.specs.Giving.{Giving, IsGiving};
 
 use dtx_erase::MendReceiver;

@@ -4,7 +4,7 @@ ghost use Rattle.dtx_exciter.specs.Log.{line_of};
 ghost use Rattle.dtx_files.specs.LogText.{log_text};
 ghost use Rattle.dtx_files.specs.Symbols.{byte_of_symbol};
 ghost use Rattle.dtx_recipes.specs.Life.{tally_with, HasRoom};
-ghost use Rattle.dtx_recipes.specs.Restarts.{restart_with};
+ghost use Rattle.dtx_recipes.specs.Repeat.{restart_with};
 
 use crate::symbol_buffer::SymbolBuffer;
 use arrayvec::ArrayString;

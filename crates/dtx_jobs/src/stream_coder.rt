@@ -2,7 +2,7 @@
 ghost use Rattle.std.specs.Prelude.{◌≡◌, ◌+◌, ◌-◌, ◌*◌, ◌/◌, ◌%◌, ◌≤◌, ◌++◌, ℕ, List, length, min};
 ghost use Rattle.dtx_coder.specs.Groups.{StandsFor};
 ghost use Rattle.dtx_coder.specs.Stream.{a53};
-ghost use Rattle.dtx_recipes.specs.Symbols.{symbol_bytes};
+ghost use Rattle.dtx_recipes.specs.SymbolFile.{symbol_bytes};
 
 use crate::symbol_buffer::SymbolBuffer;
 use dtx_coder::{AIR_SYMBOLS, Air, BATCH_PACKETS, Batch, Coder};

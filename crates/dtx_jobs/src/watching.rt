@@ -1,7 +1,7 @@
 // The engine of `watch`: watches a feed, one piece of packets at a time.
 ghost use Rattle.std.specs.Prelude.{◌≡◌, ◌+◌, ◌≤◌, ◌++◌, length};
 ghost use Rattle.dtx_watch.specs.WatchText.{note_text, watch_text};
-ghost use Rattle.dtx_recipes.specs.WatchTally.{HasRoom, tally_of_one, tally_with};
+ghost use Rattle.dtx_recipes.specs.Watch.{HasRoom, tally_of_one, tally_with};
 
 use arrayvec::{ArrayString, ArrayVec};
 use dtx_engine::{Buffer, Shape};

@@ -2,8 +2,7 @@
 use Rattle.std.proofs.Common.{◌≡◌, ℕ, ◌<◌, ◌≤◌, List, length, sym, arith}
 use Rattle.dtx_galois.specs.Field.{AreBytes}
 use Rattle.dtx_laws.specs.Codeword.{IsCodeword}
-use Rattle.dtx_laws.specs.Correction.{IsCorrected, IsLeft}
-use Rattle.dtx_laws.specs.Words.{codeword}
+use Rattle.dtx_laws.specs.Words.{IsCorrected, IsLeft, codeword}
 use Rattle.dtx_laws.proofs.ChoiceLemmas.{codeword_is}
 use Rattle.dtx_laws.proofs.WordsLemmas.{one_correction, own_correction, distance_self}
 

@@ -3,8 +3,7 @@ use Rattle.std.proofs.Common.{[], ◌≡◌, ℕ, zero, suc, ◌+◌, ◌-◌, �
 use Rattle.std.proofs.Common.{bit_xor, refl, sym, ap, ap₂, ◌∙◌, arith, inl, inr, add-one}
 use Rattle.std.proofs.lemmas.List.{length-append, length_push, append_assoc, append-nil, take_at, length-replicate}
 use Rattle.std.specs.Int.Bits.{xor_comm, xor_assoc, xor_self}
-use Rattle.dtx_galois.specs.Field.{mul, pow, value, AreBytes}
-use Rattle.dtx_galois.specs.Word.{scaled}
+use Rattle.dtx_galois.specs.Field.{mul, pow, value, AreBytes, scaled}
 use Rattle.dtx_galois.proofs.LinearLemmas.{mul_left, mul_right}
 use Rattle.dtx_galois.proofs.FieldLemmas.{mul_comm, mul_assoc, mul_zero, zero_mul, xor_zero}
 use Rattle.dtx_galois.proofs.ValuesLemmas.{value_push, value_append, value_sums, value_scaled, value_shifted}

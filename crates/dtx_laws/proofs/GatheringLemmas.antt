@@ -6,13 +6,12 @@ use Rattle.std.proofs.lemmas.Bool.{cases_lt}
 use Rattle.std.proofs.lemmas.Nat.{mod-mul-add, mod_below}
 use Rattle.dtx_laws.specs.Branches.{Branching, HasWidths, spreading, gathering, zeroed, aligned, leaving_all}
 use Rattle.dtx_laws.specs.Branches.{leaving_calls}
-use Rattle.dtx_laws.specs.Gathering.{gathered_at, gathered, IsGatheredBehind}
+use Rattle.dtx_laws.specs.Interleaving.{gathered_at, gathered, IsGatheredBehind, interleaved}
 use Rattle.dtx_laws.proofs.PlacesLemmas.{length_leaving}
 use Rattle.dtx_laws.proofs.InterleavingLemmas.{in_turns, come_by, held_by, held_turn_by, come_at, leaving_calls_is}
 use Rattle.dtx_laws.proofs.InterleavingLemmas.{length-moved, get_or-moved, moved-append, moved_come, moved_held}
 use Rattle.dtx_laws.proofs.InterleavingLemmas.{zeros_move, length-interleaved, get_or-interleaved}
 use Rattle.dtx_laws.proofs.InterleavingLemmas.{at_held as spread_held, zeros_give as spread_zeros, HasWidths-aligned}
-use Rattle.dtx_laws.specs.Interleaving.{interleaved}
 
 abbrev gathered_by : ℕ → ℕ → ℕ → ℕ
 gathered_by b m r = b * m * (b - 1 - r)

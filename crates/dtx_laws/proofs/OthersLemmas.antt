@@ -6,15 +6,13 @@ use Rattle.std.proofs.lemmas.List.{length_push}
 use Rattle.std.proofs.lemmas.Bool.{eqb-true, eqb-false, ne_eqb, and_parts, not-true}
 use Rattle.std.specs.List.{AllByRecursion}
 use Rattle.std.specs.Int.Bits.{xor_comm, xor_self, xor_lt}
-use Rattle.dtx_galois.specs.Field.{mul, pow, value, AreBytes}
-use Rattle.dtx_galois.specs.Word.{AreDifferent, IsZero}
+use Rattle.dtx_galois.specs.Field.{mul, pow, value, AreBytes, AreDifferent, IsZero}
 use Rattle.dtx_galois.proofs.FieldLemmas.{mul_comm, mul_zero, zero_mul, mul_small, pow_small, xor_zero, no_divisors}
 use Rattle.dtx_galois.proofs.PowersLemmas.{powers_differ}
 use Rattle.dtx_galois.proofs.BytesLemmas.{bytes_push}
 use Rattle.dtx_galois.proofs.ValuesLemmas.{value_push}
 use Rattle.dtx_galois.proofs.RootsLemmas.{fewer_roots}
-use Rattle.dtx_laws.specs.Locator.{low_value, power_at, vanishes_at}
-use Rattle.dtx_laws.specs.ErrorValues.{others, weight}
+use Rattle.dtx_laws.specs.Locator.{low_value, power_at, vanishes_at, others, weight}
 
 place_order : (q b : ℕ) → q < suc b → (q ≡ b) ⊎ (q < b)
 place_order q b l = grind arith

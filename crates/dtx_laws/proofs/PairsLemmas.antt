@@ -7,7 +7,7 @@ use Rattle.dtx_galois.specs.Field.{mul, pow, value}
 use Rattle.dtx_galois.proofs.LinearLemmas.{mul_left, xor_swap}
 use Rattle.dtx_galois.proofs.FieldLemmas.{mul_comm, mul_assoc, mul_one, zero_mul, mul_small, pow_small}
 use Rattle.dtx_galois.proofs.PowersLemmas.{pow_swap}
-use Rattle.dtx_laws.specs.ErrorValues.{weight, without}
+use Rattle.dtx_laws.specs.Locator.{weight, without}
 use Rattle.dtx_laws.proofs.MomentsLemmas.{moment, cancelled, moment_cancelled, moment_zero, AreZero}
 
 -- the differences of two words at all places, each with the power of 2 there

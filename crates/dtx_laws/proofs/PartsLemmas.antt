@@ -3,8 +3,7 @@ use Rattle.std.proofs.Common.{◌≡◌, ℕ, zero, suc, ◌-◌, ◌<◌, List,
 use Rattle.std.proofs.Common.{ap, ap₂, ◌∙◌, arith, length-drop, []}
 use Rattle.std.proofs.lemmas.List.{take-append-drop}
 use Rattle.std.specs.Int.Bits.{xor_self, xor_zero_r, xor_comm}
-use Rattle.dtx_galois.specs.Field.{mul, pow, value, AreBytes}
-use Rattle.dtx_galois.specs.Word.{sums}
+use Rattle.dtx_galois.specs.Field.{mul, pow, value, AreBytes, sums}
 use Rattle.dtx_galois.proofs.LinearLemmas.{xor_swap}
 use Rattle.dtx_galois.proofs.ValuesLemmas.{value_append, value_sums}
 use Rattle.dtx_laws.specs.Codeword.{IsCodeword}

@@ -7,8 +7,8 @@ use Rattle.std.specs.Int.Bits.{xor_zero_r, xor_assoc, xor_self, xor_lt}
 use Rattle.dtx_galois.specs.Field.{mul, pow, value, AreBytes}
 use Rattle.dtx_galois.proofs.FieldLemmas.{mul_comm, mul_assoc, mul_one, mul_zero, zero_mul, mul_inverse}
 use Rattle.dtx_laws.specs.Codeword.{IsCorrection}
-use Rattle.dtx_laws.specs.Locator.{IsLocator, low_value, Annuls, power_at, vanishes_at}
-use Rattle.dtx_laws.specs.ErrorValues.{others, weight, error_at, patched_at}
+use Rattle.dtx_laws.specs.Locator.{IsLocator, low_value, Annuls, power_at, vanishes_at, others, weight, error_at}
+use Rattle.dtx_laws.specs.Locator.{patched_at}
 use Rattle.dtx_laws.proofs.KernelLemmas.{kernel, same_sequence}
 use Rattle.dtx_laws.proofs.PairsLemmas.{pairs, moment_pairs, without_is, only}
 use Rattle.dtx_laws.proofs.OthersLemmas.{few_others, weight_at_other, weight_small, weight_not_zero}

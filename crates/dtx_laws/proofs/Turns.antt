@@ -2,8 +2,7 @@
 use Rattle.std.proofs.Common.{◌≡◌, ℕ, ◌+◌, ◌<◌, ◌==◌, ◌&&◌, not, Bool, true, false, List, ◌∷◌, length, get_or, bit_xor}
 use Rattle.std.proofs.Common.{sym, ap, ◌∙◌, arith, add-one}
 use Rattle.dtx_galois.specs.Field.{mul, pow}
-use Rattle.dtx_laws.specs.Locator.{power_at}
-use Rattle.dtx_laws.specs.ErrorValues.{others, weight, without, error_at}
+use Rattle.dtx_laws.specs.Locator.{power_at, others, weight, without, error_at}
 
 others_yes : (n : ℕ) (mark : ℕ → Bool) (p q : ℕ) → (mark q && not (q == p)) ≡ true
     → others n mark p (q + 1) ≡ power_at n q ∷ others n mark p q

@@ -1,5 +1,6 @@
--- Codewords of n bytes with k bytes of data (ATSC A/53 Part 2, Reed-Solomon encoder).
+-- Codewords of n bytes with k bytes of data, and the syndromes of a word (ATSC A/53 Part 2, Reed-Solomon encoder).
 use Rattle.std.specs.Prelude.{ℕ, ◌≡◌, ◌+◌, ◌-◌, ◌*◌, ◌%◌, ◌<◌, ◌≤◌, ◌==◌, if◌then◌else◌, List, [], ◌∷◌, length}
+use Rattle.std.specs.Prelude.{slice_index}
 use Rattle.dtx_galois.specs.Field.{pow, value, AreBytes}
 
 -- The numbers of a code. It has at least one byte of data, and two parity bytes for each wrong byte that can be put
@@ -27,3 +28,7 @@ distance (x ∷ xs) (y ∷ ys) = (if x == y then 0 else 1) + distance xs ys
 pub record IsCorrection (n k : ℕ) (word code : List ℕ) : Type 0 where
   pub codeword : IsCodeword n k code
   pub near : 2 * distance word code ≤ n - k
+
+-- the first entries are that many syndromes of the word
+abbrev pub AreSyndromes : (count : ℕ) (word syndromes : List ℕ) → Type 0
+AreSyndromes count word syndromes = (i : ℕ) → i < count → slice_index syndromes i ≡ value word (pow 2 i)

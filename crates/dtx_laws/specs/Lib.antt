@@ -1,11 +1,7 @@
 pub mod Codeword
 pub mod Words
-pub mod Syndromes
 pub mod Register
 pub mod Whitening
 pub mod Branches
 pub mod Interleaving
-pub mod Gathering
-pub mod Correction
 pub mod Locator
-pub mod ErrorValues

@@ -3,8 +3,7 @@
 use Rattle.std.specs.Prelude.{ℕ, List, [], ◌∷◌, ◌++◌}
 use Rattle.std.proofs.Common.{zero, suc}
 use Rattle.std.specs.Int.RustNames.{bit_xor}
-use Rattle.dtx_galois.specs.Field.{pow}
-use Rattle.dtx_galois.specs.Word.{sums, scaled}
+use Rattle.dtx_galois.specs.Field.{pow, sums, scaled}
 
 -- the product of all x - α^i for i below m, without its highest term x^m
 abbrev pub generator : ℕ → List ℕ

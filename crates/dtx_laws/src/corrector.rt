@@ -2,7 +2,7 @@
 
 ghost use Rattle.std.specs.Prelude.{◌≡◌, MatchResult, length};
 ghost use Rattle.dtx_laws.specs.Codeword.{IsCode};
-ghost use Rattle.dtx_laws.specs.Correction.{AreCorrected, IsCorrected, IsLeft};
+ghost use Rattle.dtx_laws.specs.Words.{AreCorrected, IsCorrected, IsLeft};
 
 /// No codeword lies within `(N - K) / 2` places of the word.
 #[derive(Clone, Copy, Debug, PartialEq, Eq)]

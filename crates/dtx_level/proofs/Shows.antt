@@ -4,8 +4,7 @@ use Rattle.std.proofs.Common.{sum, take, drop, sym, ap, ap₂, ◌∙◌, arith,
 use Rattle.std.proofs.lemmas.Bool.{le-leb, lt-leb, true≢false}
 use Rattle.std.proofs.lemmas.List.{get_or_append_left, length-take-le, take-append-drop}
 use Rattle.dtx_lists.proofs.Range.{map-range_same}
-use Rattle.dtx_acquire.specs.Agreement.{unlike, unlike_at}
-use Rattle.dtx_acquire.specs.Places.{NeedsSegment}
+use Rattle.dtx_acquire.specs.Agreement.{unlike, unlike_at, NeedsSegment}
 use Rattle.dtx_acquire.proofs.PlacesLemmas.{least_behind, whole_there}
 use Rattle.dtx_acquire.proofs.SyncsLemmas.{order_behind, symbol_behind, unlike_behind}
 use Rattle.dtx_level.specs.Shown.{are_shown, constant, counted_at, gain, least_shown, shows, sum_where}

@@ -1,6 +1,7 @@
--- The measures of the field syncs of a capture (the profile's own; ATSC A/53 Part 2, data field sync).
+-- The measures of the field syncs of a capture, and their text (the profile's own; ATSC A/53 Part 2, data field sync).
 use Rattle.std.specs.Prelude.{ℕ, ℤ, pos, ◌+◌, ◌*◌, ◌+ℤ◌, ◌-ℤ◌, ◌*ℤ◌, nat_abs, Bool, true, false, not, List, map, sum}
-use Rattle.std.specs.Prelude.{◌≡◌, ◌++◌, length, replicate, take, drop, slice_index_or}
+use Rattle.std.specs.Prelude.{◌≡◌, ◌++◌, length, replicate, take, drop, slice_index_or, if◌then◌else◌, codes, decimal}
+use Rattle.std.specs.Prelude.{flat_map}
 use Rattle.std.specs.Int.{int_div_euclid}
 use Rattle.std.specs.List.{range_with_len}
 use Rattle.dtx_frame.specs.Segments.{sync_symbols}
@@ -9,6 +10,7 @@ use Rattle.dtx_level.specs.declared.measure.Measure.{Measure}
 use Rattle.dtx_level.specs.Shown.{constant, gain}
 use Rattle.dtx_level.specs.Syncs.{all_syncs, slips, syncs_where}
 use Rattle.dtx_level.specs.Levelled.{by_sync, level, levelled, levelled_so_far, where_some}
+use Rattle.std.specs.Fmt.{signed_decimal}
 
 -- the segment of the sync at a place, levelled by that sync
 unfoldable pub levelled_sync : List ℤ → ℕ → List ℤ
@@ -83,3 +85,24 @@ pub record IsGrown (symbols more : List ℤ) : Type 0 where
   pub told : List Measure
   pub levelled_is : levelled_so_far (symbols ++ more) ≡ levelled_so_far symbols ++ others
   pub measures_are : measures_so_far (symbols ++ more) ≡ measures_so_far symbols ++ told
+
+-- the number of a field in the line
+abbrev pub field_number : Bool → ℕ
+field_number second = if second then 2 else 1
+
+-- A line: `sync`, the place, the field, the gain, the constant and the noise, with one space between them, and a line
+-- feed. Below 0 a number has a minus sign.
+unfoldable pub measure_text : Measure → List ℕ
+measure_text measure =
+    codes "sync "
+    ++ (decimal measure.place
+    ++ (codes " "
+    ++ (decimal (field_number measure.second)
+    ++ (codes " "
+    ++ (signed_decimal measure.gain
+    ++ (codes " "
+    ++ (signed_decimal measure.constant ++ (codes " " ++ (decimal measure.noise ++ codes "\n")))))))))
+
+-- the lines, one behind the other
+abbrev pub measures_text : List Measure → List ℕ
+measures_text measures = flat_map measure_text measures

@@ -4,8 +4,7 @@ use Rattle.std.specs.Prelude.{ℕ, ℤ, pos, nat_abs, ◌≤◌, ◌+◌, ◌+�
 use Rattle.std.specs.Prelude.{true, false}
 use Rattle.std.specs.Prelude.{if◌then◌else◌, Option, List, [], ◌∷◌, length, map, slice_index_or}
 use Rattle.std.specs.List.{range_with_len}
-use Rattle.dtx_acquire.specs.Agreement.{are_unlike, sync_sign, unlike}
-use Rattle.dtx_acquire.specs.Places.{first_place}
+use Rattle.dtx_acquire.specs.Agreement.{are_unlike, sync_sign, unlike, first_place}
 
 -- the sum of numbers
 abbrev pub total : List ℤ → ℤ

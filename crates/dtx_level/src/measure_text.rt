@@ -2,7 +2,7 @@
 
 ghost use Rattle.std.specs.Prelude.{◌≡◌, ◌+◌, ◌≤◌, ◌++◌, codes, decimal, length};
 ghost use Rattle.std.specs.Fmt.{signed_decimal};
-ghost use Rattle.dtx_level.specs.MeasureText.{field_number, measure_text};
+ghost use Rattle.dtx_level.specs.Measures.{field_number, measure_text};
 
 use crate::Measure;
 use arrayvec::ArrayString;

@@ -1,5 +1,5 @@
 -- What a command means, and when a meaning is carried out.
-use Rattle.std.specs.Prelude.{◌≡◌, ◌≢◌, ◌⊎◌, ℕ, List, [], ◌∷◌, ◌++◌, Option}
+use Rattle.std.specs.Prelude.{◌≡◌, ◌≢◌, ◌⊎◌, ℕ, List, [], ◌∷◌, ◌++◌, Option, zero, suc, take, drop}
 use Rattle.std.specs.Option.{option_map}
 use Rattle.dtx_outside.specs.Shelf.{Files, with_file}
 use Rattle.dtx_meaning.specs.Status.{IsFault, ended}
@@ -97,3 +97,9 @@ abbrev pub IsDone : Meaning → Option Files → Status → Type 0 → Option Fi
 IsDone meaning start status unprinted now =
     IsAnswered meaning start status now
     ⊎ (IsFaulted meaning start status now ⊎ IsUnprinted meaning start status unprinted now)
+
+-- n units of `unit` bytes, each changed in place, where the bytes `given` came before them
+abbrev pub each : ℕ → (List ℕ → List ℕ → List ℕ) → List ℕ → ℕ → List ℕ → List ℕ
+each unit changed given zero bytes = []
+each unit changed given (suc n) bytes =
+    changed given (take unit bytes) ++ each unit changed (given ++ take unit bytes) n (drop unit bytes)

@@ -1,5 +1,5 @@
 -- The codes of the statuses, which count each is blamed on, and the statuses of errors from other crates.
-use Rattle.std.specs.Prelude.{◌≡◌, ℕ, ◌<◌, Bool, true, false, List, [], Result, Ok, Err}
+use Rattle.std.specs.Prelude.{◌≡◌, ℕ, ◌<◌, Bool, true, false, List, [], Result, Ok, Err, ◌-◌, ◌++◌, length, replicate}
 use Rattle.dtx_outside.specs.Counts.{Blame, Nothing, Missing, Reading, Writing}
 use Rattle.dtx_outside.specs.declared.shelf.ReadNo.{ReadNo}
 use Rattle.dtx_outside.specs.declared.shelf.ReadNo.TheVariants as read
@@ -125,3 +125,7 @@ ended status = record { status = status; numbers = [] }
 abbrev pub outcome_of : Result Outcome Status → Outcome
 outcome_of (Ok outcome) = outcome
 outcome_of (Err status) = ended status
+
+-- the numbers, and zeros up to the most that a line has
+abbrev pub filled : List ℕ → List ℕ
+filled numbers = numbers ++ replicate (7 - length numbers) 0

@@ -19,7 +19,7 @@ impl Model for Numbers {
 
     ghost Value = { List ℕ };
 
-    ghost use Rattle.dtx_meaning.specs.Numbers.{filled};
+    ghost use Rattle.dtx_meaning.specs.Status.{filled};
 
     ghost view = { λ n. take n.count n.items };
 

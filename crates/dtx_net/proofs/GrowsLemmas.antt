@@ -11,8 +11,7 @@ use Rattle.dtx_exciter.specs.Emission.{last_segments, emission}
 use Rattle.dtx_exciter.specs.Log.{Line, restart, line_of, life_lines, log, emission_over}
 use Rattle.dtx_exciter.proofs.EmittedLemmas.{emission_push}
 use Rattle.dtx_net.specs.Steps.{Step, packet_step, restart_step}
-use Rattle.dtx_net.specs.Lives.{own_steps, lives_of, last_life}
-use Rattle.dtx_net.specs.Sent.{sent_segments, lines_of}
+use Rattle.dtx_net.specs.Lives.{own_steps, lives_of, last_life, sent_segments, lines_of}
 use Rattle.dtx_net.proofs.LastLifeLemmas.{lives}
 
 -- ---- the segments of lives

@@ -1,5 +1,3 @@
-pub mod Changed
 pub mod Steps
 pub mod Lives
-pub mod Sent
 pub mod Standing

@@ -1,7 +1,10 @@
--- The lives of a transmitter: what it is given between its restarts (the profile's own).
+-- The lives of a transmitter: what it is given between its restarts, what it sends, and what is logged (the profile's
+-- own).
 use Rattle.std.specs.Prelude.{ℕ, ◌-◌, ◌==◌, Option, Some, None, List, [], ◌∷◌, ◌++◌, map, filter, length, take}
-use Rattle.std.specs.Prelude.{slice_index_or}
+use Rattle.std.specs.Prelude.{slice_index_or, ℤ}
 use Rattle.dtx_net.specs.Steps.{Step}
+use Rattle.dtx_plan.specs.declared.transmitter.Transmitter.{Transmitter}
+use Rattle.dtx_exciter.specs.Log.{Line, log, emission_over}
 
 -- the steps of the transmitter at a place alone: the packets that it is given, and its restarts
 abbrev pub own_steps : ℕ → List Step → List (Option (List ℕ))
@@ -30,3 +33,11 @@ abbrev pub joined_steps : List (List (List ℕ)) → List (Option (List ℕ))
 joined_steps [] = []
 joined_steps (life ∷ []) = map Some life
 joined_steps (life ∷ next ∷ more) = map Some life ++ None ∷ joined_steps (next ∷ more)
+
+-- what the transmitter t, which stands at a place of the list, sends over the steps of all
+unfoldable pub sent_segments : Transmitter → ℕ → List Step → List (List ℤ)
+sent_segments t who steps = emission_over t.address t.delay (lives_of who steps)
+
+-- the lines of its log
+unfoldable pub lines_of : Transmitter → ℕ → List Step → List Line
+lines_of t who steps = log t.address t.delay 0 (lives_of who steps)

@@ -1,5 +1,6 @@
 -- The steps of a schedule (the profile's own).
-use Rattle.std.specs.Prelude.{ℕ, Option, Some, None, List, [], ◌∷◌, map, slice_index_or}
+use Rattle.std.specs.Prelude.{ℕ, Option, Some, None, List, [], ◌∷◌, map, slice_index_or, Result, Ok, Err, bit_xor}
+use Rattle.std.specs.Prelude.{slice_index, slice_set}
 use Rattle.std.specs.List.{range_with_len, flat_map}
 use Rattle.dtx_make.specs.Made.{made_packet}
 use Rattle.dtx_plan.specs.declared.transmitter.Transmitter.{Transmitter}
@@ -7,7 +8,25 @@ use Rattle.dtx_plan.specs.declared.event.Event.{Event}
 use Rattle.dtx_plan.specs.declared.event.Event.TheVariants.{Send, Foreign, Flip, Lie, Restart}
 unfoldable pub use Rattle.dtx_plan.specs.TransmitterTable.{transmitter_place}
 use Rattle.dtx_plan.specs.Sound.{to_of}
-use Rattle.dtx_net.specs.Changed.{flipped_packet, lied_packet}
+use Rattle.dtx_packets.specs.Packets.{sync_of, counter_of}
+use Rattle.dtx_ops.specs.declared.fields.Ops.{Ops}
+use Rattle.dtx_ops.specs.declared.refusal.OpsNo.{OpsNo}
+use Rattle.dtx_ops.specs.Reading.{reading}
+use Rattle.dtx_ops.specs.Spelling.{spelling}
+
+-- the packet with one byte changed by exclusive or
+abbrev pub flipped_packet : List ℕ → ℕ → ℕ → List ℕ
+flipped_packet packet at with = slice_set packet at (bit_xor (slice_index packet at) with)
+
+-- An operations packet with these states. Its other fields are those that the packet reads as, and byte 0 and counter
+-- are the packet's own. A packet that doesn't read stays.
+abbrev pub lied_by : List ℕ → List ℕ → Result Ops OpsNo → List ℕ
+lied_by packet states (Ok ops) = spelling (record ops { states = states }) (counter_of packet) (sync_of packet)
+lied_by packet states (Err why) = packet
+
+-- the packet with other states, where it reads as an operations packet
+unfoldable pub lied_packet : List ℕ → List ℕ → List ℕ
+lied_packet packet states = lied_by packet states (reading packet)
 
 -- The transmitter at place `who` of the plan's list is given a packet, or restarted if there is no packet.
 pub record Step : Type 0 where

@@ -1,6 +1,6 @@
 // Packets as events of a plan change them.
 ghost use Rattle.std.specs.Prelude.{◌≡◌, ◌<◌};
-ghost use Rattle.dtx_net.specs.Changed.{flipped_packet, lied_packet};
+ghost use Rattle.dtx_net.specs.Steps.{flipped_packet, lied_packet};
 
 use dtx_exciter::Corrector;
 use dtx_ops::{read, write};
@@ -18,7 +18,7 @@ pub fn flipped(packet: &Packet, at: u8, with: u8) -> Packet
 }
 
 /// The packet with other states, as `Net::lied` describes. `corrector` has the tables of the code.
-#[tactic(auto, unfolding(crate::specs::Changed::lied_packet))]
+#[tactic(auto, unfolding(crate::specs::Steps::lied_packet))]
 pub(crate) fn lied_by(corrector: &Corrector, packet: &Packet, states: &States) -> Packet
     ensures { result.0 ≡ lied_packet packet.now.0 states.now }
 {

@@ -8,8 +8,8 @@ ghost use Rattle.dtx_exciter.specs.Packets.{last_answer};
 ghost use Rattle.dtx_exciter.specs.Emission.{last_segments};
 ghost use Rattle.dtx_exciter.specs.Log.{restart, line_of};
 ghost use Rattle.dtx_net.specs.Steps.{Step, packet_step, restart_step, transmitter_place};
-ghost use Rattle.dtx_net.specs.Lives.{own_steps, joined_steps, lives_of, last_life, ended_lives};
-ghost use Rattle.dtx_net.specs.Sent.{sent_segments, lines_of};
+ghost use Rattle.dtx_net.specs.Lives.{own_steps, joined_steps, lives_of, last_life, ended_lives, sent_segments};
+ghost use Rattle.dtx_net.specs.Lives.{lines_of};
 
 /// A transmitter sends and logs the same in any two schedules that give it the same lives. Two schedules do so if they
 /// have the same steps of that transmitter, whatever is done with others and when. Steps of others, anywhere among its

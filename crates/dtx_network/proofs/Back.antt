@@ -3,8 +3,8 @@ use Rattle.std.proofs.Common.{ℕ, List, ◌+◌, ◌≡◌, ℤ, ◌*◌, ◌/�
 use Rattle.std.proofs.Common.{slice_get, ◌-◌, [], map, drop, get_or, sym, ap₂, length-drop, length-take-le}
 use Rattle.std.proofs.lemmas.Option.{slice_get-map}
 use Rattle.dtx_exciter.specs.Lockstep.{segment_place}
-use Rattle.dtx_chain.specs.Undamaged.{ArePackets, as_received}
-use Rattle.dtx_chain.specs.Damage.{AreReceived, as_corrected, to_sync, from_sync, packet_behind, numbers_in}
+use Rattle.dtx_chain.specs.Damage.{ArePackets, as_received, AreReceived, as_corrected, to_sync, from_sync}
+use Rattle.dtx_chain.specs.Damage.{packet_behind, numbers_in}
 use Rattle.dtx_chain.proofs.NoDamageLemmas.{part_received, is_slight}
 use Rattle.dtx_network.specs.Headline.{last_packet, stretch_of}
 use Rattle.dtx_network.specs.GivesBack.{IsReceivedAlone, BeginsField, to_field, word_of, CanBeGivenBack}

@@ -21,8 +21,7 @@ use Rattle.dtx_exciter.specs.Stretch.{emission_behind, lines_behind, before_stre
 use Rattle.dtx_exciter.proofs.InLivesLemmas.{stretch_segments, stretch_log}
 use Rattle.dtx_exciter.proofs.LockstepIsLemmas.{lockstep_is, lockstep_on, length-before}
 use Rattle.dtx_network.specs.Plans.{IsPlan, IsStream, IsListed, IsInTime}
-use Rattle.dtx_network.specs.Orders.{has_order, has_listing}
-use Rattle.dtx_network.specs.Presets.{orders, moment_at, preset_at, presets}
+use Rattle.dtx_network.specs.Orders.{has_order, has_listing, orders, moment_at, preset_at, presets}
 use Rattle.dtx_network.specs.Headline.{IsFed, IsFirstListing, stretch_of, segment_of, line_end, Around, around, Emits}
 use Rattle.dtx_network.proofs.Orders.{order_some, order_says}
 use Rattle.dtx_network.proofs.Listings.{lists_is, listing_is, listing_orders, place_of, feed_locks}

@@ -5,7 +5,7 @@ use Rattle.std.proofs.lemmas.Bool.{cases_Bool, cond-true, cond-false, eqb-true}
 use Rattle.dtx_galois.specs.Field.{AreBytes}
 use Rattle.dtx_galois.proofs.BytesLemmas.{bytes_append}
 use Rattle.dtx_laws.proofs.ChoiceLemmas.{codeword_is, codeword_length}
-use Rattle.dtx_packets.specs.Packet.{pid_of}
+use Rattle.dtx_packets.specs.Packets.{pid_of}
 use Rattle.dtx_cadence.specs.Mark.{sync_at, marked}
 use Rattle.dtx_ops.specs.Spelling.{IsValid, data_of, spelling}
 use Rattle.dtx_ops.specs.declared.fields.Ops.{Ops}
@@ -14,7 +14,7 @@ use Rattle.dtx_ops.proofs.ReadingsLemmas.{read_as}
 use Rattle.dtx_plan.specs.declared.plan.Plan.{Plan}
 use Rattle.dtx_adapter.specs.Feed.{is_placeholder, ops_at, counter_at, as_feed_packet, fed_packet, feed}
 use Rattle.dtx_adapter.proofs.FeedsLemmas.{length-feed, feed_packet}
-use Rattle.dtx_chain.specs.Undamaged.{ArePackets}
+use Rattle.dtx_chain.specs.Damage.{ArePackets}
 use Rattle.dtx_network.specs.Plans.{IsPlan, IsStream}
 use Rattle.dtx_network.proofs.Orders.{operations_read}
 

@@ -9,7 +9,7 @@ use Rattle.std.proofs.lemmas.Bool.{cases_Bool, cases_lt, eqb-true, true≢false}
 use Rattle.std.proofs.lemmas.Option.{none-some, slice_get_within}
 use Rattle.std.proofs.lemmas.List.{append-nil, drop_at, get_or-take, get_or_append_left, length-drop, length-take}
 use Rattle.std.proofs.lemmas.List.{length-take-le, take-map, take-take, take_more}
-use Rattle.dtx_packets.specs.Packet.{sync_of}
+use Rattle.dtx_packets.specs.Packets.{sync_of}
 use Rattle.dtx_cadence.specs.Anchor.{has_mark, anchor, seen_by, seen}
 use Rattle.dtx_cadence.specs.Cadence.{IsInStep}
 use Rattle.dtx_cadence.proofs.NextAnchorLemmas.{anchor_below, anchor_is_mark}
@@ -35,8 +35,7 @@ use Rattle.dtx_exciter.proofs.FollowedLemmas.{Follows, follows, after, after_mor
 use Rattle.dtx_exciter.proofs.LockstepIsLemmas.{lockstep_is}
 use Rattle.dtx_exciter.proofs.LinesLemmas.{lines_more, lines_is}
 use Rattle.dtx_network.specs.Plans.{IsPlan, IsStream}
-use Rattle.dtx_network.specs.Orders.{has_order}
-use Rattle.dtx_network.specs.Presets.{presets}
+use Rattle.dtx_network.specs.Orders.{has_order, presets}
 use Rattle.dtx_network.specs.Headline.{IsFirstListing, HasNoListing, HaveNoMark, IsFedAnew, stretch_of}
 use Rattle.dtx_network.proofs.Orders.{order_none, order_says}
 use Rattle.dtx_network.proofs.Listings.{not_its_page, lists_is, listing_is, place_of, locks_with}

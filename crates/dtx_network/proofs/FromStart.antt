@@ -7,7 +7,7 @@ use Rattle.dtx_adapter.specs.Feed.{feed}
 use Rattle.dtx_exciter.specs.Emission.{emission}
 use Rattle.dtx_exciter.specs.Log.{life_lines}
 use Rattle.dtx_network.specs.Plans.{IsPlan, IsStream, IsListed, IsInTime}
-use Rattle.dtx_network.specs.Presets.{presets}
+use Rattle.dtx_network.specs.Orders.{presets}
 use Rattle.dtx_network.specs.Headline.{IsFirstListing, HasNoListing, IsFedAnew, stretch_of}
 use Rattle.dtx_network.proofs.FromMark as behind
 use Rattle.dtx_network.proofs.FromMark.{from_mark}

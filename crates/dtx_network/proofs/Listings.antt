@@ -5,7 +5,7 @@ use Rattle.std.proofs.Common.{ap₂, ◌∙◌, arith, is_some, slice_get, eqb-t
 use Rattle.std.specs.List.{range_with_len, list_any, find}
 use Rattle.std.proofs.lemmas.Bool.{cases_lt, cases_Bool, eqb-false}
 use Rattle.std.proofs.lemmas.Option.{slice_get-get_or}
-use Rattle.dtx_packets.specs.Packet.{pid_of}
+use Rattle.dtx_packets.specs.Packets.{pid_of}
 use Rattle.dtx_ops.specs.declared.fields.Entry.{Entry}
 use Rattle.dtx_ops.specs.declared.fields.Ops.{Ops}
 use Rattle.dtx_ops.specs.declared.paging.Paging.{Paging}

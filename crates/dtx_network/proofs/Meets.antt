@@ -23,15 +23,13 @@ use Rattle.dtx_adapter.specs.Feed.{feed}
 use Rattle.dtx_adapter.proofs.FeedsLemmas.{length-feed}
 use Rattle.dtx_exciter.proofs.LockedLemmas.{locked_nothing, locked_soon}
 use Rattle.dtx_exciter.specs.Lockstep.{locked_from}
-use Rattle.dtx_net.specs.Sent.{sent_segments}
+use Rattle.dtx_net.specs.Lives.{sent_segments, own_steps, lives_from, lives_of, last_life}
 use Rattle.dtx_net.specs.Steps.{Step, transmitter_place, actions_of, steps_at, steps_of, schedule}
-use Rattle.dtx_net.specs.Lives.{own_steps, lives_from, lives_of, last_life}
 use Rattle.dtx_net.proofs.LastLifeLemmas.{last_life_is}
 use Rattle.dtx_net.proofs.OwnLemmas.{own_here, own_elsewhere}
 use Rattle.dtx_net.proofs.PlaceOfLemmas.{place_found, place_only}
 use Rattle.dtx_network.specs.Plans.{IsPlan, IsStream, IsInTime}
-use Rattle.dtx_network.specs.Orders.{has_listing, pages_in}
-use Rattle.dtx_network.specs.Presets.{orders}
+use Rattle.dtx_network.specs.Orders.{has_listing, pages_in, orders}
 use Rattle.dtx_network.specs.Headline.{IsFirstListing, stretch_of}
 use Rattle.dtx_network.specs.Network.{steps_under, Joined, AreOfOthers}
 use Rattle.dtx_network.proofs.FromStart.{segments_from}

@@ -8,7 +8,7 @@ use Rattle.std.proofs.lemmas.List.{get_or_past}
 use Rattle.std.proofs.lemmas.List.Elements.{All-weaker}
 use Rattle.std.proofs.Math.ListN.{get_or-map}
 use Rattle.dtx_lists.proofs.RangeSearch.{find-range_gives}
-use Rattle.dtx_packets.specs.Packet.{pid_of}
+use Rattle.dtx_packets.specs.Packets.{pid_of}
 use Rattle.dtx_ops.specs.declared.fields.Ops.{Ops}
 use Rattle.dtx_ops.specs.Reading.{reading}
 use Rattle.dtx_ops.proofs.ReadingsLemmas.{read_as}

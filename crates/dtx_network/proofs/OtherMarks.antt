@@ -12,8 +12,7 @@ use Rattle.dtx_cadence.specs.Cadence.{HasMarksRound}
 use Rattle.dtx_exciter.proofs.FollowedLemmas.{marked_part, syncs_append}
 use Rattle.dtx_exciter.proofs.LockedLemmas.{IsLocked, locked, has_lock}
 use Rattle.dtx_exciter.specs.Lockstep.{IsFeed, HasLock, locked_from}
-use Rattle.dtx_exciter.specs.Packets.{anchor_of, syncs}
-use Rattle.dtx_exciter.specs.SentAlike.{bodies, AreSentAlike}
+use Rattle.dtx_exciter.specs.Packets.{anchor_of, syncs, bodies, AreSentAlike}
 use Rattle.dtx_exciter.proofs.SentAlikeLemmas.{one_missing, stray}
 use Rattle.dtx_exciter.proofs.UnderLemmas.{length-syncs}
 

@@ -6,7 +6,7 @@ use Rattle.std.proofs.Common.{subst, ◌∙◌, arith, slice_range, append-nil, 
 use Rattle.std.proofs.Common.{take_at}
 use Rattle.std.proofs.lemmas.Bool.{cond-true, eqb-false}
 use Rattle.std.proofs.lemmas.List.{length_push}
-use Rattle.dtx_packets.specs.Packet.{sync_of}
+use Rattle.dtx_packets.specs.Packets.{sync_of}
 use Rattle.dtx_cadence.specs.Anchor.{has_mark}
 use Rattle.dtx_cadence.specs.Cadence.{IsInStep}
 use Rattle.dtx_cadence.proofs.AnchoredLemmas.{two_missing}

@@ -9,8 +9,7 @@ use Rattle.dtx_coder.specs.Stream.{a53}
 use Rattle.dtx_receiver.specs.Bytes.{data_count, groups_of, bytes_in}
 use Rattle.dtx_receiver.specs.Intervals.{segments_in}
 use Rattle.dtx_exciter.specs.Lockstep.{segment_place}
-use Rattle.dtx_chain.specs.Undamaged.{ArePackets}
-use Rattle.dtx_chain.specs.Damage.{IsNear}
+use Rattle.dtx_chain.specs.Damage.{ArePackets, IsNear}
 use Rattle.dtx_chain.proofs.FromSyncLemmas.{IsThere, length-bytes_there, front_near, some_segments}
 use Rattle.dtx_network.specs.Headline.{last_packet, stretch_of}
 use Rattle.dtx_network.specs.GivesBack.{BeginsField, to_field, word_of, CanBeGivenBack}

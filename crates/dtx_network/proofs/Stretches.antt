@@ -19,8 +19,7 @@ use Rattle.dtx_exciter.specs.Log.{Line}
 use Rattle.dtx_exciter.specs.Stretch.{preset_line, orders_in, stretch_lines}
 use Rattle.dtx_exciter.proofs.ForceLemmas.{counted_off}
 use Rattle.dtx_network.specs.Plans.{IsPlan, IsStream}
-use Rattle.dtx_network.specs.Orders.{has_order, IsOrder}
-use Rattle.dtx_network.specs.Presets.{orders, preset_at, presets}
+use Rattle.dtx_network.specs.Orders.{has_order, IsOrder, orders, preset_at, presets}
 use Rattle.dtx_network.proofs.Orders.{order_some, order_none, order_says}
 
 -- ---- the stretch as a slice of the feed's own segments

@@ -6,7 +6,7 @@ use Rattle.std.proofs.lemmas.List.{length-append, get_or_append_left, get_or-app
 use Rattle.std.proofs.lemmas.List.FromFn.{get_or-map-range_with_len}
 use Rattle.dtx_galois.specs.Field.{AreBytes}
 use Rattle.dtx_laws.specs.Interleaving.{interleaved, interleaved_at}
-use Rattle.dtx_coder.specs.Coded.{coded_from, coded, spread}
+use Rattle.dtx_coder.specs.Stream.{coded_from, coded, spread}
 use Rattle.dtx_coder.proofs.BytesLemmas.{coded_append, length-coded}
 use Rattle.dtx_chain.proofs.ApartLemmas.{other_last, length-other, bytes_other, code_of, length-code, last_differs}
 

@@ -6,17 +6,15 @@ use Rattle.std.specs.List.{range_with_len, list_any, filter, Contains}
 use Rattle.std.proofs.lemmas.Bool.{cases_lt, cases_Bool, eqb-false, and_from, and_left}
 use Rattle.std.proofs.lemmas.List.Elements.{Contains-append_right, filter_agree}
 use Rattle.std.proofs.lemmas.Option.{slice_get_within}
-use Rattle.dtx_packets.specs.Packet.{pid_of}
+use Rattle.dtx_packets.specs.Packets.{pid_of}
 use Rattle.dtx_lists.proofs.RangeFilter.{filter-kept, filter-lost}
 use Rattle.dtx_plan.specs.declared.plan.Plan.{Plan}
 use Rattle.dtx_plan.specs.declared.transmitter.Transmitter.{Transmitter}
-use Rattle.dtx_adapter.specs.Feed.{is_placeholder, paging_at, is_listed, is_filled, filled_groups, feed}
-use Rattle.dtx_adapter.specs.Turns.{IsListedIn}
+use Rattle.dtx_adapter.specs.Feed.{is_placeholder, paging_at, is_listed, is_filled, filled_groups, feed, IsListedIn}
 use Rattle.dtx_adapter.proofs.GroupsLemmas.{filled_groups-next}
 use Rattle.dtx_adapter.proofs.TurnsLemmas.{in_turn}
 use Rattle.dtx_network.specs.Plans.{IsPlan, IsStream, IsListed}
-use Rattle.dtx_network.specs.Orders.{is_operations, has_order, has_listing, pages_in}
-use Rattle.dtx_network.specs.Presets.{orders}
+use Rattle.dtx_network.specs.Orders.{is_operations, has_order, has_listing, pages_in, orders}
 use Rattle.dtx_network.proofs.Orders.{no_pid, same_orders}
 use Rattle.dtx_network.proofs.Listings.{listing_is, listing_few, place_of}
 

@@ -13,10 +13,10 @@ use Rattle.dtx_adapter.specs.Feed.{feed}
 use Rattle.dtx_exciter.specs.declared.answers.Why.{Why}
 use Rattle.dtx_exciter.specs.Lockstep.{locked_from}
 use Rattle.dtx_exciter.specs.Log.{Line, preset, mute, restart, log, emission_over}
-use Rattle.dtx_net.specs.Sent.{sent_segments, lines_of}
-use Rattle.dtx_chain.specs.Undamaged.{ArePackets}
+use Rattle.dtx_net.specs.Lives.{sent_segments, lines_of}
+use Rattle.dtx_chain.specs.Damage.{ArePackets}
 use Rattle.dtx_network.specs.Plans.{IsPlan, IsStream}
-use Rattle.dtx_network.specs.Presets.{orders, preset_at, presets}
+use Rattle.dtx_network.specs.Orders.{orders, preset_at, presets}
 use Rattle.dtx_network.specs.Headline.{stretch_of, Around, around, Emits}
 use Rattle.dtx_network.specs.Network.{steps_under, Joined, Follows, Headline}
 use Rattle.dtx_network.proofs.Emitting.{emits, first_is, no_other, apart}

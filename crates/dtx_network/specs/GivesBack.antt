@@ -10,8 +10,7 @@ use Rattle.dtx_receiver.specs.Intervals.{AreRuns, segments_in}
 use Rattle.dtx_receiver.specs.Packets.{run_packets, all_packets, received}
 use Rattle.dtx_receiver.specs.Runs.{runs}
 use Rattle.dtx_receiver.specs.declared.batch.Received.{Received}
-use Rattle.dtx_chain.specs.Undamaged.{as_received}
-use Rattle.dtx_chain.specs.Damage.{IsNear, IsSlight, as_corrected, numbers_in}
+use Rattle.dtx_chain.specs.Damage.{as_received, IsNear, IsSlight, as_corrected, numbers_in}
 use Rattle.dtx_exciter.specs.Lockstep.{segment_place}
 use Rattle.dtx_network.specs.Headline.{last_packet, stretch_of}
 

@@ -15,8 +15,7 @@ use Rattle.dtx_exciter.specs.Log.{Line, preset, mute, restart, life_lines, resta
 use Rattle.dtx_exciter.specs.Log.{emission_over}
 use Rattle.dtx_exciter.specs.Stretch.{emission_behind, lines_behind, before_stretch}
 use Rattle.dtx_network.specs.Plans.{IsPlan, IsStream, IsListed}
-use Rattle.dtx_network.specs.Orders.{has_listing}
-use Rattle.dtx_network.specs.Presets.{presets}
+use Rattle.dtx_network.specs.Orders.{has_listing, presets}
 
 -- A life is given the feed unchanged from a mark on: it holds the n packets of the feed from packet mark on, in a row.
 -- It may hold any packets before and behind them.

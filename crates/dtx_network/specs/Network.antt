@@ -18,10 +18,9 @@ use Rattle.dtx_exciter.specs.Lockstep.{locked_from}
 use Rattle.dtx_exciter.specs.Log.{Line, preset, mute}
 use Rattle.dtx_exciter.specs.Stretch.{IsApart}
 use Rattle.dtx_net.specs.Steps.{Step, schedule}
-use Rattle.dtx_net.specs.Lives.{lives_of}
-use Rattle.dtx_net.specs.Sent.{sent_segments, lines_of}
+use Rattle.dtx_net.specs.Lives.{lives_of, sent_segments, lines_of}
 use Rattle.dtx_network.specs.Plans.{IsInTime}
-use Rattle.dtx_network.specs.Presets.{orders, moment_at, preset_at, presets}
+use Rattle.dtx_network.specs.Orders.{orders, moment_at, preset_at, presets}
 use Rattle.dtx_network.specs.Headline.{IsFed, IsFirstListing, stretch_of, around, Emits}
 use Rattle.dtx_network.specs.GivesBack.{GivesBack, GivesAllBack}
 

@@ -4,7 +4,7 @@ use Rattle.std.proofs.lemmas.Bool.{eqb-false, ne_eqb, or_parts, or_from}
 use Rattle.std.proofs.lemmas.List.Elements.{All-cons}
 use Rattle.std.proofs.lemmas.List.Kept.{AllPairs-cons}
 use Rattle.dtx_ops.specs.declared.fields.Entry.{Entry}
-use Rattle.dtx_ops.specs.Rules.{is_among, has_twice}
+use Rattle.dtx_ops.specs.Reading.{is_among, has_twice}
 
 abbrev addresses : List Entry → List ℕ
 addresses es = map (λ e. e.address) es

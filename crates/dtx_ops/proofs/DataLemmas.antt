@@ -15,8 +15,7 @@ use Rattle.dtx_ops.specs.declared.fields.Ops.{Ops}
 use Rattle.dtx_ops.specs.Fields.{states_at, states_in, stamp_in, max_delay_in, frame_in, index_in, paging_in, count_in}
 use Rattle.dtx_ops.specs.Fields.{behind_count, entries_in, fields}
 use Rattle.dtx_ops.specs.Paging.{kind_of, paging_bytes, count_place, most_of, IsPaged}
-use Rattle.dtx_ops.specs.Rules.{first, data_rules, has_twice}
-use Rattle.dtx_ops.specs.Reading.{unless, data_reading}
+use Rattle.dtx_ops.specs.Reading.{first, data_rules, has_twice, unless, data_reading}
 use Rattle.dtx_ops.specs.Spelling.{states_bits, entry_bytes, times_bytes, head_bytes, data_of, IsValid}
 use Rattle.dtx_ops.proofs.AddressesLemmas.{differ_unless_twice, not_twice}
 use Rattle.dtx_ops.proofs.DigitsLemmas.{states_at-bits, bits-states_at, bits_pad, bits_below}

@@ -11,7 +11,7 @@ use Rattle.dtx_ops.specs.declared.paging.Paging.TheVariants.{One, Of}
 use Rattle.dtx_ops.specs.Fields.{stamp_in, max_delay_in, index_in, paging_in, count_in, behind_count, entries_in}
 use Rattle.dtx_ops.specs.Paging.{page_of, pages_of, kind_of, most_of, IsPaged}
 use Rattle.dtx_ops.proofs.PagingLemmas.{paged_unless, page_passes}
-use Rattle.dtx_ops.specs.Rules.{first, has_twice, head_rules, data_rules}
+use Rattle.dtx_ops.specs.Reading.{first, has_twice, head_rules, data_rules}
 
 pub record Passes (bytes : List ℕ) : Type 0 where
   pub kind : slice_index bytes 0 ≡ kind_of (paging_in bytes)

@@ -8,12 +8,11 @@ use Rattle.dtx_galois.specs.Field.{AreBytes}
 use Rattle.dtx_laws.specs.Codeword.{IsCorrection, distance}
 use Rattle.dtx_laws.specs.Words.{codeword, correction}
 use Rattle.dtx_laws.proofs.ChoiceLemmas.{codeword_is, codeword_begins, correction_is}
-use Rattle.dtx_packets.specs.Packet.{pid_of}
+use Rattle.dtx_packets.specs.Packets.{pid_of}
 use Rattle.dtx_ops.specs.declared.fields.Ops.{Ops}
 use Rattle.dtx_ops.specs.declared.refusal.OpsNo.{OpsNo}
 use Rattle.dtx_ops.specs.Fields.{fields}
-use Rattle.dtx_ops.specs.Rules.{first, data_rules, corrected, rules}
-use Rattle.dtx_ops.specs.Reading.{unless, data_reading, reading, ReadsAs}
+use Rattle.dtx_ops.specs.Reading.{first, data_rules, corrected, rules, unless, data_reading, reading, ReadsAs}
 use Rattle.dtx_ops.specs.Spelling.{IsValid, data_of, spelling}
 use Rattle.dtx_ops.proofs.DataLemmas.{length-data_of, AreBytes-data_of, data_reading-data_of, data_of-fields}
 use Rattle.dtx_ops.proofs.DataLemmas.{valid_fields}

@@ -3,14 +3,13 @@ use Rattle.std.proofs.Common.{◌≡◌, ◌≢◌, ℕ, Bool, true, false, List
 use Rattle.std.proofs.Common.{length, refl, sym, arith}
 use Rattle.std.proofs.lemmas.Bool.{eq-eqb, ne_eqb}
 use Rattle.std.proofs.lemmas.Option.{none-some}
-use Rattle.dtx_packets.specs.Packet.{pid_of}
+use Rattle.dtx_packets.specs.Packets.{pid_of}
 use Rattle.dtx_laws.specs.Codeword.{IsCorrection}
 use Rattle.dtx_laws.specs.Words.{correction}
 use Rattle.dtx_laws.proofs.ChoiceLemmas.{correction_is, correction_only}
 use Rattle.dtx_ops.specs.declared.refusal.OpsNo.{OpsNo}
 use Rattle.dtx_ops.specs.declared.refusal.OpsNo.TheVariants.{NotOps, Uncorrectable}
-use Rattle.dtx_ops.specs.Rules.{first, corrected, rules}
-use Rattle.dtx_ops.specs.Reading.{data_reading, reading}
+use Rattle.dtx_ops.specs.Reading.{first, corrected, rules, data_reading, reading}
 
 pub first_some : (xs ys : List (Bool × OpsNo)) (refusal : OpsNo) → first xs ≡ Some refusal
     → first (xs ++ ys) ≡ Some refusal

@@ -4,12 +4,11 @@ ghost use Rattle.std.specs.Prelude.{◌≡◌, ℕ, ◌≤◌, List, Some, None,
 ghost use Rattle.byteorder.specs.Endian.{big_bytes, big_number};
 ghost use Rattle.dtx_galois.specs.Field.{AreBytes};
 ghost use Rattle.dtx_laws.specs.Codeword.{IsCorrection, distance};
-ghost use Rattle.dtx_packets.specs.Packet.{pid_of};
+ghost use Rattle.dtx_packets.specs.Packets.{pid_of};
 ghost use Rattle.dtx_ops.specs.declared.fields.Ops.{Ops};
 ghost use Rattle.dtx_ops.specs.declared.refusal.OpsNo.{OpsNo};
 ghost use Rattle.dtx_ops.specs.Fields.{fields};
-ghost use Rattle.dtx_ops.specs.Rules.{first, data_rules, corrected, rules};
-ghost use Rattle.dtx_ops.specs.Reading.{reading, ReadsAs};
+ghost use Rattle.dtx_ops.specs.Reading.{first, data_rules, corrected, rules, reading, ReadsAs};
 ghost use Rattle.dtx_ops.specs.Spelling.{IsValid, data_of, spelling};
 
 /// `reading` gives exactly the fields that `ReadsAs` relates to a packet. It refuses a packet exactly by the first rule

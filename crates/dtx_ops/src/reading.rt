@@ -2,7 +2,7 @@
 ghost use Rattle.std.specs.Prelude.{◌≡◌, ◌+◌, ◌*◌, ◌<◌, ◌≤◌, ◌++◌, [], IfOk, Some, None, drop, length, take};
 ghost use Rattle.dtx_ops.specs.Fields.{paging_in, count_in, behind_count, entry_in, entries_in, fields};
 ghost use Rattle.dtx_ops.specs.Paging.{IsPaged};
-ghost use Rattle.dtx_ops.specs.Rules as rule;
+ghost use Rattle.dtx_ops.specs.Reading as rule;
 ghost use Rattle.dtx_ops.specs.Reading as spec;
 ghost use Rattle.dtx_ops.specs.Spelling.{IsValid};
 
@@ -35,7 +35,7 @@ pub fn read<C: Correct<184, 164>>(code: &C, packet: &Packet) -> Result<Ops, OpsN
 }
 
 /// The data of the payload's correction, where it has one.
-#[tactic(auto, unfolding(crate::specs::Rules::corrected))]
+#[tactic(auto, unfolding(crate::specs::Reading::corrected))]
 fn corrected<C: Correct<184, 164>>(code: &C, packet: &Packet) -> Option<[u8; 164]>
     ensures { result ≡ rule.corrected packet.now.0 }
 {
@@ -66,7 +66,7 @@ fn data_in(word: &[u8; 184]) -> [u8; 164]
 }
 
 /// The fields in the data, or else the first rule that refuses them.
-#[tactic(auto, unfolding(crate::specs::Reading::data_reading, crate::specs::Rules::data_rules), using(crate::proofs::RefusingLemmas::first_none, crate::proofs::RefusingLemmas::first_some))]
+#[tactic(auto, unfolding(crate::specs::Reading::data_reading, crate::specs::Reading::data_rules), using(crate::proofs::RefusingLemmas::first_none, crate::proofs::RefusingLemmas::first_some))]
 fn read_data(bytes: &[u8]) -> Result<Ops, OpsNo>
     requires { length bytes.now ≡ 164 }
     ensures { result ≡ spec.data_reading bytes.now }

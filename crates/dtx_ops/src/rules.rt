@@ -2,7 +2,7 @@
 ghost use Rattle.std.specs.Prelude.{◌≡◌, ◌==◌, ◌&&◌, None, length, not};
 ghost use Rattle.std.specs.List.{list_all};
 ghost use Rattle.dtx_ops.specs.Paging.{IsPaged};
-ghost use Rattle.dtx_ops.specs.Rules as spec;
+ghost use Rattle.dtx_ops.specs.Reading as spec;
 
 use crate::fields::Entry;
 use crate::numbers::{index_at, ticks_at};
@@ -11,7 +11,7 @@ use crate::refusal::OpsNo;
 use dtx_sizes::{FRAME_PACKETS, MOST_PAGES, SECOND_TICKS};
 
 /// The first rule that holds, of those on the data before the page.
-#[tactic(auto, unfolding(crate::specs::Rules::head_rules, crate::specs::Fields::stamp_in, crate::specs::Fields::max_delay_in, crate::specs::Fields::index_in))]
+#[tactic(auto, unfolding(crate::specs::Reading::head_rules, crate::specs::Fields::stamp_in, crate::specs::Fields::max_delay_in, crate::specs::Fields::index_in))]
 pub(crate) fn head_refusal(bytes: &[u8]) -> Option<OpsNo>
     requires { length bytes.now ≡ 164 }
     ensures { result ≡ spec.first (spec.head_rules bytes.now) }

@@ -14,7 +14,7 @@ use Rattle.dtx_laws.proofs.CompletedLemmas.{completed_each}
 use Rattle.dtx_laws.specs.Whitening.{whitened}
 use Rattle.dtx_laws.specs.Words.{completed}
 use Rattle.dtx_outer.proofs.BackLemmas.{length-coded}
-use Rattle.dtx_outer.specs.Coding.{coded_as, codewords}
+use Rattle.dtx_outer.specs.Outer.{coded_as, codewords}
 
 -- ---- each packet
 

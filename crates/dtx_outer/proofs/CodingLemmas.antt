@@ -3,7 +3,7 @@ use borrow.Rule.Slice.PartMut.{put_mid}
 use Rattle.std.proofs.Common.{◌≡◌, ℕ, ◌+◌, ◌≤◌, List, [], ◌∷◌, ◌++◌, length, take, get_or, arith}
 use Rattle.std.proofs.lemmas.List.{append_assoc, length-append, length-take-le, take_at}
 use Rattle.std.specs.List.{concat, enumerate_from, flat_map}
-use Rattle.dtx_outer.specs.Coding.{coded_as, codewords}
+use Rattle.dtx_outer.specs.Outer.{coded_as, codewords}
 
 -- what is made of each packet by its number, where that is the codeword of its data
 pub four_made : (n k : ℕ) (white : List ℕ) (s : ℕ) (one two three four : List ℕ) (packets : List (List ℕ))

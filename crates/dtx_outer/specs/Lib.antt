@@ -1,3 +1,2 @@
 pub mod Outer
-pub mod Coding
 pub mod Inner

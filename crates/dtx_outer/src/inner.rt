@@ -6,7 +6,7 @@ ghost use Rattle.std.proofs.Common.{suc};
 ghost use Rattle.dtx_galois.specs.Field.{AreBytes};
 ghost use Rattle.dtx_laws.specs.Branches.{Branching, IsInterleaver, HasWidths, gathering, leaving_all, after_all};
 ghost use Rattle.dtx_laws.specs.Codeword.{IsCode};
-ghost use Rattle.dtx_laws.specs.Correction.{IsCorrected, IsLeft};
+ghost use Rattle.dtx_laws.specs.Words.{IsCorrected, IsLeft};
 ghost use Rattle.dtx_outer.specs.Outer.{IsPeriod};
 ghost use Rattle.dtx_outer.specs.Inner.{Kept, StandsFor, Gives, IsTaken, IsNext, waiting, completing, block_behind};
 

@@ -10,7 +10,7 @@ ghost use Rattle.dtx_laws.specs.Branches.{Branching, HasWidths, spreading, zeroe
 ghost use Rattle.dtx_laws.specs.Branches.{leaving_calls, after_calls};
 ghost use Rattle.dtx_laws.specs.Codeword.{IsCodeword};
 ghost use Rattle.dtx_laws.specs.Interleaving.{interleaved, IsInterleavedBehind};
-ghost use Rattle.dtx_outer.specs.Coding.{coded_as, codewords};
+ghost use Rattle.dtx_outer.specs.Outer.{coded_as, codewords};
 
 /// There is one codeword for each packet, in order, and each is as long as its data with the parity bytes.
 pub fn each_packet()

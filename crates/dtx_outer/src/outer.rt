@@ -6,8 +6,7 @@ ghost use Rattle.dtx_galois.specs.Field.{AreBytes};
 ghost use Rattle.dtx_laws.specs.Branches.{IsInterleaver, HasWidths, spreading, leaving_all, after_all, aligned};
 ghost use Rattle.dtx_laws.specs.Codeword.{IsCode};
 ghost use Rattle.dtx_laws.specs.Whitening.{whitened};
-ghost use Rattle.dtx_outer.specs.Coding.{codewords};
-ghost use Rattle.dtx_outer.specs.Outer.{Held, IsPeriod, coded};
+ghost use Rattle.dtx_outer.specs.Outer.{codewords, Held, IsPeriod, coded};
 
 use crate::whitening::{whiten, whiten_to};
 use dtx_laws::{Encode, Spread, Whitener};

@@ -5,8 +5,8 @@ use Rattle.std.specs.Option.{option_map}
 use Rattle.std.specs.FinMap.{get, insert}
 use Rattle.std.proofs.Common.{sym, ap, ◌∙◌, subst, inl, inr}
 use Rattle.std.proofs.lemmas.List.{append_assoc, append-nil, take-append-drop}
-use Rattle.dtx_outside.specs.Shelf.{Files, with_file, added, IsSameAt, IsBegun, IsAppended}
-use Rattle.dtx_outside.specs.Written.{IsWritten, IsGathered, IsPartWritten, IsFlushOf}
+use Rattle.dtx_outside.specs.Shelf.{Files, with_file, added, IsSameAt, IsBegun, IsAppended, IsWritten, IsGathered}
+use Rattle.dtx_outside.specs.Shelf.{IsPartWritten, IsFlushOf}
 use Rattle.dtx_outside.proofs.FilesLemmas.{get-insert_same, get-insert_other, insert-insert}
 use Rattle.dtx_outside.specs.declared.shelf.WriteNo.{WriteNo}
 use Rattle.dtx_outside.specs.declared.shelf.WriteNo.TheVariants.{Failed, Memory}

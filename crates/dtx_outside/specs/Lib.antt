@@ -1,11 +1,7 @@
-pub mod Calls
 pub mod Counts
-pub mod Fill
 pub mod Foreseen
-pub mod Held
 pub mod MemoryShelf
 pub mod MemorySink
 pub mod Refusals
 pub mod Shelf
 pub mod Sink
-pub mod Written

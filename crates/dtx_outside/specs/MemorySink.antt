@@ -1,6 +1,6 @@
 -- What a sink in memory holds, and what a call leaves of it.
 use Rattle.std.specs.Prelude.{ℕ, List, ◌++◌, Result, Ok, Err}
-use Rattle.dtx_outside.specs.Calls.{Counted, with_one_call}
+use Rattle.dtx_outside.specs.Refusals.{Counted, with_one_call}
 use Rattle.dtx_outside.specs.Sink.{SinkCounts, counts_printed}
 use Rattle.dtx_outside.specs.declared.sink.SinkNo.{SinkNo}
 

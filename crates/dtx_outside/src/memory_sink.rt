@@ -1,6 +1,6 @@
 // A sink in memory, which tells all bytes that it has taken.
 ghost use Rattle.std.specs.Prelude.{◌≡◌, ◌<◌, ◌≤◌, ◌-◌, ◌^◌, ◌↔◌, [], Some, OnOk, OnErr, IfOk, IsErrOf, length};
-ghost use Rattle.dtx_outside.specs.Calls.{IsUnplanned, IsPlanned, failing};
+ghost use Rattle.dtx_outside.specs.Refusals.{IsUnplanned, IsPlanned, failing};
 ghost use Rattle.dtx_outside.specs.Counts.{last_count};
 ghost use Rattle.dtx_outside.specs.MemorySink.{after_write};
 ghost use Rattle.dtx_outside.specs.Sink.{IsCounted, no_sink_counts};

@@ -23,11 +23,10 @@ use Rattle.dtx_engine.specs.Recipe.{course, course_from, first_refused, meaning_
 use Rattle.dtx_engine.specs.declared.piece.Ending.TheVariants.{Refused}
 use Rattle.dtx_forms.proofs.AllowedFileLemmas.{all_read, first_read, none_found}
 use Rattle.dtx_recipes.specs.DvbBack.{HaveSyncs, back_of, read_of, read_until, sent_of, sent_until, wrong_in_all}
-use Rattle.dtx_recipes.specs.DvbCode.{dvb_coding}
+use Rattle.dtx_recipes.specs.DvbCode.{dvb_coding, blocks, dvb_packets}
 use Rattle.dtx_recipes.specs.DvbRead.{bytes_of_reads, dvb_reading, whole_blocks}
 use Rattle.dtx_forms.proofs.FilePacketsLemmas.{length-packets_of, front_of, packets_are}
 use Rattle.dtx_recipes.specs.Place.{has_sync}
-use Rattle.dtx_recipes.specs.DvbShapes.{blocks, dvb_packets}
 use Rattle.dtx_packet_jobs.proofs.DvbChunks.{chunks_flat}
 
 -- ---- what is sent

@@ -15,7 +15,7 @@ use Rattle.dtx_plan.specs.declared.plan.Plan.{Plan}
 use Rattle.dtx_adapter.specs.Feed.{entry_of, filled_groups, listed, paging_of, ops_at, as_feed_packet, fed_packet, feed}
 use Rattle.dtx_adapter.proofs.FeedsLemmas.{length-feed, feed_packet}
 use Rattle.dtx_adapter.proofs.PagesLemmas.{page_has_place}
-use Rattle.dtx_recipes.specs.Feed.{feed_bytes}
+use Rattle.dtx_recipes.specs.Adapt.{feed_bytes}
 use Rattle.dtx_forms.proofs.FilePacketsLemmas.{IsLong}
 use Rattle.dtx_packet_jobs.proofs.PacketFileLemmas.{packets_of-bytes, whole_packets-bytes}
 

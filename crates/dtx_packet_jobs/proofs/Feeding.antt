@@ -5,14 +5,13 @@ use Rattle.std.proofs.lemmas.List.{append_assoc, append-nil, drop-drop}
 use Rattle.std.proofs.lemmas.Slice.{take-put_mid, drop-put_mid}
 use Rattle.std.proofs.Math.Seq.{take-add}
 use Rattle.dtx_adapter.proofs.FeedsLemmas.{placeholders-append, placeholders-few}
-use Rattle.dtx_adapter.specs.Adapting.{StandsFor}
+use Rattle.dtx_adapter.specs.Filling.{StandsFor}
 use Rattle.dtx_adapter.specs.Feed.{placeholders}
 use Rattle.dtx_engine.specs.Made.{only}
 use Rattle.dtx_engine.specs.Recipe.{Recipe, IsFed}
 use Rattle.dtx_packets.proofs.PacketLemmas.{packets_of-append, whole_packets-append}
 use Rattle.dtx_packets.specs.Packets.{packets_of, whole_packets}
-use Rattle.dtx_recipes.specs.Adapt.{feeding}
-use Rattle.dtx_recipes.specs.Feed.{feed_bytes}
+use Rattle.dtx_recipes.specs.Adapt.{feeding, feed_bytes}
 use Rattle.dtx_packet_jobs.specs.Feeding.{HasFed, IsCounted}
 use Rattle.dtx_forms.proofs.FilePacketsLemmas.{length-packets_of}
 use Rattle.dtx_packet_jobs.specs.declared.feeder.Feeder.{Feeder}

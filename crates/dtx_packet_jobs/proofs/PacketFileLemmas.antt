@@ -7,7 +7,7 @@ use Rattle.std.proofs.lemmas.List.Elements.{All-head, All-tail}
 use Rattle.std.proofs.lemmas.List.FromFn.{fill_by_all}
 use Rattle.dtx_packets.specs.Packets.{packet_at, packets_from, packets_of, whole_packets}
 use Rattle.dtx_forms.proofs.FilePacketsLemmas.{IsLong}
-use Rattle.dtx_recipes.specs.Feed.{bytes_of_packets}
+use Rattle.dtx_recipes.specs.Adapt.{bytes_of_packets}
 
 pub length-bytes_of_packets : (packets : List (List ℕ)) → All IsLong packets
     → length (bytes_of_packets packets) ≡ 188 * length packets

@@ -5,7 +5,7 @@ use Rattle.std.specs.Prelude.{flat_map}
 use Rattle.std.proofs.lemmas.Grind.{flat_map-append}
 use Rattle.std.proofs.lemmas.List.{append-nil, take_all}
 use Rattle.std.proofs.lemmas.List.FromFn.{map-range_with_len_more}
-use Rattle.dtx_meaning.specs.Each.{each}
+use Rattle.dtx_meaning.specs.Meaning.{each}
 use Rattle.dtx_meaning.proofs.EachLemmas.{each-next}
 use Rattle.dtx_packets.specs.Packets.{packet_at, packets_from, packets_of, whole_packets}
 use Rattle.dtx_packets.proofs.PacketLemmas.{packets_of-append, packets_of-piece}

@@ -13,7 +13,7 @@ use Rattle.dtx_adapter.specs.Feed.{is_placeholder}
 use Rattle.dtx_packet_jobs.specs.declared.placing.Placing.{Placing}
 use Rattle.dtx_packet_jobs.specs.Placing.{IsCounted, closed_fields}
 use Rattle.dtx_recipes.specs.Place.{bare_fields, becomes, becoming, behind, is_open, placed, placed_count}
-use Rattle.dtx_packets.specs.Packet.{pid_of}
+use Rattle.dtx_packets.specs.Packets.{pid_of}
 use Rattle.dtx_packet_jobs.proofs.PlacedPackets.{any_more, any_same, behind_none, behind_same, length-placed}
 use Rattle.dtx_packet_jobs.proofs.PlacedPackets.{length-scanned, scanned-next}
 

@@ -16,7 +16,7 @@ use Rattle.std.proofs.Math.ListN.{drop_of_length-le, get_or-append}
 use Rattle.std.proofs.Math.Seq.{get_or-append_seam, take-append_seam}
 use Rattle.dtx_lists.proofs.Range.{map-range_same}
 use Rattle.dtx_adapter.specs.Feed.{is_placeholder}
-use Rattle.dtx_packets.specs.Packet.{pid_of}
+use Rattle.dtx_packets.specs.Packets.{pid_of}
 use Rattle.dtx_recipes.specs.Place.{as_placeholder, becomes, behind, is_null, is_open, placed, placed_one}
 
 -- ---- lists, as they come

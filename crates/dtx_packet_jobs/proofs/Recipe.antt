@@ -8,8 +8,7 @@ use Rattle.dtx_meaning.specs.Meaning.{ArePartWritten, IsCarriedOut}
 use Rattle.dtx_meaning.specs.Status.{IsFault, ended, of_write}
 use Rattle.dtx_meaning.specs.declared.status.Outcome.{Outcome}
 use Rattle.dtx_meaning.specs.declared.status.Status.{Status}
-use Rattle.dtx_outside.specs.Shelf.{Files}
-use Rattle.dtx_outside.specs.Written.{IsWritten, IsGathered, IsPartWritten}
+use Rattle.dtx_outside.specs.Shelf.{Files, IsWritten, IsGathered, IsPartWritten}
 use Rattle.dtx_outside.proofs.WrittenLemmas.{gathered_of_written, part_of_more}
 use Rattle.dtx_outside.specs.declared.shelf.WriteNo.{WriteNo}
 use Rattle.dtx_outside.specs.declared.shelf.WriteNo.TheVariants.{Failed, Memory}

@@ -1,4 +1,3 @@
-pub mod DvbCoding
 pub mod DvbReading
 pub mod Feeding
 pub mod Laying

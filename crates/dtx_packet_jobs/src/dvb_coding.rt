@@ -1,7 +1,7 @@
 // The engine of `dvb code`: sends a stream by the outer coding of DVB, one piece of packets at a time.
 ghost use Rattle.std.specs.Prelude.{◌≡◌, ◌==◌, ◌+◌, ◌*◌, ◌/◌, ◌%◌, ◌<◌, ◌≤◌, ◌++◌, ◌∷◌, [], ℕ, List};
 ghost use Rattle.std.specs.Prelude.{if◌then◌else◌, length, take};
-ghost use Rattle.dtx_packet_jobs.specs.DvbCoding.{IsSending};
+ghost use Rattle.dtx_packet_jobs.specs.DvbReading.{IsSending};
 
 use crate::dvb_shapes::{BATCH_BYTES, BATCH_PACKETS, DVB_PIECE_PACKETS, dvb_packets};
 use dtx_dvb::{BLOCK, DvbOut, FOUR, PERIOD_PACKETS};
@@ -83,8 +83,8 @@ impl Step for DvbCoding {
     ghost use Rattle.dtx_engine.specs.Made.{only};
     ghost use Rattle.dtx_recipes.specs.DvbCode.{dvb_coding};
     ghost use Rattle.dtx_recipes.proofs.DvbCodeLemmas.{sends_none, sends_more};
-    ghost use Rattle.dtx_packet_jobs.specs.DvbCoding.{WasSent};
-    ghost use Rattle.dtx_recipes.specs.DvbShapes as shapes;
+    ghost use Rattle.dtx_packet_jobs.specs.DvbReading.{WasSent};
+    ghost use Rattle.dtx_recipes.specs.DvbCode as shapes;
     ghost use Rattle.dtx_dvb.specs.declared.sizes.TheConstants.{BLOCK};
     ghost use Rattle.dtx_packet_jobs.specs.declared.dvb_coding.TheConstants.{SENT_BYTES};
 

@@ -3,7 +3,7 @@ ghost use Rattle.std.specs.Prelude.{◌≡◌, ◌+◌, ◌*◌, ◌/◌, ◌%�
 ghost use Rattle.dtx_dvb.specs.Given.{all_given, given};
 ghost use Rattle.dtx_dvb.specs.Read.{Read, fixed_of, flag_of};
 ghost use Rattle.dtx_dvb.specs.Reading.{read_dvb};
-ghost use Rattle.dtx_dvb.specs.Sending.{HasRead};
+ghost use Rattle.dtx_dvb.specs.Stream.{HasRead};
 ghost use Rattle.dtx_recipes.specs.DvbRead.{bytes_of_reads};
 ghost use Rattle.dtx_packet_jobs.specs.DvbReading.{IsBounded, HasGathered, IsReading};
 
@@ -162,7 +162,7 @@ impl Step for DvbReading {
     ghost use Rattle.dtx_recipes.specs.DvbRead.{dvb_reading};
     ghost use Rattle.dtx_recipes.proofs.DvbReadLemmas.{reads_none, reads_more};
     ghost use Rattle.dtx_packet_jobs.specs.DvbReading.{WasRead};
-    ghost use Rattle.dtx_recipes.specs.DvbShapes as shapes;
+    ghost use Rattle.dtx_recipes.specs.DvbCode as shapes;
     ghost use Rattle.dtx_packet_jobs.specs.declared.dvb_reading.TheConstants.{READ_BYTES};
     ghost use Rattle.dtx_sizes.specs.declared.packets.TheConstants.{PACKET};
 

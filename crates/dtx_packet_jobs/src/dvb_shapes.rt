@@ -1,7 +1,7 @@
 // The units in which the commands of the outer coding read their inputs.
 ghost use Rattle.std.specs.Prelude.{◌≡◌};
 ghost use Rattle.dtx_engine.specs.Recipe.{IsSound};
-ghost use Rattle.dtx_recipes.specs.DvbShapes as shapes;
+ghost use Rattle.dtx_recipes.specs.DvbCode as shapes;
 
 use dtx_dvb::BLOCK;
 use dtx_engine::Shape;

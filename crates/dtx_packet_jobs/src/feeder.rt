@@ -1,14 +1,13 @@
 // The engine of `adapt`: adapts a stream, one piece at a time.
 ghost use Rattle.std.specs.Prelude.{◌≡◌, ◌+◌, ◌-◌, ◌*◌, ◌/◌, ◌%◌, ◌<◌, ◌≤◌, ◌++◌, [], ℕ, List, IfOk, length};
-ghost use Rattle.dtx_adapter.specs.Adapting.{StandsFor};
+ghost use Rattle.dtx_adapter.specs.Filling.{StandsFor};
 ghost use Rattle.dtx_adapter.specs.Feed.{feed, placeholders};
 ghost use Rattle.dtx_engine.specs.Made.{only};
 ghost use Rattle.dtx_engine.specs.Recipe.{IsFed};
 ghost use Rattle.dtx_packets.specs.Packets.{packets_of, whole_packets};
 ghost use Rattle.dtx_plan.specs.Sound.{IsSound};
 ghost use Rattle.dtx_plan.specs.declared.plan.Plan.{Plan};
-ghost use Rattle.dtx_recipes.specs.Adapt.{feeding};
-ghost use Rattle.dtx_recipes.specs.Feed.{feed_bytes};
+ghost use Rattle.dtx_recipes.specs.Adapt.{feeding, feed_bytes};
 ghost use Rattle.dtx_packet_jobs.specs.Feeding.{HasFed, IsCounted};
 
 use dtx_adapter::Adapter;

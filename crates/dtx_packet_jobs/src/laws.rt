@@ -9,7 +9,7 @@ ghost use Rattle.dtx_adapter.specs.Feed.{feed};
 ghost use Rattle.dtx_packets.specs.Packets.{packets_of, whole_packets};
 ghost use Rattle.dtx_plan.specs.Sound.{IsSound};
 ghost use Rattle.dtx_plan.specs.declared.plan.Plan.{Plan};
-ghost use Rattle.dtx_recipes.specs.Feed.{bytes_of_packets, feed_bytes};
+ghost use Rattle.dtx_recipes.specs.Adapt.{bytes_of_packets, feed_bytes};
 
 use dtx_sizes::PACKET;
 

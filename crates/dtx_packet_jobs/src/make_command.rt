@@ -2,8 +2,7 @@
 ghost use Rattle.std.specs.Prelude.{◌≡◌, false, [], Some, Option};
 ghost use Rattle.std.specs.Option.{option_and};
 ghost use Rattle.dtx_outside.specs.Counts.{HasGone, blame_of_write};
-ghost use Rattle.dtx_outside.specs.Shelf.{Files};
-ghost use Rattle.dtx_outside.specs.Written.{IsWritten, IsFlushOf};
+ghost use Rattle.dtx_outside.specs.Shelf.{Files, IsWritten, IsFlushOf};
 ghost use Rattle.dtx_make.specs.Made.{made_stream};
 ghost use Rattle.dtx_meaning.specs.Meaning.{IsCarriedOut};
 ghost use Rattle.dtx_meaning.specs.Status.{IsOfInputs, blame_of};

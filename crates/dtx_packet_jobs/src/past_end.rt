@@ -1,7 +1,7 @@
 // Damage that reaches past the end of a file (the profile's own).
 ghost use Rattle.std.specs.Prelude.{◌≡◌};
 ghost use Rattle.dtx_plan.specs.Sound.{AreDamages};
-ghost use Rattle.dtx_recipes.specs.PastEnd.{ends_past, first_past};
+ghost use Rattle.dtx_recipes.specs.Hurt.{ends_past, first_past};
 
 use dtx_plan::{Damage, Damages};
 

@@ -1,6 +1,6 @@
 // The engine of `place`: turns null packets into placeholders, at most one in each field.
 ghost use Rattle.std.specs.Prelude.{◌≡◌, ◌<◌, true, if◌then◌else◌, length};
-ghost use Rattle.dtx_packets.specs.Packet.{pid_of};
+ghost use Rattle.dtx_packets.specs.Packets.{pid_of};
 ghost use Rattle.dtx_recipes.specs.Place.{as_placeholder};
 
 use dtx_engine::{Change, Shape};

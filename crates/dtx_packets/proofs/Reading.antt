@@ -3,9 +3,8 @@ use Rattle.std.proofs.Common.{◌≡◌, ℕ, zero, suc, ◌-◌, ◌*◌, ◌/�
 use Rattle.std.proofs.Common.{◌∙◌, arith}
 use Rattle.std.proofs.lemmas.List.{take-append-le, take-take}
 use Rattle.std.specs.Prelude.{Option, Some, None, Result, Ok, Err, IfSome, IsSomeAnd, min, max}
-use Rattle.dtx_outside.specs.Fill.{Fills}
+use Rattle.dtx_outside.specs.Shelf.{Fills, Files}
 use Rattle.std.specs.FinMap.{get}
-use Rattle.dtx_outside.specs.Shelf.{Files}
 use Rattle.dtx_packets.specs.declared.packet.Packet.{Packet}
 use Rattle.dtx_packets.specs.Packets.{whole_packets, packets_of}
 use Rattle.dtx_packets.specs.declared.refusal.NextNo.{NextNo}

@@ -1,4 +1,3 @@
-pub mod Packet
 pub mod Packets
 pub mod Reading
 pub mod Refusal

@@ -1,6 +1,6 @@
 // A transport packet of 188 bytes, and the fields of its header.
 ghost use Rattle.std.specs.Prelude.{◌≡◌, ◌↔◌, ◌+◌, ◌%◌, IsTrue};
-ghost use Rattle.dtx_packets.specs.Packet.{sync_of, pid_of, HasError, counter_of, with_error};
+ghost use Rattle.dtx_packets.specs.Packets.{sync_of, pid_of, HasError, counter_of, with_error};
 
 use dtx_sizes::PACKET;
 

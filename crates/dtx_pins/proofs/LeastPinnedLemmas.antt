@@ -4,8 +4,7 @@ use Rattle.std.proofs.Common.{cond, List, [], ◌∷◌, length, drop, refl, get
 use Rattle.std.proofs.lemmas.Bool.{true≢false}
 use Rattle.std.specs.List.{filter, AllByRecursion}
 use Rattle.dtx_soft.specs.Paths.{IsPath, cost, next_state}
-use Rattle.dtx_soft.specs.Least.{AreInOrder, IsLeast}
-use Rattle.dtx_soft.specs.LeastPath.{all_paths, first_least, least_levels, least_path, least_start}
+use Rattle.dtx_soft.specs.Least.{AreInOrder, IsLeast, all_paths, first_least, least_levels, least_path, least_start}
 use Rattle.dtx_soft.proofs.LeastPathLemmas.{AreOrdered, IsIn, IsLeastIn, IsStarted, all_are, all_at, all_have}
 use Rattle.dtx_soft.proofs.LeastPathLemmas.{all_ordered, least_in, least_in_is, least_path_found, least_path_is}
 use Rattle.dtx_soft.proofs.LeastPathLemmas.{next_small}

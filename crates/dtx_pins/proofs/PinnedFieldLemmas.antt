@@ -4,7 +4,7 @@ use Rattle.std.proofs.Common.{◌≡◌, ℕ, ℤ, pos, ◌+◌, ◌-◌, ◌*�
 use Rattle.std.proofs.Common.{refl, subst, arith}
 use Rattle.std.proofs.lemmas.List.{get_or-map, length-map}
 use Rattle.dtx_lists.proofs.Range.{map-range_same}
-use Rattle.dtx_trellis.specs.Pairs.{coder_at}
+use Rattle.dtx_trellis.specs.Trellis.{coder_at}
 use Rattle.dtx_soft.specs.Coders.{coder_symbols, coders_distance}
 use Rattle.dtx_soft.specs.Paths.{cost, symbol_at}
 use Rattle.dtx_soft.proofs.LeastPathLemmas.{path_small}

@@ -8,7 +8,7 @@ use Rattle.dtx_soft.specs.Paths.{next_state}
 use Rattle.dtx_soft.proofs.LeastPathLemmas.{next_small}
 use Rattle.dtx_soft.proofs.WritesLemmas.{four}
 use Rattle.dtx_pins.specs.Steps.{AreAtMost, AreBounded, IsBest, level_by, number_of, pen_of, through, told_number}
-use Rattle.dtx_pins.specs.Weights.{AreMultiples, fare, weight}
+use Rattle.dtx_pins.specs.Steps.{AreMultiples, fare, weight}
 use Rattle.dtx_pins.proofs.FourNumbers.{IsFirstLeast, told_by_least}
 
 -- ---- pens

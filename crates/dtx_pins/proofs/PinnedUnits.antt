@@ -6,9 +6,8 @@ use Rattle.dtx_soft.specs.Gaps.{unit}
 use Rattle.dtx_soft.proofs.LeastPathLemmas.{next_small}
 use Rattle.dtx_soft.proofs.WritesLemmas.{four}
 use Rattle.dtx_pins.specs.declared.start.Stand.{Stand}
-use Rattle.dtx_pins.specs.Steps.{IsBest, IsStep, cost_at, number_of, square_of, through}
+use Rattle.dtx_pins.specs.Steps.{IsBest, IsStep, cost_at, number_of, square_of, through, AreUnits, weight}
 use Rattle.dtx_pins.specs.Trace.{IsStart, state_of}
-use Rattle.dtx_pins.specs.Weights.{AreUnits, weight}
 use Rattle.dtx_pins.proofs.WeightTests.{IsWeighed, is_weighed}
 
 -- the step at a symbol

@@ -12,9 +12,8 @@ use Rattle.dtx_soft.specs.Paths.{next_state}
 use Rattle.dtx_soft.proofs.SoftenedLemmas.{length-coder}
 use Rattle.dtx_soft.proofs.WritesLemmas.{by_entry}
 use Rattle.dtx_pins.specs.Pins.{coder_pins, pin_at}
-use Rattle.dtx_pins.specs.Steps.{AreBounded, IsStep, cost_at, level_by, number_of}
+use Rattle.dtx_pins.specs.Steps.{AreBounded, IsStep, cost_at, level_by, number_of, AreMultiples, weight}
 use Rattle.dtx_pins.specs.Walks.{AreLeastCosts, AreLeastSums, AreWalked, IsLeastCost, IsMark, LeadsOn, StandAt}
-use Rattle.dtx_pins.specs.Weights.{AreMultiples, weight}
 use Rattle.dtx_soft.proofs.LeastPathLemmas.{next_small}
 use Rattle.dtx_pins.proofs.PinnedPaths.{IsBestLevel, best_level, cost_more, nothing_cost, onto, onto_through}
 use Rattle.dtx_pins.proofs.PinnedUnits.{AreStepUnits, IsStepAt, step_units}

@@ -5,7 +5,7 @@ use mir.Val.{SFits}
 use Rattle.std.proofs.lemmas.Int.{ints, to_z-of_z}
 use Rattle.std.proofs.lemmas.Bool.Decides.{nat_tests}
 use Rattle.dtx_soft.proofs.WrapsLemmas.{difference_read, read}
-use Rattle.dtx_pins.specs.Weights.{depth, ground}
+use Rattle.dtx_pins.specs.Steps.{depth, ground}
 
 pub depth_is : (scale : ℕ) (v : ℤ) → scale ≢ 0 → SFits w8 v
     → nat_abs (read w16 (pos 127 -ℤ read w16 (read w8 v))) ≡ depth scale v

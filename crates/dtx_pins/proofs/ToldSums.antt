@@ -12,11 +12,10 @@ use Rattle.dtx_soft.proofs.LeastPathLemmas.{next_small}
 use Rattle.dtx_pins.specs.declared.told.Excess.{Excess}
 use Rattle.dtx_pins.specs.declared.told.Lane.{Lane}
 use Rattle.dtx_pins.specs.Pins.{pin_at}
-use Rattle.dtx_pins.specs.Steps.{cost_at, square_of}
+use Rattle.dtx_pins.specs.Steps.{cost_at, square_of, depth, ground, weight}
 use Rattle.dtx_pins.specs.Told.{beginning, both_by, far_by, from_beginning, if_bit, lane_after, less_by, near_by}
 use Rattle.dtx_pins.specs.Told.{no_excess}
 use Rattle.dtx_pins.specs.Walks.{AreLeastSums}
-use Rattle.dtx_pins.specs.Weights.{depth, ground, weight}
 use Rattle.dtx_pins.proofs.ToldLanes.{eight, each_two}
 use Rattle.dtx_pins.proofs.PinnedUnits.{listed, listed_at}
 use Rattle.dtx_pins.proofs.ToldPaths.{AreTold, told_behind, told_cost, told_costs, told_level}

@@ -6,8 +6,7 @@ use Rattle.std.proofs.lemmas.Bool.Decides.{nat_tests, Decides-eqb}
 use Rattle.dtx_lists.proofs.Below.{at_below, holds_below}
 use Rattle.dtx_soft.specs.Gaps.{unit}
 use Rattle.dtx_soft.specs.Paths.{squared, symbol_at}
-use Rattle.dtx_pins.specs.Steps.{square_of}
-use Rattle.dtx_pins.specs.Weights.{depth, ground, weight}
+use Rattle.dtx_pins.specs.Steps.{square_of, depth, ground, weight}
 
 -- whether a square and a weight go together, and are small, where the square of level 0 is given
 unfoldable fits : (unit first square weight : ℕ) → Bool

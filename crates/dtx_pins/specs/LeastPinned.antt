@@ -1,7 +1,6 @@
 -- Least paths among those that agree with pins.
 use Rattle.std.specs.Prelude.{ℕ, ℤ, ◌≡◌, ◌<◌, ◌≤◌, List, ◌∷◌, length, drop, filter, slice_index}
-use Rattle.dtx_soft.specs.Least.{AreInOrder}
-use Rattle.dtx_soft.specs.LeastPath.{all_paths, first_least}
+use Rattle.dtx_soft.specs.Least.{AreInOrder, all_paths, first_least}
 use Rattle.dtx_soft.specs.Paths.{IsPath, cost}
 use Rattle.dtx_pins.specs.Pins.{Agrees, agrees}
 

@@ -1,10 +1,7 @@
 pub mod Pins
 pub mod LeastPinned
 pub mod PinnedField
-pub mod Moved
 pub mod Steps
-pub mod Weights
-pub mod Lanes
 pub mod Walks
 pub mod Trace
 pub mod Told

@@ -3,11 +3,12 @@
 use Rattle.std.specs.Prelude.{ℕ, ℤ, pos, ◌≡◌, ◌+◌, ◌-◌, ◌*◌, ◌/◌, ◌<◌, nat_lt, if◌then◌else◌, List, [], length, map}
 use Rattle.std.specs.Prelude.{slice_index_or, sum}
 use Rattle.std.specs.List.{range_with_len}
-use Rattle.dtx_trellis.specs.Pairs.{coder_at}
+use Rattle.dtx_trellis.specs.Trellis.{coder_at}
 use Rattle.dtx_soft.specs.Coders.{KeepsSyncs, coder_symbols}
 use Rattle.dtx_soft.specs.Paths.{cost, symbol_at}
 use Rattle.dtx_pins.specs.LeastPinned.{IsLeastPinned, least_pinned_levels}
 use Rattle.dtx_pins.specs.Pins.{coder_pins}
+use Rattle.std.specs.Ordering.{int_eq}
 
 -- The new symbols are those of the levels of the least path over the symbols that were heard, under pins. They are at
 -- the scale `at`.
@@ -56,3 +57,14 @@ pinned_coder_cost scale pins segments e =
 -- what the least paths of all twelve coders cost
 unfoldable pub pinned_cost : ℕ → List (List ℕ) → List (List ℤ) → ℕ
 pinned_cost scale pins segments = sum (map (pinned_coder_cost scale pins segments) (range_with_len 0 12))
+
+-- in how many symbols a segment differs from another one
+unfoldable pub moved_in : List ℤ → List ℤ → ℕ
+moved_in old new =
+    sum (map (λ k. if int_eq (slice_index_or old k (pos 0)) (slice_index_or new k (pos 0)) then 0 else 1)
+    (range_with_len 0 832))
+
+-- in how many symbols segments differ from others
+unfoldable pub rows_moved : List (List ℤ) → List (List ℤ) → ℕ
+rows_moved old new =
+    sum (map (λ i. moved_in (slice_index_or old i []) (slice_index_or new i [])) (range_with_len 0 (length old)))

@@ -1,8 +1,8 @@
 -- One step of the search under pins: what each level comes to, and which one is taken.
-use Rattle.std.specs.Prelude.{ℕ, ℤ, ◌≡◌, ◌+◌, ◌*◌, ◌/◌, ◌%◌, ◌^◌, ◌<◌, ◌≤◌, ◌==◌, nat_le, nat_lt}
-use Rattle.std.specs.Prelude.{if◌then◌else◌}
-use Rattle.std.specs.Prelude.{List, [], slice_index, slice_index_or}
+use Rattle.std.specs.Prelude.{ℕ, ℤ, ◌≡◌, ◌+◌, ◌*◌, ◌/◌, ◌%◌, ◌^◌, ◌<◌, ◌≤◌, ◌==◌, nat_le, nat_lt, if◌then◌else◌, List}
+use Rattle.std.specs.Prelude.{[], slice_index, slice_index_or, pos, ◌-◌, ◌-ℤ◌, nat_abs}
 use Rattle.dtx_soft.specs.Paths.{next_state, squared, symbol_at}
+use Rattle.dtx_soft.specs.Nearest.{seen}
 
 -- The least costs of a coder: entry p is for the former Z2 and has one for each state.
 abbrev pub cost_at : List (List ℕ) → ℕ → ℕ → ℕ
@@ -57,3 +57,31 @@ pub record IsBest (level_cost : ℕ → ℕ) (pin : ℕ) (behind : List (List �
 pub record IsStep (level_cost : ℕ → ℕ) (pin : ℕ) (old new : List (List ℕ)) (mark : ℕ) : Type 0 where
   pub best : (p s : ℕ) → p < 2 → s < 4 → IsBest level_cost pin old p s (number_of mark p s)
   pub costs : (p s : ℕ) → p < 2 → s < 4 → cost_at new p s ≡ through level_cost old s (number_of mark p s)
+
+-- how far a symbol is below the greatest one, 127; at scale 0 each symbol counts as 0
+unfoldable pub depth : ℕ → ℤ → ℕ
+depth scale symbol = nat_abs (pos 127 -ℤ seen scale symbol)
+
+-- what is the same of a level's weight at each symbol
+unfoldable pub ground : ℕ → ℕ → ℕ
+ground scale z = 3584 - 4 * (scale * (z * (7 - z))) - 508 * z
+
+-- the weight of level z at a symbol
+abbrev pub weight : ℕ → ℤ → ℕ → ℕ
+weight scale symbol z = ground scale z + z * (4 * depth scale symbol)
+
+-- the number of a level, the pen of its Z1 and its weight; the first pen is for Z1 = 0, and the second for Z1 = 1
+abbrev pub fare : ℕ → ℤ → ℕ → ℕ → ℕ → ℕ
+fare scale symbol first second z =
+    weight scale symbol z + z / 2 + (if z / 2 % 2 == 0 then first else second)
+
+-- Sums of weights stand for costs: four times the costs, and a number of units, are those sums in units and a number
+-- that is the same for all.
+pub record AreUnits (unit : ℕ) (costs sums : List (List ℕ)) : Type 0 where
+  pub base : ℕ
+  pub lift : ℕ
+  pub each : (p s : ℕ) → p < 2 → s < 4 → 4 * cost_at costs p s + unit * lift ≡ base + unit * cost_at sums p s
+
+-- all are multiples of four
+abbrev pub AreMultiples : List (List ℕ) → Type 0
+AreMultiples sums = (p s : ℕ) → p < 2 → s < 4 → cost_at sums p s % 4 ≡ 0

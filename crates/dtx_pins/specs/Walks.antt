@@ -1,12 +1,13 @@
 -- What the walk back keeps: the least costs of paths that agree with pins, and the marks.
 use Rattle.std.specs.Prelude.{ℕ, ℤ, pos, ◌≡◌, ◌+◌, ◌*◌, ◌%◌, ◌<◌, ◌≤◌, List, [], length, drop, slice_index}
-use Rattle.std.specs.Prelude.{slice_index_or}
+use Rattle.std.specs.Prelude.{slice_index_or, ◌∷◌}
 use Rattle.dtx_soft.specs.Paths.{IsPath, cost}
 use Rattle.dtx_pins.specs.Pins.{AgreesFrom, coder_pins, pin_at}
 use Rattle.dtx_soft.specs.Coders.{coder_symbols}
 use Rattle.dtx_soft.specs.Gaps.{unit}
-use Rattle.dtx_pins.specs.Steps.{IsBest, cost_at, number_of, square_of}
-use Rattle.dtx_pins.specs.Weights.{AreUnits}
+use Rattle.dtx_pins.specs.Steps.{IsBest, cost_at, number_of, square_of, AreUnits}
+use Rattle.dtx_pins.specs.declared.lanes.Lanes.{Lanes}
+use Rattle.dtx_pins.specs.declared.lanes.Sums.{Sums}
 
 -- the least cost of a path that agrees, from a former Z2 and a state: no such path costs less, and one costs as much
 pub record IsLeastCost (scale : ℕ) (pins : List ℕ) (symbols : List ℤ) (former state least : ℕ) : Type 0 where
@@ -55,3 +56,12 @@ LeadsOn scale turn segment pins marks old new =
     → segment ≡ slice_index_or heard i [] → StandAt (69 * i) pins all_pins → StandAt (69 * i) marks all_marks
     → AreWalked scale (69 * (i + 1)) all_pins heard old all_marks
     → AreWalked scale (69 * i) all_pins heard new all_marks
+
+-- the sums of coder e, one from each state
+abbrev pub lane_of : Lanes → ℕ → List ℕ
+lane_of lanes e = slice_index lanes.first e ∷ slice_index lanes.second e ∷ slice_index lanes.third e
+    ∷ slice_index lanes.fourth e ∷ []
+
+-- the same behind each former Z2
+abbrev pub sums_of : Sums → ℕ → List (List ℕ)
+sums_of sums e = lane_of sums.none e ∷ lane_of sums.one e ∷ []

@@ -2,11 +2,9 @@
 
 ghost use Rattle.std.specs.Prelude.{◌≡◌, ℕ, pos, ◌*◌, ◌+◌, ◌-◌, ◌<◌, ◌≤◌, [], length, slice_index, slice_index_or};
 ghost use Rattle.std.specs.Prelude.{◌≤ℤ◌, ◌+ℤ◌};
-ghost use Rattle.dtx_pins.specs.Lanes.{sums_of};
+ghost use Rattle.dtx_pins.specs.Walks.{sums_of, AreWalked, LeadsOn};
 ghost use Rattle.dtx_pins.specs.Pins.{pin_at};
-ghost use Rattle.dtx_pins.specs.Steps.{AreBounded, IsStep};
-ghost use Rattle.dtx_pins.specs.Walks.{AreWalked, LeadsOn};
-ghost use Rattle.dtx_pins.specs.Weights.{AreMultiples, weight};
+ghost use Rattle.dtx_pins.specs.Steps.{AreBounded, IsStep, AreMultiples, weight};
 
 use crate::lanes::{Sums, all_sums, coder_sums, no_sums, put_sums};
 use crate::step::{MAX_WEIGHT, stepped};

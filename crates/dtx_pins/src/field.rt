@@ -2,8 +2,7 @@
 
 ghost use Rattle.std.specs.Prelude.{◌≡◌, ◌↔◌, ℕ, ◌*◌, ◌≤◌, IsTrue, [], length, slice_index_or};
 ghost use Rattle.dtx_pins.specs.Pins.{AreAllTold, pin_at};
-ghost use Rattle.dtx_pins.specs.Moved.{rows_moved};
-ghost use Rattle.dtx_pins.specs.PinnedField.{IsPinned, pinned_cost};
+ghost use Rattle.dtx_pins.specs.PinnedField.{rows_moved, IsPinned, pinned_cost};
 ghost use Rattle.dtx_pins.specs.Walks.{AreWalked};
 
 use crate::back::backward;

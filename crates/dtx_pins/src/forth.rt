@@ -4,9 +4,8 @@
 ghost use Rattle.std.specs.Prelude.{◌≡◌, ◌≢◌, ℕ, pos, ◌+◌, ◌-◌, ◌*◌, ◌/◌, ◌%◌, ◌<◌, ◌≤◌, length, slice_index};
 ghost use Rattle.std.specs.Prelude.{List, [], slice_index_or, if◌then◌else◌};
 ghost use Rattle.std.specs.Ordering.{int_eq};
-ghost use Rattle.dtx_pins.specs.Moved.{moved_in, rows_moved};
+ghost use Rattle.dtx_pins.specs.PinnedField.{moved_in, rows_moved, IsPinned, pinned_cost};
 ghost use Rattle.dtx_pins.specs.Pins.{coder_pins};
-ghost use Rattle.dtx_pins.specs.PinnedField.{IsPinned, pinned_cost};
 ghost use Rattle.dtx_pins.specs.Steps.{number_of};
 ghost use Rattle.dtx_pins.specs.Trace.{AreStarts, AreTraced, IsMoved, IsNext, IsStand, stand_at};
 ghost use Rattle.dtx_pins.specs.Walks.{AreWalked};

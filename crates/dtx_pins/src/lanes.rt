@@ -1,7 +1,7 @@
 //! Sums for the twelve coders side by side, so that they are worked on at once.
 
 ghost use Rattle.std.specs.Prelude.{◌≡◌, ◌≢◌, ℕ, ◌<◌, [], slice_index, slice_index_or};
-ghost use Rattle.dtx_pins.specs.Lanes.{lane_of, sums_of};
+ghost use Rattle.dtx_pins.specs.Walks.{lane_of, sums_of};
 ghost use Rattle.dtx_pins.specs.Steps.{cost_at};
 
 use dtx_sizes::CODERS;

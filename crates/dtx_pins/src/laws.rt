@@ -3,7 +3,7 @@
 ghost use Rattle.std.specs.Prelude.{◌≡◌, ◌↔◌, ℕ, ℤ, pos, ◌<◌, ◌≤◌, IsTrue, List, [], ◌∷◌, length};
 ghost use Rattle.std.specs.Prelude.{slice_index_or};
 ghost use Rattle.dtx_soft.specs.Coders.{coders_distance};
-ghost use Rattle.dtx_soft.specs.LeastPath.{least_path};
+ghost use Rattle.dtx_soft.specs.Least.{least_path};
 ghost use Rattle.dtx_soft.specs.Paths.{cost, symbol_at};
 ghost use Rattle.dtx_pins.specs.Pins.{Agrees, agrees, pin_at};
 ghost use Rattle.dtx_pins.specs.LeastPinned.{IsLeastPinned, least_pinned_levels, least_pinned_path};

@@ -1,8 +1,7 @@
 //! The decoder under pins.
 
 ghost use Rattle.std.specs.Prelude.{◌≡◌, ◌*◌, ◌<◌, ◌≤◌, length};
-ghost use Rattle.dtx_pins.specs.Moved.{rows_moved};
-ghost use Rattle.dtx_pins.specs.PinnedField.{IsPinned, pinned_cost};
+ghost use Rattle.dtx_pins.specs.PinnedField.{rows_moved, IsPinned, pinned_cost};
 
 use crate::field::decide_field;
 use crate::weights::Weights;

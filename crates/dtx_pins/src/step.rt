@@ -8,8 +8,7 @@
 ghost use Rattle.std.specs.Prelude.{◌≡◌, ℕ, ◌+◌, ◌-◌, ◌*◌, ◌/◌, ◌%◌, ◌^◌, ◌<◌, ◌≤◌, min};
 ghost use Rattle.std.specs.Prelude.{slice_index, nat_le, ◌==◌, if◌then◌else◌};
 ghost use Rattle.dtx_soft.specs.Paths.{next_state};
-ghost use Rattle.dtx_pins.specs.Steps.{AreAtMost, AreBounded, IsStep, level_by, pen_of};
-ghost use Rattle.dtx_pins.specs.Weights.{AreMultiples, weight};
+ghost use Rattle.dtx_pins.specs.Steps.{AreAtMost, AreBounded, IsStep, level_by, pen_of, AreMultiples, weight};
 
 use crate::pinned::NO_PIN;
 use crate::weights::{PEN, Weights};

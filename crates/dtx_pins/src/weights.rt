@@ -3,7 +3,7 @@
 
 ghost use Rattle.std.specs.Prelude.{◌≡◌, ℕ, ◌+◌, ◌*◌, ◌/◌, ◌<◌, ◌≤◌, slice_index};
 ghost use Rattle.std.specs.Prelude.{◌==◌, if◌then◌else◌};
-ghost use Rattle.dtx_pins.specs.Weights.{depth, fare, ground};
+ghost use Rattle.dtx_pins.specs.Steps.{depth, fare, ground};
 ghost use Rattle.dtx_soft.specs.declared.nearest.TheConstants.{MAX_SCALE};
 
 use dtx_soft::MAX_SCALE;

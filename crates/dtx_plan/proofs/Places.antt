@@ -7,8 +7,7 @@ use Rattle.std.specs.Ordering.{nat_cmp, is_eq}
 use Rattle.std.proofs.lemmas.Bool.{cases_eq, eq-eqb, ne_eqb, le-ltb}
 use Rattle.std.proofs.lemmas.Bool.Decides.{nat_tests}
 use Rattle.dtx_plan.specs.declared.transmitter.Transmitter.{Transmitter}
-use Rattle.dtx_plan.specs.TransmitterTable.{transmitter_place}
-use Rattle.dtx_plan.specs.Places.{ArePlaces}
+use Rattle.dtx_plan.specs.TransmitterTable.{transmitter_place, ArePlaces}
 use Rattle.dtx_plan.proofs.PlacesLemmas.{place_more}
 
 -- ---- keys

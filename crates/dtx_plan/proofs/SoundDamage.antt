@@ -10,7 +10,7 @@ use Rattle.dtx_plan.specs.declared.key.PlanKey.TheVariants as key
 use Rattle.dtx_plan.specs.declared.damage.Damage.{Damage}
 use Rattle.dtx_plan.specs.Rows.{table, known, whole, whole_or, signed, entries, array_or_none}
 use Rattle.dtx_plan.specs.DamageTable.{behind, damage, damage_from, last_end}
-use Rattle.dtx_plan.specs.ReceiveTable.{damage_of}
+use Rattle.dtx_plan.specs.NetTable.{damage_of}
 use Rattle.dtx_plan.specs.Sound.{IsDamage, AreDamages}
 use Rattle.dtx_plan.proofs.WalksLemmas.{bind_ok, ok_same, whole_range, whole_or_range, array_or_none_range}
 use Rattle.dtx_plan.proofs.WalksLemmas.{entries_keep, entries_count}

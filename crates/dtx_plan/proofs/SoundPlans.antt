@@ -13,10 +13,8 @@ use Rattle.dtx_plan.specs.declared.plan.NetPlan.{NetPlan}
 use Rattle.dtx_plan.specs.declared.plan.Plan.{Plan}
 use Rattle.dtx_plan.specs.Rows.{IsAnswer, table, known, whole, text, array_or_none, optional, entries}
 use Rattle.dtx_plan.specs.EventTable.{no_stranger, event_after}
-use Rattle.dtx_plan.specs.ReceiveTable.{damage_of, receive_of, receive}
-use Rattle.dtx_plan.specs.NetTable.{stream_of, stream, events_of, net_of}
-use Rattle.dtx_plan.specs.RootTable.{plan, changes}
-use Rattle.dtx_plan.specs.Plan.{root_of, plan_of, changes_of}
+use Rattle.dtx_plan.specs.NetTable.{damage_of, receive_of, receive, stream_of, stream, events_of, net_of}
+use Rattle.dtx_plan.specs.Plan.{plan, changes, root_of, plan_of, changes_of}
 use Rattle.dtx_plan.specs.Sound.{AreDamages, IsReceived, IsNet, IsSound, HasSoundNet}
 use Rattle.dtx_plan.proofs.WalksLemmas.{bind_ok, test_ok, ok_same, array_or_none_range, entries_count, plan_sound}
 use Rattle.dtx_plan.proofs.SoundDamage.{damages_are}

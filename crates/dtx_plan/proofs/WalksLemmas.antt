@@ -20,8 +20,7 @@ use Rattle.dtx_plan.specs.Rows.{◌>>=◌, refused, whole_of, whole_value, whole
 use Rattle.dtx_plan.specs.Rows.{table, known, count_of, array, array_or_none, entries}
 use Rattle.dtx_plan.specs.TransmitterTable.{addresses_of, has_address, once, transmitter}
 use Rattle.dtx_plan.specs.NetTable.{net}
-use Rattle.dtx_plan.specs.RootTable.{plan}
-use Rattle.dtx_plan.specs.Plan.{root_of, plan_of}
+use Rattle.dtx_plan.specs.Plan.{plan, root_of, plan_of}
 use Rattle.dtx_plan.specs.Sound.{IsTransmitter, IsSound}
 use Rattle.dtx_plan.proofs.AddressesLemmas.{distinct_none, distinct_more}
 

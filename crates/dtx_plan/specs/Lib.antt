@@ -1,11 +1,8 @@
 pub mod Words
 pub mod Rows
 pub mod TransmitterTable
-pub mod Places
 pub mod DamageTable
 pub mod EventTable
-pub mod ReceiveTable
 pub mod NetTable
-pub mod RootTable
 pub mod Plan
 pub mod Sound

@@ -1,6 +1,6 @@
 -- The rows of an entry of the array `transmitter`.
 use Rattle.std.specs.Prelude.{ℕ, pos, negsuc, codes, nat_eq, Bool, if◌then◌else◌, List, [], ◌∷◌, length, map, Option}
-use Rattle.std.specs.Prelude.{position, Result, Ok}
+use Rattle.std.specs.Prelude.{position, Result, Ok, ◌≡◌}
 use Rattle.std.specs.List.{list_any}
 use Rattle.toml.specs.Data.{Data, get_member}
 use Rattle.dtx_plan.specs.declared.key.PlanKey.TheVariants as key
@@ -8,6 +8,8 @@ use Rattle.dtx_plan.specs.declared.rule.PlanRule.TheVariants.{Twice}
 use Rattle.dtx_plan.specs.declared.refusal.PlanNo.{PlanNo}
 use Rattle.dtx_plan.specs.declared.transmitter.Transmitter.{Transmitter}
 use Rattle.dtx_plan.specs.Rows.{◌>>=◌, refused, table, known, whole, whole_or, signed}
+use Rattle.std.specs.BTreeMap.{BTreeMap, get}
+use Rattle.std.specs.Ordering.{nat_cmp}
 
 -- the addresses of transmitters
 abbrev pub addresses_of : List Transmitter → List ℕ
@@ -35,3 +37,7 @@ transmitter earlier d = do
   offset ← signed (get_member (codes "offset") entry) key.Offset (length earlier) (negsuc 32767) (pos 32767)
   delay ← whole_or 0 (get_member (codes "delay") entry) key.Delay (length earlier) 0 4294967295
   Ok (record { address = address; offset = offset; delay = delay })
+
+-- the map holds the place of each address of the list, and nothing for any other address
+abbrev pub ArePlaces : BTreeMap ℕ ℕ → List Transmitter → Type 0
+ArePlaces places ts = (address : ℕ) → get nat_cmp places address ≡ transmitter_place address ts

@@ -2,7 +2,7 @@
 ghost use Rattle.std.specs.Prelude.{◌≡◌};
 ghost use Rattle.toml.specs.View.{view, table_view};
 ghost use Rattle.dtx_plan.specs.Rows.{IsAnswer};
-ghost use Rattle.dtx_plan.specs.ReceiveTable.{damage_of};
+ghost use Rattle.dtx_plan.specs.NetTable.{damage_of};
 ghost use Rattle.dtx_plan.specs.DamageTable as spec;
 
 use crate::damage::{Damage, Damages};

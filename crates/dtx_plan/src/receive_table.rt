@@ -1,7 +1,7 @@
 // Reading the table `receive`.
 ghost use Rattle.toml.specs.View.{table_view};
 ghost use Rattle.dtx_plan.specs.Rows.{IsAnswer};
-ghost use Rattle.dtx_plan.specs.ReceiveTable as spec;
+ghost use Rattle.dtx_plan.specs.NetTable as spec;
 
 use crate::damage::Damages;
 use crate::damage_table::damages;
@@ -18,7 +18,7 @@ use toml::Table;
 const KEYS: &[&str] = &["from", "damage"];
 
 /// Reads the table `receive`, which says what is received. Gives `None` where the table is absent.
-#[tactic(auto, unfolding(crate::specs::ReceiveTable::receive_of))]
+#[tactic(auto, unfolding(crate::specs::NetTable::receive_of))]
 pub(crate) fn receive(
     alloc: Global,
     transmitters: &Transmitters,

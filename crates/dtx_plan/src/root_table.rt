@@ -1,7 +1,7 @@
 // Reading the root of a plan, and of a file of changes.
 ghost use Rattle.toml.specs.View.{table_view};
 ghost use Rattle.dtx_plan.specs.Rows.{IsAnswer};
-ghost use Rattle.dtx_plan.specs.RootTable as spec;
+ghost use Rattle.dtx_plan.specs.Plan as spec;
 
 use crate::damage::Damages;
 use crate::damage_table::damages;
@@ -20,7 +20,7 @@ use toml::Table;
 const KEYS: &[&str] = &["start", "max_delay", "transmitter", "net"];
 
 /// Reads the plan from the root table of its file.
-#[tactic(auto, unfolding(crate::specs::RootTable::plan))]
+#[tactic(auto, unfolding(crate::specs::Plan::plan))]
 pub(crate) fn plan(alloc: Global, root: &Table) -> Result<Plan, PlanFault>
     ensures { IsAnswer (spec.plan (table_view root.now)) result }
 {
@@ -40,7 +40,7 @@ pub(crate) fn plan(alloc: Global, root: &Table) -> Result<Plan, PlanFault>
 }
 
 /// Reads the damage from the root table of a file of changes.
-#[tactic(auto, unfolding(crate::specs::RootTable::changes))]
+#[tactic(auto, unfolding(crate::specs::Plan::changes))]
 pub(crate) fn changes(alloc: Global, root: &Table) -> Result<Damages, PlanFault>
     ensures { IsAnswer (spec.changes (table_view root.now)) result }
 {

@@ -18,7 +18,7 @@ pub struct Transmitters {
 impl Model for Transmitters {
     ghost use Rattle.std.specs.Prelude.{List};
     ghost use Rattle.dtx_plan.specs.declared.transmitter.Transmitter.{Transmitter};
-    ghost use Rattle.dtx_plan.specs.Places.{ArePlaces};
+    ghost use Rattle.dtx_plan.specs.TransmitterTable.{ArePlaces};
 
     ghost Value = { List Transmitter };
 

@@ -6,7 +6,7 @@ use Rattle.std.proofs.lemmas.Bool.{cases_eq}
 use Rattle.std.proofs.lemmas.List.{length-append, append-nil, length-take-le, length-drop, take-append-drop}
 use Rattle.std.proofs.lemmas.List.FromFn.{length-map-range_with_len}
 use Rattle.dtx_frame.specs.Detection.{looks_like}
-use Rattle.dtx_trellis.specs.Pairs.{group_place}
+use Rattle.dtx_trellis.specs.Trellis.{group_place}
 use Rattle.dtx_slice.specs.Unrolled.{level_groups, bytes_back, precoder_bits_after}
 use Rattle.dtx_slice.proofs.JoinsLemmas.{bytes_append}
 use Rattle.dtx_receiver.specs.declared.batch.Received.{Received}

@@ -4,7 +4,7 @@ use Rattle.std.proofs.Common.{refl, sym, ap, ap₂, ◌∙◌, arith, lit<}
 use Rattle.std.proofs.lemmas.List.{length_push, length-append, length-take-le, length-drop, take_at, take_all}
 use Rattle.dtx_slice.specs.Slicing.{sliced_data, sliced_last}
 use Rattle.dtx_slice.specs.Unrolled.{bytes_back, precoder_bits_after, precoder_bits_of}
-use Rattle.dtx_trellis.specs.Pairs.{group_place}
+use Rattle.dtx_trellis.specs.Trellis.{group_place}
 use Rattle.dtx_receiver.specs.Bytes.{data_count, groups_of, levels_from, levels_in, bytes_in}
 use Rattle.dtx_receiver.specs.Receiver.{AreLevels}
 use Rattle.dtx_receiver.proofs.SegmentsLemmas.{more_data, more_sync, levels_more, levels_stay, Still, still_data}

@@ -5,7 +5,7 @@ use Rattle.std.proofs.lemmas.List.{length_push, get_or_append_left, get_or_push,
 use Rattle.std.proofs.lemmas.Grind.{flat_map-append}
 use Rattle.std.proofs.lemmas.List.FromFn.{get_or-map-range_with_len}
 use Rattle.dtx_lists.proofs.Range.{range_with_len-parts, map-range_same}
-use Rattle.dtx_trellis.specs.Pairs.{group_place}
+use Rattle.dtx_trellis.specs.Trellis.{group_place}
 use Rattle.dtx_slice.specs.Slicing.{sliced, sliced_data, sliced_last}
 use Rattle.dtx_slice.specs.Unrolled.{level_groups, precoder_bit, bytes_back, precoder_bits_after, precoder_bits_of}
 use Rattle.dtx_slice.proofs.JoinsLemmas.{bytes_append, precoder_bits_append}

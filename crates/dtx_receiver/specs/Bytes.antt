@@ -1,8 +1,9 @@
 -- From the symbols of a run to its bytes (ATSC A/53 Part 2, trellis coding: the way back).
-use Rattle.std.specs.Prelude.{ℕ, ℤ, ◌+◌, ◌-◌, ◌*◌, ◌/◌, List, [], length, slice_index_or}
+use Rattle.std.specs.Prelude.{ℕ, ℤ, ◌+◌, ◌-◌, ◌*◌, ◌/◌, List, [], length, slice_index_or, map}
 use Rattle.std.specs.List.{range_with_len, flat_map}
 use Rattle.dtx_slice.specs.Slicing.{sliced_data, sliced_last}
 use Rattle.dtx_slice.specs.Unrolled.{bytes_back, precoder_bits_of, precoder_bits_after}
+use Rattle.std.specs.Int.{w8, cast_signed}
 
 -- how many data segments a run has: all segments but the field syncs, which stand at the places 0, 313, 626 and so on
 unfoldable pub data_count : List (List ℤ) → ℕ
@@ -36,3 +37,11 @@ precoder_bits_in run = precoder_bits_after 0 (first_bits run) (levels_in run)
 -- the bytes of all whole groups: the run's first data segment is at place 0 of a field
 unfoldable pub bytes_in : List (List ℤ) → List ℕ
 bytes_in run = bytes_back 0 (first_bits run) (levels_in run)
+
+-- the symbols of bytes
+abbrev pub symbols_of : List ℕ → List ℤ
+symbols_of bytes = map (λ byte. cast_signed w8 byte) bytes
+
+-- the symbols of segments
+abbrev pub symbols_in : List (List ℕ) → List (List ℤ)
+symbols_in segments = map symbols_of segments

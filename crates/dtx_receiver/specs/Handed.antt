@@ -2,7 +2,7 @@
 use Rattle.std.specs.Prelude.{ℕ, true, false, List, [], ◌∷◌}
 use Rattle.dtx_outer.specs.declared.inner.Taken.{Taken}
 use Rattle.dtx_outer.specs.declared.inner.Taken.TheVariants.{None, Good, Bad}
-use Rattle.dtx_packets.specs.Packet.{with_error}
+use Rattle.dtx_packets.specs.Packets.{with_error}
 use Rattle.dtx_receiver.specs.declared.batch.Received.{Received}
 
 -- The packet of the data `head`, behind the sync byte 0x47, or none where the block completes no word. Where the word

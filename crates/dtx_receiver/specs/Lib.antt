@@ -4,4 +4,3 @@ pub mod Intervals
 pub mod Bytes
 pub mod Packets
 pub mod Receiver
-pub mod Symbols

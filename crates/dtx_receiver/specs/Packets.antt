@@ -6,7 +6,7 @@ use Rattle.dtx_laws.specs.Codeword.{distance}
 use Rattle.dtx_laws.specs.Whitening.{whitened}
 use Rattle.dtx_laws.specs.Words.{correction}
 use Rattle.dtx_outer.specs.Inner.{codeword_byte_place, word_at}
-use Rattle.dtx_packets.specs.Packet.{with_error}
+use Rattle.dtx_packets.specs.Packets.{with_error}
 use Rattle.dtx_whiten.specs.Randomizer.{randomizer_bytes}
 use Rattle.dtx_receiver.specs.declared.batch.Received.{Received}
 use Rattle.dtx_receiver.specs.Runs.{tracked, runs}

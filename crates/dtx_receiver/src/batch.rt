@@ -1,7 +1,7 @@
 //! What a call of the receiver gives.
 
 ghost use Rattle.std.specs.Prelude.{◌≡◌, true, false, ◌∷◌, [], replicate};
-ghost use Rattle.dtx_packets.specs.Packet.{with_error};
+ghost use Rattle.dtx_packets.specs.Packets.{with_error};
 
 use arrayvec::ArrayVec;
 use dtx_packets::Packet;

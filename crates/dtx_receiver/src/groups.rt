@@ -8,7 +8,7 @@ ghost use Rattle.dtx_slice.specs.Unrolled.{bytes_back, precoder_bits_after};
 ghost use Rattle.dtx_whiten.specs.Randomizer.{randomizer_bytes};
 ghost use Rattle.dtx_receiver.specs.Packets.{early_of};
 ghost use Rattle.dtx_receiver.specs.Receiver.{AreGrouped};
-ghost use Rattle.dtx_receiver.specs.Symbols.{symbols_in};
+ghost use Rattle.dtx_receiver.specs.Bytes.{symbols_in};
 ghost use Rattle.dtx_receiver.specs.declared.batch.Received.{Received};
 
 use crate::batch::{Batch, HELD_GROUPS};

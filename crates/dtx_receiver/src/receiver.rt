@@ -3,7 +3,7 @@
 ghost use Rattle.std.specs.Prelude.{◌≡◌, ℤ, ◌+◌, ◌*◌, ◌%◌, ◌<◌, ◌≤◌, ◌++◌, ◌∷◌, [], List, IfOk, Some, length, take};
 ghost use Rattle.dtx_receiver.specs.Receiver.{Stands, AreReceived, IsFollowed};
 ghost use Rattle.dtx_receiver.specs.Runs.{runs, tracking};
-ghost use Rattle.dtx_receiver.specs.Symbols.{symbols_in, symbols_of};
+ghost use Rattle.dtx_receiver.specs.Bytes.{symbols_in, symbols_of};
 
 use crate::batch::{Batch, MOST_RECEIVED};
 use crate::progress::{Progress, begun};

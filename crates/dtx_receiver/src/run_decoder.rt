@@ -2,7 +2,7 @@
 
 ghost use Rattle.std.specs.Prelude.{◌≡◌, ℤ, ◌+◌, ◌*◌, ◌%◌, ◌≤◌, ◌<◌, ◌++◌, ◌∷◌, [], List, length};
 ghost use Rattle.dtx_receiver.specs.Receiver.{IsDecoder};
-ghost use Rattle.dtx_receiver.specs.Symbols.{symbols_in};
+ghost use Rattle.dtx_receiver.specs.Bytes.{symbols_in};
 ghost use Rattle.dtx_receiver.specs.declared.batch.Received.{Received};
 
 use crate::batch::{Batch, HELD_GROUPS};

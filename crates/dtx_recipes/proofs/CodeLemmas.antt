@@ -12,7 +12,7 @@ use Rattle.dtx_files.specs.Symbols.{byte_of_symbol}
 use Rattle.dtx_packets.proofs.PacketLemmas.{packets_of-append}
 use Rattle.dtx_packets.specs.Packets.{packets_of}
 use Rattle.dtx_recipes.specs.Code.{coding}
-use Rattle.dtx_recipes.specs.Symbols.{symbol_bytes}
+use Rattle.dtx_recipes.specs.SymbolFile.{symbol_bytes}
 
 -- no packets have no symbols
 symbols_none : symbol_bytes [] ≡ []

@@ -8,8 +8,7 @@ use Rattle.dtx_meaning.specs.Meaning.{IsFrontOf}
 use Rattle.dtx_packets.proofs.PacketLemmas.{packets_of-append}
 use Rattle.dtx_packets.specs.Packets.{packets_of}
 use Rattle.dtx_plan.specs.declared.plan.Plan.{Plan}
-use Rattle.dtx_recipes.specs.Adapt.{feeding}
-use Rattle.dtx_recipes.specs.Feed.{bytes_of_packets, feed_bytes}
+use Rattle.dtx_recipes.specs.Adapt.{feeding, bytes_of_packets, feed_bytes}
 
 pub bytes_of_packets-append : (a b : List (List ℕ))
     → bytes_of_packets (a ++ b) ≡ bytes_of_packets a ++ bytes_of_packets b

@@ -11,8 +11,7 @@ use Rattle.dtx_recipes.proofs.AnswersLemmas.{synced_known}
 use Rattle.dtx_recipes.specs.Level.{levelled_files, levelling}
 use Rattle.dtx_recipes.specs.SymbolFile.{symbol_of_byte, symbols}
 use Rattle.dtx_level.proofs.LevelledLemmas.{none_so_far, so_far_grows}
-use Rattle.dtx_level.specs.MeasureText.{measure_text, measures_text}
-use Rattle.dtx_level.specs.Measures.{measures_so_far}
+use Rattle.dtx_level.specs.Measures.{measure_text, measures_text, measures_so_far}
 use Rattle.dtx_meaning.specs.declared.status.Outcome.{Outcome}
 use Rattle.dtx_words.specs.declared.rows.Command.TheVariants.{Level}
 

@@ -16,7 +16,7 @@ use Rattle.dtx_files.specs.LogText.{log_text}
 use Rattle.dtx_files.specs.Symbols.{byte_of_symbol}
 use Rattle.dtx_repeat.specs.GoingOn.{last_life, longer}
 use Rattle.dtx_repeat.proofs.GoingOnLemmas.{longer_last}
-use Rattle.dtx_recipes.specs.Lives.{sent_over, logged_over}
+use Rattle.dtx_recipes.specs.Life.{sent_over, logged_over}
 
 -- ---- the last of some lives
 

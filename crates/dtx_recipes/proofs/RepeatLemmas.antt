@@ -13,7 +13,7 @@ use Rattle.dtx_repeat.proofs.GoingOnLemmas.{longer_none, longer_longer, length-l
 use Rattle.dtx_repeat.specs.Lives.{lives, lives_so_far, packets_in}
 use Rattle.dtx_repeat.specs.GoingOn.{AreGiven}
 use Rattle.dtx_repeat.proofs.LivesLemmas.{lives_more, some_more, no_lives}
-use Rattle.dtx_recipes.specs.Lives.{sent_over, logged_over}
+use Rattle.dtx_recipes.specs.Life.{sent_over, logged_over}
 use Rattle.dtx_recipes.proofs.LivesLemmas.{sent_longer, logged_longer, sent_begun, logged_begun}
 use Rattle.dtx_recipes.specs.Repeat.{sent_in, repeating}
 use Rattle.dtx_recipes.specs.SymbolFile.{file_segments}

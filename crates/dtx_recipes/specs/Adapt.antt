@@ -1,12 +1,11 @@
 -- What `adapt PLAN IN OUT` means: it writes the feed of a stream under a plan (the profile's own).
-use Rattle.std.specs.Prelude.{ℕ, ◌==◌, List, [], ◌∷◌}
+use Rattle.std.specs.Prelude.{ℕ, ◌==◌, List, [], ◌∷◌, flat_map}
 use Rattle.std.specs.FinMap.{get}
 use Rattle.dtx_outside.specs.Shelf.{Files}
-use Rattle.dtx_packets.specs.Packet.{sync_of}
-use Rattle.dtx_packets.specs.Packets.{packets_of, whole_packets}
+use Rattle.dtx_packets.specs.Packets.{sync_of, packets_of, whole_packets}
 use Rattle.dtx_plan.specs.Plan.{plan_of}
 use Rattle.dtx_plan.specs.declared.plan.Plan.{Plan}
-use Rattle.dtx_adapter.specs.Feed.{placeholders}
+use Rattle.dtx_adapter.specs.Feed.{placeholders, feed}
 use Rattle.dtx_meaning.specs.Meaning.{Meaning}
 use Rattle.dtx_meaning.specs.Status.{done}
 use Rattle.dtx_meaning.specs.declared.status.Outcome.{Outcome}
@@ -17,8 +16,15 @@ use Rattle.dtx_forms.specs.PlanFile.{under_plan}
 use Rattle.dtx_forms.specs.Job.{Job}
 use Rattle.dtx_forms.specs.Shapes.{packets}
 use Rattle.dtx_forms.specs.Stages.{Stages, stages_under}
-use Rattle.dtx_forms.specs.Combine.{combine_job}
-use Rattle.dtx_recipes.specs.Feed.{feed_bytes}
+use Rattle.dtx_forms.specs.Transform.{combine_job}
+
+-- the bytes of packets, one behind another
+abbrev pub bytes_of_packets : List (List ℕ) → List ℕ
+bytes_of_packets packets = flat_map (λ p. p) packets
+
+-- the file of the feed of a stream under a plan
+abbrev pub feed_bytes : Plan → List (List ℕ) → List ℕ
+feed_bytes plan packets = bytes_of_packets (feed plan packets)
 
 -- the answer: the number of packets, of placeholders filled, and of bytes behind the last whole packet
 abbrev pub fed_outcome : List ℕ → ℕ → Outcome

@@ -1,7 +1,6 @@
 -- What `code` makes of a stream (ATSC A/53 Part 2).
 use Rattle.std.specs.Prelude.{ℕ, ◌==◌, ◌||◌, Bool, List, [], ◌∷◌, length}
-use Rattle.dtx_packets.specs.Packet.{sync_of}
-use Rattle.dtx_packets.specs.Packets.{packets_of, whole_packets}
+use Rattle.dtx_packets.specs.Packets.{sync_of, packets_of, whole_packets}
 use Rattle.dtx_coder.specs.Stream.{a53}
 use Rattle.dtx_meaning.specs.Status.{done}
 use Rattle.dtx_meaning.specs.declared.status.Outcome.{Outcome}
@@ -11,7 +10,7 @@ use Rattle.dtx_words.specs.declared.rows.Command.TheVariants.{Code}
 use Rattle.dtx_forms.specs.Job.{Job}
 use Rattle.dtx_forms.specs.Shapes.{coded_packets}
 use Rattle.dtx_forms.specs.Transform.{transform_job}
-use Rattle.dtx_recipes.specs.Symbols.{symbol_bytes}
+use Rattle.dtx_recipes.specs.SymbolFile.{symbol_bytes}
 
 -- a packet that may be coded: its byte 0, which isn't sent, is 0x47 or the mark 0xB8
 abbrev pub may_be_coded : List ℕ → Bool

@@ -10,7 +10,7 @@ use Rattle.dtx_engine.specs.Recipe.{Recipe}
 use Rattle.dtx_words.specs.declared.rows.Command.TheVariants.{DvbRead}
 use Rattle.dtx_forms.specs.Job.{Job}
 use Rattle.dtx_forms.specs.Transform.{dvb_job}
-use Rattle.dtx_recipes.specs.DvbShapes.{blocks}
+use Rattle.dtx_recipes.specs.DvbCode.{blocks}
 
 -- the bytes of packets that were read, one behind the other
 abbrev pub bytes_of_reads : List Read → List ℕ

@@ -9,7 +9,7 @@ use Rattle.dtx_recipes.specs.Life.{life_numbers, life_tally, logged_bytes, sent_
 use Rattle.dtx_words.specs.declared.rows.Command.TheVariants.{Excite}
 use Rattle.dtx_forms.specs.Job.{Job}
 use Rattle.dtx_forms.specs.Shapes.{coded_packets}
-use Rattle.dtx_forms.specs.Transmit.{transmit_job}
+use Rattle.dtx_forms.specs.Logged.{transmit_job}
 
 -- the symbols that the transmitter with this address and delay sends, and its log
 abbrev pub excited : ℕ → ℕ → List (List ℕ) → Made

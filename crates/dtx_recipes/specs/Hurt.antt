@@ -1,5 +1,5 @@
 -- What `hurt IN CHANGES OUT` means: it writes a file with damage laid over its bytes (the profile's own).
-use Rattle.std.specs.Prelude.{ℕ, true, List, [], ◌∷◌, length, Option, Some, None}
+use Rattle.std.specs.Prelude.{ℕ, true, List, [], ◌∷◌, length, Option, Some, None, ◌+◌, Bool, nat_lt, position}
 use Rattle.std.specs.FinMap.{get}
 use Rattle.dtx_outside.specs.Shelf.{Files}
 use Rattle.dtx_plan.specs.Plan.{changes_of}
@@ -16,8 +16,15 @@ use Rattle.dtx_forms.specs.PlanFile.{under_changes}
 use Rattle.dtx_forms.specs.Job.{Job}
 use Rattle.dtx_forms.specs.Shapes.{single_bytes}
 use Rattle.dtx_forms.specs.Stages.{Stages, stages_under}
-use Rattle.dtx_forms.specs.Combine.{combine_job}
-use Rattle.dtx_recipes.specs.PastEnd.{first_past}
+use Rattle.dtx_forms.specs.Transform.{combine_job}
+
+-- an entry ends past the end of a file of `bytes` bytes
+abbrev pub ends_past : ℕ → Damage → Bool
+ends_past bytes entry = nat_lt bytes (entry.at + entry.count)
+
+-- the number of the first entry that ends past the end
+unfoldable pub first_past : List Damage → ℕ → Option ℕ
+first_past damage bytes = position (ends_past bytes) damage
 
 -- The answer for a file of `bytes` bytes: `OutOfAir` with the first entry that ends past its end. Where no entry does,
 -- the numbers are the bytes, and how many of them some entry covers.

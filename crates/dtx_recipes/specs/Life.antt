@@ -1,8 +1,8 @@
 -- What an exciter makes of the packets of one life, and the numbers of that life.
 use Rattle.std.specs.Prelude.{ℕ, ◌+◌, ◌^◌, ◌<◌, List, [], ◌∷◌, length}
-use Rattle.std.specs.List.{sum_by}
+use Rattle.std.specs.List.{sum_by, flat_map}
 use Rattle.dtx_exciter.specs.Emission.{emission}
-use Rattle.dtx_exciter.specs.Log.{Line, life_lines}
+use Rattle.dtx_exciter.specs.Log.{Line, life_lines, log, emission_over}
 use Rattle.dtx_files.specs.LogText.{log_text}
 use Rattle.dtx_files.specs.Symbols.{segment_bytes}
 use Rattle.dtx_recipes.specs.declared.life_tally.LifeTally.{LifeTally}
@@ -61,3 +61,20 @@ pub record HasRoom (tally : LifeTally) (given : ℕ) : Type 0 where
   pub segments : tally.segments + given < 2 ^ 64
   pub presets : tally.presets + 1 < 2 ^ 64
   pub mutes : tally.mutes + 1 < 2 ^ 64
+
+-- the symbol file of lives, and their log
+abbrev pub sent_over : ℕ → ℕ → List (List (List ℕ)) → List ℕ
+sent_over address delay lives = segment_bytes (emission_over address delay lives)
+
+abbrev pub logged_over : ℕ → ℕ → List (List (List ℕ)) → List ℕ
+logged_over address delay lives = log_text (log address delay 0 lives)
+
+-- the numbers of lives: their packets, the segments that are sent in them, and the lines `preset` and `mute` of their
+-- log
+abbrev pub lives_tally : ℕ → ℕ → List (List (List ℕ)) → LifeTally
+lives_tally address delay lives = record {
+  packets = length (flat_map (λ life. life) lives);
+  segments = length (emission_over address delay lives);
+  presets = presets_in (log address delay 0 lives);
+  mutes = mutes_in (log address delay 0 lives);
+}

@@ -6,7 +6,7 @@ use Rattle.dtx_meaning.specs.Meaning.{Meaning, refused}
 use Rattle.dtx_meaning.specs.Status.{done}
 use Rattle.dtx_meaning.specs.declared.status.Status.TheVariants.{Usage}
 use Rattle.dtx_packets.specs.Packets.{most_packets}
-use Rattle.dtx_words.specs.Number.{number_in}
+use Rattle.dtx_words.specs.Fitting.{number_in}
 use Rattle.dtx_words.specs.declared.rows.Command.TheVariants.{Make}
 use Rattle.dtx_words.specs.declared.rows.Field.TheVariants.{Number, Output}
 use Rattle.dtx_forms.specs.Job.{Job}

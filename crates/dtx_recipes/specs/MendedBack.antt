@@ -4,7 +4,7 @@ use Rattle.std.specs.Prelude.{ℕ, ℤ, ◌≡◌, ◌≢◌, ◌+◌, ◌*◌, 
 use Rattle.std.specs.Prelude.{slice_get, slice_index_or}
 use Rattle.std.specs.List.{flat_map, sum_by}
 use Rattle.dtx_chain.specs.Damage.{AreFound, as_corrected, codeword_at, from_sync, numbers_in, packet_behind, word_in}
-use Rattle.dtx_chain.specs.Undamaged.{as_received}
+use Rattle.dtx_chain.specs.Damage.{as_received}
 use Rattle.dtx_engine.specs.Made.{only, outputs_of}
 use Rattle.dtx_erase.specs.Marks.{marks_in}
 use Rattle.dtx_erase.specs.Mended.{all_mended, marks_at, mended_run}

@@ -4,12 +4,10 @@ use Rattle.std.specs.Prelude.{ℕ, ◌+◌, ◌-◌, ◌*◌, ◌/◌, ◌%◌, 
 use Rattle.std.specs.Prelude.{List, [], ◌∷◌, length, map, take, drop, slice_index, slice_index_or, slice_set, count_by}
 use Rattle.std.specs.List.{list_any, range_with_len}
 use Rattle.dtx_adapter.specs.Feed.{is_placeholder}
-use Rattle.dtx_engine.specs.Each.{each_making}
-use Rattle.dtx_engine.specs.Recipe.{Recipe}
+use Rattle.dtx_engine.specs.Recipe.{each_making, Recipe}
 use Rattle.dtx_meaning.specs.Status.{done}
 use Rattle.dtx_meaning.specs.declared.status.Outcome.{Outcome}
-use Rattle.dtx_packets.specs.Packet.{pid_of, sync_of}
-use Rattle.dtx_packets.specs.Packets.{packets_of}
+use Rattle.dtx_packets.specs.Packets.{pid_of, sync_of, packets_of}
 use Rattle.dtx_words.specs.declared.rows.Command.TheVariants.{Place}
 use Rattle.dtx_forms.specs.Job.{Job}
 use Rattle.dtx_forms.specs.Shapes.{single_packets}

@@ -1,5 +1,5 @@
 -- What `repeat` makes of a symbol file (the profile's own, over ATSC A/53 Part 2 and in the manner of ATSC A/110).
-use Rattle.std.specs.Prelude.{ℕ, ℤ, true, List, [], ◌∷◌, length, drop}
+use Rattle.std.specs.Prelude.{ℕ, ℤ, true, List, [], ◌∷◌, length, drop, nat_lt, ◌&&◌, if◌then◌else◌}
 use Rattle.dtx_receiver.specs.Runs.{runs}
 use Rattle.dtx_repeat.specs.Lives.{lives, lives_so_far}
 use Rattle.dtx_meaning.specs.declared.status.Outcome.{Outcome}
@@ -8,11 +8,12 @@ use Rattle.dtx_engine.specs.Recipe.{Recipe}
 use Rattle.dtx_words.specs.declared.rows.Command.TheVariants.{Repeat}
 use Rattle.dtx_forms.specs.Job.{Job}
 use Rattle.dtx_forms.specs.Shapes.{segments}
-use Rattle.dtx_forms.specs.Transmit.{transmit_job}
-use Rattle.dtx_recipes.specs.Lives.{sent_over, logged_over, lives_tally}
+use Rattle.dtx_forms.specs.Logged.{transmit_job}
+use Rattle.dtx_recipes.specs.Life.{sent_over, logged_over, lives_tally}
 use Rattle.dtx_recipes.specs.SymbolFile.{file_segments}
 use Rattle.dtx_recipes.specs.Synced.{synced}
 use Rattle.dtx_recipes.specs.declared.life_tally.LifeTally.{LifeTally}
+use Rattle.dtx_exciter.specs.Log.{Line, restart}
 
 -- the symbols that the transmitter with this address and delay sends in these lives, and the transmitter's log
 abbrev pub sent_in : ℕ → ℕ → List (List (List ℕ)) → Made
@@ -58,3 +59,8 @@ repeating address delay = record {
 -- the command `repeat IN ADDRESS DELAY OUT LOG`
 abbrev pub repeat_job : Job
 repeat_job = transmit_job Repeat segments repeating
+
+-- The restart line that some segments bring, or none. `begins` runs begin with them, one or none. `runs` runs began
+-- before them, and `sent` segments were sent before them. They bring a restart where a run begins other than the first.
+abbrev pub restart_with : ℕ → ℕ → ℕ → List Line
+restart_with begins runs sent = if nat_lt 0 begins && nat_lt 0 runs then restart sent ∷ [] else []

@@ -1,5 +1,5 @@
 -- What `watch` makes of a feed (the profile's own).
-use Rattle.std.specs.Prelude.{ℕ, true, List, [], ◌∷◌, length}
+use Rattle.std.specs.Prelude.{ℕ, true, List, [], ◌∷◌, length, ◌+◌, ◌^◌, ◌<◌}
 use Rattle.std.specs.List.{sum_by}
 use Rattle.dtx_engine.specs.Made.{only}
 use Rattle.dtx_engine.specs.Recipe.{Recipe}
@@ -102,3 +102,34 @@ watching = record {
 -- the command `watch FEED OUT`
 abbrev pub watch_job : Job
 watch_job = transform_job Watch single_packets watching
+
+-- the numbers with one note more, and no packet
+abbrev pub tally_of_one : WatchTally → NoteKind → WatchTally
+tally_of_one tally what = record {
+  packets = tally.packets;
+  ops = tally.ops + one_ops what;
+  slips = tally.slips + slips_of what;
+  jumps = tally.jumps + jumps_of what;
+  unread = tally.unread + one_unread what;
+  stray = tally.stray + one_stray what;
+}
+
+-- the numbers with these notes more
+abbrev pub tally_with : WatchTally → List Note → WatchTally
+tally_with tally notes = record {
+  packets = tally.packets;
+  ops = tally.ops + count_of one_ops notes;
+  slips = tally.slips + count_of slips_of notes;
+  jumps = tally.jumps + count_of jumps_of notes;
+  unread = tally.unread + count_of one_unread notes;
+  stray = tally.stray + count_of one_stray notes;
+}
+
+-- no number overflows when one packet and `count` notes of each kind are counted more
+pub record HasRoom (tally : WatchTally) (count : ℕ) : Type 0 where
+  pub packets : tally.packets + 1 < 2 ^ 64
+  pub ops : tally.ops + count < 2 ^ 64
+  pub slips : tally.slips + count < 2 ^ 64
+  pub jumps : tally.jumps + count < 2 ^ 64
+  pub unread : tally.unread + count < 2 ^ 64
+  pub stray : tally.stray + count < 2 ^ 64

@@ -6,12 +6,10 @@ use Rattle.dtx_meaning.specs.Meaning.{Meaning}
 use Rattle.dtx_meaning.specs.Status.{done}
 use Rattle.dtx_ops.specs.Reading.{reading}
 use Rattle.dtx_ops.specs.declared.fields.Ops.{Ops}
-use Rattle.dtx_packets.specs.Packet.{pid_of}
-use Rattle.dtx_packets.specs.Packets.{packets_of, whole_packets}
+use Rattle.dtx_packets.specs.Packets.{pid_of, packets_of, whole_packets}
 use Rattle.dtx_watch.specs.Sound.{IsCalmOps}
 use Rattle.dtx_watch.specs.Watch.{watch}
-use Rattle.dtx_watch.specs.WatchLines.{lines_with}
-use Rattle.dtx_watch.specs.WatchText.{note_text, watch_text}
+use Rattle.dtx_watch.specs.WatchText.{lines_with, note_text, watch_text}
 use Rattle.dtx_watch.specs.declared.notes.Note.{Note}
 use Rattle.dtx_watch.specs.declared.notes.OpsNote.{OpsNote}
 use Rattle.dtx_watch.specs.declared.notes.NoteKind.TheVariants.{Ops as OpsAt}

@@ -1,7 +1,6 @@
 // The numbers of the notes on a feed.
 ghost use Rattle.std.specs.Prelude.{◌≡◌, ◌≤◌, []};
-ghost use Rattle.dtx_recipes.specs.Watch.{watch_tally, watch_numbers, one_slip, one_jump};
-ghost use Rattle.dtx_recipes.specs.WatchTally.{HasRoom, tally_of_one};
+ghost use Rattle.dtx_recipes.specs.Watch.{watch_tally, watch_numbers, one_slip, one_jump, HasRoom, tally_of_one};
 
 use dtx_watch::{ClockNote, Note, NoteKind, StatesNote};
 

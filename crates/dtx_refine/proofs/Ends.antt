@@ -9,15 +9,14 @@ use Rattle.dtx_acquire.specs.Acquired.{heard_so_far}
 use Rattle.dtx_acquire.specs.Acquirer.{Holding}
 use Rattle.dtx_acquire.proofs.AcquiredLemmas.{all_is_acquired, all_is_heard, length-heard_so_far}
 use Rattle.dtx_rounds.specs.FieldRound.{words_known}
-use Rattle.dtx_rounds.specs.Fields.{rows_of}
+use Rattle.dtx_rounds.specs.RunField.{rows_of, IsRounded}
 use Rattle.dtx_rounds.specs.Known.{known_count}
 use Rattle.dtx_rounds.specs.Rounds.{fields_in, heard_of, refined, refined_rest, refined_so_far, round_cost, round_moved}
 use Rattle.dtx_rounds.specs.Rounds.{settled_count}
-use Rattle.dtx_rounds.specs.RunField.{IsRounded}
 use Rattle.dtx_rounds.specs.declared.field.Field.{Field}
 use Rattle.dtx_rounds.proofs.SoFarLemmas.{all_is_refined, length-refined}
-use Rattle.dtx_refine.specs.Passes.{ArePassed, HasEndedOne, HasTaken, IsField, given_of}
-use Rattle.dtx_refine.specs.Refiner.{HasEnded, HasStepped, IsOver, Refining, StandsFor, refining}
+use Rattle.dtx_refine.specs.Refiner.{ArePassed, HasEndedOne, HasTaken, IsField, given_of, HasEnded, HasStepped, IsOver}
+use Rattle.dtx_refine.specs.Refiner.{Refining, StandsFor, refining}
 use Rattle.dtx_refine.specs.declared.passes.Passes.{Passes}
 use Rattle.dtx_refine.proofs.Steps.{field_last, given_few, given_next, given_none, given_some}
 use Rattle.dtx_refine.proofs.Takes.{waiting_then}

@@ -10,17 +10,14 @@ use Rattle.dtx_lists.proofs.Range.{map-range_same}
 use Rattle.dtx_soft.specs.Softened.{softened_cost}
 use Rattle.dtx_acquire.specs.Acquired.{acquired, in_groups, path_cost}
 use Rattle.dtx_acquire.specs.Sent.{groups_behind}
-use Rattle.dtx_rounds.specs.Decided.{decided_rows}
-use Rattle.dtx_rounds.specs.FieldRound.{words_known}
-use Rattle.dtx_rounds.specs.Fields.{rows_of}
-use Rattle.dtx_rounds.specs.MadeRounds.{AreFinished, AreMade, AreTaken}
+use Rattle.dtx_rounds.specs.FieldRound.{decided_rows, words_known}
+use Rattle.dtx_rounds.specs.RunField.{rows_of, IsRounded}
+use Rattle.dtx_rounds.specs.RunRounds.{AreFinished, AreMade, AreTaken, IsGiven}
 use Rattle.dtx_rounds.specs.Rounds.{fields_in, groups_in, heard_of, refined}
-use Rattle.dtx_rounds.specs.RunField.{IsRounded}
-use Rattle.dtx_rounds.specs.RunRounds.{IsGiven}
 use Rattle.dtx_rounds.specs.declared.field.Field.{Field}
 use Rattle.dtx_rounds.proofs.GivenLemmas.{given_last, given_segments}
 use Rattle.dtx_rounds.proofs.SoFarLemmas.{length-refined}
-use Rattle.dtx_refine.specs.Passes.{AreCounted, ArePassed, HasEndedOne, HasGiven, HasTaken, IsAdded, given_of}
+use Rattle.dtx_refine.specs.Refiner.{AreCounted, ArePassed, HasEndedOne, HasGiven, HasTaken, IsAdded, given_of}
 use Rattle.dtx_refine.specs.declared.numbers.Numbers.{Numbers}
 use Rattle.dtx_refine.specs.declared.passes.Passes.{Passes}
 

@@ -7,11 +7,10 @@ use Rattle.dtx_acquire.specs.Acquired.{acquired, acquired_so_far, heard_so_far}
 use Rattle.dtx_acquire.specs.Acquirer.{Holding}
 use Rattle.dtx_acquire.specs.Acquirer as acquirers
 use Rattle.dtx_acquire.proofs.AcquiredLemmas.{length-heard_so_far}
-use Rattle.dtx_rounds.specs.Fields.{rows_of}
+use Rattle.dtx_rounds.specs.RunField.{rows_of}
 use Rattle.dtx_rounds.specs.Rounds.{fields_in, heard_of, refined, refined_so_far, settled_count}
 use Rattle.dtx_rounds.proofs.SoFarLemmas.{acquired_ahead, heard_ahead}
-use Rattle.dtx_refine.specs.Passes.{ArePassed, HasTaken, IsField, given_of}
-use Rattle.dtx_refine.specs.Refiner.{StandsFor, refining}
+use Rattle.dtx_refine.specs.Refiner.{ArePassed, HasTaken, IsField, given_of, StandsFor, refining}
 use Rattle.dtx_refine.specs.declared.passes.Passes.{Passes}
 use Rattle.dtx_refine.proofs.Steps.{field_behind, given_few, given_next, given_none}
 

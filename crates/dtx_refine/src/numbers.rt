@@ -24,7 +24,7 @@ pub(crate) struct Numbers {
 }
 
 impl Numbers {
-    ghost use Rattle.dtx_refine.specs.Passes.{IsAdded};
+    ghost use Rattle.dtx_refine.specs.Refiner.{IsAdded};
 
     /// Those of no field.
     pub(crate) fn new() -> Numbers

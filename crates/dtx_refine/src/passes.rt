@@ -30,7 +30,7 @@ pub(crate) struct Passes {
 }
 
 impl Passes {
-    ghost use Rattle.dtx_refine.specs.Passes.{ArePassed, HasEndedOne, HasTaken, IsField, given_of};
+    ghost use Rattle.dtx_refine.specs.Refiner.{ArePassed, HasEndedOne, HasTaken, IsField, given_of};
 
     /// So many rounds, which no field has come to. The only error is out of memory.
     pub(crate) fn new(alloc: Global, scale: u8, rounds: usize) -> Result<Passes, AllocError>

@@ -7,7 +7,7 @@ use Rattle.std.proofs.lemmas.List.{append-nil, append_cancel_left, length-append
 use Rattle.dtx_receiver.proofs.CountingLemmas.{More, given_more, runs_more}
 use Rattle.dtx_receiver.specs.Packets.{packets_so_far}
 use Rattle.dtx_receiver.specs.Runs.{tracked, tracking, runs, begun}
-use Rattle.dtx_receiver.specs.Symbols.{symbols_in, symbols_of}
+use Rattle.dtx_receiver.specs.Bytes.{symbols_in, symbols_of}
 use Rattle.dtx_receiver.specs.declared.batch.Received.{Received}
 use Rattle.dtx_repeat.specs.GoingOn.{longer, with_begun, AreGiven}
 use Rattle.dtx_repeat.proofs.GoingOnLemmas.{GoesOn, Begins, Steps, begins_one, goes_on, one_more, nothing_more}

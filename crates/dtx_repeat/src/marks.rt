@@ -1,7 +1,7 @@
 //! The cadence marks of received packets.
 
 ghost use Rattle.std.specs.Prelude.{◌≡◌, ◌+◌, ◌%◌, length};
-ghost use Rattle.dtx_receiver.specs.Symbols.{symbols_of};
+ghost use Rattle.dtx_receiver.specs.Bytes.{symbols_of};
 ghost use Rattle.dtx_repeat.specs.Restored.{place_behind, restored};
 
 use dtx_cadence::mark;

@@ -2,7 +2,7 @@
 
 ghost use Rattle.std.specs.Prelude.{◌≡◌, ℕ, ℤ, ◌+◌, ◌*◌, ◌<◌, ◌≤◌, ◌++◌, ◌∷◌, [], List, IfOk, length, take};
 ghost use Rattle.dtx_receiver.specs.Runs.{runs, tracking};
-ghost use Rattle.dtx_receiver.specs.Symbols.{symbols_in};
+ghost use Rattle.dtx_receiver.specs.Bytes.{symbols_in};
 ghost use Rattle.dtx_repeat.specs.Repeater.{StandsFor, IsSent, given_behind, given_with};
 ghost use Rattle.dtx_repeat.specs.Restored.{all_restored, restored_so_far};
 

@@ -13,9 +13,8 @@ use Rattle.dtx_outside.specs.Shelf.{Files}
 use Rattle.dtx_receiver.specs.Intervals.{NoneLooks}
 use Rattle.dtx_repeat.specs.Lives.{lives, repeated, repeated_log}
 use Rattle.dtx_repeat.proofs.LivesLemmas.{as_many}
-use Rattle.dtx_words.specs.Fitting.{command_of}
+use Rattle.dtx_words.specs.Fitting.{command_of, number_in}
 use Rattle.dtx_words.specs.Names as names
-use Rattle.dtx_words.specs.Number.{number_in}
 use Rattle.dtx_words.specs.declared.rows.Command.{Command}
 use Rattle.dtx_words.specs.declared.rows.Command.TheVariants.{Repeat}
 use Rattle.dtx_jobs.proofs.GivenLemmas.{no_run_in}
@@ -24,9 +23,9 @@ use Rattle.dtx_symbol_laws.specs.RepeatedFiles.{repeated_of}
 use Rattle.dtx_forms.specs.Shapes.{segments}
 use Rattle.dtx_recipes.specs.SymbolFile.{file_segments, whole_segments}
 use Rattle.dtx_forms.specs.Job.{task_meaning}
-use Rattle.dtx_forms.specs.Transmit.{transmit_with}
+use Rattle.dtx_forms.specs.Logged.{transmit_with}
 use Rattle.dtx_repeated_feed.specs.DoneWith.{IsDoneWith}
-use Rattle.dtx_top.specs.Means.{means, means_of}
+use Rattle.dtx_top.specs.Jobs.{means, means_of}
 
 -- where there is a life, a segment looks like a field sync
 pub some_looks : (file : List ℕ) (life : List (List ℕ)) → lives (file_segments file) ≡ life ∷ []

@@ -6,7 +6,7 @@ use Rattle.std.specs.List.{range_with_len}
 use Rattle.std.proofs.lemmas.List.FromFn.{get_or-map-range_with_len, length-map-range_with_len}
 use Rattle.dtx_lists.proofs.Range.{map-range_same}
 use Rattle.dtx_soft.specs.Coders.{coder_symbols}
-use Rattle.dtx_soft.specs.LeastPath.{least_levels}
+use Rattle.dtx_soft.specs.Least.{least_levels}
 use Rattle.dtx_soft.specs.Paths.{cost}
 use Rattle.dtx_soft.specs.Softened.{least_cost, softened_cost}
 use Rattle.dtx_soft.proofs.SoftenedLemmas.{length-coder}
@@ -15,13 +15,10 @@ use Rattle.dtx_pins.specs.LeastPinned.{least_pinned_levels}
 use Rattle.dtx_pins.specs.PinnedField.{pinned_coder_cost}
 use Rattle.dtx_pins.specs.Pins.{coder_pins, pin_at}
 use Rattle.dtx_pins.proofs.LeastPinnedLemmas.{without_pins_is}
-use Rattle.dtx_rounds.specs.Decided.{decided_rows, heard_rows}
-use Rattle.dtx_rounds.specs.FieldRound.{KnowsNothing, field_cost, field_rounded}
-use Rattle.dtx_rounds.specs.Fields.{rows_of}
-use Rattle.dtx_rounds.specs.Known.{known_word}
-use Rattle.dtx_rounds.specs.Pins.{known_pin}
+use Rattle.dtx_rounds.specs.FieldRound.{decided_rows, heard_rows, KnowsNothing, field_cost, field_rounded}
+use Rattle.dtx_rounds.specs.RunField.{rows_of, IsInRun}
+use Rattle.dtx_rounds.specs.Known.{known_word, known_pin}
 use Rattle.dtx_rounds.specs.Rounds.{coder_cost, groups_in, paths_in, pins_in, round_segment}
-use Rattle.dtx_rounds.specs.RunField.{IsInRun}
 use Rattle.dtx_rounds.specs.declared.field.Field.{Field}
 use Rattle.dtx_rounds.proofs.FieldRounds.{byte_in_field, byte_within, length-rows, row_after, row_of, KnowSame}
 use Rattle.dtx_rounds.proofs.FieldRounds.{field_after, field_costs}

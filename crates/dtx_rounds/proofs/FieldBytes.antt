@@ -4,7 +4,7 @@ use Rattle.std.proofs.Common.{get_or, refl, sym, ap, ap₂, ◌∙◌, arith, po
 use Rattle.std.specs.List.{flat_map}
 use Rattle.std.proofs.lemmas.List.{append-nil, drop_at, get_or-drop, length-drop, take_at, get_or-map}
 use Rattle.dtx_lists.proofs.Range.{map-range_same}
-use Rattle.dtx_trellis.specs.Pairs.{group_place}
+use Rattle.dtx_trellis.specs.Trellis.{group_place}
 use Rattle.dtx_slice.specs.Slicing.{sliced_data, sliced, sliced_last}
 use Rattle.dtx_slice.specs.Unrolled.{bytes_back, precoder_bits_after, level_groups, precoder_bit, precoder_bits_of}
 use Rattle.dtx_slice.specs.Unrolled.{symbol_place}
@@ -12,7 +12,7 @@ use Rattle.dtx_slice.proofs.JoinsLemmas.{bytes_append, groups_whole}
 use Rattle.dtx_slice.proofs.PlacesLemmas.{precoder_bit_next}
 use Rattle.dtx_receiver.specs.Bytes.{bytes_in, data_at, first_bits, groups_of, levels_from, levels_in}
 use Rattle.dtx_receiver.proofs.SegmentsLemmas.{levels_parts}
-use Rattle.dtx_rounds.specs.Fields.{rows_of, AreSegments}
+use Rattle.dtx_rounds.specs.RunField.{rows_of, AreSegments}
 use Rattle.dtx_rounds.proofs.FieldRounds.{length-rows, row_of}
 use Rattle.dtx_rounds.proofs.GroupBytes.{flat_more, length_back}
 use Rattle.dtx_rounds.proofs.RunLevels.{length-from, data_long, level_from}

@@ -9,14 +9,13 @@ use Rattle.std.proofs.lemmas.List.FromFn.{get_or-map-range_with_len}
 use Rattle.dtx_lists.proofs.Range.{map-range_same}
 use Rattle.dtx_lists.proofs.RangeMoved.{map-range_moved}
 use Rattle.dtx_lists.proofs.RangeSums.{over, over_parts}
-use Rattle.dtx_trellis.specs.Pairs.{byte_place, group_place}
+use Rattle.dtx_trellis.specs.Trellis.{byte_place, group_place}
 use Rattle.dtx_receiver.specs.Bytes.{bytes_in}
-use Rattle.dtx_acquire.specs.Scaled.{decided}
-use Rattle.dtx_pins.specs.Moved.{moved_in, rows_moved}
+use Rattle.dtx_acquire.specs.Acquired.{decided}
+use Rattle.dtx_pins.specs.PinnedField.{moved_in, rows_moved}
 use Rattle.dtx_rounds.specs.FieldRound.{field_cost, field_rounded}
-use Rattle.dtx_rounds.specs.Fields.{rows_of}
-use Rattle.dtx_rounds.specs.Known.{known_bytes}
-use Rattle.dtx_rounds.specs.Pins.{byte_at_step, field_pins, known_pin, pin_of}
+use Rattle.dtx_rounds.specs.RunField.{rows_of}
+use Rattle.dtx_rounds.specs.Known.{known_bytes, byte_at_step, field_pins, known_pin, pin_of}
 use Rattle.dtx_rounds.specs.Rounds.{coder_cost, groups_in, in_whole_group, paths_in, round_segment, fields_in, rounded}
 use Rattle.dtx_rounds.proofs.OwnRounds.{group_row}
 use Rattle.dtx_rounds.proofs.RangeSteps.{sum_next}

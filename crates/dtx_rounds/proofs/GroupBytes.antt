@@ -7,7 +7,7 @@ use Rattle.std.proofs.lemmas.List.{append-nil, length-append, length-set, length
 use Rattle.std.proofs.lemmas.List.{take_all, take_more, take_more_set}
 use Rattle.std.proofs.Math.Seq.{take-add}
 use Rattle.std.proofs.lemmas.List.FromFn.{fill_by_all, length-map-range_with_len}
-use Rattle.dtx_trellis.specs.Pairs.{group_place}
+use Rattle.dtx_trellis.specs.Trellis.{group_place}
 use Rattle.dtx_slice.specs.Slicing.{sliced_data}
 use Rattle.dtx_slice.specs.Unrolled.{byte_back, bytes_back, level_groups, precoder_bit, precoder_bits_after}
 use Rattle.dtx_slice.proofs.JoinsLemmas.{bytes_append, groups_whole, precoder_bits_append}

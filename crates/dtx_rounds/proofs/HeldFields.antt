@@ -12,16 +12,14 @@ use Rattle.dtx_lists.proofs.Range.{map-range_same}
 use Rattle.dtx_slice.specs.Slicing.{sliced_last}
 use Rattle.dtx_slice.specs.Unrolled.{bytes_back, precoder_bits_of}
 use Rattle.dtx_receiver.specs.Bytes.{bytes_in, data_count, groups_of, levels_from, data_at, first_bits}
-use Rattle.dtx_acquire.specs.Scaled.{decided}
-use Rattle.dtx_pins.specs.Moved.{rows_moved}
-use Rattle.dtx_rounds.specs.Decided.{IsDecided, decided_rows, heard_rows}
-use Rattle.dtx_rounds.specs.FieldRound.{field_cost, field_rounded}
-use Rattle.dtx_rounds.specs.Fields.{rows_of, AreSegments}
+use Rattle.dtx_acquire.specs.Acquired.{decided}
+use Rattle.dtx_pins.specs.PinnedField.{rows_moved}
+use Rattle.dtx_rounds.specs.FieldRound.{IsDecided, decided_rows, heard_rows, field_cost, field_rounded, IsWritten}
+use Rattle.dtx_rounds.specs.RunField.{rows_of, AreSegments, IsInRun, IsSettled, codes_upto, IsRounded, IsTurned}
+use Rattle.dtx_rounds.specs.RunField.{StayKnown, whole_in, Holds}
 use Rattle.dtx_rounds.specs.Found.{bytes_of, bytes_there, whole_segments}
 use Rattle.dtx_rounds.specs.Known.{known_byte, known_bytes, known_word}
 use Rattle.dtx_rounds.specs.Rounds.{in_whole_group, round_segment, rounded}
-use Rattle.dtx_rounds.specs.RunField.{IsInRun, IsSettled, codes_upto, IsRounded, IsTurned, StayKnown, whole_in, Holds}
-use Rattle.dtx_rounds.specs.Written.{IsWritten}
 use Rattle.dtx_rounds.specs.declared.field.Field.{Field}
 use Rattle.dtx_rounds.proofs.FieldBytes.{bytes_in_field, field_bits, levels_rows, last_bits}
 use Rattle.dtx_rounds.proofs.FieldRounds.{length-rows, row_of, field_after, field_costs}

@@ -1,8 +1,8 @@
 -- What is known stays known in the next round: its bytes are pinned, but for the first X2 of a coder in a field, which
 -- is a bit of byte 0 of a word. So the pins grow more from round to round, and the least paths cost more.
-use Rattle.dtx_trellis.specs.Pairs.{byte_place}
-use Rattle.dtx_rounds.specs.Pins.{byte_at_step}
-use Rattle.dtx_trellis.specs.Pairs.{group_place}
+use Rattle.dtx_trellis.specs.Trellis.{byte_place, group_place, pair_in}
+use Rattle.dtx_rounds.specs.Known.{byte_at_step, known_bytes, known_word, known_byte, known_code_byte, field_pins}
+use Rattle.dtx_rounds.specs.Known.{known_pin}
 use Rattle.std.proofs.Common.{◌≡◌, ℕ, ℤ, suc, ◌+◌, ◌-◌, ◌*◌, ◌/◌, ◌%◌, ◌^◌, ◌<◌, ◌≤◌, ◌==◌, Bool, true, false, cond}
 use Rattle.std.proofs.Common.{Option, Some, None, List, [], ◌∷◌, length, map, get_or, sym, ap, ap₂, ◌∙◌, subst, arith}
 use Rattle.std.specs.List.{range_with_len}
@@ -14,7 +14,6 @@ use Rattle.dtx_laws.proofs.PartsLemmas.{byte_at}
 use Rattle.dtx_laws.proofs.WordsLemmas.{distance_self}
 use Rattle.dtx_outer.specs.Inner.{codeword_byte_place, word_at}
 use Rattle.dtx_outer.proofs.WordsLemmas.{get_or-word, length-word}
-use Rattle.dtx_trellis.specs.Pairs.{pair_in}
 use Rattle.dtx_slice.specs.Unrolled.{byte_back, coder_of, pair_back, pair_from, precoder_bit, symbol_place}
 use Rattle.dtx_slice.proofs.InverseLemmas.{coder_of_small}
 use Rattle.dtx_slice.proofs.PlacesLemmas.{precoder_bit_next}
@@ -27,11 +26,8 @@ use Rattle.dtx_pins.specs.LeastPinned.{least_pinned_levels, least_pinned_start}
 use Rattle.dtx_pins.specs.PinnedField.{pinned_coder_cost}
 use Rattle.dtx_pins.specs.Pins.{TellsPair, coder_pins, pin_at, x1_told, x2_told}
 use Rattle.dtx_pins.proofs.LeastPinnedLemmas.{fewer_pins_cost_less, least_pinned_found}
-use Rattle.dtx_rounds.specs.Fields.{AreSegments}
-use Rattle.dtx_rounds.specs.Known.{known_bytes, known_word, known_byte, known_code_byte}
-use Rattle.dtx_rounds.specs.Pins.{field_pins, known_pin}
+use Rattle.dtx_rounds.specs.RunField.{AreSegments, StayKnown}
 use Rattle.dtx_rounds.specs.Rounds.{groups_in, pins_in, coder_cost}
-use Rattle.dtx_rounds.specs.RunField.{StayKnown}
 use Rattle.dtx_rounds.proofs.KnownLemmas.{IsKnown, known_at, known_correction, known_from, known_parts, known_place}
 use Rattle.dtx_rounds.proofs.RoundLevels.{HasPaths, after, after_long, groups_after, level_after, levels_of}
 use Rattle.dtx_rounds.proofs.RoundLevels.{place_in_groups, same_groups}

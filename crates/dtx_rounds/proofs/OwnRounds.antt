@@ -1,6 +1,6 @@
 -- Where no byte of a known word is put right, the pins are pairs of the paths themselves. So these stay the least ones,
 -- and rounds over a capture leave it as it is.
-use Rattle.dtx_trellis.specs.Pairs.{byte_place, group_place}
+use Rattle.dtx_trellis.specs.Trellis.{byte_place, group_place, pair_in}
 use Rattle.std.proofs.Common.{◌≡◌, ℕ, ℤ, pos, ◌+◌, ◌-◌, ◌*◌, ◌/◌, ◌%◌, ◌<◌, ◌⊎◌, inl, inr, min, nat_lt, true, false}
 use Rattle.std.proofs.Common.{cond, Option, Some, List, [], ◌++◌, length, map, take, drop, get_or, refl, sym, ap, ap₂}
 use Rattle.std.proofs.Common.{◌∙◌, subst, arith}
@@ -14,29 +14,25 @@ use Rattle.dtx_laws.proofs.WordsLemmas.{one_correction, own_correction}
 use Rattle.dtx_outer.specs.Inner.{word_at}
 use Rattle.dtx_outer.proofs.WordsLemmas.{get_or-word, length-word}
 use Rattle.dtx_frame.specs.Segments.{segment_sync}
-use Rattle.dtx_trellis.specs.Pairs.{pair_in}
 use Rattle.dtx_slice.specs.Unrolled.{byte_back, coder_of, pair_back, pair_from, precoder_bit, symbol_place}
 use Rattle.dtx_slice.proofs.PlacesLemmas.{precoder_bit_next}
 use Rattle.dtx_soft.specs.Coders.{coder_symbols, data_symbol}
-use Rattle.dtx_soft.specs.Least.{IsLeast}
-use Rattle.dtx_soft.specs.LeastPath.{least_levels, least_start}
+use Rattle.dtx_soft.specs.Least.{IsLeast, least_levels, least_start}
 use Rattle.dtx_soft.specs.Paths.{symbol_at}
 use Rattle.dtx_soft.specs.Softened.{least_symbols, softened, softened_segment, softened_symbol}
 use Rattle.dtx_soft.proofs.LeastPathLemmas.{least_levels_are, least_path_found}
 use Rattle.dtx_soft.proofs.SoftenedLemmas.{coder_small, length-coder, softened_found}
 use Rattle.dtx_receiver.specs.Bytes.{bytes_in, data_at, data_count, first_bits, groups_of, levels_in}
 use Rattle.dtx_receiver.specs.Packets.{is_complete}
-use Rattle.dtx_acquire.specs.Acquired.{in_groups, restored_data, acquired, all_fields}
-use Rattle.dtx_acquire.specs.Scaled.{decided}
+use Rattle.dtx_acquire.specs.Acquired.{in_groups, restored_data, acquired, all_fields, decided}
 use Rattle.dtx_acquire.specs.Sent.{groups_behind}
 use Rattle.dtx_acquire.proofs.WholeLemmas.{long_acquired}
 use Rattle.dtx_pins.specs.LeastPinned.{least_pinned_levels}
 use Rattle.dtx_pins.specs.PinnedField.{pinned, pinned_segment, pinned_symbol, pinned_symbols}
 use Rattle.dtx_pins.specs.Pins.{Agrees, coder_pins, pin_at, x1_told, x2_told}
 use Rattle.dtx_pins.proofs.LeastPinnedLemmas.{least_pinned_is}
-use Rattle.dtx_rounds.specs.Fields.{AreSegments}
-use Rattle.dtx_rounds.specs.Known.{known_byte, known_bytes, known_code_byte, known_word}
-use Rattle.dtx_rounds.specs.Pins.{byte_at_step, known_pin}
+use Rattle.dtx_rounds.specs.RunField.{AreSegments}
+use Rattle.dtx_rounds.specs.Known.{known_byte, known_bytes, known_code_byte, known_word, byte_at_step, known_pin}
 use Rattle.dtx_rounds.specs.Rounds.{groups_in, in_whole_group, paths_in, pins_in, round_segment, rounded, heard_of}
 use Rattle.dtx_rounds.specs.Rounds.{refined}
 use Rattle.dtx_rounds.proofs.FieldRows.{AreFields, acquired_groups}

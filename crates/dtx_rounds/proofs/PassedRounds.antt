@@ -4,13 +4,11 @@ use Rattle.std.proofs.Common.{◌≡◌, ℕ, ℤ, suc, ◌+◌, ◌-◌, ◌<�
 use Rattle.std.proofs.Common.{length, refl, sym, ap, ◌∙◌, arith, ◌*◌, subst, ◌++◌}
 use Rattle.std.proofs.lemmas.Bool.{cases_lt, cond-false, cond-true, le-leb, lt-leb, true≢false}
 use Rattle.dtx_receiver.specs.Bytes.{bytes_in}
-use Rattle.dtx_rounds.specs.Fields.{AreSegments}
+use Rattle.dtx_rounds.specs.RunField.{AreSegments, Holds, IsInRun, IsRounded}
 use Rattle.dtx_rounds.specs.Known.{known_word}
-use Rattle.dtx_rounds.specs.MadeRounds.{AreFinished, AreMade, AreTaken}
+use Rattle.dtx_rounds.specs.RunRounds.{AreFinished, AreMade, AreTaken, AreAt, given_by, given_count, on_count, IsAt}
+use Rattle.dtx_rounds.specs.RunRounds.{IsEnded, IsEndedFirst, IsGiven, IsPassed, IsRun, AreOff}
 use Rattle.dtx_rounds.specs.Rounds.{rounded, rounds_of}
-use Rattle.dtx_rounds.specs.RunField.{Holds, IsInRun, IsRounded}
-use Rattle.dtx_rounds.specs.RunRounds.{AreAt, given_by, given_count, on_count, IsAt, IsEnded, IsEndedFirst, IsGiven}
-use Rattle.dtx_rounds.specs.RunRounds.{IsPassed, IsRun, AreOff}
 use Rattle.dtx_rounds.specs.declared.field.Field.{Field}
 use Rattle.dtx_rounds.specs.declared.round.Round.{Round}
 use Rattle.dtx_rounds.specs.declared.rounds.Rounds.{Rounds}

@@ -5,8 +5,8 @@ use Rattle.std.specs.List.{range_with_len}
 use Rattle.std.proofs.lemmas.List.{get_or-append_right, get_or-drop, get_or-take, get_or_append_left, length-take-le}
 use Rattle.std.proofs.lemmas.List.FromFn.{fill_by_all}
 use borrow.Rule.Slice.PartMut.{put_mid}
-use Rattle.dtx_trellis.specs.Pairs.{byte_place, group_place, pair_in}
-use Rattle.dtx_rounds.specs.Pins.{byte_at_step, field_pins, known_pin, pin_of}
+use Rattle.dtx_trellis.specs.Trellis.{byte_place, group_place, pair_in}
+use Rattle.dtx_rounds.specs.Known.{byte_at_step, field_pins, known_pin, pin_of}
 
 -- ---- a list of which a part was written
 

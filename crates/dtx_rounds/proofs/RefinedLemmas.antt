@@ -4,7 +4,7 @@ use Rattle.dtx_receiver.specs.Bytes.{bytes_in}
 use Rattle.dtx_acquire.specs.Acquired.{acquired, all_fields}
 use Rattle.dtx_acquire.proofs.AcquiredLemmas.{length-heard_in}
 use Rattle.dtx_pins.proofs.PinnedFieldLemmas.{pinned_found}
-use Rattle.dtx_rounds.specs.Fields.{AreSegments}
+use Rattle.dtx_rounds.specs.RunField.{AreSegments}
 use Rattle.dtx_rounds.specs.Known.{known_bytes, known_word}
 use Rattle.dtx_rounds.specs.Rounds.{heard_of, refined, rounded, rounds_of, coder_cost, groups_in, paths_in, pins_in}
 use Rattle.dtx_rounds.proofs.Kept.{more_known_costs_more, word_kept}

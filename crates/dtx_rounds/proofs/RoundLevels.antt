@@ -19,11 +19,10 @@ use Rattle.dtx_soft.specs.Coders.{coder_symbols, data_symbol}
 use Rattle.dtx_soft.specs.Paths.{IsPath, next_state, symbol_at}
 use Rattle.dtx_soft.proofs.SoftenedLemmas.{length-coder}
 use Rattle.dtx_receiver.specs.Bytes.{data_at, data_count, groups_of, levels_in}
-use Rattle.dtx_acquire.specs.Acquired.{in_groups}
-use Rattle.dtx_acquire.specs.Scaled.{decided, scaled_level}
+use Rattle.dtx_acquire.specs.Acquired.{in_groups, decided, scaled_level}
 use Rattle.dtx_acquire.specs.Sent.{groups_behind}
 use Rattle.dtx_pins.specs.PinnedField.{IsPinned, pinned, pinned_segment}
-use Rattle.dtx_rounds.specs.Fields.{AreSegments}
+use Rattle.dtx_rounds.specs.RunField.{AreSegments}
 use Rattle.dtx_rounds.specs.Rounds.{groups_in, in_whole_group, paths_in, pins_in, round_segment}
 use Rattle.dtx_rounds.proofs.RunLevels.{data_long, data_there, field_of_segment, place_in}
 

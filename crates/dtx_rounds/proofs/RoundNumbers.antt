@@ -16,12 +16,11 @@ use Rattle.dtx_soft.specs.Softened.{softened_cost}
 use Rattle.dtx_receiver.specs.Bytes.{bytes_in, data_count, groups_of}
 use Rattle.dtx_receiver.proofs.CompleteLemmas.{complete_told}
 use Rattle.dtx_acquire.specs.Acquired.{acquired_cost, all_fields, cost_of, heard_in, in_groups, path_cost}
-use Rattle.dtx_pins.specs.Moved.{rows_moved, moved_in}
+use Rattle.dtx_pins.specs.PinnedField.{rows_moved, moved_in}
 use Rattle.dtx_rounds.specs.FieldRound.{words_known}
-use Rattle.dtx_rounds.specs.Fields.{rows_of, AreSegments}
+use Rattle.dtx_rounds.specs.RunField.{rows_of, AreSegments, IsRounded}
 use Rattle.dtx_rounds.specs.Known.{known_count, known_word}
 use Rattle.dtx_rounds.specs.Rounds.{fields_in, round_cost, round_moved, rounded, groups_in, heard_of, refined}
-use Rattle.dtx_rounds.specs.RunField.{IsRounded}
 use Rattle.dtx_rounds.specs.declared.field.Field.{Field}
 use Rattle.dtx_rounds.proofs.FieldRounds.{moves_of_fields}
 use Rattle.dtx_rounds.proofs.FieldRows.{AreFields, IsAllButLast, groups_first, groups_next}

@@ -14,13 +14,12 @@ use borrow.Rule.Slice.PartMut.{put_mid}
 use Rattle.dtx_lists.proofs.RangeMoved.{map-range_moved}
 use Rattle.dtx_lists.proofs.RangeSums.{over, over_parts}
 use Rattle.dtx_lists.proofs.Written.{length-put_mid}
-use Rattle.dtx_acquire.specs.Scaled.{decided}
-use Rattle.dtx_pins.specs.Moved.{moved_in, rows_moved}
-use Rattle.dtx_pins.specs.PinnedField.{IsPinned, pinned, pinned_coder_cost, pinned_cost}
+use Rattle.dtx_acquire.specs.Acquired.{decided}
+use Rattle.dtx_pins.specs.PinnedField.{moved_in, rows_moved, IsPinned, pinned, pinned_coder_cost, pinned_cost}
 use Rattle.dtx_pins.proofs.PinnedFieldLemmas.{pinned_level}
 use Rattle.dtx_rounds.specs.FieldRound.{field_cost, field_rounded}
-use Rattle.dtx_rounds.specs.Fields.{AreSegments}
-use Rattle.dtx_rounds.specs.Pins.{field_pins}
+use Rattle.dtx_rounds.specs.RunField.{AreSegments}
+use Rattle.dtx_rounds.specs.Known.{field_pins}
 use Rattle.dtx_rounds.specs.Rounds.{coder_cost, groups_in, in_whole_group, paths_in, round_segment}
 use Rattle.dtx_rounds.proofs.OwnRounds.{group_row}
 use Rattle.dtx_rounds.proofs.PinRows.{mid_at, mid_before}

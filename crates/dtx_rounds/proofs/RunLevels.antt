@@ -10,7 +10,7 @@ use Rattle.dtx_slice.specs.Slicing.{sliced, sliced_data}
 use Rattle.dtx_slice.specs.Unrolled.{symbol_place, byte_back, bytes_back, level_groups}
 use Rattle.dtx_receiver.specs.Bytes.{bytes_in, data_at, data_count, first_bits, groups_of, levels_from, levels_in}
 use Rattle.dtx_receiver.proofs.SegmentsLemmas.{segment_long}
-use Rattle.dtx_rounds.specs.Fields.{AreSegments}
+use Rattle.dtx_rounds.specs.RunField.{AreSegments}
 
 -- ---- symbols
 

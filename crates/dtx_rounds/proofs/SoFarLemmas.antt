@@ -16,7 +16,7 @@ use Rattle.dtx_acquire.proofs.AcquiredLemmas.{all_is_acquired, all_is_heard, hea
 use Rattle.dtx_acquire.proofs.AcquiredLemmas.{so_far_grows}
 use Rattle.dtx_acquire.proofs.WholeLemmas.{long_acquired, whole_so_far}
 use Rattle.dtx_rounds.specs.FieldRound.{field_rounded}
-use Rattle.dtx_rounds.specs.Fields.{rows_of, AreSegments}
+use Rattle.dtx_rounds.specs.RunField.{rows_of, AreSegments}
 use Rattle.dtx_rounds.specs.Known.{known_byte, known_bytes, known_word}
 use Rattle.dtx_rounds.specs.Rounds.{rounded, rounds_of, heard_of, refined, refined_rest, refined_so_far, settled_count}
 use Rattle.dtx_rounds.specs.Rounds.{coder_cost}

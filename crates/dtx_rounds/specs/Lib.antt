@@ -1,11 +1,6 @@
 pub mod Known
 pub mod Found
-pub mod Written
-pub mod Pins
 pub mod Rounds
-pub mod Fields
 pub mod FieldRound
-pub mod Decided
 pub mod RunField
 pub mod RunRounds
-pub mod MadeRounds

@@ -5,13 +5,10 @@ use Rattle.std.specs.Prelude.{List, [], ◌++◌, length, map, take, drop, slice
 use Rattle.std.proofs.Common.{zero, suc}
 use Rattle.std.specs.List.{range_with_len}
 use Rattle.dtx_receiver.specs.Bytes.{bytes_in}
-use Rattle.dtx_acquire.specs.Acquired.{acquired, acquired_so_far, all_fields, heard_in}
-use Rattle.dtx_acquire.specs.Scaled.{decided}
+use Rattle.dtx_acquire.specs.Acquired.{acquired, acquired_so_far, all_fields, heard_in, decided}
 use Rattle.dtx_acquire.specs.Sent.{groups_behind}
-use Rattle.dtx_pins.specs.Moved.{moved_in}
-use Rattle.dtx_pins.specs.PinnedField.{pinned, pinned_coder_cost}
-use Rattle.dtx_rounds.specs.Known.{known_bytes}
-use Rattle.dtx_rounds.specs.Pins.{field_pins}
+use Rattle.dtx_pins.specs.PinnedField.{moved_in, pinned, pinned_coder_cost}
+use Rattle.dtx_rounds.specs.Known.{known_bytes, field_pins}
 
 -- ---- one round
 

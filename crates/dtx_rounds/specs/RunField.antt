@@ -1,16 +1,22 @@
 -- A field of a run on its way through a round.
 use Rattle.std.specs.Prelude.{ℕ, ℤ, ◌≡◌, ◌+◌, ◌*◌, ◌<◌, ◌≤◌, nat_lt, false, if◌then◌else◌, Option, Some, None, is_some}
-use Rattle.std.specs.Prelude.{List, drop, length, map, slice_index_or, sum, take}
+use Rattle.std.specs.Prelude.{List, drop, length, map, slice_index_or, sum, take, []}
 use Rattle.std.specs.List.{range_with_len}
 use Rattle.dtx_receiver.specs.Bytes.{bytes_in}
-use Rattle.dtx_pins.specs.Moved.{rows_moved}
-use Rattle.dtx_rounds.specs.Decided.{IsDecided, decided_rows, heard_rows}
-use Rattle.dtx_rounds.specs.FieldRound.{field_cost, field_rounded}
-use Rattle.dtx_rounds.specs.Fields.{AreSegments, rows_of}
+use Rattle.dtx_pins.specs.PinnedField.{rows_moved}
+use Rattle.dtx_rounds.specs.FieldRound.{IsDecided, decided_rows, heard_rows, field_cost, field_rounded}
 use Rattle.dtx_rounds.specs.Found.{AreFound, bytes_of, bytes_there, code_byte, new_code, whole_segments}
 use Rattle.dtx_rounds.specs.Known.{known_bytes, known_word}
 use Rattle.dtx_rounds.specs.Rounds.{coder_cost, rounded}
 use Rattle.dtx_rounds.specs.declared.field.Field.{Field}
+
+-- each segment has 832 symbols
+abbrev pub AreSegments : List (List ℤ) → Type 0
+AreSegments segments = (i : ℕ) → i < length segments → length (slice_index_or segments i []) ≡ 832
+
+-- the segments of field f
+abbrev pub rows_of : List (List ℤ) → ℕ → List (List ℤ)
+rows_of segments f = take 313 (drop (313 * f) segments)
 
 -- each word that is known of some bytes is known of others, with the same correction
 abbrev pub StayKnown : (before now : List ℕ) → Type 0

@@ -1,15 +1,15 @@
 -- Rounds one behind the other, over the fields of a run. Each holds a field of its own run: that of the first round is
 -- given, and that of each further one is what the round before it gives.
 use Rattle.std.specs.Prelude.{ℕ, ℤ, ◌≡◌, ◌+◌, ◌-◌, ◌*◌, ◌/◌, ◌<◌, ◌≤◌, ◌⊎◌, ⊤, Bool, true, false, if◌then◌else◌, List}
-use Rattle.std.specs.Prelude.{[], ◌∷◌, length}
+use Rattle.std.specs.Prelude.{[], ◌∷◌, length, nat_le}
 use Rattle.std.proofs.Common.{zero, suc}
 use Rattle.dtx_receiver.specs.Bytes.{bytes_in}
-use Rattle.dtx_rounds.specs.Fields.{AreSegments}
+use Rattle.dtx_rounds.specs.RunField.{AreSegments, Holds, IsInRun, IsRounded, StayKnown}
 use Rattle.dtx_rounds.specs.Known.{known_word}
 use Rattle.dtx_rounds.specs.Rounds.{fields_in, rounded, rounds_of}
-use Rattle.dtx_rounds.specs.RunField.{Holds, IsInRun, IsRounded, StayKnown}
 use Rattle.dtx_rounds.specs.declared.field.Field.{Field}
 use Rattle.dtx_rounds.specs.declared.round.Round.{Round}
+use Rattle.dtx_rounds.specs.declared.rounds.Rounds.{Rounds}
 
 -- A run that rounds are made over, and its bytes before the last round.
 pub record IsRun (heard given : List (List ℤ)) (before : List ℕ) : Type 0 where
@@ -93,3 +93,29 @@ abbrev pub EndsOn : ℕ → (old new : List Round) → Bool → Field → Type 0
 EndsOn scale old new answer made =
     (heard given : List (List ℤ)) (before : List ℕ) (t : ℕ) → IsRun heard given before → t ≡ fields_in given
     → AreAt scale heard given before t old → IsEnded scale heard given before t old new answer made
+
+-- So many rounds at a scale took the first t fields of a run, of which nothing was known, and gave the first f of them.
+-- Each round holds one field at most.
+pub record AreMade (scale : ℕ) (heard given : List (List ℤ)) (count t f : ℕ) (rounds : Rounds) : Type 0 where
+  pub scale_is : rounds.means.decoder ≡ scale
+  pub long : length rounds.rounds.items ≡ count
+  pub at : AreAt scale heard given [] t rounds.rounds.items
+  pub given_are : given_count t rounds.rounds.items ≡ f
+  pub few : f ≤ t
+  pub held : t ≤ f + count
+
+-- The next field was taken. Where each round held a field, the answer is true, and field f was given as it is after all
+-- rounds over the run.
+pub record AreTaken (scale : ℕ) (heard given : List (List ℤ)) (count t f : ℕ) (answer : Bool) (new : Rounds)
+    (field : Field) : Type 0 where
+  pub made : AreMade scale heard given count (t + 1) (f + (if answer then 1 else 0)) new
+  pub answer_is : answer ≡ nat_le (f + count) t
+  pub given_is : answer ≡ true → IsGiven scale heard given [] count f field
+
+-- All fields were taken. Where the answer is true, field f was given as it is after all rounds over the run, and else
+-- all had been given.
+pub record AreFinished (scale : ℕ) (heard given : List (List ℤ)) (count t f : ℕ) (answer : Bool) (new : Rounds)
+    (field : Field) : Type 0 where
+  pub made : AreMade scale heard given count t (f + (if answer then 1 else 0)) new
+  pub given_is : answer ≡ true → IsGiven scale heard given [] count f field
+  pub all : answer ≡ false → f ≡ t

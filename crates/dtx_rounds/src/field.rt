@@ -3,8 +3,7 @@
 ghost use Rattle.std.specs.Prelude.{◌≡◌, ◌+◌, ◌-◌, ◌*◌, ◌/◌, ◌<◌, ◌≤◌, ◌++◌, IfOk, true, false, drop, length, take};
 ghost use Rattle.std.specs.Prelude.{vec_len};
 ghost use Rattle.std.specs.List.{flat_map};
-ghost use Rattle.dtx_rounds.specs.FieldRound.{KnowsNothing, most_field_cost, words_known};
-ghost use Rattle.dtx_rounds.specs.Written.{IsWritten};
+ghost use Rattle.dtx_rounds.specs.FieldRound.{KnowsNothing, most_field_cost, words_known, IsWritten};
 
 use crate::group_bytes::empty_bytes;
 use dtx_sizes::{

@@ -6,7 +6,7 @@ ghost use Rattle.std.specs.List.{flat_map};
 ghost use Rattle.dtx_slice.specs.Slicing.{sliced_data};
 ghost use Rattle.dtx_slice.specs.Unrolled.{bytes_back, precoder_bits_after, precoder_bits_of};
 ghost use Rattle.dtx_rounds.specs.Found.{IsUnchanged};
-ghost use Rattle.dtx_rounds.specs.Written.{IsWritten};
+ghost use Rattle.dtx_rounds.specs.FieldRound.{IsWritten};
 
 use crate::field::{Field, WORDS};
 use dtx_sizes::{CODERS, CODEWORD, GROUP_BYTES, GROUP_LEVELS, GROUP_PACKETS, PRECODE, SEGMENT};

@@ -9,15 +9,12 @@ ghost use Rattle.dtx_receiver.specs.Bytes.{bytes_in};
 ghost use Rattle.dtx_receiver.specs.Packets.{is_complete};
 ghost use Rattle.dtx_soft.specs.Softened.{least_cost, softened_cost};
 ghost use Rattle.dtx_acquire.specs.Acquired.{acquired, acquired_cost};
-ghost use Rattle.dtx_rounds.specs.Decided.{decided_rows, heard_rows};
-ghost use Rattle.dtx_rounds.specs.FieldRound.{KnowsNothing, field_rounded, words_known};
-ghost use Rattle.dtx_rounds.specs.Fields.{AreSegments, rows_of};
-ghost use Rattle.dtx_rounds.specs.Known.{known_byte, known_bytes, known_count, known_word};
-ghost use Rattle.dtx_rounds.specs.Pins.{byte_at_step};
+ghost use Rattle.dtx_rounds.specs.FieldRound.{decided_rows, heard_rows, KnowsNothing, field_rounded, words_known};
+ghost use Rattle.dtx_rounds.specs.RunField.{AreSegments, rows_of, IsInRun, IsRounded};
+ghost use Rattle.dtx_rounds.specs.Known.{known_byte, known_bytes, known_count, known_word, byte_at_step};
 ghost use Rattle.dtx_rounds.specs.Rounds.{coder_cost, groups_in, fields_in, heard_of, refined, refined_rest};
 ghost use Rattle.dtx_rounds.specs.Rounds.{refined_so_far, rounded, rounds_of};
 ghost use Rattle.dtx_rounds.specs.Rounds.{round_cost, round_moved};
-ghost use Rattle.dtx_rounds.specs.RunField.{IsInRun, IsRounded};
 ghost use Rattle.dtx_rounds.specs.RunRounds.{IsGiven};
 ghost use Rattle.dtx_rounds.specs.declared.field.Field.{Field};
 

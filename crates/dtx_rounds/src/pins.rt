@@ -2,8 +2,8 @@
 
 ghost use Rattle.std.specs.Prelude.{◌≡◌, ℕ, ◌+◌, ◌-◌, ◌*◌, ◌/◌, ◌%◌, ◌<◌, ◌≤◌, None, [], length, slice_index};
 ghost use Rattle.std.specs.Prelude.{option_map, slice_index_or, unwrap_or};
-ghost use Rattle.dtx_trellis.specs.Pairs.{pair_in};
-ghost use Rattle.dtx_rounds.specs.Pins.{field_pins, pin_of};
+ghost use Rattle.dtx_trellis.specs.Trellis.{pair_in};
+ghost use Rattle.dtx_rounds.specs.Known.{field_pins, pin_of};
 
 use crate::field::{BYTES, WORDS};
 use dtx_pins::NO_PIN;

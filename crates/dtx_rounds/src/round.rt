@@ -1,10 +1,9 @@
 //! One round, which is a field behind the one before it.
 
 ghost use Rattle.std.specs.Prelude.{◌≡◌, ◌<◌, ℕ, ℤ, IfOk, true, false, List, length};
-ghost use Rattle.dtx_rounds.specs.Fields.{AreSegments};
+ghost use Rattle.dtx_rounds.specs.RunField.{AreSegments, GivesLast, GoesOn, Holds, IsInRun, IsTurned};
 ghost use Rattle.dtx_rounds.specs.Found.{bytes_of};
 ghost use Rattle.dtx_rounds.specs.Known.{known_word};
-ghost use Rattle.dtx_rounds.specs.RunField.{GivesLast, GoesOn, Holds, IsInRun, IsTurned};
 
 use crate::field::{BYTES, Field, WORDS};
 use crate::group_bytes::write_bytes;

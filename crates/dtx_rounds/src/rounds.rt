@@ -2,13 +2,11 @@
 
 ghost use Rattle.std.specs.Prelude.{◌≡◌, ◌*◌, ◌<◌, ◌≤◌, nat_le, ℕ, ℤ, IfOk, true, false, List, [], length};
 ghost use Rattle.dtx_receiver.specs.Bytes.{bytes_in};
-ghost use Rattle.dtx_rounds.specs.Fields.{AreSegments};
+ghost use Rattle.dtx_rounds.specs.RunField.{AreSegments, IsInRun, IsRounded};
 ghost use Rattle.dtx_rounds.specs.Known.{known_word};
-ghost use Rattle.dtx_rounds.specs.MadeRounds.{AreFinished, AreMade, AreTaken};
+ghost use Rattle.dtx_rounds.specs.RunRounds.{AreFinished, AreMade, AreTaken, AreAt, AreOff, EndsOn, IsAt, IsEndedFirst};
+ghost use Rattle.dtx_rounds.specs.RunRounds.{IsRun, PassesOn, given_by, given_count, on_count};
 ghost use Rattle.dtx_rounds.specs.Rounds.{fields_in, rounded};
-ghost use Rattle.dtx_rounds.specs.RunField.{IsInRun, IsRounded};
-ghost use Rattle.dtx_rounds.specs.RunRounds.{AreAt, AreOff, EndsOn, IsAt, IsEndedFirst, IsRun, PassesOn, given_by};
-ghost use Rattle.dtx_rounds.specs.RunRounds.{given_count, on_count};
 
 use crate::field::Field;
 use crate::means::Means;

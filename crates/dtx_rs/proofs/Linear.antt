@@ -3,8 +3,7 @@ use Rattle.std.proofs.Common.{◌≡◌, ℕ, zero, suc, ◌<◌, List, [], ◌�
 use Rattle.std.proofs.Common.{ap₂, ◌∙◌, arith}
 use Rattle.std.proofs.lemmas.List.{length_push, append_assoc, append-nil, length-replicate}
 use Rattle.std.specs.Int.Bits.{xor_comm, xor_assoc, xor_self, xor_zero_r}
-use Rattle.dtx_galois.specs.Field.{mul}
-use Rattle.dtx_galois.specs.Word.{sums, scaled}
+use Rattle.dtx_galois.specs.Field.{mul, sums, scaled}
 use Rattle.dtx_galois.proofs.LinearLemmas.{mul_left, xor_swap}
 use Rattle.dtx_galois.proofs.FieldLemmas.{mul_zero, zero_mul}
 use Rattle.dtx_galois.proofs.WordsLemmas.{length_sums, length_scaled}

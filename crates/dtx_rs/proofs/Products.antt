@@ -2,8 +2,7 @@
 use Rattle.std.proofs.Common.{◌≡◌, ℕ, zero, suc, ◌+◌, ◌-◌, ◌<◌, List, [], ◌∷◌, ◌++◌, length, get_or, take, drop}
 use Rattle.std.proofs.Common.{replicate, bit_xor, refl, sym, ap, ap₂, ◌∙◌, arith, add-one}
 use Rattle.std.proofs.lemmas.List.{ext_get_or, take_at, drop_at, append_assoc, length_push}
-use Rattle.dtx_galois.specs.Field.{mul, pow}
-use Rattle.dtx_galois.specs.Word.{sums, scaled}
+use Rattle.dtx_galois.specs.Field.{mul, pow, sums, scaled}
 use Rattle.dtx_galois.proofs.FieldLemmas.{mul_comm, mul_one, pow_small}
 use Rattle.dtx_laws.specs.Register.{generator}
 use Rattle.dtx_laws.proofs.EncodingLemmas.{length_generator}

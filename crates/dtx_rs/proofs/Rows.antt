@@ -3,10 +3,10 @@ use Rattle.std.proofs.Common.{◌≡◌, ℕ, suc, ◌+◌, ◌<◌, List, [], �
 use Rattle.std.proofs.Common.{take, replicate, bit_xor, refl, sym, ap, ap₂, ◌∙◌, arith}
 use Rattle.std.proofs.lemmas.List.{length-replicate, take_more}
 use Rattle.std.specs.Int.Bits.{xor_zero_r}
-use Rattle.dtx_galois.specs.Word.{sums}
+use Rattle.dtx_galois.specs.Field.{sums}
 use Rattle.dtx_laws.specs.Register.{fed, register}
 use Rattle.dtx_laws.proofs.EncodingLemmas.{length_register}
-use Rattle.dtx_rs.specs.Table.{row}
+use Rattle.dtx_rs.specs.Generator.{row}
 use Rattle.dtx_rs.proofs.Linear.{zeros_sums, register_sums, register_append, zero_fed, big_step}
 
 pub length_row : (divisor : List ℕ) (f k : ℕ) → length (row divisor f k) ≡ length divisor

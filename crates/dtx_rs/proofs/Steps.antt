@@ -4,10 +4,10 @@ use Rattle.std.proofs.Common.{refl, sym, ap, ap₂, ◌∙◌, arith}
 use Rattle.std.proofs.lemmas.List.{length_push}
 use Rattle.std.proofs.lemmas.Nat.{le_bytes_4}
 use Rattle.std.specs.Int.{to_le_bytes, from_le_bytes, w32}
-use Rattle.dtx_galois.specs.Word.{sums}
+use Rattle.dtx_galois.specs.Field.{sums}
 use Rattle.dtx_galois.proofs.WordsLemmas.{length_sums}
 use Rattle.dtx_laws.specs.Register.{register}
-use Rattle.dtx_rs.specs.Table.{row, word_bytes}
+use Rattle.dtx_rs.specs.Generator.{row, word_bytes}
 use Rattle.dtx_rs.proofs.Rows.{four_fed, length_row}
 use Rattle.dtx_rs.proofs.WordBytes.{to_le_bytes-xor, length-word_bytes, word_bytes-append, word_bytes-sums}
 use Rattle.dtx_rs.proofs.WordBytes.{list_of_four}

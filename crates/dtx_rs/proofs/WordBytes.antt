@@ -4,8 +4,8 @@ use Rattle.std.proofs.Common.{bit_xor, refl, sym, ap, ap₂, ◌∙◌, arith}
 use Rattle.std.proofs.lemmas.List.{append_assoc, take_more}
 use Rattle.std.proofs.lemmas.Nat.{xor_shr, xor_mod}
 use Rattle.std.specs.Int.{to_le_bytes, w32}
-use Rattle.dtx_galois.specs.Word.{sums}
-use Rattle.dtx_rs.specs.Table.{word_bytes}
+use Rattle.dtx_galois.specs.Field.{sums}
+use Rattle.dtx_rs.specs.Generator.{word_bytes}
 
 xor_byte : (u v k : ℕ) → bit_xor u v / 2 ^ k % 256 ≡ bit_xor (u / 2 ^ k % 256) (v / 2 ^ k % 256)
 xor_byte u v k = ap (λ (x : ℕ). x % 256) (xor_shr u v k) ∙ xor_mod (u / 2 ^ k) (v / 2 ^ k) 8

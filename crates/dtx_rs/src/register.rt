@@ -1,8 +1,7 @@
 //! Division byte by byte, for any number of parity bytes.
 
 ghost use Rattle.std.specs.Prelude.{◌≡◌, ◌+◌, ◌-◌, ◌<◌, ◌≤◌, ◌++◌, length, replicate, take};
-ghost use Rattle.dtx_galois.specs.Field.{AreBytes};
-ghost use Rattle.dtx_galois.specs.Word.{scaled, sums};
+ghost use Rattle.dtx_galois.specs.Field.{AreBytes, scaled, sums};
 ghost use Rattle.dtx_laws.specs.Register.{fed, register};
 
 use dtx_galois::Gf;

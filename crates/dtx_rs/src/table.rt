@@ -2,9 +2,9 @@
 
 ghost use Rattle.std.specs.Prelude.{◌≡◌, ℕ, ◌+◌, ◌-◌, ◌*◌, ◌/◌, ◌%◌, ◌<◌, ◌≤◌, [], ◌∷◌, ◌++◌, drop, length, map};
 ghost use Rattle.std.specs.Prelude.{replicate, slice_index, slice_index_or, slice_set, take};
-ghost use Rattle.dtx_galois.specs.Word.{sums};
+ghost use Rattle.dtx_galois.specs.Field.{sums};
 ghost use Rattle.dtx_laws.specs.Register.{fed, register};
-ghost use Rattle.dtx_rs.specs.Table.{row, word_bytes};
+ghost use Rattle.dtx_rs.specs.Generator.{row, word_bytes};
 ghost use Rattle.dtx_rs.specs.declared.divisor.TheConstants.{ELEMENTS};
 ghost use Rattle.dtx_rs.specs.declared.words.TheConstants.{REST, STEP, WIDTH};
 

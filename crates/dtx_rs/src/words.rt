@@ -2,7 +2,7 @@
 
 ghost use Rattle.std.specs.Prelude.{◌≡◌, ◌∷◌, length};
 ghost use Rattle.dtx_rs.specs.declared.words.TheConstants.{REST};
-ghost use Rattle.dtx_rs.specs.Table.{word_bytes};
+ghost use Rattle.dtx_rs.specs.Generator.{word_bytes};
 
 use dtx_laws::PARITY;
 use std::simd::prelude::*;

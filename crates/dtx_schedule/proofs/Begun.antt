@@ -8,12 +8,11 @@ use Rattle.std.proofs.lemmas.List.{take_more, take-append-drop}
 use Rattle.std.proofs.lemmas.Option.{slice_get_within, get_or_from_slice_get}
 use Rattle.dtx_meaning.specs.Meaning.{Outputs, ArePartWritten, with_outputs}
 use Rattle.dtx_meaning.proofs.MeaningLemmas.{part_before, part_behind, with_outputs-append}
-use Rattle.dtx_outside.specs.Shelf.{Files, with_file, IsBegun}
-use Rattle.dtx_outside.specs.Written.{IsWritten}
+use Rattle.dtx_outside.specs.Shelf.{Files, with_file, IsBegun, IsWritten}
 use Rattle.dtx_outside.proofs.WrittenLemmas.{begun_written}
 use Rattle.dtx_outside.specs.declared.shelf.WriteNo.{WriteNo}
 use Rattle.dtx_plan.specs.declared.transmitter.Transmitter.{Transmitter}
-use Rattle.dtx_words.specs.NetworkNames.{symbol_name, log_name}
+use Rattle.dtx_words.specs.Names.{symbol_name, log_name}
 use Rattle.dtx_schedule.specs.TransmitterFiles.{files_of, nothing, played_outputs}
 use Rattle.dtx_schedule.proofs.FilesLemmas.{contents_same, no_log_file, no_symbol_file}
 

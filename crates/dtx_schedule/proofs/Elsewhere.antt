@@ -1,7 +1,7 @@
 -- What a step of one transmitter leaves of the others.
 use Rattle.std.proofs.Common.{◌≡◌, ◌≢◌, ℕ, List, [], ◌∷◌, ◌++◌, ap, arith}
 use Rattle.dtx_files.specs.Symbols.{segment_bytes}
-use Rattle.dtx_net.specs.Sent.{sent_segments}
+use Rattle.dtx_net.specs.Lives.{sent_segments}
 use Rattle.dtx_net.specs.Steps.{Step}
 use Rattle.dtx_net.proofs.GrowsLemmas.{segments_same, lines_same}
 use Rattle.dtx_net.proofs.LastLifeLemmas.{lives_elsewhere}

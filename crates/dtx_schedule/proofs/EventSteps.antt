@@ -16,8 +16,8 @@ use Rattle.dtx_plan.specs.declared.event.Event.{Event}
 use Rattle.dtx_plan.specs.declared.event.Event.TheVariants.{Send, Foreign, Flip, Lie, Restart}
 use Rattle.dtx_plan.specs.Sound.{to_of}
 use Rattle.dtx_meaning.specs.declared.status.Status.{Status}
-use Rattle.dtx_net.specs.Changed.{flipped_packet, lied_packet}
-use Rattle.dtx_net.specs.Steps.{Step, packet_step, restart_step, transmitter_place, feed_packet, steps_of, actions_of}
+use Rattle.dtx_net.specs.Steps.{flipped_packet, lied_packet, Step, packet_step, restart_step, transmitter_place}
+use Rattle.dtx_net.specs.Steps.{feed_packet, steps_of, actions_of}
 use Rattle.dtx_schedule.specs.declared.playout.Playout.{Playout}
 use Rattle.dtx_schedule.specs.Inside.{reads_past}
 use Rattle.dtx_schedule.specs.PlayedSoFar.{IsDoneOf, packet_steps}

@@ -8,7 +8,7 @@ use Rattle.dtx_meaning.specs.declared.status.Status.{Status}
 use Rattle.dtx_net.specs.Steps.{Step}
 use Rattle.dtx_outside.specs.Shelf.{Files}
 use Rattle.dtx_plan.specs.declared.transmitter.Transmitter.{Transmitter}
-use Rattle.dtx_words.specs.NetworkNames.{feed_name, symbol_name, log_name}
+use Rattle.dtx_words.specs.Names.{feed_name, symbol_name, log_name}
 use Rattle.dtx_schedule.specs.declared.playout.Playout.{Playout}
 use Rattle.dtx_schedule.specs.PlayedSoFar.{IsPlayedSoFar, IsUnderWay}
 use Rattle.dtx_schedule.specs.TransmitterFiles.{Contents, files_of, played, played_outputs}

@@ -12,14 +12,13 @@ use Rattle.dtx_exciter.specs.Emission.{emission}
 use Rattle.dtx_exciter.specs.Log.{life_lines, log}
 use Rattle.dtx_files.specs.Symbols.{segment_bytes}
 use Rattle.dtx_meaning.specs.Meaning.{Outputs, IsNoOutput, with_outputs}
-use Rattle.dtx_net.specs.Lives.{lives_of}
-use Rattle.dtx_net.specs.Sent.{lines_of, sent_segments}
+use Rattle.dtx_net.specs.Lives.{lives_of, lines_of, sent_segments}
 use Rattle.dtx_net.proofs.PlaceOfLemmas.{place_only}
 use Rattle.dtx_plan.specs.Sound.{AreTransmitters}
 use Rattle.dtx_plan.specs.declared.transmitter.Transmitter.{Transmitter}
-use Rattle.dtx_words.specs.NetworkNames.{symbol_name, log_name}
+use Rattle.dtx_words.specs.Names.{symbol_name, log_name}
 use Rattle.dtx_words.proofs.NetworkNamesLemmas.{symbols_differ, logs_differ, symbols_no_logs}
-use Rattle.dtx_schedule.specs.Pair.{HasPair, with_pair}
+use Rattle.dtx_schedule.specs.Playout.{HasPair, with_pair}
 use Rattle.dtx_schedule.specs.TransmitterFiles.{Contents, files_of, log_file, symbol_file}
 
 -- ---- outputs over files that are told

@@ -12,13 +12,12 @@ use Rattle.dtx_files.proofs.AppendedLemmas.{segment_bytes-append, log_text-appen
 use Rattle.dtx_files.specs.LogText.{log_text}
 use Rattle.dtx_files.specs.Symbols.{segment_bytes}
 use Rattle.dtx_meaning.specs.Meaning.{ArePartWritten, IsFrontOf, with_outputs}
-use Rattle.dtx_net.specs.Lives.{last_life}
-use Rattle.dtx_net.specs.Sent.{sent_segments, lines_of}
+use Rattle.dtx_net.specs.Lives.{last_life, sent_segments, lines_of}
 use Rattle.dtx_net.specs.Steps.{Step}
 use Rattle.dtx_net.proofs.GrowsLemmas.{segments_given, lines_given, segments_restarted, lines_restarted}
 use Rattle.dtx_outside.specs.Shelf.{Files, with_file}
 use Rattle.dtx_plan.specs.declared.transmitter.Transmitter.{Transmitter}
-use Rattle.dtx_words.specs.NetworkNames.{symbol_name, log_name}
+use Rattle.dtx_words.specs.Names.{symbol_name, log_name}
 use Rattle.dtx_schedule.specs.PlayedSoFar.{IsUnderWay}
 use Rattle.dtx_schedule.specs.TransmitterFiles.{AreFronts, Contents, files_of, log_file, nothing, played}
 use Rattle.dtx_schedule.specs.TransmitterFiles.{played_outputs, symbol_file}

@@ -7,8 +7,7 @@ use Rattle.std.proofs.lemmas.List.{length-append}
 use Rattle.std.proofs.lemmas.Option.{same_Some, slice_get_within}
 use Rattle.dtx_net.proofs.PlacesLemmas.{pushed_here}
 use Rattle.dtx_plan.specs.declared.transmitter.Transmitter.{Transmitter}
-use Rattle.dtx_schedule.specs.Pair.{AreNamesOf}
-use Rattle.dtx_schedule.specs.Playout.{AreNames}
+use Rattle.dtx_schedule.specs.Playout.{AreNamesOf, AreNames}
 use Rattle.dtx_schedule.specs.declared.pair.FileNames.{FileNames}
 
 -- the names of the first n transmitters

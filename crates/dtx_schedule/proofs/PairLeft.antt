@@ -8,9 +8,9 @@ use Rattle.dtx_outside.proofs.FilesLemmas.{get-insert_other, insert_same}
 use Rattle.dtx_outside.specs.Shelf.{Files, with_file, IsAppended}
 use Rattle.dtx_outside.specs.declared.shelf.WriteNo.{WriteNo}
 use Rattle.dtx_outside.specs.declared.shelf.WriteNo.TheVariants.{Failed, Memory}
-use Rattle.dtx_words.specs.NetworkNames.{symbol_name, log_name}
+use Rattle.dtx_words.specs.Names.{symbol_name, log_name}
 use Rattle.dtx_words.proofs.NetworkNamesLemmas.{symbols_no_logs}
-use Rattle.dtx_schedule.specs.Pair.{HasPair, IsAddedTo, IsPairOf}
+use Rattle.dtx_schedule.specs.Playout.{HasPair, IsAddedTo, IsPairOf}
 use Rattle.dtx_schedule.proofs.Fronts.{front_same}
 
 -- ---- one file

@@ -14,16 +14,14 @@ use Rattle.dtx_files.proofs.AppendedLemmas.{segment_bytes-append, log_text-appen
 use Rattle.dtx_files.proofs.GivenFewLemmas.{given_few}
 use Rattle.dtx_files.specs.LogText.{log_text}
 use Rattle.dtx_files.specs.Symbols.{byte_of_symbol, segment_bytes}
-use Rattle.dtx_net.specs.Lives.{last_life}
-use Rattle.dtx_net.specs.Sent.{sent_segments, lines_of}
+use Rattle.dtx_net.specs.Lives.{last_life, sent_segments, lines_of}
 use Rattle.dtx_net.specs.Standing.{IsGiven}
 use Rattle.dtx_net.specs.Steps.{Step, packet_step, transmitter_place, restart_step}
 use Rattle.dtx_net.specs.declared.net.Net.{Net}
 use Rattle.dtx_net.proofs.GrowsLemmas.{segments_given, lines_given, segments_restarted, lines_restarted}
 use Rattle.dtx_net.proofs.PlacesLemmas.{set_here, set_elsewhere}
 use Rattle.dtx_plan.specs.declared.transmitter.Transmitter.{Transmitter}
-use Rattle.dtx_schedule.specs.Pair.{Brings}
-use Rattle.dtx_schedule.specs.Playout.{packets_given, AreSent, HasTransmitter, IsSomePlayout, SentBy}
+use Rattle.dtx_schedule.specs.Playout.{Brings, packets_given, AreSent, HasTransmitter, IsSomePlayout, SentBy}
 use Rattle.dtx_schedule.specs.declared.playout.Playout.{Playout}
 use Rattle.dtx_schedule.specs.TransmitterFiles.{symbol_file, log_file}
 use Rattle.dtx_schedule.proofs.Elsewhere.{segments_elsewhere}

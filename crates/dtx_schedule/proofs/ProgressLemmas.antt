@@ -6,7 +6,7 @@ use Rattle.dtx_meaning.specs.Meaning.{IsFrontOf}
 use Rattle.dtx_net.specs.Steps.{Step}
 use Rattle.dtx_plan.specs.declared.transmitter.Transmitter.{Transmitter}
 use Rattle.dtx_schedule.proofs.FilesLemmas.{no_log_file, no_symbol_file}
-use Rattle.dtx_schedule.specs.Progress.{Progress}
+use Rattle.dtx_schedule.specs.PlayedSoFar.{Progress}
 use Rattle.dtx_schedule.specs.TransmitterFiles.{AreFronts, Contents, files_of, nothing, played}
 
 -- each file has a front part of itself

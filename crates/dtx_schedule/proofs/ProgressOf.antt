@@ -12,11 +12,10 @@ use Rattle.dtx_meaning.specs.declared.status.Status.TheVariants.{Memory}
 use Rattle.dtx_net.specs.Steps.{Step}
 use Rattle.dtx_outside.specs.Shelf.{Files, with_file}
 use Rattle.dtx_plan.specs.declared.transmitter.Transmitter.{Transmitter}
-use Rattle.dtx_words.specs.NetworkNames.{symbol_name, log_name}
+use Rattle.dtx_words.specs.Names.{symbol_name, log_name}
 use Rattle.dtx_schedule.specs.Played.{IsBrokenOff, IsPlayFault, IsPlayOf}
-use Rattle.dtx_schedule.specs.PlayedSoFar.{IsUnderWay}
+use Rattle.dtx_schedule.specs.PlayedSoFar.{IsUnderWay, IsProgressOf, IsComplete, Progress, begun_files}
 use Rattle.dtx_schedule.proofs.FilesLemmas.{contents_same}
-use Rattle.dtx_schedule.specs.Progress.{IsProgressOf, IsComplete, Progress, begun_files}
 use Rattle.dtx_schedule.proofs.ProgressLemmas.{all_files, all_played, only_begun}
 use Rattle.dtx_schedule.specs.TransmitterFiles.{AreFronts, Contents, files_of, nothing, played, played_outputs}
 use Rattle.dtx_schedule.specs.declared.playing.PlayedSchedule.{PlayedSchedule}

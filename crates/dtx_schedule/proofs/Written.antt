@@ -7,9 +7,8 @@ use Rattle.dtx_outside.specs.Shelf.{Files}
 use Rattle.dtx_outside.specs.declared.shelf.WriteNo.{WriteNo}
 use Rattle.dtx_plan.specs.Sound.{AreTransmitters}
 use Rattle.dtx_plan.specs.declared.transmitter.Transmitter.{Transmitter}
-use Rattle.dtx_schedule.specs.Pair.{Brings, HasPair, IsPairOf, with_pair}
+use Rattle.dtx_schedule.specs.Playout.{Brings, HasPair, IsPairOf, with_pair, AreNames}
 use Rattle.dtx_schedule.specs.PlayedSoFar.{IsUnderWay, IsWrittenOf}
-use Rattle.dtx_schedule.specs.Playout.{AreNames}
 use Rattle.dtx_schedule.specs.TransmitterFiles.{files_of, log_file, played, played_outputs, symbol_file}
 use Rattle.dtx_schedule.specs.declared.pair.FileNames.{FileNames}
 use Rattle.dtx_schedule.proofs.Elsewhere.{log_elsewhere, symbols_elsewhere}

@@ -2,7 +2,7 @@
 use Rattle.std.specs.Prelude.{ℕ, List}
 use Rattle.dtx_plan.specs.declared.event.Event.{Event}
 use Rattle.dtx_plan.specs.declared.event.Event.TheVariants.{Flip, Lie}
-use Rattle.dtx_net.specs.Changed.{flipped_packet, lied_packet}
+use Rattle.dtx_net.specs.Steps.{flipped_packet, lied_packet}
 
 -- `Flip` makes a byte wrong, `Lie` makes the states wrong, and any other event leaves the packet as it is
 abbrev pub changed_packet : Event → List ℕ → List ℕ

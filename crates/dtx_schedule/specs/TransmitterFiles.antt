@@ -5,9 +5,9 @@ use Rattle.dtx_meaning.specs.Meaning.{Outputs, IsFrontOf}
 use Rattle.dtx_plan.specs.declared.transmitter.Transmitter.{Transmitter}
 use Rattle.dtx_files.specs.Symbols.{segment_bytes}
 use Rattle.dtx_files.specs.LogText.{log_text}
-use Rattle.dtx_words.specs.NetworkNames.{symbol_name, log_name}
+use Rattle.dtx_words.specs.Names.{symbol_name, log_name}
 use Rattle.dtx_net.specs.Steps.{Step}
-use Rattle.dtx_net.specs.Sent.{sent_segments, lines_of}
+use Rattle.dtx_net.specs.Lives.{sent_segments, lines_of}
 
 -- the symbol file of transmitter t at place `who` of the plan's list: what it sends in these steps, which are those of
 -- all transmitters

@@ -9,7 +9,7 @@ ghost use Rattle.dtx_packets.specs.Packets.{most_packets, packet_at, packets_fro
 ghost use Rattle.dtx_net.specs.Steps.{Step, packet_step, transmitter_place, steps_of};
 ghost use Rattle.dtx_plan.specs.Sound.{IsInRange, IsPart, to_of};
 ghost use Rattle.dtx_plan.specs.declared.transmitter.Transmitter.{Transmitter};
-ghost use Rattle.dtx_words.specs.NetworkNames.{feed_name};
+ghost use Rattle.dtx_words.specs.Names.{feed_name};
 ghost use Rattle.dtx_schedule.specs.Changes.{changed_packet};
 ghost use Rattle.dtx_schedule.specs.Inside.{reads_past};
 ghost use Rattle.dtx_schedule.specs.PlayedSoFar.{IsDoneOf, IsGivenOf, IsOfFeed, IsPlayedSoFar, packet_steps};

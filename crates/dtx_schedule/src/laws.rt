@@ -3,7 +3,7 @@
 ghost use Rattle.std.specs.Prelude.{◌≡◌, List};
 ghost use Rattle.dtx_net.specs.Steps.{Step};
 ghost use Rattle.dtx_plan.specs.declared.transmitter.Transmitter.{Transmitter};
-ghost use Rattle.dtx_schedule.specs.Progress.{IsComplete, Progress, begun_files};
+ghost use Rattle.dtx_schedule.specs.PlayedSoFar.{IsComplete, Progress, begun_files};
 ghost use Rattle.dtx_schedule.specs.TransmitterFiles.{played_outputs};
 
 /// Where all files are begun and all steps are done, each file is whole.

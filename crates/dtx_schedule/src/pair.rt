@@ -3,7 +3,7 @@ ghost use Rattle.std.specs.Prelude.{◌≡◌, ℕ, List, Some};
 ghost use Rattle.std.specs.FinMap as files;
 ghost use Rattle.dtx_outside.specs.Counts.{HasGone, blame_of_write};
 ghost use Rattle.dtx_outside.specs.Shelf.{Files};
-ghost use Rattle.dtx_schedule.specs.Pair.{AreNamesOf, HasPair, IsAddedTo, IsPairOf};
+ghost use Rattle.dtx_schedule.specs.Playout.{AreNamesOf, HasPair, IsAddedTo, IsPairOf};
 
 use arrayvec::ArrayString;
 use dtx_outside::{Shelf, WriteNo};

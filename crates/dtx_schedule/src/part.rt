@@ -5,7 +5,7 @@ ghost use Rattle.dtx_outside.specs.Counts.{HasGone};
 ghost use Rattle.dtx_meaning.specs.Status.{blame_of_answer};
 ghost use Rattle.dtx_packets.specs.Packets.{most_packets, whole_packets};
 ghost use Rattle.dtx_plan.specs.Sound.{IsPart};
-ghost use Rattle.dtx_words.specs.NetworkNames.{feed_name};
+ghost use Rattle.dtx_words.specs.Names.{feed_name};
 ghost use Rattle.dtx_schedule.specs.PlayedSoFar.{IsOfFeed, IsPacketOf, IsPieceCount, IsPieceOf, of_next};
 
 use dtx_meaning::Status;

@@ -6,15 +6,14 @@ ghost use Rattle.dtx_outside.specs.Shelf.{Files};
 ghost use Rattle.dtx_meaning.specs.Meaning.{with_outputs};
 ghost use Rattle.dtx_meaning.specs.Status.{blame_of_answer};
 ghost use Rattle.dtx_packets.specs.Packets.{most_packets, packets_of, whole_packets};
-ghost use Rattle.dtx_net.specs.Sent.{sent_segments};
+ghost use Rattle.dtx_net.specs.Lives.{sent_segments};
 ghost use Rattle.dtx_net.specs.Steps.{Step, transmitter_place, schedule};
 ghost use Rattle.dtx_plan.specs.Sound.{AreTransmitters};
 ghost use Rattle.dtx_plan.specs.declared.transmitter.Transmitter.{Transmitter};
-ghost use Rattle.dtx_words.specs.NetworkNames.{feed_name};
+ghost use Rattle.dtx_words.specs.Names.{feed_name};
 ghost use Rattle.dtx_schedule.specs.Inside.{first_past_feed};
 ghost use Rattle.dtx_schedule.specs.Played.{AreEvents, AreInRange, IsPlayOf, IsRunOf};
-ghost use Rattle.dtx_schedule.specs.PlayedSoFar.{IsDoneOf, IsOfFeed, IsPlayedSoFar};
-ghost use Rattle.dtx_schedule.specs.Progress.{IsProgressOf};
+ghost use Rattle.dtx_schedule.specs.PlayedSoFar.{IsDoneOf, IsOfFeed, IsPlayedSoFar, IsProgressOf};
 ghost use Rattle.dtx_schedule.specs.Playout.{IsSomePlayout, IsPlayout, packets_given, SentBy};
 
 use crate::beginning::begin_files;

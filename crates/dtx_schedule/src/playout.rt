@@ -8,9 +8,8 @@ ghost use Rattle.dtx_meaning.specs.Status.{blame_of_answer};
 ghost use Rattle.dtx_net.specs.Steps.{Step, packet_step, transmitter_place, restart_step};
 ghost use Rattle.dtx_plan.specs.Sound.{AreTransmitters};
 ghost use Rattle.dtx_plan.specs.declared.transmitter.Transmitter.{Transmitter};
-ghost use Rattle.dtx_schedule.specs.Pair.{Brings};
+ghost use Rattle.dtx_schedule.specs.Playout.{Brings, AreNames, HasTransmitter, IsSomePlayout, IsPlayout};
 ghost use Rattle.dtx_schedule.specs.PlayedSoFar.{IsDoneOf, IsOfFeed, IsPlayedSoFar, IsWrittenOf};
-ghost use Rattle.dtx_schedule.specs.Playout.{AreNames, HasTransmitter, IsSomePlayout, IsPlayout};
 ghost use Rattle.dtx_schedule.specs.TransmitterFiles.{played_outputs};
 
 use crate::pair::{FileNames, append_both, names_of};

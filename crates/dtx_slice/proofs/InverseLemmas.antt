@@ -5,8 +5,8 @@ use Rattle.std.specs.List.{range_with_len}
 use Rattle.std.proofs.lemmas.Bool.{cond-false, ne_eqb}
 use Rattle.std.proofs.lemmas.List.FromFn.{fill_by_all, get_or-map-range_with_len, length-map-range_with_len}
 use Rattle.dtx_lists.proofs.Range.{map-range_same}
-use Rattle.dtx_trellis.specs.Trellis.{AreBits, State, z2, z0, level, state_after, state_of, number_of}
-use Rattle.dtx_trellis.specs.Pairs.{groups, group_place, byte_place, pair_in, pair_at, coder_at, higher, lower}
+use Rattle.dtx_trellis.specs.Trellis.{AreBits, State, z2, z0, level, state_after, state_of, number_of, groups}
+use Rattle.dtx_trellis.specs.Trellis.{group_place, byte_place, pair_in, pair_at, coder_at, higher, lower}
 use Rattle.dtx_trellis.specs.Groups.{level_at, levels_of, coder_after, states_after}
 use Rattle.dtx_trellis.proofs.StepsLemmas.{z2_next, z2_first, after_zero}
 use Rattle.dtx_trellis.proofs.CodersLemmas.{turn_back, coder_is, higher_at, lower_at, length_higher, pair_0, pair_1}

@@ -9,7 +9,7 @@ use lib.Lanes.{zip2}
 use Rattle.dtx_lists.proofs.Below.{holds_below, at_below}
 use Rattle.dtx_trellis.specs.Lanes.{AreNibbles}
 use Rattle.dtx_trellis.proofs.LaneStepsLemmas.{at_zip, long_zip}
-use Rattle.dtx_slice.specs.Lanes.{joined_byte}
+use Rattle.dtx_slice.specs.Unrolled.{joined_byte}
 use Rattle.dtx_slice.proofs.Slices.{AreSmall}
 use Rattle.dtx_slice.specs.declared.walk.TheConstants.{FIRST, SECOND, THIRD, FOURTH, BEFORE}
 

@@ -4,8 +4,8 @@ use Rattle.std.proofs.Common.{◌∙◌, subst, arith}
 use Rattle.std.proofs.lemmas.Bool.{cases_lt, cond-false, ne_eqb}
 use Rattle.dtx_trellis.specs.Lanes.{coder_turned, turn}
 use Rattle.dtx_trellis.proofs.LaneRoundsLemmas.{first_coder, first_turn}
-use Rattle.dtx_slice.specs.Unrolled.{symbol_place, precoder_bit, pair_from, pair_back, byte_back, coder_of}
-use Rattle.dtx_slice.specs.Lanes.{joined_byte, lane_byte, lane_level, lane_place, later_byte}
+use Rattle.dtx_slice.specs.Unrolled.{symbol_place, precoder_bit, pair_from, pair_back, byte_back, coder_of, joined_byte}
+use Rattle.dtx_slice.specs.Unrolled.{lane_byte, lane_level, lane_place, later_byte}
 
 pub precoder_bit_zero : (s e : ℕ) (precoder_bits levels : List ℕ) → precoder_bit s precoder_bits levels 0 e
     ≡ get_or precoder_bits e 0

@@ -1,7 +1,7 @@
 //! Laws of the definitions: the bytes come back from the levels of the coders, group after group.
 
 ghost use Rattle.std.specs.Prelude.{◌≡◌, ℕ, ◌+◌, ◌-◌, ◌*◌, ◌<◌, ◌++◌, List, EachIndex, length, drop, slice_index};
-ghost use Rattle.dtx_trellis.specs.Pairs.{group_place};
+ghost use Rattle.dtx_trellis.specs.Trellis.{group_place};
 ghost use Rattle.dtx_trellis.specs.Groups.{levels_of, states_after};
 ghost use Rattle.dtx_slice.specs.Unrolled.{bytes_back, precoder_bits_after, precoder_bits_in, precoder_bits_of};
 

@@ -2,8 +2,7 @@
 
 ghost use Rattle.std.specs.Prelude.{◌≡◌, ℕ, ◌+◌, ◌*◌, ◌/◌, ◌%◌, ◌<◌, ◌≤◌, List, EachIndex, length};
 ghost use Rattle.std.specs.Prelude.{slice_index};
-ghost use Rattle.dtx_slice.specs.Unrolled.{byte_back, precoder_bit};
-ghost use Rattle.dtx_slice.specs.Lanes.{joined_byte, lane_byte, lane_place, later_byte};
+ghost use Rattle.dtx_slice.specs.Unrolled.{byte_back, precoder_bit, joined_byte, lane_byte, lane_place, later_byte};
 
 use dtx_sizes::{
     CODER_BYTES, CODERS, FIELD_PACKETS, GROUP_BYTES, GROUP_LEVELS, GROUP_PACKETS, ROUNDS,

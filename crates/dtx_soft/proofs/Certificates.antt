@@ -3,8 +3,7 @@ use Rattle.std.proofs.Common.{◌≡◌, ℕ, suc, ℤ, pos, ◌+◌, ◌-◌, �
 use Rattle.std.proofs.Common.{sym, ap, ◌∙◌, subst, arith}
 use Rattle.std.proofs.lemmas.List.{drop_all, drop_more}
 use Rattle.dtx_soft.specs.Paths.{IsPath, cost, next_state, squared, symbol_at}
-use Rattle.dtx_soft.specs.Least.{ArePotentials, IsLeast, IsPotential, NoneCostsLess}
-use Rattle.dtx_soft.specs.Certificate.{IsCertificate}
+use Rattle.dtx_soft.specs.Least.{ArePotentials, IsLeast, IsPotential, NoneCostsLess, IsCertificate}
 use Rattle.dtx_soft.proofs.LeastPathLemmas.{next_small}
 use Rattle.dtx_soft.proofs.MovedLemmas.{cost-cons, nothing_costs}
 

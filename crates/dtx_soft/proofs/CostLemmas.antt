@@ -9,7 +9,7 @@ use Rattle.std.proofs.Math.Nat.{mul-le-mul, mul-suc}
 use Rattle.dtx_slice.specs.Unrolled.{symbol_place}
 use Rattle.dtx_soft.specs.Coders.{AreLeast, IsSoftened, coder_symbols, coders_distance, data_symbol}
 use Rattle.dtx_soft.specs.Paths.{IsPath, distance, next_state, squared, symbol_at}
-use Rattle.dtx_soft.specs.Signed.{AreSigned}
+use Rattle.dtx_soft.specs.Bounds.{AreSigned}
 
 abbrev AreWithin : ℕ → List ℤ → Type 0
 AreWithin most symbols = AllByRecursion (λ x. nat_abs x ≤ most) symbols

@@ -6,7 +6,7 @@ use Rattle.dtx_soft.specs.declared.gaps.Gap.{Gap}
 use Rattle.dtx_soft.specs.declared.gaps.SquareGaps.{SquareGaps}
 use Rattle.dtx_soft.specs.Bounds.{AreBounds, AreWithin, Bounds, IsBounded, IsReached, IsScale}
 use Rattle.dtx_soft.specs.Gaps.{AreSums}
-use Rattle.dtx_soft.specs.Squares.{IsSquares, across_of, even_of, odd_of, seen}
+use Rattle.dtx_soft.specs.Nearest.{IsSquares, across_of, even_of, odd_of, seen}
 
 pub seen_reached : (b : Bounds) (scale : ℕ) (symbol : ℤ) → IsReached b symbol → IsReached b (seen scale symbol)
 seen_reached b scale symbol h = grind arith

@@ -10,10 +10,9 @@ use Rattle.dtx_soft.specs.declared.gaps.Gap.{Gap}
 use Rattle.dtx_soft.specs.declared.gaps.SquareGaps.{SquareGaps}
 use Rattle.dtx_soft.specs.Bounds.{AreBounds, AreWithin, Bounds, IsScale}
 use Rattle.dtx_soft.specs.Gaps.{AreGaps, AreSigns, AreSums, AreTaken, IsBefore, IsStep, SaysAbove, row_of, tie_of, unit}
-use Rattle.dtx_soft.specs.Squares.{IsSquares}
+use Rattle.dtx_soft.specs.Nearest.{IsSquares, IsTaken, IsTieBreak, cheapest, through}
 use Rattle.dtx_soft.proofs.SquareGaps.{AreTested, are_tested, row_gaps, row_tie}
 use Rattle.std.proofs.lemmas.Bool.Decides.{nat_tests}
-use Rattle.dtx_soft.specs.Nearest.{IsTaken, IsTieBreak, cheapest, through}
 use Rattle.dtx_soft.specs.Paths.{next_state}
 use Rattle.dtx_soft.proofs.LeastPathLemmas.{next_small}
 use Rattle.dtx_soft.proofs.Steps.{bit_taken}

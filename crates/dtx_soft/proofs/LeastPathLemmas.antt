@@ -6,8 +6,7 @@ use Rattle.std.proofs.lemmas.Bool.{cases_lt, le-leb, leb-true, true≢false, and
 use Rattle.std.specs.List.{range_with_len, flat_map, list_all, find, AllByRecursion}
 use Rattle.dtx_lists.proofs.Range.{range_cases}
 use Rattle.dtx_soft.specs.Paths.{IsPath, cost, next_state}
-use Rattle.dtx_soft.specs.Least.{AreInOrder, IsLeast}
-use Rattle.dtx_soft.specs.LeastPath.{all_paths, costs_least, first_least, least_path, paths_from}
+use Rattle.dtx_soft.specs.Least.{AreInOrder, IsLeast, all_paths, costs_least, first_least, least_path, paths_from}
 
 -- ---- elements of a list of lists
 

@@ -2,7 +2,7 @@
 use Rattle.std.proofs.Common.{◌≡◌, ℕ, zero, suc, ℤ, ◌+◌, ◌<◌, List, [], drop, get_or, length, map, refl, sym, ap, ap₂}
 use Rattle.std.proofs.Common.{◌∙◌, arith}
 use Rattle.dtx_soft.specs.Coders.{AreLeast, IsSoftened, coder_symbols, coders_distance}
-use Rattle.dtx_soft.specs.LeastPath.{least_path}
+use Rattle.dtx_soft.specs.Least.{least_path}
 use Rattle.dtx_soft.proofs.LeastPathLemmas.{least_path_found}
 use Rattle.dtx_soft.proofs.MovedLemmas.{distance_same}
 use Rattle.dtx_soft.specs.Paths.{symbol_at}

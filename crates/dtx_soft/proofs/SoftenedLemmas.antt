@@ -7,9 +7,9 @@ use Rattle.std.proofs.lemmas.List.{get_or_past, length-map}
 use Rattle.std.proofs.lemmas.List.FromFn.{fill_by_all, get_or-map-range_with_len, length-map-range_with_len}
 use Rattle.dtx_lists.proofs.Range.{map-range_same}
 use Rattle.dtx_slice.specs.Unrolled.{symbol_place}
-use Rattle.dtx_trellis.specs.Pairs.{coder_at}
+use Rattle.dtx_trellis.specs.Trellis.{coder_at}
 use Rattle.dtx_soft.specs.Coders.{AreLeast, IsSoftened, KeepsSyncs, coder_symbols, coders_distance, data_symbol}
-use Rattle.dtx_soft.specs.LeastPath.{least_levels, least_start}
+use Rattle.dtx_soft.specs.Least.{least_levels, least_start}
 use Rattle.dtx_soft.proofs.LeastPathLemmas.{least_levels_are, least_path_found}
 use Rattle.dtx_soft.specs.Paths.{cost, symbol_at}
 use Rattle.dtx_soft.specs.Softened.{least_cost, least_symbols, softened, softened_cost, softened_segment}

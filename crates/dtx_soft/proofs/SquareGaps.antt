@@ -7,8 +7,7 @@ use Rattle.std.proofs.lemmas.Int.{ints}
 use Rattle.std.proofs.lemmas.Bool.Decides.{nat_tests, Decides-int_eq, Decides-eqb}
 use Rattle.dtx_lists.proofs.Below.{at_below}
 use Rattle.dtx_soft.specs.Gaps.{AreGaps, nearer_level, nearer_square, row_of, tie_of, unit}
-use Rattle.dtx_soft.specs.Nearest.{IsTieBreak}
-use Rattle.dtx_soft.specs.Squares.{across_of, even_of, odd_of, seen}
+use Rattle.dtx_soft.specs.Nearest.{IsTieBreak, across_of, even_of, odd_of, seen}
 use Rattle.dtx_soft.proofs.SquareTests.{all_pass, formulas_pass, have_gaps, is_tied}
 use Rattle.dtx_soft.proofs.SquareTests.{level_by, levels_pass, lifted, passes, squares_pass}
 use Rattle.dtx_soft.proofs.WritesLemmas.{four}

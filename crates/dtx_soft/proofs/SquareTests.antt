@@ -6,7 +6,7 @@ use Rattle.std.specs.Ordering.{int_eq}
 use Rattle.dtx_lists.proofs.Below.{holds_below}
 use Rattle.dtx_soft.specs.Gaps.{unit}
 use Rattle.dtx_soft.specs.Paths.{squared, symbol_at}
-use Rattle.dtx_soft.specs.Squares.{across_of, even_of, odd_of, seen}
+use Rattle.dtx_soft.specs.Nearest.{across_of, even_of, odd_of, seen}
 
 abbrev pub lifted : ℤ → ℕ
 lifted x = nat_abs (pos 2048 +ℤ x)

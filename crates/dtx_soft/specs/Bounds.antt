@@ -1,5 +1,6 @@
 -- Bounds of scales, symbols and differences of costs, for numbers of 8 and of 16 bits.
-use Rattle.std.specs.Prelude.{ℕ, ℤ, pos, ◌≡◌, ◌+◌, ◌*◌, ◌≤◌, ◌+ℤ◌, ◌-ℤ◌, neg_ℤ, nat_abs}
+use Rattle.std.specs.Prelude.{ℕ, ℤ, pos, ◌≡◌, ◌+◌, ◌*◌, ◌≤◌, ◌+ℤ◌, ◌-ℤ◌, neg_ℤ, nat_abs, ◌<◌, ◌≤ℤ◌, List, [], length}
+use Rattle.std.specs.Prelude.{slice_index_or, get_or}
 use Rattle.dtx_soft.specs.declared.gaps.Gap.{Gap}
 use Rattle.dtx_soft.specs.declared.gaps.SquareGaps.{SquareGaps}
 use Rattle.dtx_soft.specs.declared.gaps.Units.{Units}
@@ -69,3 +70,18 @@ pub record IsBounded (b : Bounds) (gap : Gap ℤ) : Type 0 where
   pub odd : nat_abs gap.odd ≤ b.far + b.aside
   pub across : nat_abs gap.across ≤ b.far
   pub beside : nat_abs (gap.odd -ℤ (gap.even +ℤ gap.across)) ≤ b.far
+
+-- a symbol that is at most 28 off 0
+pub record IsNear (symbol : ℤ) : Type 0 where
+  pub from : pos 0 ≤ℤ (symbol +ℤ pos 28)
+  pub to : symbol ≤ℤ pos 28
+
+-- a scale and the lanes' symbols, so small that all differences fit bytes
+pub record FitBytes (scale : ℕ) (rounds : List (List ℤ)) : Type 0 where
+  pub some : 0 < scale
+  pub small : scale ≤ 4
+  pub near : (t n : ℕ) → t < length rounds → n < 16 → IsNear (slice_index_or (slice_index_or rounds t []) n (pos 0))
+
+-- each symbol is a signed byte
+abbrev pub AreSigned : List (List ℤ) → Type 0
+AreSigned segments = (i k : ℕ) → nat_abs (get_or (get_or segments i []) k (pos 0)) ≤ 128

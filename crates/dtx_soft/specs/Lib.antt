@@ -1,14 +1,9 @@
 pub mod Paths
 pub mod Least
-pub mod LeastPath
 pub mod Nearest
 pub mod Decoder
-pub mod Certificate
 pub mod Coders
 pub mod Softened
-pub mod Signed
 pub mod Gaps
-pub mod Near
-pub mod Squares
 pub mod Trace
 pub mod Bounds

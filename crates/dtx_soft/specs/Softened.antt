@@ -2,9 +2,9 @@
 use Rattle.std.specs.Prelude.{◌≡◌, ℕ, ℤ, pos, ◌<◌, ◌+◌, ◌-◌, ◌*◌, ◌/◌, nat_lt, if◌then◌else◌, List, [], length, map}
 use Rattle.std.specs.Prelude.{slice_index_or, sum}
 use Rattle.std.specs.List.{range_with_len}
-use Rattle.dtx_trellis.specs.Pairs.{coder_at}
+use Rattle.dtx_trellis.specs.Trellis.{coder_at}
 use Rattle.dtx_soft.specs.Coders.{coder_symbols}
-use Rattle.dtx_soft.specs.LeastPath.{least_levels}
+use Rattle.dtx_soft.specs.Least.{least_levels}
 use Rattle.dtx_soft.specs.Paths.{IsPath, cost, symbol_at}
 
 -- the symbols of coder e's least path, one in each round

@@ -2,7 +2,7 @@
 
 ghost use Rattle.std.specs.Prelude.{◌≡◌, ◌↔◌, ℕ, ◌+◌, ◌<◌, ◌≤◌, IsTrue, length, slice_index};
 ghost use Rattle.dtx_soft.specs.Paths.{IsPath, cost, next_state, squared, symbol_at};
-ghost use Rattle.dtx_soft.specs.Certificate.{AllowAllSteps, AllowsSteps, HasLeast, IsCertificate};
+ghost use Rattle.dtx_soft.specs.Least.{AllowAllSteps, AllowsSteps, HasLeast, IsCertificate};
 
 use crate::nearest::{LEVELS, squared_distance};
 use crate::walk::next_state;

@@ -6,7 +6,7 @@ ghost use Rattle.std.specs.Prelude.{FitsSigned, slice_index_or};
 ghost use Rattle.std.specs.Int.{w8};
 ghost use Rattle.dtx_soft.specs.Bounds.{AreUnits, AreWithin, Fits, IsBounded, IsReached, IsScale};
 ghost use Rattle.dtx_soft.specs.Gaps.{AreSigns, AreSums, AreWalked, IsStep, gap_of, gap_or, gaps_of, squares_of};
-ghost use Rattle.dtx_soft.specs.Squares.{IsSquares, across_of, even_of, odd_of, pair_gap};
+ghost use Rattle.dtx_soft.specs.Nearest.{IsSquares, across_of, even_of, odd_of, pair_gap};
 
 use crate::nearest::MAX_SCALE;
 use crate::width::Width;

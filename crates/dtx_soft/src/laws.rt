@@ -5,12 +5,11 @@ ghost use Rattle.std.specs.Prelude.{slice_index_or};
 ghost use Rattle.std.specs.List.{range_with_len};
 ghost use Rattle.dtx_trellis.specs.Trellis.{AreBits, State, level};
 ghost use Rattle.dtx_soft.specs.Paths.{IsPath, cost, symbol_at};
-ghost use Rattle.dtx_soft.specs.Least.{ArePotentials, IsLeast, NoneCostsLess};
-ghost use Rattle.dtx_soft.specs.Certificate.{IsCertificate};
+ghost use Rattle.dtx_soft.specs.Least.{ArePotentials, IsLeast, NoneCostsLess, IsCertificate, least_levels, least_path};
+ghost use Rattle.dtx_soft.specs.Least.{least_start};
 ghost use Rattle.dtx_soft.specs.Coders.{IsSoftened, coder_symbols, coders_distance, segments_distance};
-ghost use Rattle.dtx_soft.specs.Signed.{AreSigned};
+ghost use Rattle.dtx_soft.specs.Bounds.{AreSigned};
 ghost use Rattle.dtx_soft.specs.Softened.{IsOwn, softened, softened_cost};
-ghost use Rattle.dtx_soft.specs.LeastPath.{least_levels, least_path, least_start};
 
 use dtx_sizes::{CODERS, SEGMENT, SEGMENT_ROUNDS};
 

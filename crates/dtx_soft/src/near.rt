@@ -2,7 +2,7 @@
 
 ghost use Rattle.std.specs.Prelude.{◌≡◌, ◌↔◌, ℕ, pos, ◌<◌, ◌≤◌, IsTrue, [], length, slice_index, slice_index_or};
 ghost use Rattle.dtx_soft.specs.Gaps.{gap_at};
-ghost use Rattle.dtx_soft.specs.Near.{FitBytes, IsNear};
+ghost use Rattle.dtx_soft.specs.Bounds.{FitBytes, IsNear};
 
 use crate::gaps::{Gap, Gaps, LANES, lane, put_lane};
 

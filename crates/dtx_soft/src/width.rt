@@ -4,7 +4,7 @@ ghost use Rattle.std.specs.Prelude.{◌≡◌, ℤ, ◌≤◌, ◌+ℤ◌, ◌-�
 ghost use Rattle.std.specs.Int.{int_max, int_min};
 ghost use Rattle.dtx_soft.specs.Bounds.{AreBounds, Bounds, Fits, bytes, words};
 ghost use Rattle.dtx_soft.specs.Gaps.{SaysAbove};
-ghost use Rattle.dtx_soft.specs.Squares.{seen};
+ghost use Rattle.dtx_soft.specs.Nearest.{seen};
 
 /// A signed number. Within its bounds of scales and symbols all differences fit.
 pub(crate) trait Width: Copy + Drop {

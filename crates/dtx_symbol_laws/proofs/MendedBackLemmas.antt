@@ -24,12 +24,11 @@ use Rattle.dtx_receiver.specs.Runs.{runs}
 use Rattle.dtx_receiver.specs.declared.batch.Received.{Received}
 use Rattle.dtx_chain.proofs.AllBackLemmas.{corrected_bytes, run_back}
 use Rattle.dtx_chain.specs.Damage.{AreReceived, as_corrected, codeword_at, from_sync, numbers_in, packet_behind}
-use Rattle.dtx_chain.specs.Damage.{to_sync, word_in}
+use Rattle.dtx_chain.specs.Damage.{to_sync, word_in, ArePackets, as_received}
 use Rattle.dtx_chain.proofs.NumbersLemmas.{number_of}
 use Rattle.dtx_chain.proofs.ReceivedLemmas.{IsWhole, by_word, each_whole, runs_whole, all_whole as all_received_whole}
 use Rattle.dtx_chain.proofs.RunsLemmas.{by_run, middle_at}
 use Rattle.dtx_chain.proofs.SlightLemmas.{field_begins, one_run_left}
-use Rattle.dtx_chain.specs.Undamaged.{ArePackets, as_received}
 use Rattle.dtx_chain.proofs.WordsLemmas.{codeword_back, corrected_packet, own_codeword}
 use Rattle.dtx_engine.specs.Recipe.{meaning_of_file}
 use Rattle.dtx_forms.specs.Shapes.{segments}

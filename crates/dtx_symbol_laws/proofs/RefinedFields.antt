@@ -13,8 +13,7 @@ use Rattle.dtx_slice.specs.Unrolled.{bytes_back, level_groups}
 use Rattle.dtx_receiver.specs.Bytes.{bytes_in, data_count, groups_of, levels_from, levels_in}
 use Rattle.dtx_receiver.specs.Packets.{all_packets, run_packets}
 use Rattle.dtx_receiver.specs.Runs.{runs, tracked}
-use Rattle.dtx_acquire.specs.Acquired.{acquired}
-use Rattle.dtx_acquire.specs.Scaled.{decided, scaled_level}
+use Rattle.dtx_acquire.specs.Acquired.{acquired, decided, scaled_level}
 use Rattle.dtx_acquire.specs.Sent.{AreInFields, AreLevels, IsData}
 use Rattle.dtx_acquire.proofs.SentLemmas.{length_data, row_long}
 use Rattle.dtx_rounds.specs.Known.{known_bytes}

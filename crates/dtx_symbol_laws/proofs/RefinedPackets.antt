@@ -23,7 +23,7 @@ use Rattle.dtx_acquire.specs.Sent.{AreInFields}
 use Rattle.dtx_rounds.specs.Known.{known_word}
 use Rattle.dtx_rounds.specs.Rounds.{refined, rounds_of}
 use Rattle.dtx_rounds.proofs.KnownLemmas.{known_from, known_parts}
-use Rattle.dtx_symbol_laws.specs.RefinedPackets.{StayGood, received_as}
+use Rattle.dtx_symbol_laws.specs.RestoredFile.{StayGood, received_as}
 use Rattle.dtx_symbol_laws.proofs.RefinedFields.{fields_refined, packets_of_run}
 
 -- ---- the packets of a run by their numbers

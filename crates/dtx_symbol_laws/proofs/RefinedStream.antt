@@ -4,13 +4,12 @@ use Rattle.std.proofs.Common.{arith}
 use Rattle.std.proofs.lemmas.Bool.{cases_lt}
 use Rattle.dtx_laws.specs.Codeword.{IsCodeword}
 use Rattle.dtx_outer.specs.Inner.{IsComplete, word_at}
-use Rattle.dtx_coder.specs.Coded.{whole_groups}
-use Rattle.dtx_coder.specs.Stream.{a53}
+use Rattle.dtx_coder.specs.Stream.{whole_groups, a53}
 use Rattle.dtx_coder.proofs.BytesLemmas.{length-whole}
 use Rattle.dtx_receiver.specs.Bytes.{bytes_in}
 use Rattle.dtx_receiver.specs.Packets.{is_complete}
 use Rattle.dtx_receiver.proofs.CompleteLemmas.{complete_told}
-use Rattle.dtx_chain.specs.Undamaged.{ArePackets}
+use Rattle.dtx_chain.specs.Damage.{ArePackets}
 use Rattle.dtx_chain.proofs.LevelsLemmas.{bytes_are}
 use Rattle.dtx_chain.proofs.WordsLemmas.{own_codeword, whole_small, word_is}
 use Rattle.dtx_acquire.specs.Acquired.{acquired}

@@ -2,11 +2,10 @@
 use Rattle.std.proofs.Common.{◌≡◌, ℕ, ℤ, pos, ◌+◌, ◌-◌, ◌*◌, ◌/◌, ◌<◌, nat_lt, cond, All, Bool, true, false, Option}
 use Rattle.std.proofs.Common.{Some, None, List, [], ◌∷◌, length, map, take, drop, get_or, refl, ap, arith}
 use Rattle.std.proofs.lemmas.List.Elements.{All-get_or}
-use Rattle.dtx_trellis.specs.Trellis.{symbol_of}
-use Rattle.dtx_trellis.specs.Pairs.{coder_at}
+use Rattle.dtx_trellis.specs.Trellis.{symbol_of, coder_at}
 use Rattle.dtx_coder.proofs.CountsLemmas.{AreSegments, segments_map}
 use Rattle.dtx_soft.specs.Coders.{coder_symbols}
-use Rattle.dtx_soft.specs.LeastPath.{least_levels, least_start}
+use Rattle.dtx_soft.specs.Least.{least_levels, least_start}
 use Rattle.dtx_soft.proofs.LeastPathLemmas.{least_path_found}
 use Rattle.dtx_soft.specs.Paths.{IsPath, next_state, symbol_at}
 use Rattle.dtx_soft.specs.Softened.{least_symbols, softened, softened_segment, softened_symbol}

@@ -15,8 +15,7 @@ use Rattle.dtx_forms.specs.Shapes.{segments}
 use Rattle.dtx_forms.proofs.FilePacketsLemmas.{length-packets_of}
 use Rattle.dtx_recipes.specs.Soft.{count_from, field_sum, has_group, in_groups, place_at, soft_symbols, softening}
 use Rattle.dtx_jobs.proofs.StreamBackLemmas.{length-symbol_bytes, stream_read_back}
-use Rattle.dtx_recipes.specs.SymbolFile.{whole_segments}
-use Rattle.dtx_recipes.specs.Symbols.{symbol_bytes}
+use Rattle.dtx_recipes.specs.SymbolFile.{whole_segments, symbol_bytes}
 use Rattle.dtx_symbol_laws.specs.SoftFields.{kept_of, place_behind}
 use Rattle.dtx_symbol_laws.proofs.SoftFields.{count_at, each_field}
 use Rattle.dtx_symbol_laws.proofs.SoftFiles.{all_softened}

@@ -7,8 +7,7 @@ use Rattle.std.proofs.lemmas.Simd.{map-map}
 use Rattle.std.proofs.lemmas.List.{get_or-append_right, get_or-drop, get_or-map, get_or-take, length-drop}
 use Rattle.std.proofs.lemmas.List.{length-take-le}
 use Rattle.std.proofs.lemmas.List.FromFn.{fill_by_all, get_or-map-range_with_len, length-map-range_with_len}
-use Rattle.dtx_trellis.specs.Trellis.{AreBits, State, level, state_after, state_of, symbol_of}
-use Rattle.dtx_trellis.specs.Pairs.{groups, higher, lower}
+use Rattle.dtx_trellis.specs.Trellis.{AreBits, State, level, state_after, state_of, symbol_of, groups, higher, lower}
 use Rattle.dtx_trellis.specs.Groups.{level_at, levels_of}
 use Rattle.dtx_trellis.proofs.CodersLemmas.{length_higher, length_lower}
 use Rattle.dtx_trellis.proofs.GoesOnLemmas.{after_bits, level_goes_on, same_levels}
@@ -19,11 +18,10 @@ use Rattle.dtx_slice.specs.Unrolled.{symbol_place}
 use Rattle.dtx_frame.specs.Segments.{data_segment, segment_sync}
 use Rattle.dtx_frame.proofs.SymbolsLemmas.{length_sync}
 use Rattle.dtx_coder.proofs.BytesLemmas.{length-whole}
-use Rattle.dtx_coder.specs.Coded.{whole_groups}
+use Rattle.dtx_coder.specs.Stream.{whole_groups, a53, levels, segment, zero_states}
 use Rattle.dtx_coder.proofs.CountsLemmas.{length-a53}
 use Rattle.dtx_coder.proofs.LevelsLemmas.{length-levels}
 use Rattle.dtx_coder.proofs.SegmentsLemmas.{segment_is}
-use Rattle.dtx_coder.specs.Stream.{a53, levels, segment, zero_states}
 use Rattle.dtx_chain.proofs.PlacesLemmas.{data_at_place}
 use Rattle.dtx_soft.specs.Coders.{coder_symbols, data_symbol}
 use Rattle.dtx_soft.specs.Paths.{IsPath, symbol_at}

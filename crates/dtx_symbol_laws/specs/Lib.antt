@@ -1,5 +1,4 @@
 pub mod LevelledStream
-pub mod RefinedPackets
 pub mod RepeatedFiles
 pub mod RestoredFile
 pub mod SoftFields

@@ -10,7 +10,7 @@ use Rattle.dtx_meaning.specs.declared.status.Status.TheVariants.{TooLong}
 use Rattle.dtx_receiver.specs.Runs.{runs}
 use Rattle.dtx_repeat.specs.Lives.{lives, lives_so_far, repeated, repeated_log}
 use Rattle.dtx_sizes.specs.declared.limits.TheConstants.{MOST_SEGMENTS}
-use Rattle.dtx_recipes.specs.Lives.{lives_tally}
+use Rattle.dtx_recipes.specs.Life.{lives_tally}
 use Rattle.dtx_recipes.specs.Repeat.{repeated_numbers, sent_in}
 use Rattle.dtx_recipes.specs.SymbolFile.{file_segments, whole_segments}
 

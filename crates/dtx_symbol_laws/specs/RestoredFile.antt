@@ -1,5 +1,5 @@
 -- What `acquire` and `refine` answer and write for whole files (the profile's own).
-use Rattle.std.specs.Prelude.{ℕ, ℤ, List, length, take}
+use Rattle.std.specs.Prelude.{ℕ, ℤ, List, length, take, ◌≡◌, ◌*◌, ◌%◌, true, Some, slice_get}
 use Rattle.dtx_receiver.specs.Bytes.{bytes_in}
 use Rattle.dtx_acquire.specs.Acquired.{acquired, acquired_cost, acquired_runs}
 use Rattle.dtx_rounds.specs.Known.{known_count}
@@ -15,6 +15,9 @@ use Rattle.dtx_recipes.specs.Acquire.{acquired_numbers}
 use Rattle.dtx_recipes.specs.Refine.{before_last, refined_numbers}
 use Rattle.dtx_recipes.specs.Restoring.{Restoring}
 use Rattle.dtx_recipes.specs.SymbolFile.{symbols}
+use Rattle.dtx_outer.specs.Inner.{word_at}
+use Rattle.dtx_receiver.specs.Packets.{received_by}
+use Rattle.dtx_receiver.specs.declared.batch.Received.{Received}
 
 -- ---- both
 
@@ -59,3 +62,14 @@ refined_of scale rounds names file =
     (known_count (bytes_in (before_last scale rounds (symbols file))))
     (round_moved scale (heard_of (symbols file)) (before_last scale rounds (symbols file)))))
     (file_refined scale rounds file)
+
+-- Packet k of the bytes of a run, by this correction of its word: it isn't flagged. The bytes put right are those in
+-- which the word differs from the correction.
+abbrev pub received_as : List ℕ → ℕ → List ℕ → Received
+received_as bytes k code = received_by (187 * (k % 312)) (word_at 207 52 4 bytes k) (Some code)
+
+-- Each packet that isn't flagged stands at its place among others too, the same and not flagged. How many of its bytes
+-- were put right may differ.
+abbrev pub StayGood : (before now : List Received) → Type 0
+StayGood before now = (k : ℕ) (old : Received) → slice_get before k ≡ Some old → old.good ≡ true
+    → (new : Received) × (slice_get now k ≡ Some new) × (new.good ≡ true) × (new.packet ≡ old.packet)

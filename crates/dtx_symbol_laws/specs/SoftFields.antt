@@ -12,8 +12,7 @@ use Rattle.dtx_packets.specs.Packets.{packets_of, whole_packets}
 use Rattle.dtx_receiver.specs.Runs.{runs}
 use Rattle.dtx_sizes.specs.declared.limits.TheConstants.{MOST_SEGMENTS}
 use Rattle.dtx_recipes.specs.Soft.{groups_in, soft_numbers, soft_so_far, soft_symbols}
-use Rattle.dtx_recipes.specs.SymbolFile.{file_segments, whole_segments}
-use Rattle.dtx_recipes.specs.Symbols.{symbol_bytes}
+use Rattle.dtx_recipes.specs.SymbolFile.{file_segments, whole_segments, symbol_bytes}
 
 -- ---- fields
 

@@ -8,7 +8,7 @@ ghost use Rattle.dtx_receiver.specs.Bytes.{bytes_in};
 ghost use Rattle.dtx_receiver.specs.Intervals.{looks_at};
 ghost use Rattle.dtx_receiver.specs.Packets.{all_packets};
 ghost use Rattle.dtx_receiver.specs.Runs.{runs};
-ghost use Rattle.dtx_chain.specs.Undamaged.{ArePackets};
+ghost use Rattle.dtx_chain.specs.Damage.{ArePackets};
 ghost use Rattle.dtx_acquire.specs.Acquired.{acquired};
 ghost use Rattle.dtx_acquire.specs.Sent.{AreNear};
 ghost use Rattle.dtx_rounds.specs.Known.{known_word};
@@ -20,8 +20,7 @@ ghost use Rattle.dtx_forms.specs.Shapes as shapes;
 ghost use Rattle.dtx_recipes.specs.Giving.{no_sync_in};
 ghost use Rattle.dtx_recipes.specs.Refine.{refine_answer, refining, with_refiner};
 ghost use Rattle.dtx_recipes.specs.SymbolFile.{file_segments};
-ghost use Rattle.dtx_symbol_laws.specs.RefinedPackets.{StayGood, received_as};
-ghost use Rattle.dtx_symbol_laws.specs.RestoredFile.{file_refined, refined_of, restored_until};
+ghost use Rattle.dtx_symbol_laws.specs.RestoredFile.{StayGood, received_as, file_refined, refined_of, restored_until};
 
 use crate::acquire_laws::{a_stream_is_acquired, a_stream_is_acquired_behind_zeros};
 use dtx_acquire::laws::whole_fields_are_acquired;

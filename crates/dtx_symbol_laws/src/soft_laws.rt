@@ -14,8 +14,7 @@ ghost use Rattle.dtx_files.specs.Symbols.{segment_bytes};
 ghost use Rattle.dtx_forms.specs.Shapes as shapes;
 ghost use Rattle.dtx_recipes.specs.Soft.{field_sum, in_groups, place_at, soft_rest, soft_so_far, soft_symbols};
 ghost use Rattle.dtx_recipes.specs.Soft.{softening};
-ghost use Rattle.dtx_recipes.specs.SymbolFile.{file_segments, whole_segments};
-ghost use Rattle.dtx_recipes.specs.Symbols.{symbol_bytes};
+ghost use Rattle.dtx_recipes.specs.SymbolFile.{file_segments, whole_segments, symbol_bytes};
 ghost use Rattle.dtx_symbol_laws.specs.SoftFields.{copied_of, fields_of, kept_of, place_behind};
 ghost use Rattle.dtx_symbol_laws.specs.SoftFields.{softened_of, softened_until};
 

@@ -9,8 +9,7 @@ use Rattle.dtx_engine.specs.Recipe.{Recipe, first_refused, first_units, meaning,
 use Rattle.dtx_engine.specs.Recipe.{whole_units}
 use Rattle.dtx_engine.specs.declared.engine.Shape.{Shape}
 use Rattle.dtx_engine.specs.declared.piece.Ending.TheVariants.{Whole}
-use Rattle.dtx_recipes.specs.Adapt.{feeding}
-use Rattle.dtx_recipes.specs.Feed.{feed_bytes}
+use Rattle.dtx_recipes.specs.Adapt.{feeding, feed_bytes}
 use Rattle.dtx_forms.proofs.FilePacketsLemmas.{length-packets_of, long-packets_of}
 use Rattle.dtx_forms.specs.Shapes.{packets}
 use Rattle.dtx_meaning.proofs.MeaningLemmas.{carried_before, carried_then, part_of_carried}
@@ -26,11 +25,10 @@ use Rattle.dtx_packets.proofs.PacketLemmas.{packets_of-piece, whole_packets-piec
 use Rattle.dtx_packets.specs.Packets.{packets_of, whole_packets}
 use Rattle.dtx_plan.specs.declared.plan.NetPlan.{NetPlan}
 use Rattle.dtx_plan.specs.declared.plan.Plan.{Plan}
-use Rattle.dtx_words.specs.NetworkNames.{feed_name}
+use Rattle.dtx_words.specs.Names.{feed_name}
 use Rattle.dtx_top.specs.NetMeaning.{fed_meaning, is_done, network_meaning}
 use Rattle.dtx_top.specs.NetProgress.{HasPlayProgress, HasNetProgress, HasStreamProgress, feed_outputs}
-use Rattle.dtx_top.specs.NetProgress.{reception_outputs}
-use Rattle.dtx_top.specs.Replaying.{IsFeedWritten, fed_of}
+use Rattle.dtx_top.specs.NetProgress.{reception_outputs, IsFeedWritten, fed_of}
 use Rattle.dtx_top.proofs.Carrying.{is_done_is}
 use Rattle.dtx_top.proofs.NetProgresses.{fed_on, only_fed}
 

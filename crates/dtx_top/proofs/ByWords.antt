@@ -11,8 +11,7 @@ use Rattle.dtx_meaning.specs.Status.{IsOfInputs}
 use Rattle.dtx_meaning.specs.declared.status.Outcome.{Outcome}
 use Rattle.dtx_meaning.specs.declared.status.Status.{Status}
 use Rattle.dtx_meaning.specs.declared.status.Status.TheVariants.{Done, Memory}
-use Rattle.dtx_forms.specs.Answers.{IsKnown, IsKnownAt, Knows}
-use Rattle.dtx_forms.specs.OfWords.{IsOfWords, same_behind}
+use Rattle.dtx_forms.specs.Answers.{IsKnown, IsKnownAt, Knows, IsOfWords, same_behind}
 use Rattle.dtx_words.specs.Fitting.{command_of, fit_fields, fits}
 use Rattle.dtx_words.proofs.FittingLemmas.{command_fits}
 use Rattle.dtx_words.specs.Line.{finished}

@@ -5,7 +5,7 @@ use Rattle.std.specs.FinMap.{get}
 use Rattle.dtx_engine.specs.Recipe.{Recipe, meaning}
 use Rattle.dtx_engine.specs.declared.engine.Shape.{Shape}
 use Rattle.dtx_forms.specs.Damaged.{damaged_making}
-use Rattle.dtx_recipes.specs.PastEnd.{first_past}
+use Rattle.dtx_recipes.specs.Hurt.{first_past}
 use Rattle.dtx_recipes.specs.Receive.{receiving}
 use Rattle.dtx_forms.specs.Shapes.{segments}
 use Rattle.dtx_meaning.proofs.MeaningLemmas.{carried_refused}
@@ -16,7 +16,7 @@ use Rattle.dtx_meaning.specs.declared.status.Status.{Status}
 use Rattle.dtx_meaning.specs.declared.status.Status.TheVariants.{Done, ReadFault, WriteFault, Memory, OutOfAir}
 use Rattle.dtx_outside.specs.Shelf.{Files}
 use Rattle.dtx_plan.specs.declared.damage.Damage.{Damage}
-use Rattle.dtx_words.specs.NetworkNames.{received_name}
+use Rattle.dtx_words.specs.Names.{received_name}
 use Rattle.dtx_top.specs.NetMeaning.{is_done, received_past}
 
 -- the engine's making, the output's name and the input's are these

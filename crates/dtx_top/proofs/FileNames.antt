@@ -20,10 +20,9 @@ use Rattle.dtx_plan.specs.declared.plan.Plan.{Plan}
 use Rattle.dtx_plan.specs.declared.transmitter.Transmitter.{Transmitter}
 use Rattle.dtx_schedule.proofs.FilesLemmas.{AreApart, apart_of}
 use Rattle.dtx_schedule.specs.TransmitterFiles.{transmitter_names}
-use Rattle.dtx_words.specs.Names.{repeated, repeated_after}
-use Rattle.dtx_words.specs.NetworkNames.{feed_name, log_name, received_name, symbol_name}
+use Rattle.dtx_words.specs.Names.{repeated, repeated_after, feed_name, log_name, received_name, symbol_name}
 use Rattle.dtx_words.proofs.NetworkNamesLemmas.{logs_differ, symbols_differ, symbols_no_logs}
-use Rattle.dtx_top.specs.GivenNames.{is_given}
+use Rattle.dtx_top.specs.NetNames.{is_given}
 use Rattle.dtx_top.specs.Networks.{network_names, received_names, written_names}
 
 -- ---- which of them comes twice

@@ -26,8 +26,7 @@ use Rattle.dtx_meaning.specs.Meaning.{Meaning, Outputs, IsCarriedOut, refused, w
 use Rattle.dtx_meaning.specs.Status.{IsFault, done}
 use Rattle.dtx_meaning.specs.declared.status.Outcome.{Outcome}
 use Rattle.dtx_meaning.specs.declared.status.Status.TheVariants.{Done, Same}
-use Rattle.dtx_words.specs.Names.{repeated}
-use Rattle.dtx_words.specs.NetworkNames.{received_name}
+use Rattle.dtx_words.specs.Names.{repeated, received_name}
 use Rattle.dtx_forms.specs.PlanFile.{under_plan, under_said}
 use Rattle.dtx_forms.specs.Shapes.{packets, segments}
 use Rattle.dtx_recipes.specs.Adapt.{feeding}

@@ -19,7 +19,7 @@ use Rattle.dtx_words.specs.declared.rows.Command.TheVariants.{Net}
 use Rattle.dtx_top.specs.Ends.{IsOfCommand}
 use Rattle.dtx_top.specs.Lines.{name_kept, names_told, HasLine, HasPartLine, IsSomeLine, IsSomeName, IsToldLine}
 use Rattle.dtx_top.specs.NetAnswers.{ShowsNetwork}
-use Rattle.dtx_top.specs.Means.{means_of}
+use Rattle.dtx_top.specs.Jobs.{means_of}
 use Rattle.dtx_top.proofs.ByWords.{known_numbers}
 
 -- ---- how much of it

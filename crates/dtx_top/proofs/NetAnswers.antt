@@ -19,7 +19,7 @@ use Rattle.dtx_forms.proofs.AnswersLemmas.{knows_by, none_refused}
 use Rattle.dtx_forms.proofs.OfWordsLemmas.{refusal_of_input}
 use Rattle.dtx_forms.specs.PlanFile.{IsPlanRefusal}
 use Rattle.dtx_forms.specs.Damaged.{damaged_making}
-use Rattle.dtx_recipes.specs.PastEnd.{first_past}
+use Rattle.dtx_recipes.specs.Hurt.{first_past}
 use Rattle.dtx_recipes.proofs.AnswersLemmas.{synced_known}
 use Rattle.dtx_recipes.specs.Receive.{receiving}
 use Rattle.dtx_schedule.specs.PlayedSoFar.{IsOfFeed}

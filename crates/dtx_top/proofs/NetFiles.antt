@@ -4,7 +4,7 @@ use Rattle.std.specs.Prelude.{Option, Some, None, IfSome}
 use Rattle.std.specs.FinMap.{get}
 use Rattle.std.specs.List.{Contains}
 use Rattle.std.proofs.lemmas.List.Elements.{Contains-append_left, Contains-append_right}
-use Rattle.dtx_recipes.specs.Feed.{feed_bytes}
+use Rattle.dtx_recipes.specs.Adapt.{feed_bytes}
 use Rattle.dtx_meaning.specs.Meaning.{Outputs, IsNoOutput}
 use Rattle.dtx_net.specs.Steps.{Step}
 use Rattle.dtx_network.specs.Network.{steps_under}
@@ -16,7 +16,7 @@ use Rattle.dtx_plan.specs.declared.plan.ReceivePlan.{ReceivePlan}
 use Rattle.dtx_plan.specs.declared.transmitter.Transmitter.{Transmitter}
 use Rattle.dtx_schedule.proofs.FilesLemmas.{AreApart, files_with, get_past, has_pair}
 use Rattle.dtx_schedule.specs.TransmitterFiles.{Contents, files_of, played, played_outputs, transmitter_names}
-use Rattle.dtx_words.specs.NetworkNames.{feed_name, log_name, received_name, symbol_name}
+use Rattle.dtx_words.specs.Names.{feed_name, log_name, received_name, symbol_name}
 use Rattle.dtx_top.specs.Networks.{AreNetworkFiles, received_names, written_names}
 
 -- ---- names

@@ -18,7 +18,7 @@ use Rattle.dtx_plan.specs.declared.plan.NetPlan.{NetPlan}
 use Rattle.dtx_plan.specs.declared.plan.Plan as whole
 use Rattle.dtx_plan.specs.declared.refusal.PlanNo.{PlanNo}
 use Rattle.dtx_plan.specs.declared.transmitter.Transmitter.{Transmitter}
-use Rattle.dtx_schedule.specs.Progress.{Progress, begun_files}
+use Rattle.dtx_schedule.specs.PlayedSoFar.{Progress, begun_files}
 use Rattle.dtx_schedule.proofs.ProgressLemmas.{all_files, all_played, only_begun}
 use Rattle.dtx_schedule.specs.TransmitterFiles.{played, played_outputs}
 use Rattle.dtx_words.specs.Line.{finished}

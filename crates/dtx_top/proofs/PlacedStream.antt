@@ -10,7 +10,7 @@ use Rattle.dtx_galois.proofs.BytesLemmas.{AreBytes-from_places}
 use Rattle.dtx_galois.specs.Field.{AreBytes}
 use Rattle.dtx_laws.proofs.PartsLemmas.{byte_at}
 use Rattle.dtx_network.specs.Plans.{IsStream}
-use Rattle.dtx_packets.specs.Packet.{pid_of}
+use Rattle.dtx_packets.specs.Packets.{pid_of}
 use Rattle.dtx_recipes.specs.Place.{behind, placed}
 
 -- where there are as many packets as before, each as long as it was, and no byte grows

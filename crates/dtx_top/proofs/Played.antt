@@ -4,9 +4,9 @@ use Rattle.std.specs.Prelude.{Option, Some, None, IfSome, min}
 use Rattle.std.specs.FinMap.{get}
 use Rattle.std.proofs.lemmas.Bool.{cond-false}
 use Rattle.dtx_adapter.specs.Feed.{feed, placeholders}
-use Rattle.dtx_recipes.specs.Feed.{feed_bytes}
+use Rattle.dtx_recipes.specs.Adapt.{feed_bytes}
 use Rattle.dtx_packet_jobs.proofs.FeedFileLemmas.{packets_of-feed_bytes, whole_packets-feed_bytes}
-use Rattle.dtx_recipes.specs.PastEnd.{first_past}
+use Rattle.dtx_recipes.specs.Hurt.{first_past}
 use Rattle.dtx_meaning.proofs.MeaningLemmas.{carried_part, carried_then, part_before, part_of_carried, some_before}
 use Rattle.dtx_meaning.specs.Meaning.{Meaning, IsCarriedOut, with_outputs}
 use Rattle.dtx_meaning.specs.Status.{IsFault, ended}
@@ -27,11 +27,10 @@ use Rattle.dtx_schedule.specs.Played.{IsPlayFault}
 use Rattle.dtx_schedule.specs.Playout.{IsPlayout, SentBy, packets_given}
 use Rattle.dtx_schedule.specs.TransmitterFiles.{Contents, files_of, played, played_outputs, symbol_file}
 use Rattle.dtx_schedule.specs.declared.playout.Playout.{Playout}
-use Rattle.dtx_words.specs.NetworkNames.{feed_name, symbol_name}
+use Rattle.dtx_words.specs.Names.{feed_name, symbol_name}
 use Rattle.dtx_top.specs.NetMeaning.{played_and_received, playing, received_of, received_past, with_received}
-use Rattle.dtx_top.specs.NetProgress.{NetProgress, reception_outputs}
+use Rattle.dtx_top.specs.NetProgress.{NetProgress, reception_outputs, HasNumbers, IsFeedWritten}
 use Rattle.dtx_top.specs.Networks.{sent_file}
-use Rattle.dtx_top.specs.Replaying.{HasNumbers, IsFeedWritten}
 use Rattle.dtx_top.specs.declared.replaying.Fed.{Fed}
 use Rattle.dtx_top.proofs.Carrying.{fault_not_done}
 use Rattle.dtx_top.proofs.NetProgresses.{received_on}

@@ -3,7 +3,7 @@ use Rattle.std.proofs.Common.{◌≡◌, ℕ, List, length, arith}
 use Rattle.dtx_recipes.specs.SymbolFile as file
 use Rattle.dtx_recipes.specs.SymbolFile.{whole_segments}
 use Rattle.dtx_jobs.proofs.SymbolsBackLemmas.{segments_read_back, whole_segments_back}
-use Rattle.dtx_net.specs.Sent as sent
+use Rattle.dtx_net.specs.Lives as sent
 use Rattle.dtx_net.specs.Steps.{Step}
 use Rattle.dtx_plan.specs.declared.transmitter.Transmitter.{Transmitter}
 use Rattle.dtx_schedule.specs.TransmitterFiles.{symbol_file}

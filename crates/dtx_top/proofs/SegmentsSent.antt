@@ -8,8 +8,7 @@ use Rattle.std.proofs.lemmas.List.{length-append, length-drop}
 use Rattle.dtx_frame.specs.Segments.{field_sync}
 use Rattle.dtx_frame.proofs.SymbolsLemmas.{length_front}
 use Rattle.dtx_coder.specs.Along.{levels_since}
-use Rattle.dtx_coder.specs.Coded.{whole_groups}
-use Rattle.dtx_coder.specs.Stream.{four_segments, last_of}
+use Rattle.dtx_coder.specs.Stream.{whole_groups, four_segments, last_of}
 use Rattle.dtx_coder.proofs.BytesLemmas.{length-whole}
 use Rattle.dtx_coder.proofs.CountsLemmas.{AreSegments, segments_append, segments_map, segment_at}
 use Rattle.dtx_coder.proofs.LevelsLemmas.{length-levels_of}
@@ -17,7 +16,7 @@ use Rattle.dtx_coder.proofs.SegmentsLemmas.{length-segment}
 use Rattle.dtx_exciter.specs.Emission.{segments_since, sent_at, given_under, last_segments, emission}
 use Rattle.dtx_exciter.proofs.ForceLemmas.{force_first, force_stands}
 use Rattle.dtx_jobs.proofs.SymbolsBackLemmas.{length-segment_bytes}
-use Rattle.dtx_net.specs.Sent.{sent_segments}
+use Rattle.dtx_net.specs.Lives.{sent_segments}
 use Rattle.dtx_net.specs.Steps.{Step}
 use Rattle.dtx_plan.specs.declared.transmitter.Transmitter.{Transmitter}
 use Rattle.dtx_schedule.specs.TransmitterFiles.{symbol_file}

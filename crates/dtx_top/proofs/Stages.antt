@@ -12,8 +12,7 @@ use Rattle.dtx_forms.specs.Job.{Job}
 use Rattle.dtx_forms.specs.Stages.{IsStaged}
 use Rattle.dtx_words.specs.Line.{finished}
 use Rattle.dtx_words.specs.declared.rows.Command.{Command}
-use Rattle.dtx_top.specs.Jobs.{job_of}
-use Rattle.dtx_top.specs.Stages.{HasStagesOf}
+use Rattle.dtx_top.specs.Jobs.{job_of, HasStagesOf}
 use Rattle.dtx_top.proofs.Ending.{finished_failed}
 
 -- the stages of a job are those of its command

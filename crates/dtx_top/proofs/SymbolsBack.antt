@@ -5,8 +5,7 @@ use Rattle.std.specs.Prelude.{nat_le, is_ok, slice_index_or}
 use Rattle.std.specs.List.{range_with_len}
 use Rattle.dtx_frame.specs.Segments.{field_sync}
 use Rattle.dtx_coder.specs.Along.{levels_since}
-use Rattle.dtx_coder.specs.Coded.{whole_groups}
-use Rattle.dtx_coder.specs.Stream.{segment, four_segments, last_of}
+use Rattle.dtx_coder.specs.Stream.{whole_groups, segment, four_segments, last_of}
 use Rattle.dtx_exciter.specs.Emission.{segments_since, sent_by, sent_at, sent_before, behind_field_sync, given_under}
 use Rattle.dtx_exciter.specs.Emission.{last_segments, emission}
 use Rattle.dtx_exciter.specs.Order.{Order, orders}
@@ -14,8 +13,7 @@ use Rattle.dtx_exciter.specs.Packets.{readings, under}
 use Rattle.dtx_exciter.specs.Told.{served}
 use Rattle.dtx_jobs.proofs.StreamBackLemmas.{levels_small, segment_back, sync_back}
 use Rattle.dtx_jobs.proofs.SymbolsBackLemmas.{AreBack, EachBack, IsBack, each_at, each_drop, each_flat, each_range}
-use Rattle.dtx_net.specs.Lives.{lives_of}
-use Rattle.dtx_net.specs.Sent.{sent_segments}
+use Rattle.dtx_net.specs.Lives.{lives_of, sent_segments}
 use Rattle.dtx_net.specs.Steps.{Step}
 use Rattle.dtx_plan.specs.declared.transmitter.Transmitter.{Transmitter}
 

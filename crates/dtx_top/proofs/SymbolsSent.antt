@@ -5,7 +5,7 @@ use Rattle.std.specs.Prelude.{Some, min, slice_get}
 use Rattle.std.specs.List.{All, position_or_len}
 use Rattle.std.proofs.lemmas.Bool.{cases_lt, false≢true, le-ltb}
 use Rattle.std.proofs.lemmas.List.Elements.{All-head, All-tail}
-use Rattle.dtx_recipes.specs.PastEnd.{first_past}
+use Rattle.dtx_recipes.specs.Hurt.{first_past}
 use Rattle.dtx_net.specs.Steps.{Step, transmitter_place}
 use Rattle.dtx_net.proofs.PlaceOfLemmas.{place_found, place_missing}
 use Rattle.dtx_network.specs.Network.{steps_under}

@@ -4,12 +4,11 @@ use Rattle.std.specs.Prelude.{Option, Some, None, IfSome, is_some}
 use Rattle.std.proofs.lemmas.Bool.{and_parts}
 use Rattle.dtx_meaning.specs.declared.status.Status.TheVariants.{Done}
 use Rattle.dtx_outside.specs.Shelf.{Files}
-use Rattle.dtx_words.specs.Fitting.{command_of, fits}
+use Rattle.dtx_words.specs.Fitting.{command_of, fits, number_in, number_within}
 use Rattle.dtx_words.proofs.FittingLemmas.{command_fits}
-use Rattle.dtx_words.specs.Number.{number_in, number_within}
 use Rattle.dtx_words.specs.declared.rows.Command.{Command}
 use Rattle.dtx_words.specs.declared.rows.Command.TheVariants.{Trial}
-use Rattle.dtx_top.specs.Means.{means, means_of}
+use Rattle.dtx_top.specs.Jobs.{means, means_of}
 use Rattle.dtx_top.specs.Trial.{trial_made, trial_meaning, trial_of}
 use Rattle.dtx_forms.proofs.NumbersLemmas.{number_most, within_range}
 

@@ -1,7 +1,7 @@
 -- A trial is done: its feed is made, its events are within it, and its symbols are received.
 use Rattle.std.proofs.Common.{◌≡◌, ℕ, ◌≤◌, List, [], length, arith}
 use Rattle.std.proofs.lemmas.Bool.{cond-true}
-use Rattle.dtx_recipes.specs.PastEnd.{first_past}
+use Rattle.dtx_recipes.specs.Hurt.{first_past}
 use Rattle.dtx_meaning.specs.declared.status.Outcome.{Outcome}
 use Rattle.dtx_meaning.specs.declared.status.Status.TheVariants.{Done}
 use Rattle.dtx_top.specs.NetMeaning.{received_past}

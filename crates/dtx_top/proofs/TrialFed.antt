@@ -13,12 +13,11 @@ use Rattle.dtx_packet_jobs.proofs.PacketFileLemmas.{packets_of-bytes}
 use Rattle.dtx_forms.specs.Shapes.{packets}
 use Rattle.dtx_make.specs.Made.{made_packet, made_stream}
 use Rattle.dtx_make.proofs.StreamsLemmas.{length-made_stream}
-use Rattle.dtx_packets.specs.Packet.{sync_of}
-use Rattle.dtx_packets.specs.Packets.{packet_at, packets_of}
+use Rattle.dtx_packets.specs.Packets.{sync_of, packet_at, packets_of}
 use Rattle.dtx_plan.specs.declared.plan.Plan.{Plan}
 use Rattle.dtx_schedule.specs.Inside.{first_past_feed}
 use Rattle.dtx_recipes.specs.Adapt.{feeding}
-use Rattle.dtx_words.specs.NetworkNames.{feed_name}
+use Rattle.dtx_words.specs.Names.{feed_name}
 use Rattle.dtx_top.specs.NetMeaning.{is_done}
 use Rattle.dtx_top.specs.Trial.{trial_events}
 use Rattle.dtx_top.specs.WorkedNetwork.{made_packets}

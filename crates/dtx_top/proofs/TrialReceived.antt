@@ -25,19 +25,17 @@ use Rattle.dtx_exciter.specs.Emission.{emission, last_segments}
 use Rattle.dtx_exciter.proofs.EmittedLemmas.{emission_push}
 use Rattle.dtx_exciter.specs.Log.{emission_over}
 use Rattle.dtx_exciter.specs.Packets.{group_part, under}
-use Rattle.dtx_net.specs.Lives.{lives_from, lives_of}
+use Rattle.dtx_net.specs.Lives.{lives_from, lives_of, sent_segments, last_life}
 use Rattle.dtx_net.proofs.PlaceOfLemmas.{place_only}
-use Rattle.dtx_net.specs.Sent.{sent_segments}
 use Rattle.dtx_net.specs.Steps.{Step, actions_of, schedule, steps_of}
-use Rattle.dtx_net.specs.Lives.{last_life}
 use Rattle.dtx_chain.proofs.PlacesLemmas.{syncs_look}
 use Rattle.dtx_network.specs.Headline.{stretch_of}
 use Rattle.dtx_network.specs.Network.{Follows, Joined, steps_under}
 use Rattle.dtx_network.specs.Plans.{IsInTime, IsPlan}
 use Rattle.dtx_meaning.specs.Meaning.{Meaning}
 use Rattle.dtx_meaning.specs.declared.status.Status.TheVariants.{Done}
-use Rattle.dtx_words.specs.NetworkNames.{received_name}
-use Rattle.dtx_recipes.specs.PastEnd.{first_past}
+use Rattle.dtx_words.specs.Names.{received_name}
+use Rattle.dtx_recipes.specs.Hurt.{first_past}
 use Rattle.dtx_jobs.proofs.ReceivedLemmas.{all_damaged_received}
 use Rattle.dtx_recipes.specs.SymbolFile.{file_segments, whole_segments}
 use Rattle.dtx_schedule.specs.TransmitterFiles.{symbol_file}

@@ -27,8 +27,8 @@ use Rattle.dtx_packets.specs.Packets.{packets_of}
 use Rattle.dtx_plan.specs.Sound.{IsNet, IsSound, IsTransmitter}
 use Rattle.dtx_plan.specs.declared.plan.NetPlan.{NetPlan}
 use Rattle.dtx_plan.specs.declared.plan.Plan as whole
-use Rattle.dtx_words.specs.NetworkNames.{feed_name, trial_name}
-use Rattle.dtx_words.specs.Number.{number_in, number_within}
+use Rattle.dtx_words.specs.Names.{feed_name, trial_name}
+use Rattle.dtx_words.specs.Fitting.{number_in, number_within}
 use Rattle.dtx_words.specs.declared.rows.Command.TheVariants.{Make, Trial}
 use Rattle.dtx_top.specs.HeadlineOfFiles.{HeadlineOfFiles}
 use Rattle.dtx_top.specs.NetAnswers.{HasCount, IsOfReplay, count_of}

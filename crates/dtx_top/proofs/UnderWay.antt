@@ -17,7 +17,7 @@ use Rattle.dtx_plan.specs.declared.transmitter.Transmitter.{Transmitter}
 use Rattle.dtx_schedule.proofs.FilesLemmas.{AreApart, files_with, get_past, has_pair, with_outputs-told}
 use Rattle.dtx_schedule.proofs.ProgressLemmas.{all_files}
 use Rattle.dtx_schedule.specs.TransmitterFiles.{files_of, log_file, symbol_file}
-use Rattle.dtx_words.specs.NetworkNames.{log_name, received_name, symbol_name}
+use Rattle.dtx_words.specs.Names.{log_name, received_name, symbol_name}
 use Rattle.dtx_top.specs.NetProgress.{AreFirstParts, AreUnderWay, HasNetProgress, IsBetween, NetProgress}
 use Rattle.dtx_top.specs.NetProgress.{reception_outputs}
 use Rattle.dtx_top.proofs.Headlines.{apart_plan}

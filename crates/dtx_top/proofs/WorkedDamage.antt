@@ -8,9 +8,8 @@ use Rattle.std.proofs.lemmas.List.{ext_get_or, get_or-drop, get_or-map, get_or-t
 use Rattle.std.proofs.lemmas.List.{length-take, length-take-le}
 use Rattle.std.proofs.lemmas.List.FromFn.{get_or-map-range_with_len, length-map-range_with_len}
 use Rattle.dtx_lists.proofs.Range.{map-range_same}
-use Rattle.dtx_chain.specs.Damage.{AreReceived, damage_at, damaged_symbols, from_sync, to_sync}
+use Rattle.dtx_chain.specs.Damage.{AreReceived, damage_at, damaged_symbols, from_sync, to_sync, ArePackets}
 use Rattle.dtx_chain.proofs.NoDamageLemmas.{part_received, slight_before}
-use Rattle.dtx_chain.specs.Undamaged.{ArePackets}
 use Rattle.dtx_exciter.specs.Lockstep.{segment_place}
 use Rattle.dtx_frame.proofs.CountsLemmas.{sum_is, total, total_zeros}
 use Rattle.dtx_recipes.specs.SymbolFile.{segment_at, file_segments, symbol_of_byte, symbols}

@@ -22,18 +22,16 @@ use Rattle.dtx_make.specs.Hurt.{hurt}
 use Rattle.dtx_receiver.specs.Packets.{received}
 use Rattle.dtx_adapter.specs.Feed.{feed}
 use Rattle.dtx_exciter.specs.Lockstep.{locked_from}
-use Rattle.dtx_net.specs.Lives.{last_life}
+use Rattle.dtx_net.specs.Lives.{last_life, sent_segments}
 use Rattle.dtx_net.proofs.PlaceOfLemmas.{place_only}
-use Rattle.dtx_net.specs.Sent.{sent_segments}
 use Rattle.dtx_net.specs.Steps.{Step, transmitter_place}
-use Rattle.dtx_chain.specs.Undamaged.{ArePackets}
+use Rattle.dtx_chain.specs.Damage.{ArePackets}
 use Rattle.dtx_network.specs.GivesBack.{BeginsField, IsReceivedAlone, next_field}
 use Rattle.dtx_network.specs.Headline.{IsFirstListing, stretch_of}
 use Rattle.dtx_network.specs.Network.{AreOfOthers, Joined, steps_under}
-use Rattle.dtx_network.specs.Orders.{has_listing, has_order}
+use Rattle.dtx_network.specs.Orders.{has_listing, has_order, orders}
 use Rattle.dtx_network.specs.Plans.{IsInTime, IsListed, IsPlan, IsStream}
-use Rattle.dtx_network.specs.Presets.{orders}
-use Rattle.dtx_words.specs.NetworkNames.{received_name}
+use Rattle.dtx_words.specs.Names.{received_name}
 use Rattle.dtx_recipes.specs.SymbolFile as file
 use Rattle.dtx_schedule.specs.TransmitterFiles.{symbol_file}
 use Rattle.dtx_top.specs.HeadlineOfFiles.{HeadlineOfFiles}

@@ -9,9 +9,8 @@ use Rattle.dtx_meaning.specs.Status.{IsOfInputs, blame_of}
 use Rattle.dtx_meaning.specs.declared.status.Outcome.{Outcome}
 use Rattle.dtx_meaning.specs.declared.status.Status.{Status}
 use Rattle.dtx_meaning.specs.declared.status.Status.TheVariants.{Done, Usage, Absent, ReadFault, WriteFault, Memory}
-use Rattle.dtx_forms.specs.Answers.{IsKnown, Knows}
+use Rattle.dtx_forms.specs.Answers.{IsKnown, Knows, IsOfWords, same_in}
 use Rattle.dtx_forms.specs.Job.{Job}
-use Rattle.dtx_forms.specs.OfWords.{IsOfWords, same_in}
 use Rattle.dtx_words.specs.Names.{line_name, names_of, repeated}
 use Rattle.dtx_words.specs.Rows.{row_of}
 use Rattle.dtx_words.specs.declared.rows.Command.{Command}
@@ -19,9 +18,8 @@ use Rattle.dtx_words.specs.declared.rows.Command.TheVariants.{Net, Trial}
 use Rattle.dtx_words.specs.declared.rows.Field.{Field}
 use Rattle.dtx_words.specs.declared.rows.Field.TheVariants.{Input}
 use Rattle.dtx_top.specs.HeadlineOfFiles.{HasHeadline}
-use Rattle.dtx_top.specs.Jobs.{job_of}
+use Rattle.dtx_top.specs.Jobs.{job_of, means_of}
 use Rattle.dtx_top.specs.Lines.{IsSomeName, name_kept, names_told}
-use Rattle.dtx_top.specs.Means.{means_of}
 use Rattle.dtx_top.specs.NetAnswers.{IsOfNetWords, IsOfNetwork, ShowsNetwork}
 use Rattle.dtx_top.specs.NetProgress.{HasProgress}
 use Rattle.dtx_top.specs.Trial.{HasTrialHeadline, HasTrialProgress}

@@ -10,10 +10,10 @@ use Rattle.dtx_plan.specs.declared.plan.ReceivePlan.{ReceivePlan}
 use Rattle.dtx_plan.specs.declared.transmitter.Transmitter.{Transmitter}
 use Rattle.dtx_receiver.specs.Packets.{received}
 use Rattle.dtx_adapter.specs.Feed.{feed}
-use Rattle.dtx_net.specs.Sent as sent
+use Rattle.dtx_net.specs.Lives as sent
 use Rattle.dtx_network.specs.GivesBack.{GivesBack, GivesAllBack}
 use Rattle.dtx_network.specs.Network.{steps_under, Headline, Joined}
-use Rattle.dtx_words.specs.NetworkNames.{received_name}
+use Rattle.dtx_words.specs.Names.{received_name}
 use Rattle.dtx_recipes.specs.SymbolFile.{file_segments}
 use Rattle.dtx_schedule.specs.TransmitterFiles.{symbol_file}
 use Rattle.dtx_top.specs.Networks.{damaged_file, AreWholeFiles, OfNetwork}

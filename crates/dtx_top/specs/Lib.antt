@@ -1,15 +1,11 @@
 pub mod Ends
-pub mod GivenNames
 pub mod HeadlineOfFiles
 pub mod Jobs
 pub mod Lines
-pub mod Means
 pub mod NetAnswers
 pub mod NetMeaning
 pub mod NetNames
 pub mod NetProgress
 pub mod Networks
-pub mod Replaying
-pub mod Stages
 pub mod Trial
 pub mod WorkedNetwork

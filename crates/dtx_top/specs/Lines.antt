@@ -12,7 +12,7 @@ use Rattle.dtx_words.specs.Printed.{printed}
 use Rattle.dtx_words.specs.Rows.{row_of}
 use Rattle.dtx_words.specs.declared.rows.Command.{Command}
 use Rattle.dtx_words.specs.declared.rows.Command.TheVariants.{Net, Trial}
-use Rattle.dtx_top.specs.Means.{means_of}
+use Rattle.dtx_top.specs.Jobs.{means_of}
 use Rattle.dtx_top.specs.NetAnswers.{ShowsNetwork}
 use Rattle.dtx_top.specs.NetNames.{net_names, plan_word, told_name, IsUntoldName}
 use Rattle.dtx_top.specs.Trial.{trial_names}

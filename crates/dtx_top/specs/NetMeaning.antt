@@ -18,13 +18,12 @@ use Rattle.dtx_meaning.specs.declared.status.Outcome.{Outcome}
 use Rattle.dtx_meaning.specs.declared.status.Status.{Status}
 use Rattle.dtx_meaning.specs.declared.status.Status.TheVariants.{Done, Usage, Same, Absent, Plan, OutOfFeed, OutOfAir}
 use Rattle.dtx_engine.specs.Recipe.{meaning_of_file}
-use Rattle.dtx_words.specs.Names.{repeated}
-use Rattle.dtx_words.specs.NetworkNames.{feed_name, received_name}
+use Rattle.dtx_words.specs.Names.{repeated, feed_name, received_name}
 use Rattle.dtx_forms.specs.PlanFile.{under_plan}
 use Rattle.dtx_forms.specs.Shapes.{packets, segments}
 use Rattle.dtx_recipes.specs.Adapt.{feeding}
 use Rattle.dtx_forms.specs.Damaged.{damaged_making}
-use Rattle.dtx_recipes.specs.PastEnd.{first_past}
+use Rattle.dtx_recipes.specs.Hurt.{first_past}
 use Rattle.dtx_recipes.specs.Receive.{receiving}
 use Rattle.dtx_schedule.specs.Inside.{first_past_feed}
 use Rattle.dtx_schedule.specs.Playout.{packets_given}

@@ -1,7 +1,6 @@
 -- The names of a network's files, and the name in its line.
-use Rattle.std.specs.Prelude.{◌≡◌, ℕ, nat_eq, Bool, false, if◌then◌else◌, List, [], ◌∷◌, Option, Some, None, Result}
-use Rattle.std.specs.Prelude.{Ok}
-use Rattle.std.specs.Prelude.{Err, slice_index_or}
+use Rattle.std.specs.Prelude.{◌≡◌, ℕ, nat_eq, Bool, false, if◌then◌else◌, List, [], ◌∷◌, Option, Some, None, Result, Ok}
+use Rattle.std.specs.Prelude.{Err, slice_index_or, ◌||◌}
 use Rattle.std.specs.FinMap.{get}
 use Rattle.dtx_meaning.specs.declared.status.Status.{Status}
 use Rattle.dtx_meaning.specs.declared.status.Status.TheVariants.{Absent, Same}
@@ -11,8 +10,9 @@ use Rattle.dtx_plan.specs.declared.plan.NetPlan.{NetPlan}
 use Rattle.dtx_plan.specs.declared.plan.Plan as whole
 use Rattle.dtx_plan.specs.declared.plan.ReceivePlan.{ReceivePlan}
 use Rattle.dtx_plan.specs.declared.refusal.PlanNo.{PlanNo}
-use Rattle.dtx_words.specs.NetworkNames.{feed_name, symbol_name}
+use Rattle.dtx_words.specs.Names.{feed_name, symbol_name}
 use Rattle.dtx_top.specs.Networks.{network_names}
+use Rattle.std.specs.Str.{bytes_eq}
 
 -- ---- the names of a network
 
@@ -83,3 +83,7 @@ pub record IsUntoldName (word : List ℕ) (status : Status) (name : List ℕ) : 
   pub plan : status ≡ Absent 0 → name ≡ word
   pub feed : status ≡ Absent 2 → name ≡ feed_name
   pub symbols : status ≡ Absent 3 → (address : ℕ) × (name ≡ symbol_name address)
+
+-- a name is the plan's or the stream's
+abbrev pub is_given : List ℕ → List ℕ → List ℕ → Bool
+is_given plan stream name = bytes_eq plan name || bytes_eq stream name

@@ -1,6 +1,6 @@
 -- How far a network came: what stands in its files when it ends, whatever it answers (the profile's own).
-use Rattle.std.specs.Prelude.{◌≡◌, ◌≢◌, ◌⊎◌, ℕ, ◌+◌, ◌<◌, Option, Some, None, IsSomeAnd, IfSome, IfOk, List, []}
-use Rattle.std.specs.Prelude.{◌∷◌, ◌++◌, slice_get, take}
+use Rattle.std.specs.Prelude.{◌≡◌, ◌≢◌, ◌⊎◌, ℕ, ◌+◌, ◌<◌, Option, Some, None, IsSomeAnd, IfSome, IfOk, List, [], ◌∷◌}
+use Rattle.std.specs.Prelude.{◌++◌, slice_get, take, All, length, slice_index}
 use Rattle.std.specs.FinMap.{get}
 use Rattle.dtx_engine.specs.Recipe.{meaning_of_file}
 use Rattle.dtx_forms.specs.Shapes.{packets}
@@ -16,11 +16,15 @@ use Rattle.dtx_plan.specs.declared.plan.NetPlan.{NetPlan}
 use Rattle.dtx_plan.specs.declared.plan.Plan as whole
 use Rattle.dtx_plan.specs.declared.plan.ReceivePlan.{ReceivePlan}
 use Rattle.dtx_plan.specs.declared.transmitter.Transmitter.{Transmitter}
-use Rattle.dtx_recipes.specs.Adapt.{feeding}
-use Rattle.dtx_schedule.specs.Progress.{IsComplete, Progress, begun_files}
+use Rattle.dtx_recipes.specs.Adapt.{feeding, feed_bytes}
+use Rattle.dtx_schedule.specs.PlayedSoFar.{IsComplete, Progress, begun_files}
 use Rattle.dtx_schedule.specs.TransmitterFiles.{log_file, symbol_file}
-use Rattle.dtx_words.specs.NetworkNames.{feed_name, log_name, symbol_name}
+use Rattle.dtx_words.specs.Names.{feed_name, log_name, symbol_name}
 use Rattle.dtx_top.specs.NetMeaning.{received_of}
+use Rattle.dtx_adapter.specs.Feed.{placeholders}
+use Rattle.dtx_meaning.specs.declared.status.Outcome.{Outcome}
+use Rattle.dtx_plan.specs.declared.plan.Plan.{Plan}
+use Rattle.dtx_top.specs.declared.replaying.Fed.{Fed}
 
 -- these are some of the first outputs, each with a prefix of its bytes
 abbrev pub AreFirstParts : Outputs → Outputs → Type 0
@@ -103,3 +107,18 @@ HasFileProgress name status held now =
 abbrev pub HasProgress : List (List ℕ) → Files → Status → Option Files → Type 0
 HasProgress (verb ∷ plan ∷ []) held status now = HasFileProgress plan status held now
 HasProgress words held status now = Unit {0}
+
+-- the first two numbers of an adapter's line are those of its feed
+abbrev pub fed_of : Outcome → Fed
+fed_of outcome = record { packets = slice_index outcome.numbers 0; filled = slice_index outcome.numbers 1 }
+
+-- these are the numbers of the stream's feed: its packets, and the placeholders filled
+pub record HasNumbers (stream : List (List ℕ)) (fed : Fed) : Type 0 where
+  pub packets : fed.packets ≡ length stream
+  pub filled : fed.filled ≡ placeholders stream
+
+-- the feed of a stream stands in its file, and these are its numbers
+pub record IsFeedWritten (plan : Plan) (stream : List (List ℕ)) (fed : Fed) (held : Files) : Type 0 where
+  pub long : All (λ packet. length packet ≡ 188) stream
+  pub numbers : HasNumbers stream fed
+  pub feed : get held feed_name ≡ Some (feed_bytes plan stream)

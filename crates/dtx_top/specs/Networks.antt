@@ -4,7 +4,7 @@ use Rattle.std.specs.FinMap.{get}
 use Rattle.std.specs.List.{Contains}
 use Rattle.std.specs.Option.{option_map_or}
 use Rattle.std.specs.Result.{IsOkAnd}
-use Rattle.dtx_recipes.specs.Feed.{feed_bytes}
+use Rattle.dtx_recipes.specs.Adapt.{feed_bytes}
 use Rattle.dtx_recipes.specs.Receive.{received_bytes}
 use Rattle.dtx_make.specs.Hurt.{hurt}
 use Rattle.dtx_net.specs.Steps.{transmitter_place}
@@ -15,7 +15,7 @@ use Rattle.dtx_plan.specs.declared.plan.NetPlan.{NetPlan}
 use Rattle.dtx_plan.specs.declared.plan.Plan.{Plan}
 use Rattle.dtx_plan.specs.declared.plan.ReceivePlan.{ReceivePlan}
 use Rattle.dtx_schedule.specs.TransmitterFiles.{symbol_file, log_file, transmitter_names}
-use Rattle.dtx_words.specs.NetworkNames.{feed_name, log_name, received_name, symbol_name}
+use Rattle.dtx_words.specs.Names.{feed_name, log_name, received_name, symbol_name}
 
 -- ---- names
 

@@ -17,8 +17,8 @@ use Rattle.dtx_plan.specs.declared.event.Event.TheVariants.{Foreign, Send}
 use Rattle.dtx_plan.specs.declared.plan.NetPlan.{NetPlan}
 use Rattle.dtx_plan.specs.declared.plan.Plan as whole
 use Rattle.dtx_plan.specs.declared.transmitter.Transmitter.{Transmitter}
-use Rattle.dtx_words.specs.NetworkNames.{feed_name, symbol_name, trial_name}
-use Rattle.dtx_words.specs.Number.{number_in, number_within}
+use Rattle.dtx_words.specs.Names.{feed_name, symbol_name, trial_name}
+use Rattle.dtx_words.specs.Fitting.{number_in, number_within}
 use Rattle.dtx_words.specs.declared.rows.Command.TheVariants.{Trial}
 use Rattle.dtx_words.specs.declared.rows.Field.TheVariants.{Number, Within}
 use Rattle.dtx_top.specs.HeadlineOfFiles.{HeadlineOfFiles}

@@ -6,16 +6,14 @@ use Rattle.std.specs.Prelude.{slice_index_or}
 use Rattle.std.specs.List.{range_with_len}
 use Rattle.std.specs.Result.{IsOkAnd}
 use Rattle.dtx_adapter.specs.Feed.{feed}
-use Rattle.dtx_chain.specs.Damage.{numbers_in}
-use Rattle.dtx_chain.specs.Undamaged.{as_received}
+use Rattle.dtx_chain.specs.Damage.{numbers_in, as_received}
 use Rattle.dtx_recipes.specs.SymbolFile.{file_segments}
 use Rattle.dtx_make.specs.Made.{made_packet}
-use Rattle.dtx_net.specs.Sent.{lines_of}
+use Rattle.dtx_net.specs.Lives.{lines_of}
 use Rattle.dtx_network.specs.GivesBack.{BeginsField, IsReceivedAlone, IsAllBack, next_field, to_field}
 use Rattle.dtx_network.specs.Network.{steps_under, Joined, Follows, AreApart}
-use Rattle.dtx_network.specs.Orders.{has_order}
+use Rattle.dtx_network.specs.Orders.{has_order, preset_at}
 use Rattle.dtx_network.specs.Plans.{IsInTime}
-use Rattle.dtx_network.specs.Presets.{preset_at}
 use Rattle.dtx_packets.specs.Packets.{packets_of}
 use Rattle.dtx_plan.specs.Plan.{plan_of}
 use Rattle.dtx_plan.specs.declared.damage.Damage.{Damage}

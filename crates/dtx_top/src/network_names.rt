@@ -4,10 +4,9 @@ ghost use Rattle.std.specs.Prelude.{◌≡◌, ◌<◌, ◌≤◌, ◌^◌, ◌�
 ghost use Rattle.std.specs.Option.{option_map};
 ghost use Rattle.dtx_plan.specs.Sound.{IsNet, IsSound};
 ghost use Rattle.dtx_schedule.specs.TransmitterFiles.{transmitter_names};
-ghost use Rattle.dtx_words.specs.Names.{repeated};
-ghost use Rattle.dtx_words.specs.NetworkNames.{feed_name, log_name, symbol_name};
+ghost use Rattle.dtx_words.specs.Names.{repeated, feed_name, log_name, symbol_name};
 ghost use Rattle.dtx_top.specs.Networks.{network_names, received_names};
-ghost use Rattle.dtx_top.specs.GivenNames.{is_given};
+ghost use Rattle.dtx_top.specs.NetNames.{is_given};
 
 use crate::net_command::STREAM_NAME;
 use arrayvec::ArrayString;

@@ -1,7 +1,7 @@
 // Performs the command that the words fit, but doesn't print its line.
 ghost use Rattle.std.specs.Prelude.{◌≡◌, Some};
 ghost use Rattle.dtx_top.specs.Ends.{IsCommandPerformed};
-ghost use Rattle.dtx_top.specs.Stages.{HasStagesOf};
+ghost use Rattle.dtx_top.specs.Jobs.{HasStagesOf};
 
 use crate::net_command::{NetOutcome, net};
 use crate::trial_command::trial;

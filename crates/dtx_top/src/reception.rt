@@ -3,7 +3,7 @@ ghost use Rattle.std.specs.Prelude.{◌≡◌, [], ◌∷◌, ℕ, List, Some, I
 ghost use Rattle.std.specs.FinMap as files;
 ghost use Rattle.dtx_engine.specs.Recipe.{meaning};
 ghost use Rattle.dtx_forms.specs.Damaged.{damaged_making};
-ghost use Rattle.dtx_recipes.specs.PastEnd as past;
+ghost use Rattle.dtx_recipes.specs.Hurt as past;
 ghost use Rattle.dtx_recipes.specs.Receive.{receiving};
 ghost use Rattle.dtx_forms.specs.Shapes as shapes;
 ghost use Rattle.dtx_meaning.specs.Meaning.{IsCarriedOut};
@@ -11,7 +11,7 @@ ghost use Rattle.dtx_meaning.specs.Status.{blame_of};
 ghost use Rattle.dtx_outside.specs.Counts.{HasGone};
 ghost use Rattle.dtx_outside.specs.Shelf.{Files};
 ghost use Rattle.dtx_plan.specs.Sound.{AreDamages};
-ghost use Rattle.dtx_words.specs.NetworkNames.{received_name, symbol_name};
+ghost use Rattle.dtx_words.specs.Names.{received_name, symbol_name};
 ghost use Rattle.dtx_top.specs.NetAnswers.{HasCount, IsOfReplay};
 ghost use Rattle.dtx_top.specs.NetMeaning.{received_past};
 

@@ -14,11 +14,10 @@ ghost use Rattle.dtx_recipes.specs.Adapt.{feeding};
 ghost use Rattle.dtx_schedule.specs.Inside as inside;
 ghost use Rattle.dtx_schedule.specs.Playout.{IsPlayout};
 ghost use Rattle.dtx_schedule.specs.TransmitterFiles.{played_outputs};
-ghost use Rattle.dtx_words.specs.NetworkNames.{feed_name};
+ghost use Rattle.dtx_words.specs.Names.{feed_name};
 ghost use Rattle.dtx_top.specs.NetAnswers.{HasCount, IsOfReplay, count_of};
 ghost use Rattle.dtx_top.specs.NetMeaning as means;
-ghost use Rattle.dtx_top.specs.NetProgress.{HasPlayProgress, HasStreamProgress};
-ghost use Rattle.dtx_top.specs.Replaying.{HasNumbers, IsFeedWritten, fed_of};
+ghost use Rattle.dtx_top.specs.NetProgress.{HasPlayProgress, HasStreamProgress, HasNumbers, IsFeedWritten, fed_of};
 
 use crate::reception::receive_sent;
 use dtx_engine::{Input, carry_to_one};

@@ -6,8 +6,7 @@ ghost use Rattle.dtx_words.specs.Fitting.{command_of};
 ghost use Rattle.dtx_words.specs.Names.{line_name};
 ghost use Rattle.dtx_top.specs.Ends.{HasEnded, HasHeadlineOf, HasProgressOf, IsAllDone, IsByWords};
 ghost use Rattle.dtx_top.specs.Lines.{name_kept, HasLine, IsSomeLine, IsToldLine};
-ghost use Rattle.dtx_top.specs.Means.{means};
-ghost use Rattle.dtx_top.specs.Stages.{HasStagesOf};
+ghost use Rattle.dtx_top.specs.Jobs.{means, HasStagesOf};
 ghost use Rattle.dtx_top.specs.Trial.{trial_names};
 
 use crate::net_command::NetOutcome;

@@ -2,14 +2,13 @@
 ghost use Rattle.std.specs.Prelude.{◌≡◌, ◌≤◌, ℕ, IfSome, Some, false};
 ghost use Rattle.std.specs.FinMap as files;
 ghost use Rattle.std.specs.Option.{option_and};
-ghost use Rattle.dtx_forms.specs.Answers.{IsKnown};
-ghost use Rattle.dtx_forms.specs.OfWords.{IsOfWords, same_in};
+ghost use Rattle.dtx_forms.specs.Answers.{IsKnown, IsOfWords, same_in};
 ghost use Rattle.dtx_make.specs.Made.{made_stream};
 ghost use Rattle.dtx_meaning.specs.Meaning.{IsCarriedOut};
 ghost use Rattle.dtx_meaning.specs.Status.{IsOfInputs, blame_of};
 ghost use Rattle.dtx_outside.specs.Counts.{HasGone};
 ghost use Rattle.dtx_outside.specs.Shelf.{Files};
-ghost use Rattle.dtx_words.specs.NetworkNames.{trial_name};
+ghost use Rattle.dtx_words.specs.Names.{trial_name};
 ghost use Rattle.dtx_words.specs.declared.rows.Command.TheVariants as command;
 ghost use Rattle.dtx_top.specs.NetProgress.{HasNetProgress};
 ghost use Rattle.dtx_top.specs.Trial as trials;

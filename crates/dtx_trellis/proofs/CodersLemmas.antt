@@ -1,7 +1,7 @@
 -- Which coder stands where.
 use Rattle.std.proofs.Common.{◌≡◌, ℕ, ◌+◌, ◌-◌, ◌*◌, ◌/◌, ◌%◌, ◌^◌, ◌<◌, List, length, get_or, sym, ap, ◌∙◌, arith}
 use Rattle.std.proofs.lemmas.List.FromFn.{get_or-map-range_with_len, length-map-range_with_len}
-use Rattle.dtx_trellis.specs.Pairs.{groups, group_place, byte_place, pair_in, pair_at, coder_at, higher, lower}
+use Rattle.dtx_trellis.specs.Trellis.{groups, group_place, byte_place, pair_in, pair_at, coder_at, higher, lower}
 
 pub coder_is : (s r p : ℕ) → p < 12 → coder_at s (12 * r + p) ≡ (p + 4 * ((s + r / 69) % 3)) % 12
 unfolding coder_at

@@ -6,8 +6,8 @@ use Rattle.std.proofs.lemmas.List.{get_or_append_left, get_or-append_right, leng
 use Rattle.std.proofs.lemmas.List.FromFn.{get_or-map-range_with_len}
 use Rattle.dtx_lists.proofs.Range.{map-range_same}
 use Rattle.dtx_lists.proofs.RangeParts.{map-range_parts}
-use Rattle.dtx_trellis.specs.Trellis.{AreBits, State, level, state_after, state_of, number_of}
-use Rattle.dtx_trellis.specs.Pairs.{groups, group_place, byte_place, pair_in, pair_at, coder_at, higher, lower}
+use Rattle.dtx_trellis.specs.Trellis.{AreBits, State, level, state_after, state_of, number_of, groups, group_place}
+use Rattle.dtx_trellis.specs.Trellis.{byte_place, pair_in, pair_at, coder_at, higher, lower}
 use Rattle.dtx_trellis.specs.Groups.{coder_after, level_at, levels_of, states_after}
 use Rattle.dtx_trellis.proofs.CodersLemmas.{coder_small, length_higher, length_lower}
 use Rattle.dtx_trellis.proofs.RoundsLemmas.{bits_of, coder_bits}

@@ -2,8 +2,8 @@
 use Rattle.std.proofs.Common.{◌≡◌, ◌≢◌, Bool, inl, inr, ℕ, ◌-◌, ◌+◌, ◌*◌, ◌/◌, ◌%◌, ◌<◌, ◌≤◌, ◌↔◌, IsTrue, ℤ, pos, List}
 use Rattle.std.proofs.Common.{length, get_or, sym, ap, ap₂, ◌∙◌, subst, arith}
 use Rattle.std.proofs.lemmas.Bool.{cases_lt, cond-true, cond_both, false≢true, lt-ltb}
-use Rattle.dtx_trellis.specs.Trellis.{AreBits, level_of, next_of, number_of, state_of, symbol_of}
-use Rattle.dtx_trellis.specs.Pairs.{byte_place, pair_in, coder_at}
+use Rattle.dtx_trellis.specs.Trellis.{AreBits, level_of, next_of, number_of, state_of, symbol_of, byte_place, pair_in}
+use Rattle.dtx_trellis.specs.Trellis.{coder_at}
 use Rattle.dtx_trellis.specs.Groups.{AreSent, coder_after, level_at, sent_place}
 use Rattle.dtx_trellis.specs.Lanes.{coder_turned, turn, AreNibbles, AreReady, HoldsPairs, HoldsStates, IsMovedOn}
 use Rattle.dtx_trellis.specs.Lanes.{StandsAt, behind_both, came_from, lane_behind, level_told, pair_taken, place_behind}

@@ -1,7 +1,7 @@
 -- A round of the twelve coders, by the sums.
 use Rattle.std.proofs.Common.{◌≡◌, ℕ, ◌+◌, ◌*◌, ◌/◌, ◌%◌, ◌<◌, ◌≤◌, List, length, get_or, refl, arith}
-use Rattle.dtx_trellis.specs.Trellis.{AreBits, state_after, level_of, next_of, state_of}
-use Rattle.dtx_trellis.specs.Pairs.{groups, byte_place, pair_in, coder_at, higher, lower}
+use Rattle.dtx_trellis.specs.Trellis.{AreBits, state_after, level_of, next_of, state_of, groups, byte_place, pair_in}
+use Rattle.dtx_trellis.specs.Trellis.{coder_at, higher, lower}
 use Rattle.dtx_trellis.specs.Groups.{level_at, coder_after}
 use Rattle.dtx_trellis.proofs.StepsLemmas.{state_step, level_step}
 use Rattle.dtx_trellis.proofs.GoesOnLemmas.{after_bits}

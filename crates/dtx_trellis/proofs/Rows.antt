@@ -1,7 +1,7 @@
 -- The definitions at worked places: the tables of the coder, of its bytes and its bits.
 use Rattle.std.proofs.Common.{◌≡◌, ℕ, ◌+◌, ◌*◌, ◌/◌, ◌%◌, [], ◌∷◌, map, replicate, refl, ap, arith}
 use Rattle.dtx_trellis.specs.Trellis.{level, z2, z0, alternate, level_of, next_of, state_after, state_of, number_of}
-use Rattle.dtx_trellis.specs.Pairs.{groups, group_place, byte_place, coder_at, pair_in, pair_at, higher, lower}
+use Rattle.dtx_trellis.specs.Trellis.{groups, group_place, byte_place, coder_at, pair_in, pair_at, higher, lower}
 use Rattle.dtx_trellis.specs.Groups.{coder_after, level_at}
 
 -- the first symbols of segments 0 to 3 of a group at place 0, and of one at place 4

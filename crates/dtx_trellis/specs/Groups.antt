@@ -3,8 +3,8 @@
 use Rattle.std.specs.Prelude.{ℕ, ◌≡◌, ◌+◌, ◌*◌, ◌/◌, ◌<◌, ℤ, pos, List, map, slice_index, slice_index_or}
 use Rattle.std.specs.List.{range_with_len}
 use Rattle.dtx_sizes.specs.declared.segments.TheConstants.{CODERS, GROUP_LEVELS, ROUNDS, SEGMENT_LEVELS, SEGMENT_SYNC}
-use Rattle.dtx_trellis.specs.Trellis.{State, level, state_after, state_of, symbol_of, number_of}
-use Rattle.dtx_trellis.specs.Pairs.{groups, higher, lower, coder_at}
+use Rattle.dtx_trellis.specs.Trellis.{State, level, state_after, state_of, symbol_of, number_of, groups, higher, lower}
+use Rattle.dtx_trellis.specs.Trellis.{coder_at}
 
 -- the state of coder e after t pairs
 unfoldable pub coder_after : ℕ → List ℕ → List ℕ → ℕ → ℕ → State

@@ -5,8 +5,7 @@ use Rattle.std.specs.Prelude.{length, slice_index}
 use Rattle.dtx_sizes.specs.declared.fields.TheConstants.{FIELD_PACKETS}
 use Rattle.dtx_sizes.specs.declared.segments.TheConstants.{CODERS, GROUP_BYTES, ROUNDS, SEGMENT_ROUNDS, SEGMENT_SYNC}
 use Rattle.dtx_trellis.specs.declared.lanes.TheConstants.{LANES}
-use Rattle.dtx_trellis.specs.Trellis.{State, next_of, number_of, state_of}
-use Rattle.dtx_trellis.specs.Pairs.{byte_place, pair_in}
+use Rattle.dtx_trellis.specs.Trellis.{State, next_of, number_of, state_of, byte_place, pair_in}
 use Rattle.dtx_trellis.specs.Groups.{AreSent, coder_after, sent_place}
 
 -- the coder at place p

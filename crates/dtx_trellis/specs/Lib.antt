@@ -1,4 +1,3 @@
-pub mod Pairs
 pub mod Trellis
 pub mod Groups
 pub mod Lanes

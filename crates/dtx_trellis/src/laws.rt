@@ -4,7 +4,7 @@
 ghost use Rattle.std.specs.Prelude.{◌≡◌, ℕ, ◌+◌, ◌*◌, ◌/◌, ◌%◌, ◌<◌, ◌≤◌, ◌++◌, List, [], ◌∷◌, length, map, replicate};
 ghost use Rattle.std.specs.Prelude.{slice_index};
 ghost use Rattle.dtx_trellis.specs.Trellis.{State, AreBits, level, level_of, next_of, number_of, state_after, state_of};
-ghost use Rattle.dtx_trellis.specs.Pairs.{byte_place, coder_at, group_place, higher, lower, pair_in};
+ghost use Rattle.dtx_trellis.specs.Trellis.{byte_place, coder_at, group_place, higher, lower, pair_in};
 ghost use Rattle.dtx_trellis.specs.Groups.{coder_after, level_at, levels_of, states_after};
 
 use dtx_sizes::GROUP_BYTES;

@@ -11,8 +11,7 @@ use Rattle.std.proofs.lemmas.List.{append-nil, take_all}
 use Rattle.std.proofs.lemmas.List.Folds.{flat_map-map}
 use Rattle.dtx_adapter.specs.Feed.{fed_packet, feed, feed_to, ops_at}
 use Rattle.dtx_adapter.proofs.FeedsLemmas.{length-feed}
-use Rattle.dtx_chain.specs.Damage.{numbers_in}
-use Rattle.dtx_chain.specs.Undamaged.{ArePackets, as_received}
+use Rattle.dtx_chain.specs.Damage.{numbers_in, ArePackets, as_received}
 use Rattle.dtx_coder.specs.Stream.{a53}
 use Rattle.dtx_exciter.specs.Emission.{emission}
 use Rattle.dtx_exciter.specs.Log.{emission_over, life_lines, log}
@@ -22,16 +21,14 @@ use Rattle.dtx_make.proofs.EntriesLemmas.{entry_at_nothing}
 use Rattle.dtx_make.specs.Hurt.{hurt}
 use Rattle.dtx_make.proofs.LaidBytesLemmas.{laid_none}
 use Rattle.dtx_make.specs.Made.{made_stream}
-use Rattle.dtx_net.specs.Lives.{lives_of}
+use Rattle.dtx_net.specs.Lives.{lives_of, lines_of, sent_segments}
 use Rattle.dtx_net.proofs.PlaceOfLemmas.{place_only}
-use Rattle.dtx_net.specs.Sent.{lines_of, sent_segments}
 use Rattle.dtx_net.specs.Steps.{Step}
 use Rattle.dtx_network.specs.GivesBack.{BeginsField, GivesAllBack, IsAllBack, IsReceivedAlone}
 use Rattle.dtx_network.specs.Headline.{HaveNoMark, IsFedAnew, IsFirstListing, stretch_of}
 use Rattle.dtx_network.specs.Network.{steps_under}
-use Rattle.dtx_network.specs.Orders.{has_listing, has_order}
+use Rattle.dtx_network.specs.Orders.{has_listing, has_order, presets}
 use Rattle.dtx_network.specs.Plans.{IsInTime, IsListed, IsPlan, IsStream}
-use Rattle.dtx_network.specs.Presets.{presets}
 use Rattle.dtx_outside.specs.Shelf.{Files}
 use Rattle.dtx_packet_jobs.proofs.PacketFileLemmas.{packets_of-bytes}
 use Rattle.dtx_packets.specs.Packets.{packets_of}

@@ -11,8 +11,7 @@ use Rattle.dtx_lists.proofs.Range.{range_with_len-parts}
 use Rattle.dtx_lists.proofs.RangeFilter.{filter-kept, filter-lost}
 use Rattle.dtx_make.specs.Made.{made_packet}
 use Rattle.dtx_network.specs.Headline.{IsFirstListing}
-use Rattle.dtx_network.specs.Orders.{has_listing, has_order, is_operations}
-use Rattle.dtx_network.specs.Presets.{orders}
+use Rattle.dtx_network.specs.Orders.{has_listing, has_order, is_operations, orders}
 use Rattle.dtx_top.specs.WorkedNetwork.{made_packets}
 
 -- ---- packets and groups

@@ -15,12 +15,11 @@ use Rattle.dtx_receiver.specs.Bytes.{data_count, groups_of}
 use Rattle.dtx_receiver.proofs.CompleteLemmas.{complete_last, complete_none, complete_parts}
 use Rattle.dtx_receiver.specs.Packets.{is_complete}
 use Rattle.dtx_chain.proofs.AllBackLemmas.{data_all}
-use Rattle.dtx_chain.specs.Damage.{numbers_in}
-use Rattle.dtx_chain.specs.Undamaged.{as_received}
+use Rattle.dtx_chain.specs.Damage.{numbers_in, as_received}
 use Rattle.dtx_exciter.specs.Lockstep.{segment_place}
 use Rattle.dtx_exciter.specs.Log.{Line, preset}
 use Rattle.dtx_network.specs.Headline.{last_packet, stretch_of}
-use Rattle.dtx_network.specs.Presets.{preset_at, presets}
+use Rattle.dtx_network.specs.Orders.{preset_at, presets}
 use Rattle.dtx_top.specs.Trial.{trial_plan}
 use Rattle.dtx_trial.proofs.MadeOrders.{IsOrdered, each_312, orders_are}
 use Rattle.dtx_trial.specs.TrialFiles.{order_line, whole_from_312}

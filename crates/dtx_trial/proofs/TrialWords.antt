@@ -7,9 +7,8 @@ use Rattle.std.proofs.lemmas.Fmt.{digits_value-decimal}
 use Rattle.std.proofs.lemmas.Slice.Eq.{bytes_eq-Decides}
 use Rattle.std.proofs.lemmas.Str.Parse.{IsNumeralModel, numerals_by_value, tells_digits}
 use Rattle.dtx_outside.specs.Shelf.{Files}
-use Rattle.dtx_words.specs.Fitting.{command_of}
+use Rattle.dtx_words.specs.Fitting.{command_of, number_in, number_within}
 use Rattle.dtx_words.proofs.FittingLemmas.{command_found}
-use Rattle.dtx_words.specs.Number.{number_in, number_within}
 use Rattle.dtx_words.specs.declared.rows.Command.TheVariants.{Trial}
 use Rattle.dtx_top.specs.Ends.{HasHeadlineOf}
 use Rattle.dtx_top.specs.Trial.{IsTrialDone}

@@ -5,7 +5,7 @@ use Rattle.std.specs.Prelude.{[], codes, drop, flat_map, map, slice_index_or}
 use Rattle.std.specs.FinMap.{get}
 use Rattle.std.specs.List.{range_with_len}
 use Rattle.dtx_adapter.specs.Feed.{feed}
-use Rattle.dtx_chain.specs.Undamaged.{as_received}
+use Rattle.dtx_chain.specs.Damage.{as_received}
 use Rattle.dtx_clock.specs.Clock.{moment_of, stamp_of}
 use Rattle.dtx_clock.specs.declared.answers.Moment.{Moment}
 use Rattle.dtx_coder.specs.Stream.{a53}

@@ -2,7 +2,7 @@
 use Rattle.std.proofs.Common.{◌≡◌, ℕ, suc, ◌+◌, ◌-◌, ◌<◌, ◌≤◌, Bool, true, false, cond, Option, Some, None, List}
 use Rattle.std.proofs.Common.{length, take, drop, refl, sym, ap, ◌∙◌, arith}
 use Rattle.std.specs.List.{take-map}
-use Rattle.dtx_packets.specs.Packet.{sync_of}
+use Rattle.dtx_packets.specs.Packets.{sync_of}
 use Rattle.dtx_cadence.specs.Anchor.{ends_lock, anchor_at, anchor_to, anchor}
 use Rattle.dtx_cadence.proofs.NextAnchorLemmas.{anchor_take, anchor_below, anchor_to_below, stood}
 use Rattle.dtx_exciter.specs.Packets.{syncs, anchor_of, under}

@@ -11,7 +11,7 @@ use Rattle.std.proofs.lemmas.List.{get_or-map, get_or_past, length-map}
 use Rattle.dtx_clock.proofs.StampsLemmas.{stamps_run}
 use Rattle.dtx_coder.specs.Stream.{states}
 use Rattle.dtx_coder.specs.Along.{states_since}
-use Rattle.dtx_packets.specs.Packet.{sync_of}
+use Rattle.dtx_packets.specs.Packets.{sync_of}
 use Rattle.dtx_cadence.specs.Anchor.{anchor}
 use Rattle.dtx_cadence.specs.Cadence.{IsMarked, IsAnchored}
 use Rattle.dtx_cadence.proofs.AnchoredLemmas.{anchored}

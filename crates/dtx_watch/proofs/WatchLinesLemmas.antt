@@ -13,8 +13,8 @@ use Rattle.dtx_watch.specs.declared.notes.StatesNote.{StatesNote}
 use Rattle.dtx_watch.specs.declared.notes.StatesNote.TheVariants as states
 use Rattle.dtx_watch.specs.declared.notes.NoteKind.{NoteKind}
 use Rattle.dtx_watch.specs.declared.notes.NoteKind.TheVariants as what
-use Rattle.dtx_watch.specs.WatchLines.{words_of_lines, first_word, later_words, note_words}
-use Rattle.dtx_watch.specs.WatchText.{states_word, clock_word, note_head, note_end, note_text, watch_text}
+use Rattle.dtx_watch.specs.WatchText.{words_of_lines, first_word, later_words, note_words, states_word, clock_word}
+use Rattle.dtx_watch.specs.WatchText.{note_head, note_end, note_text, watch_text}
 
 -- ---- more notes
 

@@ -5,4 +5,3 @@ pub mod Step
 pub mod Kept
 pub mod Sound
 pub mod WatchText
-pub mod WatchLines

@@ -3,7 +3,7 @@ use Rattle.std.specs.Prelude.{◌≡◌, ◌≢◌, ℕ, ◌*◌, ◌/◌, ◌%�
 use Rattle.std.specs.Prelude.{[], ◌∷◌, ◌++◌, length, take, slice_index_or}
 use Rattle.dtx_clock.specs.Clock.{stamp_of}
 use Rattle.dtx_coder.specs.Stream.{states}
-use Rattle.dtx_packets.specs.Packet.{sync_of}
+use Rattle.dtx_packets.specs.Packets.{sync_of}
 use Rattle.dtx_ops.specs.declared.fields.Ops.{Ops}
 use Rattle.dtx_ops.specs.declared.refusal.OpsNo.{OpsNo}
 use Rattle.dtx_ops.specs.declared.refusal.OpsNo.TheVariants.{NotOps}

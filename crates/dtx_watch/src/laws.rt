@@ -6,8 +6,7 @@ ghost use Rattle.dtx_exciter.specs.Packets.{anchor_of, group_part};
 ghost use Rattle.dtx_watch.specs.declared.notes.Note.{Note};
 ghost use Rattle.dtx_watch.specs.Sound.{IsSoundFeed, IsCalmAt};
 ghost use Rattle.dtx_watch.specs.Watch.{notes_at, told, waiting, watch};
-ghost use Rattle.dtx_watch.specs.WatchLines.{note_words, words_of_lines};
-ghost use Rattle.dtx_watch.specs.WatchText.{watch_text};
+ghost use Rattle.dtx_watch.specs.WatchText.{note_words, words_of_lines, watch_text};
 
 /// Without packets there are no notes. The notes given on some packets stay when more packets come, and further notes
 /// follow them. The notes given so far, and then those that wait for the end of the group at hand, are all notes.

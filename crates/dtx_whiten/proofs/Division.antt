@@ -5,7 +5,7 @@ use Rattle.std.proofs.Common.{add-zero, mul_assoc, mul-div_cancel, zero-lt-suc, 
 use Rattle.std.specs.Int.{bit_at}
 use Rattle.std.specs.Int.Bits.{xor_zero_r}
 use Rattle.std.proofs.lemmas.Nat.Bits.{bit_at-lt, bit_at-suc, shr_and_one}
-use Rattle.dtx_galois.specs.BitPolynomial.{remainder}
+use Rattle.dtx_galois.specs.Field.{remainder}
 use Rattle.dtx_galois.proofs.LinearLemmas.{bit_cases, shift_of_sum}
 
 -- what the test of a bit tells

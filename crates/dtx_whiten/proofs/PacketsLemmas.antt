@@ -8,8 +8,7 @@ use Rattle.std.proofs.lemmas.List.FromFn.{length-enumerate_from}
 use Rattle.std.proofs.lemmas.Nat.{mod_below}
 use Rattle.dtx_laws.specs.Whitening.{whitened}
 use Rattle.dtx_laws.proofs.WhiteningLemmas.{whitened_by}
-use Rattle.dtx_whiten.specs.Randomizer.{randomizer_byte, randomizer_bytes}
-use Rattle.dtx_whiten.specs.Randomized.{randomized, randomized_stream}
+use Rattle.dtx_whiten.specs.Randomizer.{randomizer_byte, randomizer_bytes, randomized, randomized_stream}
 use Rattle.dtx_whiten.proofs.BytesLemmas.{get_or-randomizer_bytes}
 
 pub length-randomized : (k : ℕ) (packet : List ℕ) → length (randomized k packet) ≡ 187

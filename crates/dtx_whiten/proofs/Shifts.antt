@@ -1,7 +1,7 @@
 -- The register: its begin, its shift, its size.
 use Rattle.std.proofs.Common.{◌≡◌, ℕ, suc, ◌+◌, ◌*◌, ◌^◌, ◌<◌, refl, sym, ap, ◌∙◌, pow-suc, mul_assoc, add-one, lit<}
 use Rattle.std.proofs.lemmas.Nat.{shl_below}
-use Rattle.dtx_galois.specs.BitPolynomial.{remainder}
+use Rattle.dtx_galois.specs.Field.{remainder}
 use Rattle.dtx_galois.proofs.DivisionLemmas.{remainder_small}
 use Rattle.dtx_whiten.specs.Randomizer.{polynomial, preload, register}
 use Rattle.dtx_whiten.proofs.Division.{remainder_double}

@@ -1,2 +1,1 @@
 pub mod Randomizer
-pub mod Randomized

@@ -3,10 +3,10 @@
 ghost use Rattle.std.specs.Prelude.{◌≡◌, ℕ, ◌+◌, ◌-◌, ◌*◌, ◌%◌, ◌<◌, ◌^◌, List, length, drop, slice_index};
 ghost use Rattle.std.specs.Prelude.{slice_index_or, []};
 ghost use Rattle.std.specs.Int.RustNames.{bit_xor};
-ghost use Rattle.dtx_galois.specs.BitPolynomial.{product, remainder};
+ghost use Rattle.dtx_galois.specs.Field.{product, remainder};
 ghost use Rattle.dtx_laws.specs.Whitening.{whitened};
 ghost use Rattle.dtx_whiten.specs.Randomizer.{polynomial, preload, register, randomizer_byte, randomizer_bytes};
-ghost use Rattle.dtx_whiten.specs.Randomized.{randomized, randomized_stream};
+ghost use Rattle.dtx_whiten.specs.Randomizer.{randomized, randomized_stream};
 
 use dtx_sizes::{FIELD_PACKETS, PACKET_DATA};
 

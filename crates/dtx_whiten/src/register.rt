@@ -1,7 +1,7 @@
 //! The randomizer's shift register. Bit 0 to bit 15 are X1 to X16.
 
 ghost use Rattle.std.specs.Prelude.{◌≡◌, ◌*◌, ◌<◌, ◌^◌};
-ghost use Rattle.dtx_galois.specs.BitPolynomial.{remainder};
+ghost use Rattle.dtx_galois.specs.Field.{remainder};
 ghost use Rattle.dtx_whiten.specs.Randomizer.{polynomial, tapped};
 
 /// The generator polynomial, coefficient of X^i as bit i.

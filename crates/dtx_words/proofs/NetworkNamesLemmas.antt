@@ -4,7 +4,7 @@ use Rattle.std.specs.Prelude.{codes, decimal}
 use Rattle.std.proofs.Math.Seq.{drop-append_seam}
 use Rattle.std.proofs.lemmas.Fmt.{decimal_injective}
 use Rattle.std.proofs.lemmas.List.{append_cancel_left, append_cancel_right, length-append}
-use Rattle.dtx_words.specs.NetworkNames.{log_name, symbol_name}
+use Rattle.dtx_words.specs.Names.{log_name, symbol_name}
 
 -- a number between the same texts
 between : (ending : List ℕ) (first second : ℕ) → first < 2 ^ 16 → second < 2 ^ 16

@@ -9,7 +9,7 @@ use Rattle.std.proofs.lemmas.Slice.Eq.{bytes_eq-Decides}
 use Rattle.std.proofs.lemmas.Str.Parse.{IsNumeralModel, numerals_by_value, tells_digits, digit_at, parse_plain}
 use Rattle.std.proofs.lemmas.Fmt.{decimal_is_IsNumeral, decimal_digit, first_decimal, digits_value-decimal}
 use Rattle.std.proofs.lemmas.Fmt.{decimal-digits_value}
-use Rattle.dtx_words.specs.Number.{number_in, BeginsPlain}
+use Rattle.dtx_words.specs.Fitting.{number_in, BeginsPlain}
 
 own : IsNumeralModel (AllDigits 10) (digits_value 10)
 own = numerals_by_value (AllDigits 10) tells_digits

@@ -1,12 +1,34 @@
--- Which command the words fit.
-use Rattle.std.specs.Prelude.{ℕ, Bool, true, false, ◌&&◌, not, ◌==◌, List, [], ◌∷◌, length, Option, is_some}
+-- Which command the words fit, and the whole numbers among them.
+use Rattle.std.specs.Prelude.{ℕ, Bool, true, false, ◌&&◌, not, ◌==◌, List, [], ◌∷◌, length, Option, is_some, ◌≡◌}
+use Rattle.std.specs.Prelude.{nat_le, if◌then◌else◌, slice_index, Some, None, decimal}
 use Rattle.std.specs.List.{find}
 use Rattle.std.specs.Str.{bytes_eq}
 use Rattle.dtx_words.specs.declared.rows.Command.{Command}
 use Rattle.dtx_words.specs.declared.rows.Field.{Field}
 use Rattle.dtx_words.specs.declared.rows.Field.TheVariants.{Input, Output, Number, Within, Second}
-use Rattle.dtx_words.specs.Number.{number_in, number_within}
 use Rattle.dtx_words.specs.Rows.{Row, row_of, commands, second_text}
+use Rattle.std.specs.Int.{IsInRange}
+use Rattle.std.specs.Str.Parse.{digits_value}
+
+-- the number that the word spells in decimal, where it spells one and that is at most `most`
+unfoldable pub number_in : ℕ → List ℕ → Option ℕ
+number_in most word =
+    if bytes_eq word (decimal (digits_value 10 word)) && nat_le (digits_value 10 word) most then Some
+    (digits_value 10 word) else None
+
+-- a number, where it is `least` or more
+abbrev pub at_least : ℕ → Option ℕ → Option ℕ
+at_least least None = None
+at_least least (Some number) = if nat_le least number then Some number else None
+
+-- the number that the word spells in decimal, where it spells one from `least` to `most`
+abbrev pub number_within : ℕ → ℕ → List ℕ → Option ℕ
+number_within least most word = at_least least (number_in most word)
+
+-- a word begins with a digit, which is 0 only in the word `0`
+pub record BeginsPlain (word : List ℕ) : Type 0 where
+  pub digit : IsInRange 48 57 (slice_index word 0)
+  pub alone : slice_index word 0 ≡ 48 → length word ≡ 1
 
 -- a word fits a file name if it isn't empty
 abbrev pub is_name : List ℕ → Bool

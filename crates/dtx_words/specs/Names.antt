@@ -1,6 +1,6 @@
--- The file names of a command: which one is repeated, and which one the printed line has.
+-- The file names of a command: which one is repeated, and which one the printed line has. Also those of a network.
 use Rattle.std.specs.Prelude.{ℕ, Bool, true, false, if◌then◌else◌, List, [], ◌∷◌, ◌++◌, Option, Some, None}
-use Rattle.std.specs.Prelude.{slice_index_or, unwrap_or}
+use Rattle.std.specs.Prelude.{slice_index_or, unwrap_or, codes, decimal}
 use Rattle.std.specs.List.{list_any}
 use Rattle.std.specs.Str.{bytes_eq}
 use Rattle.dtx_meaning.specs.declared.status.Status.{Status}
@@ -45,3 +45,23 @@ abbrev pub line_name : Status → List (List ℕ) → List ℕ
 line_name Same names = unwrap_or (repeated names) []
 line_name (Absent input) names = slice_index_or names input []
 line_name _ names = []
+
+-- the feed
+abbrev pub feed_name : List ℕ
+feed_name = codes "net.feed"
+
+-- the stream of a trial
+abbrev pub trial_name : List ℕ
+trial_name = codes "trial.ts"
+
+-- the packets that are received
+abbrev pub received_name : List ℕ
+received_name = codes "net.ts"
+
+-- the symbols of the transmitter at an address
+abbrev pub symbol_name : ℕ → List ℕ
+symbol_name address = codes "tx-" ++ (decimal address ++ codes ".sym")
+
+-- the log of the transmitter at an address
+abbrev pub log_name : ℕ → List ℕ
+log_name address = codes "tx-" ++ (decimal address ++ codes ".log")

@@ -1,6 +1,6 @@
 // The names of the files that a network writes, and of the file of a trial's stream.
 ghost use Rattle.std.specs.Prelude.{◌≡◌, ◌≢◌, ◌<◌, ◌≤◌, ◌^◌, ◌++◌, ℕ, length, codes, decimal};
-ghost use Rattle.dtx_words.specs.NetworkNames.{feed_name, log_name, received_name, symbol_name, trial_name};
+ghost use Rattle.dtx_words.specs.Names.{feed_name, log_name, received_name, symbol_name, trial_name};
 
 use arrayvec::ArrayString;
 use itoa::Buffer;

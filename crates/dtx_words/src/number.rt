@@ -1,6 +1,6 @@
 // A whole number among the words.
 ghost use Rattle.std.specs.Prelude.{◌≡◌, ◌≤◌, ◌↔◌, ℕ, Some, IsTrue, decimal};
-ghost use Rattle.dtx_words.specs.Number.{number_in, number_within, BeginsPlain};
+ghost use Rattle.dtx_words.specs.Fitting.{number_in, number_within, BeginsPlain};
 
 /// Reads the word as a decimal number, without sign and without a leading zero unless it is `0`. Gives `None` where the
 /// word isn't such a number, or is one above `most`.

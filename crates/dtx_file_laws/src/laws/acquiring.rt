@@ -2,13 +2,13 @@
 //! the profile's own).
 
 ghost use Rattle.std.specs.Prelude.{◌<◌, ◌≤◌, ℕ, List, length};
-ghost use Rattle.dtx_chain.specs.Undamaged.{ArePackets};
+ghost use Rattle.dtx_chain.specs.Damage.{ArePackets};
 ghost use Rattle.dtx_engine.specs.Made.{only};
 ghost use Rattle.dtx_engine.specs.Recipe.{meaning_of_file};
 ghost use Rattle.dtx_forms.specs.Shapes as shapes;
 ghost use Rattle.dtx_recipes.specs.Acquire.{acquiring};
 ghost use Rattle.dtx_recipes.specs.Refine.{refining};
-ghost use Rattle.dtx_recipes.specs.Symbols.{symbol_bytes};
+ghost use Rattle.dtx_recipes.specs.SymbolFile.{symbol_bytes};
 ghost use Rattle.dtx_file_laws.specs.Damaged.{IsNoisy};
 ghost use Rattle.dtx_repeated_feed.specs.DoneWith.{IsDoneWith};
 

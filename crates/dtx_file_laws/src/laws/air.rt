@@ -1,8 +1,7 @@
 //! What is received from the symbols that `code` wrote, undamaged and damaged (ATSC A/53 Part 2, and the way back).
 
 ghost use Rattle.std.specs.Prelude.{◌≡◌, ◌<◌, ◌≤◌, ℕ, ℤ, List, length};
-ghost use Rattle.dtx_chain.specs.Damage.{AreReceived, IsSlight, to_sync};
-ghost use Rattle.dtx_chain.specs.Undamaged.{ArePackets};
+ghost use Rattle.dtx_chain.specs.Damage.{AreReceived, IsSlight, to_sync, ArePackets};
 ghost use Rattle.dtx_coder.specs.Stream.{a53};
 ghost use Rattle.dtx_engine.specs.Made.{only};
 ghost use Rattle.dtx_engine.specs.Recipe.{meaning_of_file};
@@ -11,8 +10,7 @@ ghost use Rattle.dtx_recipes.specs.Code.{coding};
 ghost use Rattle.dtx_recipes.specs.Mend.{mending_symbols};
 ghost use Rattle.dtx_recipes.specs.MendedBack.{all_back_of};
 ghost use Rattle.dtx_recipes.specs.Receive.{receiving};
-ghost use Rattle.dtx_recipes.specs.SymbolFile.{file_segments, whole_segments};
-ghost use Rattle.dtx_recipes.specs.Symbols.{symbol_bytes};
+ghost use Rattle.dtx_recipes.specs.SymbolFile.{file_segments, whole_segments, symbol_bytes};
 ghost use Rattle.dtx_packets.specs.Packets.{packets_of, whole_packets};
 ghost use Rattle.dtx_repeated_feed.specs.DoneWith.{IsDoneWith};
 ghost use Rattle.dtx_file_laws.specs.Back.{CanBeCoded, all_back};

@@ -4,9 +4,8 @@
 ghost use Rattle.std.specs.Prelude.{◌≡◌, ◌≢◌, ◌⊎◌, ◌<◌, ◌≤◌, ◌∷◌, [], ℕ, List, codes, decimal, length};
 ghost use Rattle.dtx_meaning.specs.Status.{IsFault};
 ghost use Rattle.dtx_packets.specs.Packets.{whole_packets};
-ghost use Rattle.dtx_file_laws.specs.Back.{CanBeCoded, IsGivenBack, IsReadBack};
+ghost use Rattle.dtx_file_laws.specs.Back.{CanBeCoded, IsGivenBack, IsReadBack, Holds};
 ghost use Rattle.dtx_file_laws.specs.Damaged.{IsBurst, IsGap, IsNoisy, SparesSyncs};
-ghost use Rattle.dtx_file_laws.specs.Told.{Holds};
 
 use crate::laws::acquiring::{a_noisy_capture_is_acquired, a_noisy_capture_is_refined};
 use crate::laws::air::{a_stream_is_coded, bursts_come_back, what_was_coded_is_received};

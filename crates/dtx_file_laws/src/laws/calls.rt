@@ -11,7 +11,7 @@ ghost use Rattle.dtx_meaning.specs.Status.{IsFault};
 ghost use Rattle.dtx_recipes.specs.Adapt.{feeding};
 ghost use Rattle.dtx_recipes.specs.DvbCode.{dvb_coding};
 ghost use Rattle.dtx_recipes.specs.DvbRead.{dvb_reading};
-ghost use Rattle.dtx_recipes.specs.DvbShapes as dvb;
+ghost use Rattle.dtx_recipes.specs.DvbCode as dvb;
 ghost use Rattle.dtx_plan.specs.Plan.{plan_of};
 ghost use Rattle.dtx_plan.specs.declared.plan.Plan.{Plan};
 ghost use Rattle.dtx_recipes.specs.Acquire.{acquiring};

@@ -7,7 +7,7 @@ ghost use Rattle.dtx_engine.specs.Recipe.{meaning_of_file};
 ghost use Rattle.dtx_packets.specs.Packets.{packets_of, whole_packets};
 ghost use Rattle.dtx_recipes.specs.DvbBack.{back_of};
 ghost use Rattle.dtx_recipes.specs.DvbRead.{dvb_reading};
-ghost use Rattle.dtx_recipes.specs.DvbShapes as shapes;
+ghost use Rattle.dtx_recipes.specs.DvbCode as shapes;
 ghost use Rattle.dtx_file_laws.specs.Damaged.{IsBurst};
 
 use dtx_dvb::laws::{burst, sending};

@@ -11,14 +11,14 @@ ghost use Rattle.dtx_files.specs.Symbols.{segment_bytes};
 ghost use Rattle.dtx_forms.specs.Shapes as shapes;
 ghost use Rattle.dtx_recipes.specs.Excite.{exciting};
 ghost use Rattle.dtx_network.specs.Headline.{HasNoListing, IsFedAnew, IsFirstListing, stretch_of};
-ghost use Rattle.dtx_network.specs.Presets.{presets};
+ghost use Rattle.dtx_network.specs.Orders.{presets};
 ghost use Rattle.dtx_packets.specs.Packets.{packets_of, whole_packets};
 ghost use Rattle.dtx_plan.specs.declared.plan.Plan.{Plan};
 ghost use Rattle.dtx_plan.specs.declared.transmitter.Transmitter.{Transmitter};
 ghost use Rattle.dtx_repeated_feed.specs.DoneWith.{IsDoneWith};
-ghost use Rattle.dtx_watch.specs.WatchLines.{words_of_lines};
+ghost use Rattle.dtx_watch.specs.WatchText.{words_of_lines};
 ghost use Rattle.dtx_file_laws.specs.LogLines.{line_words};
-ghost use Rattle.dtx_file_laws.specs.Told.{Holds};
+ghost use Rattle.dtx_file_laws.specs.Back.{Holds};
 
 use crate::laws::calls::run_of_excite;
 use dtx_network::laws::from_a_mark;

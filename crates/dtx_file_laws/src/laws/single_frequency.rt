@@ -8,7 +8,7 @@ ghost use Rattle.dtx_plan.specs.Plan.{plan_of};
 ghost use Rattle.dtx_plan.specs.declared.plan.Plan.{Plan};
 ghost use Rattle.dtx_plan.specs.declared.transmitter.Transmitter.{Transmitter};
 ghost use Rattle.dtx_file_laws.specs.Orders.{IsFirstOrder};
-ghost use Rattle.dtx_file_laws.specs.Told.{Holds};
+ghost use Rattle.dtx_file_laws.specs.Back.{Holds};
 
 use crate::laws::calls::{run_of_adapt, run_of_code, run_of_excite};
 use crate::laws::exciting::a_feed_is_sent;

@@ -6,8 +6,7 @@ ghost use Rattle.dtx_forms.specs.Shapes as shapes;
 ghost use Rattle.dtx_level.specs.Levelled.{levelled};
 ghost use Rattle.dtx_level.specs.Measures.{measures};
 ghost use Rattle.dtx_level.specs.Syncs.{all_syncs};
-ghost use Rattle.dtx_recipes.specs.Level.{levelling};
-ghost use Rattle.dtx_recipes.specs.LevelledFile.{levelled_of, levelled_until};
+ghost use Rattle.dtx_recipes.specs.Level.{levelling, levelled_of, levelled_until};
 
 use dtx_sizes::MOST_SYMBOLS;
 

@@ -3,7 +3,7 @@
 ghost use Rattle.std.specs.Prelude.{◌≡◌, ◌↔◌, ◌≤◌, IsTrue, MatchResult, length, take};
 ghost use Rattle.dtx_galois.specs.Field.{AreBytes};
 ghost use Rattle.dtx_laws.specs.Codeword.{IsCode, IsCodeword, distance};
-ghost use Rattle.dtx_laws.specs.Correction.{IsCorrected, IsRefused};
+ghost use Rattle.dtx_laws.specs.Words.{IsCorrected, IsRefused};
 
 use crate::corrector::TooMany;
 use crate::encoder::Encode;

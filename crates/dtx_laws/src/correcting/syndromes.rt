@@ -1,9 +1,8 @@
 //! The syndromes of a word that is no codeword.
 
 ghost use Rattle.std.specs.Prelude.{◌≡◌, ◌≤◌, length};
-ghost use Rattle.dtx_galois.specs.Field.{value};
-ghost use Rattle.dtx_galois.specs.Word.{sums};
-ghost use Rattle.dtx_laws.specs.Syndromes.{AreSyndromes};
+ghost use Rattle.dtx_galois.specs.Field.{value, sums};
+ghost use Rattle.dtx_laws.specs.Codeword.{AreSyndromes};
 
 use crate::correcting::ROOM;
 use dtx_galois::{ALPHA, Gf};

@@ -3,9 +3,8 @@
 ghost use Rattle.std.specs.Prelude.{◌≡◌, ◌≢◌, ℕ, List, ◌+◌, ◌-◌, ◌*◌, ◌<◌, ◌≤◌, length, slice_index};
 ghost use Rattle.dtx_galois.specs.Field.{AreBytes, pow, value};
 ghost use Rattle.dtx_laws.specs.Codeword.{IsCodeword, IsCorrection};
-ghost use Rattle.dtx_laws.specs.Correction.{IsCorrected, IsLeft};
+ghost use Rattle.dtx_laws.specs.Words.{IsCorrected, IsLeft, codeword};
 ghost use Rattle.dtx_laws.specs.Locator.{Annuls, low_value};
-ghost use Rattle.dtx_laws.specs.Words.{codeword};
 
 /// A locator vanishes wherever a word differs from its correction. Let `n - k` be `2 * t`, and let syndrome `S j` be
 /// the word's value at the power `j` of α. Let at most `t + 1` coefficients give

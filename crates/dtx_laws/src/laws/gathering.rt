@@ -6,7 +6,7 @@ ghost use Rattle.std.specs.Prelude.{◌≡◌, ℕ, ◌-◌, ◌*◌, ◌<◌, �
 ghost use Rattle.std.specs.List.{concat};
 ghost use Rattle.dtx_laws.specs.Branches.{Branching, HasWidths, spreading, gathering, zeroed, aligned, leaving_all};
 ghost use Rattle.dtx_laws.specs.Branches.{leaving_calls};
-ghost use Rattle.dtx_laws.specs.Gathering.{gathered_at, gathered, IsGatheredBehind};
+ghost use Rattle.dtx_laws.specs.Interleaving.{gathered_at, gathered, IsGatheredBehind};
 
 /// After an align of both, spreading and gathering give back the input, late by `b * m * (b - 1)` bytes, whatever the
 /// branches held. From branches full of zeros all bytes before it are zeros.

@@ -2,8 +2,7 @@
 ghost use Rattle.std.specs.Prelude.{◌≡◌, ◌<◌, ◌++◌, ◌∷◌, [], ℕ, List, Some, IfOk, IfSome, length, slice_get, vec_len};
 ghost use Rattle.dtx_plan.specs.declared.transmitter.Transmitter.{Transmitter};
 ghost use Rattle.dtx_plan.specs.Sound.{AreTransmitters};
-ghost use Rattle.dtx_net.specs.Changed.{lied_packet};
-ghost use Rattle.dtx_net.specs.Steps.{Step, restart_step, transmitter_place};
+ghost use Rattle.dtx_net.specs.Steps.{lied_packet, Step, restart_step, transmitter_place};
 ghost use Rattle.dtx_net.specs.Standing.{StandsFor, AreNew, IsGiven, ChangesOnly};
 
 use super::Net;

@@ -10,7 +10,7 @@ ghost use Rattle.dtx_recipes.specs.DvbBack.{wrong_in_all};
 ghost use Rattle.dtx_recipes.specs.DvbCode.{dvb_coding};
 ghost use Rattle.dtx_recipes.specs.DvbRead.{dvb_reading, whole_blocks};
 ghost use Rattle.dtx_recipes.specs.Place.{has_sync};
-ghost use Rattle.dtx_recipes.specs.DvbShapes as shapes;
+ghost use Rattle.dtx_recipes.specs.DvbCode as shapes;
 
 use dtx_meaning::Status;
 use dtx_sizes::MOST_PACKETS;

@@ -3,8 +3,7 @@ ghost use Rattle.std.specs.Prelude.{◌≡◌, ◌≢◌, ◌*◌, ◌/◌, ◌%
 ghost use Rattle.std.specs.Prelude.{true, slice_index, slice_index_or};
 ghost use Rattle.std.specs.List.{list_any};
 ghost use Rattle.dtx_adapter.specs.Feed.{is_placeholder};
-ghost use Rattle.dtx_packets.specs.Packet.{pid_of};
-ghost use Rattle.dtx_packets.specs.Packets.{packets_of};
+ghost use Rattle.dtx_packets.specs.Packets.{pid_of, packets_of};
 ghost use Rattle.dtx_recipes.specs.Place.{becomes, behind, is_open, placed, placing};
 
 /// The bytes that `place` makes of a stream are those of the packets in `placed`, one behind another.

@@ -2,8 +2,7 @@ use Rattle.std.proofs.Common.{◌++◌, ap, drop, map, ◌∙◌}
 use Rattle.std.proofs.lemmas.Simd.{map-map}
 use Rattle.dtx_trellis.specs.Trellis.{symbol_of}
 use Rattle.dtx_frame.specs.Segments.{data_segment, segment_sync}
-use Rattle.dtx_acquire.specs.Acquired.{restored_data}
-use Rattle.dtx_acquire.specs.Scaled.{scaled_level}
+use Rattle.dtx_acquire.specs.Acquired.{restored_data, scaled_level}
 use Rattle.dtx_acquire.proofs.restoring.restore_data.Goals as goal
 
 pub returns : goal.returns

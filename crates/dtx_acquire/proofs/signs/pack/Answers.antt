@@ -2,8 +2,7 @@ use Rattle.std.proofs.Common.{◌≡◌, ◌+◌, ◌*◌, ◌-◌, ◌<◌, ◌
 use Rattle.std.proofs.Common.{ap, ◌∙◌, arith}
 use Rattle.std.proofs.Common.{to_z, of_z, w8}
 use Rattle.std.proofs.lemmas.Int.{to_z-of_z}
-use Rattle.dtx_acquire.specs.Agreement.{is_plus}
-use Rattle.dtx_acquire.specs.Signs.{packed}
+use Rattle.dtx_acquire.specs.Agreement.{is_plus, packed}
 use Rattle.dtx_acquire.proofs.Windows.{packed_more, packed_room, part}
 use Rattle.dtx_acquire.proofs.signs.pack.Goals as goal
 

@@ -1,5 +1,5 @@
 use Rattle.std.proofs.Common.{◌≡◌, ◌+◌, ◌-◌, ◌≤◌}
-use Rattle.dtx_acquire.specs.Signs.{packed}
+use Rattle.dtx_acquire.specs.Agreement.{packed}
 use Rattle.dtx_acquire.proofs.Windows.{part}
 use Rattle.dtx_acquire.proofs.signs.pack.Given as goal
 

@@ -1,6 +1,5 @@
 use Rattle.std.proofs.Common.{◌≡◌, ◌+◌, ◌*◌, ◌≤◌, ℕ, ℤ, List, length}
-use Rattle.dtx_acquire.specs.Agreement.{unlike}
-use Rattle.dtx_acquire.specs.Signs.{ArePacked}
+use Rattle.dtx_acquire.specs.Agreement.{unlike, ArePacked}
 use Rattle.dtx_acquire.proofs.signs.unlike_in.Given as goal
 
 abbrev pub invariant-loop-k : goal.invariant-loop-k

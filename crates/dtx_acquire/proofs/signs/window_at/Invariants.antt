@@ -1,5 +1,5 @@
 use Rattle.std.proofs.Common.{◌≡◌, ◌+◌, ◌*◌, ◌<◌, ℕ, drop, get_or, length, take}
-use Rattle.dtx_acquire.specs.Signs.{packed}
+use Rattle.dtx_acquire.specs.Agreement.{packed}
 use Rattle.dtx_acquire.proofs.signs.window_at.Given as goal
 
 abbrev pub invariant-loop-k : goal.invariant-loop-k

@@ -2,7 +2,7 @@ use Rattle.std.proofs.Common.{rules, ◌≡◌, ◌+◌, ◌-◌, ◌*◌, ◌/�
 use Rattle.std.proofs.Common.{take_all}
 use Rattle.dtx_lists.proofs.Written.{length-put_mid}
 use Rattle.dtx_packets.proofs.ChunksLemmas.{get_or-first_chunks}
-use Rattle.dtx_coder.specs.Coded.{coded_from}
+use Rattle.dtx_coder.specs.Stream.{coded_from}
 use Rattle.dtx_coder.proofs.Packets.{words_none, words_on}
 use Rattle.dtx_coder.proofs.outer_coding.encode_packets.Goals as goal
 

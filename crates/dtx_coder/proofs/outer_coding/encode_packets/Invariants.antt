@@ -1,5 +1,5 @@
 use Rattle.std.proofs.Common.{◌≡◌, ◌*◌, length, take}
-use Rattle.dtx_coder.specs.Coded.{coded_from}
+use Rattle.dtx_coder.specs.Stream.{coded_from}
 use Rattle.dtx_coder.proofs.outer_coding.encode_packets.Given as goal
 
 abbrev pub invariant-loop-i : goal.invariant-loop-i

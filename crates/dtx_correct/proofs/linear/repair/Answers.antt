@@ -1,8 +1,7 @@
 use Rattle.std.proofs.Common.{◌≡◌, ℕ, ◌<◌, ◌+◌, ◌*◌, ◌/◌, ◌-◌, List, length, take, drop, refl, ap, ap₂, ◌∙◌, arith}
 use Rattle.std.proofs.Common.{get_or, length-drop}
 use Rattle.std.proofs.lemmas.List.{take_all}
-use Rattle.dtx_galois.specs.Field.{pow, value}
-use Rattle.dtx_galois.specs.Word.{sums}
+use Rattle.dtx_galois.specs.Field.{pow, value, sums}
 use Rattle.dtx_laws.specs.Locator.{is_marked}
 use Rattle.dtx_laws.proofs.PatchingLemmas.{patched_right}
 use Rattle.dtx_laws.proofs.PartsLemmas.{syndrome_is}

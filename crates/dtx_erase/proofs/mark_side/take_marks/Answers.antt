@@ -2,7 +2,7 @@ use Rattle.std.proofs.Common.{sym, append_assoc, ◌≡◌, ℕ, ℤ, ◌+◌, �
 use Rattle.std.proofs.Common.{get_or, ap, subst, ◌∙◌, arith}
 use Rattle.std.proofs.lemmas.List.{length-append, length-map, length-take-le, map-append, take_all, take_more}
 use Rattle.dtx_receiver.specs.Receiver.{AreGrouped}
-use Rattle.dtx_receiver.specs.Symbols.{symbols_in, symbols_of}
+use Rattle.dtx_receiver.specs.Bytes.{symbols_in, symbols_of}
 use Rattle.dtx_erase.specs.Marks.{shown, shown_run}
 use Rattle.dtx_erase.specs.Sides.{Side}
 use Rattle.dtx_erase.proofs.Quiet.{bits_zero}

@@ -1,6 +1,6 @@
 use Rattle.std.proofs.Common.{◌≡◌, ℕ, ℤ, ◌+◌, ◌/◌, ◌%◌, ◌<◌, ◌++◌, List, length, take, replicate}
 use Rattle.dtx_receiver.specs.Receiver.{AreGrouped}
-use Rattle.dtx_receiver.specs.Symbols.{symbols_in}
+use Rattle.dtx_receiver.specs.Bytes.{symbols_in}
 use Rattle.dtx_erase.specs.Marks.{shown_run}
 use Rattle.dtx_erase.proofs.mark_side.take_marks.Given as goal
 

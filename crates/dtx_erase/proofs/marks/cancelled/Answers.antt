@@ -1,6 +1,5 @@
 use Rattle.std.proofs.Common.{ℕ, Bool, refl, ap, ◌∙◌, get_or, length}
-use Rattle.dtx_laws.specs.ErrorValues.{others, without}
-use Rattle.dtx_laws.specs.Locator.{is_marked}
+use Rattle.dtx_laws.specs.Locator.{others, without, is_marked}
 use Rattle.dtx_erase.proofs.Cancelled.{rest_yes, rest_no}
 use Rattle.dtx_erase.proofs.marks.cancelled.Goals as goal
 use Rattle.dtx_erase.proofs.marks.cancelled.Goals.{then-marks-place, else-marks-place}

@@ -1,6 +1,5 @@
 use Rattle.std.proofs.Common.{◌≡◌, ℕ, ◌<◌, ◌+◌, get_or, length}
-use Rattle.dtx_laws.specs.ErrorValues.{others, without}
-use Rattle.dtx_laws.specs.Locator.{is_marked}
+use Rattle.dtx_laws.specs.Locator.{others, without, is_marked}
 use Rattle.dtx_erase.proofs.marks.cancelled.Given as goal
 
 abbrev pub invariant-loop-place : goal.invariant-loop-place

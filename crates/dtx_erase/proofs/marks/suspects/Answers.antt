@@ -2,8 +2,7 @@ use Rattle.std.proofs.Common.{◌≡◌, ℕ, ◌+◌, ◌==◌, ◌||◌, Bool,
 use Rattle.std.proofs.lemmas.List.{length-set}
 use Rattle.dtx_galois.specs.Field.{value, AreBytes}
 use Rattle.dtx_galois.proofs.BytesLemmas.{AreBytes-from_places}
-use Rattle.dtx_laws.specs.ErrorValues.{others}
-use Rattle.dtx_laws.specs.Locator.{is_marked, power_at}
+use Rattle.dtx_laws.specs.Locator.{others, is_marked, power_at}
 use Rattle.dtx_erase.proofs.Restored.{few_zeros}
 use Rattle.dtx_erase.proofs.Zeros.{itself, none_missed, one_more, left_over, some_left}
 use Rattle.dtx_erase.proofs.marks.suspects.Goals as goal

@@ -1,7 +1,6 @@
 use Rattle.std.proofs.Common.{◌≡◌, ℕ, ◌<◌, ◌+◌, ◌==◌, ◌||◌, length, take}
 use Rattle.dtx_galois.specs.Field.{value}
-use Rattle.dtx_laws.specs.ErrorValues.{others}
-use Rattle.dtx_laws.specs.Locator.{is_marked, power_at}
+use Rattle.dtx_laws.specs.Locator.{others, is_marked, power_at}
 use Rattle.dtx_erase.proofs.marks.suspects.Given as goal
 
 abbrev pub invariant-loop-place : goal.invariant-loop-place

@@ -1,6 +1,5 @@
 use Rattle.std.proofs.Common.{◌≡◌, ℕ, ◌<◌, ◌≤◌, length, get_or}
-use Rattle.dtx_laws.specs.ErrorValues.{patched_at}
-use Rattle.dtx_laws.specs.Locator.{is_marked}
+use Rattle.dtx_laws.specs.Locator.{patched_at, is_marked}
 use Rattle.dtx_erase.proofs.values.patch.Given as goal
 
 abbrev pub invariant-loop-place : goal.invariant-loop-place

@@ -1,6 +1,5 @@
 use Rattle.std.proofs.Common.{◌≡◌, ℕ, ◌+◌, Bool, true, false, List, length, refl, sym, ap, ◌∙◌, ◌∷◌, arith, get_or}
-use Rattle.dtx_laws.specs.ErrorValues.{others}
-use Rattle.dtx_laws.specs.Locator.{is_marked}
+use Rattle.dtx_laws.specs.Locator.{others, is_marked}
 use Rattle.dtx_fast.specs.Recurrence.{connection}
 use Rattle.dtx_erase.proofs.Marked.{others_by}
 use Rattle.dtx_erase.proofs.Quotients.{product_more}

@@ -1,7 +1,6 @@
 use Rattle.std.proofs.Common.{◌≡◌, ℕ, ◌≤◌, get_or, length}
 use Rattle.dtx_fast.specs.Recurrence.{connection}
-use Rattle.dtx_laws.specs.ErrorValues.{others}
-use Rattle.dtx_laws.specs.Locator.{is_marked}
+use Rattle.dtx_laws.specs.Locator.{others, is_marked}
 use Rattle.dtx_erase.proofs.values.product_of.Given as goal
 
 abbrev pub invariant-loop-place : goal.invariant-loop-place

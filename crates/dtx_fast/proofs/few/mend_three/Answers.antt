@@ -1,5 +1,5 @@
 use Rattle.std.proofs.Common.{◌∙◌, ap, length, subst, sym, get_or}
-use Rattle.dtx_laws.specs.Correction.{IsCorrected}
+use Rattle.dtx_laws.specs.Words.{IsCorrected}
 use Rattle.dtx_fast.proofs.Mending.{mended, three_mended}
 use Rattle.dtx_fast.proofs.few.mend_three.Goals as goal
 

@@ -1,5 +1,5 @@
 use Rattle.std.proofs.Common.{◌≤◌, ◌/◌, get_or}
-use Rattle.dtx_fast.specs.Stage.{IsStage}
+use Rattle.dtx_fast.specs.Recurrence.{IsStage}
 use Rattle.dtx_fast.proofs.recurrence.find_recurrence.Given as goal
 
 abbrev pub invariant-loop-n : goal.invariant-loop-n

@@ -1,5 +1,5 @@
 use Rattle.std.proofs.Common.{◌∙◌}
-use Rattle.dtx_words.specs.Number.{number_within}
+use Rattle.dtx_words.specs.Fitting.{number_within}
 use Rattle.dtx_forms.specs.Capture.{rounds_job}
 use Rattle.dtx_forms.specs.Job.{IsJobPerformed}
 use Rattle.dtx_forms.specs.Stages.{IsStaged}

@@ -1,6 +1,6 @@
 use Rattle.std.proofs.Common.{◌∙◌}
 use Rattle.std.specs.Prelude.{Some}
-use Rattle.dtx_words.specs.Number.{number_within}
+use Rattle.dtx_words.specs.Fitting.{number_within}
 use Rattle.dtx_forms.specs.Capture.{scaled_job}
 use Rattle.dtx_forms.specs.Job.{IsJobPerformed}
 use Rattle.dtx_forms.specs.Stages.{IsStaged}

@@ -1,6 +1,6 @@
 use Rattle.std.proofs.Common.{◌∙◌}
 use Rattle.dtx_forms.specs.Job.{IsJobPerformed}
-use Rattle.dtx_forms.specs.Combine.{combine_job}
+use Rattle.dtx_forms.specs.Transform.{combine_job}
 use Rattle.dtx_forms.specs.Stages.{IsStaged}
 use Rattle.dtx_forms.proofs.WordsLemmas.{by_four}
 use Rattle.dtx_forms.proofs.combining.combine.Goals as goal

@@ -1,7 +1,7 @@
 use Rattle.std.proofs.Common.{◌∙◌}
 use Rattle.dtx_forms.specs.Job.{IsJobPerformed}
 use Rattle.dtx_forms.specs.Stages.{IsStaged}
-use Rattle.dtx_forms.specs.Transmit.{transmit_job}
+use Rattle.dtx_forms.specs.Logged.{transmit_job}
 use Rattle.dtx_forms.proofs.WordsLemmas.{by_six}
 use Rattle.dtx_forms.proofs.transmitting.transmit.Goals as goal
 

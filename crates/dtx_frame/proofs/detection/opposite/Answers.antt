@@ -1,7 +1,7 @@
 use Rattle.std.proofs.Common.{◌≡◌, ◌+◌, ◌/◌, ◌<◌, pos, get_or, sym, ap, ◌∙◌, arith, to_z, of_z, w8}
 use Rattle.std.proofs.lemmas.Int.{to_z-of_z}
 use Rattle.dtx_slice.specs.Slicing.{sliced}
-use Rattle.dtx_frame.specs.Sequences.{pn63}
+use Rattle.dtx_frame.specs.Segments.{pn63}
 use Rattle.dtx_frame.specs.Detection.{opposite}
 use Rattle.dtx_frame.proofs.AlikeLemmas.{table_sign}
 use Rattle.dtx_frame.proofs.CountsLemmas.{same_is, other_is}

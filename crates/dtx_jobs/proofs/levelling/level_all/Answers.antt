@@ -6,8 +6,7 @@ use Rattle.std.proofs.lemmas.List.{map-append, take_all}
 use Rattle.dtx_files.specs.Symbols.{byte_of_symbol}
 use Rattle.dtx_level.specs.Levelled.{levelled_so_far}
 use Rattle.dtx_level.specs.Leveller.{StandsFor, all_given, as_list}
-use Rattle.dtx_level.specs.MeasureText.{measure_text, measures_text}
-use Rattle.dtx_level.specs.Measures.{measures_so_far}
+use Rattle.dtx_level.specs.Measures.{measure_text, measures_text, measures_so_far}
 use Rattle.dtx_jobs.specs.Levelling.{bytes_brought}
 use Rattle.dtx_jobs.proofs.LevelLemmas.{nothing_brought}
 use Rattle.dtx_jobs.proofs.levelling.level_all.Goals as goal

@@ -2,8 +2,7 @@ use Rattle.std.proofs.Common.{◌≡◌, ◌+◌, ◌-◌, ◌*◌, ◌++◌, �
 use Rattle.dtx_files.specs.Symbols.{byte_of_symbol}
 use Rattle.dtx_level.specs.Levelled.{levelled_so_far}
 use Rattle.dtx_level.specs.Leveller.{StandsFor}
-use Rattle.dtx_level.specs.MeasureText.{measures_text}
-use Rattle.dtx_level.specs.Measures.{measures_so_far}
+use Rattle.dtx_level.specs.Measures.{measures_text, measures_so_far}
 use Rattle.dtx_jobs.specs.Levelling.{bytes_brought}
 use Rattle.dtx_jobs.proofs.levelling.level_all.Given as goal
 

@@ -1,7 +1,7 @@
 use Rattle.std.proofs.Common.{◌≡◌, ◌+◌, ◌*◌, ◌≤◌, ◌⊎◌, ℤ, List, [], length}
 use Rattle.dtx_files.specs.Symbols.{segment_bytes}
 use Rattle.dtx_refine.specs.Refiner.{IsEnding, StandsFor}
-use Rattle.dtx_jobs.specs.Refining.{IsRefining}
+use Rattle.dtx_jobs.specs.Restorer.{IsRefining}
 use Rattle.dtx_jobs.proofs.refining.finish_all.Given as goal
 
 abbrev pub invariant-loop-gathered : goal.invariant-loop-gathered

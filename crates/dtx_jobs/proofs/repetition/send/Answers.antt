@@ -10,8 +10,7 @@ use Rattle.dtx_files.specs.Symbols.{byte_of_symbol}
 use Rattle.dtx_repeat.specs.GoingOn.{last_life}
 use Rattle.dtx_repeat.proofs.GoingOnLemmas.{last_longer_one}
 use Rattle.dtx_repeat.specs.Repeater.{StandsFor}
-use Rattle.dtx_recipes.specs.Life.{tally_with, HasRoom}
-use Rattle.dtx_recipes.specs.Lives.{lives_tally}
+use Rattle.dtx_recipes.specs.Life.{tally_with, HasRoom, lives_tally}
 use Rattle.dtx_engine.specs.Made.{both}
 use Rattle.dtx_recipes.proofs.LivesLemmas.{brought_by, line_by, sent_longer, logged_longer}
 use Rattle.dtx_jobs.proofs.LivesLemmas.{tally_longer}

@@ -2,7 +2,7 @@ use Rattle.std.proofs.Common.{◌≡◌, ◌++◌, ℕ, ℤ, List, append_assoc,
 use Rattle.std.proofs.Common.{of_z, w64}
 use Rattle.std.proofs.lemmas.Int.{to_z-of_z}
 use Rattle.std.specs.Fmt.{signed_decimal}
-use Rattle.dtx_level.specs.MeasureText.{measure_text}
+use Rattle.dtx_level.specs.Measures.{measure_text}
 use Rattle.dtx_level.proofs.measure_text.write_measure.Goals as goal
 
 -- a text behind a space

@@ -3,8 +3,8 @@ use Rattle.dtx_ops.specs.declared.fields.Ops.{Ops}
 use Rattle.dtx_ops.specs.declared.refusal.OpsNo.{OpsNo}
 use Rattle.dtx_ops.specs.Reading.{reading}
 use Rattle.dtx_ops.specs.Spelling.{spelling}
-use Rattle.dtx_packets.specs.Packet.{sync_of, counter_of}
-use Rattle.dtx_net.specs.Changed.{lied_by, lied_packet}
+use Rattle.dtx_packets.specs.Packets.{sync_of, counter_of}
+use Rattle.dtx_net.specs.Steps.{lied_by, lied_packet}
 use Rattle.dtx_net.proofs.changed.lied_by.Goals as goal
 
 -- what is spelled of the fields that a packet reads as, but for the states, is the packet that lies of them

@@ -1,7 +1,7 @@
 use Rattle.std.proofs.Common.{◌≡◌, ◌∙◌, ℕ, ◌+◌, ◌<◌, ◌||◌, false, List, pos, length, drop, get_or, ap, sym, arith}
 use Rattle.std.proofs.lemmas.List.{at_drop_more}
 use Rattle.dtx_ops.specs.declared.fields.Entry.{Entry}
-use Rattle.dtx_ops.specs.Rules.{is_among, has_twice}
+use Rattle.dtx_ops.specs.Reading.{is_among, has_twice}
 use Rattle.dtx_ops.proofs.Writes.{to_end}
 use Rattle.dtx_ops.proofs.rules.has_twice.Goals as goal
 

@@ -1,5 +1,5 @@
 use Rattle.std.proofs.Common.{◌≡◌, drop}
-use Rattle.dtx_ops.specs.Rules.{is_among}
+use Rattle.dtx_ops.specs.Reading.{is_among}
 use Rattle.dtx_ops.proofs.rules.is_among.Given as goal
 
 abbrev pub invariant-loop-entry : goal.invariant-loop-entry

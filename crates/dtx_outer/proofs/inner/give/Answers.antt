@@ -1,7 +1,7 @@
 use Rattle.std.proofs.Common.{List, ℕ, ◌*◌, ◌∙◌, ap, subst, take, arith}
 use Rattle.std.proofs.lemmas.List.{length-take-le}
 use Rattle.std.specs.Result.{MatchResult}
-use Rattle.dtx_laws.specs.Correction.{IsCorrected, IsLeft}
+use Rattle.dtx_laws.specs.Words.{IsCorrected, IsLeft}
 use Rattle.dtx_laws.specs.Whitening.{whitened}
 use Rattle.dtx_outer.proofs.inner.give.Goals as goal
 

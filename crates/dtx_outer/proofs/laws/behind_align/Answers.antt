@@ -1,5 +1,5 @@
 use Rattle.dtx_laws.proofs.InterleavingLemmas.{behind_calls}
-use Rattle.dtx_outer.specs.Coding.{codewords}
+use Rattle.dtx_outer.specs.Outer.{codewords}
 use Rattle.dtx_outer.proofs.laws.behind_align.Goals as goal
 
 pub returns : goal.returns

@@ -1,9 +1,9 @@
 use Rattle.std.proofs.Common.{◌≡◌, ◌+◌, ◌++◌, length, drop, ap, sym, subst, ◌∙◌}
-use Rattle.dtx_adapter.specs.Adapting.{StandsFor}
+use Rattle.dtx_adapter.specs.Filling.{StandsFor}
 use Rattle.dtx_adapter.specs.Feed.{feed, placeholders}
 use Rattle.dtx_packets.specs.Packets.{packets_of}
 use Rattle.dtx_forms.proofs.FilePacketsLemmas.{packets_are, length-packets_of}
-use Rattle.dtx_recipes.specs.Feed.{bytes_of_packets, feed_bytes}
+use Rattle.dtx_recipes.specs.Adapt.{bytes_of_packets, feed_bytes}
 use Rattle.dtx_recipes.proofs.FeedLemmas.{feed_bytes-parts}
 use Rattle.dtx_packet_jobs.proofs.feeder.adapt_part.Goals as goal
 

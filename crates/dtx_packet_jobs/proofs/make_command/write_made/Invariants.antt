@@ -2,8 +2,7 @@ use Rattle.std.proofs.Common.{[]}
 use Rattle.std.specs.Prelude.{Option}
 use Rattle.dtx_make.specs.Made.{made_stream}
 use Rattle.dtx_outside.specs.Counts.{HasGone, Nothing}
-use Rattle.dtx_outside.specs.Shelf.{Files}
-use Rattle.dtx_outside.specs.Written.{IsWritten, IsGathered}
+use Rattle.dtx_outside.specs.Shelf.{Files, IsWritten, IsGathered}
 use Rattle.dtx_packet_jobs.proofs.make_command.write_made.Given as goal
 
 abbrev pub invariant-loop-index : goal.invariant-loop-index

@@ -1,7 +1,7 @@
 use Rattle.std.proofs.Common.{◌≡◌, sym, subst, rules, length, pos}
 use Rattle.dtx_plan.specs.declared.damage.Damage.{Damage}
 use Rattle.dtx_lists.proofs.FirstOf.{FailBefore, position_is, position_none, before_next}
-use Rattle.dtx_recipes.specs.PastEnd.{ends_past, first_past}
+use Rattle.dtx_recipes.specs.Hurt.{ends_past, first_past}
 use Rattle.dtx_packet_jobs.proofs.past_end.first_past.Goals as goal
 
 pub loop-i-preserved : goal.loop-i-preserved

@@ -1,6 +1,6 @@
 use Rattle.std.proofs.Common.{◌+◌, ◌-◌, ◌*◌, [], get_or, ◌∙◌, arith}
 use Rattle.std.proofs.lemmas.List.{get_or-set_other, length-set}
-use Rattle.dtx_pins.specs.Lanes.{sums_of}
+use Rattle.dtx_pins.specs.Walks.{sums_of}
 use Rattle.dtx_pins.proofs.PinnedWalks.{bounded_more, one_led}
 use Rattle.dtx_pins.proofs.back.back_segment.Goals as goal
 

@@ -1,7 +1,6 @@
 use Rattle.std.proofs.Common.{◌≡◌, ℕ, ◌+◌, ◌-◌, ◌*◌, ◌<◌, [], get_or, length}
-use Rattle.dtx_pins.specs.Lanes.{sums_of}
-use Rattle.dtx_pins.specs.Steps.{AreBounded}
-use Rattle.dtx_pins.specs.Weights.{AreMultiples}
+use Rattle.dtx_pins.specs.Walks.{sums_of}
+use Rattle.dtx_pins.specs.Steps.{AreBounded, AreMultiples}
 use Rattle.dtx_pins.proofs.PinnedWalks.{LeadsTo}
 use Rattle.dtx_pins.proofs.back.back_segment.Given as goal
 

@@ -1,6 +1,6 @@
 use Rattle.std.proofs.Common.{◌≡◌, ◌+◌, ◌-◌, ◌*◌, ◌%◌, ap, length, refl, ◌∙◌, arith, rules}
 use Rattle.dtx_lists.proofs.Written.{length-put_mid}
-use Rattle.dtx_pins.specs.Lanes.{sums_of}
+use Rattle.dtx_pins.specs.Walks.{sums_of}
 use Rattle.dtx_pins.proofs.PinnedWalks.{none_walked, segment_led}
 use Rattle.dtx_pins.proofs.SegmentRows.{row_before}
 use Rattle.dtx_pins.proofs.back.backward.Goals as goal

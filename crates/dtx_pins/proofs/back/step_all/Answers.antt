@@ -2,10 +2,9 @@ use Rattle.std.proofs.Common.{◌≡◌, ℤ, pos, ◌<◌, get_or, length, ◌�
 use mir.Val.{SFits}
 use Rattle.std.proofs.lemmas.Int.{ints, to_z-of_z}
 use Rattle.std.proofs.lemmas.List.{get_or_default}
-use Rattle.dtx_pins.specs.Lanes.{sums_of}
+use Rattle.dtx_pins.specs.Walks.{sums_of}
 use Rattle.dtx_pins.specs.Pins.{pin_at}
-use Rattle.dtx_pins.specs.Steps.{IsStep}
-use Rattle.dtx_pins.specs.Weights.{weight}
+use Rattle.dtx_pins.specs.Steps.{IsStep, weight}
 use Rattle.dtx_pins.proofs.PinnedWalks.{coder_stepped, multiples_written, step_written}
 use Rattle.dtx_pins.proofs.back.step_all.Goals as goal
 

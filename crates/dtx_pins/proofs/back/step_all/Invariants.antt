@@ -1,4 +1,4 @@
-use Rattle.dtx_pins.specs.Lanes.{sums_of}
+use Rattle.dtx_pins.specs.Walks.{sums_of}
 use Rattle.dtx_pins.proofs.PinnedWalks.{AreStepped}
 use Rattle.dtx_pins.proofs.back.step_all.Given as goal
 

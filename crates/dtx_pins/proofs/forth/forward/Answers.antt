@@ -8,8 +8,7 @@ use Rattle.dtx_soft.specs.Paths.{cost}
 use Rattle.dtx_soft.proofs.SoftenedLemmas.{length-coder}
 use Rattle.dtx_soft.proofs.WritesLemmas.{by_entry}
 use Rattle.dtx_pins.specs.LeastPinned.{least_pinned_levels}
-use Rattle.dtx_pins.specs.Moved.{moved_in, rows_moved}
-use Rattle.dtx_pins.specs.PinnedField.{AreLeastPinned, pinned_coder_cost, pinned_cost}
+use Rattle.dtx_pins.specs.PinnedField.{moved_in, rows_moved, AreLeastPinned, pinned_coder_cost, pinned_cost}
 use Rattle.dtx_pins.specs.Pins.{coder_pins}
 use Rattle.dtx_pins.specs.Trace.{AreStarts, IsStand, IsStart, stand_at}
 use Rattle.dtx_pins.specs.Walks.{AreWalked}

@@ -1,7 +1,7 @@
 use Rattle.std.proofs.Common.{◌≡◌, ℕ, ◌*◌, ◌<◌, ◌≤◌, List, [], get_or, length, map, sum}
 use Rattle.std.specs.List.{range_with_len}
 use Rattle.dtx_soft.specs.Coders.{KeepsSyncs, coder_symbols}
-use Rattle.dtx_pins.specs.Moved.{moved_in}
+use Rattle.dtx_pins.specs.PinnedField.{moved_in}
 use Rattle.dtx_pins.specs.Pins.{coder_pins}
 use Rattle.dtx_pins.specs.Trace.{AreStarts, IsStand, stand_at}
 use Rattle.dtx_pins.specs.Walks.{AreWalked}

@@ -7,7 +7,7 @@ use Rattle.std.proofs.lemmas.Bool.{cases_lt}
 use Rattle.std.proofs.lemmas.Int.{to_z-of_z}
 use Rattle.std.proofs.lemmas.Grind.{get_or-set_at}
 use Rattle.std.proofs.lemmas.List.{get_or-set_other, length-set, set-get_or}
-use Rattle.dtx_pins.specs.Moved.{moved_in}
+use Rattle.dtx_pins.specs.PinnedField.{moved_in}
 use Rattle.dtx_pins.proofs.MovedSums.{moved_more}
 use Rattle.dtx_pins.proofs.forth.move_symbols.Goals as goal
 

@@ -1,7 +1,7 @@
 use Rattle.std.proofs.Common.{◌≡◌, ◌∙◌, arith}
 use Rattle.std.proofs.lemmas.List.{length-set}
 use Rattle.dtx_soft.proofs.WritesLemmas.{written_below}
-use Rattle.dtx_pins.specs.Lanes.{sums_of}
+use Rattle.dtx_pins.specs.Walks.{sums_of}
 use Rattle.dtx_pins.proofs.lanes.all_sums.Goals as goal
 
 pub loop-e-preserved : goal.loop-e-preserved

@@ -2,8 +2,7 @@ use Rattle.std.proofs.Common.{◌≡◌, ℕ, zero, suc, ℤ, ◌+◌, ◌*◌, 
 use Rattle.std.proofs.Common.{◌∙◌, subst, w8, to_z, of_z, arith}
 use mir.Val.{SFits}
 use Rattle.std.proofs.lemmas.Int.{ints, to_z-of_z}
-use Rattle.dtx_pins.specs.Steps.{AreAtMost, IsBest, cost_at, number_of, pen_of, through}
-use Rattle.dtx_pins.specs.Weights.{fare, weight}
+use Rattle.dtx_pins.specs.Steps.{AreAtMost, IsBest, cost_at, number_of, pen_of, through, fare, weight}
 use Rattle.dtx_pins.proofs.PinnedSteps.{IsHalf, fare_small, half_is, half_small, mark_is, pen_small, step_is}
 use Rattle.dtx_pins.proofs.WeightTests.{is_weighed}
 use Rattle.dtx_pins.proofs.step.stepped.Goals as goal

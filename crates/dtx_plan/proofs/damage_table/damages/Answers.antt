@@ -4,7 +4,7 @@ use Rattle.std.proofs.lemmas.List.Sums.{fold_push}
 use Rattle.toml.specs.View.{view, table_view, items_view}
 use Rattle.dtx_plan.specs.declared.damage.Damage.{Damage}
 use Rattle.dtx_plan.specs.Rows.{entries}
-use Rattle.dtx_plan.specs.ReceiveTable.{damage_of}
+use Rattle.dtx_plan.specs.NetTable.{damage_of}
 use Rattle.dtx_plan.specs.DamageTable.{damage, damage_from}
 use Rattle.dtx_plan.proofs.SoundDamage.{damage_is}
 use Rattle.dtx_plan.proofs.Entries.{entries_next, entries_refused, entries_end}

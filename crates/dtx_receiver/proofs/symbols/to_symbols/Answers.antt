@@ -1,7 +1,7 @@
 use Rattle.std.proofs.Common.{◌≡◌, ℕ, ℤ, List, length, take, sym, ap, ◌∙◌, arith}
 use Rattle.std.proofs.lemmas.Grind.{common_steps}
 use Rattle.std.proofs.lemmas.List.{take_all}
-use Rattle.dtx_receiver.specs.Symbols.{symbols_of}
+use Rattle.dtx_receiver.specs.Bytes.{symbols_of}
 use Rattle.dtx_receiver.proofs.symbols.to_symbols.Goals as goal
 
 -- all are set

@@ -1,5 +1,5 @@
 use Rattle.std.proofs.Common.{◌≡◌, length, take}
-use Rattle.dtx_receiver.specs.Symbols.{symbols_of}
+use Rattle.dtx_receiver.specs.Bytes.{symbols_of}
 use Rattle.dtx_receiver.proofs.symbols.to_symbols.Given as goal
 
 abbrev pub invariant-loop-i : goal.invariant-loop-i

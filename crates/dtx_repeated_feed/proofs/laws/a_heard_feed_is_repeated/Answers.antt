@@ -4,7 +4,7 @@ use Rattle.dtx_chain.specs.Damage.{packet_behind}
 use Rattle.dtx_gap_filler.specs.Heard.{heard_to}
 use Rattle.dtx_recipes.specs.SymbolFile.{file_segments}
 use Rattle.dtx_network.specs.Headline.{stretch_of}
-use Rattle.dtx_network.specs.Presets.{presets}
+use Rattle.dtx_network.specs.Orders.{presets}
 use Rattle.dtx_repeated_feed.proofs.RepeatedFeed.{by_words, done_with, some_looks}
 use Rattle.dtx_repeated_feed.proofs.laws.a_heard_feed_is_repeated.Goals as goal
 

@@ -1,6 +1,6 @@
 use Rattle.std.proofs.Common.{refl}
-use Rattle.dtx_trellis.specs.Pairs.{byte_place, group_place}
-use Rattle.dtx_rounds.specs.Pins.{byte_at_step}
+use Rattle.dtx_trellis.specs.Trellis.{byte_place, group_place}
+use Rattle.dtx_rounds.specs.Known.{byte_at_step}
 use Rattle.dtx_rounds.proofs.laws.first_bytes.Goals as goal
 
 pub returns-clause-segment_0 : goal.returns-clause-segment_0

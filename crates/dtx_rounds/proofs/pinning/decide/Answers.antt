@@ -3,11 +3,9 @@ use Rattle.std.proofs.Common.{arith, nat_eq, subst}
 use Rattle.std.proofs.lemmas.Bool.{and_parts, cond-false, cond-true, eqb-true}
 use Rattle.std.proofs.lemmas.List.{length-drop, length-take, length-take-le, take-append-drop, take_at}
 use borrow.Rule.Slice.PartMut.{put_mid}
-use Rattle.dtx_pins.specs.Moved.{rows_moved}
-use Rattle.dtx_pins.specs.PinnedField.{IsPinned, pinned_cost}
-use Rattle.dtx_rounds.specs.FieldRound.{field_cost, field_rounded}
-use Rattle.dtx_rounds.specs.Pins.{field_pins}
-use Rattle.dtx_rounds.specs.Written.{IsWritten}
+use Rattle.dtx_pins.specs.PinnedField.{rows_moved, IsPinned, pinned_cost}
+use Rattle.dtx_rounds.specs.FieldRound.{field_cost, field_rounded, IsWritten}
+use Rattle.dtx_rounds.specs.Known.{field_pins}
 use Rattle.dtx_rounds.proofs.RowsRounded.{IsRounded, rounded_field, still_rows}
 use Rattle.dtx_rounds.proofs.pinning.decide.Goals as goal
 

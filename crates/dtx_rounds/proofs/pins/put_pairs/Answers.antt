@@ -1,5 +1,5 @@
 use Rattle.std.proofs.Common.{◌≡◌, ℕ, zero, suc, ◌+◌, ◌/◌, ◌%◌, ◌<◌, List, [], ◌∷◌, get_or, refl, ap, ◌∙◌, arith}
-use Rattle.dtx_trellis.specs.Pairs.{pair_in}
+use Rattle.dtx_trellis.specs.Trellis.{pair_in}
 use Rattle.dtx_rounds.proofs.PinRows.{four_rows}
 use Rattle.dtx_rounds.proofs.pins.put_pairs.Goals as goal
 

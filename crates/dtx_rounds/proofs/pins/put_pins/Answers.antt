@@ -3,7 +3,7 @@ use Rattle.std.proofs.Common.{get_or, sym, ap, ◌∙◌, subst, arith}
 use Rattle.std.proofs.lemmas.Bool.{cases_lt}
 use borrow.Rule.Slice.PartMut.{put_mid}
 use Rattle.dtx_lists.proofs.Written.{length-put_mid}
-use Rattle.dtx_rounds.specs.Pins.{known_pin, pin_of}
+use Rattle.dtx_rounds.specs.Known.{known_pin, pin_of}
 use Rattle.dtx_rounds.proofs.PinRows.{all_pins, mid_at, mid_before, part_entry, row_pin}
 use Rattle.dtx_rounds.proofs.pins.put_pins.Goals as goal
 

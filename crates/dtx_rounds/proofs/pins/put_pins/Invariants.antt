@@ -1,5 +1,5 @@
 use Rattle.std.proofs.Common.{◌≡◌, ℕ, ◌*◌, ◌<◌, [], get_or, length}
-use Rattle.dtx_rounds.specs.Pins.{known_pin}
+use Rattle.dtx_rounds.specs.Known.{known_pin}
 use Rattle.dtx_rounds.proofs.pins.put_pins.Given as goal
 
 abbrev pub invariant-loop-b : goal.invariant-loop-b

@@ -1,5 +1,5 @@
 use Rattle.std.proofs.Common.{◌≡◌, ℕ, ◌+◌, ◌-◌, ◌%◌, ◌<◌, None, List, take, drop, get_or, ap, ap₂, ◌∙◌, arith}
-use Rattle.dtx_trellis.specs.Pairs.{pair_in}
+use Rattle.dtx_trellis.specs.Trellis.{pair_in}
 use Rattle.dtx_rounds.proofs.PinRows.{part_byte, pin_parts}
 use Rattle.dtx_rounds.proofs.pins.put_row.Goals as goal
 

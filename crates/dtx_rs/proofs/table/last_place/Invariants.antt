@@ -1,5 +1,5 @@
 use Rattle.std.proofs.Common.{◌≡◌, ℕ, ◌<◌, ◌∷◌, get_or, length, []}
-use Rattle.dtx_rs.specs.Table.{row, word_bytes}
+use Rattle.dtx_rs.specs.Generator.{row, word_bytes}
 use Rattle.dtx_rs.proofs.table.last_place.Given as goal
 
 abbrev pub invariant-loop-f : goal.invariant-loop-f

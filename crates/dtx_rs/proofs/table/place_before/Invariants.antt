@@ -1,6 +1,6 @@
 use Rattle.std.proofs.Common.{◌≡◌, ℕ, ◌<◌, ◌∷◌, get_or, length, []}
 use Rattle.dtx_laws.specs.Register.{fed}
-use Rattle.dtx_rs.specs.Table.{word_bytes}
+use Rattle.dtx_rs.specs.Generator.{word_bytes}
 use Rattle.dtx_rs.proofs.table.place_before.Given as goal
 
 abbrev pub invariant-loop-f : goal.invariant-loop-f

@@ -1,5 +1,5 @@
 use Rattle.std.proofs.Common.{◌≡◌, ◌*◌, length, take}
-use Rattle.dtx_rs.specs.Table.{word_bytes}
+use Rattle.dtx_rs.specs.Generator.{word_bytes}
 use Rattle.dtx_rs.proofs.words.bytes_of.Given as goal
 
 abbrev pub invariant-loop-i : goal.invariant-loop-i

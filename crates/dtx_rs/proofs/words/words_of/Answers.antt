@@ -1,7 +1,7 @@
 use Rattle.std.proofs.Common.{◌≡◌, ℕ, ◌+◌, ◌*◌, [], ◌∷◌, ◌++◌, get_or, List, take, refl, ap, ap₂, ◌∙◌, arith, rules}
 use Rattle.std.proofs.lemmas.List.{length-set, take_more_set}
 use Rattle.std.proofs.lemmas.Nat.{le_bytes_4}
-use Rattle.dtx_rs.specs.Table.{word_bytes}
+use Rattle.dtx_rs.specs.Generator.{word_bytes}
 use Rattle.dtx_rs.proofs.WordBytes.{word_bytes-append, take_four}
 use Rattle.dtx_rs.proofs.words.words_of.Goals as goal
 

@@ -5,9 +5,8 @@ use Rattle.std.proofs.lemmas.Option.{slice_get-get_or, slice_get_read}
 use Rattle.std.proofs.lemmas.Result.{err_from_is_err_and}
 use Rattle.dtx_outside.specs.Shelf.{IsBegun}
 use Rattle.dtx_plan.specs.declared.transmitter.Transmitter.{Transmitter}
-use Rattle.dtx_schedule.specs.Pair.{AreNamesOf}
+use Rattle.dtx_schedule.specs.Playout.{AreNamesOf, AreNames}
 use Rattle.dtx_schedule.specs.Played.{IsBegunOf}
-use Rattle.dtx_schedule.specs.Playout.{AreNames}
 use Rattle.dtx_schedule.specs.declared.pair.FileNames.{FileNames}
 use Rattle.dtx_schedule.proofs.Begun.{log_not_begun, next_begun, symbols_not_begun}
 use Rattle.dtx_schedule.proofs.beginning.begin_files.Goals as goal

@@ -5,7 +5,7 @@ use Rattle.dtx_outside.specs.Counts.{HasGone, Nothing}
 use Rattle.dtx_outside.specs.Shelf.{Files}
 use Rattle.dtx_packets.specs.Packets.{packets_from, whole_packets}
 use Rattle.dtx_plan.specs.declared.transmitter.Transmitter.{Transmitter}
-use Rattle.dtx_words.specs.NetworkNames.{feed_name}
+use Rattle.dtx_words.specs.Names.{feed_name}
 use Rattle.dtx_net.specs.Steps.{Step}
 use Rattle.dtx_schedule.specs.PlayedSoFar.{IsPlayedSoFar, packet_steps}
 use Rattle.dtx_schedule.specs.Playout.{HasTransmitter}

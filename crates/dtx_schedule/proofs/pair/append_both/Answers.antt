@@ -1,7 +1,7 @@
 use Rattle.std.proofs.Common.{sym, ap, subst, ◌∙◌, arith}
 use Rattle.std.specs.Prelude.{Err}
 use Rattle.std.proofs.lemmas.Result.{err_from_is_err_and}
-use Rattle.dtx_schedule.specs.Pair.{IsPairOf}
+use Rattle.dtx_schedule.specs.Playout.{IsPairOf}
 use Rattle.dtx_schedule.proofs.PairLeft.{symbols_not_appended, both_appended}
 use Rattle.dtx_schedule.proofs.pair.append_both.Goals as goal
 

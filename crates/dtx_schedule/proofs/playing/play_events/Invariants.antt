@@ -5,7 +5,7 @@ use Rattle.dtx_outside.specs.Counts.{HasGone, Nothing}
 use Rattle.dtx_outside.specs.Shelf.{Files}
 use Rattle.dtx_packets.specs.Packets.{packets_of, whole_packets}
 use Rattle.dtx_plan.specs.declared.transmitter.Transmitter.{Transmitter}
-use Rattle.dtx_words.specs.NetworkNames.{feed_name}
+use Rattle.dtx_words.specs.Names.{feed_name}
 use Rattle.dtx_net.specs.Steps.{schedule}
 use Rattle.dtx_schedule.specs.Inside.{first_past_feed}
 use Rattle.dtx_schedule.specs.PlayedSoFar.{IsPlayedSoFar}

@@ -1,6 +1,5 @@
 use Rattle.std.proofs.Common.{◌≡◌, ℕ, ◌+◌, ◌-◌, ◌*◌, ◌/◌, ◌%◌, ◌<◌, get_or, ap, ◌∙◌, arith}
-use Rattle.dtx_slice.specs.Lanes.{lane_byte}
-use Rattle.dtx_slice.specs.Unrolled.{byte_back}
+use Rattle.dtx_slice.specs.Unrolled.{lane_byte, byte_back}
 use Rattle.dtx_slice.proofs.PlacesLemmas.{before_first, bytes_more, bytes_over, lane_byte_is, later_byte_is}
 use Rattle.dtx_slice.proofs.walk.walk.Goals as goal
 

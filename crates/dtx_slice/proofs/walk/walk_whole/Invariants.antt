@@ -1,5 +1,5 @@
 use Rattle.std.proofs.Common.{◌≡◌, ℕ, ◌+◌, ◌-◌, ◌*◌, ◌<◌, ◌≤◌, get_or, length}
-use Rattle.dtx_slice.specs.Lanes.{later_byte}
+use Rattle.dtx_slice.specs.Unrolled.{later_byte}
 use Rattle.dtx_slice.proofs.walk.walk_whole.Given as goal
 
 abbrev pub invariant-loop-byte : goal.invariant-loop-byte

@@ -1,5 +1,5 @@
 use Rattle.std.proofs.Common.{◌≡◌, ℕ, ◌+◌, ◌*◌, ◌/◌, ◌%◌, ◌<◌, get_or, ap, ◌∙◌, arith}
-use Rattle.dtx_slice.specs.Lanes.{lane_place}
+use Rattle.dtx_slice.specs.Unrolled.{lane_place}
 use Rattle.dtx_slice.proofs.PlacesLemmas.{lane_joined, lane_stays}
 use Rattle.dtx_slice.proofs.walk.whole_rounds.Goals as goal
 

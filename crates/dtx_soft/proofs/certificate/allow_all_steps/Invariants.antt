@@ -1,5 +1,5 @@
 use Rattle.std.proofs.Common.{ℕ, ◌+◌, ◌<◌, [], pos, slice_index_or}
-use Rattle.dtx_soft.specs.Certificate.{AllowsSteps}
+use Rattle.dtx_soft.specs.Least.{AllowsSteps}
 use Rattle.dtx_soft.proofs.certificate.allow_all_steps.Given as goal
 
 abbrev pub invariant-loop-t : goal.invariant-loop-t

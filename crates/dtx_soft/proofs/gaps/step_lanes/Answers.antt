@@ -2,7 +2,7 @@ use Rattle.std.proofs.Common.{◌≡◌, ℤ, pos, get_or, sym, ap, ◌∙◌, s
 use Rattle.std.proofs.lemmas.Int.{to_z-of_z}
 use Rattle.dtx_soft.specs.Bounds.{IsBounded, IsReached}
 use Rattle.dtx_soft.specs.Gaps.{AreSigns, AreSums, gap_of, gaps_of, squares_of}
-use Rattle.dtx_soft.specs.Squares.{IsSquares}
+use Rattle.dtx_soft.specs.Nearest.{IsSquares}
 use Rattle.dtx_soft.proofs.ColumnsLemmas.{lane_stepped}
 use Rattle.dtx_soft.proofs.GapBounds.{squares_within, sums_bounded}
 use Rattle.dtx_soft.proofs.GapSteps.{one_step}

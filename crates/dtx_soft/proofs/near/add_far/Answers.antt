@@ -1,7 +1,7 @@
 use Rattle.std.proofs.Common.{◌≡◌, ◌↔◌, get_or, pos, ◌∙◌, arith}
 use Rattle.std.proofs.lemmas.Int.{to_z-of_z}
 use Rattle.std.proofs.lemmas.List.{get_or-set_other, length-set}
-use Rattle.dtx_soft.specs.Near.{IsNear}
+use Rattle.dtx_soft.specs.Bounds.{IsNear}
 use Rattle.dtx_soft.proofs.WritesLemmas.{by_entry}
 use Rattle.dtx_soft.proofs.near.add_far.Goals as goal
 

@@ -1,5 +1,5 @@
 use Rattle.std.proofs.Common.{◌≡◌, ◌↔◌, ℕ, ◌<◌, ◌≤◌, get_or, length, pos}
-use Rattle.dtx_soft.specs.Near.{IsNear}
+use Rattle.dtx_soft.specs.Bounds.{IsNear}
 use Rattle.dtx_soft.proofs.near.add_far.Given as goal
 
 abbrev pub invariant-loop-n : goal.invariant-loop-n

@@ -1,5 +1,5 @@
 use Rattle.std.proofs.Common.{◌≡◌, ◌↔◌, ℕ, ◌<◌, [], get_or, pos}
-use Rattle.dtx_soft.specs.Near.{IsNear}
+use Rattle.dtx_soft.specs.Bounds.{IsNear}
 use Rattle.dtx_soft.proofs.near.far_lanes.Given as goal
 
 abbrev pub invariant-loop-t : goal.invariant-loop-t

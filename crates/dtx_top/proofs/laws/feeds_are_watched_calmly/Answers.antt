@@ -20,14 +20,14 @@ use Rattle.dtx_plan.specs.declared.plan.Plan.{Plan}
 use Rattle.dtx_words.specs.Fitting.{command_of}
 use Rattle.dtx_words.specs.declared.rows.Command.{Command}
 use Rattle.dtx_words.specs.declared.rows.Command.TheVariants.{Watch}
-use Rattle.dtx_recipes.specs.Feed.{bytes_of_packets}
+use Rattle.dtx_recipes.specs.Adapt.{bytes_of_packets}
 use Rattle.dtx_forms.proofs.FilePacketsLemmas.{IsLong}
 use Rattle.dtx_packet_jobs.proofs.PacketFileLemmas.{length-bytes_of_packets, packets_of-bytes}
 use Rattle.dtx_packet_jobs.proofs.PacketFileLemmas.{whole_packets-bytes}
 use Rattle.dtx_forms.specs.Shapes.{single_packets}
 use Rattle.dtx_recipes.specs.Watch.{watching}
 use Rattle.dtx_recipes.specs.WatchedFeed.{IsWatchedCalmly}
-use Rattle.dtx_top.specs.Means.{means, means_of}
+use Rattle.dtx_top.specs.Jobs.{means, means_of}
 use Rattle.dtx_top.proofs.laws.feeds_are_watched_calmly.Goals as goal
 
 names_differ : (input output : List ℕ) → input ≢ output → (b : Bool) → bytes_eq input output ≡ b

@@ -1,7 +1,7 @@
 use Rattle.std.proofs.Common.{pos, ap, ◌∙◌}
 use Rattle.std.specs.Option.{option_map}
 use Rattle.dtx_plan.specs.declared.transmitter.Transmitter.{Transmitter}
-use Rattle.dtx_top.specs.GivenNames.{is_given}
+use Rattle.dtx_top.specs.NetNames.{is_given}
 use Rattle.dtx_top.proofs.FileNames.{found_next, small_next}
 use Rattle.dtx_top.proofs.network_names.given_again.Goals as goal
 

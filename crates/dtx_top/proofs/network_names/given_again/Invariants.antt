@@ -2,7 +2,7 @@ use Rattle.std.proofs.Common.{◌≡◌, ◌<◌, ◌^◌, take}
 use Rattle.std.specs.Prelude.{All, find}
 use Rattle.std.specs.Option.{option_map}
 use Rattle.dtx_schedule.specs.TransmitterFiles.{transmitter_names}
-use Rattle.dtx_top.specs.GivenNames.{is_given}
+use Rattle.dtx_top.specs.NetNames.{is_given}
 use Rattle.dtx_top.proofs.network_names.given_again.Given as goal
 
 abbrev pub invariant-loop-transmitter : goal.invariant-loop-transmitter

@@ -3,8 +3,8 @@ use Rattle.std.specs.Prelude.{find}
 use Rattle.std.specs.Str.{bytes_eq}
 use Rattle.dtx_plan.specs.declared.transmitter.Transmitter.{Transmitter}
 use Rattle.dtx_schedule.specs.TransmitterFiles.{transmitter_names}
-use Rattle.dtx_words.specs.NetworkNames.{feed_name}
-use Rattle.dtx_top.specs.GivenNames.{is_given}
+use Rattle.dtx_words.specs.Names.{feed_name}
+use Rattle.dtx_top.specs.NetNames.{is_given}
 use Rattle.dtx_top.specs.Networks.{received_names}
 use Rattle.dtx_top.proofs.FileNames.{AreSmall, repeated_past}
 use Rattle.dtx_top.proofs.network_names.repeated_file.Goals as goal

@@ -3,7 +3,7 @@ use Rattle.dtx_engine.specs.Recipe.{IsAnswerOf, Recipe}
 use Rattle.dtx_forms.specs.Damaged.{damaged_making}
 use Rattle.dtx_recipes.specs.Receive.{receiving}
 use Rattle.dtx_forms.specs.Shapes.{segments}
-use Rattle.dtx_words.specs.NetworkNames.{received_name, symbol_name}
+use Rattle.dtx_words.specs.Names.{received_name, symbol_name}
 use Rattle.dtx_words.specs.declared.rows.Command.TheVariants.{Receive}
 use Rattle.dtx_top.proofs.Carrying.{carried_by}
 use Rattle.dtx_top.proofs.ByWords.{known_numbers}

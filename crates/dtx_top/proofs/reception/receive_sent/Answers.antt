@@ -1,4 +1,4 @@
-use Rattle.dtx_words.specs.NetworkNames.{symbol_name}
+use Rattle.dtx_words.specs.Names.{symbol_name}
 use Rattle.std.proofs.Common.{sym, ◌∙◌}
 use Rattle.dtx_top.proofs.Carrying.{past_air, within_air}
 use Rattle.dtx_top.proofs.NetAnswers.{damage_of_replay}

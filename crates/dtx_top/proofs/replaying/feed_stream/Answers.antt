@@ -2,7 +2,7 @@ use Rattle.std.proofs.Common.{subst}
 use Rattle.dtx_engine.specs.Recipe.{IsAnswerOf, Recipe}
 use Rattle.dtx_forms.specs.Shapes.{packets}
 use Rattle.dtx_recipes.specs.Adapt.{feeding}
-use Rattle.dtx_words.specs.NetworkNames.{feed_name}
+use Rattle.dtx_words.specs.Names.{feed_name}
 use Rattle.dtx_words.specs.declared.rows.Command.TheVariants.{Code}
 use Rattle.dtx_top.proofs.Carrying.{carried_by}
 use Rattle.dtx_top.proofs.ByWords.{known_numbers}

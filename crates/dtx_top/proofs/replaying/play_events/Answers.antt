@@ -3,7 +3,7 @@ use Rattle.std.proofs.Common.{sym, ap, ◌∙◌}
 use Rattle.dtx_meaning.specs.declared.status.Outcome.{Outcome}
 use Rattle.dtx_network.specs.Network.{steps_under}
 use Rattle.dtx_schedule.specs.Played.{IsPlayOf}
-use Rattle.dtx_schedule.specs.Progress.{IsProgressOf}
+use Rattle.dtx_schedule.specs.PlayedSoFar.{IsProgressOf}
 use Rattle.dtx_top.specs.NetProgress.{reception_outputs}
 use Rattle.dtx_top.proofs.NetAnswers.{feed_not_done, feed_of_replay}
 use Rattle.dtx_top.proofs.NetProgresses.{broken_off}

@@ -1,6 +1,6 @@
 use Rattle.std.proofs.Common.{sym}
 use Rattle.dtx_top.specs.Ends.{HasHeadlineOf}
-use Rattle.dtx_top.specs.Means.{means_of}
+use Rattle.dtx_top.specs.Jobs.{means_of}
 use Rattle.dtx_top.proofs.ByWords.{words_told}
 use Rattle.dtx_top.proofs.Ending.{all_done_then, done_told, ended_of, unprinted_told}
 use Rattle.dtx_top.proofs.LineLeft.{line_told, line_untold}

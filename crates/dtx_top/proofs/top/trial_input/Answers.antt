@@ -1,8 +1,7 @@
 use Rattle.std.proofs.Common.{List, ℕ, [], ◌∷◌, ◌++◌, ap, sym, ◌∙◌, lit<}
 use Rattle.std.specs.Prelude.{codes}
 use Rattle.std.proofs.lemmas.Fmt.{decimal_digit}
-use Rattle.dtx_words.specs.Names.{line_name}
-use Rattle.dtx_words.specs.NetworkNames.{feed_name, trial_name}
+use Rattle.dtx_words.specs.Names.{line_name, feed_name, trial_name}
 use Rattle.dtx_top.proofs.top.trial_input.Goals as goal
 
 pub returns : goal.returns

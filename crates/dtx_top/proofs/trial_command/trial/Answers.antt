@@ -2,7 +2,7 @@ use Rattle.std.proofs.Common.{ℕ, ◌-◌, ◌^◌, List, ap, subst, sym, ◌�
 use Rattle.std.specs.Prelude.{Some, IfSome}
 use Rattle.dtx_forms.proofs.NumbersLemmas.{within_range}
 use Rattle.dtx_meaning.specs.Meaning.{IsCarriedOut}
-use Rattle.dtx_words.specs.Number.{number_in, number_within}
+use Rattle.dtx_words.specs.Fitting.{number_in, number_within}
 use Rattle.dtx_top.specs.Trial.{HasNumbersProgress, HasTrialProgress, trial_meaning, trial_of}
 use Rattle.dtx_top.proofs.Trials.{of_words, three_words}
 use Rattle.dtx_top.proofs.trial_command.trial.Goals as goal

@@ -1,6 +1,6 @@
 use Rattle.std.proofs.Common.{◌≡◌, ◌<◌, ◌^◌, sym, subst, arith, rules}
 use Rattle.std.specs.Prelude.{Some, None}
-use Rattle.dtx_words.specs.Number.{number_in, BeginsPlain}
+use Rattle.dtx_words.specs.Fitting.{number_in, BeginsPlain}
 use Rattle.dtx_words.proofs.Numbers.{number_in_spelled, spelled_as, not_plain, parsed, not_parsed, too_large}
 use Rattle.dtx_words.proofs.number.number_up_to.Goals as goal
 

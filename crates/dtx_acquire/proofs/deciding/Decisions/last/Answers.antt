@@ -1,7 +1,7 @@
 use Rattle.std.proofs.Common.{◌≡◌, ◌+◌, pos, get_or, length-set, to_z, of_z, w8, ap, ◌∙◌, arith, rules}
 use Rattle.std.proofs.lemmas.Int.{to_z-of_z}
 use Rattle.dtx_trellis.specs.Trellis.{symbol_of}
-use Rattle.dtx_acquire.specs.Scaled.{decided}
+use Rattle.dtx_acquire.specs.Acquired.{decided}
 use Rattle.dtx_acquire.proofs.Each.{each_from, written_more}
 use Rattle.dtx_acquire.proofs.deciding.Decisions.last.Goals as goal
 

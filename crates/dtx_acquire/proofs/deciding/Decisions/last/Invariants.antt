@@ -1,5 +1,5 @@
 use Rattle.std.proofs.Common.{◌≡◌, ℕ, ◌+◌, ◌<◌, pos, get_or, length}
-use Rattle.dtx_acquire.specs.Scaled.{decided}
+use Rattle.dtx_acquire.specs.Acquired.{decided}
 use Rattle.dtx_acquire.proofs.deciding.Decisions.last.Given as goal
 
 abbrev pub invariant-loop-q : goal.invariant-loop-q

@@ -2,7 +2,7 @@ use Rattle.std.proofs.Common.{◌≡◌, ◌+ℤ◌, ◌-ℤ◌, ◌<◌, ℕ, p
 use Rattle.std.proofs.Common.{to_z, of_z, w8, w16}
 use Rattle.std.proofs.lemmas.Int.{ints, to_z-of_z}
 use Rattle.std.proofs.lemmas.List.{get_or_default}
-use Rattle.dtx_acquire.specs.Scaled.{IsLevel}
+use Rattle.dtx_acquire.specs.Acquired.{IsLevel}
 use Rattle.dtx_acquire.proofs.deciding.Decisions.level.Goals as goal
 
 pub returns : goal.returns

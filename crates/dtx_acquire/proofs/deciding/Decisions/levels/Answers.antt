@@ -1,6 +1,6 @@
 use Rattle.std.proofs.Common.{◌+◌, pos, get_or, length-set, w8, subst, ◌∙◌, arith, rules}
 use Rattle.std.proofs.lemmas.Int.{to_z-of_z}
-use Rattle.dtx_acquire.specs.Scaled.{IsLevel, scaled_level}
+use Rattle.dtx_acquire.specs.Acquired.{IsLevel, scaled_level}
 use Rattle.dtx_acquire.proofs.Each.{each_from, written_more}
 use Rattle.dtx_acquire.proofs.deciding.Decisions.levels.Goals as goal
 

@@ -1,5 +1,5 @@
 use Rattle.std.proofs.Common.{◌≡◌, ℕ, ◌+◌, ◌<◌, pos, get_or, length}
-use Rattle.dtx_acquire.specs.Scaled.{IsLevel}
+use Rattle.dtx_acquire.specs.Acquired.{IsLevel}
 use Rattle.dtx_acquire.proofs.deciding.Decisions.levels.Given as goal
 
 abbrev pub invariant-loop-d : goal.invariant-loop-d

@@ -1,7 +1,7 @@
 use Rattle.std.proofs.Common.{map, sym, ap, subst}
 use Rattle.std.specs.Option.{unwrap_or}
 use Rattle.dtx_outer.specs.Outer.{Held}
-use Rattle.dtx_coder.specs.Coded.{coded_from}
+use Rattle.dtx_coder.specs.Stream.{coded_from}
 use Rattle.dtx_coder.specs.Groups.{Coding, Group, IsAtsc, IsCoded, bytes_of}
 use Rattle.dtx_coder.proofs.Packets.{atsc_after}
 use Rattle.dtx_coder.proofs.BatchesLemmas.{sent_coded}

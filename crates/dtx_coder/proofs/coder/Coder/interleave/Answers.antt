@@ -1,6 +1,6 @@
 use Rattle.std.proofs.Common.{sym, ap, subst}
 use Rattle.dtx_outer.specs.Outer.{Held}
-use Rattle.dtx_coder.specs.Coded.{coded_from}
+use Rattle.dtx_coder.specs.Stream.{coded_from}
 use Rattle.dtx_coder.specs.Groups.{Coding, IsAtsc}
 use Rattle.dtx_coder.specs.Batches.{IsAhead}
 use Rattle.dtx_coder.proofs.Packets.{atsc_after}

@@ -1,8 +1,7 @@
 use Rattle.std.proofs.Common.{◌++◌, sym, ap, ap₂, ◌∙◌, subst}
 use Rattle.dtx_laws.specs.Branches.{leaving_all, after_all}
 use Rattle.dtx_outer.specs.Outer.{Held}
-use Rattle.dtx_dvb.specs.Stream.{dvb}
-use Rattle.dtx_dvb.specs.Sending.{HasSent}
+use Rattle.dtx_dvb.specs.Stream.{dvb, HasSent}
 use Rattle.dtx_dvb.proofs.StreamLemmas.{bytes_more, sent_more}
 use Rattle.dtx_dvb.proofs.sending.DvbOut.batch.Goals as goal
 

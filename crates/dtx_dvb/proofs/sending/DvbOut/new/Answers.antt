@@ -1,6 +1,6 @@
 use Rattle.std.proofs.Common.{[], sym, ap, ◌∙◌, subst}
 use Rattle.dtx_outer.specs.Outer.{Held}
-use Rattle.dtx_dvb.specs.Sending.{HasSent}
+use Rattle.dtx_dvb.specs.Stream.{HasSent}
 use Rattle.dtx_dvb.proofs.StreamLemmas.{sent_nothing}
 use Rattle.dtx_dvb.proofs.sending.DvbOut.new.Goals as goal
 

@@ -1,7 +1,6 @@
 use Rattle.std.proofs.Common.{◌≡◌, ◌++◌, ◌∷◌, [], length, sym, ap, ap₂, ◌∙◌, subst, arith}
 use Rattle.dtx_laws.specs.Branches.{leaving_all, after_all}
-use Rattle.dtx_dvb.specs.Stream.{dvb}
-use Rattle.dtx_dvb.specs.Sending.{HasSent}
+use Rattle.dtx_dvb.specs.Stream.{dvb, HasSent}
 use Rattle.dtx_dvb.proofs.StreamLemmas.{blocks_one, bytes_more, sent_more}
 use Rattle.dtx_dvb.proofs.Blocks.{coded_is}
 use Rattle.dtx_dvb.proofs.sending.DvbOut.packet.Goals as goal

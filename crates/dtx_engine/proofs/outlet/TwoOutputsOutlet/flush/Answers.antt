@@ -5,8 +5,7 @@ use Rattle.dtx_engine.proofs.Outlets.{view_first, view_flushed, all_unput, first
 use Rattle.std.proofs.Common.{subst, sym, arith}
 use Rattle.std.specs.Prelude.{Option}
 use Rattle.std.specs.Option.{option_map}
-use Rattle.dtx_outside.specs.Shelf.{Files, with_file}
-use Rattle.dtx_outside.specs.Written.{IsGathered}
+use Rattle.dtx_outside.specs.Shelf.{Files, with_file, IsGathered}
 use Rattle.dtx_engine.proofs.Nearly.{nearly_second, short_alone, whole_both}
 use Rattle.dtx_engine.proofs.StagesLemmas.{calm_behind}
 use Rattle.dtx_engine.proofs.outlet.TwoOutputsOutlet.flush.Goals as goal

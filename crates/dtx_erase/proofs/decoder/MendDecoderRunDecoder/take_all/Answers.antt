@@ -1,5 +1,5 @@
 use Rattle.std.proofs.Common.{sym}
-use Rattle.dtx_receiver.specs.Symbols.{symbols_in}
+use Rattle.dtx_receiver.specs.Bytes.{symbols_in}
 use Rattle.dtx_erase.proofs.Packets.{all_taken}
 use Rattle.dtx_erase.proofs.decoder.MendDecoderRunDecoder.take_all.Goals as goal
 

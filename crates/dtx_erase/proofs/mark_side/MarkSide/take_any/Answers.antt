@@ -1,8 +1,7 @@
 use Rattle.std.proofs.Common.{◌*◌, ◌++◌, ◌∙◌, sym, ap, subst, take, drop, arith}
 use Rattle.dtx_laws.specs.Branches.{after_all}
-use Rattle.dtx_receiver.specs.Bytes.{bytes_in}
+use Rattle.dtx_receiver.specs.Bytes.{bytes_in, symbols_in}
 use Rattle.dtx_receiver.specs.Receiver.{Grouping}
-use Rattle.dtx_receiver.specs.Symbols.{symbols_in}
 use Rattle.dtx_receiver.proofs.GroupedLemmas.{flat, grouped_none}
 use Rattle.dtx_erase.specs.Marks.{shown_run}
 use Rattle.dtx_erase.specs.Sides.{Side, Holds, IsFurther}

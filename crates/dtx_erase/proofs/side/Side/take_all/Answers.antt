@@ -1,7 +1,6 @@
 use Rattle.std.proofs.Common.{◌++◌, ◌∙◌, sym, ap, subst}
-use Rattle.dtx_receiver.specs.Symbols.{symbols_in}
+use Rattle.dtx_receiver.specs.Bytes.{symbols_in, bytes_in}
 use Rattle.dtx_receiver.proofs.GroupedLemmas.{grouped_none}
-use Rattle.dtx_receiver.specs.Bytes.{bytes_in}
 use Rattle.dtx_erase.specs.Sides.{Side, Holds}
 use Rattle.dtx_erase.proofs.Stands.{side, held_passed, further_held}
 use Rattle.dtx_erase.proofs.side.Side.take_all.Goals as goal

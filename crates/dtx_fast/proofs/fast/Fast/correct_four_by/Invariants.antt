@@ -1,5 +1,5 @@
 use Rattle.std.proofs.Common.{◌≡◌, ℕ, ◌<◌, ◌≤◌, [], Ok, MatchResult, length, slice_index_or}
-use Rattle.dtx_laws.specs.Correction.{IsCorrected, IsLeft}
+use Rattle.dtx_laws.specs.Words.{IsCorrected, IsLeft}
 use Rattle.dtx_fast.proofs.fast.Fast.correct_four_by.Given as goal
 
 abbrev pub invariant-loop-p : goal.invariant-loop-p

@@ -1,7 +1,6 @@
 use Rattle.std.proofs.Common.{◌≡◌, ◌∙◌, ◌-◌, ◌<◌, ℕ, List, length, sym, ap, arith, get_or, take}
 use Rattle.std.proofs.lemmas.List.{get_or-take, length-take-le}
-use Rattle.dtx_galois.specs.Field.{pow}
-use Rattle.dtx_galois.specs.Word.{sums}
+use Rattle.dtx_galois.specs.Field.{pow, sums}
 use Rattle.dtx_galois.proofs.WordsLemmas.{length_sums}
 use Rattle.dtx_laws.proofs.PartsLemmas.{sums_at}
 use Rattle.dtx_fast.specs.Recurrence.{walked}

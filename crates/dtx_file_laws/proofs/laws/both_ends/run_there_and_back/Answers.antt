@@ -2,7 +2,7 @@ use Rattle.std.proofs.Common.{◌≡◌, [], ◌∷◌, refl, ap, subst}
 use Rattle.dtx_meaning.specs.Meaning.{Meaning}
 use Rattle.dtx_recipes.specs.Receive.{with_corrections}
 use Rattle.dtx_recipes.proofs.ReceiveLemmas.{corrections_given}
-use Rattle.dtx_recipes.specs.Symbols.{symbol_bytes}
+use Rattle.dtx_recipes.specs.SymbolFile.{symbol_bytes}
 use Rattle.dtx_packets.specs.Packets.{packets_of}
 use Rattle.dtx_words.specs.declared.rows.Command.TheVariants.{Receive}
 use Rattle.dtx_file_laws.specs.Back.{IsGivenBack}

@@ -1,7 +1,7 @@
 use Rattle.std.specs.Prelude.{◌+◌, []}
 use Rattle.dtx_adapter.specs.Feed.{feed}
 use Rattle.dtx_network.specs.Headline.{stretch_of}
-use Rattle.dtx_network.specs.Presets.{presets}
+use Rattle.dtx_network.specs.Orders.{presets}
 use Rattle.dtx_file_laws.proofs.Excited.{excited_with}
 use Rattle.dtx_file_laws.proofs.laws.exciting.a_feed_is_sent.Goals as goal
 

@@ -1,4 +1,4 @@
-use Rattle.dtx_recipes.specs.Feed.{feed_bytes}
+use Rattle.dtx_recipes.specs.Adapt.{feed_bytes}
 use Rattle.dtx_packets.specs.Packets.{packets_of}
 use Rattle.dtx_file_laws.proofs.BothEnds.{holds_bytes}
 use Rattle.dtx_file_laws.proofs.FeedEnds.{feed_is, numbers_of}

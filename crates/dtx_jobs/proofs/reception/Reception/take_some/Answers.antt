@@ -1,6 +1,6 @@
 use Rattle.std.proofs.Common.{◌+◌, ◌++◌, ℕ, List, length, take, subst, sym, ap, ◌∙◌, arith}
 use Rattle.std.proofs.lemmas.List.{length-map, length-take-le}
-use Rattle.dtx_receiver.specs.Symbols.{symbols_in, symbols_of}
+use Rattle.dtx_receiver.specs.Bytes.{symbols_in, symbols_of}
 use Rattle.dtx_recipes.specs.Tally.{tally_with}
 use Rattle.dtx_recipes.specs.declared.tally.Tally.{Tally}
 use Rattle.dtx_jobs.proofs.Tallied.{tally_on}

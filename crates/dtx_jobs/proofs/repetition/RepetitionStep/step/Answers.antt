@@ -1,7 +1,7 @@
 use Rattle.std.proofs.Common.{◌≡◌, ◌+◌, ◌++◌, ℕ, ℤ, List, length, take, refl, sym, ap, subst, ◌∙◌, arith}
 use Rattle.std.proofs.lemmas.List.{length-append, length-map, length-take-le}
 use Rattle.dtx_receiver.specs.Runs.{runs}
-use Rattle.dtx_receiver.specs.Symbols.{symbols_in, symbols_of}
+use Rattle.dtx_receiver.specs.Bytes.{symbols_in, symbols_of}
 use Rattle.dtx_repeat.specs.GoingOn.{AreGiven, last_life, longer}
 use Rattle.dtx_repeat.specs.Lives.{lives_so_far, packets_in}
 use Rattle.dtx_repeat.specs.Repeater.{StandsFor, given_with}

@@ -3,7 +3,7 @@ use Rattle.dtx_receiver.proofs.CountingLemmas.{no_segments}
 use Rattle.dtx_repeat.specs.GoingOn.{last_life}
 use Rattle.dtx_repeat.proofs.LivesLemmas.{no_lives}
 use Rattle.dtx_repeat.specs.Repeater.{StandsFor}
-use Rattle.dtx_recipes.specs.Lives.{lives_tally}
+use Rattle.dtx_recipes.specs.Life.{lives_tally}
 use Rattle.dtx_recipes.specs.declared.life_tally.LifeTally.{LifeTally}
 use Rattle.dtx_jobs.proofs.LivesOn.{no_tally}
 use Rattle.dtx_jobs.proofs.repetition.RepetitionTransmitting.new.Goals as goal

@@ -2,7 +2,7 @@ use Rattle.std.proofs.Common.{◌<◌, ◌++◌, [], ℕ, List, length, ap, ap�
 use Rattle.std.proofs.lemmas.List.{take_more}
 use Rattle.dtx_engine.specs.Made.{both}
 use Rattle.dtx_files.specs.Symbols.{segment_bytes}
-use Rattle.dtx_receiver.specs.Symbols.{symbols_in}
+use Rattle.dtx_receiver.specs.Bytes.{symbols_in}
 use Rattle.dtx_recipes.specs.Soft.{soft_so_far}
 use Rattle.dtx_recipes.specs.SymbolFile.{file_segments}
 use Rattle.dtx_jobs.specs.Softening.{IsSoftening}

@@ -7,7 +7,7 @@ use Rattle.dtx_coder.specs.Batches.{AreInterleaved}
 use Rattle.dtx_coder.specs.Groups.{StandsFor}
 use Rattle.dtx_coder.specs.Stream.{a53_symbols}
 use Rattle.dtx_files.specs.Symbols.{byte_of_symbol}
-use Rattle.dtx_recipes.specs.Symbols.{symbol_bytes}
+use Rattle.dtx_recipes.specs.SymbolFile.{symbol_bytes}
 use Rattle.dtx_jobs.proofs.stream_coder.StreamCoder.code_batch.Goals as goal
 
 pub loop-i-init : goal.loop-i-init

@@ -1,7 +1,7 @@
 use Rattle.std.proofs.Common.{◌≡◌, ◌≤◌, ◌+◌, ◌*◌, ◌++◌, ℕ, List, length, take}
 use Rattle.dtx_coder.specs.Batches.{AreInterleaved}
 use Rattle.dtx_coder.specs.Groups.{StandsFor}
-use Rattle.dtx_recipes.specs.Symbols.{symbol_bytes}
+use Rattle.dtx_recipes.specs.SymbolFile.{symbol_bytes}
 use Rattle.dtx_jobs.proofs.stream_coder.StreamCoder.code_batch.Given as goal
 
 abbrev pub invariant-loop-i : goal.invariant-loop-i

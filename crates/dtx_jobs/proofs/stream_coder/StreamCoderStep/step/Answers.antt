@@ -5,7 +5,7 @@ use Rattle.dtx_engine.specs.Made.{both}
 use Rattle.dtx_packets.specs.Packets.{packets_of}
 use Rattle.dtx_forms.proofs.FilePacketsLemmas.{length-packets_of, packets_on}
 use Rattle.dtx_jobs.proofs.CodeLemmas.{all_in_groups, groups_behind, symbols_whole}
-use Rattle.dtx_recipes.specs.Symbols.{symbol_bytes, in_groups}
+use Rattle.dtx_recipes.specs.SymbolFile.{symbol_bytes, in_groups}
 use Rattle.dtx_jobs.proofs.stream_coder.StreamCoderStep.step.Goals as goal
 
 pub returns-clause-stepped : goal.returns-clause-stepped

@@ -2,7 +2,7 @@ use Rattle.std.proofs.Common.{◌<◌, List, length, take, get_or, sym, ap, ◌�
 use Rattle.std.proofs.lemmas.List.{length-take-le}
 use Rattle.dtx_watch.specs.declared.notes.Note.{Note}
 use Rattle.dtx_watch.specs.declared.notes.NoteKind.TheVariants.{Lock}
-use Rattle.dtx_recipes.specs.WatchTally.{HasRoom}
+use Rattle.dtx_recipes.specs.Watch.{HasRoom}
 use Rattle.dtx_jobs.proofs.WatchLemmas.{room_within, lines_next, tally_next}
 use Rattle.dtx_jobs.proofs.watching.Watching.gather.Goals as goal
 

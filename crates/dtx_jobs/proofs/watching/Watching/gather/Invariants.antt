@@ -1,6 +1,6 @@
 use Rattle.std.proofs.Common.{◌≡◌, ◌≤◌, ◌+◌, ◌*◌, ◌++◌, length, take}
 use Rattle.dtx_watch.specs.WatchText.{watch_text}
-use Rattle.dtx_recipes.specs.WatchTally.{tally_with}
+use Rattle.dtx_recipes.specs.Watch.{tally_with}
 use Rattle.dtx_jobs.proofs.watching.Watching.gather.Given as goal
 
 abbrev pub invariant-loop-i : goal.invariant-loop-i

@@ -8,8 +8,7 @@ use Rattle.dtx_watch.specs.declared.notes.Note.{Note}
 use Rattle.dtx_meaning.specs.Status.{done}
 use Rattle.dtx_engine.specs.Made.{only}
 use Rattle.dtx_forms.proofs.FilePacketsLemmas.{length-packets_of}
-use Rattle.dtx_recipes.specs.Watch.{watch_tally, watch_numbers}
-use Rattle.dtx_recipes.specs.WatchTally.{tally_with}
+use Rattle.dtx_recipes.specs.Watch.{watch_tally, watch_numbers, tally_with}
 use Rattle.dtx_jobs.proofs.WatchLemmas.{has_room, tally_parts, waiting_is}
 use Rattle.dtx_recipes.specs.declared.watch_tally.WatchTally.{WatchTally}
 use Rattle.dtx_jobs.proofs.watching.WatchingStep.finish.Goals as goal

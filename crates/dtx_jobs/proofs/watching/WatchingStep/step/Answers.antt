@@ -8,10 +8,9 @@ use Rattle.dtx_watch.specs.Watch.{told}
 use Rattle.dtx_watch.specs.WatchText.{watch_text}
 use Rattle.dtx_watch.specs.declared.notes.Note.{Note}
 use Rattle.dtx_forms.proofs.FilePacketsLemmas.{length-packets_of, packets_on}
-use Rattle.dtx_recipes.specs.Watch.{watch_tally, watched_bytes}
+use Rattle.dtx_recipes.specs.Watch.{watch_tally, watched_bytes, tally_with}
 use Rattle.dtx_recipes.proofs.WatchLemmas.{watched_parts}
 use Rattle.dtx_jobs.specs.Watching.{IsWatched}
-use Rattle.dtx_recipes.specs.WatchTally.{tally_with}
 use Rattle.dtx_recipes.specs.declared.watch_tally.WatchTally.{WatchTally}
 use Rattle.dtx_jobs.proofs.WatchLemmas.{has_room, tally_parts}
 use Rattle.dtx_jobs.proofs.watching.WatchingStep.step.Goals as goal

@@ -1,6 +1,5 @@
 use Rattle.std.proofs.Common.{◌≡◌, ℕ, ◌<◌, get_or, length}
-use Rattle.dtx_galois.specs.Field.{value, pow}
-use Rattle.dtx_galois.specs.Word.{sums}
+use Rattle.dtx_galois.specs.Field.{value, pow, sums}
 use Rattle.dtx_laws.proofs.correcting.syndromes.syndromes_of.Given as goal
 
 abbrev pub invariant-loop-i : goal.invariant-loop-i

@@ -1,8 +1,7 @@
 use Rattle.std.proofs.Common.{◌≡◌, ℕ, ◌<◌, List, get_or, bit_xor, refl, sym, ap, ap₂, ◌∙◌, subst, arith}
 use Rattle.std.proofs.lemmas.List.{take_all}
 use Rattle.std.specs.Int.Bits.{xor_lt}
-use Rattle.dtx_galois.specs.Field.{mul, value}
-use Rattle.dtx_galois.specs.Word.{sums}
+use Rattle.dtx_galois.specs.Field.{mul, value, sums}
 use Rattle.dtx_galois.proofs.ValuesLemmas.{value_more}
 use Rattle.dtx_galois.proofs.WordsLemmas.{length_sums}
 use Rattle.dtx_laws.proofs.PartsLemmas.{sums_at}

@@ -1,6 +1,5 @@
 use Rattle.std.proofs.Common.{◌≡◌, take}
-use Rattle.dtx_galois.specs.Field.{value}
-use Rattle.dtx_galois.specs.Word.{sums}
+use Rattle.dtx_galois.specs.Field.{value, sums}
 use Rattle.dtx_laws.proofs.correcting.syndromes.value_of_sum.Given as goal
 
 abbrev pub invariant-loop-i : goal.invariant-loop-i

@@ -1,7 +1,6 @@
 use Rattle.std.proofs.Common.{◌≡◌, ℕ, Bool, bit_xor, refl, sym, ap, ap₂, ◌∙◌, arith, get_or}
 use Rattle.dtx_galois.specs.Field.{mul}
-use Rattle.dtx_laws.specs.Locator.{is_marked, power_at}
-use Rattle.dtx_laws.specs.ErrorValues.{others, weight, without}
+use Rattle.dtx_laws.specs.Locator.{is_marked, power_at, others, weight, without}
 use Rattle.dtx_laws.proofs.Turns.{rest_yes, rest_no, product_yes, product_no, error_made}
 use Rattle.dtx_laws.proofs.correcting.values.error_at.Goals as goal
 use Rattle.dtx_laws.proofs.correcting.values.error_at.Goals.{then-is_other, else-is_other}

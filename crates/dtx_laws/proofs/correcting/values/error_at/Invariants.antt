@@ -1,6 +1,5 @@
 use Rattle.std.proofs.Common.{◌≡◌, ℕ, ◌<◌, ◌+◌, get_or, length}
-use Rattle.dtx_laws.specs.ErrorValues.{others, weight, without}
-use Rattle.dtx_laws.specs.Locator.{is_marked, power_at}
+use Rattle.dtx_laws.specs.Locator.{others, weight, without, is_marked, power_at}
 use Rattle.dtx_laws.proofs.correcting.values.error_at.Given as goal
 
 abbrev pub invariant-loop-other : goal.invariant-loop-other

@@ -1,6 +1,5 @@
 use Rattle.std.proofs.Common.{◌≡◌, ℕ, ◌<◌, ◌≤◌, length, get_or}
-use Rattle.dtx_laws.specs.ErrorValues.{others, patched_at}
-use Rattle.dtx_laws.specs.Locator.{is_marked}
+use Rattle.dtx_laws.specs.Locator.{others, patched_at, is_marked}
 use Rattle.dtx_laws.proofs.correcting.values.patch.Given as goal
 
 abbrev pub invariant-loop-place : goal.invariant-loop-place

@@ -1,5 +1,5 @@
 use Rattle.std.proofs.Common.{◌≡◌, ◌++◌, Err, List, ℕ, subst, sym, ap, ◌∙◌}
-use Rattle.dtx_outside.specs.Written.{IsGathered, IsPartWritten}
+use Rattle.dtx_outside.specs.Shelf.{IsGathered, IsPartWritten}
 use Rattle.dtx_outside.proofs.WrittenLemmas.{gathered_of_rest, part_of_front, written_appended, written_more}
 use Rattle.dtx_outside.proofs.Parts.{parts_joined}
 use Rattle.dtx_outside.proofs.output.Output.write_on.Goals as goal

@@ -1,6 +1,6 @@
 use Rattle.std.proofs.Common.{◌++◌, sym, subst}
 use Rattle.std.proofs.lemmas.List.{take_more}
-use Rattle.dtx_packet_jobs.specs.DvbCoding.{IsSending}
+use Rattle.dtx_packet_jobs.specs.DvbReading.{IsSending}
 use Rattle.dtx_packet_jobs.proofs.dvb_coding.DvbCoding.send.Goals as goal
 
 pub returns-then-fours-eq0-clause-sent : goal.returns-then-fours-eq0-clause-sent

@@ -1,7 +1,6 @@
 use Rattle.std.proofs.Common.{◌≡◌, ◌≤◌, ◌*◌, ◌/◌, length, take, ap, ap₂, sym, subst, ◌∙◌, arith}
 use Rattle.std.proofs.lemmas.List.{length-append, length-take-le}
-use Rattle.dtx_dvb.specs.Sending.{HasSent}
-use Rattle.dtx_dvb.specs.Stream.{dvb}
+use Rattle.dtx_dvb.specs.Stream.{HasSent, dvb}
 use Rattle.dtx_engine.specs.Made.{both}
 use Rattle.dtx_packets.specs.Packets.{packets_of}
 use Rattle.dtx_forms.proofs.FilePacketsLemmas.{length-packets_of, packets_on}

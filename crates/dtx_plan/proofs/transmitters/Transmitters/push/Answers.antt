@@ -1,5 +1,5 @@
 use Rattle.std.proofs.Common.{rules, sym, subst, ◌∙◌}
-use Rattle.dtx_plan.specs.Places.{ArePlaces}
+use Rattle.dtx_plan.specs.TransmitterTable.{ArePlaces}
 use Rattle.dtx_plan.proofs.Places.{more_placed, same_placed}
 use Rattle.dtx_plan.proofs.transmitters.Transmitters.push.Goals as goal
 

@@ -1,9 +1,8 @@
 use Rattle.std.proofs.Common.{◌+◌, ◌*◌, ◌%◌, ◌++◌, sym, ap, subst, ◌∙◌}
 use Rattle.std.proofs.lemmas.List.{append-nil}
-use Rattle.dtx_receiver.specs.Bytes.{bytes_in}
+use Rattle.dtx_receiver.specs.Bytes.{bytes_in, symbols_in}
 use Rattle.dtx_receiver.specs.Packets.{early_of}
 use Rattle.dtx_receiver.specs.Receiver.{Decoding, Decodes, Grouping}
-use Rattle.dtx_receiver.specs.Symbols.{symbols_in}
 use Rattle.dtx_receiver.proofs.GroupedLemmas.{grouped_none}
 use Rattle.dtx_receiver.proofs.Stands.{decoding, decodes_given}
 use Rattle.dtx_receiver.proofs.decoder.DecoderRunDecoder.take_all.Goals as goal

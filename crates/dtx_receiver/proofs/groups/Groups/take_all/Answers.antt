@@ -3,7 +3,7 @@ use Rattle.std.proofs.Common.{◌∙◌, arith, append_assoc}
 use Rattle.std.proofs.lemmas.List.{append-nil, length-append, length-map, length-take-le, map-append, take_all}
 use Rattle.std.proofs.lemmas.List.{take_more}
 use Rattle.dtx_receiver.specs.Receiver.{AreGrouped}
-use Rattle.dtx_receiver.specs.Symbols.{symbols_in, symbols_of}
+use Rattle.dtx_receiver.specs.Bytes.{symbols_in, symbols_of}
 use Rattle.dtx_receiver.proofs.groups.Groups.take_all.Goals as goal
 
 -- one segment more

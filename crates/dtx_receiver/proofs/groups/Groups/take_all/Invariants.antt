@@ -1,7 +1,7 @@
 use Rattle.std.proofs.Common.{◌≡◌, ℕ, ◌+◌, ◌/◌, ◌%◌, ◌++◌, List, length, take}
 use Rattle.std.specs.Prelude.{ℤ}
 use Rattle.dtx_receiver.specs.Receiver.{AreGrouped}
-use Rattle.dtx_receiver.specs.Symbols.{symbols_in}
+use Rattle.dtx_receiver.specs.Bytes.{symbols_in}
 use Rattle.dtx_receiver.proofs.groups.Groups.take_all.Given as goal
 
 abbrev pub invariant-loop-i : goal.invariant-loop-i

@@ -1,6 +1,6 @@
 use Rattle.std.proofs.Common.{◌≡◌, ℕ, ℤ, ◌+◌, ◌-◌, ◌%◌, ◌≤◌, List, Some, length, take, sym, ap, ◌∙◌, arith}
 use Rattle.std.proofs.lemmas.List.{length-map, length-take-le}
-use Rattle.dtx_receiver.specs.Symbols.{symbols_in, symbols_of}
+use Rattle.dtx_receiver.specs.Bytes.{symbols_in, symbols_of}
 use Rattle.dtx_receiver.proofs.AnswersLemmas.{place_seen, seen, step_all}
 use Rattle.dtx_receiver.proofs.receiver.RunReceiver.take_data.Goals as goal
 

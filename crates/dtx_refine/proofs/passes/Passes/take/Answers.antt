@@ -1,6 +1,6 @@
 use Rattle.std.proofs.Common.{◌≡◌, ◌<◌, length, refl, ap, subst, arith}
 use Rattle.dtx_rounds.specs.Rounds.{fields_in}
-use Rattle.dtx_refine.specs.Passes.{HasTaken}
+use Rattle.dtx_refine.specs.Refiner.{HasTaken}
 use Rattle.dtx_refine.proofs.Steps.{idle}
 use Rattle.dtx_refine.proofs.passes.Passes.take.Goals as goal
 

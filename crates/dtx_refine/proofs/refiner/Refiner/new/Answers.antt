@@ -1,7 +1,7 @@
 use Rattle.std.proofs.Common.{length, refl, sym, ap, subst, arith}
 use Rattle.dtx_acquire.specs.Acquired.{acquired_so_far}
 use Rattle.dtx_acquire.proofs.AcquiredLemmas.{none_so_far}
-use Rattle.dtx_refine.specs.Passes.{ArePassed}
+use Rattle.dtx_refine.specs.Refiner.{ArePassed}
 use Rattle.dtx_refine.proofs.refiner.Refiner.new.Goals as goal
 
 pub returns-clause-stands : goal.returns-clause-stands

@@ -1,8 +1,7 @@
 use Rattle.std.proofs.Common.{ℤ, ◌≡◌, ◌+◌, ◌≤◌, List, ◌++◌, length, take, sym, ap, ◌∙◌, subst, arith}
 use Rattle.dtx_rounds.specs.Rounds.{refined_so_far}
 use Rattle.dtx_rounds.proofs.SoFarLemmas.{refined_front}
-use Rattle.dtx_refine.specs.Passes.{given_of}
-use Rattle.dtx_refine.specs.Refiner.{Refining, StandsFor, refining}
+use Rattle.dtx_refine.specs.Refiner.{given_of, Refining, StandsFor, refining}
 use Rattle.dtx_refine.proofs.Takes.{HasTakenSymbols, few_whole, given_now, given_within, stands_now}
 use Rattle.dtx_refine.proofs.refiner.Refiner.take.Goals as goal
 

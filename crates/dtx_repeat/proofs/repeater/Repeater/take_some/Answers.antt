@@ -1,7 +1,7 @@
 use Rattle.std.proofs.Common.{◌≡◌, ℕ, ℤ, ◌+◌, ◌%◌, List, [], ◌++◌, length, take, get_or, IfSome, sym, ap, subst, ◌∙◌}
 use Rattle.std.proofs.Common.{arith}
 use Rattle.dtx_receiver.specs.Runs.{tracked}
-use Rattle.dtx_receiver.specs.Symbols.{symbols_in, symbols_of}
+use Rattle.dtx_receiver.specs.Bytes.{symbols_in, symbols_of}
 use Rattle.dtx_receiver.specs.declared.batch.Received.{Received}
 use Rattle.dtx_repeat.specs.Repeater.{StandsFor, given_with, next_place}
 use Rattle.dtx_repeat.specs.Restored.{restored_so_far}

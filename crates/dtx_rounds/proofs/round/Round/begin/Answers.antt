@@ -3,7 +3,7 @@ use Rattle.std.proofs.lemmas.List.{get_or_default}
 use Rattle.dtx_slice.specs.Slicing.{sliced_last}
 use Rattle.dtx_rounds.specs.Known.{known_word}
 use Rattle.dtx_rounds.specs.RunField.{Holds}
-use Rattle.dtx_rounds.specs.Written.{IsWritten}
+use Rattle.dtx_rounds.specs.FieldRound.{IsWritten}
 use Rattle.dtx_rounds.proofs.FoundFields.{in_run_unchanged}
 use Rattle.dtx_rounds.proofs.HeldFields.{held_first}
 use Rattle.dtx_rounds.proofs.LaidWords.{decided_items}

@@ -4,9 +4,9 @@ use Rattle.std.proofs.lemmas.List.{length-drop, length_push}
 use Rattle.std.specs.Int.{to_le_bytes, w32}
 use Rattle.std.specs.Int.RustNames.{bit_xor}
 use Rattle.std.specs.Simd.Lanes.{zip2}
-use Rattle.dtx_galois.specs.Word.{sums}
+use Rattle.dtx_galois.specs.Field.{sums}
 use Rattle.dtx_galois.proofs.WordsLemmas.{length_sums}
-use Rattle.dtx_rs.specs.Table.{word_bytes}
+use Rattle.dtx_rs.specs.Generator.{word_bytes}
 use Rattle.dtx_rs.proofs.Sums.{zip_sums}
 use Rattle.dtx_rs.proofs.Steps.{step_is, split_sum}
 use Rattle.dtx_rs.proofs.table.Table.fed.Goals as goal

@@ -1,6 +1,6 @@
 use Rattle.std.proofs.Common.{◌≡◌, ◌+◌, ◌*◌, ◌∷◌, take, replicate}
 use Rattle.dtx_laws.specs.Register.{register}
-use Rattle.dtx_rs.specs.Table.{word_bytes}
+use Rattle.dtx_rs.specs.Generator.{word_bytes}
 use Rattle.dtx_rs.proofs.table.Table.parity.Given as goal
 
 abbrev pub invariant-loop-step : goal.invariant-loop-step

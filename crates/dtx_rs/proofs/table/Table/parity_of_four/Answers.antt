@@ -1,7 +1,7 @@
 use Rattle.std.proofs.Common.{◌≡◌, ◌≤◌, ◌<◌, ◌/◌, ℕ, ◌+◌, ◌*◌, ◌%◌, List, replicate, length, take, ap, sym, subst}
 use Rattle.std.proofs.Common.{◌∙◌, ap₂, [], ◌∷◌, arith}
 use Rattle.std.proofs.Math.Seq.{take-length}
-use Rattle.dtx_rs.specs.Table.{word_bytes}
+use Rattle.dtx_rs.specs.Generator.{word_bytes}
 use Rattle.dtx_laws.specs.Register.{register}
 use Rattle.dtx_rs.proofs.table.Table.parity_of_four.Goals as goal
 

@@ -1,6 +1,6 @@
 use Rattle.std.proofs.Common.{◌≡◌, ℕ, ◌+◌, ◌*◌, ◌∷◌, List, take, replicate}
 use Rattle.dtx_laws.specs.Register.{register}
-use Rattle.dtx_rs.specs.Table.{word_bytes}
+use Rattle.dtx_rs.specs.Generator.{word_bytes}
 use Rattle.dtx_rs.proofs.table.Table.parity_of_four.Given as goal
 
 -- the register of the first bytes of some data

@@ -4,8 +4,7 @@ use Rattle.std.proofs.lemmas.Option.{slice_get-get_or, slice_get_read}
 use Rattle.dtx_outside.specs.Shelf.{Files}
 use Rattle.dtx_outside.specs.declared.shelf.WriteNo.{WriteNo}
 use Rattle.dtx_plan.specs.declared.transmitter.Transmitter.{Transmitter}
-use Rattle.dtx_schedule.specs.Pair.{AreNamesOf, HasPair, IsPairOf}
-use Rattle.dtx_schedule.specs.Playout.{AreNames}
+use Rattle.dtx_schedule.specs.Playout.{AreNamesOf, HasPair, IsPairOf, AreNames}
 use Rattle.dtx_schedule.specs.declared.pair.FileNames.{FileNames}
 use Rattle.dtx_schedule.proofs.Written.{AddsTo, are_apart, step_written}
 use Rattle.dtx_schedule.proofs.playout.Playout.write.Goals as goal

@@ -1,6 +1,6 @@
 use Rattle.std.proofs.Common.{length, ◌≡◌, ℕ, ◌*◌, ◌<◌, ◌^◌, sym, ap, ◌∙◌, arith, subst, rules, below_more, get_or}
 use Rattle.std.proofs.lemmas.List.{get_or_push, get_or_append_left}
-use Rattle.dtx_galois.specs.BitPolynomial.{remainder}
+use Rattle.dtx_galois.specs.Field.{remainder}
 use Rattle.dtx_whiten.specs.Randomizer.{polynomial, tapped, randomizer_byte}
 use Rattle.dtx_whiten.proofs.BytesLemmas.{byte_small, randomizer_bytes_by}
 use Rattle.dtx_whiten.proofs.Shifts.{register_next, register_small, register_zero}
