@@ -2,7 +2,6 @@
 ghost use Rattle.std.specs.Prelude.{◌≡◌, ◌+◌, ◌*◌, ◌<◌, ◌≤◌, ◌++◌, [], IfOk, Some, None, drop, length, take};
 ghost use Rattle.dtx_ops.specs.Fields.{paging_in, count_in, behind_count, entry_in, entries_in, fields};
 ghost use Rattle.dtx_ops.specs.Paging.{IsPaged};
-ghost use Rattle.dtx_ops.specs.Reading as rule;
 ghost use Rattle.dtx_ops.specs.Reading as spec;
 ghost use Rattle.dtx_ops.specs.Spelling.{IsValid};
 
@@ -37,7 +36,7 @@ pub fn read<C: Correct<184, 164>>(code: &C, packet: &Packet) -> Result<Ops, OpsN
 /// The data of the payload's correction, where it has one.
 #[tactic(auto, unfolding(crate::specs::Reading::corrected))]
 fn corrected<C: Correct<184, 164>>(code: &C, packet: &Packet) -> Option<[u8; 164]>
-    ensures { result ≡ rule.corrected packet.now.0 }
+    ensures { result ≡ spec.corrected packet.now.0 }
 {
     let mut word = payload(packet);
     match code.correct(&mut word) {
@@ -99,8 +98,8 @@ fn read_page(paging: Paging, bytes: &[u8]) -> Result<Ops, OpsNo>
     requires long { length bytes.now ≡ 164 }
     requires paging { paging ≡ paging_in bytes.now }
     ensures { result
-        ≡ spec.unless (rule.first (rule.page_rules (paging_in bytes.now) (count_in bytes.now)
-        ++ rule.rest_rules (entries_in (count_in bytes.now) (behind_count bytes.now))
+        ≡ spec.unless (spec.first (spec.page_rules (paging_in bytes.now) (count_in bytes.now)
+        ++ spec.rest_rules (entries_in (count_in bytes.now) (behind_count bytes.now))
         (drop (4 * count_in bytes.now) (behind_count bytes.now)))) (fields bytes.now) }
 {
     match page_refusal(paging, bytes[paging.count_place()]) {
@@ -116,7 +115,7 @@ fn read_rest(paging: Paging, bytes: &[u8]) -> Result<Ops, OpsNo>
     requires paging { paging ≡ paging_in bytes.now }
     requires paged { IsPaged paging (count_in bytes.now) }
     ensures { result
-        ≡ spec.unless (rule.first (rule.rest_rules (entries_in (count_in bytes.now) (behind_count bytes.now))
+        ≡ spec.unless (spec.first (spec.rest_rules (entries_in (count_in bytes.now) (behind_count bytes.now))
         (drop (4 * count_in bytes.now) (behind_count bytes.now)))) (fields bytes.now) }
 {
     let place = paging.count_place();

@@ -10,7 +10,8 @@ use Rattle.dtx_lists.proofs.Range.{map-range_same}
 use Rattle.dtx_soft.specs.Softened.{softened_cost}
 use Rattle.dtx_acquire.specs.Acquired.{acquired, in_groups, path_cost}
 use Rattle.dtx_acquire.specs.Sent.{groups_behind}
-use Rattle.dtx_rounds.specs.FieldRound.{decided_rows, words_known}
+use Rattle.dtx_rounds.specs.Decided.{decided_rows}
+use Rattle.dtx_rounds.specs.FieldRound.{words_known}
 use Rattle.dtx_rounds.specs.RunField.{rows_of, IsRounded}
 use Rattle.dtx_rounds.specs.RunRounds.{AreFinished, AreMade, AreTaken, IsGiven}
 use Rattle.dtx_rounds.specs.Rounds.{fields_in, groups_in, heard_of, refined}

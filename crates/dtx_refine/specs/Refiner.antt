@@ -9,7 +9,8 @@ use Rattle.dtx_rounds.specs.Known.{known_count}
 use Rattle.dtx_rounds.specs.Rounds.{fields_in, heard_of, refined, refined_so_far, round_cost, round_moved}
 use Rattle.dtx_refine.specs.declared.passes.Passes.{Passes}
 use Rattle.std.specs.List.{range_with_len}
-use Rattle.dtx_rounds.specs.FieldRound.{decided_rows, words_known}
+use Rattle.dtx_rounds.specs.Decided.{decided_rows}
+use Rattle.dtx_rounds.specs.FieldRound.{words_known}
 use Rattle.dtx_rounds.specs.RunField.{rows_of, IsRounded}
 use Rattle.dtx_rounds.specs.RunRounds.{AreMade}
 use Rattle.dtx_rounds.specs.declared.field.Field.{Field}

@@ -15,7 +15,8 @@ use Rattle.dtx_pins.specs.LeastPinned.{least_pinned_levels}
 use Rattle.dtx_pins.specs.PinnedField.{pinned_coder_cost}
 use Rattle.dtx_pins.specs.Pins.{coder_pins, pin_at}
 use Rattle.dtx_pins.proofs.LeastPinnedLemmas.{without_pins_is}
-use Rattle.dtx_rounds.specs.FieldRound.{decided_rows, heard_rows, KnowsNothing, field_cost, field_rounded}
+use Rattle.dtx_rounds.specs.Decided.{decided_rows, heard_rows}
+use Rattle.dtx_rounds.specs.FieldRound.{KnowsNothing, field_cost, field_rounded}
 use Rattle.dtx_rounds.specs.RunField.{rows_of, IsInRun}
 use Rattle.dtx_rounds.specs.Known.{known_word, known_pin}
 use Rattle.dtx_rounds.specs.Rounds.{coder_cost, groups_in, paths_in, pins_in, round_segment}

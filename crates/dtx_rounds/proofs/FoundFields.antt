@@ -9,7 +9,7 @@ use Rattle.std.proofs.lemmas.List.FromFn.{fill_by_all}
 use Rattle.dtx_lists.proofs.Range.{map-range_same}
 use Rattle.dtx_receiver.specs.Packets.{is_complete}
 use Rattle.dtx_receiver.proofs.CompleteLemmas.{complete_told}
-use Rattle.dtx_rounds.specs.FieldRound.{decided_rows, heard_rows}
+use Rattle.dtx_rounds.specs.Decided.{decided_rows, heard_rows}
 use Rattle.dtx_rounds.specs.Found.{AreFound, IsKept, code_byte, has_code, has_code_behind, new_code, or_else}
 use Rattle.dtx_rounds.specs.Found.{IsUnchanged}
 use Rattle.dtx_rounds.specs.Known.{known_word}

@@ -1,7 +1,7 @@
 -- What rounds over a capture give is the refined capture, field by field.
 use Rattle.std.proofs.Common.{◌≡◌, ℕ, ℤ, zero, suc, ◌+◌, List, [], arith}
 use Rattle.dtx_acquire.specs.Acquired.{acquired}
-use Rattle.dtx_rounds.specs.FieldRound.{decided_rows}
+use Rattle.dtx_rounds.specs.Decided.{decided_rows}
 use Rattle.dtx_rounds.specs.RunField.{rows_of, IsRounded}
 use Rattle.dtx_rounds.specs.Rounds.{heard_of, refined, rounds_of}
 use Rattle.dtx_rounds.specs.RunRounds.{IsGiven}

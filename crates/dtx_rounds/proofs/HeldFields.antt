@@ -14,7 +14,8 @@ use Rattle.dtx_slice.specs.Unrolled.{bytes_back, precoder_bits_of}
 use Rattle.dtx_receiver.specs.Bytes.{bytes_in, data_count, groups_of, levels_from, data_at, first_bits}
 use Rattle.dtx_acquire.specs.Acquired.{decided}
 use Rattle.dtx_pins.specs.PinnedField.{rows_moved}
-use Rattle.dtx_rounds.specs.FieldRound.{IsDecided, decided_rows, heard_rows, field_cost, field_rounded, IsWritten}
+use Rattle.dtx_rounds.specs.Decided.{IsDecided, decided_rows, heard_rows}
+use Rattle.dtx_rounds.specs.FieldRound.{field_cost, field_rounded, IsWritten}
 use Rattle.dtx_rounds.specs.RunField.{rows_of, AreSegments, IsInRun, IsSettled, codes_upto, IsRounded, IsTurned}
 use Rattle.dtx_rounds.specs.RunField.{StayKnown, whole_in, Holds}
 use Rattle.dtx_rounds.specs.Found.{bytes_of, bytes_there, whole_segments}

@@ -1,13 +1,11 @@
 -- A round over a single field (the profile's own; ATSC A/53 Part 2, trellis coding). The field is a run of its own, of
 -- at most 313 segments, and what is known of it is given.
 use Rattle.std.specs.Prelude.{ℕ, ℤ, ◌≡◌, ◌<◌, Bool, true, false, Option, None, List, length, map, filter}
-use Rattle.std.specs.Prelude.{slice_index_or, sum, ◌-◌, ◌*◌, ◌/◌, drop, take, if◌then◌else◌}
+use Rattle.std.specs.Prelude.{slice_index_or, sum, ◌-◌, ◌*◌, ◌/◌, drop, take}
 use Rattle.std.specs.List.{range_with_len, flat_map}
 use Rattle.dtx_rounds.specs.Rounds.{coder_cost, round_segment}
 use Rattle.dtx_slice.specs.Slicing.{sliced_data}
 use Rattle.dtx_slice.specs.Unrolled.{bytes_back, precoder_bits_of}
-use Rattle.dtx_pins.specs.PinnedField.{rows_moved}
-use Rattle.dtx_rounds.specs.declared.field.Field.{Field}
 
 -- the segments after a round
 unfoldable pub field_rounded : ℕ → List (List ℤ) → List (Option ℕ) → List (List ℤ) → List (List ℤ)
@@ -37,23 +35,3 @@ pub record KnowsNothing (known : List (Option ℕ)) (found : List Bool) (knows_m
 pub record IsWritten (count : ℕ) (decided : List (List ℤ)) (last : List ℕ) (groups : List (List ℕ)) : Type 0 where
   pub bytes : take (207 * ((count - 1) / 4 * 4)) (flat_map (λ group. group) groups)
       ≡ bytes_back 0 (precoder_bits_of last) (flat_map sliced_data (take ((count - 1) / 4 * 4) (drop 1 decided)))
-
--- the field's segments as they were received, and as they were decided
-abbrev pub heard_rows : Field → List (List ℤ)
-heard_rows field = take field.count field.heard.items
-
-abbrev pub decided_rows : Field → List (List ℤ)
-decided_rows field = take field.count field.decided.items
-
--- Where no byte more is known than before, its segments and its cost stay.
-pub record IsDecided (scale : ℕ) (old new : Field) : Type 0 where
-  pub decided : decided_rows new
-      ≡ (if old.knows_more then field_rounded scale (heard_rows old) old.known.items (decided_rows old)
-      else decided_rows old)
-  pub cost : new.cost ≡ (if old.knows_more then field_cost scale (heard_rows old) old.known.items else old.cost)
-  pub moved : new.moved ≡ rows_moved (decided_rows old) (decided_rows new)
-  pub count : new.count ≡ old.count
-  pub heard : new.heard.items ≡ old.heard.items
-  pub known : new.known.items ≡ old.known.items
-  pub words : new.words ≡ old.words
-  pub knows_more : new.knows_more ≡ false

@@ -4,7 +4,8 @@ use Rattle.std.specs.Prelude.{List, drop, length, map, slice_index_or, sum, take
 use Rattle.std.specs.List.{range_with_len}
 use Rattle.dtx_receiver.specs.Bytes.{bytes_in}
 use Rattle.dtx_pins.specs.PinnedField.{rows_moved}
-use Rattle.dtx_rounds.specs.FieldRound.{IsDecided, decided_rows, heard_rows, field_cost, field_rounded}
+use Rattle.dtx_rounds.specs.Decided.{IsDecided, decided_rows, heard_rows}
+use Rattle.dtx_rounds.specs.FieldRound.{field_cost, field_rounded}
 use Rattle.dtx_rounds.specs.Found.{AreFound, bytes_of, bytes_there, code_byte, new_code, whole_segments}
 use Rattle.dtx_rounds.specs.Known.{known_bytes, known_word}
 use Rattle.dtx_rounds.specs.Rounds.{coder_cost, rounded}

@@ -1,7 +1,7 @@
 //! The symbols of a field, decided under the pins of what is known.
 
 ghost use Rattle.std.specs.Prelude.{◌≡◌, ℕ, ◌<◌, [], length, slice_index_or};
-ghost use Rattle.dtx_rounds.specs.FieldRound.{IsDecided};
+ghost use Rattle.dtx_rounds.specs.Decided.{IsDecided};
 
 use crate::field::Field;
 use crate::means::Means;
