@@ -1,6 +1,5 @@
--- A filler of placeholders and an adapter, as contracts see them.
+-- A filler of placeholders, as contracts see it.
 use Rattle.std.specs.Prelude.{ℕ, ◌≡◌, ◌≢◌, ◌+◌, ◌<◌, ◌/◌, ◌%◌, Bool, false, if◌then◌else◌, List, AllPairs, length, map}
-use Rattle.std.specs.Prelude.{◌-◌, ◌*◌, take}
 use Rattle.dtx_clock.specs.Clock.{stamp_of}
 use Rattle.dtx_ops.specs.declared.fields.Entry.{Entry}
 use Rattle.dtx_ops.specs.declared.fields.Ops.{Ops}
@@ -8,9 +7,7 @@ use Rattle.dtx_ops.specs.declared.paging.Paging.{Paging}
 use Rattle.dtx_ops.specs.declared.paging.Paging.TheVariants.{One, Of}
 use Rattle.dtx_ops.specs.Paging.{IsPaged}
 use Rattle.dtx_plan.specs.declared.plan.Plan.{Plan}
-use Rattle.dtx_adapter.specs.Feed.{entry_of, placeholders, listed, is_filled, paging_at, feed}
-use Rattle.dtx_coder.specs.Groups as coder
-use Rattle.dtx_adapter.specs.declared.adapter.Adapter.{Adapter}
+use Rattle.dtx_adapter.specs.Feed.{entry_of, placeholders, listed, is_filled, paging_at}
 
 -- The tick at which the feed starts, the states before the group, the maximum delay and all transmitters. Then the page
 -- of the group at hand, the next packet's counter, and whether that group filled a placeholder.
@@ -69,11 +66,3 @@ pub record Fills (plan : Plan) (filling : Filling) (stream : List (List ℕ)) (u
   pub paging : filling.paging ≡ paging_at plan stream u
   pub counter : filling.counter ≡ placeholders stream % 16
   pub filled : filling.filled ≡ is_filled stream u
-
--- the adapter of a plan that was given these packets of a stream
-pub record StandsFor (plan : Plan) (adapter : Adapter) (stream : List (List ℕ)) : Type 0 where
-  -- the group of the last packet is at hand
-  pub fills : Fills plan adapter.filler stream ((length stream - 1) / 4)
-  pub given : adapter.given ≡ length stream
-  -- the coder was given the whole groups of the feed
-  pub coder : coder.StandsFor adapter.coder (take (4 * (length stream / 4)) (feed plan stream))

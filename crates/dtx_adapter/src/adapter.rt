@@ -5,7 +5,7 @@ ghost use Rattle.dtx_coder.specs.Groups as groups;
 ghost use Rattle.dtx_ops.specs.Spelling.{IsEntry};
 ghost use Rattle.dtx_plan.specs.Sound.{IsSound};
 ghost use Rattle.dtx_plan.specs.declared.plan.Plan.{Plan};
-ghost use Rattle.dtx_adapter.specs.Filling.{StandsFor};
+ghost use Rattle.dtx_adapter.specs.Adapting.{StandsFor};
 ghost use Rattle.dtx_adapter.specs.Feed.{entry_of, feed, placeholders};
 
 use crate::filler::Filler;

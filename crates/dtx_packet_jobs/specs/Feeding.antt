@@ -1,6 +1,6 @@
 -- What the engine of `adapt` keeps.
 use Rattle.std.specs.Prelude.{◌≡◌, ℕ, ◌≤◌, List}
-use Rattle.dtx_adapter.specs.Filling.{StandsFor}
+use Rattle.dtx_adapter.specs.Adapting.{StandsFor}
 use Rattle.dtx_adapter.specs.Feed.{placeholders}
 use Rattle.dtx_packets.specs.Packets.{packets_of, whole_packets}
 use Rattle.dtx_packet_jobs.specs.declared.feeder.Feeder.{Feeder}

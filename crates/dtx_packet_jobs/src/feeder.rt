@@ -1,6 +1,6 @@
 // The engine of `adapt`: adapts a stream, one piece at a time.
 ghost use Rattle.std.specs.Prelude.{◌≡◌, ◌+◌, ◌-◌, ◌*◌, ◌/◌, ◌%◌, ◌<◌, ◌≤◌, ◌++◌, [], ℕ, List, IfOk, length};
-ghost use Rattle.dtx_adapter.specs.Filling.{StandsFor};
+ghost use Rattle.dtx_adapter.specs.Adapting.{StandsFor};
 ghost use Rattle.dtx_adapter.specs.Feed.{feed, placeholders};
 ghost use Rattle.dtx_engine.specs.Made.{only};
 ghost use Rattle.dtx_engine.specs.Recipe.{IsFed};

@@ -1,5 +1,5 @@
 use Rattle.std.proofs.Common.{◌≡◌, ◌+◌, ◌++◌, length, drop, ap, sym, subst, ◌∙◌}
-use Rattle.dtx_adapter.specs.Filling.{StandsFor}
+use Rattle.dtx_adapter.specs.Adapting.{StandsFor}
 use Rattle.dtx_adapter.specs.Feed.{feed, placeholders}
 use Rattle.dtx_packets.specs.Packets.{packets_of}
 use Rattle.dtx_forms.proofs.FilePacketsLemmas.{packets_are, length-packets_of}

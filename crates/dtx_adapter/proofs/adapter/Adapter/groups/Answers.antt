@@ -2,7 +2,7 @@ use Rattle.std.proofs.Common.{◌≡◌, ℕ, ◌+◌, ◌-◌, ◌≤◌, ◌++
 use Rattle.std.proofs.lemmas.List.{length-take-le, length-drop, take_all, append-nil}
 use Rattle.std.proofs.lemmas.Slice.{take-put_mid, drop-put_mid}
 use Rattle.dtx_lists.proofs.Written.{length-put_mid}
-use Rattle.dtx_adapter.specs.Filling.{StandsFor}
+use Rattle.dtx_adapter.specs.Adapting.{StandsFor}
 use Rattle.dtx_adapter.specs.Feed.{placeholders, feed}
 use Rattle.dtx_adapter.proofs.FeedsLemmas.{placeholders-few}
 use Rattle.dtx_adapter.proofs.MakingLemmas.{made_none}

@@ -5,7 +5,8 @@ use Rattle.dtx_coder.specs.Groups as coder
 use Rattle.dtx_coder.specs.Groups.{Coding, stream_coding}
 use Rattle.dtx_coder.specs.Stream.{states}
 use Rattle.dtx_plan.specs.declared.plan.Plan.{Plan}
-use Rattle.dtx_adapter.specs.Filling.{StandsFor, Filling, Fills}
+use Rattle.dtx_adapter.specs.Adapting.{StandsFor}
+use Rattle.dtx_adapter.specs.Filling.{Filling, Fills}
 use Rattle.dtx_adapter.specs.Feed.{feed}
 use Rattle.dtx_adapter.specs.declared.adapter.Adapter.{Adapter}
 use Rattle.dtx_adapter.proofs.FeedsLemmas.{length-feed, feed_parts}
